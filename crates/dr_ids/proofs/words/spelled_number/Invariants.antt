@@ -1,0 +1,9 @@
+use Rattle.std.proofs.Common.{◌≡◌, take}
+use Rattle.std.specs.Str.Parse.{AllDigits, digits_value}
+use Rattle.dr_ids.proofs.words.spelled_number.Given as goal
+
+abbrev pub invariant-loop-digit : goal.invariant-loop-digit
+invariant-loop-digit l = record {
+  digits : AllDigits l.radix (take l.digit-index l.word);
+  number : l.number ≡ digits_value l.radix (take l.digit-index l.word);
+}
