@@ -1,0 +1,18 @@
+//! Sources of bytes and sinks for bytes. Each call may fail, and each failure is counted.
+#![tactic(auto)]
+
+mod counts;
+mod mem_sink;
+mod mem_source;
+mod std_sink;
+mod std_source;
+mod streams;
+
+pub use mem_sink::MemSink;
+pub use mem_source::MemSource;
+pub use std_sink::StdSink;
+pub use std_source::StdSource;
+pub use streams::{Failed, Sink, Source};
+
+#[cfg(test)]
+mod tests;
