@@ -1,0 +1,13 @@
+pub mod Asking
+pub mod Images
+pub mod Overlay
+pub mod Sound
+pub mod PlanLemmas
+pub mod Turns
+pub mod PlanCases
+pub mod Tasks
+pub mod Onward
+pub mod Calm
+pub mod Texts
+pub mod Agree
+pub mod GrammarChecks

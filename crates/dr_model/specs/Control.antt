@@ -1,0 +1,61 @@
+-- The control state: everything that a run knows but the bytes of the tracks.
+use Rattle.std.specs.Prelude.{ℕ, Bool, true, false, List, [], Option, None}
+use Rattle.dr_model.specs.declared.event.Event.{Event}
+use Rattle.dr_model.specs.Contents.{zeros}
+use Rattle.dr_model.specs.Layout.{Fields, no_fields}
+
+-- how many writes of a server still pass, and what the next one leaves in its block: None for what stood there
+pub record Fuse : Type 0 where
+  pub after : ℕ
+  pub torn : Option (List ℕ)
+
+-- a host write that isn't acknowledged; it has landed where a stop took its acknowledgement
+pub record Pending : Type 0 where
+  pub w : ℕ
+  pub volume : ℕ
+  pub track : ℕ
+  pub landed : Bool
+
+-- a volume: its server, its size, and what its control record says
+pub record Volume : Type 0 where
+  pub server : ℕ
+  pub tracks : ℕ
+  pub slot : Bool
+  pub fields : Fields
+  pub staged : Option ℕ
+
+-- a volume as it is defined
+abbrev pub new_volume : ℕ → ℕ → Volume
+new_volume server tracks = record { server = server; tracks = tracks; slot = false; fields = no_fields; staged = None }
+
+-- servers and volumes in order of definition (a server's number is its place), which servers are on, their
+-- fuses, each volume, how many writes were issued, and those that are pending
+pub record Control : Type 0 where
+  pub servers : List (List ℕ)
+  pub on : ℕ → Bool
+  pub fuse : ℕ → Option Fuse
+  pub volumes : List ℕ
+  pub volume : ℕ → Volume
+  pub issued : ℕ
+  pub pending : List Pending
+
+abbrev pub no_control : Control
+no_control = record {
+  servers = [];
+  on = λ s. true;
+  fuse = λ s. None;
+  volumes = [];
+  volume = λ v. new_volume 0 0;
+  issued = 0;
+  pending = [];
+}
+
+-- control, what each track contains, and the journal
+pub record World : Type 0 where
+  pub control : Control
+  pub contents : ℕ → ℕ → List ℕ
+  pub events : List Event
+
+-- before the first step
+abbrev pub nothing : World
+nothing = record { control = no_control; contents = λ v t. zeros; events = [] }

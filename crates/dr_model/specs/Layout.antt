@@ -1,0 +1,205 @@
+-- How a volume lies on its device: the control record in two slots behind a gate, then the tracks.
+-- Reading is total: every content of the blocks gives fields.
+use Rattle.std.specs.Prelude.{ℕ, ◌+◌, ◌*◌, ◌/◌, ◌%◌, ◌^◌, Bool, true, false, ◌&&◌, List, filter, nat_eq, nat_lt, Option, Some, None, if◌then◌else◌, drop, take}
+use Rattle.std.specs.List.{slice_index_or, range_with_len}
+use Rattle.std.specs.Ordering.{nat_cmp}
+use Rattle.std.specs.FinSet.{FinSet, contains, empty, from_list}
+use Rattle.dr_model.specs.Contents.{zeros}
+use Rattle.dr_model.specs.declared.state.Part.{Part}
+use Rattle.dr_model.specs.declared.state.Part.TheVariants.{Absent, Metro, Global}
+use Rattle.dr_model.specs.declared.state.PairState.{PairState}
+use Rattle.dr_model.specs.declared.state.PairState.TheVariants.{CopyPending, FullDuplex, Suspended}
+
+-- a set of tracks
+abbrev pub Tracks : Type 0
+Tracks = FinSet nat_cmp
+
+-- the fields of a volume's control record, as sets and numbers
+pub record Fields : Type 0 where
+  pub primary : Part
+  pub primary_state : PairState
+  pub primary_partner : ℕ
+  pub coordination : Bool
+  pub long_busy : Bool
+  pub recording : Bool
+  pub attempt : ℕ
+  pub out_of_sync : Tracks
+  pub change_recording : Tracks
+  pub secondary : Part
+  pub secondary_state : PairState
+  pub secondary_partner : ℕ
+  pub seal : ℕ
+  pub related : Bool
+  pub source : ℕ
+  pub nocopy : Bool
+  pub persistent : Bool
+  pub recorded : Bool
+  pub inhibited : Bool
+  pub own : Tracks
+  pub previous_own : Tracks
+  pub source_changes : Tracks
+  pub target_changes : Tracks
+  pub sequence : ℕ
+  pub previous_sequence : ℕ
+  pub revertible : Bool
+  pub reversing : Bool
+  pub member : Bool
+  pub session : ℕ
+  pub floor : ℕ
+  pub blank : Tracks
+
+-- a device's blocks by number
+abbrev pub Blocks : Type 0
+Blocks = ℕ → List ℕ
+
+abbrev pub byte : List ℕ → ℕ → ℕ
+byte block k = slice_index_or block k 0
+
+-- bit k of a number, counted from the lowest
+abbrev pub bit : ℕ → ℕ → Bool
+bit n k = nat_eq ((n / 2 ^ k) % 2) 1
+
+-- numbers of two and four bytes, the highest byte first
+abbrev pub number16 : List ℕ → ℕ → ℕ
+number16 block k = byte block k * 256 + byte block (k + 1)
+
+abbrev pub number32 : List ℕ → ℕ → ℕ
+number32 block k = byte block k * 16777216 + byte block (k + 1) * 65536 + byte block (k + 2) * 256 + byte block (k + 3)
+
+abbrev pub part_of : ℕ → Part
+part_of n = if nat_eq n 1 then Metro else if nat_eq n 2 then Global else Absent
+
+abbrev pub is_part : Part → Bool
+is_part Absent = false
+is_part Metro = true
+is_part Global = true
+
+abbrev pub state_of : ℕ → PairState
+state_of n = if nat_eq n 0 then CopyPending else if nat_eq n 1 then FullDuplex else Suspended
+
+-- track t stands in a set where bit t mod 8 of byte t / 8 is 1
+abbrev pub stands_in : List ℕ → ℕ → Bool
+stands_in bytes t = bit (byte bytes (t / 8)) (t % 8)
+
+-- the set that 32 bytes give for a volume with that many tracks
+unfoldable pub set_of : ℕ → List ℕ → Tracks
+set_of tracks bytes = from_list (filter (stands_in bytes) (range_with_len 0 tracks))
+
+abbrev pub first_set : ℕ → List ℕ → Tracks
+first_set tracks block = set_of tracks (take 32 block)
+
+abbrev pub second_set : ℕ → List ℕ → Tracks
+second_set tracks block = set_of tracks (drop 32 block)
+
+-- what is absent reads as zero
+abbrev pub only_if : {X : Type 0} → Bool → X → X → X
+only_if there x zero = if there then x else zero
+
+-- the fields that the six blocks of a slot give
+unfoldable pub fields_of : ℕ → Blocks → Fields
+fields_of tracks slot =
+    let head : List ℕ = slot 0 in
+    let first : Part = part_of (byte head 0) in
+    let second : Part = part_of (byte head 3) in
+    let source : Bool = bit (byte head 5) 0 in
+    record {
+      primary = first;
+      primary_state = only_if (is_part first) (state_of (byte head 1)) CopyPending;
+      primary_partner = only_if (is_part first) (number16 head 8) 0;
+      coordination = is_part first && bit (byte head 2) 0;
+      long_busy = is_part first && bit (byte head 2) 1;
+      recording = is_part first && bit (byte head 2) 2;
+      attempt = number32 head 16;
+      out_of_sync = only_if (is_part first) (first_set tracks (slot 1)) empty;
+      change_recording = only_if (is_part first) (second_set tracks (slot 1)) empty;
+      secondary = second;
+      secondary_state = only_if (is_part second) (state_of (byte head 4)) CopyPending;
+      secondary_partner = only_if (is_part second) (number16 head 10) 0;
+      seal = only_if (is_part second) (number32 head 20) 0;
+      related = source;
+      source = only_if source (number16 head 12) 0;
+      nocopy = source && bit (byte head 5) 1;
+      persistent = source && bit (byte head 5) 2;
+      recorded = source && bit (byte head 5) 3;
+      inhibited = source && bit (byte head 5) 4;
+      own = only_if source (first_set tracks (slot 2)) empty;
+      previous_own = only_if source (second_set tracks (slot 2)) empty;
+      source_changes = only_if source (first_set tracks (slot 3)) empty;
+      target_changes = only_if source (second_set tracks (slot 3)) empty;
+      sequence = only_if source (number32 head 24) 0;
+      previous_sequence = only_if source (number32 head 28) 0;
+      revertible = source && bit (byte head 5) 5;
+      reversing = source && bit (byte head 5) 6;
+      member = source && bit (byte head 5) 7;
+      session = only_if source (byte head 6) 0;
+      floor = number32 head 32;
+      blank = first_set tracks (slot 4);
+    }
+
+-- the track that a slot stages, if any
+unfoldable pub staged_of : ℕ → Blocks → Option ℕ
+staged_of tracks slot =
+    if nat_eq (byte (slot 0) 7) 1 && nat_lt (number16 (slot 0) 14) tracks then Some (number16 (slot 0) 14) else None
+
+-- the gate's bit chooses slot 1, in blocks 7 to 12, or slot 0, in blocks 1 to 6
+abbrev pub slot_chosen : Blocks → Bool
+slot_chosen blocks = bit (byte (blocks 0) 0) 0
+
+abbrev pub slot_begin : Bool → ℕ
+slot_begin second = if second then 7 else 1
+
+-- the six blocks of the chosen slot
+abbrev pub chosen : Blocks → Blocks
+chosen blocks k = blocks (slot_begin (slot_chosen blocks) + k)
+
+abbrev pub fields : ℕ → Blocks → Fields
+fields tracks blocks = fields_of tracks (chosen blocks)
+
+abbrev pub staged : ℕ → Blocks → Option ℕ
+staged tracks blocks = staged_of tracks (chosen blocks)
+
+abbrev pub is_staged : Option ℕ → ℕ → Bool
+is_staged None t = false
+is_staged (Some s) t = nat_eq s t
+
+-- a track: the staged bytes where it is staged, zeros where it is blank, else its own block
+unfoldable pub physical : ℕ → Blocks → ℕ → List ℕ
+physical tracks blocks t =
+    if is_staged (staged tracks blocks) t then chosen blocks 5
+    else if contains (fields tracks blocks).blank t then zeros else blocks (13 + t)
+
+-- the fields of a volume that has no pair, no relationship and no blank track
+abbrev pub no_fields : Fields
+no_fields = record {
+  primary = Absent;
+  primary_state = CopyPending;
+  primary_partner = 0;
+  coordination = false;
+  long_busy = false;
+  recording = false;
+  attempt = 0;
+  out_of_sync = empty;
+  change_recording = empty;
+  secondary = Absent;
+  secondary_state = CopyPending;
+  secondary_partner = 0;
+  seal = 0;
+  related = false;
+  source = 0;
+  nocopy = false;
+  persistent = false;
+  recorded = false;
+  inhibited = false;
+  own = empty;
+  previous_own = empty;
+  source_changes = empty;
+  target_changes = empty;
+  sequence = 0;
+  previous_sequence = 0;
+  revertible = false;
+  reversing = false;
+  member = false;
+  session = 0;
+  floor = 0;
+  blank = empty;
+}

@@ -1,0 +1,114 @@
+-- Which lines are steps: a script is cut into lines, and a line into words at single spaces.
+use Rattle.std.specs.Prelude.{ℕ, ◌+◌, ◌-◌, ◌*◌, Bool, false, ◌&&◌, ◌||◌, List, [], ◌∷◌, ◌++◌, length, replicate, nat_eq, nat_le, Option, Some, None, option_and_then, codes, if◌then◌else◌, ◌^◌}
+use Rattle.std.specs.List.{slice_split, list_all}
+use Rattle.std.specs.Str.{bytes_eq}
+use Rattle.std.specs.Str.Lines.{lines}
+use Rattle.dr_ids.specs.Spelling.{digit_in, volume_word, number_word}
+use Rattle.dr_model.specs.declared.step.Name.{Name}
+use Rattle.dr_model.specs.declared.step.Step.{Step}
+use Rattle.dr_model.specs.declared.step.Step.TheVariants.{Server, Volume, Write, Show}
+use Rattle.dr_model.specs.Runs.{Task}
+
+infixl 10 ◌>>=◌
+abbrev pub ◌>>=◌ : {A B : Type 0} → Option A → (A → Option B) → Option B
+o >>= f = option_and_then f o
+
+-- the words of a line: what stands between its spaces
+abbrev pub is_space : ℕ → Bool
+is_space b = nat_eq b 32
+
+abbrev pub words : List ℕ → List (List ℕ)
+words line = slice_split is_space line
+
+-- letters, digits, and what may stand in a name beside them: `.`, `-`, `_`
+abbrev pub is_letter : ℕ → Bool
+is_letter b = (nat_le 65 b && nat_le b 90) || (nat_le 97 b && nat_le b 122)
+
+abbrev pub is_name_byte : ℕ → Bool
+is_name_byte b = is_letter b || (nat_le 48 b && nat_le b 57) || nat_eq b 46 || nat_eq b 45 || nat_eq b 95
+
+abbrev pub begins_with_letter : List ℕ → Bool
+begins_with_letter [] = false
+begins_with_letter (b ∷ bs) = is_letter b
+
+-- a name has 1 to 24 such bytes, the first a letter
+abbrev pub is_name : List ℕ → Bool
+is_name word = nat_le (length word) 24 && begins_with_letter word && list_all is_name_byte word
+
+abbrev pub name_of : List ℕ → Name
+name_of word = record { len = length word; bytes = word ++ replicate (24 - length word) 0 }
+
+abbrev pub name_word : List ℕ → Option Name
+name_word word = if is_name word then Some (name_of word) else None
+
+-- a decimal number below 2^32
+abbrev pub decimal_word : List ℕ → Option ℕ
+decimal_word word = number_word (2 ^ 32 - 1) word
+
+-- bytes in hexadecimal, two digits each
+abbrev pub hex_bytes : List ℕ → Option (List ℕ)
+hex_bytes [] = Some []
+hex_bytes (a ∷ []) = None
+hex_bytes (a ∷ b ∷ rest) = digit_in 16 a >>= λ high. digit_in 16 b >>= λ low. hex_bytes rest >>= λ bytes. Some ((high * 16 + low) ∷ bytes)
+
+-- bytes that lie in one track from an offset on
+abbrev pub is_in_track : ℕ → List ℕ → Bool
+is_in_track offset bytes = nat_le 1 (length bytes) && nat_le (offset + length bytes) 64
+
+abbrev pub write_of : ℕ → ℕ → ℕ → List ℕ → Step
+write_of v t offset bytes = Write v t offset (length bytes) (bytes ++ replicate (64 - length bytes) 0)
+
+-- `@server NAME`
+abbrev pub server_words : List (List ℕ) → Option Step
+server_words (name ∷ []) = name_word name >>= λ n. Some (Server n)
+server_words _ = None
+
+-- `@volume VOLUME NAME TRACKS`
+abbrev pub volume_words : List (List ℕ) → Option Step
+volume_words (volume ∷ name ∷ tracks ∷ []) = volume_word volume >>= λ v. name_word name >>= λ n. decimal_word tracks >>= λ t. Some (Volume v.0 n t)
+volume_words _ = None
+
+-- `@write VOLUME TRACK OFFSET BYTES`
+abbrev pub write_words : List (List ℕ) → Option Step
+write_words (volume ∷ track ∷ offset ∷ hex ∷ []) =
+    volume_word volume >>= λ v. decimal_word track >>= λ t. number_word 63 offset >>= λ o. hex_bytes hex >>= λ bytes.
+    if is_in_track o bytes then Some (write_of v.0 t o bytes) else None
+write_words _ = None
+
+-- `@show VOLUME TRACK`
+abbrev pub show_words : List (List ℕ) → Option Step
+show_words (volume ∷ track ∷ []) = volume_word volume >>= λ v. decimal_word track >>= λ t. Some (Show v.0 t)
+show_words _ = None
+
+-- the step that the words of a line say, if they say one that is carried out
+abbrev pub step_words : List (List ℕ) → Option Step
+step_words [] = None
+step_words (command ∷ rest) =
+    if bytes_eq command (codes "@server") then server_words rest
+    else if bytes_eq command (codes "@volume") then volume_words rest
+    else if bytes_eq command (codes "@write") then write_words rest
+    else if bytes_eq command (codes "@show") then show_words rest
+    else None
+
+-- a comment, or at most 1,024 bytes of spaces and tabs, is no step
+abbrev pub is_comment : List ℕ → Bool
+is_comment [] = false
+is_comment (b ∷ bs) = nat_eq b 35
+
+abbrev pub is_gap : ℕ → Bool
+is_gap b = nat_eq b 32 || nat_eq b 9
+
+abbrev pub is_no_step : List ℕ → Bool
+is_no_step line = is_comment line || (nat_le (length line) 1024 && list_all is_gap line)
+
+-- the steps of a line with its number: none, or one
+abbrev pub tasks_of : ℕ → List ℕ → List Task
+tasks_of number line = if is_no_step line then [] else record { line = number; step = step_words (words line) } ∷ []
+
+abbrev pub tasks_from : ℕ → List (List ℕ) → List Task
+tasks_from number [] = []
+tasks_from number (line ∷ rest) = tasks_of number line ++ tasks_from (number + 1) rest
+
+-- the steps of a script, with the numbers of their lines from 1 on
+abbrev pub tasks : List ℕ → List Task
+tasks script = tasks_from 1 (lines script)
