@@ -1,0 +1,14 @@
+pub mod WordLemmas
+pub mod ValueLemmas
+pub mod ItemLemmas
+pub mod ReadLemmas
+pub mod CutLemmas
+pub mod TextLemmas
+pub mod ItemTextLemmas
+pub mod OptionLemmas
+pub mod OperandLemmas
+pub mod RunLemmas
+pub mod StepLemmas
+pub mod WrittenWordLemmas
+pub mod WrittenReadLemmas
+pub mod WrittenLemmas

@@ -1,0 +1,10 @@
+use Rattle.std.proofs.Common.{◌≡◌, length, take, map}
+use Rattle.std.specs.List.{range_with_len}
+use Rattle.dr_model.specs.LineWords.{byte_at}
+use Rattle.dr_script.proofs.values.block_of.Given as goal
+
+abbrev pub invariant-loop-k : goal.invariant-loop-k
+invariant-loop-k l = record {
+  sized : length l.bytes ≡ 64;
+  front : take l.k l.bytes ≡ map (byte_at l.word) (range_with_len 0 l.k);
+}
