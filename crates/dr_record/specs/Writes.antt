@@ -1,0 +1,69 @@
+-- Writes to one device, one after another, until one is stopped.
+use Rattle.std.specs.Prelude.{◌≡◌, ℕ, ◌-◌, ◌≤◌, ◌<◌, Bool, true, false, List, [], ◌∷◌, if◌then◌else◌, length, Option, Some, None}
+use Rattle.dr_plant.specs.State.{PlantState, after_write, can_write, at, at2, torn_by, risen}
+use Rattle.dr_plant.specs.declared.plant.WriteFuse.{WriteFuse}
+
+-- A block of a device, and the bytes to write to it.
+pub record Write : Type 0 where
+  pub block : ℕ
+  pub bytes : List ℕ
+
+abbrev pub write : ℕ → List ℕ → Write
+write block bytes = record { block = block; bytes = bytes }
+
+-- The writes to a device in order, until one is stopped: what they leave, and whether one was stopped.
+unfoldable pub after_writes : PlantState → ℕ → List Write → PlantState × Bool
+after_writes s dev [] = (s, false)
+after_writes s dev (w ∷ ws) =
+    if can_write s dev then after_writes (after_write s dev w.block w.bytes) dev ws
+    else (after_write s dev w.block w.bytes, true)
+
+-- The device exists, and has at least n blocks.
+pub record IsDevice (s : PlantState) (dev n : ℕ) : Type 0 where
+  pub device : dev < s.count
+  pub blocks : n ≤ s.size dev
+
+-- The same devices, with the same sizes and owners.
+pub record SameShape (s t : PlantState) : Type 0 where
+  pub count : t.count ≡ s.count
+  pub size : t.size ≡ s.size
+  pub owner : t.owner ≡ s.owner
+
+-- Every block once these writes are done.
+unfoldable pub all_put : (ℕ → ℕ → List ℕ) → ℕ → List Write → ℕ → ℕ → List ℕ
+all_put block dev [] = block
+all_put block dev (w ∷ ws) = all_put (at2 block dev w.block w.bytes) dev ws
+
+-- A server with this write fuse does n more writes: none is armed, or it stands at n or more.
+abbrev pub Passes : ℕ → Option WriteFuse → Type 0
+Passes n None = Unit {0}
+Passes n (Some f) = n ≤ f.after
+
+-- A write fuse after n writes that were done.
+abbrev pub write_fuse_after : ℕ → Option WriteFuse → Option WriteFuse
+write_fuse_after n None = None
+write_fuse_after n (Some f) = Some (record f { after = f.after - n })
+
+-- A read fuse after n writes that were done.
+abbrev pub read_fuse_after : ℕ → Option ℕ → Option ℕ
+read_fuse_after n None = None
+read_fuse_after n (Some after) = Some (after - n)
+
+-- All the writes are done: each block has its bytes, and each fuse of the owner is lower by their number.
+abbrev pub all_written : PlantState → ℕ → List Write → PlantState
+all_written s dev ws = record s {
+  block = all_put s.block dev ws;
+  write_fuse = at s.write_fuse (s.owner dev) (write_fuse_after (length ws) (s.write_fuse (s.owner dev)));
+  read_fuse = at s.read_fuse (s.owner dev) (read_fuse_after (length ws) (s.read_fuse (s.owner dev)));
+}
+
+-- The first writes are done, and the fuse f cut short the next one, to block b: it has what the fuse leaves, the
+-- owner is off with its write fuse at 0, and a fault is counted.
+abbrev pub torn_after : PlantState → ℕ → List Write → ℕ → WriteFuse → PlantState
+torn_after s dev ws b f = record s {
+  block = at2 (all_put s.block dev ws) dev b (torn_by f.torn (all_put s.block dev ws dev b));
+  on = at s.on (s.owner dev) false;
+  write_fuse = at s.write_fuse (s.owner dev) (Some (record f { after = 0 }));
+  read_fuse = at s.read_fuse (s.owner dev) (read_fuse_after (length ws) (s.read_fuse (s.owner dev)));
+  faults = risen s.faults;
+}

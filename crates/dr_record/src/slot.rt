@@ -1,0 +1,88 @@
+//! Reading and writing one slot, and the gate.
+
+ghost use Rattle.std.specs.Prelude.{◌≡◌, ℕ, ◌<◌, ◌≤◌, ◌+◌, ◌*◌, ◌^◌, Bool, false, is_err, IfOk, OnOk, OnErr};
+ghost use Rattle.dr_plant.specs.State.{after_read, can_read};
+ghost use Rattle.dr_record.specs.Writes.{IsDevice, SameShape, after_writes};
+ghost use Rattle.dr_record.specs.Slots as slots;
+
+use crate::form::Form;
+use dr_plant::{Block, DeviceId, Plant, Stopped};
+
+/// The slot that a gate chooses: slot 1 where it is true.
+pub fn choice(gate: &Block) -> bool
+    ensures { result ≡ slots.choice gate.now }
+{
+    gate[0] % 2 == 1
+}
+
+/// The gate that chooses a slot.
+#[tactic(auto, unfolding(crate::specs::Slots::gate_of))]
+pub fn gate_of(slot: bool) -> Block
+    ensures { result ≡ slots.gate_of slot }
+{
+    let mut gate = [0; 64];
+    gate[0] = slot as u8;
+    gate
+}
+
+/// The first block of a slot.
+fn start_of<F: Form>(slot: bool) -> u16
+    requires { 2 * F.BLOCKS + 1 < 2 ^ 16 }
+    ensures { result ≡ slots.start_of F.BLOCKS slot }
+{
+    if slot { F::BLOCKS + 1 } else { 1 }
+}
+
+/// Reads the value in a slot. Fails where the plant can't read the device.
+pub fn read_slot<P: Plant, F: Form>(p: &mut P, dev: DeviceId, slot: bool) -> Result<F, Stopped>
+    requires device { IsDevice (P.state p.old) dev.0 (2 * F.BLOCKS + 1) }
+    requires fits { 2 * F.BLOCKS + 1 < 2 ^ 16 }
+    ensures same { OnOk result (P.state p.new ≡ P.state p.old) }
+    ensures stopped { OnErr result (can_read (P.state p.old) dev.0 ≡ false) }
+    ensures state { OnErr result (P.state p.new ≡ after_read (P.state p.old) dev.0) }
+    ensures value { IfOk result (λ x. x ≡ slots.stored F.taken F.BLOCKS F.fresh (P.state p.old) dev.0 slot) }
+{
+    let start = start_of::<F>(slot);
+    let mut value = F::blank();
+    for number in 0..F::BLOCKS {
+        let mut block = [0; 64];
+        p.read(dev, start + number, &mut block)?;
+        value.take_block(number, &block);
+    }
+    Ok(value)
+}
+
+/// Writes the blocks of a value to a slot. Fails at the first write that can't be done.
+pub fn write_slot<P: Plant, F: Form>(
+    p: &mut P,
+    dev: DeviceId,
+    slot: bool,
+    value: &F,
+) -> Result<(), Stopped>
+    requires device { IsDevice (P.state p.old) dev.0 (2 * F.BLOCKS + 1) }
+    requires fits { 2 * F.BLOCKS + 1 < 2 ^ 16 }
+    ensures writes { after_writes (P.state p.old) dev.0 (slots.block_writes (slots.start_of F.BLOCKS slot) 0 F.BLOCKS (F.blocks value.now)) ≡ (P.state p.new, is_err result) }
+    ensures shape { SameShape (P.state p.old) (P.state p.new) }
+{
+    let start = start_of::<F>(slot);
+    for i in 0..F::BLOCKS {
+        p.write(dev, start + i, &value.block(i))?;
+    }
+    Ok(())
+}
+
+/// Writes a record to a slot: the blocks of the value in order, and then the gate that chooses the
+/// slot. Fails at the first write that can't be done.
+pub fn write_record<P: Plant, F: Form>(
+    p: &mut P,
+    dev: DeviceId,
+    slot: bool,
+    value: &F,
+) -> Result<(), Stopped>
+    requires device { IsDevice (P.state p.old) dev.0 (2 * F.BLOCKS + 1) }
+    requires fits { 2 * F.BLOCKS + 1 < 2 ^ 16 }
+    ensures { after_writes (P.state p.old) dev.0 (slots.record_writes F.BLOCKS slot (F.blocks value.now)) ≡ (P.state p.new, is_err result) }
+{
+    write_slot(p, dev, slot, value)?;
+    p.write(dev, 0, &gate_of(slot))
+}
