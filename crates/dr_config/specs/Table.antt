@@ -1,0 +1,72 @@
+-- What contracts see of a configuration, and what it says of servers, volumes and the devices below.
+use Rattle.std.specs.Prelude.{◌≡◌, ℕ, ◌+◌, ◌/◌, ◌<◌, ◌≤◌, ◌==◌, List, map, Vec, length, slice_get, Option, Some, option_map}
+use Rattle.std.specs.List.{position, find}
+use Rattle.std.specs.Str.{bytes_eq}
+use Rattle.std.specs.declared.alloc.Global.{Global}
+use Rattle.dr_plant.specs.State.{PlantState}
+use Rattle.dr_config.specs.declared.entries.VolumeEntry.{VolumeEntry}
+
+-- The servers' names and the volumes, in order of definition.
+pub record Table : Type 0 where
+  pub names : List (List ℕ)
+  pub volumes : List VolumeEntry
+
+-- The bytes of each name.
+abbrev pub names_of : List (Vec ℕ Global) → List (List ℕ)
+names_of servers = map (λ (n : Vec ℕ Global). n.items) servers
+
+-- The number of the server of that name, which is its place.
+abbrev pub server_named : Table → List ℕ → Option ℕ
+server_named t name = position (λ (n : List ℕ). bytes_eq name n) t.names
+
+-- The place of that volume, which is the number of its device.
+abbrev pub place_of : Table → ℕ → Option ℕ
+place_of t v = position (λ (e : VolumeEntry). e.id == v) t.volumes
+
+-- What is defined of that volume.
+abbrev pub entry_of : Table → ℕ → Option VolumeEntry
+entry_of t v = find (λ (e : VolumeEntry). e.id == v) t.volumes
+
+-- The logical subsystem of a volume: the high byte of its identifier.
+abbrev pub lss_of : ℕ → ℕ
+lss_of v = v / 256
+
+-- The server of the volumes of that logical subsystem, if it has any.
+abbrev pub lss_owner : Table → ℕ → Option ℕ
+lss_owner t l = option_map (λ (e : VolumeEntry). e.server) (find (λ (e : VolumeEntry). lss_of e.id == l) t.volumes)
+
+-- A name has 1 to 24 bytes.
+pub record IsName (n : List ℕ) : Type 0 where
+  pub some : 1 ≤ length n
+  pub short : length n ≤ 24
+
+-- The server at place k: its name is well formed and no other server's.
+pub record IsServer (t : Table) (k : ℕ) (n : List ℕ) : Type 0 where
+  pub name : IsName n
+  pub own : server_named t n ≡ Some k
+
+-- The volume at place d: its server is defined, it has 1 to 256 tracks, its identifier is no other
+-- volume's, and each volume of its logical subsystem belongs to its server.
+pub record IsVolume (t : Table) (d : ℕ) (e : VolumeEntry) : Type 0 where
+  pub server : e.server < length t.names
+  pub some : 1 ≤ e.tracks
+  pub most : e.tracks ≤ 256
+  pub own : place_of t e.id ≡ Some d
+  pub lss : lss_owner t (lss_of e.id) ≡ Some e.server
+
+-- What is true of every configuration.
+pub record IsSound (t : Table) : Type 0 where
+  pub few_servers : length t.names ≤ 8
+  pub few_volumes : length t.volumes ≤ 64
+  pub server : (k : ℕ) (n : List ℕ) → slice_get t.names k ≡ Some n → IsServer t k n
+  pub volume : (d : ℕ) (e : VolumeEntry) → slice_get t.volumes d ≡ Some e → IsVolume t d e
+
+-- The server is defined, and so one of the servers 0 to 7.
+pub record HasServer (t : Table) (s : ℕ) : Type 0 where
+  pub defined : s < length t.names
+  pub below : s < 8
+
+-- Each volume has its device: owned by its server, with 13 blocks and one more for each track.
+pub record StandsFor (t : Table) (s : PlantState) : Type 0 where
+  pub count : s.count ≡ length t.volumes
+  pub device : (d : ℕ) (e : VolumeEntry) → slice_get t.volumes d ≡ Some e → (s.owner d ≡ e.server) × (s.size d ≡ 13 + e.tracks) × (e.server < 8)
