@@ -1,0 +1,13 @@
+pub mod Sets
+pub mod RecordLaws
+pub mod VolumeLaws
+pub mod LawfulLaws
+pub mod ReadingLaws
+pub mod RanLaws
+pub mod RewriteLaws
+pub mod FuseLaws
+pub mod WorldLaws
+pub mod SeenLaws
+pub mod UpdateLaws
+pub mod RedoLaws
+pub mod SettledLaws

@@ -1,0 +1,155 @@
+-- How the machine's world follows the state of a plant.
+use Rattle.std.proofs.Common.{ℕ, ◌≡◌, ◌≢◌, ◌<◌, Bool, true, false, not, refl, sym, ◌∙◌, ap, nat_eq, nat_lt, inl, inr, Option, None, Some}
+use Rattle.std.specs.Prelude.{if◌then◌else◌}
+use Rattle.std.proofs.lemmas.Bool.{cases_eq}
+use Rattle.std.proofs.lemmas.Bool.Decides.{Decides-eqb}
+use Rattle.dr_bits.specs.Membership.{lt_true}
+use Rattle.dr_plant.specs.State.{PlantState, at}
+use Rattle.dr_plant.specs.declared.plant.WriteFuse.{WriteFuse}
+use Rattle.dr_plant.proofs.StateLemmas.{at_same, at_other}
+use Rattle.dr_record.specs.Writes.{write_fuse_after}
+use Rattle.dr_config.specs.Table.{Table}
+use Rattle.dr_model.specs.Control.{World, Volume}
+use Rattle.dr_model.specs.Layout as layout
+use Rattle.dr_model.specs.Moves.{Carried, moved, tracks_after, updated}
+use Rattle.dr_model.specs.Carry as machine
+use Rattle.dr_model.specs.Carry.{Ended, ended}
+use Rattle.dr_volume.specs.View.{Rest, world, on_seen, fuses_seen, fuse_seen, volume_seen, track_seen}
+use Rattle.dr_volume.specs.Update.{IsAsBefore, IsMoved, OthersStay}
+
+-- a table that differs from another at k alone
+pub table_at : {X : Type 0} (f g : ℕ → X) (k : ℕ) (x : X) → g k ≡ x → ((q : ℕ) → q ≢ k → g q ≡ f q) → g ≡ at f k x
+table_at f g k x here there i q =
+    (elim (cases_eq q k) as (λ w. g q ≡ at f k x q) [
+      | inl e ↦ ap g e ∙ here ∙ sym (ap (at f k x) e ∙ at_same f k x)
+      | inr ne ↦ there q ne ∙ sym (at_other f k x q ne)
+    ]) i
+
+pub table_same : {X : Type 0} (f g : ℕ → X) (k : ℕ) → g k ≡ f k → ((q : ℕ) → q ≢ k → g q ≡ f q) → g ≡ f
+table_same f g k here there i q = (elim (cases_eq q k) as (λ w. g q ≡ f q) [ inl e ↦ ap g e ∙ here ∙ sym (ap f e) | inr ne ↦ there q ne ]) i
+
+-- what is seen of the eight servers, where one of them changed
+guarded_test : {X Y : Type 0} (h : Y → X) (x y : Y) (none : X) (below here : Bool) → (here ≡ true → below ≡ true) → (if below then h (if here then y else x) else none) ≡ (if here then h y else if below then h x else none)
+guarded_test h x y none true true low = refl
+guarded_test h x y none true false low = refl
+guarded_test h x y none false true low = let e : false ≡ true = low refl in absurd (cc)
+guarded_test h x y none false false low = refl
+
+guarded : {X Y : Type 0} (h : Y → X) (f g : ℕ → Y) (o : ℕ) (y : Y) (none : X) → o < 8 → g ≡ at f o y → (q : ℕ) → (if nat_lt q 8 then h (g q) else none) ≡ at (λ q. if nat_lt q 8 then h (f q) else none) o (h y) q
+guarded {X} {Y} h f g o y none low e q =
+    ap (λ (k : ℕ → Y). if nat_lt q 8 then h (k q) else none) e
+    ∙ guarded_test h (f q) y none (nat_lt q 8) (nat_eq q o) (λ here. ap (λ n. nat_lt n 8) ((Decides-eqb q o).0 here) ∙ lt_true o 8 low)
+
+pub on-off : (s t : PlantState) (o : ℕ) → o < 8 → t.on ≡ at s.on o false → on_seen t ≡ at (on_seen s) o false
+on-off s t o low e i q = guarded (λ (b : Bool). b) s.on t.on o false true low e q i
+
+on-same : (s t : PlantState) → t.on ≡ s.on → on_seen t ≡ on_seen s
+on-same s t e i q = if nat_lt q 8 then e i q else true
+
+fuses-at : (s t : PlantState) (o : ℕ) (g : Option WriteFuse) → o < 8 → t.write_fuse ≡ at s.write_fuse o g → fuses_seen t ≡ at (fuses_seen s) o (fuse_seen g)
+fuses-at s t o g low e i q = guarded fuse_seen s.write_fuse t.write_fuse o g None low e q i
+
+fuses-same : (s t : PlantState) → t.write_fuse ≡ s.write_fuse → fuses_seen t ≡ fuses_seen s
+fuses-same s t e i q = if nat_lt q 8 then fuse_seen (e i q) else None
+
+-- the fuse and the state of a server below 8
+pub fuse-seen : (s : PlantState) (o : ℕ) → o < 8 → fuses_seen s o ≡ fuse_seen (s.write_fuse o)
+fuse-seen s o low = ap (λ b. if b then fuse_seen (s.write_fuse o) else None) (lt_true o 8 low)
+
+pub on-seen : (s : PlantState) (o : ℕ) → o < 8 → on_seen s o ≡ s.on o
+on-seen s o low = ap (λ b. if b then s.on o else true) (lt_true o 8 low)
+
+lower-seen : (n : ℕ) (g : Option WriteFuse) → fuse_seen (write_fuse_after n g) ≡ machine.lower n (fuse_seen g)
+lower-seen n None = refl
+lower-seen n (Some f) = refl
+
+-- the world of s with the volumes and the tracks of t
+abbrev pub shown : PlantState → PlantState → Table → Rest → World
+shown s t c r = record (world s c r) {
+  control = record (world s c r).control { volume = volume_seen t c };
+  contents = track_seen t c;
+}
+
+pub world-still : (s t : PlantState) (c : Table) (r : Rest) → t.on ≡ s.on → t.write_fuse ≡ s.write_fuse → world t c r ≡ shown s t c r
+world-still s t c r on fuse i = record (shown s t c r) {
+  control = record (shown s t c r).control { on = on-same s t on i; fuse = fuses-same s t fuse i };
+}
+
+pub world-spent : (s t : PlantState) (c : Table) (r : Rest) (o n : ℕ) → o < 8 → t.on ≡ s.on → t.write_fuse ≡ at s.write_fuse o (write_fuse_after n (s.write_fuse o)) → world t c r ≡ machine.spent (shown s t c r) o n
+world-spent s t c r o n low on fuse =
+    let lower = lower-seen n (s.write_fuse o) ∙ ap (machine.lower n) (sym (fuse-seen s o low)) in
+    let fuses = fuses-at s t o _ low fuse ∙ ap (at (fuses_seen s) o) lower in
+    λ i. record (shown s t c r) { control = record (shown s t c r).control { on = on-same s t on i; fuse = fuses i } }
+
+pub world-off : (s t : PlantState) (c : Table) (r : Rest) (o : ℕ) (g : WriteFuse) → o < 8 → t.on ≡ at s.on o false → t.write_fuse ≡ at s.write_fuse o (Some (record g { after = 0 })) → s.write_fuse o ≡ Some g → world t c r ≡ machine.off (shown s t c r) o
+world-off s t c r o g low on fuse armed =
+    let burnt : fuse_seen (Some (record g { after = 0 })) ≡ machine.burnt (fuses_seen s o) = sym (ap (λ f. machine.burnt f) (fuse-seen s o low ∙ ap fuse_seen armed)) in
+    let fuses = fuses-at s t o _ low fuse ∙ ap (at (fuses_seen s) o) burnt in
+    λ i. record (shown s t c r) { control = record (shown s t c r).control { on = on-off s t o low on i; fuse = fuses i } }
+
+-- where the volumes and the tracks are as before, and where one volume moved
+pub shown-before : (s t : PlantState) (c : Table) (r : Rest) (v : ℕ) → IsAsBefore s t c v → OthersStay s t c v → shown s t c r ≡ world s c r
+shown-before s t c r v here there =
+    let volumes = table_same (volume_seen s c) (volume_seen t c) v here.volume (λ q ne. (there q ne).volume) in
+    let tracks = table_same (track_seen s c) (track_seen t c) v here.tracks (λ q ne. (there q ne).tracks) in
+    λ i. record (world s c r) { control = record (world s c r).control { volume = volumes i }; contents = tracks i }
+
+pub shown-moved : (s t : PlantState) (c : Table) (r : Rest) (v : ℕ) (f : layout.Fields) (m : Carried) → IsMoved s t c v f m → OthersStay s t c v → shown s t c r ≡ updated (world s c r) v f m
+shown-moved s t c r v f m here there =
+    let volumes = table_at (volume_seen s c) (volume_seen t c) v (moved (volume_seen s c v) f m) here.volume (λ q ne. (there q ne).volume) in
+    let tracks = table_at (track_seen s c) (track_seen t c) v (tracks_after f m (track_seen s c v)) here.tracks (λ q ne. (there q ne).tracks) in
+    λ i. record (world s c r) { control = record (world s c r).control { volume = volumes i }; contents = tracks i }
+
+-- The machine's update, by whether the server is on, whether the writes pass, and whether a stopped move counts.
+pub update-off : (w : World) (v : ℕ) (f : layout.Fields) (m : Carried) (o : ℕ) → (w.control.volume v).server ≡ o → w.control.on o ≡ false → machine.update w v f m ≡ ended w true false
+unfolding machine.update
+update-off w v f m o is h =
+    let off = ap w.control.on is ∙ h in
+    ap (λ b. if not b then ended w true false
+    else if machine.pass (w.control.fuse (w.control.volume v).server) (machine.writes m) then ended (machine.spent (updated w v f m) (w.control.volume v).server (machine.writes m)) false true
+    else if machine.counts_by (w.control.fuse (w.control.volume v).server) (not (w.control.volume v).slot) then ended (machine.off (updated w v f m) (w.control.volume v).server) true true
+    else ended (machine.off w (w.control.volume v).server) true false) off
+
+pub update-passed : (w : World) (v : ℕ) (f : layout.Fields) (m : Carried) (o : ℕ) → (w.control.volume v).server ≡ o → w.control.on o ≡ true → machine.pass (w.control.fuse o) (machine.writes m) ≡ true → machine.update w v f m ≡ ended (machine.spent (updated w v f m) o (machine.writes m)) false true
+unfolding machine.update
+update-passed w v f m o is on pass =
+    (λ i. if not (w.control.on (is i)) then ended w true false
+    else if machine.pass (w.control.fuse (is i)) (machine.writes m) then ended (machine.spent (updated w v f m) (is i) (machine.writes m)) false true
+    else if machine.counts_by (w.control.fuse (is i)) (not (w.control.volume v).slot) then ended (machine.off (updated w v f m) (is i)) true true
+    else ended (machine.off w (is i)) true false)
+    ∙ (λ i. if not (on i) then ended w true false
+    else if pass i then ended (machine.spent (updated w v f m) o (machine.writes m)) false true
+    else if machine.counts_by (w.control.fuse o) (not (w.control.volume v).slot) then ended (machine.off (updated w v f m) o) true true
+    else ended (machine.off w o) true false)
+
+pub update-cut_short : (w : World) (v : ℕ) (f : layout.Fields) (m : Carried) (o : ℕ) (done : Bool) → (w.control.volume v).server ≡ o → w.control.on o ≡ true → machine.pass (w.control.fuse o) (machine.writes m) ≡ false → machine.counts_by (w.control.fuse o) (not (w.control.volume v).slot) ≡ done → machine.update w v f m ≡ (if done then ended (machine.off (updated w v f m) o) true true else ended (machine.off w o) true false)
+unfolding machine.update
+update-cut_short w v f m o done is on pass counts =
+    (λ i. if not (w.control.on (is i)) then ended w true false
+    else if machine.pass (w.control.fuse (is i)) (machine.writes m) then ended (machine.spent (updated w v f m) (is i) (machine.writes m)) false true
+    else if machine.counts_by (w.control.fuse (is i)) (not (w.control.volume v).slot) then ended (machine.off (updated w v f m) (is i)) true true
+    else ended (machine.off w (is i)) true false)
+    ∙ (λ i. if not (on i) then ended w true false
+    else if pass i then ended (machine.spent (updated w v f m) o (machine.writes m)) false true
+    else if counts i then ended (machine.off (updated w v f m) o) true true
+    else ended (machine.off w o) true false)
+
+-- An update that counts as done is seen by the slot: it is the other one then, and else the same.
+pub done-slot : (w : World) (v : ℕ) (f : layout.Fields) (m : Carried) → ((machine.update w v f m).world.control.volume v).slot ≡ (if (machine.update w v f m).done then not (w.control.volume v).slot else (w.control.volume v).slot)
+unfolding machine.update
+done-slot w v f m =
+    let o = (w.control.volume v).server in
+    let moved_slot = ap (λ (x : Volume). x.slot) (at_same w.control.volume v (moved (w.control.volume v) f m)) in
+    elim (w.control.on o) as (λ on. (let e : Ended = (if not on then ended w true false
+    else if machine.pass (w.control.fuse o) (machine.writes m) then ended (machine.spent (updated w v f m) o (machine.writes m)) false true
+    else if machine.counts_by (w.control.fuse o) (not (w.control.volume v).slot) then ended (machine.off (updated w v f m) o) true true
+    else ended (machine.off w o) true false) in (e.world.control.volume v).slot ≡ (if e.done then not (w.control.volume v).slot else (w.control.volume v).slot))) [
+      | false ↦ refl
+      | true ↦ elim (machine.pass (w.control.fuse o) (machine.writes m)) as (λ p. (let e : Ended = (if p then ended (machine.spent (updated w v f m) o (machine.writes m)) false true
+          else if machine.counts_by (w.control.fuse o) (not (w.control.volume v).slot) then ended (machine.off (updated w v f m) o) true true
+          else ended (machine.off w o) true false) in (e.world.control.volume v).slot ≡ (if e.done then not (w.control.volume v).slot else (w.control.volume v).slot))) [
+            | true ↦ moved_slot
+            | false ↦ elim (machine.counts_by (w.control.fuse o) (not (w.control.volume v).slot)) as (λ p. (let e : Ended = (if p then ended (machine.off (updated w v f m) o) true true
+                else ended (machine.off w o) true false) in (e.world.control.volume v).slot ≡ (if e.done then not (w.control.volume v).slot else (w.control.volume v).slot))) [ true ↦ moved_slot | false ↦ refl ]
+          ]
+    ]

@@ -1,0 +1,8 @@
+pub mod Codes
+pub mod Plain
+pub mod Record
+pub mod ReadsBack
+pub mod View
+pub mod Volume
+pub mod Lawful
+pub mod Update

@@ -1,0 +1,143 @@
+-- The six blocks of a record: how fields are written to them, and read from them.
+use Rattle.std.specs.List.{slice_index_or}
+use Rattle.std.specs.Prelude.{ℕ, zero, suc, false, List, [], ◌∷◌, ◌++◌, nat_eq, cond, is_some, unwrap_or, Option, None, Some, replicate, if◌then◌else◌, take, drop}
+use Rattle.std.specs.FinSet.{empty}
+use Rattle.dr_bits.specs.Tracks.{IsInRange, bytes_of, of_bytes}
+use Rattle.dr_model.specs.Contents.{zeros}
+use Rattle.dr_model.specs.Layout.{Blocks, byte, bit, number16, number32, part_of, state_of}
+use Rattle.dr_model.specs.declared.state.Part.TheVariants.{Absent}
+use Rattle.dr_model.specs.declared.state.PairState.TheVariants.{CopyPending}
+use Rattle.dr_volume.specs.declared.fields.Fields.{Fields}
+use Rattle.dr_volume.specs.Codes.{code_of_part, code_of_state, two_bytes, four_bytes, flags_byte}
+
+-- the first eight bytes: the parts and their states, the flags, the session, and whether a track is staged
+abbrev pub codes_of : Fields → List ℕ
+codes_of f =
+    code_of_part f.primary ∷ code_of_state f.primary_state ∷ flags_byte (f.coordination ∷ f.long_busy ∷ f.recording ∷ [])
+    ∷ code_of_part f.secondary ∷ code_of_state f.secondary_state
+    ∷ flags_byte (f.related ∷ f.nocopy ∷ f.persistent ∷ f.recorded ∷ f.inhibited ∷ f.revertible ∷ f.reversing ∷ f.member ∷ [])
+    ∷ f.session ∷ cond (is_some f.staged) 1 0 ∷ []
+
+-- the first block: the codes, the volumes and the staged track in two bytes each, five numbers in four bytes each
+unfoldable pub head_of : Fields → List ℕ
+head_of f =
+    codes_of f
+    ++ two_bytes f.primary_partner.0 ++ two_bytes f.secondary_partner.0 ++ two_bytes f.source.0 ++ two_bytes (unwrap_or f.staged 0)
+    ++ four_bytes f.attempt ++ four_bytes f.seal ++ four_bytes f.sequence ++ four_bytes f.previous_sequence ++ four_bytes f.floor
+    ++ replicate 28 0
+
+-- block i of the record: the head, seven sets in pairs, and the staged bytes
+abbrev pub block_of : Fields → ℕ → List ℕ
+block_of f i =
+    if nat_eq i 0 then head_of f
+    else if nat_eq i 1 then bytes_of f.out_of_sync ++ bytes_of f.change_recording
+    else if nat_eq i 2 then bytes_of f.own ++ bytes_of f.previous_own
+    else if nat_eq i 3 then bytes_of f.source_changes ++ bytes_of f.target_changes
+    else if nat_eq i 4 then bytes_of f.blank ++ bytes_of empty
+    else f.staged_bytes
+
+-- the track that a head says is staged
+abbrev pub staged_in : List ℕ → Option ℕ
+staged_in head = if nat_eq (byte head 7) 1 then Some (number16 head 14) else None
+
+-- the fields once they take over what a head says
+unfoldable pub with_head : Fields → List ℕ → Fields
+with_head f head = record f {
+  primary = part_of (byte head 0);
+  primary_state = state_of (byte head 1);
+  primary_partner = record { 0 = number16 head 8 };
+  coordination = bit (byte head 2) 0;
+  long_busy = bit (byte head 2) 1;
+  recording = bit (byte head 2) 2;
+  attempt = number32 head 16;
+  secondary = part_of (byte head 3);
+  secondary_state = state_of (byte head 4);
+  secondary_partner = record { 0 = number16 head 10 };
+  seal = number32 head 20;
+  related = bit (byte head 5) 0;
+  source = record { 0 = number16 head 12 };
+  nocopy = bit (byte head 5) 1;
+  persistent = bit (byte head 5) 2;
+  recorded = bit (byte head 5) 3;
+  inhibited = bit (byte head 5) 4;
+  sequence = number32 head 24;
+  previous_sequence = number32 head 28;
+  revertible = bit (byte head 5) 5;
+  reversing = bit (byte head 5) 6;
+  member = bit (byte head 5) 7;
+  session = byte head 6;
+  floor = number32 head 32;
+  staged = staged_in head;
+}
+
+-- the fields once they take over what block i says
+abbrev pub with_block : Fields → ℕ → List ℕ → Fields
+with_block f i b =
+    if nat_eq i 0 then with_head f b
+    else if nat_eq i 1 then record f { out_of_sync = of_bytes (take 32 b); change_recording = of_bytes (drop 32 b) }
+    else if nat_eq i 2 then record f { own = of_bytes (take 32 b); previous_own = of_bytes (drop 32 b) }
+    else if nat_eq i 3 then record f { source_changes = of_bytes (take 32 b); target_changes = of_bytes (drop 32 b) }
+    else if nat_eq i 4 then record f { blank = of_bytes (take 32 b) }
+    else record f { staged_bytes = b }
+
+-- the fields of a volume that has no pair, no relationship, and no track that is blank or staged
+unfoldable pub no_record : Fields
+no_record = record {
+  primary = Absent;
+  primary_state = CopyPending;
+  primary_partner = record { 0 = 0 };
+  coordination = false;
+  long_busy = false;
+  recording = false;
+  attempt = 0;
+  out_of_sync = empty;
+  change_recording = empty;
+  secondary = Absent;
+  secondary_state = CopyPending;
+  secondary_partner = record { 0 = 0 };
+  seal = 0;
+  related = false;
+  source = record { 0 = 0 };
+  nocopy = false;
+  persistent = false;
+  recorded = false;
+  inhibited = false;
+  own = empty;
+  previous_own = empty;
+  source_changes = empty;
+  target_changes = empty;
+  sequence = 0;
+  previous_sequence = 0;
+  revertible = false;
+  reversing = false;
+  member = false;
+  session = 0;
+  floor = 0;
+  blank = empty;
+  staged = None;
+  staged_bytes = zeros;
+}
+
+-- each set is one of tracks below 256
+pub record IsWhole (f : Fields) : Type 0 where
+  pub out_of_sync : IsInRange f.out_of_sync
+  pub change_recording : IsInRange f.change_recording
+  pub own : IsInRange f.own
+  pub previous_own : IsInRange f.previous_own
+  pub source_changes : IsInRange f.source_changes
+  pub target_changes : IsInRange f.target_changes
+  pub blank : IsInRange f.blank
+
+-- the fields that six blocks give, read one after another
+abbrev pub raw_of : Blocks → Fields
+raw_of b =
+    with_block (with_block (with_block (with_block (with_block (with_block no_record 0 (b 0)) 1 (b 1)) 2 (b 2)) 3 (b 3)) 4 (b 4)) 5 (b 5)
+
+-- the fields once they took over the first n blocks of a record
+unfoldable pub after_blocks : Blocks → ℕ → Fields
+after_blocks b zero = no_record
+after_blocks b (suc n) = with_block (after_blocks b n) n (b n)
+
+-- the blocks of a list by number
+abbrev pub listed : List (List ℕ) → Blocks
+listed blocks k = slice_index_or blocks k []

@@ -1,0 +1,140 @@
+//! Changing a volume: one move writes its record and a track, done or not done as a whole.
+
+ghost use Rattle.std.specs.Prelude.{◌≡◌, ◌≢◌, ℕ, ◌<◌, ◌+◌, not, false, IsSome, IfSome, OnOk, OnErr, is_err, ◌⊎◌};
+ghost use Rattle.dr_plant.specs.State.{risen};
+ghost use Rattle.dr_record.specs.Writes.{IsDevice, after_writes};
+ghost use Rattle.dr_record.specs.Slots.{slot_of};
+ghost use Rattle.dr_config.specs.Table.{StandsFor, place_of};
+ghost use Rattle.dr_model.specs.Carry as machine;
+ghost use Rattle.dr_volume.specs.Plain.{plain, IsLawful};
+ghost use Rattle.dr_volume.specs.View.{Rest, world, volume_seen, device_of, IsSettled, TracksSettled, ReadsPass};
+ghost use Rattle.dr_volume.specs.Update.{staging, track_with, track_writes, update_writes, read_and_write, Covers, IsAsBefore, IsMoved, OthersStay, ServerStays};
+
+use crate::codes::zero_block;
+use crate::fields::Fields;
+use crate::volume::{FIRST_TRACK, find, load};
+use dr_config::Config;
+use dr_ids::VolumeId;
+use dr_plant::{Block, DeviceId, Plant, Stopped};
+use dr_record::Cell;
+
+/// Gives a volume other fields and, where one is given, a track with its bytes: one move, done or
+/// not done as a whole. Fails where the volume's server is off or stops within the move; then the
+/// server is off, and the move counts as done where the device chooses the new fields.
+pub fn update<P: Plant>(
+    p: &mut P,
+    c: &Config,
+    v: VolumeId,
+    next: &Fields,
+    staged: Option<(u16, Block)>,
+) -> Result<(), Stopped>
+    requires defined { IsSome (place_of c.now v.0) }
+    requires stands { StandsFor c.now (P.state p.old) }
+    requires lawful { IsLawful (volume_seen (P.state p.old) c.now v.0).tracks next.now }
+    requires within { IfSome staged (λ t. t.0 < (volume_seen (P.state p.old) c.now v.0).tracks) }
+    requires settled { IsSettled (P.state p.old) c.now v.0 }
+    requires covers { Covers (volume_seen (P.state p.old) c.now v.0).fields.blank next.now.blank staged }
+    ensures world { (r : Rest) → ReadsPass (P.state p.old) → world (P.state p.new) c.now r ≡ (machine.update (world (P.state p.old) c.now r) v.0 (plain next.now) staged).world }
+    ensures stopped { (r : Rest) → ReadsPass (P.state p.old) → is_err result ≡ (machine.update (world (P.state p.old) c.now r) v.0 (plain next.now) staged).stopped }
+    ensures done { OnOk result (IsMoved (P.state p.old) (P.state p.new) c.now v.0 (plain next.now) staged) }
+    ensures old_or_new { IsAsBefore (P.state p.old) (P.state p.new) c.now v.0 ⊎ IsMoved (P.state p.old) (P.state p.new) c.now v.0 (plain next.now) staged }
+    ensures others { OthersStay (P.state p.old) (P.state p.new) c.now v.0 }
+    ensures stands { StandsFor c.now (P.state p.new) }
+    ensures reads_pass { ReadsPass (P.state p.old) → ReadsPass (P.state p.new) }
+    ensures settled { (u : ℕ) → IsSettled (P.state p.old) c.now u → IsSettled (P.state p.new) c.now u }
+    ensures servers { (q : ℕ) → q ≢ (volume_seen (P.state p.old) c.now v.0).server → ServerStays (P.state p.old) (P.state p.new) q }
+    ensures on { OnOk result ((P.state p.new).on ≡ (P.state p.old).on) }
+    ensures off { OnErr result ((P.state p.new).on (volume_seen (P.state p.old) c.now v.0).server ≡ false) }
+    ensures fault { OnErr result ((P.state p.new).faults ≡ risen (P.state p.old).faults) }
+    ensures no_fault { OnOk result ((P.state p.new).faults ≡ (P.state p.old).faults) }
+{
+    rewrite(p, find(c, v).device, &with_staged(next, staged), staged)
+}
+
+/// Writes a volume's staged track, where one is staged, to its own place, so that the next move may
+/// stage another. Nothing that is read changes. Fails where the volume's server is off or stops.
+pub fn redo<P: Plant>(p: &mut P, c: &Config, v: VolumeId) -> Result<(), Stopped>
+    requires defined { IsSome (place_of c.now v.0) }
+    requires stands { StandsFor c.now (P.state p.old) }
+    ensures world { (r : Rest) → ReadsPass (P.state p.old) → world (P.state p.new) c.now r ≡ (machine.redo (world (P.state p.old) c.now r) v.0).world }
+    ensures stopped { (r : Rest) → ReadsPass (P.state p.old) → is_err result ≡ (machine.redo (world (P.state p.old) c.now r) v.0).stopped }
+    ensures same { (u : ℕ) → IsAsBefore (P.state p.old) (P.state p.new) c.now u }
+    ensures done { OnOk result (TracksSettled ((P.state p.new).block (device_of c.now v.0)) (volume_seen (P.state p.new) c.now v.0).staged) }
+    ensures stands { StandsFor c.now (P.state p.new) }
+    ensures reads_pass { ReadsPass (P.state p.old) → ReadsPass (P.state p.new) }
+    ensures settled { (u : ℕ) → IsSettled (P.state p.old) c.now u → IsSettled (P.state p.new) c.now u }
+    ensures servers { (q : ℕ) → q ≢ (volume_seen (P.state p.old) c.now v.0).server → ServerStays (P.state p.old) (P.state p.new) q }
+    ensures on { OnOk result ((P.state p.new).on ≡ (P.state p.old).on) }
+    ensures off { OnErr result ((P.state p.new).on (volume_seen (P.state p.old) c.now v.0).server ≡ false) }
+    ensures fault { OnErr result ((P.state p.new).faults ≡ risen (P.state p.old).faults) }
+    ensures no_fault { OnOk result ((P.state p.new).faults ≡ (P.state p.old).faults) }
+{
+    let device = find(c, v).device;
+    let fields = load(p, c, v)?;
+    write_track(p, device, staged_track(&fields))
+}
+
+// The fields with the carried track staged in place of what they stage.
+fn with_staged(next: &Fields, carried: Option<(u16, Block)>) -> Fields
+    ensures { result ≡ staging carried next.now }
+{
+    match &carried {
+        Some(track) => {
+            let staged_bytes = track.1;
+            Fields {
+                staged: Some(track.0),
+                staged_bytes,
+                ..*next
+            }
+        }
+        None => Fields {
+            staged: None,
+            staged_bytes: zero_block(),
+            ..*next
+        },
+    }
+}
+
+fn staged_track(fields: &Fields) -> Option<(u16, Block)>
+    ensures { result ≡ track_with fields.now.staged fields.now.staged_bytes }
+{
+    match fields.staged {
+        Some(t) => {
+            let bytes = fields.staged_bytes;
+            Some((t, bytes))
+        }
+        None => None,
+    }
+}
+
+// Writes the next fields over those that the device doesn't choose, then the gate, then the track.
+fn rewrite<P: Plant>(
+    p: &mut P,
+    device: DeviceId,
+    next: &Fields,
+    carried: Option<(u16, Block)>,
+) -> Result<(), Stopped>
+    requires device { IsDevice (P.state p.old) device.0 13 }
+    requires track { IfSome carried (λ t. (t.0 < 256) × (13 + t.0 < (P.state p.old).size device.0)) }
+    ensures { read_and_write (P.state p.old) device.0 (update_writes (not (slot_of (P.state p.old) device.0)) next.now carried) ≡ (P.state p.new, is_err result) }
+{
+    let mut cell: Cell<Fields> = Cell::load(p, device)?;
+    cell.put(p, next)?;
+    write_track(p, device, carried)
+}
+
+// Writes a track to its own block.
+fn write_track<P: Plant>(
+    p: &mut P,
+    device: DeviceId,
+    carried: Option<(u16, Block)>,
+) -> Result<(), Stopped>
+    requires device { device.0 < (P.state p.old).count }
+    requires track { IfSome carried (λ t. (t.0 < 256) × (13 + t.0 < (P.state p.old).size device.0)) }
+    ensures { after_writes (P.state p.old) device.0 (track_writes carried) ≡ (P.state p.new, is_err result) }
+{
+    match &carried {
+        Some(track) => p.write(device, FIRST_TRACK + track.0, &track.1),
+        None => Ok(()),
+    }
+}
