@@ -1,0 +1,60 @@
+-- What a line comes to.
+use Rattle.std.proofs.Common.{ℕ, ◌≡◌, List, [], ◌∷◌, ◌++◌, refl, ap, ◌∙◌, true, false, cond, Some, Option, Result, Ok, Err}
+use Rattle.std.specs.Prelude.{OnOk}
+use Rattle.dr_plant.specs.State.{PlantState}
+use Rattle.dr_config.specs.Table.{Table}
+use Rattle.dr_model.specs.declared.event.Event.{Event}
+use Rattle.dr_model.specs.declared.step.Name.{Name}
+use Rattle.dr_model.specs.declared.step.Step.{Step}
+use Rattle.dr_model.specs.declared.step.Step.TheVariants.{Server, Volume, Write, Show}
+use Rattle.dr_model.specs.declared.said.Said.TheVariants.{NotBuilt}
+use Rattle.dr_model.specs.Answers.{answer}
+use Rattle.dr_model.specs.Control.{Control, World}
+use Rattle.dr_model.specs.Lines.{words, step_words, is_no_step, tasks_of}
+use Rattle.dr_model.specs.Plans.{refuse, plan_of}
+use Rattle.dr_model.specs.Runs.{Task, after_plan, after_task, after_tasks}
+use Rattle.dr_model.proofs.PlanLemmas.{after_plan-refuse}
+use Rattle.dr_top.specs.Here.{here}
+use Rattle.dr_top.specs.declared.host.Host.{Host}
+use Rattle.dr_top.proofs.StepLemmas.{said-here}
+
+refused : (k : Control) (contents : ℕ → ℕ → List ℕ) (line : ℕ) (step : Step) → ((n : Name) → step ≡ Server n → ⊥) → ((v : ℕ) (n : Name) (t : ℕ) → step ≡ Volume v n t → ⊥)
+    → ((v t o l : ℕ) (b : List ℕ) → step ≡ Write v t o l b → ⊥) → ((v t : ℕ) → step ≡ Show v t → ⊥) → plan_of k contents line step ≡ refuse NotBuilt
+refused k contents line (Server n) server volume write show = absurd (server n refl)
+refused k contents line (Volume v n t) server volume write show = absurd (volume v n t refl)
+refused k contents line (Write v t o l b) server volume write show = absurd (write v t o l b refl)
+refused k contents line (Show v t) server volume write show = absurd (show v t refl)
+refused k contents line _ server volume write show = refl
+
+-- a step that isn't built
+pub unbuilt : (s : PlantState) (t : Table) (h : Host) (before now : List Event) (line : ℕ) (step : Step) → ((n : Name) → step ≡ Server n → ⊥) → ((v : ℕ) (n : Name) (t : ℕ) → step ≡ Volume v n t → ⊥)
+    → ((v t o l : ℕ) (b : List ℕ) → step ≡ Write v t o l b → ⊥) → ((v t : ℕ) → step ≡ Show v t → ⊥) → now ≡ before ++ answer line NotBuilt ∷ []
+    → after_task (here s t h before) (record { line = line; step = Some step }) ≡ here s t h now
+unbuilt s t h before now line step server volume write show told =
+    let w = here s t h before in
+    ap (after_plan w line) (refused w.control w.contents line step server volume write show) ∙ after_plan-refuse w line NotBuilt ∙ said-here s t h before now line NotBuilt told
+
+-- no task, and one
+pub after-none : (w : World) → after_tasks w [] ≡ w
+unfolding after_tasks
+after-none w = refl
+
+pub after-one : (w : World) (t : Task) → after_tasks w (t ∷ []) ≡ after_task w t
+unfolding after_tasks
+after-one w t = refl
+
+-- a line that is no step, and one that is
+pub no-task : (w : World) (number : ℕ) (line : List ℕ) → is_no_step line ≡ true → after_tasks w (tasks_of number line) ≡ w
+no-task w number line e = ap (λ b. after_tasks w (cond b [] (record { line = number; step = step_words (words line) } ∷ []))) e ∙ after-none w
+
+pub one-task : (w : World) (number : ℕ) (line : List ℕ) (step : Option Step) → is_no_step line ≡ false → step_words (words line) ≡ step
+    → after_tasks w (tasks_of number line) ≡ after_task w (record { line = number; step = step })
+one-task w number line step e is =
+    ap (λ b. after_tasks w (cond b [] (record { line = number; step = step_words (words line) } ∷ []))) e
+    ∙ ap (λ o. after_tasks w (record { line = number; step = o } ∷ [])) is
+    ∙ after-one w (record { line = number; step = step })
+
+-- where a call was Ok, a chain of equations
+pub ok-along : {T E : Type 0} (r : Result T E) (x y z : World) → x ≡ y → OnOk r (y ≡ z) → OnOk r (x ≡ z)
+ok-along (Ok a) x y z first rest = first ∙ rest
+ok-along (Err e) x y z first rest = tt

@@ -1,0 +1,15 @@
+pub mod TextLemmas
+pub mod PutLemmas
+pub mod WordsLemmas
+pub mod HexLemmas
+pub mod LandingLemmas
+pub mod TurnLemmas
+pub mod LocatedLemmas
+pub mod StepLemmas
+pub mod LineLemmas
+pub mod WellFormedLemmas
+pub mod ZeroDevice
+pub mod DefineLemmas
+pub mod CarryLemmas
+pub mod RunLemmas
+pub mod TopLemmas

@@ -1,0 +1,80 @@
+-- A volume that the configuration finds is one of the machine's, with its server and its size.
+use Rattle.std.proofs.Common.{ℕ, ◌≡◌, ◌<◌, ◌≤◌, List, [], ◌∷◌, refl, ap, ◌∙◌, arith, true, false, ◌&&◌, ◌||◌, cond, nat_eq, nat_lt, Option, Some, None}
+use Rattle.std.proofs.lemmas.Bool.Decides.{nat_tests}
+use Rattle.std.specs.Prelude.{is_some, ◌==◌, option_map}
+use Rattle.dr_ids.specs.declared.names.ServerId.{ServerId}
+use Rattle.dr_top.specs.Located.{Located}
+use Rattle.std.specs.List.{list_any, find}
+use Rattle.dr_plant.specs.State.{PlantState}
+use Rattle.dr_config.specs.Table.{Table, place_of, entry_of}
+use Rattle.dr_config.specs.declared.entries.VolumeEntry.{VolumeEntry}
+use Rattle.dr_config.proofs.Lookups.{place-of-entry}
+use Rattle.dr_model.specs.declared.event.Event.{Event}
+use Rattle.dr_model.specs.Plans.{has_track, is_volume}
+use Rattle.dr_volume.specs.View.{volume_seen, ids_of}
+use Rattle.dr_volume.proofs.VolumeLaws.{volume-placed}
+use Rattle.dr_top.specs.Here.{here}
+use Rattle.dr_top.specs.declared.host.Host.{Host}
+
+same_id : (a b : ℕ) → nat_eq a b ≡ nat_eq b a
+same_id a b = grind (arith, nat_tests)
+
+any_id : (es : List VolumeEntry) (v : ℕ) → list_any (nat_eq v) (ids_of es) ≡ is_some (find (λ (e : VolumeEntry). e.id == v) es)
+any_id [] v = refl
+any_id (e ∷ es) v =
+    ap (λ b. b || list_any (nat_eq v) (ids_of es)) (same_id v e.id)
+    ∙ elim (nat_eq e.id v) as (λ b. (b || list_any (nat_eq v) (ids_of es)) ≡ is_some (cond b (Some e) (find (λ (e : VolumeEntry). e.id == v) es))) [ true ↦ refl | false ↦ any_id es v ]
+
+-- the machine has a volume exactly where the configuration has
+pub is_volume-here : (s : PlantState) (t : Table) (h : Host) (events : List Event) (v : ℕ) → is_volume (here s t h events).control v ≡ is_some (entry_of t v)
+is_volume-here s t h events v = any_id t.volumes v
+
+pub no_track-undefined : (s : PlantState) (t : Table) (h : Host) (events : List Event) (v k : ℕ) → entry_of t v ≡ None → has_track (here s t h events).control v k ≡ false
+no_track-undefined s t h events v k none = ap (λ b. b && nat_lt k (volume_seen s t v).tracks) (is_volume-here s t h events v ∙ ap is_some none)
+
+-- where an entry is found, the volume is on its device
+pub seen-entry : (s : PlantState) (t : Table) (v : ℕ) (e : VolumeEntry) → entry_of t v ≡ Some e → ((volume_seen s t v).server ≡ e.server) × ((volume_seen s t v).tracks ≡ e.tracks) × (is_some (place_of t v) ≡ true)
+seen-entry s t v e found =
+    let at = place-of-entry t v e found in
+    let on = volume-placed s t v at.0 e at.1 at.2 in
+    (ap (λ x. x.server) on, ap (λ x. x.tracks) on, ap is_some at.1)
+
+pub has_track-entry : (s : PlantState) (t : Table) (h : Host) (events : List Event) (v k : ℕ) (e : VolumeEntry) → entry_of t v ≡ Some e → has_track (here s t h events).control v k ≡ nat_lt k e.tracks
+has_track-entry s t h events v k e found =
+    ap (λ b. b && nat_lt k (volume_seen s t v).tracks) (is_volume-here s t h events v ∙ ap is_some found)
+    ∙ ap (nat_lt k) (seen-entry s t v e found).1
+
+pub mapped_none : {A B : Type 0} (f : A → B) (o : Option A) → None ≡ option_map f o → o ≡ None
+mapped_none f None e = refl
+mapped_none f (Some x) e = cc
+
+pub mapped_some : {A B : Type 0} (f : A → B) (o : Option A) (y : B) → Some y ≡ option_map f o → (x : A) × (o ≡ Some x) × (f x ≡ y)
+mapped_some f None y e = cc
+mapped_some f (Some x) y e = (x, refl, cc)
+
+lt_true : (a b : ℕ) → a < b → nat_lt a b ≡ true
+lt_true a b h = grind (arith, nat_tests)
+
+lt_false : (a b : ℕ) → b ≤ a → nat_lt a b ≡ false
+lt_false a b h = grind (arith, nat_tests)
+
+-- the track is there
+pub located-some : (t : Table) (v k : ℕ) (tracks : ℕ) (server : ServerId) → Some tracks ≡ option_map (λ (e : VolumeEntry). e.tracks) (entry_of t v) → Some server.0 ≡ option_map (λ (e : VolumeEntry). e.server) (entry_of t v)
+    → server.0 < 8 → k < tracks → Located t v k (Some (record { server = server; track = k }))
+located-some t v k tracks server sized owned known lt s h events =
+    let a = mapped_some (λ (e : VolumeEntry). e.tracks) (entry_of t v) tracks sized in
+    let b = mapped_some (λ (e : VolumeEntry). e.server) (entry_of t v) server.0 owned in
+    let seen = seen-entry s t v a.0 a.1 in
+    let other = seen-entry s t v b.0 b.1 in
+    let big : k < (volume_seen s t v).tracks = (let e = seen.1 in let f = a.2 in omega arith) in (
+      has_track-entry s t h events v k a.0 a.1 ∙ lt_true k a.0.tracks (let f = a.2 in omega arith),
+      record { defined = seen.2; server = other.0 ∙ b.2; known = known; track = refl; within = big },
+    )
+
+pub located-past : (t : Table) (v k : ℕ) (tracks : ℕ) → Some tracks ≡ option_map (λ (e : VolumeEntry). e.tracks) (entry_of t v) → tracks ≤ k → Located t v k None
+located-past t v k tracks sized le s h events =
+    let a = mapped_some (λ (e : VolumeEntry). e.tracks) (entry_of t v) tracks sized in
+    has_track-entry s t h events v k a.0 a.1 ∙ lt_false k a.0.tracks (let f = a.2 in omega arith)
+
+pub located-undefined : (t : Table) (v k : ℕ) → None ≡ option_map (λ (e : VolumeEntry). e.tracks) (entry_of t v) → Located t v k None
+located-undefined t v k none s h events = no_track-undefined s t h events v k (mapped_none (λ (e : VolumeEntry). e.tracks) (entry_of t v) none)

@@ -1,0 +1,20 @@
+-- A piece that is put in several calls.
+use Rattle.std.proofs.Common.{ℕ, ◌≡◌, ◌≤◌, ◌+◌, ◌-◌, List, ◌++◌, length, take, drop, ap, ◌∙◌, sym, arith, append_assoc}
+use Rattle.std.proofs.lemmas.Grind.{common_steps}
+use Rattle.std.proofs.Math.Seq.{take-add}
+
+all_taken : {X : Type 0} (xs : List X) (n : ℕ) → length xs ≤ n → take n xs ≡ xs
+all_taken xs n h = grind (arith, common_steps)
+
+pub whole_rest : (piece : List ℕ) (done : ℕ) → take (length piece - done) (drop done piece) ≡ drop done piece
+whole_rest piece done = all_taken (drop done piece) (length piece - done) (grind (arith, common_steps))
+
+-- what was given so far and what a call took more
+pub given_more : (out piece : List ℕ) (done taken : ℕ) → (out ++ take done piece) ++ take taken (take (length piece - done) (drop done piece)) ≡ out ++ take (done + taken) piece
+given_more out piece done taken =
+    ap (λ r. (out ++ take done piece) ++ take taken r) (whole_rest piece done)
+    ∙ append_assoc out (take done piece) (take taken (drop done piece)) ∙ ap (λ t. out ++ t) (sym (take-add done taken piece))
+
+-- a call that took nothing
+pub given_none : (out piece : List ℕ) (done taken : ℕ) → taken ≡ 0 → (out ++ take done piece) ++ take taken (take (length piece - done) (drop done piece)) ≡ out ++ take done piece
+given_none out piece done taken none = given_more out piece done taken ∙ ap (λ n. out ++ take n piece) (let e : done + taken ≡ done = omega arith in e)

@@ -1,0 +1,99 @@
+-- One landing, from what the update of its volume left.
+use Rattle.std.proofs.Common.{ℕ, ◌≡◌, List, [], ◌∷◌, ◌++◌, refl, ap, ◌∙◌, sym, arith, Bool, true, false, not, cond, nat_eq, nat_lt, Some, None}
+use Rattle.std.proofs.lemmas.Bool.Decides.{nat_tests}
+use Rattle.std.specs.Prelude.{filter}
+use mathlib.Core.Bool.{beq}
+use Rattle.dr_plant.specs.State.{PlantState}
+use Rattle.dr_volume.specs.View.{on_seen}
+use Rattle.dr_model.specs.declared.event.Event.TheVariants.{Stopped}
+use Rattle.dr_model.specs.Histories.{histories, Write}
+use Rattle.dr_model.specs.Contents.{laid}
+use Rattle.dr_model.specs.Layout.{Fields}
+use Rattle.dr_model.specs.Control.{World, Pending}
+use Rattle.dr_model.specs.Moves.{Land, Carried, is_other, marked, moved, updated}
+use Rattle.dr_model.specs.Carry.{turn, update, finished, cut_short, ended, Ended, turn_ended, pass, writes, counts_by, spent, off}
+use Rattle.dr_top.specs.Here.{Ends, landing_fields}
+use Rattle.dr_model.proofs.Images.{at_same}
+
+abbrev pub Landing : World → ℕ → ℕ → ℕ → List ℕ → Ended
+Landing w v t o bytes = update w v (landing_fields (w.control.volume v).fields t) (Some (t, laid o bytes (w.contents v t)))
+
+-- a turn is its update, told to the journal
+turn_is : (w : World) (n v t o : ℕ) (bytes : List ℕ) → (histories w.events).write n ≡ record { volume = v; track = t; offset = o; bytes = bytes } → turn w (Land n v t) ≡ turn_ended w (Land n v t) (Landing w v t o bytes)
+unfolding turn
+turn_is w n v t o bytes issue = ap (λ (x : Write). turn_ended w (Land n v t) (update w v (landing_fields (w.control.volume v).fields t) (Some (t, laid x.offset x.bytes (w.contents v t))))) issue
+
+-- it ran to its end
+pub turn-goes : (w u : World) (n v t o : ℕ) (bytes : List ℕ) → (histories w.events).write n ≡ record { volume = v; track = t; offset = o; bytes = bytes }
+    → Ends (Landing w v t o bytes) u false → turn w (Land n v t) ≡ (finished u (Land n v t), None)
+turn-goes w u n v t o bytes issue ends =
+    turn_is w n v t o bytes issue
+    ∙ ap (λ b. cond b (cond (w.control.on (w.control.volume v).server) (cut_short (Landing w v t o bytes).world (Land n v t) (w.control.volume v).server (Landing w v t o bytes).done) w, Some (w.control.volume v).server) (finished (Landing w v t o bytes).world (Land n v t), None)) (sym ends.answer)
+    ∙ ap (λ x. (finished x (Land n v t), None)) (sym ends.world)
+
+-- its server stopped in it
+pub turn-stops : (w u : World) (n v t o : ℕ) (bytes : List ℕ) (done : Bool) → (histories w.events).write n ≡ record { volume = v; track = t; offset = o; bytes = bytes }
+    → w.control.on (w.control.volume v).server ≡ true → (Landing w v t o bytes).done ≡ done
+    → Ends (Landing w v t o bytes) u true → turn w (Land n v t) ≡ (cut_short u (Land n v t) (w.control.volume v).server done, Some (w.control.volume v).server)
+turn-stops w u n v t o bytes done issue on is ends =
+    turn_is w n v t o bytes issue
+    ∙ ap (λ b. cond b (cond (w.control.on (w.control.volume v).server) (cut_short (Landing w v t o bytes).world (Land n v t) (w.control.volume v).server (Landing w v t o bytes).done) w, Some (w.control.volume v).server) (finished (Landing w v t o bytes).world (Land n v t), None)) (sym ends.answer)
+    ∙ ap (λ b. (cond b (cut_short (Landing w v t o bytes).world (Land n v t) (w.control.volume v).server (Landing w v t o bytes).done) w, Some (w.control.volume v).server)) on
+    ∙ ap (λ b. (cut_short (Landing w v t o bytes).world (Land n v t) (w.control.volume v).server b, Some (w.control.volume v).server)) is
+    ∙ ap (λ x. (cut_short x (Land n v t) (w.control.volume v).server done, Some (w.control.volume v).server)) (sym ends.world)
+
+-- two slots differ
+abbrev pub differ : Bool → Bool → Bool
+differ true b = not b
+differ false b = b
+
+differ_not : (b : Bool) → differ (not b) b ≡ true
+differ_not true = refl
+differ_not false = refl
+
+differ_same : (b : Bool) → differ b b ≡ false
+differ_same true = refl
+differ_same false = refl
+
+-- where an update is stopped, it counts as done exactly where the slot changed
+pub done-by_slot : (w : World) (v : ℕ) (f : Fields) (c : Carried) → (update w v f c).stopped ≡ true → (update w v f c).done ≡ differ ((update w v f c).world.control.volume v).slot (w.control.volume v).slot
+unfolding update
+done-by_slot w v f c =
+    let s = (w.control.volume v).server in
+    let old = (w.control.volume v).slot in
+    elim (w.control.on s) as (λ a. (cond (not a) (ended w true false) (cond (pass (w.control.fuse s) (writes c)) (ended (spent (updated w v f c) s (writes c)) false true) (cond (counts_by (w.control.fuse s) (not old)) (ended (off (updated w v f c) s) true true) (ended (off w s) true false)))).stopped ≡ true → (cond (not a) (ended w true false) (cond (pass (w.control.fuse s) (writes c)) (ended (spent (updated w v f c) s (writes c)) false true) (cond (counts_by (w.control.fuse s) (not old)) (ended (off (updated w v f c) s) true true) (ended (off w s) true false)))).done ≡ differ ((cond (not a) (ended w true false) (cond (pass (w.control.fuse s) (writes c)) (ended (spent (updated w v f c) s (writes c)) false true) (cond (counts_by (w.control.fuse s) (not old)) (ended (off (updated w v f c) s) true true) (ended (off w s) true false)))).world.control.volume v).slot old) [
+      | false ↦ λ h. sym (differ_same old)
+      | true ↦ elim (pass (w.control.fuse s) (writes c)) as (λ b. (cond b (ended (spent (updated w v f c) s (writes c)) false true) (cond (counts_by (w.control.fuse s) (not old)) (ended (off (updated w v f c) s) true true) (ended (off w s) true false))).stopped ≡ true → (cond b (ended (spent (updated w v f c) s (writes c)) false true) (cond (counts_by (w.control.fuse s) (not old)) (ended (off (updated w v f c) s) true true) (ended (off w s) true false))).done ≡ differ ((cond b (ended (spent (updated w v f c) s (writes c)) false true) (cond (counts_by (w.control.fuse s) (not old)) (ended (off (updated w v f c) s) true true) (ended (off w s) true false))).world.control.volume v).slot old) [
+        | true ↦ λ h. cc
+        | false ↦ elim (counts_by (w.control.fuse s) (not old)) as (λ b. (cond b (ended (off (updated w v f c) s) true true) (ended (off w s) true false)).stopped ≡ true → (cond b (ended (off (updated w v f c) s) true true) (ended (off w s) true false)).done ≡ differ ((cond b (ended (off (updated w v f c) s) true true) (ended (off w s) true false)).world.control.volume v).slot old) [
+          | true ↦ λ h. sym (ap (λ x. differ x.slot old) (at_same w.control.volume v (moved (w.control.volume v) f c)) ∙ differ_not old)
+          | false ↦ λ h. sym (differ_same old)
+        ]
+      ]
+    ]
+
+same_number : (n : ℕ) → nat_eq n n ≡ true
+same_number n = grind (arith, nat_tests)
+
+-- the one pending write is acknowledged, or marked
+pub pending-none : (p : Pending) (n : ℕ) → p.w ≡ n → filter (is_other n) (p ∷ []) ≡ []
+pending-none p n e = ap (λ b. cond (not b) (p ∷ []) []) (ap (λ k. nat_eq k n) e ∙ same_number n)
+
+pub pending-marked : (p : Pending) (n : ℕ) → p.w ≡ n → marked n (p ∷ []) ≡ record p { landed = true } ∷ []
+pending-marked p n e = ap (λ b. cond b (record p { landed = true }) p ∷ []) (ap (λ k. nat_eq k n) e ∙ same_number n)
+
+pub not_beq : (a b : Bool) → not (beq a b) ≡ differ a b
+not_beq true true = refl
+not_beq true false = refl
+not_beq false true = refl
+not_beq false false = refl
+
+-- what a stop leaves of the one pending write, and what the journal is told
+pub cut_short-one : (u : World) (n v t s : ℕ) (p : Pending) (done : Bool) → p.w ≡ n → p.landed ≡ false → u.control.pending ≡ p ∷ []
+    → cut_short u (Land n v t) s done ≡ record u { control = record u.control { pending = record p { landed = done } ∷ [] }; events = u.events ++ Stopped s (cond done n 0) ∷ [] }
+cut_short-one u n v t s p true e waits is i = record u { control = record u.control { pending = (ap (marked n) is ∙ pending-marked p n e) i }; events = u.events ++ Stopped s n ∷ [] }
+cut_short-one u n v t s p false e waits is i = record u { control = record u.control { pending = (is ∙ ap (λ b. record p { landed = b } ∷ []) waits) i }; events = u.events ++ Stopped s 0 ∷ [] }
+
+-- a server that is on is on for the machine too
+pub on-running : (s : PlantState) (server : ℕ) → s.on server ≡ true → on_seen s server ≡ true
+on-running s server h = elim (nat_lt server 8) as (λ b. cond b (s.on server) true ≡ true) [ true ↦ h | false ↦ refl ]

@@ -1,0 +1,10 @@
+use Rattle.std.proofs.Common.{◌≡◌, ◌*◌, ◌-◌, ◌++◌, length, take, drop, replicate, Some}
+use Rattle.dr_model.specs.Lines.{hex_bytes, ◌>>=◌}
+use Rattle.dr_top.proofs.reader.read_pairs.Given as goal
+
+abbrev pub invariant-loop-i : goal.invariant-loop-i
+invariant-loop-i l = record {
+  sized : length l.bytes ≡ 64;
+  rest : hex_bytes l.word ≡ (hex_bytes (drop (2 * l.i) l.word) >>= λ more. Some (take l.i l.bytes ++ more));
+  zeros : drop l.i l.bytes ≡ replicate (64 - l.i) 0;
+}

@@ -1,0 +1,11 @@
+pub mod Given
+pub mod Input
+pub mod At
+pub mod Words
+pub mod Pieces
+pub mod Here
+pub mod Located
+pub mod Cut
+pub mod WellFormed
+pub mod Followed
+pub mod Outcome

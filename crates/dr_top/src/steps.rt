@@ -1,0 +1,198 @@
+//! The steps of a script, carried out on the plant.
+
+ghost use Rattle.std.specs.Prelude.{◌≡◌, ℕ, ◌+◌, ◌<◌, ◌≤◌, ◌^◌, true, false, [], ◌∷◌, ◌++◌, List, length, take, IsSome, Some, None, OnOk, OnErr, IfSome, if◌then◌else◌};
+ghost use Rattle.dr_config.specs.Table.{place_of};
+ghost use Rattle.dr_model.specs.Answers.{answer};
+ghost use Rattle.dr_model.specs.Plans as plans;
+ghost use Rattle.dr_model.specs.Plans.{issue_plan};
+ghost use Rattle.dr_model.specs.Runs.{after_plan, said};
+ghost use Rattle.dr_volume.specs.View.{volume_seen};
+ghost use Rattle.dr_top.specs.Here.{here, IsReady};
+ghost use Rattle.dr_top.specs.Located.{Located, IsPlace};
+
+use crate::host::Host;
+use crate::landing::read_running;
+use crate::machine::{Target, land_pending};
+use dr_config::Config;
+use dr_ids::{ServerId, VolumeId};
+use dr_model::{Event, Journal, Name, Said};
+use dr_plant::{Block, Plant};
+
+/// A track of a volume that is defined, and the server that owns it.
+#[derive(Clone, Copy)]
+pub struct Place {
+    pub server: ServerId,
+    pub track: u16,
+}
+
+/// The place of a track, where the volume is defined and has it.
+fn locate(config: &Config, volume: VolumeId, track: u32) -> Option<Place>
+    ensures { Located config.now volume.0 track result }
+{
+    let tracks = config.tracks_of(volume)?;
+    let server = config.server_of(volume)?;
+    if track < u32::from(tracks) {
+        Some(Place {
+            server,
+            track: track as u16,
+        })
+    } else {
+        None
+    }
+}
+
+/// Keeps the answer of a line, which ends its step.
+pub fn say(journal: &mut Journal, line: u32, said: Said)
+    requires { 0 < journal.old.spare }
+    ensures events { journal.new.events ≡ journal.old.events ++ answer line said ∷ [] }
+    ensures room { journal.old.spare ≡ journal.new.spare + 1 }
+{
+    journal.push(said.event(line));
+}
+
+/// Shows a track of a volume whose server is on.
+pub fn show<P: Plant>(
+    plant: &mut P,
+    config: &Config,
+    host: &Host,
+    journal: &mut Journal,
+    line: u32,
+    volume: VolumeId,
+    track: u32,
+)
+    requires ready { IsReady (P.state plant.old) config.now }
+    requires room { 2 ≤ journal.old.spare }
+    ensures same { P.state plant.new ≡ P.state plant.old }
+    ensures step { after_plan (here (P.state plant.old) config.now host.now journal.old.events) line
+        (plans.show_plan (here (P.state plant.old) config.now host.now journal.old.events).control (here (P.state plant.old) config.now host.now journal.old.events).contents line volume.0 track)
+        ≡ here (P.state plant.new) config.now host.now journal.new.events }
+{
+    let Some(place) = locate(config, volume, track) else {
+        say(journal, line, Said::NotBuilt);
+        return;
+    };
+    if !plant.is_on(place.server.0) {
+        say(
+            journal,
+            line,
+            Said::ServerOff {
+                server: place.server.0,
+            },
+        );
+        return;
+    }
+    let bytes = read_running(plant, config, volume, place.track);
+    journal.push(Event::Shown {
+        line,
+        volume: volume.0,
+        track: place.track,
+        bytes,
+    });
+    say(journal, line, Said::Showed);
+}
+
+/// A host write as a line gives it: where it goes, and its bytes, the first `len` of them.
+#[derive(Clone, Copy)]
+pub struct HostWrite {
+    pub volume: VolumeId,
+    pub track: u32,
+    pub offset: u8,
+    pub len: u8,
+    pub bytes: Block,
+}
+
+/// Issues a host write and lands it, where its volume's server is on; else it stays pending.
+pub fn write<P: Plant>(
+    plant: &mut P,
+    config: &Config,
+    host: &mut Host,
+    journal: &mut Journal,
+    line: u32,
+    write: &HostWrite,
+)
+    requires ready { IsReady (P.state plant.old) config.now }
+    requires room { 4 ≤ journal.old.spare }
+    requires fits { write.now.offset + write.now.len ≤ 64 }
+    requires count { host.old.issued + 1 < 2 ^ 32 }
+    ensures step { after_plan (here (P.state plant.old) config.now host.old journal.old.events) line
+        (plans.write_plan (here (P.state plant.old) config.now host.old journal.old.events).control write.now.volume.0 write.now.track write.now.offset write.now.len write.now.bytes)
+        ≡ here (P.state plant.new) config.now host.new journal.new.events }
+    ensures ready { IsReady (P.state plant.new) config.now }
+    ensures issued { host.new.issued ≤ host.old.issued + 1 }
+{
+    let Some(place) = locate(config, write.volume, write.track) else {
+        say(journal, line, Said::NotBuilt);
+        return;
+    };
+    if host.pending.is_some() {
+        say(journal, line, Said::NotBuilt);
+        return;
+    }
+    let said = issue_and_land(plant, config, host, journal, place, write);
+    say(journal, line, said);
+}
+
+/// Issues a host write on a track that is there, and lands it where its server is on. Says what the step answers.
+fn issue_and_land<P: Plant>(
+    plant: &mut P,
+    config: &Config,
+    host: &mut Host,
+    journal: &mut Journal,
+    place: Place,
+    write: &HostWrite,
+) -> Said
+    requires ready { IsReady (P.state plant.old) config.now }
+    requires place { IsPlace (P.state plant.old) config.now write.now.volume.0 write.now.track place }
+    requires none { host.old.pending ≡ None }
+    requires room { 3 ≤ journal.old.spare }
+    requires fits { write.now.offset + write.now.len ≤ 64 }
+    requires count { host.old.issued + 1 < 2 ^ 32 }
+    ensures step { (line : ℕ) → after_plan (here (P.state plant.old) config.now host.old journal.old.events) line
+        (issue_plan (here (P.state plant.old) config.now host.old journal.old.events).control write.now.volume.0 write.now.track write.now.offset write.now.len write.now.bytes)
+        ≡ said (here (P.state plant.new) config.now host.new journal.new.events) line result }
+    ensures ready { IsReady (P.state plant.new) config.now }
+    ensures issued { host.new.issued ≡ host.old.issued + 1 }
+    ensures room { 1 ≤ journal.new.spare }
+{
+    let w = host.issue(write.volume.0, place.track);
+    let bytes = write.bytes;
+    journal.push(Event::Issue {
+        w,
+        volume: write.volume.0,
+        track: place.track,
+        offset: write.offset,
+        len: write.len,
+        bytes,
+    });
+    if !plant.is_on(place.server.0) {
+        return Said::ServerOff {
+            server: place.server.0,
+        };
+    }
+    let target = Target {
+        volume: write.volume,
+        server: place.server,
+        track: place.track,
+        offset: write.offset,
+    };
+    match land_pending(
+        plant,
+        config,
+        host,
+        journal,
+        target,
+        front(&bytes, write.len),
+    ) {
+        Ok(()) => Said::Wrote { w },
+        Err(_) => Said::StoppedIn {
+            server: place.server.0,
+        },
+    }
+}
+
+fn front(bytes: &Block, len: u8) -> &[u8]
+    requires { len ≤ 64 }
+    ensures { result.now ≡ take len bytes.now }
+{
+    &bytes[..len as usize]
+}

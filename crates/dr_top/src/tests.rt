@@ -1,0 +1,343 @@
+use super::*;
+use dr_config::Config;
+use dr_ids::{ServerId, VolumeId};
+use dr_io::{MemSink, MemSource};
+use dr_model::{Event, Journal, image_of};
+use dr_plant::{DeviceId, ModelPlant, Plant};
+use std::alloc::{AllocError, Global};
+use std::process::Abort;
+
+/// What a call left.
+#[derive(Drop)]
+struct Left {
+    status: u8,
+    sink: MemSink,
+    journal: Journal,
+}
+
+/// Makes a call on an empty plant, with the words of this text.
+fn call(
+    alloc: Global,
+    words: &str,
+    mut source: MemSource,
+    mut sink: MemSink,
+) -> Result<Left, AllocError> {
+    let mut list = Vec::new(alloc);
+    for word in words.split_whitespace() {
+        list.push(String::from_str(alloc, word)?)?;
+    }
+    let mut plant = ModelPlant::new(alloc);
+    let mut journal = Journal::new(alloc);
+    let status = drsim(
+        alloc,
+        &list,
+        &mut source,
+        &mut plant,
+        &mut sink,
+        &mut journal,
+    );
+    Ok(Left {
+        status: status.code(),
+        sink,
+        journal,
+    })
+}
+
+/// Makes a call with this script, and with ample room for what it prints.
+fn run(alloc: Global, words: &str, script: Vec<u8>) -> Result<Left, AllocError> {
+    let source = MemSource::new(script, 4096, Vec::new(alloc));
+    let sink = MemSink::new(alloc, 4096, Vec::new(alloc), Vec::new(alloc))?;
+    call(alloc, words, source, sink)
+}
+
+/// Makes a call with this script, and asserts what it leaves.
+fn expect(
+    rt: &impl Abort,
+    alloc: Global,
+    words: &str,
+    script: &str,
+    printed: &str,
+    status: u8,
+    events: usize,
+) -> Result<(), AllocError> {
+    let bytes = Vec::from_slice(alloc, script.as_bytes())?;
+    let left = run(alloc, words, bytes)?;
+    assert!(rt;
+        left.sink.bytes() == printed.as_bytes(),
+        "printed by {script}"
+    );
+    assert_eq!(rt; left.status, status, "status of {script}");
+    assert_eq!(rt; left.journal.len(), events, "events of {script}");
+    Ok(())
+}
+
+const FIRST: &str = "@server A\n@volume 1000 A 2\n@write 1000 0 0 41\n@show 1000 0\n";
+
+/// Runs this script, and asserts what it leaves.
+fn runs(
+    rt: &impl Abort,
+    alloc: Global,
+    script: &str,
+    printed: &str,
+    status: u8,
+    events: usize,
+) -> Result<(), AllocError> {
+    expect(rt, alloc, "run", script, printed, status, events)
+}
+
+/// Runs these steps behind a server and a volume of two tracks, and asserts what they leave.
+fn goes_on(
+    rt: &impl Abort,
+    alloc: Global,
+    steps: &str,
+    printed: &str,
+    status: u8,
+    events: usize,
+) -> Result<(), AllocError> {
+    let script = format!(in alloc; "@server A\n@volume 10AB A 2\n{steps}")?;
+    let whole = format!(in alloc; "1 ok\n2 ok\n{printed}")?;
+    runs(rt, alloc, &script, &whole, status, events)
+}
+
+#[test]
+fn lines(rt: HostRuntime) -> Result<(), AllocError> {
+    let alloc = rt.alloc();
+    runs(&rt, alloc, "", "", 0, 0)?;
+    runs(&rt, alloc, FIRST, "1 ok\n2 ok\n3 ok w1\n4 ok 41\n", 0, 9)?;
+    // Line ends, comments, and lines of nothing.
+    runs(
+        &rt,
+        alloc,
+        "@server A\r\n@volume 1000 A 1\r\n",
+        "1 ok\n2 ok\n",
+        0,
+        4,
+    )?;
+    runs(
+        &rt,
+        alloc,
+        "# @server A\n\n \t \n\r\n@server A\n#",
+        "5 ok\n",
+        0,
+        2,
+    )?;
+    runs(
+        &rt,
+        alloc,
+        "@server A\n@volume 1000 A 1",
+        "1 ok\n2 ok\n",
+        0,
+        4,
+    )?;
+    runs(&rt, alloc, "@server A\r", "1 E24 not built\n", 1, 1)?;
+    Ok(())
+}
+
+#[test]
+fn definitions(rt: HostRuntime) -> Result<(), AllocError> {
+    let alloc = rt.alloc();
+    // Names of 25 and 24 bytes, one that begins with a digit, and what comes before a server or a volume.
+    runs(
+        &rt,
+        alloc,
+        "@server ABCDEFGHIJKLMNOPQRSTUVWXY\n@server ABCDEFGHIJKLMNOPQRSTUVWX\n",
+        "1 E24 not built\n2 ok\n",
+        1,
+        3,
+    )?;
+    runs(
+        &rt,
+        alloc,
+        "@server 1A\n@volume 1000 A 1\n@show 1000 0\n@write 1000 0 0 41\n",
+        "1 E24 not built\n2 E24 not built\n3 E24 not built\n4 E24 not built\n",
+        1,
+        4,
+    )?;
+    // The least and the most tracks.
+    runs(
+        &rt,
+        alloc,
+        "@server A\n@volume 1000 A 0\n@volume 1000 A 257\n@volume 1000 A 256\n@show 1000 255\n",
+        "1 ok\n2 E24 not built\n3 E24 not built\n4 ok\n5 ok -\n",
+        1,
+        8,
+    )?;
+    Ok(())
+}
+
+#[test]
+fn writes(rt: HostRuntime) -> Result<(), AllocError> {
+    let alloc = rt.alloc();
+    // Later bytes replace earlier ones, in the one track alone.
+    goes_on(
+        &rt,
+        alloc,
+        "@write 10aB 1 3 4142434445\n@write 10Ab 01 5 5a5B\n@show 10AB 1\n@show 10AB 0\n",
+        "3 ok w1\n4 ok w2\n5 ok 00000041425A5B45\n6 ok -\n",
+        0,
+        14,
+    )?;
+    // Zeros at the end, and nothing but zeros.
+    goes_on(
+        &rt,
+        alloc,
+        "@write 10AB 0 0 414200\n@show 10AB 0\n@write 10AB 0 0 0000\n@show 10AB 0\n",
+        "3 ok w1\n4 ok 4142\n5 ok w2\n6 ok -\n",
+        0,
+        14,
+    )?;
+    // The last byte of a track, and one past it.
+    goes_on(
+        &rt,
+        alloc,
+        "@write 10AB 0 63 41\n@write 10AB 0 62 424344\n@write 10AB 0 64 41\n@write 10AB 0 60 4A4B4C\n",
+        "3 ok w1\n4 E24 not built\n5 E24 not built\n6 ok w2\n",
+        1,
+        12,
+    )?;
+    Ok(())
+}
+
+#[test]
+fn refusals(rt: HostRuntime) -> Result<(), AllocError> {
+    let alloc = rt.alloc();
+    // Tracks and volumes that aren't there.
+    goes_on(
+        &rt,
+        alloc,
+        "@write 10AB 2 0 41\n@show 10AB 2\n@write 10AC 0 0 41\n@show 10AC 0\n@show 10AB 4294967296\n",
+        "3 E24 not built\n4 E24 not built\n5 E24 not built\n6 E24 not built\n7 E24 not built\n",
+        1,
+        9,
+    )?;
+    // A second server and volume, commands that aren't built, and other gaps than one space.
+    goes_on(
+        &rt,
+        alloc,
+        "@server B\n@server A\n@volume 10AC A 1\n@image\n@show  10AB 0\n@show 10AB 0 \n @show 10AB 0\n@show\t10AB 0\n@show 10AB 0 0\n",
+        "3 E24 not built\n4 E24 not built\n5 E24 not built\n6 E24 not built\n7 E24 not built\n8 E24 not built\n9 E24 not built\n10 E24 not built\n11 E24 not built\n",
+        1,
+        13,
+    )?;
+    // Bytes that aren't pairs of digits.
+    goes_on(
+        &rt,
+        alloc,
+        "@write 10AB 0 0 4\n@write 10AB 0 0 \n@write 10AB 0 0 4G\n@show 10AB 0\n",
+        "3 E24 not built\n4 E24 not built\n5 E24 not built\n6 ok -\n",
+        1,
+        9,
+    )?;
+    Ok(())
+}
+
+/// A write of a whole track, and one of a byte more.
+#[test]
+fn whole_track(rt: HostRuntime) -> Result<(), AllocError> {
+    let mut digits = String::new(rt.alloc());
+    for _ in 0..16 {
+        digits.push_str("4A4B4C4D")?;
+    }
+    let script = format!(in rt.alloc();
+        "@server A\n@volume 1000 A 1\n@write 1000 0 0 {digits}\n@show 1000 0\n@write 1000 0 0 {digits}41\n"
+    )?;
+    let printed = format!(in rt.alloc(); "1 ok\n2 ok\n3 ok w1\n4 ok {digits}\n5 E24 not built\n")?;
+    expect(&rt, rt.alloc(), "run", &script, &printed, 1, 10)
+}
+
+#[test]
+fn other_words(rt: HostRuntime) -> Result<(), AllocError> {
+    let usage = "usage: drsim run | recover SS | trial N | convert\n";
+    for words in ["", "run x", "recover 01", "help", "RUN"] {
+        expect(&rt, rt.alloc(), words, "@server A\n", usage, 2, 0)?;
+    }
+    Ok(())
+}
+
+/// A source gives 10 bytes in a call, and `read` is its call that fails. The sink has room for `room` bytes; `fail` is
+/// its call that fails, and `stuck` the one that takes nothing. 0 is none of the calls.
+#[test]
+fn faults(rt: HostRuntime) -> Result<(), AllocError> {
+    let alloc = rt.alloc();
+    let two = "@server A\n@volume 1000 A 1\n";
+    let cases = [
+        ("run", two, 1, 99, 0, 0, "", 3, 0),
+        ("run", two, 2, 99, 0, 0, "1 ok\n", 3, 2),
+        ("run", two, 3, 99, 0, 0, "1 ok\n", 3, 2),
+        ("run", two, 4, 99, 0, 0, "1 ok\n2 ok\n", 3, 4),
+        ("run", two, 0, 99, 1, 0, "", 4, 2),
+        ("run", two, 0, 99, 0, 1, "", 4, 2),
+        ("run", two, 0, 99, 2, 0, "1 ok\n", 4, 4),
+        ("run", two, 0, 3, 0, 0, "1 o", 4, 2),
+        ("run", two, 2, 99, 1, 0, "", 4, 2),
+        ("help", two, 0, 99, 1, 0, "", 4, 0),
+        ("help", two, 0, 3, 0, 0, "usa", 4, 0),
+    ];
+    for (words, script, read, room, fail, stuck, printed, status, events) in cases {
+        let script = Vec::from_slice(alloc, script.as_bytes())?;
+        let source = MemSource::new(script, 10, vec![in alloc; read]?);
+        let sink = MemSink::new(alloc, room, vec![in alloc; fail]?, vec![in alloc; stuck]?)?;
+        let left = call(alloc, words, source, sink)?;
+        assert!(rt;
+            left.sink.bytes() == printed.as_bytes(),
+            "printed {words} {read} {room} {fail} {stuck}"
+        );
+        assert_eq!(rt;
+            left.status,
+            status,
+            "status {words} {read} {room} {fail} {stuck}"
+        );
+        assert_eq!(rt;
+            left.journal.len(),
+            events,
+            "events {words} {read} {room} {fail} {stuck}"
+        );
+    }
+    Ok(())
+}
+
+/// So many times one byte, and behind them a last line.
+#[test]
+fn limits(rt: HostRuntime) -> Result<(), AllocError> {
+    let cases = [
+        (b'\n', 99_999, "@server A", "100000 ok\n", 0),
+        (b'\n', 100_000, "", "", 0),
+        (b'\n', 100_001, "", "", 6),
+        (b'\n', 100_000, "@server A", "", 6),
+        (b' ', 1_024, "", "", 0),
+        (b' ', 1_025, "", "1 E24 not built\n", 1),
+    ];
+    for (byte, count, last, printed, status) in cases {
+        let mut script = vec![in rt.alloc(); byte; count]?;
+        script.extend_from_slice(last.as_bytes())?;
+        let left = run(rt.alloc(), "run", script)?;
+        assert!(rt;
+            left.sink.bytes() == printed.as_bytes(),
+            "printed of {count} times {byte}"
+        );
+        assert_eq!(rt; left.status, status, "status of {count} times {byte}");
+    }
+    Ok(())
+}
+
+/// What the host's writes of a run say, and the journal by itself.
+#[test]
+fn journals(rt: HostRuntime) -> Result<(), AllocError> {
+    let alloc = rt.alloc();
+    let script = Vec::from_slice(alloc, FIRST.as_bytes())?;
+    let left = run(alloc, "run", script)?;
+    let mut image = [7u8; 128];
+    let mut wanted = [0u8; 128];
+    assert!(rt; !image_of(&left.journal, 0x1001, 9, &mut image));
+    assert!(rt; image_of(&left.journal, 0x1000, 4, &mut image) && image == wanted);
+    wanted[0] = b'A';
+    assert!(rt; image_of(&left.journal, 0x1000, 9, &mut image) && image == wanted);
+
+    let mut journal = Journal::new(alloc);
+    journal.reserve(2)?;
+    journal.push(Event::Ack { w: 7 });
+    assert_eq!(rt; journal.len(), 1);
+    assert!(rt; matches!(journal.event(0), Some(Event::Ack { w: 7 })));
+    assert!(rt; journal.event(1).is_none());
+    Ok(())
+}
