@@ -1,0 +1,39 @@
+//! The program: it hands its words, standard input, an empty plant and standard output to the top call.
+#![tactic(auto)]
+
+use dr_io::{StdSink, StdSource};
+use dr_model::Journal;
+use dr_plant::ModelPlant;
+use dr_top::{Status, drsim};
+use std::alloc::Global;
+use std::process::ExitCode;
+use std::{env, io};
+
+/// The words after the program's name.
+fn words(alloc: Global, rt: &HostRuntime) -> io::Result<Vec<String>> {
+    let mut words = Vec::new(alloc);
+    for word in env::args(rt)?.skip(1) {
+        words.push(word)?;
+    }
+    Ok(words)
+}
+
+fn main(rt: HostRuntime) -> ExitCode {
+    let alloc = rt.alloc();
+    let Ok(words) = words(alloc, &rt) else {
+        return ExitCode::from(Status::NoMemory.code());
+    };
+    let mut source = StdSource::new(rt.stdin());
+    let mut sink = StdSink::new(rt.stdout());
+    let mut plant = ModelPlant::new(alloc);
+    let mut journal = Journal::new(alloc);
+    let status = drsim(
+        alloc,
+        &words,
+        &mut source,
+        &mut plant,
+        &mut sink,
+        &mut journal,
+    );
+    ExitCode::from(status.code())
+}
