@@ -12,7 +12,7 @@ use Rattle.dr_model.specs.Layout.{Fields}
 use Rattle.dr_model.specs.Control.{World, Pending}
 use Rattle.dr_model.specs.Moves.{Land, Carried, is_other, marked, moved, updated}
 use Rattle.dr_model.specs.Carry.{turn, update, finished, cut_short, ended, Ended, turn_ended, pass, writes, counts_by, spent, off}
-use Rattle.dr_top.specs.Here.{Ends, landing_fields}
+use Rattle.dr_top.specs.Here.{UpdateEnds, landing_fields}
 use Rattle.dr_model.proofs.Images.{at_same}
 
 abbrev pub Landing : World → ℕ → ℕ → ℕ → List ℕ → Ended
@@ -25,7 +25,7 @@ turn_is w n v t o bytes issue = ap (λ (x : Write). turn_ended w (Land n v t) (u
 
 -- it ran to its end
 pub turn-goes : (w u : World) (n v t o : ℕ) (bytes : List ℕ) → (histories w.events).write n ≡ record { volume = v; track = t; offset = o; bytes = bytes }
-    → Ends (Landing w v t o bytes) u false → turn w (Land n v t) ≡ (finished u (Land n v t), None)
+    → UpdateEnds (Landing w v t o bytes) u false → turn w (Land n v t) ≡ (finished u (Land n v t), None)
 turn-goes w u n v t o bytes issue ends =
     turn_is w n v t o bytes issue
     ∙ ap (λ b. cond b (cond (w.control.on (w.control.volume v).server) (cut_short (Landing w v t o bytes).world (Land n v t) (w.control.volume v).server (Landing w v t o bytes).done) w, Some (w.control.volume v).server) (finished (Landing w v t o bytes).world (Land n v t), None)) (sym ends.answer)
@@ -34,7 +34,7 @@ turn-goes w u n v t o bytes issue ends =
 -- its server stopped in it
 pub turn-stops : (w u : World) (n v t o : ℕ) (bytes : List ℕ) (done : Bool) → (histories w.events).write n ≡ record { volume = v; track = t; offset = o; bytes = bytes }
     → w.control.on (w.control.volume v).server ≡ true → (Landing w v t o bytes).done ≡ done
-    → Ends (Landing w v t o bytes) u true → turn w (Land n v t) ≡ (cut_short u (Land n v t) (w.control.volume v).server done, Some (w.control.volume v).server)
+    → UpdateEnds (Landing w v t o bytes) u true → turn w (Land n v t) ≡ (cut_short u (Land n v t) (w.control.volume v).server done, Some (w.control.volume v).server)
 turn-stops w u n v t o bytes done issue on is ends =
     turn_is w n v t o bytes issue
     ∙ ap (λ b. cond b (cond (w.control.on (w.control.volume v).server) (cut_short (Landing w v t o bytes).world (Land n v t) (w.control.volume v).server (Landing w v t o bytes).done) w, Some (w.control.volume v).server) (finished (Landing w v t o bytes).world (Land n v t), None)) (sym ends.answer)

@@ -35,7 +35,7 @@ pub record IsReady (s : PlantState) (t : Table) : Type 0 where
   pub sizes : (v : ℕ) → (volume_seen s t v).tracks ≤ 256
 
 -- An update ended in this world, and it failed where its server stopped.
-pub record Ends (e : Ended) (w : World) (failed : Bool) : Type 0 where
+pub record UpdateEnds (e : Ended) (w : World) (failed : Bool) : Type 0 where
   pub world : w ≡ e.world
   pub answer : failed ≡ e.stopped
 

@@ -7,7 +7,7 @@ ghost use Rattle.dr_model.specs.Contents.{laid};
 ghost use Rattle.dr_model.specs.Carry as carry;
 ghost use Rattle.dr_volume.specs.Volume.{Shows};
 ghost use Rattle.dr_volume.specs.View.{Rest, world, volume_seen, track_seen};
-ghost use Rattle.dr_top.specs.Here.{IsReady, Ends, landing_fields};
+ghost use Rattle.dr_top.specs.Here.{IsReady, UpdateEnds, landing_fields};
 
 use dr_config::Config;
 use dr_ids::VolumeId;
@@ -70,7 +70,7 @@ pub fn land<P: Plant>(
     requires running { (P.state p.old).on (volume_seen (P.state p.old) c.now v.0).server ≡ true }
     requires within { t < (volume_seen (P.state p.old) c.now v.0).tracks }
     requires fits { offset + length bytes.now ≤ 64 }
-    ensures exact { (r : Rest) → Ends (carry.update (world (P.state p.old) c.now r) v.0 (landing_fields (volume_seen (P.state p.old) c.now v.0).fields t) (Some (t, laid offset bytes.now (track_seen (P.state p.old) c.now v.0 t)))) (world (P.state p.new) c.now r) (is_err result) }
+    ensures exact { (r : Rest) → UpdateEnds (carry.update (world (P.state p.old) c.now r) v.0 (landing_fields (volume_seen (P.state p.old) c.now v.0).fields t) (Some (t, laid offset bytes.now (track_seen (P.state p.old) c.now v.0 t)))) (world (P.state p.new) c.now r) (is_err result) }
     ensures ready { IsReady (P.state p.new) c.now }
 {
     let mut next = load_running(p, c, v);

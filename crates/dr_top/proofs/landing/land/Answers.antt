@@ -9,7 +9,7 @@ use Rattle.dr_model.specs.Carry as carry
 use Rattle.dr_volume.specs.declared.fields.Fields as fields
 use Rattle.dr_volume.specs.Plain.{IsLawful, plain}
 use Rattle.dr_volume.specs.View.{world, volume_seen, track_seen, ReadsPass}
-use Rattle.dr_top.specs.Here.{Ends, landing_fields}
+use Rattle.dr_top.specs.Here.{UpdateEnds, landing_fields}
 use Rattle.dr_top.proofs.LandingLemmas.{lawful-remove, covers-remove}
 use Rattle.dr_top.proofs.landing.land.Goals as goal
 
@@ -38,7 +38,7 @@ returns-clause-exact g c r =
     let v = c.args.v.0 in
     let shows = c.load_running-next.ensures.shows in
     let same = c.read_running.ensures.same ∙ c.load_running-next.ensures.same in
-    let E : PlantState → Fields → List ℕ → Type 0 = λ s f b. Ends (carry.update (world s t r) v f (Some (c.args.t, b))) (world (g.P.Plant.state c.update.new.p) t r) (is_err c.update.result) in
+    let E : PlantState → Fields → List ℕ → Type 0 = λ s f b. UpdateEnds (carry.update (world s t r) v f (Some (c.args.t, b))) (world (g.P.Plant.state c.update.new.p) t r) (is_err c.update.result) in
     let reads = subst ReadsPass (sym same) c.requires.ready.reads in
     let s0 = g.P.Plant.state c.args.p.now in
     let next : fields.Fields = record c.load_running-next.result { blank = c.remove.new.self } in
