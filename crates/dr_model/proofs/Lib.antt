@@ -7,7 +7,6 @@ pub mod Turns
 pub mod PlanCases
 pub mod Tasks
 pub mod Onward
-pub mod Calm
 pub mod Texts
 pub mod Agree
 pub mod GrammarChecks

@@ -8,14 +8,15 @@ use Rattle.dr_model.specs.declared.step.Step.{Step}
 use Rattle.dr_model.specs.declared.step.Step.TheVariants.{Server, Volume, Write, Show}
 use Rattle.dr_model.specs.Tables.{at}
 use Rattle.dr_model.specs.Control.{Control, new_volume}
-use Rattle.dr_model.specs.Plans.{Plan, plan, refuse, name_bytes, is_volume, is_empty, is_running, has_track, issue_plan, server_named, volume_on}
+use Rattle.dr_model.specs.Plans.{Plan, plan, only_says, name_bytes, is_volume, is_empty, is_running, has_track, issue_plan, none_follow, server_named, volume_on}
 
 -- a server is defined
 abbrev pub server_done : Control → Name → Plan
 server_done k name = record {
   first = λ k. record k { servers = k.servers ++ name_bytes name ∷ [] };
   told = ServerDefined (length k.servers) name.len name.bytes ∷ [];
-  moves = [];
+  acts = [];
+  follows = none_follow;
   says = Done;
 }
 
@@ -24,17 +25,18 @@ abbrev pub volume_done : ℕ → ℕ → ℕ → Plan
 volume_done v server tracks = record {
   first = λ k. record k { volumes = k.volumes ++ v ∷ []; volume = at k.volume v (new_volume server tracks) };
   told = VolumeDefined v server tracks ∷ [];
-  moves = [];
+  acts = [];
+  follows = none_follow;
   says = Done;
 }
 
 -- a track is shown
 abbrev pub show_done : (ℕ → ℕ → List ℕ) → ℕ → ℕ → ℕ → Plan
-show_done contents line v t = record { first = λ k. k; told = Shown line v t (contents v t) ∷ []; moves = []; says = Showed }
+show_done contents line v t = record { first = λ k. k; told = Shown line v t (contents v t) ∷ []; acts = []; follows = none_follow; says = Showed }
 
 -- what holds of each of the five
 pub record OfEach (P : Plan → Type 0) (k : Control) (contents : ℕ → ℕ → List ℕ) (line : ℕ) : Type 0 where
-  pub refused : (a : Said) → P (refuse a)
+  pub refused : (a : Said) → P (only_says a)
   pub server : (name : Name) → P (server_done k name)
   pub volume : (v server tracks : ℕ) → k.volumes ≡ [] → P (volume_done v server tracks)
   pub write : (v t offset len : ℕ) (bytes : List ℕ) → is_volume k v ≡ true → k.pending ≡ [] → P (issue_plan k v t offset len bytes)
@@ -72,7 +74,7 @@ module _ (P : Plan → Type 0) (k : Control) (contents : ℕ → ℕ → List �
       (λ h. each.write v t offset len bytes (both_left _ _ (both_left _ _ h)) (empty_list k.pending (both_right _ _ h)))
       (λ h. each.refused NotBuilt)
   of_plan (Some (Show v t)) =
-      let shown : Plan = cond (is_running k v) (show_done contents line v t) (refuse (ServerOff (k.volume v).server)) in
-      choice P (not (has_track k v t)) (refuse NotBuilt) shown (λ h. each.refused NotBuilt)
+      let shown : Plan = cond (is_running k v) (show_done contents line v t) (only_says (ServerOff (k.volume v).server)) in
+      choice P (not (has_track k v t)) (only_says NotBuilt) shown (λ h. each.refused NotBuilt)
       (λ h. choice P (is_running k v) _ _ (λ g. each.show v t) (λ g. each.refused (ServerOff (k.volume v).server)))
   of_plan (Some _) = each.refused NotBuilt

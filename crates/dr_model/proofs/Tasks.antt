@@ -12,7 +12,7 @@ use Rattle.dr_model.specs.Control.{World, new_volume, nothing}
 use Rattle.dr_model.specs.Moves.{Move, Land}
 use Rattle.dr_model.specs.Carry.{carry, turn, Turn, continue, now}
 use Rattle.dr_model.specs.Answers.{answer}
-use Rattle.dr_model.specs.Plans.{Plan, plan, refuse, is_volume, is_running, name_bytes, issue_plan}
+use Rattle.dr_model.specs.Plans.{Plan, plan, only_says, is_volume, is_running, name_bytes, issue_plan}
 use Rattle.dr_model.specs.Runs.{Task, begun, said, answered, after_plan, after_task, after_tasks, run}
 use Rattle.dr_model.specs.Fits.{waiting, due}
 use Rattle.dr_model.proofs.Images.{Below, Below-append, Below-more, at_same, histories-push, image-issue}
@@ -166,7 +166,7 @@ module _ (w : World) (sound : Sound w) (v t offset len : ℕ) (bytes : List ℕ)
 -- each step leaves a sound world
 Sound-each : (w : World) (line : ℕ) → Sound w → OfEach (λ p. Sound (carry (begun w p) p.moves).0) w.control w.contents line
 Sound-each w line sound = record {
-  refused = λ a. Sound-still (begun w (refuse a)) (Sound-same w w.control.servers w.control.on w.control.fuse (w.events ++ []) (ap histories (append_nil w.events)) sound);
+  refused = λ a. Sound-still (begun w (only_says a)) (Sound-same w w.control.servers w.control.on w.control.fuse (w.events ++ []) (ap histories (append_nil w.events)) sound);
   server = λ name. Sound-still (begun w (server_done w.control name))
       (Sound-same w (w.control.servers ++ name_bytes name ∷ []) w.control.on w.control.fuse _ (histories-push w.events (ServerDefined (length w.control.servers) name.len name.bytes)) sound);
   volume = λ v server tracks first. Sound-still (begun w (volume_done v server tracks)) (Sound-volume w sound v server tracks first);

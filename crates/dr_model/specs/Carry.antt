@@ -1,10 +1,10 @@
 -- Moves carried out on servers that may stop within any device write. No plan speaks of stops: this does.
-use Rattle.std.specs.Prelude.{ℕ, ◌-◌, Bool, true, false, not, List, [], ◌∷◌, ◌++◌, Option, Some, None, nat_eq, nat_lt, nat_le, if◌then◌else◌}
+use Rattle.std.specs.Prelude.{ℕ, ◌-◌, Bool, true, false, not, List, [], ◌∷◌, ◌++◌, filter, Option, Some, None, nat_eq, nat_lt, nat_le, if◌then◌else◌}
 use Rattle.dr_model.specs.Tables.{at}
 use Rattle.dr_model.specs.Layout.{Fields, byte, bit}
 use Rattle.dr_model.specs.Control.{Control, Fuse, World}
-use Rattle.dr_model.specs.Moves.{Move, Carried, target, next_fields, carried, told, told_in_stop, landed, settled, settled_in_stop, updated}
-use Rattle.dr_model.specs.declared.event.Event.TheVariants.{Stopped}
+use Rattle.dr_model.specs.Moves.{Move, Carried, target, next_fields, carried, told, told_in_stop, landed, settled, settled_in_stop, updated, is_other}
+use Rattle.dr_model.specs.declared.event.Event.TheVariants.{Ack, Stopped}
 
 -- a move writes the six blocks of the slot that isn't chosen, then the gate, then the carried track's own block
 abbrev pub writes : Carried → ℕ
@@ -95,28 +95,6 @@ turn_ended w m e =
 unfoldable pub turn : World → Move → Turn
 turn w m = turn_ended w m (update w (target m) (next_fields m (w.control.volume (target m)).fields) (carried m w))
 
--- a move that is decided in the state that the moves before it left, or none
-abbrev pub Deferred : Type 0
-Deferred = Control → Option Move
-
-abbrev pub turn_of : World → Option Move → Turn
-turn_of w None = (w, None)
-turn_of w (Some m) = turn w m
-
--- where no server stopped, what comes next
-abbrev pub continue : World → Option ℕ → (World → Turn) → Turn
-continue w None next = next w
-continue w (Some s) next = (w, Some s)
-
--- deferred moves in order, until a server stops
-unfoldable pub carry : World → List Deferred → Turn
-carry w [] = (w, None)
-carry w (d ∷ ds) = continue (turn_of w (d w.control)).0 (turn_of w (d w.control)).1 (λ v. carry v ds)
-
--- a move that comes in any case
-abbrev pub now : Move → Deferred
-now m k = Some m
-
 -- a volume's staged track is written to its own place: one write, where a track is staged; nothing that is read changes
 abbrev pub redo_writes : Option ℕ → ℕ
 redo_writes None = 0
@@ -130,3 +108,56 @@ redo w v =
     if not (w.control.on s) then ended w true false
     else if pass fuse n then ended (spent w s n) false true
     else ended (off w s) true false
+
+abbrev pub redo_ended : World → ℕ → Ended → Turn
+redo_ended w v e =
+    let s : ℕ = (w.control.volume v).server in
+    if e.stopped then (if w.control.on s then record e.world { events = w.events ++ Stopped s 0 ∷ [] } else w, Some s)
+    else (e.world, None)
+
+-- a write that landed in a stop is acknowledged
+abbrev pub acknowledged : World → ℕ → World
+acknowledged w n = record w {
+  control = record w.control { pending = filter (is_other n) w.control.pending };
+  events = w.events ++ Ack n ∷ [];
+}
+
+-- What a step does in turn: a move; a volume's staged track is written to its place; or a write that landed in a
+-- stop is acknowledged, which takes no device write.
+pub data Act : Type 0 where
+  Make : Move → Act
+  Redo : (v : ℕ) → Act
+  Acknowledge : (w : ℕ) → Act
+
+unfoldable pub act : World → Act → Turn
+act w (Make m) = turn w m
+act w (Redo v) = redo_ended w v (redo w v)
+act w (Acknowledge n) = (acknowledged w n, None)
+
+-- an act that is decided in the state that those before it left, or none
+abbrev pub Deferred : Type 0
+Deferred = Control → Option Act
+
+abbrev pub act_of : World → Option Act → Turn
+act_of w None = (w, None)
+act_of w (Some a) = act w a
+
+-- where no server stopped, what comes next
+abbrev pub continue : World → Option ℕ → (World → Turn) → Turn
+continue w None next = next w
+continue w (Some s) next = (w, Some s)
+
+-- deferred acts in order, until a server stops
+unfoldable pub carry : World → List Deferred → Turn
+carry w [] = (w, None)
+carry w (d ∷ ds) = continue (act_of w (d w.control)).0 (act_of w (d w.control)).1 (λ v. carry v ds)
+
+-- a move that comes in any case
+abbrev pub now : Move → Deferred
+now m k = Some (Make m)
+
+-- Where a server stopped, what follows its stop is carried out on the others, until one of them stops too; the
+-- server that stopped first is the one that counts.
+abbrev pub follow : World → Option ℕ → (ℕ → List Deferred) → Turn
+follow w None follows = (w, None)
+follow w (Some s) follows = ((carry w (follows s)).0, Some s)

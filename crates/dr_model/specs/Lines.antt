@@ -5,8 +5,10 @@ use Rattle.std.specs.Str.{bytes_eq}
 use Rattle.std.specs.Str.Lines.{lines}
 use Rattle.dr_ids.specs.Spelling.{digit_in, volume_word, number_word}
 use Rattle.dr_model.specs.declared.step.Name.{Name}
+use Rattle.dr_model.specs.declared.step.TornWord.{TornWord}
+use Rattle.dr_model.specs.declared.step.TornWord.TheVariants.{Same, Fill, Bytes}
 use Rattle.dr_model.specs.declared.step.Step.{Step}
-use Rattle.dr_model.specs.declared.step.Step.TheVariants.{Server, Volume, Write, Show}
+use Rattle.dr_model.specs.declared.step.Step.TheVariants.{Server, Volume, Stop, StopAfter, Start, Write, Show}
 use Rattle.dr_model.specs.Runs.{Task}
 
 infixl 10 ◌>>=◌
@@ -80,6 +82,31 @@ abbrev pub show_words : List (List ℕ) → Option Step
 show_words (volume ∷ track ∷ []) = volume_word volume >>= λ v. decimal_word track >>= λ t. Some (Show v.0 t)
 show_words _ = None
 
+-- what is left in a block whose write is cut short: what stood there, a byte that fills it, or 64 bytes
+abbrev pub torn_of : List ℕ → Option TornWord
+torn_of (b ∷ []) = Some (Fill b)
+torn_of bytes = if nat_eq (length bytes) 64 then Some (Bytes bytes) else None
+
+abbrev pub torn_word : List ℕ → Option TornWord
+torn_word word = if bytes_eq word (codes "none") then Some Same else hex_bytes word >>= torn_of
+
+-- `NAME after WRITES torn TORN`
+abbrev pub stop_after : List ℕ → List ℕ → List ℕ → List ℕ → List ℕ → Option Step
+stop_after name after writes torn word =
+    if bytes_eq after (codes "after") && bytes_eq torn (codes "torn")
+    then name_word name >>= λ n. decimal_word writes >>= λ k. torn_word word >>= λ t. Some (StopAfter n k t) else None
+
+-- `@stop NAME`, and `@stop NAME after WRITES torn TORN`
+abbrev pub stop_words : List (List ℕ) → Option Step
+stop_words (name ∷ []) = name_word name >>= λ n. Some (Stop n)
+stop_words (name ∷ after ∷ writes ∷ torn ∷ word ∷ []) = stop_after name after writes torn word
+stop_words _ = None
+
+-- `@start NAME`
+abbrev pub start_words : List (List ℕ) → Option Step
+start_words (name ∷ []) = name_word name >>= λ n. Some (Start n)
+start_words _ = None
+
 -- the step that the words of a line say, if they say one that is carried out
 abbrev pub step_words : List (List ℕ) → Option Step
 step_words [] = None
@@ -87,6 +114,8 @@ step_words (command ∷ rest) =
     if bytes_eq command (codes "@server") then server_words rest
     else if bytes_eq command (codes "@volume") then volume_words rest
     else if bytes_eq command (codes "@write") then write_words rest
+    else if bytes_eq command (codes "@stop") then stop_words rest
+    else if bytes_eq command (codes "@start") then start_words rest
     else if bytes_eq command (codes "@show") then show_words rest
     else None
 

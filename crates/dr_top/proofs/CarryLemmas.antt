@@ -11,15 +11,15 @@ use Rattle.dr_model.specs.declared.said.Said.TheVariants.{NotBuilt}
 use Rattle.dr_model.specs.Answers.{answer}
 use Rattle.dr_model.specs.Control.{Control, World}
 use Rattle.dr_model.specs.Lines.{words, step_words, is_no_step, tasks_of}
-use Rattle.dr_model.specs.Plans.{refuse, plan_of}
+use Rattle.dr_model.specs.Plans.{only_says, plan_of}
 use Rattle.dr_model.specs.Runs.{Task, after_plan, after_task, after_tasks}
-use Rattle.dr_model.proofs.PlanLemmas.{after_plan-refuse}
+use Rattle.dr_model.proofs.PlanLemmas.{after_plan-says}
 use Rattle.dr_top.specs.Here.{here}
 use Rattle.dr_top.specs.declared.host.Host.{Host}
 use Rattle.dr_top.proofs.StepLemmas.{said-here}
 
 refused : (k : Control) (contents : ℕ → ℕ → List ℕ) (line : ℕ) (step : Step) → ((n : Name) → step ≡ Server n → ⊥) → ((v : ℕ) (n : Name) (t : ℕ) → step ≡ Volume v n t → ⊥)
-    → ((v t o l : ℕ) (b : List ℕ) → step ≡ Write v t o l b → ⊥) → ((v t : ℕ) → step ≡ Show v t → ⊥) → plan_of k contents line step ≡ refuse NotBuilt
+    → ((v t o l : ℕ) (b : List ℕ) → step ≡ Write v t o l b → ⊥) → ((v t : ℕ) → step ≡ Show v t → ⊥) → plan_of k contents line step ≡ only_says NotBuilt
 refused k contents line (Server n) server volume write show = absurd (server n refl)
 refused k contents line (Volume v n t) server volume write show = absurd (volume v n t refl)
 refused k contents line (Write v t o l b) server volume write show = absurd (write v t o l b refl)
@@ -32,7 +32,7 @@ pub unbuilt : (s : PlantState) (t : Table) (h : Host) (before now : List Event) 
     → after_task (here s t h before) (record { line = line; step = Some step }) ≡ here s t h now
 unbuilt s t h before now line step server volume write show told =
     let w = here s t h before in
-    ap (after_plan w line) (refused w.control w.contents line step server volume write show) ∙ after_plan-refuse w line NotBuilt ∙ said-here s t h before now line NotBuilt told
+    ap (after_plan w line) (refused w.control w.contents line step server volume write show) ∙ after_plan-says w line NotBuilt ∙ said-here s t h before now line NotBuilt told
 
 -- no task, and one
 pub after-none : (w : World) → after_tasks w [] ≡ w

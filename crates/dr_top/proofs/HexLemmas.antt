@@ -40,17 +40,17 @@ not_piece : (word : List ℕ) → ((bytes : List ℕ) → length word ≡ 2 * le
 not_piece word h = elim (hex_bytes word) as (λ o. hex_bytes word ≡ o → piece_of o ≡ None) [ None ↦ λ e. refl | Some bytes ↦ λ e. h bytes (length-hex_bytes word bytes e) ] refl
 
 -- words that are no piece: of an odd number of digits, of none, and of too many
-refuse : (bytes : List ℕ) → (nat_le 1 (length bytes) && nat_le (length bytes) 64) ≡ false → piece_of (Some bytes) ≡ None
-refuse bytes h = ap (λ b. cond b (Some (let p : Piece = record { len = length bytes; bytes = bytes ++ replicate (64 - length bytes) 0 } in p)) None) h
+only_says : (bytes : List ℕ) → (nat_le 1 (length bytes) && nat_le (length bytes) 64) ≡ false → piece_of (Some bytes) ≡ None
+only_says bytes h = ap (λ b. cond b (Some (let p : Piece = record { len = length bytes; bytes = bytes ++ replicate (64 - length bytes) 0 } in p)) None) h
 
 pub piece-odd : (word : List ℕ) → length word ≢ 2 * (length word / 2) → None ≡ piece_of (hex_bytes word)
 piece-odd word odd = sym (not_piece word (λ bytes n. absurd (odd (omega arith))))
 
 pub piece-none : (word : List ℕ) → length word / 2 ≡ 0 → None ≡ piece_of (hex_bytes word)
-piece-none word none = sym (not_piece word (λ bytes n. refuse bytes (let z : length bytes ≡ 0 = omega arith in grind (arith, nat_tests, z))))
+piece-none word none = sym (not_piece word (λ bytes n. only_says bytes (let z : length bytes ≡ 0 = omega arith in grind (arith, nat_tests, z))))
 
 pub piece-many : (word : List ℕ) → 64 < length word / 2 → None ≡ piece_of (hex_bytes word)
-piece-many word many = sym (not_piece word (λ bytes n. refuse bytes (let z : 64 < length bytes = omega arith in grind (arith, nat_tests, z))))
+piece-many word many = sym (not_piece word (λ bytes n. only_says bytes (let z : 64 < length bytes = omega arith in grind (arith, nat_tests, z))))
 
 accept : (bytes : List ℕ) → (nat_le 1 (length bytes) && nat_le (length bytes) 64) ≡ true → piece_of (Some bytes) ≡ Some (record { len = length bytes; bytes = bytes ++ replicate (64 - length bytes) 0 })
 accept bytes h = ap (λ b. cond b (Some (let p : Piece = record { len = length bytes; bytes = bytes ++ replicate (64 - length bytes) 0 } in p)) None) h

@@ -10,13 +10,13 @@ use Rattle.dr_model.specs.declared.said.Said.{Said}
 use Rattle.dr_model.specs.declared.said.Said.TheVariants.{NotBuilt, ServerOff, Showed, Wrote, StoppedIn}
 use Rattle.dr_model.specs.Answers.{answer}
 use Rattle.dr_model.specs.Control.{Control, World}
-use Rattle.dr_model.specs.Plans.{Plan, refuse, has_track, is_running, is_empty, show_plan, with_pending, issue_plan, write_plan}
+use Rattle.dr_model.specs.Plans.{Plan, only_says, has_track, is_running, is_empty, show_plan, with_pending, issue_plan, write_plan}
 use Rattle.dr_model.specs.Moves.{Land}
 use Rattle.dr_model.specs.Carry.{turn, now}
 use Rattle.dr_model.specs.Histories.{Histories, histories}
 use Rattle.dr_model.proofs.Images.{histories-push, at_same}
 use Rattle.dr_model.specs.Runs.{after_plan, said}
-use Rattle.dr_model.proofs.PlanLemmas.{after_plan-refuse, after_plan-still, after_plan-goes, after_plan-stops}
+use Rattle.dr_model.proofs.PlanLemmas.{after_plan-says, after_plan-still, after_plan-goes, after_plan-stops}
 use Rattle.dr_volume.specs.View.{on_seen, volume_seen, track_seen}
 use Rattle.dr_top.specs.Here.{here, waiting_seen}
 use Rattle.dr_top.specs.declared.host.Pending.{Pending}
@@ -37,20 +37,20 @@ running-known s t h events v server e lt = ap (on_seen s) e ∙ on-known s serve
 
 pub show-nowhere : (w : World) (k : Control) (contents : ℕ → ℕ → List ℕ) (line v t : ℕ) → has_track k v t ≡ false → after_plan w line (show_plan k contents line v t) ≡ said w line NotBuilt
 show-nowhere w k contents line v t h =
-    ap (λ b. after_plan w line (cond (not b) (refuse NotBuilt) (cond (is_running k v) (let p : Plan = record { first = λ k. k; told = Shown line v t (contents v t) ∷ []; moves = []; says = Showed } in p) (refuse (ServerOff (k.volume v).server))))) h
-    ∙ after_plan-refuse w line NotBuilt
+    ap (λ b. after_plan w line (cond (not b) (only_says NotBuilt) (cond (is_running k v) (let p : Plan = record { first = λ k. k; told = Shown line v t (contents v t) ∷ []; moves = []; says = Showed } in p) (only_says (ServerOff (k.volume v).server))))) h
+    ∙ after_plan-says w line NotBuilt
 
 pub show-off : (w : World) (k : Control) (contents : ℕ → ℕ → List ℕ) (line v t : ℕ) → has_track k v t ≡ true → is_running k v ≡ false → after_plan w line (show_plan k contents line v t) ≡ said w line (ServerOff (k.volume v).server)
 show-off w k contents line v t h off =
-    ap (λ b. after_plan w line (cond (not b) (refuse NotBuilt) (cond (is_running k v) (let p : Plan = record { first = λ k. k; told = Shown line v t (contents v t) ∷ []; moves = []; says = Showed } in p) (refuse (ServerOff (k.volume v).server))))) h
-    ∙ ap (λ b. after_plan w line (cond b (let p : Plan = record { first = λ k. k; told = Shown line v t (contents v t) ∷ []; moves = []; says = Showed } in p) (refuse (ServerOff (k.volume v).server)))) off
-    ∙ after_plan-refuse w line (ServerOff (k.volume v).server)
+    ap (λ b. after_plan w line (cond (not b) (only_says NotBuilt) (cond (is_running k v) (let p : Plan = record { first = λ k. k; told = Shown line v t (contents v t) ∷ []; moves = []; says = Showed } in p) (only_says (ServerOff (k.volume v).server))))) h
+    ∙ ap (λ b. after_plan w line (cond b (let p : Plan = record { first = λ k. k; told = Shown line v t (contents v t) ∷ []; moves = []; says = Showed } in p) (only_says (ServerOff (k.volume v).server)))) off
+    ∙ after_plan-says w line (ServerOff (k.volume v).server)
 
 pub show-on : (w : World) (k : Control) (contents : ℕ → ℕ → List ℕ) (line v t : ℕ) → has_track k v t ≡ true → is_running k v ≡ true
     → after_plan w line (show_plan k contents line v t) ≡ said (record w { events = w.events ++ Shown line v t (contents v t) ∷ [] }) line Showed
 show-on w k contents line v t h on =
-    ap (λ b. after_plan w line (cond (not b) (refuse NotBuilt) (cond (is_running k v) (let p : Plan = record { first = λ k. k; told = Shown line v t (contents v t) ∷ []; moves = []; says = Showed } in p) (refuse (ServerOff (k.volume v).server))))) h
-    ∙ ap (λ b. after_plan w line (cond b (let p : Plan = record { first = λ k. k; told = Shown line v t (contents v t) ∷ []; moves = []; says = Showed } in p) (refuse (ServerOff (k.volume v).server)))) on
+    ap (λ b. after_plan w line (cond (not b) (only_says NotBuilt) (cond (is_running k v) (let p : Plan = record { first = λ k. k; told = Shown line v t (contents v t) ∷ []; moves = []; says = Showed } in p) (only_says (ServerOff (k.volume v).server))))) h
+    ∙ ap (λ b. after_plan w line (cond b (let p : Plan = record { first = λ k. k; told = Shown line v t (contents v t) ∷ []; moves = []; says = Showed } in p) (only_says (ServerOff (k.volume v).server)))) on
     ∙ after_plan-still w line (λ k. k) (Shown line v t (contents v t) ∷ []) Showed
 
 module _ (s : PlantState) (t : Table) (h : Host) (ev : List Event) (line v k : ℕ) where
@@ -134,21 +134,21 @@ module _ (s : PlantState) (t : Table) (h : Host) (ev : List Event) (v k offset l
   pub wrote-nowhere : (now' : List Event) (line : ℕ) → has_track w'.control v k ≡ false → now' ≡ ev ++ answer line NotBuilt ∷ []
       → after_plan w' line (write_plan w'.control v k offset len bytes) ≡ here s t h now'
   wrote-nowhere now' line none told =
-      ap (λ b. after_plan w' line (cond (b && is_empty w'.control.pending) (issue_plan w'.control v k offset len bytes) (refuse NotBuilt))) none
-      ∙ after_plan-refuse w' line NotBuilt ∙ said-here s t h ev now' line NotBuilt told
+      ap (λ b. after_plan w' line (cond (b && is_empty w'.control.pending) (issue_plan w'.control v k offset len bytes) (only_says NotBuilt))) none
+      ∙ after_plan-says w' line NotBuilt ∙ said-here s t h ev now' line NotBuilt told
 
   pub wrote-waiting : (now' : List Event) (line : ℕ) → has_track w'.control v k ≡ true → is_some h.pending ≡ true → now' ≡ ev ++ answer line NotBuilt ∷ []
       → after_plan w' line (write_plan w'.control v k offset len bytes) ≡ here s t h now'
   wrote-waiting now' line there waits told =
-      ap (λ b. after_plan w' line (cond (b && is_empty w'.control.pending) (issue_plan w'.control v k offset len bytes) (refuse NotBuilt))) there
-      ∙ ap (λ b. after_plan w' line (cond b (issue_plan w'.control v k offset len bytes) (refuse NotBuilt))) (empty-waiting h.pending ∙ ap not waits)
-      ∙ after_plan-refuse w' line NotBuilt ∙ said-here s t h ev now' line NotBuilt told
+      ap (λ b. after_plan w' line (cond (b && is_empty w'.control.pending) (issue_plan w'.control v k offset len bytes) (only_says NotBuilt))) there
+      ∙ ap (λ b. after_plan w' line (cond b (issue_plan w'.control v k offset len bytes) (only_says NotBuilt))) (empty-waiting h.pending ∙ ap not waits)
+      ∙ after_plan-says w' line NotBuilt ∙ said-here s t h ev now' line NotBuilt told
 
   pub wrote-issued : (line : ℕ) (u : World) → has_track w'.control v k ≡ true → is_some h.pending ≡ false
       → after_plan w' line (issue_plan w'.control v k offset len bytes) ≡ u → after_plan w' line (write_plan w'.control v k offset len bytes) ≡ u
   wrote-issued line u there none is =
-      ap (λ b. after_plan w' line (cond (b && is_empty w'.control.pending) (issue_plan w'.control v k offset len bytes) (refuse NotBuilt))) there
-      ∙ ap (λ b. after_plan w' line (cond b (issue_plan w'.control v k offset len bytes) (refuse NotBuilt))) (empty-waiting h.pending ∙ ap not none)
+      ap (λ b. after_plan w' line (cond (b && is_empty w'.control.pending) (issue_plan w'.control v k offset len bytes) (only_says NotBuilt))) there
+      ∙ ap (λ b. after_plan w' line (cond b (issue_plan w'.control v k offset len bytes) (only_says NotBuilt))) (empty-waiting h.pending ∙ ap not none)
       ∙ is
 
 -- the issued write is pending, with the bytes that its event has

@@ -4,7 +4,7 @@ use Rattle.dr_top.specs.WellFormed.{IfWellFormed}
 use Rattle.dr_model.specs.Lines.{words, tasks_of}
 use Rattle.dr_model.specs.Runs.{Task, after_task, after_tasks}
 use Rattle.dr_model.specs.declared.said.Said.TheVariants.{NotBuilt}
-use Rattle.dr_model.proofs.PlanLemmas.{after_plan-refuse}
+use Rattle.dr_model.proofs.PlanLemmas.{after_plan-says}
 use Rattle.dr_top.specs.Here.{here}
 use Rattle.dr_top.proofs.WellFormedLemmas.{step-fits}
 use Rattle.dr_top.proofs.CarryLemmas.{no-task, one-task, ok-along}
@@ -23,7 +23,7 @@ pub returns-in-None-clause-tasks : goal.returns-in-None-clause-tasks
 returns-in-None-clause-tasks g c =
     let w = here (g.P.Plant.state c.args.plant.now) c.args.config.now c.args.host.now c.args.journal.now.events in
     one-task w c.args.number c.args.line.now None (sym c.if-is_no_step.ensures) (sym c.in-None.ensures)
-    ∙ after_plan-refuse w c.args.number NotBuilt
+    ∙ after_plan-says w c.args.number NotBuilt
     ∙ said-here (g.P.Plant.state c.args.plant.now) c.args.config.now c.args.host.now c.args.journal.now.events c.say.new.journal.events c.args.number NotBuilt
     (c.say.ensures.events ∙ ap (λ es. es ++ answer c.args.number NotBuilt ∷ []) c.in_ok-reserve.ensures.events)
 
