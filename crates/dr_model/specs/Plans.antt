@@ -137,13 +137,17 @@ abbrev pub fuse_at_start : Option Fuse → Option Fuse
 fuse_at_start None = None
 fuse_at_start (Some f) = if nat_eq f.after 0 then None else Some f
 
+-- a volume that is defined, and the server's
+abbrev pub belongs : Control → ℕ → ℕ → Bool
+belongs k s v = is_volume k v && nat_eq (k.volume v).server s
+
 -- where a volume belongs to the server, its staged track is written to its place
 abbrev pub redo_on : ℕ → ℕ → Deferred
-redo_on s v k = if nat_eq (k.volume v).server s then Some (Redo v) else None
+redo_on s v k = if belongs k s v then Some (Redo v) else None
 
 -- the first write that landed on a volume of the server in a stop
 abbrev pub has_landed : Control → ℕ → Pending → Bool
-has_landed k s p = p.landed && nat_eq (k.volume p.volume).server s
+has_landed k s p = p.landed && belongs k s p.volume
 
 abbrev pub landed_on : Control → ℕ → Option ℕ
 landed_on k s = option_map (λ (p : Pending). p.w) (find (has_landed k s) k.pending)

@@ -16,7 +16,7 @@ use Rattle.dr_model.specs.Answers.{answer}
 use Rattle.dr_model.specs.Control.{Volume, World, new_volume}
 use Rattle.dr_model.specs.Plans.{Plan, only_says, is_empty, name_bytes, server_plan, volume_plan, volume_on}
 use Rattle.dr_model.specs.Runs.{after_plan, said}
-use Rattle.dr_model.proofs.PlanLemmas.{after_plan-says, after_plan-still}
+use Rattle.dr_model.proofs.PlanLemmas.{acting, after_plan-says, after_plan-still}
 use Rattle.dr_model.specs.Contents.{zeros}
 use Rattle.dr_model.specs.Tables.{at}
 use Rattle.dr_model.proofs.Images.{at_same, at_other}
@@ -45,12 +45,7 @@ module _ (s : PlantState) (t : Table) (h : Host) (ev : List Event) (line : ℕ) 
   w = here s t h ev
 
   abbrev server_told : Plan
-  server_told = record {
-    first = λ k. record k { servers = k.servers ++ name_bytes name ∷ [] };
-    told = ServerDefined (length t.names) name.len name.bytes ∷ [];
-    moves = [];
-    says = Done;
-  }
+  server_told = acting (λ k. record k { servers = k.servers ++ name_bytes name ∷ [] }) (ServerDefined (length t.names) name.len name.bytes ∷ []) [] Done
 
   pub server-refused : (now : List Event) → length t.names ≢ 0 → now ≡ ev ++ answer line NotBuilt ∷ [] → after_plan w line (server_plan w.control name) ≡ here s t h now
   server-refused now some told =
@@ -208,12 +203,7 @@ module _ (s : PlantState) (t : Table) (h : Host) (ev : List Event) (line v n : �
   w' = here s t h ev
 
   abbrev volume_told : ℕ → Plan
-  volume_told server = record {
-    first = λ k. record k { volumes = k.volumes ++ v ∷ []; volume = at k.volume v (new_volume server n) };
-    told = VolumeDefined v server n ∷ [];
-    moves = [];
-    says = Done;
-  }
+  volume_told server = acting (λ k. record k { volumes = k.volumes ++ v ∷ []; volume = at k.volume v (new_volume server n) }) (VolumeDefined v server n ∷ []) [] Done
 
   pub volume-unnamed : (now : List Event) (bytes : List ℕ) → bytes ≡ name_bytes name → server_named t bytes ≡ None → now ≡ ev ++ answer line NotBuilt ∷ []
       → after_plan w' line (volume_plan w'.control v name n) ≡ here s t h now

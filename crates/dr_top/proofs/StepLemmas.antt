@@ -10,13 +10,13 @@ use Rattle.dr_model.specs.declared.said.Said.{Said}
 use Rattle.dr_model.specs.declared.said.Said.TheVariants.{NotBuilt, ServerOff, Showed, Wrote, StoppedIn}
 use Rattle.dr_model.specs.Answers.{answer}
 use Rattle.dr_model.specs.Control.{Control, World}
-use Rattle.dr_model.specs.Plans.{Plan, only_says, has_track, is_running, is_empty, show_plan, with_pending, issue_plan, write_plan}
+use Rattle.dr_model.specs.Plans.{only_says, has_track, is_running, is_empty, show_plan, with_pending, issue_plan, write_plan}
 use Rattle.dr_model.specs.Moves.{Land}
 use Rattle.dr_model.specs.Carry.{turn, now}
 use Rattle.dr_model.specs.Histories.{Histories, histories}
 use Rattle.dr_model.proofs.Images.{histories-push, at_same}
 use Rattle.dr_model.specs.Runs.{after_plan, said}
-use Rattle.dr_model.proofs.PlanLemmas.{after_plan-says, after_plan-still, after_plan-goes, after_plan-stops}
+use Rattle.dr_model.proofs.PlanLemmas.{acting, after_plan-says, after_plan-still, after_plan-goes, after_plan-stops}
 use Rattle.dr_volume.specs.View.{on_seen, volume_seen, track_seen}
 use Rattle.dr_top.specs.Here.{here, waiting_seen}
 use Rattle.dr_top.specs.declared.host.Pending.{Pending}
@@ -37,20 +37,20 @@ running-known s t h events v server e lt = ap (on_seen s) e ∙ on-known s serve
 
 pub show-nowhere : (w : World) (k : Control) (contents : ℕ → ℕ → List ℕ) (line v t : ℕ) → has_track k v t ≡ false → after_plan w line (show_plan k contents line v t) ≡ said w line NotBuilt
 show-nowhere w k contents line v t h =
-    ap (λ b. after_plan w line (cond (not b) (only_says NotBuilt) (cond (is_running k v) (let p : Plan = record { first = λ k. k; told = Shown line v t (contents v t) ∷ []; moves = []; says = Showed } in p) (only_says (ServerOff (k.volume v).server))))) h
+    ap (λ b. after_plan w line (cond (not b) (only_says NotBuilt) (cond (is_running k v) (acting (λ k. k) (Shown line v t (contents v t) ∷ []) [] Showed) (only_says (ServerOff (k.volume v).server))))) h
     ∙ after_plan-says w line NotBuilt
 
 pub show-off : (w : World) (k : Control) (contents : ℕ → ℕ → List ℕ) (line v t : ℕ) → has_track k v t ≡ true → is_running k v ≡ false → after_plan w line (show_plan k contents line v t) ≡ said w line (ServerOff (k.volume v).server)
 show-off w k contents line v t h off =
-    ap (λ b. after_plan w line (cond (not b) (only_says NotBuilt) (cond (is_running k v) (let p : Plan = record { first = λ k. k; told = Shown line v t (contents v t) ∷ []; moves = []; says = Showed } in p) (only_says (ServerOff (k.volume v).server))))) h
-    ∙ ap (λ b. after_plan w line (cond b (let p : Plan = record { first = λ k. k; told = Shown line v t (contents v t) ∷ []; moves = []; says = Showed } in p) (only_says (ServerOff (k.volume v).server)))) off
+    ap (λ b. after_plan w line (cond (not b) (only_says NotBuilt) (cond (is_running k v) (acting (λ k. k) (Shown line v t (contents v t) ∷ []) [] Showed) (only_says (ServerOff (k.volume v).server))))) h
+    ∙ ap (λ b. after_plan w line (cond b (acting (λ k. k) (Shown line v t (contents v t) ∷ []) [] Showed) (only_says (ServerOff (k.volume v).server)))) off
     ∙ after_plan-says w line (ServerOff (k.volume v).server)
 
 pub show-on : (w : World) (k : Control) (contents : ℕ → ℕ → List ℕ) (line v t : ℕ) → has_track k v t ≡ true → is_running k v ≡ true
     → after_plan w line (show_plan k contents line v t) ≡ said (record w { events = w.events ++ Shown line v t (contents v t) ∷ [] }) line Showed
 show-on w k contents line v t h on =
-    ap (λ b. after_plan w line (cond (not b) (only_says NotBuilt) (cond (is_running k v) (let p : Plan = record { first = λ k. k; told = Shown line v t (contents v t) ∷ []; moves = []; says = Showed } in p) (only_says (ServerOff (k.volume v).server))))) h
-    ∙ ap (λ b. after_plan w line (cond b (let p : Plan = record { first = λ k. k; told = Shown line v t (contents v t) ∷ []; moves = []; says = Showed } in p) (only_says (ServerOff (k.volume v).server)))) on
+    ap (λ b. after_plan w line (cond (not b) (only_says NotBuilt) (cond (is_running k v) (acting (λ k. k) (Shown line v t (contents v t) ∷ []) [] Showed) (only_says (ServerOff (k.volume v).server))))) h
+    ∙ ap (λ b. after_plan w line (cond b (acting (λ k. k) (Shown line v t (contents v t) ∷ []) [] Showed) (only_says (ServerOff (k.volume v).server)))) on
     ∙ after_plan-still w line (λ k. k) (Shown line v t (contents v t) ∷ []) Showed
 
 module _ (s : PlantState) (t : Table) (h : Host) (ev : List Event) (line v k : ℕ) where
@@ -105,7 +105,7 @@ module _ (s : PlantState) (t : Table) (h : Host) (ev : List Event) (v k offset l
       → after_plan w' line (issue_plan w'.control v k offset len bytes) ≡ said (here s t (issued_host h v k) mid) line (ServerOff server)
   issued-off mid line server none owner known off told =
       let still = running-known s t h ev v server owner known ∙ off in
-      ap (λ b. after_plan w' line (let p : Plan = record { first = λ c. with_pending c v k; told = Issue (h.issued + 1) v k offset len bytes ∷ []; moves = cond b (now (Land (h.issued + 1) v k) ∷ []) []; says = cond b (Wrote (h.issued + 1)) (ServerOff (volume_seen s t v).server) } in p)) still
+      ap (λ b. after_plan w' line (acting (λ c. with_pending c v k) (Issue (h.issued + 1) v k offset len bytes ∷ []) (cond b (now (Land (h.issued + 1) v k) ∷ []) []) (cond b (Wrote (h.issued + 1)) (ServerOff (volume_seen s t v).server)))) still
       ∙ after_plan-still w' line (λ c. with_pending c v k) (Issue (h.issued + 1) v k offset len bytes ∷ []) (ServerOff (volume_seen s t v).server)
       ∙ ap (λ x. said begun_world line (ServerOff x)) owner
       ∙ ap (λ x. said x line (ServerOff server)) (issued-here mid none told)
@@ -116,7 +116,7 @@ module _ (s : PlantState) (t : Table) (h : Host) (ev : List Event) (v k offset l
       → after_plan w' line (issue_plan w'.control v k offset len bytes) ≡ said (here s' t h' now') line (Wrote (h.issued + 1))
   issued-turn mid now' s' h' line server none owner known on told goes =
       let runs = running-known s t h ev v server owner known ∙ on in
-      ap (λ b. after_plan w' line (let p : Plan = record { first = λ c. with_pending c v k; told = Issue (h.issued + 1) v k offset len bytes ∷ []; moves = cond b (now (Land (h.issued + 1) v k) ∷ []) []; says = cond b (Wrote (h.issued + 1)) (ServerOff (volume_seen s t v).server) } in p)) runs
+      ap (λ b. after_plan w' line (acting (λ c. with_pending c v k) (Issue (h.issued + 1) v k offset len bytes ∷ []) (cond b (now (Land (h.issued + 1) v k) ∷ []) []) (cond b (Wrote (h.issued + 1)) (ServerOff (volume_seen s t v).server)))) runs
       ∙ after_plan-goes w' (here s' t h' now') line (λ c. with_pending c v k) (Issue (h.issued + 1) v k offset len bytes ∷ []) (Land (h.issued + 1) v k) (Wrote (h.issued + 1))
       (ap (λ x. turn x (Land (h.issued + 1) v k)) (issued-here mid none told) ∙ goes)
 
@@ -126,7 +126,7 @@ module _ (s : PlantState) (t : Table) (h : Host) (ev : List Event) (v k offset l
       → after_plan w' line (issue_plan w'.control v k offset len bytes) ≡ said (here s' t h' now') line (StoppedIn server)
   issued-stop mid now' s' h' line server none owner known on told stops =
       let runs = running-known s t h ev v server owner known ∙ on in
-      ap (λ b. after_plan w' line (let p : Plan = record { first = λ c. with_pending c v k; told = Issue (h.issued + 1) v k offset len bytes ∷ []; moves = cond b (now (Land (h.issued + 1) v k) ∷ []) []; says = cond b (Wrote (h.issued + 1)) (ServerOff (volume_seen s t v).server) } in p)) runs
+      ap (λ b. after_plan w' line (acting (λ c. with_pending c v k) (Issue (h.issued + 1) v k offset len bytes ∷ []) (cond b (now (Land (h.issued + 1) v k) ∷ []) []) (cond b (Wrote (h.issued + 1)) (ServerOff (volume_seen s t v).server)))) runs
       ∙ after_plan-stops w' (here s' t h' now') line server (λ c. with_pending c v k) (Issue (h.issued + 1) v k offset len bytes ∷ []) (Land (h.issued + 1) v k) (Wrote (h.issued + 1))
       (ap (λ x. turn x (Land (h.issued + 1) v k)) (issued-here mid none told) ∙ stops)
 

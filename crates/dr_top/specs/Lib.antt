@@ -4,6 +4,7 @@ pub mod At
 pub mod Words
 pub mod Pieces
 pub mod Here
+pub mod Starting
 pub mod Located
 pub mod Cut
 pub mod WellFormed
