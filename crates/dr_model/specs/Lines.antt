@@ -94,7 +94,7 @@ torn_word word = if bytes_eq word (codes "none") then Some Same else hex_bytes w
 abbrev pub stop_after : List ℕ → List ℕ → List ℕ → List ℕ → List ℕ → Option Step
 stop_after name after writes torn word =
     if bytes_eq after (codes "after") && bytes_eq torn (codes "torn")
-    then name_word name >>= λ n. decimal_word writes >>= λ k. torn_word word >>= λ t. Some (StopAfter n k t) else None
+    then (name_word name >>= λ n. decimal_word writes >>= λ k. torn_word word >>= λ t. Some (StopAfter n k t)) else None
 
 -- `@stop NAME`, and `@stop NAME after WRITES torn TORN`
 abbrev pub stop_words : List (List ℕ) → Option Step
