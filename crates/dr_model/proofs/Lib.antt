@@ -4,6 +4,7 @@ pub mod Overlay
 pub mod Sound
 pub mod PlanLemmas
 pub mod Turns
+pub mod Starts
 pub mod PlanCases
 pub mod Tasks
 pub mod Onward

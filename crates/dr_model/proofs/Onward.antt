@@ -1,19 +1,20 @@
--- What moves and steps leave of a world: the writes issued so far, and the journal, which only grows.
+-- What acts and steps leave of a world: the writes issued so far, and the journal, which only grows.
 use Rattle.std.proofs.Common.{ℕ, ◌≡◌, ◌≤◌, ◌+◌, List, [], ◌∷◌, ◌++◌, length, refl, ap, ◌∙◌, sym, arith, Bool, true, false, Option, Some, None, append_assoc, subst}
 use Rattle.dr_model.specs.declared.event.Event.{Event}
-use Rattle.dr_model.specs.declared.event.Event.TheVariants.{Stopped}
+use Rattle.dr_model.specs.declared.event.Event.TheVariants.{Ack, Stopped}
 use Rattle.dr_model.specs.declared.said.Said.{Said}
 use Rattle.dr_model.specs.Answers.{answer}
 use Rattle.dr_model.specs.Control.{Control, World, nothing}
 use Rattle.dr_model.specs.Moves.{Move, Land, told, told_in_stop, landed}
-use Rattle.dr_model.specs.Carry.{carry, turn, turn_of, Turn, Deferred, continue}
+use Rattle.dr_model.specs.Carry.{Act, Make, Redo, Acknowledge, act, act_of, carry, turn, Turn, Deferred, continue, follow}
 use Rattle.dr_model.specs.Plans.{Plan, plan}
-use Rattle.dr_model.specs.Runs.{Task, begun, answered, after_plan, after_task, after_tasks, run}
+use Rattle.dr_model.specs.Runs.{Task, begun, carried_out, answered, after_plan, after_task, after_tasks, run}
 use Rattle.dr_model.proofs.PlanLemmas.{append_nil}
 use Rattle.dr_model.proofs.Turns.{turn-by, turn_by, server_of}
+use Rattle.dr_model.proofs.Starts.{redo-by, redo_by, server_at}
 use Rattle.dr_model.proofs.PlanCases.{OfEach, of_plan}
 
--- moves issue no write, and add to the journal
+-- acts issue no write, and add to the journal
 pub record Onward (w u : World) : Type 0 where
   pub issued : u.control.issued ≡ w.control.issued
   pub events : (es : List Event) × (u.events ≡ w.events ++ es)
@@ -37,20 +38,40 @@ turn_by-onward w (Land n v t) true false false = record { issued = refl; events 
 pub turn-onward : (w : World) (m : Move) → Onward w (turn w m).0
 turn-onward w m = subst (λ (t : Turn). Onward w t.0) (sym (turn-by w m)) (turn_by-onward w m _ _ _)
 
-turn_of-onward : (w : World) (m : Option Move) → Onward w (turn_of w m).0
-turn_of-onward w None = Onward-same w
-turn_of-onward w (Some m) = turn-onward w m
+redo_by-onward : (w : World) (v : ℕ) (on passes : Bool) → Onward w (redo_by w v on passes).0
+redo_by-onward w v false passes = Onward-same w
+redo_by-onward w v true true = record { issued = refl; events = ([], sym (append_nil w.events)) }
+redo_by-onward w v true false = record { issued = refl; events = (Stopped (server_at w v) 0 ∷ [], refl) }
+
+act-onward : (w : World) (a : Act) → Onward w (act w a).0
+unfolding act
+act-onward w (Make m) = turn-onward w m
+act-onward w (Redo v) = subst (λ (t : Turn). Onward w t.0) (sym (redo-by w v)) (redo_by-onward w v _ _)
+act-onward w (Acknowledge n) = record { issued = refl; events = (Ack n ∷ [], refl) }
+
+act_of-onward : (w : World) (a : Option Act) → Onward w (act_of w a).0
+act_of-onward w None = Onward-same w
+act_of-onward w (Some a) = act-onward w a
 
 continue-onward : (w : World) (server : Option ℕ) (next : World → Turn) → ((u : World) → Onward u (next u).0) → Onward w (continue w server next).0
 continue-onward w None next each = each w
 continue-onward w (Some s) next each = Onward-same w
 
-pub carry-onward : (w : World) (moves : List Deferred) → Onward w (carry w moves).0
+pub carry-onward : (w : World) (acts : List Deferred) → Onward w (carry w acts).0
 unfolding carry
 carry-onward w [] = Onward-same w
-carry-onward w (d ∷ moves) =
-    let t : Turn = turn_of w (d w.control) in
-    Onward-then w t.0 _ (turn_of-onward w (d w.control)) (continue-onward t.0 t.1 (λ u. carry u moves) (λ u. carry-onward u moves))
+carry-onward w (d ∷ acts) =
+    let t : Turn = act_of w (d w.control) in
+    Onward-then w t.0 _ (act_of-onward w (d w.control)) (continue-onward t.0 t.1 (λ u. carry u acts) (λ u. carry-onward u acts))
+
+follow-onward : (w : World) (server : Option ℕ) (follows : ℕ → List Deferred) → Onward w (follow w server follows).0
+follow-onward w None follows = Onward-same w
+follow-onward w (Some s) follows = carry-onward w (follows s)
+
+carried_out-onward : (w : World) (p : Plan) → Onward (begun w p) (carried_out w p).0
+carried_out-onward w p =
+    let t : Turn = carry (begun w p) p.acts in
+    Onward-then (begun w p) t.0 _ (carry-onward (begun w p) p.acts) (follow-onward t.0 t.1 p.follows)
 
 -- a step adds to the journal, and last its answer
 pub record EndsAnswered (w : World) (line : ℕ) (u : World) : Type 0 where
@@ -61,11 +82,11 @@ pub record EndsAnswered (w : World) (line : ℕ) (u : World) : Type 0 where
 pub after_plan-ends : (w : World) (line : ℕ) (p : Plan) → EndsAnswered w line (after_plan w line p)
 unfolding after_plan
 after_plan-ends w line p =
-    let goes : Onward (begun w p) (carry (begun w p) p.moves).0 = carry-onward (begun w p) p.moves in
+    let goes : Onward (begun w p) (carried_out w p).0 = carried_out-onward w p in
     record {
       before = p.told ++ goes.events.0;
-      says = answered p (carry (begun w p) p.moves).1;
-      events = ap (λ es. es ++ answer line (answered p (carry (begun w p) p.moves).1) ∷ []) (goes.events.1 ∙ append_assoc w.events p.told goes.events.0);
+      says = answered p (carried_out w p).1;
+      events = ap (λ es. es ++ answer line (answered p (carried_out w p).1) ∷ []) (goes.events.1 ∙ append_assoc w.events p.told goes.events.0);
     }
 
 pub after_task-ends : (w : World) (t : Task) → EndsAnswered w t.line (after_task w t)
@@ -87,7 +108,7 @@ after_tasks-grows w (t ∷ tasks) =
 -- a step issues at most one write
 after_plan-issued : (w : World) (line : ℕ) (p : Plan) → (after_plan w line p).control.issued ≡ (p.first w.control).issued
 unfolding after_plan
-after_plan-issued w line p = (carry-onward (begun w p) p.moves).issued
+after_plan-issued w line p = (carried_out-onward w p).issued
 
 issued-each : (k : Control) (contents : ℕ → ℕ → List ℕ) (line : ℕ) → OfEach (λ p. (p.first k).issued ≤ k.issued + 1) k contents line
 issued-each k contents line = record {
@@ -96,6 +117,9 @@ issued-each k contents line = record {
   volume = λ v server tracks first. omega arith;
   write = λ v t offset len bytes defined none. omega arith;
   show = λ v t. omega arith;
+  stop = λ s. omega arith;
+  arm = λ writes torn s. omega arith;
+  start = λ s. omega arith;
 }
 
 pub issued-task : (w : World) (t : Task) → (after_task w t).control.issued ≤ w.control.issued + 1

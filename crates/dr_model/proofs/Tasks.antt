@@ -2,7 +2,7 @@
 use Rattle.std.proofs.Common.{ℕ, ◌≡◌, ◌+◌, inl, inr, List, [], ◌∷◌, ◌++◌, take, length, refl, ap, ◌∙◌, sym, arith, Bool, true, false, cond, nat_eq, Option, Some, None, subst}
 use Rattle.std.proofs.lemmas.Bool.Decides.{eqb_tells}
 use Rattle.std.specs.FinSet.{contains}
-use Rattle.dr_model.specs.declared.event.Event.TheVariants.{Server as ServerDefined, Volume as VolumeDefined, Issue, Shown}
+use Rattle.dr_model.specs.declared.event.Event.TheVariants.{Server as ServerDefined, Volume as VolumeDefined, Issue, Stopped, Started, Shown}
 use Rattle.dr_model.specs.declared.said.Said.{Said}
 use Rattle.dr_model.specs.declared.said.Said.TheVariants.{Done, Wrote, Acked, Showed, ServerOff, StoppedIn, NotBuilt}
 use Rattle.dr_model.specs.Tables.{at}
@@ -10,16 +10,17 @@ use Rattle.dr_model.specs.Histories.{Histories, Write, histories, after_event}
 use Rattle.dr_model.specs.Contents.{image, zeros}
 use Rattle.dr_model.specs.Control.{World, new_volume, nothing}
 use Rattle.dr_model.specs.Moves.{Move, Land}
-use Rattle.dr_model.specs.Carry.{carry, turn, Turn, continue, now}
+use Rattle.dr_model.specs.Carry.{carry, turn, Turn, Deferred, continue, follow, now}
 use Rattle.dr_model.specs.Answers.{answer}
-use Rattle.dr_model.specs.Plans.{Plan, plan, only_says, is_volume, is_running, name_bytes, issue_plan}
-use Rattle.dr_model.specs.Runs.{Task, begun, said, answered, after_plan, after_task, after_tasks, run}
+use Rattle.dr_model.specs.Plans.{Plan, plan, only_says, none_follow, is_volume, is_running, name_bytes, issue_plan}
+use Rattle.dr_model.specs.Runs.{Task, begun, carried_out, said, answered, after_plan, after_task, after_tasks, run}
 use Rattle.dr_model.specs.Fits.{waiting, due}
 use Rattle.dr_model.proofs.Images.{Below, Below-append, Below-more, at_same, histories-push, image-issue}
-use Rattle.dr_model.proofs.PlanLemmas.{append_nil, carry-none, carry-one}
+use Rattle.dr_model.proofs.PlanLemmas.{append_nil, carry-none, carry-one, follow-none}
 use Rattle.dr_model.proofs.Sound.{Sound, WaitsWell, OneWaits, Same}
 use Rattle.dr_model.proofs.Turns.{Sound-same, turn-sound, issued_write}
-use Rattle.dr_model.proofs.PlanCases.{OfEach, of_plan, server_done, volume_done, show_done}
+use Rattle.dr_model.proofs.Starts.{Sound-starts}
+use Rattle.dr_model.proofs.PlanCases.{OfEach, of_plan, server_done, volume_done, show_done, stop_done, arm_done, start_done}
 
 -- an answer changes no list
 answer-quiet : (h : Histories) (line : ℕ) (a : Said) → after_event h (answer line a) ≡ h
@@ -36,13 +37,21 @@ Sound-said w line a sound =
     Sound-same w w.control.servers w.control.on w.control.fuse (w.events ++ answer line a ∷ [])
     (histories-push w.events (answer line a) ∙ answer-quiet (histories w.events) line a) sound
 
--- a plan with no move, and with one
-pub Sound-plan : (w : World) (line : ℕ) (p : Plan) → Sound (carry (begun w p) p.moves).0 → Sound (after_plan w line p)
+-- a plan is carried out, and answered
+pub Sound-plan : (w : World) (line : ℕ) (p : Plan) → Sound (carried_out w p).0 → Sound (after_plan w line p)
 unfolding after_plan
-Sound-plan w line p sound = Sound-said (carry (begun w p) p.moves).0 line (answered p (carry (begun w p) p.moves).1) sound
+Sound-plan w line p sound = Sound-said (carried_out w p).0 line (answered p (carried_out w p).1) sound
 
-Sound-still : (w : World) → Sound w → Sound (carry w []).0
-Sound-still w sound = subst (λ (u : Turn). Sound u.0) (sym (carry-none w)) sound
+-- nothing follows a stop
+Sound-ends : (t : Turn) → Sound t.0 → Sound (follow t.0 t.1 none_follow).0
+Sound-ends t sound = subst (λ (u : Turn). Sound u.0) (sym (follow-none t.0 t.1)) sound
+
+-- a plan with no act, and with one move
+Sound-none : (w : World) → Sound w → Sound (carry w []).0
+Sound-none w sound = subst (λ (u : Turn). Sound u.0) (sym (carry-none w)) sound
+
+Sound-still : (w : World) → Sound w → Sound (follow (carry w []).0 (carry w []).1 none_follow).0
+Sound-still w sound = Sound-ends (carry w []) (Sound-none w sound)
 
 continue-none : (w : World) (server : Option ℕ) → (continue w server (λ u. carry u [])).0 ≡ w
 continue-none w None = ap (λ (u : Turn). u.0) (carry-none w)
@@ -53,7 +62,7 @@ carry-world w m = ap (λ (u : Turn). u.0) (carry-one w m (turn w m) refl) ∙ co
 
 Sound-maybe : (w : World) (m : Move) (b : Bool) → Sound w → Sound (turn w m).0 → Sound (carry w (cond b (now m ∷ []) [])).0
 Sound-maybe w m true still moved = subst Sound (sym (carry-world w m)) moved
-Sound-maybe w m false still moved = Sound-still w still
+Sound-maybe w m false still moved = Sound-none w still
 
 -- a volume is defined where there was none
 module _ (w : World) (sound : Sound w) (v server tracks : ℕ) (first : w.control.volumes ≡ []) where
@@ -158,13 +167,14 @@ module _ (w : World) (sound : Sound w) (v t offset len : ℕ) (bytes : List ℕ)
     waits = inr (issued_write number v t, issued_pending, WaitsWell-issued);
   }
 
-  Sound-write : Sound (carry issued_world (issue_plan w.control v t offset len bytes).moves).0
+  Sound-write : Sound (carried_out w (issue_plan w.control v t offset len bytes)).0
   Sound-write =
-      Sound-maybe issued_world (Land number v t) (is_running w.control v) Sound-issued
-      (turn-sound issued_world number v t Sound-issued issued_pending WaitsWell-issued)
+      Sound-ends (carry issued_world (issue_plan w.control v t offset len bytes).acts)
+      (Sound-maybe issued_world (Land number v t) (is_running w.control v) Sound-issued
+      (turn-sound issued_world number v t Sound-issued issued_pending WaitsWell-issued))
 
 -- each step leaves a sound world
-Sound-each : (w : World) (line : ℕ) → Sound w → OfEach (λ p. Sound (carry (begun w p) p.moves).0) w.control w.contents line
+Sound-each : (w : World) (line : ℕ) → Sound w → OfEach (λ p. Sound (carried_out w p).0) w.control w.contents line
 Sound-each w line sound = record {
   refused = λ a. Sound-still (begun w (only_says a)) (Sound-same w w.control.servers w.control.on w.control.fuse (w.events ++ []) (ap histories (append_nil w.events)) sound);
   server = λ name. Sound-still (begun w (server_done w.control name))
@@ -173,12 +183,20 @@ Sound-each w line sound = record {
   write = λ v t offset len bytes defined none. Sound-write w sound v t offset len bytes defined none;
   show = λ v t. Sound-still (begun w (show_done w.contents line v t))
       (Sound-same w w.control.servers w.control.on w.control.fuse _ (histories-push w.events (Shown line v t (w.contents v t))) sound);
+  stop = λ s. Sound-still (begun w (stop_done s)) (Sound-same w w.control.servers (at w.control.on s false) w.control.fuse _ (histories-push w.events (Stopped s 0)) sound);
+  arm = λ writes torn s. Sound-still (begun w (arm_done writes torn s))
+      (Sound-same w w.control.servers w.control.on _ (w.events ++ []) (ap histories (append_nil w.events)) sound);
+  start = λ s.
+      let begins : World = begun w (start_done w.control s) in
+      let acts : List Deferred = (start_done w.control s).acts in
+      Sound-ends (carry begins acts)
+      (Sound-starts s w.control.volumes begins (Sound-same w w.control.servers (at w.control.on s true) _ _ (histories-push w.events (Started s)) sound));
 }
 
 pub task-sound : (w : World) (t : Task) → Sound w → Sound (after_task w t)
 task-sound w t sound =
     Sound-plan w t.line (plan w.control w.contents t.line t.step)
-    (of_plan (λ p. Sound (carry (begun w p) p.moves).0) w.control w.contents t.line (Sound-each w t.line sound) t.step)
+    (of_plan (λ p. Sound (carried_out w p).0) w.control w.contents t.line (Sound-each w t.line sound) t.step)
 
 -- from nothing on
 pub sound-nothing : Sound nothing

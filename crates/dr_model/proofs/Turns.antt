@@ -5,7 +5,7 @@ use Rattle.std.specs.FinSet.{contains}
 use Rattle.dr_model.specs.declared.event.Event.{Event}
 use Rattle.dr_model.specs.declared.event.Event.TheVariants.{Ack, Stopped}
 use Rattle.dr_model.specs.Tables.{at, at2}
-use Rattle.dr_model.specs.Histories.{Histories, histories}
+use Rattle.dr_model.specs.Histories.{Histories, Lists, histories}
 use Rattle.dr_model.specs.Contents.{image, with_write, zeros}
 use Rattle.dr_model.specs.Layout.{Fields}
 use Rattle.dr_model.specs.Control.{Control, Fuse, Pending, Volume, World}
@@ -81,13 +81,66 @@ Sound-same w servers on fuse events e sound = record {
   ];
 }
 
-same_number : (n : ℕ) → nat_eq n n ≡ true
+pub same_number : (n : ℕ) → nat_eq n n ≡ true
 same_number n = grind (arith, nat_tests)
 
 -- the one pending write is acknowledged
 pub settled-pending : (k : Control) (n v t : ℕ) → k.pending ≡ issued_write n v t ∷ [] → (settled (Land n v t) k).pending ≡ []
 settled-pending k n v t one =
     ap (λ ps. (settled (Land n v t) (record k { pending = ps })).pending) one ∙ ap (λ b. cond (not b) (issued_write n v t ∷ []) []) (same_number n)
+
+-- a pending write is acknowledged: it stands at the end of its track's list
+module _ (w : World) (p : Pending) (well : WaitsWell w p) where
+  abbrev pub held : List ℕ
+  held = (histories w.events).now p.volume p.track ++ p.w ∷ []
+
+  abbrev pub held_lists : Lists
+  held_lists = at2 (histories w.events).now p.volume p.track held
+
+  pub acked : histories (w.events ++ Ack p.w ∷ []) ≡ record (histories w.events) { now = held_lists }
+  acked =
+      let h : Histories = histories w.events in
+      histories-push w.events (Ack p.w)
+      ∙ ap (λ a. record h { now = at2 h.now a (h.write p.w).track (h.now a (h.write p.w).track ++ p.w ∷ []) }) well.volume
+      ∙ ap (λ b. record h { now = at2 h.now p.volume b (h.now p.volume b ++ p.w ∷ []) }) well.track
+
+  pub held_elsewhere : (x y : ℕ) → (x ≢ p.volume) ⊎ (y ≢ p.track) → held_lists x y ≡ (histories w.events).now x y
+  held_elsewhere x y (inl ne) = at2_other_row (histories w.events).now p.volume p.track held x y ne
+  held_elsewhere x y (inr ne) = at2_other_place (histories w.events).now p.volume p.track held x y ne
+
+  held_numbers : Sound w → (x y : ℕ) → Same x p.volume → Same y p.track → Below (w.control.issued + 1) (held_lists x y)
+  held_numbers sound x y (inl a) (inl b) =
+      subst (Below (w.control.issued + 1)) (sym (ap (λ k. held_lists k y) a.1 ∙ ap (λ k. held_lists p.volume k) b.1 ∙ at2_same (histories w.events).now p.volume p.track held))
+      (Below-append (w.control.issued + 1) ((histories w.events).now p.volume p.track) (p.w ∷ []) (sound.numbers p.volume p.track) (well.number, tt))
+  held_numbers sound x y (inl a) (inr b) = subst (Below (w.control.issued + 1)) (sym (held_elsewhere x y (inr b.1))) (sound.numbers x y)
+  held_numbers sound x y (inr a) same = subst (Below (w.control.issued + 1)) (sym (held_elsewhere x y (inl a.1))) (sound.numbers x y)
+
+  pub acked_numbers : Sound w → (x y : ℕ) → Below (w.control.issued + 1) ((histories (w.events ++ Ack p.w ∷ [])).now x y)
+  acked_numbers sound x y =
+      subst (λ (h : Histories). Below (w.control.issued + 1) (h.now x y)) (sym acked) (held_numbers sound x y (eqb_tells x p.volume) (eqb_tells y p.track))
+
+-- one write that landed waits on its track, and on no other
+pub waits_here : (p : Pending) → p.landed ≡ true → waiting (p ∷ []) p.volume p.track ≡ p.w ∷ []
+waits_here p landed =
+    ap (λ b. cond (b && nat_eq p.volume p.volume && nat_eq p.track p.track) (p.w ∷ []) []) landed
+    ∙ ap (λ b. cond (b && nat_eq p.track p.track) (p.w ∷ []) []) (same_number p.volume)
+    ∙ ap (λ b. cond b (p.w ∷ []) []) (same_number p.track)
+
+neither : (a b : Bool) (ws : List ℕ) → cond (a && false && b) ws [] ≡ []
+neither true b ws = refl
+neither false b ws = refl
+
+nor_here : (a : Bool) (ws : List ℕ) → cond (a && false) ws [] ≡ []
+nor_here true ws = refl
+nor_here false ws = refl
+
+pub waits_elsewhere : (p : Pending) (x y : ℕ) → (x ≢ p.volume) ⊎ (y ≢ p.track) → waiting (p ∷ []) x y ≡ []
+waits_elsewhere p x y (inl ne) =
+    let a : nat_eq p.volume x ≡ false = grind (arith, nat_tests) in
+    ap (λ b. cond (p.landed && b && nat_eq p.track y) (p.w ∷ []) []) a ∙ neither p.landed (nat_eq p.track y) (p.w ∷ [])
+waits_elsewhere p x y (inr ne) =
+    let a : nat_eq p.track y ≡ false = grind (arith, nat_tests) in
+    ap (λ b. cond (p.landed && nat_eq p.volume x && b) (p.w ∷ []) []) a ∙ nor_here (p.landed && nat_eq p.volume x) (p.w ∷ [])
 
 -- a world in which write n landed is sound
 module _ (w : World) (n v t : ℕ) (sound : Sound w) (one : w.control.pending ≡ issued_write n v t ∷ []) (well : WaitsWell w (issued_write n v t)) where
@@ -138,72 +191,36 @@ module _ (w : World) (n v t : ℕ) (sound : Sound w) (one : w.control.pending �
     waits = waits;
   }
 
-  -- acknowledged: the write stands at the end of its track's list
-  abbrev held : List ℕ
-  held = (histories w.events).now v t ++ n ∷ []
-
-  acked : histories (w.events ++ Ack n ∷ []) ≡ record (histories w.events) { now = at2 (histories w.events).now v t held }
-  acked =
-      let h : Histories = histories w.events in
-      histories-push w.events (Ack n)
-      ∙ ap (λ a. record h { now = at2 h.now a (h.write n).track (h.now a (h.write n).track ++ n ∷ []) }) well.volume
-      ∙ ap (λ b. record h { now = at2 h.now v b (h.now v b ++ n ∷ []) }) well.track
-
-  acked_now : (x y : ℕ) → (histories (w.events ++ Ack n ∷ [])).now x y ++ [] ≡ at2 (histories w.events).now v t held x y
-  acked_now x y = append_nil ((histories (w.events ++ Ack n ∷ [])).now x y) ∙ ap (λ (h : Histories). h.now x y) acked
+  -- acknowledged
+  acked_now : (x y : ℕ) → (histories (w.events ++ Ack n ∷ [])).now x y ++ [] ≡ held_lists w (issued_write n v t) well x y
+  acked_now x y = append_nil ((histories (w.events ++ Ack n ∷ [])).now x y) ∙ ap (λ (h : Histories). h.now x y) (acked w (issued_write n v t) well)
 
   not_waiting : (x y : ℕ) → (histories w.events).now x y ≡ (histories w.events).now x y ++ waiting w.control.pending x y
   not_waiting x y =
       sym (append_nil ((histories w.events).now x y)) ∙ ap (λ ps. (histories w.events).now x y ++ waiting ps x y) (sym one)
 
-  acked_elsewhere : (x y : ℕ) → (x ≢ v) ⊎ (y ≢ t) → at2 (histories w.events).now v t held x y ≡ (histories w.events).now x y
-  acked_elsewhere x y (inl ne) = at2_other_row (histories w.events).now v t held x y ne
-  acked_elsewhere x y (inr ne) = at2_other_place (histories w.events).now v t held x y ne
-
   Adds-acked : Adds w (w.events ++ Ack n ∷ []) [] v t n
   Adds-acked = record {
-    write = ap (λ (h : Histories). h.write) acked;
-    here = acked_now v t ∙ at2_same (histories w.events).now v t held;
-    elsewhere = λ x y ne. acked_now x y ∙ acked_elsewhere x y ne ∙ not_waiting x y;
+    write = ap (λ (h : Histories). h.write) (acked w (issued_write n v t) well);
+    here = acked_now v t ∙ at2_same (histories w.events).now v t (held w (issued_write n v t) well);
+    elsewhere = λ x y ne. acked_now x y ∙ held_elsewhere w (issued_write n v t) well x y ne ∙ not_waiting x y;
   }
-
-  numbers_at : (x y : ℕ) → Same x v → Same y t → Below (w.control.issued + 1) (at2 (histories w.events).now v t held x y)
-  numbers_at x y (inl p) (inl q) =
-      subst (Below (w.control.issued + 1)) (sym (ap (λ k. at2 (histories w.events).now v t held k y) p.1 ∙ ap (λ k. at2 (histories w.events).now v t held v k) q.1 ∙ at2_same (histories w.events).now v t held))
-      (Below-append (w.control.issued + 1) ((histories w.events).now v t) (n ∷ []) (sound.numbers v t) (well.number, tt))
-  numbers_at x y (inl p) (inr q) = subst (Below (w.control.issued + 1)) (sym (acked_elsewhere x y (inr q.1))) (sound.numbers x y)
-  numbers_at x y (inr p) same = subst (Below (w.control.issued + 1)) (sym (acked_elsewhere x y (inl p.1))) (sound.numbers x y)
 
   Sound-acked : (on : ℕ → Bool) (fuse : ℕ → Option Fuse) → Sound (landed_world w n v t on fuse [] (w.events ++ Ack n ∷ []))
   Sound-acked on fuse =
-      Sound-landed on fuse [] (w.events ++ Ack n ∷ []) Adds-acked
-      (λ x y. subst (λ (h : Histories). Below (w.control.issued + 1) (h.now x y)) (sym acked) (numbers_at x y (eqb_tells x v) (eqb_tells y t)))
-      (inl refl)
+      Sound-landed on fuse [] (w.events ++ Ack n ∷ []) Adds-acked (acked_numbers w (issued_write n v t) well sound) (inl refl)
 
   -- stopped: it waits for its acknowledgement
   stopped : (s k : ℕ) → histories (w.events ++ Stopped s k ∷ []) ≡ histories w.events
   stopped s k = histories-push w.events (Stopped s k)
 
-  waits_here : waiting (landed_write n v t ∷ []) v t ≡ n ∷ []
-  waits_here =
-      let a : nat_eq v v ≡ true = grind (arith, nat_tests) in
-      let b : nat_eq t t ≡ true = grind (arith, nat_tests) in
-      ap (λ c. cond (c && nat_eq t t) (n ∷ []) []) a ∙ ap (λ c. cond c (n ∷ []) []) b
-
-  waits_elsewhere : (x y : ℕ) → (x ≢ v) ⊎ (y ≢ t) → waiting (landed_write n v t ∷ []) x y ≡ []
-  waits_elsewhere x y (inl ne) =
-      let a : nat_eq v x ≡ false = grind (arith, nat_tests) in ap (λ c. cond (c && nat_eq t y) (n ∷ []) []) a
-  waits_elsewhere x y (inr ne) =
-      let b : nat_eq t y ≡ false = grind (arith, nat_tests) in
-      elim (nat_eq v x) as (λ a. cond (a && nat_eq t y) (n ∷ []) [] ≡ []) [ true ↦ ap (λ c. cond c (n ∷ []) []) b | false ↦ refl ]
-
   Adds-stopped : (s k : ℕ) → Adds w (w.events ++ Stopped s k ∷ []) (landed_write n v t ∷ []) v t n
   Adds-stopped s k = record {
     write = ap (λ (h : Histories). h.write) (stopped s k);
-    here = ap (λ (h : Histories). h.now v t ++ waiting (landed_write n v t ∷ []) v t) (stopped s k) ∙ ap (λ more. (histories w.events).now v t ++ more) waits_here;
+    here = ap (λ (h : Histories). h.now v t ++ waiting (landed_write n v t ∷ []) v t) (stopped s k) ∙ ap (λ more. (histories w.events).now v t ++ more) (waits_here (landed_write n v t) refl);
     elsewhere = λ x y ne.
         ap (λ (h : Histories). h.now x y ++ waiting (landed_write n v t ∷ []) x y) (stopped s k)
-        ∙ ap (λ more. (histories w.events).now x y ++ more) (waits_elsewhere x y ne)
+        ∙ ap (λ more. (histories w.events).now x y ++ more) (waits_elsewhere (landed_write n v t) x y ne)
         ∙ append_nil ((histories w.events).now x y) ∙ not_waiting x y;
   }
 
