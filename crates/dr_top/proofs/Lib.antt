@@ -6,6 +6,8 @@ pub mod LandingLemmas
 pub mod TurnLemmas
 pub mod LocatedLemmas
 pub mod StepLemmas
+pub mod StopLemmas
+pub mod StartLemmas
 pub mod LineLemmas
 pub mod WellFormedLemmas
 pub mod ZeroDevice

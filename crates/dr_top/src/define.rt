@@ -17,7 +17,7 @@ use std::alloc::AllocError;
 const MOST_TRACKS: u32 = MAX_TRACKS as u32;
 
 /// The bytes of a name.
-fn bytes_of(name: &Name) -> &[u8]
+pub fn bytes_of(name: &Name) -> &[u8]
     requires { name.now.len ≤ 24 }
     ensures { result.now ≡ take name.now.len name.now.bytes }
 {

@@ -14,6 +14,7 @@ mod reader;
 mod run;
 mod status;
 mod steps;
+mod stops;
 mod top;
 
 pub use status::Status;

@@ -40,13 +40,13 @@ guarded {X} {Y} h f g o y none low e q =
     ap (λ (k : ℕ → Y). if nat_lt q 8 then h (k q) else none) e
     ∙ guarded_test h (f q) y none (nat_lt q 8) (nat_eq q o) (λ here. ap (λ n. nat_lt n 8) ((Decides-eqb q o).0 here) ∙ lt_true o 8 low)
 
-pub on-off : (s t : PlantState) (o : ℕ) → o < 8 → t.on ≡ at s.on o false → on_seen t ≡ at (on_seen s) o false
-on-off s t o low e i q = guarded (λ (b : Bool). b) s.on t.on o false true low e q i
+pub on-at : (s t : PlantState) (o : ℕ) (on : Bool) → o < 8 → t.on ≡ at s.on o on → on_seen t ≡ at (on_seen s) o on
+on-at s t o on low e i q = guarded (λ (b : Bool). b) s.on t.on o on true low e q i
 
 on-same : (s t : PlantState) → t.on ≡ s.on → on_seen t ≡ on_seen s
 on-same s t e i q = if nat_lt q 8 then e i q else true
 
-fuses-at : (s t : PlantState) (o : ℕ) (g : Option WriteFuse) → o < 8 → t.write_fuse ≡ at s.write_fuse o g → fuses_seen t ≡ at (fuses_seen s) o (fuse_seen g)
+pub fuses-at : (s t : PlantState) (o : ℕ) (g : Option WriteFuse) → o < 8 → t.write_fuse ≡ at s.write_fuse o g → fuses_seen t ≡ at (fuses_seen s) o (fuse_seen g)
 fuses-at s t o g low e i q = guarded fuse_seen s.write_fuse t.write_fuse o g None low e q i
 
 fuses-same : (s t : PlantState) → t.write_fuse ≡ s.write_fuse → fuses_seen t ≡ fuses_seen s
@@ -85,7 +85,7 @@ pub world-off : (s t : PlantState) (c : Table) (r : Rest) (o : ℕ) (g : WriteFu
 world-off s t c r o g low on fuse armed =
     let burnt : fuse_seen (Some (record g { after = 0 })) ≡ machine.burnt (fuses_seen s o) = sym (ap (λ f. machine.burnt f) (fuse-seen s o low ∙ ap fuse_seen armed)) in
     let fuses = fuses-at s t o _ low fuse ∙ ap (at (fuses_seen s) o) burnt in
-    λ i. record (shown s t c r) { control = record (shown s t c r).control { on = on-off s t o low on i; fuse = fuses i } }
+    λ i. record (shown s t c r) { control = record (shown s t c r).control { on = on-at s t o false low on i; fuse = fuses i } }
 
 -- where the volumes and the tracks are as before, and where one volume moved
 pub shown-before : (s t : PlantState) (c : Table) (r : Rest) (v : ℕ) → IsAsBefore s t c v → OthersStay s t c v → shown s t c r ≡ world s c r

@@ -1,0 +1,252 @@
+//! The steps that stop a server, arm its fuse, and start it.
+
+ghost use Rattle.std.specs.Prelude.{◌≡◌, ℕ, ◌+◌, ◌<◌, ◌≤◌, false, [], ◌∷◌, length, List, Some, None, OnOk, OnErr};
+ghost use Rattle.dr_plant.specs.State.{PlantState};
+ghost use Rattle.dr_model.specs.Carry.{carry, continue};
+ghost use Rattle.dr_model.specs.Plans as plans;
+ghost use Rattle.dr_model.specs.Plans.{name_bytes, torn_bytes, acknowledge_on, says_acked};
+ghost use Rattle.dr_model.specs.Runs.{after_plan, said};
+ghost use Rattle.dr_volume.specs.View.{torn_seen};
+ghost use Rattle.dr_top.specs.Here.{here, IsReady, stopped_in};
+ghost use Rattle.dr_top.specs.Starting.{IsStarting, redo_from};
+ghost use Rattle.dr_top.specs.Located.{has_owner};
+ghost use Rattle.dr_model.specs.declared.event.Event.{Event};
+ghost use Rattle.dr_top.specs.declared.host.Host.{Host};
+
+use crate::define::bytes_of;
+use crate::host::Host;
+use crate::steps::say;
+use dr_config::Config;
+use dr_ids::{ServerId, VolumeId};
+use dr_model::{Event, Journal, Name, Said, TornWord};
+use dr_plant::{Plant, Stopped, Torn};
+use dr_volume::redo;
+
+/// Turns a server off; where it is off, nothing happens. Its fuse stays.
+pub fn stop<P: Plant>(
+    plant: &mut P,
+    config: &Config,
+    host: &Host,
+    journal: &mut Journal,
+    line: u32,
+    name: &Name,
+)
+    requires ready { IsReady (P.state plant.old) config.now }
+    requires short { name.now.len ≤ 24 }
+    requires room { 2 ≤ journal.old.spare }
+    ensures step { after_plan (here (P.state plant.old) config.now host.now journal.old.events) line
+        (plans.stop_on (here (P.state plant.old) config.now host.now journal.old.events).control (plans.server_named (here (P.state plant.old) config.now host.now journal.old.events).control (name_bytes name.now)))
+        ≡ here (P.state plant.new) config.now host.now journal.new.events }
+    ensures ready { IsReady (P.state plant.new) config.now }
+{
+    let Some(server) = config.server_named(bytes_of(name)) else {
+        say(journal, line, Said::NotBuilt);
+        return;
+    };
+    if !plant.is_on(server.0) {
+        say(journal, line, Said::Done);
+        return;
+    }
+    plant.stop(server.0);
+    journal.push(Event::Stopped {
+        server: server.0,
+        write: 0,
+    });
+    say(journal, line, Said::Done);
+}
+
+/// What a write that is cut short leaves in its block.
+fn torn(word: TornWord) -> Torn
+    ensures { torn_seen result ≡ torn_bytes word }
+{
+    match word {
+        TornWord::Same => Torn::Untouched,
+        TornWord::Fill(b) => Torn::Bytes([b; 64]),
+        TornWord::Bytes(bytes) => Torn::Bytes(bytes),
+    }
+}
+
+/// Arms a server's fuse in place of an earlier one: so many writes pass, and the next one is cut short.
+pub fn arm<P: Plant>(
+    plant: &mut P,
+    config: &Config,
+    host: &Host,
+    journal: &mut Journal,
+    line: u32,
+    name: &Name,
+    writes: u32,
+    word: TornWord,
+)
+    requires ready { IsReady (P.state plant.old) config.now }
+    requires short { name.now.len ≤ 24 }
+    requires room { 1 ≤ journal.old.spare }
+    ensures step { after_plan (here (P.state plant.old) config.now host.now journal.old.events) line
+        (plans.arm_on writes word (plans.server_named (here (P.state plant.old) config.now host.now journal.old.events).control (name_bytes name.now)))
+        ≡ here (P.state plant.new) config.now host.now journal.new.events }
+    ensures ready { IsReady (P.state plant.new) config.now }
+{
+    let Some(server) = config.server_named(bytes_of(name)) else {
+        say(journal, line, Said::NotBuilt);
+        return;
+    };
+    plant.arm_writes(server.0, writes, torn(word));
+    say(journal, line, Said::Done);
+}
+
+/// Turns a server on; where it is on, nothing happens. Its volumes' staged tracks are written to their places, and
+/// at the end the write that had landed in a stop is acknowledged.
+pub fn start<P: Plant>(
+    plant: &mut P,
+    config: &Config,
+    host: &mut Host,
+    journal: &mut Journal,
+    line: u32,
+    name: &Name,
+)
+    requires ready { IsReady (P.state plant.old) config.now }
+    requires short { name.now.len ≤ 24 }
+    requires room { 3 ≤ journal.old.spare }
+    ensures step { after_plan (here (P.state plant.old) config.now host.old journal.old.events) line
+        (plans.start_on (here (P.state plant.old) config.now host.old journal.old.events).control (plans.server_named (here (P.state plant.old) config.now host.old journal.old.events).control (name_bytes name.now)))
+        ≡ here (P.state plant.new) config.now host.new journal.new.events }
+    ensures ready { IsReady (P.state plant.new) config.now }
+    ensures issued { host.new.issued ≡ host.old.issued }
+{
+    let Some(server) = config.server_named(bytes_of(name)) else {
+        say(journal, line, Said::NotBuilt);
+        return;
+    };
+    if plant.is_on(server.0) {
+        say(journal, line, Said::Done);
+        return;
+    }
+    let said = turn_on(plant, config, host, journal, server);
+    say(journal, line, said);
+}
+
+/// Turns on a server that is off. Says what the step answers.
+fn turn_on<P: Plant>(
+    plant: &mut P,
+    config: &Config,
+    host: &mut Host,
+    journal: &mut Journal,
+    server: ServerId,
+) -> Said
+    requires ready { IsReady (P.state plant.old) config.now }
+    requires off { (P.state plant.old).on server.0 ≡ false }
+    requires known { server.0 < 8 }
+    requires room { 3 ≤ journal.old.spare }
+    ensures step { (line : ℕ) → after_plan (here (P.state plant.old) config.now host.old journal.old.events) line
+        (plans.start_on (here (P.state plant.old) config.now host.old journal.old.events).control (Some server.0))
+        ≡ said (here (P.state plant.new) config.now host.new journal.new.events) line result }
+    ensures ready { IsReady (P.state plant.new) config.now }
+    ensures issued { host.new.issued ≡ host.old.issued }
+    ensures room { 1 ≤ journal.new.spare }
+{
+    plant.start(server.0);
+    journal.push(Event::Started { server: server.0 });
+    match redo_volumes(plant, config, journal, server) {
+        Ok(()) => acknowledge(config, host, journal, server),
+        Err(_) => Said::StoppedIn { server: server.0 },
+    }
+}
+
+/// Whether a volume is defined, and the server's.
+fn belongs(config: &Config, volume: VolumeId, server: ServerId) -> bool
+    ensures { result ≡ has_owner config.now volume.0 server.0 }
+{
+    match config.server_of(volume) {
+        Some(owner) => owner.0 == server.0,
+        None => false,
+    }
+}
+
+/// Writes the staged tracks of a server's volumes to their places, in order of definition, until the server stops.
+fn redo_volumes<P: Plant>(
+    plant: &mut P,
+    config: &Config,
+    journal: &mut Journal,
+    server: ServerId,
+) -> Result<(), Stopped>
+    requires starting { IsStarting (P.state plant.old) config.now server.0 0 }
+    requires known { server.0 < 8 }
+    requires room { 2 ≤ journal.old.spare }
+    ensures carried { (h : Host) → carry (here (P.state plant.old) config.now h journal.old.events) (redo_from config.now server.0 0)
+        ≡ (here (P.state plant.new) config.now h journal.new.events, stopped_in result server.0) }
+    ensures ready { IsReady (P.state plant.new) config.now }
+    ensures room { 1 ≤ journal.new.spare }
+    ensures room_left { OnOk result (journal.new.spare ≡ journal.old.spare) }
+{
+    for place in 0..config.volumes() {
+        redo_at(plant, config, journal, server, place)?;
+    }
+    Ok(())
+}
+
+/// Writes the staged track of the volume at a place to its own place, where the volume is the server's.
+fn redo_at<P: Plant>(
+    plant: &mut P,
+    config: &Config,
+    journal: &mut Journal,
+    server: ServerId,
+    place: usize,
+) -> Result<(), Stopped>
+    requires starting { IsStarting (P.state plant.old) config.now server.0 place }
+    requires known { server.0 < 8 }
+    requires within { place < length config.now.volumes }
+    requires room { 1 ≤ journal.old.spare }
+    ensures carried { (h : Host) → carry (here (P.state plant.old) config.now h journal.old.events) (redo_from config.now server.0 place)
+        ≡ continue (here (P.state plant.new) config.now h journal.new.events) (stopped_in result server.0) (λ w. carry w (redo_from config.now server.0 (place + 1))) }
+    ensures starting { OnOk result (IsStarting (P.state plant.new) config.now server.0 (place + 1)) }
+    ensures ready { OnErr result (IsReady (P.state plant.new) config.now) }
+    ensures room { journal.old.spare ≤ journal.new.spare + 1 }
+    ensures room_left { OnOk result (journal.new.spare ≡ journal.old.spare) }
+{
+    let volume = config.volume_at(place).unwrap();
+    if !belongs(config, volume, server) {
+        return Ok(());
+    }
+    match redo(plant, config, volume) {
+        Ok(()) => Ok(()),
+        Err(stopped) => {
+            journal.push(Event::Stopped {
+                server: server.0,
+                write: 0,
+            });
+            Err(stopped)
+        }
+    }
+}
+
+/// The number of the pending write, where it landed on a volume of the server in a stop.
+fn landed_on(config: &Config, host: &Host, server: ServerId) -> Option<u32>
+    ensures { (s : PlantState) (events : List Event) → result ≡ plans.landed_on (here s config.now host.now events).control server.0 }
+{
+    let pending = host.pending?;
+    if pending.landed && belongs(config, VolumeId(pending.volume), server) {
+        Some(pending.w)
+    } else {
+        None
+    }
+}
+
+/// Acknowledges the write that had landed on a volume of the server, where there is one. Says what a start answers.
+fn acknowledge(
+    config: &Config,
+    host: &mut Host,
+    journal: &mut Journal,
+    server: ServerId,
+) -> Said
+    requires room { 2 ≤ journal.old.spare }
+    ensures said { (s : PlantState) → result ≡ says_acked (plans.landed_on (here s config.now host.old journal.old.events).control server.0) }
+    ensures act { (s : PlantState) → carry (here s config.now host.old journal.old.events) (acknowledge_on server.0 ∷ []) ≡ (here s config.now host.new journal.new.events, None) }
+    ensures issued { host.new.issued ≡ host.old.issued }
+    ensures room { 1 ≤ journal.new.spare }
+{
+    let Some(w) = landed_on(config, host, server) else {
+        return Said::Done;
+    };
+    host.pending = None;
+    journal.push(Event::Ack { w });
+    Said::Acked { w }
+}
