@@ -7,8 +7,8 @@ use Rattle.std.proofs.lemmas.Bool.Decides.{nat_tests}
 use Rattle.dr_ids.specs.Spelling.{volume_word, number_word}
 use Rattle.dr_model.specs.declared.step.Name.{Name}
 use Rattle.dr_model.specs.declared.step.Step.{Step}
-use Rattle.dr_model.specs.declared.step.Step.TheVariants.{Server, Volume, Show}
-use Rattle.dr_model.specs.Lines.{◌>>=◌, is_name, is_name_byte, begins_with_letter, name_of, name_word, decimal_word, hex_bytes, is_in_track, write_of, server_words, volume_words, write_words, show_words, step_words}
+use Rattle.dr_model.specs.declared.step.Step.TheVariants.{Server, Volume, Stop, StopAfter, Start, Show}
+use Rattle.dr_model.specs.Lines.{◌>>=◌, is_name, is_name_byte, begins_with_letter, name_of, name_word, decimal_word, hex_bytes, is_in_track, write_of, torn_word, server_words, volume_words, write_words, stop_after, stop_words, start_words, show_words, step_words}
 use Rattle.dr_top.specs.WellFormed.{FitsName, IfWellFormed}
 
 -- whatever a part says, the rest is well formed
@@ -76,6 +76,27 @@ write-fits (a ∷ b ∷ []) = tt
 write-fits (a ∷ b ∷ c ∷ []) = tt
 write-fits (a ∷ b ∷ c ∷ d ∷ e ∷ rest) = tt
 
+stop_after-fits : (name after writes torn word : List ℕ) → IfWellFormed (stop_after name after writes torn word)
+stop_after-fits name after_word writes torn word =
+    either (bytes_eq after_word (codes "after") && bytes_eq torn (codes "torn")) (name_word name >>= λ n. decimal_word writes >>= λ k. torn_word word >>= λ t. Some (StopAfter n k t)) None
+    (λ h. after_name name (λ n. decimal_word writes >>= λ k. torn_word word >>= λ t. Some (StopAfter n k t)) (λ m fits.
+    after (decimal_word writes) (λ k. torn_word word >>= λ t. Some (StopAfter m k t)) (λ k.
+    after (torn_word word) (λ t. Some (StopAfter m k t)) (λ t. fits)))) tt
+
+stop-fits : (rest : List (List ℕ)) → IfWellFormed (stop_words rest)
+stop-fits (name ∷ []) = after_name name (λ n. Some (Stop n)) (λ m fits. fits)
+stop-fits (name ∷ after_word ∷ writes ∷ torn ∷ word ∷ []) = stop_after-fits name after_word writes torn word
+stop-fits [] = tt
+stop-fits (a ∷ b ∷ []) = tt
+stop-fits (a ∷ b ∷ c ∷ []) = tt
+stop-fits (a ∷ b ∷ c ∷ d ∷ []) = tt
+stop-fits (a ∷ b ∷ c ∷ d ∷ e ∷ f ∷ rest) = tt
+
+start-fits : (rest : List (List ℕ)) → IfWellFormed (start_words rest)
+start-fits (name ∷ []) = after_name name (λ n. Some (Start n)) (λ m fits. fits)
+start-fits [] = tt
+start-fits (a ∷ b ∷ rest) = tt
+
 show-fits : (rest : List (List ℕ)) → IfWellFormed (show_words rest)
 show-fits (volume ∷ track ∷ []) =
     after (volume_word volume) (λ v. decimal_word track >>= λ t. Some (Show v.0 t)) (λ v. after (decimal_word track) (λ t. Some (Show v.0 t)) (λ t. tt))
@@ -89,4 +110,6 @@ step-fits (command ∷ rest) =
     either (bytes_eq command (codes "@server")) (server_words rest) _ (λ h. server-fits rest)
     (either (bytes_eq command (codes "@volume")) (volume_words rest) _ (λ h. volume-fits rest)
     (either (bytes_eq command (codes "@write")) (write_words rest) _ (λ h. write-fits rest)
-    (either (bytes_eq command (codes "@show")) (show_words rest) None (λ h. show-fits rest) tt)))
+    (either (bytes_eq command (codes "@stop")) (stop_words rest) _ (λ h. stop-fits rest)
+    (either (bytes_eq command (codes "@start")) (start_words rest) _ (λ h. start-fits rest)
+    (either (bytes_eq command (codes "@show")) (show_words rest) None (λ h. show-fits rest) tt)))))

@@ -2,7 +2,7 @@
 use Rattle.std.specs.Prelude.{◌+◌, ◌≤◌, Option, Some, None}
 use Rattle.dr_model.specs.declared.step.Name.{Name}
 use Rattle.dr_model.specs.declared.step.Step.{Step}
-use Rattle.dr_model.specs.declared.step.Step.TheVariants.{Server, Volume, Write}
+use Rattle.dr_model.specs.declared.step.Step.TheVariants.{Server, Volume, Stop, StopAfter, Start, Write}
 
 -- a name has 1 to 24 bytes
 abbrev pub FitsName : Name → Type 0
@@ -12,6 +12,9 @@ FitsName n = (1 ≤ n.len) × (n.len ≤ 24)
 abbrev pub IsWellFormed : Step → Type 0
 IsWellFormed (Server name) = FitsName name
 IsWellFormed (Volume v name tracks) = FitsName name
+IsWellFormed (Stop name) = FitsName name
+IsWellFormed (StopAfter name writes torn) = FitsName name
+IsWellFormed (Start name) = FitsName name
 IsWellFormed (Write v t offset len bytes) = offset + len ≤ 64
 IsWellFormed _ = Unit {0}
 

@@ -1,15 +1,15 @@
 //! Reads one line of a script: which step it is, where it is one that is carried out.
 
-ghost use Rattle.std.specs.Prelude.{◌≡◌, ℕ, ◌*◌, ◌-◌, nat_le, if◌then◌else◌, None, ◌+◌, ◌<◌, ◌≤◌, ◌++◌, List, [], ◌∷◌, length, take, replicate, Option, IfSome, IfNone, codes};
+ghost use Rattle.std.specs.Prelude.{◌≡◌, ℕ, ◌*◌, ◌-◌, nat_le, if◌then◌else◌, None, ◌+◌, ◌<◌, ◌≤◌, ◌++◌, List, [], ◌∷◌, length, take, replicate, Option, IfSome, IfNone, option_and_then, codes};
 ghost use Rattle.std.specs.List.{position, list_all};
 ghost use Rattle.std.specs.Option.{option_copied, option_map};
-ghost use Rattle.dr_top.specs.Pieces.{piece_of};
-ghost use Rattle.dr_model.specs.Lines.{words, is_space, is_letter, is_name_byte, is_name, name_of, name_word, decimal_word, hex_bytes, is_in_track, write_of, server_words, volume_words, write_words, show_words, step_words, is_comment, is_gap, is_no_step};
+ghost use Rattle.dr_top.specs.Pieces.{piece_of, torn_piece};
+ghost use Rattle.dr_model.specs.Lines.{words, is_space, is_letter, is_name_byte, is_name, name_of, name_word, decimal_word, hex_bytes, is_in_track, write_of, server_words, volume_words, write_words, stop_words, stop_after, start_words, torn_word, torn_of, show_words, step_words, is_comment, is_gap, is_no_step};
 ghost use Rattle.dr_top.specs.Words.{words_after, only, IsNext, empty_name, pair_of};
 
 use crate::print::zero_track;
 use dr_ids::{hex_value, read_number, read_volume};
-use dr_model::{Name, Step};
+use dr_model::{Name, Step, TornWord};
 
 /// Where the first space is.
 fn space_at(line: &[u8]) -> Option<usize>
@@ -239,17 +239,110 @@ fn write_of(volume: u16, track: u32, offset: u8, piece: Piece) -> Option<Step>
     }
 }
 
+/// A byte that fills a block, or the 64 bytes of one.
+fn torn_piece(piece: Piece) -> Option<TornWord>
+    ensures { result ≡ torn_piece piece }
+{
+    let Piece { len, bytes } = piece;
+    if len == 1 {
+        Some(TornWord::Fill(bytes[0]))
+    } else if len == 64 {
+        Some(TornWord::Bytes(bytes))
+    } else {
+        None
+    }
+}
+
+/// What is left in a block, in hexadecimal.
+fn read_torn_bytes(word: &[u8]) -> Option<TornWord>
+    ensures { result ≡ option_and_then torn_of (hex_bytes word.now) }
+{
+    torn_piece(read_piece(word)?)
+}
+
+/// What is left in a block whose write is cut short.
+fn read_torn(word: &[u8]) -> Option<TornWord>
+    ensures { result ≡ torn_word word.now }
+{
+    match word {
+        b"none" => Some(TornWord::Same),
+        _ => read_torn_bytes(word),
+    }
+}
+
+/// `@stop NAME`, and `@stop NAME after WRITES torn TORN`
+fn stop_step(rest: Option<&[u8]>) -> Option<Step>
+    ensures { result ≡ stop_words (words_after rest.entry) }
+{
+    let (name, rest) = next_word(rest)?;
+    match next_word(rest) {
+        None => stop_now(name),
+        Some((after, rest)) => stop_later(name, after, rest),
+    }
+}
+
+/// The stop of the server that a word names.
+fn stop_now(name: &[u8]) -> Option<Step>
+    ensures { result ≡ stop_words (name.now ∷ []) }
+{
+    let server = read_name(name)?;
+    Some(Step::Stop { server })
+}
+
+/// The stop that two words and what is left of a line say.
+fn stop_later(name: &[u8], after: &[u8], rest: Option<&[u8]>) -> Option<Step>
+    ensures { result ≡ stop_words (name.now ∷ after.now ∷ words_after rest.entry) }
+{
+    let (writes, rest) = next_word(rest)?;
+    let (torn, rest) = next_word(rest)?;
+    let word = last_word(rest)?;
+    stop_after(name, after, writes, torn, word)
+}
+
+/// The stop after so many writes that five words say.
+fn stop_after(name: &[u8], after: &[u8], writes: &[u8], torn: &[u8], word: &[u8]) -> Option<Step>
+    ensures { result ≡ stop_after name.now after.now writes.now torn.now word.now }
+{
+    if after != b"after".as_slice() || torn != b"torn".as_slice() {
+        return None;
+    }
+    let server = read_name(name)?;
+    let writes = read_decimal(writes)?;
+    let torn = read_torn(word)?;
+    Some(Step::StopAfter {
+        server,
+        writes,
+        torn,
+    })
+}
+
+/// `@start NAME`
+fn start_step(rest: Option<&[u8]>) -> Option<Step>
+    ensures { result ≡ start_words (words_after rest.entry) }
+{
+    let server = read_name(last_word(rest)?)?;
+    Some(Step::Start { server })
+}
+
 /// The step that a line says, where it is one that is carried out.
 pub fn read_step(line: &[u8]) -> Option<Step>
     ensures { result ≡ step_words (words line.now) }
 {
     let (command, rest) = split_word(line);
-    match command {
-        b"@server" => server_step(rest),
-        b"@volume" => volume_step(rest),
-        b"@write" => write_step(rest),
-        b"@show" => show_step(rest),
-        _ => None,
+    if command == b"@server".as_slice() {
+        server_step(rest)
+    } else if command == b"@volume".as_slice() {
+        volume_step(rest)
+    } else if command == b"@write".as_slice() {
+        write_step(rest)
+    } else if command == b"@stop".as_slice() {
+        stop_step(rest)
+    } else if command == b"@start".as_slice() {
+        start_step(rest)
+    } else if command == b"@show".as_slice() {
+        show_step(rest)
+    } else {
+        None
     }
 }
 
