@@ -6,7 +6,8 @@ use Rattle.dr_config.specs.Table.{Table}
 use Rattle.dr_model.specs.declared.event.Event.{Event}
 use Rattle.dr_model.specs.declared.step.Name.{Name}
 use Rattle.dr_model.specs.declared.step.Step.{Step}
-use Rattle.dr_model.specs.declared.step.Step.TheVariants.{Server, Volume, Write, Show}
+use Rattle.dr_model.specs.declared.step.Step.TheVariants.{Server, Volume, Write, Show, Stop, StopAfter, Start}
+use Rattle.dr_model.specs.declared.step.TornWord.{TornWord}
 use Rattle.dr_model.specs.declared.said.Said.TheVariants.{NotBuilt}
 use Rattle.dr_model.specs.Answers.{answer}
 use Rattle.dr_model.specs.Control.{Control, World}
@@ -19,20 +20,25 @@ use Rattle.dr_top.specs.declared.host.Host.{Host}
 use Rattle.dr_top.proofs.StepLemmas.{said-here}
 
 refused : (k : Control) (contents : ℕ → ℕ → List ℕ) (line : ℕ) (step : Step) → ((n : Name) → step ≡ Server n → ⊥) → ((v : ℕ) (n : Name) (t : ℕ) → step ≡ Volume v n t → ⊥)
-    → ((v t o l : ℕ) (b : List ℕ) → step ≡ Write v t o l b → ⊥) → ((v t : ℕ) → step ≡ Show v t → ⊥) → plan_of k contents line step ≡ only_says NotBuilt
-refused k contents line (Server n) server volume write show = absurd (server n refl)
-refused k contents line (Volume v n t) server volume write show = absurd (volume v n t refl)
-refused k contents line (Write v t o l b) server volume write show = absurd (write v t o l b refl)
-refused k contents line (Show v t) server volume write show = absurd (show v t refl)
-refused k contents line _ server volume write show = refl
+    → ((v t o l : ℕ) (b : List ℕ) → step ≡ Write v t o l b → ⊥) → ((v t : ℕ) → step ≡ Show v t → ⊥)
+    → ((n : Name) → step ≡ Stop n → ⊥) → ((n : Name) (k : ℕ) (torn : TornWord) → step ≡ StopAfter n k torn → ⊥) → ((n : Name) → step ≡ Start n → ⊥) → plan_of k contents line step ≡ only_says NotBuilt
+refused k contents line (Server n) server volume write show stop arm start = absurd (server n refl)
+refused k contents line (Volume v n t) server volume write show stop arm start = absurd (volume v n t refl)
+refused k contents line (Write v t o l b) server volume write show stop arm start = absurd (write v t o l b refl)
+refused k contents line (Show v t) server volume write show stop arm start = absurd (show v t refl)
+refused k contents line (Stop n) server volume write show stop arm start = absurd (stop n refl)
+refused k contents line (StopAfter n x torn) server volume write show stop arm start = absurd (arm n x torn refl)
+refused k contents line (Start n) server volume write show stop arm start = absurd (start n refl)
+refused k contents line _ server volume write show stop arm start = refl
 
 -- a step that isn't built
 pub unbuilt : (s : PlantState) (t : Table) (h : Host) (before now : List Event) (line : ℕ) (step : Step) → ((n : Name) → step ≡ Server n → ⊥) → ((v : ℕ) (n : Name) (t : ℕ) → step ≡ Volume v n t → ⊥)
-    → ((v t o l : ℕ) (b : List ℕ) → step ≡ Write v t o l b → ⊥) → ((v t : ℕ) → step ≡ Show v t → ⊥) → now ≡ before ++ answer line NotBuilt ∷ []
+    → ((v t o l : ℕ) (b : List ℕ) → step ≡ Write v t o l b → ⊥) → ((v t : ℕ) → step ≡ Show v t → ⊥)
+    → ((n : Name) → step ≡ Stop n → ⊥) → ((n : Name) (k : ℕ) (torn : TornWord) → step ≡ StopAfter n k torn → ⊥) → ((n : Name) → step ≡ Start n → ⊥) → now ≡ before ++ answer line NotBuilt ∷ []
     → after_task (here s t h before) (record { line = line; step = Some step }) ≡ here s t h now
-unbuilt s t h before now line step server volume write show told =
+unbuilt s t h before now line step server volume write show stop arm start told =
     let w = here s t h before in
-    ap (after_plan w line) (refused w.control w.contents line step server volume write show) ∙ after_plan-says w line NotBuilt ∙ said-here s t h before now line NotBuilt told
+    ap (after_plan w line) (refused w.control w.contents line step server volume write show stop arm start) ∙ after_plan-says w line NotBuilt ∙ said-here s t h before now line NotBuilt told
 
 -- no task, and one
 pub after-none : (w : World) → after_tasks w [] ≡ w

@@ -10,6 +10,7 @@ use crate::define::{define_server, define_volume};
 use crate::host::Host;
 use crate::reader::{is_no_step, read_step};
 use crate::steps::{HostWrite, say, show, write};
+use crate::stops::{arm, start, stop};
 use dr_config::Config;
 use dr_ids::VolumeId;
 use dr_model::{Journal, Said, Step};
@@ -67,6 +68,13 @@ fn carry_step<P: Plant>(
         Step::Show { volume, track } => {
             show(plant, config, host, journal, line, VolumeId(volume), track);
         }
+        Step::Stop { server } => stop(plant, config, host, journal, line, &server),
+        Step::StopAfter {
+            server,
+            writes,
+            torn,
+        } => arm(plant, config, host, journal, line, &server, writes, torn),
+        Step::Start { server } => start(plant, config, host, journal, line, &server),
         _ => say(journal, line, Said::NotBuilt),
     }
     Ok(())

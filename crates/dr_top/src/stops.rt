@@ -231,12 +231,7 @@ fn landed_on(config: &Config, host: &Host, server: ServerId) -> Option<u32>
 }
 
 /// Acknowledges the write that had landed on a volume of the server, where there is one. Says what a start answers.
-fn acknowledge(
-    config: &Config,
-    host: &mut Host,
-    journal: &mut Journal,
-    server: ServerId,
-) -> Said
+fn acknowledge(config: &Config, host: &mut Host, journal: &mut Journal, server: ServerId) -> Said
     requires room { 2 ≤ journal.old.spare }
     ensures said { (s : PlantState) → result ≡ says_acked (plans.landed_on (here s config.now host.old journal.old.events).control server.0) }
     ensures act { (s : PlantState) → carry (here s config.now host.old journal.old.events) (acknowledge_on server.0 ∷ []) ≡ (here s config.now host.new journal.new.events, None) }
