@@ -231,6 +231,163 @@ fn refusals(rt: HostRuntime) -> Result<(), AllocError> {
     Ok(())
 }
 
+/// What the steps of a torn write come to: their answers, the status, and the events of the whole run.
+#[derive(Clone, Copy)]
+struct Outcome {
+    answers: &'static str,
+    status: u8,
+    events: usize,
+}
+
+const LOST: Outcome = Outcome {
+    answers: "5 E21 stopped A\n6 E05 server off A\n7 ok\n8 ok 41\n",
+    status: 1,
+    events: 16,
+};
+
+const LATE: Outcome = Outcome {
+    answers: "5 E21 stopped A\n6 E05 server off A\n7 ok acked w2\n8 ok 4142\n",
+    status: 1,
+    events: 17,
+};
+
+const WHOLE: Outcome = Outcome {
+    answers: "5 ok w2\n6 ok 4142\n7 ok\n8 ok 4142\n",
+    status: 0,
+    events: 16,
+};
+
+/// Writes twice to a track. A fuse cuts the second write short after so many device writes, and leaves `torn` in the
+/// block. Asserts what the write, the start and the shown track answer.
+fn torn_write(
+    rt: &impl Abort,
+    alloc: Global,
+    writes: u32,
+    torn: &str,
+    wanted: Outcome,
+) -> Result<(), AllocError> {
+    let script = format!(in alloc;
+        "@server A\n@volume 1000 A 1\n@write 1000 0 0 41\n@stop A after {writes} torn {torn}\n@write 1000 0 1 42\n@show 1000 0\n@start A\n@show 1000 0\n"
+    )?;
+    let Outcome {
+        answers,
+        status,
+        events,
+    } = wanted;
+    let printed = format!(in alloc; "1 ok\n2 ok\n3 ok w1\n4 ok\n{answers}")?;
+    runs(rt, alloc, &script, &printed, status, events)
+}
+
+/// Every device write of a host write is cut short with this in its block. The second write's record goes to slot 0,
+/// so that a torn gate takes it where the lowest bit of its first byte is 0.
+fn torn_writes(
+    rt: &impl Abort,
+    alloc: Global,
+    torn: &str,
+    at_gate: Outcome,
+) -> Result<(), AllocError> {
+    for writes in 0..6 {
+        torn_write(rt, alloc, writes, torn, LOST)?;
+    }
+    torn_write(rt, alloc, 6, torn, at_gate)?;
+    torn_write(rt, alloc, 7, torn, LATE)?;
+    torn_write(rt, alloc, 8, torn, WHOLE)?;
+    torn_write(rt, alloc, 9, torn, WHOLE)
+}
+
+#[test]
+fn torn_by_bytes(rt: HostRuntime) -> Result<(), AllocError> {
+    let alloc = rt.alloc();
+    torn_writes(&rt, alloc, "none", LOST)?;
+    torn_writes(&rt, alloc, "00", LATE)?;
+    torn_writes(&rt, alloc, "01", LOST)?;
+    torn_writes(&rt, alloc, "FF", LOST)
+}
+
+#[test]
+fn torn_by_blocks(rt: HostRuntime) -> Result<(), AllocError> {
+    let alloc = rt.alloc();
+    let mut rest = String::new(alloc);
+    for _ in 0..21 {
+        rest.push_str("FF0155")?;
+    }
+    let even = format!(in alloc; "FE{rest}")?;
+    let odd = format!(in alloc; "fd{rest}")?;
+    torn_writes(&rt, alloc, &even, LATE)?;
+    torn_writes(&rt, alloc, &odd, LOST)
+}
+
+#[test]
+fn stops(rt: HostRuntime) -> Result<(), AllocError> {
+    let alloc = rt.alloc();
+    // A first write, whose record goes to slot 1.
+    goes_on(
+        &rt,
+        alloc,
+        "@stop A after 6 torn 01\n@write 10AB 0 0 41\n@show 10AB 0\n@start A\n@show 10AB 0\n",
+        "3 ok\n4 E21 stopped A\n5 E05 server off A\n6 ok acked w1\n7 ok 41\n",
+        1,
+        14,
+    )?;
+    goes_on(
+        &rt,
+        alloc,
+        "@stop A after 6 torn 00\n@write 10AB 0 0 41\n@show 10AB 0\n@start A\n@show 10AB 0\n",
+        "3 ok\n4 E21 stopped A\n5 E05 server off A\n6 ok\n7 ok -\n",
+        1,
+        13,
+    )?;
+    // Twice each; a write waits where its server is off, and a later one isn't carried out then.
+    goes_on(
+        &rt,
+        alloc,
+        "@stop A\n@stop A\n@write 10AB 0 0 41\n@start A\n@start A\n@show 10AB 0\n@write 10AB 0 0 42\n",
+        "3 ok\n4 ok\n5 E05 server off A\n6 ok\n7 ok\n8 ok -\n9 E24 not built\n",
+        1,
+        15,
+    )?;
+    Ok(())
+}
+
+#[test]
+fn fuses(rt: HostRuntime) -> Result<(), AllocError> {
+    let alloc = rt.alloc();
+    // A fuse counts on over steps, stops and starts; one that stands at 0 goes with a start.
+    goes_on(
+        &rt,
+        alloc,
+        "@stop A after 9 torn none\n@stop A\n@start A\n@write 10AB 0 0 41\n@write 10AB 1 0 42\n@start A\n@write 10AB 1 0 43\n",
+        "3 ok\n4 ok\n5 ok\n6 ok w1\n7 E21 stopped A\n8 ok\n9 E24 not built\n",
+        1,
+        18,
+    )?;
+    // A later fuse takes the place of an earlier one, also where the server is off.
+    goes_on(
+        &rt,
+        alloc,
+        "@stop A after 0 torn none\n@stop A after 100 torn none\n@write 10AB 0 0 41\n@stop A\n@stop A after 0 torn 00\n@start A\n@write 10AB 0 0 42\n",
+        "3 ok\n4 ok\n5 ok w1\n6 ok\n7 ok\n8 ok\n9 ok w2\n",
+        0,
+        17,
+    )?;
+    Ok(())
+}
+
+#[test]
+fn stop_words(rt: HostRuntime) -> Result<(), AllocError> {
+    let alloc = rt.alloc();
+    // A server that isn't defined, and words that are no stop or start.
+    goes_on(
+        &rt,
+        alloc,
+        "@stop B\n@start B\n@stop B after 0 torn none\n@stop A after 4294967296 torn none\n@stop A after 1 torn 0\n@stop A after 1 torn 0G\n@stop A after 1 torn 0000\n@stop A after 1 torn None\n@stop A After 1 torn none\n@stop A after 1 none\n@stop  A\n@start\n@start A A\n@stop A after 4294967295 torn aB\n",
+        "3 E24 not built\n4 E24 not built\n5 E24 not built\n6 E24 not built\n7 E24 not built\n8 E24 not built\n9 E24 not built\n10 E24 not built\n11 E24 not built\n12 E24 not built\n13 E24 not built\n14 E24 not built\n15 E24 not built\n16 ok\n",
+        1,
+        18,
+    )?;
+    Ok(())
+}
+
 /// A write of a whole track, and one of a byte more.
 #[test]
 fn whole_track(rt: HostRuntime) -> Result<(), AllocError> {
