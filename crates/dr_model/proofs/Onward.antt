@@ -1,5 +1,6 @@
 -- What acts and steps leave of a world: the writes issued so far, and the journal, which only grows.
 use Rattle.std.proofs.Common.{ℕ, ◌≡◌, ◌≤◌, ◌+◌, List, [], ◌∷◌, ◌++◌, length, refl, ap, ◌∙◌, sym, arith, Bool, true, false, Option, Some, None, append_assoc, subst}
+use Rattle.std.proofs.lemmas.List.{append-nil}
 use Rattle.dr_model.specs.declared.event.Event.{Event}
 use Rattle.dr_model.specs.declared.event.Event.TheVariants.{Ack, Stopped}
 use Rattle.dr_model.specs.declared.said.Said.{Said}
@@ -9,7 +10,6 @@ use Rattle.dr_model.specs.Moves.{Move, Land, told, told_in_stop, landed}
 use Rattle.dr_model.specs.Carry.{Act, Make, Redo, Acknowledge, act, act_of, carry, turn, Turn, Deferred, continue, follow}
 use Rattle.dr_model.specs.Plans.{Plan, plan}
 use Rattle.dr_model.specs.Runs.{Task, begun, carried_out, answered, after_plan, after_task, after_tasks, run}
-use Rattle.dr_model.proofs.PlanLemmas.{append_nil}
 use Rattle.dr_model.proofs.Turns.{turn-by, turn_by, server_of}
 use Rattle.dr_model.proofs.Starts.{redo-by, redo_by, server_at}
 use Rattle.dr_model.proofs.PlanCases.{OfEach, of_plan}
@@ -20,7 +20,7 @@ pub record Onward (w u : World) : Type 0 where
   pub events : (es : List Event) × (u.events ≡ w.events ++ es)
 
 Onward-same : (w : World) → Onward w w
-Onward-same w = record { issued = refl; events = ([], sym (append_nil w.events)) }
+Onward-same w = record { issued = refl; events = ([], sym (append-nil w.events)) }
 
 Onward-then : (w u v : World) → Onward w u → Onward u v → Onward w v
 Onward-then w u v p q = record {
@@ -40,7 +40,7 @@ turn-onward w m = subst (λ (t : Turn). Onward w t.0) (sym (turn-by w m)) (turn_
 
 redo_by-onward : (w : World) (v : ℕ) (on passes : Bool) → Onward w (redo_by w v on passes).0
 redo_by-onward w v false passes = Onward-same w
-redo_by-onward w v true true = record { issued = refl; events = ([], sym (append_nil w.events)) }
+redo_by-onward w v true true = record { issued = refl; events = ([], sym (append-nil w.events)) }
 redo_by-onward w v true false = record { issued = refl; events = (Stopped (server_at w v) 0 ∷ [], refl) }
 
 act-onward : (w : World) (a : Act) → Onward w (act w a).0
@@ -99,7 +99,7 @@ after_task-grows w t =
 
 pub after_tasks-grows : (w : World) (tasks : List Task) → (es : List Event) × ((after_tasks w tasks).events ≡ w.events ++ es)
 unfolding after_tasks
-after_tasks-grows w [] = ([], sym (append_nil w.events))
+after_tasks-grows w [] = ([], sym (append-nil w.events))
 after_tasks-grows w (t ∷ tasks) =
     let first : (es : List Event) × ((after_task w t).events ≡ w.events ++ es) = after_task-grows w t in
     let rest : (es : List Event) × ((after_tasks (after_task w t) tasks).events ≡ (after_task w t).events ++ es) = after_tasks-grows (after_task w t) tasks in

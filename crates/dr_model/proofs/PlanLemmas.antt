@@ -1,5 +1,6 @@
 -- Plans carried out: with no act, with one move, and with a list of acts.
 use Rattle.std.proofs.Common.{ℕ, ◌≡◌, List, [], ◌∷◌, ◌++◌, refl, ap, ◌∙◌, Option, Some, None}
+use Rattle.std.proofs.lemmas.List.{append-nil}
 use Rattle.dr_model.specs.declared.event.Event.{Event}
 use Rattle.dr_model.specs.declared.said.Said.{Said}
 use Rattle.dr_model.specs.declared.said.Said.TheVariants.{StoppedIn}
@@ -8,10 +9,6 @@ use Rattle.dr_model.specs.Moves.{Move}
 use Rattle.dr_model.specs.Carry.{act, act_of, carry, turn, Turn, Deferred, continue, follow, now, Make}
 use Rattle.dr_model.specs.Plans.{Plan, only_says, none_follow}
 use Rattle.dr_model.specs.Runs.{after_plan, begun, carried_out, said, answered}
-
-pub append_nil : {X : Type 0} (xs : List X) → xs ++ [] ≡ xs
-append_nil [] = refl
-append_nil (x ∷ xs) = ap (λ ys. x ∷ ys) (append_nil xs)
 
 -- nothing to carry
 pub carry-none : (w : World) → carry w [] ≡ (w, None)
@@ -72,7 +69,7 @@ after_plan-still w line first told says = after_plan-acts w line first told [] s
 -- an answer alone
 pub after_plan-says : (w : World) (line : ℕ) (a : Said) → after_plan w line (only_says a) ≡ said w line a
 after_plan-says w line a =
-    after_plan-still w line (λ k. k) [] a ∙ ap (λ es. said (record w { events = es }) line a) (append_nil w.events)
+    after_plan-still w line (λ k. k) [] a ∙ ap (λ es. said (record w { events = es }) line a) (append-nil w.events)
 
 -- a plan of one move that ran to its end
 pub after_plan-goes : (w u : World) (line : ℕ) (first : Control → Control) (told : List Event) (m : Move) (says : Said)

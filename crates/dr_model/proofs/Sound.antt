@@ -1,5 +1,6 @@
 -- What holds of every world of a run: each track contains the image of the host writes that it holds.
 use Rattle.std.proofs.Common.{ℕ, ◌≡◌, ◌≢◌, ◌<◌, ◌+◌, ◌⊎◌, inl, inr, List, [], ◌∷◌, ◌++◌, refl, ap, ◌∙◌, sym, arith, Bool, true, false, cond, nat_eq, Some, rules}
+use Rattle.std.proofs.lemmas.List.{append-nil}
 use Rattle.std.proofs.lemmas.Bool.Decides.{nat_tests, eqb_tells}
 use Rattle.std.specs.Cmp.{unsigned_tied}
 use Rattle.std.specs.FinSet.{contains, remove, members}
@@ -31,10 +32,6 @@ pub record Sound (w : World) : Type 0 where
   pub fresh : (v t : ℕ) → is_volume w.control v ≡ false → w.contents v t ≡ zeros
   pub numbers : (v t : ℕ) → Below (w.control.issued + 1) ((histories w.events).now v t)
   pub waits : OneWaits w
-
-append_nil : {X : Type 0} (xs : List X) → xs ++ [] ≡ xs
-append_nil [] = refl
-append_nil (x ∷ xs) = ap (λ ys. x ∷ ys) (append_nil xs)
 
 pub at2_same : {X : Type 0} (f : ℕ → ℕ → X) (j k : ℕ) (x : X) → at2 f j k x j k ≡ x
 at2_same f j k x =
@@ -97,7 +94,7 @@ module _ (w : World) (sound : Sound w) (v t n : ℕ) (none : waiting w.control.p
       → landed_tracks w v t n next y ≡ image (histories events).write ((histories events).now v y ++ waiting pending v y)
   images_here y events pending adds (inl p) =
       carried_here next t _ (w.contents v) y p.1
-      ∙ ap (λ bytes. with_write (histories w.events).write bytes n) (sound.images v t ∙ ap (λ more. image (histories w.events).write ((histories w.events).now v t ++ more)) none ∙ ap (image (histories w.events).write) (append_nil ((histories w.events).now v t)))
+      ∙ ap (λ bytes. with_write (histories w.events).write bytes n) (sound.images v t ∙ ap (λ more. image (histories w.events).write ((histories w.events).now v t ++ more)) none ∙ ap (image (histories w.events).write) (append-nil ((histories w.events).now v t)))
       ∙ sym (image-push (histories w.events).write ((histories w.events).now v t) n)
       ∙ ap (image (histories w.events).write) (sym adds.here)
       ∙ ap (λ write. image write ((histories events).now v t ++ waiting pending v t)) (sym adds.write)

@@ -1,6 +1,7 @@
 -- A sound world stays sound as a server starts: its volumes' staged tracks are written to their places, and the write
 -- that landed is acknowledged.
 use Rattle.std.proofs.Common.{ℕ, ◌≡◌, ◌≢◌, ◌⊎◌, inl, inr, List, [], ◌∷◌, ◌++◌, map, filter, refl, ap, ◌∙◌, sym, Bool, true, false, not, cond, Option, Some, None, subst}
+use Rattle.std.proofs.lemmas.List.{append-nil}
 use Rattle.std.proofs.lemmas.Bool.Decides.{eqb_tells}
 use Rattle.std.specs.Prelude.{option_map}
 use Rattle.std.specs.List.{find}
@@ -14,7 +15,6 @@ use Rattle.dr_model.specs.Carry.{Act, Redo, Acknowledge, act, act_of, carry, red
 use Rattle.dr_model.specs.Plans.{redo_on, acknowledge_on, has_landed}
 use Rattle.dr_model.specs.Fits.{waiting, due}
 use Rattle.dr_model.proofs.Images.{histories-push}
-use Rattle.dr_model.proofs.PlanLemmas.{append_nil}
 use Rattle.dr_model.proofs.Sound.{Sound, WaitsWell, OneWaits, Same, at2_same}
 use Rattle.dr_model.proofs.PlanCases.{both_left}
 use Rattle.dr_model.proofs.Turns.{Sound-same, same_number, held, held_lists, held_elsewhere, acked, acked_numbers, waits_here, waits_elsewhere}
@@ -79,7 +79,7 @@ module _ (w : World) (sound : Sound w) (p : Pending) (one : w.control.pending �
   held_other : (x y : ℕ) → (x ≢ p.volume) ⊎ (y ≢ p.track) → (histories w.events).now x y ++ waiting (p ∷ []) x y ≡ held_lists w p well x y
   held_other x y ne =
       ap (λ more. (histories w.events).now x y ++ more) (waits_elsewhere p x y ne)
-      ∙ append_nil ((histories w.events).now x y)
+      ∙ append-nil ((histories w.events).now x y)
       ∙ sym (held_elsewhere w p well x y ne)
 
   held_at : (x y : ℕ) → Same x p.volume → Same y p.track → (histories w.events).now x y ++ waiting (p ∷ []) x y ≡ held_lists w p well x y
@@ -97,7 +97,7 @@ module _ (w : World) (sound : Sound w) (p : Pending) (one : w.control.pending �
   acknowledged_images x y =
       sound.images x y
       ∙ ap (λ ps. image (histories w.events).write ((histories w.events).now x y ++ waiting ps x y)) one
-      ∙ ap (image (histories w.events).write) (held_at x y (eqb_tells x p.volume) (eqb_tells y p.track) ∙ sym (append_nil (held_lists w p well x y)))
+      ∙ ap (image (histories w.events).write) (held_at x y (eqb_tells x p.volume) (eqb_tells y p.track) ∙ sym (append-nil (held_lists w p well x y)))
       ∙ ap (λ (h : Histories). image h.write (h.now x y ++ [])) (sym (acked w p well))
       ∙ ap (λ ps. image (histories (acknowledged w p.w).events).write ((histories (acknowledged w p.w).events).now x y ++ waiting ps x y)) (sym none_left)
 

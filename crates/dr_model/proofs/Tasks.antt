@@ -1,5 +1,6 @@
 -- Each world of a run is sound.
 use Rattle.std.proofs.Common.{ℕ, ◌≡◌, ◌+◌, inl, inr, List, [], ◌∷◌, ◌++◌, take, length, refl, ap, ◌∙◌, sym, arith, Bool, true, false, cond, nat_eq, Option, Some, None, subst}
+use Rattle.std.proofs.lemmas.List.{append-nil}
 use Rattle.std.proofs.lemmas.Bool.Decides.{eqb_tells}
 use Rattle.std.specs.FinSet.{contains}
 use Rattle.dr_model.specs.declared.event.Event.TheVariants.{Server as ServerDefined, Volume as VolumeDefined, Issue, Stopped, Started, Shown}
@@ -16,7 +17,7 @@ use Rattle.dr_model.specs.Plans.{Plan, plan, only_says, none_follow, is_volume, 
 use Rattle.dr_model.specs.Runs.{Task, begun, carried_out, said, answered, after_plan, after_task, after_tasks, run}
 use Rattle.dr_model.specs.Fits.{waiting, due}
 use Rattle.dr_model.proofs.Images.{Below, Below-append, Below-more, at_same, histories-push, image-issue}
-use Rattle.dr_model.proofs.PlanLemmas.{append_nil, carry-none, carry-one, follow-none}
+use Rattle.dr_model.proofs.PlanLemmas.{carry-none, carry-one, follow-none}
 use Rattle.dr_model.proofs.Sound.{Sound, WaitsWell, OneWaits, Same}
 use Rattle.dr_model.proofs.Turns.{Sound-same, turn-sound, issued_write}
 use Rattle.dr_model.proofs.Starts.{Sound-starts}
@@ -176,7 +177,7 @@ module _ (w : World) (sound : Sound w) (v t offset len : ℕ) (bytes : List ℕ)
 -- each step leaves a sound world
 Sound-each : (w : World) (line : ℕ) → Sound w → OfEach (λ p. Sound (carried_out w p).0) w.control w.contents line
 Sound-each w line sound = record {
-  refused = λ a. Sound-still (begun w (only_says a)) (Sound-same w w.control.servers w.control.on w.control.fuse (w.events ++ []) (ap histories (append_nil w.events)) sound);
+  refused = λ a. Sound-still (begun w (only_says a)) (Sound-same w w.control.servers w.control.on w.control.fuse (w.events ++ []) (ap histories (append-nil w.events)) sound);
   server = λ name. Sound-still (begun w (server_done w.control name))
       (Sound-same w (w.control.servers ++ name_bytes name ∷ []) w.control.on w.control.fuse _ (histories-push w.events (ServerDefined (length w.control.servers) name.len name.bytes)) sound);
   volume = λ v server tracks first. Sound-still (begun w (volume_done v server tracks)) (Sound-volume w sound v server tracks first);
@@ -185,7 +186,7 @@ Sound-each w line sound = record {
       (Sound-same w w.control.servers w.control.on w.control.fuse _ (histories-push w.events (Shown line v t (w.contents v t))) sound);
   stop = λ s. Sound-still (begun w (stop_done s)) (Sound-same w w.control.servers (at w.control.on s false) w.control.fuse _ (histories-push w.events (Stopped s 0)) sound);
   arm = λ writes torn s. Sound-still (begun w (arm_done writes torn s))
-      (Sound-same w w.control.servers w.control.on _ (w.events ++ []) (ap histories (append_nil w.events)) sound);
+      (Sound-same w w.control.servers w.control.on _ (w.events ++ []) (ap histories (append-nil w.events)) sound);
   start = λ s.
       let begins : World = begun w (start_done w.control s) in
       let acts : List Deferred = (start_done w.control s).acts in

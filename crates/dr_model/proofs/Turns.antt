@@ -1,5 +1,6 @@
 -- A sound world stays sound as its one pending write lands, or is cut short.
 use Rattle.std.proofs.Common.{ℕ, ◌≡◌, ◌≢◌, ◌+◌, ◌⊎◌, inl, inr, List, [], ◌∷◌, ◌++◌, refl, ap, ◌∙◌, sym, arith, Bool, true, false, not, ◌&&◌, cond, nat_eq, Option, Some, None, subst}
+use Rattle.std.proofs.lemmas.List.{append-nil}
 use Rattle.std.proofs.lemmas.Bool.Decides.{nat_tests, eqb_tells}
 use Rattle.std.specs.FinSet.{contains}
 use Rattle.dr_model.specs.declared.event.Event.{Event}
@@ -14,7 +15,6 @@ use Rattle.dr_model.specs.Carry.{turn, update, Turn, Ended, ended, spent, off, p
 use Rattle.dr_model.specs.Plans.{is_volume}
 use Rattle.dr_model.specs.Fits.{waiting}
 use Rattle.dr_model.proofs.Images.{Below, Below-append, at_same, at_other, histories-push}
-use Rattle.dr_model.proofs.PlanLemmas.{append_nil}
 use Rattle.dr_model.proofs.Sound.{Sound, WaitsWell, OneWaits, Adds, Same, landed_tracks, images_at, at2_same, at2_other_row, at2_other_place, not_blank}
 
 -- write n as it was issued for track t of volume v, and as a stop leaves it where it landed
@@ -193,11 +193,11 @@ module _ (w : World) (n v t : ℕ) (sound : Sound w) (one : w.control.pending �
 
   -- acknowledged
   acked_now : (x y : ℕ) → (histories (w.events ++ Ack n ∷ [])).now x y ++ [] ≡ held_lists w (issued_write n v t) well x y
-  acked_now x y = append_nil ((histories (w.events ++ Ack n ∷ [])).now x y) ∙ ap (λ (h : Histories). h.now x y) (acked w (issued_write n v t) well)
+  acked_now x y = append-nil ((histories (w.events ++ Ack n ∷ [])).now x y) ∙ ap (λ (h : Histories). h.now x y) (acked w (issued_write n v t) well)
 
   not_waiting : (x y : ℕ) → (histories w.events).now x y ≡ (histories w.events).now x y ++ waiting w.control.pending x y
   not_waiting x y =
-      sym (append_nil ((histories w.events).now x y)) ∙ ap (λ ps. (histories w.events).now x y ++ waiting ps x y) (sym one)
+      sym (append-nil ((histories w.events).now x y)) ∙ ap (λ ps. (histories w.events).now x y ++ waiting ps x y) (sym one)
 
   Adds-acked : Adds w (w.events ++ Ack n ∷ []) [] v t n
   Adds-acked = record {
@@ -221,7 +221,7 @@ module _ (w : World) (n v t : ℕ) (sound : Sound w) (one : w.control.pending �
     elsewhere = λ x y ne.
         ap (λ (h : Histories). h.now x y ++ waiting (landed_write n v t ∷ []) x y) (stopped s k)
         ∙ ap (λ more. (histories w.events).now x y ++ more) (waits_elsewhere (landed_write n v t) x y ne)
-        ∙ append_nil ((histories w.events).now x y) ∙ not_waiting x y;
+        ∙ append-nil ((histories w.events).now x y) ∙ not_waiting x y;
   }
 
   Sound-stopped : (on : ℕ → Bool) (fuse : ℕ → Option Fuse) (s k : ℕ) → Sound (landed_world w n v t on fuse (landed_write n v t ∷ []) (w.events ++ Stopped s k ∷ []))

@@ -14,8 +14,8 @@ pub mod Runs
 pub mod Text
 pub mod Fits
 pub mod Limits
-pub mod Lines
 pub mod LineWords
+pub mod Lines
 pub mod LineTable
 pub mod LineSteps
 pub mod Grammar

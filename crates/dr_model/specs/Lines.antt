@@ -1,19 +1,15 @@
 -- Which lines are steps: a script is cut into lines, and a line into words at single spaces.
-use Rattle.std.specs.Prelude.{ℕ, ◌+◌, ◌-◌, ◌*◌, Bool, false, ◌&&◌, ◌||◌, List, [], ◌∷◌, ◌++◌, length, replicate, nat_eq, nat_le, Option, Some, None, option_and_then, codes, if◌then◌else◌, ◌^◌}
+use Rattle.std.specs.Prelude.{ℕ, ◌+◌, ◌-◌, ◌*◌, Bool, false, ◌&&◌, ◌||◌, List, [], ◌∷◌, ◌++◌, length, replicate, nat_eq, nat_le, Option, Some, None, codes, if◌then◌else◌}
 use Rattle.std.specs.List.{slice_split, list_all}
 use Rattle.std.specs.Str.{bytes_eq}
 use Rattle.std.specs.Str.Lines.{lines}
 use Rattle.dr_ids.specs.Spelling.{digit_in, volume_word, number_word}
-use Rattle.dr_model.specs.declared.step.Name.{Name}
 use Rattle.dr_model.specs.declared.step.TornWord.{TornWord}
 use Rattle.dr_model.specs.declared.step.TornWord.TheVariants.{Same, Fill, Bytes}
 use Rattle.dr_model.specs.declared.step.Step.{Step}
 use Rattle.dr_model.specs.declared.step.Step.TheVariants.{Server, Volume, Stop, StopAfter, Start, Write, Show}
+use Rattle.dr_model.specs.LineWords.{◌>>=◌, is_gap, name_word, decimal_word}
 use Rattle.dr_model.specs.Runs.{Task}
-
-infixl 10 ◌>>=◌
-abbrev pub ◌>>=◌ : {A B : Type 0} → Option A → (A → Option B) → Option B
-o >>= f = option_and_then f o
 
 -- the words of a line: what stands between its spaces
 abbrev pub is_space : ℕ → Bool
@@ -21,31 +17,6 @@ is_space b = nat_eq b 32
 
 abbrev pub words : List ℕ → List (List ℕ)
 words line = slice_split is_space line
-
--- letters, digits, and what may stand in a name beside them: `.`, `-`, `_`
-abbrev pub is_letter : ℕ → Bool
-is_letter b = (nat_le 65 b && nat_le b 90) || (nat_le 97 b && nat_le b 122)
-
-abbrev pub is_name_byte : ℕ → Bool
-is_name_byte b = is_letter b || (nat_le 48 b && nat_le b 57) || nat_eq b 46 || nat_eq b 45 || nat_eq b 95
-
-abbrev pub begins_with_letter : List ℕ → Bool
-begins_with_letter [] = false
-begins_with_letter (b ∷ bs) = is_letter b
-
--- a name has 1 to 24 such bytes, the first a letter
-abbrev pub is_name : List ℕ → Bool
-is_name word = nat_le (length word) 24 && begins_with_letter word && list_all is_name_byte word
-
-abbrev pub name_of : List ℕ → Name
-name_of word = record { len = length word; bytes = word ++ replicate (24 - length word) 0 }
-
-abbrev pub name_word : List ℕ → Option Name
-name_word word = if is_name word then Some (name_of word) else None
-
--- a decimal number below 2^32
-abbrev pub decimal_word : List ℕ → Option ℕ
-decimal_word word = number_word (2 ^ 32 - 1) word
 
 -- bytes in hexadecimal, two digits each
 abbrev pub hex_bytes : List ℕ → Option (List ℕ)
@@ -123,9 +94,6 @@ step_words (command ∷ rest) =
 abbrev pub is_comment : List ℕ → Bool
 is_comment [] = false
 is_comment (b ∷ bs) = nat_eq b 35
-
-abbrev pub is_gap : ℕ → Bool
-is_gap b = nat_eq b 32 || nat_eq b 9
 
 abbrev pub is_no_step : List ℕ → Bool
 is_no_step line = is_comment line || (nat_le (length line) 1024 && list_all is_gap line)

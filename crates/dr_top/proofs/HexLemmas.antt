@@ -5,7 +5,8 @@ use Rattle.std.proofs.lemmas.List.{take_more_set, drop-replicate, drop-drop, dro
 use Rattle.std.specs.Option.{option_map}
 use Rattle.dr_ids.specs.Spelling.{digit_in}
 use Rattle.dr_model.specs.Contents.{zeros}
-use Rattle.dr_model.specs.Lines.{hex_bytes, ◌>>=◌, is_in_track, write_of}
+use Rattle.dr_model.specs.Lines.{hex_bytes, is_in_track, write_of}
+use Rattle.dr_model.specs.LineWords.{◌>>=◌}
 use Rattle.dr_model.specs.declared.step.Step.TheVariants.{Write}
 use Rattle.dr_top.specs.Words.{pair_of}
 use Rattle.dr_top.specs.Pieces.{piece_of}

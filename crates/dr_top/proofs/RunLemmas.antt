@@ -1,5 +1,6 @@
 -- Lines carried out one after another, and what was printed.
 use Rattle.std.proofs.Common.{ℕ, ◌≡◌, ◌≤◌, ◌+◌, List, [], ◌∷◌, ◌++◌, take, drop, length, refl, ap, ◌∙◌, sym, arith, append_assoc, true, Some, Option, Result, Ok, Err}
+use Rattle.std.proofs.lemmas.List.{append-nil}
 use Rattle.std.specs.Prelude.{OnOk, OnErr, ◌==◌}
 use Rattle.std.proofs.lemmas.Bool.Decides.{nat_tests}
 use Rattle.std.specs.List.{fold}
@@ -12,7 +13,6 @@ use Rattle.dr_model.specs.Control.{World, nothing}
 use Rattle.dr_model.specs.Lines.{tasks, tasks_of, tasks_from}
 use Rattle.dr_model.specs.Runs.{Task, after_task, after_tasks, run}
 use Rattle.dr_model.specs.Text.{text, text_from, heard, untold}
-use Rattle.dr_model.proofs.PlanLemmas.{append_nil}
 use Rattle.dr_model.proofs.Texts.{text-append}
 use Rattle.dr_model.proofs.Onward.{after_tasks-grows}
 use Rattle.dr_top.specs.Given.{Gave, GavePart}
@@ -59,7 +59,7 @@ module _ {K : Type 0} (written : K → Option (List ℕ)) (first old new : K) (b
 
 -- one line more
 tasks-more : (m : ℕ) (ls : List (List ℕ)) (line : List ℕ) → tasks_from m (ls ++ line ∷ []) ≡ tasks_from m ls ++ tasks_of (m + length ls) line
-tasks-more m [] line = append_nil (tasks_of m line) ∙ ap (λ n. tasks_of n line) (omega arith)
+tasks-more m [] line = append-nil (tasks_of m line) ∙ ap (λ n. tasks_of n line) (omega arith)
 tasks-more m (l ∷ ls) line =
     ap (λ ts. tasks_of m l ++ ts) (tasks-more (m + 1) ls line)
     ∙ sym (append_assoc (tasks_of m l) (tasks_from (m + 1) ls) (tasks_of ((m + 1) + length ls) line))

@@ -3,7 +3,7 @@ use Rattle.std.proofs.Common.{ℕ, ◌≡◌, ◌≢◌, ◌<◌, ◌≤◌, ◌
 use Rattle.std.specs.Prelude.{filter, is_some, option_map}
 use Rattle.std.specs.List.{find}
 use Rattle.std.specs.Option.{option_map_or}
-use Rattle.std.proofs.lemmas.Bool.Decides.{nat_tests, eqb_tells, Decides-eqb}
+use Rattle.std.proofs.lemmas.Bool.Decides.{eqb_tells, Decides-eqb}
 use Rattle.std.proofs.Math.Numerals.{suc-eq-add-one}
 use Rattle.std.proofs.lemmas.List.{drop_all}
 use Rattle.dr_plant.specs.State.{PlantState, started, started_read}
@@ -15,7 +15,7 @@ use Rattle.dr_config.proofs.Lookups.{entry-at-place}
 use Rattle.dr_model.specs.declared.event.Event.{Event}
 use Rattle.dr_model.specs.declared.event.Event.TheVariants.{Ack, Stopped, Started}
 use Rattle.dr_model.specs.declared.said.Said.{Said}
-use Rattle.dr_model.specs.declared.said.Said.TheVariants.{Done, Acked, StoppedIn}
+use Rattle.dr_model.specs.declared.said.Said.TheVariants.{Done, StoppedIn}
 use Rattle.dr_model.specs.Control.{Control, World}
 use Rattle.dr_model.specs.Control as control
 use Rattle.dr_model.specs.Moves.{is_other}
@@ -25,9 +25,9 @@ use Rattle.dr_model.specs.Runs.{after_plan, said, answered}
 use Rattle.dr_model.specs.Tables.{at}
 use Rattle.dr_model.specs.Answers.{answer}
 use Rattle.dr_model.proofs.PlanLemmas.{carry-none, carry-first, carry-append, acting, after_plan-acts, after_plan-says}
-use Rattle.dr_volume.specs.View.{Rest, world, volume_seen, volume_at, ids_of, device_of, IsSettled, TracksSettled, ReadsPass}
+use Rattle.dr_volume.specs.View.{volume_seen, volume_at, ids_of, device_of, IsSettled, TracksSettled, ReadsPass}
 use Rattle.dr_volume.specs.Update.{IsAsBefore}
-use Rattle.dr_top.specs.Here.{here, rest_of, waiting_seen, IsReady}
+use Rattle.dr_top.specs.Here.{here, waiting_seen, IsReady}
 use Rattle.dr_top.specs.Located.{has_owner}
 use Rattle.dr_top.specs.Starting.{IsLater, IsStarting, redo_from}
 use Rattle.dr_top.specs.declared.host.Host.{Host}

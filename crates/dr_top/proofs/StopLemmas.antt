@@ -1,7 +1,7 @@
 -- What stopping a server, arming its fuse and starting it come to, over what plant, configuration, writes and journal
 -- show.
-use Rattle.std.proofs.Common.{ℕ, ◌≡◌, ◌≢◌, ◌<◌, List, [], ◌∷◌, ◌++◌, refl, ap, ◌∙◌, sym, arith, Bool, true, false, cond, nat_eq, nat_lt, Option, Some, None}
-use Rattle.std.proofs.lemmas.Bool.Decides.{nat_tests, eqb_tells}
+use Rattle.std.proofs.Common.{ℕ, ◌≡◌, ◌<◌, List, [], ◌∷◌, ◌++◌, refl, ap, ◌∙◌, sym, true, false, cond, nat_eq, Option, Some, None}
+use Rattle.std.proofs.lemmas.List.{append-nil}
 use Rattle.dr_plant.specs.State.{PlantState, off, started, started_write, passes_write}
 use Rattle.dr_plant.specs.State as plant
 use Rattle.dr_plant.specs.declared.plant.WriteFuse.{WriteFuse}
@@ -9,17 +9,16 @@ use Rattle.dr_plant.specs.declared.plant.Torn.{Torn}
 use Rattle.dr_config.specs.Table.{Table, server_named}
 use Rattle.dr_model.specs.declared.event.Event.{Event}
 use Rattle.dr_model.specs.declared.event.Event.TheVariants.{Stopped, Started}
-use Rattle.dr_model.specs.declared.said.Said.{Said}
 use Rattle.dr_model.specs.declared.said.Said.TheVariants.{NotBuilt, Done}
 use Rattle.dr_model.specs.declared.step.Name.{Name}
 use Rattle.dr_model.specs.declared.step.TornWord.{TornWord}
 use Rattle.dr_model.specs.Tables.{at}
 use Rattle.dr_model.specs.Answers.{answer}
-use Rattle.dr_model.specs.Control.{Control, Fuse, World}
+use Rattle.dr_model.specs.Control.{Fuse, World}
 use Rattle.dr_model.specs.Plans.{Plan, only_says, name_bytes, stop_on, arm_on, torn_bytes, fuse_at_start}
 use Rattle.dr_model.specs.Runs.{after_plan, said}
-use Rattle.dr_model.proofs.PlanLemmas.{append_nil, acting, after_plan-says, after_plan-still}
-use Rattle.dr_volume.specs.View.{on_seen, fuses_seen, fuse_seen, torn_seen}
+use Rattle.dr_model.proofs.PlanLemmas.{acting, after_plan-says, after_plan-still}
+use Rattle.dr_volume.specs.View.{fuses_seen, fuse_seen, torn_seen}
 use Rattle.dr_volume.proofs.WorldLaws.{on-at, on-seen, fuses-at, fuse-seen}
 use Rattle.dr_top.specs.Here.{here}
 use Rattle.dr_top.specs.declared.host.Host.{Host}
@@ -75,7 +74,7 @@ module _ (s : PlantState) (t : Table) (h : Host) (ev : List Event) (line : ℕ) 
   armed-now server writes word torn u now low same is says =
       let f : WriteFuse = record { after = writes; torn = torn } in
       after_plan-still w line (λ k. record k { fuse = at k.fuse server (Some (record { after = writes; torn = torn_bytes word })) }) [] Done
-      ∙ ap (λ es. said (record w { control = record w.control { fuse = at w.control.fuse server (Some (record { after = writes; torn = torn_bytes word })) }; events = es }) line Done) (append_nil ev)
+      ∙ ap (λ es. said (record w { control = record w.control { fuse = at w.control.fuse server (Some (record { after = writes; torn = torn_bytes word })) }; events = es }) line Done) (append-nil ev)
       ∙ ap (λ x. said (record w { control = record w.control { fuse = at w.control.fuse server (Some (let g : Fuse = record { after = writes; torn = x } in g)) } }) line Done) (sym same)
       ∙ (λ i. said (record w { control = record w.control { fuse = sym (fuses-at s (fused f server) server (Some f) low refl) i } }) line Done)
       ∙ ap (λ x. said (here x t h ev) line Done) (sym is)

@@ -8,7 +8,8 @@ use Rattle.dr_ids.specs.Spelling.{volume_word, number_word}
 use Rattle.dr_model.specs.declared.step.Name.{Name}
 use Rattle.dr_model.specs.declared.step.Step.{Step}
 use Rattle.dr_model.specs.declared.step.Step.TheVariants.{Server, Volume, Stop, StopAfter, Start, Show}
-use Rattle.dr_model.specs.Lines.{◌>>=◌, is_name, is_name_byte, begins_with_letter, name_of, name_word, decimal_word, hex_bytes, is_in_track, write_of, torn_word, server_words, volume_words, write_words, stop_after, stop_words, start_words, show_words, step_words}
+use Rattle.dr_model.specs.Lines.{hex_bytes, is_in_track, write_of, torn_word, server_words, volume_words, write_words, stop_after, stop_words, start_words, show_words, step_words}
+use Rattle.dr_model.specs.LineWords.{◌>>=◌, is_name, is_name_byte, begins_with_letter, name_of, name_word, decimal_word}
 use Rattle.dr_top.specs.WellFormed.{FitsName, IfWellFormed}
 
 -- whatever a part says, the rest is well formed

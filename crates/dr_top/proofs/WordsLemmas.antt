@@ -1,12 +1,13 @@
 -- A line is cut at its first space.
 use Rattle.std.proofs.Common.{ℕ, suc, ◌≡◌, ◌<◌, ◌≤◌, ◌+◌, List, [], ◌∷◌, take, drop, length, refl, ap, ◌∙◌, sym, arith, Bool, true, false, not, cond, nat_lt, Some, None, ◌++◌, ◌-◌, ◌*◌, replicate, get_or, drop-cons, add-one, Option, option_and_then, nat_eq, nat_le, ◌&&◌}
+use Rattle.std.proofs.lemmas.List.{append-nil}
 use Rattle.std.proofs.lemmas.Bool.Decides.{nat_tests}
 use Rattle.std.proofs.lemmas.List.Splits.{slice_split_first, slice_split-cons_no}
 use Rattle.std.specs.List.{position, position_or_len, slice_split, onto_first}
 use Rattle.std.proofs.lemmas.List.{drop-replicate}
-use Rattle.dr_model.proofs.PlanLemmas.{append_nil}
 use Rattle.dr_model.specs.Contents.{zeros}
-use Rattle.dr_model.specs.Lines.{is_space, words, hex_bytes, torn_of, ◌>>=◌}
+use Rattle.dr_model.specs.Lines.{is_space, words, hex_bytes, torn_of}
+use Rattle.dr_model.specs.LineWords.{◌>>=◌}
 use Rattle.dr_ids.specs.Spelling.{digit_in}
 use Rattle.dr_model.specs.declared.step.TornWord.TheVariants.{Fill, Bytes}
 use Rattle.dr_top.specs.Words.{only, empty_name}
@@ -94,4 +95,4 @@ piece-torn (Some (b ∷ c ∷ rest)) =
     let bytes = b ∷ c ∷ rest in
     torn_fit (record { len = length bytes; bytes = bytes ++ replicate (64 - length bytes) 0 }) (nat_le 1 (length bytes) && nat_le (length bytes) 64) (nat_eq (length bytes) 64) bytes
     (grind (arith, nat_tests)) refl (λ e. grind (arith, nat_tests, e))
-    (λ e. let n : length bytes ≡ 64 = grind (arith, nat_tests, e) in ap (λ k. bytes ++ replicate (64 - k) 0) n ∙ append_nil bytes)
+    (λ e. let n : length bytes ≡ 64 = grind (arith, nat_tests, e) in ap (λ k. bytes ++ replicate (64 - k) 0) n ∙ append-nil bytes)

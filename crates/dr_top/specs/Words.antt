@@ -2,7 +2,8 @@
 use Rattle.std.specs.Prelude.{◌≡◌, ℕ, ◌+◌, ◌*◌, List, [], ◌∷◌, replicate, Option, Some, None}
 use denote.Ref.{Bor}
 use Rattle.dr_ids.specs.Spelling.{digit_in}
-use Rattle.dr_model.specs.Lines.{words, ◌>>=◌}
+use Rattle.dr_model.specs.Lines.{words}
+use Rattle.dr_model.specs.LineWords.{◌>>=◌}
 
 -- the words of what is left: none where nothing is left
 abbrev pub words_after : Option (Bor (List ℕ)) → List (List ℕ)

@@ -4,7 +4,8 @@ ghost use Rattle.std.specs.Prelude.{◌≡◌, ℕ, ◌*◌, ◌-◌, nat_le, if
 ghost use Rattle.std.specs.List.{position, list_all};
 ghost use Rattle.std.specs.Option.{option_copied, option_map};
 ghost use Rattle.dr_top.specs.Pieces.{piece_of, torn_piece};
-ghost use Rattle.dr_model.specs.Lines.{words, is_space, is_letter, is_name_byte, is_name, name_of, name_word, decimal_word, hex_bytes, is_in_track, write_of, server_words, volume_words, write_words, stop_words, stop_after, start_words, torn_word, torn_of, show_words, step_words, is_comment, is_gap, is_no_step};
+ghost use Rattle.dr_model.specs.Lines.{words, is_space, hex_bytes, is_in_track, write_of, server_words, volume_words, write_words, stop_words, stop_after, start_words, torn_word, torn_of, show_words, step_words, is_comment, is_no_step};
+ghost use Rattle.dr_model.specs.LineWords.{is_letter, is_name_byte, is_name, name_of, name_word, decimal_word, is_gap};
 ghost use Rattle.dr_top.specs.Words.{words_after, only, IsNext, empty_name, pair_of};
 
 use crate::print::zero_track;

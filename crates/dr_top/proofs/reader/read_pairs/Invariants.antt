@@ -1,5 +1,6 @@
 use Rattle.std.proofs.Common.{◌≡◌, ◌*◌, ◌-◌, ◌++◌, length, take, drop, replicate, Some}
-use Rattle.dr_model.specs.Lines.{hex_bytes, ◌>>=◌}
+use Rattle.dr_model.specs.Lines.{hex_bytes}
+use Rattle.dr_model.specs.LineWords.{◌>>=◌}
 use Rattle.dr_top.proofs.reader.read_pairs.Given as goal
 
 abbrev pub invariant-loop-i : goal.invariant-loop-i

@@ -2,7 +2,8 @@ use Rattle.std.proofs.Common.{ap, ◌∙◌, Some, None, ◌+◌, cond, nat_le, 
 use Rattle.dr_ids.specs.Spelling.{number_word}
 use Rattle.dr_model.specs.declared.step.Step.TheVariants.{Write}
 use Rattle.dr_model.specs.declared.step.Step.{Step}
-use Rattle.dr_model.specs.Lines.{decimal_word, hex_bytes, is_in_track, write_of, ◌>>=◌}
+use Rattle.dr_model.specs.Lines.{hex_bytes, is_in_track, write_of}
+use Rattle.dr_model.specs.LineWords.{decimal_word, ◌>>=◌}
 use Rattle.dr_top.proofs.HexLemmas.{piece-write}
 use Rattle.dr_top.proofs.reader.write_from.Goals as goal
 

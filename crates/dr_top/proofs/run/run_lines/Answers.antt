@@ -1,8 +1,8 @@
 use Rattle.std.proofs.Common.{ap, sym, ◌∙◌, arith, ◌≡◌, length, ◌++◌, ◌+◌, drop, ◌∷◌, Some, refl, inl, inr}
+use Rattle.std.proofs.lemmas.List.{append-nil}
 use Rattle.std.specs.Str.Lines.{lines}
 use Rattle.dr_model.specs.Control.{World}
 use Rattle.dr_model.specs.Text.{text}
-use Rattle.dr_model.proofs.PlanLemmas.{append_nil}
 use Rattle.dr_top.specs.Here.{here}
 use Rattle.dr_top.proofs.RunLemmas.{rest-next, within-next, world-next, gave-on, part-on, to_err, none-left, world-all, no-lines, world-begins, zero-length}
 use Rattle.dr_top.proofs.run.run_lines.Goals as goal
@@ -17,7 +17,7 @@ loop-rest-init g c =
       within = omega arith;
       few = omega arith;
       leads = world-begins c.args.script.now ∙ sym begins;
-      gave = λ out h. h ∙ ap Some (sym (append_nil out) ∙ ap (λ es. out ++ text es) (sym none));
+      gave = λ out h. h ∙ ap Some (sym (append-nil out) ∙ ap (λ es. out ++ text es) (sym none));
       ready = c.requires.ready;
       issued = omega (arith, zero);
       count = omega arith;

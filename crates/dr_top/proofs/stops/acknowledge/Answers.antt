@@ -1,4 +1,4 @@
-use Rattle.std.proofs.Common.{sym, ap, ◌∙◌, refl}
+use Rattle.std.proofs.Common.{sym, ap, refl}
 use Rattle.dr_model.specs.Plans.{says_acked}
 use Rattle.dr_top.proofs.StartLemmas.{acked-none, acked-one}
 use Rattle.dr_top.proofs.stops.acknowledge.Goals as goal

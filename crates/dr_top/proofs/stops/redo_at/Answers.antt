@@ -1,8 +1,7 @@
-use Rattle.std.proofs.Common.{◌≡◌, sym, ap, ◌∙◌, subst, Some, option_map, slice_get}
+use Rattle.std.proofs.Common.{◌≡◌, sym, ap, ◌∙◌, subst, Some, option_map}
 use Rattle.std.specs.Prelude.{IfSome}
 use Rattle.dr_ids.specs.declared.names.VolumeId.{VolumeId}
 use Rattle.dr_config.specs.Table.{place_of}
-use Rattle.dr_config.specs.declared.entries.VolumeEntry.{VolumeEntry}
 use Rattle.dr_top.specs.Here.{rest_of}
 use Rattle.dr_top.proofs.StartLemmas.{own-server, redone-skip, redone-goes, redone-stops, starting-skip, starting-goes, ready-stopped}
 use Rattle.dr_top.proofs.stops.redo_at.Goals as goal

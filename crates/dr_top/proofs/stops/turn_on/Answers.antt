@@ -1,5 +1,5 @@
-use Rattle.std.proofs.Common.{◌≡◌, sym, ap, ◌∙◌, subst, Option, Some, None, ℕ}
-use Rattle.dr_plant.specs.State.{PlantState, started}
+use Rattle.std.proofs.Common.{sym, ap, ◌∙◌, subst}
+use Rattle.dr_plant.specs.State.{PlantState}
 use Rattle.dr_model.specs.Carry.{carry}
 use Rattle.dr_top.specs.Here.{here}
 use Rattle.dr_top.specs.Starting.{IsStarting, redo_from}

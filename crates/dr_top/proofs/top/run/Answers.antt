@@ -1,5 +1,5 @@
 use Rattle.std.proofs.Common.{ap, sym, subst, refl, ◌∙◌, arith, [], Some}
-use Rattle.dr_model.proofs.PlanLemmas.{append_nil}
+use Rattle.std.proofs.lemmas.List.{append-nil}
 use Rattle.dr_top.specs.Given.{Took}
 use Rattle.dr_top.specs.Here.{here}
 use Rattle.dr_top.specs.Input.{EndsSo}
@@ -19,7 +19,7 @@ returns-in_default g c =
     (is-run g.S.Source.left g.S.Source.faults g.K.Sink.written g.K.Sink.faults c.args.source.now c.read_all.new.source c.args.sink.now c.args.sink.now
     NoMemory s t h [] [] (sound-empty s c.requires.fresh) (ready-fresh s c.requires.fresh).stands (λ told is. (told, refl))
     (record { count = 0; within = omega arith; leads = world-begins [] ∙ sym (begins s c.requires.fresh) })
-    (0, omega arith, λ out is. is ∙ ap Some (sym (append_nil out))))
+    (0, omega arith, λ out is. is ∙ ap Some (sym (append-nil out))))
 
 pub returns-in-Ok-run_lines : goal.returns-in-Ok-run_lines
 returns-in-Ok-run_lines g c =
