@@ -5,6 +5,8 @@ use Rattle.dr_config.specs.Table.{Table, StandsFor}
 use Rattle.dr_model.specs.declared.event.Event.{Event}
 use Rattle.dr_model.specs.Control.{World}
 use Rattle.dr_model.specs.Carry.{Ended}
+use Rattle.dr_model.specs.Runs.{after_task}
+use Rattle.dr_model.specs.declared.step.Step.{Step}
 use Rattle.dr_model.specs.Control as control
 use Rattle.dr_model.specs.Layout.{Fields}
 use Rattle.std.specs.FinSet.{remove}
@@ -25,6 +27,10 @@ rest_of h events = record { issued = h.issued; pending = waiting_seen h.pending;
 -- the state that plant, configuration, writes and journal show
 abbrev pub here : PlantState → Table → Host → List Event → World
 here s t h events = world s t (rest_of h events)
+
+-- from a world, the machine's step of a line leads to this one
+abbrev pub Leads : World → ℕ → Step → World → Type 0
+Leads w line step u = after_task w (record { line = line; step = Some step }) ≡ u
 
 -- The configuration stands for the plant, reads pass, each running volume's staged track stands at its place, and
 -- no volume is larger than a volume may be.

@@ -2,8 +2,8 @@
 
 ghost use Rattle.std.specs.Prelude.{◌≡◌, ℕ, ◌+◌, ◌<◌, ◌≤◌, ◌^◌, Some, OnOk, OnErr};
 ghost use Rattle.dr_model.specs.Lines.{tasks_of};
-ghost use Rattle.dr_model.specs.Runs.{after_task, after_tasks};
-ghost use Rattle.dr_top.specs.Here.{here, IsReady};
+ghost use Rattle.dr_model.specs.Runs.{after_tasks};
+ghost use Rattle.dr_top.specs.Here.{here, Leads, IsReady};
 ghost use Rattle.dr_top.specs.WellFormed.{IsWellFormed};
 
 use crate::define::{define_server, define_volume};
@@ -33,8 +33,8 @@ fn carry_step<P: Plant>(
     requires fits { IsWellFormed step }
     requires room { 4 ≤ journal.old.spare }
     requires count { host.old.issued + 1 < 2 ^ 32 }
-    ensures step { OnOk result (after_task (here (P.state plant.old) config.old host.old journal.old.events) (record { line = line; step = Some step })
-        ≡ here (P.state plant.new) config.new host.new journal.new.events) }
+    ensures step { OnOk result (Leads (here (P.state plant.old) config.old host.old journal.old.events) line step
+        (here (P.state plant.new) config.new host.new journal.new.events)) }
     ensures same { OnErr result (here (P.state plant.new) config.new host.new journal.new.events ≡ here (P.state plant.old) config.old host.old journal.old.events) }
     ensures ready { IsReady (P.state plant.new) config.new }
     ensures issued { host.new.issued ≤ host.old.issued + 1 }

@@ -1,9 +1,8 @@
 //! The steps that define a server and a volume.
 
 ghost use Rattle.std.specs.Prelude.{◌≡◌, ◌≤◌, take, OnOk, OnErr};
-ghost use Rattle.dr_model.specs.Plans as plans;
-ghost use Rattle.dr_model.specs.Runs.{after_plan};
-ghost use Rattle.dr_top.specs.Here.{here, IsReady};
+ghost use Rattle.dr_model.specs.declared.step.Step.{Step};
+ghost use Rattle.dr_top.specs.Here.{here, Leads, IsReady};
 
 use crate::host::Host;
 use crate::steps::say;
@@ -37,9 +36,8 @@ pub fn define_server<P: Plant>(
     requires some { 1 ≤ name.now.len }
     requires short { name.now.len ≤ 24 }
     requires room { 2 ≤ journal.old.spare }
-    ensures step { OnOk result (after_plan (here (P.state plant.now) config.old host.now journal.old.events) line
-        (plans.server_plan (here (P.state plant.now) config.old host.now journal.old.events).control name.now)
-        ≡ here (P.state plant.now) config.new host.now journal.new.events) }
+    ensures step { OnOk result (Leads (here (P.state plant.now) config.old host.now journal.old.events) line (Step.Server name.now)
+        (here (P.state plant.now) config.new host.now journal.new.events)) }
     ensures same { OnErr result (config.new ≡ config.old) }
     ensures untold { OnErr result (journal.new.events ≡ journal.old.events) }
     ensures ready { IsReady (P.state plant.now) config.new }
@@ -78,9 +76,8 @@ pub fn define_volume<P: Plant>(
     requires ready { IsReady (P.state plant.old) config.old }
     requires short { name.now.len ≤ 24 }
     requires room { 2 ≤ journal.old.spare }
-    ensures step { OnOk result (after_plan (here (P.state plant.old) config.old host.now journal.old.events) line
-        (plans.volume_plan (here (P.state plant.old) config.old host.now journal.old.events).control volume.0 name.now tracks)
-        ≡ here (P.state plant.new) config.new host.now journal.new.events) }
+    ensures step { OnOk result (Leads (here (P.state plant.old) config.old host.now journal.old.events) line (Step.Volume volume.0 name.now tracks)
+        (here (P.state plant.new) config.new host.now journal.new.events)) }
     ensures same { OnErr result (config.new ≡ config.old) }
     ensures same_plant { OnErr result (P.state plant.new ≡ P.state plant.old) }
     ensures untold { OnErr result (journal.new.events ≡ journal.old.events) }

@@ -3,11 +3,11 @@
 ghost use Rattle.std.specs.Prelude.{◌≡◌, ℕ, ◌+◌, ◌<◌, ◌≤◌, ◌^◌, true, false, [], ◌∷◌, ◌++◌, List, length, take, IsSome, Some, None, OnOk, OnErr, IfSome, if◌then◌else◌};
 ghost use Rattle.dr_config.specs.Table.{place_of};
 ghost use Rattle.dr_model.specs.Answers.{answer};
-ghost use Rattle.dr_model.specs.Plans as plans;
+ghost use Rattle.dr_model.specs.declared.step.Step.{Step};
 ghost use Rattle.dr_model.specs.Plans.{issue_plan};
 ghost use Rattle.dr_model.specs.Runs.{after_plan, said};
 ghost use Rattle.dr_volume.specs.View.{volume_seen};
-ghost use Rattle.dr_top.specs.Here.{here, IsReady};
+ghost use Rattle.dr_top.specs.Here.{here, Leads, IsReady};
 ghost use Rattle.dr_top.specs.Located.{Located, IsPlace};
 
 use crate::host::Host;
@@ -63,9 +63,8 @@ pub fn show<P: Plant>(
     requires ready { IsReady (P.state plant.old) config.now }
     requires room { 2 ≤ journal.old.spare }
     ensures same { P.state plant.new ≡ P.state plant.old }
-    ensures step { after_plan (here (P.state plant.old) config.now host.now journal.old.events) line
-        (plans.show_plan (here (P.state plant.old) config.now host.now journal.old.events).control (here (P.state plant.old) config.now host.now journal.old.events).contents line volume.0 track)
-        ≡ here (P.state plant.new) config.now host.now journal.new.events }
+    ensures step { Leads (here (P.state plant.old) config.now host.now journal.old.events) line (Step.Show volume.0 track)
+        (here (P.state plant.new) config.now host.now journal.new.events) }
 {
     let Some(place) = locate(config, volume, track) else {
         say(journal, line, Said::NotBuilt);
@@ -114,9 +113,9 @@ pub fn write<P: Plant>(
     requires room { 4 ≤ journal.old.spare }
     requires fits { write.now.offset + write.now.len ≤ 64 }
     requires count { host.old.issued + 1 < 2 ^ 32 }
-    ensures step { after_plan (here (P.state plant.old) config.now host.old journal.old.events) line
-        (plans.write_plan (here (P.state plant.old) config.now host.old journal.old.events).control write.now.volume.0 write.now.track write.now.offset write.now.len write.now.bytes)
-        ≡ here (P.state plant.new) config.now host.new journal.new.events }
+    ensures step { Leads (here (P.state plant.old) config.now host.old journal.old.events) line
+        (Step.Write write.now.volume.0 write.now.track write.now.offset write.now.len write.now.bytes)
+        (here (P.state plant.new) config.now host.new journal.new.events) }
     ensures ready { IsReady (P.state plant.new) config.now }
     ensures issued { host.new.issued ≤ host.old.issued + 1 }
 {

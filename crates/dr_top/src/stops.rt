@@ -4,13 +4,14 @@ ghost use Rattle.std.specs.Prelude.{◌≡◌, ℕ, ◌+◌, ◌<◌, ◌≤◌,
 ghost use Rattle.dr_plant.specs.State.{PlantState};
 ghost use Rattle.dr_model.specs.Carry.{carry, continue};
 ghost use Rattle.dr_model.specs.Plans as plans;
-ghost use Rattle.dr_model.specs.Plans.{name_bytes, torn_bytes, acknowledge_on, says_acked};
+ghost use Rattle.dr_model.specs.Plans.{torn_bytes, acknowledge_on, says_acked};
 ghost use Rattle.dr_model.specs.Runs.{after_plan, said};
 ghost use Rattle.dr_volume.specs.View.{torn_seen};
-ghost use Rattle.dr_top.specs.Here.{here, IsReady, stopped_in};
+ghost use Rattle.dr_top.specs.Here.{here, Leads, IsReady, stopped_in};
 ghost use Rattle.dr_top.specs.Starting.{IsStarting, redo_from};
 ghost use Rattle.dr_top.specs.Located.{has_owner};
 ghost use Rattle.dr_model.specs.declared.event.Event.{Event};
+ghost use Rattle.dr_model.specs.declared.step.Step.{Step};
 ghost use Rattle.dr_top.specs.declared.host.Host.{Host};
 
 use crate::define::bytes_of;
@@ -34,9 +35,8 @@ pub fn stop<P: Plant>(
     requires ready { IsReady (P.state plant.old) config.now }
     requires short { name.now.len ≤ 24 }
     requires room { 2 ≤ journal.old.spare }
-    ensures step { after_plan (here (P.state plant.old) config.now host.now journal.old.events) line
-        (plans.stop_on (here (P.state plant.old) config.now host.now journal.old.events).control (plans.server_named (here (P.state plant.old) config.now host.now journal.old.events).control (name_bytes name.now)))
-        ≡ here (P.state plant.new) config.now host.now journal.new.events }
+    ensures step { Leads (here (P.state plant.old) config.now host.now journal.old.events) line (Step.Stop name.now)
+        (here (P.state plant.new) config.now host.now journal.new.events) }
     ensures ready { IsReady (P.state plant.new) config.now }
 {
     let Some(server) = config.server_named(bytes_of(name)) else {
@@ -80,9 +80,8 @@ pub fn arm<P: Plant>(
     requires ready { IsReady (P.state plant.old) config.now }
     requires short { name.now.len ≤ 24 }
     requires room { 1 ≤ journal.old.spare }
-    ensures step { after_plan (here (P.state plant.old) config.now host.now journal.old.events) line
-        (plans.arm_on writes word (plans.server_named (here (P.state plant.old) config.now host.now journal.old.events).control (name_bytes name.now)))
-        ≡ here (P.state plant.new) config.now host.now journal.new.events }
+    ensures step { Leads (here (P.state plant.old) config.now host.now journal.old.events) line (Step.StopAfter name.now writes word)
+        (here (P.state plant.new) config.now host.now journal.new.events) }
     ensures ready { IsReady (P.state plant.new) config.now }
 {
     let Some(server) = config.server_named(bytes_of(name)) else {
@@ -106,9 +105,8 @@ pub fn start<P: Plant>(
     requires ready { IsReady (P.state plant.old) config.now }
     requires short { name.now.len ≤ 24 }
     requires room { 3 ≤ journal.old.spare }
-    ensures step { after_plan (here (P.state plant.old) config.now host.old journal.old.events) line
-        (plans.start_on (here (P.state plant.old) config.now host.old journal.old.events).control (plans.server_named (here (P.state plant.old) config.now host.old journal.old.events).control (name_bytes name.now)))
-        ≡ here (P.state plant.new) config.now host.new journal.new.events }
+    ensures step { Leads (here (P.state plant.old) config.now host.old journal.old.events) line (Step.Start name.now)
+        (here (P.state plant.new) config.now host.new journal.new.events) }
     ensures ready { IsReady (P.state plant.new) config.now }
     ensures issued { host.new.issued ≡ host.old.issued }
 {
