@@ -19,6 +19,3 @@ mod top;
 
 pub use status::Status;
 pub use top::drsim;
-
-#[cfg(test)]
-mod tests;

@@ -1,9 +1,9 @@
-use super::*;
 use dr_config::Config;
 use dr_ids::{ServerId, VolumeId};
 use dr_io::{MemSink, MemSource};
 use dr_model::{Event, Journal, image_of};
 use dr_plant::{DeviceId, ModelPlant, Plant};
+use dr_top::drsim;
 use std::alloc::{AllocError, Global};
 use std::process::Abort;
 
@@ -411,45 +411,89 @@ fn other_words(rt: HostRuntime) -> Result<(), AllocError> {
     Ok(())
 }
 
-/// A source gives 10 bytes in a call, and `read` is its call that fails. The sink has room for `room` bytes; `fail` is
-/// its call that fails, and `stuck` the one that takes nothing. 0 is none of the calls.
+/// Which call of the source fails; how many bytes the sink has room for, which of its calls fails, and which takes
+/// nothing. 0 is none of the calls.
+#[derive(Clone, Copy)]
+struct Faults {
+    read: u32,
+    room: usize,
+    fail: u32,
+    stuck: u32,
+}
+
+const SOUND: Faults = Faults {
+    read: 0,
+    room: 99,
+    fail: 0,
+    stuck: 0,
+};
+
+/// Makes a call with a script of two steps, of which the source gives 10 bytes at a time, and asserts what it leaves.
+fn faulty(
+    rt: &impl Abort,
+    alloc: Global,
+    words: &str,
+    faults: Faults,
+    printed: &str,
+    status: u8,
+    events: usize,
+) -> Result<(), AllocError> {
+    let Faults {
+        read,
+        room,
+        fail,
+        stuck,
+    } = faults;
+    let script = Vec::from_slice(alloc, b"@server A\n@volume 1000 A 1\n")?;
+    let source = MemSource::new(script, 10, vec![in alloc; read]?);
+    let sink = MemSink::new(alloc, room, vec![in alloc; fail]?, vec![in alloc; stuck]?)?;
+    let left = call(alloc, words, source, sink)?;
+    assert!(rt;
+        left.sink.bytes() == printed.as_bytes(),
+        "printed {words} {read} {room} {fail} {stuck}"
+    );
+    assert_eq!(rt;
+        left.status,
+        status,
+        "status {words} {read} {room} {fail} {stuck}"
+    );
+    assert_eq!(rt;
+        left.journal.len(),
+        events,
+        "events {words} {read} {room} {fail} {stuck}"
+    );
+    Ok(())
+}
+
 #[test]
-fn faults(rt: HostRuntime) -> Result<(), AllocError> {
+fn read_faults(rt: HostRuntime) -> Result<(), AllocError> {
     let alloc = rt.alloc();
-    let two = "@server A\n@volume 1000 A 1\n";
-    let cases = [
-        ("run", two, 1, 99, 0, 0, "", 3, 0),
-        ("run", two, 2, 99, 0, 0, "1 ok\n", 3, 2),
-        ("run", two, 3, 99, 0, 0, "1 ok\n", 3, 2),
-        ("run", two, 4, 99, 0, 0, "1 ok\n2 ok\n", 3, 4),
-        ("run", two, 0, 99, 1, 0, "", 4, 2),
-        ("run", two, 0, 99, 0, 1, "", 4, 2),
-        ("run", two, 0, 99, 2, 0, "1 ok\n", 4, 4),
-        ("run", two, 0, 3, 0, 0, "1 o", 4, 2),
-        ("run", two, 2, 99, 1, 0, "", 4, 2),
-        ("help", two, 0, 99, 1, 0, "", 4, 0),
-        ("help", two, 0, 3, 0, 0, "usa", 4, 0),
-    ];
-    for (words, script, read, room, fail, stuck, printed, status, events) in cases {
-        let script = Vec::from_slice(alloc, script.as_bytes())?;
-        let source = MemSource::new(script, 10, vec![in alloc; read]?);
-        let sink = MemSink::new(alloc, room, vec![in alloc; fail]?, vec![in alloc; stuck]?)?;
-        let left = call(alloc, words, source, sink)?;
-        assert!(rt;
-            left.sink.bytes() == printed.as_bytes(),
-            "printed {words} {read} {room} {fail} {stuck}"
-        );
-        assert_eq!(rt;
-            left.status,
-            status,
-            "status {words} {read} {room} {fail} {stuck}"
-        );
-        assert_eq!(rt;
-            left.journal.len(),
-            events,
-            "events {words} {read} {room} {fail} {stuck}"
-        );
-    }
+    let read = |call| Faults {
+        read: call,
+        ..SOUND
+    };
+    faulty(&rt, alloc, "run", read(1), "", 3, 0)?;
+    faulty(&rt, alloc, "run", read(2), "1 ok\n", 3, 2)?;
+    faulty(&rt, alloc, "run", read(3), "1 ok\n", 3, 2)?;
+    faulty(&rt, alloc, "run", read(4), "1 ok\n2 ok\n", 3, 4)?;
+    Ok(())
+}
+
+#[test]
+fn write_faults(rt: HostRuntime) -> Result<(), AllocError> {
+    let alloc = rt.alloc();
+    let fail = |call| Faults {
+        fail: call,
+        ..SOUND
+    };
+    let narrow = Faults { room: 3, ..SOUND };
+    faulty(&rt, alloc, "run", fail(1), "", 4, 2)?;
+    faulty(&rt, alloc, "run", fail(2), "1 ok\n", 4, 4)?;
+    faulty(&rt, alloc, "run", Faults { stuck: 1, ..SOUND }, "", 4, 2)?;
+    faulty(&rt, alloc, "run", narrow, "1 o", 4, 2)?;
+    faulty(&rt, alloc, "run", Faults { read: 2, ..fail(1) }, "", 4, 2)?;
+    faulty(&rt, alloc, "help", fail(1), "", 4, 0)?;
+    faulty(&rt, alloc, "help", narrow, "usa", 4, 0)?;
     Ok(())
 }
 
