@@ -1,4 +1,4 @@
--- Moves carried out on servers that may stop within any device write. No plan speaks of stops: this does.
+-- Moves carried out on servers that may stop within any device write. No plan says what a stop leaves: this does.
 use Rattle.std.specs.Prelude.{ℕ, ◌-◌, Bool, true, false, not, List, [], ◌∷◌, ◌++◌, filter, Option, Some, None, nat_eq, nat_lt, nat_le, if◌then◌else◌}
 use Rattle.dr_model.specs.Tables.{at}
 use Rattle.dr_model.specs.Layout.{Fields, byte, bit}
@@ -109,6 +109,7 @@ redo w v =
     else if pass fuse n then ended (spent w s n) false true
     else ended (off w s) true false
 
+-- and where the server stops in it, the journal is told
 abbrev pub redo_ended : World → ℕ → Ended → Turn
 redo_ended w v e =
     let s : ℕ = (w.control.volume v).server in
