@@ -14,9 +14,10 @@ use Rattle.dr_model.specs.declared.said.Said.TheVariants.{Done, NotBuilt}
 use Rattle.dr_model.specs.declared.step.Name.{Name}
 use Rattle.dr_model.specs.Answers.{answer}
 use Rattle.dr_model.specs.Control.{Volume, World, new_volume}
-use Rattle.dr_model.specs.Plans.{Plan, only_says, is_empty, name_bytes, server_plan, volume_plan, volume_on}
+use Rattle.dr_model.specs.Plans.{only_says, is_empty, name_bytes, server_plan, volume_plan, volume_on}
 use Rattle.dr_model.specs.Runs.{after_plan, said}
-use Rattle.dr_model.proofs.PlanLemmas.{acting, after_plan-says, after_plan-still}
+use Rattle.dr_model.proofs.PlanCases.{server_done, volume_done}
+use Rattle.dr_model.proofs.PlanLemmas.{after_plan-says, after_plan-still}
 use Rattle.dr_model.specs.Contents.{zeros}
 use Rattle.dr_model.specs.Tables.{at}
 use Rattle.dr_model.proofs.Images.{at_same, at_other}
@@ -44,19 +45,16 @@ module _ (s : PlantState) (t : Table) (h : Host) (ev : List Event) (line : ℕ) 
   abbrev w : World
   w = here s t h ev
 
-  abbrev server_told : Plan
-  server_told = acting (λ k. record k { servers = k.servers ++ name_bytes name ∷ [] }) (ServerDefined (length t.names) name.len name.bytes ∷ []) [] Done
-
   pub server-refused : (now : List Event) → length t.names ≢ 0 → now ≡ ev ++ answer line NotBuilt ∷ [] → after_plan w line (server_plan w.control name) ≡ here s t h now
   server-refused now some told =
-      ap (λ b. after_plan w line (cond b server_told (only_says NotBuilt))) (is_empty-some t.names some)
+      ap (λ b. after_plan w line (cond b (server_done w.control name) (only_says NotBuilt))) (is_empty-some t.names some)
       ∙ after_plan-says w line NotBuilt ∙ said-here s t h ev now line NotBuilt told
 
   pub server-defined : (mid now : List Event) (t' : Table) (server : ℕ) (bytes : List ℕ) → length t.names ≡ 0 → server ≡ length t.names → bytes ≡ name_bytes name → t' ≡ with_server t bytes
       → mid ≡ ev ++ ServerDefined server name.len name.bytes ∷ [] → now ≡ mid ++ answer line Done ∷ []
       → after_plan w line (server_plan w.control name) ≡ here s t' h now
   server-defined mid now t' server bytes none number named is defined told =
-      ap (λ b. after_plan w line (cond b server_told (only_says NotBuilt))) (is_empty-none t.names none)
+      ap (λ b. after_plan w line (cond b (server_done w.control name) (only_says NotBuilt))) (is_empty-none t.names none)
       ∙ after_plan-still w line (λ k. record k { servers = k.servers ++ name_bytes name ∷ [] }) (ServerDefined (length t.names) name.len name.bytes ∷ []) Done
       ∙ ap (λ x. said (here s (with_server t x) h (ev ++ ServerDefined (length t.names) name.len name.bytes ∷ [])) line Done) (sym named)
       ∙ ap (λ x. said (here s x h (ev ++ ServerDefined (length t.names) name.len name.bytes ∷ [])) line Done) (sym is)
@@ -202,9 +200,6 @@ module _ (s : PlantState) (t : Table) (h : Host) (ev : List Event) (line v n : �
   abbrev w' : World
   w' = here s t h ev
 
-  abbrev volume_told : ℕ → Plan
-  volume_told server = acting (λ k. record k { volumes = k.volumes ++ v ∷ []; volume = at k.volume v (new_volume server n) }) (VolumeDefined v server n ∷ []) [] Done
-
   pub volume-unnamed : (now : List Event) (bytes : List ℕ) → bytes ≡ name_bytes name → server_named t bytes ≡ None → now ≡ ev ++ answer line NotBuilt ∷ []
       → after_plan w' line (volume_plan w'.control v name n) ≡ here s t h now
   volume-unnamed now bytes named none told =
@@ -215,7 +210,7 @@ module _ (s : PlantState) (t : Table) (h : Host) (ev : List Event) (line v n : �
       → after_plan w' line (volume_plan w'.control v name n) ≡ here s t h now
   volume-unfit now bytes server named there unfit told =
       ap (λ o. after_plan w' line (volume_on w'.control v n o)) (ap (server_named t) (sym named) ∙ there)
-      ∙ ap (λ b. after_plan w' line (cond b (volume_told server) (only_says NotBuilt))) unfit
+      ∙ ap (λ b. after_plan w' line (cond b (volume_done v server n) (only_says NotBuilt))) unfit
       ∙ after_plan-says w' line NotBuilt ∙ said-here s t h ev now line NotBuilt told
 
   pub volume-defined : (mid now : List Event) (s' : PlantState) (t' : Table) (bytes : List ℕ) (server : ℕ) → StandsFor t s → bytes ≡ name_bytes name → server_named t bytes ≡ Some server
@@ -224,7 +219,7 @@ module _ (s : PlantState) (t : Table) (h : Host) (ev : List Event) (line v n : �
       → after_plan w' line (volume_plan w'.control v name n) ≡ here s' t' h now
   volume-defined mid now s' t' bytes server stands named there none some most added is defined told =
       ap (λ o. after_plan w' line (volume_on w'.control v n o)) (ap (server_named t) (sym named) ∙ there)
-      ∙ ap (λ b. after_plan w' line (cond b (volume_told server) (only_says NotBuilt))) (fit t.volumes n (no_volumes t.volumes none) some most)
+      ∙ ap (λ b. after_plan w' line (cond b (volume_done v server n) (only_says NotBuilt))) (fit t.volumes n (no_volumes t.volumes none) some most)
       ∙ after_plan-still w' line (λ k. record k { volumes = k.volumes ++ v ∷ []; volume = at k.volume v (new_volume server n) }) (VolumeDefined v server n ∷ []) Done
       ∙ ap (λ x. said x line Done) (defined-here s t v server n stands (no_volumes t.volumes none) h ev mid defined)
       ∙ ap (λ x. said (here x (with_volume t v server n) h mid) line Done) (sym added)

@@ -24,7 +24,8 @@ use Rattle.dr_model.specs.Plans.{Plan, only_says, belongs, redo_on, has_landed, 
 use Rattle.dr_model.specs.Runs.{after_plan, said, answered}
 use Rattle.dr_model.specs.Tables.{at}
 use Rattle.dr_model.specs.Answers.{answer}
-use Rattle.dr_model.proofs.PlanLemmas.{carry-none, carry-first, carry-append, acting, after_plan-acts, after_plan-says}
+use Rattle.dr_model.proofs.PlanCases.{start_done}
+use Rattle.dr_model.proofs.PlanLemmas.{carry-none, carry-first, carry-append, after_plan-acts, after_plan-says}
 use Rattle.dr_volume.specs.View.{volume_seen, volume_at, ids_of, device_of, IsSettled, TracksSettled, ReadsPass}
 use Rattle.dr_volume.specs.Update.{IsAsBefore}
 use Rattle.dr_top.specs.Here.{here, waiting_seen, IsReady}
@@ -319,7 +320,7 @@ module _ (s : PlantState) (t : Table) (h : Host) (ev : List Event) (line server 
   says = says_acked (landed_on w0.control server)
 
   abbrev starts : Plan
-  starts = acting on_again (Started server ∷ []) (redoes ++ last) says
+  starts = start_done w0.control server
 
   turned : (turn : Turn) → continue (carry (here (started s server) t h mid) redoes).0 (carry (here (started s server) t h mid) redoes).1 (λ u. carry u last) ≡ turn
       → after_plan w0 line (start_on w0.control (Some server)) ≡ said turn.0 line (answered starts turn.1)
@@ -338,13 +339,9 @@ module _ (s : PlantState) (t : Table) (h : Host) (ev : List Event) (line server 
   turned-goes u h' mid' now a is acked answers =
       turned (here u t h' now, None) (ap (λ (t : Turn). continue t.0 t.1 (λ u. carry u last)) is ∙ acked) ∙ ap (said (here u t h' now) line) (sym answers)
 
-abbrev starting_plan : Control → ℕ → Plan
-starting_plan k server =
-    acting (λ k. record k { on = at k.on server true; fuse = at k.fuse server (fuse_at_start (k.fuse server)) }) (Started server ∷ []) (map (redo_on server) k.volumes ++ acknowledge_on server ∷ []) (says_acked (landed_on k server))
-
 pub started-already : (s : PlantState) (t : Table) (h : Host) (ev : List Event) (line server : ℕ) (now : List Event) → server < 8 → s.on server ≡ true → now ≡ ev ++ answer line Done ∷ []
     → after_plan (here s t h ev) line (start_on (here s t h ev).control (Some server)) ≡ here s t h now
 started-already s t h ev line server now low on told =
     let k : Control = (here s t h ev).control in
-    ap (λ b. after_plan (here s t h ev) line (cond b (only_says Done) (starting_plan k server))) (on-seen s server low ∙ on)
+    ap (λ b. after_plan (here s t h ev) line (cond b (only_says Done) (start_done k server))) (on-seen s server low ∙ on)
     ∙ after_plan-says (here s t h ev) line Done ∙ said-here s t h ev now line Done told

@@ -16,6 +16,7 @@ use Rattle.dr_model.specs.Carry.{turn, now}
 use Rattle.dr_model.specs.Histories.{Histories, histories}
 use Rattle.dr_model.proofs.Images.{histories-push, at_same}
 use Rattle.dr_model.specs.Runs.{after_plan, said}
+use Rattle.dr_model.proofs.PlanCases.{show_done}
 use Rattle.dr_model.proofs.PlanLemmas.{acting, after_plan-says, after_plan-still, after_plan-goes, after_plan-stops}
 use Rattle.dr_volume.specs.View.{on_seen, volume_seen, track_seen}
 use Rattle.dr_top.specs.Here.{here, waiting_seen}
@@ -37,20 +38,20 @@ running-known s t h events v server e lt = ap (on_seen s) e ∙ on-known s serve
 
 pub show-nowhere : (w : World) (k : Control) (contents : ℕ → ℕ → List ℕ) (line v t : ℕ) → has_track k v t ≡ false → after_plan w line (show_plan k contents line v t) ≡ said w line NotBuilt
 show-nowhere w k contents line v t h =
-    ap (λ b. after_plan w line (cond (not b) (only_says NotBuilt) (cond (is_running k v) (acting (λ k. k) (Shown line v t (contents v t) ∷ []) [] Showed) (only_says (ServerOff (k.volume v).server))))) h
+    ap (λ b. after_plan w line (cond (not b) (only_says NotBuilt) (cond (is_running k v) (show_done contents line v t) (only_says (ServerOff (k.volume v).server))))) h
     ∙ after_plan-says w line NotBuilt
 
 pub show-off : (w : World) (k : Control) (contents : ℕ → ℕ → List ℕ) (line v t : ℕ) → has_track k v t ≡ true → is_running k v ≡ false → after_plan w line (show_plan k contents line v t) ≡ said w line (ServerOff (k.volume v).server)
 show-off w k contents line v t h off =
-    ap (λ b. after_plan w line (cond (not b) (only_says NotBuilt) (cond (is_running k v) (acting (λ k. k) (Shown line v t (contents v t) ∷ []) [] Showed) (only_says (ServerOff (k.volume v).server))))) h
-    ∙ ap (λ b. after_plan w line (cond b (acting (λ k. k) (Shown line v t (contents v t) ∷ []) [] Showed) (only_says (ServerOff (k.volume v).server)))) off
+    ap (λ b. after_plan w line (cond (not b) (only_says NotBuilt) (cond (is_running k v) (show_done contents line v t) (only_says (ServerOff (k.volume v).server))))) h
+    ∙ ap (λ b. after_plan w line (cond b (show_done contents line v t) (only_says (ServerOff (k.volume v).server)))) off
     ∙ after_plan-says w line (ServerOff (k.volume v).server)
 
 pub show-on : (w : World) (k : Control) (contents : ℕ → ℕ → List ℕ) (line v t : ℕ) → has_track k v t ≡ true → is_running k v ≡ true
     → after_plan w line (show_plan k contents line v t) ≡ said (record w { events = w.events ++ Shown line v t (contents v t) ∷ [] }) line Showed
 show-on w k contents line v t h on =
-    ap (λ b. after_plan w line (cond (not b) (only_says NotBuilt) (cond (is_running k v) (acting (λ k. k) (Shown line v t (contents v t) ∷ []) [] Showed) (only_says (ServerOff (k.volume v).server))))) h
-    ∙ ap (λ b. after_plan w line (cond b (acting (λ k. k) (Shown line v t (contents v t) ∷ []) [] Showed) (only_says (ServerOff (k.volume v).server)))) on
+    ap (λ b. after_plan w line (cond (not b) (only_says NotBuilt) (cond (is_running k v) (show_done contents line v t) (only_says (ServerOff (k.volume v).server))))) h
+    ∙ ap (λ b. after_plan w line (cond b (show_done contents line v t) (only_says (ServerOff (k.volume v).server)))) on
     ∙ after_plan-still w line (λ k. k) (Shown line v t (contents v t) ∷ []) Showed
 
 module _ (s : PlantState) (t : Table) (h : Host) (ev : List Event) (line v k : ℕ) where

@@ -17,7 +17,8 @@ use Rattle.dr_model.specs.Answers.{answer}
 use Rattle.dr_model.specs.Control.{Fuse, World}
 use Rattle.dr_model.specs.Plans.{Plan, only_says, name_bytes, stop_on, arm_on, torn_bytes, fuse_at_start}
 use Rattle.dr_model.specs.Runs.{after_plan, said}
-use Rattle.dr_model.proofs.PlanLemmas.{acting, after_plan-says, after_plan-still}
+use Rattle.dr_model.proofs.PlanCases.{stop_done}
+use Rattle.dr_model.proofs.PlanLemmas.{after_plan-says, after_plan-still}
 use Rattle.dr_volume.specs.View.{fuses_seen, fuse_seen, torn_seen}
 use Rattle.dr_volume.proofs.WorldLaws.{on-at, on-seen, fuses-at, fuse-seen}
 use Rattle.dr_top.specs.Here.{here}
@@ -45,20 +46,17 @@ module _ (s : PlantState) (t : Table) (h : Host) (ev : List Event) (line : ℕ) 
   known-server plan name bytes server u named some is =
       ap (λ x. after_plan w line (plan (server_named t x))) (sym named) ∙ ap (λ o. after_plan w line (plan o)) some ∙ is
 
-  abbrev stopping : ℕ → Plan
-  stopping server = acting (λ k. record k { on = at k.on server false }) (Stopped server 0 ∷ []) [] Done
-
   pub stopped-already : (server : ℕ) (now : List Event) → server < 8 → s.on server ≡ false → now ≡ ev ++ answer line Done ∷ []
       → after_plan w line (stop_on w.control (Some server)) ≡ here s t h now
   stopped-already server now low is told =
-      ap (λ b. after_plan w line (cond b (stopping server) (only_says Done))) (on-seen s server low ∙ is)
+      ap (λ b. after_plan w line (cond b (stop_done server) (only_says Done))) (on-seen s server low ∙ is)
       ∙ after_plan-says w line Done ∙ said-here s t h ev now line Done told
 
   pub stopped-now : (server : ℕ) (u : PlantState) (mid now : List Event) → server < 8 → s.on server ≡ true → u ≡ off s server
       → mid ≡ ev ++ Stopped server 0 ∷ [] → now ≡ mid ++ answer line Done ∷ []
       → after_plan w line (stop_on w.control (Some server)) ≡ here u t h now
   stopped-now server u mid now low is gone told says =
-      ap (λ b. after_plan w line (cond b (stopping server) (only_says Done))) (on-seen s server low ∙ is)
+      ap (λ b. after_plan w line (cond b (stop_done server) (only_says Done))) (on-seen s server low ∙ is)
       ∙ after_plan-still w line (λ k. record k { on = at k.on server false }) (Stopped server 0 ∷ []) Done
       ∙ (λ i. said (record w { control = record w.control { on = sym (on-at s (off s server) server false low refl) i }; events = sym told i }) line Done)
       ∙ ap (λ x. said (here x t h mid) line Done) (sym gone)

@@ -450,18 +450,10 @@ fn faulty(
     let left = call(alloc, words, source, sink)?;
     assert!(rt;
         left.sink.bytes() == printed.as_bytes(),
-        "printed {words} {read} {room} {fail} {stuck}"
+        "printed not {printed}"
     );
-    assert_eq!(rt;
-        left.status,
-        status,
-        "status {words} {read} {room} {fail} {stuck}"
-    );
-    assert_eq!(rt;
-        left.journal.len(),
-        events,
-        "events {words} {read} {room} {fail} {stuck}"
-    );
+    assert_eq!(rt; left.status, status, "status behind {printed}");
+    assert_eq!(rt; left.journal.len(), events, "events behind {printed}");
     Ok(())
 }
 
