@@ -1,5 +1,5 @@
 -- Which words spell a number, a volume, a logical subsystem or a session, and which one.
-use Rattle.std.specs.Prelude.{ℕ, Bool, true, ◌&&◌, ◌==◌, nat_le, if◌then◌else◌, List, length, Option, Some, None}
+use Rattle.std.specs.Prelude.{ℕ, ◌/◌, ◌%◌, Bool, true, ◌&&◌, ◌==◌, nat_le, if◌then◌else◌, List, [], ◌∷◌, ◌++◌, length, Option, Some, None}
 use Rattle.std.specs.Char.{digit_value, is_digit}
 use Rattle.std.specs.Fmt.{digit_glyph}
 use Rattle.std.specs.List.{list_all}
@@ -55,3 +55,10 @@ up_to most (Some n) = if nat_le n most then Some n else None
 abbrev pub number_word : ℕ → List ℕ → Option ℕ
 number_word most word =
     if nat_le 1 (length word) && nat_le (length word) 10 then up_to most (spelled 10 word) else None
+
+-- Two upper-case hexadecimal digits for a byte, four for two bytes.
+abbrev pub hex2 : ℕ → List ℕ
+hex2 n = upper_digit (n / 16) ∷ upper_digit (n % 16) ∷ []
+
+abbrev pub hex4 : ℕ → List ℕ
+hex4 n = hex2 (n / 256) ++ hex2 (n % 256)

@@ -1,13 +1,5 @@
 pub mod Asking
 pub mod Images
 pub mod Overlay
-pub mod Sound
-pub mod PlanLemmas
-pub mod Turns
-pub mod Starts
-pub mod PlanCases
-pub mod Tasks
-pub mod Onward
-pub mod Texts
-pub mod Agree
+pub mod CarryLemmas
 pub mod GrammarChecks

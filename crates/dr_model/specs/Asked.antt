@@ -1,18 +1,13 @@
 -- What is asked of the lists before an event, where the list of a track after it is wanted.
 use Rattle.std.specs.Prelude.{ℕ, List, [], ◌∷◌, ◌++◌, ◌==◌, take, map, Bool, true, false, Option, None, Some, if◌then◌else◌, slice_index_or}
-use Rattle.std.specs.Option.{unwrap_or}
-use Rattle.std.specs.List.{flat_map, range_with_len}
+use Rattle.std.specs.List.{range_with_len}
 use Rattle.dr_model.specs.declared.event.Event.{Event}
 use Rattle.dr_model.specs.declared.event.Event.TheVariants.{Volume, Issue, Ack, Mirrored, Sent, Flashed, Committed, Reverted, Set, Back, Blanked}
 use Rattle.dr_model.specs.declared.image.Question.{Question}
 use Rattle.dr_model.specs.declared.image.Earlier.{Earlier}
 use Rattle.dr_model.specs.declared.image.Issued.{Issued}
 use Rattle.dr_model.specs.Histories.{Histories, Write, histories}
-use Rattle.dr_model.specs.Contents.{image_at, with_write}
-
--- what the tracks of a volume contain after a journal, track after track; nothing of a volume that isn't defined
-unfoldable pub volume_image : List Event → ℕ → List ℕ
-volume_image events v = flat_map (image_at events v) (range_with_len 0 (unwrap_or ((histories events).tracks v) 0))
+use Rattle.dr_model.specs.Contents.{with_write}
 
 -- the list of a track, the present one or the one kept aside
 abbrev pub asked : Histories → Question → List ℕ

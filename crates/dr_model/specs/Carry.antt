@@ -1,8 +1,12 @@
 -- Moves carried out on servers that may stop within any device write. No plan says what a stop leaves: this does.
 use Rattle.std.specs.Prelude.{ℕ, ◌-◌, Bool, true, false, not, List, [], ◌∷◌, ◌++◌, filter, Option, Some, None, nat_eq, nat_lt, nat_le, if◌then◌else◌}
+use Rattle.dr_ids.specs.declared.refusal.Refusal.{Refusal}
+use Rattle.dr_ids.specs.declared.refusal.Refusal.TheVariants.{Stopped as StoppedIn}
 use Rattle.dr_model.specs.Tables.{at}
+use Rattle.dr_model.specs.Refusals.{stopped}
+use Rattle.dr_model.specs.Histories.{histories}
 use Rattle.dr_model.specs.Layout.{Fields, byte, bit}
-use Rattle.dr_model.specs.Control.{Control, Fuse, World}
+use Rattle.dr_model.specs.Control.{Control, Fuse, Volume, World}
 use Rattle.dr_model.specs.Moves.{Move, Carried, target, next_fields, carried, told, told_in_stop, landed, settled, settled_in_stop, updated, is_other}
 use Rattle.dr_model.specs.declared.event.Event.TheVariants.{Ack, Stopped}
 
@@ -72,14 +76,14 @@ update w v f c =
     else if counts_by fuse (not (w.control.volume v).slot) then ended (off (updated w v f c) s) true true
     else ended (off w s) true false
 
--- a world in which a move was done
-abbrev pub finished : World → Move → World
-finished w m = record w { control = settled m w.control; events = w.events ++ told m }
+-- a world in which a move of a volume that was so is done
+abbrev pub finished : World → Move → Volume → World
+finished w m u = record w { control = record w.control { pending = settled m w.control.pending }; events = w.events ++ told m u }
 
--- a world in which a server stopped within a move, which counts as done or doesn't
-abbrev pub cut_short : World → Move → ℕ → Bool → World
-cut_short w m s true = record w { control = settled_in_stop m w.control; events = w.events ++ (told_in_stop m ++ Stopped s (landed m) ∷ []) }
-cut_short w m s false = record w { events = w.events ++ Stopped s 0 ∷ [] }
+-- and one in which the server stopped within the move, which counts as done or doesn't
+abbrev pub cut_short : World → Move → Volume → Bool → World
+cut_short w m u true = record w { control = record w.control { pending = settled_in_stop m w.control.pending }; events = w.events ++ (told_in_stop m u ++ Stopped u.server (landed m) ∷ []) }
+cut_short w m u false = record w { events = w.events ++ Stopped u.server 0 ∷ [] }
 
 -- a world, and the server that stopped, if one did
 abbrev pub Turn : Type 0
@@ -87,13 +91,15 @@ Turn = World × Option ℕ
 
 abbrev pub turn_ended : World → Move → Ended → Turn
 turn_ended w m e =
-    let s : ℕ = (w.control.volume (target m)).server in
-    if e.stopped then (if w.control.on s then cut_short e.world m s e.done else w, Some s)
-    else (finished e.world m, None)
+    let u : Volume = w.control.volume (target m) in
+    if not (w.control.on u.server) then (w, None)
+    else if e.stopped then (cut_short e.world m u e.done, Some u.server)
+    else (finished e.world m u, None)
 
--- one move, until a write is cut short; on a server that is off nothing is done
+-- One move, until a write is cut short. No plan comes to a move whose server is off: there nothing would be done.
 unfoldable pub turn : World → Move → Turn
-turn w m = turn_ended w m (update w (target m) (next_fields m (w.control.volume (target m)).fields) (carried m w))
+turn w m =
+    turn_ended w m (update w (target m) (next_fields m w.control.volume) (carried m w.control.volume w.contents (histories w.events).write))
 
 -- a volume's staged track is written to its own place: one write, where a track is staged; nothing that is read changes
 abbrev pub redo_writes : Option ℕ → ℕ
@@ -113,7 +119,8 @@ redo w v =
 abbrev pub redo_ended : World → ℕ → Ended → Turn
 redo_ended w v e =
     let s : ℕ = (w.control.volume v).server in
-    if e.stopped then (if w.control.on s then record e.world { events = w.events ++ Stopped s 0 ∷ [] } else w, Some s)
+    if not (w.control.on s) then (w, None)
+    else if e.stopped then (record e.world { events = w.events ++ Stopped s 0 ∷ [] }, Some s)
     else (e.world, None)
 
 -- a write that landed in a stop is acknowledged
@@ -135,30 +142,45 @@ act w (Make m) = turn w m
 act w (Redo v) = redo_ended w v (redo w v)
 act w (Acknowledge n) = (acknowledged w n, None)
 
--- an act that is decided in the state that those before it left, or none
-abbrev pub Deferred : Type 0
-Deferred = Control → Option Act
+-- What an entry of a plan comes to: nothing, an act, or the plan ends with a refusal.
+pub data Next : Type 0 where
+  Pass : Next
+  Do : Act → Next
+  End : Refusal → Next
 
-abbrev pub act_of : World → Option Act → Turn
-act_of w None = (w, None)
-act_of w (Some a) = act w a
+-- it is decided in the state that the entries before it left
+abbrev pub Entry : Type 0
+Entry = Control → Next
+
+-- how a plan, or a part of it, ends: the world, and the refusal, if one
+abbrev pub Outcome : Type 0
+Outcome = World × Option Refusal
 
 -- where no server stopped, what comes next
-abbrev pub continue : World → Option ℕ → (World → Turn) → Turn
+abbrev pub continue : World → Option ℕ → (World → Outcome) → Outcome
 continue w None next = next w
-continue w (Some s) next = (w, Some s)
+continue w (Some s) next = (w, Some (stopped s))
 
--- deferred acts in order, until a server stops
-unfoldable pub carry : World → List Deferred → Turn
+abbrev pub go : World → Next → (World → Outcome) → Outcome
+go w Pass next = next w
+go w (End r) next = (w, Some r)
+go w (Do a) next = continue (act w a).0 (act w a).1 next
+
+-- entries in order, until one ends the plan or a server stops
+unfoldable pub carry : World → List Entry → Outcome
 carry w [] = (w, None)
-carry w (d ∷ ds) = continue (act_of w (d w.control)).0 (act_of w (d w.control)).1 (λ v. carry v ds)
+carry w (d ∷ ds) = go w (d w.control) (λ v. carry v ds)
 
 -- a move that comes in any case
-abbrev pub now : Move → Deferred
-now m k = Some (Make m)
+abbrev pub now : Move → Entry
+now m k = Do (Make m)
+
+-- what doesn't pass ends the plan
+abbrev pub check : (Control → Bool) → Refusal → Entry
+check ok r k = if ok k then Pass else End r
 
 -- Where a server stopped, what follows its stop is carried out on the others, until one of them stops too; the
 -- server that stopped first is the one that counts.
-abbrev pub follow : World → Option ℕ → (ℕ → List Deferred) → Turn
-follow w None follows = (w, None)
-follow w (Some s) follows = ((carry w (follows s)).0, Some s)
+abbrev pub follow : World → Refusal → (ℕ → List Entry) → World
+follow w (StoppedIn s) follows = (carry w (follows s.0)).0
+follow w _ follows = w

@@ -1,6 +1,7 @@
 -- What a track contains, by the writes that it holds.
 use Rattle.std.specs.Prelude.{ℕ, ◌+◌, ◌-◌, List, map, length, replicate, ◌&&◌, nat_le, nat_lt, if◌then◌else◌}
-use Rattle.std.specs.List.{fold, range_with_len, slice_index_or}
+use Rattle.std.specs.List.{fold, flat_map, range_with_len, slice_index_or}
+use Rattle.std.specs.Option.{unwrap_or}
 use Rattle.dr_model.specs.declared.event.Event.{Event}
 use Rattle.dr_model.specs.Histories.{Write, histories}
 
@@ -28,3 +29,7 @@ image write ws = fold (with_write write) zeros ws
 -- what a track contains after a journal, by the host writes alone
 abbrev pub image_at : List Event → ℕ → ℕ → List ℕ
 image_at events v t = image (histories events).write ((histories events).now v t)
+
+-- what the tracks of a volume contain after a journal, track after track; nothing of a volume that isn't defined
+unfoldable pub volume_image : List Event → ℕ → List ℕ
+volume_image events v = flat_map (image_at events v) (range_with_len 0 (unwrap_or ((histories events).tracks v) 0))

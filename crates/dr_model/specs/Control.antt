@@ -1,5 +1,6 @@
 -- The control state: everything that a run knows but the bytes of the tracks.
-use Rattle.std.specs.Prelude.{ℕ, Bool, true, false, List, [], Option, None}
+use Rattle.std.specs.Prelude.{ℕ, Bool, true, false, List, [], Option, None, nat_eq}
+use Rattle.std.specs.List.{list_any}
 use Rattle.dr_model.specs.declared.event.Event.{Event}
 use Rattle.dr_model.specs.Contents.{zeros}
 use Rattle.dr_model.specs.Layout.{Fields, no_fields}
@@ -29,7 +30,7 @@ abbrev pub new_volume : ℕ → ℕ → Volume
 new_volume server tracks = record { server = server; tracks = tracks; slot = false; fields = no_fields; staged = None }
 
 -- servers and volumes in order of definition (a server's number is its place), which servers are on, their
--- fuses, each volume, how many writes were issued, and those that are pending
+-- fuses, each volume, how many writes were issued, and those that are pending, in order of issue
 pub record Control : Type 0 where
   pub servers : List (List ℕ)
   pub on : ℕ → Bool
@@ -49,6 +50,10 @@ no_control = record {
   issued = 0;
   pending = [];
 }
+
+-- the volume is defined
+abbrev pub is_volume : Control → ℕ → Bool
+is_volume k v = list_any (nat_eq v) k.volumes
 
 -- control, what each track contains, and the journal
 pub record World : Type 0 where

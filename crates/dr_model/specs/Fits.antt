@@ -1,19 +1,15 @@
 -- That a journal, a control state and the plant agree.
-use Rattle.std.specs.Prelude.{◌≡◌, ℕ, ◌<◌, Bool, List, [], ◌∷◌, ◌++◌, Option, Some, slice_get, nat_eq, ◌&&◌, if◌then◌else◌}
-use Rattle.dr_model.specs.Histories.{histories}
-use Rattle.dr_model.specs.Contents.{image}
+use Rattle.std.specs.Prelude.{◌≡◌, ℕ, ◌<◌, Bool, true, List, Option, nat_eq}
+use Rattle.std.specs.List.{position}
+use Rattle.std.specs.Option.{unwrap_or}
 use Rattle.dr_model.specs.Layout.{Blocks, slot_chosen, fields, staged, physical}
-use Rattle.dr_model.specs.Control.{World, Volume, Fuse, Pending}
+use Rattle.dr_model.specs.Control.{Control, World, Volume, Fuse, is_volume}
+use Rattle.dr_model.specs.Views.{view}
+use Rattle.dr_model.specs.Table.{due}
 
--- the writes that landed on a track in a stop, and whose acknowledgement waits for the next start
-abbrev pub waiting : List Pending → ℕ → ℕ → List ℕ
-waiting [] v t = []
-waiting (p ∷ ps) v t =
-    if p.landed && nat_eq p.volume v && nat_eq p.track t then p.w ∷ waiting ps v t else waiting ps v t
-
--- what a track contains, by the host writes of the journal and those that wait
-abbrev pub due : World → ℕ → ℕ → List ℕ
-due w v t = image (histories w.events).write ((histories w.events).now v t ++ waiting w.control.pending v t)
+-- the number of a volume's device: volumes lie on devices in order of definition
+abbrev pub device_of : Control → ℕ → ℕ
+device_of k v = unwrap_or (position (nat_eq v) k.volumes) 0
 
 -- a device says what is known of its volume
 pub record SaysVolume (blocks : Blocks) (v : Volume) : Type 0 where
@@ -21,11 +17,15 @@ pub record SaysVolume (blocks : Blocks) (v : Volume) : Type 0 where
   pub fields : fields v.tracks blocks ≡ v.fields
   pub staged : staged v.tracks blocks ≡ v.staged
 
+-- what a track contains on its device
+abbrev pub on_device : Control → (ℕ → Blocks) → ℕ → ℕ → List ℕ
+on_device k device v t = physical (k.volume v).tracks (device (device_of k v)) t
+
 -- Servers are on, and fuses armed, as the control state says; each volume's device says what is known of it; and
--- each track reads as the host writes of the journal say. Volumes lie on devices in order of definition.
+-- each track reads as the host writes of the journal say.
 pub record Fits (w : World) (on : ℕ → Bool) (fuse : ℕ → Option Fuse) (device : ℕ → Blocks) : Type 0 where
   pub servers : (s : ℕ) → s < 8 → on s ≡ w.control.on s
   pub fuses : (s : ℕ) → s < 8 → fuse s ≡ w.control.fuse s
-  pub volumes : (d v : ℕ) → slice_get w.control.volumes d ≡ Some v → SaysVolume (device d) (w.control.volume v)
-  pub tracks : (d v t : ℕ) → slice_get w.control.volumes d ≡ Some v → t < (w.control.volume v).tracks
-      → physical (w.control.volume v).tracks (device d) t ≡ due w v t
+  pub volumes : (v : ℕ) → is_volume w.control v ≡ true → SaysVolume (device (device_of w.control v)) (w.control.volume v)
+  pub tracks : (v t : ℕ) → is_volume w.control v ≡ true → t < (w.control.volume v).tracks
+      → view (λ u. (w.control.volume u).fields) (on_device w.control device) v t ≡ due w v t

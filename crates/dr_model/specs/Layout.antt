@@ -4,6 +4,7 @@ use Rattle.std.specs.Prelude.{ℕ, ◌+◌, ◌*◌, ◌/◌, ◌%◌, ◌^◌, 
 use Rattle.std.specs.List.{slice_index_or, range_with_len}
 use Rattle.std.specs.Ordering.{nat_cmp}
 use Rattle.std.specs.FinSet.{FinSet, contains, empty, from_list}
+use Rattle.dr_ids.specs.BigEndian.{be16_at, be32_at}
 use Rattle.dr_model.specs.Contents.{zeros}
 use Rattle.dr_model.specs.declared.state.Part.{Part}
 use Rattle.dr_model.specs.declared.state.Part.TheVariants.{Absent, Metro, Global}
@@ -59,13 +60,6 @@ byte block k = slice_index_or block k 0
 abbrev pub bit : ℕ → ℕ → Bool
 bit n k = nat_eq ((n / 2 ^ k) % 2) 1
 
--- numbers of two and four bytes, the highest byte first
-abbrev pub number16 : List ℕ → ℕ → ℕ
-number16 block k = byte block k * 256 + byte block (k + 1)
-
-abbrev pub number32 : List ℕ → ℕ → ℕ
-number32 block k = byte block k * 16777216 + byte block (k + 1) * 65536 + byte block (k + 2) * 256 + byte block (k + 3)
-
 abbrev pub part_of : ℕ → Part
 part_of n = if nat_eq n 1 then Metro else if nat_eq n 2 then Global else Absent
 
@@ -105,19 +99,19 @@ fields_of tracks slot =
     record {
       primary = first;
       primary_state = only_if (is_part first) (state_of (byte head 1)) CopyPending;
-      primary_partner = only_if (is_part first) (number16 head 8) 0;
+      primary_partner = only_if (is_part first) (be16_at head 8) 0;
       coordination = is_part first && bit (byte head 2) 0;
       long_busy = is_part first && bit (byte head 2) 1;
       recording = is_part first && bit (byte head 2) 2;
-      attempt = number32 head 16;
+      attempt = be32_at head 16;
       out_of_sync = only_if (is_part first) (first_set tracks (slot 1)) empty;
       change_recording = only_if (is_part first) (second_set tracks (slot 1)) empty;
       secondary = second;
       secondary_state = only_if (is_part second) (state_of (byte head 4)) CopyPending;
-      secondary_partner = only_if (is_part second) (number16 head 10) 0;
-      seal = only_if (is_part second) (number32 head 20) 0;
+      secondary_partner = only_if (is_part second) (be16_at head 10) 0;
+      seal = only_if (is_part second) (be32_at head 20) 0;
       related = source;
-      source = only_if source (number16 head 12) 0;
+      source = only_if source (be16_at head 12) 0;
       nocopy = source && bit (byte head 5) 1;
       persistent = source && bit (byte head 5) 2;
       recorded = source && bit (byte head 5) 3;
@@ -126,20 +120,20 @@ fields_of tracks slot =
       previous_own = only_if source (second_set tracks (slot 2)) empty;
       source_changes = only_if source (first_set tracks (slot 3)) empty;
       target_changes = only_if source (second_set tracks (slot 3)) empty;
-      sequence = only_if source (number32 head 24) 0;
-      previous_sequence = only_if source (number32 head 28) 0;
+      sequence = only_if source (be32_at head 24) 0;
+      previous_sequence = only_if source (be32_at head 28) 0;
       revertible = source && bit (byte head 5) 5;
       reversing = source && bit (byte head 5) 6;
       member = source && bit (byte head 5) 7;
       session = only_if source (byte head 6) 0;
-      floor = number32 head 32;
+      floor = be32_at head 32;
       blank = first_set tracks (slot 4);
     }
 
 -- the track that a slot stages, if any
 unfoldable pub staged_of : ℕ → Blocks → Option ℕ
 staged_of tracks slot =
-    if nat_eq (byte (slot 0) 7) 1 && nat_lt (number16 (slot 0) 14) tracks then Some (number16 (slot 0) 14) else None
+    if nat_eq (byte (slot 0) 7) 1 && nat_lt (be16_at (slot 0) 14) tracks then Some (be16_at (slot 0) 14) else None
 
 -- the gate's bit chooses slot 1, in blocks 7 to 12, or slot 0, in blocks 1 to 6
 abbrev pub slot_chosen : Blocks → Bool

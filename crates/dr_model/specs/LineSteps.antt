@@ -17,7 +17,7 @@ use Rattle.dr_model.specs.declared.grammar.Operand.TheVariants.{ServerName, Othe
 use Rattle.dr_model.specs.declared.grammar.Options.{Options}
 use Rattle.dr_model.specs.declared.grammar.Operands.{Operands}
 use Rattle.dr_model.specs.declared.grammar.Item.{Item}
-use Rattle.dr_model.specs.LineWords.{name_word, decimal_word, most_word, sequence_word, is_hex, block_of, torn_word, range_items, list_items, pair_items, lss_pair_items, are_ports, is_control_path, either_word, kind_word}
+use Rattle.dr_model.specs.LineWords.{name_word, decimal_word, most_word, sequence_word, is_hex, spelled_bytes, torn_word, range_items, list_items, pair_items, lss_pair_items, are_ports, is_control_path, either_word, kind_word}
 
 -- an option that is a flag has no value
 abbrev pub is_flag : Setting → Bool
@@ -163,7 +163,7 @@ no_operands = record {
 -- bytes that lie in one track from an offset on
 abbrev pub written : List ℕ → Operands → Option Operands
 written word p =
-    if is_hex word && nat_le (p.offset + length word / 2) 64 then Some (record p { len = length word / 2; bytes = block_of word }) else None
+    if is_hex word && nat_le (p.offset + length word / 2) 64 then Some (record p { len = length word / 2; bytes = spelled_bytes word }) else None
 
 -- an operand's value is set, where the word can stand as this operand
 unfoldable pub operand_value : Operand → List ℕ → Operands → Option Operands

@@ -4,7 +4,7 @@ use Rattle.std.specs.Fmt.{decimal}
 use Rattle.std.specs.List.{flat_map, list_all}
 use Rattle.std.specs.Option.{unwrap_or, option_or, is_none}
 use Rattle.std.specs.Str.{bytes_eq}
-use Rattle.dr_ids.specs.Spelling.{upper_digit}
+use Rattle.dr_ids.specs.Spelling.{hex2, hex4}
 use Rattle.dr_model.specs.declared.step.Name.{Name}
 use Rattle.dr_model.specs.declared.step.Devs.{Devs}
 use Rattle.dr_model.specs.declared.step.TornWord.{TornWord}
@@ -21,17 +21,9 @@ use Rattle.dr_model.specs.declared.grammar.Options.{Options}
 use Rattle.dr_model.specs.declared.grammar.Operands.{Operands}
 use Rattle.dr_model.specs.declared.grammar.Item.{Item}
 use Rattle.dr_model.specs.declared.grammar.Saying.{Saying}
-use Rattle.dr_model.specs.LineWords.{is_name, block_of}
+use Rattle.dr_model.specs.LineWords.{is_name, spelled_bytes}
 use Rattle.dr_model.specs.LineTable.{command_word, setting_word, settings, operands, may_end_with}
 use Rattle.dr_model.specs.LineSteps.{is_flag, has, no_options, no_operands, no_name, or_zero, lss_in}
-
--- upper-case hexadecimal: two digits for a byte
-abbrev pub hex2 : ℕ → List ℕ
-hex2 n = upper_digit (n / 16) ∷ upper_digit (n % 16) ∷ []
-
--- four digits for two bytes
-abbrev pub hex4 : ℕ → List ℕ
-hex4 n = hex2 (n / 256) ++ hex2 (n % 256)
 
 -- eight digits for four bytes
 abbrev pub hex8 : ℕ → List ℕ
@@ -266,7 +258,7 @@ setting_fits _ o i = true
 
 -- 64 bytes of which those behind the first so many are zero
 abbrev pub bytes_fit : ℕ → List ℕ → Bool
-bytes_fit len bytes = nat_eq (length bytes) 64 && list_all (λ b. nat_lt b 256) (take len bytes) && bytes_eq bytes (block_of (bytes_text (take len bytes)))
+bytes_fit len bytes = nat_eq (length bytes) 64 && list_all (λ b. nat_lt b 256) (take len bytes) && bytes_eq bytes (spelled_bytes (bytes_text (take len bytes)))
 
 -- what a torn block has is what a word says
 abbrev pub torn_fits : TornWord → Bool

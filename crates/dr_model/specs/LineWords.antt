@@ -101,13 +101,13 @@ abbrev pub byte_at : List ℕ → ℕ → ℕ
 byte_at word k = digit_or_zero (slice_index word (2 * k)) * 16 + digit_or_zero (slice_index word (2 * k + 1))
 
 -- 64 bytes: those that the word spells, and zeros behind them
-unfoldable pub block_of : List ℕ → List ℕ
-block_of word = map (byte_at word) (range_with_len 0 64)
+unfoldable pub spelled_bytes : List ℕ → List ℕ
+spelled_bytes word = map (byte_at word) (range_with_len 0 64)
 
 -- what a torn block has where it is changed: a byte that fills it, or 64 bytes
 abbrev pub torn_bytes_word : List ℕ → Option TornWord
 torn_bytes_word word =
-    if nat_eq (length word) 128 then (if all_digits 16 word then Some (Bytes (block_of word)) else None) else option_map (λ n. Fill n) (hex_word 2 word)
+    if nat_eq (length word) 128 then (if all_digits 16 word then Some (Bytes (spelled_bytes word)) else None) else option_map (λ n. Fill n) (hex_word 2 word)
 
 -- what a torn block has: `none` leaves it as it was
 abbrev pub torn_word : List ℕ → Option TornWord

@@ -1,14 +1,12 @@
 -- Which lines are steps: a script is cut into lines, and a line into words at single spaces.
-use Rattle.std.specs.Prelude.{ℕ, ◌+◌, ◌-◌, ◌*◌, Bool, false, ◌&&◌, ◌||◌, List, [], ◌∷◌, ◌++◌, length, replicate, nat_eq, nat_le, Option, Some, None, codes, if◌then◌else◌}
+use Rattle.std.specs.Prelude.{ℕ, ◌+◌, ◌/◌, Bool, false, ◌&&◌, ◌||◌, List, [], ◌∷◌, ◌++◌, length, nat_eq, nat_le, Option, Some, None, codes, if◌then◌else◌}
 use Rattle.std.specs.List.{slice_split, list_all}
 use Rattle.std.specs.Str.{bytes_eq}
 use Rattle.std.specs.Str.Lines.{lines}
-use Rattle.dr_ids.specs.Spelling.{digit_in, volume_word, number_word}
-use Rattle.dr_model.specs.declared.step.TornWord.{TornWord}
-use Rattle.dr_model.specs.declared.step.TornWord.TheVariants.{Same, Fill, Bytes}
+use Rattle.dr_ids.specs.Spelling.{volume_word, number_word}
 use Rattle.dr_model.specs.declared.step.Step.{Step}
 use Rattle.dr_model.specs.declared.step.Step.TheVariants.{Server, Volume, Stop, StopAfter, Start, Write, Show}
-use Rattle.dr_model.specs.LineWords.{◌>>=◌, is_gap, name_word, decimal_word}
+use Rattle.dr_model.specs.LineWords.{◌>>=◌, is_gap, name_word, decimal_word, is_hex, spelled_bytes, torn_word}
 use Rattle.dr_model.specs.Runs.{Task}
 
 -- the words of a line: what stands between its spaces
@@ -17,19 +15,6 @@ is_space b = nat_eq b 32
 
 abbrev pub words : List ℕ → List (List ℕ)
 words line = slice_split is_space line
-
--- bytes in hexadecimal, two digits each
-abbrev pub hex_bytes : List ℕ → Option (List ℕ)
-hex_bytes [] = Some []
-hex_bytes (a ∷ []) = None
-hex_bytes (a ∷ b ∷ rest) = digit_in 16 a >>= λ high. digit_in 16 b >>= λ low. hex_bytes rest >>= λ bytes. Some ((high * 16 + low) ∷ bytes)
-
--- bytes that lie in one track from an offset on
-abbrev pub is_in_track : ℕ → List ℕ → Bool
-is_in_track offset bytes = nat_le 1 (length bytes) && nat_le (offset + length bytes) 64
-
-abbrev pub write_of : ℕ → ℕ → ℕ → List ℕ → Step
-write_of v t offset bytes = Write v t offset (length bytes) (bytes ++ replicate (64 - length bytes) 0)
 
 -- `@server NAME`
 abbrev pub server_words : List (List ℕ) → Option Step
@@ -41,25 +26,23 @@ abbrev pub volume_words : List (List ℕ) → Option Step
 volume_words (volume ∷ name ∷ tracks ∷ []) = volume_word volume >>= λ v. name_word name >>= λ n. decimal_word tracks >>= λ t. Some (Volume v.0 n t)
 volume_words _ = None
 
+-- bytes in hexadecimal that lie in one track from an offset on
+abbrev pub lies_in_track : ℕ → List ℕ → Bool
+lies_in_track offset hex = is_hex hex && nat_le (offset + length hex / 2) 64
+
+abbrev pub write_of : ℕ → ℕ → ℕ → List ℕ → Step
+write_of v t offset hex = Write v t offset (length hex / 2) (spelled_bytes hex)
+
 -- `@write VOLUME TRACK OFFSET BYTES`
 abbrev pub write_words : List (List ℕ) → Option Step
 write_words (volume ∷ track ∷ offset ∷ hex ∷ []) =
-    volume_word volume >>= λ v. decimal_word track >>= λ t. number_word 63 offset >>= λ o. hex_bytes hex >>= λ bytes.
-    if is_in_track o bytes then Some (write_of v.0 t o bytes) else None
+    volume_word volume >>= λ v. decimal_word track >>= λ t. number_word 63 offset >>= λ o. if lies_in_track o hex then Some (write_of v.0 t o hex) else None
 write_words _ = None
 
 -- `@show VOLUME TRACK`
 abbrev pub show_words : List (List ℕ) → Option Step
 show_words (volume ∷ track ∷ []) = volume_word volume >>= λ v. decimal_word track >>= λ t. Some (Show v.0 t)
 show_words _ = None
-
--- what is left in a block whose write is cut short: what stood there, a byte that fills it, or 64 bytes
-abbrev pub torn_of : List ℕ → Option TornWord
-torn_of (b ∷ []) = Some (Fill b)
-torn_of bytes = if nat_eq (length bytes) 64 then Some (Bytes bytes) else None
-
-abbrev pub torn_word : List ℕ → Option TornWord
-torn_word word = if bytes_eq word (codes "none") then Some Same else hex_bytes word >>= torn_of
 
 -- `NAME after WRITES torn TORN`
 abbrev pub stop_after : List ℕ → List ℕ → List ℕ → List ℕ → List ℕ → Option Step

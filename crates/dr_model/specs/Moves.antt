@@ -3,10 +3,10 @@
 use Rattle.std.specs.Prelude.{ℕ, Bool, true, false, not, List, [], ◌∷◌, filter, Option, Some, None, nat_eq, if◌then◌else◌}
 use Rattle.std.specs.FinSet.{contains, remove}
 use Rattle.dr_model.specs.Tables.{at}
-use Rattle.dr_model.specs.Histories.{histories}
+use Rattle.dr_model.specs.Histories.{Write}
 use Rattle.dr_model.specs.Contents.{zeros, with_write}
 use Rattle.dr_model.specs.Layout.{Fields}
-use Rattle.dr_model.specs.Control.{Control, Pending, Volume, World}
+use Rattle.dr_model.specs.Control.{Pending, Volume, World}
 use Rattle.dr_model.specs.declared.event.Event.{Event}
 use Rattle.dr_model.specs.declared.event.Event.TheVariants.{Ack}
 
@@ -18,25 +18,25 @@ pub data Move : Type 0 where
 abbrev pub target : Move → ℕ
 target (Land w v t) = v
 
--- the fields that the move leaves
-abbrev pub next_fields : Move → Fields → Fields
-next_fields (Land w v t) f = record f { blank = remove f.blank t }
+-- the fields that the move leaves there, by those of all volumes before it
+abbrev pub next_fields : Move → (ℕ → Volume) → Fields
+next_fields (Land w v t) volume = record (volume v).fields { blank = remove (volume v).fields.blank t }
 
 -- a track with its new bytes, or none
 abbrev pub Carried : Type 0
 Carried = Option (ℕ × List ℕ)
 
--- the track that the move carries, with its bytes
-abbrev pub carried : Move → World → Carried
-carried (Land n v t) w = Some (t, with_write (histories w.events).write (w.contents v t) n)
+-- the track that the move carries, with its bytes: those of a track of some volume, maybe with a host write over them
+abbrev pub carried : Move → (ℕ → Volume) → (ℕ → ℕ → List ℕ) → (ℕ → Write) → Carried
+carried (Land n v t) volume contents write = Some (t, with_write write (contents v t) n)
 
--- what the journal is told when the move is done
-abbrev pub told : Move → List Event
-told (Land n v t) = Ack n ∷ []
+-- what the journal is told when the move is done, by the volume as it was
+abbrev pub told : Move → Volume → List Event
+told (Land n v t) u = Ack n ∷ []
 
 -- what it is told where the server stopped in a move that counts as done: the write is acknowledged at the next start
-abbrev pub told_in_stop : Move → List Event
-told_in_stop (Land n v t) = []
+abbrev pub told_in_stop : Move → Volume → List Event
+told_in_stop (Land n v t) u = []
 
 -- the write that a stop leaves landed, 0 for none
 abbrev pub landed : Move → ℕ
@@ -52,13 +52,12 @@ abbrev pub marked : ℕ → List Pending → List Pending
 marked n [] = []
 marked n (p ∷ ps) = (if is_write n p then record p { landed = true } else p) ∷ marked n ps
 
--- what the move changes in the tables when it is done
-abbrev pub settled : Move → Control → Control
-settled (Land n v t) k = record k { pending = filter (is_other n) k.pending }
+-- the pending writes when the move is done, and where the server stopped in it
+abbrev pub settled : Move → List Pending → List Pending
+settled (Land n v t) ps = filter (is_other n) ps
 
--- and where the server stopped in it
-abbrev pub settled_in_stop : Move → Control → Control
-settled_in_stop (Land n v t) k = record k { pending = marked n k.pending }
+abbrev pub settled_in_stop : Move → List Pending → List Pending
+settled_in_stop (Land n v t) ps = marked n ps
 
 -- a volume after a move: the other slot has the new fields, and the carried track is staged
 abbrev pub staged_track : Carried → Option ℕ
@@ -70,7 +69,7 @@ moved v f c = record v { slot = not v.slot; fields = f; staged = staged_track c 
 
 abbrev pub is_carried : Carried → ℕ → Bool
 is_carried None t = false
-is_carried (Some c) t = nat_eq c.0 t
+is_carried (Some c) t = nat_eq t c.0
 
 abbrev pub carried_bytes : Carried → List ℕ
 carried_bytes None = zeros

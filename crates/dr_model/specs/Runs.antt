@@ -1,10 +1,11 @@
 -- Whole runs: the steps of a script in order, each ended by its answer.
 use Rattle.std.specs.Prelude.{ℕ, List, [], ◌∷◌, ◌++◌, Option, Some, None}
 use Rattle.std.specs.List.{fold}
-use Rattle.dr_model.specs.Control.{World, nothing}
-use Rattle.dr_model.specs.Carry.{Turn, carry, follow}
+use Rattle.dr_ids.specs.declared.refusal.Refusal.{Refusal}
+use Rattle.dr_model.specs.Control.{Control, World, nothing}
+use Rattle.dr_model.specs.Carry.{Outcome, carry, follow}
 use Rattle.dr_model.specs.declared.said.Said.{Said}
-use Rattle.dr_model.specs.declared.said.Said.TheVariants.{StoppedIn}
+use Rattle.dr_model.specs.declared.said.Said.TheVariants.{Refused}
 use Rattle.dr_model.specs.Answers.{answer}
 use Rattle.dr_model.specs.Plans.{Plan, plan}
 use Rattle.dr_model.specs.declared.step.Step.{Step}
@@ -18,24 +19,29 @@ pub record Task : Type 0 where
 abbrev pub begun : World → Plan → World
 begun w p = record w { control = p.first w.control; events = w.events ++ p.told }
 
--- a plan is carried out, with what follows where a server stops in it
-abbrev pub carried_out : World → Plan → Turn
-carried_out w p = follow (carry (begun w p) p.acts).0 (carry (begun w p) p.acts).1 p.follows
+-- where the entries ended well, the tables as the step ends; where a server stopped, what follows its stop
+abbrev pub finish : Plan → World → Option Refusal → World
+finish p w None = record w { control = p.last w.control }
+finish p w (Some r) = follow w r p.follows
 
--- what a step answers, by the server that stopped in it
-abbrev pub answered : Plan → Option ℕ → Said
-answered p None = p.says
-answered p (Some server) = StoppedIn server
+-- a plan is carried out: the world, and the refusal, if one
+abbrev pub carried_out : World → Plan → Outcome
+carried_out w p = (finish p (carry (begun w p) p.entries).0 (carry (begun w p) p.entries).1, (carry (begun w p) p.entries).1)
+
+-- what a step answers
+abbrev pub answered : Plan → Control → Option Refusal → Said
+answered p k None = p.says k
+answered p k (Some r) = Refused r
 
 abbrev pub said : World → ℕ → Said → World
 said w line a = record w { events = w.events ++ answer line a ∷ [] }
 
 -- a plan carried out, and answered
 unfoldable pub after_plan : World → ℕ → Plan → World
-after_plan w line p = said (carried_out w p).0 line (answered p (carried_out w p).1)
+after_plan w line p = said (carried_out w p).0 line (answered p (carried_out w p).0.control (carried_out w p).1)
 
 abbrev pub after_task : World → Task → World
-after_task w t = after_plan w t.line (plan w.control w.contents t.line t.step)
+after_task w t = after_plan w t.line (plan w.control w.events t.line t.step)
 
 -- the world after steps in order
 unfoldable pub after_tasks : World → List Task → World

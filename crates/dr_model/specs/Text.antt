@@ -1,9 +1,9 @@
 -- The text that a journal prints.
-use Rattle.std.specs.Prelude.{ℕ, ◌/◌, ◌%◌, List, [], ◌∷◌, ◌++◌, take, nat_eq, if◌then◌else◌, Option, Some, None, codes}
+use Rattle.std.specs.Prelude.{ℕ, ◌+◌, ◌*◌, ◌/◌, ◌%◌, List, [], ◌∷◌, ◌++◌, take, nat_eq, nat_lt, if◌then◌else◌, Option, Some, None, codes, min, max}
 use Rattle.std.specs.List.{flat_map}
 use Rattle.std.specs.Fmt.{decimal}
 use Rattle.std.specs.Option.{option_or, unwrap_or}
-use Rattle.dr_ids.specs.Spelling.{upper_digit}
+use Rattle.dr_ids.specs.Spelling.{hex2, hex4}
 use Rattle.dr_model.specs.Contents.{zeros}
 use Rattle.dr_model.specs.declared.event.Event.{Event}
 use Rattle.dr_model.specs.declared.event.Event.TheVariants.{Server, Shown, Answer}
@@ -32,21 +32,18 @@ shown_in _ = None
 abbrev pub heard : Told → Event → Told
 heard told e = record { names = λ s. option_or (told.names s) (name_in e s); shown = unwrap_or (shown_in e) told.shown }
 
-abbrev pub name_of : Told → ℕ → List ℕ
-name_of told s = unwrap_or (told.names s) []
-
--- upper-case hexadecimal, two digits a byte
-abbrev pub hex_pair : ℕ → List ℕ
-hex_pair b = upper_digit (b / 16) ∷ upper_digit (b % 16) ∷ []
+-- the name that a server was given
+abbrev pub told_name : Told → ℕ → List ℕ
+told_name told s = unwrap_or (told.names s) []
 
 -- bytes without the zeros at their end
-abbrev pub onto : ℕ → List ℕ → List ℕ
-onto b [] = if nat_eq b 0 then [] else b ∷ []
-onto b (c ∷ cs) = b ∷ c ∷ cs
+abbrev pub before_trimmed : ℕ → List ℕ → List ℕ
+before_trimmed b [] = if nat_eq b 0 then [] else b ∷ []
+before_trimmed b (c ∷ cs) = b ∷ c ∷ cs
 
 abbrev pub trimmed : List ℕ → List ℕ
 trimmed [] = []
-trimmed (b ∷ bs) = onto b (trimmed bs)
+trimmed (b ∷ bs) = before_trimmed b (trimmed bs)
 
 abbrev pub or_dash : List ℕ → List ℕ
 or_dash [] = codes "-"
@@ -54,27 +51,123 @@ or_dash (b ∷ bs) = b ∷ bs
 
 -- a track as it is shown: in hexadecimal without the zero bytes at its end, or a dash
 abbrev pub track_text : List ℕ → List ℕ
-track_text bytes = or_dash (flat_map hex_pair (trimmed bytes))
+track_text bytes = or_dash (flat_map hex2 (trimmed bytes))
+
+-- the words of values by their places
+abbrev pub kind_word : ℕ → List ℕ
+kind_word n =
+    if nat_eq n 0 then codes "server" else if nat_eq n 1 then codes "volume" else if nat_eq n 2 then codes "lss"
+    else if nat_eq n 3 then codes "path" else if nat_eq n 4 then codes "write" else if nat_eq n 5 then codes "session"
+    else if nat_eq n 6 then codes "track" else if nat_eq n 7 then codes "master" else []
+
+abbrev pub limit_word : ℕ → List ℕ
+limit_word n =
+    if nat_eq n 0 then codes "servers" else if nat_eq n 1 then codes "volumes" else if nat_eq n 2 then codes "tracks"
+    else if nat_eq n 3 then codes "sessions" else if nat_eq n 4 then codes "pending" else if nat_eq n 5 then codes "targets"
+    else if nat_eq n 6 then codes "groups" else if nat_eq n 7 then codes "size" else if nat_eq n 8 then codes "server" else []
+
+abbrev pub phase_word : ℕ → List ℕ
+phase_word n =
+    if nat_eq n 0 then codes "none" else if nat_eq n 1 then codes "Idle" else if nat_eq n 2 then codes "Coordinating"
+    else if nat_eq n 3 then codes "Releasing" else if nat_eq n 4 then codes "Draining" else if nat_eq n 5 then codes "Flashing"
+    else if nat_eq n 6 then codes "Committing" else if nat_eq n 7 then codes "Reverting" else if nat_eq n 8 then codes "Finishing"
+    else if nat_eq n 9 then codes "Lost" else []
+
+abbrev pub pair_words : ℕ → List ℕ
+pair_words n =
+    if nat_eq n 0 then codes "Copy Pending" else if nat_eq n 1 then codes "Full Duplex" else if nat_eq n 2 then codes "Suspended"
+    else if nat_eq n 3 then codes "Target Copy Pending" else if nat_eq n 4 then codes "Target Full Duplex"
+    else if nat_eq n 5 then codes "Target Suspended" else if nat_eq n 6 then codes "none" else []
+
+abbrev pub relation_word : ℕ → List ℕ
+relation_word n =
+    if nat_eq n 0 then codes "revertible" else if nat_eq n 1 then codes "reversing" else if nat_eq n 2 then codes "target"
+    else if nat_eq n 3 then codes "source" else if nat_eq n 4 then codes "none" else []
+
+-- a decision has one number in parentheses, or two
+abbrev pub one_number : ℕ → List ℕ
+one_number a = codes "(" ++ decimal a ++ codes ")"
+
+abbrev pub two_numbers : ℕ → ℕ → List ℕ
+two_numbers a b = codes "(" ++ decimal a ++ codes "," ++ decimal b ++ codes ")"
+
+abbrev pub decision_text : ℕ → ℕ → ℕ → List ℕ
+decision_text n a b =
+    if nat_eq n 0 then codes "NoMember"
+    else if nat_eq n 1 then codes "Nothing" ++ one_number a
+    else if nat_eq n 2 then codes "RevertAll" ++ one_number a
+    else if nat_eq n 3 then codes "CommitRest" ++ one_number a
+    else if nat_eq n 4 then codes "RevertSome" ++ two_numbers a b
+    else if nat_eq n 5 then codes "Impossible" ++ two_numbers a b
+    else []
+
+-- the decision of a group that is given: of some reverted, the group is the others' number
+abbrev pub group_decision : ℕ → ℕ → ℕ → List ℕ
+group_decision n group number = if nat_eq n 4 then decision_text n group number else decision_text n number 0
 
 -- what an ok adds
-abbrev pub addition : Told → ℕ → ℕ → List ℕ
-addition told kind n =
-    if nat_eq kind 1 then codes " w" ++ decimal n
-    else if nat_eq kind 2 then codes " acked w" ++ decimal n
+abbrev pub addition : Told → ℕ → ℕ → ℕ → List ℕ
+addition told kind a b =
+    if nat_eq kind 1 then codes " w" ++ decimal a
+    else if nat_eq kind 2 then codes " acked w" ++ decimal a
+    else if nat_eq kind 3 then codes " " ++ decimal a
+    else if nat_eq kind 4 then codes " " ++ phase_word a ++ codes " " ++ decimal b
     else if nat_eq kind 6 then codes " " ++ track_text told.shown
+    else if nat_eq (kind % 256) 5 then codes " group " ++ decimal a ++ codes " " ++ group_decision (kind / 256) a b
+    else []
+
+-- the words that a refusal begins with
+abbrev pub refusal_words : ℕ → List ℕ
+refusal_words code =
+    if nat_eq code 1 then codes "E01 syntax" else if nat_eq code 2 then codes "E02 unknown" else if nat_eq code 3 then codes "E03 duplicate"
+    else if nat_eq code 4 then codes "E04 limit" else if nat_eq code 5 then codes "E05 server off" else if nat_eq code 6 then codes "E06 link down"
+    else if nat_eq code 7 then codes "E07 void" else if nat_eq code 8 then codes "E08 not primary" else if nat_eq code 9 then codes "E09 inhibited"
+    else if nat_eq code 10 then codes "E10 pair state" else if nat_eq code 11 then codes "E11 relation state" else if nat_eq code 12 then codes "E12 in session"
+    else if nat_eq code 13 then codes "E13 not in session" else if nat_eq code 14 then codes "E14 in formation" else if nat_eq code 15 then codes "E15 out of order"
+    else if nat_eq code 16 then codes "E16 unsealed" else if nat_eq code 17 then codes "E17 stale" else if nat_eq code 18 then codes "E18 decision"
+    else if nat_eq code 19 then codes "E19 not identical" else if nat_eq code 20 then codes "E20 numbers spent" else if nat_eq code 21 then codes "E21 stopped"
+    else if nat_eq code 22 then codes "E22 no group" else if nat_eq code 23 then codes "E23 journal full" else if nat_eq code 24 then codes "E24 not built" else []
+
+-- of two servers, the lower numbered first
+abbrev pub link_text : Told → ℕ → ℕ → List ℕ
+link_text told a b = codes " " ++ told_name told (min a b) ++ codes " " ++ told_name told (max a b)
+
+-- what it says of its numbers
+abbrev pub refusal_values : Told → ℕ → ℕ → ℕ → ℕ → List ℕ
+refusal_values told code a b c =
+    if nat_eq code 1 then codes " " ++ decimal a
+    else if nat_eq code 2 then codes " " ++ kind_word a
+    else if nat_eq code 3 then codes " " ++ kind_word a
+    else if nat_eq code 4 then codes " " ++ limit_word a
+    else if nat_eq code 5 then codes " " ++ told_name told a
+    else if nat_eq code 6 then link_text told a b
+    else if nat_eq code 7 then codes " " ++ decimal a
+    else if nat_eq code 8 then codes " " ++ hex4 a
+    else if nat_eq code 9 then codes " " ++ hex4 a
+    else if nat_eq code 10 then codes " " ++ hex4 a ++ codes " " ++ pair_words b
+    else if nat_eq code 11 then codes " " ++ hex4 a ++ codes " " ++ relation_word b
+    else if nat_eq code 12 then codes " " ++ hex2 a
+    else if nat_eq code 13 then codes " " ++ hex2 a
+    else if nat_eq code 14 then codes " " ++ phase_word a ++ codes " " ++ decimal b
+    else if nat_eq code 15 then codes " " ++ phase_word a
+    else if nat_eq code 16 then codes " " ++ hex4 a ++ codes " " ++ decimal b
+    else if nat_eq code 17 then codes " " ++ decimal a ++ codes " " ++ decimal b
+    else if nat_eq code 18 then codes " " ++ decision_text a b c
+    else if nat_eq code 19 then codes " " ++ decimal a
+    else if nat_eq code 21 then codes " " ++ told_name told a
+    else if nat_eq code 22 then codes " " ++ decision_text a b c
     else []
 
 -- what an answer says
-abbrev pub said_text : Told → ℕ → ℕ → ℕ → List ℕ
-said_text told code a b =
-    if nat_eq code 0 then codes "ok" ++ addition told a b
-    else if nat_eq code 5 then codes "E05 server off " ++ name_of told a
-    else if nat_eq code 21 then codes "E21 stopped " ++ name_of told a
-    else if nat_eq code 24 then codes "E24 not built" else []
+abbrev pub said_text : Told → ℕ → ℕ → ℕ → ℕ → List ℕ
+said_text told code a b c =
+    if nat_eq code 0 then codes "ok" ++ addition told a b c
+    else if nat_eq code 100 then codes "held w" ++ decimal a
+    else refusal_words code ++ refusal_values told code a b c
 
 -- the line that an event prints; most print none
 abbrev pub line_text : Told → Event → List ℕ
-line_text told (Answer line code a b c) = decimal line ++ codes " " ++ said_text told code a b ++ 10 ∷ []
+line_text told (Answer line code a b c) = decimal line ++ codes " " ++ said_text told code a b c ++ 10 ∷ []
 line_text told _ = []
 
 -- what is printed for events, after others that told something

@@ -13,6 +13,6 @@ pub use event::Event;
 pub use grammar::{Command, Item, Operand, Operands, Options, Place, Saying, Setting, Span};
 pub use image::image_of;
 pub use journal::Journal;
-pub use said::Said;
+pub use said::{Addition, Numbers, Said};
 pub use state::{PairState, Part};
 pub use step::{Devs, Name, Step, TornWord};

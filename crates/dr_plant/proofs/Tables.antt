@@ -3,7 +3,7 @@ use Rattle.std.specs.Prelude.{slice_get, Option, Some, None}
 use Rattle.std.proofs.lemmas.Grind.{common_steps}
 use Rattle.std.proofs.lemmas.Bool.Decides.{nat_tests}
 use Rattle.dr_plant.specs.State.{at, zeros}
-use Rattle.dr_plant.specs.Model.{each, contents, block_of}
+use Rattle.dr_plant.specs.Model.{each, contents, device_block}
 use Rattle.dr_plant.specs.declared.device.Device.{Device}
 
 -- a list with one element replaced is the function with that value changed
@@ -25,10 +25,10 @@ get-push (x ∷ ds) d (suc q) =
 blank-block : (n b : ℕ) → get_or (replicate n zeros) b zeros ≡ zeros
 blank-block n b = grind (arith, common_steps)
 
-pick : (v : Bool) (d : Device) (other : Option Device) (b : ℕ) → block_of (Some d) b ≡ zeros → block_of (cond v (Some d) other) b ≡ cond v (λ b. zeros) (block_of other) b
+pick : (v : Bool) (d : Device) (other : Option Device) (b : ℕ) → device_block (Some d) b ≡ zeros → device_block (cond v (Some d) other) b ≡ cond v (λ b. zeros) (device_block other) b
 pick true d other b h = h
 pick false d other b h = refl
 
 pub contents-push : (ds : List Device) (d : Device) (n : ℕ) → d.blocks.items ≡ replicate n zeros → contents (ds ++ d ∷ []) ≡ at (contents ds) (length ds) (λ b. zeros)
 contents-push ds d n e i q b =
-    (ap (λ o. block_of o b) (get-push ds d q) ∙ pick (nat_eq q (length ds)) d (slice_get ds q) b (ap (λ xs. get_or xs b zeros) e ∙ blank-block n b)) i
+    (ap (λ o. device_block o b) (get-push ds d q) ∙ pick (nat_eq q (length ds)) d (slice_get ds q) b (ap (λ xs. get_or xs b zeros) e ∙ blank-block n b)) i

@@ -16,9 +16,9 @@ size_of None = 0
 size_of (Some d) = length d.blocks.items
 
 -- Each block of a device, and zeros of none and past its end.
-abbrev pub block_of : Option Device → ℕ → List ℕ
-block_of None b = zeros
-block_of (Some d) b = slice_index_or d.blocks.items b zeros
+abbrev pub device_block : Option Device → ℕ → List ℕ
+device_block None b = zeros
+device_block (Some d) b = slice_index_or d.blocks.items b zeros
 
 -- The owner of each device.
 abbrev pub owners : List Device → ℕ → ℕ
@@ -30,7 +30,7 @@ sizes ds d = size_of (slice_get ds d)
 
 -- The blocks of each device.
 abbrev pub contents : List Device → ℕ → ℕ → List ℕ
-contents ds d b = block_of (slice_get ds d) b
+contents ds d b = device_block (slice_get ds d) b
 
 -- The value of each server, and none past the last.
 abbrev pub each : {X : Type 0} → X → List X → ℕ → X

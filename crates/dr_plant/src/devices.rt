@@ -18,7 +18,7 @@ pub fn owner_of(devices: &Vec<Device>, dev: usize) -> usize
 }
 
 /// A block of a device.
-pub fn block_of(devices: &Vec<Device>, dev: usize, block: usize) -> Block
+pub fn device_block(devices: &Vec<Device>, dev: usize, block: usize) -> Block
     requires device { dev < vec_len devices.now }
     requires block { block < sizes devices.now.items dev }
     ensures { result ≡ contents devices.now.items dev block }

@@ -72,7 +72,7 @@ impl Plant for ModelPlant {
     fn read(&mut self, dev: DeviceId, block: u16, into: &mut Block) -> Result<(), Stopped> {
         let owner = devices::owner_of(&self.devices, dev.0 as usize);
         if self.on[owner] && passes_read(self.read_fuses[owner]) {
-            *into = devices::block_of(&self.devices, dev.0 as usize, block as usize);
+            *into = devices::device_block(&self.devices, dev.0 as usize, block as usize);
             return Ok(());
         }
         self.on[owner] = false;
@@ -90,7 +90,7 @@ impl Plant for ModelPlant {
         }
         let fuse = self.write_fuses[owner];
         if !passes_write(fuse) {
-            let left = torn_block(fuse, devices::block_of(&self.devices, dev, block));
+            let left = torn_block(fuse, devices::device_block(&self.devices, dev, block));
             devices::put_block(&mut self.devices, dev, block, &left);
             self.on[owner] = false;
             self.faults = risen(self.faults);
@@ -103,7 +103,7 @@ impl Plant for ModelPlant {
     }
 
     fn peek(&self, dev: DeviceId, block: u16) -> Block {
-        devices::block_of(&self.devices, dev.0 as usize, block as usize)
+        devices::device_block(&self.devices, dev.0 as usize, block as usize)
     }
 
     fn arm_writes(&mut self, server: u8, after: u32, torn: Torn) {

@@ -21,9 +21,10 @@ use Rattle.dr_model.specs.declared.grammar.Operand.{Operand}
 use Rattle.dr_model.specs.declared.grammar.Operand.TheVariants.{ServerName, OtherName, UpOrDown, AfterWord, TornMark, TornBytes, OneVolume, OtherVolume, Count, TrackNumber, Offset, WriteBytes, CountOrAll, SessionNumber, NoReply, LssNumber, VolumeRange, VolumeList, VolumePair, LssPair, Ports, ControlPath}
 use Rattle.dr_model.specs.declared.grammar.Operands.{Operands}
 use Rattle.dr_model.specs.declared.grammar.Item.{Item}
-use Rattle.dr_model.specs.LineWords.{block_of, is_hex, torn_word, torn_bytes_word, most_word, decimal_word, either_word}
+use Rattle.dr_model.specs.LineWords.{spelled_bytes, is_hex, torn_word, torn_bytes_word, most_word, decimal_word, either_word}
 use Rattle.dr_model.specs.LineSteps.{operand_value, operand_items, lss_in}
-use Rattle.dr_model.specs.LineText.{hex2, hex4, torn_text, most_text, bytes_text, operand_text, operand_fits, torn_fits, most_fits, bytes_fit}
+use Rattle.dr_ids.specs.Spelling.{hex2, hex4}
+use Rattle.dr_model.specs.LineText.{torn_text, most_text, bytes_text, operand_text, operand_fits, torn_fits, most_fits, bytes_fit}
 use Rattle.dr_script.proofs.CutLemmas.{is_inked, both, and_true}
 use Rattle.dr_script.proofs.TextLemmas.{lss_reads, byte_reads, session_reads, volume_reads, decimal_reads, name_reads, decimal_inked, hex2_inked, hex4_inked, same_bytes, bytes_read}
 use Rattle.dr_script.proofs.ItemTextLemmas.{range_reads, list_reads, pair_reads, lss_pair_reads}
@@ -105,8 +106,8 @@ torn_reads (Bytes bytes) e =
     let long : nat_eq (length t) 128 ≡ true = grind (arith, nat_tests, size) in
     record {
       reads = ap torn_word same ∙ ap (λ b. cond b (Some Same) (torn_bytes_word t)) (differs t (codes "none") (omega arith))
-          ∙ ap (λ b. cond b (cond (all_digits 16 t) (Some (Bytes (block_of t))) None) (option_map (λ n. Fill n) (hex_word 2 t))) long
-          ∙ ap (λ b. cond b (Some (Bytes (block_of t))) None) r.digits ∙ ap (λ bs. Some (Bytes bs)) r.block;
+          ∙ ap (λ b. cond b (cond (all_digits 16 t) (Some (Bytes (spelled_bytes t))) None) (option_map (λ n. Fill n) (hex_word 2 t))) long
+          ∙ ap (λ b. cond b (Some (Bytes (spelled_bytes t))) None) r.digits ∙ ap (λ bs. Some (Bytes bs)) r.block;
       inked = rw same r.inked;
       few = rw same (omega arith);
     }
@@ -205,7 +206,7 @@ operand_reads WriteBytes p cur i e s =
     let half : length t / 2 ≡ p.len = omega arith in
     let lies : nat_le (cur.offset + length t / 2) 64 ≡ true = (let z : cur.offset + length t / 2 ≤ 64 = omega (arith, s, half) in grind (arith, nat_tests, z)) in
     record {
-      reads = ap (λ b. cond b (Some (record cur { len = length t / 2; bytes = block_of t })) None) (and_true (is_hex t) _ r.hex lies)
+      reads = ap (λ b. cond b (Some (record cur { len = length t / 2; bytes = spelled_bytes t })) None) (and_true (is_hex t) _ r.hex lies)
           ∙ (λ j. Some (record cur { len = half j; bytes = r.block j }));
       items = refl;
       inked = r.inked;

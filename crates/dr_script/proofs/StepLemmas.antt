@@ -19,7 +19,8 @@ use Rattle.dr_model.specs.declared.grammar.Options.{Options}
 use Rattle.dr_model.specs.declared.grammar.Saying.{Saying}
 use Rattle.dr_model.specs.LineTable.{command_word, commands, setting_word, settings, needed, operands, may_end_with, own_steps}
 use Rattle.dr_model.specs.LineSteps.{has, no_options, no_operands, step_of, lss_in}
-use Rattle.dr_model.specs.LineText.{hex2, hex4, settings_words, settings_fit, operand_text, operand_words, operand_fits, operands_fit, spaced, said_count, said_operands, said_text, said_fits, given, at_sign, for_item, for_session, for_lss, at_saying, pair_saying, flash_saying, session_saying, step_text, is_written}
+use Rattle.dr_ids.specs.Spelling.{hex2, hex4}
+use Rattle.dr_model.specs.LineText.{settings_words, settings_fit, operand_text, operand_words, operand_fits, operands_fit, spaced, said_count, said_operands, said_text, said_fits, given, at_sign, for_item, for_session, for_lss, at_saying, pair_saying, flash_saying, session_saying, step_text, is_written}
 use Rattle.dr_model.specs.Grammar.{Reading, command_named, setting_named, is_ready, begins_comment, may_end, steps_of, line_of}
 use Rattle.dr_script.proofs.CutLemmas.{is_inked, both, inked-append, spaced-append, run, line_read}
 use Rattle.dr_script.proofs.TextLemmas.{upper_not}

@@ -12,8 +12,9 @@ use Rattle.std.proofs.lemmas.Fmt.{decimal_is_IsNumeral, length-decimal-le}
 use Rattle.dr_ids.specs.Spelling.{upper_digit, hex_word, spelled, all_digits, but_zero, up_to, lss_word, volume_word, session_word, number_word}
 use Rattle.dr_ids.proofs.Digits.{spelled_some, digits_all}
 use Rattle.dr_model.specs.declared.step.Name.{Name}
-use Rattle.dr_model.specs.LineWords.{mark_at, begins_with_letter, is_hex, block_of, is_name, is_name_byte, name_of, name_word, sequence_word}
-use Rattle.dr_model.specs.LineText.{hex2, hex4, hex8, unpadded, sequence_text, name_text, name_fits, bytes_text, bytes_fit}
+use Rattle.dr_model.specs.LineWords.{mark_at, begins_with_letter, is_hex, spelled_bytes, is_name, is_name_byte, name_of, name_word, sequence_word}
+use Rattle.dr_ids.specs.Spelling.{hex2, hex4}
+use Rattle.dr_model.specs.LineText.{hex8, unpadded, sequence_text, name_text, name_fits, bytes_text, bytes_fit}
 use Rattle.dr_script.specs.Pieces.{is_ink}
 use Rattle.dr_script.proofs.CutLemmas.{is_inked, both, and_true}
 
@@ -273,7 +274,7 @@ pub record BytesRead (len : ℕ) (bytes : List ℕ) : Type 0 where
   pub hex : is_hex (bytes_text (take len bytes)) ≡ true
   pub digits : all_digits 16 (bytes_text (take len bytes)) ≡ true
   pub size : length (bytes_text (take len bytes)) ≡ 2 * len
-  pub block : block_of (bytes_text (take len bytes)) ≡ bytes
+  pub block : spelled_bytes (bytes_text (take len bytes)) ≡ bytes
   pub inked : is_inked (bytes_text (take len bytes)) ≡ true
 
 pub bytes_read : (len : ℕ) (bytes : List ℕ) → 1 ≤ len → len ≤ 64 → bytes_fit len bytes ≡ true → BytesRead len bytes
@@ -294,6 +295,6 @@ bytes_read len bytes some few fits =
       hex = and_true _ _ (and_true _ _ (and_true _ _ at_least at_most) even) all;
       digits = all;
       size = size;
-      block = sym (same_bytes bytes (block_of t) outer.1);
+      block = sym (same_bytes bytes (spelled_bytes t) outer.1);
       inked = inked_if t (omega arith) (digits_ink 16 t (omega arith) d.0);
     }

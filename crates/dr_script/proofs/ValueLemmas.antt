@@ -5,7 +5,7 @@ use Rattle.std.proofs.lemmas.List.{take_more_set, drop-replicate}
 use Rattle.std.proofs.lemmas.List.FromFn.{map-range_with_len_more}
 use Rattle.std.specs.List.{range_with_len}
 use Rattle.dr_model.specs.Contents.{zeros}
-use Rattle.dr_model.specs.LineWords.{byte_at, block_of}
+use Rattle.dr_model.specs.LineWords.{byte_at, spelled_bytes}
 use Rattle.dr_script.specs.Pieces.{empty_name}
 
 pub length-zeros : length zeros ≡ 64
@@ -24,7 +24,7 @@ byte_more word bytes k byte lt is front =
     take_more_set bytes k byte lt ∙ ap (λ f. f ++ byte ∷ []) front ∙ ap (λ b. map (byte_at word) (range_with_len 0 k) ++ b ∷ []) is
     ∙ sym (map-range_with_len_more (byte_at word) 0 k k (omega arith))
 
-pub whole_block : (word bytes : List ℕ) (k : ℕ) → length bytes ≡ 64 → k ≡ 64 → take k bytes ≡ map (byte_at word) (range_with_len 0 k) → bytes ≡ block_of word
-unfolding block_of
+pub whole_block : (word bytes : List ℕ) (k : ℕ) → length bytes ≡ 64 → k ≡ 64 → take k bytes ≡ map (byte_at word) (range_with_len 0 k) → bytes ≡ spelled_bytes word
+unfolding spelled_bytes
 whole_block word bytes k sized all front =
     sym (let t : take k bytes ≡ bytes = grind (arith, common_steps) in t) ∙ front ∙ ap (λ n. map (byte_at word) (range_with_len 0 n)) all

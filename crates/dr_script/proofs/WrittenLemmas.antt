@@ -26,7 +26,7 @@ use Rattle.dr_model.specs.Grammar.{Reading, command_named, is_ready, read_on, ma
 use Rattle.dr_script.specs.Readings.{ReadsAs}
 use Rattle.dr_script.proofs.CutLemmas.{both, and_true}
 use Rattle.dr_script.proofs.WrittenWordLemmas.{carry, Smalls}
-use Rattle.dr_script.proofs.WrittenReadLemmas.{or_right, or_given, below, OptionsSound, OperandsSound, Known, nothing_known, learned, Fits, start_fits, read_on_fits}
+use Rattle.dr_script.proofs.WrittenReadLemmas.{or_right, or_given, below, OptionsSound, OperandsSound, Known, nothing_known, learned, IsFitting, start_fits, read_on_fits}
 
 -- the operands that must have been read are known
 abbrev Enough : Command → Known → Type 0
@@ -399,7 +399,7 @@ own_written : (c : Command) (o : Options) (p : Operands) (none : Bool) → Sound
 own_written c o p true h = All-nil IsWritten
 own_written c o p false h = All-cons IsWritten (step_of c o p no_item) [] (step_written c o p no_item h ((omega arith), (omega arith))) (All-nil IsWritten)
 
-ended_written : (r : Reading) → Fits r → may_end r.place ≡ true → All IsWritten (steps_of r)
+ended_written : (r : Reading) → IsFitting r → may_end r.place ≡ true → All IsWritten (steps_of r)
 unfolding may_end steps_of
 ended_written r h e =
     let place = r.place in
@@ -418,7 +418,7 @@ ok_is : (x y : List Step) → read_as x ≡ read_as y → x ≡ y
 unfolding read_as
 ok_is x y e = cc
 
-read_words_written : (past : ℕ) (r : Reading) (words : List Word) (steps : List Step) → Fits r → read_words past r words ≡ Ok steps → All IsWritten steps
+read_words_written : (past : ℕ) (r : Reading) (words : List Word) (steps : List Step) → IsFitting r → read_words past r words ≡ Ok steps → All IsWritten steps
 unfolding read_words read_as
 read_words_written past r [] steps h e =
     elim (may_end r.place) as (λ b. may_end r.place ≡ b → cond b (Ok (steps_of r)) (Err past) ≡ Ok steps → All IsWritten steps) [

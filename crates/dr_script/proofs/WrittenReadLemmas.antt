@@ -17,7 +17,7 @@ use Rattle.dr_model.specs.declared.grammar.Options.{Options}
 use Rattle.dr_model.specs.declared.grammar.Operands.{Operands}
 use Rattle.dr_model.specs.declared.grammar.Item.{Item}
 use Rattle.dr_model.specs.declared.grammar.Place.{Place}
-use Rattle.dr_model.specs.LineWords.{◌>>=◌, onto, name_word, kind_word, either_word, sequence_word, is_hex, torn_word, decimal_word, most_word, block_of, are_ports, is_control_path}
+use Rattle.dr_model.specs.LineWords.{◌>>=◌, onto, name_word, kind_word, either_word, sequence_word, is_hex, torn_word, decimal_word, most_word, spelled_bytes, are_ports, is_control_path}
 use Rattle.dr_model.specs.LineTable.{setting_word, settings, operands, repeats}
 use Rattle.dr_model.specs.LineSteps.{is_flag, has, flagged, valued, setting_items, setting_number, operand_value, operand_items, no_options, no_operands, no_name, or_zero}
 use Rattle.dr_model.specs.LineText.{name_fits, torn_fits, most_fits, bytes_fit, takes_remote}
@@ -254,7 +254,7 @@ operand_sound Offset word k p new e h =
     let m = mapped (λ n. record p { offset = n }) (number_word 63 word) new e in
     carry (OperandsSound (learn Offset k)) _ new m.2 (record { server = h.server; other = h.other; torn = h.torn; volume = h.volume; with = h.with; count = h.count; track = h.track; offset = within _ 63 (number_within 63 word m.0 m.1); most = h.most; lss = h.lss; session = h.session; bytes = λ y. cc })
 operand_sound WriteBytes word k p new e h =
-    let q = passed (is_hex word && nat_le (p.offset + length word / 2) 64) (Some (record p { len = length word / 2; bytes = block_of word })) new e in
+    let q = passed (is_hex word && nat_le (p.offset + length word / 2) 64) (Some (record p { len = length word / 2; bytes = spelled_bytes word })) new e in
     carry (OperandsSound (learn WriteBytes k)) _ new (some_is _ _ q.1) (record { server = h.server; other = h.other; torn = h.torn; volume = h.volume; with = h.with; count = h.count; track = h.track; offset = h.offset; most = h.most; lss = h.lss; session = h.session; bytes = λ y. write_said word p.offset q.0 })
 operand_sound CountOrAll word k p new e h =
     let m = mapped (λ x. record p { most = x }) (most_word word) new e in
@@ -349,13 +349,13 @@ get_past (x ∷ xs) zero e = cc
 get_past (x ∷ xs) (suc n) e = let l = get_past xs n e in omega (arith, l)
 
 -- what holds of a reading
-pub record Fits (r : Reading) : Type 0 where
+pub record IsFitting (r : Reading) : Type 0 where
   pub options : OptionsSound (takes_remote (settings r.place.command)) r.place.options
   pub awaited : r.place.awaited ≡ Some RemoteDev → takes_remote (settings r.place.command) ≡ true
   pub operands : OperandsSound (learned nothing_known (take r.place.filled (operands r.place.command))) r.place.operands
   pub items : Smalls r.items
 
-pub start_fits : (c : Command) → Fits (start_of c)
+pub start_fits : (c : Command) → IsFitting (start_of c)
 start_fits c = record { options = no_options_sound (takes_remote (settings c)); awaited = λ y. cc; operands = no_operands_sound; items = tt }
 
 takes_more : (s : Setting) (ss : List Setting) → takes_remote ss ≡ true → takes_remote (s ∷ ss) ≡ true
@@ -403,12 +403,12 @@ onto_small old more all s each e =
 grown_small : (c : Command) (all items : List Item) → Smalls all → grown c all ≡ Some items → Smalls items
 grown_small c all items s e = let p = passed (is_within c all) (Some all) items e in carry Smalls all items (some_is _ _ p.1) s
 
-value_fits : (r next : Reading) (s : Setting) (word : List ℕ) → r.place.awaited ≡ Some s → Fits r → value_read r s word ≡ Some next → Fits next
+value_fits : (r next : Reading) (s : Setting) (word : List ℕ) → r.place.awaited ≡ Some s → IsFitting r → value_read r s word ≡ Some next → IsFitting next
 value_fits r next s word waits h e =
     let a = bound (valued s word r.place.options) (λ o. onto r.items (setting_items s word) >>= λ all. grown r.place.command all >>= λ items. Some (record { place = record r.place { awaited = None; options = o }; items = items })) next e in
     let b = bound (onto r.items (setting_items s word)) (λ all. grown r.place.command all >>= λ items. Some (record { place = record r.place { awaited = None; options = a.0 }; items = items })) next a.2 in
     let c = bound (grown r.place.command b.0) (λ items. Some (record { place = record r.place { awaited = None; options = a.0 }; items = items })) next b.2 in
-    carry Fits _ next (some_is _ _ c.2) (record {
+    carry IsFitting _ next (some_is _ _ c.2) (record {
       options = valued_sound s word (takes_remote (settings r.place.command)) r.place.options a.0 (λ is. h.awaited (waits ∙ ap (λ x. Some x) is)) a.1 h.options;
       awaited = λ y. cc;
       operands = h.operands;
@@ -416,12 +416,12 @@ value_fits r next s word waits h e =
     })
 
 operand_fits_next : (r next : Reading) (op : Operand) (word : List ℕ) → learned nothing_known (take (filled_after r.place) (operands r.place.command)) ≡ learn op (learned nothing_known (take r.place.filled (operands r.place.command)))
-    → Fits r → operand_read r op word ≡ Some next → Fits next
+    → IsFitting r → operand_read r op word ≡ Some next → IsFitting next
 operand_fits_next r next op word more h e =
     let a = bound (operand_value op word r.place.operands) (λ p. onto r.items (operand_items op word) >>= λ all. grown r.place.command all >>= λ items. Some (record { place = record r.place { filled = filled_after r.place; operands = p }; items = items })) next e in
     let b = bound (onto r.items (operand_items op word)) (λ all. grown r.place.command all >>= λ items. Some (record { place = record r.place { filled = filled_after r.place; operands = a.0 }; items = items })) next a.2 in
     let c = bound (grown r.place.command b.0) (λ items. Some (record { place = record r.place { filled = filled_after r.place; operands = a.0 }; items = items })) next b.2 in
-    carry Fits _ next (some_is _ _ c.2) (record {
+    carry IsFitting _ next (some_is _ _ c.2) (record {
       options = h.options;
       awaited = h.awaited;
       operands = carry (λ k. OperandsSound k a.0) _ _ (sym more) (operand_sound op word _ r.place.operands a.0 a.1 h.operands);
@@ -446,21 +446,21 @@ filled_more place op None is e =
     ap (λ b. learned nothing_known (take (cond b (place.filled + 1) place.filled) ops)) test
     ∙ repeat_learns op (learned nothing_known (take place.filled ops)) (repeated (slice_get ops 0) op e)
 
-next_fits : (r next : Reading) (word : List ℕ) (op : Option Operand) → next_operand r.place ≡ op → Fits r → next_read r word op ≡ Some next → Fits next
+next_fits : (r next : Reading) (word : List ℕ) (op : Option Operand) → next_operand r.place ≡ op → IsFitting r → next_read r word op ≡ Some next → IsFitting next
 next_fits r next word None is h e = cc
 next_fits r next word (Some op) is h e =
     let p = passed (is_ready r.place) (operand_read r op word) next e in
     operand_fits_next r next op word (filled_more r.place op (slice_get (operands r.place.command) r.place.filled) refl is) h p.1
 
-setting_read_fits : (r next : Reading) (s : Setting) → (s ≡ RemoteDev → takes_remote (settings r.place.command) ≡ true) → Fits r → with_items r.items (setting_read r.place s) ≡ Some next → Fits next
+setting_read_fits : (r next : Reading) (s : Setting) → (s ≡ RemoteDev → takes_remote (settings r.place.command) ≡ true) → IsFitting r → with_items r.items (setting_read r.place s) ≡ Some next → IsFitting next
 setting_read_fits r next s allowed h e =
     let m = mapped (λ p. record { place = p; items = r.items }) (setting_read r.place s) next e in
-    elim (has s r.place.options) as (λ b. cond b None (cond (is_flag s) (Some (record r.place { options = flagged s r.place.options })) (Some (record r.place { awaited = Some s }))) ≡ Some m.0 → Fits next) [
+    elim (has s r.place.options) as (λ b. cond b None (cond (is_flag s) (Some (record r.place { options = flagged s r.place.options })) (Some (record r.place { awaited = Some s }))) ≡ Some m.0 → IsFitting next) [
       | true ↦ λ q. cc
-      | false ↦ λ q. elim (is_flag s) as (λ b. cond b (Some (record r.place { options = flagged s r.place.options })) (Some (record r.place { awaited = Some s })) ≡ Some m.0 → Fits next) [
-        | true ↦ λ z. carry Fits _ next (ap (λ p. record { place = p; items = r.items }) (some_is _ _ z) ∙ m.2)
+      | false ↦ λ q. elim (is_flag s) as (λ b. cond b (Some (record r.place { options = flagged s r.place.options })) (Some (record r.place { awaited = Some s })) ≡ Some m.0 → IsFitting next) [
+        | true ↦ λ z. carry IsFitting _ next (ap (λ p. record { place = p; items = r.items }) (some_is _ _ z) ∙ m.2)
             (record { options = flagged_sound s (takes_remote (settings r.place.command)) r.place.options h.options; awaited = h.awaited; operands = h.operands; items = h.items })
-        | false ↦ λ z. carry Fits _ next (ap (λ p. record { place = p; items = r.items }) (some_is _ _ z) ∙ m.2)
+        | false ↦ λ z. carry IsFitting _ next (ap (λ p. record { place = p; items = r.items }) (some_is _ _ z) ∙ m.2)
             (record { options = h.options; awaited = λ is. allowed (some_is _ _ is); operands = h.operands; items = h.items })
       ] q
     ] m.1
@@ -470,14 +470,14 @@ setting_at_allowed place word s e is =
     let p = passed (nat_eq place.filled 0) (setting_named (settings place.command) word) s e in
     named_remote (settings place.command) word (p.1 ∙ ap (λ x. Some x) is)
 
-named_fits : (r next : Reading) (word : List ℕ) (s : Option Setting) → setting_at r.place word ≡ s → Fits r → named_read r word s ≡ Some next → Fits next
+named_fits : (r next : Reading) (word : List ℕ) (s : Option Setting) → setting_at r.place word ≡ s → IsFitting r → named_read r word s ≡ Some next → IsFitting next
 named_fits r next word None is h e = next_fits r next word (next_operand r.place) refl h e
 named_fits r next word (Some s) is h e = setting_read_fits r next s (setting_at_allowed r.place word s is) h e
 
-awaited_fits : (r next : Reading) (word : List ℕ) (s : Option Setting) → r.place.awaited ≡ s → Fits r → awaited_read r word s ≡ Some next → Fits next
+awaited_fits : (r next : Reading) (word : List ℕ) (s : Option Setting) → r.place.awaited ≡ s → IsFitting r → awaited_read r word s ≡ Some next → IsFitting next
 awaited_fits r next word None is h e = named_fits r next word (setting_at r.place word) refl h e
 awaited_fits r next word (Some s) is h e = value_fits r next s word is h e
 
-pub read_on_fits : (r next : Reading) (word : List ℕ) → Fits r → read_on r word ≡ Some next → Fits next
+pub read_on_fits : (r next : Reading) (word : List ℕ) → IsFitting r → read_on r word ≡ Some next → IsFitting next
 unfolding read_on
 read_on_fits r next word h e = awaited_fits r next word r.place.awaited refl h e

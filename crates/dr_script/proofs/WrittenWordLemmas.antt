@@ -21,7 +21,7 @@ use Rattle.dr_model.specs.declared.step.TornWord.{TornWord}
 use Rattle.dr_model.specs.declared.step.TornWord.TheVariants.{Same, Fill, Bytes}
 use Rattle.dr_model.specs.declared.grammar.Item.{Item}
 use Rattle.dr_model.specs.declared.grammar.Span.{Span}
-use Rattle.dr_model.specs.LineWords.{◌>>=◌, name_word, name_of, is_name, sequence_word, decimal_word, most_word, is_hex, digit_or_zero, byte_at, block_of, torn_word, torn_bytes_word, one_volume, span_between, span_cut, span_word, span_len, before, behind, items_from, paired, range_items, ranges_items, list_items, is_comma, spans_paired, pair_cut, pair_items, lss_pair_cut, lss_pair_items, mark_at, either_word, kind_word}
+use Rattle.dr_model.specs.LineWords.{◌>>=◌, name_word, name_of, is_name, sequence_word, decimal_word, most_word, is_hex, digit_or_zero, byte_at, spelled_bytes, torn_word, torn_bytes_word, one_volume, span_between, span_cut, span_word, span_len, before, behind, items_from, paired, range_items, ranges_items, list_items, is_comma, spans_paired, pair_cut, pair_items, lss_pair_cut, lss_pair_items, mark_at, either_word, kind_word}
 use Rattle.dr_model.specs.LineText.{bytes_text, name_fits, bytes_fit, torn_fits, most_fits}
 use Rattle.dr_script.proofs.CutLemmas.{both, and_true}
 use Rattle.dr_script.proofs.TextLemmas.{upper_is}
@@ -206,26 +206,26 @@ byte_back word len k size false e =
     let long : length (bytes_text bs) ≡ 2 * length bs = text_sized bs in
     byte_past (bytes_text bs) k (omega (arith, long, sized, ge)) ∙ sym (byte_past word k (omega (arith, size, ge)))
 
-pub block_fits : (word : List ℕ) (len : ℕ) → length word ≡ 2 * len → len ≤ 64 → bytes_fit len (block_of word) ≡ true
-unfolding block_of
+pub block_fits : (word : List ℕ) (len : ℕ) → length word ≡ 2 * len → len ≤ 64 → bytes_fit len (spelled_bytes word) ≡ true
+unfolding spelled_bytes
 block_fits word len size few =
     let f = byte_at word in
     let block = map f (range_with_len 0 64) in
     let front : take len block ≡ map f (range_with_len 0 len) = take-map-range_with_len f 0 64 len few in
     let sized : length block ≡ 64 = length-map-range_with_len f 0 64 in
     let t = bytes_text (map f (range_with_len 0 len)) in
-    let same : block_of t ≡ block = (λ j. map (λ k. byte_back word len k size (nat_lt k len) refl j) (range_with_len 0 64)) in
+    let same : spelled_bytes t ≡ block = (λ j. map (λ k. byte_back word len k size (nat_lt k len) refl j) (range_with_len 0 64)) in
     and_true (nat_eq (length block) 64 && list_all (λ b. nat_lt b 256) (take len block)) _
     (and_true (nat_eq (length block) 64) _ (grind (arith, nat_tests, sized)) (ap (list_all (λ b. nat_lt b 256)) front ∙ bytes_low word (range_with_len 0 len)))
-    (ap (λ bs. bytes_eq block (block_of (bytes_text bs))) front ∙ ap (bytes_eq block) same ∙ bytes_same block)
+    (ap (λ bs. bytes_eq block (spelled_bytes (bytes_text bs))) front ∙ ap (bytes_eq block) same ∙ bytes_same block)
 
 pub torn_said : (word : List ℕ) (t : TornWord) → torn_word word ≡ Some t → torn_fits t ≡ true
 torn_said word t e =
     elim (bytes_eq word (codes "none")) as (λ b. cond b (Some Same) (torn_bytes_word word) ≡ Some t → torn_fits t ≡ true) [
       | true ↦ λ h. ap torn_fits (sym (some_is _ _ h))
-      | false ↦ λ h. elim (nat_eq (length word) 128) as (λ b. nat_eq (length word) 128 ≡ b → cond b (cond (all_digits 16 word) (Some (Bytes (block_of word))) None) (option_map (λ n. Fill n) (hex_word 2 word)) ≡ Some t → torn_fits t ≡ true) [
+      | false ↦ λ h. elim (nat_eq (length word) 128) as (λ b. nat_eq (length word) 128 ≡ b → cond b (cond (all_digits 16 word) (Some (Bytes (spelled_bytes word))) None) (option_map (λ n. Fill n) (hex_word 2 word)) ≡ Some t → torn_fits t ≡ true) [
         | true ↦ λ long g.
-            let p = passed (all_digits 16 word) (Some (Bytes (block_of word))) t g in
+            let p = passed (all_digits 16 word) (Some (Bytes (spelled_bytes word))) t g in
             let size : length word ≡ 2 * 64 = grind (arith, nat_tests, long) in
             ap torn_fits (sym (some_is _ _ p.1)) ∙ block_fits word 64 size (omega arith)
         | false ↦ λ short g.
@@ -237,7 +237,7 @@ torn_said word t e =
 
 -- the bytes of a write
 pub write_said : (word : List ℕ) (offset : ℕ) → (is_hex word && nat_le (offset + length word / 2) 64) ≡ true
-    → (nat_le 1 (length word / 2) && nat_le (offset + length word / 2) 64 && bytes_fit (length word / 2) (block_of word)) ≡ true
+    → (nat_le 1 (length word / 2) && nat_le (offset + length word / 2) 64 && bytes_fit (length word / 2) (spelled_bytes word)) ≡ true
 write_said word offset e =
     let p = both (is_hex word) _ e in
     let a = both (nat_le 2 (length word) && nat_le (length word) 128 && nat_eq (length word % 2) 0) _ p.0 in

@@ -7,7 +7,7 @@ ghost use Rattle.dr_script.specs.Pieces.{kept};
 
 use crate::items::{push_list, push_lss_pair, push_pair, push_range};
 use crate::values::{
-    are_ports, block_of, either, empty_name, is_control_path, is_hex, is_word, read_decimal,
+    are_ports, spelled_bytes, either, empty_name, is_control_path, is_hex, is_word, read_decimal,
     read_most, read_name, read_torn, zero_block,
 };
 use dr_ids::{read_lss, read_number, read_session, read_volume};
@@ -57,7 +57,7 @@ fn written(word: &[u8], operands: &Operands) -> Option<Operands>
     if is_hex(word) && usize::from(operands.offset) + word.len() / 2 <= 64 {
         Some(Operands {
             len: (word.len() / 2) as u8,
-            bytes: block_of(word),
+            bytes: spelled_bytes(word),
             ..*operands
         })
     } else {

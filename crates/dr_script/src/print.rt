@@ -4,7 +4,8 @@ ghost use Rattle.std.specs.Prelude.{◌≡◌, ◌∷◌, ◌++◌, ◌+◌, ◌
 ghost use Rattle.std.specs.Fmt.{decimal};
 ghost use Rattle.std.specs.List.{flat_map};
 ghost use Rattle.std.specs.Option.{unwrap_or};
-ghost use Rattle.dr_model.specs.LineText.{hex2, hex4, unpadded, sequence_text, name_text, bytes_text, torn_text, most_text, kind_text, setting_text, setting_words, settings_words, operand_text, operand_words, said_count, said_operands, spaced, said_text, saying, step_text, IsWritten};
+ghost use Rattle.dr_ids.specs.Spelling.{hex2, hex4};
+ghost use Rattle.dr_model.specs.LineText.{unpadded, sequence_text, name_text, bytes_text, torn_text, most_text, kind_text, setting_text, setting_words, settings_words, operand_text, operand_words, said_count, said_operands, spaced, said_text, saying, step_text, IsWritten};
 ghost use Rattle.dr_model.specs.LineTable.{settings, setting_word};
 ghost use Rattle.dr_model.specs.LineSteps.{is_flag, lss_in};
 ghost use Rattle.dr_model.specs.Grammar.{line_of};

@@ -5,7 +5,7 @@ ghost use Rattle.std.specs.List.{list_all, position};
 ghost use Rattle.std.specs.Char.{is_digit};
 ghost use Rattle.std.specs.Str.{bytes_eq};
 ghost use Rattle.dr_ids.specs.Spelling.{all_digits, hex_word, spelled};
-ghost use Rattle.dr_model.specs.LineWords.{mark_at, before, behind, is_letter, is_name_byte, is_name, name_of, name_word, decimal_word, most_word, sequence_word, is_hex, digit_or_zero, byte_at, block_of, torn_bytes_word, torn_word, is_port, are_ports, is_lss, is_path_end, is_control_path, either_word, kind_word};
+ghost use Rattle.dr_model.specs.LineWords.{mark_at, before, behind, is_letter, is_name_byte, is_name, name_of, name_word, decimal_word, most_word, sequence_word, is_hex, digit_or_zero, byte_at, spelled_bytes, torn_bytes_word, torn_word, is_port, are_ports, is_lss, is_path_end, is_control_path, either_word, kind_word};
 ghost use Rattle.dr_model.specs.Contents.{zeros};
 ghost use Rattle.dr_script.specs.Pieces.{empty_name};
 
@@ -171,8 +171,8 @@ fn byte_at(word: &[u8], k: usize) -> u8
 }
 
 /// The bytes that a word spells, with zeros behind them.
-pub(crate) fn block_of(word: &[u8]) -> [u8; 64]
-    ensures { result ≡ block_of word.now }
+pub(crate) fn spelled_bytes(word: &[u8]) -> [u8; 64]
+    ensures { result ≡ spelled_bytes word.now }
 {
     let mut bytes = zero_block();
     for k in 0..64 {
@@ -195,7 +195,7 @@ fn read_torn_bytes(word: &[u8]) -> Option<TornWord>
 {
     if word.len() == 128 {
         if are_hex_digits(word) {
-            Some(TornWord::Bytes(block_of(word)))
+            Some(TornWord::Bytes(spelled_bytes(word)))
         } else {
             None
         }

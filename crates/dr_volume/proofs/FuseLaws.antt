@@ -17,7 +17,7 @@ use Rattle.dr_model.specs.Layout.{Blocks, slot_chosen}
 use Rattle.dr_model.specs.Moves.{Carried}
 use Rattle.dr_model.specs.Carry as machine
 use Rattle.dr_volume.specs.declared.fields.Fields.{Fields}
-use Rattle.dr_volume.specs.Record.{block_of, IsWhole}
+use Rattle.dr_volume.specs.Record.{record_block, IsWhole}
 use Rattle.dr_volume.specs.View.{fuse_seen, torn_seen}
 use Rattle.dr_volume.specs.Update.{staging, track_writes, update_writes}
 use Rattle.dr_volume.proofs.VolumeLaws.{chosen_slot}
@@ -143,7 +143,7 @@ cut-in_record s t dev f m g b whole on fuse low h =
     let u = writes_torn_at s dev first (write 0 []) g on fuse (subst (λ k. g.after < k) (sym (length-part s dev f m)) low) in
     let e = sym h ∙ append-stops s _ dev first (track_writes m) u in
     let all : after_writes s dev first ≡ (t, true) = u ∙ (λ i. (sym (ap (λ (r : PlantState × Bool). r.0) e) i, true)) in
-    let cut : IsCutShort 6 s t dev = put-cut_short s t dev 6 (not (slot_of s dev)) (block_of (staging m f)) all in
+    let cut : IsCutShort 6 s t dev = put-cut_short s t dev 6 (not (slot_of s dev)) (record_block (staging m f)) all in
     by_slot s t dev f m _ (record-ends s t dev f m true whole all)
     (cut.slot
     ∙ (λ i. if on i then torn_choice 6 (fuse i) (s.block dev 0) else slot_of s dev)

@@ -8,8 +8,8 @@ use Rattle.dr_model.specs.Layout as layout
 use Rattle.dr_model.specs.Layout.{Blocks, byte, number16, part_of, is_part, only_if, bit}
 use Rattle.dr_volume.specs.declared.fields.Fields.{Fields}
 use Rattle.dr_volume.specs.Plain.{plain, cut, normal, staged_below, IsLawful}
-use Rattle.dr_volume.specs.Record.{IsWhole, block_of, with_head, with_block, no_record, raw_of, after_blocks}
-use Rattle.dr_volume.specs.ReadsBack.{raw_of-block_of}
+use Rattle.dr_volume.specs.Record.{IsWhole, record_block, with_head, with_block, no_record, raw_of, after_blocks}
+use Rattle.dr_volume.specs.ReadsBack.{raw_of-record_block}
 use Rattle.dr_volume.proofs.Sets.{cut-of_bytes, cut-cut, in_range-cut, in_range-only_if}
 
 -- six blocks mean what the layout says
@@ -119,16 +119,16 @@ pub whole-lawful : (n : ℕ) (f : Fields) → n ≤ 256 → IsLawful n f → IsW
 whole-lawful n f few law = subst (λ g. IsWhole g) law (whole-normal n f few)
 
 -- what is written of lawful fields means those fields
-pub fields-block_of : (n : ℕ) (f : Fields) → n ≤ 256 → IsLawful n f → layout.fields_of n (block_of f) ≡ plain f
-fields-block_of n f few law =
-    sym (plain-normal n (block_of f) few)
-    ∙ ap (λ g. plain (normal n g)) (raw_of-block_of f (whole-lawful n f few law))
+pub fields-record_block : (n : ℕ) (f : Fields) → n ≤ 256 → IsLawful n f → layout.fields_of n (record_block f) ≡ plain f
+fields-record_block n f few law =
+    sym (plain-normal n (record_block f) few)
+    ∙ ap (λ g. plain (normal n g)) (raw_of-record_block f (whole-lawful n f few law))
     ∙ ap (λ g. plain g) law
 
-pub staged-block_of : (n : ℕ) (f : Fields) → n ≤ 256 → IsLawful n f → layout.staged_of n (block_of f) ≡ f.staged
-staged-block_of n f few law =
-    sym (staged-normal n (block_of f))
-    ∙ ap (λ g. (normal n g).staged) (raw_of-block_of f (whole-lawful n f few law))
+pub staged-record_block : (n : ℕ) (f : Fields) → n ≤ 256 → IsLawful n f → layout.staged_of n (record_block f) ≡ f.staged
+staged-record_block n f few law =
+    sym (staged-normal n (record_block f))
+    ∙ ap (λ g. (normal n g).staged) (raw_of-record_block f (whole-lawful n f few law))
     ∙ ap (λ g. g.staged) law
 
 pub after_blocks-none : (b : Blocks) → after_blocks b 0 ≡ no_record

@@ -11,7 +11,7 @@ use Rattle.dr_model.specs.Layout as layout
 use Rattle.dr_model.specs.Layout.{Blocks, chosen, slot_chosen, slot_begin}
 use Rattle.dr_model.specs.Moves.{Carried, is_carried, carried_bytes}
 use Rattle.dr_volume.specs.declared.fields.Fields.{Fields}
-use Rattle.dr_volume.specs.Record.{block_of, with_block, no_record, raw_of, IsWhole}
+use Rattle.dr_volume.specs.Record.{record_block, with_block, no_record, raw_of, IsWhole}
 use Rattle.dr_volume.specs.ReadsBack.{read_back}
 use Rattle.dr_volume.specs.Update.{staging, track_writes, update_writes, read_and_write}
 use Rattle.dr_volume.proofs.VolumeLaws.{chosen_value, chosen_slot}
@@ -108,14 +108,14 @@ track-written u t dev (Some c) b h =
 
 -- the writes of the record, to the slot that the device doesn't choose
 abbrev pub record_part : PlantState → ℕ → Fields → Carried → List Write
-record_part s dev f m = record_writes 6 (not (slot_of s dev)) (block_of (staging m f))
+record_part s dev f m = record_writes 6 (not (slot_of s dev)) (record_block (staging m f))
 
 -- after these the device has what it had, or the next record
 pub record-ends : (s t : PlantState) (dev : ℕ) (f : Fields) (m : Carried) (b : Bool) → IsWhole (staging m f) → after_writes s dev (record_part s dev f m) ≡ (t, b) → Stays (s.block dev) (t.block dev) ⊎ ReadsNext (s.block dev) (t.block dev) f m
 record-ends s t dev f m b whole h =
     let slot : Bool = slot_of s dev in
-    let past = put-elsewhere s t dev 6 (not slot) (block_of (staging m f)) b h in
-    elim (put-old_or_new with_block no_record (staging m f) (stored with_block 6 no_record s dev slot) s t dev 6 slot (block_of (staging m f)) b (record { gate = refl; value = refl }) (read_back (staging m f) whole) h) [
+    let past = put-elsewhere s t dev 6 (not slot) (record_block (staging m f)) b h in
+    elim (put-old_or_new with_block no_record (staging m f) (stored with_block 6 no_record s dev slot) s t dev 6 slot (record_block (staging m f)) b (record { gate = refl; value = refl }) (read_back (staging m f) whole) h) [
       | inl c ↦ inl (record-old s t dev past c)
       | inr c ↦ inr (record-new s t dev f m past c)
     ]
@@ -124,8 +124,8 @@ record-ends s t dev f m b whole h =
 record-done : (s t : PlantState) (dev : ℕ) (f : Fields) (m : Carried) → IsWhole (staging m f) → after_writes s dev (record_part s dev f m) ≡ (t, false) → ReadsNext (s.block dev) (t.block dev) f m
 record-done s t dev f m whole h =
     let slot : Bool = slot_of s dev in
-    record-new s t dev f m (put-elsewhere s t dev 6 (not slot) (block_of (staging m f)) false h)
-    (put-done with_block no_record (staging m f) s t dev 6 (not slot) (block_of (staging m f)) (read_back (staging m f) whole) h)
+    record-new s t dev f m (put-elsewhere s t dev 6 (not slot) (record_block (staging m f)) false h)
+    (put-done with_block no_record (staging m f) s t dev 6 (not slot) (record_block (staging m f)) (read_back (staging m f) whole) h)
 
 -- the write of the track changes nothing of that
 next-track : (b : Blocks) (u t : PlantState) (dev : ℕ) (f : Fields) (m : Carried) (stopped : Bool) → ReadsNext b (u.block dev) f m → TrackWritten u t dev m stopped → ReadsNext b (t.block dev) f m

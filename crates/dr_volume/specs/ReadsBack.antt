@@ -13,7 +13,7 @@ use Rattle.dr_model.specs.declared.state.PairState.{PairState}
 use Rattle.dr_model.specs.declared.state.PairState.TheVariants.{CopyPending, FullDuplex, Suspended}
 use Rattle.dr_volume.specs.declared.fields.Fields.{Fields}
 use Rattle.dr_volume.specs.Codes.{code_of_part, code_of_state, flags_byte}
-use Rattle.dr_volume.specs.Record.{IsWhole, block_of, head_of, with_block, with_head, no_record, raw_of}
+use Rattle.dr_volume.specs.Record.{IsWhole, record_block, head_of, with_block, with_head, no_record, raw_of}
 
 part_back : (p : Part) → part_of (code_of_part p) ≡ p
 part_back Absent = refl
@@ -44,9 +44,9 @@ first_back s t in_s = ap (λ bytes. of_bytes bytes) (take_at (bytes_of s) (bytes
 second_back : (s t : Tracks) → IsInRange t → of_bytes (drop 32 (bytes_of s ++ bytes_of t)) ≡ t
 second_back s t in_t = ap (λ bytes. of_bytes bytes) (drop_at (bytes_of s) (bytes_of t) 32 (length-bytes_of s)) ∙ of_bytes-bytes_of t in_t
 
-pub raw_of-block_of : (f : Fields) → IsWhole f → raw_of (block_of f) ≡ f
+pub raw_of-record_block : (f : Fields) → IsWhole f → raw_of (record_block f) ≡ f
 unfolding head_of with_head no_record
-raw_of-block_of f whole =
+raw_of-record_block f whole =
     let first : List Bool = f.coordination ∷ f.long_busy ∷ f.recording ∷ [] in
     let relation : List Bool = f.related ∷ f.nocopy ∷ f.persistent ∷ f.recorded ∷ f.inhibited ∷ f.revertible ∷ f.reversing ∷ f.member ∷ [] in
     λ i. record f {
@@ -84,6 +84,6 @@ raw_of-block_of f whole =
     }
 
 -- the law of the form of a record
-pub read_back : (f : Fields) → IsWhole f → taken_from with_block 0 6 (block_of f) no_record ≡ f
+pub read_back : (f : Fields) → IsWhole f → taken_from with_block 0 6 (record_block f) no_record ≡ f
 unfolding taken_from
-read_back f whole = raw_of-block_of f whole
+read_back f whole = raw_of-record_block f whole

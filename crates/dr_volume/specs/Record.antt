@@ -27,8 +27,8 @@ head_of f =
     ++ replicate 28 0
 
 -- block i of the record: the head, seven sets in pairs, and the staged bytes
-abbrev pub block_of : Fields → ℕ → List ℕ
-block_of f i =
+abbrev pub record_block : Fields → ℕ → List ℕ
+record_block f i =
     if nat_eq i 0 then head_of f
     else if nat_eq i 1 then bytes_of f.out_of_sync ++ bytes_of f.change_recording
     else if nat_eq i 2 then bytes_of f.own ++ bytes_of f.previous_own

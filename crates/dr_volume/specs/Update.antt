@@ -10,7 +10,7 @@ use Rattle.dr_model.specs.Contents.{zeros}
 use Rattle.dr_model.specs.Layout as layout
 use Rattle.dr_model.specs.Moves.{Carried, is_carried, moved, tracks_after}
 use Rattle.dr_volume.specs.declared.fields.Fields.{Fields}
-use Rattle.dr_volume.specs.Record.{block_of}
+use Rattle.dr_volume.specs.Record.{record_block}
 use Rattle.dr_volume.specs.View.{volume_seen, track_seen}
 
 -- the fields that stage the carried track, or none
@@ -30,7 +30,7 @@ track_writes (Some c) = write (13 + c.0) c.1 ∷ []
 
 -- the writes of an update: the record into a slot, its gate, and the carried track
 abbrev pub update_writes : Bool → Fields → Carried → List Write
-update_writes slot f c = record_writes 6 slot (block_of f) ++ track_writes c
+update_writes slot f c = record_writes 6 slot (record_block f) ++ track_writes c
 
 -- the device is read, and then these writes are done in order until one is stopped: what that leaves, and whether the
 -- read or a write was stopped

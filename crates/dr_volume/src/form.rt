@@ -24,7 +24,7 @@ impl Form for Fields {
 
     ghost fresh = { lies.no_record };
 
-    ghost blocks = { lies.block_of };
+    ghost blocks = { lies.record_block };
 
     ghost taken = { lies.with_block };
 

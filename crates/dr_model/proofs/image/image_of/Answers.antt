@@ -1,8 +1,7 @@
 use Rattle.std.proofs.Common.{◌≡◌, ◌≤◌, ◌*◌, ap, ◌∙◌, arith, take, length}
 use Rattle.std.specs.Option.{unwrap_or}
 use Rattle.dr_model.specs.Histories.{histories}
-use Rattle.dr_model.specs.Contents.{image_at}
-use Rattle.dr_model.specs.Asked.{volume_image}
+use Rattle.dr_model.specs.Contents.{image_at, volume_image}
 use Rattle.dr_model.proofs.Overlay.{more_tracks, all_tracks, length-image}
 use Rattle.dr_model.proofs.image.image_of.Goals as goal
 

@@ -1,6 +1,6 @@
 use Rattle.std.proofs.Common.{ap, ◌∙◌, length, length-set, refl, arith}
 use Rattle.dr_script.proofs.ValueLemmas.{length-zeros, byte_more, whole_block}
-use Rattle.dr_script.proofs.values.block_of.Goals as goal
+use Rattle.dr_script.proofs.values.spelled_bytes.Goals as goal
 
 pub loop-k-init : goal.loop-k-init
 loop-k-init c = record { sized = ap length c.zero_block-bytes.ensures ∙ length-zeros; front = refl }

@@ -3,14 +3,12 @@ use Rattle.std.proofs.Common.{ℕ, ◌≡◌, List, [], ◌∷◌, ◌++◌, ref
 use Rattle.std.proofs.lemmas.List.Sums.{fold-append}
 use Rattle.std.specs.List.{fold}
 use Rattle.dr_model.specs.declared.event.Event.{Event}
-use Rattle.dr_model.specs.declared.said.Said.{Said}
-use Rattle.dr_model.specs.declared.said.Said.TheVariants.{Done, Wrote, Acked, Showed, ServerOff, StoppedIn, NotBuilt}
 use Rattle.dr_model.specs.Answers.{answer}
 use Rattle.dr_model.specs.Contents.{zeros}
 use Rattle.dr_model.specs.Control.{World, nothing}
 use Rattle.dr_model.specs.Runs.{Task, after_task, after_tasks, run}
 use Rattle.dr_model.specs.Text.{Told, untold, heard, line_text, text_from, text}
-use Rattle.dr_model.proofs.Onward.{EndsAnswered, after_task-ends}
+use Rattle.dr_laws.proofs.Journal.{EndsAnswered, after_task-ends}
 
 -- the text of more events follows that of the first ones
 pub text_from-append : (told : Told) (es fs : List Event) → text_from told (es ++ fs) ≡ text_from told es ++ text_from (fold heard told es) fs
@@ -24,20 +22,10 @@ pub heard-append : (told : Told) (es fs : List Event) → fold heard told (es ++
 heard-append told es fs = fold-append heard told es fs
 
 -- an answer ends what is shown
-answer-resets : (told : Told) (line : ℕ) (a : Said) → (heard told (answer line a)).shown ≡ zeros
-answer-resets told line Done = refl
-answer-resets told line (Wrote w) = refl
-answer-resets told line (Acked w) = refl
-answer-resets told line Showed = refl
-answer-resets told line (ServerOff server) = refl
-answer-resets told line (StoppedIn server) = refl
-answer-resets told line NotBuilt = refl
-
 pub ends-reset : (w : World) (line : ℕ) (u : World) → EndsAnswered w line u → (fold heard untold u.events).shown ≡ zeros
 ends-reset w line u ends =
     ap (λ es. (fold heard untold es).shown) ends.events
     ∙ ap (λ (told : Told). told.shown) (heard-append untold (w.events ++ ends.before) (answer line ends.says ∷ []))
-    ∙ answer-resets (fold heard untold (w.events ++ ends.before)) line ends.says
 
 pub after_task-resets : (w : World) (t : Task) → (fold heard untold (after_task w t).events).shown ≡ zeros
 after_task-resets w t = ends-reset w t.line (after_task w t) (after_task-ends w t)

@@ -1,7 +1,7 @@
 use Rattle.std.proofs.Common.{◌≡◌, length, take, map}
 use Rattle.std.specs.List.{range_with_len}
 use Rattle.dr_model.specs.LineWords.{byte_at}
-use Rattle.dr_script.proofs.values.block_of.Given as goal
+use Rattle.dr_script.proofs.values.spelled_bytes.Given as goal
 
 abbrev pub invariant-loop-k : goal.invariant-loop-k
 invariant-loop-k l = record {

@@ -1,0 +1,168 @@
+-- A volume is defined: it has tracks of zeros, and nothing changes for the others.
+use Rattle.std.proofs.Common.{ℕ, ◌≡◌, ◌≢◌, ◌<◌, ◌+◌, inl, inr, refl, ap, sym, ◌∙◌, subst, Bool, true, false, cond, ◌&&◌, ◌||◌, nat_eq, List, [], ◌∷◌, ◌++◌, Some, None, rules}
+use Rattle.std.proofs.lemmas.Bool.Decides.{eqb_tells}
+use Rattle.std.proofs.lemmas.Bool.{false_from_ne_true, and_parts, eqb-true, eq-eqb}
+use Rattle.std.specs.List.{list_any}
+use Rattle.std.specs.Ordering.{nat_cmp}
+use Rattle.std.specs.FinSet.{contains, empty, members}
+use Rattle.dr_model.specs.declared.event.Event.TheVariants.{Volume as VolumeDefined}
+use Rattle.dr_model.specs.Tables.{at}
+use Rattle.dr_model.specs.Contents.{image, zeros}
+use Rattle.dr_model.specs.Histories.{Write, Histories, histories, after_event}
+use Rattle.dr_model.specs.Control.{Control, Pending, Volume, World, is_volume, new_volume}
+use Rattle.dr_model.specs.Table.{Row, table, waiting, due, due_by}
+use Rattle.dr_model.specs.Laws.{SoundRows, Structure, RowSets, Unrelated, Low, Numbered, Waits, AllPending, Lone, Together, servers, source, Sound}
+use Rattle.dr_model.proofs.Images.{histories-append}
+use Rattle.dr_laws.proofs.AtLemmas.{Told, at_cases, at_other, each-at}
+use Rattle.dr_laws.proofs.Sets.{if_false, false_true, none_some, no_source}
+use Rattle.dr_laws.proofs.KeepsQueue.{each-on, numbered-after}
+use Rattle.dr_laws.proofs.KeepsImages.{images-at}
+
+low-empty : (n : ℕ) → Low n empty
+low-empty n t h = absurd (let e : contains {R = nat_cmp} empty t ≡ false = grind (members, rules) in false_true e h)
+
+lone-each : (server other : ℕ → ℕ) (ps : List Pending) → AllPending (λ p. other p.volume ≡ server p.volume) ps → Lone server ps → Lone other ps
+lone-each server other [] same all = tt
+lone-each server other (p ∷ ps) same all = (each ps same.1 all.0, lone-each server other ps same.1 all.1)
+  where
+    each : (qs : List Pending) → AllPending (λ q. other q.volume ≡ server q.volume) qs → AllPending (Together server p) qs → AllPending (Together other p) qs
+    each [] here old = tt
+    each (q ∷ qs) here old = ((λ l m e. old.0 l m (sym same.0 ∙ e ∙ here.0)), each qs here.1 old.1)
+
+module _ (w : World) (s : Sound w) (v server tracks : ℕ) (undefined : is_volume w.control v ≡ false) where
+  abbrev h : Histories
+  h = histories w.events
+
+  abbrev ps : List Pending
+  ps = w.control.pending
+
+  abbrev pub with_volume : World
+  with_volume = record {
+    control = record w.control { volumes = w.control.volumes ++ v ∷ []; volume = at w.control.volume v (new_volume server tracks) };
+    contents = w.contents;
+    events = w.events ++ VolumeDefined v server tracks ∷ [];
+  }
+
+  lists : histories with_volume.events ≡ after_event h (VolumeDefined v server tracks)
+  lists = histories-append w.events (VolumeDefined v server tracks ∷ [])
+
+  -- who is defined now
+  any-more : (u : ℕ) (vs : List ℕ) → list_any (nat_eq u) (vs ++ v ∷ []) ≡ (list_any (nat_eq u) vs || nat_eq u v)
+  any-more u [] = either (nat_eq u v)
+    where
+      either : (b : Bool) → (b || false) ≡ b
+      either true = refl
+      either false = refl
+  any-more u (x ∷ xs) = ap (λ b. nat_eq u x || b) (any-more u xs) ∙ grouped (nat_eq u x) (list_any (nat_eq u) xs) (nat_eq u v)
+    where
+      grouped : (a b c : Bool) → (a || (b || c)) ≡ ((a || b) || c)
+      grouped true b c = refl
+      grouped false b c = refl
+
+  -- no write waits for it
+  elsewhere : (p : Pending) → Waits None w.control h.write p → p.volume ≢ v
+  elsewhere p waits e = false_true (ap (is_volume w.control) e ∙ undefined) waits.defined
+
+  none-waiting : (q : ℕ) (ps : List Pending) → AllPending (Waits None w.control h.write) ps → waiting ps v q ≡ []
+  none-waiting q [] all = refl
+  none-waiting q (p ∷ ps) all =
+      let here : Bool = p.landed && (nat_eq p.volume v && nat_eq p.track q) in
+      if_false {b = here} (p.w ∷ waiting ps v q) (waiting ps v q) (false_from_ne_true here (λ h. elsewhere p all.0 (eqb-true p.volume v (and_parts _ (nat_eq p.track q) (and_parts _ _ h).1).0)))
+      ∙ none-waiting q ps all.1
+
+  abbrev row : Row
+  row = record { defined = true; volume = new_volume server tracks; bytes = w.contents v; due = λ t. zeros }
+
+  image-none : (write : ℕ → Write) → image write [] ≡ zeros
+  unfolding image
+  image-none write = refl
+
+  row-by : (u : ℕ) → Told u v → table with_volume u ≡ at (table w) v row u
+  row-by u (inl is) =
+      (λ i. record {
+        defined = any-more u w.control.volumes i;
+        volume = cond (is.0 i) (new_volume server tracks) (w.control.volume u);
+        bytes = w.contents u;
+        due = λ q. (ap (λ (h : Histories). due_by h ps u q) lists) i;
+      })
+      ∙ (λ i. record {
+        defined = (ap (λ b. list_any (nat_eq u) w.control.volumes || b) is.0 ∙ always (list_any (nat_eq u) w.control.volumes)) i;
+        volume = new_volume server tracks;
+        bytes = w.contents (is.1 i);
+        due = λ q. (ap (λ b. image h.write ((cond b (λ t. []) (h.now u)) q ++ waiting ps u q)) is.0 ∙ ap (λ x. image h.write (waiting ps x q)) is.1 ∙ ap (image h.write) (none-waiting q ps s.queue.each) ∙ image-none h.write) i;
+      })
+      ∙ sym (λ i. cond (is.0 i) row (table w u))
+    where
+      always : (b : Bool) → (b || true) ≡ true
+      always true = refl
+      always false = refl
+  row-by u (inr not) =
+      (λ i. record {
+        defined = any-more u w.control.volumes i;
+        volume = cond (not.0 i) (new_volume server tracks) (w.control.volume u);
+        bytes = w.contents u;
+        due = λ q. (ap (λ (h : Histories). due_by h ps u q) lists) i;
+      })
+      ∙ (λ i. record {
+        defined = (ap (λ b. list_any (nat_eq u) w.control.volumes || b) not.0 ∙ either (list_any (nat_eq u) w.control.volumes)) i;
+        volume = w.control.volume u;
+        bytes = w.contents u;
+        due = λ q. image h.write ((cond (not.0 i) (λ t. []) (h.now u)) q ++ waiting ps u q);
+      })
+      ∙ sym (λ i. cond (not.0 i) row (table w u))
+    where
+      either : (b : Bool) → (b || false) ≡ b
+      either true = refl
+      either false = refl
+
+  table-defined : table with_volume ≡ at (table w) v row
+  table-defined = λ i u. row-by u (eqb_tells u v) i
+
+  rows-defined : SoundRows (at (table w) v row)
+  rows-defined = record {
+    structure = record {
+      sets = each-at (table w) v row (λ v r. RowSets r) (record {
+        out_of_sync_low = low-empty tracks;
+        change_recording_low = low-empty tracks;
+        own_low = low-empty tracks;
+        previous_own_low = low-empty tracks;
+        source_changes_low = low-empty tracks;
+        target_changes_low = low-empty tracks;
+        blank_low = low-empty tracks;
+      }) s.rows.structure.sets;
+      unrelated = each-at (table w) v row (λ v r. Unrelated r) refl s.rows.structure.unrelated;
+    };
+    images = images-at (table w) v row s.rows.images (record {
+      blank = λ t e. s.rows.images.fresh v undefined t;
+      fresh = λ e. absurd cc;
+      plain = λ none t lt. s.rows.images.fresh v undefined t;
+      seen = λ u ne e. absurd cc;
+      loop = λ e. cc;
+      onto = λ u ne e. none_some (no_source _ _ (s.rows.structure.unrelated u)) e;
+    });
+  }
+
+  same-server : (p : Pending) → Waits None w.control h.write p → servers with_volume.control p.volume ≡ servers w.control p.volume
+  same-server p waits = ap (λ (x : Volume). x.server) (at_other w.control.volume v (new_volume server tracks) p.volume (elsewhere p waits))
+
+  waits-on : (p : Pending) → Waits None w.control h.write p → Waits None with_volume.control (histories with_volume.events).write p
+  waits-on p waits =
+      let same = ap (λ (h : Histories). h.write p.w) lists in
+      record {
+        number = waits.number;
+        defined = any-more p.volume w.control.volumes ∙ ap (λ b. b || nat_eq p.volume v) waits.defined;
+        volume = ap (λ (x : Write). x.volume) same ∙ waits.volume;
+        track = ap (λ (x : Write). x.track) same ∙ waits.track;
+        calm = λ l f. ap w.control.on (same-server p waits) ∙ waits.calm l f;
+      }
+
+  pub sound-defined : Sound with_volume
+  sound-defined = record {
+    rows = subst SoundRows (sym table-defined) rows-defined;
+    queue = record {
+      each = each-on waits-on ps s.queue.each;
+      apart = s.queue.apart;
+      lone = lone-each (servers w.control) (servers with_volume.control) ps (each-on same-server ps s.queue.each) s.queue.lone;
+      numbers = subst (Numbered (w.control.issued + 1)) (sym lists) (numbered-after (w.control.issued + 1) h (VolumeDefined v server tracks) tt s.queue.numbers);
+    };
+  }

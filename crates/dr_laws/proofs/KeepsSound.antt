@@ -1,0 +1,110 @@
+-- A sound world stays sound in an act that may come, however it ends.
+use Rattle.std.proofs.Common.{ℕ, ◌≡◌, ◌+◌, refl, ap, sym, subst, Bool, true, false, List, [], ◌∷◌, ◌++◌, Option, None}
+use Rattle.dr_ids.specs.declared.refusal.Refusal.{Refusal}
+use Rattle.dr_model.specs.declared.event.Event.{Event}
+use Rattle.dr_model.specs.declared.event.Event.TheVariants.{Stopped}
+use Rattle.dr_model.specs.Tables.{at}
+use Rattle.dr_model.specs.Histories.{Write, Histories, histories}
+use Rattle.dr_model.specs.Control.{Control, World, Fuse}
+use Rattle.dr_model.specs.Moves.{Move}
+use Rattle.dr_model.specs.Carry.{Act, Make, Redo, Acknowledge, Entry, Next, check, now}
+use Rattle.dr_model.specs.Plans.{Plan}
+use Rattle.dr_model.specs.Runs.{begun}
+use Rattle.dr_model.specs.ReadStops.{gone_off}
+use Rattle.dr_model.specs.Table.{Table, table, due_by}
+use Rattle.dr_model.specs.Rows.{after}
+use Rattle.dr_model.specs.Laws.{SoundRows, SoundBut, Sound}
+use Rattle.dr_model.specs.Allowed.{Allowed, May, Runs}
+use Rattle.dr_model.proofs.Images.{histories-append}
+use Rattle.dr_laws.proofs.Turns.{done, done_in_stop, not_done, after_act, place, Writes}
+use Rattle.dr_laws.proofs.RowsAfter.{table-done, table-stop}
+use Rattle.dr_laws.proofs.KeepsStructure.{kept-structure}
+use Rattle.dr_laws.proofs.KeepsImages.{kept-images}
+use Rattle.dr_laws.proofs.KeepsQueue.{AllQuiet, queue-done, queue-stop, queue-same, goes-off}
+use Rattle.dr_laws.proofs.Along as along
+
+pub rows-after : (write : ℕ → Write) (T : Table) (m : Move) → SoundRows T → Allowed write T m → SoundRows (after write T m)
+rows-after write T m r a = record { structure = kept-structure write T r.structure m a; images = kept-images write T r.images m a }
+
+-- events that no list hears of
+pub rows-told : (w : World) (es : List Event) → histories (w.events ++ es) ≡ histories w.events → SoundRows (table w) → SoundRows (table (record w { events = w.events ++ es }))
+rows-told w es same r = subst SoundRows (ap (λ (h : Histories). λ (v : ℕ). record (table w v) { due = due_by h w.control.pending v }) (sym same)) r
+
+module _ (starts : Option ℕ) where
+  pub sound-done : (w : World) (m : Move) (f : Option Fuse) → SoundBut starts w → May w m → SoundBut starts (done w m f)
+  sound-done w m f s may = record {
+    rows = subst SoundRows (sym (table-done w m f s.rows.images.blank may.ready)) (rows-after (histories w.events).write (table w) m s.rows may.allowed);
+    queue = queue-done starts w s.queue m f may.ready;
+  }
+
+  pub sound-stop : (w : World) (m : Move) (f : Option Fuse) → SoundBut starts w → May w m → SoundBut starts (done_in_stop w m f)
+  sound-stop w m f s may = record {
+    rows = subst SoundRows (sym (table-stop w m f s.rows.images.blank may.ready)) (rows-after (histories w.events).write (table w) m s.rows may.allowed);
+    queue = queue-stop starts w s.queue m f may.ready;
+  }
+
+  -- events that change no list, one server more, and servers that may have gone off
+  pub sound-told : (w : World) (servers : List (List ℕ)) (on : ℕ → Bool) (fuse : ℕ → Option Fuse) (es : List Event) → histories (w.events ++ es) ≡ histories w.events → AllQuiet (w.control.issued + 1) es
+      → ((j : ℕ) → w.control.on j ≡ false → on j ≡ false) → SoundBut starts w
+      → SoundBut starts (record { control = record w.control { servers = servers; on = on; fuse = fuse }; contents = w.contents; events = w.events ++ es })
+  sound-told w servers on fuse es same quiet off s = record {
+    rows = rows-told w es same s.rows;
+    queue = queue-same starts w s.queue (record w.control { servers = servers; on = on; fuse = fuse }) es w.contents quiet refl refl refl (λ v. refl) off;
+  }
+
+  pub sound-not : (w : World) (x : ℕ) (f : Option Fuse) → SoundBut starts w → SoundBut starts (not_done w x f)
+  sound-not w x f s =
+      sound-told w w.control.servers (at w.control.on x false) (at w.control.fuse x f) (Stopped x 0 ∷ []) (histories-append w.events (Stopped x 0 ∷ [])) (tt, tt) (goes-off starts w s.queue w.control.on x) s
+
+  pub sound-gone : (w : World) (x : ℕ) → SoundBut starts w → SoundBut starts (gone_off w x)
+  sound-gone w x s =
+      sound-told w w.control.servers (at w.control.on x false) w.control.fuse (Stopped x 0 ∷ []) (histories-append w.events (Stopped x 0 ∷ [])) (tt, tt) (goes-off starts w s.queue w.control.on x) s
+
+-- what a plan's acts may be but where a server starts
+abbrev pub MayDo : World → Act → Type 0
+MayDo w (Make m) = May w m
+MayDo w a = ⊥
+
+pub keeps-sound : along.Keeps Sound Sound MayDo
+keeps-sound = record { runs = runs; does = does; counts = λ w m f s may. sound-stop None w m f s may; fails = λ w a f d s may. sound-not None w _ f s }
+  where
+    runs : (w : World) (a : Act) → Writes a → MayDo w a → Runs w (place a)
+    runs w (Make m) d may = may.runs
+    runs w (Redo v) d may = absurd may
+    runs w (Acknowledge n) d may = absurd may
+
+    does : (w : World) (a : Act) (f : Option Fuse) → Sound w → MayDo w a → Sound (after_act w a f)
+    does w (Make m) f s may = sound-done None w m f s may
+    does w (Redo v) f s may = absurd may
+    does w (Acknowledge n) f s may = absurd may
+
+abbrev pub Along : World → List Entry → Type 0
+Along = along.Along Sound Sound MayDo
+
+-- The steps of a proof that a plan of moves is allowed along: what follows a decision; no entry is left; an entry, by
+-- what it decides; a move that comes in any case; a check.
+abbrev pub Then : World → Next → (World → Type 0) → Type 0
+Then = along.along_next Sound Sound MayDo
+
+pub over : (w : World) → Sound w → Along w []
+over = along.along-nil Sound Sound MayDo
+
+pub decides : (w : World) (d : Entry) (ds : List Entry) (x : Next) → d w.control ≡ x → Then w x (λ v. Along v ds) → Along w (d ∷ ds)
+decides = along.along-entry Sound Sound MayDo
+
+pub moves : (w : World) (m : Move) (ds : List Entry) → May w m → ((f : Option Fuse) → Sound (done w m f) → Along (done w m f) ds) → Along w (now m ∷ ds)
+moves = along.along-now Sound Sound MayDo
+
+pub checked : (w : World) (ok : Control → Bool) (r : Refusal) (ds : List Entry) → Sound w → (ok w.control ≡ true → Along w ds) → Along w (check ok r ∷ ds)
+checked = along.along-check Sound Sound MayDo
+
+-- what is to be shown of a step
+abbrev pub RowsAt : World → Type 0
+RowsAt w = SoundRows (table w)
+
+abbrev pub StepHolds : World → Plan → Type 1
+StepHolds = along.Holds Sound RowsAt MayDo
+
+-- a plan of moves
+pub holds-moves : (w : World) (p : Plan) → Sound (begun w p) → Along (begun w p) p.entries → ((s : ℕ) (v : World) → Sound v → Along v (p.follows s)) → ((v : World) → Sound v → Sound (record v { control = p.last v.control })) → StepHolds w p
+holds-moves w p begins entries follows last = record { inner = Sound; may = MayDo; keeps = keeps-sound; within = λ v s. s.rows; begins = begins; entries = entries; follows = follows; last = last }

@@ -1,0 +1,147 @@
+-- How an act ends: it is done; or its server stops in it, and it counts as done or doesn't.
+use Rattle.std.proofs.Common.{ℕ, ◌≡◌, refl, sym, subst, Bool, true, false, cond, not, List, [], ◌∷◌, ◌++◌, Option, Some, None}
+use Rattle.dr_model.specs.declared.event.Event.TheVariants.{Stopped}
+use Rattle.dr_model.specs.Tables.{at}
+use Rattle.dr_model.specs.Histories.{histories}
+use Rattle.dr_model.specs.Layout.{Fields}
+use Rattle.dr_model.specs.Control.{Control, Fuse, Volume, World}
+use Rattle.dr_model.specs.Moves.{Move, Carried, target, next_fields, carried, told, told_in_stop, landed, settled, settled_in_stop, updated}
+use Rattle.dr_model.specs.Carry.{Act, Make, Redo, Acknowledge, Turn, Ended, ended, update, turn, redo, redo_ended, redo_writes, act, acknowledged, spent, off, pass, counts_by, burnt, lower, writes, finished, cut_short}
+use Rattle.dr_model.specs.Allowed.{Runs}
+
+abbrev pub server_at : World → ℕ → ℕ
+server_at w v = (w.control.volume v).server
+
+abbrev pub next_of : World → Move → Fields
+next_of w m = next_fields m w.control.volume
+
+abbrev pub carried_in : World → Move → Carried
+carried_in w m = carried m w.control.volume w.contents (histories w.events).write
+
+abbrev pub moved_in : World → Move → World
+moved_in w m = updated w (target m) (next_of w m) (carried_in w m)
+
+-- a move that is done, where its server's fuse is then that one
+abbrev pub done : World → Move → Option Fuse → World
+done w m f =
+    let u : Volume = w.control.volume (target m) in
+    record (moved_in w m) {
+      control = record (moved_in w m).control { fuse = at w.control.fuse u.server f; pending = settled m w.control.pending };
+      events = w.events ++ told m u;
+    }
+
+-- a server stopped in a move, which counts as done
+abbrev pub done_in_stop : World → Move → Option Fuse → World
+done_in_stop w m f =
+    let u : Volume = w.control.volume (target m) in
+    record (moved_in w m) {
+      control = record (moved_in w m).control { on = at w.control.on u.server false; fuse = at w.control.fuse u.server f; pending = settled_in_stop m w.control.pending };
+      events = w.events ++ (told_in_stop m u ++ Stopped u.server (landed m) ∷ []);
+    }
+
+-- or doesn't
+abbrev pub not_done : World → ℕ → Option Fuse → World
+not_done w s f = record w { control = record w.control { on = at w.control.on s false; fuse = at w.control.fuse s f }; events = w.events ++ Stopped s 0 ∷ [] }
+
+-- writes that changed nothing but a fuse
+abbrev pub fused : World → ℕ → Option Fuse → World
+fused w s f = record w { control = record w.control { fuse = at w.control.fuse s f } }
+
+-- a turn, by what decides it
+abbrev ended_by : World → Move → Bool → Bool → Bool → Ended
+ended_by w m on passes counts =
+    let s : ℕ = server_at w (target m) in
+    cond (not on) (ended w true false)
+    (cond passes (ended (spent (moved_in w m) s (writes (carried_in w m))) false true)
+    (cond counts (ended (off (moved_in w m) s) true true) (ended (off w s) true false)))
+
+abbrev turn_by : World → Move → Bool → Bool → Bool → Turn
+turn_by w m on passes counts =
+    let u : Volume = w.control.volume (target m) in
+    let e : Ended = ended_by w m on passes counts in
+    cond (not on) (w, None) (cond e.stopped (cut_short e.world m u e.done, Some u.server) (finished e.world m u, None))
+
+turn-by : (w : World) (m : Move) → let u : Volume = w.control.volume (target m) in
+    turn w m ≡ turn_by w m (w.control.on u.server) (pass (w.control.fuse u.server) (writes (carried_in w m))) (counts_by (w.control.fuse u.server) (not u.slot))
+unfolding turn update
+turn-by w m = refl
+
+turn_by-cases : (w : World) (m : Move) (P : Turn → Type 0) (on passes counts : Bool)
+    → (on ≡ false → P (w, None))
+    → ((f : Option Fuse) → P (done w m f, None))
+    → ((f : Option Fuse) → P (done_in_stop w m f, Some (server_at w (target m))))
+    → ((f : Option Fuse) → P (not_done w (server_at w (target m)) f, Some (server_at w (target m))))
+    → P (turn_by w m on passes counts)
+turn_by-cases w m P false passes counts o a b c = o refl
+turn_by-cases w m P true true counts o a b c = a _
+turn_by-cases w m P true false true o a b c = b _
+turn_by-cases w m P true false false o a b c = c _
+
+pub turn-cases : (w : World) (m : Move) (P : Turn → Type 0)
+    → (w.control.on (server_at w (target m)) ≡ false → P (w, None))
+    → ((f : Option Fuse) → P (done w m f, None))
+    → ((f : Option Fuse) → P (done_in_stop w m f, Some (server_at w (target m))))
+    → ((f : Option Fuse) → P (not_done w (server_at w (target m)) f, Some (server_at w (target m))))
+    → P (turn w m)
+turn-cases w m P o a b c = subst P (sym (turn-by w m)) (turn_by-cases w m P _ _ _ o a b c)
+
+-- a staged track written to its place, by what decides it
+abbrev redone_by : World → ℕ → Bool → Bool → Ended
+redone_by w v on passes =
+    let s : ℕ = server_at w v in
+    cond (not on) (ended w true false) (cond passes (ended (spent w s (redo_writes (w.control.volume v).staged)) false true) (ended (off w s) true false))
+
+abbrev redo_by : World → ℕ → Bool → Bool → Turn
+redo_by w v on passes =
+    let s : ℕ = server_at w v in
+    let e : Ended = redone_by w v on passes in
+    cond (not on) (w, None) (cond e.stopped (record e.world { events = w.events ++ Stopped s 0 ∷ [] }, Some s) (e.world, None))
+
+redo-by : (w : World) (v : ℕ) → redo_ended w v (redo w v) ≡ redo_by w v (w.control.on (server_at w v)) (pass (w.control.fuse (server_at w v)) (redo_writes (w.control.volume v).staged))
+unfolding redo
+redo-by w v = refl
+
+redo_by-cases : (w : World) (v : ℕ) (P : Turn → Type 0) (on passes : Bool)
+    → (on ≡ false → P (w, None))
+    → ((f : Option Fuse) → P (fused w (server_at w v) f, None))
+    → ((f : Option Fuse) → P (not_done w (server_at w v) f, Some (server_at w v)))
+    → P (redo_by w v on passes)
+redo_by-cases w v P false passes o a b = o refl
+redo_by-cases w v P true true o a b = a _
+redo_by-cases w v P true false o a b = b _
+
+-- the volume whose server carries an act out
+abbrev pub place : Act → ℕ
+place (Make m) = target m
+place (Redo v) = v
+place (Acknowledge n) = 0
+
+abbrev pub server_of : World → Act → ℕ
+server_of w a = server_at w (place a)
+
+-- the world after an act that is done
+abbrev pub after_act : World → Act → Option Fuse → World
+after_act w (Make m) f = done w m f
+after_act w (Redo v) f = fused w (server_at w v) f
+after_act w (Acknowledge n) f = acknowledged w n
+
+-- acts that write to a device
+abbrev pub Writes : Act → Type 0
+Writes (Acknowledge n) = ⊥
+Writes a = Unit {0}
+
+-- a move that counts as done in a stop
+abbrev pub Counts : World → Act → (Turn → Type 0) → Type 0
+Counts w (Make m) P = (f : Option Fuse) → P (done_in_stop w m f, Some (server_at w (target m)))
+Counts w a P = Unit {0}
+
+pub act-cases : (w : World) (a : Act) (P : Turn → Type 0)
+    → (Writes a → w.control.on (server_of w a) ≡ false → P (w, None))
+    → ((f : Option Fuse) → P (after_act w a f, None))
+    → Counts w a P
+    → (Writes a → (f : Option Fuse) → P (not_done w (server_of w a) f, Some (server_of w a)))
+    → P (act w a)
+unfolding act
+act-cases w (Make m) P o a b c = turn-cases w m P (o tt) a b (c tt)
+act-cases w (Redo v) P o a b c = subst P (sym (redo-by w v)) (redo_by-cases w v P _ _ (o tt) a (c tt))
+act-cases w (Acknowledge n) P o a b c = a None

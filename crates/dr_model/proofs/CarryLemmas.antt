@@ -1,0 +1,88 @@
+-- How a plan is carried out, entry by entry: for the exact clauses of the functions that carry it out.
+use Rattle.std.proofs.Common.{cond, ℕ, ◌≡◌, refl, ap, ◌∙◌, Bool, true, false, List, [], ◌∷◌, ◌++◌, Option, Some, None}
+use Rattle.std.proofs.lemmas.List.{append-nil}
+use Rattle.dr_ids.specs.declared.refusal.Refusal.{Refusal}
+use Rattle.dr_model.specs.Refusals.{stopped}
+use Rattle.dr_model.specs.declared.event.Event.{Event}
+use Rattle.dr_model.specs.declared.said.Said.{Said}
+use Rattle.dr_model.specs.declared.said.Said.TheVariants.{Refused}
+use Rattle.dr_model.specs.Control.{Control, World}
+use Rattle.dr_model.specs.Moves.{Move}
+use Rattle.dr_model.specs.Carry.{Act, Make, Redo, Acknowledge, Next, Pass, Do, End, Entry, Turn, Outcome, act, turn, redo, redo_ended, acknowledged, carry, go, continue, check}
+use Rattle.dr_model.specs.Plans.{Plan, tables_plan, only_says, refuses, same}
+use Rattle.dr_model.specs.Runs.{begun, finish, carried_out, answered, after_plan, said}
+
+-- what an act is
+pub act-move : (w : World) (m : Move) → act w (Make m) ≡ turn w m
+unfolding act
+act-move w m = refl
+
+pub act-redo : (w : World) (v : ℕ) → act w (Redo v) ≡ redo_ended w v (redo w v)
+unfolding act
+act-redo w v = refl
+
+pub act-acknowledge : (w : World) (n : ℕ) → act w (Acknowledge n) ≡ (acknowledged w n, None)
+unfolding act
+act-acknowledge w n = refl
+
+-- no entry is left
+pub carry-none : (w : World) → carry w [] ≡ (w, None)
+unfolding carry
+carry-none w = refl
+
+-- the first entry, by what it comes to
+pub carry-first : (w : World) (d : Entry) (ds : List Entry) (x : Next) → d w.control ≡ x → carry w (d ∷ ds) ≡ go w x (λ v. carry v ds)
+unfolding carry
+carry-first w d ds x is = ap (λ x. go w x (λ v. carry v ds)) is
+
+pub carry-skips : (w : World) (d : Entry) (ds : List Entry) → d w.control ≡ Pass → carry w (d ∷ ds) ≡ carry w ds
+carry-skips w d ds is = carry-first w d ds Pass is
+
+pub carry-passed : (w : World) (ok : Control → Bool) (r : Refusal) (ds : List Entry) → ok w.control ≡ true → carry w (check ok r ∷ ds) ≡ carry w ds
+carry-passed w ok r ds h = carry-first w (check ok r) ds Pass (ap (λ b. cond b Pass (End r)) h)
+
+pub carry-refused : (w : World) (ok : Control → Bool) (r : Refusal) (ds : List Entry) → ok w.control ≡ false → carry w (check ok r ∷ ds) ≡ (w, Some r)
+carry-refused w ok r ds h = carry-first w (check ok r) ds (End r) (ap (λ b. cond b Pass (End r)) h)
+
+pub carry-goes : (w v : World) (d : Entry) (ds : List Entry) (a : Act) → d w.control ≡ Do a → act w a ≡ (v, None) → carry w (d ∷ ds) ≡ carry v ds
+carry-goes w v d ds a is done = carry-first w d ds (Do a) is ∙ ap (λ (t : Turn). continue t.0 t.1 (λ v. carry v ds)) done
+
+pub carry-stops : (w v : World) (d : Entry) (ds : List Entry) (a : Act) (s : ℕ) → d w.control ≡ Do a → act w a ≡ (v, Some s) → carry w (d ∷ ds) ≡ (v, Some (stopped s))
+carry-stops w v d ds a s is stops = carry-first w d ds (Do a) is ∙ ap (λ (t : Turn). continue t.0 t.1 (λ v. carry v ds)) stops
+
+-- entries that follow others
+abbrev pub then : Outcome → (World → Outcome) → Outcome
+then (w, None) next = next w
+then (w, Some r) next = (w, Some r)
+
+continue-then : (t : Turn) (first rest : World → Outcome) (both : World → Outcome) → ((v : World) → both v ≡ then (first v) rest) → continue t.0 t.1 both ≡ then (continue t.0 t.1 first) rest
+continue-then (w, None) first rest both each = each w
+continue-then (w, Some s) first rest both each = refl
+
+go-then : (w : World) (x : Next) (first rest both : World → Outcome) → ((v : World) → both v ≡ then (first v) rest) → go w x both ≡ then (go w x first) rest
+go-then w Pass first rest both each = each w
+go-then w (End r) first rest both each = refl
+go-then w (Do a) first rest both each = continue-then (act w a) first rest both each
+
+pub carry-append : (w : World) (first rest : List Entry) → carry w (first ++ rest) ≡ then (carry w first) (λ v. carry v rest)
+unfolding carry
+carry-append w [] rest = refl
+carry-append w (d ∷ first) rest = go-then w (d w.control) (λ v. carry v first) (λ v. carry v rest) (λ v. carry v (first ++ rest)) (λ v. carry-append v first rest)
+
+-- a plan comes to what its entries come to
+pub plan-ends : (w : World) (line : ℕ) (p : Plan) (o : Outcome) → carry (begun w p) p.entries ≡ o
+    → after_plan w line p ≡ said (finish p o.0 o.1) line (answered p (finish p o.0 o.1).control o.1)
+unfolding after_plan
+plan-ends w line p o e = ap (λ (o : Outcome). said (finish p o.0 o.1) line (answered p (finish p o.0 o.1).control o.1)) e
+
+-- one that changes tables and tells events
+pub plan-tables : (w : World) (line : ℕ) (first : Control → Control) (told : List Event) (a : Said)
+    → after_plan w line (tables_plan first told a) ≡ said (record w { control = first w.control; events = w.events ++ told }) line a
+plan-tables w line first told a = plan-ends w line (tables_plan first told a) _ (carry-none (begun w (tables_plan first told a)))
+
+-- an answer alone
+pub plan-says : (w : World) (line : ℕ) (a : Said) → after_plan w line (only_says a) ≡ said w line a
+plan-says w line a = plan-tables w line same [] a ∙ ap (λ es. said (record w { events = es }) line a) (append-nil w.events)
+
+pub plan-refuses : (w : World) (line : ℕ) (r : Refusal) → after_plan w line (refuses r) ≡ said w line (Refused r)
+plan-refuses w line r = plan-says w line (Refused r)

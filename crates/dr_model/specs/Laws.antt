@@ -1,0 +1,150 @@
+-- What holds of every world of a run, as parts with names.
+use Rattle.std.specs.Prelude.{◌≡◌, ℕ, ◌<◌, ◌+◌, Bool, true, false, List, [], ◌∷◌, Option, Some, None, nat_eq, if◌then◌else◌}
+use Rattle.std.specs.FinSet.{contains}
+use Rattle.dr_model.specs.Histories.{Write, Histories, histories}
+use Rattle.dr_model.specs.Contents.{zeros}
+use Rattle.dr_model.specs.Layout.{Tracks, Fields}
+use Rattle.dr_model.specs.Control.{Pending, Control, World, is_volume}
+use Rattle.dr_model.specs.Views.{source_of, view}
+use Rattle.dr_model.specs.Table.{Row, Table, table}
+
+-- a law on each volume, and one on each volume and the one that it points to
+abbrev pub Each : (ℕ → Row → Type 0) → Table → Type 0
+Each P T = (v : ℕ) → P v (T v)
+
+abbrev pub Linked : (Row → Option ℕ) → (ℕ → Row → ℕ → Row → Type 0) → Table → Type 0
+Linked link R T = (v u : ℕ) → link (T v) ≡ Some u → R v (T v) u (T u)
+
+abbrev pub fields : Table → ℕ → Fields
+fields T v = (T v).volume.fields
+
+-- the source of a target
+abbrev pub source : Row → Option ℕ
+source r = source_of r.volume.fields
+
+-- Structure: what control records say together.
+
+-- each track of a set is below n
+abbrev pub Low : ℕ → Tracks → Type 0
+Low n s = (t : ℕ) → contains s t ≡ true → t < n
+
+-- the sets of a volume with n tracks
+pub record SetsLow (n : ℕ) (out_of_sync change_recording own previous_own source_changes target_changes blank : Tracks) : Type 0 where
+  pub out_of_sync_low : Low n out_of_sync
+  pub change_recording_low : Low n change_recording
+  pub own_low : Low n own
+  pub previous_own_low : Low n previous_own
+  pub source_changes_low : Low n source_changes
+  pub target_changes_low : Low n target_changes
+  pub blank_low : Low n blank
+
+abbrev pub RowSets : Row → Type 0
+RowSets r =
+    let f : Fields = r.volume.fields in
+    SetsLow r.volume.tracks f.out_of_sync f.change_recording f.own f.previous_own f.source_changes f.target_changes f.blank
+
+-- no step that is carried out makes a target yet
+abbrev pub Unrelated : Row → Type 0
+Unrelated r = r.volume.fields.related ≡ false
+
+pub record Structure (T : Table) : Type 0 where
+  pub sets : Each (λ v r. RowSets r) T
+  pub unrelated : Each (λ v r. Unrelated r) T
+
+-- Images: what tracks contain, and what they show.
+
+-- blank tracks are zeros, and so are those of a volume that isn't defined
+abbrev pub Blank : Table → Type 0
+Blank = Each (λ v r. (t : ℕ) → contains r.volume.fields.blank t ≡ true → r.bytes t ≡ zeros)
+
+abbrev pub Fresh : Table → Type 0
+Fresh = Each (λ v r. r.defined ≡ false → (t : ℕ) → r.bytes t ≡ zeros)
+
+-- a volume that is no target shows what it contains, and that is what is due
+abbrev pub Plain : Row → Type 0
+Plain r = source r ≡ None → (t : ℕ) → t < r.volume.tracks → r.bytes t ≡ r.due t
+
+-- a target shows its own track where it holds it, and else its source's
+abbrev pub shown_with : Row → Row → ℕ → List ℕ
+shown_with r s t = if contains r.volume.fields.own t then r.bytes t else s.bytes t
+
+abbrev pub Seen : Row → Row → Type 0
+Seen r s = (t : ℕ) → t < r.volume.tracks → shown_with r s t ≡ r.due t
+
+pub record Images (T : Table) : Type 0 where
+  pub blank : Blank T
+  pub fresh : Fresh T
+  pub plain : Each (λ v r. Plain r) T
+  pub seen : Linked source (λ v r u s. Seen r s) T
+
+-- Pending writes.
+
+-- each number of a list is below n
+abbrev pub Below : ℕ → List ℕ → Type 0
+Below n [] = Unit {0}
+Below n (w ∷ ws) = (w < n) × Below n ws
+
+abbrev pub is_at : Option ℕ → ℕ → Bool
+is_at None v = false
+is_at (Some u) v = nat_eq u v
+
+-- A pending write is that of its issue, on a volume that is defined, whose server is off where it has landed. While a
+-- server starts, it alone may be on before its landed write is acknowledged.
+pub record WaitsFor (starts : Option ℕ) (issued : ℕ) (is_defined on : ℕ → Bool) (server : ℕ → ℕ) (write : ℕ → Write) (p : Pending) : Type 0 where
+  pub number : p.w < issued + 1
+  pub defined : is_defined p.volume ≡ true
+  pub volume : (write p.w).volume ≡ p.volume
+  pub track : (write p.w).track ≡ p.track
+  pub calm : p.landed ≡ true → is_at starts (server p.volume) ≡ false → on (server p.volume) ≡ false
+
+abbrev pub servers : Control → ℕ → ℕ
+servers k v = (k.volume v).server
+
+abbrev pub Waits : Option ℕ → Control → (ℕ → Write) → Pending → Type 0
+Waits starts k = WaitsFor starts k.issued (is_volume k) k.on (servers k)
+
+abbrev pub AllPending : (Pending → Type 0) → List Pending → Type 0
+AllPending P [] = Unit {0}
+AllPending P (p ∷ ps) = P p × AllPending P ps
+
+-- no two writes have one number
+abbrev pub Apart : List Pending → Type 0
+Apart [] = Unit {0}
+Apart (p ∷ ps) = AllPending (λ q. q.w ≡ p.w → ⊥) ps × Apart ps
+
+-- no two have landed on volumes of one server
+abbrev pub Together : (ℕ → ℕ) → Pending → Pending → Type 0
+Together server p q = p.landed ≡ true → q.landed ≡ true → server p.volume ≡ server q.volume → ⊥
+
+abbrev pub Lone : (ℕ → ℕ) → List Pending → Type 0
+Lone server [] = Unit {0}
+Lone server (p ∷ ps) = AllPending (Together server p) ps × Lone server ps
+
+-- no list has the number of a write that wasn't issued
+pub record Numbered (n : ℕ) (h : Histories) : Type 0 where
+  pub now : (v t : ℕ) → Below n (h.now v t)
+  pub aside : (v t : ℕ) → Below n (h.aside v t)
+
+pub record Queue (starts : Option ℕ) (w : World) : Type 0 where
+  pub each : AllPending (Waits starts w.control (histories w.events).write) w.control.pending
+  pub apart : Apart w.control.pending
+  pub lone : Lone (servers w.control) w.control.pending
+  pub numbers : Numbered (w.control.issued + 1) (histories w.events)
+
+-- what holds of the table of volumes at every moment, also within a step
+pub record SoundRows (T : Table) : Type 0 where
+  pub structure : Structure T
+  pub images : Images T
+
+-- while a server starts, or none
+pub record SoundBut (starts : Option ℕ) (w : World) : Type 0 where
+  pub rows : SoundRows (table w)
+  pub queue : Queue starts w
+
+-- what holds of a world between steps
+abbrev pub Sound : World → Type 0
+Sound = SoundBut None
+
+-- what a track of a volume shows
+abbrev pub shown : Table → ℕ → ℕ → List ℕ
+shown T = view (fields T) (λ v. (T v).bytes)
