@@ -11,15 +11,13 @@ use Rattle.dr_model.specs.Contents.{image, zeros}
 use Rattle.dr_model.specs.Histories.{Write, Histories, histories, after_event}
 use Rattle.dr_model.specs.Control.{Control, Pending, Volume, World, is_volume, new_volume}
 use Rattle.dr_model.specs.Table.{Row, table, waiting, due, due_by}
-use Rattle.dr_model.specs.Laws.{SoundRows, Structure, RowSets, Unrelated, Low, Numbered, Waits, AllPending, Lone, Together, servers, source, Sound}
+use Rattle.dr_model.specs.Laws.{SoundRows, Structure, Lawful, Unrelated, Numbered, Waits, AllPending, Lone, Together, servers, source, Sound}
 use Rattle.dr_model.proofs.Images.{histories-append}
 use Rattle.dr_laws.proofs.AtLemmas.{Told, at_cases, at_other, each-at}
 use Rattle.dr_laws.proofs.Sets.{if_false, false_true, none_some, no_source}
+use Rattle.dr_model.proofs.LawfulLemmas.{lawful-no_fields}
 use Rattle.dr_laws.proofs.KeepsQueue.{each-on, numbered-after}
 use Rattle.dr_laws.proofs.KeepsImages.{images-at}
-
-low-empty : (n : ℕ) → Low n empty
-low-empty n t h = absurd (let e : contains {R = nat_cmp} empty t ≡ false = grind (members, rules) in false_true e h)
 
 lone-each : (server other : ℕ → ℕ) (ps : List Pending) → AllPending (λ p. other p.volume ≡ server p.volume) ps → Lone server ps → Lone other ps
 lone-each server other [] same all = tt
@@ -121,15 +119,7 @@ module _ (w : World) (s : Sound w) (v server tracks : ℕ) (undefined : is_volum
   rows-defined : SoundRows (at (table w) v row)
   rows-defined = record {
     structure = record {
-      sets = each-at (table w) v row (λ v r. RowSets r) (record {
-        out_of_sync_low = low-empty tracks;
-        change_recording_low = low-empty tracks;
-        own_low = low-empty tracks;
-        previous_own_low = low-empty tracks;
-        source_changes_low = low-empty tracks;
-        target_changes_low = low-empty tracks;
-        blank_low = low-empty tracks;
-      }) s.rows.structure.sets;
+      lawful = each-at (table w) v row (λ v r. Lawful r) (lawful-no_fields tracks) s.rows.structure.lawful;
       unrelated = each-at (table w) v row (λ v r. Unrelated r) refl s.rows.structure.unrelated;
     };
     images = images-at (table w) v row s.rows.images (record {

@@ -24,12 +24,13 @@ use Rattle.dr_model.specs.Carry.{Entry, carry, check, now}
 use Rattle.dr_model.specs.Plans.{Plan, plan, same, refuses, only_says, tables_plan, none_follow, is_empty, is_running, name_bytes, server_named, volume_done, volume_on, issue_plan, show_done, show_plan, has_track, stop_on, arm_on, torn_bytes, start_on}
 use Rattle.dr_model.specs.Runs.{Task, begun, carried_out, answered, said, after_plan, after_task, after_tasks, run}
 use Rattle.dr_model.specs.Table.{table}
-use Rattle.dr_model.specs.Laws.{SoundRows, Sound, AllPending, source, Low}
+use Rattle.dr_model.specs.Laws.{SoundRows, Sound, AllPending, source}
 use Rattle.dr_model.specs.Allowed.{Coming, MayAck, Runs}
 use Rattle.dr_model.proofs.Images.{histories-append}
 use Rattle.dr_laws.proofs.Sets.{false_true, none_some, no_source}
 use Rattle.dr_laws.proofs.RowsAfter.{idle}
 use Rattle.dr_laws.proofs.KeepsQueue.{AllQuiet, goes-off}
+use Rattle.dr_model.proofs.LawfulLemmas.{lawful-no_fields}
 use Rattle.dr_laws.proofs.KeepsSound.{StepHolds, RowsAt, MayDo, holds-moves, keeps-sound, sound-told, over, checked, moves}
 use Rattle.dr_laws.proofs.Issues.{issued, sound-issued, issued-write, one-new}
 use Rattle.dr_laws.proofs.Defines.{with_volume, sound-defined}
@@ -163,23 +164,12 @@ sound-tasks w [] s = s
 sound-tasks w (t ∷ tasks) s = sound-tasks (after_task w t) tasks (sound-task w t s)
 
 -- before the first step
-low-empty : (n : ℕ) → Low n empty
-low-empty n t h = absurd (let e : contains {R = nat_cmp} empty t ≡ false = grind (members, rules) in false_true e h)
-
 pub sound-nothing : Sound nothing
 unfolding image histories
 sound-nothing = record {
   rows = record {
     structure = record {
-      sets = λ v. record {
-        out_of_sync_low = low-empty 0;
-        change_recording_low = low-empty 0;
-        own_low = low-empty 0;
-        previous_own_low = low-empty 0;
-        source_changes_low = low-empty 0;
-        target_changes_low = low-empty 0;
-        blank_low = low-empty 0;
-      };
+      lawful = λ v. lawful-no_fields 0;
       unrelated = λ v. refl;
     };
     images = record { blank = λ v t h. refl; fresh = λ v h t. refl; plain = λ v h t lt. refl; seen = λ v u h. absurd cc };

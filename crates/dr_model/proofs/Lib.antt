@@ -3,3 +3,4 @@ pub mod Images
 pub mod Overlay
 pub mod CarryLemmas
 pub mod GrammarChecks
+pub mod LawfulLemmas

@@ -3,7 +3,8 @@ use Rattle.std.specs.Prelude.{◌≡◌, ℕ, ◌<◌, ◌+◌, Bool, true, fals
 use Rattle.std.specs.FinSet.{contains}
 use Rattle.dr_model.specs.Histories.{Write, Histories, histories}
 use Rattle.dr_model.specs.Contents.{zeros}
-use Rattle.dr_model.specs.Layout.{Tracks, Fields}
+use Rattle.dr_model.specs.Layout.{Fields}
+use Rattle.dr_model.specs.Lawful.{IsLawful}
 use Rattle.dr_model.specs.Control.{Pending, Control, World, is_volume}
 use Rattle.dr_model.specs.Views.{source_of, view}
 use Rattle.dr_model.specs.Table.{Row, Table, table}
@@ -24,31 +25,15 @@ source r = source_of r.volume.fields
 
 -- Structure: what control records say together.
 
--- each track of a set is below n
-abbrev pub Low : ℕ → Tracks → Type 0
-Low n s = (t : ℕ) → contains s t ≡ true → t < n
-
--- the sets of a volume with n tracks
-pub record SetsLow (n : ℕ) (out_of_sync change_recording own previous_own source_changes target_changes blank : Tracks) : Type 0 where
-  pub out_of_sync_low : Low n out_of_sync
-  pub change_recording_low : Low n change_recording
-  pub own_low : Low n own
-  pub previous_own_low : Low n previous_own
-  pub source_changes_low : Low n source_changes
-  pub target_changes_low : Low n target_changes
-  pub blank_low : Low n blank
-
-abbrev pub RowSets : Row → Type 0
-RowSets r =
-    let f : Fields = r.volume.fields in
-    SetsLow r.volume.tracks f.out_of_sync f.change_recording f.own f.previous_own f.source_changes f.target_changes f.blank
+abbrev pub Lawful : Row → Type 0
+Lawful r = IsLawful r.volume.tracks r.volume.fields
 
 -- no step that is carried out makes a target yet
 abbrev pub Unrelated : Row → Type 0
 Unrelated r = r.volume.fields.related ≡ false
 
 pub record Structure (T : Table) : Type 0 where
-  pub sets : Each (λ v r. RowSets r) T
+  pub lawful : Each (λ v r. Lawful r) T
   pub unrelated : Each (λ v r. Unrelated r) T
 
 -- Images: what tracks contain, and what they show.

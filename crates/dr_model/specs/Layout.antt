@@ -154,7 +154,7 @@ staged tracks blocks = staged_of tracks (chosen blocks)
 
 abbrev pub is_staged : Option ℕ → ℕ → Bool
 is_staged None t = false
-is_staged (Some s) t = nat_eq s t
+is_staged (Some s) t = nat_eq t s
 
 -- a track: the staged bytes where it is staged, zeros where it is blank, else its own block
 unfoldable pub physical : ℕ → Blocks → ℕ → List ℕ

@@ -5,6 +5,7 @@ pub mod Dependence
 pub mod Contents
 pub mod Asked
 pub mod Layout
+pub mod Lawful
 pub mod Refusals
 pub mod Control
 pub mod Views

@@ -1,7 +1,7 @@
 pub mod Sets
 pub mod RecordLaws
-pub mod VolumeLaws
 pub mod LawfulLaws
+pub mod VolumeLaws
 pub mod ReadingLaws
 pub mod RanLaws
 pub mod RewriteLaws

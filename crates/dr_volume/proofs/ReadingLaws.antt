@@ -12,10 +12,12 @@ use Rattle.dr_model.specs.Layout.{Blocks, chosen, slot_chosen, is_staged, fields
 use Rattle.dr_model.specs.Control.{Volume}
 use Rattle.dr_model.specs.Moves.{Carried, staged_track, is_carried, carried_bytes, moved, tracks_after}
 use Rattle.dr_volume.specs.declared.fields.Fields.{Fields}
-use Rattle.dr_volume.specs.Plain.{plain, normal, IsLawful}
+use Rattle.dr_model.specs.Lawful.{IsLawful}
+use Rattle.dr_volume.specs.Plain.{plain, normal}
 use Rattle.dr_volume.specs.Record.{raw_of}
 use Rattle.dr_volume.specs.View.{volume_on, track_on, TracksSettled}
 use Rattle.dr_volume.specs.Update.{staging, Covers}
+use Rattle.dr_volume.proofs.LawfulLaws.{normal-staging}
 use Rattle.dr_volume.proofs.RecordLaws.{plain-normal, staged-normal}
 
 -- the same record gives the same fields, the same staged track and the same staged bytes
@@ -72,17 +74,6 @@ volume-same b c e few h =
 pub track-same : (b c : Blocks) (e : VolumeEntry) (k : ℕ) → e.tracks ≤ 256 → ReadsAs e.tracks b c → track_on c (Some e) k ≡ track_on b (Some e) k
 track-same b c e k few h = ap (λ x. if nat_lt k e.tracks then x else zeros) (physical-same e.tracks b c k few h)
 
--- fields that stage a track of the volume are lawful where they are without it
-pub staging-lawful : (n : ℕ) (f : Fields) (m : Carried) → IsLawful n f → IfSome m (λ t. t.0 < n) → IsLawful n (staging m f)
-unfolding normal
-staging-lawful n f None law within = ap (λ (g : Fields). record g { staged = None; staged_bytes = zeros }) law
-staging-lawful n f (Some t) law within =
-    let low : nat_lt t.0 n ≡ true = lt_true t.0 n within in
-    λ i. record (law i) {
-      staged = (if low i then Some t.0 else None);
-      staged_bytes = only_if (is_some (if low i then Some t.0 else None)) t.1 zeros;
-    }
-
 plain-staging : (m : Carried) (f : Fields) → plain (staging m f) ≡ plain f
 plain-staging None f = refl
 plain-staging (Some t) f = refl
@@ -102,7 +93,7 @@ is_staged-carried (Some t) k = refl
 -- What an update of such a volume promises and may rely on.
 pub record Fitting (n : ℕ) (b : Blocks) (f : Fields) (m : Carried) : Type 0 where
   pub few : n ≤ 256
-  pub lawful : IsLawful n f
+  pub lawful : IsLawful n (plain f)
   pub within : IfSome m (λ t. t.0 < n)
   pub covers : Covers (layout.fields n b).blank f.blank m
   pub settled : TracksSettled b (layout.staged n b)
@@ -111,14 +102,14 @@ fields-next : (n : ℕ) (b c : Blocks) (f : Fields) (m : Carried) → Fitting n 
 fields-next n b c f m fit h =
     sym (plain-normal n (chosen c) fit.few)
     ∙ ap (λ g. plain (normal n g)) h.record_next
-    ∙ ap (λ g. plain g) (staging-lawful n f m fit.lawful fit.within)
+    ∙ ap (λ g. plain g) (normal-staging n f m fit.few fit.lawful fit.within)
     ∙ plain-staging m f
 
 pub staged-next : (n : ℕ) (b c : Blocks) (f : Fields) (m : Carried) → Fitting n b f m → ReadsNext b c f m → layout.staged n c ≡ staged_track m
 staged-next n b c f m fit h =
     sym (staged-normal n (chosen c))
     ∙ ap (λ g. (normal n g).staged) h.record_next
-    ∙ ap (λ (g : Fields). g.staged) (staging-lawful n f m fit.lawful fit.within)
+    ∙ ap (λ (g : Fields). g.staged) (normal-staging n f m fit.few fit.lawful fit.within)
     ∙ staged-staging m f
 
 pub bytes-next : (b c : Blocks) (f : Fields) (m : Carried) → ReadsNext b c f m → chosen c 5 ≡ carried_bytes m
@@ -136,7 +127,7 @@ volume-next b c e f m fit h =
 -- a track that a settled volume had staged stands at its own place
 staged_settled : (b : Blocks) (o : Option ℕ) (k : ℕ) → TracksSettled b o → is_staged o k ≡ true → b (13 + k) ≡ chosen b 5
 staged_settled b None k settled is = absurd (cc)
-staged_settled b (Some t) k settled is = ap (λ (q : ℕ). b (13 + q)) (sym ((Decides-eqb t k).0 is)) ∙ settled
+staged_settled b (Some t) k settled is = ap (λ (q : ℕ). b (13 + q)) ((Decides-eqb k t).0 is) ∙ settled
 
 not_covered : (old new carried : Bool) → (old ≡ true → (new || carried) ≡ true) → new ≡ false → carried ≡ false → old ≡ false
 not_covered false new carried h n c = refl
@@ -164,7 +155,7 @@ physical-next n b c f m k fit h =
 -- no track past the end is carried
 not_past : (n : ℕ) (m : Carried) (k : ℕ) → IfSome m (λ t. t.0 < n) → n ≤ k → is_carried m k ≡ false
 not_past n None k within past = refl
-not_past n (Some t) k within past = let e : nat_eq t.0 k ≡ false = grind (arith, nat_tests) in e
+not_past n (Some t) k within past = let e : nat_eq k t.0 ≡ false = grind (arith, nat_tests) in e
 
 zeros_either : (q : Bool) → (if q then zeros else zeros) ≡ zeros
 zeros_either true = refl

@@ -3,11 +3,12 @@ use Rattle.std.proofs.Common.{ℕ, ◌+◌, ◌≡◌, ◌≤◌, Bool, true, fa
 use Rattle.std.specs.Prelude.{is_some, if◌then◌else◌}
 use Rattle.std.specs.FinSet.{empty}
 use Rattle.dr_bits.specs.Tracks.{Tracks}
+use Rattle.dr_ids.specs.BigEndian.{be16_at}
 use Rattle.dr_model.specs.Contents.{zeros}
 use Rattle.dr_model.specs.Layout as layout
-use Rattle.dr_model.specs.Layout.{Blocks, byte, number16, part_of, is_part, only_if, bit}
+use Rattle.dr_model.specs.Layout.{Blocks, byte, part_of, is_part, only_if, bit}
 use Rattle.dr_volume.specs.declared.fields.Fields.{Fields}
-use Rattle.dr_volume.specs.Plain.{plain, cut, normal, staged_below, IsLawful}
+use Rattle.dr_volume.specs.Plain.{plain, cut, normal, staged_below, IsNormal}
 use Rattle.dr_volume.specs.Record.{IsWhole, record_block, with_head, with_block, no_record, raw_of, after_blocks}
 use Rattle.dr_volume.specs.ReadsBack.{raw_of-record_block}
 use Rattle.dr_volume.proofs.Sets.{cut-of_bytes, cut-cut, in_range-cut, in_range-only_if}
@@ -35,12 +36,12 @@ below_if n t false = refl
 
 pub staged-normal : (n : ℕ) (b : Blocks) → (normal n (raw_of b)).staged ≡ layout.staged_of n b
 unfolding normal with_head no_record layout.staged_of
-staged-normal n b = below_if n (number16 (b 0) 14) (nat_eq (byte (b 0) 7) 1)
+staged-normal n b = below_if n (be16_at (b 0) 14) (nat_eq (byte (b 0) 7) 1)
 
 -- the bytes of a track that six blocks stage, zeros where they stage none
 pub staged_bytes-normal : (n : ℕ) (b : Blocks) → (normal n (raw_of b)).staged_bytes ≡ only_if (is_some (layout.staged_of n b)) (b 5) zeros
 unfolding normal with_head no_record layout.staged_of
-staged_bytes-normal n b = ap (λ o. only_if (is_some o) (b 5) zeros) (below_if n (number16 (b 0) 14) (nat_eq (byte (b 0) 7) 1))
+staged_bytes-normal n b = ap (λ o. only_if (is_some o) (b 5) zeros) (below_if n (be16_at (b 0) 14) (nat_eq (byte (b 0) 7) 1))
 
 set_again : (there : Bool) (n : ℕ) (s : Tracks) → only_if there (cut n (only_if there (cut n s) empty)) empty ≡ only_if there (cut n s) empty
 set_again true n s = cut-cut n s
@@ -65,10 +66,10 @@ below_again n (Some t) =
 bytes_again : (n : ℕ) (o : Option ℕ) (x : List ℕ) → only_if (is_some (staged_below n (staged_below n o))) (only_if (is_some (staged_below n o)) x zeros) zeros ≡ only_if (is_some (staged_below n o)) x zeros
 bytes_again n o x = ap (λ p. only_if (is_some p) (only_if (is_some (staged_below n o)) x zeros) zeros) (below_again n o) ∙ again (is_some (staged_below n o)) x zeros
 
--- a normal form is lawful
-pub lawful-normal : (n : ℕ) (f : Fields) → IsLawful n (normal n f)
+-- a normal form is its own
+pub normal-normal : (n : ℕ) (f : Fields) → IsNormal n (normal n f)
 unfolding normal
-lawful-normal n f =
+normal-normal n f =
     let first : Bool = is_part f.primary in
     let second : Bool = is_part f.secondary in
     let relation : Bool = f.related in
@@ -115,20 +116,20 @@ whole-normal n f few = record {
   blank = in_range-cut n f.blank few;
 }
 
-pub whole-lawful : (n : ℕ) (f : Fields) → n ≤ 256 → IsLawful n f → IsWhole f
-whole-lawful n f few law = subst (λ g. IsWhole g) law (whole-normal n f few)
+pub whole-of_normal : (n : ℕ) (f : Fields) → n ≤ 256 → IsNormal n f → IsWhole f
+whole-of_normal n f few law = subst (λ g. IsWhole g) law (whole-normal n f few)
 
--- what is written of lawful fields means those fields
-pub fields-record_block : (n : ℕ) (f : Fields) → n ≤ 256 → IsLawful n f → layout.fields_of n (record_block f) ≡ plain f
+-- what is written of normal fields means those fields
+pub fields-record_block : (n : ℕ) (f : Fields) → n ≤ 256 → IsNormal n f → layout.fields_of n (record_block f) ≡ plain f
 fields-record_block n f few law =
     sym (plain-normal n (record_block f) few)
-    ∙ ap (λ g. plain (normal n g)) (raw_of-record_block f (whole-lawful n f few law))
+    ∙ ap (λ g. plain (normal n g)) (raw_of-record_block f (whole-of_normal n f few law))
     ∙ ap (λ g. plain g) law
 
-pub staged-record_block : (n : ℕ) (f : Fields) → n ≤ 256 → IsLawful n f → layout.staged_of n (record_block f) ≡ f.staged
+pub staged-record_block : (n : ℕ) (f : Fields) → n ≤ 256 → IsNormal n f → layout.staged_of n (record_block f) ≡ f.staged
 staged-record_block n f few law =
     sym (staged-normal n (record_block f))
-    ∙ ap (λ g. (normal n g).staged) (raw_of-record_block f (whole-lawful n f few law))
+    ∙ ap (λ g. (normal n g).staged) (raw_of-record_block f (whole-of_normal n f few law))
     ∙ ap (λ g. g.staged) law
 
 pub after_blocks-none : (b : Blocks) → after_blocks b 0 ≡ no_record

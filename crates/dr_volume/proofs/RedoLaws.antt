@@ -8,6 +8,7 @@ use Rattle.dr_plant.specs.declared.plant.WriteFuse.{WriteFuse}
 use Rattle.dr_record.specs.Writes.{after_writes}
 use Rattle.dr_config.specs.Table.{Table, StandsFor}
 use Rattle.dr_config.specs.declared.entries.VolumeEntry.{VolumeEntry}
+use Rattle.dr_ids.specs.BigEndian.{be16_at}
 use Rattle.dr_model.specs.Contents.{zeros}
 use Rattle.dr_model.specs.Layout as layout
 use Rattle.dr_model.specs.Layout.{Blocks, chosen, is_staged, only_if}
@@ -218,7 +219,7 @@ staged_below n k false low (Some t) h is = absurd (cc)
 
 staged-low : (n : ℕ) (b : Blocks) → IfSome (layout.staged n b) (λ t. t < n)
 unfolding layout.staged_of
-staged-low n b = staged_below n (layout.number16 (chosen b 0) 14) (nat_eq (layout.byte (chosen b 0) 7) 1) (nat_lt (layout.number16 (chosen b 0) 14) n) _ refl refl
+staged-low n b = staged_below n (be16_at (chosen b 0) 14) (nat_eq (layout.byte (chosen b 0) 7) 1) (nat_lt (be16_at (chosen b 0) 14) n) _ refl refl
 
 fits : (n d : ℕ) (s : PlantState) (o : Option ℕ) (bytes : List ℕ) → n ≤ 256 → s.size d ≡ 13 + n → IfSome o (λ t. t < n) → IfSome (track_with o bytes) (λ t. (t.0 < 256) × (13 + t.0 < s.size d))
 fits n d s None bytes few size low = tt

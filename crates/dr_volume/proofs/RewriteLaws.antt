@@ -89,8 +89,8 @@ pub record TrackWritten (u t : PlantState) (dev : ℕ) (m : Carried) (b : Bool) 
   pub own : (k : ℕ) → is_carried m k ≡ false → t.block dev (13 + k) ≡ u.block dev (13 + k)
   pub done : b ≡ false → (k : ℕ) → is_carried m k ≡ true → t.block dev (13 + k) ≡ carried_bytes m
 
-apart_of : (j k : ℕ) → nat_eq j k ≡ false → 13 + k ≢ 13 + j
-apart_of j k free e = let same : nat_eq j k ≡ true = (Decides-eqb j k).1 (omega arith) in absurd (cc)
+apart_of : (j k : ℕ) → nat_eq k j ≡ false → 13 + k ≢ 13 + j
+apart_of j k free e = let same : nat_eq k j ≡ true = (Decides-eqb k j).1 (omega arith) in absurd (cc)
 
 pub track-written : (u t : PlantState) (dev : ℕ) (m : Carried) (b : Bool) → after_writes u dev (track_writes m) ≡ (t, b) → TrackWritten u t dev m b
 track-written u t dev None b h =
@@ -102,7 +102,7 @@ track-written u t dev (Some c) b h =
       low = λ q low. ap (λ (x : PlantState). x.block dev q) one.0 ∙ other-after_write u dev (13 + c.0) c.1 dev q (λ e. absurd (omega arith));
       own = λ k free. ap (λ (x : PlantState). x.block dev (13 + k)) one.0 ∙ other-after_write u dev (13 + c.0) c.1 dev (13 + k) (apart_of c.0 k free);
       done = λ e k carried.
-          ap (λ q. t.block dev (13 + q)) (sym ((Decides-eqb c.0 k).0 carried))
+          ap (λ q. t.block dev (13 + q)) ((Decides-eqb k c.0).0 carried)
           ∙ ap (λ (x : PlantState). x.block dev (13 + c.0)) one.0 ∙ same-after_write u dev (13 + c.0) c.1 (one.1 e);
     }
 

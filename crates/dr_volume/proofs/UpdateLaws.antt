@@ -17,14 +17,16 @@ use Rattle.dr_model.specs.Moves.{Carried, is_carried, carried_bytes, staged_trac
 use Rattle.dr_model.specs.Carry as machine
 use Rattle.dr_model.specs.Carry.{Ended}
 use Rattle.dr_volume.specs.declared.fields.Fields.{Fields}
-use Rattle.dr_volume.specs.Plain.{plain, IsLawful}
+use Rattle.dr_model.specs.Lawful.{IsLawful}
+use Rattle.dr_volume.specs.Plain.{plain}
 use Rattle.dr_volume.specs.Record.{IsWhole}
 use Rattle.dr_volume.specs.View.{Rest, world, volume_seen, device_of, IsSettled, TracksSettled, ReadsPass, fuse_seen, torn_seen}
 use Rattle.dr_volume.specs.Volume.{LiesOn}
 use Rattle.dr_volume.specs.Update.{staging, update_writes, read_and_write, Covers, IsAsBefore, IsMoved, OthersStay}
 use Rattle.dr_volume.proofs.VolumeLaws.{device-placed, chosen_slot}
-use Rattle.dr_volume.proofs.RecordLaws.{whole-lawful}
-use Rattle.dr_volume.proofs.ReadingLaws.{ReadsNext, Fitting, staging-lawful, staged-next, bytes-next}
+use Rattle.dr_volume.proofs.RecordLaws.{whole-of_normal}
+use Rattle.dr_volume.proofs.LawfulLaws.{normal-staging}
+use Rattle.dr_volume.proofs.ReadingLaws.{ReadsNext, Fitting, staged-next, bytes-next}
 use Rattle.dr_volume.proofs.RanLaws.{ran, read-goes, read-stops}
 use Rattle.dr_volume.proofs.RewriteLaws.{Outcome, update-ends, stays-as, stays-same}
 use Rattle.dr_volume.proofs.FuseLaws.{Passed, Cut, CutEnds, writes-passed, below_number, writes-cut, length-update, update-cut}
@@ -34,12 +36,12 @@ use Rattle.dr_volume.proofs.SeenLaws.{Lies, lies-of, seen, is-before, is-moved, 
 -- What is asked of an update, as it lies on the device.
 pub record Task (c : Table) (s : PlantState) (v d : ℕ) (e : VolumeEntry) (f : Fields) (m : Carried) : Type 0 where
   pub lies : Lies c s v d e
-  pub lawful : IsLawful e.tracks f
+  pub lawful : IsLawful e.tracks (plain f)
   pub within : IfSome m (λ t. t.0 < e.tracks)
   pub covers : Covers (layout.fields e.tracks (s.block d)).blank f.blank m
   pub settled : s.on (s.owner d) ≡ true → TracksSettled (s.block d) (layout.staged e.tracks (s.block d))
 
-pub task : (c : Table) (s : PlantState) (v d n : ℕ) (f : Fields) (m : Carried) → LiesOn c v d n → StandsFor c s → IsLawful (volume_seen s c v).tracks f → IfSome m (λ t. t.0 < (volume_seen s c v).tracks) → Covers (volume_seen s c v).fields.blank f.blank m → IsSettled s c v → (e : VolumeEntry) × Task c s v d e f m
+pub task : (c : Table) (s : PlantState) (v d n : ℕ) (f : Fields) (m : Carried) → LiesOn c v d n → StandsFor c s → IsLawful (volume_seen s c v).tracks (plain f) → IfSome m (λ t. t.0 < (volume_seen s c v).tracks) → Covers (volume_seen s c v).fields.blank f.blank m → IsSettled s c v → (e : VolumeEntry) × Task c s v d e f m
 task c s v d n f m on stands lawful within covers settled =
     let x = lies-of c s v d n on stands in
     let is = seen c s v d x.0 x.1 s in
@@ -47,7 +49,7 @@ task c s v d n f m on stands lawful within covers settled =
       x.0,
       record {
         lies = x.1;
-        lawful = subst (λ (w : Volume). IsLawful w.tracks f) is lawful;
+        lawful = subst (λ (w : Volume). IsLawful w.tracks (plain f)) is lawful;
         within = subst (λ (w : Volume). IfSome m (λ t. t.0 < w.tracks)) is within;
         covers = subst (λ (w : Volume). Covers w.fields.blank f.blank m) is covers;
         settled = λ up. subst (λ q. TracksSettled (s.block q) (layout.staged x.0.tracks (s.block d))) (device-placed c v d x.1.place) (apart (ap s.on (sym x.1.owner) ∙ up));
@@ -58,7 +60,7 @@ fitting : (c : Table) (s : PlantState) (v d : ℕ) (e : VolumeEntry) (f : Fields
 fitting c s v d e f m k up = record { few = k.lies.few; lawful = k.lawful; within = k.within; covers = k.covers; settled = k.settled up }
 
 whole : (c : Table) (s : PlantState) (v d : ℕ) (e : VolumeEntry) (f : Fields) (m : Carried) → Task c s v d e f m → IsWhole (staging m f)
-whole c s v d e f m k = whole-lawful e.tracks (staging m f) k.lies.few (staging-lawful e.tracks f m k.lawful k.within)
+whole c s v d e f m k = whole-of_normal e.tracks (staging m f) k.lies.few (normal-staging e.tracks f m k.lies.few k.lawful k.within)
 
 -- the update was carried out
 abbrev pub Run : PlantState → PlantState → ℕ → Fields → Carried → Bool → Type 0

@@ -16,11 +16,13 @@ use Rattle.dr_model.specs.Layout.{Blocks, chosen, slot_chosen, slot_begin, only_
 use Rattle.std.specs.FinSet.{contains}
 use Rattle.dr_bits.specs.Membership.{lt_true}
 use Rattle.dr_volume.specs.declared.fields.Fields.{Fields}
-use Rattle.dr_volume.specs.Plain.{plain, normal, IsLawful}
+use Rattle.dr_model.specs.Lawful.{IsLawful}
+use Rattle.dr_volume.specs.Plain.{plain, normal}
 use Rattle.dr_volume.specs.Record.{with_block, no_record, raw_of}
 use Rattle.dr_volume.specs.View.{volume_seen, volume_at, volume_on, track_seen, track_at, track_on, device_of}
 use Rattle.dr_volume.specs.Volume.{LiesOn, Shows}
-use Rattle.dr_volume.proofs.RecordLaws.{plain-normal, staged-normal, staged_bytes-normal, lawful-normal}
+use Rattle.dr_volume.proofs.LawfulLaws.{lawful-normal}
+use Rattle.dr_volume.proofs.RecordLaws.{plain-normal, staged-normal, staged_bytes-normal}
 
 entry_of_tracks : (o : Option VolumeEntry) (n : ℕ) → option_map (λ (e : VolumeEntry). e.tracks) o ≡ Some n → (e : VolumeEntry) × (o ≡ Some e) × (e.tracks ≡ n)
 entry_of_tracks None n is = absurd (cc is)
@@ -105,7 +107,7 @@ shows-normal s t v d n f lies is =
           ∙ sym (
           ap (λ (w : Volume). only_if (is_some w.staged) (chosen (s.block (device_of t v)) 5) zeros) seen
           ∙ (λ i. only_if (is_some (layout.staged_of (e.2 i) slot)) (chosen (s.block (device-placed t v d lies.place i)) 5) zeros));
-      lawful = subst (λ m. IsLawful m f) (sym (ap (λ (w : Volume). w.tracks) seen ∙ e.2)) (subst (λ g. IsLawful n g) (sym is) (lawful-normal n (raw_of slot)));
+      lawful = subst (λ m. IsLawful m (plain f)) (sym (ap (λ (w : Volume). w.tracks) seen ∙ e.2)) (subst (λ g. IsLawful n (plain g)) (sym is) (lawful-normal n (raw_of slot)));
     }
 
 -- A track that is staged reads as the staged bytes, else one that is blank as zeros, else as its own block.
@@ -159,16 +161,3 @@ has_track s t v d n k lies stands within =
     let device = device-stands s t v d e.0 lies.place e.1 stands in
     let size = device.1 in
     record { device = device.0; block = omega arith }
-
--- a block of the gate and the slots exists
-pub has_record_block : (s : PlantState) (t : Table) (v d n k : ℕ) → LiesOn t v d n → StandsFor t s → k < 13 → HasBlock s d k
-has_record_block s t v d n k lies stands low =
-    let e = entry t v d n lies in
-    let device = device-stands s t v d e.0 lies.place e.1 stands in
-    let size = device.1 in
-    record { device = device.0; block = omega arith }
-
--- what a device chooses, where it is lawful, is what the machine sees
-pub shows-chosen : (s : PlantState) (t : Table) (v d n : ℕ) (slot : Bool) (x : Fields) → LiesOn t v d n → Chooses with_block 6 no_record s d slot x → IsLawful n x → Shows s t v x
-shows-chosen s t v d n slot x lies chooses law =
-    shows-normal s t v d n x lies (sym law ∙ ap (λ f. normal n f) (chosen_value s d slot x chooses))

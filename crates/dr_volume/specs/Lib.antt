@@ -4,5 +4,4 @@ pub mod Record
 pub mod ReadsBack
 pub mod View
 pub mod Volume
-pub mod Lawful
 pub mod Update

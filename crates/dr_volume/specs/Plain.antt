@@ -116,7 +116,6 @@ with_staged n f = record f {
 unfoldable pub normal : ℕ → Fields → Fields
 normal n f = with_staged n (with_relation (with_secondary (with_primary (with_cut_sets n f))))
 
--- The fields are those of a volume with n tracks: its sets and its staged track are below n, and what is absent is
--- zero, false or empty.
-abbrev pub IsLawful : ℕ → Fields → Type 0
-IsLawful n f = normal n f ≡ f
+-- the fields are their own normal form
+abbrev pub IsNormal : ℕ → Fields → Type 0
+IsNormal n f = normal n f ≡ f

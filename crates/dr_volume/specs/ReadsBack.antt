@@ -28,7 +28,7 @@ state_back Suspended = refl
 back16 : (n : ℕ) → n / 256 * 256 + n % 256 ≡ n
 back16 n = omega arith
 
-back32 : (n : ℕ) → n / 16777216 * 16777216 + n / 65536 % 256 * 65536 + n / 256 % 256 * 256 + n % 256 ≡ n
+back32 : (n : ℕ) → (n / 16777216 * 256 + n / 65536 % 256) * 65536 + (n / 256 % 256 * 256 + n % 256) ≡ n
 back32 n = omega arith
 
 flag_back : (flags : List Bool) (k : ℕ) → k < 8 → bit (flags_byte flags) k ≡ get_or flags (0 + k) false

@@ -3,8 +3,9 @@ use Rattle.std.specs.List.{slice_index_or}
 use Rattle.std.specs.Prelude.{ℕ, zero, suc, false, List, [], ◌∷◌, ◌++◌, nat_eq, cond, is_some, unwrap_or, Option, None, Some, replicate, if◌then◌else◌, take, drop}
 use Rattle.std.specs.FinSet.{empty}
 use Rattle.dr_bits.specs.Tracks.{IsInRange, bytes_of, of_bytes}
+use Rattle.dr_ids.specs.BigEndian.{be16_at, be32_at}
 use Rattle.dr_model.specs.Contents.{zeros}
-use Rattle.dr_model.specs.Layout.{Blocks, byte, bit, number16, number32, part_of, state_of}
+use Rattle.dr_model.specs.Layout.{Blocks, byte, bit, part_of, state_of}
 use Rattle.dr_model.specs.declared.state.Part.TheVariants.{Absent}
 use Rattle.dr_model.specs.declared.state.PairState.TheVariants.{CopyPending}
 use Rattle.dr_volume.specs.declared.fields.Fields.{Fields}
@@ -38,35 +39,35 @@ record_block f i =
 
 -- the track that a head says is staged
 abbrev pub staged_in : List ℕ → Option ℕ
-staged_in head = if nat_eq (byte head 7) 1 then Some (number16 head 14) else None
+staged_in head = if nat_eq (byte head 7) 1 then Some (be16_at head 14) else None
 
 -- the fields once they take over what a head says
 unfoldable pub with_head : Fields → List ℕ → Fields
 with_head f head = record f {
   primary = part_of (byte head 0);
   primary_state = state_of (byte head 1);
-  primary_partner = record { 0 = number16 head 8 };
+  primary_partner = record { 0 = be16_at head 8 };
   coordination = bit (byte head 2) 0;
   long_busy = bit (byte head 2) 1;
   recording = bit (byte head 2) 2;
-  attempt = number32 head 16;
+  attempt = be32_at head 16;
   secondary = part_of (byte head 3);
   secondary_state = state_of (byte head 4);
-  secondary_partner = record { 0 = number16 head 10 };
-  seal = number32 head 20;
+  secondary_partner = record { 0 = be16_at head 10 };
+  seal = be32_at head 20;
   related = bit (byte head 5) 0;
-  source = record { 0 = number16 head 12 };
+  source = record { 0 = be16_at head 12 };
   nocopy = bit (byte head 5) 1;
   persistent = bit (byte head 5) 2;
   recorded = bit (byte head 5) 3;
   inhibited = bit (byte head 5) 4;
-  sequence = number32 head 24;
-  previous_sequence = number32 head 28;
+  sequence = be32_at head 24;
+  previous_sequence = be32_at head 28;
   revertible = bit (byte head 5) 5;
   reversing = bit (byte head 5) 6;
   member = bit (byte head 5) 7;
   session = byte head 6;
-  floor = number32 head 32;
+  floor = be32_at head 32;
   staged = staged_in head;
 }
 

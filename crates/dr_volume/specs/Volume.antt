@@ -6,7 +6,8 @@ use Rattle.dr_config.specs.declared.entries.VolumeEntry.{VolumeEntry}
 use Rattle.dr_model.specs.Contents.{zeros}
 use Rattle.dr_model.specs.Layout.{only_if, chosen}
 use Rattle.dr_volume.specs.declared.fields.Fields.{Fields}
-use Rattle.dr_volume.specs.Plain.{plain, IsLawful}
+use Rattle.dr_model.specs.Lawful.{IsLawful}
+use Rattle.dr_volume.specs.Plain.{plain}
 use Rattle.dr_volume.specs.View.{volume_seen, device_of}
 
 -- The volume v lies on the device d and has n tracks.
@@ -21,4 +22,4 @@ pub record Shows (s : PlantState) (t : Table) (v : ℕ) (f : Fields) : Type 0 wh
   pub fields : plain f ≡ (volume_seen s t v).fields
   pub staged : f.staged ≡ (volume_seen s t v).staged
   pub staged_bytes : f.staged_bytes ≡ only_if (is_some (volume_seen s t v).staged) (chosen (s.block (device_of t v)) 5) zeros
-  pub lawful : IsLawful (volume_seen s t v).tracks f
+  pub lawful : IsLawful (volume_seen s t v).tracks (plain f)

@@ -3,7 +3,8 @@
 ghost use Rattle.std.specs.Prelude.{◌≡◌, ◌≤◌, ◌+◌, ◌<◌, length, is_some};
 ghost use Rattle.dr_model.specs.Contents.{zeros};
 ghost use Rattle.dr_model.specs.Layout as layout;
-ghost use Rattle.dr_volume.specs.Plain.{plain, IsLawful};
+ghost use Rattle.dr_model.specs.Lawful.{IsLawful};
+ghost use Rattle.dr_volume.specs.Plain.{plain};
 ghost use Rattle.dr_volume.specs.Record.{listed};
 
 use crate::codes::bit;
@@ -18,7 +19,7 @@ pub fn from_blocks(tracks: u16, blocks: &[Block]) -> Fields
     ensures fields { plain result ≡ layout.fields tracks (listed blocks.now) }
     ensures staged { result.staged ≡ layout.staged tracks (listed blocks.now) }
     ensures staged_bytes { result.staged_bytes ≡ layout.only_if (is_some (layout.staged tracks (listed blocks.now))) (layout.chosen (listed blocks.now) 5) zeros }
-    ensures lawful { IsLawful tracks result }
+    ensures lawful { IsLawful tracks (plain result) }
 {
     let begin = slot_begin(&blocks[0]);
     let mut raw = Fields::blank();

@@ -6,7 +6,8 @@ ghost use Rattle.dr_record.specs.Writes.{IsDevice, after_writes};
 ghost use Rattle.dr_record.specs.Slots.{slot_of};
 ghost use Rattle.dr_config.specs.Table.{StandsFor, place_of};
 ghost use Rattle.dr_model.specs.Carry as machine;
-ghost use Rattle.dr_volume.specs.Plain.{plain, IsLawful};
+ghost use Rattle.dr_model.specs.Lawful.{IsLawful};
+ghost use Rattle.dr_volume.specs.Plain.{plain};
 ghost use Rattle.dr_volume.specs.View.{Rest, world, volume_seen, device_of, IsSettled, TracksSettled, ReadsPass};
 ghost use Rattle.dr_volume.specs.Update.{staging, track_with, track_writes, update_writes, read_and_write, Covers, IsAsBefore, IsMoved, OthersStay, ServerStays};
 
@@ -30,7 +31,7 @@ pub fn update<P: Plant>(
 ) -> Result<(), Stopped>
     requires defined { IsSome (place_of c.now v.0) }
     requires stands { StandsFor c.now (P.state p.old) }
-    requires lawful { IsLawful (volume_seen (P.state p.old) c.now v.0).tracks next.now }
+    requires lawful { IsLawful (volume_seen (P.state p.old) c.now v.0).tracks (plain next.now) }
     requires within { IfSome staged (λ t. t.0 < (volume_seen (P.state p.old) c.now v.0).tracks) }
     requires settled { IsSettled (P.state p.old) c.now v.0 }
     requires covers { Covers (volume_seen (P.state p.old) c.now v.0).fields.blank next.now.blank staged }

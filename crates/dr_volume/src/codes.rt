@@ -76,22 +76,6 @@ pub fn four_bytes(n: u32) -> [u8; 4]
     n.to_be_bytes()
 }
 
-/// The number of the two bytes from `at` on.
-pub fn number16(block: &Block, at: usize) -> u16
-    requires { at + 2 ≤ 64 }
-    ensures { result ≡ layout.number16 block.now at }
-{
-    u16::from(block[at]) * 256 + u16::from(block[at + 1])
-}
-
-/// The number of the four bytes from `at` on.
-pub fn number32(block: &Block, at: usize) -> u32
-    requires { at + 4 ≤ 64 }
-    ensures { result ≡ layout.number32 block.now at }
-{
-    u32::from(number16(block, at)) * 65536 + u32::from(number16(block, at + 2))
-}
-
 /// Two sets as one block.
 pub fn two_sets(first: &TrackSet, second: &TrackSet) -> Block
     ensures { result ≡ bytes_of first.now ++ bytes_of second.now }

@@ -4,12 +4,12 @@ ghost use Rattle.std.specs.Prelude.{◌≡◌, ◌<◌};
 ghost use Rattle.dr_volume.specs.Record as lies;
 
 use crate::codes::{
-    bit, code_of_part, code_of_state, first_set, four_bytes, number16, number32, part_of,
-    second_set, state_of, two_bytes, two_sets, zero_block,
+    bit, code_of_part, code_of_state, first_set, four_bytes, part_of, second_set, state_of, two_bytes,
+    two_sets, zero_block,
 };
 use crate::fields::Fields;
 use dr_bits::{TrackSet, byte_at};
-use dr_ids::VolumeId;
+use dr_ids::{VolumeId, be16, be32};
 use dr_model::{PairState, Part};
 use dr_plant::Block;
 use dr_record::Form;
@@ -176,7 +176,7 @@ fn staged_in(head: &Block) -> Option<u16>
     ensures { result ≡ lies.staged_in head.now }
 {
     if head[7] == 1 {
-        Some(number16(head, 14))
+        Some(be16(head, 14))
     } else {
         None
     }
@@ -189,28 +189,28 @@ fn with_head(f: &Fields, head: &Block) -> Fields
     Fields {
         primary: part_of(head[0]),
         primary_state: state_of(head[1]),
-        primary_partner: VolumeId(number16(head, 8)),
+        primary_partner: VolumeId(be16(head, 8)),
         coordination: bit(head[2], 0),
         long_busy: bit(head[2], 1),
         recording: bit(head[2], 2),
-        attempt: number32(head, 16),
+        attempt: be32(head, 16),
         secondary: part_of(head[3]),
         secondary_state: state_of(head[4]),
-        secondary_partner: VolumeId(number16(head, 10)),
-        seal: number32(head, 20),
+        secondary_partner: VolumeId(be16(head, 10)),
+        seal: be32(head, 20),
         related: bit(head[5], 0),
-        source: VolumeId(number16(head, 12)),
+        source: VolumeId(be16(head, 12)),
         nocopy: bit(head[5], 1),
         persistent: bit(head[5], 2),
         recorded: bit(head[5], 3),
         inhibited: bit(head[5], 4),
-        sequence: number32(head, 24),
-        previous_sequence: number32(head, 28),
+        sequence: be32(head, 24),
+        previous_sequence: be32(head, 28),
         revertible: bit(head[5], 5),
         reversing: bit(head[5], 6),
         member: bit(head[5], 7),
         session: head[6],
-        floor: number32(head, 32),
+        floor: be32(head, 32),
         staged: staged_in(head),
         ..*f
     }

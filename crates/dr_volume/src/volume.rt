@@ -105,7 +105,7 @@ fn is_staged(staged: Option<u16>, t: u16) -> bool
     ensures { result ≡ layout.is_staged staged t }
 {
     match staged {
-        Some(s) => s == t,
+        Some(s) => t == s,
         None => false,
     }
 }

@@ -1,8 +1,10 @@
 use Rattle.std.proofs.Common.{◌≡◌, ◌+◌, arith, sym, ◌∙◌, ap, subst}
 use Rattle.dr_model.specs.Layout as layout
-use Rattle.dr_volume.specs.Plain.{plain, normal, IsLawful}
+use Rattle.dr_model.specs.Lawful.{IsLawful}
+use Rattle.dr_volume.specs.Plain.{plain, normal}
 use Rattle.dr_volume.specs.Record.{with_block, listed, raw_of}
-use Rattle.dr_volume.proofs.RecordLaws.{after_blocks-none, after_blocks-more, after_blocks-chosen, plain-normal, staged-normal, staged_bytes-normal, lawful-normal}
+use Rattle.dr_volume.proofs.LawfulLaws.{lawful-normal}
+use Rattle.dr_volume.proofs.RecordLaws.{after_blocks-none, after_blocks-more, after_blocks-chosen, plain-normal, staged-normal, staged_bytes-normal}
 use Rattle.dr_volume.proofs.blocks.from_blocks.Goals as goal
 
 pub loop-i-init : goal.loop-i-init
@@ -22,5 +24,5 @@ returns c =
       fields = ap (λ f. plain f) is ∙ plain-normal c.args.tracks (layout.chosen (listed c.args.blocks.now)) c.requires.few;
       staged = ap (λ f. f.staged) is ∙ staged-normal c.args.tracks (layout.chosen (listed c.args.blocks.now));
       staged_bytes = ap (λ f. f.staged_bytes) is ∙ staged_bytes-normal c.args.tracks (layout.chosen (listed c.args.blocks.now));
-      lawful = subst (λ f. IsLawful c.args.tracks f) (sym is) (lawful-normal c.args.tracks (raw_of (layout.chosen (listed c.args.blocks.now))));
+      lawful = subst (λ f. IsLawful c.args.tracks (plain f)) (sym is) (lawful-normal c.args.tracks (raw_of (layout.chosen (listed c.args.blocks.now))));
     }
