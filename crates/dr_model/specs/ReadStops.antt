@@ -8,9 +8,13 @@ use Rattle.dr_model.specs.Refusals.{stopped}
 use Rattle.dr_model.specs.Control.{World}
 use Rattle.dr_model.specs.Carry.{Act, Next, Pass, Do, End, Entry, Turn, act}
 
--- a server that goes off by itself: the journal is told, and nothing else changes
+-- a server that is off, and nothing else changed
+abbrev pub shut : World → ℕ → World
+shut w s = record w { control = record w.control { on = at w.control.on s false } }
+
+-- a server that goes off by itself: the journal is told
 abbrev pub gone_off : World → ℕ → World
-gone_off w s = record w { control = record w.control { on = at w.control.on s false }; events = w.events ++ Stopped s 0 ∷ [] }
+gone_off w s = record (shut w s) { events = w.events ++ Stopped s 0 ∷ [] }
 
 module _ (armed : ℕ → Bool) (u : World) (r : Option Refusal) where
   -- a server that is on, and whose read fuse is armed, goes off here

@@ -3,7 +3,7 @@ use Rattle.std.proofs.Common.{ℕ, ◌≡◌, ◌≢◌, ◌≤◌, ◌<◌, ◌
 use Rattle.std.specs.Prelude.{is_some, IfSome, if◌then◌else◌}
 use Rattle.std.proofs.lemmas.Bool.{cases_eq}
 use Rattle.std.proofs.lemmas.Bool.Decides.{Decides-eqb, nat_tests}
-use Rattle.dr_plant.specs.State.{PlantState, after_read, can_read, risen}
+use Rattle.dr_plant.specs.State.{PlantState, after_read, can_read, passes_read, risen}
 use Rattle.dr_plant.specs.declared.plant.WriteFuse.{WriteFuse}
 use Rattle.dr_record.specs.Writes.{after_writes}
 use Rattle.dr_config.specs.Table.{Table, StandsFor}
@@ -19,7 +19,7 @@ use Rattle.dr_model.specs.Carry.{Ended, ended}
 use Rattle.dr_volume.specs.declared.fields.Fields.{Fields}
 use Rattle.dr_volume.specs.View.{Rest, world, volume_seen, device_of, IsSettled, TracksSettled, ReadsPass, fuse_seen}
 use Rattle.dr_volume.specs.Volume.{LiesOn, Shows}
-use Rattle.dr_volume.specs.Update.{track_with, track_writes, read_and_write, IsAsBefore, OthersStay, ServerStays}
+use Rattle.dr_volume.specs.Update.{track_with, track_writes, read_and_write, staged_seen, IsAsBefore, OthersStay, ServerStays, EndsAs, after_reading}
 use Rattle.dr_volume.proofs.VolumeLaws.{device-placed, device-stands}
 use Rattle.dr_volume.proofs.ReadingLaws.{ReadsAs, staged-raw, bytes-raw}
 use Rattle.dr_volume.proofs.RanLaws.{Ran, ran, ran-stands, read-goes, read-stops}
@@ -27,7 +27,7 @@ use Rattle.dr_volume.proofs.RewriteLaws.{TrackWritten, track-written, choice-low
 use Rattle.dr_volume.proofs.FuseLaws.{Passed, Cut, writes-passed, below_number, writes-cut}
 use Rattle.dr_volume.proofs.WorldLaws.{world-spent, world-off, shown-before, fuse-seen, on-seen}
 use Rattle.dr_volume.proofs.SeenLaws.{Lies, lies-of, seen, is-before, others-stay, others-settled, settled-on, settled-off}
-use Rattle.dr_volume.proofs.UpdateLaws.{EndsAs, ends_as, read-off, read-on, idle, idle-world, server-seen}
+use Rattle.dr_volume.proofs.UpdateLaws.{ends_as, read-off, read-on, read-first, idle, idle-world, server-seen}
 
 -- the staged track of a device, with its bytes
 abbrev staged_on : ℕ → Blocks → Carried
@@ -89,7 +89,8 @@ length-staged (Some t) bytes = refl
 
 -- What the work again on a staged track leaves.
 pub record Redone (c : Table) (s t : PlantState) (v : ℕ) (b : Bool) : Type 0 where
-  pub ends : (r : Rest) → ReadsPass s → EndsAs (world t c r) b (machine.redo (world s c r) v)
+  pub written : read_and_write s (device_of c v) (track_writes (staged_seen s c v)) ≡ (t, b)
+  pub exact : (r : Rest) → EndsAs (world t c r) b (after_reading s (volume_seen s c v).server (world s c r) (machine.redo (world s c r) v))
   pub same : (u : ℕ) → IsAsBefore s t c u
   pub done : b ≡ false → TracksSettled (t.block (device_of c v)) (volume_seen t c v).staged
   pub stands : StandsFor c t
@@ -159,10 +160,10 @@ world-on c s t v d e b r lies here there up h =
           (record { world = world-off s t c r o g lies.low cut.on cut.fuse low.1 ∙ ap (λ x. machine.off x o) before; stopped = cut.cut })
     ] refl
 
-redo-world : (c : Table) (s t : PlantState) (v d : ℕ) (e : VolumeEntry) (b : Bool) (r : Rest) → Lies c s v d e → IsAsBefore s t c v → OthersStay s t c v → Run s t d e.tracks b → ReadsPass s → EndsAs (world t c r) b (machine.redo (world s c r) v)
+redo-world : (c : Table) (s t : PlantState) (v d : ℕ) (e : VolumeEntry) (b : Bool) (r : Rest) → Lies c s v d e → IsAsBefore s t c v → OthersStay s t c v → Run s t d e.tracks b → passes_read (s.read_fuse (s.owner d)) ≡ true → EndsAs (world t c r) b (machine.redo (world s c r) v)
 redo-world c s t v d e b r lies here there run pass =
     elim (s.on (s.owner d)) as (λ w. s.on (s.owner d) ≡ w → EndsAs (world t c r) b (machine.redo (world s c r) v)) [
-      | true ↦ λ up. world-on c s t v d e b r lies here there up (sym (read-goes s d (track_writes (staged_on e.tracks (s.block d))) (read-on s d lies.low pass up)) ∙ run)
+      | true ↦ λ up. world-on c s t v d e b r lies here there up (sym (read-goes s d (track_writes (staged_on e.tracks (s.block d))) (read-on s d pass up)) ∙ run)
       | false ↦ λ off. world-idle c s t v d e b r lies there run off
     ] refl
 
@@ -173,7 +174,12 @@ redone-on c s t v d e b lies stands run =
     let there = others-stay c s t v d e lies r.apart in
     let done : b ≡ false → TracksSettled (t.block (device_of c v)) (volume_seen t c v).staged = (λ ok. redo-done c s t v d e lies (run ∙ (λ i. (t, ok i)))) in
     record {
-      ends = λ rest pass. redo-world c s t v d e b rest lies here there run pass;
+      written =
+          (λ i. read_and_write s (device-placed c v d lies.place i) (track_writes (track_with (seen c s v d e lies s i).staged (chosen (s.block (device-placed c v d lies.place i)) 5))))
+          ∙ run;
+      exact = λ rest. read-first c s t v d e (world s c rest) b rest _ lies there
+          (λ stuck. let x : ◌≡◌ {A = PlantState × Bool} (t, b) (after_read s d, true) = sym run ∙ read-stops s d (track_writes (staged_on e.tracks (s.block d))) stuck in (ap (λ (y : PlantState × Bool). y.0) x, ap (λ (y : PlantState × Bool). y.1) x))
+          (λ pass. redo-world c s t v d e b rest lies here there run pass) refl;
       same = same-all c s t v here there;
       done = done;
       stands = ran-stands c s t d b r stands;

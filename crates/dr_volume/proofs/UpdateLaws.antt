@@ -15,14 +15,15 @@ use Rattle.dr_model.specs.Layout.{chosen}
 use Rattle.dr_model.specs.Control.{Volume, World}
 use Rattle.dr_model.specs.Moves.{Carried, is_carried, carried_bytes, staged_track, updated}
 use Rattle.dr_model.specs.Carry as machine
-use Rattle.dr_model.specs.Carry.{Ended}
+use Rattle.dr_model.specs.Carry.{Ended, ended}
+use Rattle.dr_model.specs.ReadStops.{shut}
 use Rattle.dr_volume.specs.declared.fields.Fields.{Fields}
 use Rattle.dr_model.specs.Lawful.{IsLawful}
 use Rattle.dr_volume.specs.Plain.{plain}
 use Rattle.dr_volume.specs.Record.{IsWhole}
-use Rattle.dr_volume.specs.View.{Rest, world, volume_seen, device_of, IsSettled, TracksSettled, ReadsPass, fuse_seen, torn_seen}
+use Rattle.dr_volume.specs.View.{Rest, world, volume_seen, device_of, IsSettled, TracksSettled, fuse_seen, torn_seen}
 use Rattle.dr_volume.specs.Volume.{LiesOn}
-use Rattle.dr_volume.specs.Update.{staging, update_writes, read_and_write, Covers, IsAsBefore, IsMoved, OthersStay}
+use Rattle.dr_volume.specs.Update.{staging, update_writes, read_and_write, Covers, IsAsBefore, IsMoved, OthersStay, EndsAs, after_reading}
 use Rattle.dr_volume.proofs.VolumeLaws.{device-placed, chosen_slot}
 use Rattle.dr_volume.proofs.RecordLaws.{whole-of_normal}
 use Rattle.dr_volume.proofs.LawfulLaws.{normal-staging}
@@ -30,7 +31,7 @@ use Rattle.dr_volume.proofs.ReadingLaws.{ReadsNext, Fitting, staged-next, bytes-
 use Rattle.dr_volume.proofs.RanLaws.{ran, read-goes, read-stops}
 use Rattle.dr_volume.proofs.RewriteLaws.{Outcome, update-ends, stays-as, stays-same}
 use Rattle.dr_volume.proofs.FuseLaws.{Passed, Cut, CutEnds, writes-passed, below_number, writes-cut, length-update, update-cut}
-use Rattle.dr_volume.proofs.WorldLaws.{world-still, world-spent, world-off, shown-before, shown-moved, fuse-seen, on-seen, update-off, update-passed, update-cut_short}
+use Rattle.dr_volume.proofs.WorldLaws.{shown, world-still, world-spent, world-off, on-at, fuses-same, shown-before, shown-moved, fuse-seen, on-seen, update-off, update-passed, update-cut_short}
 use Rattle.dr_volume.proofs.SeenLaws.{Lies, lies-of, seen, is-before, is-moved, others-stay, others-settled, settled-on, settled-off}
 
 -- What is asked of an update, as it lies on the device.
@@ -73,8 +74,16 @@ outcome c s t v d e f m b k run = update-ends s t d f m b (whole c s v d e f m k
 pub read-off : (s : PlantState) (d : ℕ) → s.on (s.owner d) ≡ false → can_read s d ≡ false
 read-off s d off = ap (λ b. b && passes_read (s.read_fuse (s.owner d))) off
 
-pub read-on : (s : PlantState) (d : ℕ) → s.owner d < 8 → ReadsPass s → s.on (s.owner d) ≡ true → can_read s d ≡ true
-read-on s d low pass up = (λ i. up i && passes_read (pass (s.owner d) low i))
+pub read-on : (s : PlantState) (d : ℕ) → passes_read (s.read_fuse (s.owner d)) ≡ true → s.on (s.owner d) ≡ true → can_read s d ≡ true
+read-on s d pass up = (λ i. up i && pass i)
+
+either_off : (on : Bool) → (on && false) ≡ false
+either_off true = refl
+either_off false = refl
+
+-- one whose read fuse lets no read pass
+pub read-burnt : (s : PlantState) (d : ℕ) → passes_read (s.read_fuse (s.owner d)) ≡ false → can_read s d ≡ false
+read-burnt s d stuck = ap (λ b. s.on (s.owner d) && b) stuck ∙ either_off (s.on (s.owner d))
 
 -- on a server that is off nothing is done but that a fault is counted
 pub idle : (c : Table) (s : PlantState) (v d : ℕ) (e : VolumeEntry) → Lies c s v d e → IsAsBefore s (after_read s d) c v
@@ -131,11 +140,6 @@ update-keeps_settled c s t v d e f m b k run u h =
       | inr ne ↦ others-settled c s t v d e k.lies r.apart r.was_on u ne h
     ]
 
--- A world, and whether a move was stopped, are those in which a move of the machine ended.
-pub record EndsAs (w : World) (b : Bool) (e : Ended) : Type 0 where
-  pub world : w ≡ e.world
-  pub stopped : b ≡ e.stopped
-
 pub ends_as : (w : World) (b : Bool) (e f : Ended) → f ≡ e → EndsAs w b e → EndsAs w b f
 ends_as w b e f is h = subst (λ (x : Ended). EndsAs w b x) (sym is) h
 
@@ -148,9 +152,22 @@ idle-world c s v d e r lies others off =
     let on = ap (λ (t : PlantState). t.on) (read_stopped s d (read-off s d off)) ∙ at_kept s.on (s.owner d) off in
     world-still s (after_read s d) c r on (write_fuse-after_read s d) ∙ shown-before s (after_read s d) c r v (idle c s v d e lies) others
 
+-- and where a server's read fuse let no read pass, it is off
+pub burnt-world : (c : Table) (s : PlantState) (v d : ℕ) (e : VolumeEntry) (r : Rest) → Lies c s v d e → OthersStay s (after_read s d) c v → can_read s d ≡ false → world (after_read s d) c r ≡ shut (world s c r) (s.owner d)
+burnt-world c s v d e r lies others stuck =
+    let on = on-at s (after_read s d) (s.owner d) false lies.low (ap (λ (t : PlantState). t.on) (read_stopped s d stuck)) in
+    let fuses = fuses-same s (after_read s d) (write_fuse-after_read s d) in
+    let before = shown-before s (after_read s d) c r v (idle c s v d e lies) others in
+    (λ i. record (shown s (after_read s d) c r) { control = record (shown s (after_read s d) c r).control { on = on i; fuse = fuses i } })
+    ∙ ap (λ w. shut w (s.owner d)) before
+
 -- the server as the machine sees it
 pub server-seen : (c : Table) (s : PlantState) (v d : ℕ) (e : VolumeEntry) → Lies c s v d e → (volume_seen s c v).server ≡ s.owner d
 server-seen c s v d e lies = ap (λ (w : Volume). w.server) (seen c s v d e lies s) ∙ sym lies.owner
+
+-- the slot that the machine sees
+pub slot-seen : (c : Table) (s : PlantState) (v d : ℕ) (e : VolumeEntry) → Lies c s v d e → (volume_seen s c v).slot ≡ slot_of s d
+slot-seen c s v d e lies = ap (λ (w : Volume). w.slot) (seen c s v d e lies s) ∙ sym (chosen_slot s d)
 
 world-idle : (c : Table) (s t : PlantState) (v d : ℕ) (e : VolumeEntry) (f : Fields) (m : Carried) (b : Bool) (r : Rest) → Task c s v d e f m → Run s t d f m b → s.on (s.owner d) ≡ false → EndsAs (world t c r) b (machine.update (world s c r) v (plain f) m)
 world-idle c s t v d e f m b r k run off =
@@ -201,24 +218,49 @@ world-cut c s t v d e f m b r k run up h stuck =
     let done = machine.counts g.after (torn_seen g.torn) (not (slot_of s d)) in
     let ends : CutEnds s t d f m done = update-cut s t d f m g b (whole c s v d e f m k) up low.1 h in
     let others = others-stay c s t v d e k.lies (ran s t d ws b run).apart in
-    let slot : (volume_seen s c v).slot ≡ slot_of s d = ap (λ (w : Volume). w.slot) (seen c s v d e k.lies s) ∙ sym (chosen_slot s d) in
+    let slot = slot-seen c s v d e k.lies in
     let fuse = fuse-seen s o k.lies.low ∙ ap fuse_seen low.1 in
     let counts : machine.counts_by ((world s c r).control.fuse o) (not (volume_seen s c v).slot) ≡ done = (λ i. machine.counts_by (fuse i) (not (slot i))) in
     ends_as (world t c r) b _ _
     (update-cut_short (world s c r) v (plain f) m o done (server-seen c s v d e k.lies) (on-seen s o k.lies.low ∙ up) (ap (λ x. machine.pass x (machine.writes m)) (fuse-seen s o k.lies.low) ∙ stuck) counts)
     (cut_end c s t v d e f m g b r done k others up low.1 cut ends)
 
--- where no read fuse is armed the world follows the machine
-pub update-world : (c : Table) (s t : PlantState) (v d : ℕ) (e : VolumeEntry) (f : Fields) (m : Carried) (b : Bool) (r : Rest) → Task c s v d e f m → Run s t d f m b → ReadsPass s → EndsAs (world t c r) b (machine.update (world s c r) v (plain f) m)
+-- where a read passes the world follows the machine
+update-world : (c : Table) (s t : PlantState) (v d : ℕ) (e : VolumeEntry) (f : Fields) (m : Carried) (b : Bool) (r : Rest) → Task c s v d e f m → Run s t d f m b → passes_read (s.read_fuse (s.owner d)) ≡ true → EndsAs (world t c r) b (machine.update (world s c r) v (plain f) m)
 update-world c s t v d e f m b r k run pass =
     let o = s.owner d in
     let ws = update_writes (not (slot_of s d)) (staging m f) m in
     elim (s.on o) as (λ w. s.on o ≡ w → EndsAs (world t c r) b (machine.update (world s c r) v (plain f) m)) [
       | true ↦ λ up.
-          let h = sym (read-goes s d ws (read-on s d k.lies.low pass up)) ∙ run in
+          let h = sym (read-goes s d ws (read-on s d pass up)) ∙ run in
           elim (machine.pass (fuse_seen (s.write_fuse o)) (machine.writes m)) as (λ w. machine.pass (fuse_seen (s.write_fuse o)) (machine.writes m) ≡ w → EndsAs (world t c r) b (machine.update (world s c r) v (plain f) m)) [
             | true ↦ λ passes. world-passed c s t v d e f m b r k run up h passes
             | false ↦ λ stuck. world-cut c s t v d e f m b r k run up h stuck
           ] refl
       | false ↦ λ off. world-idle c s t v d e f m b r k run off
     ] refl
+
+-- an act that begins with a read, by whether that passes
+pub read-first : (c : Table) (s t : PlantState) (v d : ℕ) (e : VolumeEntry) (w : World) (b : Bool) (r : Rest) (end : Ended) → Lies c s v d e → OthersStay s t c v → (can_read s d ≡ false → (t ≡ after_read s d) × (b ≡ true)) → (passes_read (s.read_fuse (s.owner d)) ≡ true → EndsAs (world t c r) b end) → w ≡ world s c r → EndsAs (world t c r) b (after_reading s (volume_seen s c v).server w end)
+read-first c s t v d e w b r end lies others unread passed is =
+    elim (passes_read (s.read_fuse (s.owner d))) as (λ p. passes_read (s.read_fuse (s.owner d)) ≡ p → EndsAs (world t c r) b (after_reading s (volume_seen s c v).server w end)) [
+      | true ↦ λ pass. ends_as (world t c r) b _ _ (ap (λ o. after_reading s o w end) (server-seen c s v d e lies) ∙ ap (λ p. if p then end else ended (shut w (s.owner d)) true false) pass) (passed pass)
+      | false ↦ λ stuck.
+          let x = unread (read-burnt s d stuck) in
+          ends_as (world t c r) b _ _ (ap (λ o. after_reading s o w end) (server-seen c s v d e lies) ∙ ap (λ p. if p then end else ended (shut w (s.owner d)) true false) stuck)
+          (record {
+            world = ap (λ u. world u c r) x.0 ∙ burnt-world c s v d e r lies (subst (λ u. OthersStay s u c v) x.0 others) (read-burnt s d stuck) ∙ ap (λ x. shut x (s.owner d)) (sym is);
+            stopped = x.1;
+          })
+    ] refl
+
+pub update-exact : (c : Table) (s t : PlantState) (v d : ℕ) (e : VolumeEntry) (f : Fields) (m : Carried) (b : Bool) (r : Rest) → Task c s v d e f m → Run s t d f m b → EndsAs (world t c r) b (after_reading s (volume_seen s c v).server (world s c r) (machine.update (world s c r) v (plain f) m))
+update-exact c s t v d e f m b r k run =
+    let ws = update_writes (not (slot_of s d)) (staging m f) m in
+    read-first c s t v d e (world s c r) b r _ k.lies (others-stay c s t v d e k.lies (ran s t d ws b run).apart)
+    (λ stuck. let x : ◌≡◌ {A = PlantState × Bool} (t, b) (after_read s d, true) = sym run ∙ read-stops s d ws stuck in (ap (λ (y : PlantState × Bool). y.0) x, ap (λ (y : PlantState × Bool). y.1) x))
+    (λ pass. update-world c s t v d e f m b r k run pass) refl
+
+pub update-written : (c : Table) (s t : PlantState) (v d : ℕ) (e : VolumeEntry) (f : Fields) (m : Carried) (b : Bool) → Task c s v d e f m → Run s t d f m b → read_and_write s (device_of c v) (update_writes (not (volume_seen s c v).slot) (staging m f) m) ≡ (t, b)
+update-written c s t v d e f m b k run =
+    (λ i. read_and_write s (device-placed c v d k.lies.place i) (update_writes (not (slot-seen c s v d e k.lies i)) (staging m f) m)) ∙ run

@@ -49,7 +49,7 @@ on-same s t e i q = if nat_lt q 8 then e i q else true
 pub fuses-at : (s t : PlantState) (o : ℕ) (g : Option WriteFuse) → o < 8 → t.write_fuse ≡ at s.write_fuse o g → fuses_seen t ≡ at (fuses_seen s) o (fuse_seen g)
 fuses-at s t o g low e i q = guarded fuse_seen s.write_fuse t.write_fuse o g None low e q i
 
-fuses-same : (s t : PlantState) → t.write_fuse ≡ s.write_fuse → fuses_seen t ≡ fuses_seen s
+pub fuses-same : (s t : PlantState) → t.write_fuse ≡ s.write_fuse → fuses_seen t ≡ fuses_seen s
 fuses-same s t e i q = if nat_lt q 8 then fuse_seen (e i q) else None
 
 -- the fuse and the state of a server below 8

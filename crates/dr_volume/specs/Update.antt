@@ -1,17 +1,21 @@
 -- What an update of a volume writes to its device, and what it leaves of the volume and of the machine's world.
-use Rattle.std.specs.Prelude.{◌≡◌, ℕ, ◌+◌, Bool, true, ◌||◌, List, [], ◌∷◌, ◌++◌, Option, Some, None, if◌then◌else◌, ◌≢◌}
+use Rattle.std.specs.Prelude.{◌≡◌, ℕ, ◌+◌, Bool, true, false, ◌||◌, List, [], ◌∷◌, ◌++◌, Option, Some, None, if◌then◌else◌, ◌≢◌}
 use Rattle.std.specs.FinSet.{contains}
 use Rattle.dr_bits.specs.Tracks.{Tracks}
-use Rattle.dr_plant.specs.State.{PlantState, after_read, can_read}
+use Rattle.dr_plant.specs.State.{PlantState, after_read, can_read, passes_read}
 use Rattle.dr_record.specs.Writes.{Write, write, after_writes}
 use Rattle.dr_record.specs.Slots.{record_writes}
 use Rattle.dr_config.specs.Table.{Table}
 use Rattle.dr_model.specs.Contents.{zeros}
 use Rattle.dr_model.specs.Layout as layout
+use Rattle.dr_model.specs.Layout.{chosen}
+use Rattle.dr_model.specs.Control.{World}
+use Rattle.dr_model.specs.Carry.{Ended, ended}
+use Rattle.dr_model.specs.ReadStops.{shut}
 use Rattle.dr_model.specs.Moves.{Carried, is_carried, moved, tracks_after}
 use Rattle.dr_volume.specs.declared.fields.Fields.{Fields}
 use Rattle.dr_volume.specs.Record.{record_block}
-use Rattle.dr_volume.specs.View.{volume_seen, track_seen}
+use Rattle.dr_volume.specs.View.{volume_seen, track_seen, device_of}
 
 -- the fields that stage the carried track, or none
 abbrev pub staging : Carried → Fields → Fields
@@ -54,6 +58,20 @@ pub record IsMoved (s t : PlantState) (c : Table) (v : ℕ) (f : layout.Fields) 
 -- From s to t every volume but v has what it had.
 abbrev pub OthersStay : PlantState → PlantState → Table → ℕ → Type 0
 OthersStay s t c v = (u : ℕ) → u ≢ v → IsAsBefore s t c u
+
+-- A world, and whether an act was stopped, are those in which an act of the machine ended.
+pub record EndsAs (w : World) (b : Bool) (e : Ended) : Type 0 where
+  pub world : w ≡ e.world
+  pub stopped : b ≡ e.stopped
+
+-- How an act ends that begins with a read on its server: where the server's read fuse lets no read pass, the server
+-- goes off before any write.
+abbrev pub after_reading : PlantState → ℕ → World → Ended → Ended
+after_reading s server w e = if passes_read (s.read_fuse server) then e else ended (shut w server) true false
+
+-- a volume's staged track, with its bytes
+abbrev pub staged_seen : PlantState → Table → ℕ → Carried
+staged_seen s c v = track_with (volume_seen s c v).staged (chosen (s.block (device_of c v)) 5)
 
 -- From s to t the server is on or off as it was, with the same fuses.
 pub record ServerStays (s t : PlantState) (server : ℕ) : Type 0 where

@@ -9,7 +9,7 @@ ghost use Rattle.dr_model.specs.Carry as machine;
 ghost use Rattle.dr_model.specs.Lawful.{IsLawful};
 ghost use Rattle.dr_volume.specs.Plain.{plain};
 ghost use Rattle.dr_volume.specs.View.{Rest, world, volume_seen, device_of, IsSettled, TracksSettled, ReadsPass};
-ghost use Rattle.dr_volume.specs.Update.{staging, track_with, track_writes, update_writes, read_and_write, Covers, IsAsBefore, IsMoved, OthersStay, ServerStays};
+ghost use Rattle.dr_volume.specs.Update.{staging, track_with, track_writes, update_writes, read_and_write, staged_seen, Covers, IsAsBefore, IsMoved, OthersStay, EndsAs, after_reading, ServerStays};
 
 use crate::codes::zero_block;
 use crate::fields::Fields;
@@ -20,7 +20,9 @@ use dr_plant::{Block, DeviceId, Plant, Stopped};
 use dr_record::Cell;
 
 /// Gives a volume other fields and, where one is given, a track with its bytes: one move, done or
-/// not done as a whole. Fails where the volume's server is off or stops within the move; then the
+/// not done as a whole. What the next fields say of a staged track is not looked at. The record is
+/// written in six blocks to the slot that the device doesn't choose, then the gate, then the track
+/// in its own block. Fails where the volume's server is off or stops within the move; then the
 /// server is off, and the move counts as done where the device chooses the new fields.
 pub fn update<P: Plant>(
     p: &mut P,
@@ -35,8 +37,8 @@ pub fn update<P: Plant>(
     requires within { IfSome staged (λ t. t.0 < (volume_seen (P.state p.old) c.now v.0).tracks) }
     requires settled { IsSettled (P.state p.old) c.now v.0 }
     requires covers { Covers (volume_seen (P.state p.old) c.now v.0).fields.blank next.now.blank staged }
-    ensures world { (r : Rest) → ReadsPass (P.state p.old) → world (P.state p.new) c.now r ≡ (machine.update (world (P.state p.old) c.now r) v.0 (plain next.now) staged).world }
-    ensures stopped { (r : Rest) → ReadsPass (P.state p.old) → is_err result ≡ (machine.update (world (P.state p.old) c.now r) v.0 (plain next.now) staged).stopped }
+    ensures written { read_and_write (P.state p.old) (device_of c.now v.0) (update_writes (not (volume_seen (P.state p.old) c.now v.0).slot) (staging staged next.now) staged) ≡ (P.state p.new, is_err result) }
+    ensures exact { (r : Rest) → EndsAs (world (P.state p.new) c.now r) (is_err result) (after_reading (P.state p.old) (volume_seen (P.state p.old) c.now v.0).server (world (P.state p.old) c.now r) (machine.update (world (P.state p.old) c.now r) v.0 (plain next.now) staged)) }
     ensures done { OnOk result (IsMoved (P.state p.old) (P.state p.new) c.now v.0 (plain next.now) staged) }
     ensures old_or_new { IsAsBefore (P.state p.old) (P.state p.new) c.now v.0 ⊎ IsMoved (P.state p.old) (P.state p.new) c.now v.0 (plain next.now) staged }
     ensures others { OthersStay (P.state p.old) (P.state p.new) c.now v.0 }
@@ -57,8 +59,8 @@ pub fn update<P: Plant>(
 pub fn redo<P: Plant>(p: &mut P, c: &Config, v: VolumeId) -> Result<(), Stopped>
     requires defined { IsSome (place_of c.now v.0) }
     requires stands { StandsFor c.now (P.state p.old) }
-    ensures world { (r : Rest) → ReadsPass (P.state p.old) → world (P.state p.new) c.now r ≡ (machine.redo (world (P.state p.old) c.now r) v.0).world }
-    ensures stopped { (r : Rest) → ReadsPass (P.state p.old) → is_err result ≡ (machine.redo (world (P.state p.old) c.now r) v.0).stopped }
+    ensures written { read_and_write (P.state p.old) (device_of c.now v.0) (track_writes (staged_seen (P.state p.old) c.now v.0)) ≡ (P.state p.new, is_err result) }
+    ensures exact { (r : Rest) → EndsAs (world (P.state p.new) c.now r) (is_err result) (after_reading (P.state p.old) (volume_seen (P.state p.old) c.now v.0).server (world (P.state p.old) c.now r) (machine.redo (world (P.state p.old) c.now r) v.0)) }
     ensures same { (u : ℕ) → IsAsBefore (P.state p.old) (P.state p.new) c.now u }
     ensures done { OnOk result (TracksSettled ((P.state p.new).block (device_of c.now v.0)) (volume_seen (P.state p.new) c.now v.0).staged) }
     ensures stands { StandsFor c.now (P.state p.new) }

@@ -18,8 +18,8 @@ returns-in_err-fields g c =
     let all : Redone c.args.c.now s t c.args.v.0 true = redone-unread c.args.c.now s t c.args.v.0 d c.find.result.tracks c.find.ensures c.requires.stands
     (sym (c.in_err-fields.ensures.done ∙ ap (can_read s) at)) (c.in_err-fields.ensures.state ∙ ap (after_read s) at) in
     record {
-      world = λ rest pass. (all.ends rest pass).world;
-      stopped = λ rest pass. c.from_residual.ensures.0 ∙ (all.ends rest pass).stopped;
+      written = all.written ∙ (λ i. (t, sym c.from_residual.ensures.0 i));
+      exact = λ rest. record { world = (all.exact rest).world; stopped = c.from_residual.ensures.0 ∙ (all.exact rest).stopped };
       same = all.same;
       done = search rules;
       stands = all.stands;
@@ -54,8 +54,8 @@ returns g c =
     (sym (c.in_ok-fields.ensures.done ∙ ap (can_read s) at)) c.in_ok-fields.ensures.shows
     ((λ i. after_writes (sym same i) d (track_writes (sym c.staged_track.ensures i))) ∙ c.write_track.ensures) in
     record {
-      world = λ rest pass. (all.ends rest pass).world;
-      stopped = λ rest pass. (all.ends rest pass).stopped;
+      written = all.written;
+      exact = all.exact;
       same = all.same;
       done = on_ok c.write_track.result all.done;
       stands = all.stands;

@@ -5,7 +5,7 @@ use Rattle.dr_record.specs.Slots.{slot_of}
 use Rattle.dr_volume.specs.Update.{staging, update_writes, read_and_write}
 use Rattle.dr_volume.proofs.RanLaws.{ran, ran-stands, on_ok, on_err}
 use Rattle.dr_volume.proofs.SeenLaws.{others-stay}
-use Rattle.dr_volume.proofs.UpdateLaws.{Run, task, update-world, update-done, update-ending, update-keeps_settled, server-seen}
+use Rattle.dr_volume.proofs.UpdateLaws.{Run, task, update-written, update-exact, update-done, update-ending, update-keeps_settled, server-seen}
 use Rattle.dr_volume.proofs.change.update.Goals as goal
 
 pub returns : goal.returns
@@ -23,8 +23,8 @@ returns g c =
     let k = task table s v d c.find.result.tracks f m c.find.ensures c.requires.stands c.requires.lawful c.requires.within c.requires.covers c.requires.settled in
     let r = ran s t d ws b run in
     record {
-      world = λ rest pass. (update-world table s t v d k.0 f m b rest k.1 run pass).world;
-      stopped = λ rest pass. (update-world table s t v d k.0 f m b rest k.1 run pass).stopped;
+      written = update-written table s t v d k.0 f m b k.1 run;
+      exact = λ rest. update-exact table s t v d k.0 f m b rest k.1 run;
       done = on_ok c.rewrite.result (λ ok. update-done table s t v d k.0 f m k.1 (run ∙ (λ i. (t, ok i))));
       old_or_new = update-ending table s t v d k.0 f m b k.1 run;
       others = others-stay table s t v d k.0 k.1.lies r.apart;
