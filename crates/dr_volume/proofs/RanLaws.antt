@@ -1,5 +1,5 @@
 -- What reading a device and then writing to it does to a plant, whatever is written.
-use Rattle.std.proofs.Common.{ℕ, ◌≡◌, ◌≢◌, ◌<◌, Bool, true, false, List, [], ◌∷◌, refl, sym, ◌∙◌, ap, subst, cond, inl, inr}
+use Rattle.std.proofs.Common.{ℕ, ◌≡◌, ◌≢◌, Bool, true, false, List, [], ◌∷◌, refl, sym, ◌∙◌, ap, subst, cond, inl, inr}
 use Rattle.std.specs.Prelude.{Option, None, Result, Ok, Err, is_err, OnOk, OnErr}
 use Rattle.std.proofs.lemmas.Bool.{cases_eq}
 use Rattle.dr_plant.specs.State.{PlantState, after_read, after_write, can_read, at, risen, lowered_read, lowered_write, can_write}
@@ -8,7 +8,6 @@ use Rattle.dr_record.specs.Writes.{Write, after_writes, SameShape}
 use Rattle.dr_record.proofs.WritesLemmas.{goes, stops, ends, along, shape-after_writes, apart-after_writes, off-after_writes, faults-after_writes, same_faults-after_writes}
 use Rattle.dr_config.specs.Table.{Table, StandsFor}
 use Rattle.dr_config.proofs.Devices.{stands-along}
-use Rattle.dr_volume.specs.View.{ReadsPass}
 use Rattle.dr_volume.specs.Update.{read_and_write, ServerStays}
 
 -- a device that can't be read is not written
@@ -29,7 +28,7 @@ pub record Ran (s t : PlantState) (dev : ℕ) (stopped : Bool) : Type 0 where
   pub apart : (d b : ℕ) → d ≢ dev → t.block d b ≡ s.block d b
   pub was_on : (server : ℕ) → t.on server ≡ true → s.on server ≡ true
   pub others : (server : ℕ) → server ≢ s.owner dev → ServerStays s t server
-  pub reads_pass : ReadsPass s → ReadsPass t
+  pub unarmed : (server : ℕ) → s.read_fuse server ≡ None → t.read_fuse server ≡ None
   pub on : stopped ≡ false → t.on ≡ s.on
   pub off : stopped ≡ true → t.on (s.owner dev) ≡ false
   pub faults : t.faults ≡ cond stopped (risen s.faults) s.faults
@@ -40,19 +39,19 @@ off_later f k q h = elim (cases_eq q k) [
   | inr ne ↦ sym (at_other f k false q ne) ∙ h
 ]
 
-none_later : (f : ℕ → Option ℕ) (k : ℕ) → ((q : ℕ) → q < 8 → f q ≡ None) → (q : ℕ) → q < 8 → at f k (lowered_read (f k)) q ≡ None
-none_later f k h q low = elim (cases_eq q k) [
-  | inl e ↦ ap (at f k (lowered_read (f k))) e ∙ at_same f k (lowered_read (f k)) ∙ ap lowered_read (ap f (sym e) ∙ h q low)
-  | inr ne ↦ at_other f k (lowered_read (f k)) q ne ∙ h q low
+none_later : (f : ℕ → Option ℕ) (k q : ℕ) → f q ≡ None → at f k (lowered_read (f k)) q ≡ None
+none_later f k q h = elim (cases_eq q k) [
+  | inl e ↦ ap (at f k (lowered_read (f k))) e ∙ at_same f k (lowered_read (f k)) ∙ ap lowered_read (ap f (sym e) ∙ h)
+  | inr ne ↦ at_other f k (lowered_read (f k)) q ne ∙ h
 ]
 
 was_on-after_write : (s t : PlantState) (dev b : ℕ) (bytes : List ℕ) → ((q : ℕ) → t.on q ≡ true → s.on q ≡ true) → (q : ℕ) → (after_write t dev b bytes).on q ≡ true → s.on q ≡ true
 was_on-after_write s t dev b bytes h q =
     write_cases (λ u. u.on q ≡ true → s.on q ≡ true) t dev b bytes (h q) (λ is. h q (off_later t.on (t.owner dev) q is)) (h q)
 
-reads-after_write : (t : PlantState) (dev b : ℕ) (bytes : List ℕ) → ReadsPass t → ReadsPass (after_write t dev b bytes)
-reads-after_write t dev b bytes h q low =
-    write_cases (λ u. u.read_fuse q ≡ None) t dev b bytes (none_later t.read_fuse (t.owner dev) h q low) (h q low) (h q low)
+unarmed-after_write : (q : ℕ) (t : PlantState) (dev b : ℕ) (bytes : List ℕ) → t.read_fuse q ≡ None → (after_write t dev b bytes).read_fuse q ≡ None
+unarmed-after_write q t dev b bytes h =
+    write_cases (λ u. u.read_fuse q ≡ None) t dev b bytes (none_later t.read_fuse (t.owner dev) q h) h h
 
 -- What the writes to a device of that owner keep of the other servers.
 record OthersKept (s t : PlantState) (owner : ℕ) : Type 0 where
@@ -98,7 +97,7 @@ ran-stopped s dev stuck = record {
       (record { on = refl; write_fuse = refl; read_fuse = refl })
       (record { on = at_other s.on (s.owner dev) false q ne; write_fuse = refl; read_fuse = refl });
   on = λ done. absurd (cc);
-  reads_pass = λ h q low. read_cases (λ u. u.read_fuse q ≡ None) s dev (h q low) (h q low);
+  unarmed = λ q h. read_cases (λ u. u.read_fuse q ≡ None) s dev h h;
   off = λ is. off-after_read s dev stuck;
   faults = faults-after_read s dev ∙ ap (λ b. cond b s.faults (risen s.faults)) stuck;
 }
@@ -117,7 +116,7 @@ ran-written s t dev ws b h =
           (along (λ (u : PlantState). (q : ℕ) → u.on q ≡ true → s.on q ≡ true) dev (λ u k bytes g. was_on-after_write s u dev k bytes g) ws s (λ q g. g));
       others = (subst (λ u. OthersKept s u (s.owner dev)) is (along (λ u. OthersKept s u (s.owner dev)) dev (λ u k bytes g. others-after_write s u dev k bytes g) ws s (others-same s (s.owner dev)))).stay;
       on = λ done. on-after_writes s t dev ws (h ∙ (λ i. (t, done i)));
-      reads_pass = λ pass. subst (λ u. ReadsPass u) is (along (λ u. ReadsPass u) dev (λ u k bytes g. reads-after_write u dev k bytes g) ws s pass);
+      unarmed = λ q none. subst (λ (u : PlantState). u.read_fuse q ≡ None) is (along (λ (u : PlantState). u.read_fuse q ≡ None) dev (λ u k bytes g. unarmed-after_write q u dev k bytes g) ws s none);
       off = λ stopped. off-after_writes s t dev ws (h ∙ (λ i. (t, stopped i)));
       faults = faults-ran s t dev ws b h;
     }

@@ -17,7 +17,7 @@ use Rattle.dr_model.specs.Moves.{Carried, is_carried, carried_bytes}
 use Rattle.dr_model.specs.Carry as machine
 use Rattle.dr_model.specs.Carry.{Ended, ended}
 use Rattle.dr_volume.specs.declared.fields.Fields.{Fields}
-use Rattle.dr_volume.specs.View.{Rest, world, volume_seen, device_of, IsSettled, TracksSettled, ReadsPass, fuse_seen}
+use Rattle.dr_volume.specs.View.{Rest, world, volume_seen, device_of, IsSettled, TracksSettled, fuse_seen}
 use Rattle.dr_volume.specs.Volume.{LiesOn, Shows}
 use Rattle.dr_volume.specs.Update.{track_with, track_writes, read_and_write, staged_seen, IsAsBefore, OthersStay, ServerStays, EndsAs, after_reading}
 use Rattle.dr_volume.proofs.VolumeLaws.{device-placed, device-stands}
@@ -94,7 +94,7 @@ pub record Redone (c : Table) (s t : PlantState) (v : ℕ) (b : Bool) : Type 0 w
   pub same : (u : ℕ) → IsAsBefore s t c u
   pub done : b ≡ false → TracksSettled (t.block (device_of c v)) (volume_seen t c v).staged
   pub stands : StandsFor c t
-  pub reads_pass : ReadsPass s → ReadsPass t
+  pub unarmed : (q : ℕ) → s.read_fuse q ≡ None → t.read_fuse q ≡ None
   pub settled : (u : ℕ) → IsSettled s c u → IsSettled t c u
   pub servers : (q : ℕ) → q ≢ (volume_seen s c v).server → ServerStays s t q
   pub on : b ≡ false → t.on ≡ s.on
@@ -183,7 +183,7 @@ redone-on c s t v d e b lies stands run =
       same = same-all c s t v here there;
       done = done;
       stands = ran-stands c s t d b r stands;
-      reads_pass = r.reads_pass;
+      unarmed = r.unarmed;
       settled = settled-all c s t v d e b lies r done;
       servers = λ q ne. r.others q (λ is. ne (is ∙ sym (server-seen c s v d e lies)));
       on = r.on;

@@ -1,6 +1,6 @@
 //! Changing a volume: one move writes its record and a track, done or not done as a whole.
 
-ghost use Rattle.std.specs.Prelude.{◌≡◌, ◌≢◌, ℕ, ◌<◌, ◌+◌, not, false, IsSome, IfSome, OnOk, OnErr, is_err, ◌⊎◌};
+ghost use Rattle.std.specs.Prelude.{◌≡◌, ◌≢◌, ℕ, ◌<◌, ◌+◌, not, false, None, IsSome, IfSome, OnOk, OnErr, is_err, ◌⊎◌};
 ghost use Rattle.dr_plant.specs.State.{risen};
 ghost use Rattle.dr_record.specs.Writes.{IsDevice, after_writes};
 ghost use Rattle.dr_record.specs.Slots.{slot_of};
@@ -8,7 +8,7 @@ ghost use Rattle.dr_config.specs.Table.{StandsFor, place_of};
 ghost use Rattle.dr_model.specs.Carry as machine;
 ghost use Rattle.dr_model.specs.Lawful.{IsLawful};
 ghost use Rattle.dr_volume.specs.Plain.{plain};
-ghost use Rattle.dr_volume.specs.View.{Rest, world, volume_seen, device_of, IsSettled, TracksSettled, ReadsPass};
+ghost use Rattle.dr_volume.specs.View.{Rest, world, volume_seen, device_of, IsSettled, TracksSettled};
 ghost use Rattle.dr_volume.specs.Update.{staging, track_with, track_writes, update_writes, read_and_write, staged_seen, Covers, IsAsBefore, IsMoved, OthersStay, EndsAs, after_reading, ServerStays};
 
 use crate::codes::zero_block;
@@ -43,7 +43,7 @@ pub fn update<P: Plant>(
     ensures old_or_new { IsAsBefore (P.state p.old) (P.state p.new) c.now v.0 ⊎ IsMoved (P.state p.old) (P.state p.new) c.now v.0 (plain next.now) staged }
     ensures others { OthersStay (P.state p.old) (P.state p.new) c.now v.0 }
     ensures stands { StandsFor c.now (P.state p.new) }
-    ensures reads_pass { ReadsPass (P.state p.old) → ReadsPass (P.state p.new) }
+    ensures unarmed { (q : ℕ) → (P.state p.old).read_fuse q ≡ None → (P.state p.new).read_fuse q ≡ None }
     ensures settled { (u : ℕ) → IsSettled (P.state p.old) c.now u → IsSettled (P.state p.new) c.now u }
     ensures servers { (q : ℕ) → q ≢ (volume_seen (P.state p.old) c.now v.0).server → ServerStays (P.state p.old) (P.state p.new) q }
     ensures on { OnOk result ((P.state p.new).on ≡ (P.state p.old).on) }
@@ -64,7 +64,7 @@ pub fn redo<P: Plant>(p: &mut P, c: &Config, v: VolumeId) -> Result<(), Stopped>
     ensures same { (u : ℕ) → IsAsBefore (P.state p.old) (P.state p.new) c.now u }
     ensures done { OnOk result (TracksSettled ((P.state p.new).block (device_of c.now v.0)) (volume_seen (P.state p.new) c.now v.0).staged) }
     ensures stands { StandsFor c.now (P.state p.new) }
-    ensures reads_pass { ReadsPass (P.state p.old) → ReadsPass (P.state p.new) }
+    ensures unarmed { (q : ℕ) → (P.state p.old).read_fuse q ≡ None → (P.state p.new).read_fuse q ≡ None }
     ensures settled { (u : ℕ) → IsSettled (P.state p.old) c.now u → IsSettled (P.state p.new) c.now u }
     ensures servers { (q : ℕ) → q ≢ (volume_seen (P.state p.old) c.now v.0).server → ServerStays (P.state p.old) (P.state p.new) q }
     ensures on { OnOk result ((P.state p.new).on ≡ (P.state p.old).on) }
