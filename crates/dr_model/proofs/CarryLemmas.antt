@@ -86,3 +86,9 @@ plan-says w line a = plan-tables w line same [] a ∙ ap (λ es. said (record w 
 
 pub plan-refuses : (w : World) (line : ℕ) (r : Refusal) → after_plan w line (refuses r) ≡ said w line (Refused r)
 plan-refuses w line r = plan-says w line (Refused r)
+
+-- a plan that a stop ends, where nothing follows it
+pub plan-stops : (w u : World) (line : ℕ) (p : Plan) (s : ℕ) → p.follows s ≡ [] → carry (begun w p) p.entries ≡ (u, Some (stopped s)) → after_plan w line p ≡ said u line (Refused (stopped s))
+plan-stops w u line p s none e =
+    plan-ends w line p (u, Some (stopped s)) e
+    ∙ ap (λ (o : Outcome). said o.0 line (Refused (stopped s))) (ap (carry u) none ∙ carry-none u)

@@ -11,3 +11,4 @@ pub mod SeenLaws
 pub mod UpdateLaws
 pub mod RedoLaws
 pub mod SettledLaws
+pub mod UnreadLaws

@@ -101,7 +101,7 @@ pub record Redone (c : Table) (s t : PlantState) (v : ℕ) (b : Bool) : Type 0 w
   pub off : b ≡ true → t.on (volume_seen s c v).server ≡ false
   pub faults : t.faults ≡ cond b (risen s.faults) s.faults
 
-same-all : (c : Table) (s t : PlantState) (v : ℕ) → IsAsBefore s t c v → OthersStay s t c v → (u : ℕ) → IsAsBefore s t c u
+pub same-all : (c : Table) (s t : PlantState) (v : ℕ) → IsAsBefore s t c v → OthersStay s t c v → (u : ℕ) → IsAsBefore s t c u
 same-all c s t v here there u = elim (cases_eq u v) [ inl is ↦ subst (λ w. IsAsBefore s t c w) (sym is) here | inr ne ↦ there u ne ]
 
 settled-all : (c : Table) (s t : PlantState) (v d : ℕ) (e : VolumeEntry) (b : Bool) → Lies c s v d e → Ran s t d b → (b ≡ false → TracksSettled (t.block (device_of c v)) (volume_seen t c v).staged) → (u : ℕ) → IsSettled s c u → IsSettled t c u
