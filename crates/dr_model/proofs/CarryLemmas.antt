@@ -2,13 +2,14 @@
 use Rattle.std.proofs.Common.{cond, ℕ, ◌≡◌, refl, ap, ◌∙◌, Bool, true, false, List, [], ◌∷◌, ◌++◌, Option, Some, None}
 use Rattle.std.proofs.lemmas.List.{append-nil}
 use Rattle.dr_ids.specs.declared.refusal.Refusal.{Refusal}
+use Rattle.dr_ids.specs.declared.refusal.Refusal.TheVariants.{Stopped}
 use Rattle.dr_model.specs.Refusals.{stopped}
 use Rattle.dr_model.specs.declared.event.Event.{Event}
 use Rattle.dr_model.specs.declared.said.Said.{Said}
 use Rattle.dr_model.specs.declared.said.Said.TheVariants.{Refused}
 use Rattle.dr_model.specs.Control.{Control, World}
 use Rattle.dr_model.specs.Moves.{Move}
-use Rattle.dr_model.specs.Carry.{Act, Make, Redo, Acknowledge, Next, Pass, Do, End, Entry, Turn, Outcome, act, turn, redo, redo_ended, acknowledged, carry, go, continue, check}
+use Rattle.dr_model.specs.Carry.{Act, Make, Redo, Acknowledge, Next, Pass, Do, End, Entry, Turn, Outcome, act, turn, redo, redo_ended, acknowledged, carry, go, continue, check, follow}
 use Rattle.dr_model.specs.Plans.{Plan, tables_plan, only_says, refuses, same}
 use Rattle.dr_model.specs.Runs.{begun, finish, carried_out, answered, after_plan, said}
 
@@ -51,20 +52,20 @@ pub carry-stops : (w v : World) (d : Entry) (ds : List Entry) (a : Act) (s : ℕ
 carry-stops w v d ds a s is stops = carry-first w d ds (Do a) is ∙ ap (λ (t : Turn). continue t.0 t.1 (λ v. carry v ds)) stops
 
 -- entries that follow others
-abbrev pub then : Outcome → (World → Outcome) → Outcome
-then (w, None) next = next w
-then (w, Some r) next = (w, Some r)
+abbrev pub onward : Outcome → (World → Outcome) → Outcome
+onward (w, None) next = next w
+onward (w, Some r) next = (w, Some r)
 
-continue-then : (t : Turn) (first rest : World → Outcome) (both : World → Outcome) → ((v : World) → both v ≡ then (first v) rest) → continue t.0 t.1 both ≡ then (continue t.0 t.1 first) rest
+continue-then : (t : Turn) (first rest : World → Outcome) (both : World → Outcome) → ((v : World) → both v ≡ onward (first v) rest) → continue t.0 t.1 both ≡ onward (continue t.0 t.1 first) rest
 continue-then (w, None) first rest both each = each w
 continue-then (w, Some s) first rest both each = refl
 
-go-then : (w : World) (x : Next) (first rest both : World → Outcome) → ((v : World) → both v ≡ then (first v) rest) → go w x both ≡ then (go w x first) rest
+go-then : (w : World) (x : Next) (first rest both : World → Outcome) → ((v : World) → both v ≡ onward (first v) rest) → go w x both ≡ onward (go w x first) rest
 go-then w Pass first rest both each = each w
 go-then w (End r) first rest both each = refl
 go-then w (Do a) first rest both each = continue-then (act w a) first rest both each
 
-pub carry-append : (w : World) (first rest : List Entry) → carry w (first ++ rest) ≡ then (carry w first) (λ v. carry v rest)
+pub carry-append : (w : World) (first rest : List Entry) → carry w (first ++ rest) ≡ onward (carry w first) (λ v. carry v rest)
 unfolding carry
 carry-append w [] rest = refl
 carry-append w (d ∷ first) rest = go-then w (d w.control) (λ v. carry v first) (λ v. carry v rest) (λ v. carry v (first ++ rest)) (λ v. carry-append v first rest)
@@ -87,8 +88,11 @@ plan-says w line a = plan-tables w line same [] a ∙ ap (λ es. said (record w 
 pub plan-refuses : (w : World) (line : ℕ) (r : Refusal) → after_plan w line (refuses r) ≡ said w line (Refused r)
 plan-refuses w line r = plan-says w line (Refused r)
 
--- a plan that a stop ends, where nothing follows it
-pub plan-stops : (w u : World) (line : ℕ) (p : Plan) (s : ℕ) → p.follows s ≡ [] → carry (begun w p) p.entries ≡ (u, Some (stopped s)) → after_plan w line p ≡ said u line (Refused (stopped s))
-plan-stops w u line p s none e =
-    plan-ends w line p (u, Some (stopped s)) e
-    ∙ ap (λ (o : Outcome). said o.0 line (Refused (stopped s))) (ap (carry u) none ∙ carry-none u)
+-- nothing follows a refusal where no entry does
+follow-none : (w : World) (r : Refusal) (follows : ℕ → List Entry) → ((s : ℕ) → follows s ≡ []) → follow w r follows ≡ w
+follow-none w (Stopped s) follows none = ap (λ (o : Outcome). o.0) (ap (carry w) (none s.0) ∙ carry-none w)
+follow-none w _ follows none = refl
+
+-- a plan that a refusal ends
+pub plan-fails : (w u : World) (line : ℕ) (p : Plan) (r : Refusal) → ((s : ℕ) → p.follows s ≡ []) → carry (begun w p) p.entries ≡ (u, Some r) → after_plan w line p ≡ said u line (Refused r)
+plan-fails w u line p r none e = plan-ends w line p (u, Some r) e ∙ ap (λ v. said v line (Refused r)) (follow-none u r p.follows none)

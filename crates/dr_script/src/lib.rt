@@ -15,6 +15,7 @@ mod words;
 
 pub use line::{Line, read_line};
 pub use print::print_step;
+pub use values::{is_hex, read_decimal, read_name, read_torn, spelled_bytes};
 
 #[cfg(test)]
 mod tests;

@@ -49,7 +49,7 @@ fn is_name(word: &[u8]) -> bool
 }
 
 /// A server's name, where the word is one.
-pub(crate) fn read_name(word: &[u8]) -> Option<Name>
+pub fn read_name(word: &[u8]) -> Option<Name>
     ensures { result ≡ name_word word.now }
 {
     if is_name(word) {
@@ -89,7 +89,7 @@ pub(crate) fn zero_block() -> [u8; 64]
 }
 
 /// A decimal number below 2^32.
-pub(crate) fn read_decimal(word: &[u8]) -> Option<u32>
+pub fn read_decimal(word: &[u8]) -> Option<u32>
     ensures { result ≡ decimal_word word.now }
 {
     read_number(word, u32::MAX)
@@ -145,7 +145,7 @@ pub(crate) fn read_sequence(word: &[u8]) -> Option<u32>
 }
 
 /// The word spells 1 to 64 bytes.
-pub(crate) fn is_hex(word: &[u8]) -> bool
+pub fn is_hex(word: &[u8]) -> bool
     ensures { result ≡ is_hex word.now }
 {
     2 <= word.len() && word.len() <= 128 && word.len() % 2 == 0 && are_hex_digits(word)
@@ -171,7 +171,7 @@ fn byte_at(word: &[u8], k: usize) -> u8
 }
 
 /// The bytes that a word spells, with zeros behind them.
-pub(crate) fn spelled_bytes(word: &[u8]) -> [u8; 64]
+pub fn spelled_bytes(word: &[u8]) -> [u8; 64]
     ensures { result ≡ spelled_bytes word.now }
 {
     let mut bytes = zero_block();
@@ -205,7 +205,7 @@ fn read_torn_bytes(word: &[u8]) -> Option<TornWord>
 }
 
 /// What a stop leaves in a block.
-pub(crate) fn read_torn(word: &[u8]) -> Option<TornWord>
+pub fn read_torn(word: &[u8]) -> Option<TornWord>
     ensures { result ≡ torn_word word.now }
 {
     match word {

@@ -1,6 +1,10 @@
 -- What a line comes to.
-use Rattle.std.proofs.Common.{ℕ, ◌≡◌, List, [], ◌∷◌, ◌++◌, refl, ap, ◌∙◌, true, false, cond, Some, Option, Result, Ok, Err}
+use Rattle.std.proofs.Common.{ℕ, ◌≡◌, List, [], ◌∷◌, ◌++◌, refl, ap, ◌∙◌, sym, subst, true, false, cond, Some, Option, Result, Ok, Err}
 use Rattle.std.specs.Prelude.{OnOk}
+use Rattle.dr_ids.specs.declared.refusal.Fault.{Fault}
+use Rattle.dr_ids.specs.declared.refusal.Fault.TheVariants.{NoMemory, Refused as FaultRefused}
+use Rattle.dr_ids.specs.declared.refusal.Refusal.{Refusal}
+use Rattle.dr_ids.specs.declared.refusal.Refusal.TheVariants.{NotBuilt}
 use Rattle.dr_plant.specs.State.{PlantState}
 use Rattle.dr_config.specs.Table.{Table}
 use Rattle.dr_model.specs.declared.event.Event.{Event}
@@ -8,37 +12,41 @@ use Rattle.dr_model.specs.declared.step.Name.{Name}
 use Rattle.dr_model.specs.declared.step.Step.{Step}
 use Rattle.dr_model.specs.declared.step.Step.TheVariants.{Server, Volume, Write, Show, Stop, StopAfter, Start}
 use Rattle.dr_model.specs.declared.step.TornWord.{TornWord}
-use Rattle.dr_model.specs.declared.said.Said.TheVariants.{NotBuilt}
+use Rattle.dr_model.specs.declared.said.Addition.{Addition}
+use Rattle.dr_model.specs.declared.said.Said.{Said}
+use Rattle.dr_model.specs.declared.said.Said.TheVariants.{Refused}
 use Rattle.dr_model.specs.Answers.{answer}
 use Rattle.dr_model.specs.Control.{Control, World}
 use Rattle.dr_model.specs.Lines.{words, step_words, is_no_step, tasks_of}
-use Rattle.dr_model.specs.Plans.{only_says, plan_of}
-use Rattle.dr_model.specs.Runs.{Task, after_plan, after_task, after_tasks}
-use Rattle.dr_model.proofs.PlanLemmas.{after_plan-says}
-use Rattle.dr_top.specs.Here.{here}
+use Rattle.dr_model.specs.Plans.{refuses, plan_of}
+use Rattle.dr_model.specs.Runs.{Task, after_plan, after_task, after_tasks, said}
+use Rattle.dr_model.proofs.CarryLemmas.{plan-refuses}
+use Rattle.dr_top.specs.Here.{here, said_of, widened, OnAnswer, OnNoMemory}
 use Rattle.dr_top.specs.declared.host.Host.{Host}
-use Rattle.dr_top.proofs.StepLemmas.{said-here}
 
-refused : (k : Control) (contents : ℕ → ℕ → List ℕ) (line : ℕ) (step : Step) → ((n : Name) → step ≡ Server n → ⊥) → ((v : ℕ) (n : Name) (t : ℕ) → step ≡ Volume v n t → ⊥)
+-- an answer that the journal was told
+pub said-here : (s : PlantState) (t : Table) (h : Host) (before now : List Event) (line : ℕ) (a : Said) → now ≡ before ++ answer line a ∷ [] → said (here s t h before) line a ≡ here s t h now
+said-here s t h before now line a e = ap (here s t h) (sym e)
+
+refused : (k : Control) (events : List Event) (line : ℕ) (step : Step) → ((n : Name) → step ≡ Server n → ⊥) → ((v : ℕ) (n : Name) (t : ℕ) → step ≡ Volume v n t → ⊥)
     → ((v t o l : ℕ) (b : List ℕ) → step ≡ Write v t o l b → ⊥) → ((v t : ℕ) → step ≡ Show v t → ⊥)
-    → ((n : Name) → step ≡ Stop n → ⊥) → ((n : Name) (k : ℕ) (torn : TornWord) → step ≡ StopAfter n k torn → ⊥) → ((n : Name) → step ≡ Start n → ⊥) → plan_of k contents line step ≡ only_says NotBuilt
-refused k contents line (Server n) server volume write show stop arm start = absurd (server n refl)
-refused k contents line (Volume v n t) server volume write show stop arm start = absurd (volume v n t refl)
-refused k contents line (Write v t o l b) server volume write show stop arm start = absurd (write v t o l b refl)
-refused k contents line (Show v t) server volume write show stop arm start = absurd (show v t refl)
-refused k contents line (Stop n) server volume write show stop arm start = absurd (stop n refl)
-refused k contents line (StopAfter n x torn) server volume write show stop arm start = absurd (arm n x torn refl)
-refused k contents line (Start n) server volume write show stop arm start = absurd (start n refl)
-refused k contents line _ server volume write show stop arm start = refl
+    → ((n : Name) → step ≡ Stop n → ⊥) → ((n : Name) (k : ℕ) (torn : TornWord) → step ≡ StopAfter n k torn → ⊥) → ((n : Name) → step ≡ Start n → ⊥) → plan_of k events line step ≡ refuses NotBuilt
+refused k events line (Server n) server volume write show stop arm start = absurd (server n refl)
+refused k events line (Volume v n t) server volume write show stop arm start = absurd (volume v n t refl)
+refused k events line (Write v t o l b) server volume write show stop arm start = absurd (write v t o l b refl)
+refused k events line (Show v t) server volume write show stop arm start = absurd (show v t refl)
+refused k events line (Stop n) server volume write show stop arm start = absurd (stop n refl)
+refused k events line (StopAfter n x torn) server volume write show stop arm start = absurd (arm n x torn refl)
+refused k events line (Start n) server volume write show stop arm start = absurd (start n refl)
+refused k events line _ server volume write show stop arm start = refl
 
 -- a step that isn't built
-pub unbuilt : (s : PlantState) (t : Table) (h : Host) (before now : List Event) (line : ℕ) (step : Step) → ((n : Name) → step ≡ Server n → ⊥) → ((v : ℕ) (n : Name) (t : ℕ) → step ≡ Volume v n t → ⊥)
+pub unbuilt : (w : World) (line : ℕ) (step : Step) → ((n : Name) → step ≡ Server n → ⊥) → ((v : ℕ) (n : Name) (t : ℕ) → step ≡ Volume v n t → ⊥)
     → ((v t o l : ℕ) (b : List ℕ) → step ≡ Write v t o l b → ⊥) → ((v t : ℕ) → step ≡ Show v t → ⊥)
-    → ((n : Name) → step ≡ Stop n → ⊥) → ((n : Name) (k : ℕ) (torn : TornWord) → step ≡ StopAfter n k torn → ⊥) → ((n : Name) → step ≡ Start n → ⊥) → now ≡ before ++ answer line NotBuilt ∷ []
-    → after_task (here s t h before) (record { line = line; step = Some step }) ≡ here s t h now
-unbuilt s t h before now line step server volume write show stop arm start told =
-    let w = here s t h before in
-    ap (after_plan w line) (refused w.control w.contents line step server volume write show stop arm start) ∙ after_plan-says w line NotBuilt ∙ said-here s t h before now line NotBuilt told
+    → ((n : Name) → step ≡ Stop n → ⊥) → ((n : Name) (k : ℕ) (torn : TornWord) → step ≡ StopAfter n k torn → ⊥) → ((n : Name) → step ≡ Start n → ⊥)
+    → after_plan w line (plan_of w.control w.events line step) ≡ said w line (Refused NotBuilt)
+unbuilt w line step server volume write show stop arm start =
+    ap (after_plan w line) (refused w.control w.events line step server volume write show stop arm start) ∙ plan-refuses w line NotBuilt
 
 -- no task, and one
 pub after-none : (w : World) → after_tasks w [] ≡ w

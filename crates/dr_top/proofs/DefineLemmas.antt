@@ -10,14 +10,14 @@ use Rattle.dr_config.proofs.Devices.{stands-with_server}
 use Rattle.dr_config.proofs.Lookups.{place-of-new, place-of-other}
 use Rattle.dr_model.specs.declared.event.Event.{Event}
 use Rattle.dr_model.specs.declared.event.Event.TheVariants.{Server as ServerDefined, Volume as VolumeDefined}
-use Rattle.dr_model.specs.declared.said.Said.TheVariants.{Done, NotBuilt}
+use Rattle.dr_ids.specs.declared.refusal.Refusal.TheVariants.{NotBuilt}
+use Rattle.dr_model.specs.declared.said.Said.TheVariants.{Done, Refused}
+use Rattle.dr_model.specs.declared.said.Addition.TheVariants.{Alone}
 use Rattle.dr_model.specs.declared.step.Name.{Name}
-use Rattle.dr_model.specs.Answers.{answer}
 use Rattle.dr_model.specs.Control.{Volume, World, new_volume}
-use Rattle.dr_model.specs.Plans.{only_says, is_empty, name_bytes, server_plan, volume_plan, volume_on}
+use Rattle.dr_model.specs.Plans.{refuses, is_empty, name_bytes, server_done, server_plan, volume_done, volume_plan, volume_on}
 use Rattle.dr_model.specs.Runs.{after_plan, said}
-use Rattle.dr_model.proofs.PlanCases.{server_done, volume_done}
-use Rattle.dr_model.proofs.PlanLemmas.{after_plan-says, after_plan-still}
+use Rattle.dr_model.proofs.CarryLemmas.{plan-refuses, plan-tables}
 use Rattle.dr_model.specs.Contents.{zeros}
 use Rattle.dr_model.specs.Tables.{at}
 use Rattle.dr_model.proofs.Images.{at_same, at_other}
@@ -26,7 +26,6 @@ use Rattle.dr_volume.specs.View as view
 use Rattle.dr_volume.proofs.VolumeLaws.{volume-placed, track-placed}
 use Rattle.dr_top.specs.Here.{here, IsReady}
 use Rattle.dr_top.specs.declared.host.Host.{Host}
-use Rattle.dr_top.proofs.StepLemmas.{said-here}
 use Rattle.dr_top.proofs.ZeroDevice.{zero_blocks, volume-zeros, track-zeros}
 
 is_empty-none : {X : Type 0} (xs : List X) → length xs ≡ 0 → is_empty xs ≡ true
@@ -39,28 +38,25 @@ is_empty-some (x ∷ xs) ne = refl
 
 -- one more server changes nothing of devices and volumes
 pub ready-server : (s : PlantState) (t : Table) (name : List ℕ) → IsReady s t → IsReady s (with_server t name)
-ready-server s t name r = record { stands = stands-with_server t name s r.stands; reads = r.reads; settled = r.settled; sizes = r.sizes }
+ready-server s t name r = record { rest = record { stands = stands-with_server t name s r.rest.stands; settled = r.rest.settled; sizes = r.rest.sizes }; reads = r.reads }
 
 module _ (s : PlantState) (t : Table) (h : Host) (ev : List Event) (line : ℕ) (name : Name) where
   abbrev w : World
   w = here s t h ev
 
-  pub server-refused : (now : List Event) → length t.names ≢ 0 → now ≡ ev ++ answer line NotBuilt ∷ [] → after_plan w line (server_plan w.control name) ≡ here s t h now
-  server-refused now some told =
-      ap (λ b. after_plan w line (cond b (server_done w.control name) (only_says NotBuilt))) (is_empty-some t.names some)
-      ∙ after_plan-says w line NotBuilt ∙ said-here s t h ev now line NotBuilt told
+  pub server-refused : length t.names ≢ 0 → after_plan w line (server_plan w.control name) ≡ said w line (Refused NotBuilt)
+  server-refused some =
+      ap (λ b. after_plan w line (cond b (server_done w.control name) (refuses NotBuilt))) (is_empty-some t.names some) ∙ plan-refuses w line NotBuilt
 
-  pub server-defined : (mid now : List Event) (t' : Table) (server : ℕ) (bytes : List ℕ) → length t.names ≡ 0 → server ≡ length t.names → bytes ≡ name_bytes name → t' ≡ with_server t bytes
-      → mid ≡ ev ++ ServerDefined server name.len name.bytes ∷ [] → now ≡ mid ++ answer line Done ∷ []
-      → after_plan w line (server_plan w.control name) ≡ here s t' h now
-  server-defined mid now t' server bytes none number named is defined told =
-      ap (λ b. after_plan w line (cond b (server_done w.control name) (only_says NotBuilt))) (is_empty-none t.names none)
-      ∙ after_plan-still w line (λ k. record k { servers = k.servers ++ name_bytes name ∷ [] }) (ServerDefined (length t.names) name.len name.bytes ∷ []) Done
-      ∙ ap (λ x. said (here s (with_server t x) h (ev ++ ServerDefined (length t.names) name.len name.bytes ∷ [])) line Done) (sym named)
-      ∙ ap (λ x. said (here s x h (ev ++ ServerDefined (length t.names) name.len name.bytes ∷ [])) line Done) (sym is)
-      ∙ ap (λ n. said (here s t' h (ev ++ ServerDefined n name.len name.bytes ∷ [])) line Done) (sym number)
-      ∙ ap (λ x. said (here s t' h x) line Done) (sym defined)
-      ∙ said-here s t' h mid now line Done told
+  pub server-defined : (mid : List Event) (t' : Table) (server : ℕ) (bytes : List ℕ) → length t.names ≡ 0 → server ≡ length t.names → bytes ≡ name_bytes name → t' ≡ with_server t bytes
+      → mid ≡ ev ++ ServerDefined server name.len name.bytes ∷ [] → after_plan w line (server_plan w.control name) ≡ said (here s t' h mid) line (Done Alone)
+  server-defined mid t' server bytes none number named is defined =
+      ap (λ b. after_plan w line (cond b (server_done w.control name) (refuses NotBuilt))) (is_empty-none t.names none)
+      ∙ plan-tables w line (λ k. record k { servers = k.servers ++ name_bytes name ∷ [] }) (ServerDefined (length t.names) name.len name.bytes ∷ []) (Done Alone)
+      ∙ ap (λ x. said (here s (with_server t x) h (ev ++ ServerDefined (length t.names) name.len name.bytes ∷ [])) line (Done Alone)) (sym named)
+      ∙ ap (λ x. said (here s x h (ev ++ ServerDefined (length t.names) name.len name.bytes ∷ [])) line (Done Alone)) (sym is)
+      ∙ ap (λ n. said (here s t' h (ev ++ ServerDefined n name.len name.bytes ∷ [])) line (Done Alone)) (sym number)
+      ∙ ap (λ x. said (here s t' h x) line (Done Alone)) (sym defined)
 
 -- whether a volume of n tracks may be defined
 abbrev fits : List VolumeEntry → ℕ → Bool
@@ -176,10 +172,12 @@ module _ (s : PlantState) (t : Table) (v server n : ℕ) (stands : StandsFor t s
 
   pub ready-volume : n ≤ 256 → StandsFor t' s' → IsReady s t → IsReady s' t'
   ready-volume most new r = record {
-    stands = new;
+    rest = record {
+      stands = new;
+      settled = λ u on. subst (λ o. TracksSettled (s'.block (device_of t' u)) o) (sym (none_staged u)) tt;
+      sizes = few_tracks most;
+    };
     reads = λ k lt. ap (λ (f : ℕ → Option ℕ). f k) (reads-still s server (13 + n)) ∙ r.reads k lt;
-    settled = λ u on. subst (λ o. TracksSettled (s'.block (device_of t' u)) o) (sym (none_staged u)) tt;
-    sizes = few_tracks most;
   }
 
   -- the machine's state once the volume is defined
@@ -200,34 +198,29 @@ module _ (s : PlantState) (t : Table) (h : Host) (ev : List Event) (line v n : �
   abbrev w' : World
   w' = here s t h ev
 
-  pub volume-unnamed : (now : List Event) (bytes : List ℕ) → bytes ≡ name_bytes name → server_named t bytes ≡ None → now ≡ ev ++ answer line NotBuilt ∷ []
-      → after_plan w' line (volume_plan w'.control v name n) ≡ here s t h now
-  volume-unnamed now bytes named none told =
-      ap (λ o. after_plan w' line (volume_on w'.control v n o)) (ap (server_named t) (sym named) ∙ none)
-      ∙ after_plan-says w' line NotBuilt ∙ said-here s t h ev now line NotBuilt told
+  pub volume-unnamed : (bytes : List ℕ) → bytes ≡ name_bytes name → server_named t bytes ≡ None → after_plan w' line (volume_plan w'.control v name n) ≡ said w' line (Refused NotBuilt)
+  volume-unnamed bytes named none =
+      ap (λ o. after_plan w' line (volume_on w'.control v n o)) (ap (server_named t) (sym named) ∙ none) ∙ plan-refuses w' line NotBuilt
 
-  pub volume-unfit : (now : List Event) (bytes : List ℕ) (server : ℕ) → bytes ≡ name_bytes name → server_named t bytes ≡ Some server → fits t.volumes n ≡ false → now ≡ ev ++ answer line NotBuilt ∷ []
-      → after_plan w' line (volume_plan w'.control v name n) ≡ here s t h now
-  volume-unfit now bytes server named there unfit told =
+  pub volume-unfit : (bytes : List ℕ) (server : ℕ) → bytes ≡ name_bytes name → server_named t bytes ≡ Some server → fits t.volumes n ≡ false
+      → after_plan w' line (volume_plan w'.control v name n) ≡ said w' line (Refused NotBuilt)
+  volume-unfit bytes server named there unfit =
       ap (λ o. after_plan w' line (volume_on w'.control v n o)) (ap (server_named t) (sym named) ∙ there)
-      ∙ ap (λ b. after_plan w' line (cond b (volume_done v server n) (only_says NotBuilt))) unfit
-      ∙ after_plan-says w' line NotBuilt ∙ said-here s t h ev now line NotBuilt told
+      ∙ ap (λ b. after_plan w' line (cond b (volume_done v server n) (refuses NotBuilt))) unfit ∙ plan-refuses w' line NotBuilt
 
-  pub volume-defined : (mid now : List Event) (s' : PlantState) (t' : Table) (bytes : List ℕ) (server : ℕ) → StandsFor t s → bytes ≡ name_bytes name → server_named t bytes ≡ Some server
+  pub volume-defined : (mid : List Event) (s' : PlantState) (t' : Table) (bytes : List ℕ) (server : ℕ) → StandsFor t s → bytes ≡ name_bytes name → server_named t bytes ≡ Some server
       → length t.volumes ≡ 0 → n ≢ 0 → n ≤ 256 → s' ≡ with_device s server (13 + n) → t' ≡ with_volume t v server n
-      → mid ≡ ev ++ VolumeDefined v server n ∷ [] → now ≡ mid ++ answer line Done ∷ []
-      → after_plan w' line (volume_plan w'.control v name n) ≡ here s' t' h now
-  volume-defined mid now s' t' bytes server stands named there none some most added is defined told =
+      → mid ≡ ev ++ VolumeDefined v server n ∷ [] → after_plan w' line (volume_plan w'.control v name n) ≡ said (here s' t' h mid) line (Done Alone)
+  volume-defined mid s' t' bytes server stands named there none some most added is defined =
       ap (λ o. after_plan w' line (volume_on w'.control v n o)) (ap (server_named t) (sym named) ∙ there)
-      ∙ ap (λ b. after_plan w' line (cond b (volume_done v server n) (only_says NotBuilt))) (fit t.volumes n (no_volumes t.volumes none) some most)
-      ∙ after_plan-still w' line (λ k. record k { volumes = k.volumes ++ v ∷ []; volume = at k.volume v (new_volume server n) }) (VolumeDefined v server n ∷ []) Done
-      ∙ ap (λ x. said x line Done) (defined-here s t v server n stands (no_volumes t.volumes none) h ev mid defined)
-      ∙ ap (λ x. said (here x (with_volume t v server n) h mid) line Done) (sym added)
-      ∙ ap (λ x. said (here s' x h mid) line Done) (sym is)
-      ∙ said-here s' t' h mid now line Done told
+      ∙ ap (λ b. after_plan w' line (cond b (volume_done v server n) (refuses NotBuilt))) (fit t.volumes n (no_volumes t.volumes none) some most)
+      ∙ plan-tables w' line (λ k. record k { volumes = k.volumes ++ v ∷ []; volume = at k.volume v (new_volume server n) }) (VolumeDefined v server n ∷ []) (Done Alone)
+      ∙ ap (λ x. said x line (Done Alone)) (defined-here s t v server n stands (no_volumes t.volumes none) h ev mid defined)
+      ∙ ap (λ x. said (here x (with_volume t v server n) h mid) line (Done Alone)) (sym added)
+      ∙ ap (λ x. said (here s' x h mid) line (Done Alone)) (sym is)
 
 pub ready-defined : (s : PlantState) (t : Table) (v server n : ℕ) (s' : PlantState) (t' : Table) → IsReady s t → length t.volumes ≡ 0 → n ≤ 256 → s' ≡ with_device s server (13 + n) → t' ≡ with_volume t v server n → StandsFor t' s' → IsReady s' t'
 ready-defined s t v server n s' t' ready none most added is stands =
     let new : StandsFor (with_volume t v server n) (with_device s server (13 + n)) = subst (λ x. StandsFor (with_volume t v server n) x) added (subst (λ x. StandsFor x s') is stands) in
-    let there = ready-volume s t v server n ready.stands (no_volumes t.volumes none) most new ready in
+    let there = ready-volume s t v server n ready.rest.stands (no_volumes t.volumes none) most new ready in
     subst (λ x. IsReady x t') (sym added) (subst (λ x. IsReady (with_device s server (13 + n)) x) (sym is) there)

@@ -1,4 +1,4 @@
--- A track with bytes laid over it, and the fields after a write landed.
+-- A track with bytes laid over it, and what stays blank then.
 use Rattle.std.proofs.Common.{ℕ, ◌≡◌, ◌≢◌, ◌<◌, ◌≤◌, ◌+◌, ◌-◌, inl, inr, List, length, get_or, set, take, ap, ◌∙◌, sym, arith, true, false, ◌&&◌, ◌||◌, cond, nat_eq, nat_lt, nat_le, rules}
 use Rattle.std.proofs.lemmas.Grind.{common_steps}
 use Rattle.std.proofs.lemmas.Bool.Decides.{nat_tests, eqb_tells, leb_tells}
@@ -8,10 +8,6 @@ use Rattle.std.specs.Cmp.{unsigned_tied}
 use Rattle.std.specs.FinSet.{contains, remove, members}
 use Rattle.dr_bits.specs.Tracks.{Tracks}
 use Rattle.dr_model.specs.Contents.{laid, byte_laid}
-use Rattle.dr_volume.specs.declared.fields.Fields.{Fields}
-use Rattle.dr_volume.specs.Plain.{IsLawful, cut, normal}
-use Rattle.dr_volume.proofs.LawfulLaws.{cut-below}
-use Rattle.dr_volume.proofs.Sets.{contains-cut}
 
 within : (o k n : ℕ) → o ≤ k → k < o + n → (nat_le o k && nat_lt k (o + n)) ≡ true
 within o k n a b = grind (arith, nat_tests)
@@ -68,17 +64,6 @@ laid-all o n bytes old track all sized h =
     let whole : take n bytes ≡ bytes = grind (arith, common_steps) in
     fill_by_all (byte_laid o bytes old) track 64 0 sized (λ k lt. h k lt ∙ ap (λ bs. byte_laid o bs old k) whole)
 
--- a set with one track less
-cut_remove : (n : ℕ) (s : Tracks) (t : ℕ) → n ≤ 256 → cut n s ≡ s → cut n (remove s t) ≡ remove s t
-cut_remove n s t few h = cut-below n (remove s t) few (λ q past.
-    let out : nat_lt q n ≡ false = grind (arith, nat_tests) in
-    let none : contains s q ≡ false = ap (λ x. contains x q) (sym h) ∙ contains-cut n s q few ∙ grind (arith, out) in
-    grind (members, rules, nat_tests, unsigned_tied, none))
-
-pub lawful-remove : (n : ℕ) (f : Fields) (t : ℕ) → n ≤ 256 → IsLawful n f → IsLawful n (record f { blank = remove f.blank t })
-unfolding normal
-lawful-remove n f t few h i = record (h i) { blank = cut_remove n f.blank t few (ap (λ (g : Fields). g.blank) h) i }
-
 -- each blank track but the written one stays blank
-pub covers-remove : (s : Tracks) (t q : ℕ) → contains s q ≡ true → (contains (remove s t) q || nat_eq t q) ≡ true
+pub covers-remove : (s : Tracks) (t q : ℕ) → contains s q ≡ true → (contains (remove s t) q || nat_eq q t) ≡ true
 covers-remove s t q h = grind (members, rules, nat_tests, unsigned_tied)

@@ -1,8 +1,7 @@
-pub mod TextLemmas
 pub mod PutLemmas
 pub mod WordsLemmas
-pub mod HexLemmas
 pub mod LandingLemmas
+pub mod LandLemmas
 pub mod TurnLemmas
 pub mod LocatedLemmas
 pub mod StepLemmas

@@ -1,16 +1,20 @@
 -- A volume that the configuration finds is one of the machine's, with its server and its size.
-use Rattle.std.proofs.Common.{ℕ, ◌≡◌, ◌<◌, ◌≤◌, List, [], ◌∷◌, refl, ap, ◌∙◌, arith, true, false, ◌&&◌, ◌||◌, cond, nat_eq, nat_lt, Option, Some, None}
+use Rattle.std.proofs.Common.{ℕ, ◌≡◌, ◌<◌, ◌≤◌, ◌+◌, List, [], ◌∷◌, refl, ap, ◌∙◌, arith, true, false, not, ◌&&◌, ◌||◌, cond, nat_eq, nat_lt, Option, Some, None}
 use Rattle.std.proofs.lemmas.Bool.Decides.{nat_tests}
 use Rattle.std.specs.Prelude.{is_some, ◌==◌, option_map}
 use Rattle.dr_ids.specs.declared.names.ServerId.{ServerId}
 use Rattle.dr_top.specs.Located.{Located}
-use Rattle.std.specs.List.{list_any, find}
+use Rattle.std.specs.List.{list_any, find, position_or_len}
+use Rattle.std.specs.Option.{unwrap_or}
+use Rattle.std.proofs.lemmas.List.{length-map}
+use Rattle.dr_model.specs.Fits.{device_of}
 use Rattle.dr_plant.specs.State.{PlantState}
 use Rattle.dr_config.specs.Table.{Table, place_of, entry_of}
 use Rattle.dr_config.specs.declared.entries.VolumeEntry.{VolumeEntry}
 use Rattle.dr_config.proofs.Lookups.{place-of-entry}
 use Rattle.dr_model.specs.declared.event.Event.{Event}
-use Rattle.dr_model.specs.Plans.{has_track, is_volume}
+use Rattle.dr_model.specs.Control.{is_volume}
+use Rattle.dr_model.specs.Plans.{has_track}
 use Rattle.dr_volume.specs.View.{volume_seen, ids_of}
 use Rattle.dr_volume.proofs.VolumeLaws.{volume-placed}
 use Rattle.dr_top.specs.Here.{here}
@@ -28,6 +32,19 @@ any_id (e ∷ es) v =
 -- the machine has a volume exactly where the configuration has
 pub is_volume-here : (s : PlantState) (t : Table) (h : Host) (events : List Event) (v : ℕ) → is_volume (here s t h events).control v ≡ is_some (entry_of t v)
 is_volume-here s t h events v = any_id t.volumes v
+
+pub some_entry : (o : Option VolumeEntry) → is_some o ≡ true → (e : VolumeEntry) × (o ≡ Some e)
+some_entry None h = absurd (cc)
+some_entry (Some e) h = (e, refl)
+
+same_place : (es : List VolumeEntry) (v : ℕ) → position_or_len (nat_eq v) (ids_of es) ≡ position_or_len (λ (e : VolumeEntry). e.id == v) es
+same_place [] v = refl
+same_place (e ∷ es) v = (λ i. cond (not (same_id v e.id i)) (1 + same_place es v i) 0)
+
+-- the number of its device is its place there, too
+pub device-here : (s : PlantState) (t : Table) (h : Host) (events : List Event) (v d : ℕ) → place_of t v ≡ Some d → device_of (here s t h events).control v ≡ d
+device-here s t h events v d place =
+    ap (λ o. unwrap_or o 0) ((λ i. let n : ℕ = same_place t.volumes v i in cond (nat_lt n (length-map t.volumes (λ (e : VolumeEntry). e.id) i)) (Some n) None) ∙ place)
 
 pub no_track-undefined : (s : PlantState) (t : Table) (h : Host) (events : List Event) (v k : ℕ) → entry_of t v ≡ None → has_track (here s t h events).control v k ≡ false
 no_track-undefined s t h events v k none = ap (λ b. b && nat_lt k (volume_seen s t v).tracks) (is_volume-here s t h events v ∙ ap is_some none)

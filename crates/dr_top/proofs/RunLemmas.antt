@@ -13,8 +13,8 @@ use Rattle.dr_model.specs.Control.{World, nothing}
 use Rattle.dr_model.specs.Lines.{tasks, tasks_of, tasks_from}
 use Rattle.dr_model.specs.Runs.{Task, after_task, after_tasks, run}
 use Rattle.dr_model.specs.Text.{text, text_from, heard, untold}
-use Rattle.dr_model.proofs.Texts.{text-append}
-use Rattle.dr_model.proofs.Onward.{after_tasks-grows}
+use Rattle.dr_laws.proofs.Texts.{text-append}
+use Rattle.dr_laws.proofs.Journal.{after_tasks-grows}
 use Rattle.dr_top.specs.Given.{Gave, GavePart}
 use Rattle.dr_top.specs.Followed.{Prints, PrintsPart, text_since, world_after}
 

@@ -1,11 +1,12 @@
 -- What starting a server comes to: its volumes' staged tracks are written to their places, and a write is acknowledged.
-use Rattle.std.proofs.Common.{ℕ, ◌≡◌, ◌≢◌, ◌<◌, ◌≤◌, ◌+◌, ◌⊎◌, inl, inr, suc, zero, List, [], ◌∷◌, ◌++◌, drop, length, map, slice_get, refl, ap, ◌∙◌, sym, subst, arith, Bool, true, false, ◌&&◌, cond, nat_eq, Option, Some, None, unwrap_or}
-use Rattle.std.specs.Prelude.{filter, is_some, option_map}
+use Rattle.std.proofs.Common.{ℕ, ◌≡◌, ◌≢◌, ◌<◌, ◌≤◌, ◌+◌, ◌⊎◌, inl, inr, suc, zero, List, [], ◌∷◌, ◌++◌, drop, length, map, slice_get, refl, ap, ◌∙◌, sym, subst, arith, Bool, true, false, not, ◌&&◌, cond, nat_eq, Option, Some, None, unwrap_or}
+use Rattle.std.specs.Prelude.{filter, is_some, option_map, if◌then◌else◌}
 use Rattle.std.specs.List.{find}
 use Rattle.std.specs.Option.{option_map_or}
 use Rattle.std.proofs.lemmas.Bool.Decides.{eqb_tells, Decides-eqb}
 use Rattle.std.proofs.Math.Numerals.{suc-eq-add-one}
 use Rattle.std.proofs.lemmas.List.{drop_all}
+use Rattle.dr_ids.specs.declared.refusal.Refusal.{Refusal}
 use Rattle.dr_plant.specs.State.{PlantState, started, started_read}
 use Rattle.dr_plant.proofs.StateLemmas.{at_same, at_other}
 use Rattle.dr_config.specs.Table.{Table, StandsFor, place_of, entry_of}
@@ -14,30 +15,32 @@ use Rattle.dr_config.proofs.Lists.{position-within}
 use Rattle.dr_config.proofs.Lookups.{entry-at-place}
 use Rattle.dr_model.specs.declared.event.Event.{Event}
 use Rattle.dr_model.specs.declared.event.Event.TheVariants.{Ack, Stopped, Started}
-use Rattle.dr_model.specs.declared.said.Said.{Said}
-use Rattle.dr_model.specs.declared.said.Said.TheVariants.{Done, StoppedIn}
+use Rattle.dr_model.specs.declared.said.Addition.{Addition}
+use Rattle.dr_model.specs.declared.said.Addition.TheVariants.{Alone}
+use Rattle.dr_model.specs.declared.said.Said.TheVariants.{Done, Refused}
+use Rattle.dr_model.specs.Refusals.{stopped}
 use Rattle.dr_model.specs.Control.{Control, World}
 use Rattle.dr_model.specs.Control as control
 use Rattle.dr_model.specs.Moves.{is_other}
-use Rattle.dr_model.specs.Carry.{Turn, Ended, Deferred, Redo, Acknowledge, act, act_of, carry, continue, redo, redo_ended, acknowledged}
-use Rattle.dr_model.specs.Plans.{Plan, only_says, belongs, redo_on, has_landed, landed_on, acknowledge_on, says_acked, fuse_at_start, start_on}
-use Rattle.dr_model.specs.Runs.{after_plan, said, answered}
-use Rattle.dr_model.specs.Tables.{at}
-use Rattle.dr_model.specs.Answers.{answer}
-use Rattle.dr_model.proofs.PlanCases.{start_done}
-use Rattle.dr_model.proofs.PlanLemmas.{carry-none, carry-first, carry-append, after_plan-acts, after_plan-says}
+use Rattle.dr_model.specs.Carry.{Ended, Entry, Outcome, Do, Pass, Redo, Acknowledge, act, carry, redo, acknowledged}
+use Rattle.dr_model.specs.ReadStops.{Ends}
+use Rattle.dr_model.specs.Plans.{Plan, only_says, belongs, redo_on, has_landed, landed_on, acknowledge_if, acknowledge_on, says_acked, start_plan, start_on}
+use Rattle.dr_model.specs.Runs.{begun, after_plan, said}
+use Rattle.dr_model.proofs.CarryLemmas.{act-redo, act-acknowledge, carry-none, carry-skips, carry-goes, carry-append, onward, plan-ends, plan-says, plan-fails}
+use Rattle.dr_laws.proofs.ReadStops.{ends-skips, ends-goes, ends-stops, ends-off, ends-none}
 use Rattle.dr_volume.specs.View.{volume_seen, volume_at, ids_of, device_of, IsSettled, TracksSettled, ReadsPass}
-use Rattle.dr_volume.specs.Update.{IsAsBefore}
-use Rattle.dr_top.specs.Here.{here, waiting_seen, IsReady}
+use Rattle.dr_volume.specs.Update.{IsAsBefore, EndsAs, after_reading}
+use Rattle.dr_volume.proofs.WorldLaws.{on-seen}
+use Rattle.dr_top.specs.Here.{here, waiting_seen, armed_in, IsAtRest}
+use Rattle.dr_top.specs.Landing.{Shuts}
 use Rattle.dr_top.specs.Located.{has_owner}
 use Rattle.dr_top.specs.Starting.{IsLater, IsStarting, redo_from}
 use Rattle.dr_top.specs.declared.host.Host.{Host}
 use Rattle.dr_top.specs.declared.host.Pending.{Pending}
+use Rattle.dr_top.proofs.LandLemmas.{lands-updated}
 use Rattle.dr_top.proofs.LocatedLemmas.{is_volume-here, seen-entry}
-use Rattle.dr_volume.proofs.WorldLaws.{on-seen}
-use Rattle.dr_top.proofs.StepLemmas.{said-here}
 use Rattle.dr_top.proofs.StopLemmas.{started-here}
-use Rattle.dr_top.proofs.TurnLemmas.{pending-none, on-running}
+use Rattle.dr_top.proofs.TurnLemmas.{pending-none, on-running, failed-not}
 
 some_or_none : {A : Type 0} (o : Option A) → ((x : A) × (o ≡ Some x)) ⊎ (o ≡ None)
 some_or_none None = inr refl
@@ -81,12 +84,8 @@ drop-at (e ∷ es) (suc i) v h = drop-at es i v h
 next-at : (es : List VolumeEntry) (i v : ℕ) → Some v ≡ option_map (λ (e : VolumeEntry). e.id) (slice_get es i) → ids_of (drop i es) ≡ v ∷ ids_of (drop (i + 1) es)
 next-at es i v h = drop-at es i v h ∙ ap (λ n. v ∷ ids_of (drop n es)) (suc-eq-add-one i)
 
-act-redo : (w : World) (v : ℕ) → act w (Redo v) ≡ redo_ended w v (redo w v)
-unfolding act
-act-redo w v = refl
-
 -- a volume's staged track is written to its place, or the server stops in that write
-module _ (s u : PlantState) (t : Table) (h : Host) (ev : List Event) (v server : ℕ) where
+module _ (s : PlantState) (t : Table) (h : Host) (ev : List Event) (v server place : ℕ) (at : Some v ≡ option_map (λ (x : VolumeEntry). x.id) (slice_get t.volumes place)) where
   abbrev w : World
   w = here s t h ev
 
@@ -96,43 +95,64 @@ module _ (s u : PlantState) (t : Table) (h : Host) (ev : List Event) (v server :
   abbrev o : ℕ
   o = (volume_seen s t v).server
 
-  redo-goes : here u t h ev ≡ e.world → false ≡ e.stopped → act w (Redo v) ≡ (here u t h ev, None)
-  redo-goes left goes =
+  abbrev rest : List Entry
+  rest = redo_from t server (place + 1)
+
+  next_is : redo_from t server place ≡ redo_on server v ∷ rest
+  next_is = ap (map (redo_on server)) (next-at t.volumes place v at)
+
+  -- what is looked at first is the volume at the place
+  entry_is : (b : Bool) → has_owner t v server ≡ b → redo_on server v w.control ≡ (if b then Do (Redo v) else Pass)
+  entry_is b owned = ap (λ b. if b then Do (Redo v) else Pass) (belongs-here s t h ev v server ∙ owned)
+
+  pub redone-skip : (armed : ℕ → Bool) (u : World) (r : Option Refusal) → has_owner t v server ≡ false → Ends armed u r w rest → Ends armed u r w (redo_from t server place)
+  redone-skip armed u r other more = subst (Ends armed u r w) (sym next_is) (ends-skips armed u r w (redo_on server v) rest (entry_is false other) more)
+
+  redo_by : (stopped : Bool) → w.control.on o ≡ true → stopped ≡ e.stopped → act w (Redo v) ≡ (if stopped then (record e.world { events = ev ++ Stopped o 0 ∷ [] }, Some o) else (e.world, None))
+  redo_by stopped on is =
       act-redo w v
-      ∙ ap (λ b. cond b (cond (w.control.on o) (record e.world { events = ev ++ Stopped o 0 ∷ [] }) w, Some o) (e.world, None)) (sym goes)
-      ∙ ap (λ (x : World). (x, None)) (sym left)
+      ∙ ap (λ b. cond (not b) (w, None) (cond e.stopped (record e.world { events = ev ++ Stopped o 0 ∷ [] }, Some o) (e.world, None))) on
+      ∙ ap (λ b. cond b (record e.world { events = ev ++ Stopped o 0 ∷ [] }, Some o) (e.world, None)) (sym is)
 
-  redo-stops : (mid : List Event) → here u t h ev ≡ e.world → true ≡ e.stopped → s.on server ≡ true → o ≡ server → mid ≡ ev ++ Stopped server 0 ∷ [] → act w (Redo v) ≡ (here u t h mid, Some server)
-  redo-stops mid left stops on own told =
-      act-redo w v
-      ∙ ap (λ b. cond b (cond (w.control.on o) (record e.world { events = ev ++ Stopped o 0 ∷ [] }) w, Some o) (e.world, None)) (sym stops)
-      ∙ ap (λ b. (cond b (record e.world { events = ev ++ Stopped o 0 ∷ [] }) w, Some o)) (ap w.control.on own ∙ on-running s server on)
-      ∙ ap (λ x. (record e.world { events = ev ++ Stopped x 0 ∷ [] }, Some x)) own
-      ∙ ap (λ (x : World). (record x { events = ev ++ Stopped server 0 ∷ [] }, Some server)) (sym left)
-      ∙ ap (λ x. (here u t h x, Some server)) (sym told)
+  -- from the plant after the call
+  module _ (s' : PlantState) (low : server < 8) (on : s.on server ≡ true) (owned : has_owner t v server ≡ true) where
+    own : o ≡ server
+    own = own-server s t v server owned
 
-  -- what is left to do once the volume at a place was looked at
-  abbrev rest : ℕ → World → Turn
-  rest place x = carry x (redo_from t server (place + 1))
+    on_own : w.control.on o ≡ true
+    on_own = ap w.control.on own ∙ on-running s server on
 
-  looked-at : (place : ℕ) (b : Bool) (turn : Turn) → Some v ≡ option_map (λ (x : VolumeEntry). x.id) (slice_get t.volumes place) → has_owner t v server ≡ b
-      → act_of w (cond b (Some (Redo v)) None) ≡ turn → carry w (redo_from t server place) ≡ continue turn.0 turn.1 (rest place)
-  looked-at place b turn at owned is =
-      ap (λ vs. carry w (map (redo_on server) vs)) (next-at t.volumes place v at)
-      ∙ carry-first w (redo_on server v) (redo_from t server (place + 1)) turn (ap (λ b. act_of w (cond b (Some (Redo v)) None)) (belongs-here s t h ev v server ∙ owned) ∙ is)
+    redone-ends : (stopped : Bool) → EndsAs (here s' t h ev) stopped (after_reading s o w e) → EndsAs (here s' t h ev) stopped e ⊎ Shuts (armed_in s) server w (here s' t h ev) stopped
+    redone-ends stopped ends = elim (lands-updated s o w (here s' t h ev) stopped e (subst (λ x. x < 8) (sym own) low) ends) [
+      | inl x ↦ inl x
+      | inr x ↦ inr (subst (λ q. Shuts (armed_in s) q w (here s' t h ev) stopped) own x)
+    ]
 
-  pub redone-skip : (place : ℕ) → Some v ≡ option_map (λ (x : VolumeEntry). x.id) (slice_get t.volumes place) → has_owner t v server ≡ false
-      → carry w (redo_from t server place) ≡ carry w (redo_from t server (place + 1))
-  redone-skip place at other = looked-at place false (w, None) at other refl
+    pub redone-goes : (armed : ℕ → Bool) (u : World) (r : Option Refusal) → EndsAs (here s' t h ev) false (after_reading s o w e) → Ends armed u r (here s' t h ev) rest → Ends armed u r w (redo_from t server place)
+    redone-goes armed u r ends more = elim (redone-ends false ends) [
+      | inl x ↦
+          subst (Ends armed u r w) (sym next_is)
+          (ends-goes armed u r w (here s' t h ev) (redo_on server v) rest (Redo v) (entry_is true owned) (redo_by false on_own x.stopped ∙ ap (λ (y : World). (y, None)) (sym x.world)) more)
+      | inr x ↦ absurd (failed-not x.answer)
+    ]
 
-  pub redone-goes : (place : ℕ) → Some v ≡ option_map (λ (x : VolumeEntry). x.id) (slice_get t.volumes place) → has_owner t v server ≡ true
-      → here u t h ev ≡ e.world → false ≡ e.stopped → carry w (redo_from t server place) ≡ carry (here u t h ev) (redo_from t server (place + 1))
-  redone-goes place at own left goes = looked-at place true (here u t h ev, None) at own (redo-goes left goes)
-
-  pub redone-stops : (place : ℕ) (mid : List Event) → Some v ≡ option_map (λ (x : VolumeEntry). x.id) (slice_get t.volumes place) → has_owner t v server ≡ true
-      → here u t h ev ≡ e.world → true ≡ e.stopped → s.on server ≡ true → mid ≡ ev ++ Stopped server 0 ∷ [] → carry w (redo_from t server place) ≡ (here u t h mid, Some server)
-  redone-stops place mid at own left stops on told =
-      looked-at place true (here u t h mid, Some server) at own (redo-stops mid left stops on (own-server s t v server own) told)
+    pub redone-stops : (mid : List Event) → EndsAs (here s' t h ev) true (after_reading s o w e) → mid ≡ ev ++ Stopped server 0 ∷ [] → Ends (armed_in s) (here s' t h mid) (Some (stopped server)) w (redo_from t server place)
+    redone-stops mid ends told = elim (redone-ends true ends) [
+      | inl x ↦
+          subst (Ends (armed_in s) (here s' t h mid) (Some (stopped server)) w) (sym next_is)
+          (ends-stops (armed_in s) (here s' t h mid) (Some (stopped server)) w (redo_on server v) rest (Redo v) server (entry_is true owned)
+          (redo_by true on_own x.stopped
+          ∙ ap (λ (y : World). (record y { events = ev ++ Stopped o 0 ∷ [] }, Some o)) (sym x.world)
+          ∙ ap (λ q. (record (here s' t h ev) { events = ev ++ Stopped q 0 ∷ [] }, Some q)) own
+          ∙ ap (λ es. (here s' t h es, Some server)) (sym told)) refl)
+      | inr x ↦ ends-off (armed_in s) (here s' t h mid) (Some (stopped server)) w (redo_from t server place) (record {
+          server = server;
+          on = on-running s server on;
+          is_armed = x.is_armed;
+          world = ap (here s' t h) told ∙ ap (λ (y : World). record y { events = ev ++ Stopped server 0 ∷ [] }) x.world;
+          refusal = refl;
+        })
+    ]
 
 -- what is settled on the way
 settled-alike : (s : PlantState) (t : Table) (u v : ℕ) → place_of t u ≡ place_of t v → IsSettled s t v → IsSettled s t u
@@ -150,7 +170,6 @@ module _ (s : PlantState) (t : Table) (v server place : ℕ) (starting : IsStart
   pub starting-skip : has_owner t v server ≡ false → IsStarting s t server (place + 1)
   starting-skip other = record {
     stands = starting.stands;
-    reads = starting.reads;
     on = starting.on;
     settled = λ u. elim (starting.settled u) [
       | inl done ↦ inl done
@@ -160,7 +179,7 @@ module _ (s : PlantState) (t : Table) (v server place : ℕ) (starting : IsStart
   }
 
   -- where the volume's track stands at its place now
-  module _ (s' : PlantState) (same : (u : ℕ) → IsAsBefore s s' t u) (stands : StandsFor t s') (reads : ReadsPass s') (kept : (u : ℕ) → IsSettled s t u → IsSettled s' t u) where
+  module _ (s' : PlantState) (same : (u : ℕ) → IsAsBefore s s' t u) (stands : StandsFor t s') (kept : (u : ℕ) → IsSettled s t u → IsSettled s' t u) where
     still-later : (u n : ℕ) → IsLater s t server n u → IsLater s' t server n u
     still-later u n l = record { own = ap (λ x. x.server) (same u).volume ∙ l.own; at = l.at; stands = l.stands; later = l.later }
 
@@ -178,7 +197,6 @@ module _ (s : PlantState) (t : Table) (v server place : ℕ) (starting : IsStart
     pub starting-goes : s'.on ≡ s.on → TracksSettled (s'.block (device_of t v)) (volume_seen s' t v).staged → IsStarting s' t server (place + 1)
     starting-goes on done = record {
       stands = stands;
-      reads = reads;
       on = ap (λ f. f server) on ∙ starting.on;
       settled = λ u. settled-next u (λ _. done) (starting.settled u);
       sizes = sizes-still;
@@ -188,14 +206,13 @@ module _ (s : PlantState) (t : Table) (v server place : ℕ) (starting : IsStart
     settled-off u off (inl h) = kept u h
     settled-off u off (inr l) = λ on. let e : true ≡ false = sym on ∙ ap s'.on (still-later u place l).own ∙ off in absurd cc
 
-    pub ready-stopped : s'.on server ≡ false → IsReady s' t
-    ready-stopped off = record { stands = stands; reads = reads; settled = λ u. settled-off u off (starting.settled u); sizes = sizes-still }
+    pub rest-stopped : s'.on server ≡ false → IsAtRest s' t
+    rest-stopped off = record { stands = stands; settled = λ u. settled-off u off (starting.settled u); sizes = sizes-still }
 
 -- no volume is left
-pub ready-started : (s : PlantState) (t : Table) (server place : ℕ) → IsStarting s t server place → length t.volumes ≤ place → IsReady s t
-ready-started s t server place starting all = record {
+pub rest-started : (s : PlantState) (t : Table) (server place : ℕ) → IsStarting s t server place → length t.volumes ≤ place → IsAtRest s t
+rest-started s t server place starting all = record {
   stands = starting.stands;
-  reads = starting.reads;
   settled = λ u. elim (starting.settled u) [
     | inl h ↦ h
     | inr l ↦ let within = position-within (λ (e : VolumeEntry). nat_eq e.id u) t.volumes l.at l.stands in let le = l.later in absurd (omega (arith, within, le, all))
@@ -203,8 +220,8 @@ ready-started s t server place starting all = record {
   sizes = starting.sizes;
 }
 
-pub redone-all : (w : World) (t : Table) (server place : ℕ) → length t.volumes ≤ place → carry w (redo_from t server place) ≡ (w, None)
-redone-all w t server place all = ap (λ es. carry w (map (redo_on server) (ids_of es))) (drop_all place t.volumes all) ∙ carry-none w
+pub redone-all : (armed : ℕ → Bool) (w : World) (t : Table) (server place : ℕ) → length t.volumes ≤ place → Ends armed w None w (redo_from t server place)
+redone-all armed w t server place all = subst (Ends armed w None w) (sym (ap (λ es. map (redo_on server) (ids_of es)) (drop_all place t.volumes all))) (ends-none armed w None w (record { world = refl; refusal = refl }))
 
 -- where a server is turned on, its own volumes aren't settled yet
 started-other : (s : PlantState) (server q : ℕ) → q ≢ server → (started s server).on q ≡ true → s.on q ≡ true
@@ -217,7 +234,7 @@ undefined-settled s t v none = subst (λ o. s.on (volume_at s t o).server ≡ tr
 none_started : (f : Option ℕ) → f ≡ None → started_read f ≡ None
 none_started f none = ap started_read none
 
-started-reads : (s : PlantState) (server : ℕ) → ReadsPass s → ReadsPass (started s server)
+pub started-reads : (s : PlantState) (server : ℕ) → ReadsPass s → ReadsPass (started s server)
 unfolding started
 started-reads s server reads q low =
     elim (eqb_tells q server) [
@@ -225,11 +242,10 @@ started-reads s server reads q low =
       | inr p ↦ at_other s.read_fuse server (started_read (s.read_fuse server)) q p.1 ∙ reads q low
     ]
 
-pub starting-first : (s : PlantState) (t : Table) (server : ℕ) → IsReady s t → IsStarting (started s server) t server 0
+pub starting-first : (s : PlantState) (t : Table) (server : ℕ) → IsAtRest s t → IsStarting (started s server) t server 0
 unfolding started
 starting-first s t server ready = record {
   stands = record { count = ready.stands.count; device = ready.stands.device };
-  reads = started-reads s server ready.reads;
   on = at_same s.on server true;
   settled = λ v. elim (some_or_none (place_of t v)) [
     | inr none ↦ inl (undefined-settled (started s server) t v none)
@@ -276,16 +292,8 @@ module _ (s : PlantState) (t : Table) (h : Host) (ev : List Event) (server : ℕ
   pub landed-one : (p : Pending) → h.pending ≡ Some p → (p.landed && has_owner t p.volume server) ≡ true → landed_on w'.control server ≡ Some p.w
   landed-one p is own = landed-pending p true is own
 
-  acknowledges : (o : Option ℕ) (turn : Turn) → landed_on w'.control server ≡ o → act_of w' (option_map (λ n. Acknowledge n) o) ≡ turn
-      → carry w' (acknowledge_on server ∷ []) ≡ continue turn.0 turn.1 (λ u. carry u [])
-  acknowledges o turn is acts = carry-first w' (acknowledge_on server) [] turn (ap (λ o. act_of w' (option_map (λ n. Acknowledge n) o)) is ∙ acts)
-
   pub acked-none : landed_on w'.control server ≡ None → carry w' (acknowledge_on server ∷ []) ≡ (w', None)
-  acked-none none = acknowledges None (w', None) none refl ∙ carry-none w'
-
-  act-acknowledge : (n : ℕ) → act w' (Acknowledge n) ≡ (acknowledged w' n, None)
-  unfolding act
-  act-acknowledge n = refl
+  acked-none none = carry-skips w' (acknowledge_on server) [] (ap acknowledge_if none) ∙ carry-none w'
 
   waits-no_more : (o : Option Pending) (n : ℕ) → option_map (λ (x : control.Pending). x.w) (find (has_landed w'.control server) (waiting_seen o)) ≡ Some n → filter (is_other n) (waiting_seen o) ≡ []
   waits-no_more None n h = refl
@@ -298,7 +306,7 @@ module _ (s : PlantState) (t : Table) (h : Host) (ev : List Event) (server : ℕ
   pub acked-one : (n : ℕ) (h' : Host) (now : List Event) → landed_on w'.control server ≡ Some n → h' ≡ record h { pending = None } → now ≡ ev ++ Ack n ∷ []
       → carry w' (acknowledge_on server ∷ []) ≡ (here s t h' now, None)
   acked-one n h' now one gone told =
-      acknowledges (Some n) (acknowledged w' n, None) one (act-acknowledge n) ∙ carry-none (acknowledged w' n)
+      carry-goes w' (acknowledged w' n) (acknowledge_on server) [] (Acknowledge n) (ap acknowledge_if one) (act-acknowledge w' n) ∙ carry-none (acknowledged w' n)
       ∙ (λ i. (record w' { control = record w'.control { pending = waits-no_more h.pending n one i }; events = sym told i }, None))
       ∙ ap (λ (x : Host). (here s t x now, None)) (sym gone)
 
@@ -307,41 +315,35 @@ module _ (s : PlantState) (t : Table) (h : Host) (ev : List Event) (line server 
   abbrev w0 : World
   w0 = here s t h ev
 
-  abbrev on_again : Control → Control
-  on_again k = record k { on = at k.on server true; fuse = at k.fuse server (fuse_at_start (k.fuse server)) }
+  abbrev starts : Plan
+  starts = start_plan w0.control server
 
-  abbrev redoes : List Deferred
+  abbrev redoes : List Entry
   redoes = map (redo_on server) (ids_of t.volumes)
 
-  abbrev last : List Deferred
+  abbrev last : List Entry
   last = acknowledge_on server ∷ []
 
-  abbrev says : Said
-  says = says_acked (landed_on w0.control server)
+  starts_on : after_plan w0 line (start_on w0.control (Some server)) ≡ after_plan w0 line starts
+  starts_on = ap (λ b. after_plan w0 line (cond b (only_says (Done Alone)) starts)) (on-seen s server low ∙ off)
 
-  abbrev starts : Plan
-  starts = start_done w0.control server
+  carried : (o o' : Outcome) → carry (here (started s server) t h mid) redoes ≡ o → onward o (λ u. carry u last) ≡ o' → carry (begun w0 starts) starts.entries ≡ o'
+  carried o o' is ends =
+      ap (λ x. carry x (redoes ++ last)) (started-here s t h ev line server mid low told)
+      ∙ carry-append (here (started s server) t h mid) redoes last ∙ ap (λ o. onward o (λ u. carry u last)) is ∙ ends
 
-  turned : (turn : Turn) → continue (carry (here (started s server) t h mid) redoes).0 (carry (here (started s server) t h mid) redoes).1 (λ u. carry u last) ≡ turn
-      → after_plan w0 line (start_on w0.control (Some server)) ≡ said turn.0 line (answered starts turn.1)
-  turned turn is =
-      ap (λ b. after_plan w0 line (cond b (only_says Done) starts)) (on-seen s server low ∙ off)
-      ∙ after_plan-acts w0 line on_again (Started server ∷ []) (redoes ++ last) says turn
-      (ap (λ x. carry x (redoes ++ last)) (started-here s t h ev line server mid low told) ∙ carry-append (here (started s server) t h mid) redoes last ∙ is)
+  pub turned-fails : (u : PlantState) (now : List Event) (r : Refusal) → carry (here (started s server) t h mid) (redo_from t server 0) ≡ (here u t h now, Some r)
+      → after_plan w0 line (start_on w0.control (Some server)) ≡ said (here u t h now) line (Refused r)
+  turned-fails u now r is = starts_on ∙ plan-fails w0 (here u t h now) line starts r (λ s. refl) (carried _ _ is refl)
 
-  pub turned-stops : (u : PlantState) (now : List Event) → carry (here (started s server) t h mid) (redo_from t server 0) ≡ (here u t h now, Some server)
-      → after_plan w0 line (start_on w0.control (Some server)) ≡ said (here u t h now) line (StoppedIn server)
-  turned-stops u now is = turned (here u t h now, Some server) (ap (λ (t : Turn). continue t.0 t.1 (λ u. carry u last)) is)
-
-  pub turned-goes : (u : PlantState) (h' : Host) (mid' now : List Event) (a : Said) → carry (here (started s server) t h mid) (redo_from t server 0) ≡ (here u t h mid', None)
-      → carry (here u t h mid') (acknowledge_on server ∷ []) ≡ (here u t h' now, None) → a ≡ says_acked (landed_on w0.control server)
-      → after_plan w0 line (start_on w0.control (Some server)) ≡ said (here u t h' now) line a
+  pub turned-goes : (u : PlantState) (h' : Host) (mid' now : List Event) (a : Addition) → carry (here (started s server) t h mid) (redo_from t server 0) ≡ (here u t h mid', None)
+      → carry (here u t h mid') (acknowledge_on server ∷ []) ≡ (here u t h' now, None) → Done a ≡ says_acked (landed_on w0.control server)
+      → after_plan w0 line (start_on w0.control (Some server)) ≡ said (here u t h' now) line (Done a)
   turned-goes u h' mid' now a is acked answers =
-      turned (here u t h' now, None) (ap (λ (t : Turn). continue t.0 t.1 (λ u. carry u last)) is ∙ acked) ∙ ap (said (here u t h' now) line) (sym answers)
+      starts_on ∙ plan-ends w0 line starts (here u t h' now, None) (carried _ _ is acked) ∙ ap (said (here u t h' now) line) (sym answers)
 
-pub started-already : (s : PlantState) (t : Table) (h : Host) (ev : List Event) (line server : ℕ) (now : List Event) → server < 8 → s.on server ≡ true → now ≡ ev ++ answer line Done ∷ []
-    → after_plan (here s t h ev) line (start_on (here s t h ev).control (Some server)) ≡ here s t h now
-started-already s t h ev line server now low on told =
+pub started-already : (s : PlantState) (t : Table) (h : Host) (ev : List Event) (line server : ℕ) → server < 8 → s.on server ≡ true
+    → after_plan (here s t h ev) line (start_on (here s t h ev).control (Some server)) ≡ said (here s t h ev) line (Done Alone)
+started-already s t h ev line server low on =
     let k : Control = (here s t h ev).control in
-    ap (λ b. after_plan (here s t h ev) line (cond b (only_says Done) (start_done k server))) (on-seen s server low ∙ on)
-    ∙ after_plan-says (here s t h ev) line Done ∙ said-here s t h ev now line Done told
+    ap (λ b. after_plan (here s t h ev) line (cond b (only_says (Done Alone)) (start_plan k server))) (on-seen s server low ∙ on) ∙ plan-says (here s t h ev) line (Done Alone)

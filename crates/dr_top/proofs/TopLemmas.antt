@@ -8,37 +8,39 @@ use Rattle.std.proofs.lemmas.List.{length-map}
 use Rattle.std.proofs.lemmas.Option.{get_or_from_slice_get, slice_get-map}
 use Rattle.dr_io.specs.Faults.{Rose}
 use Rattle.dr_plant.specs.State.{PlantState, IsFresh}
-use Rattle.dr_config.specs.Table.{Table, IsSound, StandsFor, place_of}
+use Rattle.dr_config.specs.Table.{Table, IsSound, StandsFor, place_of, entry_of}
 use Rattle.dr_config.specs.declared.entries.VolumeEntry.{VolumeEntry}
 use Rattle.dr_config.proofs.Devices.{stands-empty}
-use Rattle.dr_config.proofs.Lookups.{entry-listed}
+use Rattle.dr_config.proofs.Lookups.{entry-listed, place-of-entry}
 use Rattle.dr_model.specs.declared.event.Event.{Event}
-use Rattle.dr_model.specs.Control.{World, Volume, nothing}
-use Rattle.dr_model.specs.Fits.{Fits, SaysVolume}
+use Rattle.dr_model.specs.Control.{World, Volume, nothing, is_volume}
+use Rattle.dr_model.specs.Fits.{Fits, SaysVolume, device_of}
 use Rattle.dr_model.specs.Layout.{physical}
 use Rattle.dr_model.specs.Contents.{zeros}
 use Rattle.dr_model.specs.Limits.{most_lines}
 use Rattle.dr_model.specs.Lines.{tasks, tasks_from}
 use Rattle.dr_model.specs.Runs.{run}
 use Rattle.dr_model.specs.Text.{text}
-use Rattle.dr_model.proofs.Sound.{Sound}
-use Rattle.dr_model.proofs.Tasks.{sound-run}
-use Rattle.dr_model.proofs.Agree.{fits-sound}
-use Rattle.dr_volume.specs.View.{fuse_seen, ids_of}
+use Rattle.dr_model.specs.Laws.{Sound}
+use Rattle.dr_laws.proofs.Steps.{sound-run}
+use Rattle.dr_laws.proofs.Agree.{fits-sound}
+use Rattle.dr_volume.specs.View.{fuse_seen, ids_of, volume_seen}
 use Rattle.dr_volume.proofs.VolumeLaws.{volume-placed, track-placed}
 use Rattle.dr_top.specs.Here.{here, IsReady}
 use Rattle.dr_top.specs.Followed.{Followed}
 use Rattle.dr_top.specs.Given.{Gave, GavePart}
 use Rattle.dr_top.specs.Input.{EndsSo}
-use Rattle.dr_top.specs.Outcome.{HasDevices, has_refusal, is_refusal, refusal_at, run_status, is_whole, IsRun, Front, Ends, halt_status}
+use Rattle.dr_top.specs.Outcome.{HasDevices, has_refusal, is_refusal, IsRun, Front, Ends}
+use Rattle.dr_top.specs.Statuses.{refusal_at, run_status, is_whole, halt_status}
 use Rattle.dr_top.specs.declared.run.Halt.{Halt}
 use Rattle.dr_top.specs.declared.run.Halt.TheVariants.{WriteFault as OnSink, NoMemory as OnMemory}
 use Rattle.dr_top.specs.declared.status.Status.{Status}
 use Rattle.dr_top.specs.declared.host.Host.{Host}
 use Rattle.dr_top.specs.declared.input.End.{End}
 use Rattle.dr_top.specs.declared.input.End.TheVariants.{Whole, Failed, TooLong}
+use Rattle.dr_top.proofs.LocatedLemmas.{is_volume-here, device-here, some_entry}
 use Rattle.dr_top.proofs.StepLemmas.{on-known}
-use Rattle.dr_top.proofs.TextLemmas.{some_event}
+use Rattle.dr_list.proofs.TextLemmas.{some_event}
 
 -- one answer more was looked at
 pub refusal-more : (es : List Event) (i : ℕ) → i < length es → has_refusal (drop i es) ≡ (refusal_at es i || has_refusal (drop (i + 1) es))
@@ -72,10 +74,8 @@ module _ (s : PlantState) (fresh : IsFresh s) where
 
   pub ready-fresh : IsReady s empty_table
   ready-fresh = record {
-    stands = stands-empty [] s fresh.no_devices;
+    rest = record { stands = stands-empty [] s fresh.no_devices; settled = λ v on. tt; sizes = λ v. omega arith };
     reads = fresh.no_read_fuse;
-    settled = λ v on. tt;
-    sizes = λ v. omega arith;
   }
 
 -- the plant fits the machine's state that it shows
@@ -89,17 +89,25 @@ module _ (s : PlantState) (t : Table) (h : Host) (ev : List Event) (sound : IsSo
       let m = mapped (slice_get t.volumes d) v (sym (slice_get-map (λ (e : VolumeEntry). e.id) t.volumes d) ∙ at) in
       (m.0, m.1, ap (place_of t) (sym m.2) ∙ (entry-listed t d m.0 sound m.1).0)
 
+  -- a volume that is defined lies on its device
+  lies : (v : ℕ) → is_volume (here s t h ev).control v ≡ true → (d : ℕ) × (e : VolumeEntry) × (place_of t v ≡ Some d) × (slice_get t.volumes d ≡ Some e) × (device_of (here s t h ev).control v ≡ d)
+  lies v there =
+      let at = place-of-entry t v _ (some_entry (entry_of t v) (sym (is_volume-here s t h ev v) ∙ there)).1 in
+      (at.0, _, at.1, at.2, device-here s t h ev v at.0 at.1)
+
   pub fits-here : Sound (here s t h ev) → Fits (here s t h ev) s.on (λ server. fuse_seen (s.write_fuse server)) s.block
   fits-here is = fits-sound (here s t h ev) s.on (λ server. fuse_seen (s.write_fuse server)) s.block is
       (λ k lt. sym (on-known s k lt))
       (λ k lt. ap (λ b. cond b (fuse_seen (s.write_fuse k)) None) (let e : true ≡ nat_lt k 8 = grind (arith, nat_tests) in e))
-      (λ d v at. let l = listed d v at in
-      subst (λ x. SaysVolume (s.block d) x) (sym (volume-placed s t v d l.0 l.2 l.1)) (record { slot = refl; fields = refl; staged = refl }))
-      (λ d v k at lt. let l = listed d v at in
-      let seen = volume-placed s t v d l.0 l.2 l.1 in
-      let low : k < l.0.tracks = subst (λ (x : Volume). k < x.tracks) seen lt in
-      ap (λ (x : Volume). physical x.tracks (s.block d) k) seen
-      ∙ sym (track-placed s t v d k l.0 l.2 l.1 ∙ ap (λ b. cond b (physical l.0.tracks (s.block d) k) zeros) (let e : nat_lt k l.0.tracks ≡ true = grind (arith, nat_tests, low) in e)))
+      (λ v there. let l = lies v there in
+      subst (λ d. SaysVolume (s.block d) (volume_seen s t v)) (sym l.4)
+      (subst (λ x. SaysVolume (s.block l.0) x) (sym (volume-placed s t v l.0 l.1 l.2 l.3)) (record { slot = refl; fields = refl; staged = refl })))
+      (λ v k there lt. let l = lies v there in
+      let seen = volume-placed s t v l.0 l.1 l.2 l.3 in
+      let low : k < l.1.tracks = subst (λ (x : Volume). k < x.tracks) seen lt in
+      ap (λ d. physical (volume_seen s t v).tracks (s.block d) k) l.4
+      ∙ ap (λ (x : Volume). physical x.tracks (s.block l.0) k) seen
+      ∙ sym (track-placed s t v l.0 k l.1 l.2 l.3 ∙ ap (λ b. cond b (physical l.1.tracks (s.block l.0) k) zeros) (let e : nat_lt k l.1.tracks ≡ true = grind (arith, nat_tests, low) in e)))
 
 module _ (s : PlantState) (t : Table) (h : Host) (ev : List Event) (sound : IsSound t) (stands : StandsFor t s) where
   pub devices-here : HasDevices (here s t h ev) s

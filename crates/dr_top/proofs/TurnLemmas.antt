@@ -1,7 +1,7 @@
 -- One landing, from what the update of its volume left.
 use Rattle.std.proofs.Common.{ℕ, ◌≡◌, List, [], ◌∷◌, ◌++◌, refl, ap, ◌∙◌, sym, arith, Bool, true, false, not, cond, nat_eq, nat_lt, Some, None}
 use Rattle.std.proofs.lemmas.Bool.Decides.{nat_tests}
-use Rattle.std.specs.Prelude.{filter}
+use Rattle.std.specs.Prelude.{filter, if◌then◌else◌}
 use mathlib.Core.Bool.{beq}
 use Rattle.dr_plant.specs.State.{PlantState}
 use Rattle.dr_volume.specs.View.{on_seen}
@@ -9,38 +9,47 @@ use Rattle.dr_model.specs.declared.event.Event.TheVariants.{Stopped}
 use Rattle.dr_model.specs.Histories.{histories, Write}
 use Rattle.dr_model.specs.Contents.{laid}
 use Rattle.dr_model.specs.Layout.{Fields}
-use Rattle.dr_model.specs.Control.{World, Pending}
-use Rattle.dr_model.specs.Moves.{Land, Carried, is_other, marked, moved, updated}
+use Rattle.dr_model.specs.Control.{World, Pending, Volume}
+use Rattle.dr_model.specs.Moves.{Move, Land, Carried, is_other, marked, moved, updated}
 use Rattle.dr_model.specs.Carry.{turn, update, finished, cut_short, ended, Ended, turn_ended, pass, writes, counts_by, spent, off}
-use Rattle.dr_top.specs.Here.{UpdateEnds, landing_fields}
+use Rattle.dr_volume.specs.Update.{EndsAs}
+use Rattle.dr_top.specs.Landing.{filled}
 use Rattle.dr_model.proofs.Images.{at_same}
 
 abbrev pub Landing : World → ℕ → ℕ → ℕ → List ℕ → Ended
-Landing w v t o bytes = update w v (landing_fields (w.control.volume v).fields t) (Some (t, laid o bytes (w.contents v t)))
+Landing w v t o bytes = update w v (filled (w.control.volume v).fields t) (Some (t, laid o bytes (w.contents v t)))
 
--- a turn is its update, told to the journal
-turn_is : (w : World) (n v t o : ℕ) (bytes : List ℕ) → (histories w.events).write n ≡ record { volume = v; track = t; offset = o; bytes = bytes } → turn w (Land n v t) ≡ turn_ended w (Land n v t) (Landing w v t o bytes)
-unfolding turn
-turn_is w n v t o bytes issue = ap (λ (x : Write). turn_ended w (Land n v t) (update w v (landing_fields (w.control.volume v).fields t) (Some (t, laid x.offset x.bytes (w.contents v t))))) issue
+module _ (w : World) (n v t o : ℕ) (bytes : List ℕ) (issue : (histories w.events).write n ≡ record { volume = v; track = t; offset = o; bytes = bytes }) (on : w.control.on (w.control.volume v).server ≡ true) where
+  abbrev m : Move
+  m = Land n v t
 
--- it ran to its end
-pub turn-goes : (w u : World) (n v t o : ℕ) (bytes : List ℕ) → (histories w.events).write n ≡ record { volume = v; track = t; offset = o; bytes = bytes }
-    → UpdateEnds (Landing w v t o bytes) u false → turn w (Land n v t) ≡ (finished u (Land n v t), None)
-turn-goes w u n v t o bytes issue ends =
-    turn_is w n v t o bytes issue
-    ∙ ap (λ b. cond b (cond (w.control.on (w.control.volume v).server) (cut_short (Landing w v t o bytes).world (Land n v t) (w.control.volume v).server (Landing w v t o bytes).done) w, Some (w.control.volume v).server) (finished (Landing w v t o bytes).world (Land n v t), None)) (sym ends.answer)
-    ∙ ap (λ x. (finished x (Land n v t), None)) (sym ends.world)
+  abbrev x : Volume
+  x = w.control.volume v
 
--- its server stopped in it
-pub turn-stops : (w u : World) (n v t o : ℕ) (bytes : List ℕ) (done : Bool) → (histories w.events).write n ≡ record { volume = v; track = t; offset = o; bytes = bytes }
-    → w.control.on (w.control.volume v).server ≡ true → (Landing w v t o bytes).done ≡ done
-    → UpdateEnds (Landing w v t o bytes) u true → turn w (Land n v t) ≡ (cut_short u (Land n v t) (w.control.volume v).server done, Some (w.control.volume v).server)
-turn-stops w u n v t o bytes done issue on is ends =
-    turn_is w n v t o bytes issue
-    ∙ ap (λ b. cond b (cond (w.control.on (w.control.volume v).server) (cut_short (Landing w v t o bytes).world (Land n v t) (w.control.volume v).server (Landing w v t o bytes).done) w, Some (w.control.volume v).server) (finished (Landing w v t o bytes).world (Land n v t), None)) (sym ends.answer)
-    ∙ ap (λ b. (cond b (cut_short (Landing w v t o bytes).world (Land n v t) (w.control.volume v).server (Landing w v t o bytes).done) w, Some (w.control.volume v).server)) on
-    ∙ ap (λ b. (cut_short (Landing w v t o bytes).world (Land n v t) (w.control.volume v).server b, Some (w.control.volume v).server)) is
-    ∙ ap (λ x. (cut_short x (Land n v t) (w.control.volume v).server done, Some (w.control.volume v).server)) (sym ends.world)
+  abbrev e : Ended
+  e = Landing w v t o bytes
+
+  -- a turn is its update, told to the journal
+  turn_is : turn w m ≡ turn_ended w m e
+  unfolding turn
+  turn_is = ap (λ (y : Write). turn_ended w m (update w v (filled x.fields t) (Some (t, laid y.offset y.bytes (w.contents v t))))) issue
+
+  turn_by : (stopped : Bool) → stopped ≡ e.stopped → turn w m ≡ (if stopped then (cut_short e.world m x e.done, Some x.server) else (finished e.world m x, None))
+  turn_by stopped is =
+      turn_is
+      ∙ ap (λ b. cond (not b) (w, None) (cond e.stopped (cut_short e.world m x e.done, Some x.server) (finished e.world m x, None))) on
+      ∙ ap (λ b. cond b (cut_short e.world m x e.done, Some x.server) (finished e.world m x, None)) (sym is)
+
+  -- it ran to its end
+  pub turn-goes : (u : World) → EndsAs u false e → turn w m ≡ (finished u m x, None)
+  turn-goes u ends = turn_by false ends.stopped ∙ ap (λ y. (finished y m x, None)) (sym ends.world)
+
+  -- its server stopped in it
+  pub turn-stops : (u : World) (done : Bool) → e.done ≡ done → EndsAs u true e → turn w m ≡ (cut_short u m x done, Some x.server)
+  turn-stops u done is ends =
+      turn_by true ends.stopped
+      ∙ ap (λ b. (cut_short e.world m x b, Some x.server)) is
+      ∙ ap (λ y. (cut_short y m x done, Some x.server)) (sym ends.world)
 
 -- two slots differ
 abbrev pub differ : Bool → Bool → Bool
@@ -51,7 +60,7 @@ differ_not : (b : Bool) → differ (not b) b ≡ true
 differ_not true = refl
 differ_not false = refl
 
-differ_same : (b : Bool) → differ b b ≡ false
+pub differ_same : (b : Bool) → differ b b ≡ false
 differ_same true = refl
 differ_same false = refl
 
@@ -89,11 +98,14 @@ not_beq false true = refl
 not_beq false false = refl
 
 -- what a stop leaves of the one pending write, and what the journal is told
-pub cut_short-one : (u : World) (n v t s : ℕ) (p : Pending) (done : Bool) → p.w ≡ n → p.landed ≡ false → u.control.pending ≡ p ∷ []
-    → cut_short u (Land n v t) s done ≡ record u { control = record u.control { pending = record p { landed = done } ∷ [] }; events = u.events ++ Stopped s (cond done n 0) ∷ [] }
-cut_short-one u n v t s p true e waits is i = record u { control = record u.control { pending = (ap (marked n) is ∙ pending-marked p n e) i }; events = u.events ++ Stopped s n ∷ [] }
-cut_short-one u n v t s p false e waits is i = record u { control = record u.control { pending = (is ∙ ap (λ b. record p { landed = b } ∷ []) waits) i }; events = u.events ++ Stopped s 0 ∷ [] }
+pub cut_short-one : (u : World) (n v t : ℕ) (x : Volume) (p : Pending) (done : Bool) → p.w ≡ n → p.landed ≡ false → u.control.pending ≡ p ∷ []
+    → cut_short u (Land n v t) x done ≡ record u { control = record u.control { pending = record p { landed = done } ∷ [] }; events = u.events ++ Stopped x.server (cond done n 0) ∷ [] }
+cut_short-one u n v t x p true e waits is i = record u { control = record u.control { pending = (ap (marked n) is ∙ pending-marked p n e) i }; events = u.events ++ Stopped x.server n ∷ [] }
+cut_short-one u n v t x p false e waits is i = record u { control = record u.control { pending = (is ∙ ap (λ b. record p { landed = b } ∷ []) waits) i }; events = u.events ++ Stopped x.server 0 ∷ [] }
 
 -- a server that is on is on for the machine too
 pub on-running : (s : PlantState) (server : ℕ) → s.on server ≡ true → on_seen s server ≡ true
 on-running s server h = elim (nat_lt server 8) as (λ b. cond b (s.on server) true ≡ true) [ true ↦ h | false ↦ refl ]
+
+pub failed-not : false ≡ true → ⊥
+failed-not e = cc

@@ -1,5 +1,5 @@
 -- What a line says is well formed.
-use Rattle.std.proofs.Common.{ℕ, ◌≡◌, ◌+◌, ◌≤◌, List, [], ◌∷◌, length, refl, arith, Bool, true, false, cond, Some, None, Option, ◌&&◌, codes}
+use Rattle.std.proofs.Common.{ℕ, ◌≡◌, ◌+◌, ◌/◌, ◌≤◌, List, [], ◌∷◌, length, refl, arith, Bool, true, false, cond, Some, None, Option, ◌&&◌, codes}
 use Rattle.std.specs.Prelude.{nat_le}
 use Rattle.std.specs.List.{list_all}
 use Rattle.std.specs.Str.{bytes_eq}
@@ -8,8 +8,8 @@ use Rattle.dr_ids.specs.Spelling.{volume_word, number_word}
 use Rattle.dr_model.specs.declared.step.Name.{Name}
 use Rattle.dr_model.specs.declared.step.Step.{Step}
 use Rattle.dr_model.specs.declared.step.Step.TheVariants.{Server, Volume, Stop, StopAfter, Start, Show}
-use Rattle.dr_model.specs.Lines.{hex_bytes, is_in_track, write_of, torn_word, server_words, volume_words, write_words, stop_after, stop_words, start_words, show_words, step_words}
-use Rattle.dr_model.specs.LineWords.{◌>>=◌, is_name, is_name_byte, begins_with_letter, name_of, name_word, decimal_word}
+use Rattle.dr_model.specs.Lines.{lies_in_track, write_of, server_words, volume_words, write_words, stop_after, stop_words, start_words, show_words, step_words}
+use Rattle.dr_model.specs.LineWords.{◌>>=◌, is_name, is_name_byte, begins_with_letter, name_of, name_word, decimal_word, is_hex, torn_word}
 use Rattle.dr_top.specs.WellFormed.{FitsName, IfWellFormed}
 
 -- whatever a part says, the rest is well formed
@@ -61,16 +61,15 @@ volume-fits (a ∷ []) = tt
 volume-fits (a ∷ b ∷ []) = tt
 volume-fits (a ∷ b ∷ c ∷ d ∷ rest) = tt
 
-in_track : (offset : ℕ) (bytes : List ℕ) → is_in_track offset bytes ≡ true → offset + length bytes ≤ 64
-in_track offset bytes h = let within = right (nat_le 1 (length bytes)) (nat_le (offset + length bytes) 64) h in grind (arith, nat_tests, within)
+in_track : (offset : ℕ) (hex : List ℕ) → lies_in_track offset hex ≡ true → offset + length hex / 2 ≤ 64
+in_track offset hex h = let within = right (is_hex hex) (nat_le (offset + length hex / 2) 64) h in grind (arith, nat_tests, within)
 
 write-fits : (rest : List (List ℕ)) → IfWellFormed (write_words rest)
 write-fits (volume ∷ track ∷ offset ∷ hex ∷ []) =
-    after (volume_word volume) (λ v. decimal_word track >>= λ t. number_word 63 offset >>= λ o. hex_bytes hex >>= λ bytes. cond (is_in_track o bytes) (Some (write_of v.0 t o bytes)) None) (λ v.
-    after (decimal_word track) (λ t. number_word 63 offset >>= λ o. hex_bytes hex >>= λ bytes. cond (is_in_track o bytes) (Some (write_of v.0 t o bytes)) None) (λ t.
-    after (number_word 63 offset) (λ o. hex_bytes hex >>= λ bytes. cond (is_in_track o bytes) (Some (write_of v.0 t o bytes)) None) (λ o.
-    after (hex_bytes hex) (λ bytes. cond (is_in_track o bytes) (Some (write_of v.0 t o bytes)) None) (λ bytes.
-    either (is_in_track o bytes) (Some (write_of v.0 t o bytes)) None (in_track o bytes) tt))))
+    after (volume_word volume) (λ v. decimal_word track >>= λ t. number_word 63 offset >>= λ o. cond (lies_in_track o hex) (Some (write_of v.0 t o hex)) None) (λ v.
+    after (decimal_word track) (λ t. number_word 63 offset >>= λ o. cond (lies_in_track o hex) (Some (write_of v.0 t o hex)) None) (λ t.
+    after (number_word 63 offset) (λ o. cond (lies_in_track o hex) (Some (write_of v.0 t o hex)) None) (λ o.
+    either (lies_in_track o hex) (Some (write_of v.0 t o hex)) None (in_track o hex) tt)))
 write-fits [] = tt
 write-fits (a ∷ []) = tt
 write-fits (a ∷ b ∷ []) = tt

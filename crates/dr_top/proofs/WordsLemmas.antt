@@ -1,18 +1,10 @@
 -- A line is cut at its first space.
-use Rattle.std.proofs.Common.{ℕ, suc, ◌≡◌, ◌<◌, ◌≤◌, ◌+◌, List, [], ◌∷◌, take, drop, length, refl, ap, ◌∙◌, sym, arith, Bool, true, false, not, cond, nat_lt, Some, None, ◌++◌, ◌-◌, ◌*◌, replicate, get_or, drop-cons, add-one, Option, option_and_then, nat_eq, nat_le, ◌&&◌}
-use Rattle.std.proofs.lemmas.List.{append-nil}
+use Rattle.std.proofs.Common.{ℕ, suc, ◌≡◌, ◌≤◌, ◌+◌, List, [], ◌∷◌, take, drop, length, refl, ap, ◌∙◌, arith, Bool, true, false, not, cond, nat_lt, Some, None}
 use Rattle.std.proofs.lemmas.Bool.Decides.{nat_tests}
 use Rattle.std.proofs.lemmas.List.Splits.{slice_split_first, slice_split-cons_no}
 use Rattle.std.specs.List.{position, position_or_len, slice_split, onto_first}
-use Rattle.std.proofs.lemmas.List.{drop-replicate}
-use Rattle.dr_model.specs.Contents.{zeros}
-use Rattle.dr_model.specs.Lines.{is_space, words, hex_bytes, torn_of}
-use Rattle.dr_model.specs.LineWords.{◌>>=◌}
-use Rattle.dr_ids.specs.Spelling.{digit_in}
-use Rattle.dr_model.specs.declared.step.TornWord.TheVariants.{Fill, Bytes}
-use Rattle.dr_top.specs.Words.{only, empty_name}
-use Rattle.dr_top.specs.Pieces.{piece_of, torn_piece}
-use Rattle.dr_top.specs.declared.reader.Piece.{Piece}
+use Rattle.dr_model.specs.Lines.{is_space, words}
+use Rattle.dr_top.specs.Words.{only}
 
 -- bytes none of which passes are one part
 none_passes : (p : ℕ → Bool) (xs : List ℕ) → length xs ≤ position_or_len p xs → slice_split p xs ≡ xs ∷ []
@@ -58,41 +50,3 @@ pub only-more : (word line : List ℕ) → only (word ∷ words line) ≡ None
 only-more word [] = refl
 only-more word (b ∷ bs) =
     elim (is_space b) as (λ v. only (word ∷ cond v ([] ∷ words bs) (onto_first b (words bs))) ≡ None) [ true ↦ refl | false ↦ only_onto word b (words bs) ]
-
--- a word and zeros behind it
-pub padded_name : (word front : List ℕ) → front ≡ word → front ++ drop (length word) empty_name ≡ word ++ replicate (24 - length word) 0
-unfolding empty_name
-padded_name word front e = ap (λ f. f ++ drop {A = ℕ} (length word) (replicate 24 0)) e ∙ ap (λ z. word ++ z) (drop-replicate (length word) 24 0)
-
-pub padded_write : (bytes front : List ℕ) (n : ℕ) → front ≡ bytes → front ++ drop n zeros ≡ bytes ++ replicate (64 - n) 0
-unfolding zeros
-padded_write bytes front n e = ap (λ f. f ++ drop {A = ℕ} n (replicate 64 0)) e ∙ ap (λ z. bytes ++ z) (drop-replicate n 64 0)
-
--- one pair of hexadecimal digits more
-pub hex_bytes-pair : (word : List ℕ) (n : ℕ) → n + 1 < length word
-    → hex_bytes (drop n word) ≡ (digit_in 16 (get_or word n 0) >>= λ high. digit_in 16 (get_or word (n + 1) 0) >>= λ low. hex_bytes (drop (n + 2) word) >>= λ bytes. Some ((high * 16 + low) ∷ bytes))
-hex_bytes-pair word n lt =
-    ap hex_bytes (drop-cons word n 0 (omega arith)) ∙ ap (λ rest. hex_bytes (get_or word n 0 ∷ rest)) (ap (λ m. drop m word) (sym (add-one n)) ∙ drop-cons word (n + 1) 0 lt)
-    ∙ ap (λ m. digit_in 16 (get_or word n 0) >>= λ high. digit_in 16 (get_or word (n + 1) 0) >>= λ low. hex_bytes (drop m word) >>= λ bytes. Some ((high * 16 + low) ∷ bytes)) (let e : suc (n + 1) ≡ n + 2 = omega arith in e)
-
--- what a piece of more than one byte leaves in a block
-torn_fit : (p : Piece) (fit full : Bool) (bytes : List ℕ) → nat_eq p.len 1 ≡ false → nat_eq p.len 64 ≡ full → (full ≡ true → fit ≡ true) → (full ≡ true → p.bytes ≡ bytes)
-    → option_and_then torn_piece (cond fit (Some p) None) ≡ cond full (Some (Bytes bytes)) None
-torn_fit p true true bytes more is fits same =
-    ap (λ b. cond b (Some (Fill (get_or p.bytes 0 0))) (cond (nat_eq p.len 64) (Some (Bytes p.bytes)) None)) more
-    ∙ ap (λ b. cond b (Some (Bytes p.bytes)) None) is ∙ ap (λ bs. Some (Bytes bs)) (same refl)
-torn_fit p true false bytes more is fits same =
-    ap (λ b. cond b (Some (Fill (get_or p.bytes 0 0))) (cond (nat_eq p.len 64) (Some (Bytes p.bytes)) None)) more ∙ ap (λ b. cond b (Some (Bytes p.bytes)) None) is
-torn_fit p false true bytes more is fits same = let e = fits refl in cc
-torn_fit p false false bytes more is fits same = refl
-
--- what is left in a block, told by the piece or by its bytes
-pub piece-torn : (hex : Option (List ℕ)) → option_and_then torn_piece (piece_of hex) ≡ option_and_then torn_of hex
-piece-torn None = refl
-piece-torn (Some []) = refl
-piece-torn (Some (b ∷ [])) = refl
-piece-torn (Some (b ∷ c ∷ rest)) =
-    let bytes = b ∷ c ∷ rest in
-    torn_fit (record { len = length bytes; bytes = bytes ++ replicate (64 - length bytes) 0 }) (nat_le 1 (length bytes) && nat_le (length bytes) 64) (nat_eq (length bytes) 64) bytes
-    (grind (arith, nat_tests)) refl (λ e. grind (arith, nat_tests, e))
-    (λ e. let n : length bytes ≡ 64 = grind (arith, nat_tests, e) in ap (λ k. bytes ++ replicate (64 - k) 0) n ∙ append-nil bytes)

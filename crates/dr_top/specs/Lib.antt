@@ -1,12 +1,12 @@
 pub mod Given
 pub mod Input
-pub mod At
 pub mod Words
-pub mod Pieces
 pub mod Here
+pub mod Landing
 pub mod Starting
 pub mod Located
 pub mod Cut
 pub mod WellFormed
 pub mod Followed
 pub mod Outcome
+pub mod Statuses

@@ -1,7 +1,6 @@
 -- How a call of the program ends.
 use Rattle.std.specs.Prelude.{◌≡◌, ℕ, ◌+◌, ◌<◌, ◌≤◌, ◌⊎◌, Bool, true, false, ◌||◌, not, List, [], ◌∷◌, ◌++◌, length, nat_eq, Option, Some, codes, String, slice_get, if◌then◌else◌}
 use Rattle.std.specs.List.{list_any}
-use Rattle.std.specs.Option.{option_map_or}
 use Rattle.std.specs.Str.{bytes_eq}
 use Rattle.std.specs.Str.Lines.{lines}
 use Rattle.std.specs.String.{string_bytes}
@@ -21,10 +20,6 @@ use Rattle.dr_top.specs.Followed.{Followed}
 use Rattle.dr_top.specs.Given.{Gave, GavePart, TookAll}
 use Rattle.dr_top.specs.declared.status.Status.{Status}
 use Rattle.dr_top.specs.declared.status.Status.TheVariants.{Done, DoneRefused, Usage, ReadFault, WriteFault, NoMemory, TooLong}
-use Rattle.dr_top.specs.declared.input.End.{End}
-use Rattle.dr_top.specs.declared.input.End.TheVariants.{Whole, Failed, TooLong as Cut}
-use Rattle.dr_top.specs.declared.run.Halt.{Halt}
-use Rattle.dr_top.specs.declared.run.Halt.TheVariants.{WriteFault as OnSink, NoMemory as OnMemory}
 
 -- the words are the one command `run`
 abbrev pub is_run : List (String Global) → Bool
@@ -39,9 +34,6 @@ abbrev pub is_refusal : Event → Bool
 is_refusal (Answer line code a b c) = not (nat_eq code 0 || nat_eq code 100)
 is_refusal _ = false
 
-abbrev pub refusal_at : List Event → ℕ → Bool
-refusal_at events place = option_map_or is_refusal (slice_get events place) false
-
 abbrev pub has_refusal : List Event → Bool
 has_refusal events = list_any is_refusal events
 
@@ -54,24 +46,6 @@ code_of ReadFault = 3
 code_of WriteFault = 4
 code_of NoMemory = 5
 code_of TooLong = 6
-
--- a script that was read to its end; whether it has more lines than it may, and whether a step was refused
-abbrev pub whole_status : Bool → Bool → Status
-whole_status more refused = if more then TooLong else if refused then DoneRefused else Done
-
-abbrev pub run_status : End → Bool → Bool → Status
-run_status Whole more refused = whole_status more refused
-run_status Failed more refused = ReadFault
-run_status Cut more refused = TooLong
-
-abbrev pub halt_status : Halt → Status
-halt_status OnSink = WriteFault
-halt_status OnMemory = NoMemory
-
-abbrev pub is_whole : End → Bool
-is_whole Whole = true
-is_whole Failed = false
-is_whole Cut = false
 
 -- Each volume has its device, in order of definition: owned by its server, with 13 blocks and one more for each track.
 pub record HasDevices (w : World) (s : PlantState) : Type 0 where

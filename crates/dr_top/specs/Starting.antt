@@ -2,12 +2,12 @@
 use Rattle.std.specs.Prelude.{◌≡◌, ℕ, ◌≤◌, ◌⊎◌, true, List, map, drop, Some}
 use Rattle.dr_plant.specs.State.{PlantState}
 use Rattle.dr_config.specs.Table.{Table, StandsFor, place_of}
-use Rattle.dr_model.specs.Carry.{Deferred}
+use Rattle.dr_model.specs.Carry.{Entry}
 use Rattle.dr_model.specs.Plans.{redo_on}
-use Rattle.dr_volume.specs.View.{volume_seen, ids_of, IsSettled, ReadsPass}
+use Rattle.dr_volume.specs.View.{volume_seen, ids_of, IsSettled}
 
 -- what is left to do for the volumes from a place on
-abbrev pub redo_from : Table → ℕ → ℕ → List Deferred
+abbrev pub redo_from : Table → ℕ → ℕ → List Entry
 redo_from t server place = map (redo_on server) (ids_of (drop place t.volumes))
 
 -- a volume of the server that stands at that place or behind it
@@ -20,7 +20,6 @@ pub record IsLater (s : PlantState) (t : Table) (server place v : ℕ) : Type 0 
 -- The server is on, and all is ready but its volumes from a place on, whose staged tracks aren't at their places yet.
 pub record IsStarting (s : PlantState) (t : Table) (server place : ℕ) : Type 0 where
   pub stands : StandsFor t s
-  pub reads : ReadsPass s
   pub on : s.on server ≡ true
   pub settled : (v : ℕ) → IsSettled s t v ⊎ IsLater s t server place v
   pub sizes : (v : ℕ) → (volume_seen s t v).tracks ≤ 256

@@ -1,9 +1,7 @@
 -- The words that are left of a line.
-use Rattle.std.specs.Prelude.{◌≡◌, ℕ, ◌+◌, ◌*◌, List, [], ◌∷◌, replicate, Option, Some, None}
+use Rattle.std.specs.Prelude.{◌≡◌, ℕ, List, [], ◌∷◌, Option, Some, None}
 use denote.Ref.{Bor}
-use Rattle.dr_ids.specs.Spelling.{digit_in}
 use Rattle.dr_model.specs.Lines.{words}
-use Rattle.dr_model.specs.LineWords.{◌>>=◌}
 
 -- the words of what is left: none where nothing is left
 abbrev pub words_after : Option (Bor (List ℕ)) → List (List ℕ)
@@ -19,11 +17,3 @@ only _ = None
 abbrev pub IsNext : List (List ℕ) → Option (Bor (List ℕ) × Option (Bor (List ℕ))) → Type 0
 IsNext words None = words ≡ []
 IsNext words (Some next) = words ≡ next.0.now ∷ words_after next.1
-
--- 24 zero bytes
-unfoldable pub empty_name : List ℕ
-empty_name = replicate 24 0
-
--- the byte that two hexadecimal digits spell
-abbrev pub pair_of : ℕ → ℕ → Option ℕ
-pair_of high low = digit_in 16 high >>= λ h. digit_in 16 low >>= λ l. Some (h * 16 + l)

@@ -1,16 +1,14 @@
 //! The steps that define a server and a volume.
 
-ghost use Rattle.std.specs.Prelude.{◌≡◌, ◌≤◌, take, OnOk, OnErr};
+ghost use Rattle.std.specs.Prelude.{◌≡◌, ℕ, ◌≤◌, take};
 ghost use Rattle.dr_model.specs.declared.step.Step.{Step};
-ghost use Rattle.dr_top.specs.Here.{here, Leads, IsReady};
+ghost use Rattle.dr_top.specs.Here.{here, OnAnswer, OnNoMemory, Leads, IsReady};
 
 use crate::host::Host;
-use crate::steps::say;
 use dr_config::Config;
-use dr_ids::{Fault, MAX_TRACKS, VolumeId};
-use dr_model::{Event, Journal, Name, Said};
+use dr_ids::{Fault, MAX_TRACKS, Refusal, VolumeId};
+use dr_model::{Addition, Event, Journal, Name};
 use dr_plant::Plant;
-use std::alloc::AllocError;
 
 /// How many tracks a volume has at most.
 const MOST_TRACKS: u32 = MAX_TRACKS as u32;
@@ -29,22 +27,21 @@ pub fn define_server<P: Plant>(
     config: &mut Config,
     host: &Host,
     journal: &mut Journal,
-    line: u32,
     name: &Name,
-) -> Result<(), AllocError>
+) -> Result<Addition, Fault>
     requires ready { IsReady (P.state plant.now) config.old }
     requires some { 1 ≤ name.now.len }
     requires short { name.now.len ≤ 24 }
     requires room { 2 ≤ journal.old.spare }
-    ensures step { OnOk result (Leads (here (P.state plant.now) config.old host.now journal.old.events) line (Step.Server name.now)
-        (here (P.state plant.now) config.new host.now journal.new.events)) }
-    ensures same { OnErr result (config.new ≡ config.old) }
-    ensures untold { OnErr result (journal.new.events ≡ journal.old.events) }
+    ensures step { OnAnswer result (λ a. (line : ℕ) → Leads (here (P.state plant.now) config.old host.now journal.old.events) line (Step.Server name.now)
+        (here (P.state plant.now) config.new host.now journal.new.events) a) }
+    ensures same { OnNoMemory result (config.new ≡ config.old) }
+    ensures untold { OnNoMemory result (journal.new.events ≡ journal.old.events) }
     ensures ready { IsReady (P.state plant.now) config.new }
+    ensures room { 1 ≤ journal.new.spare }
 {
     if config.servers() != 0 {
-        say(journal, line, Said::NotBuilt);
-        return Ok(());
+        return Err(Fault::Refused(Refusal::NotBuilt));
     }
     match config.add_server(bytes_of(name)) {
         Ok(server) => {
@@ -53,10 +50,9 @@ pub fn define_server<P: Plant>(
                 len: name.len,
                 name: name.bytes,
             });
-            say(journal, line, Said::Done);
-            Ok(())
+            Ok(Addition::Alone)
         }
-        Err(Fault::NoMemory) => Err(AllocError),
+        Err(Fault::NoMemory) => Err(Fault::NoMemory),
         Err(Fault::Refused(_)) => unreachable!(),
     }
 }
@@ -68,28 +64,26 @@ pub fn define_volume<P: Plant>(
     config: &mut Config,
     host: &Host,
     journal: &mut Journal,
-    line: u32,
     volume: VolumeId,
     name: &Name,
     tracks: u32,
-) -> Result<(), AllocError>
+) -> Result<Addition, Fault>
     requires ready { IsReady (P.state plant.old) config.old }
     requires short { name.now.len ≤ 24 }
     requires room { 2 ≤ journal.old.spare }
-    ensures step { OnOk result (Leads (here (P.state plant.old) config.old host.now journal.old.events) line (Step.Volume volume.0 name.now tracks)
-        (here (P.state plant.new) config.new host.now journal.new.events)) }
-    ensures same { OnErr result (config.new ≡ config.old) }
-    ensures same_plant { OnErr result (P.state plant.new ≡ P.state plant.old) }
-    ensures untold { OnErr result (journal.new.events ≡ journal.old.events) }
+    ensures step { OnAnswer result (λ a. (line : ℕ) → Leads (here (P.state plant.old) config.old host.now journal.old.events) line (Step.Volume volume.0 name.now tracks)
+        (here (P.state plant.new) config.new host.now journal.new.events) a) }
+    ensures same { OnNoMemory result (config.new ≡ config.old) }
+    ensures same_plant { OnNoMemory result (P.state plant.new ≡ P.state plant.old) }
+    ensures untold { OnNoMemory result (journal.new.events ≡ journal.old.events) }
     ensures ready { IsReady (P.state plant.new) config.new }
+    ensures room { 1 ≤ journal.new.spare }
 {
     let Some(server) = config.server_named(bytes_of(name)) else {
-        say(journal, line, Said::NotBuilt);
-        return Ok(());
+        return Err(Fault::Refused(Refusal::NotBuilt));
     };
     if config.volumes() != 0 || tracks == 0 || tracks > MOST_TRACKS {
-        say(journal, line, Said::NotBuilt);
-        return Ok(());
+        return Err(Fault::Refused(Refusal::NotBuilt));
     }
     let size = tracks as u16;
     match config.add_volume(plant, volume, server, size) {
@@ -99,10 +93,9 @@ pub fn define_volume<P: Plant>(
                 server: server.0,
                 tracks: size,
             });
-            say(journal, line, Said::Done);
-            Ok(())
+            Ok(Addition::Alone)
         }
-        Err(Fault::NoMemory) => Err(AllocError),
+        Err(Fault::NoMemory) => Err(Fault::NoMemory),
         Err(Fault::Refused(_)) => unreachable!(),
     }
 }

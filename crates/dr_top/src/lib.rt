@@ -8,7 +8,6 @@ mod input;
 mod landing;
 mod lines;
 mod machine;
-mod print;
 mod put;
 mod reader;
 mod run;

@@ -1,20 +1,19 @@
-//! What a run holds beside the plant and the journal, and how a host write lands in it.
+//! How a host write lands in what a run holds beside the plant and the journal.
 
-ghost use Rattle.std.specs.Prelude.{◌≡◌, ℕ, ◌+◌, ◌<◌, ◌≤◌, ◌^◌, true, false, [], ◌∷◌, ◌++◌, List, length, take, IsSome, Some, None, if◌then◌else◌};
-ghost use Rattle.dr_plant.specs.State.{PlantState};
+ghost use Rattle.std.specs.Prelude.{◌≡◌, ℕ, ◌+◌, ◌<◌, ◌≤◌, true, [], ◌∷◌, length, IsSome, None, if◌then◌else◌};
 ghost use Rattle.dr_config.specs.Table.{place_of};
-ghost use Rattle.dr_model.specs.Histories.{histories};
 ghost use Rattle.dr_model.specs.Moves.{Land};
-ghost use Rattle.dr_model.specs.Carry.{turn};
+ghost use Rattle.dr_model.specs.Carry.{now};
+ghost use Rattle.dr_model.specs.ReadStops.{Ends};
 ghost use Rattle.dr_volume.specs.View.{volume_seen};
-ghost use Rattle.dr_top.specs.Here.{here, IsReady, IsPending, stopped_in};
+ghost use Rattle.dr_top.specs.Here.{here, refusal_of, armed_in, IsAtRest, IsPending};
 
 use crate::host::{Host, Pending};
 use crate::landing::land;
 use dr_config::Config;
-use dr_ids::{ServerId, VolumeId};
+use dr_ids::{Refusal, ServerId, VolumeId};
 use dr_model::{Event, Journal};
-use dr_plant::{Plant, Stopped};
+use dr_plant::Plant;
 use dr_volume::slot;
 
 /// Where a host write goes.
@@ -35,8 +34,8 @@ pub fn land_pending<P: Plant>(
     journal: &mut Journal,
     target: Target,
     bytes: &[u8],
-) -> Result<(), Stopped>
-    requires ready { IsReady (P.state plant.old) config.now }
+) -> Result<(), Refusal>
+    requires rest { IsAtRest (P.state plant.old) config.now }
     requires defined { IsSome (place_of config.now target.volume.0) }
     requires server { (volume_seen (P.state plant.old) config.now target.volume.0).server ≡ target.server.0 }
     requires running { (P.state plant.old).on target.server.0 ≡ true }
@@ -45,9 +44,10 @@ pub fn land_pending<P: Plant>(
     requires fits { target.offset + length bytes.now ≤ 64 }
     requires room { 0 < journal.old.spare }
     requires pending { IsPending host.old journal.old.events target bytes.now }
-    ensures turn { turn (here (P.state plant.old) config.now host.old journal.old.events) (Land host.old.issued target.volume.0 target.track)
-        ≡ (here (P.state plant.new) config.now host.new journal.new.events, stopped_in result target.server.0) }
-    ensures ready { IsReady (P.state plant.new) config.now }
+    ensures carried { Ends (armed_in (P.state plant.old)) (here (P.state plant.new) config.now host.new journal.new.events) (refusal_of result)
+        (here (P.state plant.old) config.now host.old journal.old.events) (now (Land host.old.issued target.volume.0 target.track) ∷ []) }
+    ensures rest { IsAtRest (P.state plant.new) config.now }
+    ensures unarmed { (q : ℕ) → (P.state plant.old).read_fuse q ≡ None → (P.state plant.new).read_fuse q ≡ None }
     ensures issued { host.new.issued ≡ host.old.issued }
     ensures room { journal.old.spare ≡ journal.new.spare + 1 }
 {
@@ -66,7 +66,7 @@ pub fn land_pending<P: Plant>(
             journal.push(Event::Ack { w });
             Ok(())
         }
-        Err(stopped) => {
+        Err(_) => {
             let landed = slot(plant, config, target.volume) != before;
             host.pending = Some(Pending {
                 w,
@@ -78,7 +78,9 @@ pub fn land_pending<P: Plant>(
                 server: target.server.0,
                 write: write_in_stop(landed, w),
             });
-            Err(stopped)
+            Err(Refusal::Stopped {
+                server: target.server,
+            })
         }
     }
 }

@@ -1,16 +1,15 @@
 //! Reads one line of a script: which step it is, where it is one that is carried out.
 
-ghost use Rattle.std.specs.Prelude.{◌≡◌, ℕ, ◌*◌, ◌-◌, nat_le, if◌then◌else◌, None, ◌+◌, ◌<◌, ◌≤◌, ◌++◌, List, [], ◌∷◌, length, take, replicate, Option, IfSome, IfNone, option_and_then, codes};
+ghost use Rattle.std.specs.Prelude.{◌≡◌, ℕ, ◌≤◌, [], ◌∷◌, length};
 ghost use Rattle.std.specs.List.{position, list_all};
-ghost use Rattle.std.specs.Option.{option_copied, option_map};
-ghost use Rattle.dr_top.specs.Pieces.{piece_of, torn_piece};
-ghost use Rattle.dr_model.specs.Lines.{words, is_space, hex_bytes, is_in_track, write_of, server_words, volume_words, write_words, stop_words, stop_after, start_words, torn_word, torn_of, show_words, step_words, is_comment, is_no_step};
-ghost use Rattle.dr_model.specs.LineWords.{is_letter, is_name_byte, is_name, name_of, name_word, decimal_word, is_gap};
-ghost use Rattle.dr_top.specs.Words.{words_after, only, IsNext, empty_name, pair_of};
+ghost use Rattle.std.specs.Option.{option_copied};
+ghost use Rattle.dr_model.specs.Lines.{words, is_space, lies_in_track, write_of, server_words, volume_words, write_words, stop_words, stop_after, start_words, show_words, step_words, is_comment, is_no_step};
+ghost use Rattle.dr_model.specs.LineWords.{is_gap};
+ghost use Rattle.dr_top.specs.Words.{words_after, only, IsNext};
 
-use crate::print::zero_track;
-use dr_ids::{hex_value, read_number, read_volume};
-use dr_model::{Name, Step, TornWord};
+use dr_ids::{read_number, read_volume};
+use dr_model::Step;
+use dr_script::{is_hex, read_decimal, read_name, read_torn, spelled_bytes};
 
 /// Where the first space is.
 fn space_at(line: &[u8]) -> Option<usize>
@@ -45,70 +44,6 @@ fn last_word(rest: Option<&[u8]>) -> Option<&[u8]>
         None => Some(word),
         Some(_) => None,
     }
-}
-
-fn is_letter(b: u8) -> bool
-    ensures { result ≡ is_letter b }
-{
-    b.is_ascii_alphabetic()
-}
-
-fn is_name_byte(b: u8) -> bool
-    ensures { result ≡ is_name_byte b }
-{
-    is_letter(b) || b.is_ascii_digit() || b == b'.' || b == b'-' || b == b'_'
-}
-
-fn has_name_bytes(word: &[u8]) -> bool
-    ensures { result ≡ list_all is_name_byte word.now }
-{
-    word.iter().all(|b| is_name_byte(*b))
-}
-
-fn is_name(word: &[u8]) -> bool
-    ensures { result ≡ is_name word.now }
-{
-    match word {
-        [first, ..] => word.len() <= 24 && is_letter(*first) && has_name_bytes(word),
-        [] => false,
-    }
-}
-
-/// A server's name, where the word is one.
-fn read_name(word: &[u8]) -> Option<Name>
-    ensures { result ≡ name_word word.now }
-{
-    if !is_name(word) {
-        return None;
-    }
-    Some(name(word))
-}
-
-/// The name of at most 24 bytes, with zeros behind them.
-fn name(word: &[u8]) -> Name
-    requires { length word.now ≤ 24 }
-    ensures { result ≡ name_of word.now }
-{
-    let mut bytes = zero_name();
-    bytes[..word.len()].copy_from_slice(word);
-    Name {
-        len: word.len() as u8,
-        bytes,
-    }
-}
-
-#[tactic(auto, unfolding(crate::specs::Words::empty_name))]
-fn zero_name() -> [u8; 24]
-    ensures { result ≡ empty_name }
-{
-    [0; 24]
-}
-
-/// A decimal number below 2^32.
-fn read_decimal(word: &[u8]) -> Option<u32>
-    ensures { result ≡ decimal_word word.now }
-{
-    read_number(word, u32::MAX)
 }
 
 /// `@server NAME`
@@ -150,56 +85,6 @@ fn show_step(rest: Option<&[u8]>) -> Option<Step>
     })
 }
 
-/// The bytes of a write: the first `len` of them; the others are zero.
-#[derive(Clone, Copy)]
-struct Piece {
-    len: u8,
-    bytes: [u8; 64],
-}
-
-/// The number that two hexadecimal digits spell.
-fn read_pair(high: u8, low: u8) -> Option<u8>
-    ensures { result ≡ pair_of high low }
-{
-    let high = hex_value(high)?;
-    let low = hex_value(low)?;
-    Some(high * 16 + low)
-}
-
-/// One to 64 bytes in hexadecimal, two digits each.
-fn read_piece(word: &[u8]) -> Option<Piece>
-    ensures { result ≡ piece_of (hex_bytes word.now) }
-{
-    let count = word.len() / 2;
-    if word.len() != 2 * count {
-        return None;
-    }
-    if count == 0 {
-        return None;
-    }
-    if count > 64 {
-        return None;
-    }
-    let bytes = read_pairs(word, count)?;
-    Some(Piece {
-        len: count as u8,
-        bytes,
-    })
-}
-
-/// The bytes that so many pairs of digits spell, with zeros behind them.
-fn read_pairs(word: &[u8], count: usize) -> Option<[u8; 64]>
-    requires few { count ≤ 64 }
-    requires pairs { length word.now ≡ 2 * count }
-    ensures { result ≡ option_map (λ bytes. bytes ++ replicate (64 - length bytes) 0) (hex_bytes word.now) }
-{
-    let mut bytes = zero_track();
-    for i in 0..count {
-        bytes[i] = read_pair(word[2 * i], word[2 * i + 1])?;
-    }
-    Some(bytes)
-}
-
 /// `@write VOLUME TRACK OFFSET BYTES`
 fn write_step(rest: Option<&[u8]>) -> Option<Step>
     ensures { result ≡ write_words (words_after rest.entry) }
@@ -211,63 +96,39 @@ fn write_step(rest: Option<&[u8]>) -> Option<Step>
     write_from(volume, track, offset, hex)
 }
 
-/// The write that four words say.
+/// The write that four words say, where its bytes lie in one track.
 fn write_from(volume: &[u8], track: &[u8], offset: &[u8], hex: &[u8]) -> Option<Step>
     ensures { result ≡ write_words (volume.now ∷ track.now ∷ offset.now ∷ hex.now ∷ []) }
 {
     let volume = read_volume(volume)?;
     let track = read_decimal(track)?;
     let offset = read_number(offset, 63)?;
-    let piece = read_piece(hex)?;
-    write_of(volume.0, track, offset as u8, piece)
-}
-
-/// The write of a piece, where it lies in one track.
-fn write_of(volume: u16, track: u32, offset: u8, piece: Piece) -> Option<Step>
-    ensures { result ≡ (if nat_le (offset + piece.len) 64 then Some (Step.Write volume track offset piece.len piece.bytes) else None) }
-{
-    let Piece { len, bytes } = piece;
-    if offset as usize + len as usize <= 64 {
-        Some(Step::Write {
-            volume,
-            track,
-            offset,
-            len,
-            bytes,
-        })
+    if lies_in_track(offset, hex) {
+        Some(write_of(volume.0, track, offset as u8, hex))
     } else {
         None
     }
 }
 
-/// A byte that fills a block, or the 64 bytes of one.
-fn torn_piece(piece: Piece) -> Option<TornWord>
-    ensures { result ≡ torn_piece piece }
+/// Hexadecimal bytes lie in one track from an offset on.
+fn lies_in_track(offset: u32, hex: &[u8]) -> bool
+    requires { offset ≤ 63 }
+    ensures { result ≡ lies_in_track offset hex.now }
 {
-    let Piece { len, bytes } = piece;
-    if len == 1 {
-        Some(TornWord::Fill(bytes[0]))
-    } else if len == 64 {
-        Some(TornWord::Bytes(bytes))
-    } else {
-        None
-    }
+    is_hex(hex) && offset as usize + hex.len() / 2 <= 64
 }
 
-/// What is left in a block, in hexadecimal.
-fn read_torn_bytes(word: &[u8]) -> Option<TornWord>
-    ensures { result ≡ option_and_then torn_of (hex_bytes word.now) }
+/// The write of hexadecimal bytes.
+fn write_of(volume: u16, track: u32, offset: u8, hex: &[u8]) -> Step
+    requires { length hex.now ≤ 128 }
+    ensures { result ≡ write_of volume track offset hex.now }
 {
-    torn_piece(read_piece(word)?)
-}
-
-/// What is left in a block whose write is cut short.
-fn read_torn(word: &[u8]) -> Option<TornWord>
-    ensures { result ≡ torn_word word.now }
-{
-    match word {
-        b"none" => Some(TornWord::Same),
-        _ => read_torn_bytes(word),
+    Step::Write {
+        volume,
+        track,
+        offset,
+        len: (hex.len() / 2) as u8,
+        bytes: spelled_bytes(hex),
     }
 }
 

@@ -4,6 +4,7 @@ ghost use Rattle.std.specs.Prelude.{◌≡◌, ℕ, ◌+◌, ◌<◌, ◌≤◌,
 ghost use Rattle.std.specs.Str.Lines.{lines};
 ghost use Rattle.dr_io.specs.Faults.{Rose};
 ghost use Rattle.dr_model.specs.Control.{nothing};
+ghost use Rattle.dr_model.specs.Laws.{Sound};
 ghost use Rattle.dr_model.specs.Limits.{most_lines};
 ghost use Rattle.dr_model.specs.Lines.{tasks, tasks_of};
 ghost use Rattle.dr_model.specs.Runs.{after_tasks, run};
@@ -11,16 +12,16 @@ ghost use Rattle.dr_model.specs.Text.{text};
 ghost use Rattle.dr_top.specs.Followed.{Followed, Prints, PrintsPart, text_since};
 ghost use Rattle.dr_top.specs.Given.{Gave, GavePart};
 ghost use Rattle.dr_top.specs.Here.{here, IsReady};
-ghost use Rattle.dr_top.specs.Outcome.{halt_status};
+ghost use Rattle.dr_top.specs.Statuses.{halt_status};
 
 use crate::carry::carry_line;
 use crate::host::Host;
 use crate::lines::first_line;
-use crate::print::text;
 use crate::put::put_all;
 use crate::status::Status;
 use dr_config::Config;
 use dr_io::Sink;
+use dr_list::text;
 use dr_model::Journal;
 use dr_plant::Plant;
 use std::alloc::Global;
@@ -83,6 +84,7 @@ fn run_line<P: Plant, K: Sink>(
     line: &[u8],
 ) -> Result<(), Halt>
     requires ready { IsReady (P.state plant.old) config.old }
+    requires sound { Sound (here (P.state plant.old) config.old host.old journal.old.events) }
     requires count { host.old.issued + 1 < 2 ^ 32 }
     ensures went { OnOk result (after_tasks (here (P.state plant.old) config.old host.old journal.old.events) (tasks_of number line.now)
         ≡ here (P.state plant.new) config.new host.new journal.new.events) }

@@ -1,22 +1,23 @@
-//! The steps of a script, carried out on the plant.
+//! The steps of a script, carried out on the plant. What a step comes to is given back, and answered by the caller.
 
-ghost use Rattle.std.specs.Prelude.{◌≡◌, ℕ, ◌+◌, ◌<◌, ◌≤◌, ◌^◌, true, false, [], ◌∷◌, ◌++◌, List, length, take, IsSome, Some, None, OnOk, OnErr, IfSome, if◌then◌else◌};
+ghost use Rattle.std.specs.Prelude.{◌≡◌, ℕ, ◌+◌, ◌<◌, ◌≤◌, ◌^◌, true, List, length, take, IsSome, Some, None};
 ghost use Rattle.dr_config.specs.Table.{place_of};
 ghost use Rattle.dr_model.specs.Answers.{answer};
 ghost use Rattle.dr_model.specs.declared.step.Step.{Step};
+ghost use Rattle.dr_model.specs.Laws.{Sound};
 ghost use Rattle.dr_model.specs.Plans.{issue_plan};
 ghost use Rattle.dr_model.specs.Runs.{after_plan, said};
-ghost use Rattle.dr_volume.specs.View.{volume_seen};
-ghost use Rattle.dr_top.specs.Here.{here, Leads, IsReady};
+ghost use Rattle.dr_volume.specs.View.{volume_seen, track_seen};
+ghost use Rattle.dr_top.specs.Here.{here, said_of, Leads, IsReady};
 ghost use Rattle.dr_top.specs.Located.{Located, IsPlace};
 
 use crate::host::Host;
-use crate::landing::read_running;
 use crate::machine::{Target, land_pending};
 use dr_config::Config;
-use dr_ids::{ServerId, VolumeId};
-use dr_model::{Event, Journal, Name, Said};
+use dr_ids::{Refusal, ServerId, VolumeId};
+use dr_model::{Addition, Event, Journal};
 use dr_plant::{Block, Plant};
+use dr_volume::read_track;
 
 /// A track of a volume that is defined, and the server that owns it.
 #[derive(Clone, Copy)]
@@ -41,16 +42,25 @@ fn locate(config: &Config, volume: VolumeId, track: u32) -> Option<Place>
     }
 }
 
-/// Keeps the answer of a line, which ends its step.
-pub fn say(journal: &mut Journal, line: u32, said: Said)
-    requires { 0 < journal.old.spare }
-    ensures events { journal.new.events ≡ journal.old.events ++ answer line said ∷ [] }
-    ensures room { journal.old.spare ≡ journal.new.spare + 1 }
+/// A track of a volume whose server is on, where reads pass.
+fn read_running<P: Plant>(p: &mut P, c: &Config, v: VolumeId, t: u16) -> Block
+    requires ready { IsReady (P.state p.old) c.now }
+    requires defined { IsSome (place_of c.now v.0) }
+    requires running { (P.state p.old).on (volume_seen (P.state p.old) c.now v.0).server ≡ true }
+    requires known { (volume_seen (P.state p.old) c.now v.0).server < 8 }
+    requires within { t < (volume_seen (P.state p.old) c.now v.0).tracks }
+    ensures same { P.state p.new ≡ P.state p.old }
+    ensures bytes { result ≡ track_seen (P.state p.old) c.now v.0 t }
 {
-    journal.push(said.event(line));
+    let mut bytes = [0; 64];
+    match read_track(p, c, v, t, &mut bytes) {
+        Ok(()) => bytes,
+        Err(_) => unreachable!(),
+    }
 }
 
-/// Shows a track of a volume whose server is on.
+/// Shows a track of a volume whose server is on: the bytes of its device, which are those that the host writes of the
+/// journal give.
 pub fn show<P: Plant>(
     plant: &mut P,
     config: &Config,
@@ -59,26 +69,22 @@ pub fn show<P: Plant>(
     line: u32,
     volume: VolumeId,
     track: u32,
-)
+) -> Result<Addition, Refusal>
     requires ready { IsReady (P.state plant.old) config.now }
+    requires sound { Sound (here (P.state plant.old) config.now host.now journal.old.events) }
     requires room { 2 ≤ journal.old.spare }
     ensures same { P.state plant.new ≡ P.state plant.old }
     ensures step { Leads (here (P.state plant.old) config.now host.now journal.old.events) line (Step.Show volume.0 track)
-        (here (P.state plant.new) config.now host.now journal.new.events) }
+        (here (P.state plant.new) config.now host.now journal.new.events) (said_of result) }
+    ensures room { 1 ≤ journal.new.spare }
 {
     let Some(place) = locate(config, volume, track) else {
-        say(journal, line, Said::NotBuilt);
-        return;
+        return Err(Refusal::NotBuilt);
     };
     if !plant.is_on(place.server.0) {
-        say(
-            journal,
-            line,
-            Said::ServerOff {
-                server: place.server.0,
-            },
-        );
-        return;
+        return Err(Refusal::ServerOff {
+            server: place.server,
+        });
     }
     let bytes = read_running(plant, config, volume, place.track);
     journal.push(Event::Shown {
@@ -87,7 +93,7 @@ pub fn show<P: Plant>(
         track: place.track,
         bytes,
     });
-    say(journal, line, Said::Showed);
+    Ok(Addition::Showed)
 }
 
 /// A host write as a line gives it: where it goes, and its bytes, the first `len` of them.
@@ -106,32 +112,29 @@ pub fn write<P: Plant>(
     config: &Config,
     host: &mut Host,
     journal: &mut Journal,
-    line: u32,
     write: &HostWrite,
-)
+) -> Result<Addition, Refusal>
     requires ready { IsReady (P.state plant.old) config.now }
     requires room { 4 ≤ journal.old.spare }
     requires fits { write.now.offset + write.now.len ≤ 64 }
     requires count { host.old.issued + 1 < 2 ^ 32 }
-    ensures step { Leads (here (P.state plant.old) config.now host.old journal.old.events) line
+    ensures step { (line : ℕ) → Leads (here (P.state plant.old) config.now host.old journal.old.events) line
         (Step.Write write.now.volume.0 write.now.track write.now.offset write.now.len write.now.bytes)
-        (here (P.state plant.new) config.now host.new journal.new.events) }
+        (here (P.state plant.new) config.now host.new journal.new.events) (said_of result) }
     ensures ready { IsReady (P.state plant.new) config.now }
     ensures issued { host.new.issued ≤ host.old.issued + 1 }
+    ensures room { 1 ≤ journal.new.spare }
 {
     let Some(place) = locate(config, write.volume, write.track) else {
-        say(journal, line, Said::NotBuilt);
-        return;
+        return Err(Refusal::NotBuilt);
     };
     if host.pending.is_some() {
-        say(journal, line, Said::NotBuilt);
-        return;
+        return Err(Refusal::NotBuilt);
     }
-    let said = issue_and_land(plant, config, host, journal, place, write);
-    say(journal, line, said);
+    issue_and_land(plant, config, host, journal, place, write)
 }
 
-/// Issues a host write on a track that is there, and lands it where its server is on. Says what the step answers.
+/// Issues a host write on a track that is there, and lands it where its server is on.
 fn issue_and_land<P: Plant>(
     plant: &mut P,
     config: &Config,
@@ -139,7 +142,7 @@ fn issue_and_land<P: Plant>(
     journal: &mut Journal,
     place: Place,
     write: &HostWrite,
-) -> Said
+) -> Result<Addition, Refusal>
     requires ready { IsReady (P.state plant.old) config.now }
     requires place { IsPlace (P.state plant.old) config.now write.now.volume.0 write.now.track place }
     requires none { host.old.pending ≡ None }
@@ -148,7 +151,7 @@ fn issue_and_land<P: Plant>(
     requires count { host.old.issued + 1 < 2 ^ 32 }
     ensures step { (line : ℕ) → after_plan (here (P.state plant.old) config.now host.old journal.old.events) line
         (issue_plan (here (P.state plant.old) config.now host.old journal.old.events).control write.now.volume.0 write.now.track write.now.offset write.now.len write.now.bytes)
-        ≡ said (here (P.state plant.new) config.now host.new journal.new.events) line result }
+        ≡ said (here (P.state plant.new) config.now host.new journal.new.events) line (said_of result) }
     ensures ready { IsReady (P.state plant.new) config.now }
     ensures issued { host.new.issued ≡ host.old.issued + 1 }
     ensures room { 1 ≤ journal.new.spare }
@@ -164,9 +167,9 @@ fn issue_and_land<P: Plant>(
         bytes,
     });
     if !plant.is_on(place.server.0) {
-        return Said::ServerOff {
-            server: place.server.0,
-        };
+        return Err(Refusal::ServerOff {
+            server: place.server,
+        });
     }
     let target = Target {
         volume: write.volume,
@@ -174,19 +177,15 @@ fn issue_and_land<P: Plant>(
         track: place.track,
         offset: write.offset,
     };
-    match land_pending(
+    land_pending(
         plant,
         config,
         host,
         journal,
         target,
         front(&bytes, write.len),
-    ) {
-        Ok(()) => Said::Wrote { w },
-        Err(_) => Said::StoppedIn {
-            server: place.server.0,
-        },
-    }
+    )?;
+    Ok(Addition::Wrote { w })
 }
 
 fn front(bytes: &Block, len: u8) -> &[u8]

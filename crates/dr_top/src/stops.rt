@@ -1,26 +1,29 @@
 //! The steps that stop a server, arm its fuse, and start it.
 
-ghost use Rattle.std.specs.Prelude.{◌≡◌, ℕ, ◌+◌, ◌<◌, ◌≤◌, false, [], ◌∷◌, length, List, Some, None, OnOk, OnErr};
+ghost use Rattle.std.specs.Prelude.{◌≡◌, ℕ, ◌+◌, ◌<◌, ◌≤◌, Bool, false, [], ◌∷◌, length, List, Option, Some, None, OnOk, OnErr};
+ghost use Rattle.dr_ids.specs.declared.refusal.Refusal.{Refusal};
 ghost use Rattle.dr_plant.specs.State.{PlantState};
-ghost use Rattle.dr_model.specs.Carry.{carry, continue};
+ghost use Rattle.dr_model.specs.Control.{World};
+ghost use Rattle.dr_model.specs.Carry.{carry};
+ghost use Rattle.dr_model.specs.ReadStops.{Ends};
 ghost use Rattle.dr_model.specs.Plans as plans;
 ghost use Rattle.dr_model.specs.Plans.{torn_bytes, acknowledge_on, says_acked};
 ghost use Rattle.dr_model.specs.Runs.{after_plan, said};
 ghost use Rattle.dr_volume.specs.View.{torn_seen};
-ghost use Rattle.dr_top.specs.Here.{here, Leads, IsReady, stopped_in};
+ghost use Rattle.dr_top.specs.Here.{here, said_of, refusal_of, armed_in, Leads, IsAtRest, IsReady};
 ghost use Rattle.dr_top.specs.Starting.{IsStarting, redo_from};
 ghost use Rattle.dr_top.specs.Located.{has_owner};
 ghost use Rattle.dr_model.specs.declared.event.Event.{Event};
+ghost use Rattle.dr_model.specs.declared.said.Said.TheVariants.{Done};
 ghost use Rattle.dr_model.specs.declared.step.Step.{Step};
 ghost use Rattle.dr_top.specs.declared.host.Host.{Host};
 
 use crate::define::bytes_of;
 use crate::host::Host;
-use crate::steps::say;
 use dr_config::Config;
-use dr_ids::{ServerId, VolumeId};
-use dr_model::{Event, Journal, Name, Said, TornWord};
-use dr_plant::{Plant, Stopped, Torn};
+use dr_ids::{Refusal, ServerId, VolumeId};
+use dr_model::{Addition, Event, Journal, Name, TornWord};
+use dr_plant::{Plant, Torn};
 use dr_volume::redo;
 
 /// Turns a server off; where it is off, nothing happens. Its fuse stays.
@@ -29,30 +32,28 @@ pub fn stop<P: Plant>(
     config: &Config,
     host: &Host,
     journal: &mut Journal,
-    line: u32,
     name: &Name,
-)
+) -> Result<Addition, Refusal>
     requires ready { IsReady (P.state plant.old) config.now }
     requires short { name.now.len ≤ 24 }
     requires room { 2 ≤ journal.old.spare }
-    ensures step { Leads (here (P.state plant.old) config.now host.now journal.old.events) line (Step.Stop name.now)
-        (here (P.state plant.new) config.now host.now journal.new.events) }
+    ensures step { (line : ℕ) → Leads (here (P.state plant.old) config.now host.now journal.old.events) line (Step.Stop name.now)
+        (here (P.state plant.new) config.now host.now journal.new.events) (said_of result) }
     ensures ready { IsReady (P.state plant.new) config.now }
+    ensures room { 1 ≤ journal.new.spare }
 {
     let Some(server) = config.server_named(bytes_of(name)) else {
-        say(journal, line, Said::NotBuilt);
-        return;
+        return Err(Refusal::NotBuilt);
     };
     if !plant.is_on(server.0) {
-        say(journal, line, Said::Done);
-        return;
+        return Ok(Addition::Alone);
     }
     plant.stop(server.0);
     journal.push(Event::Stopped {
         server: server.0,
         write: 0,
     });
-    say(journal, line, Said::Done);
+    Ok(Addition::Alone)
 }
 
 /// What a write that is cut short leaves in its block.
@@ -71,25 +72,22 @@ pub fn arm<P: Plant>(
     plant: &mut P,
     config: &Config,
     host: &Host,
-    journal: &mut Journal,
-    line: u32,
+    journal: &Journal,
     name: &Name,
     writes: u32,
     word: TornWord,
-)
+) -> Result<Addition, Refusal>
     requires ready { IsReady (P.state plant.old) config.now }
     requires short { name.now.len ≤ 24 }
-    requires room { 1 ≤ journal.old.spare }
-    ensures step { Leads (here (P.state plant.old) config.now host.now journal.old.events) line (Step.StopAfter name.now writes word)
-        (here (P.state plant.new) config.now host.now journal.new.events) }
+    ensures step { (line : ℕ) → Leads (here (P.state plant.old) config.now host.now journal.now.events) line (Step.StopAfter name.now writes word)
+        (here (P.state plant.new) config.now host.now journal.now.events) (said_of result) }
     ensures ready { IsReady (P.state plant.new) config.now }
 {
     let Some(server) = config.server_named(bytes_of(name)) else {
-        say(journal, line, Said::NotBuilt);
-        return;
+        return Err(Refusal::NotBuilt);
     };
     plant.arm_writes(server.0, writes, torn(word));
-    say(journal, line, Said::Done);
+    Ok(Addition::Alone)
 }
 
 /// Turns a server on; where it is on, nothing happens. Its volumes' staged tracks are written to their places, and
@@ -99,54 +97,49 @@ pub fn start<P: Plant>(
     config: &Config,
     host: &mut Host,
     journal: &mut Journal,
-    line: u32,
     name: &Name,
-)
+) -> Result<Addition, Refusal>
     requires ready { IsReady (P.state plant.old) config.now }
     requires short { name.now.len ≤ 24 }
     requires room { 3 ≤ journal.old.spare }
-    ensures step { Leads (here (P.state plant.old) config.now host.old journal.old.events) line (Step.Start name.now)
-        (here (P.state plant.new) config.now host.new journal.new.events) }
+    ensures step { (line : ℕ) → Leads (here (P.state plant.old) config.now host.old journal.old.events) line (Step.Start name.now)
+        (here (P.state plant.new) config.now host.new journal.new.events) (said_of result) }
     ensures ready { IsReady (P.state plant.new) config.now }
     ensures issued { host.new.issued ≡ host.old.issued }
+    ensures room { 1 ≤ journal.new.spare }
 {
     let Some(server) = config.server_named(bytes_of(name)) else {
-        say(journal, line, Said::NotBuilt);
-        return;
+        return Err(Refusal::NotBuilt);
     };
     if plant.is_on(server.0) {
-        say(journal, line, Said::Done);
-        return;
+        return Ok(Addition::Alone);
     }
-    let said = turn_on(plant, config, host, journal, server);
-    say(journal, line, said);
+    turn_on(plant, config, host, journal, server)
 }
 
-/// Turns on a server that is off. Says what the step answers.
+/// Turns on a server that is off.
 fn turn_on<P: Plant>(
     plant: &mut P,
     config: &Config,
     host: &mut Host,
     journal: &mut Journal,
     server: ServerId,
-) -> Said
+) -> Result<Addition, Refusal>
     requires ready { IsReady (P.state plant.old) config.now }
     requires off { (P.state plant.old).on server.0 ≡ false }
     requires known { server.0 < 8 }
     requires room { 3 ≤ journal.old.spare }
     ensures step { (line : ℕ) → after_plan (here (P.state plant.old) config.now host.old journal.old.events) line
         (plans.start_on (here (P.state plant.old) config.now host.old journal.old.events).control (Some server.0))
-        ≡ said (here (P.state plant.new) config.now host.new journal.new.events) line result }
+        ≡ said (here (P.state plant.new) config.now host.new journal.new.events) line (said_of result) }
     ensures ready { IsReady (P.state plant.new) config.now }
     ensures issued { host.new.issued ≡ host.old.issued }
     ensures room { 1 ≤ journal.new.spare }
 {
     plant.start(server.0);
     journal.push(Event::Started { server: server.0 });
-    match redo_volumes(plant, config, journal, server) {
-        Ok(()) => acknowledge(config, host, journal, server),
-        Err(_) => Said::StoppedIn { server: server.0 },
-    }
+    redo_volumes(plant, config, journal, server)?;
+    Ok(acknowledge(config, host, journal, server))
 }
 
 /// Whether a volume is defined, and the server's.
@@ -165,13 +158,15 @@ fn redo_volumes<P: Plant>(
     config: &Config,
     journal: &mut Journal,
     server: ServerId,
-) -> Result<(), Stopped>
+) -> Result<(), Refusal>
     requires starting { IsStarting (P.state plant.old) config.now server.0 0 }
     requires known { server.0 < 8 }
     requires room { 2 ≤ journal.old.spare }
-    ensures carried { (h : Host) → carry (here (P.state plant.old) config.now h journal.old.events) (redo_from config.now server.0 0)
-        ≡ (here (P.state plant.new) config.now h journal.new.events, stopped_in result server.0) }
-    ensures ready { IsReady (P.state plant.new) config.now }
+    ensures carried { (h : Host) → Ends (armed_in (P.state plant.old)) (here (P.state plant.new) config.now h journal.new.events) (refusal_of result)
+        (here (P.state plant.old) config.now h journal.old.events) (redo_from config.now server.0 0) }
+    ensures stopped { OnErr result (refusal_of result ≡ Some (Refusal.Stopped server)) }
+    ensures rest { IsAtRest (P.state plant.new) config.now }
+    ensures unarmed { (q : ℕ) → (P.state plant.old).read_fuse q ≡ None → (P.state plant.new).read_fuse q ≡ None }
     ensures room { 1 ≤ journal.new.spare }
     ensures room_left { OnOk result (journal.new.spare ≡ journal.old.spare) }
 {
@@ -188,15 +183,19 @@ fn redo_at<P: Plant>(
     journal: &mut Journal,
     server: ServerId,
     place: usize,
-) -> Result<(), Stopped>
+) -> Result<(), Refusal>
     requires starting { IsStarting (P.state plant.old) config.now server.0 place }
     requires known { server.0 < 8 }
     requires within { place < length config.now.volumes }
     requires room { 1 ≤ journal.old.spare }
-    ensures carried { (h : Host) → carry (here (P.state plant.old) config.now h journal.old.events) (redo_from config.now server.0 place)
-        ≡ continue (here (P.state plant.new) config.now h journal.new.events) (stopped_in result server.0) (λ w. carry w (redo_from config.now server.0 (place + 1))) }
+    ensures carried { OnOk result ((h : Host) (armed : ℕ → Bool) (u : World) (r : Option Refusal) → Ends armed u r (here (P.state plant.new) config.now h journal.new.events) (redo_from config.now server.0 (place + 1))
+        → Ends armed u r (here (P.state plant.old) config.now h journal.old.events) (redo_from config.now server.0 place)) }
+    ensures ended { OnErr result ((h : Host) → Ends (armed_in (P.state plant.old)) (here (P.state plant.new) config.now h journal.new.events) (refusal_of result)
+        (here (P.state plant.old) config.now h journal.old.events) (redo_from config.now server.0 place)) }
+    ensures stopped { OnErr result (refusal_of result ≡ Some (Refusal.Stopped server)) }
     ensures starting { OnOk result (IsStarting (P.state plant.new) config.now server.0 (place + 1)) }
-    ensures ready { OnErr result (IsReady (P.state plant.new) config.now) }
+    ensures rest { OnErr result (IsAtRest (P.state plant.new) config.now) }
+    ensures unarmed { (q : ℕ) → (P.state plant.old).read_fuse q ≡ None → (P.state plant.new).read_fuse q ≡ None }
     ensures room { journal.old.spare ≤ journal.new.spare + 1 }
     ensures room_left { OnOk result (journal.new.spare ≡ journal.old.spare) }
 {
@@ -206,12 +205,12 @@ fn redo_at<P: Plant>(
     }
     match redo(plant, config, volume) {
         Ok(()) => Ok(()),
-        Err(stopped) => {
+        Err(_) => {
             journal.push(Event::Stopped {
                 server: server.0,
                 write: 0,
             });
-            Err(stopped)
+            Err(Refusal::Stopped { server })
         }
     }
 }
@@ -228,18 +227,23 @@ fn landed_on(config: &Config, host: &Host, server: ServerId) -> Option<u32>
     }
 }
 
-/// Acknowledges the write that had landed on a volume of the server, where there is one. Says what a start answers.
-fn acknowledge(config: &Config, host: &mut Host, journal: &mut Journal, server: ServerId) -> Said
+/// Acknowledges the write that had landed on a volume of the server, where there is one. Says what a start adds.
+fn acknowledge(
+    config: &Config,
+    host: &mut Host,
+    journal: &mut Journal,
+    server: ServerId,
+) -> Addition
     requires room { 2 ≤ journal.old.spare }
-    ensures said { (s : PlantState) → result ≡ says_acked (plans.landed_on (here s config.now host.old journal.old.events).control server.0) }
+    ensures said { (s : PlantState) → Done result ≡ says_acked (plans.landed_on (here s config.now host.old journal.old.events).control server.0) }
     ensures act { (s : PlantState) → carry (here s config.now host.old journal.old.events) (acknowledge_on server.0 ∷ []) ≡ (here s config.now host.new journal.new.events, None) }
     ensures issued { host.new.issued ≡ host.old.issued }
     ensures room { 1 ≤ journal.new.spare }
 {
     let Some(w) = landed_on(config, host, server) else {
-        return Said::Done;
+        return Addition::Alone;
     };
     host.pending = None;
     journal.push(Event::Ack { w });
-    Said::Acked { w }
+    Addition::Acked { w }
 }

@@ -3,7 +3,8 @@
 ghost use Rattle.std.specs.Prelude.{◌≡◌, ℕ, ◌<◌, true, false, [], OnOk, OnErr, List, take};
 ghost use Rattle.std.specs.List.{list_any};
 ghost use Rattle.dr_plant.specs.State.{IsFresh};
-ghost use Rattle.dr_top.specs.Outcome.{is_run, is_refusal, refusal_at, has_refusal, is_whole, run_status, IsRun, EndsUsage, IsUsage};
+ghost use Rattle.dr_top.specs.Outcome.{is_run, is_refusal, has_refusal, IsRun, EndsUsage, IsUsage};
+ghost use Rattle.dr_top.specs.Statuses.{refusal_at, is_whole, run_status};
 
 use crate::host::Host;
 use crate::input::{End, read_all};

@@ -62,3 +62,9 @@ unread c s t v defined few stands stuck is =
       low = subst (λ o. o < 8) (sym server) x.1.low;
       armed = λ up. subst (λ o. s.on o ≡ true → is_some (s.read_fuse o) ≡ true) (sym server) (λ on. armed-of (s.read_fuse (s.owner d)) (passes-not (s.on (s.owner d)) _ stuck on)) up;
     }
+
+-- a volume's server is one of the plant's
+pub lies-low : (c : Table) (s : PlantState) (v : ℕ) → is_some (place_of c v) ≡ true → (volume_seen s c v).tracks ≤ 256 → StandsFor c s → (volume_seen s c v).server < 8
+lies-low c s v defined few stands =
+    let x = lies-at c s v defined few stands in
+    subst (λ o. o < 8) (sym (server-seen c s v (device_of c v) x.0 x.1)) x.1.low

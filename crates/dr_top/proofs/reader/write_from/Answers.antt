@@ -1,32 +1,23 @@
-use Rattle.std.proofs.Common.{ap, ◌∙◌, Some, None, ◌+◌, cond, nat_le, Option, ℕ, List}
+use Rattle.std.proofs.Common.{ap, ◌∙◌, Some, None, cond, Option, ℕ, sym}
 use Rattle.dr_ids.specs.Spelling.{number_word}
-use Rattle.dr_model.specs.declared.step.Step.TheVariants.{Write}
 use Rattle.dr_model.specs.declared.step.Step.{Step}
-use Rattle.dr_model.specs.Lines.{hex_bytes, is_in_track, write_of}
+use Rattle.dr_model.specs.Lines.{lies_in_track, write_of}
 use Rattle.dr_model.specs.LineWords.{decimal_word, ◌>>=◌}
-use Rattle.dr_top.proofs.HexLemmas.{piece-write}
 use Rattle.dr_top.proofs.reader.write_from.Goals as goal
 
--- where the first three words are read, what is left is the bytes
-abbrev rest_of : ℕ → ℕ → ℕ → Option (List ℕ) → Option Step
-rest_of v t o hex = hex >>= λ bytes. cond (is_in_track o bytes) (Some (write_of v t o bytes)) None
-
-pub returns-in_err-piece : goal.returns-in_err-piece
-returns-in_err-piece c =
+pub returns-then-lies_in_track : goal.returns-then-lies_in_track
+returns-then-lies_in_track c =
     let t = c.args.track.now in let o = c.args.offset.now in let h = c.args.hex.now in
-    c.from_residual-in_err-piece.ensures
-    ∙ ap (λ p. p >>= λ p. cond (nat_le (c.in_ok-offset.offset + p.len) 64) (Some (Write c.in_ok-volume.volume.0 c.in_ok-track.track c.in_ok-offset.offset p.len p.bytes)) None) c.in_err-piece.ensures
-    ∙ piece-write c.in_ok-volume.volume.0 c.in_ok-track.track c.in_ok-offset.offset (hex_bytes h)
-    ∙ ap (λ x. x >>= λ o. rest_of c.in_ok-volume.volume.0 c.in_ok-track.track o (hex_bytes h)) c.in_ok-offset.ensures
-    ∙ ap (λ x. x >>= λ t. number_word 63 o >>= λ o. rest_of c.in_ok-volume.volume.0 t o (hex_bytes h)) c.in_ok-track.ensures
-    ∙ ap (λ x. x >>= λ v. decimal_word t >>= λ t. number_word 63 o >>= λ o. rest_of v.0 t o (hex_bytes h)) c.in_ok-volume.ensures
+    ap (λ s. Some s) c.write_of.ensures
+    ∙ ap (λ b. cond b (Some (write_of c.in_ok-volume.volume.0 c.in_ok-track.track c.in_ok-offset.offset h)) None) c.if-lies_in_track.ensures
+    ∙ ap (λ x. x >>= λ o. cond (lies_in_track o h) (Some (write_of c.in_ok-volume.volume.0 c.in_ok-track.track o h)) None) c.in_ok-offset.ensures
+    ∙ ap (λ x. x >>= λ t. number_word 63 o >>= λ o. cond (lies_in_track o h) (Some (write_of c.in_ok-volume.volume.0 t o h)) None) c.in_ok-track.ensures
+    ∙ ap (λ x. x >>= λ v. decimal_word t >>= λ t. number_word 63 o >>= λ o. cond (lies_in_track o h) (Some (write_of v.0 t o h)) None) c.in_ok-volume.ensures
 
-pub returns : goal.returns
-returns c =
+pub returns-else-lies_in_track : goal.returns-else-lies_in_track
+returns-else-lies_in_track c =
     let t = c.args.track.now in let o = c.args.offset.now in let h = c.args.hex.now in
-    c.write_of.ensures
-    ∙ ap (λ p. p >>= λ p. cond (nat_le (c.in_ok-offset.offset + p.len) 64) (Some (Write c.in_ok-volume.volume.0 c.in_ok-track.track c.in_ok-offset.offset p.len p.bytes)) None) c.in_ok-piece.ensures
-    ∙ piece-write c.in_ok-volume.volume.0 c.in_ok-track.track c.in_ok-offset.offset (hex_bytes h)
-    ∙ ap (λ x. x >>= λ o. rest_of c.in_ok-volume.volume.0 c.in_ok-track.track o (hex_bytes h)) c.in_ok-offset.ensures
-    ∙ ap (λ x. x >>= λ t. number_word 63 o >>= λ o. rest_of c.in_ok-volume.volume.0 t o (hex_bytes h)) c.in_ok-track.ensures
-    ∙ ap (λ x. x >>= λ v. decimal_word t >>= λ t. number_word 63 o >>= λ o. rest_of v.0 t o (hex_bytes h)) c.in_ok-volume.ensures
+    ap (λ b. cond b (Some (write_of c.in_ok-volume.volume.0 c.in_ok-track.track c.in_ok-offset.offset h)) None) c.if-lies_in_track.ensures
+    ∙ ap (λ x. x >>= λ o. cond (lies_in_track o h) (Some (write_of c.in_ok-volume.volume.0 c.in_ok-track.track o h)) None) c.in_ok-offset.ensures
+    ∙ ap (λ x. x >>= λ t. number_word 63 o >>= λ o. cond (lies_in_track o h) (Some (write_of c.in_ok-volume.volume.0 t o h)) None) c.in_ok-track.ensures
+    ∙ ap (λ x. x >>= λ v. decimal_word t >>= λ t. number_word 63 o >>= λ o. cond (lies_in_track o h) (Some (write_of v.0 t o h)) None) c.in_ok-volume.ensures

@@ -1,8 +1,11 @@
-use Rattle.std.proofs.Common.{ap, sym, ◌∙◌, arith, ◌≡◌, length, ◌++◌, ◌+◌, drop, ◌∷◌, Some, refl, inl, inr}
+use Rattle.std.proofs.Common.{ap, sym, ◌∙◌, arith, ◌≡◌, length, ◌++◌, ◌+◌, drop, take, subst, ◌∷◌, Some, refl, inl, inr}
 use Rattle.std.proofs.lemmas.List.{append-nil}
 use Rattle.std.specs.Str.Lines.{lines}
 use Rattle.dr_model.specs.Control.{World}
+use Rattle.dr_model.specs.Laws.{Sound}
+use Rattle.dr_model.specs.Lines.{tasks_from}
 use Rattle.dr_model.specs.Text.{text}
+use Rattle.dr_laws.proofs.Steps.{sound-run}
 use Rattle.dr_top.specs.Here.{here}
 use Rattle.dr_top.proofs.RunLemmas.{rest-next, within-next, world-next, gave-on, part-on, to_err, none-left, world-all, no-lines, world-begins, zero-length}
 use Rattle.dr_top.proofs.run.run_lines.Goals as goal
@@ -83,3 +86,6 @@ loop-rest-preserved g c =
       issued = omega (arith, had, more);
       count = omega (arith, counted, counts);
     }
+
+pub run_line-requires-clause-sound : goal.run_line-requires-clause-sound
+run_line-requires-clause-sound g c = subst Sound c.loop-rest.invariant.leads (sound-run (tasks_from 1 (take c.loop-rest.done (lines c.args.script.now))))

@@ -1,16 +1,15 @@
-use Rattle.std.proofs.Common.{◌≡◌, sym, ap, ◌∙◌, subst, Some, option_map}
+use Rattle.std.proofs.Common.{◌≡◌, sym, ap, ◌∙◌, subst, Some, option_map, Option, ℕ}
 use Rattle.std.specs.Prelude.{IfSome}
 use Rattle.dr_ids.specs.declared.names.VolumeId.{VolumeId}
 use Rattle.dr_config.specs.Table.{place_of}
 use Rattle.dr_top.specs.Here.{rest_of}
-use Rattle.dr_top.proofs.StartLemmas.{own-server, redone-skip, redone-goes, redone-stops, starting-skip, starting-goes, ready-stopped}
+use Rattle.dr_top.proofs.StartLemmas.{own-server, redone-skip, redone-goes, redone-stops, starting-skip, starting-goes, rest-stopped}
 use Rattle.dr_top.proofs.stops.redo_at.Goals as goal
 
 pub returns-then-not-belongs-clause-carried : goal.returns-then-not-belongs-clause-carried
-returns-then-not-belongs-clause-carried g c h =
-    let s = g.P.Plant.state c.args.plant.now in
-    redone-skip s s c.args.config.now h c.args.journal.now.events c.unwrap-volume.result.0 c.args.server.0 c.args.place
-    (sym (ap (option_map (λ (v : VolumeId). v.0)) c.unwrap-volume.ensures) ∙ c.volume_at.ensures.value) (sym c.if-not-belongs.ensures)
+returns-then-not-belongs-clause-carried g c h armed u r =
+    redone-skip (g.P.Plant.state c.args.plant.now) c.args.config.now h c.args.journal.now.events c.unwrap-volume.result.0 c.args.server.0 c.args.place
+    (sym (ap (option_map (λ (v : VolumeId). v.0)) c.unwrap-volume.ensures) ∙ c.volume_at.ensures.value) armed u r (sym c.if-not-belongs.ensures)
 
 pub returns-then-not-belongs-clause-starting : goal.returns-then-not-belongs-clause-starting
 returns-then-not-belongs-clause-starting g c =
@@ -18,30 +17,28 @@ returns-then-not-belongs-clause-starting g c =
     (subst (λ o. IfSome o (λ v. place_of c.args.config.now v.0 ≡ Some c.args.place)) c.unwrap-volume.ensures c.volume_at.ensures.place) (sym c.if-not-belongs.ensures)
 
 pub returns-in-Ok-clause-carried : goal.returns-in-Ok-clause-carried
-returns-in-Ok-clause-carried g c h =
-    let r = rest_of h c.args.journal.now.events in let reads = c.requires.starting.reads in
-    redone-goes (g.P.Plant.state c.args.plant.now) (g.P.Plant.state c.redo.new.p) c.args.config.now h c.args.journal.now.events c.unwrap-volume.result.0 c.args.server.0 c.args.place
-    (sym (ap (option_map (λ (v : VolumeId). v.0)) c.unwrap-volume.ensures) ∙ c.volume_at.ensures.value) (sym c.if-not-belongs.ensures)
-    (c.in-Ok.ensures.world r reads) (c.in-Ok.ensures.stopped r reads)
+returns-in-Ok-clause-carried g c h armed u r =
+    redone-goes (g.P.Plant.state c.args.plant.now) c.args.config.now h c.args.journal.now.events c.unwrap-volume.result.0 c.args.server.0 c.args.place
+    (sym (ap (option_map (λ (v : VolumeId). v.0)) c.unwrap-volume.ensures) ∙ c.volume_at.ensures.value)
+    (g.P.Plant.state c.redo.new.p) c.requires.known c.requires.starting.on (sym c.if-not-belongs.ensures) armed u r (c.in-Ok.ensures.exact (rest_of h c.args.journal.now.events))
 
 pub returns-in-Ok-clause-starting : goal.returns-in-Ok-clause-starting
 returns-in-Ok-clause-starting g c =
     starting-goes (g.P.Plant.state c.args.plant.now) c.args.config.now c.unwrap-volume.result.0 c.args.server.0 c.args.place c.requires.starting
     (subst (λ o. IfSome o (λ v. place_of c.args.config.now v.0 ≡ Some c.args.place)) c.unwrap-volume.ensures c.volume_at.ensures.place)
-    (g.P.Plant.state c.redo.new.p) c.in-Ok.ensures.same c.in-Ok.ensures.stands (c.in-Ok.ensures.reads_pass c.requires.starting.reads) c.in-Ok.ensures.settled
+    (g.P.Plant.state c.redo.new.p) c.in-Ok.ensures.same c.in-Ok.ensures.stands c.in-Ok.ensures.settled
     c.in-Ok.ensures.on c.in-Ok.ensures.done
 
-pub returns-in-Err-clause-carried : goal.returns-in-Err-clause-carried
-returns-in-Err-clause-carried g c h =
-    let r = rest_of h c.args.journal.now.events in let reads = c.requires.starting.reads in
-    redone-stops (g.P.Plant.state c.args.plant.now) (g.P.Plant.state c.redo.new.p) c.args.config.now h c.args.journal.now.events c.unwrap-volume.result.0 c.args.server.0 c.args.place c.push.new.self.events
-    (sym (ap (option_map (λ (v : VolumeId). v.0)) c.unwrap-volume.ensures) ∙ c.volume_at.ensures.value) (sym c.if-not-belongs.ensures)
-    (c.in-Err.ensures.world r reads) (c.in-Err.ensures.stopped r reads) c.requires.starting.on c.push.ensures.events
+pub returns-in-Err-clause-ended : goal.returns-in-Err-clause-ended
+returns-in-Err-clause-ended g c h =
+    redone-stops (g.P.Plant.state c.args.plant.now) c.args.config.now h c.args.journal.now.events c.unwrap-volume.result.0 c.args.server.0 c.args.place
+    (sym (ap (option_map (λ (v : VolumeId). v.0)) c.unwrap-volume.ensures) ∙ c.volume_at.ensures.value)
+    (g.P.Plant.state c.redo.new.p) c.requires.known c.requires.starting.on (sym c.if-not-belongs.ensures) c.push.new.self.events (c.in-Err.ensures.exact (rest_of h c.args.journal.now.events)) c.push.ensures.events
 
-pub returns-in-Err-clause-ready : goal.returns-in-Err-clause-ready
-returns-in-Err-clause-ready g c =
+pub returns-in-Err-clause-rest : goal.returns-in-Err-clause-rest
+returns-in-Err-clause-rest g c =
     let s = g.P.Plant.state c.args.plant.now in let u = g.P.Plant.state c.redo.new.p in let t = c.args.config.now in
-    ready-stopped s t c.unwrap-volume.result.0 c.args.server.0 c.args.place c.requires.starting
+    rest-stopped s t c.unwrap-volume.result.0 c.args.server.0 c.args.place c.requires.starting
     (subst (λ o. IfSome o (λ v. place_of t v.0 ≡ Some c.args.place)) c.unwrap-volume.ensures c.volume_at.ensures.place)
-    u c.in-Err.ensures.same c.in-Err.ensures.stands (c.in-Err.ensures.reads_pass c.requires.starting.reads) c.in-Err.ensures.settled
+    u c.in-Err.ensures.same c.in-Err.ensures.stands c.in-Err.ensures.settled
     (sym (ap u.on (own-server s t c.unwrap-volume.result.0 c.args.server.0 (sym c.if-not-belongs.ensures))) ∙ c.in-Err.ensures.off)

@@ -1,14 +1,45 @@
-use Rattle.std.proofs.Common.{arith, ◌∙◌, ◌≤◌, length}
-use Rattle.dr_top.specs.Here.{here}
-use Rattle.dr_top.proofs.StartLemmas.{ready-started, redone-all}
+use Rattle.std.proofs.Common.{arith, sym, subst, ◌∙◌, ◌≤◌, ◌+◌, length, Some, None}
+use Rattle.dr_model.specs.ReadStops.{Ends}
+use Rattle.dr_laws.proofs.ReadStops.{ends-wider}
+use Rattle.dr_top.specs.Here.{here, armed_in}
+use Rattle.dr_top.specs.Starting.{redo_from}
+use Rattle.dr_top.proofs.LandLemmas.{refused-by, wider-armed}
+use Rattle.dr_top.proofs.StartLemmas.{rest-started, redone-all}
 use Rattle.dr_top.proofs.stops.redo_volumes.Goals as goal
+
+pub loop-place-preserved : goal.loop-place-preserved
+loop-place-preserved g c = record {
+  rest = λ h u r more. c.loop-place.invariant.rest h u r (c.in_ok-redo_at.ensures.carried h (armed_in (g.P.Plant.state c.args.plant.now)) u r more);
+  starting = c.in_ok-redo_at.ensures.starting;
+  spare = c.in_ok-redo_at.ensures.room_left ∙ c.loop-place.invariant.spare;
+  unarmed = λ q none. c.in_ok-redo_at.ensures.unarmed q (c.loop-place.invariant.unarmed q none);
+}
+
+pub returns-in_err-redo_at-clause-carried : goal.returns-in_err-redo_at-clause-carried
+returns-in_err-redo_at-clause-carried g c h =
+    let s0 = g.P.Plant.state c.args.plant.now in
+    let s = g.P.Plant.state c.loop-place.plant in
+    let t = c.args.config.now in
+    let u = here (g.P.Plant.state c.redo_at.new.plant) t h c.redo_at.new.journal.events in
+    let e = c.in_err-redo_at.field-0.0 in
+    subst (λ r. Ends (armed_in s0) u r (here s0 t h c.args.journal.now.events) (redo_from t c.args.server.0 0)) (sym (refused-by c.from_residual.result e c.from_residual.ensures.0 c.from_residual.ensures.1))
+    (c.loop-place.invariant.rest h u (Some e)
+    (ends-wider (armed_in s) (armed_in s0) (wider-armed s0 s c.loop-place.invariant.unarmed) u (Some e) _ _ (c.in_err-redo_at.ensures.ended h)))
+
+pub returns-in_err-redo_at-clause-unarmed : goal.returns-in_err-redo_at-clause-unarmed
+returns-in_err-redo_at-clause-unarmed g c q none = c.in_err-redo_at.ensures.unarmed q (c.loop-place.invariant.unarmed q none)
 
 pub returns-clause-carried : goal.returns-clause-carried
 returns-clause-carried g c h =
+    let s = g.P.Plant.state c.loop-place.plant in
     let all : length c.args.config.now.volumes ≤ c.loop-place.place = (let e = c.volumes-place-end.ensures.count in let f = c.loop-place-test.false in omega arith) in
-    c.loop-place.invariant.rest h ∙ redone-all (here (g.P.Plant.state c.loop-place.plant) c.args.config.now h c.loop-place.journal.events) c.args.config.now c.args.server.0 c.loop-place.place all
+    c.loop-place.invariant.rest h (here s c.args.config.now h c.loop-place.journal.events) None
+    (redone-all (armed_in (g.P.Plant.state c.args.plant.now)) (here s c.args.config.now h c.loop-place.journal.events) c.args.config.now c.args.server.0 c.loop-place.place all)
 
-pub returns-clause-ready : goal.returns-clause-ready
-returns-clause-ready g c =
-    ready-started (g.P.Plant.state c.loop-place.plant) c.args.config.now c.args.server.0 c.loop-place.place c.loop-place.invariant.starting
+pub returns-clause-rest : goal.returns-clause-rest
+returns-clause-rest g c =
+    rest-started (g.P.Plant.state c.loop-place.plant) c.args.config.now c.args.server.0 c.loop-place.place c.loop-place.invariant.starting
     (let e = c.volumes-place-end.ensures.count in let f = c.loop-place-test.false in omega arith)
+
+pub returns-clause-unarmed : goal.returns-clause-unarmed
+returns-clause-unarmed g c q none = c.loop-place.invariant.unarmed q none

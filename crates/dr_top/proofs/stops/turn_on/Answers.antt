@@ -1,28 +1,46 @@
-use Rattle.std.proofs.Common.{sym, ap, ◌∙◌, subst}
+use Rattle.std.proofs.Common.{sym, ap, ◌∙◌, subst, Some, None}
 use Rattle.dr_plant.specs.State.{PlantState}
 use Rattle.dr_model.specs.Carry.{carry}
+use Rattle.dr_model.specs.Runs.{said}
+use Rattle.dr_volume.specs.View.{ReadsPass}
 use Rattle.dr_top.specs.Here.{here}
 use Rattle.dr_top.specs.Starting.{IsStarting, redo_from}
-use Rattle.dr_top.proofs.StartLemmas.{turned-stops, turned-goes, starting-first}
+use Rattle.dr_top.proofs.LandLemmas.{exact, ready-after, failed-by}
+use Rattle.dr_top.proofs.StartLemmas.{turned-fails, turned-goes, starting-first, started-reads}
 use Rattle.dr_top.proofs.stops.turn_on.Goals as goal
 
 pub redo_volumes-requires-clause-starting : goal.redo_volumes-requires-clause-starting
 redo_volumes-requires-clause-starting g c =
-    subst (λ (s : PlantState). IsStarting s c.args.config.now c.args.server.0 0) (sym c.start.ensures) (starting-first (g.P.Plant.state c.args.plant.now) c.args.config.now c.args.server.0 c.requires.ready)
+    subst (λ (s : PlantState). IsStarting s c.args.config.now c.args.server.0 0) (sym c.start.ensures) (starting-first (g.P.Plant.state c.args.plant.now) c.args.config.now c.args.server.0 c.requires.ready.rest)
 
-pub returns-in-Ok-clause-step : goal.returns-in-Ok-clause-step
-returns-in-Ok-clause-step g c line =
-    let s = g.P.Plant.state c.args.plant.now in let u = g.P.Plant.state c.redo_volumes.new.plant in let t = c.args.config.now in let h = c.args.host.now in
+pub returns-in_err-redo_volumes-clause-step : goal.returns-in_err-redo_volumes-clause-step
+returns-in_err-redo_volumes-clause-step g c line =
+    let s = g.P.Plant.state c.args.plant.now in let s1 = g.P.Plant.state c.start.new.self in let u = g.P.Plant.state c.redo_volumes.new.plant in let t = c.args.config.now in let h = c.args.host.now in
+    let mid = c.push.new.self.events in let now = c.redo_volumes.new.journal.events in
+    let e = c.in_err-redo_volumes.field-0.0 in
+    let reads = subst ReadsPass (sym c.start.ensures) (started-reads s c.args.server.0 c.requires.ready.reads) in
+    turned-fails s t h c.args.journal.now.events line c.args.server.0 c.requires.known c.requires.off mid c.push.ensures.events u now e
+    (ap (λ (x : PlantState). carry (here x t h mid) (redo_from t c.args.server.0 0)) (sym c.start.ensures)
+    ∙ exact s1 (here u t h now) (Some e) (here s1 t h mid) (redo_from t c.args.server.0 0) reads (c.in_err-redo_volumes.ensures.carried h))
+    ∙ ap (said (here u t h now) line) (sym (failed-by c.from_residual.result e c.from_residual.ensures.0 c.from_residual.ensures.1))
+
+pub returns-in_err-redo_volumes-clause-ready : goal.returns-in_err-redo_volumes-clause-ready
+returns-in_err-redo_volumes-clause-ready g c =
+    ready-after c.args.config.now (g.P.Plant.state c.start.new.self) (g.P.Plant.state c.redo_volumes.new.plant) (subst ReadsPass (sym c.start.ensures) (started-reads (g.P.Plant.state c.args.plant.now) c.args.server.0 c.requires.ready.reads))
+    c.in_err-redo_volumes.ensures.rest c.in_err-redo_volumes.ensures.unarmed
+
+pub returns-clause-step : goal.returns-clause-step
+returns-clause-step g c line =
+    let s = g.P.Plant.state c.args.plant.now in let s1 = g.P.Plant.state c.start.new.self in let u = g.P.Plant.state c.redo_volumes.new.plant in let t = c.args.config.now in let h = c.args.host.now in
     let mid = c.push.new.self.events in
+    let reads = subst ReadsPass (sym c.start.ensures) (started-reads s c.args.server.0 c.requires.ready.reads) in
     turned-goes s t h c.args.journal.now.events line c.args.server.0 c.requires.known c.requires.off mid c.push.ensures.events
     u c.acknowledge.new.host c.redo_volumes.new.journal.events c.acknowledge.new.journal.events c.acknowledge.result
-    (ap (λ (x : PlantState). carry (here x t h mid) (redo_from t c.args.server.0 0)) (sym c.start.ensures) ∙ c.in-Ok.ensures.carried h)
+    (ap (λ (x : PlantState). carry (here x t h mid) (redo_from t c.args.server.0 0)) (sym c.start.ensures)
+    ∙ exact s1 (here u t h c.redo_volumes.new.journal.events) None (here s1 t h mid) (redo_from t c.args.server.0 0) reads (c.in_ok-redo_volumes.ensures.carried h))
     (c.acknowledge.ensures.act u) (c.acknowledge.ensures.said s)
 
-pub returns-in-Err-clause-step : goal.returns-in-Err-clause-step
-returns-in-Err-clause-step g c line =
-    let s = g.P.Plant.state c.args.plant.now in let u = g.P.Plant.state c.redo_volumes.new.plant in let t = c.args.config.now in let h = c.args.host.now in
-    let mid = c.push.new.self.events in
-    turned-stops s t h c.args.journal.now.events line c.args.server.0 c.requires.known c.requires.off mid c.push.ensures.events
-    u c.redo_volumes.new.journal.events
-    (ap (λ (x : PlantState). carry (here x t h mid) (redo_from t c.args.server.0 0)) (sym c.start.ensures) ∙ c.in-Err.ensures.carried h)
+pub returns-clause-ready : goal.returns-clause-ready
+returns-clause-ready g c =
+    ready-after c.args.config.now (g.P.Plant.state c.start.new.self) (g.P.Plant.state c.redo_volumes.new.plant) (subst ReadsPass (sym c.start.ensures) (started-reads (g.P.Plant.state c.args.plant.now) c.args.server.0 c.requires.ready.reads))
+    c.in_ok-redo_volumes.ensures.rest c.in_ok-redo_volumes.ensures.unarmed

@@ -17,7 +17,7 @@ returns-in_default g c =
     let h = idle s c.requires.fresh in
     subst (λ es. IsRun g.S.Source.left g.S.Source.faults g.K.Sink.written g.K.Sink.faults c.args.source.now c.read_all.new.source c.args.sink.now c.args.sink.now NoMemory es s) (sym c.requires.empty)
     (is-run g.S.Source.left g.S.Source.faults g.K.Sink.written g.K.Sink.faults c.args.source.now c.read_all.new.source c.args.sink.now c.args.sink.now
-    NoMemory s t h [] [] (sound-empty s c.requires.fresh) (ready-fresh s c.requires.fresh).stands (λ told is. (told, refl))
+    NoMemory s t h [] [] (sound-empty s c.requires.fresh) (ready-fresh s c.requires.fresh).rest.stands (λ told is. (told, refl))
     (record { count = 0; within = omega arith; leads = world-begins [] ∙ sym (begins s c.requires.fresh) })
     (0, omega arith, λ out is. is ∙ ap Some (sym (append-nil out))))
 
@@ -32,7 +32,7 @@ returns-in-Ok-run_lines g c =
     let taken = subst (λ b. Took g.S.Source.left c.args.source.now c.read_all.new.source b) same c.in-Ok.ensures.input.taken in
     let ends = subst (λ b. EndsSo g.S.Source.left g.S.Source.faults c.args.source.now c.read_all.new.source b c.in-Ok.input.end) same c.in-Ok.ensures.input.ends in
     is-run g.S.Source.left g.S.Source.faults g.K.Sink.written g.K.Sink.faults c.args.source.now c.read_all.new.source c.args.sink.now c.run_lines.new.sink
-    c.run_status.result s t h ev script (subst IsSound c.config.view_is c.config.invariant) c.run_lines.ensures.ready.stands (λ told is. let x = taken told is in (x.0, x.2)) c.run_lines.ensures.followed
+    c.run_status.result s t h ev script (subst IsSound c.config.view_is c.config.invariant) c.run_lines.ensures.ready.rest.stands (λ told is. let x = taken told is in (x.0, x.2)) c.run_lines.ensures.followed
     (subst (λ st. Ends g.S.Source.left g.S.Source.faults g.K.Sink.written g.K.Sink.faults c.args.source.now c.read_all.new.source c.args.sink.now c.run_lines.new.sink st script (here s t h ev))
     (sym c.run_status.ensures)
     (ends-run g.S.Source.left g.S.Source.faults g.K.Sink.written g.K.Sink.faults c.args.source.now c.read_all.new.source c.args.sink.now c.run_lines.new.sink
@@ -49,7 +49,7 @@ returns g c =
     let script = c.deref.result.now in
     let taken = subst (λ b. Took g.S.Source.left c.args.source.now c.read_all.new.source b) (sym c.deref.ensures.value) c.in-Ok.ensures.input.taken in
     is-run g.S.Source.left g.S.Source.faults g.K.Sink.written g.K.Sink.faults c.args.source.now c.read_all.new.source c.args.sink.now c.run_lines.new.sink
-    c.status.result s t h ev script (subst IsSound c.config.view_is c.config.invariant) c.run_lines.ensures.ready.stands (λ told is. let x = taken told is in (x.0, x.2)) c.run_lines.ensures.followed
+    c.status.result s t h ev script (subst IsSound c.config.view_is c.config.invariant) c.run_lines.ensures.ready.rest.stands (λ told is. let x = taken told is in (x.0, x.2)) c.run_lines.ensures.followed
     (subst (λ st. Ends g.S.Source.left g.S.Source.faults g.K.Sink.written g.K.Sink.faults c.args.source.now c.read_all.new.source c.args.sink.now c.run_lines.new.sink st script (here s t h ev))
     (sym c.status.ensures)
     (ends-halted g.S.Source.left g.S.Source.faults g.K.Sink.written g.K.Sink.faults c.args.source.now c.read_all.new.source c.args.sink.now c.run_lines.new.sink
