@@ -128,6 +128,13 @@ refusal_words code =
     else if nat_eq code 19 then codes "E19 not identical" else if nat_eq code 20 then codes "E20 numbers spent" else if nat_eq code 21 then codes "E21 stopped"
     else if nat_eq code 22 then codes "E22 no group" else if nat_eq code 23 then codes "E23 journal full" else if nat_eq code 24 then codes "E24 not built" else []
 
+-- a volume in four hexadecimal digits, and a session in two, by as many of a number's lowest bits
+abbrev pub volume_digits : ℕ → List ℕ
+volume_digits n = hex4 (n % 65536)
+
+abbrev pub session_digits : ℕ → List ℕ
+session_digits n = hex2 (n % 256)
+
 -- of two servers, the lower numbered first
 abbrev pub link_text : Told → ℕ → ℕ → List ℕ
 link_text told a b = codes " " ++ told_name told (min a b) ++ codes " " ++ told_name told (max a b)
@@ -142,15 +149,15 @@ refusal_values told code a b c =
     else if nat_eq code 5 then codes " " ++ told_name told a
     else if nat_eq code 6 then link_text told a b
     else if nat_eq code 7 then codes " " ++ decimal a
-    else if nat_eq code 8 then codes " " ++ hex4 a
-    else if nat_eq code 9 then codes " " ++ hex4 a
-    else if nat_eq code 10 then codes " " ++ hex4 a ++ codes " " ++ pair_words b
-    else if nat_eq code 11 then codes " " ++ hex4 a ++ codes " " ++ relation_word b
-    else if nat_eq code 12 then codes " " ++ hex2 a
-    else if nat_eq code 13 then codes " " ++ hex2 a
+    else if nat_eq code 8 then codes " " ++ volume_digits a
+    else if nat_eq code 9 then codes " " ++ volume_digits a
+    else if nat_eq code 10 then codes " " ++ volume_digits a ++ codes " " ++ pair_words b
+    else if nat_eq code 11 then codes " " ++ volume_digits a ++ codes " " ++ relation_word b
+    else if nat_eq code 12 then codes " " ++ session_digits a
+    else if nat_eq code 13 then codes " " ++ session_digits a
     else if nat_eq code 14 then codes " " ++ phase_word a ++ codes " " ++ decimal b
     else if nat_eq code 15 then codes " " ++ phase_word a
-    else if nat_eq code 16 then codes " " ++ hex4 a ++ codes " " ++ decimal b
+    else if nat_eq code 16 then codes " " ++ volume_digits a ++ codes " " ++ decimal b
     else if nat_eq code 17 then codes " " ++ decimal a ++ codes " " ++ decimal b
     else if nat_eq code 18 then codes " " ++ decision_text a b c
     else if nat_eq code 19 then codes " " ++ decimal a

@@ -1,0 +1,104 @@
+-- The text of a few answers.
+use Rattle.std.proofs.Common.{ℕ, ◌≡◌, ◌<◌, ◌%◌, refl, ap, List, [], ◌∷◌, ◌++◌, arith, Some, None}
+use Rattle.std.specs.Prelude.{codes, nat_eq, if◌then◌else◌, replicate}
+use Rattle.std.specs.Fmt.{digits}
+use Rattle.dr_ids.specs.Spelling.{hex2, hex4}
+use Rattle.dr_model.specs.Contents.{zeros}
+use Rattle.dr_model.specs.declared.event.Event.{Event}
+use Rattle.dr_model.specs.declared.event.Event.TheVariants.{Server, Shown, Answer}
+use Rattle.dr_model.specs.Text.{Told, said_text, untold, text, volume_digits, session_digits}
+
+-- two servers are defined
+abbrev defined : Told
+defined = record { names = λ s. if nat_eq s 0 then Some (codes "A") else if nat_eq s 1 then Some (codes "B") else None; shown = 65 ∷ 0 ∷ 10 ∷ 0 ∷ 0 ∷ [] }
+
+wrote : said_text untold 0 1 12 0 ≡ codes "ok w12"
+unfolding digits
+wrote = refl
+
+acknowledged : said_text untold 0 2 4294967295 0 ≡ codes "ok acked w4294967295"
+unfolding digits
+acknowledged = refl
+
+counted : said_text untold 0 3 0 0 ≡ codes "ok 0"
+unfolding digits
+counted = refl
+
+committing : said_text untold 0 4 6 3 ≡ codes "ok Committing 3"
+unfolding digits
+committing = refl
+
+group : said_text untold 0 1029 3 4 ≡ codes "ok group 3 RevertSome(3,4)"
+unfolding digits
+group = refl
+
+group_of_rest : said_text untold 0 773 4 4 ≡ codes "ok group 4 CommitRest(4)"
+unfolding digits
+group_of_rest = refl
+
+shows : said_text defined 0 6 0 0 ≡ codes "ok 41000A"
+shows = refl
+
+shows_zeros : said_text untold 0 6 0 0 ≡ codes "ok -"
+unfolding zeros
+shows_zeros = refl
+
+held : said_text untold 100 7 0 0 ≡ codes "held w7"
+unfolding digits
+held = refl
+
+column : said_text untold 1 1025 0 0 ≡ codes "E01 syntax 1025"
+unfolding digits
+column = refl
+
+unknown : said_text untold 2 6 0 0 ≡ codes "E02 unknown track"
+unknown = refl
+
+links : said_text defined 6 1 0 0 ≡ codes "E06 link down A B"
+links = refl
+
+pair_state : said_text untold 10 6691 4 0 ≡ codes "E10 pair state 1A23 Target Full Duplex"
+pair_state = refl
+
+relation_state : said_text untold 11 4096 0 0 ≡ codes "E11 relation state 1000 revertible"
+relation_state = refl
+
+in_session : said_text untold 12 11 0 0 ≡ codes "E12 in session 0B"
+in_session = refl
+
+in_formation : said_text untold 14 4 3 0 ≡ codes "E14 in formation Draining 3"
+unfolding digits
+in_formation = refl
+
+unsealed : said_text untold 16 8192 0 0 ≡ codes "E16 unsealed 2000 0"
+unfolding digits
+unsealed = refl
+
+stale : said_text untold 17 2 5 0 ≡ codes "E17 stale 2 5"
+unfolding digits
+stale = refl
+
+forbidden : said_text untold 18 0 0 0 ≡ codes "E18 decision NoMember"
+forbidden = refl
+
+no_group : said_text untold 22 5 3 4 ≡ codes "E22 no group Impossible(3,4)"
+unfolding digits
+no_group = refl
+
+-- the first name of a server stays, and an answer ends what is shown
+abbrev name : List ℕ → List ℕ
+name letters = letters ++ replicate 23 0
+
+abbrev journal : List Event
+journal = Server 0 1 (name (codes "A")) ∷ Server 0 1 (name (codes "B")) ∷ Answer 7 5 0 0 0 ∷ Shown 10 4096 0 (75 ∷ 0 ∷ []) ∷ Answer 10 0 6 0 0 ∷ Answer 11 0 6 0 0 ∷ []
+
+journal_text : text journal ≡ codes "7 E05 server off A\n10 ok 4B\n11 ok -\n"
+unfolding digits zeros
+journal_text = refl
+
+-- a volume's and a session's digits say all of their numbers
+volume-whole : (n : ℕ) → n < 65536 → volume_digits n ≡ hex4 n
+volume-whole n lt = ap hex4 (let e : n % 65536 ≡ n = omega arith in e)
+
+session-whole : (n : ℕ) → n < 256 → session_digits n ≡ hex2 n
+session-whole n lt = ap hex2 (let e : n % 256 ≡ n = omega arith in e)

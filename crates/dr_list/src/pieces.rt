@@ -1,0 +1,99 @@
+//! Numbers, volumes, sessions and tracks, as answers show them.
+
+ghost use Rattle.std.specs.Prelude.{◌≡◌, ◌≤◌, ◌∷◌, ◌++◌, length, take, OnOk, codes};
+ghost use Rattle.std.specs.List.{flat_map};
+ghost use Rattle.std.specs.Fmt.{decimal};
+ghost use Rattle.dr_ids.specs.Spelling.{hex2, hex4};
+ghost use Rattle.dr_model.specs.Text.{trimmed, track_text, volume_digits, session_digits};
+
+use dr_ids::upper_hex;
+use std::alloc::{AllocError, Global};
+
+/// Adds a number in decimal digits.
+pub(crate) fn push_number(alloc: Global, out: &mut Vec<u8>, n: u32) -> Result<(), AllocError>
+    ensures { OnOk result (out.new.items ≡ out.old.items ++ decimal n) }
+{
+    let digits = n.to_string(alloc)?;
+    out.extend_from_slice(digits.as_bytes())
+}
+
+/// Adds a word behind a space.
+pub(crate) fn push_word(out: &mut Vec<u8>, word: &[u8]) -> Result<(), AllocError>
+    ensures { OnOk result (out.new.items ≡ out.old.items ++ codes " " ++ word.now) }
+{
+    out.extend_from_slice(b" ")?;
+    out.extend_from_slice(word)
+}
+
+/// Adds a number in decimal digits behind a space.
+pub(crate) fn push_count(alloc: Global, out: &mut Vec<u8>, n: u32) -> Result<(), AllocError>
+    ensures { OnOk result (out.new.items ≡ out.old.items ++ codes " " ++ decimal n) }
+{
+    out.extend_from_slice(b" ")?;
+    push_number(alloc, out, n)
+}
+
+/// Adds two upper-case hexadecimal digits.
+fn push_hex2(out: &mut Vec<u8>, n: u8) -> Result<(), AllocError>
+    ensures { OnOk result (out.new.items ≡ out.old.items ++ hex2 n) }
+{
+    let digits = [upper_hex(n / 16), upper_hex(n % 16)];
+    out.extend_from_slice(&digits)
+}
+
+/// Adds four upper-case hexadecimal digits.
+fn push_hex4(out: &mut Vec<u8>, n: u16) -> Result<(), AllocError>
+    ensures { OnOk result (out.new.items ≡ out.old.items ++ hex4 n) }
+{
+    push_hex2(out, (n / 256) as u8)?;
+    push_hex2(out, (n % 256) as u8)
+}
+
+/// Adds a volume behind a space: four hexadecimal digits.
+pub(crate) fn push_volume(out: &mut Vec<u8>, n: u32) -> Result<(), AllocError>
+    ensures { OnOk result (out.new.items ≡ out.old.items ++ codes " " ++ volume_digits n) }
+{
+    out.extend_from_slice(b" ")?;
+    push_hex4(out, (n % 65536) as u16)
+}
+
+/// Adds a session behind a space: two hexadecimal digits.
+pub(crate) fn push_session(out: &mut Vec<u8>, n: u32) -> Result<(), AllocError>
+    ensures { OnOk result (out.new.items ≡ out.old.items ++ codes " " ++ session_digits n) }
+{
+    out.extend_from_slice(b" ")?;
+    push_hex2(out, (n % 256) as u8)
+}
+
+/// How many bytes there are before the zeros at the end.
+fn trimmed_len(bytes: &[u8]) -> usize
+    ensures within { result ≤ length bytes.now }
+    ensures front { take result bytes.now ≡ trimmed bytes.now }
+{
+    let mut len = bytes.len();
+    while len > 0 && bytes[len - 1] == 0 {
+        len -= 1;
+    }
+    len
+}
+
+fn push_hex(out: &mut Vec<u8>, bytes: &[u8]) -> Result<(), AllocError>
+    ensures { OnOk result (out.new.items ≡ out.old.items ++ flat_map hex2 bytes.now) }
+{
+    for b in bytes {
+        push_hex2(out, *b)?;
+    }
+    Ok(())
+}
+
+/// Adds a track as it is shown: hexadecimal without the zero bytes at its end, or a dash.
+pub(crate) fn push_track(out: &mut Vec<u8>, bytes: &[u8]) -> Result<(), AllocError>
+    ensures { OnOk result (out.new.items ≡ out.old.items ++ track_text bytes.now) }
+{
+    let len = trimmed_len(bytes);
+    if len == 0 {
+        out.push(b'-')?;
+        return Ok(());
+    }
+    push_hex(out, &bytes[..len])
+}

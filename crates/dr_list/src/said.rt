@@ -1,0 +1,226 @@
+//! What an answer says.
+
+ghost use Rattle.std.specs.Prelude.{◌≡◌, ◌≤◌, ◌/◌, ◌++◌, length, take, OnOk, codes};
+ghost use Rattle.std.specs.List.{fold};
+ghost use Rattle.std.specs.Fmt.{decimal};
+ghost use Rattle.dr_model.specs.Text.{Told, untold, heard, one_number, two_numbers, decision_text, group_decision, addition, link_text, refusal_words, refusal_values, said_text};
+
+use crate::pieces::{push_count, push_number, push_session, push_track, push_volume, push_word};
+use crate::told::server_name;
+use crate::values::{kind_word, limit_word, pair_words, phase_word, refusal_words, relation_word};
+use dr_model::{Journal, Numbers};
+use std::alloc::{AllocError, Global};
+
+fn push_one(alloc: Global, out: &mut Vec<u8>, a: u32) -> Result<(), AllocError>
+    ensures { OnOk result (out.new.items ≡ out.old.items ++ one_number a) }
+{
+    out.extend_from_slice(b"(")?;
+    push_number(alloc, out, a)?;
+    out.extend_from_slice(b")")
+}
+
+fn push_two(alloc: Global, out: &mut Vec<u8>, a: u32, b: u32) -> Result<(), AllocError>
+    ensures { OnOk result (out.new.items ≡ out.old.items ++ two_numbers a b) }
+{
+    out.extend_from_slice(b"(")?;
+    push_number(alloc, out, a)?;
+    out.extend_from_slice(b",")?;
+    push_number(alloc, out, b)?;
+    out.extend_from_slice(b")")
+}
+
+/// Adds a decision by its place, with its numbers.
+fn push_decision(
+    alloc: Global,
+    out: &mut Vec<u8>,
+    place: u32,
+    a: u32,
+    b: u32,
+) -> Result<(), AllocError>
+    ensures { OnOk result (out.new.items ≡ out.old.items ++ decision_text place a b) }
+{
+    match place {
+        0 => out.extend_from_slice(b"NoMember"),
+        1 => {
+            out.extend_from_slice(b"Nothing")?;
+            push_one(alloc, out, a)
+        }
+        2 => {
+            out.extend_from_slice(b"RevertAll")?;
+            push_one(alloc, out, a)
+        }
+        3 => {
+            out.extend_from_slice(b"CommitRest")?;
+            push_one(alloc, out, a)
+        }
+        4 => {
+            out.extend_from_slice(b"RevertSome")?;
+            push_two(alloc, out, a, b)
+        }
+        5 => {
+            out.extend_from_slice(b"Impossible")?;
+            push_two(alloc, out, a, b)
+        }
+        _ => Ok(()),
+    }
+}
+
+/// Adds the decision of a group that is given.
+fn push_group_decision(
+    alloc: Global,
+    out: &mut Vec<u8>,
+    place: u32,
+    group: u32,
+    n: u32,
+) -> Result<(), AllocError>
+    ensures { OnOk result (out.new.items ≡ out.old.items ++ group_decision place group n) }
+{
+    if place == 4 {
+        push_decision(alloc, out, place, group, n)
+    } else {
+        push_decision(alloc, out, place, n, 0)
+    }
+}
+
+fn push_group(
+    alloc: Global,
+    out: &mut Vec<u8>,
+    place: u32,
+    group: u32,
+    n: u32,
+) -> Result<(), AllocError>
+    ensures { OnOk result (out.new.items ≡ out.old.items ++ codes " group " ++ decimal group ++ codes " " ++ group_decision place group n) }
+{
+    out.extend_from_slice(b" group ")?;
+    push_number(alloc, out, group)?;
+    out.extend_from_slice(b" ")?;
+    push_group_decision(alloc, out, place, group, n)
+}
+
+/// Adds what an ok adds, by its kind and its numbers.
+fn push_addition(
+    alloc: Global,
+    out: &mut Vec<u8>,
+    shown: &[u8],
+    kind: u32,
+    a: u32,
+    b: u32,
+) -> Result<(), AllocError>
+    ensures { (told : Told) → told.shown ≡ shown.now → OnOk result (out.new.items ≡ out.old.items ++ addition told kind a b) }
+{
+    match kind {
+        1 => {
+            out.extend_from_slice(b" w")?;
+            push_number(alloc, out, a)
+        }
+        2 => {
+            out.extend_from_slice(b" acked w")?;
+            push_number(alloc, out, a)
+        }
+        3 => push_count(alloc, out, a),
+        4 => {
+            push_word(out, phase_word(a))?;
+            push_count(alloc, out, b)
+        }
+        6 => {
+            out.extend_from_slice(b" ")?;
+            push_track(out, shown)
+        }
+        _ if kind % 256 == 5 => push_group(alloc, out, kind / 256, a, b),
+        _ => Ok(()),
+    }
+}
+
+/// Adds the names of two servers, the lower numbered first.
+fn push_link(
+    out: &mut Vec<u8>,
+    journal: &Journal,
+    place: usize,
+    a: u32,
+    b: u32,
+) -> Result<(), AllocError>
+    requires { place ≤ length journal.now.events }
+    ensures { OnOk result (out.new.items ≡ out.old.items ++ link_text (fold heard untold (take place journal.now.events)) a b) }
+{
+    let (low, high) = (a.min(b), a.max(b));
+    push_word(out, server_name(journal, place, low))?;
+    push_word(out, server_name(journal, place, high))
+}
+
+/// Adds what a refusal says of its numbers.
+fn push_values(
+    alloc: Global,
+    out: &mut Vec<u8>,
+    journal: &Journal,
+    place: usize,
+    of: Numbers,
+) -> Result<(), AllocError>
+    requires { place ≤ length journal.now.events }
+    ensures { OnOk result (out.new.items ≡ out.old.items ++ refusal_values (fold heard untold (take place journal.now.events)) of.code of.a of.b of.c) }
+{
+    match of.code {
+        1 | 7 | 19 => push_count(alloc, out, of.a),
+        2 | 3 => push_word(out, kind_word(of.a)),
+        4 => push_word(out, limit_word(of.a)),
+        5 | 21 => push_word(out, server_name(journal, place, of.a)),
+        6 => push_link(out, journal, place, of.a, of.b),
+        8 | 9 => push_volume(out, of.a),
+        10 => {
+            push_volume(out, of.a)?;
+            push_word(out, pair_words(of.b))
+        }
+        11 => {
+            push_volume(out, of.a)?;
+            push_word(out, relation_word(of.b))
+        }
+        12 | 13 => push_session(out, of.a),
+        14 => {
+            push_word(out, phase_word(of.a))?;
+            push_count(alloc, out, of.b)
+        }
+        15 => push_word(out, phase_word(of.a)),
+        16 => {
+            push_volume(out, of.a)?;
+            push_count(alloc, out, of.b)
+        }
+        17 => {
+            push_count(alloc, out, of.a)?;
+            push_count(alloc, out, of.b)
+        }
+        18 | 22 => {
+            out.extend_from_slice(b" ")?;
+            push_decision(alloc, out, of.a, of.b, of.c)
+        }
+        _ => Ok(()),
+    }
+}
+
+/// Adds what an answer says.
+pub(crate) fn push_said(
+    alloc: Global,
+    out: &mut Vec<u8>,
+    journal: &Journal,
+    place: usize,
+    shown: &[u8],
+    of: Numbers,
+) -> Result<(), AllocError>
+    requires within { place ≤ length journal.now.events }
+    requires shown { shown.now ≡ (fold heard untold (take place journal.now.events)).shown }
+    ensures { OnOk result (out.new.items ≡ out.old.items ++ said_text (fold heard untold (take place journal.now.events)) of.code of.a of.b of.c) }
+{
+    match of.code {
+        0 => {
+            out.extend_from_slice(b"ok")?;
+            push_addition(alloc, out, shown, of.a, of.b, of.c)?;
+            Ok(())
+        }
+        100 => {
+            out.extend_from_slice(b"held w")?;
+            push_number(alloc, out, of.a)
+        }
+        code => {
+            out.extend_from_slice(refusal_words(code))?;
+            push_values(alloc, out, journal, place, of)
+        }
+    }
+}
