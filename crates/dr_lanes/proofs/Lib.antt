@@ -1,0 +1,5 @@
+pub mod Vectors
+pub mod Members
+pub mod Merges
+pub mod Counts
+pub mod Lowest
