@@ -1,14 +1,13 @@
 -- The laws of counting the bits that are set, word by word.
-use Rattle.std.proofs.Common.{ℕ, zero, suc, ◌≡◌, ◌<◌, ◌≤◌, ◌+◌, ◌-◌, ◌*◌, ◌/◌, ◌%◌, ◌^◌, Bool, true, false, List, [], ◌∷◌, length, get_or, take, drop, arith, sym, ◌∙◌, ap, refl, nat_eq, cond, zero-add, add_assoc, add_comm}
-use Rattle.std.specs.FinSet as set
+use Rattle.std.proofs.Common.{ℕ, zero, suc, ◌≡◌, ◌<◌, ◌+◌, ◌*◌, ◌/◌, ◌%◌, ◌^◌, Bool, List, get_or, arith, sym, ◌∙◌, ap, refl, nat_eq, cond, zero-add, add_assoc, add_comm}
 use Rattle.std.specs.Int.{bit_at}
 use Rattle.std.specs.Int.RustNames.{count_ones}
-use Rattle.std.proofs.lemmas.Nat.{ones_cat, ones-le}
+use Rattle.std.proofs.lemmas.Nat.{ones_cat}
 use Rattle.std.proofs.lemmas.Nat.Bits.{bit_at-suc, bit_at_lowest, bit_at-lt}
 use Rattle.std.proofs.lemmas.Bool.Decides.{nat_tests}
 use Rattle.std.proofs.Math.Nat.{pow-succ'}
-use Rattle.dr_lanes.specs.Words.{is_set, bits_of}
-use Rattle.dr_lanes.proofs.Members.{how_many, len-bits_of}
+use Rattle.dr_lanes.specs.Words.{is_set}
+use Rattle.dr_lanes.proofs.Members.{how_many}
 
 -- bit i of one word
 abbrev pub bit : ℕ → ℕ → Bool
@@ -60,9 +59,9 @@ ones_of_bits (suc n) w low =
 pub ones_of_word : (words : List ℕ) (at : ℕ) → get_or words at 0 < 2 ^ 64 → how_many (is_set words) (64 * at) 64 ≡ count_ones (get_or words at 0)
 ones_of_word words at low =
     how_many-same (is_set words) (bit (get_or words at 0)) (64 * at) 0 64 (λ i few.
-        let word : (64 * at + i) / 64 ≡ at = omega arith in
-        let place : (64 * at + i) % 64 ≡ 0 + i = omega arith in
-        (λ j. nat_eq (bit_at (get_or words (word j) 0) (place j)) 1))
+    let word : (64 * at + i) / 64 ≡ at = omega arith in
+    let place : (64 * at + i) % 64 ≡ 0 + i = omega arith in
+    (λ j. nat_eq (bit_at (get_or words (word j) 0) (place j)) 1))
     ∙ ones_of_bits 64 (get_or words at 0) low
 
 -- one word more

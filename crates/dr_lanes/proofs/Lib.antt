@@ -3,3 +3,4 @@ pub mod Members
 pub mod Merges
 pub mod Counts
 pub mod Lowest
+pub mod SameBlocks

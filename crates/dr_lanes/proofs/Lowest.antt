@@ -1,9 +1,8 @@
 -- The laws of the lowest bit that is set, from a place on.
-use Rattle.std.proofs.Common.{ℕ, ◌≡◌, ◌<◌, ◌≤◌, ◌+◌, ◌-◌, ◌*◌, ◌/◌, ◌%◌, ◌^◌, Bool, true, false, List, length, get_or, arith, sym, ◌∙◌, ap, refl, nat_eq, inl, inr, w64, bit_or}
+use Rattle.std.proofs.Common.{ℕ, ◌≡◌, ◌<◌, ◌≤◌, ◌+◌, ◌-◌, ◌*◌, ◌/◌, ◌%◌, ◌^◌, true, false, List, length, get_or, arith, sym, ◌∙◌, ap, nat_eq, inl, inr, w64, bit_or}
 use Rattle.std.specs.Int.{bit_at, trailing_zeros}
-use Rattle.std.specs.FinSet.{contains}
 use Rattle.std.proofs.lemmas.Nat.{shr-shr, shr_le, le_or_l, le_or_r}
-use Rattle.std.proofs.lemmas.Nat.Bits.{bit_at-trailing_zeros, bit_at-zero, bit_at_above, bit_at-lt}
+use Rattle.std.proofs.lemmas.Nat.Bits.{bit_at-trailing_zeros, bit_at-zero, bit_at_above}
 use Rattle.std.proofs.lemmas.Bool.Decides.{nat_tests, leb_tells, eqb_tells}
 use Rattle.std.proofs.lemmas.Bool.{cases_lt as ltb_cases}
 use Rattle.dr_lanes.specs.Words.{is_set, bits_of, HasNoneFrom, IsNextFrom}
@@ -73,13 +72,13 @@ next-in_word words from at s z before clear low =
       not_below = omega arith;
       member = contains-bits_of words (64 * at + s + z) ∙ ap (is_set words) place ∙ is_set-at words at (s + z) within ∙ low.set;
       none_between = λ j above below. contains-bits_of words j ∙ (
-        elim (leb_tells (64 * at + s) j) as (λ _. is_set words j ≡ false) [
-          | inl p ↦
-              let reach : 64 * at + s ≤ j = p.1 in
-              let here : 64 * at + (j - 64 * at) ≡ j = omega arith in
-              ap (is_set words) (sym here) ∙ is_set-at words at (j - 64 * at) (omega arith) ∙ low.clear (j - 64 * at) (omega arith) (omega arith)
-          | inr p ↦ clear j above p.1
-        ]);
+          elim (leb_tells (64 * at + s) j) as (λ _. is_set words j ≡ false) [
+            | inl p ↦
+                let reach : 64 * at + s ≤ j = p.1 in
+                let here : 64 * at + (j - 64 * at) ≡ j = omega arith in
+                ap (is_set words) (sym here) ∙ is_set-at words at (j - 64 * at) (omega arith) ∙ low.clear (j - 64 * at) (omega arith) (omega arith)
+            | inr p ↦ clear j above p.1
+          ]);
     }
 
 -- no bit from `from` up to word number `at` is set: the rest of the first word is 0, and so is each word after it

@@ -1,8 +1,8 @@
 -- The laws of the set of the bits that words have set: its members, and when two sets are one.
-use Rattle.std.proofs.Common.{ℕ, zero, suc, ◌≡◌, ◌<◌, ◌≤◌, ◌+◌, ◌*◌, ◌/◌, ◌%◌, Bool, true, false, ◌||◌, ◌&&◌, List, length, get_or, arith, sym, ◌∙◌, ap, refl, nat_eq, nat_lt, nat_le, cond, inl, inr, filter, ◌∷◌}
+use Rattle.std.proofs.Common.{ℕ, zero, suc, ◌≡◌, ◌<◌, ◌≤◌, ◌+◌, ◌*◌, ◌/◌, ◌%◌, Bool, true, false, ◌||◌, ◌&&◌, List, length, arith, ◌∙◌, ap, refl, nat_eq, nat_lt, nat_le, cond, inl, inr, filter, ◌∷◌}
 use Rattle.std.specs.Ordering.{nat_cmp}
 use Rattle.std.specs.Cmp.{nat_cmp_total, unsigned_tied}
-use Rattle.std.specs.FinSet.{contains, insert, from_list, same_set, nat_cmp-IsAntisymmetric, contains-empty, contains-insert, len-empty, len-insert}
+use Rattle.std.specs.FinSet.{contains, from_list, same_set, nat_cmp-IsAntisymmetric, contains-empty, contains-insert, len-empty, len-insert}
 use Rattle.std.specs.FinSet as set
 use Rattle.std.specs.List.{range_with_len}
 use Rattle.std.specs.Int.{bit_at}

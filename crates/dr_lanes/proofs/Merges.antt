@@ -1,6 +1,6 @@
 -- The laws of words that are changed word by word by those of a second list, four at a time and then one at a time.
-use Rattle.std.proofs.Common.{ℕ, ◌≡◌, ◌<◌, ◌≤◌, ◌+◌, ◌-◌, ◌^◌, ◌/◌, ◌%◌, Bool, true, false, ◌||◌, ◌&&◌, not, List, length, get_or, take, drop, set, arith, sym, ◌∙◌, ap, refl, nat_eq, inl, inr, bit_or, bit_and, min, max, w64, length-set, map, [], ◌∷◌, get_or-set_same, get_or-set_other, ◌≢◌}
-use Rattle.std.specs.FinSet.{contains, contains-union, contains-difference}
+use Rattle.std.proofs.Common.{ℕ, ◌≡◌, ◌<◌, ◌≤◌, ◌+◌, ◌-◌, ◌^◌, ◌/◌, ◌%◌, ◌||◌, ◌&&◌, not, List, length, get_or, set, arith, sym, ◌∙◌, ap, refl, nat_eq, inl, inr, bit_or, bit_and, min, max, w64, length-set, map, [], ◌∷◌, get_or-set_same, get_or-set_other, ◌≢◌}
+use Rattle.std.specs.FinSet.{contains-union, contains-difference}
 use Rattle.std.specs.FinSet as fin
 use Rattle.std.specs.Cmp.{nat_cmp_total}
 use Rattle.std.specs.Int.{bit_at, bit_not}
@@ -9,7 +9,7 @@ use Rattle.std.proofs.lemmas.Bool.Decides.{nat_tests, leb_tells, eqb_tells}
 use Rattle.std.proofs.lemmas.List.{get_or_past}
 use Rattle.std.proofs.lemmas.Simd.{length-put_chunk, length-chunk, length-zip2, get_or-put_chunk_below, get_or-put_chunk_at, get_or-put_chunk_above, get_or-zip2, get_or-chunk}
 use Rattle.std.proofs.lemmas.Nat.Bits.{bit_at_or, bit_at_and, bit_at_not, bit_at-lt}
-use Rattle.dr_lanes.specs.Words.{is_set, bits_of}
+use Rattle.dr_lanes.specs.Words.{bits_of}
 use Rattle.dr_lanes.proofs.Vectors.{four}
 use Rattle.dr_lanes.proofs.Members.{same_bits, contains-bits_of}
 
@@ -98,7 +98,7 @@ and_not_is_difference a b new words each = same_bits _ _ (λ k.
     contains-bits_of new k
     ∙ ap (λ w. nat_eq (bit_at w (k % 64)) 1) (each (k / 64))
     ∙ ap (λ n. nat_eq n 1) (
-      bit_at_and (get_or a (k / 64) 0) (bit_not w64 (get_or b (k / 64) 0)) (k % 64)
-      ∙ ap (λ n. min (bit_at (get_or a (k / 64) 0) (k % 64)) n) (bit_at_not w64 (get_or b (k / 64) 0) (k % 64) (words (k / 64)) (omega arith)))
+    bit_at_and (get_or a (k / 64) 0) (bit_not w64 (get_or b (k / 64) 0)) (k % 64)
+    ∙ ap (λ n. min (bit_at (get_or a (k / 64) 0) (k % 64)) n) (bit_at_not w64 (get_or b (k / 64) 0) (k % 64) (words (k / 64)) (omega arith)))
     ∙ and_not_bit _ _ (bit_at-lt (get_or a (k / 64) 0) (k % 64)) (bit_at-lt (get_or b (k / 64) 0) (k % 64))
     ∙ sym (contains-difference nat_cmp_total (bits_of a) (bits_of b) k ∙ (λ i. contains-bits_of a k i && not (contains-bits_of b k i))))

@@ -77,9 +77,7 @@ fn ones_in_four(a: &[u64], at: usize) -> u32
     requires { at + 4 ≤ length a.now }
     ensures { result ≡ count_ones (slice_index a.now at) + count_ones (slice_index a.now (at + 1)) + count_ones (slice_index a.now (at + 2)) + count_ones (slice_index a.now (at + 3)) }
 {
-    u64x4::from_slice(&a[at..])
-        .count_ones()
-        .strict_reduce_sum() as u32
+    u64x4::from_slice(&a[at..]).count_ones().strict_reduce_sum() as u32
 }
 
 /// The lowest bit from `from` on that is set; `None` exactly where there is none.
@@ -156,7 +154,8 @@ fn same_in_word(a: &[Block64], b: &[Block64], at: usize, blocks: usize) -> u64
 fn same_block(a: &Block64, b: &Block64) -> bool
     ensures { IsTrue result ↔ (a.now ≡ b.now) }
 {
-    u8x64::from_array(*a)
-        .simd_eq(u8x64::from_array(*b))
-        .all()
+    u8x64::from_array(*a).simd_eq(u8x64::from_array(*b)).all()
 }
+
+#[cfg(test)]
+mod tests;

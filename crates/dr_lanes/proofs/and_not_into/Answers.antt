@@ -1,6 +1,6 @@
-use Rattle.std.proofs.Common.{ℕ, ◌+◌, ◌≤◌, length, bit_and, w64, arith, refl, sym, subst, List}
+use Rattle.std.proofs.Common.{ℕ, ◌+◌, bit_and, w64, arith, refl, sym, subst, List}
 use Rattle.std.specs.Int.{bit_not}
-use Rattle.std.specs.Simd.Lanes.{zip2, put_chunk}
+use Rattle.std.specs.Simd.Lanes.{put_chunk}
 use Rattle.dr_lanes.proofs.Vectors.{four}
 use Rattle.dr_lanes.proofs.Merges.{Merged, merged-four, merged-all, zip2_of_map, and_not_is_difference}
 use Rattle.dr_lanes.proofs.and_not_into.Goals as goal

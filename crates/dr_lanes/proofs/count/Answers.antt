@@ -1,5 +1,4 @@
-use Rattle.std.proofs.Common.{ℕ, length, arith, ◌∙◌, sym, ap, refl, ◌+◌, ◌*◌, ◌≡◌, get_or, ◌≤◌}
-use Rattle.std.specs.Int.RustNames.{count_ones}
+use Rattle.std.proofs.Common.{ℕ, length, arith, ◌∙◌, sym, ap, ◌+◌, ◌*◌, ◌≡◌, get_or}
 use Rattle.std.proofs.lemmas.Nat.{ones-le}
 use Rattle.dr_lanes.specs.Words.{is_set}
 use Rattle.dr_lanes.proofs.Members.{how_many, len-bits_of}

@@ -1,6 +1,6 @@
-use Rattle.std.proofs.Common.{ℕ, ◌≡◌, ◌<◌, ◌≤◌, ◌+◌, ◌*◌, ◌/◌, ◌%◌, ◌^◌, get_or, length, arith, subst, w64, ap, ◌∙◌, false}
+use Rattle.std.proofs.Common.{ℕ, ◌≡◌, ◌<◌, ◌+◌, ◌*◌, ◌/◌, ◌%◌, ◌^◌, get_or, arith, subst, w64}
 use Rattle.std.specs.Int.{trailing_zeros}
-use Rattle.dr_lanes.specs.Words.{is_set, bits_of, IsNextFrom}
+use Rattle.dr_lanes.specs.Words.{bits_of, IsNextFrom}
 use Rattle.dr_lanes.proofs.Lowest.{lowest_of, next-in_word, clear-up_to, none_is_left}
 use Rattle.dr_lanes.proofs.next_set.Goals as goal
 
@@ -30,7 +30,7 @@ returns-then-at-a c =
     let is = next-in_word c.args.a.now from at 0 (trailing_zeros w64 (w / 2 ^ 0)) (omega arith) (λ j above below. clear j above (omega arith)) (lowest_of w 0 (c.type_inv.a at).fits (omega arith)) in
     let place : 64 * at + 0 ≡ at * 64 = omega arith in
     subst (λ (k : ℕ). IsNextFrom (bits_of c.args.a.now) from (k + trailing_zeros w64 w)) place (
-      subst (λ (v : ℕ). IsNextFrom (bits_of c.args.a.now) from (64 * at + 0 + trailing_zeros w64 v)) whole is)
+    subst (λ (v : ℕ). IsNextFrom (bits_of c.args.a.now) from (64 * at + 0 + trailing_zeros w64 v)) whole is)
 
 pub returns-else-at-a : goal.returns-else-at-a
 returns-else-at-a c =

@@ -1,4 +1,4 @@
-use Rattle.std.proofs.Common.{ℕ, ◌≡◌, ◌≤◌, ◌+◌, length, get_or, arith, inl, inr}
+use Rattle.std.proofs.Common.{◌≤◌, ◌+◌, length, arith}
 use Rattle.dr_lanes.proofs.Vectors.{four_is}
 use Rattle.dr_lanes.proofs.Lowest.{all_zero, zeros-four}
 use Rattle.dr_lanes.proofs.next_word.Goals as goal

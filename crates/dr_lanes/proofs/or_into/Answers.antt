@@ -1,5 +1,4 @@
-use Rattle.std.proofs.Common.{◌+◌, ◌≤◌, length, bit_or, arith, refl}
-use Rattle.std.specs.Simd.Lanes.{zip2, put_chunk}
+use Rattle.std.proofs.Common.{bit_or, arith, refl}
 use Rattle.dr_lanes.proofs.Merges.{merged-four, merged-all, or_is_union}
 use Rattle.dr_lanes.proofs.or_into.Goals as goal
 

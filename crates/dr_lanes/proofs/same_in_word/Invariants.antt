@@ -1,4 +1,4 @@
-use Rattle.std.proofs.Common.{ℕ, ◌≡◌, ◌↔◌, ◌<◌, ◌+◌, ◌^◌}
+use Rattle.std.proofs.Common.{ℕ, ◌≡◌, ◌↔◌, ◌<◌, ◌+◌}
 use Rattle.std.specs.Int.{bit_at}
 use Rattle.dr_lanes.specs.Blocks.{IsSameBlock}
 use Rattle.dr_lanes.proofs.same_in_word.Given as goal
