@@ -80,3 +80,15 @@ len-passing f a (suc n) =
 pub len-bits_of : (words : List ℕ) → set.len (bits_of words) ≡ how_many (is_set words) 0 (64 * length words)
 unfolding bits_of
 len-bits_of words = len-passing (is_set words) 0 (64 * length words)
+
+at_most : (f : ℕ → Bool) (a n : ℕ) → how_many f a n ≤ n
+unfolding how_many
+at_most f a zero = omega arith
+at_most f a (suc n) = elim (f a) as (λ b. cond b 1 0 + how_many f (a + 1) n ≤ suc n) [
+  | true ↦ let rest = at_most f (a + 1) n in omega arith
+  | false ↦ let rest = at_most f (a + 1) n in omega arith
+]
+
+-- no more bits are set than the words have
+pub len-bits_of_le : (words : List ℕ) → set.len (bits_of words) ≤ 64 * length words
+len-bits_of_le words = let few = at_most (is_set words) 0 (64 * length words) in let is = len-bits_of words in omega arith

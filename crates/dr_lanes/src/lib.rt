@@ -2,10 +2,10 @@
 //! of them takes memory from an allocator.
 #![tactic(auto)]
 
-ghost use Rattle.std.specs.Prelude.{◌≡◌, ◌↔◌, ℕ, ◌+◌, ◌*◌, ◌/◌, ◌%◌, ◌<◌, ◌≤◌, Bool, true, length, IsTrue, MatchOption, slice_index};
+ghost use Rattle.std.specs.Prelude.{◌≡◌, ◌↔◌, ℕ, ◌+◌, ◌*◌, ◌/◌, ◌%◌, ◌<◌, ◌≤◌, Bool, true, length, IsTrue, MatchOption, slice_index, bit_and, bit_or};
 ghost use Rattle.std.specs.Int.RustNames.{count_ones};
 ghost use Rattle.std.specs.FinSet as set;
-ghost use Rattle.std.specs.Int.{bit_at};
+ghost use Rattle.std.specs.Int.{bit_at, bit_not, w64};
 ghost use Rattle.dr_lanes.specs.Blocks.{IsSameBlock};
 ghost use Rattle.dr_lanes.specs.Words.{bits_of, HasNoneFrom, IsNextFrom};
 
@@ -23,7 +23,8 @@ const BITS: usize = 64;
 /// Sets in `a` each bit that is set in `b`. Both have the same number of words.
 pub fn or_into(a: &mut [u64], b: &[u64])
     requires { length a.old ≡ length b.now }
-    ensures { bits_of a.new ≡ set.union (bits_of a.old) (bits_of b.now) }
+    ensures words { (k : ℕ) → slice_index a.new k ≡ bit_or (slice_index a.old k) (slice_index b.now k) }
+    ensures bits { bits_of a.new ≡ set.union (bits_of a.old) (bits_of b.now) }
 {
     let mut at = 0;
     'lanes: while a.len() - at >= LANES {
@@ -40,7 +41,8 @@ pub fn or_into(a: &mut [u64], b: &[u64])
 /// Clears in `a` each bit that is set in `b`. Both have the same number of words.
 pub fn and_not_into(a: &mut [u64], b: &[u64])
     requires { length a.old ≡ length b.now }
-    ensures { bits_of a.new ≡ set.difference (bits_of a.old) (bits_of b.now) }
+    ensures words { (k : ℕ) → slice_index a.new k ≡ bit_and (slice_index a.old k) (bit_not w64 (slice_index b.now k)) }
+    ensures bits { bits_of a.new ≡ set.difference (bits_of a.old) (bits_of b.now) }
 {
     let mut at = 0;
     'lanes: while a.len() - at >= LANES {

@@ -16,4 +16,6 @@ lanes-preserved c =
     record { within = omega (arith, n.sized); merged = n }
 
 pub returns : goal.returns
-returns c = and_not_is_difference _ _ _ (λ k. (c.type_inv.b k).fits) (merged-all cleared c.args.a.now c.args.b.now c.rest.a c.rest.at refl c.requires (omega arith) c.rest.invariant.merged)
+returns c =
+    let each = merged-all cleared c.args.a.now c.args.b.now c.rest.a c.rest.at refl c.requires (omega arith) c.rest.invariant.merged in
+    record { words = each; bits = and_not_is_difference _ _ _ (λ k. (c.type_inv.b k).fits) each }

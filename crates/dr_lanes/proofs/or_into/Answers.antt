@@ -8,4 +8,6 @@ lanes-preserved c =
     record { within = omega (arith, m.sized); merged = m }
 
 pub returns : goal.returns
-returns c = or_is_union _ _ _ (merged-all bit_or c.args.a.now c.args.b.now c.rest.a c.rest.at refl c.requires (omega arith) c.rest.invariant.merged)
+returns c =
+    let each = merged-all bit_or c.args.a.now c.args.b.now c.rest.a c.rest.at refl c.requires (omega arith) c.rest.invariant.merged in
+    record { words = each; bits = or_is_union _ _ _ each }
