@@ -1,17 +1,16 @@
 -- The laws of sets of tracks: which tracks an operation's set has, and when two sets are one.
-use Rattle.std.proofs.Common.{ℕ, zero, suc, ◌≡◌, ◌<◌, ◌≤◌, ◌+◌, ◌-◌, Bool, true, false, not, ◌||◌, ◌&&◌, List, [], ◌∷◌, ◌++◌, length, get_or, replicate, set, arith, rules, sym, ◌∙◌, ap, refl, nat_eq, nat_lt, cond, inl, inr, None, Some, add-one, add-zero}
+use Rattle.std.proofs.Common.{ℕ, zero, suc, ◌≡◌, ◌<◌, ◌≤◌, ◌+◌, ◌-◌, Bool, true, false, not, ◌||◌, ◌&&◌, [], ◌∷◌, ◌++◌, arith, rules, sym, ◌∙◌, ap, refl, nat_eq, nat_lt, cond, inl, inr, None, Some}
 use Rattle.std.specs.Ordering.{nat_cmp}
 use Rattle.std.specs.Cmp.{nat_cmp_total, unsigned_tied}
-use Rattle.std.specs.FinSet.{contains, empty, insert, remove, union, difference, intersection, same_set, nat_cmp-IsAntisymmetric, contains-empty, contains-insert, contains-remove, contains-union, contains-difference, contains-intersection, len-empty, len-insert, from_list_push, members}
+use Rattle.std.specs.FinSet.{contains, empty, insert, remove, union, difference, intersection, same_set, nat_cmp-IsAntisymmetric, contains-empty, contains-insert, contains-remove, contains-union, contains-difference, contains-intersection, from_list_push, members}
 use Rattle.std.specs.FinSet as fin
-use Rattle.std.proofs.lemmas.Grind.{common_steps}
-use Rattle.std.proofs.lemmas.List.{get_or-replicate, append-nil}
+use Rattle.std.proofs.lemmas.List.{append-nil}
 use Rattle.std.proofs.lemmas.Bool.Decides.{nat_tests, leb_tells, eqb_tells}
 use Rattle.std.specs.Prelude.{filter}
 use Rattle.std.specs.List.{range_with_len}
 use Rattle.std.proofs.lemmas.List.Elements.{filter-append}
-use Rattle.dr_bits.specs.Tracks.{Tracks, passing, of_test, of_flags, NoneFrom, IsInRange, IsLowestFrom, lowest_in, lowest_from, first}
-use Rattle.dr_bits.specs.Membership.{contains-passing, contains-of_test, contains-of_test_below, contains-of_test_past, lt_false}
+use Rattle.dr_bits.specs.Tracks.{Tracks, passing, of_test, NoneFrom, IsInRange, IsLowestFrom, lowest_in, lowest_from, first}
+use Rattle.dr_bits.specs.Membership.{contains-of_test, contains-of_test_past}
 
 -- two sets with the same members are one
 pub same_tracks : (a b : Tracks) → ((t : ℕ) → contains a t ≡ contains b t) → a ≡ b
@@ -69,65 +68,9 @@ in_range-minus a b in_a q high = contains-minus_tracks a b q ∙ ap (λ x. x && 
 pub in_range-keep : (a b : Tracks) → IsInRange a → IsInRange (intersection a b)
 in_range-keep a b in_a q high = contains-keep_tracks a b q ∙ ap (λ x. x && contains b q) (in_a q high)
 
--- flags that tell the members of a set in range are that set's
-pub of_flags_is : (flags : List Bool) (s : Tracks) → ((k : ℕ) → k < 256 → get_or flags k false ≡ contains s k) → IsInRange s → of_flags flags ≡ s
-of_flags_is flags s same in_s = same_in_range _ s (in_range-of_test _) in_s
-    (λ k low. contains-of_test_below (λ t. get_or flags t false) k low ∙ same k low)
-
-pub contains-of_flags : (flags : List Bool) (k : ℕ) → k < 256 → contains (of_flags flags) k ≡ get_or flags k false
-contains-of_flags flags k low = contains-of_test_below (λ t. get_or flags t false) k low
-
-pub no_flags : of_flags (replicate 256 false) ≡ empty
-no_flags = of_flags_is (replicate 256 false) empty (λ k low. get_or-replicate 256 k false false low ∙ sym (contains-empty nat_cmp k)) in_range-empty
-
-pub tested_flags : (f : ℕ → Bool) (flags : List Bool) → ((k : ℕ) → k < 256 → get_or flags k false ≡ f k) → of_flags flags ≡ of_test f
-tested_flags f flags same = of_flags_is flags _ (λ k low. same k low ∙ sym (contains-of_test_below f k low)) (in_range-of_test f)
-
-pub insert_flag : (flags : List Bool) (t : ℕ) → length flags ≡ 256 → t < 256 → of_flags (set flags t true) ≡ insert (of_flags flags) t
-insert_flag flags t sized low = of_flags_is _ _
-    (λ k h. let c = contains-of_flags flags k h in let i = contains-insert_tracks (of_flags flags) t k in grind (arith, nat_tests, common_steps, sized))
-    (in_range-insert _ t low (in_range-of_test _))
-
-pub remove_flag : (flags : List Bool) (t : ℕ) → length flags ≡ 256 → t < 256 → of_flags (set flags t false) ≡ remove (of_flags flags) t
-remove_flag flags t sized low = of_flags_is _ _
-    (λ k h. let c = contains-of_flags flags k h in let i = contains-remove_tracks (of_flags flags) t k in grind (arith, nat_tests, common_steps, sized))
-    (in_range-remove _ t (in_range-of_test _))
-
 pub remove_past : (s : Tracks) (t : ℕ) → IsInRange s → 256 ≤ t → s ≡ remove s t
 remove_past s t in_s high = same_in_range s _ in_s (in_range-remove s t in_s)
     (λ k low. let i = contains-remove_tracks s t k in grind (arith, nat_tests, i))
-
-pub union_flags : (a b flags : List Bool) → ((k : ℕ) → k < 256 → get_or flags k false ≡ (get_or a k false || get_or b k false)) → of_flags flags ≡ union (of_flags a) (of_flags b)
-union_flags a b flags same = of_flags_is flags _
-    (λ k low. same k low ∙ sym (contains-union_tracks (of_flags a) (of_flags b) k ∙ (λ i. contains-of_flags a k low i || contains-of_flags b k low i)))
-    (in_range-union _ _ (in_range-of_test _) (in_range-of_test _))
-
-pub minus_flags : (a b flags : List Bool) → ((k : ℕ) → k < 256 → get_or flags k false ≡ (get_or a k false && not (get_or b k false))) → of_flags flags ≡ difference (of_flags a) (of_flags b)
-minus_flags a b flags same = of_flags_is flags _
-    (λ k low. same k low ∙ sym (contains-minus_tracks (of_flags a) (of_flags b) k ∙ (λ i. contains-of_flags a k low i && not (contains-of_flags b k low i))))
-    (in_range-minus _ _ (in_range-of_test _))
-
-pub keep_flags : (a b flags : List Bool) → ((k : ℕ) → k < 256 → get_or flags k false ≡ (get_or a k false && get_or b k false)) → of_flags flags ≡ intersection (of_flags a) (of_flags b)
-keep_flags a b flags same = of_flags_is flags _
-    (λ k low. same k low ∙ sym (contains-keep_tracks (of_flags a) (of_flags b) k ∙ (λ i. contains-of_flags a k low i && contains-of_flags b k low i)))
-    (in_range-keep _ _ (in_range-of_test _))
-
-pub len-passing_none : (f : ℕ → Bool) → fin.len (passing f 0) ≡ 0
-unfolding passing
-len-passing_none f = len-empty nat_cmp
-
--- one track more
-pub len-passing_more : (f : ℕ → Bool) (n : ℕ) → fin.len (passing f (n + 1)) ≡ fin.len (passing f n) + cond (f n) 1 0
-unfolding passing
-len-passing_more f n = rw add-one (
-    elim (f n) as (λ b. fin.len (cond b (insert (passing f n) n) (passing f n)) ≡ fin.len (passing f n) + cond b 1 0) [
-      | true ↦ len-insert nat_cmp_total (passing f n) n ∙ ap (λ b. cond b (fin.len (passing f n)) (fin.len (passing f n) + 1)) (contains-passing f n n ∙ ap (λ b. b && f n) (lt_false n n (omega arith)))
-      | false ↦ sym (add-zero (fin.len (passing f n)))
-    ])
-
-pub len-of_flags : (flags : List Bool) → fin.len (of_flags flags) ≡ fin.len (passing (λ t. get_or flags t false) 256)
-unfolding of_test
-len-of_flags flags = refl
 
 -- at most one member is the lowest
 pub lowest_unique : (s : Tracks) (t a b : ℕ) → IsLowestFrom s t a → IsLowestFrom s t b → a ≡ b

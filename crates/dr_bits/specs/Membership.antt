@@ -1,11 +1,10 @@
--- What is a member of a set that a test, or a list of flags, gives.
-use Rattle.std.proofs.Common.{ℕ, zero, suc, ◌≡◌, ◌<◌, ◌≤◌, Bool, true, false, ◌||◌, ◌&&◌, List, length, get_or, arith, sym, ◌∙◌, ap, refl, nat_eq, nat_lt, cond}
+-- What is a member of a set that a test gives.
+use Rattle.std.proofs.Common.{ℕ, zero, suc, ◌≡◌, ◌<◌, ◌≤◌, Bool, true, false, ◌||◌, ◌&&◌, arith, sym, ◌∙◌, ap, refl, nat_eq, nat_lt, cond}
 use Rattle.std.specs.Ordering.{nat_cmp}
 use Rattle.std.specs.Cmp.{nat_cmp_total, unsigned_tied}
 use Rattle.std.specs.FinSet.{contains, insert, contains-empty, contains-insert}
-use Rattle.std.proofs.lemmas.List.FromFn.{fill_by_all}
 use Rattle.std.proofs.lemmas.Bool.Decides.{nat_tests}
-use Rattle.dr_bits.specs.Tracks.{passing, of_test, of_flags, flags_of}
+use Rattle.dr_bits.specs.Tracks.{passing, of_test}
 
 pub lt_true : (a b : ℕ) → a < b → nat_lt a b ≡ true
 lt_true a b h = grind (arith, nat_tests)
@@ -42,8 +41,3 @@ contains-of_test_below f q low = contains-of_test f q ∙ ap (λ b. b && f q) (l
 
 pub contains-of_test_past : (f : ℕ → Bool) (q : ℕ) → 256 ≤ q → contains (of_test f) q ≡ false
 contains-of_test_past f q high = contains-of_test f q ∙ ap (λ b. b && f q) (lt_false q 256 high)
-
-pub flags_of-of_flags : (flags : List Bool) → length flags ≡ 256 → flags_of (of_flags flags) ≡ flags
-unfolding flags_of
-flags_of-of_flags flags sized = sym (fill_by_all (contains (of_flags flags)) flags 256 false sized
-    (λ k low. sym (contains-of_test_below (λ t. get_or flags t false) k low)))

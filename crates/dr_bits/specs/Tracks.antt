@@ -1,5 +1,5 @@
 -- What a set of tracks is, and how 32 bytes tell one.
-use Rattle.std.specs.Prelude.{ℕ, zero, suc, ◌≡◌, ◌<◌, ◌≤◌, ◌+◌, ◌-◌, ◌*◌, ◌/◌, ◌%◌, ◌^◌, Bool, true, false, List, map, nat_lt, nat_eq, cond, Option, None, Some}
+use Rattle.std.specs.Prelude.{ℕ, zero, suc, ◌≡◌, ◌<◌, ◌≤◌, ◌+◌, ◌-◌, ◌*◌, ◌/◌, ◌%◌, ◌^◌, Bool, true, false, List, map, nat_lt, nat_eq, cond, Option, None, Some, length}
 use Rattle.std.specs.List.{range_with_len, slice_index_or}
 use Rattle.std.specs.Ordering.{nat_cmp}
 use Rattle.std.specs.FinSet.{FinSet, contains, empty, insert}
@@ -20,14 +20,6 @@ of_test f = passing f 256
 -- the tracks below n, of those below 256
 abbrev pub first : ℕ → Tracks
 first n = of_test (λ t. nat_lt t n)
-
--- the tracks whose flag is true
-abbrev pub of_flags : List Bool → Tracks
-of_flags flags = of_test (λ t. slice_index_or flags t false)
-
--- a flag for each track below 256: whether it is a member
-unfoldable pub flags_of : Tracks → List Bool
-flags_of s = map (contains s) (range_with_len 0 256)
 
 -- no track from t on is a member
 abbrev pub NoneFrom : Tracks → ℕ → Type 0
@@ -50,6 +42,17 @@ IsLowestFrom s t k = record {
 unfoldable pub number_of : (ℕ → Bool) → ℕ → ℕ → ℕ
 number_of f t zero = 0
 number_of f t (suc n) = cond (f t) 1 0 + 2 * number_of f (t + 1) n
+
+-- the four words of a set: bit k mod 64, counted from the lowest, of word k / 64 says whether k is a member
+unfoldable pub words_of : Tracks → List ℕ
+words_of s = map (λ k. number_of (contains s) (64 * k) 64) (range_with_len 0 4)
+
+-- four numbers that each fit a word
+abbrev pub AreFourWords : List ℕ → Type 0
+AreFourWords words = record {
+  four : length words ≡ 4;
+  fit : (k : ℕ) → slice_index_or words k 0 < 2 ^ 64;
+}
 
 -- the 32 bytes of a set: a bit for each track, the lowest track in the lowest bit of the first byte
 unfoldable pub bytes_of : Tracks → List ℕ

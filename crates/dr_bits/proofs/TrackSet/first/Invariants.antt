@@ -1,8 +1,10 @@
-use Rattle.std.proofs.Common.{◌≡◌, ℕ, ◌<◌, false, nat_lt, get_or, length}
+use Rattle.std.proofs.Common.{ℕ, ◌≡◌, ◌<◌, ◌-◌, ◌*◌, get_or, nat_eq, nat_lt}
+use Rattle.std.specs.Int.{bit_at}
+use Rattle.dr_bits.specs.Tracks.{AreFourWords}
 use Rattle.dr_bits.proofs.TrackSet.first.Given as goal
 
-abbrev pub invariant-loop-t : goal.invariant-loop-t
-invariant-loop-t l = record {
-  sized : length l.flags ≡ 256;
-  so_far : (k : ℕ) → k < l.t → get_or l.flags k false ≡ nat_lt k l.n;
+abbrev pub invariant-loop-k : goal.invariant-loop-k
+invariant-loop-k l = record {
+  are : AreFourWords l.words;
+  so_far : (k i : ℕ) → k < l.k → i < 64 → nat_eq (bit_at (get_or l.words k 0) i) 1 ≡ nat_lt i (l.n - 64 * k);
 }

@@ -1,29 +1,21 @@
-use Rattle.std.proofs.Common.{◌≡◌, ℕ, Bool, false, get_or, List, ◌≤◌, ◌<◌, true, arith, sym, ◌∙◌, inl, inr}
-use Rattle.std.proofs.lemmas.Bool.Decides.{leb_tells}
-use Rattle.dr_bits.specs.Tracks.{of_flags, NoneFrom, IsLowestFrom}
-use Rattle.dr_bits.proofs.Laws.{contains-of_flags, in_range-of_test, lowest_from-some, lowest_from-none}
+use Rattle.std.proofs.Common.{ℕ, arith, sym, subst}
+use Rattle.dr_lanes.specs.Words.{bits_of, IsNextFrom, HasNoneFrom}
+use Rattle.dr_bits.proofs.Laws.{lowest_from-some, lowest_from-none}
+use Rattle.dr_bits.proofs.WordLaws.{next_is_lowest}
 use Rattle.dr_bits.proofs.TrackSet.first_from.Goals as goal
 
-found : (flags : List Bool) (t k : ℕ) → t ≤ k → k < 256 → get_or flags k false ≡ true → ((j : ℕ) → t ≤ j → j < k → get_or flags j false ≡ false) → IsLowestFrom (of_flags flags) t k
-found flags t k from low member lowest = record {
-  from = from;
-  in_range = low;
-  member = contains-of_flags flags k low ∙ member;
-  lowest = λ j a b. contains-of_flags flags j (omega arith) ∙ lowest j a b;
-}
+pub overflow_cast-result : goal.overflow_cast-result
+overflow_cast-result c =
+    let low = (next_is_lowest c.self.inside.words c.from.result c.in-Some.k c.self.invariant.four c.in-Some.ensures).in_range in
+    record { fits = omega arith }
 
-none : (flags : List Bool) (t : ℕ) → ((j : ℕ) → t ≤ j → j < 256 → get_or flags j false ≡ false) → NoneFrom (of_flags flags) t
-none flags t all j from = elim (leb_tells 256 j) [
-  | inl p ↦ in_range-of_test _ j p.1
-  | inr p ↦ contains-of_flags flags j p.1 ∙ all j from p.1
-]
-
-pub returns-then-self-k : goal.returns-then-self-k
-returns-then-self-k c =
-    let is = found c.self.inside.flags c.args.t c.loop-k.k (omega arith) (omega arith) c.if-self-k.true c.loop-k.invariant in
+pub returns-in-Some : goal.returns-in-Some
+returns-in-Some c =
+    let next = subst (λ (t : ℕ). IsNextFrom (bits_of c.self.inside.words) t c.in-Some.k) c.from.ensures c.in-Some.ensures in
+    let is = next_is_lowest c.self.inside.words c.args.t c.in-Some.k c.self.invariant.four next in
     rw (← c.self.view_is) record { lowest = is; value = sym (lowest_from-some _ _ _ is) }
 
-pub returns : goal.returns
-returns c =
-    let is = none c.self.inside.flags c.args.t (λ j from low. c.loop-k.invariant j from (omega arith)) in
-    rw (← c.self.view_is) record { lowest = is; value = sym (lowest_from-none _ _ is) }
+pub returns-in-None : goal.returns-in-None
+returns-in-None c =
+    let none = subst (λ (t : ℕ). HasNoneFrom (bits_of c.self.inside.words) t) c.from.ensures c.in-None.ensures in
+    rw (← c.self.view_is) record { lowest = none; value = sym (lowest_from-none _ _ none) }

@@ -1,23 +1,10 @@
-use Rattle.std.proofs.Common.{◌≡◌, Bool, arith, ◌∙◌, sym, ap, get_or, false, cond}
-use Rattle.std.specs.FinSet as set
-use Rattle.dr_bits.specs.Tracks.{passing}
-use Rattle.dr_bits.proofs.Laws.{len-passing_none, len-passing_more, len-of_flags}
-use Rattle.dr_bits.proofs.Bytes.{bit_below_two, from_bool_is}
+use Rattle.std.proofs.Common.{arith}
+use Rattle.dr_lanes.proofs.Members.{len-bits_of_le}
 use Rattle.dr_bits.proofs.TrackSet.len.Goals as goal
 
-pub loop-t-init : goal.loop-t-init
-loop-t-init c = record { so_far = sym (len-passing_none _); few = omega arith }
-
-pub loop-t-preserved : goal.loop-t-preserved
-loop-t-preserved c =
-    let flag : Bool = get_or c.self.inside.flags c.loop-t.t false in
-    let more = len-passing_more (λ t. get_or c.self.inside.flags t false) c.loop-t.t in
-    let bit : c.from-n.result ≡ cond flag 1 0 = c.from-n.ensures ∙ from_bool_is flag in
-    let low = bit_below_two flag in
-    record { so_far = omega arith; few = omega arith }
-
-pub returns : goal.returns
-returns c = rw (← c.self.view_is) (
-    c.loop-t.invariant.so_far
-    ∙ ap (λ m. set.len (passing (λ t. get_or c.self.inside.flags t false) m)) (let e : c.loop-t.t ≡ 256 = omega arith in e)
-    ∙ sym (len-of_flags c.self.inside.flags))
+pub overflow_cast-result : goal.overflow_cast-result
+overflow_cast-result c =
+    let few = len-bits_of_le c.self.inside.words in
+    let four = c.self.invariant.four in
+    let is = c.count.ensures in
+    record { fits = omega arith }

@@ -1,13 +1,16 @@
-use Rattle.std.proofs.Common.{arith, ◌∙◌, false, not, ◌&&◌, length-set, get_or}
-use Rattle.std.proofs.lemmas.List.Edits.{fill_by_more}
-use Rattle.dr_bits.proofs.Laws.{minus_flags}
+use Rattle.std.proofs.Common.{arith, get_or, w64}
+use Rattle.std.specs.Int.{bit_not}
+use Rattle.std.proofs.lemmas.Nat.{and_le_l}
 use Rattle.dr_bits.proofs.TrackSet.minus.Goals as goal
 
-pub loop-t-preserved : goal.loop-t-preserved
-loop-t-preserved c = record {
-  sized = length-set c.loop-t.flags c.loop-t.t _ ∙ c.loop-t.invariant.sized;
-  so_far = fill_by_more (λ k. (get_or c.self.inside.flags k false && not (get_or c.other.inside.flags k false))) c.loop-t.flags c.loop-t.t false (let e = c.loop-t.invariant.sized in omega arith) c.loop-t.invariant.so_far;
-}
-
-pub returns : goal.returns
-returns c = rw (← c.self.view_is, ← c.other.view_is) (minus_flags c.self.inside.flags c.other.inside.flags _ (λ k low. c.loop-t.invariant.so_far k (omega arith)))
+pub invariant_of-self : goal.invariant_of-self
+invariant_of-self c =
+    let four = c.self.invariant.four in
+    record {
+      four = omega arith;
+      fit = λ k.
+          let is = c.and_not_into.ensures.words k in
+          let low = and_le_l (get_or c.self.inside.words k 0) (bit_not w64 (get_or c.other.inside.words k 0)) in
+          let fit = c.self.invariant.fit k in
+          omega arith;
+    }

@@ -1,8 +1,10 @@
-use Rattle.dr_bits.proofs.Laws.{remove_flag, remove_past, in_range-of_test}
+use Rattle.std.proofs.Common.{arith}
+use Rattle.dr_bits.proofs.Laws.{remove_past}
+use Rattle.dr_bits.proofs.WordLaws.{remove_bit, in_range-bits_of}
 use Rattle.dr_bits.proofs.TrackSet.remove.Goals as goal
 
-pub returns-then-at-lt-TRACKS : goal.returns-then-at-lt-TRACKS
-returns-then-at-lt-TRACKS c = rw (← c.self.view_is) (remove_flag c.self.inside.flags c.args.t c.self.told c.if-at-lt-TRACKS.true)
+pub returns-then-at-lt-WORDS : goal.returns-then-at-lt-WORDS
+returns-then-at-lt-WORDS c = let low = c.if-at-lt-WORDS.true in rw (← c.self.view_is) (remove_bit c.self.inside.words c.args.t c.self.invariant.four (omega arith))
 
-pub returns-else-at-lt-TRACKS : goal.returns-else-at-lt-TRACKS
-returns-else-at-lt-TRACKS c = rw (← c.self.view_is) (remove_past _ c.args.t (in_range-of_test _) c.if-at-lt-TRACKS.false)
+pub returns-else-at-lt-WORDS : goal.returns-else-at-lt-WORDS
+returns-else-at-lt-WORDS c = let past = c.if-at-lt-WORDS.false in rw (← c.self.view_is) (remove_past _ c.args.t (in_range-bits_of c.self.inside.words c.self.invariant.four) (omega arith))
