@@ -21,38 +21,32 @@ ghost use Rattle.dr_laws.specs.Stops.{StopsTold, refused_stop};
 /// each pending write is the one that was issued.
 pub fn every_run_is_sound()
     ensures { (tasks : List Task) → Sound (run tasks) }
-{
-}
+{}
 
 /// Steps leave a sound world sound, wherever servers stop in them.
 pub fn every_step_keeps_soundness()
     ensures { (w : World) (tasks : List Task) → Sound w → Sound (after_tasks w tasks) }
-{
-}
+{}
 
 /// The table of volumes is as it should be after each entry of a step, too.
 pub fn rows_hold_at_every_moment()
     ensures { (w : World) (t : Task) (n : ℕ) → Sound w →
         let p : Plan = plan w.control w.events t.line t.step in SoundRows (table (carry (begun w p) (take n p.entries)).0) }
-{
-}
+{}
 
 /// It is so as well where servers go off by themselves between the acts of a step.
 pub fn rows_hold_where_reads_fail()
     ensures { (armed : ℕ → Bool) (w u : World) (r : Option Refusal) (t : Task) → Sound w →
         let p : Plan = plan w.control w.events t.line t.step in Ends armed u r (begun w p) p.entries → SoundRows (table u) }
-{
-}
+{}
 
 /// The table of volumes keeps its laws in each kind of move, where it is allowed.
 pub fn each_kind_of_move_keeps_the_rows()
     ensures { (write : ℕ → Write) (T : Table) (m : Move) → SoundRows T → Allowed write T m → SoundRows (after write T m) }
-{
-}
+{}
 
 /// A step is refused because a server stopped exactly where its acts told the journal of that stop.
 pub fn stops_are_told()
     ensures { (w : World) (t : Task) →
         let p : Plan = plan w.control w.events t.line t.step in StopsTold (begun w p) (carry (begun w p) p.entries).0 (refused_stop (carry (begun w p) p.entries).1) }
-{
-}
+{}

@@ -7,8 +7,8 @@ ghost use Rattle.dr_script.specs.Pieces.{kept};
 
 use crate::items::{push_list, push_lss_pair, push_pair, push_range};
 use crate::values::{
-    are_ports, spelled_bytes, either, empty_name, is_control_path, is_hex, is_word, read_decimal,
-    read_most, read_name, read_torn, zero_block,
+    are_ports, either, empty_name, is_control_path, is_hex, is_word, read_decimal, read_most,
+    read_name, read_torn, spelled_bytes, zero_block,
 };
 use dr_ids::{read_lss, read_number, read_session, read_volume};
 use dr_model::{Item, Name, Operand, Operands, TornWord};

@@ -107,6 +107,7 @@ wider-armed s u unarmed q h =
     either_no : (b : Bool) → (b && false) ≡ false
     either_no true = refl
     either_no false = refl
+
     either_yes : (b x : Bool) → (b && x) ≡ true → (b && true) ≡ true
     either_yes true x h = refl
     either_yes false x h = h

@@ -51,10 +51,10 @@ returns-in-Err-clause-carried g c =
     let p : Pending = record { w = host.issued; volume = at.volume.0; track = at.track; landed = false } in
     let landed = not (beq c.slot.result c.slot-before.result) in
     let by_slot : (x : World) → world s1 t r ≡ x → differ (x.control.volume at.volume.0).slot (volume_seen s0 t at.volume.0).slot ≡ landed = (λ x is.
-        ap (λ (x : World). differ (x.control.volume at.volume.0).slot (volume_seen s0 t at.volume.0).slot) (sym is)
-        ∙ ap (λ b. differ b (volume_seen s0 t at.volume.0).slot) (sym c.slot.ensures)
-        ∙ ap (differ c.slot.result) (sym c.slot-before.ensures)
-        ∙ sym (not_beq c.slot.result c.slot-before.result)) in
+    ap (λ (x : World). differ (x.control.volume at.volume.0).slot (volume_seen s0 t at.volume.0).slot) (sym is)
+    ∙ ap (λ b. differ b (volume_seen s0 t at.volume.0).slot) (sym c.slot.ensures)
+    ∙ ap (differ c.slot.result) (sym c.slot-before.ensures)
+    ∙ sym (not_beq c.slot.result c.slot-before.result)) in
     let on = ap (on_seen s0) c.requires.server ∙ on-running s0 at.server.0 c.requires.running in
     let m = Land host.issued at.volume.0 at.track in
     let told = ap (λ k. events ++ Stopped at.server.0 k ∷ []) (sym c.write_in_stop.ensures) ∙ sym c.push-in-Err.ensures.events in
