@@ -21,3 +21,4 @@ pub mod LineSteps
 pub mod Grammar
 pub mod LineText
 pub mod Decisions
+pub mod Phases
