@@ -22,3 +22,4 @@ pub mod Grammar
 pub mod LineText
 pub mod Decisions
 pub mod Phases
+pub mod Sessions
