@@ -83,6 +83,10 @@ pub record IsSound (x : Session) : Type 0 where
   pub servers : (r : Mirror) → x.mirror ≡ Some r → r.master.servers ≡ servers_of x.members
   pub number : (r : Mirror) → x.mirror ≡ Some r → r.master.number ≡ x.last
 
+abbrev pub has_lss : Option Session → ℕ → Bool
+has_lss None l = false
+has_lss (Some x) l = has_subsystem l x
+
 -- the logical subsystem is the session's only one
 abbrev pub is_only : ℕ → Session → Bool
 is_only l x = list_all (λ k. k.0 == l) x.subsystems

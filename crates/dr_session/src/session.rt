@@ -1,4 +1,4 @@
-ghost use Rattle.std.specs.Prelude.{◌≡◌, ◌<◌, ◌+◌, ◌++◌, ◌==◌, ◌∷◌, [], not, filter, slice_get, length, Some, None, IsTrue, IsOk, IfSome, IfOk, OnOk, OnErr, option_map};
+ghost use Rattle.std.specs.Prelude.{◌≡◌, ◌<◌, ◌+◌, ◌++◌, ◌==◌, ◌∷◌, [], not, filter, slice_get, length, Some, None, IsTrue, IsOk, IfSome, IfOk, OnOk, OnErr, option_map, is_some};
 ghost use Rattle.std.specs.Result.{result_err};
 ghost use Rattle.dr_ids.specs.declared.refusal.PhaseName.TheVariants as phase;
 ghost use Rattle.dr_master.specs.Seen.{reply_of};
@@ -91,6 +91,35 @@ impl Session {
         self.mirror.as_ref()
     }
 
+    /// Its master, which has its members' servers and its last number.
+    pub(crate) fn master(&self) -> Option<&Master>
+        ensures value { option_map (λ m. m.now) result ≡ option_map (λ r. r.master) self.now.session.mirror }
+        ensures servers { IfSome result (λ m. m.now.servers ≡ model.servers_of self.now.session.members) }
+        ensures number { IfSome result (λ m. self.now.session.last ≡ m.now.number) }
+    {
+        match &self.mirror {
+            Some(mirror) => Some(&mirror.master),
+            None => None,
+        }
+    }
+
+    /// Whether it has a master.
+    pub(crate) fn has_master(&self) -> bool
+        ensures { result ≡ is_some self.now.session.mirror }
+    {
+        self.mirror.is_some()
+    }
+
+    /// Whether it has a master that is paused.
+    pub(crate) fn is_paused(&self) -> bool
+        ensures { result ≡ model.is_paused self.now.session.mirror }
+    {
+        match &self.mirror {
+            Some(mirror) => mirror.paused,
+            None => false,
+        }
+    }
+
     /// The member that was added after `i` others of today's.
     pub(crate) fn member_at(&self, i: usize) -> Option<Member>
         ensures { result ≡ slice_get self.now.session.members i }
@@ -139,6 +168,7 @@ impl Session {
 
     /// Adds a logical subsystem. Where there is no memory, nothing has changed.
     pub(crate) fn join(&mut self, l: Lss) -> Result<(), AllocError>
+        ensures named { self.new.session.number ≡ self.old.session.number }
         ensures joined { OnOk result (self.new ≡ record self.old { session = model.joined_by l.0 self.old.session }) }
         ensures same { OnErr result (self.new ≡ self.old) }
     {
@@ -165,6 +195,7 @@ impl Session {
     pub(crate) fn add(&mut self, m: Member) -> Result<(), AllocError>
         requires low { m.server.0 < 8 }
         requires idle { model.busy self.old.session.mirror ≡ None }
+        ensures named { self.new.session.number ≡ self.old.session.number }
         ensures added { OnOk result (self.new.session ≡ model.with_member m self.old.session) }
         ensures same { OnErr result (self.new.session ≡ self.old.session) }
         ensures room { IsTrue self.old.room → IsOk result }
@@ -233,6 +264,7 @@ impl Session {
 
     /// An attempt begins: its number, which is the session's last one from now on.
     pub(crate) fn begin(&mut self) -> Result<u32, Refusal>
+        ensures named { self.new.session.number ≡ self.old.session.number }
         ensures refused { result_err result ≡ model.begin_refusal self.old.session.mirror }
         ensures number { IfOk result (λ n. n ≡ self.old.session.last + 1) }
         ensures begun { OnOk result (self.new ≡ record self.old { session = model.begun self.old.session }) }
@@ -261,6 +293,7 @@ impl Session {
 
     /// The attempt is given up.
     pub(crate) fn abort(&mut self) -> Result<(), Refusal>
+        ensures named { self.new.session.number ≡ self.old.session.number }
         ensures refused { result_err result ≡ model.abort_refusal self.old.session.mirror }
         ensures aborted { OnOk result (self.new ≡ record self.old { session = model.with_master phases.aborted self.old.session }) }
         ensures same { OnErr result (self.new ≡ self.old) }
@@ -278,6 +311,45 @@ impl Session {
     {
         if let Some(mirror) = &mut self.mirror {
             mirror.master.settle_start();
+        }
+    }
+
+    /// Why the member with that primary volume can't go: there is none, or the master isn't Idle.
+    pub(crate) fn remove_refusal(&self, s: SessionId, a: VolumeId) -> Option<Refusal>
+        ensures { result ≡ model.remove_refusal (Some self.now.session) s.0 a.0 }
+    {
+        if self.is_member(a) {
+            self.busy()
+        } else {
+            Some(Refusal::NotInSession { session: s })
+        }
+    }
+
+    /// Why a logical subsystem can't leave: it isn't here, a member lies in it, or it is the last one and
+    /// there is a master.
+    pub(crate) fn leave_refusal(&self, s: SessionId, l: Lss) -> Option<Refusal>
+        ensures { result ≡ model.leave_refusal (Some self.now.session) s.0 l.0 }
+    {
+        if !self.has_subsystem(l) {
+            Some(Refusal::NotInSession { session: s })
+        } else if self.has_member_in(l) {
+            Some(Refusal::InSession {
+                session: self.number,
+            })
+        } else if self.is_only(l) {
+            self.mirror.as_ref().map(Mirror::formation)
+        } else {
+            None
+        }
+    }
+
+    /// Why the master can't go: there is none, or it isn't Idle.
+    pub(crate) fn drop_refusal(&self) -> Option<Refusal>
+        ensures { result ≡ model.drop_refusal self.now.session.mirror }
+    {
+        match &self.mirror {
+            Some(mirror) => mirror.busy(),
+            None => Some(NO_MASTER),
         }
     }
 

@@ -1,0 +1,17 @@
+use Rattle.std.proofs.Common.{◌≡◌, ◌+◌, ℕ, None, Some, Option, IfSome, IsTrue, List, [], ◌∷◌, ◌++◌, option_map, ap, sym, ◌∙◌, subst}
+use Rattle.dr_ids.specs.declared.refusal.PhaseName.TheVariants as phase
+use Rattle.dr_model.specs.Phases as phases
+use Rattle.dr_model.specs.Sessions as model
+use Rattle.dr_model.specs.Sessions.{Session, mirror_in}
+use Rattle.dr_master.specs.Seen.{reply_of}
+use Rattle.dr_session.specs.Seen.{expects}
+use Rattle.dr_session.specs.Kept.{Kept, Table}
+use Rattle.dr_session.specs.Places.{sessions_in, is_keyed}
+use Rattle.dr_session.proofs.PlaceLemmas.{found-in, none-in, changed-table, changed-sessions, stays-keyed, same-table, same-sessions, room-in, session-from_lookup, gone-sessions, keyed-remove, sessions-push, keyed-after, lookup-absent, left-gone, left-stays, joined-known, absent-table, absent-sessions, on-ok, on-err, if-ok}
+use Rattle.dr_session.proofs.table.Sessions.make_master.Goals as goal
+
+pub invariant_of-self : goal.invariant_of-self
+invariant_of-self c = stays-keyed c.self.inside.table.entries c.in-Some.i c.index_mut.result.now c.make_master.new.self c.self.invariant c.index_mut.ensures.value (ap (λ (k : Kept). k.session.number) c.make_master.ensures)
+
+pub returns-in-Some-clause-made : goal.returns-in-Some-clause-made
+returns-in-Some-clause-made c = changed-table c.self.inside.table.entries c.args.self.now c.args.s.0 c.in-Some.i c.index_mut.result.now c.make_master.new.self (model.mirrored_by c.args.server.0) c.self.view_is c.in-Some.ensures.place c.index_mut.ensures.value c.make_master.ensures
