@@ -21,9 +21,9 @@ pub servers_of-push : (ms : List Member) (m : Member) (before after : ℕ) → s
 servers_of-push ms m before after known is =
     is
     ∙ servers_where-same _ _ (λ k low.
-        ap (λ xs. k == m.server.0 || is_among k xs) known
-        ∙ (ap (λ b. k == m.server.0 || b) (is_among-servers_where (λ k. list_any (λ q. k == q.server.0) ms) k low)
-        ∙ (sym (or-comm (list_any (λ q. k == q.server.0) ms) (k == m.server.0)) ∙ sym (list_any-append (λ q. k == q.server.0) ms (m ∷ [])))))
+    ap (λ xs. k == m.server.0 || is_among k xs) known
+    ∙ (ap (λ b. k == m.server.0 || b) (is_among-servers_where (λ k. list_any (λ q. k == q.server.0) ms) k low)
+    ∙ (sym (or-comm (list_any (λ q. k == q.server.0) ms) (k == m.server.0)) ∙ sym (list_any-append (λ q. k == q.server.0) ms (m ∷ [])))))
 
 pub and-both : (a b : Bool) → (a && b) ≡ true → (a ≡ true) × (b ≡ true)
 and-both true b h = (refl, h)

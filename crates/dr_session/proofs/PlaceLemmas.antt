@@ -50,10 +50,9 @@ place-by_tests : (s i : ℕ) (es : Entries) → is_keyed es ≡ true → ((k : �
 place-by_tests s i [] keyed before within here = absurd (omega arith)
 place-by_tests s zero (e ∷ es) keyed before within here = same_number e.1.session.number e.0 s (and-both (e.1.session.number == e.0) (is_keyed es) keyed).0 here
 place-by_tests s (suc i) (e ∷ es) keyed before within here =
-    let parts = and-both (e.1.session.number == e.0) (is_keyed es) keyed in
-    (
+    let parts = and-both (e.1.session.number == e.0) (is_keyed es) keyed in (
       other_number e.1.session.number e.0 s parts.0 (before 0 (omega arith)),
-      place-by_tests s i es parts.1 (λ k low. before (suc k) (omega arith)) (omega arith) here
+      place-by_tests s i es parts.1 (λ k low. before (suc k) (omega arith)) (omega arith) here,
     )
 
 pub place-from_position : (s : ℕ) (es : Entries) (r : Option ℕ) → is_keyed es ≡ true → r ≡ position (eqb s) (keys_of es) → IfSome r (λ i. IsPlace s i es)

@@ -7,3 +7,6 @@ mod session;
 mod table;
 
 pub use table::Sessions;
+
+#[cfg(test)]
+mod tests;

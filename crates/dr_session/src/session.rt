@@ -1,13 +1,11 @@
-ghost use Rattle.std.specs.Prelude.{◌≡◌, ◌<◌, ◌+◌, ◌++◌, ◌==◌, ◌∷◌, [], not, filter, slice_get, length, Some, None, IsTrue, IsOk, IfSome, IfOk, OnOk, OnErr, option_map, is_some};
+ghost use Rattle.std.specs.Prelude.{◌≡◌, ◌↔◌, ◌<◌, ◌+◌, ◌++◌, ◌==◌, ◌∷◌, [], not, filter, slice_get, length, Some, None, IsTrue, IsOk, IsSomeAnd, IfSome, IfOk, OnOk, OnErr, option_map, is_some};
 ghost use Rattle.std.specs.Result.{result_err};
 ghost use Rattle.dr_ids.specs.declared.refusal.PhaseName.TheVariants as phase;
 ghost use Rattle.dr_master.specs.Seen.{reply_of};
 ghost use Rattle.dr_model.specs.Sessions as model;
 ghost use Rattle.dr_model.specs.Phases as phases;
 
-use crate::members::{
-    has_place, servers_of, take_member_out, take_subsystem_out, tell_servers,
-};
+use crate::members::{has_place, servers_of, take_member_out, take_subsystem_out, tell_servers};
 use dr_ids::{Lss, Member, PhaseName, Refusal, ServerId, SessionId, VolumeId};
 use dr_master::{Master, Reply};
 use std::alloc::{AllocError, Global};
@@ -122,7 +120,8 @@ impl Session {
 
     /// The member that was added after `i` others of today's.
     pub(crate) fn member_at(&self, i: usize) -> Option<Member>
-        ensures { result ≡ slice_get self.now.session.members i }
+        ensures value { result ≡ slice_get self.now.session.members i }
+        ensures low { IfSome result (λ m. m.server.0 < 8) }
     {
         self.members.get(i).copied()
     }
@@ -161,9 +160,7 @@ impl Session {
     pub(crate) fn has_place_of(&self, m: &Member) -> bool
         ensures { result ≡ model.has_place_of m.now self.now.session }
     {
-        self.members
-            .iter()
-            .any(|q| has_place(q, m.a) || has_place(q, m.b) || has_place(q, m.c))
+        self.members.iter().any(|q| has_place(q, m.a) || has_place(q, m.b) || has_place(q, m.c))
     }
 
     /// Adds a logical subsystem. Where there is no memory, nothing has changed.
@@ -304,9 +301,30 @@ impl Session {
         }
     }
 
+    /// Whether its master owes the server an order to which this is a reply.
+    pub(crate) fn expects(&self, server: ServerId, r: &Reply) -> bool
+        requires { server.0 < 8 }
+        ensures { result ≡ expects self.now.session.mirror server.0 r.now }
+    {
+        match &self.mirror {
+            Some(mirror) => mirror.master.expects(server, r),
+            None => false,
+        }
+    }
+
+    /// Whether its master is Lost and all servers have reported.
+    pub(crate) fn can_settle(&self) -> bool
+        ensures { IsTrue result ↔ IsSomeAnd self.now.session.mirror (λ r. (r.master.phase ≡ phase.Lost) × (r.master.owed ≡ [])) }
+    {
+        match &self.mirror {
+            Some(mirror) => mirror.has_all_reports(),
+            None => false,
+        }
+    }
+
     /// All have reported.
     pub(crate) fn settle_start(&mut self)
-        requires { IfSome self.old.session.mirror (λ r. (r.master.phase ≡ phase.Lost) × (r.master.owed ≡ [])) }
+        requires { IsSomeAnd self.old.session.mirror (λ r. (r.master.phase ≡ phase.Lost) × (r.master.owed ≡ [])) }
         ensures { self.new ≡ record self.old { session = model.with_master phases.settled self.old.session } }
     {
         if let Some(mirror) = &mut self.mirror {
@@ -371,6 +389,13 @@ impl Mirror {
         if self.server.0 == server.0 {
             self.master.lose();
         }
+    }
+
+    /// Whether its master is Lost and all servers have reported.
+    fn has_all_reports(&self) -> bool
+        ensures { IsTrue result ↔ (self.now.master.phase ≡ phase.Lost) × (self.now.master.owed ≡ []) }
+    {
+        matches!(self.master.phase(), PhaseName::Lost) && self.master.is_answered()
     }
 
     /// Its phase and number, as a refusal says them.

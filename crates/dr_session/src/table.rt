@@ -1,4 +1,4 @@
-ghost use Rattle.std.specs.Prelude.{◌≡◌, ◌≢◌, ◌<◌, ◌+◌, ◌++◌, ◌∷◌, [], map, slice_get, true, None, Some, Err, IsTrue, IsOk, IsSome, IfSome, IfOk, OnOk, OnErr, option_map, is_some};
+ghost use Rattle.std.specs.Prelude.{◌≡◌, ◌≢◌, ◌↔◌, ◌<◌, ◌+◌, ◌++◌, ◌∷◌, [], map, slice_get, true, None, Some, Err, IsTrue, IsOk, IsSome, IsSomeAnd, IfSome, IfOk, OnOk, OnErr, option_map, is_some};
 ghost use Rattle.std.specs.List.{find};
 ghost use Rattle.std.specs.Result.{result_err};
 ghost use Rattle.dr_ids.specs.declared.refusal.PhaseName.TheVariants as phase;
@@ -245,7 +245,7 @@ impl Sessions {
 
     /// All servers of a lost master have reported: it goes on by what they show.
     pub fn settle_start(&mut self, s: SessionId)
-        requires { IfSome (model.mirror_in (model.session_in self.old.sessions s.0)) (λ r. (r.master.phase ≡ phase.Lost) × (r.master.owed ≡ [])) }
+        requires { IsSomeAnd (model.mirror_in (model.session_in self.old.sessions s.0)) (λ r. (r.master.phase ≡ phase.Lost) × (r.master.owed ≡ [])) }
         ensures { self.new ≡ record self.old { sessions = model.changed s.0 (model.with_master phases.settled) self.old.sessions } }
     {
         if let Some(i) = place_of(&self.table, s) {
@@ -253,9 +253,53 @@ impl Sessions {
         }
     }
 
+    /// Whether the session is defined.
+    pub fn is_defined(&self, s: SessionId) -> bool
+        ensures { IsTrue result ↔ IsSome (model.session_in self.now.sessions s.0) }
+    {
+        self.session(s).is_some()
+    }
+
+    /// What a change of the session's members is refused with while its master isn't Idle.
+    pub fn busy(&self, s: SessionId) -> Option<Refusal>
+        ensures { result ≡ model.busy (model.mirror_in (model.session_in self.now.sessions s.0)) }
+    {
+        self.session(s)?.busy()
+    }
+
+    /// The first session in which one of the member's three volumes has a place, if there is one.
+    pub fn session_with_place(&self, m: &Member) -> Option<SessionId>
+        ensures { option_map (λ k. k.0) result ≡ option_map (λ x. x.number) (find (model.has_place_of m.now) self.now.sessions) }
+    {
+        first_with_place(&self.table, m)
+    }
+
+    /// Whether the session's master owes the server an order to which this is a reply, and all reports
+    /// together speak of at most 64 members.
+    pub fn expects(&self, s: SessionId, server: ServerId, r: &Reply) -> bool
+        requires { server.0 < 8 }
+        ensures { result ≡ expects (model.mirror_in (model.session_in self.now.sessions s.0)) server.0 r.now }
+    {
+        match self.session(s) {
+            Some(session) => session.expects(server, r),
+            None => false,
+        }
+    }
+
+    /// Whether the session's master is Lost and all servers have reported.
+    pub fn can_settle(&self, s: SessionId) -> bool
+        ensures { IsTrue result ↔ IsSomeAnd (model.mirror_in (model.session_in self.now.sessions s.0)) (λ r. (r.master.phase ≡ phase.Lost) × (r.master.owed ≡ [])) }
+    {
+        match self.session(s) {
+            Some(session) => session.can_settle(),
+            None => false,
+        }
+    }
+
     /// The member that was added to the session after `i` others of today's, if there are so many.
     pub fn member_at(&self, s: SessionId, i: usize) -> Option<Member>
-        ensures { result ≡ slice_get (model.members_in (model.session_in self.now.sessions s.0)) i }
+        ensures value { result ≡ slice_get (model.members_in (model.session_in self.now.sessions s.0)) i }
+        ensures low { IfSome result (λ m. m.server.0 < 8) }
     {
         self.session(s)?.member_at(i)
     }

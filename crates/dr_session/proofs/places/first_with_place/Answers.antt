@@ -13,8 +13,8 @@ returns-then-has_place_of c =
     let v = c.index-session.result.now in
     let passes : p v.session ≡ true = sym c.has_place_of.ensures ∙ c.if-has_place_of.true in
     let found : find p (sessions_in es) ≡ Some v.session =
-        sym c.loop-i.invariant.rest
-        ∙ (find-from p c.loop-i.i es v c.index-session.ensures ∙ ap (λ b. cond b (Some v.session) (find p (sessions_in (drop (c.loop-i.i + 1) es)))) passes) in
+    sym c.loop-i.invariant.rest
+    ∙ (find-from p c.loop-i.i es v c.index-session.ensures ∙ ap (λ b. cond b (Some v.session) (find p (sessions_in (drop (c.loop-i.i + 1) es)))) passes) in
     ap (λ n. Some n) c.number.ensures ∙ ap (λ o. option_map (λ (x : Session). x.number) o) (sym found)
 
 pub loop-i-preserved : goal.loop-i-preserved
@@ -26,6 +26,6 @@ loop-i-preserved c =
     record {
       long = c.loop-i.invariant.long;
       rest =
-        sym (ap (λ b. cond b (Some v.session) (find p (sessions_in (drop (c.loop-i.i + 1) es)))) fails)
-        ∙ (sym (find-from p c.loop-i.i es v c.index-session.ensures) ∙ c.loop-i.invariant.rest);
+          sym (ap (λ b. cond b (Some v.session) (find p (sessions_in (drop (c.loop-i.i + 1) es)))) fails)
+          ∙ (sym (find-from p c.loop-i.i es v c.index-session.ensures) ∙ c.loop-i.invariant.rest);
     }

@@ -1,4 +1,4 @@
-use Rattle.std.proofs.Common.{◌≡◌, ◌+◌, ℕ, None, Some, Option, IfSome, IsTrue, List, [], ◌∷◌, ◌++◌, option_map, ap, sym, ◌∙◌, subst}
+use Rattle.std.proofs.Common.{◌≡◌, ◌+◌, ℕ, None, Some, Option, IsSomeAnd, IsTrue, List, [], ◌∷◌, ◌++◌, option_map, ap, sym, ◌∙◌, subst}
 use Rattle.dr_ids.specs.declared.refusal.PhaseName.TheVariants as phase
 use Rattle.dr_model.specs.Phases as phases
 use Rattle.dr_model.specs.Sessions as model
