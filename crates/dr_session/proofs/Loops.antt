@@ -1,5 +1,5 @@
 -- What the loops over the map keep.
-use Rattle.std.proofs.Common.{◌≡◌, ℕ, Bool, true, List, length, take, drop}
+use Rattle.std.proofs.Common.{◌≡◌, ℕ, Bool, true, length, take, drop}
 use Rattle.std.specs.List.{find}
 use Rattle.dr_model.specs.Sessions.{Session}
 use Rattle.dr_session.specs.Kept.{Table}

@@ -1,6 +1,6 @@
 -- What is found and changed at a place of the map is found and changed in the list of sessions.
-use Rattle.std.proofs.Common.{◌≡◌, ℕ, zero, suc, ◌+◌, ◌<◌, ◌≤◌, Bool, true, false, cond, not, ◌&&◌, List, [], ◌∷◌, ◌++◌, length, map, take, drop, get_or, slice_get, remove, Bor, option_map, Option, None, Some, IfSome, IfNone, Result, Ok, Err, OnOk, OnErr, IfOk, refl, sym, ◌∙◌, ap, subst, arith, add-one, eqb, ◌==◌}
-use Rattle.std.specs.List.{find, position, list_all}
+use Rattle.std.proofs.Common.{◌≡◌, ℕ, zero, suc, ◌+◌, ◌<◌, Bool, true, false, cond, ◌&&◌, List, [], ◌∷◌, ◌++◌, length, map, take, drop, get_or, slice_get, remove, Bor, option_map, Option, None, Some, IfSome, IfNone, Result, Ok, Err, OnOk, OnErr, IfOk, refl, sym, ◌∙◌, ap, arith, add-one, eqb, ◌==◌}
+use Rattle.std.specs.List.{find, position}
 use Rattle.std.specs.Option.{is_some, option_copied}
 use Rattle.std.proofs.lemmas.List.{map-append, length-map}
 use Rattle.std.proofs.lemmas.Grind.{common_steps}

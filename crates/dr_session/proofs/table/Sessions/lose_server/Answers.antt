@@ -1,5 +1,4 @@
 use Rattle.std.proofs.Common.{◌≡◌, length, sym, ◌∙◌, ap, arith}
-use Rattle.indexmap.proofs.CallerLemmas.{index_map_len-with_value_at}
 use Rattle.dr_model.specs.Sessions as model
 use Rattle.dr_session.specs.Kept.{Kept, Table}
 use Rattle.dr_session.proofs.PlaceLemmas.{first_by, first_by-none, first_by-more, first_by-all, length-sessions, length-set_value_at, room-at, stays-keyed}

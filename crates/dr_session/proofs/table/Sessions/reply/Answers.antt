@@ -1,13 +1,11 @@
-use Rattle.std.proofs.Common.{◌≡◌, ◌+◌, ℕ, None, Some, Option, IsSomeAnd, IsTrue, List, [], ◌∷◌, ◌++◌, option_map, ap, sym, ◌∙◌, subst}
-use Rattle.dr_ids.specs.declared.refusal.PhaseName.TheVariants as phase
+use Rattle.std.proofs.Common.{Option, ap, sym, ◌∙◌}
 use Rattle.dr_model.specs.Phases as phases
 use Rattle.dr_model.specs.Sessions as model
 use Rattle.dr_model.specs.Sessions.{Session, mirror_in}
 use Rattle.dr_master.specs.Seen.{reply_of}
 use Rattle.dr_session.specs.Seen.{expects}
-use Rattle.dr_session.specs.Kept.{Kept, Table}
-use Rattle.dr_session.specs.Places.{sessions_in, is_keyed}
-use Rattle.dr_session.proofs.PlaceLemmas.{found-in, none-in, changed-table, changed-sessions, stays-keyed, same-table, same-sessions, room-in, session-from_lookup, gone-sessions, keyed-remove, sessions-push, keyed-after, lookup-absent, left-gone, left-stays, joined-known, absent-table, absent-sessions, on-ok, on-err, if-ok}
+use Rattle.dr_session.specs.Kept.{Kept}
+use Rattle.dr_session.proofs.PlaceLemmas.{found-in, changed-table, stays-keyed}
 use Rattle.dr_session.proofs.table.Sessions.reply.Goals as goal
 
 pub reply-requires-clause-expected : goal.reply-requires-clause-expected

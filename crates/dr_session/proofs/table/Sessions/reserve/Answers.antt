@@ -1,6 +1,5 @@
-use Rattle.std.proofs.Common.{◌≡◌, length, sym, ◌∙◌, ap, arith}
+use Rattle.std.proofs.Common.{◌∙◌, ap}
 use Rattle.dr_model.specs.Sessions.{Session}
-use Rattle.dr_session.specs.Kept.{Kept, Table}
 use Rattle.dr_session.proofs.PlaceLemmas.{sessions-same, length-set_value_at, room-more, stays-keyed}
 use Rattle.dr_session.proofs.table.Sessions.reserve.Goals as goal
 
