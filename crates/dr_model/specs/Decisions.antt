@@ -15,17 +15,21 @@ pub data Numbers : Type 0 where
   Same : (n : ℕ) → Numbers
   Differ : (a b : ℕ) → Numbers
 
+-- a first number, and another that differs from it, if there is one
 abbrev pub first_and_other : ℕ → Option ℕ → Numbers
 first_and_other a None = Same a
 first_and_other a (Some b) = Differ a b
 
+-- what the numbers of a list come to
 abbrev pub numbers_in : List ℕ → Numbers
 numbers_in [] = NoNumber
 numbers_in (a ∷ ns) = first_and_other a (find (λ n. not (n == a)) ns)
 
+-- the numbers of the revertible members
 abbrev pub revertibles : List Shown → List ℕ
 revertibles xs = map (λ x. x.sequence) (filter (λ x. x.revertible) xs)
 
+-- the numbers of the others
 abbrev pub others : List Shown → List ℕ
 others xs = map (λ x. x.sequence) (filter (λ x. not x.revertible) xs)
 

@@ -13,9 +13,11 @@ use Rattle.dr_model.specs.Decisions.{Shown, decision}
 unfoldable pub servers_where : (ℕ → Bool) → List ℕ
 servers_where p = filter p (range_with_len 0 8)
 
+-- whether server s is in the list
 abbrev pub is_among : ℕ → List ℕ → Bool
 is_among s servers = list_any (λ k. k == s) servers
 
+-- the list without server s
 abbrev pub without : ℕ → List ℕ → List ℕ
 without s servers = filter (λ k. not (k == s)) servers
 
@@ -100,6 +102,7 @@ abbrev pub numbered : Work → ℕ → Order
 numbered Report n = record { work = Report; number = 0 }
 numbered w n = record { work = w; number = n }
 
+-- the order of some work, where it is owed
 abbrev pub order_if : Bool → Option Work → ℕ → Option Order
 order_if true (Some w) n = Some (numbered w n)
 order_if true None n = None
@@ -118,6 +121,7 @@ answers NotYet w = false
 answers (Reported xs) Report = true
 answers (Reported xs) w = false
 
+-- whether a reply is one to the work, if there is any
 abbrev pub is_reply : Reply → Option Work → Bool
 is_reply r (Some w) = answers r w
 is_reply r None = false
@@ -126,6 +130,7 @@ is_reply r None = false
 abbrev pub awaits : Master → ℕ → Reply → Bool
 awaits m s r = is_among s m.owed && is_reply r (work_in m.phase)
 
+-- who is owed a phase's order as it begins: all, but in Idle nobody
 abbrev pub owed_first : PhaseName → List ℕ → List ℕ
 owed_first phase.Idle servers = []
 owed_first p servers = servers
@@ -158,6 +163,7 @@ abbrev pub begin_refusal : PhaseName → ℕ → Option Refusal
 begin_refusal phase.Idle number = if number + 1 == 4294967296 then Some NumbersSpent else None
 begin_refusal p number = Some (OutOfOrder p)
 
+-- out of order, unless there is a next phase
 abbrev pub refusal_unless : PhaseName → Option PhaseName → Option Refusal
 refusal_unless p None = Some (OutOfOrder p)
 refusal_unless p (Some next) = None
@@ -166,6 +172,7 @@ refusal_unless p (Some next) = None
 abbrev pub abort_refusal : PhaseName → Option Refusal
 abort_refusal p = refusal_unless p (aborted_phase p)
 
+-- the next phase begins, if there is one
 abbrev pub enters_some : Option PhaseName → Master → Master
 enters_some None m = m
 enters_some (Some p) m = enters p m

@@ -31,14 +31,17 @@ pub record Session : Type 0 where
 abbrev pub session_in : List Session → ℕ → Option Session
 session_in ss s = find (λ x. x.number == s) ss
 
+-- the members of a session, none where it isn't defined
 abbrev pub members_in : Option Session → List Member
 members_in None = []
 members_in (Some x) = x.members
 
+-- the mirror of a session, if it is defined and has a master
 abbrev pub mirror_in : Option Session → Option Mirror
 mirror_in None = None
 mirror_in (Some x) = x.mirror
 
+-- whether there is a master, and it is paused
 abbrev pub is_paused : Option Mirror → Bool
 is_paused None = false
 is_paused (Some r) = r.paused
@@ -69,6 +72,7 @@ has_place v m = m.a.0 == v || (m.b.0 == v || m.c.0 == v)
 abbrev pub has_place_of : Member → Session → Bool
 has_place_of m x = list_any (λ q. has_place m.a.0 q || (has_place m.b.0 q || has_place m.c.0 q)) x.members
 
+-- the logical subsystem is one of the session's
 abbrev pub has_subsystem : ℕ → Session → Bool
 has_subsystem l x = list_any (λ k. k.0 == l) x.subsystems
 
@@ -83,6 +87,7 @@ pub record IsSound (x : Session) : Type 0 where
   pub servers : (r : Mirror) → x.mirror ≡ Some r → r.master.servers ≡ servers_of x.members
   pub number : (r : Mirror) → x.mirror ≡ Some r → r.master.number ≡ x.last
 
+-- the session is defined, and the logical subsystem is one of its own
 abbrev pub has_lss : Option Session → ℕ → Bool
 has_lss None l = false
 has_lss (Some x) l = has_subsystem l x
@@ -97,9 +102,11 @@ is_only l x = list_all (λ k. k.0 == l) x.subsystems
 abbrev pub with_mirror : (Mirror → Mirror) → Session → Session
 with_mirror f x = record x { mirror = option_map f x.mirror }
 
+-- with what became of its master
 abbrev pub with_master : (master.Master → master.Master) → Session → Session
 with_master f x = with_mirror (λ r. record r { master = f r.master }) x
 
+-- the master has these servers
 abbrev pub mirror_with : List ℕ → Mirror → Mirror
 mirror_with servers r = record r { master = master.with_servers r.master servers }
 
@@ -119,12 +126,15 @@ begun x = with_master master.begun (record x { last = x.last + 1 })
 abbrev pub mirrored_by : ℕ → Session → Session
 mirrored_by server x = record x { mirror = Some (record { server = server; paused = false; master = master.idle (servers_of x.members) x.last }) }
 
+-- without a master
 abbrev pub unmirrored : Session → Session
 unmirrored x = record x { mirror = None }
 
+-- a master that there is is paused, or runs again
 abbrev pub paused : Bool → Session → Session
 paused on x = with_mirror (λ r. record r { paused = on }) x
 
+-- the master is lost where the server runs it
 abbrev pub mirror_lost : ℕ → Mirror → Mirror
 mirror_lost server r = if r.server == server then record r { master = master.lost r.master } else r
 
@@ -162,6 +172,7 @@ unfoldable pub without_session : ℕ → List Session → List Session
 without_session s [] = []
 without_session s (x ∷ xs) = if x.number == s then xs else x ∷ without_session s xs
 
+-- what joining is, by the session that there is
 abbrev pub joins : Option Session → ℕ → ℕ → List Session → List Session
 joins None s l ss = ss ++ new_session s l ∷ []
 joins (Some x) s l ss = changed s (joined_by l) ss
@@ -170,6 +181,7 @@ joins (Some x) s l ss = changed s (joined_by l) ss
 abbrev pub joined : ℕ → ℕ → List Session → List Session
 joined s l ss = joins (session_in ss s) s l ss
 
+-- what leaving is, by the session that there is
 abbrev pub leaves : Option Session → ℕ → ℕ → List Session → List Session
 leaves None s l ss = ss
 leaves (Some x) s l ss =
@@ -181,32 +193,39 @@ left s l ss = leaves (session_in ss s) s l ss
 
 -- ---- refusals, in order
 
+-- in session: the one that is named, if there is one
 abbrev pub in_session : Option Session → Option Refusal
 in_session None = None
 in_session (Some x) = Some (InSession (record { 0 = x.number }))
 
+-- not in session s
 abbrev pub not_in_session : ℕ → Option Refusal
 not_in_session s = Some (NotInSession (record { 0 = s }))
 
+-- in formation, with the master's phase and number
 abbrev pub formation : Mirror → Option Refusal
 formation r = Some (InFormation r.master.phase r.master.number)
 
+-- why, but for Idle
 abbrev pub unless_idle : PhaseName → Option Refusal → Option Refusal
 unless_idle phase.Idle why = None
 unless_idle p why = why
 
--- a master that isn't Idle
+-- in formation, where there is a master that isn't Idle
 abbrev pub busy : Option Mirror → Option Refusal
 busy None = None
 busy (Some r) = unless_idle r.master.phase (formation r)
 
+-- out of order, since there is no master
 abbrev pub no_master : Option Refusal
 no_master = Some (OutOfOrder phase.None)
 
+-- there are four sessions and this is a new one; the logical subsystem is the session's already
 abbrev pub join_refusal : Option Session → ℕ → List Session → Option Refusal
 join_refusal None l ss = if nat_le 4 (length ss) then Some (Limit limit.Sessions) else None
 join_refusal (Some x) l ss = if has_subsystem l x then Some (Duplicate kind.Session) else None
 
+-- a master, whatever its phase
 abbrev pub last_refusal : Option Mirror → Option Refusal
 last_refusal None = None
 last_refusal (Some r) = formation r
@@ -228,18 +247,22 @@ add_refusal (Some x) m ss =
     if is_member m.a.0 x then Some (Duplicate kind.Volume)
     else option_or (in_session (find (is_member m.a.0) ss)) (option_or (busy x.mirror) (in_session (find (has_place_of m) ss)))
 
+-- the volume is no member; a master isn't Idle
 abbrev pub remove_refusal : Option Session → ℕ → ℕ → Option Refusal
 remove_refusal None s a = not_in_session s
 remove_refusal (Some x) s a = if is_member a x then busy x.mirror else not_in_session s
 
+-- there is a master already
 abbrev pub make_refusal : Option Mirror → Option Refusal
 make_refusal None = None
 make_refusal (Some r) = Some (Duplicate kind.Master)
 
+-- there is no master; it isn't Idle
 abbrev pub drop_refusal : Option Mirror → Option Refusal
 drop_refusal None = no_master
 drop_refusal (Some r) = unless_idle r.master.phase (formation r)
 
+-- there is no master
 abbrev pub pause_refusal : Option Mirror → Option Refusal
 pause_refusal None = no_master
 pause_refusal (Some r) = None
