@@ -28,3 +28,6 @@ pub mod LineTable
 pub mod LineSteps
 pub mod Grammar
 pub mod LineText
+pub mod Decisions
+pub mod Phases
+pub mod Sessions

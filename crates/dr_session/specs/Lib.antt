@@ -1,0 +1,3 @@
+pub mod Kept
+pub mod Seen
+pub mod Places
