@@ -20,3 +20,4 @@ pub mod LineTable
 pub mod LineSteps
 pub mod Grammar
 pub mod LineText
+pub mod PlantImage
