@@ -11,3 +11,6 @@ pub mod WordLaws
 pub mod LineLaws
 pub mod StepLaws
 pub mod ReadLemmas
+pub mod ImageLaws
+pub mod InkLaws
+pub mod RoundLaws

@@ -1,6 +1,6 @@
 -- What a call that reads answers.
-use Rattle.std.specs.Prelude.{◌≡◌, ℕ, Bool, true, false, List, Result, Ok, Err}
-use Rattle.dr_model.specs.PlantImage.{Volume}
+use Rattle.std.specs.Prelude.{◌≡◌, ◌≢◌, ℕ, Bool, true, false, List, Result, Ok, Err}
+use Rattle.dr_model.specs.PlantImage.{Volume, IsImage, image_text}
 use Rattle.dr_image.specs.declared.fault.ImageFault.{ImageFault}
 use Rattle.dr_image.specs.declared.fault.ImageFault.TheVariants.{NoMemory, BadImage}
 
@@ -22,3 +22,8 @@ EndsFault failed reading (BadImage line) = (failed ≡ false) × (reading ≡ Er
 abbrev pub EndsAs : Bool → Result (List Volume) ℕ → Result (List Volume) ImageFault → Type 0
 EndsAs failed reading (Ok image) = (failed ≡ false) × (reading ≡ Ok image)
 EndsAs failed reading (Err fault) = EndsFault failed reading fault
+
+-- a text with a bad line is the text of no proper image
+abbrev pub IsNoImage : List ℕ → ImageFault → Type 0
+IsNoImage text NoMemory = Unit {0}
+IsNoImage text (BadImage line) = (image : List Volume) → IsImage image → text ≢ image_text image

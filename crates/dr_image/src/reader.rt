@@ -1,11 +1,11 @@
 //! Reads images.
 
-ghost use Rattle.std.specs.Prelude.{◌≡◌, ◌<◌, ◌++◌, ◌+◌, length, drop, IfSome, [], ℕ, List, false, All, OnOk, is_err, IsErr, IsTrue};
+ghost use Rattle.std.specs.Prelude.{◌≡◌, ◌<◌, ◌++◌, ◌+◌, length, drop, IfSome, [], ℕ, List, false, All, OnOk, IfOk, IfErr, is_err, IsErr, IsTrue};
 ghost use Rattle.std.specs.List.{position};
-ghost use Rattle.dr_model.specs.PlantImage.{is_line_feed, step, reading, finished};
+ghost use Rattle.dr_model.specs.PlantImage.{is_line_feed, step, reading, finished, image_text, IsImage};
 ghost use Rattle.dr_image.specs.Lines.{state_of, stage_of};
 ghost use Rattle.dr_image.specs.Reader.{will_read, reads_on, IsState};
-ghost use Rattle.dr_image.specs.Outcome.{EndsAs, ReadsAs};
+ghost use Rattle.dr_image.specs.Outcome.{EndsAs, ReadsAs, IsNoImage};
 
 use crate::fault::ImageFault;
 use crate::image::Image;
@@ -164,13 +164,22 @@ fn finish(state: State, partial: &[u8]) -> Result<Image, ImageFault>
     }
 }
 
-/// Reads an image. Fails at the first bad line, counted from 1, or where there is no memory.
-pub fn read_image(alloc: Global, text: &[u8]) -> Result<Image, ImageFault>
-    ensures reads { ReadsAs (reading text.now) result }
+fn read_whole(alloc: Global, text: &[u8]) -> Result<Image, ImageFault>
+    ensures { ReadsAs (reading text.now) result }
 {
     let mut reader = ImageReader::new(alloc);
     match reader.feed(text) {
         Ok(()) => reader.finish(),
         Err(_) => Err(ImageFault::NoMemory),
     }
+}
+
+/// Reads an image. Fails at the first bad line, counted from 1, or where there is no memory. A text that
+/// reads is the text of the image, which is a proper one; one with a bad line is the text of none.
+pub fn read_image(alloc: Global, text: &[u8]) -> Result<Image, ImageFault>
+    ensures reads { ReadsAs (reading text.now) result }
+    ensures image { IfOk result (λ image. (text.now ≡ image_text image) × IsImage image) }
+    ensures bad { IfErr result (IsNoImage text.now) }
+{
+    read_whole(alloc, text)
 }

@@ -1,11 +1,12 @@
 //! Writes images.
 
-ghost use Rattle.std.specs.Prelude.{◌≡◌, ◌++◌, ◌∷◌, [], map, codes, OnOk, IfOk};
+ghost use Rattle.std.specs.Prelude.{◌≡◌, ◌++◌, ◌∷◌, [], map, codes, List, Ok, OnOk, IfOk};
 ghost use Rattle.std.specs.List.{flat_map};
 ghost use Rattle.std.specs.Fmt.{decimal};
 ghost use Rattle.dr_model.specs.LineText.{hex2, hex4, bytes_text};
 ghost use Rattle.dr_model.specs.Text.{trimmed};
-ghost use Rattle.dr_model.specs.PlantImage.{volume_line, block_line, block_lines, ended, image_text};
+ghost use Rattle.dr_model.specs.PlantImage.{volume_line, block_line, block_lines, ended, image_text, reading, Volume, IsImage};
+ghost use Rattle.dr_image.specs.Sound.{IsSound};
 ghost use Rattle.dr_image.specs.Shown.{kept, shown, all_shown};
 
 use crate::held::{Held, KeptBlock};
@@ -122,14 +123,25 @@ fn push_all_blocks(alloc: Global, text: &mut Text, volumes: &[Held]) -> Result<(
     Ok(())
 }
 
-/// The text of an image. Fails where there is no memory.
-pub fn write_image(alloc: Global, i: &Image) -> Result<Text, AllocError>
+fn write_whole(alloc: Global, i: &Image) -> Result<Text, AllocError>
     ensures text { IfOk result (λ text. text ≡ image_text i.now) }
+    ensures sound { IsSound i.now }
 {
+    let volumes = i.volumes.as_slice();
     let mut text = Text::new(alloc);
     text.append(b"image 1\n")?;
-    push_volumes(alloc, &mut text, &i.volumes)?;
-    push_all_blocks(alloc, &mut text, &i.volumes)?;
+    push_volumes(alloc, &mut text, volumes)?;
+    push_all_blocks(alloc, &mut text, volumes)?;
     text.append(b"end\n")?;
     Ok(text)
+}
+
+/// The text of an image. Where it reads as an image, it reads as this one, and that of a proper image
+/// does. Fails where there is no memory.
+pub fn write_image(alloc: Global, i: &Image) -> Result<Text, AllocError>
+    ensures text { IfOk result (λ text. text ≡ image_text i.now) }
+    ensures reads { IfOk result (λ text. (image : List Volume) → reading text ≡ Ok image → image ≡ i.now) }
+    ensures proper { IfOk result (λ text. IsImage i.now → reading text ≡ Ok i.now) }
+{
+    write_whole(alloc, i)
 }
