@@ -1,5 +1,5 @@
 -- Bytes that are read from hexadecimal digits, pair by pair.
-use Rattle.std.proofs.Common.{ℕ, zero, suc, ◌≡◌, ◌≢◌, ◌<◌, ◌≤◌, ◌+◌, ◌*◌, ◌-◌, ◌/◌, List, [], ◌∷◌, ◌++◌, take, drop, drop-cons, add-one, set, length, get_or, replicate, refl, ap, ◌∙◌, sym, arith, Bool, true, false, not, ◌&&◌, cond, nat_eq, nat_le, Some, None, Option, append_assoc, append-nil}
+use Rattle.std.proofs.Common.{ℕ, suc, ◌≡◌, ◌≢◌, ◌<◌, ◌≤◌, ◌+◌, ◌*◌, ◌-◌, ◌/◌, List, [], ◌∷◌, ◌++◌, take, drop, drop-cons, add-one, set, length, get_or, replicate, refl, ap, ◌∙◌, sym, arith, Bool, true, false, not, ◌&&◌, nat_eq, nat_le, Some, None, Option, append_assoc}
 use Rattle.std.specs.Prelude.{if◌then◌else◌}
 use Rattle.std.proofs.lemmas.Bool.Decides.{nat_tests}
 use Rattle.std.proofs.lemmas.Grind.{common_steps}

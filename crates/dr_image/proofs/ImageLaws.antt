@@ -1,14 +1,14 @@
 -- A text that reads as an image is that image's text.
-use Rattle.std.proofs.Common.{ℕ, zero, suc, ◌≡◌, ◌≢◌, ◌<◌, ◌≤◌, ◌+◌, List, [], ◌∷◌, ◌++◌, length, map, get_or, refl, ap, ◌∙◌, sym, subst, arith, Bool, true, false, not, cond, ◌&&◌, nat_eq, nat_lt, nat_le, Some, None, Option, inl, inr, append_assoc, append-nil, length-append}
-use Rattle.std.specs.Prelude.{All, AllPairs, Result, Ok, Err, codes}
-use Rattle.std.specs.List.{list_all, slice_get, slice_split, position, position_or_len, flat_map, join_with_byte}
+use Rattle.std.proofs.Common.{ℕ, zero, suc, ◌≡◌, ◌<◌, ◌≤◌, ◌+◌, List, [], ◌∷◌, ◌++◌, length, map, refl, ap, ◌∙◌, sym, subst, arith, Bool, true, false, not, cond, nat_eq, nat_lt, Some, None, Option, inl, inr, append_assoc, append-nil, length-append}
+use Rattle.std.specs.Prelude.{All, AllPairs, Ok, codes}
+use Rattle.std.specs.List.{slice_get, slice_split, position, position_or_len, flat_map, join_with_byte}
 use Rattle.std.proofs.lemmas.Bool.Decides.{nat_tests}
 use Rattle.std.proofs.lemmas.List.{map-append}
-use Rattle.std.proofs.lemmas.List.Elements.{All-nil, All-cons, All-head, All-tail, All-push, All-weaker}
+use Rattle.std.proofs.lemmas.List.Elements.{All-nil, All-cons, All-head, All-tail, All-push}
 use Rattle.std.proofs.lemmas.List.Quantifiers.{position-Some}
 use Rattle.std.proofs.lemmas.List.Splits.{join_with_byte-slice_split}
 use Rattle.std.proofs.lemmas.Option.{get_or_from_slice_get}
-use Rattle.dr_model.specs.PlantImage.{Kept, Volume, Placed, Stage, Start, Listing, Filling, Ended, Bad, State, IsKept, IsVolume, IsImage, agrees, can_join, place_of, can_fill, with_block, after_line, or_bad, step, begin, has_source, sourced, checked, finished, is_line_feed, reads, reading, volume_line, block_line, block_lines, image_lines, image_text, ended}
+use Rattle.dr_model.specs.PlantImage.{Kept, Volume, Stage, Start, Listing, Filling, Ended, Bad, State, IsKept, IsVolume, IsImage, agrees, can_join, place_of, can_fill, with_block, after_line, or_bad, step, begin, has_source, sourced, checked, finished, is_line_feed, reads, reading, volume_line, block_line, block_lines, image_lines, image_text, ended}
 use Rattle.dr_image.proofs.OrderLemmas.{InOrder, pairs_head, pairs_tail}
 use Rattle.dr_image.proofs.SoundLemmas.{pairs_cons, pairs_nil}
 use Rattle.dr_image.proofs.SpaceLemmas.{not_chosen}
@@ -228,7 +228,7 @@ came-so_far s t line lines i (Joined v stage is new fits t_is) =
       apart = apart-push s.volumes v i.apart (can_join-apart s.volumes v fits);
       later = subst (λ (g : Stage). NoneFrom (from_here g s.place) (s.volumes ++ v ∷ [])) (sym stage) (none-push s.volumes v none new.blocks);
       so = ap (λ ls. ls ++ line ∷ []) (i.so ∙ ap (λ g. so_far g s.volumes) stage) ∙ ap (λ l. lines_of s.volumes ++ l ∷ []) is
-        ∙ lines-push s.volumes v none new.blocks ∙ sym (ap (λ g. so_far g (s.volumes ++ v ∷ [])) stage);
+          ∙ lines-push s.volumes v none new.blocks ∙ sym (ap (λ g. so_far g (s.volumes ++ v ∷ [])) stage);
       start = λ e. absurd (not_start (sym e ∙ stage));
     })
 came-so_far s t line lines i (Filled said p w stage is block at there fits t_is) =
@@ -245,7 +245,7 @@ came-so_far s t line lines i (Filled said p w stage is block at there fits t_is)
       apart = apart-with_block s.volumes p w b there i.apart;
       later = none_from-with_block s.volumes p (p + 1) b (omega arith) none;
       so = ap (λ ls. ls ++ line ∷ []) (i.so ∙ open_lines s.stage s.volumes stage) ∙ ap (λ l. lines_of s.volumes ++ l ∷ []) is
-        ∙ ap (λ v. lines_of s.volumes ++ block_line v b ∷ []) (sym (placed-is s.volumes said.volume p w at there)) ∙ lines-fill s.volumes p w b there none;
+          ∙ ap (λ v. lines_of s.volumes ++ block_line v b ∷ []) (sym (placed-is s.volumes said.volume p w at there)) ∙ lines-fill s.volumes p w b there none;
       start = λ e. absurd (cc);
     })
 
@@ -262,9 +262,10 @@ ended-so_far s Bad last lines vs is i e = absurd (cc)
 ended-so_far s Ended (b ∷ bs) lines vs is i e = absurd (cc)
 ended-so_far s Ended [] lines vs is i e =
     let ok = sourced_ok s.volumes (unsourced s.volumes) vs e in
-    let same : s.volumes ≡ vs = ok.1 in
-    (append-nil (ended lines) ∙ ap ended (i.so ∙ ap (λ g. so_far g s.volumes) is) ∙ ap (λ ws. ended (image_lines ws)) same,
-     subst IsImage same (record { few = i.few; each = i.each; apart = i.apart; sources = all_sourced s.volumes s.volumes ok.0 }))
+    let same : s.volumes ≡ vs = ok.1 in (
+      append-nil (ended lines) ∙ ap ended (i.so ∙ ap (λ g. so_far g s.volumes) is) ∙ ap (λ ws. ended (image_lines ws)) same,
+      subst IsImage same (record { few = i.few; each = i.each; apart = i.apart; sources = all_sourced s.volumes s.volumes ok.0 }),
+    )
 
 reads-so_far : (s : State) (parts lines : List (List ℕ)) (vs : List Volume) → IsSoFar s lines → reads s parts ≡ Ok vs → (ended lines ++ join_with_byte 10 parts ≡ image_text vs) × IsImage vs
 unfolding reads step
@@ -276,9 +277,9 @@ reads-so_far s (line ∷ next ∷ rest) lines vs i e =
       | Some t ↦ λ some h.
           let all = reads-so_far (record t { line = s.line + 1 }) (next ∷ rest) (lines ++ line ∷ []) vs (came-so_far s t line lines i (came s t line some)) h in
           let text : ended lines ++ (line ++ 10 ∷ join_with_byte 10 (next ∷ rest)) ≡ ended (lines ++ line ∷ []) ++ join_with_byte 10 (next ∷ rest) =
-            ap (λ r. ended lines ++ r) (sym (append_assoc line (10 ∷ []) (join_with_byte 10 (next ∷ rest))))
-            ∙ sym (append_assoc (ended lines) (line ++ 10 ∷ []) (join_with_byte 10 (next ∷ rest)))
-            ∙ ap (λ r. r ++ join_with_byte 10 (next ∷ rest)) (sym (ended-append lines (line ∷ []))) in
+          ap (λ r. ended lines ++ r) (sym (append_assoc line (10 ∷ []) (join_with_byte 10 (next ∷ rest))))
+          ∙ sym (append_assoc (ended lines) (line ++ 10 ∷ []) (join_with_byte 10 (next ∷ rest)))
+          ∙ ap (λ r. r ++ join_with_byte 10 (next ∷ rest)) (sym (ended-append lines (line ∷ []))) in
           (text ∙ all.0, all.1)
     ] refl e
 

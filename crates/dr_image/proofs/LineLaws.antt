@@ -1,8 +1,8 @@
 -- What a line is that can stand, and what it makes of the lines before it.
-use Rattle.std.proofs.Common.{ℕ, zero, suc, ◌≡◌, ◌≢◌, ◌<◌, ◌≤◌, ◌+◌, ◌-◌, ◌/◌, ◌%◌, ◌^◌, List, [], ◌∷◌, ◌++◌, length, refl, ap, ◌∙◌, sym, subst, arith, Bool, true, false, not, ◌&&◌, cond, nat_eq, nat_lt, nat_le, Some, None, Option, append-nil, ◌⊎◌, inl, inr}
-use Rattle.std.specs.Prelude.{All, codes, if◌then◌else◌}
+use Rattle.std.proofs.Common.{ℕ, ◌≡◌, ◌<◌, ◌≤◌, List, [], ◌∷◌, ◌++◌, refl, ap, ◌∙◌, sym, subst, arith, true, false, ◌&&◌, nat_le, Some, None, append-nil, ◌⊎◌, inl, inr}
+use Rattle.std.specs.Prelude.{codes, if◌then◌else◌}
 use Rattle.std.specs.Fmt.{decimal}
-use Rattle.std.specs.List.{slice_get, slice_split, join_with_byte}
+use Rattle.std.specs.List.{slice_get, join_with_byte}
 use Rattle.std.specs.Str.{bytes_eq}
 use Rattle.std.proofs.lemmas.Bool.Decides.{nat_tests}
 use Rattle.std.proofs.lemmas.Slice.Eq.{bytes_eq-Decides}
@@ -10,7 +10,7 @@ use Rattle.std.proofs.lemmas.List.Splits.{join_with_byte-slice_split}
 use Rattle.dr_model.specs.LineText.{hex4, bytes_text, spaced}
 use Rattle.dr_model.specs.LineWords.{◌>>=◌}
 use Rattle.dr_model.specs.Text.{trimmed}
-use Rattle.dr_model.specs.PlantImage.{Kept, Volume, Placed, Stage, Start, Listing, Filling, Ended, Bad, State, volume_line, block_line, is_space, words, id_word, plain_word, kept_word, volume_of, volume_said, block_said, can_join, join, place_of, can_fill, fill, fill_at, with_block, is_listing, by_words, by_line, by_stage, after_line}
+use Rattle.dr_model.specs.PlantImage.{Volume, Placed, Stage, Start, Listing, Filling, Ended, Bad, State, volume_line, block_line, words, id_word, plain_word, kept_word, volume_said, block_said, can_join, join, place_of, can_fill, fill, with_block, is_listing, by_words, by_line, by_stage, after_line}
 use Rattle.dr_image.proofs.BytesLemmas.{inverse}
 use Rattle.dr_image.proofs.WordLaws.{passed, IsBlock, id_word-is, plain_word-is, kept_word-is}
 use Rattle.dr_image.proofs.StateLemmas.{both}

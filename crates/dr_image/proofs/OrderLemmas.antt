@@ -1,7 +1,7 @@
 -- Blocks that stand in order.
-use Rattle.std.proofs.Common.{◌≡◌, ℕ, zero, suc, ◌+◌, ◌-◌, ◌<◌, ◌≤◌, Bool, true, false, not, ◌&&◌, cond, List, [], ◌∷◌, ◌++◌, length, take, drop, refl, ap, sym, ◌∙◌, subst, arith, nat_eq, nat_lt, nat_le, Some, None}
+use Rattle.std.proofs.Common.{◌≡◌, ℕ, zero, suc, ◌+◌, ◌<◌, ◌≤◌, true, false, not, ◌&&◌, cond, List, [], ◌∷◌, ◌++◌, length, take, drop, refl, ap, sym, ◌∙◌, subst, arith, nat_eq, nat_lt, nat_le, Some, None}
 use Rattle.std.specs.Prelude.{All, AllPairs, filter}
-use Rattle.std.specs.List.{list_all, slice_get, slice_index_or, position_or_len}
+use Rattle.std.specs.List.{list_all, slice_get, slice_index_or}
 use Rattle.std.proofs.lemmas.Bool.Decides.{nat_tests}
 use Rattle.dr_model.specs.PlantImage.{Kept}
 use Rattle.dr_image.specs.Shown.{place, if_kept, put, has_number, stands_at}

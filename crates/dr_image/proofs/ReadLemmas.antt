@@ -1,6 +1,6 @@
 -- A text that comes in pieces.
-use Rattle.std.proofs.Common.{ℕ, zero, suc, ◌≡◌, ◌<◌, ◌≤◌, ◌+◌, List, [], ◌∷◌, ◌++◌, length, take, drop, drop-cons, add-one, get_or, take-append-drop, refl, ap, ◌∙◌, sym, subst, arith, Bool, true, false, not, cond, nat_eq, nat_lt, Some, None, Option, append_assoc, append-nil}
-use Rattle.std.specs.Prelude.{All, Result, Ok, Err}
+use Rattle.std.proofs.Common.{ℕ, suc, ◌≡◌, ◌+◌, List, [], ◌∷◌, ◌++◌, length, take, drop, drop-cons, add-one, get_or, take-append-drop, refl, ap, ◌∙◌, sym, subst, arith, Bool, true, false, not, cond, nat_lt, Some, None, Option, append_assoc, append-nil}
+use Rattle.std.specs.Prelude.{All, Err}
 use Rattle.std.specs.List.{position, position_or_len, slice_split, onto_first}
 use Rattle.std.proofs.lemmas.Bool.Decides.{nat_tests}
 use Rattle.std.proofs.lemmas.List.Elements.{All-nil, All-cons, All-append}

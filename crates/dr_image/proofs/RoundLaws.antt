@@ -1,23 +1,23 @@
 -- What is written for an image reads as that image, where it reads as one at all; and a proper image's text reads.
-use Rattle.std.proofs.Common.{ℕ, zero, suc, ◌≡◌, ◌≢◌, ◌<◌, ◌≤◌, ◌+◌, ◌^◌, List, [], ◌∷◌, ◌++◌, length, map, refl, ap, ◌∙◌, sym, subst, arith, Bool, true, false, not, cond, ◌&&◌, nat_eq, nat_lt, nat_le, Some, None, Option, ◌⊎◌, inl, inr, append_assoc, append-nil, length-append}
-use Rattle.std.specs.Prelude.{All, AllPairs, Result, Ok, Err, codes, if◌then◌else◌}
+use Rattle.std.proofs.Common.{ℕ, suc, ◌≡◌, ◌<◌, ◌≤◌, ◌+◌, List, [], ◌∷◌, ◌++◌, length, map, refl, ap, ◌∙◌, sym, subst, arith, Bool, true, false, not, cond, ◌&&◌, nat_eq, nat_lt, nat_le, Some, None, ◌⊎◌, inl, inr, append_assoc, append-nil, length-append}
+use Rattle.std.specs.Prelude.{All, AllPairs, Ok, codes, if◌then◌else◌}
 use Rattle.std.specs.Fmt.{decimal}
-use Rattle.std.specs.List.{list_all, slice_get, slice_split, position, position_or_len, flat_map}
+use Rattle.std.specs.List.{list_all, slice_get, slice_split, position_or_len, flat_map}
 use Rattle.std.specs.Str.{bytes_eq}
 use Rattle.std.proofs.lemmas.Bool.Decides.{nat_tests}
 use Rattle.std.proofs.lemmas.List.{map-append, length-map}
-use Rattle.std.proofs.lemmas.List.Elements.{All-nil, All-cons, All-head, All-tail, All-push, All-weaker}
+use Rattle.std.proofs.lemmas.List.Elements.{All-nil, All-cons, All-head, All-tail, All-weaker}
 use Rattle.std.proofs.lemmas.List.Splits.{slice_split_at}
 use Rattle.dr_model.specs.LineText.{hex4, bytes_text}
 use Rattle.dr_model.specs.LineWords.{◌>>=◌}
 use Rattle.dr_model.specs.Text.{trimmed}
-use Rattle.dr_model.specs.PlantImage.{Kept, Volume, Placed, Stage, Start, Listing, Filling, Ended, Bad, State, IsKept, IsVolume, IsImage, agrees, can_join, join, place_of, can_fill, fill, fill_at, with_block, id_word, plain_word, kept_word, volume_of, volume_said, block_said, is_listing, words, by_words, by_line, by_stage, after_line, or_bad, step, begin, has_source, sourced, checked, finished, is_line_feed, reads, reading, volume_line, block_line, block_lines, image_lines, image_text, ended}
+use Rattle.dr_model.specs.PlantImage.{Kept, Volume, Placed, Listing, Filling, Ended, Bad, State, IsKept, IsVolume, IsImage, agrees, can_join, join, place_of, can_fill, fill, fill_at, with_block, plain_word, kept_word, volume_of, volume_said, block_said, is_listing, words, by_words, by_line, by_stage, after_line, or_bad, step, begin, has_source, sourced, checked, finished, is_line_feed, reads, reading, volume_line, block_line, block_lines, image_lines, image_text, ended}
 use Rattle.dr_image.specs.Sound.{IsSound, IsSoundVolume}
 use Rattle.dr_image.proofs.OrderLemmas.{InOrder, order_head, order_tail, pairs_head, pairs_tail}
 use Rattle.dr_image.proofs.SoundLemmas.{pairs_nil}
 use Rattle.dr_image.proofs.StateLemmas.{fill-at, both, and_true}
-use Rattle.dr_image.proofs.StepLaws.{more, all_from_test}
-use Rattle.dr_image.proofs.ReadLemmas.{NoLineFeed, reads-line, unsourced}
+use Rattle.dr_image.proofs.StepLaws.{more}
+use Rattle.dr_image.proofs.ReadLemmas.{reads-line, unsourced}
 use Rattle.dr_image.proofs.WordLaws.{IsBlock, id_word-hex4, plain_word-decimal, kept_word-text}
 use Rattle.dr_image.proofs.LineLaws.{IsOpen}
 use Rattle.dr_image.proofs.ImageLaws.{apart-push, can_join-apart, sourced_ok}
@@ -161,10 +161,10 @@ run-volumes i done (v ∷ ws) is sound apart s stage volumes place =
             | true ↦ λ joined.
                 let t : State = record s { volumes = s.volumes ++ bare v ∷ [] } in
                 let taken : step s line ≡ record t { line = s.line + 1 } =
-                  step-some s t line (o2 ∙ ap (λ (b : Bool). if b then Some (record s { volumes = s.volumes ++ bare v ∷ [] }) else None) (ap (λ vs. can_join vs (bare v)) volumes ∙ joined)) in
+                step-some s t line (o2 ∙ ap (λ (b : Bool). if b then Some (record s { volumes = s.volumes ++ bare v ∷ [] }) else None) (ap (λ vs. can_join vs (bare v)) volumes ∙ joined)) in
                 let next = run-volumes i (done ++ v ∷ []) ws (is ∙ sym (append_assoc done (v ∷ []) ws)) (All-tail IsSoundVolume v ws sound)
-                  (apart-push done v apart (all_bare v done (can_join-apart (map bare done) (bare v) joined)))
-                  (record t { line = s.line + 1 }) stage (ap (λ vs. vs ++ bare v ∷ []) volumes ∙ sym (map-append bare done (v ∷ []))) place in
+                (apart-push done v apart (all_bare v done (can_join-apart (map bare done) (bare v) joined)))
+                (record t { line = s.line + 1 }) stage (ap (λ vs. vs ++ bare v ∷ []) volumes ∙ sym (map-append bare done (v ∷ []))) place in
                 let P : State → Type 0 = λ u. Runs i (after u rest) (IsListed i (after u rest)) in
                 subst P (sym taken) next
           ] refl
@@ -283,7 +283,7 @@ run-one i done ws v is sound apart front (b ∷ back) blocks s f =
       | true ↦ λ fits.
           let taken : step s line ≡ record t { line = s.line + 1 } = step-some s t line (o ∙ ap (λ (c : Bool). if c then Some t else None) fits) in
           let next = run-one i done ws v is sound apart (front ++ b ∷ []) back (blocks ∙ sym (append_assoc front (b ∷ []) back)) (record t { line = s.line + 1 })
-            (record { stage = inr refl; volumes_are = ap (λ ys. with_block ys (length done) b) f.volumes_are ∙ filled_between done x (map bare ws) b; place = omega arith }) in
+          (record { stage = inr refl; volumes_are = ap (λ ys. with_block ys (length done) b) f.volumes_are ∙ filled_between done x (map bare ws) b; place = omega arith }) in
           let P : State → Type 0 = λ u. Runs i (after u rest) (IsFilling i (done ++ v ∷ map bare ws) (length done) (after u rest)) in
           subst P (sym taken) next
     ] refl
@@ -349,7 +349,7 @@ run-image i sound =
     let filled = run-listed i sound (after begin first) listed in
     subst P (sym (after-append begin (first ++ blocks) (codes "end" ∷ [])))
     (let R : State → Type 0 = λ u. Runs i (after u (codes "end" ∷ [])) (IsWhole i (after u (codes "end" ∷ []))) in
-      subst R (sym (after-append begin first blocks)) (run-end i (after (after begin first) blocks) filled))
+    subst R (sym (after-append begin first blocks)) (run-end i (after (after begin first) blocks) filled))
 
 reading-written : (i : List Volume) → IsSound i → reading (image_text i) ≡ finished (after begin (image_lines i)) (after begin (image_lines i)).stage []
 unfolding reading image_text

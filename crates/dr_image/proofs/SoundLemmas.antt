@@ -1,14 +1,13 @@
 -- Images stay sound.
-use Rattle.std.proofs.Common.{◌≡◌, ◌≢◌, ◌<◌, ◌≤◌, ◌+◌, ℕ, zero, suc, Bool, true, false, ◌&&◌, cond, List, [], ◌∷◌, ◌++◌, length, get_or, refl, ap, sym, ◌∙◌, subst, arith, nat_eq, nat_lt}
+use Rattle.std.proofs.Common.{◌≡◌, ◌<◌, ◌≤◌, ℕ, zero, suc, Bool, true, false, ◌&&◌, cond, List, [], ◌∷◌, ◌++◌, length, get_or, refl, ap, sym, ◌∙◌, subst, arith, nat_eq, nat_lt}
 use Rattle.std.specs.Prelude.{All, AllPairs, filter, if◌then◌else◌, Result, Ok, Err, OnOk, OnErr}
-use Rattle.std.specs.List.{list_all}
 use Rattle.std.proofs.lemmas.Bool.Decides.{nat_tests}
-use Rattle.std.proofs.lemmas.List.Elements.{All-nil, All-cons, All-head, All-tail, All-append, All-push, All-weaker, All-filter, filter_passes, All-from_get_or}
+use Rattle.std.proofs.lemmas.List.Elements.{All-nil, All-cons, All-head, All-tail, All-append, All-weaker, All-filter, filter_passes, All-from_get_or}
 use Rattle.dr_model.specs.PlantImage.{Kept, Volume, IsKept}
 use Rattle.dr_model.specs.Text.{trimmed, onto}
 use Rattle.dr_image.specs.Sound.{IsSound, IsSoundVolume}
 use Rattle.dr_image.specs.Shown.{is_zero, if_kept, put, put_last}
-use Rattle.dr_image.proofs.OrderLemmas.{InOrder, pairs_head, pairs_tail, order_head, order_tail, below, above}
+use Rattle.dr_image.proofs.OrderLemmas.{InOrder, order_head, order_tail, below, above}
 
 pub pairs_cons : {X : Type 0} (R : X → X → Type 0) (x : X) (xs : List X) → All (λ y. R x y) xs → AllPairs R xs → AllPairs R (x ∷ xs)
 pairs_cons R x xs first rest zero zero d lt within = absurd (omega arith)

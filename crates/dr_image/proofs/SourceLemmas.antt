@@ -1,5 +1,5 @@
 -- The sources of relationships.
-use Rattle.std.proofs.Common.{◌≡◌, ℕ, Bool, true, false, not, ◌||◌, List, refl, ap, sym, ◌∙◌, Some, None}
+use Rattle.std.proofs.Common.{◌≡◌, ℕ, not, ◌||◌, List, ap, sym, ◌∙◌, Some}
 use Rattle.std.specs.List.{list_any}
 use Rattle.dr_model.specs.Layout.{Fields, fields}
 use Rattle.dr_model.specs.PlantImage.{Volume, blocks_of, is_source_of, has_source}

@@ -1,12 +1,12 @@
 -- The lines of a text, one by one.
 use Rattle.std.proofs.Common.{◌≡◌, ◌<◌, ◌≤◌, ◌+◌, ℕ, zero, suc, Bool, true, false, List, [], ◌∷◌, length, get_or, refl, ap, sym, subst, ◌∙◌, arith, Option, Some, None, ◌&&◌, nat_lt, nat_le}
 use Rattle.std.proofs.lemmas.Bool.Decides.{nat_tests}
-use Rattle.std.specs.Prelude.{All, AllPairs, if◌then◌else◌}
+use Rattle.std.specs.Prelude.{All}
 use Rattle.std.specs.List.{slice_get, list_all}
 use Rattle.std.specs.Option.{is_some, option_map}
 use Rattle.std.proofs.lemmas.Option.{slice_get-map}
 use Rattle.dr_model.specs.LineWords.{◌>>=◌}
-use Rattle.dr_model.specs.PlantImage.{Kept, Volume, Placed, Stage, Filling, State, place_of, can_fill, fill, fill_at, with_block, or_bad}
+use Rattle.dr_model.specs.PlantImage.{Kept, Volume, Placed, State, place_of, can_fill, fill, fill_at, or_bad}
 use Rattle.dr_image.specs.declared.held.Held.{Held}
 use Rattle.dr_image.specs.Shown.{shown, all_shown}
 use Rattle.dr_image.specs.Lines.{moved}

@@ -1,14 +1,14 @@
 -- The lines so far fit an image, and are few, whatever comes.
-use Rattle.std.proofs.Common.{ℕ, zero, suc, ◌≡◌, ◌<◌, ◌≤◌, ◌+◌, ◌*◌, ◌^◌, List, [], ◌∷◌, ◌++◌, length, refl, ap, ◌∙◌, sym, subst, arith, Bool, true, false, ◌&&◌, nat_lt, nat_le, Some, None, Option, inl, inr, length-append}
-use Rattle.std.specs.Prelude.{All, AllPairs}
+use Rattle.std.proofs.Common.{ℕ, zero, suc, ◌≡◌, ◌<◌, ◌≤◌, ◌+◌, ◌*◌, ◌^◌, List, [], ◌∷◌, ◌++◌, length, refl, ap, sym, subst, arith, Bool, true, nat_lt, Some, None, Option, inl, inr, length-append}
+use Rattle.std.specs.Prelude.{All}
 use Rattle.std.specs.List.{list_all, slice_get}
 use Rattle.std.proofs.lemmas.Bool.Decides.{nat_tests}
-use Rattle.std.proofs.lemmas.List.Elements.{All-nil, All-cons, All-head, All-tail, All-push, All-append, All-weaker}
-use Rattle.dr_model.specs.PlantImage.{Kept, Volume, Placed, Stage, Start, Listing, Filling, Ended, Bad, State, IsKept, can_join, can_fill, with_block, after_line, or_bad, step}
+use Rattle.std.proofs.lemmas.List.Elements.{All-nil, All-cons, All-head, All-tail, All-push, All-weaker}
+use Rattle.dr_model.specs.PlantImage.{Kept, Volume, Stage, Start, Listing, Filling, Ended, Bad, State, IsKept, can_join, can_fill, with_block, after_line, or_bad, step}
 use Rattle.dr_image.specs.Sound.{IsSound, IsSoundVolume, IsRead}
 use Rattle.dr_image.specs.Reader.{IsState, kept_count, other_lines}
 use Rattle.dr_image.proofs.OrderLemmas.{InOrder, order_head, order_tail}
-use Rattle.dr_image.proofs.SoundLemmas.{order_append, pairs_cons, pairs_nil, bare-sound}
+use Rattle.dr_image.proofs.SoundLemmas.{order_append, pairs_cons, pairs_nil}
 use Rattle.dr_image.proofs.StateLemmas.{both, all_got, can_fill-index, can_fill-behind}
 use Rattle.dr_image.proofs.WordLaws.{IsBlock}
 use Rattle.dr_image.proofs.LineLaws.{IsNew, IsOpen, Came, Begun, Closed, Joined, Filled, came}

@@ -1,5 +1,5 @@
 -- The pieces of an image's text.
-use Rattle.std.proofs.Common.{◌≡◌, ◌≢◌, ◌<◌, ◌+◌, ℕ, suc, Bool, true, false, List, [], ◌∷◌, ◌++◌, length, map, take, drop, drop-cons, add-one, get_or, refl, ap, sym, ◌∙◌, arith, append_assoc, append-nil, nat_eq}
+use Rattle.std.proofs.Common.{◌≡◌, ◌≢◌, ◌<◌, ◌+◌, ℕ, false, List, [], ◌∷◌, ◌++◌, length, map, take, drop, drop-cons, add-one, get_or, refl, ap, sym, ◌∙◌, arith, append_assoc, nat_eq}
 use Rattle.std.specs.Prelude.{codes, if◌then◌else◌}
 use Rattle.std.specs.List.{flat_map}
 use Rattle.std.proofs.lemmas.Bool.Decides.{nat_tests}

@@ -1,5 +1,5 @@
 -- What a word says is what is written for it, and the other way round.
-use Rattle.std.proofs.Common.{ℕ, zero, suc, ◌≡◌, ◌≢◌, ◌<◌, ◌≤◌, ◌+◌, ◌-◌, ◌*◌, ◌/◌, ◌%◌, ◌^◌, List, [], ◌∷◌, ◌++◌, length, get_or, replicate, refl, ap, ◌∙◌, sym, subst, arith, Bool, true, false, not, ◌&&◌, cond, nat_eq, nat_lt, nat_le, Some, None, Option, append-nil, ◌⊎◌, inl, inr}
+use Rattle.std.proofs.Common.{ℕ, zero, suc, ◌≡◌, ◌≢◌, ◌<◌, ◌≤◌, ◌+◌, ◌-◌, ◌*◌, ◌/◌, ◌%◌, ◌^◌, List, [], ◌∷◌, ◌++◌, length, get_or, replicate, refl, ap, ◌∙◌, sym, subst, arith, Bool, true, false, not, ◌&&◌, nat_eq, nat_lt, nat_le, Some, None, Option, ◌⊎◌, inl, inr}
 use Rattle.std.specs.Prelude.{All, if◌then◌else◌}
 use Rattle.std.specs.Fmt.{decimal}
 use Rattle.std.specs.Char.{digit_value, is_digit}
@@ -9,8 +9,8 @@ use Rattle.std.proofs.lemmas.Grind.{common_steps}
 use Rattle.std.proofs.lemmas.Fmt.{decimal_is_IsNumeral, decimal-digits_value, length-decimal-le, first_decimal, decimal_digit}
 use Rattle.std.proofs.lemmas.Str.Parse.{IsNumeralModel}
 use Rattle.std.proofs.lemmas.List.Elements.{All-nil, All-cons, All-head, All-tail, All-append, All-replicate}
-use Rattle.dr_ids.specs.Spelling.{digit_in, upper_digit, spelled, all_digits, up_to, number_word}
-use Rattle.dr_ids.proofs.Digits.{digit_in-upper_digit, digits_each, digits_all, spelled_some}
+use Rattle.dr_ids.specs.Spelling.{digit_in, upper_digit, spelled, all_digits, up_to}
+use Rattle.dr_ids.proofs.Digits.{digit_in-upper_digit, digits_each, spelled_some}
 use Rattle.dr_model.specs.LineText.{hex2, hex4, bytes_text}
 use Rattle.dr_model.specs.LineWords.{◌>>=◌, decimal_word}
 use Rattle.dr_model.specs.Text.{trimmed, onto}

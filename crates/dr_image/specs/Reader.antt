@@ -1,5 +1,5 @@
 -- A reader of an image that comes in pieces.
-use Rattle.std.specs.Prelude.{◌≡◌, ℕ, ◌+◌, ◌*◌, ◌≤◌, Bool, true, false, List, [], ◌∷◌, ◌++◌, length, All, Result}
+use Rattle.std.specs.Prelude.{◌≡◌, ℕ, ◌+◌, ◌≤◌, Bool, false, List, [], ◌∷◌, ◌++◌, length, All, Result}
 use Rattle.std.specs.List.{slice_split}
 use Rattle.dr_model.specs.PlantImage.{Volume, Stage, Start, Listing, Filling, Ended, Bad, State, is_line_feed, reads}
 use Rattle.dr_image.specs.Sound.{IsRead}

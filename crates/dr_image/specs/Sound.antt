@@ -1,6 +1,6 @@
 -- What is true of each image.
-use Rattle.std.specs.Prelude.{ℕ, ◌+◌, ◌<◌, ◌≤◌, ◌≡◌, List, [], ◌++◌, ◌∷◌, nat_lt, filter, length, All, AllPairs, Bool, if◌then◌else◌}
-use Rattle.dr_model.specs.PlantImage.{Kept, Volume, IsKept}
+use Rattle.std.specs.Prelude.{◌<◌, ◌≤◌, List, All, AllPairs}
+use Rattle.dr_model.specs.PlantImage.{Volume, IsKept}
 
 -- a volume's numbers fit their bytes, and its blocks stand in order, none of them all zero
 pub record IsSoundVolume (v : Volume) : Type 0 where

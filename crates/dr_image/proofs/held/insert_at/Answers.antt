@@ -1,4 +1,4 @@
-use Rattle.std.proofs.Common.{◌≡◌, ◌∷◌, [], ◌++◌, ap, sym, ◌∙◌, take, drop}
+use Rattle.std.proofs.Common.{ap, sym, ◌∙◌, take, drop}
 use Rattle.dr_image.specs.Shown.{all_kept}
 use Rattle.dr_image.specs.declared.held.KeptBlock.{KeptBlock}
 use Rattle.dr_image.proofs.HeldLemmas.{put-between, none-between, between, taken-and-dropped}

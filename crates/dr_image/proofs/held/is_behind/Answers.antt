@@ -1,9 +1,8 @@
-use Rattle.std.proofs.Common.{◌≡◌, ◌-◌, ◌<◌, ℕ, suc, length, List, [], ◌∷◌, map, sym, ap, ◌∙◌, arith, Some, None, nat_lt}
+use Rattle.std.proofs.Common.{◌≡◌, ◌-◌, ℕ, length, List, [], ◌∷◌, sym, ap, ◌∙◌, arith, Some, nat_lt}
 use Rattle.std.specs.List.{slice_get, list_all}
 use Rattle.std.specs.Option.{option_map}
 use Rattle.std.proofs.lemmas.Option.{slice_get-map}
 use Rattle.std.proofs.lemmas.List.{length-map}
-use Rattle.dr_model.specs.PlantImage.{Kept}
 use Rattle.dr_image.specs.declared.held.KeptBlock.{KeptBlock}
 use Rattle.dr_image.specs.Shown.{all_kept, kept}
 use Rattle.dr_image.proofs.OrderLemmas.{InOrder, behind_last}

@@ -1,6 +1,5 @@
-use Rattle.std.proofs.Common.{◌≡◌, ◌-◌, ◌<◌, ℕ, suc, List, length, refl, sym, ap, ◌∙◌, arith}
+use Rattle.std.proofs.Common.{◌-◌, List, refl, arith}
 use Rattle.std.proofs.lemmas.Result.{on_ok_weaker, on_err_weaker}
-use Rattle.dr_model.specs.PlantImage.{Volume}
 use Rattle.dr_image.specs.declared.held.Held.{Held}
 use Rattle.dr_image.specs.Shown.{shown, all_shown}
 use Rattle.dr_image.specs.Sound.{IsSoundVolume}

@@ -1,4 +1,4 @@
-use Rattle.std.proofs.Common.{◌≡◌, ◌∷◌, [], ◌++◌, suc, ap, sym, ◌∙◌, take, drop, arith}
+use Rattle.std.proofs.Common.{suc, ap, sym, ◌∙◌, take, drop, arith}
 use Rattle.dr_image.specs.Shown.{all_kept}
 use Rattle.dr_image.specs.declared.held.KeptBlock.{KeptBlock}
 use Rattle.dr_image.proofs.HeldLemmas.{put-between, none-between, between, set-parts}

@@ -1,6 +1,5 @@
-use Rattle.std.proofs.Common.{◌≡◌, ℕ, List, length, refl, ap, sym, ◌∙◌, arith, Option, Some, None}
+use Rattle.std.proofs.Common.{◌≡◌, List, length, refl, ap, sym, ◌∙◌, arith, Some, None}
 use Rattle.std.proofs.lemmas.Bool.Decides.{nat_tests}
-use Rattle.dr_model.specs.PlantImage.{State}
 use Rattle.dr_image.specs.Lines.{state_of, stage_of}
 use Rattle.dr_image.specs.Shown.{all_shown}
 use Rattle.dr_image.specs.declared.held.Held.{Held}

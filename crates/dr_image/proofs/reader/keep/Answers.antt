@@ -1,7 +1,7 @@
 use Rattle.std.proofs.Common.{◌≡◌, ◌++◌, ℕ, List, false, ap, sym, ◌∙◌, subst}
-use Rattle.std.specs.Prelude.{Result, Ok, Err, OnOk, All, is_ok, if◌then◌else◌}
+use Rattle.std.specs.Prelude.{Result, Ok, Err, OnOk, is_ok, if◌then◌else◌}
 use Rattle.std.proofs.lemmas.List.Elements.{All-append}
-use Rattle.dr_model.specs.PlantImage.{State, Bad, is_line_feed}
+use Rattle.dr_model.specs.PlantImage.{State, is_line_feed}
 use Rattle.dr_image.specs.Lines.{state_of, stage_of}
 use Rattle.dr_image.specs.Reader.{reads_on}
 use Rattle.dr_image.proofs.ReadLemmas.{NoLineFeed, keep-turn, skip-turn}

@@ -1,5 +1,4 @@
-use Rattle.std.proofs.Common.{◌≡◌, ◌++◌, ◌+◌, [], ℕ, List, take, drop, ap, sym, ◌∙◌, subst, arith}
-use Rattle.std.specs.Prelude.{Some}
+use Rattle.std.proofs.Common.{◌++◌, [], ℕ, List, take, ap, sym, ◌∙◌}
 use Rattle.dr_model.specs.PlantImage.{State, step}
 use Rattle.dr_image.specs.Lines.{state_of}
 use Rattle.dr_image.specs.Reader.{reads_on}

@@ -1,5 +1,4 @@
-use Rattle.std.proofs.Common.{◌++◌, ap, sym, ◌∙◌, subst}
-use Rattle.dr_model.specs.PlantImage.{State, step}
+use Rattle.std.proofs.Common.{sym, subst}
 use Rattle.dr_image.specs.Lines.{state_of}
 use Rattle.dr_image.specs.Reader.{IsState}
 use Rattle.dr_image.proofs.StepLaws.{step-state, line-small}

@@ -1,7 +1,5 @@
-use Rattle.std.proofs.Common.{ap, sym, ◌∙◌}
-use Rattle.std.specs.List.{list_any}
+use Rattle.std.proofs.Common.{sym, ◌∙◌}
 use Rattle.dr_model.specs.PlantImage.{Volume, is_source_of}
-use Rattle.dr_image.specs.declared.held.Held.{Held}
 use Rattle.dr_image.specs.Shown.{shown, all_shown, bare}
 use Rattle.dr_image.proofs.HeldLemmas.{list_any-map}
 use Rattle.dr_image.proofs.SourceLemmas.{has_source-some}

@@ -1,4 +1,4 @@
-use Rattle.std.proofs.Common.{ap, sym, ◌∙◌, not}
+use Rattle.std.proofs.Common.{sym, ◌∙◌, not}
 use Rattle.dr_model.specs.PlantImage.{Volume, has_source}
 use Rattle.dr_image.specs.Shown.{shown, all_shown}
 use Rattle.dr_image.proofs.HeldLemmas.{position-map}

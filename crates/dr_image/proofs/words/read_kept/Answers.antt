@@ -1,7 +1,6 @@
-use Rattle.std.proofs.Common.{◌≡◌, ◌≤◌, ◌-◌, ◌/◌, Bool, true, false, List, ℕ, length, get_or, nat_eq, Some, None, sym, ap, ◌∙◌, arith}
+use Rattle.std.proofs.Common.{◌≡◌, ◌-◌, ◌/◌, Bool, false, List, ℕ, length, get_or, nat_eq, Some, None, sym, ap, ◌∙◌, arith}
 use Rattle.std.specs.Prelude.{if◌then◌else◌}
 use Rattle.std.proofs.lemmas.Bool.Decides.{nat_tests}
-use Rattle.dr_model.specs.PlantImage.{kept_word}
 use Rattle.dr_image.proofs.BytesLemmas.{kept-odd, kept-many, kept-read}
 use Rattle.dr_image.proofs.words.read_kept.Goals as goal
 

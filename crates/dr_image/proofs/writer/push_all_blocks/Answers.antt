@@ -1,4 +1,4 @@
-use Rattle.std.proofs.Common.{◌++◌, ◌+◌, ap, ◌∙◌, drop, arith}
+use Rattle.std.proofs.Common.{◌++◌, ◌+◌, ap, ◌∙◌, drop}
 use Rattle.std.specs.List.{flat_map}
 use Rattle.dr_model.specs.PlantImage.{block_lines, ended}
 use Rattle.dr_image.specs.Shown.{all_shown}

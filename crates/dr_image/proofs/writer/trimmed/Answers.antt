@@ -1,4 +1,4 @@
-use Rattle.std.proofs.Common.{◌≡◌, ◌+◌, ◌-◌, ◌<◌, ℕ, take, ap, sym, ◌∙◌, arith}
+use Rattle.std.proofs.Common.{◌≡◌, ◌+◌, ◌-◌, ℕ, take, ap, sym, ◌∙◌, arith}
 use Rattle.dr_model.specs.Text.{trimmed}
 use Rattle.dr_image.proofs.TextLemmas.{trim-one, trim-none}
 use Rattle.dr_image.proofs.writer.trimmed.Goals as goal

@@ -1,4 +1,4 @@
-use Rattle.std.proofs.Common.{◌≡◌, ◌<◌, arith}
+use Rattle.std.proofs.Common.{arith}
 use Rattle.dr_image.specs.Shown.{all_shown, put_last}
 use Rattle.dr_image.proofs.SoundLemmas.{kept-block, put_last-sound, either_sound}
 use Rattle.dr_image.proofs.image.Image.push_block.Goals as goal

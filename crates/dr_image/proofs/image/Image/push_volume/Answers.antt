@@ -1,4 +1,4 @@
-use Rattle.std.proofs.Common.{◌≡◌, ◌<◌, ◌++◌, ◌∷◌, [], arith}
+use Rattle.std.proofs.Common.{◌++◌, ◌∷◌, [], arith}
 use Rattle.std.proofs.lemmas.List.Elements.{All-push}
 use Rattle.dr_image.specs.Shown.{all_shown, bare}
 use Rattle.dr_image.specs.Sound.{IsSoundVolume}

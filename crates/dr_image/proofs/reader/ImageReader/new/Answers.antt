@@ -1,6 +1,5 @@
-use Rattle.std.proofs.Common.{◌≡◌, [], ℕ, List, ap, ◌∙◌}
-use Rattle.dr_model.specs.PlantImage.{State, begin}
-use Rattle.dr_image.specs.Lines.{state_of}
+use Rattle.std.proofs.Common.{ap, ◌∙◌}
+use Rattle.dr_model.specs.PlantImage.{begin}
 use Rattle.dr_image.specs.Reader.{reads_on}
 use Rattle.dr_image.proofs.ReadLemmas.{reads-begin}
 use Rattle.dr_image.proofs.reader.ImageReader.new.Goals as goal

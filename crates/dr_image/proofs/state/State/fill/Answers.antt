@@ -1,12 +1,10 @@
-use Rattle.std.proofs.Common.{◌≡◌, ◌<◌, ◌≤◌, ◌+◌, ℕ, Bool, true, false, List, ap, sym, ◌∙◌, arith, length, Some, None}
+use Rattle.std.proofs.Common.{◌≡◌, ◌<◌, ◌≤◌, ◌+◌, ℕ, Bool, true, false, List, ap, sym, ◌∙◌, arith, Some, None}
 use Rattle.std.specs.Prelude.{if◌then◌else◌}
-use Rattle.std.proofs.lemmas.Bool.Decides.{nat_tests}
-use Rattle.dr_model.specs.PlantImage.{Kept, Volume, Placed, Filling, State, can_fill, fill, fill_at, with_block}
+use Rattle.dr_model.specs.PlantImage.{Volume, Placed, Filling, State, can_fill, fill, fill_at, with_block}
 use Rattle.dr_image.specs.declared.held.Held.{Held}
 use Rattle.dr_image.specs.Shown.{shown, all_shown}
 use Rattle.dr_image.specs.Sound.{IsSoundVolume}
-use Rattle.dr_image.specs.Lines.{state_of, placed, moved}
-use Rattle.dr_image.proofs.OrderLemmas.{InOrder}
+use Rattle.dr_image.specs.Lines.{state_of, placed}
 use Rattle.dr_image.proofs.StateLemmas.{all_got, got, fill-at, can_fill-index, not_taken, taken}
 use Rattle.dr_image.proofs.state.State.fill.Goals as goal
 
