@@ -31,3 +31,4 @@ pub mod LineText
 pub mod Decisions
 pub mod Phases
 pub mod Sessions
+pub mod PlantImage

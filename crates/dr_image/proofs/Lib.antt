@@ -1,0 +1,16 @@
+pub mod OrderLemmas
+pub mod HeldLemmas
+pub mod SpaceLemmas
+pub mod ResultLemmas
+pub mod BytesLemmas
+pub mod StateLemmas
+pub mod SourceLemmas
+pub mod SoundLemmas
+pub mod TextLemmas
+pub mod WordLaws
+pub mod LineLaws
+pub mod StepLaws
+pub mod ReadLemmas
+pub mod ImageLaws
+pub mod InkLaws
+pub mod RoundLaws
