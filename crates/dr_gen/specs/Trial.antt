@@ -1,7 +1,7 @@
 -- The script of a trial: a fixed head, rounds that are drawn from a number, and a fixed end.
 use Rattle.std.specs.Prelude.{ℕ, suc, zero, ◌+◌, ◌-◌, ◌*◌, ◌/◌, ◌%◌, ◌^◌, List, [], ◌∷◌, ◌++◌, nat_eq, nat_lt, codes, if◌then◌else◌}
 use Rattle.std.specs.Fmt.{decimal}
-use Rattle.dr_model.specs.LineText.{hex2}
+use Rattle.dr_ids.specs.Spelling.{hex2}
 use Rattle.dr_gen.specs.declared.rounds.Round.{Round}
 use Rattle.dr_gen.specs.declared.rounds.Round.TheVariants.{Write, Drain, Exchange, Abort, Restart, Run}
 

@@ -2,7 +2,7 @@
 
 ghost use Rattle.std.specs.Prelude.{◌≡◌, ◌∷◌, ◌++◌, ◌-◌, ◌+◌, ◌<◌, ◌^◌, [], nat_lt, OnOk, IfOk, codes, if◌then◌else◌};
 ghost use Rattle.std.specs.Fmt.{decimal};
-ghost use Rattle.dr_model.specs.LineText.{hex2};
+ghost use Rattle.dr_ids.specs.Spelling.{hex2};
 ghost use Rattle.dr_gen.specs.Trial.{volume_word, server_word, round_lines, tried_again, writes_of, lines_of, rounds, ended, head, last, script_text};
 
 use crate::rounds::{Round, draw_round};

@@ -11,7 +11,8 @@ use Rattle.std.proofs.lemmas.Fmt.{decimal_is_IsNumeral}
 use Rattle.std.proofs.lemmas.List.Elements.{All-nil, All-cons, All-append, All-weaker, All-head, All-tail}
 use Rattle.std.proofs.lemmas.List.Splits.{slice_split_at, slice_split_none}
 use Rattle.dr_ids.specs.Spelling.{upper_digit}
-use Rattle.dr_model.specs.LineText.{hex2, hex4, bytes_text, spaced}
+use Rattle.dr_ids.specs.Spelling.{hex2, hex4}
+use Rattle.dr_model.specs.LineText.{bytes_text, spaced}
 use Rattle.dr_model.specs.Text.{trimmed}
 use Rattle.dr_model.specs.PlantImage.{Kept, Volume, IsKept, is_space, is_line_feed, words, volume_line, block_line, block_lines, image_lines}
 use Rattle.dr_image.specs.Sound.{IsSound, IsSoundVolume}

@@ -7,7 +7,8 @@ use Rattle.std.specs.Str.{bytes_eq}
 use Rattle.std.proofs.lemmas.Bool.Decides.{nat_tests}
 use Rattle.std.proofs.lemmas.Slice.Eq.{bytes_eq-Decides}
 use Rattle.std.proofs.lemmas.List.Splits.{join_with_byte-slice_split}
-use Rattle.dr_model.specs.LineText.{hex4, bytes_text, spaced}
+use Rattle.dr_ids.specs.Spelling.{hex4}
+use Rattle.dr_model.specs.LineText.{bytes_text, spaced}
 use Rattle.dr_model.specs.LineWords.{◌>>=◌}
 use Rattle.dr_model.specs.Text.{trimmed}
 use Rattle.dr_model.specs.PlantImage.{Volume, Placed, Stage, Start, Listing, Filling, Ended, Bad, State, volume_line, block_line, words, id_word, plain_word, kept_word, volume_said, block_said, can_join, join, place_of, can_fill, fill, with_block, is_listing, by_words, by_line, by_stage, after_line}

@@ -4,7 +4,7 @@ use Rattle.std.specs.Prelude.{All, AllPairs, filter, if◌then◌else◌, Result
 use Rattle.std.proofs.lemmas.Bool.Decides.{nat_tests}
 use Rattle.std.proofs.lemmas.List.Elements.{All-nil, All-cons, All-head, All-tail, All-append, All-weaker, All-filter, filter_passes, All-from_get_or}
 use Rattle.dr_model.specs.PlantImage.{Kept, Volume, IsKept}
-use Rattle.dr_model.specs.Text.{trimmed, onto}
+use Rattle.dr_model.specs.Text.{trimmed, before_trimmed}
 use Rattle.dr_image.specs.Sound.{IsSound, IsSoundVolume}
 use Rattle.dr_image.specs.Shown.{is_zero, if_kept, put, put_last}
 use Rattle.dr_image.proofs.OrderLemmas.{InOrder, order_head, order_tail, below, above}
@@ -74,7 +74,7 @@ put-all P k bytes bs all h =
     (All-append P (below k bs) (if_kept k bytes) (All-filter (λ (b : Kept). nat_lt b.index k) P bs all) (if_kept-all P k bytes h))
     (All-filter (λ (b : Kept). nat_lt k b.index) P bs all)
 
-onto_none : (b : ℕ) (bs : List ℕ) → onto b bs ≡ [] → (nat_eq b 0 ≡ true) × (bs ≡ [])
+onto_none : (b : ℕ) (bs : List ℕ) → before_trimmed b bs ≡ [] → (nat_eq b 0 ≡ true) × (bs ≡ [])
 onto_none b [] e = elim (nat_eq b 0) as (λ v. (if v then [] else b ∷ []) ≡ [] → (v ≡ true) × (◌≡◌ {A = List ℕ} [] [])) [ true ↦ λ h. (refl, refl) | false ↦ λ h. absurd (cc) ] e
 onto_none b (c ∷ cs) e = absurd (cc)
 

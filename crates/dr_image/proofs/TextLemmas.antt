@@ -8,7 +8,7 @@ use Rattle.dr_model.specs.LineText.{spaced}
 use Rattle.dr_model.specs.PlantImage.{Volume, volume_line, block_lines, ended, image_text}
 use Rattle.dr_image.specs.declared.held.Held.{Held}
 use Rattle.dr_image.specs.Shown.{shown, all_shown}
-use Rattle.dr_model.specs.Text.{trimmed, onto}
+use Rattle.dr_model.specs.Text.{trimmed, before_trimmed}
 
 pub ended-append : (a b : List (List ℕ)) → ended (a ++ b) ≡ ended a ++ ended b
 ended-append [] b = refl
@@ -32,16 +32,16 @@ line-written t t1 t2 t3 t4 t5 command a b c e1 e2 e3 e4 e5 =
 -- a zero at the end is trimmed
 trimmed-zero : (bs : List ℕ) → trimmed (bs ++ 0 ∷ []) ≡ trimmed bs
 trimmed-zero [] = refl
-trimmed-zero (b ∷ bs) = ap (onto b) (trimmed-zero bs)
+trimmed-zero (b ∷ bs) = ap (before_trimmed b) (trimmed-zero bs)
 
-onto-push : (x b : ℕ) (xs : List ℕ) → onto x (xs ++ b ∷ []) ≡ x ∷ xs ++ b ∷ []
+onto-push : (x b : ℕ) (xs : List ℕ) → before_trimmed x (xs ++ b ∷ []) ≡ x ∷ xs ++ b ∷ []
 onto-push x b [] = refl
 onto-push x b (y ∷ ys) = refl
 
 -- and nothing where the last byte isn't zero
 trimmed-kept : (bs : List ℕ) (b : ℕ) → nat_eq b 0 ≡ false → trimmed (bs ++ b ∷ []) ≡ bs ++ b ∷ []
 trimmed-kept [] b e = ap (λ v. if v then [] else b ∷ []) e
-trimmed-kept (x ∷ xs) b e = ap (onto x) (trimmed-kept xs b e) ∙ onto-push x b xs
+trimmed-kept (x ∷ xs) b e = ap (before_trimmed x) (trimmed-kept xs b e) ∙ onto-push x b xs
 
 pub trim-one : (bs : List ℕ) (n : ℕ) → n < length bs → get_or bs n 0 ≡ 0 → trimmed (take (n + 1) bs) ≡ trimmed (take n bs)
 trim-one bs n lt z = ap trimmed (take_more bs n 0 lt ∙ ap (λ b. take n bs ++ b ∷ []) z) ∙ trimmed-zero (take n bs)

@@ -11,9 +11,10 @@ use Rattle.std.proofs.lemmas.Str.Parse.{IsNumeralModel}
 use Rattle.std.proofs.lemmas.List.Elements.{All-nil, All-cons, All-head, All-tail, All-append, All-replicate}
 use Rattle.dr_ids.specs.Spelling.{digit_in, upper_digit, spelled, all_digits, up_to}
 use Rattle.dr_ids.proofs.Digits.{digit_in-upper_digit, digits_each, spelled_some}
-use Rattle.dr_model.specs.LineText.{hex2, hex4, bytes_text}
+use Rattle.dr_ids.specs.Spelling.{hex2, hex4}
+use Rattle.dr_model.specs.LineText.{bytes_text}
 use Rattle.dr_model.specs.LineWords.{◌>>=◌, decimal_word}
-use Rattle.dr_model.specs.Text.{trimmed, onto}
+use Rattle.dr_model.specs.Text.{trimmed, before_trimmed}
 use Rattle.dr_model.specs.PlantImage.{upper_value, upper_pair, upper_bytes, id_word, has_leading_zero, plain_word, ends_kept, kept_of, kept_word}
 use Rattle.dr_image.proofs.BytesLemmas.{inverse, padded}
 
@@ -177,17 +178,17 @@ not_kept bs none ends = let e = ap ends_kept none in cc
 
 trimmed-zeros : (n : ℕ) → trimmed (replicate n 0) ≡ []
 trimmed-zeros zero = refl
-trimmed-zeros (suc n) = ap (onto 0) (trimmed-zeros n)
+trimmed-zeros (suc n) = ap (before_trimmed 0) (trimmed-zeros n)
 
 -- bytes that end without a zero stay as they are, whatever zeros follow
 pub trimmed-ends : (bs : List ℕ) (n : ℕ) → ends_kept bs ≡ true → trimmed (bs ++ replicate n 0) ≡ bs
 trimmed-ends [] n e = absurd (cc)
 trimmed-ends (b ∷ []) n e =
     let some : nat_eq b 0 ≡ false = not_false (nat_eq b 0) e in
-    ap (onto b) (trimmed-zeros n) ∙ ap (λ v. if v then [] else b ∷ []) some
-trimmed-ends (b ∷ c ∷ cs) n e = ap (onto b) (trimmed-ends (c ∷ cs) n e)
+    ap (before_trimmed b) (trimmed-zeros n) ∙ ap (λ v. if v then [] else b ∷ []) some
+trimmed-ends (b ∷ c ∷ cs) n e = ap (before_trimmed b) (trimmed-ends (c ∷ cs) n e)
 
-onto-ends : (b : ℕ) (bs : List ℕ) → (bs ≡ []) ⊎ (ends_kept bs ≡ true) → (onto b bs ≡ []) ⊎ (ends_kept (onto b bs) ≡ true)
+onto-ends : (b : ℕ) (bs : List ℕ) → (bs ≡ []) ⊎ (ends_kept bs ≡ true) → (before_trimmed b bs ≡ []) ⊎ (ends_kept (before_trimmed b bs) ≡ true)
 onto-ends b [] h = elim (nat_eq b 0) as (λ v. nat_eq b 0 ≡ v → ((if v then [] else b ∷ []) ≡ []) ⊎ (ends_kept (if v then [] else b ∷ []) ≡ true)) [ true ↦ λ e. inl refl | false ↦ λ e. inr (ap not e) ] refl
 onto-ends b (c ∷ cs) (inl e) = absurd (cc)
 onto-ends b (c ∷ cs) (inr e) = inr e
@@ -198,7 +199,7 @@ trimmed_ends [] = inl refl
 trimmed_ends (b ∷ bs) = onto-ends b (trimmed bs) (trimmed_ends bs)
 
 -- what is trimmed, with zeros behind it
-onto-length : (b : ℕ) (bs : List ℕ) → length (onto b bs) ≤ suc (length bs)
+onto-length : (b : ℕ) (bs : List ℕ) → length (before_trimmed b bs) ≤ suc (length bs)
 onto-length b [] = elim (nat_eq b 0) as (λ v. length {A = ℕ} (if v then [] else b ∷ []) ≤ 1) [ true ↦ omega arith | false ↦ omega arith ]
 onto-length b (c ∷ cs) = omega arith
 
@@ -206,7 +207,7 @@ pub length-trimmed : (bs : List ℕ) → length (trimmed bs) ≤ length bs
 length-trimmed [] = omega arith
 length-trimmed (b ∷ bs) = let i = length-trimmed bs in let o = onto-length b (trimmed bs) in omega arith
 
-onto-filled : (b n : ℕ) (bs : List ℕ) → length bs ≤ n → onto b bs ++ replicate (suc n - length (onto b bs)) 0 ≡ b ∷ bs ++ replicate (n - length bs) 0
+onto-filled : (b n : ℕ) (bs : List ℕ) → length bs ≤ n → before_trimmed b bs ++ replicate (suc n - length (before_trimmed b bs)) 0 ≡ b ∷ bs ++ replicate (n - length bs) 0
 onto-filled b n [] le =
     elim (nat_eq b 0) as (λ v. nat_eq b 0 ≡ v → (if v then [] else b ∷ []) ++ replicate (suc n - length {A = ℕ} (if v then [] else b ∷ [])) 0 ≡ b ∷ replicate (n - 0) 0) [
       | true ↦ λ e.

@@ -3,7 +3,8 @@
 ghost use Rattle.std.specs.Prelude.{◌≡◌, ◌++◌, ◌∷◌, [], map, codes, List, Ok, OnOk, IfOk};
 ghost use Rattle.std.specs.List.{flat_map};
 ghost use Rattle.std.specs.Fmt.{decimal};
-ghost use Rattle.dr_model.specs.LineText.{hex2, hex4, bytes_text};
+ghost use Rattle.dr_ids.specs.Spelling.{hex2, hex4};
+ghost use Rattle.dr_model.specs.LineText.{bytes_text};
 ghost use Rattle.dr_model.specs.Text.{trimmed};
 ghost use Rattle.dr_model.specs.PlantImage.{volume_line, block_line, block_lines, ended, image_text, reading, Volume, IsImage};
 ghost use Rattle.dr_image.specs.Sound.{IsSound};

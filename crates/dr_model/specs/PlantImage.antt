@@ -6,7 +6,8 @@ use Rattle.std.specs.Str.{bytes_eq}
 use Rattle.dr_ids.specs.Spelling.{digit_in}
 use Rattle.dr_model.specs.Contents.{zeros}
 use Rattle.dr_model.specs.Layout.{Blocks, Fields, fields}
-use Rattle.dr_model.specs.LineText.{hex4, bytes_text, spaced}
+use Rattle.dr_ids.specs.Spelling.{hex4}
+use Rattle.dr_model.specs.LineText.{bytes_text, spaced}
 use Rattle.dr_model.specs.LineWords.{◌>>=◌, decimal_word}
 use Rattle.dr_model.specs.Text.{trimmed}
 

@@ -2,7 +2,7 @@ use Rattle.std.proofs.Common.{◌++◌, ap, ◌∙◌}
 use Rattle.std.specs.Prelude.{codes}
 use Rattle.std.specs.Fmt.{decimal}
 use Rattle.std.proofs.lemmas.Result.{on_ok_weaker}
-use Rattle.dr_model.specs.LineText.{hex4}
+use Rattle.dr_ids.specs.Spelling.{hex4}
 use Rattle.dr_model.specs.PlantImage.{volume_line}
 use Rattle.dr_image.proofs.TextLemmas.{line-written}
 use Rattle.dr_image.proofs.writer.push_volume.Goals as goal
