@@ -1,13 +1,13 @@
 -- A sound world agrees with a plant whose tracks contain what the world says, and what it shows is what is due.
-use Rattle.std.proofs.Common.{ℕ, ◌≡◌, ◌<◌, ◌∙◌, sym, ap, Bool, true, false, cond, not, ◌&&◌, List, [], ◌++◌, Option, Some, None}
+use Rattle.std.proofs.Common.{ℕ, ◌≡◌, ◌<◌, ◌∙◌, ap, Bool, true, cond, not, ◌&&◌, List, ◌++◌, Option}
 use Rattle.std.proofs.lemmas.List.{append-nil}
 use Rattle.std.specs.FinSet.{contains}
 use Rattle.dr_model.specs.Histories.{histories}
 use Rattle.dr_model.specs.Contents.{image, image_at}
 use Rattle.dr_model.specs.Layout.{Blocks}
 use Rattle.dr_model.specs.Control.{World, Fuse, is_volume}
-use Rattle.dr_model.specs.Views.{view, shows_source}
-use Rattle.dr_model.specs.Table.{table, due, waiting}
+use Rattle.dr_model.specs.Views.{view}
+use Rattle.dr_model.specs.Table.{due}
 use Rattle.dr_model.specs.Laws.{Sound}
 use Rattle.dr_model.specs.Allowed.{Runs}
 use Rattle.dr_model.specs.Fits.{Fits, SaysVolume, device_of, on_device}

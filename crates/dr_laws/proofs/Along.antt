@@ -1,11 +1,11 @@
 -- For any law: what each act keeps where it may come, every plan keeps whose acts may come where they come: where it
 -- ends, at every stop, at every moment, and where servers go off by themselves.
-use Rattle.std.proofs.Common.{ℕ, zero, suc, ◌≡◌, ◌⊎◌, inl, inr, refl, sym, subst, Bool, true, false, cond, List, [], ◌∷◌, take, Option, Some, None}
+use Rattle.std.proofs.Common.{ℕ, zero, suc, ◌≡◌, inl, inr, refl, sym, subst, Bool, true, false, cond, List, [], ◌∷◌, take, Option, Some, None}
 use Rattle.dr_ids.specs.declared.refusal.Refusal.{Refusal}
 use Rattle.dr_ids.specs.declared.refusal.Refusal.TheVariants.{Stopped as StoppedIn}
 use Rattle.dr_model.specs.Control.{Control, World, Fuse}
-use Rattle.dr_model.specs.Moves.{Move, target}
-use Rattle.dr_model.specs.Carry.{Act, Make, Redo, Acknowledge, act, Turn, Next, Pass, Do, End, Entry, Outcome, continue, go, carry, follow, check, now}
+use Rattle.dr_model.specs.Moves.{Move}
+use Rattle.dr_model.specs.Carry.{Act, Make, Redo, Acknowledge, act, Turn, Next, Pass, Do, End, Entry, Outcome, continue, go, carry, check, now}
 use Rattle.dr_model.specs.Plans.{Plan}
 use Rattle.dr_model.specs.Runs.{begun, finish, carried_out}
 use Rattle.dr_model.specs.Allowed.{Runs}

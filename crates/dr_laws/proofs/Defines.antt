@@ -1,19 +1,17 @@
 -- A volume is defined: it has tracks of zeros, and nothing changes for the others.
-use Rattle.std.proofs.Common.{ℕ, ◌≡◌, ◌≢◌, ◌<◌, ◌+◌, inl, inr, refl, ap, sym, ◌∙◌, subst, Bool, true, false, cond, ◌&&◌, ◌||◌, nat_eq, List, [], ◌∷◌, ◌++◌, Some, None, rules}
+use Rattle.std.proofs.Common.{ℕ, ◌≡◌, ◌≢◌, ◌+◌, inl, inr, refl, ap, sym, ◌∙◌, subst, Bool, true, false, cond, ◌&&◌, ◌||◌, nat_eq, List, [], ◌∷◌, ◌++◌, None}
 use Rattle.std.proofs.lemmas.Bool.Decides.{eqb_tells}
-use Rattle.std.proofs.lemmas.Bool.{false_from_ne_true, and_parts, eqb-true, eq-eqb}
+use Rattle.std.proofs.lemmas.Bool.{false_from_ne_true, and_parts, eqb-true}
 use Rattle.std.specs.List.{list_any}
-use Rattle.std.specs.Ordering.{nat_cmp}
-use Rattle.std.specs.FinSet.{contains, empty, members}
 use Rattle.dr_model.specs.declared.event.Event.TheVariants.{Volume as VolumeDefined}
 use Rattle.dr_model.specs.Tables.{at}
 use Rattle.dr_model.specs.Contents.{image, zeros}
 use Rattle.dr_model.specs.Histories.{Write, Histories, histories, after_event}
-use Rattle.dr_model.specs.Control.{Control, Pending, Volume, World, is_volume, new_volume}
-use Rattle.dr_model.specs.Table.{Row, table, waiting, due, due_by}
-use Rattle.dr_model.specs.Laws.{SoundRows, Structure, Lawful, Unrelated, Numbered, Waits, AllPending, Lone, Together, servers, source, Sound}
+use Rattle.dr_model.specs.Control.{Pending, Volume, World, is_volume, new_volume}
+use Rattle.dr_model.specs.Table.{Row, table, waiting, due_by}
+use Rattle.dr_model.specs.Laws.{SoundRows, Lawful, Unrelated, Numbered, Waits, AllPending, Lone, Together, servers, Sound}
 use Rattle.dr_model.proofs.Images.{histories-append}
-use Rattle.dr_laws.proofs.AtLemmas.{Told, at_cases, at_other, each-at}
+use Rattle.dr_laws.proofs.AtLemmas.{Told, at_other, each-at}
 use Rattle.dr_laws.proofs.Sets.{if_false, false_true, none_some, no_source}
 use Rattle.dr_model.proofs.LawfulLemmas.{lawful-no_fields}
 use Rattle.dr_laws.proofs.KeepsQueue.{each-on, numbered-after}

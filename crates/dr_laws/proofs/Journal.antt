@@ -13,7 +13,7 @@ use Rattle.dr_model.specs.declared.step.TornWord.{TornWord}
 use Rattle.dr_model.specs.Refusals.{server_off}
 use Rattle.dr_model.specs.Control.{Control, Fuse, World, nothing}
 use Rattle.dr_model.specs.Moves.{told, told_in_stop, landed, target}
-use Rattle.dr_model.specs.Carry.{Act, Make, Redo, Acknowledge, act, Turn, Next, Pass, Do, End, Entry, Outcome, carry, continue, go, follow}
+use Rattle.dr_model.specs.Carry.{Act, Make, Redo, Acknowledge, act, Next, Pass, Do, End, Entry, Outcome, carry, continue, go, follow}
 use Rattle.dr_model.specs.Plans.{Plan, plan, server_named, name_bytes, server_done, volume_done, volume_on, issue_plan, show_done, show_plan, has_track, is_running, is_empty, stop_done, stop_on, arm_on, start_plan, start_on, refuses, only_says}
 use Rattle.dr_model.specs.Runs.{Task, begun, finish, carried_out, answered, after_plan, after_task, after_tasks, run}
 use Rattle.dr_laws.proofs.Turns.{act-cases, Counts, after_act, server_of}

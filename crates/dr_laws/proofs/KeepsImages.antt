@@ -1,5 +1,5 @@
 -- Each kind of move keeps the images: what each track shows is what the host writes say.
-use Rattle.std.proofs.Common.{ℕ, ◌≡◌, ◌≢◌, ◌<◌, ap, sym, ◌∙◌, true, false, cond, List, Some, None}
+use Rattle.std.proofs.Common.{ℕ, ◌≡◌, ◌≢◌, ◌<◌, ap, sym, ◌∙◌, true, false, cond, List, Some}
 use Rattle.std.specs.FinSet.{contains, remove}
 use Rattle.dr_model.specs.Tables.{at}
 use Rattle.dr_model.specs.Contents.{zeros, with_write}

@@ -1,5 +1,5 @@
 -- Each kind of move keeps the queue: pending writes are those of their issues, and no list holds a later number.
-use Rattle.std.proofs.Common.{append_assoc, ℕ, ◌≡◌, ◌<◌, ◌+◌, refl, ap, sym, ◌∙◌, Bool, true, false, cond, not, List, [], ◌∷◌, ◌++◌, filter, subst, Option}
+use Rattle.std.proofs.Common.{ℕ, ◌≡◌, ◌<◌, ◌+◌, refl, ap, sym, ◌∙◌, Bool, true, false, cond, List, [], ◌∷◌, ◌++◌, filter, subst, Option}
 use Rattle.std.proofs.lemmas.Bool.{eqb-true, eq-eqb, false≢true}
 use Rattle.std.specs.List.{fold}
 use Rattle.dr_model.specs.declared.event.Event.{Event}

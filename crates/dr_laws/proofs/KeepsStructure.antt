@@ -1,8 +1,8 @@
 -- Each kind of move keeps the structure: fields are lawful, and no volume is a target.
 use Rattle.std.proofs.Common.{ℕ}
 use Rattle.dr_model.specs.Histories.{Write}
-use Rattle.dr_model.specs.Moves.{Move, Land, target}
-use Rattle.dr_model.specs.Table.{Row, Table}
+use Rattle.dr_model.specs.Moves.{Move, Land}
+use Rattle.dr_model.specs.Table.{Table}
 use Rattle.dr_model.specs.Rows.{after}
 use Rattle.dr_model.specs.Laws.{Each, Structure, Lawful, Unrelated}
 use Rattle.dr_model.specs.Allowed.{Allowed}

@@ -1,5 +1,5 @@
 -- The table of volumes after a move that is done, whether or not the server stopped in it.
-use Rattle.std.proofs.Common.{ℕ, ◌≡◌, ◌≢◌, ◌<◌, ◌+◌, inl, inr, refl, ap, sym, ◌∙◌, Bool, true, false, cond, ◌&&◌, nat_eq, List, [], ◌∷◌, ◌++◌, filter, Option, None}
+use Rattle.std.proofs.Common.{ℕ, ◌≡◌, inl, inr, refl, ap, sym, ◌∙◌, Bool, true, false, cond, ◌&&◌, nat_eq, List, [], ◌∷◌, ◌++◌, Option, None}
 use Rattle.std.proofs.lemmas.Bool.Decides.{eqb_tells}
 use Rattle.std.proofs.lemmas.Bool.{false_from_ne_true, and_parts, eqb-true}
 use Rattle.std.specs.FinSet.{contains, remove}
@@ -19,7 +19,7 @@ use Rattle.dr_model.proofs.Images.{histories-append}
 use Rattle.dr_laws.proofs.AtLemmas.{Told}
 use Rattle.dr_laws.proofs.Sets.{if_false, remove_from, false_true}
 use Rattle.dr_laws.proofs.Turns.{next_of, carried_in, done, done_in_stop}
-use Rattle.dr_laws.proofs.Due.{Calm, due-same, due-acked, due-marked}
+use Rattle.dr_laws.proofs.Due.{Calm, due-acked, due-marked}
 
 -- no write waits on a volume whose server is idle
 pub calm-each : (server : ℕ → ℕ) (v q : ℕ) (ps : List Pending) → AllPending (λ p. p.landed ≡ true → server p.volume ≡ server v → ⊥) ps → waiting ps v q ≡ []

@@ -1,5 +1,5 @@
 -- Sets of tracks, and choices.
-use Rattle.std.proofs.Common.{ℕ, ◌≡◌, ◌≢◌, ap, refl, sym, Bool, true, false, cond, Option, Some, None, rules}
+use Rattle.std.proofs.Common.{ℕ, ◌≡◌, ap, Bool, true, false, cond, Option, Some, None, rules}
 use Rattle.std.proofs.lemmas.Bool.Decides.{nat_tests}
 use Rattle.std.specs.Cmp.{unsigned_tied}
 use Rattle.std.specs.FinSet.{contains, remove, members}

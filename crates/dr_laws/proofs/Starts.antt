@@ -12,7 +12,7 @@ use Rattle.dr_model.specs.Histories.{Write, Histories, histories}
 use Rattle.dr_model.specs.Control.{Control, Pending, World, Fuse, is_volume}
 use Rattle.dr_model.specs.Moves.{is_other}
 use Rattle.dr_model.specs.Carry.{Act, Make, Redo, Acknowledge, Pass, Do, Entry, acknowledged}
-use Rattle.dr_model.specs.Plans.{redo_on, belongs, has_landed, landed_on, acknowledge_on, acknowledge_if, start_plan, starting}
+use Rattle.dr_model.specs.Plans.{redo_on, belongs, has_landed, acknowledge_on, acknowledge_if, start_plan, starting}
 use Rattle.dr_model.specs.Runs.{begun}
 use Rattle.dr_model.specs.Table.{table, waiting, due, due_by}
 use Rattle.dr_model.specs.Laws.{SoundRows, Sound, SoundBut, Waits, AllPending, Apart, Lone, Together, servers, Numbered}

@@ -1,14 +1,11 @@
 -- Each step leaves a sound world, and so does each run.
-use Rattle.std.proofs.Common.{ℕ, ◌≡◌, ◌≢◌, ◌<◌, ◌+◌, refl, ap, sym, ◌∙◌, subst, Bool, true, false, cond, not, ◌&&◌, nat_lt, nat_le, List, [], ◌∷◌, ◌++◌, length, map, filter, take, Option, Some, None, arith}
+use Rattle.std.proofs.Common.{ℕ, ◌≡◌, ◌<◌, ◌+◌, refl, ap, sym, subst, Bool, true, false, cond, not, ◌&&◌, nat_lt, nat_le, List, [], ◌∷◌, ◌++◌, length, map, take, Option, Some, None, arith}
 use Rattle.std.proofs.lemmas.List.{append-nil}
 use Rattle.std.proofs.lemmas.Bool.{and_parts}
 use Rattle.std.proofs.lemmas.Bool.Decides.{nat_tests}
-use Rattle.std.specs.Ordering.{nat_cmp}
-use Rattle.std.specs.FinSet.{contains, empty, members}
-use Rattle.std.proofs.Common.{rules}
 use Rattle.dr_ids.specs.declared.refusal.Refusal.TheVariants.{NotBuilt}
 use Rattle.dr_model.specs.declared.event.Event.{Event}
-use Rattle.dr_model.specs.declared.event.Event.TheVariants.{Server as ServerDefined, Answer, Stopped, Shown}
+use Rattle.dr_model.specs.declared.event.Event.TheVariants.{Server as ServerDefined, Stopped, Shown}
 use Rattle.dr_model.specs.declared.said.Said.{Said}
 use Rattle.dr_model.specs.declared.step.Step.{Step}
 use Rattle.dr_model.specs.declared.step.Step.TheVariants.{Server, Volume, Stop, StopAfter, Start, Write, Show}
@@ -17,23 +14,23 @@ use Rattle.dr_model.specs.Tables.{at}
 use Rattle.dr_model.specs.Answers.{answer}
 use Rattle.dr_model.specs.Refusals.{server_off}
 use Rattle.dr_model.specs.Contents.{image, image_at}
-use Rattle.dr_model.specs.Histories.{Write as HostWrite, Histories, histories}
+use Rattle.dr_model.specs.Histories.{Write as HostWrite, histories}
 use Rattle.dr_model.specs.Control.{Control, Pending, Fuse, World, nothing, is_volume}
-use Rattle.dr_model.specs.Moves.{Land, is_write}
-use Rattle.dr_model.specs.Carry.{Entry, carry, check, now}
-use Rattle.dr_model.specs.Plans.{Plan, plan, same, refuses, only_says, tables_plan, none_follow, is_empty, is_running, name_bytes, server_named, volume_done, volume_on, issue_plan, show_done, show_plan, has_track, stop_on, arm_on, torn_bytes, start_on}
-use Rattle.dr_model.specs.Runs.{Task, begun, carried_out, answered, said, after_plan, after_task, after_tasks, run}
+use Rattle.dr_model.specs.Moves.{Land}
+use Rattle.dr_model.specs.Carry.{carry}
+use Rattle.dr_model.specs.Plans.{Plan, plan, same, refuses, only_says, tables_plan, is_empty, is_running, name_bytes, server_named, volume_done, volume_on, issue_plan, show_done, show_plan, has_track, stop_on, arm_on, torn_bytes, start_on}
+use Rattle.dr_model.specs.Runs.{Task, begun, said, after_plan, after_task, after_tasks, run}
 use Rattle.dr_model.specs.Table.{table}
 use Rattle.dr_model.specs.Laws.{SoundRows, Sound, AllPending, source}
 use Rattle.dr_model.specs.Allowed.{Coming, MayAck, Runs}
 use Rattle.dr_model.proofs.Images.{histories-append}
-use Rattle.dr_laws.proofs.Sets.{false_true, none_some, no_source}
+use Rattle.dr_laws.proofs.Sets.{none_some, no_source}
 use Rattle.dr_laws.proofs.RowsAfter.{idle}
 use Rattle.dr_laws.proofs.KeepsQueue.{AllQuiet, goes-off}
 use Rattle.dr_model.proofs.LawfulLemmas.{lawful-no_fields}
 use Rattle.dr_laws.proofs.KeepsSound.{StepHolds, RowsAt, MayDo, holds-moves, keeps-sound, sound-told, over, checked, moves}
 use Rattle.dr_laws.proofs.Issues.{issued, sound-issued, issued-write, one-new}
-use Rattle.dr_laws.proofs.Defines.{with_volume, sound-defined}
+use Rattle.dr_laws.proofs.Defines.{sound-defined}
 use Rattle.dr_laws.proofs.Starts.{holds-start}
 use Rattle.dr_laws.proofs.Along as along
 

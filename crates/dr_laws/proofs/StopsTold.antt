@@ -6,15 +6,14 @@ use Rattle.dr_ids.specs.declared.refusal.Refusal.{Refusal}
 use Rattle.dr_ids.specs.declared.refusal.Refusal.TheVariants.{NotBuilt}
 use Rattle.dr_model.specs.declared.event.Event.{Event}
 use Rattle.dr_model.specs.declared.event.Event.TheVariants.{Ack, Stopped}
-use Rattle.dr_model.specs.declared.said.Said.{Said}
 use Rattle.dr_model.specs.declared.step.Step.{Step}
 use Rattle.dr_model.specs.declared.step.Step.TheVariants.{Server, Volume, Stop, StopAfter, Start, Write, Show}
 use Rattle.dr_model.specs.declared.step.TornWord.{TornWord}
-use Rattle.dr_model.specs.Refusals.{stopped, server_off}
+use Rattle.dr_model.specs.Refusals.{server_off}
 use Rattle.dr_model.specs.Control.{Control, Fuse, Volume as VolumeRow, World}
 use Rattle.dr_model.specs.Moves.{Move, Land, told, told_in_stop, landed, target}
 use Rattle.dr_model.specs.Carry.{Act, Make, Redo, Acknowledge, act, Turn, Next, Pass, Do, End, Entry, Outcome, carry, continue, go}
-use Rattle.dr_model.specs.Plans.{Plan, plan, server_named, name_bytes, server_done, volume_done, volume_on, issue_plan, show_done, show_plan, has_track, is_running, is_empty, stop_done, stop_on, arm_on, start_plan, start_on, refuses, only_says, redo_on, acknowledge_on, acknowledge_if, landed_on, belongs}
+use Rattle.dr_model.specs.Plans.{Plan, plan, server_named, name_bytes, server_done, volume_done, volume_on, issue_plan, show_done, show_plan, has_track, is_running, is_empty, stop_done, stop_on, arm_on, start_plan, start_on, refuses, redo_on, acknowledge_on, acknowledge_if, landed_on, belongs}
 use Rattle.dr_laws.specs.Stops.{first_stop, stop_in, refused_stop, StopsTold}
 use Rattle.dr_laws.proofs.Turns.{act-cases, Counts, after_act, server_of}
 

@@ -1,13 +1,12 @@
 -- How an act ends: it is done; or its server stops in it, and it counts as done or doesn't.
-use Rattle.std.proofs.Common.{ℕ, ◌≡◌, refl, sym, subst, Bool, true, false, cond, not, List, [], ◌∷◌, ◌++◌, Option, Some, None}
+use Rattle.std.proofs.Common.{ℕ, ◌≡◌, refl, sym, subst, Bool, true, false, cond, not, [], ◌∷◌, ◌++◌, Option, Some, None}
 use Rattle.dr_model.specs.declared.event.Event.TheVariants.{Stopped}
 use Rattle.dr_model.specs.Tables.{at}
 use Rattle.dr_model.specs.Histories.{histories}
 use Rattle.dr_model.specs.Layout.{Fields}
-use Rattle.dr_model.specs.Control.{Control, Fuse, Volume, World}
+use Rattle.dr_model.specs.Control.{Fuse, Volume, World}
 use Rattle.dr_model.specs.Moves.{Move, Carried, target, next_fields, carried, told, told_in_stop, landed, settled, settled_in_stop, updated}
-use Rattle.dr_model.specs.Carry.{Act, Make, Redo, Acknowledge, Turn, Ended, ended, update, turn, redo, redo_ended, redo_writes, act, acknowledged, spent, off, pass, counts_by, burnt, lower, writes, finished, cut_short}
-use Rattle.dr_model.specs.Allowed.{Runs}
+use Rattle.dr_model.specs.Carry.{Act, Make, Redo, Acknowledge, Turn, Ended, ended, update, turn, redo, redo_ended, redo_writes, act, acknowledged, spent, off, pass, counts_by, writes, finished, cut_short}
 
 abbrev pub server_at : World → ℕ → ℕ
 server_at w v = (w.control.volume v).server

@@ -1,5 +1,5 @@
 -- How a plan is carried out, entry by entry: for the exact clauses of the functions that carry it out.
-use Rattle.std.proofs.Common.{cond, ℕ, ◌≡◌, refl, ap, ◌∙◌, Bool, true, false, List, [], ◌∷◌, ◌++◌, Option, Some, None}
+use Rattle.std.proofs.Common.{cond, ℕ, ◌≡◌, refl, ap, ◌∙◌, Bool, true, false, List, [], ◌∷◌, ◌++◌, Some, None}
 use Rattle.std.proofs.lemmas.List.{append-nil}
 use Rattle.dr_ids.specs.declared.refusal.Refusal.{Refusal}
 use Rattle.dr_ids.specs.declared.refusal.Refusal.TheVariants.{Stopped}
@@ -11,7 +11,7 @@ use Rattle.dr_model.specs.Control.{Control, World}
 use Rattle.dr_model.specs.Moves.{Move}
 use Rattle.dr_model.specs.Carry.{Act, Make, Redo, Acknowledge, Next, Pass, Do, End, Entry, Turn, Outcome, act, turn, redo, redo_ended, acknowledged, carry, go, continue, check, follow}
 use Rattle.dr_model.specs.Plans.{Plan, tables_plan, only_says, refuses, same}
-use Rattle.dr_model.specs.Runs.{begun, finish, carried_out, answered, after_plan, said}
+use Rattle.dr_model.specs.Runs.{begun, finish, answered, after_plan, said}
 
 -- what an act is
 pub act-move : (w : World) (m : Move) → act w (Make m) ≡ turn w m

@@ -6,7 +6,7 @@ use Rattle.dr_model.specs.declared.event.Event.TheVariants.{Volume, Issue, Ack, 
 use Rattle.dr_model.specs.declared.image.Question.{Question}
 use Rattle.dr_model.specs.declared.image.Earlier.{Earlier}
 use Rattle.dr_model.specs.declared.image.Issued.{Issued}
-use Rattle.dr_model.specs.Histories.{Histories, Write, histories}
+use Rattle.dr_model.specs.Histories.{Histories, Write}
 use Rattle.dr_model.specs.Contents.{with_write}
 
 -- the list of a track, the present one or the one kept aside

@@ -1,6 +1,6 @@
 -- How a volume lies on its device: the control record in two slots behind a gate, then the tracks.
 -- Reading is total: every content of the blocks gives fields.
-use Rattle.std.specs.Prelude.{ℕ, ◌+◌, ◌*◌, ◌/◌, ◌%◌, ◌^◌, Bool, true, false, ◌&&◌, List, filter, nat_eq, nat_lt, Option, Some, None, if◌then◌else◌, drop, take}
+use Rattle.std.specs.Prelude.{ℕ, ◌+◌, ◌/◌, ◌%◌, ◌^◌, Bool, true, false, ◌&&◌, List, filter, nat_eq, nat_lt, Option, Some, None, if◌then◌else◌, drop, take}
 use Rattle.std.specs.List.{slice_index_or, range_with_len}
 use Rattle.std.specs.Ordering.{nat_cmp}
 use Rattle.std.specs.FinSet.{FinSet, contains, empty, from_list}

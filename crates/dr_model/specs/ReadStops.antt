@@ -6,7 +6,7 @@ use Rattle.dr_model.specs.declared.event.Event.TheVariants.{Stopped}
 use Rattle.dr_model.specs.Tables.{at}
 use Rattle.dr_model.specs.Refusals.{stopped}
 use Rattle.dr_model.specs.Control.{World}
-use Rattle.dr_model.specs.Carry.{Act, Next, Pass, Do, End, Entry, Turn, act}
+use Rattle.dr_model.specs.Carry.{Next, Pass, Do, End, Entry, act}
 
 -- a server that is off, and nothing else changed
 abbrev pub shut : World → ℕ → World

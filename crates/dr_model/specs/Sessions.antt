@@ -1,5 +1,5 @@
 -- The sessions, in order of definition, and the calls on their table.
-use Rattle.std.specs.Prelude.{ℕ, Bool, true, false, not, max, ◌≡◌, IsTrue, ◌+◌, ◌/◌, ◌==◌, ◌||◌, nat_le, nat_lt, length, List, [], ◌∷◌, ◌++◌, filter, Option, Some, None, option_map, if◌then◌else◌}
+use Rattle.std.specs.Prelude.{ℕ, Bool, false, not, max, ◌≡◌, IsTrue, ◌+◌, ◌/◌, ◌==◌, ◌||◌, nat_le, nat_lt, length, List, [], ◌∷◌, ◌++◌, filter, Option, Some, None, option_map, if◌then◌else◌}
 use Rattle.std.specs.List.{find, list_any, list_all}
 use Rattle.std.specs.Option.{option_or}
 use Rattle.dr_ids.specs.declared.names.Lss.{Lss}

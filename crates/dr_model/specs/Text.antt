@@ -1,5 +1,5 @@
 -- The text that a journal prints.
-use Rattle.std.specs.Prelude.{ℕ, ◌+◌, ◌*◌, ◌/◌, ◌%◌, List, [], ◌∷◌, ◌++◌, take, nat_eq, nat_lt, if◌then◌else◌, Option, Some, None, codes, min, max}
+use Rattle.std.specs.Prelude.{ℕ, ◌/◌, ◌%◌, List, [], ◌∷◌, ◌++◌, take, nat_eq, if◌then◌else◌, Option, Some, None, codes, min, max}
 use Rattle.std.specs.List.{flat_map}
 use Rattle.std.specs.Fmt.{decimal}
 use Rattle.std.specs.Option.{option_or, unwrap_or}
