@@ -52,6 +52,7 @@ pub record IsSoFar (s : State) (lines : List (List ℕ)) : Type 0 where
   pub later : NoneFrom (from_here s.stage s.place) s.volumes
   pub so : lines ≡ so_far s.stage s.volumes
   pub start : s.stage ≡ Start → s.volumes ≡ []
+  pub count : s.line ≡ length lines + 1
 
 -- volumes without blocks have no lines of blocks
 none_lines : (vs : List Volume) → NoneFrom 0 vs → flat_map block_lines vs ≡ []
@@ -193,9 +194,10 @@ sourced_ok vs None ws e = (refl, cc)
 sourced_ok vs (Some p) ws e = absurd (cc)
 
 -- one line more
-came-so_far : (s t : State) (line : List ℕ) (lines : List (List ℕ)) → IsSoFar s lines → Came s line t → IsSoFar (record t { line = s.line + 1 }) (lines ++ line ∷ [])
+pub came-so_far : (s t : State) (line : List ℕ) (lines : List (List ℕ)) → IsSoFar s lines → Came s line t → IsSoFar (record t { line = s.line + 1 }) (lines ++ line ∷ [])
 came-so_far s t line lines i (Begun stage is t_is) =
     let P : State → Type 0 = λ u. IsSoFar (record u { line = s.line + 1 }) (lines ++ line ∷ []) in
+    let counted : s.line + 1 ≡ length (lines ++ line ∷ []) + 1 = (let c = i.count in let l = length-append lines (line ∷ []) in omega arith) in
     let none : s.volumes ≡ [] = i.start stage in
     let before : lines ≡ [] = i.so ∙ ap (λ g. so_far g s.volumes) stage in
     subst P (sym t_is) (record {
@@ -205,9 +207,11 @@ came-so_far s t line lines i (Begun stage is t_is) =
       later = λ k v le e. let gone = ap (λ vs. slice_get vs k) none in absurd (cc);
       so = ap (λ ls. ls ++ line ∷ []) before ∙ ap (λ l. l ∷ []) is ∙ sym (ap lines_of none);
       start = λ e. absurd (cc);
+      count = counted;
     })
 came-so_far s t line lines i (Closed stage is t_is) =
     let P : State → Type 0 = λ u. IsSoFar (record u { line = s.line + 1 }) (lines ++ line ∷ []) in
+    let counted : s.line + 1 ≡ length (lines ++ line ∷ []) + 1 = (let c = i.count in let l = length-append lines (line ∷ []) in omega arith) in
     let le : from_here s.stage s.place ≤ s.place + 1 = open_from s.stage s.place stage in
     subst P (sym t_is) (record {
       few = i.few;
@@ -216,9 +220,11 @@ came-so_far s t line lines i (Closed stage is t_is) =
       later = λ k v low e. i.later k v (omega arith) e;
       so = ap (λ ls. ls ++ line ∷ []) (i.so ∙ open_lines s.stage s.volumes stage) ∙ ap (λ l. lines_of s.volumes ++ l ∷ []) is;
       start = λ e. absurd (cc);
+      count = counted;
     })
 came-so_far s t line lines i (Joined v stage is new fits t_is) =
     let P : State → Type 0 = λ u. IsSoFar (record u { line = s.line + 1 }) (lines ++ line ∷ []) in
+    let counted : s.line + 1 ≡ length (lines ++ line ∷ []) + 1 = (let c = i.count in let l = length-append lines (line ∷ []) in omega arith) in
     let none : NoneFrom 0 s.volumes = subst (λ (g : Stage). NoneFrom (from_here g s.place) s.volumes) stage i.later in
     let n = length-append s.volumes (v ∷ []) in
     let f = can_join-few s.volumes v fits in
@@ -230,9 +236,11 @@ came-so_far s t line lines i (Joined v stage is new fits t_is) =
       so = ap (λ ls. ls ++ line ∷ []) (i.so ∙ ap (λ g. so_far g s.volumes) stage) ∙ ap (λ l. lines_of s.volumes ++ l ∷ []) is
           ∙ lines-push s.volumes v none new.blocks ∙ sym (ap (λ g. so_far g (s.volumes ++ v ∷ [])) stage);
       start = λ e. absurd (not_start (sym e ∙ stage));
+      count = counted;
     })
 came-so_far s t line lines i (Filled said p w stage is block at there fits t_is) =
     let P : State → Type 0 = λ u. IsSoFar (record u { line = s.line + 1 }) (lines ++ line ∷ []) in
+    let counted : s.line + 1 ≡ length (lines ++ line ∷ []) + 1 = (let c = i.count in let l = length-append lines (line ∷ []) in omega arith) in
     let b : Kept = said.block in
     let le : from_here s.stage s.place ≤ s.place + 1 = open_from s.stage s.place stage in
     let low : s.place ≤ p = can_fill-place s.place p w b fits in
@@ -247,6 +255,7 @@ came-so_far s t line lines i (Filled said p w stage is block at there fits t_is)
       so = ap (λ ls. ls ++ line ∷ []) (i.so ∙ open_lines s.stage s.volumes stage) ∙ ap (λ l. lines_of s.volumes ++ l ∷ []) is
           ∙ ap (λ v. lines_of s.volumes ++ block_line v b ∷ []) (sym (placed-is s.volumes said.volume p w at there)) ∙ lines-fill s.volumes p w b there none;
       start = λ e. absurd (cc);
+      count = counted;
     })
 
 -- all have their sources
@@ -264,7 +273,7 @@ ended-so_far s Ended [] lines vs is i e =
     let ok = sourced_ok s.volumes (unsourced s.volumes) vs e in
     let same : s.volumes ≡ vs = ok.1 in (
       append-nil (ended lines) ∙ ap ended (i.so ∙ ap (λ g. so_far g s.volumes) is) ∙ ap (λ ws. ended (image_lines ws)) same,
-      subst IsImage same (record { few = i.few; each = i.each; apart = i.apart; sources = all_sourced s.volumes s.volumes ok.0 }),
+      subst IsImage same (record { laid = record { few = i.few; each = i.each; apart = i.apart }; sources = all_sourced s.volumes s.volumes ok.0 }),
     )
 
 reads-so_far : (s : State) (parts lines : List (List ℕ)) (vs : List Volume) → IsSoFar s lines → reads s parts ≡ Ok vs → (ended lines ++ join_with_byte 10 parts ≡ image_text vs) × IsImage vs
@@ -283,7 +292,7 @@ reads-so_far s (line ∷ next ∷ rest) lines vs i e =
           (text ∙ all.0, all.1)
     ] refl e
 
-begin-so_far : IsSoFar begin []
+pub begin-so_far : IsSoFar begin []
 begin-so_far = record {
   few = omega arith;
   each = All-nil IsVolume;
@@ -291,6 +300,7 @@ begin-so_far = record {
   later = λ k v le e. absurd (cc);
   so = refl;
   start = λ e. refl;
+  count = omega arith;
 }
 
 -- a text that reads as an image is the text of that image, and the image is proper

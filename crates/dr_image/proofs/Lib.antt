@@ -14,3 +14,4 @@ pub mod ReadLemmas
 pub mod ImageLaws
 pub mod InkLaws
 pub mod RoundLaws
+pub mod FirstBadLaws

@@ -12,7 +12,7 @@ use Rattle.dr_ids.specs.Spelling.{hex4}
 use Rattle.dr_model.specs.LineText.{bytes_text}
 use Rattle.dr_model.specs.LineWords.{◌>>=◌}
 use Rattle.dr_model.specs.Text.{trimmed}
-use Rattle.dr_model.specs.PlantImage.{Kept, Volume, Placed, Listing, Filling, Ended, Bad, State, IsKept, IsVolume, IsImage, agrees, can_join, join, place_of, can_fill, fill, fill_at, with_block, plain_word, kept_word, volume_of, volume_said, block_said, is_listing, words, by_words, by_line, by_stage, after_line, or_bad, step, begin, has_source, sourced, checked, finished, is_line_feed, reads, reading, volume_line, block_line, block_lines, image_lines, image_text, ended}
+use Rattle.dr_model.specs.PlantImage.{Kept, Volume, Placed, Listing, Filling, Ended, Bad, State, IsKept, IsVolume, IsLaid, IsImage, agrees, can_join, join, place_of, can_fill, fill, fill_at, with_block, plain_word, kept_word, volume_of, volume_said, block_said, is_listing, words, by_words, by_line, by_stage, after_line, or_bad, step, begin, has_source, sourced, checked, finished, is_line_feed, reads, reading, volume_line, block_line, block_lines, image_lines, image_text, ended}
 use Rattle.dr_image.specs.Sound.{IsSound, IsSoundVolume}
 use Rattle.dr_image.proofs.OrderLemmas.{InOrder, order_head, order_tail, pairs_head, pairs_tail}
 use Rattle.dr_image.proofs.SoundLemmas.{pairs_nil}
@@ -29,7 +29,7 @@ abbrev pub after : State → List (List ℕ) → State
 after s [] = s
 after s (line ∷ lines) = after (step s line) lines
 
-after-append : (s : State) (a b : List (List ℕ)) → after s (a ++ b) ≡ after (after s a) b
+pub after-append : (s : State) (a b : List (List ℕ)) → after s (a ++ b) ≡ after (after s a) b
 after-append s [] b = refl
 after-append s (l ∷ ls) b = after-append (step s l) ls b
 
@@ -44,23 +44,23 @@ step-bad : (s : State) (line : List ℕ) → s.stage ≡ Bad → (step s line).s
 unfolding step
 step-bad s line bad = ap (λ g. (or_bad s (by_stage g s line)).stage) bad
 
-after-bad : (s : State) (lines : List (List ℕ)) → s.stage ≡ Bad → (after s lines).stage ≡ Bad
+pub after-bad : (s : State) (lines : List (List ℕ)) → s.stage ≡ Bad → (after s lines).stage ≡ Bad
 after-bad s [] bad = bad
 after-bad s (line ∷ lines) bad = after-bad (step s line) lines (step-bad s line bad)
 
-step-none : (s : State) (line : List ℕ) → after_line s line ≡ None → (step s line).stage ≡ Bad
+pub step-none : (s : State) (line : List ℕ) → after_line s line ≡ None → (step s line).stage ≡ Bad
 unfolding step
 step-none s line none = ap (λ o. (or_bad s o).stage) none
 
-step-some : (s t : State) (line : List ℕ) → after_line s line ≡ Some t → step s line ≡ (let u : State = t in record u { line = s.line + 1 })
+pub step-some : (s t : State) (line : List ℕ) → after_line s line ≡ Some t → step s line ≡ (let u : State = t in record u { line = s.line + 1 })
 unfolding step
 step-some s t line some = ap (or_bad s) some
 
 -- a run of an image's lines ends well, or is bad where the image isn't proper
 abbrev pub Runs : List Volume → State → Type 0 → Type 0
-Runs i t Good = ((t.stage ≡ Bad) × (IsImage i → ⊥)) ⊎ Good
+Runs i t Good = ((t.stage ≡ Bad) × (IsLaid i → ⊥)) ⊎ Good
 
-bad_run : (i : List Volume) (s : State) (line : List ℕ) (lines : List (List ℕ)) (Good : Type 0) → after_line s line ≡ None → (IsImage i → ⊥) → Runs i (after s (line ∷ lines)) Good
+bad_run : (i : List Volume) (s : State) (line : List ℕ) (lines : List (List ℕ)) (Good : Type 0) → after_line s line ≡ None → (IsLaid i → ⊥) → Runs i (after s (line ∷ lines)) Good
 bad_run i s line lines Good none not_proper = inl (after-bad (step s line) lines (step-none s line none), not_proper)
 
 -- a volume before its blocks have come
@@ -118,7 +118,7 @@ record IsListed (i : List Volume) (t : State) : Type 0 where
   place : t.place ≡ 0
   apart : AllPairs (λ x y. agrees x y ≡ true) i
 
-joins : (i done ws : List Volume) (v : Volume) → i ≡ done ++ v ∷ ws → IsImage i → can_join (map bare done) (bare v) ≡ true
+joins : (i done ws : List Volume) (v : Volume) → i ≡ done ++ v ∷ ws → IsLaid i → can_join (map bare done) (bare v) ≡ true
 unfolding can_join
 joins i done ws v is proper =
     let n = length-map done bare in
@@ -128,7 +128,7 @@ joins i done ws v is proper =
     let few : length (map bare done) < 64 = omega arith in
     and_true (nat_lt (length (map bare done)) 64) _ (grind (arith, nat_tests, few)) (test_bare v done (apart_mid done v ws (subst (λ (vs : List Volume). AllPairs (λ x y. agrees x y ≡ true) vs) is proper.apart)))
 
-limits : (i done ws : List Volume) (v : Volume) → i ≡ done ++ v ∷ ws → IsImage i → volume_limits v ≡ true
+limits : (i done ws : List Volume) (v : Volume) → i ≡ done ++ v ∷ ws → IsLaid i → volume_limits v ≡ true
 unfolding volume_limits
 limits i done ws v is proper =
     let ok : IsVolume v = all_mid IsVolume done v ws (subst (λ (vs : List Volume). All IsVolume vs) is proper.each) in
@@ -249,7 +249,7 @@ order_mid (c ∷ cs) b back o =
 abbrev pub partly : Volume → List Kept → Volume
 partly v bs = record v { blocks = bs }
 
-fits_in : (i done ws : List Volume) (v : Volume) (front : List Kept) (b : Kept) (back : List Kept) (from : ℕ) → i ≡ done ++ v ∷ ws → v.blocks ≡ front ++ b ∷ back → from ≤ length done → IsImage i → can_fill from (length done) (partly v front) b ≡ true
+fits_in : (i done ws : List Volume) (v : Volume) (front : List Kept) (b : Kept) (back : List Kept) (from : ℕ) → i ≡ done ++ v ∷ ws → v.blocks ≡ front ++ b ∷ back → from ≤ length done → IsLaid i → can_fill from (length done) (partly v front) b ≡ true
 unfolding can_fill
 fits_in i done ws v front b back from is blocks low proper =
     let ok : IsVolume v = all_mid IsVolume done v ws (subst (λ (vs : List Volume). All IsVolume vs) is proper.each) in
@@ -311,9 +311,9 @@ run-blocks i done (v ∷ ws) is sound apart s f =
     ])
 
 -- the whole text
-record IsWhole (i : List Volume) (t : State) : Type 0 where
-  stage : t.stage ≡ Ended
-  volumes : t.volumes ≡ i
+pub record IsWhole (i : List Volume) (t : State) : Type 0 where
+  pub stage : t.stage ≡ Ended
+  pub volumes : t.volumes ≡ i
 
 after-end : (s : State) → IsOpen s.stage → after_line s (codes "end") ≡ Some (record s { stage = Ended })
 after-end s stage = by_open s (codes "end") stage
@@ -339,7 +339,7 @@ run-listed i sound s (inr good) =
     let p = good.place in
     run-blocks i [] i refl sound good.apart s (record { stage = inl good.stage; volumes_are = good.volumes; place = omega arith })
 
-run-image : (i : List Volume) → IsSound i → Runs i (after begin (image_lines i)) (IsWhole i (after begin (image_lines i)))
+pub run-image : (i : List Volume) → IsSound i → Runs i (after begin (image_lines i)) (IsWhole i (after begin (image_lines i)))
 unfolding begun
 run-image i sound =
     let first : List (List ℕ) = codes "image 1" ∷ map volume_line i in
@@ -384,7 +384,7 @@ all_sourced vs h =
     let out : nat_lt n (length vs) ≡ false = grind (arith, nat_tests, past) in
     ap (λ (b : Bool). cond b (Some n) None) out
 
-proper-sound : (v : Volume) → IsVolume v → IsSoundVolume v
+pub proper-sound : (v : Volume) → IsVolume v → IsSoundVolume v
 proper-sound v p = record {
   volume = p.volume;
   server = (let s = p.server in omega arith);
@@ -397,10 +397,10 @@ proper-sound v p = record {
 pub proper-reads : (i : List Volume) → IsImage i → reading (image_text i) ≡ Ok i
 unfolding checked
 proper-reads i proper =
-    let sound : IsSound i = All-weaker IsVolume IsSoundVolume proper-sound i proper.each in
+    let sound : IsSound i = All-weaker IsVolume IsSoundVolume proper-sound i proper.laid.each in
     let t : State = after begin (image_lines i) in
     elim (run-image i sound) [
-      | inl bad ↦ absurd (bad.1 proper)
+      | inl bad ↦ absurd (bad.1 proper.laid)
       | inr good ↦
           reading-written i sound ∙ ap (λ g. finished t g []) good.stage
           ∙ ap checked good.volumes ∙ ap (sourced i) (all_sourced i proper.sources)

@@ -1,6 +1,6 @@
 -- What a call that reads answers.
 use Rattle.std.specs.Prelude.{◌≡◌, ◌≢◌, ℕ, Bool, true, false, List, Result, Ok, Err}
-use Rattle.dr_model.specs.PlantImage.{Volume, IsImage, image_text}
+use Rattle.dr_model.specs.PlantImage.{Volume, IsImage, IsFirstBad, image_text}
 use Rattle.dr_image.specs.declared.fault.ImageFault.{ImageFault}
 use Rattle.dr_image.specs.declared.fault.ImageFault.TheVariants.{NoMemory, BadImage}
 
@@ -27,3 +27,8 @@ EndsAs failed reading (Err fault) = EndsFault failed reading fault
 abbrev pub IsNoImage : List ℕ → ImageFault → Type 0
 IsNoImage text NoMemory = Unit {0}
 IsNoImage text (BadImage line) = (image : List Volume) → IsImage image → text ≢ image_text image
+
+-- the fault tells the first bad line of the text
+abbrev pub TellsFirst : List ℕ → ImageFault → Type 0
+TellsFirst text NoMemory = Unit {0}
+TellsFirst text (BadImage line) = IsFirstBad text line

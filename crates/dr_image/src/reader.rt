@@ -5,7 +5,7 @@ ghost use Rattle.std.specs.List.{position};
 ghost use Rattle.dr_model.specs.PlantImage.{is_line_feed, step, reading, finished, image_text, IsImage};
 ghost use Rattle.dr_image.specs.Lines.{state_of, stage_of};
 ghost use Rattle.dr_image.specs.Reader.{will_read, reads_on, IsState};
-ghost use Rattle.dr_image.specs.Outcome.{EndsAs, ReadsAs, IsNoImage};
+ghost use Rattle.dr_image.specs.Outcome.{EndsAs, ReadsAs, IsNoImage, TellsFirst};
 
 use crate::fault::ImageFault;
 use crate::image::Image;
@@ -180,6 +180,7 @@ pub fn read_image(alloc: Global, text: &[u8]) -> Result<Image, ImageFault>
     ensures reads { ReadsAs (reading text.now) result }
     ensures image { IfOk result (λ image. (text.now ≡ image_text image) × IsImage image) }
     ensures bad { IfErr result (IsNoImage text.now) }
+    ensures first { IfErr result (TellsFirst text.now) }
 {
     read_whole(alloc, text)
 }

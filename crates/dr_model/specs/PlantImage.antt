@@ -1,5 +1,5 @@
 -- A plant's devices as a text: the text of an image, and what a text reads as.
-use Rattle.std.specs.Prelude.{◌≡◌, ◌≢◌, ℕ, suc, zero, ◌+◌, ◌-◌, ◌*◌, ◌/◌, ◌<◌, ◌≤◌, Bool, true, false, ◌&&◌, ◌||◌, not, List, [], ◌∷◌, ◌++◌, length, map, replicate, nat_eq, nat_le, nat_lt, Option, Some, None, Result, Ok, Err, All, AllPairs, codes, if◌then◌else◌}
+use Rattle.std.specs.Prelude.{◌≡◌, ◌≢◌, ℕ, suc, zero, ◌+◌, ◌-◌, ◌*◌, ◌/◌, ◌<◌, ◌≤◌, ◌⊎◌, Bool, true, false, ◌&&◌, ◌||◌, not, List, [], ◌∷◌, ◌++◌, length, map, take, replicate, nat_eq, nat_le, nat_lt, Option, Some, None, Result, Ok, Err, All, AllPairs, codes, if◌then◌else◌}
 use Rattle.std.specs.Fmt.{decimal}
 use Rattle.std.specs.List.{flat_map, list_all, list_any, position, slice_get, slice_split}
 use Rattle.std.specs.Str.{bytes_eq}
@@ -266,8 +266,42 @@ pub record IsVolume (v : Volume) : Type 0 where
   pub kept : All (IsKept (13 + v.tracks)) v.blocks
   pub in_order : AllPairs (λ b c. b.index < c.index) v.blocks
 
-pub record IsImage (vs : List Volume) : Type 0 where
+-- the volumes of an image, whatever their relationships say
+pub record IsLaid (vs : List Volume) : Type 0 where
   pub few : length vs ≤ 64
   pub each : All IsVolume vs
   pub apart : AllPairs (λ v w. agrees v w ≡ true) vs
+
+pub record IsImage (vs : List Volume) : Type 0 where
+  pub laid : IsLaid vs
   pub sources : All (λ v. has_source vs v ≡ true) vs
+
+-- The first bad line, without a reader.
+
+-- these lines begin the text of an image
+pub record Begins (lines : List (List ℕ)) : Type 0 where
+  pub image : List Volume
+  pub laid : IsLaid image
+  pub rest : List (List ℕ)
+  pub same : image_lines image ≡ lines ++ rest
+
+-- so many lines begin an image's text. The next one is behind the last line feed, and this is no end; or with it
+-- the lines begin no image's text
+pub record IsBadAfter (good : ℕ) (parts : List (List ℕ)) : Type 0 where
+  pub before : Begins (take good parts)
+  pub bad : ((good + 1 ≡ length parts) × ((vs : List Volume) → IsLaid vs → parts ≢ image_lines vs ++ [] ∷ [])) ⊎ ((good + 1 < length parts) × (Begins (take (good + 1) parts) → ⊥))
+
+-- all lines are those of volumes of which this is the first without its source
+pub record IsUnsourced (place : ℕ) (parts : List (List ℕ)) : Type 0 where
+  pub image : List Volume
+  pub laid : IsLaid image
+  pub same : parts ≡ image_lines image ++ [] ∷ []
+  pub first : position (λ v. not (has_source image v)) image ≡ Some place
+
+-- the lines of a text, and what stands behind its last line feed
+abbrev pub parts_of : List ℕ → List (List ℕ)
+parts_of text = slice_split is_line_feed text
+
+-- the number of the first bad line; the volumes stand from line 2 on
+abbrev pub IsFirstBad : List ℕ → ℕ → Type 0
+IsFirstBad text n = ((good : ℕ) × (n ≡ good + 1) × IsBadAfter good (parts_of text)) ⊎ ((place : ℕ) × (n ≡ place + 2) × IsUnsourced place (parts_of text))
