@@ -14,7 +14,8 @@ use Rattle.dr_ids.specs.Spelling.{upper_digit}
 use Rattle.dr_ids.specs.Spelling.{hex2, hex4}
 use Rattle.dr_model.specs.LineText.{bytes_text, spaced}
 use Rattle.dr_model.specs.Text.{trimmed}
-use Rattle.dr_model.specs.PlantImage.{Kept, Volume, IsKept, is_space, is_line_feed, words, volume_line, block_line, block_lines, image_lines}
+use Rattle.dr_model.specs.Lines.{is_space, words}
+use Rattle.dr_model.specs.PlantImage.{Kept, Volume, IsKept, is_line_feed, volume_line, block_line, block_lines, image_lines}
 use Rattle.dr_image.specs.Sound.{IsSound, IsSoundVolume}
 use Rattle.dr_image.proofs.StepLaws.{all_from_test}
 use Rattle.dr_image.proofs.ReadLemmas.{NoLineFeed}

@@ -11,7 +11,8 @@ use Rattle.dr_ids.specs.Spelling.{hex4}
 use Rattle.dr_model.specs.LineText.{bytes_text, spaced}
 use Rattle.dr_model.specs.LineWords.{◌>>=◌}
 use Rattle.dr_model.specs.Text.{trimmed}
-use Rattle.dr_model.specs.PlantImage.{Volume, Placed, Stage, Start, Listing, Filling, Ended, Bad, State, volume_line, block_line, words, id_word, plain_word, kept_word, volume_said, block_said, can_join, join, place_of, can_fill, fill, with_block, is_listing, by_words, by_line, by_stage, after_line}
+use Rattle.dr_model.specs.Lines.{words}
+use Rattle.dr_model.specs.PlantImage.{Volume, Placed, Stage, Start, Listing, Filling, Ended, Bad, State, volume_line, block_line, id_word, plain_word, kept_word, volume_said, block_said, can_join, join, place_of, can_fill, fill, with_block, is_listing, by_words, by_line, by_stage, after_line}
 use Rattle.dr_image.proofs.BytesLemmas.{inverse}
 use Rattle.dr_image.proofs.WordLaws.{passed, IsBlock, id_word-is, plain_word-is, kept_word-is}
 use Rattle.dr_image.proofs.StateLemmas.{both}

@@ -12,7 +12,8 @@ use Rattle.dr_ids.specs.Spelling.{hex4}
 use Rattle.dr_model.specs.LineText.{bytes_text}
 use Rattle.dr_model.specs.LineWords.{◌>>=◌}
 use Rattle.dr_model.specs.Text.{trimmed}
-use Rattle.dr_model.specs.PlantImage.{Kept, Volume, Placed, Listing, Filling, Ended, Bad, State, IsKept, IsVolume, IsLaid, IsImage, agrees, can_join, join, place_of, can_fill, fill, fill_at, with_block, plain_word, kept_word, volume_of, volume_said, block_said, is_listing, words, by_words, by_line, by_stage, after_line, or_bad, step, begin, has_source, sourced, checked, finished, is_line_feed, reads, reading, volume_line, block_line, block_lines, image_lines, image_text, ended}
+use Rattle.dr_model.specs.Lines.{words}
+use Rattle.dr_model.specs.PlantImage.{Kept, Volume, Placed, Listing, Filling, Ended, Bad, State, IsKept, IsVolume, IsLaid, IsImage, agrees, can_join, join, place_of, can_fill, fill, fill_at, with_block, plain_word, kept_word, volume_of, volume_said, block_said, is_listing, by_words, by_line, by_stage, after_line, or_bad, step, begin, has_source, sourced, checked, finished, is_line_feed, reads, reading, volume_line, block_line, block_lines, image_lines, image_text, ended}
 use Rattle.dr_image.specs.Sound.{IsSound, IsSoundVolume}
 use Rattle.dr_image.proofs.OrderLemmas.{InOrder, order_head, order_tail, pairs_head, pairs_tail}
 use Rattle.dr_image.proofs.SoundLemmas.{pairs_nil}

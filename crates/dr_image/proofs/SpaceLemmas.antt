@@ -4,7 +4,7 @@ use Rattle.std.proofs.lemmas.Bool.Decides.{nat_tests}
 use Rattle.std.proofs.lemmas.Grind.{common_steps}
 use Rattle.std.proofs.lemmas.List.Splits.{slice_split_first, slice_split-cons_no}
 use Rattle.std.specs.List.{position, position_or_len, slice_split, onto_first}
-use Rattle.dr_model.specs.PlantImage.{is_space, words}
+use Rattle.dr_model.specs.Lines.{is_space, words}
 use Rattle.dr_image.specs.Lines.{only}
 
 -- bytes none of which passes are one part

@@ -7,6 +7,7 @@ use Rattle.dr_ids.specs.Spelling.{digit_in}
 use Rattle.dr_model.specs.Contents.{zeros}
 use Rattle.dr_model.specs.Layout.{Blocks, Fields, fields}
 use Rattle.dr_ids.specs.Spelling.{hex4}
+use Rattle.dr_model.specs.Lines.{words}
 use Rattle.dr_model.specs.LineText.{bytes_text, spaced}
 use Rattle.dr_model.specs.LineWords.{◌>>=◌, decimal_word}
 use Rattle.dr_model.specs.Text.{trimmed}
@@ -29,8 +30,8 @@ block_in [] k = zeros
 block_in (b ∷ bs) k = if nat_eq b.index k then b.bytes else block_in bs k
 
 -- all blocks of a volume's device
-abbrev pub blocks_of : Volume → Blocks
-blocks_of v k = block_in v.blocks k
+abbrev pub device_blocks : Volume → Blocks
+device_blocks v k = block_in v.blocks k
 
 -- The text of an image.
 
@@ -57,14 +58,7 @@ ended (line ∷ lines) = line ++ 10 ∷ ended lines
 unfoldable pub image_text : List Volume → List ℕ
 image_text vs = ended (image_lines vs)
 
--- The words of a line.
-
-abbrev pub is_space : ℕ → Bool
-is_space b = nat_eq b 32
-
--- words stand between single spaces
-abbrev pub words : List ℕ → List (List ℕ)
-words line = slice_split is_space line
+-- The words of a line stand between single spaces.
 
 -- a hexadecimal digit; letters are in upper case
 abbrev pub upper_value : ℕ → Option ℕ
@@ -220,7 +214,7 @@ is_source_of v source w = nat_eq w.volume source && (not (nat_eq w.volume v.volu
 -- where a volume's record has a relationship, its source is such a volume of the image
 unfoldable pub has_source : List Volume → Volume → Bool
 has_source vs v =
-    let f : Fields = fields v.tracks (blocks_of v) in
+    let f : Fields = fields v.tracks (device_blocks v) in
     not f.related || list_any (is_source_of v f.source) vs
 
 -- the line of the first volume whose relationship has no such source; the volumes stand from line 2 on
