@@ -1,19 +1,17 @@
 -- An update of a volume, as the machine sees it.
 use Rattle.std.proofs.Common.{ℕ, ◌≡◌, ◌<◌, ◌+◌, ◌⊎◌, inl, inr, Bool, true, false, not, ◌&&◌, List, refl, sym, ◌∙◌, ap, subst, cond, arith, None, Some}
-use Rattle.std.specs.Prelude.{IfSome, if◌then◌else◌, is_some, ◌≢◌}
+use Rattle.std.specs.Prelude.{IfSome, if◌then◌else◌, ◌≢◌}
 use Rattle.std.proofs.lemmas.Bool.{cases_eq}
 use Rattle.std.proofs.lemmas.Bool.Decides.{Decides-eqb}
 use Rattle.dr_plant.specs.State.{PlantState, after_read, can_read, passes_read, at, faulted, risen}
 use Rattle.dr_plant.specs.declared.plant.WriteFuse.{WriteFuse}
 use Rattle.dr_plant.proofs.StateLemmas.{read_stopped, block-after_read, write_fuse-after_read, at_same, at_other}
 use Rattle.dr_record.specs.Writes.{after_writes}
-use Rattle.dr_record.specs.Slots.{slot_of, Chooses}
-use Rattle.dr_record.specs.declared.cell.Cell.{Cell}
+use Rattle.dr_record.specs.Slots.{slot_of}
 use Rattle.dr_record.proofs.WriteLists.{writes_off}
 use Rattle.dr_config.specs.Table.{Table, StandsFor}
 use Rattle.dr_config.specs.declared.entries.VolumeEntry.{VolumeEntry}
 use Rattle.dr_model.specs.Layout as layout
-use Rattle.dr_model.specs.Contents.{zeros}
 use Rattle.dr_model.specs.Layout.{chosen, only_if}
 use Rattle.dr_model.specs.Control.{Volume, World}
 use Rattle.dr_model.specs.Moves.{Carried, is_carried, carried_bytes, staged_track, updated}
@@ -23,16 +21,14 @@ use Rattle.dr_model.specs.ReadStops.{shut}
 use Rattle.dr_volume.specs.declared.fields.Fields.{Fields}
 use Rattle.dr_model.specs.Lawful.{IsLawful}
 use Rattle.dr_volume.specs.Plain.{plain}
-use Rattle.dr_volume.specs.declared.opened.Opened.{Opened}
-use Rattle.dr_volume.specs.Record.{IsWhole, with_block, no_record}
+use Rattle.dr_volume.specs.Record.{IsWhole}
 use Rattle.dr_volume.specs.View.{Rest, world, volume_seen, device_of, IsSettled, TracksSettled, fuse_seen, torn_seen}
-use Rattle.dr_volume.specs.Volume.{LiesOn, Shows}
-use Rattle.dr_volume.specs.Opened.{IsOpened}
+use Rattle.dr_volume.specs.Volume.{LiesOn}
 use Rattle.dr_volume.specs.Update.{staging, update_writes, Covers, IsAsBefore, IsMoved, OthersStay, EndsAs, ServerStays, after_reading}
-use Rattle.dr_volume.proofs.VolumeLaws.{device-placed, chosen_slot, chooses-raw}
+use Rattle.dr_volume.proofs.VolumeLaws.{device-placed, chosen_slot}
 use Rattle.dr_volume.proofs.RecordLaws.{whole-of_normal}
 use Rattle.dr_volume.proofs.LawfulLaws.{normal-staging}
-use Rattle.dr_volume.proofs.ReadingLaws.{ReadsNext, Fitting, staged-next, bytes-next, plain-staging, staged-staging, bytes-staging}
+use Rattle.dr_volume.proofs.ReadingLaws.{ReadsNext, Fitting, staged-next, bytes-next}
 use Rattle.dr_volume.proofs.RanLaws.{ran-written, ran-stands}
 use Rattle.dr_volume.proofs.RewriteLaws.{Outcome, writes-end, stays-as, stays-same}
 use Rattle.dr_volume.proofs.FuseLaws.{Passed, Cut, CutEnds, writes-passed, below_number, writes-cut, length-update, update-cut}
@@ -72,7 +68,7 @@ whole c s v d e f m k = whole-of_normal e.tracks (staging m f) k.lies.few (norma
 abbrev pub Run : PlantState → PlantState → ℕ → Fields → Carried → Bool → Type 0
 Run s t d f m b = after_writes s d (update_writes (not (slot_of s d)) (staging m f) m) ≡ (t, b)
 
-outcome : (c : Table) (s t : PlantState) (v d : ℕ) (e : VolumeEntry) (f : Fields) (m : Carried) (b : Bool) → Task c s v d e f m → Run s t d f m b → Outcome s t d f m b
+pub outcome : (c : Table) (s t : PlantState) (v d : ℕ) (e : VolumeEntry) (f : Fields) (m : Carried) (b : Bool) → Task c s v d e f m → Run s t d f m b → Outcome s t d f m b
 outcome c s t v d e f m b k run = writes-end s t d f m b (whole c s v d e f m k) run
 
 -- the owner of a device that can't be read
@@ -296,38 +292,6 @@ changed c s t v d e f m b stands k run =
       on = r.on;
       off = λ stopped. ap t.on server ∙ r.off stopped;
       faults = r.faults;
-    }
-
--- what was opened is what the update leaves
-only_some : (m : Carried) → carried_bytes m ≡ only_if (is_some (staged_track m)) (carried_bytes m) zeros
-only_some None = refl
-only_some (Some t) = refl
-
-pub opened-next : (c : Table) (s t : PlantState) (v d : ℕ) (e : VolumeEntry) (f : Fields) (m : Carried) (o x : Opened) → Task c s v d e f m → Run s t d f m false → IsOpened s c v o → x.cell ≡ record o.cell { slot = not o.cell.slot; value = staging m f } → x.fields ≡ staging m f → IsOpened t c v x
-opened-next c s t v d e f m o x k run opened cell fields =
-    let next : ReadsNext (s.block d) (t.block d) f m = (outcome c s t v d e f m false k run).done refl in
-    let moved : IsMoved s t c v (plain f) m = update-done c s t v d e f m k run in
-    let at : device_of c v ≡ d = device-placed c v d k.lies.place in
-    let slot : slot_of t d ≡ not o.cell.slot =
-    chosen_slot t d ∙ next.slot ∙ ap (λ b. not b) (sym (chosen_slot s d) ∙ ap (λ q. slot_of s q) (sym at) ∙ opened.chosen.gate) in
-    let chosen_next : Chooses with_block 6 no_record t (device_of c v) (not o.cell.slot) (staging m f) =
-    subst (λ q. Chooses with_block 6 no_record t q (not o.cell.slot) (staging m f)) (sym at) (chooses-raw t d (not o.cell.slot) (staging m f) slot next.record_next) in
-    let shows : Shows t c v (staging m f) = record {
-      fields = plain-staging m f ∙ sym (ap (λ (w : Volume). w.fields) moved.volume);
-      staged = staged-staging m f ∙ sym (ap (λ (w : Volume). w.staged) moved.volume);
-      staged_bytes =
-          bytes-staging m f ∙ only_some m
-          ∙ sym ((λ i. only_if (is_some (moved.volume i).staged) (chosen (t.block (at i)) 5) zeros)
-          ∙ ap (λ bs. only_if (is_some (staged_track m)) bs zeros) (bytes-next (s.block d) (t.block d) f m next));
-      lawful =
-          subst (λ (w : Volume). IsLawful w.tracks (plain (staging m f))) (sym moved.volume)
-          (subst (λ (w : Volume). IsLawful w.tracks (plain (staging m f))) (sym (seen c s v d e k.lies s))
-          (subst (λ g. IsLawful e.tracks g) (sym (plain-staging m f)) k.lawful));
-    } in
-    record {
-      device = ap (λ (y : Cell Fields). y.dev.0) cell ∙ opened.device;
-      chosen = subst (λ (y : Cell Fields). Chooses with_block 6 no_record t (device_of c v) y.slot y.value) (sym cell) chosen_next;
-      shows = subst (λ g. Shows t c v g) (sym fields) shows;
     }
 
 -- an update whose volume could not be read

@@ -4,8 +4,8 @@ ghost use Rattle.std.specs.Prelude.{◌≡◌, ◌<◌};
 ghost use Rattle.dr_volume.specs.Record as lies;
 
 use crate::codes::{
-    bit, code_of_part, code_of_state, first_set, four_bytes, part_of, second_set, state_of, two_bytes,
-    two_sets, zero_block,
+    bit, code_of_part, code_of_state, first_set, four_bytes, part_of, second_set, state_of,
+    two_bytes, two_sets, zero_block,
 };
 use crate::fields::Fields;
 use dr_bits::{TrackSet, byte_at};

@@ -14,7 +14,7 @@ ghost use Rattle.dr_volume.specs.Record.{with_block, no_record};
 ghost use Rattle.dr_volume.specs.View.{Rest, world, volume_seen, track_seen, device_of, IsSettled};
 ghost use Rattle.dr_volume.specs.Volume.{LiesOn};
 ghost use Rattle.dr_volume.specs.Update.{staging, track_writes, update_writes, Covers, IsAsBefore, IsMoved, OthersStay, EndsAs, ServerStays};
-ghost use Rattle.dr_volume.specs.Opened.{IsOpened, in_own_block};
+ghost use Rattle.dr_volume.specs.Opened.{IsOpened, OthersOpened, in_own_block};
 
 use crate::codes::zero_block;
 use crate::fields::Fields;
@@ -88,7 +88,7 @@ impl Opened {
 
     /// Gives the volume other fields and, where one is given, a track with its bytes: the move of
     /// `update`, which reads nothing. What was opened becomes what the move leaves, so that another
-    /// may follow. Fails where the volume's server is off or stops within the move; then the volume
+    /// may follow, and so may the moves of other volumes that were opened before. Fails where the volume's server is off or stops within the move; then the volume
     /// is to be opened again.
     pub fn change<P: Plant>(
         &mut self,
@@ -108,6 +108,7 @@ impl Opened {
         ensures written { after_writes (P.state p.old) (device_of c.now v.0) (update_writes (not (volume_seen (P.state p.old) c.now v.0).slot) (staging staged next.now) staged) ≡ (P.state p.new, is_err result) }
         ensures exact { (r : Rest) → EndsAs (world (P.state p.new) c.now r) (is_err result) (machine.update (world (P.state p.old) c.now r) v.0 (plain next.now) staged) }
         ensures opened { OnOk result (IsOpened (P.state p.new) c.now v.0 self.new) }
+        ensures others_opened { OthersOpened (P.state p.old) (P.state p.new) c.now v.0 }
         ensures done { OnOk result (IsMoved (P.state p.old) (P.state p.new) c.now v.0 (plain next.now) staged) }
         ensures old_or_new { IsAsBefore (P.state p.old) (P.state p.new) c.now v.0 ⊎ IsMoved (P.state p.old) (P.state p.new) c.now v.0 (plain next.now) staged }
         ensures others { OthersStay (P.state p.old) (P.state p.new) c.now v.0 }

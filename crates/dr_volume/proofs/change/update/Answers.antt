@@ -4,7 +4,6 @@ use Rattle.dr_plant.specs.State.{PlantState, after_read, can_read, risen}
 use Rattle.dr_plant.proofs.StateLemmas.{block-after_read}
 use Rattle.dr_config.specs.Table.{StandsFor}
 use Rattle.dr_record.specs.Writes.{after_writes}
-use Rattle.dr_record.specs.Slots.{slot_of}
 use Rattle.dr_model.specs.Lawful.{IsLawful}
 use Rattle.dr_volume.specs.Plain.{plain}
 use Rattle.dr_volume.specs.View.{volume_seen, device_of, IsSettled}

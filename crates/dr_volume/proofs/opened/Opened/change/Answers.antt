@@ -4,8 +4,9 @@ use Rattle.dr_plant.specs.State.{risen}
 use Rattle.dr_record.specs.Slots.{slot_of}
 use Rattle.dr_record.specs.Writes.{after_writes}
 use Rattle.dr_volume.specs.Update.{update_writes}
-use Rattle.dr_volume.proofs.RanLaws.{on_ok, on_err, on_ok-along}
-use Rattle.dr_volume.proofs.UpdateLaws.{Run, Changed, task, changed, opened-next}
+use Rattle.dr_volume.proofs.RanLaws.{ran-written, on_ok, on_err, on_ok-along}
+use Rattle.dr_volume.proofs.UpdateLaws.{Run, Changed, task, changed}
+use Rattle.dr_volume.proofs.OpenedLaws.{opened-next, others-opened}
 use Rattle.dr_volume.proofs.opened.Opened.change.Goals as goal
 
 pub returns : goal.returns
@@ -27,6 +28,7 @@ returns g c =
       opened = on_ok-along c.rewrite.result c.rewrite.ensures.cell (λ ok cell.
           opened-next table s t v d k.0 f m c.args.self.now _ k.1 (run ∙ (λ i. (t, ok i))) c.requires.opened
           (cell ∙ (λ i. record c.args.self.now.cell { slot = not c.args.self.now.cell.slot; value = c.with_staged-self.ensures i })) c.with_staged-self.ensures);
+      others_opened = others-opened table s t v d k.0 k.1.lies (ran-written s t d _ b run).apart all.others;
       done = on_ok c.rewrite.result all.done;
       old_or_new = all.old_or_new;
       others = all.others;
