@@ -8,6 +8,7 @@ use Rattle.std.proofs.lemmas.Bool.{cases_eq}
 use Rattle.std.proofs.lemmas.Bool.Decides.{nat_tests}
 use Rattle.dr_bits.specs.Membership.{lt_true}
 use Rattle.dr_plant.specs.State.{PlantState, after_read, can_read, passes_read}
+use Rattle.dr_plant.proofs.StateLemmas.{read_done}
 use Rattle.dr_config.specs.Table.{Table, StandsFor, place_of}
 use Rattle.dr_model.specs.Layout.{Fields}
 use Rattle.dr_model.specs.Control.{World}
@@ -46,7 +47,16 @@ module _ (c : Table) (s u : PlantState) (v : ℕ) (rest : IsAtRest s c) (defined
       let x = left-unread in
       inr (record { is_armed = is-armed s _ x.low (x.armed up); world = x.shuts r; answer = failed })
 
--- an update ends as the machine's, or at its first read
+-- where a read passes, the read of a track's own block passes too, wanted or not
+pub own-read : (s : PlantState) (d : ℕ) (wanted : Bool) → can_read s d ≡ true → (if wanted then after_read s d else s) ≡ s
+own-read s d true can = read_done s d can
+own-read s d false can = refl
+
+pub own-done : (s : PlantState) (d : ℕ) (wanted : Bool) → can_read s d ≡ true → (if wanted then can_read s d else true) ≡ true
+own-done s d true can = can
+own-done s d false can = refl
+
+-- an act that begins with a read ends as the machine's, or at that read
 pub lands-updated : (s : PlantState) (server : ℕ) (w u : World) (b : Bool) (e : Ended) → server < 8 → EndsAs u b (after_reading s server w e) → LandsAs (armed_in s) server w u b e
 lands-updated s server w u b e low ends =
     elim (passes_read (s.read_fuse server)) as (λ p. passes_read (s.read_fuse server) ≡ p → EndsAs u b (if p then e else ended (shut w server) true false) → LandsAs (armed_in s) server w u b e) [

@@ -11,7 +11,7 @@ ghost use Rattle.dr_top.specs.Landing.{LandsAs, filled};
 use dr_config::Config;
 use dr_ids::VolumeId;
 use dr_plant::{Block, Plant, Stopped};
-use dr_volume::{load, read_track, update};
+use dr_volume::open;
 
 /// A track after bytes were written from an offset on.
 fn laid(old: &Block, offset: u8, bytes: &[u8]) -> Block
@@ -45,10 +45,11 @@ pub fn land<P: Plant>(
     ensures rest { IsAtRest (P.state p.new) c.now }
     ensures unarmed { (q : ℕ) → (P.state p.old).read_fuse q ≡ None → (P.state p.new).read_fuse q ≡ None }
 {
-    let mut next = load(p, c, v)?;
-    next.blank.remove(t);
+    let mut opened = open(p, c, v)?;
     let mut old = [0; 64];
-    read_track(p, c, v, t, &mut old)?;
+    opened.read_track(p, c, v, t, &mut old)?;
     let track = laid(&old, offset, bytes);
-    update(p, c, v, &next, Some((t, track)))
+    let mut next = *opened.fields();
+    next.blank.remove(t);
+    opened.change(p, c, v, &next, Some((t, track)))
 }

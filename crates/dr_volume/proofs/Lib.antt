@@ -12,3 +12,4 @@ pub mod UpdateLaws
 pub mod RedoLaws
 pub mod SettledLaws
 pub mod UnreadLaws
+pub mod OpenedLaws

@@ -106,7 +106,7 @@ faults-ran : (s t : PlantState) (dev : ℕ) (ws : List Write) (b : Bool) → aft
 faults-ran s t dev ws true h = faults-after_writes s t dev ws h
 faults-ran s t dev ws false h = same_faults-after_writes s t dev ws h
 
-ran-written : (s t : PlantState) (dev : ℕ) (ws : List Write) (b : Bool) → after_writes s dev ws ≡ (t, b) → Ran s t dev b
+pub ran-written : (s t : PlantState) (dev : ℕ) (ws : List Write) (b : Bool) → after_writes s dev ws ≡ (t, b) → Ran s t dev b
 ran-written s t dev ws b h =
     let is : (after_writes s dev ws).0 ≡ t = ap (λ (r : PlantState × Bool). r.0) h in
     record {
@@ -143,3 +143,7 @@ on_ok (Err x) h = tt
 pub on_err : {T E P : Type 0} (r : Result T E) → (is_err r ≡ true → P) → OnErr r P
 on_err (Ok x) h = tt
 on_err (Err x) h = h refl
+
+pub on_ok-along : {T E P Q : Type 0} (r : Result T E) → OnOk r P → (is_err r ≡ false → P → Q) → OnOk r Q
+on_ok-along (Ok x) p h = h refl p
+on_ok-along (Err x) p h = tt

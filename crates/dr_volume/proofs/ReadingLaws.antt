@@ -1,6 +1,6 @@
 -- What is read of a volume depends on the gate's choice, the record in the chosen slot and the tracks' own blocks.
 use Rattle.std.proofs.Common.{ℕ, ◌≡◌, ◌≤◌, ◌<◌, ◌+◌, Bool, true, false, not, ◌||◌, List, sym, ◌∙◌, ap, refl, nat_lt, nat_eq, Option, None, Some, ◌⊎◌, inl, inr, arith}
-use Rattle.std.specs.Prelude.{if◌then◌else◌, is_some, IfSome}
+use Rattle.std.specs.Prelude.{if◌then◌else◌, IfSome}
 use Rattle.std.specs.FinSet.{contains}
 use Rattle.std.proofs.lemmas.Bool.Decides.{Decides-eqb, nat_tests}
 use Rattle.std.proofs.lemmas.Bool.{cases_order}
@@ -74,15 +74,15 @@ volume-same b c e few h =
 pub track-same : (b c : Blocks) (e : VolumeEntry) (k : ℕ) → e.tracks ≤ 256 → ReadsAs e.tracks b c → track_on c (Some e) k ≡ track_on b (Some e) k
 track-same b c e k few h = ap (λ x. if nat_lt k e.tracks then x else zeros) (physical-same e.tracks b c k few h)
 
-plain-staging : (m : Carried) (f : Fields) → plain (staging m f) ≡ plain f
+pub plain-staging : (m : Carried) (f : Fields) → plain (staging m f) ≡ plain f
 plain-staging None f = refl
 plain-staging (Some t) f = refl
 
-staged-staging : (m : Carried) (f : Fields) → (staging m f).staged ≡ staged_track m
+pub staged-staging : (m : Carried) (f : Fields) → (staging m f).staged ≡ staged_track m
 staged-staging None f = refl
 staged-staging (Some t) f = refl
 
-bytes-staging : (m : Carried) (f : Fields) → (staging m f).staged_bytes ≡ carried_bytes m
+pub bytes-staging : (m : Carried) (f : Fields) → (staging m f).staged_bytes ≡ carried_bytes m
 bytes-staging None f = refl
 bytes-staging (Some t) f = refl
 

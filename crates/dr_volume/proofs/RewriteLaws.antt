@@ -1,8 +1,8 @@
 -- The laws of an update's writes: how they end, and what they leave on the device.
-use Rattle.std.proofs.Common.{ℕ, ◌≡◌, ◌≢◌, ◌<◌, ◌+◌, ◌⊎◌, inl, inr, Bool, true, false, not, List, [], ◌∷◌, ◌++◌, refl, sym, ◌∙◌, ap, arith, nat_eq, None, Some}
+use Rattle.std.proofs.Common.{ℕ, ◌≡◌, ◌≢◌, ◌<◌, ◌+◌, ◌⊎◌, inl, inr, Bool, true, false, not, List, [], ◌∷◌, refl, sym, ◌∙◌, ap, arith, nat_eq, None, Some}
 use Rattle.std.proofs.lemmas.Bool.Decides.{Decides-eqb}
-use Rattle.dr_plant.specs.State.{PlantState, after_read, after_write, can_read, can_write}
-use Rattle.dr_plant.proofs.StateLemmas.{other-after_write, same-after_write, block-after_read}
+use Rattle.dr_plant.specs.State.{PlantState, after_write, can_write}
+use Rattle.dr_plant.proofs.StateLemmas.{other-after_write, same-after_write}
 use Rattle.dr_record.specs.Writes.{Write, write, after_writes}
 use Rattle.dr_record.specs.Slots.{slot_of, stored, Chooses, record_writes, SameElsewhere}
 use Rattle.dr_record.proofs.WritesLemmas.{goes, stops, ends, append-goes, append-stops}
@@ -13,21 +13,13 @@ use Rattle.dr_model.specs.Moves.{Carried, is_carried, carried_bytes}
 use Rattle.dr_volume.specs.declared.fields.Fields.{Fields}
 use Rattle.dr_volume.specs.Record.{record_block, with_block, no_record, raw_of, IsWhole}
 use Rattle.dr_volume.specs.ReadsBack.{read_back}
-use Rattle.dr_volume.specs.Update.{staging, track_writes, update_writes, read_and_write}
+use Rattle.dr_volume.specs.Update.{staging, track_writes, update_writes}
 use Rattle.dr_volume.proofs.VolumeLaws.{chosen_value, chosen_slot}
-use Rattle.dr_volume.proofs.RanLaws.{read-goes, read-stops}
 use Rattle.dr_volume.proofs.ReadingLaws.{ReadsAs, ReadsNext}
 
 -- the record's writes, to the slot that the device doesn't choose
 pub record-written : (s s1 t : PlantState) (dev d : ℕ) (slot b : Bool) (bytes : ℕ → List ℕ) → s1 ≡ s → d ≡ dev → slot_of s dev ≡ slot → after_writes s1 d (record_writes 6 (not slot) bytes) ≡ (t, b) → after_writes s dev (record_writes 6 (not (slot_of s dev)) bytes) ≡ (t, b)
 record-written s s1 t dev d slot b bytes same is gate h = (λ i. after_writes (sym same i) (sym is i) (record_writes 6 (not (gate i)) bytes)) ∙ h
-
--- stopped in the first part of the writes, or in what follows it
-pub part-stops : (s t : PlantState) (dev : ℕ) (xs ys : List Write) → can_read s dev ≡ true → after_writes s dev xs ≡ (t, true) → read_and_write s dev (xs ++ ys) ≡ (t, true)
-part-stops s t dev xs ys can h = read-goes s dev (xs ++ ys) can ∙ append-stops s t dev xs ys h
-
-pub part-goes : (s t : PlantState) (dev : ℕ) (xs ys : List Write) → can_read s dev ≡ true → after_writes s dev xs ≡ (t, false) → read_and_write s dev (xs ++ ys) ≡ after_writes t dev ys
-part-goes s t dev xs ys can h = read-goes s dev (xs ++ ys) can ∙ append-goes s t dev xs ys h
 
 -- the same six blocks give the same record
 raw-same : (x y : Blocks) → ((k : ℕ) → k < 6 → x k ≡ y k) → raw_of x ≡ raw_of y
@@ -147,7 +139,7 @@ pub after-record : (s u t : PlantState) (dev : ℕ) (f : Fields) (m : Carried) (
 after-record s u t dev f m b whole h k =
     next-track (s.block dev) u t dev f m b (record-done s u dev f m whole h) (track-written u t dev m b k)
 
-writes-end : (s t : PlantState) (dev : ℕ) (f : Fields) (m : Carried) (b : Bool) → IsWhole (staging m f) → after_writes s dev (update_writes (not (slot_of s dev)) (staging m f) m) ≡ (t, b) → Outcome s t dev f m b
+pub writes-end : (s t : PlantState) (dev : ℕ) (f : Fields) (m : Carried) (b : Bool) → IsWhole (staging m f) → after_writes s dev (update_writes (not (slot_of s dev)) (staging m f) m) ≡ (t, b) → Outcome s t dev f m b
 writes-end s t dev f m b whole h =
     let first = record_part s dev f m in
     let r = after_writes s dev first in
@@ -174,19 +166,3 @@ stays-same b c h = record {
   record_same = ap (λ (x : Blocks). raw_of (chosen x)) h;
   own = λ k. ap (λ (x : Blocks). x (13 + k)) h;
 }
-
--- the same with the read that comes first
-pub update-ends : (s t : PlantState) (dev : ℕ) (f : Fields) (m : Carried) (b : Bool) → IsWhole (staging m f) → read_and_write s dev (update_writes (not (slot_of s dev)) (staging m f) m) ≡ (t, b) → Outcome s t dev f m b
-update-ends s t dev f m b whole h =
-    let ws = update_writes (not (slot_of s dev)) (staging m f) m in
-    elim (can_read s dev) as (λ v. can_read s dev ≡ v → Outcome s t dev f m b) [
-      | true ↦ λ can. writes-end s t dev f m b whole (sym (read-goes s dev ws can) ∙ h)
-      | false ↦ λ stuck.
-          let e : ◌≡◌ {A = PlantState × Bool} (t, b) (after_read s dev, true) = sym h ∙ read-stops s dev ws stuck in
-          let same : t.block ≡ s.block = ap (λ (r : PlantState × Bool). r.0.block) e ∙ block-after_read s dev in
-          record {
-            ends = inl (stays-same (s.block dev) (t.block dev) (ap (λ (g : ℕ → ℕ → List ℕ). g dev) same));
-            done = λ done. absurd (let never : true ≡ false = sym (ap (λ (p : PlantState × Bool). p.1) e) ∙ done in cc);
-            track = λ done. absurd (let never : true ≡ false = sym (ap (λ (p : PlantState × Bool). p.1) e) ∙ done in cc);
-          }
-    ] refl

@@ -56,7 +56,7 @@ is-moved c s t v d e f m lies fit h =
     }
 
 -- another volume lies on another device
-apart_devices : (c : Table) (s : PlantState) (v u d j : ℕ) (e : VolumeEntry) → Lies c s v d e → u ≢ v → place_of c u ≡ Some j → j ≢ d
+pub apart_devices : (c : Table) (s : PlantState) (v u d j : ℕ) (e : VolumeEntry) → Lies c s v d e → u ≢ v → place_of c u ≡ Some j → j ≢ d
 apart_devices c s v u d j e lies ne place same =
     let x = entry-at-place c u j place in
     let y = entry-at-place c v d lies.place in

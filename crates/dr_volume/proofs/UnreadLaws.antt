@@ -1,6 +1,6 @@
 -- What is left where a volume's device could not be read.
-use Rattle.std.proofs.Common.{ℕ, ◌≡◌, ◌≤◌, ◌<◌, Bool, true, false, ◌&&◌, List, [], refl, sym, ◌∙◌, ap, subst, Option, None, Some, arith}
-use Rattle.std.specs.Prelude.{is_some, if◌then◌else◌}
+use Rattle.std.proofs.Common.{ℕ, ◌≡◌, ◌≤◌, ◌<◌, Bool, true, false, ◌&&◌, [], refl, sym, ◌∙◌, ap, subst, Option, None, Some, arith}
+use Rattle.std.specs.Prelude.{is_some}
 use Rattle.dr_plant.specs.State.{PlantState, after_read, can_read, passes_read}
 use Rattle.dr_plant.proofs.StateLemmas.{block-after_read}
 use Rattle.dr_config.specs.Table.{Table, StandsFor, place_of}

@@ -1,17 +1,18 @@
 -- An update of a volume, as the machine sees it.
-use Rattle.std.proofs.Common.{ℕ, ◌≡◌, ◌<◌, ◌+◌, ◌⊎◌, inl, inr, Bool, true, false, not, ◌&&◌, List, refl, sym, ◌∙◌, ap, subst, None, Some}
-use Rattle.std.specs.Prelude.{IfSome, if◌then◌else◌}
+use Rattle.std.proofs.Common.{ℕ, ◌≡◌, ◌<◌, ◌+◌, ◌⊎◌, inl, inr, Bool, true, false, not, ◌&&◌, List, refl, sym, ◌∙◌, ap, subst, cond, arith, None, Some}
+use Rattle.std.specs.Prelude.{IfSome, if◌then◌else◌, ◌≢◌}
 use Rattle.std.proofs.lemmas.Bool.{cases_eq}
 use Rattle.std.proofs.lemmas.Bool.Decides.{Decides-eqb}
-use Rattle.dr_plant.specs.State.{PlantState, after_read, can_read, passes_read, at}
+use Rattle.dr_plant.specs.State.{PlantState, after_read, can_read, passes_read, at, faulted, risen}
 use Rattle.dr_plant.specs.declared.plant.WriteFuse.{WriteFuse}
 use Rattle.dr_plant.proofs.StateLemmas.{read_stopped, block-after_read, write_fuse-after_read, at_same, at_other}
 use Rattle.dr_record.specs.Writes.{after_writes}
 use Rattle.dr_record.specs.Slots.{slot_of}
+use Rattle.dr_record.proofs.WriteLists.{writes_off}
 use Rattle.dr_config.specs.Table.{Table, StandsFor}
 use Rattle.dr_config.specs.declared.entries.VolumeEntry.{VolumeEntry}
 use Rattle.dr_model.specs.Layout as layout
-use Rattle.dr_model.specs.Layout.{chosen}
+use Rattle.dr_model.specs.Layout.{chosen, only_if}
 use Rattle.dr_model.specs.Control.{Volume, World}
 use Rattle.dr_model.specs.Moves.{Carried, is_carried, carried_bytes, staged_track, updated}
 use Rattle.dr_model.specs.Carry as machine
@@ -23,13 +24,13 @@ use Rattle.dr_volume.specs.Plain.{plain}
 use Rattle.dr_volume.specs.Record.{IsWhole}
 use Rattle.dr_volume.specs.View.{Rest, world, volume_seen, device_of, IsSettled, TracksSettled, fuse_seen, torn_seen}
 use Rattle.dr_volume.specs.Volume.{LiesOn}
-use Rattle.dr_volume.specs.Update.{staging, update_writes, read_and_write, Covers, IsAsBefore, IsMoved, OthersStay, EndsAs, after_reading}
+use Rattle.dr_volume.specs.Update.{staging, update_writes, Covers, IsAsBefore, IsMoved, OthersStay, EndsAs, ServerStays, after_reading}
 use Rattle.dr_volume.proofs.VolumeLaws.{device-placed, chosen_slot}
 use Rattle.dr_volume.proofs.RecordLaws.{whole-of_normal}
 use Rattle.dr_volume.proofs.LawfulLaws.{normal-staging}
 use Rattle.dr_volume.proofs.ReadingLaws.{ReadsNext, Fitting, staged-next, bytes-next}
-use Rattle.dr_volume.proofs.RanLaws.{ran, read-goes, read-stops}
-use Rattle.dr_volume.proofs.RewriteLaws.{Outcome, update-ends, stays-as, stays-same}
+use Rattle.dr_volume.proofs.RanLaws.{ran-written, ran-stands}
+use Rattle.dr_volume.proofs.RewriteLaws.{Outcome, writes-end, stays-as, stays-same}
 use Rattle.dr_volume.proofs.FuseLaws.{Passed, Cut, CutEnds, writes-passed, below_number, writes-cut, length-update, update-cut}
 use Rattle.dr_volume.proofs.WorldLaws.{shown, world-still, world-spent, world-off, on-at, fuses-same, shown-before, shown-moved, fuse-seen, on-seen, update-off, update-passed, update-cut_short}
 use Rattle.dr_volume.proofs.SeenLaws.{Lies, lies-of, seen, is-before, is-moved, others-stay, others-settled, settled-on, settled-off}
@@ -65,10 +66,10 @@ whole c s v d e f m k = whole-of_normal e.tracks (staging m f) k.lies.few (norma
 
 -- the update was carried out
 abbrev pub Run : PlantState → PlantState → ℕ → Fields → Carried → Bool → Type 0
-Run s t d f m b = read_and_write s d (update_writes (not (slot_of s d)) (staging m f) m) ≡ (t, b)
+Run s t d f m b = after_writes s d (update_writes (not (slot_of s d)) (staging m f) m) ≡ (t, b)
 
-outcome : (c : Table) (s t : PlantState) (v d : ℕ) (e : VolumeEntry) (f : Fields) (m : Carried) (b : Bool) → Task c s v d e f m → Run s t d f m b → Outcome s t d f m b
-outcome c s t v d e f m b k run = update-ends s t d f m b (whole c s v d e f m k) run
+pub outcome : (c : Table) (s t : PlantState) (v d : ℕ) (e : VolumeEntry) (f : Fields) (m : Carried) (b : Bool) → Task c s v d e f m → Run s t d f m b → Outcome s t d f m b
+outcome c s t v d e f m b k run = writes-end s t d f m b (whole c s v d e f m k) run
 
 -- the owner of a device that can't be read
 pub read-off : (s : PlantState) (d : ℕ) → s.on (s.owner d) ≡ false → can_read s d ≡ false
@@ -90,6 +91,18 @@ pub idle : (c : Table) (s : PlantState) (v d : ℕ) (e : VolumeEntry) → Lies c
 idle c s v d e lies =
     is-before c s (after_read s d) v d e lies (stays-as e.tracks (s.block d) ((after_read s d).block d) (stays-same (s.block d) ((after_read s d).block d) (ap (λ (g : ℕ → ℕ → List ℕ). g d) (block-after_read s d))))
 
+-- nor is anything written
+still : (s t : PlantState) (d : ℕ) (f : Fields) (m : Carried) (b : Bool) → s.on (s.owner d) ≡ false → Run s t d f m b → (t ≡ faulted s) × (b ≡ true)
+still s t d f m b off run =
+    let slot = not (slot_of s d) in
+    let ws = update_writes slot (staging m f) m in
+    let e : ◌≡◌ {A = PlantState × Bool} (t, b) (faulted s, true) = sym run ∙ writes_off s d ws off (subst (λ n. 0 < n) (sym (length-update slot (staging m f) m)) (some m)) in
+    (ap (λ (r : PlantState × Bool). r.0) e, ap (λ (r : PlantState × Bool). r.1) e)
+  where
+    some : (m : Carried) → 0 < machine.writes m
+    some None = omega arith
+    some (Some t) = omega arith
+
 pub update-ending : (c : Table) (s t : PlantState) (v d : ℕ) (e : VolumeEntry) (f : Fields) (m : Carried) (b : Bool) → Task c s v d e f m → Run s t d f m b → IsAsBefore s t c v ⊎ IsMoved s t c v (plain f) m
 update-ending c s t v d e f m b k run =
     elim (s.on (s.owner d)) as (λ w. s.on (s.owner d) ≡ w → IsAsBefore s t c v ⊎ IsMoved s t c v (plain f) m) [
@@ -97,9 +110,7 @@ update-ending c s t v d e f m b k run =
         | inl h ↦ inl (is-before c s t v d e k.lies (stays-as e.tracks (s.block d) (t.block d) h))
         | inr h ↦ inr (is-moved c s t v d e f m k.lies (fitting c s v d e f m k up) h)
       ]
-      | false ↦ λ off.
-          let is : after_read s d ≡ t = ap (λ (r : PlantState × Bool). r.0) (sym (read-stops s d (update_writes (not (slot_of s d)) (staging m f) m) (read-off s d off)) ∙ run) in
-          inl (subst (λ u. IsAsBefore s u c v) is (idle c s v d e k.lies))
+      | false ↦ λ off. inl (subst (λ u. IsAsBefore s u c v) (sym (still s t d f m b off run).0) (record { volume = refl; tracks = refl }))
     ] refl
 
 -- an update that isn't stopped found the server on
@@ -107,7 +118,7 @@ done-on : (s t : PlantState) (d : ℕ) (f : Fields) (m : Carried) → Run s t d 
 done-on s t d f m run =
     elim (s.on (s.owner d)) as (λ w. s.on (s.owner d) ≡ w → w ≡ true) [
       | true ↦ λ up. refl
-      | false ↦ λ off. ap (λ (r : PlantState × Bool). r.1) (sym run ∙ read-stops s d (update_writes (not (slot_of s d)) (staging m f) m) (read-off s d off))
+      | false ↦ λ off. (still s t d f m false off run).1
     ] refl
 
 pub update-done : (c : Table) (s t : PlantState) (v d : ℕ) (e : VolumeEntry) (f : Fields) (m : Carried) → Task c s v d e f m → Run s t d f m false → IsMoved s t c v (plain f) m
@@ -130,7 +141,7 @@ update-settled c s t v d e f m k run =
 
 pub update-keeps_settled : (c : Table) (s t : PlantState) (v d : ℕ) (e : VolumeEntry) (f : Fields) (m : Carried) (b : Bool) → Task c s v d e f m → Run s t d f m b → (u : ℕ) → IsSettled s c u → IsSettled t c u
 update-keeps_settled c s t v d e f m b k run u h =
-    let r = ran s t d (update_writes (not (slot_of s d)) (staging m f) m) b run in
+    let r = ran-written s t d (update_writes (not (slot_of s d)) (staging m f) m) b run in
     elim (cases_eq u v) [
       | inl is ↦ subst (λ w. IsSettled t c w) (sym is)
           (elim b as (λ x. b ≡ x → IsSettled t c v) [
@@ -171,23 +182,17 @@ slot-seen c s v d e lies = ap (λ (w : Volume). w.slot) (seen c s v d e lies s) 
 
 world-idle : (c : Table) (s t : PlantState) (v d : ℕ) (e : VolumeEntry) (f : Fields) (m : Carried) (b : Bool) (r : Rest) → Task c s v d e f m → Run s t d f m b → s.on (s.owner d) ≡ false → EndsAs (world t c r) b (machine.update (world s c r) v (plain f) m)
 world-idle c s t v d e f m b r k run off =
-    let ws = update_writes (not (slot_of s d)) (staging m f) m in
-    let is : ◌≡◌ {A = PlantState × Bool} (after_read s d, true) (t, b) = sym (read-stops s d ws (read-off s d off)) ∙ run in
-    let same : after_read s d ≡ t = ap (λ (x : PlantState × Bool). x.0) is in
-    let others = others-stay c s t v d e k.lies (ran s t d ws b run).apart in
+    let x = still s t d f m b off run in
     ends_as (world t c r) b _ _ (update-off (world s c r) v (plain f) m (s.owner d) (server-seen c s v d e k.lies) (on-seen s (s.owner d) k.lies.low ∙ off))
-    (record {
-      world = sym (ap (λ u. world u c r) same) ∙ idle-world c s v d e r k.lies (subst (λ u. OthersStay s u c v) (sym same) others) off;
-      stopped = sym (ap (λ (x : PlantState × Bool). x.1) is);
-    })
+    (record { world = ap (λ u. world u c r) x.0; stopped = x.1 })
 
-world-passed : (c : Table) (s t : PlantState) (v d : ℕ) (e : VolumeEntry) (f : Fields) (m : Carried) (b : Bool) (r : Rest) → Task c s v d e f m → Run s t d f m b → s.on (s.owner d) ≡ true → after_writes s d (update_writes (not (slot_of s d)) (staging m f) m) ≡ (t, b) → machine.pass (fuse_seen (s.write_fuse (s.owner d))) (machine.writes m) ≡ true → EndsAs (world t c r) b (machine.update (world s c r) v (plain f) m)
-world-passed c s t v d e f m b r k run up h pass =
+world-passed : (c : Table) (s t : PlantState) (v d : ℕ) (e : VolumeEntry) (f : Fields) (m : Carried) (b : Bool) (r : Rest) → Task c s v d e f m → Run s t d f m b → s.on (s.owner d) ≡ true → machine.pass (fuse_seen (s.write_fuse (s.owner d))) (machine.writes m) ≡ true → EndsAs (world t c r) b (machine.update (world s c r) v (plain f) m)
+world-passed c s t v d e f m b r k run up pass =
     let o = s.owner d in
     let ws = update_writes (not (slot_of s d)) (staging m f) m in
-    let p : Passed s t d (machine.writes m) b = writes-passed s t d ws (machine.writes m) b (length-update (not (slot_of s d)) (staging m f) m) up pass h in
+    let p : Passed s t d (machine.writes m) b = writes-passed s t d ws (machine.writes m) b (length-update (not (slot_of s d)) (staging m f) m) up pass run in
     let moved = update-done c s t v d e f m k (run ∙ (λ i. (t, p.done i))) in
-    let others = others-stay c s t v d e k.lies (ran s t d ws b run).apart in
+    let others = others-stay c s t v d e k.lies (ran-written s t d ws b run).apart in
     ends_as (world t c r) b _ _ (update-passed (world s c r) v (plain f) m o (server-seen c s v d e k.lies) (on-seen s o k.lies.low ∙ up) (ap (λ g. machine.pass g (machine.writes m)) (fuse-seen s o k.lies.low) ∙ pass))
     (record {
       world = world-spent s t c r o (machine.writes m) k.lies.low p.on p.fuse ∙ ap (λ w. machine.spent w o (machine.writes m)) (shown-moved s t c r v (plain f) m moved others);
@@ -208,16 +213,16 @@ cut_end c s t v d e f m g b r false k others up fuse cut ends = record {
   stopped = cut.cut;
 }
 
-world-cut : (c : Table) (s t : PlantState) (v d : ℕ) (e : VolumeEntry) (f : Fields) (m : Carried) (b : Bool) (r : Rest) → Task c s v d e f m → Run s t d f m b → s.on (s.owner d) ≡ true → after_writes s d (update_writes (not (slot_of s d)) (staging m f) m) ≡ (t, b) → machine.pass (fuse_seen (s.write_fuse (s.owner d))) (machine.writes m) ≡ false → EndsAs (world t c r) b (machine.update (world s c r) v (plain f) m)
-world-cut c s t v d e f m b r k run up h stuck =
+world-cut : (c : Table) (s t : PlantState) (v d : ℕ) (e : VolumeEntry) (f : Fields) (m : Carried) (b : Bool) (r : Rest) → Task c s v d e f m → Run s t d f m b → s.on (s.owner d) ≡ true → machine.pass (fuse_seen (s.write_fuse (s.owner d))) (machine.writes m) ≡ false → EndsAs (world t c r) b (machine.update (world s c r) v (plain f) m)
+world-cut c s t v d e f m b r k run up stuck =
     let o = s.owner d in
     let ws = update_writes (not (slot_of s d)) (staging m f) m in
     let low = below_number (machine.writes m) (s.write_fuse o) stuck in
     let g : WriteFuse = low.0 in
-    let cut : Cut s t d g b = writes-cut s t d ws g b up low.1 (subst (λ n. g.after < n) (sym (length-update (not (slot_of s d)) (staging m f) m)) low.2) h in
+    let cut : Cut s t d g b = writes-cut s t d ws g b up low.1 (subst (λ n. g.after < n) (sym (length-update (not (slot_of s d)) (staging m f) m)) low.2) run in
     let done = machine.counts g.after (torn_seen g.torn) (not (slot_of s d)) in
-    let ends : CutEnds s t d f m done = update-cut s t d f m g b (whole c s v d e f m k) up low.1 h in
-    let others = others-stay c s t v d e k.lies (ran s t d ws b run).apart in
+    let ends : CutEnds s t d f m done = update-cut s t d f m g b (whole c s v d e f m k) up low.1 run in
+    let others = others-stay c s t v d e k.lies (ran-written s t d ws b run).apart in
     let slot = slot-seen c s v d e k.lies in
     let fuse = fuse-seen s o k.lies.low ∙ ap fuse_seen low.1 in
     let counts : machine.counts_by ((world s c r).control.fuse o) (not (volume_seen s c v).slot) ≡ done = (λ i. machine.counts_by (fuse i) (not (slot i))) in
@@ -225,18 +230,15 @@ world-cut c s t v d e f m b r k run up h stuck =
     (update-cut_short (world s c r) v (plain f) m o done (server-seen c s v d e k.lies) (on-seen s o k.lies.low ∙ up) (ap (λ x. machine.pass x (machine.writes m)) (fuse-seen s o k.lies.low) ∙ stuck) counts)
     (cut_end c s t v d e f m g b r done k others up low.1 cut ends)
 
--- where a read passes the world follows the machine
-update-world : (c : Table) (s t : PlantState) (v d : ℕ) (e : VolumeEntry) (f : Fields) (m : Carried) (b : Bool) (r : Rest) → Task c s v d e f m → Run s t d f m b → passes_read (s.read_fuse (s.owner d)) ≡ true → EndsAs (world t c r) b (machine.update (world s c r) v (plain f) m)
-update-world c s t v d e f m b r k run pass =
+-- the world follows the machine
+pub update-world : (c : Table) (s t : PlantState) (v d : ℕ) (e : VolumeEntry) (f : Fields) (m : Carried) (b : Bool) (r : Rest) → Task c s v d e f m → Run s t d f m b → EndsAs (world t c r) b (machine.update (world s c r) v (plain f) m)
+update-world c s t v d e f m b r k run =
     let o = s.owner d in
-    let ws = update_writes (not (slot_of s d)) (staging m f) m in
     elim (s.on o) as (λ w. s.on o ≡ w → EndsAs (world t c r) b (machine.update (world s c r) v (plain f) m)) [
-      | true ↦ λ up.
-          let h = sym (read-goes s d ws (read-on s d pass up)) ∙ run in
-          elim (machine.pass (fuse_seen (s.write_fuse o)) (machine.writes m)) as (λ w. machine.pass (fuse_seen (s.write_fuse o)) (machine.writes m) ≡ w → EndsAs (world t c r) b (machine.update (world s c r) v (plain f) m)) [
-            | true ↦ λ passes. world-passed c s t v d e f m b r k run up h passes
-            | false ↦ λ stuck. world-cut c s t v d e f m b r k run up h stuck
-          ] refl
+      | true ↦ λ up. elim (machine.pass (fuse_seen (s.write_fuse o)) (machine.writes m)) as (λ w. machine.pass (fuse_seen (s.write_fuse o)) (machine.writes m) ≡ w → EndsAs (world t c r) b (machine.update (world s c r) v (plain f) m)) [
+        | true ↦ λ passes. world-passed c s t v d e f m b r k run up passes
+        | false ↦ λ stuck. world-cut c s t v d e f m b r k run up stuck
+      ] refl
       | false ↦ λ off. world-idle c s t v d e f m b r k run off
     ] refl
 
@@ -254,13 +256,54 @@ read-first c s t v d e w b r end lies others unread passed is =
           })
     ] refl
 
-pub update-exact : (c : Table) (s t : PlantState) (v d : ℕ) (e : VolumeEntry) (f : Fields) (m : Carried) (b : Bool) (r : Rest) → Task c s v d e f m → Run s t d f m b → EndsAs (world t c r) b (after_reading s (volume_seen s c v).server (world s c r) (machine.update (world s c r) v (plain f) m))
-update-exact c s t v d e f m b r k run =
-    let ws = update_writes (not (slot_of s d)) (staging m f) m in
-    read-first c s t v d e (world s c r) b r _ k.lies (others-stay c s t v d e k.lies (ran s t d ws b run).apart)
-    (λ stuck. let x : ◌≡◌ {A = PlantState × Bool} (t, b) (after_read s d, true) = sym run ∙ read-stops s d ws stuck in (ap (λ (y : PlantState × Bool). y.0) x, ap (λ (y : PlantState × Bool). y.1) x))
-    (λ pass. update-world c s t v d e f m b r k run pass) refl
-
-pub update-written : (c : Table) (s t : PlantState) (v d : ℕ) (e : VolumeEntry) (f : Fields) (m : Carried) (b : Bool) → Task c s v d e f m → Run s t d f m b → read_and_write s (device_of c v) (update_writes (not (volume_seen s c v).slot) (staging m f) m) ≡ (t, b)
+pub update-written : (c : Table) (s t : PlantState) (v d : ℕ) (e : VolumeEntry) (f : Fields) (m : Carried) (b : Bool) → Task c s v d e f m → Run s t d f m b → after_writes s (device_of c v) (update_writes (not (volume_seen s c v).slot) (staging m f) m) ≡ (t, b)
 update-written c s t v d e f m b k run =
-    (λ i. read_and_write s (device-placed c v d k.lies.place i) (update_writes (not (slot-seen c s v d e k.lies i)) (staging m f) m)) ∙ run
+    (λ i. after_writes s (device-placed c v d k.lies.place i) (update_writes (not (slot-seen c s v d e k.lies i)) (staging m f) m)) ∙ run
+
+-- What an update of a volume that was read leaves.
+pub record Changed (c : Table) (s t : PlantState) (v : ℕ) (f : Fields) (m : Carried) (b : Bool) : Type 0 where
+  pub written : after_writes s (device_of c v) (update_writes (not (volume_seen s c v).slot) (staging m f) m) ≡ (t, b)
+  pub exact : (r : Rest) → EndsAs (world t c r) b (machine.update (world s c r) v (plain f) m)
+  pub done : b ≡ false → IsMoved s t c v (plain f) m
+  pub old_or_new : IsAsBefore s t c v ⊎ IsMoved s t c v (plain f) m
+  pub others : OthersStay s t c v
+  pub stands : StandsFor c t
+  pub unarmed : (q : ℕ) → s.read_fuse q ≡ None → t.read_fuse q ≡ None
+  pub settled : (u : ℕ) → IsSettled s c u → IsSettled t c u
+  pub servers : (q : ℕ) → q ≢ (volume_seen s c v).server → ServerStays s t q
+  pub on : b ≡ false → t.on ≡ s.on
+  pub off : b ≡ true → t.on (volume_seen s c v).server ≡ false
+  pub faults : t.faults ≡ cond b (risen s.faults) s.faults
+
+pub changed : (c : Table) (s t : PlantState) (v d : ℕ) (e : VolumeEntry) (f : Fields) (m : Carried) (b : Bool) → StandsFor c s → Task c s v d e f m → Run s t d f m b → Changed c s t v f m b
+changed c s t v d e f m b stands k run =
+    let server = server-seen c s v d e k.lies in
+    let r = ran-written s t d (update_writes (not (slot_of s d)) (staging m f) m) b run in
+    record {
+      written = update-written c s t v d e f m b k run;
+      exact = λ rest. update-world c s t v d e f m b rest k run;
+      done = λ ok. update-done c s t v d e f m k (run ∙ (λ i. (t, ok i)));
+      old_or_new = update-ending c s t v d e f m b k run;
+      others = others-stay c s t v d e k.lies r.apart;
+      stands = ran-stands c s t d b r stands;
+      unarmed = r.unarmed;
+      settled = update-keeps_settled c s t v d e f m b k run;
+      servers = λ q ne. r.others q (λ is. ne (is ∙ sym server));
+      on = r.on;
+      off = λ stopped. ap t.on server ∙ r.off stopped;
+      faults = r.faults;
+    }
+
+-- an update whose volume could not be read
+on_or_stuck : (on pass : Bool) → (on && pass) ≡ false → pass ≡ true → on ≡ false
+on_or_stuck false pass h p = refl
+on_or_stuck true pass h p = absurd (let never : true ≡ false = sym p ∙ h in cc)
+
+pub update-unread : (c : Table) (s t : PlantState) (v d : ℕ) (e : VolumeEntry) (f : Fields) (m : Carried) (b : Bool) (r : Rest) → Lies c s v d e → OthersStay s t c v → can_read s d ≡ false → t ≡ after_read s d → b ≡ true → EndsAs (world t c r) b (after_reading s (volume_seen s c v).server (world s c r) (machine.update (world s c r) v (plain f) m))
+update-unread c s t v d e f m b r lies others stuck is stopped =
+    read-first c s t v d e (world s c r) b r _ lies others (λ h. (is, stopped))
+    (λ pass.
+    let off = on_or_stuck (s.on (s.owner d)) (passes_read (s.read_fuse (s.owner d))) stuck pass in
+    ends_as (world t c r) b _ _ (update-off (world s c r) v (plain f) m (s.owner d) (server-seen c s v d e lies) (on-seen s (s.owner d) lies.low ∙ off))
+    (record { world = ap (λ u. world u c r) is ∙ idle-world c s v d e r lies (subst (λ u. OthersStay s u c v) is others) off; stopped = stopped }))
+    refl

@@ -93,6 +93,11 @@ chosen_value s d slot x chooses =
 pub chosen_slot : (s : PlantState) (d : ℕ) → slot_of s d ≡ slot_chosen (s.block d)
 chosen_slot s d = gate_same (layout.byte (s.block d 0) 0)
 
+-- and what its chosen slot gives, it chooses
+pub chooses-raw : (s : PlantState) (d : ℕ) (slot : Bool) (x : Fields) → slot_of s d ≡ slot → raw_of (chosen (s.block d)) ≡ x → Chooses with_block 6 no_record s d slot x
+unfolding taken_from
+chooses-raw s d slot x gate is = record { gate = gate; value = ap (λ b. raw_of (λ k. s.block d (slot_begin b + k))) (sym gate ∙ chosen_slot s d) ∙ is }
+
 -- the normal form of what the chosen slot gives is what the machine sees
 pub shows-normal : (s : PlantState) (t : Table) (v d n : ℕ) (f : Fields) → LiesOn t v d n → f ≡ normal n (raw_of (chosen (s.block d))) → Shows s t v f
 shows-normal s t v d n f lies is =

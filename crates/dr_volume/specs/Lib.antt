@@ -5,3 +5,4 @@ pub mod ReadsBack
 pub mod View
 pub mod Volume
 pub mod Update
+pub mod Opened

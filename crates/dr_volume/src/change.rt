@@ -11,13 +11,13 @@ ghost use Rattle.dr_volume.specs.Plain.{plain};
 ghost use Rattle.dr_volume.specs.View.{Rest, world, volume_seen, device_of, IsSettled, TracksSettled};
 ghost use Rattle.dr_volume.specs.Update.{staging, track_with, track_writes, update_writes, read_and_write, staged_seen, Covers, IsAsBefore, IsMoved, OthersStay, EndsAs, after_reading, ServerStays};
 
-use crate::codes::zero_block;
 use crate::fields::Fields;
-use crate::volume::{FIRST_TRACK, find, load};
+use crate::opened::{open, write_track};
+use crate::place::find;
+use crate::volume::load;
 use dr_config::Config;
 use dr_ids::VolumeId;
-use dr_plant::{Block, DeviceId, Plant, Stopped};
-use dr_record::Cell;
+use dr_plant::{Block, Plant, Stopped};
 
 /// Gives a volume other fields and, where one is given, a track with its bytes: one move, done or
 /// not done as a whole. What the next fields say of a staged track is not looked at. The record is
@@ -51,7 +51,8 @@ pub fn update<P: Plant>(
     ensures fault { OnErr result ((P.state p.new).faults ≡ risen (P.state p.old).faults) }
     ensures no_fault { OnOk result ((P.state p.new).faults ≡ (P.state p.old).faults) }
 {
-    rewrite(p, find(c, v).device, &with_staged(next, staged), staged)
+    let mut opened = open(p, c, v)?;
+    opened.change(p, c, v, next, staged)
 }
 
 /// Writes a volume's staged track, where one is staged, to its own place, so that the next move may
@@ -77,27 +78,6 @@ pub fn redo<P: Plant>(p: &mut P, c: &Config, v: VolumeId) -> Result<(), Stopped>
     write_track(p, device, staged_track(&fields))
 }
 
-// The fields with the carried track staged in place of what they stage.
-fn with_staged(next: &Fields, carried: Option<(u16, Block)>) -> Fields
-    ensures { result ≡ staging carried next.now }
-{
-    match &carried {
-        Some(track) => {
-            let staged_bytes = track.1;
-            Fields {
-                staged: Some(track.0),
-                staged_bytes,
-                ..*next
-            }
-        }
-        None => Fields {
-            staged: None,
-            staged_bytes: zero_block(),
-            ..*next
-        },
-    }
-}
-
 fn staged_track(fields: &Fields) -> Option<(u16, Block)>
     ensures { result ≡ track_with fields.now.staged fields.now.staged_bytes }
 {
@@ -107,37 +87,5 @@ fn staged_track(fields: &Fields) -> Option<(u16, Block)>
             Some((t, bytes))
         }
         None => None,
-    }
-}
-
-// Writes the next fields over those that the device doesn't choose, then the gate, then the track.
-fn rewrite<P: Plant>(
-    p: &mut P,
-    device: DeviceId,
-    next: &Fields,
-    carried: Option<(u16, Block)>,
-) -> Result<(), Stopped>
-    requires device { IsDevice (P.state p.old) device.0 13 }
-    requires track { IfSome carried (λ t. (t.0 < 256) × (13 + t.0 < (P.state p.old).size device.0)) }
-    ensures { read_and_write (P.state p.old) device.0 (update_writes (not (slot_of (P.state p.old) device.0)) next.now carried) ≡ (P.state p.new, is_err result) }
-{
-    let mut cell: Cell<Fields> = Cell::load(p, device)?;
-    cell.put(p, next)?;
-    write_track(p, device, carried)
-}
-
-// Writes a track to its own block.
-fn write_track<P: Plant>(
-    p: &mut P,
-    device: DeviceId,
-    carried: Option<(u16, Block)>,
-) -> Result<(), Stopped>
-    requires device { device.0 < (P.state p.old).count }
-    requires track { IfSome carried (λ t. (t.0 < 256) × (13 + t.0 < (P.state p.old).size device.0)) }
-    ensures { after_writes (P.state p.old) device.0 (track_writes carried) ≡ (P.state p.new, is_err result) }
-{
-    match &carried {
-        Some(track) => p.write(device, FIRST_TRACK + track.0, &track.1),
-        None => Ok(()),
     }
 }

@@ -8,32 +8,13 @@ ghost use Rattle.dr_volume.specs.View.{volume_seen, track_seen, device_of};
 ghost use Rattle.dr_volume.specs.Volume.{LiesOn, Shows};
 
 use crate::blocks::slot_begin;
-use crate::codes::zero_block;
 use crate::fields::Fields;
+use crate::opened::open;
+use crate::place::find;
 use dr_config::Config;
 use dr_ids::VolumeId;
-use dr_plant::{Block, DeviceId, Plant, Stopped};
+use dr_plant::{Block, Plant, Stopped};
 use dr_record::{Cell, Form};
-
-/// The block of a device in which track 0 lies, behind the gate and the two slots.
-pub(crate) const FIRST_TRACK: u16 = 13;
-
-// Where a volume lies: its device, and how many tracks it has.
-#[derive(Clone, Copy)]
-pub(crate) struct Place {
-    pub(crate) device: DeviceId,
-    tracks: u16,
-}
-
-pub(crate) fn find(c: &Config, v: VolumeId) -> Place
-    requires { IsSome (place_of c.now v.0) }
-    ensures { LiesOn c.now v.0 result.device.0 result.tracks }
-{
-    Place {
-        device: c.device_of(v).unwrap(),
-        tracks: c.tracks_of(v).unwrap(),
-    }
-}
 
 /// Reads the fields of a volume. Fails where the plant can't read its device.
 pub fn load<P: Plant>(p: &mut P, c: &Config, v: VolumeId) -> Result<Fields, Stopped>
@@ -43,9 +24,8 @@ pub fn load<P: Plant>(p: &mut P, c: &Config, v: VolumeId) -> Result<Fields, Stop
     ensures done { is_ok result ≡ can_read (P.state p.old) (device_of c.now v.0) }
     ensures shows { IfOk result (λ f. Shows (P.state p.old) c.now v.0 f) }
 {
-    let place = find(c, v);
-    let cell: Cell<Fields> = Cell::load(p, place.device)?;
-    Ok(cell.get().normal(place.tracks))
+    let opened = open(p, c, v)?;
+    Ok(*opened.fields())
 }
 
 /// The slot that a volume's device chooses, whether or not its server is on.
@@ -89,23 +69,6 @@ pub fn read_track<P: Plant>(
     ensures done { is_ok result ≡ can_read (P.state p.old) (device_of c.now v.0) }
     ensures bytes { OnOk result (into.new ≡ track_seen (P.state p.old) c.now v.0 t) }
 {
-    let fields = load(p, c, v)?;
-    if is_staged(fields.staged, t) {
-        *into = fields.staged_bytes;
-        return Ok(());
-    }
-    if fields.blank.contains(t) {
-        *into = zero_block();
-        return Ok(());
-    }
-    p.read(find(c, v).device, FIRST_TRACK + t, into)
-}
-
-fn is_staged(staged: Option<u16>, t: u16) -> bool
-    ensures { result ≡ layout.is_staged staged t }
-{
-    match staged {
-        Some(s) => t == s,
-        None => false,
-    }
+    let opened = open(p, c, v)?;
+    opened.read_track(p, c, v, t, into)
 }

@@ -1,7 +1,7 @@
 use Rattle.std.proofs.Common.{◌≤◌, subst}
 use Rattle.std.specs.Prelude.{IfSome}
 use Rattle.dr_volume.proofs.VolumeLaws.{tracks_some, lies_on}
-use Rattle.dr_volume.proofs.volume.find.Goals as goal
+use Rattle.dr_volume.proofs.place.find.Goals as goal
 
 pub unwrap-requires-2 : goal.unwrap-requires-2
 unwrap-requires-2 c = tracks_some c.args.c.now c.args.v.0 c.device_of.result c.unwrap.result c.tracks_of.result c.device_of.ensures.place c.unwrap.ensures c.tracks_of.ensures.value

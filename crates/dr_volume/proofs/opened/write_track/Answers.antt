@@ -3,7 +3,7 @@ use Rattle.dr_model.specs.Moves.{Carried}
 use Rattle.dr_record.specs.Writes.{after_writes}
 use Rattle.dr_record.proofs.WritesLemmas.{one_write, ends}
 use Rattle.dr_volume.specs.Update.{track_writes}
-use Rattle.dr_volume.proofs.change.write_track.Goals as goal
+use Rattle.dr_volume.proofs.opened.write_track.Goals as goal
 
 pub returns-in-Some : goal.returns-in-Some
 returns-in-Some g c =

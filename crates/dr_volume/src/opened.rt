@@ -1,0 +1,193 @@
+//! A volume that was read for a move: its record is read once, and its tracks are read and its move
+//! is made by what was read.
+
+ghost use Rattle.std.specs.Prelude.{◌≡◌, ◌≢◌, ℕ, ◌<◌, ◌+◌, not, true, false, None, IsSome, IfSome, IfOk, OnOk, OnErr, is_ok, is_err, ◌⊎◌, if◌then◌else◌};
+ghost use Rattle.dr_plant.specs.State.{after_read, can_read, risen};
+ghost use Rattle.dr_record.specs.Writes.{IsDevice, after_writes};
+ghost use Rattle.dr_record.specs.Slots.{slot_of, Chooses};
+ghost use Rattle.dr_config.specs.Table.{StandsFor, place_of};
+ghost use Rattle.dr_model.specs.Carry as machine;
+ghost use Rattle.dr_model.specs.Lawful.{IsLawful};
+ghost use Rattle.dr_model.specs.Layout as layout;
+ghost use Rattle.dr_volume.specs.Plain.{plain};
+ghost use Rattle.dr_volume.specs.Record.{with_block, no_record};
+ghost use Rattle.dr_volume.specs.View.{Rest, world, volume_seen, track_seen, device_of, IsSettled};
+ghost use Rattle.dr_volume.specs.Volume.{LiesOn};
+ghost use Rattle.dr_volume.specs.Update.{staging, track_writes, update_writes, Covers, IsAsBefore, IsMoved, OthersStay, EndsAs, ServerStays};
+ghost use Rattle.dr_volume.specs.Opened.{IsOpened, OthersOpened, in_own_block};
+
+use crate::codes::zero_block;
+use crate::fields::Fields;
+use crate::place::{FIRST_TRACK, find};
+use dr_config::Config;
+use dr_ids::VolumeId;
+use dr_plant::{Block, DeviceId, Plant, Stopped};
+use dr_record::Cell;
+
+/// A volume as it was read for a move: its record as it lies on the device, and its fields.
+#[derive(Drop)]
+pub struct Opened {
+    cell: Cell<Fields>,
+    fields: Fields,
+}
+
+/// Reads the record of a volume, for a move that follows. Fails where the plant can't read its
+/// device.
+pub fn open<P: Plant>(p: &mut P, c: &Config, v: VolumeId) -> Result<Opened, Stopped>
+    requires defined { IsSome (place_of c.now v.0) }
+    requires stands { StandsFor c.now (P.state p.old) }
+    ensures state { P.state p.new ≡ after_read (P.state p.old) (device_of c.now v.0) }
+    ensures done { is_ok result ≡ can_read (P.state p.old) (device_of c.now v.0) }
+    ensures same { OnOk result (P.state p.new ≡ P.state p.old) }
+    ensures opened { IfOk result (λ o. IsOpened (P.state p.old) c.now v.0 o) }
+    ensures lies { LiesOn c.now v.0 (device_of c.now v.0) (volume_seen (P.state p.old) c.now v.0).tracks }
+{
+    let place = find(c, v);
+    let cell: Cell<Fields> = Cell::load(p, place.device)?;
+    let fields = cell.get().normal(place.tracks);
+    Ok(Opened { cell, fields })
+}
+
+impl Opened {
+    /// The fields.
+    pub fn fields(&self) -> &Fields
+        ensures { result.now ≡ self.now.fields }
+    {
+        &self.fields
+    }
+
+    /// Reads a track: the bytes that are staged for it, zeros where it is blank, or else what stands
+    /// in its own block, which alone is read. Fails where that block is wanted and the plant can't
+    /// read the device.
+    pub fn read_track<P: Plant>(
+        &self,
+        p: &mut P,
+        c: &Config,
+        v: VolumeId,
+        t: u16,
+        into: &mut Block,
+    ) -> Result<(), Stopped>
+        requires defined { IsSome (place_of c.now v.0) }
+        requires stands { StandsFor c.now (P.state p.old) }
+        requires opened { IsOpened (P.state p.old) c.now v.0 self.now }
+        requires within { t < (volume_seen (P.state p.old) c.now v.0).tracks }
+        ensures state { P.state p.new ≡ (if in_own_block (volume_seen (P.state p.old) c.now v.0) t then after_read (P.state p.old) (device_of c.now v.0) else P.state p.old) }
+        ensures done { is_ok result ≡ (if in_own_block (volume_seen (P.state p.old) c.now v.0) t then can_read (P.state p.old) (device_of c.now v.0) else true) }
+        ensures bytes { OnOk result (into.new ≡ track_seen (P.state p.old) c.now v.0 t) }
+    {
+        if is_staged(self.fields.staged, t) {
+            *into = self.fields.staged_bytes;
+            return Ok(());
+        }
+        if self.fields.blank.contains(t) {
+            *into = zero_block();
+            return Ok(());
+        }
+        p.read(find(c, v).device, FIRST_TRACK + t, into)
+    }
+
+    /// Gives the volume other fields and, where one is given, a track with its bytes: the move of
+    /// `update`, which reads nothing. What was opened becomes what the move leaves, so that another
+    /// may follow, and so may the moves of other volumes that were opened before. Fails where the volume's server is off or stops within the move; then the volume
+    /// is to be opened again.
+    pub fn change<P: Plant>(
+        &mut self,
+        p: &mut P,
+        c: &Config,
+        v: VolumeId,
+        next: &Fields,
+        staged: Option<(u16, Block)>,
+    ) -> Result<(), Stopped>
+        requires defined { IsSome (place_of c.now v.0) }
+        requires stands { StandsFor c.now (P.state p.old) }
+        requires opened { IsOpened (P.state p.old) c.now v.0 self.old }
+        requires lawful { IsLawful (volume_seen (P.state p.old) c.now v.0).tracks (plain next.now) }
+        requires within { IfSome staged (λ t. t.0 < (volume_seen (P.state p.old) c.now v.0).tracks) }
+        requires settled { IsSettled (P.state p.old) c.now v.0 }
+        requires covers { Covers (volume_seen (P.state p.old) c.now v.0).fields.blank next.now.blank staged }
+        ensures written { after_writes (P.state p.old) (device_of c.now v.0) (update_writes (not (volume_seen (P.state p.old) c.now v.0).slot) (staging staged next.now) staged) ≡ (P.state p.new, is_err result) }
+        ensures exact { (r : Rest) → EndsAs (world (P.state p.new) c.now r) (is_err result) (machine.update (world (P.state p.old) c.now r) v.0 (plain next.now) staged) }
+        ensures opened { OnOk result (IsOpened (P.state p.new) c.now v.0 self.new) }
+        ensures others_opened { OthersOpened (P.state p.old) (P.state p.new) c.now v.0 }
+        ensures done { OnOk result (IsMoved (P.state p.old) (P.state p.new) c.now v.0 (plain next.now) staged) }
+        ensures old_or_new { IsAsBefore (P.state p.old) (P.state p.new) c.now v.0 ⊎ IsMoved (P.state p.old) (P.state p.new) c.now v.0 (plain next.now) staged }
+        ensures others { OthersStay (P.state p.old) (P.state p.new) c.now v.0 }
+        ensures stands { StandsFor c.now (P.state p.new) }
+        ensures unarmed { (q : ℕ) → (P.state p.old).read_fuse q ≡ None → (P.state p.new).read_fuse q ≡ None }
+        ensures settled { (u : ℕ) → IsSettled (P.state p.old) c.now u → IsSettled (P.state p.new) c.now u }
+        ensures servers { (q : ℕ) → q ≢ (volume_seen (P.state p.old) c.now v.0).server → ServerStays (P.state p.old) (P.state p.new) q }
+        ensures on { OnOk result ((P.state p.new).on ≡ (P.state p.old).on) }
+        ensures off { OnErr result ((P.state p.new).on (volume_seen (P.state p.old) c.now v.0).server ≡ false) }
+        ensures fault { OnErr result ((P.state p.new).faults ≡ risen (P.state p.old).faults) }
+        ensures no_fault { OnOk result ((P.state p.new).faults ≡ (P.state p.old).faults) }
+    {
+        self.fields = with_staged(next, staged);
+        let device = find(c, v).device;
+        rewrite(p, &mut self.cell, device, &self.fields, staged)
+    }
+}
+
+fn is_staged(staged: Option<u16>, t: u16) -> bool
+    ensures { result ≡ layout.is_staged staged t }
+{
+    match staged {
+        Some(s) => t == s,
+        None => false,
+    }
+}
+
+// The fields with the carried track staged in place of what they stage.
+fn with_staged(next: &Fields, carried: Option<(u16, Block)>) -> Fields
+    ensures { result ≡ staging carried next.now }
+{
+    match &carried {
+        Some(track) => {
+            let staged_bytes = track.1;
+            Fields {
+                staged: Some(track.0),
+                staged_bytes,
+                ..*next
+            }
+        }
+        None => Fields {
+            staged: None,
+            staged_bytes: zero_block(),
+            ..*next
+        },
+    }
+}
+
+// Writes the next fields over those that the device doesn't choose, then the gate, then the track.
+fn rewrite<P: Plant>(
+    p: &mut P,
+    cell: &mut Cell<Fields>,
+    device: DeviceId,
+    next: &Fields,
+    carried: Option<(u16, Block)>,
+) -> Result<(), Stopped>
+    requires device { IsDevice (P.state p.old) device.0 13 }
+    requires cell { cell.old.dev.0 ≡ device.0 }
+    requires chosen { Chooses with_block 6 no_record (P.state p.old) device.0 cell.old.slot cell.old.value }
+    requires track { IfSome carried (λ t. (t.0 < 256) × (13 + t.0 < (P.state p.old).size device.0)) }
+    ensures written { after_writes (P.state p.old) device.0 (update_writes (not (slot_of (P.state p.old) device.0)) next.now carried) ≡ (P.state p.new, is_err result) }
+    ensures cell { OnOk result (cell.new ≡ record cell.old { slot = not cell.old.slot; value = next.now }) }
+{
+    cell.put(p, next)?;
+    write_track(p, device, carried)
+}
+
+// Writes a track to its own block.
+pub(crate) fn write_track<P: Plant>(
+    p: &mut P,
+    device: DeviceId,
+    carried: Option<(u16, Block)>,
+) -> Result<(), Stopped>
+    requires device { device.0 < (P.state p.old).count }
+    requires track { IfSome carried (λ t. (t.0 < 256) × (13 + t.0 < (P.state p.old).size device.0)) }
+    ensures { after_writes (P.state p.old) device.0 (track_writes carried) ≡ (P.state p.new, is_err result) }
+{
+    match &carried {
+        Some(track) => p.write(device, FIRST_TRACK + track.0, &track.1),
+        None => Ok(()),
+    }
+}

@@ -1,0 +1,29 @@
+//! Where a volume of the configuration lies.
+
+ghost use Rattle.std.specs.Prelude.{IsSome};
+ghost use Rattle.dr_config.specs.Table.{place_of};
+ghost use Rattle.dr_volume.specs.Volume.{LiesOn};
+
+use dr_config::Config;
+use dr_ids::VolumeId;
+use dr_plant::DeviceId;
+
+/// The block of a device in which track 0 lies, behind the gate and the two slots.
+pub(crate) const FIRST_TRACK: u16 = 13;
+
+// Where a volume lies: its device, and how many tracks it has.
+#[derive(Clone, Copy)]
+pub(crate) struct Place {
+    pub(crate) device: DeviceId,
+    pub(crate) tracks: u16,
+}
+
+pub(crate) fn find(c: &Config, v: VolumeId) -> Place
+    requires { IsSome (place_of c.now v.0) }
+    ensures { LiesOn c.now v.0 result.device.0 result.tracks }
+{
+    Place {
+        device: c.device_of(v).unwrap(),
+        tracks: c.tracks_of(v).unwrap(),
+    }
+}
