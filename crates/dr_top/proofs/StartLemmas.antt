@@ -146,12 +146,12 @@ module _ (s : PlantState) (t : Table) (h : Host) (ev : List Event) (v server pla
           ∙ ap (λ q. (record (here s' t h ev) { events = ev ++ Stopped q 0 ∷ [] }, Some q)) own
           ∙ ap (λ es. (here s' t h es, Some server)) (sym told)) refl)
       | inr x ↦ ends-off (armed_in s) (here s' t h mid) (Some (stopped server)) w (redo_from t server place) (record {
-          server = server;
-          on = on-running s server on;
-          is_armed = x.is_armed;
-          world = ap (here s' t h) told ∙ ap (λ (y : World). record y { events = ev ++ Stopped server 0 ∷ [] }) x.world;
-          refusal = refl;
-        })
+        server = server;
+        on = on-running s server on;
+        is_armed = x.is_armed;
+        world = ap (here s' t h) told ∙ ap (λ (y : World). record y { events = ev ++ Stopped server 0 ∷ [] }) x.world;
+        refusal = refl;
+      })
     ]
 
 -- what is settled on the way

@@ -1,17 +1,17 @@
-use Rattle.std.proofs.Common.{◌≡◌, ◌∷◌, [], ◌++◌, ◌∙◌, sym, ap, subst, refl, inl, inr, not, true, false, Some, None}
+use Rattle.std.proofs.Common.{◌≡◌, ◌∷◌, [], ◌++◌, ◌∙◌, sym, ap, refl, inl, inr, not, false, Some, None}
 use Rattle.std.specs.Prelude.{filter, if◌then◌else◌}
 use mathlib.Core.Bool.{beq}
 use Rattle.dr_model.specs.declared.event.Event.TheVariants.{Stopped}
 use Rattle.dr_model.specs.Refusals.{stopped}
 use Rattle.dr_model.specs.Control.{World, Pending}
 use Rattle.dr_model.specs.Moves.{Land, is_other}
-use Rattle.dr_model.specs.Carry.{now, cut_short, Make}
+use Rattle.dr_model.specs.Carry.{now, Make}
 use Rattle.dr_model.specs.ReadStops.{shut}
 use Rattle.dr_model.proofs.CarryLemmas.{act-move}
 use Rattle.dr_laws.proofs.ReadStops.{ends-goes, ends-stops, ends-none, ends-off}
 use Rattle.dr_volume.specs.View.{world, control_seen, volume_seen, on_seen}
 use Rattle.dr_top.specs.Here.{here, rest_of, waiting_seen, armed_in}
-use Rattle.dr_top.proofs.TurnLemmas.{turn-goes, turn-stops, done-by_slot, pending-none, cut_short-one, differ, differ_same, not_beq, on-running, Landing, failed-not}
+use Rattle.dr_top.proofs.TurnLemmas.{turn-goes, turn-stops, done-by_slot, pending-none, cut_short-one, differ, differ_same, not_beq, on-running, failed-not}
 use Rattle.dr_top.proofs.machine.land_pending.Goals as goal
 
 pub land-requires-clause-running : goal.land-requires-clause-running
@@ -51,10 +51,10 @@ returns-in-Err-clause-carried g c =
     let p : Pending = record { w = host.issued; volume = at.volume.0; track = at.track; landed = false } in
     let landed = not (beq c.slot.result c.slot-before.result) in
     let by_slot : (x : World) → world s1 t r ≡ x → differ (x.control.volume at.volume.0).slot (volume_seen s0 t at.volume.0).slot ≡ landed = (λ x is.
-        ap (λ (x : World). differ (x.control.volume at.volume.0).slot (volume_seen s0 t at.volume.0).slot) (sym is)
-        ∙ ap (λ b. differ b (volume_seen s0 t at.volume.0).slot) (sym c.slot.ensures)
-        ∙ ap (differ c.slot.result) (sym c.slot-before.ensures)
-        ∙ sym (not_beq c.slot.result c.slot-before.result)) in
+    ap (λ (x : World). differ (x.control.volume at.volume.0).slot (volume_seen s0 t at.volume.0).slot) (sym is)
+    ∙ ap (λ b. differ b (volume_seen s0 t at.volume.0).slot) (sym c.slot.ensures)
+    ∙ ap (differ c.slot.result) (sym c.slot-before.ensures)
+    ∙ sym (not_beq c.slot.result c.slot-before.result)) in
     let on = ap (on_seen s0) c.requires.server ∙ on-running s0 at.server.0 c.requires.running in
     let m = Land host.issued at.volume.0 at.track in
     let told = ap (λ k. events ++ Stopped at.server.0 k ∷ []) (sym c.write_in_stop.ensures) ∙ sym c.push-in-Err.ensures.events in
