@@ -1,9 +1,6 @@
 -- What a line comes to.
-use Rattle.std.proofs.Common.{ℕ, ◌≡◌, List, [], ◌∷◌, ◌++◌, refl, ap, ◌∙◌, sym, subst, true, false, cond, Some, Option, Result, Ok, Err}
+use Rattle.std.proofs.Common.{ℕ, ◌≡◌, List, [], ◌∷◌, ◌++◌, refl, ap, ◌∙◌, sym, true, false, cond, Option, Result, Ok, Err}
 use Rattle.std.specs.Prelude.{OnOk}
-use Rattle.dr_ids.specs.declared.refusal.Fault.{Fault}
-use Rattle.dr_ids.specs.declared.refusal.Fault.TheVariants.{NoMemory, Refused as FaultRefused}
-use Rattle.dr_ids.specs.declared.refusal.Refusal.{Refusal}
 use Rattle.dr_ids.specs.declared.refusal.Refusal.TheVariants.{NotBuilt}
 use Rattle.dr_plant.specs.State.{PlantState}
 use Rattle.dr_config.specs.Table.{Table}
@@ -12,7 +9,6 @@ use Rattle.dr_model.specs.declared.step.Name.{Name}
 use Rattle.dr_model.specs.declared.step.Step.{Step}
 use Rattle.dr_model.specs.declared.step.Step.TheVariants.{Server, Volume, Write, Show, Stop, StopAfter, Start}
 use Rattle.dr_model.specs.declared.step.TornWord.{TornWord}
-use Rattle.dr_model.specs.declared.said.Addition.{Addition}
 use Rattle.dr_model.specs.declared.said.Said.{Said}
 use Rattle.dr_model.specs.declared.said.Said.TheVariants.{Refused}
 use Rattle.dr_model.specs.Answers.{answer}
@@ -21,7 +17,7 @@ use Rattle.dr_model.specs.Lines.{words, step_words, is_no_step, tasks_of}
 use Rattle.dr_model.specs.Plans.{refuses, plan_of}
 use Rattle.dr_model.specs.Runs.{Task, after_plan, after_task, after_tasks, said}
 use Rattle.dr_model.proofs.CarryLemmas.{plan-refuses}
-use Rattle.dr_top.specs.Here.{here, said_of, widened, OnAnswer, OnNoMemory}
+use Rattle.dr_top.specs.Here.{here}
 use Rattle.dr_top.specs.declared.host.Host.{Host}
 
 -- an answer that the journal was told

@@ -1,5 +1,5 @@
 -- How a landing ends: at a read that failed, or by the update of its volume.
-use Rattle.std.proofs.Common.{ℕ, ◌≡◌, ◌≢◌, ◌≤◌, ◌<◌, ◌⊎◌, inl, inr, Bool, true, false, ◌&&◌, List, refl, sym, ◌∙◌, ap, subst, nat_lt, arith, Option, None, Some}
+use Rattle.std.proofs.Common.{ℕ, ◌≡◌, ◌≤◌, ◌<◌, ◌⊎◌, inl, inr, Bool, true, false, ◌&&◌, List, refl, sym, ◌∙◌, ap, subst, nat_lt, arith, Option, None, Some}
 use Rattle.std.specs.Prelude.{is_some, if◌then◌else◌, Result, Ok, Err, is_err}
 use Rattle.std.specs.Result.{IsErrAnd}
 use Rattle.dr_model.specs.declared.said.Addition.{Addition}
@@ -21,7 +21,7 @@ use Rattle.dr_volume.specs.View.{Rest, world, volume_seen, device_of, IsSettled,
 use Rattle.dr_volume.specs.Update.{IsAsBefore, IsMoved, OthersStay, EndsAs, after_reading}
 use Rattle.dr_volume.proofs.UnreadLaws.{Unread, unread, armed-of, lies-low}
 use Rattle.dr_top.specs.Here.{IsAtRest, IsReady, armed_in, said_of, refusal_of}
-use Rattle.dr_top.specs.Landing.{Shuts, LandsAs}
+use Rattle.dr_top.specs.Landing.{LandsAs}
 
 pub is-armed : (s : PlantState) (server : ℕ) → server < 8 → is_some (s.read_fuse server) ≡ true → armed_in s server ≡ true
 is-armed s server low armed = (λ i. lt_true server 8 low i && armed i)

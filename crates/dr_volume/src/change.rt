@@ -1,9 +1,7 @@
 //! Changing a volume: one move writes its record and a track, done or not done as a whole.
 
-ghost use Rattle.std.specs.Prelude.{◌≡◌, ◌≢◌, ℕ, ◌<◌, ◌+◌, not, false, None, IsSome, IfSome, OnOk, OnErr, is_err, ◌⊎◌};
+ghost use Rattle.std.specs.Prelude.{◌≡◌, ◌≢◌, ℕ, ◌<◌, not, false, None, IsSome, IfSome, OnOk, OnErr, is_err, ◌⊎◌};
 ghost use Rattle.dr_plant.specs.State.{risen};
-ghost use Rattle.dr_record.specs.Writes.{IsDevice, after_writes};
-ghost use Rattle.dr_record.specs.Slots.{slot_of};
 ghost use Rattle.dr_config.specs.Table.{StandsFor, place_of};
 ghost use Rattle.dr_model.specs.Carry as machine;
 ghost use Rattle.dr_model.specs.Lawful.{IsLawful};

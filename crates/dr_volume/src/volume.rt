@@ -1,11 +1,10 @@
 //! Reading a volume of the configuration from a plant.
 
-ghost use Rattle.std.specs.Prelude.{◌≡◌, ◌≤◌, ◌<◌, ◌+◌, IsSome, IfOk, OnOk, is_ok};
+ghost use Rattle.std.specs.Prelude.{◌≡◌, ◌<◌, IsSome, IfOk, OnOk, is_ok};
 ghost use Rattle.dr_plant.specs.State.{after_read, can_read};
 ghost use Rattle.dr_config.specs.Table.{StandsFor, place_of};
-ghost use Rattle.dr_model.specs.Layout as layout;
 ghost use Rattle.dr_volume.specs.View.{volume_seen, track_seen, device_of};
-ghost use Rattle.dr_volume.specs.Volume.{LiesOn, Shows};
+ghost use Rattle.dr_volume.specs.Volume.{Shows};
 
 use crate::blocks::slot_begin;
 use crate::fields::Fields;

@@ -1,7 +1,7 @@
-use Rattle.std.proofs.Common.{ℕ, ◌≡◌, ◌<◌, List, ap, sym, subst, ◌∙◌, ◌||◌, nat_eq, inl, true, false, Some}
-use Rattle.std.specs.Prelude.{is_err, if◌then◌else◌}
+use Rattle.std.proofs.Common.{◌≡◌, ◌<◌, ap, sym, subst, ◌∙◌, ◌||◌, nat_eq, inl, true, false, Some}
+use Rattle.std.specs.Prelude.{is_err}
 use Rattle.std.specs.FinSet.{contains, remove}
-use Rattle.dr_plant.specs.State.{PlantState, after_read, can_read}
+use Rattle.dr_plant.specs.State.{PlantState, can_read}
 use Rattle.dr_config.specs.Table.{StandsFor}
 use Rattle.dr_model.specs.Contents.{laid}
 use Rattle.dr_model.specs.Lawful.{IsLawful}
@@ -13,8 +13,8 @@ use Rattle.dr_volume.specs.Volume.{Shows}
 use Rattle.dr_volume.specs.Opened.{IsOpened}
 use Rattle.dr_volume.specs.View.{world, volume_seen, track_seen, device_of, IsSettled}
 use Rattle.dr_volume.specs.Update.{EndsAs}
-use Rattle.dr_top.specs.Here.{IsAtRest, armed_in}
-use Rattle.dr_top.specs.Landing.{LandsAs, filled}
+use Rattle.dr_top.specs.Here.{IsAtRest}
+use Rattle.dr_top.specs.Landing.{filled}
 use Rattle.dr_top.proofs.LandingLemmas.{covers-remove}
 use Rattle.dr_top.proofs.LandLemmas.{left-unread, lands-unread, unread-rest, own-read, own-done, updated-rest}
 use Rattle.dr_top.proofs.landing.land.Goals as goal

@@ -1,17 +1,17 @@
-use Rattle.std.proofs.Common.{◌≡◌, ◌∷◌, [], ◌++◌, ◌∙◌, sym, ap, subst, refl, inl, inr, not, true, false, Some, None}
+use Rattle.std.proofs.Common.{◌≡◌, ◌∷◌, [], ◌++◌, ◌∙◌, sym, ap, refl, inl, inr, not, false, Some, None}
 use Rattle.std.specs.Prelude.{filter, if◌then◌else◌}
 use mathlib.Core.Bool.{beq}
 use Rattle.dr_model.specs.declared.event.Event.TheVariants.{Stopped}
 use Rattle.dr_model.specs.Refusals.{stopped}
 use Rattle.dr_model.specs.Control.{World, Pending}
 use Rattle.dr_model.specs.Moves.{Land, is_other}
-use Rattle.dr_model.specs.Carry.{now, cut_short, Make}
+use Rattle.dr_model.specs.Carry.{now, Make}
 use Rattle.dr_model.specs.ReadStops.{shut}
 use Rattle.dr_model.proofs.CarryLemmas.{act-move}
 use Rattle.dr_laws.proofs.ReadStops.{ends-goes, ends-stops, ends-none, ends-off}
 use Rattle.dr_volume.specs.View.{world, control_seen, volume_seen, on_seen}
 use Rattle.dr_top.specs.Here.{here, rest_of, waiting_seen, armed_in}
-use Rattle.dr_top.proofs.TurnLemmas.{turn-goes, turn-stops, done-by_slot, pending-none, cut_short-one, differ, differ_same, not_beq, on-running, Landing, failed-not}
+use Rattle.dr_top.proofs.TurnLemmas.{turn-goes, turn-stops, done-by_slot, pending-none, cut_short-one, differ, differ_same, not_beq, on-running, failed-not}
 use Rattle.dr_top.proofs.machine.land_pending.Goals as goal
 
 pub land-requires-clause-running : goal.land-requires-clause-running

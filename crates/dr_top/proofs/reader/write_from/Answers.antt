@@ -1,6 +1,5 @@
-use Rattle.std.proofs.Common.{ap, ◌∙◌, Some, None, cond, Option, ℕ, sym}
+use Rattle.std.proofs.Common.{ap, ◌∙◌, Some, None, cond}
 use Rattle.dr_ids.specs.Spelling.{number_word}
-use Rattle.dr_model.specs.declared.step.Step.{Step}
 use Rattle.dr_model.specs.Lines.{lies_in_track, write_of}
 use Rattle.dr_model.specs.LineWords.{decimal_word, ◌>>=◌}
 use Rattle.dr_top.proofs.reader.write_from.Goals as goal

@@ -1,14 +1,13 @@
-use Rattle.std.proofs.Common.{ℕ, ◌≡◌, ◌<◌, ap, sym, ◌∙◌, subst, ◌∷◌, [], Some, None, false, Option}
-use Rattle.dr_ids.specs.declared.refusal.Refusal.{Refusal}
+use Rattle.std.proofs.Common.{ap, sym, ◌∙◌, ◌∷◌, [], Some, false}
 use Rattle.dr_model.specs.declared.said.Said.TheVariants.{Done, Refused}
 use Rattle.dr_model.specs.declared.said.Addition.TheVariants.{Wrote}
 use Rattle.dr_model.specs.Refusals.{server_off}
 use Rattle.dr_model.specs.Moves.{Land}
-use Rattle.dr_model.specs.Carry.{now, carry, Outcome}
+use Rattle.dr_model.specs.Carry.{now, carry}
 use Rattle.dr_model.specs.Plans.{issue_plan}
 use Rattle.dr_model.specs.Runs.{after_plan, said}
 use Rattle.dr_model.specs.Histories.{histories, Write}
-use Rattle.dr_top.specs.Here.{here, refusal_of}
+use Rattle.dr_top.specs.Here.{here}
 use Rattle.dr_top.specs.declared.host.Pending.{Pending}
 use Rattle.dr_top.specs.declared.host.Host.{Host}
 use Rattle.dr_top.proofs.LandLemmas.{exact, failed-by}

@@ -1,4 +1,4 @@
-use Rattle.std.proofs.Common.{arith, sym, subst, ◌∙◌, ◌≤◌, ◌+◌, length, Some, None}
+use Rattle.std.proofs.Common.{arith, sym, subst, ◌∙◌, ◌≤◌, length, Some, None}
 use Rattle.dr_model.specs.ReadStops.{Ends}
 use Rattle.dr_laws.proofs.ReadStops.{ends-wider}
 use Rattle.dr_top.specs.Here.{here, armed_in}
