@@ -25,12 +25,6 @@ at_two_by P f g k x y q (inr not) here there = subst (λ b. P q (cond b x (f q))
 pub at_two : {X Y : Type 0} (P : ℕ → X → Y → Type 0) (f : ℕ → X) (g : ℕ → Y) (k : ℕ) (x : X) (y : Y) → P k x y → ((q : ℕ) → q ≢ k → P q (f q) (g q)) → (q : ℕ) → P q (at f k x q) (at g k y q)
 at_two P f g k x y here there q = at_two_by P f g k x y q (eqb_tells q k) here (there q)
 
-pub at_same : {X : Type 0} (f : ℕ → X) (k : ℕ) (x : X) → at f k x k ≡ x
-at_same f k x = at_cases (λ q y. q ≡ k → y ≡ x) f k x (λ e. refl) (λ q ne e. absurd (ne e)) k refl
-
-pub at_other : {X : Type 0} (f : ℕ → X) (k : ℕ) (x : X) (q : ℕ) → q ≢ k → at f k x q ≡ f q
-at_other f k x q = at_cases (λ q y. q ≢ k → y ≡ f q) f k x (λ ne. absurd (ne refl)) (λ q ne ne2. refl) q
-
 pub at_id : {X : Type 0} (f : ℕ → X) (k : ℕ) (q : ℕ) → at f k (f k) q ≡ f q
 at_id f k q = at_cases (λ q y. y ≡ f q) f k (f k) refl (λ q ne. refl) q
 

@@ -10,8 +10,8 @@ use Rattle.dr_model.specs.Histories.{Write, Histories, histories, after_event}
 use Rattle.dr_model.specs.Control.{Pending, Volume, World, is_volume, new_volume}
 use Rattle.dr_model.specs.Table.{Row, table, waiting, due_by}
 use Rattle.dr_model.specs.Laws.{SoundRows, Lawful, Unrelated, Numbered, Waits, AllPending, Lone, Together, servers, Sound}
-use Rattle.dr_model.proofs.Images.{histories-append}
-use Rattle.dr_laws.proofs.AtLemmas.{Told, at_other, each-at}
+use Rattle.dr_model.proofs.Images.{histories-append, at_other}
+use Rattle.dr_laws.proofs.AtLemmas.{Told, each-at}
 use Rattle.dr_laws.proofs.Sets.{if_false, false_true, none_some, no_source}
 use Rattle.dr_model.proofs.LawfulLemmas.{lawful-no_fields}
 use Rattle.dr_laws.proofs.KeepsQueue.{each-on, numbered-after}

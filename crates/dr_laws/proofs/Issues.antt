@@ -10,17 +10,11 @@ use Rattle.dr_model.specs.Moves.{is_write}
 use Rattle.dr_model.specs.Plans.{with_pending}
 use Rattle.dr_model.specs.Table.{table, waiting, due, due_by}
 use Rattle.dr_model.specs.Laws.{SoundRows, Below, Numbered, Waits, AllPending, Apart, Lone, Together, servers, Sound}
-use Rattle.dr_model.proofs.Images.{histories-append, image-issue}
-use Rattle.dr_laws.proofs.AtLemmas.{at_same, at_other}
+use Rattle.dr_model.proofs.Images.{histories-append, image-issue, at_same, at_other, Below-append, Below-more}
 use Rattle.dr_laws.proofs.Sets.{false_true}
-use Rattle.dr_laws.proofs.KeepsQueue.{below-append}
-
-below-more : (n m : ℕ) (xs : List ℕ) → n < m + 1 → Below n xs → Below m xs
-below-more n m [] lt p = tt
-below-more n m (x ∷ xs) lt p = ((let h = p.0 in omega arith), below-more n m xs lt p.1)
 
 pub numbered-more : (n m : ℕ) (h : Histories) → n < m + 1 → Numbered n h → Numbered m h
-numbered-more n m h lt low = record { now = λ v t. below-more n m (h.now v t) lt (low.now v t); aside = λ v t. below-more n m (h.aside v t) lt (low.aside v t) }
+numbered-more n m h lt low = record { now = λ v t. Below-more n m (h.now v t) lt (low.now v t); aside = λ v t. Below-more n m (h.aside v t) lt (low.aside v t) }
 
 module _ (w : World) (s : Sound w) (v t offset len : ℕ) (bytes : List ℕ) (defined : is_volume w.control v ≡ true) where
   abbrev n : ℕ
@@ -60,7 +54,7 @@ module _ (w : World) (s : Sound w) (v t offset len : ℕ) (bytes : List ℕ) (de
   same-due u q =
       ap (λ h. due_by h (ps ++ new ∷ []) u q) issued-lists
       ∙ ap (λ ws. image (at h.write n written) (h.now u q ++ ws)) (waiting-new u q ps)
-      ∙ image-issue h.write n written (h.now u q ++ waiting ps u q) (below-append n (h.now u q) _ (s.queue.numbers.now u q) (low-waiting u q ps s.queue.each))
+      ∙ image-issue h.write n written (h.now u q ++ waiting ps u q) (Below-append n (h.now u q) _ (s.queue.numbers.now u q) (low-waiting u q ps s.queue.each))
 
   same-table : table issued ≡ table w
   same-table = λ i u. record { defined = is_volume w.control u; volume = w.control.volume u; bytes = w.contents u; due = λ q. same-due u q i }

@@ -10,13 +10,9 @@ use Rattle.dr_model.specs.Control.{Control, Pending, Fuse, Volume, World, is_vol
 use Rattle.dr_model.specs.Moves.{Move, Land, target, told, told_in_stop, settled, settled_in_stop, is_write, is_other, marked, landed}
 use Rattle.dr_model.specs.Laws.{Lone, Together, servers, Below, Numbered, Queue, Waits, AllPending, Apart, is_at}
 use Rattle.dr_model.specs.Allowed.{Coming, Ready}
-use Rattle.dr_model.proofs.Images.{histories-append}
-use Rattle.dr_laws.proofs.AtLemmas.{at_cases, at_same, at2_at}
+use Rattle.dr_model.proofs.Images.{histories-append, at_same, Below-append}
+use Rattle.dr_laws.proofs.AtLemmas.{at_cases, at2_at}
 use Rattle.dr_laws.proofs.Turns.{done, done_in_stop}
-
-pub below-append : (n : ℕ) (xs ys : List ℕ) → Below n xs → Below n ys → Below n (xs ++ ys)
-below-append n [] ys p q = q
-below-append n (x ∷ xs) ys p q = (p.0, below-append n xs ys p.1 q)
 
 -- an event that issues no write, and adds none from n on to a list
 abbrev pub Quiet : ℕ → Event → Type 0
@@ -41,8 +37,8 @@ low-place n lists v t l here low = subst (Low n) (sym (at2_at lists v t l)) (low
 pub numbered-after : (n : ℕ) (h : Histories) (e : Event) → Quiet n e → Numbered n h → Numbered n (after_event h e)
 numbered-after n h (VolumeDefined v server tracks) quiet low = record { now = low-row n h.now v (λ t. []) (λ t. tt) low.now; aside = low.aside }
 numbered-after n h (Issue w v t offset len bytes) quiet low = absurd quiet
-numbered-after n h (Ack w) quiet low = record { now = low-place n h.now _ _ _ (below-append n _ (w ∷ []) (low.now _ _) (quiet, tt)) low.now; aside = low.aside }
-numbered-after n h (Mirrored w v) quiet low = record { now = low-place n h.now v _ _ (below-append n _ (w ∷ []) (low.now _ _) (quiet, tt)) low.now; aside = low.aside }
+numbered-after n h (Ack w) quiet low = record { now = low-place n h.now _ _ _ (Below-append n _ (w ∷ []) (low.now _ _) (quiet, tt)) low.now; aside = low.aside }
+numbered-after n h (Mirrored w v) quiet low = record { now = low-place n h.now v _ _ (Below-append n _ (w ∷ []) (low.now _ _) (quiet, tt)) low.now; aside = low.aside }
 numbered-after n h (Sent v t to) quiet low = record { now = low-place n h.now to t _ (low.now v t) low.now; aside = low.aside }
 numbered-after n h (Flashed session k a b c) quiet low = record { now = low-row n h.now c (h.now b) (low.now b) low.now; aside = low-row n h.aside c (h.now c) (low.now c) low.aside }
 numbered-after n h (Committed session k a c) quiet low = record { now = low.now; aside = low-row n h.aside c (λ t. []) (λ t. tt) low.aside }

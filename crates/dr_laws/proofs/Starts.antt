@@ -17,8 +17,8 @@ use Rattle.dr_model.specs.Runs.{begun}
 use Rattle.dr_model.specs.Table.{table, waiting, due, due_by}
 use Rattle.dr_model.specs.Laws.{SoundRows, Sound, SoundBut, Waits, AllPending, Apart, Lone, Together, servers, Numbered}
 use Rattle.dr_model.specs.Allowed.{Runs}
-use Rattle.dr_model.proofs.Images.{histories-append}
-use Rattle.dr_laws.proofs.AtLemmas.{at_cases, at_same, at_other}
+use Rattle.dr_model.proofs.Images.{histories-append, at_same, at_other}
+use Rattle.dr_laws.proofs.AtLemmas.{at_cases}
 use Rattle.dr_laws.proofs.Sets.{if_false, if_true}
 use Rattle.dr_laws.proofs.Turns.{after_act, not_done, place, server_of, Writes}
 use Rattle.dr_laws.proofs.Due.{acked_lists}

@@ -8,6 +8,7 @@ use Rattle.std.specs.List.{list_any, find, position_or_len}
 use Rattle.std.specs.Option.{unwrap_or}
 use Rattle.std.proofs.lemmas.List.{length-map}
 use Rattle.dr_model.specs.Fits.{device_of}
+use Rattle.dr_bits.specs.Membership.{lt_true, lt_false}
 use Rattle.dr_plant.specs.State.{PlantState}
 use Rattle.dr_config.specs.Table.{Table, place_of, entry_of}
 use Rattle.dr_config.specs.declared.entries.VolumeEntry.{VolumeEntry}
@@ -68,12 +69,6 @@ mapped_none f (Some x) e = cc
 pub mapped_some : {A B : Type 0} (f : A → B) (o : Option A) (y : B) → Some y ≡ option_map f o → (x : A) × (o ≡ Some x) × (f x ≡ y)
 mapped_some f None y e = cc
 mapped_some f (Some x) y e = (x, refl, cc)
-
-lt_true : (a b : ℕ) → a < b → nat_lt a b ≡ true
-lt_true a b h = grind (arith, nat_tests)
-
-lt_false : (a b : ℕ) → b ≤ a → nat_lt a b ≡ false
-lt_false a b h = grind (arith, nat_tests)
 
 -- the track is there
 pub located-some : (t : Table) (v k : ℕ) (tracks : ℕ) (server : ServerId) → Some tracks ≡ option_map (λ (e : VolumeEntry). e.tracks) (entry_of t v) → Some server.0 ≡ option_map (λ (e : VolumeEntry). e.server) (entry_of t v)
