@@ -1,11 +1,11 @@
 -- When a table stands for the devices of a plant.
-use Rattle.std.proofs.Common.{◌≡◌, ℕ, ◌+◌, ◌<◌, true, false, inl, inr, List, [], ◌∷◌, Some, refl, sym, ◌∙◌, ap, subst, arith, eqb, length-append}
+use Rattle.std.proofs.Common.{◌≡◌, ℕ, ◌+◌, ◌<◌, Bool, true, false, inl, inr, List, [], ◌∷◌, Some, refl, sym, ◌∙◌, ap, subst, arith, eqb, length-append}
 use Rattle.std.proofs.lemmas.Option.{same_Some, slice_get_within}
 use Rattle.std.proofs.lemmas.Bool.Decides.{Decides-eqb, nat_tests}
 use Rattle.dr_plant.specs.State.{PlantState, with_device, at}
 use Rattle.dr_config.specs.declared.entries.VolumeEntry.{VolumeEntry}
 use Rattle.dr_config.specs.Table.{Table, place_of, entry_of, StandsFor}
-use Rattle.dr_config.specs.Rules.{with_server, with_volume}
+use Rattle.dr_config.specs.Rules.{with_server, with_volume, with_link}
 use Rattle.dr_config.proofs.Lists.{element-of-push}
 use Rattle.dr_config.proofs.Lookups.{entry-at-place}
 
@@ -20,8 +20,8 @@ at-same : (f : ℕ → ℕ) (k x q : ℕ) → q ≡ k → at f k x q ≡ x
 at-same f k x q h = let e : eqb q k ≡ true = (Decides-eqb q k).1 h in rw e refl
 
 -- a table with no volumes stands for a plant with no devices
-pub stands-empty : (names : List (List ℕ)) (s : PlantState) → s.count ≡ 0 → StandsFor (record { names = names; volumes = [] }) s
-stands-empty names s h = record { count = h; device = λ d e p. absurd (cc) }
+pub stands-empty : (names : List (List ℕ)) (down : List (List Bool)) (s : PlantState) → s.count ≡ 0 → StandsFor (record { names = names; volumes = []; down = down }) s
+stands-empty names down s h = record { count = h; device = λ d e p. absurd (cc) }
 
 -- only the devices' owners and sizes matter
 pub stands-along : (t : Table) (s u : PlantState) → u.count ≡ s.count → u.owner ≡ s.owner → u.size ≡ s.size → StandsFor t s → StandsFor t u
@@ -43,6 +43,10 @@ device-of-volume t s v d e h place entry =
 -- one more server changes no device
 pub stands-with_server : (t : Table) (name : List ℕ) (s : PlantState) → StandsFor t s → StandsFor (with_server t name) s
 stands-with_server t name s h = record { count = h.count; device = h.device }
+
+-- nor does a link that is set
+pub stands-with_link : (t : Table) (a b : ℕ) (up : Bool) (s : PlantState) → StandsFor t s → StandsFor (with_link t a b up) s
+stands-with_link t a b up s h = record { count = h.count; device = h.device }
 
 earlier : (s : PlantState) (server blocks d : ℕ) (e : VolumeEntry) → d < s.count → Matches s d e → Matches (with_device s server blocks) d e
 unfolding with_device

@@ -1,4 +1,7 @@
 pub mod Lists
+pub mod LinkLaws
+pub mod KeyLaws
 pub mod Lookups
 pub mod Sound
+pub mod KeptLaws
 pub mod Devices

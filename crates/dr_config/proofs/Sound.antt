@@ -1,5 +1,5 @@
--- What is true of every configuration stays true with one more server or volume.
-use Rattle.std.proofs.Common.{◌≡◌, ℕ, ◌<◌, ◌≤◌, Bool, true, false, cond, ◌||◌, inl, inr, List, [], ◌∷◌, length, slice_get, Option, Some, None, is_some, refl, sym, ◌∙◌, ap, subst, arith, eqb, leb, ltb, length-append}
+-- What is true of every configuration stays true with one more server or volume, and with a link set.
+use Rattle.std.proofs.Common.{◌≡◌, ℕ, ◌<◌, ◌≤◌, Bool, true, false, not, cond, ◌||◌, inl, inr, List, [], ◌∷◌, length, slice_get, Option, Some, None, is_some, refl, sym, ◌∙◌, ap, subst, arith, eqb, leb, ltb, length-append}
 use Rattle.std.specs.List.{find}
 use Rattle.std.specs.Option.{option_or}
 use Rattle.std.specs.Str.{bytes_eq}
@@ -7,14 +7,24 @@ use Rattle.std.proofs.lemmas.Slice.Eq.{bytes_eq-Decides}
 use Rattle.std.proofs.lemmas.Bool.Decides.{Decides-eqb, nat_tests}
 use Rattle.dr_ids.specs.declared.refusal.Refusal.{Refusal}
 use Rattle.dr_config.specs.declared.entries.VolumeEntry.{VolumeEntry}
-use Rattle.dr_config.specs.Table.{Table, server_named, place_of, entry_of, lss_of, lss_owner, IsName, IsServer, IsVolume, HasServer, IsSound}
-use Rattle.dr_config.specs.Rules.{is_foreign, server_refusal, volume_refusal, with_server, with_volume}
+use Rattle.dr_config.specs.Links.{none_down}
+use Rattle.dr_config.specs.Table.{Table, server_named, place_of, entry_of, lss_of, lss_owner, link_up, IsName, IsServer, IsVolume, HasServer, IsSound}
+use Rattle.dr_config.specs.Rules.{is_foreign, server_refusal, volume_refusal, with_server, with_volume, with_link}
+use Rattle.dr_config.proofs.LinkLaws.{link_up-with_link, square-with_link, square-none, none-down, joins-turned, joins-none}
 use Rattle.dr_config.proofs.Lists.{element-of-push, position-of-found, position-within}
 use Rattle.dr_config.proofs.Lookups.{place-of-entry, place-of-new, place-stays, lss_owner-with_volume, server_named-with_server}
 
--- a table with no servers and no volumes
-pub sound-empty : IsSound (record { names = []; volumes = [] })
-sound-empty = record { few_servers = omega arith; few_volumes = omega arith; server = λ k n h. absurd (cc); volume = λ d e h. absurd (cc) }
+-- a table with no servers and no volumes, and with all links up
+pub sound-empty : IsSound (record { names = []; volumes = []; down = none_down })
+sound-empty = record {
+  few_servers = omega arith;
+  few_volumes = omega arith;
+  server = λ k n h. absurd (cc);
+  volume = λ d e h. absurd (cc);
+  square = square-none;
+  both_ways = λ x y. ap not (none-down x y ∙ sym (none-down y x));
+  own_link = λ x. ap not (none-down x x);
+}
 
 two-tests : (a b : Bool) (w x : Refusal) → cond a (Some w) (cond b (Some x) None) ≡ None → (a ≡ false) × (b ≡ false)
 two-tests true b w x h = absurd (cc)
@@ -106,6 +116,9 @@ sound-with_volume t v server tracks low ok s =
             let Q : ℕ → Type 0 = λ k. IsVolume (with_volume t v server tracks) k e in
             subst P b.1 (subst Q (sym b.0) (last-volume t v server tracks low a)))
       ];
+      square = s.square;
+      both_ways = s.both_ways;
+      own_link = s.own_link;
     }
 
 earlier-server : (t : Table) (name : List ℕ) (k : ℕ) (n : List ℕ) → IsServer t k n → IsServer (with_server t name) k n
@@ -141,6 +154,26 @@ sound-with_server t name fits ok s =
             subst P b.1 (subst Q (sym b.0) (last-server t name fits a.0)))
       ];
       volume = λ d e h. moved-volume t name d e (s.volume d e h);
+      square = s.square;
+      both_ways = s.both_ways;
+      own_link = s.own_link;
+    }
+
+-- a link that is set between two servers that are defined
+pub sound-with_link : (t : Table) (a b : ℕ) (up : Bool) → a < length t.names → b < length t.names → (a ≡ b → ⊥) → IsSound t → IsSound (with_link t a b up)
+sound-with_link t a b up da db differ s =
+    let few : length t.names ≤ 8 = s.few_servers in
+    let la : a < 8 = omega arith in
+    let lb : b < 8 = omega arith in
+    let law = link_up-with_link t a b up s.square la lb in
+    record {
+      few_servers = s.few_servers;
+      few_volumes = s.few_volumes;
+      server = λ k n h. let q = s.server k n h in record { name = q.name; own = q.own };
+      volume = λ d e h. let q = s.volume d e h in record { server = q.server; some = q.some; most = q.most; own = q.own; lss = q.lss };
+      square = square-with_link t a b up la lb s.square;
+      both_ways = λ x y. law x y ∙ ((λ i. cond (joins-turned x y a b i) up (s.both_ways x y i)) ∙ sym (law y x));
+      own_link = λ x. law x x ∙ (ap (λ j. cond j up (link_up t x x)) (joins-none x a b differ) ∙ s.own_link x);
     }
 
 -- a server that a name gives is defined

@@ -1,4 +1,4 @@
--- When a server or a volume is refused, and what the table is with one more.
+-- When a server, a volume or a link is refused, and what the table is with one more, or with the link set.
 use Rattle.std.specs.Prelude.{ℕ, Bool, false, not, ◌==◌, ◌||◌, nat_le, nat_lt, List, [], ◌∷◌, ◌++◌, length, Option, Some, None, is_some, Result, Ok, Err, if◌then◌else◌}
 use Rattle.dr_ids.specs.declared.refusal.Refusal.{Refusal}
 use Rattle.dr_ids.specs.declared.refusal.Refusal.TheVariants.{Duplicate, Limit}
@@ -6,6 +6,7 @@ use Rattle.dr_ids.specs.declared.refusal.Kind.TheVariants as kind
 use Rattle.dr_ids.specs.declared.refusal.Which.TheVariants as limit
 use Rattle.dr_ids.specs.declared.refusal.Fault.{Fault}
 use Rattle.dr_ids.specs.declared.refusal.Fault.TheVariants.{NoMemory, Refused}
+use Rattle.dr_config.specs.Links.{set_between}
 use Rattle.dr_config.specs.Table.{Table, server_named, place_of, lss_owner, lss_of}
 
 -- Why a call was refused; none where it succeeded or had no memory.
@@ -41,3 +42,11 @@ with_server t name = record t { names = t.names ++ name ∷ [] }
 -- The table with one more volume.
 abbrev pub with_volume : Table → ℕ → ℕ → ℕ → Table
 with_volume t v server tracks = record t { volumes = t.volumes ++ (record { id = v; server = server; tracks = tracks }) ∷ [] }
+
+-- Why a link is refused: its ends are one server.
+abbrev pub link_refusal : ℕ → ℕ → Option Refusal
+link_refusal a b = if a == b then Some (Duplicate kind.Server) else None
+
+-- The table with the link between two servers set, in both directions.
+abbrev pub with_link : Table → ℕ → ℕ → Bool → Table
+with_link t a b up = record t { down = set_between t.down a b (not up) }

@@ -1,19 +1,16 @@
 -- What contracts see of a configuration, and what it says of servers, volumes and the devices below.
-use Rattle.std.specs.Prelude.{◌≡◌, ℕ, ◌+◌, ◌/◌, ◌<◌, ◌≤◌, ◌==◌, List, map, Vec, length, slice_get, Option, Some, option_map}
+use Rattle.std.specs.Prelude.{◌≡◌, ℕ, ◌+◌, ◌/◌, ◌<◌, ◌≤◌, ◌==◌, Bool, true, not, List, length, slice_get, Option, Some, option_map}
 use Rattle.std.specs.List.{position, find}
 use Rattle.std.specs.Str.{bytes_eq}
-use Rattle.std.specs.declared.alloc.Global.{Global}
 use Rattle.dr_plant.specs.State.{PlantState}
 use Rattle.dr_config.specs.declared.entries.VolumeEntry.{VolumeEntry}
+use Rattle.dr_config.specs.Links.{is_down, IsSquare}
 
--- The servers' names and the volumes, in order of definition.
+-- The servers' names and the volumes, in order of definition, and which links are down.
 pub record Table : Type 0 where
   pub names : List (List ℕ)
   pub volumes : List VolumeEntry
-
--- The bytes of each name.
-abbrev pub names_of : List (Vec ℕ Global) → List (List ℕ)
-names_of servers = map (λ (n : Vec ℕ Global). n.items) servers
+  pub down : List (List Bool)
 
 -- The number of the server of that name, which is its place.
 abbrev pub server_named : Table → List ℕ → Option ℕ
@@ -34,6 +31,10 @@ lss_of v = v / 256
 -- The server of the volumes of that logical subsystem, if it has any.
 abbrev pub lss_owner : Table → ℕ → Option ℕ
 lss_owner t l = option_map (λ (e : VolumeEntry). e.server) (find (λ (e : VolumeEntry). lss_of e.id == l) t.volumes)
+
+-- Whether the link from server x to server y is up; from or to no server of 0 to 7 it is.
+abbrev pub link_up : Table → ℕ → ℕ → Bool
+link_up t x y = not (is_down t.down x y)
 
 -- A name has 1 to 24 bytes.
 pub record IsName (n : List ℕ) : Type 0 where
@@ -60,6 +61,9 @@ pub record IsSound (t : Table) : Type 0 where
   pub few_volumes : length t.volumes ≤ 64
   pub server : (k : ℕ) (n : List ℕ) → slice_get t.names k ≡ Some n → IsServer t k n
   pub volume : (d : ℕ) (e : VolumeEntry) → slice_get t.volumes d ≡ Some e → IsVolume t d e
+  pub square : IsSquare t.down
+  pub both_ways : (x y : ℕ) → link_up t x y ≡ link_up t y x
+  pub own_link : (x : ℕ) → link_up t x x ≡ true
 
 -- The server is defined, and so one of the servers 0 to 7.
 pub record HasServer (t : Table) (s : ℕ) : Type 0 where

@@ -1,50 +1,57 @@
-ghost use Rattle.std.specs.Prelude.{◌≡◌, ℕ, ◌<◌, ◌≤◌, ◌+◌, [], length, slice_get, Some, OnOk, OnErr, IfOk, IfSome, option_map};
+ghost use Rattle.std.specs.Prelude.{◌≡◌, ℕ, ◌<◌, ◌≤◌, ◌+◌, [], true, length, slice_get, Some, OnOk, OnErr, IfOk, IfSome, option_map, if◌then◌else◌};
+ghost use Rattle.std.specs.Result.{result_err};
+ghost use Rattle.dr_ids.specs.Links.{joins};
 ghost use Rattle.dr_plant.specs.State.{with_device};
-ghost use Rattle.dr_config.specs.Table.{server_named, place_of, entry_of, lss_of, lss_owner, IsName, HasServer, IsSound, StandsFor};
-ghost use Rattle.dr_config.specs.Rules.{is_foreign, refusal_of, server_refusal, volume_refusal, with_server, with_volume};
+ghost use Rattle.dr_config.specs.Links.{none_down};
+ghost use Rattle.dr_config.specs.Table.{server_named, place_of, entry_of, lss_of, lss_owner, link_up, IsName, HasServer, IsSound, StandsFor};
+ghost use Rattle.dr_config.specs.Rules.{is_foreign, refusal_of, server_refusal, volume_refusal, link_refusal, with_server, with_volume, with_link};
 
 use crate::entries::{
-    VolumeEntry, entry_of_lss, entry_of_volume, lss_of, place_of_name, place_of_volume,
+    Names, VolumeEntry, Volumes, add_entry, add_name, entry_of_lss, entry_of_volume, lss_of,
+    place_of_name, place_of_volume,
 };
+use crate::links::{MOST_SERVERS, Rows, is_down, none_down, set_between};
 use dr_ids::{Fault, Kind, Lss, MAX_TRACKS, Refusal, ServerId, VolumeId, Which, blocks_of};
 use dr_plant::{DeviceId, Plant};
+use indexmap::{IndexMap, IndexSet};
 use std::alloc::Global;
 use std::marker::Model;
-
-/// How many servers a configuration has at most.
-const MOST_SERVERS: usize = 8;
 
 /// How many volumes a configuration has at most.
 const MOST_VOLUMES: usize = 64;
 
-/// Servers and volumes in order of definition. A server's number is its place, and the number of a
-/// volume's device is the volume's place.
+/// Servers and volumes in order of definition, and the links between the servers. A server's number is
+/// its place, and the number of a volume's device is the volume's place.
 #[derive(Drop)]
 pub struct Config {
     alloc: Global,
-    servers: Vec<Vec<u8>>,
-    volumes: Vec<VolumeEntry>,
+    servers: Names,
+    volumes: Volumes,
+    down: Rows,
 }
 
 impl Model for Config {
-    ghost use Rattle.dr_config.specs.Table.{Table, IsSound, names_of};
+    ghost use Rattle.dr_config.specs.Table.{Table};
+    ghost use Rattle.dr_config.specs.Kept.{table_of, IsKept};
 
     ghost Value = { Table };
 
-    ghost view = { λ c. record { names = names_of c.servers.items; volumes = c.volumes.items } };
+    ghost view = { λ c. table_of c.servers.keys c.volumes.entries c.down };
 
-    ghost invariant = { λ c. IsSound (record { names = names_of c.servers.items; volumes = c.volumes.items }) };
+    ghost invariant = { λ c. IsKept c.servers.keys c.volumes.entries c.down };
 }
 
 impl Config {
-    /// A configuration with no servers and no volumes.
+    /// A configuration with no servers and no volumes, and with all links up.
     pub fn new(alloc: Global) -> Self
-        ensures { result ≡ record { names = []; volumes = [] } }
+        ensures empty { result ≡ record { names = []; volumes = []; down = none_down } }
+        ensures links { (x y : ℕ) → link_up result x y ≡ true }
     {
         Config {
             alloc,
-            servers: Vec::new(alloc),
-            volumes: Vec::new(alloc),
+            servers: IndexSet::new(alloc),
+            volumes: IndexMap::new(alloc),
+            down: none_down(),
         }
     }
 
@@ -66,7 +73,7 @@ impl Config {
         let Ok(copy) = Vec::from_slice(self.alloc, name) else {
             return Err(Fault::NoMemory);
         };
-        let Ok(()) = self.servers.push(copy) else {
+        let Ok(()) = add_name(&mut self.servers, copy) else {
             return Err(Fault::NoMemory);
         };
         Ok(ServerId(number as u8))
@@ -106,12 +113,39 @@ impl Config {
         let Ok(device) = p.add_device(server.0, blocks_of(tracks)) else {
             return Err(Fault::NoMemory);
         };
-        let _pushed = self.volumes.push(VolumeEntry {
+        let entry = VolumeEntry {
             id: id.0,
             server: server.0,
             tracks,
-        });
+        };
+        add_entry(&mut self.volumes, entry);
         Ok(device)
+    }
+
+    /// The link between two servers is up or down from now on, in both directions. Refused where both are
+    /// the same server; then nothing has changed.
+    pub fn set_link(&mut self, a: ServerId, b: ServerId, up: bool) -> Result<(), Refusal>
+        requires first { a.0 < length self.old.names }
+        requires second { b.0 < length self.old.names }
+        ensures refused { result_err result ≡ link_refusal a.0 b.0 }
+        ensures set { OnOk result (self.new ≡ with_link self.old a.0 b.0 up) }
+        ensures links { OnOk result ((x y : ℕ) → link_up self.new x y ≡ (if joins x y a.0 b.0 then up else link_up self.old x y)) }
+        ensures same { OnErr result (self.new ≡ self.old) }
+    {
+        if a.0 == b.0 {
+            return Err(Refusal::Duplicate { kind: Kind::Server });
+        }
+        set_between(&mut self.down, usize::from(a.0), usize::from(b.0), !up);
+        Ok(())
+    }
+
+    /// Whether the link between two servers is up; from a server to itself it always is.
+    pub fn link_up(&self, a: ServerId, b: ServerId) -> bool
+        requires first { a.0 < length self.now.names }
+        requires second { b.0 < length self.now.names }
+        ensures { result ≡ link_up self.now a.0 b.0 }
+    {
+        !is_down(&self.down, usize::from(a.0), usize::from(b.0))
     }
 
     // Why a server of that name is refused, if it is.
@@ -163,6 +197,7 @@ impl Config {
     /// The number of the server of that name, if there is one.
     pub fn server_named(&self, name: &[u8]) -> Option<ServerId>
         ensures place { option_map (λ s. s.0) result ≡ server_named self.now name.now }
+        ensures sound { IsSound self.now }
         ensures defined { IfSome result (λ s. HasServer self.now s.0) }
     {
         let place = place_of_name(&self.servers, name)?;
@@ -211,7 +246,7 @@ impl Config {
         ensures value { option_map (λ v. v.0) result ≡ option_map (λ e. e.id) (slice_get self.now.volumes i) }
         ensures place { IfSome result (λ v. place_of self.now v.0 ≡ Some i) }
     {
-        let entry = self.volumes.get(i)?;
+        let (_, entry) = self.volumes.get_index(i)?;
         Some(VolumeId(entry.id))
     }
 

@@ -1,2 +1,4 @@
 pub mod Pieces
 pub mod Rises
+pub mod ReadingLemmas
+pub mod ReadingSteps

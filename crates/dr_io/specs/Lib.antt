@@ -1,2 +1,5 @@
 pub mod Faults
+pub mod Given
 pub mod Memory
+pub mod Lines
+pub mod Reading

@@ -1,7 +1,8 @@
-ghost use Rattle.std.specs.Prelude.{◌≡◌, ℕ, ◌<◌, ◌≤◌, ◌+◌, List, [], ◌++◌, length, take, None, Some, IfOk, OnErr, is_err, min, if◌then◌else◌};
-ghost use Rattle.dr_io.specs.Faults.{Rose};
+ghost use Rattle.std.specs.Prelude.{◌≡◌, false, ℕ, ◌<◌, ◌≤◌, List, [], ◌++◌, length, take, None, Some, IfOk, OnErr, is_err, min, if◌then◌else◌};
+ghost use Rattle.dr_io.specs.Faults.{Rose, takes_none};
 ghost use Rattle.dr_io.specs.Memory.{put_fails, accepted, after_put};
 
+use crate::copies::copy_at;
 use crate::counts::{count_if_none, listed, one_fault_more};
 use crate::streams::{Failed, Sink};
 use std::alloc::{AllocError, Global};
@@ -72,6 +73,7 @@ impl Sink for MemSink {
         ensures never_falls { self.old.faults ≤ self.new.faults }
         ensures rose { OnErr result (Rose self.old.faults self.new.faults) }
         ensures stuck { IfOk result (λ n. n ≡ 0 → 0 < length piece.now → Rose self.old.faults self.new.faults) }
+        ensures steady { IfOk result (λ n. takes_none (length piece.now) n ≡ false → self.new.faults ≡ self.old.faults) }
         ensures fails { is_err result ≡ put_fails self.old }
         ensures number { IfOk result (λ n. n ≡ accepted self.old (length piece.now)) }
         ensures state { self.new ≡ after_put self.old piece.now }
@@ -95,12 +97,4 @@ fn number_taken(is_stuck: bool, wanted: usize, room: usize) -> usize
     ensures { result ≡ (if is_stuck then 0 else min wanted room) }
 {
     if is_stuck { 0 } else { wanted.min(room) }
-}
-
-/// Copies the piece into the buffer, from `at` on.
-fn copy_at(buffer: &mut [u8], at: usize, piece: &[u8])
-    requires { at + length piece.now ≤ length buffer.old }
-    ensures { take (at + length piece.now) buffer.new ≡ take at buffer.old ++ piece.now }
-{
-    buffer[at..at + piece.len()].copy_from_slice(piece);
 }

@@ -61,6 +61,7 @@ impl Source for MemSource {
         ensures silent { Some self.old.left ≡ None → Some self.new.left ≡ None }
         ensures never_falls { self.old.faults ≤ self.new.faults }
         ensures rose { OnErr result (Rose self.old.faults self.new.faults) }
+        ensures steady { IfOk result (λ n. self.new.faults ≡ self.old.faults) }
         ensures fails { is_err result ≡ take_fails self.old }
         ensures number { IfOk result (λ n. n ≡ given self.old (length into.old)) }
         ensures filled { IfOk result (λ n. into.new ≡ take n self.old.left ++ drop n into.old) }

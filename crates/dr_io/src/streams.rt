@@ -1,7 +1,7 @@
-ghost use Rattle.std.specs.Prelude.{◌≡◌, ℕ, ◌<◌, ◌≤◌, ◌↔◌, List, [], ◌++◌, length, take, drop, Option, None, Some, IfOk, OnErr};
-ghost use Rattle.dr_io.specs.Faults.{Rose};
+ghost use Rattle.std.specs.Prelude.{◌≡◌, ℕ, ◌<◌, ◌≤◌, ◌↔◌, false, List, [], ◌++◌, length, take, drop, Option, None, Some, IfOk, OnErr};
+ghost use Rattle.dr_io.specs.Faults.{Rose, takes_none};
 
-/// A call that gave or took nothing; the stream has counted a fault.
+/// A call that failed; the stream has counted a fault.
 #[derive(Clone, Copy)]
 pub struct Failed;
 
@@ -14,7 +14,8 @@ pub trait Source {
     ghost faults: { Self → ℕ };
 
     /// Puts the next bytes at the front of `into` and says how many; 0 for an `into` that has room
-    /// is the end of the input. Fails where the input can't be read, and gives nothing then.
+    /// is the end of the input. Fails where the input can't be read, gives nothing then, and leaves
+    /// `into` as it was. The count of faults changes in these calls alone.
     fn take(&mut self, into: &mut [u8]) -> Result<usize, Failed>
         ensures count { IfOk result (λ n. n ≤ length into.old) }
         ensures within { IfOk result (λ n. (bytes : List ℕ) → left self.old ≡ Some bytes → n ≤ length bytes) }
@@ -24,7 +25,9 @@ pub trait Source {
         ensures failed { OnErr result (left self.new ≡ left self.old) }
         ensures silent { left self.old ≡ None → left self.new ≡ None }
         ensures never_falls { faults self.old ≤ faults self.new }
-        ensures rose { OnErr result (Rose (faults self.old) (faults self.new)) };
+        ensures rose { OnErr result (Rose (faults self.old) (faults self.new)) }
+        ensures steady { IfOk result (λ n. faults self.new ≡ faults self.old) }
+        ensures untouched { OnErr result (into.new ≡ into.old) };
 }
 
 /// A place that bytes are written to, one after the other.
@@ -35,8 +38,9 @@ pub trait Sink {
     // How often a call went wrong; the count stands still at 2^64 - 1.
     ghost faults: { Self → ℕ };
 
-    /// Takes bytes from the front of `piece` and says how many. Fails where they can't be written,
-    /// and has taken none then; taking none of a piece that isn't empty counts as a fault too.
+    /// Takes bytes from the front of `piece` and says how many. Fails where they can't be written;
+    /// a sink that tells its bytes has taken none then, and another may have taken a front of the
+    /// piece. Taking none of a piece that isn't empty counts as a fault too, and nothing else does.
     fn put(&mut self, piece: &[u8]) -> Result<usize, Failed>
         ensures count { IfOk result (λ n. n ≤ length piece.now) }
         ensures taken { IfOk result (λ n. (out : List ℕ) → written self.old ≡ Some out → written self.new ≡ Some (out ++ take n piece.now)) }
@@ -44,5 +48,6 @@ pub trait Sink {
         ensures silent { written self.old ≡ None → written self.new ≡ None }
         ensures never_falls { faults self.old ≤ faults self.new }
         ensures rose { OnErr result (Rose (faults self.old) (faults self.new)) }
-        ensures stuck { IfOk result (λ n. n ≡ 0 → 0 < length piece.now → Rose (faults self.old) (faults self.new)) };
+        ensures stuck { IfOk result (λ n. n ≡ 0 → 0 < length piece.now → Rose (faults self.old) (faults self.new)) }
+        ensures steady { IfOk result (λ n. takes_none (length piece.now) n ≡ false → faults self.new ≡ faults self.old) };
 }

@@ -1,5 +1,5 @@
 -- A volume is defined: it has tracks of zeros, and nothing changes for the others.
-use Rattle.std.proofs.Common.{ℕ, ◌≡◌, ◌≢◌, ◌+◌, inl, inr, refl, ap, sym, ◌∙◌, subst, Bool, true, false, cond, ◌&&◌, ◌||◌, nat_eq, List, [], ◌∷◌, ◌++◌, None}
+use Rattle.std.proofs.Common.{ℕ, ◌≡◌, ◌≢◌, ◌<◌, ◌+◌, inl, inr, refl, ap, sym, ◌∙◌, subst, Bool, true, false, cond, ◌&&◌, ◌||◌, nat_eq, List, [], ◌∷◌, ◌++◌, None}
 use Rattle.std.proofs.lemmas.Bool.Decides.{eqb_tells}
 use Rattle.std.proofs.lemmas.Bool.{false_from_ne_true, and_parts, eqb-true}
 use Rattle.std.specs.List.{list_any}
@@ -9,7 +9,7 @@ use Rattle.dr_model.specs.Contents.{image, zeros}
 use Rattle.dr_model.specs.Histories.{Write, Histories, histories, after_event}
 use Rattle.dr_model.specs.Control.{Pending, Volume, World, is_volume, new_volume}
 use Rattle.dr_model.specs.Table.{Row, table, waiting, due_by}
-use Rattle.dr_model.specs.Laws.{SoundRows, Lawful, Unrelated, Numbered, Waits, AllPending, Lone, Together, servers, Sound}
+use Rattle.dr_model.specs.Laws.{SoundRows, Lawful, Unrelated, Numbered, Waits, AllPending, Lone, Together, servers, sizes, Sound}
 use Rattle.dr_model.proofs.Images.{histories-append, at_other}
 use Rattle.dr_laws.proofs.AtLemmas.{Told, each-at}
 use Rattle.dr_laws.proofs.Sets.{if_false, false_true, none_some, no_source}
@@ -133,12 +133,16 @@ module _ (w : World) (s : Sound w) (v server tracks : ℕ) (undefined : is_volum
   same-server : (p : Pending) → Waits None w.control h.write p → servers with_volume.control p.volume ≡ servers w.control p.volume
   same-server p waits = ap (λ (x : Volume). x.server) (at_other w.control.volume v (new_volume server tracks) p.volume (elsewhere p waits))
 
+  same-size : (p : Pending) → Waits None w.control h.write p → sizes with_volume.control p.volume ≡ sizes w.control p.volume
+  same-size p waits = ap (λ (x : Volume). x.tracks) (at_other w.control.volume v (new_volume server tracks) p.volume (elsewhere p waits))
+
   waits-on : (p : Pending) → Waits None w.control h.write p → Waits None with_volume.control (histories with_volume.events).write p
   waits-on p waits =
       let same = ap (λ (h : Histories). h.write p.w) lists in
       record {
         number = waits.number;
         defined = any-more p.volume w.control.volumes ∙ ap (λ b. b || nat_eq p.volume v) waits.defined;
+        low = subst (λ n. p.track < n) (sym (same-size p waits)) waits.low;
         volume = ap (λ (x : Write). x.volume) same ∙ waits.volume;
         track = ap (λ (x : Write). x.track) same ∙ waits.track;
         calm = λ l f. ap w.control.on (same-server p waits) ∙ waits.calm l f;

@@ -16,7 +16,7 @@ use Rattle.dr_laws.proofs.Sets.{false_true}
 pub numbered-more : (n m : ℕ) (h : Histories) → n < m + 1 → Numbered n h → Numbered m h
 numbered-more n m h lt low = record { now = λ v t. Below-more n m (h.now v t) lt (low.now v t); aside = λ v t. Below-more n m (h.aside v t) lt (low.aside v t) }
 
-module _ (w : World) (s : Sound w) (v t offset len : ℕ) (bytes : List ℕ) (defined : is_volume w.control v ≡ true) where
+module _ (w : World) (s : Sound w) (v t offset len : ℕ) (bytes : List ℕ) (defined : is_volume w.control v ≡ true) (low : t < (w.control.volume v).tracks) where
   abbrev n : ℕ
   n = w.control.issued + 1
 
@@ -68,6 +68,7 @@ module _ (w : World) (s : Sound w) (v t offset len : ℕ) (bytes : List ℕ) (de
       record {
         number = let lt = waits.number in omega arith;
         defined = waits.defined;
+        low = waits.low;
         volume = ap (λ (x : Write). x.volume) same ∙ waits.volume;
         track = ap (λ (x : Write). x.track) same ∙ waits.track;
         calm = waits.calm;
@@ -78,6 +79,7 @@ module _ (w : World) (s : Sound w) (v t offset len : ℕ) (bytes : List ℕ) (de
     record {
       number = omega arith;
       defined = defined;
+      low = low;
       volume = ap (λ (x : Write). x.volume) issued-write;
       track = ap (λ (x : Write). x.track) issued-write;
       calm = λ l f. absurd (false_true refl l);

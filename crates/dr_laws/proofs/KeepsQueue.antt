@@ -8,7 +8,7 @@ use Rattle.dr_model.specs.Tables.{at, at2}
 use Rattle.dr_model.specs.Histories.{Lists, Write, Histories, histories, after_event}
 use Rattle.dr_model.specs.Control.{Control, Pending, Fuse, Volume, World, is_volume}
 use Rattle.dr_model.specs.Moves.{Move, Land, target, told, told_in_stop, settled, settled_in_stop, is_write, is_other, marked, landed}
-use Rattle.dr_model.specs.Laws.{Lone, Together, servers, Below, Numbered, Queue, Waits, AllPending, Apart, is_at}
+use Rattle.dr_model.specs.Laws.{Lone, Together, servers, sizes, Below, Numbered, Queue, Waits, AllPending, Apart, is_at}
 use Rattle.dr_model.specs.Allowed.{Coming, Ready}
 use Rattle.dr_model.proofs.Images.{histories-append, at_same, Below-append}
 use Rattle.dr_laws.proofs.AtLemmas.{at_cases, at2_at}
@@ -77,9 +77,9 @@ all-cut : (P : Pending → Type 0) (p : Pending) (b : Bool) (ps : List Pending) 
 all-cut P p true ps here all = (here, all)
 all-cut P p false ps here all = all
 
-pub all-filter : (P : Pending → Type 0) (m : ℕ) (ps : List Pending) → AllPending P ps → AllPending P (filter (is_other m) ps)
-all-filter P m [] all = tt
-all-filter P m (p ∷ ps) all = all-cut P p (is_other m p) _ all.0 (all-filter P m ps all.1)
+pub all-filter : (P : Pending → Type 0) (f : Pending → Bool) (ps : List Pending) → AllPending P ps → AllPending P (filter f ps)
+all-filter P f [] all = tt
+all-filter P f (p ∷ ps) all = all-cut P p (f p) _ all.0 (all-filter P f ps all.1)
 
 apart-cut : (p : Pending) (b : Bool) (ps : List Pending) → AllPending (λ q. q.w ≡ p.w → ⊥) ps → Apart ps → Apart (cond b (p ∷ ps) ps)
 apart-cut p true ps here all = (here, all)
@@ -87,7 +87,7 @@ apart-cut p false ps here all = all
 
 pub apart-filter : (m : ℕ) (ps : List Pending) → Apart ps → Apart (filter (is_other m) ps)
 apart-filter m [] all = tt
-apart-filter m (p ∷ ps) all = apart-cut p (is_other m p) _ (all-filter _ m ps all.0) (apart-filter m ps all.1)
+apart-filter m (p ∷ ps) all = apart-cut p (is_other m p) _ (all-filter _ (is_other m) ps all.0) (apart-filter m ps all.1)
 
 lone-cut : (server : ℕ → ℕ) (p : Pending) (b : Bool) (ps : List Pending) → AllPending (Together server p) ps → Lone server ps → Lone server (cond b (p ∷ ps) ps)
 lone-cut server p true ps here all = (here, all)
@@ -95,7 +95,7 @@ lone-cut server p false ps here all = all
 
 pub lone-filter : (server : ℕ → ℕ) (m : ℕ) (ps : List Pending) → Lone server ps → Lone server (filter (is_other m) ps)
 lone-filter server m [] all = tt
-lone-filter server m (p ∷ ps) all = lone-cut server p (is_other m p) _ (all-filter _ m ps all.0) (lone-filter server m ps all.1)
+lone-filter server m (p ∷ ps) all = lone-cut server p (is_other m p) _ (all-filter _ (is_other m) ps all.0) (lone-filter server m ps all.1)
 
 -- or is marked as landed
 abbrev mark : Bool → Pending → Pending
@@ -163,11 +163,12 @@ module _ (starts : Option ℕ) (w : World) (old : Queue starts w) where
   n = w.control.issued + 1
 
   pub waits-on : (k : Control) (write : ℕ → Write) → k.issued ≡ w.control.issued → k.volumes ≡ w.control.volumes → write ≡ (histories w.events).write
-      → ((v : ℕ) → servers k v ≡ servers w.control v) → ((j : ℕ) → w.control.on j ≡ false → k.on j ≡ false)
+      → ((v : ℕ) → servers k v ≡ servers w.control v) → ((v : ℕ) → sizes k v ≡ sizes w.control v) → ((j : ℕ) → w.control.on j ≡ false → k.on j ≡ false)
       → (p : Pending) → Waits starts w.control (histories w.events).write p → Waits starts k write p
-  waits-on k write issued volumes same server off p waits = record {
+  waits-on k write issued volumes same server size off p waits = record {
     number = subst (λ i. p.w < i + 1) (sym issued) waits.number;
     defined = subst (λ vs. is_volume (record w.control { volumes = vs }) p.volume ≡ true) (sym volumes) waits.defined;
+    low = subst (λ n. p.track < n) (sym (size p.volume)) waits.low;
     volume = ap (λ write. (write p.w).volume) same ∙ waits.volume;
     track = ap (λ write. (write p.w).track) same ∙ waits.track;
     calm = λ l f. ap k.on (server p.volume) ∙ off _ (waits.calm l (ap (is_at starts) (sym (server p.volume)) ∙ f));
@@ -188,11 +189,11 @@ module _ (starts : Option ℕ) (w : World) (old : Queue starts w) where
 
   -- the same queue, with servers that may have gone off
   pub queue-same : (k : Control) (es : List Event) (contents : ℕ → ℕ → List ℕ) → AllQuiet n es → k.pending ≡ w.control.pending → k.issued ≡ w.control.issued → k.volumes ≡ w.control.volumes
-      → ((v : ℕ) → servers k v ≡ servers w.control v) → ((j : ℕ) → w.control.on j ≡ false → k.on j ≡ false)
+      → ((v : ℕ) → servers k v ≡ servers w.control v) → ((v : ℕ) → sizes k v ≡ sizes w.control v) → ((j : ℕ) → w.control.on j ≡ false → k.on j ≡ false)
       → Queue starts (record { control = k; contents = contents; events = w.events ++ es })
-  queue-same k es contents quiet ps issued volumes server off =
+  queue-same k es contents quiet ps issued volumes server size off =
       queue-by k es contents quiet issued
-      (λ write same. subst (AllPending (Waits starts k write)) (sym ps) (each-on (waits-on k write issued volumes same server off) w.control.pending old.each))
+      (λ write same. subst (AllPending (Waits starts k write)) (sym ps) (each-on (waits-on k write issued volumes same server size off) w.control.pending old.each))
       (subst Apart (sym ps) old.apart) (subst (Lone (servers k)) (sym ps) (lone-on (servers w.control) (servers k) server w.control.pending old.lone))
 
   -- a write that is marked as landed is on a server that went off
@@ -201,7 +202,7 @@ module _ (starts : Option ℕ) (w : World) (old : Queue starts w) where
         → (AllPending (Coming v t) (filter (is_write m) ps) → AllPending (Waits starts k write) (marked m ps))
         → AllPending (Waits starts k write) (mark b p ∷ marked m ps)
     mark-waits p true ps coming waits more = let x = on p waits in
-        (record { number = x.number; defined = x.defined; volume = x.volume; track = x.track; calm = λ l f. ap (λ j. k.on (servers k j)) coming.0.volume ∙ off }, more coming.1)
+        (record { number = x.number; defined = x.defined; low = x.low; volume = x.volume; track = x.track; calm = λ l f. ap (λ j. k.on (servers k j)) coming.0.volume ∙ off }, more coming.1)
     mark-waits p false ps coming waits more = (on p waits, more coming)
 
     marks-wait : (ps : List Pending) → AllPending (Coming v t) (filter (is_write m) ps) → AllPending (Waits starts w.control (histories w.events).write) ps → AllPending (Waits starts k write) (marked m ps)
@@ -219,6 +220,10 @@ module _ (starts : Option ℕ) (w : World) (old : Queue starts w) where
   same-server : (m : Move) (f : Option Fuse) (v : ℕ) → servers (done w m f).control v ≡ servers w.control v
   same-server m f v = at_cases (λ v (x : Volume). x.server ≡ servers w.control v) w.control.volume (target m) _ refl (λ q ne. refl) v
 
+  -- and its size
+  same-size : (m : Move) (f : Option Fuse) (v : ℕ) → sizes (done w m f).control v ≡ sizes w.control v
+  same-size m f v = at_cases (λ v (x : Volume). x.tracks ≡ sizes w.control v) w.control.volume (target m) _ refl (λ q ne. refl) v
+
   pub goes-off : (on : ℕ → Bool) (s j : ℕ) → on j ≡ false → at on s false j ≡ false
   goes-off on s j h = at_cases (λ j b. on j ≡ false → b ≡ false) on s false (λ h. refl) (λ q ne h. h) j h
 
@@ -228,7 +233,7 @@ module _ (starts : Option ℕ) (w : World) (old : Queue starts w) where
   -- the pending writes of a world in which a move was done
   module _ (k : Control) (write : ℕ → Write) (on : (p : Pending) → Waits starts w.control (histories w.events).write p → Waits starts k write p) where
     settled-waits : (m : Move) → AllPending (Waits starts k write) (settled m w.control.pending)
-    settled-waits (Land i v t) = all-filter _ i _ (each-on on w.control.pending old.each)
+    settled-waits (Land i v t) = all-filter _ (is_other i) _ (each-on on w.control.pending old.each)
 
     stop-waits : (m : Move) → Ready w m → k.on (servers k (target m)) ≡ false → AllPending (Waits starts k write) (settled_in_stop m w.control.pending)
     stop-waits (Land i v t) ready off = marks-wait k write i v t off on w.control.pending ready.coming old.each
@@ -243,7 +248,7 @@ module _ (starts : Option ℕ) (w : World) (old : Queue starts w) where
   queue-done m f ready =
       let k : Control = (done w m f).control in
       queue-by k (told m (w.control.volume (target m))) (done w m f).contents (told-quiet m ready) refl
-      (λ write same. settled-waits k write (waits-on k write refl refl same (same-server m f) (λ j h. h)) m) (settled-apart m).0
+      (λ write same. settled-waits k write (waits-on k write refl refl same (same-server m f) (same-size m f) (λ j h. h)) m) (settled-apart m).0
       (lone-on (servers w.control) (servers k) (same-server m f) _ (settled-apart m).1)
 
   pub queue-stop : (m : Move) (f : Option Fuse) → Ready w m → Queue starts (done_in_stop w m f)
@@ -251,5 +256,5 @@ module _ (starts : Option ℕ) (w : World) (old : Queue starts w) where
       let k : Control = (done_in_stop w m f).control in
       let u : Volume = w.control.volume (target m) in
       queue-by k (told_in_stop m u ++ Stopped u.server (landed m) ∷ []) (done_in_stop w m f).contents (quiet-append n (told_in_stop m u) _ (stop-quiet m ready) (tt, tt)) refl
-      (λ write same. stop-waits k write (waits-on k write refl refl same (same-server m f) (goes-off w.control.on u.server)) m ready (off-here m f))
+      (λ write same. stop-waits k write (waits-on k write refl refl same (same-server m f) (same-size m f) (goes-off w.control.on u.server)) m ready (off-here m f))
       (stop-apart m ready).0 (lone-on (servers w.control) (servers k) (same-server m f) _ (stop-apart m ready).1)

@@ -43,22 +43,22 @@ module _ (starts : Option ℕ) where
     queue = queue-stop starts w s.queue m f may.ready;
   }
 
-  -- events that change no list, one server more, and servers that may have gone off
-  pub sound-told : (w : World) (servers : List (List ℕ)) (on : ℕ → Bool) (fuse : ℕ → Option Fuse) (es : List Event) → histories (w.events ++ es) ≡ histories w.events → AllQuiet (w.control.issued + 1) es
+  -- events that change no list, one server more, other links, and servers that may have gone off
+  pub sound-told : (w : World) (servers : List (List ℕ)) (on : ℕ → Bool) (fuse : ℕ → Option Fuse) (link : ℕ → ℕ → Bool) (es : List Event) → histories (w.events ++ es) ≡ histories w.events → AllQuiet (w.control.issued + 1) es
       → ((j : ℕ) → w.control.on j ≡ false → on j ≡ false) → SoundBut starts w
-      → SoundBut starts (record { control = record w.control { servers = servers; on = on; fuse = fuse }; contents = w.contents; events = w.events ++ es })
-  sound-told w servers on fuse es same quiet off s = record {
+      → SoundBut starts (record { control = record w.control { servers = servers; on = on; fuse = fuse; link = link }; contents = w.contents; events = w.events ++ es })
+  sound-told w servers on fuse link es same quiet off s = record {
     rows = rows-told w es same s.rows;
-    queue = queue-same starts w s.queue (record w.control { servers = servers; on = on; fuse = fuse }) es w.contents quiet refl refl refl (λ v. refl) off;
+    queue = queue-same starts w s.queue (record w.control { servers = servers; on = on; fuse = fuse; link = link }) es w.contents quiet refl refl refl (λ v. refl) (λ v. refl) off;
   }
 
   pub sound-not : (w : World) (x : ℕ) (f : Option Fuse) → SoundBut starts w → SoundBut starts (not_done w x f)
   sound-not w x f s =
-      sound-told w w.control.servers (at w.control.on x false) (at w.control.fuse x f) (Stopped x 0 ∷ []) (histories-append w.events (Stopped x 0 ∷ [])) (tt, tt) (goes-off starts w s.queue w.control.on x) s
+      sound-told w w.control.servers (at w.control.on x false) (at w.control.fuse x f) w.control.link (Stopped x 0 ∷ []) (histories-append w.events (Stopped x 0 ∷ [])) (tt, tt) (goes-off starts w s.queue w.control.on x) s
 
   pub sound-gone : (w : World) (x : ℕ) → SoundBut starts w → SoundBut starts (gone_off w x)
   sound-gone w x s =
-      sound-told w w.control.servers (at w.control.on x false) w.control.fuse (Stopped x 0 ∷ []) (histories-append w.events (Stopped x 0 ∷ [])) (tt, tt) (goes-off starts w s.queue w.control.on x) s
+      sound-told w w.control.servers (at w.control.on x false) w.control.fuse w.control.link (Stopped x 0 ∷ []) (histories-append w.events (Stopped x 0 ∷ [])) (tt, tt) (goes-off starts w s.queue w.control.on x) s
 
 -- what a plan's acts may be but where a server starts
 abbrev pub MayDo : World → Act → Type 0

@@ -1,4 +1,5 @@
 pub mod AtLemmas
+pub mod Cases
 pub mod Sets
 pub mod Turns
 pub mod Due
@@ -8,11 +9,13 @@ pub mod KeepsImages
 pub mod KeepsQueue
 pub mod Along
 pub mod KeepsSound
+pub mod Lands
 pub mod Issues
 pub mod Defines
 pub mod Starts
 pub mod Steps
 pub mod Journal
+pub mod Limits
 pub mod Texts
 pub mod Agree
 pub mod ReadStops

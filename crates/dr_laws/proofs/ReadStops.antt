@@ -89,8 +89,8 @@ module _ (armed more_armed : ℕ → Bool) (wider : (s : ℕ) → armed s ≡ tr
 rows-gone : (w : World) (s : ℕ) → SoundRows (table w) → SoundRows (table (gone_off w s))
 rows-gone w s r = rows-told w (Stopped s 0 ∷ []) (histories-append w.events (Stopped s 0 ∷ [])) r
 
-pub rows-ends : (armed : ℕ → Bool) (w u : World) (r : Option Refusal) (t : Task) → Sound w → let p : Plan = plan w.control w.events t.line t.step in Ends armed u r (begun w p) p.entries → SoundRows (table u)
+pub rows-ends : (armed : ℕ → Bool) (w u : World) (r : Option Refusal) (t : Task) → Sound w → let p : Plan = plan w.control w.events t.line t.asked in Ends armed u r (begun w p) p.entries → SoundRows (table u)
 rows-ends armed w u r t s e =
-    let p : Plan = plan w.control w.events t.line t.step in
-    let holds : StepHolds w p = step-holds w s t.line t.step in
+    let p : Plan = plan w.control w.events t.line t.asked in
+    let holds : StepHolds w p = step-holds w s t.line t.asked in
     along.ends-weaker holds.inner Sound RowsAt holds.may holds.within (λ v x. x.rows) holds.keeps armed (λ v x j on is. rows-gone v x (holds.within v j)) u r (begun w p) p.entries holds.begins holds.entries e

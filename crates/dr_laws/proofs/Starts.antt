@@ -157,6 +157,7 @@ module _ (s : ℕ) where
   waits-free k write p waits free = record {
     number = waits.number;
     defined = waits.defined;
+    low = waits.low;
     volume = waits.volume;
     track = waits.track;
     calm = λ l none. elim (eqb_tells s (servers k p.volume)) [
@@ -211,7 +212,7 @@ module _ (s : ℕ) where
     acknowledges = record {
       rows = subst SoundRows (λ i u. record (table w u) { due = λ q. sym (same-due u q) i }) j.rows;
       queue = record {
-        each = subst (λ (h : Histories). AllPending (Waits (Some s) w.control h.write) (filter (is_other p.w) ps)) (sym told) (all-filter _ p.w ps j.queue.each);
+        each = subst (λ (h : Histories). AllPending (Waits (Some s) w.control h.write) (filter (is_other p.w) ps)) (sym told) (all-filter _ (is_other p.w) ps j.queue.each);
         apart = apart-filter p.w ps j.queue.apart;
         lone = lone-filter (servers w.control) p.w ps j.queue.lone;
         numbers = subst (Numbered (w.control.issued + 1)) (sym (histories-append w.events (Ack p.w ∷ []))) (numbered-after (w.control.issued + 1) h (Ack p.w) waits.number j.queue.numbers);
@@ -257,6 +258,7 @@ module _ (s : ℕ) where
   starts-waits w x p waits = record {
     number = waits.number;
     defined = waits.defined;
+    low = waits.low;
     volume = waits.volume;
     track = waits.track;
     calm = λ l ne. at_other w.control.on s true (servers w.control p.volume) (λ e. false≢true (sym ne ∙ eq-eqb s (servers w.control p.volume) (sym e))) ∙ waits.calm l refl;

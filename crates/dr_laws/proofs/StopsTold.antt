@@ -1,20 +1,18 @@
 -- Where a step is refused because a server stopped, its acts told that stop, and the other way round.
-use Rattle.std.proofs.Common.{ℕ, ◌≡◌, List, [], ◌∷◌, ◌++◌, refl, ap, ◌∙◌, sym, append_assoc, Bool, true, false, cond, not, ◌&&◌, map, Option, Some, None, nat_lt, nat_le}
+use Rattle.std.proofs.Common.{ℕ, ◌≡◌, ◌+◌, List, [], ◌∷◌, ◌++◌, refl, ap, ◌∙◌, sym, append_assoc, Bool, true, false, cond, map, Option, Some, None, Result}
 use Rattle.std.proofs.lemmas.List.{append-nil}
 use Rattle.std.specs.Option.{option_or}
 use Rattle.dr_ids.specs.declared.refusal.Refusal.{Refusal}
-use Rattle.dr_ids.specs.declared.refusal.Refusal.TheVariants.{NotBuilt}
 use Rattle.dr_model.specs.declared.event.Event.{Event}
 use Rattle.dr_model.specs.declared.event.Event.TheVariants.{Ack, Stopped}
 use Rattle.dr_model.specs.declared.step.Step.{Step}
-use Rattle.dr_model.specs.declared.step.Step.TheVariants.{Server, Volume, Stop, StopAfter, Start, Write, Show}
-use Rattle.dr_model.specs.declared.step.TornWord.{TornWord}
 use Rattle.dr_model.specs.Refusals.{server_off}
 use Rattle.dr_model.specs.Control.{Control, Fuse, Volume as VolumeRow, World}
 use Rattle.dr_model.specs.Moves.{Move, Land, told, told_in_stop, landed, target}
 use Rattle.dr_model.specs.Carry.{Act, Make, Redo, Acknowledge, act, Turn, Next, Pass, Do, End, Entry, Outcome, carry, continue, go}
-use Rattle.dr_model.specs.Plans.{Plan, plan, server_named, name_bytes, server_done, volume_done, volume_on, issue_plan, show_done, show_plan, has_track, is_running, is_empty, stop_done, stop_on, arm_on, start_plan, start_on, refuses, redo_on, acknowledge_on, acknowledge_if, landed_on, belongs}
+use Rattle.dr_model.specs.Plans.{Plan, plan, landing, is_running, redo_on, acknowledge_on, acknowledge_if, landed_on, belongs}
 use Rattle.dr_laws.specs.Stops.{first_stop, stop_in, refused_stop, StopsTold}
+use Rattle.dr_laws.proofs.Cases.{Case, Says, Defines, Adds, Links, Issues, Writes, Applies, Shows, Stops, Arms, Starts, plan-case}
 use Rattle.dr_laws.proofs.Turns.{act-cases, Counts, after_act, server_of}
 
 first-append : (es fs : List Event) → first_stop (es ++ fs) ≡ option_or (first_stop es) (first_stop fs)
@@ -75,10 +73,6 @@ carry-tells w [] calm = record { events = []; told = sym (append-nil w.events); 
 carry-tells w (d ∷ ds) calm = go-tells w (d w.control) (λ v. carry v ds) (calm.0 w.control) (λ v. carry-tells v ds calm.1)
 
 -- the entries of every step are such
-choice : (b : Bool) (p q : Plan) → Unstopped p.entries → Unstopped q.entries → Unstopped (cond b p q).entries
-choice true p q yea nay = yea
-choice false p q yea nay = nay
-
 check-calm : (b : Bool) (s : ℕ) (r : Refusal) → cond b Pass (End (server_off s)) ≡ End r → refused_stop (Some r) ≡ None
 check-calm true s r e = absurd cc
 check-calm false s r e = let is : server_off s ≡ r = cc in ap (λ r. refused_stop (Some r)) (sym is)
@@ -95,35 +89,21 @@ start-calm : (s : ℕ) (vs : List ℕ) → Unstopped (map (redo_on s) vs ++ ackn
 start-calm s [] = ((λ k r e. acknowledge-calm (landed_on k s) r e), tt)
 start-calm s (v ∷ vs) = ((λ k r e. redo-calm (belongs k s v) v r e), start-calm s vs)
 
-module _ (k : Control) (events : List Event) (line : ℕ) where
-  volume-calm : (v tracks : ℕ) (server : Option ℕ) → Unstopped (volume_on k v tracks server).entries
-  volume-calm v tracks None = tt
-  volume-calm v tracks (Some s) = choice (is_empty k.volumes && nat_lt 0 tracks && nat_le tracks 256) (volume_done v s tracks) (refuses NotBuilt) tt tt
+landing-calm : (k : Control) (n v t : ℕ) → Unstopped (landing k n v t)
+landing-calm k n v t = ((λ j r e. check-calm (is_running v j) (k.volume v).server r e), ((λ j r e. absurd cc), tt))
 
-  stop-calm : (server : Option ℕ) → Unstopped (stop_on k server).entries
-  stop-calm None = tt
-  stop-calm (Some s) = choice (k.on s) (stop_done s) _ tt tt
+case-calm : (k : Control) (events : List Event) (line : ℕ) (p : Plan) → Case k events line p → Unstopped p.entries
+case-calm k events line _ (Writes v t offset len bytes free) = landing-calm k (k.issued + 1) v t
+case-calm k events line _ (Applies n p found) = landing-calm k p.w p.volume p.track
+case-calm k events line _ (Starts s off) = start-calm s k.volumes
+case-calm k events line _ (Says a) = tt
+case-calm k events line _ (Defines name free) = tt
+case-calm k events line _ (Adds v s tracks free) = tt
+case-calm k events line _ (Links a b up) = tt
+case-calm k events line _ (Issues v t offset len bytes free) = tt
+case-calm k events line _ (Shows v t there) = tt
+case-calm k events line _ (Stops s on) = tt
+case-calm k events line _ (Arms writes torn s) = tt
 
-  arm-calm : (writes : ℕ) (torn : TornWord) (server : Option ℕ) → Unstopped (arm_on writes torn server).entries
-  arm-calm writes torn None = tt
-  arm-calm writes torn (Some s) = tt
-
-  starts-calm : (server : Option ℕ) → Unstopped (start_on k server).entries
-  starts-calm None = tt
-  starts-calm (Some s) = choice (k.on s) _ (start_plan k s) tt (start-calm s k.volumes)
-
-  show-calm : (v t : ℕ) → Unstopped (show_plan k events line v t).entries
-  show-calm v t =
-      let off : Plan = refuses (server_off (k.volume v).server) in
-      choice (not (has_track k v t)) (refuses NotBuilt) (cond (is_running v k) (show_done events line v t) off) tt (choice (is_running v k) (show_done events line v t) off tt tt)
-
-  pub plan-calm : (step : Option Step) → Unstopped (plan k events line step).entries
-  plan-calm None = tt
-  plan-calm (Some (Server name)) = choice (is_empty k.servers) (server_done k name) _ tt tt
-  plan-calm (Some (Volume v name tracks)) = volume-calm v tracks (server_named k (name_bytes name))
-  plan-calm (Some (Write v t offset len bytes)) = choice (has_track k v t && is_empty k.pending) (issue_plan k v t offset len bytes) _ ((λ j r e. check-calm (is_running v j) (k.volume v).server r e), ((λ j r e. absurd cc), tt)) tt
-  plan-calm (Some (Stop name)) = stop-calm (server_named k (name_bytes name))
-  plan-calm (Some (StopAfter name writes torn)) = arm-calm writes torn (server_named k (name_bytes name))
-  plan-calm (Some (Start name)) = starts-calm (server_named k (name_bytes name))
-  plan-calm (Some (Show v t)) = show-calm v t
-  plan-calm (Some _) = tt
+pub plan-calm : (k : Control) (events : List Event) (line : ℕ) (asked : Result Step ℕ) → Unstopped (plan k events line asked).entries
+plan-calm k events line asked = case-calm k events line _ (plan-case k events line asked)

@@ -2,7 +2,7 @@
 //! by its contract.
 #![tactic(auto)]
 
-ghost use Rattle.std.specs.Prelude.{◌≡◌, ℕ, Bool, List, Option, take};
+ghost use Rattle.std.specs.Prelude.{◌≡◌, ◌≤◌, ◌<◌, ℕ, Bool, List, Option, take, length};
 ghost use Rattle.dr_ids.specs.declared.refusal.Refusal.{Refusal};
 ghost use Rattle.dr_model.specs.Histories.{Write};
 ghost use Rattle.dr_model.specs.Control.{World};
@@ -15,6 +15,8 @@ ghost use Rattle.dr_model.specs.Table.{Table, table};
 ghost use Rattle.dr_model.specs.Rows.{after};
 ghost use Rattle.dr_model.specs.Laws.{SoundRows, Sound};
 ghost use Rattle.dr_model.specs.Allowed.{Allowed};
+ghost use Rattle.dr_model.specs.Limits.{most_volumes, most_events};
+ghost use Rattle.dr_laws.specs.Limits.{IsWithin};
 ghost use Rattle.dr_laws.specs.Stops.{StopsTold, refused_stop};
 
 /// Every run leaves a sound world: its volumes' records fit each other, each track shows what the host writes say, and
@@ -31,13 +33,13 @@ pub fn every_step_keeps_soundness()
 /// The table of volumes is as it should be after each entry of a step, too.
 pub fn rows_hold_at_every_moment()
     ensures { (w : World) (t : Task) (n : ℕ) → Sound w →
-        let p : Plan = plan w.control w.events t.line t.step in SoundRows (table (carry (begun w p) (take n p.entries)).0) }
+        let p : Plan = plan w.control w.events t.line t.asked in SoundRows (table (carry (begun w p) (take n p.entries)).0) }
 {}
 
 /// It is so as well where servers go off by themselves between the acts of a step.
 pub fn rows_hold_where_reads_fail()
     ensures { (armed : ℕ → Bool) (w u : World) (r : Option Refusal) (t : Task) → Sound w →
-        let p : Plan = plan w.control w.events t.line t.step in Ends armed u r (begun w p) p.entries → SoundRows (table u) }
+        let p : Plan = plan w.control w.events t.line t.asked in Ends armed u r (begun w p) p.entries → SoundRows (table u) }
 {}
 
 /// The table of volumes keeps its laws in each kind of move, where it is allowed.
@@ -48,5 +50,16 @@ pub fn each_kind_of_move_keeps_the_rows()
 /// A step is refused because a server stopped exactly where its acts told the journal of that stop.
 pub fn stops_are_told()
     ensures { (w : World) (t : Task) →
-        let p : Plan = plan w.control w.events t.line t.step in StopsTold (begun w p) (carry (begun w p) p.entries).0 (refused_stop (carry (begun w p) p.entries).1) }
+        let p : Plan = plan w.control w.events t.line t.asked in StopsTold (begun w p) (carry (begun w p) p.entries).0 (refused_stop (carry (begun w p) p.entries).1) }
+{}
+
+/// Every run stays within the limits of servers, volumes and pending writes.
+pub fn runs_stay_within_limits()
+    ensures { (tasks : List Task) → IsWithin (run tasks).control }
+{}
+
+/// A step adds to the journal, its answer at least, and a journal that has fewer events than its limit stays within it.
+pub fn journals_fit()
+    ensures grows { (w : World) (t : Task) → length w.events < length (after_task w t).events }
+    ensures fits { (w : World) (t : Task) → length w.control.volumes ≤ most_volumes → length w.events < most_events → length (after_task w t).events ≤ most_events }
 {}

@@ -1,12 +1,13 @@
 -- The text of a few answers.
 use Rattle.std.proofs.Common.{ℕ, ◌≡◌, ◌<◌, ◌%◌, refl, ap, List, [], ◌∷◌, ◌++◌, arith, Some, None}
-use Rattle.std.specs.Prelude.{codes, nat_eq, if◌then◌else◌, replicate}
+use Rattle.std.specs.Prelude.{codes, nat_eq, if◌then◌else◌, replicate, take, drop}
 use Rattle.std.specs.Fmt.{digits}
+use Rattle.std.specs.List.{fold}
 use Rattle.dr_ids.specs.Spelling.{hex2, hex4}
 use Rattle.dr_model.specs.Contents.{zeros}
 use Rattle.dr_model.specs.declared.event.Event.{Event}
 use Rattle.dr_model.specs.declared.event.Event.TheVariants.{Server, Shown, Answer}
-use Rattle.dr_model.specs.Text.{Told, said_text, untold, text, volume_digits, session_digits}
+use Rattle.dr_model.specs.Text.{Told, said_text, untold, heard, text, text_from, volume_digits, session_digits}
 
 -- two servers are defined
 abbrev defined : Told
@@ -57,6 +58,10 @@ unknown = refl
 links : said_text defined 6 1 0 0 ≡ codes "E06 link down A B"
 links = refl
 
+-- a number that no server has
+nameless : said_text defined 5 256 0 0 ≡ codes "E05 server off "
+nameless = refl
+
 pair_state : said_text untold 10 6691 4 0 ≡ codes "E10 pair state 1A23 Target Full Duplex"
 pair_state = refl
 
@@ -95,6 +100,11 @@ journal = Server 0 1 (name (codes "A")) ∷ Server 0 1 (name (codes "B")) ∷ An
 journal_text : text journal ≡ codes "7 E05 server off A\n10 ok 4B\n11 ok -\n"
 unfolding digits zeros
 journal_text = refl
+
+-- the rest of a text, by what the events before told
+rest_text : text_from (fold heard untold (take 3 journal)) (drop 3 journal) ≡ codes "10 ok 4B\n11 ok -\n"
+unfolding digits zeros
+rest_text = refl
 
 -- a volume's and a session's digits say all of their numbers
 volume-whole : (n : ℕ) → n < 65536 → volume_digits n ≡ hex4 n

@@ -7,4 +7,5 @@ mod said;
 mod told;
 mod values;
 
-pub use lines::text;
+pub use lines::{text, text_on};
+pub use told::Told;

@@ -1,66 +1,134 @@
-ghost use Rattle.std.specs.Prelude.{◌≡◌, ◌<◌, ◌≤◌, ◌++◌, length, take, drop, slice_get, OnOk, IfOk};
+ghost use Rattle.std.specs.Prelude.{◌≡◌, ◌-◌, ◌<◌, ◌≤◌, ◌++◌, length, take, drop, slice_get, OnOk, IfOk};
 ghost use Rattle.std.specs.List.{fold};
-ghost use Rattle.dr_model.specs.Text.{untold, heard, text_from};
-ghost use Rattle.dr_list.specs.At.{line_told};
+ghost use Rattle.dr_model.specs.declared.event.Event.TheVariants.{Answer};
+ghost use Rattle.dr_model.specs.Text.{untold, heard, line_text, text_from};
+ghost use Rattle.dr_list.specs.At.{line_told, heard_at};
+ghost use Rattle.dr_list.specs.Seen.{seen};
 
 use crate::pieces::push_number;
 use crate::said::push_said;
-use crate::told::{shown_before, shown_told_at};
+use crate::told::Told;
 use dr_model::{Event, Journal, Numbers};
 use std::alloc::{AllocError, Global};
 
-/// Adds the line that the event at a place prints; most print none.
+/// Adds the line of an answer.
+fn push_answer(
+    alloc: Global,
+    out: &mut Vec<u8>,
+    told: &Told,
+    line: u32,
+    says: Numbers,
+) -> Result<(), AllocError>
+    ensures { OnOk result (out.new.items ≡ out.old.items ++ line_text (seen told.now) (Answer line says.code says.a says.b says.c)) }
+{
+    push_number(alloc, out, line)?;
+    out.extend_from_slice(b" ")?;
+    push_said(alloc, out, told, says)?;
+    out.extend_from_slice(b"\n")?;
+    Ok(())
+}
+
+/// Adds the line that an event prints; most print none.
 fn push_event(
     alloc: Global,
     out: &mut Vec<u8>,
-    journal: &Journal,
-    place: usize,
-    shown: &[u8],
+    told: &Told,
+    event: &Event,
 ) -> Result<(), AllocError>
-    requires within { place < length journal.now.events }
-    requires shown { shown.now ≡ (fold heard untold (take place journal.now.events)).shown }
-    ensures { OnOk result (out.new.items ≡ out.old.items ++ line_told (fold heard untold (take place journal.now.events)) (slice_get journal.now.events place)) }
+    ensures { OnOk result (out.new.items ≡ out.old.items ++ line_text (seen told.now) event.now) }
 {
-    match journal.event(place) {
-        Some(
-            Event::Answer {
-                line,
-                code,
-                a,
-                b,
-                c,
-            },
-        ) => {
-            let numbers = Numbers {
+    match event {
+        Event::Answer {
+            line,
+            code,
+            a,
+            b,
+            c,
+        } => {
+            let says = Numbers {
                 code: *code,
                 a: *a,
                 b: *b,
                 c: *c,
             };
-            push_number(alloc, out, *line)?;
-            out.extend_from_slice(b" ")?;
-            push_said(alloc, out, journal, place, shown, numbers)?;
-            out.extend_from_slice(b"\n")?;
-            Ok(())
+            push_answer(alloc, out, told, *line, says)
         }
         _ => Ok(()),
     }
 }
 
-/// The text of the events of a journal from a place on, with the names and the shown track that the
-/// events before it told. Fails where there is no memory.
+/// Adds the line that the event at a place prints, and hears the event.
+fn print_at(
+    alloc: Global,
+    out: &mut Vec<u8>,
+    told: &mut Told,
+    journal: &Journal,
+    place: usize,
+) -> Result<(), AllocError>
+    ensures line { OnOk result (out.new.items ≡ out.old.items ++ line_told (seen told.old) (slice_get journal.now.events place)) }
+    ensures told { seen told.new ≡ heard_at (seen told.old) (slice_get journal.now.events place) }
+{
+    match journal.event(place) {
+        Some(event) => {
+            let pushed = push_event(alloc, out, told, event);
+            told.hear(event);
+            pushed
+        }
+        None => Ok(()),
+    }
+}
+
+fn hear_at(told: &mut Told, journal: &Journal, place: usize)
+    ensures { seen told.new ≡ heard_at (seen told.old) (slice_get journal.now.events place) }
+{
+    if let Some(event) = journal.event(place) {
+        told.hear(event);
+    }
+}
+
+/// Hears the events of a journal from one place up to another.
+fn hear_between(told: &mut Told, journal: &Journal, from: usize, to: usize)
+    ensures { seen told.new ≡ fold heard (seen told.old) (take (to - from) (drop from journal.now.events)) }
+{
+    for i in from..to {
+        hear_at(told, journal, i);
+    }
+}
+
+/// The text of the events of a journal from a place on, where `told` is what those before it told; it
+/// looks at none of them. Fails where there is no memory. In either case `told` has heard all events
+/// then.
 ///
 /// Each answer gives one line: the decimal number of its script line, a space, what it says, and a line
 /// feed. No other event gives one.
+pub fn text_on(
+    alloc: Global,
+    told: &mut Told,
+    journal: &Journal,
+    from: usize,
+) -> Result<Vec<u8>, AllocError>
+    requires { from ≤ length journal.now.events }
+    ensures text { IfOk result (λ out. out.items ≡ text_from (seen told.old) (drop from journal.now.events)) }
+    ensures told { seen told.new ≡ fold heard (seen told.old) (drop from journal.now.events) }
+{
+    let mut out = Vec::new(alloc);
+    for i in from..journal.len() {
+        let Ok(()) = print_at(alloc, &mut out, told, journal, i) else {
+            hear_between(told, journal, i + 1, journal.len());
+            return Err(AllocError);
+        };
+    }
+    Ok(out)
+}
+
+/// The text of the events of a journal from a place on, with the names and the shown track that the
+/// events before it told. Fails where there is no memory. `text_on` gives it without hearing these
+/// events again.
 pub fn text(alloc: Global, journal: &Journal, from: usize) -> Result<Vec<u8>, AllocError>
     requires { from ≤ length journal.now.events }
     ensures { IfOk result (λ out. out.items ≡ text_from (fold heard untold (take from journal.now.events)) (drop from journal.now.events)) }
 {
-    let mut out = Vec::new(alloc);
-    let mut shown = shown_before(journal, from);
-    for i in from..journal.len() {
-        push_event(alloc, &mut out, journal, i, &shown)?;
-        shown = shown_told_at(journal, i).unwrap_or(shown);
-    }
-    Ok(out)
+    let mut told = Told::new();
+    hear_between(&mut told, journal, 0, from);
+    text_on(alloc, &mut told, journal, from)
 }

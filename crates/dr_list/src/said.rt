@@ -1,14 +1,14 @@
 //! What an answer says.
 
-ghost use Rattle.std.specs.Prelude.{◌≡◌, ◌≤◌, ◌/◌, ◌++◌, length, take, OnOk, codes};
-ghost use Rattle.std.specs.List.{fold};
+ghost use Rattle.std.specs.Prelude.{◌≡◌, ◌/◌, ◌++◌, OnOk, codes};
 ghost use Rattle.std.specs.Fmt.{decimal};
-ghost use Rattle.dr_model.specs.Text.{Told, untold, heard, one_number, two_numbers, decision_text, group_decision, addition, link_text, refusal_words, refusal_values, said_text};
+ghost use Rattle.dr_model.specs.Text.{one_number, two_numbers, decision_text, group_decision, addition, link_text, refusal_words, refusal_values, said_text};
+ghost use Rattle.dr_list.specs.Seen.{seen};
 
 use crate::pieces::{push_count, push_number, push_session, push_track, push_volume, push_word};
-use crate::told::server_name;
+use crate::told::Told;
 use crate::values::{kind_word, limit_word, pair_words, phase_word, refusal_words, relation_word};
-use dr_model::{Journal, Numbers};
+use dr_model::Numbers;
 use std::alloc::{AllocError, Global};
 
 fn push_one(alloc: Global, out: &mut Vec<u8>, a: u32) -> Result<(), AllocError>
@@ -101,12 +101,12 @@ fn push_group(
 fn push_addition(
     alloc: Global,
     out: &mut Vec<u8>,
-    shown: &[u8],
+    told: &Told,
     kind: u32,
     a: u32,
     b: u32,
 ) -> Result<(), AllocError>
-    ensures { (told : Told) → told.shown ≡ shown.now → OnOk result (out.new.items ≡ out.old.items ++ addition told kind a b) }
+    ensures { OnOk result (out.new.items ≡ out.old.items ++ addition (seen told.now) kind a b) }
 {
     match kind {
         1 => {
@@ -124,7 +124,7 @@ fn push_addition(
         }
         6 => {
             out.extend_from_slice(b" ")?;
-            push_track(out, shown)
+            push_track(out, told.shown())
         }
         _ if kind % 256 == 5 => push_group(alloc, out, kind / 256, a, b),
         _ => Ok(()),
@@ -132,38 +132,24 @@ fn push_addition(
 }
 
 /// Adds the names of two servers, the lower numbered first.
-fn push_link(
-    out: &mut Vec<u8>,
-    journal: &Journal,
-    place: usize,
-    a: u32,
-    b: u32,
-) -> Result<(), AllocError>
-    requires { place ≤ length journal.now.events }
-    ensures { OnOk result (out.new.items ≡ out.old.items ++ link_text (fold heard untold (take place journal.now.events)) a b) }
+fn push_link(out: &mut Vec<u8>, told: &Told, a: u32, b: u32) -> Result<(), AllocError>
+    ensures { OnOk result (out.new.items ≡ out.old.items ++ link_text (seen told.now) a b) }
 {
     let (low, high) = (a.min(b), a.max(b));
-    push_word(out, server_name(journal, place, low))?;
-    push_word(out, server_name(journal, place, high))
+    push_word(out, told.name(low))?;
+    push_word(out, told.name(high))
 }
 
 /// Adds what a refusal says of its numbers.
-fn push_values(
-    alloc: Global,
-    out: &mut Vec<u8>,
-    journal: &Journal,
-    place: usize,
-    of: Numbers,
-) -> Result<(), AllocError>
-    requires { place ≤ length journal.now.events }
-    ensures { OnOk result (out.new.items ≡ out.old.items ++ refusal_values (fold heard untold (take place journal.now.events)) of.code of.a of.b of.c) }
+fn push_values(alloc: Global, out: &mut Vec<u8>, told: &Told, of: Numbers) -> Result<(), AllocError>
+    ensures { OnOk result (out.new.items ≡ out.old.items ++ refusal_values (seen told.now) of.code of.a of.b of.c) }
 {
     match of.code {
         1 | 7 | 19 => push_count(alloc, out, of.a),
         2 | 3 => push_word(out, kind_word(of.a)),
         4 => push_word(out, limit_word(of.a)),
-        5 | 21 => push_word(out, server_name(journal, place, of.a)),
-        6 => push_link(out, journal, place, of.a, of.b),
+        5 | 21 => push_word(out, told.name(of.a)),
+        6 => push_link(out, told, of.a, of.b),
         8 | 9 => push_volume(out, of.a),
         10 => {
             push_volume(out, of.a)?;
@@ -199,19 +185,15 @@ fn push_values(
 pub(crate) fn push_said(
     alloc: Global,
     out: &mut Vec<u8>,
-    journal: &Journal,
-    place: usize,
-    shown: &[u8],
+    told: &Told,
     of: Numbers,
 ) -> Result<(), AllocError>
-    requires within { place ≤ length journal.now.events }
-    requires shown { shown.now ≡ (fold heard untold (take place journal.now.events)).shown }
-    ensures { OnOk result (out.new.items ≡ out.old.items ++ said_text (fold heard untold (take place journal.now.events)) of.code of.a of.b of.c) }
+    ensures { OnOk result (out.new.items ≡ out.old.items ++ said_text (seen told.now) of.code of.a of.b of.c) }
 {
     match of.code {
         0 => {
             out.extend_from_slice(b"ok")?;
-            push_addition(alloc, out, shown, of.a, of.b, of.c)?;
+            push_addition(alloc, out, told, of.a, of.b, of.c)?;
             Ok(())
         }
         100 => {
@@ -220,7 +202,7 @@ pub(crate) fn push_said(
         }
         code => {
             out.extend_from_slice(refusal_words(code))?;
-            push_values(alloc, out, journal, place, of)
+            push_values(alloc, out, told, of)
         }
     }
 }

@@ -1,61 +1,19 @@
-//! What the events before a line told: the names of servers, and the track that is shown.
+//! What the events so far told: the names of servers, and the track that is shown.
 
-ghost use Rattle.std.specs.Prelude.{◌≡◌, ◌≤◌, length, take, slice_get};
-ghost use Rattle.std.specs.Option.{option_copied};
-ghost use Rattle.std.specs.List.{fold};
+ghost use Rattle.std.specs.Prelude.{◌≡◌, ℕ, take, None};
+ghost use Rattle.std.specs.Option.{option_or};
 ghost use Rattle.dr_model.specs.Contents.{zeros};
 ghost use Rattle.dr_model.specs.Text.{untold, heard, name_in, shown_in, told_name};
-ghost use Rattle.dr_list.specs.At.{name_at, shown_at};
+ghost use Rattle.dr_list.specs.Seen.{seen, names_of};
 
-use dr_model::{Event, Journal};
+use dr_model::{Event, Name};
 
-fn front(bytes: &[u8], len: usize) -> &[u8]
-    ensures { result.now ≡ take len bytes.now }
-{
-    &bytes[..len.min(bytes.len())]
-}
-
-/// The name that an event gives a server, where it defines it.
-fn name_told(event: &Event, server: u32) -> Option<&[u8]>
-    ensures { option_copied result ≡ name_in event.now server }
-{
-    match event {
-        Event::Server {
-            server: number,
-            len,
-            name,
-        } => {
-            if u32::from(*number) == server {
-                Some(front(name, usize::from(*len)))
-            } else {
-                None
-            }
-        }
-        _ => None,
-    }
-}
-
-fn name_told_at(journal: &Journal, place: usize, server: u32) -> Option<&[u8]>
-    ensures { option_copied result ≡ name_at (slice_get journal.now.events place) server }
-{
-    match journal.event(place) {
-        Some(event) => name_told(event, server),
-        None => None,
-    }
-}
-
-/// The name of a server that the first `place` events of a journal define; empty where they define
-/// none of that number. Of two names, the first.
-pub(crate) fn server_name(journal: &Journal, place: usize, server: u32) -> &[u8]
-    requires { place ≤ length journal.now.events }
-    ensures { result.now ≡ told_name (fold heard untold (take place journal.now.events)) server }
-{
-    for i in 0..place {
-        if let Some(name) = name_told_at(journal, i, server) {
-            return name;
-        }
-    }
-    &[]
+/// What the events of a journal told so far, as far as answers print it: the first name of each server,
+/// and the track that the step at hand has shown.
+#[derive(Drop)]
+pub struct Told {
+    names: [Option<Name>; 256],
+    shown: [u8; 64],
 }
 
 #[tactic(auto, unfolding(dr_model::specs::Contents::zeros))]
@@ -63,6 +21,31 @@ fn zero_track() -> [u8; 64]
     ensures { result ≡ zeros }
 {
     [0; 64]
+}
+
+fn front(bytes: &[u8], len: usize) -> &[u8]
+    ensures { result.now ≡ take len bytes.now }
+{
+    &bytes[..len.min(bytes.len())]
+}
+
+fn no_names() -> [Option<Name>; 256]
+    ensures { (s : ℕ) → names_of result s ≡ None }
+{
+    [None; 256]
+}
+
+/// Keeps the name that an event gives a server, where it has none.
+fn keep_name(names: &mut [Option<Name>; 256], event: &Event)
+    ensures { (s : ℕ) → names_of names.new s ≡ option_or (names_of names.old s) (name_in event.now s) }
+{
+    if let Event::Server { server, len, name } = event {
+        let place = usize::from(*server);
+        names[place] = names[place].or(Some(Name {
+            len: *len,
+            bytes: *name,
+        }));
+    }
 }
 
 /// The track that is shown after an event, where it changes.
@@ -76,26 +59,43 @@ fn shown_told(event: &Event) -> Option<[u8; 64]>
     }
 }
 
-/// The track that is shown after the event at a place, where it changes.
-pub(crate) fn shown_told_at(journal: &Journal, place: usize) -> Option<[u8; 64]>
-    ensures { result ≡ shown_at (slice_get journal.now.events place) }
-{
-    match journal.event(place) {
-        Some(event) => shown_told(event),
-        None => None,
-    }
-}
-
-/// The track that the step at hand has shown before a place of the journal; zeros where it has shown
-/// none.
-pub(crate) fn shown_before(journal: &Journal, place: usize) -> [u8; 64]
-    requires { place ≤ length journal.now.events }
-    ensures { result ≡ (fold heard untold (take place journal.now.events)).shown }
-{
-    for back in 0..place {
-        if let Some(bytes) = shown_told_at(journal, place - 1 - back) {
-            return bytes;
+impl Told {
+    /// What no event tells: no server has a name, and a track of zeros is shown.
+    #[tactic(auto, unfolding(crate::specs::Seen::seen))]
+    pub fn new() -> Told
+        ensures { seen result ≡ untold }
+    {
+        Told {
+            names: no_names(),
+            shown: zero_track(),
         }
     }
-    zero_track()
+
+    /// Hears one event more. A name that was told stays, and an answer ends what is shown.
+    #[tactic(auto, unfolding(crate::specs::Seen::seen))]
+    pub fn hear(&mut self, event: &Event)
+        ensures { seen self.new ≡ heard (seen self.old) event.now }
+    {
+        keep_name(&mut self.names, event);
+        self.shown = shown_told(event).unwrap_or(self.shown);
+    }
+
+    /// The name of a server; empty where none of that number was defined. Of two names, the first.
+    #[tactic(auto, unfolding(crate::specs::Seen::seen))]
+    pub(crate) fn name(&self, server: u32) -> &[u8]
+        ensures { result.now ≡ told_name (seen self.now) server }
+    {
+        match self.names.get(server as usize) {
+            Some(Some(name)) => front(&name.bytes, usize::from(name.len)),
+            _ => &[],
+        }
+    }
+
+    /// The track that the step at hand has shown; zeros where it has shown none.
+    #[tactic(auto, unfolding(crate::specs::Seen::seen))]
+    pub(crate) fn shown(&self) -> &[u8]
+        ensures { result.now ≡ (seen self.now).shown }
+    {
+        &self.shown
+    }
 }

@@ -30,11 +30,13 @@ abbrev pub new_volume : ℕ → ℕ → Volume
 new_volume server tracks = record { server = server; tracks = tracks; slot = false; fields = no_fields; staged = None }
 
 -- servers and volumes in order of definition (a server's number is its place), which servers are on, their
--- fuses, each volume, how many writes were issued, and those that are pending, in order of issue
+-- fuses, which links between them are up, each volume, how many writes were issued, and those that are pending, in
+-- order of issue
 pub record Control : Type 0 where
   pub servers : List (List ℕ)
   pub on : ℕ → Bool
   pub fuse : ℕ → Option Fuse
+  pub link : ℕ → ℕ → Bool
   pub volumes : List ℕ
   pub volume : ℕ → Volume
   pub issued : ℕ
@@ -45,6 +47,7 @@ no_control = record {
   servers = [];
   on = λ s. true;
   fuse = λ s. None;
+  link = λ a b. true;
   volumes = [];
   volume = λ v. new_volume 0 0;
   issued = 0;

@@ -73,11 +73,12 @@ abbrev pub is_at : Option ℕ → ℕ → Bool
 is_at None v = false
 is_at (Some u) v = nat_eq u v
 
--- A pending write is that of its issue, on a volume that is defined, whose server is off where it has landed. While a
--- server starts, it alone may be on before its landed write is acknowledged.
-pub record WaitsFor (starts : Option ℕ) (issued : ℕ) (is_defined on : ℕ → Bool) (server : ℕ → ℕ) (write : ℕ → Write) (p : Pending) : Type 0 where
+-- A pending write is that of its issue, on a track of a volume that is defined, whose server is off where it has landed.
+-- While a server starts, it alone may be on before its landed write is acknowledged.
+pub record WaitsFor (starts : Option ℕ) (issued : ℕ) (is_defined on : ℕ → Bool) (server tracks : ℕ → ℕ) (write : ℕ → Write) (p : Pending) : Type 0 where
   pub number : p.w < issued + 1
   pub defined : is_defined p.volume ≡ true
+  pub low : p.track < tracks p.volume
   pub volume : (write p.w).volume ≡ p.volume
   pub track : (write p.w).track ≡ p.track
   pub calm : p.landed ≡ true → is_at starts (server p.volume) ≡ false → on (server p.volume) ≡ false
@@ -85,8 +86,11 @@ pub record WaitsFor (starts : Option ℕ) (issued : ℕ) (is_defined on : ℕ �
 abbrev pub servers : Control → ℕ → ℕ
 servers k v = (k.volume v).server
 
+abbrev pub sizes : Control → ℕ → ℕ
+sizes k v = (k.volume v).tracks
+
 abbrev pub Waits : Option ℕ → Control → (ℕ → Write) → Pending → Type 0
-Waits starts k = WaitsFor starts k.issued (is_volume k) k.on (servers k)
+Waits starts k = WaitsFor starts k.issued (is_volume k) k.on (servers k) (sizes k)
 
 abbrev pub AllPending : (Pending → Type 0) → List Pending → Type 0
 AllPending P [] = Unit {0}

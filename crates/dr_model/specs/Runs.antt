@@ -1,5 +1,5 @@
 -- Whole runs: the steps of a script in order, each ended by its answer.
-use Rattle.std.specs.Prelude.{ℕ, List, [], ◌∷◌, ◌++◌, Option, Some, None}
+use Rattle.std.specs.Prelude.{ℕ, List, [], ◌∷◌, ◌++◌, Option, Some, None, Result}
 use Rattle.std.specs.List.{fold}
 use Rattle.dr_ids.specs.declared.refusal.Refusal.{Refusal}
 use Rattle.dr_model.specs.Control.{Control, World, nothing}
@@ -10,10 +10,10 @@ use Rattle.dr_model.specs.Answers.{answer}
 use Rattle.dr_model.specs.Plans.{Plan, plan}
 use Rattle.dr_model.specs.declared.step.Step.{Step}
 
--- a step with the number of its line; none where the line isn't carried out yet
+-- a step with the number of its line; a line outside the grammar is one too, with the column of its first fault
 pub record Task : Type 0 where
   pub line : ℕ
-  pub step : Option Step
+  pub asked : Result Step ℕ
 
 -- the world as a step begins
 abbrev pub begun : World → Plan → World
@@ -41,7 +41,7 @@ unfoldable pub after_plan : World → ℕ → Plan → World
 after_plan w line p = said (carried_out w p).0 line (answered p (carried_out w p).0.control (carried_out w p).1)
 
 abbrev pub after_task : World → Task → World
-after_task w t = after_plan w t.line (plan w.control w.events t.line t.step)
+after_task w t = after_plan w t.line (plan w.control w.events t.line t.asked)
 
 -- the world after steps in order
 unfoldable pub after_tasks : World → List Task → World

@@ -20,7 +20,9 @@ use Rattle.dr_laws.proofs.ReadStops.{ends-exact}
 use Rattle.dr_volume.specs.View.{Rest, world, volume_seen, device_of, IsSettled, ReadsPass}
 use Rattle.dr_volume.specs.Update.{IsAsBefore, IsMoved, OthersStay, EndsAs, after_reading}
 use Rattle.dr_volume.proofs.UnreadLaws.{Unread, unread, armed-of, lies-low}
-use Rattle.dr_top.specs.Here.{IsAtRest, IsReady, armed_in, said_of, refusal_of}
+use Rattle.dr_host.specs.Writes.{Writes}
+use Rattle.dr_model.specs.declared.event.Event.{Event}
+use Rattle.dr_top.specs.Here.{IsAtRest, IsReady, IsTold, armed_in, said_of, refusal_of}
 use Rattle.dr_top.specs.Landing.{LandsAs}
 
 pub is-armed : (s : PlantState) (server : ℕ) → server < 8 → is_some (s.read_fuse server) ≡ true → armed_in s server ≡ true
@@ -94,8 +96,8 @@ none-armed s pass q h =
 pub exact : (s : PlantState) (u : World) (r : Option Refusal) (w : World) (ds : List Entry) → ReadsPass s → Ends (armed_in s) u r w ds → carry w ds ≡ (u, r)
 exact s u r w ds pass e = ends-exact (armed_in s) (none-armed s pass) u r w ds e
 
-pub ready-after : (c : Table) (s u : PlantState) → ReadsPass s → IsAtRest u c → ((q : ℕ) → s.read_fuse q ≡ None → u.read_fuse q ≡ None) → IsReady u c
-ready-after c s u pass rest unarmed = record { rest = rest; reads = λ q low. unarmed q (pass q low) }
+pub ready-after : (c : Table) (s u : PlantState) (h : Writes) (ev : List Event) → ReadsPass s → IsAtRest u c → ((q : ℕ) → s.read_fuse q ≡ None → u.read_fuse q ≡ None) → IsTold h ev → IsReady u c h ev
+ready-after c s u h ev pass rest unarmed told = record { rest = rest; reads = λ q low. unarmed q (pass q low); told = told }
 
 -- a call that failed as the one within it
 pub failed-by : (r : Result Addition Refusal) (e : Refusal) → is_err r ≡ true → IsErrAnd r (λ x. x ≡ e) → said_of r ≡ Refused e

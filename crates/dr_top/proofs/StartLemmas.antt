@@ -1,7 +1,6 @@
 -- What starting a server comes to: its volumes' staged tracks are written to their places, and a write is acknowledged.
 use Rattle.std.proofs.Common.{ℕ, ◌≡◌, ◌≢◌, ◌<◌, ◌≤◌, ◌+◌, ◌⊎◌, inl, inr, suc, zero, List, [], ◌∷◌, ◌++◌, drop, length, map, slice_get, refl, ap, ◌∙◌, sym, subst, arith, Bool, true, false, not, ◌&&◌, cond, nat_eq, Option, Some, None, unwrap_or}
-use Rattle.std.specs.Prelude.{filter, is_some, option_map, if◌then◌else◌}
-use Rattle.std.specs.List.{find}
+use Rattle.std.specs.Prelude.{is_some, option_map, if◌then◌else◌}
 use Rattle.std.specs.Option.{option_map_or}
 use Rattle.std.proofs.lemmas.Bool.Decides.{eqb_tells, Decides-eqb}
 use Rattle.std.proofs.Math.Numerals.{suc-eq-add-one}
@@ -20,29 +19,34 @@ use Rattle.dr_model.specs.declared.said.Addition.TheVariants.{Alone}
 use Rattle.dr_model.specs.declared.said.Said.TheVariants.{Done, Refused}
 use Rattle.dr_model.specs.Refusals.{stopped}
 use Rattle.dr_model.specs.Control.{Control, World}
-use Rattle.dr_model.specs.Control as control
-use Rattle.dr_model.specs.Moves.{is_other}
 use Rattle.dr_model.specs.Carry.{Ended, Entry, Outcome, Do, Pass, Redo, Acknowledge, act, carry, redo, acknowledged}
 use Rattle.dr_model.specs.ReadStops.{Ends}
-use Rattle.dr_model.specs.Plans.{Plan, only_says, belongs, redo_on, has_landed, landed_on, acknowledge_if, acknowledge_on, says_acked, start_plan, start_on}
+use Rattle.dr_model.specs.Plans.{Plan, only_says, belongs, redo_on, landed_on, acknowledge_if, acknowledge_on, says_acked, start_plan, start_on}
 use Rattle.dr_model.specs.Runs.{begun, after_plan, said}
 use Rattle.dr_model.proofs.CarryLemmas.{act-redo, act-acknowledge, carry-none, carry-skips, carry-goes, carry-append, onward, plan-ends, plan-says, plan-fails}
 use Rattle.dr_laws.proofs.ReadStops.{ends-skips, ends-goes, ends-stops, ends-off, ends-none}
 use Rattle.dr_volume.specs.View.{volume_seen, volume_at, ids_of, device_of, IsSettled, TracksSettled, ReadsPass}
 use Rattle.dr_volume.specs.Update.{IsAsBefore, EndsAs, after_reading}
 use Rattle.dr_volume.proofs.WorldLaws.{on-seen}
-use Rattle.dr_top.specs.Here.{here, waiting_seen, armed_in, IsAtRest}
+use Rattle.std.specs.Prelude.{Result, Ok, Err, is_err}
+use Rattle.std.specs.Result.{IsErrAnd}
+use Rattle.dr_io.specs.Faults.{Rose}
+use Rattle.dr_ids.specs.declared.names.ServerId.{ServerId}
+use Rattle.dr_ids.specs.declared.refusal.Refusal.TheVariants.{Stopped as StoppedIn}
+use Rattle.dr_top.specs.Faults.{Counts}
+use Rattle.dr_top.specs.Here.{here, said_of, armed_in, IsAtRest}
 use Rattle.dr_top.specs.Landing.{Shuts}
-use Rattle.dr_top.specs.Located.{has_owner}
+use Rattle.dr_host.specs.Writes as writes
+use Rattle.dr_host.specs.Writes.{has_owner, without}
+use Rattle.dr_host.proofs.Seen.{seen-landed, seen-without}
 use Rattle.dr_top.specs.Starting.{IsLater, IsStarting, redo_from}
-use Rattle.dr_top.specs.declared.host.Host.{Host}
-use Rattle.dr_top.specs.declared.host.Pending.{Pending}
+use Rattle.dr_host.specs.Writes.{Writes}
 use Rattle.dr_top.proofs.LandLemmas.{lands-updated}
 use Rattle.dr_top.proofs.LocatedLemmas.{is_volume-here, seen-entry}
 use Rattle.dr_top.proofs.StopLemmas.{started-here}
-use Rattle.dr_top.proofs.TurnLemmas.{pending-none, on-running, failed-not}
+use Rattle.dr_top.proofs.TurnLemmas.{on-running, failed-not}
 
-some_or_none : {A : Type 0} (o : Option A) → ((x : A) × (o ≡ Some x)) ⊎ (o ≡ None)
+pub some_or_none : {A : Type 0} (o : Option A) → ((x : A) × (o ≡ Some x)) ⊎ (o ≡ None)
 some_or_none None = inr refl
 some_or_none (Some x) = inl (x, refl)
 
@@ -50,7 +54,7 @@ owner-of : (t : Table) (v server : ℕ) (e : VolumeEntry) → entry_of t v ≡ S
 owner-of t v server e found = ap (λ o. option_map_or (λ (x : VolumeEntry). nat_eq x.server server) o false) found
 
 -- a volume is the server's for the machine where it is for the configuration
-pub belongs-here : (s : PlantState) (t : Table) (h : Host) (ev : List Event) (v server : ℕ) → belongs (here s t h ev).control server v ≡ has_owner t v server
+pub belongs-here : (s : PlantState) (t : Table) (h : Writes) (ev : List Event) (v server : ℕ) → belongs (here s t h ev).control server v ≡ has_owner t v server
 belongs-here s t h ev v server =
     let own : Bool = nat_eq (volume_seen s t v).server server in
     elim (some_or_none (entry_of t v)) [
@@ -85,7 +89,7 @@ next-at : (es : List VolumeEntry) (i v : ℕ) → Some v ≡ option_map (λ (e :
 next-at es i v h = drop-at es i v h ∙ ap (λ n. v ∷ ids_of (drop n es)) (suc-eq-add-one i)
 
 -- a volume's staged track is written to its place, or the server stops in that write
-module _ (s : PlantState) (t : Table) (h : Host) (ev : List Event) (v server place : ℕ) (at : Some v ≡ option_map (λ (x : VolumeEntry). x.id) (slice_get t.volumes place)) where
+module _ (s : PlantState) (t : Table) (h : Writes) (ev : List Event) (v server place : ℕ) (at : Some v ≡ option_map (λ (x : VolumeEntry). x.id) (slice_get t.volumes place)) where
   abbrev w : World
   w = here s t h ev
 
@@ -257,61 +261,26 @@ starting-first s t server ready = record {
   sizes = ready.sizes;
 }
 
-pub both : (a b : Bool) → a ≡ true → b ≡ true → (a && b) ≡ true
-both true b first second = second
-both false b first second = first
-
-pub no-first : (a b : Bool) → a ≡ false → (a && b) ≡ false
-no-first true b h = absurd cc
-no-first false b h = refl
-
-pub no-second : (a b : Bool) → b ≡ false → (a && b) ≡ false
-no-second true b h = h
-no-second false b h = refl
-
 -- the write that is acknowledged, if one landed on a volume of the server
-module _ (s : PlantState) (t : Table) (h : Host) (ev : List Event) (server : ℕ) where
+module _ (s : PlantState) (t : Table) (h : Writes) (ev : List Event) (server : ℕ) where
   abbrev w' : World
   w' = here s t h ev
 
-  abbrev waits : Pending → control.Pending
-  waits p = record { w = p.w; volume = p.volume; track = p.track; landed = p.landed }
-
-  landed-pending : (p : Pending) (b : Bool) → h.pending ≡ Some p → (p.landed && has_owner t p.volume server) ≡ b → landed_on w'.control server ≡ cond b (Some p.w) None
-  landed-pending p b is landed =
-      ap (λ o. option_map (λ (x : control.Pending). x.w) (find (has_landed w'.control server) (waiting_seen o))) is
-      ∙ ap (λ b. option_map (λ (x : control.Pending). x.w) (cond b (Some (waits p)) None)) (ap (λ b. p.landed && b) (belongs-here s t h ev p.volume server) ∙ landed)
-      ∙ elim b as (λ b. option_map (λ (x : control.Pending). x.w) (cond b (Some (waits p)) None) ≡ cond b (Some p.w) None) [ true ↦ refl | false ↦ refl ]
-
-  pub landed-none : h.pending ≡ None → landed_on w'.control server ≡ None
-  landed-none none = ap (λ o. option_map (λ (x : control.Pending). x.w) (find (has_landed w'.control server) (waiting_seen o))) none
-
-  pub landed-not : (p : Pending) → h.pending ≡ Some p → (p.landed && has_owner t p.volume server) ≡ false → landed_on w'.control server ≡ None
-  landed-not p is not = landed-pending p false is not
-
-  pub landed-one : (p : Pending) → h.pending ≡ Some p → (p.landed && has_owner t p.volume server) ≡ true → landed_on w'.control server ≡ Some p.w
-  landed-one p is own = landed-pending p true is own
+  pub landed-here : writes.landed_on t server h.pending ≡ landed_on w'.control server
+  landed-here = seen-landed t w'.control server h.pending refl (λ v. belongs-here s t h ev v server)
 
   pub acked-none : landed_on w'.control server ≡ None → carry w' (acknowledge_on server ∷ []) ≡ (w', None)
   acked-none none = carry-skips w' (acknowledge_on server) [] (ap acknowledge_if none) ∙ carry-none w'
 
-  waits-no_more : (o : Option Pending) (n : ℕ) → option_map (λ (x : control.Pending). x.w) (find (has_landed w'.control server) (waiting_seen o)) ≡ Some n → filter (is_other n) (waiting_seen o) ≡ []
-  waits-no_more None n h = refl
-  waits-no_more (Some p) n h =
-      elim (has_landed w'.control server (waits p)) as (λ b. option_map (λ (x : control.Pending). x.w) (cond b (Some (waits p)) None) ≡ Some n → filter (is_other n) (waits p ∷ []) ≡ []) [
-        | true ↦ λ e. pending-none (waits p) n cc
-        | false ↦ λ e. cc
-      ] h
-
-  pub acked-one : (n : ℕ) (h' : Host) (now : List Event) → landed_on w'.control server ≡ Some n → h' ≡ record h { pending = None } → now ≡ ev ++ Ack n ∷ []
+  pub acked-one : (n : ℕ) (h' : Writes) (now : List Event) → landed_on w'.control server ≡ Some n → h' ≡ without h n → now ≡ ev ++ Ack n ∷ []
       → carry w' (acknowledge_on server ∷ []) ≡ (here s t h' now, None)
   acked-one n h' now one gone told =
       carry-goes w' (acknowledged w' n) (acknowledge_on server) [] (Acknowledge n) (ap acknowledge_if one) (act-acknowledge w' n) ∙ carry-none (acknowledged w' n)
-      ∙ (λ i. (record w' { control = record w'.control { pending = waits-no_more h.pending n one i }; events = sym told i }, None))
-      ∙ ap (λ (x : Host). (here s t x now, None)) (sym gone)
+      ∙ (λ i. (record w' { control = record w'.control { pending = sym (seen-without n h.pending) i }; events = sym told i }, None))
+      ∙ ap (λ (x : Writes). (here s t x now, None)) (sym gone)
 
 -- a server that was off is turned on
-module _ (s : PlantState) (t : Table) (h : Host) (ev : List Event) (line server : ℕ) (low : server < 8) (off : s.on server ≡ false) (mid : List Event) (told : mid ≡ ev ++ Started server ∷ []) where
+module _ (s : PlantState) (t : Table) (h : Writes) (ev : List Event) (line server : ℕ) (low : server < 8) (off : s.on server ≡ false) (mid : List Event) (told : mid ≡ ev ++ Started server ∷ []) where
   abbrev w0 : World
   w0 = here s t h ev
 
@@ -324,7 +293,7 @@ module _ (s : PlantState) (t : Table) (h : Host) (ev : List Event) (line server 
   abbrev last : List Entry
   last = acknowledge_on server ∷ []
 
-  starts_on : after_plan w0 line (start_on w0.control (Some server)) ≡ after_plan w0 line starts
+  starts_on : after_plan w0 line (start_on w0.control server) ≡ after_plan w0 line starts
   starts_on = ap (λ b. after_plan w0 line (cond b (only_says (Done Alone)) starts)) (on-seen s server low ∙ off)
 
   carried : (o o' : Outcome) → carry (here (started s server) t h mid) redoes ≡ o → onward o (λ u. carry u last) ≡ o' → carry (begun w0 starts) starts.entries ≡ o'
@@ -333,17 +302,27 @@ module _ (s : PlantState) (t : Table) (h : Host) (ev : List Event) (line server 
       ∙ carry-append (here (started s server) t h mid) redoes last ∙ ap (λ o. onward o (λ u. carry u last)) is ∙ ends
 
   pub turned-fails : (u : PlantState) (now : List Event) (r : Refusal) → carry (here (started s server) t h mid) (redo_from t server 0) ≡ (here u t h now, Some r)
-      → after_plan w0 line (start_on w0.control (Some server)) ≡ said (here u t h now) line (Refused r)
+      → after_plan w0 line (start_on w0.control server) ≡ said (here u t h now) line (Refused r)
   turned-fails u now r is = starts_on ∙ plan-fails w0 (here u t h now) line starts r (λ s. refl) (carried _ _ is refl)
 
-  pub turned-goes : (u : PlantState) (h' : Host) (mid' now : List Event) (a : Addition) → carry (here (started s server) t h mid) (redo_from t server 0) ≡ (here u t h mid', None)
+  pub turned-goes : (u : PlantState) (h' : Writes) (mid' now : List Event) (a : Addition) → carry (here (started s server) t h mid) (redo_from t server 0) ≡ (here u t h mid', None)
       → carry (here u t h mid') (acknowledge_on server ∷ []) ≡ (here u t h' now, None) → Done a ≡ says_acked (landed_on w0.control server)
-      → after_plan w0 line (start_on w0.control (Some server)) ≡ said (here u t h' now) line (Done a)
+      → after_plan w0 line (start_on w0.control server) ≡ said (here u t h' now) line (Done a)
   turned-goes u h' mid' now a is acked answers =
       starts_on ∙ plan-ends w0 line starts (here u t h' now, None) (carried _ _ is acked) ∙ ap (said (here u t h' now) line) (sym answers)
 
-pub started-already : (s : PlantState) (t : Table) (h : Host) (ev : List Event) (line server : ℕ) → server < 8 → s.on server ≡ true
-    → after_plan (here s t h ev) line (start_on (here s t h ev).control (Some server)) ≡ said (here s t h ev) line (Done Alone)
+pub started-already : (s : PlantState) (t : Table) (h : Writes) (ev : List Event) (line server : ℕ) → server < 8 → s.on server ≡ true
+    → after_plan (here s t h ev) line (start_on (here s t h ev).control server) ≡ said (here s t h ev) line (Done Alone)
 started-already s t h ev line server low on =
     let k : Control = (here s t h ev).control in
     ap (λ b. after_plan (here s t h ev) line (cond b (only_says (Done Alone)) (start_plan k server))) (on-seen s server low ∙ on) ∙ plan-says (here s t h ev) line (Done Alone)
+
+-- a start is no fault
+pub started-faults : (s s' : PlantState) (server : ℕ) → s' ≡ started s server → s'.faults ≡ s.faults
+unfolding started
+started-faults s s' server is = ap (λ (x : PlantState). x.faults) is
+
+-- the answer of a stop is counted
+pub stopped-counts : (r : Result Addition Refusal) (e : Refusal) (server : ServerId) (s u : PlantState) → is_err r ≡ true → IsErrAnd r (λ x. x ≡ e) → Some e ≡ Some (StoppedIn server) → Rose s.faults u.faults → Counts (said_of r) s u
+stopped-counts (Ok a) e server s u failed is stop rose = absurd cc
+stopped-counts (Err x) e server s u failed is stop rose = let same : StoppedIn server ≡ e = cc in subst (λ y. Counts (Refused y) s u) (same ∙ sym is) rose

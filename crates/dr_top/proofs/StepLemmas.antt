@@ -1,63 +1,101 @@
--- What steps come to, over what plant, configuration, writes and journal show.
-use Rattle.std.proofs.Common.{ℕ, ◌≡◌, ◌<◌, ◌+◌, List, [], ◌∷◌, ◌++◌, refl, ap, ◌∙◌, sym, arith, subst, Bool, true, false, not, ◌&&◌, cond, nat_lt, take, Option, Some, None}
-use Rattle.std.specs.Prelude.{is_some}
+-- What the steps on a track come to, over what plant, configuration, writes and journal show.
+use Rattle.std.proofs.Common.{ℕ, ◌≡◌, ◌<◌, ◌+◌, List, [], ◌∷◌, ◌++◌, length, map, refl, ap, ◌∙◌, sym, arith, subst, Bool, true, false, not, cond, nat_lt, nat_le, take, Option, Some, None, IfSome, Result, Ok, Err}
+use Rattle.std.specs.Prelude.{is_some, IfOk, option_map}
+use Rattle.std.specs.List.{find}
+use Rattle.std.specs.Option.{option_or}
 use Rattle.std.proofs.lemmas.Bool.Decides.{nat_tests}
+use Rattle.std.proofs.lemmas.List.{append-nil}
+use Rattle.dr_bits.specs.Membership.{lt_true}
 use Rattle.dr_ids.specs.declared.refusal.Refusal.{Refusal}
-use Rattle.dr_ids.specs.declared.refusal.Refusal.TheVariants.{NotBuilt}
+use Rattle.dr_ids.specs.declared.refusal.Fault.{Fault}
+use Rattle.dr_ids.specs.declared.refusal.Fault.TheVariants.{NoMemory, Refused as FaultRefused}
+use Rattle.dr_ids.specs.declared.refusal.Kind.TheVariants.{Volume as OfVolume, Track as OfTrack, Write as OfWrite}
+use Rattle.dr_ids.specs.declared.refusal.Which.TheVariants as limit
 use Rattle.dr_plant.specs.State.{PlantState}
-use Rattle.dr_config.specs.Table.{Table}
+use Rattle.dr_config.specs.Table.{Table, entry_of}
+use Rattle.dr_config.specs.declared.entries.VolumeEntry.{VolumeEntry}
+use Rattle.dr_config.specs.Rules as rules
+use Rattle.dr_host.specs.declared.pending.Pending.{Pending}
+use Rattle.dr_host.specs.Writes.{Writes, Each, IsPending, IsSound, number, has_number, written, with_write, bytes_of}
+use Rattle.dr_host.specs.Writes as writes
+use Rattle.dr_host.specs.Seen.{seen}
+use Rattle.dr_host.proofs.Seen.{seen-push, seen-refusal, seen-found, bytes-written}
+use Rattle.dr_host.proofs.Each.{each-push, each-found, named-found}
 use Rattle.dr_model.specs.declared.event.Event.{Event}
 use Rattle.dr_model.specs.declared.event.Event.TheVariants.{Shown, Issue}
+use Rattle.dr_model.specs.declared.said.Said.{Said}
 use Rattle.dr_model.specs.declared.said.Said.TheVariants.{Done, Refused}
+use Rattle.dr_model.specs.declared.said.Addition.{Addition}
 use Rattle.dr_model.specs.declared.said.Addition.TheVariants.{Showed, Wrote}
-use Rattle.dr_model.specs.Refusals.{server_off}
+use Rattle.dr_model.specs.Limits.{most_pending}
+use Rattle.dr_model.specs.Refusals.{server_off, unknown, over}
 use Rattle.dr_model.specs.Contents.{image_at}
-use Rattle.dr_model.specs.Control.{World}
+use Rattle.dr_model.specs.Control.{World, is_volume}
 use Rattle.dr_model.specs.Laws.{Sound}
-use Rattle.dr_model.specs.Plans.{Plan, refuses, same, has_track, is_running, is_empty, show_done, show_plan, with_pending, issue_plan, write_plan}
+use Rattle.dr_model.specs.Plans.{Plan, unless, same, is_running, track_refusal, issue_refusal, show_done, show_plan, with_pending, landing, issue_then, write_done, apply_done, apply_on, apply_plan}
+use Rattle.dr_model.specs.Moves as moves
 use Rattle.dr_model.specs.Moves.{Land}
 use Rattle.dr_model.specs.Carry.{carry, now}
-use Rattle.dr_model.specs.Histories.{Histories, histories}
-use Rattle.dr_model.specs.Runs.{after_plan, said}
-use Rattle.dr_model.proofs.Images.{histories-push, at_same}
-use Rattle.dr_model.proofs.CarryLemmas.{carry-passed, carry-refused, plan-ends, plan-tables, plan-refuses, plan-fails}
+use Rattle.dr_model.specs.Histories.{Histories, Write, histories}
+use Rattle.dr_model.specs.Runs.{after_plan, begun, said}
+use Rattle.dr_model.specs.Tables.{at}
+use Rattle.dr_model.proofs.Images.{histories-push, at_same, at_other}
+use Rattle.dr_model.proofs.CarryLemmas.{carry-none, carry-passed, carry-refused, plan-ends, plan-tables, plan-refuses, plan-fails}
 use Rattle.dr_laws.proofs.Agree.{contents-image}
+use Rattle.dr_laws.proofs.Lands.{found-waits}
 use Rattle.dr_volume.specs.View.{on_seen, volume_seen, track_seen}
-use Rattle.dr_top.specs.Here.{here, waiting_seen}
-use Rattle.dr_top.specs.declared.host.Pending.{Pending}
-use Rattle.dr_top.specs.declared.host.Host.{Host}
-use Rattle.dr_top.specs.declared.steps.Place.{Place}
+use Rattle.dr_top.specs.Here.{here, said_of, ended_by, OnAnswer, OnRefused, IsTold}
+use Rattle.dr_ids.specs.declared.refusal.Kind.{Kind}
+use Rattle.dr_top.specs.Faults.{Counts}
+use Rattle.dr_top.specs.Waiting.{IsIssued}
+use Rattle.dr_top.specs.declared.steps.HostWrite.{HostWrite}
+use Rattle.dr_top.specs.declared.locate.Place.{Place}
 use Rattle.dr_top.specs.Located.{IsPlace}
+use Rattle.dr_top.proofs.LocatedLemmas.{is_volume-here, mapped_some, seen-entry}
+use Rattle.dr_top.proofs.ToldLemmas.{IsWrite}
 
 -- of a server that may be there
 pub on-known : (s : PlantState) (server : ℕ) → server < 8 → on_seen s server ≡ s.on server
 on-known s server lt = let e : nat_lt server 8 ≡ true = grind (arith, nat_tests) in ap (λ b. cond b (s.on server) true) e
 
-pub running-known : (s : PlantState) (t : Table) (h : Host) (events : List Event) (v server : ℕ) → (volume_seen s t v).server ≡ server → server < 8 → is_running v (here s t h events).control ≡ s.on server
+pub running-known : (s : PlantState) (t : Table) (h : Writes) (events : List Event) (v server : ℕ) → (volume_seen s t v).server ≡ server → server < 8 → is_running v (here s t h events).control ≡ s.on server
 running-known s t h events v server e lt = ap (on_seen s) e ∙ on-known s server lt
 
-module _ (s : PlantState) (t : Table) (h : Host) (ev : List Event) (line v k : ℕ) where
+-- a track that isn't refused is there
+pub there-is : (s : PlantState) (t : Table) (h : Writes) (ev : List Event) (v k : ℕ) → track_refusal (here s t h ev).control v k ≡ None → (is_some (entry_of t v) ≡ true) × (k < (volume_seen s t v).tracks)
+there-is s t h ev v k none =
+    elim (is_volume (here s t h ev).control v) as (λ b. is_volume (here s t h ev).control v ≡ b → cond (not b) (Some (unknown OfVolume)) (cond (nat_lt k (volume_seen s t v).tracks) None (Some (unknown OfTrack))) ≡ None → (is_some (entry_of t v) ≡ true) × (k < (volume_seen s t v).tracks)) [
+      | false ↦ λ is e. absurd (cc)
+      | true ↦ λ is e. (
+        sym (is_volume-here s t h ev v) ∙ is,
+        elim (nat_lt k (volume_seen s t v).tracks) as (λ b. nat_lt k (volume_seen s t v).tracks ≡ b → cond b None (Some (unknown OfTrack)) ≡ None → k < (volume_seen s t v).tracks) [
+          | true ↦ λ lt e. let h : nat_lt k (volume_seen s t v).tracks ≡ true = lt in grind (arith, nat_tests)
+          | false ↦ λ lt e. absurd (cc)
+        ] refl e,
+      )
+    ] refl none
+
+module _ (s : PlantState) (t : Table) (h : Writes) (ev : List Event) (line v k : ℕ) where
   abbrev w : World
   w = here s t h ev
 
-  abbrev refused_off : Plan
-  refused_off = refuses (server_off (volume_seen s t v).server)
+  abbrev off_refusal : Bool → Option Refusal
+  off_refusal on = cond on None (Some (server_off (volume_seen s t v).server))
 
-  pub showed-nowhere : has_track w.control v k ≡ false → after_plan w line (show_plan w.control ev line v k) ≡ said w line (Refused NotBuilt)
-  showed-nowhere none =
-      ap (λ b. after_plan w line (cond (not b) (refuses NotBuilt) (cond (is_running v w.control) (show_done ev line v k) refused_off))) none ∙ plan-refuses w line NotBuilt
+  pub showed-nowhere : (r : Refusal) → track_refusal w.control v k ≡ Some r → after_plan w line (show_plan w.control ev line v k) ≡ said w line (Refused r)
+  showed-nowhere r none = ap (λ o. after_plan w line (unless (option_or o (off_refusal (is_running v w.control))) (show_done ev line v k))) none ∙ plan-refuses w line r
 
-  by_server : (on : Bool) → has_track w.control v k ≡ true → is_running v w.control ≡ on → after_plan w line (show_plan w.control ev line v k) ≡ after_plan w line (cond on (show_done ev line v k) refused_off)
+  by_server : (on : Bool) → track_refusal w.control v k ≡ None → is_running v w.control ≡ on → after_plan w line (show_plan w.control ev line v k) ≡ after_plan w line (unless (off_refusal on) (show_done ev line v k))
   by_server on there is =
-      ap (λ b. after_plan w line (cond (not b) (refuses NotBuilt) (cond (is_running v w.control) (show_done ev line v k) refused_off))) there
-      ∙ ap (λ b. after_plan w line (cond b (show_done ev line v k) refused_off)) is
+      ap (λ o. after_plan w line (unless (option_or o (off_refusal (is_running v w.control))) (show_done ev line v k))) there
+      ∙ ap (λ b. after_plan w line (unless (off_refusal b) (show_done ev line v k))) is
 
-  pub showed-off : (p : Place) → has_track w.control v k ≡ true → IsPlace s t v k p → s.on p.server.0 ≡ false → after_plan w line (show_plan w.control ev line v k) ≡ said w line (Refused (server_off p.server.0))
+  pub showed-off : (p : Place) → track_refusal w.control v k ≡ None → IsPlace s t v k p → s.on p.server.0 ≡ false → after_plan w line (show_plan w.control ev line v k) ≡ said w line (Refused (server_off p.server.0))
   showed-off p there at off =
       by_server false there (running-known s t h ev v p.server.0 at.server at.known ∙ off)
       ∙ plan-refuses w line (server_off (volume_seen s t v).server) ∙ ap (λ x. said w line (Refused (server_off x))) at.server
 
-  pub showed-on : (mid : List Event) (p : Place) (bytes : List ℕ) → Sound w → has_track w.control v k ≡ true → IsPlace s t v k p → s.on p.server.0 ≡ true → bytes ≡ track_seen s t v p.track
+  pub showed-on : (mid : List Event) (p : Place) (bytes : List ℕ) → Sound w → track_refusal w.control v k ≡ None → IsPlace s t v k p → s.on p.server.0 ≡ true → bytes ≡ track_seen s t v p.track
       → mid ≡ ev ++ Shown line v p.track bytes ∷ [] → after_plan w line (show_plan w.control ev line v k) ≡ said (here s t h mid) line (Done Showed)
   showed-on mid p bytes sound there at on is shown =
       let runs = running-known s t h ev v p.server.0 at.server at.known ∙ on in
@@ -68,89 +106,183 @@ module _ (s : PlantState) (t : Table) (h : Host) (ev : List Event) (line v k : �
       ∙ ap (λ x. said (here s t h (ev ++ Shown line v x bytes ∷ [])) line (Done Showed)) (sym at.track)
       ∙ ap (λ x. said (here s t h x) line (Done Showed)) (sym shown)
 
--- a write waits where the host has one pending
-pub empty-waiting : (o : Option Pending) → is_empty (waiting_seen o) ≡ not (is_some o)
-empty-waiting None = refl
-empty-waiting (Some p) = refl
+  -- a pending write whose server is off stays pending, and one whose server is on lands
+  pub lands-off : (n server : ℕ) → (volume_seen s t v).server ≡ server → server < 8 → s.on server ≡ false → carry w (landing w.control n v k) ≡ (w, Some (server_off server))
+  lands-off n server owner known off =
+      carry-refused w (is_running v) (server_off (volume_seen s t v).server) (now (Land n v k) ∷ []) (running-known s t h ev v server owner known ∙ off)
+      ∙ ap (λ x. (w, Some (server_off x))) owner
 
--- the host after a write was issued
-abbrev pub issued_host : Host → ℕ → ℕ → Host
-issued_host h v k = record { issued = h.issued + 1; pending = Some (record { w = h.issued + 1; volume = v; track = k; landed = false }) }
+  pub lands-on : (n server : ℕ) (u : World) (r : Option Refusal) → (volume_seen s t v).server ≡ server → server < 8 → s.on server ≡ true → carry w (now (Land n v k) ∷ []) ≡ (u, r) → carry w (landing w.control n v k) ≡ (u, r)
+  lands-on n server u r owner known on is =
+      carry-passed w (is_running v) (server_off (volume_seen s t v).server) (now (Land n v k) ∷ []) (running-known s t h ev v server owner known ∙ on) ∙ is
 
-module _ (s : PlantState) (t : Table) (h : Host) (ev : List Event) (v k offset len : ℕ) (bytes : List ℕ) where
+-- why a write isn't issued
+module _ (s : PlantState) (t : Table) (h : Writes) (ev : List Event) (v k : ℕ) where
+  abbrev full : Option Refusal
+  full = cond (nat_le most_pending (length (map seen h.pending))) (Some (over limit.Pending)) None
+
+  pub issues-nowhere : (r : Refusal) → track_refusal (here s t h ev).control v k ≡ Some r → issue_refusal (here s t h ev).control v k ≡ Some r
+  issues-nowhere r none = ap (λ o. option_or o full) none
+
+  pub issues-by : (o : Option Refusal) → track_refusal (here s t h ev).control v k ≡ None → o ≡ writes.issue_refusal h → issue_refusal (here s t h ev).control v k ≡ o
+  issues-by o there is = ap (λ o. option_or o full) there ∙ sym (seen-refusal h) ∙ sym is
+
+-- a fault is a refusal, or there was no memory
+pub fault-refused : (T : Type 0) (e : Fault) (o : Option Refusal) (P : Refusal → Type 0) → rules.refusal_of {T = T} (Err e) ≡ o → ((r : Refusal) → Some r ≡ o → P r) → OnRefused {T = T} (Err e) P
+fault-refused T NoMemory o P is f = tt
+fault-refused T (FaultRefused r) o P is f = f r is
+
+pub fault-answers : (T : Type 0) (e : Fault) (P : Refusal → Type 0) (Q : Said → Type 0) → ((r : Refusal) → P r → Q (Refused r)) → OnRefused {T = T} (Err e) P → OnAnswer (Err e) Q
+fault-answers T NoMemory P Q f is = tt
+fault-answers T (FaultRefused r) P Q f is = f r is
+
+-- a plan that a refusal comes before
+pub plan-unless : (w : World) (line : ℕ) (p : Plan) (o : Option Refusal) (r : Refusal) → o ≡ Some r → after_plan w line (unless o p) ≡ said w line (Refused r)
+plan-unless w line p o r is = ap (λ o. after_plan w line (unless o p)) is ∙ plan-refuses w line r
+
+pub plan-free : (w u : World) (line : ℕ) (p : Plan) (o : Option Refusal) → o ≡ None → after_plan w line p ≡ u → after_plan w line (unless o p) ≡ u
+plan-free w u line p o none is = ap (λ o. after_plan w line (unless o p)) none ∙ is
+
+-- a write that was issued
+module _ (s : PlantState) (t : Table) (h h' : Writes) (ev mid : List Event) (x : HostWrite) (n : ℕ) (issued : IsIssued t h ev h' mid x n) where
   abbrev w' : World
   w' = here s t h ev
 
-  abbrev begun_world : World
-  begun_world = record w' { control = with_pending v k w'.control; events = ev ++ Issue (h.issued + 1) v k offset len bytes ∷ [] }
+  abbrev v : ℕ
+  v = x.volume.0
 
-  -- the machine's state once the write is issued
-  issued-here : (mid : List Event) → h.pending ≡ None → mid ≡ ev ++ Issue (h.issued + 1) v k offset len bytes ∷ [] → begun_world ≡ here s t (issued_host h v k) mid
-  issued-here mid none told i = record w' {
-    control = record w'.control { issued = h.issued + 1; pending = ap (λ o. waiting_seen o ++ record { w = h.issued + 1; volume = v; track = k; landed = false } ∷ []) none i };
-    events = sym told i;
-  }
+  abbrev bytes : List ℕ
+  bytes = take x.len x.bytes
 
-  abbrev p' : Plan
-  p' = issue_plan w'.control v k offset len bytes
+  pub issued-begun : record w' { control = with_pending v x.track w'.control; events = ev ++ Issue (h.issued + 1) v x.track x.offset x.len x.bytes ∷ [] } ≡ here s t h' mid
+  issued-begun =
+      (λ i. record w' { control = record w'.control { issued = h.issued + 1; pending = sym (seen-push h.pending (h.issued + 1) v x.track x.offset bytes) i }; events = ev ++ Issue (sym issued.number i) v x.track x.offset x.len x.bytes ∷ [] })
+      ∙ (λ i. here s t (sym issued.host i) (sym issued.told i))
 
-  pub issued-off : (mid : List Event) (line server : ℕ) → h.pending ≡ None → (volume_seen s t v).server ≡ server → server < 8 → s.on server ≡ false
-      → mid ≡ ev ++ Issue (h.issued + 1) v k offset len bytes ∷ []
-      → after_plan w' line p' ≡ said (here s t (issued_host h v k) mid) line (Refused (server_off server))
-  issued-off mid line server none owner known off told =
-      plan-fails w' begun_world line p' (server_off (volume_seen s t v).server) (λ s. refl)
-      (carry-refused begun_world (is_running v) (server_off (volume_seen s t v).server) (now (Land (h.issued + 1) v k) ∷ []) (running-known s t h ev v server owner known ∙ off))
-      ∙ ap (λ x. said begun_world line (Refused (server_off x))) owner
-      ∙ ap (λ x. said x line (Refused (server_off server))) (issued-here mid none told)
+  pub issued-stays : (line : ℕ) → after_plan w' line (unless (issue_refusal w'.control v x.track) (issue_then [] w'.control v x.track x.offset x.len x.bytes)) ≡ said (here s t h' mid) line (Done (Wrote n))
+  issued-stays line =
+      plan-free w' _ line (issue_then [] w'.control v x.track x.offset x.len x.bytes) (issue_refusal w'.control v x.track) (issued.free s) (
+      plan-ends w' line (issue_then [] w'.control v x.track x.offset x.len x.bytes) _ (carry-none _)
+      ∙ ap (λ u. said u line (Done (Wrote (h.issued + 1)))) issued-begun ∙ ap (λ m. said (here s t h' mid) line (Done (Wrote m))) (sym issued.number))
 
-  -- the landing was carried out, with what is said of it
-  landed : (mid : List Event) (server : ℕ) (u : World) (r : Option Refusal) → h.pending ≡ None → (volume_seen s t v).server ≡ server → server < 8 → s.on server ≡ true
-      → mid ≡ ev ++ Issue (h.issued + 1) v k offset len bytes ∷ []
-      → carry (here s t (issued_host h v k) mid) (now (Land (h.issued + 1) v k) ∷ []) ≡ (u, r) → carry begun_world p'.entries ≡ (u, r)
-  landed mid server u r none owner known on told is =
-      carry-passed begun_world (is_running v) (server_off (volume_seen s t v).server) (now (Land (h.issued + 1) v k) ∷ []) (running-known s t h ev v server owner known ∙ on)
-      ∙ ap (λ x. carry x (now (Land (h.issued + 1) v k) ∷ [])) (issued-here mid none told) ∙ is
-
-  pub issued-lands : (mid : List Event) (line server : ℕ) (u : World) → h.pending ≡ None → (volume_seen s t v).server ≡ server → server < 8 → s.on server ≡ true
-      → mid ≡ ev ++ Issue (h.issued + 1) v k offset len bytes ∷ []
-      → carry (here s t (issued_host h v k) mid) (now (Land (h.issued + 1) v k) ∷ []) ≡ (u, None) → after_plan w' line p' ≡ said u line (Done (Wrote (h.issued + 1)))
-  issued-lands mid line server u none owner known on told is = plan-ends w' line p' (u, None) (landed mid server u None none owner known on told is)
-
-  pub issued-fails : (mid : List Event) (line server : ℕ) (u : World) (r : Refusal) → h.pending ≡ None → (volume_seen s t v).server ≡ server → server < 8 → s.on server ≡ true
-      → mid ≡ ev ++ Issue (h.issued + 1) v k offset len bytes ∷ []
-      → carry (here s t (issued_host h v k) mid) (now (Land (h.issued + 1) v k) ∷ []) ≡ (u, Some r) → after_plan w' line p' ≡ said u line (Refused r)
-  issued-fails mid line server u r none owner known on told is = plan-fails w' u line p' r (λ s. refl) (landed mid server u (Some r) none owner known on told is)
-
-  -- a write that isn't carried out
-  pub wrote-nowhere : (line : ℕ) → has_track w'.control v k ≡ false → after_plan w' line (write_plan w'.control v k offset len bytes) ≡ said w' line (Refused NotBuilt)
-  wrote-nowhere line none =
-      ap (λ b. after_plan w' line (cond (b && is_empty w'.control.pending) p' (refuses NotBuilt))) none ∙ plan-refuses w' line NotBuilt
-
-  by_pending : (line : ℕ) (empty : Bool) → has_track w'.control v k ≡ true → is_some h.pending ≡ not empty → after_plan w' line (write_plan w'.control v k offset len bytes) ≡ after_plan w' line (cond empty p' (refuses NotBuilt))
-  by_pending line empty there waits =
-      ap (λ b. after_plan w' line (cond (b && is_empty w'.control.pending) p' (refuses NotBuilt))) there
-      ∙ ap (λ b. after_plan w' line (cond b p' (refuses NotBuilt))) (empty-waiting h.pending ∙ ap not waits ∙ not_not empty)
+  pub issued-lands : (line : ℕ) (u : World) (result : Result Addition Refusal) → carry (here s t h' mid) (landing (here s t h' mid).control n v x.track) ≡ (u, ended_by result) → IfOk result (λ a. a ≡ Wrote n)
+      → after_plan w' line (unless (issue_refusal w'.control v x.track) (write_done w'.control v x.track x.offset x.len x.bytes)) ≡ said u line (said_of result)
+  issued-lands line u result carried wrote = plan-free w' _ line p (issue_refusal w'.control v x.track) (issued.free s) (by result (ap (λ y. carry y p.entries) issued-begun ∙ ap (λ m. carry (here s t h' mid) (landing w'.control m v x.track)) (sym issued.number) ∙ carried) wrote)
     where
-      not_not : (b : Bool) → not (not b) ≡ b
-      not_not true = refl
-      not_not false = refl
+      p : Plan
+      p = write_done w'.control v x.track x.offset x.len x.bytes
 
-  pub wrote-waiting : (line : ℕ) → has_track w'.control v k ≡ true → is_some h.pending ≡ true → after_plan w' line (write_plan w'.control v k offset len bytes) ≡ said w' line (Refused NotBuilt)
-  wrote-waiting line there waits = by_pending line false there waits ∙ plan-refuses w' line NotBuilt
+      by : (result : Result Addition Refusal) → carry (begun w' p) p.entries ≡ (u, ended_by result) → IfOk result (λ a. a ≡ Wrote n) → after_plan w' line p ≡ said u line (said_of result)
+      by (Ok a) is wrote = plan-ends w' line p (u, None) is ∙ ap (λ m. said u line (Done (Wrote m))) (sym issued.number) ∙ ap (λ a. said u line (Done a)) (sym wrote)
+      by (Err r) is wrote = plan-fails w' u line p r (λ s. refl) is
 
-  pub wrote-issued : (line : ℕ) (u : World) → has_track w'.control v k ≡ true → is_some h.pending ≡ false → after_plan w' line p' ≡ u → after_plan w' line (write_plan w'.control v k offset len bytes) ≡ u
-  wrote-issued line u there none is = by_pending line true there none ∙ is
+-- the write that is applied
+module _ (s : PlantState) (t : Table) (h : Writes) (ev : List Event) (line n : ℕ) where
+  abbrev w'' : World
+  w'' = here s t h ev
 
--- the issued write is pending, with the bytes that its event has
-pub issue-known : (ev mid : List Event) (n v k offset len : ℕ) (bytes : List ℕ) → mid ≡ ev ++ Issue n v k offset len bytes ∷ []
-    → (histories mid).write n ≡ record { volume = v; track = k; offset = offset; bytes = take len bytes }
-issue-known ev mid n v k offset len bytes told =
-    ap (λ es. (histories es).write n) told ∙ ap (λ (x : Histories). x.write n) (histories-push ev (Issue n v k offset len bytes))
-    ∙ at_same (histories ev).write n (record { volume = v; track = k; offset = offset; bytes = take len bytes })
+  found-by : (o : Option Pending) → find (has_number n) h.pending ≡ o → find (moves.is_write n) w''.control.pending ≡ option_map seen o
+  found-by o is = sym (seen-found n h.pending) ∙ ap (option_map seen) is
 
--- a host that issued a write, by its number
-pub host-issued : (h h' : Host) (n v k : ℕ) → n ≡ h.issued + 1 → h' ≡ record { issued = n; pending = Some (record { w = n; volume = v; track = k; landed = false }) } → h' ≡ issued_host h v k
-host-issued h h' n v k number is = is ∙ ap (λ x. let m : Host = record { issued = x; pending = Some (record { w = x; volume = v; track = k; landed = false }) } in m) number
+  pub applied-unknown : is_some (find (has_number n) h.pending) ≡ false → after_plan w'' line (apply_plan w''.control n) ≡ said w'' line (Refused (unknown OfWrite))
+  applied-unknown none = by (find (has_number n) h.pending) refl none
+    where
+      by : (o : Option Pending) → find (has_number n) h.pending ≡ o → is_some o ≡ false → after_plan w'' line (apply_plan w''.control n) ≡ said w'' line (Refused (unknown OfWrite))
+      by None is e = ap (λ o. after_plan w'' line (apply_on w''.control o)) (found-by None is) ∙ plan-refuses w'' line (unknown OfWrite)
+      by (Some p) is e = absurd (cc)
 
-pub told-issued : (h : Host) (ev mid : List Event) (n v k offset len : ℕ) (bytes : List ℕ) → n ≡ h.issued + 1 → mid ≡ ev ++ Issue n v k offset len bytes ∷ [] → mid ≡ ev ++ Issue (h.issued + 1) v k offset len bytes ∷ []
-told-issued h ev mid n v k offset len bytes number is = is ∙ ap (λ x. ev ++ Issue x v k offset len bytes ∷ []) number
+  -- its track is there
+  pub applied-there : Sound w'' → (p : Pending) → find (has_number n) h.pending ≡ Some p → track_refusal w''.control p.volume.0 p.track ≡ None
+  applied-there sound p is =
+      let waits = found-waits w'' sound n (seen p) (found-by (Some p) is) in
+      ap (λ b. cond (not b) (Some (unknown OfVolume)) (cond (nat_lt p.track (volume_seen s t p.volume.0).tracks) None (Some (unknown OfTrack)))) waits.defined
+      ∙ ap (λ b. cond b None (Some (unknown OfTrack))) (lt_true p.track (volume_seen s t p.volume.0).tracks waits.low)
+
+  pub applied-lands : (u : World) (result : Result Addition Refusal) → is_some (find (has_number n) h.pending) ≡ true
+      → ((p : Pending) → find (has_number n) h.pending ≡ Some p → carry w'' (landing w''.control n p.volume.0 p.track) ≡ (u, ended_by result)) → IfOk result (λ a. a ≡ Wrote n)
+      → after_plan w'' line (apply_plan w''.control n) ≡ said u line (said_of result)
+  applied-lands u result some carried wrote = by (find (has_number n) h.pending) refl some
+    where
+      ends : (p : Pending) (result : Result Addition Refusal) → p.w.0 ≡ n → carry w'' (landing w''.control n p.volume.0 p.track) ≡ (u, ended_by result) → IfOk result (λ a. a ≡ Wrote n)
+          → after_plan w'' line (apply_done w''.control (seen p)) ≡ said u line (said_of result)
+      ends p (Ok a) named is wrote = plan-ends w'' line (apply_done w''.control (seen p)) (u, None) (ap (λ es. carry (record w'' { events = es }) (landing w''.control p.w.0 p.volume.0 p.track)) (append-nil ev) ∙ ap (λ m. carry w'' (landing w''.control m p.volume.0 p.track)) named ∙ is) ∙ ap (λ m. said u line (Done (Wrote m))) named ∙ ap (λ a. said u line (Done a)) (sym wrote)
+      ends p (Err r) named is wrote = plan-fails w'' u line (apply_done w''.control (seen p)) r (λ s. refl) (ap (λ es. carry (record w'' { events = es }) (landing w''.control p.w.0 p.volume.0 p.track)) (append-nil ev) ∙ ap (λ m. carry w'' (landing w''.control m p.volume.0 p.track)) named ∙ is)
+
+      by : (o : Option Pending) → find (has_number n) h.pending ≡ o → is_some o ≡ true → after_plan w'' line (apply_plan w''.control n) ≡ said u line (said_of result)
+      by None is e = absurd (cc)
+      by (Some p) is e =
+          ap (λ o. after_plan w'' line (apply_on w''.control o)) (found-by (Some p) is)
+          ∙ ends p result (subst (λ o. IfSome o (λ p. number p ≡ n)) is (named-found n h.pending)) (carried p is) wrote
+
+-- a track that isn't there stops no server
+pub calm-nowhere : (s : PlantState) (t : Table) (h : Writes) (ev : List Event) (v k : ℕ) (r : Refusal) (u : PlantState) → track_refusal (here s t h ev).control v k ≡ Some r → Counts (Refused r) u u
+calm-nowhere s t h ev v k r u is =
+    elim (is_volume (here s t h ev).control v) as (λ b. cond (not b) (Some (unknown OfVolume)) (cond (nat_lt k (volume_seen s t v).tracks) None (Some (unknown OfTrack))) ≡ Some r → Counts (Refused r) u u) [
+      | false ↦ λ e. calm-unknown OfVolume r u e
+      | true ↦ elim (nat_lt k (volume_seen s t v).tracks) as (λ b. cond b None (Some (unknown OfTrack)) ≡ Some r → Counts (Refused r) u u) [ true ↦ λ e. absurd (cc) | false ↦ λ e. calm-unknown OfTrack r u e ]
+    ] is
+  where
+    calm-unknown : (k : Kind) (r : Refusal) (u : PlantState) → Some (unknown k) ≡ Some r → Counts (Refused r) u u
+    calm-unknown k r u e = subst (λ o. IfSome o (λ r. Counts (Refused r) u u)) e refl
+
+-- what is written of a write that is issued leaves the others as they were, whose numbers are below
+module _ (h h' : Writes) (ev mid : List Event) (n v k o l : ℕ) (b bytes : List ℕ) where
+  abbrev new : Pending
+  new = written n v k o bytes
+
+  pub issued-told : n ≡ h.issued + 1 → bytes ≡ take l b → h' ≡ with_write h v k o bytes → mid ≡ ev ++ Issue n v k o l b ∷ [] → IsSound h → IsTold h ev → IsTold h' mid
+  issued-told number is added told sound olds =
+      subst (λ (x : Writes). IsTold x mid) (sym (added ∙ ap (λ m. let y : Writes = record { issued = h.issued + 1; pending = h.pending ++ written m v k o bytes ∷ [] } in y) (sym number)))
+      (each-push (IsWrite (histories mid).write) h.pending new (each-both h.pending olds sound.each) here-now)
+    where
+      table : (histories mid).write ≡ at (histories ev).write n (record { volume = v; track = k; offset = o; bytes = take l b })
+      table = ap (λ es. (histories es).write) told ∙ ap (λ (x : Histories). x.write) (histories-push ev (Issue n v k o l b))
+
+      here-now : IsWrite (histories mid).write new
+      here-now =
+          ap (λ (f : ℕ → Write). f n) table ∙ at_same (histories ev).write n (record { volume = v; track = k; offset = o; bytes = take l b })
+          ∙ ap (λ y. let x : Write = record { volume = v; track = k; offset = o; bytes = y } in x) (sym is ∙ sym (bytes-written n v k o bytes))
+
+      older : (p : Pending) → IsWrite (histories ev).write p → IsPending h.issued p → IsWrite (histories mid).write p
+      older p was low = ap (λ (f : ℕ → Write). f p.w.0) table ∙ at_other (histories ev).write n (record { volume = v; track = k; offset = o; bytes = take l b }) p.w.0 (λ e. let last = low.last in absurd (omega (arith, last, e, number))) ∙ was
+
+      each-both : (ps : List Pending) → Each (IsWrite (histories ev).write) ps → Each (IsPending h.issued) ps → Each (IsWrite (histories mid).write) ps
+      each-both [] a b = tt
+      each-both (p ∷ ps) a b = (older p a.0 b.0, each-both ps a.1 b.1)
+
+-- where a fact holds over every plant, it holds over this one
+pub any_plant : PlantState
+any_plant = record { count = 0; owner = λ d. 0; size = λ d. 0; block = λ d b. []; on = λ s. true; write_fuse = λ s. None; read_fuse = λ s. None; faults = 0 }
+
+-- an issue that is refused stops no server
+pub calm-issue : (s : PlantState) (t : Table) (h : Writes) (ev : List Event) (v k : ℕ) (r : Refusal) (u : PlantState) → issue_refusal (here s t h ev).control v k ≡ Some r → Counts (Refused r) u u
+calm-issue s t h ev v k r u is = by (track_refusal (here s t h ev).control v k) refl is
+  where
+    full' : Bool → Option Refusal
+    full' b = cond b (Some (over limit.Pending)) None
+
+    by : (o : Option Refusal) → track_refusal (here s t h ev).control v k ≡ o → option_or o (full' (nat_le most_pending (length (map seen h.pending)))) ≡ Some r → Counts (Refused r) u u
+    by (Some q) there e = subst (λ o. IfSome o (λ r. Counts (Refused r) u u)) e (calm-nowhere s t h ev v k q u there)
+    by None there e = elim (nat_le most_pending (length (map seen h.pending))) as (λ b. full' b ≡ Some r → Counts (Refused r) u u) [
+      | true ↦ λ e. subst (λ o. IfSome o (λ r. Counts (Refused r) u u)) e refl
+      | false ↦ λ e. absurd (cc)
+    ] e
+
+-- the server that a table has for a volume
+pub owner-is : (s : PlantState) (t : Table) (v server : ℕ) → Some server ≡ option_map (λ (e : VolumeEntry). e.server) (entry_of t v) → (volume_seen s t v).server ≡ server
+owner-is s t v server is = let e = mapped_some (λ (e : VolumeEntry). e.server) (entry_of t v) server is in (seen-entry s t v e.0 e.1).0 ∙ e.2
+
+pub none-some : {T : Type 0} {o : Option T} → o ≡ None → is_some o ≡ true → ⊥
+none-some none some = cc
+
+-- what holds of the write that was found holds of each that is
+pub by-found : (P : Pending → Type 0) (o : Option Pending) (p : Pending) → o ≡ Some p → P p → (q : Pending) → o ≡ Some q → P q
+by-found P o p found is q there = subst (λ o. IfSome o P) (sym found ∙ there) is
+
+-- the journal has the write that was found
+pub pending-issue : (h : Writes) (ev : List Event) (n : ℕ) (p : Pending) (bytes : List ℕ) → IsTold h ev → find (has_number n) h.pending ≡ Some p → bytes ≡ bytes_of p
+    → (histories ev).write n ≡ record { volume = p.volume.0; track = p.track; offset = p.offset; bytes = bytes }
+pending-issue h ev n p bs told found is =
+    let named : number p ≡ n = subst (λ o. IfSome o (λ p. number p ≡ n)) found (named-found n h.pending) in
+    let has : IsWrite (histories ev).write p = subst (λ o. IfSome o (IsWrite (histories ev).write)) found (each-found (IsWrite (histories ev).write) (has_number n) h.pending told) in
+    ap (histories ev).write (sym named) ∙ has ∙ ap (λ b. let x : Write = record { volume = p.volume.0; track = p.track; offset = p.offset; bytes = b } in x) (sym is)

@@ -1,7 +1,9 @@
 -- One landing, from what the update of its volume left.
-use Rattle.std.proofs.Common.{ℕ, ◌≡◌, List, [], ◌∷◌, ◌++◌, refl, ap, ◌∙◌, sym, arith, Bool, true, false, not, cond, nat_eq, nat_lt, Some, None}
-use Rattle.std.proofs.lemmas.Bool.Decides.{nat_tests}
-use Rattle.std.specs.Prelude.{filter, if◌then◌else◌}
+use Rattle.std.proofs.Common.{ℕ, ◌≡◌, List, [], ◌∷◌, ◌++◌, refl, ap, ◌∙◌, sym, Bool, true, false, not, cond, nat_lt, map, Some, None}
+use Rattle.dr_host.specs.Writes.{Writes, with_marked}
+use Rattle.dr_host.specs.Seen.{seen}
+use Rattle.dr_host.proofs.Seen.{seen-marked}
+use Rattle.std.specs.Prelude.{if◌then◌else◌}
 use mathlib.Core.Bool.{beq}
 use Rattle.dr_plant.specs.State.{PlantState}
 use Rattle.dr_volume.specs.View.{on_seen}
@@ -9,8 +11,8 @@ use Rattle.dr_model.specs.declared.event.Event.TheVariants.{Stopped}
 use Rattle.dr_model.specs.Histories.{histories, Write}
 use Rattle.dr_model.specs.Contents.{laid}
 use Rattle.dr_model.specs.Layout.{Fields}
-use Rattle.dr_model.specs.Control.{World, Pending, Volume}
-use Rattle.dr_model.specs.Moves.{Move, Land, Carried, is_other, marked, moved, updated}
+use Rattle.dr_model.specs.Control.{World, Volume}
+use Rattle.dr_model.specs.Moves.{Move, Land, Carried, marked, moved, updated}
 use Rattle.dr_model.specs.Carry.{turn, update, finished, cut_short, ended, Ended, turn_ended, pass, writes, counts_by, spent, off}
 use Rattle.dr_volume.specs.Update.{EndsAs}
 use Rattle.dr_top.specs.Landing.{filled}
@@ -81,27 +83,26 @@ done-by_slot w v f c =
       ]
     ]
 
-same_number : (n : ℕ) → nat_eq n n ≡ true
-same_number n = grind (arith, nat_tests)
-
--- the one pending write is acknowledged, or marked
-pub pending-none : (p : Pending) (n : ℕ) → p.w ≡ n → filter (is_other n) (p ∷ []) ≡ []
-pending-none p n e = ap (λ b. cond (not b) (p ∷ []) []) (ap (λ k. nat_eq k n) e ∙ same_number n)
-
-pub pending-marked : (p : Pending) (n : ℕ) → p.w ≡ n → marked n (p ∷ []) ≡ record p { landed = true } ∷ []
-pending-marked p n e = ap (λ b. cond b (record p { landed = true }) p ∷ []) (ap (λ k. nat_eq k n) e ∙ same_number n)
-
 pub not_beq : (a b : Bool) → not (beq a b) ≡ differ a b
 not_beq true true = refl
 not_beq true false = refl
 not_beq false true = refl
 not_beq false false = refl
 
--- what a stop leaves of the one pending write, and what the journal is told
-pub cut_short-one : (u : World) (n v t : ℕ) (x : Volume) (p : Pending) (done : Bool) → p.w ≡ n → p.landed ≡ false → u.control.pending ≡ p ∷ []
-    → cut_short u (Land n v t) x done ≡ record u { control = record u.control { pending = record p { landed = done } ∷ [] }; events = u.events ++ Stopped x.server (cond done n 0) ∷ [] }
-cut_short-one u n v t x p true e waits is i = record u { control = record u.control { pending = (ap (marked n) is ∙ pending-marked p n e) i }; events = u.events ++ Stopped x.server n ∷ [] }
-cut_short-one u n v t x p false e waits is i = record u { control = record u.control { pending = (is ∙ ap (λ b. record p { landed = b } ∷ []) waits) i }; events = u.events ++ Stopped x.server 0 ∷ [] }
+-- what a stop leaves of the pending writes, and what the journal is told
+pub cut_short-is : (u : World) (n v t : ℕ) (x : Volume) (done : Bool)
+    → cut_short u (Land n v t) x done ≡ record u { control = record u.control { pending = cond done (marked n u.control.pending) u.control.pending }; events = u.events ++ Stopped x.server (cond done n 0) ∷ [] }
+cut_short-is u n v t x true = refl
+cut_short-is u n v t x false = refl
+
+-- the machine sees the write of a host that has landed
+pub seen-landed : (h h' : Writes) (n : ℕ) (landed : Bool) → h' ≡ cond landed (with_marked h n) h → cond landed (marked n (map seen h.pending)) (map seen h.pending) ≡ map seen h'.pending
+seen-landed h h' n true is = sym (seen-marked n h.pending) ∙ ap (λ (x : Writes). map seen x.pending) (sym is)
+seen-landed h h' n false is = ap (λ (x : Writes). map seen x.pending) (sym is)
+
+pub issued-landed : (h h' : Writes) (n : ℕ) (landed : Bool) → h' ≡ cond landed (with_marked h n) h → h'.issued ≡ h.issued
+issued-landed h h' n true is = ap (λ (x : Writes). x.issued) is
+issued-landed h h' n false is = ap (λ (x : Writes). x.issued) is
 
 -- a server that is on is on for the machine too
 pub on-running : (s : PlantState) (server : ℕ) → s.on server ≡ true → on_seen s server ≡ true

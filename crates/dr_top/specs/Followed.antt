@@ -1,37 +1,59 @@
--- What the first lines of a script came to, and what was printed.
-use Rattle.std.specs.Prelude.{◌≡◌, ℕ, ◌≤◌, List, ◌++◌, length, take, drop, Option}
+-- Where a run stands that ended within a line, and what was printed.
+use Rattle.std.specs.Prelude.{◌≡◌, ℕ, ◌+◌, ◌<◌, ◌≤◌, ◌⊎◌, List, [], ◌++◌, length, take, drop, Option}
+use Rattle.std.specs.List.{fold}
 use Rattle.std.specs.Str.Lines.{lines}
 use Rattle.dr_model.specs.declared.event.Event.{Event}
 use Rattle.dr_model.specs.Control.{World}
-use Rattle.dr_model.specs.Lines.{tasks_from}
-use Rattle.dr_model.specs.Runs.{run}
+use Rattle.dr_model.specs.Limits.{most_events}
+use Rattle.dr_model.specs.Lines.{tasks, tasks_from}
+use Rattle.dr_model.specs.Runs.{Task, after_tasks, run}
 use Rattle.dr_model.specs.Text.{text, text_from, heard, untold}
-use Rattle.std.specs.List.{fold}
-use Rattle.dr_top.specs.Given.{Gave, GavePart}
-
--- the world after the first lines of a script
-abbrev pub world_after : List ℕ → ℕ → World
-world_after script count = run (tasks_from 1 (take count (lines script)))
-
--- The first lines of a script lead to this world.
-pub record Followed (script : List ℕ) (w : World) : Type 0 where
-  pub count : ℕ
-  pub within : count ≤ length (lines script)
-  pub leads : world_after script count ≡ w
-
-module _ {K : Type 0} (written : K → Option (List ℕ)) (old new : K) (before after : List Event) where
-  -- the sink was given the text of the events that came
-  pub record Prints : Type 0 where
-    pub piece : List ℕ
-    pub text : text after ≡ text before ++ piece
-    pub gave : Gave written old new piece
-
-  -- the sink was given a front of it
-  pub record PrintsPart : Type 0 where
-    pub piece : List ℕ
-    pub text : text after ≡ text before ++ piece
-    pub gave : GavePart written old new piece
+use Rattle.dr_io.specs.Lines.{IsOpen, most_piece}
+use Rattle.dr_top.specs.Cut.{IsClosed, IsEnded}
+use Rattle.dr_io.specs.Given.{Gave, TookAll}
 
 -- the text of the events from a place on
 abbrev pub text_since : List Event → ℕ → List ℕ
 text_since events from = text_from (fold heard untold (take from events)) (drop from events)
+
+module _ {S : Type 0} (left : S → Option (List ℕ)) (source : S) where
+  -- the last line, which has no end: nothing lies behind it, and the source had no more
+  pub record IsLast (taken line ahead : List ℕ) : Type 0 where
+    pub unended : IsOpen line
+    pub some : 0 < length line
+    pub none : ahead ≡ []
+    pub all : TookAll left source taken
+
+  -- A run that stands in a line: so many of its steps were carried out, after all lines before it. At most one piece was
+  -- taken behind it.
+  pub record IsHalted (taken : List ℕ) (w : World) : Type 0 where
+    pub before : List ℕ
+    pub line : List ℕ
+    pub ahead : List ℕ
+    pub cut : taken ≡ before ++ (line ++ ahead)
+    pub closed : IsClosed before
+    pub one : IsEnded line ⊎ IsLast taken line ahead
+    pub near : length ahead ≤ most_piece
+    pub start : World
+    pub begins : run (tasks before) ≡ start
+    pub tasks : List Task
+    pub are : tasks_from (length (lines before) + 1) (lines line) ≡ tasks
+    pub done : ℕ
+    pub within : done ≤ length tasks
+    pub leads : after_tasks start (take done tasks) ≡ w
+
+-- the next step found the journal full
+abbrev pub IsFull : ℕ → List Task → World → Type 0
+IsFull done tasks w = (done < length tasks) × (length w.events ≡ most_events)
+
+-- all steps of a line were carried out, or the next one found the journal full
+abbrev pub IsThrough : ℕ → List Task → World → Type 0
+IsThrough done tasks w = (done ≡ length tasks) ⊎ IsFull done tasks w
+
+-- the sink was given all text up to a world, and a front of that from there on
+pub record GavePrefix {K : Type 0} (written : K → Option (List ℕ)) (sink sink' : K) (start w : World) : Type 0 where
+  pub rest : List ℕ
+  pub says : text w.events ≡ text start.events ++ rest
+  pub part : ℕ
+  pub within : part ≤ length rest
+  pub gave : Gave written sink sink' (text start.events ++ take part rest)

@@ -1,5 +1,5 @@
 -- The machine's state that a run of the program has reached, and how a call leads on from it.
-use Rattle.std.specs.Prelude.{◌≡◌, ℕ, ◌≤◌, Bool, false, ◌&&◌, List, [], ◌∷◌, Option, Some, None, is_some, nat_lt, Result, Ok, Err}
+use Rattle.std.specs.Prelude.{◌≡◌, ℕ, ◌≤◌, Bool, ◌&&◌, List, map, Option, Some, None, is_some, nat_lt, Result, Ok, Err}
 use Rattle.dr_ids.specs.declared.refusal.Fault.{Fault}
 use Rattle.dr_ids.specs.declared.refusal.Fault.TheVariants.{NoMemory, Refused as FaultRefused}
 use Rattle.dr_ids.specs.declared.refusal.Refusal.{Refusal}
@@ -11,25 +11,19 @@ use Rattle.dr_model.specs.declared.said.Said.{Said}
 use Rattle.dr_model.specs.declared.said.Said.TheVariants.{Done, Refused}
 use Rattle.dr_model.specs.declared.step.Step.{Step}
 use Rattle.dr_model.specs.Control.{World}
-use Rattle.dr_model.specs.Control as control
 use Rattle.dr_model.specs.Histories.{histories}
 use Rattle.dr_model.specs.Plans.{plan_of}
 use Rattle.dr_model.specs.Runs.{after_plan, said}
 use Rattle.dr_volume.specs.View.{Rest, world, volume_seen, IsSettled, ReadsPass}
-use Rattle.dr_top.specs.declared.host.Pending.{Pending}
-use Rattle.dr_top.specs.declared.host.Host.{Host}
-use Rattle.dr_top.specs.declared.machine.Target.{Target}
+use Rattle.dr_host.specs.Writes.{Writes, Each, bytes_of}
+use Rattle.dr_host.specs.Seen.{seen}
+use Rattle.dr_host.specs.declared.pending.Pending.{Pending}
 
--- the pending writes, as the machine has them
-abbrev pub waiting_seen : Option Pending → List control.Pending
-waiting_seen None = []
-waiting_seen (Some p) = record { w = p.w; volume = p.volume; track = p.track; landed = p.landed } ∷ []
-
-abbrev pub rest_of : Host → List Event → Rest
-rest_of h events = record { issued = h.issued; pending = waiting_seen h.pending; events = events }
+abbrev pub rest_of : Writes → List Event → Rest
+rest_of h events = record { issued = h.issued; pending = map seen h.pending; events = events }
 
 -- the state that plant, configuration, writes and journal show
-abbrev pub here : PlantState → Table → Host → List Event → World
+abbrev pub here : PlantState → Table → Writes → List Event → World
 here s t h events = world s t (rest_of h events)
 
 -- the refusal that a call ended with, if one
@@ -41,6 +35,11 @@ refusal_of (Err r) = Some r
 abbrev pub said_of : Result Addition Refusal → Said
 said_of (Ok added) = Done added
 said_of (Err r) = Refused r
+
+-- and one that adds to the answer
+abbrev pub ended_by : Result Addition Refusal → Option Refusal
+ended_by (Ok added) = None
+ended_by (Err r) = Some r
 
 -- a call that wants no memory, among those that may
 abbrev pub widened : Result Addition Refusal → Result Addition Fault
@@ -58,6 +57,11 @@ abbrev pub OnNoMemory : Result Addition Fault → Type 0 → Type 0
 OnNoMemory (Err NoMemory) P = P
 OnNoMemory _ P = Unit {0}
 
+-- what holds of the refusal, where there is one
+abbrev pub OnRefused : {T : Type 0} → Result T Fault → (Refusal → Type 0) → Type 0
+OnRefused (Err (FaultRefused r)) P = P r
+OnRefused _ P = Unit {0}
+
 -- from a world, the machine's step of a line leads to this one, and is answered so
 abbrev pub Leads : World → ℕ → Step → World → Said → Type 0
 Leads w line step u a = after_plan w line (plan_of w.control w.events line step) ≡ said u line a
@@ -73,12 +77,13 @@ pub record IsAtRest (s : PlantState) (t : Table) : Type 0 where
   pub settled : (v : ℕ) → IsSettled s t v
   pub sizes : (v : ℕ) → (volume_seen s t v).tracks ≤ 256
 
--- and no read fuse is armed
-pub record IsReady (s : PlantState) (t : Table) : Type 0 where
+-- each pending write is the one that the journal tells of
+abbrev pub IsTold : Writes → List Event → Type 0
+IsTold h events =
+    Each (λ (p : Pending). (histories events).write (p.w.0) ≡ record { volume = p.volume.0; track = p.track; offset = p.offset; bytes = bytes_of p }) h.pending
+
+-- no read fuse is armed, and the host's pending writes are those of the journal
+pub record IsReady (s : PlantState) (t : Table) (h : Writes) (events : List Event) : Type 0 where
   pub rest : IsAtRest s t
   pub reads : ReadsPass s
-
--- the host's last write is pending, and these are its place and its bytes
-pub record IsPending (h : Host) (events : List Event) (target : Target) (bytes : List ℕ) : Type 0 where
-  pub waits : h.pending ≡ Some (record { w = h.issued; volume = target.volume.0; track = target.track; landed = false })
-  pub issue : (histories events).write h.issued ≡ record { volume = target.volume.0; track = target.track; offset = target.offset; bytes = bytes }
+  pub told : IsTold h events

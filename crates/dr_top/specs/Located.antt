@@ -1,14 +1,13 @@
 -- Where a track of a volume lies, by the configuration.
-use Rattle.std.specs.Prelude.{◌≡◌, ℕ, ◌<◌, Bool, true, false, List, Option, Some, None, is_some, nat_eq}
-use Rattle.std.specs.Option.{option_map_or}
+use Rattle.std.specs.Prelude.{◌≡◌, ℕ, ◌<◌, true, List, Some, None, is_some, Result, Ok, Err}
 use Rattle.dr_plant.specs.State.{PlantState}
-use Rattle.dr_config.specs.Table.{Table, place_of, entry_of}
-use Rattle.dr_config.specs.declared.entries.VolumeEntry.{VolumeEntry}
+use Rattle.dr_config.specs.Table.{Table, place_of}
 use Rattle.dr_volume.specs.View.{volume_seen}
-use Rattle.dr_model.specs.Plans.{has_track}
+use Rattle.dr_ids.specs.declared.refusal.Refusal.{Refusal}
+use Rattle.dr_model.specs.Plans.{track_refusal}
 use Rattle.dr_top.specs.Here.{here}
-use Rattle.dr_top.specs.declared.host.Host.{Host}
-use Rattle.dr_top.specs.declared.steps.Place.{Place}
+use Rattle.dr_host.specs.Writes.{Writes}
+use Rattle.dr_top.specs.declared.locate.Place.{Place}
 use Rattle.dr_model.specs.declared.event.Event.{Event}
 
 -- the place of a track that is there
@@ -19,11 +18,7 @@ pub record IsPlace (s : PlantState) (t : Table) (v k : ℕ) (p : Place) : Type 0
   pub track : p.track ≡ k
   pub within : p.track < (volume_seen s t v).tracks
 
--- a track is located exactly where the machine has it
-abbrev pub Located : Table → ℕ → ℕ → Option Place → Type 0
-Located t v k None = (s : PlantState) (h : Host) (events : List Event) → has_track (here s t h events).control v k ≡ false
-Located t v k (Some p) = (s : PlantState) (h : Host) (events : List Event) → (has_track (here s t h events).control v k ≡ true) × IsPlace s t v k p
-
--- a volume that is defined, and the server's
-abbrev pub has_owner : Table → ℕ → ℕ → Bool
-has_owner t v server = option_map_or (λ (e : VolumeEntry). nat_eq e.server server) (entry_of t v) false
+-- a track is located exactly where the machine has it, and else it says why not
+abbrev pub Located : Table → ℕ → ℕ → Result Place Refusal → Type 0
+Located t v k (Ok p) = (s : PlantState) (h : Writes) (events : List Event) → (track_refusal (here s t h events).control v k ≡ None) × IsPlace s t v k p
+Located t v k (Err r) = (s : PlantState) (h : Writes) (events : List Event) → track_refusal (here s t h events).control v k ≡ Some r

@@ -5,19 +5,23 @@ use Rattle.std.specs.Str.{bytes_eq}
 use Rattle.std.specs.Str.Lines.{lines}
 use Rattle.std.specs.String.{string_bytes}
 use Rattle.std.specs.declared.alloc.Global.{Global}
-use Rattle.dr_io.specs.Faults.{Rose}
 use Rattle.dr_plant.specs.State.{PlantState}
 use Rattle.dr_model.specs.declared.event.Event.{Event}
 use Rattle.dr_model.specs.declared.event.Event.TheVariants.{Answer}
 use Rattle.dr_model.specs.Control.{World}
 use Rattle.dr_model.specs.Fits.{Fits}
-use Rattle.dr_model.specs.Limits.{most_bytes, most_lines}
+use Rattle.dr_io.specs.Lines.{most_bytes, most_lines, most_piece}
+use Rattle.dr_model.specs.Limits.{most_events}
 use Rattle.dr_model.specs.Lines.{tasks}
 use Rattle.dr_model.specs.Runs.{run}
 use Rattle.dr_model.specs.Text.{text}
-use Rattle.dr_volume.specs.View.{fuse_seen}
-use Rattle.dr_top.specs.Followed.{Followed}
-use Rattle.dr_top.specs.Given.{Gave, GavePart, TookAll}
+use Rattle.dr_volume.specs.View.{fuse_seen, ReadsPass}
+use Rattle.dr_io.specs.Lines.{IsOpen}
+use Rattle.dr_top.specs.Cut.{IsClosed}
+use Rattle.dr_top.specs.Faults.{Counted, told_stop}
+use Rattle.dr_top.specs.Followed.{IsHalted, IsThrough, IsFull, GavePrefix}
+use Rattle.dr_io.specs.Faults.{Rose}
+use Rattle.dr_io.specs.Given.{Gave, GavePart, Took, TookAll}
 use Rattle.dr_top.specs.declared.status.Status.{Status}
 use Rattle.dr_top.specs.declared.status.Status.TheVariants.{Done, DoneRefused, Usage, ReadFault, WriteFault, NoMemory, TooLong}
 
@@ -47,62 +51,126 @@ code_of WriteFault = 4
 code_of NoMemory = 5
 code_of TooLong = 6
 
+-- the statuses that a fault of the source, and of the sink, gives
+abbrev pub is_read_fault : Status → Bool
+is_read_fault ReadFault = true
+is_read_fault _ = false
+
+abbrev pub is_write_fault : Status → Bool
+is_write_fault WriteFault = true
+is_write_fault _ = false
+
 -- Each volume has its device, in order of definition: owned by its server, with 13 blocks and one more for each track.
 pub record HasDevices (w : World) (s : PlantState) : Type 0 where
   pub count : s.count ≡ length w.control.volumes
   pub owner : (d v : ℕ) → slice_get w.control.volumes d ≡ Some v → s.owner d ≡ (w.control.volume v).server
   pub size : (d v : ℕ) → slice_get w.control.volumes d ≡ Some v → s.size d ≡ 13 + (w.control.volume v).tracks
 
--- these bytes are a front of what the source had, where it tells that
-abbrev pub Front : {S : Type 0} → (S → Option (List ℕ)) → S → List ℕ → Type 0
-Front left source script = (told : List ℕ) → left source ≡ Some told → (rest : List ℕ) × (told ≡ script ++ rest)
-
-module _ {K : Type 0} (written : K → Option (List ℕ)) (write_faults : K → ℕ) (sink sink' : K) where
+module _ {K : Type 0} (written : K → Option (List ℕ)) (write_faults : K → ℕ) where
   -- words that are no command: the usage line, or a front of it where the sink failed
-  abbrev pub EndsUsage : Status → Type 0
-  EndsUsage Usage = Gave written sink sink' usage_line
-  EndsUsage WriteFault = Rose (write_faults sink) (write_faults sink') × GavePart written sink sink' usage_line
-  EndsUsage _ = ⊥
+  abbrev pub EndsUsage : K → K → Status → Type 0
+  EndsUsage sink sink' Usage = Gave written sink sink' usage_line × (write_faults sink' ≡ write_faults sink)
+  EndsUsage sink sink' WriteFault = GavePart written sink sink' usage_line × Rose (write_faults sink) (write_faults sink')
+  EndsUsage sink sink' _ = ⊥
 
-module _ {S K : Type 0} (left : S → Option (List ℕ)) (read_faults : S → ℕ) (written : K → Option (List ℕ)) (write_faults : K → ℕ)
-    (source source' : S) (sink sink' : K) where
-  -- The script is all that the source had, it is within the limits, and all its steps were carried out, and their
-  -- answers printed.
-  pub record IsWhole (script : List ℕ) (w : World) : Type 0 where
-    pub all : TookAll left source script
-    pub bytes : length script ≤ most_bytes
-    pub lines : length (lines script) ≤ most_lines
-    pub leads : run (tasks script) ≡ w
+  module _ {S J : Type 0} (source source' : S) (sink sink' : K) where
+    -- nothing was read or carried out
+    pub record IsUsage (status : Status) (journal journal' : J) (s s' : PlantState) : Type 0 where
+      pub source_same : source' ≡ source
+      pub plant_same : s' ≡ s
+      pub journal_same : journal' ≡ journal
+      pub ends : EndsUsage sink sink' status
+
+module _ {S K : Type 0} (left : S → Option (List ℕ)) (written : K → Option (List ℕ)) (source source' : S) (sink sink' : K) where
+  -- All that the source had was taken, it is within the limits, and all its steps were carried out, and their answers
+  -- printed.
+  pub record IsWhole (taken : List ℕ) (w : World) : Type 0 where
+    pub all : TookAll left source taken
+    pub bytes : length taken ≤ most_bytes
+    pub lines : length (lines taken) ≤ most_lines
+    pub leads : run (tasks taken) ≡ w
     pub gave : Gave written sink sink' (text w.events)
 
-  -- a limit is passed
-  abbrev pub IsTooLong : List ℕ → Type 0
-  IsTooLong script = (most_bytes < length script) ⊎ (most_lines < length (lines script))
+  -- The lines that were taken whole were carried out, and their answers printed; behind them lies what is no whole line.
+  pub record IsUpTo (taken : List ℕ) (w : World) (ahead : List ℕ) : Type 0 where
+    pub whole : List ℕ
+    pub cut : taken ≡ whole ++ ahead
+    pub closed : IsClosed whole
+    pub few : length (lines whole) ≤ most_lines
+    pub leads : run (tasks whole) ≡ w
+    pub gave : Gave written sink sink' (text w.events)
 
-  -- why a run ended with its status, and what was printed
+  -- A line was cut off.
+  pub record IsCutOff (taken : List ℕ) (w : World) : Type 0 where
+    pub ahead : List ℕ
+    pub up_to : IsUpTo taken w ahead
+    pub unended : IsOpen ahead
+    pub bytes : length taken ≤ most_bytes
+
+  -- One byte past the limit was taken, in a line that doesn't end before it.
+  pub record HasTooManyBytes (taken : List ℕ) (w : World) : Type 0 where
+    pub front : List ℕ
+    pub byte : ℕ
+    pub up_to : IsUpTo taken w (front ++ byte ∷ [])
+    pub unended : IsOpen front
+    pub bytes : length taken ≡ most_bytes + 1
+
+  -- Behind as many lines as there may be more bytes were taken, in one piece.
+  pub record HasTooManyLines (taken : List ℕ) (w : World) : Type 0 where
+    pub ahead : List ℕ
+    pub up_to : IsUpTo taken w ahead
+    pub full : length (lines up_to.whole) ≡ most_lines
+    pub some : 0 < length ahead
+    pub piece : length ahead ≤ most_piece
+    pub bytes : length taken ≤ most_bytes
+
+  -- A step found the journal full.
+  pub record HasFullJournal (taken : List ℕ) (w : World) : Type 0 where
+    pub halted : IsHalted left source taken w
+    pub full : IsFull halted.done halted.tasks w
+    pub gave : Gave written sink sink' (text w.events)
+
+  -- The sink failed after all steps of a line, or after those before one that found the journal full.
+  pub record HasWriteFault (taken : List ℕ) (w : World) : Type 0 where
+    pub halted : IsHalted left source taken w
+    pub through : IsThrough halted.done halted.tasks w
+    pub gave : GavePrefix written sink sink' halted.start w
+
+  -- There was no memory within a line, or for its text.
+  pub record HasNoMemory (taken : List ℕ) (w : World) : Type 0 where
+    pub halted : IsHalted left source taken w
+    pub gave : GavePrefix written sink sink' halted.start w
+
+  -- why a run ended with its status, which steps were carried out, and what was printed
   abbrev pub Ends : Status → List ℕ → World → Type 0
-  Ends Done script w = IsWhole script w × (has_refusal w.events ≡ false)
-  Ends DoneRefused script w = IsWhole script w × (has_refusal w.events ≡ true)
-  Ends Usage script w = ⊥
-  Ends ReadFault script w = Rose (read_faults source) (read_faults source') × Gave written sink sink' (text w.events)
-  Ends WriteFault script w = Rose (write_faults sink) (write_faults sink') × GavePart written sink sink' (text w.events)
-  Ends NoMemory script w = GavePart written sink sink' (text w.events)
-  Ends TooLong script w = IsTooLong script × Gave written sink sink' (text w.events)
+  Ends Done taken w = IsWhole taken w × (has_refusal w.events ≡ false)
+  Ends DoneRefused taken w = IsWhole taken w × (has_refusal w.events ≡ true)
+  Ends Usage taken w = ⊥
+  Ends ReadFault taken w = IsCutOff taken w
+  Ends WriteFault taken w = HasWriteFault taken w
+  Ends NoMemory taken w = HasNoMemory taken w
+  Ends TooLong taken w = HasTooManyBytes taken w ⊎ HasTooManyLines taken w ⊎ HasFullJournal taken w
 
-  -- A run: the first lines of a script lead to a world; the journal is this world's, and the plant fits it.
-  pub record IsRun (status : Status) (events : List Event) (s : PlantState) : Type 0 where
-    pub script : List ℕ
-    pub front : Front left source script
-    pub world : World
-    pub followed : Followed script world
-    pub journal : events ≡ world.events
-    pub devices : HasDevices world s
-    pub fits : Fits world s.on (λ server. fuse_seen (s.write_fuse server)) s.block
-    pub ends : Ends status script world
+  module _ (read_faults : S → ℕ) (write_faults : K → ℕ) where
+    -- A count of source or sink rose exactly where the status says so.
+    pub record CountsStreams (status : Status) : Type 0 where
+      pub reads : Counted (is_read_fault status) (read_faults source) (read_faults source')
+      pub writes : Counted (is_write_fault status) (write_faults sink) (write_faults sink')
 
-  -- nothing was read or carried out
-  pub record IsUsage (status : Status) (before after : List Event) (s s' : PlantState) : Type 0 where
-    pub source_same : source' ≡ source
-    pub plant_same : s' ≡ s
-    pub journal_same : after ≡ before
-    pub ends : EndsUsage written write_faults sink sink' status
+    -- Bytes were taken from the source, and steps of them carried out, which lead to this world.
+    pub record Ran (status : Status) (world : World) : Type 0 where
+      pub taken : List ℕ
+      pub took : Took left source source' taken
+      pub ends : Ends status taken world
+      pub streams : CountsStreams status
+
+    -- A run: the journal is that of the world to which the steps lead, and the plant fits it.
+    pub record IsRun (status : Status) (events : List Event) (s s' : PlantState) : Type 0 where
+      pub world : World
+      pub ran : Ran status world
+      pub journal : events ≡ world.events
+      pub room : length events ≤ most_events
+      pub devices : HasDevices world s'
+      pub fits : Fits world s'.on (λ server. fuse_seen (s'.write_fuse server)) s'.block
+      pub reads : ReadsPass s'
+      pub stops : Counted (told_stop events) s.faults s'.faults

@@ -1,23 +1,21 @@
 -- Steps as a line can give them.
-use Rattle.std.specs.Prelude.{◌+◌, ◌≤◌, Option, Some, None}
+use Rattle.std.specs.Prelude.{◌+◌, ◌≤◌}
 use Rattle.dr_model.specs.declared.step.Name.{Name}
 use Rattle.dr_model.specs.declared.step.Step.{Step}
-use Rattle.dr_model.specs.declared.step.Step.TheVariants.{Server, Volume, Stop, StopAfter, Start, Write}
+use Rattle.dr_model.specs.declared.step.Step.TheVariants.{Server, Volume, Link, Stop, StopAfter, Start, Issue, Write}
 
 -- a name has 1 to 24 bytes
 abbrev pub FitsName : Name → Type 0
 FitsName n = (1 ≤ n.len) × (n.len ≤ 24)
 
--- names fit, and the bytes of a write lie in one track
+-- names fit, and the bytes of a write, one at least, lie in one track
 abbrev pub IsWellFormed : Step → Type 0
 IsWellFormed (Server name) = FitsName name
 IsWellFormed (Volume v name tracks) = FitsName name
+IsWellFormed (Link a b up) = FitsName a × FitsName b
 IsWellFormed (Stop name) = FitsName name
 IsWellFormed (StopAfter name writes torn) = FitsName name
 IsWellFormed (Start name) = FitsName name
-IsWellFormed (Write v t offset len bytes) = offset + len ≤ 64
+IsWellFormed (Issue v t offset len bytes) = (1 ≤ len) × (offset + len ≤ 64)
+IsWellFormed (Write v t offset len bytes) = (1 ≤ len) × (offset + len ≤ 64)
 IsWellFormed _ = Unit {0}
-
-abbrev pub IfWellFormed : Option Step → Type 0
-IfWellFormed None = Unit {0}
-IfWellFormed (Some step) = IsWellFormed step

@@ -1,163 +1,115 @@
-//! Carries out one line of a script.
+//! Carries out the steps of one line of a script.
 
-ghost use Rattle.std.specs.Prelude.{◌≡◌, ℕ, ◌+◌, ◌<◌, ◌≤◌, ◌++◌, ◌^◌, [], ◌∷◌, Some, OnOk, OnErr};
+ghost use Rattle.std.specs.Prelude.{◌≡◌, ℕ, ◌+◌, ◌<◌, ◌≤◌, ◌++◌, ◌^◌, [], ◌∷◌, length, nat_le, Ok, Err, OnOk, OnErr, All};
 ghost use Rattle.dr_model.specs.Answers.{answer};
+ghost use Rattle.dr_model.specs.Control.{World};
+ghost use Rattle.dr_model.specs.declared.said.Said.TheVariants.{Refused};
+ghost use Rattle.dr_ids.specs.declared.refusal.Refusal.{Refusal};
 ghost use Rattle.dr_model.specs.Laws.{Sound};
-ghost use Rattle.dr_model.specs.Lines.{tasks_of};
-ghost use Rattle.dr_model.specs.Runs.{after_task, after_tasks};
-ghost use Rattle.dr_top.specs.Here.{here, said_of, widened, OnAnswer, OnNoMemory, Leads, IsReady};
-ghost use Rattle.dr_top.specs.WellFormed.{IsWellFormed};
+ghost use Rattle.dr_model.specs.Limits.{most_events};
+ghost use Rattle.dr_model.specs.Lines.{tasks_of, tasks_read};
+ghost use Rattle.dr_model.specs.LineText.{IsWritten};
+ghost use Rattle.dr_model.specs.Runs.{after_task};
+ghost use Rattle.dr_top.specs.Carried.{Reached, GoesTo};
+ghost use Rattle.dr_top.specs.Faults.{Counted, told_stop};
+ghost use Rattle.dr_host.specs.Writes.{Writes};
+ghost use Rattle.dr_top.specs.Here.{here, IsTold, IsReady};
 
-use crate::define::{define_server, define_volume};
-use crate::host::Host;
-use crate::reader::{is_no_step, read_step};
-use crate::steps::{HostWrite, show, write};
-use crate::stops::{arm, start, stop};
+use crate::task::{MOST_EVENTS, carry_task, refuse_syntax};
 use dr_config::Config;
-use dr_ids::{Fault, Refusal, VolumeId};
-use dr_model::{Addition, Journal, Said, Step};
+use dr_host::Host;
+use dr_ids::{Fault, Refusal};
+use dr_model::Journal;
 use dr_plant::Plant;
-use std::alloc::AllocError;
+use dr_script::{Line, read_line};
+use std::alloc::Global;
 
-/// The most events of a step.
-const ROOM: usize = 4;
-
-/// A call that wants no memory, among those that may.
-fn widened(carried: Result<Addition, Refusal>) -> Result<Addition, Fault>
-    ensures { result ≡ widened carried }
-{
-    match carried {
-        Ok(added) => Ok(added),
-        Err(refusal) => Err(Fault::Refused(refusal)),
-    }
+/// Why the steps of a line end before its last one.
+#[derive(Clone, Copy)]
+pub enum Bar {
+    /// The next step found the journal full.
+    Full,
+    /// There is no memory.
+    NoMemory,
 }
 
-/// Carries out a step that is built, and refuses each other. Where there is no memory nothing has changed.
-fn carry_out<P: Plant>(
+/// Whether the journal has as many events as it may.
+fn is_full(journal: &Journal) -> bool
+    ensures { result ≡ nat_le most_events (length journal.now.events) }
+{
+    MOST_EVENTS <= journal.len()
+}
+
+/// Carries out the steps of a line in order.
+fn carry_steps<P: Plant>(
     plant: &mut P,
     config: &mut Config,
     host: &mut Host,
     journal: &mut Journal,
-    line: u32,
-    step: Step,
-) -> Result<Addition, Fault>
-    requires ready { IsReady (P.state plant.old) config.old }
-    requires sound { Sound (here (P.state plant.old) config.old host.old journal.old.events) }
-    requires fits { IsWellFormed step }
-    requires room { 4 ≤ journal.old.spare }
-    requires count { host.old.issued + 1 < 2 ^ 32 }
-    ensures step { OnAnswer result (λ a. Leads (here (P.state plant.old) config.old host.old journal.old.events) line step
-        (here (P.state plant.new) config.new host.new journal.new.events) a) }
-    ensures same { OnNoMemory result (here (P.state plant.new) config.new host.new journal.new.events ≡ here (P.state plant.old) config.old host.old journal.old.events) }
-    ensures ready { IsReady (P.state plant.new) config.new }
-    ensures issued { host.new.issued ≤ host.old.issued + 1 }
-    ensures room { 1 ≤ journal.new.spare }
+    number: u32,
+    line: &Line,
+) -> Result<(), Bar>
+    requires ready { IsReady (P.state plant.old) config.old host.old journal.old.events }
+    requires reached { Reached (here (P.state plant.old) config.old host.old journal.old.events) }
+    requires written { All IsWritten line.now }
+    requires room { length journal.old.events ≤ most_events }
+    ensures goes { GoesTo (here (P.state plant.old) config.old host.old journal.old.events) (tasks_read number (Ok line.now))
+        (here (P.state plant.new) config.new host.new journal.new.events) result }
+    ensures ready { IsReady (P.state plant.new) config.new host.new journal.new.events }
+    ensures faults { (f : ℕ) → Counted (told_stop journal.old.events) f (P.state plant.old).faults → Counted (told_stop journal.new.events) f (P.state plant.new).faults }
+    ensures room { length journal.new.events ≤ most_events }
 {
-    match step {
-        Step::Server { name } => define_server(plant, config, host, journal, &name),
-        Step::Volume {
-            volume,
-            server,
-            tracks,
-        } => {
-            let volume = VolumeId(volume);
-            define_volume(plant, config, host, journal, volume, &server, tracks)
+    for i in 0..line.len() {
+        if is_full(journal) {
+            return Err(Bar::Full);
         }
-        Step::Write {
-            volume,
-            track,
-            offset,
-            len,
-            bytes,
-        } => {
-            let asked = HostWrite {
-                volume: VolumeId(volume),
-                track,
-                offset,
-                len,
-                bytes,
-            };
-            widened(write(plant, config, host, journal, &asked))
-        }
-        Step::Show { volume, track } => {
-            let volume = VolumeId(volume);
-            widened(show(plant, config, host, journal, line, volume, track))
-        }
-        Step::Stop { server } => widened(stop(plant, config, host, journal, &server)),
-        Step::StopAfter {
-            server,
-            writes,
-            torn,
-        } => widened(arm(plant, config, host, journal, &server, writes, torn)),
-        Step::Start { server } => widened(start(plant, config, host, journal, &server)),
-        _ => Err(Fault::Refused(Refusal::NotBuilt)),
+        let step = line.step(i).unwrap();
+        let Ok(()) = carry_task(plant, config, host, journal, number, step) else {
+            return Err(Bar::NoMemory);
+        };
     }
-}
-
-/// Keeps the answer of a line, which ends its step.
-fn say(journal: &mut Journal, line: u32, said: Said)
-    requires { 0 < journal.old.spare }
-    ensures events { journal.new.events ≡ journal.old.events ++ answer line said ∷ [] }
-{
-    journal.push(said.event(line));
-}
-
-/// Carries out a step, and answers it. Where there is no memory nothing has changed.
-fn carry_step<P: Plant>(
-    plant: &mut P,
-    config: &mut Config,
-    host: &mut Host,
-    journal: &mut Journal,
-    line: u32,
-    step: Step,
-) -> Result<(), AllocError>
-    requires ready { IsReady (P.state plant.old) config.old }
-    requires sound { Sound (here (P.state plant.old) config.old host.old journal.old.events) }
-    requires fits { IsWellFormed step }
-    requires room { 4 ≤ journal.old.spare }
-    requires count { host.old.issued + 1 < 2 ^ 32 }
-    ensures task { OnOk result (after_task (here (P.state plant.old) config.old host.old journal.old.events) (record { line = line; step = Some step })
-        ≡ here (P.state plant.new) config.new host.new journal.new.events) }
-    ensures same { OnErr result (here (P.state plant.new) config.new host.new journal.new.events ≡ here (P.state plant.old) config.old host.old journal.old.events) }
-    ensures ready { IsReady (P.state plant.new) config.new }
-    ensures issued { host.new.issued ≤ host.old.issued + 1 }
-{
-    let said = match carry_out(plant, config, host, journal, line, step) {
-        Ok(added) => Said::Done(added),
-        Err(Fault::Refused(refusal)) => Said::Refused(refusal),
-        Err(Fault::NoMemory) => return Err(AllocError),
-    };
-    say(journal, line, said);
     Ok(())
 }
 
-/// Carries out a line, where it is a step. Where there is no memory nothing has changed.
+/// Carries out the one step of a line outside the grammar: it is refused.
+fn carry_fault(journal: &mut Journal, number: u32, column: u16) -> Result<(), Bar>
+    requires room { length journal.old.events ≤ most_events }
+    ensures goes { (w : World) → w.events ≡ journal.old.events → GoesTo w (tasks_read number (Err column)) (record w { events = journal.new.events }) result }
+    ensures stops { told_stop journal.new.events ≡ told_stop journal.old.events }
+    ensures told { (h : Writes) → IsTold h journal.old.events → IsTold h journal.new.events }
+    ensures room { length journal.new.events ≤ most_events }
+{
+    if is_full(journal) {
+        return Err(Bar::Full);
+    }
+    let Ok(()) = refuse_syntax(journal, number, column) else {
+        return Err(Bar::NoMemory);
+    };
+    Ok(())
+}
+
+/// Carries out the steps of a line in order; a line outside the grammar is one step, which is refused.
 pub fn carry_line<P: Plant>(
+    alloc: Global,
     plant: &mut P,
     config: &mut Config,
     host: &mut Host,
     journal: &mut Journal,
     number: u32,
     line: &[u8],
-) -> Result<(), AllocError>
-    requires ready { IsReady (P.state plant.old) config.old }
-    requires sound { Sound (here (P.state plant.old) config.old host.old journal.old.events) }
-    requires count { host.old.issued + 1 < 2 ^ 32 }
-    ensures tasks { OnOk result (after_tasks (here (P.state plant.old) config.old host.old journal.old.events) (tasks_of number line.now)
-        ≡ here (P.state plant.new) config.new host.new journal.new.events) }
-    ensures same { OnErr result (here (P.state plant.new) config.new host.new journal.new.events ≡ here (P.state plant.old) config.old host.old journal.old.events) }
-    ensures ready { IsReady (P.state plant.new) config.new }
-    ensures issued { host.new.issued ≤ host.old.issued + 1 }
+) -> Result<(), Bar>
+    requires ready { IsReady (P.state plant.old) config.old host.old journal.old.events }
+    requires reached { Reached (here (P.state plant.old) config.old host.old journal.old.events) }
+    requires room { length journal.old.events ≤ most_events }
+    ensures goes { GoesTo (here (P.state plant.old) config.old host.old journal.old.events) (tasks_of number line.now)
+        (here (P.state plant.new) config.new host.new journal.new.events) result }
+    ensures ready { IsReady (P.state plant.new) config.new host.new journal.new.events }
+    ensures faults { (f : ℕ) → Counted (told_stop journal.old.events) f (P.state plant.old).faults → Counted (told_stop journal.new.events) f (P.state plant.new).faults }
+    ensures room { length journal.new.events ≤ most_events }
 {
-    if is_no_step(line) {
-        return Ok(());
-    }
-    journal.reserve(ROOM)?;
-    match read_step(line) {
-        Some(step) => carry_step(plant, config, host, journal, number, step),
-        None => {
-            say(journal, number, Said::Refused(Refusal::NotBuilt));
-            Ok(())
-        }
+    match read_line(alloc, line) {
+        Ok(steps) => carry_steps(plant, config, host, journal, number, &steps),
+        Err(Fault::Refused(Refusal::Syntax { column })) => carry_fault(journal, number, column),
+        Err(_) => Err(Bar::NoMemory),
     }
 }

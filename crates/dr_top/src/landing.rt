@@ -6,6 +6,7 @@ ghost use Rattle.dr_model.specs.Contents.{laid};
 ghost use Rattle.dr_model.specs.Carry as carry;
 ghost use Rattle.dr_volume.specs.View.{Rest, world, volume_seen, track_seen};
 ghost use Rattle.dr_top.specs.Here.{IsAtRest, armed_in};
+ghost use Rattle.dr_top.specs.Faults.{Counted};
 ghost use Rattle.dr_top.specs.Landing.{LandsAs, filled};
 
 use dr_config::Config;
@@ -44,6 +45,7 @@ pub fn land<P: Plant>(
         (carry.update (world (P.state p.old) c.now r) v.0 (filled (volume_seen (P.state p.old) c.now v.0).fields t) (Some (t, laid offset bytes.now (track_seen (P.state p.old) c.now v.0 t)))) }
     ensures rest { IsAtRest (P.state p.new) c.now }
     ensures unarmed { (q : ℕ) → (P.state p.old).read_fuse q ≡ None → (P.state p.new).read_fuse q ≡ None }
+    ensures faults { Counted (is_err result) (P.state p.old).faults (P.state p.new).faults }
 {
     let mut opened = open(p, c, v)?;
     let mut old = [0; 64];

@@ -3,17 +3,15 @@
 
 mod carry;
 mod define;
-mod host;
-mod input;
 mod landing;
-mod lines;
+mod locate;
 mod machine;
 mod put;
-mod reader;
 mod run;
 mod status;
 mod steps;
 mod stops;
+mod task;
 mod top;
 
 pub use status::Status;

@@ -1,17 +1,22 @@
 //! How a host write lands in what a run holds beside the plant and the journal.
 
-ghost use Rattle.std.specs.Prelude.{◌≡◌, ℕ, ◌+◌, ◌<◌, ◌≤◌, true, [], ◌∷◌, length, IsSome, None, if◌then◌else◌};
+ghost use Rattle.std.specs.Prelude.{◌≡◌, ℕ, ◌+◌, ◌<◌, ◌≤◌, true, [], ◌∷◌, length, is_err, IsSome, Some, None, OnErr, if◌then◌else◌};
+ghost use Rattle.std.specs.List.{find};
 ghost use Rattle.dr_config.specs.Table.{place_of};
+ghost use Rattle.dr_host.specs.Writes.{has_number, with_marked};
 ghost use Rattle.dr_model.specs.Moves.{Land};
 ghost use Rattle.dr_model.specs.Carry.{now};
 ghost use Rattle.dr_model.specs.ReadStops.{Ends};
+ghost use Rattle.dr_model.specs.Refusals.{stopped};
 ghost use Rattle.dr_volume.specs.View.{volume_seen};
-ghost use Rattle.dr_top.specs.Here.{here, refusal_of, armed_in, IsAtRest, IsPending};
+ghost use Rattle.dr_top.specs.Faults.{Counted};
+ghost use Rattle.dr_top.specs.Here.{here, refusal_of, armed_in, IsAtRest, IsTold};
+ghost use Rattle.dr_top.specs.Waiting.{IsPending};
 
-use crate::host::{Host, Pending};
 use crate::landing::land;
 use dr_config::Config;
-use dr_ids::{Refusal, ServerId, VolumeId};
+use dr_host::Host;
+use dr_ids::{Refusal, ServerId, VolumeId, WriteId};
 use dr_model::{Event, Journal};
 use dr_plant::Plant;
 use dr_volume::slot;
@@ -25,17 +30,19 @@ pub struct Target {
     pub offset: u8,
 }
 
-/// Lands the pending write on its track, where the volume's server is on, and acknowledges it. Where the server
+/// Lands a pending write on its track, where the volume's server is on, and acknowledges it. Where the server
 /// stops in it, the write stays pending; it has landed where the volume's other slot is chosen now.
-pub fn land_pending<P: Plant>(
+pub fn land_write<P: Plant>(
     plant: &mut P,
     config: &Config,
     host: &mut Host,
     journal: &mut Journal,
+    w: WriteId,
     target: Target,
     bytes: &[u8],
 ) -> Result<(), Refusal>
     requires rest { IsAtRest (P.state plant.old) config.now }
+    requires told { IsTold host.old journal.old.events }
     requires defined { IsSome (place_of config.now target.volume.0) }
     requires server { (volume_seen (P.state plant.old) config.now target.volume.0).server ≡ target.server.0 }
     requires running { (P.state plant.old).on target.server.0 ≡ true }
@@ -43,15 +50,17 @@ pub fn land_pending<P: Plant>(
     requires within { target.track < (volume_seen (P.state plant.old) config.now target.volume.0).tracks }
     requires fits { target.offset + length bytes.now ≤ 64 }
     requires room { 0 < journal.old.spare }
-    requires pending { IsPending host.old journal.old.events target bytes.now }
+    requires pending { IsPending host.old journal.old.events w.0 target bytes.now }
     ensures carried { Ends (armed_in (P.state plant.old)) (here (P.state plant.new) config.now host.new journal.new.events) (refusal_of result)
-        (here (P.state plant.old) config.now host.old journal.old.events) (now (Land host.old.issued target.volume.0 target.track) ∷ []) }
+        (here (P.state plant.old) config.now host.old journal.old.events) (now (Land w.0 target.volume.0 target.track) ∷ []) }
+    ensures stopped { OnErr result (refusal_of result ≡ Some (stopped target.server.0)) }
     ensures rest { IsAtRest (P.state plant.new) config.now }
+    ensures told { IsTold host.new journal.new.events }
     ensures unarmed { (q : ℕ) → (P.state plant.old).read_fuse q ≡ None → (P.state plant.new).read_fuse q ≡ None }
+    ensures faults { Counted (is_err result) (P.state plant.old).faults (P.state plant.new).faults }
     ensures issued { host.new.issued ≡ host.old.issued }
     ensures room { journal.old.spare ≡ journal.new.spare + 1 }
 {
-    let w = host.issued;
     let before = slot(plant, config, target.volume);
     match land(
         plant,
@@ -62,26 +71,31 @@ pub fn land_pending<P: Plant>(
         bytes,
     ) {
         Ok(()) => {
-            host.pending = None;
-            journal.push(Event::Ack { w });
+            host.finish(w);
+            journal.push(Event::Ack { w: w.0 });
             Ok(())
         }
         Err(_) => {
             let landed = slot(plant, config, target.volume) != before;
-            host.pending = Some(Pending {
-                w,
-                volume: target.volume.0,
-                track: target.track,
-                landed,
-            });
+            land_if(host, w, landed);
             journal.push(Event::Stopped {
                 server: target.server.0,
-                write: write_in_stop(landed, w),
+                write: write_in_stop(landed, w.0),
             });
             Err(Refusal::Stopped {
                 server: target.server,
             })
         }
+    }
+}
+
+/// Marks a pending write, where it has landed in a stop.
+fn land_if(host: &mut Host, w: WriteId, landed: bool)
+    requires { IsSome (find (has_number w.0) host.old.pending) }
+    ensures { host.new ≡ (if landed then with_marked host.old w.0 else host.old) }
+{
+    if landed {
+        host.land(w);
     }
 }
 

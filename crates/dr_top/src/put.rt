@@ -1,6 +1,6 @@
-ghost use Rattle.std.specs.Prelude.{◌≡◌, ℕ, ◌≤◌, ◌++◌, List, Some, OnOk, OnErr};
-ghost use Rattle.dr_io.specs.Faults.{Rose};
-ghost use Rattle.dr_top.specs.Given.{Gave, GavePart};
+ghost use Rattle.std.specs.Prelude.{◌≡◌, ℕ, ◌≤◌, ◌++◌, List, Some, OnOk, OnErr, is_err};
+ghost use Rattle.dr_top.specs.Faults.{Counted};
+ghost use Rattle.dr_io.specs.Given.{Gave, GavePart};
 
 use dr_io::{Failed, Sink};
 
@@ -9,8 +9,7 @@ use dr_io::{Failed, Sink};
 pub fn put_all<K: Sink>(sink: &mut K, piece: &[u8]) -> Result<(), Failed>
     ensures whole { OnOk result (Gave K.written sink.old sink.new piece.now) }
     ensures part { OnErr result (GavePart K.written sink.old sink.new piece.now) }
-    ensures rose { OnErr result (Rose (K.faults sink.old) (K.faults sink.new)) }
-    ensures never_falls { K.faults sink.old ≤ K.faults sink.new }
+    ensures faults { Counted (is_err result) (K.faults sink.old) (K.faults sink.new) }
 {
     let mut done = 0;
     while done < piece.len() {

@@ -1,33 +1,31 @@
-//! Runs a script: its lines in order, each with its answer printed before the next.
+//! Runs a script: its lines in order, each with its answers printed before the next is taken.
 
-ghost use Rattle.std.specs.Prelude.{◌≡◌, ℕ, ◌+◌, ◌<◌, ◌≤◌, ◌^◌, ◌⊎◌, true, false, length, OnOk, OnErr, IfOk, IfErr};
-ghost use Rattle.std.specs.Str.Lines.{lines};
-ghost use Rattle.dr_io.specs.Faults.{Rose};
+ghost use Rattle.std.specs.Prelude.{◌≡◌, ℕ, ◌+◌, ◌<◌, ◌≤◌, ◌⊎◌, length, take, OnOk, OnErr, IfOk, IfErr};
 ghost use Rattle.dr_model.specs.Control.{nothing};
-ghost use Rattle.dr_model.specs.Laws.{Sound};
-ghost use Rattle.dr_model.specs.Limits.{most_lines};
-ghost use Rattle.dr_model.specs.Lines.{tasks, tasks_of};
-ghost use Rattle.dr_model.specs.Runs.{after_tasks, run};
-ghost use Rattle.dr_model.specs.Text.{text};
-ghost use Rattle.dr_top.specs.Followed.{Followed, Prints, PrintsPart, text_since};
-ghost use Rattle.dr_top.specs.Given.{Gave, GavePart};
+ghost use Rattle.dr_model.specs.Limits.{most_events};
+ghost use Rattle.dr_model.specs.Lines.{tasks_of};
+ghost use Rattle.dr_model.specs.Text.{heard, untold};
+ghost use Rattle.dr_list.specs.Seen.{seen};
+ghost use Rattle.std.specs.List.{fold};
+ghost use Rattle.dr_top.specs.Carried.{Reached};
+ghost use Rattle.dr_top.specs.Faults.{Counted, told_stop};
+ghost use Rattle.dr_top.specs.Followed.{text_since};
+ghost use Rattle.dr_io.specs.Given.{Gave, GavePart};
 ghost use Rattle.dr_top.specs.Here.{here, IsReady};
+ghost use Rattle.dr_top.specs.Outcome.{Ran};
+ghost use Rattle.dr_top.specs.Ran.{is_on_sink, RanLine};
 ghost use Rattle.dr_top.specs.Statuses.{halt_status};
 
-use crate::carry::carry_line;
-use crate::host::Host;
-use crate::lines::first_line;
+use crate::carry::{Bar, carry_line};
 use crate::put::put_all;
-use crate::status::Status;
+use crate::status::{Status, whole_status};
 use dr_config::Config;
-use dr_io::Sink;
-use dr_list::text;
+use dr_host::Host;
+use dr_io::{LineReader, Sink, Source, Taken};
+use dr_list::{Told, text_on};
 use dr_model::Journal;
 use dr_plant::Plant;
 use std::alloc::Global;
-
-/// The most lines that a script may have.
-const MOST_LINES: u32 = 100_000;
 
 /// Why a run ends before its script.
 #[derive(Clone, Copy)]
@@ -36,6 +34,8 @@ pub enum Halt {
     WriteFault,
     /// There is no memory.
     NoMemory,
+    /// A step found the journal full.
+    Full,
 }
 
 impl Halt {
@@ -46,6 +46,7 @@ impl Halt {
         match self {
             Halt::WriteFault => Status::WriteFault,
             Halt::NoMemory => Status::NoMemory,
+            Halt::Full => Status::TooLong,
         }
     }
 }
@@ -53,17 +54,20 @@ impl Halt {
 /// Prints the answers that came since a place of the journal.
 fn print_from<K: Sink>(
     alloc: Global,
+    told: &mut Told,
     journal: &Journal,
     from: usize,
     sink: &mut K,
 ) -> Result<(), Halt>
-    requires { from ≤ length journal.now.events }
+    requires within { from ≤ length journal.now.events }
+    requires heard { seen told.old ≡ fold heard untold (take from journal.now.events) }
+    ensures heard { seen told.new ≡ fold heard untold journal.now.events }
     ensures whole { OnOk result (Gave K.written sink.old sink.new (text_since journal.now.events from)) }
     ensures part { OnErr result (GavePart K.written sink.old sink.new (text_since journal.now.events from)) }
-    ensures rose { IfErr result (λ h. h ≡ Halt.WriteFault → Rose (K.faults sink.old) (K.faults sink.new)) }
-    ensures never_falls { K.faults sink.old ≤ K.faults sink.new }
+    ensures full { IfErr result (λ h. h ≡ Halt.Full → ⊥) }
+    ensures faults { Counted (is_on_sink result) (K.faults sink.old) (K.faults sink.new) }
 {
-    let Ok(text) = text(alloc, journal, from) else {
+    let Ok(text) = text_on(alloc, told, journal, from) else {
         return Err(Halt::NoMemory);
     };
     let Ok(()) = put_all(sink, &text) else {
@@ -72,76 +76,78 @@ fn print_from<K: Sink>(
     Ok(())
 }
 
-/// Carries out a line, and prints what it answers.
+/// Carries out a line, and prints what its steps answer.
 fn run_line<P: Plant, K: Sink>(
     alloc: Global,
     plant: &mut P,
     config: &mut Config,
     host: &mut Host,
     journal: &mut Journal,
+    told: &mut Told,
     sink: &mut K,
     number: u32,
     line: &[u8],
 ) -> Result<(), Halt>
-    requires ready { IsReady (P.state plant.old) config.old }
-    requires sound { Sound (here (P.state plant.old) config.old host.old journal.old.events) }
-    requires count { host.old.issued + 1 < 2 ^ 32 }
-    ensures went { OnOk result (after_tasks (here (P.state plant.old) config.old host.old journal.old.events) (tasks_of number line.now)
-        ≡ here (P.state plant.new) config.new host.new journal.new.events) }
-    ensures halted { OnErr result ((here (P.state plant.old) config.old host.old journal.old.events ≡ here (P.state plant.new) config.new host.new journal.new.events)
-        ⊎ (after_tasks (here (P.state plant.old) config.old host.old journal.old.events) (tasks_of number line.now)
-        ≡ here (P.state plant.new) config.new host.new journal.new.events)) }
-    ensures printed { OnOk result (Prints K.written sink.old sink.new journal.old.events journal.new.events) }
-    ensures part { OnErr result (PrintsPart K.written sink.old sink.new journal.old.events journal.new.events) }
-    ensures rose { IfErr result (λ h. h ≡ Halt.WriteFault → Rose (K.faults sink.old) (K.faults sink.new)) }
-    ensures never_falls { K.faults sink.old ≤ K.faults sink.new }
-    ensures ready { IsReady (P.state plant.new) config.new }
-    ensures issued { host.new.issued ≤ host.old.issued + 1 }
+    requires ready { IsReady (P.state plant.old) config.old host.old journal.old.events }
+    requires reached { Reached (here (P.state plant.old) config.old host.old journal.old.events) }
+    requires room { length journal.old.events ≤ most_events }
+    requires heard { seen told.old ≡ fold heard untold journal.old.events }
+    ensures heard { OnOk result (seen told.new ≡ fold heard untold journal.new.events) }
+    ensures ran { RanLine K.written sink.old sink.new (here (P.state plant.old) config.old host.old journal.old.events) (tasks_of number line.now)
+        (here (P.state plant.new) config.new host.new journal.new.events) result }
+    ensures faults { Counted (is_on_sink result) (K.faults sink.old) (K.faults sink.new) }
+    ensures ready { IsReady (P.state plant.new) config.new host.new journal.new.events }
+    ensures stops { (f : ℕ) → Counted (told_stop journal.old.events) f (P.state plant.old).faults → Counted (told_stop journal.new.events) f (P.state plant.new).faults }
+    ensures room { length journal.new.events ≤ most_events }
 {
     let from = journal.len();
-    let Ok(()) = carry_line(plant, config, host, journal, number, line) else {
-        return Err(Halt::NoMemory);
-    };
-    print_from(alloc, journal, from, sink)
+    match carry_line(alloc, plant, config, host, journal, number, line) {
+        Ok(()) => print_from(alloc, told, journal, from, sink),
+        Err(Bar::Full) => {
+            print_from(alloc, told, journal, from, sink)?;
+            Err(Halt::Full)
+        }
+        Err(Bar::NoMemory) => Err(Halt::NoMemory),
+    }
 }
 
-/// Carries out the lines of a script in order; a last line without line end only where the script is `whole`. Says
-/// whether more lines are left than a script may have.
-pub fn run_lines<P: Plant, K: Sink>(
+/// Takes the lines of a script one after another and carries each out, until the script ends, its source fails, a limit
+/// is passed, or the run is halted.
+pub fn run_lines<P: Plant, S: Source, K: Sink>(
     alloc: Global,
     plant: &mut P,
     config: &mut Config,
     host: &mut Host,
     journal: &mut Journal,
+    source: &mut S,
     sink: &mut K,
-    script: &[u8],
-    whole: bool,
-) -> Result<bool, Halt>
-    requires ready { IsReady (P.state plant.old) config.old }
+) -> Status
+    requires ready { IsReady (P.state plant.old) config.old host.old journal.old.events }
     requires begins { here (P.state plant.old) config.old host.old journal.old.events ≡ nothing }
-    ensures followed { Followed script.now (here (P.state plant.new) config.new host.new journal.new.events) }
-    ensures more { IfOk result (λ more. more ≡ true → most_lines < length (lines script.now)) }
-    ensures all { IfOk result (λ more. more ≡ false → whole ≡ true → run (tasks script.now) ≡ here (P.state plant.new) config.new host.new journal.new.events) }
-    ensures few { IfOk result (λ more. more ≡ false → whole ≡ true → length (lines script.now) ≤ most_lines) }
-    ensures printed { OnOk result (Gave K.written sink.old sink.new (text journal.new.events)) }
-    ensures part { OnErr result (GavePart K.written sink.old sink.new (text journal.new.events)) }
-    ensures rose { IfErr result (λ h. h ≡ Halt.WriteFault → Rose (K.faults sink.old) (K.faults sink.new)) }
-    ensures never_falls { K.faults sink.old ≤ K.faults sink.new }
-    ensures ready { IsReady (P.state plant.new) config.new }
+    ensures ran { Ran S.left K.written source.old source.new sink.old sink.new S.faults K.faults result (here (P.state plant.new) config.new host.new journal.new.events) }
+    ensures ready { IsReady (P.state plant.new) config.new host.new journal.new.events }
+    ensures reached { Reached (here (P.state plant.new) config.new host.new journal.new.events) }
+    ensures stops { Counted (told_stop journal.new.events) (P.state plant.old).faults (P.state plant.new).faults }
+    ensures room { length journal.new.events ≤ most_events }
 {
-    let mut rest = script;
-    let mut done = 0;
-    while !rest.is_empty() {
-        let (line, after, has_end) = first_line(rest);
-        if done == MOST_LINES {
-            return Ok(true);
+    let mut reader = LineReader::new();
+    let mut told = Told::new();
+    let mut number = 0;
+    loop {
+        match reader.next(source) {
+            Ok(Taken::Line) => {
+                number += 1;
+                let line = reader.line();
+                match run_line(
+                    alloc, plant, config, host, journal, &mut told, sink, number, line,
+                ) {
+                    Ok(()) => {}
+                    Err(halt) => return halt.status(),
+                }
+            }
+            Ok(Taken::End) => return whole_status(journal),
+            Ok(Taken::TooLong) => return Status::TooLong,
+            Err(_) => return Status::ReadFault,
         }
-        if !has_end && !whole {
-            return Ok(false);
-        }
-        run_line(alloc, plant, config, host, journal, sink, done + 1, line)?;
-        rest = after;
-        done += 1;
     }
-    Ok(false)
 }

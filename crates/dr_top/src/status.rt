@@ -1,5 +1,8 @@
 ghost use Rattle.std.specs.Prelude.{◌≡◌};
-ghost use Rattle.dr_top.specs.Outcome.{code_of};
+ghost use Rattle.dr_top.specs.Outcome.{code_of, is_refusal, has_refusal};
+ghost use Rattle.dr_top.specs.Statuses.{refusal_at, whole_status};
+
+use dr_model::{Event, Journal};
 
 /// How a call of the program ends.
 #[derive(Clone, Copy)]
@@ -16,7 +19,7 @@ pub enum Status {
     WriteFault,
     /// There is no memory.
     NoMemory,
-    /// The input has more bytes or lines than a script may have.
+    /// The input has more bytes or lines than a script may have, or a step found the journal full.
     TooLong,
 }
 
@@ -34,5 +37,46 @@ impl Status {
             Status::NoMemory => 5,
             Status::TooLong => 6,
         }
+    }
+}
+
+/// An answer that is neither ok nor held.
+fn is_refusal(event: &Event) -> bool
+    ensures { result ≡ is_refusal event.now }
+{
+    match event {
+        Event::Answer { code, .. } => !(*code == 0 || *code == 100),
+        _ => false,
+    }
+}
+
+fn is_refusal_at(journal: &Journal, place: usize) -> bool
+    ensures { result ≡ refusal_at journal.now.events place }
+{
+    match journal.event(place) {
+        Some(event) => is_refusal(event),
+        None => false,
+    }
+}
+
+fn has_refusal(journal: &Journal) -> bool
+    ensures { result ≡ has_refusal journal.now.events }
+{
+    for i in 0..journal.len() {
+        if is_refusal_at(journal, i) {
+            return true;
+        }
+    }
+    false
+}
+
+/// How a run ends whose input was read to its end.
+pub fn whole_status(journal: &Journal) -> Status
+    ensures { result ≡ whole_status (has_refusal journal.now.events) }
+{
+    if has_refusal(journal) {
+        Status::DoneRefused
+    } else {
+        Status::Done
     }
 }

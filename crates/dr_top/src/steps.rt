@@ -1,50 +1,41 @@
-//! The steps of a script, carried out on the plant. What a step comes to is given back, and answered by the caller.
+//! The steps on a track of a volume: it is shown, and host writes are issued and carried out.
 
-ghost use Rattle.std.specs.Prelude.{◌≡◌, ℕ, ◌+◌, ◌<◌, ◌≤◌, ◌^◌, true, List, length, take, IsSome, Some, None};
+ghost use Rattle.std.specs.Prelude.{◌≡◌, ℕ, ◌+◌, ◌<◌, ◌≤◌, ◌^◌, true, List, length, take, is_some, IsSome, IfOk, OnErr, Some, None};
+ghost use Rattle.std.specs.List.{find};
+ghost use Rattle.dr_ids.specs.declared.refusal.Refusal.{Refusal};
+ghost use Rattle.dr_plant.specs.State.{PlantState};
 ghost use Rattle.dr_config.specs.Table.{place_of};
-ghost use Rattle.dr_model.specs.Answers.{answer};
+ghost use Rattle.dr_host.specs.declared.pending.Pending.{Pending};
+ghost use Rattle.dr_host.specs.Writes.{has_number};
+ghost use Rattle.dr_model.specs.Carry.{carry};
+ghost use Rattle.dr_model.specs.declared.said.Addition.{Addition};
 ghost use Rattle.dr_model.specs.declared.step.Step.{Step};
 ghost use Rattle.dr_model.specs.Laws.{Sound};
-ghost use Rattle.dr_model.specs.Plans.{issue_plan};
-ghost use Rattle.dr_model.specs.Runs.{after_plan, said};
+ghost use Rattle.dr_model.specs.Plans.{track_refusal, issue_refusal, landing};
 ghost use Rattle.dr_volume.specs.View.{volume_seen, track_seen};
-ghost use Rattle.dr_top.specs.Here.{here, said_of, Leads, IsReady};
-ghost use Rattle.dr_top.specs.Located.{Located, IsPlace};
+ghost use Rattle.dr_top.specs.Faults.{Counts};
+ghost use Rattle.dr_top.specs.Here.{here, said_of, widened, ended_by, OnAnswer, OnNoMemory, OnRefused, Leads, IsReady, IsTold};
+ghost use Rattle.dr_top.specs.Waiting.{IsIssued};
 
-use crate::host::Host;
-use crate::machine::{Target, land_pending};
+use crate::locate::locate;
+use crate::machine::{Target, land_write};
 use dr_config::Config;
-use dr_ids::{Refusal, ServerId, VolumeId};
+use dr_host::{Host, Pending};
+use dr_ids::{Fault, Kind, Refusal, VolumeId, WriteId};
 use dr_model::{Addition, Event, Journal};
 use dr_plant::{Block, Plant};
 use dr_volume::read_track;
 
-/// A track of a volume that is defined, and the server that owns it.
-#[derive(Clone, Copy)]
-pub struct Place {
-    pub server: ServerId,
-    pub track: u16,
-}
-
-/// The place of a track, where the volume is defined and has it.
-fn locate(config: &Config, volume: VolumeId, track: u32) -> Option<Place>
-    ensures { Located config.now volume.0 track result }
-{
-    let tracks = config.tracks_of(volume)?;
-    let server = config.server_of(volume)?;
-    if track < u32::from(tracks) {
-        Some(Place {
-            server,
-            track: track as u16,
-        })
-    } else {
-        None
-    }
-}
-
 /// A track of a volume whose server is on, where reads pass.
-fn read_running<P: Plant>(p: &mut P, c: &Config, v: VolumeId, t: u16) -> Block
-    requires ready { IsReady (P.state p.old) c.now }
+fn read_running<P: Plant>(
+    p: &mut P,
+    c: &Config,
+    host: &Host,
+    journal: &Journal,
+    v: VolumeId,
+    t: u16,
+) -> Block
+    requires ready { IsReady (P.state p.old) c.now host.now journal.now.events }
     requires defined { IsSome (place_of c.now v.0) }
     requires running { (P.state p.old).on (volume_seen (P.state p.old) c.now v.0).server ≡ true }
     requires known { (volume_seen (P.state p.old) c.now v.0).server < 8 }
@@ -70,23 +61,26 @@ pub fn show<P: Plant>(
     volume: VolumeId,
     track: u32,
 ) -> Result<Addition, Refusal>
-    requires ready { IsReady (P.state plant.old) config.now }
+    requires ready { IsReady (P.state plant.old) config.now host.now journal.old.events }
     requires sound { Sound (here (P.state plant.old) config.now host.now journal.old.events) }
     requires room { 2 ≤ journal.old.spare }
     ensures same { P.state plant.new ≡ P.state plant.old }
     ensures step { Leads (here (P.state plant.old) config.now host.now journal.old.events) line (Step.Show volume.0 track)
         (here (P.state plant.new) config.now host.now journal.new.events) (said_of result) }
+    ensures ready { IsReady (P.state plant.new) config.now host.now journal.new.events }
+    ensures faults { Counts (said_of result) (P.state plant.old) (P.state plant.new) }
     ensures room { 1 ≤ journal.new.spare }
 {
-    let Some(place) = locate(config, volume, track) else {
-        return Err(Refusal::NotBuilt);
+    let place = match locate(config, volume, track) {
+        Ok(place) => place,
+        Err(refusal) => return Err(refusal),
     };
     if !plant.is_on(place.server.0) {
         return Err(Refusal::ServerOff {
             server: place.server,
         });
     }
-    let bytes = read_running(plant, config, volume, place.track);
+    let bytes = read_running(plant, config, host, journal, volume, place.track);
     journal.push(Event::Shown {
         line,
         volume: volume.0,
@@ -106,91 +100,214 @@ pub struct HostWrite {
     pub bytes: Block,
 }
 
-/// Issues a host write and lands it, where its volume's server is on; else it stays pending.
+/// The first `len` bytes of a block.
+fn front(bytes: &Block, len: u8) -> &[u8]
+    requires { len ≤ 64 }
+    ensures { result.now ≡ take len bytes.now }
+{
+    &bytes[..len as usize]
+}
+
+/// Issues a host write on a track that is there, which is pending from then on, and gives its number. Where it is
+/// refused or there is no memory, nothing has changed.
+fn issue_write(
+    config: &Config,
+    host: &mut Host,
+    journal: &mut Journal,
+    write: &HostWrite,
+) -> Result<WriteId, Fault>
+    requires some { 1 ≤ write.now.len }
+    requires fits { write.now.offset + write.now.len ≤ 64 }
+    requires count { host.old.issued + 1 < 2 ^ 32 }
+    requires room { 0 < journal.old.spare }
+    ensures refused { OnRefused result (λ r. (s : PlantState) → issue_refusal (here s config.now host.old journal.old.events).control write.now.volume.0 write.now.track ≡ Some r) }
+    ensures done { IfOk result (λ w. IsIssued config.now host.old journal.old.events host.new journal.new.events write.now w.0) }
+    ensures same { OnErr result (host.new ≡ host.old) }
+    ensures untold { OnErr result (journal.new.events ≡ journal.old.events) }
+    ensures told { IsTold host.old journal.old.events → IsTold host.new journal.new.events }
+    ensures issued { host.new.issued ≤ host.old.issued + 1 }
+    ensures room { journal.old.spare ≤ journal.new.spare + 1 }
+{
+    let place = match locate(config, write.volume, write.track) {
+        Ok(place) => place,
+        Err(refusal) => return Err(Fault::Refused(refusal)),
+    };
+    let bytes = write.bytes;
+    let _issued = host.issued();
+    match host.issue(
+        write.volume,
+        place.track,
+        write.offset,
+        front(&bytes, write.len),
+    ) {
+        Ok(w) => {
+            journal.push(Event::Issue {
+                w: w.0,
+                volume: write.volume.0,
+                track: place.track,
+                offset: write.offset,
+                len: write.len,
+                bytes,
+            });
+            Ok(w)
+        }
+        Err(fault) => Err(fault),
+    }
+}
+
+/// Issues a host write, which stays pending. Where there is no memory nothing has changed.
+pub fn issue<P: Plant>(
+    plant: &P,
+    config: &Config,
+    host: &mut Host,
+    journal: &mut Journal,
+    write: &HostWrite,
+) -> Result<Addition, Fault>
+    requires ready { IsReady (P.state plant.now) config.now host.old journal.old.events }
+    requires some { 1 ≤ write.now.len }
+    requires fits { write.now.offset + write.now.len ≤ 64 }
+    requires count { host.old.issued + 1 < 2 ^ 32 }
+    requires room { 2 ≤ journal.old.spare }
+    ensures step { OnAnswer result (λ a. (line : ℕ) → Leads (here (P.state plant.now) config.now host.old journal.old.events) line
+        (Step.Issue write.now.volume.0 write.now.track write.now.offset write.now.len write.now.bytes)
+        (here (P.state plant.now) config.now host.new journal.new.events) a) }
+    ensures same { OnNoMemory result (host.new ≡ host.old) }
+    ensures untold { OnNoMemory result (journal.new.events ≡ journal.old.events) }
+    ensures ready { IsReady (P.state plant.now) config.now host.new journal.new.events }
+    ensures faults { OnAnswer result (λ a. Counts a (P.state plant.now) (P.state plant.now)) }
+    ensures issued { host.new.issued ≤ host.old.issued + 1 }
+    ensures room { 1 ≤ journal.new.spare }
+{
+    match issue_write(config, host, journal, write) {
+        Ok(w) => Ok(Addition::Wrote { w: w.0 }),
+        Err(fault) => Err(fault),
+    }
+}
+
+/// Issues a host write and lands it, where its volume's server is on; else it stays pending. Where there is no memory
+/// nothing has changed.
 pub fn write<P: Plant>(
     plant: &mut P,
     config: &Config,
     host: &mut Host,
     journal: &mut Journal,
     write: &HostWrite,
-) -> Result<Addition, Refusal>
-    requires ready { IsReady (P.state plant.old) config.now }
-    requires room { 4 ≤ journal.old.spare }
+) -> Result<Addition, Fault>
+    requires ready { IsReady (P.state plant.old) config.now host.old journal.old.events }
+    requires some { 1 ≤ write.now.len }
     requires fits { write.now.offset + write.now.len ≤ 64 }
     requires count { host.old.issued + 1 < 2 ^ 32 }
-    ensures step { (line : ℕ) → Leads (here (P.state plant.old) config.now host.old journal.old.events) line
+    requires room { 3 ≤ journal.old.spare }
+    ensures step { OnAnswer result (λ a. (line : ℕ) → Leads (here (P.state plant.old) config.now host.old journal.old.events) line
         (Step.Write write.now.volume.0 write.now.track write.now.offset write.now.len write.now.bytes)
-        (here (P.state plant.new) config.now host.new journal.new.events) (said_of result) }
-    ensures ready { IsReady (P.state plant.new) config.now }
+        (here (P.state plant.new) config.now host.new journal.new.events) a) }
+    ensures same { OnNoMemory result (host.new ≡ host.old) }
+    ensures same_plant { OnNoMemory result (P.state plant.new ≡ P.state plant.old) }
+    ensures untold { OnNoMemory result (journal.new.events ≡ journal.old.events) }
+    ensures ready { IsReady (P.state plant.new) config.now host.new journal.new.events }
+    ensures faults { OnAnswer result (λ a. Counts a (P.state plant.old) (P.state plant.new)) }
     ensures issued { host.new.issued ≤ host.old.issued + 1 }
     ensures room { 1 ≤ journal.new.spare }
 {
-    let Some(place) = locate(config, write.volume, write.track) else {
-        return Err(Refusal::NotBuilt);
-    };
-    if host.pending.is_some() {
-        return Err(Refusal::NotBuilt);
+    match issue_write(config, host, journal, write) {
+        Ok(w) => match land_number(plant, config, host, journal, w) {
+            Ok(added) => Ok(added),
+            Err(refusal) => Err(Fault::Refused(refusal)),
+        },
+        Err(fault) => Err(fault),
     }
-    issue_and_land(plant, config, host, journal, place, write)
 }
 
-/// Issues a host write on a track that is there, and lands it where its server is on.
-fn issue_and_land<P: Plant>(
+/// Lands a pending write, where its volume's server is on; else it stays pending.
+pub fn apply<P: Plant>(
     plant: &mut P,
     config: &Config,
     host: &mut Host,
     journal: &mut Journal,
-    place: Place,
-    write: &HostWrite,
+    w: u32,
 ) -> Result<Addition, Refusal>
-    requires ready { IsReady (P.state plant.old) config.now }
-    requires place { IsPlace (P.state plant.old) config.now write.now.volume.0 write.now.track place }
-    requires none { host.old.pending ≡ None }
-    requires room { 3 ≤ journal.old.spare }
-    requires fits { write.now.offset + write.now.len ≤ 64 }
-    requires count { host.old.issued + 1 < 2 ^ 32 }
-    ensures step { (line : ℕ) → after_plan (here (P.state plant.old) config.now host.old journal.old.events) line
-        (issue_plan (here (P.state plant.old) config.now host.old journal.old.events).control write.now.volume.0 write.now.track write.now.offset write.now.len write.now.bytes)
-        ≡ said (here (P.state plant.new) config.now host.new journal.new.events) line (said_of result) }
-    ensures ready { IsReady (P.state plant.new) config.now }
-    ensures issued { host.new.issued ≡ host.old.issued + 1 }
+    requires ready { IsReady (P.state plant.old) config.now host.old journal.old.events }
+    requires sound { Sound (here (P.state plant.old) config.now host.old journal.old.events) }
+    requires room { 2 ≤ journal.old.spare }
+    ensures step { (line : ℕ) → Leads (here (P.state plant.old) config.now host.old journal.old.events) line (Step.Apply w)
+        (here (P.state plant.new) config.now host.new journal.new.events) (said_of result) }
+    ensures ready { IsReady (P.state plant.new) config.now host.new journal.new.events }
+    ensures faults { Counts (said_of result) (P.state plant.old) (P.state plant.new) }
+    ensures issued { host.new.issued ≡ host.old.issued }
     ensures room { 1 ≤ journal.new.spare }
 {
-    let w = host.issue(write.volume.0, place.track);
-    let bytes = write.bytes;
-    journal.push(Event::Issue {
-        w,
-        volume: write.volume.0,
-        track: place.track,
-        offset: write.offset,
-        len: write.len,
-        bytes,
-    });
-    if !plant.is_on(place.server.0) {
-        return Err(Refusal::ServerOff {
-            server: place.server,
-        });
+    if !is_pending(host, WriteId(w)) {
+        return Err(Refusal::Unknown { kind: Kind::Write });
+    }
+    land_number(plant, config, host, journal, WriteId(w))
+}
+
+/// Whether the write of that number is pending.
+fn is_pending(host: &Host, w: WriteId) -> bool
+    ensures { result ≡ is_some (find (has_number w.0) host.now.pending) }
+{
+    host.pending(w).is_some()
+}
+
+/// The pending write of that number.
+fn pending_write(host: &Host, w: WriteId) -> Pending
+    requires waits { IsSome (find (has_number w.0) host.now.pending) }
+    ensures found { find (has_number w.0) host.now.pending ≡ Some result }
+    ensures fits { result.offset + result.len ≤ 64 }
+{
+    match host.pending(w) {
+        Some(write) => *write,
+        None => unreachable!(),
+    }
+}
+
+/// Lands the pending write of that number on its track, which is there, where its volume's server is on; else it stays
+/// pending.
+fn land_number<P: Plant>(
+    plant: &mut P,
+    config: &Config,
+    host: &mut Host,
+    journal: &mut Journal,
+    w: WriteId,
+) -> Result<Addition, Refusal>
+    requires ready { IsReady (P.state plant.old) config.now host.old journal.old.events }
+    requires waits { IsSome (find (has_number w.0) host.old.pending) }
+    requires there { (p : Pending) → find (has_number w.0) host.old.pending ≡ Some p
+        → track_refusal (here (P.state plant.old) config.now host.old journal.old.events).control p.volume.0 p.track ≡ None }
+    requires room { 2 ≤ journal.old.spare }
+    ensures carried { (p : Pending) → find (has_number w.0) host.old.pending ≡ Some p
+        → carry (here (P.state plant.old) config.now host.old journal.old.events) (landing (here (P.state plant.old) config.now host.old journal.old.events).control w.0 p.volume.0 p.track)
+        ≡ (here (P.state plant.new) config.now host.new journal.new.events, ended_by result) }
+    ensures wrote { IfOk result (λ a. a ≡ Addition.Wrote w.0) }
+    ensures ready { IsReady (P.state plant.new) config.now host.new journal.new.events }
+    ensures faults { Counts (said_of result) (P.state plant.old) (P.state plant.new) }
+    ensures issued { host.new.issued ≡ host.old.issued }
+    ensures room { 1 ≤ journal.new.spare }
+{
+    let write = pending_write(host, w);
+    let Some(server) = config.server_of(write.volume) else {
+        unreachable!()
+    };
+    if !plant.is_on(server.0) {
+        return Err(Refusal::ServerOff { server });
     }
     let target = Target {
         volume: write.volume,
-        server: place.server,
-        track: place.track,
+        server,
+        track: write.track,
         offset: write.offset,
     };
-    land_pending(
+    let bytes = write.bytes;
+    match land_write(
         plant,
         config,
         host,
         journal,
+        w,
         target,
         front(&bytes, write.len),
-    )?;
-    Ok(Addition::Wrote { w })
-}
-
-fn front(bytes: &Block, len: u8) -> &[u8]
-    requires { len ≤ 64 }
-    ensures { result.now ≡ take len bytes.now }
-{
-    &bytes[..len as usize]
+    ) {
+        Ok(()) => Ok(Addition::Wrote { w: w.0 }),
+        Err(refusal) => Err(refusal),
+    }
 }

@@ -1,6 +1,6 @@
 //! The steps that stop a server, arm its fuse, and start it.
 
-ghost use Rattle.std.specs.Prelude.{◌≡◌, ℕ, ◌+◌, ◌<◌, ◌≤◌, Bool, false, [], ◌∷◌, length, List, Option, Some, None, OnOk, OnErr};
+ghost use Rattle.std.specs.Prelude.{◌≡◌, ℕ, ◌+◌, ◌<◌, ◌≤◌, Bool, false, [], ◌∷◌, length, List, Option, Some, None, OnOk, OnErr, is_err};
 ghost use Rattle.dr_ids.specs.declared.refusal.Refusal.{Refusal};
 ghost use Rattle.dr_plant.specs.State.{PlantState};
 ghost use Rattle.dr_model.specs.Control.{World};
@@ -10,17 +10,17 @@ ghost use Rattle.dr_model.specs.Plans as plans;
 ghost use Rattle.dr_model.specs.Plans.{torn_bytes, acknowledge_on, says_acked};
 ghost use Rattle.dr_model.specs.Runs.{after_plan, said};
 ghost use Rattle.dr_volume.specs.View.{torn_seen};
-ghost use Rattle.dr_top.specs.Here.{here, said_of, refusal_of, armed_in, Leads, IsAtRest, IsReady};
+ghost use Rattle.dr_top.specs.Here.{here, said_of, refusal_of, armed_in, Leads, IsAtRest, IsReady, IsTold};
 ghost use Rattle.dr_top.specs.Starting.{IsStarting, redo_from};
-ghost use Rattle.dr_top.specs.Located.{has_owner};
 ghost use Rattle.dr_model.specs.declared.event.Event.{Event};
 ghost use Rattle.dr_model.specs.declared.said.Said.TheVariants.{Done};
 ghost use Rattle.dr_model.specs.declared.step.Step.{Step};
-ghost use Rattle.dr_top.specs.declared.host.Host.{Host};
+ghost use Rattle.dr_host.specs.Writes.{Writes, has_owner};
+ghost use Rattle.dr_top.specs.Faults.{Counted, Counts};
 
-use crate::define::bytes_of;
-use crate::host::Host;
+use crate::define::{bytes_of, unknown_server};
 use dr_config::Config;
+use dr_host::Host;
 use dr_ids::{Refusal, ServerId, VolumeId};
 use dr_model::{Addition, Event, Journal, Name, TornWord};
 use dr_plant::{Plant, Torn};
@@ -34,16 +34,17 @@ pub fn stop<P: Plant>(
     journal: &mut Journal,
     name: &Name,
 ) -> Result<Addition, Refusal>
-    requires ready { IsReady (P.state plant.old) config.now }
+    requires ready { IsReady (P.state plant.old) config.now host.now journal.old.events }
     requires short { name.now.len ≤ 24 }
     requires room { 2 ≤ journal.old.spare }
     ensures step { (line : ℕ) → Leads (here (P.state plant.old) config.now host.now journal.old.events) line (Step.Stop name.now)
         (here (P.state plant.new) config.now host.now journal.new.events) (said_of result) }
-    ensures ready { IsReady (P.state plant.new) config.now }
+    ensures faults { Counts (said_of result) (P.state plant.old) (P.state plant.new) }
+    ensures ready { IsReady (P.state plant.new) config.now host.now journal.new.events }
     ensures room { 1 ≤ journal.new.spare }
 {
     let Some(server) = config.server_named(bytes_of(name)) else {
-        return Err(Refusal::NotBuilt);
+        return Err(unknown_server());
     };
     if !plant.is_on(server.0) {
         return Ok(Addition::Alone);
@@ -77,14 +78,15 @@ pub fn arm<P: Plant>(
     writes: u32,
     word: TornWord,
 ) -> Result<Addition, Refusal>
-    requires ready { IsReady (P.state plant.old) config.now }
+    requires ready { IsReady (P.state plant.old) config.now host.now journal.now.events }
     requires short { name.now.len ≤ 24 }
     ensures step { (line : ℕ) → Leads (here (P.state plant.old) config.now host.now journal.now.events) line (Step.StopAfter name.now writes word)
         (here (P.state plant.new) config.now host.now journal.now.events) (said_of result) }
-    ensures ready { IsReady (P.state plant.new) config.now }
+    ensures faults { Counts (said_of result) (P.state plant.old) (P.state plant.new) }
+    ensures ready { IsReady (P.state plant.new) config.now host.now journal.now.events }
 {
     let Some(server) = config.server_named(bytes_of(name)) else {
-        return Err(Refusal::NotBuilt);
+        return Err(unknown_server());
     };
     plant.arm_writes(server.0, writes, torn(word));
     Ok(Addition::Alone)
@@ -99,17 +101,18 @@ pub fn start<P: Plant>(
     journal: &mut Journal,
     name: &Name,
 ) -> Result<Addition, Refusal>
-    requires ready { IsReady (P.state plant.old) config.now }
+    requires ready { IsReady (P.state plant.old) config.now host.old journal.old.events }
     requires short { name.now.len ≤ 24 }
     requires room { 3 ≤ journal.old.spare }
     ensures step { (line : ℕ) → Leads (here (P.state plant.old) config.now host.old journal.old.events) line (Step.Start name.now)
         (here (P.state plant.new) config.now host.new journal.new.events) (said_of result) }
-    ensures ready { IsReady (P.state plant.new) config.now }
+    ensures faults { Counts (said_of result) (P.state plant.old) (P.state plant.new) }
+    ensures ready { IsReady (P.state plant.new) config.now host.new journal.new.events }
     ensures issued { host.new.issued ≡ host.old.issued }
     ensures room { 1 ≤ journal.new.spare }
 {
     let Some(server) = config.server_named(bytes_of(name)) else {
-        return Err(Refusal::NotBuilt);
+        return Err(unknown_server());
     };
     if plant.is_on(server.0) {
         return Ok(Addition::Alone);
@@ -125,14 +128,15 @@ fn turn_on<P: Plant>(
     journal: &mut Journal,
     server: ServerId,
 ) -> Result<Addition, Refusal>
-    requires ready { IsReady (P.state plant.old) config.now }
+    requires ready { IsReady (P.state plant.old) config.now host.old journal.old.events }
     requires off { (P.state plant.old).on server.0 ≡ false }
     requires known { server.0 < 8 }
     requires room { 3 ≤ journal.old.spare }
     ensures step { (line : ℕ) → after_plan (here (P.state plant.old) config.now host.old journal.old.events) line
-        (plans.start_on (here (P.state plant.old) config.now host.old journal.old.events).control (Some server.0))
+        (plans.start_on (here (P.state plant.old) config.now host.old journal.old.events).control server.0)
         ≡ said (here (P.state plant.new) config.now host.new journal.new.events) line (said_of result) }
-    ensures ready { IsReady (P.state plant.new) config.now }
+    ensures faults { Counts (said_of result) (P.state plant.old) (P.state plant.new) }
+    ensures ready { IsReady (P.state plant.new) config.now host.new journal.new.events }
     ensures issued { host.new.issued ≡ host.old.issued }
     ensures room { 1 ≤ journal.new.spare }
 {
@@ -162,9 +166,11 @@ fn redo_volumes<P: Plant>(
     requires starting { IsStarting (P.state plant.old) config.now server.0 0 }
     requires known { server.0 < 8 }
     requires room { 2 ≤ journal.old.spare }
-    ensures carried { (h : Host) → Ends (armed_in (P.state plant.old)) (here (P.state plant.new) config.now h journal.new.events) (refusal_of result)
+    ensures carried { (h : Writes) → Ends (armed_in (P.state plant.old)) (here (P.state plant.new) config.now h journal.new.events) (refusal_of result)
         (here (P.state plant.old) config.now h journal.old.events) (redo_from config.now server.0 0) }
     ensures stopped { OnErr result (refusal_of result ≡ Some (Refusal.Stopped server)) }
+    ensures faults { Counted (is_err result) (P.state plant.old).faults (P.state plant.new).faults }
+    ensures told { (h : Writes) → IsTold h journal.old.events → IsTold h journal.new.events }
     ensures rest { IsAtRest (P.state plant.new) config.now }
     ensures unarmed { (q : ℕ) → (P.state plant.old).read_fuse q ≡ None → (P.state plant.new).read_fuse q ≡ None }
     ensures room { 1 ≤ journal.new.spare }
@@ -188,11 +194,13 @@ fn redo_at<P: Plant>(
     requires known { server.0 < 8 }
     requires within { place < length config.now.volumes }
     requires room { 1 ≤ journal.old.spare }
-    ensures carried { OnOk result ((h : Host) (armed : ℕ → Bool) (u : World) (r : Option Refusal) → Ends armed u r (here (P.state plant.new) config.now h journal.new.events) (redo_from config.now server.0 (place + 1))
+    ensures carried { OnOk result ((h : Writes) (armed : ℕ → Bool) (u : World) (r : Option Refusal) → Ends armed u r (here (P.state plant.new) config.now h journal.new.events) (redo_from config.now server.0 (place + 1))
         → Ends armed u r (here (P.state plant.old) config.now h journal.old.events) (redo_from config.now server.0 place)) }
-    ensures ended { OnErr result ((h : Host) → Ends (armed_in (P.state plant.old)) (here (P.state plant.new) config.now h journal.new.events) (refusal_of result)
+    ensures ended { OnErr result ((h : Writes) → Ends (armed_in (P.state plant.old)) (here (P.state plant.new) config.now h journal.new.events) (refusal_of result)
         (here (P.state plant.old) config.now h journal.old.events) (redo_from config.now server.0 place)) }
     ensures stopped { OnErr result (refusal_of result ≡ Some (Refusal.Stopped server)) }
+    ensures faults { Counted (is_err result) (P.state plant.old).faults (P.state plant.new).faults }
+    ensures told { (h : Writes) → IsTold h journal.old.events → IsTold h journal.new.events }
     ensures starting { OnOk result (IsStarting (P.state plant.new) config.now server.0 (place + 1)) }
     ensures rest { OnErr result (IsAtRest (P.state plant.new) config.now) }
     ensures unarmed { (q : ℕ) → (P.state plant.old).read_fuse q ≡ None → (P.state plant.new).read_fuse q ≡ None }
@@ -215,18 +223,6 @@ fn redo_at<P: Plant>(
     }
 }
 
-/// The number of the pending write, where it landed on a volume of the server in a stop.
-fn landed_on(config: &Config, host: &Host, server: ServerId) -> Option<u32>
-    ensures { (s : PlantState) (events : List Event) → result ≡ plans.landed_on (here s config.now host.now events).control server.0 }
-{
-    let pending = host.pending?;
-    if pending.landed && belongs(config, VolumeId(pending.volume), server) {
-        Some(pending.w)
-    } else {
-        None
-    }
-}
-
 /// Acknowledges the write that had landed on a volume of the server, where there is one. Says what a start adds.
 fn acknowledge(
     config: &Config,
@@ -237,13 +233,14 @@ fn acknowledge(
     requires room { 2 ≤ journal.old.spare }
     ensures said { (s : PlantState) → Done result ≡ says_acked (plans.landed_on (here s config.now host.old journal.old.events).control server.0) }
     ensures act { (s : PlantState) → carry (here s config.now host.old journal.old.events) (acknowledge_on server.0 ∷ []) ≡ (here s config.now host.new journal.new.events, None) }
+    ensures told { IsTold host.old journal.old.events → IsTold host.new journal.new.events }
     ensures issued { host.new.issued ≡ host.old.issued }
     ensures room { 1 ≤ journal.new.spare }
 {
-    let Some(w) = landed_on(config, host, server) else {
+    let Some(w) = host.landed_on(config, server) else {
         return Addition::Alone;
     };
-    host.pending = None;
-    journal.push(Event::Ack { w });
-    Addition::Acked { w }
+    host.finish(w);
+    journal.push(Event::Ack { w: w.0 });
+    Addition::Acked { w: w.0 }
 }

@@ -4,7 +4,7 @@ use Rattle.dr_plant.specs.State.{PlantState}
 use Rattle.dr_plant.specs.declared.plant.WriteFuse.{WriteFuse}
 use Rattle.dr_plant.specs.declared.plant.Torn.{Torn}
 use Rattle.dr_plant.specs.declared.plant.Torn.TheVariants.{Untouched, Bytes}
-use Rattle.dr_config.specs.Table.{Table, place_of}
+use Rattle.dr_config.specs.Table.{Table, place_of, link_up}
 use Rattle.dr_config.specs.declared.entries.VolumeEntry.{VolumeEntry}
 use Rattle.dr_model.specs.declared.event.Event.{Event}
 use Rattle.dr_model.specs.Contents.{zeros}
@@ -71,6 +71,7 @@ control_seen s t r = record {
   servers = t.names;
   on = on_seen s;
   fuse = fuses_seen s;
+  link = link_up t;
   volumes = ids_of t.volumes;
   volume = volume_seen s t;
   issued = r.issued;

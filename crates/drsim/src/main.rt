@@ -20,8 +20,11 @@ fn words(alloc: Global, rt: &HostRuntime) -> io::Result<Vec<String>> {
 
 fn main(rt: HostRuntime) -> ExitCode {
     let alloc = rt.alloc();
-    let Ok(words) = words(alloc, &rt) else {
-        return ExitCode::from(Status::NoMemory.code());
+    let words = match words(alloc, &rt) {
+        Ok(words) => words,
+        // A word that isn't UTF-8 is no command, and nor is a list without words.
+        Err(error) if error.kind() == io::ErrorKind::InvalidData => Vec::new(alloc),
+        Err(_) => return ExitCode::from(Status::NoMemory.code()),
     };
     let mut source = StdSource::new(rt.stdin());
     let mut sink = StdSink::new(rt.stdout());

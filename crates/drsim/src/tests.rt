@@ -129,7 +129,7 @@ fn lines(rt: HostRuntime) -> Result<(), AllocError> {
         0,
         4,
     )?;
-    runs(&rt, alloc, "@server A\r", "1 E24 not built\n", 1, 1)?;
+    runs(&rt, alloc, "@server A\r", "1 E01 syntax 9\n", 1, 1)?;
     Ok(())
 }
 
@@ -141,7 +141,7 @@ fn definitions(rt: HostRuntime) -> Result<(), AllocError> {
         &rt,
         alloc,
         "@server ABCDEFGHIJKLMNOPQRSTUVWXY\n@server ABCDEFGHIJKLMNOPQRSTUVWX\n",
-        "1 E24 not built\n2 ok\n",
+        "1 E01 syntax 9\n2 ok\n",
         1,
         3,
     )?;
@@ -149,7 +149,7 @@ fn definitions(rt: HostRuntime) -> Result<(), AllocError> {
         &rt,
         alloc,
         "@server 1A\n@volume 1000 A 1\n@show 1000 0\n@write 1000 0 0 41\n",
-        "1 E24 not built\n2 E24 not built\n3 E24 not built\n4 E24 not built\n",
+        "1 E01 syntax 9\n2 E02 unknown server\n3 E02 unknown volume\n4 E02 unknown volume\n",
         1,
         4,
     )?;
@@ -158,7 +158,7 @@ fn definitions(rt: HostRuntime) -> Result<(), AllocError> {
         &rt,
         alloc,
         "@server A\n@volume 1000 A 0\n@volume 1000 A 257\n@volume 1000 A 256\n@show 1000 255\n",
-        "1 ok\n2 E24 not built\n3 E24 not built\n4 ok\n5 ok -\n",
+        "1 ok\n2 E04 limit tracks\n3 E04 limit tracks\n4 ok\n5 ok -\n",
         1,
         8,
     )?;
@@ -191,7 +191,7 @@ fn writes(rt: HostRuntime) -> Result<(), AllocError> {
         &rt,
         alloc,
         "@write 10AB 0 63 41\n@write 10AB 0 62 424344\n@write 10AB 0 64 41\n@write 10AB 0 60 4A4B4C\n",
-        "3 ok w1\n4 E24 not built\n5 E24 not built\n6 ok w2\n",
+        "3 ok w1\n4 E01 syntax 18\n5 E01 syntax 15\n6 ok w2\n",
         1,
         12,
     )?;
@@ -206,25 +206,25 @@ fn refusals(rt: HostRuntime) -> Result<(), AllocError> {
         &rt,
         alloc,
         "@write 10AB 2 0 41\n@show 10AB 2\n@write 10AC 0 0 41\n@show 10AC 0\n@show 10AB 4294967296\n",
-        "3 E24 not built\n4 E24 not built\n5 E24 not built\n6 E24 not built\n7 E24 not built\n",
+        "3 E02 unknown track\n4 E02 unknown track\n5 E02 unknown volume\n6 E02 unknown volume\n7 E01 syntax 12\n",
         1,
         9,
     )?;
-    // A second server and volume, commands that aren't built, and other gaps than one space.
+    // A server that is there already, a command that isn't built, and gaps of any size.
     goes_on(
         &rt,
         alloc,
         "@server B\n@server A\n@volume 10AC A 1\n@image\n@show  10AB 0\n@show 10AB 0 \n @show 10AB 0\n@show\t10AB 0\n@show 10AB 0 0\n",
-        "3 E24 not built\n4 E24 not built\n5 E24 not built\n6 E24 not built\n7 E24 not built\n8 E24 not built\n9 E24 not built\n10 E24 not built\n11 E24 not built\n",
+        "3 ok\n4 E03 duplicate server\n5 ok\n6 E24 not built\n7 ok -\n8 ok -\n9 ok -\n10 ok -\n11 E01 syntax 14\n",
         1,
-        13,
+        19,
     )?;
     // Bytes that aren't pairs of digits.
     goes_on(
         &rt,
         alloc,
         "@write 10AB 0 0 4\n@write 10AB 0 0 \n@write 10AB 0 0 4G\n@show 10AB 0\n",
-        "3 E24 not built\n4 E24 not built\n5 E24 not built\n6 ok -\n",
+        "3 E01 syntax 17\n4 E01 syntax 17\n5 E01 syntax 17\n6 ok -\n",
         1,
         9,
     )?;
@@ -337,14 +337,14 @@ fn stops(rt: HostRuntime) -> Result<(), AllocError> {
         1,
         13,
     )?;
-    // Twice each; a write waits where its server is off, and a later one isn't carried out then.
+    // Twice each; a write waits where its server is off, and a later one is carried out all the same.
     goes_on(
         &rt,
         alloc,
         "@stop A\n@stop A\n@write 10AB 0 0 41\n@start A\n@start A\n@show 10AB 0\n@write 10AB 0 0 42\n",
-        "3 ok\n4 ok\n5 E05 server off A\n6 ok\n7 ok\n8 ok -\n9 E24 not built\n",
+        "3 ok\n4 ok\n5 E05 server off A\n6 ok\n7 ok\n8 ok -\n9 ok w2\n",
         1,
-        15,
+        17,
     )?;
     Ok(())
 }
@@ -357,9 +357,9 @@ fn fuses(rt: HostRuntime) -> Result<(), AllocError> {
         &rt,
         alloc,
         "@stop A after 9 torn none\n@stop A\n@start A\n@write 10AB 0 0 41\n@write 10AB 1 0 42\n@start A\n@write 10AB 1 0 43\n",
-        "3 ok\n4 ok\n5 ok\n6 ok w1\n7 E21 stopped A\n8 ok\n9 E24 not built\n",
+        "3 ok\n4 ok\n5 ok\n6 ok w1\n7 E21 stopped A\n8 ok\n9 ok w3\n",
         1,
-        18,
+        20,
     )?;
     // A later fuse takes the place of an earlier one, also where the server is off.
     goes_on(
@@ -381,11 +381,90 @@ fn stop_words(rt: HostRuntime) -> Result<(), AllocError> {
         &rt,
         alloc,
         "@stop B\n@start B\n@stop B after 0 torn none\n@stop A after 4294967296 torn none\n@stop A after 1 torn 0\n@stop A after 1 torn 0G\n@stop A after 1 torn 0000\n@stop A after 1 torn None\n@stop A After 1 torn none\n@stop A after 1 none\n@stop  A\n@start\n@start A A\n@stop A after 4294967295 torn aB\n",
-        "3 E24 not built\n4 E24 not built\n5 E24 not built\n6 E24 not built\n7 E24 not built\n8 E24 not built\n9 E24 not built\n10 E24 not built\n11 E24 not built\n12 E24 not built\n13 E24 not built\n14 E24 not built\n15 E24 not built\n16 ok\n",
+        "3 E02 unknown server\n4 E02 unknown server\n5 E02 unknown server\n6 E01 syntax 15\n7 E01 syntax 22\n8 E01 syntax 22\n9 E01 syntax 22\n10 E01 syntax 22\n11 E01 syntax 9\n12 E01 syntax 17\n13 ok\n14 E01 syntax 7\n15 E01 syntax 10\n16 ok\n",
         1,
-        18,
+        19,
     )?;
     Ok(())
+}
+
+/// Several servers and volumes: what is refused in which order, ranges, links, and writes that wait.
+#[test]
+fn tables(rt: HostRuntime) -> Result<(), AllocError> {
+    let alloc = rt.alloc();
+    goes_on(
+        &rt,
+        alloc,
+        "@server B\n@volume 10AA-10AC A 1\n@volume 1000 B 0\n@volume 2000-2001 B 1\n@link A C down\n@link A A up\n@link B A down\n",
+        "3 ok\n4 ok\n4 E03 duplicate volume\n4 ok\n5 E03 duplicate lss\n6 ok\n6 ok\n7 E02 unknown server\n8 E03 duplicate server\n9 ok\n",
+        1,
+        19,
+    )?;
+    // Each server stops and starts by itself; what landed is acknowledged, and what waits is applied.
+    goes_on(
+        &rt,
+        alloc,
+        "@server B\n@volume 2000 B 1\n@issue 10AB 0 0 41\n@issue 2000 0 0 42\n@apply 3\n@stop B after 7 torn none\n@apply 2\n@apply 1\n@apply 2\n@start B\n@show 2000 0\n@show 10AB 0\n",
+        "3 ok\n4 ok\n5 ok w1\n6 ok w2\n7 E02 unknown write\n8 ok\n9 E21 stopped B\n10 ok w1\n11 E05 server off B\n12 ok acked w2\n13 ok 42\n14 ok 41\n",
+        1,
+        26,
+    )?;
+    // A start that is stopped in its second staged track, and a later one that ends.
+    goes_on(
+        &rt,
+        alloc,
+        "@volume 10AC A 1\n@write 10AB 0 0 41\n@write 10AC 0 0 42\n@stop A\n@stop A after 1 torn FF\n@start A\n@show 10AC 0\n@start A\n@show 10AC 0\n",
+        "3 ok\n4 ok w1\n5 ok w2\n6 ok\n7 ok\n8 E21 stopped A\n9 E05 server off A\n10 ok\n11 ok 42\n",
+        1,
+        23,
+    )?;
+    Ok(())
+}
+
+/// A source that is cut into pieces of any size gives the same output.
+#[test]
+fn pieces(rt: HostRuntime) -> Result<(), AllocError> {
+    let alloc = rt.alloc();
+    let printed = b"1 ok\n2 ok\n3 ok w1\n4 ok 41\n";
+    for piece in [1, 7, 4096] {
+        let script = Vec::from_slice(alloc, FIRST.as_bytes())?;
+        let source = MemSource::new(script, piece, Vec::new(alloc));
+        let sink = MemSink::new(alloc, 4096, Vec::new(alloc), Vec::new(alloc))?;
+        let left = call(alloc, "run", source, sink)?;
+        assert!(rt;
+            left.sink.bytes() == printed.as_slice(),
+            "in pieces of {piece}"
+        );
+        assert_eq!(rt; left.status, 0, "in pieces of {piece}");
+    }
+    Ok(())
+}
+
+/// As many writes are pending as may be, on two servers, one of which stops and starts again.
+#[test]
+fn pending_writes(rt: HostRuntime) -> Result<(), AllocError> {
+    let alloc = rt.alloc();
+    let mut issues = String::new(alloc);
+    let mut issued = String::new(alloc);
+    for k in 1u32..33 {
+        issues.push_str(&format!(in alloc; "@issue 1000 0 {k} 41\n@issue 2000 0 {k} 42\n")?)?;
+        let even = 2 * k;
+        let odd = even - 1;
+        let first = even + 3;
+        let second = even + 4;
+        issued.push_str(&format!(in alloc; "{first} ok w{odd}\n{second} ok w{even}\n")?)?;
+    }
+    let script = format!(in alloc;
+        "@server A\n@server B\n@volume 1000 A 1\n@volume 2000 B 1\n{issues}@issue 1000 0 0 43\n@write 2000 0 0 43\n@stop B\n@apply 2\n@apply 1\n@issue 1000 0 0 43\n@start B\n@apply 2\n@apply 64\n@show 2000 0\n"
+    )?;
+    let mut zeros = String::new(alloc);
+    for _ in 0..30 {
+        zeros.push_str("00")?;
+    }
+    let printed = format!(in alloc;
+        "1 ok\n2 ok\n3 ok\n4 ok\n{issued}69 E04 limit pending\n70 E04 limit pending\n71 ok\n72 E05 server off B\n73 ok w1\n74 ok w65\n75 ok\n76 ok w2\n77 ok w64\n78 ok 0042{zeros}42\n"
+    )?;
+    runs(&rt, alloc, &script, &printed, 1, 153)
 }
 
 /// A write of a whole track, and one of a byte more.
@@ -398,7 +477,7 @@ fn whole_track(rt: HostRuntime) -> Result<(), AllocError> {
     let script = format!(in rt.alloc();
         "@server A\n@volume 1000 A 1\n@write 1000 0 0 {digits}\n@show 1000 0\n@write 1000 0 0 {digits}41\n"
     )?;
-    let printed = format!(in rt.alloc(); "1 ok\n2 ok\n3 ok w1\n4 ok {digits}\n5 E24 not built\n")?;
+    let printed = format!(in rt.alloc(); "1 ok\n2 ok\n3 ok w1\n4 ok {digits}\n5 E01 syntax 17\n")?;
     expect(&rt, rt.alloc(), "run", &script, &printed, 1, 10)
 }
 
@@ -498,7 +577,7 @@ fn limits(rt: HostRuntime) -> Result<(), AllocError> {
         (b'\n', 100_001, "", "", 6),
         (b'\n', 100_000, "@server A", "", 6),
         (b' ', 1_024, "", "", 0),
-        (b' ', 1_025, "", "1 E24 not built\n", 1),
+        (b' ', 1_025, "", "1 E01 syntax 1025\n", 1),
     ];
     for (byte, count, last, printed, status) in cases {
         let mut script = vec![in rt.alloc(); byte; count]?;

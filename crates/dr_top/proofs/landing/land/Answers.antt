@@ -17,6 +17,7 @@ use Rattle.dr_top.specs.Here.{IsAtRest}
 use Rattle.dr_top.specs.Landing.{filled}
 use Rattle.dr_top.proofs.LandingLemmas.{covers-remove}
 use Rattle.dr_top.proofs.LandLemmas.{left-unread, lands-unread, unread-rest, own-read, own-done, updated-rest}
+use Rattle.dr_top.proofs.FaultLemmas.{counted-by, counted-unread}
 use Rattle.dr_top.proofs.landing.land.Goals as goal
 
 pub returns-in_err-opened-clause-exact : goal.returns-in_err-opened-clause-exact
@@ -32,6 +33,10 @@ returns-in_err-opened-clause-rest g c =
 pub returns-in_err-opened-clause-unarmed : goal.returns-in_err-opened-clause-unarmed
 returns-in_err-opened-clause-unarmed g c =
     (left-unread c.args.c.now (g.P.Plant.state c.args.p.now) (g.P.Plant.state c.open.new.p) c.args.v.0 c.requires.rest c.requires.defined c.in_err-opened.ensures.done c.in_err-opened.ensures.state).unarmed
+
+pub returns-in_err-opened-clause-faults : goal.returns-in_err-opened-clause-faults
+returns-in_err-opened-clause-faults g c =
+    counted-unread c.from_residual.result (g.P.Plant.state c.args.p.now) (g.P.Plant.state c.open.new.p) (device_of c.args.c.now c.args.v.0) c.in_err-opened.ensures.done c.in_err-opened.ensures.state c.from_residual.ensures.0
 
 pub read_track-requires : goal.read_track-requires
 read_track-requires g c =
@@ -101,5 +106,6 @@ returns g c =
           (subst (λ b. EndsAs (world (g.P.Plant.state c.change.new.p) t r) (is_err c.change.result) (carry.update (world x t r) v (plain (record c.fields.result.now { blank = c.remove.new.self })) (Some (c.args.t, b)))) track
           (c.change.ensures.exact r))));
       rest = updated-rest t x (g.P.Plant.state c.change.new.p) v _ _ (subst (λ s. IsAtRest s t) (sym same) c.requires.rest) c.change.ensures.stands c.change.ensures.settled c.change.ensures.old_or_new c.change.ensures.others;
+      faults = counted-by c.change.result s.faults x.faults (g.P.Plant.state c.change.new.p).faults (ap (λ (y : PlantState). y.faults) same) c.change.ensures.fault c.change.ensures.no_fault;
       unarmed = λ q none. c.change.ensures.unarmed q (ap (λ (s : PlantState). s.read_fuse q) same ∙ none);
     }

@@ -1,91 +1,122 @@
-use Rattle.std.proofs.Common.{ap, sym, ◌∙◌, arith, ◌≡◌, length, ◌++◌, ◌+◌, drop, take, subst, ◌∷◌, Some, refl, inl, inr}
-use Rattle.std.proofs.lemmas.List.{append-nil}
-use Rattle.std.specs.Str.Lines.{lines}
+use Rattle.std.proofs.Common.{◌≤◌, ◌+◌, ◌∙◌, sym, ap, subst, arith, length, List, Ok, Err, refl}
+use Rattle.std.specs.List.{fold}
+use Rattle.dr_model.specs.Text.{heard, untold}
+use Rattle.dr_io.specs.Lines.{Progress, IsNext}
+use Rattle.dr_io.specs.declared.line_reader.Taken.TheVariants.{TooLong as PastLimit}
+use Rattle.dr_model.specs.declared.event.Event.{Event}
 use Rattle.dr_model.specs.Control.{World}
-use Rattle.dr_model.specs.Laws.{Sound}
-use Rattle.dr_model.specs.Lines.{tasks_from}
-use Rattle.dr_model.specs.Text.{text}
-use Rattle.dr_laws.proofs.Steps.{sound-run}
+use Rattle.dr_model.specs.Lines.{tasks_of}
+use Rattle.dr_top.specs.Faults.{Counted, told_stop}
 use Rattle.dr_top.specs.Here.{here}
-use Rattle.dr_top.proofs.RunLemmas.{rest-next, within-next, world-next, gave-on, part-on, to_err, none-left, world-all, no-lines, world-begins, zero-length}
+use Rattle.dr_top.specs.Outcome.{Ran, has_refusal}
+use Rattle.dr_top.specs.Ran.{RanLine}
+use Rattle.dr_top.specs.declared.status.Status.{Status}
+use Rattle.dr_top.proofs.EndLemmas.{Going, going-first, going-next, ran-halted, ran-all, ran-long, ran-fault, going-reached, line-reached, fault-not}
+use Rattle.dr_top.proofs.TakenLemmas.{takes-line, takes-all, takes-part}
 use Rattle.dr_top.proofs.run.run_lines.Goals as goal
 
-pub loop-rest-init : goal.loop-rest-init
-loop-rest-init g c =
-    let begins = c.requires.begins in
-    let none = ap (λ (w : World). w.events) begins in
-    let zero = ap (λ (w : World). w.control.issued) begins in
+pub loop-number-init : goal.loop-number-init
+loop-number-init g c =
+    let w = here (g.P.Plant.state c.args.plant.now) c.args.config.now c.args.host.now c.args.journal.now.events in
+    let none = ap (λ (w : World). w.events) c.requires.begins in
+    let s = c.args.source.now in
+    let k = c.args.sink.now in
     record {
-      left = refl;
-      within = omega arith;
-      few = omega arith;
-      leads = world-begins c.args.script.now ∙ sym begins;
-      gave = λ out h. h ∙ ap Some (sym (append-nil out) ∙ ap (λ es. out ++ text es) (sym none));
+      going = subst (λ (p : Progress). Going g.S.Source.left g.S.Source.faults g.K.Sink.written g.K.Sink.faults s k s k p 0 w) (sym c.new-reader.ensures)
+          (going-first g.S.Source.left g.S.Source.faults g.K.Sink.written g.K.Sink.faults s k w c.requires.begins);
+      heard = c.new-told.ensures ∙ ap (λ es. fold heard untold es) (sym none);
       ready = c.requires.ready;
-      issued = omega (arith, zero);
-      count = omega arith;
+      stops = subst (λ es. Counted (told_stop es) (g.P.Plant.state c.args.plant.now).faults (g.P.Plant.state c.args.plant.now).faults) (sym none) refl;
+      room = subst (λ (es : List Event). length es ≤ _) (sym none) (omega arith);
     }
 
-pub returns-then-done-eq-MOST_LINES-clause-more : goal.returns-then-done-eq-MOST_LINES-clause-more
-returns-then-done-eq-MOST_LINES-clause-more g c e =
-    let next = within-next c.args.script.now c.loop-rest.done c.first_line-has_end.result.0.now (lines c.first_line-has_end.result.1.now) (c.loop-rest.invariant.left ∙ c.first_line-has_end.ensures.lines) in
-    let at = c.if-done-eq-MOST_LINES.true in
-    omega (arith, next, at)
+pub run_line-requires-clause-reached : goal.run_line-requires-clause-reached
+run_line-requires-clause-reached g c = going-reached g.S.Source.left g.S.Source.faults g.K.Sink.written g.K.Sink.faults c.args.source.now c.args.sink.now _ _ _ _ _ c.loop-number.invariant.going
 
-pub returns-clause-all : goal.returns-clause-all
-returns-clause-all g c e whole =
-    world-all c.args.script.now c.loop-rest.done (here (g.P.Plant.state c.loop-rest.plant) c.loop-rest.config c.loop-rest.host c.loop-rest.journal.events)
-    (c.loop-rest.invariant.left ∙ no-lines c.loop-rest.rest.now (zero-length (length c.loop-rest.rest.now) c.loop-rest-test.ensures)) c.loop-rest.invariant.within c.loop-rest.invariant.leads
+pub returns-in-Ok-End-clause-reached : goal.returns-in-Ok-End-clause-reached
+returns-in-Ok-End-clause-reached g c = going-reached g.S.Source.left g.S.Source.faults g.K.Sink.written g.K.Sink.faults c.args.source.now c.args.sink.now _ _ _ _ _ c.loop-number.invariant.going
 
-pub returns-clause-few : goal.returns-clause-few
-returns-clause-few g c e whole =
-    let all = none-left c.args.script.now c.loop-rest.done (c.loop-rest.invariant.left ∙ no-lines c.loop-rest.rest.now (zero-length (length c.loop-rest.rest.now) c.loop-rest-test.ensures)) c.loop-rest.invariant.within in
-    let few = c.loop-rest.invariant.few in
-    omega (arith, all, few)
+pub returns-in-Ok-TooLong-clause-reached : goal.returns-in-Ok-TooLong-clause-reached
+returns-in-Ok-TooLong-clause-reached g c = going-reached g.S.Source.left g.S.Source.faults g.K.Sink.written g.K.Sink.faults c.args.source.now c.args.sink.now _ _ _ _ _ c.loop-number.invariant.going
 
-pub returns-in_err-run_line-clause-part : goal.returns-in_err-run_line-clause-part
-returns-in_err-run_line-clause-part g c =
-    to_err c.from_residual.result
-    (part-on g.K.Sink.written c.args.sink.now c.loop-rest.sink c.run_line.new.sink c.loop-rest.journal.events c.run_line.new.journal.events c.loop-rest.invariant.gave c.in_err-run_line.ensures.part)
+pub returns-in-Err-clause-reached : goal.returns-in-Err-clause-reached
+returns-in-Err-clause-reached g c = going-reached g.S.Source.left g.S.Source.faults g.K.Sink.written g.K.Sink.faults c.args.source.now c.args.sink.now _ _ _ _ _ c.loop-number.invariant.going
 
-pub returns-in_err-run_line-clause-followed : goal.returns-in_err-run_line-clause-followed
-returns-in_err-run_line-clause-followed g c =
-    let script = c.args.script.now in
-    let done = c.loop-rest.done in
-    let line = c.first_line-has_end.result.0.now in
-    let rest = lines c.first_line-has_end.result.1.now in
-    let left : drop done (lines script) ≡ line ∷ rest = c.loop-rest.invariant.left ∙ c.first_line-has_end.ensures.lines in
-    let old = here (g.P.Plant.state c.loop-rest.plant) c.loop-rest.config c.loop-rest.host c.loop-rest.journal.events in
-    let new = here (g.P.Plant.state c.run_line.new.plant) c.run_line.new.config c.run_line.new.host c.run_line.new.journal.events in
-    elim c.in_err-run_line.ensures.halted [
-      | inl same ↦ record { count = done; within = c.loop-rest.invariant.within; leads = c.loop-rest.invariant.leads ∙ same }
-      | inr went ↦ record { count = done + 1; within = within-next script done line rest left; leads = world-next script done line rest left old new c.loop-rest.invariant.within c.loop-rest.invariant.leads went }
-    ]
+pub returns-in-Ok-End-clause-ran : goal.returns-in-Ok-End-clause-ran
+returns-in-Ok-End-clause-ran g c =
+    let left = g.S.Source.left in
+    let faults = g.S.Source.faults in
+    let s0 = c.args.source.now in
+    let w = here (g.P.Plant.state c.loop-number.plant) c.loop-number.config c.loop-number.host c.loop-number.journal.events in
+    let going = c.loop-number.invariant.going in
+    let next = subst (λ t. IsNext left faults c.loop-number.source c.next.new.source c.loop-number.reader c.next.new.self (Ok t)) c.in-Ok-End.field-0-is c.in-Ok-End.ensures.next in
+    subst (λ (st : Status). Ran left g.K.Sink.written s0 c.next.new.source c.args.sink.now c.loop-number.sink faults g.K.Sink.faults st w) (sym c.whole_status.ensures)
+    (ran-all left faults g.K.Sink.written g.K.Sink.faults s0 c.args.sink.now c.loop-number.source c.next.new.source c.loop-number.sink c.loop-number.reader c.next.new.self c.loop-number.number w going
+    (has_refusal w.events) refl (takes-all left faults s0 c.loop-number.source c.next.new.source c.loop-number.reader c.next.new.self going.before going.stands next))
 
-pub loop-rest-preserved : goal.loop-rest-preserved
-loop-rest-preserved g c =
-    let script = c.args.script.now in
-    let done = c.loop-rest.done in
-    let line = c.first_line-has_end.result.0.now in
-    let rest = lines c.first_line-has_end.result.1.now in
-    let left : drop done (lines script) ≡ line ∷ rest = c.loop-rest.invariant.left ∙ c.first_line-has_end.ensures.lines in
-    let old = here (g.P.Plant.state c.loop-rest.plant) c.loop-rest.config c.loop-rest.host c.loop-rest.journal.events in
-    let new = here (g.P.Plant.state c.run_line.new.plant) c.run_line.new.config c.run_line.new.host c.run_line.new.journal.events in
-    let had = c.loop-rest.invariant.issued in
-    let few = c.loop-rest.invariant.few in
-    let more = c.in_ok-run_line.ensures.issued in
-    let counted = c.loop-rest.invariant.count in
-    let counts = c.in_ok-run_line.ensures.never_falls in
+pub returns-in-Ok-TooLong-clause-ran : goal.returns-in-Ok-TooLong-clause-ran
+returns-in-Ok-TooLong-clause-ran g c =
+    let left = g.S.Source.left in
+    let faults = g.S.Source.faults in
+    let s0 = c.args.source.now in
+    let w = here (g.P.Plant.state c.loop-number.plant) c.loop-number.config c.loop-number.host c.loop-number.journal.events in
+    let going = c.loop-number.invariant.going in
+    let next = subst (λ t. IsNext left faults c.loop-number.source c.next.new.source c.loop-number.reader c.next.new.self (Ok t)) c.in-Ok-TooLong.field-0-is c.in-Ok-TooLong.ensures.next in
+    ran-long left faults g.K.Sink.written g.K.Sink.faults s0 c.args.sink.now c.loop-number.source c.next.new.source c.loop-number.sink c.loop-number.reader c.next.new.self c.loop-number.number w going
+    (takes-part left faults s0 c.loop-number.source c.next.new.source c.loop-number.reader c.next.new.self going.before going.stands (Ok PastLimit) (λ e. cc) next)
+
+pub returns-in-Err-clause-ran : goal.returns-in-Err-clause-ran
+returns-in-Err-clause-ran g c =
+    let left = g.S.Source.left in
+    let faults = g.S.Source.faults in
+    let s0 = c.args.source.now in
+    let w = here (g.P.Plant.state c.loop-number.plant) c.loop-number.config c.loop-number.host c.loop-number.journal.events in
+    let going = c.loop-number.invariant.going in
+    ran-fault left faults g.K.Sink.written g.K.Sink.faults s0 c.args.sink.now c.loop-number.source c.next.new.source c.loop-number.sink c.loop-number.reader c.next.new.self c.loop-number.number w going
+    c.in-Err.field-0 (takes-part left faults s0 c.loop-number.source c.next.new.source c.loop-number.reader c.next.new.self going.before going.stands (Err c.in-Err.field-0) (fault-not c.in-Err.field-0) c.in-Err.ensures.next)
+
+pub loop-number-preserved : goal.loop-number-preserved
+loop-number-preserved g c =
+    let left = g.S.Source.left in
+    let faults = g.S.Source.faults in
+    let written = g.K.Sink.written in
+    let s0 = c.args.source.now in
+    let p' = c.next.new.self in
+    let w = here (g.P.Plant.state c.loop-number.plant) c.loop-number.config c.loop-number.host c.loop-number.journal.events in
+    let u = here (g.P.Plant.state c.run_line.new.plant) c.run_line.new.config c.run_line.new.host c.run_line.new.journal.events in
+    let going = c.loop-number.invariant.going in
+    let next = subst (λ t. IsNext left faults c.loop-number.source c.next.new.source c.loop-number.reader p' (Ok t)) c.in-Ok-Line.field-0-is c.in-Ok-Line.ensures.next in
+    let took = takes-line left faults s0 c.loop-number.source c.next.new.source c.loop-number.reader p' going.before going.stands c.in-Ok-Line.ensures.near next in
+    let ran = subst (λ line. RanLine written c.loop-number.sink c.run_line.new.sink w (tasks_of (c.loop-number.number + 1) line) u (Ok tt)) c.line-line.ensures c.in-Ok.ensures.ran in
     record {
-      left = rest-next script done line rest left;
-      within = within-next script done line rest left;
-      few = (let other = c.if-done-eq-MOST_LINES.false in grind (arith, few, other));
-      leads = world-next script done line rest left old new c.loop-rest.invariant.within c.loop-rest.invariant.leads c.in_ok-run_line.ensures.went;
-      gave = gave-on g.K.Sink.written c.args.sink.now c.loop-rest.sink c.run_line.new.sink c.loop-rest.journal.events c.run_line.new.journal.events c.loop-rest.invariant.gave c.in_ok-run_line.ensures.printed;
-      ready = c.in_ok-run_line.ensures.ready;
-      issued = omega (arith, had, more);
-      count = omega (arith, counted, counts);
+      going = going-next left faults written g.K.Sink.faults s0 c.args.sink.now c.loop-number.source c.next.new.source c.loop-number.sink c.run_line.new.sink c.loop-number.reader p' c.loop-number.number w u going took
+          ran c.in-Ok.ensures.faults;
+      heard = c.in-Ok.ensures.heard;
+      ready = c.in-Ok.ensures.ready;
+      stops = c.in-Ok.ensures.stops (g.P.Plant.state c.args.plant.now).faults c.loop-number.invariant.stops;
+      room = c.in-Ok.ensures.room;
     }
 
-pub run_line-requires-clause-sound : goal.run_line-requires-clause-sound
-run_line-requires-clause-sound g c = subst Sound c.loop-rest.invariant.leads (sound-run (tasks_from 1 (take c.loop-rest.done (lines c.args.script.now))))
+pub returns-in-Err-run_line-clause-ran : goal.returns-in-Err-run_line-clause-ran
+returns-in-Err-run_line-clause-ran g c =
+    let left = g.S.Source.left in
+    let faults = g.S.Source.faults in
+    let written = g.K.Sink.written in
+    let s0 = c.args.source.now in
+    let p' = c.next.new.self in
+    let w = here (g.P.Plant.state c.loop-number.plant) c.loop-number.config c.loop-number.host c.loop-number.journal.events in
+    let u = here (g.P.Plant.state c.run_line.new.plant) c.run_line.new.config c.run_line.new.host c.run_line.new.journal.events in
+    let going = c.loop-number.invariant.going in
+    let next = subst (λ t. IsNext left faults c.loop-number.source c.next.new.source c.loop-number.reader p' (Ok t)) c.in-Ok-Line.field-0-is c.in-Ok-Line.ensures.next in
+    let took = takes-line left faults s0 c.loop-number.source c.next.new.source c.loop-number.reader p' going.before going.stands c.in-Ok-Line.ensures.near next in
+    let ran = subst (λ line. RanLine written c.loop-number.sink c.run_line.new.sink w (tasks_of (c.loop-number.number + 1) line) u (Err c.in-Err-run_line.halt)) c.line-line.ensures c.in-Err-run_line.ensures.ran in
+    subst (λ (st : Status). Ran left written s0 c.next.new.source c.args.sink.now c.run_line.new.sink faults g.K.Sink.faults st u) (sym c.status.ensures)
+    (ran-halted left faults written g.K.Sink.faults s0 c.args.sink.now c.loop-number.source c.next.new.source c.loop-number.sink c.run_line.new.sink c.loop-number.reader p' c.loop-number.number w u going took
+    c.in-Err-run_line.halt ran c.in-Err-run_line.ensures.faults)
+
+pub returns-in-Err-run_line-clause-reached : goal.returns-in-Err-run_line-clause-reached
+returns-in-Err-run_line-clause-reached g c =
+    let w = here (g.P.Plant.state c.loop-number.plant) c.loop-number.config c.loop-number.host c.loop-number.journal.events in
+    let u = here (g.P.Plant.state c.run_line.new.plant) c.run_line.new.config c.run_line.new.host c.run_line.new.journal.events in
+    line-reached g.K.Sink.written c.loop-number.sink c.run_line.new.sink w u _ _
+    (going-reached g.S.Source.left g.S.Source.faults g.K.Sink.written g.K.Sink.faults c.args.source.now c.args.sink.now _ _ _ _ _ c.loop-number.invariant.going) c.in-Err-run_line.ensures.ran

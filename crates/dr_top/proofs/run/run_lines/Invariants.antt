@@ -1,23 +1,23 @@
-use Rattle.std.proofs.Common.{◌≡◌, ◌≤◌, drop, length}
-use Rattle.std.specs.Str.Lines.{lines}
-use Rattle.dr_model.specs.Limits.{most_lines}
-use Rattle.dr_model.specs.Text.{text}
-use Rattle.dr_top.specs.Followed.{world_after}
-use Rattle.dr_top.specs.Given.{Gave}
+use Rattle.std.proofs.Common.{◌≡◌, ◌≤◌, ◌-◌, length}
+use Rattle.std.specs.List.{fold}
+use Rattle.dr_list.specs.Seen.{seen}
+use Rattle.dr_model.specs.Text.{heard, untold}
+use Rattle.dr_io.specs.Lines.{most_lines}
+use Rattle.dr_model.specs.Limits.{most_events}
+use Rattle.dr_top.specs.Faults.{Counted, told_stop}
 use Rattle.dr_top.specs.Here.{here, IsReady}
+use Rattle.dr_top.proofs.EndLemmas.{Going}
 use Rattle.dr_top.proofs.run.run_lines.Given as goal
 
-abbrev pub invariant-loop-rest : goal.invariant-loop-rest
-invariant-loop-rest g l = record {
-  left : drop l.done (lines l.script) ≡ lines l.rest;
-  within : l.done ≤ length (lines l.script);
-  few : l.done ≤ most_lines;
-  leads : world_after l.script l.done ≡ here (g.P.Plant.state l.plant) l.config l.host l.journal.events;
-  gave : Gave g.K.Sink.written l.fn.sink l.sink (text l.journal.events);
-  ready : IsReady (g.P.Plant.state l.plant) l.config;
-  issued : l.host.issued ≤ l.done;
-  count : g.K.Sink.faults l.fn.sink ≤ g.K.Sink.faults l.sink;
+abbrev pub invariant-loop-number : goal.invariant-loop-number
+invariant-loop-number g l = record {
+  going : Going g.S.Source.left g.S.Source.faults g.K.Sink.written g.K.Sink.faults l.fn.source l.fn.sink l.source l.sink l.reader l.number
+      (here (g.P.Plant.state l.plant) l.config l.host l.journal.events);
+  heard : seen l.told ≡ fold heard untold l.journal.events;
+  ready : IsReady (g.P.Plant.state l.plant) l.config l.host l.journal.events;
+  stops : Counted (told_stop l.journal.events) (g.P.Plant.state l.fn.plant).faults (g.P.Plant.state l.plant).faults;
+  room : length l.journal.events ≤ most_events;
 }
 
-abbrev pub decreases-loop-rest : goal.decreases-loop-rest
-decreases-loop-rest g l = length l.rest
+abbrev pub decreases-loop-number : goal.decreases-loop-number
+decreases-loop-number g l = most_lines - l.number

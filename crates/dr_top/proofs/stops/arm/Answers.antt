@@ -1,5 +1,5 @@
-use Rattle.std.proofs.Common.{sym, refl}
-use Rattle.dr_model.specs.declared.said.Said.TheVariants.{Done}
+use Rattle.std.proofs.Common.{sym, ap, ◌∙◌}
+use Rattle.dr_model.specs.declared.said.Said.TheVariants.{Done, Refused}
 use Rattle.dr_model.specs.declared.said.Addition.TheVariants.{Alone}
 use Rattle.dr_model.specs.Plans.{arm_on}
 use Rattle.dr_model.specs.Runs.{said}
@@ -10,7 +10,8 @@ use Rattle.dr_top.proofs.stops.arm.Goals as goal
 pub returns-in_default-clause-step : goal.returns-in_default-clause-step
 returns-in_default-clause-step g c line =
     let s = g.P.Plant.state c.args.plant.now in let t = c.args.config.now in let h = c.args.host.now in let ev = c.args.journal.now.events in
-    unknown-server s t h ev line (arm_on c.args.writes c.args.word) c.args.name.now c.bytes_of.result.now refl c.bytes_of.ensures (sym c.in_default.ensures.place)
+    unknown-server s t h ev line (arm_on c.args.writes c.args.word) c.args.name.now c.bytes_of.result.now c.bytes_of.ensures (sym c.in_default.ensures.place)
+    ∙ ap (λ r. said (here s t h ev) line (Refused r)) (sym c.unknown_server.ensures)
 
 pub returns-clause-step : goal.returns-clause-step
 returns-clause-step g c line =

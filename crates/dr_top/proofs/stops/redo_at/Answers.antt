@@ -1,4 +1,6 @@
-use Rattle.std.proofs.Common.{◌≡◌, sym, ap, ◌∙◌, subst, Some, option_map}
+use Rattle.dr_model.specs.declared.event.Event.TheVariants.{Stopped}
+use Rattle.dr_top.proofs.ToldLemmas.{told-push}
+use Rattle.std.proofs.Common.{◌≡◌, refl, sym, ap, ◌∙◌, subst, Some, option_map}
 use Rattle.std.specs.Prelude.{IfSome}
 use Rattle.dr_ids.specs.declared.names.VolumeId.{VolumeId}
 use Rattle.dr_config.specs.Table.{place_of}
@@ -42,3 +44,6 @@ returns-in-Err-clause-rest g c =
     (subst (λ o. IfSome o (λ v. place_of t v.0 ≡ Some c.args.place)) c.unwrap-volume.ensures c.volume_at.ensures.place)
     u c.in-Err.ensures.same c.in-Err.ensures.stands c.in-Err.ensures.settled
     (sym (ap u.on (own-server s t c.unwrap-volume.result.0 c.args.server.0 (sym c.if-not-belongs.ensures))) ∙ c.in-Err.ensures.off)
+
+pub returns-in-Err-clause-told : goal.returns-in-Err-clause-told
+returns-in-Err-clause-told g c h is = told-push h c.args.journal.now.events c.push.new.self.events (Stopped c.args.server.0 0) (λ x. refl) c.push.ensures.events is

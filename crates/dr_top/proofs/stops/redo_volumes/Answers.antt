@@ -1,4 +1,6 @@
 use Rattle.std.proofs.Common.{arith, sym, subst, ◌∙◌, ◌≤◌, length, Some, None}
+use Rattle.dr_io.specs.Faults.{Rose}
+use Rattle.dr_top.specs.Faults.{Counted}
 use Rattle.dr_model.specs.ReadStops.{Ends}
 use Rattle.dr_laws.proofs.ReadStops.{ends-wider}
 use Rattle.dr_top.specs.Here.{here, armed_in}
@@ -12,6 +14,8 @@ loop-place-preserved g c = record {
   rest = λ h u r more. c.loop-place.invariant.rest h u r (c.in_ok-redo_at.ensures.carried h (armed_in (g.P.Plant.state c.args.plant.now)) u r more);
   starting = c.in_ok-redo_at.ensures.starting;
   spare = c.in_ok-redo_at.ensures.room_left ∙ c.loop-place.invariant.spare;
+  faults = c.in_ok-redo_at.ensures.faults ∙ c.loop-place.invariant.faults;
+  told = λ h is. c.in_ok-redo_at.ensures.told h (c.loop-place.invariant.told h is);
   unarmed = λ q none. c.in_ok-redo_at.ensures.unarmed q (c.loop-place.invariant.unarmed q none);
 }
 
@@ -43,3 +47,17 @@ returns-clause-rest g c =
 
 pub returns-clause-unarmed : goal.returns-clause-unarmed
 returns-clause-unarmed g c q none = c.loop-place.invariant.unarmed q none
+
+pub returns-in_err-redo_at-clause-faults : goal.returns-in_err-redo_at-clause-faults
+returns-in_err-redo_at-clause-faults g c =
+    let u = g.P.Plant.state c.redo_at.new.plant in
+    subst (λ b. Counted b (g.P.Plant.state c.args.plant.now).faults u.faults) (sym c.from_residual.ensures.0) (subst (λ n. Rose n u.faults) c.loop-place.invariant.faults c.in_err-redo_at.ensures.faults)
+
+pub returns-in_err-redo_at-clause-told : goal.returns-in_err-redo_at-clause-told
+returns-in_err-redo_at-clause-told g c h is = c.in_err-redo_at.ensures.told h (c.loop-place.invariant.told h is)
+
+pub returns-clause-faults : goal.returns-clause-faults
+returns-clause-faults g c = c.loop-place.invariant.faults
+
+pub returns-clause-told : goal.returns-clause-told
+returns-clause-told g c h is = c.loop-place.invariant.told h is

@@ -1,4 +1,6 @@
-use Rattle.std.proofs.Common.{sym, ap, ◌∙◌, subst, Some, None}
+use Rattle.std.proofs.Common.{sym, ap, ◌∙◌, subst, refl, Some, None}
+use Rattle.dr_io.specs.Faults.{Rose}
+use Rattle.dr_model.specs.declared.event.Event.TheVariants.{Started}
 use Rattle.dr_plant.specs.State.{PlantState}
 use Rattle.dr_model.specs.Carry.{carry}
 use Rattle.dr_model.specs.Runs.{said}
@@ -6,7 +8,8 @@ use Rattle.dr_volume.specs.View.{ReadsPass}
 use Rattle.dr_top.specs.Here.{here}
 use Rattle.dr_top.specs.Starting.{IsStarting, redo_from}
 use Rattle.dr_top.proofs.LandLemmas.{exact, ready-after, failed-by}
-use Rattle.dr_top.proofs.StartLemmas.{turned-fails, turned-goes, starting-first, started-reads}
+use Rattle.dr_top.proofs.StartLemmas.{started-faults, stopped-counts, turned-fails, turned-goes, starting-first, started-reads}
+use Rattle.dr_top.proofs.ToldLemmas.{told-push}
 use Rattle.dr_top.proofs.stops.turn_on.Goals as goal
 
 pub redo_volumes-requires-clause-starting : goal.redo_volumes-requires-clause-starting
@@ -26,8 +29,20 @@ returns-in_err-redo_volumes-clause-step g c line =
 
 pub returns-in_err-redo_volumes-clause-ready : goal.returns-in_err-redo_volumes-clause-ready
 returns-in_err-redo_volumes-clause-ready g c =
-    ready-after c.args.config.now (g.P.Plant.state c.start.new.self) (g.P.Plant.state c.redo_volumes.new.plant) (subst ReadsPass (sym c.start.ensures) (started-reads (g.P.Plant.state c.args.plant.now) c.args.server.0 c.requires.ready.reads))
+    let h = c.args.host.now in
+    ready-after c.args.config.now (g.P.Plant.state c.start.new.self) (g.P.Plant.state c.redo_volumes.new.plant) h c.redo_volumes.new.journal.events
+    (subst ReadsPass (sym c.start.ensures) (started-reads (g.P.Plant.state c.args.plant.now) c.args.server.0 c.requires.ready.reads))
     c.in_err-redo_volumes.ensures.rest c.in_err-redo_volumes.ensures.unarmed
+    (c.in_err-redo_volumes.ensures.told h (told-push h c.args.journal.now.events c.push.new.self.events (Started c.args.server.0) (λ x. refl) c.push.ensures.events c.requires.ready.told))
+
+pub returns-in_err-redo_volumes-clause-faults : goal.returns-in_err-redo_volumes-clause-faults
+returns-in_err-redo_volumes-clause-faults g c =
+    let s = g.P.Plant.state c.args.plant.now in let u = g.P.Plant.state c.redo_volumes.new.plant in
+    stopped-counts c.from_residual.result c.in_err-redo_volumes.field-0.0 c.args.server s u c.from_residual.ensures.0 c.from_residual.ensures.1 c.in_err-redo_volumes.ensures.stopped
+    (subst (λ n. Rose n u.faults) (started-faults s (g.P.Plant.state c.start.new.self) c.args.server.0 c.start.ensures) c.in_err-redo_volumes.ensures.faults)
+
+pub returns-clause-faults : goal.returns-clause-faults
+returns-clause-faults g c = c.in_ok-redo_volumes.ensures.faults ∙ started-faults (g.P.Plant.state c.args.plant.now) (g.P.Plant.state c.start.new.self) c.args.server.0 c.start.ensures
 
 pub returns-clause-step : goal.returns-clause-step
 returns-clause-step g c line =
@@ -42,5 +57,8 @@ returns-clause-step g c line =
 
 pub returns-clause-ready : goal.returns-clause-ready
 returns-clause-ready g c =
-    ready-after c.args.config.now (g.P.Plant.state c.start.new.self) (g.P.Plant.state c.redo_volumes.new.plant) (subst ReadsPass (sym c.start.ensures) (started-reads (g.P.Plant.state c.args.plant.now) c.args.server.0 c.requires.ready.reads))
+    let h = c.args.host.now in
+    ready-after c.args.config.now (g.P.Plant.state c.start.new.self) (g.P.Plant.state c.redo_volumes.new.plant) c.acknowledge.new.host c.acknowledge.new.journal.events
+    (subst ReadsPass (sym c.start.ensures) (started-reads (g.P.Plant.state c.args.plant.now) c.args.server.0 c.requires.ready.reads))
     c.in_ok-redo_volumes.ensures.rest c.in_ok-redo_volumes.ensures.unarmed
+    (c.acknowledge.ensures.told (c.in_ok-redo_volumes.ensures.told h (told-push h c.args.journal.now.events c.push.new.self.events (Started c.args.server.0) (λ x. refl) c.push.ensures.events c.requires.ready.told)))

@@ -1,0 +1,142 @@
+-- What each step comes to, by cases: an answer, or one of the plans of the step table behind its tests.
+use Rattle.std.proofs.Common.{ℕ, ◌≡◌, ◌<◌, refl, Bool, true, false, cond, not, ◌||◌, List, [], Option, Some, None, Result, Ok, Err, nat_eq, nat_lt, nat_le, arith}
+use Rattle.std.specs.Prelude.{length, is_some}
+use Rattle.std.specs.List.{find}
+use Rattle.std.specs.Option.{option_or}
+use Rattle.std.proofs.lemmas.Bool.Decides.{nat_tests}
+use Rattle.dr_ids.specs.declared.refusal.Refusal.{Refusal}
+use Rattle.dr_ids.specs.declared.refusal.Refusal.TheVariants.{NotBuilt, JournalFull, Syntax}
+use Rattle.dr_ids.specs.declared.refusal.Kind.TheVariants.{Server as OfServer, Volume as OfVolume, Lss as OfLss, Track as OfTrack, Write as OfWrite}
+use Rattle.dr_ids.specs.declared.refusal.Which.TheVariants.{Servers, Volumes, Tracks, Pending as PendingWrites}
+use Rattle.dr_model.specs.declared.event.Event.{Event}
+use Rattle.dr_model.specs.declared.said.Addition.TheVariants.{Alone}
+use Rattle.dr_model.specs.declared.said.Said.{Said}
+use Rattle.dr_model.specs.declared.said.Said.TheVariants.{Done, Refused}
+use Rattle.dr_model.specs.declared.step.Name.{Name}
+use Rattle.dr_model.specs.declared.step.TornWord.{TornWord}
+use Rattle.dr_model.specs.declared.step.Step.{Step}
+use Rattle.dr_model.specs.declared.step.Step.TheVariants.{Server, Volume, Link, Stop, StopAfter, Start, Issue, Write, Apply, Show}
+use Rattle.dr_model.specs.Limits.{most_servers, most_volumes, most_tracks, most_pending}
+use Rattle.dr_model.specs.Refusals.{unknown, duplicate, over}
+use Rattle.dr_model.specs.Control.{Control, Pending, is_volume}
+use Rattle.dr_model.specs.Moves.{is_write}
+use Rattle.dr_model.specs.Plans.{Plan, plan, step_plan, plan_of, is_built, has_room, only_says, refuses, unless, on_named, on_server, name_bytes, server_named, server_refusal, server_done, volume_refusal, volume_done, link_between, link_done, track_refusal, issue_refusal, issue_then, write_done, apply_on, apply_done, show_refusal, show_done, is_foreign, first_of, subsystem, stop_on, stop_done, arm_on, start_on, start_plan}
+
+-- what a step comes to, with what was seen before
+pub data Case (k : Control) (events : List Event) (line : ℕ) : Plan → Type 0 where
+  Says : (a : Said) → Case k events line (only_says a)
+  Defines : (name : Name) → server_refusal k (name_bytes name) ≡ None → Case k events line (server_done k name)
+  Adds : (v s tracks : ℕ) → volume_refusal k v s tracks ≡ None → Case k events line (volume_done v s tracks)
+  Links : (a b : ℕ) → (up : Bool) → Case k events line (link_done a b up)
+  Issues : (v t offset len : ℕ) → (bytes : List ℕ) → issue_refusal k v t ≡ None → Case k events line (issue_then [] k v t offset len bytes)
+  Writes : (v t offset len : ℕ) → (bytes : List ℕ) → issue_refusal k v t ≡ None → Case k events line (write_done k v t offset len bytes)
+  Applies : (n : ℕ) → (p : Pending) → find (is_write n) k.pending ≡ Some p → Case k events line (apply_done k p)
+  Shows : (v t : ℕ) → show_refusal k v t ≡ None → Case k events line (show_done events line v t)
+  Stops : (s : ℕ) → k.on s ≡ true → Case k events line (stop_done s)
+  Arms : (writes : ℕ) → (torn : TornWord) → (s : ℕ) → Case k events line (arm_on writes torn s)
+  Starts : (s : ℕ) → k.on s ≡ false → Case k events line (start_plan k s)
+
+module _ (k : Control) (events : List Event) (line : ℕ) where
+  abbrev Is : Plan → Type 0
+  Is = Case k events line
+
+  choice : (b : Bool) (p q : Plan) → (b ≡ true → Is p) → (b ≡ false → Is q) → Is (cond b p q)
+  choice true p q yea nay = yea refl
+  choice false p q yea nay = nay refl
+
+  where-none : (r : Option Refusal) (p : Plan) → (r ≡ None → Is p) → Is (unless r p)
+  where-none None p go = go refl
+  where-none (Some r) p go = Says (Refused r)
+
+  where-named : (o : Option ℕ) (p : ℕ → Plan) → ((s : ℕ) → Is (p s)) → Is (on_named o p)
+  where-named None p go = Says (Refused (unknown OfServer))
+  where-named (Some s) p go = go s
+
+  apply-case : (n : ℕ) (o : Option Pending) → find (is_write n) k.pending ≡ o → Is (apply_on k o)
+  apply-case n None e = Says (Refused (unknown OfWrite))
+  apply-case n (Some p) e = Applies n p e
+
+  link-case : (a b : ℕ) (up : Bool) → Is (link_between a b up)
+  link-case a b up = choice (nat_eq a b) (refuses (duplicate OfServer)) (link_done a b up) (λ e. Says _) (λ e. Links a b up)
+
+  stop-case : (s : ℕ) → Is (stop_on k s)
+  stop-case s = choice (k.on s) (stop_done s) (only_says (Done Alone)) (Stops s) (λ off. Says _)
+
+  start-case : (s : ℕ) → Is (start_on k s)
+  start-case s = choice (k.on s) (only_says (Done Alone)) (start_plan k s) (λ on. Says _) (Starts s)
+
+  of-case : (step : Step) → Is (plan_of k events line step)
+  of-case (Server name) = where-none (server_refusal k (name_bytes name)) (server_done k name) (Defines name)
+  of-case (Volume v name tracks) = where-named (server_named k (name_bytes name)) (λ s. unless (volume_refusal k v s tracks) (volume_done v s tracks)) (λ s. where-none (volume_refusal k v s tracks) (volume_done v s tracks) (Adds v s tracks))
+  of-case (Link a b up) = where-named (server_named k (name_bytes a)) (λ x. on_server k b (λ y. link_between x y up)) (λ x. where-named (server_named k (name_bytes b)) (λ y. link_between x y up) (λ y. link-case x y up))
+  of-case (Issue v t offset len bytes) = where-none (issue_refusal k v t) (issue_then [] k v t offset len bytes) (Issues v t offset len bytes)
+  of-case (Write v t offset len bytes) = where-none (issue_refusal k v t) (write_done k v t offset len bytes) (Writes v t offset len bytes)
+  of-case (Apply n) = apply-case n _ refl
+  of-case (Stop name) = where-named (server_named k (name_bytes name)) (stop_on k) stop-case
+  of-case (StopAfter name writes torn) = where-named (server_named k (name_bytes name)) (arm_on writes torn) (Arms writes torn)
+  of-case (Start name) = where-named (server_named k (name_bytes name)) (start_on k) start-case
+  of-case (Show v t) = where-none (show_refusal k v t) (show_done events line v t) (Shows v t)
+  of-case _ = Says (Refused NotBuilt)
+
+  step-case : (step : Step) → Is (step_plan k events line step)
+  step-case step =
+      choice (not (is_built step)) (refuses NotBuilt) (cond (has_room events) (plan_of k events line step) (refuses JournalFull)) (λ none. Says _)
+      (λ built. choice (has_room events) (plan_of k events line step) (refuses JournalFull) (λ room. of-case step) (λ full. Says _))
+
+  pub plan-case : (asked : Result Step ℕ) → Is (plan k events line asked)
+  plan-case (Ok step) = step-case step
+  plan-case (Err column) = Says (Refused (Syntax column))
+
+-- what the tests that passed tell
+one-passed : (b : Bool) (r : Refusal) (o : Option Refusal) → cond b (Some r) o ≡ None → (b ≡ false) × (o ≡ None)
+one-passed true r o h = absurd cc
+one-passed false r o h = (refl, h)
+
+or-passed : (a b : Option Refusal) → option_or a b ≡ None → (a ≡ None) × (b ≡ None)
+or-passed None b h = (refl, h)
+or-passed (Some r) b h = absurd cc
+
+met : (b : Bool) (r : Refusal) → cond b None (Some r) ≡ None → b ≡ true
+met true r h = refl
+met false r h = absurd cc
+
+is-not : (b : Bool) → not b ≡ false → b ≡ true
+is-not true h = refl
+is-not false h = absurd cc
+
+below : (n m : ℕ) → nat_le m n ≡ false → n < m
+below n m h = grind (arith, nat_tests, h)
+
+under : (n m : ℕ) → nat_lt n m ≡ true → n < m
+under n m h = grind (arith, nat_tests, h)
+
+pub servers-left : (k : Control) (name : List ℕ) → server_refusal k name ≡ None → length k.servers < most_servers
+servers-left k name h = below _ _ (one-passed (nat_le most_servers (length k.servers)) (over Servers) None (one-passed (is_some (server_named k name)) (duplicate OfServer) _ h).1).0
+
+-- a volume that is new, and there is room for it
+pub record IsNew (k : Control) (v : ℕ) : Type 0 where
+  pub undefined : is_volume k v ≡ false
+  pub left : length k.volumes < most_volumes
+
+pub is-new : (k : Control) (v s tracks : ℕ) → volume_refusal k v s tracks ≡ None → IsNew k v
+is-new k v s tracks h =
+    let a = one-passed (is_volume k v) (duplicate OfVolume) _ h in
+    let b = one-passed (is_foreign k (first_of k (subsystem v)) s) (duplicate OfLss) _ a.1 in
+    let c = one-passed (nat_eq tracks 0 || nat_lt most_tracks tracks) (over Tracks) _ b.1 in
+    record { undefined = a.0; left = below _ _ (one-passed (nat_le most_volumes (length k.volumes)) (over Volumes) None c.1).0 }
+
+-- a track that is there
+pub record IsTrack (k : Control) (v t : ℕ) : Type 0 where
+  pub defined : is_volume k v ≡ true
+  pub low : t < (k.volume v).tracks
+
+is-track : (k : Control) (v t : ℕ) → track_refusal k v t ≡ None → IsTrack k v t
+is-track k v t h =
+    let a = one-passed (not (is_volume k v)) (unknown OfVolume) _ h in
+    record { defined = is-not (is_volume k v) a.0; low = under _ _ (met (nat_lt t (k.volume v).tracks) (unknown OfTrack) a.1) }
+
+-- and room for one write more
+pub may-issue : (k : Control) (v t : ℕ) → issue_refusal k v t ≡ None → IsTrack k v t × (length k.pending < most_pending)
+may-issue k v t h =
+    let both = or-passed (track_refusal k v t) _ h in
+    (is-track k v t both.0, below _ _ (one-passed (nat_le most_pending (length k.pending)) (over PendingWrites) None both.1).0)

@@ -1,0 +1,132 @@
+-- Worlds that some steps lead to.
+use Rattle.std.proofs.Common.{ℕ, suc, zero, Bool, ◌||◌, true, false, nat_le, Option, None, ◌≡◌, ◌<◌, ◌≤◌, ◌+◌, List, [], ◌∷◌, ◌++◌, take, map, length, refl, ap, ◌∙◌, sym, subst, arith, Some, Result, Ok, Err}
+use Rattle.std.specs.Prelude.{slice_get, IsSome, All}
+use denote.Ref.{Bor}
+use Rattle.std.proofs.lemmas.Bool.Decides.{nat_tests}
+use Rattle.std.specs.Option.{option_map, option_copied}
+use Rattle.std.proofs.lemmas.List.{take_more, length-map, length-append}
+use Rattle.std.proofs.lemmas.List.Folds.{list_any-append}
+use Rattle.std.proofs.lemmas.Option.{get_or_from_slice_get, slice_get-map}
+use Rattle.dr_model.specs.declared.step.Step.{Step}
+use Rattle.dr_ids.specs.declared.refusal.Refusal.TheVariants.{Syntax}
+use Rattle.dr_model.specs.declared.event.Event.{Event}
+use Rattle.dr_model.specs.declared.said.Said.TheVariants.{Refused}
+use Rattle.dr_model.specs.Answers.{answer}
+use Rattle.dr_model.specs.Grammar.{line_of}
+use Rattle.dr_model.proofs.CarryLemmas.{plan-refuses}
+use Rattle.dr_model.specs.Control.{World, nothing}
+use Rattle.dr_model.specs.Lines.{task, tasks_read, tasks_of}
+use Rattle.dr_model.specs.Runs.{Task, after_task, after_tasks}
+use Rattle.dr_model.specs.Laws.{Sound}
+use Rattle.dr_model.specs.LineText.{IsWritten}
+use Rattle.dr_model.specs.Limits.{most_events, most_volumes}
+use Rattle.dr_laws.proofs.Steps.{sound-run}
+use Rattle.dr_laws.proofs.Journal.{issued-task, after_task-longer}
+use Rattle.dr_laws.proofs.Limits.{within-run, journal-fits}
+use Rattle.dr_top.specs.Carried.{Reached, EndsBy, GoesTo}
+use Rattle.dr_top.specs.Faults.{is_stop, told_stop}
+use Rattle.dr_top.specs.declared.carry.Bar.{Bar}
+use Rattle.dr_host.specs.Writes.{Writes, Each, bytes_of}
+use Rattle.dr_host.specs.declared.pending.Pending.{Pending}
+use Rattle.dr_model.specs.Histories.{Histories, histories}
+use Rattle.dr_model.proofs.Images.{histories-push}
+use Rattle.dr_model.specs.declared.said.Said.{Said}
+use Rattle.dr_top.specs.Here.{IsTold}
+use Rattle.dr_top.proofs.TaskLemmas.{tasks-then, tasks-one, tasks-none}
+
+pub reached-more : (w u : World) (ts : List Task) → Reached w → after_tasks w ts ≡ u → Reached u
+reached-more w u ts r is = (r.0 ++ ts, tasks-then nothing r.0 ts ∙ ap (λ x. after_tasks x ts) r.1 ∙ is)
+
+-- a list has something at each of its places
+pub some_at : {X : Type 0} (xs : List X) (i : ℕ) → i < length xs → (x : X) × (slice_get xs i ≡ Some x)
+some_at [] i lt = absurd (omega arith)
+some_at (x ∷ xs) zero lt = (x, refl)
+some_at (x ∷ xs) (suc i) lt = some_at xs i (omega arith)
+
+-- one more of a list
+pub take-next : {X : Type 0} (xs : List X) (i : ℕ) (x : X) → i < length xs → slice_get xs i ≡ Some x → take (i + 1) xs ≡ take i xs ++ x ∷ []
+take-next xs i x lt at = take_more xs i x lt ∙ ap (λ y. take i xs ++ y ∷ []) (get_or_from_slice_get xs i x x at)
+
+-- the steps that were read, one more of them
+module _ (number : ℕ) (steps : List Step) where
+  abbrev asked : Step → Task
+  asked s = task number (Ok s)
+
+  pub tasks-count : length (tasks_read number (Ok steps)) ≡ length steps
+  tasks-count = length-map steps asked
+
+  pub steps-next : (i : ℕ) (s : Step) (w v u : World) → i < length steps → slice_get steps i ≡ Some s → after_tasks w (take i (tasks_read number (Ok steps))) ≡ v → after_task v (asked s) ≡ u
+      → after_tasks w (take (i + 1) (tasks_read number (Ok steps))) ≡ u
+  steps-next i s w v u lt at leads goes =
+      ap (after_tasks w) (take-next (map asked steps) i (asked s) (let n = tasks-count in omega (arith, n, lt)) (slice_get-map asked steps i ∙ ap (option_map asked) at))
+      ∙ tasks-then w (take i (map asked steps)) (asked s ∷ []) ∙ ap (λ x. after_tasks x (asked s ∷ [])) leads ∙ tasks-one v (asked s) ∙ goes
+
+-- what holds of such a world
+pub reached-sound : (w : World) → Reached w → Sound w
+reached-sound w r = subst Sound r.1 (sound-run r.0)
+
+issued-more : (w : World) (ts : List Task) → w.control.issued ≤ length w.events → (after_tasks w ts).control.issued ≤ length (after_tasks w ts).events
+unfolding after_tasks
+issued-more w [] few = few
+issued-more w (t ∷ ts) few = issued-more (after_task w t) ts (let one = issued-task w t in let longer = after_task-longer w t in omega (arith, one, longer, few))
+
+pub reached-issued : (w : World) → Reached w → w.control.issued ≤ length w.events
+reached-issued w r = subst (λ (x : World). x.control.issued ≤ length x.events) r.1 (issued-more nothing r.0 (omega arith))
+
+pub reached-room : (w : World) (t : Task) → Reached w → length w.events < most_events → length (after_task w t).events ≤ most_events
+reached-room w t r below = journal-fits w t (subst (λ (x : World). length x.control.volumes ≤ most_volumes) r.1 (within-run r.0).volumes) below
+
+-- a step at a place
+pub some-step : (steps : List Step) (i : ℕ) (o : Option (Bor Step)) → i < length steps → option_copied o ≡ slice_get steps i → IsSome o
+some-step steps i (Some b) lt is = refl
+some-step steps i None lt is = let at = some_at steps i lt in absurd (let e : None ≡ Some at.0 = is ∙ at.1 in cc)
+
+pub step-at : (steps : List Step) (i : ℕ) (s : Step) → i < length steps → Some s ≡ slice_get steps i → All IsWritten steps → IsWritten s
+step-at steps i s lt at all = subst IsWritten (get_or_from_slice_get steps i s s (sym at)) (all i s lt)
+
+pub below-full : (n : ℕ) → nat_le most_events n ≡ false → n < most_events
+below-full n h = below most_events n h
+  where
+    below : (m n : ℕ) → nat_le m n ≡ false → n < m
+    below m n h = grind (arith, nat_tests, h)
+
+pub at-full : (n : ℕ) → nat_le most_events n ≡ true → n ≤ most_events → n ≡ most_events
+at-full n h le = at most_events n h le
+  where
+    at : (m n : ℕ) → nat_le m n ≡ true → n ≤ m → n ≡ m
+    at m n h le = grind (arith, nat_tests, h, le)
+
+-- a line outside the grammar is one step
+module _ (number column : ℕ) where
+  pub fault-none : (w u : World) → u ≡ w → (result : Result (Unit {0}) Bar) → EndsBy 0 (tasks_read number (Err column)) u result → GoesTo w (tasks_read number (Err column)) u result
+  fault-none w u same result ends = record { done = 0; within = omega arith; leads = tasks-none w ∙ sym same; ends = ends }
+
+  pub fault-said : (w : World) (events : List Event) → events ≡ w.events ++ answer number (Refused (Syntax column)) ∷ [] → GoesTo w (tasks_read number (Err column)) (record w { events = events }) (Ok (tt))
+  unfolding after_tasks
+  fault-said w events told = record { done = 1; within = omega arith; leads = plan-refuses w number (Syntax column) ∙ ap (λ es. record w { events = es }) (sym told); ends = refl }
+
+pub fault-room : (events now : List Event) (e : Event) → length events < most_events → now ≡ events ++ e ∷ [] → length now ≤ most_events
+fault-room events now e below told = let sum = length-append events (e ∷ []) in let same = ap (λ es. length es) told in fits (length events) most_events (length now) below (omega (arith, sum, same))
+  where
+    fits : (n m k : ℕ) → n < m → k ≡ n + 1 → k ≤ m
+    fits n m k lt e = omega (arith, lt, e)
+
+pub fault-calm : (number column : ℕ) (events now : List Event) → now ≡ events ++ answer number (Refused (Syntax column)) ∷ [] → told_stop now ≡ told_stop events
+fault-calm number column events now told = ap told_stop told ∙ list_any-append is_stop events (answer number (Refused (Syntax column)) ∷ []) ∙ or_no (told_stop events)
+  where
+    or_no : (b : Bool) → (b || false) ≡ b
+    or_no true = refl
+    or_no false = refl
+
+-- what was read of a line has its steps
+pub read-ok : (number : ℕ) (line : List ℕ) (steps : List Step) → line_of line ≡ Ok steps → tasks_of number line ≡ tasks_read number (Ok steps)
+read-ok number line steps is = ap (tasks_read number) is
+
+pub read-fault : (number : ℕ) (line : List ℕ) (column : ℕ) → line_of line ≡ Err column → tasks_of number line ≡ tasks_read number (Err column)
+read-fault number line column is = ap (tasks_read number) is
+
+-- an answer tells of no write
+pub told-answer : (h : Writes) (events now : List Event) (line : ℕ) (a : Said) → now ≡ events ++ answer line a ∷ [] → IsTold h events → IsTold h now
+told-answer h events now line a told is =
+    subst (λ (x : Histories). Each (λ (p : Pending). x.write (p.w.0) ≡ record { volume = p.volume.0; track = p.track; offset = p.offset; bytes = bytes_of p }) h.pending)
+    (sym (ap histories told ∙ histories-push events (answer line a))) is

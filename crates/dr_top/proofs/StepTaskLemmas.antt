@@ -1,0 +1,162 @@
+-- A step of a line, with its answer.
+use Rattle.std.proofs.Common.{ℕ, ◌≡◌, ◌+◌, List, [], ◌∷◌, ◌++◌, refl, ap, ◌∙◌, sym, subst, arith, Bool, true, false, ◌||◌, cond, not, nat_le, Ok, Err, Result}
+use Rattle.std.specs.Prelude.{OnOk, OnErr}
+use Rattle.std.specs.List.{list_any}
+use Rattle.std.proofs.lemmas.List.{same_from_push}
+use Rattle.std.proofs.lemmas.List.Folds.{list_any-append}
+use Rattle.std.proofs.lemmas.Bool.Decides.{nat_tests}
+use Rattle.dr_io.specs.Faults.{Rose}
+use Rattle.dr_ids.specs.declared.refusal.Refusal.{Refusal}
+use Rattle.dr_ids.specs.declared.refusal.Refusal.TheVariants.{NotBuilt, JournalFull, Stopped}
+use Rattle.dr_model.specs.declared.event.Event.{Event}
+use Rattle.dr_model.specs.declared.event.Event.TheVariants.{Answer}
+use Rattle.dr_model.specs.declared.said.Addition.{Addition}
+use Rattle.dr_model.specs.declared.said.Addition.TheVariants.{Alone, Wrote, Acked, Counted as CountedRows, InPhase, InGroup, Showed}
+use Rattle.dr_model.specs.declared.said.Said.{Said}
+use Rattle.dr_model.specs.declared.said.Said.TheVariants.{Done, Held, Refused}
+use Rattle.dr_model.specs.declared.step.Name.{Name}
+use Rattle.dr_model.specs.declared.step.Step.{Step}
+use Rattle.dr_model.specs.declared.step.Step.TheVariants.{Server, Volume, Link, Stop, StopAfter, Start, Issue, Write, Apply, Show}
+use Rattle.dr_model.specs.declared.step.TornWord.{TornWord}
+use Rattle.dr_model.specs.Answers.{answer}
+use Rattle.dr_model.specs.Control.{Control, World}
+use Rattle.dr_model.specs.Plans.{refuses, plan_of, is_built, has_room}
+use Rattle.dr_model.specs.Runs.{Task, after_plan, after_task, said}
+use Rattle.dr_model.proofs.CarryLemmas.{plan-refuses}
+use Rattle.dr_laws.proofs.Journal.{EndsAnswered, after_task-ends, is_answer, Silent}
+use Rattle.dr_host.specs.Writes.{Writes}
+use Rattle.dr_plant.specs.State.{PlantState}
+use Rattle.dr_config.specs.Table.{Table}
+use Rattle.dr_top.specs.Faults.{Counted, is_stop, told_stop, is_stopped}
+use Rattle.dr_top.specs.Here.{here, IsTold}
+use Rattle.dr_top.proofs.ReachLemmas.{told-answer}
+
+-- a form that isn't built
+pub unbuilt : (w : World) (line : ℕ) (step : Step) → ((n : Name) → step ≡ Server n → ⊥) → ((v : ℕ) (n : Name) (t : ℕ) → step ≡ Volume v n t → ⊥) → ((a b : Name) (up : Bool) → step ≡ Link a b up → ⊥)
+    → ((v t o l : ℕ) (b : List ℕ) → step ≡ Issue v t o l b → ⊥) → ((v t o l : ℕ) (b : List ℕ) → step ≡ Write v t o l b → ⊥) → ((n : ℕ) → step ≡ Apply n → ⊥) → ((v t : ℕ) → step ≡ Show v t → ⊥)
+    → ((n : Name) → step ≡ Stop n → ⊥) → ((n : Name) (k : ℕ) (torn : TornWord) → step ≡ StopAfter n k torn → ⊥) → ((n : Name) → step ≡ Start n → ⊥)
+    → after_plan w line (plan_of w.control w.events line step) ≡ said w line (Refused NotBuilt)
+unbuilt w line step server volume link issue write apply show stop arm start = ap (after_plan w line) (refused w.control w.events line step server volume link issue write apply show stop arm start) ∙ plan-refuses w line NotBuilt
+  where
+    refused : (k : Control) (events : List Event) (line : ℕ) (step : Step) → ((n : Name) → step ≡ Server n → ⊥) → ((v : ℕ) (n : Name) (t : ℕ) → step ≡ Volume v n t → ⊥) → ((a b : Name) (up : Bool) → step ≡ Link a b up → ⊥)
+        → ((v t o l : ℕ) (b : List ℕ) → step ≡ Issue v t o l b → ⊥) → ((v t o l : ℕ) (b : List ℕ) → step ≡ Write v t o l b → ⊥) → ((n : ℕ) → step ≡ Apply n → ⊥) → ((v t : ℕ) → step ≡ Show v t → ⊥)
+        → ((n : Name) → step ≡ Stop n → ⊥) → ((n : Name) (k : ℕ) (torn : TornWord) → step ≡ StopAfter n k torn → ⊥) → ((n : Name) → step ≡ Start n → ⊥)
+        → plan_of k events line step ≡ refuses NotBuilt
+    refused k events line (Server n) server volume link issue write apply show stop arm start = absurd (server n refl)
+    refused k events line (Volume v n t) server volume link issue write apply show stop arm start = absurd (volume v n t refl)
+    refused k events line (Link a b up) server volume link issue write apply show stop arm start = absurd (link a b up refl)
+    refused k events line (Issue v t o l b) server volume link issue write apply show stop arm start = absurd (issue v t o l b refl)
+    refused k events line (Write v t o l b) server volume link issue write apply show stop arm start = absurd (write v t o l b refl)
+    refused k events line (Apply n) server volume link issue write apply show stop arm start = absurd (apply n refl)
+    refused k events line (Show v t) server volume link issue write apply show stop arm start = absurd (show v t refl)
+    refused k events line (Stop n) server volume link issue write apply show stop arm start = absurd (stop n refl)
+    refused k events line (StopAfter n x torn) server volume link issue write apply show stop arm start = absurd (arm n x torn refl)
+    refused k events line (Start n) server volume link issue write apply show stop arm start = absurd (start n refl)
+    refused k events line _ server volume link issue write apply show stop arm start = refl
+
+-- the room that is left, counted either way
+pub room-left : (n : ℕ) → nat_le n 995904 ≡ nat_le (n + 4096) 1000000
+room-left n = grind (arith, nat_tests)
+
+-- an event that is no answer is no stop's either
+stop-answer : (e : Event) → is_answer e ≡ false → is_stop e ≡ false
+stop-answer (Answer line code a b c) h = cc
+stop-answer _ h = refl
+
+neither : (a b : Bool) → (a || b) ≡ false → (a ≡ false) × (b ≡ false)
+neither true b h = cc
+neither false b h = (refl, h)
+
+none-silent : (es : List Event) → Silent es → list_any is_stop es ≡ false
+none-silent [] h = refl
+none-silent (e ∷ es) h =
+    let both = neither (is_answer e) (list_any is_answer es) h in
+    ap (λ b. b || list_any is_stop es) (stop-answer e both.0) ∙ none-silent es both.1
+
+or_no : (b : Bool) → (b || false) ≡ b
+or_no true = refl
+or_no false = refl
+
+refusal-stop : (number : ℕ) (r : Refusal) → is_stop (answer number (Refused r)) ≡ is_stopped (Refused r)
+refusal-stop number (Stopped s) = refl
+refusal-stop number _ = refl
+
+done-stop : (number : ℕ) (added : Addition) → list_any is_stop (answer number (Done added) ∷ []) ≡ false
+done-stop number Alone = refl
+done-stop number (Wrote w) = refl
+done-stop number (Acked w) = refl
+done-stop number (CountedRows n) = refl
+done-stop number (InPhase phase n) = refl
+done-stop number (InGroup group decision) = refl
+done-stop number Showed = refl
+
+answer-stop : (number : ℕ) (a : Said) → list_any is_stop (answer number a ∷ []) ≡ is_stopped a
+answer-stop number (Done added) = done-stop number added
+answer-stop number (Held w) = refl
+answer-stop number (Refused r) = or_no (is_stop (answer number (Refused r))) ∙ refusal-stop number r
+
+-- a count that rose stays risen, and rises
+rose-then : (f x y : ℕ) → Rose f x → Rose x y → Rose f y
+rose-then f x y first rest = grind (arith, first, rest)
+
+pub counts-more : (a b : Bool) (f x y : ℕ) → Counted a f x → Counted b x y → Counted (a || b) f y
+counts-more true true f x y first rest = rose-then f x y first rest
+counts-more true false f x y first rest = subst (λ n. Rose f n) (sym rest) first
+counts-more false true f x y first rest = subst (λ n. Rose n y) first rest
+counts-more false false f x y first rest = rest ∙ first
+
+-- what comes before the plan of a step
+module _ (w : World) (number : ℕ) (step : Step) where
+  abbrev task : Task
+  task = record { line = number; asked = Ok step }
+
+  by-tests : (built room : Bool) → is_built step ≡ built → has_room w.events ≡ room
+      → after_task w task ≡ after_plan w number (cond (not built) (refuses NotBuilt) (cond room (plan_of w.control w.events number step) (refuses JournalFull)))
+  by-tests built room is left = λ i. after_plan w number (cond (not (is i)) (refuses NotBuilt) (cond (left i) (plan_of w.control w.events number step) (refuses JournalFull)))
+
+  pub task-unbuilt : is_built step ≡ false → after_task w task ≡ said w number (Refused NotBuilt)
+  task-unbuilt is = by-tests false (has_room w.events) is refl ∙ plan-refuses w number NotBuilt
+
+  pub task-full : is_built step ≡ true → has_room w.events ≡ false → after_task w task ≡ said w number (Refused JournalFull)
+  task-full is full = by-tests true false is full ∙ plan-refuses w number JournalFull
+
+  pub task-built : (u : World) (a : Said) → is_built step ≡ true → has_room w.events ≡ true → after_plan w number (plan_of w.control w.events number step) ≡ said u number a → after_task w task ≡ said u number a
+  task-built u a is room leads = by-tests true true is room ∙ leads
+
+  -- the journal before the answer tells no answer more
+  ends : EndsAnswered w number (after_task w task)
+  ends = after_task-ends w task
+
+  pub told-step : (u : World) (a : Said) → after_task w task ≡ said u number a → told_stop (u.events ++ answer number a ∷ []) ≡ (told_stop w.events || is_stopped a)
+  told-step u a is =
+      let whole : (w.events ++ ends.before) ++ answer number ends.says ∷ [] ≡ u.events ++ answer number a ∷ [] = sym ends.events ∙ ap (λ (x : World). x.events) is in
+      let front : w.events ++ ends.before ≡ u.events = (same_from_push (w.events ++ ends.before) u.events (answer number ends.says) (answer number a) whole).0 in
+      list_any-append is_stop u.events (answer number a ∷ [])
+      ∙ ap (λ es. list_any is_stop es || list_any is_stop (answer number a ∷ [])) (sym front)
+      ∙ ap (λ b. b || list_any is_stop (answer number a ∷ [])) (list_any-append is_stop w.events ends.before ∙ ap (λ b. told_stop w.events || b) (none-silent ends.before ends.silent) ∙ or_no (told_stop w.events))
+      ∙ ap (λ b. told_stop w.events || b) (answer-stop number a)
+
+  pub faults-step : (u : World) (a : Said) (now : List Event) (f x y : ℕ) → after_task w task ≡ said u number a → now ≡ u.events ++ answer number a ∷ [] → Counted (is_stopped a) x y
+      → Counted (told_stop w.events) f x → Counted (told_stop now) f y
+  faults-step u a now f x y is told counts before =
+      subst (λ b. Counted b f y) (sym (ap told_stop told ∙ told-step u a is)) (counts-more (told_stop w.events) (is_stopped a) f x y before counts)
+
+abbrev Says : ℕ → Refusal → List Event → List Event → Type 0
+Says number refusal events now = now ≡ events ++ answer number (Refused refusal) ∷ []
+
+-- a step that was refused before it began, or for whose answer there was no memory
+module _ {E : Type 0} (number : ℕ) (refusal : Refusal) (events now : List Event) where
+  pub refused-task : (r : Result (Unit {0}) E) (s : PlantState) (t : Table) (h : Writes) (step : Step) → after_task (here s t h events) (task (here s t h events) number step) ≡ said (here s t h events) number (Refused refusal)
+      → OnOk r (Says number refusal events now) → OnOk r (after_task (here s t h events) (task (here s t h events) number step) ≡ here s t h now)
+  refused-task (Ok x) s t h step is told = is ∙ ap (here s t h) (sym told)
+  refused-task (Err e) s t h step is told = tt
+
+  pub refused-told : (r : Result (Unit {0}) E) (h : Writes) → OnOk r (Says number refusal events now) → OnErr r (now ≡ events) → IsTold h events → IsTold h now
+  refused-told (Ok x) h told same is = told-answer h events now number (Refused refusal) told is
+  refused-told (Err e) h told same is = subst (IsTold h) (sym same) is
+
+  pub refused-faults : (r : Result (Unit {0}) E) (f n : ℕ) → is_stopped (Refused refusal) ≡ false → OnOk r (Says number refusal events now) → OnErr r (now ≡ events) → Counted (told_stop events) f n → Counted (told_stop now) f n
+  refused-faults (Ok x) f n calm told same counted =
+      subst (λ b. Counted b f n)
+      (sym (ap told_stop told ∙ list_any-append is_stop events (answer number (Refused refusal) ∷ []) ∙ ap (λ b. told_stop events || b) (answer-stop number (Refused refusal) ∙ calm) ∙ or_no (told_stop events))) counted
+  refused-faults (Err e) f n calm told same counted = subst (λ es. Counted (told_stop es) f n) (sym same) counted

@@ -1,0 +1,30 @@
+-- What a line came to, with what was printed of it.
+use Rattle.std.specs.Prelude.{◌≡◌, ℕ, ◌≤◌, ◌++◌, Bool, true, false, List, take, length, Option, Result, Ok, Err}
+use Rattle.dr_model.specs.Control.{World}
+use Rattle.dr_model.specs.Runs.{Task, after_tasks}
+use Rattle.dr_model.specs.Text.{text}
+use Rattle.dr_top.specs.Followed.{IsFull, IsThrough}
+use Rattle.dr_io.specs.Given.{Gave, GavePart}
+use Rattle.dr_top.specs.declared.run.Halt.{Halt}
+use Rattle.dr_top.specs.declared.run.Halt.TheVariants.{WriteFault, NoMemory, Full}
+
+-- a call ended by the sink's fault
+abbrev pub is_on_sink : Result (Unit {0}) Halt → Bool
+is_on_sink (Err WriteFault) = true
+is_on_sink _ = false
+
+module _ {K : Type 0} (written : K → Option (List ℕ)) (sink sink' : K) where
+  -- which steps were carried out, and whether the sink was given their text or a front of it
+  abbrev pub LineEnds : ℕ → List Task → World → List ℕ → Result (Unit {0}) Halt → Type 0
+  LineEnds done tasks u piece (Ok x) = (done ≡ length tasks) × Gave written sink sink' piece
+  LineEnds done tasks u piece (Err WriteFault) = IsThrough done tasks u × GavePart written sink sink' piece
+  LineEnds done tasks u piece (Err NoMemory) = GavePart written sink sink' piece
+  LineEnds done tasks u piece (Err Full) = IsFull done tasks u × Gave written sink sink' piece
+
+  pub record RanLine (w : World) (tasks : List Task) (u : World) (result : Result (Unit {0}) Halt) : Type 0 where
+    pub done : ℕ
+    pub within : done ≤ length tasks
+    pub leads : after_tasks w (take done tasks) ≡ u
+    pub piece : List ℕ
+    pub says : text u.events ≡ text w.events ++ piece
+    pub ends : LineEnds done tasks u piece result

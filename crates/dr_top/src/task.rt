@@ -1,0 +1,248 @@
+//! One step of a line: whether it may be carried out, what it comes to, and its answer.
+
+ghost use Rattle.std.specs.Prelude.{◌≡◌, ℕ, ◌+◌, ◌<◌, ◌≤◌, ◌++◌, ◌^◌, true, [], ◌∷◌, length, Ok, OnOk, OnErr};
+ghost use Rattle.dr_ids.specs.declared.refusal.Refusal.{Refusal};
+ghost use Rattle.dr_model.specs.Answers.{answer};
+ghost use Rattle.dr_model.specs.Laws.{Sound};
+ghost use Rattle.dr_model.specs.Limits.{most_events};
+ghost use Rattle.dr_model.specs.LineText.{IsWritten};
+ghost use Rattle.dr_model.specs.Plans.{is_built, has_room};
+ghost use Rattle.dr_model.specs.Runs.{after_task};
+ghost use Rattle.dr_model.specs.declared.said.Said.TheVariants.{Refused};
+ghost use Rattle.dr_top.specs.Faults.{Counted, Counts, told_stop};
+ghost use Rattle.dr_top.specs.Here.{here, widened, OnAnswer, OnNoMemory, Leads, IsReady};
+ghost use Rattle.dr_top.specs.WellFormed.{IsWellFormed};
+
+use crate::define::{define_server, define_volume, set_link};
+use crate::steps::{HostWrite, apply, issue, show, write};
+use crate::stops::{arm, start, stop};
+use dr_config::Config;
+use dr_host::Host;
+use dr_ids::{Fault, Refusal, VolumeId};
+use dr_model::{Addition, Journal, Said, Step};
+use dr_plant::Plant;
+use std::alloc::AllocError;
+
+/// The most events of a journal.
+pub const MOST_EVENTS: usize = 1_000_000;
+
+/// The room that a step needs in the journal before it begins.
+const STEP_EVENTS: usize = 4096;
+
+/// Whether the form of a step is built.
+fn is_built(step: &Step) -> bool
+    ensures { result ≡ is_built step.now }
+{
+    match step {
+        Step::Server { .. } | Step::Volume { .. } | Step::Link { .. } => true,
+        Step::Stop { .. } | Step::StopAfter { .. } | Step::Start { .. } => true,
+        Step::Issue { .. } | Step::Write { .. } | Step::Apply { .. } => true,
+        Step::Show { .. } => true,
+        _ => false,
+    }
+}
+
+/// Whether the journal has room for what a step may tell.
+fn has_room(journal: &Journal) -> bool
+    ensures { result ≡ has_room journal.now.events }
+{
+    journal.len() <= MOST_EVENTS - STEP_EVENTS
+}
+
+/// Keeps the answer of a line, which ends its step.
+fn say(journal: &mut Journal, line: u32, said: Said)
+    requires { 0 < journal.old.spare }
+    ensures events { journal.new.events ≡ journal.old.events ++ answer line said ∷ [] }
+{
+    journal.push(said.event(line));
+}
+
+/// Refuses a step before it begins. Where there is no memory nothing has changed.
+fn refuse(journal: &mut Journal, number: u32, refusal: Refusal) -> Result<(), AllocError>
+    ensures told { OnOk result (journal.new.events ≡ journal.old.events ++ answer number (Refused refusal) ∷ []) }
+    ensures same { OnErr result (journal.new.events ≡ journal.old.events) }
+{
+    journal.reserve(1)?;
+    say(journal, number, Said::Refused(refusal));
+    Ok(())
+}
+
+/// Answers a line outside the grammar, which is one step. Where there is no memory nothing has changed.
+pub fn refuse_syntax(journal: &mut Journal, number: u32, column: u16) -> Result<(), AllocError>
+    ensures told { OnOk result (journal.new.events ≡ journal.old.events ++ answer number (Refused (Refusal.Syntax column)) ∷ []) }
+    ensures same { OnErr result (journal.new.events ≡ journal.old.events) }
+{
+    refuse(journal, number, Refusal::Syntax { column })
+}
+
+/// A call that wants no memory, among those that may.
+fn widened(carried: Result<Addition, Refusal>) -> Result<Addition, Fault>
+    ensures { result ≡ widened carried }
+{
+    match carried {
+        Ok(added) => Ok(added),
+        Err(refusal) => Err(Fault::Refused(refusal)),
+    }
+}
+
+/// Carries out a step whose form is built. Where there is no memory nothing has changed.
+fn carry_out<P: Plant>(
+    plant: &mut P,
+    config: &mut Config,
+    host: &mut Host,
+    journal: &mut Journal,
+    line: u32,
+    step: &Step,
+) -> Result<Addition, Fault>
+    requires ready { IsReady (P.state plant.old) config.old host.old journal.old.events }
+    requires sound { Sound (here (P.state plant.old) config.old host.old journal.old.events) }
+    requires fits { IsWellFormed step.now }
+    requires room { 4 ≤ journal.old.spare }
+    requires count { host.old.issued + 1 < 2 ^ 32 }
+    ensures step { OnAnswer result (λ a. Leads (here (P.state plant.old) config.old host.old journal.old.events) line step.now
+        (here (P.state plant.new) config.new host.new journal.new.events) a) }
+    ensures faults { OnAnswer result (λ a. Counts a (P.state plant.old) (P.state plant.new)) }
+    ensures same { OnNoMemory result (here (P.state plant.new) config.new host.new journal.new.events ≡ here (P.state plant.old) config.old host.old journal.old.events) }
+    ensures same_plant { OnNoMemory result (P.state plant.new ≡ P.state plant.old) }
+    ensures ready { IsReady (P.state plant.new) config.new host.new journal.new.events }
+    ensures issued { host.new.issued ≤ host.old.issued + 1 }
+    ensures room { 1 ≤ journal.new.spare }
+{
+    match *step {
+        Step::Server { name } => define_server(plant, config, host, journal, &name),
+        Step::Volume {
+            volume,
+            server,
+            tracks,
+        } => define_volume(
+            plant,
+            config,
+            host,
+            journal,
+            VolumeId(volume),
+            &server,
+            tracks,
+        ),
+        Step::Link { a, b, up } => widened(set_link(plant, config, host, journal, &a, &b, up)),
+        Step::Issue {
+            volume,
+            track,
+            offset,
+            len,
+            bytes,
+        } => {
+            let asked = asked(volume, track, offset, len, bytes);
+            issue(plant, config, host, journal, &asked)
+        }
+        Step::Write {
+            volume,
+            track,
+            offset,
+            len,
+            bytes,
+        } => {
+            let asked = asked(volume, track, offset, len, bytes);
+            write(plant, config, host, journal, &asked)
+        }
+        Step::Apply { w } => widened(apply(plant, config, host, journal, w)),
+        Step::Show { volume, track } => widened(show(
+            plant,
+            config,
+            host,
+            journal,
+            line,
+            VolumeId(volume),
+            track,
+        )),
+        Step::Stop { server } => widened(stop(plant, config, host, journal, &server)),
+        Step::StopAfter {
+            server,
+            writes,
+            torn,
+        } => widened(arm(plant, config, host, journal, &server, writes, torn)),
+        Step::Start { server } => widened(start(plant, config, host, journal, &server)),
+        _ => Err(Fault::Refused(Refusal::NotBuilt)),
+    }
+}
+
+/// A host write as a step asks for it.
+fn asked(volume: u16, track: u32, offset: u8, len: u8, bytes: [u8; 64]) -> HostWrite
+    ensures { result ≡ record { volume = record { 0 = volume }; track = track; offset = offset; len = len; bytes = bytes } }
+{
+    HostWrite {
+        volume: VolumeId(volume),
+        track,
+        offset,
+        len,
+        bytes,
+    }
+}
+
+/// Carries out a step whose form is built, for which the journal has room, and answers it. Where there is no memory
+/// nothing has changed.
+fn carry_built<P: Plant>(
+    plant: &mut P,
+    config: &mut Config,
+    host: &mut Host,
+    journal: &mut Journal,
+    number: u32,
+    step: &Step,
+) -> Result<(), AllocError>
+    requires ready { IsReady (P.state plant.old) config.old host.old journal.old.events }
+    requires sound { Sound (here (P.state plant.old) config.old host.old journal.old.events) }
+    requires fits { IsWellFormed step.now }
+    requires room { 4 ≤ journal.old.spare }
+    requires count { host.old.issued + 1 < 2 ^ 32 }
+    requires built { is_built step.now ≡ true }
+    requires has_room { has_room journal.old.events ≡ true }
+    ensures task { OnOk result (after_task (here (P.state plant.old) config.old host.old journal.old.events) (record { line = number; asked = Ok step.now })
+        ≡ here (P.state plant.new) config.new host.new journal.new.events) }
+    ensures same { OnErr result (here (P.state plant.new) config.new host.new journal.new.events ≡ here (P.state plant.old) config.old host.old journal.old.events) }
+    ensures ready { IsReady (P.state plant.new) config.new host.new journal.new.events }
+    ensures faults { (f : ℕ) → Counted (told_stop journal.old.events) f (P.state plant.old).faults → Counted (told_stop journal.new.events) f (P.state plant.new).faults }
+    ensures issued { host.new.issued ≤ host.old.issued + 1 }
+{
+    match carry_out(plant, config, host, journal, number, step) {
+        Ok(added) => {
+            say(journal, number, Said::Done(added));
+            Ok(())
+        }
+        Err(Fault::Refused(refusal)) => {
+            say(journal, number, Said::Refused(refusal));
+            Ok(())
+        }
+        Err(Fault::NoMemory) => Err(AllocError),
+    }
+}
+
+/// Carries out a step, and answers it: a form that isn't built is refused, then a step for which the journal has no room.
+/// Where there is no memory nothing has changed.
+pub fn carry_task<P: Plant>(
+    plant: &mut P,
+    config: &mut Config,
+    host: &mut Host,
+    journal: &mut Journal,
+    number: u32,
+    step: &Step,
+) -> Result<(), AllocError>
+    requires ready { IsReady (P.state plant.old) config.old host.old journal.old.events }
+    requires sound { Sound (here (P.state plant.old) config.old host.old journal.old.events) }
+    requires written { IsWritten step.now }
+    requires count { host.old.issued + 1 < 2 ^ 32 }
+    requires below { length journal.old.events < most_events }
+    ensures task { OnOk result (after_task (here (P.state plant.old) config.old host.old journal.old.events) (record { line = number; asked = Ok step.now })
+        ≡ here (P.state plant.new) config.new host.new journal.new.events) }
+    ensures same { OnErr result (here (P.state plant.new) config.new host.new journal.new.events ≡ here (P.state plant.old) config.old host.old journal.old.events) }
+    ensures ready { IsReady (P.state plant.new) config.new host.new journal.new.events }
+    ensures faults { (f : ℕ) → Counted (told_stop journal.old.events) f (P.state plant.old).faults → Counted (told_stop journal.new.events) f (P.state plant.new).faults }
+    ensures issued { host.new.issued ≤ host.old.issued + 1 }
+{
+    if !is_built(step) {
+        return refuse(journal, number, Refusal::NotBuilt);
+    }
+    if !has_room(journal) {
+        return refuse(journal, number, Refusal::JournalFull);
+    }
+    journal.reserve(STEP_EVENTS)?;
+    carry_built(plant, config, host, journal, number, step)
+}
