@@ -1,16 +1,22 @@
 -- Names, bytes and numbers that words spell.
-use Rattle.std.proofs.Common.{ℕ, ◌≡◌, ◌<◌, ◌+◌, ◌-◌, List, [], ◌∷◌, ◌++◌, take, drop, set, map, length, replicate, refl, ap, ◌∙◌, sym, arith}
+use Rattle.std.proofs.Common.{ℕ, zero, suc, ◌≡◌, ◌<◌, ◌≤◌, ◌+◌, ◌-◌, ◌*◌, List, [], ◌∷◌, ◌++◌, take, drop, set, map, length, replicate, refl, ap, ◌∙◌, sym, arith, append_assoc}
 use Rattle.std.proofs.lemmas.Grind.{common_steps}
-use Rattle.std.proofs.lemmas.List.{take_more_set, drop-replicate}
+use Rattle.std.specs.Prelude.{slice_index}
+use Rattle.std.proofs.lemmas.Bool.Decides.{nat_tests}
+use Rattle.std.proofs.lemmas.List.{append-nil, take_more_set, drop-drop, drop-replicate, drop-set-lt}
 use Rattle.std.proofs.lemmas.List.FromFn.{map-range_with_len_more}
 use Rattle.std.specs.List.{range_with_len}
 use Rattle.dr_model.specs.Contents.{zeros}
-use Rattle.dr_model.specs.LineWords.{byte_at, spelled_bytes}
+use Rattle.dr_model.specs.LineWords.{byte_at, digit_or_zero, spelled_bytes}
 use Rattle.dr_script.specs.Pieces.{empty_name}
 
 pub length-zeros : length zeros ≡ 64
 unfolding zeros
 length-zeros = refl
+
+pub zeros_are : zeros ≡ replicate 64 0
+unfolding zeros
+zeros_are = refl
 
 -- a word and zeros behind it
 pub padded_name : (word front : List ℕ) → front ≡ word → front ++ drop (length word) empty_name ≡ word ++ replicate (24 - length word) 0
@@ -24,7 +30,37 @@ byte_more word bytes k byte lt is front =
     take_more_set bytes k byte lt ∙ ap (λ f. f ++ byte ∷ []) front ∙ ap (λ b. map (byte_at word) (range_with_len 0 k) ++ b ∷ []) is
     ∙ sym (map-range_with_len_more (byte_at word) 0 k k (omega arith))
 
-pub whole_block : (word bytes : List ℕ) (k : ℕ) → length bytes ≡ 64 → k ≡ 64 → take k bytes ≡ map (byte_at word) (range_with_len 0 k) → bytes ≡ spelled_bytes word
+past_end : (xs : List ℕ) (i : ℕ) → length xs ≤ i → slice_index xs i ≡ 0
+past_end xs i le = grind (arith, common_steps, nat_tests, le)
+
+-- where a word has ended, it spells zeros
+pub byte_past : (word : List ℕ) (k : ℕ) → length word ≤ 2 * k → byte_at word k ≡ 0
+byte_past word k le = (λ j. digit_or_zero (past_end word (2 * k) le j) * 16 + digit_or_zero (past_end word (2 * k + 1) (omega arith) j))
+
+ends_in_zeros : (f : ℕ → ℕ) (n k : ℕ) → ((i : ℕ) → k ≤ i → i < k + n → f i ≡ 0) → map f (range_with_len 0 k) ++ replicate n 0 ≡ map f (range_with_len 0 (k + n))
+ends_in_zeros f zero k past = append-nil (map f (range_with_len 0 k)) ∙ ap (λ m. map f (range_with_len 0 m)) (let e : k ≡ k + 0 = omega arith in e)
+ends_in_zeros f (suc n) k past =
+    ap (λ x. map f (range_with_len 0 k) ++ x ∷ replicate n 0) (sym (past k (omega arith) (omega arith)))
+    ∙ sym (append_assoc (map f (range_with_len 0 k)) (f k ∷ []) (replicate n 0))
+    ∙ ap (λ front. front ++ replicate n 0) (sym (map-range_with_len_more f 0 k k (omega arith)))
+    ∙ ends_in_zeros f n (k + 1) (λ i le lt. past i (omega (arith, le)) (omega (arith, lt)))
+    ∙ ap (λ m. map f (range_with_len 0 m)) (let e : k + 1 + n ≡ k + suc n = omega arith in e)
+
+-- zeros stand behind what was spelled so far
+pub zeros_left : (bytes : List ℕ) (k byte : ℕ) → k < 64 → drop k bytes ≡ replicate (64 - k) 0 → drop (k + 1) (set bytes k byte) ≡ replicate (64 - (k + 1)) 0
+zeros_left bytes k byte lt back =
+    drop-set-lt (k + 1) bytes k byte (omega (arith, lt))
+    ∙ sym (drop-drop 1 k bytes)
+    ∙ ap (λ xs. drop 1 xs) back
+    ∙ drop-replicate 1 (64 - k) 0
+    ∙ ap (λ n. replicate n 0) (let e : 64 - k - 1 ≡ 64 - (k + 1) = omega arith in e)
+
+-- the block is whole where the word has ended
+pub whole_block : (word bytes : List ℕ) (k : ℕ) → k ≤ 64 → ((i : ℕ) → k ≤ i → i < 64 → length word ≤ 2 * i) → take k bytes ≡ map (byte_at word) (range_with_len 0 k) → drop k bytes ≡ replicate (64 - k) 0
+    → bytes ≡ spelled_bytes word
 unfolding spelled_bytes
-whole_block word bytes k sized all front =
-    sym (let t : take k bytes ≡ bytes = grind (arith, common_steps) in t) ∙ front ∙ ap (λ n. map (byte_at word) (range_with_len 0 n)) all
+whole_block word bytes k le ended front back =
+    sym (let t : take k bytes ++ drop k bytes ≡ bytes = grind (arith, common_steps) in t)
+    ∙ (λ j. front j ++ back j)
+    ∙ ends_in_zeros (byte_at word) (64 - k) k (λ i from lt. byte_past word i (ended i from (omega (arith, lt, le))))
+    ∙ ap (λ n. map (byte_at word) (range_with_len 0 n)) (let e : k + (64 - k) ≡ 64 = omega (arith, le) in e)

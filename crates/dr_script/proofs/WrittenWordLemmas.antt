@@ -24,6 +24,7 @@ use Rattle.dr_model.specs.declared.grammar.Span.{Span}
 use Rattle.dr_model.specs.LineWords.{◌>>=◌, name_word, name_of, is_name, sequence_word, decimal_word, most_word, is_hex, digit_or_zero, byte_at, spelled_bytes, torn_word, torn_bytes_word, one_volume, span_between, span_cut, span_word, span_len, before, behind, items_from, paired, range_items, ranges_items, list_items, is_comma, spans_paired, pair_cut, pair_items, lss_pair_cut, lss_pair_items, mark_at, either_word, kind_word}
 use Rattle.dr_model.specs.LineText.{bytes_text, name_fits, bytes_fit, torn_fits, most_fits}
 use Rattle.dr_script.proofs.CutLemmas.{both, and_true}
+use Rattle.dr_script.proofs.ValueLemmas.{byte_past}
 use Rattle.dr_script.proofs.TextLemmas.{upper_is}
 
 -- a value from a choice, from a value that was changed, and from one that was taken on
@@ -180,12 +181,6 @@ text_at (b ∷ bs) (suc k) lt =
 text_sized : (bs : List ℕ) → length (bytes_text bs) ≡ 2 * length bs
 text_sized [] = refl
 text_sized (b ∷ bs) = let rest = text_sized bs in omega (arith, rest)
-
-past_end : (xs : List ℕ) (i : ℕ) → length xs ≤ i → slice_index xs i ≡ 0
-past_end xs i le = grind (arith, common_steps, nat_tests, le)
-
-byte_past : (word : List ℕ) (k : ℕ) → length word ≤ 2 * k → byte_at word k ≡ 0
-byte_past word k le = (λ j. digit_or_zero (past_end word (2 * k) le j) * 16 + digit_or_zero (past_end word (2 * k + 1) (omega arith) j))
 
 byte_back : (word : List ℕ) (len k : ℕ) → length word ≡ 2 * len → (b : Bool) → nat_lt k len ≡ b → byte_at (bytes_text (map (byte_at word) (range_with_len 0 len))) k ≡ byte_at word k
 byte_back word len k size true e =

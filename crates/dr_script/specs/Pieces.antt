@@ -1,6 +1,5 @@
 -- Parts of lines that the reader's small functions speak of.
 use Rattle.std.specs.Prelude.{◌≡◌, ℕ, ◌+◌, ◌-◌, Bool, not, List, [], ◌∷◌, take, drop, replicate, Option, Some, None, if◌then◌else◌}
-use Rattle.dr_model.specs.declared.grammar.Item.{Item}
 use Rattle.dr_model.specs.LineWords.{Word, words_behind, is_gap}
 use Rattle.dr_script.specs.declared.words.Extent.{Extent}
 
@@ -17,9 +16,9 @@ abbrev pub IsNext : List Word → List ℕ → Option Extent → Type 0
 IsNext words line None = words ≡ []
 IsNext words line (Some word) = words ≡ record { column = word.start + 1; bytes = word_bytes line word } ∷ words_behind word.end line
 
--- the items, where a word could stand
-abbrev pub kept : Bool → List Item → Option (List Item)
-kept stands items = if stands then Some items else None
+-- what was read, where a word could stand
+abbrev pub kept : {A : Type 0} → Bool → A → Option A
+kept stands read = if stands then Some read else None
 
 -- 24 zero bytes
 unfoldable pub empty_name : List ℕ

@@ -131,10 +131,10 @@ fn read_words(alloc: Global, line: &[u8], from: usize, command: Command) -> Resu
     let mut items = Vec::new(alloc);
     let mut at = from;
     while let Some(word) = next_word(line, at) {
-        match read_on(&place, &mut items, &line[word.start..word.end]) {
+        match read_on(&mut place, &mut items, &line[word.start..word.end]) {
             Err(_) => return Err(Fault::NoMemory),
-            Ok(None) => return Err(syntax(word.start + 1)),
-            Ok(Some(next)) => place = next,
+            Ok(false) => return Err(syntax(word.start + 1)),
+            Ok(true) => {}
         }
         at = word.end;
     }

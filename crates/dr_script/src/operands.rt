@@ -1,6 +1,7 @@
 //! Operands: what they give.
 
 ghost use Rattle.std.specs.Prelude.{◌≡◌, Some, None, IfOk};
+ghost use Rattle.std.specs.Option.{option_map};
 ghost use Rattle.dr_model.specs.LineSteps.{no_name, no_operands, operand_value, operand_items, written};
 ghost use Rattle.dr_model.specs.LineWords.{onto};
 ghost use Rattle.dr_script.specs.Pieces.{kept};
@@ -50,131 +51,107 @@ pub(crate) fn no_operands() -> Operands
     }
 }
 
-/// The operands with the bytes of a write more, where they lie in one track.
-fn written(word: &[u8], operands: &Operands) -> Option<Operands>
-    ensures { result ≡ written word.now operands.now }
+/// Sets the bytes of a write; `None` where they don't lie in one track.
+fn set_bytes(word: &[u8], operands: &mut Operands) -> Option<()>
+    ensures { written word.now operands.old ≡ option_map (λ _. operands.new) result }
 {
     if is_hex(word) && usize::from(operands.offset) + word.len() / 2 <= 64 {
-        Some(Operands {
-            len: (word.len() / 2) as u8,
-            bytes: spelled_bytes(word),
-            ..*operands
-        })
+        operands.len = (word.len() / 2) as u8;
+        operands.bytes = spelled_bytes(word);
+        Some(())
     } else {
         None
     }
 }
 
-/// The operands with one more; `None` where the word can't stand as it.
+/// Sets an operand's value; `None` where the word can't stand as it.
 #[tactic(auto, unfolding(dr_model::specs::LineSteps::operand_value))]
-pub(crate) fn operand_value(operand: Operand, word: &[u8], operands: &Operands) -> Option<Operands>
-    ensures { result ≡ operand_value operand word.now operands.now }
+pub(crate) fn set_operand(operand: Operand, word: &[u8], operands: &mut Operands) -> Option<()>
+    ensures { operand_value operand word.now operands.old ≡ option_map (λ _. operands.new) result }
 {
     match operand {
         Operand::ServerName => {
-            let server = read_name(word)?;
-            Some(Operands {
-                server,
-                ..*operands
-            })
+            operands.server = read_name(word)?;
+            Some(())
         }
         Operand::OtherName => {
-            let other = read_name(word)?;
-            Some(Operands { other, ..*operands })
+            operands.other = read_name(word)?;
+            Some(())
         }
         Operand::UpOrDown => {
-            let up = either(word, b"up", b"down")?;
-            Some(Operands { up, ..*operands })
+            operands.up = either(word, b"up", b"down")?;
+            Some(())
         }
         Operand::AfterWord => {
             if !is_word(word, b"after") {
                 return None;
             }
-            Some(Operands {
-                after: true,
-                ..*operands
-            })
+            operands.after = true;
+            Some(())
         }
         Operand::TornMark => {
             if !is_word(word, b"torn") {
                 return None;
             }
-            Some(*operands)
+            Some(())
         }
         Operand::TornBytes => {
-            let torn = read_torn(word)?;
-            Some(Operands { torn, ..*operands })
+            operands.torn = read_torn(word)?;
+            Some(())
         }
         Operand::OneVolume => {
-            let volume = read_volume(word)?;
-            Some(Operands {
-                volume: volume.0,
-                ..*operands
-            })
+            operands.volume = read_volume(word)?.0;
+            Some(())
         }
         Operand::OtherVolume => {
-            let volume = read_volume(word)?;
-            Some(Operands {
-                with: volume.0,
-                ..*operands
-            })
+            operands.with = read_volume(word)?.0;
+            Some(())
         }
         Operand::Count => {
-            let count = read_decimal(word)?;
-            Some(Operands { count, ..*operands })
+            operands.count = read_decimal(word)?;
+            Some(())
         }
         Operand::TrackNumber => {
-            let track = read_decimal(word)?;
-            Some(Operands { track, ..*operands })
+            operands.track = read_decimal(word)?;
+            Some(())
         }
         Operand::Offset => {
-            let offset = read_number(word, 63)?;
-            Some(Operands {
-                offset: offset as u8,
-                ..*operands
-            })
+            operands.offset = read_number(word, 63)? as u8;
+            Some(())
         }
-        Operand::WriteBytes => written(word, operands),
+        Operand::WriteBytes => set_bytes(word, operands),
         Operand::CountOrAll => {
-            let most = read_most(word)?;
-            Some(Operands { most, ..*operands })
+            operands.most = read_most(word)?;
+            Some(())
         }
         Operand::SessionNumber => {
-            let session = read_session(word)?;
-            Some(Operands {
-                session: session.0,
-                ..*operands
-            })
+            operands.session = read_session(word)?.0;
+            Some(())
         }
         Operand::NoReply => {
             if !is_word(word, b"noreply") {
                 return None;
             }
-            Some(Operands {
-                reply: false,
-                ..*operands
-            })
+            operands.reply = false;
+            Some(())
         }
         Operand::LssNumber => {
-            let lss = read_lss(word)?;
-            Some(Operands {
-                lss: lss.0,
-                ..*operands
-            })
+            operands.lss = read_lss(word)?.0;
+            Some(())
         }
         Operand::Ports => {
             if !are_ports(word) {
                 return None;
             }
-            Some(*operands)
+            Some(())
         }
         Operand::ControlPath => {
             if !is_control_path(word) {
                 return None;
             }
-            Some(*operands)
+            Some(())
         }
-        _ => Some(*operands),
+        _ => Some(()),
     }
 }
 

@@ -4,10 +4,11 @@ ghost use Rattle.std.specs.Prelude.{◌≡◌, ◌∷◌, [], Some, None, IfOk, 
 ghost use Rattle.std.specs.List.{list_all};
 ghost use Rattle.dr_model.specs.LineTable.{commands, settings, needed};
 ghost use Rattle.dr_model.specs.LineSteps.{has};
-ghost use Rattle.dr_model.specs.Grammar.{command_named, setting_named, setting_at, is_ready, again, next_operand, filled_after, grown, value_read, setting_read, with_items, operand_read, next_read, named_read, read_on, may_end, is_filled, start_of, is_within};
+ghost use Rattle.dr_model.specs.Grammar.{command_named, setting_named, setting_at, is_ready, again, next_operand, filled_after, grown, value_read, setting_read, operand_read, next_read, named_read, read_on, may_end, is_filled, start_of, is_within};
+ghost use Rattle.dr_script.specs.Pieces.{kept};
 
-use crate::operands::{no_operands, operand_value, push_operand_items};
-use crate::settings::{flagged, has, no_options, push_setting_items, valued};
+use crate::operands::{no_operands, push_operand_items, set_operand};
+use crate::settings::{flag, has, no_options, push_setting_items, set_value};
 use crate::table::{
     command_word, commands, is_flag, may_end_with, needed, operands, own_steps, repeats,
     setting_word, settings,
@@ -114,109 +115,95 @@ fn is_within(command: Command, items: &[Item]) -> bool
     own_steps(command) + items.len() <= MOST_STEPS
 }
 
-/// The place after the value of an option; `None` where the word can't stand as its value.
-fn value_read(
-    place: &Place,
+/// Goes on over the value of an option; false where the word can't stand as its value.
+fn take_value(
+    place: &mut Place,
     items: &mut Vec<Item>,
     setting: Setting,
     word: &[u8],
-) -> Result<Option<Place>, AllocError>
-    ensures { IfOk result (λ next. value_read (record { place = place.now; items = items.old.items }) setting word.now ≡ with_items items.new.items next) }
+) -> Result<bool, AllocError>
+    ensures { IfOk result (λ stands. value_read (record { place = place.old; items = items.old.items }) setting word.now ≡ kept stands (record { place = place.new; items = items.new.items })) }
 {
-    let Some(options) = valued(setting, word, &place.options) else {
-        return Ok(None);
+    let Some(()) = set_value(setting, word, &mut place.options) else {
+        return Ok(false);
     };
     if !push_setting_items(items, setting, word)? {
-        return Ok(None);
+        return Ok(false);
     }
     if !is_within(place.command, items) {
-        return Ok(None);
+        return Ok(false);
     }
-    Ok(Some(Place {
-        awaited: None,
-        options,
-        ..*place
-    }))
+    place.awaited = None;
+    Ok(true)
 }
 
-/// The place after the word of an option; `None` where it was given before.
-fn setting_read(place: &Place, setting: Setting) -> Option<Place>
-    ensures { result ≡ setting_read place.now setting }
+/// Goes on over the word of an option; false where it was given before.
+fn take_setting(place: &mut Place, setting: Setting) -> bool
+    ensures { setting_read place.old setting ≡ kept result place.new }
 {
     if has(setting, &place.options) {
-        None
+        false
     } else if is_flag(setting) {
-        Some(Place {
-            options: flagged(setting, &place.options),
-            ..*place
-        })
+        flag(setting, &mut place.options);
+        true
     } else {
-        Some(Place {
-            awaited: Some(setting),
-            ..*place
-        })
+        place.awaited = Some(setting);
+        true
     }
 }
 
-/// The place after an operand; `None` where the word can't stand as it.
-fn operand_read(
-    place: &Place,
+/// Goes on over an operand; false where the word can't stand as it.
+fn take_operand(
+    place: &mut Place,
     items: &mut Vec<Item>,
     operand: Operand,
     word: &[u8],
-) -> Result<Option<Place>, AllocError>
-    ensures { IfOk result (λ next. operand_read (record { place = place.now; items = items.old.items }) operand word.now ≡ with_items items.new.items next) }
+) -> Result<bool, AllocError>
+    ensures { IfOk result (λ stands. operand_read (record { place = place.old; items = items.old.items }) operand word.now ≡ kept stands (record { place = place.new; items = items.new.items })) }
 {
-    let Some(operands) = operand_value(operand, word, &place.operands) else {
-        return Ok(None);
+    let Some(()) = set_operand(operand, word, &mut place.operands) else {
+        return Ok(false);
     };
     if !push_operand_items(items, operand, word)? {
-        return Ok(None);
+        return Ok(false);
     }
     if !is_within(place.command, items) {
-        return Ok(None);
+        return Ok(false);
     }
-    Ok(Some(Place {
-        filled: filled_after(place),
-        operands,
-        ..*place
-    }))
+    place.filled = filled_after(place);
+    Ok(true)
 }
 
-fn next_read(place: &Place, items: &mut Vec<Item>, word: &[u8]) -> Result<Option<Place>, AllocError>
-    ensures { IfOk result (λ next. next_read (record { place = place.now; items = items.old.items }) word.now (next_operand place.now) ≡ with_items items.new.items next) }
+fn take_next(place: &mut Place, items: &mut Vec<Item>, word: &[u8]) -> Result<bool, AllocError>
+    ensures { IfOk result (λ stands. next_read (record { place = place.old; items = items.old.items }) word.now (next_operand place.old) ≡ kept stands (record { place = place.new; items = items.new.items })) }
 {
     match next_operand(place) {
-        Some(operand) if is_ready(place) => operand_read(place, items, operand, word),
-        _ => Ok(None),
+        Some(operand) if is_ready(place) => take_operand(place, items, operand, word),
+        _ => Ok(false),
     }
 }
 
-fn named_read(
-    place: &Place,
-    items: &mut Vec<Item>,
-    word: &[u8],
-) -> Result<Option<Place>, AllocError>
-    ensures { IfOk result (λ next. named_read (record { place = place.now; items = items.old.items }) word.now (setting_at place.now word.now) ≡ with_items items.new.items next) }
+fn take_named(place: &mut Place, items: &mut Vec<Item>, word: &[u8]) -> Result<bool, AllocError>
+    ensures { IfOk result (λ stands. named_read (record { place = place.old; items = items.old.items }) word.now (setting_at place.old word.now) ≡ kept stands (record { place = place.new; items = items.new.items })) }
 {
     match setting_at(place, word) {
-        Some(setting) => Ok(setting_read(place, setting)),
-        None => next_read(place, items, word),
+        Some(setting) => Ok(take_setting(place, setting)),
+        None => take_next(place, items, word),
     }
 }
 
-/// The place after one word more; `None` where the word can't stand there.
+/// Goes on over one word more; false where it can't stand there.
 #[tactic(auto, unfolding(dr_model::specs::Grammar::read_on))]
 pub(crate) fn read_on(
-    place: &Place,
+    place: &mut Place,
     items: &mut Vec<Item>,
     word: &[u8],
-) -> Result<Option<Place>, AllocError>
-    ensures { IfOk result (λ next. read_on (record { place = place.now; items = items.old.items }) word.now ≡ with_items items.new.items next) }
+) -> Result<bool, AllocError>
+    ensures { IfOk result (λ stands. read_on (record { place = place.old; items = items.old.items }) word.now ≡ kept stands (record { place = place.new; items = items.new.items })) }
 {
     match place.awaited {
-        Some(setting) => value_read(place, items, setting, word),
-        None => named_read(place, items, word),
+        Some(setting) => take_value(place, items, setting, word),
+        None => take_named(place, items, word),
     }
 }
 

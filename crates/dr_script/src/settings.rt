@@ -1,6 +1,7 @@
 //! Options: which were given, and what their values give.
 
 ghost use Rattle.std.specs.Prelude.{◌≡◌, Some, None, IfOk};
+ghost use Rattle.std.specs.Option.{option_map};
 ghost use Rattle.dr_model.specs.LineSteps.{has, flagged, valued, setting_items, setting_number, no_options};
 ghost use Rattle.dr_model.specs.LineWords.{onto};
 ghost use Rattle.dr_script.specs.Pieces.{kept};
@@ -83,53 +84,23 @@ pub(crate) fn has(setting: Setting, options: &Options) -> bool
     }
 }
 
-/// The options with a flag more.
+/// Sets a flag.
 #[tactic(auto, unfolding(dr_model::specs::LineSteps::flagged))]
-pub(crate) fn flagged(setting: Setting, options: &Options) -> Options
-    ensures { result ≡ flagged setting options.now }
+pub(crate) fn flag(setting: Setting, options: &mut Options)
+    ensures { options.new ≡ flagged setting options.old }
 {
     match setting {
-        Setting::Quiet => Options {
-            quiet: true,
-            ..*options
-        },
-        Setting::ConsistencyGroup => Options {
-            group: true,
-            ..*options
-        },
-        Setting::Force => Options {
-            force: true,
-            ..*options
-        },
-        Setting::Unconditional => Options {
-            unconditional: true,
-            ..*options
-        },
-        Setting::NoCopy => Options {
-            nocopy: true,
-            ..*options
-        },
-        Setting::Persist => Options {
-            persistent: true,
-            ..*options
-        },
-        Setting::Recording => Options {
-            recorded: true,
-            ..*options
-        },
-        Setting::Inhibit => Options {
-            inhibited: true,
-            ..*options
-        },
-        Setting::Fast => Options {
-            fast: true,
-            ..*options
-        },
-        Setting::TargetPprc => Options {
-            tgtpprc: true,
-            ..*options
-        },
-        _ => *options,
+        Setting::Quiet => options.quiet = true,
+        Setting::ConsistencyGroup => options.group = true,
+        Setting::Force => options.force = true,
+        Setting::Unconditional => options.unconditional = true,
+        Setting::NoCopy => options.nocopy = true,
+        Setting::Persist => options.persistent = true,
+        Setting::Recording => options.recorded = true,
+        Setting::Inhibit => options.inhibited = true,
+        Setting::Fast => options.fast = true,
+        Setting::TargetPprc => options.tgtpprc = true,
+        _ => {}
     }
 }
 
@@ -140,130 +111,81 @@ fn read_setting_number(word: &[u8]) -> Option<u32>
     read_number(word, 65535)
 }
 
-/// The options with an option's value more; `None` where the word can't stand as its value.
+/// Sets an option's value; `None` where the word can't stand as its value.
 #[tactic(auto, unfolding(dr_model::specs::LineSteps::valued))]
-pub(crate) fn valued(setting: Setting, word: &[u8], options: &Options) -> Option<Options>
-    ensures { result ≡ valued setting word.now options.now }
+pub(crate) fn set_value(setting: Setting, word: &[u8], options: &mut Options) -> Option<()>
+    ensures { valued setting word.now options.old ≡ option_map (λ _. options.new) result }
 {
     match setting {
         Setting::Dev => {
-            let name = read_name(word)?;
-            Some(Options {
-                devs: Devs {
-                    dev: Some(name),
-                    ..options.devs
-                },
-                ..*options
-            })
+            options.devs.dev = Some(read_name(word)?);
+            Some(())
         }
         Setting::RemoteDev => {
-            let name = read_name(word)?;
-            Some(Options {
-                devs: Devs {
-                    remotedev: Some(name),
-                    ..options.devs
-                },
-                ..*options
-            })
+            options.devs.remotedev = Some(read_name(word)?);
+            Some(())
         }
         Setting::RemotePort => {
             if !is_hex(word) {
                 return None;
             }
-            Some(Options {
-                remote_port: true,
-                ..*options
-            })
+            options.remote_port = true;
+            Some(())
         }
         Setting::SourceLss => {
-            let lss = read_lss(word)?;
-            Some(Options {
-                src: Some(lss.0),
-                ..*options
-            })
+            options.src = Some(read_lss(word)?.0);
+            Some(())
         }
         Setting::TargetLss => {
-            let lss = read_lss(word)?;
-            Some(Options {
-                tgt: Some(lss.0),
-                ..*options
-            })
+            options.tgt = Some(read_lss(word)?.0);
+            Some(())
         }
         Setting::PairType => {
-            let kind = read_kind(word)?;
-            Some(Options {
-                kind: Some(kind),
-                ..*options
-            })
+            options.kind = Some(read_kind(word)?);
+            Some(())
         }
         Setting::Mode => {
-            let full = either(word, b"full", b"nocp")?;
-            Some(Options {
-                full: Some(full),
-                ..*options
-            })
+            options.full = Some(either(word, b"full", b"nocp")?);
+            Some(())
         }
         Setting::AtSource => {
             if !is_word(word, b"src") {
                 return None;
             }
-            Some(Options {
-                at_source: true,
-                ..*options
-            })
+            options.at_source = true;
+            Some(())
         }
         Setting::Sequence => {
-            let number = read_sequence(word)?;
-            Some(Options {
-                sequence: Some(number),
-                ..*options
-            })
+            options.sequence = Some(read_sequence(word)?);
+            Some(())
         }
         Setting::OfLss => {
-            let lss = read_lss(word)?;
-            Some(Options {
-                lss: Some(lss.0),
-                ..*options
-            })
+            options.lss = Some(read_lss(word)?.0);
+            Some(())
         }
-        Setting::Members => Some(Options {
-            members: true,
-            ..*options
-        }),
+        Setting::Members => {
+            options.members = true;
+            Some(())
+        }
         Setting::Action => {
-            let adds = either(word, b"add", b"remove")?;
-            Some(Options {
-                adds: Some(adds),
-                ..*options
-            })
+            options.adds = Some(either(word, b"add", b"remove")?);
+            Some(())
         }
         Setting::OfSession => {
-            let session = read_session(word)?;
-            Some(Options {
-                session: Some(session.0),
-                ..*options
-            })
+            options.session = Some(read_session(word)?.0);
+            Some(())
         }
         Setting::Interval => {
-            let number = read_setting_number(word)?;
-            Some(Options {
-                cginterval: Some(number),
-                ..*options
-            })
+            options.cginterval = Some(read_setting_number(word)?);
+            Some(())
         }
         Setting::Coordination => {
-            let number = read_setting_number(word)?;
-            Some(Options {
-                coordinate: Some(number),
-                ..*options
-            })
+            options.coordinate = Some(read_setting_number(word)?);
+            Some(())
         }
         Setting::DrainTime => {
-            let number = read_setting_number(word)?;
-            Some(Options {
-                drain: Some(number),
-                ..*options
-            })
+            options.drain = Some(read_setting_number(word)?);
+            Some(())
         }
         _ => None,
     }

@@ -175,7 +175,8 @@ pub fn spelled_bytes(word: &[u8]) -> [u8; 64]
     ensures { result ≡ spelled_bytes word.now }
 {
     let mut bytes = zero_block();
-    for k in 0..64 {
+    let spelled = word.len().div_ceil(2).min(64);
+    for k in 0..spelled {
         bytes[k] = byte_at(word, k);
     }
     bytes
