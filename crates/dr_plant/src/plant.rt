@@ -54,12 +54,13 @@ pub trait Plant {
         ensures full { IsErrOf result AddFault.Full ↔ (64 ≤ (state self.old).count) };
 
     /// Reads a block. Fails where the owner is off or its read fuse stands at 0; then the owner is
-    /// off, and one more fault is counted.
+    /// off, one more fault is counted, and `into` is as before.
     fn read(&mut self, dev: DeviceId, block: u16, into: &mut Block) -> Result<(), Stopped>
         requires { HasBlock (state self.old) dev.0 block }
         ensures state { state self.new ≡ after_read (state self.old) dev.0 }
         ensures done { is_ok result ≡ can_read (state self.old) dev.0 }
-        ensures bytes { OnOk result (into.new ≡ (state self.old).block dev.0 block) };
+        ensures bytes { OnOk result (into.new ≡ (state self.old).block dev.0 block) }
+        ensures same { OnErr result (into.new ≡ into.old) };
 
     /// Writes a block, which lowers by one each fuse of the owner that is above 0. Fails where the
     /// owner is off, and then only counts a fault. Fails too where the owner's write fuse stands at

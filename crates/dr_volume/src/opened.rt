@@ -58,7 +58,7 @@ impl Opened {
 
     /// Reads a track: the bytes that are staged for it, zeros where it is blank, or else what stands
     /// in its own block, which alone is read. Fails where that block is wanted and the plant can't
-    /// read the device.
+    /// read the device; then `into` is as before.
     pub fn read_track<P: Plant>(
         &self,
         p: &mut P,
@@ -74,6 +74,7 @@ impl Opened {
         ensures state { P.state p.new ≡ (if in_own_block (volume_seen (P.state p.old) c.now v.0) t then after_read (P.state p.old) (device_of c.now v.0) else P.state p.old) }
         ensures done { is_ok result ≡ (if in_own_block (volume_seen (P.state p.old) c.now v.0) t then can_read (P.state p.old) (device_of c.now v.0) else true) }
         ensures bytes { OnOk result (into.new ≡ track_seen (P.state p.old) c.now v.0 t) }
+        ensures same { OnErr result (into.new ≡ into.old) }
     {
         if is_staged(self.fields.staged, t) {
             *into = self.fields.staged_bytes;

@@ -1,6 +1,6 @@
 //! Reading a volume of the configuration from a plant.
 
-ghost use Rattle.std.specs.Prelude.{◌≡◌, ◌<◌, IsSome, IfOk, OnOk, is_ok};
+ghost use Rattle.std.specs.Prelude.{◌≡◌, ◌<◌, IsSome, IfOk, OnOk, OnErr, is_ok};
 ghost use Rattle.dr_plant.specs.State.{after_read, can_read};
 ghost use Rattle.dr_config.specs.Table.{StandsFor, place_of};
 ghost use Rattle.dr_volume.specs.View.{volume_seen, track_seen, device_of};
@@ -53,7 +53,7 @@ pub fn peek_fields<P: Plant>(p: &P, c: &Config, v: VolumeId) -> Fields
 }
 
 /// Reads a track of a volume: the bytes that are staged for it, zeros where it is blank, or else
-/// what stands in its own block. Fails where the plant can't read the device.
+/// what stands in its own block. Fails where the plant can't read the device; then `into` is as before.
 pub fn read_track<P: Plant>(
     p: &mut P,
     c: &Config,
@@ -67,6 +67,7 @@ pub fn read_track<P: Plant>(
     ensures state { P.state p.new ≡ after_read (P.state p.old) (device_of c.now v.0) }
     ensures done { is_ok result ≡ can_read (P.state p.old) (device_of c.now v.0) }
     ensures bytes { OnOk result (into.new ≡ track_seen (P.state p.old) c.now v.0 t) }
+    ensures same { OnErr result (into.new ≡ into.old) }
 {
     let opened = open(p, c, v)?;
     opened.read_track(p, c, v, t, into)
