@@ -1,15 +1,19 @@
 -- What each kind of move asks of the table where it comes, and of the writes that wait.
-use Rattle.std.specs.Prelude.{◌≡◌, ◌<◌, ◌+◌, ℕ, true, false, [], ◌∷◌, map, filter, Some, None}
+use Rattle.std.specs.Prelude.{◌≡◌, ◌≢◌, ◌<◌, ◌+◌, ℕ, true, false, [], ◌∷◌, length, map, filter, Some, None}
 use Rattle.std.specs.FinSet.{contains}
+use Rattle.dr_model.specs.Limits.{most_targets}
 use Rattle.dr_model.specs.Histories.{Write, histories}
-use Rattle.dr_model.specs.Control.{Pending, World}
-use Rattle.dr_model.specs.Moves.{Move, Land, target, is_write}
+use Rattle.dr_model.specs.Control.{Pending, Control, World}
+use Rattle.dr_model.specs.Moves.{Move, Land, Overwrite, Keep, Note, Relate, Withdraw, Fetch, Resync, Reverse, Restore, Release, target, is_write}
+use Rattle.dr_model.specs.Entries.{targets_of}
 use Rattle.dr_model.specs.Table.{Table, table}
 use Rattle.dr_model.specs.Laws.{source, fields, servers, AllPending}
 
--- each target of v holds track t
+-- each target of v holds track t, but one that is restored onto v, which holds it too where it gives it back; and it
+-- notes that the track changes, where that is recorded
 pub record Kept (T : Table) (v t : ℕ) : Type 0 where
   pub own : (u : ℕ) → source (T u) ≡ Some v → contains (fields T u).own t ≡ true
+  pub noted : (u : ℕ) → source (T u) ≡ Some v → (fields T u).recorded ≡ true → (fields T u).reversing ≡ false → contains (fields T u).source_changes t ≡ true
 
 -- a host write lands on a track of a volume that is no target
 pub record MayLand (T : Table) (v t : ℕ) : Type 0 where
@@ -18,8 +22,85 @@ pub record MayLand (T : Table) (v t : ℕ) : Type 0 where
   pub plain : source (T v) ≡ None
   pub kept : Kept T v t
 
+-- or of a target that isn't restored onto its source
+pub record MayOverwrite (T : Table) (v t : ℕ) : Type 0 where
+  pub low : t < (T v).volume.tracks
+  pub from : ℕ
+  pub related : source (T v) ≡ Some from
+  pub forward : (fields T v).reversing ≡ false
+
+-- such a target takes a track that it doesn't hold
+pub record MayKeep (T : Table) (v t : ℕ) : Type 0 where
+  pub low : t < (T v).volume.tracks
+  pub from : ℕ
+  pub related : source (T v) ≡ Some from
+  pub new : contains (fields T v).own t ≡ false
+  pub forward : (fields T v).reversing ≡ false
+
+-- or notes a change of one that it holds
+pub record MayNote (T : Table) (v t : ℕ) : Type 0 where
+  pub low : t < (T v).volume.tracks
+  pub from : ℕ
+  pub related : source (T v) ≡ Some from
+  pub held : contains (fields T v).own t ≡ true
+  pub forward : (fields T v).reversing ≡ false
+
+-- two volumes, which stand in no relationship as targets, and the new target not as a source
+pub record MayRelate (T : Table) (v s : ℕ) : Type 0 where
+  pub apart : s ≢ v
+  pub from_defined : (T s).defined ≡ true
+  pub defined : (T v).defined ≡ true
+  pub tracks : (T v).volume.tracks ≡ (T s).volume.tracks
+  pub server : (T v).volume.server ≡ (T s).volume.server
+  pub from_plain : source (T s) ≡ None
+  pub plain : source (T v) ≡ None
+  pub no_source : (u : ℕ) → source (T u) ≡ Some v → ⊥
+
+pub record MayWithdraw (T : Table) (v : ℕ) : Type 0 where
+  pub from : ℕ
+  pub related : source (T v) ≡ Some from
+  pub forward : (fields T v).reversing ≡ false
+
+-- a target whose changes are recorded
+pub record MayResync (T : Table) (v : ℕ) : Type 0 where
+  pub from : ℕ
+  pub related : source (T v) ≡ Some from
+  pub recorded : (fields T v).recorded ≡ true
+  pub forward : (fields T v).reversing ≡ false
+
+-- and no other target of its source is restored onto it
+pub record MayReverse (T : Table) (v : ℕ) : Type 0 where
+  pub resync : MayResync T v
+  pub alone : (u : ℕ) → source (T u) ≡ Some resync.from → (fields T u).reversing ≡ true → ⊥
+
+-- v takes back track t, which its target u holds, and so does each other
+pub record MayRestore (T : Table) (v t u : ℕ) : Type 0 where
+  pub low : t < (T v).volume.tracks
+  pub related : source (T u) ≡ Some v
+  pub reversing : (fields T u).reversing ≡ true
+  pub holds : contains (fields T u).own t ≡ true
+  pub kept : Kept T v t
+
+-- v's source holds what v gives up
+pub record MayRelease (T : Table) (v t : ℕ) : Type 0 where
+  pub from : ℕ
+  pub related : source (T v) ≡ Some from
+  pub reversing : (fields T v).reversing ≡ true
+  pub holds : contains (fields T v).own t ≡ true
+  pub equal : (T from).bytes t ≡ (T v).bytes t
+
 abbrev pub Allowed : (ℕ → Write) → Table → Move → Type 0
 Allowed write T (Land n v t) = MayLand T v t
+Allowed write T (Overwrite n v t) = MayOverwrite T v t
+Allowed write T (Keep v t) = MayKeep T v t
+Allowed write T (Note v t) = MayNote T v t
+Allowed write T (Relate v s choices) = MayRelate T v s
+Allowed write T (Withdraw v) = MayWithdraw T v
+Allowed write T (Fetch v t) = MayKeep T v t
+Allowed write T (Resync v sequence) = MayResync T v
+Allowed write T (Reverse v) = MayReverse T v
+Allowed write T (Restore v t u) = MayRestore T v t u
+Allowed write T (Release v t) = MayRelease T v t
 
 -- no write has landed on a volume of v's server
 abbrev pub Idle : World → ℕ → Type 0
@@ -43,6 +124,13 @@ pub record MayAck (w : World) (n v t : ℕ) : Type 0 where
 -- what a move asks of the pending writes
 abbrev pub Ready : World → Move → Type 0
 Ready w (Land n v t) = MayAck w n v t
+Ready w (Overwrite n v t) = MayAck w n v t
+Ready w m = Idle w (target m)
+
+-- the source of a new target has a place for it
+abbrev pub Fits : Control → Move → Type 0
+Fits k (Relate v s choices) = length (targets_of k s) < most_targets
+Fits k m = Unit {0}
 
 -- the server of a volume is on
 abbrev pub Runs : World → ℕ → Type 0
@@ -52,4 +140,5 @@ Runs w v = w.control.on (w.control.volume v).server ≡ true
 pub record May (w : World) (m : Move) : Type 0 where
   pub runs : Runs w (target m)
   pub allowed : Allowed (histories w.events).write (table w) m
+  pub fits : Fits w.control m
   pub ready : Ready w m

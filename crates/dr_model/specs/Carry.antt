@@ -130,17 +130,23 @@ acknowledged w n = record w {
   events = w.events ++ Ack n ∷ [];
 }
 
--- What a step does in turn: a move; a volume's staged track is written to its place; or a write that landed in a
--- stop is acknowledged, which takes no device write.
+-- a pending write that is refused for good is pending no more
+abbrev pub dropped : World → ℕ → World
+dropped w n = record w { control = record w.control { pending = filter (is_other n) w.control.pending } }
+
+-- What a step does in turn: a move; a volume's staged track is written to its place; a write that landed in a stop is
+-- acknowledged, or a pending write is dropped, which take no device write.
 pub data Act : Type 0 where
   Make : Move → Act
   Redo : (v : ℕ) → Act
   Acknowledge : (w : ℕ) → Act
+  Drop : (w : ℕ) → Act
 
 unfoldable pub act : World → Act → Turn
 act w (Make m) = turn w m
 act w (Redo v) = redo_ended w v (redo w v)
 act w (Acknowledge n) = (acknowledged w n, None)
+act w (Drop n) = (dropped w n, None)
 
 -- What an entry of a plan comes to: nothing, an act, or the plan ends with a refusal.
 pub data Next : Type 0 where

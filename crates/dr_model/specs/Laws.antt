@@ -1,12 +1,16 @@
 -- What holds of every world of a run, as parts with names.
-use Rattle.std.specs.Prelude.{◌≡◌, ℕ, ◌<◌, ◌+◌, Bool, true, false, List, [], ◌∷◌, Option, Some, None, nat_eq, if◌then◌else◌}
+use Rattle.std.specs.Prelude.{◌≡◌, ℕ, ◌<◌, ◌≤◌, ◌+◌, Bool, true, false, List, [], ◌∷◌, length, Option, Some, None, nat_eq, if◌then◌else◌}
+use Rattle.std.specs.List.{list_any}
 use Rattle.std.specs.FinSet.{contains}
 use Rattle.dr_model.specs.Histories.{Write, Histories, histories}
 use Rattle.dr_model.specs.Contents.{zeros}
-use Rattle.dr_model.specs.Layout.{Fields}
+use Rattle.dr_model.specs.Layout.{Tracks, Fields}
 use Rattle.dr_model.specs.Lawful.{IsLawful}
+use Rattle.dr_model.specs.Limits.{most_targets}
 use Rattle.dr_model.specs.Control.{Pending, Control, World, is_volume}
 use Rattle.dr_model.specs.Views.{source_of, view}
+use Rattle.dr_model.specs.Relations.{is_bare}
+use Rattle.dr_model.specs.Entries.{is_at, targets_of}
 use Rattle.dr_model.specs.Table.{Row, Table, table}
 
 -- a law on each volume, and one on each volume and the one that it points to
@@ -28,13 +32,53 @@ source r = source_of r.volume.fields
 abbrev pub Lawful : Row → Type 0
 Lawful r = IsLawful r.volume.tracks r.volume.fields
 
--- no step that is carried out makes a target yet
-abbrev pub Unrelated : Row → Type 0
-Unrelated r = r.volume.fields.related ≡ false
+-- the sets of a target: what it holds isn't blank, and what changed it holds
+pub record SetsFit (own noted rewritten blank : Tracks) : Type 0 where
+  pub apart : (t : ℕ) → contains own t ≡ true → contains blank t ≡ false
+  pub noted_held : (t : ℕ) → contains noted t ≡ true → contains own t ≡ true
+  pub rewritten_held : (t : ℕ) → contains rewritten t ≡ true → contains own t ≡ true
+
+abbrev pub RowSets : Row → Type 0
+RowSets r = SetsFit r.volume.fields.own r.volume.fields.source_changes r.volume.fields.target_changes r.volume.fields.blank
+
+-- a relationship whose changes are recorded is persistent, and only such a one is reversed; then no change is noted, and
+-- there is a track to give back
+pub record FlagsFit (persistent recorded reversing : Bool) (own noted rewritten : Tracks) : Type 0 where
+  pub persists : recorded ≡ true → persistent ≡ true
+  pub records : reversing ≡ true → recorded ≡ true
+  pub unchanged : reversing ≡ true → (t : ℕ) → (contains noted t ≡ false) × (contains rewritten t ≡ false)
+  pub some : reversing ≡ true → is_bare own ≡ false
+
+abbrev pub RowFlags : Row → Type 0
+RowFlags r =
+    FlagsFit r.volume.fields.persistent r.volume.fields.recorded r.volume.fields.reversing r.volume.fields.own r.volume.fields.source_changes r.volume.fields.target_changes
+
+-- a target is a volume that is defined
+abbrev pub RowDefined : Row → Type 0
+RowDefined r = r.volume.fields.related ≡ true → r.defined ≡ true
+
+-- a target and its source, which is no target itself
+pub record FlashFits (is_defined : Bool) (from : Option ℕ) (server source_server tracks source_tracks : ℕ) : Type 0 where
+  pub defined : is_defined ≡ true
+  pub plain : from ≡ None
+  pub same_tracks : tracks ≡ source_tracks
+  pub same_server : server ≡ source_server
+
+abbrev pub Flashed : ℕ → Row → ℕ → Row → Type 0
+Flashed v r u s = FlashFits s.defined (source s) r.volume.server s.volume.server r.volume.tracks s.volume.tracks
+
+-- at most one target of a source is restored onto it
+abbrev pub OneRestore : Table → Type 0
+OneRestore T =
+    (v a b : ℕ) → source (T a) ≡ Some v → source (T b) ≡ Some v → (T a).volume.fields.reversing ≡ true → (T b).volume.fields.reversing ≡ true → a ≡ b
 
 pub record Structure (T : Table) : Type 0 where
   pub lawful : Each (λ v r. Lawful r) T
-  pub unrelated : Each (λ v r. Unrelated r) T
+  pub sets : Each (λ v r. RowSets r) T
+  pub flags : Each (λ v r. RowFlags r) T
+  pub defined : Each (λ v r. RowDefined r) T
+  pub flash : Linked source Flashed T
+  pub one_restore : OneRestore T
 
 -- Images: what tracks contain, and what they show.
 
@@ -62,16 +106,21 @@ pub record Images (T : Table) : Type 0 where
   pub plain : Each (λ v r. Plain r) T
   pub seen : Linked source (λ v r u s. Seen r s) T
 
+-- of a target whose changes are recorded, what it holds unchanged equals the source's
+abbrev pub HoldsOld : ℕ → Row → ℕ → Row → Type 0
+HoldsOld v r u s =
+    r.volume.fields.recorded ≡ true → r.volume.fields.reversing ≡ false
+    → (t : ℕ) → contains r.volume.fields.own t ≡ true → contains r.volume.fields.source_changes t ≡ false → contains r.volume.fields.target_changes t ≡ false → r.bytes t ≡ s.bytes t
+
+abbrev pub Recorded : Table → Type 0
+Recorded = Linked source HoldsOld
+
 -- Pending writes.
 
 -- each number of a list is below n
 abbrev pub Below : ℕ → List ℕ → Type 0
 Below n [] = Unit {0}
 Below n (w ∷ ws) = (w < n) × Below n ws
-
-abbrev pub is_at : Option ℕ → ℕ → Bool
-is_at None v = false
-is_at (Some u) v = nat_eq u v
 
 -- A pending write is that of its issue, on a track of a volume that is defined, whose server is off where it has landed.
 -- While a server starts, it alone may be on before its landed write is acknowledged.
@@ -124,10 +173,23 @@ pub record Queue (starts : Option ℕ) (w : World) : Type 0 where
 pub record SoundRows (T : Table) : Type 0 where
   pub structure : Structure T
   pub images : Images T
+  pub recorded : Recorded T
+
+-- Targets: no volume is defined twice, and none has more than 12 targets.
+
+-- no number comes twice
+abbrev pub Once : List ℕ → Type 0
+Once [] = Unit {0}
+Once (x ∷ xs) = (list_any (nat_eq x) xs ≡ false) × Once xs
+
+pub record FewTargets (k : Control) : Type 0 where
+  pub once : Once k.volumes
+  pub few : (v : ℕ) → length (targets_of k v) ≤ most_targets
 
 -- while a server starts, or none
 pub record SoundBut (starts : Option ℕ) (w : World) : Type 0 where
   pub rows : SoundRows (table w)
+  pub targets : FewTargets w.control
   pub queue : Queue starts w
 
 -- what holds of a world between steps

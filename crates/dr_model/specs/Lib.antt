@@ -9,10 +9,12 @@ pub mod Lawful
 pub mod Refusals
 pub mod Control
 pub mod Views
+pub mod Relations
 pub mod Moves
 pub mod Carry
 pub mod ReadStops
 pub mod Answers
+pub mod Entries
 pub mod Plans
 pub mod Runs
 pub mod Text

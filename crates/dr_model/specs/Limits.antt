@@ -27,6 +27,10 @@ most_volumes = 64
 abbrev pub most_tracks : ℕ
 most_tracks = 256
 
+-- the most targets of a FlashCopy source
+abbrev pub most_targets : ℕ
+most_targets = 12
+
 -- the most writes that are pending at a time
 abbrev pub most_pending : ℕ
 most_pending = 64

@@ -1,26 +1,72 @@
 -- The catalogue of moves. A move updates the control record of one volume, done or not done as a whole,
 -- and may carry one track to it. Each kind is a constructor, with a row in each of the tables below.
-use Rattle.std.specs.Prelude.{ℕ, Bool, true, false, not, List, [], ◌∷◌, filter, Option, Some, None, nat_eq, if◌then◌else◌}
+use Rattle.std.specs.Prelude.{ℕ, Bool, true, false, not, List, [], ◌∷◌, ◌++◌, map, filter, Option, Some, None, nat_eq, if◌then◌else◌}
 use Rattle.std.specs.FinSet.{contains, remove}
 use Rattle.dr_model.specs.Tables.{at}
 use Rattle.dr_model.specs.Histories.{Write}
 use Rattle.dr_model.specs.Contents.{zeros, with_write}
-use Rattle.dr_model.specs.Layout.{Fields}
+use Rattle.dr_model.specs.Layout.{Tracks, Fields}
+use Rattle.dr_model.specs.Views.{view}
 use Rattle.dr_model.specs.Control.{Pending, Volume, World}
+use Rattle.dr_model.specs.Relations.{Choices, rest, in_order, is_bare, closed, fetched, noted, rewritten, made, withdrawn_if, resynced, turned, given_up, restored}
 use Rattle.dr_model.specs.declared.event.Event.{Event}
-use Rattle.dr_model.specs.declared.event.Event.TheVariants.{Ack}
+use Rattle.dr_model.specs.declared.event.Event.TheVariants.{Ack, Set, Copied, Back, Blanked, Restored}
 
 pub data Move : Type 0 where
-  -- host write w lands on track t of volume v
+  -- host write w lands on track t of volume v, which is no target
   Land : (w v t : ℕ) → Move
+  -- host write w lands on track t of target v
+  Overwrite : (w v t : ℕ) → Move
+  -- target v keeps its source's track t, which is about to change
+  Keep : (v t : ℕ) → Move
+  -- target v, which holds track t, notes that its source's track t is about to change
+  Note : (v t : ℕ) → Move
+  -- v becomes a target of s
+  Relate : (v s : ℕ) (choices : Choices) → Move
+  -- v is a target no more
+  Withdraw : (v : ℕ) → Move
+  -- target v takes track t of its source, as the background copy does
+  Fetch : (v t : ℕ) → Move
+  -- target v shares its changed tracks with its source again
+  Resync : (v : ℕ) (sequence : Option ℕ) → Move
+  -- target v is to be restored onto its source
+  Reverse : (v : ℕ) → Move
+  -- source v takes track t back from its target u
+  Restore : (v t u : ℕ) → Move
+  -- target v gives up track t, which its source has taken back
+  Release : (v t : ℕ) → Move
 
 -- the volume whose record the move updates
 abbrev pub target : Move → ℕ
 target (Land w v t) = v
+target (Overwrite w v t) = v
+target (Keep v t) = v
+target (Note v t) = v
+target (Relate v s choices) = v
+target (Withdraw v) = v
+target (Fetch v t) = v
+target (Resync v sequence) = v
+target (Reverse v) = v
+target (Restore v t u) = v
+target (Release v t) = v
 
--- the fields that the move leaves there, by those of all volumes before it
+-- the fields that the move leaves there
+abbrev pub fields_left : Move → Volume → Fields
+fields_left (Land w v t) u = record u.fields { blank = remove u.fields.blank t }
+fields_left (Overwrite w v t) u = closed u.tracks (rewritten (fetched u.fields t) t)
+fields_left (Keep v t) u = closed u.tracks (noted (fetched u.fields t) t)
+fields_left (Note v t) u = noted u.fields t
+fields_left (Relate v s choices) u = made s choices u.fields
+fields_left (Withdraw v) u = withdrawn_if true u.tracks u.fields
+fields_left (Fetch v t) u = closed u.tracks (fetched u.fields t)
+fields_left (Resync v sequence) u = resynced sequence u.fields
+fields_left (Reverse v) u = restored u.tracks (turned u.fields)
+fields_left (Restore v t from) u = record u.fields { blank = remove u.fields.blank t }
+fields_left (Release v t) u = restored u.tracks (given_up u.fields t)
+
+-- by the fields of all volumes before it
 abbrev pub next_fields : Move → (ℕ → Volume) → Fields
-next_fields (Land w v t) volume = record (volume v).fields { blank = remove (volume v).fields.blank t }
+next_fields m volume = fields_left m (volume (target m))
 
 -- a track with its new bytes, or none
 abbrev pub Carried : Type 0
@@ -29,18 +75,45 @@ Carried = Option (ℕ × List ℕ)
 -- the track that the move carries, with its bytes: those of a track of some volume, maybe with a host write over them
 abbrev pub carried : Move → (ℕ → Volume) → (ℕ → ℕ → List ℕ) → (ℕ → Write) → Carried
 carried (Land n v t) volume contents write = Some (t, with_write write (contents v t) n)
+carried (Overwrite n v t) volume contents write = Some (t, with_write write (view (λ u. (volume u).fields) contents v t) n)
+carried (Keep v t) volume contents write = Some (t, contents (volume v).fields.source t)
+carried (Fetch v t) volume contents write = Some (t, contents (volume v).fields.source t)
+carried (Restore v t u) volume contents write = Some (t, contents u t)
+carried _ volume contents write = None
+
+-- a relationship that has ended where its target held these tracks: the others read zeros
+abbrev pub told_blank : ℕ → ℕ → Tracks → List Event
+told_blank v n own = map (Blanked v) (in_order n (rest n own))
+
+-- a restore onto s that has ended, where it has
+abbrev pub told_restored : ℕ → ℕ → ℕ → Tracks → List Event
+told_restored v s n own = if is_bare own then told_blank v n own ++ Restored s v ∷ [] else []
 
 -- what the journal is told when the move is done, by the volume as it was
 abbrev pub told : Move → Volume → List Event
 told (Land n v t) u = Ack n ∷ []
+told (Overwrite n v t) u = Ack n ∷ []
+told (Keep v t) u = Copied v t ∷ []
+told (Relate v s choices) u = Set v s ∷ []
+told (Withdraw v) u = told_blank v u.tracks u.fields.own
+told (Fetch v t) u = Copied v t ∷ []
+told (Resync v sequence) u = Set v u.fields.source ∷ []
+told (Reverse v) u = told_restored v u.fields.source u.tracks (turned u.fields).own
+told (Restore v t from) u = Back v t from ∷ []
+told (Release v t) u = told_restored v u.fields.source u.tracks (given_up u.fields t).own
+told _ u = []
 
--- what it is told where the server stopped in a move that counts as done: the write is acknowledged at the next start
+-- what it is told where the server stopped in a move that counts as done: a write is acknowledged at the next start
 abbrev pub told_in_stop : Move → Volume → List Event
 told_in_stop (Land n v t) u = []
+told_in_stop (Overwrite n v t) u = []
+told_in_stop m u = told m u
 
 -- the write that a stop leaves landed, 0 for none
 abbrev pub landed : Move → ℕ
 landed (Land n v t) = n
+landed (Overwrite n v t) = n
+landed _ = 0
 
 abbrev pub is_write : ℕ → Pending → Bool
 is_write n p = nat_eq p.w n
@@ -55,9 +128,13 @@ marked n (p ∷ ps) = (if is_write n p then record p { landed = true } else p) �
 -- the pending writes when the move is done, and where the server stopped in it
 abbrev pub settled : Move → List Pending → List Pending
 settled (Land n v t) ps = filter (is_other n) ps
+settled (Overwrite n v t) ps = filter (is_other n) ps
+settled _ ps = ps
 
 abbrev pub settled_in_stop : Move → List Pending → List Pending
 settled_in_stop (Land n v t) ps = marked n ps
+settled_in_stop (Overwrite n v t) ps = marked n ps
+settled_in_stop _ ps = ps
 
 -- a volume after a move: the other slot has the new fields, and the carried track is staged
 abbrev pub staged_track : Carried → Option ℕ

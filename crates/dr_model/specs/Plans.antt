@@ -1,21 +1,24 @@
 -- The step table: what each step comes to, from the control state and the journal. No answer looks at a device's bytes.
-use Rattle.std.specs.Prelude.{ℕ, ◌+◌, ◌/◌, Bool, true, false, ◌&&◌, ◌||◌, not, List, [], ◌∷◌, ◌++◌, take, length, map, replicate, Option, Some, None, is_some, option_map, Result, Ok, Err, nat_eq, nat_lt, nat_le, if◌then◌else◌}
-use Rattle.std.specs.List.{position, find}
+use Rattle.std.specs.Prelude.{ℕ, ◌+◌, ◌/◌, Bool, true, false, ◌&&◌, ◌||◌, not, List, [], ◌∷◌, ◌++◌, take, length, map, min, replicate, Option, Some, None, is_some, option_map, unwrap_or, Result, Ok, Err, nat_eq, nat_lt, nat_le, if◌then◌else◌}
+use Rattle.std.specs.List.{position, find, list_any}
 use Rattle.std.specs.Option.{option_or}
 use Rattle.std.specs.Str.{bytes_eq}
+use Rattle.std.specs.FinSet.{len}
 use Rattle.dr_ids.specs.Links.{joins}
 use Rattle.dr_ids.specs.declared.refusal.Refusal.{Refusal}
 use Rattle.dr_ids.specs.declared.refusal.Refusal.TheVariants.{NotBuilt, JournalFull, Syntax}
 use Rattle.dr_ids.specs.declared.refusal.Kind.TheVariants.{Server as OfServer, Volume as OfVolume, Lss as OfLss, Write as OfWrite, Track as OfTrack}
-use Rattle.dr_ids.specs.declared.refusal.Which.TheVariants.{Servers, Volumes, Tracks, Pending as Writes}
-use Rattle.dr_model.specs.Limits.{most_servers, most_volumes, most_tracks, most_pending, most_events, step_events}
+use Rattle.dr_ids.specs.declared.refusal.Which.TheVariants.{Servers, Volumes, Tracks, Pending as Writes, Targets, Size, Server as OneServer}
+use Rattle.dr_model.specs.Limits.{most_servers, most_volumes, most_tracks, most_pending, most_targets, most_events, step_events}
 use Rattle.dr_model.specs.Tables.{at}
 use Rattle.dr_model.specs.Refusals.{server_off, unknown, duplicate, over}
 use Rattle.dr_model.specs.Contents.{image_at}
 use Rattle.dr_model.specs.Control.{Control, Fuse, Pending, new_volume, is_volume}
-use Rattle.dr_model.specs.Moves.{Land, is_write}
+use Rattle.dr_model.specs.Relations.{Choices, rest}
+use Rattle.dr_model.specs.Moves.{Relate, Withdraw, Resync, Reverse, is_write}
 use Rattle.dr_model.specs.Carry.{Entry, Next, Pass, Do, Redo, Acknowledge, now, check}
-use Rattle.dr_model.specs.declared.said.Addition.TheVariants.{Alone, Wrote, Acked, Showed}
+use Rattle.dr_model.specs.Entries.{fields_at, is_running, is_at, copies_from, targets_of, stands_in, is_any, relation_state, landing, times, fetch_next, give_back}
+use Rattle.dr_model.specs.declared.said.Addition.TheVariants.{Alone, Wrote, Acked, Counted, Showed}
 use Rattle.dr_model.specs.declared.said.Said.{Said}
 use Rattle.dr_model.specs.declared.said.Said.TheVariants.{Done, Refused}
 use Rattle.dr_model.specs.declared.event.Event.{Event}
@@ -24,7 +27,7 @@ use Rattle.dr_model.specs.declared.step.Name.{Name}
 use Rattle.dr_model.specs.declared.step.TornWord.{TornWord}
 use Rattle.dr_model.specs.declared.step.TornWord.TheVariants.{Same, Fill, Bytes}
 use Rattle.dr_model.specs.declared.step.Step.{Step}
-use Rattle.dr_model.specs.declared.step.Step.TheVariants.{Server, Volume, Link, Stop, StopAfter, Start, Issue as IssueWrite, Write, Apply, Show}
+use Rattle.dr_model.specs.declared.step.Step.TheVariants.{Server, Volume, Link, Stop, StopAfter, Start, Issue as IssueWrite, Write, Apply, Show, MakeFlash, RemoveFlash, ResyncFlash, ReverseFlash, Copy}
 
 -- What a step comes to: the tables as it begins, what the journal is told then, the entries, those that follow where a
 -- server stops in them, the tables where it ended well, and what it says then, by the last control state.
@@ -65,10 +68,6 @@ name_bytes n = take n.len n.bytes
 -- the number of a server, by its name
 abbrev pub server_named : Control → List ℕ → Option ℕ
 server_named k name = position (bytes_eq name) k.servers
-
--- the volume's server is on
-abbrev pub is_running : ℕ → Control → Bool
-is_running v k = k.on (k.volume v).server
 
 -- what needs the server that a name gave, if there is one
 abbrev pub on_named : Option ℕ → (ℕ → Plan) → Plan
@@ -150,10 +149,6 @@ issue_refusal k v t = option_or (track_refusal k v t) (if nat_le most_pending (l
 abbrev pub with_pending : ℕ → ℕ → Control → Control
 with_pending v t k =
     record k { issued = k.issued + 1; pending = k.pending ++ record { w = k.issued + 1; volume = v; track = t; landed = false } ∷ [] }
-
--- a pending write lands where its volume's server is on; else it stays pending
-abbrev pub landing : Control → ℕ → ℕ → ℕ → List Entry
-landing k n v t = check (is_running v) (server_off (k.volume v).server) ∷ now (Land n v t) ∷ []
 
 -- a write is issued, and these entries follow
 abbrev pub issue_then : List Entry → Control → ℕ → ℕ → ℕ → ℕ → List ℕ → Plan
@@ -275,6 +270,113 @@ start_plan k s = record {
 abbrev pub start_on : Control → ℕ → Plan
 start_on k s = if k.on s then only_says (Done Alone) else start_plan k s
 
+-- a plan of entries alone
+abbrev pub entries_plan : List Entry → Said → Plan
+entries_plan entries said = record { first = same; told = []; entries = entries; follows = none_follow; last = same; says = always said }
+
+-- a name, where one is given, is that of the volume's server
+abbrev pub is_owner : Option Name → ℕ → Control → Bool
+is_owner None v k = true
+is_owner (Some name) v k = is_at (server_named k (name_bytes name)) (k.volume v).server
+
+abbrev pub is_defined : ℕ → Control → Bool
+is_defined v k = is_volume k v
+
+-- the two volumes of a relationship are there, the first on the server that may be named, and that server is on
+abbrev pub named_pair : Control → Option Name → ℕ → ℕ → List Entry
+named_pair k dev s t =
+    check (is_defined s) (unknown OfVolume)
+    ∷ check (is_defined t) (unknown OfVolume)
+    ∷ check (is_owner dev s) (unknown OfServer)
+    ∷ check (is_running s) (server_off (k.volume s).server) ∷ []
+
+abbrev pub differ : ℕ → ℕ → Control → Bool
+differ s t k = not (nat_eq s t)
+
+abbrev pub share_server : ℕ → ℕ → Control → Bool
+share_server s t k = nat_eq (k.volume s).server (k.volume t).server
+
+abbrev pub share_size : ℕ → ℕ → Control → Bool
+share_size s t k = nat_eq (k.volume s).tracks (k.volume t).tracks
+
+abbrev pub is_no_target : ℕ → Control → Bool
+is_no_target v k = not (fields_at k v).related
+
+abbrev pub is_no_source : ℕ → Control → Bool
+is_no_source v k = not (stands_in is_any k v)
+
+abbrev pub has_few_targets : ℕ → Control → Bool
+has_few_targets s k = nat_lt (length (targets_of k s)) most_targets
+
+-- a relationship is made
+abbrev pub flash_plan : Control → Option Name → ℕ → ℕ → Choices → Plan
+flash_plan k dev s t choices = entries_plan
+    (named_pair k dev s t
+    ++ check (differ s t) (duplicate OfVolume)
+    ∷ check (share_server s t) (over OneServer)
+    ∷ check (share_size s t) (over Size)
+    ∷ check (is_no_target t) (relation_state k t)
+    ∷ check (is_no_source t) (relation_state k t)
+    ∷ check (is_no_target s) (relation_state k s)
+    ∷ check (has_few_targets s) (over Targets)
+    ∷ now (Relate t s choices) ∷ [])
+    (Done Alone)
+
+-- t is a target of s, and neither revertible nor reversing
+abbrev pub is_plain_target : ℕ → ℕ → Control → Bool
+is_plain_target s t k = copies_from s (fields_at k t) && (not (fields_at k t).revertible && not (fields_at k t).reversing)
+
+-- and its changes are recorded
+abbrev pub is_recorded_target : ℕ → ℕ → Control → Bool
+is_recorded_target s t k = is_plain_target s t k && (fields_at k t).recorded
+
+-- a relationship is ended
+abbrev pub withdraw_plan : Control → Option Name → ℕ → ℕ → Plan
+withdraw_plan k dev s t = entries_plan (named_pair k dev s t ++ check (is_plain_target s t) (relation_state k t) ∷ now (Withdraw t) ∷ []) (Done Alone)
+
+-- a target is made a copy of its source anew
+abbrev pub resync_plan : Control → Option Name → ℕ → ℕ → Option ℕ → Plan
+resync_plan k dev s t sequence = entries_plan (named_pair k dev s t ++ check (is_recorded_target s t) (relation_state k t) ∷ now (Resync t sequence) ∷ []) (Done Alone)
+
+-- no other relationship of s is revertible or reversing
+abbrev pub is_lone_restore : ℕ → ℕ → Control → Bool
+is_lone_restore s t k = not (list_any (λ u. not (nat_eq u t) && ((fields_at k u).revertible || (fields_at k u).reversing)) (targets_of k s))
+
+-- a target is to be restored onto its source
+abbrev pub reverse_plan : Control → Option Name → ℕ → ℕ → Plan
+reverse_plan k dev s t = entries_plan
+    (named_pair k dev s t
+    ++ check (is_recorded_target s t) (relation_state k t)
+    ∷ check (is_lone_restore s t) (relation_state k s)
+    ∷ now (Reverse t) ∷ [])
+    (Done Alone)
+
+-- a target whose tracks may be copied in the background
+abbrev pub may_copy : ℕ → Control → Bool
+may_copy t k = (fields_at k t).related && (not (fields_at k t).revertible && ((fields_at k t).reversing || not (fields_at k t).nocopy))
+
+-- how many tracks are left to copy, or to give back
+abbrev pub left_to_copy : Control → ℕ → ℕ
+left_to_copy k t = if (fields_at k t).reversing then len (fields_at k t).own else len (rest (k.volume t).tracks (fields_at k t).own)
+
+abbrev pub at_most : Option ℕ → ℕ → ℕ
+at_most None n = n
+at_most (Some most) n = min most n
+
+-- what is done for one track
+abbrev pub copy_one : Control → ℕ → List Entry
+copy_one k t = if (fields_at k t).reversing then give_back k.volumes (fields_at k t).source t else fetch_next t ∷ []
+
+abbrev pub copy_plan : Control → ℕ → Option ℕ → Plan
+copy_plan k t most =
+    let count : ℕ = at_most most (left_to_copy k t) in
+    entries_plan
+    (check (is_defined t) (unknown OfVolume)
+    ∷ check (is_running t) (server_off (k.volume t).server)
+    ∷ check (may_copy t) (relation_state k t)
+    ∷ times count (copy_one k t))
+    (Done (Counted count))
+
 -- what a step comes to whose form is built, with room in the journal
 abbrev pub plan_of : Control → List Event → ℕ → Step → Plan
 plan_of k events line (Server name) = server_plan k name
@@ -287,6 +389,12 @@ plan_of k events line (Stop name) = on_server k name (stop_on k)
 plan_of k events line (StopAfter name writes torn) = on_server k name (arm_on writes torn)
 plan_of k events line (Start name) = on_server k name (start_on k)
 plan_of k events line (Show v t) = show_plan k events line v t
+plan_of k events line (MakeFlash devs s t nocopy persistent recorded inhibited sequence) =
+    flash_plan k devs.dev s t (record { nocopy = nocopy; persistent = persistent; recorded = recorded; inhibited = inhibited; sequence = unwrap_or sequence 0 })
+plan_of k events line (RemoveFlash devs s t sequence) = withdraw_plan k devs.dev s t
+plan_of k events line (ResyncFlash devs s t nocopy persistent recorded inhibited sequence) = resync_plan k devs.dev s t sequence
+plan_of k events line (ReverseFlash devs s t tgtpprc sequence) = reverse_plan k devs.dev s t
+plan_of k events line (Copy t most) = copy_plan k t most
 plan_of k events line _ = refuses NotBuilt
 
 -- the forms that are built
@@ -301,6 +409,11 @@ is_built (Stop name) = true
 is_built (StopAfter name writes torn) = true
 is_built (Start name) = true
 is_built (Show v t) = true
+is_built (MakeFlash devs s t nocopy persistent recorded inhibited sequence) = true
+is_built (RemoveFlash devs s t sequence) = true
+is_built (ResyncFlash devs s t nocopy persistent recorded inhibited sequence) = true
+is_built (ReverseFlash devs s t tgtpprc sequence) = true
+is_built (Copy t most) = true
 is_built _ = false
 
 -- the journal has room for what a step may tell

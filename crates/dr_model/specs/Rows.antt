@@ -1,10 +1,14 @@
 -- What a move does to the table of volumes.
-use Rattle.std.specs.Prelude.{ℕ, List}
+use Rattle.std.specs.Prelude.{ℕ, Bool, true, ◌&&◌, List, if◌then◌else◌}
+use Rattle.std.specs.FinSet.{contains}
 use Rattle.dr_model.specs.Tables.{at}
 use Rattle.dr_model.specs.Histories.{Write}
-use Rattle.dr_model.specs.Contents.{with_write}
+use Rattle.dr_model.specs.Contents.{zeros, with_write}
+use Rattle.dr_model.specs.Layout.{Tracks, Fields}
 use Rattle.dr_model.specs.Control.{Volume}
-use Rattle.dr_model.specs.Moves.{Move, Land, Carried, target, next_fields, carried, moved}
+use Rattle.dr_model.specs.Views.{view}
+use Rattle.dr_model.specs.Relations.{rest, is_bare, turned, given_up}
+use Rattle.dr_model.specs.Moves.{Move, Land, Overwrite, Keep, Relate, Withdraw, Fetch, Resync, Reverse, Restore, Release, Carried, target, next_fields, carried, moved}
 use Rattle.dr_model.specs.Table.{Row, Table}
 
 abbrev pub volumes_of : Table → ℕ → Volume
@@ -13,13 +17,39 @@ volumes_of T v = (T v).volume
 abbrev pub contents_of : Table → ℕ → ℕ → List ℕ
 contents_of T v = (T v).bytes
 
+abbrev pub source_row : Table → ℕ → Row
+source_row T v = T (T v).volume.fields.source
+
+-- tracks of which those that a target doesn't hold became zeros, where its relationship ended
+abbrev pub emptied : Bool → ℕ → Tracks → (ℕ → List ℕ) → ℕ → List ℕ
+emptied ends n own old t = if ends && contains (rest n own) t then zeros else old t
+
+abbrev pub emptied_if_bare : ℕ → Fields → (ℕ → List ℕ) → ℕ → List ℕ
+emptied_if_bare n f old = emptied (is_bare f.own) n f.own old
+
 -- what the volume's tracks are due to show after the move
 abbrev pub next_due : (ℕ → Write) → Move → Table → ℕ → List ℕ
 next_due write (Land n v t) T = at (T v).due t (with_write write ((T v).due t) n)
+next_due write (Overwrite n v t) T = at (T v).due t (with_write write ((T v).due t) n)
+next_due write (Relate v s choices) T = (T s).due
+next_due write (Withdraw v) T = emptied true (T v).volume.tracks (T v).volume.fields.own (T v).due
+next_due write (Resync v sequence) T = (source_row T v).due
+next_due write (Reverse v) T = emptied_if_bare (T v).volume.tracks (turned (T v).volume.fields) (T v).due
+next_due write (Restore v t u) T = at (T v).due t ((T u).due t)
+next_due write (Release v t) T = emptied_if_bare (T v).volume.tracks (given_up (T v).volume.fields t) (T v).due
+next_due write m T = (T (target m)).due
 
 -- what they contain
 abbrev pub next_bytes : (ℕ → Write) → Move → Table → ℕ → List ℕ
 next_bytes write (Land n v t) T = at (T v).bytes t (with_write write ((T v).bytes t) n)
+next_bytes write (Overwrite n v t) T = at (T v).bytes t (with_write write (view (λ u. (T u).volume.fields) (contents_of T) v t) n)
+next_bytes write (Keep v t) T = at (T v).bytes t ((source_row T v).bytes t)
+next_bytes write (Withdraw v) T = emptied true (T v).volume.tracks (T v).volume.fields.own (T v).bytes
+next_bytes write (Fetch v t) T = at (T v).bytes t ((source_row T v).bytes t)
+next_bytes write (Reverse v) T = emptied_if_bare (T v).volume.tracks (turned (T v).volume.fields) (T v).bytes
+next_bytes write (Restore v t u) T = at (T v).bytes t ((T u).bytes t)
+next_bytes write (Release v t) T = emptied_if_bare (T v).volume.tracks (given_up (T v).volume.fields t) (T v).bytes
+next_bytes write m T = (T (target m)).bytes
 
 abbrev pub carried_on : (ℕ → Write) → Move → Table → Carried
 carried_on write m T = carried m (volumes_of T) (contents_of T) write
