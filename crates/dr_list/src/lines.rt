@@ -11,6 +11,9 @@ use crate::told::Told;
 use dr_model::{Event, Journal, Numbers};
 use std::alloc::{AllocError, Global};
 
+/// The room that the text of a step takes as a rule; it grows where more is needed.
+const USUAL_BYTES: usize = 32;
+
 /// Adds the line of an answer.
 fn push_answer(
     alloc: Global,
@@ -111,7 +114,10 @@ pub fn text_on(
     ensures text { IfOk result (λ out. out.items ≡ text_from (seen told.old) (drop from journal.now.events)) }
     ensures told { seen told.new ≡ fold heard (seen told.old) (drop from journal.now.events) }
 {
-    let mut out = Vec::new(alloc);
+    let Ok(mut out) = Vec::with_capacity(alloc, USUAL_BYTES) else {
+        hear_between(told, journal, from, journal.len());
+        return Err(AllocError);
+    };
     for i in from..journal.len() {
         let Ok(()) = print_at(alloc, &mut out, told, journal, i) else {
             hear_between(told, journal, i + 1, journal.len());
