@@ -11,9 +11,11 @@ use crate::told::Told;
 use dr_model::{Event, Journal, Numbers};
 use std::alloc::{AllocError, Global};
 
+/// The room that the text of a step takes as a rule; it grows where more is needed.
+const USUAL_BYTES: usize = 32;
+
 /// Adds the line of an answer.
 fn push_answer(
-    alloc: Global,
     out: &mut Vec<u8>,
     told: &Told,
     line: u32,
@@ -21,16 +23,15 @@ fn push_answer(
 ) -> Result<(), AllocError>
     ensures { OnOk result (out.new.items ≡ out.old.items ++ line_text (seen told.now) (Answer line says.code says.a says.b says.c)) }
 {
-    push_number(alloc, out, line)?;
+    push_number(out, line)?;
     out.extend_from_slice(b" ")?;
-    push_said(alloc, out, told, says)?;
+    push_said(out, told, says)?;
     out.extend_from_slice(b"\n")?;
     Ok(())
 }
 
 /// Adds the line that an event prints; most print none.
 fn push_event(
-    alloc: Global,
     out: &mut Vec<u8>,
     told: &Told,
     event: &Event,
@@ -51,7 +52,7 @@ fn push_event(
                 b: *b,
                 c: *c,
             };
-            push_answer(alloc, out, told, *line, says)
+            push_answer(out, told, *line, says)
         }
         _ => Ok(()),
     }
@@ -59,7 +60,6 @@ fn push_event(
 
 /// Adds the line that the event at a place prints, and hears the event.
 fn print_at(
-    alloc: Global,
     out: &mut Vec<u8>,
     told: &mut Told,
     journal: &Journal,
@@ -70,7 +70,7 @@ fn print_at(
 {
     match journal.event(place) {
         Some(event) => {
-            let pushed = push_event(alloc, out, told, event);
+            let pushed = push_event(out, told, event);
             told.hear(event);
             pushed
         }
@@ -111,9 +111,12 @@ pub fn text_on(
     ensures text { IfOk result (λ out. out.items ≡ text_from (seen told.old) (drop from journal.now.events)) }
     ensures told { seen told.new ≡ fold heard (seen told.old) (drop from journal.now.events) }
 {
-    let mut out = Vec::new(alloc);
+    let Ok(mut out) = Vec::with_capacity(alloc, USUAL_BYTES) else {
+        hear_between(told, journal, from, journal.len());
+        return Err(AllocError);
+    };
     for i in from..journal.len() {
-        let Ok(()) = print_at(alloc, &mut out, told, journal, i) else {
+        let Ok(()) = print_at(&mut out, told, journal, i) else {
             hear_between(told, journal, i + 1, journal.len());
             return Err(AllocError);
         };

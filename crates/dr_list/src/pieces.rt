@@ -7,14 +7,15 @@ ghost use Rattle.dr_ids.specs.Spelling.{hex2, hex4};
 ghost use Rattle.dr_model.specs.Text.{trimmed, track_text, volume_digits, session_digits};
 
 use dr_ids::upper_hex;
-use std::alloc::{AllocError, Global};
+use itoa::Buffer;
+use std::alloc::AllocError;
 
 /// Adds a number in decimal digits.
-pub(crate) fn push_number(alloc: Global, out: &mut Vec<u8>, n: u32) -> Result<(), AllocError>
+pub(crate) fn push_number(out: &mut Vec<u8>, n: u32) -> Result<(), AllocError>
     ensures { OnOk result (out.new.items ≡ out.old.items ++ decimal n) }
 {
-    let digits = n.to_string(alloc)?;
-    out.extend_from_slice(digits.as_bytes())
+    let mut buffer = Buffer::new();
+    out.extend_from_slice(buffer.format(n).as_bytes())
 }
 
 /// Adds a word behind a space.
@@ -26,11 +27,11 @@ pub(crate) fn push_word(out: &mut Vec<u8>, word: &[u8]) -> Result<(), AllocError
 }
 
 /// Adds a number in decimal digits behind a space.
-pub(crate) fn push_count(alloc: Global, out: &mut Vec<u8>, n: u32) -> Result<(), AllocError>
+pub(crate) fn push_count(out: &mut Vec<u8>, n: u32) -> Result<(), AllocError>
     ensures { OnOk result (out.new.items ≡ out.old.items ++ codes " " ++ decimal n) }
 {
     out.extend_from_slice(b" ")?;
-    push_number(alloc, out, n)
+    push_number(out, n)
 }
 
 /// Adds two upper-case hexadecimal digits.

@@ -9,29 +9,28 @@ use crate::pieces::{push_count, push_number, push_session, push_track, push_volu
 use crate::told::Told;
 use crate::values::{kind_word, limit_word, pair_words, phase_word, refusal_words, relation_word};
 use dr_model::Numbers;
-use std::alloc::{AllocError, Global};
+use std::alloc::AllocError;
 
-fn push_one(alloc: Global, out: &mut Vec<u8>, a: u32) -> Result<(), AllocError>
+fn push_one(out: &mut Vec<u8>, a: u32) -> Result<(), AllocError>
     ensures { OnOk result (out.new.items ≡ out.old.items ++ one_number a) }
 {
     out.extend_from_slice(b"(")?;
-    push_number(alloc, out, a)?;
+    push_number(out, a)?;
     out.extend_from_slice(b")")
 }
 
-fn push_two(alloc: Global, out: &mut Vec<u8>, a: u32, b: u32) -> Result<(), AllocError>
+fn push_two(out: &mut Vec<u8>, a: u32, b: u32) -> Result<(), AllocError>
     ensures { OnOk result (out.new.items ≡ out.old.items ++ two_numbers a b) }
 {
     out.extend_from_slice(b"(")?;
-    push_number(alloc, out, a)?;
+    push_number(out, a)?;
     out.extend_from_slice(b",")?;
-    push_number(alloc, out, b)?;
+    push_number(out, b)?;
     out.extend_from_slice(b")")
 }
 
 /// Adds a decision by its place, with its numbers.
 fn push_decision(
-    alloc: Global,
     out: &mut Vec<u8>,
     place: u32,
     a: u32,
@@ -43,23 +42,23 @@ fn push_decision(
         0 => out.extend_from_slice(b"NoMember"),
         1 => {
             out.extend_from_slice(b"Nothing")?;
-            push_one(alloc, out, a)
+            push_one(out, a)
         }
         2 => {
             out.extend_from_slice(b"RevertAll")?;
-            push_one(alloc, out, a)
+            push_one(out, a)
         }
         3 => {
             out.extend_from_slice(b"CommitRest")?;
-            push_one(alloc, out, a)
+            push_one(out, a)
         }
         4 => {
             out.extend_from_slice(b"RevertSome")?;
-            push_two(alloc, out, a, b)
+            push_two(out, a, b)
         }
         5 => {
             out.extend_from_slice(b"Impossible")?;
-            push_two(alloc, out, a, b)
+            push_two(out, a, b)
         }
         _ => Ok(()),
     }
@@ -67,7 +66,6 @@ fn push_decision(
 
 /// Adds the decision of a group that is given.
 fn push_group_decision(
-    alloc: Global,
     out: &mut Vec<u8>,
     place: u32,
     group: u32,
@@ -76,14 +74,13 @@ fn push_group_decision(
     ensures { OnOk result (out.new.items ≡ out.old.items ++ group_decision place group n) }
 {
     if place == 4 {
-        push_decision(alloc, out, place, group, n)
+        push_decision(out, place, group, n)
     } else {
-        push_decision(alloc, out, place, n, 0)
+        push_decision(out, place, n, 0)
     }
 }
 
 fn push_group(
-    alloc: Global,
     out: &mut Vec<u8>,
     place: u32,
     group: u32,
@@ -92,14 +89,13 @@ fn push_group(
     ensures { OnOk result (out.new.items ≡ out.old.items ++ codes " group " ++ decimal group ++ codes " " ++ group_decision place group n) }
 {
     out.extend_from_slice(b" group ")?;
-    push_number(alloc, out, group)?;
+    push_number(out, group)?;
     out.extend_from_slice(b" ")?;
-    push_group_decision(alloc, out, place, group, n)
+    push_group_decision(out, place, group, n)
 }
 
 /// Adds what an ok adds, by its kind and its numbers.
 fn push_addition(
-    alloc: Global,
     out: &mut Vec<u8>,
     told: &Told,
     kind: u32,
@@ -111,22 +107,22 @@ fn push_addition(
     match kind {
         1 => {
             out.extend_from_slice(b" w")?;
-            push_number(alloc, out, a)
+            push_number(out, a)
         }
         2 => {
             out.extend_from_slice(b" acked w")?;
-            push_number(alloc, out, a)
+            push_number(out, a)
         }
-        3 => push_count(alloc, out, a),
+        3 => push_count(out, a),
         4 => {
             push_word(out, phase_word(a))?;
-            push_count(alloc, out, b)
+            push_count(out, b)
         }
         6 => {
             out.extend_from_slice(b" ")?;
             push_track(out, told.shown())
         }
-        _ if kind % 256 == 5 => push_group(alloc, out, kind / 256, a, b),
+        _ if kind % 256 == 5 => push_group(out, kind / 256, a, b),
         _ => Ok(()),
     }
 }
@@ -141,11 +137,11 @@ fn push_link(out: &mut Vec<u8>, told: &Told, a: u32, b: u32) -> Result<(), Alloc
 }
 
 /// Adds what a refusal says of its numbers.
-fn push_values(alloc: Global, out: &mut Vec<u8>, told: &Told, of: Numbers) -> Result<(), AllocError>
+fn push_values(out: &mut Vec<u8>, told: &Told, of: Numbers) -> Result<(), AllocError>
     ensures { OnOk result (out.new.items ≡ out.old.items ++ refusal_values (seen told.now) of.code of.a of.b of.c) }
 {
     match of.code {
-        1 | 7 | 19 => push_count(alloc, out, of.a),
+        1 | 7 | 19 => push_count(out, of.a),
         2 | 3 => push_word(out, kind_word(of.a)),
         4 => push_word(out, limit_word(of.a)),
         5 | 21 => push_word(out, told.name(of.a)),
@@ -162,20 +158,20 @@ fn push_values(alloc: Global, out: &mut Vec<u8>, told: &Told, of: Numbers) -> Re
         12 | 13 => push_session(out, of.a),
         14 => {
             push_word(out, phase_word(of.a))?;
-            push_count(alloc, out, of.b)
+            push_count(out, of.b)
         }
         15 => push_word(out, phase_word(of.a)),
         16 => {
             push_volume(out, of.a)?;
-            push_count(alloc, out, of.b)
+            push_count(out, of.b)
         }
         17 => {
-            push_count(alloc, out, of.a)?;
-            push_count(alloc, out, of.b)
+            push_count(out, of.a)?;
+            push_count(out, of.b)
         }
         18 | 22 => {
             out.extend_from_slice(b" ")?;
-            push_decision(alloc, out, of.a, of.b, of.c)
+            push_decision(out, of.a, of.b, of.c)
         }
         _ => Ok(()),
     }
@@ -183,7 +179,6 @@ fn push_values(alloc: Global, out: &mut Vec<u8>, told: &Told, of: Numbers) -> Re
 
 /// Adds what an answer says.
 pub(crate) fn push_said(
-    alloc: Global,
     out: &mut Vec<u8>,
     told: &Told,
     of: Numbers,
@@ -193,16 +188,16 @@ pub(crate) fn push_said(
     match of.code {
         0 => {
             out.extend_from_slice(b"ok")?;
-            push_addition(alloc, out, told, of.a, of.b, of.c)?;
+            push_addition(out, told, of.a, of.b, of.c)?;
             Ok(())
         }
         100 => {
             out.extend_from_slice(b"held w")?;
-            push_number(alloc, out, of.a)
+            push_number(out, of.a)
         }
         code => {
             out.extend_from_slice(refusal_words(code))?;
-            push_values(alloc, out, told, of)
+            push_values(out, told, of)
         }
     }
 }

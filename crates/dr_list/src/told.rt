@@ -1,7 +1,7 @@
 //! What the events so far told: the names of servers, and the track that is shown.
 
 ghost use Rattle.std.specs.Prelude.{◌≡◌, ℕ, take, None};
-ghost use Rattle.std.specs.Option.{option_or};
+ghost use Rattle.std.specs.Option.{option_or, unwrap_or};
 ghost use Rattle.dr_model.specs.Contents.{zeros};
 ghost use Rattle.dr_model.specs.Text.{untold, heard, name_in, shown_in, told_name};
 ghost use Rattle.dr_list.specs.Seen.{seen, names_of};
@@ -48,14 +48,14 @@ fn keep_name(names: &mut [Option<Name>; 256], event: &Event)
     }
 }
 
-/// The track that is shown after an event, where it changes.
-fn shown_told(event: &Event) -> Option<[u8; 64]>
-    ensures { result ≡ shown_in event.now }
+/// Keeps the track that an event shows; an answer ends what is shown.
+fn keep_shown(shown: &mut [u8; 64], event: &Event)
+    ensures { shown.new ≡ unwrap_or (shown_in event.now) shown.old }
 {
     match event {
-        Event::Shown { bytes, .. } => Some(*bytes),
-        Event::Answer { .. } => Some(zero_track()),
-        _ => None,
+        Event::Shown { bytes, .. } => *shown = *bytes,
+        Event::Answer { .. } => *shown = zero_track(),
+        _ => {}
     }
 }
 
@@ -77,7 +77,7 @@ impl Told {
         ensures { seen self.new ≡ heard (seen self.old) event.now }
     {
         keep_name(&mut self.names, event);
-        self.shown = shown_told(event).unwrap_or(self.shown);
+        keep_shown(&mut self.shown, event);
     }
 
     /// The name of a server; empty where none of that number was defined. Of two names, the first.

@@ -6,8 +6,8 @@ ghost use Rattle.dr_plant.specs.State as state;
 use crate::plant::{Block, Torn, WriteFuse};
 
 /// Whether a server with this write fuse does its next write.
-pub fn passes_write(fuse: Option<WriteFuse>) -> bool
-    ensures { result ≡ state.passes_write fuse }
+pub fn passes_write(fuse: &Option<WriteFuse>) -> bool
+    ensures { result ≡ state.passes_write fuse.now }
 {
     match fuse {
         Some(WriteFuse { after: 0, .. }) => false,
@@ -25,16 +25,12 @@ pub fn passes_read(fuse: Option<u32>) -> bool
     }
 }
 
-/// A write fuse after a write that was done.
-pub fn lowered_write(fuse: Option<WriteFuse>) -> Option<WriteFuse>
-    ensures { result ≡ state.lowered_write fuse }
+/// Lowers a write fuse: a write was done.
+pub fn lower_write(fuse: &mut Option<WriteFuse>)
+    ensures { fuse.new ≡ state.lowered_write fuse.old }
 {
-    match fuse {
-        Some(f) => Some(WriteFuse {
-            after: f.after.saturating_sub(1),
-            ..f
-        }),
-        None => None,
+    if let Some(f) = fuse {
+        f.after = f.after.saturating_sub(1);
     }
 }
 

@@ -8,7 +8,7 @@ ghost use Rattle.dr_plant.specs.State as state;
 use crate::device::Device;
 use crate::devices;
 use crate::fuse::{
-    lowered_read, lowered_write, passes_read, passes_write, started_read, started_write, torn_block,
+    lower_write, lowered_read, passes_read, passes_write, started_read, started_write, torn_block,
 };
 use crate::plant::{AddFault, Block, DeviceId, Plant, Stopped, Torn, WriteFuse};
 use std::alloc::Global;
@@ -88,16 +88,16 @@ impl Plant for ModelPlant {
             self.faults = risen(self.faults);
             return Err(Stopped);
         }
-        let fuse = self.write_fuses[owner];
-        if !passes_write(fuse) {
-            let left = torn_block(fuse, devices::device_block(&self.devices, dev, block));
+        if !passes_write(&self.write_fuses[owner]) {
+            let before = devices::device_block(&self.devices, dev, block);
+            let left = torn_block(self.write_fuses[owner], before);
             devices::put_block(&mut self.devices, dev, block, &left);
             self.on[owner] = false;
             self.faults = risen(self.faults);
             return Err(Stopped);
         }
         devices::put_block(&mut self.devices, dev, block, from);
-        self.write_fuses[owner] = lowered_write(fuse);
+        lower_write(&mut self.write_fuses[owner]);
         self.read_fuses[owner] = lowered_read(self.read_fuses[owner]);
         Ok(())
     }

@@ -59,9 +59,8 @@ fn setting_at(place: &Place, word: &[u8]) -> Option<Setting>
 fn has_needed(place: &Place) -> bool
     ensures { result ≡ list_all (λ setting. has setting place.now.options) (needed place.now.command) }
 {
-    needed(place.command)
-        .iter()
-        .all(|setting| has(*setting, &place.options))
+    let all = needed(place.command);
+    all.is_empty() || all.iter().all(|setting| has(*setting, &place.options))
 }
 
 /// No needed option is missing, and of two that go together both were given or neither.

@@ -11,8 +11,8 @@ returns-clause-state c =
     let is : c.owner_of-owner.result ≡ s.owner c.args.dev.0 = c.owner_of-owner.ensures.is in
     let e = c.put_block-2.ensures in
     same_state _ _ e.count e.owners e.sizes e.contents refl
-    (each-set None c.args.self.now.write_fuses c.owner_of-owner.result c.lowered_write.result (omega arith)
-    ∙ (λ i. state.at s.write_fuse (is i) ((c.lowered_write.ensures ∙ ap (λ k. state.lowered_write (s.write_fuse k)) is) i)))
+    (each-set None c.args.self.now.write_fuses c.owner_of-owner.result c.lower_write.new.fuse (omega arith)
+    ∙ (λ i. state.at s.write_fuse (is i) ((c.lower_write.ensures ∙ ap (λ k. state.lowered_write (s.write_fuse k)) is) i)))
     (each-set None c.args.self.now.read_fuses c.owner_of-owner.result c.lowered_read.result (omega arith)
     ∙ (λ i. state.at s.read_fuse (is i) ((c.lowered_read.ensures ∙ ap (λ k. state.lowered_read (s.read_fuse k)) is) i)))
     refl
