@@ -1,20 +1,203 @@
--- Each kind of move keeps the structure: fields are lawful, and no volume is a target.
-use Rattle.std.proofs.Common.{ℕ}
+-- Each kind of move keeps the structure: what control records say together.
+use Rattle.std.proofs.Common.{ℕ, ◌≡◌, ◌≢◌, ◌<◌, refl, ap, sym, ◌∙◌, subst, Bool, true, false, cond, not, ◌&&◌, ◌||◌, Option, Some, None}
+use Rattle.std.specs.FinSet.{contains, insert, remove, empty, union}
+use Rattle.dr_model.specs.Tables.{at}
+use Rattle.dr_model.specs.Layout.{Tracks, Fields}
 use Rattle.dr_model.specs.Histories.{Write}
-use Rattle.dr_model.specs.Moves.{Move, Land}
-use Rattle.dr_model.specs.Table.{Table}
+use Rattle.dr_model.specs.Relations.{Choices, rest, is_bare, is_whole, parted_if, fetched, withdrawn_if, turned, given_up}
+use Rattle.dr_model.specs.Moves.{Move, Land, Overwrite, Keep, Note, Relate, Withdraw, Fetch, Resync, Reverse, Restore, Release}
+use Rattle.dr_model.specs.Table.{Row, Table}
 use Rattle.dr_model.specs.Rows.{after}
-use Rattle.dr_model.specs.Laws.{Each, Structure, Lawful, Unrelated}
-use Rattle.dr_model.specs.Allowed.{Allowed}
-use Rattle.dr_laws.proofs.AtLemmas.{each-at}
+use Rattle.dr_model.specs.Laws.{Each, Structure, Lawful, RowSets, RowFlags, RowDefined, SetsFit, FlagsFit, Flashed, OneRestore, source, fields}
+use Rattle.dr_model.specs.Allowed.{Allowed, MayRelate}
 use Rattle.dr_model.proofs.LawfulLemmas.{lawful-filled}
+use Rattle.dr_laws.proofs.AtLemmas.{at_cases, each-at, linked-at}
+use Rattle.dr_laws.proofs.KeepsLawful.{lawful-taken, low-noted, lawful-noted, lawful-made, lawful-withdrawn, lawful-resynced, lawful-turned, lawful-given_up}
+use Rattle.dr_laws.proofs.Sets.{In, in_cond, in_none, in_more, in_insert, still_in, false_true, none_some, not_turned, from_source, still_related, from_difference, from_union, remove_from, remove_other, not_removed, not_removed_from, empty_has, in_rest}
+
+-- sets and flags, by their parts
+take-sets : (e : Bool) (t : ℕ) (own noted rewritten blank : Tracks) → In noted (λ q. contains (insert own t) q ≡ true) → In rewritten (λ q. contains (insert own t) q ≡ true) → In own (λ q. contains blank q ≡ false)
+    → SetsFit (cond e empty (insert own t)) (cond e empty noted) (cond e empty rewritten) (remove blank t)
+take-sets true t own noted rewritten blank first second apart = record { apart = in_none _; noted_held = in_none _; rewritten_held = in_none _ }
+take-sets false t own noted rewritten blank first second apart = record {
+  apart = in_more own t (λ q. contains (remove blank t) q ≡ false) (not_removed blank t) (λ q h. not_removed_from blank t q (apart q h));
+  noted_held = first;
+  rewritten_held = second;
+}
+
+held-more : (own s : Tracks) (t : ℕ) → In s (λ q. contains own q ≡ true) → In s (λ q. contains (insert own t) q ≡ true)
+held-more own s t all q h = still_in own t q (all q h)
+
+held-noted : (r : Bool) (own s : Tracks) (t : ℕ) → In s (λ q. contains own q ≡ true) → In (cond r (insert s t) s) (λ q. contains (insert own t) q ≡ true)
+held-noted r own s t all = in_cond r (insert s t) s _ (in_more s t (λ q. contains (insert own t) q ≡ true) (in_insert own t) (held-more own s t all)) (held-more own s t all)
+
+part-sets : (e : Bool) (n : ℕ) (own noted rewritten blank : Tracks) → SetsFit own noted rewritten blank → SetsFit (cond e empty own) (cond e empty noted) (cond e empty rewritten) (cond e (rest n own) blank)
+part-sets true n own noted rewritten blank old = record { apart = in_none _; noted_held = in_none _; rewritten_held = in_none _ }
+part-sets false n own noted rewritten blank old = old
+
+take-flags : (e persistent recorded reversing : Bool) (own noted rewritten : Tracks) → (recorded ≡ true → persistent ≡ true) → reversing ≡ false
+    → FlagsFit (cond e false persistent) (cond e false recorded) (cond e false reversing) own noted rewritten
+take-flags e persistent recorded reversing own noted rewritten persists forward = record {
+  persists = either e;
+  records = λ h. not_turned e reversing forward h;
+  unchanged = λ h. not_turned e reversing forward h;
+  some = λ h. not_turned e reversing forward h;
+}
+  where
+    either : (e : Bool) → cond e false recorded ≡ true → cond e false persistent ≡ true
+    either true h = h
+    either false h = persists h
+
+part-flags : (e persistent recorded reversing : Bool) (own noted rewritten : Tracks) → is_bare own ≡ e → (recorded ≡ true → persistent ≡ true) → (reversing ≡ true → recorded ≡ true)
+    → (reversing ≡ true → (t : ℕ) → (contains noted t ≡ false) × (contains rewritten t ≡ false))
+    → FlagsFit (cond e false persistent) (cond e false recorded) (cond e false reversing) (cond e empty own) (cond e empty noted) (cond e empty rewritten)
+part-flags true persistent recorded reversing own noted rewritten is persists records unchanged = record { persists = λ h. h; records = λ h. h; unchanged = λ h t. (empty_has t, empty_has t); some = λ h. absurd cc }
+part-flags false persistent recorded reversing own noted rewritten is persists records unchanged = record { persists = persists; records = records; unchanged = unchanged; some = λ h. is }
+
+-- a relationship that stands still is restored
+still_turned : (e related reversing : Bool) (o s : ℕ) → cond (cond e false related) (Some (cond e 0 o)) None ≡ Some s → cond e false reversing ≡ true → (cond related (Some o) None ≡ Some s) × (reversing ≡ true)
+still_turned true related reversing o s h r = absurd cc
+still_turned false related reversing o s h r = (h, r)
+
+part-defined : {P : Type 0} (e related : Bool) → (related ≡ true → P) → cond e false related ≡ true → P
+part-defined true related old h = absurd cc
+part-defined false related old h = old h
 
 module _ (write : ℕ → Write) (T : Table) (old : Structure T) where
-  kept-lawful : (m : Move) → Allowed write T m → Each (λ v r. Lawful r) (after write T m)
-  kept-lawful (Land w v t) a = each-at T v _ (λ v r. Lawful r) (lawful-filled _ _ t (old.lawful v)) old.lawful
+  pub no_loop : (x : ℕ) → source (T x) ≡ Some x → ⊥
+  no_loop x h = none_some (old.flash x x h).plain h
 
-  kept-unrelated : (m : Move) → Allowed write T m → Each (λ v r. Unrelated r) (after write T m)
-  kept-unrelated (Land w v t) a = each-at T v _ (λ v r. Unrelated r) (old.unrelated v) old.unrelated
+  -- a target has no targets
+  pub no_targets : {P : Type 0} (v s u : ℕ) → source (T v) ≡ Some s → source (T u) ≡ Some v → P
+  no_targets v s u is h = none_some (old.flash u v h).plain is
+
+  -- what a changed row owes
+  pub record Shape (x : ℕ) (y : Row) : Type 0 where
+    pub lawful : Lawful y
+    pub sets : RowSets y
+    pub flags : RowFlags y
+    pub defined : RowDefined y
+    pub from : (u : ℕ) → source y ≡ Some u → Flashed x y u (T u)
+    pub loop : source y ≡ Some x → ⊥
+    pub onto : (v : ℕ) → source (T v) ≡ Some x → Flashed v (T v) x y
+    pub restores : (v : ℕ) → source y ≡ Some v → y.volume.fields.reversing ≡ true → (b : ℕ) → source (T b) ≡ Some v → (fields T b).reversing ≡ true → x ≡ b
+
+  one-at : (x : ℕ) (y : Row) → Shape x y → OneRestore (at T x y)
+  one-at x y s v a b = at_cases (λ a r. source r ≡ Some v → source (at T x y b) ≡ Some v → r.volume.fields.reversing ≡ true → (at T x y b).volume.fields.reversing ≡ true → a ≡ b) T x y
+      (λ h. at_cases (λ b r. source r ≡ Some v → y.volume.fields.reversing ≡ true → r.volume.fields.reversing ≡ true → x ≡ b) T x y (λ k p q. refl) (λ b ne k p q. s.restores v h p b k q) b)
+      (λ a ne h. at_cases (λ b r. source r ≡ Some v → (fields T a).reversing ≡ true → r.volume.fields.reversing ≡ true → a ≡ b) T x y (λ k p q. sym (s.restores v k q a h p)) (λ b ne k p q. old.one_restore v a b h k p q) b)
+      a
+
+  pub structure-at : (x : ℕ) (y : Row) → Shape x y → Structure (at T x y)
+  structure-at x y s = record {
+    lawful = each-at T x y (λ v r. Lawful r) s.lawful old.lawful;
+    sets = each-at T x y (λ v r. RowSets r) s.sets old.sets;
+    flags = each-at T x y (λ v r. RowFlags r) s.flags old.flags;
+    defined = each-at T x y (λ v r. RowDefined r) s.defined old.defined;
+    flash = linked-at T x y source Flashed (λ u ne. s.from u) (λ h. absurd (s.loop h)) (λ v ne. s.onto v) old.flash;
+    one_restore = one-at x y s;
+  }
+
+  -- the relationships stay
+  module _ (v : ℕ) where
+    abbrev f : Fields
+    f = fields T v
+
+    abbrev n : ℕ
+    n = (T v).volume.tracks
+
+    stays-restores : (s : ℕ) → source (T v) ≡ Some s → f.reversing ≡ true → (b : ℕ) → source (T b) ≡ Some s → (fields T b).reversing ≡ true → v ≡ b
+    stays-restores s h r b k q = old.one_restore s v b h k r q
+
+    -- or may have ended
+    parted-from : (e : Bool) (u : ℕ) → cond (cond e false f.related) (Some (cond e 0 f.source)) None ≡ Some u → Flashed v (T v) u (T u)
+    parted-from e u h = old.flash v u (still_related e f.related f.source u h)
+
+    parted-loop : (e : Bool) → cond (cond e false f.related) (Some (cond e 0 f.source)) None ≡ Some v → ⊥
+    parted-loop e h = no_loop v (still_related e f.related f.source v h)
+
+    parted-restores : (e : Bool) (s : ℕ) → cond (cond e false f.related) (Some (cond e 0 f.source)) None ≡ Some s → cond e false f.reversing ≡ true → (b : ℕ) → source (T b) ≡ Some s → (fields T b).reversing ≡ true → v ≡ b
+    parted-restores e s h r b k q = let both = still_turned e f.related f.reversing f.source s h r in old.one_restore s v b both.0 k both.1 q
+
+    filled-sets : (t : ℕ) → SetsFit f.own f.source_changes f.target_changes (remove f.blank t)
+    filled-sets t = let s = old.sets v in record { apart = λ q h. not_removed_from f.blank t q (s.apart q h); noted_held = s.noted_held; rewritten_held = s.rewritten_held }
 
   pub kept-structure : (m : Move) → Allowed write T m → Structure (after write T m)
-  kept-structure m a = record { lawful = kept-lawful m a; unrelated = kept-unrelated m a }
+  kept-structure (Land w v t) a = structure-at v _ (record {
+    lawful = lawful-filled _ _ t (old.lawful v); sets = filled-sets v t; flags = old.flags v; defined = old.defined v; from = old.flash v; loop = no_loop v; onto = λ u. old.flash u v; restores = stays-restores v;
+  })
+  kept-structure (Restore v t u) a = structure-at v _ (record {
+    lawful = lawful-filled _ _ t (old.lawful v); sets = filled-sets v t; flags = old.flags v; defined = old.defined v; from = old.flash v; loop = no_loop v; onto = λ u. old.flash u v; restores = stays-restores v;
+  })
+  kept-structure (Overwrite w v t) a = let f : Fields = fields T v in let n : ℕ = (T v).volume.tracks in let e : Bool = is_whole n (insert f.own t) && not f.persistent in let sets = old.sets v in let flags = old.flags v in let low = (old.lawful v).sets in structure-at v _ (record {
+    lawful = lawful-taken n f (old.lawful v) e t _ _ (from_source f.related f.source a.from a.related).0 a.low low.source_changes_low (low-noted n f (old.lawful v) f.target_changes t a.low low.target_changes_low);
+    sets = take-sets e t f.own _ _ f.blank (held-more f.own _ t sets.noted_held) (held-noted f.recorded f.own _ t sets.rewritten_held) sets.apart;
+    flags = take-flags e f.persistent f.recorded f.reversing _ _ _ flags.persists a.forward;
+    defined = part-defined e f.related (old.defined v); from = parted-from v e; loop = parted-loop v e; onto = λ u. no_targets v a.from u a.related; restores = parted-restores v e;
+  })
+  kept-structure (Keep v t) a = let f : Fields = fields T v in let n : ℕ = (T v).volume.tracks in let e : Bool = is_whole n (insert f.own t) && not f.persistent in let sets = old.sets v in let flags = old.flags v in let low = (old.lawful v).sets in structure-at v _ (record {
+    lawful = lawful-taken n f (old.lawful v) e t _ _ (from_source f.related f.source a.from a.related).0 a.low (low-noted n f (old.lawful v) f.source_changes t a.low low.source_changes_low) low.target_changes_low;
+    sets = take-sets e t f.own _ _ f.blank (held-noted f.recorded f.own _ t sets.noted_held) (held-more f.own _ t sets.rewritten_held) sets.apart;
+    flags = take-flags e f.persistent f.recorded f.reversing _ _ _ flags.persists a.forward;
+    defined = part-defined e f.related (old.defined v); from = parted-from v e; loop = parted-loop v e; onto = λ u. no_targets v a.from u a.related; restores = parted-restores v e;
+  })
+  kept-structure (Fetch v t) a = let f : Fields = fields T v in let n : ℕ = (T v).volume.tracks in let e : Bool = is_whole n (insert f.own t) && not f.persistent in let sets = old.sets v in let flags = old.flags v in let low = (old.lawful v).sets in structure-at v _ (record {
+    lawful = lawful-taken n f (old.lawful v) e t _ _ (from_source f.related f.source a.from a.related).0 a.low low.source_changes_low low.target_changes_low;
+    sets = take-sets e t f.own _ _ f.blank (held-more f.own _ t sets.noted_held) (held-more f.own _ t sets.rewritten_held) sets.apart;
+    flags = take-flags e f.persistent f.recorded f.reversing _ _ _ flags.persists a.forward;
+    defined = part-defined e f.related (old.defined v); from = parted-from v e; loop = parted-loop v e; onto = λ u. no_targets v a.from u a.related; restores = parted-restores v e;
+  })
+  kept-structure (Note v t) a = let f : Fields = fields T v in let n : ℕ = (T v).volume.tracks in let sets = old.sets v in let flags = old.flags v in structure-at v _ (record {
+    lawful = lawful-noted n f (old.lawful v) t (from_source f.related f.source a.from a.related).0 a.low;
+    sets = record { apart = sets.apart; noted_held = in_cond f.recorded _ _ _ (in_more f.source_changes t (λ q. contains f.own q ≡ true) a.held sets.noted_held) sets.noted_held; rewritten_held = sets.rewritten_held };
+    flags = record { persists = flags.persists; records = flags.records; unchanged = λ h. false_true a.forward h; some = flags.some };
+    defined = old.defined v; from = old.flash v; loop = no_loop v; onto = λ u. old.flash u v; restores = stays-restores v;
+  })
+  kept-structure (Relate v s c) a = let f : Fields = fields T v in let n : ℕ = (T v).volume.tracks in structure-at v _ (record {
+    lawful = lawful-made n f (old.lawful v) s c;
+    sets = record { apart = in_none _; noted_held = in_none _; rewritten_held = in_none _ };
+    flags = record { persists = either c.persistent c.recorded; records = λ h. absurd cc; unchanged = λ h. absurd cc; some = λ h. absurd cc };
+    defined = λ h. a.defined;
+    from = λ u h. let same = (from_source true s u h).1 in subst (λ j. Flashed v (T v) j (T j)) same (record { defined = a.from_defined; plain = a.from_plain; same_tracks = a.tracks; same_server = a.server });
+    loop = λ h. a.apart (from_source true s v h).1;
+    onto = λ u h. absurd (a.no_source u h);
+    restores = λ j h r. absurd cc;
+  })
+    where
+      either : (p r : Bool) → r ≡ true → (p || r) ≡ true
+      either true r h = refl
+      either false r h = h
+  kept-structure (Withdraw v) a = let f : Fields = fields T v in let n : ℕ = (T v).volume.tracks in structure-at v _ (record {
+    lawful = lawful-withdrawn n f (old.lawful v) true (from_source f.related f.source a.from a.related).0;
+    sets = part-sets true n f.own _ _ f.blank (old.sets v);
+    flags = record { persists = λ h. absurd cc; records = λ h. absurd cc; unchanged = λ h. absurd cc; some = λ h. absurd cc };
+    defined = λ h. absurd cc; from = parted-from v true; loop = parted-loop v true; onto = λ u. no_targets v a.from u a.related; restores = parted-restores v true;
+  })
+  kept-structure (Resync v sequence) a = let f : Fields = fields T v in let n : ℕ = (T v).volume.tracks in let sets = old.sets v in let flags = old.flags v in structure-at v _ (record {
+    lawful = lawful-resynced n f (old.lawful v) sequence (from_source f.related f.source a.from a.related).0;
+    sets = record { apart = λ q h. sets.apart q (from_difference _ _ q (from_difference _ _ q h).0).0; noted_held = in_none _; rewritten_held = in_none _ };
+    flags = record { persists = flags.persists; records = flags.records; unchanged = λ h. false_true a.forward h; some = λ h. false_true a.forward h };
+    defined = old.defined v; from = old.flash v; loop = no_loop v; onto = λ u. old.flash u v; restores = stays-restores v;
+  })
+  kept-structure (Reverse v) a = let f : Fields = fields T v in let n : ℕ = (T v).volume.tracks in let sets = old.sets v in let flags = old.flags v in let e : Bool = is_bare (turned f).own in
+      let related = (from_source f.related f.source a.resync.from a.resync.related).0 in structure-at v _ (record {
+    lawful = lawful-withdrawn n (turned f) (lawful-turned n f (old.lawful v) related) e related;
+    sets = part-sets e n (turned f).own empty empty f.blank (record {
+      apart = from_union _ _ (λ q. contains f.blank q ≡ false) (λ q h. sets.apart q (sets.noted_held q h)) (λ q h. sets.apart q (sets.rewritten_held q h)); noted_held = in_none _; rewritten_held = in_none _;
+    });
+    flags = part-flags e f.persistent f.recorded true (turned f).own empty empty refl flags.persists (λ h. a.resync.recorded) (λ h t. (empty_has t, empty_has t));
+    defined = part-defined e f.related (old.defined v); from = parted-from v e; loop = parted-loop v e; onto = λ u. no_targets v a.resync.from u a.resync.related;
+    restores = λ s h r b k q. let same = (from_source f.related f.source s (still_related e f.related f.source s h)).1 in let is = (from_source f.related f.source a.resync.from a.resync.related).1 in
+        absurd (a.alone b (k ∙ ap (λ j. Some j) (sym same ∙ is)) q);
+  })
+  kept-structure (Release v t) a = let f : Fields = fields T v in let n : ℕ = (T v).volume.tracks in let sets = old.sets v in let flags = old.flags v in let e : Bool = is_bare (given_up f t).own in
+      let related = (from_source f.related f.source a.from a.related).0 in structure-at v _ (record {
+    lawful = lawful-withdrawn n (given_up f t) (lawful-given_up n f (old.lawful v) t related) e related;
+    sets = part-sets e n (given_up f t).own _ _ f.blank (record {
+      apart = λ q h. sets.apart q (remove_from f.own t q h);
+      noted_held = λ q h. false_true (flags.unchanged a.reversing q).0 h;
+      rewritten_held = λ q h. false_true (flags.unchanged a.reversing q).1 h;
+    });
+    flags = part-flags e f.persistent f.recorded f.reversing (given_up f t).own _ _ refl flags.persists flags.records flags.unchanged;
+    defined = part-defined e f.related (old.defined v); from = parted-from v e; loop = parted-loop v e; onto = λ u. no_targets v a.from u a.related; restores = parted-restores v e;
+  })

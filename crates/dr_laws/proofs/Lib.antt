@@ -4,6 +4,7 @@ pub mod Sets
 pub mod Turns
 pub mod Due
 pub mod RowsAfter
+pub mod KeepsLawful
 pub mod KeepsStructure
 pub mod KeepsImages
 pub mod KeepsQueue
