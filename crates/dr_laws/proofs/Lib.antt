@@ -7,6 +7,7 @@ pub mod RowsAfter
 pub mod KeepsLawful
 pub mod KeepsStructure
 pub mod KeepsImages
+pub mod KeepsRecorded
 pub mod KeepsQueue
 pub mod Along
 pub mod KeepsSound

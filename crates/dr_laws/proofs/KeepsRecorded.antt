@@ -1,0 +1,86 @@
+-- Each kind of move keeps what is recorded: what a target holds unchanged equals its source's.
+use Rattle.std.proofs.Common.{ℕ, ◌≡◌, ◌≢◌, ◌<◌, refl, ap, sym, ◌∙◌, subst, Bool, true, false, cond, not, ◌&&◌, List, Option, Some, None}
+use Rattle.std.specs.FinSet.{contains, insert, remove, empty}
+use Rattle.dr_model.specs.Tables.{at}
+use Rattle.dr_model.specs.Layout.{Tracks, Fields}
+use Rattle.dr_model.specs.Histories.{Write}
+use Rattle.dr_model.specs.Relations.{is_bare, turned, given_up, is_whole}
+use Rattle.dr_model.specs.Moves.{Move, Land, Overwrite, Keep, Note, Relate, Withdraw, Fetch, Resync, Reverse, Restore, Release}
+use Rattle.dr_model.specs.Table.{Row, Table}
+use Rattle.dr_model.specs.Rows.{after}
+use Rattle.dr_model.specs.Laws.{Structure, Recorded, HoldsOld, source, fields}
+use Rattle.dr_model.specs.Allowed.{Allowed, Kept}
+use Rattle.dr_laws.proofs.AtLemmas.{at_cases, linked-at}
+use Rattle.dr_laws.proofs.KeepsStructure.{no_loop, no_targets}
+use Rattle.dr_laws.proofs.Sets.{false_true, none_some, in_insert, insert_other, not_in_empty, not_in_more, from_source, still_related, from_difference}
+
+module _ (write : ℕ → Write) (T : Table) (structure : Structure T) (old : Recorded T) where
+  -- what a changed row owes
+  changed : (x : ℕ) (y : Row) → ((u : ℕ) → source y ≡ Some u → HoldsOld x y u (T u)) → (source y ≡ Some x → ⊥) → ((v : ℕ) → source (T v) ≡ Some x → HoldsOld v (T v) x y) → Recorded (at T x y)
+  changed x y from loop onto = linked-at T x y source HoldsOld (λ u ne. from u) (λ h. absurd (loop h)) (λ v ne. onto v) old
+
+  loop_at : (x : ℕ) → source (T x) ≡ Some x → ⊥
+  loop_at = no_loop write T structure
+
+  targets_at : {P : Type 0} (v s u : ℕ) → source (T v) ≡ Some s → source (T u) ≡ Some v → P
+  targets_at = no_targets write T structure
+
+  -- a track is stored at v, whose targets noted it
+  onto-stored : (v t : ℕ) (b : List ℕ) → Kept T v t → (u : ℕ) → source (T u) ≡ Some v → (fields T u).recorded ≡ true → (fields T u).reversing ≡ false
+      → (q : ℕ) → contains (fields T u).own q ≡ true → contains (fields T u).source_changes q ≡ false → contains (fields T u).target_changes q ≡ false → (T u).bytes q ≡ at (T v).bytes t b q
+  onto-stored v t b all u h rec rev =
+      at_cases (λ q c. contains (fields T u).own q ≡ true → contains (fields T u).source_changes q ≡ false → contains (fields T u).target_changes q ≡ false → (T u).bytes q ≡ c) (T v).bytes t b
+      (λ o n z. absurd (false_true n (all.noted u h rec rev))) (λ q ne o n z. old u v h rec rev q o n z)
+
+  -- a target takes a track, its source's or with a write
+  module _ (v t : ℕ) (changes rewrites : Tracks) (b : List ℕ) (u : ℕ) (h : source (T v) ≡ Some u) (rec : (fields T v).recorded ≡ true) (rev : (fields T v).reversing ≡ false)
+      (were : (q : ℕ) → contains changes q ≡ false → contains (fields T v).source_changes q ≡ false)
+      (wrote : (q : ℕ) → contains rewrites q ≡ false → contains (fields T v).target_changes q ≡ false)
+      (same : contains rewrites t ≡ false → b ≡ (T u).bytes t) where
+    taken-here : (q : ℕ) → contains (insert (fields T v).own t) q ≡ true → contains changes q ≡ false → contains rewrites q ≡ false → at (T v).bytes t b q ≡ (T u).bytes q
+    taken-here = at_cases (λ q c. contains (insert (fields T v).own t) q ≡ true → contains changes q ≡ false → contains rewrites q ≡ false → c ≡ (T u).bytes q) (T v).bytes t b
+        (λ o n z. same z)
+        (λ q ne o n z. old v u h rec rev q (sym (insert_other (fields T v).own t q ne) ∙ o) (were q n) (wrote q z))
+
+  taken : (v t : ℕ) (changes rewrites : Tracks) (b : List ℕ)
+      → ((q : ℕ) → contains changes q ≡ false → contains (fields T v).source_changes q ≡ false)
+      → ((q : ℕ) → contains rewrites q ≡ false → contains (fields T v).target_changes q ≡ false)
+      → ((u : ℕ) → source (T v) ≡ Some u → (fields T v).recorded ≡ true → contains rewrites t ≡ false → b ≡ (T u).bytes t)
+      → (e : Bool) (u : ℕ) → cond (cond e false (fields T v).related) (Some (cond e 0 (fields T v).source)) None ≡ Some u → cond e false (fields T v).recorded ≡ true → cond e false (fields T v).reversing ≡ false
+      → (q : ℕ) → contains (cond e empty (insert (fields T v).own t)) q ≡ true → contains (cond e empty changes) q ≡ false → contains (cond e empty rewrites) q ≡ false → at (T v).bytes t b q ≡ (T u).bytes q
+  taken v t changes rewrites b were wrote same true u h = absurd cc
+  taken v t changes rewrites b were wrote same false u h = λ rec rev. taken-here v t changes rewrites b u h rec rev were wrote (same u h rec)
+
+  from-source : (v t : ℕ) (rewrites : Tracks) (u : ℕ) → source (T v) ≡ Some u → (fields T v).recorded ≡ true → contains rewrites t ≡ false → (T (fields T v).source).bytes t ≡ (T u).bytes t
+  from-source v t rewrites u h rec n = ap (λ j. (T j).bytes t) (from_source (fields T v).related (fields T v).source u h).1
+
+  -- a recorded target notes what is written on it
+  written : {P : Type 0} (r : Bool) (s : Tracks) (t : ℕ) → r ≡ true → contains (cond r (insert s t) s) t ≡ false → P
+  written true s t rec n = absurd (false_true n (in_insert s t))
+  written false s t rec n = absurd cc
+
+  parted-loop : (v : ℕ) (e : Bool) → cond (cond e false (fields T v).related) (Some (cond e 0 (fields T v).source)) None ≡ Some v → ⊥
+  parted-loop v e h = loop_at v (still_related e (fields T v).related (fields T v).source v h)
+
+  -- while it is restored, or where it has ended, nothing is claimed
+  reversed : {P : Type 0} (e related r : Bool) (o u : ℕ) → r ≡ true → cond (cond e false related) (Some (cond e 0 o)) None ≡ Some u → cond e false r ≡ false → P
+  reversed true related r o u is h rev = absurd cc
+  reversed false related r o u is h rev = false_true rev is
+
+  pub kept-recorded : (m : Move) → Allowed write T m → Recorded (after write T m)
+  kept-recorded (Land w v t) a = changed v _ (λ u h. none_some a.plain h) (λ h. none_some a.plain h) (λ u h. onto-stored v t _ a.kept u h)
+  kept-recorded (Restore v t u) a = let none = (structure.flash u v a.related).plain in changed v _ (λ u h. none_some none h) (λ h. none_some none h) (λ u h. onto-stored v t _ a.kept u h)
+  kept-recorded (Overwrite w v t) a = let e : Bool = is_whole (T v).volume.tracks (insert (fields T v).own t) && not (fields T v).persistent in
+      changed v _ (λ u. taken v t _ _ _ (λ q h. h) (λ q h. not_in_more (fields T v).recorded _ t q h) (λ u h rec n. written (fields T v).recorded _ t rec n) e u) (parted-loop v e) (λ u. targets_at v a.from u a.related)
+  kept-recorded (Keep v t) a = let e : Bool = is_whole (T v).volume.tracks (insert (fields T v).own t) && not (fields T v).persistent in
+      changed v _ (λ u. taken v t _ _ _ (λ q h. not_in_more (fields T v).recorded _ t q h) (λ q h. h) (from-source v t _) e u) (parted-loop v e) (λ u. targets_at v a.from u a.related)
+  kept-recorded (Fetch v t) a = let e : Bool = is_whole (T v).volume.tracks (insert (fields T v).own t) && not (fields T v).persistent in
+      changed v _ (λ u. taken v t _ _ _ (λ q h. h) (λ q h. h) (from-source v t _) e u) (parted-loop v e) (λ u. targets_at v a.from u a.related)
+  kept-recorded (Note v t) a = changed v _ (λ u h rec rev q o n z. old v u h rec rev q o (not_in_more (fields T v).recorded _ t q n) z) (loop_at v) (λ u. old u v)
+  kept-recorded (Relate v s c) a = changed v _ (λ u h rec rev q o. absurd (not_in_empty q o)) (λ h. a.apart (from_source true s v h).1) (λ u h. absurd (a.no_source u h))
+  kept-recorded (Withdraw v) a = changed v _ (λ u h. absurd cc) (λ h. cc) (λ u. targets_at v a.from u a.related)
+  kept-recorded (Resync v sequence) a = changed v _ (λ u h rec rev q o n z. let both = from_difference _ _ q o in let first = from_difference _ _ q both.0 in old v u h rec rev q first.0 first.1 both.1) (loop_at v) (λ u. targets_at v a.from u a.related)
+  kept-recorded (Reverse v) a = let f : Fields = fields T v in let e : Bool = is_bare (turned f).own in
+      changed v _ (λ u h rec rev. reversed e f.related true f.source u refl h rev) (parted-loop v e) (λ u. targets_at v a.resync.from u a.resync.related)
+  kept-recorded (Release v t) a = let f : Fields = fields T v in let e : Bool = is_bare (given_up f t).own in
+      changed v _ (λ u h rec rev. reversed e f.related f.reversing f.source u a.reversing h rev) (parted-loop v e) (λ u. targets_at v a.from u a.related)
