@@ -1,18 +1,27 @@
 -- What each track is due to show, after events and with other writes waiting.
-use Rattle.std.proofs.Common.{ℕ, ◌≡◌, ◌≢◌, ◌⊎◌, inl, inr, refl, ap, sym, ◌∙◌, Bool, true, false, cond, not, ◌&&◌, nat_eq, List, [], ◌∷◌, ◌++◌, map, filter, arith}
+use Rattle.std.proofs.Common.{◌<◌, ◌+◌, zero, suc, ◌||◌, ℕ, ◌≡◌, ◌≢◌, ◌⊎◌, inl, inr, refl, ap, sym, ◌∙◌, Bool, true, false, cond, not, ◌&&◌, nat_eq, List, [], ◌∷◌, ◌++◌, map, filter, arith}
 use Rattle.std.proofs.lemmas.List.{append-nil}
-use Rattle.std.proofs.lemmas.Bool.Decides.{nat_tests}
-use Rattle.dr_model.specs.declared.event.Event.TheVariants.{Ack}
+use Rattle.std.proofs.lemmas.Bool.Decides.{nat_tests, eqb_tells}
+use Rattle.std.proofs.lemmas.Bool.{eq-eqb, eqb-true, ne_eqb}
+use Rattle.std.proofs.lemmas.List.Sums.{fold-append}
+use Rattle.std.specs.List.{fold, list_any, range_with_len}
+use Rattle.std.specs.FinSet.{contains}
+use Rattle.dr_model.specs.declared.event.Event.{Event}
+use Rattle.dr_model.specs.declared.event.Event.TheVariants.{Ack, Set, Back, Blanked, Restored}
 use Rattle.dr_model.specs.Tables.{at}
-use Rattle.dr_model.specs.Contents.{image, with_write}
-use Rattle.dr_model.specs.Histories.{Histories, after_event}
+use Rattle.dr_model.specs.Contents.{image, with_write, zeros}
+use Rattle.dr_model.specs.Layout.{Tracks}
+use Rattle.dr_model.specs.Relations.{rest, in_order, is_bare}
+use Rattle.dr_model.specs.Histories.{Write, Histories, after_event}
 use Rattle.dr_model.specs.Control.{Pending}
-use Rattle.dr_model.specs.Moves.{is_write, is_other, marked}
+use Rattle.dr_model.specs.Moves.{is_write, is_other, marked, told_blank, told_restored}
+use Rattle.dr_model.specs.Rows.{emptied}
 use Rattle.dr_model.specs.Table.{waiting, due_by}
 use Rattle.dr_model.specs.Laws.{AllPending}
 use Rattle.dr_model.specs.Allowed.{Coming}
 use Rattle.dr_model.proofs.Images.{image-push}
-use Rattle.dr_laws.proofs.AtLemmas.{at_cases, at_two, at_id, at2_at}
+use Rattle.dr_laws.proofs.AtLemmas.{Told, at_cases, at_two, at_id, at2_at}
+use Rattle.dr_laws.proofs.Sets.{false_true, rest_low}
 
 -- no write waits on a volume
 abbrev pub Calm : List Pending → ℕ → Type 0
@@ -76,6 +85,36 @@ none_landed : (v t : ℕ) (ps : List Pending) → AllPending (Coming v t) ps →
 none_landed v t [] all = tt
 none_landed v t (p ∷ ps) all = (all.0.landed, none_landed v t ps all.1)
 
+-- which tracks of a set stand in a list of them in order
+any-kept : (f : ℕ → Bool) (q : ℕ) (xs : List ℕ) → list_any (nat_eq q) (filter f xs) ≡ (f q && list_any (nat_eq q) xs)
+any-kept f q [] = none (f q)
+  where
+    none : (b : Bool) → false ≡ (b && false)
+    none true = refl
+    none false = refl
+any-kept f q (x ∷ xs) = by (f x) refl (eqb_tells q x) (any-kept f q xs)
+  where
+    by : (b : Bool) → f x ≡ b → Told q x → list_any (nat_eq q) (filter f xs) ≡ (f q && list_any (nat_eq q) xs) → list_any (nat_eq q) (cond b (x ∷ filter f xs) (filter f xs)) ≡ (f q && (nat_eq q x || list_any (nat_eq q) xs))
+    by true e (inl is) on = ap (λ b. b || list_any (nat_eq q) (filter f xs)) is.0 ∙ sym (λ i. (ap f is.1 ∙ e) i && (is.0 i || list_any (nat_eq q) xs))
+    by true e (inr not) on = ap (λ b. b || list_any (nat_eq q) (filter f xs)) not.0 ∙ on ∙ sym (ap (λ b. f q && (b || list_any (nat_eq q) xs)) not.0)
+    by false e (inl is) on = on ∙ ap (λ b. b && list_any (nat_eq q) xs) (ap f is.1 ∙ e) ∙ sym (ap (λ b. b && (nat_eq q x || list_any (nat_eq q) xs)) (ap f is.1 ∙ e))
+    by false e (inr not) on = on ∙ sym (ap (λ b. f q && (b || list_any (nat_eq q) xs)) not.0)
+
+in_range : (n b q : ℕ) → b < q + 1 → q < b + n → list_any (nat_eq q) (range_with_len b n) ≡ true
+in_range zero b q lo hi = absurd (omega arith)
+in_range (suc n) b q lo hi = elim (eqb_tells q b) [
+  | inl is ↦ ap (λ c. c || list_any (nat_eq q) (range_with_len (b + 1) n)) is.0
+  | inr not ↦ ap (λ c. c || list_any (nat_eq q) (range_with_len (b + 1) n)) not.0 ∙ in_range n (b + 1) q (let ne : q ≢ b = not.1 in omega arith) (omega arith)
+]
+
+pub in_order-rest : (n : ℕ) (own : Tracks) (q : ℕ) → list_any (nat_eq q) (in_order n (rest n own)) ≡ contains (rest n own) q
+unfolding in_order
+in_order-rest n own q = any-kept (contains (rest n own)) q (range_with_len 0 n) ∙ by (contains (rest n own) q) refl
+  where
+    by : (b : Bool) → contains (rest n own) q ≡ b → (b && list_any (nat_eq q) (range_with_len 0 n)) ≡ b
+    by true e = in_range n 0 q (omega arith) (let lt = rest_low n own q e in omega arith)
+    by false e = refl
+
 -- what is due where the lists of one volume change
 module _ (h : Histories) (ps : List Pending) where
   abbrev old : ℕ → ℕ → List ℕ
@@ -88,6 +127,10 @@ module _ (h : Histories) (ps : List Pending) where
   pub due-at : (v : ℕ) (l d : ℕ → List ℕ) (more : ℕ → ℕ → List ℕ) (u q : ℕ) → image h.write (l q ++ more v q) ≡ d q → (u ≢ v → more u q ≡ waiting ps u q)
       → image h.write (at h.now v l u q ++ more u q) ≡ at old v d u q
   due-at v l d more u q here else = at_two (λ u l d. (u ≢ v → more u q ≡ waiting ps u q) → image h.write (l q ++ more u q) ≡ d q) h.now old v l d (λ e. here) (λ u ne e. ap (λ ws. image h.write (h.now u q ++ ws)) (e ne)) u else
+
+  image-none : (write : ℕ → Write) → image write [] ≡ zeros
+  unfolding image
+  image-none write = refl
 
   -- a write lands: acknowledged, or in a stop
   landed-at : (n v t : ℕ) → Calm ps v → image h.write ((h.now v t ++ n ∷ []) ++ []) ≡ with_write h.write (old v t) n
@@ -117,3 +160,55 @@ module _ (h : Histories) (ps : List Pending) where
       (ap (λ ws. image h.write (h.now v t ++ ws)) (waiting-marked_here n v t ps coming (calm t) ∙ one) ∙ ap (image h.write) (sym (append-nil _)) ∙ landed-at n v t calm)
       (λ q ne. ap (λ ws. image h.write (h.now v q ++ ws)) (waiting-marked_else n v t v q ps (inr ne) coming)) q)
       (λ u ne. ap (λ ws. image h.write (h.now u q ++ ws)) (waiting-marked_else n v t u q ps (inl ne) coming)) u
+
+  pub due-set : (v s : ℕ) → Calm ps v → Calm ps s → (u q : ℕ) → due_by (after_event h (Set v s)) ps u q ≡ at old v (old s) u q
+  due-set v s calm from u q = due-at v (h.now s) (old s) (waiting ps) u q (ap (λ ws. image h.write (h.now s q ++ ws)) (calm q ∙ sym (from q))) (λ ne. refl)
+
+  pub due-back : (v t a : ℕ) → Calm ps v → Calm ps a → (u q : ℕ) → due_by (after_event h (Back v t a)) ps u q ≡ at old v (at (old v) t (old a t)) u q
+  due-back v t a calm from u q =
+      ap (λ (l : ℕ → ℕ → List ℕ). image h.write (l u q ++ waiting ps u q)) (at2_at h.now v t (h.now a t))
+      ∙ due-at v (at (h.now v) t (h.now a t)) (at (old v) t (old a t)) (waiting ps) u q
+      (at_two (λ q l d. image h.write (l ++ waiting ps v q) ≡ d) (h.now v) (old v) t (h.now a t) (old a t) (ap (λ ws. image h.write (h.now a t ++ ws)) (calm t ∙ sym (from t))) (λ q ne. refl) q) (λ ne. refl)
+
+  -- tracks are blanked
+  not_any : (b : Bool) (x : List ℕ) → x ≡ cond (b && false) [] x
+  not_any true x = refl
+  not_any false x = refl
+
+  either : (d a : Bool) (x : List ℕ) → cond a [] (cond d [] x) ≡ cond (d || a) [] x
+  either true true x = refl
+  either true false x = refl
+  either false a x = refl
+
+  blanked-by : (h : Histories) (v t u q : ℕ) (a c : Bool) → (c ≡ true → u ≡ v) → cond (c && a) [] (cond c (cond (nat_eq q t) [] (h.now u q)) (h.now u q)) ≡ cond (c && (nat_eq q t || a)) [] (h.now u q)
+  blanked-by h v t u q a true e = either (nat_eq q t) a (h.now u q)
+  blanked-by h v t u q a false e = refl
+
+  blanked-now : (h : Histories) (v : ℕ) (ts : List ℕ) (u q : ℕ) → (fold after_event h (map (Blanked v) ts)).now u q ≡ cond (nat_eq u v && list_any (nat_eq q) ts) [] (h.now u q)
+  blanked-now h v [] u q = not_any (nat_eq u v) (h.now u q)
+  blanked-now h v (t ∷ ts) u q = blanked-now (after_event h (Blanked v t)) v ts u q ∙ blanked-by h v t u q (list_any (nat_eq q) ts) (nat_eq u v) (eqb-true u v)
+
+  blanked-write : (h : Histories) (v : ℕ) (ts : List ℕ) → (fold after_event h (map (Blanked v) ts)).write ≡ h.write
+  blanked-write h v [] = refl
+  blanked-write h v (t ∷ ts) = blanked-write (after_event h (Blanked v t)) v ts
+
+  blanked-due : (v q : ℕ) (b : Bool) → Calm ps v → image h.write (cond b [] (h.now v q) ++ waiting ps v q) ≡ cond b zeros (old v q)
+  blanked-due v q true calm = ap (image h.write) (calm q) ∙ image-none h.write
+  blanked-due v q false calm = refl
+
+  pub due-blanked : (v n : ℕ) (own : Tracks) → Calm ps v → (u q : ℕ) → due_by (fold after_event h (told_blank v n own)) ps u q ≡ at old v (emptied true n own (old v)) u q
+  due-blanked v n own calm u q =
+      let ts : List ℕ = in_order n (rest n own) in
+      let any : Bool = list_any (nat_eq q) ts in
+      (λ i. image (blanked-write h v ts i) (blanked-now h v ts u q i ++ waiting ps u q))
+      ∙ at_cases (λ u d. image h.write (cond (nat_eq u v && any) [] (h.now u q) ++ waiting ps u q) ≡ d q) old v (emptied true n own (old v))
+      ((λ i. image h.write (cond (eq-eqb v v refl i && in_order-rest n own q i) [] (h.now v q) ++ waiting ps v q)) ∙ blanked-due v q (contains (rest n own) q) calm)
+      (λ u ne. ap (λ b. image h.write (cond (b && any) [] (h.now u q) ++ waiting ps u q)) (ne_eqb u v ne)) u
+
+  -- a restore may have ended
+  pub due-restored : (v s n : ℕ) (own : Tracks) → Calm ps v → (u q : ℕ) → due_by (fold after_event h (told_restored v s n own)) ps u q ≡ at old v (emptied (is_bare own) n own (old v)) u q
+  due-restored v s n own calm u q = by (is_bare own)
+    where
+      by : (b : Bool) → due_by (fold after_event h (cond b (told_blank v n own ++ Restored s v ∷ []) [])) ps u q ≡ at old v (emptied b n own (old v)) u q
+      by true = ap (λ (h : Histories). due_by h ps u q) (fold-append after_event h (told_blank v n own) (Restored s v ∷ [])) ∙ due-blanked v n own calm u q
+      by false = due-same v u q

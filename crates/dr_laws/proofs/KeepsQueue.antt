@@ -1,14 +1,17 @@
 -- Each kind of move keeps the queue: pending writes are those of their issues, and no list holds a later number.
-use Rattle.std.proofs.Common.{ℕ, ◌≡◌, ◌<◌, ◌+◌, refl, ap, sym, ◌∙◌, Bool, true, false, cond, List, [], ◌∷◌, ◌++◌, filter, subst, Option}
+use Rattle.std.proofs.Common.{ℕ, ◌≡◌, ◌<◌, ◌+◌, refl, ap, sym, ◌∙◌, Bool, true, false, cond, List, [], ◌∷◌, ◌++◌, map, filter, subst, Option}
 use Rattle.std.proofs.lemmas.Bool.{eqb-true, eq-eqb, false≢true}
 use Rattle.std.specs.List.{fold}
 use Rattle.dr_model.specs.declared.event.Event.{Event}
-use Rattle.dr_model.specs.declared.event.Event.TheVariants.{Volume as VolumeDefined, Issue, Ack, Mirrored, Sent, Flashed, Committed, Reverted, Set, Back, Blanked, Stopped}
+use Rattle.dr_model.specs.declared.event.Event.TheVariants.{Volume as VolumeDefined, Issue, Ack, Mirrored, Sent, Flashed, Committed, Reverted, Set, Back, Blanked, Restored, Stopped}
 use Rattle.dr_model.specs.Tables.{at, at2}
 use Rattle.dr_model.specs.Histories.{Lists, Write, Histories, histories, after_event}
+use Rattle.dr_model.specs.Layout.{Tracks}
+use Rattle.dr_model.specs.Relations.{is_bare}
 use Rattle.dr_model.specs.Control.{Control, Pending, Fuse, Volume, World, is_volume}
-use Rattle.dr_model.specs.Moves.{Move, Land, target, told, told_in_stop, settled, settled_in_stop, is_write, is_other, marked, landed}
-use Rattle.dr_model.specs.Laws.{Lone, Together, servers, sizes, Below, Numbered, Queue, Waits, AllPending, Apart, is_at}
+use Rattle.dr_model.specs.Moves.{Move, Land, Overwrite, Relate, Withdraw, Resync, Reverse, Restore, Release, Keep, Note, Fetch, told_blank, told_restored, target, told, told_in_stop, settled, settled_in_stop, is_write, is_other, marked, landed}
+use Rattle.dr_model.specs.Laws.{Lone, Together, servers, sizes, Below, Numbered, Queue, Waits, AllPending, Apart}
+use Rattle.dr_model.specs.Entries.{is_at}
 use Rattle.dr_model.specs.Allowed.{Coming, Ready}
 use Rattle.dr_model.proofs.Images.{histories-append, at_same, Below-append}
 use Rattle.dr_laws.proofs.AtLemmas.{at_cases, at2_at}
@@ -210,11 +213,34 @@ module _ (starts : Option ℕ) (w : World) (old : Queue starts w) where
     marks-wait (p ∷ ps) coming all = mark-waits p (is_write m p) ps coming all.0 (λ c. marks-wait ps c all.1)
 
   -- what a move tells
+  blanks-quiet : (v : ℕ) (ts : List ℕ) → AllQuiet n (map (Blanked v) ts)
+  blanks-quiet v [] = tt
+  blanks-quiet v (t ∷ ts) = (tt, blanks-quiet v ts)
+
+  restored-quiet : (v s size : ℕ) (own : Tracks) → AllQuiet n (told_restored v s size own)
+  restored-quiet v s size own = by (is_bare own)
+    where
+      by : (b : Bool) → AllQuiet n (cond b (told_blank v size own ++ Restored s v ∷ []) [])
+      by true = quiet-append n (told_blank v size own) _ (blanks-quiet v _) (tt, tt)
+      by false = tt
+
   told-quiet : (m : Move) → Ready w m → AllQuiet n (told m (w.control.volume (target m)))
   told-quiet (Land k v t) ready = (ready.number, tt)
+  told-quiet (Overwrite k v t) ready = (ready.number, tt)
+  told-quiet (Withdraw v) ready = blanks-quiet v _
+  told-quiet (Reverse v) ready = restored-quiet v _ _ _
+  told-quiet (Release v t) ready = restored-quiet v _ _ _
+  told-quiet (Keep v t) ready = (tt, tt)
+  told-quiet (Note v t) ready = tt
+  told-quiet (Relate v s c) ready = (tt, tt)
+  told-quiet (Fetch v t) ready = (tt, tt)
+  told-quiet (Resync v sequence) ready = (tt, tt)
+  told-quiet (Restore v t u) ready = (tt, tt)
 
   stop-quiet : (m : Move) → Ready w m → AllQuiet n (told_in_stop m (w.control.volume (target m)))
   stop-quiet (Land k v t) ready = tt
+  stop-quiet (Overwrite k v t) ready = tt
+  stop-quiet m ready = told-quiet m ready
 
   -- a move leaves each volume its server
   same-server : (m : Move) (f : Option Fuse) (v : ℕ) → servers (done w m f).control v ≡ servers w.control v
@@ -234,15 +260,23 @@ module _ (starts : Option ℕ) (w : World) (old : Queue starts w) where
   module _ (k : Control) (write : ℕ → Write) (on : (p : Pending) → Waits starts w.control (histories w.events).write p → Waits starts k write p) where
     settled-waits : (m : Move) → AllPending (Waits starts k write) (settled m w.control.pending)
     settled-waits (Land i v t) = all-filter _ (is_other i) _ (each-on on w.control.pending old.each)
+    settled-waits (Overwrite i v t) = all-filter _ (is_other i) _ (each-on on w.control.pending old.each)
+    settled-waits m = each-on on w.control.pending old.each
 
     stop-waits : (m : Move) → Ready w m → k.on (servers k (target m)) ≡ false → AllPending (Waits starts k write) (settled_in_stop m w.control.pending)
     stop-waits (Land i v t) ready off = marks-wait k write i v t off on w.control.pending ready.coming old.each
+    stop-waits (Overwrite i v t) ready off = marks-wait k write i v t off on w.control.pending ready.coming old.each
+    stop-waits m ready off = each-on on w.control.pending old.each
 
   settled-apart : (m : Move) → Apart (settled m w.control.pending) × Lone (servers w.control) (settled m w.control.pending)
   settled-apart (Land i v t) = (apart-filter i _ old.apart, lone-filter (servers w.control) i _ old.lone)
+  settled-apart (Overwrite i v t) = (apart-filter i _ old.apart, lone-filter (servers w.control) i _ old.lone)
+  settled-apart m = (old.apart, old.lone)
 
   stop-apart : (m : Move) → Ready w m → Apart (settled_in_stop m w.control.pending) × Lone (servers w.control) (settled_in_stop m w.control.pending)
   stop-apart (Land i v t) ready = (apart-marked i _ old.apart, lone-marked (servers w.control) i v t _ old.apart ready.idle (here-all (servers w.control) i v t _ ready.coming) old.lone)
+  stop-apart (Overwrite i v t) ready = (apart-marked i _ old.apart, lone-marked (servers w.control) i v t _ old.apart ready.idle (here-all (servers w.control) i v t _ ready.coming) old.lone)
+  stop-apart m ready = (old.apart, old.lone)
 
   pub queue-done : (m : Move) (f : Option Fuse) → Ready w m → Queue starts (done w m f)
   queue-done m f ready =

@@ -4,22 +4,25 @@ use Rattle.std.proofs.lemmas.Bool.Decides.{eqb_tells}
 use Rattle.std.proofs.lemmas.Bool.{false_from_ne_true, and_parts, eqb-true}
 use Rattle.std.specs.FinSet.{contains, remove}
 use Rattle.std.specs.List.{fold}
+use Rattle.std.proofs.lemmas.List.Sums.{fold-append}
 use Rattle.dr_model.specs.declared.event.Event.{Event}
 use Rattle.dr_model.specs.declared.event.Event.TheVariants.{Stopped}
 use Rattle.dr_model.specs.Tables.{at}
 use Rattle.dr_model.specs.Contents.{zeros}
 use Rattle.dr_model.specs.Histories.{Write, Histories, histories, after_event}
 use Rattle.dr_model.specs.Control.{Control, Pending, Volume, Fuse, World, is_volume}
-use Rattle.dr_model.specs.Moves.{Move, Land, target, told, told_in_stop, landed, settled, settled_in_stop, moved, tracks_after}
+use Rattle.dr_model.specs.Layout.{Tracks}
+use Rattle.dr_model.specs.Relations.{rest, is_bare, turned, given_up}
+use Rattle.dr_model.specs.Moves.{Move, Land, Overwrite, Keep, Note, Relate, Withdraw, Fetch, Resync, Reverse, Restore, Release, target, told, told_in_stop, landed, settled, settled_in_stop, moved, tracks_after}
 use Rattle.dr_model.specs.Table.{table, waiting, due, due_by}
-use Rattle.dr_model.specs.Rows.{next_row, next_due, next_bytes, after}
-use Rattle.dr_model.specs.Laws.{servers, Blank, Queue, Waits, AllPending}
-use Rattle.dr_model.specs.Allowed.{Idle, Ready, Runs}
+use Rattle.dr_model.specs.Rows.{emptied, next_row, next_due, next_bytes, after}
+use Rattle.dr_model.specs.Laws.{servers, Structure, Blank, Queue, Waits, AllPending}
+use Rattle.dr_model.specs.Allowed.{Allowed, Idle, Ready, Runs}
 use Rattle.dr_model.proofs.Images.{histories-append}
 use Rattle.dr_laws.proofs.AtLemmas.{Told}
-use Rattle.dr_laws.proofs.Sets.{if_false, remove_from, false_true}
+use Rattle.dr_laws.proofs.Sets.{if_false, remove_from, false_true, from_source}
 use Rattle.dr_laws.proofs.Turns.{next_of, carried_in, done, done_in_stop}
-use Rattle.dr_laws.proofs.Due.{Calm, due-acked, due-marked}
+use Rattle.dr_laws.proofs.Due.{Calm, due-same, due-acked, due-marked, due-set, due-back, due-blanked, due-restored}
 
 -- no write waits on a volume whose server is idle
 pub calm-each : (server : ℕ → ℕ) (v q : ℕ) (ps : List Pending) → AllPending (λ p. p.landed ≡ true → server p.volume ≡ server v → ⊥) ps → waiting ps v q ≡ []
@@ -63,8 +66,25 @@ module _ (w : World) (blank : Blank (table w)) where
   stored : (v t q : ℕ) (b : List ℕ) → cond (nat_eq q t) b (cond (contains (remove (w.control.volume v).fields.blank t) q) zeros (w.contents v q)) ≡ at (w.contents v) t b q
   stored v t q b = ap (λ old. cond (nat_eq q t) b old) (zeros-stay _ _ (λ h. blank v q (remove_from _ t q h)))
 
+  untouched : (v q : ℕ) → cond (contains (w.control.volume v).fields.blank q) zeros (w.contents v q) ≡ w.contents v q
+  untouched v q = zeros-stay _ _ (blank v q)
+
+  -- a relationship may have ended
+  may_end : (v q : ℕ) (e : Bool) (own : Tracks) → let n : ℕ = (w.control.volume v).tracks in
+      cond (contains (cond e (rest n own) (w.control.volume v).fields.blank) q) zeros (w.contents v q) ≡ emptied e n own (w.contents v) q
+  may_end v q true own = refl
+  may_end v q false own = untouched v q
+
   bytes-after : (m : Move) (q : ℕ) → tracks_after (next_of w m) (carried_in w m) (w.contents (target m)) q ≡ next_bytes write m (table w) q
   bytes-after (Land n v t) q = stored v t q _
+  bytes-after (Overwrite n v t) q = stored v t q _
+  bytes-after (Keep v t) q = stored v t q _
+  bytes-after (Fetch v t) q = stored v t q _
+  bytes-after (Restore v t u) q = stored v t q _
+  bytes-after (Withdraw v) q = refl
+  bytes-after (Reverse v) q = let f = (w.control.volume v).fields in may_end v q (is_bare (turned f).own) (turned f).own
+  bytes-after (Release v t) q = let f = (w.control.volume v).fields in may_end v q (is_bare (given_up f t).own) (given_up f t).own
+  bytes-after m q = untouched (target m) q
 
   module _ (m : Move) (on : ℕ → Bool) (fuse : ℕ → Option Fuse) (ps : List Pending) (es : List Event)
       (dues : (u q : ℕ) → due_by (histories es) ps u q ≡ at (due w) (target m) (next_due write m (table w)) u q) where
@@ -104,25 +124,43 @@ module _ (w : World) where
   abbrev Leads : Move → List Event → List Pending → Type 0
   Leads m es ps2 = (u q : ℕ) → due_by (fold after_event h es) ps2 u q ≡ at (due w) (target m) (next_due h.write m (table w)) u q
 
-  each-due : (m : Move) → Ready w m → Leads m (told m (w.control.volume (target m))) (settled m ps)
-  each-due (Land n v t) ready = due-acked h ps n v t ready.volume ready.track (calm w v ready.idle) ready.coming
-
-  stop-due : (m : Move) → Ready w m → Leads m (told_in_stop m (w.control.volume (target m))) (settled_in_stop m ps)
-  stop-due (Land n v t) ready = due-marked h ps n v t (calm w v ready.idle) ready.coming ready.one
-
-  -- a move that is done, and one that counts as done where the server stopped in it, leave one table
-  pub table-done : (m : Move) (f : Option Fuse) → Blank (table w) → Ready w m → table (done w m f) ≡ after h.write (table w) m
-  table-done m f blank ready =
-      let x : Volume = w.control.volume (target m) in
-      table-changed w blank m (done w m f).control.on (done w m f).control.fuse (settled m ps) (w.events ++ told m x) (λ u q. ap (λ h. due_by h (settled m ps) u q) (histories-append w.events (told m x)) ∙ each-due m ready u q)
-
-  pub table-stop : (m : Move) (f : Option Fuse) → Blank (table w) → Ready w m → table (done_in_stop w m f) ≡ after h.write (table w) m
-  table-stop m f blank ready =
-      let x : Volume = w.control.volume (target m) in
-      let es : List Event = told_in_stop m x ++ Stopped x.server (landed m) ∷ [] in
-      table-changed w blank m (done_in_stop w m f).control.on (done_in_stop w m f).control.fuse (settled_in_stop m ps) (done_in_stop w m f).events
-      (λ u q. ap (λ h. due_by h (settled_in_stop m ps) u q) (histories-append w.events es ∙ stops-quiet m x) ∙ stop-due m ready u q)
+  -- volumes of one server are idle together
+  idle_with : (v u : ℕ) → Idle w v → servers w.control u ≡ servers w.control v → Calm ps u
+  idle_with v u idle same q = calm-each (servers w.control) u q ps (turn ps idle)
     where
-      -- the stop itself changes no list
-      stops-quiet : (m : Move) (x : Volume) → fold after_event h (told_in_stop m x ++ Stopped x.server (landed m) ∷ []) ≡ fold after_event h (told_in_stop m x)
-      stops-quiet (Land n v t) x = refl
+      turn : (ps : List Pending) → AllPending (λ p. p.landed ≡ true → servers w.control p.volume ≡ servers w.control v → ⊥) ps → AllPending (λ p. p.landed ≡ true → servers w.control p.volume ≡ servers w.control u → ⊥) ps
+      turn [] all = tt
+      turn (p ∷ ps) all = ((λ l e. all.0 l (e ∙ same)), turn ps all.1)
+
+  module _ (structure : Structure (table w)) where
+    each-due : (m : Move) → Allowed h.write (table w) m → Ready w m → Leads m (told m (w.control.volume (target m))) (settled m ps)
+    each-due (Land n v t) a ready = due-acked h ps n v t ready.volume ready.track (calm w v ready.idle) ready.coming
+    each-due (Overwrite n v t) a ready = due-acked h ps n v t ready.volume ready.track (calm w v ready.idle) ready.coming
+    each-due (Relate v s c) a ready = due-set h ps v s (calm w v ready) (idle_with v s ready (sym a.server))
+    each-due (Withdraw v) a ready = due-blanked h ps v (w.control.volume v).tracks (w.control.volume v).fields.own (calm w v ready)
+    each-due (Resync v sequence) a ready =
+        let f = (w.control.volume v).fields in
+        let is = (from_source f.related f.source a.from a.related).1 in
+        due-set h ps v f.source (calm w v ready) (idle_with v f.source ready (ap (servers w.control) is ∙ sym (structure.flash v a.from a.related).same_server))
+    each-due (Reverse v) a ready = let u = w.control.volume v in due-restored h ps v u.fields.source u.tracks (turned u.fields).own (calm w v ready)
+    each-due (Restore v t u) a ready = due-back h ps v t u (calm w v ready) (idle_with v u ready (structure.flash u v a.related).same_server)
+    each-due (Release v t) a ready = let u = w.control.volume v in due-restored h ps v u.fields.source u.tracks (given_up u.fields t).own (calm w v ready)
+    each-due m a ready = due-same h ps (target m)
+
+    stop-due : (m : Move) → Allowed h.write (table w) m → Ready w m → Leads m (told_in_stop m (w.control.volume (target m))) (settled_in_stop m ps)
+    stop-due (Land n v t) a ready = due-marked h ps n v t (calm w v ready.idle) ready.coming ready.one
+    stop-due (Overwrite n v t) a ready = due-marked h ps n v t (calm w v ready.idle) ready.coming ready.one
+    stop-due m a ready = each-due m a ready
+
+    -- a move that is done, and one that counts as done where the server stopped in it, leave one table
+    pub table-done : (m : Move) (f : Option Fuse) → Blank (table w) → Allowed h.write (table w) m → Ready w m → table (done w m f) ≡ after h.write (table w) m
+    table-done m f blank a ready =
+        let x : Volume = w.control.volume (target m) in
+        table-changed w blank m (done w m f).control.on (done w m f).control.fuse (settled m ps) (w.events ++ told m x) (λ u q. ap (λ h. due_by h (settled m ps) u q) (histories-append w.events (told m x)) ∙ each-due m a ready u q)
+
+    pub table-stop : (m : Move) (f : Option Fuse) → Blank (table w) → Allowed h.write (table w) m → Ready w m → table (done_in_stop w m f) ≡ after h.write (table w) m
+    table-stop m f blank a ready =
+        let x : Volume = w.control.volume (target m) in
+        let es : List Event = told_in_stop m x ++ Stopped x.server (landed m) ∷ [] in
+        table-changed w blank m (done_in_stop w m f).control.on (done_in_stop w m f).control.fuse (settled_in_stop m ps) (done_in_stop w m f).events
+        (λ u q. ap (λ h. due_by h (settled_in_stop m ps) u q) (histories-append w.events es ∙ fold-append after_event h (told_in_stop m x) (Stopped x.server (landed m) ∷ [])) ∙ stop-due m a ready u q)

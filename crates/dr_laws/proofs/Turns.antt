@@ -6,7 +6,7 @@ use Rattle.dr_model.specs.Histories.{histories}
 use Rattle.dr_model.specs.Layout.{Fields}
 use Rattle.dr_model.specs.Control.{Fuse, Volume, World}
 use Rattle.dr_model.specs.Moves.{Move, Carried, target, next_fields, carried, told, told_in_stop, landed, settled, settled_in_stop, updated}
-use Rattle.dr_model.specs.Carry.{Act, Make, Redo, Acknowledge, Turn, Ended, ended, update, turn, redo, redo_ended, redo_writes, act, acknowledged, spent, off, pass, counts_by, writes, finished, cut_short}
+use Rattle.dr_model.specs.Carry.{Act, Make, Redo, Acknowledge, Drop, dropped, Turn, Ended, ended, update, turn, redo, redo_ended, redo_writes, act, acknowledged, spent, off, pass, counts_by, writes, finished, cut_short}
 
 abbrev pub server_at : World → ℕ → ℕ
 server_at w v = (w.control.volume v).server
@@ -114,6 +114,7 @@ abbrev pub place : Act → ℕ
 place (Make m) = target m
 place (Redo v) = v
 place (Acknowledge n) = 0
+place (Drop n) = 0
 
 abbrev pub server_of : World → Act → ℕ
 server_of w a = server_at w (place a)
@@ -123,10 +124,12 @@ abbrev pub after_act : World → Act → Option Fuse → World
 after_act w (Make m) f = done w m f
 after_act w (Redo v) f = fused w (server_at w v) f
 after_act w (Acknowledge n) f = acknowledged w n
+after_act w (Drop n) f = dropped w n
 
 -- acts that write to a device
 abbrev pub Writes : Act → Type 0
 Writes (Acknowledge n) = ⊥
+Writes (Drop n) = ⊥
 Writes a = Unit {0}
 
 -- a move that counts as done in a stop
@@ -144,3 +147,4 @@ unfolding act
 act-cases w (Make m) P o a b c = turn-cases w m P (o tt) a b (c tt)
 act-cases w (Redo v) P o a b c = subst P (sym (redo-by w v)) (redo_by-cases w v P _ _ (o tt) a (c tt))
 act-cases w (Acknowledge n) P o a b c = a None
+act-cases w (Drop n) P o a b c = a None
