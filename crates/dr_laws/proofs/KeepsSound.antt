@@ -1,30 +1,38 @@
 -- A sound world stays sound in an act that may come, however it ends.
-use Rattle.std.proofs.Common.{ℕ, ◌≡◌, ◌+◌, refl, ap, sym, subst, Bool, true, false, List, [], ◌∷◌, ◌++◌, Option, None}
+use Rattle.std.proofs.Common.{ℕ, ◌≡◌, ◌+◌, refl, ap, sym, subst, Bool, true, false, List, [], ◌∷◌, ◌++◌, filter, Option, None}
 use Rattle.dr_ids.specs.declared.refusal.Refusal.{Refusal}
 use Rattle.dr_model.specs.declared.event.Event.{Event}
 use Rattle.dr_model.specs.declared.event.Event.TheVariants.{Stopped}
 use Rattle.dr_model.specs.Tables.{at}
 use Rattle.dr_model.specs.Histories.{Write, Histories, histories}
-use Rattle.dr_model.specs.Control.{Control, World, Fuse}
-use Rattle.dr_model.specs.Moves.{Move}
-use Rattle.dr_model.specs.Carry.{Act, Make, Redo, Acknowledge, Entry, Next, check, now}
+use Rattle.dr_model.specs.Contents.{image}
+use Rattle.dr_model.specs.Control.{Pending, Control, World, Fuse}
+use Rattle.dr_model.specs.Moves.{Move, is_write, is_other}
+use Rattle.dr_model.specs.Carry.{Act, Make, Redo, Acknowledge, Drop, dropped, Entry, Next, check, now}
 use Rattle.dr_model.specs.Plans.{Plan}
 use Rattle.dr_model.specs.Runs.{begun}
 use Rattle.dr_model.specs.ReadStops.{gone_off}
 use Rattle.dr_model.specs.Table.{Table, table, due_by}
 use Rattle.dr_model.specs.Rows.{after}
-use Rattle.dr_model.specs.Laws.{SoundRows, SoundBut, Sound}
+use Rattle.dr_model.specs.Laws.{SoundRows, SoundBut, Sound, AllPending, Waits, servers}
 use Rattle.dr_model.specs.Allowed.{Allowed, May, Runs}
 use Rattle.dr_model.proofs.Images.{histories-append}
-use Rattle.dr_laws.proofs.Turns.{done, done_in_stop, not_done, after_act, place, Writes}
+use Rattle.dr_laws.proofs.Turns.{carried_in, done, done_in_stop, not_done, after_act, place, Writes}
 use Rattle.dr_laws.proofs.RowsAfter.{table-done, table-stop}
 use Rattle.dr_laws.proofs.KeepsStructure.{kept-structure}
 use Rattle.dr_laws.proofs.KeepsImages.{kept-images}
-use Rattle.dr_laws.proofs.KeepsQueue.{AllQuiet, queue-done, queue-stop, queue-same, goes-off}
+use Rattle.dr_laws.proofs.KeepsRecorded.{kept-recorded}
+use Rattle.dr_laws.proofs.KeepsTargets.{few-after}
+use Rattle.dr_laws.proofs.KeepsQueue.{AllQuiet, queue-done, queue-stop, queue-same, goes-off, all-filter, apart-filter, lone-filter}
+use Rattle.dr_laws.proofs.Due.{waiting-settled}
 use Rattle.dr_laws.proofs.Along as along
 
 pub rows-after : (write : ℕ → Write) (T : Table) (m : Move) → SoundRows T → Allowed write T m → SoundRows (after write T m)
-rows-after write T m r a = record { structure = kept-structure write T r.structure m a; images = kept-images write T r.images m a }
+rows-after write T m r a = record {
+  structure = kept-structure write T r.structure m a;
+  images = kept-images write T r.structure r.recorded r.images m a;
+  recorded = kept-recorded write T r.structure r.recorded m a;
+}
 
 -- events that no list hears of
 pub rows-told : (w : World) (es : List Event) → histories (w.events ++ es) ≡ histories w.events → SoundRows (table w) → SoundRows (table (record w { events = w.events ++ es }))
@@ -33,13 +41,15 @@ rows-told w es same r = subst SoundRows (ap (λ (h : Histories). λ (v : ℕ). r
 module _ (starts : Option ℕ) where
   pub sound-done : (w : World) (m : Move) (f : Option Fuse) → SoundBut starts w → May w m → SoundBut starts (done w m f)
   sound-done w m f s may = record {
-    rows = subst SoundRows (sym (table-done w m f s.rows.images.blank may.ready)) (rows-after (histories w.events).write (table w) m s.rows may.allowed);
+    rows = subst SoundRows (sym (table-done w s.rows.structure m f s.rows.images.blank may.allowed may.ready)) (rows-after (histories w.events).write (table w) m s.rows may.allowed);
+    targets = record { once = s.targets.once; few = few-after w.control s.targets m (carried_in w m) may.fits };
     queue = queue-done starts w s.queue m f may.ready;
   }
 
   pub sound-stop : (w : World) (m : Move) (f : Option Fuse) → SoundBut starts w → May w m → SoundBut starts (done_in_stop w m f)
   sound-stop w m f s may = record {
-    rows = subst SoundRows (sym (table-stop w m f s.rows.images.blank may.ready)) (rows-after (histories w.events).write (table w) m s.rows may.allowed);
+    rows = subst SoundRows (sym (table-stop w s.rows.structure m f s.rows.images.blank may.allowed may.ready)) (rows-after (histories w.events).write (table w) m s.rows may.allowed);
+    targets = record { once = s.targets.once; few = few-after w.control s.targets m (carried_in w m) may.fits };
     queue = queue-stop starts w s.queue m f may.ready;
   }
 
@@ -49,6 +59,7 @@ module _ (starts : Option ℕ) where
       → SoundBut starts (record { control = record w.control { servers = servers; on = on; fuse = fuse; link = link }; contents = w.contents; events = w.events ++ es })
   sound-told w servers on fuse link es same quiet off s = record {
     rows = rows-told w es same s.rows;
+    targets = record { once = s.targets.once; few = s.targets.few };
     queue = queue-same starts w s.queue (record w.control { servers = servers; on = on; fuse = fuse; link = link }) es w.contents quiet refl refl refl (λ v. refl) (λ v. refl) off;
   }
 
@@ -60,10 +71,28 @@ module _ (starts : Option ℕ) where
   sound-gone w x s =
       sound-told w w.control.servers (at w.control.on x false) w.control.fuse w.control.link (Stopped x 0 ∷ []) (histories-append w.events (Stopped x 0 ∷ [])) (tt, tt) (goes-off starts w s.queue w.control.on x) s
 
+  -- a write that hasn't landed is dropped
+  pub sound-dropped : (w : World) (n : ℕ) → AllPending (λ p. p.landed ≡ false) (filter (is_write n) w.control.pending) → SoundBut starts w → SoundBut starts (dropped w n)
+  sound-dropped w n unlanded s =
+      let h : Histories = histories w.events in
+      let ps : List Pending = w.control.pending in
+      record {
+        rows = subst SoundRows (λ i u. record (table w u) { due = λ q. image h.write (h.now u q ++ sym (waiting-settled n u q ps unlanded) i) }) s.rows;
+        targets = record { once = s.targets.once; few = s.targets.few };
+        queue = record {
+          each = all-filter (Waits starts w.control h.write) (is_other n) ps s.queue.each;
+          apart = apart-filter n ps s.queue.apart;
+          lone = lone-filter (servers w.control) n ps s.queue.lone;
+          numbers = s.queue.numbers;
+        };
+      }
+
 -- what a plan's acts may be but where a server starts
 abbrev pub MayDo : World → Act → Type 0
 MayDo w (Make m) = May w m
-MayDo w a = ⊥
+MayDo w (Redo v) = ⊥
+MayDo w (Acknowledge n) = ⊥
+MayDo w (Drop n) = AllPending (λ p. p.landed ≡ false) (filter (is_write n) w.control.pending)
 
 pub keeps-sound : along.Keeps Sound Sound MayDo
 keeps-sound = record { runs = runs; does = does; counts = λ w m f s may. sound-stop None w m f s may; fails = λ w a f d s may. sound-not None w _ f s }
@@ -72,11 +101,13 @@ keeps-sound = record { runs = runs; does = does; counts = λ w m f s may. sound-
     runs w (Make m) d may = may.runs
     runs w (Redo v) d may = absurd may
     runs w (Acknowledge n) d may = absurd may
+    runs w (Drop n) d may = absurd d
 
     does : (w : World) (a : Act) (f : Option Fuse) → Sound w → MayDo w a → Sound (after_act w a f)
     does w (Make m) f s may = sound-done None w m f s may
     does w (Redo v) f s may = absurd may
     does w (Acknowledge n) f s may = absurd may
+    does w (Drop n) f s may = sound-dropped None w n may s
 
 abbrev pub Along : World → List Entry → Type 0
 Along = along.Along Sound Sound MayDo

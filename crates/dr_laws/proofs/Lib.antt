@@ -8,6 +8,7 @@ pub mod KeepsLawful
 pub mod KeepsStructure
 pub mod KeepsImages
 pub mod KeepsRecorded
+pub mod KeepsTargets
 pub mod KeepsQueue
 pub mod Along
 pub mod KeepsSound
