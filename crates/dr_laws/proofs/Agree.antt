@@ -1,33 +1,55 @@
 -- A sound world agrees with a plant whose tracks contain what the world says, and what it shows is what is due.
-use Rattle.std.proofs.Common.{ℕ, ◌≡◌, ◌<◌, ◌∙◌, ap, Bool, true, cond, not, ◌&&◌, List, ◌++◌, Option}
+use Rattle.std.proofs.Common.{ℕ, ◌≡◌, ◌<◌, ◌∙◌, refl, sym, subst, ap, Bool, true, false, cond, not, ◌&&◌, List, ◌++◌, Option}
 use Rattle.std.proofs.lemmas.List.{append-nil}
 use Rattle.std.specs.FinSet.{contains}
 use Rattle.dr_model.specs.Histories.{histories}
 use Rattle.dr_model.specs.Contents.{image, image_at}
-use Rattle.dr_model.specs.Layout.{Blocks}
+use Rattle.dr_model.specs.Layout.{Blocks, Fields}
 use Rattle.dr_model.specs.Control.{World, Fuse, is_volume}
 use Rattle.dr_model.specs.Views.{view}
-use Rattle.dr_model.specs.Table.{due}
+use Rattle.dr_model.specs.Table.{table, due}
 use Rattle.dr_model.specs.Laws.{Sound}
 use Rattle.dr_model.specs.Allowed.{Runs}
 use Rattle.dr_model.specs.Fits.{Fits, SaysVolume, device_of, on_device}
-use Rattle.dr_laws.proofs.Sets.{no_source}
+use Rattle.dr_laws.proofs.Sets.{has_source}
+use Rattle.dr_laws.proofs.Views.{shown-due}
 use Rattle.dr_laws.proofs.RowsAfter.{idle, calm}
 
--- no volume is a target yet, so each shows what it contains
-plain-view : (w : World) (s : Sound w) (contents : ℕ → ℕ → List ℕ) (v t : ℕ) → view (λ u. (w.control.volume u).fields) contents v t ≡ contents v t
-plain-view w s contents v t = ap (λ b. cond (b && not (contains (w.control.volume v).fields.own t)) (contents (w.control.volume v).fields.source t) (contents v t)) (s.rows.structure.unrelated v)
-
--- what a track of a sound world contains is what is due
-pub contents-due : (w : World) → Sound w → (v t : ℕ) → t < (w.control.volume v).tracks → w.contents v t ≡ due w v t
-contents-due w s v t lt = s.rows.images.plain v (no_source _ _ (s.rows.structure.unrelated v)) t lt
+-- what a track of a sound world shows is what is due
+pub view-due : (w : World) → Sound w → (v t : ℕ) → t < (w.control.volume v).tracks → view (λ u. (w.control.volume u).fields) w.contents v t ≡ due w v t
+view-due w s v t lt = shown-due (table w) s.rows.images v t lt
 
 -- on a running server nothing waits: a track shows the image of the journal's host writes
-pub contents-image : (w : World) → Sound w → (v t : ℕ) → t < (w.control.volume v).tracks → Runs w v → w.contents v t ≡ image_at w.events v t
-contents-image w s v t lt on =
-    contents-due w s v t lt
+pub view-image : (w : World) → Sound w → (v t : ℕ) → t < (w.control.volume v).tracks → Runs w v → view (λ u. (w.control.volume u).fields) w.contents v t ≡ image_at w.events v t
+view-image w s v t lt on =
+    view-due w s v t lt
     ∙ ap (λ ws. image (histories w.events).write ((histories w.events).now v t ++ ws)) (calm w v (idle w v s.queue on) t)
     ∙ ap (image (histories w.events).write) (append-nil ((histories w.events).now v t))
+
+-- a volume that is no target shows what it contains
+pub contents-image : (w : World) → Sound w → (v t : ℕ) → t < (w.control.volume v).tracks → Runs w v → (w.control.volume v).fields.related ≡ false → w.contents v t ≡ image_at w.events v t
+contents-image w s v t lt on plain =
+    sym (ap (λ b. cond (b && not (contains (w.control.volume v).fields.own t)) (w.contents (w.control.volume v).fields.source t) (w.contents v t)) plain) ∙ view-image w s v t lt on
+
+-- what is read is the same where the tracks that are read are
+view-same : (w : World) (s : Sound w) (contents : ℕ → ℕ → List ℕ)
+    → ((v t : ℕ) → is_volume w.control v ≡ true → t < (w.control.volume v).tracks → contents v t ≡ w.contents v t)
+    → (v t : ℕ) → is_volume w.control v ≡ true → t < (w.control.volume v).tracks → view (λ u. (w.control.volume u).fields) contents v t ≡ view (λ u. (w.control.volume u).fields) w.contents v t
+view-same w s contents same v t there lt = by f.related refl
+  where
+    f : Fields
+    f = (w.control.volume v).fields
+
+    from_source : f.related ≡ true → contents f.source t ≡ w.contents f.source t
+    from_source is =
+        let flash = s.rows.structure.flash v f.source (has_source _ _ is) in
+        same f.source t flash.defined (subst (λ n. t < n) flash.same_tracks lt)
+
+    by : (r : Bool) → f.related ≡ r → cond (f.related && not (contains f.own t)) (contents f.source t) (contents v t) ≡ cond (f.related && not (contains f.own t)) (w.contents f.source t) (w.contents v t)
+    by true is = (λ i. cond (f.related && not (contains f.own t)) (from_source is i) (same v t there lt i))
+    by false is =
+        ap (λ b. cond (b && not (contains f.own t)) (contents f.source t) (contents v t)) is ∙ same v t there lt
+        ∙ sym (ap (λ b. cond (b && not (contains f.own t)) (w.contents f.source t) (w.contents v t)) is)
 
 pub fits-sound : (w : World) (on : ℕ → Bool) (fuse : ℕ → Option Fuse) (device : ℕ → Blocks) → Sound w
     → ((s : ℕ) → s < 8 → on s ≡ w.control.on s)
@@ -39,5 +61,5 @@ fits-sound w on fuse device s servers fuses volumes tracks = record {
   servers = servers;
   fuses = fuses;
   volumes = volumes;
-  tracks = λ v t there inside. plain-view w s (on_device w.control device) v t ∙ tracks v t there inside ∙ contents-due w s v t inside;
+  tracks = λ v t there inside. view-same w s (on_device w.control device) tracks v t there inside ∙ view-due w s v t inside;
 }

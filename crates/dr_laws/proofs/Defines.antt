@@ -1,5 +1,5 @@
 -- A volume is defined: it has tracks of zeros, and nothing changes for the others.
-use Rattle.std.proofs.Common.{ℕ, ◌≡◌, ◌≢◌, ◌<◌, ◌+◌, inl, inr, refl, ap, sym, ◌∙◌, subst, Bool, true, false, cond, ◌&&◌, ◌||◌, nat_eq, List, [], ◌∷◌, ◌++◌, None}
+use Rattle.std.proofs.Common.{ℕ, ◌≡◌, ◌≢◌, ◌<◌, ◌+◌, inl, inr, refl, ap, sym, ◌∙◌, subst, Bool, true, false, cond, ◌&&◌, ◌||◌, nat_eq, List, [], ◌∷◌, ◌++◌, Some, None}
 use Rattle.std.proofs.lemmas.Bool.Decides.{eqb_tells}
 use Rattle.std.proofs.lemmas.Bool.{false_from_ne_true, and_parts, eqb-true}
 use Rattle.std.specs.List.{list_any}
@@ -9,13 +9,15 @@ use Rattle.dr_model.specs.Contents.{image, zeros}
 use Rattle.dr_model.specs.Histories.{Write, Histories, histories, after_event}
 use Rattle.dr_model.specs.Control.{Pending, Volume, World, is_volume, new_volume}
 use Rattle.dr_model.specs.Table.{Row, table, waiting, due_by}
-use Rattle.dr_model.specs.Laws.{SoundRows, Lawful, Unrelated, Numbered, Waits, AllPending, Lone, Together, servers, sizes, Sound}
+use Rattle.dr_model.specs.Laws.{SoundRows, HoldsOld, source, Numbered, Waits, AllPending, Lone, Together, servers, sizes, Sound}
 use Rattle.dr_model.proofs.Images.{histories-append, at_other}
-use Rattle.dr_laws.proofs.AtLemmas.{Told, each-at}
-use Rattle.dr_laws.proofs.Sets.{if_false, false_true, none_some, no_source}
+use Rattle.dr_laws.proofs.AtLemmas.{Told, linked-at}
+use Rattle.dr_laws.proofs.Sets.{if_false, false_true, in_none}
 use Rattle.dr_model.proofs.LawfulLemmas.{lawful-no_fields}
 use Rattle.dr_laws.proofs.KeepsQueue.{each-on, numbered-after}
+use Rattle.dr_laws.proofs.KeepsStructure.{structure-at}
 use Rattle.dr_laws.proofs.KeepsImages.{images-at}
+use Rattle.dr_laws.proofs.KeepsTargets.{few-defined}
 
 lone-each : (server other : ℕ → ℕ) (ps : List Pending) → AllPending (λ p. other p.volume ≡ server p.volume) ps → Lone server ps → Lone other ps
 lone-each server other [] same all = tt
@@ -114,20 +116,31 @@ module _ (w : World) (s : Sound w) (v server tracks : ℕ) (undefined : is_volum
   table-defined : table with_volume ≡ at (table w) v row
   table-defined = λ i u. row-by u (eqb_tells u v) i
 
+  -- no volume points to it
+  no-source-yet : {P : Type 0} (u : ℕ) → source (table w u) ≡ Some v → P
+  no-source-yet u h = false_true undefined (s.rows.structure.flash u v h).defined
+
   rows-defined : SoundRows (at (table w) v row)
   rows-defined = record {
-    structure = record {
-      lawful = each-at (table w) v row (λ v r. Lawful r) (lawful-no_fields tracks) s.rows.structure.lawful;
-      unrelated = each-at (table w) v row (λ v r. Unrelated r) refl s.rows.structure.unrelated;
-    };
+    structure = structure-at h.write (table w) s.rows.structure v row (record {
+      lawful = lawful-no_fields tracks;
+      sets = record { apart = in_none _; noted_held = in_none _; rewritten_held = in_none _ };
+      flags = record { persists = λ e. absurd cc; records = λ e. absurd cc; unchanged = λ e. absurd cc; some = λ e. absurd cc };
+      defined = λ e. refl;
+      from = λ u e. absurd cc;
+      loop = λ e. cc;
+      onto = λ u e. no-source-yet u e;
+      restores = λ u e. absurd cc;
+    });
     images = images-at (table w) v row s.rows.images (record {
       blank = λ t e. s.rows.images.fresh v undefined t;
       fresh = λ e. absurd cc;
       plain = λ none t lt. s.rows.images.fresh v undefined t;
       seen = λ u ne e. absurd cc;
       loop = λ e. cc;
-      onto = λ u ne e. none_some (no_source _ _ (s.rows.structure.unrelated u)) e;
+      onto = λ u ne e. no-source-yet u e;
     });
+    recorded = linked-at (table w) v row source HoldsOld (λ u ne e. absurd cc) (λ e. absurd cc) (λ u ne e. no-source-yet u e) s.rows.recorded;
   }
 
   same-server : (p : Pending) → Waits None w.control h.write p → servers with_volume.control p.volume ≡ servers w.control p.volume
@@ -151,6 +164,7 @@ module _ (w : World) (s : Sound w) (v server tracks : ℕ) (undefined : is_volum
   pub sound-defined : Sound with_volume
   sound-defined = record {
     rows = subst SoundRows (sym table-defined) rows-defined;
+    targets = few-defined w.control s.targets v server tracks undefined;
     queue = record {
       each = each-on waits-on ps s.queue.each;
       apart = s.queue.apart;

@@ -107,6 +107,7 @@ module _ (w : World) (s : Sound w) (v t offset len : ℕ) (bytes : List ℕ) (de
   pub sound-issued : Sound issued
   sound-issued = record {
     rows = subst SoundRows (sym same-table) s.rows;
+    targets = record { once = s.targets.once; few = s.targets.few };
     queue = record {
       each = each-new ps s.queue.each;
       apart = apart-new ps s.queue.each s.queue.apart;

@@ -12,6 +12,8 @@ pub mod KeepsTargets
 pub mod KeepsQueue
 pub mod Along
 pub mod KeepsSound
+pub mod Views
+pub mod CopyFirst
 pub mod Lands
 pub mod Issues
 pub mod Defines

@@ -11,7 +11,7 @@ use Rattle.dr_model.specs.Contents.{image}
 use Rattle.dr_model.specs.Histories.{Write, Histories, histories}
 use Rattle.dr_model.specs.Control.{Control, Pending, World, Fuse, is_volume}
 use Rattle.dr_model.specs.Moves.{is_other}
-use Rattle.dr_model.specs.Carry.{Act, Make, Redo, Acknowledge, Pass, Do, Entry, acknowledged}
+use Rattle.dr_model.specs.Carry.{Act, Make, Redo, Acknowledge, Drop, Pass, Do, Entry, acknowledged}
 use Rattle.dr_model.specs.Plans.{redo_on, belongs, has_landed, acknowledge_on, acknowledge_if, start_plan, starting}
 use Rattle.dr_model.specs.Runs.{begun}
 use Rattle.dr_model.specs.Table.{table, waiting, due, due_by}
@@ -144,6 +144,7 @@ module _ (s : ℕ) where
   MayStart w (Make m) = ⊥
   MayStart w (Redo v) = MayRedo w v
   MayStart w (Acknowledge n) = MayAcknowledge w n
+  MayStart w (Drop n) = ⊥
 
   -- the server stays on while its acts are done
   record Inner (w : World) : Type 0 where
@@ -170,12 +171,14 @@ module _ (s : ℕ) where
   pub sound-off : (w : World) → Starting w → w.control.on s ≡ false → Sound w
   sound-off w j off = record {
     rows = j.rows;
+    targets = j.targets;
     queue = record { each = each-on (λ p waits. waits-free w.control _ p waits (inl off)) w.control.pending j.queue.each; apart = j.queue.apart; lone = j.queue.lone; numbers = j.queue.numbers };
   }
 
   sound-free : (w : World) → Starting w → AllPending (Free (servers w.control) s) w.control.pending → Sound w
   sound-free w j free = record {
     rows = j.rows;
+    targets = j.targets;
     queue = record { each = both-on (λ p waits free. waits-free w.control _ p waits (inr free)) w.control.pending j.queue.each free; apart = j.queue.apart; lone = j.queue.lone; numbers = j.queue.numbers };
   }
 
@@ -211,6 +214,7 @@ module _ (s : ℕ) where
     acknowledges : Starting (acknowledged w p.w)
     acknowledges = record {
       rows = subst SoundRows (λ i u. record (table w u) { due = λ q. sym (same-due u q) i }) j.rows;
+      targets = record { once = j.targets.once; few = j.targets.few };
       queue = record {
         each = subst (λ (h : Histories). AllPending (Waits (Some s) w.control h.write) (filter (is_other p.w) ps)) (sym told) (all-filter _ (is_other p.w) ps j.queue.each);
         apart = apart-filter p.w ps j.queue.apart;
@@ -223,16 +227,19 @@ module _ (s : ℕ) where
   runs w (Make m) d may = absurd may
   runs w (Redo v) d may = ap w.control.on may.own ∙ may.on
   runs w (Acknowledge n) d may = absurd d
+  runs w (Drop n) d may = absurd d
 
   does : (w : World) (a : Act) (f : Option Fuse) → Inner w → MayStart w a → Inner (after_act w a f)
   does w (Make m) f j may = absurd may
-  does w (Redo v) f j may = let x = j.sound in record { sound = record { rows = x.rows; queue = record { each = x.queue.each; apart = x.queue.apart; lone = x.queue.lone; numbers = x.queue.numbers } }; on = j.on }
+  does w (Redo v) f j may = let x = j.sound in record { sound = record { rows = x.rows; targets = record { once = x.targets.once; few = x.targets.few }; queue = record { each = x.queue.each; apart = x.queue.apart; lone = x.queue.lone; numbers = x.queue.numbers } }; on = j.on }
   does w (Acknowledge n) f j may = record { sound = subst (λ n. Starting (acknowledged w n)) may.number (acknowledges w j.sound may.waits may.first); on = j.on }
+  does w (Drop n) f j may = absurd may
 
   fails : (w : World) (a : Act) (f : Option Fuse) → Writes a → Inner w → MayStart w a → Sound (not_done w (server_of w a) f)
   fails w (Make m) f d j may = absurd may
   fails w (Redo v) f d j may = sound-off (not_done w (servers w.control v) f) (sound-not (Some s) w (servers w.control v) f j.sound) (ap (λ x. at w.control.on x false s) may.own ∙ at_same w.control.on s false)
   fails w (Acknowledge n) f d j may = absurd d
+  fails w (Drop n) f d j may = absurd d
 
   keeps : along.Keeps Inner Sound MayStart
   keeps = record { runs = runs; does = does; counts = λ w m f j may. absurd may; fails = λ w a f d j may. fails w a f d j may }
@@ -270,6 +277,7 @@ module _ (s : ℕ) where
       record {
         sound = record {
           rows = rows-told w (Started s ∷ []) same x.rows;
+          targets = record { once = x.targets.once; few = x.targets.few };
           queue = record {
             each = subst (λ (h : Histories). AllPending (Waits (Some s) (starting s w.control) h.write) w.control.pending) (sym same) (each-on (starts-waits w x) w.control.pending x.queue.each);
             apart = x.queue.apart;
