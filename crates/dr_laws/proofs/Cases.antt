@@ -15,12 +15,13 @@ use Rattle.dr_model.specs.declared.said.Said.TheVariants.{Done, Refused}
 use Rattle.dr_model.specs.declared.step.Name.{Name}
 use Rattle.dr_model.specs.declared.step.TornWord.{TornWord}
 use Rattle.dr_model.specs.declared.step.Step.{Step}
-use Rattle.dr_model.specs.declared.step.Step.TheVariants.{Server, Volume, Link, Stop, StopAfter, Start, Issue, Write, Apply, Show}
+use Rattle.dr_model.specs.declared.step.Step.TheVariants.{Server, Volume, Link, Stop, StopAfter, Start, Issue, Write, Apply, Show, MakeFlash, RemoveFlash, ResyncFlash, ReverseFlash, Copy}
 use Rattle.dr_model.specs.Limits.{most_servers, most_volumes, most_tracks, most_pending}
 use Rattle.dr_model.specs.Refusals.{unknown, duplicate, over}
 use Rattle.dr_model.specs.Control.{Control, Pending, is_volume}
+use Rattle.dr_model.specs.Relations.{Choices}
 use Rattle.dr_model.specs.Moves.{is_write}
-use Rattle.dr_model.specs.Plans.{Plan, plan, step_plan, plan_of, is_built, has_room, only_says, refuses, unless, on_named, on_server, name_bytes, server_named, server_refusal, server_done, volume_refusal, volume_done, link_between, link_done, track_refusal, issue_refusal, issue_then, write_done, apply_on, apply_done, show_refusal, show_done, is_foreign, first_of, subsystem, stop_on, stop_done, arm_on, start_on, start_plan}
+use Rattle.dr_model.specs.Plans.{Plan, plan, step_plan, plan_of, is_built, has_room, only_says, refuses, unless, on_named, on_server, name_bytes, server_named, server_refusal, server_done, volume_refusal, volume_done, link_between, link_done, track_refusal, issue_refusal, issue_then, write_done, apply_on, apply_done, show_refusal, show_done, is_foreign, first_of, subsystem, stop_on, stop_done, arm_on, start_on, start_plan, flash_plan, withdraw_plan, resync_plan, reverse_plan, copy_plan}
 
 -- what a step comes to, with what was seen before
 pub data Case (k : Control) (events : List Event) (line : ℕ) : Plan → Type 0 where
@@ -35,6 +36,11 @@ pub data Case (k : Control) (events : List Event) (line : ℕ) : Plan → Type 0
   Stops : (s : ℕ) → k.on s ≡ true → Case k events line (stop_done s)
   Arms : (writes : ℕ) → (torn : TornWord) → (s : ℕ) → Case k events line (arm_on writes torn s)
   Starts : (s : ℕ) → k.on s ≡ false → Case k events line (start_plan k s)
+  Flashes : (dev : Option Name) → (s t : ℕ) → (choices : Choices) → Case k events line (flash_plan k dev s t choices)
+  Withdraws : (dev : Option Name) → (s t : ℕ) → Case k events line (withdraw_plan k dev s t)
+  Resyncs : (dev : Option Name) → (s t : ℕ) → (sequence : Option ℕ) → Case k events line (resync_plan k dev s t sequence)
+  Reverses : (dev : Option Name) → (s t : ℕ) → Case k events line (reverse_plan k dev s t)
+  Copies : (t : ℕ) → (most : Option ℕ) → Case k events line (copy_plan k t most)
 
 module _ (k : Control) (events : List Event) (line : ℕ) where
   abbrev Is : Plan → Type 0
@@ -76,6 +82,11 @@ module _ (k : Control) (events : List Event) (line : ℕ) where
   of-case (StopAfter name writes torn) = where-named (server_named k (name_bytes name)) (arm_on writes torn) (Arms writes torn)
   of-case (Start name) = where-named (server_named k (name_bytes name)) (start_on k) start-case
   of-case (Show v t) = where-none (show_refusal k v t) (show_done events line v t) (Shows v t)
+  of-case (MakeFlash devs s t nocopy persistent recorded inhibited sequence) = Flashes devs.dev s t _
+  of-case (RemoveFlash devs s t sequence) = Withdraws devs.dev s t
+  of-case (ResyncFlash devs s t nocopy persistent recorded inhibited sequence) = Resyncs devs.dev s t sequence
+  of-case (ReverseFlash devs s t tgtpprc sequence) = Reverses devs.dev s t
+  of-case (Copy t most) = Copies t most
   of-case _ = Says (Refused NotBuilt)
 
   step-case : (step : Step) → Is (step_plan k events line step)

@@ -1,20 +1,21 @@
--- A pending write comes to land: where its volume's server is on, it may.
-use Rattle.std.proofs.Common.{ℕ, ◌≡◌, refl, ap, sym, ◌∙◌, subst, Bool, true, false, cond, List, [], ◌∷◌, map, filter, Some, None}
-use Rattle.std.proofs.lemmas.Bool.{false_from_ne_true, eqb-true, ne_eqb}
+-- A pending write comes to land: where its volume's server is on and the volume is a place for it, it may.
+use Rattle.std.proofs.Common.{ℕ, ◌≡◌, refl, ap, sym, ◌∙◌, subst, Bool, true, false, cond, not, ◌&&◌, List, [], ◌∷◌, ◌++◌, map, filter, Option, Some, None}
+use Rattle.std.proofs.lemmas.Bool.{false_from_ne_true, eqb-true, ne_eqb, or_parts}
 use Rattle.std.specs.List.{find}
 use Rattle.dr_ids.specs.declared.refusal.Refusal.{Refusal}
+use Rattle.dr_model.specs.Layout.{Fields}
 use Rattle.dr_model.specs.Histories.{histories}
-use Rattle.dr_model.specs.Control.{Pending, World}
-use Rattle.dr_model.specs.Moves.{Land, is_write}
-use Rattle.dr_model.specs.Carry.{check, now}
-use Rattle.dr_model.specs.Plans.{is_running}
-use Rattle.dr_model.specs.Table.{table}
-use Rattle.dr_model.specs.Laws.{Sound, Waits, AllPending, Apart, source}
-use Rattle.dr_model.specs.Allowed.{Coming, May, MayAck, Runs}
-use Rattle.dr_laws.proofs.Sets.{false_true, none_some, no_source}
+use Rattle.dr_model.specs.Control.{Control, Pending, Volume, World}
+use Rattle.dr_model.specs.Moves.{Land, Overwrite, is_write}
+use Rattle.dr_model.specs.Carry.{Make, Drop, dropped, Pass, Do, Entry, check}
+use Rattle.dr_model.specs.Entries.{fields_at, is_running, is_open, is_settled, is_revertible, is_reversing, stands_in, copies_from, copy_first, keep_on, land_on, landing, drop_unless, check_or_drop}
+use Rattle.dr_model.specs.Laws.{Sound, Waits, AllPending, Apart}
+use Rattle.dr_model.specs.Allowed.{Coming, MayAck, Runs}
+use Rattle.dr_laws.proofs.Sets.{false_true, none_some, no_source, has_source, from_source}
 use Rattle.dr_laws.proofs.RowsAfter.{idle}
 use Rattle.dr_laws.proofs.KeepsQueue.{all-filter}
-use Rattle.dr_laws.proofs.KeepsSound.{Along, over, checked, moves}
+use Rattle.dr_laws.proofs.KeepsSound.{Along, Then, over, decides, checked}
+use Rattle.dr_laws.proofs.CopyFirst.{Still, from, from-copies, any-has, copy-first, copy-none}
 
 -- a pending write that was found by its number is the only one with it
 none-of : (n : ℕ) (ps : List Pending) → AllPending (λ q. q.w ≡ n → ⊥) ps → filter (is_write n) ps ≡ []
@@ -51,26 +52,96 @@ module _ (w : World) (s : Sound w) (p : Pending) (one : filter (is_write p.w) w.
   waits : Waits None w.control (histories w.events).write p
   waits = all-found _ p w.control.pending one s.queue.each
 
+  not_landed : Runs w p.volume → p.landed ≡ false
+  not_landed on = false_from_ne_true p.landed (λ l. false_true (waits.calm l refl) on)
+
+  unlanded : Runs w p.volume → AllPending (λ p. p.landed ≡ false) (filter (is_write p.w) w.control.pending)
+  unlanded on = subst (AllPending (λ p. p.landed ≡ false)) (sym one) (not_landed on, tt)
+
   may-ack : Runs w p.volume → MayAck w p.w p.volume p.track
   may-ack on = record {
     number = waits.number;
     volume = waits.volume;
     track = waits.track;
-    coming = subst (AllPending (Coming p.volume p.track)) (sym one) (record { volume = refl; track = refl; landed = false_from_ne_true p.landed (λ l. false_true (waits.calm l refl) on) }, tt);
+    coming = subst (AllPending (Coming p.volume p.track)) (sym one) (record { volume = refl; track = refl; landed = not_landed on }, tt);
     one = ap (map (λ (p : Pending). p.w)) one;
     idle = idle w p.volume s.queue on;
   }
 
-  -- no volume is a target yet
-  plain : (u : ℕ) → source (table w u) ≡ None
-  plain u = no_source _ _ (s.rows.structure.unrelated u)
+-- a check that drops the write where it doesn't pass
+dropped-checked : (w : World) (n : ℕ) (ok : Control → Bool) (r : Refusal) (ds : List Entry) → Sound w → AllPending (λ p. p.landed ≡ false) (filter (is_write n) w.control.pending) → ok (dropped w n).control ≡ ok w.control
+    → (ok w.control ≡ true → Along w ds) → Along w (check_or_drop n ok r ++ ds)
+dropped-checked w n ok r ds s unlanded same go = decides w (drop_unless n ok) (check ok r ∷ ds) _ refl (by (ok w.control) refl)
+  where
+    by : (b : Bool) → ok w.control ≡ b → Then w (cond b Pass (Do (Drop n))) (λ v. Along v (check ok r ∷ ds))
+    by true is = checked w ok r ds s go
+    by false is = (unlanded, λ f k. checked (dropped w n) ok r ds k (λ passed. false_true is (sym same ∙ passed)))
 
-  may-land : Runs w p.volume → May w (Land p.w p.volume p.track)
-  may-land on = record {
-    runs = on;
-    allowed = record { low = waits.low; defined = waits.defined; plain = plain p.volume; kept = record { own = λ u h. none_some (plain u) h } };
-    ready = may-ack on;
-  }
+-- what the checks tell
+both-not : (a b : Bool) → (not a && not b) ≡ true → (a ≡ false) × (b ≡ false)
+both-not true b h = absurd cc
+both-not false true h = absurd cc
+both-not false false h = (refl, refl)
 
-  pub lands : (off : Refusal) → Along w (check (is_running p.volume) off ∷ now (Land p.w p.volume p.track) ∷ [])
-  lands off = checked w (is_running p.volume) off _ s (λ on. moves w (Land p.w p.volume p.track) [] (may-land on) (λ f j. over _ j))
+pub and-false : (a b : Bool) → (a && b) ≡ false → a ≡ true → b ≡ false
+and-false true b h is = h
+and-false false b h is = absurd cc
+
+module _ (w : World) (s : Sound w) (p : Pending) (one : filter (is_write p.w) w.control.pending ≡ p ∷ []) where
+  abbrev v : ℕ
+  v = p.volume
+
+  abbrev f : Fields
+  f = fields_at w.control v
+
+  -- nothing is restored onto the volume, nor it onto another
+  module _ (settled : is_settled v w.control ≡ true) (on : Runs w v) where
+    calm : stands_in is_reversing w.control v ≡ false
+    calm = (both-not (stands_in is_revertible w.control v) (stands_in is_reversing w.control v) settled).1
+
+    none-restored : {P : Type 0} (u : ℕ) → from w u ≡ Some v → (fields_at w.control u).reversing ≡ true → P
+    none-restored u h r = false_true (or_parts (f.related && f.reversing) _ calm).1
+        (any-has (λ u. copies_from v (fields_at w.control u)) (λ u. (fields_at w.control u).reversing) u w.control.volumes (s.rows.structure.defined u (from_source _ _ v h).0) (from-copies v (fields_at w.control u) h) r)
+
+    -- on a volume that is no target, whose targets keep the track first
+    plain-lands : f.related ≡ false → Along w (copy_first w.control.volumes v p.track ++ land_on p.w v p.track ∷ [])
+    plain-lands is =
+        let plain : from w v ≡ None = no_source f.related f.source is in
+        copy-first v p.track w plain (waits w s p one).low on (keep_on v p.track) (λ w x st. refl) _
+        (λ k sk st kept.
+        let here = st.volume v plain in
+        let one_k : filter (is_write p.w) k.control.pending ≡ p ∷ [] = ap (filter (is_write p.w)) st.pending ∙ one in
+        let on_k : Runs k v = (λ i. st.on i (here i).server) ∙ on in
+        let waits_k = waits k sk p one_k in
+        let is_k : (fields_at k.control v).related ≡ false = ap (λ (x : Volume). x.fields.related) here ∙ is in
+        decides k (land_on p.w v p.track) [] (Do (Make (Land p.w v p.track))) (ap (λ b. Do (Make (cond b (Overwrite p.w v p.track) (Land p.w v p.track)))) is_k) (
+          record { runs = on_k; allowed = record { low = waits_k.low; defined = waits_k.defined; plain = no_source _ _ is_k; kept = kept }; fits = tt; ready = may-ack k sk p one_k on_k },
+          λ f j. over _ j,
+        ))
+        (λ u h r. none-restored u h r) s
+
+    -- on a target
+    target-lands : f.related ≡ true → Along w (copy_first w.control.volumes v p.track ++ land_on p.w v p.track ∷ [])
+    target-lands is =
+        let related : from w v ≡ Some f.source = has_source f.related f.source is in
+        copy-none w v p.track _ (λ u h. none_some (s.rows.structure.flash u v h).plain related)
+        (decides w (land_on p.w v p.track) [] (Do (Make (Overwrite p.w v p.track))) (ap (λ b. Do (Make (cond b (Overwrite p.w v p.track) (Land p.w v p.track)))) is) (
+          record {
+            runs = on;
+            allowed = record { low = (waits w s p one).low; from = f.source; related = related; forward = and-false f.related f.reversing (or_parts (f.related && f.reversing) _ calm).0 is };
+            fits = tt;
+            ready = may-ack w s p one on;
+          },
+          λ f j. over _ j,
+        )) w.control.volumes
+
+    lands-by : (b : Bool) → f.related ≡ b → Along w (copy_first w.control.volumes v p.track ++ land_on p.w v p.track ∷ [])
+    lands-by true is = target-lands is
+    lands-by false is = plain-lands is
+
+  pub lands : (k : Control) → k.volumes ≡ w.control.volumes → Along w (landing k p.w v p.track)
+  lands k volumes =
+      checked w (is_running v) _ _ s (λ on.
+      dropped-checked w p.w (is_open v) _ _ s (unlanded w s p one on) refl (λ open_to.
+      dropped-checked w p.w (is_settled v) _ _ s (unlanded w s p one on) refl (λ settled.
+      subst (λ vs. Along w (copy_first vs v p.track ++ land_on p.w v p.track ∷ [])) (sym volumes) (lands-by settled on f.related refl))))
