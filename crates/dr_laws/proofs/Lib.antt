@@ -15,6 +15,8 @@ pub mod KeepsSound
 pub mod Views
 pub mod CopyFirst
 pub mod Lands
+pub mod FitsFlash
+pub mod FitsCopy
 pub mod Issues
 pub mod Defines
 pub mod Starts

@@ -1,5 +1,5 @@
 -- Each step leaves a sound world, and so does each run.
-use Rattle.std.proofs.Common.{ℕ, ◌≡◌, ◌+◌, refl, ap, sym, ◌∙◌, subst, Bool, false, cond, List, [], ◌∷◌, ◌++◌, length, take, Option, Some, None, Result}
+use Rattle.std.proofs.Common.{ℕ, ◌≡◌, ◌+◌, refl, ap, sym, ◌∙◌, subst, Bool, false, cond, List, [], ◌∷◌, ◌++◌, length, take, Option, Some, None, Result, arith}
 use Rattle.std.proofs.lemmas.List.{append-nil}
 use Rattle.std.specs.List.{find}
 use Rattle.dr_ids.specs.Links.{joins}
@@ -9,7 +9,6 @@ use Rattle.dr_model.specs.declared.said.Said.{Said}
 use Rattle.dr_model.specs.declared.step.Step.{Step}
 use Rattle.dr_model.specs.Tables.{at}
 use Rattle.dr_model.specs.Answers.{answer}
-use Rattle.dr_model.specs.Refusals.{server_off}
 use Rattle.dr_model.specs.Contents.{image, image_at}
 use Rattle.dr_model.specs.Histories.{histories, after_event}
 use Rattle.dr_model.specs.Control.{Control, Pending, Fuse, World, nothing}
@@ -21,11 +20,14 @@ use Rattle.dr_model.specs.Table.{table}
 use Rattle.dr_model.specs.Laws.{SoundRows, Sound}
 use Rattle.dr_model.proofs.Images.{histories-append}
 use Rattle.dr_model.proofs.LawfulLemmas.{lawful-no_fields}
-use Rattle.dr_laws.proofs.Cases.{Case, Says, Defines, Adds, Links, Issues, Writes, Applies, Shows, Stops, Arms, Starts, IsTrack, plan-case, is-new, may-issue}
+use Rattle.dr_laws.proofs.Cases.{Case, Says, Defines, Adds, Links, Issues, Writes, Applies, Shows, Stops, Arms, Starts, Flashes, Withdraws, Resyncs, Reverses, Copies, IsTrack, plan-case, is-new, may-issue}
 use Rattle.dr_laws.proofs.KeepsQueue.{Quiet, AllQuiet, goes-off}
 use Rattle.dr_laws.proofs.KeepsSound.{StepHolds, RowsAt, MayDo, Along, holds-moves, keeps-sound, sound-told, over}
 use Rattle.dr_laws.proofs.Issues.{issued, sound-issued, one-new}
 use Rattle.dr_laws.proofs.Lands.{found-alone, lands}
+use Rattle.dr_laws.proofs.FitsFlash.{holds-flash, holds-withdraw, holds-resync, holds-reverse}
+use Rattle.dr_laws.proofs.FitsCopy.{holds-copy}
+use Rattle.dr_laws.proofs.Sets.{in_none}
 use Rattle.dr_laws.proofs.Defines.{sound-defined}
 use Rattle.dr_laws.proofs.Starts.{holds-start}
 use Rattle.dr_laws.proofs.Along as along
@@ -72,7 +74,7 @@ module _ (w : World) (s : Sound w) (v t offset len : ℕ) (bytes : List ℕ) (th
   holds-issue entries a = holds-moves w (issue_then entries w.control v t offset len bytes) begins a (λ q k i. over k i) (λ k i. i)
 
   holds-write : StepHolds w (write_done w.control v t offset len bytes)
-  holds-write = holds-issue _ (lands first begins new (one-new w s v t offset len bytes there.defined there.low) (server_off (w.control.volume v).server))
+  holds-write = holds-issue _ (lands first begins new (one-new w s v t offset len bytes there.defined there.low) w.control refl)
 
 -- a pending write is carried out
 module _ (w : World) (s : Sound w) (n : ℕ) (p : Pending) (found : find (is_write n) w.control.pending ≡ Some p) where
@@ -86,7 +88,7 @@ module _ (w : World) (s : Sound w) (n : ℕ) (p : Pending) (found : find (is_wri
   here-sound = subst Sound same-world s
 
   holds-apply : StepHolds w (apply_done w.control p)
-  holds-apply = holds-moves w (apply_done w.control p) here-sound (lands here here-sound p (found-alone n p w.control.pending found s.queue.apart) (server_off (w.control.volume p.volume).server)) (λ q k i. over k i) (λ k i. i)
+  holds-apply = holds-moves w (apply_done w.control p) here-sound (lands here here-sound p (found-alone n p w.control.pending found s.queue.apart) w.control refl) (λ q k i. over k i) (λ k i. i)
 
 -- whatever a step comes to
 module _ (w : World) (s : Sound w) (line : ℕ) where
@@ -107,6 +109,11 @@ module _ (w : World) (s : Sound w) (line : ℕ) where
       let f : Fuse = record { after = writes; torn = torn_bytes torn } in
       holds-quiet w (at w.control.fuse x (Some f)) w.control.link _ s (λ k. record k { fuse = at k.fuse x (Some f) }) refl
   case-holds _ (Starts x off) = holds-start x w s
+  case-holds _ (Flashes dev v t choices) = holds-flash w s dev v t choices
+  case-holds _ (Withdraws dev v t) = holds-withdraw w s dev v t
+  case-holds _ (Resyncs dev v t sequence) = holds-resync w s dev v t sequence
+  case-holds _ (Reverses dev v t) = holds-reverse w s dev v t
+  case-holds _ (Copies t most) = holds-copy w s t most
 
   pub step-holds : (asked : Result Step ℕ) → StepHolds w (plan w.control w.events line asked)
   step-holds asked = case-holds _ (plan-case w.control w.events line asked)
@@ -130,10 +137,16 @@ sound-nothing = record {
   rows = record {
     structure = record {
       lawful = λ v. lawful-no_fields 0;
-      unrelated = λ v. refl;
+      sets = λ v. record { apart = in_none _; noted_held = in_none _; rewritten_held = in_none _ };
+      flags = λ v. record { persists = λ h. absurd cc; records = λ h. absurd cc; unchanged = λ h. absurd cc; some = λ h. absurd cc };
+      defined = λ v h. absurd cc;
+      flash = λ v u h. absurd cc;
+      one_restore = λ v a b h. absurd cc;
     };
     images = record { blank = λ v t h. refl; fresh = λ v h t. refl; plain = λ v h t lt. refl; seen = λ v u h. absurd cc };
+    recorded = λ v u h. absurd cc;
   };
+  targets = record { once = tt; few = λ v. omega arith };
   queue = record { each = tt; apart = tt; lone = tt; numbers = record { now = λ v t. tt; aside = λ v t. tt } };
 }
 

@@ -1,18 +1,22 @@
 -- Where a step is refused because a server stopped, its acts told that stop, and the other way round.
-use Rattle.std.proofs.Common.{ℕ, ◌≡◌, ◌+◌, List, [], ◌∷◌, ◌++◌, refl, ap, ◌∙◌, sym, append_assoc, Bool, true, false, cond, map, Option, Some, None, Result}
+use Rattle.std.proofs.Common.{ℕ, zero, suc, ◌≡◌, ◌+◌, not, ◌&&◌, List, [], ◌∷◌, ◌++◌, refl, ap, ◌∙◌, sym, append_assoc, Bool, true, false, cond, map, Option, Some, None, Result}
 use Rattle.std.proofs.lemmas.List.{append-nil}
 use Rattle.std.specs.Option.{option_or}
+use Rattle.std.specs.FinSet.{contains}
 use Rattle.dr_ids.specs.declared.refusal.Refusal.{Refusal}
 use Rattle.dr_model.specs.declared.event.Event.{Event}
-use Rattle.dr_model.specs.declared.event.Event.TheVariants.{Ack, Stopped}
+use Rattle.dr_model.specs.declared.event.Event.TheVariants.{Ack, Blanked, Restored, Stopped}
+use Rattle.dr_model.specs.declared.step.Name.{Name}
 use Rattle.dr_model.specs.declared.step.Step.{Step}
-use Rattle.dr_model.specs.Refusals.{server_off}
 use Rattle.dr_model.specs.Control.{Control, Fuse, Volume as VolumeRow, World}
-use Rattle.dr_model.specs.Moves.{Move, Land, told, told_in_stop, landed, target}
-use Rattle.dr_model.specs.Carry.{Act, Make, Redo, Acknowledge, act, Turn, Next, Pass, Do, End, Entry, Outcome, carry, continue, go}
-use Rattle.dr_model.specs.Plans.{Plan, plan, landing, is_running, redo_on, acknowledge_on, acknowledge_if, landed_on, belongs}
+use Rattle.dr_model.specs.Layout.{Tracks, Fields}
+use Rattle.dr_model.specs.Relations.{is_bare, in_order, rest}
+use Rattle.dr_model.specs.Moves.{Move, Land, Overwrite, Keep, Note, Relate, Withdraw, Fetch, Resync, Reverse, Restore, Release, told_blank, told_restored, told, told_in_stop, landed, target}
+use Rattle.dr_model.specs.Carry.{Act, Make, Redo, Acknowledge, Drop, check, now, act, Turn, Next, Pass, Do, End, Entry, Outcome, carry, continue, go}
+use Rattle.dr_model.specs.Entries.{fields_at, copies_from, is_running, is_open, is_settled, relation_state, landing, land_on, keep_on, keep_if, copy_first, drop_unless, check_or_drop, times, on_found, lowest_missing, lowest_held, fetch_next, for_lowest, give_back}
+use Rattle.dr_model.specs.Plans.{Plan, plan, redo_on, acknowledge_on, acknowledge_if, landed_on, belongs, named_pair, is_defined, is_owner, differ, share_server, share_size, is_no_target, is_no_source, has_few_targets, is_plain_target, is_recorded_target, is_lone_restore, may_copy, at_most, left_to_copy}
 use Rattle.dr_laws.specs.Stops.{first_stop, stop_in, refused_stop, StopsTold}
-use Rattle.dr_laws.proofs.Cases.{Case, Says, Defines, Adds, Links, Issues, Writes, Applies, Shows, Stops, Arms, Starts, plan-case}
+use Rattle.dr_laws.proofs.Cases.{Case, Says, Defines, Adds, Links, Issues, Writes, Applies, Shows, Stops, Arms, Starts, Flashes, Withdraws, Resyncs, Reverses, Copies, plan-case}
 use Rattle.dr_laws.proofs.Turns.{act-cases, Counts, after_act, server_of}
 
 first-append : (es fs : List Event) → first_stop (es ++ fs) ≡ option_or (first_stop es) (first_stop fs)
@@ -24,30 +28,70 @@ first-append (e ∷ es) fs = ap (λ o. option_or (stop_in e) o) (first-append es
     grouped (Some x) b c = refl
 
 -- what a move tells is no stop
+blanks-calm : (v : ℕ) (ts : List ℕ) → first_stop (map (Blanked v) ts) ≡ None
+blanks-calm v [] = refl
+blanks-calm v (t ∷ ts) = blanks-calm v ts
+
+restored-calm : (v s n : ℕ) (own : Tracks) → first_stop (told_restored v s n own) ≡ None
+restored-calm v s n own = by (is_bare own)
+  where
+    by : (b : Bool) → first_stop (cond b (told_blank v n own ++ Restored s v ∷ []) []) ≡ None
+    by true = first-append (told_blank v n own) (Restored s v ∷ []) ∙ ap (λ o. option_or o None) (blanks-calm v (in_order n (rest n own)))
+    by false = refl
+
 told-calm : (m : Move) (u : VolumeRow) → first_stop (told m u) ≡ None
 told-calm (Land n v t) u = refl
+told-calm (Overwrite n v t) u = refl
+told-calm (Keep v t) u = refl
+told-calm (Note v t) u = refl
+told-calm (Relate v s choices) u = refl
+told-calm (Withdraw v) u = blanks-calm v (in_order u.tracks (rest u.tracks u.fields.own))
+told-calm (Fetch v t) u = refl
+told-calm (Resync v sequence) u = refl
+told-calm (Reverse v) u = restored-calm v _ _ _
+told-calm (Restore v t from) u = refl
+told-calm (Release v t) u = restored-calm v _ _ _
+
+-- and the stop that it tells is the first
+in_stop-calm : (m : Move) (u : VolumeRow) → first_stop (told_in_stop m u) ≡ None
+in_stop-calm (Land n v t) u = refl
+in_stop-calm (Overwrite n v t) u = refl
+in_stop-calm m u = told-calm m u
 
 stop-told : (m : Move) (u : VolumeRow) → first_stop (told_in_stop m u ++ Stopped u.server (landed m) ∷ []) ≡ Some u.server
-stop-told (Land n v t) u = refl
+stop-told m u = first-append (told_in_stop m u) (Stopped u.server (landed m) ∷ []) ∙ ap (λ o. option_or o (Some u.server)) (in_stop-calm m u)
 
 done-tells : (w : World) (a : Act) (f : Option Fuse) → StopsTold w (after_act w a f) None
 done-tells w (Make m) f = record { events = told m (w.control.volume (target m)); told = refl; tells = told-calm m _ }
 done-tells w (Redo v) f = record { events = []; told = sym (append-nil w.events); tells = refl }
 done-tells w (Acknowledge n) f = record { events = Ack n ∷ []; told = refl; tells = refl }
+done-tells w (Drop n) f = record { events = []; told = sym (append-nil w.events); tells = refl }
 
 counts-tells : (w : World) (a : Act) → Counts w a (λ t. StopsTold w t.0 t.1)
 counts-tells w (Make m) = λ f. let u : VolumeRow = w.control.volume (target m) in record { events = told_in_stop m u ++ Stopped u.server (landed m) ∷ []; told = refl; tells = stop-told m u }
 counts-tells w (Redo v) = tt
 counts-tells w (Acknowledge n) = tt
+counts-tells w (Drop n) = tt
 
 act-tells : (w : World) (a : Act) → StopsTold w (act w a).0 (act w a).1
 act-tells w a = act-cases w a (λ t. StopsTold w t.0 t.1) (λ d off. record { events = []; told = sym (append-nil w.events); tells = refl })
     (done-tells w a) (counts-tells w a) (λ d f. record { events = Stopped (server_of w a) 0 ∷ []; told = refl; tells = refl })
 
 -- entries that end a plan with other refusals than a stop
-abbrev pub Unstopped : List Entry → Type 0
+abbrev pub Calm : Entry → Type 0
+Calm d = (k : Control) (r : Refusal) → d k ≡ End r → refused_stop (Some r) ≡ None
+
+unfoldable pub Unstopped : List Entry → Type 0
 Unstopped [] = Unit {0}
-Unstopped (d ∷ ds) = ((k : Control) (r : Refusal) → d k ≡ End r → refused_stop (Some r) ≡ None) × Unstopped ds
+Unstopped (d ∷ ds) = Calm d × Unstopped ds
+
+none-calm : Unstopped []
+unfolding Unstopped
+none-calm = tt
+
+then-calm : (d : Entry) (ds : List Entry) → Calm d → Unstopped ds → Unstopped (d ∷ ds)
+unfolding Unstopped
+then-calm d ds first rest = (first, rest)
 
 tells-then : (w v u : World) (stop : Option ℕ) → StopsTold w v None → StopsTold v u stop → StopsTold w u stop
 tells-then w v u stop a b = record {
@@ -68,42 +112,118 @@ go-tells w (End r) next other rest = record { events = []; told = sym (append-ni
 go-tells w (Do a) next other rest = continue-tells w (act w a) next (act-tells w a) rest
 
 pub carry-tells : (w : World) (ds : List Entry) → Unstopped ds → StopsTold w (carry w ds).0 (refused_stop (carry w ds).1)
-unfolding carry
+unfolding carry Unstopped
 carry-tells w [] calm = record { events = []; told = sym (append-nil w.events); tells = refl }
 carry-tells w (d ∷ ds) calm = go-tells w (d w.control) (λ v. carry v ds) (calm.0 w.control) (λ v. carry-tells v ds calm.1)
 
 -- the entries of every step are such
-check-calm : (b : Bool) (s : ℕ) (r : Refusal) → cond b Pass (End (server_off s)) ≡ End r → refused_stop (Some r) ≡ None
-check-calm true s r e = absurd cc
-check-calm false s r e = let is : server_off s ≡ r = cc in ap (λ r. refused_stop (Some r)) (sym is)
+check-by : (b : Bool) (other r : Refusal) → refused_stop (Some other) ≡ None → cond b Pass (End other) ≡ End r → refused_stop (Some r) ≡ None
+check-by true other r calm e = absurd cc
+check-by false other r calm e = let is : other ≡ r = cc in ap (λ r. refused_stop (Some r)) (sym is) ∙ calm
 
-redo-calm : (b : Bool) (v : ℕ) (r : Refusal) → cond b (Do (Redo v)) Pass ≡ End r → refused_stop (Some r) ≡ None
-redo-calm true v r e = absurd cc
-redo-calm false v r e = absurd cc
+checked-calm : (ok : Control → Bool) (other : Refusal) (ds : List Entry) → refused_stop (Some other) ≡ None → Unstopped ds → Unstopped (check ok other ∷ ds)
+checked-calm ok other ds calm rest = then-calm (check ok other) ds (λ k r e. check-by (ok k) other r calm e) rest
 
-acknowledge-calm : (o : Option ℕ) (r : Refusal) → acknowledge_if o ≡ End r → refused_stop (Some r) ≡ None
-acknowledge-calm None r e = absurd cc
-acknowledge-calm (Some n) r e = absurd cc
+-- what ends no plan
+abbrev Goes : Next → Type 0
+Goes x = (r : Refusal) → x ≡ End r → ⊥
+
+goes-calm : (d : Entry) → ((k : Control) → Goes (d k)) → Calm d
+goes-calm d goes k r e = absurd (goes k r e)
+
+pass-goes : Goes Pass
+pass-goes r e = cc
+
+do-goes : (a : Act) → Goes (Do a)
+do-goes a r e = cc
+
+choice-goes : (b : Bool) (x y : Next) → Goes x → Goes y → Goes (cond b x y)
+choice-goes true x y p q = p
+choice-goes false x y p q = q
+
+found-goes : (o : Option ℕ) (d : ℕ → Entry) (k : Control) → ((t : ℕ) → Goes (d t k)) → Goes (on_found o d k)
+found-goes None d k goes = pass-goes
+found-goes (Some t) d k goes = goes t
+
+keep-goes : (v t u : ℕ) (k : Control) → Goes (keep_on v t u k)
+keep-goes v t u k =
+    let f : Fields = fields_at k u in
+    choice-goes (copies_from v f && not f.reversing) (keep_if f u t) Pass
+    (choice-goes (not (contains f.own t)) (Do (Make (Keep u t))) _ (do-goes _) (choice-goes (f.recorded && not (contains f.source_changes t)) (Do (Make (Note u t))) Pass (do-goes _) pass-goes)) pass-goes
+
+acknowledge-goes : (o : Option ℕ) → Goes (acknowledge_if o)
+acknowledge-goes None = pass-goes
+acknowledge-goes (Some n) = do-goes (Acknowledge n)
+
+last-calm : (d : Entry) → ((k : Control) → Goes (d k)) → Unstopped (d ∷ [])
+last-calm d goes = then-calm d [] (goes-calm d goes) none-calm
+
+append-calm : (ds es : List Entry) → Unstopped ds → Unstopped es → Unstopped (ds ++ es)
+unfolding Unstopped
+append-calm [] es p q = q
+append-calm (d ∷ ds) es p q = (p.0, append-calm ds es p.1 q)
+
+map-calm : (entry : ℕ → Entry) → ((u : ℕ) (k : Control) → Goes (entry u k)) → (us : List ℕ) → Unstopped (map entry us)
+map-calm entry goes [] = none-calm
+map-calm entry goes (u ∷ us) = then-calm (entry u) _ (goes-calm (entry u) (goes u)) (map-calm entry goes us)
+
+times-calm : (n : ℕ) (ds : List Entry) → Unstopped ds → Unstopped (times n ds)
+times-calm zero ds p = none-calm
+times-calm (suc n) ds p = append-calm ds (times n ds) p (times-calm n ds p)
 
 start-calm : (s : ℕ) (vs : List ℕ) → Unstopped (map (redo_on s) vs ++ acknowledge_on s ∷ [])
-start-calm s [] = ((λ k r e. acknowledge-calm (landed_on k s) r e), tt)
-start-calm s (v ∷ vs) = ((λ k r e. redo-calm (belongs k s v) v r e), start-calm s vs)
+start-calm s vs =
+    append-calm (map (redo_on s) vs) _ (map-calm (redo_on s) (λ v k. choice-goes (belongs k s v) (Do (Redo v)) Pass (do-goes _) pass-goes) vs)
+    (last-calm (acknowledge_on s) (λ k. acknowledge-goes (landed_on k s)))
+
+drop-calm : (n : ℕ) (ok : Control → Bool) (other : Refusal) (ds : List Entry) → refused_stop (Some other) ≡ None → Unstopped ds → Unstopped (check_or_drop n ok other ++ ds)
+drop-calm n ok other ds calm rest = then-calm (drop_unless n ok) _ (goes-calm (drop_unless n ok) (λ k. choice-goes (ok k) Pass (Do (Drop n)) pass-goes (do-goes _))) (checked-calm ok other ds calm rest)
 
 landing-calm : (k : Control) (n v t : ℕ) → Unstopped (landing k n v t)
-landing-calm k n v t = ((λ j r e. check-calm (is_running v j) (k.volume v).server r e), ((λ j r e. absurd cc), tt))
+landing-calm k n v t =
+    checked-calm (is_running v) _ _ refl (drop-calm n (is_open v) _ _ refl (drop-calm n (is_settled v) (relation_state k v) _ refl
+    (append-calm (copy_first k.volumes v t) _ (map-calm (keep_on v t) (keep-goes v t) k.volumes) (last-calm (land_on n v t) (λ j. do-goes _)))))
+
+named-calm : (k : Control) (dev : Option Name) (s t : ℕ) (ds : List Entry) → Unstopped ds → Unstopped (named_pair k dev s t ++ ds)
+named-calm k dev s t ds rest = checked-calm (is_defined s) _ _ refl (checked-calm (is_defined t) _ _ refl (checked-calm (is_owner dev s) _ _ refl (checked-calm (is_running s) _ _ refl rest)))
+
+now-calm : (m : Move) → Unstopped (now m ∷ [])
+now-calm m = last-calm (now m) (λ k. do-goes (Make m))
+
+lowest-goes : (v : ℕ) (d : ℕ → Entry) → ((t : ℕ) (k : Control) → Goes (d t k)) → (k : Control) → Goes (for_lowest v d k)
+lowest-goes v d goes k = found-goes (lowest_held v k) d k (λ t. goes t k)
+
+copy-calm : (k : Control) (t : ℕ) (b : Bool) → Unstopped (cond b (give_back k.volumes (fields_at k t).source t) (fetch_next t ∷ []))
+copy-calm k t true =
+    let s : ℕ = (fields_at k t).source in
+    append-calm (map (λ u. for_lowest t (λ q. keep_on s q u)) k.volumes) _ (map-calm _ (λ u. lowest-goes t (λ q. keep_on s q u) (λ q. keep-goes s q u)) k.volumes)
+    (then-calm _ _ (goes-calm (for_lowest t (λ q. now (Restore s q t))) (lowest-goes t (λ q. now (Restore s q t)) (λ q k. do-goes _)))
+    (last-calm (for_lowest t (λ q. now (Release t q))) (lowest-goes t (λ q. now (Release t q)) (λ q k. do-goes _))))
+copy-calm k t false = last-calm (fetch_next t) (λ j. found-goes (lowest_missing t j) (λ q. now (Fetch t q)) j (λ q. do-goes _))
 
 case-calm : (k : Control) (events : List Event) (line : ℕ) (p : Plan) → Case k events line p → Unstopped p.entries
 case-calm k events line _ (Writes v t offset len bytes free) = landing-calm k (k.issued + 1) v t
 case-calm k events line _ (Applies n p found) = landing-calm k p.w p.volume p.track
 case-calm k events line _ (Starts s off) = start-calm s k.volumes
-case-calm k events line _ (Says a) = tt
-case-calm k events line _ (Defines name free) = tt
-case-calm k events line _ (Adds v s tracks free) = tt
-case-calm k events line _ (Links a b up) = tt
-case-calm k events line _ (Issues v t offset len bytes free) = tt
-case-calm k events line _ (Shows v t there) = tt
-case-calm k events line _ (Stops s on) = tt
-case-calm k events line _ (Arms writes torn s) = tt
+case-calm k events line _ (Says a) = none-calm
+case-calm k events line _ (Defines name free) = none-calm
+case-calm k events line _ (Adds v s tracks free) = none-calm
+case-calm k events line _ (Links a b up) = none-calm
+case-calm k events line _ (Issues v t offset len bytes free) = none-calm
+case-calm k events line _ (Shows v t there) = none-calm
+case-calm k events line _ (Stops s on) = none-calm
+case-calm k events line _ (Arms writes torn s) = none-calm
+case-calm k events line _ (Flashes dev s t choices) = named-calm k dev s t _
+    (checked-calm (differ s t) _ _ refl (checked-calm (share_server s t) _ _ refl (checked-calm (share_size s t) _ _ refl
+    (checked-calm (is_no_target t) (relation_state k t) _ refl (checked-calm (is_no_source t) (relation_state k t) _ refl (checked-calm (is_no_target s) (relation_state k s) _ refl
+    (checked-calm (has_few_targets s) _ _ refl (now-calm (Relate t s choices)))))))))
+case-calm k events line _ (Withdraws dev s t) = named-calm k dev s t _ (checked-calm (is_plain_target s t) (relation_state k t) _ refl (now-calm (Withdraw t)))
+case-calm k events line _ (Resyncs dev s t sequence) = named-calm k dev s t _ (checked-calm (is_recorded_target s t) (relation_state k t) _ refl (now-calm (Resync t sequence)))
+case-calm k events line _ (Reverses dev s t) =
+    named-calm k dev s t _ (checked-calm (is_recorded_target s t) (relation_state k t) _ refl (checked-calm (is_lone_restore s t) (relation_state k s) _ refl (now-calm (Reverse t))))
+case-calm k events line _ (Copies t most) =
+    checked-calm (is_defined t) _ _ refl (checked-calm (is_running t) _ _ refl (checked-calm (may_copy t) (relation_state k t) _ refl
+    (times-calm (at_most most (left_to_copy k t)) _ (copy-calm k t (fields_at k t).reversing))))
 
 pub plan-calm : (k : Control) (events : List Event) (line : ℕ) (asked : Result Step ℕ) → Unstopped (plan k events line asked).entries
 plan-calm k events line asked = case-calm k events line _ (plan-case k events line asked)
