@@ -25,7 +25,7 @@ kept-by false true x ys zs h le = omega arith
 kept-by false false x ys zs h le = le
 
 module _ (p q : ℕ → Bool) where
-  fewer : ((u : ℕ) → p u ≡ true → q u ≡ true) → (xs : List ℕ) → length (filter p xs) ≤ length (filter q xs)
+  pub fewer : ((u : ℕ) → p u ≡ true → q u ≡ true) → (xs : List ℕ) → length (filter p xs) ≤ length (filter q xs)
   fewer h [] = omega arith
   fewer h (x ∷ xs) = kept-by (p x) (q x) x (filter p xs) (filter q xs) (h x) (fewer h xs)
 
@@ -57,7 +57,7 @@ module _ (p q : ℕ → Bool) where
     ]
 
 -- a relationship that stands still stood
-parted-copies : (e related : Bool) (o v : ℕ) → (cond e false related && nat_eq (cond e 0 o) v) ≡ true → (related && nat_eq o v) ≡ true
+pub parted-copies : (e related : Bool) (o v : ℕ) → (cond e false related && nat_eq (cond e 0 o) v) ≡ true → (related && nat_eq o v) ≡ true
 parted-copies true related o v h = absurd cc
 parted-copies false related o v h = h
 

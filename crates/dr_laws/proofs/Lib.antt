@@ -22,6 +22,8 @@ pub mod Defines
 pub mod Starts
 pub mod Steps
 pub mod Journal
+pub mod Costs
+pub mod CopyCosts
 pub mod Limits
 pub mod Texts
 pub mod Agree
