@@ -17,7 +17,7 @@ use Rattle.dr_laws.proofs.Turns.{act-cases, Counts, after_act, server_of, done}
 -- no more tracks stand in order than a volume has
 filter-shorter : (f : ℕ → Bool) (xs : List ℕ) → length (filter f xs) ≤ length xs
 filter-shorter f [] = omega arith
-filter-shorter f (x ∷ xs) = by (f x) (filter-shorter f xs)
+filter-shorter f (x ∷ xs) = let le : length (cond (f x) (x ∷ filter f xs) (filter f xs)) ≤ length xs + 1 = by (f x) (filter-shorter f xs) in omega arith
   where
     by : (b : Bool) → length (filter f xs) ≤ length xs → length (cond b (x ∷ filter f xs) (filter f xs)) ≤ length xs + 1
     by true le = omega arith

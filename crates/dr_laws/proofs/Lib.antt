@@ -24,6 +24,7 @@ pub mod Steps
 pub mod Journal
 pub mod Costs
 pub mod CopyCosts
+pub mod Spends
 pub mod Limits
 pub mod Texts
 pub mod Agree
