@@ -1,6 +1,6 @@
 -- What the background copy and the restore of a target tell: a restore tells of each track what is kept of it, at most 12
 -- times, and that it came back; and at its end of each track, and that it ended.
-use Rattle.std.proofs.Common.{ℕ, zero, suc, ◌≡◌, ◌≢◌, ◌≤◌, ◌<◌, ◌+◌, ◌*◌, List, [], ◌∷◌, ◌++◌, append_assoc, length, map, filter, refl, ap, sym, ◌∙◌, subst, arith, Bool, true, false, cond, not, ◌&&◌, ◌||◌, nat_eq, Option, Some, None}
+use Rattle.std.proofs.Common.{ℕ, zero, suc, ◌≡◌, ◌≢◌, ◌≤◌, ◌+◌, ◌*◌, List, [], ◌∷◌, ◌++◌, append_assoc, length, map, filter, refl, ap, sym, ◌∙◌, subst, arith, Bool, true, false, cond, not, ◌&&◌, Option, Some, None}
 use Rattle.std.specs.FinSet.{contains, empty, insert}
 use Rattle.dr_model.specs.declared.event.Event.TheVariants.{Restored}
 use Rattle.dr_model.specs.Tables.{at}
@@ -8,9 +8,9 @@ use Rattle.dr_model.specs.Layout.{Tracks, Fields}
 use Rattle.dr_model.specs.Limits.{most_targets, most_tracks}
 use Rattle.dr_model.specs.Relations.{lowest, is_bare, is_whole, given_up}
 use Rattle.dr_model.specs.Control.{Fuse, Volume, World}
-use Rattle.dr_model.specs.Moves.{Move, Keep, Note, Restore, Release, Fetch, target, fields_left, moved, told, told_restored, told_blank}
-use Rattle.dr_model.specs.Carry.{Make, Next, Pass, Do, Entry, now}
-use Rattle.dr_model.specs.Entries.{fields_at, copies_from, keep_on, keep_if, times, on_found, lowest_held, for_lowest, give_back}
+use Rattle.dr_model.specs.Moves.{Move, Keep, Note, Restore, Release, target, fields_left, moved, told_blank}
+use Rattle.dr_model.specs.Carry.{Make, Pass, Do, Entry, now}
+use Rattle.dr_model.specs.Entries.{fields_at, copies_from, keep_on, times, on_found, lowest_held, for_lowest, give_back}
 use Rattle.dr_model.proofs.Images.{at_same, at_other}
 use Rattle.dr_laws.proofs.AtLemmas.{at_cases, at_part}
 use Rattle.dr_laws.proofs.Sets.{false_true}
@@ -73,8 +73,7 @@ module _ (volumes : List ℕ) (v s : ℕ) where
     keep-by x us next w live is true false false nt ir ig zero b cnt le = absurd (omega arith)
     keep-by x us next w live is true false false nt ir ig (suc c) b cnt le =
         let ne : v ≢ x = λ e. false_true ir (ap (λ j. (fields_at w.control j).reversing) (sym e) ∙ live.reversing) in
-        let u : Volume = w.control.volume x in
-        (
+        let u : Volume = w.control.volume x in (
           next (suc c) b w (omega arith) le live is,
           (c + m, ((omega arith), λ f. moved-on us next (Keep x t) w c (c + m) (omega arith) (omega arith) live is ne (parted-copies (is_whole u.tracks (insert u.fields.own t) && not u.fields.persistent) u.fields.related u.fields.source s) f)),
         )
@@ -94,21 +93,32 @@ module _ (volumes : List ℕ) (v s : ℕ) where
         let own : Tracks = (given_up (fields_at w.control v) t).own in
         let n : ℕ = (w.control.volume v).tracks in
         let few = restored-by true v (fields_at w.control v).source n own in
-        let small : n ≤ most_tracks = live.small in
-        (0, ((omega arith), λ f. over (done w (Release v t) f)
-            (ap (λ (x : Volume). lowest x.tracks x.fields.own) (at_same w.control.volume v (moved (w.control.volume v) (fields_left (Release v t) (w.control.volume v)) (carried_in w (Release v t))))
-            ∙ ap (λ (e : Bool). lowest n (cond e empty own)) is ∙ lowest-none n)))
-    release-by w live false is b le = (b, ((omega arith), λ f.
-        let k : World = done w (Release v t) f in
-        let here : k.control.volume v ≡ moved (w.control.volume v) (fields_left (Release v t) (w.control.volume v)) (carried_in w (Release v t)) = at_same w.control.volume v _ in
-        let u : Volume = w.control.volume v in
-        let few_all : count k volumes ≤ count w volumes = copies-after w (Release v t) _ (parted-copies (is_bare (given_up u.fields t).own) u.fields.related u.fields.source s) volumes in
-        let few : count w volumes ≤ most_targets = live.few in
-        next b le k (record {
-          reversing = ap (λ (x : Volume). x.fields.reversing) here ∙ ap (λ (e : Bool). cond e false u.fields.reversing) is ∙ live.reversing;
-          small = subst (λ (x : Volume). x.tracks ≤ most_tracks) (sym here) live.small;
-          few = omega arith;
-        })))
+        let small : n ≤ most_tracks = live.small in (
+          0,
+          (
+            (omega arith),
+            λ f. over (done w (Release v t) f)
+                (ap (λ (x : Volume). lowest x.tracks x.fields.own) (at_same w.control.volume v (moved (w.control.volume v) (fields_left (Release v t) (w.control.volume v)) (carried_in w (Release v t))))
+                ∙ ap (λ (e : Bool). lowest n (cond e empty own)) is ∙ lowest-none n),
+          ),
+        )
+    release-by w live false is b le = (
+      b,
+      (
+        (omega arith),
+        λ f.
+            let k : World = done w (Release v t) f in
+            let here : k.control.volume v ≡ moved (w.control.volume v) (fields_left (Release v t) (w.control.volume v)) (carried_in w (Release v t)) = at_same w.control.volume v _ in
+            let u : Volume = w.control.volume v in
+            let few_all : count k volumes ≤ count w volumes = copies-after w (Release v t) _ (parted-copies (is_bare (given_up u.fields t).own) u.fields.related u.fields.source s) volumes in
+            let few : count w volumes ≤ most_targets = live.few in
+            next b le k (record {
+              reversing = ap (λ (x : Volume). x.fields.reversing) here ∙ ap (λ (e : Bool). cond e false u.fields.reversing) is ∙ live.reversing;
+              small = subst (λ (x : Volume). x.tracks ≤ most_tracks) (sym here) live.small;
+              few = omega arith;
+            }),
+      ),
+    )
 
     release : (b : ℕ) → p ≤ b → (w : World) → Live w → lowest_held v w.control ≡ Some t → Costs b w (for_lowest v (λ t. now (Release v t)) ∷ more)
     release b le w live is =
@@ -120,15 +130,21 @@ module _ (volumes : List ℕ) (v s : ℕ) where
         let y : Volume = moved (w.control.volume s) (fields_left m (w.control.volume s)) (carried_in w m) in
         costs-entry b w (for_lowest v (λ t. now (Restore s t v))) _ (Do (Make m)) (ap (λ o. on_found o (λ t. now (Restore s t v)) w.control) is) (
           release b (omega arith) w live is,
-          (p, ((omega arith), λ f.
-          let k : World = done w m f in
-          let few_all : count k volumes ≤ count w volumes = copies-after w m y (λ h. h) volumes in
-          let few : count w volumes ≤ most_targets = live.few in
-          release p (omega arith) k (record {
-            reversing = at_part (λ (x : Volume). x.fields.reversing) w.control.volume s y refl v ∙ live.reversing;
-            small = subst (λ n. n ≤ most_tracks) (sym (at_part (λ (x : Volume). x.tracks) w.control.volume s y refl v)) live.small;
-            few = omega arith;
-          }) (at_part (λ (x : Volume). lowest x.tracks x.fields.own) w.control.volume s y refl v ∙ is))),
+          (
+            p,
+            (
+              (omega arith),
+              λ f.
+                  let k : World = done w m f in
+                  let few_all : count k volumes ≤ count w volumes = copies-after w m y (λ h. h) volumes in
+                  let few : count w volumes ≤ most_targets = live.few in
+                  release p (omega arith) k (record {
+                    reversing = at_part (λ (x : Volume). x.fields.reversing) w.control.volume s y refl v ∙ live.reversing;
+                    small = subst (λ n. n ≤ most_tracks) (sym (at_part (λ (x : Volume). x.tracks) w.control.volume s y refl v)) live.small;
+                    few = omega arith;
+                  }) (at_part (λ (x : Volume). lowest x.tracks x.fields.own) w.control.volume s y refl v ∙ is),
+            ),
+          ),
         )
 
   -- nothing is left

@@ -1,5 +1,5 @@
 -- How many events entries tell: each act costs what it tells, where it comes; a stop tells one more.
-use Rattle.std.proofs.Common.{ℕ, zero, suc, ◌≡◌, ◌≤◌, ◌<◌, ◌+◌, List, [], ◌∷◌, ◌++◌, length, map, filter, refl, ap, sym, ◌∙◌, subst, arith, Bool, true, false, cond, Option, Some, None}
+use Rattle.std.proofs.Common.{ℕ, zero, suc, ◌≡◌, ◌≤◌, ◌+◌, List, [], ◌∷◌, ◌++◌, length, map, filter, refl, sym, subst, arith, Bool, true, false, cond, Option}
 use Rattle.std.proofs.lemmas.List.{length-append, length-map}
 use Rattle.std.proofs.lemmas.List.FromFn.{length-range_with_len}
 use Rattle.std.specs.List.{range_with_len}
@@ -11,7 +11,7 @@ use Rattle.dr_model.specs.Layout.{Tracks}
 use Rattle.dr_model.specs.Relations.{rest, in_order, is_bare}
 use Rattle.dr_model.specs.Control.{Control, Fuse, Volume, World}
 use Rattle.dr_model.specs.Moves.{Move, Land, Overwrite, target, told, told_in_stop, told_blank, told_restored, landed}
-use Rattle.dr_model.specs.Carry.{Act, Make, Redo, Acknowledge, Drop, Turn, Next, Pass, Do, End, Entry, Outcome, act, carry, continue, go, check, now}
+use Rattle.dr_model.specs.Carry.{Act, Make, Redo, Acknowledge, Drop, Next, Pass, Do, End, Entry, Outcome, carry, continue, go, check, now}
 use Rattle.dr_laws.proofs.Turns.{act-cases, Counts, after_act, server_of, done}
 
 -- no more tracks stand in order than a volume has

@@ -326,5 +326,5 @@ after_task-longer w t =
     let ends : EndsAnswered w t.line (after_task w t) = after_task-ends w t in
     let last : List Event = answer t.line ends.says ∷ [] in
     let is : length (after_task w t).events ≡ length w.events + length ends.before + 1 =
-        ap length ends.events ∙ length-append (w.events ++ ends.before) last ∙ ap (λ n. n + 1) (length-append w.events ends.before) in
+    ap length ends.events ∙ length-append (w.events ++ ends.before) last ∙ ap (λ n. n + 1) (length-append w.events ends.before) in
     omega arith

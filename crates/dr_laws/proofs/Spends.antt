@@ -1,7 +1,6 @@
 -- What each step tells: with its answer it is no more than a step has room for.
-use Rattle.std.proofs.Common.{ℕ, zero, suc, ◌≡◌, ◌≢◌, ◌≤◌, ◌<◌, ◌+◌, ◌-◌, ◌*◌, List, [], ◌∷◌, ◌++◌, length, map, refl, ap, sym, ◌∙◌, subst, arith, Bool, true, false, cond, not, ◌&&◌, Option, Some, None, Result}
+use Rattle.std.proofs.Common.{ℕ, zero, suc, ◌≡◌, ◌≢◌, ◌≤◌, ◌<◌, ◌+◌, ◌-◌, List, [], ◌∷◌, ◌++◌, length, map, refl, ap, sym, ◌∙◌, arith, Bool, true, false, cond, not, ◌&&◌, Option, Some, None, Result}
 use Rattle.std.proofs.lemmas.List.{length-append, length-map}
-use Rattle.std.proofs.lemmas.Bool.{and_parts}
 use Rattle.std.proofs.Math.Nat.{min-le_right}
 use Rattle.std.specs.Cmp.{nat_cmp_total}
 use Rattle.std.specs.FinSet.{contains, remove, empty, len, len-empty, len-remove, same_set, nat_cmp-IsAntisymmetric}
@@ -12,22 +11,21 @@ use Rattle.dr_model.specs.declared.event.Event.{Event}
 use Rattle.dr_model.specs.declared.said.Said.{Said}
 use Rattle.dr_model.specs.declared.step.Name.{Name}
 use Rattle.dr_model.specs.declared.step.Step.{Step}
-use Rattle.dr_model.specs.Answers.{answer}
 use Rattle.dr_model.specs.Layout.{Tracks, Fields}
 use Rattle.dr_model.specs.Relations.{rest, turned}
 use Rattle.dr_model.specs.Limits.{step_events, most_volumes, most_tracks}
 use Rattle.dr_model.specs.Control.{Control, World}
-use Rattle.dr_model.specs.Moves.{Move, Land, Overwrite, Keep, Note, Relate, Withdraw, Fetch, Resync, Reverse}
+use Rattle.dr_model.specs.Moves.{Land, Overwrite, Keep, Note, Relate, Withdraw, Fetch, Resync, Reverse}
 use Rattle.dr_model.specs.Carry.{Make, Redo, Acknowledge, Drop, Pass, Do, Entry, Outcome, carry, follow, check, now}
 use Rattle.dr_model.specs.Entries.{fields_at, copies_from, is_running, is_open, is_settled, relation_state, landing, land_on, keep_on, keep_if, copy_first, drop_unless, check_or_drop, times, on_found, lowest_missing, fetch_next, give_back}
-use Rattle.dr_model.specs.Plans.{Plan, plan, entries_plan, tables_plan, redo_on, belongs, acknowledge_on, acknowledge_if, landed_on, start_plan, named_pair, is_defined, is_owner, differ, share_server, share_size, is_no_target, is_no_source, has_few_targets, is_plain_target, is_recorded_target, is_lone_restore, may_copy, at_most, left_to_copy}
-use Rattle.dr_model.specs.Runs.{begun, finish, carried_out, after_plan}
+use Rattle.dr_model.specs.Plans.{Plan, plan, entries_plan, tables_plan, redo_on, belongs, acknowledge_on, acknowledge_if, landed_on, named_pair, is_defined, is_owner, differ, share_server, share_size, is_no_target, is_no_source, has_few_targets, is_plain_target, is_recorded_target, is_lone_restore, may_copy, at_most, left_to_copy}
+use Rattle.dr_model.specs.Runs.{begun, finish, after_plan}
 use Rattle.dr_model.specs.Laws.{Sound}
 use Rattle.dr_laws.specs.Limits.{IsWithin}
 use Rattle.dr_laws.proofs.Cases.{Case, Says, Defines, Adds, Links, Issues, Writes, Applies, Shows, Stops, Arms, Starts, Flashes, Withdraws, Resyncs, Reverses, Copies, plan-case}
 use Rattle.dr_laws.proofs.Sets.{false_true, remove_from, not_removed, empty_has, rest_low}
 use Rattle.dr_laws.proofs.Costs.{Costs, costs-nil, costs-check, costs-last, carry-adds, blanks-few, restored-few, Small, Light, AllLight, light-none, light-then, light-append, light-map, light-check, light-costs, small-pass, small-do, small-choice}
-use Rattle.dr_laws.proofs.CopyCosts.{Live, rounds}
+use Rattle.dr_laws.proofs.CopyCosts.{rounds}
 
 -- a set of numbers below n has no more than n
 pub len-low : (n : ℕ) (s : Tracks) → ((q : ℕ) → contains s q ≡ true → q < n) → len s ≤ n
