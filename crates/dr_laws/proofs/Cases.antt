@@ -1,9 +1,10 @@
 -- What each step comes to, by cases: an answer, or one of the plans of the step table behind its tests.
-use Rattle.std.proofs.Common.{ℕ, ◌≡◌, ◌<◌, refl, Bool, true, false, cond, not, ◌||◌, List, [], Option, Some, None, Result, Ok, Err, nat_eq, nat_lt, nat_le, arith}
+use Rattle.std.proofs.Common.{ℕ, ◌≡◌, ◌<◌, ◌≤◌, refl, Bool, true, false, cond, not, ◌||◌, List, [], Option, Some, None, Result, Ok, Err, nat_eq, nat_lt, nat_le, arith}
 use Rattle.std.specs.Prelude.{length, is_some}
 use Rattle.std.specs.List.{find}
 use Rattle.std.specs.Option.{option_or}
 use Rattle.std.proofs.lemmas.Bool.Decides.{nat_tests}
+use Rattle.std.proofs.lemmas.Bool.{or_parts}
 use Rattle.dr_ids.specs.declared.refusal.Refusal.{Refusal}
 use Rattle.dr_ids.specs.declared.refusal.Refusal.TheVariants.{NotBuilt, JournalFull, Syntax}
 use Rattle.dr_ids.specs.declared.refusal.Kind.TheVariants.{Server as OfServer, Volume as OfVolume, Lss as OfLss, Track as OfTrack, Write as OfWrite}
@@ -121,20 +122,27 @@ below n m h = grind (arith, nat_tests, h)
 under : (n m : ℕ) → nat_lt n m ≡ true → n < m
 under n m h = grind (arith, nat_tests, h)
 
+above : (n m : ℕ) → nat_lt m n ≡ false → n ≤ m
+above n m h = grind (arith, nat_tests, h)
+
 pub servers-left : (k : Control) (name : List ℕ) → server_refusal k name ≡ None → length k.servers < most_servers
 servers-left k name h = below _ _ (one-passed (nat_le most_servers (length k.servers)) (over Servers) None (one-passed (is_some (server_named k name)) (duplicate OfServer) _ h).1).0
 
--- a volume that is new, and there is room for it
-pub record IsNew (k : Control) (v : ℕ) : Type 0 where
+not_over : (tracks : ℕ) → (nat_eq tracks 0 || nat_lt most_tracks tracks) ≡ false → tracks ≤ most_tracks
+not_over tracks h = let e : nat_lt most_tracks tracks ≡ false = (or_parts (nat_eq tracks 0) _ h).1 in above tracks most_tracks e
+
+-- a volume that is new and not too large, and there is room for it
+pub record IsNew (k : Control) (v tracks : ℕ) : Type 0 where
   pub undefined : is_volume k v ≡ false
   pub left : length k.volumes < most_volumes
+  pub small : tracks ≤ most_tracks
 
-pub is-new : (k : Control) (v s tracks : ℕ) → volume_refusal k v s tracks ≡ None → IsNew k v
+pub is-new : (k : Control) (v s tracks : ℕ) → volume_refusal k v s tracks ≡ None → IsNew k v tracks
 is-new k v s tracks h =
     let a = one-passed (is_volume k v) (duplicate OfVolume) _ h in
     let b = one-passed (is_foreign k (first_of k (subsystem v)) s) (duplicate OfLss) _ a.1 in
     let c = one-passed (nat_eq tracks 0 || nat_lt most_tracks tracks) (over Tracks) _ b.1 in
-    record { undefined = a.0; left = below _ _ (one-passed (nat_le most_volumes (length k.volumes)) (over Volumes) None c.1).0 }
+    record { undefined = a.0; left = below _ _ (one-passed (nat_le most_volumes (length k.volumes)) (over Volumes) None c.1).0; small = not_over tracks c.0 }
 
 -- a track that is there
 pub record IsTrack (k : Control) (v t : ℕ) : Type 0 where

@@ -8,10 +8,10 @@ use Rattle.std.specs.FinSet.{contains, insert, empty}
 use Rattle.dr_model.specs.Tables.{at}
 use Rattle.dr_model.specs.Layout.{Tracks, Fields}
 use Rattle.dr_model.specs.Histories.{histories}
-use Rattle.dr_model.specs.Control.{Fuse, Volume, World}
+use Rattle.dr_model.specs.Control.{Volume, World}
 use Rattle.dr_model.specs.Views.{source_of}
 use Rattle.dr_model.specs.Relations.{is_whole}
-use Rattle.dr_model.specs.Moves.{Move, Keep, Note, fields_left}
+use Rattle.dr_model.specs.Moves.{Keep, Note, fields_left}
 use Rattle.dr_model.specs.Carry.{Make, Pass, Do, Entry}
 use Rattle.dr_model.specs.Entries.{keep_on, keep_if, copies_from, fields_at}
 use Rattle.dr_model.specs.Table.{table}

@@ -6,7 +6,6 @@ use Rattle.std.proofs.lemmas.Bool.{eq-eqb, eqb-true, ne_eqb}
 use Rattle.std.proofs.lemmas.List.Sums.{fold-append}
 use Rattle.std.specs.List.{fold, list_any, range_with_len}
 use Rattle.std.specs.FinSet.{contains}
-use Rattle.dr_model.specs.declared.event.Event.{Event}
 use Rattle.dr_model.specs.declared.event.Event.TheVariants.{Ack, Set, Back, Blanked, Restored}
 use Rattle.dr_model.specs.Tables.{at}
 use Rattle.dr_model.specs.Contents.{image, with_write, zeros}
@@ -21,7 +20,7 @@ use Rattle.dr_model.specs.Laws.{AllPending}
 use Rattle.dr_model.specs.Allowed.{Coming}
 use Rattle.dr_model.proofs.Images.{image-push}
 use Rattle.dr_laws.proofs.AtLemmas.{Told, at_cases, at_two, at_id, at2_at}
-use Rattle.dr_laws.proofs.Sets.{false_true, rest_low}
+use Rattle.dr_laws.proofs.Sets.{rest_low}
 
 -- no write waits on a volume
 abbrev pub Calm : List Pending → ℕ → Type 0

@@ -1,22 +1,20 @@
 -- The background copy of a target, and its restore onto its source, are allowed along.
-use Rattle.std.proofs.Common.{ℕ, zero, suc, ◌≡◌, ◌≢◌, ◌<◌, ◌+◌, ◌⊎◌, inl, inr, refl, ap, sym, ◌∙◌, subst, Bool, true, false, cond, not, ◌&&◌, ◌||◌, nat_eq, List, [], ◌∷◌, ◌++◌, append_assoc, map, filter, Option, Some, None, arith}
+use Rattle.std.proofs.Common.{ℕ, zero, suc, ◌≡◌, ◌≢◌, ◌<◌, ◌⊎◌, inl, inr, refl, ap, sym, ◌∙◌, subst, Bool, true, false, cond, not, ◌&&◌, List, [], ◌∷◌, ◌++◌, append_assoc, map, filter, Option, Some, None}
 use Rattle.std.specs.Prelude.{slice_get}
 use Rattle.std.proofs.lemmas.Bool.{and_parts, eq-eqb, not-true}
-use Rattle.std.proofs.lemmas.Bool.Decides.{eqb_tells}
-use Rattle.std.specs.List.{range_with_len, list_any}
+use Rattle.std.specs.List.{range_with_len}
 use Rattle.std.specs.FinSet.{contains, insert, empty}
 use Rattle.dr_model.specs.Layout.{Tracks, Fields}
 use Rattle.dr_model.specs.Relations.{rest, in_order, lowest, is_bare, is_whole, given_up}
-use Rattle.dr_model.specs.Control.{Control, Volume, World, Fuse}
-use Rattle.dr_model.specs.Moves.{Move, Fetch, Restore, Release, target, fields_left, moved, tracks_after}
-use Rattle.dr_model.specs.Carry.{Make, Pass, Do, Entry, Next, now}
-use Rattle.dr_model.specs.Entries.{fields_at, is_running, keep_on, times, on_found, lowest_missing, lowest_held, fetch_next, for_lowest, give_back}
+use Rattle.dr_model.specs.Control.{Volume, World, Fuse}
+use Rattle.dr_model.specs.Moves.{Fetch, Restore, Release, fields_left, moved, tracks_after}
+use Rattle.dr_model.specs.Carry.{Make, Pass, Do, Entry, now}
+use Rattle.dr_model.specs.Entries.{fields_at, is_running, keep_on, times, on_found, lowest_held, fetch_next, for_lowest, give_back}
 use Rattle.dr_model.specs.Plans.{is_defined, may_copy, at_most, left_to_copy, copy_plan}
 use Rattle.dr_model.specs.Laws.{Sound}
 use Rattle.dr_model.specs.Allowed.{Runs}
 use Rattle.dr_model.proofs.Images.{at_same, at_other}
-use Rattle.dr_laws.proofs.AtLemmas.{at_part}
-use Rattle.dr_laws.proofs.Sets.{false_true, none_some, if_true, in_rest, rest_low, empty_has, has_source}
+use Rattle.dr_laws.proofs.Sets.{none_some, if_true, in_rest, rest_low, empty_has, has_source}
 use Rattle.dr_laws.proofs.RowsAfter.{idle}
 use Rattle.dr_laws.proofs.Turns.{done, next_of, carried_in}
 use Rattle.dr_laws.proofs.KeepsSound.{Along, Then, StepHolds, over, decides, checked}

@@ -1,22 +1,21 @@
 -- The plans that make, end, resynchronise and reverse a relationship are allowed along.
-use Rattle.std.proofs.Common.{ℕ, ◌≡◌, ◌<◌, inl, inr, refl, ap, sym, ◌∙◌, subst, Bool, true, false, not, ◌&&◌, ◌||◌, nat_eq, nat_lt, List, [], ◌∷◌, ◌++◌, length, filter, Option, Some, None}
+use Rattle.std.proofs.Common.{ℕ, ◌≡◌, inl, inr, refl, ap, sym, ◌∙◌, subst, Bool, true, false, not, ◌&&◌, ◌||◌, nat_eq, List, [], ◌++◌, length, Option, Some}
 use Rattle.std.proofs.lemmas.List.{append-nil}
 use Rattle.std.proofs.lemmas.Bool.{and_parts, and_from, or_parts, not-true, eqb-true, eq-eqb, ltb-true, false≢true}
 use Rattle.std.proofs.lemmas.Bool.Decides.{eqb_tells}
-use Rattle.std.specs.List.{list_any}
 use Rattle.dr_model.specs.Limits.{most_targets}
 use Rattle.dr_model.specs.Layout.{Fields}
 use Rattle.dr_model.specs.Relations.{Choices}
 use Rattle.dr_model.specs.Control.{Control, World, is_volume}
-use Rattle.dr_model.specs.Moves.{Move, Relate, Withdraw, Resync, Reverse, target}
-use Rattle.dr_model.specs.Carry.{Entry, check, now}
+use Rattle.dr_model.specs.Moves.{Relate, Withdraw, Resync, Reverse}
+use Rattle.dr_model.specs.Carry.{Entry}
 use Rattle.dr_model.specs.Entries.{fields_at, copies_from, targets_of, stands_in, is_any, is_running}
-use Rattle.dr_model.specs.Plans.{Plan, entries_plan, named_pair, is_defined, is_owner, differ, share_server, share_size, is_no_target, is_no_source, has_few_targets, is_plain_target, is_recorded_target, is_lone_restore, flash_plan, withdraw_plan, resync_plan, reverse_plan}
+use Rattle.dr_model.specs.Plans.{entries_plan, named_pair, is_defined, is_owner, differ, share_server, share_size, is_no_target, is_no_source, has_few_targets, is_plain_target, is_recorded_target, is_lone_restore, flash_plan, withdraw_plan, resync_plan, reverse_plan}
 use Rattle.dr_model.specs.declared.said.Said.{Said}
 use Rattle.dr_model.specs.declared.step.Name.{Name}
 use Rattle.dr_model.specs.Table.{table}
 use Rattle.dr_model.specs.Laws.{Sound}
-use Rattle.dr_model.specs.Allowed.{MayResync, May, Runs}
+use Rattle.dr_model.specs.Allowed.{MayResync, Runs}
 use Rattle.dr_laws.proofs.Sets.{false_true, no_source, from_source}
 use Rattle.dr_laws.proofs.RowsAfter.{idle}
 use Rattle.dr_laws.proofs.KeepsSound.{Along, StepHolds, holds-moves, over, moves, checked}

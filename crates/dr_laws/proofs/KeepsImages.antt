@@ -1,5 +1,5 @@
 -- Each kind of move keeps the images: what each track shows is what the host writes say.
-use Rattle.std.proofs.Common.{ℕ, ◌≡◌, ◌≢◌, ◌<◌, refl, ap, sym, ◌∙◌, subst, inl, inr, Bool, true, false, cond, not, ◌&&◌, List, Option, Some, None}
+use Rattle.std.proofs.Common.{ℕ, ◌≡◌, ◌≢◌, ◌<◌, refl, ap, sym, ◌∙◌, subst, inl, inr, Bool, true, false, cond, not, ◌&&◌, List, Some, None}
 use Rattle.std.proofs.lemmas.Bool.{and_parts}
 use Rattle.std.proofs.lemmas.Bool.Decides.{eqb_tells}
 use Rattle.std.specs.FinSet.{contains, insert, remove, empty, union, difference}
@@ -17,7 +17,7 @@ use Rattle.dr_model.specs.Allowed.{Allowed, Kept, MayKeep}
 use Rattle.dr_model.proofs.Images.{at_same, at_other}
 use Rattle.dr_laws.proofs.AtLemmas.{at_cases, at_two, each-at, linked-at}
 use Rattle.dr_laws.proofs.KeepsStructure.{no_loop, no_targets}
-use Rattle.dr_laws.proofs.Sets.{false_true, none_some, if_true, if_false, in_insert, insert_other, not_removed, remove_from, remove_other, whole_has, in_all, in_rest, empty_has, from_source, from_none, still_related, from_difference, from_union, not_in_union}
+use Rattle.dr_laws.proofs.Sets.{false_true, none_some, if_true, if_false, in_insert, insert_other, not_removed, remove_from, remove_other, whole_has, in_all, in_rest, empty_has, from_source, still_related, from_difference, from_union, not_in_union}
 
 -- what a changed row owes
 pub record Owes (T : Table) (x : ℕ) (y : Row) : Type 0 where
@@ -196,7 +196,12 @@ module _ (write : ℕ → Write) (T : Table) (structure : Structure T) (recorded
   kept-images (Keep v t) a = images-at T v _ images (taken-owes v t a.from a.related _ (T v).due (old-track v t a) (λ q ne. refl) _ _ (with (Keep v t)))
   kept-images (Fetch v t) a = images-at T v _ images (taken-owes v t a.from a.related _ (T v).due (old-track v t a) (λ q ne. refl) _ _ (with (Fetch v t)))
   kept-images (Note v t) a = images-at T v _ images (record {
-    blank = images.blank v; fresh = images.fresh v; plain = images.plain v; seen = λ u ne. images.seen v u; loop = no_loop write T structure v; onto = λ u ne. images.seen u v;
+    blank = images.blank v;
+    fresh = images.fresh v;
+    plain = images.plain v;
+    seen = λ u ne. images.seen v u;
+    loop = no_loop write T structure v;
+    onto = λ u ne. images.seen u v;
   })
   kept-images (Relate v s c) a = images-at T v _ images (record {
     blank = images.blank v;

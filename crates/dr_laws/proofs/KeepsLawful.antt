@@ -1,12 +1,10 @@
 -- Each kind of move leaves lawful fields.
-use Rattle.std.proofs.Common.{ℕ, ◌≡◌, ◌<◌, refl, Bool, true, false, cond, not, ◌&&◌, ◌||◌, sym, ◌∙◌, Some, None, Option}
-use Rattle.std.specs.FinSet.{contains, insert, remove, empty, union, difference}
-use Rattle.std.specs.Option.{unwrap_or}
+use Rattle.std.proofs.Common.{ℕ, ◌≡◌, ◌<◌, refl, Bool, true, false, cond, Option}
+use Rattle.std.specs.FinSet.{insert, empty}
 use Rattle.dr_model.specs.Layout.{Tracks, Fields}
 use Rattle.dr_model.specs.Lawful.{Low, HasSets, NoRelation, IsLawful}
-use Rattle.dr_model.specs.Relations.{Choices, rest, closed, parted_if, fetched, noted, rewritten, made, withdrawn_if, resynced, turned, given_up, restored}
-use Rattle.dr_model.proofs.LawfulLemmas.{lawful-filled}
-use Rattle.dr_laws.proofs.Sets.{false_true, In, in_cond, in_none, in_more, remove_from, rest_low, from_difference, from_union}
+use Rattle.dr_model.specs.Relations.{Choices, rest, parted_if, fetched, noted, rewritten, made, withdrawn_if, resynced, turned, given_up}
+use Rattle.dr_laws.proofs.Sets.{false_true, in_cond, in_none, in_more, remove_from, rest_low, from_difference, from_union}
 
 module _ (n : ℕ) (f : Fields) (law : IsLawful n f) where
   abbrev old : HasSets n f

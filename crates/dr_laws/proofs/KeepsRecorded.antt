@@ -1,6 +1,6 @@
 -- Each kind of move keeps what is recorded: what a target holds unchanged equals its source's.
-use Rattle.std.proofs.Common.{ℕ, ◌≡◌, ◌≢◌, ◌<◌, refl, ap, sym, ◌∙◌, subst, Bool, true, false, cond, not, ◌&&◌, List, Option, Some, None}
-use Rattle.std.specs.FinSet.{contains, insert, remove, empty}
+use Rattle.std.proofs.Common.{ℕ, ◌≡◌, refl, ap, sym, ◌∙◌, Bool, true, false, cond, not, ◌&&◌, List, Some, None}
+use Rattle.std.specs.FinSet.{contains, insert, empty}
 use Rattle.dr_model.specs.Tables.{at}
 use Rattle.dr_model.specs.Layout.{Tracks, Fields}
 use Rattle.dr_model.specs.Histories.{Write}

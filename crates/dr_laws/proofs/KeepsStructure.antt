@@ -1,19 +1,19 @@
 -- Each kind of move keeps the structure: what control records say together.
-use Rattle.std.proofs.Common.{ℕ, ◌≡◌, ◌≢◌, ◌<◌, refl, ap, sym, ◌∙◌, subst, Bool, true, false, cond, not, ◌&&◌, ◌||◌, Option, Some, None}
-use Rattle.std.specs.FinSet.{contains, insert, remove, empty, union}
+use Rattle.std.proofs.Common.{ℕ, ◌≡◌, refl, ap, sym, ◌∙◌, subst, Bool, true, false, cond, not, ◌&&◌, ◌||◌, Some, None}
+use Rattle.std.specs.FinSet.{contains, insert, remove, empty}
 use Rattle.dr_model.specs.Tables.{at}
 use Rattle.dr_model.specs.Layout.{Tracks, Fields}
 use Rattle.dr_model.specs.Histories.{Write}
-use Rattle.dr_model.specs.Relations.{Choices, rest, is_bare, is_whole, parted_if, fetched, withdrawn_if, turned, given_up}
+use Rattle.dr_model.specs.Relations.{rest, is_bare, is_whole, turned, given_up}
 use Rattle.dr_model.specs.Moves.{Move, Land, Overwrite, Keep, Note, Relate, Withdraw, Fetch, Resync, Reverse, Restore, Release}
 use Rattle.dr_model.specs.Table.{Row, Table}
 use Rattle.dr_model.specs.Rows.{after}
-use Rattle.dr_model.specs.Laws.{Each, Structure, Lawful, RowSets, RowFlags, RowDefined, SetsFit, FlagsFit, Flashed, OneRestore, source, fields}
-use Rattle.dr_model.specs.Allowed.{Allowed, MayRelate}
+use Rattle.dr_model.specs.Laws.{Structure, Lawful, RowSets, RowFlags, RowDefined, SetsFit, FlagsFit, Flashed, OneRestore, source, fields}
+use Rattle.dr_model.specs.Allowed.{Allowed}
 use Rattle.dr_model.proofs.LawfulLemmas.{lawful-filled}
 use Rattle.dr_laws.proofs.AtLemmas.{at_cases, each-at, linked-at}
 use Rattle.dr_laws.proofs.KeepsLawful.{lawful-taken, low-noted, lawful-noted, lawful-made, lawful-withdrawn, lawful-resynced, lawful-turned, lawful-given_up}
-use Rattle.dr_laws.proofs.Sets.{In, in_cond, in_none, in_more, in_insert, still_in, false_true, none_some, not_turned, from_source, still_related, from_difference, from_union, remove_from, remove_other, not_removed, not_removed_from, empty_has, in_rest}
+use Rattle.dr_laws.proofs.Sets.{In, in_cond, in_none, in_more, in_insert, still_in, false_true, none_some, not_turned, from_source, still_related, from_difference, from_union, remove_from, not_removed, not_removed_from, empty_has}
 
 -- sets and flags, by their parts
 take-sets : (e : Bool) (t : ℕ) (own noted rewritten blank : Tracks) → In noted (λ q. contains (insert own t) q ≡ true) → In rewritten (λ q. contains (insert own t) q ≡ true) → In own (λ q. contains blank q ≡ false)
@@ -124,34 +124,64 @@ module _ (write : ℕ → Write) (T : Table) (old : Structure T) where
 
   pub kept-structure : (m : Move) → Allowed write T m → Structure (after write T m)
   kept-structure (Land w v t) a = structure-at v _ (record {
-    lawful = lawful-filled _ _ t (old.lawful v); sets = filled-sets v t; flags = old.flags v; defined = old.defined v; from = old.flash v; loop = no_loop v; onto = λ u. old.flash u v; restores = stays-restores v;
+    lawful = lawful-filled _ _ t (old.lawful v);
+    sets = filled-sets v t;
+    flags = old.flags v;
+    defined = old.defined v;
+    from = old.flash v;
+    loop = no_loop v;
+    onto = λ u. old.flash u v;
+    restores = stays-restores v;
   })
   kept-structure (Restore v t u) a = structure-at v _ (record {
-    lawful = lawful-filled _ _ t (old.lawful v); sets = filled-sets v t; flags = old.flags v; defined = old.defined v; from = old.flash v; loop = no_loop v; onto = λ u. old.flash u v; restores = stays-restores v;
+    lawful = lawful-filled _ _ t (old.lawful v);
+    sets = filled-sets v t;
+    flags = old.flags v;
+    defined = old.defined v;
+    from = old.flash v;
+    loop = no_loop v;
+    onto = λ u. old.flash u v;
+    restores = stays-restores v;
   })
   kept-structure (Overwrite w v t) a = let f : Fields = fields T v in let n : ℕ = (T v).volume.tracks in let e : Bool = is_whole n (insert f.own t) && not f.persistent in let sets = old.sets v in let flags = old.flags v in let low = (old.lawful v).sets in structure-at v _ (record {
     lawful = lawful-taken n f (old.lawful v) e t _ _ (from_source f.related f.source a.from a.related).0 a.low low.source_changes_low (low-noted n f (old.lawful v) f.target_changes t a.low low.target_changes_low);
     sets = take-sets e t f.own _ _ f.blank (held-more f.own _ t sets.noted_held) (held-noted f.recorded f.own _ t sets.rewritten_held) sets.apart;
     flags = take-flags e f.persistent f.recorded f.reversing _ _ _ flags.persists a.forward;
-    defined = part-defined e f.related (old.defined v); from = parted-from v e; loop = parted-loop v e; onto = λ u. no_targets v a.from u a.related; restores = parted-restores v e;
+    defined = part-defined e f.related (old.defined v);
+    from = parted-from v e;
+    loop = parted-loop v e;
+    onto = λ u. no_targets v a.from u a.related;
+    restores = parted-restores v e;
   })
   kept-structure (Keep v t) a = let f : Fields = fields T v in let n : ℕ = (T v).volume.tracks in let e : Bool = is_whole n (insert f.own t) && not f.persistent in let sets = old.sets v in let flags = old.flags v in let low = (old.lawful v).sets in structure-at v _ (record {
     lawful = lawful-taken n f (old.lawful v) e t _ _ (from_source f.related f.source a.from a.related).0 a.low (low-noted n f (old.lawful v) f.source_changes t a.low low.source_changes_low) low.target_changes_low;
     sets = take-sets e t f.own _ _ f.blank (held-noted f.recorded f.own _ t sets.noted_held) (held-more f.own _ t sets.rewritten_held) sets.apart;
     flags = take-flags e f.persistent f.recorded f.reversing _ _ _ flags.persists a.forward;
-    defined = part-defined e f.related (old.defined v); from = parted-from v e; loop = parted-loop v e; onto = λ u. no_targets v a.from u a.related; restores = parted-restores v e;
+    defined = part-defined e f.related (old.defined v);
+    from = parted-from v e;
+    loop = parted-loop v e;
+    onto = λ u. no_targets v a.from u a.related;
+    restores = parted-restores v e;
   })
   kept-structure (Fetch v t) a = let f : Fields = fields T v in let n : ℕ = (T v).volume.tracks in let e : Bool = is_whole n (insert f.own t) && not f.persistent in let sets = old.sets v in let flags = old.flags v in let low = (old.lawful v).sets in structure-at v _ (record {
     lawful = lawful-taken n f (old.lawful v) e t _ _ (from_source f.related f.source a.from a.related).0 a.low low.source_changes_low low.target_changes_low;
     sets = take-sets e t f.own _ _ f.blank (held-more f.own _ t sets.noted_held) (held-more f.own _ t sets.rewritten_held) sets.apart;
     flags = take-flags e f.persistent f.recorded f.reversing _ _ _ flags.persists a.forward;
-    defined = part-defined e f.related (old.defined v); from = parted-from v e; loop = parted-loop v e; onto = λ u. no_targets v a.from u a.related; restores = parted-restores v e;
+    defined = part-defined e f.related (old.defined v);
+    from = parted-from v e;
+    loop = parted-loop v e;
+    onto = λ u. no_targets v a.from u a.related;
+    restores = parted-restores v e;
   })
   kept-structure (Note v t) a = let f : Fields = fields T v in let n : ℕ = (T v).volume.tracks in let sets = old.sets v in let flags = old.flags v in structure-at v _ (record {
     lawful = lawful-noted n f (old.lawful v) t (from_source f.related f.source a.from a.related).0 a.low;
     sets = record { apart = sets.apart; noted_held = in_cond f.recorded _ _ _ (in_more f.source_changes t (λ q. contains f.own q ≡ true) a.held sets.noted_held) sets.noted_held; rewritten_held = sets.rewritten_held };
     flags = record { persists = flags.persists; records = flags.records; unchanged = λ h. false_true a.forward h; some = flags.some };
-    defined = old.defined v; from = old.flash v; loop = no_loop v; onto = λ u. old.flash u v; restores = stays-restores v;
+    defined = old.defined v;
+    from = old.flash v;
+    loop = no_loop v;
+    onto = λ u. old.flash u v;
+    restores = stays-restores v;
   })
   kept-structure (Relate v s c) a = let f : Fields = fields T v in let n : ℕ = (T v).volume.tracks in structure-at v _ (record {
     lawful = lawful-made n f (old.lawful v) s c;
@@ -171,33 +201,50 @@ module _ (write : ℕ → Write) (T : Table) (old : Structure T) where
     lawful = lawful-withdrawn n f (old.lawful v) true (from_source f.related f.source a.from a.related).0;
     sets = part-sets true n f.own _ _ f.blank (old.sets v);
     flags = record { persists = λ h. absurd cc; records = λ h. absurd cc; unchanged = λ h. absurd cc; some = λ h. absurd cc };
-    defined = λ h. absurd cc; from = parted-from v true; loop = parted-loop v true; onto = λ u. no_targets v a.from u a.related; restores = parted-restores v true;
+    defined = λ h. absurd cc;
+    from = parted-from v true;
+    loop = parted-loop v true;
+    onto = λ u. no_targets v a.from u a.related;
+    restores = parted-restores v true;
   })
   kept-structure (Resync v sequence) a = let f : Fields = fields T v in let n : ℕ = (T v).volume.tracks in let sets = old.sets v in let flags = old.flags v in structure-at v _ (record {
     lawful = lawful-resynced n f (old.lawful v) sequence (from_source f.related f.source a.from a.related).0;
     sets = record { apart = λ q h. sets.apart q (from_difference _ _ q (from_difference _ _ q h).0).0; noted_held = in_none _; rewritten_held = in_none _ };
     flags = record { persists = flags.persists; records = flags.records; unchanged = λ h. false_true a.forward h; some = λ h. false_true a.forward h };
-    defined = old.defined v; from = old.flash v; loop = no_loop v; onto = λ u. old.flash u v; restores = stays-restores v;
+    defined = old.defined v;
+    from = old.flash v;
+    loop = no_loop v;
+    onto = λ u. old.flash u v;
+    restores = stays-restores v;
   })
   kept-structure (Reverse v) a = let f : Fields = fields T v in let n : ℕ = (T v).volume.tracks in let sets = old.sets v in let flags = old.flags v in let e : Bool = is_bare (turned f).own in
       let related = (from_source f.related f.source a.resync.from a.resync.related).0 in structure-at v _ (record {
-    lawful = lawful-withdrawn n (turned f) (lawful-turned n f (old.lawful v) related) e related;
-    sets = part-sets e n (turned f).own empty empty f.blank (record {
-      apart = from_union _ _ (λ q. contains f.blank q ≡ false) (λ q h. sets.apart q (sets.noted_held q h)) (λ q h. sets.apart q (sets.rewritten_held q h)); noted_held = in_none _; rewritten_held = in_none _;
-    });
-    flags = part-flags e f.persistent f.recorded true (turned f).own empty empty refl flags.persists (λ h. a.resync.recorded) (λ h t. (empty_has t, empty_has t));
-    defined = part-defined e f.related (old.defined v); from = parted-from v e; loop = parted-loop v e; onto = λ u. no_targets v a.resync.from u a.resync.related;
-    restores = λ s h r b k q. let same = (from_source f.related f.source s (still_related e f.related f.source s h)).1 in let is = (from_source f.related f.source a.resync.from a.resync.related).1 in
-        absurd (a.alone b (k ∙ ap (λ j. Some j) (sym same ∙ is)) q);
-  })
+        lawful = lawful-withdrawn n (turned f) (lawful-turned n f (old.lawful v) related) e related;
+        sets = part-sets e n (turned f).own empty empty f.blank (record {
+          apart = from_union _ _ (λ q. contains f.blank q ≡ false) (λ q h. sets.apart q (sets.noted_held q h)) (λ q h. sets.apart q (sets.rewritten_held q h));
+          noted_held = in_none _;
+          rewritten_held = in_none _;
+        });
+        flags = part-flags e f.persistent f.recorded true (turned f).own empty empty refl flags.persists (λ h. a.resync.recorded) (λ h t. (empty_has t, empty_has t));
+        defined = part-defined e f.related (old.defined v);
+        from = parted-from v e;
+        loop = parted-loop v e;
+        onto = λ u. no_targets v a.resync.from u a.resync.related;
+        restores = λ s h r b k q. let same = (from_source f.related f.source s (still_related e f.related f.source s h)).1 in let is = (from_source f.related f.source a.resync.from a.resync.related).1 in
+            absurd (a.alone b (k ∙ ap (λ j. Some j) (sym same ∙ is)) q);
+      })
   kept-structure (Release v t) a = let f : Fields = fields T v in let n : ℕ = (T v).volume.tracks in let sets = old.sets v in let flags = old.flags v in let e : Bool = is_bare (given_up f t).own in
       let related = (from_source f.related f.source a.from a.related).0 in structure-at v _ (record {
-    lawful = lawful-withdrawn n (given_up f t) (lawful-given_up n f (old.lawful v) t related) e related;
-    sets = part-sets e n (given_up f t).own _ _ f.blank (record {
-      apart = λ q h. sets.apart q (remove_from f.own t q h);
-      noted_held = λ q h. false_true (flags.unchanged a.reversing q).0 h;
-      rewritten_held = λ q h. false_true (flags.unchanged a.reversing q).1 h;
-    });
-    flags = part-flags e f.persistent f.recorded f.reversing (given_up f t).own _ _ refl flags.persists flags.records flags.unchanged;
-    defined = part-defined e f.related (old.defined v); from = parted-from v e; loop = parted-loop v e; onto = λ u. no_targets v a.from u a.related; restores = parted-restores v e;
-  })
+        lawful = lawful-withdrawn n (given_up f t) (lawful-given_up n f (old.lawful v) t related) e related;
+        sets = part-sets e n (given_up f t).own _ _ f.blank (record {
+          apart = λ q h. sets.apart q (remove_from f.own t q h);
+          noted_held = λ q h. false_true (flags.unchanged a.reversing q).0 h;
+          rewritten_held = λ q h. false_true (flags.unchanged a.reversing q).1 h;
+        });
+        flags = part-flags e f.persistent f.recorded f.reversing (given_up f t).own _ _ refl flags.persists flags.records flags.unchanged;
+        defined = part-defined e f.related (old.defined v);
+        from = parted-from v e;
+        loop = parted-loop v e;
+        onto = λ u. no_targets v a.from u a.related;
+        restores = parted-restores v e;
+      })

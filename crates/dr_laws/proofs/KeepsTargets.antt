@@ -1,17 +1,15 @@
 -- Each kind of move, and the definition of a volume, leave a source few targets.
 use Rattle.std.proofs.Common.{ℕ, ◌≡◌, ◌≢◌, ◌≤◌, ◌<◌, ◌+◌, inl, inr, refl, ap, sym, ◌∙◌, subst, Bool, true, false, cond, ◌&&◌, ◌||◌, nat_eq, List, [], ◌∷◌, ◌++◌, length, filter, arith}
-use Rattle.std.proofs.lemmas.Bool.{and_parts, and_from, or_parts, eqb-true, eq-eqb, ne_eqb}
+use Rattle.std.proofs.lemmas.Bool.{and_parts, or_parts, eqb-true, eq-eqb, ne_eqb}
 use Rattle.std.proofs.lemmas.Bool.Decides.{eqb_tells}
 use Rattle.std.specs.List.{list_any}
 use Rattle.std.proofs.lemmas.List.Folds.{list_any-append}
-use Rattle.std.specs.FinSet.{insert}
 use Rattle.dr_model.specs.Tables.{at}
-use Rattle.dr_model.specs.Layout.{Fields}
 use Rattle.dr_model.specs.Limits.{most_targets}
 use Rattle.dr_model.specs.Control.{Control, Volume, new_volume}
-use Rattle.dr_model.specs.Relations.{is_whole, is_bare, turned, given_up}
-use Rattle.dr_model.specs.Moves.{Move, Land, Overwrite, Keep, Note, Relate, Withdraw, Fetch, Resync, Reverse, Restore, Release, Carried, target, fields_left, moved}
-use Rattle.dr_model.specs.Entries.{copies_from, fields_at, targets_of}
+use Rattle.dr_model.specs.Relations.{is_bare, turned, given_up}
+use Rattle.dr_model.specs.Moves.{Move, Overwrite, Keep, Relate, Withdraw, Fetch, Reverse, Release, Carried, target, fields_left, moved}
+use Rattle.dr_model.specs.Entries.{copies_from, fields_at}
 use Rattle.dr_model.specs.Laws.{Once, FewTargets}
 use Rattle.dr_model.specs.Allowed.{Fits}
 use Rattle.dr_laws.proofs.AtLemmas.{at_cases}
@@ -25,7 +23,7 @@ kept-by false true x ys zs h le = omega arith
 kept-by false false x ys zs h le = le
 
 module _ (p q : ℕ → Bool) where
-  fewer : ((u : ℕ) → p u ≡ true → q u ≡ true) → (xs : List ℕ) → length (filter p xs) ≤ length (filter q xs)
+  pub fewer : ((u : ℕ) → p u ≡ true → q u ≡ true) → (xs : List ℕ) → length (filter p xs) ≤ length (filter q xs)
   fewer h [] = omega arith
   fewer h (x ∷ xs) = kept-by (p x) (q x) x (filter p xs) (filter q xs) (h x) (fewer h xs)
 
@@ -57,7 +55,7 @@ module _ (p q : ℕ → Bool) where
     ]
 
 -- a relationship that stands still stood
-parted-copies : (e related : Bool) (o v : ℕ) → (cond e false related && nat_eq (cond e 0 o) v) ≡ true → (related && nat_eq o v) ≡ true
+pub parted-copies : (e related : Bool) (o v : ℕ) → (cond e false related && nat_eq (cond e 0 o) v) ≡ true → (related && nat_eq o v) ≡ true
 parted-copies true related o v h = absurd cc
 parted-copies false related o v h = h
 
@@ -69,16 +67,16 @@ module _ (k : Control) (old : FewTargets k) where
   else : (x : ℕ) (y : Volume) (v : ℕ) → (copies_from v y.fields ≡ true → copies_from v (fields_at k x) ≡ true) → counted (at k.volume x y) v ≤ most_targets
   else x y v still =
       let le : counted (at k.volume x y) v ≤ counted k.volume v =
-          fewer (λ u. copies_from v (at k.volume x y u).fields) (λ u. copies_from v (k.volume u).fields)
-          (at_cases (λ u (z : Volume). copies_from v z.fields ≡ true → copies_from v (fields_at k u) ≡ true) k.volume x y still (λ q ne h. h)) k.volumes in
+      fewer (λ u. copies_from v (at k.volume x y u).fields) (λ u. copies_from v (k.volume u).fields)
+      (at_cases (λ u (z : Volume). copies_from v z.fields ≡ true → copies_from v (fields_at k u) ≡ true) k.volume x y still (λ q ne h. h)) k.volumes in
       let few : counted k.volume v ≤ most_targets = old.few v in omega arith
 
   -- or one is
   here : (x v : ℕ) (y : Volume) → counted k.volume v < most_targets → counted (at k.volume x y) v ≤ most_targets
   here x v y fits =
       let le : counted (at k.volume x y) v ≤ counted k.volume v + 1 =
-          one-more (λ u. copies_from v (at k.volume x y u).fields) (λ u. copies_from v (k.volume u).fields) x
-          (at_cases (λ u (z : Volume). u ≢ x → copies_from v z.fields ≡ true → copies_from v (fields_at k u) ≡ true) k.volume x y (λ ne. absurd (ne refl)) (λ q ne r h. h)) k.volumes old.once in
+      one-more (λ u. copies_from v (at k.volume x y u).fields) (λ u. copies_from v (k.volume u).fields) x
+      (at_cases (λ u (z : Volume). u ≢ x → copies_from v z.fields ≡ true → copies_from v (fields_at k u) ≡ true) k.volume x y (λ ne. absurd (ne refl)) (λ q ne r h. h)) k.volumes old.once in
       omega arith
 
   no-more : (x : ℕ) (y : Volume) → ((v : ℕ) → copies_from v y.fields ≡ true → copies_from v (fields_at k x) ≡ true) → (v : ℕ) → counted (at k.volume x y) v ≤ most_targets

@@ -1,5 +1,5 @@
 -- A pending write comes to land: where its volume's server is on and the volume is a place for it, it may.
-use Rattle.std.proofs.Common.{ℕ, ◌≡◌, refl, ap, sym, ◌∙◌, subst, Bool, true, false, cond, not, ◌&&◌, List, [], ◌∷◌, ◌++◌, map, filter, Option, Some, None}
+use Rattle.std.proofs.Common.{ℕ, ◌≡◌, refl, ap, sym, ◌∙◌, subst, Bool, true, false, cond, not, ◌&&◌, List, [], ◌∷◌, ◌++◌, map, filter, Some, None}
 use Rattle.std.proofs.lemmas.Bool.{false_from_ne_true, eqb-true, ne_eqb, or_parts}
 use Rattle.std.specs.List.{find}
 use Rattle.dr_ids.specs.declared.refusal.Refusal.{Refusal}
@@ -15,7 +15,7 @@ use Rattle.dr_laws.proofs.Sets.{false_true, none_some, no_source, has_source, fr
 use Rattle.dr_laws.proofs.RowsAfter.{idle}
 use Rattle.dr_laws.proofs.KeepsQueue.{all-filter}
 use Rattle.dr_laws.proofs.KeepsSound.{Along, Then, over, decides, checked}
-use Rattle.dr_laws.proofs.CopyFirst.{Still, from, from-copies, any-has, copy-first, copy-none}
+use Rattle.dr_laws.proofs.CopyFirst.{from, from-copies, any-has, copy-first, copy-none}
 
 -- a pending write that was found by its number is the only one with it
 none-of : (n : ℕ) (ps : List Pending) → AllPending (λ q. q.w ≡ n → ⊥) ps → filter (is_write n) ps ≡ []

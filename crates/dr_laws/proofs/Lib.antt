@@ -22,6 +22,9 @@ pub mod Defines
 pub mod Starts
 pub mod Steps
 pub mod Journal
+pub mod Costs
+pub mod CopyCosts
+pub mod Spends
 pub mod Limits
 pub mod Texts
 pub mod Agree

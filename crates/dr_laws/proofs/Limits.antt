@@ -8,13 +8,15 @@ use Rattle.dr_model.specs.declared.said.Said.{Said}
 use Rattle.dr_model.specs.declared.said.Said.TheVariants.{Refused}
 use Rattle.dr_model.specs.declared.step.Step.{Step}
 use Rattle.dr_model.specs.Answers.{answer}
-use Rattle.dr_model.specs.Limits.{most_events, step_events, most_servers, most_volumes, most_pending}
+use Rattle.dr_model.specs.Limits.{most_events, step_events, most_servers, most_volumes, most_tracks, most_pending}
 use Rattle.dr_model.specs.Control.{Control, World, nothing}
 use Rattle.dr_model.specs.Plans.{Plan, plan, plan_of, is_built, has_room, only_says, refuses}
 use Rattle.dr_model.specs.Runs.{Task, said, after_plan, after_task, after_tasks, run}
 use Rattle.dr_model.proofs.CarryLemmas.{plan-says}
+use Rattle.dr_model.specs.Laws.{Sound}
 use Rattle.dr_laws.specs.Limits.{IsWithin}
-use Rattle.dr_laws.proofs.Journal.{Stays, Modest, EndsWith, after_plan-stays, after_plan-ends, plan-in, modest-in, ends-length}
+use Rattle.dr_laws.proofs.Journal.{Stays, Modest, after_plan-stays, plan-in, modest-in}
+use Rattle.dr_laws.proofs.Spends.{after_plan-adds, plan-spends}
 
 -- every run is within the limits
 within-stays : (j k : Control) → Stays j k → IsWithin j → IsWithin k
@@ -22,6 +24,7 @@ within-stays j k stays h = record {
   servers = subst (λ xs. length xs ≤ most_servers) (sym stays.servers) h.servers;
   volumes = subst (λ xs. length xs ≤ most_volumes) (sym stays.volumes) h.volumes;
   pending = let a : length k.pending ≤ length j.pending = stays.pending in let b : length j.pending ≤ most_pending = h.pending in omega arith;
+  tracks = λ v. subst (λ n. n ≤ most_tracks) (sym (stays.tracks v)) (h.tracks v);
 }
 
 pub within-task : (w : World) (t : Task) → IsWithin w.control → IsWithin (after_task w t).control
@@ -35,7 +38,7 @@ within-tasks w [] h = h
 within-tasks w (t ∷ tasks) h = within-tasks (after_task w t) tasks (within-task w t h)
 
 pub within-run : (tasks : List Task) → IsWithin (run tasks).control
-within-run tasks = within-tasks nothing tasks (record { servers = omega arith; volumes = omega arith; pending = omega arith })
+within-run tasks = within-tasks nothing tasks (record { servers = omega arith; volumes = omega arith; pending = omega arith; tracks = λ v. omega arith })
 
 -- there is room, or a step only answers
 room-by : (k : Control) (events : List Event) (line : ℕ) (step : Step) (built room : Bool) → has_room events ≡ room → (has_room events ≡ true) ⊎ ((a : Said) × (cond (not built) (refuses NotBuilt) (cond room (plan_of k events line step) (refuses JournalFull)) ≡ only_says a))
@@ -47,14 +50,9 @@ plan-room : (k : Control) (events : List Event) (line : ℕ) (asked : Result Ste
 plan-room k events line (Ok step) = room-by k events line step (is_built step) (has_room events) refl
 plan-room k events line (Err column) = inr (Refused (Syntax column), refl)
 
-fits-room : (w : World) (t : Task) → length w.control.volumes ≤ most_volumes → has_room w.events ≡ true → length (after_task w t).events ≤ most_events
-fits-room w t volumes room =
-    let p : Plan = plan-in w t in
-    let m : Modest w.control p = modest-in w t in
-    let e : EndsWith (length p.told + (length p.entries + m.most)) w t.line (after_task w t) = after_plan-ends w t.line p m in
-    let is : length (after_task w t).events ≡ length w.events + length e.ends.before + 1 = ends-length _ w t.line (after_task w t) e in
-    let few : length e.ends.before ≤ length p.told + (length p.entries + m.most) = e.few in
-    let most : length p.told + length p.entries + m.most < step_events = m.few volumes in
+fits-room : (w : World) (t : Task) → Sound w → IsWithin w.control → has_room w.events ≡ true → length (after_task w t).events ≤ most_events
+fits-room w t s h room =
+    let adds : length (after_task w t).events ≤ length w.events + step_events = after_plan-adds w t.line (plan-in w t) (plan-spends w s h t.line t.asked) in
     let left : length w.events + step_events ≤ most_events = grind (arith, nat_tests, room) in omega arith
 
 fits-says : (w : World) (line : ℕ) (p : Plan) (a : Said) → p ≡ only_says a → length w.events < most_events → length (after_plan w line p).events ≤ most_events
@@ -63,8 +61,8 @@ fits-says w line p a is lt =
     subst (λ (u : World). length u.events ≤ most_events) (sym (ap (after_plan w line) is ∙ plan-says w line a)) (omega arith)
 
 -- the journal stays within its limit
-pub journal-fits : (w : World) (t : Task) → length w.control.volumes ≤ most_volumes → length w.events < most_events → length (after_task w t).events ≤ most_events
-journal-fits w t volumes lt = elim (plan-room w.control w.events t.line t.asked) [
-  | inl room ↦ fits-room w t volumes room
+pub journal-fits : (w : World) (t : Task) → Sound w → IsWithin w.control → length w.events < most_events → length (after_task w t).events ≤ most_events
+journal-fits w t s h lt = elim (plan-room w.control w.events t.line t.asked) [
+  | inl room ↦ fits-room w t s h room
   | inr says ↦ fits-says w t.line (plan-in w t) says.0 says.1 lt
 ]

@@ -7,7 +7,7 @@ use Rattle.std.specs.List.{range_with_len, list_any}
 use Rattle.std.specs.Cmp.{unsigned_tied, nat_cmp_total}
 use Rattle.std.specs.FinSet.{union, contains-union, difference, contains, insert, remove, empty, members, is_subset-contains, contains-from_list_nat, contains-difference}
 use Rattle.dr_model.specs.Layout.{Tracks}
-use Rattle.dr_model.specs.Relations.{all_tracks, is_whole, rest, is_bare}
+use Rattle.dr_model.specs.Relations.{all_tracks, is_whole, rest}
 
 pub none_some : {P : Type 0} {o : Option ℕ} {s : ℕ} → o ≡ None → o ≡ Some s → P
 none_some n h = absurd cc

@@ -1,5 +1,5 @@
 -- What a volume shows is what is due, so a move changes what no other volume shows.
-use Rattle.std.proofs.Common.{ℕ, ◌≡◌, ◌≢◌, ◌<◌, refl, ap, sym, ◌∙◌, subst, Bool, true, false, cond, not, ◌&&◌, Some, None}
+use Rattle.std.proofs.Common.{ℕ, ◌≡◌, ◌≢◌, ◌<◌, refl, ap, sym, ◌∙◌, subst, Bool, true, false, cond, not, ◌&&◌}
 use Rattle.std.specs.FinSet.{contains}
 use Rattle.dr_model.specs.Histories.{Write}
 use Rattle.dr_model.specs.Moves.{Move, Keep, Note, Fetch, target}

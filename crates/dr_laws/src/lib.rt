@@ -2,20 +2,20 @@
 //! by its contract.
 #![tactic(auto)]
 
-ghost use Rattle.std.specs.Prelude.{◌≡◌, ◌≤◌, ◌<◌, ℕ, Bool, List, Option, take, length};
+ghost use Rattle.std.specs.Prelude.{◌≡◌, ◌≢◌, ◌≤◌, ◌<◌, ℕ, Bool, List, Option, take, length};
 ghost use Rattle.dr_ids.specs.declared.refusal.Refusal.{Refusal};
 ghost use Rattle.dr_model.specs.Histories.{Write};
 ghost use Rattle.dr_model.specs.Control.{World};
-ghost use Rattle.dr_model.specs.Moves.{Move};
+ghost use Rattle.dr_model.specs.Moves.{Move, Keep, Note, Fetch, target};
 ghost use Rattle.dr_model.specs.Carry.{carry};
 ghost use Rattle.dr_model.specs.Plans.{Plan, plan};
 ghost use Rattle.dr_model.specs.Runs.{Task, begun, after_task, after_tasks, run};
 ghost use Rattle.dr_model.specs.ReadStops.{Ends};
 ghost use Rattle.dr_model.specs.Table.{Table, table};
 ghost use Rattle.dr_model.specs.Rows.{after};
-ghost use Rattle.dr_model.specs.Laws.{SoundRows, Sound};
+ghost use Rattle.dr_model.specs.Laws.{SoundRows, Sound, shown};
 ghost use Rattle.dr_model.specs.Allowed.{Allowed};
-ghost use Rattle.dr_model.specs.Limits.{most_volumes, most_events};
+ghost use Rattle.dr_model.specs.Limits.{most_events};
 ghost use Rattle.dr_laws.specs.Limits.{IsWithin};
 ghost use Rattle.dr_laws.specs.Stops.{StopsTold, refused_stop};
 
@@ -47,19 +47,29 @@ pub fn each_kind_of_move_keeps_the_rows()
     ensures { (write : ℕ → Write) (T : Table) (m : Move) → SoundRows T → Allowed write T m → SoundRows (after write T m) }
 {}
 
+/// A move changes what no other volume shows; and a target that takes a track of its source, or notes that one changes,
+/// shows what it showed.
+pub fn a_move_leaves_the_other_views()
+    ensures others { (write : ℕ → Write) (T : Table) (m : Move) (v t : ℕ) → SoundRows T → Allowed write T m → v ≢ target m → t < (T v).volume.tracks → shown (after write T m) v t ≡ shown T v t }
+    ensures keep { (write : ℕ → Write) (T : Table) (v t q : ℕ) → SoundRows T → Allowed write T (Keep v t) → q < (T v).volume.tracks → shown (after write T (Keep v t)) v q ≡ shown T v q }
+    ensures note { (write : ℕ → Write) (T : Table) (v t q : ℕ) → SoundRows T → Allowed write T (Note v t) → q < (T v).volume.tracks → shown (after write T (Note v t)) v q ≡ shown T v q }
+    ensures fetch { (write : ℕ → Write) (T : Table) (v t q : ℕ) → SoundRows T → Allowed write T (Fetch v t) → q < (T v).volume.tracks → shown (after write T (Fetch v t)) v q ≡ shown T v q }
+{}
+
 /// A step is refused because a server stopped exactly where its acts told the journal of that stop.
 pub fn stops_are_told()
     ensures { (w : World) (t : Task) →
         let p : Plan = plan w.control w.events t.line t.asked in StopsTold (begun w p) (carry (begun w p) p.entries).0 (refused_stop (carry (begun w p) p.entries).1) }
 {}
 
-/// Every run stays within the limits of servers, volumes and pending writes.
+/// Every run stays within the limits of servers, volumes and pending writes, and of the tracks of a volume.
 pub fn runs_stay_within_limits()
     ensures { (tasks : List Task) → IsWithin (run tasks).control }
 {}
 
-/// A step adds to the journal, its answer at least, and a journal that has fewer events than its limit stays within it.
+/// A step adds to the journal, its answer at least, and in a sound world within the limits a journal that has fewer events
+/// than its limit stays within it.
 pub fn journals_fit()
     ensures grows { (w : World) (t : Task) → length w.events < length (after_task w t).events }
-    ensures fits { (w : World) (t : Task) → length w.control.volumes ≤ most_volumes → length w.events < most_events → length (after_task w t).events ≤ most_events }
+    ensures fits { (w : World) (t : Task) → Sound w → IsWithin w.control → length w.events < most_events → length (after_task w t).events ≤ most_events }
 {}
