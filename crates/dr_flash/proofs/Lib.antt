@@ -1,0 +1,4 @@
+pub mod SetLaws
+pub mod TellLemmas
+pub mod PlaceLaws
+pub mod MadeLemmas

@@ -1,0 +1,15 @@
+//! FlashCopy relationships between volumes of one server: made, ended and carried out, one move of a volume at a time.
+#![tactic(auto)]
+
+mod acts;
+mod fields;
+mod options;
+mod place;
+mod sets;
+mod told;
+
+pub use fields::{
+    closed, fetched, given_up, made, noted, restored, resynced, rewritten, turned, withdrawn,
+};
+pub use options::Options;
+pub use told::{Telling, Told};
