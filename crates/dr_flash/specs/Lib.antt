@@ -1,0 +1,6 @@
+pub mod Options
+pub mod Here
+pub mod Faults
+pub mod Fit
+pub mod Told
+pub mod Turns

@@ -1,0 +1,6 @@
+-- How a relationship is made, in the machine's words.
+use Rattle.dr_model.specs.Relations.{Choices}
+use Rattle.dr_flash.specs.declared.options.Options.{Options}
+
+abbrev pub choices : Options → Choices
+choices o = record { nocopy = o.nocopy; persistent = o.persistent; recorded = o.recorded; inhibited = o.inhibited; sequence = o.sequence }

@@ -1,0 +1,98 @@
+//! What the journal is told of a move.
+
+ghost use Rattle.std.specs.Prelude.{◌≡◌, ◌≤◌, ◌+◌, ◌++◌, length};
+ghost use Rattle.dr_model.specs.Moves.{told_blank};
+ghost use Rattle.dr_flash.specs.Told.{events_of};
+ghost use Rattle.dr_flash.specs.Turns.{told_in_stop};
+
+use dr_bits::TrackSet;
+use dr_ids::ServerId;
+use dr_model::{Event, Journal};
+
+/// Events that a move tells.
+#[derive(Clone, Copy)]
+pub enum Told {
+    Nothing,
+    One(Event),
+    /// A relationship has ended where the target, a volume with so many tracks, held these: each of the others now reads
+    /// zeros.
+    Blanked {
+        volume: u16,
+        tracks: u16,
+        own: TrackSet,
+    },
+}
+
+/// What a move tells when it is done, and when its server stopped in it and it counts as done; and the number of the
+/// host write that has landed then, 0 for none.
+#[derive(Clone, Copy)]
+pub struct Telling {
+    pub done: Told,
+    pub in_stop: Told,
+    pub landed: u32,
+}
+
+impl Telling {
+    /// A move that tells these events, done or counted as done in a stop.
+    pub fn of(told: Told) -> Self
+        ensures { result ≡ record { done = told; in_stop = told; landed = 0 } }
+    {
+        let in_stop = told;
+        Telling {
+            done: told,
+            in_stop,
+            landed: 0,
+        }
+    }
+}
+
+/// Tells the journal the events.
+pub(crate) fn tell(j: &mut Journal, told: &Told)
+    requires { length (events_of told.now) ≤ j.old.spare }
+    ensures events { j.new.events ≡ j.old.events ++ events_of told.now }
+    ensures spare { j.old.spare ≡ j.new.spare + length (events_of told.now) }
+{
+    match told {
+        Told::Nothing => {}
+        Told::One(event) => j.push(*event),
+        Told::Blanked {
+            volume,
+            tracks,
+            own,
+        } => tell_blank(j, *volume, *tracks, own),
+    }
+}
+
+/// Tells that the tracks of a volume that has so many, but for those in `own`, read zeros.
+fn tell_blank(j: &mut Journal, volume: u16, tracks: u16, own: &TrackSet)
+    requires { length (told_blank volume tracks own.now) ≤ j.old.spare }
+    ensures events { j.new.events ≡ j.old.events ++ told_blank volume tracks own.now }
+    ensures spare { j.old.spare ≡ j.new.spare + length (told_blank volume tracks own.now) }
+{
+    for track in 0..tracks {
+        if own.contains(track) {
+            continue;
+        }
+        j.push(Event::Blanked { volume, track });
+    }
+}
+
+/// Tells that a server stopped within a move that counts as done or doesn't.
+pub(crate) fn tell_stop(j: &mut Journal, told: &Telling, server: ServerId, done: bool)
+    requires { length (events_of told.now.in_stop) + 1 ≤ j.old.spare }
+    ensures events { j.new.events ≡ j.old.events ++ told_in_stop done told.now server.0 }
+    ensures spare { j.old.spare ≤ j.new.spare + (length (events_of told.now.in_stop) + 1) }
+{
+    if !done {
+        j.push(Event::Stopped {
+            server: server.0,
+            write: 0,
+        });
+        return;
+    }
+    tell(j, &told.in_stop);
+    j.push(Event::Stopped {
+        server: server.0,
+        write: told.landed,
+    });
+}
