@@ -11,6 +11,7 @@ mod place;
 mod reads;
 mod sets;
 mod told;
+mod views;
 
 pub use keeping::copy_first;
 pub use fields::{
@@ -18,3 +19,4 @@ pub use fields::{
 };
 pub use options::Options;
 pub use told::{Telling, Told};
+pub use views::{read_target, view_of};
