@@ -2,7 +2,6 @@
 #![tactic(auto)]
 
 mod acts;
-
 mod fields;
 mod keep;
 mod keeping;
@@ -13,10 +12,10 @@ mod sets;
 mod told;
 mod views;
 
-pub use keeping::copy_first;
 pub use fields::{
     closed, fetched, given_up, made, noted, restored, resynced, rewritten, turned, withdrawn,
 };
+pub use keeping::copy_first;
 pub use options::Options;
 pub use told::{Telling, Told};
 pub use views::{read_target, view_of};

@@ -31,13 +31,7 @@ fn track_of<P: Plant>(p: &mut P, c: &Config, v: VolumeId, t: u16) -> Block
 }
 
 /// A track of a volume that was opened, and whose device can still be read.
-fn opened_track<P: Plant>(
-    p: &mut P,
-    c: &Config,
-    opened: &Opened,
-    v: VolumeId,
-    t: u16,
-) -> Block
+fn opened_track<P: Plant>(p: &mut P, c: &Config, opened: &Opened, v: VolumeId, t: u16) -> Block
     requires rest { IsAtRest (P.state p.old) c.now }
     requires defined { IsSome (place_of c.now v.0) }
     requires opened { IsOpened (P.state p.old) c.now v.0 opened.now }

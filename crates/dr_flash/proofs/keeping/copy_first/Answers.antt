@@ -43,12 +43,12 @@ returns-in_err-keep_on-clause-fails g c =
     let k = c.args.t in
     let v = c.args.v.0 in
     err-always c.from_residual.result (λ r ds.
-        let u = seen (g.P.Plant.state c.keep_on.new.p) t r c.keep_on.new.j.events in
-        let e = c.in_err-keep_on.field-0.0 in
-        subst (λ q. Ends (armed_in s0) u q (seen s0 t r c.args.j.now.events) (copy_first (ids_of t.volumes) v k ++ ds)) (sym (refused-by c.from_residual.result e c.from_residual.ensures.0 c.from_residual.ensures.1))
-        (c.loop-place.invariant.left r (armed_in s0) u (Some e) ds
-        (subst (λ es. Ends (armed_in s0) u (Some e) (seen s t r c.loop-place.j.events) (es ++ ds)) (sym (keeps-next t v k c.loop-place.place c.unwrap-u.result.0 (sym (ap (option_map (λ (v : VolumeId). v.0)) c.unwrap-u.ensures) ∙ c.volume_at.ensures.value)))
-        (ends-wider (armed_in s) (armed_in s0) (wider-armed s0 s c.loop-place.invariant.unarmed) u (Some e) _ _ (c.in_err-keep_on.ensures.halts r (keeps_from t v k (c.loop-place.place + 1) ++ ds))))))
+    let u = seen (g.P.Plant.state c.keep_on.new.p) t r c.keep_on.new.j.events in
+    let e = c.in_err-keep_on.field-0.0 in
+    subst (λ q. Ends (armed_in s0) u q (seen s0 t r c.args.j.now.events) (copy_first (ids_of t.volumes) v k ++ ds)) (sym (refused-by c.from_residual.result e c.from_residual.ensures.0 c.from_residual.ensures.1))
+    (c.loop-place.invariant.left r (armed_in s0) u (Some e) ds
+    (subst (λ es. Ends (armed_in s0) u (Some e) (seen s t r c.loop-place.j.events) (es ++ ds)) (sym (keeps-next t v k c.loop-place.place c.unwrap-u.result.0 (sym (ap (option_map (λ (v : VolumeId). v.0)) c.unwrap-u.ensures) ∙ c.volume_at.ensures.value)))
+    (ends-wider (armed_in s) (armed_in s0) (wider-armed s0 s c.loop-place.invariant.unarmed) u (Some e) _ _ (c.in_err-keep_on.ensures.halts r (keeps_from t v k (c.loop-place.place + 1) ++ ds))))))
 
 pub returns-in_err-keep_on-clause-refused : goal.returns-in_err-keep_on-clause-refused
 returns-in_err-keep_on-clause-refused g c =
@@ -104,7 +104,7 @@ returns-in_err-keep_on-clause-carried g c r =
     let u = seen (g.P.Plant.state c.keep_on.new.p) t r c.keep_on.new.j.events in
     let e = c.in_err-keep_on.field-0.0 in
     failed (armed_in s0) (seen s0 t r c.args.j.now.events) u (refusal_of c.from_residual.result) (copy_first (ids_of t.volumes) v k) (λ ds.
-        subst (λ q. Ends (armed_in s0) u q (seen s0 t r c.args.j.now.events) (copy_first (ids_of t.volumes) v k ++ ds)) (sym (refused-by c.from_residual.result e c.from_residual.ensures.0 c.from_residual.ensures.1))
-        (c.loop-place.invariant.left r (armed_in s0) u (Some e) ds
-        (subst (λ es. Ends (armed_in s0) u (Some e) (seen s t r c.loop-place.j.events) (es ++ ds)) (sym (keeps-next t v k c.loop-place.place c.unwrap-u.result.0 (sym (ap (option_map (λ (v : VolumeId). v.0)) c.unwrap-u.ensures) ∙ c.volume_at.ensures.value)))
-        (ends-wider (armed_in s) (armed_in s0) (wider-armed s0 s c.loop-place.invariant.unarmed) u (Some e) _ _ (c.in_err-keep_on.ensures.halts r (keeps_from t v k (c.loop-place.place + 1) ++ ds))))))
+    subst (λ q. Ends (armed_in s0) u q (seen s0 t r c.args.j.now.events) (copy_first (ids_of t.volumes) v k ++ ds)) (sym (refused-by c.from_residual.result e c.from_residual.ensures.0 c.from_residual.ensures.1))
+    (c.loop-place.invariant.left r (armed_in s0) u (Some e) ds
+    (subst (λ es. Ends (armed_in s0) u (Some e) (seen s t r c.loop-place.j.events) (es ++ ds)) (sym (keeps-next t v k c.loop-place.place c.unwrap-u.result.0 (sym (ap (option_map (λ (v : VolumeId). v.0)) c.unwrap-u.ensures) ∙ c.volume_at.ensures.value)))
+    (ends-wider (armed_in s) (armed_in s0) (wider-armed s0 s c.loop-place.invariant.unarmed) u (Some e) _ _ (c.in_err-keep_on.ensures.halts r (keeps_from t v k (c.loop-place.place + 1) ++ ds))))))
