@@ -17,5 +17,6 @@ pub use fields::{
 };
 pub use keeping::copy_first;
 pub use options::Options;
+pub use place::{server_of, tracks_of};
 pub use told::{Telling, Told};
 pub use views::{read_target, view_of};

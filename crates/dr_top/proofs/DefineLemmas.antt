@@ -38,7 +38,8 @@ use Rattle.dr_volume.proofs.VolumeLaws.{volume-placed, track-placed}
 use Rattle.dr_ids.specs.declared.refusal.Fault.{Fault}
 use Rattle.dr_ids.specs.declared.refusal.Fault.TheVariants.{NoMemory, Refused as FaultRefused}
 use Rattle.dr_model.specs.declared.said.Said.{Said}
-use Rattle.dr_top.specs.Here.{here, IsAtRest, IsReady, OnAnswer}
+use Rattle.dr_top.specs.Here.{here, IsReady, OnAnswer}
+use Rattle.dr_flash.specs.Here.{IsAtRest}
 use Rattle.dr_top.proofs.ToldLemmas.{told-push}
 use Rattle.dr_top.proofs.LocatedLemmas.{is_volume-here}
 use Rattle.dr_top.proofs.StartLemmas.{some_or_none}

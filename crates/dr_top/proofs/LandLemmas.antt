@@ -22,7 +22,8 @@ use Rattle.dr_volume.specs.Update.{IsAsBefore, IsMoved, OthersStay, EndsAs, afte
 use Rattle.dr_volume.proofs.UnreadLaws.{Unread, unread, armed-of, lies-low}
 use Rattle.dr_host.specs.Writes.{Writes}
 use Rattle.dr_model.specs.declared.event.Event.{Event}
-use Rattle.dr_top.specs.Here.{IsAtRest, IsReady, IsTold, armed_in, said_of, refusal_of}
+use Rattle.dr_top.specs.Here.{IsReady, IsTold, said_of}
+use Rattle.dr_flash.specs.Here.{IsAtRest, armed_in, refusal_of}
 use Rattle.dr_top.specs.Landing.{LandsAs}
 
 pub is-armed : (s : PlantState) (server : ℕ) → server < 8 → is_some (s.read_fuse server) ≡ true → armed_in s server ≡ true

@@ -34,7 +34,8 @@ use Rattle.dr_io.specs.Faults.{Rose}
 use Rattle.dr_ids.specs.declared.names.ServerId.{ServerId}
 use Rattle.dr_ids.specs.declared.refusal.Refusal.TheVariants.{Stopped as StoppedIn}
 use Rattle.dr_top.specs.Faults.{Counts}
-use Rattle.dr_top.specs.Here.{here, said_of, armed_in, IsAtRest}
+use Rattle.dr_top.specs.Here.{here, said_of}
+use Rattle.dr_flash.specs.Here.{armed_in, IsAtRest}
 use Rattle.dr_top.specs.Landing.{Shuts}
 use Rattle.dr_host.specs.Writes as writes
 use Rattle.dr_host.specs.Writes.{has_owner, without}

@@ -4,7 +4,7 @@ use Rattle.dr_ids.specs.declared.refusal.Fault.{Fault}
 use Rattle.dr_ids.specs.declared.refusal.Fault.TheVariants.{NoMemory, Refused as FaultRefused}
 use Rattle.dr_ids.specs.declared.refusal.Refusal.{Refusal}
 use Rattle.dr_plant.specs.State.{PlantState}
-use Rattle.dr_config.specs.Table.{Table, StandsFor}
+use Rattle.dr_config.specs.Table.{Table}
 use Rattle.dr_model.specs.declared.event.Event.{Event}
 use Rattle.dr_model.specs.declared.said.Addition.{Addition}
 use Rattle.dr_model.specs.declared.said.Said.{Said}
@@ -14,7 +14,8 @@ use Rattle.dr_model.specs.Control.{World}
 use Rattle.dr_model.specs.Histories.{histories}
 use Rattle.dr_model.specs.Plans.{plan_of}
 use Rattle.dr_model.specs.Runs.{after_plan, said}
-use Rattle.dr_volume.specs.View.{Rest, world, volume_seen, IsSettled, ReadsPass}
+use Rattle.dr_volume.specs.View.{Rest, world, ReadsPass}
+use Rattle.dr_flash.specs.Here.{IsAtRest}
 use Rattle.dr_host.specs.Writes.{Writes, Each, bytes_of}
 use Rattle.dr_host.specs.Seen.{seen}
 use Rattle.dr_host.specs.declared.pending.Pending.{Pending}
@@ -25,11 +26,6 @@ rest_of h events = record { issued = h.issued; pending = map seen h.pending; eve
 -- the state that plant, configuration, writes and journal show
 abbrev pub here : PlantState → Table → Writes → List Event → World
 here s t h events = world s t (rest_of h events)
-
--- the refusal that a call ended with, if one
-abbrev pub refusal_of : Result (Unit {0}) Refusal → Option Refusal
-refusal_of (Ok x) = None
-refusal_of (Err r) = Some r
 
 -- what is answered by the end of a call
 abbrev pub said_of : Result Addition Refusal → Said
@@ -65,17 +61,6 @@ OnRefused _ P = Unit {0}
 -- from a world, the machine's step of a line leads to this one, and is answered so
 abbrev pub Leads : World → ℕ → Step → World → Said → Type 0
 Leads w line step u a = after_plan w line (plan_of w.control w.events line step) ≡ said u line a
-
--- a server of the plant whose read fuse is armed
-abbrev pub armed_in : PlantState → ℕ → Bool
-armed_in s server = nat_lt server 8 && is_some (s.read_fuse server)
-
--- The configuration stands for the plant, each running volume's staged track stands at its place, and no volume is
--- larger than a volume may be.
-pub record IsAtRest (s : PlantState) (t : Table) : Type 0 where
-  pub stands : StandsFor t s
-  pub settled : (v : ℕ) → IsSettled s t v
-  pub sizes : (v : ℕ) → (volume_seen s t v).tracks ≤ 256
 
 -- each pending write is the one that the journal tells of
 abbrev pub IsTold : Writes → List Event → Type 0

@@ -4,13 +4,14 @@ ghost use Rattle.std.specs.Prelude.{◌≡◌, ℕ, ◌+◌, ◌<◌, ◌≤◌,
 ghost use Rattle.std.specs.List.{find};
 ghost use Rattle.dr_config.specs.Table.{place_of};
 ghost use Rattle.dr_host.specs.Writes.{has_number, with_marked};
-ghost use Rattle.dr_model.specs.Moves.{Land};
-ghost use Rattle.dr_model.specs.Carry.{now};
+ghost use Rattle.dr_model.specs.Entries.{land_on};
 ghost use Rattle.dr_model.specs.ReadStops.{Ends};
 ghost use Rattle.dr_model.specs.Refusals.{stopped};
 ghost use Rattle.dr_volume.specs.View.{volume_seen};
+ghost use Rattle.dr_flash.specs.Fit.{RelationsFit};
 ghost use Rattle.dr_top.specs.Faults.{Counted};
-ghost use Rattle.dr_top.specs.Here.{here, refusal_of, armed_in, IsAtRest, IsTold};
+ghost use Rattle.dr_top.specs.Here.{here, IsTold};
+ghost use Rattle.dr_flash.specs.Here.{refusal_of, armed_in, IsAtRest};
 ghost use Rattle.dr_top.specs.Waiting.{IsPending};
 
 use crate::landing::land;
@@ -42,6 +43,7 @@ pub fn land_write<P: Plant>(
     bytes: &[u8],
 ) -> Result<(), Refusal>
     requires rest { IsAtRest (P.state plant.old) config.now }
+    requires fit { RelationsFit (P.state plant.old) config.now }
     requires told { IsTold host.old journal.old.events }
     requires defined { IsSome (place_of config.now target.volume.0) }
     requires server { (volume_seen (P.state plant.old) config.now target.volume.0).server ≡ target.server.0 }
@@ -52,7 +54,7 @@ pub fn land_write<P: Plant>(
     requires room { 0 < journal.old.spare }
     requires pending { IsPending host.old journal.old.events w.0 target bytes.now }
     ensures carried { Ends (armed_in (P.state plant.old)) (here (P.state plant.new) config.now host.new journal.new.events) (refusal_of result)
-        (here (P.state plant.old) config.now host.old journal.old.events) (now (Land w.0 target.volume.0 target.track) ∷ []) }
+        (here (P.state plant.old) config.now host.old journal.old.events) (land_on w.0 target.volume.0 target.track ∷ []) }
     ensures stopped { OnErr result (refusal_of result ≡ Some (stopped target.server.0)) }
     ensures rest { IsAtRest (P.state plant.new) config.now }
     ensures told { IsTold host.new journal.new.events }

@@ -3,8 +3,10 @@ use mathlib.Core.Bool.{beq}
 use Rattle.dr_model.specs.declared.event.Event.TheVariants.{Stopped}
 use Rattle.dr_model.specs.Refusals.{stopped}
 use Rattle.dr_model.specs.Control.{World}
-use Rattle.dr_model.specs.Moves.{Land, marked}
-use Rattle.dr_model.specs.Carry.{now, Make}
+use Rattle.dr_model.specs.Moves.{marked}
+use Rattle.dr_model.specs.Carry.{Make}
+use Rattle.dr_model.specs.Entries.{land_on}
+use Rattle.dr_top.specs.Landing.{landing_move}
 use Rattle.dr_model.specs.ReadStops.{shut}
 use Rattle.dr_model.proofs.CarryLemmas.{act-move}
 use Rattle.dr_laws.proofs.ReadStops.{ends-goes, ends-stops, ends-none, ends-off}
@@ -12,7 +14,8 @@ use Rattle.dr_volume.specs.View.{world, control_seen, volume_seen, on_seen}
 use Rattle.dr_host.specs.Writes.{Writes, with_marked}
 use Rattle.dr_host.specs.Seen.{seen}
 use Rattle.dr_host.proofs.Seen.{seen-without}
-use Rattle.dr_top.specs.Here.{here, rest_of, armed_in}
+use Rattle.dr_top.specs.Here.{here, rest_of}
+use Rattle.dr_flash.specs.Here.{armed_in}
 use Rattle.dr_top.proofs.TurnLemmas.{turn-goes, turn-stops, done-by_slot, cut_short-is, seen-landed, issued-landed, differ, differ_same, not_beq, on-running, failed-not}
 use Rattle.dr_top.proofs.ToldLemmas.{told-push, told-acked, told-marked}
 use Rattle.dr_top.proofs.machine.land_write.Goals as goal
@@ -35,8 +38,8 @@ returns-in-Ok-clause-carried g c =
     let count = ap (λ (x : Writes). x.issued) (sym c.finish.ensures) in
     elim (c.in-Ok.ensures.exact r) [
       | inl ends ↦
-          ends-goes (armed_in s0) _ None w0 _ (now (Land w at.volume.0 at.track)) [] (Make (Land w at.volume.0 at.track)) refl
-          (act-move w0 (Land w at.volume.0 at.track) ∙ turn-goes w0 w at.volume.0 at.track at.offset c.args.bytes.now c.requires.pending.issue on (world s1 t r) ends)
+          ends-goes (armed_in s0) _ None w0 _ (land_on w at.volume.0 at.track) [] (Make (landing_move (volume_seen s0 t at.volume.0).fields.related w at.volume.0 at.track)) refl
+          (act-move w0 (landing_move (volume_seen s0 t at.volume.0).fields.related w at.volume.0 at.track) ∙ turn-goes w0 w at.volume.0 at.track at.offset c.args.bytes.now c.requires.pending.issue on (world s1 t r) ends)
           (ends-none (armed_in s0) _ None _ (record { world = λ i. record (world s1 t r) { control = record (control_seen s1 t r) { issued = sym count i; pending = sym left i }; events = c.push.ensures.events i }; refusal = refl }))
       | inr off ↦ absurd (failed-not off.answer)
     ]
@@ -59,13 +62,14 @@ returns-in-Err-clause-carried g c =
     ∙ ap (differ c.slot.result) (sym c.slot-before.ensures)
     ∙ sym (not_beq c.slot.result c.slot-before.result)) in
     let on = ap (on_seen s0) c.requires.server ∙ on-running s0 at.server.0 c.requires.running in
-    let m = Land n at.volume.0 at.track in
+    let m = landing_move (volume_seen s0 t at.volume.0).fields.related n at.volume.0 at.track in
+    let d = land_on n at.volume.0 at.track in
     let told = ap (λ k. events ++ Stopped at.server.0 k ∷ []) (sym c.write_in_stop.ensures) ∙ sym c.push-in-Err.ensures.events in
     let marks = seen-landed host c.land_if.new.host n landed c.land_if.ensures in
     let count = sym (issued-landed host c.land_if.new.host n landed c.land_if.ensures) in
     elim (c.in-Err.ensures.exact r) [
       | inl ends ↦
-          ends-stops (armed_in s0) _ (Some (stopped at.server.0)) w0 (now m) [] (Make m) at.server.0 refl
+          ends-stops (armed_in s0) _ (Some (stopped at.server.0)) w0 d [] (Make m) at.server.0 refl
           (act-move w0 m
           ∙ turn-stops w0 n at.volume.0 at.track at.offset c.args.bytes.now c.requires.pending.issue on (world s1 t r) landed (done-by_slot w0 at.volume.0 _ _ (sym ends.stopped) ∙ by_slot _ ends.world) ends
           ∙ ap (λ (x : World). (x, Some (volume_seen s0 t at.volume.0).server)) (cut_short-is (world s1 t r) n at.volume.0 at.track (volume_seen s0 t at.volume.0) landed)
@@ -76,7 +80,7 @@ returns-in-Err-clause-carried g c =
           let stays : false ≡ landed = sym (differ_same (volume_seen s0 t at.volume.0).slot) ∙ by_slot (shut w0 (volume_seen s0 t at.volume.0).server) off.world in
           let same : c.land_if.new.host ≡ host = c.land_if.ensures ∙ ap (λ b. cond b (with_marked host n) host) (sym stays) in
           let silent = sym told ∙ ap (λ b. events ++ Stopped at.server.0 (cond b n 0) ∷ []) (sym stays) in
-          ends-off (armed_in s0) _ (Some (stopped at.server.0)) w0 (now m ∷ []) (record {
+          ends-off (armed_in s0) _ (Some (stopped at.server.0)) w0 (d ∷ []) (record {
             server = at.server.0;
             on = on-running s0 at.server.0 c.requires.running;
             is_armed = ap (armed_in s0) (sym c.requires.server) ∙ off.is_armed;

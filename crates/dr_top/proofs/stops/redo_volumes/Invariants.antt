@@ -2,7 +2,8 @@ use Rattle.std.proofs.Common.{ℕ, ◌≡◌, Option, None}
 use Rattle.dr_ids.specs.declared.refusal.Refusal.{Refusal}
 use Rattle.dr_model.specs.Control.{World}
 use Rattle.dr_model.specs.ReadStops.{Ends}
-use Rattle.dr_top.specs.Here.{here, armed_in, IsTold}
+use Rattle.dr_top.specs.Here.{here, IsTold}
+use Rattle.dr_flash.specs.Here.{armed_in}
 use Rattle.dr_top.specs.Starting.{IsStarting, redo_from}
 use Rattle.dr_host.specs.Writes.{Writes}
 use Rattle.dr_top.proofs.stops.redo_volumes.Given as goal
