@@ -34,6 +34,10 @@ module _ (J I : World → Type 0) (May : World → Act → Type 0) where
   unfolding Along
   along-entry w d ds x is a = subst (λ x. along_next w x (λ v. Along v ds)) (sym is) a
 
+  pub along-comes : (w : World) (d : Entry) (ds : List Entry) (x : Next) → d w.control ≡ x → Along w (d ∷ ds) → along_next w x (λ v. Along v ds)
+  unfolding Along
+  along-comes w d ds x is a = subst (λ x. along_next w x (λ v. Along v ds)) is a
+
   -- a check, and a move that comes in any case
   check-by : (w : World) (b : Bool) (r : Refusal) (more : World → Type 0) → I w → (b ≡ true → more w) → along_next w (cond b Pass (End r)) more
   check-by w true r more i go = go refl

@@ -225,9 +225,12 @@ module _ (w : World) (x : Sound w) (t : ℕ) where
   copies-by n on related false is = fetches t n first begins (record { on = on; forward = is })
   copies-by n on related true is = rounds w.control.volumes t (fields_at w.control t).source n first begins (inl (record { on = on; related = has_source _ _ related; reversing = is; volumes_are = refl }))
 
-  pub holds-copy : (most : Option ℕ) → StepHolds w (copy_plan w.control t most)
-  holds-copy most = holds-entries w _ _ x
-      (checked first (is_defined t) _ _ begins (λ there.
+  pub along-copy : (most : Option ℕ) → Along first (copy_plan w.control t most).entries
+  along-copy most =
+      checked first (is_defined t) _ _ begins (λ there.
       checked first (is_running t) _ _ begins (λ on.
       checked first (may_copy t) _ _ begins (λ may.
-      copies-by (at_most most (left_to_copy w.control t)) on (and_parts (fields_at w.control t).related _ may).0 _ refl))))
+      copies-by (at_most most (left_to_copy w.control t)) on (and_parts (fields_at w.control t).related _ may).0 _ refl)))
+
+  pub holds-copy : (most : Option ℕ) → StepHolds w (copy_plan w.control t most)
+  holds-copy most = holds-entries w _ _ x (along-copy most)

@@ -74,9 +74,9 @@ module _ (w : World) (x : Sound w) where
       let none = (or_parts ((fields_at w.control t).related && true) _ (not-true (stands_in is_any w.control t) free)).1 in
       false≢true (sym none ∙ any-has (λ u. copies_from t (fields_at w.control u)) (λ u. is_any (fields_at w.control u)) u w.control.volumes (x.rows.structure.defined u (from_source _ _ t h).0) (from-copies t (fields_at w.control u) h) refl)
 
-  pub holds-flash : (dev : Option Name) (s t : ℕ) (choices : Choices) → StepHolds w (flash_plan w.control dev s t choices)
-  holds-flash dev s t choices = holds-entries w _ _ x
-      (named first begins w.control dev s t _ (λ there here on.
+  pub along-flash : (dev : Option Name) (s t : ℕ) (choices : Choices) → Along first (flash_plan w.control dev s t choices).entries
+  along-flash dev s t choices =
+      named first begins w.control dev s t _ (λ there here on.
       checked first (differ s t) _ _ begins (λ apart.
       checked first (share_server s t) _ _ begins (λ server.
       checked first (share_size s t) _ _ begins (λ size.
@@ -100,23 +100,32 @@ module _ (w : World) (x : Sound w) where
         };
         fits = ltb-true (length (targets_of w.control s)) most_targets few;
         ready = idle first t begins.queue on_t;
-      }) (λ f j. over _ j))))))))))
+      }) (λ f j. over _ j)))))))))
 
-  pub holds-withdraw : (dev : Option Name) (s t : ℕ) → StepHolds w (withdraw_plan w.control dev s t)
-  holds-withdraw dev s t = holds-entries w _ _ x
-      (named first begins w.control dev s t _ (λ there here on.
+  pub holds-flash : (dev : Option Name) (s t : ℕ) (choices : Choices) → StepHolds w (flash_plan w.control dev s t choices)
+  holds-flash dev s t choices = holds-entries w _ _ x (along-flash dev s t choices)
+
+  pub along-withdraw : (dev : Option Name) (s t : ℕ) → Along first (withdraw_plan w.control dev s t).entries
+  along-withdraw dev s t =
+      named first begins w.control dev s t _ (λ there here on.
       checked first (is_plain_target s t) _ _ begins (λ target.
       let plain = plain-target first s t target in
       let on_t : Runs first t = runs-target first begins t s plain.related on in
-      moves first (Withdraw t) [] (record { runs = on_t; allowed = record { from = s; related = plain.related; forward = plain.forward }; fits = tt; ready = idle first t begins.queue on_t }) (λ f j. over _ j))))
+      moves first (Withdraw t) [] (record { runs = on_t; allowed = record { from = s; related = plain.related; forward = plain.forward }; fits = tt; ready = idle first t begins.queue on_t }) (λ f j. over _ j)))
 
-  pub holds-resync : (dev : Option Name) (s t : ℕ) (sequence : Option ℕ) → StepHolds w (resync_plan w.control dev s t sequence)
-  holds-resync dev s t sequence = holds-entries w _ _ x
-      (named first begins w.control dev s t _ (λ there here on.
+  pub holds-withdraw : (dev : Option Name) (s t : ℕ) → StepHolds w (withdraw_plan w.control dev s t)
+  holds-withdraw dev s t = holds-entries w _ _ x (along-withdraw dev s t)
+
+  pub along-resync : (dev : Option Name) (s t : ℕ) (sequence : Option ℕ) → Along first (resync_plan w.control dev s t sequence).entries
+  along-resync dev s t sequence =
+      named first begins w.control dev s t _ (λ there here on.
       checked first (is_recorded_target s t) _ _ begins (λ target.
       let may = may-resync first s t target in
       let on_t : Runs first t = runs-target first begins t s may.related on in
-      moves first (Resync t sequence) [] (record { runs = on_t; allowed = may; fits = tt; ready = idle first t begins.queue on_t }) (λ f j. over _ j))))
+      moves first (Resync t sequence) [] (record { runs = on_t; allowed = may; fits = tt; ready = idle first t begins.queue on_t }) (λ f j. over _ j)))
+
+  pub holds-resync : (dev : Option Name) (s t : ℕ) (sequence : Option ℕ) → StepHolds w (resync_plan w.control dev s t sequence)
+  holds-resync dev s t sequence = holds-entries w _ _ x (along-resync dev s t sequence)
 
   -- nothing else is restored onto the source
   lone : (s t : ℕ) → (fields_at w.control t).reversing ≡ false → is_lone_restore s t w.control ≡ true → (u : ℕ) → from w u ≡ Some s → (fields_at w.control u).reversing ≡ true → ⊥
@@ -130,11 +139,14 @@ module _ (w : World) (x : Sound w) where
       or-right true b h = refl
       or-right false b h = h
 
-  pub holds-reverse : (dev : Option Name) (s t : ℕ) → StepHolds w (reverse_plan w.control dev s t)
-  holds-reverse dev s t = holds-entries w _ _ x
-      (named first begins w.control dev s t _ (λ there here on.
+  pub along-reverse : (dev : Option Name) (s t : ℕ) → Along first (reverse_plan w.control dev s t).entries
+  along-reverse dev s t =
+      named first begins w.control dev s t _ (λ there here on.
       checked first (is_recorded_target s t) _ _ begins (λ target.
       checked first (is_lone_restore s t) _ _ begins (λ free.
       let may = may-resync first s t target in
       let on_t : Runs first t = runs-target first begins t s may.related on in
-      moves first (Reverse t) [] (record { runs = on_t; allowed = record { resync = may; alone = lone s t may.forward free }; fits = tt; ready = idle first t begins.queue on_t }) (λ f j. over _ j)))))
+      moves first (Reverse t) [] (record { runs = on_t; allowed = record { resync = may; alone = lone s t may.forward free }; fits = tt; ready = idle first t begins.queue on_t }) (λ f j. over _ j))))
+
+  pub holds-reverse : (dev : Option Name) (s t : ℕ) → StepHolds w (reverse_plan w.control dev s t)
+  holds-reverse dev s t = holds-entries w _ _ x (along-reverse dev s t)

@@ -123,6 +123,11 @@ over = along.along-nil Sound Sound MayDo
 pub decides : (w : World) (d : Entry) (ds : List Entry) (x : Next) → d w.control ≡ x → Then w x (λ v. Along v ds) → Along w (d ∷ ds)
 decides = along.along-entry Sound Sound MayDo
 
+-- what a plan that is allowed along says of its first entry: where it is a move, that this may come, and that the rest is
+-- allowed along after it
+pub comes : (w : World) (d : Entry) (ds : List Entry) (x : Next) → d w.control ≡ x → Along w (d ∷ ds) → Then w x (λ v. Along v ds)
+comes = along.along-comes Sound Sound MayDo
+
 pub moves : (w : World) (m : Move) (ds : List Entry) → May w m → ((f : Option Fuse) → Sound (done w m f) → Along (done w m f) ds) → Along w (now m ∷ ds)
 moves = along.along-now Sound Sound MayDo
 

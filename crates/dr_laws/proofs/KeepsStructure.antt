@@ -5,11 +5,13 @@ use Rattle.dr_model.specs.Tables.{at}
 use Rattle.dr_model.specs.Layout.{Tracks, Fields}
 use Rattle.dr_model.specs.Histories.{Write}
 use Rattle.dr_model.specs.Relations.{rest, is_bare, is_whole, turned, given_up}
-use Rattle.dr_model.specs.Moves.{Move, Land, Overwrite, Keep, Note, Relate, Withdraw, Fetch, Resync, Reverse, Restore, Release}
+use Rattle.dr_model.specs.Moves.{Move, Land, Overwrite, Keep, Note, Relate, Withdraw, Fetch, Resync, Reverse, Restore, Release, target, next_fields}
 use Rattle.dr_model.specs.Table.{Row, Table}
-use Rattle.dr_model.specs.Rows.{after}
+use Rattle.dr_model.specs.Rows.{after, next_row, volumes_of}
 use Rattle.dr_model.specs.Laws.{Structure, Lawful, RowSets, RowFlags, RowDefined, SetsFit, FlagsFit, Flashed, OneRestore, source, fields}
 use Rattle.dr_model.specs.Allowed.{Allowed}
+use Rattle.dr_model.specs.Lawful.{IsLawful}
+use Rattle.dr_model.proofs.Images.{at_same}
 use Rattle.dr_model.proofs.LawfulLemmas.{lawful-filled}
 use Rattle.dr_laws.proofs.AtLemmas.{at_cases, each-at, linked-at}
 use Rattle.dr_laws.proofs.KeepsLawful.{lawful-taken, low-noted, lawful-noted, lawful-made, lawful-withdrawn, lawful-resynced, lawful-turned, lawful-given_up}
@@ -248,3 +250,7 @@ module _ (write : ℕ → Write) (T : Table) (old : Structure T) where
         onto = λ u. no_targets v a.from u a.related;
         restores = parted-restores v e;
       })
+
+  -- so the fields that a move leaves are lawful
+  pub lawful-left : (m : Move) → Allowed write T m → IsLawful (T (target m)).volume.tracks (next_fields m (volumes_of T))
+  lawful-left m a = subst (λ (r : Row). Lawful r) (at_same T (target m) (next_row write m T)) ((kept-structure m a).lawful (target m))

@@ -1,5 +1,6 @@
 -- A track with bytes laid over it, and what stays blank then.
-use Rattle.std.proofs.Common.{ℕ, ◌≡◌, ◌≢◌, ◌<◌, ◌≤◌, ◌+◌, ◌-◌, inl, inr, List, length, get_or, set, take, ap, ◌∙◌, sym, arith, true, false, ◌&&◌, ◌||◌, cond, nat_eq, nat_lt, nat_le, rules}
+use Rattle.std.specs.Prelude.{if◌then◌else◌}
+use Rattle.std.proofs.Common.{ℕ, ◌≡◌, ◌≢◌, ◌<◌, ◌≤◌, ◌+◌, ◌-◌, inl, inr, Bool, refl, Some, List, length, get_or, set, take, ap, ◌∙◌, sym, arith, true, false, ◌&&◌, cond, nat_lt, nat_le, rules}
 use Rattle.std.proofs.lemmas.Grind.{common_steps}
 use Rattle.std.proofs.lemmas.Bool.Decides.{nat_tests, eqb_tells, leb_tells}
 use Rattle.std.proofs.lemmas.List.{get_or-take}
@@ -7,6 +8,18 @@ use Rattle.std.proofs.lemmas.List.FromFn.{fill_by_all}
 use Rattle.std.specs.Cmp.{unsigned_tied}
 use Rattle.std.specs.FinSet.{contains, remove, members}
 use Rattle.dr_bits.specs.Tracks.{Tracks}
+use Rattle.dr_plant.specs.State.{PlantState}
+use Rattle.dr_config.specs.Table.{Table}
+use Rattle.dr_model.specs.Control.{Volume}
+use Rattle.dr_model.specs.Lawful.{IsLawful}
+use Rattle.dr_model.specs.Relations.{closed, fetched, rewritten}
+use Rattle.dr_model.proofs.LawfulLemmas.{lawful-filled}
+use Rattle.dr_volume.specs.View.{volume_seen}
+use Rattle.dr_flash.specs.Fit.{RelationsFit}
+use Rattle.dr_flash.proofs.FitLemmas.{fit-kept}
+use Rattle.dr_flash.proofs.FieldLemmas.{covers-carried}
+use Rattle.dr_flash.proofs.MoveLemmas.{MoveFits, overwrite-fits}
+use Rattle.dr_top.specs.Landing.{landed_on}
 use Rattle.dr_model.specs.Contents.{laid, byte_laid}
 
 within : (o k n : ℕ) → o ≤ k → k < o + n → (nat_le o k && nat_lt k (o + n)) ≡ true
@@ -64,6 +77,22 @@ laid-all o n bytes old track all sized h =
     let whole : take n bytes ≡ bytes = grind (arith, common_steps) in
     fill_by_all (byte_laid o bytes old) track 64 0 sized (λ k lt. h k lt ∙ ap (λ bs. byte_laid o bs old k) whole)
 
--- each blank track but the written one stays blank
-pub covers-remove : (s : Tracks) (t q : ℕ) → contains s q ≡ true → (contains (remove s t) q || nat_eq q t) ≡ true
-covers-remove s t q h = grind (members, rules, nat_tests, unsigned_tied)
+-- the fields and the track of a landing may come, of a target or not
+removed_from : (b : Tracks) (t q : ℕ) → contains b q ≡ false → contains (remove b t) q ≡ false
+removed_from b t q h = grind (members, rules, nat_tests, unsigned_tied)
+
+module _ (s : PlantState) (c : Table) (v k : ℕ) (fit : RelationsFit s c) (lawful : IsLawful (volume_seen s c v).tracks (volume_seen s c v).fields) (low : k < (volume_seen s c v).tracks) (bytes : List ℕ) where
+  abbrev x : Volume
+  x = volume_seen s c v
+
+  lands-by : (target : Bool) → x.fields.related ≡ target
+      → MoveFits s c v (if target then closed x.tracks (rewritten (fetched x.fields k) k) else record x.fields { blank = remove x.fields.blank k }) (Some (k, bytes))
+  lands-by true is = overwrite-fits s c v fit lawful is k low 0 bytes
+  lands-by false is = record {
+    lawful = lawful-filled x.tracks x.fields k lawful;
+    covers = covers-carried x.fields.blank k bytes;
+    leaves = fit-kept s c v (record x.fields { blank = remove x.fields.blank k }) fit (λ r. (r, refl)) (λ q h. removed_from x.fields.blank k q (fit.apart v q h));
+  }
+
+  pub lands-fit : MoveFits s c v (landed_on x k) (Some (k, bytes))
+  lands-fit = lands-by x.fields.related refl

@@ -19,9 +19,10 @@ use Rattle.dr_model.specs.Lines.{task, tasks_read, tasks_of}
 use Rattle.dr_model.specs.Runs.{Task, after_task, after_tasks}
 use Rattle.dr_model.specs.Laws.{Sound}
 use Rattle.dr_model.specs.LineText.{IsWritten}
-use Rattle.dr_model.specs.Limits.{most_events, most_volumes}
+use Rattle.dr_model.specs.Limits.{most_events}
 use Rattle.dr_laws.proofs.Steps.{sound-run}
 use Rattle.dr_laws.proofs.Journal.{issued-task, after_task-longer}
+use Rattle.dr_laws.specs.Limits.{IsWithin}
 use Rattle.dr_laws.proofs.Limits.{within-run, journal-fits}
 use Rattle.dr_top.specs.Carried.{Reached, EndsBy, GoesTo}
 use Rattle.dr_top.specs.Faults.{is_stop, told_stop}
@@ -74,7 +75,7 @@ pub reached-issued : (w : World) → Reached w → w.control.issued ≤ length w
 reached-issued w r = subst (λ (x : World). x.control.issued ≤ length x.events) r.1 (issued-more nothing r.0 (omega arith))
 
 pub reached-room : (w : World) (t : Task) → Reached w → length w.events < most_events → length (after_task w t).events ≤ most_events
-reached-room w t r below = journal-fits w t (subst (λ (x : World). length x.control.volumes ≤ most_volumes) r.1 (within-run r.0).volumes) below
+reached-room w t r below = journal-fits w t (reached-sound w r) (subst (λ (x : World). IsWithin x.control) r.1 (within-run r.0)) below
 
 -- a step at a place
 pub some-step : (steps : List Step) (i : ℕ) (o : Option (Bor Step)) → i < length steps → option_copied o ≡ slice_get steps i → IsSome o

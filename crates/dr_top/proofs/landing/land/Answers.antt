@@ -1,4 +1,4 @@
-use Rattle.std.proofs.Common.{◌≡◌, ◌<◌, ap, sym, subst, ◌∙◌, true, inl}
+use Rattle.std.proofs.Common.{◌≡◌, ◌<◌, ap, sym, subst, ◌∙◌, true, inl, Some}
 use Rattle.std.specs.Prelude.{is_err}
 use Rattle.dr_plant.specs.State.{PlantState, can_read}
 use Rattle.dr_model.specs.Contents.{laid}
