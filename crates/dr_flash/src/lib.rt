@@ -6,15 +6,18 @@ mod acts;
 mod fields;
 mod keep;
 mod keeping;
+mod making;
 mod options;
 mod place;
 mod reads;
 mod sets;
+mod standing;
 mod told;
 
 pub use keeping::copy_first;
 pub use fields::{
     closed, fetched, given_up, made, noted, restored, resynced, rewritten, turned, withdrawn,
 };
+pub use making::establish;
 pub use options::Options;
 pub use told::{Telling, Told};
