@@ -30,8 +30,11 @@ drop-at [] i v h = cc
 drop-at (e ∷ es) zero v h = let same : v ≡ e.id = cc in ap (λ x. x ∷ ids_of es) (sym same)
 drop-at (e ∷ es) (suc i) v h = drop-at es i v h
 
+pub ids-next : (t : Table) (place u : ℕ) → Some u ≡ option_map (λ (e : VolumeEntry). e.id) (slice_get t.volumes place) → ids_of (drop place t.volumes) ≡ u ∷ ids_of (drop (place + 1) t.volumes)
+ids-next t place u at = drop-at t.volumes place u at ∙ ap (λ n. u ∷ ids_of (drop n t.volumes)) (suc-eq-add-one place)
+
 pub keeps-next : (t : Table) (v k place u : ℕ) → Some u ≡ option_map (λ (e : VolumeEntry). e.id) (slice_get t.volumes place) → keeps_from t v k place ≡ keep_on v k u ∷ keeps_from t v k (place + 1)
-keeps-next t v k place u at = ap (map (keep_on v k)) (drop-at t.volumes place u at ∙ ap (λ n. u ∷ ids_of (drop n t.volumes)) (suc-eq-add-one place))
+keeps-next t v k place u at = ap (map (keep_on v k)) (ids-next t place u at)
 
 pub keeps-none : (t : Table) (v k place : ℕ) → length t.volumes ≤ place → keeps_from t v k place ≡ []
 keeps-none t v k place all = ap (λ es. map (keep_on v k) (ids_of es)) (drop_all place t.volumes all)

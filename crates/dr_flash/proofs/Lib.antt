@@ -11,3 +11,5 @@ pub mod MoveLemmas
 pub mod KeepLemmas
 pub mod CopyLemmas
 pub mod ViewLemmas
+pub mod StandingLemmas
+pub mod CheckLemmas

@@ -5,10 +5,12 @@ mod acts;
 mod fields;
 mod keep;
 mod keeping;
+mod making;
 mod options;
 mod place;
 mod reads;
 mod sets;
+mod standing;
 mod told;
 mod views;
 
@@ -16,6 +18,7 @@ pub use fields::{
     closed, fetched, given_up, made, noted, restored, resynced, rewritten, turned, withdrawn,
 };
 pub use keeping::copy_first;
+pub use making::establish;
 pub use options::Options;
 pub use place::{server_of, tracks_of};
 pub use told::{Telling, Told};
