@@ -4,9 +4,7 @@ pub mod Faults
 pub mod Fit
 pub mod Told
 pub mod Turns
-<<<<<<< HEAD
 pub mod Views
-=======
+pub mod Writes
 pub mod Standing
 pub mod Checks
->>>>>>> flash14

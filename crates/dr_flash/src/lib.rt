@@ -21,5 +21,6 @@ pub use keeping::copy_first;
 pub use making::establish;
 pub use options::Options;
 pub use place::{server_of, tracks_of};
+pub use standing::write_refusal;
 pub use told::{Telling, Told};
 pub use views::{read_target, view_of};

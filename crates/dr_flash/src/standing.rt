@@ -12,6 +12,7 @@ ghost use Rattle.dr_volume.specs.View.{Rest};
 ghost use Rattle.dr_flash.specs.Checks.{is_stop};
 ghost use Rattle.dr_flash.specs.Here.{seen};
 ghost use Rattle.dr_flash.specs.Standing.{targets_in, any_of, relation_of};
+ghost use Rattle.dr_flash.specs.Writes.{write_refusal};
 
 use dr_config::Config;
 use dr_ids::{Refusal, RelSeen, VolumeId};
@@ -93,4 +94,36 @@ pub(crate) fn relation_state<P: Plant>(p: &P, c: &Config, v: VolumeId) -> Refusa
         volume: v,
         found: relation_by(&fields, look_at_targets(p, c, v)),
     }
+}
+
+/// Whether a volume with these fields and targets stands in a revertible or reversing relationship.
+fn is_busy(f: &Fields, all: Targets) -> bool
+    ensures { result ≡ (((f.now.related && f.now.revertible) || all.revertible) || ((f.now.related && f.now.reversing) || all.reversing)) }
+{
+    (f.related && f.revertible)
+        || all.revertible
+        || (f.related && f.reversing)
+        || all.reversing
+}
+
+/// Why a host write on a volume is refused for good, if it is: the volume is an inhibited target, or target or source of a
+/// revertible or reversing relationship. It is looked at whether or not the volume's server is on.
+pub fn write_refusal<P: Plant>(p: &P, c: &Config, v: VolumeId) -> Option<Refusal>
+    requires stands { StandsFor c.now (P.state p.now) }
+    requires defined { IsSome (place_of c.now v.0) }
+    ensures refusal { (r : Rest) (events : List Event) → result ≡ write_refusal (seen (P.state p.now) c.now r events).control v.0 }
+    ensures calm { is_stop result ≡ false }
+{
+    let fields = peek_fields(p, c, v);
+    if fields.related && fields.inhibited {
+        return Some(Refusal::Inhibited { volume: v });
+    }
+    let all = look_at_targets(p, c, v);
+    if is_busy(&fields, all) {
+        return Some(Refusal::RelationState {
+            volume: v,
+            found: relation_by(&fields, all),
+        });
+    }
+    None
 }
