@@ -30,3 +30,4 @@ pub mod Texts
 pub mod Agree
 pub mod ReadStops
 pub mod StopsTold
+pub mod Unissued
