@@ -1,21 +1,23 @@
 //! How a host write lands in what a run holds beside the plant and the journal.
 
-ghost use Rattle.std.specs.Prelude.{◌≡◌, ℕ, ◌+◌, ◌<◌, ◌≤◌, true, [], ◌∷◌, length, is_err, IsSome, Some, None, OnErr, if◌then◌else◌};
+ghost use Rattle.std.specs.Prelude.{◌≡◌, ℕ, ◌+◌, ◌<◌, ◌≤◌, true, [], ◌∷◌, ◌++◌, length, is_err, IsSome, Some, None, OnErr, if◌then◌else◌};
 ghost use Rattle.std.specs.List.{find};
 ghost use Rattle.dr_config.specs.Table.{place_of};
 ghost use Rattle.dr_host.specs.Writes.{has_number, with_marked};
-ghost use Rattle.dr_model.specs.Entries.{land_on};
+ghost use Rattle.dr_model.specs.Carry.{carry};
+ghost use Rattle.dr_model.specs.Entries.{copy_first, land_on};
 ghost use Rattle.dr_model.specs.ReadStops.{Ends};
 ghost use Rattle.dr_model.specs.Refusals.{stopped};
-ghost use Rattle.dr_volume.specs.View.{volume_seen};
+ghost use Rattle.dr_volume.specs.View.{volume_seen, ids_of};
 ghost use Rattle.dr_flash.specs.Fit.{RelationsFit};
 ghost use Rattle.dr_top.specs.Faults.{Counted};
-ghost use Rattle.dr_top.specs.Here.{here, IsTold};
+ghost use Rattle.dr_top.specs.Here.{here, IsReady, IsTold};
 ghost use Rattle.dr_flash.specs.Here.{refusal_of, armed_in, IsAtRest};
 ghost use Rattle.dr_top.specs.Waiting.{IsPending};
 
 use crate::landing::land;
 use dr_config::Config;
+use dr_flash::copy_first;
 use dr_host::Host;
 use dr_ids::{Refusal, ServerId, VolumeId, WriteId};
 use dr_model::{Event, Journal};
@@ -89,6 +91,39 @@ pub fn land_write<P: Plant>(
             })
         }
     }
+}
+
+/// Lands a pending write on its track, after each target of the volume kept the track, where the volume's server is on.
+/// Where the server stops, the write stays pending.
+pub fn land_kept<P: Plant>(
+    plant: &mut P,
+    config: &Config,
+    host: &mut Host,
+    journal: &mut Journal,
+    w: WriteId,
+    target: Target,
+    bytes: &[u8],
+) -> Result<(), Refusal>
+    requires ready { IsReady (P.state plant.old) config.now host.old journal.old.events }
+    requires fit { RelationsFit (P.state plant.old) config.now }
+    requires defined { IsSome (place_of config.now target.volume.0) }
+    requires server { (volume_seen (P.state plant.old) config.now target.volume.0).server ≡ target.server.0 }
+    requires running { (P.state plant.old).on target.server.0 ≡ true }
+    requires known { target.server.0 < 8 }
+    requires within { target.track < (volume_seen (P.state plant.old) config.now target.volume.0).tracks }
+    requires fits { target.offset + length bytes.now ≤ 64 }
+    requires room { length config.now.volumes + 2 ≤ journal.old.spare }
+    requires pending { IsPending host.old journal.old.events w.0 target bytes.now }
+    ensures carried { carry (here (P.state plant.old) config.now host.old journal.old.events) (copy_first (ids_of config.now.volumes) target.volume.0 target.track ++ land_on w.0 target.volume.0 target.track ∷ [])
+        ≡ (here (P.state plant.new) config.now host.new journal.new.events, refusal_of result) }
+    ensures stopped { OnErr result (refusal_of result ≡ Some (stopped target.server.0)) }
+    ensures ready { IsReady (P.state plant.new) config.now host.new journal.new.events }
+    ensures faults { Counted (is_err result) (P.state plant.old).faults (P.state plant.new).faults }
+    ensures issued { host.new.issued ≡ host.old.issued }
+    ensures room { journal.old.spare ≤ journal.new.spare + (length config.now.volumes + 1) }
+{
+    copy_first(plant, config, journal, target.volume, target.track)?;
+    land_write(plant, config, host, journal, w, target, bytes)
 }
 
 /// Marks a pending write, where it has landed in a stop.
