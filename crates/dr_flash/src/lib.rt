@@ -3,6 +3,7 @@
 
 mod acts;
 
+mod ending;
 mod fields;
 mod keep;
 mod keeping;
@@ -15,6 +16,7 @@ mod standing;
 mod told;
 
 pub use keeping::copy_first;
+pub use ending::withdraw;
 pub use fields::{
     closed, fetched, given_up, made, noted, restored, resynced, rewritten, turned, withdrawn,
 };
