@@ -4,6 +4,7 @@
 mod acts;
 
 mod ending;
+mod fetching;
 mod fields;
 mod keep;
 mod keeping;
@@ -17,6 +18,7 @@ mod told;
 
 pub use keeping::copy_first;
 pub use ending::withdraw;
+pub use fetching::{copy_step, read_target};
 pub use fields::{
     closed, fetched, given_up, made, noted, restored, resynced, rewritten, turned, withdrawn,
 };
