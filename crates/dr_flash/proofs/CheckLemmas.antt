@@ -1,6 +1,6 @@
 -- Checks of a call, as entries.
 use Rattle.std.proofs.Common.{ℕ, zero, suc, ◌≡◌, ◌≢◌, ◌<◌, ◌≤◌, Bool, true, false, not, ◌&&◌, ◌||◌, cond, List, [], ◌∷◌, length, slice_get, nat_eq, nat_lt, arith, inl, inr, refl, sym, ◌∙◌, ap, subst, Option, Some, None}
-use Rattle.std.specs.Prelude.{filter, is_some, Result, Ok, Err, OnErr, is_err}
+use Rattle.std.specs.Prelude.{filter, is_some, Result, Ok, Err, OnOk, OnErr, is_err}
 use Rattle.std.specs.List.{list_any}
 use Rattle.std.proofs.lemmas.Bool.Decides.{eqb_tells, leb_tells, Decides-eqb, nat_tests}
 use Rattle.dr_ids.specs.declared.refusal.Refusal.{Refusal}
@@ -13,12 +13,13 @@ use Rattle.dr_model.specs.Carry.{Entry, check}
 use Rattle.dr_model.specs.Entries.{copies_from}
 use Rattle.dr_model.specs.Refusals.{stopped}
 use Rattle.dr_model.specs.ReadStops.{Ends}
-use Rattle.dr_volume.specs.View.{volume_seen, volume_at, on_seen, ids_of}
+use Rattle.dr_volume.specs.View.{Rest, volume_seen, volume_at, on_seen, ids_of}
 use Rattle.dr_flash.specs.Checks.{is_stop}
 use Rattle.dr_flash.specs.Faults.{Counted}
 use Rattle.dr_flash.specs.Here.{refusal_of}
 use Rattle.dr_flash.specs.Standing.{targets_in}
-use Rattle.dr_flash.proofs.EndsLemmas.{ends-refused}
+use Rattle.dr_flash.proofs.EndsLemmas.{ends-refused, ends-none}
+use Rattle.dr_flash.specs.Turns.{Advances, Halts}
 use Rattle.dr_flash.proofs.StandingLemmas.{any-count}
 
 pub refuses : (armed : ℕ → Bool) (w : World) (ok : Control → Bool) (why : Refusal) (r : Option Refusal) (ds : List Entry) → ok w.control ≡ false → r ≡ Some why → Ends armed w r w (check ok why ∷ ds)
@@ -84,3 +85,8 @@ lone-by s t v n count none u related is =
 pub counted-stop : (r : Result (Unit {0}) Refusal) (a b server : ℕ) → Counted (is_err r) a b → OnErr r (refusal_of r ≡ Some (stopped server)) → Counted (is_stop (refusal_of r)) a b
 counted-stop (Ok x) a b server counted refused = counted
 counted-stop (Err e) a b server counted refused = subst (λ o. Counted (is_stop o) a b) (sym refused) counted
+
+-- one act that is the last entry
+pub act-ends : {T : Type 0} (res : Result T Refusal) (armed : ℕ → Bool) (w v : Rest → World) (d : Entry) → OnOk res ((r : Rest) → Advances (w r) d (v r)) → OnErr res ((r : Rest) → Halts armed (w r) d (v r) (refusal_of res)) → (r : Rest) → Ends armed (v r) (refusal_of res) (w r) (d ∷ [])
+act-ends (Ok x) armed w v d goes halts r = goes r armed (v r) None [] (ends-none armed (v r) None (v r) (record { world = refl; refusal = refl }))
+act-ends (Err e) armed w v d goes halts r = halts r []

@@ -2,6 +2,8 @@
 #![tactic(auto)]
 
 mod acts;
+mod ending;
+mod fetching;
 mod fields;
 mod keep;
 mod keeping;
@@ -14,6 +16,8 @@ mod standing;
 mod told;
 mod views;
 
+pub use ending::withdraw;
+pub use fetching::{copy_step, read_target};
 pub use fields::{
     closed, fetched, given_up, made, noted, restored, resynced, rewritten, turned, withdrawn,
 };
@@ -23,4 +27,4 @@ pub use options::Options;
 pub use place::{server_of, tracks_of};
 pub use standing::write_refusal;
 pub use told::{Telling, Told};
-pub use views::{read_target, view_of};
+pub use views::view_of;

@@ -1,7 +1,7 @@
 //! What a track reads as: a target that doesn't hold a track shows its source's.
 
-ghost use Rattle.std.specs.Prelude.{◌≡◌, ◌<◌, true, IsSome, OnOk, OnErr, is_ok};
-ghost use Rattle.dr_plant.specs.State.{after_read, can_read};
+ghost use Rattle.std.specs.Prelude.{◌≡◌, ◌<◌, true, IsSome};
+ghost use Rattle.dr_plant.specs.State.{can_read};
 ghost use Rattle.dr_config.specs.Table.{place_of};
 ghost use Rattle.dr_volume.specs.Opened.{IsOpened};
 ghost use Rattle.dr_volume.specs.View.{volume_seen, track_seen, device_of};
@@ -11,8 +11,8 @@ ghost use Rattle.dr_flash.specs.Views.{view_seen};
 
 use dr_config::Config;
 use dr_ids::VolumeId;
-use dr_plant::{Block, Plant, Stopped};
-use dr_volume::{Opened, open, read_track};
+use dr_plant::{Block, Plant};
+use dr_volume::{Opened, read_track};
 
 /// A track of a volume whose device can be read.
 fn track_of<P: Plant>(p: &mut P, c: &Config, v: VolumeId, t: u16) -> Block
@@ -63,27 +63,4 @@ pub fn view_of<P: Plant>(p: &mut P, c: &Config, opened: &Opened, v: VolumeId, t:
         return track_of(p, c, fields.source, t);
     }
     opened_track(p, c, opened, v, t)
-}
-
-/// Reads what a track reads as, of a volume that is a target or not. Fails where the volume's server is off or goes off at
-/// the read; then `into` is as before.
-pub fn read_target<P: Plant>(
-    p: &mut P,
-    c: &Config,
-    v: VolumeId,
-    t: u16,
-    into: &mut Block,
-) -> Result<(), Stopped>
-    requires rest { IsAtRest (P.state p.old) c.now }
-    requires fit { RelationsFit (P.state p.old) c.now }
-    requires defined { IsSome (place_of c.now v.0) }
-    requires within { t < (volume_seen (P.state p.old) c.now v.0).tracks }
-    ensures state { P.state p.new ≡ after_read (P.state p.old) (device_of c.now v.0) }
-    ensures done { is_ok result ≡ can_read (P.state p.old) (device_of c.now v.0) }
-    ensures bytes { OnOk result (into.new ≡ view_seen (P.state p.old) c.now v.0 t) }
-    ensures same { OnErr result (into.new ≡ into.old) }
-{
-    let opened = open(p, c, v)?;
-    *into = view_of(p, c, &opened, v, t);
-    Ok(())
 }
