@@ -1,10 +1,10 @@
 -- How a landing ends: at a read that failed, or by the update of its volume.
-use Rattle.std.proofs.Common.{ℕ, ◌≡◌, ◌≤◌, ◌<◌, ◌⊎◌, inl, inr, Bool, true, false, ◌&&◌, List, refl, sym, ◌∙◌, ap, subst, nat_lt, arith, Option, None, Some}
+use Rattle.std.proofs.Common.{ℕ, ◌≡◌, ◌≤◌, ◌<◌, ◌⊎◌, inl, inr, Bool, true, false, ◌&&◌, List, ◌++◌, nat_eq, refl, sym, ◌∙◌, ap, subst, nat_lt, arith, Option, None, Some}
 use Rattle.std.specs.Prelude.{is_some, if◌then◌else◌, Result, Ok, Err, is_err}
 use Rattle.std.specs.Result.{IsErrAnd}
 use Rattle.dr_model.specs.declared.said.Addition.{Addition}
 use Rattle.dr_model.specs.declared.said.Said.TheVariants.{Refused}
-use Rattle.std.proofs.lemmas.Bool.{cases_eq}
+use Rattle.std.proofs.lemmas.Bool.{cases_eq, ne_eqb}
 use Rattle.std.proofs.lemmas.Bool.Decides.{nat_tests}
 use Rattle.dr_bits.specs.Membership.{lt_true}
 use Rattle.dr_plant.specs.State.{PlantState, after_read, can_read, passes_read}
@@ -14,13 +14,20 @@ use Rattle.dr_model.specs.Layout.{Fields}
 use Rattle.dr_model.specs.Control.{World}
 use Rattle.dr_model.specs.Moves.{Carried}
 use Rattle.dr_ids.specs.declared.refusal.Refusal.{Refusal}
-use Rattle.dr_model.specs.Carry.{Ended, ended, Entry, carry}
+use Rattle.dr_model.specs.Carry.{Ended, ended, Entry, Outcome, carry}
+use Rattle.dr_model.specs.Entries.{copies_from}
+use Rattle.dr_model.specs.Histories.{histories}
+use Rattle.dr_model.proofs.CarryLemmas.{carry-append, onward}
+use Rattle.dr_laws.proofs.Unissued.{unissued}
 use Rattle.dr_model.specs.ReadStops.{shut, Ends}
 use Rattle.dr_laws.proofs.ReadStops.{ends-exact}
 use Rattle.dr_volume.specs.View.{Rest, world, volume_seen, device_of, IsSettled, ReadsPass}
 use Rattle.dr_volume.specs.Update.{IsAsBefore, IsMoved, OthersStay, EndsAs, after_reading}
 use Rattle.dr_volume.proofs.UnreadLaws.{Unread, unread, armed-of, lies-low}
-use Rattle.dr_host.specs.Writes.{Writes}
+use Rattle.dr_host.specs.Writes.{Writes, Each}
+use Rattle.dr_flash.specs.Fit.{RelationsFit}
+use Rattle.dr_flash.proofs.FitLemmas.{target-no_source}
+use Rattle.dr_top.proofs.ToldLemmas.{IsWrite}
 use Rattle.dr_model.specs.declared.event.Event.{Event}
 use Rattle.dr_top.specs.Here.{IsReady, IsTold, said_of}
 use Rattle.dr_flash.specs.Here.{IsAtRest, armed_in, refusal_of}
@@ -124,3 +131,23 @@ wider-armed s u unarmed q h =
     either_yes : (b x : Bool) → (b && x) ≡ true → (b && true) ≡ true
     either_yes true x h = refl
     either_yes false x h = h
+
+-- no volume is its own target
+pub no-loop : (s : PlantState) (c : Table) (v : ℕ) → RelationsFit s c → copies_from v (volume_seen s c v).fields ≡ false
+no-loop s c v fit = by (volume_seen s c v).fields.related refl
+  where
+    by : (b : Bool) → (volume_seen s c v).fields.related ≡ b → (b && nat_eq (volume_seen s c v).fields.source v) ≡ false
+    by true is = ne_eqb (volume_seen s c v).fields.source v (target-no_source s c v v fit is is)
+    by false is = refl
+
+-- entries that were carried out issued no write
+pub told-through : (h : Writes) (w u : World) (ds : List Entry) (r : Option Refusal) → carry w ds ≡ (u, r) → IsTold h w.events → IsTold h u.events
+told-through h w u ds r is told =
+    subst (λ write. Each (IsWrite write) h.pending) (sym (unissued w ds) ∙ ap (λ (o : Outcome). (histories o.0.events).write) is) told
+
+-- what follows entries that a refusal ended, or that passed
+pub ends-first : (w u : World) (first more : List Entry) (r : Refusal) → carry w first ≡ (u, Some r) → carry w (first ++ more) ≡ (u, Some r)
+ends-first w u first more r is = carry-append w first more ∙ ap (λ (o : Outcome). onward o (λ v. carry v more)) is
+
+pub goes-on : (w u : World) (first more : List Entry) → carry w first ≡ (u, None) → carry w (first ++ more) ≡ carry u more
+goes-on w u first more is = carry-append w first more ∙ ap (λ (o : Outcome). onward o (λ v. carry v more)) is
