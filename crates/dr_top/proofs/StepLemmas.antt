@@ -1,6 +1,6 @@
 -- What the steps on a track come to, over what plant, configuration, writes and journal show.
 use Rattle.std.proofs.Common.{ℕ, ◌≡◌, ◌<◌, ◌+◌, List, [], ◌∷◌, ◌++◌, length, map, refl, ap, ◌∙◌, sym, arith, subst, Bool, true, false, not, cond, nat_lt, nat_le, take, Option, Some, None, IfSome, Result, Ok, Err}
-use Rattle.std.specs.Prelude.{is_some, IfOk, option_map}
+use Rattle.std.specs.Prelude.{is_some, IfOk, option_map, if◌then◌else◌}
 use Rattle.std.specs.List.{find}
 use Rattle.std.specs.Option.{option_or}
 use Rattle.std.proofs.lemmas.Bool.Decides.{nat_tests}
@@ -32,21 +32,26 @@ use Rattle.dr_model.specs.Refusals.{server_off, unknown, over}
 use Rattle.dr_model.specs.Contents.{image_at}
 use Rattle.dr_model.specs.Control.{World, is_volume}
 use Rattle.dr_model.specs.Laws.{Sound}
-use Rattle.dr_model.specs.Plans.{Plan, unless, same, is_running, track_refusal, issue_refusal, show_done, show_plan, with_pending, landing, issue_then, write_done, apply_done, apply_on, apply_plan}
+use Rattle.dr_model.specs.Entries.{is_running, is_open, is_settled, relation_state, drop_unless, check_or_drop, copy_first, land_on, landing}
+use Rattle.dr_ids.specs.declared.refusal.Refusal.TheVariants.{Inhibited, Stopped}
+use Rattle.dr_model.specs.Plans.{Plan, unless, same, track_refusal, issue_refusal, show_done, show_plan, with_pending, issue_then, write_done, apply_done, apply_on, apply_plan}
 use Rattle.dr_model.specs.Moves as moves
-use Rattle.dr_model.specs.Moves.{Land}
-use Rattle.dr_model.specs.Carry.{carry, now}
+use Rattle.dr_model.specs.Control.{Control}
+use Rattle.dr_model.specs.Carry.{Act, Drop, Do, Pass, End, Entry, act, dropped, carry, check}
 use Rattle.dr_model.specs.Histories.{Histories, Write, histories}
 use Rattle.dr_model.specs.Runs.{after_plan, begun, said}
 use Rattle.dr_model.specs.Tables.{at}
 use Rattle.dr_model.proofs.Images.{histories-push, at_same, at_other}
-use Rattle.dr_model.proofs.CarryLemmas.{carry-none, carry-passed, carry-refused, plan-ends, plan-tables, plan-refuses, plan-fails}
-use Rattle.dr_laws.proofs.Agree.{contents-image}
+use Rattle.dr_model.proofs.CarryLemmas.{carry-none, carry-skips, carry-goes, carry-passed, carry-refused, plan-ends, plan-tables, plan-refuses, plan-fails}
+use Rattle.dr_laws.proofs.Agree.{view-image}
 use Rattle.dr_laws.proofs.Lands.{found-waits}
-use Rattle.dr_volume.specs.View.{on_seen, volume_seen, track_seen}
+use Rattle.dr_volume.specs.View.{on_seen, volume_seen, ids_of}
+use Rattle.dr_flash.specs.Checks.{is_stop}
+use Rattle.dr_flash.specs.Views.{view_seen}
+use Rattle.dr_flash.specs.Writes.{write_refusal}
 use Rattle.dr_top.specs.Here.{here, said_of, ended_by, OnAnswer, OnRefused, IsTold}
 use Rattle.dr_ids.specs.declared.refusal.Kind.{Kind}
-use Rattle.dr_top.specs.Faults.{Counts}
+use Rattle.dr_top.specs.Faults.{Counted, Counts, is_stopped}
 use Rattle.dr_top.specs.Waiting.{IsIssued}
 use Rattle.dr_top.specs.declared.steps.HostWrite.{HostWrite}
 use Rattle.dr_top.specs.declared.locate.Place.{Place}
@@ -75,6 +80,32 @@ there-is s t h ev v k none =
       )
     ] refl none
 
+act-drop : (w : World) (n : ℕ) → act w (Drop n) ≡ (dropped w n, None)
+unfolding act
+act-drop w n = refl
+
+-- what passes drops nothing, and what doesn't drops the write and ends all
+passes-check : (w : World) (n : ℕ) (ok : Control → Bool) (r : Refusal) (ds : List Entry) → ok w.control ≡ true → carry w (check_or_drop n ok r ++ ds) ≡ carry w ds
+passes-check w n ok r ds is = carry-skips w (drop_unless n ok) (check ok r ∷ ds) (ap (λ b. cond b Pass (Do (Drop n))) is) ∙ carry-passed w ok r ds is
+
+drops-check : (w : World) (n : ℕ) (ok : Control → Bool) (r : Refusal) (ds : List Entry) → ok w.control ≡ false → ok (dropped w n).control ≡ false → carry w (check_or_drop n ok r ++ ds) ≡ (dropped w n, Some r)
+drops-check w n ok r ds is still =
+    carry-goes w (dropped w n) (drop_unless n ok) (check ok r ∷ ds) (Drop n) (ap (λ b. cond b Pass (Do (Drop n))) is) (act-drop w n)
+    ∙ carry-refused (dropped w n) ok r ds still
+
+may-write : (o q : Bool) (a b : Refusal) → (if o then (if q then None else Some a) else Some b) ≡ None → (o ≡ true) × (q ≡ true)
+may-write true true a b e = (refl, refl)
+may-write true false a b e = absurd (cc)
+may-write false q a b e = absurd (cc)
+
+-- a refusal that says no stop
+pub is_stopped-alike : (r : Refusal) → is_stopped (Refused r) ≡ is_stop (Some r)
+is_stopped-alike (Stopped server) = refl
+is_stopped-alike _ = refl
+
+pub calm-refused : (r : Refusal) (s u : PlantState) → is_stop (Some r) ≡ false → u.faults ≡ s.faults → Counts (Refused r) s u
+calm-refused r s u calm same = subst (λ b. Counted b s.faults u.faults) (sym (is_stopped-alike r ∙ calm)) same
+
 module _ (s : PlantState) (t : Table) (h : Writes) (ev : List Event) (line v k : ℕ) where
   abbrev w : World
   w = here s t h ev
@@ -95,26 +126,49 @@ module _ (s : PlantState) (t : Table) (h : Writes) (ev : List Event) (line v k :
       by_server false there (running-known s t h ev v p.server.0 at.server at.known ∙ off)
       ∙ plan-refuses w line (server_off (volume_seen s t v).server) ∙ ap (λ x. said w line (Refused (server_off x))) at.server
 
-  pub showed-on : (mid : List Event) (p : Place) (bytes : List ℕ) → Sound w → track_refusal w.control v k ≡ None → IsPlace s t v k p → s.on p.server.0 ≡ true → bytes ≡ track_seen s t v p.track
+  pub showed-on : (mid : List Event) (p : Place) (bytes : List ℕ) → Sound w → track_refusal w.control v k ≡ None → IsPlace s t v k p → s.on p.server.0 ≡ true → bytes ≡ view_seen s t v p.track
       → mid ≡ ev ++ Shown line v p.track bytes ∷ [] → after_plan w line (show_plan w.control ev line v k) ≡ said (here s t h mid) line (Done Showed)
   showed-on mid p bytes sound there at on is shown =
       let runs = running-known s t h ev v p.server.0 at.server at.known ∙ on in
       let inside : k < (volume_seen s t v).tracks = subst (λ x. x < (volume_seen s t v).tracks) at.track at.within in
       by_server true there runs
       ∙ plan-tables w line same (Shown line v k (image_at ev v k) ∷ []) (Done Showed)
-      ∙ ap (λ x. said (here s t h (ev ++ Shown line v k x ∷ [])) line (Done Showed)) (sym (contents-image w sound v k inside runs) ∙ ap (track_seen s t v) (sym at.track) ∙ sym is)
+      ∙ ap (λ x. said (here s t h (ev ++ Shown line v k x ∷ [])) line (Done Showed)) (sym (view-image w sound v k inside runs) ∙ ap (view_seen s t v) (sym at.track) ∙ sym is)
       ∙ ap (λ x. said (here s t h (ev ++ Shown line v x bytes ∷ [])) line (Done Showed)) (sym at.track)
       ∙ ap (λ x. said (here s t h x) line (Done Showed)) (sym shown)
 
-  -- a pending write whose server is off stays pending, and one whose server is on lands
+  -- what comes once a write may land
+  abbrev pub kept_landing : ℕ → List Entry
+  kept_landing n = copy_first (ids_of t.volumes) v k ++ land_on n v k ∷ []
+
+  abbrev pub places : ℕ → List Entry
+  places n = check_or_drop n (is_open v) (Inhibited (record { 0 = v })) ++ (check_or_drop n (is_settled v) (relation_state w.control v) ++ kept_landing n)
+
+  -- a pending write whose server is off stays pending
   pub lands-off : (n server : ℕ) → (volume_seen s t v).server ≡ server → server < 8 → s.on server ≡ false → carry w (landing w.control n v k) ≡ (w, Some (server_off server))
   lands-off n server owner known off =
-      carry-refused w (is_running v) (server_off (volume_seen s t v).server) (now (Land n v k) ∷ []) (running-known s t h ev v server owner known ∙ off)
+      carry-refused w (is_running v) (server_off (volume_seen s t v).server) (places n) (running-known s t h ev v server owner known ∙ off)
       ∙ ap (λ x. (w, Some (server_off x))) owner
 
-  pub lands-on : (n server : ℕ) (u : World) (r : Option Refusal) → (volume_seen s t v).server ≡ server → server < 8 → s.on server ≡ true → carry w (now (Land n v k) ∷ []) ≡ (u, r) → carry w (landing w.control n v k) ≡ (u, r)
-  lands-on n server u r owner known on is =
-      carry-passed w (is_running v) (server_off (volume_seen s t v).server) (now (Land n v k) ∷ []) (running-known s t h ev v server owner known ∙ on) ∙ is
+  running : (n server : ℕ) → (volume_seen s t v).server ≡ server → server < 8 → s.on server ≡ true → carry w (landing w.control n v k) ≡ carry w (places n)
+  running n server owner known on = carry-passed w (is_running v) (server_off (volume_seen s t v).server) (places n) (running-known s t h ev v server owner known ∙ on)
+
+  -- where the host may write there, it lands behind copy first
+  pub lands-on : (n server : ℕ) → (volume_seen s t v).server ≡ server → server < 8 → s.on server ≡ true → write_refusal w.control v ≡ None → carry w (landing w.control n v k) ≡ carry w (kept_landing n)
+  lands-on n server owner known on free =
+      let both = may-write (is_open v w.control) (is_settled v w.control) _ _ free in
+      running n server owner known on
+      ∙ passes-check w n (is_open v) _ _ both.0
+      ∙ passes-check w n (is_settled v) _ _ both.1
+
+  -- elsewhere it is dropped
+  pub lands-nowhere : (n server : ℕ) (r : Refusal) → (volume_seen s t v).server ≡ server → server < 8 → s.on server ≡ true → write_refusal w.control v ≡ Some r → carry w (landing w.control n v k) ≡ (dropped w n, Some r)
+  lands-nowhere n server r owner known on why = running n server owner known on ∙ by (is_open v w.control) (is_settled v w.control) refl refl why
+    where
+      by : (o q : Bool) → is_open v w.control ≡ o → is_settled v w.control ≡ q → (if o then (if q then None else Some (relation_state w.control v)) else Some (Inhibited (record { 0 = v }))) ≡ Some r → carry w (places n) ≡ (dropped w n, Some r)
+      by false q is there e = drops-check w n (is_open v) _ _ is is ∙ ap (λ x. (dropped w n, x)) e
+      by true false is there e = passes-check w n (is_open v) _ _ is ∙ drops-check w n (is_settled v) _ _ there there ∙ ap (λ x. (dropped w n, x)) e
+      by true true is there e = absurd (cc)
 
 -- why a write isn't issued
 module _ (s : PlantState) (t : Table) (h : Writes) (ev : List Event) (v k : ℕ) where

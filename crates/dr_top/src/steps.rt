@@ -11,22 +11,25 @@ ghost use Rattle.dr_model.specs.Carry.{carry};
 ghost use Rattle.dr_model.specs.declared.said.Addition.{Addition};
 ghost use Rattle.dr_model.specs.declared.step.Step.{Step};
 ghost use Rattle.dr_model.specs.Laws.{Sound};
-ghost use Rattle.dr_model.specs.Plans.{track_refusal, issue_refusal, landing};
-ghost use Rattle.dr_volume.specs.View.{volume_seen, track_seen};
+ghost use Rattle.dr_model.specs.Entries.{landing};
+ghost use Rattle.dr_model.specs.Plans.{track_refusal, issue_refusal};
+ghost use Rattle.dr_volume.specs.View.{volume_seen};
+ghost use Rattle.dr_flash.specs.Fit.{RelationsFit};
+ghost use Rattle.dr_flash.specs.Views.{view_seen};
 ghost use Rattle.dr_top.specs.Faults.{Counts};
 ghost use Rattle.dr_top.specs.Here.{here, said_of, widened, ended_by, OnAnswer, OnNoMemory, OnRefused, Leads, IsReady, IsTold};
 ghost use Rattle.dr_top.specs.Waiting.{IsIssued};
 
 use crate::locate::locate;
-use crate::machine::{Target, land_write};
+use crate::machine::{Target, land_kept};
 use dr_config::Config;
+use dr_flash::{read_target, write_refusal};
 use dr_host::{Host, Pending};
 use dr_ids::{Fault, Kind, Refusal, VolumeId, WriteId};
 use dr_model::{Addition, Event, Journal};
 use dr_plant::{Block, Plant};
-use dr_volume::read_track;
 
-/// A track of a volume whose server is on, where reads pass.
+/// What a track of a volume whose server is on reads as, where reads pass.
 fn read_running<P: Plant>(
     p: &mut P,
     c: &Config,
@@ -39,19 +42,20 @@ fn read_running<P: Plant>(
     requires defined { IsSome (place_of c.now v.0) }
     requires running { (P.state p.old).on (volume_seen (P.state p.old) c.now v.0).server ≡ true }
     requires known { (volume_seen (P.state p.old) c.now v.0).server < 8 }
+    requires fit { RelationsFit (P.state p.old) c.now }
     requires within { t < (volume_seen (P.state p.old) c.now v.0).tracks }
     ensures same { P.state p.new ≡ P.state p.old }
-    ensures bytes { result ≡ track_seen (P.state p.old) c.now v.0 t }
+    ensures bytes { result ≡ view_seen (P.state p.old) c.now v.0 t }
 {
     let mut bytes = [0; 64];
-    match read_track(p, c, v, t, &mut bytes) {
+    match read_target(p, c, v, t, &mut bytes) {
         Ok(()) => bytes,
         Err(_) => unreachable!(),
     }
 }
 
-/// Shows a track of a volume whose server is on: the bytes of its device, which are those that the host writes of the
-/// journal give.
+/// Shows a track of a volume whose server is on: the bytes of its device, or of a target's source, which are those that the
+/// host writes of the journal give.
 pub fn show<P: Plant>(
     plant: &mut P,
     config: &Config,
@@ -194,10 +198,11 @@ pub fn write<P: Plant>(
     write: &HostWrite,
 ) -> Result<Addition, Fault>
     requires ready { IsReady (P.state plant.old) config.now host.old journal.old.events }
+    requires sound { Sound (here (P.state plant.old) config.now host.old journal.old.events) }
     requires some { 1 ≤ write.now.len }
     requires fits { write.now.offset + write.now.len ≤ 64 }
     requires count { host.old.issued + 1 < 2 ^ 32 }
-    requires room { 3 ≤ journal.old.spare }
+    requires room { length config.now.volumes + 3 ≤ journal.old.spare }
     ensures step { OnAnswer result (λ a. (line : ℕ) → Leads (here (P.state plant.old) config.now host.old journal.old.events) line
         (Step.Write write.now.volume.0 write.now.track write.now.offset write.now.len write.now.bytes)
         (here (P.state plant.new) config.now host.new journal.new.events) a) }
@@ -228,7 +233,7 @@ pub fn apply<P: Plant>(
 ) -> Result<Addition, Refusal>
     requires ready { IsReady (P.state plant.old) config.now host.old journal.old.events }
     requires sound { Sound (here (P.state plant.old) config.now host.old journal.old.events) }
-    requires room { 2 ≤ journal.old.spare }
+    requires room { length config.now.volumes + 2 ≤ journal.old.spare }
     ensures step { (line : ℕ) → Leads (here (P.state plant.old) config.now host.old journal.old.events) line (Step.Apply w)
         (here (P.state plant.new) config.now host.new journal.new.events) (said_of result) }
     ensures ready { IsReady (P.state plant.new) config.now host.new journal.new.events }
@@ -262,7 +267,7 @@ fn pending_write(host: &Host, w: WriteId) -> Pending
 }
 
 /// Lands the pending write of that number on its track, which is there, where its volume's server is on; else it stays
-/// pending.
+/// pending. Where the host may not write on the volume, the write is dropped.
 fn land_number<P: Plant>(
     plant: &mut P,
     config: &Config,
@@ -274,7 +279,8 @@ fn land_number<P: Plant>(
     requires waits { IsSome (find (has_number w.0) host.old.pending) }
     requires there { (p : Pending) → find (has_number w.0) host.old.pending ≡ Some p
         → track_refusal (here (P.state plant.old) config.now host.old journal.old.events).control p.volume.0 p.track ≡ None }
-    requires room { 2 ≤ journal.old.spare }
+    requires fit { RelationsFit (P.state plant.old) config.now }
+    requires room { length config.now.volumes + 2 ≤ journal.old.spare }
     ensures carried { (p : Pending) → find (has_number w.0) host.old.pending ≡ Some p
         → carry (here (P.state plant.old) config.now host.old journal.old.events) (landing (here (P.state plant.old) config.now host.old journal.old.events).control w.0 p.volume.0 p.track)
         ≡ (here (P.state plant.new) config.now host.new journal.new.events, ended_by result) }
@@ -291,6 +297,10 @@ fn land_number<P: Plant>(
     if !plant.is_on(server.0) {
         return Err(Refusal::ServerOff { server });
     }
+    if let Some(refusal) = write_refusal(plant, config, write.volume) {
+        host.finish(w);
+        return Err(refusal);
+    }
     let target = Target {
         volume: write.volume,
         server,
@@ -298,7 +308,7 @@ fn land_number<P: Plant>(
         offset: write.offset,
     };
     let bytes = write.bytes;
-    match land_write(
+    match land_kept(
         plant,
         config,
         host,
