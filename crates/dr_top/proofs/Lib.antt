@@ -20,3 +20,4 @@ pub mod DefineLemmas
 pub mod TopLemmas
 pub mod WellFormedLemmas
 pub mod StepTaskLemmas
+pub mod RelationLemmas

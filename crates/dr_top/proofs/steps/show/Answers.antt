@@ -5,6 +5,7 @@ use Rattle.dr_model.specs.Runs.{said}
 use Rattle.dr_top.specs.Here.{here, IsReady}
 use Rattle.dr_top.proofs.StepLemmas.{showed-nowhere, showed-off, showed-on, calm-nowhere}
 use Rattle.dr_top.proofs.ToldLemmas.{told-ready}
+use Rattle.dr_top.proofs.RelationLemmas.{relations-fit}
 use Rattle.dr_top.proofs.steps.show.Goals as goal
 
 pub returns-in-Err-clause-step : goal.returns-in-Err-clause-step
@@ -35,6 +36,7 @@ read_running-bytes-requires g c =
       defined = at.defined;
       running = ap s.on at.server ∙ sym c.if-not-is_on.ensures;
       known = subst (λ o. o < 8) (sym at.server) at.known;
+      fit = relations-fit s c.args.config.now c.args.host.now c.args.journal.now.events c.requires.sound;
       within = at.within;
     }
 

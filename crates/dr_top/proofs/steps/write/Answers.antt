@@ -5,6 +5,7 @@ use Rattle.dr_model.specs.declared.said.Said.TheVariants.{Refused}
 use Rattle.dr_ids.specs.declared.names.WriteId.{WriteId}
 use Rattle.dr_top.specs.Here.{here}
 use Rattle.dr_top.proofs.StepLemmas.{issued-lands, fault-answers, plan-unless}
+use Rattle.dr_top.proofs.RelationLemmas.{relations-fit}
 use Rattle.dr_top.proofs.steps.write.Goals as goal
 
 pub returns-in-Ok-land_number-clause-step : goal.returns-in-Ok-land_number-clause-step
@@ -26,3 +27,6 @@ returns-in-Err-clause-step g c =
     fault-answers WriteId c.in-Err.fault _ _ (λ r is line.
     plan-unless w line (write_done w.control x.volume.0 x.track x.offset x.len x.bytes) (issue_refusal w.control x.volume.0 x.track) r (is s)
     ∙ (λ i. said (here s t (sym c.in-Err.ensures.same i) (sym c.in-Err.ensures.untold i)) line (Refused r))) c.in-Err.ensures.refused
+
+pub land_number-requires-clause-fit : goal.land_number-requires-clause-fit
+land_number-requires-clause-fit g c = relations-fit (g.P.Plant.state c.args.plant.now) c.args.config.now c.args.host.now c.args.journal.now.events c.requires.sound
