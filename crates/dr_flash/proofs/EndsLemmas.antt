@@ -38,7 +38,7 @@ module _ (armed : ℕ → Bool) (u : World) (r : Option Refusal) where
 
 -- more servers may be armed
 module _ (armed more_armed : ℕ → Bool) (wider : (s : ℕ) → armed s ≡ true → more_armed s ≡ true) (u : World) (r : Option Refusal) where
-  wider-off : (w : World) → GoesOff armed u r w → GoesOff more_armed u r w
+  pub wider-off : (w : World) → GoesOff armed u r w → GoesOff more_armed u r w
   wider-off w off = record { server = off.server; on = off.on; is_armed = wider off.server off.is_armed; world = off.world; refusal = off.refusal }
 
   wider-end : (w : World) (end : Option Refusal) → IsEnd armed u r w end → IsEnd more_armed u r w end

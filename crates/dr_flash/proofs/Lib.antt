@@ -13,3 +13,4 @@ pub mod CopyLemmas
 pub mod StandingLemmas
 pub mod CheckLemmas
 pub mod FetchLemmas
+pub mod WriteLemmas

@@ -15,6 +15,7 @@ mod reads;
 mod sets;
 mod standing;
 mod told;
+mod writing;
 
 pub use keeping::copy_first;
 pub use ending::withdraw;
@@ -24,4 +25,5 @@ pub use fields::{
 };
 pub use making::establish;
 pub use options::Options;
+pub use writing::{write_source, write_source_telling, write_target};
 pub use told::{Telling, Told};
