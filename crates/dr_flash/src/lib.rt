@@ -2,7 +2,6 @@
 #![tactic(auto)]
 
 mod acts;
-
 mod ending;
 mod fetching;
 mod fields;
@@ -17,13 +16,13 @@ mod standing;
 mod told;
 mod writing;
 
-pub use keeping::copy_first;
 pub use ending::withdraw;
 pub use fetching::{copy_step, read_target};
 pub use fields::{
     closed, fetched, given_up, made, noted, restored, resynced, rewritten, turned, withdrawn,
 };
+pub use keeping::copy_first;
 pub use making::establish;
 pub use options::Options;
-pub use writing::{write_source, write_source_telling, write_target};
 pub use told::{Telling, Told};
+pub use writing::{write_source, write_source_telling, write_target};

@@ -17,7 +17,6 @@ ghost use Rattle.dr_flash.specs.Fit.{RelationsFit};
 ghost use Rattle.dr_flash.specs.Here.{seen, refusal_of, armed_in, IsAtRest};
 ghost use Rattle.dr_flash.specs.Turns.{room_of};
 ghost use Rattle.dr_flash.specs.declared.told.Told.TheVariants.{Nothing};
-
 ghost use Rattle.dr_flash.specs.Writes.{EndsThen, MadeFrom, target_checks};
 
 use crate::acts::shift;

@@ -1,21 +1,14 @@
-use Rattle.std.proofs.Common.{ℕ, ◌≡◌, ◌≤◌, ◌++◌, ◌+◌, length, arith, ap, sym, subst, ◌∙◌, List, Option, None, Some, option_map}
-use Rattle.std.specs.Prelude.{IfSome, is_some}
+use Rattle.std.proofs.Common.{◌≡◌, ◌++◌, ◌+◌, arith, ap, sym, subst, ◌∙◌, Some, option_map}
 use Rattle.dr_ids.specs.declared.names.VolumeId.{VolumeId}
-use Rattle.dr_ids.specs.declared.refusal.Refusal.{Refusal}
-use Rattle.dr_plant.specs.State.{PlantState}
-use Rattle.dr_config.specs.Table.{place_of}
-use Rattle.dr_model.specs.Carry.{Entry}
-use Rattle.dr_model.specs.Control.{World, Volume}
-use Rattle.dr_model.specs.Entries.{copies_from, copy_first, keep_on}
+use Rattle.dr_model.specs.Control.{Volume}
+use Rattle.dr_model.specs.Entries.{copies_from, copy_first}
 use Rattle.dr_model.specs.ReadStops.{Ends}
 use Rattle.dr_model.specs.Refusals.{stopped}
-use Rattle.dr_volume.specs.Update.{IsAsBefore}
-use Rattle.dr_volume.specs.View.{Rest, volume_seen, ids_of}
+use Rattle.dr_volume.specs.View.{volume_seen, ids_of}
 use Rattle.dr_flash.specs.Here.{seen, armed_in, refusal_of}
 use Rattle.dr_flash.proofs.CopyLemmas.{keeps_from, keeps-next, keeps-none, before-then, wider-armed, led, failed, volume-there, no-own}
 use Rattle.dr_flash.proofs.EndsLemmas.{ends-wider}
 use Rattle.dr_flash.proofs.TurnLemmas.{err-always, refused-by}
-use Rattle.dr_flash.proofs.keeping.copy_first.Given as given
 use Rattle.dr_flash.proofs.keeping.copy_first.Goals as goal
 
 pub unwrap-u-requires : goal.unwrap-u-requires
@@ -43,12 +36,12 @@ returns-in_err-keep_on-clause-fails g c =
     let k = c.args.t in
     let v = c.args.v.0 in
     err-always c.from_residual.result (λ r ds.
-        let u = seen (g.P.Plant.state c.keep_on.new.p) t r c.keep_on.new.j.events in
-        let e = c.in_err-keep_on.field-0.0 in
-        subst (λ q. Ends (armed_in s0) u q (seen s0 t r c.args.j.now.events) (copy_first (ids_of t.volumes) v k ++ ds)) (sym (refused-by c.from_residual.result e c.from_residual.ensures.0 c.from_residual.ensures.1))
-        (c.loop-place.invariant.left r (armed_in s0) u (Some e) ds
-        (subst (λ es. Ends (armed_in s0) u (Some e) (seen s t r c.loop-place.j.events) (es ++ ds)) (sym (keeps-next t v k c.loop-place.place c.unwrap-u.result.0 (sym (ap (option_map (λ (v : VolumeId). v.0)) c.unwrap-u.ensures) ∙ c.volume_at.ensures.value)))
-        (ends-wider (armed_in s) (armed_in s0) (wider-armed s0 s c.loop-place.invariant.unarmed) u (Some e) _ _ (c.in_err-keep_on.ensures.halts r (keeps_from t v k (c.loop-place.place + 1) ++ ds))))))
+    let u = seen (g.P.Plant.state c.keep_on.new.p) t r c.keep_on.new.j.events in
+    let e = c.in_err-keep_on.field-0.0 in
+    subst (λ q. Ends (armed_in s0) u q (seen s0 t r c.args.j.now.events) (copy_first (ids_of t.volumes) v k ++ ds)) (sym (refused-by c.from_residual.result e c.from_residual.ensures.0 c.from_residual.ensures.1))
+    (c.loop-place.invariant.left r (armed_in s0) u (Some e) ds
+    (subst (λ es. Ends (armed_in s0) u (Some e) (seen s t r c.loop-place.j.events) (es ++ ds)) (sym (keeps-next t v k c.loop-place.place c.unwrap-u.result.0 (sym (ap (option_map (λ (v : VolumeId). v.0)) c.unwrap-u.ensures) ∙ c.volume_at.ensures.value)))
+    (ends-wider (armed_in s) (armed_in s0) (wider-armed s0 s c.loop-place.invariant.unarmed) u (Some e) _ _ (c.in_err-keep_on.ensures.halts r (keeps_from t v k (c.loop-place.place + 1) ++ ds))))))
 
 pub returns-in_err-keep_on-clause-refused : goal.returns-in_err-keep_on-clause-refused
 returns-in_err-keep_on-clause-refused g c =
@@ -104,7 +97,7 @@ returns-in_err-keep_on-clause-carried g c r =
     let u = seen (g.P.Plant.state c.keep_on.new.p) t r c.keep_on.new.j.events in
     let e = c.in_err-keep_on.field-0.0 in
     failed (armed_in s0) (seen s0 t r c.args.j.now.events) u (refusal_of c.from_residual.result) (copy_first (ids_of t.volumes) v k) (λ ds.
-        subst (λ q. Ends (armed_in s0) u q (seen s0 t r c.args.j.now.events) (copy_first (ids_of t.volumes) v k ++ ds)) (sym (refused-by c.from_residual.result e c.from_residual.ensures.0 c.from_residual.ensures.1))
-        (c.loop-place.invariant.left r (armed_in s0) u (Some e) ds
-        (subst (λ es. Ends (armed_in s0) u (Some e) (seen s t r c.loop-place.j.events) (es ++ ds)) (sym (keeps-next t v k c.loop-place.place c.unwrap-u.result.0 (sym (ap (option_map (λ (v : VolumeId). v.0)) c.unwrap-u.ensures) ∙ c.volume_at.ensures.value)))
-        (ends-wider (armed_in s) (armed_in s0) (wider-armed s0 s c.loop-place.invariant.unarmed) u (Some e) _ _ (c.in_err-keep_on.ensures.halts r (keeps_from t v k (c.loop-place.place + 1) ++ ds))))))
+    subst (λ q. Ends (armed_in s0) u q (seen s0 t r c.args.j.now.events) (copy_first (ids_of t.volumes) v k ++ ds)) (sym (refused-by c.from_residual.result e c.from_residual.ensures.0 c.from_residual.ensures.1))
+    (c.loop-place.invariant.left r (armed_in s0) u (Some e) ds
+    (subst (λ es. Ends (armed_in s0) u (Some e) (seen s t r c.loop-place.j.events) (es ++ ds)) (sym (keeps-next t v k c.loop-place.place c.unwrap-u.result.0 (sym (ap (option_map (λ (v : VolumeId). v.0)) c.unwrap-u.ensures) ∙ c.volume_at.ensures.value)))
+    (ends-wider (armed_in s) (armed_in s0) (wider-armed s0 s c.loop-place.invariant.unarmed) u (Some e) _ _ (c.in_err-keep_on.ensures.halts r (keeps_from t v k (c.loop-place.place + 1) ++ ds))))))

@@ -1,15 +1,13 @@
-use Rattle.std.proofs.Common.{◌≡◌, ◌<◌, ℕ, inl, inr, true, ap, refl, sym, subst, ◌∙◌, List, Option, None, Some}
+use Rattle.std.proofs.Common.{◌≡◌, ◌<◌, inl, inr, true, sym, subst, ◌∙◌, Some}
 use Rattle.std.specs.Prelude.{OnErr}
-use Rattle.dr_ids.specs.declared.refusal.Refusal.{Refusal}
-use Rattle.dr_plant.specs.State.{PlantState}
-use Rattle.dr_model.specs.Control.{Volume, World}
+use Rattle.dr_model.specs.Control.{Volume}
 use Rattle.dr_model.specs.Carry.{update}
-use Rattle.dr_model.specs.Entries.{copy_first, copies_from}
+use Rattle.dr_model.specs.Entries.{copy_first}
 use Rattle.dr_model.specs.Lawful.{IsLawful}
 use Rattle.dr_model.specs.Refusals.{stopped}
 use Rattle.dr_volume.specs.Plain.{plain}
-use Rattle.dr_volume.specs.Update.{Covers, IsAsBefore}
-use Rattle.dr_volume.specs.View.{Rest, volume_seen, ids_of}
+use Rattle.dr_volume.specs.Update.{Covers}
+use Rattle.dr_volume.specs.View.{volume_seen, ids_of}
 use Rattle.dr_flash.specs.Here.{seen, armed_in, refusal_of}
 use Rattle.dr_flash.specs.Turns.{made_by, Fails}
 use Rattle.dr_flash.proofs.CopyLemmas.{no-own, before-then, wider-armed}
@@ -41,9 +39,12 @@ shift-requires-clause-leaves g c =
 
 pub returns-clause-carried : goal.returns-clause-carried
 returns-clause-carried g c r =
-    inr ((seen (g.P.Plant.state c.copy_first.new.p) c.args.c.now r c.copy_first.new.j.events), c.in_ok-copy_first.ensures.leads r,
-    made-from c.shift.result (armed_in (g.P.Plant.state c.copy_first.new.p)) (armed_in (g.P.Plant.state c.args.p.now)) (wider-armed (g.P.Plant.state c.args.p.now) (g.P.Plant.state c.copy_first.new.p) c.in_ok-copy_first.ensures.unarmed) (λ r. (seen (g.P.Plant.state c.copy_first.new.p) c.args.c.now r c.copy_first.new.j.events)) (λ r. (seen (g.P.Plant.state c.shift.new.p) c.args.c.now r c.shift.new.j.events)) (λ r. made_by (update (seen (g.P.Plant.state c.copy_first.new.p) c.args.c.now r c.copy_first.new.j.events) c.args.v.0 (plain c.args.next.now) (Some (c.args.t, c.args.bytes.now))) (volume_seen (g.P.Plant.state c.copy_first.new.p) c.args.c.now c.args.v.0).server c.args.told.now) (volume_seen (g.P.Plant.state c.copy_first.new.p) c.args.c.now c.args.v.0).server
-    c.shift.ensures.done c.shift.ensures.failed c.shift.ensures.refused r)
+    inr (
+      (seen (g.P.Plant.state c.copy_first.new.p) c.args.c.now r c.copy_first.new.j.events),
+      c.in_ok-copy_first.ensures.leads r,
+      made-from c.shift.result (armed_in (g.P.Plant.state c.copy_first.new.p)) (armed_in (g.P.Plant.state c.args.p.now)) (wider-armed (g.P.Plant.state c.args.p.now) (g.P.Plant.state c.copy_first.new.p) c.in_ok-copy_first.ensures.unarmed) (λ r. (seen (g.P.Plant.state c.copy_first.new.p) c.args.c.now r c.copy_first.new.j.events)) (λ r. (seen (g.P.Plant.state c.shift.new.p) c.args.c.now r c.shift.new.j.events)) (λ r. made_by (update (seen (g.P.Plant.state c.copy_first.new.p) c.args.c.now r c.copy_first.new.j.events) c.args.v.0 (plain c.args.next.now) (Some (c.args.t, c.args.bytes.now))) (volume_seen (g.P.Plant.state c.copy_first.new.p) c.args.c.now c.args.v.0).server c.args.told.now) (volume_seen (g.P.Plant.state c.copy_first.new.p) c.args.c.now c.args.v.0).server
+          c.shift.ensures.done c.shift.ensures.failed c.shift.ensures.refused r,
+    )
 
 pub returns-clause-refused : goal.returns-clause-refused
 returns-clause-refused g c = subst (λ (x : Volume). OnErr c.shift.result (refusal_of c.shift.result ≡ Some (stopped x.server))) (c.in_ok-copy_first.ensures.others c.args.v.0 (no-own (g.P.Plant.state c.args.p.now) c.args.c.now c.args.v.0 c.requires.fit)).volume c.shift.ensures.refused

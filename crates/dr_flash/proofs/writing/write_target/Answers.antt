@@ -19,8 +19,12 @@ returns-then-not-is_settled-clause-carried g c r =
 
 pub returns-clause-carried : goal.returns-clause-carried
 returns-clause-carried g c r =
-    inr ((seen (g.P.Plant.state c.args.p.now) c.args.c.now r c.args.j.now.events), (λ armed u r' ds more. ends-passed armed u r' (seen (g.P.Plant.state c.args.p.now) c.args.c.now r c.args.j.now.events) (is_open c.args.v.0) (Inhibited (record { 0 = c.args.v.0 })) _ (ap (λ b. not (b && (volume_seen (g.P.Plant.state c.args.p.now) c.args.c.now c.args.v.0).fields.inhibited)) c.requires.related ∙ ap (λ (f : Fields). not f.inhibited) (sym c.peek_fields-fields.ensures.fields) ∙ ap not c.if-fields.false)
-    (ends-passed armed u r' (seen (g.P.Plant.state c.args.p.now) c.args.c.now r c.args.j.now.events) (is_settled c.args.v.0) (relation_state (seen (g.P.Plant.state c.args.p.now) c.args.c.now r c.args.j.now.events).control c.args.v.0) _ (sym (c.is_settled.ensures r c.args.j.now.events) ∙ c.if-not-is_settled.false) more)), c.overwrite.ensures.made r)
+    inr (
+      (seen (g.P.Plant.state c.args.p.now) c.args.c.now r c.args.j.now.events),
+      (λ armed u r' ds more. ends-passed armed u r' (seen (g.P.Plant.state c.args.p.now) c.args.c.now r c.args.j.now.events) (is_open c.args.v.0) (Inhibited (record { 0 = c.args.v.0 })) _ (ap (λ b. not (b && (volume_seen (g.P.Plant.state c.args.p.now) c.args.c.now c.args.v.0).fields.inhibited)) c.requires.related ∙ ap (λ (f : Fields). not f.inhibited) (sym c.peek_fields-fields.ensures.fields) ∙ ap not c.if-fields.false)
+          (ends-passed armed u r' (seen (g.P.Plant.state c.args.p.now) c.args.c.now r c.args.j.now.events) (is_settled c.args.v.0) (relation_state (seen (g.P.Plant.state c.args.p.now) c.args.c.now r c.args.j.now.events).control c.args.v.0) _ (sym (c.is_settled.ensures r c.args.j.now.events) ∙ c.if-not-is_settled.false) more)),
+      c.overwrite.ensures.made r,
+    )
 
 pub returns-clause-faults : goal.returns-clause-faults
 returns-clause-faults g c = counted-stop c.overwrite.result _ _ _ c.overwrite.ensures.faults c.overwrite.ensures.refused
