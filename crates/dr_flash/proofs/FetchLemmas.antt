@@ -4,7 +4,6 @@ use Rattle.std.specs.Prelude.{is_some, if◌then◌else◌}
 use Rattle.dr_plant.specs.State.{PlantState, can_read, passes_read}
 use Rattle.dr_config.specs.Table.{Table, StandsFor, place_of}
 use Rattle.dr_model.specs.declared.event.Event.{Event}
-use Rattle.dr_model.specs.Layout as layout
 use Rattle.dr_model.specs.Control.{World, Volume}
 use Rattle.dr_model.specs.Moves.{Fetch}
 use Rattle.dr_model.specs.Carry.{Pass, now}

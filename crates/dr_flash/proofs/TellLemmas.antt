@@ -1,5 +1,5 @@
 -- The events of a relationship that has ended, track by track.
-use Rattle.std.proofs.Common.{ℕ, zero, suc, ◌≡◌, ◌<◌, ◌≤◌, ◌+◌, ◌-◌, Bool, true, false, not, ◌&&◌, List, [], ◌∷◌, ◌++◌, length, map, arith, sym, ◌∙◌, ap, refl, nat_lt, cond}
+use Rattle.std.proofs.Common.{ℕ, zero, suc, ◌≡◌, ◌<◌, ◌≤◌, ◌+◌, ◌-◌, Bool, true, false, not, ◌&&◌, List, [], ◌∷◌, ◌++◌, length, map, arith, sym, ◌∙◌, ap, cond}
 use Rattle.std.specs.Prelude.{filter, max}
 use Rattle.std.specs.List.{range_with_len}
 use Rattle.std.specs.FinSet.{contains}

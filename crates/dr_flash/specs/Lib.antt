@@ -8,3 +8,4 @@ pub mod Views
 pub mod Writes
 pub mod Standing
 pub mod Checks
+pub mod HostWrites

@@ -15,6 +15,7 @@ mod sets;
 mod standing;
 mod told;
 mod views;
+mod writing;
 
 pub use ending::withdraw;
 pub use fetching::{copy_step, read_target};
@@ -28,3 +29,4 @@ pub use place::{server_of, tracks_of};
 pub use standing::write_refusal;
 pub use told::{Telling, Told};
 pub use views::view_of;
+pub use writing::{write_source, write_source_telling, write_target};

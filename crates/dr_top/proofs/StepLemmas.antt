@@ -48,7 +48,7 @@ use Rattle.dr_laws.proofs.Lands.{found-waits}
 use Rattle.dr_volume.specs.View.{on_seen, volume_seen, ids_of}
 use Rattle.dr_flash.specs.Checks.{is_stop}
 use Rattle.dr_flash.specs.Views.{view_seen}
-use Rattle.dr_flash.specs.Writes.{write_refusal}
+use Rattle.dr_flash.specs.HostWrites.{write_refusal}
 use Rattle.dr_top.specs.Here.{here, said_of, ended_by, OnAnswer, OnRefused, IsTold}
 use Rattle.dr_ids.specs.declared.refusal.Kind.{Kind}
 use Rattle.dr_top.specs.Faults.{Counted, Counts, is_stopped}

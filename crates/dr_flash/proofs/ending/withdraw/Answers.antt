@@ -1,4 +1,4 @@
-use Rattle.std.proofs.Common.{ap, sym, ◌∙◌, [], Some, not, ◌&&◌}
+use Rattle.std.proofs.Common.{ap, sym, ◌∙◌, Some, not, ◌&&◌}
 use Rattle.dr_ids.specs.declared.refusal.Refusal.{Refusal}
 use Rattle.dr_model.specs.Carry.{now}
 use Rattle.dr_model.specs.Layout.{Fields}

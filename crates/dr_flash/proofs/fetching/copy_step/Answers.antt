@@ -2,7 +2,7 @@ use Rattle.std.proofs.Common.{refl, sym, subst, [], None, Some}
 use Rattle.dr_model.specs.Carry.{now}
 use Rattle.dr_model.specs.Entries.{fetch_next}
 use Rattle.dr_model.specs.Moves.{Fetch}
-use Rattle.dr_flash.specs.Here.{seen, armed_in, refusal_of}
+use Rattle.dr_flash.specs.Here.{seen, armed_in}
 use Rattle.dr_flash.specs.Turns.{Halts}
 use Rattle.dr_flash.proofs.EndsLemmas.{ends-none}
 use Rattle.dr_flash.proofs.FetchLemmas.{fetch-none, fetch-some}
@@ -20,8 +20,8 @@ returns-in_default-clause-carried g c r =
 pub returns-in_err-fetch-clause-halts : goal.returns-in_err-fetch-clause-halts
 returns-in_err-fetch-clause-halts g c =
     err-always c.from_residual.result (λ r.
-        subst (λ e. Halts (armed_in (g.P.Plant.state c.args.p.now)) (seen (g.P.Plant.state c.args.p.now) c.args.c.now r c.args.j.now.events) (fetch_next c.args.v.0) (seen (g.P.Plant.state c.fetch.new.p) c.args.c.now r c.fetch.new.j.events) e) (sym (refused-by c.from_residual.result c.in_err-fetch.field-0.0 c.from_residual.ensures.0 c.from_residual.ensures.1))
-        (alike-halts (armed_in (g.P.Plant.state c.args.p.now)) (seen (g.P.Plant.state c.args.p.now) c.args.c.now r c.args.j.now.events) (seen (g.P.Plant.state c.fetch.new.p) c.args.c.now r c.fetch.new.j.events) (Some c.in_err-fetch.field-0.0) (fetch_next c.args.v.0) (now (Fetch c.args.v.0 c.in-Some.t)) (fetch-some (g.P.Plant.state c.args.p.now) c.args.c.now r c.args.j.now.events c.args.v.0 c.tracks_of-tracks.result c.peek_fields-fields.result c.peek_fields-fields.ensures.fields (c.tracks_of-tracks.ensures.seen (g.P.Plant.state c.args.p.now)) (Some c.in-Some.t) c.in-Some.ensures.track c.in-Some.t refl) (c.in_err-fetch.ensures.halts r)))
+    subst (λ e. Halts (armed_in (g.P.Plant.state c.args.p.now)) (seen (g.P.Plant.state c.args.p.now) c.args.c.now r c.args.j.now.events) (fetch_next c.args.v.0) (seen (g.P.Plant.state c.fetch.new.p) c.args.c.now r c.fetch.new.j.events) e) (sym (refused-by c.from_residual.result c.in_err-fetch.field-0.0 c.from_residual.ensures.0 c.from_residual.ensures.1))
+    (alike-halts (armed_in (g.P.Plant.state c.args.p.now)) (seen (g.P.Plant.state c.args.p.now) c.args.c.now r c.args.j.now.events) (seen (g.P.Plant.state c.fetch.new.p) c.args.c.now r c.fetch.new.j.events) (Some c.in_err-fetch.field-0.0) (fetch_next c.args.v.0) (now (Fetch c.args.v.0 c.in-Some.t)) (fetch-some (g.P.Plant.state c.args.p.now) c.args.c.now r c.args.j.now.events c.args.v.0 c.tracks_of-tracks.result c.peek_fields-fields.result c.peek_fields-fields.ensures.fields (c.tracks_of-tracks.ensures.seen (g.P.Plant.state c.args.p.now)) (Some c.in-Some.t) c.in-Some.ensures.track c.in-Some.t refl) (c.in_err-fetch.ensures.halts r)))
 
 pub returns-in_err-fetch-clause-carried : goal.returns-in_err-fetch-clause-carried
 returns-in_err-fetch-clause-carried g c r =

@@ -1,6 +1,5 @@
-use Rattle.std.proofs.Common.{◌≡◌, ◌&&◌, ap, sym, subst, ◌∙◌, true}
+use Rattle.std.proofs.Common.{◌≡◌, ap, sym, subst, ◌∙◌, true}
 use Rattle.std.specs.Prelude.{is_some}
-use Rattle.std.specs.FinSet.{contains}
 use Rattle.dr_plant.specs.State.{PlantState, after_read, can_read}
 use Rattle.dr_plant.proofs.StateLemmas.{read_done}
 use Rattle.dr_config.specs.Table.{place_of}

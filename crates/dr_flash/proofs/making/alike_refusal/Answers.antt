@@ -1,4 +1,4 @@
-use Rattle.std.proofs.Common.{ℕ, ap, refl, sym, ◌∙◌, not, nat_eq, Some}
+use Rattle.std.proofs.Common.{ap, refl, ◌∙◌, not, nat_eq, Some}
 use Rattle.dr_ids.specs.declared.refusal.Kind.TheVariants.{Volume as OfVolume}
 use Rattle.dr_ids.specs.declared.refusal.Which.TheVariants.{Size, Server as OneServer}
 use Rattle.dr_model.specs.Plans.{differ, share_server, share_size}

@@ -1,4 +1,4 @@
-use Rattle.std.proofs.Common.{ap, sym, ◌∙◌, [], Some}
+use Rattle.std.proofs.Common.{ap, sym, ◌∙◌, Some}
 use Rattle.dr_model.specs.Carry.{now}
 use Rattle.dr_model.specs.Entries.{is_running}
 use Rattle.dr_model.specs.Moves.{Relate}

@@ -1,4 +1,4 @@
-use Rattle.std.proofs.Common.{ℕ, ap, refl, sym, ◌∙◌, not, nat_lt, Some}
+use Rattle.std.proofs.Common.{ap, refl, sym, ◌∙◌, not, nat_lt, Some}
 use Rattle.dr_ids.specs.declared.refusal.Refusal.{Refusal}
 use Rattle.dr_ids.specs.declared.refusal.Which.TheVariants.{Targets}
 use Rattle.dr_model.specs.Layout.{Fields}

@@ -1,4 +1,4 @@
-use Rattle.std.proofs.Common.{sym, subst, ◌∙◌, arith}
+use Rattle.std.proofs.Common.{arith}
 use Rattle.dr_flash.proofs.SetLaws.{lowest-some, lowest-past, lowest-none}
 use Rattle.dr_flash.proofs.sets.lowest.Goals as goal
 
