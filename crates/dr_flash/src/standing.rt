@@ -124,8 +124,12 @@ pub fn write_refusal<P: Plant>(p: &P, c: &Config, v: VolumeId) -> Option<Refusal
     if fields.related && fields.inhibited {
         return Some(Refusal::Inhibited { volume: v });
     }
-    if !is_settled(p, c, v) {
-        return Some(relation_state(p, c, v));
+    let all = look_at_targets(p, c, v);
+    if is_settled_by(&fields, all) {
+        return None;
     }
-    None
+    Some(Refusal::RelationState {
+        volume: v,
+        found: relation_by(&fields, all),
+    })
 }
