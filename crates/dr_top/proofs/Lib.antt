@@ -21,3 +21,4 @@ pub mod TopLemmas
 pub mod WellFormedLemmas
 pub mod StepTaskLemmas
 pub mod RelationLemmas
+pub mod FlashLemmas

@@ -1,12 +1,17 @@
 -- Steps as a line can give them.
-use Rattle.std.specs.Prelude.{◌+◌, ◌≤◌}
+use Rattle.std.specs.Prelude.{◌+◌, ◌≤◌, Option, Some, None}
 use Rattle.dr_model.specs.declared.step.Name.{Name}
 use Rattle.dr_model.specs.declared.step.Step.{Step}
-use Rattle.dr_model.specs.declared.step.Step.TheVariants.{Server, Volume, Link, Stop, StopAfter, Start, Issue, Write}
+use Rattle.dr_model.specs.declared.step.Step.TheVariants.{Server, Volume, Link, Stop, StopAfter, Start, Issue, Write, MakeFlash, RemoveFlash, ResyncFlash, ReverseFlash}
 
 -- a name has 1 to 24 bytes
 abbrev pub FitsName : Name → Type 0
 FitsName n = (1 ≤ n.len) × (n.len ≤ 24)
+
+-- so has the name of a server, where one is given
+abbrev pub FitsOwner : Option Name → Type 0
+FitsOwner None = Unit {0}
+FitsOwner (Some n) = FitsName n
 
 -- names fit, and the bytes of a write, one at least, lie in one track
 abbrev pub IsWellFormed : Step → Type 0
@@ -18,4 +23,8 @@ IsWellFormed (StopAfter name writes torn) = FitsName name
 IsWellFormed (Start name) = FitsName name
 IsWellFormed (Issue v t offset len bytes) = (1 ≤ len) × (offset + len ≤ 64)
 IsWellFormed (Write v t offset len bytes) = (1 ≤ len) × (offset + len ≤ 64)
+IsWellFormed (MakeFlash devs s t nocopy persistent recorded inhibited sequence) = FitsOwner devs.dev
+IsWellFormed (RemoveFlash devs s t sequence) = FitsOwner devs.dev
+IsWellFormed (ResyncFlash devs s t nocopy persistent recorded inhibited sequence) = FitsOwner devs.dev
+IsWellFormed (ReverseFlash devs s t tgtpprc sequence) = FitsOwner devs.dev
 IsWellFormed _ = Unit {0}

@@ -3,6 +3,7 @@
 
 mod carry;
 mod define;
+mod flash;
 mod landing;
 mod locate;
 mod machine;
