@@ -2,3 +2,11 @@ pub mod SetLaws
 pub mod TellLemmas
 pub mod PlaceLaws
 pub mod MadeLemmas
+pub mod ReadLemmas
+pub mod EndsLemmas
+pub mod TurnLemmas
+pub mod FitLemmas
+pub mod FieldLemmas
+pub mod MoveLemmas
+pub mod KeepLemmas
+pub mod CopyLemmas

@@ -27,6 +27,13 @@ Advances w d v = (armed : ℕ → Bool) (u : World) (r : Option Refusal) (ds : L
 abbrev pub Halts : (ℕ → Bool) → World → Entry → World → Option Refusal → Type 0
 Halts armed w d u r = (ds : List Entry) → Ends armed u r w (d ∷ ds)
 
+-- the same of several entries
+abbrev pub Leads : World → List Entry → World → Type 0
+Leads w es v = (armed : ℕ → Bool) (u : World) (r : Option Refusal) (ds : List Entry) → Ends armed u r v ds → Ends armed u r w (es ++ ds)
+
+abbrev pub Fails : (ℕ → Bool) → World → List Entry → World → Option Refusal → Type 0
+Fails armed w es u r = (ds : List Entry) → Ends armed u r w (es ++ ds)
+
 -- the most events that such a move tells
 abbrev pub room_of : Telling → ℕ
 room_of told = max (length (events_of told.done)) (length (events_of told.in_stop) + 1)

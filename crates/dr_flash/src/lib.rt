@@ -2,12 +2,17 @@
 #![tactic(auto)]
 
 mod acts;
+
 mod fields;
+mod keep;
+mod keeping;
 mod options;
 mod place;
+mod reads;
 mod sets;
 mod told;
 
+pub use keeping::copy_first;
 pub use fields::{
     closed, fetched, given_up, made, noted, restored, resynced, rewritten, turned, withdrawn,
 };

@@ -1,0 +1,170 @@
+-- What moves make of fields: they stay lawful, what a target holds isn't blank, and what is blank stays so.
+use Rattle.std.proofs.Common.{ℕ, List, ◌≡◌, ◌<◌, ◌≤◌, Bool, true, false, not, ◌&&◌, ◌||◌, cond, nat_eq, nat_lt, refl, sym, ◌∙◌, ap, subst, arith, rules, inl, inr, Some, None}
+use Rattle.std.specs.Prelude.{if◌then◌else◌}
+use Rattle.std.proofs.lemmas.Bool.Decides.{nat_tests, eqb_tells, Decides-ltb}
+use Rattle.std.specs.Cmp.{unsigned_tied}
+use Rattle.std.specs.FinSet.{contains, insert, remove, empty, contains-empty, members}
+use Rattle.std.specs.Ordering.{nat_cmp}
+use Rattle.dr_bits.proofs.Laws.{contains-insert_tracks, contains-remove_tracks}
+use Rattle.dr_model.specs.Layout.{Tracks, Fields}
+use Rattle.dr_model.specs.Lawful.{Low, HasSets, IsLawful}
+use Rattle.dr_model.specs.Moves.{Carried, is_carried}
+use Rattle.dr_model.specs.Relations.{Choices, rest, is_whole, parted_if, closed, fetched, noted, rewritten, made, withdrawn_if}
+use Rattle.dr_volume.specs.Update.{Covers}
+use Rattle.dr_flash.proofs.SetLaws.{contains-rest}
+
+-- sets stay below n
+low-empty : (n : ℕ) → Low n empty
+low-empty n t h = absurd (let e : contains {R = nat_cmp} empty t ≡ false = contains-empty nat_cmp t in cc)
+
+low-insert : (n t : ℕ) (s : Tracks) → t < n → Low n s → Low n (insert s t)
+low-insert n t s below low q h =
+    elim (eqb_tells q t) as (λ _. q < n) [
+      | inl p ↦ let e = p.1 in omega arith
+      | inr p ↦ low q (sym (contains-insert_tracks s t q ∙ ap (λ b. b || contains s q) p.0) ∙ h)
+    ]
+
+low-remove : (n t : ℕ) (s : Tracks) → Low n s → Low n (remove s t)
+low-remove n t s low q h = low q (let e = contains-remove_tracks s t q in grind (arith, e, h))
+
+low-rest : (n : ℕ) (own : Tracks) → Low n (rest n own)
+low-rest n own q h = let e = contains-rest n own q in grind (arith, nat_tests, e, h)
+
+low-if : (b : Bool) (n : ℕ) (x y : Tracks) → Low n x → Low n y → Low n (if b then x else y)
+low-if true n x y h k = h
+low-if false n x y h k = k
+
+pub lawful-fetched : (n t : ℕ) (f : Fields) → t < n → f.related ≡ true → IsLawful n f → IsLawful n (fetched f t)
+lawful-fetched n t f below related law = let s : HasSets n f = law.sets in record {
+  sets = record {
+    out_of_sync_low = s.out_of_sync_low;
+    change_recording_low = s.change_recording_low;
+    own_low = low-insert n t f.own below s.own_low;
+    previous_own_low = s.previous_own_low;
+    source_changes_low = s.source_changes_low;
+    target_changes_low = s.target_changes_low;
+    blank_low = low-remove n t f.blank s.blank_low;
+  };
+  primary = law.primary;
+  secondary = law.secondary;
+  relation = λ absent. absurd (let e : true ≡ false = sym related ∙ absent in cc);
+}
+
+pub lawful-noted : (n t : ℕ) (f : Fields) → t < n → f.related ≡ true → IsLawful n f → IsLawful n (noted f t)
+lawful-noted n t f below related law = let s : HasSets n f = law.sets in record {
+  sets = record {
+    out_of_sync_low = s.out_of_sync_low;
+    change_recording_low = s.change_recording_low;
+    own_low = s.own_low;
+    previous_own_low = s.previous_own_low;
+    source_changes_low = low-if f.recorded n _ _ (low-insert n t f.source_changes below s.source_changes_low) s.source_changes_low;
+    target_changes_low = s.target_changes_low;
+    blank_low = s.blank_low;
+  };
+  primary = law.primary;
+  secondary = law.secondary;
+  relation = λ absent. absurd (let e : true ≡ false = sym related ∙ absent in cc);
+}
+
+pub lawful-rewritten : (n t : ℕ) (f : Fields) → t < n → f.related ≡ true → IsLawful n f → IsLawful n (rewritten f t)
+lawful-rewritten n t f below related law = let s : HasSets n f = law.sets in record {
+  sets = record {
+    out_of_sync_low = s.out_of_sync_low;
+    change_recording_low = s.change_recording_low;
+    own_low = s.own_low;
+    previous_own_low = s.previous_own_low;
+    source_changes_low = s.source_changes_low;
+    target_changes_low = low-if f.recorded n _ _ (low-insert n t f.target_changes below s.target_changes_low) s.target_changes_low;
+    blank_low = s.blank_low;
+  };
+  primary = law.primary;
+  secondary = law.secondary;
+  relation = λ absent. absurd (let e : true ≡ false = sym related ∙ absent in cc);
+}
+
+pub lawful-parted : (n : ℕ) (f : Fields) (b : Bool) → IsLawful n f → IsLawful n (parted_if b f)
+lawful-parted n f false law = law
+lawful-parted n f true law = let s : HasSets n f = law.sets in record {
+  sets = record {
+    out_of_sync_low = s.out_of_sync_low;
+    change_recording_low = s.change_recording_low;
+    own_low = low-empty n;
+    previous_own_low = low-empty n;
+    source_changes_low = low-empty n;
+    target_changes_low = low-empty n;
+    blank_low = s.blank_low;
+  };
+  primary = law.primary;
+  secondary = law.secondary;
+  relation = λ absent. (refl, refl, refl, refl, refl, refl, refl, refl, refl, refl, refl, refl, refl, refl, refl);
+}
+
+pub lawful-closed : (n : ℕ) (f : Fields) → IsLawful n f → IsLawful n (closed n f)
+lawful-closed n f law = lawful-parted n f (is_whole n f.own && not f.persistent) law
+
+pub lawful-made : (n s : ℕ) (o : Choices) (f : Fields) → IsLawful n f → IsLawful n (made s o f)
+lawful-made n s o f law = let x : HasSets n f = law.sets in record {
+  sets = record {
+    out_of_sync_low = x.out_of_sync_low;
+    change_recording_low = x.change_recording_low;
+    own_low = low-empty n;
+    previous_own_low = low-empty n;
+    source_changes_low = low-empty n;
+    target_changes_low = low-empty n;
+    blank_low = x.blank_low;
+  };
+  primary = law.primary;
+  secondary = law.secondary;
+  relation = λ absent. absurd (let e : true ≡ false = absent in cc);
+}
+
+pub lawful-withdrawn : (n : ℕ) (f : Fields) → IsLawful n f → IsLawful n (withdrawn_if true n f)
+lawful-withdrawn n f law = let p = lawful-parted n f true law in let s : HasSets n (parted_if true f) = p.sets in record {
+  sets = record {
+    out_of_sync_low = s.out_of_sync_low;
+    change_recording_low = s.change_recording_low;
+    own_low = s.own_low;
+    previous_own_low = s.previous_own_low;
+    source_changes_low = s.source_changes_low;
+    target_changes_low = s.target_changes_low;
+    blank_low = low-rest n f.own;
+  };
+  primary = law.primary;
+  secondary = law.secondary;
+  relation = p.relation;
+}
+
+-- what a target holds isn't blank
+abbrev pub Apart : Tracks → Tracks → Type 0
+Apart own blank = (k : ℕ) → contains own k ≡ true → contains blank k ≡ false
+
+pub apart-fetched : (own blank : Tracks) (t : ℕ) → Apart own blank → Apart (insert own t) (remove blank t)
+apart-fetched own blank t apart k h =
+    elim (eqb_tells k t) as (λ _. contains (remove blank t) k ≡ false) [
+      | inl p ↦ contains-remove_tracks blank t k ∙ ap (λ b. not b && contains blank k) p.0
+      | inr p ↦ contains-remove_tracks blank t k ∙ ap (λ b. not b && contains blank k) p.0 ∙ apart k (sym (contains-insert_tracks own t k ∙ ap (λ b. b || contains own k) p.0) ∙ h)
+    ]
+
+pub apart-empty : (blank : Tracks) → Apart empty blank
+apart-empty blank k h = absurd (let e : contains {R = nat_cmp} empty k ≡ false = contains-empty nat_cmp k in cc)
+
+pub apart-parted : (b : Bool) (f : Fields) → Apart f.own f.blank → Apart (parted_if b f).own (parted_if b f).blank
+apart-parted true f apart = apart-empty f.blank
+apart-parted false f apart = apart
+
+-- what is blank stays so, but for a track that is carried
+pub covers-all : (s : Tracks) (c : Carried) → Covers s s c
+covers-all s c k h = ap (λ b. b || is_carried c k) h
+
+pub covers-rest : (n : ℕ) (own blank : Tracks) → Low n blank → Apart own blank → Covers blank (rest n own) None
+covers-rest n own blank low apart k h =
+    ap (λ b. b || false) (contains-rest n own k)
+    ∙ held (nat_lt k n) (contains own k) ((Decides-ltb k n).1 (low k h)) (λ there. let e : true ≡ false = sym h ∙ apart k there in cc)
+  where
+    held : (a b : Bool) → a ≡ true → (b ≡ true → ⊥) → ((a && not b) || false) ≡ true
+    held true false low none = refl
+    held true true low none = absurd (none refl)
+    held false b low none = absurd cc
+
+pub covers-carried : (s : Tracks) (t : ℕ) (bytes : List ℕ) → Covers s (remove s t) (Some (t, bytes))
+covers-carried s t bytes k h = grind (members, rules, nat_tests, unsigned_tied)

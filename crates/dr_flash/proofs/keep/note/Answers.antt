@@ -1,0 +1,47 @@
+use Rattle.dr_flash.specs.Told.{events_of}
+use Rattle.std.proofs.Common.{arith, length, ◌≡◌, ap, refl, sym, subst, ◌∙◌, List, ℕ, None, Some}
+use Rattle.dr_model.specs.Layout.{Fields}
+use Rattle.dr_model.specs.Lawful.{IsLawful}
+use Rattle.dr_model.specs.Histories.{histories}
+use Rattle.dr_model.specs.Moves.{Note, Carried, fields_left, carried}
+use Rattle.dr_volume.specs.Plain.{plain}
+use Rattle.dr_volume.specs.Update.{Covers}
+use Rattle.dr_volume.specs.View.{Rest, volume_seen, track_seen}
+use Rattle.dr_flash.specs.Fit.{LeavesFit}
+use Rattle.dr_flash.specs.Here.{seen, armed_in, refusal_of}
+use Rattle.dr_flash.specs.declared.told.Telling.{Telling}
+use Rattle.dr_flash.proofs.ReadLemmas.{on-running}
+use Rattle.dr_flash.proofs.TurnLemmas.{Tells, advances, halts, ok-along, err-along}
+use Rattle.dr_model.specs.Relations.{noted}
+use Rattle.dr_flash.proofs.MoveLemmas.{MoveFits, note-fits, tells-note}
+use Rattle.dr_flash.proofs.keep.note.Given as given
+use Rattle.dr_flash.proofs.keep.note.Goals as goal
+
+pub shift-requires-clause-lawful : goal.shift-requires-clause-lawful
+shift-requires-clause-lawful g c = (let s = g.P.Plant.state c.args.p.now in let t = c.args.c.now in subst (λ f. MoveFits s t c.args.u.0 f None) (sym (c.noted-next.ensures ∙ ap (λ f. noted f c.args.t) c.requires.shows.fields)) (note-fits s t c.args.u.0 c.requires.fit (subst (λ (f : Fields). IsLawful (volume_seen s t c.args.u.0).tracks f) c.requires.shows.fields c.requires.shows.lawful) (sym (ap (λ (f : Fields). f.related) c.requires.shows.fields) ∙ c.requires.related) c.args.t c.requires.within)).lawful
+
+pub shift-requires-clause-leaves : goal.shift-requires-clause-leaves
+shift-requires-clause-leaves g c = (let s = g.P.Plant.state c.args.p.now in let t = c.args.c.now in subst (λ f. MoveFits s t c.args.u.0 f None) (sym (c.noted-next.ensures ∙ ap (λ f. noted f c.args.t) c.requires.shows.fields)) (note-fits s t c.args.u.0 c.requires.fit (subst (λ (f : Fields). IsLawful (volume_seen s t c.args.u.0).tracks f) c.requires.shows.fields c.requires.shows.lawful) (sym (ap (λ (f : Fields). f.related) c.requires.shows.fields) ∙ c.requires.related) c.args.t c.requires.within)).leaves
+
+pub returns-clause-advances : goal.returns-clause-advances
+returns-clause-advances g c =
+    let s = g.P.Plant.state c.args.p.now in
+    let t = c.args.c.now in
+    let x = volume_seen s t c.args.u.0 in
+    ok-along c.shift.result c.shift.ensures.done (λ done r.
+        advances (seen s t r c.args.j.now.events) (Note c.args.u.0 c.args.t) c.of.result (plain c.noted-next.result) None (on-running s x.server c.requires.running)
+        (subst (λ y. Tells (Note c.args.u.0 c.args.t) x y) (sym c.of.ensures) (tells-note c.args.u.0 c.args.t x)) (sym (c.noted-next.ensures ∙ ap (λ f. noted f c.args.t) c.requires.shows.fields)) refl (seen (g.P.Plant.state c.shift.new.p) t r c.shift.new.j.events) (done r))
+
+pub returns-clause-halts : goal.returns-clause-halts
+returns-clause-halts g c =
+    let s = g.P.Plant.state c.args.p.now in
+    let t = c.args.c.now in
+    let x = volume_seen s t c.args.u.0 in
+    err-along c.shift.result c.shift.ensures.failed c.shift.ensures.refused (λ failed refused r.
+        halts (seen s t r c.args.j.now.events) (Note c.args.u.0 c.args.t) c.of.result (plain c.noted-next.result) None (on-running s x.server c.requires.running)
+        (subst (λ y. Tells (Note c.args.u.0 c.args.t) x y) (sym c.of.ensures) (tells-note c.args.u.0 c.args.t x)) (sym (c.noted-next.ensures ∙ ap (λ f. noted f c.args.t) c.requires.shows.fields)) refl (armed_in s) (seen (g.P.Plant.state c.shift.new.p) t r c.shift.new.j.events) (refusal_of c.shift.result) refused (failed r))
+
+pub returns-clause-room_left : goal.returns-clause-room_left
+returns-clause-room_left g c =
+    let none = ap (λ (y : Telling). length (events_of y.done)) c.of.ensures in
+    ok-along c.shift.result c.shift.ensures.room_left (λ left. omega (arith, left, none))

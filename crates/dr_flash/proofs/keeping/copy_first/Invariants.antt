@@ -1,0 +1,26 @@
+use Rattle.std.proofs.Common.{ℕ, ◌≡◌, ◌≤◌, ◌+◌, ◌++◌, Bool, false, List, Option, None}
+use Rattle.dr_ids.specs.declared.refusal.Refusal.{Refusal}
+use Rattle.dr_model.specs.Control.{World}
+use Rattle.dr_model.specs.Carry.{Entry}
+use Rattle.dr_model.specs.Entries.{copy_first, copies_from}
+use Rattle.dr_model.specs.ReadStops.{Ends}
+use Rattle.dr_volume.specs.Update.{IsAsBefore}
+use Rattle.dr_volume.specs.View.{Rest, volume_seen, ids_of}
+use Rattle.dr_flash.specs.Fit.{RelationsFit}
+use Rattle.dr_flash.specs.Here.{seen, IsAtRest}
+use Rattle.dr_flash.proofs.CopyLemmas.{keeps_from}
+use Rattle.dr_flash.proofs.keeping.copy_first.Given as goal
+
+abbrev pub invariant-loop-place : goal.invariant-loop-place
+invariant-loop-place g l = record {
+  -- what ends those that are left ends all
+  left : (r : Rest) (armed : ℕ → Bool) (u : World) (r' : Option Refusal) (ds : List Entry) → Ends armed u r' (seen (g.P.Plant.state l.p) l.c r l.j.events) (keeps_from l.c l.v.0 l.t l.place ++ ds)
+      → Ends armed u r' (seen (g.P.Plant.state l.fn.p) l.c r l.fn.j.events) (copy_first (ids_of l.c.volumes) l.v.0 l.t ++ ds);
+  rest : IsAtRest (g.P.Plant.state l.p) l.c;
+  fit : RelationsFit (g.P.Plant.state l.p) l.c;
+  unarmed : (q : ℕ) → (g.P.Plant.state l.fn.p).read_fuse q ≡ None → (g.P.Plant.state l.p).read_fuse q ≡ None;
+  faults : (g.P.Plant.state l.p).faults ≡ (g.P.Plant.state l.fn.p).faults;
+  others : (q : ℕ) → copies_from l.v.0 (volume_seen (g.P.Plant.state l.fn.p) l.c q).fields ≡ false → IsAsBefore (g.P.Plant.state l.fn.p) (g.P.Plant.state l.p) l.c q;
+  on : (g.P.Plant.state l.p).on ≡ (g.P.Plant.state l.fn.p).on;
+  spare : l.fn.j.spare ≤ l.j.spare + l.place;
+}

@@ -1,0 +1,191 @@
+//! What a target keeps before a track of its source changes.
+
+ghost use Rattle.std.specs.Prelude.{◌≡◌, ℕ, ◌<◌, ◌≤◌, ◌+◌, Bool, true, false, not, ◌&&◌, None, Some, IsSome, OnOk, OnErr, is_err};
+ghost use Rattle.std.specs.FinSet.{contains};
+ghost use Rattle.dr_config.specs.Table.{place_of};
+ghost use Rattle.dr_model.specs.Carry.{now};
+ghost use Rattle.dr_model.specs.Entries as entries;
+ghost use Rattle.dr_model.specs.Entries.{copies_from};
+ghost use Rattle.dr_model.specs.Moves.{Keep, Note};
+ghost use Rattle.dr_model.specs.Refusals.{stopped};
+ghost use Rattle.dr_volume.specs.Plain.{plain};
+ghost use Rattle.dr_volume.specs.Update.{IsAsBefore, OthersStay};
+ghost use Rattle.dr_volume.specs.View.{Rest, volume_seen, track_seen};
+ghost use Rattle.dr_volume.specs.Volume.{Shows};
+ghost use Rattle.dr_flash.specs.Faults.{Counted};
+ghost use Rattle.dr_flash.specs.Fit.{RelationsFit};
+ghost use Rattle.dr_flash.specs.Here.{seen, refusal_of, armed_in, IsAtRest};
+ghost use Rattle.dr_flash.specs.Turns.{Advances, Halts};
+
+use crate::acts::shift;
+use crate::fields::{closed, fetched, noted};
+use crate::place::tracks_of;
+use crate::reads::read_told;
+use crate::told::{Telling, Told};
+use dr_config::Config;
+use dr_ids::{Refusal, VolumeId};
+use dr_model::{Event, Journal};
+use dr_plant::{Block, Plant};
+use dr_volume::{Fields, peek_fields};
+
+/// Stores at target u the bytes of track t of its source.
+fn store<P: Plant>(
+    p: &mut P,
+    c: &Config,
+    j: &mut Journal,
+    u: VolumeId,
+    t: u16,
+    f: &Fields,
+    bytes: &Block,
+) -> Result<(), Refusal>
+    requires rest { IsAtRest (P.state p.old) c.now }
+    requires fit { RelationsFit (P.state p.old) c.now }
+    requires defined { IsSome (place_of c.now u.0) }
+    requires running { (P.state p.old).on (volume_seen (P.state p.old) c.now u.0).server ≡ true }
+    requires shows { Shows (P.state p.old) c.now u.0 f.now }
+    requires related { f.now.related ≡ true }
+    requires within { t < (volume_seen (P.state p.old) c.now u.0).tracks }
+    requires bytes { bytes.now ≡ track_seen (P.state p.old) c.now f.now.source.0 t }
+    requires room { 2 ≤ j.old.spare }
+    ensures advances { OnOk result ((r : Rest) → Advances (seen (P.state p.old) c.now r j.old.events) (now (Keep u.0 t)) (seen (P.state p.new) c.now r j.new.events)) }
+    ensures halts { OnErr result ((r : Rest) → Halts (armed_in (P.state p.old)) (seen (P.state p.old) c.now r j.old.events) (now (Keep u.0 t)) (seen (P.state p.new) c.now r j.new.events) (refusal_of result)) }
+    ensures refused { OnErr result (refusal_of result ≡ Some (stopped (volume_seen (P.state p.old) c.now u.0).server)) }
+    ensures rest { IsAtRest (P.state p.new) c.now }
+    ensures fit { RelationsFit (P.state p.new) c.now }
+    ensures unarmed { (q : ℕ) → (P.state p.old).read_fuse q ≡ None → (P.state p.new).read_fuse q ≡ None }
+    ensures faults { Counted (is_err result) (P.state p.old).faults (P.state p.new).faults }
+    ensures others { OthersStay (P.state p.old) (P.state p.new) c.now u.0 }
+    ensures on { OnOk result ((P.state p.new).on ≡ (P.state p.old).on) }
+    ensures room { j.old.spare ≤ j.new.spare + 2 }
+    ensures room_left { OnOk result (j.old.spare ≤ j.new.spare + 1) }
+{
+    let tracks = tracks_of(c, u);
+    let track = *bytes;
+    let next = closed(tracks, &noted(&fetched(f, t), t));
+    let told = Telling::of(Told::One(Event::Copied {
+        volume: u.0,
+        track: t,
+    }));
+    shift(p, c, j, u, &next, Some((t, track)), &told)
+}
+
+/// Target u keeps track t of its source.
+fn keep<P: Plant>(
+    p: &mut P,
+    c: &Config,
+    j: &mut Journal,
+    u: VolumeId,
+    t: u16,
+    f: &Fields,
+) -> Result<(), Refusal>
+    requires rest { IsAtRest (P.state p.old) c.now }
+    requires fit { RelationsFit (P.state p.old) c.now }
+    requires defined { IsSome (place_of c.now u.0) }
+    requires running { (P.state p.old).on (volume_seen (P.state p.old) c.now u.0).server ≡ true }
+    requires shows { Shows (P.state p.old) c.now u.0 f.now }
+    requires related { f.now.related ≡ true }
+    requires within { t < (volume_seen (P.state p.old) c.now u.0).tracks }
+    requires room { 2 ≤ j.old.spare }
+    ensures advances { OnOk result ((r : Rest) → Advances (seen (P.state p.old) c.now r j.old.events) (now (Keep u.0 t)) (seen (P.state p.new) c.now r j.new.events)) }
+    ensures halts { OnErr result ((r : Rest) → Halts (armed_in (P.state p.old)) (seen (P.state p.old) c.now r j.old.events) (now (Keep u.0 t)) (seen (P.state p.new) c.now r j.new.events) (refusal_of result)) }
+    ensures refused { OnErr result (refusal_of result ≡ Some (stopped (volume_seen (P.state p.old) c.now u.0).server)) }
+    ensures rest { IsAtRest (P.state p.new) c.now }
+    ensures fit { RelationsFit (P.state p.new) c.now }
+    ensures unarmed { (q : ℕ) → (P.state p.old).read_fuse q ≡ None → (P.state p.new).read_fuse q ≡ None }
+    ensures faults { Counted (is_err result) (P.state p.old).faults (P.state p.new).faults }
+    ensures others { OthersStay (P.state p.old) (P.state p.new) c.now u.0 }
+    ensures on { OnOk result ((P.state p.new).on ≡ (P.state p.old).on) }
+    ensures room { j.old.spare ≤ j.new.spare + 2 }
+    ensures room_left { OnOk result (j.old.spare ≤ j.new.spare + 1) }
+{
+    let mut bytes = [0; 64];
+    read_told(p, c, j, f.source, t, &mut bytes)?;
+    store(p, c, j, u, t, f, &bytes)
+}
+
+/// Target u, which holds track t, notes that its source's track t is about to change.
+fn note<P: Plant>(
+    p: &mut P,
+    c: &Config,
+    j: &mut Journal,
+    u: VolumeId,
+    t: u16,
+    f: &Fields,
+) -> Result<(), Refusal>
+    requires rest { IsAtRest (P.state p.old) c.now }
+    requires fit { RelationsFit (P.state p.old) c.now }
+    requires defined { IsSome (place_of c.now u.0) }
+    requires running { (P.state p.old).on (volume_seen (P.state p.old) c.now u.0).server ≡ true }
+    requires shows { Shows (P.state p.old) c.now u.0 f.now }
+    requires related { f.now.related ≡ true }
+    requires within { t < (volume_seen (P.state p.old) c.now u.0).tracks }
+    requires room { 2 ≤ j.old.spare }
+    ensures advances { OnOk result ((r : Rest) → Advances (seen (P.state p.old) c.now r j.old.events) (now (Note u.0 t)) (seen (P.state p.new) c.now r j.new.events)) }
+    ensures halts { OnErr result ((r : Rest) → Halts (armed_in (P.state p.old)) (seen (P.state p.old) c.now r j.old.events) (now (Note u.0 t)) (seen (P.state p.new) c.now r j.new.events) (refusal_of result)) }
+    ensures refused { OnErr result (refusal_of result ≡ Some (stopped (volume_seen (P.state p.old) c.now u.0).server)) }
+    ensures rest { IsAtRest (P.state p.new) c.now }
+    ensures fit { RelationsFit (P.state p.new) c.now }
+    ensures unarmed { (q : ℕ) → (P.state p.old).read_fuse q ≡ None → (P.state p.new).read_fuse q ≡ None }
+    ensures faults { Counted (is_err result) (P.state p.old).faults (P.state p.new).faults }
+    ensures others { OthersStay (P.state p.old) (P.state p.new) c.now u.0 }
+    ensures on { OnOk result ((P.state p.new).on ≡ (P.state p.old).on) }
+    ensures room { j.old.spare ≤ j.new.spare + 2 }
+    ensures room_left { OnOk result (j.old.spare ≤ j.new.spare + 1) }
+{
+    let next = noted(f, t);
+    shift(p, c, j, u, &next, None, &Telling::of(Told::Nothing))
+}
+
+/// Whether a volume with these fields is a target of v that isn't restored onto it.
+fn is_kept_for(f: &Fields, v: VolumeId) -> bool
+    ensures { result ≡ (copies_from v.0 (plain f.now) && not f.now.reversing) }
+{
+    f.related && f.source.0 == v.0 && !f.reversing
+}
+
+/// Whether the fields are to note a change of track t of the source, which they don't yet.
+fn is_news(f: &Fields, t: u16) -> bool
+    ensures { result ≡ (f.now.recorded && not (contains f.now.source_changes t)) }
+{
+    f.recorded && !f.source_changes.contains(t)
+}
+
+/// Before track t of v changes, u keeps it where u is a target of v, or notes the change where u holds it.
+pub(crate) fn keep_on<P: Plant>(
+    p: &mut P,
+    c: &Config,
+    j: &mut Journal,
+    v: VolumeId,
+    t: u16,
+    u: VolumeId,
+) -> Result<(), Refusal>
+    requires rest { IsAtRest (P.state p.old) c.now }
+    requires fit { RelationsFit (P.state p.old) c.now }
+    requires defined { IsSome (place_of c.now u.0) }
+    requires running { (P.state p.old).on (volume_seen (P.state p.old) c.now v.0).server ≡ true }
+    requires within { t < (volume_seen (P.state p.old) c.now v.0).tracks }
+    requires room { 2 ≤ j.old.spare }
+    ensures advances { OnOk result ((r : Rest) → Advances (seen (P.state p.old) c.now r j.old.events) (entries.keep_on v.0 t u.0) (seen (P.state p.new) c.now r j.new.events)) }
+    ensures halts { OnErr result ((r : Rest) → Halts (armed_in (P.state p.old)) (seen (P.state p.old) c.now r j.old.events) (entries.keep_on v.0 t u.0) (seen (P.state p.new) c.now r j.new.events) (refusal_of result)) }
+    ensures refused { OnErr result (refusal_of result ≡ Some (stopped (volume_seen (P.state p.old) c.now v.0).server)) }
+    ensures rest { IsAtRest (P.state p.new) c.now }
+    ensures fit { RelationsFit (P.state p.new) c.now }
+    ensures unarmed { (q : ℕ) → (P.state p.old).read_fuse q ≡ None → (P.state p.new).read_fuse q ≡ None }
+    ensures faults { Counted (is_err result) (P.state p.old).faults (P.state p.new).faults }
+    ensures others { (q : ℕ) → copies_from v.0 (volume_seen (P.state p.old) c.now q).fields ≡ false → IsAsBefore (P.state p.old) (P.state p.new) c.now q }
+    ensures on { OnOk result ((P.state p.new).on ≡ (P.state p.old).on) }
+    ensures room { j.old.spare ≤ j.new.spare + 2 }
+    ensures room_left { OnOk result (j.old.spare ≤ j.new.spare + 1) }
+{
+    let fields = peek_fields(p, c, u);
+    if !is_kept_for(&fields, v) {
+        return Ok(());
+    }
+    if !fields.own.contains(t) {
+        return keep(p, c, j, u, t, &fields);
+    }
+    if is_news(&fields, t) {
+        return note(p, c, j, u, t, &fields);
+    }
+    Ok(())
+}
