@@ -1,5 +1,5 @@
 -- What the targets of a source keep, from one volume of the configuration to the next.
-use Rattle.std.proofs.Common.{ℕ, ◌≡◌, ◌≤◌, ◌+◌, suc, zero, Bool, true, false, List, [], ◌∷◌, ◌++◌, drop, length, map, slice_get, refl, sym, ◌∙◌, ap, subst, Option, Some, None, nat_lt}
+use Rattle.std.proofs.Common.{ℕ, ◌≡◌, ◌≤◌, ◌<◌, ◌+◌, suc, zero, arith, inl, inr, nat_eq, Bool, true, false, List, [], ◌∷◌, ◌++◌, drop, length, map, slice_get, refl, sym, ◌∙◌, ap, subst, Option, Some, None, nat_lt}
 use Rattle.std.specs.Prelude.{option_map, is_some, ◌&&◌, Result, Ok, Err, OnOk, OnErr}
 use Rattle.std.proofs.Math.Numerals.{suc-eq-add-one}
 use Rattle.std.proofs.lemmas.List.{drop_all, append-nil}
@@ -10,12 +10,16 @@ use Rattle.dr_config.specs.declared.entries.VolumeEntry.{VolumeEntry}
 use Rattle.dr_model.specs.Control.{World}
 use Rattle.dr_model.specs.Carry.{Entry}
 use Rattle.dr_model.specs.ReadStops.{Ends}
-use Rattle.dr_model.specs.Entries.{keep_on, copy_first}
-use Rattle.dr_volume.specs.View.{ids_of}
+use Rattle.dr_model.specs.Entries.{keep_on, copy_first, copies_from}
+use Rattle.dr_volume.specs.View.{ids_of, volume_seen}
 use Rattle.dr_volume.specs.Update.{IsAsBefore}
 use Rattle.dr_flash.specs.Here.{armed_in, refusal_of}
 use Rattle.dr_flash.specs.Turns.{Leads, Fails}
 use Rattle.dr_flash.proofs.EndsLemmas.{ends-none}
+use Rattle.dr_flash.proofs.FitLemmas.{target-no_source}
+use Rattle.dr_flash.specs.Fit.{RelationsFit}
+use Rattle.dr_ids.specs.declared.names.VolumeId.{VolumeId}
+use Rattle.std.proofs.lemmas.Bool.Decides.{eqb_tells}
 
 -- those from a place on
 abbrev pub keeps_from : Table → ℕ → ℕ → ℕ → List Entry
@@ -26,8 +30,11 @@ drop-at [] i v h = cc
 drop-at (e ∷ es) zero v h = let same : v ≡ e.id = cc in ap (λ x. x ∷ ids_of es) (sym same)
 drop-at (e ∷ es) (suc i) v h = drop-at es i v h
 
+pub ids-next : (t : Table) (place u : ℕ) → Some u ≡ option_map (λ (e : VolumeEntry). e.id) (slice_get t.volumes place) → ids_of (drop place t.volumes) ≡ u ∷ ids_of (drop (place + 1) t.volumes)
+ids-next t place u at = drop-at t.volumes place u at ∙ ap (λ n. u ∷ ids_of (drop n t.volumes)) (suc-eq-add-one place)
+
 pub keeps-next : (t : Table) (v k place u : ℕ) → Some u ≡ option_map (λ (e : VolumeEntry). e.id) (slice_get t.volumes place) → keeps_from t v k place ≡ keep_on v k u ∷ keeps_from t v k (place + 1)
-keeps-next t v k place u at = ap (map (keep_on v k)) (drop-at t.volumes place u at ∙ ap (λ n. u ∷ ids_of (drop n t.volumes)) (suc-eq-add-one place))
+keeps-next t v k place u at = ap (map (keep_on v k)) (ids-next t place u at)
 
 pub keeps-none : (t : Table) (v k place : ℕ) → length t.volumes ≤ place → keeps_from t v k place ≡ []
 keeps-none t v k place all = ap (λ es. map (keep_on v k) (ids_of es)) (drop_all place t.volumes all)
@@ -57,3 +64,29 @@ led armed w v es leads = subst (Ends armed v None w) (append-nil es) (leads arme
 
 pub failed : (armed : ℕ → Bool) (w u : World) (r : Option Refusal) (es : List Entry) → Fails armed w es u r → Ends armed u r w es
 failed armed w u r es fails = subst (Ends armed u r w) (append-nil es) (fails [])
+
+at-some : (es : List VolumeEntry) (i : ℕ) → i < length es → is_some (slice_get es i) ≡ true
+at-some [] i h = absurd (omega (arith, h))
+at-some (e ∷ es) zero h = refl
+at-some (e ∷ es) (suc i) h = at-some es i (omega (arith, h))
+
+mapped-some : {A B C : Type 0} (f : A → C) (g : B → C) (o : Option A) (x : Option B) → option_map f o ≡ option_map g x → is_some x ≡ true → is_some o ≡ true
+mapped-some f g None (Some b) e is = absurd cc
+mapped-some f g None None e is = is
+mapped-some f g (Some a) x e is = refl
+
+-- a place below the count has a volume
+pub volume-there : (t : Table) (i : ℕ) (o : Option VolumeId) → option_map (λ (v : VolumeId). v.0) o ≡ option_map (λ (e : VolumeEntry). e.id) (slice_get t.volumes i) → i < length t.volumes → is_some o ≡ true
+volume-there t i o is low = mapped-some (λ (v : VolumeId). v.0) (λ (e : VolumeEntry). e.id) o (slice_get t.volumes i) is (at-some t.volumes i low)
+
+-- no volume is its own target
+pub no-own : (s : PlantState) (t : Table) (v : ℕ) → RelationsFit s t → copies_from v (volume_seen s t v).fields ≡ false
+no-own s t v fit =
+    let f = (volume_seen s t v).fields in
+    elim f.related as (λ b. f.related ≡ b → (b && nat_eq f.source v) ≡ false) [
+      | false ↦ λ is. refl
+      | true ↦ λ is. elim (eqb_tells f.source v) as (λ _. nat_eq f.source v ≡ false) [
+        | inl p ↦ absurd (target-no_source s t v v fit is is p.1)
+        | inr p ↦ p.0
+      ]
+    ] refl

@@ -10,3 +10,4 @@ pub mod FieldLemmas
 pub mod MoveLemmas
 pub mod KeepLemmas
 pub mod CopyLemmas
+pub mod SeenLemmas

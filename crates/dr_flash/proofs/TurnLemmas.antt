@@ -27,7 +27,7 @@ pub record Tells (m : Move) (x : Volume) (telling : Telling) : Type 0 where
   pub settles_in_stop : (ps : List Pending) → settled_in_stop m ps ≡ ps
 
 module _ (w : World) (m : Move) (telling : Telling) (f : Fields) (c : Carried) (on : w.control.on (w.control.volume (target m)).server ≡ true) (tells : Tells m (w.control.volume (target m)) telling)
-  (is_next : next_fields m w.control.volume ≡ f) (is_track : carried m w.control.volume w.contents (histories w.events).write ≡ c) where
+    (is_next : next_fields m w.control.volume ≡ f) (is_track : carried m w.control.volume w.contents (histories w.events).write ≡ c) where
   abbrev x : Volume
   x = w.control.volume (target m)
 

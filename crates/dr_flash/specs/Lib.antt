@@ -4,3 +4,4 @@ pub mod Faults
 pub mod Fit
 pub mod Told
 pub mod Turns
+pub mod Seen

@@ -2,19 +2,25 @@
 #![tactic(auto)]
 
 mod acts;
-
 mod fields;
 mod keep;
 mod keeping;
 mod options;
 mod place;
 mod reads;
+mod seen;
 mod sets;
 mod told;
 
-pub use keeping::copy_first;
+pub use acts::shift;
 pub use fields::{
     closed, fetched, given_up, made, noted, restored, resynced, rewritten, turned, withdrawn,
 };
+pub use keep::keep_on;
+pub use keeping::copy_first;
 pub use options::Options;
+pub use place::{server_of, tracks_of};
+pub use reads::{open_told, read_told};
+pub use seen::{Wanted, has_target, relation_seen, relation_state};
+pub use sets::{is_whole, lowest, rest};
 pub use told::{Telling, Told};

@@ -9,7 +9,7 @@ use dr_config::Config;
 use dr_ids::{ServerId, VolumeId};
 
 /// The server of a volume.
-pub(crate) fn server_of(c: &Config, v: VolumeId) -> ServerId
+pub fn server_of(c: &Config, v: VolumeId) -> ServerId
     requires defined { IsSome (place_of c.now v.0) }
     ensures seen { (s : PlantState) → (volume_seen s c.now v.0).server ≡ result.0 }
     ensures known { result.0 < 8 }
@@ -18,7 +18,7 @@ pub(crate) fn server_of(c: &Config, v: VolumeId) -> ServerId
 }
 
 /// How many tracks a volume has.
-pub(crate) fn tracks_of(c: &Config, v: VolumeId) -> u16
+pub fn tracks_of(c: &Config, v: VolumeId) -> u16
     requires defined { IsSome (place_of c.now v.0) }
     ensures seen { (s : PlantState) → (volume_seen s c.now v.0).tracks ≡ result }
     ensures few { result ≤ 256 }

@@ -3,7 +3,7 @@ use Rattle.dr_model.specs.Carry.{now}
 use Rattle.dr_model.specs.Moves.{Keep, Note}
 use Rattle.dr_model.specs.Entries as entries
 use Rattle.dr_flash.specs.Here.{seen, armed_in, refusal_of}
-use Rattle.dr_flash.proofs.KeepLemmas.{skips, alike-advances, alike-halts, passes-other, keeps-new, keeps-noted, passes-held, apart-target}
+use Rattle.dr_flash.proofs.KeepLemmas.{skips, alike-advances, alike-halts, passes-other, keeps-new, keeps-noted, passes-held, apart-target, apart-kept}
 use Rattle.dr_flash.proofs.TurnLemmas.{ok-along, err-along}
 use Rattle.dr_flash.proofs.keep.keep_on.Goals as goal
 
@@ -14,12 +14,12 @@ returns-then-not-is_kept_for-clause-advances g c r =
 pub returns-then-not-contains-clause-advances : goal.returns-then-not-contains-clause-advances
 returns-then-not-contains-clause-advances g c =
     ok-along c.keep.result c.keep.ensures.advances (λ goes r.
-        alike-advances (seen (g.P.Plant.state c.args.p.now) c.args.c.now r c.args.j.now.events) (seen (g.P.Plant.state c.keep.new.p) c.args.c.now r c.keep.new.j.events) (entries.keep_on c.args.v.0 c.args.t c.args.u.0) (now (Keep c.args.u.0 c.args.t)) (keeps-new (g.P.Plant.state c.args.p.now) c.args.c.now r c.args.j.now.events c.args.v.0 c.args.t c.args.u.0 c.peek_fields-fields.result c.peek_fields-fields.ensures.fields (sym c.is_kept_for.ensures ∙ c.if-not-is_kept_for.false) (sym c.contains.ensures.found ∙ c.if-not-contains.true)) (goes r))
+    alike-advances (seen (g.P.Plant.state c.args.p.now) c.args.c.now r c.args.j.now.events) (seen (g.P.Plant.state c.keep.new.p) c.args.c.now r c.keep.new.j.events) (entries.keep_on c.args.v.0 c.args.t c.args.u.0) (now (Keep c.args.u.0 c.args.t)) (keeps-new (g.P.Plant.state c.args.p.now) c.args.c.now r c.args.j.now.events c.args.v.0 c.args.t c.args.u.0 c.peek_fields-fields.result c.peek_fields-fields.ensures.fields (sym c.is_kept_for.ensures ∙ c.if-not-is_kept_for.false) (sym c.contains.ensures.found ∙ c.if-not-contains.true)) (goes r))
 
 pub returns-then-not-contains-clause-halts : goal.returns-then-not-contains-clause-halts
 returns-then-not-contains-clause-halts g c =
     err-along c.keep.result c.keep.ensures.halts c.keep.ensures.refused (λ halts refused r.
-        alike-halts (armed_in (g.P.Plant.state c.args.p.now)) (seen (g.P.Plant.state c.args.p.now) c.args.c.now r c.args.j.now.events) (seen (g.P.Plant.state c.keep.new.p) c.args.c.now r c.keep.new.j.events) (refusal_of c.keep.result) (entries.keep_on c.args.v.0 c.args.t c.args.u.0) (now (Keep c.args.u.0 c.args.t)) (keeps-new (g.P.Plant.state c.args.p.now) c.args.c.now r c.args.j.now.events c.args.v.0 c.args.t c.args.u.0 c.peek_fields-fields.result c.peek_fields-fields.ensures.fields (sym c.is_kept_for.ensures ∙ c.if-not-is_kept_for.false) (sym c.contains.ensures.found ∙ c.if-not-contains.true)) (halts r))
+    alike-halts (armed_in (g.P.Plant.state c.args.p.now)) (seen (g.P.Plant.state c.args.p.now) c.args.c.now r c.args.j.now.events) (seen (g.P.Plant.state c.keep.new.p) c.args.c.now r c.keep.new.j.events) (refusal_of c.keep.result) (entries.keep_on c.args.v.0 c.args.t c.args.u.0) (now (Keep c.args.u.0 c.args.t)) (keeps-new (g.P.Plant.state c.args.p.now) c.args.c.now r c.args.j.now.events c.args.v.0 c.args.t c.args.u.0 c.peek_fields-fields.result c.peek_fields-fields.ensures.fields (sym c.is_kept_for.ensures ∙ c.if-not-is_kept_for.false) (sym c.contains.ensures.found ∙ c.if-not-contains.true)) (halts r))
 
 pub returns-then-not-contains-clause-others : goal.returns-then-not-contains-clause-others
 returns-then-not-contains-clause-others g c q other =
@@ -28,12 +28,12 @@ returns-then-not-contains-clause-others g c q other =
 pub returns-then-is_news-clause-advances : goal.returns-then-is_news-clause-advances
 returns-then-is_news-clause-advances g c =
     ok-along c.note.result c.note.ensures.advances (λ goes r.
-        alike-advances (seen (g.P.Plant.state c.args.p.now) c.args.c.now r c.args.j.now.events) (seen (g.P.Plant.state c.note.new.p) c.args.c.now r c.note.new.j.events) (entries.keep_on c.args.v.0 c.args.t c.args.u.0) (now (Note c.args.u.0 c.args.t)) (keeps-noted (g.P.Plant.state c.args.p.now) c.args.c.now r c.args.j.now.events c.args.v.0 c.args.t c.args.u.0 c.peek_fields-fields.result c.peek_fields-fields.ensures.fields (sym c.is_kept_for.ensures ∙ c.if-not-is_kept_for.false) (sym c.contains.ensures.found ∙ c.if-not-contains.false) (sym c.is_news.ensures ∙ c.if-is_news.true)) (goes r))
+    alike-advances (seen (g.P.Plant.state c.args.p.now) c.args.c.now r c.args.j.now.events) (seen (g.P.Plant.state c.note.new.p) c.args.c.now r c.note.new.j.events) (entries.keep_on c.args.v.0 c.args.t c.args.u.0) (now (Note c.args.u.0 c.args.t)) (keeps-noted (g.P.Plant.state c.args.p.now) c.args.c.now r c.args.j.now.events c.args.v.0 c.args.t c.args.u.0 c.peek_fields-fields.result c.peek_fields-fields.ensures.fields (sym c.is_kept_for.ensures ∙ c.if-not-is_kept_for.false) (sym c.contains.ensures.found ∙ c.if-not-contains.false) (sym c.is_news.ensures ∙ c.if-is_news.true)) (goes r))
 
 pub returns-then-is_news-clause-halts : goal.returns-then-is_news-clause-halts
 returns-then-is_news-clause-halts g c =
     err-along c.note.result c.note.ensures.halts c.note.ensures.refused (λ halts refused r.
-        alike-halts (armed_in (g.P.Plant.state c.args.p.now)) (seen (g.P.Plant.state c.args.p.now) c.args.c.now r c.args.j.now.events) (seen (g.P.Plant.state c.note.new.p) c.args.c.now r c.note.new.j.events) (refusal_of c.note.result) (entries.keep_on c.args.v.0 c.args.t c.args.u.0) (now (Note c.args.u.0 c.args.t)) (keeps-noted (g.P.Plant.state c.args.p.now) c.args.c.now r c.args.j.now.events c.args.v.0 c.args.t c.args.u.0 c.peek_fields-fields.result c.peek_fields-fields.ensures.fields (sym c.is_kept_for.ensures ∙ c.if-not-is_kept_for.false) (sym c.contains.ensures.found ∙ c.if-not-contains.false) (sym c.is_news.ensures ∙ c.if-is_news.true)) (halts r))
+    alike-halts (armed_in (g.P.Plant.state c.args.p.now)) (seen (g.P.Plant.state c.args.p.now) c.args.c.now r c.args.j.now.events) (seen (g.P.Plant.state c.note.new.p) c.args.c.now r c.note.new.j.events) (refusal_of c.note.result) (entries.keep_on c.args.v.0 c.args.t c.args.u.0) (now (Note c.args.u.0 c.args.t)) (keeps-noted (g.P.Plant.state c.args.p.now) c.args.c.now r c.args.j.now.events c.args.v.0 c.args.t c.args.u.0 c.peek_fields-fields.result c.peek_fields-fields.ensures.fields (sym c.is_kept_for.ensures ∙ c.if-not-is_kept_for.false) (sym c.contains.ensures.found ∙ c.if-not-contains.false) (sym c.is_news.ensures ∙ c.if-is_news.true)) (halts r))
 
 pub returns-then-is_news-clause-others : goal.returns-then-is_news-clause-others
 returns-then-is_news-clause-others g c q other =
@@ -41,3 +41,11 @@ returns-then-is_news-clause-others g c q other =
 
 pub returns-clause-advances : goal.returns-clause-advances
 returns-clause-advances g c r = skips (seen (g.P.Plant.state c.args.p.now) c.args.c.now r c.args.j.now.events) (entries.keep_on c.args.v.0 c.args.t c.args.u.0) (passes-held (g.P.Plant.state c.args.p.now) c.args.c.now r c.args.j.now.events c.args.v.0 c.args.t c.args.u.0 c.peek_fields-fields.result c.peek_fields-fields.ensures.fields (sym c.is_kept_for.ensures ∙ c.if-not-is_kept_for.false) (sym c.contains.ensures.found ∙ c.if-not-contains.false) (sym c.is_news.ensures ∙ c.if-is_news.false))
+
+pub returns-then-not-contains-clause-apart : goal.returns-then-not-contains-clause-apart
+returns-then-not-contains-clause-apart g c q other =
+    c.keep.ensures.others q (apart-kept (g.P.Plant.state c.args.p.now) c.args.c.now c.args.v.0 c.args.u.0 q c.peek_fields-fields.result c.peek_fields-fields.ensures.fields (sym c.is_kept_for.ensures ∙ c.if-not-is_kept_for.false) other)
+
+pub returns-then-is_news-clause-apart : goal.returns-then-is_news-clause-apart
+returns-then-is_news-clause-apart g c q other =
+    c.note.ensures.others q (apart-kept (g.P.Plant.state c.args.p.now) c.args.c.now c.args.v.0 c.args.u.0 q c.peek_fields-fields.result c.peek_fields-fields.ensures.fields (sym c.is_kept_for.ensures ∙ c.if-not-is_kept_for.false) other)

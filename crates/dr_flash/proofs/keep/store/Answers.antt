@@ -37,8 +37,8 @@ returns-clause-advances g c =
     let t = c.args.c.now in
     let x = volume_seen s t c.args.u.0 in
     ok-along c.shift.result c.shift.ensures.done (λ done r.
-        advances (seen s t r c.args.j.now.events) (Keep c.args.u.0 c.args.t) c.of-told.result (plain c.closed-next.result) (Some (c.args.t, c.args.bytes.now)) (on-running s x.server c.requires.running)
-        (subst (λ y. Tells (Keep c.args.u.0 c.args.t) x y) (sym c.of-told.ensures) (tells-keep c.args.u.0 c.args.t x)) (sym (
+    advances (seen s t r c.args.j.now.events) (Keep c.args.u.0 c.args.t) c.of-told.result (plain c.closed-next.result) (Some (c.args.t, c.args.bytes.now)) (on-running s x.server c.requires.running)
+    (subst (λ y. Tells (Keep c.args.u.0 c.args.t) x y) (sym c.of-told.ensures) (tells-keep c.args.u.0 c.args.t x)) (sym (
     c.closed-next.ensures ∙ ap (closed c.tracks_of-tracks.result) (c.noted.ensures ∙ ap (λ f. noted f c.args.t) c.fetched.ensures)
     ∙ (λ i. closed (sym (c.tracks_of-tracks.ensures.seen (g.P.Plant.state c.args.p.now)) i) (noted (fetched (c.requires.shows.fields i) c.args.t) c.args.t)))) (ap (λ (b : List ℕ). Some (c.args.t, b)) (sym (c.requires.bytes ∙ ap (λ (f : Fields). track_seen s t f.source c.args.t) c.requires.shows.fields))) (seen (g.P.Plant.state c.shift.new.p) t r c.shift.new.j.events) (done r))
 
@@ -48,7 +48,7 @@ returns-clause-halts g c =
     let t = c.args.c.now in
     let x = volume_seen s t c.args.u.0 in
     err-along c.shift.result c.shift.ensures.failed c.shift.ensures.refused (λ failed refused r.
-        halts (seen s t r c.args.j.now.events) (Keep c.args.u.0 c.args.t) c.of-told.result (plain c.closed-next.result) (Some (c.args.t, c.args.bytes.now)) (on-running s x.server c.requires.running)
-        (subst (λ y. Tells (Keep c.args.u.0 c.args.t) x y) (sym c.of-told.ensures) (tells-keep c.args.u.0 c.args.t x)) (sym (
+    halts (seen s t r c.args.j.now.events) (Keep c.args.u.0 c.args.t) c.of-told.result (plain c.closed-next.result) (Some (c.args.t, c.args.bytes.now)) (on-running s x.server c.requires.running)
+    (subst (λ y. Tells (Keep c.args.u.0 c.args.t) x y) (sym c.of-told.ensures) (tells-keep c.args.u.0 c.args.t x)) (sym (
     c.closed-next.ensures ∙ ap (closed c.tracks_of-tracks.result) (c.noted.ensures ∙ ap (λ f. noted f c.args.t) c.fetched.ensures)
     ∙ (λ i. closed (sym (c.tracks_of-tracks.ensures.seen (g.P.Plant.state c.args.p.now)) i) (noted (fetched (c.requires.shows.fields i) c.args.t) c.args.t)))) (ap (λ (b : List ℕ). Some (c.args.t, b)) (sym (c.requires.bytes ∙ ap (λ (f : Fields). track_seen s t f.source c.args.t) c.requires.shows.fields))) (armed_in s) (seen (g.P.Plant.state c.shift.new.p) t r c.shift.new.j.events) (refusal_of c.shift.result) refused (failed r))

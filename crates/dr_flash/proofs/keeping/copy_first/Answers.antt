@@ -1,0 +1,110 @@
+use Rattle.std.proofs.Common.{ℕ, ◌≡◌, ◌≤◌, ◌++◌, ◌+◌, length, arith, ap, sym, subst, ◌∙◌, List, Option, None, Some, option_map}
+use Rattle.std.specs.Prelude.{IfSome, is_some}
+use Rattle.dr_ids.specs.declared.names.VolumeId.{VolumeId}
+use Rattle.dr_ids.specs.declared.refusal.Refusal.{Refusal}
+use Rattle.dr_plant.specs.State.{PlantState}
+use Rattle.dr_config.specs.Table.{place_of}
+use Rattle.dr_model.specs.Carry.{Entry}
+use Rattle.dr_model.specs.Control.{World, Volume}
+use Rattle.dr_model.specs.Entries.{copies_from, copy_first, keep_on}
+use Rattle.dr_model.specs.ReadStops.{Ends}
+use Rattle.dr_model.specs.Refusals.{stopped}
+use Rattle.dr_volume.specs.Update.{IsAsBefore}
+use Rattle.dr_volume.specs.View.{Rest, volume_seen, ids_of}
+use Rattle.dr_flash.specs.Here.{seen, armed_in, refusal_of}
+use Rattle.dr_flash.proofs.CopyLemmas.{keeps_from, keeps-next, keeps-none, before-then, wider-armed, led, failed, volume-there, no-own}
+use Rattle.dr_flash.proofs.EndsLemmas.{ends-wider}
+use Rattle.dr_flash.proofs.TurnLemmas.{err-always, refused-by}
+use Rattle.dr_flash.proofs.keeping.copy_first.Given as given
+use Rattle.dr_flash.proofs.keeping.copy_first.Goals as goal
+
+pub unwrap-u-requires : goal.unwrap-u-requires
+unwrap-u-requires g c = volume-there c.args.c.now c.loop-place.place c.volume_at.result c.volume_at.ensures.value (let e = c.volumes-place-end.ensures.count in let f = c.loop-place-test.true in omega (arith, e, f))
+
+pub keep_on-requires-clause-running : goal.keep_on-requires-clause-running
+keep_on-requires-clause-running g c =
+    let s = g.P.Plant.state c.args.p.now in
+    let same = c.loop-place.invariant.others c.args.v.0 (no-own s c.args.c.now c.args.v.0 c.requires.fit) in
+    (λ i. c.loop-place.invariant.on i (same.volume i).server) ∙ c.requires.running
+
+pub keep_on-requires-clause-within : goal.keep_on-requires-clause-within
+keep_on-requires-clause-within g c =
+    let s = g.P.Plant.state c.args.p.now in
+    let same = c.loop-place.invariant.others c.args.v.0 (no-own s c.args.c.now c.args.v.0 c.requires.fit) in
+    let e : (volume_seen (g.P.Plant.state c.loop-place.p) c.args.c.now c.args.v.0).tracks ≡ (volume_seen s c.args.c.now c.args.v.0).tracks = ap (λ (x : Volume). x.tracks) same.volume in
+    let h = c.requires.within in
+    omega (arith, e, h)
+
+pub returns-in_err-keep_on-clause-fails : goal.returns-in_err-keep_on-clause-fails
+returns-in_err-keep_on-clause-fails g c =
+    let s0 = g.P.Plant.state c.args.p.now in
+    let s = g.P.Plant.state c.loop-place.p in
+    let t = c.args.c.now in
+    let k = c.args.t in
+    let v = c.args.v.0 in
+    err-always c.from_residual.result (λ r ds.
+    let u = seen (g.P.Plant.state c.keep_on.new.p) t r c.keep_on.new.j.events in
+    let e = c.in_err-keep_on.field-0.0 in
+    subst (λ q. Ends (armed_in s0) u q (seen s0 t r c.args.j.now.events) (copy_first (ids_of t.volumes) v k ++ ds)) (sym (refused-by c.from_residual.result e c.from_residual.ensures.0 c.from_residual.ensures.1))
+    (c.loop-place.invariant.left r (armed_in s0) u (Some e) ds
+    (subst (λ es. Ends (armed_in s0) u (Some e) (seen s t r c.loop-place.j.events) (es ++ ds)) (sym (keeps-next t v k c.loop-place.place c.unwrap-u.result.0 (sym (ap (option_map (λ (v : VolumeId). v.0)) c.unwrap-u.ensures) ∙ c.volume_at.ensures.value)))
+    (ends-wider (armed_in s) (armed_in s0) (wider-armed s0 s c.loop-place.invariant.unarmed) u (Some e) _ _ (c.in_err-keep_on.ensures.halts r (keeps_from t v k (c.loop-place.place + 1) ++ ds))))))
+
+pub returns-in_err-keep_on-clause-refused : goal.returns-in_err-keep_on-clause-refused
+returns-in_err-keep_on-clause-refused g c =
+    let s = g.P.Plant.state c.args.p.now in
+    let same = c.loop-place.invariant.others c.args.v.0 (no-own s c.args.c.now c.args.v.0 c.requires.fit) in
+    err-always c.from_residual.result
+    (refused-by c.from_residual.result c.in_err-keep_on.field-0.0 c.from_residual.ensures.0 c.from_residual.ensures.1 ∙ c.in_err-keep_on.ensures.refused ∙ ap (λ (x : Volume). Some (stopped x.server)) same.volume)
+
+pub returns-in_err-keep_on-clause-unarmed : goal.returns-in_err-keep_on-clause-unarmed
+returns-in_err-keep_on-clause-unarmed g c q none = c.in_err-keep_on.ensures.unarmed q (c.loop-place.invariant.unarmed q none)
+
+pub returns-in_err-keep_on-clause-others : goal.returns-in_err-keep_on-clause-others
+returns-in_err-keep_on-clause-others g c q other =
+    let a = c.loop-place.invariant.others q other in
+    before-then (g.P.Plant.state c.args.p.now) (g.P.Plant.state c.loop-place.p) (g.P.Plant.state c.keep_on.new.p) c.args.c.now q a
+    (c.in_err-keep_on.ensures.others q (ap (λ (x : Volume). copies_from c.args.v.0 x.fields) a.volume ∙ other))
+
+pub loop-place-preserved : goal.loop-place-preserved
+loop-place-preserved g c = record {
+  left = λ r armed u r' ds more. c.loop-place.invariant.left r armed u r' ds
+      (subst (λ es. Ends armed u r' (seen (g.P.Plant.state c.loop-place.p) c.args.c.now r c.loop-place.j.events) (es ++ ds)) (sym (keeps-next c.args.c.now c.args.v.0 c.args.t c.loop-place.place c.unwrap-u.result.0 (sym (ap (option_map (λ (v : VolumeId). v.0)) c.unwrap-u.ensures) ∙ c.volume_at.ensures.value)))
+      (c.in_ok-keep_on.ensures.advances r armed u r' (keeps_from c.args.c.now c.args.v.0 c.args.t (c.loop-place.place + 1) ++ ds) more));
+  rest = c.in_ok-keep_on.ensures.rest;
+  fit = c.in_ok-keep_on.ensures.fit;
+  unarmed = λ q none. c.in_ok-keep_on.ensures.unarmed q (c.loop-place.invariant.unarmed q none);
+  faults = c.in_ok-keep_on.ensures.faults ∙ c.loop-place.invariant.faults;
+  others = λ q other.
+      let a = c.loop-place.invariant.others q other in
+      before-then (g.P.Plant.state c.args.p.now) (g.P.Plant.state c.loop-place.p) (g.P.Plant.state c.keep_on.new.p) c.args.c.now q a
+      (c.in_ok-keep_on.ensures.others q (ap (λ (x : Volume). copies_from c.args.v.0 x.fields) a.volume ∙ other));
+  on = c.in_ok-keep_on.ensures.on ∙ c.loop-place.invariant.on;
+  spare = let a = c.loop-place.invariant.spare in let b = c.in_ok-keep_on.ensures.room_left in omega (arith, a, b);
+}
+
+pub returns-clause-leads : goal.returns-clause-leads
+returns-clause-leads g c r armed u r' ds more =
+    c.loop-place.invariant.left r armed u r' ds
+    (subst (λ es. Ends armed u r' (seen (g.P.Plant.state c.loop-place.p) c.args.c.now r c.loop-place.j.events) (es ++ ds))
+    (sym (keeps-none c.args.c.now c.args.v.0 c.args.t c.loop-place.place (let e = c.volumes-place-end.ensures.count in let f = c.loop-place-test.false in omega (arith, e, f)))) more)
+
+pub returns-clause-carried : goal.returns-clause-carried
+returns-clause-carried g c r =
+    led (armed_in (g.P.Plant.state c.args.p.now)) (seen (g.P.Plant.state c.args.p.now) c.args.c.now r c.args.j.now.events) (seen (g.P.Plant.state c.loop-place.p) c.args.c.now r c.loop-place.j.events) (copy_first (ids_of c.args.c.now.volumes) c.args.v.0 c.args.t)
+    (returns-clause-leads g c r)
+
+pub returns-in_err-keep_on-clause-carried : goal.returns-in_err-keep_on-clause-carried
+returns-in_err-keep_on-clause-carried g c r =
+    let s0 = g.P.Plant.state c.args.p.now in
+    let s = g.P.Plant.state c.loop-place.p in
+    let t = c.args.c.now in
+    let k = c.args.t in
+    let v = c.args.v.0 in
+    let u = seen (g.P.Plant.state c.keep_on.new.p) t r c.keep_on.new.j.events in
+    let e = c.in_err-keep_on.field-0.0 in
+    failed (armed_in s0) (seen s0 t r c.args.j.now.events) u (refusal_of c.from_residual.result) (copy_first (ids_of t.volumes) v k) (λ ds.
+    subst (λ q. Ends (armed_in s0) u q (seen s0 t r c.args.j.now.events) (copy_first (ids_of t.volumes) v k ++ ds)) (sym (refused-by c.from_residual.result e c.from_residual.ensures.0 c.from_residual.ensures.1))
+    (c.loop-place.invariant.left r (armed_in s0) u (Some e) ds
+    (subst (λ es. Ends (armed_in s0) u (Some e) (seen s t r c.loop-place.j.events) (es ++ ds)) (sym (keeps-next t v k c.loop-place.place c.unwrap-u.result.0 (sym (ap (option_map (λ (v : VolumeId). v.0)) c.unwrap-u.ensures) ∙ c.volume_at.ensures.value)))
+    (ends-wider (armed_in s) (armed_in s0) (wider-armed s0 s c.loop-place.invariant.unarmed) u (Some e) _ _ (c.in_err-keep_on.ensures.halts r (keeps_from t v k (c.loop-place.place + 1) ++ ds))))))
