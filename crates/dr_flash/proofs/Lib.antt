@@ -10,4 +10,5 @@ pub mod FieldLemmas
 pub mod MoveLemmas
 pub mod KeepLemmas
 pub mod CopyLemmas
-pub mod SeenLemmas
+pub mod StandingLemmas
+pub mod CheckLemmas

@@ -4,4 +4,5 @@ pub mod Faults
 pub mod Fit
 pub mod Told
 pub mod Turns
-pub mod Seen
+pub mod Standing
+pub mod Checks

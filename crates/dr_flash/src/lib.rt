@@ -8,8 +8,8 @@ mod keeping;
 mod options;
 mod place;
 mod reads;
-mod seen;
 mod sets;
+mod standing;
 mod told;
 
 pub use acts::shift;
@@ -21,6 +21,6 @@ pub use keeping::copy_first;
 pub use options::Options;
 pub use place::{server_of, tracks_of};
 pub use reads::{open_told, read_told};
-pub use seen::{Wanted, has_target, relation_seen, relation_state};
 pub use sets::{is_whole, lowest, rest};
+pub use standing::relation_state;
 pub use told::{Telling, Told};

@@ -1,0 +1,92 @@
+-- Checks of a call, as entries.
+use Rattle.std.proofs.Common.{ℕ, zero, suc, ◌≡◌, ◌≢◌, ◌<◌, ◌≤◌, Bool, true, false, not, ◌&&◌, ◌||◌, cond, List, [], ◌∷◌, length, slice_get, nat_eq, nat_lt, arith, inl, inr, refl, sym, ◌∙◌, ap, subst, Option, Some, None}
+use Rattle.std.specs.Prelude.{filter, is_some, Result, Ok, Err, OnOk, OnErr, is_err}
+use Rattle.std.specs.List.{list_any}
+use Rattle.std.proofs.lemmas.Bool.Decides.{eqb_tells, leb_tells, Decides-eqb, nat_tests}
+use Rattle.dr_ids.specs.declared.refusal.Refusal.{Refusal}
+use Rattle.dr_plant.specs.State.{PlantState}
+use Rattle.dr_config.specs.Table.{Table, place_of}
+use Rattle.dr_config.specs.declared.entries.VolumeEntry.{VolumeEntry}
+use Rattle.dr_config.proofs.Lookups.{entry-at-place}
+use Rattle.dr_model.specs.Control.{Control, World}
+use Rattle.dr_model.specs.Carry.{Entry, check}
+use Rattle.dr_model.specs.Entries.{copies_from}
+use Rattle.dr_model.specs.Refusals.{stopped}
+use Rattle.dr_model.specs.ReadStops.{Ends}
+use Rattle.dr_volume.specs.View.{Rest, volume_seen, volume_at, on_seen, ids_of}
+use Rattle.dr_flash.specs.Checks.{is_stop}
+use Rattle.dr_flash.specs.Faults.{Counted}
+use Rattle.dr_flash.specs.Here.{refusal_of}
+use Rattle.dr_flash.specs.Standing.{targets_in}
+use Rattle.dr_flash.proofs.EndsLemmas.{ends-refused, ends-none}
+use Rattle.dr_flash.specs.Turns.{Advances, Halts}
+use Rattle.dr_flash.proofs.StandingLemmas.{any-count}
+
+pub refuses : (armed : ℕ → Bool) (w : World) (ok : Control → Bool) (why : Refusal) (r : Option Refusal) (ds : List Entry) → ok w.control ≡ false → r ≡ Some why → Ends armed w r w (check ok why ∷ ds)
+refuses armed w ok why r ds h is = ends-refused armed w r w ok why ds h refl is
+
+-- tests of numbers
+pub same-test : (a b : ℕ) → a ≡ b → nat_eq a b ≡ true
+same-test a b e = (Decides-eqb a b).1 e
+
+pub differ-test : (a b : ℕ) → a ≢ b → nat_eq a b ≡ false
+differ-test a b ne = elim (eqb_tells a b) as (λ _. nat_eq a b ≡ false) [ inl p ↦ absurd (ne p.1) | inr p ↦ p.0 ]
+
+pub below-test : (a b : ℕ) → a < b → nat_lt a b ≡ true
+below-test a b h = grind (arith, nat_tests, h)
+
+pub past-test : (a b : ℕ) → b ≤ a → nat_lt a b ≡ false
+past-test a b h = grind (arith, nat_tests, h)
+
+pub on-low : (s : PlantState) (server : ℕ) → server < 8 → on_seen s server ≡ s.on server
+on-low s server low = ap (λ b. cond b (s.on server) true) (below-test server 8 low)
+
+pub or-true : (a b : Bool) → b ≡ true → (a || b) ≡ true
+or-true true b h = refl
+or-true false b h = h
+
+-- a volume that has targets, and one that hasn't
+pub has-targets : (related : Bool) (n : ℕ) (xs : List ℕ) → n ≡ length xs → 0 < n → not ((related && true) || list_any (λ (u : ℕ). true) xs) ≡ false
+has-targets related n xs count some =
+    ap not (or-true (related && true) _ (sym (any-count xs) ∙ ap (nat_lt 0) (sym count) ∙ below-test 0 n some))
+
+pub has-no_targets : (related : Bool) (n : ℕ) (xs : List ℕ) → related ≡ false → n ≡ length xs → n ≤ 0 → not ((related && true) || list_any (λ (u : ℕ). true) xs) ≡ true
+has-no_targets related n xs plain count none =
+    ap (λ b. not ((b && true) || list_any (λ (u : ℕ). true) xs)) plain ∙ ap not (sym (any-count xs) ∙ ap (nat_lt 0) (sym count) ∙ past-test 0 n none)
+
+-- a volume with a relation is listed
+listed : (P : ℕ → Bool) (es : List VolumeEntry) (d : ℕ) (e : VolumeEntry) → slice_get es d ≡ Some e → P e.id ≡ true → 0 < length (filter P (ids_of es))
+listed P [] d e at h = absurd cc
+listed P (x ∷ es) zero e at h =
+    let same : x ≡ e = cc in
+    let yes' : P x.id ≡ true = ap (λ (y : VolumeEntry). P y.id) same ∙ h in
+    more yes'
+  where
+    more : P x.id ≡ true → 0 < length (filter P (ids_of (x ∷ es)))
+    more yes' = subst (λ b. 0 < length (cond b (x.id ∷ filter P (ids_of es)) (filter P (ids_of es)))) (sym yes') (omega arith)
+listed P (x ∷ es) (suc d) e at h = wider (P x.id) (listed P es d e at h)
+  where
+    wider : (b : Bool) → 0 < length (filter P (ids_of es)) → 0 < length (cond b (x.id ∷ filter P (ids_of es)) (filter P (ids_of es)))
+    wider true k = omega arith
+    wider false k = k
+
+pub lone-by : (s : PlantState) (t : Table) (v n : ℕ) → n ≡ length (targets_in s t v) → n ≤ 0 → (u : ℕ) → (volume_seen s t u).fields.related ≡ true → (volume_seen s t u).fields.source ≢ v
+lone-by s t v n count none u related is =
+    elim (place_of t u) as (λ o. place_of t u ≡ o → ⊥) [
+      | None ↦ λ at. let e : false ≡ true = sym (ap (λ o. (volume_at s t o).fields.related) at) ∙ related in cc
+      | Some d ↦ λ at.
+          let x = entry-at-place t u d at in
+          let own : copies_from v (volume_seen s t x.0.id).fields ≡ true = ap (λ z. copies_from v (volume_seen s t z).fields) x.3 ∙ (λ i. related i && same-test _ v is i) in
+          let some = listed (λ u. copies_from v (volume_seen s t u).fields) t.volumes d x.0 x.1 own in
+          omega (arith, some, count, none)
+    ] refl
+
+-- a call that fails only by a stop
+pub counted-stop : (r : Result (Unit {0}) Refusal) (a b server : ℕ) → Counted (is_err r) a b → OnErr r (refusal_of r ≡ Some (stopped server)) → Counted (is_stop (refusal_of r)) a b
+counted-stop (Ok x) a b server counted refused = counted
+counted-stop (Err e) a b server counted refused = subst (λ o. Counted (is_stop o) a b) (sym refused) counted
+
+-- one act that is the last entry
+pub act-ends : (res : Result (Unit {0}) Refusal) (armed : ℕ → Bool) (w v : Rest → World) (d : Entry) → OnOk res ((r : Rest) → Advances (w r) d (v r)) → OnErr res ((r : Rest) → Halts armed (w r) d (v r) (refusal_of res)) → (r : Rest) → Ends armed (v r) (refusal_of res) (w r) (d ∷ [])
+act-ends (Ok x) armed w v d goes halts r = goes r armed (v r) None [] (ends-none armed (v r) None (v r) (record { world = refl; refusal = refl }))
+act-ends (Err e) armed w v d goes halts r = halts r []

@@ -1,0 +1,96 @@
+//! In which relationships a volume stands.
+
+ghost use Rattle.std.specs.Prelude.{◌≡◌, ℕ, ◌+◌, ◌<◌, ◌≤◌, Bool, ◌&&◌, ◌||◌, false, Some, List, length, IsSome, if◌then◌else◌};
+
+ghost use Rattle.dr_config.specs.Table.{StandsFor, place_of};
+ghost use Rattle.dr_model.specs.Entries as entries;
+ghost use Rattle.dr_model.specs.Entries.{copies_from, is_revertible, is_reversing};
+ghost use Rattle.dr_model.specs.declared.event.Event.{Event};
+ghost use Rattle.dr_volume.specs.Plain.{plain};
+ghost use Rattle.dr_volume.specs.View.{Rest};
+
+ghost use Rattle.dr_flash.specs.Checks.{is_stop};
+ghost use Rattle.dr_flash.specs.Here.{seen};
+ghost use Rattle.dr_flash.specs.Standing.{targets_in, any_of, relation_of};
+
+use dr_config::Config;
+use dr_ids::{Refusal, RelSeen, VolumeId};
+use dr_plant::Plant;
+use dr_volume::{Fields, peek_fields};
+
+/// The targets of a volume: how many there are, and whether one of them is revertible or reversing.
+#[derive(Clone, Copy)]
+pub(crate) struct Targets {
+    pub(crate) count: usize,
+    revertible: bool,
+    reversing: bool,
+}
+
+/// With one volume more, which counts where it is a target of v.
+fn one_more(so_far: Targets, v: VolumeId, f: &Fields) -> Targets
+    requires { so_far.count < 64 }
+    ensures count { result.count ≡ so_far.count + (if copies_from v.0 (plain f.now) then 1 else 0) }
+    ensures revertible { result.revertible ≡ (so_far.revertible || (copies_from v.0 (plain f.now) && f.now.revertible)) }
+    ensures reversing { result.reversing ≡ (so_far.reversing || (copies_from v.0 (plain f.now) && f.now.reversing)) }
+{
+    if f.related && f.source.0 == v.0 {
+        Targets {
+            count: so_far.count + 1,
+            revertible: so_far.revertible || f.revertible,
+            reversing: so_far.reversing || f.reversing,
+        }
+    } else {
+        so_far
+    }
+}
+
+/// The targets of v, looked at whether or not its server is on.
+pub(crate) fn look_at_targets<P: Plant>(p: &P, c: &Config, v: VolumeId) -> Targets
+    requires stands { StandsFor c.now (P.state p.now) }
+    ensures count { result.count ≡ length (targets_in (P.state p.now) c.now v.0) }
+    ensures revertible { result.revertible ≡ any_of is_revertible (P.state p.now) c.now v.0 }
+    ensures reversing { result.reversing ≡ any_of is_reversing (P.state p.now) c.now v.0 }
+{
+    let mut all = Targets {
+        count: 0,
+        revertible: false,
+        reversing: false,
+    };
+    for place in 0..c.volumes() {
+        let u = c.volume_at(place).unwrap();
+        let fields = peek_fields(p, c, u);
+        all = one_more(all, v, &fields);
+    }
+    all
+}
+
+/// How a volume with these fields and targets is seen.
+fn relation_by(f: &Fields, all: Targets) -> RelSeen
+    ensures { result ≡ relation_of (plain f.now) all }
+{
+    if (f.related && f.revertible) || all.revertible {
+        RelSeen::Revertible
+    } else if (f.related && f.reversing) || all.reversing {
+        RelSeen::Reversing
+    } else if f.related {
+        RelSeen::Target
+    } else if all.count > 0 {
+        RelSeen::Source
+    } else {
+        RelSeen::None
+    }
+}
+
+/// The refusal that says in which relationships a volume stands.
+pub fn relation_state<P: Plant>(p: &P, c: &Config, v: VolumeId) -> Refusal
+    requires stands { StandsFor c.now (P.state p.now) }
+    requires defined { IsSome (place_of c.now v.0) }
+    ensures refusal { (r : Rest) (events : List Event) → result ≡ entries.relation_state (seen (P.state p.now) c.now r events).control v.0 }
+    ensures calm { is_stop (Some result) ≡ false }
+{
+    let fields = peek_fields(p, c, v);
+    Refusal::RelationState {
+        volume: v,
+        found: relation_by(&fields, look_at_targets(p, c, v)),
+    }
+}
