@@ -108,11 +108,11 @@ module _ (s : PlantState) (t : Table) (v : ℕ) (fit : RelationsFit s t) (lawful
       relation = lawful.relation;
     };
     covers = covers-carried x.fields.blank k bytes;
-    leaves = fit-kept s t v (record x.fields { blank = remove x.fields.blank k }) fit (λ r. (r, refl)) (λ q held. kept (contains x.fields.blank q) _ (fit.apart v q held) (contains-remove_tracks x.fields.blank k q));
+    leaves = fit-kept s t v (record x.fields { blank = remove x.fields.blank k }) fit (λ r. (r, refl)) (λ q held. kept _ (contains x.fields.blank q) _ (fit.apart v q held) (contains-remove_tracks x.fields.blank k q));
   }
     where
-      kept : (b c : Bool) {a : Bool} → b ≡ false → c ≡ (a && b) → c ≡ false
-      kept b c {a} none is = is ∙ ap (λ z. a && z) none ∙ never a
+      kept : (a b c : Bool) → b ≡ false → c ≡ (a && b) → c ≡ false
+      kept a b c none is = is ∙ ap (λ z. a && z) none ∙ never a
         where
           never : (a : Bool) → (a && false) ≡ false
           never true = refl
@@ -210,3 +210,10 @@ done-few v s n own told is =
     let e : length (events_of told.done) ≡ length (told_restored v s n own) = ap (λ (y : Telling). length (events_of y.done)) is in
     let few = restored-few v s n own in
     omega (arith, e, few)
+
+-- what is told of a target that gives tracks back
+abbrev pub returned_told : ℕ → ℕ → ℕ → Tracks → Telling
+returned_told v s n own = record { done = Returned v s n own; in_stop = Returned v s n own; landed = 0 }
+
+pub told-by : (v n : ℕ) (f f' g g' : Fields) (told : Telling) → told ≡ returned_told v f.source n g.own → f ≡ f' → g ≡ g' → told ≡ returned_told v f'.source n g'.own
+told-by v n f f' g g' told is same left = is ∙ (λ i. returned_told v (same i).source n (left i).own)

@@ -1,6 +1,6 @@
 //! One move of a resynchronization or a restore each.
 
-ghost use Rattle.std.specs.Prelude.{◌≡◌, ℕ, ◌<◌, ◌≤◌, ◌+◌, true, length, None, Some, IsSome, OnOk, OnErr, is_err};
+ghost use Rattle.std.specs.Prelude.{◌≡◌, ℕ, ◌<◌, ◌≤◌, ◌+◌, true, false, length, None, Some, IsSome, OnOk, OnErr, is_err};
 ghost use Rattle.std.specs.FinSet.{remove};
 ghost use Rattle.dr_plant.specs.State.{PlantState};
 ghost use Rattle.dr_config.specs.Table.{place_of};
@@ -105,9 +105,9 @@ pub(crate) fn turn_back<P: Plant>(
     ensures spare { length j.new.events + j.new.spare ≡ length j.old.events + j.old.spare }
 {
     let fields = peek_fields(p, c, t);
-    let turned = turned(&fields);
-    let next = restored(tracks_of(c, t), &turned);
-    let told = told_of(c, t, &fields, turned.own);
+    let reversed = turned(&fields);
+    let next = restored(tracks_of(c, t), &reversed);
+    let told = told_of(c, t, &fields, reversed.own);
     shift(p, c, j, t, &next, None, &told)
 }
 
