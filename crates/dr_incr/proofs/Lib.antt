@@ -1,2 +1,3 @@
 pub mod RestoreLemmas
 pub mod StepLemmas
+pub mod TargetLemmas

@@ -1,11 +1,22 @@
 -- Entries that follow checks.
-use Rattle.std.proofs.Common.{ℕ, ◌≡◌, Bool, List, [], ◌∷◌, ◌++◌, sym, subst, Option, None, Some}
+use Rattle.std.proofs.Common.{ℕ, ◌≡◌, Bool, true, false, ap, ◌∙◌, List, [], ◌∷◌, ◌++◌, sym, subst, Option, None, Some}
 use Rattle.std.proofs.lemmas.List.{append_assoc}
 use Rattle.dr_ids.specs.declared.refusal.Refusal.{Refusal}
 use Rattle.dr_model.specs.Control.{World}
 use Rattle.dr_model.specs.Carry.{Entry}
 use Rattle.dr_model.specs.ReadStops.{Ends}
+use Rattle.std.specs.Prelude.{Result, Ok, Err, OnOk, OnErr}
+use Rattle.dr_plant.specs.State.{PlantState}
+use Rattle.dr_config.specs.Table.{Table}
+use Rattle.dr_model.specs.declared.event.Event.{Event}
+use Rattle.dr_model.specs.Refusals.{stopped}
+use Rattle.dr_model.specs.Relations.{lowest}
+use Rattle.dr_model.specs.Entries.{for_lowest, on_found}
+use Rattle.dr_volume.specs.View.{Rest, volume_seen}
+use Rattle.dr_flash.specs.Checks.{is_stop}
+use Rattle.dr_flash.specs.Here.{seen, refusal_of}
 use Rattle.dr_flash.specs.Turns.{Advances, Halts, Leads, Fails}
+use Rattle.dr_flash.proofs.CopyLemmas.{led, failed}
 
 pub then-advances : (w v : World) (es : List Entry) (d : Entry) → Leads w es w → Advances w d v → Leads w (es ++ d ∷ []) v
 then-advances w v es d first goes armed u r ds more = subst (Ends armed u r w) (sym (append_assoc es (d ∷ []) ds)) (first armed u r (d ∷ ds) (goes armed u r ds more))
@@ -21,3 +32,18 @@ then-fails armed w v u r es fs first fails ds = subst (Ends armed u r w) (sym (a
 
 pub fails-first : (armed : ℕ → Bool) (w u : World) (r : Option Refusal) (es fs : List Entry) → Fails armed w es u r → Fails armed w (es ++ fs) u r
 fails-first armed w u r es fs fails ds = subst (Ends armed u r w) (sym (append_assoc es fs ds)) (fails (fs ++ ds))
+
+-- what comes for the lowest track that v holds
+pub lowest-entry : (s : PlantState) (t : Table) (r : Rest) (ev : List Event) (v k : ℕ) (d : ℕ → Entry) → lowest (volume_seen s t v).tracks (volume_seen s t v).fields.own ≡ Some k → for_lowest v d (seen s t r ev).control ≡ d k (seen s t r ev).control
+lowest-entry s t r ev v k d held = ap (λ o. on_found o d (seen s t r ev).control) held
+
+-- a call that ends as its only act
+pub stop-refused : (r : Result (Unit {0}) Refusal) (n m : ℕ) → OnErr r (refusal_of r ≡ Some (stopped n)) → n ≡ m → is_stop (refusal_of r) ≡ true → refusal_of r ≡ Some (stopped m)
+stop-refused (Ok x) n m refused same stop = absurd cc
+stop-refused (Err e) n m refused same stop = refused ∙ ap (λ z. Some (stopped z)) same
+
+-- the entries end as those that led on or failed say
+pub ends-by : {T : Type 0} (res : Result T Refusal) (armed : ℕ → Bool) (w u : Rest → World) (es : Rest → List Entry)
+    → OnOk res ((r : Rest) → Leads (w r) (es r) (u r)) → OnErr res ((r : Rest) → Fails armed (w r) (es r) (u r) (refusal_of res)) → (r : Rest) → Ends armed (u r) (refusal_of res) (w r) (es r)
+ends-by (Ok x) armed w u es leads fails r = led armed (w r) (u r) (es r) (leads r)
+ends-by (Err e) armed w u es leads fails r = failed armed (w r) (u r) (Some e) (es r) (fails r)
