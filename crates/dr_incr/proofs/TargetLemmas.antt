@@ -10,7 +10,7 @@ use Rattle.dr_config.specs.declared.entries.VolumeEntry.{VolumeEntry}
 use Rattle.dr_model.specs.Layout.{Fields}
 use Rattle.dr_model.specs.Lawful.{IsLawful, NoRelation}
 use Rattle.dr_model.specs.Carry.{Entry}
-use Rattle.dr_model.specs.Entries.{copies_from}
+use Rattle.dr_model.specs.Entries.{copies_from, keep_on, for_lowest}
 use Rattle.dr_volume.specs.View.{volume_seen, ids_of}
 use Rattle.dr_flash.specs.Fit.{SourceFits, RelationsFit}
 use Rattle.dr_flash.proofs.CopyLemmas.{ids-next}
@@ -84,3 +84,9 @@ not-kept a b h = ap (λ z. a && not z) h ∙ never a
     never : (a : Bool) → (a && false) ≡ false
     never true = refl
     never false = refl
+
+pub keeps_left-next : (t : Table) (s v place u : ℕ) → Some u ≡ option_map (λ (e : VolumeEntry). e.id) (slice_get t.volumes place) → keeps_left t s v place ≡ for_lowest v (λ k. keep_on s k u) ∷ keeps_left t s v (place + 1)
+keeps_left-next t s v place u at = ap (λ us. keeps_of us s v) (ids-next t place u at)
+
+pub keeps_left-none : (t : Table) (s v place : ℕ) → length t.volumes ≤ place → keeps_left t s v place ≡ []
+keeps_left-none t s v place all = ap (λ es. keeps_of (ids_of es) s v) (drop_all place t.volumes all)

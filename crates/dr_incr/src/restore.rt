@@ -103,11 +103,12 @@ pub fn reverse_finish<P: Plant>(
     give_up(p, c, j, t, k)
 }
 
-/// Track k, the lowest that t holds, comes back to the source of t.
+/// Track k, the lowest that t holds, comes back to s, the source of t.
 fn give_back<P: Plant>(
     p: &mut P,
     c: &Config,
     j: &mut Journal,
+    s: VolumeId,
     t: VolumeId,
     k: u16,
 ) -> Result<(), Refusal>
@@ -115,23 +116,23 @@ fn give_back<P: Plant>(
     requires fit { RelationsFit (P.state p.old) c.now }
     requires defined { IsSome (place_of c.now t.0) }
     requires running { (P.state p.old).on (volume_seen (P.state p.old) c.now t.0).server ≡ true }
+    requires copies { copies_from s.0 (volume_seen (P.state p.old) c.now t.0).fields ≡ true }
     requires reversing { (volume_seen (P.state p.old) c.now t.0).fields.reversing ≡ true }
     requires held { relations.lowest (volume_seen (P.state p.old) c.now t.0).tracks (volume_seen (P.state p.old) c.now t.0).fields.own ≡ Some k }
     requires room { length c.now.volumes + (volume_seen (P.state p.old) c.now t.0).tracks + 3 ≤ j.old.spare }
-    ensures leads { OnOk result ((r : Rest) → Leads (seen (P.state p.old) c.now r j.old.events) (give_back (ids_of c.now.volumes) (volume_seen (P.state p.old) c.now t.0).fields.source t.0) (seen (P.state p.new) c.now r j.new.events)) }
-    ensures fails { OnErr result ((r : Rest) → Fails (armed_in (P.state p.old)) (seen (P.state p.old) c.now r j.old.events) (give_back (ids_of c.now.volumes) (volume_seen (P.state p.old) c.now t.0).fields.source t.0) (seen (P.state p.new) c.now r j.new.events) (refusal_of result)) }
+    ensures leads { OnOk result ((r : Rest) → Leads (seen (P.state p.old) c.now r j.old.events) (give_back (ids_of c.now.volumes) s.0 t.0) (seen (P.state p.new) c.now r j.new.events)) }
+    ensures fails { OnErr result ((r : Rest) → Fails (armed_in (P.state p.old)) (seen (P.state p.old) c.now r j.old.events) (give_back (ids_of c.now.volumes) s.0 t.0) (seen (P.state p.new) c.now r j.new.events) (refusal_of result)) }
     ensures refused { OnErr result (refusal_of result ≡ Some (stopped (volume_seen (P.state p.old) c.now t.0).server)) }
     ensures rest { IsAtRest (P.state p.new) c.now }
     ensures fit { RelationsFit (P.state p.new) c.now }
     ensures unarmed { (q : ℕ) → (P.state p.old).read_fuse q ≡ None → (P.state p.new).read_fuse q ≡ None }
     ensures faults { Counted (is_err result) (P.state p.old).faults (P.state p.new).faults }
-    ensures others { (q : ℕ) → (copies_from (volume_seen (P.state p.old) c.now t.0).fields.source (volume_seen (P.state p.old) c.now q).fields || nat_eq q (volume_seen (P.state p.old) c.now t.0).fields.source) ≡ false → IsAsBefore (P.state p.old) (P.state p.new) c.now q }
+    ensures others { (q : ℕ) → (copies_from s.0 (volume_seen (P.state p.old) c.now q).fields || nat_eq q s.0) ≡ false → IsAsBefore (P.state p.old) (P.state p.new) c.now q }
     ensures on { OnOk result ((P.state p.new).on ≡ (P.state p.old).on) }
     ensures room { j.old.spare ≤ j.new.spare + (length c.now.volumes + (volume_seen (P.state p.old) c.now t.0).tracks + 3) }
     ensures room_left { OnOk result (j.old.spare ≤ j.new.spare + (length c.now.volumes + (volume_seen (P.state p.old) c.now t.0).tracks + 2)) }
     ensures spare { length j.new.events + j.new.spare ≡ length j.old.events + j.old.spare }
 {
-    let s = peek_fields(p, c, t).source;
     keep_others(p, c, j, s, k, t)?;
     take_back(p, c, j, s, k, t)?;
     reverse_finish(p, c, j, t)
@@ -174,6 +175,6 @@ pub fn reverse_step<P: Plant>(
     let Some(k) = lowest(tracks_of(c, t), &fields.own) else {
         return Ok(false);
     };
-    give_back(p, c, j, t, k)?;
+    give_back(p, c, j, fields.source, t, k)?;
     Ok(true)
 }

@@ -40,9 +40,9 @@ returns-clause-advances g c =
     let t = c.args.c.now in
     let x = volume_seen s t c.args.t.0 in
     ok-along c.shift.result c.shift.ensures.done (λ done r.
-        advances (seen s t r c.args.j.now.events) (Resync c.args.t.0 c.args.sequence) c.of-told.result (plain c.resynced-next.result) None (on-running s x.server c.requires.running)
-        (subst (λ y. Tells (Resync c.args.t.0 c.args.sequence) x y) (sym (c.of-told.ensures ∙ ap (λ (f : Fields). record { done = One (Set c.args.t.0 f.source); in_stop = One (Set c.args.t.0 f.source); landed = 0 }) c.peek_fields-fields.ensures.fields)) (tells-resync c.args.t.0 c.args.sequence x)) (sym (c.resynced-next.ensures ∙ ap (resynced c.args.sequence) c.peek_fields-fields.ensures.fields)) (refl)
-        (seen (g.P.Plant.state c.shift.new.p) t r c.shift.new.j.events) (done r))
+    advances (seen s t r c.args.j.now.events) (Resync c.args.t.0 c.args.sequence) c.of-told.result (plain c.resynced-next.result) None (on-running s x.server c.requires.running)
+    (subst (λ y. Tells (Resync c.args.t.0 c.args.sequence) x y) (sym (c.of-told.ensures ∙ ap (λ (f : Fields). record { done = One (Set c.args.t.0 f.source); in_stop = One (Set c.args.t.0 f.source); landed = 0 }) c.peek_fields-fields.ensures.fields)) (tells-resync c.args.t.0 c.args.sequence x)) (sym (c.resynced-next.ensures ∙ ap (resynced c.args.sequence) c.peek_fields-fields.ensures.fields)) (refl)
+    (seen (g.P.Plant.state c.shift.new.p) t r c.shift.new.j.events) (done r))
 
 pub returns-clause-halts : goal.returns-clause-halts
 returns-clause-halts g c =
@@ -50,6 +50,6 @@ returns-clause-halts g c =
     let t = c.args.c.now in
     let x = volume_seen s t c.args.t.0 in
     err-along c.shift.result c.shift.ensures.failed c.shift.ensures.refused (λ failed refused r.
-        halts (seen s t r c.args.j.now.events) (Resync c.args.t.0 c.args.sequence) c.of-told.result (plain c.resynced-next.result) None (on-running s x.server c.requires.running)
-        (subst (λ y. Tells (Resync c.args.t.0 c.args.sequence) x y) (sym (c.of-told.ensures ∙ ap (λ (f : Fields). record { done = One (Set c.args.t.0 f.source); in_stop = One (Set c.args.t.0 f.source); landed = 0 }) c.peek_fields-fields.ensures.fields)) (tells-resync c.args.t.0 c.args.sequence x)) (sym (c.resynced-next.ensures ∙ ap (resynced c.args.sequence) c.peek_fields-fields.ensures.fields)) (refl)
-        (armed_in s) (seen (g.P.Plant.state c.shift.new.p) t r c.shift.new.j.events) (refusal_of c.shift.result) refused (failed r))
+    halts (seen s t r c.args.j.now.events) (Resync c.args.t.0 c.args.sequence) c.of-told.result (plain c.resynced-next.result) None (on-running s x.server c.requires.running)
+    (subst (λ y. Tells (Resync c.args.t.0 c.args.sequence) x y) (sym (c.of-told.ensures ∙ ap (λ (f : Fields). record { done = One (Set c.args.t.0 f.source); in_stop = One (Set c.args.t.0 f.source); landed = 0 }) c.peek_fields-fields.ensures.fields)) (tells-resync c.args.t.0 c.args.sequence x)) (sym (c.resynced-next.ensures ∙ ap (resynced c.args.sequence) c.peek_fields-fields.ensures.fields)) (refl)
+    (armed_in s) (seen (g.P.Plant.state c.shift.new.p) t r c.shift.new.j.events) (refusal_of c.shift.result) refused (failed r))

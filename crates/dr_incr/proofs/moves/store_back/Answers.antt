@@ -38,9 +38,9 @@ returns-clause-advances g c =
     let t = c.args.c.now in
     let x = volume_seen s t c.args.s.0 in
     ok-along c.shift.result c.shift.ensures.done (λ done r.
-        advances (seen s t r c.args.j.now.events) (Restore c.args.s.0 c.args.k c.args.t.0) c.of-told.result (plain c.filled-next.result) (Some (c.args.k, c.args.bytes.now)) (on-running s x.server c.requires.running)
-        (subst (λ y. Tells (Restore c.args.s.0 c.args.k c.args.t.0) x y) (sym (c.of-told.ensures)) (tells-restore c.args.s.0 c.args.k c.args.t.0 x)) (sym (c.filled-next.ensures ∙ ap (λ (f : Fields). record f { blank = remove f.blank c.args.k }) c.peek_fields.ensures.fields)) (ap (λ (b : List ℕ). Some (c.args.k, b)) (sym c.requires.bytes))
-        (seen (g.P.Plant.state c.shift.new.p) t r c.shift.new.j.events) (done r))
+    advances (seen s t r c.args.j.now.events) (Restore c.args.s.0 c.args.k c.args.t.0) c.of-told.result (plain c.filled-next.result) (Some (c.args.k, c.args.bytes.now)) (on-running s x.server c.requires.running)
+    (subst (λ y. Tells (Restore c.args.s.0 c.args.k c.args.t.0) x y) (sym (c.of-told.ensures)) (tells-restore c.args.s.0 c.args.k c.args.t.0 x)) (sym (c.filled-next.ensures ∙ ap (λ (f : Fields). record f { blank = remove f.blank c.args.k }) c.peek_fields.ensures.fields)) (ap (λ (b : List ℕ). Some (c.args.k, b)) (sym c.requires.bytes))
+    (seen (g.P.Plant.state c.shift.new.p) t r c.shift.new.j.events) (done r))
 
 pub returns-clause-halts : goal.returns-clause-halts
 returns-clause-halts g c =
@@ -48,6 +48,6 @@ returns-clause-halts g c =
     let t = c.args.c.now in
     let x = volume_seen s t c.args.s.0 in
     err-along c.shift.result c.shift.ensures.failed c.shift.ensures.refused (λ failed refused r.
-        halts (seen s t r c.args.j.now.events) (Restore c.args.s.0 c.args.k c.args.t.0) c.of-told.result (plain c.filled-next.result) (Some (c.args.k, c.args.bytes.now)) (on-running s x.server c.requires.running)
-        (subst (λ y. Tells (Restore c.args.s.0 c.args.k c.args.t.0) x y) (sym (c.of-told.ensures)) (tells-restore c.args.s.0 c.args.k c.args.t.0 x)) (sym (c.filled-next.ensures ∙ ap (λ (f : Fields). record f { blank = remove f.blank c.args.k }) c.peek_fields.ensures.fields)) (ap (λ (b : List ℕ). Some (c.args.k, b)) (sym c.requires.bytes))
-        (armed_in s) (seen (g.P.Plant.state c.shift.new.p) t r c.shift.new.j.events) (refusal_of c.shift.result) refused (failed r))
+    halts (seen s t r c.args.j.now.events) (Restore c.args.s.0 c.args.k c.args.t.0) c.of-told.result (plain c.filled-next.result) (Some (c.args.k, c.args.bytes.now)) (on-running s x.server c.requires.running)
+    (subst (λ y. Tells (Restore c.args.s.0 c.args.k c.args.t.0) x y) (sym (c.of-told.ensures)) (tells-restore c.args.s.0 c.args.k c.args.t.0 x)) (sym (c.filled-next.ensures ∙ ap (λ (f : Fields). record f { blank = remove f.blank c.args.k }) c.peek_fields.ensures.fields)) (ap (λ (b : List ℕ). Some (c.args.k, b)) (sym c.requires.bytes))
+    (armed_in s) (seen (g.P.Plant.state c.shift.new.p) t r c.shift.new.j.events) (refusal_of c.shift.result) refused (failed r))

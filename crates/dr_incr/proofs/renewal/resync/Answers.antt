@@ -19,14 +19,14 @@ returns-in-Some-clause-fails g c r ds = c.in-Some.ensures.checked r c.args.j.now
 pub returns-clause-leads : goal.returns-clause-leads
 returns-clause-leads g c =
     ok-along c.renew.result c.renew.ensures.advances (λ goes r armed u r' ds more.
-        c.in_default.ensures.checked r c.args.j.now.events armed u r' _
-        (goes r armed u r' ds more))
+    c.in_default.ensures.checked r c.args.j.now.events armed u r' _
+    (goes r armed u r' ds more))
 
 pub returns-clause-fails : goal.returns-clause-fails
 returns-clause-fails g c =
     err-along c.renew.result c.renew.ensures.halts c.renew.ensures.refused (λ halts refused r ds.
-        c.in_default.ensures.checked r c.args.j.now.events (armed_in (g.P.Plant.state c.args.p.now)) (seen (g.P.Plant.state c.renew.new.p) c.args.c.now r c.renew.new.j.events) (refusal_of c.renew.result) _
-        (halts r ds))
+    c.in_default.ensures.checked r c.args.j.now.events (armed_in (g.P.Plant.state c.args.p.now)) (seen (g.P.Plant.state c.renew.new.p) c.args.c.now r c.renew.new.j.events) (refusal_of c.renew.result) _
+    (halts r ds))
 
 pub returns-clause-carried : goal.returns-clause-carried
 returns-clause-carried g c =

@@ -29,16 +29,16 @@ returns-in-Some-lone_refusal-clause-fails g c r ds =
 pub returns-clause-leads : goal.returns-clause-leads
 returns-clause-leads g c =
     ok-along c.turn_back.result c.turn_back.ensures.advances (λ goes r armed u r' ds more.
-        c.in_default.ensures.checked r c.args.j.now.events armed u r' _
-        (c.in_default-lone_refusal.ensures.checked r c.args.j.now.events armed u r' _
-        (goes r armed u r' ds more)))
+    c.in_default.ensures.checked r c.args.j.now.events armed u r' _
+    (c.in_default-lone_refusal.ensures.checked r c.args.j.now.events armed u r' _
+    (goes r armed u r' ds more)))
 
 pub returns-clause-fails : goal.returns-clause-fails
 returns-clause-fails g c =
     err-along c.turn_back.result c.turn_back.ensures.halts c.turn_back.ensures.refused (λ halts refused r ds.
-        c.in_default.ensures.checked r c.args.j.now.events (armed_in (g.P.Plant.state c.args.p.now)) (seen (g.P.Plant.state c.turn_back.new.p) c.args.c.now r c.turn_back.new.j.events) (refusal_of c.turn_back.result) _
-        (c.in_default-lone_refusal.ensures.checked r c.args.j.now.events (armed_in (g.P.Plant.state c.args.p.now)) (seen (g.P.Plant.state c.turn_back.new.p) c.args.c.now r c.turn_back.new.j.events) (refusal_of c.turn_back.result) _
-        (halts r ds)))
+    c.in_default.ensures.checked r c.args.j.now.events (armed_in (g.P.Plant.state c.args.p.now)) (seen (g.P.Plant.state c.turn_back.new.p) c.args.c.now r c.turn_back.new.j.events) (refusal_of c.turn_back.result) _
+    (c.in_default-lone_refusal.ensures.checked r c.args.j.now.events (armed_in (g.P.Plant.state c.args.p.now)) (seen (g.P.Plant.state c.turn_back.new.p) c.args.c.now r c.turn_back.new.j.events) (refusal_of c.turn_back.result) _
+    (halts r ds)))
 
 pub returns-clause-carried : goal.returns-clause-carried
 returns-clause-carried g c =
