@@ -3,7 +3,7 @@ use Rattle.std.proofs.Common.{ℕ, ◌≡◌, Bool, true, false, ap, ◌∙◌, 
 use Rattle.std.proofs.lemmas.List.{append_assoc}
 use Rattle.dr_ids.specs.declared.refusal.Refusal.{Refusal}
 use Rattle.dr_model.specs.Control.{World}
-use Rattle.dr_model.specs.Carry.{Entry}
+use Rattle.dr_model.specs.Carry.{Entry, Pass, now}
 use Rattle.dr_model.specs.ReadStops.{Ends}
 use Rattle.std.specs.Prelude.{Result, Ok, Err, OnOk, OnErr}
 use Rattle.dr_plant.specs.State.{PlantState}
@@ -11,7 +11,10 @@ use Rattle.dr_config.specs.Table.{Table}
 use Rattle.dr_model.specs.declared.event.Event.{Event}
 use Rattle.dr_model.specs.Refusals.{stopped}
 use Rattle.dr_model.specs.Relations.{lowest}
-use Rattle.dr_model.specs.Entries.{for_lowest, on_found}
+use Rattle.dr_model.specs.Entries.{for_lowest, on_found, keep_on, give_back}
+use Rattle.dr_model.specs.Moves.{Restore, Release}
+use Rattle.dr_incr.specs.Steps.{keeps_of}
+use Rattle.dr_flash.proofs.EndsLemmas.{ends-skips}
 use Rattle.dr_volume.specs.View.{Rest, volume_seen}
 use Rattle.dr_flash.specs.Checks.{is_stop}
 use Rattle.dr_flash.specs.Here.{seen, refusal_of}
@@ -47,3 +50,19 @@ pub ends-by : {T : Type 0} (res : Result T Refusal) (armed : ℕ → Bool) (w u 
     → OnOk res ((r : Rest) → Leads (w r) (es r) (u r)) → OnErr res ((r : Rest) → Fails armed (w r) (es r) (u r) (refusal_of res)) → (r : Rest) → Ends armed (u r) (refusal_of res) (w r) (es r)
 ends-by (Ok x) armed w u es leads fails r = led armed (w r) (u r) (es r) (leads r)
 ends-by (Err e) armed w u es leads fails r = failed armed (w r) (u r) (Some e) (es r) (fails r)
+
+-- where v holds no track, nothing comes for one
+pub none-entry : (s : PlantState) (t : Table) (r : Rest) (ev : List Event) (v : ℕ) (d : ℕ → Entry) → lowest (volume_seen s t v).tracks (volume_seen s t v).fields.own ≡ None → for_lowest v d (seen s t r ev).control ≡ Pass
+none-entry s t r ev v d none = ap (λ o. on_found o d (seen s t r ev).control) none
+
+none-keeps : (s : PlantState) (t : Table) (r : Rest) (ev : List Event) (from v : ℕ) (us : List ℕ) → lowest (volume_seen s t v).tracks (volume_seen s t v).fields.own ≡ None → Leads (seen s t r ev) (keeps_of us from v) (seen s t r ev)
+none-keeps s t r ev from v [] none armed u x ds more = more
+none-keeps s t r ev from v (q ∷ us) none armed u x ds more =
+    ends-skips armed u x (seen s t r ev) (for_lowest v (λ k. keep_on from k q)) (keeps_of us from v ++ ds) (none-entry s t r ev v (λ k. keep_on from k q) none) (none-keeps s t r ev from v us none armed u x ds more)
+
+pub none-back : (s : PlantState) (t : Table) (r : Rest) (ev : List Event) (from v : ℕ) (us : List ℕ) → lowest (volume_seen s t v).tracks (volume_seen s t v).fields.own ≡ None → Leads (seen s t r ev) (give_back us from v) (seen s t r ev)
+none-back s t r ev from v us none =
+    then-leads (seen s t r ev) (seen s t r ev) (seen s t r ev) (keeps_of us from v) (for_lowest v (λ k. now (Restore from k v)) ∷ for_lowest v (λ k. now (Release v k)) ∷ []) (none-keeps s t r ev from v us none)
+    (λ armed u x ds more.
+        ends-skips armed u x (seen s t r ev) (for_lowest v (λ k. now (Restore from k v))) (for_lowest v (λ k. now (Release v k)) ∷ ds) (none-entry s t r ev v (λ k. now (Restore from k v)) none)
+        (ends-skips armed u x (seen s t r ev) (for_lowest v (λ k. now (Release v k))) ds (none-entry s t r ev v (λ k. now (Release v k)) none) more))

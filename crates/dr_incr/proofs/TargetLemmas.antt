@@ -1,9 +1,15 @@
 -- The targets of a source, from one volume of the configuration to the next, and what a target shares with its source.
-use Rattle.std.proofs.Common.{ℕ, ◌≡◌, ◌≢◌, ◌≤◌, ◌<◌, ◌+◌, Bool, true, false, not, ◌&&◌, ◌||◌, List, [], ◌∷◌, map, cond, drop, length, refl, sym, ◌∙◌, ap, subst, nat_eq, inl, inr, Some, option_map, slice_get}
+use Rattle.std.proofs.Common.{ℕ, zero, suc, arith, ◌≡◌, ◌≢◌, ◌≤◌, ◌<◌, ◌+◌, Bool, true, false, not, ◌&&◌, ◌||◌, List, [], ◌∷◌, map, cond, drop, length, refl, sym, ◌∙◌, ap, subst, nat_eq, inl, inr, Some, option_map, slice_get}
 use Rattle.std.specs.Prelude.{filter, is_some}
 use Rattle.std.specs.List.{list_any}
 use Rattle.std.proofs.lemmas.List.{drop_all}
-use Rattle.std.proofs.lemmas.Bool.Decides.{eqb_tells}
+use Rattle.std.proofs.lemmas.Bool.Decides.{eqb_tells, Decides-eqb}
+use Rattle.std.specs.List.{range_with_len}
+use Rattle.std.specs.FinSet.{contains}
+use Rattle.dr_bits.specs.Tracks.{Tracks}
+use Rattle.dr_model.specs.Control.{Volume}
+use Rattle.dr_model.specs.Relations.{in_order, lowest}
+use Rattle.dr_volume.specs.Update.{IsAsBefore}
 use Rattle.dr_plant.specs.State.{PlantState}
 use Rattle.dr_config.specs.Table.{Table, place_of}
 use Rattle.dr_config.specs.declared.entries.VolumeEntry.{VolumeEntry}
@@ -90,3 +96,30 @@ keeps_left-next t s v place u at = ap (λ us. keeps_of us s v) (ids-next t place
 
 pub keeps_left-none : (t : Table) (s v place : ℕ) → length t.volumes ≤ place → keeps_left t s v place ≡ []
 keeps_left-none t s v place all = ap (λ es. keeps_of (ids_of es) s v) (drop_all place t.volumes all)
+
+-- the lowest track of a set that is below n is below n
+first-below : (f : ℕ → Bool) (n a k : ℕ) → slice_get (filter f (range_with_len a n)) 0 ≡ Some k → k < a + n
+first-below f zero a k h = absurd cc
+first-below f (suc n) a k h = pick (f a) (first-below f n (a + 1) k) h
+  where
+    pick : (b : Bool) → (slice_get (filter f (range_with_len (a + 1) n)) 0 ≡ Some k → k < a + 1 + n) → slice_get (cond b (a ∷ filter f (range_with_len (a + 1) n)) (filter f (range_with_len (a + 1) n))) 0 ≡ Some k → k < a + suc n
+    pick true more h = let e : a ≡ k = cc in omega (arith, e)
+    pick false more h = let low = more h in omega (arith, low)
+
+pub lowest-below : (n k : ℕ) (own : Tracks) → lowest n own ≡ Some k → k < n
+unfolding in_order
+lowest-below n k own h = let low = first-below (contains own) n 0 k h in omega (arith, low)
+
+pub neither : (a b : Bool) → (a || b) ≡ false → (a ≡ false) × (b ≡ false)
+neither false b h = (refl, h)
+neither true b h = absurd cc
+
+pub differs : (a b : ℕ) → nat_eq a b ≡ false → a ≢ b
+differs a b h is = let e : true ≡ false = sym ((Decides-eqb a b).1 is) ∙ h in cc
+
+-- what copies from v isn't what doesn't
+pub other-target : (s : PlantState) (c : Table) (v t q : ℕ) → copies_from v (volume_seen s c t).fields ≡ true → copies_from v (volume_seen s c q).fields ≡ false → q ≢ t
+other-target s c v t q copies other is = let e : true ≡ false = sym copies ∙ ap (λ z. copies_from v (volume_seen s c z).fields) (sym is) ∙ other in cc
+
+pub same-lowest : (s u : PlantState) (c : Table) (t k : ℕ) → IsAsBefore s u c t → lowest (volume_seen s c t).tracks (volume_seen s c t).fields.own ≡ Some k → lowest (volume_seen u c t).tracks (volume_seen u c t).fields.own ≡ Some k
+same-lowest s u c t k same held = ap (λ (x : Volume). lowest x.tracks x.fields.own) same.volume ∙ held
