@@ -1,8 +1,8 @@
 -- Checks of a call, as entries.
 use Rattle.std.proofs.Common.{ℕ, zero, suc, ◌≡◌, ◌≢◌, ◌<◌, ◌≤◌, Bool, true, false, not, ◌&&◌, ◌||◌, cond, List, [], ◌∷◌, length, slice_get, nat_eq, nat_lt, arith, inl, inr, refl, sym, ◌∙◌, ap, subst, Option, Some, None}
-use Rattle.std.specs.Prelude.{filter, is_some, Result, Ok, Err, OnOk, OnErr, is_err}
+use Rattle.std.specs.Prelude.{filter, Result, Ok, Err, OnOk, OnErr, is_err}
 use Rattle.std.specs.List.{list_any}
-use Rattle.std.proofs.lemmas.Bool.Decides.{eqb_tells, leb_tells, Decides-eqb, nat_tests}
+use Rattle.std.proofs.lemmas.Bool.Decides.{eqb_tells, Decides-eqb, nat_tests}
 use Rattle.dr_ids.specs.declared.refusal.Refusal.{Refusal}
 use Rattle.dr_plant.specs.State.{PlantState}
 use Rattle.dr_config.specs.Table.{Table, place_of}
@@ -87,6 +87,6 @@ counted-stop (Ok x) a b server counted refused = counted
 counted-stop (Err e) a b server counted refused = subst (λ o. Counted (is_stop o) a b) (sym refused) counted
 
 -- one act that is the last entry
-pub act-ends : (res : Result (Unit {0}) Refusal) (armed : ℕ → Bool) (w v : Rest → World) (d : Entry) → OnOk res ((r : Rest) → Advances (w r) d (v r)) → OnErr res ((r : Rest) → Halts armed (w r) d (v r) (refusal_of res)) → (r : Rest) → Ends armed (v r) (refusal_of res) (w r) (d ∷ [])
+pub act-ends : {T : Type 0} (res : Result T Refusal) (armed : ℕ → Bool) (w v : Rest → World) (d : Entry) → OnOk res ((r : Rest) → Advances (w r) d (v r)) → OnErr res ((r : Rest) → Halts armed (w r) d (v r) (refusal_of res)) → (r : Rest) → Ends armed (v r) (refusal_of res) (w r) (d ∷ [])
 act-ends (Ok x) armed w v d goes halts r = goes r armed (v r) None [] (ends-none armed (v r) None (v r) (record { world = refl; refusal = refl }))
 act-ends (Err e) armed w v d goes halts r = halts r []

@@ -1,6 +1,6 @@
 -- What the targets of a source keep, from one volume of the configuration to the next.
-use Rattle.std.proofs.Common.{ℕ, ◌≡◌, ◌≤◌, ◌<◌, ◌+◌, suc, zero, arith, inl, inr, nat_eq, Bool, true, false, List, [], ◌∷◌, ◌++◌, drop, length, map, slice_get, refl, sym, ◌∙◌, ap, subst, Option, Some, None, nat_lt}
-use Rattle.std.specs.Prelude.{option_map, is_some, ◌&&◌, Result, Ok, Err, OnOk, OnErr}
+use Rattle.std.proofs.Common.{ℕ, ◌≡◌, ◌≤◌, ◌<◌, ◌+◌, suc, zero, arith, inl, inr, nat_eq, Bool, true, false, List, [], ◌∷◌, drop, length, map, slice_get, refl, sym, ◌∙◌, ap, subst, Option, Some, None, nat_lt}
+use Rattle.std.specs.Prelude.{option_map, is_some, ◌&&◌}
 use Rattle.std.proofs.Math.Numerals.{suc-eq-add-one}
 use Rattle.std.proofs.lemmas.List.{drop_all, append-nil}
 use Rattle.dr_ids.specs.declared.refusal.Refusal.{Refusal}
@@ -10,10 +10,10 @@ use Rattle.dr_config.specs.declared.entries.VolumeEntry.{VolumeEntry}
 use Rattle.dr_model.specs.Control.{World}
 use Rattle.dr_model.specs.Carry.{Entry}
 use Rattle.dr_model.specs.ReadStops.{Ends}
-use Rattle.dr_model.specs.Entries.{keep_on, copy_first, copies_from}
+use Rattle.dr_model.specs.Entries.{keep_on, copies_from}
 use Rattle.dr_volume.specs.View.{ids_of, volume_seen}
 use Rattle.dr_volume.specs.Update.{IsAsBefore}
-use Rattle.dr_flash.specs.Here.{armed_in, refusal_of}
+use Rattle.dr_flash.specs.Here.{armed_in}
 use Rattle.dr_flash.specs.Turns.{Leads, Fails}
 use Rattle.dr_flash.proofs.EndsLemmas.{ends-none}
 use Rattle.dr_flash.proofs.FitLemmas.{target-no_source}

@@ -1,5 +1,5 @@
 -- What moves make of fields: they stay lawful, what a target holds isn't blank, and what is blank stays so.
-use Rattle.std.proofs.Common.{ℕ, List, ◌≡◌, ◌<◌, ◌≤◌, Bool, true, false, not, ◌&&◌, ◌||◌, cond, nat_eq, nat_lt, refl, sym, ◌∙◌, ap, subst, arith, rules, inl, inr, Some, None}
+use Rattle.std.proofs.Common.{ℕ, List, ◌≡◌, ◌<◌, Bool, true, false, not, ◌&&◌, ◌||◌, nat_lt, refl, sym, ◌∙◌, ap, arith, rules, inl, inr, Some, None}
 use Rattle.std.specs.Prelude.{if◌then◌else◌}
 use Rattle.std.proofs.lemmas.Bool.Decides.{nat_tests, eqb_tells, Decides-ltb}
 use Rattle.std.specs.Cmp.{unsigned_tied}

@@ -1,5 +1,5 @@
 -- What a target does before a track of its source changes.
-use Rattle.std.proofs.Common.{ℕ, ◌≡◌, ◌≢◌, Bool, true, false, not, ◌&&◌, cond, List, ◌∷◌, nat_eq, refl, sym, ◌∙◌, ap, subst, Option}
+use Rattle.std.proofs.Common.{ℕ, ◌≡◌, ◌≢◌, Bool, true, false, not, ◌&&◌, cond, List, refl, sym, ◌∙◌, ap, Option}
 use Rattle.std.specs.Prelude.{if◌then◌else◌}
 use Rattle.std.specs.FinSet.{contains}
 use Rattle.dr_ids.specs.declared.refusal.Refusal.{Refusal}
@@ -9,12 +9,11 @@ use Rattle.dr_model.specs.declared.event.Event.{Event}
 use Rattle.dr_model.specs.Control.{World}
 use Rattle.dr_model.specs.Layout as layout
 use Rattle.dr_model.specs.Moves.{Keep, Note}
-use Rattle.dr_model.specs.Carry.{Make, Do, Pass, Next, Entry, now}
+use Rattle.dr_model.specs.Carry.{Make, Do, Pass, Entry, now}
 use Rattle.dr_model.specs.Entries.{keep_on, keep_if, copies_from}
 use Rattle.dr_volume.specs.declared.fields.Fields.{Fields}
 use Rattle.dr_volume.specs.Plain.{plain}
 use Rattle.dr_volume.specs.View.{Rest, volume_seen}
-use Rattle.dr_volume.specs.Update.{IsAsBefore, OthersStay}
 use Rattle.dr_flash.specs.Here.{seen}
 use Rattle.dr_flash.specs.Turns.{Advances, Halts}
 use Rattle.dr_flash.proofs.EndsLemmas.{ends-skips, ends-alike}

@@ -12,3 +12,5 @@ pub mod KeepLemmas
 pub mod CopyLemmas
 pub mod StandingLemmas
 pub mod CheckLemmas
+pub mod FetchLemmas
+pub mod WriteLemmas

@@ -5,7 +5,7 @@ use Rattle.dr_model.specs.declared.event.Event.{Event}
 use Rattle.dr_model.specs.Layout.{Fields}
 use Rattle.dr_model.specs.Control.{World}
 use Rattle.dr_model.specs.Moves.{Carried, moved, updated}
-use Rattle.dr_model.specs.Carry.{update, ended, Ended, Turn, pass, writes, counts_by, spent, off}
+use Rattle.dr_model.specs.Carry.{update, ended, Ended, pass, writes, counts_by, spent, off}
 use Rattle.dr_model.proofs.Images.{at_same}
 use Rattle.dr_volume.specs.Update.{EndsAs}
 use Rattle.dr_flash.specs.declared.told.Telling.{Telling}

@@ -1,7 +1,7 @@
 -- Each kind of move: its fields are lawful and leave the relationships fitting, and what it tells.
-use Rattle.std.proofs.Common.{ℕ, List, ◌≡◌, ◌≢◌, ◌<◌, Bool, true, false, not, ◌&&◌, refl, sym, ◌∙◌, ap, subst, None, Some}
+use Rattle.std.proofs.Common.{ℕ, List, ◌≡◌, ◌≢◌, ◌<◌, Bool, true, false, not, ◌&&◌, refl, sym, ◌∙◌, subst, None, Some}
 use Rattle.std.specs.Prelude.{is_some}
-use Rattle.std.specs.FinSet.{contains, insert, remove}
+use Rattle.std.specs.FinSet.{insert, remove}
 use Rattle.dr_plant.specs.State.{PlantState}
 use Rattle.dr_config.specs.Table.{Table, place_of}
 use Rattle.dr_model.specs.declared.event.Event.TheVariants.{Copied, Set}
@@ -9,13 +9,11 @@ use Rattle.dr_model.specs.Layout.{Fields}
 use Rattle.dr_model.specs.Lawful.{IsLawful, HasSets}
 use Rattle.dr_model.specs.Control.{Volume}
 use Rattle.dr_model.specs.Moves.{Carried, Keep, Note, Fetch, Relate, Withdraw, Overwrite, fields_left}
-use Rattle.dr_model.specs.Relations.{Choices, is_whole, parted_if, closed, fetched, noted, rewritten, made, withdrawn_if}
+use Rattle.dr_model.specs.Relations.{Choices, is_whole, parted_if, closed, fetched, noted, rewritten, withdrawn_if}
 use Rattle.dr_volume.specs.View.{volume_seen}
 use Rattle.dr_volume.specs.Update.{Covers}
 use Rattle.dr_flash.specs.Fit.{SourceFits, RelationsFit, LeavesFit}
-use Rattle.dr_flash.specs.Told.{events_of}
 use Rattle.dr_flash.specs.declared.told.Told.TheVariants.{Nothing, One, Blanked}
-use Rattle.dr_flash.specs.declared.told.Telling.{Telling}
 use Rattle.dr_flash.proofs.FitLemmas.{fit-kept}
 use Rattle.dr_flash.proofs.FieldLemmas.{lawful-fetched, lawful-noted, lawful-rewritten, lawful-closed, lawful-made, lawful-withdrawn, Apart, apart-fetched, apart-empty, apart-parted, covers-all, covers-rest, covers-carried}
 use Rattle.dr_flash.proofs.TurnLemmas.{Tells}

@@ -1,5 +1,5 @@
 -- A read of a volume's device, where it failed and where it passed.
-use Rattle.std.proofs.Common.{ℕ, ◌≡◌, ◌≤◌, ◌<◌, Bool, true, false, ◌&&◌, List, [], ◌∷◌, ◌++◌, refl, sym, ◌∙◌, ap, subst, nat_lt, arith, Option, None, Some}
+use Rattle.std.proofs.Common.{ℕ, ◌≡◌, ◌≤◌, ◌<◌, true, false, ◌&&◌, List, [], ◌∷◌, ◌++◌, refl, sym, ◌∙◌, ap, subst, nat_lt, arith, Some}
 use Rattle.std.specs.Prelude.{is_some, if◌then◌else◌}
 use Rattle.dr_bits.specs.Membership.{lt_true}
 use Rattle.dr_plant.specs.State.{PlantState, after_read, can_read}
@@ -9,8 +9,8 @@ use Rattle.dr_model.specs.declared.event.Event.{Event}
 use Rattle.dr_model.specs.declared.event.Event.TheVariants.{Stopped}
 use Rattle.dr_model.specs.Control.{World}
 use Rattle.dr_model.specs.Refusals.{stopped}
-use Rattle.dr_model.specs.ReadStops.{shut, GoesOff}
-use Rattle.dr_volume.specs.View.{Rest, world, volume_seen, track_seen, device_of, on_seen}
+use Rattle.dr_model.specs.ReadStops.{GoesOff}
+use Rattle.dr_volume.specs.View.{Rest, volume_seen, track_seen, device_of, on_seen}
 use Rattle.dr_volume.specs.Update.{IsAsBefore}
 use Rattle.dr_volume.proofs.UnreadLaws.{Unread, unread}
 use Rattle.dr_flash.specs.Here.{seen, armed_in, IsAtRest}

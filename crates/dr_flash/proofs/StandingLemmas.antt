@@ -1,5 +1,5 @@
 -- The targets of a volume, from one volume of the configuration to the next.
-use Rattle.std.proofs.Common.{ℕ, zero, suc, ◌≡◌, ◌≤◌, ◌<◌, ◌+◌, Bool, true, false, not, ◌&&◌, ◌||◌, cond, List, [], ◌∷◌, drop, length, map, slice_get, nat_lt, nat_eq, arith, refl, sym, ◌∙◌, ap, subst, Option, Some, None}
+use Rattle.std.proofs.Common.{ℕ, suc, ◌≡◌, ◌≤◌, ◌+◌, Bool, true, false, ◌&&◌, ◌||◌, cond, List, [], ◌∷◌, drop, length, slice_get, nat_lt, arith, refl, sym, ◌∙◌, ap, Some}
 use Rattle.std.specs.Prelude.{option_map, filter, if◌then◌else◌}
 use Rattle.std.specs.List.{list_any}
 use Rattle.std.proofs.Math.Numerals.{suc-eq-add-one}
@@ -71,14 +71,14 @@ last-seen true n m e = refl
 last-seen false n m e = ap (λ x. if x then Source else Unrelated) e
 
 module _ (s : PlantState) (t : Table) (r : Rest) (events : List Event) (v : ℕ) (f : Fields) (all : Targets) (shows : f ≡ (volume_seen s t v).fields)
-  (count : all.count ≡ length (targets_in s t v)) (revertible : all.revertible ≡ any_of is_revertible s t v) (reversing : all.reversing ≡ any_of is_reversing s t v) where
+    (count : all.count ≡ length (targets_in s t v)) (revertible : all.revertible ≡ any_of is_revertible s t v) (reversing : all.reversing ≡ any_of is_reversing s t v) where
   pub relation-is : relation_of f all ≡ relation_seen (seen s t r events).control v
   relation-is =
       (λ i. if (f.related && f.revertible) || revertible i then Revertible
-          else if (f.related && f.reversing) || reversing i then Reversing
-          else last-seen f.related (nat_lt 0 all.count) (list_any (λ u. true) (targets_in s t v)) (ap (nat_lt 0) count ∙ any-count (targets_in s t v)) i)
+      else if (f.related && f.reversing) || reversing i then Reversing
+      else last-seen f.related (nat_lt 0 all.count) (list_any (λ u. true) (targets_in s t v)) (ap (nat_lt 0) count ∙ any-count (targets_in s t v)) i)
       ∙ (λ i. if ((shows i).related && (shows i).revertible) || any_of is_revertible s t v then Revertible
-          else if ((shows i).related && (shows i).reversing) || any_of is_reversing s t v then Reversing
-          else if (shows i).related then Target
-          else if ((shows i).related && true) || list_any (λ u. true) (targets_in s t v) then Source
-          else Unrelated)
+      else if ((shows i).related && (shows i).reversing) || any_of is_reversing s t v then Reversing
+      else if (shows i).related then Target
+      else if ((shows i).related && true) || list_any (λ u. true) (targets_in s t v) then Source
+      else Unrelated)

@@ -1,6 +1,6 @@
 -- The events of a relationship that has ended, track by track.
-use Rattle.std.proofs.Common.{ℕ, zero, suc, ◌≡◌, ◌<◌, ◌≤◌, ◌+◌, ◌-◌, Bool, true, false, not, ◌&&◌, List, [], ◌∷◌, ◌++◌, length, map, arith, sym, ◌∙◌, ap, refl, nat_lt, cond}
-use Rattle.std.specs.Prelude.{filter}
+use Rattle.std.proofs.Common.{ℕ, zero, suc, ◌≡◌, ◌<◌, ◌≤◌, ◌+◌, ◌-◌, Bool, true, false, not, ◌&&◌, List, [], ◌∷◌, ◌++◌, length, map, arith, sym, ◌∙◌, ap, cond}
+use Rattle.std.specs.Prelude.{filter, max}
 use Rattle.std.specs.List.{range_with_len}
 use Rattle.std.specs.FinSet.{contains}
 use Rattle.std.proofs.lemmas.List.{append_assoc, append-nil}
@@ -45,3 +45,19 @@ told-more xs ys all e left more is told h =
 
 pub told-all : (xs all left : List Event) → left ≡ [] → xs ++ left ≡ all → xs ≡ all
 told-all xs all left none h = sym (append-nil xs) ∙ ap (λ zs. xs ++ zs) (sym none) ∙ h
+
+-- at most an event for each track
+few-blanked : (f : ℕ → Bool) (v a n : ℕ) → length (map (Blanked v) (filter f (range_with_len a n))) ≤ n
+few-blanked f v a zero = omega arith
+few-blanked f v a (suc n) = more (f a) (few-blanked f v (a + 1) n)
+  where
+    more : (b : Bool) → length (map (Blanked v) (filter f (range_with_len (a + 1) n))) ≤ n → length (map (Blanked v) (cond b (a ∷ filter f (range_with_len (a + 1) n)) (filter f (range_with_len (a + 1) n)))) ≤ suc n
+    more true h = omega (arith, h)
+    more false h = omega (arith, h)
+
+pub few-told : (v n : ℕ) (own : Tracks) → length (told_blank v n own) ≤ n
+unfolding in_order
+few-told v n own = few-blanked (contains (rest n own)) v 0 n
+
+pub room-blanked : (v n : ℕ) (own : Tracks) → max (length (told_blank v n own)) (length (told_blank v n own) + 1) ≤ n + 1
+room-blanked v n own = let h = few-told v n own in omega (arith, h)

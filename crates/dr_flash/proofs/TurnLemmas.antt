@@ -1,5 +1,5 @@
 -- A move as an entry of a plan, from what was made of its volume.
-use Rattle.std.proofs.Common.{ℕ, ◌≡◌, ◌⊎◌, inl, inr, Bool, true, false, not, List, [], ◌∷◌, ◌++◌, cond, refl, sym, ◌∙◌, ap, Option, Some, None}
+use Rattle.std.proofs.Common.{ℕ, ◌≡◌, ◌⊎◌, inl, inr, Bool, true, false, not, List, [], ◌∷◌, ◌++◌, cond, refl, ◌∙◌, ap, Option, Some, None}
 use Rattle.std.specs.Prelude.{if◌then◌else◌, Result, Ok, Err, OnOk, OnErr, is_err}
 use Rattle.std.specs.Result.{IsErrAnd}
 use Rattle.dr_flash.specs.Here.{refusal_of}
@@ -10,8 +10,8 @@ use Rattle.dr_model.specs.Refusals.{stopped}
 use Rattle.dr_model.specs.Layout.{Fields}
 use Rattle.dr_model.specs.Control.{Pending, Volume, World}
 use Rattle.dr_model.specs.Moves.{Move, Carried, target, next_fields, carried, told, told_in_stop, landed, settled, settled_in_stop}
-use Rattle.dr_model.specs.Carry.{turn, turn_ended, update, finished, cut_short, Ended, Turn, Make, Do, Entry, now}
-use Rattle.dr_model.specs.ReadStops.{GoesOff, Ends}
+use Rattle.dr_model.specs.Carry.{turn, turn_ended, update, finished, cut_short, Ended, Make, Entry, now}
+use Rattle.dr_model.specs.ReadStops.{GoesOff}
 use Rattle.dr_model.proofs.CarryLemmas.{act-move}
 use Rattle.dr_flash.specs.declared.told.Telling.{Telling}
 use Rattle.dr_flash.specs.Told.{events_of}

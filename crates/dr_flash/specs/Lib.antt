@@ -6,3 +6,4 @@ pub mod Told
 pub mod Turns
 pub mod Standing
 pub mod Checks
+pub mod Writes

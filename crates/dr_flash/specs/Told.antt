@@ -1,5 +1,5 @@
 -- What the journal is told of a move.
-use Rattle.std.specs.Prelude.{ℕ, List, [], ◌∷◌}
+use Rattle.std.specs.Prelude.{List, [], ◌∷◌}
 use Rattle.dr_model.specs.declared.event.Event.{Event}
 use Rattle.dr_model.specs.Moves.{told_blank, told_restored}
 use Rattle.dr_flash.specs.declared.told.Told.{Told}

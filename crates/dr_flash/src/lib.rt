@@ -2,25 +2,33 @@
 #![tactic(auto)]
 
 mod acts;
+mod ending;
+mod fetching;
 mod fields;
 mod keep;
 mod keeping;
+mod making;
 mod options;
 mod place;
 mod reads;
 mod sets;
 mod standing;
 mod told;
+mod writing;
 
 pub use acts::shift;
+pub use ending::withdraw;
+pub use fetching::{copy_step, read_target};
 pub use fields::{
     closed, fetched, given_up, made, noted, restored, resynced, rewritten, turned, withdrawn,
 };
 pub use keep::keep_on;
 pub use keeping::copy_first;
+pub use making::establish;
 pub use options::Options;
 pub use place::{server_of, tracks_of};
 pub use reads::{open_told, read_told};
 pub use sets::{is_whole, lowest, rest};
 pub use standing::relation_state;
 pub use told::{Telling, Told};
+pub use writing::{write_source, write_source_telling, write_target};

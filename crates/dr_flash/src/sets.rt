@@ -1,6 +1,6 @@
 //! Sets of a volume's tracks.
 
-ghost use Rattle.std.specs.Prelude.{◌≡◌, ◌≤◌};
+ghost use Rattle.std.specs.Prelude.{◌≡◌, ◌≤◌, ◌<◌, IfSome};
 ghost use Rattle.dr_model.specs.Relations as relations;
 
 use dr_bits::TrackSet;
@@ -25,7 +25,8 @@ pub fn is_whole(n: u16, own: &TrackSet) -> bool
 
 /// The lowest track of a set that is below n, if there is one.
 pub fn lowest(n: u16, s: &TrackSet) -> Option<u16>
-    ensures { result ≡ relations.lowest n s.now }
+    ensures lowest { result ≡ relations.lowest n s.now }
+    ensures within { IfSome result (λ t. t < n) }
 {
     match s.first_from(0) {
         Some(t) if t < n => Some(t),

@@ -1,14 +1,12 @@
 //! In which relationships a volume stands.
 
-ghost use Rattle.std.specs.Prelude.{◌≡◌, ℕ, ◌+◌, ◌<◌, ◌≤◌, Bool, ◌&&◌, ◌||◌, false, Some, List, length, IsSome, if◌then◌else◌};
-
+ghost use Rattle.std.specs.Prelude.{◌≡◌, ℕ, ◌+◌, ◌<◌, ◌≤◌, Bool, not, ◌&&◌, ◌||◌, false, Some, List, length, IsSome, if◌then◌else◌};
 ghost use Rattle.dr_config.specs.Table.{StandsFor, place_of};
 ghost use Rattle.dr_model.specs.Entries as entries;
 ghost use Rattle.dr_model.specs.Entries.{copies_from, is_revertible, is_reversing};
 ghost use Rattle.dr_model.specs.declared.event.Event.{Event};
 ghost use Rattle.dr_volume.specs.Plain.{plain};
 ghost use Rattle.dr_volume.specs.View.{Rest};
-
 ghost use Rattle.dr_flash.specs.Checks.{is_stop};
 ghost use Rattle.dr_flash.specs.Here.{seen};
 ghost use Rattle.dr_flash.specs.Standing.{targets_in, any_of, relation_of};
@@ -93,4 +91,22 @@ pub fn relation_state<P: Plant>(p: &P, c: &Config, v: VolumeId) -> Refusal
         volume: v,
         found: relation_by(&fields, look_at_targets(p, c, v)),
     }
+}
+
+/// Whether a volume stands in no revertible and no reversing relationship.
+pub(crate) fn is_settled<P: Plant>(p: &P, c: &Config, v: VolumeId) -> bool
+    requires stands { StandsFor c.now (P.state p.now) }
+    requires defined { IsSome (place_of c.now v.0) }
+    ensures { (r : Rest) (events : List Event) → result ≡ entries.is_settled v.0 (seen (P.state p.now) c.now r events).control }
+{
+    let f = peek_fields(p, c, v);
+    let all = look_at_targets(p, c, v);
+    is_settled_by(&f, all)
+}
+
+fn is_settled_by(f: &Fields, all: Targets) -> bool
+    ensures { result ≡ (not ((f.now.related && f.now.revertible) || all.revertible) && not ((f.now.related && f.now.reversing) || all.reversing)) }
+{
+    !((f.related && f.revertible) || all.revertible)
+        && !((f.related && f.reversing) || all.reversing)
 }

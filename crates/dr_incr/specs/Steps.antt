@@ -1,18 +1,17 @@
 -- What remains of the plans of a resynchronization and of a restore where both volumes are known, and when a restore may
 -- begin.
-use Rattle.std.specs.Prelude.{◌≡◌, ℕ, Bool, true, ◌||◌, List, [], ◌∷◌, ◌++◌, map, Option}
+use Rattle.std.specs.Prelude.{ℕ, List, [], ◌∷◌, ◌++◌, map, Option}
 use Rattle.dr_model.specs.Layout.{Fields}
 use Rattle.dr_model.specs.Laws.{SetsFit}
-use Rattle.dr_model.specs.Refusals.{server_off}
 use Rattle.dr_model.specs.Control.{Control}
 use Rattle.dr_model.specs.Moves.{Resync, Reverse}
 use Rattle.dr_model.specs.Carry.{Entry, now, check}
-use Rattle.dr_model.specs.Entries.{is_running, relation_state, keep_on, for_lowest}
-use Rattle.dr_model.specs.Plans.{is_recorded_target, is_lone_restore}
+use Rattle.dr_model.specs.Entries.{relation_state, keep_on, for_lowest}
+use Rattle.dr_model.specs.Plans.{running_check, is_recorded_target, is_lone_restore}
 
 -- the server of s is on, and t is a target of s whose changes are recorded
 abbrev pub resync_checks : Control → ℕ → ℕ → List Entry
-resync_checks k s t = check (is_running s) (server_off (k.volume s).server) ∷ check (is_recorded_target s t) (relation_state k t) ∷ []
+resync_checks k s t = running_check k s ∷ check (is_recorded_target s t) (relation_state k t) ∷ []
 
 abbrev pub resync_entries : Control → ℕ → ℕ → Option ℕ → List Entry
 resync_entries k s t sequence = resync_checks k s t ++ now (Resync t sequence) ∷ []

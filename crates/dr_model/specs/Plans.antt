@@ -282,13 +282,20 @@ is_owner (Some name) v k = is_at (server_named k (name_bytes name)) (k.volume v)
 abbrev pub is_defined : ℕ → Control → Bool
 is_defined v k = is_volume k v
 
--- the two volumes of a relationship are there, the first on the server that may be named, and that server is on
-abbrev pub named_pair : Control → Option Name → ℕ → ℕ → List Entry
-named_pair k dev s t =
+-- the two volumes of a relationship are there, the first on the server that may be named
+abbrev pub found_pair : Option Name → ℕ → ℕ → List Entry
+found_pair dev s t =
     check (is_defined s) (unknown OfVolume)
     ∷ check (is_defined t) (unknown OfVolume)
-    ∷ check (is_owner dev s) (unknown OfServer)
-    ∷ check (is_running s) (server_off (k.volume s).server) ∷ []
+    ∷ check (is_owner dev s) (unknown OfServer) ∷ []
+
+-- the server of a volume is on
+abbrev pub running_check : Control → ℕ → Entry
+running_check k s = check (is_running s) (server_off (k.volume s).server)
+
+-- and that server is on
+abbrev pub named_pair : Control → Option Name → ℕ → ℕ → List Entry
+named_pair k dev s t = found_pair dev s t ++ running_check k s ∷ []
 
 abbrev pub differ : ℕ → ℕ → Control → Bool
 differ s t k = not (nat_eq s t)
@@ -308,19 +315,24 @@ is_no_source v k = not (stands_in is_any k v)
 abbrev pub has_few_targets : ℕ → Control → Bool
 has_few_targets s k = nat_lt (length (targets_of k s)) most_targets
 
--- a relationship is made
-abbrev pub flash_plan : Control → Option Name → ℕ → ℕ → Choices → Plan
-flash_plan k dev s t choices = entries_plan
-    (named_pair k dev s t
-    ++ check (differ s t) (duplicate OfVolume)
-    ∷ check (share_server s t) (over OneServer)
-    ∷ check (share_size s t) (over Size)
-    ∷ check (is_no_target t) (relation_state k t)
+-- the two volumes differ, on one server and of one size
+abbrev pub alike_checks : ℕ → ℕ → List Entry
+alike_checks s t = check (differ s t) (duplicate OfVolume) ∷ check (share_server s t) (over OneServer) ∷ check (share_size s t) (over Size) ∷ []
+
+-- t stands in no relationship, and s may have one target more
+abbrev pub free_checks : Control → ℕ → ℕ → List Entry
+free_checks k s t =
+    check (is_no_target t) (relation_state k t)
     ∷ check (is_no_source t) (relation_state k t)
     ∷ check (is_no_target s) (relation_state k s)
-    ∷ check (has_few_targets s) (over Targets)
-    ∷ now (Relate t s choices) ∷ [])
-    (Done Alone)
+    ∷ check (has_few_targets s) (over Targets) ∷ []
+
+-- a relationship between two volumes that are there is made
+abbrev pub flash_entries : Control → ℕ → ℕ → Choices → List Entry
+flash_entries k s t choices = running_check k s ∷ alike_checks s t ++ free_checks k s t ++ now (Relate t s choices) ∷ []
+
+abbrev pub flash_plan : Control → Option Name → ℕ → ℕ → Choices → Plan
+flash_plan k dev s t choices = entries_plan (found_pair dev s t ++ flash_entries k s t choices) (Done Alone)
 
 -- t is a target of s, and neither revertible nor reversing
 abbrev pub is_plain_target : ℕ → ℕ → Control → Bool
@@ -330,9 +342,12 @@ is_plain_target s t k = copies_from s (fields_at k t) && (not (fields_at k t).re
 abbrev pub is_recorded_target : ℕ → ℕ → Control → Bool
 is_recorded_target s t k = is_plain_target s t k && (fields_at k t).recorded
 
--- a relationship is ended
+-- a relationship between two volumes that are there is ended
+abbrev pub withdraw_entries : Control → ℕ → ℕ → List Entry
+withdraw_entries k s t = running_check k s ∷ check (is_plain_target s t) (relation_state k t) ∷ now (Withdraw t) ∷ []
+
 abbrev pub withdraw_plan : Control → Option Name → ℕ → ℕ → Plan
-withdraw_plan k dev s t = entries_plan (named_pair k dev s t ++ check (is_plain_target s t) (relation_state k t) ∷ now (Withdraw t) ∷ []) (Done Alone)
+withdraw_plan k dev s t = entries_plan (found_pair dev s t ++ withdraw_entries k s t) (Done Alone)
 
 -- a target is made a copy of its source anew
 abbrev pub resync_plan : Control → Option Name → ℕ → ℕ → Option ℕ → Plan

@@ -1,6 +1,5 @@
-use Rattle.std.proofs.Common.{ap, sym, ◌∙◌, ◌≡◌, ◌++◌, not}
+use Rattle.std.proofs.Common.{ap, sym, ◌∙◌, ◌++◌, not}
 use mathlib.Core.Bool.{beq}
-use Rattle.dr_model.specs.Carry as machine
 use Rattle.dr_volume.specs.Plain.{plain}
 use Rattle.dr_volume.specs.View.{world}
 use Rattle.dr_flash.specs.Here.{seen}

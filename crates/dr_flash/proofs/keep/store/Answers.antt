@@ -1,19 +1,14 @@
-use Rattle.std.proofs.Common.{◌≡◌, ap, refl, sym, subst, ◌∙◌, List, ℕ, None, Some}
+use Rattle.std.proofs.Common.{ap, sym, subst, ◌∙◌, List, ℕ, Some}
 use Rattle.dr_model.specs.Layout.{Fields}
 use Rattle.dr_model.specs.Lawful.{IsLawful}
-use Rattle.dr_model.specs.Histories.{histories}
-use Rattle.dr_model.specs.Moves.{Keep, Carried, fields_left, carried}
+use Rattle.dr_model.specs.Moves.{Keep}
 use Rattle.dr_volume.specs.Plain.{plain}
-use Rattle.dr_volume.specs.Update.{Covers}
-use Rattle.dr_volume.specs.View.{Rest, volume_seen, track_seen}
-use Rattle.dr_flash.specs.Fit.{LeavesFit}
+use Rattle.dr_volume.specs.View.{volume_seen, track_seen}
 use Rattle.dr_flash.specs.Here.{seen, armed_in, refusal_of}
-use Rattle.dr_flash.specs.declared.told.Telling.{Telling}
 use Rattle.dr_flash.proofs.ReadLemmas.{on-running}
 use Rattle.dr_flash.proofs.TurnLemmas.{Tells, advances, halts, ok-along, err-along}
 use Rattle.dr_model.specs.Relations.{closed, fetched, noted}
 use Rattle.dr_flash.proofs.MoveLemmas.{MoveFits, keep-fits, tells-keep}
-use Rattle.dr_flash.proofs.keep.store.Given as given
 use Rattle.dr_flash.proofs.keep.store.Goals as goal
 
 pub shift-requires-clause-lawful : goal.shift-requires-clause-lawful

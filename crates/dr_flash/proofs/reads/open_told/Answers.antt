@@ -1,6 +1,5 @@
 use Rattle.std.proofs.Common.{ap, sym, ◌∙◌, subst, Some}
-use Rattle.dr_plant.specs.State.{PlantState, can_read}
-use Rattle.dr_plant.proofs.StateLemmas.{read_done}
+use Rattle.dr_plant.specs.State.{PlantState}
 use Rattle.dr_model.specs.ReadStops.{GoesOff}
 use Rattle.dr_flash.specs.Here.{seen, armed_in, IsAtRest}
 use Rattle.dr_flash.proofs.ReadLemmas.{left-unread, unread-rest, unread-gone, unread-rose, before-same}

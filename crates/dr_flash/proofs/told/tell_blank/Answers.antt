@@ -1,8 +1,6 @@
 use Rattle.std.proofs.Common.{arith, sym, ap, ◌∙◌, ◌++◌, ◌+◌, List, length}
 use Rattle.dr_model.specs.declared.event.Event.{Event}
-use Rattle.dr_model.specs.declared.event.Event.TheVariants.{Blanked}
-use Rattle.dr_model.specs.Moves.{told_blank}
-use Rattle.dr_flash.proofs.TellLemmas.{blanked_from, blanked-all, blanked-skips, blanked-goes, blanked-none, told-more, told-all}
+use Rattle.dr_flash.proofs.TellLemmas.{blanked-all, blanked-skips, blanked-goes, told-more}
 use Rattle.dr_flash.proofs.told.tell_blank.Goals as goal
 
 pub loop-track-init : goal.loop-track-init

@@ -11,7 +11,7 @@ use Rattle.dr_incr.proofs.StepLemmas.{none-back}
 use Rattle.dr_incr.proofs.restore.reverse_step.Goals as goal
 
 pub returns-in_default-clause-leads : goal.returns-in_default-clause-leads
-returns-in_default-clause-leads g c r = none-back (g.P.Plant.state c.args.p.now) c.args.c.now r c.args.j.now.events (volume_seen (g.P.Plant.state c.args.p.now) c.args.c.now c.args.t.0).fields.source c.args.t.0 (ids_of c.args.c.now.volumes) ((λ i. lowest (c.tracks_of.ensures.seen (g.P.Plant.state c.args.p.now) i) (sym c.peek_fields-fields.ensures.fields i).own) ∙ sym c.lowest.ensures ∙ c.in_default.is)
+returns-in_default-clause-leads g c r = none-back (g.P.Plant.state c.args.p.now) c.args.c.now r c.args.j.now.events (volume_seen (g.P.Plant.state c.args.p.now) c.args.c.now c.args.t.0).fields.source c.args.t.0 (ids_of c.args.c.now.volumes) ((λ i. lowest (c.tracks_of.ensures.seen (g.P.Plant.state c.args.p.now) i) (sym c.peek_fields-fields.ensures.fields i).own) ∙ sym c.lowest.ensures.lowest ∙ c.in_default.is)
 
 pub returns-in_default-clause-carried : goal.returns-in_default-clause-carried
 returns-in_default-clause-carried g c r = led (armed_in (g.P.Plant.state c.args.p.now)) (seen (g.P.Plant.state c.args.p.now) c.args.c.now r c.args.j.now.events) (seen (g.P.Plant.state c.args.p.now) c.args.c.now r c.args.j.now.events) (give_back (ids_of c.args.c.now.volumes) (volume_seen (g.P.Plant.state c.args.p.now) c.args.c.now c.args.t.0).fields.source c.args.t.0) (returns-in_default-clause-leads g c r)

@@ -1,0 +1,59 @@
+use Rattle.dr_flash.specs.Turns.{room_of}
+use Rattle.dr_flash.proofs.TellLemmas.{room-blanked}
+use Rattle.std.proofs.Common.{arith, ap, refl, sym, subst, ◌∙◌, None}
+use Rattle.dr_model.specs.Layout.{Fields}
+use Rattle.dr_model.specs.Lawful.{IsLawful}
+use Rattle.dr_model.specs.Moves.{Withdraw}
+use Rattle.dr_volume.specs.Plain.{plain}
+use Rattle.dr_volume.specs.View.{volume_seen}
+use Rattle.dr_flash.specs.Here.{seen, armed_in, refusal_of}
+use Rattle.dr_flash.proofs.ReadLemmas.{on-running}
+use Rattle.dr_flash.proofs.TurnLemmas.{Tells, advances, halts, ok-along, err-along}
+use Rattle.std.proofs.Common.{true}
+use Rattle.dr_model.specs.Relations.{withdrawn_if}
+use Rattle.dr_flash.specs.declared.told.Told.TheVariants.{Blanked}
+use Rattle.dr_flash.proofs.MoveLemmas.{MoveFits, withdraw-fits, tells-withdraw}
+use Rattle.dr_flash.proofs.ending.part.Goals as goal
+
+pub shift-requires-clause-lawful : goal.shift-requires-clause-lawful
+shift-requires-clause-lawful g c = (let s = g.P.Plant.state c.args.p.now in let t = c.args.c.now in subst (λ f. MoveFits s t c.args.t.0 f None) (sym (c.withdrawn-next.ensures ∙ (λ i. withdrawn_if true (sym (c.tracks_of-tracks.ensures.seen (g.P.Plant.state c.args.p.now)) i) (c.requires.shows.fields i)))) (withdraw-fits s t c.args.t.0 c.requires.fit (subst (λ (f : Fields). IsLawful (volume_seen s t c.args.t.0).tracks f) c.requires.shows.fields c.requires.shows.lawful))).lawful
+
+pub shift-requires-clause-leaves : goal.shift-requires-clause-leaves
+shift-requires-clause-leaves g c = (let s = g.P.Plant.state c.args.p.now in let t = c.args.c.now in subst (λ f. MoveFits s t c.args.t.0 f None) (sym (c.withdrawn-next.ensures ∙ (λ i. withdrawn_if true (sym (c.tracks_of-tracks.ensures.seen (g.P.Plant.state c.args.p.now)) i) (c.requires.shows.fields i)))) (withdraw-fits s t c.args.t.0 c.requires.fit (subst (λ (f : Fields). IsLawful (volume_seen s t c.args.t.0).tracks f) c.requires.shows.fields c.requires.shows.lawful))).leaves
+
+pub shift-requires-clause-covers : goal.shift-requires-clause-covers
+shift-requires-clause-covers g c = (let s = g.P.Plant.state c.args.p.now in let t = c.args.c.now in subst (λ f. MoveFits s t c.args.t.0 f None) (sym (c.withdrawn-next.ensures ∙ (λ i. withdrawn_if true (sym (c.tracks_of-tracks.ensures.seen (g.P.Plant.state c.args.p.now)) i) (c.requires.shows.fields i)))) (withdraw-fits s t c.args.t.0 c.requires.fit (subst (λ (f : Fields). IsLawful (volume_seen s t c.args.t.0).tracks f) c.requires.shows.fields c.requires.shows.lawful))).covers
+
+pub returns-clause-advances : goal.returns-clause-advances
+returns-clause-advances g c =
+    let s = g.P.Plant.state c.args.p.now in
+    let t = c.args.c.now in
+    let x = volume_seen s t c.args.t.0 in
+    ok-along c.shift.result c.shift.ensures.done (λ done r.
+    advances (seen s t r c.args.j.now.events) (Withdraw c.args.t.0) c.of-told.result (plain c.withdrawn-next.result) None (on-running s x.server c.requires.running)
+    (subst (λ y. Tells (Withdraw c.args.t.0) x y) (sym (c.of-told.ensures ∙ (λ i. record { done = Blanked c.args.t.0 (sym (c.tracks_of-tracks.ensures.seen (g.P.Plant.state c.args.p.now)) i) (c.requires.shows.fields i).own; in_stop = Blanked c.args.t.0 (sym (c.tracks_of-tracks.ensures.seen (g.P.Plant.state c.args.p.now)) i) (c.requires.shows.fields i).own; landed = 0 }))) (tells-withdraw c.args.t.0 x)) (sym (c.withdrawn-next.ensures ∙ (λ i. withdrawn_if true (sym (c.tracks_of-tracks.ensures.seen (g.P.Plant.state c.args.p.now)) i) (c.requires.shows.fields i)))) refl (seen (g.P.Plant.state c.shift.new.p) t r c.shift.new.j.events) (done r))
+
+pub returns-clause-halts : goal.returns-clause-halts
+returns-clause-halts g c =
+    let s = g.P.Plant.state c.args.p.now in
+    let t = c.args.c.now in
+    let x = volume_seen s t c.args.t.0 in
+    err-along c.shift.result c.shift.ensures.failed c.shift.ensures.refused (λ failed refused r.
+    halts (seen s t r c.args.j.now.events) (Withdraw c.args.t.0) c.of-told.result (plain c.withdrawn-next.result) None (on-running s x.server c.requires.running)
+    (subst (λ y. Tells (Withdraw c.args.t.0) x y) (sym (c.of-told.ensures ∙ (λ i. record { done = Blanked c.args.t.0 (sym (c.tracks_of-tracks.ensures.seen (g.P.Plant.state c.args.p.now)) i) (c.requires.shows.fields i).own; in_stop = Blanked c.args.t.0 (sym (c.tracks_of-tracks.ensures.seen (g.P.Plant.state c.args.p.now)) i) (c.requires.shows.fields i).own; landed = 0 }))) (tells-withdraw c.args.t.0 x)) (sym (c.withdrawn-next.ensures ∙ (λ i. withdrawn_if true (sym (c.tracks_of-tracks.ensures.seen (g.P.Plant.state c.args.p.now)) i) (c.requires.shows.fields i)))) refl (armed_in s) (seen (g.P.Plant.state c.shift.new.p) t r c.shift.new.j.events) (refusal_of c.shift.result) refused (failed r))
+
+pub shift-requires-clause-room : goal.shift-requires-clause-room
+shift-requires-clause-room g c =
+    let e = ap room_of c.of-told.ensures in
+    let h = room-blanked c.args.t.0 c.tracks_of-tracks.result c.args.f.now.own in
+    let few = c.tracks_of-tracks.ensures.few in
+    let room = c.requires.room in
+    omega (arith, e, h, few, room)
+
+pub returns-clause-room : goal.returns-clause-room
+returns-clause-room g c =
+    let e = ap room_of c.of-told.ensures in
+    let h = room-blanked c.args.t.0 c.tracks_of-tracks.result c.args.f.now.own in
+    let few = c.tracks_of-tracks.ensures.few in
+    let room = c.shift.ensures.room in
+    omega (arith, e, h, few, room)

@@ -1,0 +1,40 @@
+use Rattle.std.proofs.Common.{ap, refl, sym, subst, ◌∙◌, None}
+use Rattle.dr_model.specs.Layout.{Fields}
+use Rattle.dr_model.specs.Lawful.{IsLawful}
+use Rattle.dr_model.specs.Moves.{Relate}
+use Rattle.dr_volume.specs.Plain.{plain}
+use Rattle.dr_volume.specs.View.{volume_seen}
+use Rattle.dr_flash.specs.Here.{seen, armed_in, refusal_of}
+use Rattle.dr_flash.proofs.ReadLemmas.{on-running}
+use Rattle.dr_flash.proofs.TurnLemmas.{Tells, advances, halts, ok-along, err-along}
+use Rattle.dr_model.specs.Relations.{made}
+use Rattle.dr_flash.specs.Options.{choices}
+use Rattle.dr_flash.proofs.MoveLemmas.{MoveFits, relate-fits, tells-relate}
+use Rattle.dr_flash.proofs.making.relate.Goals as goal
+
+pub shift-requires-clause-lawful : goal.shift-requires-clause-lawful
+shift-requires-clause-lawful g c = (let s = g.P.Plant.state c.args.p.now in let t = c.args.c.now in subst (λ f. MoveFits s t c.args.t.0 f None) (sym (c.made-next.ensures ∙ ap (made c.args.s.0 (choices c.args.o.now)) c.peek_fields-fields.ensures.fields)) (relate-fits s t c.args.t.0 c.requires.fit (subst (λ (f : Fields). IsLawful (volume_seen s t c.args.t.0).tracks f) c.peek_fields-fields.ensures.fields c.peek_fields-fields.ensures.lawful) c.args.s.0 (choices c.args.o.now) c.requires.source c.requires.apart c.requires.lone)).lawful
+
+pub shift-requires-clause-leaves : goal.shift-requires-clause-leaves
+shift-requires-clause-leaves g c = (let s = g.P.Plant.state c.args.p.now in let t = c.args.c.now in subst (λ f. MoveFits s t c.args.t.0 f None) (sym (c.made-next.ensures ∙ ap (made c.args.s.0 (choices c.args.o.now)) c.peek_fields-fields.ensures.fields)) (relate-fits s t c.args.t.0 c.requires.fit (subst (λ (f : Fields). IsLawful (volume_seen s t c.args.t.0).tracks f) c.peek_fields-fields.ensures.fields c.peek_fields-fields.ensures.lawful) c.args.s.0 (choices c.args.o.now) c.requires.source c.requires.apart c.requires.lone)).leaves
+
+pub shift-requires-clause-covers : goal.shift-requires-clause-covers
+shift-requires-clause-covers g c = (let s = g.P.Plant.state c.args.p.now in let t = c.args.c.now in subst (λ f. MoveFits s t c.args.t.0 f None) (sym (c.made-next.ensures ∙ ap (made c.args.s.0 (choices c.args.o.now)) c.peek_fields-fields.ensures.fields)) (relate-fits s t c.args.t.0 c.requires.fit (subst (λ (f : Fields). IsLawful (volume_seen s t c.args.t.0).tracks f) c.peek_fields-fields.ensures.fields c.peek_fields-fields.ensures.lawful) c.args.s.0 (choices c.args.o.now) c.requires.source c.requires.apart c.requires.lone)).covers
+
+pub returns-clause-advances : goal.returns-clause-advances
+returns-clause-advances g c =
+    let s = g.P.Plant.state c.args.p.now in
+    let t = c.args.c.now in
+    let x = volume_seen s t c.args.t.0 in
+    ok-along c.shift.result c.shift.ensures.done (λ done r.
+    advances (seen s t r c.args.j.now.events) (Relate c.args.t.0 c.args.s.0 (choices c.args.o.now)) c.of-told.result (plain c.made-next.result) None (on-running s x.server c.requires.running)
+    (subst (λ y. Tells (Relate c.args.t.0 c.args.s.0 (choices c.args.o.now)) x y) (sym c.of-told.ensures) (tells-relate c.args.t.0 c.args.s.0 (choices c.args.o.now) x)) (sym (c.made-next.ensures ∙ ap (made c.args.s.0 (choices c.args.o.now)) c.peek_fields-fields.ensures.fields)) refl (seen (g.P.Plant.state c.shift.new.p) t r c.shift.new.j.events) (done r))
+
+pub returns-clause-halts : goal.returns-clause-halts
+returns-clause-halts g c =
+    let s = g.P.Plant.state c.args.p.now in
+    let t = c.args.c.now in
+    let x = volume_seen s t c.args.t.0 in
+    err-along c.shift.result c.shift.ensures.failed c.shift.ensures.refused (λ failed refused r.
+    halts (seen s t r c.args.j.now.events) (Relate c.args.t.0 c.args.s.0 (choices c.args.o.now)) c.of-told.result (plain c.made-next.result) None (on-running s x.server c.requires.running)
+    (subst (λ y. Tells (Relate c.args.t.0 c.args.s.0 (choices c.args.o.now)) x y) (sym c.of-told.ensures) (tells-relate c.args.t.0 c.args.s.0 (choices c.args.o.now) x)) (sym (c.made-next.ensures ∙ ap (made c.args.s.0 (choices c.args.o.now)) c.peek_fields-fields.ensures.fields)) refl (armed_in s) (seen (g.P.Plant.state c.shift.new.p) t r c.shift.new.j.events) (refusal_of c.shift.result) refused (failed r))

@@ -1,0 +1,109 @@
+//! Ending a relationship.
+
+ghost use Rattle.std.specs.Prelude.{◌≡◌, ℕ, ◌<◌, ◌≤◌, ◌+◌, Bool, true, false, not, ◌&&◌, None, Some, IsSome, OnOk, OnErr, is_err};
+ghost use Rattle.dr_config.specs.Table.{place_of};
+ghost use Rattle.dr_model.specs.Carry.{now};
+ghost use Rattle.dr_model.specs.Entries.{copies_from};
+ghost use Rattle.dr_model.specs.Moves.{Withdraw};
+ghost use Rattle.dr_model.specs.Plans.{withdraw_entries};
+ghost use Rattle.dr_model.specs.ReadStops.{Ends};
+ghost use Rattle.dr_model.specs.Refusals.{stopped};
+ghost use Rattle.dr_volume.specs.Plain.{plain};
+ghost use Rattle.dr_volume.specs.Update.{OthersStay};
+ghost use Rattle.dr_volume.specs.View.{Rest, volume_seen};
+ghost use Rattle.dr_volume.specs.Volume.{Shows};
+ghost use Rattle.dr_flash.specs.Checks.{is_stop};
+ghost use Rattle.dr_flash.specs.Faults.{Counted};
+ghost use Rattle.dr_flash.specs.Fit.{RelationsFit};
+ghost use Rattle.dr_flash.specs.Here.{seen, refusal_of, armed_in, IsAtRest};
+ghost use Rattle.dr_flash.specs.Turns.{Advances, Halts};
+
+use crate::acts::shift;
+use crate::fields::withdrawn;
+use crate::place::{server_of, tracks_of};
+use crate::standing::relation_state;
+use crate::told::{Telling, Told};
+use dr_config::Config;
+use dr_ids::{Refusal, VolumeId};
+use dr_model::Journal;
+use dr_plant::Plant;
+use dr_volume::{Fields, peek_fields};
+
+/// Whether a volume with these fields is a target of s, and neither revertible nor reversing.
+fn is_plain_target(f: &Fields, s: VolumeId) -> bool
+    ensures { result ≡ (copies_from s.0 (plain f.now) && (not f.now.revertible && not f.now.reversing)) }
+{
+    f.related && f.source.0 == s.0 && !f.revertible && !f.reversing
+}
+
+/// Ends the relationship of a target: the tracks that it doesn't hold read zeros.
+fn part<P: Plant>(
+    p: &mut P,
+    c: &Config,
+    j: &mut Journal,
+    t: VolumeId,
+    f: &Fields,
+) -> Result<(), Refusal>
+    requires rest { IsAtRest (P.state p.old) c.now }
+    requires fit { RelationsFit (P.state p.old) c.now }
+    requires defined { IsSome (place_of c.now t.0) }
+    requires running { (P.state p.old).on (volume_seen (P.state p.old) c.now t.0).server ≡ true }
+    requires shows { Shows (P.state p.old) c.now t.0 f.now }
+    requires room { 257 ≤ j.old.spare }
+    ensures advances { OnOk result ((r : Rest) → Advances (seen (P.state p.old) c.now r j.old.events) (now (Withdraw t.0)) (seen (P.state p.new) c.now r j.new.events)) }
+    ensures halts { OnErr result ((r : Rest) → Halts (armed_in (P.state p.old)) (seen (P.state p.old) c.now r j.old.events) (now (Withdraw t.0)) (seen (P.state p.new) c.now r j.new.events) (refusal_of result)) }
+    ensures refused { OnErr result (refusal_of result ≡ Some (stopped (volume_seen (P.state p.old) c.now t.0).server)) }
+    ensures rest { IsAtRest (P.state p.new) c.now }
+    ensures fit { RelationsFit (P.state p.new) c.now }
+    ensures unarmed { (q : ℕ) → (P.state p.old).read_fuse q ≡ None → (P.state p.new).read_fuse q ≡ None }
+    ensures faults { Counted (is_err result) (P.state p.old).faults (P.state p.new).faults }
+    ensures others { OthersStay (P.state p.old) (P.state p.new) c.now t.0 }
+    ensures on { OnOk result ((P.state p.new).on ≡ (P.state p.old).on) }
+    ensures room { j.old.spare ≤ j.new.spare + 257 }
+{
+    let tracks = tracks_of(c, t);
+    let next = withdrawn(tracks, f);
+    let told = Telling::of(Told::Blanked {
+        volume: t.0,
+        tracks,
+        own: f.own,
+    });
+    shift(p, c, j, t, &next, None, &told)
+}
+
+/// Ends the relationship of target t of s; the caller knows both volumes. The tracks that t doesn't hold read zeros from then
+/// on. Refused where the server of s is off, or else where t is no target of s, or one that is revertible or reversing.
+/// Fails too where the server stops in the move or goes off at a read. The journal needs room for 257 events: one for each
+/// track, and a stop.
+pub fn withdraw<P: Plant>(
+    p: &mut P,
+    c: &Config,
+    j: &mut Journal,
+    s: VolumeId,
+    t: VolumeId,
+) -> Result<(), Refusal>
+    requires rest { IsAtRest (P.state p.old) c.now }
+    requires fit { RelationsFit (P.state p.old) c.now }
+    requires source { IsSome (place_of c.now s.0) }
+    requires target { IsSome (place_of c.now t.0) }
+    requires room { 257 ≤ j.old.spare }
+    ensures carried { (r : Rest) → Ends (armed_in (P.state p.old)) (seen (P.state p.new) c.now r j.new.events) (refusal_of result) (seen (P.state p.old) c.now r j.old.events)
+        (withdraw_entries (seen (P.state p.old) c.now r j.old.events).control s.0 t.0) }
+    ensures rest { IsAtRest (P.state p.new) c.now }
+    ensures fit { RelationsFit (P.state p.new) c.now }
+    ensures unarmed { (q : ℕ) → (P.state p.old).read_fuse q ≡ None → (P.state p.new).read_fuse q ≡ None }
+    ensures faults { Counted (is_stop (refusal_of result)) (P.state p.old).faults (P.state p.new).faults }
+    ensures others { OthersStay (P.state p.old) (P.state p.new) c.now t.0 }
+    ensures on { OnOk result ((P.state p.new).on ≡ (P.state p.old).on) }
+    ensures room { j.old.spare ≤ j.new.spare + 257 }
+{
+    let server = server_of(c, s);
+    if !p.is_on(server.0) {
+        return Err(Refusal::ServerOff { server });
+    }
+    let fields = peek_fields(p, c, t);
+    if !is_plain_target(&fields, s) {
+        return Err(relation_state(p, c, t));
+    }
+    part(p, c, j, t, &fields)
+}

@@ -1,0 +1,190 @@
+//! The background copy, and what a target shows.
+
+ghost use Rattle.std.specs.Prelude.{◌≡◌, ℕ, ◌<◌, ◌≤◌, ◌+◌, Bool, true, false, None, Some, IsSome, IfSome, IfOk, OnOk, OnErr, is_ok, is_err, is_some, if◌then◌else◌, [], ◌∷◌};
+ghost use Rattle.dr_plant.specs.State.{after_read, can_read};
+ghost use Rattle.dr_config.specs.Table.{StandsFor, place_of};
+ghost use Rattle.dr_model.specs.Carry.{now};
+ghost use Rattle.dr_model.specs.Entries.{fetch_next, lowest_missing};
+ghost use Rattle.dr_model.specs.Moves.{Fetch};
+ghost use Rattle.dr_model.specs.ReadStops.{Ends};
+ghost use Rattle.dr_model.specs.Refusals.{stopped};
+ghost use Rattle.dr_model.specs.Relations as relations;
+ghost use Rattle.dr_model.specs.Views.{view, shows_source};
+ghost use Rattle.dr_volume.specs.Plain.{plain};
+ghost use Rattle.dr_volume.specs.Update.{OthersStay};
+ghost use Rattle.dr_volume.specs.View.{Rest, volume_seen, track_seen, device_of};
+ghost use Rattle.dr_volume.specs.Volume.{Shows};
+ghost use Rattle.dr_flash.specs.Faults.{Counted};
+ghost use Rattle.dr_flash.specs.Fit.{RelationsFit};
+ghost use Rattle.dr_flash.specs.Here.{seen, refusal_of, armed_in, IsAtRest};
+ghost use Rattle.dr_flash.specs.Turns.{Advances, Halts};
+
+use crate::acts::shift;
+use crate::fields::{closed, fetched};
+use crate::place::tracks_of;
+use crate::reads::read_told;
+use crate::sets::{lowest, rest};
+use crate::told::{Telling, Told};
+use dr_config::Config;
+use dr_ids::{Refusal, VolumeId};
+use dr_model::{Event, Journal};
+use dr_plant::{Block, Plant, Stopped};
+use dr_volume::{Fields, open, peek_fields, read_track};
+
+/// Whether a volume with these fields shows its source's track t.
+fn is_shown_by_source(f: &Fields, t: u16) -> bool
+    ensures { result ≡ shows_source (plain f.now) t }
+{
+    f.related && !f.own.contains(t)
+}
+
+/// Reads what a track of a volume shows: its own bytes where it is no target or holds the track, else its source's. Fails
+/// where the plant can't read its device; then `into` is as before.
+pub fn read_target<P: Plant>(
+    p: &mut P,
+    c: &Config,
+    v: VolumeId,
+    t: u16,
+    into: &mut Block,
+) -> Result<(), Stopped>
+    requires defined { IsSome (place_of c.now v.0) }
+    requires stands { StandsFor c.now (P.state p.old) }
+    requires fit { RelationsFit (P.state p.old) c.now }
+    requires within { t < (volume_seen (P.state p.old) c.now v.0).tracks }
+    ensures state { P.state p.new ≡ after_read (P.state p.old) (device_of c.now v.0) }
+    ensures done { is_ok result ≡ can_read (P.state p.old) (device_of c.now v.0) }
+    ensures bytes { OnOk result (into.new ≡ view (λ u. (volume_seen (P.state p.old) c.now u).fields) (track_seen (P.state p.old) c.now) v.0 t) }
+    ensures same { OnErr result (into.new ≡ into.old) }
+{
+    let opened = open(p, c, v)?;
+    if is_shown_by_source(opened.fields(), t) {
+        let source = opened.fields().source;
+        return read_track(p, c, source, t, into);
+    }
+    opened.read_track(p, c, v, t, into)
+}
+
+/// Stores at target u the bytes of track t of its source, as the background copy does.
+fn store_fetched<P: Plant>(
+    p: &mut P,
+    c: &Config,
+    j: &mut Journal,
+    u: VolumeId,
+    t: u16,
+    f: &Fields,
+    bytes: &Block,
+) -> Result<(), Refusal>
+    requires rest { IsAtRest (P.state p.old) c.now }
+    requires fit { RelationsFit (P.state p.old) c.now }
+    requires defined { IsSome (place_of c.now u.0) }
+    requires running { (P.state p.old).on (volume_seen (P.state p.old) c.now u.0).server ≡ true }
+    requires shows { Shows (P.state p.old) c.now u.0 f.now }
+    requires related { f.now.related ≡ true }
+    requires within { t < (volume_seen (P.state p.old) c.now u.0).tracks }
+    requires bytes { bytes.now ≡ track_seen (P.state p.old) c.now f.now.source.0 t }
+    requires room { 2 ≤ j.old.spare }
+    ensures advances { OnOk result ((r : Rest) → Advances (seen (P.state p.old) c.now r j.old.events) (now (Fetch u.0 t)) (seen (P.state p.new) c.now r j.new.events)) }
+    ensures halts { OnErr result ((r : Rest) → Halts (armed_in (P.state p.old)) (seen (P.state p.old) c.now r j.old.events) (now (Fetch u.0 t)) (seen (P.state p.new) c.now r j.new.events) (refusal_of result)) }
+    ensures refused { OnErr result (refusal_of result ≡ Some (stopped (volume_seen (P.state p.old) c.now u.0).server)) }
+    ensures rest { IsAtRest (P.state p.new) c.now }
+    ensures fit { RelationsFit (P.state p.new) c.now }
+    ensures unarmed { (q : ℕ) → (P.state p.old).read_fuse q ≡ None → (P.state p.new).read_fuse q ≡ None }
+    ensures faults { Counted (is_err result) (P.state p.old).faults (P.state p.new).faults }
+    ensures others { OthersStay (P.state p.old) (P.state p.new) c.now u.0 }
+    ensures on { OnOk result ((P.state p.new).on ≡ (P.state p.old).on) }
+    ensures room { j.old.spare ≤ j.new.spare + 2 }
+    ensures room_left { OnOk result (j.old.spare ≤ j.new.spare + 1) }
+{
+    let tracks = tracks_of(c, u);
+    let track = *bytes;
+    let next = closed(tracks, &fetched(f, t));
+    let told = Telling::of(Told::One(Event::Copied {
+        volume: u.0,
+        track: t,
+    }));
+    shift(p, c, j, u, &next, Some((t, track)), &told)
+}
+
+/// Target u takes track t of its source, as the background copy does.
+fn fetch<P: Plant>(
+    p: &mut P,
+    c: &Config,
+    j: &mut Journal,
+    u: VolumeId,
+    t: u16,
+    f: &Fields,
+) -> Result<(), Refusal>
+    requires rest { IsAtRest (P.state p.old) c.now }
+    requires fit { RelationsFit (P.state p.old) c.now }
+    requires defined { IsSome (place_of c.now u.0) }
+    requires running { (P.state p.old).on (volume_seen (P.state p.old) c.now u.0).server ≡ true }
+    requires shows { Shows (P.state p.old) c.now u.0 f.now }
+    requires related { f.now.related ≡ true }
+    requires within { t < (volume_seen (P.state p.old) c.now u.0).tracks }
+    requires room { 2 ≤ j.old.spare }
+    ensures advances { OnOk result ((r : Rest) → Advances (seen (P.state p.old) c.now r j.old.events) (now (Fetch u.0 t)) (seen (P.state p.new) c.now r j.new.events)) }
+    ensures halts { OnErr result ((r : Rest) → Halts (armed_in (P.state p.old)) (seen (P.state p.old) c.now r j.old.events) (now (Fetch u.0 t)) (seen (P.state p.new) c.now r j.new.events) (refusal_of result)) }
+    ensures refused { OnErr result (refusal_of result ≡ Some (stopped (volume_seen (P.state p.old) c.now u.0).server)) }
+    ensures rest { IsAtRest (P.state p.new) c.now }
+    ensures fit { RelationsFit (P.state p.new) c.now }
+    ensures unarmed { (q : ℕ) → (P.state p.old).read_fuse q ≡ None → (P.state p.new).read_fuse q ≡ None }
+    ensures faults { Counted (is_err result) (P.state p.old).faults (P.state p.new).faults }
+    ensures others { OthersStay (P.state p.old) (P.state p.new) c.now u.0 }
+    ensures on { OnOk result ((P.state p.new).on ≡ (P.state p.old).on) }
+    ensures room { j.old.spare ≤ j.new.spare + 2 }
+    ensures room_left { OnOk result (j.old.spare ≤ j.new.spare + 1) }
+{
+    let mut bytes = [0; 64];
+    read_told(p, c, j, f.source, t, &mut bytes)?;
+    store_fetched(p, c, j, u, t, f, &bytes)
+}
+
+/// The lowest track that a target of n tracks doesn't hold; none where the volume is no target.
+fn next_missing(n: u16, f: &Fields) -> Option<u16>
+    requires { n ≤ 256 }
+    ensures track { result ≡ (if f.now.related then relations.lowest n (relations.rest n f.now.own) else None) }
+    ensures related { IfSome result (λ t. f.now.related ≡ true) }
+    ensures within { IfSome result (λ t. t < n) }
+{
+    if f.related {
+        lowest(n, &rest(n, &f.own))
+    } else {
+        None
+    }
+}
+
+/// Copies one track of a volume whose server is on: the lowest that it doesn't hold yet, where it is a target. Says whether
+/// there was one. Fails where the server stops in the move or goes off at a read. The journal needs room for two events.
+pub fn copy_step<P: Plant>(
+    p: &mut P,
+    c: &Config,
+    j: &mut Journal,
+    v: VolumeId,
+) -> Result<bool, Refusal>
+    requires rest { IsAtRest (P.state p.old) c.now }
+    requires fit { RelationsFit (P.state p.old) c.now }
+    requires defined { IsSome (place_of c.now v.0) }
+    requires running { (P.state p.old).on (volume_seen (P.state p.old) c.now v.0).server ≡ true }
+    requires room { 2 ≤ j.old.spare }
+    ensures carried { (r : Rest) → Ends (armed_in (P.state p.old)) (seen (P.state p.new) c.now r j.new.events) (refusal_of result) (seen (P.state p.old) c.now r j.old.events) (fetch_next v.0 ∷ []) }
+    ensures advances { OnOk result ((r : Rest) → Advances (seen (P.state p.old) c.now r j.old.events) (fetch_next v.0) (seen (P.state p.new) c.now r j.new.events)) }
+    ensures halts { OnErr result ((r : Rest) → Halts (armed_in (P.state p.old)) (seen (P.state p.old) c.now r j.old.events) (fetch_next v.0) (seen (P.state p.new) c.now r j.new.events) (refusal_of result)) }
+    ensures left { IfOk result (λ found. (r : Rest) → found ≡ is_some (lowest_missing v.0 (seen (P.state p.old) c.now r j.old.events).control)) }
+    ensures refused { OnErr result (refusal_of result ≡ Some (stopped (volume_seen (P.state p.old) c.now v.0).server)) }
+    ensures rest { IsAtRest (P.state p.new) c.now }
+    ensures fit { RelationsFit (P.state p.new) c.now }
+    ensures unarmed { (q : ℕ) → (P.state p.old).read_fuse q ≡ None → (P.state p.new).read_fuse q ≡ None }
+    ensures faults { Counted (is_err result) (P.state p.old).faults (P.state p.new).faults }
+    ensures others { OthersStay (P.state p.old) (P.state p.new) c.now v.0 }
+    ensures on { OnOk result ((P.state p.new).on ≡ (P.state p.old).on) }
+    ensures room { j.old.spare ≤ j.new.spare + 2 }
+    ensures room_left { OnOk result (j.old.spare ≤ j.new.spare + 1) }
+{
+    let fields = peek_fields(p, c, v);
+    let tracks = tracks_of(c, v);
+    let Some(t) = next_missing(tracks, &fields) else {
+        return Ok(false);
+    };
+    fetch(p, c, j, v, t, &fields)?;
+    Ok(true)
+}

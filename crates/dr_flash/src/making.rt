@@ -1,0 +1,161 @@
+//! Making a relationship.
+
+ghost use Rattle.std.specs.Prelude.{◌≡◌, ◌≢◌, ℕ, ◌<◌, ◌≤◌, ◌+◌, List, true, false, None, Some, IsSome, OnOk, OnErr, is_err, is_some};
+ghost use Rattle.dr_plant.specs.State.{PlantState};
+ghost use Rattle.dr_config.specs.Table.{StandsFor, place_of};
+ghost use Rattle.dr_model.specs.declared.event.Event.{Event};
+ghost use Rattle.dr_model.specs.Carry.{now};
+ghost use Rattle.dr_model.specs.Moves.{Relate};
+ghost use Rattle.dr_model.specs.Plans.{alike_checks, free_checks, flash_entries};
+ghost use Rattle.dr_model.specs.ReadStops.{Ends};
+ghost use Rattle.dr_model.specs.Refusals.{stopped};
+ghost use Rattle.dr_volume.specs.Update.{OthersStay};
+ghost use Rattle.dr_volume.specs.View.{Rest, volume_seen};
+ghost use Rattle.dr_flash.specs.Checks.{Checked, OnNone, is_stop};
+ghost use Rattle.dr_flash.specs.Faults.{Counted};
+ghost use Rattle.dr_flash.specs.Fit.{SourceFits, RelationsFit};
+ghost use Rattle.dr_flash.specs.Here.{seen, refusal_of, armed_in, IsAtRest};
+ghost use Rattle.dr_flash.specs.Options.{choices};
+ghost use Rattle.dr_flash.specs.Turns.{Advances, Halts};
+
+use crate::acts::shift;
+use crate::fields::made;
+use crate::options::Options;
+use crate::place::{server_of, tracks_of};
+use crate::standing::{look_at_targets, relation_state};
+use crate::told::{Telling, Told};
+use dr_config::Config;
+use dr_ids::{Kind, Refusal, VolumeId, Which};
+use dr_model::{Event, Journal};
+use dr_plant::Plant;
+use dr_volume::peek_fields;
+
+/// How many targets a source has at most.
+const MOST_TARGETS: usize = 12;
+
+/// Why two volumes can't be source and target: they are one, or their servers or sizes differ.
+fn alike_refusal(c: &Config, s: VolumeId, t: VolumeId) -> Option<Refusal>
+    requires source { IsSome (place_of c.now s.0) }
+    requires target { IsSome (place_of c.now t.0) }
+    ensures checked { (x : PlantState) (r : Rest) (events : List Event) → Checked (seen x c.now r events) (alike_checks s.0 t.0) result }
+    ensures calm { is_stop result ≡ false }
+    ensures apart { OnNone result (s.0 ≢ t.0) }
+    ensures server { OnNone result ((x : PlantState) → (volume_seen x c.now t.0).server ≡ (volume_seen x c.now s.0).server) }
+    ensures size { OnNone result ((x : PlantState) → (volume_seen x c.now t.0).tracks ≡ (volume_seen x c.now s.0).tracks) }
+{
+    if s.0 == t.0 {
+        return Some(Refusal::Duplicate { kind: Kind::Volume });
+    }
+    if server_of(c, s).0 != server_of(c, t).0 {
+        return Some(Refusal::Limit {
+            which: Which::Server,
+        });
+    }
+    if tracks_of(c, s) != tracks_of(c, t) {
+        return Some(Refusal::Limit { which: Which::Size });
+    }
+    None
+}
+
+/// Why t can't become a target of s: t stands in a relationship, s is a target, or s has 12 targets.
+fn free_refusal<P: Plant>(p: &P, c: &Config, s: VolumeId, t: VolumeId) -> Option<Refusal>
+    requires stands { StandsFor c.now (P.state p.now) }
+    requires source { IsSome (place_of c.now s.0) }
+    requires target { IsSome (place_of c.now t.0) }
+    ensures checked { (r : Rest) (events : List Event) → Checked (seen (P.state p.now) c.now r events) (free_checks (seen (P.state p.now) c.now r events).control s.0 t.0) result }
+    ensures calm { is_stop result ≡ false }
+    ensures lone { OnNone result ((u : ℕ) → (volume_seen (P.state p.now) c.now u).fields.related ≡ true → (volume_seen (P.state p.now) c.now u).fields.source ≢ t.0) }
+    ensures plain { OnNone result ((volume_seen (P.state p.now) c.now s.0).fields.related ≡ false) }
+{
+    if peek_fields(p, c, t).related {
+        return Some(relation_state(p, c, t));
+    }
+    if look_at_targets(p, c, t).count > 0 {
+        return Some(relation_state(p, c, t));
+    }
+    if peek_fields(p, c, s).related {
+        return Some(relation_state(p, c, s));
+    }
+    if look_at_targets(p, c, s).count >= MOST_TARGETS {
+        return Some(Refusal::Limit {
+            which: Which::Targets,
+        });
+    }
+    None
+}
+
+/// Makes t, which stands in no relationship, a target of s.
+fn relate<P: Plant>(
+    p: &mut P,
+    c: &Config,
+    j: &mut Journal,
+    s: VolumeId,
+    t: VolumeId,
+    o: &Options,
+) -> Result<(), Refusal>
+    requires rest { IsAtRest (P.state p.old) c.now }
+    requires fit { RelationsFit (P.state p.old) c.now }
+    requires defined { IsSome (place_of c.now t.0) }
+    requires running { (P.state p.old).on (volume_seen (P.state p.old) c.now t.0).server ≡ true }
+    requires source { SourceFits (is_some (place_of c.now s.0)) (volume_seen (P.state p.old) c.now t.0) (volume_seen (P.state p.old) c.now s.0) }
+    requires apart { s.0 ≢ t.0 }
+    requires lone { (u : ℕ) → (volume_seen (P.state p.old) c.now u).fields.related ≡ true → (volume_seen (P.state p.old) c.now u).fields.source ≢ t.0 }
+    requires room { 2 ≤ j.old.spare }
+    ensures advances { OnOk result ((r : Rest) → Advances (seen (P.state p.old) c.now r j.old.events) (now (Relate t.0 s.0 (choices o.now))) (seen (P.state p.new) c.now r j.new.events)) }
+    ensures halts { OnErr result ((r : Rest) → Halts (armed_in (P.state p.old)) (seen (P.state p.old) c.now r j.old.events) (now (Relate t.0 s.0 (choices o.now))) (seen (P.state p.new) c.now r j.new.events) (refusal_of result)) }
+    ensures refused { OnErr result (refusal_of result ≡ Some (stopped (volume_seen (P.state p.old) c.now t.0).server)) }
+    ensures rest { IsAtRest (P.state p.new) c.now }
+    ensures fit { RelationsFit (P.state p.new) c.now }
+    ensures unarmed { (q : ℕ) → (P.state p.old).read_fuse q ≡ None → (P.state p.new).read_fuse q ≡ None }
+    ensures faults { Counted (is_err result) (P.state p.old).faults (P.state p.new).faults }
+    ensures others { OthersStay (P.state p.old) (P.state p.new) c.now t.0 }
+    ensures on { OnOk result ((P.state p.new).on ≡ (P.state p.old).on) }
+    ensures room { j.old.spare ≤ j.new.spare + 2 }
+{
+    let fields = peek_fields(p, c, t);
+    let next = made(s, o, &fields);
+    let told = Telling::of(Told::One(Event::Set {
+        volume: t.0,
+        from: s.0,
+    }));
+    shift(p, c, j, t, &next, None, &told)
+}
+
+/// Makes t a target of s; the caller knows both volumes. Refused, in this order, where the server of s is off, s and t are
+/// one, their servers or sizes differ, t is a target or a source, s is a target, or s has 12 targets. Fails too where the
+/// server stops in the move or goes off at a read. The journal needs room for two events.
+pub fn establish<P: Plant>(
+    p: &mut P,
+    c: &Config,
+    j: &mut Journal,
+    s: VolumeId,
+    t: VolumeId,
+    o: &Options,
+) -> Result<(), Refusal>
+    requires rest { IsAtRest (P.state p.old) c.now }
+    requires fit { RelationsFit (P.state p.old) c.now }
+    requires source { IsSome (place_of c.now s.0) }
+    requires target { IsSome (place_of c.now t.0) }
+    requires room { 2 ≤ j.old.spare }
+    ensures carried { (r : Rest) → Ends (armed_in (P.state p.old)) (seen (P.state p.new) c.now r j.new.events) (refusal_of result) (seen (P.state p.old) c.now r j.old.events)
+        (flash_entries (seen (P.state p.old) c.now r j.old.events).control s.0 t.0 (choices o.now)) }
+    ensures rest { IsAtRest (P.state p.new) c.now }
+    ensures fit { RelationsFit (P.state p.new) c.now }
+    ensures unarmed { (q : ℕ) → (P.state p.old).read_fuse q ≡ None → (P.state p.new).read_fuse q ≡ None }
+    ensures faults { Counted (is_stop (refusal_of result)) (P.state p.old).faults (P.state p.new).faults }
+    ensures others { OthersStay (P.state p.old) (P.state p.new) c.now t.0 }
+    ensures on { OnOk result ((P.state p.new).on ≡ (P.state p.old).on) }
+    ensures room { j.old.spare ≤ j.new.spare + 2 }
+{
+    let server = server_of(c, s);
+    if !p.is_on(server.0) {
+        return Err(Refusal::ServerOff { server });
+    }
+    if let Some(why) = alike_refusal(c, s, t) {
+        return Err(why);
+    }
+    if let Some(why) = free_refusal(p, c, s, t) {
+        return Err(why);
+    }
+    relate(p, c, j, s, t, o)
+}

@@ -1,0 +1,181 @@
+//! What a host writes on a source and on a target.
+
+ghost use Rattle.std.specs.Prelude.{◌≡◌, ◌≢◌, ℕ, ◌<◌, ◌≤◌, ◌+◌, Bool, true, false, length, None, Some, IsSome, OnOk, OnErr, is_err};
+ghost use Rattle.std.specs.FinSet.{contains};
+ghost use Rattle.dr_config.specs.Table.{place_of};
+ghost use Rattle.dr_model.specs.Entries as entries;
+ghost use Rattle.dr_model.specs.Entries.{copies_from};
+ghost use Rattle.dr_model.specs.Lawful.{IsLawful};
+ghost use Rattle.dr_model.specs.Moves.{Overwrite, fields_left};
+ghost use Rattle.dr_model.specs.Refusals.{stopped};
+ghost use Rattle.dr_volume.specs.Plain.{plain};
+ghost use Rattle.dr_volume.specs.Update.{Covers, IsAsBefore, OthersStay};
+ghost use Rattle.dr_volume.specs.View.{Rest, volume_seen, ids_of};
+ghost use Rattle.dr_flash.specs.Checks.{is_stop};
+ghost use Rattle.dr_flash.specs.Faults.{Counted};
+ghost use Rattle.dr_flash.specs.Fit.{RelationsFit};
+ghost use Rattle.dr_flash.specs.Here.{seen, refusal_of, armed_in, IsAtRest};
+ghost use Rattle.dr_flash.specs.Turns.{room_of};
+ghost use Rattle.dr_flash.specs.declared.told.Told.TheVariants.{Nothing};
+ghost use Rattle.dr_flash.specs.Writes.{EndsThen, MadeFrom, target_checks};
+
+use crate::acts::shift;
+use crate::fields::{closed, fetched, rewritten};
+use crate::keeping::copy_first;
+use crate::place::tracks_of;
+use crate::standing::{is_settled, relation_state};
+use crate::told::{Telling, Told};
+use dr_config::Config;
+use dr_ids::{Refusal, VolumeId};
+use dr_model::Journal;
+use dr_plant::{Block, Plant};
+use dr_volume::{Fields, peek_fields};
+
+/// Stores a track of volume v, whose server is on, with the fields that v gets in the same move, which keep its own part in a
+/// relationship; before it, the targets of v keep what the track was. The move tells the journal nothing. Fails where the
+/// server stops in a move or goes off at a read; what was kept by then stays. The journal needs room for an event for each
+/// volume and one more.
+pub fn write_source<P: Plant>(
+    p: &mut P,
+    c: &Config,
+    j: &mut Journal,
+    v: VolumeId,
+    t: u16,
+    bytes: &Block,
+    next: &Fields,
+) -> Result<(), Refusal>
+    requires rest { IsAtRest (P.state p.old) c.now }
+    requires fit { RelationsFit (P.state p.old) c.now }
+    requires defined { IsSome (place_of c.now v.0) }
+    requires running { (P.state p.old).on (volume_seen (P.state p.old) c.now v.0).server ≡ true }
+    requires within { t < (volume_seen (P.state p.old) c.now v.0).tracks }
+    requires lawful { IsLawful (volume_seen (P.state p.old) c.now v.0).tracks (plain next.now) }
+    requires covers { Covers (volume_seen (P.state p.old) c.now v.0).fields.blank next.now.blank (Some (t, bytes.now)) }
+    requires keeps { next.now.related ≡ true → ((volume_seen (P.state p.old) c.now v.0).fields.related ≡ true) × (next.now.source.0 ≡ (volume_seen (P.state p.old) c.now v.0).fields.source) }
+    requires apart { (k : ℕ) → contains next.now.own k ≡ true → contains next.now.blank k ≡ false }
+    requires room { length c.now.volumes + 1 ≤ j.old.spare }
+    ensures carried { (r : Rest) → EndsThen (armed_in (P.state p.old)) (seen (P.state p.old) c.now r j.old.events) (entries.copy_first (ids_of c.now.volumes) v.0 t) (seen (P.state p.new) c.now r j.new.events) (refusal_of result)
+        (λ w. MadeFrom (armed_in (P.state p.old)) w v.0 (plain next.now) (Some (t, bytes.now)) (record { done = Nothing; in_stop = Nothing; landed = 0 }) (seen (P.state p.new) c.now r j.new.events) (refusal_of result)) }
+    ensures refused { OnErr result (refusal_of result ≡ Some (stopped (volume_seen (P.state p.old) c.now v.0).server)) }
+    ensures rest { IsAtRest (P.state p.new) c.now }
+    ensures fit { RelationsFit (P.state p.new) c.now }
+    ensures unarmed { (q : ℕ) → (P.state p.old).read_fuse q ≡ None → (P.state p.new).read_fuse q ≡ None }
+    ensures faults { Counted (is_err result) (P.state p.old).faults (P.state p.new).faults }
+    ensures others { (q : ℕ) → q ≢ v.0 → copies_from v.0 (volume_seen (P.state p.old) c.now q).fields ≡ false → IsAsBefore (P.state p.old) (P.state p.new) c.now q }
+    ensures on { OnOk result ((P.state p.new).on ≡ (P.state p.old).on) }
+    ensures room { j.old.spare ≤ j.new.spare + (length c.now.volumes + 1) }
+{
+    write_source_telling(p, c, j, v, t, bytes, next, &Telling::of(Told::Nothing))
+}
+
+/// The same where the last move tells the journal these events. The journal needs room for an event for each volume and for
+/// these, and one more where a stop is told behind them.
+pub fn write_source_telling<P: Plant>(
+    p: &mut P,
+    c: &Config,
+    j: &mut Journal,
+    v: VolumeId,
+    t: u16,
+    bytes: &Block,
+    next: &Fields,
+    told: &Telling,
+) -> Result<(), Refusal>
+    requires rest { IsAtRest (P.state p.old) c.now }
+    requires fit { RelationsFit (P.state p.old) c.now }
+    requires defined { IsSome (place_of c.now v.0) }
+    requires running { (P.state p.old).on (volume_seen (P.state p.old) c.now v.0).server ≡ true }
+    requires within { t < (volume_seen (P.state p.old) c.now v.0).tracks }
+    requires lawful { IsLawful (volume_seen (P.state p.old) c.now v.0).tracks (plain next.now) }
+    requires covers { Covers (volume_seen (P.state p.old) c.now v.0).fields.blank next.now.blank (Some (t, bytes.now)) }
+    requires keeps { next.now.related ≡ true → ((volume_seen (P.state p.old) c.now v.0).fields.related ≡ true) × (next.now.source.0 ≡ (volume_seen (P.state p.old) c.now v.0).fields.source) }
+    requires apart { (k : ℕ) → contains next.now.own k ≡ true → contains next.now.blank k ≡ false }
+    requires room { length c.now.volumes + room_of told.now ≤ j.old.spare }
+    ensures carried { (r : Rest) → EndsThen (armed_in (P.state p.old)) (seen (P.state p.old) c.now r j.old.events) (entries.copy_first (ids_of c.now.volumes) v.0 t) (seen (P.state p.new) c.now r j.new.events) (refusal_of result)
+        (λ w. MadeFrom (armed_in (P.state p.old)) w v.0 (plain next.now) (Some (t, bytes.now)) told.now (seen (P.state p.new) c.now r j.new.events) (refusal_of result)) }
+    ensures refused { OnErr result (refusal_of result ≡ Some (stopped (volume_seen (P.state p.old) c.now v.0).server)) }
+    ensures rest { IsAtRest (P.state p.new) c.now }
+    ensures fit { RelationsFit (P.state p.new) c.now }
+    ensures unarmed { (q : ℕ) → (P.state p.old).read_fuse q ≡ None → (P.state p.new).read_fuse q ≡ None }
+    ensures faults { Counted (is_err result) (P.state p.old).faults (P.state p.new).faults }
+    ensures others { (q : ℕ) → q ≢ v.0 → copies_from v.0 (volume_seen (P.state p.old) c.now q).fields ≡ false → IsAsBefore (P.state p.old) (P.state p.new) c.now q }
+    ensures on { OnOk result ((P.state p.new).on ≡ (P.state p.old).on) }
+    ensures room { j.old.spare ≤ j.new.spare + (length c.now.volumes + room_of told.now) }
+{
+    copy_first(p, c, j, v, t)?;
+    let track = *bytes;
+    shift(p, c, j, v, next, Some((t, track)), told)
+}
+
+/// Stores a track of a target, as a host's write on it does.
+fn overwrite<P: Plant>(
+    p: &mut P,
+    c: &Config,
+    j: &mut Journal,
+    v: VolumeId,
+    t: u16,
+    bytes: &Block,
+    told: &Telling,
+) -> Result<(), Refusal>
+    requires rest { IsAtRest (P.state p.old) c.now }
+    requires fit { RelationsFit (P.state p.old) c.now }
+    requires defined { IsSome (place_of c.now v.0) }
+    requires running { (P.state p.old).on (volume_seen (P.state p.old) c.now v.0).server ≡ true }
+    requires within { t < (volume_seen (P.state p.old) c.now v.0).tracks }
+    requires related { (volume_seen (P.state p.old) c.now v.0).fields.related ≡ true }
+    requires room { room_of told.now ≤ j.old.spare }
+    ensures made { (r : Rest) → MadeFrom (armed_in (P.state p.old)) (seen (P.state p.old) c.now r j.old.events) v.0 (fields_left (Overwrite 0 v.0 t) (volume_seen (P.state p.old) c.now v.0)) (Some (t, bytes.now)) told.now (seen (P.state p.new) c.now r j.new.events) (refusal_of result) }
+    ensures refused { OnErr result (refusal_of result ≡ Some (stopped (volume_seen (P.state p.old) c.now v.0).server)) }
+    ensures rest { IsAtRest (P.state p.new) c.now }
+    ensures fit { RelationsFit (P.state p.new) c.now }
+    ensures unarmed { (q : ℕ) → (P.state p.old).read_fuse q ≡ None → (P.state p.new).read_fuse q ≡ None }
+    ensures faults { Counted (is_err result) (P.state p.old).faults (P.state p.new).faults }
+    ensures others { OthersStay (P.state p.old) (P.state p.new) c.now v.0 }
+    ensures on { OnOk result ((P.state p.new).on ≡ (P.state p.old).on) }
+    ensures room { j.old.spare ≤ j.new.spare + room_of told.now }
+{
+    let fields = peek_fields(p, c, v);
+    let tracks = tracks_of(c, v);
+    let track = *bytes;
+    let next = closed(tracks, &rewritten(&fetched(&fields, t), t));
+    shift(p, c, j, v, &next, Some((t, track)), told)
+}
+
+/// Stores a track of a target whose server is on, with bytes that a host wrote. Refused where the target is inhibited, or else
+/// where it stands in a revertible or reversing relationship. The target holds the track then, and notes the change where
+/// changes are recorded. The move tells the journal the events that the caller gives. Fails too where the server stops in
+/// the move or goes off at a read. The journal needs room for these events, and one more where a stop is told behind them.
+pub fn write_target<P: Plant>(
+    p: &mut P,
+    c: &Config,
+    j: &mut Journal,
+    v: VolumeId,
+    t: u16,
+    bytes: &Block,
+    told: &Telling,
+) -> Result<(), Refusal>
+    requires rest { IsAtRest (P.state p.old) c.now }
+    requires fit { RelationsFit (P.state p.old) c.now }
+    requires defined { IsSome (place_of c.now v.0) }
+    requires running { (P.state p.old).on (volume_seen (P.state p.old) c.now v.0).server ≡ true }
+    requires within { t < (volume_seen (P.state p.old) c.now v.0).tracks }
+    requires related { (volume_seen (P.state p.old) c.now v.0).fields.related ≡ true }
+    requires room { room_of told.now ≤ j.old.spare }
+    ensures carried { (r : Rest) → EndsThen (armed_in (P.state p.old)) (seen (P.state p.old) c.now r j.old.events) (target_checks (seen (P.state p.old) c.now r j.old.events).control v.0) (seen (P.state p.new) c.now r j.new.events) (refusal_of result)
+        (λ w. MadeFrom (armed_in (P.state p.old)) w v.0 (fields_left (Overwrite 0 v.0 t) (w.control.volume v.0)) (Some (t, bytes.now)) told.now (seen (P.state p.new) c.now r j.new.events) (refusal_of result)) }
+    ensures rest { IsAtRest (P.state p.new) c.now }
+    ensures fit { RelationsFit (P.state p.new) c.now }
+    ensures unarmed { (q : ℕ) → (P.state p.old).read_fuse q ≡ None → (P.state p.new).read_fuse q ≡ None }
+    ensures faults { Counted (is_stop (refusal_of result)) (P.state p.old).faults (P.state p.new).faults }
+    ensures others { OthersStay (P.state p.old) (P.state p.new) c.now v.0 }
+    ensures on { OnOk result ((P.state p.new).on ≡ (P.state p.old).on) }
+    ensures room { j.old.spare ≤ j.new.spare + room_of told.now }
+{
+    let fields = peek_fields(p, c, v);
+    if fields.inhibited {
+        return Err(Refusal::Inhibited { volume: v });
+    }
+    if !is_settled(p, c, v) {
+        return Err(relation_state(p, c, v));
+    }
+    overwrite(p, c, j, v, t, bytes, told)
+}
