@@ -64,5 +64,5 @@ pub none-back : (s : PlantState) (t : Table) (r : Rest) (ev : List Event) (from 
 none-back s t r ev from v us none =
     then-leads (seen s t r ev) (seen s t r ev) (seen s t r ev) (keeps_of us from v) (for_lowest v (λ k. now (Restore from k v)) ∷ for_lowest v (λ k. now (Release v k)) ∷ []) (none-keeps s t r ev from v us none)
     (λ armed u x ds more.
-        ends-skips armed u x (seen s t r ev) (for_lowest v (λ k. now (Restore from k v))) (for_lowest v (λ k. now (Release v k)) ∷ ds) (none-entry s t r ev v (λ k. now (Restore from k v)) none)
-        (ends-skips armed u x (seen s t r ev) (for_lowest v (λ k. now (Release v k))) ds (none-entry s t r ev v (λ k. now (Release v k)) none) more))
+    ends-skips armed u x (seen s t r ev) (for_lowest v (λ k. now (Restore from k v))) (for_lowest v (λ k. now (Release v k)) ∷ ds) (none-entry s t r ev v (λ k. now (Restore from k v)) none)
+    (ends-skips armed u x (seen s t r ev) (for_lowest v (λ k. now (Release v k))) ds (none-entry s t r ev v (λ k. now (Release v k)) none) more))

@@ -43,7 +43,7 @@ any-none f h t place all = ap (λ es. list_any f (filter h (ids_of es))) (drop_a
 abbrev pub keeps_left : Table → ℕ → ℕ → ℕ → List Entry
 keeps_left t s v place = keeps_of (ids_of (drop place t.volumes)) s v
 
-both : (a b : Bool) → (a && b) ≡ true → (a ≡ true) × (b ≡ true)
+pub both : (a b : Bool) → (a && b) ≡ true → (a ≡ true) × (b ≡ true)
 both true true h = (refl, refl)
 both true false h = absurd cc
 both false b h = absurd cc

@@ -9,7 +9,7 @@ ghost use Rattle.dr_model.specs.Moves.{Resync, Reverse, Restore, Release};
 ghost use Rattle.dr_model.specs.Refusals.{stopped};
 ghost use Rattle.dr_model.specs.Relations as relations;
 ghost use Rattle.dr_volume.specs.Plain.{plain};
-ghost use Rattle.dr_volume.specs.Update.{OthersStay};
+ghost use Rattle.dr_volume.specs.Update.{IsMoved, OthersStay};
 ghost use Rattle.dr_volume.specs.View.{Rest, volume_seen, track_seen};
 ghost use Rattle.dr_volume.specs.Volume.{Shows};
 ghost use Rattle.dr_flash.specs.Faults.{Counted};
@@ -51,6 +51,7 @@ pub(crate) fn renew<P: Plant>(
     ensures faults { Counted (is_err result) (P.state p.old).faults (P.state p.new).faults }
     ensures others { OthersStay (P.state p.old) (P.state p.new) c.now t.0 }
     ensures on { OnOk result ((P.state p.new).on ≡ (P.state p.old).on) }
+    ensures moved { OnOk result (IsMoved (P.state p.old) (P.state p.new) c.now t.0 (relations.resynced sequence (volume_seen (P.state p.old) c.now t.0).fields) None) }
     ensures room { j.old.spare ≤ j.new.spare + 2 }
     ensures room_left { OnOk result (j.old.spare ≤ j.new.spare + 1) }
     ensures spare { length j.new.events + j.new.spare ≡ length j.old.events + j.old.spare }

@@ -15,6 +15,7 @@ ghost use Rattle.dr_flash.specs.Faults.{Counted};
 ghost use Rattle.dr_flash.specs.Fit.{RelationsFit};
 ghost use Rattle.dr_flash.specs.Here.{seen, refusal_of, armed_in, IsAtRest};
 ghost use Rattle.dr_flash.specs.Turns.{Leads, Fails};
+ghost use Rattle.dr_incr.specs.Copies.{HoldsUnchanged, shown};
 ghost use Rattle.dr_incr.specs.Steps.{resync_entries};
 
 use crate::checks::resync_refusal;
@@ -25,7 +26,8 @@ use dr_model::Journal;
 use dr_plant::Plant;
 
 /// Makes target t a copy of its source s anew: t shares the tracks that changed on either side with s again, and gets the
-/// sequence number where one is given. The caller knows both volumes. Refused where the server of s is off, and then where
+/// sequence number where one is given; then each track of t reads as that of s, where what t held unchanged was the same.
+/// The caller knows both volumes. Refused where the server of s is off, and then where
 /// t is no target of s whose changes are recorded, or is revertible or restored. Fails too where the server stops in the
 /// move or goes off at a read. The journal needs room for two events.
 pub fn resync<P: Plant>(
@@ -44,6 +46,7 @@ pub fn resync<P: Plant>(
     ensures carried { (r : Rest) → Ends (armed_in (P.state p.old)) (seen (P.state p.new) c.now r j.new.events) (refusal_of result) (seen (P.state p.old) c.now r j.old.events) (resync_entries (seen (P.state p.old) c.now r j.old.events).control s.0 t.0 sequence) }
     ensures leads { OnOk result ((r : Rest) → Leads (seen (P.state p.old) c.now r j.old.events) (resync_entries (seen (P.state p.old) c.now r j.old.events).control s.0 t.0 sequence) (seen (P.state p.new) c.now r j.new.events)) }
     ensures fails { OnErr result ((r : Rest) → Fails (armed_in (P.state p.old)) (seen (P.state p.old) c.now r j.old.events) (resync_entries (seen (P.state p.old) c.now r j.old.events).control s.0 t.0 sequence) (seen (P.state p.new) c.now r j.new.events) (refusal_of result)) }
+    ensures same { OnOk result (HoldsUnchanged (P.state p.old) c.now t.0 → (k : ℕ) → shown (P.state p.new) c.now t.0 k ≡ track_seen (P.state p.new) c.now s.0 k) }
     ensures refused { is_stop (refusal_of result) ≡ true → refusal_of result ≡ Some (stopped (volume_seen (P.state p.old) c.now s.0).server) }
     ensures rest { IsAtRest (P.state p.new) c.now }
     ensures fit { RelationsFit (P.state p.new) c.now }

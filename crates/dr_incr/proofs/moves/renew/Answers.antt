@@ -14,6 +14,8 @@ use Rattle.dr_flash.proofs.ReadLemmas.{on-running}
 use Rattle.dr_flash.proofs.TurnLemmas.{Tells, advances, halts, ok-along, err-along}
 use Rattle.dr_flash.proofs.MoveLemmas.{MoveFits}
 use Rattle.dr_incr.proofs.RestoreLemmas.{resync-fits, tells-resync, told-by, room-few, done-few}
+use Rattle.dr_volume.specs.Update.{IsMoved}
+use Rattle.dr_incr.proofs.CopyLaws.{moved-by}
 use Rattle.dr_incr.proofs.moves.renew.Goals as goal
 
 pub shift-requires-clause-lawful : goal.shift-requires-clause-lawful
@@ -53,3 +55,12 @@ returns-clause-halts g c =
     halts (seen s t r c.args.j.now.events) (Resync c.args.t.0 c.args.sequence) c.of-told.result (plain c.resynced-next.result) None (on-running s x.server c.requires.running)
     (subst (λ y. Tells (Resync c.args.t.0 c.args.sequence) x y) (sym (c.of-told.ensures ∙ ap (λ (f : Fields). record { done = One (Set c.args.t.0 f.source); in_stop = One (Set c.args.t.0 f.source); landed = 0 }) c.peek_fields-fields.ensures.fields)) (tells-resync c.args.t.0 c.args.sequence x)) (sym (c.resynced-next.ensures ∙ ap (resynced c.args.sequence) c.peek_fields-fields.ensures.fields)) (refl)
     (armed_in s) (seen (g.P.Plant.state c.shift.new.p) t r c.shift.new.j.events) (refusal_of c.shift.result) refused (failed r))
+
+pub returns-clause-moved : goal.returns-clause-moved
+returns-clause-moved g c =
+    let s = g.P.Plant.state c.args.p.now in
+    let t = c.args.c.now in
+    let x = volume_seen s t c.args.t.0 in
+    ok-along c.shift.result c.shift.ensures.done (λ done.
+    subst (λ f. IsMoved s (g.P.Plant.state c.shift.new.p) t c.args.t.0 f None) (c.resynced-next.ensures ∙ ap (resynced c.args.sequence) c.peek_fields-fields.ensures.fields)
+    (moved-by s (g.P.Plant.state c.shift.new.p) t c.args.t.0 (plain c.resynced-next.result) None x.server c.of-told.result c.args.j.now.events c.shift.new.j.events done))

@@ -8,6 +8,7 @@ use Rattle.dr_flash.proofs.TurnLemmas.{ok-along, err-along}
 use Rattle.dr_incr.specs.Steps.{resync_entries, reverse_entries, lone_checks}
 use Rattle.dr_incr.proofs.StepLemmas.{ends-by, stop-refused}
 use Rattle.dr_incr.proofs.TargetLemmas.{target-of}
+use Rattle.dr_incr.proofs.CopyLaws.{copy-shown}
 use Rattle.dr_incr.proofs.renewal.resync.Goals as goal
 
 pub returns-in-Some-clause-carried : goal.returns-in-Some-clause-carried
@@ -38,3 +39,10 @@ returns-clause-refused g c =
 
 pub returns-clause-faults : goal.returns-clause-faults
 returns-clause-faults g c = counted-stop c.renew.result _ _ _ c.renew.ensures.faults c.renew.ensures.refused
+
+pub returns-clause-same : goal.returns-clause-same
+returns-clause-same g c =
+    let s = g.P.Plant.state c.args.p.now in
+    let t = c.args.c.now in
+    ok-along c.renew.result c.renew.ensures.moved (λ is holds k.
+    copy-shown s (g.P.Plant.state c.renew.new.p) t c.args.s.0 c.args.t.0 c.args.sequence c.requires.fit (target-of s t c.args.s.0 c.args.t.0 c.requires.fit c.in_default.ensures.related) is c.renew.ensures.others holds k)

@@ -23,8 +23,8 @@ keep_others-requires-clause-within g c = subst (λ n. c.args.k < n) (target-of (
 pub returns-in_err-keep_others-clause-fails : goal.returns-in_err-keep_others-clause-fails
 returns-in_err-keep_others-clause-fails g c =
     err-always c.from_residual.result (λ r.
-        subst (λ q. Fails (armed_in (g.P.Plant.state c.args.p.now)) (seen (g.P.Plant.state c.args.p.now) c.args.c.now r c.args.j.now.events) (give_back (ids_of c.args.c.now.volumes) c.args.s.0 c.args.t.0) (seen (g.P.Plant.state c.keep_others.new.p) c.args.c.now r c.keep_others.new.j.events) q) (sym (refused-by c.from_residual.result c.in_err-keep_others.field-0.0 c.from_residual.ensures.0 c.from_residual.ensures.1))
-        (fails-first (armed_in (g.P.Plant.state c.args.p.now)) (seen (g.P.Plant.state c.args.p.now) c.args.c.now r c.args.j.now.events) (seen (g.P.Plant.state c.keep_others.new.p) c.args.c.now r c.keep_others.new.j.events) (Some c.in_err-keep_others.field-0.0) (keeps_of (ids_of c.args.c.now.volumes) c.args.s.0 c.args.t.0) ((for_lowest c.args.t.0 (λ k. now (Restore c.args.s.0 k c.args.t.0))) ∷ (for_lowest c.args.t.0 (λ k. now (Release c.args.t.0 k))) ∷ []) (c.in_err-keep_others.ensures.fails r)))
+    subst (λ q. Fails (armed_in (g.P.Plant.state c.args.p.now)) (seen (g.P.Plant.state c.args.p.now) c.args.c.now r c.args.j.now.events) (give_back (ids_of c.args.c.now.volumes) c.args.s.0 c.args.t.0) (seen (g.P.Plant.state c.keep_others.new.p) c.args.c.now r c.keep_others.new.j.events) q) (sym (refused-by c.from_residual.result c.in_err-keep_others.field-0.0 c.from_residual.ensures.0 c.from_residual.ensures.1))
+    (fails-first (armed_in (g.P.Plant.state c.args.p.now)) (seen (g.P.Plant.state c.args.p.now) c.args.c.now r c.args.j.now.events) (seen (g.P.Plant.state c.keep_others.new.p) c.args.c.now r c.keep_others.new.j.events) (Some c.in_err-keep_others.field-0.0) (keeps_of (ids_of c.args.c.now.volumes) c.args.s.0 c.args.t.0) ((for_lowest c.args.t.0 (λ k. now (Restore c.args.s.0 k c.args.t.0))) ∷ (for_lowest c.args.t.0 (λ k. now (Release c.args.t.0 k))) ∷ []) (c.in_err-keep_others.ensures.fails r)))
 
 pub returns-in_err-keep_others-clause-refused : goal.returns-in_err-keep_others-clause-refused
 returns-in_err-keep_others-clause-refused g c =
@@ -54,10 +54,10 @@ take_back-requires-clause-within g c = subst (λ n. c.args.k < n) ((target-of (g
 pub returns-in_err-take_back-clause-fails : goal.returns-in_err-take_back-clause-fails
 returns-in_err-take_back-clause-fails g c =
     err-always c.from_residual-in_err-take_back.result (λ r.
-        subst (λ q. Fails (armed_in (g.P.Plant.state c.args.p.now)) (seen (g.P.Plant.state c.args.p.now) c.args.c.now r c.args.j.now.events) (give_back (ids_of c.args.c.now.volumes) c.args.s.0 c.args.t.0) (seen (g.P.Plant.state c.take_back.new.p) c.args.c.now r c.take_back.new.j.events) q) (sym (refused-by c.from_residual-in_err-take_back.result c.in_err-take_back.field-0.0 c.from_residual-in_err-take_back.ensures.0 c.from_residual-in_err-take_back.ensures.1))
-        (then-fails (armed_in (g.P.Plant.state c.args.p.now)) (seen (g.P.Plant.state c.args.p.now) c.args.c.now r c.args.j.now.events) (seen (g.P.Plant.state c.keep_others.new.p) c.args.c.now r c.keep_others.new.j.events) (seen (g.P.Plant.state c.take_back.new.p) c.args.c.now r c.take_back.new.j.events) (Some c.in_err-take_back.field-0.0) (keeps_of (ids_of c.args.c.now.volumes) c.args.s.0 c.args.t.0) ((for_lowest c.args.t.0 (λ k. now (Restore c.args.s.0 k c.args.t.0))) ∷ (for_lowest c.args.t.0 (λ k. now (Release c.args.t.0 k))) ∷ []) (c.in_ok-keep_others.ensures.leads r)
-        (λ ds. ends-wider (armed_in (g.P.Plant.state c.keep_others.new.p)) (armed_in (g.P.Plant.state c.args.p.now)) (wider-armed (g.P.Plant.state c.args.p.now) (g.P.Plant.state c.keep_others.new.p) c.in_ok-keep_others.ensures.unarmed) (seen (g.P.Plant.state c.take_back.new.p) c.args.c.now r c.take_back.new.j.events) (Some c.in_err-take_back.field-0.0) _ _
-        (alike-halts (armed_in (g.P.Plant.state c.keep_others.new.p)) (seen (g.P.Plant.state c.keep_others.new.p) c.args.c.now r c.keep_others.new.j.events) (seen (g.P.Plant.state c.take_back.new.p) c.args.c.now r c.take_back.new.j.events) (Some c.in_err-take_back.field-0.0) (for_lowest c.args.t.0 (λ k. now (Restore c.args.s.0 k c.args.t.0))) (now (Restore c.args.s.0 c.args.k c.args.t.0)) (lowest-entry (g.P.Plant.state c.keep_others.new.p) c.args.c.now r c.keep_others.new.j.events c.args.t.0 c.args.k (λ k. now (Restore c.args.s.0 k c.args.t.0)) (same-lowest (g.P.Plant.state c.args.p.now) (g.P.Plant.state c.keep_others.new.p) c.args.c.now c.args.t.0 c.args.k c.in_ok-keep_others.ensures.aside c.requires.held)) (c.in_err-take_back.ensures.halts r) ((for_lowest c.args.t.0 (λ k. now (Release c.args.t.0 k))) ∷ ds)))))
+    subst (λ q. Fails (armed_in (g.P.Plant.state c.args.p.now)) (seen (g.P.Plant.state c.args.p.now) c.args.c.now r c.args.j.now.events) (give_back (ids_of c.args.c.now.volumes) c.args.s.0 c.args.t.0) (seen (g.P.Plant.state c.take_back.new.p) c.args.c.now r c.take_back.new.j.events) q) (sym (refused-by c.from_residual-in_err-take_back.result c.in_err-take_back.field-0.0 c.from_residual-in_err-take_back.ensures.0 c.from_residual-in_err-take_back.ensures.1))
+    (then-fails (armed_in (g.P.Plant.state c.args.p.now)) (seen (g.P.Plant.state c.args.p.now) c.args.c.now r c.args.j.now.events) (seen (g.P.Plant.state c.keep_others.new.p) c.args.c.now r c.keep_others.new.j.events) (seen (g.P.Plant.state c.take_back.new.p) c.args.c.now r c.take_back.new.j.events) (Some c.in_err-take_back.field-0.0) (keeps_of (ids_of c.args.c.now.volumes) c.args.s.0 c.args.t.0) ((for_lowest c.args.t.0 (λ k. now (Restore c.args.s.0 k c.args.t.0))) ∷ (for_lowest c.args.t.0 (λ k. now (Release c.args.t.0 k))) ∷ []) (c.in_ok-keep_others.ensures.leads r)
+    (λ ds. ends-wider (armed_in (g.P.Plant.state c.keep_others.new.p)) (armed_in (g.P.Plant.state c.args.p.now)) (wider-armed (g.P.Plant.state c.args.p.now) (g.P.Plant.state c.keep_others.new.p) c.in_ok-keep_others.ensures.unarmed) (seen (g.P.Plant.state c.take_back.new.p) c.args.c.now r c.take_back.new.j.events) (Some c.in_err-take_back.field-0.0) _ _
+    (alike-halts (armed_in (g.P.Plant.state c.keep_others.new.p)) (seen (g.P.Plant.state c.keep_others.new.p) c.args.c.now r c.keep_others.new.j.events) (seen (g.P.Plant.state c.take_back.new.p) c.args.c.now r c.take_back.new.j.events) (Some c.in_err-take_back.field-0.0) (for_lowest c.args.t.0 (λ k. now (Restore c.args.s.0 k c.args.t.0))) (now (Restore c.args.s.0 c.args.k c.args.t.0)) (lowest-entry (g.P.Plant.state c.keep_others.new.p) c.args.c.now r c.keep_others.new.j.events c.args.t.0 c.args.k (λ k. now (Restore c.args.s.0 k c.args.t.0)) (same-lowest (g.P.Plant.state c.args.p.now) (g.P.Plant.state c.keep_others.new.p) c.args.c.now c.args.t.0 c.args.k c.in_ok-keep_others.ensures.aside c.requires.held)) (c.in_err-take_back.ensures.halts r) ((for_lowest c.args.t.0 (λ k. now (Release c.args.t.0 k))) ∷ ds)))))
 
 pub returns-in_err-take_back-clause-refused : goal.returns-in_err-take_back-clause-refused
 returns-in_err-take_back-clause-refused g c =
@@ -91,15 +91,15 @@ reverse_finish-requires-clause-room g c =
 pub returns-clause-leads : goal.returns-clause-leads
 returns-clause-leads g c =
     ok-along c.reverse_finish.result c.reverse_finish.ensures.leads (λ leads r.
-        then-leads (seen (g.P.Plant.state c.args.p.now) c.args.c.now r c.args.j.now.events) (seen (g.P.Plant.state c.keep_others.new.p) c.args.c.now r c.keep_others.new.j.events) (seen (g.P.Plant.state c.reverse_finish.new.p) c.args.c.now r c.reverse_finish.new.j.events) (keeps_of (ids_of c.args.c.now.volumes) c.args.s.0 c.args.t.0) ((for_lowest c.args.t.0 (λ k. now (Restore c.args.s.0 k c.args.t.0))) ∷ (for_lowest c.args.t.0 (λ k. now (Release c.args.t.0 k))) ∷ []) (c.in_ok-keep_others.ensures.leads r) (λ armed u r' ds more.
-            alike-advances (seen (g.P.Plant.state c.keep_others.new.p) c.args.c.now r c.keep_others.new.j.events) (seen (g.P.Plant.state c.take_back.new.p) c.args.c.now r c.take_back.new.j.events) (for_lowest c.args.t.0 (λ k. now (Restore c.args.s.0 k c.args.t.0))) (now (Restore c.args.s.0 c.args.k c.args.t.0)) (lowest-entry (g.P.Plant.state c.keep_others.new.p) c.args.c.now r c.keep_others.new.j.events c.args.t.0 c.args.k (λ k. now (Restore c.args.s.0 k c.args.t.0)) (same-lowest (g.P.Plant.state c.args.p.now) (g.P.Plant.state c.keep_others.new.p) c.args.c.now c.args.t.0 c.args.k c.in_ok-keep_others.ensures.aside c.requires.held)) (c.in_ok-take_back.ensures.advances r) armed u r' ((for_lowest c.args.t.0 (λ k. now (Release c.args.t.0 k))) ∷ ds) (leads r armed u r' ds more)))
+    then-leads (seen (g.P.Plant.state c.args.p.now) c.args.c.now r c.args.j.now.events) (seen (g.P.Plant.state c.keep_others.new.p) c.args.c.now r c.keep_others.new.j.events) (seen (g.P.Plant.state c.reverse_finish.new.p) c.args.c.now r c.reverse_finish.new.j.events) (keeps_of (ids_of c.args.c.now.volumes) c.args.s.0 c.args.t.0) ((for_lowest c.args.t.0 (λ k. now (Restore c.args.s.0 k c.args.t.0))) ∷ (for_lowest c.args.t.0 (λ k. now (Release c.args.t.0 k))) ∷ []) (c.in_ok-keep_others.ensures.leads r) (λ armed u r' ds more.
+    alike-advances (seen (g.P.Plant.state c.keep_others.new.p) c.args.c.now r c.keep_others.new.j.events) (seen (g.P.Plant.state c.take_back.new.p) c.args.c.now r c.take_back.new.j.events) (for_lowest c.args.t.0 (λ k. now (Restore c.args.s.0 k c.args.t.0))) (now (Restore c.args.s.0 c.args.k c.args.t.0)) (lowest-entry (g.P.Plant.state c.keep_others.new.p) c.args.c.now r c.keep_others.new.j.events c.args.t.0 c.args.k (λ k. now (Restore c.args.s.0 k c.args.t.0)) (same-lowest (g.P.Plant.state c.args.p.now) (g.P.Plant.state c.keep_others.new.p) c.args.c.now c.args.t.0 c.args.k c.in_ok-keep_others.ensures.aside c.requires.held)) (c.in_ok-take_back.ensures.advances r) armed u r' ((for_lowest c.args.t.0 (λ k. now (Release c.args.t.0 k))) ∷ ds) (leads r armed u r' ds more)))
 
 pub returns-clause-fails : goal.returns-clause-fails
 returns-clause-fails g c =
     err-along c.reverse_finish.result c.reverse_finish.ensures.fails c.reverse_finish.ensures.refused (λ fails refused r.
-        then-fails (armed_in (g.P.Plant.state c.args.p.now)) (seen (g.P.Plant.state c.args.p.now) c.args.c.now r c.args.j.now.events) (seen (g.P.Plant.state c.keep_others.new.p) c.args.c.now r c.keep_others.new.j.events) (seen (g.P.Plant.state c.reverse_finish.new.p) c.args.c.now r c.reverse_finish.new.j.events) (refusal_of c.reverse_finish.result) (keeps_of (ids_of c.args.c.now.volumes) c.args.s.0 c.args.t.0) ((for_lowest c.args.t.0 (λ k. now (Restore c.args.s.0 k c.args.t.0))) ∷ (for_lowest c.args.t.0 (λ k. now (Release c.args.t.0 k))) ∷ []) (c.in_ok-keep_others.ensures.leads r) (λ ds.
-            alike-advances (seen (g.P.Plant.state c.keep_others.new.p) c.args.c.now r c.keep_others.new.j.events) (seen (g.P.Plant.state c.take_back.new.p) c.args.c.now r c.take_back.new.j.events) (for_lowest c.args.t.0 (λ k. now (Restore c.args.s.0 k c.args.t.0))) (now (Restore c.args.s.0 c.args.k c.args.t.0)) (lowest-entry (g.P.Plant.state c.keep_others.new.p) c.args.c.now r c.keep_others.new.j.events c.args.t.0 c.args.k (λ k. now (Restore c.args.s.0 k c.args.t.0)) (same-lowest (g.P.Plant.state c.args.p.now) (g.P.Plant.state c.keep_others.new.p) c.args.c.now c.args.t.0 c.args.k c.in_ok-keep_others.ensures.aside c.requires.held)) (c.in_ok-take_back.ensures.advances r) (armed_in (g.P.Plant.state c.args.p.now)) (seen (g.P.Plant.state c.reverse_finish.new.p) c.args.c.now r c.reverse_finish.new.j.events) (refusal_of c.reverse_finish.result) ((for_lowest c.args.t.0 (λ k. now (Release c.args.t.0 k))) ∷ ds)
-            (ends-wider (armed_in (g.P.Plant.state c.take_back.new.p)) (armed_in (g.P.Plant.state c.args.p.now)) (wider-armed (g.P.Plant.state c.args.p.now) (g.P.Plant.state c.take_back.new.p) (λ q none. c.in_ok-take_back.ensures.unarmed q (c.in_ok-keep_others.ensures.unarmed q none))) (seen (g.P.Plant.state c.reverse_finish.new.p) c.args.c.now r c.reverse_finish.new.j.events) (refusal_of c.reverse_finish.result) _ _ (fails r ds))))
+    then-fails (armed_in (g.P.Plant.state c.args.p.now)) (seen (g.P.Plant.state c.args.p.now) c.args.c.now r c.args.j.now.events) (seen (g.P.Plant.state c.keep_others.new.p) c.args.c.now r c.keep_others.new.j.events) (seen (g.P.Plant.state c.reverse_finish.new.p) c.args.c.now r c.reverse_finish.new.j.events) (refusal_of c.reverse_finish.result) (keeps_of (ids_of c.args.c.now.volumes) c.args.s.0 c.args.t.0) ((for_lowest c.args.t.0 (λ k. now (Restore c.args.s.0 k c.args.t.0))) ∷ (for_lowest c.args.t.0 (λ k. now (Release c.args.t.0 k))) ∷ []) (c.in_ok-keep_others.ensures.leads r) (λ ds.
+    alike-advances (seen (g.P.Plant.state c.keep_others.new.p) c.args.c.now r c.keep_others.new.j.events) (seen (g.P.Plant.state c.take_back.new.p) c.args.c.now r c.take_back.new.j.events) (for_lowest c.args.t.0 (λ k. now (Restore c.args.s.0 k c.args.t.0))) (now (Restore c.args.s.0 c.args.k c.args.t.0)) (lowest-entry (g.P.Plant.state c.keep_others.new.p) c.args.c.now r c.keep_others.new.j.events c.args.t.0 c.args.k (λ k. now (Restore c.args.s.0 k c.args.t.0)) (same-lowest (g.P.Plant.state c.args.p.now) (g.P.Plant.state c.keep_others.new.p) c.args.c.now c.args.t.0 c.args.k c.in_ok-keep_others.ensures.aside c.requires.held)) (c.in_ok-take_back.ensures.advances r) (armed_in (g.P.Plant.state c.args.p.now)) (seen (g.P.Plant.state c.reverse_finish.new.p) c.args.c.now r c.reverse_finish.new.j.events) (refusal_of c.reverse_finish.result) ((for_lowest c.args.t.0 (λ k. now (Release c.args.t.0 k))) ∷ ds)
+    (ends-wider (armed_in (g.P.Plant.state c.take_back.new.p)) (armed_in (g.P.Plant.state c.args.p.now)) (wider-armed (g.P.Plant.state c.args.p.now) (g.P.Plant.state c.take_back.new.p) (λ q none. c.in_ok-take_back.ensures.unarmed q (c.in_ok-keep_others.ensures.unarmed q none))) (seen (g.P.Plant.state c.reverse_finish.new.p) c.args.c.now r c.reverse_finish.new.j.events) (refusal_of c.reverse_finish.result) _ _ (fails r ds))))
 
 pub returns-clause-refused : goal.returns-clause-refused
 returns-clause-refused g c = err-along c.reverse_finish.result c.reverse_finish.ensures.refused c.reverse_finish.ensures.refused (λ a b. a ∙ ap (λ (x : Volume). Some (stopped x.server)) (before-then (g.P.Plant.state c.args.p.now) (g.P.Plant.state c.keep_others.new.p) (g.P.Plant.state c.take_back.new.p) c.args.c.now c.args.t.0 c.in_ok-keep_others.ensures.aside (c.in_ok-take_back.ensures.others c.args.t.0 (target-of (g.P.Plant.state c.args.p.now) c.args.c.now c.args.s.0 c.args.t.0 c.requires.fit c.requires.copies).apart)).volume)

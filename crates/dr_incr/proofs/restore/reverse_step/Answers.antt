@@ -19,8 +19,8 @@ returns-in_default-clause-carried g c r = led (armed_in (g.P.Plant.state c.args.
 pub returns-in_err-give_back-clause-fails : goal.returns-in_err-give_back-clause-fails
 returns-in_err-give_back-clause-fails g c =
     err-always c.from_residual.result (λ r.
-        subst (λ q. Fails (armed_in (g.P.Plant.state c.args.p.now)) (seen (g.P.Plant.state c.args.p.now) c.args.c.now r c.args.j.now.events) (give_back (ids_of c.args.c.now.volumes) (volume_seen (g.P.Plant.state c.args.p.now) c.args.c.now c.args.t.0).fields.source c.args.t.0) (seen (g.P.Plant.state c.give_back.new.p) c.args.c.now r c.give_back.new.j.events) q) (sym (refused-by c.from_residual.result c.in_err-give_back.field-0.0 c.from_residual.ensures.0 c.from_residual.ensures.1))
-        (subst (λ n. Fails (armed_in (g.P.Plant.state c.args.p.now)) (seen (g.P.Plant.state c.args.p.now) c.args.c.now r c.args.j.now.events) (give_back (ids_of c.args.c.now.volumes) n c.args.t.0) (seen (g.P.Plant.state c.give_back.new.p) c.args.c.now r c.give_back.new.j.events) (Some c.in_err-give_back.field-0.0)) (ap (λ (f : Fields). f.source) c.peek_fields-fields.ensures.fields) (c.in_err-give_back.ensures.fails r)))
+    subst (λ q. Fails (armed_in (g.P.Plant.state c.args.p.now)) (seen (g.P.Plant.state c.args.p.now) c.args.c.now r c.args.j.now.events) (give_back (ids_of c.args.c.now.volumes) (volume_seen (g.P.Plant.state c.args.p.now) c.args.c.now c.args.t.0).fields.source c.args.t.0) (seen (g.P.Plant.state c.give_back.new.p) c.args.c.now r c.give_back.new.j.events) q) (sym (refused-by c.from_residual.result c.in_err-give_back.field-0.0 c.from_residual.ensures.0 c.from_residual.ensures.1))
+    (subst (λ n. Fails (armed_in (g.P.Plant.state c.args.p.now)) (seen (g.P.Plant.state c.args.p.now) c.args.c.now r c.args.j.now.events) (give_back (ids_of c.args.c.now.volumes) n c.args.t.0) (seen (g.P.Plant.state c.give_back.new.p) c.args.c.now r c.give_back.new.j.events) (Some c.in_err-give_back.field-0.0)) (ap (λ (f : Fields). f.source) c.peek_fields-fields.ensures.fields) (c.in_err-give_back.ensures.fails r)))
 
 pub returns-in_err-give_back-clause-carried : goal.returns-in_err-give_back-clause-carried
 returns-in_err-give_back-clause-carried g c r =
