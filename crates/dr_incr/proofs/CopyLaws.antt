@@ -1,10 +1,9 @@
 -- After a resynchronization a target shows its source's tracks.
-use Rattle.std.proofs.Common.{ℕ, List, [], ◌∷◌, ◌≡◌, ◌≢◌, Bool, true, false, not, ◌&&◌, cond, refl, sym, ◌∙◌, ap, subst, None, Some, Option}
-use Rattle.std.specs.Prelude.{if◌then◌else◌, Result, Ok, Err, OnOk}
+use Rattle.std.proofs.Common.{ℕ, List, [], ◌≡◌, Bool, true, false, not, ◌&&◌, cond, refl, sym, ◌∙◌, ap, None, Some, Option}
+use Rattle.std.specs.Prelude.{if◌then◌else◌}
 use Rattle.std.specs.FinSet.{contains, difference}
 use Rattle.dr_bits.specs.Tracks.{Tracks}
 use Rattle.dr_bits.proofs.Laws.{contains-minus_tracks}
-use Rattle.dr_ids.specs.declared.refusal.Refusal.{Refusal}
 use Rattle.dr_plant.specs.State.{PlantState}
 use Rattle.dr_config.specs.Table.{Table}
 use Rattle.dr_model.specs.Contents.{zeros}

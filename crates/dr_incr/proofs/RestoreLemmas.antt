@@ -1,6 +1,6 @@
 -- The moves of a resynchronization and of a restore: their fields are lawful and leave the relationships fitting, and what
 -- they tell.
-use Rattle.std.proofs.Common.{ℕ, zero, suc, List, [], ◌∷◌, ◌++◌, map, length, ◌≡◌, ◌<◌, ◌≤◌, ◌+◌, Bool, true, false, not, ◌&&◌, ◌||◌, cond, refl, sym, ◌∙◌, ap, subst, arith, None, Some, Option}
+use Rattle.std.proofs.Common.{ℕ, zero, suc, List, [], ◌∷◌, ◌++◌, map, length, ◌≡◌, ◌≤◌, ◌+◌, Bool, true, false, not, ◌&&◌, ◌||◌, cond, refl, sym, ◌∙◌, ap, subst, arith, None, Some, Option}
 use Rattle.std.specs.Prelude.{filter, max, if◌then◌else◌}
 use Rattle.std.specs.List.{range_with_len}
 use Rattle.std.specs.FinSet.{contains, remove, union, difference}
@@ -14,16 +14,16 @@ use Rattle.dr_model.specs.Layout.{Fields}
 use Rattle.dr_model.specs.Lawful.{Low, HasSets, IsLawful}
 use Rattle.dr_model.specs.Control.{Volume}
 use Rattle.dr_model.specs.Moves.{Resync, Reverse, Restore, Release, fields_left, told_blank, told_restored}
-use Rattle.dr_model.specs.Relations.{in_order, rest, is_bare, parted_if, withdrawn_if, resynced, turned, given_up, restored}
+use Rattle.dr_model.specs.Relations.{in_order, rest, is_bare, withdrawn_if, resynced, turned, given_up, restored}
 use Rattle.dr_volume.specs.View.{volume_seen}
 use Rattle.dr_volume.specs.Update.{Covers}
-use Rattle.dr_flash.specs.Fit.{RelationsFit, LeavesFit}
+use Rattle.dr_flash.specs.Fit.{RelationsFit}
 use Rattle.dr_flash.specs.Told.{events_of}
 use Rattle.dr_flash.specs.Turns.{room_of}
 use Rattle.dr_flash.specs.declared.told.Told.TheVariants.{One, Returned}
 use Rattle.dr_flash.specs.declared.told.Telling.{Telling}
 use Rattle.dr_flash.proofs.FitLemmas.{fit-kept}
-use Rattle.dr_flash.proofs.FieldLemmas.{low-empty, low-remove, low-rest, lawful-withdrawn, Apart, apart-empty, covers-all, covers-rest, covers-carried}
+use Rattle.dr_flash.proofs.FieldLemmas.{low-empty, low-remove, lawful-withdrawn, Apart, apart-empty, covers-all, covers-rest, covers-carried}
 use Rattle.dr_flash.proofs.TurnLemmas.{Tells}
 use Rattle.dr_flash.proofs.MoveLemmas.{MoveFits}
 use Rattle.dr_incr.specs.Steps.{HasFitSets}

@@ -1,5 +1,5 @@
 -- Entries that follow checks.
-use Rattle.std.proofs.Common.{ℕ, ◌≡◌, Bool, true, false, ap, ◌∙◌, List, [], ◌∷◌, ◌++◌, sym, subst, Option, None, Some}
+use Rattle.std.proofs.Common.{ℕ, ◌≡◌, Bool, true, ap, ◌∙◌, List, [], ◌∷◌, ◌++◌, sym, subst, Option, None, Some}
 use Rattle.std.proofs.lemmas.List.{append_assoc}
 use Rattle.dr_ids.specs.declared.refusal.Refusal.{Refusal}
 use Rattle.dr_model.specs.Control.{World}

@@ -1,5 +1,5 @@
 -- The targets of a source, from one volume of the configuration to the next, and what a target shares with its source.
-use Rattle.std.proofs.Common.{ℕ, zero, suc, arith, ◌≡◌, ◌≢◌, ◌≤◌, ◌<◌, ◌+◌, Bool, true, false, not, ◌&&◌, ◌||◌, List, [], ◌∷◌, map, cond, drop, length, refl, sym, ◌∙◌, ap, subst, nat_eq, inl, inr, Some, option_map, slice_get}
+use Rattle.std.proofs.Common.{ℕ, zero, suc, arith, ◌≡◌, ◌≢◌, ◌≤◌, ◌<◌, ◌+◌, Bool, true, false, not, ◌&&◌, ◌||◌, List, [], ◌∷◌, cond, drop, length, refl, sym, ◌∙◌, ap, subst, nat_eq, inl, inr, Some, option_map, slice_get}
 use Rattle.std.specs.Prelude.{filter, is_some}
 use Rattle.std.specs.List.{list_any}
 use Rattle.std.proofs.lemmas.List.{drop_all}

@@ -1,9 +1,9 @@
-use Rattle.std.proofs.Common.{ℕ, ◌≡◌, ◌+◌, ◌≤◌, Bool, not, ◌&&◌, ◌||◌, nat_eq, ap, sym, ◌∙◌, option_map, arith}
+use Rattle.std.proofs.Common.{ℕ, ◌+◌, Bool, not, ◌&&◌, ◌||◌, nat_eq, ap, sym, ◌∙◌, option_map}
 use Rattle.dr_ids.specs.declared.names.VolumeId.{VolumeId}
 use Rattle.dr_model.specs.Layout.{Fields}
 use Rattle.dr_model.specs.Entries.{copies_from}
 use Rattle.dr_volume.specs.View.{volume_seen}
-use Rattle.dr_incr.proofs.TargetLemmas.{any_from, any-next, any-none}
+use Rattle.dr_incr.proofs.TargetLemmas.{any_from, any-next}
 use Rattle.dr_incr.proofs.checks.has_other_restore.Goals as goal
 
 pub returns-then-is_other_restore : goal.returns-then-is_other_restore

@@ -1,4 +1,4 @@
-use Rattle.std.proofs.Common.{◌≡◌, not, ap, sym, ◌∙◌, Some}
+use Rattle.std.proofs.Common.{not, ap, sym, ◌∙◌, Some}
 use Rattle.dr_ids.specs.declared.refusal.Refusal.{Refusal}
 use Rattle.dr_model.specs.Entries.{relation_state}
 use Rattle.dr_model.specs.Plans.{is_lone_restore}

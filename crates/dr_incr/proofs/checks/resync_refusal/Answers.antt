@@ -1,4 +1,4 @@
-use Rattle.std.proofs.Common.{◌≡◌, Bool, not, ◌&&◌, ap, sym, ◌∙◌, Some}
+use Rattle.std.proofs.Common.{not, ◌&&◌, ap, sym, ◌∙◌, Some}
 use Rattle.dr_ids.specs.declared.refusal.Refusal.{Refusal}
 use Rattle.dr_model.specs.Layout.{Fields}
 use Rattle.dr_model.specs.Entries.{copies_from, is_running, relation_state}

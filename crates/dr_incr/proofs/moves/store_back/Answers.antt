@@ -1,17 +1,15 @@
-use Rattle.std.proofs.Common.{ℕ, List, ◌≡◌, ◌≤◌, ◌+◌, length, arith, ap, refl, sym, subst, ◌∙◌, None, Some}
+use Rattle.std.proofs.Common.{ℕ, List, ap, sym, subst, ◌∙◌, Some}
 use Rattle.std.specs.FinSet.{remove}
 use Rattle.dr_model.specs.Layout.{Fields}
 use Rattle.dr_model.specs.Lawful.{IsLawful}
-use Rattle.dr_model.specs.Moves.{Restore, fields_left}
-use Rattle.dr_model.specs.Relations.{restored}
+use Rattle.dr_model.specs.Moves.{Restore}
 use Rattle.dr_volume.specs.Plain.{plain}
-use Rattle.dr_volume.specs.View.{Rest, volume_seen, track_seen}
+use Rattle.dr_volume.specs.View.{volume_seen}
 use Rattle.dr_flash.specs.Here.{seen, armed_in, refusal_of}
-use Rattle.dr_flash.specs.declared.told.Telling.{Telling}
 use Rattle.dr_flash.proofs.ReadLemmas.{on-running}
 use Rattle.dr_flash.proofs.TurnLemmas.{Tells, advances, halts, ok-along, err-along}
 use Rattle.dr_flash.proofs.MoveLemmas.{MoveFits}
-use Rattle.dr_incr.proofs.RestoreLemmas.{restore-fits, tells-restore, told-by, room-few, done-few}
+use Rattle.dr_incr.proofs.RestoreLemmas.{restore-fits, tells-restore}
 use Rattle.dr_incr.proofs.moves.store_back.Goals as goal
 
 pub shift-requires-clause-lawful : goal.shift-requires-clause-lawful

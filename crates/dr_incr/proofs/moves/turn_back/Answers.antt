@@ -1,13 +1,11 @@
-use Rattle.std.proofs.Common.{ℕ, List, ◌≡◌, ◌≤◌, ◌+◌, length, arith, ap, refl, sym, subst, ◌∙◌, None, Some}
-use Rattle.std.specs.FinSet.{remove}
+use Rattle.std.proofs.Common.{arith, ap, refl, sym, subst, ◌∙◌, None}
 use Rattle.dr_model.specs.Layout.{Fields}
 use Rattle.dr_model.specs.Lawful.{IsLawful}
-use Rattle.dr_model.specs.Moves.{Reverse, fields_left}
+use Rattle.dr_model.specs.Moves.{Reverse}
 use Rattle.dr_model.specs.Relations.{restored, turned}
 use Rattle.dr_volume.specs.Plain.{plain}
-use Rattle.dr_volume.specs.View.{Rest, volume_seen, track_seen}
+use Rattle.dr_volume.specs.View.{volume_seen}
 use Rattle.dr_flash.specs.Here.{seen, armed_in, refusal_of}
-use Rattle.dr_flash.specs.declared.told.Telling.{Telling}
 use Rattle.dr_flash.proofs.ReadLemmas.{on-running}
 use Rattle.dr_flash.proofs.TurnLemmas.{Tells, advances, halts, ok-along, err-along}
 use Rattle.dr_flash.proofs.MoveLemmas.{MoveFits}

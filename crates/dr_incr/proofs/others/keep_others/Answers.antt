@@ -1,19 +1,13 @@
-use Rattle.std.proofs.Common.{ℕ, ◌≡◌, ◌≤◌, ◌++◌, ◌∷◌, ◌+◌, length, true, false, not, ◌&&◌, arith, ap, sym, subst, ◌∙◌, List, Option, None, Some, option_map}
-use Rattle.std.specs.Prelude.{IfSome, is_some}
+use Rattle.std.proofs.Common.{◌≡◌, ◌++◌, ◌+◌, arith, ap, sym, subst, ◌∙◌, Some, option_map}
 use Rattle.dr_ids.specs.declared.names.VolumeId.{VolumeId}
-use Rattle.dr_ids.specs.declared.refusal.Refusal.{Refusal}
-use Rattle.dr_plant.specs.State.{PlantState}
-use Rattle.dr_config.specs.Table.{place_of}
-use Rattle.dr_model.specs.Carry.{Entry}
-use Rattle.dr_model.specs.Control.{World, Volume}
+use Rattle.dr_model.specs.Control.{Volume}
 use Rattle.dr_model.specs.Relations.{lowest}
 use Rattle.dr_model.specs.Entries.{copies_from, keep_on, for_lowest}
 use Rattle.dr_model.specs.ReadStops.{Ends}
 use Rattle.dr_model.specs.Refusals.{stopped}
-use Rattle.dr_volume.specs.Update.{IsAsBefore}
-use Rattle.dr_volume.specs.View.{Rest, volume_seen, ids_of}
-use Rattle.dr_flash.specs.Here.{seen, armed_in, refusal_of}
-use Rattle.dr_flash.proofs.CopyLemmas.{ids-next, before-then, wider-armed, volume-there, no-own}
+use Rattle.dr_volume.specs.View.{volume_seen, ids_of}
+use Rattle.dr_flash.specs.Here.{seen, armed_in}
+use Rattle.dr_flash.proofs.CopyLemmas.{before-then, wider-armed, volume-there, no-own}
 use Rattle.dr_flash.proofs.EndsLemmas.{ends-wider, ends-alike}
 use Rattle.dr_flash.proofs.TurnLemmas.{err-always, refused-by}
 use Rattle.dr_incr.specs.Steps.{keeps_of}

@@ -1,11 +1,7 @@
-use Rattle.std.proofs.Common.{ℕ, ◌≡◌, [], ◌∷◌, ◌++◌, Some, None, sym, ◌∙◌}
-use Rattle.dr_model.specs.Carry.{now}
-use Rattle.dr_model.specs.Moves.{Resync}
-use Rattle.dr_volume.specs.View.{Rest, volume_seen}
 use Rattle.dr_flash.specs.Here.{seen, armed_in, refusal_of}
 use Rattle.dr_flash.proofs.CheckLemmas.{counted-stop}
 use Rattle.dr_flash.proofs.TurnLemmas.{ok-along, err-along}
-use Rattle.dr_incr.specs.Steps.{resync_entries, reverse_entries, lone_checks}
+use Rattle.dr_incr.specs.Steps.{resync_entries}
 use Rattle.dr_incr.proofs.StepLemmas.{ends-by, stop-refused}
 use Rattle.dr_incr.proofs.TargetLemmas.{target-of}
 use Rattle.dr_incr.proofs.CopyLaws.{copy-shown}

@@ -1,4 +1,4 @@
-use Rattle.std.proofs.Common.{ℕ, ◌≡◌, ◌≤◌, ◌<◌, ◌+◌, ◌||◌, nat_eq, [], ◌∷◌, ◌++◌, length, arith, ap, sym, subst, ◌∙◌, Some, None}
+use Rattle.std.proofs.Common.{◌<◌, nat_eq, [], ◌∷◌, arith, ap, sym, subst, ◌∙◌, Some}
 use Rattle.std.specs.Prelude.{is_some}
 use Rattle.dr_model.specs.Carry.{now}
 use Rattle.dr_model.specs.Control.{Volume}
@@ -14,7 +14,7 @@ use Rattle.dr_flash.proofs.KeepLemmas.{alike-advances, alike-halts}
 use Rattle.dr_flash.proofs.TurnLemmas.{err-always, refused-by, ok-along, err-along}
 use Rattle.dr_incr.specs.Steps.{keeps_of}
 use Rattle.dr_incr.proofs.StepLemmas.{then-leads, then-fails, fails-first, lowest-entry}
-use Rattle.dr_incr.proofs.TargetLemmas.{TargetOf, target-of, lowest-below, neither, differs, other-target, same-lowest}
+use Rattle.dr_incr.proofs.TargetLemmas.{target-of, lowest-below, neither, differs, other-target, same-lowest}
 use Rattle.dr_incr.proofs.restore.give_back.Goals as goal
 
 pub keep_others-requires-clause-within : goal.keep_others-requires-clause-within

@@ -1,9 +1,8 @@
-use Rattle.std.proofs.Common.{ℕ, ◌≡◌, [], ◌∷◌, sym, ◌∙◌}
+use Rattle.std.proofs.Common.{[], ◌∷◌, sym, ◌∙◌}
 use Rattle.dr_model.specs.Relations.{lowest}
 use Rattle.dr_model.specs.Carry.{now}
 use Rattle.dr_model.specs.Moves.{Release}
 use Rattle.dr_model.specs.Entries.{for_lowest}
-use Rattle.dr_volume.specs.View.{volume_seen}
 use Rattle.dr_flash.specs.Here.{seen, armed_in, refusal_of}
 use Rattle.dr_flash.proofs.KeepLemmas.{alike-advances, alike-halts}
 use Rattle.dr_flash.proofs.TurnLemmas.{ok-along, err-along}

@@ -1,4 +1,4 @@
-use Rattle.std.proofs.Common.{ℕ, ◌≡◌, sym, subst, ap, ◌∙◌, Some, None}
+use Rattle.std.proofs.Common.{sym, subst, ap, ◌∙◌, Some}
 use Rattle.dr_model.specs.Layout.{Fields}
 use Rattle.dr_model.specs.Relations.{lowest}
 use Rattle.dr_model.specs.Entries.{give_back}
