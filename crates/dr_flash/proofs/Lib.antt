@@ -14,3 +14,4 @@ pub mod StandingLemmas
 pub mod CheckLemmas
 pub mod FetchLemmas
 pub mod WriteLemmas
+pub mod StructureLaws
