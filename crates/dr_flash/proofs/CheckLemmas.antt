@@ -90,3 +90,8 @@ counted-stop (Err e) a b server counted refused = subst (λ o. Counted (is_stop 
 pub act-ends : {T : Type 0} (res : Result T Refusal) (armed : ℕ → Bool) (w v : Rest → World) (d : Entry) → OnOk res ((r : Rest) → Advances (w r) d (v r)) → OnErr res ((r : Rest) → Halts armed (w r) d (v r) (refusal_of res)) → (r : Rest) → Ends armed (v r) (refusal_of res) (w r) (d ∷ [])
 act-ends (Ok x) armed w v d goes halts r = goes r armed (v r) None [] (ends-none armed (v r) None (v r) (record { world = refl; refusal = refl }))
 act-ends (Err e) armed w v d goes halts r = halts r []
+
+-- and so nothing but a stop fails it
+pub only-stops : (X : Type 0) (res : Result (Unit {0}) Refusal) (server : ℕ) → OnErr res (refusal_of res ≡ Some (stopped server)) → is_stop (refusal_of res) ≡ false → OnErr res X
+only-stops X (Ok x) server refused calm = tt
+only-stops X (Err e) server refused calm = absurd (let never : true ≡ false = sym (ap is_stop refused) ∙ calm in cc)

@@ -14,7 +14,7 @@ use Rattle.dr_volume.specs.Update.{Covers}
 use Rattle.dr_flash.proofs.SetLaws.{contains-rest}
 
 -- sets stay below n
-low-empty : (n : ℕ) → Low n empty
+pub low-empty : (n : ℕ) → Low n empty
 low-empty n t h = absurd (let e : contains {R = nat_cmp} empty t ≡ false = contains-empty nat_cmp t in cc)
 
 low-insert : (n t : ℕ) (s : Tracks) → t < n → Low n s → Low n (insert s t)
@@ -24,10 +24,10 @@ low-insert n t s below low q h =
       | inr p ↦ low q (sym (contains-insert_tracks s t q ∙ ap (λ b. b || contains s q) p.0) ∙ h)
     ]
 
-low-remove : (n t : ℕ) (s : Tracks) → Low n s → Low n (remove s t)
+pub low-remove : (n t : ℕ) (s : Tracks) → Low n s → Low n (remove s t)
 low-remove n t s low q h = low q (let e = contains-remove_tracks s t q in grind (arith, e, h))
 
-low-rest : (n : ℕ) (own : Tracks) → Low n (rest n own)
+pub low-rest : (n : ℕ) (own : Tracks) → Low n (rest n own)
 low-rest n own q h = let e = contains-rest n own q in grind (arith, nat_tests, e, h)
 
 low-if : (b : Bool) (n : ℕ) (x y : Tracks) → Low n x → Low n y → Low n (if b then x else y)

@@ -60,3 +60,8 @@ first_of false b h = h
 pub apart-target : (s : PlantState) (t : Table) (v u q : ℕ) (f : Fields) → plain f ≡ (volume_seen s t u).fields → (copies_from v (plain f) && not f.reversing) ≡ true → copies_from v (volume_seen s t q).fields ≡ false → q ≢ u
 apart-target s t v u q f shows own other is =
     let e : true ≡ false = sym (first_of (copies_from v (plain f)) (not f.reversing) own) ∙ ap (copies_from v) (shows ∙ ap (λ z. (volume_seen s t z).fields) (sym is)) ∙ other in cc
+
+-- nor one that copies from v and is restored onto it
+pub apart-kept : (s : PlantState) (t : Table) (v u q : ℕ) (f : Fields) → plain f ≡ (volume_seen s t u).fields → (copies_from v (plain f) && not f.reversing) ≡ true → (copies_from v (volume_seen s t q).fields && not (volume_seen s t q).fields.reversing) ≡ false → q ≢ u
+apart-kept s t v u q f shows own other is =
+    let e : true ≡ false = sym own ∙ ap (λ (g : layout.Fields). copies_from v g && not g.reversing) (shows ∙ ap (λ z. (volume_seen s t z).fields) (sym is)) ∙ other in cc

@@ -15,3 +15,4 @@ pub mod StandingLemmas
 pub mod CheckLemmas
 pub mod FetchLemmas
 pub mod WriteLemmas
+pub mod StructureLaws

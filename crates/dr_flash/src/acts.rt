@@ -57,6 +57,7 @@ pub(crate) fn make<P: Plant>(
     ensures on { OnOk result ((P.state p.new).on ≡ (P.state p.old).on) }
     ensures room { j.old.spare ≤ j.new.spare + room_of told.now }
     ensures room_left { OnOk result (j.old.spare ≡ j.new.spare + length (events_of told.now.done)) }
+    ensures spare { length j.new.events + j.new.spare ≡ length j.old.events + j.old.spare }
 {
     let before = slot(p, c, v);
     match opened.change(p, c, v, next, track) {
@@ -75,7 +76,7 @@ pub(crate) fn make<P: Plant>(
 
 /// Opens a volume whose server is on, and makes a move of it that leaves the relationships fitting. Fails where the server
 /// goes off at the read or stops in the move.
-pub(crate) fn shift<P: Plant>(
+pub fn shift<P: Plant>(
     p: &mut P,
     c: &Config,
     j: &mut Journal,
@@ -107,6 +108,7 @@ pub(crate) fn shift<P: Plant>(
     ensures on { OnOk result ((P.state p.new).on ≡ (P.state p.old).on) }
     ensures room { j.old.spare ≤ j.new.spare + room_of told.now }
     ensures room_left { OnOk result (j.old.spare ≡ j.new.spare + length (events_of told.now.done)) }
+    ensures spare { length j.new.events + j.new.spare ≡ length j.old.events + j.old.spare }
 {
     let mut opened = open_told(p, c, j, v)?;
     make(p, c, j, v, &mut opened, next, track, told)

@@ -1,6 +1,6 @@
 //! What a target keeps before a track of its source changes.
 
-ghost use Rattle.std.specs.Prelude.{◌≡◌, ℕ, ◌<◌, ◌≤◌, ◌+◌, Bool, true, false, not, ◌&&◌, None, Some, IsSome, OnOk, OnErr, is_err};
+ghost use Rattle.std.specs.Prelude.{◌≡◌, ℕ, ◌<◌, ◌≤◌, ◌+◌, Bool, true, false, not, ◌&&◌, length, None, Some, IsSome, OnOk, OnErr, is_err};
 ghost use Rattle.std.specs.FinSet.{contains};
 ghost use Rattle.dr_config.specs.Table.{place_of};
 ghost use Rattle.dr_model.specs.Carry.{now};
@@ -58,6 +58,7 @@ fn store<P: Plant>(
     ensures on { OnOk result ((P.state p.new).on ≡ (P.state p.old).on) }
     ensures room { j.old.spare ≤ j.new.spare + 2 }
     ensures room_left { OnOk result (j.old.spare ≤ j.new.spare + 1) }
+    ensures spare { length j.new.events + j.new.spare ≡ length j.old.events + j.old.spare }
 {
     let tracks = tracks_of(c, u);
     let track = *bytes;
@@ -97,6 +98,7 @@ fn keep<P: Plant>(
     ensures on { OnOk result ((P.state p.new).on ≡ (P.state p.old).on) }
     ensures room { j.old.spare ≤ j.new.spare + 2 }
     ensures room_left { OnOk result (j.old.spare ≤ j.new.spare + 1) }
+    ensures spare { length j.new.events + j.new.spare ≡ length j.old.events + j.old.spare }
 {
     let mut bytes = [0; 64];
     read_told(p, c, j, f.source, t, &mut bytes)?;
@@ -131,6 +133,7 @@ fn note<P: Plant>(
     ensures on { OnOk result ((P.state p.new).on ≡ (P.state p.old).on) }
     ensures room { j.old.spare ≤ j.new.spare + 2 }
     ensures room_left { OnOk result (j.old.spare ≤ j.new.spare + 1) }
+    ensures spare { length j.new.events + j.new.spare ≡ length j.old.events + j.old.spare }
 {
     let next = noted(f, t);
     shift(p, c, j, u, &next, None, &Telling::of(Told::Nothing))
@@ -151,7 +154,7 @@ fn is_news(f: &Fields, t: u16) -> bool
 }
 
 /// Before track t of v changes, u keeps it where u is a target of v, or notes the change where u holds it.
-pub(crate) fn keep_on<P: Plant>(
+pub fn keep_on<P: Plant>(
     p: &mut P,
     c: &Config,
     j: &mut Journal,
@@ -173,9 +176,11 @@ pub(crate) fn keep_on<P: Plant>(
     ensures unarmed { (q : ℕ) → (P.state p.old).read_fuse q ≡ None → (P.state p.new).read_fuse q ≡ None }
     ensures faults { Counted (is_err result) (P.state p.old).faults (P.state p.new).faults }
     ensures others { (q : ℕ) → copies_from v.0 (volume_seen (P.state p.old) c.now q).fields ≡ false → IsAsBefore (P.state p.old) (P.state p.new) c.now q }
+    ensures apart { (q : ℕ) → (copies_from v.0 (volume_seen (P.state p.old) c.now q).fields && not (volume_seen (P.state p.old) c.now q).fields.reversing) ≡ false → IsAsBefore (P.state p.old) (P.state p.new) c.now q }
     ensures on { OnOk result ((P.state p.new).on ≡ (P.state p.old).on) }
     ensures room { j.old.spare ≤ j.new.spare + 2 }
     ensures room_left { OnOk result (j.old.spare ≤ j.new.spare + 1) }
+    ensures spare { length j.new.events + j.new.spare ≡ length j.old.events + j.old.spare }
 {
     let fields = peek_fields(p, c, u);
     if !is_kept_for(&fields, v) {

@@ -17,16 +17,20 @@ mod told;
 mod views;
 mod writing;
 
+pub use acts::shift;
 pub use ending::withdraw;
 pub use fetching::{copy_step, read_target};
 pub use fields::{
     closed, fetched, given_up, made, noted, restored, resynced, rewritten, turned, withdrawn,
 };
+pub use keep::keep_on;
 pub use keeping::copy_first;
 pub use making::establish;
 pub use options::Options;
 pub use place::{server_of, tracks_of};
-pub use standing::write_refusal;
+pub use reads::{open_told, read_told};
+pub use sets::{is_whole, lowest, rest};
+pub use standing::{relation_state, write_refusal};
 pub use told::{Telling, Told};
 pub use views::view_of;
 pub use writing::{write_source, write_source_telling, write_target};

@@ -1,6 +1,6 @@
 //! Reads that a move begins with: a server that goes off at one is told to the journal.
 
-ghost use Rattle.std.specs.Prelude.{◌≡◌, ℕ, ◌<◌, ◌≤◌, ◌+◌, ◌++◌, ◌∷◌, [], true, None, Some, IsSome, IfOk, OnOk, OnErr, is_err};
+ghost use Rattle.std.specs.Prelude.{◌≡◌, ℕ, ◌<◌, ◌≤◌, ◌+◌, ◌++◌, ◌∷◌, [], true, length, None, Some, IsSome, IfOk, OnOk, OnErr, is_err};
 ghost use Rattle.dr_plant.specs.State.{PlantState};
 ghost use Rattle.dr_config.specs.Table.{place_of};
 ghost use Rattle.dr_model.specs.declared.event.Event.{Event};
@@ -26,6 +26,7 @@ fn gone_off(c: &Config, j: &mut Journal, v: VolumeId) -> Refusal
     ensures refusal { (s : PlantState) → result ≡ stopped (volume_seen s c.now v.0).server }
     ensures events { (s : PlantState) → j.new.events ≡ j.old.events ++ Event.Stopped (volume_seen s c.now v.0).server 0 ∷ [] }
     ensures room { j.old.spare ≡ j.new.spare + 1 }
+    ensures spare { length j.new.events + j.new.spare ≡ length j.old.events + j.old.spare }
 {
     let server = server_of(c, v);
     j.push(Event::Stopped {
@@ -36,7 +37,7 @@ fn gone_off(c: &Config, j: &mut Journal, v: VolumeId) -> Refusal
 }
 
 /// Opens a volume whose server is on. Fails where the server goes off at the read.
-pub(crate) fn open_told<P: Plant>(
+pub fn open_told<P: Plant>(
     p: &mut P,
     c: &Config,
     j: &mut Journal,
@@ -56,6 +57,7 @@ pub(crate) fn open_told<P: Plant>(
     ensures unarmed { (q : ℕ) → (P.state p.old).read_fuse q ≡ None → (P.state p.new).read_fuse q ≡ None }
     ensures faults { Counted (is_err result) (P.state p.old).faults (P.state p.new).faults }
     ensures room { j.old.spare ≤ j.new.spare + 1 }
+    ensures spare { length j.new.events + j.new.spare ≡ length j.old.events + j.old.spare }
 {
     match open(p, c, v) {
         Ok(opened) => Ok(opened),
@@ -64,7 +66,7 @@ pub(crate) fn open_told<P: Plant>(
 }
 
 /// Reads a track of a volume whose server is on. Fails where the server goes off at the read; then `into` is as before.
-pub(crate) fn read_told<P: Plant>(
+pub fn read_told<P: Plant>(
     p: &mut P,
     c: &Config,
     j: &mut Journal,
@@ -88,6 +90,7 @@ pub(crate) fn read_told<P: Plant>(
     ensures unarmed { (q : ℕ) → (P.state p.old).read_fuse q ≡ None → (P.state p.new).read_fuse q ≡ None }
     ensures faults { Counted (is_err result) (P.state p.old).faults (P.state p.new).faults }
     ensures room { j.old.spare ≤ j.new.spare + 1 }
+    ensures spare { length j.new.events + j.new.spare ≡ length j.old.events + j.old.spare }
 {
     match read_track(p, c, v, t, into) {
         Ok(()) => Ok(()),

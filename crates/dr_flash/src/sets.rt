@@ -6,7 +6,7 @@ ghost use Rattle.dr_model.specs.Relations as relations;
 use dr_bits::TrackSet;
 
 /// The tracks of a volume that has n which a target that holds `own` doesn't hold.
-pub(crate) fn rest(n: u16, own: &TrackSet) -> TrackSet
+pub fn rest(n: u16, own: &TrackSet) -> TrackSet
     requires { n ≤ 256 }
     ensures { result ≡ relations.rest n own.now }
 {
@@ -16,7 +16,7 @@ pub(crate) fn rest(n: u16, own: &TrackSet) -> TrackSet
 }
 
 /// Whether a target that holds `own` holds each track of a volume that has n.
-pub(crate) fn is_whole(n: u16, own: &TrackSet) -> bool
+pub fn is_whole(n: u16, own: &TrackSet) -> bool
     requires { n ≤ 256 }
     ensures { result ≡ relations.is_whole n own.now }
 {
@@ -24,7 +24,7 @@ pub(crate) fn is_whole(n: u16, own: &TrackSet) -> bool
 }
 
 /// The lowest track of a set that is below n, if there is one.
-pub(crate) fn lowest(n: u16, s: &TrackSet) -> Option<u16>
+pub fn lowest(n: u16, s: &TrackSet) -> Option<u16>
     ensures lowest { result ≡ relations.lowest n s.now }
     ensures within { IfSome result (λ t. t < n) }
 {

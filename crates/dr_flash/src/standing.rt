@@ -81,7 +81,7 @@ fn relation_by(f: &Fields, all: Targets) -> RelSeen
 }
 
 /// The refusal that says in which relationships a volume stands.
-pub(crate) fn relation_state<P: Plant>(p: &P, c: &Config, v: VolumeId) -> Refusal
+pub fn relation_state<P: Plant>(p: &P, c: &Config, v: VolumeId) -> Refusal
     requires stands { StandsFor c.now (P.state p.now) }
     requires defined { IsSome (place_of c.now v.0) }
     ensures refusal { (r : Rest) (events : List Event) → result ≡ entries.relation_state (seen (P.state p.now) c.now r events).control v.0 }

@@ -1,7 +1,7 @@
 //! What the journal is told of a move.
 
 ghost use Rattle.std.specs.Prelude.{◌≡◌, ◌≤◌, ◌+◌, ◌++◌, length};
-ghost use Rattle.dr_model.specs.Moves.{told_blank};
+ghost use Rattle.dr_model.specs.Moves.{told_blank, told_restored};
 ghost use Rattle.dr_flash.specs.Told.{events_of};
 ghost use Rattle.dr_flash.specs.Turns.{told_in_stop};
 
@@ -18,6 +18,14 @@ pub enum Told {
     /// zeros.
     Blanked {
         volume: u16,
+        tracks: u16,
+        own: TrackSet,
+    },
+    /// A target, a volume with so many tracks, has these left to give back to its source: where there are none, the
+    /// restore has ended, and each track of the target reads zeros.
+    Returned {
+        volume: u16,
+        source: u16,
         tracks: u16,
         own: TrackSet,
     },
@@ -60,7 +68,29 @@ pub(crate) fn tell(j: &mut Journal, told: &Told)
             tracks,
             own,
         } => tell_blank(j, *volume, *tracks, own),
+        Told::Returned {
+            volume,
+            source,
+            tracks,
+            own,
+        } => tell_returned(j, *volume, *source, *tracks, own),
     }
+}
+
+/// Tells that a restore has ended, where no track is left to give back.
+fn tell_returned(j: &mut Journal, volume: u16, source: u16, tracks: u16, own: &TrackSet)
+    requires { length (told_restored volume source tracks own.now) ≤ j.old.spare }
+    ensures events { j.new.events ≡ j.old.events ++ told_restored volume source tracks own.now }
+    ensures spare { j.old.spare ≡ j.new.spare + length (told_restored volume source tracks own.now) }
+{
+    if own.len() != 0 {
+        return;
+    }
+    tell_blank(j, volume, tracks, own);
+    j.push(Event::Restored {
+        volume: source,
+        from: volume,
+    });
 }
 
 /// Tells that the tracks of a volume that has so many, but for those in `own`, read zeros.
@@ -82,6 +112,7 @@ pub(crate) fn tell_stop(j: &mut Journal, told: &Telling, server: ServerId, done:
     requires { length (events_of told.now.in_stop) + 1 ≤ j.old.spare }
     ensures events { j.new.events ≡ j.old.events ++ told_in_stop done told.now server.0 }
     ensures spare { j.old.spare ≤ j.new.spare + (length (events_of told.now.in_stop) + 1) }
+    ensures sum { length j.new.events + j.new.spare ≡ length j.old.events + j.old.spare }
 {
     if !done {
         j.push(Event::Stopped {

@@ -10,6 +10,7 @@ ghost use Rattle.dr_model.specs.Moves.{Overwrite, fields_left};
 ghost use Rattle.dr_model.specs.Refusals.{stopped};
 ghost use Rattle.dr_volume.specs.Plain.{plain};
 ghost use Rattle.dr_volume.specs.Update.{Covers, IsAsBefore, OthersStay};
+ghost use Rattle.dr_volume.specs.Volume.{Shows};
 ghost use Rattle.dr_volume.specs.View.{Rest, volume_seen, ids_of};
 ghost use Rattle.dr_flash.specs.Checks.{is_stop};
 ghost use Rattle.dr_flash.specs.Faults.{Counted};
@@ -113,6 +114,7 @@ fn overwrite<P: Plant>(
     j: &mut Journal,
     v: VolumeId,
     t: u16,
+    f: &Fields,
     bytes: &Block,
     told: &Telling,
 ) -> Result<(), Refusal>
@@ -121,6 +123,7 @@ fn overwrite<P: Plant>(
     requires defined { IsSome (place_of c.now v.0) }
     requires running { (P.state p.old).on (volume_seen (P.state p.old) c.now v.0).server ≡ true }
     requires within { t < (volume_seen (P.state p.old) c.now v.0).tracks }
+    requires shows { Shows (P.state p.old) c.now v.0 f.now }
     requires related { (volume_seen (P.state p.old) c.now v.0).fields.related ≡ true }
     requires room { room_of told.now ≤ j.old.spare }
     ensures made { (r : Rest) → MadeFrom (armed_in (P.state p.old)) (seen (P.state p.old) c.now r j.old.events) v.0 (fields_left (Overwrite 0 v.0 t) (volume_seen (P.state p.old) c.now v.0)) (Some (t, bytes.now)) told.now (seen (P.state p.new) c.now r j.new.events) (refusal_of result) }
@@ -133,10 +136,9 @@ fn overwrite<P: Plant>(
     ensures on { OnOk result ((P.state p.new).on ≡ (P.state p.old).on) }
     ensures room { j.old.spare ≤ j.new.spare + room_of told.now }
 {
-    let fields = peek_fields(p, c, v);
     let tracks = tracks_of(c, v);
     let track = *bytes;
-    let next = closed(tracks, &rewritten(&fetched(&fields, t), t));
+    let next = closed(tracks, &rewritten(&fetched(f, t), t));
     shift(p, c, j, v, &next, Some((t, track)), told)
 }
 
@@ -162,6 +164,7 @@ pub fn write_target<P: Plant>(
     requires room { room_of told.now ≤ j.old.spare }
     ensures carried { (r : Rest) → EndsThen (armed_in (P.state p.old)) (seen (P.state p.old) c.now r j.old.events) (target_checks (seen (P.state p.old) c.now r j.old.events).control v.0) (seen (P.state p.new) c.now r j.new.events) (refusal_of result)
         (λ w. MadeFrom (armed_in (P.state p.old)) w v.0 (fields_left (Overwrite 0 v.0 t) (w.control.volume v.0)) (Some (t, bytes.now)) told.now (seen (P.state p.new) c.now r j.new.events) (refusal_of result)) }
+    ensures unchanged { is_stop (refusal_of result) ≡ false → OnErr result ((P.state p.new ≡ P.state p.old) × (j.new ≡ j.old)) }
     ensures rest { IsAtRest (P.state p.new) c.now }
     ensures fit { RelationsFit (P.state p.new) c.now }
     ensures unarmed { (q : ℕ) → (P.state p.old).read_fuse q ≡ None → (P.state p.new).read_fuse q ≡ None }
@@ -177,5 +180,5 @@ pub fn write_target<P: Plant>(
     if !is_settled(p, c, v) {
         return Err(relation_state(p, c, v));
     }
-    overwrite(p, c, j, v, t, bytes, told)
+    overwrite(p, c, j, v, t, &fields, bytes, told)
 }

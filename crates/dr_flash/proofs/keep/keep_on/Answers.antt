@@ -3,7 +3,7 @@ use Rattle.dr_model.specs.Carry.{now}
 use Rattle.dr_model.specs.Moves.{Keep, Note}
 use Rattle.dr_model.specs.Entries as entries
 use Rattle.dr_flash.specs.Here.{seen, armed_in, refusal_of}
-use Rattle.dr_flash.proofs.KeepLemmas.{skips, alike-advances, alike-halts, passes-other, keeps-new, keeps-noted, passes-held, apart-target}
+use Rattle.dr_flash.proofs.KeepLemmas.{skips, alike-advances, alike-halts, passes-other, keeps-new, keeps-noted, passes-held, apart-target, apart-kept}
 use Rattle.dr_flash.proofs.TurnLemmas.{ok-along, err-along}
 use Rattle.dr_flash.proofs.keep.keep_on.Goals as goal
 
@@ -41,3 +41,11 @@ returns-then-is_news-clause-others g c q other =
 
 pub returns-clause-advances : goal.returns-clause-advances
 returns-clause-advances g c r = skips (seen (g.P.Plant.state c.args.p.now) c.args.c.now r c.args.j.now.events) (entries.keep_on c.args.v.0 c.args.t c.args.u.0) (passes-held (g.P.Plant.state c.args.p.now) c.args.c.now r c.args.j.now.events c.args.v.0 c.args.t c.args.u.0 c.peek_fields-fields.result c.peek_fields-fields.ensures.fields (sym c.is_kept_for.ensures ∙ c.if-not-is_kept_for.false) (sym c.contains.ensures.found ∙ c.if-not-contains.false) (sym c.is_news.ensures ∙ c.if-is_news.false))
+
+pub returns-then-not-contains-clause-apart : goal.returns-then-not-contains-clause-apart
+returns-then-not-contains-clause-apart g c q other =
+    c.keep.ensures.others q (apart-kept (g.P.Plant.state c.args.p.now) c.args.c.now c.args.v.0 c.args.u.0 q c.peek_fields-fields.result c.peek_fields-fields.ensures.fields (sym c.is_kept_for.ensures ∙ c.if-not-is_kept_for.false) other)
+
+pub returns-then-is_news-clause-apart : goal.returns-then-is_news-clause-apart
+returns-then-is_news-clause-apart g c q other =
+    c.note.ensures.others q (apart-kept (g.P.Plant.state c.args.p.now) c.args.c.now c.args.v.0 c.args.u.0 q c.peek_fields-fields.result c.peek_fields-fields.ensures.fields (sym c.is_kept_for.ensures ∙ c.if-not-is_kept_for.false) other)

@@ -7,7 +7,7 @@ use Rattle.dr_volume.specs.View.{on_seen, volume_seen}
 use Rattle.dr_flash.specs.Here.{seen, armed_in, refusal_of}
 use Rattle.dr_flash.specs.Options.{choices}
 use Rattle.dr_flash.proofs.EndsLemmas.{ends-passed}
-use Rattle.dr_flash.proofs.CheckLemmas.{refuses, on-low, act-ends}
+use Rattle.dr_flash.proofs.CheckLemmas.{refuses, on-low, act-ends, only-stops}
 use Rattle.dr_flash.proofs.making.establish.Goals as goal
 
 pub returns-then-not-is_on-clause-carried : goal.returns-then-not-is_on-clause-carried
@@ -32,3 +32,6 @@ returns-clause-carried g c r =
     (c.in_default.ensures.checked (g.P.Plant.state c.args.p.now) r c.args.j.now.events (armed_in (g.P.Plant.state c.args.p.now)) (seen (g.P.Plant.state c.relate.new.p) c.args.c.now r c.relate.new.j.events) (refusal_of c.relate.result) _
     (c.in_default-free_refusal.ensures.checked r c.args.j.now.events (armed_in (g.P.Plant.state c.args.p.now)) (seen (g.P.Plant.state c.relate.new.p) c.args.c.now r c.relate.new.j.events) (refusal_of c.relate.result) _
     (act-ends c.relate.result (armed_in (g.P.Plant.state c.args.p.now)) (λ r. (seen (g.P.Plant.state c.args.p.now) c.args.c.now r c.args.j.now.events)) (λ r. (seen (g.P.Plant.state c.relate.new.p) c.args.c.now r c.relate.new.j.events)) (now (Relate c.args.t.0 c.args.s.0 (choices c.args.o.now))) c.relate.ensures.advances c.relate.ensures.halts r)))
+
+pub returns-clause-unchanged : goal.returns-clause-unchanged
+returns-clause-unchanged g c calm = only-stops _ c.relate.result _ c.relate.ensures.refused calm

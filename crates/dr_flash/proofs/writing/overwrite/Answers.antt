@@ -14,19 +14,19 @@ use Rattle.dr_flash.proofs.writing.overwrite.Goals as goal
 
 pub shift-requires-clause-lawful : goal.shift-requires-clause-lawful
 shift-requires-clause-lawful g c = (let s = g.P.Plant.state c.args.p.now in let t = c.args.c.now in subst (λ f. MoveFits s t c.args.v.0 f (Some (c.args.t, c.args.bytes.now))) (sym (c.closed-next.ensures ∙ ap (closed c.tracks_of-tracks.result) (c.rewritten.ensures ∙ ap (λ f. rewritten f c.args.t) c.fetched.ensures)
-    ∙ (λ i. closed (sym (c.tracks_of-tracks.ensures.seen (g.P.Plant.state c.args.p.now)) i) (rewritten (fetched (c.peek_fields-fields.ensures.fields i) c.args.t) c.args.t)))) (overwrite-fits s t c.args.v.0 c.requires.fit (subst (λ (f : Fields). IsLawful (volume_seen s t c.args.v.0).tracks f) c.peek_fields-fields.ensures.fields c.peek_fields-fields.ensures.lawful) c.requires.related c.args.t c.requires.within 0 c.args.bytes.now)).lawful
+    ∙ (λ i. closed (sym (c.tracks_of-tracks.ensures.seen (g.P.Plant.state c.args.p.now)) i) (rewritten (fetched (c.requires.shows.fields i) c.args.t) c.args.t)))) (overwrite-fits s t c.args.v.0 c.requires.fit (subst (λ (f : Fields). IsLawful (volume_seen s t c.args.v.0).tracks f) c.requires.shows.fields c.requires.shows.lawful) c.requires.related c.args.t c.requires.within 0 c.args.bytes.now)).lawful
 
 pub shift-requires-clause-leaves : goal.shift-requires-clause-leaves
 shift-requires-clause-leaves g c = (let s = g.P.Plant.state c.args.p.now in let t = c.args.c.now in subst (λ f. MoveFits s t c.args.v.0 f (Some (c.args.t, c.args.bytes.now))) (sym (c.closed-next.ensures ∙ ap (closed c.tracks_of-tracks.result) (c.rewritten.ensures ∙ ap (λ f. rewritten f c.args.t) c.fetched.ensures)
-    ∙ (λ i. closed (sym (c.tracks_of-tracks.ensures.seen (g.P.Plant.state c.args.p.now)) i) (rewritten (fetched (c.peek_fields-fields.ensures.fields i) c.args.t) c.args.t)))) (overwrite-fits s t c.args.v.0 c.requires.fit (subst (λ (f : Fields). IsLawful (volume_seen s t c.args.v.0).tracks f) c.peek_fields-fields.ensures.fields c.peek_fields-fields.ensures.lawful) c.requires.related c.args.t c.requires.within 0 c.args.bytes.now)).leaves
+    ∙ (λ i. closed (sym (c.tracks_of-tracks.ensures.seen (g.P.Plant.state c.args.p.now)) i) (rewritten (fetched (c.requires.shows.fields i) c.args.t) c.args.t)))) (overwrite-fits s t c.args.v.0 c.requires.fit (subst (λ (f : Fields). IsLawful (volume_seen s t c.args.v.0).tracks f) c.requires.shows.fields c.requires.shows.lawful) c.requires.related c.args.t c.requires.within 0 c.args.bytes.now)).leaves
 
 pub shift-requires-clause-covers : goal.shift-requires-clause-covers
 shift-requires-clause-covers g c = (let s = g.P.Plant.state c.args.p.now in let t = c.args.c.now in subst (λ f. MoveFits s t c.args.v.0 f (Some (c.args.t, c.args.bytes.now))) (sym (c.closed-next.ensures ∙ ap (closed c.tracks_of-tracks.result) (c.rewritten.ensures ∙ ap (λ f. rewritten f c.args.t) c.fetched.ensures)
-    ∙ (λ i. closed (sym (c.tracks_of-tracks.ensures.seen (g.P.Plant.state c.args.p.now)) i) (rewritten (fetched (c.peek_fields-fields.ensures.fields i) c.args.t) c.args.t)))) (overwrite-fits s t c.args.v.0 c.requires.fit (subst (λ (f : Fields). IsLawful (volume_seen s t c.args.v.0).tracks f) c.peek_fields-fields.ensures.fields c.peek_fields-fields.ensures.lawful) c.requires.related c.args.t c.requires.within 0 c.args.bytes.now)).covers
+    ∙ (λ i. closed (sym (c.tracks_of-tracks.ensures.seen (g.P.Plant.state c.args.p.now)) i) (rewritten (fetched (c.requires.shows.fields i) c.args.t) c.args.t)))) (overwrite-fits s t c.args.v.0 c.requires.fit (subst (λ (f : Fields). IsLawful (volume_seen s t c.args.v.0).tracks f) c.requires.shows.fields c.requires.shows.lawful) c.requires.related c.args.t c.requires.within 0 c.args.bytes.now)).covers
 
 pub returns-clause-made : goal.returns-clause-made
 returns-clause-made g c r =
     subst (λ f. MadeFrom (armed_in (g.P.Plant.state c.args.p.now)) (seen (g.P.Plant.state c.args.p.now) c.args.c.now r c.args.j.now.events) c.args.v.0 f (Some (c.args.t, c.args.bytes.now)) c.args.told.now (seen (g.P.Plant.state c.shift.new.p) c.args.c.now r c.shift.new.j.events) (refusal_of c.shift.result)) (c.closed-next.ensures ∙ ap (closed c.tracks_of-tracks.result) (c.rewritten.ensures ∙ ap (λ f. rewritten f c.args.t) c.fetched.ensures)
-    ∙ (λ i. closed (sym (c.tracks_of-tracks.ensures.seen (g.P.Plant.state c.args.p.now)) i) (rewritten (fetched (c.peek_fields-fields.ensures.fields i) c.args.t) c.args.t)))
+    ∙ (λ i. closed (sym (c.tracks_of-tracks.ensures.seen (g.P.Plant.state c.args.p.now)) i) (rewritten (fetched (c.requires.shows.fields i) c.args.t) c.args.t)))
     (made-from c.shift.result (armed_in (g.P.Plant.state c.args.p.now)) (armed_in (g.P.Plant.state c.args.p.now)) (λ q h. h) (λ r. (seen (g.P.Plant.state c.args.p.now) c.args.c.now r c.args.j.now.events)) (λ r. (seen (g.P.Plant.state c.shift.new.p) c.args.c.now r c.shift.new.j.events)) (λ r. made_by (update (seen (g.P.Plant.state c.args.p.now) c.args.c.now r c.args.j.now.events) c.args.v.0 (plain c.closed-next.result) (Some (c.args.t, c.args.bytes.now))) (volume_seen (g.P.Plant.state c.args.p.now) c.args.c.now c.args.v.0).server c.args.told.now) (volume_seen (g.P.Plant.state c.args.p.now) c.args.c.now c.args.v.0).server
     c.shift.ensures.done c.shift.ensures.failed c.shift.ensures.refused r)

@@ -6,7 +6,7 @@ use Rattle.dr_model.specs.Entries.{is_open, is_settled, relation_state}
 use Rattle.dr_volume.specs.View.{volume_seen}
 use Rattle.dr_flash.specs.Here.{seen}
 use Rattle.dr_flash.proofs.EndsLemmas.{ends-passed}
-use Rattle.dr_flash.proofs.CheckLemmas.{refuses, counted-stop}
+use Rattle.dr_flash.proofs.CheckLemmas.{refuses, counted-stop, only-stops}
 use Rattle.dr_flash.proofs.writing.write_target.Goals as goal
 
 pub returns-then-fields-clause-carried : goal.returns-then-fields-clause-carried
@@ -28,3 +28,6 @@ returns-clause-carried g c r =
 
 pub returns-clause-faults : goal.returns-clause-faults
 returns-clause-faults g c = counted-stop c.overwrite.result _ _ _ c.overwrite.ensures.faults c.overwrite.ensures.refused
+
+pub returns-clause-unchanged : goal.returns-clause-unchanged
+returns-clause-unchanged g c calm = only-stops _ c.overwrite.result _ c.overwrite.ensures.refused calm

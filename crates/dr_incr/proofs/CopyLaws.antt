@@ -1,0 +1,93 @@
+-- After a resynchronization a target shows its source's tracks.
+use Rattle.std.proofs.Common.{ℕ, List, [], ◌≡◌, Bool, true, false, not, ◌&&◌, cond, refl, sym, ◌∙◌, ap, None, Some, Option}
+use Rattle.std.specs.Prelude.{if◌then◌else◌}
+use Rattle.std.specs.FinSet.{contains, difference}
+use Rattle.dr_bits.specs.Tracks.{Tracks}
+use Rattle.dr_bits.proofs.Laws.{contains-minus_tracks}
+use Rattle.dr_plant.specs.State.{PlantState}
+use Rattle.dr_config.specs.Table.{Table}
+use Rattle.dr_model.specs.Contents.{zeros}
+use Rattle.dr_model.specs.Tables.{at}
+use Rattle.dr_model.specs.Layout.{Fields}
+use Rattle.dr_model.specs.Control.{Volume, World}
+use Rattle.dr_model.specs.Carry.{Ended, Turn, update, ended, pass, counts_by, writes, spent, off}
+use Rattle.dr_model.specs.Moves.{Carried, moved, updated, tracks_after}
+use Rattle.dr_model.specs.Relations.{resynced}
+use Rattle.dr_model.specs.Views.{shows_source}
+use Rattle.dr_model.specs.declared.event.Event.{Event}
+use Rattle.dr_model.proofs.Images.{at_same}
+use Rattle.dr_volume.specs.View.{Rest, volume_seen, track_seen}
+use Rattle.dr_volume.specs.Update.{IsMoved, OthersStay}
+use Rattle.dr_flash.specs.Fit.{RelationsFit}
+use Rattle.dr_flash.specs.Here.{seen}
+use Rattle.dr_flash.specs.Turns.{made_by}
+use Rattle.dr_flash.specs.declared.told.Telling.{Telling}
+use Rattle.dr_incr.specs.Copies.{HoldsUnchanged, shown}
+use Rattle.dr_incr.proofs.TargetLemmas.{TargetOf, both}
+
+-- what a move that was done made of its volume
+record IsDone (w u : World) (v : ℕ) (f : Fields) (c : Carried) : Type 0 where
+  contents : u.contents ≡ at w.contents v (tracks_after f c (w.contents v))
+  volume : u.control.volume ≡ at w.control.volume v (moved (w.control.volume v) f c)
+
+never : {x y : World} {s : ℕ} → ◌≡◌ {A = Turn} (x, Some s) (y, None) → ⊥
+never h = let e = ap (λ (t : Turn). t.1) h in cc
+
+done-by : (w u : World) (v : ℕ) (f : Fields) (c : Carried) (server : ℕ) (told : Telling) → made_by (update w v f c) server told ≡ (u, None) → IsDone w u v f c
+unfolding update
+done-by w u v f c server told = pick (w.control.on (w.control.volume v).server) (pass (w.control.fuse (w.control.volume v).server) (writes c)) (counts_by (w.control.fuse (w.control.volume v).server) (not (w.control.volume v).slot))
+  where
+    ways : Bool → Bool → Bool → Ended
+    ways on passes counts =
+        let s : ℕ = (w.control.volume v).server in
+        cond (not on) (ended w true false) (cond passes (ended (spent (updated w v f c) s (writes c)) false true) (cond counts (ended (off (updated w v f c) s) true true) (ended (off w s) true false)))
+
+    pick : (on passes counts : Bool) → made_by (ways on passes counts) server told ≡ (u, None) → IsDone w u v f c
+    pick true true counts h = record { contents = sym (ap (λ (t : Turn). t.0.contents) h); volume = sym (ap (λ (t : Turn). t.0.control.volume) h) }
+    pick false passes counts h = absurd (never h)
+    pick true false true h = absurd (never h)
+    pick true false false h = absurd (never h)
+
+nothing_else : Rest
+nothing_else = record { issued = 0; pending = []; events = [] }
+
+pub moved-by : (s u : PlantState) (t : Table) (v : ℕ) (f : Fields) (c : Carried) (server : ℕ) (told : Telling) (old now : List Event)
+    → ((r : Rest) → made_by (update (seen s t r old) v f c) server told ≡ (seen u t r now, None)) → IsMoved s u t v f c
+moved-by s u t v f c server told old now done =
+    let x = done-by (seen s t nothing_else old) (seen u t nothing_else now) v f c server told (done nothing_else) in
+    record {
+      volume = ap (λ (g : ℕ → Volume). g v) x.volume ∙ at_same (volume_seen s t) v (moved (volume_seen s t v) f c);
+      tracks = ap (λ (g : ℕ → ℕ → List ℕ). g v) x.contents ∙ at_same (track_seen s t) v (tracks_after f c (track_seen s t v));
+    }
+
+not-so : (b : Bool) → not b ≡ true → b ≡ false
+not-so false h = refl
+not-so true h = absurd cc
+
+minus-both : (a b : Tracks) (q : ℕ) → contains (difference a b) q ≡ true → (contains a q ≡ true) × (contains b q ≡ false)
+minus-both a b q h = let x = both (contains a q) (not (contains b q)) (sym (contains-minus_tracks a b q) ∙ h) in (x.0, not-so (contains b q) x.1)
+
+pub copy-shown : (s u : PlantState) (c : Table) (v t : ℕ) (sequence : Option ℕ) → RelationsFit s c → TargetOf s c v t → IsMoved s u c t (resynced sequence (volume_seen s c t).fields) None → OthersStay s u c t
+    → HoldsUnchanged s c t → (k : ℕ) → shown u c t k ≡ track_seen u c v k
+copy-shown s u c v t sequence fit to is others holds k =
+    ap (λ (x : Volume). if shows_source x.fields k then track_seen u c x.fields.source k else track_seen u c t k) is.volume
+    ∙ (elim (contains g.own k) as (λ b. contains g.own k ≡ b → (if f.related && not b then track_seen u c f.source k else track_seen u c t k) ≡ track_seen u c v k) [
+      | false ↦ λ shared. ap (λ b. if b && true then track_seen u c f.source k else track_seen u c t k) to.related ∙ ap (λ n. track_seen u c n k) to.source
+      | true ↦ λ own. ap (λ b. if b && false then track_seen u c f.source k else track_seen u c t k) to.related ∙ held own
+    ] refl)
+  where
+    f : Fields
+    f = (volume_seen s c t).fields
+
+    g : Fields
+    g = resynced sequence f
+
+    held : contains g.own k ≡ true → track_seen u c t k ≡ track_seen u c v k
+    held own =
+        let x = minus-both (difference f.own f.source_changes) f.target_changes k own in
+        let y = minus-both f.own f.source_changes k x.0 in
+        ap (λ (z : ℕ → List ℕ). z k) is.tracks
+        ∙ ap (λ b. if b then zeros else track_seen s c t k) (fit.apart t k y.0)
+        ∙ holds k y.0 y.1 x.1
+        ∙ ap (λ n. track_seen s c n k) to.source
+        ∙ sym (ap (λ (z : ℕ → List ℕ). z k) (others v (λ same. to.apart (sym same))).tracks)

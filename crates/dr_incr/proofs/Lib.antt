@@ -1,0 +1,4 @@
+pub mod RestoreLemmas
+pub mod StepLemmas
+pub mod TargetLemmas
+pub mod CopyLaws

@@ -1,0 +1,219 @@
+-- The moves of a resynchronization and of a restore: their fields are lawful and leave the relationships fitting, and what
+-- they tell.
+use Rattle.std.proofs.Common.{ℕ, zero, suc, List, [], ◌∷◌, ◌++◌, map, length, ◌≡◌, ◌≤◌, ◌+◌, Bool, true, false, not, ◌&&◌, ◌||◌, cond, refl, sym, ◌∙◌, ap, subst, arith, None, Some, Option}
+use Rattle.std.specs.Prelude.{filter, max, if◌then◌else◌}
+use Rattle.std.specs.List.{range_with_len}
+use Rattle.std.specs.FinSet.{contains, remove, union, difference}
+use Rattle.dr_bits.specs.Tracks.{Tracks}
+use Rattle.dr_bits.proofs.Laws.{contains-remove_tracks, contains-minus_tracks, contains-union_tracks}
+use Rattle.dr_plant.specs.State.{PlantState}
+use Rattle.dr_config.specs.Table.{Table}
+use Rattle.dr_model.specs.declared.event.Event.{Event}
+use Rattle.dr_model.specs.declared.event.Event.TheVariants.{Set, Back, Blanked, Restored}
+use Rattle.dr_model.specs.Layout.{Fields}
+use Rattle.dr_model.specs.Lawful.{Low, HasSets, IsLawful}
+use Rattle.dr_model.specs.Control.{Volume}
+use Rattle.dr_model.specs.Moves.{Resync, Reverse, Restore, Release, fields_left, told_blank, told_restored}
+use Rattle.dr_model.specs.Relations.{in_order, rest, is_bare, withdrawn_if, resynced, turned, given_up, restored}
+use Rattle.dr_volume.specs.View.{volume_seen}
+use Rattle.dr_volume.specs.Update.{Covers}
+use Rattle.dr_flash.specs.Fit.{RelationsFit}
+use Rattle.dr_flash.specs.Told.{events_of}
+use Rattle.dr_flash.specs.Turns.{room_of}
+use Rattle.dr_flash.specs.declared.told.Told.TheVariants.{One, Returned}
+use Rattle.dr_flash.specs.declared.told.Telling.{Telling}
+use Rattle.dr_flash.proofs.FitLemmas.{fit-kept}
+use Rattle.dr_flash.proofs.FieldLemmas.{low-empty, low-remove, lawful-withdrawn, Apart, apart-empty, covers-all, covers-rest, covers-carried}
+use Rattle.dr_flash.proofs.TurnLemmas.{Tells}
+use Rattle.dr_flash.proofs.MoveLemmas.{MoveFits}
+use Rattle.dr_incr.specs.Steps.{HasFitSets}
+
+both-first : (a b : Bool) → (a && b) ≡ true → a ≡ true
+both-first true b h = refl
+both-first false b h = h
+
+both-second : (a b : Bool) → (a && b) ≡ true → b ≡ true
+both-second true b h = h
+both-second false b h = absurd cc
+
+either-of : (a b : Bool) {P : Type 0} → (a || b) ≡ true → (a ≡ true → P) → (b ≡ true → P) → P
+either-of true b h f g = f refl
+either-of false b h f g = g h
+
+minus-held : (a b : Tracks) (q : ℕ) → contains (difference a b) q ≡ true → contains a q ≡ true
+minus-held a b q h = both-first (contains a q) (not (contains b q)) (sym (contains-minus_tracks a b q) ∙ h)
+
+remove-held : (a : Tracks) (k q : ℕ) → contains (remove a k) q ≡ true → contains a q ≡ true
+remove-held a k q h = both-second _ (contains a q) (sym (contains-remove_tracks a k q) ∙ h)
+
+union-held : (a b own : Tracks) → ((q : ℕ) → contains a q ≡ true → contains own q ≡ true) → ((q : ℕ) → contains b q ≡ true → contains own q ≡ true) → (q : ℕ) → contains (union a b) q ≡ true → contains own q ≡ true
+union-held a b own f g q h = either-of (contains a q) (contains b q) (sym (contains-union_tracks a b q) ∙ h) (f q) (g q)
+
+-- the fields of a target with other tracks of its own and other changes
+lawful-held : (n : ℕ) (f g : Fields) → f.related ≡ true → IsLawful n f → g ≡ record f { own = g.own; source_changes = g.source_changes; target_changes = g.target_changes; sequence = g.sequence; reversing = g.reversing; member = g.member; session = g.session }
+    → Low n g.own → Low n g.source_changes → Low n g.target_changes → IsLawful n g
+lawful-held n f g related law is own noted rewritten = let s : HasSets n f = law.sets in subst (λ x. IsLawful n x) (sym is) (record {
+  sets = record {
+    out_of_sync_low = s.out_of_sync_low;
+    change_recording_low = s.change_recording_low;
+    own_low = own;
+    previous_own_low = s.previous_own_low;
+    source_changes_low = noted;
+    target_changes_low = rewritten;
+    blank_low = s.blank_low;
+  };
+  primary = law.primary;
+  secondary = law.secondary;
+  relation = λ absent. absurd (let e : true ≡ false = sym related ∙ absent in cc);
+})
+
+lawful-restored : (b : Bool) (n : ℕ) (f : Fields) → IsLawful n f → IsLawful n (withdrawn_if b n f)
+lawful-restored false n f law = law
+lawful-restored true n f law = lawful-withdrawn n f law
+
+restored-covers : (b : Bool) (n : ℕ) (f : Fields) → Low n f.blank → Apart f.own f.blank → Covers f.blank (withdrawn_if b n f).blank None
+restored-covers false n f low apart = covers-all f.blank None
+restored-covers true n f low apart = covers-rest n f.own f.blank low apart
+
+restored-keeps : (b : Bool) (n : ℕ) (f : Fields) → (withdrawn_if b n f).related ≡ true → (f.related ≡ true) × ((withdrawn_if b n f).source ≡ f.source)
+restored-keeps true n f related = absurd (let e : false ≡ true = related in cc)
+restored-keeps false n f related = (related, refl)
+
+restored-apart : (b : Bool) (n : ℕ) (f : Fields) → Apart f.own f.blank → Apart (withdrawn_if b n f).own (withdrawn_if b n f).blank
+restored-apart false n f apart = apart
+restored-apart true n f apart = apart-empty (rest n f.own)
+
+module _ (s : PlantState) (t : Table) (v : ℕ) (fit : RelationsFit s t) (lawful : IsLawful (volume_seen s t v).tracks (volume_seen s t v).fields) where
+  abbrev x : Volume
+  x = volume_seen s t v
+
+  abbrev n : ℕ
+  n = x.tracks
+
+  -- a source stores a track
+  pub restore-fits : (k u : ℕ) (bytes : List ℕ) → x.fields.related ≡ false → MoveFits s t v (fields_left (Restore v k u) x) (Some (k, bytes))
+  restore-fits k u bytes plain = let sets : HasSets n x.fields = lawful.sets in record {
+    lawful = record {
+      sets = record {
+        out_of_sync_low = sets.out_of_sync_low;
+        change_recording_low = sets.change_recording_low;
+        own_low = sets.own_low;
+        previous_own_low = sets.previous_own_low;
+        source_changes_low = sets.source_changes_low;
+        target_changes_low = sets.target_changes_low;
+        blank_low = low-remove n k x.fields.blank sets.blank_low;
+      };
+      primary = lawful.primary;
+      secondary = lawful.secondary;
+      relation = lawful.relation;
+    };
+    covers = covers-carried x.fields.blank k bytes;
+    leaves = fit-kept s t v (record x.fields { blank = remove x.fields.blank k }) fit (λ r. (r, refl)) (λ q held. kept _ (contains x.fields.blank q) _ (fit.apart v q held) (contains-remove_tracks x.fields.blank k q));
+  }
+    where
+      kept : (a b c : Bool) → b ≡ false → c ≡ (a && b) → c ≡ false
+      kept a b c none is = is ∙ ap (λ z. a && z) none ∙ never a
+        where
+          never : (a : Bool) → (a && false) ≡ false
+          never true = refl
+          never false = refl
+
+  module _ (related : x.fields.related ≡ true) where
+    -- a target holds fewer tracks, or ends
+    left-fits : (g : Fields) → g.related ≡ true → g.source ≡ x.fields.source → g.blank ≡ x.fields.blank → IsLawful n g → Apart g.own x.fields.blank → MoveFits s t v (restored n g) None
+    left-fits g is_related is_source blank law apart =
+        let sets : HasSets n g = law.sets in
+        let own : Apart g.own g.blank = subst (λ b. Apart g.own b) (sym blank) apart in
+        record {
+          lawful = lawful-restored (is_bare g.own) n g law;
+          covers = subst (λ b. Covers b (restored n g).blank None) blank (restored-covers (is_bare g.own) n g sets.blank_low own);
+          leaves = fit-kept s t v (restored n g) fit (λ r. let y = restored-keeps (is_bare g.own) n g r in (related, y.1 ∙ is_source)) (restored-apart (is_bare g.own) n g own);
+        }
+
+    pub release-fits : (k : ℕ) → MoveFits s t v (fields_left (Release v k) x) None
+    release-fits k =
+        let sets : HasSets n x.fields = lawful.sets in
+        left-fits (given_up x.fields k) related refl refl
+        (lawful-held n x.fields (given_up x.fields k) related lawful refl (low-remove n k x.fields.own sets.own_low) sets.source_changes_low sets.target_changes_low)
+        (λ q h. fit.apart v q (remove-held x.fields.own k q h))
+
+    pub reverse-fits : HasFitSets x.fields → MoveFits s t v (fields_left (Reverse v) x) None
+    reverse-fits fits =
+        let sets : HasSets n x.fields = lawful.sets in
+        let held = union-held x.fields.source_changes x.fields.target_changes x.fields.own fits.noted_held fits.rewritten_held in
+        left-fits (turned x.fields) related refl refl
+        (lawful-held n x.fields (turned x.fields) related lawful refl (λ q h. sets.own_low q (held q h)) (low-empty n) (low-empty n))
+        (λ q h. fit.apart v q (held q h))
+
+    pub resync-fits : (sequence : Option ℕ) → MoveFits s t v (fields_left (Resync v sequence) x) None
+    resync-fits sequence =
+        let sets : HasSets n x.fields = lawful.sets in
+        let held : (q : ℕ) → contains (resynced sequence x.fields).own q ≡ true → contains x.fields.own q ≡ true = (λ q h. minus-held x.fields.own x.fields.source_changes q (minus-held _ x.fields.target_changes q h)) in
+        record {
+          lawful = lawful-held n x.fields (resynced sequence x.fields) related lawful refl (λ q h. sets.own_low q (held q h)) (low-empty n) (low-empty n);
+          covers = covers-all x.fields.blank None;
+          leaves = fit-kept s t v (resynced sequence x.fields) fit (λ r. (related, refl)) (λ q h. fit.apart v q (held q h));
+        }
+
+-- what they tell
+pub tells-resync : (v : ℕ) (sequence : Option ℕ) (x : Volume) → Tells (Resync v sequence) x (record { done = One (Set v x.fields.source); in_stop = One (Set v x.fields.source); landed = 0 })
+tells-resync v sequence x = record { done = refl; in_stop = refl; landed = refl; settles = λ ps. refl; settles_in_stop = λ ps. refl }
+
+pub tells-restore : (v k u : ℕ) (x : Volume) → Tells (Restore v k u) x (record { done = One (Back v k u); in_stop = One (Back v k u); landed = 0 })
+tells-restore v k u x = record { done = refl; in_stop = refl; landed = refl; settles = λ ps. refl; settles_in_stop = λ ps. refl }
+
+pub tells-reverse : (v : ℕ) (x : Volume) → Tells (Reverse v) x (record { done = Returned v x.fields.source x.tracks (turned x.fields).own; in_stop = Returned v x.fields.source x.tracks (turned x.fields).own; landed = 0 })
+tells-reverse v x = record { done = refl; in_stop = refl; landed = refl; settles = λ ps. refl; settles_in_stop = λ ps. refl }
+
+pub tells-release : (v k : ℕ) (x : Volume) → Tells (Release v k) x (record { done = Returned v x.fields.source x.tracks (given_up x.fields k).own; in_stop = Returned v x.fields.source x.tracks (given_up x.fields k).own; landed = 0 })
+tells-release v k x = record { done = refl; in_stop = refl; landed = refl; settles = λ ps. refl; settles_in_stop = λ ps. refl }
+
+-- how many events
+few-in : (f : ℕ → Bool) (n a : ℕ) → length (filter f (range_with_len a n)) ≤ n
+few-in f zero a = omega arith
+few-in f (suc n) a = one (f a) (filter f (range_with_len (a + 1) n)) (few-in f n (a + 1))
+  where
+    one : (b : Bool) (xs : List ℕ) → length xs ≤ n → length (cond b (a ∷ xs) xs) ≤ suc n
+    one true xs h = omega (arith, h)
+    one false xs h = omega (arith, h)
+
+map-count : (v : ℕ) (xs : List ℕ) → length (map (Blanked v) xs) ≡ length xs
+map-count v [] = refl
+map-count v (x ∷ xs) = ap suc (map-count v xs)
+
+blank-few : (v n : ℕ) (own : Tracks) → length (told_blank v n own) ≤ n
+unfolding in_order
+blank-few v n own = let e = map-count v (filter (contains (rest n own)) (range_with_len 0 n)) in let few = few-in (contains (rest n own)) n 0 in omega (arith, e, few)
+
+one-more : (xs : List Event) (e : Event) → length (xs ++ e ∷ []) ≡ suc (length xs)
+one-more [] e = refl
+one-more (x ∷ xs) e = ap suc (one-more xs e)
+
+pub restored-few : (v s n : ℕ) (own : Tracks) → length (told_restored v s n own) ≤ n + 1
+restored-few v s n own = pick (is_bare own)
+  where
+    pick : (b : Bool) → length (if b then told_blank v n own ++ Restored s v ∷ [] else []) ≤ n + 1
+    pick true = let e = one-more (told_blank v n own) (Restored s v) in let few = blank-few v n own in omega (arith, e, few)
+    pick false = omega arith
+
+max-few : (a b : ℕ) → a ≤ b → max a (a + 1) ≤ b + 1
+max-few a b h = grind (arith, h)
+
+pub room-few : (v s n : ℕ) (own : Tracks) (told : Telling) → told ≡ record { done = Returned v s n own; in_stop = Returned v s n own; landed = 0 } → room_of told ≤ n + 2
+room-few v s n own told is =
+    let e : room_of told ≡ max (length (told_restored v s n own)) (length (told_restored v s n own) + 1) = ap room_of is in
+    let few = max-few (length (told_restored v s n own)) (n + 1) (restored-few v s n own) in
+    omega (arith, e, few)
+
+pub done-few : (v s n : ℕ) (own : Tracks) (told : Telling) → told ≡ record { done = Returned v s n own; in_stop = Returned v s n own; landed = 0 } → length (events_of told.done) ≤ n + 1
+done-few v s n own told is =
+    let e : length (events_of told.done) ≡ length (told_restored v s n own) = ap (λ (y : Telling). length (events_of y.done)) is in
+    let few = restored-few v s n own in
+    omega (arith, e, few)
+
+-- what is told of a target that gives tracks back
+abbrev pub returned_told : ℕ → ℕ → ℕ → Tracks → Telling
+returned_told v s n own = record { done = Returned v s n own; in_stop = Returned v s n own; landed = 0 }
+
+pub told-by : (v n : ℕ) (f f' g g' : Fields) (told : Telling) → told ≡ returned_told v f.source n g.own → f ≡ f' → g ≡ g' → told ≡ returned_told v f'.source n g'.own
+told-by v n f f' g g' told is same left = is ∙ (λ i. returned_told v (same i).source n (left i).own)

@@ -1,0 +1,44 @@
+use Rattle.dr_flash.specs.Here.{seen, armed_in, refusal_of}
+use Rattle.dr_flash.proofs.CheckLemmas.{counted-stop}
+use Rattle.dr_flash.proofs.TurnLemmas.{ok-along, err-along}
+use Rattle.dr_incr.specs.Steps.{resync_entries}
+use Rattle.dr_incr.proofs.StepLemmas.{ends-by, stop-refused}
+use Rattle.dr_incr.proofs.TargetLemmas.{target-of}
+use Rattle.dr_incr.proofs.CopyLaws.{copy-shown}
+use Rattle.dr_incr.proofs.renewal.resync.Goals as goal
+
+pub returns-in-Some-clause-carried : goal.returns-in-Some-clause-carried
+returns-in-Some-clause-carried g c r = c.in-Some.ensures.checked r c.args.j.now.events (armed_in (g.P.Plant.state c.args.p.now)) _
+
+pub returns-in-Some-clause-fails : goal.returns-in-Some-clause-fails
+returns-in-Some-clause-fails g c r ds = c.in-Some.ensures.checked r c.args.j.now.events (armed_in (g.P.Plant.state c.args.p.now)) _
+
+pub returns-clause-leads : goal.returns-clause-leads
+returns-clause-leads g c =
+    ok-along c.renew.result c.renew.ensures.advances (λ goes r armed u r' ds more.
+    c.in_default.ensures.checked r c.args.j.now.events armed u r' _
+    (goes r armed u r' ds more))
+
+pub returns-clause-fails : goal.returns-clause-fails
+returns-clause-fails g c =
+    err-along c.renew.result c.renew.ensures.halts c.renew.ensures.refused (λ halts refused r ds.
+    c.in_default.ensures.checked r c.args.j.now.events (armed_in (g.P.Plant.state c.args.p.now)) (seen (g.P.Plant.state c.renew.new.p) c.args.c.now r c.renew.new.j.events) (refusal_of c.renew.result) _
+    (halts r ds))
+
+pub returns-clause-carried : goal.returns-clause-carried
+returns-clause-carried g c =
+    ends-by c.renew.result (armed_in (g.P.Plant.state c.args.p.now)) (λ r. (seen (g.P.Plant.state c.args.p.now) c.args.c.now r c.args.j.now.events)) (λ r. (seen (g.P.Plant.state c.renew.new.p) c.args.c.now r c.renew.new.j.events)) (λ r. resync_entries (seen (g.P.Plant.state c.args.p.now) c.args.c.now r c.args.j.now.events).control c.args.s.0 c.args.t.0 c.args.sequence) (returns-clause-leads g c) (returns-clause-fails g c)
+
+pub returns-clause-refused : goal.returns-clause-refused
+returns-clause-refused g c =
+    stop-refused c.renew.result _ _ c.renew.ensures.refused (target-of (g.P.Plant.state c.args.p.now) c.args.c.now c.args.s.0 c.args.t.0 c.requires.fit c.in_default.ensures.related).server
+
+pub returns-clause-faults : goal.returns-clause-faults
+returns-clause-faults g c = counted-stop c.renew.result _ _ _ c.renew.ensures.faults c.renew.ensures.refused
+
+pub returns-clause-same : goal.returns-clause-same
+returns-clause-same g c =
+    let s = g.P.Plant.state c.args.p.now in
+    let t = c.args.c.now in
+    ok-along c.renew.result c.renew.ensures.moved (λ is holds k.
+    copy-shown s (g.P.Plant.state c.renew.new.p) t c.args.s.0 c.args.t.0 c.args.sequence c.requires.fit (target-of s t c.args.s.0 c.args.t.0 c.requires.fit c.in_default.ensures.related) is c.renew.ensures.others holds k)

@@ -1,0 +1,17 @@
+-- When a target is a copy of its source.
+use Rattle.std.specs.Prelude.{◌≡◌, ℕ, true, false, List}
+use Rattle.std.specs.FinSet.{contains}
+use Rattle.dr_plant.specs.State.{PlantState}
+use Rattle.dr_config.specs.Table.{Table}
+use Rattle.dr_model.specs.Views.{view}
+use Rattle.dr_volume.specs.View.{volume_seen, track_seen}
+
+-- what target t holds, and what changed on neither side, equals its source's
+abbrev pub HoldsUnchanged : PlantState → Table → ℕ → Type 0
+HoldsUnchanged s c t =
+    (k : ℕ) → contains (volume_seen s c t).fields.own k ≡ true → contains (volume_seen s c t).fields.source_changes k ≡ false → contains (volume_seen s c t).fields.target_changes k ≡ false
+    → track_seen s c t k ≡ track_seen s c (volume_seen s c t).fields.source k
+
+-- what track k of volume v reads as
+abbrev pub shown : PlantState → Table → ℕ → ℕ → List ℕ
+shown s c v k = view (λ u. (volume_seen s c u).fields) (track_seen s c) v k

@@ -1,0 +1,87 @@
+//! What a resynchronization and a restore ask of the two volumes.
+
+ghost use Rattle.std.specs.Prelude.{◌≡◌, ◌&&◌, ◌||◌, not, true, false, nat_eq, IsSome, List};
+ghost use Rattle.std.specs.List.{list_any};
+ghost use Rattle.dr_config.specs.Table.{place_of};
+ghost use Rattle.dr_model.specs.declared.event.Event.{Event};
+ghost use Rattle.dr_model.specs.Entries.{copies_from};
+ghost use Rattle.dr_volume.specs.Plain.{plain};
+ghost use Rattle.dr_volume.specs.View.{Rest, volume_seen};
+ghost use Rattle.dr_flash.specs.Checks.{Checked, OnNone, is_stop};
+ghost use Rattle.dr_flash.specs.Here.{seen, IsAtRest};
+ghost use Rattle.dr_flash.specs.Standing.{targets_in};
+ghost use Rattle.dr_incr.specs.Steps.{resync_checks, lone_checks};
+
+use dr_config::Config;
+use dr_flash::{relation_state, server_of};
+use dr_ids::{Refusal, VolumeId};
+use dr_plant::Plant;
+use dr_volume::{Fields, peek_fields};
+
+/// Whether a volume with these fields is a target of s whose changes are recorded, and neither revertible nor restored.
+fn is_recorded_target(f: &Fields, s: VolumeId) -> bool
+    ensures { result ≡ (copies_from s.0 (plain f.now) && (not f.now.revertible && not f.now.reversing) && f.now.recorded) }
+{
+    f.related && f.source.0 == s.0 && !f.revertible && !f.reversing && f.recorded
+}
+
+/// Why t can't be made a copy of s anew or be restored onto s: the server of s is off, or t is no target of s whose changes
+/// are recorded, or is revertible or restored.
+pub(crate) fn resync_refusal<P: Plant>(
+    p: &P,
+    c: &Config,
+    s: VolumeId,
+    t: VolumeId,
+) -> Option<Refusal>
+    requires rest { IsAtRest (P.state p.now) c.now }
+    requires source { IsSome (place_of c.now s.0) }
+    requires target { IsSome (place_of c.now t.0) }
+    ensures checked { (r : Rest) (events : List Event) → Checked (seen (P.state p.now) c.now r events) (resync_checks (seen (P.state p.now) c.now r events).control s.0 t.0) result }
+    ensures running { OnNone result ((P.state p.now).on (volume_seen (P.state p.now) c.now s.0).server ≡ true) }
+    ensures related { OnNone result (copies_from s.0 (volume_seen (P.state p.now) c.now t.0).fields ≡ true) }
+    ensures calm { is_stop result ≡ false }
+{
+    let server = server_of(c, s);
+    if !p.is_on(server.0) {
+        return Some(Refusal::ServerOff { server });
+    }
+    if !is_recorded_target(&peek_fields(p, c, t), s) {
+        return Some(relation_state(p, c, t));
+    }
+    None
+}
+
+/// Whether a volume u with these fields is a target of s other than t that is revertible or restored.
+fn is_other_restore(f: &Fields, s: VolumeId, t: VolumeId, u: VolumeId) -> bool
+    ensures { result ≡ (copies_from s.0 (plain f.now) && (not (nat_eq u.0 t.0) && (f.now.revertible || f.now.reversing))) }
+{
+    f.related && f.source.0 == s.0 && (u.0 != t.0 && (f.revertible || f.reversing))
+}
+
+/// Whether a target of s other than t is revertible or restored.
+fn has_other_restore<P: Plant>(p: &P, c: &Config, s: VolumeId, t: VolumeId) -> bool
+    requires rest { IsAtRest (P.state p.now) c.now }
+    ensures { result ≡ list_any (λ u. not (nat_eq u t.0) && ((volume_seen (P.state p.now) c.now u).fields.revertible || (volume_seen (P.state p.now) c.now u).fields.reversing)) (targets_in (P.state p.now) c.now s.0) }
+{
+    for place in 0..c.volumes() {
+        let u = c.volume_at(place).unwrap();
+        let fields = peek_fields(p, c, u);
+        if is_other_restore(&fields, s, t, u) {
+            return true;
+        }
+    }
+    false
+}
+
+/// Why t can't be restored onto s: another target of s is revertible or restored.
+pub(crate) fn lone_refusal<P: Plant>(p: &P, c: &Config, s: VolumeId, t: VolumeId) -> Option<Refusal>
+    requires rest { IsAtRest (P.state p.now) c.now }
+    requires source { IsSome (place_of c.now s.0) }
+    ensures checked { (r : Rest) (events : List Event) → Checked (seen (P.state p.now) c.now r events) (lone_checks (seen (P.state p.now) c.now r events).control s.0 t.0) result }
+    ensures calm { is_stop result ≡ false }
+{
+    if has_other_restore(p, c, s, t) {
+        return Some(relation_state(p, c, s));
+    }
+    None
+}

@@ -1,0 +1,234 @@
+//! One move of a resynchronization or a restore each.
+
+ghost use Rattle.std.specs.Prelude.{◌≡◌, ℕ, ◌<◌, ◌≤◌, ◌+◌, true, false, length, None, Some, IsSome, OnOk, OnErr, is_err};
+ghost use Rattle.std.specs.FinSet.{remove};
+ghost use Rattle.dr_plant.specs.State.{PlantState};
+ghost use Rattle.dr_config.specs.Table.{place_of};
+ghost use Rattle.dr_model.specs.Carry.{now};
+ghost use Rattle.dr_model.specs.Moves.{Resync, Reverse, Restore, Release};
+ghost use Rattle.dr_model.specs.Refusals.{stopped};
+ghost use Rattle.dr_model.specs.Relations as relations;
+ghost use Rattle.dr_volume.specs.Plain.{plain};
+ghost use Rattle.dr_volume.specs.Update.{IsMoved, OthersStay};
+ghost use Rattle.dr_volume.specs.View.{Rest, volume_seen, track_seen};
+ghost use Rattle.dr_volume.specs.Volume.{Shows};
+ghost use Rattle.dr_flash.specs.Faults.{Counted};
+ghost use Rattle.dr_flash.specs.Fit.{RelationsFit};
+ghost use Rattle.dr_flash.specs.Here.{seen, refusal_of, armed_in, IsAtRest};
+ghost use Rattle.dr_flash.specs.Told.{events_of};
+ghost use Rattle.dr_flash.specs.declared.told.Told.TheVariants.{Returned};
+ghost use Rattle.dr_flash.specs.Turns.{Advances, Halts};
+ghost use Rattle.dr_incr.specs.Steps.{HasFitSets};
+
+use dr_bits::TrackSet;
+use dr_config::Config;
+use dr_flash::{Telling, Told, given_up, read_told, restored, resynced, shift, tracks_of, turned};
+use dr_ids::{Refusal, VolumeId};
+use dr_model::{Event, Journal};
+use dr_plant::{Block, Plant};
+use dr_volume::{Fields, peek_fields};
+
+/// Target t shares its changed tracks with its source again.
+pub(crate) fn renew<P: Plant>(
+    p: &mut P,
+    c: &Config,
+    j: &mut Journal,
+    t: VolumeId,
+    sequence: Option<u32>,
+) -> Result<(), Refusal>
+    requires rest { IsAtRest (P.state p.old) c.now }
+    requires fit { RelationsFit (P.state p.old) c.now }
+    requires defined { IsSome (place_of c.now t.0) }
+    requires running { (P.state p.old).on (volume_seen (P.state p.old) c.now t.0).server ≡ true }
+    requires related { (volume_seen (P.state p.old) c.now t.0).fields.related ≡ true }
+    requires room { 2 ≤ j.old.spare }
+    ensures advances { OnOk result ((r : Rest) → Advances (seen (P.state p.old) c.now r j.old.events) (now (Resync t.0 sequence)) (seen (P.state p.new) c.now r j.new.events)) }
+    ensures halts { OnErr result ((r : Rest) → Halts (armed_in (P.state p.old)) (seen (P.state p.old) c.now r j.old.events) (now (Resync t.0 sequence)) (seen (P.state p.new) c.now r j.new.events) (refusal_of result)) }
+    ensures refused { OnErr result (refusal_of result ≡ Some (stopped (volume_seen (P.state p.old) c.now t.0).server)) }
+    ensures rest { IsAtRest (P.state p.new) c.now }
+    ensures fit { RelationsFit (P.state p.new) c.now }
+    ensures unarmed { (q : ℕ) → (P.state p.old).read_fuse q ≡ None → (P.state p.new).read_fuse q ≡ None }
+    ensures faults { Counted (is_err result) (P.state p.old).faults (P.state p.new).faults }
+    ensures others { OthersStay (P.state p.old) (P.state p.new) c.now t.0 }
+    ensures on { OnOk result ((P.state p.new).on ≡ (P.state p.old).on) }
+    ensures moved { OnOk result (IsMoved (P.state p.old) (P.state p.new) c.now t.0 (relations.resynced sequence (volume_seen (P.state p.old) c.now t.0).fields) None) }
+    ensures room { j.old.spare ≤ j.new.spare + 2 }
+    ensures room_left { OnOk result (j.old.spare ≤ j.new.spare + 1) }
+    ensures spare { length j.new.events + j.new.spare ≡ length j.old.events + j.old.spare }
+{
+    let fields = peek_fields(p, c, t);
+    let next = resynced(sequence, &fields);
+    let told = Telling::of(Told::One(Event::Set {
+        volume: t.0,
+        from: fields.source.0,
+    }));
+    shift(p, c, j, t, &next, None, &told)
+}
+
+/// What is told of target t, where these tracks are left to give back.
+fn told_of(c: &Config, t: VolumeId, f: &Fields, left: TrackSet) -> Telling
+    requires defined { IsSome (place_of c.now t.0) }
+    ensures { (x : PlantState) → result ≡ record { done = Returned t.0 f.now.source.0 (volume_seen x c.now t.0).tracks left; in_stop = Returned t.0 f.now.source.0 (volume_seen x c.now t.0).tracks left; landed = 0 } }
+{
+    Telling::of(Told::Returned {
+        volume: t.0,
+        source: f.source.0,
+        tracks: tracks_of(c, t),
+        own: left,
+    })
+}
+
+/// Target t, whose changes are recorded, is to be restored onto its source. Where nothing changed, the restore has ended.
+pub(crate) fn turn_back<P: Plant>(
+    p: &mut P,
+    c: &Config,
+    j: &mut Journal,
+    t: VolumeId,
+) -> Result<(), Refusal>
+    requires rest { IsAtRest (P.state p.old) c.now }
+    requires fit { RelationsFit (P.state p.old) c.now }
+    requires defined { IsSome (place_of c.now t.0) }
+    requires running { (P.state p.old).on (volume_seen (P.state p.old) c.now t.0).server ≡ true }
+    requires related { (volume_seen (P.state p.old) c.now t.0).fields.related ≡ true }
+    requires sets { HasFitSets (volume_seen (P.state p.old) c.now t.0).fields }
+    requires room { (volume_seen (P.state p.old) c.now t.0).tracks + 2 ≤ j.old.spare }
+    ensures advances { OnOk result ((r : Rest) → Advances (seen (P.state p.old) c.now r j.old.events) (now (Reverse t.0)) (seen (P.state p.new) c.now r j.new.events)) }
+    ensures halts { OnErr result ((r : Rest) → Halts (armed_in (P.state p.old)) (seen (P.state p.old) c.now r j.old.events) (now (Reverse t.0)) (seen (P.state p.new) c.now r j.new.events) (refusal_of result)) }
+    ensures refused { OnErr result (refusal_of result ≡ Some (stopped (volume_seen (P.state p.old) c.now t.0).server)) }
+    ensures rest { IsAtRest (P.state p.new) c.now }
+    ensures fit { RelationsFit (P.state p.new) c.now }
+    ensures unarmed { (q : ℕ) → (P.state p.old).read_fuse q ≡ None → (P.state p.new).read_fuse q ≡ None }
+    ensures faults { Counted (is_err result) (P.state p.old).faults (P.state p.new).faults }
+    ensures others { OthersStay (P.state p.old) (P.state p.new) c.now t.0 }
+    ensures on { OnOk result ((P.state p.new).on ≡ (P.state p.old).on) }
+    ensures room { j.old.spare ≤ j.new.spare + ((volume_seen (P.state p.old) c.now t.0).tracks + 2) }
+    ensures room_left { OnOk result (j.old.spare ≤ j.new.spare + ((volume_seen (P.state p.old) c.now t.0).tracks + 1)) }
+    ensures spare { length j.new.events + j.new.spare ≡ length j.old.events + j.old.spare }
+{
+    let fields = peek_fields(p, c, t);
+    let reversed = turned(&fields);
+    let next = restored(tracks_of(c, t), &reversed);
+    let told = told_of(c, t, &fields, reversed.own);
+    shift(p, c, j, t, &next, None, &told)
+}
+
+/// The fields of a volume that stores track k.
+fn filled(f: &Fields, k: u16) -> Fields
+    ensures { plain result ≡ record (plain f.now) { blank = remove f.now.blank k } }
+{
+    let mut next = *f;
+    next.blank.remove(k);
+    next
+}
+
+/// Source s stores these bytes of track k, which are those of its target t.
+fn store_back<P: Plant>(
+    p: &mut P,
+    c: &Config,
+    j: &mut Journal,
+    s: VolumeId,
+    k: u16,
+    t: VolumeId,
+    bytes: &Block,
+) -> Result<(), Refusal>
+    requires rest { IsAtRest (P.state p.old) c.now }
+    requires fit { RelationsFit (P.state p.old) c.now }
+    requires defined { IsSome (place_of c.now s.0) }
+    requires running { (P.state p.old).on (volume_seen (P.state p.old) c.now s.0).server ≡ true }
+    requires plain { (volume_seen (P.state p.old) c.now s.0).fields.related ≡ false }
+    requires within { k < (volume_seen (P.state p.old) c.now s.0).tracks }
+    requires bytes { bytes.now ≡ track_seen (P.state p.old) c.now t.0 k }
+    requires room { 2 ≤ j.old.spare }
+    ensures advances { OnOk result ((r : Rest) → Advances (seen (P.state p.old) c.now r j.old.events) (now (Restore s.0 k t.0)) (seen (P.state p.new) c.now r j.new.events)) }
+    ensures halts { OnErr result ((r : Rest) → Halts (armed_in (P.state p.old)) (seen (P.state p.old) c.now r j.old.events) (now (Restore s.0 k t.0)) (seen (P.state p.new) c.now r j.new.events) (refusal_of result)) }
+    ensures refused { OnErr result (refusal_of result ≡ Some (stopped (volume_seen (P.state p.old) c.now s.0).server)) }
+    ensures rest { IsAtRest (P.state p.new) c.now }
+    ensures fit { RelationsFit (P.state p.new) c.now }
+    ensures unarmed { (q : ℕ) → (P.state p.old).read_fuse q ≡ None → (P.state p.new).read_fuse q ≡ None }
+    ensures faults { Counted (is_err result) (P.state p.old).faults (P.state p.new).faults }
+    ensures others { OthersStay (P.state p.old) (P.state p.new) c.now s.0 }
+    ensures on { OnOk result ((P.state p.new).on ≡ (P.state p.old).on) }
+    ensures room { j.old.spare ≤ j.new.spare + 2 }
+    ensures room_left { OnOk result (j.old.spare ≤ j.new.spare + 1) }
+    ensures spare { length j.new.events + j.new.spare ≡ length j.old.events + j.old.spare }
+{
+    let track = *bytes;
+    let next = filled(&peek_fields(p, c, s), k);
+    let told = Telling::of(Told::One(Event::Back {
+        volume: s.0,
+        track: k,
+        from: t.0,
+    }));
+    shift(p, c, j, s, &next, Some((k, track)), &told)
+}
+
+/// Source s takes track k back from its target t.
+pub(crate) fn take_back<P: Plant>(
+    p: &mut P,
+    c: &Config,
+    j: &mut Journal,
+    s: VolumeId,
+    k: u16,
+    t: VolumeId,
+) -> Result<(), Refusal>
+    requires rest { IsAtRest (P.state p.old) c.now }
+    requires fit { RelationsFit (P.state p.old) c.now }
+    requires defined { IsSome (place_of c.now s.0) }
+    requires running { (P.state p.old).on (volume_seen (P.state p.old) c.now s.0).server ≡ true }
+    requires plain { (volume_seen (P.state p.old) c.now s.0).fields.related ≡ false }
+    requires target { IsSome (place_of c.now t.0) }
+    requires same_server { (volume_seen (P.state p.old) c.now t.0).server ≡ (volume_seen (P.state p.old) c.now s.0).server }
+    requires same_tracks { (volume_seen (P.state p.old) c.now t.0).tracks ≡ (volume_seen (P.state p.old) c.now s.0).tracks }
+    requires within { k < (volume_seen (P.state p.old) c.now s.0).tracks }
+    requires room { 2 ≤ j.old.spare }
+    ensures advances { OnOk result ((r : Rest) → Advances (seen (P.state p.old) c.now r j.old.events) (now (Restore s.0 k t.0)) (seen (P.state p.new) c.now r j.new.events)) }
+    ensures halts { OnErr result ((r : Rest) → Halts (armed_in (P.state p.old)) (seen (P.state p.old) c.now r j.old.events) (now (Restore s.0 k t.0)) (seen (P.state p.new) c.now r j.new.events) (refusal_of result)) }
+    ensures refused { OnErr result (refusal_of result ≡ Some (stopped (volume_seen (P.state p.old) c.now s.0).server)) }
+    ensures rest { IsAtRest (P.state p.new) c.now }
+    ensures fit { RelationsFit (P.state p.new) c.now }
+    ensures unarmed { (q : ℕ) → (P.state p.old).read_fuse q ≡ None → (P.state p.new).read_fuse q ≡ None }
+    ensures faults { Counted (is_err result) (P.state p.old).faults (P.state p.new).faults }
+    ensures others { OthersStay (P.state p.old) (P.state p.new) c.now s.0 }
+    ensures on { OnOk result ((P.state p.new).on ≡ (P.state p.old).on) }
+    ensures room { j.old.spare ≤ j.new.spare + 2 }
+    ensures room_left { OnOk result (j.old.spare ≤ j.new.spare + 1) }
+    ensures spare { length j.new.events + j.new.spare ≡ length j.old.events + j.old.spare }
+{
+    let mut bytes = [0; 64];
+    read_told(p, c, j, t, k, &mut bytes)?;
+    store_back(p, c, j, s, k, t, &bytes)
+}
+
+/// Target t gives up track k, which its source has taken back. With the last one the restore has ended.
+pub(crate) fn give_up<P: Plant>(
+    p: &mut P,
+    c: &Config,
+    j: &mut Journal,
+    t: VolumeId,
+    k: u16,
+) -> Result<(), Refusal>
+    requires rest { IsAtRest (P.state p.old) c.now }
+    requires fit { RelationsFit (P.state p.old) c.now }
+    requires defined { IsSome (place_of c.now t.0) }
+    requires running { (P.state p.old).on (volume_seen (P.state p.old) c.now t.0).server ≡ true }
+    requires related { (volume_seen (P.state p.old) c.now t.0).fields.related ≡ true }
+    requires room { (volume_seen (P.state p.old) c.now t.0).tracks + 2 ≤ j.old.spare }
+    ensures advances { OnOk result ((r : Rest) → Advances (seen (P.state p.old) c.now r j.old.events) (now (Release t.0 k)) (seen (P.state p.new) c.now r j.new.events)) }
+    ensures halts { OnErr result ((r : Rest) → Halts (armed_in (P.state p.old)) (seen (P.state p.old) c.now r j.old.events) (now (Release t.0 k)) (seen (P.state p.new) c.now r j.new.events) (refusal_of result)) }
+    ensures refused { OnErr result (refusal_of result ≡ Some (stopped (volume_seen (P.state p.old) c.now t.0).server)) }
+    ensures rest { IsAtRest (P.state p.new) c.now }
+    ensures fit { RelationsFit (P.state p.new) c.now }
+    ensures unarmed { (q : ℕ) → (P.state p.old).read_fuse q ≡ None → (P.state p.new).read_fuse q ≡ None }
+    ensures faults { Counted (is_err result) (P.state p.old).faults (P.state p.new).faults }
+    ensures others { OthersStay (P.state p.old) (P.state p.new) c.now t.0 }
+    ensures on { OnOk result ((P.state p.new).on ≡ (P.state p.old).on) }
+    ensures room { j.old.spare ≤ j.new.spare + ((volume_seen (P.state p.old) c.now t.0).tracks + 2) }
+    ensures room_left { OnOk result (j.old.spare ≤ j.new.spare + ((volume_seen (P.state p.old) c.now t.0).tracks + 1)) }
+    ensures spare { length j.new.events + j.new.spare ≡ length j.old.events + j.old.spare }
+{
+    let fields = peek_fields(p, c, t);
+    let less = given_up(&fields, k);
+    let next = restored(tracks_of(c, t), &less);
+    let told = told_of(c, t, &fields, less.own);
+    shift(p, c, j, t, &next, None, &told)
+}

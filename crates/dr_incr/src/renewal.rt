@@ -1,0 +1,65 @@
+//! A target is made a copy of its source anew.
+
+ghost use Rattle.std.specs.Prelude.{◌≡◌, ℕ, ◌<◌, ◌≤◌, ◌+◌, Bool, true, false, not, ◌&&◌, [], ◌∷◌, length, None, Some, IsSome, OnOk, OnErr, is_err, is_some};
+ghost use Rattle.dr_config.specs.Table.{place_of};
+ghost use Rattle.dr_model.specs.Carry.{now};
+ghost use Rattle.dr_model.specs.Entries.{copies_from, give_back, for_lowest};
+ghost use Rattle.dr_model.specs.Moves.{Release};
+ghost use Rattle.dr_model.specs.ReadStops.{Ends};
+ghost use Rattle.dr_model.specs.Refusals.{stopped};
+ghost use Rattle.dr_model.specs.Relations as relations;
+ghost use Rattle.dr_volume.specs.Update.{IsAsBefore, OthersStay};
+ghost use Rattle.dr_volume.specs.View.{Rest, volume_seen, track_seen, ids_of};
+ghost use Rattle.dr_flash.specs.Checks.{is_stop};
+ghost use Rattle.dr_flash.specs.Faults.{Counted};
+ghost use Rattle.dr_flash.specs.Fit.{RelationsFit};
+ghost use Rattle.dr_flash.specs.Here.{seen, refusal_of, armed_in, IsAtRest};
+ghost use Rattle.dr_flash.specs.Turns.{Leads, Fails};
+ghost use Rattle.dr_incr.specs.Copies.{HoldsUnchanged, shown};
+ghost use Rattle.dr_incr.specs.Steps.{resync_entries};
+
+use crate::checks::resync_refusal;
+use crate::moves::renew;
+use dr_config::Config;
+use dr_ids::{Refusal, VolumeId};
+use dr_model::Journal;
+use dr_plant::Plant;
+
+/// Makes target t a copy of its source s anew: t shares the tracks that changed on either side with s again, and gets the
+/// sequence number where one is given; then each track of t reads as that of s, where what t held unchanged was the same.
+/// The caller knows both volumes. Refused where the server of s is off, and then where
+/// t is no target of s whose changes are recorded, or is revertible or restored. Fails too where the server stops in the
+/// move or goes off at a read. The journal needs room for two events.
+pub fn resync<P: Plant>(
+    p: &mut P,
+    c: &Config,
+    j: &mut Journal,
+    s: VolumeId,
+    t: VolumeId,
+    sequence: Option<u32>,
+) -> Result<(), Refusal>
+    requires rest { IsAtRest (P.state p.old) c.now }
+    requires fit { RelationsFit (P.state p.old) c.now }
+    requires source { IsSome (place_of c.now s.0) }
+    requires target { IsSome (place_of c.now t.0) }
+    requires room { 2 ≤ j.old.spare }
+    ensures carried { (r : Rest) → Ends (armed_in (P.state p.old)) (seen (P.state p.new) c.now r j.new.events) (refusal_of result) (seen (P.state p.old) c.now r j.old.events) (resync_entries (seen (P.state p.old) c.now r j.old.events).control s.0 t.0 sequence) }
+    ensures leads { OnOk result ((r : Rest) → Leads (seen (P.state p.old) c.now r j.old.events) (resync_entries (seen (P.state p.old) c.now r j.old.events).control s.0 t.0 sequence) (seen (P.state p.new) c.now r j.new.events)) }
+    ensures fails { OnErr result ((r : Rest) → Fails (armed_in (P.state p.old)) (seen (P.state p.old) c.now r j.old.events) (resync_entries (seen (P.state p.old) c.now r j.old.events).control s.0 t.0 sequence) (seen (P.state p.new) c.now r j.new.events) (refusal_of result)) }
+    ensures same { OnOk result (HoldsUnchanged (P.state p.old) c.now t.0 → (k : ℕ) → shown (P.state p.new) c.now t.0 k ≡ track_seen (P.state p.new) c.now s.0 k) }
+    ensures refused { is_stop (refusal_of result) ≡ true → refusal_of result ≡ Some (stopped (volume_seen (P.state p.old) c.now s.0).server) }
+    ensures rest { IsAtRest (P.state p.new) c.now }
+    ensures fit { RelationsFit (P.state p.new) c.now }
+    ensures unarmed { (q : ℕ) → (P.state p.old).read_fuse q ≡ None → (P.state p.new).read_fuse q ≡ None }
+    ensures faults { Counted (is_stop (refusal_of result)) (P.state p.old).faults (P.state p.new).faults }
+    ensures others { OthersStay (P.state p.old) (P.state p.new) c.now t.0 }
+    ensures on { OnOk result ((P.state p.new).on ≡ (P.state p.old).on) }
+    ensures room { j.old.spare ≤ j.new.spare + 2 }
+    ensures room_left { OnOk result (j.old.spare ≤ j.new.spare + 1) }
+    ensures spare { length j.new.events + j.new.spare ≡ length j.old.events + j.old.spare }
+{
+    if let Some(why) = resync_refusal(p, c, s, t) {
+        return Err(why);
+    }
+    renew(p, c, j, t, sequence)
+}

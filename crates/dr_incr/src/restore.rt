@@ -1,0 +1,180 @@
+//! A target is restored onto its source, track by track.
+
+ghost use Rattle.std.specs.Prelude.{◌≡◌, ℕ, ◌<◌, ◌≤◌, ◌+◌, Bool, true, false, not, ◌&&◌, ◌||◌, nat_eq, [], ◌∷◌, length, None, Some, IsSome, IfOk, OnOk, OnErr, is_err, is_some};
+ghost use Rattle.dr_config.specs.Table.{place_of};
+ghost use Rattle.dr_model.specs.Carry.{now};
+ghost use Rattle.dr_model.specs.Entries.{copies_from, give_back, for_lowest};
+ghost use Rattle.dr_model.specs.Moves.{Release};
+ghost use Rattle.dr_model.specs.ReadStops.{Ends};
+ghost use Rattle.dr_model.specs.Refusals.{stopped};
+ghost use Rattle.dr_model.specs.Relations as relations;
+ghost use Rattle.dr_volume.specs.Update.{IsAsBefore, OthersStay};
+ghost use Rattle.dr_volume.specs.View.{Rest, volume_seen, track_seen, ids_of};
+ghost use Rattle.dr_flash.specs.Checks.{is_stop};
+ghost use Rattle.dr_flash.specs.Faults.{Counted};
+ghost use Rattle.dr_flash.specs.Fit.{RelationsFit};
+ghost use Rattle.dr_flash.specs.Here.{seen, refusal_of, armed_in, IsAtRest};
+ghost use Rattle.dr_flash.specs.Turns.{Leads, Fails};
+ghost use Rattle.dr_incr.specs.Steps.{HasFitSets, reverse_entries};
+
+use crate::checks::{lone_refusal, resync_refusal};
+use crate::moves::{give_up, take_back, turn_back};
+use crate::others::keep_others;
+use dr_config::Config;
+use dr_flash::{lowest, tracks_of};
+use dr_ids::{Refusal, VolumeId};
+use dr_model::Journal;
+use dr_plant::Plant;
+use dr_volume::peek_fields;
+
+/// Begins to restore target t onto its source s: the tracks that changed on either side are to come back. Where nothing
+/// changed the restore ends at once. The caller knows both volumes. Refused where the server of s is off, then where t is
+/// no target of s whose changes are recorded, or is revertible or restored, and then where another target of s is. Fails
+/// too where the server stops in the move or goes off at a read. The journal needs room for an event for each track and
+/// two more.
+pub fn reverse_start<P: Plant>(
+    p: &mut P,
+    c: &Config,
+    j: &mut Journal,
+    s: VolumeId,
+    t: VolumeId,
+) -> Result<(), Refusal>
+    requires rest { IsAtRest (P.state p.old) c.now }
+    requires fit { RelationsFit (P.state p.old) c.now }
+    requires source { IsSome (place_of c.now s.0) }
+    requires target { IsSome (place_of c.now t.0) }
+    requires sets { HasFitSets (volume_seen (P.state p.old) c.now t.0).fields }
+    requires room { (volume_seen (P.state p.old) c.now t.0).tracks + 2 ≤ j.old.spare }
+    ensures carried { (r : Rest) → Ends (armed_in (P.state p.old)) (seen (P.state p.new) c.now r j.new.events) (refusal_of result) (seen (P.state p.old) c.now r j.old.events) (reverse_entries (seen (P.state p.old) c.now r j.old.events).control s.0 t.0) }
+    ensures leads { OnOk result ((r : Rest) → Leads (seen (P.state p.old) c.now r j.old.events) (reverse_entries (seen (P.state p.old) c.now r j.old.events).control s.0 t.0) (seen (P.state p.new) c.now r j.new.events)) }
+    ensures fails { OnErr result ((r : Rest) → Fails (armed_in (P.state p.old)) (seen (P.state p.old) c.now r j.old.events) (reverse_entries (seen (P.state p.old) c.now r j.old.events).control s.0 t.0) (seen (P.state p.new) c.now r j.new.events) (refusal_of result)) }
+    ensures refused { is_stop (refusal_of result) ≡ true → refusal_of result ≡ Some (stopped (volume_seen (P.state p.old) c.now s.0).server) }
+    ensures rest { IsAtRest (P.state p.new) c.now }
+    ensures fit { RelationsFit (P.state p.new) c.now }
+    ensures unarmed { (q : ℕ) → (P.state p.old).read_fuse q ≡ None → (P.state p.new).read_fuse q ≡ None }
+    ensures faults { Counted (is_stop (refusal_of result)) (P.state p.old).faults (P.state p.new).faults }
+    ensures others { OthersStay (P.state p.old) (P.state p.new) c.now t.0 }
+    ensures on { OnOk result ((P.state p.new).on ≡ (P.state p.old).on) }
+    ensures room { j.old.spare ≤ j.new.spare + ((volume_seen (P.state p.old) c.now t.0).tracks + 2) }
+    ensures room_left { OnOk result (j.old.spare ≤ j.new.spare + ((volume_seen (P.state p.old) c.now t.0).tracks + 1)) }
+    ensures spare { length j.new.events + j.new.spare ≡ length j.old.events + j.old.spare }
+{
+    if let Some(why) = resync_refusal(p, c, s, t) {
+        return Err(why);
+    }
+    if let Some(why) = lone_refusal(p, c, s, t) {
+        return Err(why);
+    }
+    turn_back(p, c, j, t)
+}
+
+/// Target t, which is restored and whose server is on, gives up the lowest track that it holds, which its source holds by
+/// now. With the last one the restore ends: each track of t then reads zeros. Fails where the server stops in the move or
+/// goes off at a read. The journal needs room for an event for each track and two more.
+pub fn reverse_finish<P: Plant>(
+    p: &mut P,
+    c: &Config,
+    j: &mut Journal,
+    t: VolumeId,
+) -> Result<(), Refusal>
+    requires rest { IsAtRest (P.state p.old) c.now }
+    requires fit { RelationsFit (P.state p.old) c.now }
+    requires defined { IsSome (place_of c.now t.0) }
+    requires running { (P.state p.old).on (volume_seen (P.state p.old) c.now t.0).server ≡ true }
+    requires reversing { (volume_seen (P.state p.old) c.now t.0).fields.reversing ≡ true }
+    requires held { IsSome (relations.lowest (volume_seen (P.state p.old) c.now t.0).tracks (volume_seen (P.state p.old) c.now t.0).fields.own) }
+    requires room { (volume_seen (P.state p.old) c.now t.0).tracks + 2 ≤ j.old.spare }
+    ensures carried { (r : Rest) → Ends (armed_in (P.state p.old)) (seen (P.state p.new) c.now r j.new.events) (refusal_of result) (seen (P.state p.old) c.now r j.old.events) (for_lowest t.0 (λ k. now (Release t.0 k)) ∷ []) }
+    ensures leads { OnOk result ((r : Rest) → Leads (seen (P.state p.old) c.now r j.old.events) (for_lowest t.0 (λ k. now (Release t.0 k)) ∷ []) (seen (P.state p.new) c.now r j.new.events)) }
+    ensures fails { OnErr result ((r : Rest) → Fails (armed_in (P.state p.old)) (seen (P.state p.old) c.now r j.old.events) (for_lowest t.0 (λ k. now (Release t.0 k)) ∷ []) (seen (P.state p.new) c.now r j.new.events) (refusal_of result)) }
+    ensures refused { OnErr result (refusal_of result ≡ Some (stopped (volume_seen (P.state p.old) c.now t.0).server)) }
+    ensures rest { IsAtRest (P.state p.new) c.now }
+    ensures fit { RelationsFit (P.state p.new) c.now }
+    ensures unarmed { (q : ℕ) → (P.state p.old).read_fuse q ≡ None → (P.state p.new).read_fuse q ≡ None }
+    ensures faults { Counted (is_err result) (P.state p.old).faults (P.state p.new).faults }
+    ensures others { OthersStay (P.state p.old) (P.state p.new) c.now t.0 }
+    ensures on { OnOk result ((P.state p.new).on ≡ (P.state p.old).on) }
+    ensures room { j.old.spare ≤ j.new.spare + ((volume_seen (P.state p.old) c.now t.0).tracks + 2) }
+    ensures room_left { OnOk result (j.old.spare ≤ j.new.spare + ((volume_seen (P.state p.old) c.now t.0).tracks + 1)) }
+    ensures spare { length j.new.events + j.new.spare ≡ length j.old.events + j.old.spare }
+{
+    let fields = peek_fields(p, c, t);
+    let k = lowest(tracks_of(c, t), &fields.own).unwrap();
+    give_up(p, c, j, t, k)
+}
+
+/// Track k, the lowest that t holds, comes back to s, the source of t.
+fn give_back<P: Plant>(
+    p: &mut P,
+    c: &Config,
+    j: &mut Journal,
+    s: VolumeId,
+    t: VolumeId,
+    k: u16,
+) -> Result<(), Refusal>
+    requires rest { IsAtRest (P.state p.old) c.now }
+    requires fit { RelationsFit (P.state p.old) c.now }
+    requires defined { IsSome (place_of c.now t.0) }
+    requires running { (P.state p.old).on (volume_seen (P.state p.old) c.now t.0).server ≡ true }
+    requires copies { copies_from s.0 (volume_seen (P.state p.old) c.now t.0).fields ≡ true }
+    requires reversing { (volume_seen (P.state p.old) c.now t.0).fields.reversing ≡ true }
+    requires held { relations.lowest (volume_seen (P.state p.old) c.now t.0).tracks (volume_seen (P.state p.old) c.now t.0).fields.own ≡ Some k }
+    requires room { length c.now.volumes + (volume_seen (P.state p.old) c.now t.0).tracks + 3 ≤ j.old.spare }
+    ensures leads { OnOk result ((r : Rest) → Leads (seen (P.state p.old) c.now r j.old.events) (give_back (ids_of c.now.volumes) s.0 t.0) (seen (P.state p.new) c.now r j.new.events)) }
+    ensures fails { OnErr result ((r : Rest) → Fails (armed_in (P.state p.old)) (seen (P.state p.old) c.now r j.old.events) (give_back (ids_of c.now.volumes) s.0 t.0) (seen (P.state p.new) c.now r j.new.events) (refusal_of result)) }
+    ensures refused { OnErr result (refusal_of result ≡ Some (stopped (volume_seen (P.state p.old) c.now t.0).server)) }
+    ensures rest { IsAtRest (P.state p.new) c.now }
+    ensures fit { RelationsFit (P.state p.new) c.now }
+    ensures unarmed { (q : ℕ) → (P.state p.old).read_fuse q ≡ None → (P.state p.new).read_fuse q ≡ None }
+    ensures faults { Counted (is_err result) (P.state p.old).faults (P.state p.new).faults }
+    ensures others { (q : ℕ) → (copies_from s.0 (volume_seen (P.state p.old) c.now q).fields || nat_eq q s.0) ≡ false → IsAsBefore (P.state p.old) (P.state p.new) c.now q }
+    ensures on { OnOk result ((P.state p.new).on ≡ (P.state p.old).on) }
+    ensures room { j.old.spare ≤ j.new.spare + (length c.now.volumes + (volume_seen (P.state p.old) c.now t.0).tracks + 3) }
+    ensures room_left { OnOk result (j.old.spare ≤ j.new.spare + (length c.now.volumes + (volume_seen (P.state p.old) c.now t.0).tracks + 2)) }
+    ensures spare { length j.new.events + j.new.spare ≡ length j.old.events + j.old.spare }
+{
+    keep_others(p, c, j, s, k, t)?;
+    take_back(p, c, j, s, k, t)?;
+    reverse_finish(p, c, j, t)
+}
+
+/// One track of target t, which is restored and whose server is on, comes back to the source of t: the lowest that t holds.
+/// The other targets of the source keep theirs first; then the source stores the track, and t gives it up; with the last
+/// one the restore ends. False exactly where t holds no track, and then nothing changes. Fails where the server stops in a
+/// move or goes off at a read; what was done by then stays. The journal needs room for an event for each volume, one for
+/// each track of t and three more.
+pub fn reverse_step<P: Plant>(
+    p: &mut P,
+    c: &Config,
+    j: &mut Journal,
+    t: VolumeId,
+) -> Result<bool, Refusal>
+    requires rest { IsAtRest (P.state p.old) c.now }
+    requires fit { RelationsFit (P.state p.old) c.now }
+    requires defined { IsSome (place_of c.now t.0) }
+    requires running { (P.state p.old).on (volume_seen (P.state p.old) c.now t.0).server ≡ true }
+    requires reversing { (volume_seen (P.state p.old) c.now t.0).fields.reversing ≡ true }
+    requires room { length c.now.volumes + (volume_seen (P.state p.old) c.now t.0).tracks + 3 ≤ j.old.spare }
+    ensures carried { (r : Rest) → Ends (armed_in (P.state p.old)) (seen (P.state p.new) c.now r j.new.events) (refusal_of result) (seen (P.state p.old) c.now r j.old.events) (give_back (ids_of c.now.volumes) (volume_seen (P.state p.old) c.now t.0).fields.source t.0) }
+    ensures leads { OnOk result ((r : Rest) → Leads (seen (P.state p.old) c.now r j.old.events) (give_back (ids_of c.now.volumes) (volume_seen (P.state p.old) c.now t.0).fields.source t.0) (seen (P.state p.new) c.now r j.new.events)) }
+    ensures fails { OnErr result ((r : Rest) → Fails (armed_in (P.state p.old)) (seen (P.state p.old) c.now r j.old.events) (give_back (ids_of c.now.volumes) (volume_seen (P.state p.old) c.now t.0).fields.source t.0) (seen (P.state p.new) c.now r j.new.events) (refusal_of result)) }
+    ensures found { IfOk result (λ b. b ≡ is_some (relations.lowest (volume_seen (P.state p.old) c.now t.0).tracks (volume_seen (P.state p.old) c.now t.0).fields.own)) }
+    ensures none { IfOk result (λ b. b ≡ false → (P.state p.new ≡ P.state p.old) × (j.new ≡ j.old)) }
+    ensures refused { OnErr result (refusal_of result ≡ Some (stopped (volume_seen (P.state p.old) c.now t.0).server)) }
+    ensures rest { IsAtRest (P.state p.new) c.now }
+    ensures fit { RelationsFit (P.state p.new) c.now }
+    ensures unarmed { (q : ℕ) → (P.state p.old).read_fuse q ≡ None → (P.state p.new).read_fuse q ≡ None }
+    ensures faults { Counted (is_err result) (P.state p.old).faults (P.state p.new).faults }
+    ensures others { (q : ℕ) → (copies_from (volume_seen (P.state p.old) c.now t.0).fields.source (volume_seen (P.state p.old) c.now q).fields || nat_eq q (volume_seen (P.state p.old) c.now t.0).fields.source) ≡ false → IsAsBefore (P.state p.old) (P.state p.new) c.now q }
+    ensures on { OnOk result ((P.state p.new).on ≡ (P.state p.old).on) }
+    ensures room { j.old.spare ≤ j.new.spare + (length c.now.volumes + (volume_seen (P.state p.old) c.now t.0).tracks + 3) }
+    ensures room_left { OnOk result (j.old.spare ≤ j.new.spare + (length c.now.volumes + (volume_seen (P.state p.old) c.now t.0).tracks + 2)) }
+    ensures spare { length j.new.events + j.new.spare ≡ length j.old.events + j.old.spare }
+{
+    let fields = peek_fields(p, c, t);
+    let Some(k) = lowest(tracks_of(c, t), &fields.own) else {
+        return Ok(false);
+    };
+    give_back(p, c, j, fields.source, t, k)?;
+    Ok(true)
+}
