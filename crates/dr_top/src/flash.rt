@@ -18,13 +18,11 @@ ghost use Rattle.dr_top.specs.WellFormed.{FitsOwner};
 use crate::define::{bytes_of, unknown_server};
 use dr_config::Config;
 use dr_flash::{Options, establish, withdraw};
+use dr_incr::{resync, reverse_start};
 use dr_host::Host;
 use dr_ids::{Kind, Refusal, ServerId, VolumeId};
 use dr_model::{Addition, Journal, Name};
 use dr_plant::Plant;
-
-/// The room that a step on one relationship needs in the journal at most, with its answer.
-pub const RELATION_EVENTS: usize = 512;
 
 /// Whether the server is the one of that name, where a name is given.
 fn is_owner(config: &Config, dev: &Option<Name>, server: ServerId) -> bool
@@ -56,9 +54,9 @@ fn found_refusal(
     let Some(server) = config.server_of(s) else {
         return Some(Refusal::Unknown { kind: Kind::Volume });
     };
-    if config.server_of(t).is_none() {
+    let Some(_) = config.server_of(t) else {
         return Some(Refusal::Unknown { kind: Kind::Volume });
-    }
+    };
     if !is_owner(config, dev, server) {
         return Some(unknown_server());
     }
@@ -121,6 +119,67 @@ pub fn remove_flash<P: Plant>(
         return Err(why);
     }
     match withdraw(plant, config, journal, s, t) {
+        Ok(()) => Ok(Addition::Alone),
+        Err(refusal) => Err(refusal),
+    }
+}
+
+/// Makes a FlashCopy target a copy of its source anew.
+pub fn resync_flash<P: Plant>(
+    plant: &mut P,
+    config: &Config,
+    host: &Host,
+    journal: &mut Journal,
+    dev: &Option<Name>,
+    s: VolumeId,
+    t: VolumeId,
+    sequence: Option<u32>,
+) -> Result<Addition, Refusal>
+    requires ready { IsReady (P.state plant.old) config.now host.now journal.old.events }
+    requires sound { Sound (here (P.state plant.old) config.now host.now journal.old.events) }
+    requires short { FitsOwner dev.now }
+    requires room { 512 ≤ journal.old.spare }
+    ensures step { (line : ℕ) → after_plan (here (P.state plant.old) config.now host.now journal.old.events) line
+        (plans.resync_plan (here (P.state plant.old) config.now host.now journal.old.events).control dev.now s.0 t.0 sequence)
+        ≡ said (here (P.state plant.new) config.now host.now journal.new.events) line (said_of result) }
+    ensures faults { Counts (said_of result) (P.state plant.old) (P.state plant.new) }
+    ensures ready { IsReady (P.state plant.new) config.now host.now journal.new.events }
+    ensures room { 1 ≤ journal.new.spare }
+{
+    if let Some(why) = found_refusal(config, dev, s, t) {
+        return Err(why);
+    }
+    match resync(plant, config, journal, s, t, sequence) {
+        Ok(()) => Ok(Addition::Alone),
+        Err(refusal) => Err(refusal),
+    }
+}
+
+/// Begins to restore a FlashCopy target onto its source.
+pub fn reverse_flash<P: Plant>(
+    plant: &mut P,
+    config: &Config,
+    host: &Host,
+    journal: &mut Journal,
+    dev: &Option<Name>,
+    s: VolumeId,
+    t: VolumeId,
+) -> Result<Addition, Refusal>
+    requires ready { IsReady (P.state plant.old) config.now host.now journal.old.events }
+    requires sound { Sound (here (P.state plant.old) config.now host.now journal.old.events) }
+    requires short { FitsOwner dev.now }
+    requires room { 512 ≤ journal.old.spare }
+    ensures step { (line : ℕ) → after_plan (here (P.state plant.old) config.now host.now journal.old.events) line
+        (plans.reverse_plan (here (P.state plant.old) config.now host.now journal.old.events).control dev.now s.0 t.0)
+        ≡ said (here (P.state plant.new) config.now host.now journal.new.events) line (said_of result) }
+    ensures faults { Counts (said_of result) (P.state plant.old) (P.state plant.new) }
+    ensures ready { IsReady (P.state plant.new) config.now host.now journal.new.events }
+    ensures room { 1 ≤ journal.new.spare }
+{
+    if let Some(why) = found_refusal(config, dev, s, t) {
+        return Err(why);
+    }
+    match reverse_start(plant, config, journal, s, t) {
         Ok(()) => Ok(Addition::Alone),
         Err(refusal) => Err(refusal),
     }

@@ -1,0 +1,10 @@
+use Rattle.std.proofs.Common.{sym, ap, ◌∙◌}
+use Rattle.dr_model.specs.Plans as plans
+use Rattle.dr_top.specs.Here.{here}
+use Rattle.dr_top.proofs.FlashLemmas.{owner-none}
+use Rattle.dr_top.proofs.flash.is_owner.Goals as goal
+
+pub returns-in-None-server_named : goal.returns-in-None-server_named
+returns-in-None-server_named c x h events v same =
+    owner-none c.args.config.now c.in-Some.name c.bytes_of.result.now ((here x c.args.config.now h events).control.volume v).server c.bytes_of.ensures c.in-None-server_named.ensures.place
+    ∙ ap (λ d. plans.is_owner d v (here x c.args.config.now h events).control) (sym c.in-Some.is)
