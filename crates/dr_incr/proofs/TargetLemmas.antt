@@ -1,14 +1,16 @@
 -- The targets of a source, from one volume of the configuration to the next, and what a target shares with its source.
-use Rattle.std.proofs.Common.{ℕ, zero, suc, arith, ◌≡◌, ◌≢◌, ◌≤◌, ◌<◌, ◌+◌, Bool, true, false, not, ◌&&◌, ◌||◌, List, [], ◌∷◌, cond, drop, length, refl, sym, ◌∙◌, ap, subst, nat_eq, inl, inr, Some, option_map, slice_get}
+use Rattle.std.proofs.Common.{ℕ, zero, suc, arith, rules, ◌≡◌, ◌≢◌, ◌≤◌, ◌<◌, ◌+◌, Bool, true, false, not, ◌&&◌, ◌||◌, List, [], ◌∷◌, cond, drop, length, refl, sym, ◌∙◌, ap, subst, nat_eq, inl, inr, Some, option_map, slice_get, None}
 use Rattle.std.specs.Prelude.{filter, is_some}
 use Rattle.std.specs.List.{list_any}
 use Rattle.std.proofs.lemmas.List.{drop_all}
 use Rattle.std.proofs.lemmas.Bool.Decides.{eqb_tells, Decides-eqb}
 use Rattle.std.specs.List.{range_with_len}
-use Rattle.std.specs.FinSet.{contains}
+use Rattle.std.specs.FinSet.{contains, empty, members}
+use Rattle.std.specs.Ordering.{nat_cmp}
 use Rattle.dr_bits.specs.Tracks.{Tracks}
 use Rattle.dr_model.specs.Control.{Volume}
-use Rattle.dr_model.specs.Relations.{in_order, lowest}
+use Rattle.dr_model.specs.Relations.{in_order, lowest, is_bare, given_up, restored, withdrawn_if}
+use Rattle.dr_model.specs.Moves.{moved}
 use Rattle.dr_volume.specs.Update.{IsAsBefore}
 use Rattle.dr_plant.specs.State.{PlantState}
 use Rattle.dr_config.specs.Table.{Table, place_of}
@@ -20,7 +22,7 @@ use Rattle.dr_model.specs.Entries.{copies_from, keep_on, for_lowest}
 use Rattle.dr_volume.specs.View.{volume_seen, ids_of}
 use Rattle.dr_flash.specs.Fit.{SourceFits, RelationsFit}
 use Rattle.dr_flash.proofs.CopyLemmas.{ids-next}
-use Rattle.dr_incr.specs.Steps.{keeps_of}
+use Rattle.dr_incr.specs.Steps.{keeps_of, IsRestoredOnto}
 
 -- whether one of those from a place on passes both tests
 abbrev pub any_from : (ℕ → Bool) → (ℕ → Bool) → Table → ℕ → Bool
@@ -123,3 +125,35 @@ other-target s c v t q copies other is = let e : true ≡ false = sym copies ∙
 
 pub same-lowest : (s u : PlantState) (c : Table) (t k : ℕ) → IsAsBefore s u c t → lowest (volume_seen s c t).tracks (volume_seen s c t).fields.own ≡ Some k → lowest (volume_seen u c t).tracks (volume_seen u c t).fields.own ≡ Some k
 same-lowest s u c t k same held = ap (λ (x : Volume). lowest x.tracks x.fields.own) same.volume ∙ held
+
+-- a set without tracks has no lowest
+none-in : (f : ℕ → Bool) (xs : List ℕ) → ((x : ℕ) → f x ≡ false) → filter f xs ≡ []
+none-in f [] none = refl
+none-in f (x ∷ xs) none = ap (λ b. cond b (x ∷ filter f xs) (filter f xs)) (none x) ∙ none-in f xs none
+
+empty-has : (q : ℕ) → contains {R = nat_cmp} empty q ≡ false
+empty-has q = grind (members, rules)
+
+empty-lowest : (n : ℕ) → lowest n empty ≡ None
+unfolding in_order
+empty-lowest n = ap (λ xs. slice_get xs 0) (none-in (contains empty) (range_with_len 0 n) empty-has)
+
+-- what holds a track is a target
+pub holder-related : (m n k : ℕ) (f g : Fields) → f ≡ g → IsLawful m f → lowest n f.own ≡ Some k → g.related ≡ true
+holder-related m n k f g same law held =
+    elim g.related as (λ b. g.related ≡ b → b ≡ true) [
+      | true ↦ λ is. refl
+      | false ↦ λ is. absurd (let x : NoRelation f = law.relation (ap (λ (f : Fields). f.related) same ∙ is) in let e : None ≡ Some k = sym (ap (lowest n) x.5 ∙ empty-lowest n) ∙ held in cc)
+    ] refl
+
+-- a target that has given a track up is restored on, unless its relationship ended
+pub goes-on : (x y : Volume) (k : ℕ) (f : Fields) → f ≡ restored x.tracks (given_up x.fields k) → y ≡ moved x f None → (s : ℕ) → IsRestoredOnto s x.fields → IsRestoredOnto s y.fields
+goes-on x y k f is moves s h = subst (IsRestoredOnto s) (sym (ap (λ (z : Volume). z.fields) moves ∙ is)) (by (is_bare (given_up x.fields k).own))
+  where
+    by : (e : Bool) → IsRestoredOnto s (withdrawn_if e x.tracks (given_up x.fields k))
+    by true related = absurd (cc)
+    by false related = h related
+
+-- a target copies from its source
+pub copies-source : (n : ℕ) (f : Fields) → f.related ≡ true → n ≡ f.source → copies_from n f ≡ true
+copies-source n f related is = (λ i. related i && (Decides-eqb f.source n).1 (sym is) i)

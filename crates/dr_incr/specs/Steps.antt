@@ -1,6 +1,6 @@
 -- What remains of the plans of a resynchronization and of a restore where both volumes are known, and when a restore may
 -- begin.
-use Rattle.std.specs.Prelude.{ℕ, List, [], ◌∷◌, ◌++◌, map, Option}
+use Rattle.std.specs.Prelude.{◌≡◌, ℕ, true, List, [], ◌∷◌, ◌++◌, map, Option}
 use Rattle.dr_model.specs.Layout.{Fields}
 use Rattle.dr_model.specs.Laws.{SetsFit}
 use Rattle.dr_model.specs.Control.{Control}
@@ -33,3 +33,7 @@ keeps_of volumes s t = map (λ u. for_lowest t (λ k. keep_on s k u)) volumes
 -- the sets of a target's fields fit: what changed it holds, and what it holds isn't blank
 abbrev pub HasFitSets : Fields → Type 0
 HasFitSets f = SetsFit f.own f.source_changes f.target_changes f.blank
+
+-- a target, unless the volume is none, is restored onto s
+abbrev pub IsRestoredOnto : ℕ → Fields → Type 0
+IsRestoredOnto s f = f.related ≡ true → (f.reversing ≡ true) × (f.source ≡ s)

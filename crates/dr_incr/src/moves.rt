@@ -18,7 +18,7 @@ ghost use Rattle.dr_flash.specs.Here.{seen, refusal_of, armed_in, IsAtRest};
 ghost use Rattle.dr_flash.specs.Told.{events_of};
 ghost use Rattle.dr_flash.specs.declared.told.Told.TheVariants.{Returned};
 ghost use Rattle.dr_flash.specs.Turns.{Advances, Halts};
-ghost use Rattle.dr_incr.specs.Steps.{HasFitSets};
+ghost use Rattle.dr_incr.specs.Steps.{HasFitSets, IsRestoredOnto};
 
 use dr_bits::TrackSet;
 use dr_config::Config;
@@ -222,6 +222,7 @@ pub(crate) fn give_up<P: Plant>(
     ensures faults { Counted (is_err result) (P.state p.old).faults (P.state p.new).faults }
     ensures others { OthersStay (P.state p.old) (P.state p.new) c.now t.0 }
     ensures on { OnOk result ((P.state p.new).on ≡ (P.state p.old).on) }
+    ensures goes_on { OnOk result ((s : ℕ) → IsRestoredOnto s (volume_seen (P.state p.old) c.now t.0).fields → IsRestoredOnto s (volume_seen (P.state p.new) c.now t.0).fields) }
     ensures room { j.old.spare ≤ j.new.spare + ((volume_seen (P.state p.old) c.now t.0).tracks + 2) }
     ensures room_left { OnOk result (j.old.spare ≤ j.new.spare + ((volume_seen (P.state p.old) c.now t.0).tracks + 1)) }
     ensures spare { length j.new.events + j.new.spare ≡ length j.old.events + j.old.spare }

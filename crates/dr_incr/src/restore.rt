@@ -15,7 +15,7 @@ ghost use Rattle.dr_flash.specs.Faults.{Counted};
 ghost use Rattle.dr_flash.specs.Fit.{RelationsFit};
 ghost use Rattle.dr_flash.specs.Here.{seen, refusal_of, armed_in, IsAtRest};
 ghost use Rattle.dr_flash.specs.Turns.{Leads, Fails};
-ghost use Rattle.dr_incr.specs.Steps.{HasFitSets, reverse_entries};
+ghost use Rattle.dr_incr.specs.Steps.{HasFitSets, IsRestoredOnto, reverse_entries};
 
 use crate::checks::{lone_refusal, resync_refusal};
 use crate::moves::{give_up, take_back, turn_back};
@@ -94,6 +94,7 @@ pub fn reverse_finish<P: Plant>(
     ensures faults { Counted (is_err result) (P.state p.old).faults (P.state p.new).faults }
     ensures others { OthersStay (P.state p.old) (P.state p.new) c.now t.0 }
     ensures on { OnOk result ((P.state p.new).on ≡ (P.state p.old).on) }
+    ensures goes_on { OnOk result ((s : ℕ) → IsRestoredOnto s (volume_seen (P.state p.old) c.now t.0).fields → IsRestoredOnto s (volume_seen (P.state p.new) c.now t.0).fields) }
     ensures room { j.old.spare ≤ j.new.spare + ((volume_seen (P.state p.old) c.now t.0).tracks + 2) }
     ensures room_left { OnOk result (j.old.spare ≤ j.new.spare + ((volume_seen (P.state p.old) c.now t.0).tracks + 1)) }
     ensures spare { length j.new.events + j.new.spare ≡ length j.old.events + j.old.spare }
@@ -129,6 +130,7 @@ fn give_back<P: Plant>(
     ensures faults { Counted (is_err result) (P.state p.old).faults (P.state p.new).faults }
     ensures others { (q : ℕ) → (copies_from s.0 (volume_seen (P.state p.old) c.now q).fields || nat_eq q s.0) ≡ false → IsAsBefore (P.state p.old) (P.state p.new) c.now q }
     ensures on { OnOk result ((P.state p.new).on ≡ (P.state p.old).on) }
+    ensures goes_on { OnOk result ((s : ℕ) → IsRestoredOnto s (volume_seen (P.state p.old) c.now t.0).fields → IsRestoredOnto s (volume_seen (P.state p.new) c.now t.0).fields) }
     ensures room { j.old.spare ≤ j.new.spare + (length c.now.volumes + (volume_seen (P.state p.old) c.now t.0).tracks + 3) }
     ensures room_left { OnOk result (j.old.spare ≤ j.new.spare + (length c.now.volumes + (volume_seen (P.state p.old) c.now t.0).tracks + 2)) }
     ensures spare { length j.new.events + j.new.spare ≡ length j.old.events + j.old.spare }
@@ -138,7 +140,8 @@ fn give_back<P: Plant>(
     reverse_finish(p, c, j, t)
 }
 
-/// One track of target t, which is restored and whose server is on, comes back to the source of t: the lowest that t holds.
+/// One track of a volume t whose server is on, and which is restored where it is a target, comes back to the source of t:
+/// the lowest that t holds.
 /// The other targets of the source keep theirs first; then the source stores the track, and t gives it up; with the last
 /// one the restore ends. False exactly where t holds no track, and then nothing changes. Fails where the server stops in a
 /// move or goes off at a read; what was done by then stays. The journal needs room for an event for each volume, one for
@@ -153,11 +156,11 @@ pub fn reverse_step<P: Plant>(
     requires fit { RelationsFit (P.state p.old) c.now }
     requires defined { IsSome (place_of c.now t.0) }
     requires running { (P.state p.old).on (volume_seen (P.state p.old) c.now t.0).server ≡ true }
-    requires reversing { (volume_seen (P.state p.old) c.now t.0).fields.reversing ≡ true }
+    requires reversing { (volume_seen (P.state p.old) c.now t.0).fields.related ≡ true → (volume_seen (P.state p.old) c.now t.0).fields.reversing ≡ true }
     requires room { length c.now.volumes + (volume_seen (P.state p.old) c.now t.0).tracks + 3 ≤ j.old.spare }
-    ensures carried { (r : Rest) → Ends (armed_in (P.state p.old)) (seen (P.state p.new) c.now r j.new.events) (refusal_of result) (seen (P.state p.old) c.now r j.old.events) (give_back (ids_of c.now.volumes) (volume_seen (P.state p.old) c.now t.0).fields.source t.0) }
-    ensures leads { OnOk result ((r : Rest) → Leads (seen (P.state p.old) c.now r j.old.events) (give_back (ids_of c.now.volumes) (volume_seen (P.state p.old) c.now t.0).fields.source t.0) (seen (P.state p.new) c.now r j.new.events)) }
-    ensures fails { OnErr result ((r : Rest) → Fails (armed_in (P.state p.old)) (seen (P.state p.old) c.now r j.old.events) (give_back (ids_of c.now.volumes) (volume_seen (P.state p.old) c.now t.0).fields.source t.0) (seen (P.state p.new) c.now r j.new.events) (refusal_of result)) }
+    ensures carried { (s : ℕ) → IsRestoredOnto s (volume_seen (P.state p.old) c.now t.0).fields → (r : Rest) → Ends (armed_in (P.state p.old)) (seen (P.state p.new) c.now r j.new.events) (refusal_of result) (seen (P.state p.old) c.now r j.old.events) (give_back (ids_of c.now.volumes) s t.0) }
+    ensures leads { OnOk result ((s : ℕ) → IsRestoredOnto s (volume_seen (P.state p.old) c.now t.0).fields → (r : Rest) → Leads (seen (P.state p.old) c.now r j.old.events) (give_back (ids_of c.now.volumes) s t.0) (seen (P.state p.new) c.now r j.new.events)) }
+    ensures fails { OnErr result ((s : ℕ) → IsRestoredOnto s (volume_seen (P.state p.old) c.now t.0).fields → (r : Rest) → Fails (armed_in (P.state p.old)) (seen (P.state p.old) c.now r j.old.events) (give_back (ids_of c.now.volumes) s t.0) (seen (P.state p.new) c.now r j.new.events) (refusal_of result)) }
     ensures found { IfOk result (λ b. b ≡ is_some (relations.lowest (volume_seen (P.state p.old) c.now t.0).tracks (volume_seen (P.state p.old) c.now t.0).fields.own)) }
     ensures none { IfOk result (λ b. b ≡ false → (P.state p.new ≡ P.state p.old) × (j.new ≡ j.old)) }
     ensures refused { OnErr result (refusal_of result ≡ Some (stopped (volume_seen (P.state p.old) c.now t.0).server)) }
@@ -167,6 +170,7 @@ pub fn reverse_step<P: Plant>(
     ensures faults { Counted (is_err result) (P.state p.old).faults (P.state p.new).faults }
     ensures others { (q : ℕ) → (copies_from (volume_seen (P.state p.old) c.now t.0).fields.source (volume_seen (P.state p.old) c.now q).fields || nat_eq q (volume_seen (P.state p.old) c.now t.0).fields.source) ≡ false → IsAsBefore (P.state p.old) (P.state p.new) c.now q }
     ensures on { OnOk result ((P.state p.new).on ≡ (P.state p.old).on) }
+    ensures goes_on { OnOk result ((s : ℕ) → IsRestoredOnto s (volume_seen (P.state p.old) c.now t.0).fields → IsRestoredOnto s (volume_seen (P.state p.new) c.now t.0).fields) }
     ensures room { j.old.spare ≤ j.new.spare + (length c.now.volumes + (volume_seen (P.state p.old) c.now t.0).tracks + 3) }
     ensures room_left { OnOk result (j.old.spare ≤ j.new.spare + (length c.now.volumes + (volume_seen (P.state p.old) c.now t.0).tracks + 2)) }
     ensures spare { length j.new.events + j.new.spare ≡ length j.old.events + j.old.spare }

@@ -12,7 +12,7 @@ use Rattle.dr_flash.proofs.CopyLemmas.{before-then, wider-armed, no-own}
 use Rattle.dr_flash.proofs.EndsLemmas.{ends-wider}
 use Rattle.dr_flash.proofs.KeepLemmas.{alike-advances, alike-halts}
 use Rattle.dr_flash.proofs.TurnLemmas.{err-always, refused-by, ok-along, err-along}
-use Rattle.dr_incr.specs.Steps.{keeps_of}
+use Rattle.dr_incr.specs.Steps.{keeps_of, IsRestoredOnto}
 use Rattle.dr_incr.proofs.StepLemmas.{then-leads, then-fails, fails-first, lowest-entry}
 use Rattle.dr_incr.proofs.TargetLemmas.{target-of, lowest-below, neither, differs, other-target, same-lowest}
 use Rattle.dr_incr.proofs.restore.give_back.Goals as goal
@@ -127,3 +127,11 @@ returns-clause-room_left g c =
     let a = c.in_ok-keep_others.ensures.room_left in
     let b = c.in_ok-take_back.ensures.room_left in
     ok-along c.reverse_finish.result c.reverse_finish.ensures.room_left (λ left. omega (arith, e, a, b, left))
+
+pub returns-clause-goes_on : goal.returns-clause-goes_on
+returns-clause-goes_on g c =
+    let s = g.P.Plant.state c.args.p.now in
+    let t = c.args.c.now in
+    let apart = (target-of s t c.args.s.0 c.args.t.0 c.requires.fit c.requires.copies).apart in
+    let same = before-then s (g.P.Plant.state c.keep_others.new.p) (g.P.Plant.state c.take_back.new.p) t c.args.t.0 c.in_ok-keep_others.ensures.aside (c.in_ok-take_back.ensures.others c.args.t.0 apart) in
+    ok-along c.reverse_finish.result c.reverse_finish.ensures.goes_on (λ on from is. on from (subst (λ (x : Volume). IsRestoredOnto from x.fields) (sym same.volume) is))

@@ -1,5 +1,6 @@
-use Rattle.std.proofs.Common.{sym, subst, ap, ◌∙◌, Some}
+use Rattle.std.proofs.Common.{sym, subst, ap, ◌∙◌, ◌≡◌, Some}
 use Rattle.dr_model.specs.Layout.{Fields}
+use Rattle.dr_model.specs.Lawful.{IsLawful}
 use Rattle.dr_model.specs.Relations.{lowest}
 use Rattle.dr_model.specs.Entries.{give_back}
 use Rattle.dr_volume.specs.View.{volume_seen, ids_of}
@@ -8,28 +9,52 @@ use Rattle.dr_flash.specs.Turns.{Leads, Fails}
 use Rattle.dr_flash.proofs.CopyLemmas.{led, failed}
 use Rattle.dr_flash.proofs.TurnLemmas.{err-always, refused-by}
 use Rattle.dr_incr.proofs.StepLemmas.{none-back}
+use Rattle.dr_incr.proofs.TargetLemmas.{holder-related, copies-source}
 use Rattle.dr_incr.proofs.restore.reverse_step.Goals as goal
 
 pub returns-in_default-clause-leads : goal.returns-in_default-clause-leads
-returns-in_default-clause-leads g c r = none-back (g.P.Plant.state c.args.p.now) c.args.c.now r c.args.j.now.events (volume_seen (g.P.Plant.state c.args.p.now) c.args.c.now c.args.t.0).fields.source c.args.t.0 (ids_of c.args.c.now.volumes) ((λ i. lowest (c.tracks_of.ensures.seen (g.P.Plant.state c.args.p.now) i) (sym c.peek_fields-fields.ensures.fields i).own) ∙ sym c.lowest.ensures.lowest ∙ c.in_default.is)
+returns-in_default-clause-leads g c s is r =
+    let x = g.P.Plant.state c.args.p.now in
+    none-back x c.args.c.now r c.args.j.now.events s c.args.t.0 (ids_of c.args.c.now.volumes) ((λ i. lowest (c.tracks_of.ensures.seen x i) (sym c.peek_fields-fields.ensures.fields i).own) ∙ sym c.lowest.ensures.lowest ∙ c.in_default.is)
 
 pub returns-in_default-clause-carried : goal.returns-in_default-clause-carried
-returns-in_default-clause-carried g c r = led (armed_in (g.P.Plant.state c.args.p.now)) (seen (g.P.Plant.state c.args.p.now) c.args.c.now r c.args.j.now.events) (seen (g.P.Plant.state c.args.p.now) c.args.c.now r c.args.j.now.events) (give_back (ids_of c.args.c.now.volumes) (volume_seen (g.P.Plant.state c.args.p.now) c.args.c.now c.args.t.0).fields.source c.args.t.0) (returns-in_default-clause-leads g c r)
+returns-in_default-clause-carried g c s is r =
+    let x = g.P.Plant.state c.args.p.now in
+    let w = seen x c.args.c.now r c.args.j.now.events in
+    led (armed_in x) w w (give_back (ids_of c.args.c.now.volumes) s c.args.t.0) (returns-in_default-clause-leads g c s is r)
+
+pub give_back-requires-clause-reversing : goal.give_back-requires-clause-reversing
+give_back-requires-clause-reversing g c =
+    c.requires.reversing (holder-related _ c.tracks_of.result c.in-Some.k _ _ c.peek_fields-fields.ensures.fields c.peek_fields-fields.ensures.lawful (sym c.lowest.ensures.lowest ∙ c.in-Some.is))
+
+pub give_back-requires-clause-copies : goal.give_back-requires-clause-copies
+give_back-requires-clause-copies g c =
+    let related = holder-related _ c.tracks_of.result c.in-Some.k _ _ c.peek_fields-fields.ensures.fields c.peek_fields-fields.ensures.lawful (sym c.lowest.ensures.lowest ∙ c.in-Some.is) in
+    copies-source c.peek_fields-fields.result.source.0 (volume_seen (g.P.Plant.state c.args.p.now) c.args.c.now c.args.t.0).fields related (ap (λ (f : Fields). f.source) c.peek_fields-fields.ensures.fields)
 
 pub returns-in_err-give_back-clause-fails : goal.returns-in_err-give_back-clause-fails
 returns-in_err-give_back-clause-fails g c =
-    err-always c.from_residual.result (λ r.
-    subst (λ q. Fails (armed_in (g.P.Plant.state c.args.p.now)) (seen (g.P.Plant.state c.args.p.now) c.args.c.now r c.args.j.now.events) (give_back (ids_of c.args.c.now.volumes) (volume_seen (g.P.Plant.state c.args.p.now) c.args.c.now c.args.t.0).fields.source c.args.t.0) (seen (g.P.Plant.state c.give_back.new.p) c.args.c.now r c.give_back.new.j.events) q) (sym (refused-by c.from_residual.result c.in_err-give_back.field-0.0 c.from_residual.ensures.0 c.from_residual.ensures.1))
-    (subst (λ n. Fails (armed_in (g.P.Plant.state c.args.p.now)) (seen (g.P.Plant.state c.args.p.now) c.args.c.now r c.args.j.now.events) (give_back (ids_of c.args.c.now.volumes) n c.args.t.0) (seen (g.P.Plant.state c.give_back.new.p) c.args.c.now r c.give_back.new.j.events) (Some c.in_err-give_back.field-0.0)) (ap (λ (f : Fields). f.source) c.peek_fields-fields.ensures.fields) (c.in_err-give_back.ensures.fails r)))
+    let x = g.P.Plant.state c.args.p.now in let y = g.P.Plant.state c.give_back.new.p in let t = c.args.c.now in let us = ids_of t.volumes in
+    let related = holder-related _ c.tracks_of.result c.in-Some.k _ _ c.peek_fields-fields.ensures.fields c.peek_fields-fields.ensures.lawful (sym c.lowest.ensures.lowest ∙ c.in-Some.is) in
+    err-always c.from_residual.result (λ s is r.
+    subst (λ q. Fails (armed_in x) (seen x t r c.args.j.now.events) (give_back us s c.args.t.0) (seen y t r c.give_back.new.j.events) q) (sym (refused-by c.from_residual.result c.in_err-give_back.field-0.0 c.from_residual.ensures.0 c.from_residual.ensures.1))
+    (subst (λ n. Fails (armed_in x) (seen x t r c.args.j.now.events) (give_back us n c.args.t.0) (seen y t r c.give_back.new.j.events) (Some c.in_err-give_back.field-0.0)) (ap (λ (f : Fields). f.source) c.peek_fields-fields.ensures.fields ∙ (is related).1) (c.in_err-give_back.ensures.fails r)))
 
 pub returns-in_err-give_back-clause-carried : goal.returns-in_err-give_back-clause-carried
-returns-in_err-give_back-clause-carried g c r =
-    failed (armed_in (g.P.Plant.state c.args.p.now)) (seen (g.P.Plant.state c.args.p.now) c.args.c.now r c.args.j.now.events) (seen (g.P.Plant.state c.give_back.new.p) c.args.c.now r c.give_back.new.j.events) (refusal_of c.from_residual.result) (give_back (ids_of c.args.c.now.volumes) (volume_seen (g.P.Plant.state c.args.p.now) c.args.c.now c.args.t.0).fields.source c.args.t.0)
-    (subst (λ q. Fails (armed_in (g.P.Plant.state c.args.p.now)) (seen (g.P.Plant.state c.args.p.now) c.args.c.now r c.args.j.now.events) (give_back (ids_of c.args.c.now.volumes) (volume_seen (g.P.Plant.state c.args.p.now) c.args.c.now c.args.t.0).fields.source c.args.t.0) (seen (g.P.Plant.state c.give_back.new.p) c.args.c.now r c.give_back.new.j.events) q) (sym (refused-by c.from_residual.result c.in_err-give_back.field-0.0 c.from_residual.ensures.0 c.from_residual.ensures.1))
-    (subst (λ n. Fails (armed_in (g.P.Plant.state c.args.p.now)) (seen (g.P.Plant.state c.args.p.now) c.args.c.now r c.args.j.now.events) (give_back (ids_of c.args.c.now.volumes) n c.args.t.0) (seen (g.P.Plant.state c.give_back.new.p) c.args.c.now r c.give_back.new.j.events) (Some c.in_err-give_back.field-0.0)) (ap (λ (f : Fields). f.source) c.peek_fields-fields.ensures.fields) (c.in_err-give_back.ensures.fails r)))
+returns-in_err-give_back-clause-carried g c s is r =
+    let x = g.P.Plant.state c.args.p.now in let y = g.P.Plant.state c.give_back.new.p in let t = c.args.c.now in let us = ids_of t.volumes in
+    let related = holder-related _ c.tracks_of.result c.in-Some.k _ _ c.peek_fields-fields.ensures.fields c.peek_fields-fields.ensures.lawful (sym c.lowest.ensures.lowest ∙ c.in-Some.is) in
+    failed (armed_in x) (seen x t r c.args.j.now.events) (seen y t r c.give_back.new.j.events) (refusal_of c.from_residual.result) (give_back us s c.args.t.0)
+    (subst (λ q. Fails (armed_in x) (seen x t r c.args.j.now.events) (give_back us s c.args.t.0) (seen y t r c.give_back.new.j.events) q) (sym (refused-by c.from_residual.result c.in_err-give_back.field-0.0 c.from_residual.ensures.0 c.from_residual.ensures.1))
+    (subst (λ n. Fails (armed_in x) (seen x t r c.args.j.now.events) (give_back us n c.args.t.0) (seen y t r c.give_back.new.j.events) (Some c.in_err-give_back.field-0.0)) (ap (λ (f : Fields). f.source) c.peek_fields-fields.ensures.fields ∙ (is related).1) (c.in_err-give_back.ensures.fails r)))
 
 pub returns-clause-leads : goal.returns-clause-leads
-returns-clause-leads g c r = subst (λ n. Leads (seen (g.P.Plant.state c.args.p.now) c.args.c.now r c.args.j.now.events) (give_back (ids_of c.args.c.now.volumes) n c.args.t.0) (seen (g.P.Plant.state c.give_back.new.p) c.args.c.now r c.give_back.new.j.events)) (ap (λ (f : Fields). f.source) c.peek_fields-fields.ensures.fields) (c.in_ok-give_back.ensures.leads r)
+returns-clause-leads g c s is r =
+    let x = g.P.Plant.state c.args.p.now in let y = g.P.Plant.state c.give_back.new.p in let t = c.args.c.now in let us = ids_of t.volumes in
+    let related = holder-related _ c.tracks_of.result c.in-Some.k _ _ c.peek_fields-fields.ensures.fields c.peek_fields-fields.ensures.lawful (sym c.lowest.ensures.lowest ∙ c.in-Some.is) in
+    subst (λ n. Leads (seen x t r c.args.j.now.events) (give_back us n c.args.t.0) (seen y t r c.give_back.new.j.events)) (ap (λ (f : Fields). f.source) c.peek_fields-fields.ensures.fields ∙ (is related).1) (c.in_ok-give_back.ensures.leads r)
 
 pub returns-clause-carried : goal.returns-clause-carried
-returns-clause-carried g c r = led (armed_in (g.P.Plant.state c.args.p.now)) (seen (g.P.Plant.state c.args.p.now) c.args.c.now r c.args.j.now.events) (seen (g.P.Plant.state c.give_back.new.p) c.args.c.now r c.give_back.new.j.events) (give_back (ids_of c.args.c.now.volumes) (volume_seen (g.P.Plant.state c.args.p.now) c.args.c.now c.args.t.0).fields.source c.args.t.0) (returns-clause-leads g c r)
+returns-clause-carried g c s is r =
+    let x = g.P.Plant.state c.args.p.now in let y = g.P.Plant.state c.give_back.new.p in let t = c.args.c.now in
+    led (armed_in x) (seen x t r c.args.j.now.events) (seen y t r c.give_back.new.j.events) (give_back (ids_of t.volumes) s c.args.t.0) (returns-clause-leads g c s is r)
