@@ -1,3 +1,4 @@
+pub mod BackgroundLemmas
 pub mod PutLemmas
 pub mod LineLemmas
 pub mod TaskLemmas

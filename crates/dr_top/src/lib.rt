@@ -1,6 +1,7 @@
 //! The top call: reads a script from a source, carries it out on a plant and prints the answers to a sink.
 #![tactic(auto)]
 
+mod background;
 mod carry;
 mod define;
 mod flash;

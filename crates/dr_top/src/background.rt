@@ -1,0 +1,117 @@
+//! Tracks of a FlashCopy target are copied in the background, or given back.
+
+ghost use Rattle.std.specs.Prelude.{◌≡◌, ℕ, ◌+◌, ◌≤◌, Bool, true, not, ◌&&◌, ◌||◌, List, [], ◌∷◌, length, Some, IsSome, OnErr, is_err, if◌then◌else◌};
+ghost use Rattle.std.specs.FinSet.{len};
+ghost use Rattle.dr_ids.specs.declared.refusal.Refusal.{Refusal};
+ghost use Rattle.dr_config.specs.Table.{place_of};
+ghost use Rattle.dr_model.specs.Carry.{carry};
+ghost use Rattle.dr_model.specs.Entries.{times, fetch_next, give_back};
+ghost use Rattle.dr_model.specs.Laws.{Sound};
+ghost use Rattle.dr_model.specs.Plans as plans;
+ghost use Rattle.dr_model.specs.Relations as relations;
+ghost use Rattle.dr_model.specs.Runs.{after_plan, said};
+ghost use Rattle.dr_model.specs.Refusals.{stopped};
+ghost use Rattle.dr_volume.specs.Plain.{plain};
+ghost use Rattle.dr_volume.specs.View.{volume_seen, ids_of};
+ghost use Rattle.dr_flash.specs.Fit.{RelationsFit};
+ghost use Rattle.dr_flash.specs.Here.{refusal_of};
+ghost use Rattle.dr_top.specs.Faults.{Counted, Counts};
+ghost use Rattle.dr_top.specs.Here.{here, said_of, IsReady};
+
+use dr_config::Config;
+use dr_flash::{copy_step, relation_state, rest, tracks_of};
+use dr_host::Host;
+use dr_ids::{Kind, Refusal, VolumeId};
+use dr_incr::reverse_step;
+use dr_model::{Addition, Journal};
+use dr_plant::Plant;
+use dr_volume::{Fields, peek_fields};
+
+/// Whether a volume with these fields is a target whose tracks may be copied: not revertible, and being restored or made
+/// without `-nocp`.
+fn may_copy(f: &Fields) -> bool
+    ensures { result ≡ (f.now.related && (not f.now.revertible && (f.now.reversing || not f.now.nocopy))) }
+{
+    f.related && !f.revertible && (f.reversing || !f.nocopy)
+}
+
+/// How many tracks of a target of n tracks are left to copy, or to give back.
+fn left_to_copy(n: u16, f: &Fields) -> u16
+    requires { n ≤ 256 }
+    ensures { result ≡ (if f.now.reversing then len f.now.own else len (relations.rest n f.now.own)) }
+{
+    if f.reversing {
+        f.own.len()
+    } else {
+        rest(n, &f.own).len()
+    }
+}
+
+/// Those that are left, or as many of them as a line asks for.
+fn at_most(most: Option<u32>, left: u16) -> u16
+    ensures value { result ≡ plans.at_most most left }
+    ensures few { result ≤ left }
+{
+    match most {
+        Some(most) if most < u32::from(left) => most as u16,
+        _ => left,
+    }
+}
+
+/// Copies so many tracks of a target, lowest first.
+fn fetch_tracks<P: Plant>(
+    plant: &mut P,
+    config: &Config,
+    host: &Host,
+    journal: &mut Journal,
+    t: VolumeId,
+    count: u16,
+) -> Result<(), Refusal>
+    requires ready { IsReady (P.state plant.old) config.now host.now journal.old.events }
+    requires fit { RelationsFit (P.state plant.old) config.now }
+    requires defined { IsSome (place_of config.now t.0) }
+    requires running { (P.state plant.old).on (volume_seen (P.state plant.old) config.now t.0).server ≡ true }
+    requires room { count + 3 ≤ journal.old.spare }
+    ensures carried { carry (here (P.state plant.old) config.now host.now journal.old.events) (times count (fetch_next t.0 ∷ []))
+        ≡ (here (P.state plant.new) config.now host.now journal.new.events, refusal_of result) }
+    ensures refused { OnErr result (refusal_of result ≡ Some (stopped (volume_seen (P.state plant.old) config.now t.0).server)) }
+    ensures faults { Counted (is_err result) (P.state plant.old).faults (P.state plant.new).faults }
+    ensures ready { IsReady (P.state plant.new) config.now host.now journal.new.events }
+    ensures room { 1 ≤ journal.new.spare }
+{
+    for _ in 0..count {
+        copy_step(plant, config, journal, t)?;
+    }
+    Ok(())
+}
+
+/// Gives so many tracks of a target back to its source, lowest first.
+fn restore_tracks<P: Plant>(
+    plant: &mut P,
+    config: &Config,
+    host: &Host,
+    journal: &mut Journal,
+    t: VolumeId,
+    count: u16,
+) -> Result<(), Refusal>
+    requires ready { IsReady (P.state plant.old) config.now host.now journal.old.events }
+    requires sound { Sound (here (P.state plant.old) config.now host.now journal.old.events) }
+    requires defined { IsSome (place_of config.now t.0) }
+    requires running { (P.state plant.old).on (volume_seen (P.state plant.old) config.now t.0).server ≡ true }
+    requires reversing { (volume_seen (P.state plant.old) config.now t.0).fields.reversing ≡ true }
+    requires few { length config.now.volumes ≤ 64 }
+    requires count { count ≤ 256 }
+    requires room { 4096 ≤ journal.old.spare }
+    ensures carried { carry (here (P.state plant.old) config.now host.now journal.old.events)
+        (times count (give_back (ids_of config.now.volumes) (volume_seen (P.state plant.old) config.now t.0).fields.source t.0))
+        ≡ (here (P.state plant.new) config.now host.now journal.new.events, refusal_of result) }
+    ensures refused { OnErr result (refusal_of result ≡ Some (stopped (volume_seen (P.state plant.old) config.now t.0).server)) }
+    ensures faults { Counted (is_err result) (P.state plant.old).faults (P.state plant.new).faults }
+    ensures ready { IsReady (P.state plant.new) config.now host.now journal.new.events }
+    ensures room { 1 ≤ journal.new.spare }
+{
+    for _ in 0..count {
+        reverse_step(plant, config, journal, t)?;
+    }
+    Ok(())
+}
