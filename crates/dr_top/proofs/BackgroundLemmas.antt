@@ -1,22 +1,38 @@
 -- What is done for several tracks, one after the other.
-use Rattle.std.proofs.Common.{ℕ, zero, suc, ◌≡◌, ◌≤◌, ◌<◌, ◌+◌, ◌*◌, ◌-◌, List, [], ◌∷◌, ◌++◌, length, append_assoc, refl, sym, ◌∙◌, ap, subst, arith, true, Option, Some, None, slice_get}
+use Rattle.std.proofs.Common.{ℕ, zero, suc, ◌≡◌, ◌≤◌, ◌<◌, ◌+◌, ◌*◌, ◌-◌, List, [], ◌∷◌, ◌++◌, length, append_assoc, refl, sym, ◌∙◌, ap, subst, arith, true, false, Option, Some, None, slice_get}
+use Rattle.std.specs.Prelude.{is_some, Bool, not, ◌&&◌, ◌||◌, if◌then◌else◌}
+use Rattle.std.specs.FinSet.{len}
+use Rattle.dr_model.specs.Layout.{Fields}
+use Rattle.dr_model.specs.Relations.{rest}
 use Rattle.std.proofs.lemmas.List.{append-nil}
 use Rattle.dr_ids.specs.declared.refusal.Refusal.{Refusal}
 use Rattle.dr_plant.specs.State.{PlantState}
-use Rattle.dr_config.specs.Table.{Table, place_of}
+use Rattle.dr_config.specs.Table.{Table, place_of, entry_of}
 use Rattle.dr_config.specs.declared.entries.VolumeEntry.{VolumeEntry}
 use Rattle.dr_host.specs.Writes.{Writes}
 use Rattle.dr_model.specs.declared.event.Event.{Event}
+use Rattle.dr_model.specs.declared.said.Said.{Said}
+use Rattle.dr_model.specs.declared.said.Said.TheVariants.{Done, Refused}
+use Rattle.dr_model.specs.declared.said.Addition.TheVariants.{Counted}
+use Rattle.dr_model.specs.Runs.{after_plan, said}
+use Rattle.dr_model.specs.Refusals.{unknown, server_off}
+use Rattle.dr_ids.specs.declared.refusal.Kind.TheVariants.{Volume as OfVolume}
+use Rattle.dr_model.specs.Plans.{copy_plan, copy_one, is_defined, may_copy, at_most, left_to_copy}
 use Rattle.dr_model.specs.Control.{World}
-use Rattle.dr_model.specs.Carry.{Entry, Outcome, carry}
-use Rattle.dr_model.specs.Entries.{times, give_back}
+use Rattle.dr_model.specs.Carry.{Entry, Outcome, carry, check}
+use Rattle.dr_model.specs.Entries.{times, give_back, is_running, relation_state}
 use Rattle.dr_model.specs.Laws.{Sound}
 use Rattle.dr_volume.specs.View.{volume_seen, volume_at, volume_on, ids_of, ReadsPass}
-use Rattle.dr_flash.specs.Here.{IsAtRest}
+use Rattle.dr_flash.specs.Here.{IsAtRest, armed_in}
 use Rattle.dr_laws.proofs.Costs.{Costs, carry-adds}
 use Rattle.dr_laws.proofs.CopyCosts.{Live, rounds}
 use Rattle.dr_top.specs.Here.{here}
-use Rattle.dr_top.proofs.LandLemmas.{ends-first, goes-on}
+use Rattle.dr_top.proofs.LandLemmas.{ends-first, goes-on, exact}
+use Rattle.dr_top.proofs.LocatedLemmas.{is_volume-here}
+use Rattle.dr_top.proofs.FlashLemmas.{step-nowhere, entries-done, entries-refused}
+use Rattle.dr_flash.specs.Checks.{Checked}
+use Rattle.dr_flash.proofs.CheckLemmas.{refuses}
+use Rattle.dr_flash.proofs.EndsLemmas.{ends-passed, ends-none}
 
 -- a volume stays on its server
 pub same-server : (s u : PlantState) (c : Table) (v : ℕ) → (volume_seen s c v).server ≡ (volume_seen u c v).server
@@ -76,3 +92,69 @@ carried-none w = refl
 -- reads pass later where no fuse was armed since
 pub pass-later : (s u : PlantState) → ReadsPass s → ((q : ℕ) → s.read_fuse q ≡ None → u.read_fuse q ≡ None) → ReadsPass u
 pass-later s u pass unarmed q low = unarmed q (pass q low)
+
+-- whether tracks of a target with these fields may be copied, and how many are left
+abbrev pub may_copy_by : Fields → Bool
+may_copy_by f = f.related && (not f.revertible && (f.reversing || not f.nocopy))
+
+abbrev pub left_by : Fields → ℕ → ℕ
+left_by f n = if f.reversing then len f.own else len (rest n f.own)
+
+-- what comes before tracks are copied
+module _ (s : PlantState) (c : Table) (h : Writes) (ev : List Event) (t : ℕ) (most : Option ℕ) (pass : ReadsPass s) where
+  abbrev pub before : World
+  before = here s c h ev
+
+  abbrev copied : ℕ
+  copied = at_most most (left_to_copy before.control t)
+
+  abbrev checks : List Entry
+  checks =
+      check (is_defined t) (unknown OfVolume)
+      ∷ check (is_running t) (server_off (before.control.volume t).server)
+      ∷ check (may_copy t) (relation_state before.control t) ∷ []
+
+  refused-so : (why : Refusal) → Checked before checks (Some why) → (line : ℕ) → after_plan before line (copy_plan before.control t most) ≡ said before line (Refused why)
+  refused-so why checked line = step-nowhere c s s h ev ev checks (times copied (copy_one before.control t)) (Done (Counted copied)) pass why checked line
+
+  pub copy-nowhere : (why : Refusal) → entry_of c t ≡ None → why ≡ unknown OfVolume → (line : ℕ) → after_plan before line (copy_plan before.control t most) ≡ said before line (Refused why)
+  copy-nowhere why none is =
+      refused-so why (λ armed ds. refuses armed before (is_defined t) (unknown OfVolume) (Some why) _ (is_volume-here s c h ev t ∙ ap is_some none) (ap Some is))
+
+  module _ (e : VolumeEntry) (found : entry_of c t ≡ Some e) where
+    there : is_defined t before.control ≡ true
+    there = is_volume-here s c h ev t ∙ ap is_some found
+
+    pub copy-off : (why : Refusal) → is_running t before.control ≡ false → why ≡ server_off (before.control.volume t).server → (line : ℕ) → after_plan before line (copy_plan before.control t most) ≡ said before line (Refused why)
+    copy-off why off is =
+        refused-so why (λ armed ds. ends-passed armed before (Some why) before (is_defined t) (unknown OfVolume) _ there
+        (refuses armed before (is_running t) (server_off (before.control.volume t).server) (Some why) _ off (ap Some is)))
+
+    module _ (on : is_running t before.control ≡ true) where
+      pub copy-unfit : (why : Refusal) → may_copy t before.control ≡ false → why ≡ relation_state before.control t → (line : ℕ) → after_plan before line (copy_plan before.control t most) ≡ said before line (Refused why)
+      copy-unfit why never is =
+          refused-so why (λ armed ds. ends-passed armed before (Some why) before (is_defined t) (unknown OfVolume) _ there
+          (ends-passed armed before (Some why) before (is_running t) (server_off (before.control.volume t).server) _ on
+          (refuses armed before (may_copy t) (relation_state before.control t) (Some why) _ never (ap Some is))))
+
+      -- then the tracks are
+      checked : may_copy t before.control ≡ true → Checked before checks None
+      checked may armed u r ds ends =
+          ends-passed armed u r before (is_defined t) (unknown OfVolume) _ there
+          (ends-passed armed u r before (is_running t) (server_off (before.control.volume t).server) _ on
+          (ends-passed armed u r before (may_copy t) (relation_state before.control t) _ may ends))
+
+      all-carried : may_copy t before.control ≡ true → (n : ℕ) → n ≡ copied → (u : World) (r : Option Refusal) → carry before (times n (copy_one before.control t)) ≡ (u, r) → carry before (checks ++ times copied (copy_one before.control t)) ≡ (u, r)
+      all-carried may n is u r carried =
+          goes-on before before checks (times copied (copy_one before.control t))
+          (exact s before None before checks pass (checked may (armed_in s) before None [] (ends-none (armed_in s) before None before (record { world = refl; refusal = refl }))))
+          ∙ ap (λ k. carry before (times k (copy_one before.control t))) (sym is) ∙ carried
+
+      pub copy-done : may_copy t before.control ≡ true → (n : ℕ) → n ≡ copied → (u : World) → carry before (times n (copy_one before.control t)) ≡ (u, None) → (line : ℕ) → after_plan before line (copy_plan before.control t most) ≡ said u line (Done (Counted n))
+      copy-done may n is u carried line =
+          entries-done before u line (checks ++ times copied (copy_one before.control t)) (Done (Counted copied)) (all-carried may n is u None carried)
+          ∙ ap (λ k. said u line (Done (Counted k))) (sym is)
+
+      pub copy-failed : may_copy t before.control ≡ true → (n : ℕ) → n ≡ copied → (u : World) (r : Refusal) → carry before (times n (copy_one before.control t)) ≡ (u, Some r) → (line : ℕ) → after_plan before line (copy_plan before.control t most) ≡ said u line (Refused r)
+      copy-failed may n is u r carried line =
+          entries-refused before u line (checks ++ times copied (copy_one before.control t)) (Done (Counted copied)) r (all-carried may n is u (Some r) carried)

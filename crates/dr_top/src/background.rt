@@ -6,6 +6,7 @@ ghost use Rattle.dr_ids.specs.declared.refusal.Refusal.{Refusal};
 ghost use Rattle.dr_config.specs.Table.{place_of};
 ghost use Rattle.dr_model.specs.Carry.{carry};
 ghost use Rattle.dr_model.specs.Entries.{times, fetch_next, give_back};
+ghost use Rattle.dr_model.specs.Lawful.{IsLawful};
 ghost use Rattle.dr_model.specs.Laws.{Sound};
 ghost use Rattle.dr_model.specs.Plans as plans;
 ghost use Rattle.dr_model.specs.Relations as relations;
@@ -37,8 +38,10 @@ fn may_copy(f: &Fields) -> bool
 
 /// How many tracks of a target of n tracks are left to copy, or to give back.
 fn left_to_copy(n: u16, f: &Fields) -> u16
-    requires { n ≤ 256 }
-    ensures { result ≡ (if f.now.reversing then len f.now.own else len (relations.rest n f.now.own)) }
+    requires most { n ≤ 256 }
+    requires lawful { IsLawful n (plain f.now) }
+    ensures value { result ≡ (if f.now.reversing then len f.now.own else len (relations.rest n f.now.own)) }
+    ensures few { result ≤ 256 }
 {
     if f.reversing {
         f.own.len()
@@ -114,4 +117,77 @@ fn restore_tracks<P: Plant>(
         reverse_step(plant, config, journal, t)?;
     }
     Ok(())
+}
+
+/// What is done for so many tracks of a target: one that is restored gives them back, another takes them.
+fn copy_tracks<P: Plant>(
+    plant: &mut P,
+    config: &Config,
+    host: &Host,
+    journal: &mut Journal,
+    t: VolumeId,
+    reversing: bool,
+    count: u16,
+) -> Result<(), Refusal>
+    requires ready { IsReady (P.state plant.old) config.now host.now journal.old.events }
+    requires sound { Sound (here (P.state plant.old) config.now host.now journal.old.events) }
+    requires defined { IsSome (place_of config.now t.0) }
+    requires running { (P.state plant.old).on (volume_seen (P.state plant.old) config.now t.0).server ≡ true }
+    requires reversing { reversing ≡ (volume_seen (P.state plant.old) config.now t.0).fields.reversing }
+    requires few { length config.now.volumes ≤ 64 }
+    requires count { count ≤ 256 }
+    requires room { 4096 ≤ journal.old.spare }
+    ensures carried { carry (here (P.state plant.old) config.now host.now journal.old.events)
+        (times count (plans.copy_one (here (P.state plant.old) config.now host.now journal.old.events).control t.0))
+        ≡ (here (P.state plant.new) config.now host.now journal.new.events, refusal_of result) }
+    ensures refused { OnErr result (refusal_of result ≡ Some (stopped (volume_seen (P.state plant.old) config.now t.0).server)) }
+    ensures faults { Counted (is_err result) (P.state plant.old).faults (P.state plant.new).faults }
+    ensures ready { IsReady (P.state plant.new) config.now host.now journal.new.events }
+    ensures room { 1 ≤ journal.new.spare }
+{
+    if reversing {
+        restore_tracks(plant, config, host, journal, t, count)
+    } else {
+        fetch_tracks(plant, config, host, journal, t, count)
+    }
+}
+
+/// Copies tracks of a FlashCopy target whose server is on, as many as are left, or as many of them as a line asks for. One
+/// that is restored gives them back to its source.
+pub fn copy<P: Plant>(
+    plant: &mut P,
+    config: &Config,
+    host: &Host,
+    journal: &mut Journal,
+    t: VolumeId,
+    most: Option<u32>,
+) -> Result<Addition, Refusal>
+    requires ready { IsReady (P.state plant.old) config.now host.now journal.old.events }
+    requires sound { Sound (here (P.state plant.old) config.now host.now journal.old.events) }
+    requires few { length config.now.volumes ≤ 64 }
+    requires room { 4096 ≤ journal.old.spare }
+    ensures step { (line : ℕ) → after_plan (here (P.state plant.old) config.now host.now journal.old.events) line
+        (plans.copy_plan (here (P.state plant.old) config.now host.now journal.old.events).control t.0 most)
+        ≡ said (here (P.state plant.new) config.now host.now journal.new.events) line (said_of result) }
+    ensures faults { Counts (said_of result) (P.state plant.old) (P.state plant.new) }
+    ensures ready { IsReady (P.state plant.new) config.now host.now journal.new.events }
+    ensures room { 1 ≤ journal.new.spare }
+{
+    let Some(server) = config.server_of(t) else {
+        return Err(Refusal::Unknown { kind: Kind::Volume });
+    };
+    if !plant.is_on(server.0) {
+        return Err(Refusal::ServerOff { server });
+    }
+    let fields = peek_fields(plant, config, t);
+    if !may_copy(&fields) {
+        return Err(relation_state(plant, config, t));
+    }
+    let count = at_most(most, left_to_copy(tracks_of(config, t), &fields));
+    match copy_tracks(plant, config, host, journal, t, fields.reversing, count) {
+        Ok(()) => Ok(Addition::Counted {
+            tracks: u32::from(count),
+        }),
+        Err(refusal) => Err(refusal),
+    }
 }
