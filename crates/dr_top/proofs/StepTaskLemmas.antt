@@ -1,5 +1,5 @@
 -- A step of a line, with its answer.
-use Rattle.std.proofs.Common.{ℕ, ◌≡◌, ◌+◌, List, [], ◌∷◌, ◌++◌, refl, ap, ◌∙◌, sym, subst, arith, Bool, true, false, ◌||◌, cond, not, nat_le, Ok, Err, Result}
+use Rattle.std.proofs.Common.{ℕ, ◌≡◌, ◌+◌, List, [], ◌∷◌, ◌++◌, refl, ap, ◌∙◌, sym, subst, arith, Bool, true, false, ◌||◌, cond, not, nat_le, Ok, Err, Result, Option}
 use Rattle.std.specs.Prelude.{OnOk, OnErr}
 use Rattle.std.specs.List.{list_any}
 use Rattle.std.proofs.lemmas.List.{same_from_push}
@@ -16,8 +16,10 @@ use Rattle.dr_model.specs.declared.said.Said.{Said}
 use Rattle.dr_model.specs.declared.said.Said.TheVariants.{Done, Held, Refused}
 use Rattle.dr_model.specs.declared.step.Name.{Name}
 use Rattle.dr_model.specs.declared.step.Step.{Step}
-use Rattle.dr_model.specs.declared.step.Step.TheVariants.{Server, Volume, Link, Stop, StopAfter, Start, Issue, Write, Apply, Show}
+use Rattle.dr_model.specs.declared.step.Step.TheVariants.{Server, Volume, Link, Stop, StopAfter, Start, Issue, Write, Apply, Show, MakeFlash, RemoveFlash, ResyncFlash, ReverseFlash, Copy}
 use Rattle.dr_model.specs.declared.step.TornWord.{TornWord}
+use Rattle.dr_model.specs.declared.step.Devs.{Devs}
+use Rattle.dr_top.specs.Forms.{is_plain}
 use Rattle.dr_model.specs.Answers.{answer}
 use Rattle.dr_model.specs.Control.{Control, World}
 use Rattle.dr_model.specs.Plans.{refuses, plan_of, is_built, has_room}
@@ -31,28 +33,52 @@ use Rattle.dr_top.specs.Faults.{Counted, is_stop, told_stop, is_stopped}
 use Rattle.dr_top.specs.Here.{here, IsTold}
 use Rattle.dr_top.proofs.ReachLemmas.{told-answer}
 
--- a form that isn't built
-pub unbuilt : (w : World) (line : ℕ) (step : Step) → ((n : Name) → step ≡ Server n → ⊥) → ((v : ℕ) (n : Name) (t : ℕ) → step ≡ Volume v n t → ⊥) → ((a b : Name) (up : Bool) → step ≡ Link a b up → ⊥)
+-- a step of another form is none of those on servers, volumes and host writes
+pub none-plain : (step : Step) → ((n : Name) → step ≡ Server n → ⊥) → ((v : ℕ) (n : Name) (t : ℕ) → step ≡ Volume v n t → ⊥) → ((a b : Name) (up : Bool) → step ≡ Link a b up → ⊥)
     → ((v t o l : ℕ) (b : List ℕ) → step ≡ Issue v t o l b → ⊥) → ((v t o l : ℕ) (b : List ℕ) → step ≡ Write v t o l b → ⊥) → ((n : ℕ) → step ≡ Apply n → ⊥) → ((v t : ℕ) → step ≡ Show v t → ⊥)
     → ((n : Name) → step ≡ Stop n → ⊥) → ((n : Name) (k : ℕ) (torn : TornWord) → step ≡ StopAfter n k torn → ⊥) → ((n : Name) → step ≡ Start n → ⊥)
+    → is_plain step ≡ false
+none-plain (Server n) server volume link issue write apply show stop arm start = absurd (server n refl)
+none-plain (Volume v n t) server volume link issue write apply show stop arm start = absurd (volume v n t refl)
+none-plain (Link a b up) server volume link issue write apply show stop arm start = absurd (link a b up refl)
+none-plain (Issue v t o l b) server volume link issue write apply show stop arm start = absurd (issue v t o l b refl)
+none-plain (Write v t o l b) server volume link issue write apply show stop arm start = absurd (write v t o l b refl)
+none-plain (Apply n) server volume link issue write apply show stop arm start = absurd (apply n refl)
+none-plain (Show v t) server volume link issue write apply show stop arm start = absurd (show v t refl)
+none-plain (Stop n) server volume link issue write apply show stop arm start = absurd (stop n refl)
+none-plain (StopAfter n x torn) server volume link issue write apply show stop arm start = absurd (arm n x torn refl)
+none-plain (Start n) server volume link issue write apply show stop arm start = absurd (start n refl)
+none-plain _ server volume link issue write apply show stop arm start = refl
+
+-- a form that isn't built
+pub unbuilt : (w : World) (line : ℕ) (step : Step) → is_plain step ≡ false
+    → ((d : Devs) (s t : ℕ) (a b c e : Bool) (n : Option ℕ) → step ≡ MakeFlash d s t a b c e n → ⊥) → ((d : Devs) (s t : ℕ) (n : Option ℕ) → step ≡ RemoveFlash d s t n → ⊥)
+    → ((d : Devs) (s t : ℕ) (a b c e : Bool) (n : Option ℕ) → step ≡ ResyncFlash d s t a b c e n → ⊥) → ((d : Devs) (s t : ℕ) (p : Bool) (n : Option ℕ) → step ≡ ReverseFlash d s t p n → ⊥)
+    → ((t : ℕ) (most : Option ℕ) → step ≡ Copy t most → ⊥)
     → after_plan w line (plan_of w.control w.events line step) ≡ said w line (Refused NotBuilt)
-unbuilt w line step server volume link issue write apply show stop arm start = ap (after_plan w line) (refused w.control w.events line step server volume link issue write apply show stop arm start) ∙ plan-refuses w line NotBuilt
+unbuilt w line step plain make remove resync reverse copy = ap (after_plan w line) (refused w.control w.events line step plain make remove resync reverse copy) ∙ plan-refuses w line NotBuilt
   where
-    refused : (k : Control) (events : List Event) (line : ℕ) (step : Step) → ((n : Name) → step ≡ Server n → ⊥) → ((v : ℕ) (n : Name) (t : ℕ) → step ≡ Volume v n t → ⊥) → ((a b : Name) (up : Bool) → step ≡ Link a b up → ⊥)
-        → ((v t o l : ℕ) (b : List ℕ) → step ≡ Issue v t o l b → ⊥) → ((v t o l : ℕ) (b : List ℕ) → step ≡ Write v t o l b → ⊥) → ((n : ℕ) → step ≡ Apply n → ⊥) → ((v t : ℕ) → step ≡ Show v t → ⊥)
-        → ((n : Name) → step ≡ Stop n → ⊥) → ((n : Name) (k : ℕ) (torn : TornWord) → step ≡ StopAfter n k torn → ⊥) → ((n : Name) → step ≡ Start n → ⊥)
+    refused : (k : Control) (events : List Event) (line : ℕ) (step : Step) → is_plain step ≡ false
+        → ((d : Devs) (s t : ℕ) (a b c e : Bool) (n : Option ℕ) → step ≡ MakeFlash d s t a b c e n → ⊥) → ((d : Devs) (s t : ℕ) (n : Option ℕ) → step ≡ RemoveFlash d s t n → ⊥)
+        → ((d : Devs) (s t : ℕ) (a b c e : Bool) (n : Option ℕ) → step ≡ ResyncFlash d s t a b c e n → ⊥) → ((d : Devs) (s t : ℕ) (p : Bool) (n : Option ℕ) → step ≡ ReverseFlash d s t p n → ⊥)
+        → ((t : ℕ) (most : Option ℕ) → step ≡ Copy t most → ⊥)
         → plan_of k events line step ≡ refuses NotBuilt
-    refused k events line (Server n) server volume link issue write apply show stop arm start = absurd (server n refl)
-    refused k events line (Volume v n t) server volume link issue write apply show stop arm start = absurd (volume v n t refl)
-    refused k events line (Link a b up) server volume link issue write apply show stop arm start = absurd (link a b up refl)
-    refused k events line (Issue v t o l b) server volume link issue write apply show stop arm start = absurd (issue v t o l b refl)
-    refused k events line (Write v t o l b) server volume link issue write apply show stop arm start = absurd (write v t o l b refl)
-    refused k events line (Apply n) server volume link issue write apply show stop arm start = absurd (apply n refl)
-    refused k events line (Show v t) server volume link issue write apply show stop arm start = absurd (show v t refl)
-    refused k events line (Stop n) server volume link issue write apply show stop arm start = absurd (stop n refl)
-    refused k events line (StopAfter n x torn) server volume link issue write apply show stop arm start = absurd (arm n x torn refl)
-    refused k events line (Start n) server volume link issue write apply show stop arm start = absurd (start n refl)
-    refused k events line _ server volume link issue write apply show stop arm start = refl
+    refused k events line (Server n) plain make remove resync reverse copy = absurd cc
+    refused k events line (Volume v n t) plain make remove resync reverse copy = absurd cc
+    refused k events line (Link a b up) plain make remove resync reverse copy = absurd cc
+    refused k events line (Issue v t o l b) plain make remove resync reverse copy = absurd cc
+    refused k events line (Write v t o l b) plain make remove resync reverse copy = absurd cc
+    refused k events line (Apply n) plain make remove resync reverse copy = absurd cc
+    refused k events line (Show v t) plain make remove resync reverse copy = absurd cc
+    refused k events line (Stop n) plain make remove resync reverse copy = absurd cc
+    refused k events line (StopAfter n x torn) plain make remove resync reverse copy = absurd cc
+    refused k events line (Start n) plain make remove resync reverse copy = absurd cc
+    refused k events line (MakeFlash d s t a b c e n) plain make remove resync reverse copy = absurd (make d s t a b c e n refl)
+    refused k events line (RemoveFlash d s t n) plain make remove resync reverse copy = absurd (remove d s t n refl)
+    refused k events line (ResyncFlash d s t a b c e n) plain make remove resync reverse copy = absurd (resync d s t a b c e n refl)
+    refused k events line (ReverseFlash d s t p n) plain make remove resync reverse copy = absurd (reverse d s t p n refl)
+    refused k events line (Copy t most) plain make remove resync reverse copy = absurd (copy t most refl)
+    refused k events line _ plain make remove resync reverse copy = refl
 
 -- the room that is left, counted either way
 pub room-left : (n : ℕ) → nat_le n 995904 ≡ nat_le (n + 4096) 1000000

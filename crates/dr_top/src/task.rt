@@ -1,6 +1,6 @@
 //! One step of a line: whether it may be carried out, what it comes to, and its answer.
 
-ghost use Rattle.std.specs.Prelude.{◌≡◌, ℕ, ◌+◌, ◌<◌, ◌≤◌, ◌++◌, ◌^◌, true, [], ◌∷◌, length, Ok, OnOk, OnErr};
+ghost use Rattle.std.specs.Prelude.{◌≡◌, ℕ, ◌+◌, ◌<◌, ◌≤◌, ◌++◌, ◌^◌, true, false, [], ◌∷◌, length, Ok, OnOk, OnErr};
 ghost use Rattle.dr_ids.specs.declared.refusal.Refusal.{Refusal};
 ghost use Rattle.dr_model.specs.Answers.{answer};
 ghost use Rattle.dr_model.specs.Laws.{Sound};
@@ -10,13 +10,17 @@ ghost use Rattle.dr_model.specs.Plans.{is_built, has_room};
 ghost use Rattle.dr_model.specs.Runs.{after_task};
 ghost use Rattle.dr_model.specs.declared.said.Said.TheVariants.{Refused};
 ghost use Rattle.dr_top.specs.Faults.{Counted, Counts, told_stop};
-ghost use Rattle.dr_top.specs.Here.{here, widened, OnAnswer, OnNoMemory, Leads, IsReady};
+ghost use Rattle.dr_top.specs.Forms.{is_plain};
+ghost use Rattle.dr_top.specs.Here.{here, said_of, widened, OnAnswer, OnNoMemory, Leads, IsReady};
 ghost use Rattle.dr_top.specs.WellFormed.{IsWellFormed};
 
+use crate::background::copy;
 use crate::define::{define_server, define_volume, set_link};
+use crate::flash::{make_flash, remove_flash, resync_flash, reverse_flash};
 use crate::steps::{HostWrite, apply, issue, show, write};
 use crate::stops::{arm, start, stop};
 use dr_config::Config;
+use dr_flash::Options;
 use dr_host::Host;
 use dr_ids::{Fault, Refusal, VolumeId};
 use dr_model::{Addition, Journal, Said, Step};
@@ -37,7 +41,9 @@ fn is_built(step: &Step) -> bool
         Step::Server { .. } | Step::Volume { .. } | Step::Link { .. } => true,
         Step::Stop { .. } | Step::StopAfter { .. } | Step::Start { .. } => true,
         Step::Issue { .. } | Step::Write { .. } | Step::Apply { .. } => true,
-        Step::Show { .. } => true,
+        Step::Show { .. } | Step::Copy { .. } => true,
+        Step::MakeFlash { .. } | Step::RemoveFlash { .. } => true,
+        Step::ResyncFlash { .. } | Step::ReverseFlash { .. } => true,
         _ => false,
     }
 }
@@ -85,6 +91,77 @@ fn widened(carried: Result<Addition, Refusal>) -> Result<Addition, Fault>
     }
 }
 
+/// Carries out a step on a FlashCopy relationship.
+fn carry_relation<P: Plant>(
+    plant: &mut P,
+    config: &Config,
+    host: &Host,
+    journal: &mut Journal,
+    step: &Step,
+) -> Result<Addition, Refusal>
+    requires ready { IsReady (P.state plant.old) config.now host.now journal.old.events }
+    requires sound { Sound (here (P.state plant.old) config.now host.now journal.old.events) }
+    requires fits { IsWellFormed step.now }
+    requires few { length config.now.volumes ≤ 64 }
+    requires room { 4096 ≤ journal.old.spare }
+    requires form { is_plain step.now ≡ false }
+    ensures step { (line : ℕ) → Leads (here (P.state plant.old) config.now host.now journal.old.events) line step.now
+        (here (P.state plant.new) config.now host.now journal.new.events) (said_of result) }
+    ensures faults { Counts (said_of result) (P.state plant.old) (P.state plant.new) }
+    ensures ready { IsReady (P.state plant.new) config.now host.now journal.new.events }
+    ensures room { 1 ≤ journal.new.spare }
+{
+    match *step {
+        Step::MakeFlash {
+            devs,
+            s,
+            t,
+            nocopy,
+            persistent,
+            recorded,
+            inhibited,
+            sequence,
+        } => {
+            let options = Options {
+                nocopy,
+                persistent,
+                recorded,
+                inhibited,
+                sequence: sequence.unwrap_or(0),
+            };
+            make_flash(
+                plant,
+                config,
+                host,
+                journal,
+                &devs.dev,
+                VolumeId(s),
+                VolumeId(t),
+                &options,
+            )
+        }
+        Step::RemoveFlash { devs, s, t, .. } => {
+            remove_flash(plant, config, host, journal, &devs.dev, VolumeId(s), VolumeId(t))
+        }
+        Step::ResyncFlash {
+            devs,
+            s,
+            t,
+            sequence,
+            ..
+        } => {
+            resync_flash(plant, config, host, journal, &devs.dev, VolumeId(s), VolumeId(t), sequence)
+        }
+        Step::ReverseFlash { devs, s, t, .. } => {
+            reverse_flash(plant, config, host, journal, &devs.dev, VolumeId(s), VolumeId(t))
+        }
+        Step::Copy { volume, most } => {
+            copy(plant, config, host, journal, VolumeId(volume), most)
+        }
+        _ => Err(Refusal::NotBuilt),
+    }
+}
+
 /// Carries out a step whose form is built. Where there is no memory nothing has changed.
 fn carry_out<P: Plant>(
     plant: &mut P,
@@ -97,7 +174,8 @@ fn carry_out<P: Plant>(
     requires ready { IsReady (P.state plant.old) config.old host.old journal.old.events }
     requires sound { Sound (here (P.state plant.old) config.old host.old journal.old.events) }
     requires fits { IsWellFormed step.now }
-    requires room { 4 ≤ journal.old.spare }
+    requires few { length config.old.volumes ≤ 64 }
+    requires room { 4096 ≤ journal.old.spare }
     requires count { host.old.issued + 1 < 2 ^ 32 }
     ensures step { OnAnswer result (λ a. Leads (here (P.state plant.old) config.old host.old journal.old.events) line step.now
         (here (P.state plant.new) config.new host.new journal.new.events) a) }
@@ -161,7 +239,7 @@ fn carry_out<P: Plant>(
             torn,
         } => widened(arm(plant, config, host, journal, &server, writes, torn)),
         Step::Start { server } => widened(start(plant, config, host, journal, &server)),
-        _ => Err(Fault::Refused(Refusal::NotBuilt)),
+        _ => widened(carry_relation(plant, config, host, journal, step)),
     }
 }
 
@@ -191,7 +269,8 @@ fn carry_built<P: Plant>(
     requires ready { IsReady (P.state plant.old) config.old host.old journal.old.events }
     requires sound { Sound (here (P.state plant.old) config.old host.old journal.old.events) }
     requires fits { IsWellFormed step.now }
-    requires room { 4 ≤ journal.old.spare }
+    requires few { length config.old.volumes ≤ 64 }
+    requires room { 4096 ≤ journal.old.spare }
     requires count { host.old.issued + 1 < 2 ^ 32 }
     requires built { is_built step.now ≡ true }
     requires has_room { has_room journal.old.events ≡ true }
@@ -228,6 +307,7 @@ pub fn carry_task<P: Plant>(
     requires ready { IsReady (P.state plant.old) config.old host.old journal.old.events }
     requires sound { Sound (here (P.state plant.old) config.old host.old journal.old.events) }
     requires written { IsWritten step.now }
+    requires few { length config.old.volumes ≤ 64 }
     requires count { host.old.issued + 1 < 2 ^ 32 }
     requires below { length journal.old.events < most_events }
     ensures task { OnOk result (after_task (here (P.state plant.old) config.old host.old journal.old.events) (record { line = number; asked = Ok step.now })

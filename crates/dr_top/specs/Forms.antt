@@ -1,0 +1,18 @@
+-- Forms of steps.
+use Rattle.std.specs.Prelude.{Bool, true, false}
+use Rattle.dr_model.specs.declared.step.Step.{Step}
+use Rattle.dr_model.specs.declared.step.Step.TheVariants.{Server, Volume, Link, Stop, StopAfter, Start, Issue, Write, Apply, Show}
+
+-- those on servers, volumes and host writes
+abbrev pub is_plain : Step → Bool
+is_plain (Server name) = true
+is_plain (Volume v name tracks) = true
+is_plain (Link a b up) = true
+is_plain (Issue v t offset len bytes) = true
+is_plain (Write v t offset len bytes) = true
+is_plain (Apply n) = true
+is_plain (Show v t) = true
+is_plain (Stop name) = true
+is_plain (StopAfter name writes torn) = true
+is_plain (Start name) = true
+is_plain _ = false
