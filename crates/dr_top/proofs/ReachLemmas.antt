@@ -32,7 +32,11 @@ use Rattle.dr_host.specs.declared.pending.Pending.{Pending}
 use Rattle.dr_model.specs.Histories.{Histories, histories}
 use Rattle.dr_model.proofs.Images.{histories-push}
 use Rattle.dr_model.specs.declared.said.Said.{Said}
-use Rattle.dr_top.specs.Here.{IsTold}
+use Rattle.dr_plant.specs.State.{PlantState}
+use Rattle.dr_config.specs.Table.{Table}
+use Rattle.dr_config.specs.declared.entries.VolumeEntry.{VolumeEntry}
+use Rattle.dr_volume.specs.View.{ids_of}
+use Rattle.dr_top.specs.Here.{here, IsTold}
 use Rattle.dr_top.proofs.TaskLemmas.{tasks-then, tasks-one, tasks-none}
 
 pub reached-more : (w u : World) (ts : List Task) → Reached w → after_tasks w ts ≡ u → Reached u
@@ -131,3 +135,11 @@ pub told-answer : (h : Writes) (events now : List Event) (line : ℕ) (a : Said)
 told-answer h events now line a told is =
     subst (λ (x : Histories). Each (λ (p : Pending). x.write (p.w.0) ≡ record { volume = p.volume.0; track = p.track; offset = p.offset; bytes = bytes_of p }) h.pending)
     (sym (ap histories told ∙ histories-push events (answer line a))) is
+
+-- a configuration that was reached has few volumes
+pub reached-few : (s : PlantState) (t : Table) (h : Writes) (ev : List Event) → Reached (here s t h ev) → length t.volumes ≤ 64
+reached-few s t h ev reached =
+    let within = subst (λ (w : World). IsWithin w.control) reached.1 (within-run reached.0) in
+    let few : length (ids_of t.volumes) ≤ 64 = within.volumes in
+    let same : length (ids_of t.volumes) ≡ length t.volumes = length-map t.volumes (λ (e : VolumeEntry). e.id) in
+    omega (arith, few, same)

@@ -1,20 +1,21 @@
 -- A step that a line of the grammar gives is well formed.
-use Rattle.std.proofs.Common.{ℕ, ◌≡◌, ◌+◌, ◌-◌, ◌^◌, ◌≤◌, List, [], ◌∷◌, ◌++◌, length, arith, Bool, true, replicate, ◌&&◌, nat_eq, nat_le, nat_lt}
+use Rattle.std.proofs.Common.{ℕ, ◌≡◌, ◌+◌, ◌-◌, ◌^◌, ◌≤◌, List, [], ◌∷◌, ◌++◌, length, arith, Bool, true, not, replicate, Option, Some, None, ◌&&◌, ◌||◌, nat_eq, nat_le, nat_lt}
+use Rattle.std.specs.Prelude.{is_some, unwrap_or}
 use Rattle.std.specs.List.{list_all}
 use Rattle.std.specs.Str.{bytes_eq}
 use Rattle.std.proofs.lemmas.Bool.{and_parts}
 use Rattle.std.proofs.lemmas.Bool.Decides.{nat_tests}
 use Rattle.dr_model.specs.declared.step.Name.{Name}
 use Rattle.dr_model.specs.declared.step.Step.{Step}
-use Rattle.dr_model.specs.declared.step.Step.TheVariants.{Server, Volume, Link, Stop, StopAfter, Start, Issue, Write}
+use Rattle.dr_model.specs.declared.step.Step.TheVariants.{Server, Volume, Link, Stop, StopAfter, Start, Issue, Write, MakeFlash, RemoveFlash, ResyncFlash, ReverseFlash}
 use Rattle.dr_model.specs.LineTable as table
 use Rattle.dr_model.specs.LineText as line
-use Rattle.dr_model.specs.LineText.{at_sign, said_fits, said_operands, settings_fit, operands_fit, remote_fits, IsWritten, name_fits, name_text, bytes_fit}
-use Rattle.dr_model.specs.LineSteps.{no_options, no_operands}
+use Rattle.dr_model.specs.LineText.{at_sign, for_item, said_fits, said_operands, settings_fit, operands_fit, remote_fits, IsWritten, name_fits, name_text, bytes_fit}
+use Rattle.dr_model.specs.LineSteps.{has, no_options, no_operands, no_name}
 use Rattle.dr_model.specs.declared.grammar.Saying.{Saying}
-use Rattle.dr_model.specs.declared.grammar.Command.TheVariants.{AtServer, AtVolume, AtLink, AtStop, AtStart, AtIssue, AtWrite}
+use Rattle.dr_model.specs.declared.grammar.Command.TheVariants.{AtServer, AtVolume, AtLink, AtStop, AtStart, AtIssue, AtWrite, Mkflash, Rmflash, Resyncflash, Reverseflash}
 use Rattle.dr_model.specs.LineWords.{is_name, is_name_byte, begins_with_letter}
-use Rattle.dr_top.specs.WellFormed.{FitsName, IsWellFormed}
+use Rattle.dr_top.specs.WellFormed.{FitsName, FitsOwner, IsWellFormed}
 
 some_letter : (word : List ℕ) → begins_with_letter word ≡ true → 1 ≤ length word
 some_letter [] h = cc
@@ -49,6 +50,18 @@ operands-fit said h =
     let b : Bool = operands_fit (said_operands said) said.operands said.item in
     (and_parts a b (and_parts (a && b) (remote_fits (table.settings said.command) said.options) h).0).1
 
+-- and so do its options
+settings-fit : (said : Saying) → said_fits said ≡ true → settings_fit (table.settings said.command) said.options said.item ≡ true
+settings-fit said h =
+    let a : Bool = settings_fit (table.settings said.command) said.options said.item in
+    let b : Bool = operands_fit (said_operands said) said.operands said.item in
+    (and_parts a b (and_parts (a && b) (remote_fits (table.settings said.command) said.options) h).0).0
+
+-- the server that is named has a name
+owner-fits : (dev : Option Name) (rest : Bool) → ((not (is_some dev) || name_fits (unwrap_or dev no_name)) && rest) ≡ true → FitsOwner dev
+owner-fits None rest h = tt
+owner-fits (Some name) rest h = fits-name name (and_parts (name_fits name) rest h).0
+
 one-name : (name : Name) (rest : Bool) → (name_fits name && rest) ≡ true → FitsName name
 one-name name rest h = fits-name name (and_parts (name_fits name) rest h).0
 
@@ -61,7 +74,7 @@ write-operands v t offset len bytes h =
     fits-write offset len bytes (and_parts a true (behind (nat_le offset 63) (a && true) (behind (nat_lt t (2 ^ 32)) (nat_le offset 63 && (a && true)) (behind (nat_lt v 65536) (nat_lt t (2 ^ 32) && (nat_le offset 63 && (a && true))) h)))).0
 
 pub written-fits : (step : Step) → IsWritten step → IsWellFormed step
-unfolding line.is_written line.at_saying line.operand_fits line.said_count table.operands table.may_end_with no_operands
+unfolding line.is_written line.at_saying line.pair_saying line.flash_saying line.operand_fits line.setting_fits line.said_count table.operands table.settings table.may_end_with has no_operands no_options
 written-fits (Server name) h = one-name name true (operands-fit (at_sign AtServer (record no_operands { server = name })) h)
 written-fits (Volume v name tracks) h =
     let said : Saying = record { command = AtVolume; options = no_options; operands = record no_operands { server = name; count = tracks }; item = record { first = v; second = v } } in
@@ -74,4 +87,11 @@ written-fits (StopAfter name writes torn) h = one-name name _ (operands-fit (at_
 written-fits (Start name) h = one-name name true (operands-fit (at_sign AtStart (record no_operands { server = name })) h)
 written-fits (Issue v t offset len bytes) h = write-operands v t offset len bytes (operands-fit (at_sign AtIssue (record no_operands { volume = v; track = t; offset = offset; len = len; bytes = bytes })) h)
 written-fits (Write v t offset len bytes) h = write-operands v t offset len bytes (operands-fit (at_sign AtWrite (record no_operands { volume = v; track = t; offset = offset; len = len; bytes = bytes })) h)
+written-fits (MakeFlash devs s t nocopy persistent recorded inhibited sequence) h =
+    owner-fits devs.dev _ (settings-fit (for_item Mkflash (record no_options { devs = devs; nocopy = nocopy; persistent = persistent; recorded = recorded; inhibited = inhibited; sequence = sequence }) s t) h)
+written-fits (RemoveFlash devs s t sequence) h = owner-fits devs.dev _ (settings-fit (for_item Rmflash (record no_options { devs = devs; sequence = sequence }) s t) h)
+written-fits (ResyncFlash devs s t nocopy persistent recorded inhibited sequence) h =
+    owner-fits devs.dev _ (settings-fit (for_item Resyncflash (record no_options { devs = devs; nocopy = nocopy; persistent = persistent; recorded = recorded; inhibited = inhibited; sequence = sequence }) s t) h)
+written-fits (ReverseFlash devs s t tgtpprc sequence) h =
+    owner-fits devs.dev _ (settings-fit (for_item Reverseflash (record no_options { devs = devs; sequence = sequence; fast = true; tgtpprc = tgtpprc }) s t) h)
 written-fits _ h = tt

@@ -4,7 +4,7 @@ use Rattle.dr_model.specs.Limits.{most_events}
 use Rattle.dr_model.specs.Lines.{task, tasks_read}
 use Rattle.dr_model.specs.Control.{World}
 use Rattle.dr_top.specs.Here.{here}
-use Rattle.dr_top.proofs.ReachLemmas.{reached-more, reached-sound, reached-issued, reached-room, steps-next, tasks-count, step-at, some-step, below-full, at-full}
+use Rattle.dr_top.proofs.ReachLemmas.{reached-more, reached-sound, reached-issued, reached-room, reached-few, steps-next, tasks-count, step-at, some-step, below-full, at-full}
 use Rattle.dr_top.proofs.TaskLemmas.{tasks-none}
 use Rattle.dr_top.proofs.carry.carry_steps.Goals as goal
 
@@ -28,6 +28,11 @@ carry_task-requires-clause-count g c =
     let few = reached-issued _ (reached-more _ _ (take c.loop-i.i (tasks_read c.args.number (Ok c.args.line.now))) c.requires.reached c.loop-i.invariant.leads) in
     let room = c.loop-i.invariant.room in
     omega (arith, few, room)
+
+pub carry_task-requires-clause-few : goal.carry_task-requires-clause-few
+carry_task-requires-clause-few g c =
+    reached-few (g.P.Plant.state c.loop-i.plant) c.loop-i.config c.loop-i.host c.loop-i.journal.events
+    (reached-more _ _ (take c.loop-i.i (tasks_read c.args.number (Ok c.args.line.now))) c.requires.reached c.loop-i.invariant.leads)
 
 pub carry_task-requires-clause-written : goal.carry_task-requires-clause-written
 carry_task-requires-clause-written g c =
