@@ -8,7 +8,7 @@ ghost use Rattle.dr_model.specs.Moves.{Release};
 ghost use Rattle.dr_model.specs.ReadStops.{Ends};
 ghost use Rattle.dr_model.specs.Refusals.{stopped};
 ghost use Rattle.dr_model.specs.Relations as relations;
-ghost use Rattle.dr_volume.specs.Update.{IsAsBefore, OthersStay};
+ghost use Rattle.dr_volume.specs.Update.{IsMoved, OthersStay};
 ghost use Rattle.dr_volume.specs.View.{Rest, volume_seen, track_seen, ids_of};
 ghost use Rattle.dr_flash.specs.Checks.{is_stop};
 ghost use Rattle.dr_flash.specs.Faults.{Counted};
@@ -46,6 +46,8 @@ pub fn resync<P: Plant>(
     ensures carried { (r : Rest) → Ends (armed_in (P.state p.old)) (seen (P.state p.new) c.now r j.new.events) (refusal_of result) (seen (P.state p.old) c.now r j.old.events) (resync_entries (seen (P.state p.old) c.now r j.old.events).control s.0 t.0 sequence) }
     ensures leads { OnOk result ((r : Rest) → Leads (seen (P.state p.old) c.now r j.old.events) (resync_entries (seen (P.state p.old) c.now r j.old.events).control s.0 t.0 sequence) (seen (P.state p.new) c.now r j.new.events)) }
     ensures fails { OnErr result ((r : Rest) → Fails (armed_in (P.state p.old)) (seen (P.state p.old) c.now r j.old.events) (resync_entries (seen (P.state p.old) c.now r j.old.events).control s.0 t.0 sequence) (seen (P.state p.new) c.now r j.new.events) (refusal_of result)) }
+    ensures unchanged { is_stop (refusal_of result) ≡ false → OnErr result ((P.state p.new ≡ P.state p.old) × (j.new ≡ j.old)) }
+    ensures moved { OnOk result (IsMoved (P.state p.old) (P.state p.new) c.now t.0 (relations.resynced sequence (volume_seen (P.state p.old) c.now t.0).fields) None) }
     ensures same { OnOk result (HoldsUnchanged (P.state p.old) c.now t.0 → (k : ℕ) → shown (P.state p.new) c.now t.0 k ≡ track_seen (P.state p.new) c.now s.0 k) }
     ensures refused { is_stop (refusal_of result) ≡ true → refusal_of result ≡ Some (stopped (volume_seen (P.state p.old) c.now s.0).server) }
     ensures rest { IsAtRest (P.state p.new) c.now }
