@@ -1,15 +1,12 @@
 //! A target is made a copy of its source anew.
 
-ghost use Rattle.std.specs.Prelude.{◌≡◌, ℕ, ◌<◌, ◌≤◌, ◌+◌, Bool, true, false, not, ◌&&◌, [], ◌∷◌, length, None, Some, IsSome, OnOk, OnErr, is_err, is_some};
+ghost use Rattle.std.specs.Prelude.{◌≡◌, ℕ, ◌<◌, ◌≤◌, ◌+◌, true, false, length, None, Some, IsSome, OnOk, OnErr};
 ghost use Rattle.dr_config.specs.Table.{place_of};
-ghost use Rattle.dr_model.specs.Carry.{now};
-ghost use Rattle.dr_model.specs.Entries.{copies_from, give_back, for_lowest};
-ghost use Rattle.dr_model.specs.Moves.{Release};
 ghost use Rattle.dr_model.specs.ReadStops.{Ends};
 ghost use Rattle.dr_model.specs.Refusals.{stopped};
 ghost use Rattle.dr_model.specs.Relations as relations;
 ghost use Rattle.dr_volume.specs.Update.{IsMoved, OthersStay};
-ghost use Rattle.dr_volume.specs.View.{Rest, volume_seen, track_seen, ids_of};
+ghost use Rattle.dr_volume.specs.View.{Rest, volume_seen, track_seen};
 ghost use Rattle.dr_flash.specs.Checks.{is_stop};
 ghost use Rattle.dr_flash.specs.Faults.{Counted};
 ghost use Rattle.dr_flash.specs.Fit.{RelationsFit};
