@@ -24,9 +24,9 @@ use dr_plant::Plant;
 
 /// Makes target t a copy of its source s anew: t shares the tracks that changed on either side with s again, and gets the
 /// sequence number where one is given; then each track of t reads as that of s, where what t held unchanged was the same.
-/// The caller knows both volumes. Refused where the server of s is off, and then where
-/// t is no target of s whose changes are recorded, or is revertible or restored. Fails too where the server stops in the
-/// move or goes off at a read. The journal needs room for two events.
+/// The caller knows both volumes. Refused where the server of s is off, and then where t is no target of s whose changes
+/// are recorded, or is revertible or restored. Fails too where the server stops in the move or goes off at a read. The
+/// journal needs room for two events.
 pub fn resync<P: Plant>(
     p: &mut P,
     c: &Config,
