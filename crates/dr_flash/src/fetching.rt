@@ -1,6 +1,6 @@
 //! The background copy, and what a target shows.
 
-ghost use Rattle.std.specs.Prelude.{◌≡◌, ℕ, ◌<◌, ◌≤◌, ◌+◌, Bool, true, false, None, Some, IsSome, IfSome, IfOk, OnOk, OnErr, is_ok, is_err, is_some, if◌then◌else◌, [], ◌∷◌};
+ghost use Rattle.std.specs.Prelude.{◌≡◌, ℕ, ◌<◌, ◌≤◌, ◌+◌, Bool, true, false, None, Some, IsSome, IfSome, IfOk, OnOk, OnErr, is_ok, is_err, is_some, if◌then◌else◌, [], ◌∷◌, length};
 ghost use Rattle.dr_plant.specs.State.{after_read, can_read};
 ghost use Rattle.dr_config.specs.Table.{StandsFor, place_of};
 ghost use Rattle.dr_model.specs.Carry.{now};
@@ -94,6 +94,7 @@ fn store_fetched<P: Plant>(
     ensures on { OnOk result ((P.state p.new).on ≡ (P.state p.old).on) }
     ensures room { j.old.spare ≤ j.new.spare + 2 }
     ensures room_left { OnOk result (j.old.spare ≤ j.new.spare + 1) }
+    ensures spare { length j.new.events + j.new.spare ≡ length j.old.events + j.old.spare }
 {
     let tracks = tracks_of(c, u);
     let track = *bytes;
@@ -133,6 +134,7 @@ fn fetch<P: Plant>(
     ensures on { OnOk result ((P.state p.new).on ≡ (P.state p.old).on) }
     ensures room { j.old.spare ≤ j.new.spare + 2 }
     ensures room_left { OnOk result (j.old.spare ≤ j.new.spare + 1) }
+    ensures spare { length j.new.events + j.new.spare ≡ length j.old.events + j.old.spare }
 {
     let mut bytes = [0; 64];
     read_told(p, c, j, f.source, t, &mut bytes)?;
@@ -179,6 +181,7 @@ pub fn copy_step<P: Plant>(
     ensures on { OnOk result ((P.state p.new).on ≡ (P.state p.old).on) }
     ensures room { j.old.spare ≤ j.new.spare + 2 }
     ensures room_left { OnOk result (j.old.spare ≤ j.new.spare + 1) }
+    ensures spare { length j.new.events + j.new.spare ≡ length j.old.events + j.old.spare }
 {
     let fields = peek_fields(p, c, v);
     let tracks = tracks_of(c, v);

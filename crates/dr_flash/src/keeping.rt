@@ -48,6 +48,7 @@ pub fn copy_first<P: Plant>(
     ensures on { OnOk result ((P.state p.new).on ≡ (P.state p.old).on) }
     ensures room { j.old.spare ≤ j.new.spare + (length c.now.volumes + 1) }
     ensures room_left { OnOk result (j.old.spare ≤ j.new.spare + length c.now.volumes) }
+    ensures spare { length j.new.events + j.new.spare ≡ length j.old.events + j.old.spare }
 {
     for place in 0..c.volumes() {
         let u = c.volume_at(place).unwrap();

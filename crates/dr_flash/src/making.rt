@@ -1,6 +1,6 @@
 //! Making a relationship.
 
-ghost use Rattle.std.specs.Prelude.{◌≡◌, ◌≢◌, ℕ, ◌<◌, ◌≤◌, ◌+◌, List, true, false, None, Some, IsSome, OnOk, OnErr, is_err, is_some};
+ghost use Rattle.std.specs.Prelude.{◌≡◌, ◌≢◌, ℕ, ◌<◌, ◌≤◌, ◌+◌, List, true, false, None, Some, IsSome, OnOk, OnErr, is_err, is_some, length};
 ghost use Rattle.dr_plant.specs.State.{PlantState};
 ghost use Rattle.dr_config.specs.Table.{StandsFor, place_of};
 ghost use Rattle.dr_model.specs.declared.event.Event.{Event};
@@ -111,6 +111,7 @@ fn relate<P: Plant>(
     ensures others { OthersStay (P.state p.old) (P.state p.new) c.now t.0 }
     ensures on { OnOk result ((P.state p.new).on ≡ (P.state p.old).on) }
     ensures room { j.old.spare ≤ j.new.spare + 2 }
+    ensures spare { length j.new.events + j.new.spare ≡ length j.old.events + j.old.spare }
 {
     let fields = peek_fields(p, c, t);
     let next = made(s, o, &fields);
@@ -147,6 +148,7 @@ pub fn establish<P: Plant>(
     ensures others { OthersStay (P.state p.old) (P.state p.new) c.now t.0 }
     ensures on { OnOk result ((P.state p.new).on ≡ (P.state p.old).on) }
     ensures room { j.old.spare ≤ j.new.spare + 2 }
+    ensures spare { length j.new.events + j.new.spare ≡ length j.old.events + j.old.spare }
 {
     let server = server_of(c, s);
     if !p.is_on(server.0) {

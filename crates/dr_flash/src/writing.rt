@@ -65,6 +65,7 @@ pub fn write_source<P: Plant>(
     ensures others { (q : ℕ) → q ≢ v.0 → copies_from v.0 (volume_seen (P.state p.old) c.now q).fields ≡ false → IsAsBefore (P.state p.old) (P.state p.new) c.now q }
     ensures on { OnOk result ((P.state p.new).on ≡ (P.state p.old).on) }
     ensures room { j.old.spare ≤ j.new.spare + (length c.now.volumes + 1) }
+    ensures spare { length j.new.events + j.new.spare ≡ length j.old.events + j.old.spare }
 {
     write_source_telling(p, c, j, v, t, bytes, next, &Telling::of(Told::Nothing))
 }
@@ -101,6 +102,7 @@ pub fn write_source_telling<P: Plant>(
     ensures others { (q : ℕ) → q ≢ v.0 → copies_from v.0 (volume_seen (P.state p.old) c.now q).fields ≡ false → IsAsBefore (P.state p.old) (P.state p.new) c.now q }
     ensures on { OnOk result ((P.state p.new).on ≡ (P.state p.old).on) }
     ensures room { j.old.spare ≤ j.new.spare + (length c.now.volumes + room_of told.now) }
+    ensures spare { length j.new.events + j.new.spare ≡ length j.old.events + j.old.spare }
 {
     copy_first(p, c, j, v, t)?;
     let track = *bytes;
@@ -135,6 +137,7 @@ fn overwrite<P: Plant>(
     ensures others { OthersStay (P.state p.old) (P.state p.new) c.now v.0 }
     ensures on { OnOk result ((P.state p.new).on ≡ (P.state p.old).on) }
     ensures room { j.old.spare ≤ j.new.spare + room_of told.now }
+    ensures spare { length j.new.events + j.new.spare ≡ length j.old.events + j.old.spare }
 {
     let tracks = tracks_of(c, v);
     let track = *bytes;
@@ -172,6 +175,7 @@ pub fn write_target<P: Plant>(
     ensures others { OthersStay (P.state p.old) (P.state p.new) c.now v.0 }
     ensures on { OnOk result ((P.state p.new).on ≡ (P.state p.old).on) }
     ensures room { j.old.spare ≤ j.new.spare + room_of told.now }
+    ensures spare { length j.new.events + j.new.spare ≡ length j.old.events + j.old.spare }
 {
     let fields = peek_fields(p, c, v);
     if fields.inhibited {

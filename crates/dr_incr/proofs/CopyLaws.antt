@@ -13,11 +13,15 @@ use Rattle.dr_model.specs.Control.{Volume, World}
 use Rattle.dr_model.specs.Carry.{Ended, Turn, update, ended, pass, counts_by, writes, spent, off}
 use Rattle.dr_model.specs.Moves.{Carried, moved, updated, tracks_after}
 use Rattle.dr_model.specs.Relations.{resynced}
-use Rattle.dr_model.specs.Views.{shows_source}
+use Rattle.dr_model.specs.Views.{shows_source, source_of}
 use Rattle.dr_model.specs.declared.event.Event.{Event}
 use Rattle.dr_model.proofs.Images.{at_same}
 use Rattle.dr_volume.specs.View.{Rest, volume_seen, track_seen}
-use Rattle.dr_volume.specs.Update.{IsMoved, OthersStay}
+use Rattle.dr_model.specs.Laws.{Structure, Recorded}
+use Rattle.dr_model.specs.Table.{table}
+use Rattle.dr_flash.proofs.CheckLemmas.{same-test}
+use Rattle.dr_incr.specs.Steps.{HasFitSets}
+use Rattle.dr_volume.specs.Update.{IsAsBefore, IsMoved, OthersStay}
 use Rattle.dr_flash.specs.Fit.{RelationsFit}
 use Rattle.dr_flash.specs.Here.{seen}
 use Rattle.dr_flash.specs.Turns.{made_by}
@@ -68,7 +72,8 @@ minus-both : (a b : Tracks) (q : ℕ) → contains (difference a b) q ≡ true �
 minus-both a b q h = let x = both (contains a q) (not (contains b q)) (sym (contains-minus_tracks a b q) ∙ h) in (x.0, not-so (contains b q) x.1)
 
 pub copy-shown : (s u : PlantState) (c : Table) (v t : ℕ) (sequence : Option ℕ) → RelationsFit s c → TargetOf s c v t → IsMoved s u c t (resynced sequence (volume_seen s c t).fields) None → OthersStay s u c t
-    → HoldsUnchanged s c t → (k : ℕ) → shown u c t k ≡ track_seen u c v k
+    → ((k : ℕ) → contains (volume_seen s c t).fields.own k ≡ true → contains (volume_seen s c t).fields.source_changes k ≡ false → contains (volume_seen s c t).fields.target_changes k ≡ false → track_seen s c t k ≡ track_seen s c (volume_seen s c t).fields.source k)
+    → (k : ℕ) → shown u c t k ≡ track_seen u c v k
 copy-shown s u c v t sequence fit to is others holds k =
     ap (λ (x : Volume). if shows_source x.fields k then track_seen u c x.fields.source k else track_seen u c t k) is.volume
     ∙ (elim (contains g.own k) as (λ b. contains g.own k ≡ b → (if f.related && not b then track_seen u c f.source k else track_seen u c t k) ≡ track_seen u c v k) [
@@ -91,3 +96,26 @@ copy-shown s u c v t sequence fit to is others holds k =
         ∙ holds k y.0 y.1 x.1
         ∙ ap (λ n. track_seen s c n k) to.source
         ∙ sym (ap (λ (z : ℕ → List ℕ). z k) (others v (λ same. to.apart (sym same))).tracks)
+
+related-source : (f : Fields) → f.related ≡ true → source_of f ≡ Some f.source
+related-source f related = ap (λ b. if b then Some f.source else None) related
+
+-- the machine's laws say so of each volume
+pub holds-by_laws : (s : PlantState) (c : Table) (r : Rest) (events : List Event) → Recorded (table (seen s c r events)) → (t : ℕ) → HoldsUnchanged s c t
+holds-by_laws s c r events law t related recorded forward k own noted rewritten =
+    law t (volume_seen s c t).fields.source (related-source (volume_seen s c t).fields related) recorded forward k own noted rewritten
+
+pub sets-by_laws : (s : PlantState) (c : Table) (r : Rest) (events : List Event) → Structure (table (seen s c r events)) → (t : ℕ) → HasFitSets (volume_seen s c t).fields
+sets-by_laws s c r events law t = law.sets t
+
+-- the track that a volume stored
+pub stored-track : (s u : PlantState) (c : Table) (v k : ℕ) (f : Fields) (bytes : List ℕ) → IsMoved s u c v f (Some (k, bytes)) → track_seen u c v k ≡ bytes
+stored-track s u c v k f bytes is =
+    ap (λ (z : ℕ → List ℕ). z k) is.tracks ∙ ap (λ b. if b then bytes else if contains f.blank k then zeros else track_seen s c v k) (same-test k k refl)
+
+-- a volume that stayed, and then moved
+pub moved-after : (s v u : PlantState) (c : Table) (t : ℕ) (f : Volume → Fields) (m : Carried) → IsAsBefore s v c t → IsMoved v u c t (f (volume_seen v c t)) m → IsMoved s u c t (f (volume_seen s c t)) m
+moved-after s v u c t f m same is = record {
+  volume = is.volume ∙ (λ i. moved (same.volume i) (f (same.volume i)) m);
+  tracks = is.tracks ∙ (λ i. tracks_after (f (same.volume i)) m (same.tracks i));
+}

@@ -6,10 +6,11 @@ use Rattle.dr_config.specs.Table.{Table}
 use Rattle.dr_model.specs.Views.{view}
 use Rattle.dr_volume.specs.View.{volume_seen, track_seen}
 
--- what target t holds, and what changed on neither side, equals its source's
+-- what target t holds, whose changes are recorded, and what changed on neither side, equals its source's
 abbrev pub HoldsUnchanged : PlantState → Table → ℕ → Type 0
 HoldsUnchanged s c t =
-    (k : ℕ) → contains (volume_seen s c t).fields.own k ≡ true → contains (volume_seen s c t).fields.source_changes k ≡ false → contains (volume_seen s c t).fields.target_changes k ≡ false
+    (volume_seen s c t).fields.related ≡ true → (volume_seen s c t).fields.recorded ≡ true → (volume_seen s c t).fields.reversing ≡ false
+    → (k : ℕ) → contains (volume_seen s c t).fields.own k ≡ true → contains (volume_seen s c t).fields.source_changes k ≡ false → contains (volume_seen s c t).fields.target_changes k ≡ false
     → track_seen s c t k ≡ track_seen s c (volume_seen s c t).fields.source k
 
 -- what track k of volume v reads as

@@ -39,6 +39,8 @@ pub(crate) fn resync_refusal<P: Plant>(
     ensures checked { (r : Rest) (events : List Event) → Checked (seen (P.state p.now) c.now r events) (resync_checks (seen (P.state p.now) c.now r events).control s.0 t.0) result }
     ensures running { OnNone result ((P.state p.now).on (volume_seen (P.state p.now) c.now s.0).server ≡ true) }
     ensures related { OnNone result (copies_from s.0 (volume_seen (P.state p.now) c.now t.0).fields ≡ true) }
+    ensures recorded { OnNone result ((volume_seen (P.state p.now) c.now t.0).fields.recorded ≡ true) }
+    ensures forward { OnNone result ((volume_seen (P.state p.now) c.now t.0).fields.reversing ≡ false) }
     ensures calm { is_stop result ≡ false }
 {
     let server = server_of(c, s);

@@ -11,11 +11,9 @@ ghost use Rattle.dr_model.specs.Relations as relations;
 ghost use Rattle.dr_volume.specs.Plain.{plain};
 ghost use Rattle.dr_volume.specs.Update.{IsMoved, OthersStay};
 ghost use Rattle.dr_volume.specs.View.{Rest, volume_seen, track_seen};
-ghost use Rattle.dr_volume.specs.Volume.{Shows};
 ghost use Rattle.dr_flash.specs.Faults.{Counted};
 ghost use Rattle.dr_flash.specs.Fit.{RelationsFit};
 ghost use Rattle.dr_flash.specs.Here.{seen, refusal_of, armed_in, IsAtRest};
-ghost use Rattle.dr_flash.specs.Told.{events_of};
 ghost use Rattle.dr_flash.specs.declared.told.Told.TheVariants.{Returned};
 ghost use Rattle.dr_flash.specs.Turns.{Advances, Halts};
 ghost use Rattle.dr_incr.specs.Steps.{HasFitSets, IsRestoredOnto};
@@ -101,6 +99,7 @@ pub(crate) fn turn_back<P: Plant>(
     ensures faults { Counted (is_err result) (P.state p.old).faults (P.state p.new).faults }
     ensures others { OthersStay (P.state p.old) (P.state p.new) c.now t.0 }
     ensures on { OnOk result ((P.state p.new).on ≡ (P.state p.old).on) }
+    ensures moved { OnOk result (IsMoved (P.state p.old) (P.state p.new) c.now t.0 (relations.restored (volume_seen (P.state p.old) c.now t.0).tracks (relations.turned (volume_seen (P.state p.old) c.now t.0).fields)) None) }
     ensures room { j.old.spare ≤ j.new.spare + ((volume_seen (P.state p.old) c.now t.0).tracks + 2) }
     ensures room_left { OnOk result (j.old.spare ≤ j.new.spare + ((volume_seen (P.state p.old) c.now t.0).tracks + 1)) }
     ensures spare { length j.new.events + j.new.spare ≡ length j.old.events + j.old.spare }
@@ -148,6 +147,7 @@ fn store_back<P: Plant>(
     ensures faults { Counted (is_err result) (P.state p.old).faults (P.state p.new).faults }
     ensures others { OthersStay (P.state p.old) (P.state p.new) c.now s.0 }
     ensures on { OnOk result ((P.state p.new).on ≡ (P.state p.old).on) }
+    ensures moved { OnOk result (IsMoved (P.state p.old) (P.state p.new) c.now s.0 (record (volume_seen (P.state p.old) c.now s.0).fields { blank = remove (volume_seen (P.state p.old) c.now s.0).fields.blank k }) (Some (k, bytes.now))) }
     ensures room { j.old.spare ≤ j.new.spare + 2 }
     ensures room_left { OnOk result (j.old.spare ≤ j.new.spare + 1) }
     ensures spare { length j.new.events + j.new.spare ≡ length j.old.events + j.old.spare }
@@ -190,6 +190,7 @@ pub(crate) fn take_back<P: Plant>(
     ensures faults { Counted (is_err result) (P.state p.old).faults (P.state p.new).faults }
     ensures others { OthersStay (P.state p.old) (P.state p.new) c.now s.0 }
     ensures on { OnOk result ((P.state p.new).on ≡ (P.state p.old).on) }
+    ensures moved { OnOk result (IsMoved (P.state p.old) (P.state p.new) c.now s.0 (record (volume_seen (P.state p.old) c.now s.0).fields { blank = remove (volume_seen (P.state p.old) c.now s.0).fields.blank k }) (Some (k, track_seen (P.state p.old) c.now t.0 k))) }
     ensures room { j.old.spare ≤ j.new.spare + 2 }
     ensures room_left { OnOk result (j.old.spare ≤ j.new.spare + 1) }
     ensures spare { length j.new.events + j.new.spare ≡ length j.old.events + j.old.spare }
@@ -223,6 +224,7 @@ pub(crate) fn give_up<P: Plant>(
     ensures others { OthersStay (P.state p.old) (P.state p.new) c.now t.0 }
     ensures on { OnOk result ((P.state p.new).on ≡ (P.state p.old).on) }
     ensures goes_on { OnOk result ((s : ℕ) → IsRestoredOnto s (volume_seen (P.state p.old) c.now t.0).fields → IsRestoredOnto s (volume_seen (P.state p.new) c.now t.0).fields) }
+    ensures moved { OnOk result (IsMoved (P.state p.old) (P.state p.new) c.now t.0 (relations.restored (volume_seen (P.state p.old) c.now t.0).tracks (relations.given_up (volume_seen (P.state p.old) c.now t.0).fields k)) None) }
     ensures room { j.old.spare ≤ j.new.spare + ((volume_seen (P.state p.old) c.now t.0).tracks + 2) }
     ensures room_left { OnOk result (j.old.spare ≤ j.new.spare + ((volume_seen (P.state p.old) c.now t.0).tracks + 1)) }
     ensures spare { length j.new.events + j.new.spare ≡ length j.old.events + j.old.spare }

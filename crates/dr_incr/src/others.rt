@@ -1,16 +1,11 @@
 //! What the other targets of a source keep before a target gives a track back.
 
-ghost use Rattle.std.specs.Prelude.{◌≡◌, ℕ, ◌<◌, ◌≤◌, ◌+◌, Bool, true, false, not, ◌&&◌, [], ◌∷◌, length, None, Some, IsSome, OnOk, OnErr, is_err, is_some};
-ghost use Rattle.dr_config.specs.Table.{place_of};
-ghost use Rattle.dr_model.specs.Carry.{now};
-ghost use Rattle.dr_model.specs.Entries.{copies_from, give_back, for_lowest};
-ghost use Rattle.dr_model.specs.Moves.{Release};
-ghost use Rattle.dr_model.specs.ReadStops.{Ends};
+ghost use Rattle.std.specs.Prelude.{◌≡◌, ℕ, ◌<◌, ◌≤◌, ◌+◌, true, false, length, None, Some, OnOk, OnErr, is_err};
+ghost use Rattle.dr_model.specs.Entries.{copies_from};
 ghost use Rattle.dr_model.specs.Refusals.{stopped};
 ghost use Rattle.dr_model.specs.Relations as relations;
-ghost use Rattle.dr_volume.specs.Update.{IsAsBefore, OthersStay};
-ghost use Rattle.dr_volume.specs.View.{Rest, volume_seen, track_seen, ids_of};
-ghost use Rattle.dr_flash.specs.Checks.{is_stop};
+ghost use Rattle.dr_volume.specs.Update.{IsAsBefore};
+ghost use Rattle.dr_volume.specs.View.{Rest, volume_seen, ids_of};
 ghost use Rattle.dr_flash.specs.Faults.{Counted};
 ghost use Rattle.dr_flash.specs.Fit.{RelationsFit};
 ghost use Rattle.dr_flash.specs.Here.{seen, refusal_of, armed_in, IsAtRest};

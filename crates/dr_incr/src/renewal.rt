@@ -1,15 +1,12 @@
 //! A target is made a copy of its source anew.
 
-ghost use Rattle.std.specs.Prelude.{◌≡◌, ℕ, ◌<◌, ◌≤◌, ◌+◌, Bool, true, false, not, ◌&&◌, [], ◌∷◌, length, None, Some, IsSome, OnOk, OnErr, is_err, is_some};
+ghost use Rattle.std.specs.Prelude.{◌≡◌, ℕ, ◌<◌, ◌≤◌, ◌+◌, true, false, length, None, Some, IsSome, OnOk, OnErr};
 ghost use Rattle.dr_config.specs.Table.{place_of};
-ghost use Rattle.dr_model.specs.Carry.{now};
-ghost use Rattle.dr_model.specs.Entries.{copies_from, give_back, for_lowest};
-ghost use Rattle.dr_model.specs.Moves.{Release};
 ghost use Rattle.dr_model.specs.ReadStops.{Ends};
 ghost use Rattle.dr_model.specs.Refusals.{stopped};
 ghost use Rattle.dr_model.specs.Relations as relations;
-ghost use Rattle.dr_volume.specs.Update.{IsAsBefore, OthersStay};
-ghost use Rattle.dr_volume.specs.View.{Rest, volume_seen, track_seen, ids_of};
+ghost use Rattle.dr_volume.specs.Update.{IsMoved, OthersStay};
+ghost use Rattle.dr_volume.specs.View.{Rest, volume_seen, track_seen};
 ghost use Rattle.dr_flash.specs.Checks.{is_stop};
 ghost use Rattle.dr_flash.specs.Faults.{Counted};
 ghost use Rattle.dr_flash.specs.Fit.{RelationsFit};
@@ -27,9 +24,9 @@ use dr_plant::Plant;
 
 /// Makes target t a copy of its source s anew: t shares the tracks that changed on either side with s again, and gets the
 /// sequence number where one is given; then each track of t reads as that of s, where what t held unchanged was the same.
-/// The caller knows both volumes. Refused where the server of s is off, and then where
-/// t is no target of s whose changes are recorded, or is revertible or restored. Fails too where the server stops in the
-/// move or goes off at a read. The journal needs room for two events.
+/// The caller knows both volumes. Refused where the server of s is off, and then where t is no target of s whose changes
+/// are recorded, or is revertible or restored. Fails too where the server stops in the move or goes off at a read. The
+/// journal needs room for two events.
 pub fn resync<P: Plant>(
     p: &mut P,
     c: &Config,
@@ -46,6 +43,8 @@ pub fn resync<P: Plant>(
     ensures carried { (r : Rest) → Ends (armed_in (P.state p.old)) (seen (P.state p.new) c.now r j.new.events) (refusal_of result) (seen (P.state p.old) c.now r j.old.events) (resync_entries (seen (P.state p.old) c.now r j.old.events).control s.0 t.0 sequence) }
     ensures leads { OnOk result ((r : Rest) → Leads (seen (P.state p.old) c.now r j.old.events) (resync_entries (seen (P.state p.old) c.now r j.old.events).control s.0 t.0 sequence) (seen (P.state p.new) c.now r j.new.events)) }
     ensures fails { OnErr result ((r : Rest) → Fails (armed_in (P.state p.old)) (seen (P.state p.old) c.now r j.old.events) (resync_entries (seen (P.state p.old) c.now r j.old.events).control s.0 t.0 sequence) (seen (P.state p.new) c.now r j.new.events) (refusal_of result)) }
+    ensures unchanged { is_stop (refusal_of result) ≡ false → OnErr result ((P.state p.new ≡ P.state p.old) × (j.new ≡ j.old)) }
+    ensures moved { OnOk result (IsMoved (P.state p.old) (P.state p.new) c.now t.0 (relations.resynced sequence (volume_seen (P.state p.old) c.now t.0).fields) None) }
     ensures same { OnOk result (HoldsUnchanged (P.state p.old) c.now t.0 → (k : ℕ) → shown (P.state p.new) c.now t.0 k ≡ track_seen (P.state p.new) c.now s.0 k) }
     ensures refused { is_stop (refusal_of result) ≡ true → refusal_of result ≡ Some (stopped (volume_seen (P.state p.old) c.now s.0).server) }
     ensures rest { IsAtRest (P.state p.new) c.now }

@@ -1,6 +1,6 @@
 //! A target is restored onto its source, track by track.
 
-ghost use Rattle.std.specs.Prelude.{◌≡◌, ℕ, ◌<◌, ◌≤◌, ◌+◌, Bool, true, false, not, ◌&&◌, ◌||◌, nat_eq, [], ◌∷◌, length, None, Some, IsSome, IfOk, OnOk, OnErr, is_err, is_some};
+ghost use Rattle.std.specs.Prelude.{◌≡◌, ℕ, ◌<◌, ◌≤◌, ◌+◌, true, false, ◌||◌, nat_eq, [], ◌∷◌, length, None, Some, IsSome, IfOk, OnOk, OnErr, is_err, is_some};
 ghost use Rattle.dr_config.specs.Table.{place_of};
 ghost use Rattle.dr_model.specs.Carry.{now};
 ghost use Rattle.dr_model.specs.Entries.{copies_from, give_back, for_lowest};
@@ -8,7 +8,7 @@ ghost use Rattle.dr_model.specs.Moves.{Release};
 ghost use Rattle.dr_model.specs.ReadStops.{Ends};
 ghost use Rattle.dr_model.specs.Refusals.{stopped};
 ghost use Rattle.dr_model.specs.Relations as relations;
-ghost use Rattle.dr_volume.specs.Update.{IsAsBefore, OthersStay};
+ghost use Rattle.dr_volume.specs.Update.{IsAsBefore, IsMoved, OthersStay};
 ghost use Rattle.dr_volume.specs.View.{Rest, volume_seen, track_seen, ids_of};
 ghost use Rattle.dr_flash.specs.Checks.{is_stop};
 ghost use Rattle.dr_flash.specs.Faults.{Counted};
@@ -48,6 +48,8 @@ pub fn reverse_start<P: Plant>(
     ensures carried { (r : Rest) → Ends (armed_in (P.state p.old)) (seen (P.state p.new) c.now r j.new.events) (refusal_of result) (seen (P.state p.old) c.now r j.old.events) (reverse_entries (seen (P.state p.old) c.now r j.old.events).control s.0 t.0) }
     ensures leads { OnOk result ((r : Rest) → Leads (seen (P.state p.old) c.now r j.old.events) (reverse_entries (seen (P.state p.old) c.now r j.old.events).control s.0 t.0) (seen (P.state p.new) c.now r j.new.events)) }
     ensures fails { OnErr result ((r : Rest) → Fails (armed_in (P.state p.old)) (seen (P.state p.old) c.now r j.old.events) (reverse_entries (seen (P.state p.old) c.now r j.old.events).control s.0 t.0) (seen (P.state p.new) c.now r j.new.events) (refusal_of result)) }
+    ensures unchanged { is_stop (refusal_of result) ≡ false → OnErr result ((P.state p.new ≡ P.state p.old) × (j.new ≡ j.old)) }
+    ensures moved { OnOk result (IsMoved (P.state p.old) (P.state p.new) c.now t.0 (relations.restored (volume_seen (P.state p.old) c.now t.0).tracks (relations.turned (volume_seen (P.state p.old) c.now t.0).fields)) None) }
     ensures refused { is_stop (refusal_of result) ≡ true → refusal_of result ≡ Some (stopped (volume_seen (P.state p.old) c.now s.0).server) }
     ensures rest { IsAtRest (P.state p.new) c.now }
     ensures fit { RelationsFit (P.state p.new) c.now }
@@ -87,6 +89,7 @@ pub fn reverse_finish<P: Plant>(
     ensures carried { (r : Rest) → Ends (armed_in (P.state p.old)) (seen (P.state p.new) c.now r j.new.events) (refusal_of result) (seen (P.state p.old) c.now r j.old.events) (for_lowest t.0 (λ k. now (Release t.0 k)) ∷ []) }
     ensures leads { OnOk result ((r : Rest) → Leads (seen (P.state p.old) c.now r j.old.events) (for_lowest t.0 (λ k. now (Release t.0 k)) ∷ []) (seen (P.state p.new) c.now r j.new.events)) }
     ensures fails { OnErr result ((r : Rest) → Fails (armed_in (P.state p.old)) (seen (P.state p.old) c.now r j.old.events) (for_lowest t.0 (λ k. now (Release t.0 k)) ∷ []) (seen (P.state p.new) c.now r j.new.events) (refusal_of result)) }
+    ensures moved { (k : ℕ) → relations.lowest (volume_seen (P.state p.old) c.now t.0).tracks (volume_seen (P.state p.old) c.now t.0).fields.own ≡ Some k → OnOk result (IsMoved (P.state p.old) (P.state p.new) c.now t.0 (relations.restored (volume_seen (P.state p.old) c.now t.0).tracks (relations.given_up (volume_seen (P.state p.old) c.now t.0).fields k)) None) }
     ensures refused { OnErr result (refusal_of result ≡ Some (stopped (volume_seen (P.state p.old) c.now t.0).server)) }
     ensures rest { IsAtRest (P.state p.new) c.now }
     ensures fit { RelationsFit (P.state p.new) c.now }
@@ -123,6 +126,8 @@ fn give_back<P: Plant>(
     requires room { length c.now.volumes + (volume_seen (P.state p.old) c.now t.0).tracks + 3 ≤ j.old.spare }
     ensures leads { OnOk result ((r : Rest) → Leads (seen (P.state p.old) c.now r j.old.events) (give_back (ids_of c.now.volumes) s.0 t.0) (seen (P.state p.new) c.now r j.new.events)) }
     ensures fails { OnErr result ((r : Rest) → Fails (armed_in (P.state p.old)) (seen (P.state p.old) c.now r j.old.events) (give_back (ids_of c.now.volumes) s.0 t.0) (seen (P.state p.new) c.now r j.new.events) (refusal_of result)) }
+    ensures moved { OnOk result (IsMoved (P.state p.old) (P.state p.new) c.now t.0 (relations.restored (volume_seen (P.state p.old) c.now t.0).tracks (relations.given_up (volume_seen (P.state p.old) c.now t.0).fields k)) None) }
+    ensures back { OnOk result (track_seen (P.state p.new) c.now s.0 k ≡ track_seen (P.state p.old) c.now t.0 k) }
     ensures refused { OnErr result (refusal_of result ≡ Some (stopped (volume_seen (P.state p.old) c.now t.0).server)) }
     ensures rest { IsAtRest (P.state p.new) c.now }
     ensures fit { RelationsFit (P.state p.new) c.now }
@@ -163,6 +168,8 @@ pub fn reverse_step<P: Plant>(
     ensures fails { OnErr result ((s : ℕ) → IsRestoredOnto s (volume_seen (P.state p.old) c.now t.0).fields → (r : Rest) → Fails (armed_in (P.state p.old)) (seen (P.state p.old) c.now r j.old.events) (give_back (ids_of c.now.volumes) s t.0) (seen (P.state p.new) c.now r j.new.events) (refusal_of result)) }
     ensures found { IfOk result (λ b. b ≡ is_some (relations.lowest (volume_seen (P.state p.old) c.now t.0).tracks (volume_seen (P.state p.old) c.now t.0).fields.own)) }
     ensures none { IfOk result (λ b. b ≡ false → (P.state p.new ≡ P.state p.old) × (j.new ≡ j.old)) }
+    ensures moved { (k : ℕ) → relations.lowest (volume_seen (P.state p.old) c.now t.0).tracks (volume_seen (P.state p.old) c.now t.0).fields.own ≡ Some k → OnOk result (IsMoved (P.state p.old) (P.state p.new) c.now t.0 (relations.restored (volume_seen (P.state p.old) c.now t.0).tracks (relations.given_up (volume_seen (P.state p.old) c.now t.0).fields k)) None) }
+    ensures back { (k : ℕ) → relations.lowest (volume_seen (P.state p.old) c.now t.0).tracks (volume_seen (P.state p.old) c.now t.0).fields.own ≡ Some k → OnOk result (track_seen (P.state p.new) c.now (volume_seen (P.state p.old) c.now t.0).fields.source k ≡ track_seen (P.state p.old) c.now t.0 k) }
     ensures refused { OnErr result (refusal_of result ≡ Some (stopped (volume_seen (P.state p.old) c.now t.0).server)) }
     ensures rest { IsAtRest (P.state p.new) c.now }
     ensures fit { RelationsFit (P.state p.new) c.now }

@@ -74,6 +74,7 @@ loop-place-preserved g c = record {
       (c.in_ok-keep_on.ensures.others q (ap (λ (x : Volume). copies_from c.args.v.0 x.fields) a.volume ∙ other));
   on = c.in_ok-keep_on.ensures.on ∙ c.loop-place.invariant.on;
   spare = let a = c.loop-place.invariant.spare in let b = c.in_ok-keep_on.ensures.room_left in omega (arith, a, b);
+  sum = c.in_ok-keep_on.ensures.spare ∙ c.loop-place.invariant.sum;
 }
 
 pub returns-clause-leads : goal.returns-clause-leads

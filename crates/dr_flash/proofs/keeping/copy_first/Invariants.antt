@@ -1,4 +1,4 @@
-use Rattle.std.proofs.Common.{ℕ, ◌≡◌, ◌≤◌, ◌+◌, ◌++◌, Bool, false, List, Option, None}
+use Rattle.std.proofs.Common.{ℕ, ◌≡◌, ◌≤◌, ◌+◌, ◌++◌, Bool, false, List, Option, None, length}
 use Rattle.dr_ids.specs.declared.refusal.Refusal.{Refusal}
 use Rattle.dr_model.specs.Control.{World}
 use Rattle.dr_model.specs.Carry.{Entry}
@@ -23,4 +23,5 @@ invariant-loop-place g l = record {
   others : (q : ℕ) → copies_from l.v.0 (volume_seen (g.P.Plant.state l.fn.p) l.c q).fields ≡ false → IsAsBefore (g.P.Plant.state l.fn.p) (g.P.Plant.state l.p) l.c q;
   on : (g.P.Plant.state l.p).on ≡ (g.P.Plant.state l.fn.p).on;
   spare : l.fn.j.spare ≤ l.j.spare + l.place;
+  sum : length l.j.events + l.j.spare ≡ length l.fn.j.events + l.fn.j.spare;
 }

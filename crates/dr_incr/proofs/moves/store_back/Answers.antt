@@ -10,6 +10,8 @@ use Rattle.dr_flash.proofs.ReadLemmas.{on-running}
 use Rattle.dr_flash.proofs.TurnLemmas.{Tells, advances, halts, ok-along, err-along}
 use Rattle.dr_flash.proofs.MoveLemmas.{MoveFits}
 use Rattle.dr_incr.proofs.RestoreLemmas.{restore-fits, tells-restore}
+use Rattle.dr_volume.specs.Update.{IsMoved}
+use Rattle.dr_incr.proofs.CopyLaws.{moved-by}
 use Rattle.dr_incr.proofs.moves.store_back.Goals as goal
 
 pub shift-requires-clause-lawful : goal.shift-requires-clause-lawful
@@ -49,3 +51,12 @@ returns-clause-halts g c =
     halts (seen s t r c.args.j.now.events) (Restore c.args.s.0 c.args.k c.args.t.0) c.of-told.result (plain c.filled-next.result) (Some (c.args.k, c.args.bytes.now)) (on-running s x.server c.requires.running)
     (subst (λ y. Tells (Restore c.args.s.0 c.args.k c.args.t.0) x y) (sym (c.of-told.ensures)) (tells-restore c.args.s.0 c.args.k c.args.t.0 x)) (sym (c.filled-next.ensures ∙ ap (λ (f : Fields). record f { blank = remove f.blank c.args.k }) c.peek_fields.ensures.fields)) (ap (λ (b : List ℕ). Some (c.args.k, b)) (sym c.requires.bytes))
     (armed_in s) (seen (g.P.Plant.state c.shift.new.p) t r c.shift.new.j.events) (refusal_of c.shift.result) refused (failed r))
+
+pub returns-clause-moved : goal.returns-clause-moved
+returns-clause-moved g c =
+    let s = g.P.Plant.state c.args.p.now in
+    let t = c.args.c.now in
+    let x = volume_seen s t c.args.s.0 in
+    ok-along c.shift.result c.shift.ensures.done (λ done.
+    subst (λ f. IsMoved s (g.P.Plant.state c.shift.new.p) t c.args.s.0 f (Some (c.args.k, c.args.bytes.now))) (c.filled-next.ensures ∙ ap (λ (f : Fields). record f { blank = remove f.blank c.args.k }) c.peek_fields.ensures.fields)
+    (moved-by s (g.P.Plant.state c.shift.new.p) t c.args.s.0 (plain c.filled-next.result) (Some (c.args.k, c.args.bytes.now)) x.server c.of-told.result c.args.j.now.events c.shift.new.j.events done))

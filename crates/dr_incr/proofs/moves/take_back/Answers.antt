@@ -11,6 +11,12 @@ use Rattle.dr_flash.specs.Here.{seen, armed_in, refusal_of}
 use Rattle.dr_flash.specs.Turns.{Advances, Halts}
 use Rattle.dr_flash.proofs.FitLemmas.{fit-same}
 use Rattle.dr_flash.proofs.TurnLemmas.{err-always, refused-by, halts-gone}
+use Rattle.std.proofs.Common.{ℕ, List, Some}
+use Rattle.std.specs.FinSet.{remove}
+use Rattle.dr_model.specs.Layout.{Fields}
+use Rattle.dr_volume.specs.Update.{IsMoved}
+use Rattle.dr_volume.specs.View.{volume_seen}
+use Rattle.dr_flash.proofs.TurnLemmas.{ok-along}
 use Rattle.dr_incr.proofs.moves.take_back.Goals as goal
 
 pub returns-in_err-read_told-clause-halts : goal.returns-in_err-read_told-clause-halts
@@ -46,3 +52,13 @@ returns-clause-unarmed g c q none = c.store_back.ensures.unarmed q (ap (λ (x : 
 
 pub returns-clause-others : goal.returns-clause-others
 returns-clause-others g c = subst (λ (x : PlantState). OthersStay x (g.P.Plant.state c.store_back.new.p) c.args.c.now c.args.s.0) c.in_ok-read_told.ensures.passed c.store_back.ensures.others
+
+pub returns-clause-moved : goal.returns-clause-moved
+returns-clause-moved g c =
+    let s1 = g.P.Plant.state c.read_told.new.p in
+    let u = g.P.Plant.state c.store_back.new.p in
+    let t = c.args.c.now in
+    let f : PlantState → Fields = (λ x. record (volume_seen x t c.args.s.0).fields { blank = remove (volume_seen x t c.args.s.0).fields.blank c.args.k }) in
+    ok-along c.store_back.result c.store_back.ensures.moved (λ moved.
+    subst (λ (b : List ℕ). IsMoved (g.P.Plant.state c.args.p.now) u t c.args.s.0 (f (g.P.Plant.state c.args.p.now)) (Some (c.args.k, b))) c.in_ok-read_told.ensures.bytes
+    (subst (λ (x : PlantState). IsMoved x u t c.args.s.0 (f x) (Some (c.args.k, c.read_told.new.into))) c.in_ok-read_told.ensures.passed moved))

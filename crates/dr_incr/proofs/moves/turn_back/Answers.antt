@@ -10,6 +10,8 @@ use Rattle.dr_flash.proofs.ReadLemmas.{on-running}
 use Rattle.dr_flash.proofs.TurnLemmas.{Tells, advances, halts, ok-along, err-along}
 use Rattle.dr_flash.proofs.MoveLemmas.{MoveFits}
 use Rattle.dr_incr.proofs.RestoreLemmas.{reverse-fits, tells-reverse, told-by, room-few, done-few}
+use Rattle.dr_volume.specs.Update.{IsMoved}
+use Rattle.dr_incr.proofs.CopyLaws.{moved-by}
 use Rattle.dr_incr.proofs.moves.turn_back.Goals as goal
 
 pub shift-requires-clause-lawful : goal.shift-requires-clause-lawful
@@ -66,3 +68,12 @@ returns-clause-halts g c =
     halts (seen s t r c.args.j.now.events) (Reverse c.args.t.0) c.told_of-told.result (plain c.restored-next.result) None (on-running s x.server c.requires.running)
     (subst (λ y. Tells (Reverse c.args.t.0) x y) (sym (told-by c.args.t.0 x.tracks _ _ _ _ c.told_of-told.result (c.told_of-told.ensures s) c.peek_fields-fields.ensures.fields (c.turned-reversed.ensures ∙ ap turned c.peek_fields-fields.ensures.fields))) (tells-reverse c.args.t.0 x)) (sym (c.restored-next.ensures ∙ ap (restored c.tracks_of.result) (c.turned-reversed.ensures ∙ ap turned c.peek_fields-fields.ensures.fields) ∙ (λ i. restored (sym (c.tracks_of.ensures.seen s) i) (turned (volume_seen s t c.args.t.0).fields)))) (refl)
     (armed_in s) (seen (g.P.Plant.state c.shift.new.p) t r c.shift.new.j.events) (refusal_of c.shift.result) refused (failed r))
+
+pub returns-clause-moved : goal.returns-clause-moved
+returns-clause-moved g c =
+    let s = g.P.Plant.state c.args.p.now in
+    let t = c.args.c.now in
+    let x = volume_seen s t c.args.t.0 in
+    ok-along c.shift.result c.shift.ensures.done (λ done.
+    subst (λ f. IsMoved s (g.P.Plant.state c.shift.new.p) t c.args.t.0 f None) (c.restored-next.ensures ∙ ap (restored c.tracks_of.result) (c.turned-reversed.ensures ∙ ap turned c.peek_fields-fields.ensures.fields) ∙ (λ i. restored (sym (c.tracks_of.ensures.seen s) i) (turned (volume_seen s t c.args.t.0).fields)))
+    (moved-by s (g.P.Plant.state c.shift.new.p) t c.args.t.0 (plain c.restored-next.result) None x.server c.told_of-told.result c.args.j.now.events c.shift.new.j.events done))

@@ -1,5 +1,5 @@
 use Rattle.dr_flash.specs.Here.{seen, armed_in, refusal_of}
-use Rattle.dr_flash.proofs.CheckLemmas.{counted-stop}
+use Rattle.dr_flash.proofs.CheckLemmas.{counted-stop, only-stops}
 use Rattle.dr_flash.proofs.TurnLemmas.{ok-along, err-along}
 use Rattle.dr_incr.specs.Steps.{resync_entries}
 use Rattle.dr_incr.proofs.StepLemmas.{ends-by, stop-refused}
@@ -36,9 +36,13 @@ returns-clause-refused g c =
 pub returns-clause-faults : goal.returns-clause-faults
 returns-clause-faults g c = counted-stop c.renew.result _ _ _ c.renew.ensures.faults c.renew.ensures.refused
 
+pub returns-clause-unchanged : goal.returns-clause-unchanged
+returns-clause-unchanged g c calm = only-stops _ c.renew.result _ c.renew.ensures.refused calm
+
 pub returns-clause-same : goal.returns-clause-same
 returns-clause-same g c =
     let s = g.P.Plant.state c.args.p.now in
     let t = c.args.c.now in
+    let to = target-of s t c.args.s.0 c.args.t.0 c.requires.fit c.in_default.ensures.related in
     ok-along c.renew.result c.renew.ensures.moved (λ is holds k.
-    copy-shown s (g.P.Plant.state c.renew.new.p) t c.args.s.0 c.args.t.0 c.args.sequence c.requires.fit (target-of s t c.args.s.0 c.args.t.0 c.requires.fit c.in_default.ensures.related) is c.renew.ensures.others holds k)
+    copy-shown s (g.P.Plant.state c.renew.new.p) t c.args.s.0 c.args.t.0 c.args.sequence c.requires.fit to is c.renew.ensures.others (holds to.related c.in_default.ensures.recorded c.in_default.ensures.forward) k)

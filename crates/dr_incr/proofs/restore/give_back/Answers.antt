@@ -1,4 +1,4 @@
-use Rattle.std.proofs.Common.{◌<◌, nat_eq, [], ◌∷◌, arith, ap, sym, subst, ◌∙◌, Some}
+use Rattle.std.proofs.Common.{ℕ, List, None, ◌≡◌, ◌<◌, nat_eq, [], ◌∷◌, arith, ap, sym, subst, ◌∙◌, Some}
 use Rattle.std.specs.Prelude.{is_some}
 use Rattle.dr_model.specs.Carry.{now}
 use Rattle.dr_model.specs.Control.{Volume}
@@ -15,6 +15,8 @@ use Rattle.dr_flash.proofs.TurnLemmas.{err-always, refused-by, ok-along, err-alo
 use Rattle.dr_incr.specs.Steps.{keeps_of, IsRestoredOnto}
 use Rattle.dr_incr.proofs.StepLemmas.{then-leads, then-fails, fails-first, lowest-entry}
 use Rattle.dr_incr.proofs.TargetLemmas.{target-of, lowest-below, neither, differs, other-target, same-lowest}
+use Rattle.dr_model.specs.Relations.{restored, given_up}
+use Rattle.dr_incr.proofs.CopyLaws.{moved-after, stored-track}
 use Rattle.dr_incr.proofs.restore.give_back.Goals as goal
 
 pub keep_others-requires-clause-within : goal.keep_others-requires-clause-within
@@ -127,6 +129,18 @@ returns-clause-room_left g c =
     let a = c.in_ok-keep_others.ensures.room_left in
     let b = c.in_ok-take_back.ensures.room_left in
     ok-along c.reverse_finish.result c.reverse_finish.ensures.room_left (λ left. omega (arith, e, a, b, left))
+
+pub returns-clause-moved : goal.returns-clause-moved
+returns-clause-moved g c =
+    ok-along c.reverse_finish.result (c.reverse_finish.ensures.moved c.args.k (same-lowest (g.P.Plant.state c.args.p.now) (g.P.Plant.state c.take_back.new.p) c.args.c.now c.args.t.0 c.args.k (before-then (g.P.Plant.state c.args.p.now) (g.P.Plant.state c.keep_others.new.p) (g.P.Plant.state c.take_back.new.p) c.args.c.now c.args.t.0 c.in_ok-keep_others.ensures.aside (c.in_ok-take_back.ensures.others c.args.t.0 (target-of (g.P.Plant.state c.args.p.now) c.args.c.now c.args.s.0 c.args.t.0 c.requires.fit c.requires.copies).apart)) c.requires.held)) (λ is.
+    moved-after (g.P.Plant.state c.args.p.now) (g.P.Plant.state c.take_back.new.p) (g.P.Plant.state c.reverse_finish.new.p) c.args.c.now c.args.t.0 (λ (x : Volume). restored x.tracks (given_up x.fields c.args.k)) None (before-then (g.P.Plant.state c.args.p.now) (g.P.Plant.state c.keep_others.new.p) (g.P.Plant.state c.take_back.new.p) c.args.c.now c.args.t.0 c.in_ok-keep_others.ensures.aside (c.in_ok-take_back.ensures.others c.args.t.0 (target-of (g.P.Plant.state c.args.p.now) c.args.c.now c.args.s.0 c.args.t.0 c.requires.fit c.requires.copies).apart)) is)
+
+pub returns-clause-back : goal.returns-clause-back
+returns-clause-back g c =
+    ok-along c.reverse_finish.result (c.reverse_finish.ensures.moved c.args.k (same-lowest (g.P.Plant.state c.args.p.now) (g.P.Plant.state c.take_back.new.p) c.args.c.now c.args.t.0 c.args.k (before-then (g.P.Plant.state c.args.p.now) (g.P.Plant.state c.keep_others.new.p) (g.P.Plant.state c.take_back.new.p) c.args.c.now c.args.t.0 c.in_ok-keep_others.ensures.aside (c.in_ok-take_back.ensures.others c.args.t.0 (target-of (g.P.Plant.state c.args.p.now) c.args.c.now c.args.s.0 c.args.t.0 c.requires.fit c.requires.copies).apart)) c.requires.held)) (λ is.
+    ap (λ (f : ℕ → List ℕ). f c.args.k) (c.reverse_finish.ensures.others c.args.s.0 (λ same. (target-of (g.P.Plant.state c.args.p.now) c.args.c.now c.args.s.0 c.args.t.0 c.requires.fit c.requires.copies).apart (sym same))).tracks
+    ∙ stored-track (g.P.Plant.state c.keep_others.new.p) (g.P.Plant.state c.take_back.new.p) c.args.c.now c.args.s.0 c.args.k _ _ c.in_ok-take_back.ensures.moved
+    ∙ ap (λ (f : ℕ → List ℕ). f c.args.k) c.in_ok-keep_others.ensures.aside.tracks)
 
 pub returns-clause-goes_on : goal.returns-clause-goes_on
 returns-clause-goes_on g c =

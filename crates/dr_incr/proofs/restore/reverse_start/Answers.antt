@@ -1,6 +1,6 @@
 use Rattle.std.proofs.Common.{Some}
 use Rattle.dr_flash.specs.Here.{seen, armed_in, refusal_of}
-use Rattle.dr_flash.proofs.CheckLemmas.{counted-stop}
+use Rattle.dr_flash.proofs.CheckLemmas.{counted-stop, only-stops}
 use Rattle.dr_flash.proofs.TurnLemmas.{ok-along, err-along}
 use Rattle.dr_incr.specs.Steps.{reverse_entries}
 use Rattle.dr_incr.proofs.StepLemmas.{ends-by, stop-refused}
@@ -47,3 +47,6 @@ returns-clause-refused g c =
 
 pub returns-clause-faults : goal.returns-clause-faults
 returns-clause-faults g c = counted-stop c.turn_back.result _ _ _ c.turn_back.ensures.faults c.turn_back.ensures.refused
+
+pub returns-clause-unchanged : goal.returns-clause-unchanged
+returns-clause-unchanged g c calm = only-stops _ c.turn_back.result _ c.turn_back.ensures.refused calm

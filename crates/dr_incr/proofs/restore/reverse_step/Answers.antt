@@ -1,4 +1,4 @@
-use Rattle.std.proofs.Common.{sym, subst, ap, ◌∙◌, ◌≡◌, Some}
+use Rattle.std.proofs.Common.{ℕ, Option, None, ◌≡◌, sym, subst, ap, ◌∙◌, Some}
 use Rattle.dr_model.specs.Layout.{Fields}
 use Rattle.dr_model.specs.Lawful.{IsLawful}
 use Rattle.dr_model.specs.Relations.{lowest}
@@ -10,6 +10,9 @@ use Rattle.dr_flash.proofs.CopyLemmas.{led, failed}
 use Rattle.dr_flash.proofs.TurnLemmas.{err-always, refused-by}
 use Rattle.dr_incr.proofs.StepLemmas.{none-back}
 use Rattle.dr_incr.proofs.TargetLemmas.{holder-related, copies-source}
+use Rattle.dr_model.specs.Relations.{restored, given_up}
+use Rattle.dr_volume.specs.View.{track_seen}
+use Rattle.dr_volume.specs.Update.{IsMoved}
 use Rattle.dr_incr.proofs.restore.reverse_step.Goals as goal
 
 pub returns-in_default-clause-leads : goal.returns-in_default-clause-leads
@@ -58,3 +61,15 @@ pub returns-clause-carried : goal.returns-clause-carried
 returns-clause-carried g c s is r =
     let x = g.P.Plant.state c.args.p.now in let y = g.P.Plant.state c.give_back.new.p in let t = c.args.c.now in
     led (armed_in x) (seen x t r c.args.j.now.events) (seen y t r c.give_back.new.j.events) (give_back (ids_of t.volumes) s c.args.t.0) (returns-clause-leads g c s is r)
+
+one-of : (k n : ℕ) {o : Option ℕ} → o ≡ Some k → o ≡ Some n → k ≡ n
+one-of k n a b = let e = sym a ∙ b in cc
+
+pub returns-clause-moved : goal.returns-clause-moved
+returns-clause-moved g c k held =
+    subst (λ n. IsMoved (g.P.Plant.state c.args.p.now) (g.P.Plant.state c.give_back.new.p) c.args.c.now c.args.t.0 (restored (volume_seen (g.P.Plant.state c.args.p.now) c.args.c.now c.args.t.0).tracks (given_up (volume_seen (g.P.Plant.state c.args.p.now) c.args.c.now c.args.t.0).fields n)) None) (one-of c.in-Some.k k ((λ i. lowest (c.tracks_of.ensures.seen (g.P.Plant.state c.args.p.now) i) (sym c.peek_fields-fields.ensures.fields i).own) ∙ sym c.lowest.ensures.lowest ∙ c.in-Some.is) held) c.in_ok-give_back.ensures.moved
+
+pub returns-clause-back : goal.returns-clause-back
+returns-clause-back g c k held =
+    subst (λ n. track_seen (g.P.Plant.state c.give_back.new.p) c.args.c.now (volume_seen (g.P.Plant.state c.args.p.now) c.args.c.now c.args.t.0).fields.source n ≡ track_seen (g.P.Plant.state c.args.p.now) c.args.c.now c.args.t.0 n) (one-of c.in-Some.k k ((λ i. lowest (c.tracks_of.ensures.seen (g.P.Plant.state c.args.p.now) i) (sym c.peek_fields-fields.ensures.fields i).own) ∙ sym c.lowest.ensures.lowest ∙ c.in-Some.is) held)
+    (subst (λ n. track_seen (g.P.Plant.state c.give_back.new.p) c.args.c.now n c.in-Some.k ≡ track_seen (g.P.Plant.state c.args.p.now) c.args.c.now c.args.t.0 c.in-Some.k) (ap (λ (f : Fields). f.source) c.peek_fields-fields.ensures.fields) c.in_ok-give_back.ensures.back)
