@@ -18,9 +18,9 @@ ghost use Rattle.dr_top.specs.WellFormed.{FitsOwner};
 use crate::define::{bytes_of, unknown_server};
 use dr_config::Config;
 use dr_flash::{Options, establish, withdraw};
-use dr_incr::{resync, reverse_start};
 use dr_host::Host;
 use dr_ids::{Kind, Refusal, ServerId, VolumeId};
+use dr_incr::{resync, reverse_start};
 use dr_model::{Addition, Journal, Name};
 use dr_plant::Plant;
 
@@ -39,12 +39,7 @@ fn is_owner(config: &Config, dev: &Option<Name>, server: ServerId) -> bool
 }
 
 /// Why a line on a relationship doesn't find its volumes: one isn't defined, or the first isn't on the server that is named.
-fn found_refusal(
-    config: &Config,
-    dev: &Option<Name>,
-    s: VolumeId,
-    t: VolumeId,
-) -> Option<Refusal>
+fn found_refusal(config: &Config, dev: &Option<Name>, s: VolumeId, t: VolumeId) -> Option<Refusal>
     requires { FitsOwner dev.now }
     ensures checked { (x : PlantState) (h : Writes) (events : List Event) → Checked (here x config.now h events) (plans.found_pair dev.now s.0 t.0) result }
     ensures calm { is_stop result ≡ false }

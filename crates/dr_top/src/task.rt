@@ -141,7 +141,15 @@ fn carry_relation<P: Plant>(
             )
         }
         Step::RemoveFlash { devs, s, t, .. } => {
-            remove_flash(plant, config, host, journal, &devs.dev, VolumeId(s), VolumeId(t))
+            remove_flash(
+                plant,
+                config,
+                host,
+                journal,
+                &devs.dev,
+                VolumeId(s),
+                VolumeId(t),
+            )
         }
         Step::ResyncFlash {
             devs,
@@ -150,10 +158,27 @@ fn carry_relation<P: Plant>(
             sequence,
             ..
         } => {
-            resync_flash(plant, config, host, journal, &devs.dev, VolumeId(s), VolumeId(t), sequence)
+            resync_flash(
+                plant,
+                config,
+                host,
+                journal,
+                &devs.dev,
+                VolumeId(s),
+                VolumeId(t),
+                sequence,
+            )
         }
         Step::ReverseFlash { devs, s, t, .. } => {
-            reverse_flash(plant, config, host, journal, &devs.dev, VolumeId(s), VolumeId(t))
+            reverse_flash(
+                plant,
+                config,
+                host,
+                journal,
+                &devs.dev,
+                VolumeId(s),
+                VolumeId(t),
+            )
         }
         Step::Copy { volume, most } => {
             copy(plant, config, host, journal, VolumeId(volume), most)

@@ -84,7 +84,7 @@ returns-clause-ready g c =
 pub reverse_step-requires-clause-room : goal.reverse_step-requires-clause-room
 reverse_step-requires-clause-room g c =
     let tell = rounds-tell (g.P.Plant.state c.args.plant.now) c.args.config.now c.args.host.now c.args.journal.now.events c.args.t.0 c.loop.counter (here (g.P.Plant.state c.loop.plant) c.args.config.now c.args.host.now c.loop.journal.events)
-        c.requires.sound c.requires.ready.rest c.requires.reversing c.loop.invariant.so_far in
+    c.requires.sound c.requires.ready.rest c.requires.reversing c.loop.invariant.so_far in
     let size = c.loop.invariant.rest.sizes c.args.t.0 in
     let lt = c.loop-test.true in let most = c.requires.count in let few = c.requires.few in let room = c.requires.room in let spare = c.loop.invariant.spare in
     omega (arith, tell, size, lt, most, few, room, spare)
@@ -92,7 +92,7 @@ reverse_step-requires-clause-room g c =
 pub returns-in_err-reverse_step-clause-room : goal.returns-in_err-reverse_step-clause-room
 returns-in_err-reverse_step-clause-room g c =
     let tell = rounds-tell (g.P.Plant.state c.args.plant.now) c.args.config.now c.args.host.now c.args.journal.now.events c.args.t.0 c.loop.counter (here (g.P.Plant.state c.loop.plant) c.args.config.now c.args.host.now c.loop.journal.events)
-        c.requires.sound c.requires.ready.rest c.requires.reversing c.loop.invariant.so_far in
+    c.requires.sound c.requires.ready.rest c.requires.reversing c.loop.invariant.so_far in
     let size = c.loop.invariant.rest.sizes c.args.t.0 in
     let lt = c.loop-test.true in let most = c.requires.count in let few = c.requires.few in let room = c.requires.room in let spare = c.loop.invariant.spare in
     let left = c.in_err-reverse_step.ensures.room in
@@ -101,6 +101,6 @@ returns-in_err-reverse_step-clause-room g c =
 pub returns-clause-room : goal.returns-clause-room
 returns-clause-room g c =
     let tell = rounds-tell (g.P.Plant.state c.args.plant.now) c.args.config.now c.args.host.now c.args.journal.now.events c.args.t.0 c.loop.counter (here (g.P.Plant.state c.loop.plant) c.args.config.now c.args.host.now c.loop.journal.events)
-        c.requires.sound c.requires.ready.rest c.requires.reversing c.loop.invariant.so_far in
+    c.requires.sound c.requires.ready.rest c.requires.reversing c.loop.invariant.so_far in
     let end = c.loop.auto.counter-end in let most = c.requires.count in let room = c.requires.room in let spare = c.loop.invariant.spare in
     omega (arith, tell, end, most, room, spare)
