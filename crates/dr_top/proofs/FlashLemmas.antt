@@ -1,5 +1,5 @@
 -- What a step of entries comes to, once its volumes are found.
-use Rattle.std.proofs.Common.{ℕ, ◌≡◌, List, [], ◌++◌, refl, sym, ◌∙◌, ap, subst, Bool, true, false, Option, Some, None, Result, Ok, Err}
+use Rattle.std.proofs.Common.{ℕ, ◌≡◌, List, ◌++◌, refl, sym, ◌∙◌, ap, subst, true, false, Option, Some, None, Result, Ok, Err}
 use Rattle.std.specs.Prelude.{is_some}
 use Rattle.std.proofs.lemmas.List.{append-nil}
 use Rattle.dr_ids.specs.declared.refusal.Refusal.{Refusal}
@@ -9,7 +9,7 @@ use Rattle.dr_config.specs.declared.entries.VolumeEntry.{VolumeEntry}
 use Rattle.dr_host.specs.Writes.{Writes}
 use Rattle.dr_model.specs.declared.event.Event.{Event}
 use Rattle.dr_model.specs.declared.said.Said.{Said}
-use Rattle.dr_model.specs.declared.said.Said.TheVariants.{Done, Refused}
+use Rattle.dr_model.specs.declared.said.Said.TheVariants.{Refused}
 use Rattle.dr_model.specs.declared.said.Addition.{Addition}
 use Rattle.dr_model.specs.Control.{World}
 use Rattle.dr_model.specs.Carry.{Entry, carry}
@@ -21,15 +21,15 @@ use Rattle.dr_model.specs.declared.step.Name.{Name}
 use Rattle.dr_model.specs.Runs.{after_plan, said}
 use Rattle.dr_model.specs.ReadStops.{Ends}
 use Rattle.dr_model.proofs.CarryLemmas.{plan-ends, plan-fails}
-use Rattle.dr_volume.specs.View.{ReadsPass, volume_seen}
+use Rattle.dr_volume.specs.View.{ReadsPass}
 use Rattle.dr_flash.proofs.CheckLemmas.{refuses}
 use Rattle.dr_flash.proofs.EndsLemmas.{ends-passed}
-use Rattle.dr_flash.specs.Here.{armed_in, refusal_of, IsAtRest}
+use Rattle.dr_flash.specs.Here.{armed_in, IsAtRest}
 use Rattle.dr_flash.specs.Checks.{Checked, is_stop}
 use Rattle.dr_top.specs.Faults.{Counted, Counts}
-use Rattle.dr_top.specs.Here.{here, said_of, IsReady, IsTold}
+use Rattle.dr_top.specs.Here.{here, IsReady, IsTold}
 use Rattle.dr_top.proofs.LandLemmas.{exact, told-through, ready-after}
-use Rattle.dr_top.proofs.LocatedLemmas.{is_volume-here, mapped_none, mapped_some}
+use Rattle.dr_top.proofs.LocatedLemmas.{is_volume-here}
 use Rattle.dr_top.proofs.StepLemmas.{is_stopped-alike}
 
 -- a plan of entries, by what they come to

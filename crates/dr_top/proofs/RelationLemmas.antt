@@ -1,5 +1,5 @@
 -- In a sound world the relationships of the plant fit.
-use Rattle.std.proofs.Common.{ℕ, ◌≡◌, Bool, true, false, cond, List, refl, sym, ◌∙◌, ap, Option, Some, None}
+use Rattle.std.proofs.Common.{ℕ, ◌≡◌, Bool, true, false, List, refl, sym, ◌∙◌, ap, Some, None}
 use Rattle.std.specs.Prelude.{is_some, if◌then◌else◌}
 use Rattle.dr_plant.specs.State.{PlantState}
 use Rattle.dr_config.specs.Table.{Table, place_of}

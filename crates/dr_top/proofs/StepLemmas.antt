@@ -37,7 +37,7 @@ use Rattle.dr_ids.specs.declared.refusal.Refusal.TheVariants.{Inhibited, Stopped
 use Rattle.dr_model.specs.Plans.{Plan, unless, same, track_refusal, issue_refusal, show_done, show_plan, with_pending, issue_then, write_done, apply_done, apply_on, apply_plan}
 use Rattle.dr_model.specs.Moves as moves
 use Rattle.dr_model.specs.Control.{Control}
-use Rattle.dr_model.specs.Carry.{Act, Drop, Do, Pass, End, Entry, act, dropped, carry, check}
+use Rattle.dr_model.specs.Carry.{Drop, Do, Pass, Entry, act, dropped, carry, check}
 use Rattle.dr_model.specs.Histories.{Histories, Write, histories}
 use Rattle.dr_model.specs.Runs.{after_plan, begun, said}
 use Rattle.dr_model.specs.Tables.{at}

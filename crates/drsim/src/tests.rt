@@ -71,6 +71,24 @@ fn expect(
     Ok(())
 }
 
+/// Runs this script, and asserts what it prints and its status.
+fn prints(
+    rt: &impl Abort,
+    alloc: Global,
+    script: &str,
+    printed: &str,
+    status: u8,
+) -> Result<(), AllocError> {
+    let bytes = Vec::from_slice(alloc, script.as_bytes())?;
+    let left = run(alloc, "run", bytes)?;
+    assert!(rt;
+        left.sink.bytes() == printed.as_bytes(),
+        "printed by {script}"
+    );
+    assert_eq!(rt; left.status, status, "status of {script}");
+    Ok(())
+}
+
 const FIRST: &str = "@server A\n@volume 1000 A 2\n@write 1000 0 0 41\n@show 1000 0\n";
 
 /// Runs this script, and asserts what it leaves.
@@ -612,4 +630,100 @@ fn journals(rt: HostRuntime) -> Result<(), AllocError> {
     assert!(rt; matches!(journal.event(0), Some(Event::Ack { w: 7 })));
     assert!(rt; journal.event(1).is_none());
     Ok(())
+}
+
+/// A write on a source with three targets stops after so many device writes. Asserts what the start answers, what the
+/// source then shows, and that the write still lands where it hadn't; each target shows the old track all the while.
+fn write_of_three(
+    rt: &impl Abort,
+    alloc: Global,
+    writes: u32,
+    acked: &str,
+    shown: &str,
+    applied: &str,
+) -> Result<(), AllocError> {
+    let script = format!(in alloc;
+        "@server A\n@volume 1000-1003 A 2\n@write 1000 0 0 41\nmkflash -nocp 1000:1001 1000:1002 1000:1003\n@stop A after {writes} torn none\n@write 1000 0 0 42\n@start A\n@show 1000 0\n@show 1001 0\n@show 1002 0\n@show 1003 0\n@apply 2\n@show 1000 0\n@show 1001 0\n@show 1002 0\n@show 1003 0\n"
+    )?;
+    let printed = format!(in alloc;
+        "1 ok\n2 ok\n2 ok\n2 ok\n2 ok\n3 ok w1\n4 ok\n4 ok\n4 ok\n5 ok\n6 E21 stopped A\n7 ok{acked}\n8 ok {shown}\n9 ok 41\n10 ok 41\n11 ok 41\n12 {applied}\n13 ok 42\n14 ok 41\n15 ok 41\n16 ok 41\n"
+    )?;
+    prints(rt, alloc, &script, &printed, 1)
+}
+
+#[test]
+fn stops_in_a_write_on_a_source(rt: HostRuntime) -> Result<(), AllocError> {
+    let alloc = rt.alloc();
+    for writes in 0..31 {
+        write_of_three(&rt, alloc, writes, "", "41", "ok w2")?;
+    }
+    write_of_three(&rt, alloc, 31, " acked w2", "42", "E02 unknown write")
+}
+
+/// A restore of two tracks stops after so many device writes. Asserts what the source shows after the start, and how many
+/// tracks come back when the restore goes on; another target shows the tracks of before the restore all the while.
+fn restore_of_two(
+    rt: &impl Abort,
+    alloc: Global,
+    writes: u32,
+    first: &str,
+    second: &str,
+    left: u32,
+) -> Result<(), AllocError> {
+    let script = format!(in alloc;
+        "@server A\n@volume 1000-1002 A 2\n@write 1000 0 0 41\n@write 1000 1 0 42\nmkflash -record -nocp 1000:1001\n@write 1000 0 0 43\n@write 1000 1 0 44\nmkflash -nocp 1000:1002\nreverseflash -fast 1000:1001\n@stop A after {writes} torn none\n@copy 1001 all\n@start A\n@show 1000 0\n@show 1000 1\n@show 1002 0\n@show 1002 1\n@copy 1001 all\n@show 1000 0\n@show 1000 1\n@show 1001 0\n@show 1002 0\n@show 1002 1\n"
+    )?;
+    let printed = format!(in alloc;
+        "1 ok\n2 ok\n2 ok\n2 ok\n3 ok w1\n4 ok w2\n5 ok\n6 ok w3\n7 ok w4\n8 ok\n9 ok\n10 ok\n11 E21 stopped A\n12 ok\n13 ok {first}\n14 ok {second}\n15 ok 43\n16 ok 44\n17 ok {left}\n18 ok 41\n19 ok 42\n20 ok -\n21 ok 43\n22 ok 44\n"
+    )?;
+    prints(rt, alloc, &script, &printed, 1)
+}
+
+/// Of each track the other target keeps it first, in 8 device writes; then the source stores it in 8, and the target gives
+/// it up in 7.
+#[test]
+fn stops_in_a_restore(rt: HostRuntime) -> Result<(), AllocError> {
+    let alloc = rt.alloc();
+    for writes in 0..15 {
+        restore_of_two(&rt, alloc, writes, "43", "44", 2)?;
+    }
+    for writes in 15..23 {
+        restore_of_two(&rt, alloc, writes, "41", "44", 2)?;
+    }
+    for writes in 23..38 {
+        restore_of_two(&rt, alloc, writes, "41", "44", 1)?;
+    }
+    for writes in 38..46 {
+        restore_of_two(&rt, alloc, writes, "41", "42", 1)?;
+    }
+    Ok(())
+}
+
+#[test]
+fn relationships(rt: HostRuntime) -> Result<(), AllocError> {
+    let alloc = rt.alloc();
+    // A target keeps the bytes around those of a write, and notes it as a change; a resynchronization takes it back.
+    prints(
+        &rt,
+        alloc,
+        "@server A\n@volume 1000-1001 A 2\n@write 1000 0 0 414243\nmkflash -record 1000:1001\n@write 1001 0 1 58\n@show 1001 0\n@show 1000 0\nresyncflash 1000:1001\n@show 1001 0\n@copy 1001 1\n@copy 1001 all\n@copy 1001 all\n",
+        "1 ok\n2 ok\n2 ok\n3 ok w1\n4 ok\n5 ok w2\n6 ok 415843\n7 ok 414243\n8 ok\n9 ok 414243\n10 ok 1\n11 ok 1\n12 ok 0\n",
+        0,
+    )?;
+    // A target that isn't persistent ends with its last track; one that is withdrawn keeps what it holds, and else zeros.
+    prints(
+        &rt,
+        alloc,
+        "@server A\n@volume 1000-1002 A 2\n@write 1000 0 0 41\n@write 1000 1 0 42\nmkflash 1000:1001 1000:1002\n@copy 1001 all\n@copy 1001 all\n@copy 1002 1\nrmflash 1000:1002\n@show 1001 1\n@show 1002 0\n@show 1002 1\n",
+        "1 ok\n2 ok\n2 ok\n2 ok\n3 ok w1\n4 ok w2\n5 ok\n5 ok\n6 ok 2\n7 E11 relation state 1001 none\n8 ok 1\n9 ok\n10 ok 42\n11 ok 41\n12 ok -\n",
+        1,
+    )?;
+    // Each refusal in its order.
+    prints(
+        &rt,
+        alloc,
+        "@server A\n@server B\n@volume 1000-1003 A 2\n@volume 1100 B 2\n@volume 1004 A 3\nmkflash 1000:1000 1000:1100 1000:1004 1000:1005\nmkflash -dev B 1000:1001\nmkflash -dev C 1000:1001\nmkflash -tgtinhibit 1000:1001\nmkflash 1000:1001 1001:1002 1002:1000\n@write 1001 0 0 41\nresyncflash 1000:1001\nrmflash 1000:1002\n@copy 1003 all\n@stop A\nmkflash 1000:1003\n",
+        "1 ok\n2 ok\n3 ok\n3 ok\n3 ok\n3 ok\n4 ok\n5 ok\n6 E03 duplicate volume\n6 E04 limit server\n6 E04 limit size\n6 E02 unknown volume\n7 E02 unknown server\n8 E02 unknown server\n9 ok\n10 E11 relation state 1001 target\n10 E11 relation state 1001 target\n10 E11 relation state 1000 source\n11 E09 inhibited 1001\n12 E11 relation state 1001 target\n13 E11 relation state 1002 none\n14 E11 relation state 1003 none\n15 ok\n16 E05 server off A\n",
+        1,
+    )
 }

@@ -1,4 +1,4 @@
-use Rattle.std.proofs.Common.{ℕ, List, None, ◌≡◌, ◌<◌, nat_eq, [], ◌∷◌, arith, ap, sym, subst, ◌∙◌, Some}
+use Rattle.std.proofs.Common.{ℕ, List, None, ◌<◌, nat_eq, [], ◌∷◌, arith, ap, sym, subst, ◌∙◌, Some}
 use Rattle.std.specs.Prelude.{is_some}
 use Rattle.dr_model.specs.Carry.{now}
 use Rattle.dr_model.specs.Control.{Volume}

@@ -1,6 +1,5 @@
 use Rattle.std.proofs.Common.{ℕ, Option, None, ◌≡◌, sym, subst, ap, ◌∙◌, Some}
 use Rattle.dr_model.specs.Layout.{Fields}
-use Rattle.dr_model.specs.Lawful.{IsLawful}
 use Rattle.dr_model.specs.Relations.{lowest}
 use Rattle.dr_model.specs.Entries.{give_back}
 use Rattle.dr_volume.specs.View.{volume_seen, ids_of}

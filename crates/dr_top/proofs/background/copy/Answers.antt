@@ -1,8 +1,7 @@
-use Rattle.std.proofs.Common.{sym, ap, refl, ◌∙◌, ◌≡◌, subst, true, Some, None}
+use Rattle.std.proofs.Common.{sym, ap, refl, ◌∙◌, ◌≡◌, true}
 use Rattle.std.specs.Prelude.{is_some}
 use Rattle.dr_config.proofs.Lookups.{place-of-entry}
 use Rattle.dr_config.specs.declared.entries.VolumeEntry.{VolumeEntry}
-use Rattle.dr_model.specs.Layout.{Fields}
 use Rattle.dr_model.specs.Plans.{at_most, left_to_copy}
 use Rattle.dr_model.specs.Refusals.{server_off}
 use Rattle.dr_model.specs.Runs.{said}

@@ -1,12 +1,11 @@
-use Rattle.std.proofs.Common.{arith, sym, ap, ◌∙◌, ◌≤◌, ◌<◌, ◌+◌, ◌*◌, ◌≡◌, length, [], ◌∷◌, Some, None}
+use Rattle.std.proofs.Common.{arith, sym, ap, ◌∙◌, ◌≡◌, [], ◌∷◌, Some, None}
 use Rattle.dr_model.specs.Carry.{carry}
 use Rattle.dr_model.specs.Entries.{times, fetch_next}
 use Rattle.std.proofs.Common.{refl}
-use Rattle.dr_volume.specs.View.{volume_seen, ids_of}
 use Rattle.dr_top.specs.Here.{here, rest_of}
 use Rattle.dr_flash.proofs.TurnLemmas.{err-always}
 use Rattle.dr_top.proofs.LandLemmas.{exact, told-through, ready-after, refused-by}
-use Rattle.dr_top.proofs.BackgroundLemmas.{same-server, carried-next, carried-failed, carried-none, pass-later, rounds-tell}
+use Rattle.dr_top.proofs.BackgroundLemmas.{same-server, carried-next, carried-failed, carried-none, pass-later}
 use Rattle.dr_model.specs.Refusals.{stopped}
 use Rattle.dr_top.proofs.background.fetch_tracks.Goals as goal
 

@@ -1,4 +1,4 @@
-use Rattle.std.proofs.Common.{arith, sym, ap, ◌≡◌, ◌≤◌, ◌∙◌}
+use Rattle.std.proofs.Common.{arith, ap, ◌≡◌, ◌∙◌}
 use Rattle.std.specs.FinSet.{len}
 use Rattle.dr_model.specs.Relations.{rest}
 use Rattle.dr_laws.proofs.Sets.{rest_low}

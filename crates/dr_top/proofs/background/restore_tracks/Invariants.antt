@@ -1,4 +1,4 @@
-use Rattle.std.proofs.Common.{ℕ, ◌≡◌, ◌≤◌, ◌+◌, length, None}
+use Rattle.std.proofs.Common.{ℕ, ◌≡◌, ◌+◌, length, None}
 use Rattle.dr_model.specs.Carry.{carry}
 use Rattle.dr_model.specs.Entries.{times, give_back}
 use Rattle.dr_volume.specs.View.{volume_seen, ids_of}

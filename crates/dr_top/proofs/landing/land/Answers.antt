@@ -9,10 +9,10 @@ use Rattle.dr_volume.specs.Update.{EndsAs}
 use Rattle.dr_flash.specs.Fit.{RelationsFit}
 use Rattle.dr_flash.specs.Here.{IsAtRest}
 use Rattle.dr_flash.specs.Views.{view_seen}
-use Rattle.dr_flash.proofs.ReadLemmas.{left-unread, unread-rest, before-same}
+use Rattle.dr_flash.proofs.ReadLemmas.{left-unread, unread-rest}
 use Rattle.dr_flash.proofs.FitLemmas.{fit-same}
 use Rattle.dr_top.specs.Faults.{Counted}
-use Rattle.dr_top.specs.Landing.{landed_on, LandsAs}
+use Rattle.dr_top.specs.Landing.{landed_on}
 use Rattle.dr_top.proofs.LandLemmas.{lands-unread}
 use Rattle.dr_top.proofs.FaultLemmas.{counted-unread}
 use Rattle.dr_top.proofs.landing.land.Goals as goal

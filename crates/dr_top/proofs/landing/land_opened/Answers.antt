@@ -4,7 +4,6 @@ use Rattle.dr_plant.specs.State.{PlantState}
 use Rattle.dr_config.specs.Table.{StandsFor}
 use Rattle.dr_model.specs.Contents.{laid}
 use Rattle.dr_model.specs.Lawful.{IsLawful}
-use Rattle.dr_model.specs.Layout.{Fields}
 use Rattle.dr_model.specs.Carry as carry
 use Rattle.dr_volume.specs.Plain.{plain}
 use Rattle.dr_volume.specs.Opened.{IsOpened}

@@ -1,13 +1,11 @@
-use Rattle.std.proofs.Common.{◌≡◌, ◌<◌, ◌∷◌, [], ◌++◌, ◌∙◌, sym, ap, subst, Some, None}
-use Rattle.dr_ids.specs.declared.refusal.Refusal.{Refusal}
-use Rattle.dr_model.specs.Control.{World, Volume}
+use Rattle.std.proofs.Common.{◌<◌, ◌∷◌, [], ◌∙◌, sym, ap, subst, Some, None}
+use Rattle.dr_model.specs.Control.{Volume}
 use Rattle.dr_model.specs.Histories.{histories}
-use Rattle.dr_model.specs.Carry.{Entry, Outcome, carry}
+use Rattle.dr_model.specs.Carry.{Outcome}
 use Rattle.dr_model.specs.Entries.{copy_first, land_on}
 use Rattle.dr_laws.proofs.Unissued.{unissued}
 use Rattle.dr_volume.specs.View.{ids_of}
-use Rattle.dr_flash.specs.Here.{refusal_of}
-use Rattle.dr_top.specs.Here.{here, rest_of, IsReady, IsTold}
+use Rattle.dr_top.specs.Here.{here, rest_of}
 use Rattle.dr_top.proofs.LandLemmas.{exact, no-loop, told-through, ends-first, goes-on, refused-by, ready-after}
 use Rattle.dr_top.proofs.machine.land_kept.Goals as goal
 
