@@ -15,12 +15,7 @@ use std::alloc::{AllocError, Global};
 const USUAL_BYTES: usize = 32;
 
 /// Adds the line of an answer.
-fn push_answer(
-    out: &mut Vec<u8>,
-    told: &Told,
-    line: u32,
-    says: Numbers,
-) -> Result<(), AllocError>
+fn push_answer(out: &mut Vec<u8>, told: &Told, line: u32, says: Numbers) -> Result<(), AllocError>
     ensures { OnOk result (out.new.items ≡ out.old.items ++ line_text (seen told.now) (Answer line says.code says.a says.b says.c)) }
 {
     push_number(out, line)?;
@@ -31,11 +26,7 @@ fn push_answer(
 }
 
 /// Adds the line that an event prints; most print none.
-fn push_event(
-    out: &mut Vec<u8>,
-    told: &Told,
-    event: &Event,
-) -> Result<(), AllocError>
+fn push_event(out: &mut Vec<u8>, told: &Told, event: &Event) -> Result<(), AllocError>
     ensures { OnOk result (out.new.items ≡ out.old.items ++ line_text (seen told.now) event.now) }
 {
     match event {

@@ -30,12 +30,7 @@ fn push_two(out: &mut Vec<u8>, a: u32, b: u32) -> Result<(), AllocError>
 }
 
 /// Adds a decision by its place, with its numbers.
-fn push_decision(
-    out: &mut Vec<u8>,
-    place: u32,
-    a: u32,
-    b: u32,
-) -> Result<(), AllocError>
+fn push_decision(out: &mut Vec<u8>, place: u32, a: u32, b: u32) -> Result<(), AllocError>
     ensures { OnOk result (out.new.items ≡ out.old.items ++ decision_text place a b) }
 {
     match place {
@@ -65,12 +60,7 @@ fn push_decision(
 }
 
 /// Adds the decision of a group that is given.
-fn push_group_decision(
-    out: &mut Vec<u8>,
-    place: u32,
-    group: u32,
-    n: u32,
-) -> Result<(), AllocError>
+fn push_group_decision(out: &mut Vec<u8>, place: u32, group: u32, n: u32) -> Result<(), AllocError>
     ensures { OnOk result (out.new.items ≡ out.old.items ++ group_decision place group n) }
 {
     if place == 4 {
@@ -80,12 +70,7 @@ fn push_group_decision(
     }
 }
 
-fn push_group(
-    out: &mut Vec<u8>,
-    place: u32,
-    group: u32,
-    n: u32,
-) -> Result<(), AllocError>
+fn push_group(out: &mut Vec<u8>, place: u32, group: u32, n: u32) -> Result<(), AllocError>
     ensures { OnOk result (out.new.items ≡ out.old.items ++ codes " group " ++ decimal group ++ codes " " ++ group_decision place group n) }
 {
     out.extend_from_slice(b" group ")?;
@@ -178,11 +163,7 @@ fn push_values(out: &mut Vec<u8>, told: &Told, of: Numbers) -> Result<(), AllocE
 }
 
 /// Adds what an answer says.
-pub(crate) fn push_said(
-    out: &mut Vec<u8>,
-    told: &Told,
-    of: Numbers,
-) -> Result<(), AllocError>
+pub(crate) fn push_said(out: &mut Vec<u8>, told: &Told, of: Numbers) -> Result<(), AllocError>
     ensures { OnOk result (out.new.items ≡ out.old.items ++ said_text (seen told.now) of.code of.a of.b of.c) }
 {
     match of.code {
