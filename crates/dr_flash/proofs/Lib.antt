@@ -16,3 +16,4 @@ pub mod CheckLemmas
 pub mod FetchLemmas
 pub mod WriteLemmas
 pub mod StructureLaws
+pub mod ShowLemmas

@@ -1,10 +1,10 @@
 -- What a track reads as, by what was opened; volumes of one server can be read together.
-use Rattle.std.proofs.Common.{ℕ, ◌≡◌, ◌≤◌, ◌<◌, Bool, true, false, ◌&&◌, not, cond, List, refl, sym, ◌∙◌, ap}
+use Rattle.std.proofs.Common.{ℕ, ◌≡◌, Bool, true, false, ◌&&◌, not, cond, refl, sym, ◌∙◌, ap}
 use Rattle.std.specs.Prelude.{is_some, if◌then◌else◌}
 use Rattle.std.specs.FinSet.{contains}
 use Rattle.dr_plant.specs.State.{PlantState, after_read, can_read, passes_read}
 use Rattle.dr_plant.proofs.StateLemmas.{read_done}
-use Rattle.dr_config.specs.Table.{Table, StandsFor, place_of}
+use Rattle.dr_config.specs.Table.{Table, place_of}
 use Rattle.dr_model.specs.Control.{Volume}
 use Rattle.dr_volume.specs.View.{volume_seen, track_seen, device_of}
 use Rattle.dr_volume.proofs.UnreadLaws.{lies-at}

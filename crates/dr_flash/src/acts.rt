@@ -53,6 +53,7 @@ pub(crate) fn make<P: Plant>(
     ensures unarmed { (q : ℕ) → (P.state p.old).read_fuse q ≡ None → (P.state p.new).read_fuse q ≡ None }
     ensures faults { Counted (is_err result) (P.state p.old).faults (P.state p.new).faults }
     ensures old_or_new { IsAsBefore (P.state p.old) (P.state p.new) c.now v.0 ⊎ IsMoved (P.state p.old) (P.state p.new) c.now v.0 (plain next.now) track }
+    ensures moved { OnOk result (IsMoved (P.state p.old) (P.state p.new) c.now v.0 (plain next.now) track) }
     ensures others { OthersStay (P.state p.old) (P.state p.new) c.now v.0 }
     ensures on { OnOk result ((P.state p.new).on ≡ (P.state p.old).on) }
     ensures room { j.old.spare ≤ j.new.spare + room_of told.now }
@@ -104,6 +105,8 @@ pub fn shift<P: Plant>(
     ensures fit { RelationsFit (P.state p.new) c.now }
     ensures unarmed { (q : ℕ) → (P.state p.old).read_fuse q ≡ None → (P.state p.new).read_fuse q ≡ None }
     ensures faults { Counted (is_err result) (P.state p.old).faults (P.state p.new).faults }
+    ensures old_or_new { IsAsBefore (P.state p.old) (P.state p.new) c.now v.0 ⊎ IsMoved (P.state p.old) (P.state p.new) c.now v.0 (plain next.now) track }
+    ensures moved { OnOk result (IsMoved (P.state p.old) (P.state p.new) c.now v.0 (plain next.now) track) }
     ensures others { OthersStay (P.state p.old) (P.state p.new) c.now v.0 }
     ensures on { OnOk result ((P.state p.new).on ≡ (P.state p.old).on) }
     ensures room { j.old.spare ≤ j.new.spare + room_of told.now }

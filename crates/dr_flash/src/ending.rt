@@ -1,8 +1,10 @@
 //! Ending a relationship.
 
-ghost use Rattle.std.specs.Prelude.{◌≡◌, ℕ, ◌<◌, ◌≤◌, ◌+◌, Bool, true, false, not, ◌&&◌, None, Some, IsSome, OnOk, OnErr, is_err, length};
+ghost use Rattle.std.specs.Prelude.{◌≡◌, ℕ, ◌<◌, ◌≤◌, ◌+◌, Bool, true, false, not, ◌&&◌, None, Some, IsSome, OnOk, OnErr, is_err, length, if◌then◌else◌};
+ghost use Rattle.std.specs.FinSet.{contains};
 ghost use Rattle.dr_config.specs.Table.{place_of};
 ghost use Rattle.dr_model.specs.Carry.{now};
+ghost use Rattle.dr_model.specs.Contents.{zeros};
 ghost use Rattle.dr_model.specs.Entries.{copies_from};
 ghost use Rattle.dr_model.specs.Moves.{Withdraw};
 ghost use Rattle.dr_model.specs.Plans.{withdraw_entries};
@@ -10,13 +12,14 @@ ghost use Rattle.dr_model.specs.ReadStops.{Ends};
 ghost use Rattle.dr_model.specs.Refusals.{stopped};
 ghost use Rattle.dr_volume.specs.Plain.{plain};
 ghost use Rattle.dr_volume.specs.Update.{OthersStay};
-ghost use Rattle.dr_volume.specs.View.{Rest, volume_seen};
+ghost use Rattle.dr_volume.specs.View.{Rest, volume_seen, track_seen};
 ghost use Rattle.dr_volume.specs.Volume.{Shows};
 ghost use Rattle.dr_flash.specs.Checks.{is_stop};
 ghost use Rattle.dr_flash.specs.Faults.{Counted};
 ghost use Rattle.dr_flash.specs.Fit.{RelationsFit};
 ghost use Rattle.dr_flash.specs.Here.{seen, refusal_of, armed_in, IsAtRest};
 ghost use Rattle.dr_flash.specs.Turns.{Advances, Halts};
+ghost use Rattle.dr_flash.specs.Views.{view_seen, OthersShow};
 
 use crate::acts::shift;
 use crate::fields::withdrawn;
@@ -49,6 +52,7 @@ fn part<P: Plant>(
     requires defined { IsSome (place_of c.now t.0) }
     requires running { (P.state p.old).on (volume_seen (P.state p.old) c.now t.0).server ≡ true }
     requires shows { Shows (P.state p.old) c.now t.0 f.now }
+    requires related { f.now.related ≡ true }
     requires room { 257 ≤ j.old.spare }
     ensures advances { OnOk result ((r : Rest) → Advances (seen (P.state p.old) c.now r j.old.events) (now (Withdraw t.0)) (seen (P.state p.new) c.now r j.new.events)) }
     ensures halts { OnErr result ((r : Rest) → Halts (armed_in (P.state p.old)) (seen (P.state p.old) c.now r j.old.events) (now (Withdraw t.0)) (seen (P.state p.new) c.now r j.new.events) (refusal_of result)) }
@@ -58,6 +62,8 @@ fn part<P: Plant>(
     ensures unarmed { (q : ℕ) → (P.state p.old).read_fuse q ≡ None → (P.state p.new).read_fuse q ≡ None }
     ensures faults { Counted (is_err result) (P.state p.old).faults (P.state p.new).faults }
     ensures others { OthersStay (P.state p.old) (P.state p.new) c.now t.0 }
+    ensures shows { OnOk result ((k : ℕ) → view_seen (P.state p.new) c.now t.0 k ≡ (if contains (volume_seen (P.state p.old) c.now t.0).fields.own k then track_seen (P.state p.old) c.now t.0 k else zeros)) }
+    ensures others_show { OthersShow (P.state p.old) (P.state p.new) c.now t.0 }
     ensures on { OnOk result ((P.state p.new).on ≡ (P.state p.old).on) }
     ensures room { j.old.spare ≤ j.new.spare + 257 }
     ensures spare { length j.new.events + j.new.spare ≡ length j.old.events + j.old.spare }
@@ -96,6 +102,8 @@ pub fn withdraw<P: Plant>(
     ensures unarmed { (q : ℕ) → (P.state p.old).read_fuse q ≡ None → (P.state p.new).read_fuse q ≡ None }
     ensures faults { Counted (is_stop (refusal_of result)) (P.state p.old).faults (P.state p.new).faults }
     ensures others { OthersStay (P.state p.old) (P.state p.new) c.now t.0 }
+    ensures shows { OnOk result ((k : ℕ) → view_seen (P.state p.new) c.now t.0 k ≡ (if contains (volume_seen (P.state p.old) c.now t.0).fields.own k then track_seen (P.state p.old) c.now t.0 k else zeros)) }
+    ensures others_show { OthersShow (P.state p.old) (P.state p.new) c.now t.0 }
     ensures on { OnOk result ((P.state p.new).on ≡ (P.state p.old).on) }
     ensures room { j.old.spare ≤ j.new.spare + 257 }
     ensures spare { length j.new.events + j.new.spare ≡ length j.old.events + j.old.spare }

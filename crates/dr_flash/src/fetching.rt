@@ -1,6 +1,7 @@
 //! The background copy, and what a target shows.
 
 ghost use Rattle.std.specs.Prelude.{◌≡◌, ℕ, ◌<◌, ◌≤◌, ◌+◌, Bool, true, false, None, Some, IsSome, IfSome, IfOk, OnOk, OnErr, is_ok, is_err, is_some, if◌then◌else◌, [], ◌∷◌, length};
+ghost use Rattle.std.specs.FinSet.{contains};
 ghost use Rattle.dr_plant.specs.State.{after_read, can_read};
 ghost use Rattle.dr_config.specs.Table.{StandsFor, place_of};
 ghost use Rattle.dr_model.specs.Carry.{now};
@@ -18,6 +19,7 @@ ghost use Rattle.dr_flash.specs.Faults.{Counted};
 ghost use Rattle.dr_flash.specs.Fit.{RelationsFit};
 ghost use Rattle.dr_flash.specs.Here.{seen, refusal_of, armed_in, IsAtRest};
 ghost use Rattle.dr_flash.specs.Turns.{Advances, Halts};
+ghost use Rattle.dr_flash.specs.Views.{AllShow};
 
 use crate::acts::shift;
 use crate::fields::{closed, fetched};
@@ -81,6 +83,7 @@ fn store_fetched<P: Plant>(
     requires shows { Shows (P.state p.old) c.now u.0 f.now }
     requires related { f.now.related ≡ true }
     requires within { t < (volume_seen (P.state p.old) c.now u.0).tracks }
+    requires missing { contains f.now.own t ≡ false }
     requires bytes { bytes.now ≡ track_seen (P.state p.old) c.now f.now.source.0 t }
     requires room { 2 ≤ j.old.spare }
     ensures advances { OnOk result ((r : Rest) → Advances (seen (P.state p.old) c.now r j.old.events) (now (Fetch u.0 t)) (seen (P.state p.new) c.now r j.new.events)) }
@@ -91,6 +94,7 @@ fn store_fetched<P: Plant>(
     ensures unarmed { (q : ℕ) → (P.state p.old).read_fuse q ≡ None → (P.state p.new).read_fuse q ≡ None }
     ensures faults { Counted (is_err result) (P.state p.old).faults (P.state p.new).faults }
     ensures others { OthersStay (P.state p.old) (P.state p.new) c.now u.0 }
+    ensures show { AllShow (P.state p.old) (P.state p.new) c.now }
     ensures on { OnOk result ((P.state p.new).on ≡ (P.state p.old).on) }
     ensures room { j.old.spare ≤ j.new.spare + 2 }
     ensures room_left { OnOk result (j.old.spare ≤ j.new.spare + 1) }
@@ -122,6 +126,7 @@ fn fetch<P: Plant>(
     requires shows { Shows (P.state p.old) c.now u.0 f.now }
     requires related { f.now.related ≡ true }
     requires within { t < (volume_seen (P.state p.old) c.now u.0).tracks }
+    requires missing { contains f.now.own t ≡ false }
     requires room { 2 ≤ j.old.spare }
     ensures advances { OnOk result ((r : Rest) → Advances (seen (P.state p.old) c.now r j.old.events) (now (Fetch u.0 t)) (seen (P.state p.new) c.now r j.new.events)) }
     ensures halts { OnErr result ((r : Rest) → Halts (armed_in (P.state p.old)) (seen (P.state p.old) c.now r j.old.events) (now (Fetch u.0 t)) (seen (P.state p.new) c.now r j.new.events) (refusal_of result)) }
@@ -131,6 +136,7 @@ fn fetch<P: Plant>(
     ensures unarmed { (q : ℕ) → (P.state p.old).read_fuse q ≡ None → (P.state p.new).read_fuse q ≡ None }
     ensures faults { Counted (is_err result) (P.state p.old).faults (P.state p.new).faults }
     ensures others { OthersStay (P.state p.old) (P.state p.new) c.now u.0 }
+    ensures show { AllShow (P.state p.old) (P.state p.new) c.now }
     ensures on { OnOk result ((P.state p.new).on ≡ (P.state p.old).on) }
     ensures room { j.old.spare ≤ j.new.spare + 2 }
     ensures room_left { OnOk result (j.old.spare ≤ j.new.spare + 1) }
@@ -147,6 +153,7 @@ fn next_missing(n: u16, f: &Fields) -> Option<u16>
     ensures track { result ≡ (if f.now.related then relations.lowest n (relations.rest n f.now.own) else None) }
     ensures related { IfSome result (λ t. f.now.related ≡ true) }
     ensures within { IfSome result (λ t. t < n) }
+    ensures missing { IfSome result (λ t. contains f.now.own t ≡ false) }
 {
     if f.related {
         lowest(n, &rest(n, &f.own))
@@ -178,6 +185,7 @@ pub fn copy_step<P: Plant>(
     ensures unarmed { (q : ℕ) → (P.state p.old).read_fuse q ≡ None → (P.state p.new).read_fuse q ≡ None }
     ensures faults { Counted (is_err result) (P.state p.old).faults (P.state p.new).faults }
     ensures others { OthersStay (P.state p.old) (P.state p.new) c.now v.0 }
+    ensures show { AllShow (P.state p.old) (P.state p.new) c.now }
     ensures on { OnOk result ((P.state p.new).on ≡ (P.state p.old).on) }
     ensures room { j.old.spare ≤ j.new.spare + 2 }
     ensures room_left { OnOk result (j.old.spare ≤ j.new.spare + 1) }

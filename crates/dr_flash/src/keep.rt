@@ -16,6 +16,7 @@ ghost use Rattle.dr_flash.specs.Faults.{Counted};
 ghost use Rattle.dr_flash.specs.Fit.{RelationsFit};
 ghost use Rattle.dr_flash.specs.Here.{seen, refusal_of, armed_in, IsAtRest};
 ghost use Rattle.dr_flash.specs.Turns.{Advances, Halts};
+ghost use Rattle.dr_flash.specs.Views.{AllShow};
 
 use crate::acts::shift;
 use crate::fields::{closed, fetched, noted};
@@ -45,6 +46,7 @@ fn store<P: Plant>(
     requires shows { Shows (P.state p.old) c.now u.0 f.now }
     requires related { f.now.related ≡ true }
     requires within { t < (volume_seen (P.state p.old) c.now u.0).tracks }
+    requires missing { contains f.now.own t ≡ false }
     requires bytes { bytes.now ≡ track_seen (P.state p.old) c.now f.now.source.0 t }
     requires room { 2 ≤ j.old.spare }
     ensures advances { OnOk result ((r : Rest) → Advances (seen (P.state p.old) c.now r j.old.events) (now (Keep u.0 t)) (seen (P.state p.new) c.now r j.new.events)) }
@@ -55,6 +57,7 @@ fn store<P: Plant>(
     ensures unarmed { (q : ℕ) → (P.state p.old).read_fuse q ≡ None → (P.state p.new).read_fuse q ≡ None }
     ensures faults { Counted (is_err result) (P.state p.old).faults (P.state p.new).faults }
     ensures others { OthersStay (P.state p.old) (P.state p.new) c.now u.0 }
+    ensures show { AllShow (P.state p.old) (P.state p.new) c.now }
     ensures on { OnOk result ((P.state p.new).on ≡ (P.state p.old).on) }
     ensures room { j.old.spare ≤ j.new.spare + 2 }
     ensures room_left { OnOk result (j.old.spare ≤ j.new.spare + 1) }
@@ -86,6 +89,7 @@ fn keep<P: Plant>(
     requires shows { Shows (P.state p.old) c.now u.0 f.now }
     requires related { f.now.related ≡ true }
     requires within { t < (volume_seen (P.state p.old) c.now u.0).tracks }
+    requires missing { contains f.now.own t ≡ false }
     requires room { 2 ≤ j.old.spare }
     ensures advances { OnOk result ((r : Rest) → Advances (seen (P.state p.old) c.now r j.old.events) (now (Keep u.0 t)) (seen (P.state p.new) c.now r j.new.events)) }
     ensures halts { OnErr result ((r : Rest) → Halts (armed_in (P.state p.old)) (seen (P.state p.old) c.now r j.old.events) (now (Keep u.0 t)) (seen (P.state p.new) c.now r j.new.events) (refusal_of result)) }
@@ -95,6 +99,7 @@ fn keep<P: Plant>(
     ensures unarmed { (q : ℕ) → (P.state p.old).read_fuse q ≡ None → (P.state p.new).read_fuse q ≡ None }
     ensures faults { Counted (is_err result) (P.state p.old).faults (P.state p.new).faults }
     ensures others { OthersStay (P.state p.old) (P.state p.new) c.now u.0 }
+    ensures show { AllShow (P.state p.old) (P.state p.new) c.now }
     ensures on { OnOk result ((P.state p.new).on ≡ (P.state p.old).on) }
     ensures room { j.old.spare ≤ j.new.spare + 2 }
     ensures room_left { OnOk result (j.old.spare ≤ j.new.spare + 1) }
@@ -130,6 +135,7 @@ fn note<P: Plant>(
     ensures unarmed { (q : ℕ) → (P.state p.old).read_fuse q ≡ None → (P.state p.new).read_fuse q ≡ None }
     ensures faults { Counted (is_err result) (P.state p.old).faults (P.state p.new).faults }
     ensures others { OthersStay (P.state p.old) (P.state p.new) c.now u.0 }
+    ensures show { AllShow (P.state p.old) (P.state p.new) c.now }
     ensures on { OnOk result ((P.state p.new).on ≡ (P.state p.old).on) }
     ensures room { j.old.spare ≤ j.new.spare + 2 }
     ensures room_left { OnOk result (j.old.spare ≤ j.new.spare + 1) }
@@ -176,6 +182,7 @@ pub fn keep_on<P: Plant>(
     ensures unarmed { (q : ℕ) → (P.state p.old).read_fuse q ≡ None → (P.state p.new).read_fuse q ≡ None }
     ensures faults { Counted (is_err result) (P.state p.old).faults (P.state p.new).faults }
     ensures others { (q : ℕ) → copies_from v.0 (volume_seen (P.state p.old) c.now q).fields ≡ false → IsAsBefore (P.state p.old) (P.state p.new) c.now q }
+    ensures show { AllShow (P.state p.old) (P.state p.new) c.now }
     ensures apart { (q : ℕ) → (copies_from v.0 (volume_seen (P.state p.old) c.now q).fields && not (volume_seen (P.state p.old) c.now q).fields.reversing) ≡ false → IsAsBefore (P.state p.old) (P.state p.new) c.now q }
     ensures on { OnOk result ((P.state p.new).on ≡ (P.state p.old).on) }
     ensures room { j.old.spare ≤ j.new.spare + 2 }

@@ -12,6 +12,7 @@ ghost use Rattle.dr_flash.specs.Faults.{Counted};
 ghost use Rattle.dr_flash.specs.Fit.{RelationsFit};
 ghost use Rattle.dr_flash.specs.Here.{seen, refusal_of, armed_in, IsAtRest};
 ghost use Rattle.dr_flash.specs.Turns.{Leads, Fails};
+ghost use Rattle.dr_flash.specs.Views.{AllShow};
 
 use crate::keep::keep_on;
 use dr_config::Config;
@@ -45,6 +46,7 @@ pub fn copy_first<P: Plant>(
     ensures unarmed { (q : ℕ) → (P.state p.old).read_fuse q ≡ None → (P.state p.new).read_fuse q ≡ None }
     ensures faults { Counted (is_err result) (P.state p.old).faults (P.state p.new).faults }
     ensures others { (q : ℕ) → copies_from v.0 (volume_seen (P.state p.old) c.now q).fields ≡ false → IsAsBefore (P.state p.old) (P.state p.new) c.now q }
+    ensures show { AllShow (P.state p.old) (P.state p.new) c.now }
     ensures on { OnOk result ((P.state p.new).on ≡ (P.state p.old).on) }
     ensures room { j.old.spare ≤ j.new.spare + (length c.now.volumes + 1) }
     ensures room_left { OnOk result (j.old.spare ≤ j.new.spare + length c.now.volumes) }

@@ -17,6 +17,7 @@ ghost use Rattle.dr_flash.specs.Fit.{SourceFits, RelationsFit};
 ghost use Rattle.dr_flash.specs.Here.{seen, refusal_of, armed_in, IsAtRest};
 ghost use Rattle.dr_flash.specs.Options.{choices};
 ghost use Rattle.dr_flash.specs.Turns.{Advances, Halts};
+ghost use Rattle.dr_flash.specs.Views.{view_seen, OthersShow};
 
 use crate::acts::shift;
 use crate::fields::made;
@@ -109,6 +110,8 @@ fn relate<P: Plant>(
     ensures unarmed { (q : ℕ) → (P.state p.old).read_fuse q ≡ None → (P.state p.new).read_fuse q ≡ None }
     ensures faults { Counted (is_err result) (P.state p.old).faults (P.state p.new).faults }
     ensures others { OthersStay (P.state p.old) (P.state p.new) c.now t.0 }
+    ensures shows { OnOk result ((k : ℕ) → view_seen (P.state p.new) c.now t.0 k ≡ view_seen (P.state p.old) c.now s.0 k) }
+    ensures others_show { OthersShow (P.state p.old) (P.state p.new) c.now t.0 }
     ensures on { OnOk result ((P.state p.new).on ≡ (P.state p.old).on) }
     ensures room { j.old.spare ≤ j.new.spare + 2 }
     ensures spare { length j.new.events + j.new.spare ≡ length j.old.events + j.old.spare }
@@ -146,6 +149,8 @@ pub fn establish<P: Plant>(
     ensures unarmed { (q : ℕ) → (P.state p.old).read_fuse q ≡ None → (P.state p.new).read_fuse q ≡ None }
     ensures faults { Counted (is_stop (refusal_of result)) (P.state p.old).faults (P.state p.new).faults }
     ensures others { OthersStay (P.state p.old) (P.state p.new) c.now t.0 }
+    ensures shows { OnOk result ((k : ℕ) → view_seen (P.state p.new) c.now t.0 k ≡ view_seen (P.state p.old) c.now s.0 k) }
+    ensures others_show { OthersShow (P.state p.old) (P.state p.new) c.now t.0 }
     ensures on { OnOk result ((P.state p.new).on ≡ (P.state p.old).on) }
     ensures room { j.old.spare ≤ j.new.spare + 2 }
     ensures spare { length j.new.events + j.new.spare ≡ length j.old.events + j.old.spare }

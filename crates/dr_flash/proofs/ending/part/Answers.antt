@@ -13,6 +13,8 @@ use Rattle.std.proofs.Common.{true}
 use Rattle.dr_model.specs.Relations.{withdrawn_if}
 use Rattle.dr_flash.specs.declared.told.Told.TheVariants.{Blanked}
 use Rattle.dr_flash.proofs.MoveLemmas.{MoveFits, withdraw-fits, tells-withdraw}
+use Rattle.dr_volume.specs.Update.{IsMoved}
+use Rattle.dr_flash.proofs.ShowLemmas.{show-target, withdrawn-shows}
 use Rattle.dr_flash.proofs.ending.part.Goals as goal
 
 pub shift-requires-clause-lawful : goal.shift-requires-clause-lawful
@@ -57,3 +59,16 @@ returns-clause-room g c =
     let few = c.tracks_of-tracks.ensures.few in
     let room = c.shift.ensures.room in
     omega (arith, e, h, few, room)
+
+pub returns-clause-shows : goal.returns-clause-shows
+returns-clause-shows g c =
+    let s = g.P.Plant.state c.args.p.now in
+    let t = c.args.c.now in
+    ok-along c.shift.result c.shift.ensures.moved (λ is.
+    withdrawn-shows s (g.P.Plant.state c.shift.new.p) t c.args.t.0
+    (subst (λ f. IsMoved s (g.P.Plant.state c.shift.new.p) t c.args.t.0 f None) (c.withdrawn-next.ensures ∙ (λ i. withdrawn_if true (sym (c.tracks_of-tracks.ensures.seen s) i) (c.requires.shows.fields i))) is))
+
+pub returns-clause-others_show : goal.returns-clause-others_show
+returns-clause-others_show g c =
+    show-target (g.P.Plant.state c.args.p.now) (g.P.Plant.state c.shift.new.p) c.args.c.now c.args.t.0 c.shift.ensures.others c.requires.fit
+    (sym (ap (λ (f : Fields). f.related) c.requires.shows.fields) ∙ c.requires.related)

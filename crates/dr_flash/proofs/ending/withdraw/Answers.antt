@@ -10,6 +10,7 @@ use Rattle.dr_volume.specs.View.{on_seen, volume_seen}
 use Rattle.dr_flash.specs.Here.{seen, armed_in, refusal_of}
 use Rattle.dr_flash.proofs.EndsLemmas.{ends-passed}
 use Rattle.dr_flash.proofs.CheckLemmas.{refuses, on-low, act-ends, only-stops}
+use Rattle.dr_flash.proofs.FetchLemmas.{first_of}
 use Rattle.dr_flash.proofs.ending.withdraw.Goals as goal
 
 pub returns-then-not-is_on-clause-carried : goal.returns-then-not-is_on-clause-carried
@@ -30,3 +31,6 @@ returns-clause-carried g c r =
 
 pub returns-clause-unchanged : goal.returns-clause-unchanged
 returns-clause-unchanged g c calm = only-stops _ c.part.result _ c.part.ensures.refused calm
+
+pub part-requires-clause-related : goal.part-requires-clause-related
+part-requires-clause-related g c = first_of _ _ (first_of _ _ (sym c.is_plain_target.ensures ∙ c.if-not-is_plain_target.false))

@@ -9,6 +9,10 @@ use Rattle.dr_flash.proofs.ReadLemmas.{on-running}
 use Rattle.dr_flash.proofs.TurnLemmas.{Tells, advances, halts, ok-along, err-along}
 use Rattle.dr_model.specs.Relations.{closed, fetched}
 use Rattle.dr_flash.proofs.MoveLemmas.{MoveFits, fetch-fits, tells-fetch}
+use Rattle.std.proofs.Common.{refl}
+use Rattle.std.specs.FinSet.{contains}
+use Rattle.dr_volume.specs.Update.{IsMoved}
+use Rattle.dr_flash.proofs.ShowLemmas.{show-either, taken-shows}
 use Rattle.dr_flash.proofs.fetching.store_fetched.Goals as goal
 
 pub shift-requires-clause-lawful : goal.shift-requires-clause-lawful
@@ -42,3 +46,16 @@ returns-clause-halts g c =
     halts (seen s t r c.args.j.now.events) (Fetch c.args.u.0 c.args.t) c.of-told.result (plain c.closed-next.result) (Some (c.args.t, c.args.bytes.now)) (on-running s x.server c.requires.running)
     (subst (λ y. Tells (Fetch c.args.u.0 c.args.t) x y) (sym c.of-told.ensures) (tells-fetch c.args.u.0 c.args.t x)) (sym (c.closed-next.ensures ∙ ap (closed c.tracks_of-tracks.result) c.fetched.ensures
     ∙ (λ i. closed (sym (c.tracks_of-tracks.ensures.seen (g.P.Plant.state c.args.p.now)) i) (fetched (c.requires.shows.fields i) c.args.t)))) (ap (λ (b : List ℕ). Some (c.args.t, b)) (sym (c.requires.bytes ∙ ap (λ (f : Fields). track_seen s t f.source c.args.t) c.requires.shows.fields))) (armed_in s) (seen (g.P.Plant.state c.shift.new.p) t r c.shift.new.j.events) (refusal_of c.shift.result) refused (failed r))
+
+pub returns-clause-show : goal.returns-clause-show
+returns-clause-show g c =
+    let s = g.P.Plant.state c.args.p.now in
+    let u = g.P.Plant.state c.shift.new.p in
+    let t = c.args.c.now in
+    let f : Fields = (volume_seen s t c.args.u.0).fields in
+    show-either s u t c.args.u.0 (plain c.closed-next.result) (Some (c.args.t, c.args.bytes.now)) c.shift.ensures.others c.shift.ensures.old_or_new (λ is.
+    taken-shows s u t c.args.u.0 c.requires.fit (sym (ap (λ (f : Fields). f.related) c.requires.shows.fields) ∙ c.requires.related) c.shift.ensures.others (fetched f c.args.t) refl refl c.args.t refl refl c.args.bytes.now
+    (subst (λ f. IsMoved s u t c.args.u.0 f (Some (c.args.t, c.args.bytes.now))) (c.closed-next.ensures ∙ ap (closed c.tracks_of-tracks.result) c.fetched.ensures
+    ∙ (λ i. closed (sym (c.tracks_of-tracks.ensures.seen s) i) (fetched (c.requires.shows.fields i) c.args.t))) is)
+    (sym (ap (λ (f : Fields). contains f.own c.args.t) c.requires.shows.fields) ∙ c.requires.missing)
+    (c.requires.bytes ∙ ap (λ (f : Fields). track_seen s t f.source c.args.t) c.requires.shows.fields))

@@ -11,6 +11,8 @@ use Rattle.dr_flash.specs.Here.{seen, armed_in, refusal_of}
 use Rattle.dr_flash.specs.Turns.{Advances, Halts}
 use Rattle.dr_flash.proofs.FitLemmas.{fit-same}
 use Rattle.dr_flash.proofs.TurnLemmas.{err-always, refused-by, halts-gone}
+use Rattle.dr_flash.specs.Views.{AllShow}
+use Rattle.dr_flash.proofs.ShowLemmas.{show-same}
 use Rattle.dr_flash.proofs.keep.keep.Goals as goal
 
 pub returns-in_err-read_told-clause-halts : goal.returns-in_err-read_told-clause-halts
@@ -46,3 +48,9 @@ returns-clause-unarmed g c q none = c.store.ensures.unarmed q (ap (λ (x : Plant
 
 pub returns-clause-others : goal.returns-clause-others
 returns-clause-others g c = subst (λ (x : PlantState). OthersStay x (g.P.Plant.state c.store.new.p) c.args.c.now c.args.u.0) c.in_ok-read_told.ensures.passed c.store.ensures.others
+
+pub returns-in_err-read_told-clause-show : goal.returns-in_err-read_told-clause-show
+returns-in_err-read_told-clause-show g c = show-same (g.P.Plant.state c.args.p.now) (g.P.Plant.state c.read_told.new.p) c.args.c.now c.in_err-read_told.ensures.same
+
+pub returns-clause-show : goal.returns-clause-show
+returns-clause-show g c = subst (λ (x : PlantState). AllShow x (g.P.Plant.state c.store.new.p) c.args.c.now) c.in_ok-read_told.ensures.passed c.store.ensures.show

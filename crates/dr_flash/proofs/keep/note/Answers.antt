@@ -11,6 +11,8 @@ use Rattle.dr_flash.proofs.ReadLemmas.{on-running}
 use Rattle.dr_flash.proofs.TurnLemmas.{Tells, advances, halts, ok-along, err-along}
 use Rattle.dr_model.specs.Relations.{noted}
 use Rattle.dr_flash.proofs.MoveLemmas.{MoveFits, note-fits, tells-note}
+use Rattle.dr_volume.specs.Update.{IsMoved}
+use Rattle.dr_flash.proofs.ShowLemmas.{show-either, noted-shows}
 use Rattle.dr_flash.proofs.keep.note.Goals as goal
 
 pub shift-requires-clause-lawful : goal.shift-requires-clause-lawful
@@ -41,3 +43,13 @@ pub returns-clause-room_left : goal.returns-clause-room_left
 returns-clause-room_left g c =
     let none = ap (λ (y : Telling). length (events_of y.done)) c.of.ensures in
     ok-along c.shift.result c.shift.ensures.room_left (λ left. omega (arith, left, none))
+
+pub returns-clause-show : goal.returns-clause-show
+returns-clause-show g c =
+    let s = g.P.Plant.state c.args.p.now in
+    let u = g.P.Plant.state c.shift.new.p in
+    let t = c.args.c.now in
+    let f : Fields = (volume_seen s t c.args.u.0).fields in
+    show-either s u t c.args.u.0 (plain c.noted-next.result) None c.shift.ensures.others c.shift.ensures.old_or_new (λ is.
+    noted-shows s u t c.args.u.0 c.requires.fit (sym (ap (λ (f : Fields). f.related) c.requires.shows.fields) ∙ c.requires.related) c.shift.ensures.others (noted f c.args.t) refl refl refl refl
+    (subst (λ f. IsMoved s u t c.args.u.0 f None) (c.noted-next.ensures ∙ ap (λ f. noted f c.args.t) c.requires.shows.fields) is))

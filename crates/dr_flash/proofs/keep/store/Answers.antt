@@ -1,4 +1,4 @@
-use Rattle.std.proofs.Common.{ap, sym, subst, ◌∙◌, List, ℕ, Some}
+use Rattle.std.proofs.Common.{refl, ap, sym, subst, ◌∙◌, List, ℕ, Some}
 use Rattle.dr_model.specs.Layout.{Fields}
 use Rattle.dr_model.specs.Lawful.{IsLawful}
 use Rattle.dr_model.specs.Moves.{Keep}
@@ -9,6 +9,9 @@ use Rattle.dr_flash.proofs.ReadLemmas.{on-running}
 use Rattle.dr_flash.proofs.TurnLemmas.{Tells, advances, halts, ok-along, err-along}
 use Rattle.dr_model.specs.Relations.{closed, fetched, noted}
 use Rattle.dr_flash.proofs.MoveLemmas.{MoveFits, keep-fits, tells-keep}
+use Rattle.std.specs.FinSet.{contains}
+use Rattle.dr_volume.specs.Update.{IsMoved}
+use Rattle.dr_flash.proofs.ShowLemmas.{show-either, taken-shows}
 use Rattle.dr_flash.proofs.keep.store.Goals as goal
 
 pub shift-requires-clause-lawful : goal.shift-requires-clause-lawful
@@ -47,3 +50,16 @@ returns-clause-halts g c =
     (subst (λ y. Tells (Keep c.args.u.0 c.args.t) x y) (sym c.of-told.ensures) (tells-keep c.args.u.0 c.args.t x)) (sym (
     c.closed-next.ensures ∙ ap (closed c.tracks_of-tracks.result) (c.noted.ensures ∙ ap (λ f. noted f c.args.t) c.fetched.ensures)
     ∙ (λ i. closed (sym (c.tracks_of-tracks.ensures.seen (g.P.Plant.state c.args.p.now)) i) (noted (fetched (c.requires.shows.fields i) c.args.t) c.args.t)))) (ap (λ (b : List ℕ). Some (c.args.t, b)) (sym (c.requires.bytes ∙ ap (λ (f : Fields). track_seen s t f.source c.args.t) c.requires.shows.fields))) (armed_in s) (seen (g.P.Plant.state c.shift.new.p) t r c.shift.new.j.events) (refusal_of c.shift.result) refused (failed r))
+
+pub returns-clause-show : goal.returns-clause-show
+returns-clause-show g c =
+    let s = g.P.Plant.state c.args.p.now in
+    let u = g.P.Plant.state c.shift.new.p in
+    let t = c.args.c.now in
+    let f : Fields = (volume_seen s t c.args.u.0).fields in
+    show-either s u t c.args.u.0 (plain c.closed-next.result) (Some (c.args.t, c.args.bytes.now)) c.shift.ensures.others c.shift.ensures.old_or_new (λ is.
+    taken-shows s u t c.args.u.0 c.requires.fit (sym (ap (λ (f : Fields). f.related) c.requires.shows.fields) ∙ c.requires.related) c.shift.ensures.others (noted (fetched f c.args.t) c.args.t) refl refl c.args.t refl refl c.args.bytes.now
+    (subst (λ f. IsMoved s u t c.args.u.0 f (Some (c.args.t, c.args.bytes.now))) (c.closed-next.ensures ∙ ap (closed c.tracks_of-tracks.result) (c.noted.ensures ∙ ap (λ f. noted f c.args.t) c.fetched.ensures)
+    ∙ (λ i. closed (sym (c.tracks_of-tracks.ensures.seen s) i) (noted (fetched (c.requires.shows.fields i) c.args.t) c.args.t))) is)
+    (sym (ap (λ (f : Fields). contains f.own c.args.t) c.requires.shows.fields) ∙ c.requires.missing)
+    (c.requires.bytes ∙ ap (λ (f : Fields). track_seen s t f.source c.args.t) c.requires.shows.fields))

@@ -72,6 +72,7 @@ loop-place-preserved g c = record {
       let a = c.loop-place.invariant.others q other in
       before-then (g.P.Plant.state c.args.p.now) (g.P.Plant.state c.loop-place.p) (g.P.Plant.state c.keep_on.new.p) c.args.c.now q a
       (c.in_ok-keep_on.ensures.others q (ap (λ (x : Volume). copies_from c.args.v.0 x.fields) a.volume ∙ other));
+  show = λ q k. c.in_ok-keep_on.ensures.show q k ∙ c.loop-place.invariant.show q k;
   on = c.in_ok-keep_on.ensures.on ∙ c.loop-place.invariant.on;
   spare = let a = c.loop-place.invariant.spare in let b = c.in_ok-keep_on.ensures.room_left in omega (arith, a, b);
   sum = c.in_ok-keep_on.ensures.spare ∙ c.loop-place.invariant.sum;
@@ -102,3 +103,6 @@ returns-in_err-keep_on-clause-carried g c r =
     (c.loop-place.invariant.left r (armed_in s0) u (Some e) ds
     (subst (λ es. Ends (armed_in s0) u (Some e) (seen s t r c.loop-place.j.events) (es ++ ds)) (sym (keeps-next t v k c.loop-place.place c.unwrap-u.result.0 (sym (ap (option_map (λ (v : VolumeId). v.0)) c.unwrap-u.ensures) ∙ c.volume_at.ensures.value)))
     (ends-wider (armed_in s) (armed_in s0) (wider-armed s0 s c.loop-place.invariant.unarmed) u (Some e) _ _ (c.in_err-keep_on.ensures.halts r (keeps_from t v k (c.loop-place.place + 1) ++ ds))))))
+
+pub returns-in_err-keep_on-clause-show : goal.returns-in_err-keep_on-clause-show
+returns-in_err-keep_on-clause-show g c q k = c.in_err-keep_on.ensures.show q k ∙ c.loop-place.invariant.show q k

@@ -8,6 +8,7 @@ use Rattle.dr_volume.specs.Update.{IsAsBefore}
 use Rattle.dr_volume.specs.View.{Rest, volume_seen, ids_of}
 use Rattle.dr_flash.specs.Fit.{RelationsFit}
 use Rattle.dr_flash.specs.Here.{seen, IsAtRest}
+use Rattle.dr_flash.specs.Views.{AllShow}
 use Rattle.dr_flash.proofs.CopyLemmas.{keeps_from}
 use Rattle.dr_flash.proofs.keeping.copy_first.Given as goal
 
@@ -21,6 +22,7 @@ invariant-loop-place g l = record {
   unarmed : (q : ℕ) → (g.P.Plant.state l.fn.p).read_fuse q ≡ None → (g.P.Plant.state l.p).read_fuse q ≡ None;
   faults : (g.P.Plant.state l.p).faults ≡ (g.P.Plant.state l.fn.p).faults;
   others : (q : ℕ) → copies_from l.v.0 (volume_seen (g.P.Plant.state l.fn.p) l.c q).fields ≡ false → IsAsBefore (g.P.Plant.state l.fn.p) (g.P.Plant.state l.p) l.c q;
+  show : AllShow (g.P.Plant.state l.fn.p) (g.P.Plant.state l.p) l.c;
   on : (g.P.Plant.state l.p).on ≡ (g.P.Plant.state l.fn.p).on;
   spare : l.fn.j.spare ≤ l.j.spare + l.place;
   sum : length l.j.events + l.j.spare ≡ length l.fn.j.events + l.fn.j.spare;

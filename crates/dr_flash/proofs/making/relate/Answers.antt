@@ -10,6 +10,8 @@ use Rattle.dr_flash.proofs.TurnLemmas.{Tells, advances, halts, ok-along, err-alo
 use Rattle.dr_model.specs.Relations.{made}
 use Rattle.dr_flash.specs.Options.{choices}
 use Rattle.dr_flash.proofs.MoveLemmas.{MoveFits, relate-fits, tells-relate}
+use Rattle.dr_volume.specs.Update.{IsMoved}
+use Rattle.dr_flash.proofs.ShowLemmas.{show-lone, made-shows}
 use Rattle.dr_flash.proofs.making.relate.Goals as goal
 
 pub shift-requires-clause-lawful : goal.shift-requires-clause-lawful
@@ -38,3 +40,14 @@ returns-clause-halts g c =
     err-along c.shift.result c.shift.ensures.failed c.shift.ensures.refused (λ failed refused r.
     halts (seen s t r c.args.j.now.events) (Relate c.args.t.0 c.args.s.0 (choices c.args.o.now)) c.of-told.result (plain c.made-next.result) None (on-running s x.server c.requires.running)
     (subst (λ y. Tells (Relate c.args.t.0 c.args.s.0 (choices c.args.o.now)) x y) (sym c.of-told.ensures) (tells-relate c.args.t.0 c.args.s.0 (choices c.args.o.now) x)) (sym (c.made-next.ensures ∙ ap (made c.args.s.0 (choices c.args.o.now)) c.peek_fields-fields.ensures.fields)) refl (armed_in s) (seen (g.P.Plant.state c.shift.new.p) t r c.shift.new.j.events) (refusal_of c.shift.result) refused (failed r))
+
+pub returns-clause-shows : goal.returns-clause-shows
+returns-clause-shows g c =
+    let s = g.P.Plant.state c.args.p.now in
+    let t = c.args.c.now in
+    ok-along c.shift.result c.shift.ensures.moved (λ is.
+    made-shows s (g.P.Plant.state c.shift.new.p) t c.args.t.0 c.args.s.0 (choices c.args.o.now) c.shift.ensures.others c.requires.source.plain c.requires.apart
+    (subst (λ f. IsMoved s (g.P.Plant.state c.shift.new.p) t c.args.t.0 f None) (c.made-next.ensures ∙ ap (made c.args.s.0 (choices c.args.o.now)) c.peek_fields-fields.ensures.fields) is))
+
+pub returns-clause-others_show : goal.returns-clause-others_show
+returns-clause-others_show g c = show-lone (g.P.Plant.state c.args.p.now) (g.P.Plant.state c.shift.new.p) c.args.c.now c.args.t.0 c.shift.ensures.others c.requires.lone
