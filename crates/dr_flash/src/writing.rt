@@ -18,6 +18,7 @@ ghost use Rattle.dr_flash.specs.Fit.{RelationsFit};
 ghost use Rattle.dr_flash.specs.Here.{seen, refusal_of, armed_in, IsAtRest};
 ghost use Rattle.dr_flash.specs.Turns.{room_of};
 ghost use Rattle.dr_flash.specs.declared.told.Told.TheVariants.{Nothing};
+ghost use Rattle.dr_flash.specs.Views.{view_seen, OthersShow};
 ghost use Rattle.dr_flash.specs.Writes.{EndsThen, MadeFrom, target_checks};
 
 use crate::acts::shift;
@@ -135,6 +136,9 @@ fn overwrite<P: Plant>(
     ensures unarmed { (q : ℕ) → (P.state p.old).read_fuse q ≡ None → (P.state p.new).read_fuse q ≡ None }
     ensures faults { Counted (is_err result) (P.state p.old).faults (P.state p.new).faults }
     ensures others { OthersStay (P.state p.old) (P.state p.new) c.now v.0 }
+    ensures written { OnOk result (view_seen (P.state p.new) c.now v.0 t ≡ bytes.now) }
+    ensures other_tracks { OnOk result ((k : ℕ) → k ≢ t → view_seen (P.state p.new) c.now v.0 k ≡ view_seen (P.state p.old) c.now v.0 k) }
+    ensures others_show { OthersShow (P.state p.old) (P.state p.new) c.now v.0 }
     ensures on { OnOk result ((P.state p.new).on ≡ (P.state p.old).on) }
     ensures room { j.old.spare ≤ j.new.spare + room_of told.now }
     ensures spare { length j.new.events + j.new.spare ≡ length j.old.events + j.old.spare }
@@ -173,6 +177,9 @@ pub fn write_target<P: Plant>(
     ensures unarmed { (q : ℕ) → (P.state p.old).read_fuse q ≡ None → (P.state p.new).read_fuse q ≡ None }
     ensures faults { Counted (is_stop (refusal_of result)) (P.state p.old).faults (P.state p.new).faults }
     ensures others { OthersStay (P.state p.old) (P.state p.new) c.now v.0 }
+    ensures written { OnOk result (view_seen (P.state p.new) c.now v.0 t ≡ bytes.now) }
+    ensures other_tracks { OnOk result ((k : ℕ) → k ≢ t → view_seen (P.state p.new) c.now v.0 k ≡ view_seen (P.state p.old) c.now v.0 k) }
+    ensures others_show { OthersShow (P.state p.old) (P.state p.new) c.now v.0 }
     ensures on { OnOk result ((P.state p.new).on ≡ (P.state p.old).on) }
     ensures room { j.old.spare ≤ j.new.spare + room_of told.now }
     ensures spare { length j.new.events + j.new.spare ≡ length j.old.events + j.old.spare }
