@@ -17,3 +17,4 @@ pub mod FetchLemmas
 pub mod WriteLemmas
 pub mod StructureLaws
 pub mod ShowLemmas
+pub mod HeldLemmas

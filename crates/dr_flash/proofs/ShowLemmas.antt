@@ -18,7 +18,7 @@ use Rattle.dr_model.specs.Views.{view, shows_source}
 use Rattle.dr_volume.specs.Update.{IsAsBefore, IsMoved, OthersStay}
 use Rattle.dr_volume.specs.View.{volume_seen, track_seen, volume_at, track_at, volume_on, track_on}
 use Rattle.dr_flash.specs.Fit.{RelationsFit}
-use Rattle.dr_flash.specs.Views.{view_seen, AllShow, OthersShow}
+use Rattle.dr_flash.specs.Views.{view_seen, AllShow, OthersShow, HoldsTrack}
 use Rattle.dr_flash.proofs.CheckLemmas.{same-test, differ-test}
 use Rattle.dr_flash.proofs.FetchLemmas.{first_of}
 use Rattle.dr_flash.proofs.FitLemmas.{target-no_source}
@@ -72,7 +72,7 @@ show-either s u c v f m others (inr is) shows = shows is
 show-either s u c v f m others (inl same) shows = show-same s u c (λ q. elim (cases_eq q v) as (λ _. IsAsBefore s u c q) [ inl is ↦ subst (λ z. IsAsBefore s u c z) (sym is) same | inr ne ↦ others q ne ])
 
 -- what a volume shows that moved
-moved-view : (s u : PlantState) (c : Table) (v : ℕ) (f : Fields) (m : Carried) → IsMoved s u c v f m → (k : ℕ) → view_seen u c v k ≡ cond (shows_source f k) (track_seen u c f.source k) (tracks_after f m (track_seen s c v) k)
+pub moved-view : (s u : PlantState) (c : Table) (v : ℕ) (f : Fields) (m : Carried) → IsMoved s u c v f m → (k : ℕ) → view_seen u c v k ≡ cond (shows_source f k) (track_seen u c f.source k) (tracks_after f m (track_seen s c v) k)
 moved-view s u c v f m is k i = cond (shows_source (is.volume i).fields k) (track_seen u c (is.volume i).fields.source k) (is.tracks i k)
 
 -- a volume that became a target shows what its source shows
@@ -144,6 +144,13 @@ module _ (s u : PlantState) (c : Table) (v : ℕ) (fit : RelationsFit s c) (rela
           pick : (b : Bool) → after b t ≡ bytes
           pick true = stored
           pick false = (λ i. cond ((is_related ∙ related) i && not (held i)) (track_seen u c f.source t) (tracks_after f (Some (t, bytes)) (track_seen s c v) t)) ∙ stored
+
+      pub taken-held : HoldsTrack u c t v
+      taken-held = subst (λ (y : Volume). y.fields.related ≡ true → contains y.fields.own t ≡ true) (sym is.volume) (pick (is_whole x.tracks f.own && not f.persistent))
+        where
+          pick : (b : Bool) → (parted_if b f).related ≡ true → contains (parted_if b f).own t ≡ true
+          pick true r = absurd cc
+          pick false r = ap (λ o. contains o t) own ∙ contains-insert_tracks x.fields.own t t ∙ ap (λ b. b || contains x.fields.own t) (same-test t t refl)
 
       pub taken-other : (k : ℕ) → k ≢ t → view_seen u c v k ≡ view_seen s c v k
       taken-other k ne = moved-view s u c v _ _ is k ∙ pick (contains x.fields.own k) refl (is_whole x.tracks f.own && not f.persistent) refl

@@ -16,7 +16,7 @@ ghost use Rattle.dr_flash.specs.Faults.{Counted};
 ghost use Rattle.dr_flash.specs.Fit.{RelationsFit};
 ghost use Rattle.dr_flash.specs.Here.{seen, refusal_of, armed_in, IsAtRest};
 ghost use Rattle.dr_flash.specs.Turns.{Advances, Halts};
-ghost use Rattle.dr_flash.specs.Views.{AllShow};
+ghost use Rattle.dr_flash.specs.Views.{AllShow, HoldsTrack, KeepsTrack};
 
 use crate::acts::shift;
 use crate::fields::{closed, fetched, noted};
@@ -58,6 +58,7 @@ fn store<P: Plant>(
     ensures faults { Counted (is_err result) (P.state p.old).faults (P.state p.new).faults }
     ensures others { OthersStay (P.state p.old) (P.state p.new) c.now u.0 }
     ensures show { AllShow (P.state p.old) (P.state p.new) c.now }
+    ensures held { OnOk result (HoldsTrack (P.state p.new) c.now t u.0) }
     ensures on { OnOk result ((P.state p.new).on ≡ (P.state p.old).on) }
     ensures room { j.old.spare ≤ j.new.spare + 2 }
     ensures room_left { OnOk result (j.old.spare ≤ j.new.spare + 1) }
@@ -100,6 +101,7 @@ fn keep<P: Plant>(
     ensures faults { Counted (is_err result) (P.state p.old).faults (P.state p.new).faults }
     ensures others { OthersStay (P.state p.old) (P.state p.new) c.now u.0 }
     ensures show { AllShow (P.state p.old) (P.state p.new) c.now }
+    ensures held { OnOk result (HoldsTrack (P.state p.new) c.now t u.0) }
     ensures on { OnOk result ((P.state p.new).on ≡ (P.state p.old).on) }
     ensures room { j.old.spare ≤ j.new.spare + 2 }
     ensures room_left { OnOk result (j.old.spare ≤ j.new.spare + 1) }
@@ -136,6 +138,7 @@ fn note<P: Plant>(
     ensures faults { Counted (is_err result) (P.state p.old).faults (P.state p.new).faults }
     ensures others { OthersStay (P.state p.old) (P.state p.new) c.now u.0 }
     ensures show { AllShow (P.state p.old) (P.state p.new) c.now }
+    ensures held { OnOk result (contains (volume_seen (P.state p.new) c.now u.0).fields.own t ≡ contains f.now.own t) }
     ensures on { OnOk result ((P.state p.new).on ≡ (P.state p.old).on) }
     ensures room { j.old.spare ≤ j.new.spare + 2 }
     ensures room_left { OnOk result (j.old.spare ≤ j.new.spare + 1) }
@@ -183,6 +186,8 @@ pub fn keep_on<P: Plant>(
     ensures faults { Counted (is_err result) (P.state p.old).faults (P.state p.new).faults }
     ensures others { (q : ℕ) → copies_from v.0 (volume_seen (P.state p.old) c.now q).fields ≡ false → IsAsBefore (P.state p.old) (P.state p.new) c.now q }
     ensures show { AllShow (P.state p.old) (P.state p.new) c.now }
+    ensures stay { OthersStay (P.state p.old) (P.state p.new) c.now u.0 }
+    ensures held { OnOk result (KeepsTrack (P.state p.old) (P.state p.new) c.now v.0 t u.0) }
     ensures apart { (q : ℕ) → (copies_from v.0 (volume_seen (P.state p.old) c.now q).fields && not (volume_seen (P.state p.old) c.now q).fields.reversing) ≡ false → IsAsBefore (P.state p.old) (P.state p.new) c.now q }
     ensures on { OnOk result ((P.state p.new).on ≡ (P.state p.old).on) }
     ensures room { j.old.spare ≤ j.new.spare + 2 }

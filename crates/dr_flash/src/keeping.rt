@@ -12,7 +12,7 @@ ghost use Rattle.dr_flash.specs.Faults.{Counted};
 ghost use Rattle.dr_flash.specs.Fit.{RelationsFit};
 ghost use Rattle.dr_flash.specs.Here.{seen, refusal_of, armed_in, IsAtRest};
 ghost use Rattle.dr_flash.specs.Turns.{Leads, Fails};
-ghost use Rattle.dr_flash.specs.Views.{AllShow};
+ghost use Rattle.dr_flash.specs.Views.{AllShow, kept_for, KeepsTrack};
 
 use crate::keep::keep_on;
 use dr_config::Config;
@@ -47,6 +47,8 @@ pub fn copy_first<P: Plant>(
     ensures faults { Counted (is_err result) (P.state p.old).faults (P.state p.new).faults }
     ensures others { (q : ℕ) → copies_from v.0 (volume_seen (P.state p.old) c.now q).fields ≡ false → IsAsBefore (P.state p.old) (P.state p.new) c.now q }
     ensures show { AllShow (P.state p.old) (P.state p.new) c.now }
+    ensures held { OnOk result ((q : ℕ) → KeepsTrack (P.state p.old) (P.state p.new) c.now v.0 t q) }
+    ensures apart { (q : ℕ) → kept_for v.0 (volume_seen (P.state p.old) c.now q).fields ≡ false → IsAsBefore (P.state p.old) (P.state p.new) c.now q }
     ensures on { OnOk result ((P.state p.new).on ≡ (P.state p.old).on) }
     ensures room { j.old.spare ≤ j.new.spare + (length c.now.volumes + 1) }
     ensures room_left { OnOk result (j.old.spare ≤ j.new.spare + length c.now.volumes) }

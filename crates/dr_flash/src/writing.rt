@@ -18,6 +18,7 @@ ghost use Rattle.dr_flash.specs.Fit.{RelationsFit};
 ghost use Rattle.dr_flash.specs.Here.{seen, refusal_of, armed_in, IsAtRest};
 ghost use Rattle.dr_flash.specs.Turns.{room_of};
 ghost use Rattle.dr_flash.specs.declared.told.Told.TheVariants.{Nothing};
+ghost use Rattle.dr_flash.specs.Views.{view_seen, OthersShow, OthersShowBut, ReadsZeros};
 ghost use Rattle.dr_flash.specs.Writes.{EndsThen, MadeFrom, target_checks};
 
 use crate::acts::shift;
@@ -63,6 +64,10 @@ pub fn write_source<P: Plant>(
     ensures unarmed { (q : ℕ) → (P.state p.old).read_fuse q ≡ None → (P.state p.new).read_fuse q ≡ None }
     ensures faults { Counted (is_err result) (P.state p.old).faults (P.state p.new).faults }
     ensures others { (q : ℕ) → q ≢ v.0 → copies_from v.0 (volume_seen (P.state p.old) c.now q).fields ≡ false → IsAsBefore (P.state p.old) (P.state p.new) c.now q }
+    ensures written { OnOk result ((volume_seen (P.state p.old) c.now v.0).fields.related ≡ false → view_seen (P.state p.new) c.now v.0 t ≡ bytes.now) }
+    ensures other_tracks { OnOk result ((volume_seen (P.state p.old) c.now v.0).fields.related ≡ false → ReadsZeros (P.state p.old) c.now v.0 (plain next.now) t
+        → (k : ℕ) → k ≢ t → view_seen (P.state p.new) c.now v.0 k ≡ view_seen (P.state p.old) c.now v.0 k) }
+    ensures others_show { ReadsZeros (P.state p.old) c.now v.0 (plain next.now) t → OthersShowBut (P.state p.old) (P.state p.new) c.now v.0 t }
     ensures on { OnOk result ((P.state p.new).on ≡ (P.state p.old).on) }
     ensures room { j.old.spare ≤ j.new.spare + (length c.now.volumes + 1) }
     ensures spare { length j.new.events + j.new.spare ≡ length j.old.events + j.old.spare }
@@ -100,6 +105,10 @@ pub fn write_source_telling<P: Plant>(
     ensures unarmed { (q : ℕ) → (P.state p.old).read_fuse q ≡ None → (P.state p.new).read_fuse q ≡ None }
     ensures faults { Counted (is_err result) (P.state p.old).faults (P.state p.new).faults }
     ensures others { (q : ℕ) → q ≢ v.0 → copies_from v.0 (volume_seen (P.state p.old) c.now q).fields ≡ false → IsAsBefore (P.state p.old) (P.state p.new) c.now q }
+    ensures written { OnOk result ((volume_seen (P.state p.old) c.now v.0).fields.related ≡ false → view_seen (P.state p.new) c.now v.0 t ≡ bytes.now) }
+    ensures other_tracks { OnOk result ((volume_seen (P.state p.old) c.now v.0).fields.related ≡ false → ReadsZeros (P.state p.old) c.now v.0 (plain next.now) t
+        → (k : ℕ) → k ≢ t → view_seen (P.state p.new) c.now v.0 k ≡ view_seen (P.state p.old) c.now v.0 k) }
+    ensures others_show { ReadsZeros (P.state p.old) c.now v.0 (plain next.now) t → OthersShowBut (P.state p.old) (P.state p.new) c.now v.0 t }
     ensures on { OnOk result ((P.state p.new).on ≡ (P.state p.old).on) }
     ensures room { j.old.spare ≤ j.new.spare + (length c.now.volumes + room_of told.now) }
     ensures spare { length j.new.events + j.new.spare ≡ length j.old.events + j.old.spare }
@@ -135,6 +144,9 @@ fn overwrite<P: Plant>(
     ensures unarmed { (q : ℕ) → (P.state p.old).read_fuse q ≡ None → (P.state p.new).read_fuse q ≡ None }
     ensures faults { Counted (is_err result) (P.state p.old).faults (P.state p.new).faults }
     ensures others { OthersStay (P.state p.old) (P.state p.new) c.now v.0 }
+    ensures written { OnOk result (view_seen (P.state p.new) c.now v.0 t ≡ bytes.now) }
+    ensures other_tracks { OnOk result ((k : ℕ) → k ≢ t → view_seen (P.state p.new) c.now v.0 k ≡ view_seen (P.state p.old) c.now v.0 k) }
+    ensures others_show { OthersShow (P.state p.old) (P.state p.new) c.now v.0 }
     ensures on { OnOk result ((P.state p.new).on ≡ (P.state p.old).on) }
     ensures room { j.old.spare ≤ j.new.spare + room_of told.now }
     ensures spare { length j.new.events + j.new.spare ≡ length j.old.events + j.old.spare }
@@ -173,6 +185,9 @@ pub fn write_target<P: Plant>(
     ensures unarmed { (q : ℕ) → (P.state p.old).read_fuse q ≡ None → (P.state p.new).read_fuse q ≡ None }
     ensures faults { Counted (is_stop (refusal_of result)) (P.state p.old).faults (P.state p.new).faults }
     ensures others { OthersStay (P.state p.old) (P.state p.new) c.now v.0 }
+    ensures written { OnOk result (view_seen (P.state p.new) c.now v.0 t ≡ bytes.now) }
+    ensures other_tracks { OnOk result ((k : ℕ) → k ≢ t → view_seen (P.state p.new) c.now v.0 k ≡ view_seen (P.state p.old) c.now v.0 k) }
+    ensures others_show { OthersShow (P.state p.old) (P.state p.new) c.now v.0 }
     ensures on { OnOk result ((P.state p.new).on ≡ (P.state p.old).on) }
     ensures room { j.old.spare ≤ j.new.spare + room_of told.now }
     ensures spare { length j.new.events + j.new.spare ≡ length j.old.events + j.old.spare }

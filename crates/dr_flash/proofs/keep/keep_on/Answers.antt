@@ -1,4 +1,7 @@
-use Rattle.std.proofs.Common.{sym, ◌∙◌}
+use Rattle.std.proofs.Common.{◌≡◌, true, false, ap, sym, ◌∙◌}
+use Rattle.std.specs.FinSet.{contains}
+use Rattle.dr_model.specs.Layout.{Fields}
+use Rattle.dr_flash.specs.Views.{kept_for}
 use Rattle.dr_model.specs.Carry.{now}
 use Rattle.dr_model.specs.Moves.{Keep, Note}
 use Rattle.dr_model.specs.Entries as entries
@@ -49,3 +52,16 @@ returns-then-not-contains-clause-apart g c q other =
 pub returns-then-is_news-clause-apart : goal.returns-then-is_news-clause-apart
 returns-then-is_news-clause-apart g c q other =
     c.note.ensures.others q (apart-kept (g.P.Plant.state c.args.p.now) c.args.c.now c.args.v.0 c.args.u.0 q c.peek_fields-fields.result c.peek_fields-fields.ensures.fields (sym c.is_kept_for.ensures ∙ c.if-not-is_kept_for.false) other)
+
+pub returns-then-not-is_kept_for-clause-held : goal.returns-then-not-is_kept_for-clause-held
+returns-then-not-is_kept_for-clause-held g c is =
+    absurd (let never : true ≡ false = sym is ∙ ap (kept_for c.args.v.0) (sym c.peek_fields-fields.ensures.fields) ∙ sym c.is_kept_for.ensures ∙ c.if-not-is_kept_for.true in cc)
+
+pub returns-then-not-contains-clause-held : goal.returns-then-not-contains-clause-held
+returns-then-not-contains-clause-held g c = ok-along c.keep.result c.keep.ensures.held (λ h is. h)
+
+pub returns-then-is_news-clause-held : goal.returns-then-is_news-clause-held
+returns-then-is_news-clause-held g c = ok-along c.note.result c.note.ensures.held (λ same is related. same ∙ sym c.contains.ensures.found ∙ c.if-not-contains.false)
+
+pub returns-clause-held : goal.returns-clause-held
+returns-clause-held g c is related = ap (λ (f : Fields). contains f.own c.args.t) (sym c.peek_fields-fields.ensures.fields) ∙ sym c.contains.ensures.found ∙ c.if-not-contains.false

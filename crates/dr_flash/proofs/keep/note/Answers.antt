@@ -13,6 +13,8 @@ use Rattle.dr_model.specs.Relations.{noted}
 use Rattle.dr_flash.proofs.MoveLemmas.{MoveFits, note-fits, tells-note}
 use Rattle.dr_volume.specs.Update.{IsMoved}
 use Rattle.dr_flash.proofs.ShowLemmas.{show-either, noted-shows}
+use Rattle.std.specs.FinSet.{contains}
+use Rattle.dr_model.specs.Control.{Volume}
 use Rattle.dr_flash.proofs.keep.note.Goals as goal
 
 pub shift-requires-clause-lawful : goal.shift-requires-clause-lawful
@@ -53,3 +55,8 @@ returns-clause-show g c =
     show-either s u t c.args.u.0 (plain c.noted-next.result) None c.shift.ensures.others c.shift.ensures.old_or_new (λ is.
     noted-shows s u t c.args.u.0 c.requires.fit (sym (ap (λ (f : Fields). f.related) c.requires.shows.fields) ∙ c.requires.related) c.shift.ensures.others (noted f c.args.t) refl refl refl refl
     (subst (λ f. IsMoved s u t c.args.u.0 f None) (c.noted-next.ensures ∙ ap (λ f. noted f c.args.t) c.requires.shows.fields) is))
+
+pub returns-clause-held : goal.returns-clause-held
+returns-clause-held g c =
+    ok-along c.shift.result c.shift.ensures.moved (λ is.
+    ap (λ (x : Volume). contains x.fields.own c.args.t) is.volume ∙ ap (λ (f : Fields). contains f.own c.args.t) c.noted-next.ensures)

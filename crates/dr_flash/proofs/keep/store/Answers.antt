@@ -11,7 +11,7 @@ use Rattle.dr_model.specs.Relations.{closed, fetched, noted}
 use Rattle.dr_flash.proofs.MoveLemmas.{MoveFits, keep-fits, tells-keep}
 use Rattle.std.specs.FinSet.{contains}
 use Rattle.dr_volume.specs.Update.{IsMoved}
-use Rattle.dr_flash.proofs.ShowLemmas.{show-either, taken-shows}
+use Rattle.dr_flash.proofs.ShowLemmas.{show-either, taken-shows, taken-held}
 use Rattle.dr_flash.proofs.keep.store.Goals as goal
 
 pub shift-requires-clause-lawful : goal.shift-requires-clause-lawful
@@ -63,3 +63,14 @@ returns-clause-show g c =
     ∙ (λ i. closed (sym (c.tracks_of-tracks.ensures.seen s) i) (noted (fetched (c.requires.shows.fields i) c.args.t) c.args.t))) is)
     (sym (ap (λ (f : Fields). contains f.own c.args.t) c.requires.shows.fields) ∙ c.requires.missing)
     (c.requires.bytes ∙ ap (λ (f : Fields). track_seen s t f.source c.args.t) c.requires.shows.fields))
+
+pub returns-clause-held : goal.returns-clause-held
+returns-clause-held g c =
+    let s = g.P.Plant.state c.args.p.now in
+    let u = g.P.Plant.state c.shift.new.p in
+    let t = c.args.c.now in
+    let f : Fields = (volume_seen s t c.args.u.0).fields in
+    ok-along c.shift.result c.shift.ensures.moved (λ is.
+    taken-held s u t c.args.u.0 c.requires.fit (sym (ap (λ (f : Fields). f.related) c.requires.shows.fields) ∙ c.requires.related) c.shift.ensures.others (noted (fetched f c.args.t) c.args.t) refl refl c.args.t refl refl c.args.bytes.now
+    (subst (λ f. IsMoved s u t c.args.u.0 f (Some (c.args.t, c.args.bytes.now))) (c.closed-next.ensures ∙ ap (closed c.tracks_of-tracks.result) (c.noted.ensures ∙ ap (λ f. noted f c.args.t) c.fetched.ensures)
+    ∙ (λ i. closed (sym (c.tracks_of-tracks.ensures.seen s) i) (noted (fetched (c.requires.shows.fields i) c.args.t) c.args.t))) is))

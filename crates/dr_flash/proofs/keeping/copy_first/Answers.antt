@@ -7,6 +7,8 @@ use Rattle.dr_model.specs.Refusals.{stopped}
 use Rattle.dr_volume.specs.View.{volume_seen, ids_of}
 use Rattle.dr_flash.specs.Here.{seen, armed_in, refusal_of}
 use Rattle.dr_flash.proofs.CopyLemmas.{keeps_from, keeps-next, keeps-none, before-then, wider-armed, led, failed, volume-there, no-own}
+use Rattle.dr_flash.specs.Views.{kept_for}
+use Rattle.dr_flash.proofs.HeldLemmas.{held-below, same-or-held, held-all}
 use Rattle.dr_flash.proofs.EndsLemmas.{ends-wider}
 use Rattle.dr_flash.proofs.TurnLemmas.{err-always, refused-by}
 use Rattle.dr_flash.proofs.keeping.copy_first.Goals as goal
@@ -73,6 +75,13 @@ loop-place-preserved g c = record {
       before-then (g.P.Plant.state c.args.p.now) (g.P.Plant.state c.loop-place.p) (g.P.Plant.state c.keep_on.new.p) c.args.c.now q a
       (c.in_ok-keep_on.ensures.others q (ap (λ (x : Volume). copies_from c.args.v.0 x.fields) a.volume ∙ other));
   show = λ q k. c.in_ok-keep_on.ensures.show q k ∙ c.loop-place.invariant.show q k;
+  held = held-below (g.P.Plant.state c.args.p.now) (g.P.Plant.state c.loop-place.p) (g.P.Plant.state c.keep_on.new.p) c.args.c.now c.args.v.0 c.args.t c.unwrap-u.result.0 c.in_ok-keep_on.ensures.stay c.in_ok-keep_on.ensures.held c.in_ok-keep_on.ensures.apart
+      c.loop-place.place (sym (ap (option_map (λ (v : VolumeId). v.0)) c.unwrap-u.ensures) ∙ c.volume_at.ensures.value) c.loop-place.invariant.same_or_held c.loop-place.invariant.held;
+  same_or_held = same-or-held (g.P.Plant.state c.args.p.now) (g.P.Plant.state c.loop-place.p) (g.P.Plant.state c.keep_on.new.p) c.args.c.now c.args.v.0 c.args.t c.unwrap-u.result.0 c.in_ok-keep_on.ensures.stay c.in_ok-keep_on.ensures.held c.in_ok-keep_on.ensures.apart c.loop-place.invariant.same_or_held;
+  apart = λ q other.
+      let a = c.loop-place.invariant.apart q other in
+      before-then (g.P.Plant.state c.args.p.now) (g.P.Plant.state c.loop-place.p) (g.P.Plant.state c.keep_on.new.p) c.args.c.now q a
+      (c.in_ok-keep_on.ensures.apart q (ap (λ (x : Volume). kept_for c.args.v.0 x.fields) a.volume ∙ other));
   on = c.in_ok-keep_on.ensures.on ∙ c.loop-place.invariant.on;
   spare = let a = c.loop-place.invariant.spare in let b = c.in_ok-keep_on.ensures.room_left in omega (arith, a, b);
   sum = c.in_ok-keep_on.ensures.spare ∙ c.loop-place.invariant.sum;
@@ -106,3 +115,13 @@ returns-in_err-keep_on-clause-carried g c r =
 
 pub returns-in_err-keep_on-clause-show : goal.returns-in_err-keep_on-clause-show
 returns-in_err-keep_on-clause-show g c q k = c.in_err-keep_on.ensures.show q k ∙ c.loop-place.invariant.show q k
+
+pub returns-in_err-keep_on-clause-apart : goal.returns-in_err-keep_on-clause-apart
+returns-in_err-keep_on-clause-apart g c q other =
+    let a = c.loop-place.invariant.apart q other in
+    before-then (g.P.Plant.state c.args.p.now) (g.P.Plant.state c.loop-place.p) (g.P.Plant.state c.keep_on.new.p) c.args.c.now q a
+    (c.in_err-keep_on.ensures.apart q (ap (λ (x : Volume). kept_for c.args.v.0 x.fields) a.volume ∙ other))
+
+pub returns-clause-held : goal.returns-clause-held
+returns-clause-held g c =
+    held-all (g.P.Plant.state c.args.p.now) (g.P.Plant.state c.loop-place.p) c.args.c.now c.args.v.0 c.args.t c.loop-place.place (let e = c.volumes-place-end.ensures.count in let f = c.loop-place-test.false in omega (arith, e, f)) c.loop-place.invariant.held

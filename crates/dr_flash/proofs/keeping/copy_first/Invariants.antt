@@ -8,7 +8,8 @@ use Rattle.dr_volume.specs.Update.{IsAsBefore}
 use Rattle.dr_volume.specs.View.{Rest, volume_seen, ids_of}
 use Rattle.dr_flash.specs.Fit.{RelationsFit}
 use Rattle.dr_flash.specs.Here.{seen, IsAtRest}
-use Rattle.dr_flash.specs.Views.{AllShow}
+use Rattle.dr_flash.specs.Views.{AllShow, kept_for}
+use Rattle.dr_flash.proofs.HeldLemmas.{HeldBelow, SameOrHeld}
 use Rattle.dr_flash.proofs.CopyLemmas.{keeps_from}
 use Rattle.dr_flash.proofs.keeping.copy_first.Given as goal
 
@@ -23,6 +24,9 @@ invariant-loop-place g l = record {
   faults : (g.P.Plant.state l.p).faults ≡ (g.P.Plant.state l.fn.p).faults;
   others : (q : ℕ) → copies_from l.v.0 (volume_seen (g.P.Plant.state l.fn.p) l.c q).fields ≡ false → IsAsBefore (g.P.Plant.state l.fn.p) (g.P.Plant.state l.p) l.c q;
   show : AllShow (g.P.Plant.state l.fn.p) (g.P.Plant.state l.p) l.c;
+  held : HeldBelow (g.P.Plant.state l.fn.p) (g.P.Plant.state l.p) l.c l.v.0 l.t l.place;
+  same_or_held : SameOrHeld (g.P.Plant.state l.fn.p) (g.P.Plant.state l.p) l.c l.t;
+  apart : (q : ℕ) → kept_for l.v.0 (volume_seen (g.P.Plant.state l.fn.p) l.c q).fields ≡ false → IsAsBefore (g.P.Plant.state l.fn.p) (g.P.Plant.state l.p) l.c q;
   on : (g.P.Plant.state l.p).on ≡ (g.P.Plant.state l.fn.p).on;
   spare : l.fn.j.spare ≤ l.j.spare + l.place;
   sum : length l.j.events + l.j.spare ≡ length l.fn.j.events + l.fn.j.spare;

@@ -10,6 +10,10 @@ use Rattle.dr_flash.specs.Turns.{made_by}
 use Rattle.dr_flash.specs.Writes.{MadeFrom}
 use Rattle.dr_flash.proofs.WriteLemmas.{made-from}
 use Rattle.dr_flash.proofs.MoveLemmas.{MoveFits, overwrite-fits}
+use Rattle.std.proofs.Common.{refl}
+use Rattle.dr_volume.specs.Update.{IsMoved}
+use Rattle.dr_flash.proofs.TurnLemmas.{ok-along}
+use Rattle.dr_flash.proofs.ShowLemmas.{show-target, taken-track, taken-other}
 use Rattle.dr_flash.proofs.writing.overwrite.Goals as goal
 
 pub shift-requires-clause-lawful : goal.shift-requires-clause-lawful
@@ -30,3 +34,28 @@ returns-clause-made g c r =
     ∙ (λ i. closed (sym (c.tracks_of-tracks.ensures.seen (g.P.Plant.state c.args.p.now)) i) (rewritten (fetched (c.requires.shows.fields i) c.args.t) c.args.t)))
     (made-from c.shift.result (armed_in (g.P.Plant.state c.args.p.now)) (armed_in (g.P.Plant.state c.args.p.now)) (λ q h. h) (λ r. (seen (g.P.Plant.state c.args.p.now) c.args.c.now r c.args.j.now.events)) (λ r. (seen (g.P.Plant.state c.shift.new.p) c.args.c.now r c.shift.new.j.events)) (λ r. made_by (update (seen (g.P.Plant.state c.args.p.now) c.args.c.now r c.args.j.now.events) c.args.v.0 (plain c.closed-next.result) (Some (c.args.t, c.args.bytes.now))) (volume_seen (g.P.Plant.state c.args.p.now) c.args.c.now c.args.v.0).server c.args.told.now) (volume_seen (g.P.Plant.state c.args.p.now) c.args.c.now c.args.v.0).server
     c.shift.ensures.done c.shift.ensures.failed c.shift.ensures.refused r)
+
+pub returns-clause-written : goal.returns-clause-written
+returns-clause-written g c =
+    let s = g.P.Plant.state c.args.p.now in
+    let u = g.P.Plant.state c.shift.new.p in
+    let t = c.args.c.now in
+    let f : Fields = (volume_seen s t c.args.v.0).fields in
+    ok-along c.shift.result c.shift.ensures.moved (λ is.
+    taken-track s u t c.args.v.0 c.requires.fit c.requires.related c.shift.ensures.others (rewritten (fetched f c.args.t) c.args.t) refl refl c.args.t refl refl c.args.bytes.now
+    (subst (λ f. IsMoved s u t c.args.v.0 f (Some (c.args.t, c.args.bytes.now))) (c.closed-next.ensures ∙ ap (closed c.tracks_of-tracks.result) (c.rewritten.ensures ∙ ap (λ f. rewritten f c.args.t) c.fetched.ensures)
+    ∙ (λ i. closed (sym (c.tracks_of-tracks.ensures.seen s) i) (rewritten (fetched (c.requires.shows.fields i) c.args.t) c.args.t))) is))
+
+pub returns-clause-other_tracks : goal.returns-clause-other_tracks
+returns-clause-other_tracks g c =
+    let s = g.P.Plant.state c.args.p.now in
+    let u = g.P.Plant.state c.shift.new.p in
+    let t = c.args.c.now in
+    let f : Fields = (volume_seen s t c.args.v.0).fields in
+    ok-along c.shift.result c.shift.ensures.moved (λ is.
+    taken-other s u t c.args.v.0 c.requires.fit c.requires.related c.shift.ensures.others (rewritten (fetched f c.args.t) c.args.t) refl refl c.args.t refl refl c.args.bytes.now
+    (subst (λ f. IsMoved s u t c.args.v.0 f (Some (c.args.t, c.args.bytes.now))) (c.closed-next.ensures ∙ ap (closed c.tracks_of-tracks.result) (c.rewritten.ensures ∙ ap (λ f. rewritten f c.args.t) c.fetched.ensures)
+    ∙ (λ i. closed (sym (c.tracks_of-tracks.ensures.seen s) i) (rewritten (fetched (c.requires.shows.fields i) c.args.t) c.args.t))) is))
+
+pub returns-clause-others_show : goal.returns-clause-others_show
+returns-clause-others_show g c = show-target (g.P.Plant.state c.args.p.now) (g.P.Plant.state c.shift.new.p) c.args.c.now c.args.v.0 c.shift.ensures.others c.requires.fit c.requires.related

@@ -14,6 +14,8 @@ use Rattle.dr_flash.proofs.CopyLemmas.{no-own, before-then, wider-armed}
 use Rattle.dr_flash.proofs.FitLemmas.{fit-kept}
 use Rattle.dr_flash.proofs.TurnLemmas.{refused-by}
 use Rattle.dr_flash.proofs.WriteLemmas.{made-from}
+use Rattle.dr_flash.proofs.TurnLemmas.{ok-along}
+use Rattle.dr_flash.proofs.HeldLemmas.{never-related, stored-others, stored-own, stored-rest}
 use Rattle.dr_flash.proofs.writing.write_source_telling.Goals as goal
 
 pub returns-in_err-copy_first-clause-carried : goal.returns-in_err-copy_first-clause-carried
@@ -55,3 +57,17 @@ returns-clause-unarmed g c q none = c.shift.ensures.unarmed q (c.in_ok-copy_firs
 pub returns-clause-others : goal.returns-clause-others
 returns-clause-others g c q ne other =
     before-then (g.P.Plant.state c.args.p.now) (g.P.Plant.state c.copy_first.new.p) (g.P.Plant.state c.shift.new.p) c.args.c.now q (c.in_ok-copy_first.ensures.others q other) (c.shift.ensures.others q ne)
+
+pub returns-in_err-copy_first-clause-others_show : goal.returns-in_err-copy_first-clause-others_show
+returns-in_err-copy_first-clause-others_show g c zeros q k ne free = c.in_err-copy_first.ensures.show q k
+
+pub returns-clause-written : goal.returns-clause-written
+returns-clause-written g c = ok-along c.shift.result c.shift.ensures.moved (λ is was.
+    stored-own (g.P.Plant.state c.copy_first.new.p) (g.P.Plant.state c.shift.new.p) c.args.c.now c.args.v.0 c.args.t (plain c.args.next.now) c.args.bytes.now is (never-related (volume_seen (g.P.Plant.state c.args.p.now) c.args.c.now c.args.v.0).fields (plain c.args.next.now) (λ r. (c.requires.keeps r).0) was))
+
+pub returns-clause-other_tracks : goal.returns-clause-other_tracks
+returns-clause-other_tracks g c = ok-along c.shift.result c.shift.ensures.moved (λ is was zeros.
+    stored-rest (g.P.Plant.state c.args.p.now) (g.P.Plant.state c.copy_first.new.p) (g.P.Plant.state c.shift.new.p) c.args.c.now c.args.v.0 c.args.t (plain c.args.next.now) c.args.bytes.now c.in_ok-copy_first.ensures.show (c.in_ok-copy_first.ensures.others c.args.v.0 (no-own (g.P.Plant.state c.args.p.now) c.args.c.now c.args.v.0 c.requires.fit)).tracks zeros is (never-related (volume_seen (g.P.Plant.state c.args.p.now) c.args.c.now c.args.v.0).fields (plain c.args.next.now) (λ r. (c.requires.keeps r).0) was) was)
+
+pub returns-clause-others_show : goal.returns-clause-others_show
+returns-clause-others_show g c zeros = stored-others (g.P.Plant.state c.args.p.now) (g.P.Plant.state c.copy_first.new.p) (g.P.Plant.state c.shift.new.p) c.args.c.now c.args.v.0 c.args.t (plain c.args.next.now) c.args.bytes.now c.in_ok-copy_first.ensures.show (c.in_ok-copy_first.ensures.others c.args.v.0 (no-own (g.P.Plant.state c.args.p.now) c.args.c.now c.args.v.0 c.requires.fit)).tracks zeros c.in_ok-copy_first.ensures.held c.in_ok-copy_first.ensures.apart c.shift.ensures.others c.shift.ensures.old_or_new
