@@ -17,7 +17,7 @@ use Rattle.dr_model.specs.Views.{shows_source, source_of}
 use Rattle.dr_model.specs.declared.event.Event.{Event}
 use Rattle.dr_model.proofs.Images.{at_same}
 use Rattle.dr_volume.specs.View.{Rest, volume_seen, track_seen}
-use Rattle.dr_model.specs.Laws.{Structure, Recorded}
+use Rattle.dr_model.specs.Laws.{Structure, Blank, Recorded}
 use Rattle.dr_model.specs.Table.{table}
 use Rattle.dr_flash.proofs.CheckLemmas.{same-test}
 use Rattle.dr_incr.specs.Steps.{HasFitSets}
@@ -26,7 +26,7 @@ use Rattle.dr_flash.specs.Fit.{RelationsFit}
 use Rattle.dr_flash.specs.Here.{seen}
 use Rattle.dr_flash.specs.Turns.{made_by}
 use Rattle.dr_flash.specs.declared.told.Telling.{Telling}
-use Rattle.dr_incr.specs.Copies.{HoldsUnchanged, shown}
+use Rattle.dr_incr.specs.Copies.{HoldsUnchanged, BlankAreZeros, shown}
 use Rattle.dr_incr.proofs.TargetLemmas.{TargetOf, both}
 
 -- what a move that was done made of its volume
@@ -104,6 +104,9 @@ related-source f related = ap (λ b. if b then Some f.source else None) related
 pub holds-by_laws : (s : PlantState) (c : Table) (r : Rest) (events : List Event) → Recorded (table (seen s c r events)) → (t : ℕ) → HoldsUnchanged s c t
 holds-by_laws s c r events law t related recorded forward k own noted rewritten =
     law t (volume_seen s c t).fields.source (related-source (volume_seen s c t).fields related) recorded forward k own noted rewritten
+
+pub blank-by_laws : (s : PlantState) (c : Table) (r : Rest) (events : List Event) → Blank (table (seen s c r events)) → (v : ℕ) → BlankAreZeros s c v
+blank-by_laws s c r events law v = law v
 
 pub sets-by_laws : (s : PlantState) (c : Table) (r : Rest) (events : List Event) → Structure (table (seen s c r events)) → (t : ℕ) → HasFitSets (volume_seen s c t).fields
 sets-by_laws s c r events law t = law.sets t

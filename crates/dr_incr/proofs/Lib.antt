@@ -2,3 +2,4 @@ pub mod RestoreLemmas
 pub mod StepLemmas
 pub mod TargetLemmas
 pub mod CopyLaws
+pub mod BackLaws

@@ -43,10 +43,10 @@ either-of false b h f g = g h
 minus-held : (a b : Tracks) (q : ℕ) → contains (difference a b) q ≡ true → contains a q ≡ true
 minus-held a b q h = both-first (contains a q) (not (contains b q)) (sym (contains-minus_tracks a b q) ∙ h)
 
-remove-held : (a : Tracks) (k q : ℕ) → contains (remove a k) q ≡ true → contains a q ≡ true
+pub remove-held : (a : Tracks) (k q : ℕ) → contains (remove a k) q ≡ true → contains a q ≡ true
 remove-held a k q h = both-second _ (contains a q) (sym (contains-remove_tracks a k q) ∙ h)
 
-union-held : (a b own : Tracks) → ((q : ℕ) → contains a q ≡ true → contains own q ≡ true) → ((q : ℕ) → contains b q ≡ true → contains own q ≡ true) → (q : ℕ) → contains (union a b) q ≡ true → contains own q ≡ true
+pub union-held : (a b own : Tracks) → ((q : ℕ) → contains a q ≡ true → contains own q ≡ true) → ((q : ℕ) → contains b q ≡ true → contains own q ≡ true) → (q : ℕ) → contains (union a b) q ≡ true → contains own q ≡ true
 union-held a b own f g q h = either-of (contains a q) (contains b q) (sym (contains-union_tracks a b q) ∙ h) (f q) (g q)
 
 -- the fields of a target with other tracks of its own and other changes

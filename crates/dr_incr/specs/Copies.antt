@@ -3,6 +3,7 @@ use Rattle.std.specs.Prelude.{◌≡◌, ℕ, true, false, List}
 use Rattle.std.specs.FinSet.{contains}
 use Rattle.dr_plant.specs.State.{PlantState}
 use Rattle.dr_config.specs.Table.{Table}
+use Rattle.dr_model.specs.Contents.{zeros}
 use Rattle.dr_model.specs.Views.{view}
 use Rattle.dr_volume.specs.View.{volume_seen, track_seen}
 
@@ -16,3 +17,13 @@ HoldsUnchanged s c t =
 -- what track k of volume v reads as
 abbrev pub shown : PlantState → Table → ℕ → ℕ → List ℕ
 shown s c v k = view (λ u. (volume_seen s c u).fields) (track_seen s c) v k
+
+-- the blank tracks of a volume are zeros
+abbrev pub BlankAreZeros : PlantState → Table → ℕ → Type 0
+BlankAreZeros s c v = (k : ℕ) → contains (volume_seen s c v).fields.blank k ≡ true → track_seen s c v k ≡ zeros
+
+-- From x to y, target t of s shows what it showed; or its relationship has ended, and s has what t showed, and t is zeros.
+abbrev pub Restores : PlantState → PlantState → Table → ℕ → ℕ → Type 0
+Restores x y c s t =
+    ((volume_seen y c t).fields.related ≡ true → (k : ℕ) → shown y c t k ≡ shown x c t k)
+    × ((volume_seen y c t).fields.related ≡ false → (k : ℕ) → (track_seen y c s k ≡ shown x c t k) × (shown y c t k ≡ zeros))

@@ -1,6 +1,6 @@
 //! A target is restored onto its source, track by track.
 
-ghost use Rattle.std.specs.Prelude.{◌≡◌, ℕ, ◌<◌, ◌≤◌, ◌+◌, true, false, ◌||◌, nat_eq, [], ◌∷◌, length, None, Some, IsSome, IfOk, OnOk, OnErr, is_err, is_some};
+ghost use Rattle.std.specs.Prelude.{◌≡◌, ◌≢◌, ℕ, ◌<◌, ◌≤◌, ◌+◌, true, false, ◌||◌, nat_eq, [], ◌∷◌, length, None, Some, IsSome, IfOk, OnOk, OnErr, is_err, is_some};
 ghost use Rattle.dr_config.specs.Table.{place_of};
 ghost use Rattle.dr_model.specs.Carry.{now};
 ghost use Rattle.dr_model.specs.Entries.{copies_from, give_back, for_lowest};
@@ -15,6 +15,7 @@ ghost use Rattle.dr_flash.specs.Faults.{Counted};
 ghost use Rattle.dr_flash.specs.Fit.{RelationsFit};
 ghost use Rattle.dr_flash.specs.Here.{seen, refusal_of, armed_in, IsAtRest};
 ghost use Rattle.dr_flash.specs.Turns.{Leads, Fails};
+ghost use Rattle.dr_incr.specs.Copies.{HoldsUnchanged, BlankAreZeros, Restores};
 ghost use Rattle.dr_incr.specs.Steps.{HasFitSets, IsRestoredOnto, reverse_entries};
 
 use crate::checks::{lone_refusal, resync_refusal};
@@ -31,7 +32,8 @@ use dr_volume::peek_fields;
 /// changed the restore ends at once. The caller knows both volumes. Refused where the server of s is off, then where t is
 /// no target of s whose changes are recorded, or is revertible or restored, and then where another target of s is. Fails
 /// too where the server stops in the move or goes off at a read. The journal needs room for an event for each track and
-/// two more.
+/// two more. Where what t held unchanged was the same as its source's, t shows what it showed; where nothing changed, s has
+/// that, and t reads zeros.
 pub fn reverse_start<P: Plant>(
     p: &mut P,
     c: &Config,
@@ -50,6 +52,7 @@ pub fn reverse_start<P: Plant>(
     ensures fails { OnErr result ((r : Rest) → Fails (armed_in (P.state p.old)) (seen (P.state p.old) c.now r j.old.events) (reverse_entries (seen (P.state p.old) c.now r j.old.events).control s.0 t.0) (seen (P.state p.new) c.now r j.new.events) (refusal_of result)) }
     ensures unchanged { is_stop (refusal_of result) ≡ false → OnErr result ((P.state p.new ≡ P.state p.old) × (j.new ≡ j.old)) }
     ensures moved { OnOk result (IsMoved (P.state p.old) (P.state p.new) c.now t.0 (relations.restored (volume_seen (P.state p.old) c.now t.0).tracks (relations.turned (volume_seen (P.state p.old) c.now t.0).fields)) None) }
+    ensures restores { OnOk result (HoldsUnchanged (P.state p.old) c.now t.0 → Restores (P.state p.old) (P.state p.new) c.now s.0 t.0) }
     ensures refused { is_stop (refusal_of result) ≡ true → refusal_of result ≡ Some (stopped (volume_seen (P.state p.old) c.now s.0).server) }
     ensures rest { IsAtRest (P.state p.new) c.now }
     ensures fit { RelationsFit (P.state p.new) c.now }
@@ -128,6 +131,7 @@ fn give_back<P: Plant>(
     ensures fails { OnErr result ((r : Rest) → Fails (armed_in (P.state p.old)) (seen (P.state p.old) c.now r j.old.events) (give_back (ids_of c.now.volumes) s.0 t.0) (seen (P.state p.new) c.now r j.new.events) (refusal_of result)) }
     ensures moved { OnOk result (IsMoved (P.state p.old) (P.state p.new) c.now t.0 (relations.restored (volume_seen (P.state p.old) c.now t.0).tracks (relations.given_up (volume_seen (P.state p.old) c.now t.0).fields k)) None) }
     ensures back { OnOk result (track_seen (P.state p.new) c.now s.0 k ≡ track_seen (P.state p.old) c.now t.0 k) }
+    ensures kept { OnOk result (BlankAreZeros (P.state p.old) c.now s.0 → (q : ℕ) → q ≢ k → track_seen (P.state p.new) c.now s.0 q ≡ track_seen (P.state p.old) c.now s.0 q) }
     ensures refused { OnErr result (refusal_of result ≡ Some (stopped (volume_seen (P.state p.old) c.now t.0).server)) }
     ensures rest { IsAtRest (P.state p.new) c.now }
     ensures fit { RelationsFit (P.state p.new) c.now }
@@ -150,7 +154,8 @@ fn give_back<P: Plant>(
 /// The other targets of the source keep theirs first; then the source stores the track, and t gives it up; with the last
 /// one the restore ends. False exactly where t holds no track, and then nothing changes. Fails where the server stops in a
 /// move or goes off at a read; what was done by then stays. The journal needs room for an event for each volume, one for
-/// each track of t and three more.
+/// each track of t and three more. Where the source's blank tracks are zeros, t shows what it showed; with the last track the
+/// source has that, and t reads zeros.
 pub fn reverse_step<P: Plant>(
     p: &mut P,
     c: &Config,
@@ -170,6 +175,7 @@ pub fn reverse_step<P: Plant>(
     ensures none { IfOk result (λ b. b ≡ false → (P.state p.new ≡ P.state p.old) × (j.new ≡ j.old)) }
     ensures moved { (k : ℕ) → relations.lowest (volume_seen (P.state p.old) c.now t.0).tracks (volume_seen (P.state p.old) c.now t.0).fields.own ≡ Some k → OnOk result (IsMoved (P.state p.old) (P.state p.new) c.now t.0 (relations.restored (volume_seen (P.state p.old) c.now t.0).tracks (relations.given_up (volume_seen (P.state p.old) c.now t.0).fields k)) None) }
     ensures back { (k : ℕ) → relations.lowest (volume_seen (P.state p.old) c.now t.0).tracks (volume_seen (P.state p.old) c.now t.0).fields.own ≡ Some k → OnOk result (track_seen (P.state p.new) c.now (volume_seen (P.state p.old) c.now t.0).fields.source k ≡ track_seen (P.state p.old) c.now t.0 k) }
+    ensures restores { OnOk result ((s : ℕ) → IsRestoredOnto s (volume_seen (P.state p.old) c.now t.0).fields → (volume_seen (P.state p.old) c.now t.0).fields.related ≡ true → BlankAreZeros (P.state p.old) c.now s → Restores (P.state p.old) (P.state p.new) c.now s t.0) }
     ensures refused { OnErr result (refusal_of result ≡ Some (stopped (volume_seen (P.state p.old) c.now t.0).server)) }
     ensures rest { IsAtRest (P.state p.new) c.now }
     ensures fit { RelationsFit (P.state p.new) c.now }

@@ -17,6 +17,8 @@ use Rattle.dr_incr.proofs.StepLemmas.{then-leads, then-fails, fails-first, lowes
 use Rattle.dr_incr.proofs.TargetLemmas.{target-of, lowest-below, neither, differs, other-target, same-lowest}
 use Rattle.dr_model.specs.Relations.{restored, given_up}
 use Rattle.dr_incr.proofs.CopyLaws.{moved-after, stored-track}
+use Rattle.std.specs.FinSet.{remove}
+use Rattle.dr_incr.proofs.BackLaws.{stored-other}
 use Rattle.dr_incr.proofs.restore.give_back.Goals as goal
 
 pub keep_others-requires-clause-within : goal.keep_others-requires-clause-within
@@ -149,3 +151,18 @@ returns-clause-goes_on g c =
     let apart = (target-of s t c.args.s.0 c.args.t.0 c.requires.fit c.requires.copies).apart in
     let same = before-then s (g.P.Plant.state c.keep_others.new.p) (g.P.Plant.state c.take_back.new.p) t c.args.t.0 c.in_ok-keep_others.ensures.aside (c.in_ok-take_back.ensures.others c.args.t.0 apart) in
     ok-along c.reverse_finish.result c.reverse_finish.ensures.goes_on (λ on from is. on from (subst (λ (x : Volume). IsRestoredOnto from x.fields) (sym same.volume) is))
+
+pub returns-clause-kept : goal.returns-clause-kept
+returns-clause-kept g c =
+    let x = g.P.Plant.state c.args.p.now in
+    let x1 = g.P.Plant.state c.keep_others.new.p in
+    let x2 = g.P.Plant.state c.take_back.new.p in
+    let t = c.args.c.now in
+    let k = c.args.k in
+    let apart = (target-of x t c.args.s.0 c.args.t.0 c.requires.fit c.requires.copies).apart in
+    let same = before-then x x1 x2 t c.args.t.0 c.in_ok-keep_others.ensures.aside (c.in_ok-take_back.ensures.others c.args.t.0 apart) in
+    ok-along c.reverse_finish.result (c.reverse_finish.ensures.moved k (same-lowest x x2 t c.args.t.0 k same c.requires.held)) (λ is blank q ne.
+    ap (λ (f : ℕ → List ℕ). f q) (c.reverse_finish.ensures.others c.args.s.0 (λ same. apart (sym same))).tracks
+    ∙ stored-other x x2 t c.args.s.0 k _
+    (moved-after x x1 x2 t c.args.s.0 (λ (z : Volume). record z.fields { blank = remove z.fields.blank k }) _ (c.in_ok-keep_others.ensures.others c.args.s.0 (no-own x t c.args.s.0 c.requires.fit)) c.in_ok-take_back.ensures.moved)
+    blank q ne)

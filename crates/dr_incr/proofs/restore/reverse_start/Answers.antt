@@ -5,6 +5,7 @@ use Rattle.dr_flash.proofs.TurnLemmas.{ok-along, err-along}
 use Rattle.dr_incr.specs.Steps.{reverse_entries}
 use Rattle.dr_incr.proofs.StepLemmas.{ends-by, stop-refused}
 use Rattle.dr_incr.proofs.TargetLemmas.{target-of}
+use Rattle.dr_incr.proofs.BackLaws.{turn-restores}
 use Rattle.dr_incr.proofs.restore.reverse_start.Goals as goal
 
 pub returns-in-Some-clause-carried : goal.returns-in-Some-clause-carried
@@ -50,3 +51,11 @@ returns-clause-faults g c = counted-stop c.turn_back.result _ _ _ c.turn_back.en
 
 pub returns-clause-unchanged : goal.returns-clause-unchanged
 returns-clause-unchanged g c calm = only-stops _ c.turn_back.result _ c.turn_back.ensures.refused calm
+
+pub returns-clause-restores : goal.returns-clause-restores
+returns-clause-restores g c =
+    let x = g.P.Plant.state c.args.p.now in
+    let t = c.args.c.now in
+    let to = target-of x t c.args.s.0 c.args.t.0 c.requires.fit c.in_default.ensures.related in
+    ok-along c.turn_back.result c.turn_back.ensures.moved (λ is holds.
+    turn-restores x (g.P.Plant.state c.turn_back.new.p) t c.args.s.0 c.args.t.0 to c.requires.fit c.requires.sets c.turn_back.ensures.others c.in_default.ensures.recorded c.in_default.ensures.forward holds is)

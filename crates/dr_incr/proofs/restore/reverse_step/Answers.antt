@@ -1,4 +1,4 @@
-use Rattle.std.proofs.Common.{ℕ, Option, None, ◌≡◌, sym, subst, ap, ◌∙◌, Some}
+use Rattle.std.proofs.Common.{ℕ, Option, None, refl, true, false, ◌≢◌, ◌≡◌, sym, subst, ap, ◌∙◌, Some}
 use Rattle.dr_model.specs.Layout.{Fields}
 use Rattle.dr_model.specs.Relations.{lowest}
 use Rattle.dr_model.specs.Entries.{give_back}
@@ -12,6 +12,9 @@ use Rattle.dr_incr.proofs.TargetLemmas.{holder-related, copies-source}
 use Rattle.dr_model.specs.Relations.{restored, given_up}
 use Rattle.dr_volume.specs.View.{track_seen}
 use Rattle.dr_volume.specs.Update.{IsMoved}
+use Rattle.dr_incr.proofs.TargetLemmas.{target-of}
+use Rattle.dr_incr.specs.Copies.{BlankAreZeros}
+use Rattle.dr_incr.proofs.BackLaws.{back-restores}
 use Rattle.dr_incr.proofs.restore.reverse_step.Goals as goal
 
 pub returns-in_default-clause-leads : goal.returns-in_default-clause-leads
@@ -72,3 +75,19 @@ pub returns-clause-back : goal.returns-clause-back
 returns-clause-back g c k held =
     subst (λ n. track_seen (g.P.Plant.state c.give_back.new.p) c.args.c.now (volume_seen (g.P.Plant.state c.args.p.now) c.args.c.now c.args.t.0).fields.source n ≡ track_seen (g.P.Plant.state c.args.p.now) c.args.c.now c.args.t.0 n) (one-of c.in-Some.k k ((λ i. lowest (c.tracks_of.ensures.seen (g.P.Plant.state c.args.p.now) i) (sym c.peek_fields-fields.ensures.fields i).own) ∙ sym c.lowest.ensures.lowest ∙ c.in-Some.is) held)
     (subst (λ n. track_seen (g.P.Plant.state c.give_back.new.p) c.args.c.now n c.in-Some.k ≡ track_seen (g.P.Plant.state c.args.p.now) c.args.c.now c.args.t.0 c.in-Some.k) (ap (λ (f : Fields). f.source) c.peek_fields-fields.ensures.fields) c.in_ok-give_back.ensures.back)
+
+pub returns-in_default-clause-restores : goal.returns-in_default-clause-restores
+returns-in_default-clause-restores g c s is related blank = (λ on k. refl, λ over. absurd (let e : true ≡ false = sym related ∙ over in cc))
+
+pub returns-clause-restores : goal.returns-clause-restores
+returns-clause-restores g c s is related blank =
+    let x = g.P.Plant.state c.args.p.now in
+    let y = g.P.Plant.state c.give_back.new.p in
+    let t = c.args.c.now in
+    let from = ap (λ (f : Fields). f.source) c.peek_fields-fields.ensures.fields ∙ (is related).1 in
+    let to = target-of x t s c.args.t.0 c.requires.fit (copies-source s (volume_seen x t c.args.t.0).fields related (sym (is related).1)) in
+    back-restores x y t s c.args.t.0 to c.requires.fit c.in-Some.k
+    ((λ i. lowest (c.tracks_of.ensures.seen x i) (sym c.peek_fields-fields.ensures.fields i).own) ∙ sym c.lowest.ensures.lowest ∙ c.in-Some.is)
+    c.in_ok-give_back.ensures.moved
+    (subst (λ n. track_seen y t n c.in-Some.k ≡ track_seen x t c.args.t.0 c.in-Some.k) from c.in_ok-give_back.ensures.back)
+    (subst (λ n. (q : ℕ) → q ≢ c.in-Some.k → track_seen y t n q ≡ track_seen x t n q) from (c.in_ok-give_back.ensures.kept (subst (λ n. BlankAreZeros x t n) (sym from) blank)))

@@ -1,0 +1,161 @@
+-- What a restore brings back.
+use Rattle.std.proofs.Common.{ℕ, List, [], ◌∷◌, Option, ◌≡◌, ◌≢◌, ◌+◌, arith, Bool, true, false, not, ◌&&◌, ◌||◌, cond, nat_eq, nat_lt, inl, inr, refl, sym, ◌∙◌, ap, None, Some, slice_get}
+use Rattle.std.specs.Prelude.{if◌then◌else◌, filter}
+use Rattle.std.specs.List.{range_with_len}
+use Rattle.std.specs.Cmp.{nat_cmp_total}
+use Rattle.std.specs.FinSet.{contains, insert, remove, union, len, len-insert}
+use Rattle.std.proofs.lemmas.Bool.Decides.{eqb_tells, nat_tests}
+use Rattle.dr_bits.specs.Tracks.{Tracks}
+use Rattle.dr_bits.proofs.Laws.{same_tracks, contains-insert_tracks, contains-remove_tracks, contains-union_tracks}
+use Rattle.dr_plant.specs.State.{PlantState}
+use Rattle.dr_config.specs.Table.{Table, place_of}
+use Rattle.dr_config.specs.declared.entries.VolumeEntry.{VolumeEntry}
+use Rattle.dr_model.specs.Contents.{zeros}
+use Rattle.dr_model.specs.Control.{Volume}
+use Rattle.dr_model.specs.Layout.{Blocks, Fields, physical}
+use Rattle.dr_model.specs.Moves.{tracks_after}
+use Rattle.dr_model.specs.Relations.{in_order, lowest, is_bare, turned, given_up, restored, withdrawn_if}
+use Rattle.dr_model.specs.Views.{shows_source}
+use Rattle.dr_volume.specs.Update.{IsMoved, OthersStay}
+use Rattle.dr_volume.specs.View.{volume_seen, track_seen, volume_at, track_at, volume_on, track_on}
+use Rattle.dr_flash.specs.Fit.{RelationsFit}
+use Rattle.dr_flash.proofs.CheckLemmas.{same-test, differ-test}
+use Rattle.dr_flash.proofs.SetLaws.{contains-rest}
+use Rattle.dr_flash.proofs.ViewLemmas.{view-source, view-own}
+use Rattle.dr_incr.specs.Copies.{HoldsUnchanged, BlankAreZeros, Restores, shown}
+use Rattle.dr_incr.specs.Steps.{HasFitSets}
+use Rattle.dr_incr.proofs.RestoreLemmas.{remove-held, union-held}
+use Rattle.dr_incr.proofs.TargetLemmas.{TargetOf, neither}
+
+-- past its last track a volume reads zeros
+past-on : (blocks : Blocks) (o : Option VolumeEntry) (k : ℕ) → nat_lt k (volume_on blocks o).tracks ≡ false → track_on blocks o k ≡ zeros
+past-on blocks None k h = refl
+past-on blocks (Some e) k h = ap (λ b. if b then physical e.tracks blocks k else zeros) h
+
+past-at : (s : PlantState) (t : Table) (o : Option ℕ) (k : ℕ) → nat_lt k (volume_at s t o).tracks ≡ false → track_at s t o k ≡ zeros
+past-at s t None k h = refl
+past-at s t (Some d) k h = past-on (s.block d) (slice_get t.volumes d) k h
+
+-- a set without tracks holds none
+contains-bare : (s : Tracks) (q : ℕ) → is_bare s ≡ true → contains s q ≡ false
+contains-bare s q bare = elim (contains s q) as (λ b. contains s q ≡ b → b ≡ false) [
+  | false ↦ λ missing. refl
+  | true ↦ λ held. absurd (more held)
+] refl
+  where
+    whole : contains s q ≡ true → insert (remove s q) q ≡ s
+    whole held = same_tracks _ _ (λ k. contains-insert_tracks (remove s q) q k ∙ ap (λ b. nat_eq k q || b) (contains-remove_tracks s q k) ∙ elim (eqb_tells k q) as (λ _. (nat_eq k q || (not (nat_eq k q) && contains s k)) ≡ contains s k) [
+      | inl p ↦ ap (λ b. b || (not b && contains s k)) p.0 ∙ sym (ap (contains s) p.1 ∙ held)
+      | inr p ↦ ap (λ b. b || (not b && contains s k)) p.0
+    ])
+
+    gone : contains (remove s q) q ≡ false
+    gone = contains-remove_tracks s q q ∙ ap (λ b. not b && contains s q) (same-test q q refl)
+
+    more : contains s q ≡ true → ⊥
+    more held =
+        let one : len (insert (remove s q) q) ≡ len (remove s q) + 1 = len-insert nat_cmp_total (remove s q) q ∙ ap (λ b. cond b (len (remove s q)) (len (remove s q) + 1)) gone in
+        let all : len (insert (remove s q) q) ≡ len s = ap len (whole held) in
+        let none : len s ≡ 0 = grind (arith, nat_tests, bare) in
+        omega (arith, one, all, none)
+
+-- the lowest track of a set is one of them
+first-held : (f : ℕ → Bool) (k : ℕ) (xs : List ℕ) → slice_get (filter f xs) 0 ≡ Some k → f k ≡ true
+first-held f k [] h = absurd cc
+first-held f k (x ∷ xs) h = by (f x) refl (first-held f k xs) h
+  where
+    by : (b : Bool) → f x ≡ b → (slice_get (filter f xs) 0 ≡ Some k → f k ≡ true) → slice_get (cond b (x ∷ filter f xs) (filter f xs)) 0 ≡ Some k → f k ≡ true
+    by true is on h = let same : x ≡ k = cc in ap f (sym same) ∙ is
+    by false is on h = on h
+
+lowest-held : (n k : ℕ) (own : Tracks) → lowest n own ≡ Some k → contains own k ≡ true
+unfolding in_order
+lowest-held n k own h = first-held (contains own) k (range_with_len 0 n) h
+
+-- a volume that stores a track keeps the others
+pub stored-other : (x u : PlantState) (c : Table) (v k : ℕ) (bytes : List ℕ) → IsMoved x u c v (record (volume_seen x c v).fields { blank = remove (volume_seen x c v).fields.blank k }) (Some (k, bytes)) → BlankAreZeros x c v
+    → (q : ℕ) → q ≢ k → track_seen u c v q ≡ track_seen x c v q
+stored-other x u c v k bytes is blank q ne =
+    ap (λ (z : ℕ → List ℕ). z q) is.tracks
+    ∙ ap (λ b. if b then bytes else if contains (remove (volume_seen x c v).fields.blank k) q then zeros else track_seen x c v q) (differ-test q k ne)
+    ∙ elim (contains (remove (volume_seen x c v).fields.blank k) q) as (λ b. contains (remove (volume_seen x c v).fields.blank k) q ≡ b → (if b then zeros else track_seen x c v q) ≡ track_seen x c v q) [
+      | false ↦ λ plain. refl
+      | true ↦ λ held. sym (blank q (remove-held (volume_seen x c v).fields.blank k q held))
+    ] refl
+
+module _ (x y : PlantState) (c : Table) (s t : ℕ) (to : TargetOf x c s t) where
+  abbrev f : Fields
+  f = (volume_seen x c t).fields
+
+  abbrev n : ℕ
+  n = (volume_seen x c t).tracks
+
+  held-shown : (k : ℕ) → contains f.own k ≡ true → shown x c t k ≡ track_seen x c t k
+  held-shown k held = view-own x c t k (λ i. to.related i && not (held i))
+
+  shared-shown : (k : ℕ) → contains f.own k ≡ false → shown x c t k ≡ track_seen x c s k
+  shared-shown k missing = view-source x c t k (volume_seen x c t) refl to.related missing ∙ ap (λ z. track_seen x c z k) to.source
+
+  -- the target holds these tracks from then on, or its relationship ends
+  restores-by : (g : Fields) → g.related ≡ true → g.source ≡ s → IsMoved x y c t (restored n g) None
+      → ((k : ℕ) → contains g.own k ≡ false → track_seen y c s k ≡ shown x c t k)
+      → ((k : ℕ) → contains g.own k ≡ true → (if contains g.blank k then zeros else track_seen x c t k) ≡ shown x c t k)
+      → Restores x y c s t
+  restores-by g related source is shared held =
+      let by = pick (is_bare g.own) refl in
+      (λ on k. moves k ∙ by.0 (sym (ap (λ (z : Volume). z.fields.related) is.volume) ∙ on) k, λ over k. let z = by.1 (sym (ap (λ (z : Volume). z.fields.related) is.volume) ∙ over) k in (z.0, moves k ∙ z.1))
+    where
+      after : Bool → ℕ → List ℕ
+      after b k = if shows_source (withdrawn_if b n g) k then track_seen y c (withdrawn_if b n g).source k else tracks_after (withdrawn_if b n g) None (track_seen x c t) k
+
+      moves : (k : ℕ) → shown y c t k ≡ after (is_bare g.own) k
+      moves k i = if shows_source (is.volume i).fields k then track_seen y c (is.volume i).fields.source k else is.tracks i k
+
+      past : (k : ℕ) (low : Bool) → nat_lt k n ≡ low → (if low && true then zeros else track_seen x c t k) ≡ zeros
+      past k true low = refl
+      past k false high = past-at x c (place_of c t) k high
+
+      shows : (k : ℕ) (o : Bool) → contains g.own k ≡ o → after false k ≡ shown x c t k
+      shows k true own = (λ i. if related i && not (own i) then track_seen y c g.source k else tracks_after g None (track_seen x c t) k) ∙ held k own
+      shows k false own = (λ i. if related i && not (own i) then track_seen y c (source i) k else tracks_after g None (track_seen x c t) k) ∙ shared k own
+
+      pick : (b : Bool) → is_bare g.own ≡ b → ((withdrawn_if b n g).related ≡ true → (k : ℕ) → after b k ≡ shown x c t k) × ((withdrawn_if b n g).related ≡ false → (k : ℕ) → (track_seen y c s k ≡ shown x c t k) × (after b k ≡ zeros))
+      pick true bare = (
+        λ on. absurd cc,
+        λ over k.
+            let none = contains-bare g.own k bare in
+            (shared k none, ap (λ b. if b then zeros else track_seen x c t k) (contains-rest n g.own k) ∙ ap (λ b. if nat_lt k n && not b then zeros else track_seen x c t k) none ∙ past k (nat_lt k n) refl),
+      )
+      pick false some = (λ on k. shows k (contains g.own k) refl, λ over. absurd (let e : true ≡ false = sym related ∙ over in cc))
+
+  module _ (fit : RelationsFit x c) where
+    kept-shown : (k : ℕ) → contains f.own k ≡ true → (if contains f.blank k then zeros else track_seen x c t k) ≡ shown x c t k
+    kept-shown k held = ap (λ b. if b then zeros else track_seen x c t k) (fit.apart t k held) ∙ sym (held-shown k held)
+
+    -- track k came back
+    pub back-restores : (k : ℕ) → lowest n f.own ≡ Some k → IsMoved x y c t (restored n (given_up f k)) None → track_seen y c s k ≡ track_seen x c t k → ((q : ℕ) → q ≢ k → track_seen y c s q ≡ track_seen x c s q)
+        → Restores x y c s t
+    back-restores k lowest is back kept = restores-by (given_up f k) to.related to.source is shared (λ q held. kept-shown q (remove-held f.own k q held))
+      where
+        other : (q : ℕ) → nat_eq q k ≡ false → contains (remove f.own k) q ≡ false → contains f.own q ≡ false
+        other q apart missing = sym (contains-remove_tracks f.own k q ∙ ap (λ b. not b && contains f.own q) apart) ∙ missing
+
+        shared : (q : ℕ) → contains (remove f.own k) q ≡ false → track_seen y c s q ≡ shown x c t q
+        shared q missing = elim (eqb_tells q k) as (λ _. track_seen y c s q ≡ shown x c t q) [
+          | inl p ↦ ap (track_seen y c s) p.1 ∙ back ∙ sym (held-shown k (lowest-held n k f.own lowest)) ∙ ap (shown x c t) (sym p.1)
+          | inr p ↦ kept q p.1 ∙ sym (shared-shown q (other q p.0 missing))
+        ]
+
+    -- it begins
+    pub turn-restores : HasFitSets f → OthersStay x y c t → f.recorded ≡ true → f.reversing ≡ false → HoldsUnchanged x c t → IsMoved x y c t (restored n (turned f)) None → Restores x y c s t
+    turn-restores sets others recorded forward holds is = restores-by (turned f) to.related to.source is shared (λ q held. kept-shown q (union-held f.source_changes f.target_changes f.own sets.noted_held sets.rewritten_held q held))
+      where
+        stays : (q : ℕ) → track_seen y c s q ≡ track_seen x c s q
+        stays q = ap (λ (z : ℕ → List ℕ). z q) (others s (λ same. to.apart (sym same))).tracks
+
+        equal : (q : ℕ) (o : Bool) → contains f.own q ≡ o → (contains f.source_changes q ≡ false) × (contains f.target_changes q ≡ false) → track_seen x c s q ≡ shown x c t q
+        equal q false missing same = sym (shared-shown q missing)
+        equal q true held same = ap (λ z. track_seen x c z q) (sym to.source) ∙ sym (holds to.related recorded forward q held same.0 same.1) ∙ sym (held-shown q held)
+
+        shared : (q : ℕ) → contains (union f.source_changes f.target_changes) q ≡ false → track_seen y c s q ≡ shown x c t q
+        shared q missing = stays q ∙ equal q (contains f.own q) refl (neither (contains f.source_changes q) (contains f.target_changes q) (sym (contains-union_tracks f.source_changes f.target_changes q) ∙ missing))
