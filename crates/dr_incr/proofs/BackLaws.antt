@@ -22,7 +22,8 @@ use Rattle.dr_flash.specs.Fit.{RelationsFit}
 use Rattle.dr_flash.proofs.CheckLemmas.{same-test, differ-test}
 use Rattle.dr_flash.proofs.SetLaws.{contains-rest}
 use Rattle.dr_flash.proofs.ViewLemmas.{view-source, view-own}
-use Rattle.dr_incr.specs.Copies.{HoldsUnchanged, BlankAreZeros, Restores, shown}
+use Rattle.dr_flash.specs.Views.{view_seen}
+use Rattle.dr_incr.specs.Copies.{HoldsUnchanged, BlankAreZeros, Restores}
 use Rattle.dr_incr.specs.Steps.{HasFitSets}
 use Rattle.dr_incr.proofs.RestoreLemmas.{remove-held, union-held}
 use Rattle.dr_incr.proofs.TargetLemmas.{TargetOf, neither}
@@ -90,16 +91,16 @@ module _ (x y : PlantState) (c : Table) (s t : ℕ) (to : TargetOf x c s t) wher
   abbrev n : ℕ
   n = (volume_seen x c t).tracks
 
-  held-shown : (k : ℕ) → contains f.own k ≡ true → shown x c t k ≡ track_seen x c t k
+  held-shown : (k : ℕ) → contains f.own k ≡ true → view_seen x c t k ≡ track_seen x c t k
   held-shown k held = view-own x c t k (λ i. to.related i && not (held i))
 
-  shared-shown : (k : ℕ) → contains f.own k ≡ false → shown x c t k ≡ track_seen x c s k
+  shared-shown : (k : ℕ) → contains f.own k ≡ false → view_seen x c t k ≡ track_seen x c s k
   shared-shown k missing = view-source x c t k (volume_seen x c t) refl to.related missing ∙ ap (λ z. track_seen x c z k) to.source
 
   -- the target holds these tracks from then on, or its relationship ends
   restores-by : (g : Fields) → g.related ≡ true → g.source ≡ s → IsMoved x y c t (restored n g) None
-      → ((k : ℕ) → contains g.own k ≡ false → track_seen y c s k ≡ shown x c t k)
-      → ((k : ℕ) → contains g.own k ≡ true → (if contains g.blank k then zeros else track_seen x c t k) ≡ shown x c t k)
+      → ((k : ℕ) → contains g.own k ≡ false → track_seen y c s k ≡ view_seen x c t k)
+      → ((k : ℕ) → contains g.own k ≡ true → (if contains g.blank k then zeros else track_seen x c t k) ≡ view_seen x c t k)
       → Restores x y c s t
   restores-by g related source is shared held =
       let by = pick (is_bare g.own) refl in
@@ -108,18 +109,18 @@ module _ (x y : PlantState) (c : Table) (s t : ℕ) (to : TargetOf x c s t) wher
       after : Bool → ℕ → List ℕ
       after b k = if shows_source (withdrawn_if b n g) k then track_seen y c (withdrawn_if b n g).source k else tracks_after (withdrawn_if b n g) None (track_seen x c t) k
 
-      moves : (k : ℕ) → shown y c t k ≡ after (is_bare g.own) k
+      moves : (k : ℕ) → view_seen y c t k ≡ after (is_bare g.own) k
       moves k i = if shows_source (is.volume i).fields k then track_seen y c (is.volume i).fields.source k else is.tracks i k
 
       past : (k : ℕ) (low : Bool) → nat_lt k n ≡ low → (if low && true then zeros else track_seen x c t k) ≡ zeros
       past k true low = refl
       past k false high = past-at x c (place_of c t) k high
 
-      shows : (k : ℕ) (o : Bool) → contains g.own k ≡ o → after false k ≡ shown x c t k
+      shows : (k : ℕ) (o : Bool) → contains g.own k ≡ o → after false k ≡ view_seen x c t k
       shows k true own = (λ i. if related i && not (own i) then track_seen y c g.source k else tracks_after g None (track_seen x c t) k) ∙ held k own
       shows k false own = (λ i. if related i && not (own i) then track_seen y c (source i) k else tracks_after g None (track_seen x c t) k) ∙ shared k own
 
-      pick : (b : Bool) → is_bare g.own ≡ b → ((withdrawn_if b n g).related ≡ true → (k : ℕ) → after b k ≡ shown x c t k) × ((withdrawn_if b n g).related ≡ false → (k : ℕ) → (track_seen y c s k ≡ shown x c t k) × (after b k ≡ zeros))
+      pick : (b : Bool) → is_bare g.own ≡ b → ((withdrawn_if b n g).related ≡ true → (k : ℕ) → after b k ≡ view_seen x c t k) × ((withdrawn_if b n g).related ≡ false → (k : ℕ) → (track_seen y c s k ≡ view_seen x c t k) × (after b k ≡ zeros))
       pick true bare = (
         λ on. absurd cc,
         λ over k.
@@ -129,7 +130,7 @@ module _ (x y : PlantState) (c : Table) (s t : ℕ) (to : TargetOf x c s t) wher
       pick false some = (λ on k. shows k (contains g.own k) refl, λ over. absurd (let e : true ≡ false = sym related ∙ over in cc))
 
   module _ (fit : RelationsFit x c) where
-    kept-shown : (k : ℕ) → contains f.own k ≡ true → (if contains f.blank k then zeros else track_seen x c t k) ≡ shown x c t k
+    kept-shown : (k : ℕ) → contains f.own k ≡ true → (if contains f.blank k then zeros else track_seen x c t k) ≡ view_seen x c t k
     kept-shown k held = ap (λ b. if b then zeros else track_seen x c t k) (fit.apart t k held) ∙ sym (held-shown k held)
 
     -- track k came back
@@ -140,9 +141,9 @@ module _ (x y : PlantState) (c : Table) (s t : ℕ) (to : TargetOf x c s t) wher
         other : (q : ℕ) → nat_eq q k ≡ false → contains (remove f.own k) q ≡ false → contains f.own q ≡ false
         other q apart missing = sym (contains-remove_tracks f.own k q ∙ ap (λ b. not b && contains f.own q) apart) ∙ missing
 
-        shared : (q : ℕ) → contains (remove f.own k) q ≡ false → track_seen y c s q ≡ shown x c t q
-        shared q missing = elim (eqb_tells q k) as (λ _. track_seen y c s q ≡ shown x c t q) [
-          | inl p ↦ ap (track_seen y c s) p.1 ∙ back ∙ sym (held-shown k (lowest-held n k f.own lowest)) ∙ ap (shown x c t) (sym p.1)
+        shared : (q : ℕ) → contains (remove f.own k) q ≡ false → track_seen y c s q ≡ view_seen x c t q
+        shared q missing = elim (eqb_tells q k) as (λ _. track_seen y c s q ≡ view_seen x c t q) [
+          | inl p ↦ ap (track_seen y c s) p.1 ∙ back ∙ sym (held-shown k (lowest-held n k f.own lowest)) ∙ ap (view_seen x c t) (sym p.1)
           | inr p ↦ kept q p.1 ∙ sym (shared-shown q (other q p.0 missing))
         ]
 
@@ -153,9 +154,9 @@ module _ (x y : PlantState) (c : Table) (s t : ℕ) (to : TargetOf x c s t) wher
         stays : (q : ℕ) → track_seen y c s q ≡ track_seen x c s q
         stays q = ap (λ (z : ℕ → List ℕ). z q) (others s (λ same. to.apart (sym same))).tracks
 
-        equal : (q : ℕ) (o : Bool) → contains f.own q ≡ o → (contains f.source_changes q ≡ false) × (contains f.target_changes q ≡ false) → track_seen x c s q ≡ shown x c t q
+        equal : (q : ℕ) (o : Bool) → contains f.own q ≡ o → (contains f.source_changes q ≡ false) × (contains f.target_changes q ≡ false) → track_seen x c s q ≡ view_seen x c t q
         equal q false missing same = sym (shared-shown q missing)
         equal q true held same = ap (λ z. track_seen x c z q) (sym to.source) ∙ sym (holds to.related recorded forward q held same.0 same.1) ∙ sym (held-shown q held)
 
-        shared : (q : ℕ) → contains (union f.source_changes f.target_changes) q ≡ false → track_seen y c s q ≡ shown x c t q
+        shared : (q : ℕ) → contains (union f.source_changes f.target_changes) q ≡ false → track_seen y c s q ≡ view_seen x c t q
         shared q missing = stays q ∙ equal q (contains f.own q) refl (neither (contains f.source_changes q) (contains f.target_changes q) (sym (contains-union_tracks f.source_changes f.target_changes q) ∙ missing))

@@ -26,7 +26,8 @@ use Rattle.dr_flash.specs.Fit.{RelationsFit}
 use Rattle.dr_flash.specs.Here.{seen}
 use Rattle.dr_flash.specs.Turns.{made_by}
 use Rattle.dr_flash.specs.declared.told.Telling.{Telling}
-use Rattle.dr_incr.specs.Copies.{HoldsUnchanged, BlankAreZeros, shown}
+use Rattle.dr_flash.specs.Views.{view_seen}
+use Rattle.dr_incr.specs.Copies.{HoldsUnchanged, BlankAreZeros}
 use Rattle.dr_incr.proofs.TargetLemmas.{TargetOf, both}
 
 -- what a move that was done made of its volume
@@ -73,7 +74,7 @@ minus-both a b q h = let x = both (contains a q) (not (contains b q)) (sym (cont
 
 pub copy-shown : (s u : PlantState) (c : Table) (v t : ℕ) (sequence : Option ℕ) → RelationsFit s c → TargetOf s c v t → IsMoved s u c t (resynced sequence (volume_seen s c t).fields) None → OthersStay s u c t
     → ((k : ℕ) → contains (volume_seen s c t).fields.own k ≡ true → contains (volume_seen s c t).fields.source_changes k ≡ false → contains (volume_seen s c t).fields.target_changes k ≡ false → track_seen s c t k ≡ track_seen s c (volume_seen s c t).fields.source k)
-    → (k : ℕ) → shown u c t k ≡ track_seen u c v k
+    → (k : ℕ) → view_seen u c t k ≡ track_seen u c v k
 copy-shown s u c v t sequence fit to is others holds k =
     ap (λ (x : Volume). if shows_source x.fields k then track_seen u c x.fields.source k else track_seen u c t k) is.volume
     ∙ (elim (contains g.own k) as (λ b. contains g.own k ≡ b → (if f.related && not b then track_seen u c f.source k else track_seen u c t k) ≡ track_seen u c v k) [

@@ -12,7 +12,8 @@ ghost use Rattle.dr_flash.specs.Faults.{Counted};
 ghost use Rattle.dr_flash.specs.Fit.{RelationsFit};
 ghost use Rattle.dr_flash.specs.Here.{seen, refusal_of, armed_in, IsAtRest};
 ghost use Rattle.dr_flash.specs.Turns.{Leads, Fails};
-ghost use Rattle.dr_incr.specs.Copies.{HoldsUnchanged, shown};
+ghost use Rattle.dr_flash.specs.Views.{view_seen};
+ghost use Rattle.dr_incr.specs.Copies.{HoldsUnchanged};
 ghost use Rattle.dr_incr.specs.Steps.{resync_entries};
 
 use crate::checks::resync_refusal;
@@ -45,7 +46,7 @@ pub fn resync<P: Plant>(
     ensures fails { OnErr result ((r : Rest) → Fails (armed_in (P.state p.old)) (seen (P.state p.old) c.now r j.old.events) (resync_entries (seen (P.state p.old) c.now r j.old.events).control s.0 t.0 sequence) (seen (P.state p.new) c.now r j.new.events) (refusal_of result)) }
     ensures unchanged { is_stop (refusal_of result) ≡ false → OnErr result ((P.state p.new ≡ P.state p.old) × (j.new ≡ j.old)) }
     ensures moved { OnOk result (IsMoved (P.state p.old) (P.state p.new) c.now t.0 (relations.resynced sequence (volume_seen (P.state p.old) c.now t.0).fields) None) }
-    ensures same { OnOk result (HoldsUnchanged (P.state p.old) c.now t.0 → (k : ℕ) → shown (P.state p.new) c.now t.0 k ≡ track_seen (P.state p.new) c.now s.0 k) }
+    ensures same { OnOk result (HoldsUnchanged (P.state p.old) c.now t.0 → (k : ℕ) → view_seen (P.state p.new) c.now t.0 k ≡ track_seen (P.state p.new) c.now s.0 k) }
     ensures refused { is_stop (refusal_of result) ≡ true → refusal_of result ≡ Some (stopped (volume_seen (P.state p.old) c.now s.0).server) }
     ensures rest { IsAtRest (P.state p.new) c.now }
     ensures fit { RelationsFit (P.state p.new) c.now }
