@@ -1,3 +1,4 @@
 pub mod BigEndian
 pub mod Spelling
 pub mod Links
+pub mod Paths
