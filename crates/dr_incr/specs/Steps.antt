@@ -6,8 +6,8 @@ use Rattle.dr_model.specs.Laws.{SetsFit}
 use Rattle.dr_model.specs.Control.{Control}
 use Rattle.dr_model.specs.Moves.{Resync, Reverse}
 use Rattle.dr_model.specs.Carry.{Entry, now, check}
-use Rattle.dr_model.specs.Entries.{relation_state, keep_on, for_lowest}
-use Rattle.dr_model.specs.Plans.{running_check, is_recorded_target, is_lone_restore}
+use Rattle.dr_model.specs.Entries.{relation_state, keep_on, for_lowest, running_check}
+use Rattle.dr_model.specs.Plans.{is_recorded_target, is_lone_restore}
 
 -- the server of s is on, and t is a target of s whose changes are recorded
 abbrev pub resync_checks : Control → ℕ → ℕ → List Entry

@@ -22,7 +22,8 @@ use Rattle.dr_model.specs.Refusals.{unknown, duplicate, over}
 use Rattle.dr_model.specs.Control.{Control, Pending, is_volume}
 use Rattle.dr_model.specs.Relations.{Choices}
 use Rattle.dr_model.specs.Moves.{is_write}
-use Rattle.dr_model.specs.Plans.{Plan, plan, step_plan, plan_of, is_built, has_room, only_says, refuses, unless, on_named, on_server, name_bytes, server_named, server_refusal, server_done, volume_refusal, volume_done, link_between, link_done, track_refusal, issue_refusal, issue_then, write_done, apply_on, apply_done, show_refusal, show_done, is_foreign, first_of, subsystem, stop_on, stop_done, arm_on, start_on, start_plan, flash_plan, withdraw_plan, resync_plan, reverse_plan, copy_plan}
+use Rattle.dr_model.specs.Plans.{Plan, plan, step_plan, plan_of, is_built, has_room, only_says, refuses, unless, on_named, on_server, name_bytes, server_named, server_refusal, server_done, volume_refusal, volume_done, link_between, link_done, track_refusal, issue_refusal, issue_then, write_done, apply_on, apply_done, show_refusal, show_done, is_foreign, stop_on, stop_done, arm_on, start_on, start_plan, flash_plan, withdraw_plan, resync_plan, reverse_plan, copy_plan}
+use Rattle.dr_model.specs.Entries.{first_of, subsystem}
 
 -- what a step comes to, with what was seen before
 pub data Case (k : Control) (events : List Event) (line : ℕ) : Plan → Type 0 where

@@ -9,8 +9,8 @@ use Rattle.dr_model.specs.Relations.{Choices}
 use Rattle.dr_model.specs.Control.{Control, World, is_volume}
 use Rattle.dr_model.specs.Moves.{Relate, Withdraw, Resync, Reverse}
 use Rattle.dr_model.specs.Carry.{Entry}
-use Rattle.dr_model.specs.Entries.{fields_at, copies_from, targets_of, stands_in, is_any, is_running}
-use Rattle.dr_model.specs.Plans.{entries_plan, named_pair, is_defined, is_owner, differ, share_server, share_size, is_no_target, is_no_source, has_few_targets, is_plain_target, is_recorded_target, is_lone_restore, flash_plan, withdraw_plan, resync_plan, reverse_plan}
+use Rattle.dr_model.specs.Entries.{fields_at, copies_from, targets_of, stands_in, is_any, is_running, share_server, share_size, is_no_target}
+use Rattle.dr_model.specs.Plans.{entries_plan, named_pair, is_defined, is_owner, differ, is_no_source, has_few_targets, is_plain_target, is_recorded_target, is_lone_restore, flash_plan, withdraw_plan, resync_plan, reverse_plan}
 use Rattle.dr_model.specs.declared.said.Said.{Said}
 use Rattle.dr_model.specs.declared.step.Name.{Name}
 use Rattle.dr_model.specs.Table.{table}

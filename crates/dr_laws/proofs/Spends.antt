@@ -17,8 +17,8 @@ use Rattle.dr_model.specs.Limits.{step_events, most_volumes, most_tracks}
 use Rattle.dr_model.specs.Control.{Control, World}
 use Rattle.dr_model.specs.Moves.{Land, Overwrite, Keep, Note, Relate, Withdraw, Fetch, Resync, Reverse}
 use Rattle.dr_model.specs.Carry.{Make, Redo, Acknowledge, Drop, Pass, Do, Entry, Outcome, carry, follow, check, now}
-use Rattle.dr_model.specs.Entries.{fields_at, copies_from, is_running, is_open, is_settled, relation_state, landing, land_on, keep_on, keep_if, copy_first, drop_unless, check_or_drop, times, on_found, lowest_missing, fetch_next, give_back}
-use Rattle.dr_model.specs.Plans.{Plan, plan, entries_plan, tables_plan, redo_on, belongs, acknowledge_on, acknowledge_if, landed_on, named_pair, is_defined, is_owner, differ, share_server, share_size, is_no_target, is_no_source, has_few_targets, is_plain_target, is_recorded_target, is_lone_restore, may_copy, at_most, left_to_copy}
+use Rattle.dr_model.specs.Entries.{fields_at, copies_from, is_running, is_open, is_settled, relation_state, landing, land_on, keep_on, keep_if, copy_first, drop_unless, check_or_drop, times, on_found, lowest_missing, fetch_next, give_back, share_server, share_size, is_no_target}
+use Rattle.dr_model.specs.Plans.{Plan, plan, entries_plan, tables_plan, redo_on, belongs, acknowledge_on, acknowledge_if, landed_on, named_pair, is_defined, is_owner, differ, is_no_source, has_few_targets, is_plain_target, is_recorded_target, is_lone_restore, may_copy, at_most, left_to_copy}
 use Rattle.dr_model.specs.Runs.{begun, finish, after_plan}
 use Rattle.dr_model.specs.Laws.{Sound}
 use Rattle.dr_laws.specs.Limits.{IsWithin}

@@ -13,8 +13,8 @@ use Rattle.dr_model.specs.Layout.{Tracks, Fields}
 use Rattle.dr_model.specs.Relations.{is_bare, in_order, rest}
 use Rattle.dr_model.specs.Moves.{Move, Land, Overwrite, Keep, Note, Relate, Withdraw, Fetch, Resync, Reverse, Restore, Release, told_blank, told_restored, told, told_in_stop, landed, target}
 use Rattle.dr_model.specs.Carry.{Act, Make, Redo, Acknowledge, Drop, check, now, act, Turn, Next, Pass, Do, End, Entry, Outcome, carry, continue, go}
-use Rattle.dr_model.specs.Entries.{fields_at, copies_from, is_running, is_open, is_settled, relation_state, landing, land_on, keep_on, keep_if, copy_first, drop_unless, check_or_drop, times, on_found, lowest_missing, lowest_held, fetch_next, for_lowest, give_back}
-use Rattle.dr_model.specs.Plans.{Plan, plan, redo_on, acknowledge_on, acknowledge_if, landed_on, belongs, named_pair, is_defined, is_owner, differ, share_server, share_size, is_no_target, is_no_source, has_few_targets, is_plain_target, is_recorded_target, is_lone_restore, may_copy, at_most, left_to_copy}
+use Rattle.dr_model.specs.Entries.{fields_at, copies_from, is_running, is_open, is_settled, relation_state, landing, land_on, keep_on, keep_if, copy_first, drop_unless, check_or_drop, times, on_found, lowest_missing, lowest_held, fetch_next, for_lowest, give_back, share_server, share_size, is_no_target}
+use Rattle.dr_model.specs.Plans.{Plan, plan, redo_on, acknowledge_on, acknowledge_if, landed_on, belongs, named_pair, is_defined, is_owner, differ, is_no_source, has_few_targets, is_plain_target, is_recorded_target, is_lone_restore, may_copy, at_most, left_to_copy}
 use Rattle.dr_laws.specs.Stops.{first_stop, stop_in, refused_stop, StopsTold}
 use Rattle.dr_laws.proofs.Cases.{Case, Says, Defines, Adds, Links, Issues, Writes, Applies, Shows, Stops, Arms, Starts, Flashes, Withdraws, Resyncs, Reverses, Copies, plan-case}
 use Rattle.dr_laws.proofs.Turns.{act-cases, Counts, after_act, server_of}

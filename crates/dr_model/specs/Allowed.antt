@@ -1,13 +1,15 @@
 -- What each kind of move asks of the table where it comes, and of the writes that wait.
-use Rattle.std.specs.Prelude.{◌≡◌, ◌≢◌, ◌<◌, ◌+◌, ℕ, true, false, [], ◌∷◌, length, map, filter, Some, None}
+use Rattle.std.specs.Prelude.{◌≡◌, ◌≢◌, ◌<◌, ◌+◌, ℕ, Bool, true, false, [], ◌∷◌, length, map, filter, Some, None}
 use Rattle.std.specs.FinSet.{contains}
 use Rattle.dr_model.specs.Limits.{most_targets}
 use Rattle.dr_model.specs.Histories.{Write, histories}
 use Rattle.dr_model.specs.Control.{Pending, Control, World}
-use Rattle.dr_model.specs.Moves.{Move, Land, Overwrite, Keep, Note, Relate, Withdraw, Fetch, Resync, Reverse, Restore, Release, target, is_write}
+use Rattle.dr_model.specs.declared.state.Part.{Part}
+use Rattle.dr_model.specs.Layout.{is_part}
+use Rattle.dr_model.specs.Moves.{Move, Land, Overwrite, Keep, Note, Relate, Withdraw, Fetch, Resync, Reverse, Restore, Release, Store, Strike, Suspend, MakeSecondary, MakePrimary, DropPrimary, DropSecondary, Follow, Resume, TakeOver, target, is_write}
 use Rattle.dr_model.specs.Entries.{targets_of}
 use Rattle.dr_model.specs.Table.{Table, table}
-use Rattle.dr_model.specs.Laws.{source, fields, servers, AllPending}
+use Rattle.dr_model.specs.Laws.{source, its_primary, its_secondary, fields, servers, AllPending}
 
 -- each target of v holds track t, but one that is restored onto v, which holds it too where it gives it back; and it
 -- notes that the track changes, where that is recorded
@@ -15,11 +17,12 @@ pub record Kept (T : Table) (v t : ℕ) : Type 0 where
   pub own : (u : ℕ) → source (T u) ≡ Some v → contains (fields T u).own t ≡ true
   pub noted : (u : ℕ) → source (T u) ≡ Some v → (fields T u).recorded ≡ true → (fields T u).reversing ≡ false → contains (fields T u).source_changes t ≡ true
 
--- a host write lands on a track of a volume that is no target
+-- a host write lands on a track of a volume that is no target and no secondary
 pub record MayLand (T : Table) (v t : ℕ) : Type 0 where
   pub low : t < (T v).volume.tracks
   pub defined : (T v).defined ≡ true
   pub plain : source (T v) ≡ None
+  pub first : is_part (fields T v).secondary ≡ false
   pub kept : Kept T v t
 
 -- or of a target that isn't restored onto its source
@@ -45,7 +48,7 @@ pub record MayNote (T : Table) (v t : ℕ) : Type 0 where
   pub held : contains (fields T v).own t ≡ true
   pub forward : (fields T v).reversing ≡ false
 
--- two volumes, which stand in no relationship as targets, and the new target not as a source
+-- two volumes, which stand in no relationship as targets, and the new target not as a source and in no pair
 pub record MayRelate (T : Table) (v s : ℕ) : Type 0 where
   pub apart : s ≢ v
   pub from_defined : (T s).defined ≡ true
@@ -55,6 +58,8 @@ pub record MayRelate (T : Table) (v s : ℕ) : Type 0 where
   pub from_plain : source (T s) ≡ None
   pub plain : source (T v) ≡ None
   pub no_source : (u : ℕ) → source (T u) ≡ Some v → ⊥
+  pub no_primary : is_part (fields T v).primary ≡ false
+  pub no_secondary : is_part (fields T v).secondary ≡ false
 
 pub record MayWithdraw (T : Table) (v : ℕ) : Type 0 where
   pub from : ℕ
@@ -68,9 +73,10 @@ pub record MayResync (T : Table) (v : ℕ) : Type 0 where
   pub recorded : (fields T v).recorded ≡ true
   pub forward : (fields T v).reversing ≡ false
 
--- and no other target of its source is restored onto it
+-- and no other target of its source is restored onto it, which is no secondary
 pub record MayReverse (T : Table) (v : ℕ) : Type 0 where
   pub resync : MayResync T v
+  pub free : is_part (fields T resync.from).secondary ≡ false
   pub alone : (u : ℕ) → source (T u) ≡ Some resync.from → (fields T u).reversing ≡ true → ⊥
 
 -- v takes back track t, which its target u holds, and so does each other
@@ -89,6 +95,47 @@ pub record MayRelease (T : Table) (v t : ℕ) : Type 0 where
   pub holds : contains (fields T v).own t ≡ true
   pub equal : (T from).bytes t ≡ (T v).bytes t
 
+-- secondary v stores a track of its primary u, which each target of v holds
+pub record MayStore (T : Table) (v t u : ℕ) : Type 0 where
+  pub low : t < (T v).volume.tracks
+  pub sends : its_secondary (T u) ≡ Some v
+  pub takes : its_primary (T v) ≡ Some u
+  pub kept : Kept T v t
+
+-- the secondary of v has what v strikes off
+pub record MayStrike (T : Table) (v t : ℕ) : Type 0 where
+  pub to : ℕ
+  pub sends : its_secondary (T v) ≡ Some to
+  pub equal : (T to).bytes t ≡ (T v).bytes t
+
+-- v becomes the secondary of u: two volumes of one size on two servers, u in no pair, v no primary and no target, and
+-- no target of v is restored onto it
+pub record MayMakeSecondary (T : Table) (v u : ℕ) (kind : Part) : Type 0 where
+  pub is_kind : is_part kind ≡ true
+  pub apart : (T v).volume.server ≡ (T u).volume.server → ⊥
+  pub tracks : (T v).volume.tracks ≡ (T u).volume.tracks
+  pub from_defined : (T u).defined ≡ true
+  pub from_first : is_part (fields T u).primary ≡ false
+  pub from_free : is_part (fields T u).secondary ≡ false
+  pub plain : (fields T v).related ≡ false
+  pub first : is_part (fields T v).primary ≡ false
+  pub still : (x : ℕ) → source (T x) ≡ Some v → (fields T x).reversing ≡ true → ⊥
+
+-- v becomes the primary of its secondary u, which has the same bytes, where not all tracks are out of sync
+pub record MayMakePrimary (T : Table) (v u : ℕ) (kind : Part) (full : Bool) : Type 0 where
+  pub is_kind : is_part kind ≡ true
+  pub plain : (fields T v).related ≡ false
+  pub second : is_part (fields T v).secondary ≡ false
+  pub defined : (T u).defined ≡ true
+  pub takes : its_primary (T u) ≡ Some v
+  pub equal : full ≡ false → (t : ℕ) → t < (T v).volume.tracks → (T v).bytes t ≡ (T u).bytes t
+
+abbrev pub IsPrimary : Table → ℕ → Type 0
+IsPrimary T v = is_part (fields T v).primary ≡ true
+
+abbrev pub IsSecondary : Table → ℕ → Type 0
+IsSecondary T v = is_part (fields T v).secondary ≡ true
+
 abbrev pub Allowed : (ℕ → Write) → Table → Move → Type 0
 Allowed write T (Land n v t) = MayLand T v t
 Allowed write T (Overwrite n v t) = MayOverwrite T v t
@@ -101,6 +148,16 @@ Allowed write T (Resync v sequence) = MayResync T v
 Allowed write T (Reverse v) = MayReverse T v
 Allowed write T (Restore v t u) = MayRestore T v t u
 Allowed write T (Release v t) = MayRelease T v t
+Allowed write T (Store v t u last) = MayStore T v t u
+Allowed write T (Strike v t last) = MayStrike T v t
+Allowed write T (Suspend v busy) = IsPrimary T v
+Allowed write T (MakeSecondary v u kind state) = MayMakeSecondary T v u kind
+Allowed write T (MakePrimary v u kind state full) = MayMakePrimary T v u kind full
+Allowed write T (DropPrimary v) = IsPrimary T v
+Allowed write T (DropSecondary v) = IsSecondary T v
+Allowed write T (Follow v state) = IsSecondary T v
+Allowed write T (Resume v state) = IsPrimary T v
+Allowed write T (TakeOver v) = IsSecondary T v
 
 -- no write has landed on a volume of v's server
 abbrev pub Idle : World → ℕ → Type 0
@@ -125,6 +182,7 @@ pub record MayAck (w : World) (n v t : ℕ) : Type 0 where
 abbrev pub Ready : World → Move → Type 0
 Ready w (Land n v t) = MayAck w n v t
 Ready w (Overwrite n v t) = MayAck w n v t
+Ready w (Store v t u last) = Idle w v × Idle w u
 Ready w m = Idle w (target m)
 
 -- the source of a new target has a place for it

@@ -1,6 +1,7 @@
 -- The control state: everything that a run knows but the bytes of the tracks.
 use Rattle.std.specs.Prelude.{ℕ, Bool, true, false, List, [], Option, None, nat_eq}
 use Rattle.std.specs.List.{list_any}
+use Rattle.dr_ids.specs.Paths.{Path}
 use Rattle.dr_model.specs.declared.event.Event.{Event}
 use Rattle.dr_model.specs.Contents.{zeros}
 use Rattle.dr_model.specs.Layout.{Fields, no_fields}
@@ -30,13 +31,14 @@ abbrev pub new_volume : ℕ → ℕ → Volume
 new_volume server tracks = record { server = server; tracks = tracks; slot = false; fields = no_fields; staged = None }
 
 -- servers and volumes in order of definition (a server's number is its place), which servers are on, their
--- fuses, which links between them are up, each volume, how many writes were issued, and those that are pending, in
+-- fuses, which links between them are up, the paths between logical subsystems, each volume, how many writes were issued, and those that are pending, in
 -- order of issue
 pub record Control : Type 0 where
   pub servers : List (List ℕ)
   pub on : ℕ → Bool
   pub fuse : ℕ → Option Fuse
   pub link : ℕ → ℕ → Bool
+  pub paths : List Path
   pub volumes : List ℕ
   pub volume : ℕ → Volume
   pub issued : ℕ
@@ -48,6 +50,7 @@ no_control = record {
   on = λ s. true;
   fuse = λ s. None;
   link = λ a b. true;
+  paths = [];
   volumes = [];
   volume = λ v. new_volume 0 0;
   issued = 0;

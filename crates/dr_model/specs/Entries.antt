@@ -1,16 +1,17 @@
 -- Entries of plans: what the targets of a FlashCopy source keep before it changes, how a host write is carried out, and
 -- how tracks are copied in the background.
-use Rattle.std.specs.Prelude.{ℕ, zero, suc, Bool, true, false, ◌&&◌, ◌||◌, not, List, [], ◌∷◌, ◌++◌, map, length, filter, Option, Some, None, nat_eq, if◌then◌else◌}
-use Rattle.std.specs.List.{list_any}
+use Rattle.std.specs.Prelude.{ℕ, zero, suc, ◌/◌, Bool, true, false, ◌&&◌, ◌||◌, not, List, [], ◌∷◌, ◌++◌, map, length, filter, Option, Some, None, nat_eq, if◌then◌else◌}
+use Rattle.std.specs.List.{list_any, find}
 use Rattle.std.specs.FinSet.{contains}
 use Rattle.dr_ids.specs.declared.names.VolumeId.{VolumeId}
 use Rattle.dr_ids.specs.declared.refusal.RelSeen.{RelSeen}
 use Rattle.dr_ids.specs.declared.refusal.RelSeen.TheVariants.{Revertible, Reversing, Target, Source, None as Unrelated}
 use Rattle.dr_ids.specs.declared.refusal.Refusal.{Refusal}
-use Rattle.dr_ids.specs.declared.refusal.Refusal.TheVariants.{Inhibited, RelationState}
-use Rattle.dr_model.specs.Layout.{Fields}
+use Rattle.dr_ids.specs.declared.refusal.Refusal.TheVariants.{Inhibited, NotPrimary, PairState, RelationState}
+use Rattle.dr_model.specs.Layout.{Fields, is_part}
 use Rattle.dr_model.specs.Control.{Control}
 use Rattle.dr_model.specs.Relations.{rest, lowest}
+use Rattle.dr_model.specs.Pairs.{is_quiet, pair_seen}
 use Rattle.dr_model.specs.Moves.{Land, Overwrite, Keep, Note, Fetch, Restore, Release}
 use Rattle.dr_model.specs.Refusals.{server_off}
 use Rattle.dr_model.specs.Carry.{Make, Drop, Next, Pass, Do, Entry, now, check}
@@ -25,6 +26,27 @@ is_running v k = k.on (k.volume v).server
 abbrev pub is_at : Option ℕ → ℕ → Bool
 is_at None v = false
 is_at (Some u) v = nat_eq u v
+
+-- the server of a volume is on
+abbrev pub running_check : Control → ℕ → Entry
+running_check k s = check (is_running s) (server_off (k.volume s).server)
+
+-- the logical subsystem of a volume: the high byte of its identifier
+abbrev pub subsystem : ℕ → ℕ
+subsystem v = v / 256
+
+-- the first volume of a logical subsystem, if it has any
+abbrev pub first_of : Control → ℕ → Option ℕ
+first_of k lss = find (λ v. nat_eq (subsystem v) lss) k.volumes
+
+abbrev pub share_server : ℕ → ℕ → Control → Bool
+share_server s t k = nat_eq (k.volume s).server (k.volume t).server
+
+abbrev pub share_size : ℕ → ℕ → Control → Bool
+share_size s t k = nat_eq (k.volume s).tracks (k.volume t).tracks
+
+abbrev pub is_no_target : ℕ → Control → Bool
+is_no_target v k = not (fields_at k v).related
 
 -- a volume with these fields is a target of v
 abbrev pub copies_from : ℕ → Fields → Bool
@@ -59,6 +81,10 @@ relation_seen k v =
 abbrev pub relation_state : Control → ℕ → Refusal
 relation_state k v = RelationState (record { 0 = v }) (relation_seen k v)
 
+-- the refusal that says how a volume's pair is seen
+abbrev pub pair_state : Control → ℕ → Refusal
+pair_state k v = PairState (record { 0 = v }) (pair_seen (fields_at k v))
+
 -- before track t of its source is overwritten, the target u keeps it; one that holds it already notes the change
 abbrev pub keep_if : Fields → ℕ → ℕ → Next
 keep_if f u t =
@@ -81,7 +107,11 @@ drop_unless n ok k = if ok k then Pass else Do (Drop n)
 abbrev pub check_or_drop : ℕ → (Control → Bool) → Refusal → List Entry
 check_or_drop n ok r = drop_unless n ok ∷ check ok r ∷ []
 
--- the host may write on v: it is no inhibited target
+-- the host may write on v: it is no secondary
+abbrev pub is_no_secondary : ℕ → Control → Bool
+is_no_secondary v k = not (is_part (fields_at k v).secondary)
+
+-- it is no inhibited target
 abbrev pub is_open : ℕ → Control → Bool
 is_open v k = not ((fields_at k v).related && (fields_at k v).inhibited)
 
@@ -98,7 +128,8 @@ land_on n v t k = Do (Make (if (fields_at k v).related then Overwrite n v t else
 abbrev pub landing : Control → ℕ → ℕ → ℕ → List Entry
 landing k n v t =
     check (is_running v) (server_off (k.volume v).server)
-    ∷ check_or_drop n (is_open v) (Inhibited (record { 0 = v }))
+    ∷ check_or_drop n (is_no_secondary v) (NotPrimary (record { 0 = v }))
+    ++ check_or_drop n (is_open v) (Inhibited (record { 0 = v }))
     ++ check_or_drop n (is_settled v) (relation_state k v)
     ++ copy_first k.volumes v t
     ++ land_on n v t ∷ []
@@ -123,6 +154,10 @@ lowest_held v k = lowest (k.volume v).tracks (fields_at k v).own
 -- the background copy of one track of a target: the lowest that it doesn't hold
 abbrev pub fetch_next : ℕ → Entry
 fetch_next v k = on_found (lowest_missing v k) (λ t. now (Fetch v t)) k
+
+-- a volume may take tracks back from its target: a primary that isn't Suspended may not
+abbrev pub takes_back : ℕ → Control → Bool
+takes_back s k = is_quiet (fields_at k s)
 
 -- what comes for the lowest track that v holds
 abbrev pub for_lowest : ℕ → (ℕ → Entry) → Entry

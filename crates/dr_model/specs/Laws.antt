@@ -1,15 +1,16 @@
 -- What holds of every world of a run, as parts with names.
-use Rattle.std.specs.Prelude.{◌≡◌, ℕ, ◌<◌, ◌≤◌, ◌+◌, Bool, true, false, List, [], ◌∷◌, length, Option, Some, None, nat_eq, if◌then◌else◌}
+use Rattle.std.specs.Prelude.{◌≡◌, ◌⊎◌, ◌||◌, ℕ, ◌<◌, ◌≤◌, ◌+◌, Bool, true, false, List, [], ◌∷◌, length, Option, Some, None, nat_eq, if◌then◌else◌}
 use Rattle.std.specs.List.{list_any}
 use Rattle.std.specs.FinSet.{contains}
 use Rattle.dr_model.specs.Histories.{Write, Histories, histories}
 use Rattle.dr_model.specs.Contents.{zeros}
-use Rattle.dr_model.specs.Layout.{Tracks, Fields}
+use Rattle.dr_model.specs.Layout.{Tracks, Fields, is_part}
 use Rattle.dr_model.specs.Lawful.{IsLawful}
 use Rattle.dr_model.specs.Limits.{most_targets}
 use Rattle.dr_model.specs.Control.{Pending, Control, World, is_volume}
 use Rattle.dr_model.specs.Views.{source_of, view}
 use Rattle.dr_model.specs.Relations.{is_bare}
+use Rattle.dr_model.specs.Pairs.{primary_of, secondary_of}
 use Rattle.dr_model.specs.Entries.{is_at, targets_of}
 use Rattle.dr_model.specs.Table.{Row, Table, table}
 
@@ -79,6 +80,61 @@ pub record Structure (T : Table) : Type 0 where
   pub defined : Each (λ v r. RowDefined r) T
   pub flash : Linked source Flashed T
   pub one_restore : OneRestore T
+
+-- Parts: what the records of pairs say together.
+
+-- the secondary of a primary, and the primary of a secondary
+abbrev pub its_secondary : Row → Option ℕ
+its_secondary r = secondary_of r.volume.fields
+
+abbrev pub its_primary : Row → Option ℕ
+its_primary r = primary_of r.volume.fields
+
+-- a volume has at most one part in a pair, and a target has none
+pub record OnePart (primary secondary related : Bool) : Type 0 where
+  pub one : primary ≡ true → secondary ≡ false
+  pub no_primary : related ≡ true → primary ≡ false
+  pub no_secondary : related ≡ true → secondary ≡ false
+
+abbrev pub RowParts : Row → Type 0
+RowParts r = OnePart (is_part r.volume.fields.primary) (is_part r.volume.fields.secondary) r.volume.fields.related
+
+-- a partner is a volume that is defined, on another server, and of the same size
+pub record PartnerFits (is_defined : Bool) (server partner_server tracks partner_tracks : ℕ) : Type 0 where
+  pub defined : is_defined ≡ true
+  pub same_tracks : tracks ≡ partner_tracks
+  pub apart : server ≡ partner_server → ⊥
+
+abbrev pub Partnered : ℕ → Row → ℕ → Row → Type 0
+Partnered v r u s = PartnerFits s.defined r.volume.server s.volume.server r.volume.tracks s.volume.tracks
+
+-- no two volumes are each other's secondary
+abbrev pub OneWay : ℕ → Row → ℕ → Row → Type 0
+OneWay v r u s = its_primary s ≡ Some v → ⊥
+
+-- a volume that its target is restored onto is no secondary
+abbrev pub FreeSource : ℕ → Row → ℕ → Row → Type 0
+FreeSource v r u s = r.volume.fields.reversing ≡ true → is_part s.volume.fields.secondary ≡ false
+
+pub record Parts (T : Table) : Type 0 where
+  pub one : Each (λ v r. RowParts r) T
+  pub secondary : Linked its_secondary Partnered T
+  pub primary : Linked its_primary Partnered T
+  pub one_way : Linked its_primary OneWay T
+  pub free : Linked source FreeSource T
+
+-- The pair law. Two volumes are a pair where one is the primary of the other, which is its secondary, or where each is
+-- a primary of the other. Outside the tracks that those of them record which are primaries, both contain the same.
+abbrev pub unsent : Row → ℕ → Bool
+unsent r t = contains r.volume.fields.out_of_sync t || contains r.volume.fields.change_recording t
+
+abbrev pub Alike : ℕ → Row → ℕ → Row → Type 0
+Alike v r u s =
+    (its_primary s ≡ Some v) ⊎ (its_secondary s ≡ Some v)
+    → (t : ℕ) → t < r.volume.tracks → unsent r t ≡ false → (its_secondary s ≡ Some v → unsent s t ≡ false) → r.bytes t ≡ s.bytes t
+
+abbrev pub PairLaw : Table → Type 0
+PairLaw = Linked its_secondary Alike
 
 -- Images: what tracks contain, and what they show.
 
@@ -172,8 +228,10 @@ pub record Queue (starts : Option ℕ) (w : World) : Type 0 where
 -- what holds of the table of volumes at every moment, also within a step
 pub record SoundRows (T : Table) : Type 0 where
   pub structure : Structure T
+  pub parts : Parts T
   pub images : Images T
   pub recorded : Recorded T
+  pub pairs : PairLaw T
 
 -- Targets: no volume is defined twice, and none has more than 12 targets.
 

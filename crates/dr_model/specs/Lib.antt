@@ -10,11 +10,13 @@ pub mod Refusals
 pub mod Control
 pub mod Views
 pub mod Relations
+pub mod Pairs
 pub mod Moves
 pub mod Carry
 pub mod ReadStops
 pub mod Answers
 pub mod Entries
+pub mod PairEntries
 pub mod Plans
 pub mod Runs
 pub mod Text

@@ -6,14 +6,17 @@ use Rattle.dr_model.specs.Tables.{at}
 use Rattle.dr_model.specs.Histories.{Write}
 use Rattle.dr_model.specs.Contents.{zeros, with_write}
 use Rattle.dr_model.specs.Layout.{Tracks, Fields}
+use Rattle.dr_model.specs.declared.state.Part.{Part}
+use Rattle.dr_model.specs.declared.state.PairState.{PairState}
+use Rattle.dr_model.specs.Pairs.{parted_track, is_suspended, suspended, made_secondary, made_primary, no_primary, no_secondary, received, struck, resumed, taken_over}
 use Rattle.dr_model.specs.Views.{view}
 use Rattle.dr_model.specs.Control.{Pending, Volume, World}
 use Rattle.dr_model.specs.Relations.{Choices, rest, in_order, is_bare, closed, fetched, noted, rewritten, made, withdrawn_if, resynced, turned, given_up, restored}
 use Rattle.dr_model.specs.declared.event.Event.{Event}
-use Rattle.dr_model.specs.declared.event.Event.TheVariants.{Ack, Set, Copied, Back, Blanked, Restored}
+use Rattle.dr_model.specs.declared.event.Event.TheVariants.{Ack, Set, Copied, Back, Blanked, Restored, Sent, Suspended, TakenOver}
 
 pub data Move : Type 0 where
-  -- host write w lands on track t of volume v, which is no target
+  -- host write w lands on track t of volume v, which is no target; of a primary the track is out of sync from then on
   Land : (w v t : ℕ) → Move
   -- host write w lands on track t of target v
   Overwrite : (w v t : ℕ) → Move
@@ -35,6 +38,23 @@ pub data Move : Type 0 where
   Restore : (v t u : ℕ) → Move
   -- target v gives up track t, which its source has taken back
   Release : (v t : ℕ) → Move
+  -- secondary v stores track t of its primary u, maybe the last one of a Metro Mirror pair
+  Store : (v t u : ℕ) (last : Bool) → Move
+  -- primary v strikes track t off, which its secondary has stored
+  Strike : (v t : ℕ) (last : Bool) → Move
+  -- primary v is Suspended, and maybe long busy
+  Suspend : (v : ℕ) (busy : Bool) → Move
+  -- v becomes the secondary of u, and v the primary of u
+  MakeSecondary : (v u : ℕ) (kind : Part) (state : PairState) → Move
+  MakePrimary : (v u : ℕ) (kind : Part) (state : PairState) (full : Bool) → Move
+  -- v is a primary no more, and v is a secondary no more
+  DropPrimary : (v : ℕ) → Move
+  DropSecondary : (v : ℕ) → Move
+  -- secondary v has another state, and primary v goes on
+  Follow : (v : ℕ) (state : PairState) → Move
+  Resume : (v : ℕ) (state : PairState) → Move
+  -- secondary v becomes a Suspended primary of its primary
+  TakeOver : (v : ℕ) → Move
 
 -- the volume whose record the move updates
 abbrev pub target : Move → ℕ
@@ -49,10 +69,20 @@ target (Resync v sequence) = v
 target (Reverse v) = v
 target (Restore v t u) = v
 target (Release v t) = v
+target (Store v t u last) = v
+target (Strike v t last) = v
+target (Suspend v busy) = v
+target (MakeSecondary v u kind state) = v
+target (MakePrimary v u kind state full) = v
+target (DropPrimary v) = v
+target (DropSecondary v) = v
+target (Follow v state) = v
+target (Resume v state) = v
+target (TakeOver v) = v
 
 -- the fields that the move leaves there
 abbrev pub fields_left : Move → Volume → Fields
-fields_left (Land w v t) u = record u.fields { blank = remove u.fields.blank t }
+fields_left (Land w v t) u = record (parted_track u.fields t) { blank = remove u.fields.blank t }
 fields_left (Overwrite w v t) u = closed u.tracks (rewritten (fetched u.fields t) t)
 fields_left (Keep v t) u = closed u.tracks (noted (fetched u.fields t) t)
 fields_left (Note v t) u = noted u.fields t
@@ -61,8 +91,18 @@ fields_left (Withdraw v) u = withdrawn_if true u.tracks u.fields
 fields_left (Fetch v t) u = closed u.tracks (fetched u.fields t)
 fields_left (Resync v sequence) u = resynced sequence u.fields
 fields_left (Reverse v) u = restored u.tracks (turned u.fields)
-fields_left (Restore v t from) u = record u.fields { blank = remove u.fields.blank t }
+fields_left (Restore v t from) u = record (parted_track u.fields t) { blank = remove u.fields.blank t }
 fields_left (Release v t) u = restored u.tracks (given_up u.fields t)
+fields_left (Store v t from last) u = received last u.fields t
+fields_left (Strike v t last) u = struck last u.fields t
+fields_left (Suspend v busy) u = suspended busy u.fields
+fields_left (MakeSecondary v a kind state) u = made_secondary a kind state u.fields
+fields_left (MakePrimary v b kind state full) u = made_primary u.tracks b kind state full u.fields
+fields_left (DropPrimary v) u = no_primary u.fields
+fields_left (DropSecondary v) u = no_secondary u.fields
+fields_left (Follow v state) u = record u.fields { secondary_state = state }
+fields_left (Resume v state) u = resumed state u.fields
+fields_left (TakeOver v) u = taken_over u.fields
 
 -- by the fields of all volumes before it
 abbrev pub next_fields : Move → (ℕ → Volume) → Fields
@@ -79,6 +119,7 @@ carried (Overwrite n v t) volume contents write = Some (t, with_write write (vie
 carried (Keep v t) volume contents write = Some (t, contents (volume v).fields.source t)
 carried (Fetch v t) volume contents write = Some (t, contents (volume v).fields.source t)
 carried (Restore v t u) volume contents write = Some (t, contents u t)
+carried (Store v t u last) volume contents write = Some (t, contents u t)
 carried _ volume contents write = None
 
 -- a relationship that has ended where its target held these tracks: the others read zeros
@@ -101,6 +142,9 @@ told (Resync v sequence) u = Set v u.fields.source ∷ []
 told (Reverse v) u = told_restored v u.fields.source u.tracks (turned u.fields).own
 told (Restore v t from) u = Back v t from ∷ []
 told (Release v t) u = told_restored v u.fields.source u.tracks (given_up u.fields t).own
+told (Store v t from last) u = Sent from t v ∷ []
+told (Suspend v busy) u = if is_suspended u.fields.primary_state then [] else Suspended v ∷ []
+told (TakeOver v) u = TakenOver v ∷ []
 told _ u = []
 
 -- what it is told where the server stopped in a move that counts as done: a write is acknowledged at the next start

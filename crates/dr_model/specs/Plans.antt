@@ -1,13 +1,14 @@
 -- The step table: what each step comes to, from the control state and the journal. No answer looks at a device's bytes.
-use Rattle.std.specs.Prelude.{ℕ, ◌+◌, ◌/◌, Bool, true, false, ◌&&◌, ◌||◌, not, List, [], ◌∷◌, ◌++◌, take, length, map, min, replicate, Option, Some, None, is_some, option_map, unwrap_or, Result, Ok, Err, nat_eq, nat_lt, nat_le, if◌then◌else◌}
+use Rattle.std.specs.Prelude.{ℕ, ◌+◌, Bool, true, false, ◌&&◌, ◌||◌, not, List, [], ◌∷◌, ◌++◌, take, length, map, min, replicate, Option, Some, None, is_some, option_map, unwrap_or, Result, Ok, Err, nat_eq, nat_lt, nat_le, if◌then◌else◌}
 use Rattle.std.specs.List.{position, find, list_any}
 use Rattle.std.specs.Option.{option_or}
 use Rattle.std.specs.Str.{bytes_eq}
 use Rattle.std.specs.FinSet.{len}
 use Rattle.dr_ids.specs.Links.{joins}
+use Rattle.dr_ids.specs.Paths.{path_in, with_path, without_path}
 use Rattle.dr_ids.specs.declared.refusal.Refusal.{Refusal}
 use Rattle.dr_ids.specs.declared.refusal.Refusal.TheVariants.{NotBuilt, JournalFull, Syntax}
-use Rattle.dr_ids.specs.declared.refusal.Kind.TheVariants.{Server as OfServer, Volume as OfVolume, Lss as OfLss, Write as OfWrite, Track as OfTrack}
+use Rattle.dr_ids.specs.declared.refusal.Kind.TheVariants.{Server as OfServer, Volume as OfVolume, Lss as OfLss, Path as OfPath, Write as OfWrite, Track as OfTrack}
 use Rattle.dr_ids.specs.declared.refusal.Which.TheVariants.{Servers, Volumes, Tracks, Pending as Writes, Targets, Size, Server as OneServer}
 use Rattle.dr_model.specs.Limits.{most_servers, most_volumes, most_tracks, most_pending, most_targets, most_events, step_events}
 use Rattle.dr_model.specs.Tables.{at}
@@ -17,17 +18,22 @@ use Rattle.dr_model.specs.Control.{Control, Fuse, Pending, new_volume, is_volume
 use Rattle.dr_model.specs.Relations.{Choices, rest}
 use Rattle.dr_model.specs.Moves.{Relate, Withdraw, Resync, Reverse, is_write}
 use Rattle.dr_model.specs.Carry.{Entry, Next, Pass, Do, Redo, Acknowledge, now, check}
-use Rattle.dr_model.specs.Entries.{fields_at, is_running, is_at, copies_from, targets_of, stands_in, is_any, relation_state, landing, times, fetch_next, give_back}
+use Rattle.dr_model.specs.Pairs.{is_unpaired}
+use Rattle.dr_model.specs.Entries.{fields_at, is_running, running_check, is_at, subsystem, first_of, share_server, share_size, is_no_target, copies_from, targets_of, stands_in, is_any, relation_state, pair_state, is_no_secondary, takes_back, landing, times, fetch_next, give_back}
+use Rattle.dr_model.specs.PairEntries.{make_entries, remove_entries, pause_entries, resume_entries, is_copying, tracks_to_send, sends, suspend_after, link_down, first_active, first_differing}
 use Rattle.dr_model.specs.declared.said.Addition.TheVariants.{Alone, Wrote, Acked, Counted, Showed}
 use Rattle.dr_model.specs.declared.said.Said.{Said}
 use Rattle.dr_model.specs.declared.said.Said.TheVariants.{Done, Refused}
 use Rattle.dr_model.specs.declared.event.Event.{Event}
 use Rattle.dr_model.specs.declared.event.Event.TheVariants.{Server as ServerDefined, Volume as VolumeDefined, Issue, Stopped, Started, Shown}
+use Rattle.dr_model.specs.declared.state.Part.{Part}
+use Rattle.dr_model.specs.Layout.{part_of}
 use Rattle.dr_model.specs.declared.step.Name.{Name}
+use Rattle.dr_model.specs.declared.step.Devs.{Devs}
 use Rattle.dr_model.specs.declared.step.TornWord.{TornWord}
 use Rattle.dr_model.specs.declared.step.TornWord.TheVariants.{Same, Fill, Bytes}
 use Rattle.dr_model.specs.declared.step.Step.{Step}
-use Rattle.dr_model.specs.declared.step.Step.TheVariants.{Server, Volume, Link, Stop, StopAfter, Start, Issue as IssueWrite, Write, Apply, Show, MakeFlash, RemoveFlash, ResyncFlash, ReverseFlash, Copy}
+use Rattle.dr_model.specs.declared.step.Step.TheVariants.{Server, Volume, Link, Stop, StopAfter, Start, Issue as IssueWrite, Write, Apply, Show, MakeFlash, RemoveFlash, ResyncFlash, ReverseFlash, Copy, MakePath, RemovePath, MakePair, RemovePair, PausePair, ResumePair, Drain}
 
 -- What a step comes to: the tables as it begins, what the journal is told then, the entries, those that follow where a
 -- server stops in them, the tables where it ended well, and what it says then, by the last control state.
@@ -100,14 +106,6 @@ server_plan k name = unless (server_refusal k (name_bytes name)) (server_done k 
 abbrev pub volume_done : ℕ → ℕ → ℕ → Plan
 volume_done v server tracks =
     tables_plan (λ k. record k { volumes = k.volumes ++ v ∷ []; volume = at k.volume v (new_volume server tracks) }) (VolumeDefined v server tracks ∷ []) (Done Alone)
-
--- the logical subsystem of a volume: the high byte of its identifier
-abbrev pub subsystem : ℕ → ℕ
-subsystem v = v / 256
-
--- the first volume of a logical subsystem, if it has any
-abbrev pub first_of : Control → ℕ → Option ℕ
-first_of k lss = find (λ v. nat_eq (subsystem v) lss) k.volumes
 
 -- the volume, if there is one, is another server's
 abbrev pub is_foreign : Control → Option ℕ → ℕ → Bool
@@ -289,25 +287,12 @@ found_pair dev s t =
     ∷ check (is_defined t) (unknown OfVolume)
     ∷ check (is_owner dev s) (unknown OfServer) ∷ []
 
--- the server of a volume is on
-abbrev pub running_check : Control → ℕ → Entry
-running_check k s = check (is_running s) (server_off (k.volume s).server)
-
 -- and that server is on
 abbrev pub named_pair : Control → Option Name → ℕ → ℕ → List Entry
 named_pair k dev s t = found_pair dev s t ++ running_check k s ∷ []
 
 abbrev pub differ : ℕ → ℕ → Control → Bool
 differ s t k = not (nat_eq s t)
-
-abbrev pub share_server : ℕ → ℕ → Control → Bool
-share_server s t k = nat_eq (k.volume s).server (k.volume t).server
-
-abbrev pub share_size : ℕ → ℕ → Control → Bool
-share_size s t k = nat_eq (k.volume s).tracks (k.volume t).tracks
-
-abbrev pub is_no_target : ℕ → Control → Bool
-is_no_target v k = not (fields_at k v).related
 
 abbrev pub is_no_source : ℕ → Control → Bool
 is_no_source v k = not (stands_in is_any k v)
@@ -319,12 +304,16 @@ has_few_targets s k = nat_lt (length (targets_of k s)) most_targets
 abbrev pub alike_checks : ℕ → ℕ → List Entry
 alike_checks s t = check (differ s t) (duplicate OfVolume) ∷ check (share_server s t) (over OneServer) ∷ check (share_size s t) (over Size) ∷ []
 
--- t stands in no relationship, and s may have one target more
+abbrev pub has_no_pair : ℕ → Control → Bool
+has_no_pair v k = is_unpaired (fields_at k v)
+
+-- t stands in no relationship and in no pair, and s may have one target more
 abbrev pub free_checks : Control → ℕ → ℕ → List Entry
 free_checks k s t =
     check (is_no_target t) (relation_state k t)
     ∷ check (is_no_source t) (relation_state k t)
     ∷ check (is_no_target s) (relation_state k s)
+    ∷ check (has_no_pair t) (pair_state k t)
     ∷ check (has_few_targets s) (over Targets) ∷ []
 
 -- a relationship between two volumes that are there is made
@@ -357,18 +346,27 @@ resync_plan k dev s t sequence = entries_plan (named_pair k dev s t ++ check (is
 abbrev pub is_lone_restore : ℕ → ℕ → Control → Bool
 is_lone_restore s t k = not (list_any (λ u. not (nat_eq u t) && ((fields_at k u).revertible || (fields_at k u).reversing)) (targets_of k s))
 
+-- s may be restored: it is no secondary, and no primary but a Suspended one
+abbrev pub may_return : ℕ → Control → Bool
+may_return s k = is_no_secondary s k && takes_back s k
+
 -- a target is to be restored onto its source
 abbrev pub reverse_plan : Control → Option Name → ℕ → ℕ → Plan
 reverse_plan k dev s t = entries_plan
     (named_pair k dev s t
     ++ check (is_recorded_target s t) (relation_state k t)
     ∷ check (is_lone_restore s t) (relation_state k s)
+    ∷ check (may_return s) (pair_state k s)
     ∷ now (Reverse t) ∷ [])
     (Done Alone)
 
 -- a target whose tracks may be copied in the background
 abbrev pub may_copy : ℕ → Control → Bool
 may_copy t k = (fields_at k t).related && (not (fields_at k t).revertible && ((fields_at k t).reversing || not (fields_at k t).nocopy))
+
+-- and, where it is restored, the source may take them back
+abbrev pub may_give_back : ℕ → Control → Bool
+may_give_back t k = not (fields_at k t).reversing || takes_back (fields_at k t).source k
 
 -- how many tracks are left to copy, or to give back
 abbrev pub left_to_copy : Control → ℕ → ℕ
@@ -389,8 +387,88 @@ copy_plan k t most =
     (check (is_defined t) (unknown OfVolume)
     ∷ check (is_running t) (server_off (k.volume t).server)
     ∷ check (may_copy t) (relation_state k t)
+    ∷ check (may_give_back t) (pair_state k (fields_at k t).source)
     ∷ times count (copy_one k t))
     (Done (Counted count))
+
+-- a name, where one is given, is that of the server
+abbrev pub is_named : Option Name → ℕ → Control → Bool
+is_named None s k = true
+is_named (Some name) s k = is_at (server_named k (name_bytes name)) s
+
+-- the server of the volumes of a logical subsystem
+abbrev pub owner_of : Control → ℕ → Option ℕ
+owner_of k lss = option_map (λ v. (k.volume v).server) (first_of k lss)
+
+-- what needs the server of a logical subsystem, if it has one
+abbrev pub on_owner : Option ℕ → (ℕ → Plan) → Plan
+on_owner None plan = refuses (unknown OfLss)
+on_owner (Some s) plan = plan s
+
+-- a path is defined, or gets another flag
+abbrev pub path_done : ℕ → ℕ → Bool → Plan
+path_done src tgt group = tables_plan (λ k. record k { paths = with_path k.paths src tgt group }) [] (Done Alone)
+
+-- the servers aren't those that are named, or are one, or one is off, or their link is down
+abbrev pub path_refusal : Control → Devs → ℕ → ℕ → Option Refusal
+path_refusal k devs s u =
+    if not (is_named devs.dev s k && is_named devs.remotedev u k) then Some (unknown OfServer)
+    else if nat_eq s u then Some (over OneServer)
+    else if not (k.on s) then Some (server_off s)
+    else if not (k.on u) then Some (server_off u)
+    else if not (k.link s u) then Some (link_down s u)
+    else None
+
+abbrev pub path_plan : Control → Devs → ℕ → ℕ → Bool → Plan
+path_plan k devs src tgt group = on_owner (owner_of k src) (λ s. on_owner (owner_of k tgt) (λ u. unless (path_refusal k devs s u) (path_done src tgt group)))
+
+-- a path is removed
+abbrev pub unpath_done : ℕ → ℕ → Plan
+unpath_done src tgt = tables_plan (λ k. record k { paths = without_path k.paths src tgt }) [] (Done Alone)
+
+-- there is no such path, the servers aren't those that are named, that of the source is off, or a primary still copies over it
+abbrev pub unpath_refusal : Control → Devs → ℕ → ℕ → ℕ → ℕ → Bool → Option Refusal
+unpath_refusal k devs src tgt s u force =
+    if not (is_some (path_in k.paths src tgt)) then Some (unknown OfPath)
+    else if not (is_named devs.dev s k && is_named devs.remotedev u k) then Some (unknown OfServer)
+    else if not (k.on s) then Some (server_off s)
+    else if force then None
+    else option_map (pair_state k) (first_active k src tgt)
+
+abbrev pub unpath_plan : Control → Devs → ℕ → ℕ → Bool → Plan
+unpath_plan k devs src tgt force =
+    on_owner (owner_of k src) (λ s. on_owner (owner_of k tgt) (λ u. unless (unpath_refusal k devs src tgt s u force) (unpath_done src tgt)))
+
+-- the two volumes of a pair are there, each on the server that may be named
+abbrev pub found_volumes : Devs → ℕ → ℕ → List Entry
+found_volumes devs a b = found_pair devs.dev a b ++ check (is_owner devs.remotedev b) (unknown OfServer) ∷ []
+
+-- a pair is made; where nothing is to be copied, the host writes of the journal must have made both volumes the same
+abbrev pub pair_plan : Control → List Event → Devs → ℕ → ℕ → Part → Bool → Plan
+pair_plan k events devs a b kind full =
+    entries_plan (found_volumes devs a b ++ make_entries k a b kind full (if full then None else first_differing (image_at events) (k.volume a).tracks a b)) (Done Alone)
+
+abbrev pub remove_plan : Control → Devs → ℕ → ℕ → Bool → Plan
+remove_plan k devs a b source_only = entries_plan (found_volumes devs a b ++ remove_entries k a b source_only) (Done Alone)
+
+abbrev pub pause_plan : Control → Devs → ℕ → ℕ → Plan
+pause_plan k devs a b = entries_plan (found_volumes devs a b ++ pause_entries k a b) (Done Alone)
+
+abbrev pub resume_plan : Control → Devs → ℕ → ℕ → Part → Plan
+resume_plan k devs a b kind = entries_plan (found_volumes devs a b ++ resume_entries k a b kind) (Done Alone)
+
+-- Tracks that are out of sync are sent, lowest first. Where the secondary's server stops, the primary is suspended.
+abbrev pub drain_plan : Control → ℕ → Option ℕ → Plan
+drain_plan k a most =
+    let ts : List ℕ = tracks_to_send most (k.volume a).tracks (fields_at k a).out_of_sync in
+    record {
+      first = same;
+      told = [];
+      entries = check (is_defined a) (unknown OfVolume) ∷ running_check k a ∷ check (is_copying a) (pair_state k a) ∷ sends k.volumes a (fields_at k a).primary_partner ts;
+      follows = suspend_after k a;
+      last = same;
+      says = always (Done (Counted (length ts)));
+    }
 
 -- what a step comes to whose form is built, with room in the journal
 abbrev pub plan_of : Control → List Event → ℕ → Step → Plan
@@ -410,9 +488,16 @@ plan_of k events line (RemoveFlash devs s t sequence) = withdraw_plan k devs.dev
 plan_of k events line (ResyncFlash devs s t nocopy persistent recorded inhibited sequence) = resync_plan k devs.dev s t sequence
 plan_of k events line (ReverseFlash devs s t tgtpprc sequence) = reverse_plan k devs.dev s t
 plan_of k events line (Copy t most) = copy_plan k t most
+plan_of k events line (MakePath devs src tgt group) = path_plan k devs src tgt group
+plan_of k events line (RemovePath devs src tgt force) = unpath_plan k devs src tgt force
+plan_of k events line (MakePair devs a b kind full) = pair_plan k events devs a b (part_of kind) full
+plan_of k events line (RemovePair devs a b source_only) = remove_plan k devs a b source_only
+plan_of k events line (PausePair devs a b) = pause_plan k devs a b
+plan_of k events line (ResumePair devs a b kind) = resume_plan k devs a b (part_of kind)
+plan_of k events line (Drain a most) = drain_plan k a most
 plan_of k events line _ = refuses NotBuilt
 
--- the forms that are built
+-- the forms that are built; of pairs those of Global Copy
 abbrev pub is_built : Step → Bool
 is_built (Server name) = true
 is_built (Volume v name tracks) = true
@@ -429,6 +514,13 @@ is_built (RemoveFlash devs s t sequence) = true
 is_built (ResyncFlash devs s t nocopy persistent recorded inhibited sequence) = true
 is_built (ReverseFlash devs s t tgtpprc sequence) = true
 is_built (Copy t most) = true
+is_built (MakePath devs src tgt group) = true
+is_built (RemovePath devs src tgt force) = true
+is_built (MakePair devs a b kind full) = nat_eq kind 2
+is_built (RemovePair devs a b source_only) = true
+is_built (PausePair devs a b) = true
+is_built (ResumePair devs a b kind) = nat_eq kind 2
+is_built (Drain a most) = true
 is_built _ = false
 
 -- the journal has room for what a step may tell

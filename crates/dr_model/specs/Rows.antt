@@ -8,7 +8,7 @@ use Rattle.dr_model.specs.Layout.{Tracks, Fields}
 use Rattle.dr_model.specs.Control.{Volume}
 use Rattle.dr_model.specs.Views.{view}
 use Rattle.dr_model.specs.Relations.{rest, is_bare, turned, given_up}
-use Rattle.dr_model.specs.Moves.{Move, Land, Overwrite, Keep, Relate, Withdraw, Fetch, Resync, Reverse, Restore, Release, Carried, target, next_fields, carried, moved}
+use Rattle.dr_model.specs.Moves.{Move, Land, Overwrite, Keep, Relate, Withdraw, Fetch, Resync, Reverse, Restore, Release, Store, Carried, target, next_fields, carried, moved}
 use Rattle.dr_model.specs.Table.{Row, Table}
 
 abbrev pub volumes_of : Table → ℕ → Volume
@@ -36,6 +36,7 @@ next_due write (Withdraw v) T = emptied true (T v).volume.tracks (T v).volume.fi
 next_due write (Resync v sequence) T = (source_row T v).due
 next_due write (Reverse v) T = emptied_if_bare (T v).volume.tracks (turned (T v).volume.fields) (T v).due
 next_due write (Restore v t u) T = at (T v).due t ((T u).due t)
+next_due write (Store v t u last) T = at (T v).due t ((T u).due t)
 next_due write (Release v t) T = emptied_if_bare (T v).volume.tracks (given_up (T v).volume.fields t) (T v).due
 next_due write m T = (T (target m)).due
 
@@ -48,6 +49,7 @@ next_bytes write (Withdraw v) T = emptied true (T v).volume.tracks (T v).volume.
 next_bytes write (Fetch v t) T = at (T v).bytes t ((source_row T v).bytes t)
 next_bytes write (Reverse v) T = emptied_if_bare (T v).volume.tracks (turned (T v).volume.fields) (T v).bytes
 next_bytes write (Restore v t u) T = at (T v).bytes t ((T u).bytes t)
+next_bytes write (Store v t u last) T = at (T v).bytes t ((T u).bytes t)
 next_bytes write (Release v t) T = emptied_if_bare (T v).volume.tracks (given_up (T v).volume.fields t) (T v).bytes
 next_bytes write m T = (T (target m)).bytes
 

@@ -1,7 +1,8 @@
 use Rattle.std.proofs.Common.{ap, refl, ◌∙◌, not, nat_eq, Some}
 use Rattle.dr_ids.specs.declared.refusal.Kind.TheVariants.{Volume as OfVolume}
 use Rattle.dr_ids.specs.declared.refusal.Which.TheVariants.{Size, Server as OneServer}
-use Rattle.dr_model.specs.Plans.{differ, share_server, share_size}
+use Rattle.dr_model.specs.Plans.{differ}
+use Rattle.dr_model.specs.Entries.{share_server, share_size}
 use Rattle.dr_model.specs.Refusals.{duplicate, over}
 use Rattle.dr_flash.specs.Here.{seen}
 use Rattle.dr_flash.proofs.EndsLemmas.{ends-passed}

@@ -2,8 +2,8 @@ use Rattle.std.proofs.Common.{ap, refl, sym, ◌∙◌, not, nat_lt, Some}
 use Rattle.dr_ids.specs.declared.refusal.Refusal.{Refusal}
 use Rattle.dr_ids.specs.declared.refusal.Which.TheVariants.{Targets}
 use Rattle.dr_model.specs.Layout.{Fields}
-use Rattle.dr_model.specs.Entries.{relation_state}
-use Rattle.dr_model.specs.Plans.{is_no_target, is_no_source, has_few_targets}
+use Rattle.dr_model.specs.Entries.{relation_state, is_no_target}
+use Rattle.dr_model.specs.Plans.{is_no_source, has_few_targets}
 use Rattle.dr_model.specs.Refusals.{over}
 use Rattle.dr_volume.specs.View.{volume_seen}
 use Rattle.dr_flash.specs.Here.{seen}

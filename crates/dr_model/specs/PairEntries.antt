@@ -1,0 +1,183 @@
+-- Entries of plans on pairs: making and ending them, pausing and resuming, and sending tracks.
+use Rattle.std.specs.Prelude.{ℕ, Bool, true, false, ◌&&◌, ◌||◌, not, List, [], ◌∷◌, ◌++◌, take, Option, Some, None, is_some, option_map, nat_eq, if◌then◌else◌}
+use Rattle.std.specs.List.{find, range_with_len}
+use Rattle.std.specs.Option.{option_or}
+use Rattle.std.specs.Str.{bytes_eq}
+use Rattle.dr_ids.specs.Paths.{path_in}
+use Rattle.dr_ids.specs.declared.refusal.Refusal.{Refusal}
+use Rattle.dr_ids.specs.declared.refusal.Refusal.TheVariants.{LinkDown, NotIdentical}
+use Rattle.dr_ids.specs.declared.refusal.Kind.TheVariants.{Path as OfPath}
+use Rattle.dr_ids.specs.declared.refusal.Which.TheVariants.{Size, Server as OneServer}
+use Rattle.dr_model.specs.Refusals.{server_off, unknown, over}
+use Rattle.dr_model.specs.declared.state.Part.{Part}
+use Rattle.dr_model.specs.declared.state.PairState.TheVariants.{Suspended}
+use Rattle.dr_model.specs.Layout.{Tracks, Fields, is_part}
+use Rattle.dr_model.specs.Control.{Control}
+use Rattle.dr_model.specs.Relations.{in_order}
+use Rattle.dr_model.specs.Pairs.{is_primary_of, is_secondary_of, is_unpaired, is_kind, is_pending, is_suspended, first_state, next_state, is_last}
+use Rattle.dr_model.specs.Moves.{Store, Strike, Suspend, MakeSecondary, MakePrimary, DropPrimary, DropSecondary, Follow, Resume}
+use Rattle.dr_model.specs.Carry.{Make, Next, Pass, Do, End, Entry, now, check}
+use Rattle.dr_model.specs.Entries.{fields_at, is_running, running_check, subsystem, share_server, share_size, is_no_target, stands_in, is_revertible, relation_state, pair_state, is_settled, copy_first}
+
+-- the link between two servers is down
+abbrev pub link_down : ℕ → ℕ → Refusal
+link_down s u = LinkDown (record { 0 = s }) (record { 0 = u })
+
+-- the link between the servers of two volumes is up
+abbrev pub are_linked : ℕ → ℕ → Control → Bool
+are_linked a b k = k.link (k.volume a).server (k.volume b).server
+
+abbrev pub has_path : ℕ → ℕ → Control → Bool
+has_path a b k = is_some (path_in k.paths (subsystem a) (subsystem b))
+
+-- Why b can't be reached from a: there is no path from the subsystem of a to that of b, the server of b is off, or the
+-- link between their servers is down.
+abbrev pub reach_refusal : ℕ → ℕ → Control → Option Refusal
+reach_refusal a b k =
+    if not (has_path a b k) then Some (unknown OfPath)
+    else if not (is_running b k) then Some (server_off (k.volume b).server)
+    else if not (are_linked a b k) then Some (link_down (k.volume a).server (k.volume b).server)
+    else None
+
+-- where there is a refusal, it ends the plan
+abbrev pub end_if : Option Refusal → Next
+end_if None = Pass
+end_if (Some r) = End r
+
+abbrev pub refuse_if : (Control → Option Refusal) → Entry
+refuse_if why k = end_if (why k)
+
+-- the first track whose contents differ
+abbrev pub first_differing : (ℕ → ℕ → List ℕ) → ℕ → ℕ → ℕ → Option ℕ
+first_differing contents n a b = find (λ t. not (bytes_eq (contents a t) (contents b t))) (range_with_len 0 n)
+
+abbrev pub differs_at : Option ℕ → Control → Option Refusal
+differs_at difference k = option_map (λ t. NotIdentical t) difference
+
+abbrev pub two_servers : ℕ → ℕ → Control → Bool
+two_servers a b k = not (share_server a b k)
+
+abbrev pub stands_free : ℕ → Control → Bool
+stands_free v k = is_unpaired (fields_at k v)
+
+-- b may become the secondary of a: it is no primary, and the secondary of no other
+abbrev pub may_follow : ℕ → ℕ → Control → Bool
+may_follow a b k = not (is_part (fields_at k b).primary) && (not (is_part (fields_at k b).secondary) || nat_eq (fields_at k b).secondary_partner a)
+
+-- a pair is made of two volumes that are there, of which this track differs, where none may
+abbrev pub make_entries : Control → ℕ → ℕ → Part → Bool → Option ℕ → List Entry
+make_entries k a b kind full difference =
+    running_check k a
+    ∷ refuse_if (reach_refusal a b)
+    ∷ check (two_servers a b) (over OneServer)
+    ∷ check (share_size a b) (over Size)
+    ∷ check (stands_free a) (pair_state k a)
+    ∷ check (may_follow a b) (pair_state k b)
+    ∷ check (is_no_target a) (relation_state k a)
+    ∷ check (is_no_target b) (relation_state k b)
+    ∷ check (is_settled b) (relation_state k b)
+    ∷ refuse_if (differs_at difference)
+    ∷ now (MakeSecondary b a kind (first_state kind full))
+    ∷ now (MakePrimary a b kind (first_state kind full) full) ∷ []
+
+abbrev pub leads_to : ℕ → ℕ → Control → Bool
+leads_to a b k = is_primary_of b (fields_at k a)
+
+abbrev pub belongs_to : ℕ → ℕ → Control → Bool
+belongs_to a b k = is_secondary_of a (fields_at k b)
+
+-- b is a secondary no more, where it is that of a
+abbrev pub let_go : ℕ → ℕ → Entry
+let_go a b k = if belongs_to a b k then Do (Make (DropSecondary b)) else Pass
+
+-- a pair is ended: of both, or of the primary alone
+abbrev pub remove_both : Control → ℕ → ℕ → List Entry
+remove_both k a b = running_check k b ∷ check (are_linked a b) (link_down (k.volume a).server (k.volume b).server) ∷ now (DropPrimary a) ∷ let_go a b ∷ []
+
+abbrev pub remove_entries : Control → ℕ → ℕ → Bool → List Entry
+remove_entries k a b source_only =
+    running_check k a ∷ check (leads_to a b) (pair_state k a) ∷ (if source_only then now (DropPrimary a) ∷ [] else remove_both k a b)
+
+-- a pair is paused: b is told where it can be
+abbrev pub may_pause : ℕ → ℕ → Control → Bool
+may_pause a b k = leads_to a b k && not (is_suspended (fields_at k a).primary_state)
+
+abbrev pub tell_paused : ℕ → ℕ → Entry
+tell_paused a b k = if not (is_some (reach_refusal a b k)) && belongs_to a b k then Do (Make (Follow b Suspended)) else Pass
+
+abbrev pub pause_entries : Control → ℕ → ℕ → List Entry
+pause_entries k a b = running_check k a ∷ check (may_pause a b) (pair_state k a) ∷ now (Suspend a false) ∷ tell_paused a b ∷ []
+
+-- a Suspended pair of that kind goes on
+abbrev pub may_resume : ℕ → ℕ → Part → Control → Bool
+may_resume a b kind k = leads_to a b k && (is_kind kind (fields_at k a).primary && is_suspended (fields_at k a).primary_state)
+
+abbrev pub follow_on : ℕ → ℕ → Entry
+follow_on a b k = Do (Make (Follow b (next_state (fields_at k a))))
+
+abbrev pub resume_on : ℕ → Entry
+resume_on a k = Do (Make (Resume a (next_state (fields_at k a))))
+
+abbrev pub resume_entries : Control → ℕ → ℕ → Part → List Entry
+resume_entries k a b kind =
+    running_check k a
+    ∷ check (may_resume a b kind) (pair_state k a)
+    ∷ refuse_if (reach_refusal a b)
+    ∷ check (belongs_to a b) (pair_state k b)
+    ∷ follow_on a b
+    ∷ resume_on a ∷ []
+
+-- why primary a can't send to b: b can't be reached, or isn't its secondary
+abbrev pub send_refusal : ℕ → ℕ → Control → Option Refusal
+send_refusal a b k = option_or (reach_refusal a b k) (if belongs_to a b k then None else Some (pair_state k b))
+
+-- then the primary is suspended, too
+abbrev pub suspend_where : (Control → Option Refusal) → ℕ → Entry
+suspend_where why a k = if is_some (why k) then Do (Make (Suspend a false)) else Pass
+
+-- b is the source of a revertible relationship
+abbrev pub flashed_refusal : ℕ → Control → Option Refusal
+flashed_refusal b k = if stands_in is_revertible k b then Some (relation_state k b) else None
+
+abbrev pub store_on : ℕ → ℕ → ℕ → Entry
+store_on a b t k = Do (Make (Store b t a (is_last (fields_at k a) t)))
+
+abbrev pub strike_on : ℕ → ℕ → Entry
+strike_on a t k = Do (Make (Strike a t (is_last (fields_at k a) t)))
+
+-- track t is sent from primary a to b: the targets of b keep it first, b stores it, a strikes it off
+abbrev pub send_entries : List ℕ → ℕ → ℕ → ℕ → List Entry
+send_entries volumes a b t =
+    suspend_where (send_refusal a b) a
+    ∷ refuse_if (send_refusal a b)
+    ∷ refuse_if (flashed_refusal b)
+    ∷ copy_first volumes b t
+    ++ store_on a b t
+    ∷ strike_on a t ∷ []
+
+-- tracks are sent in this order
+abbrev pub sends : List ℕ → ℕ → ℕ → List ℕ → List Entry
+sends volumes a b [] = []
+sends volumes a b (t ∷ ts) = send_entries volumes a b t ++ sends volumes a b ts
+
+-- where another server stopped, primary a is suspended
+abbrev pub suspend_after : Control → ℕ → ℕ → List Entry
+suspend_after k a s = if nat_eq s (k.volume a).server then [] else now (Suspend a false) ∷ []
+
+-- the tracks of a set in order, at most so many
+abbrev pub tracks_to_send : Option ℕ → ℕ → Tracks → List ℕ
+tracks_to_send None n s = in_order n s
+tracks_to_send (Some most) n s = take most (in_order n s)
+
+-- a primary in Copy Pending
+abbrev pub is_copying : ℕ → Control → Bool
+is_copying a k = is_part (fields_at k a).primary && is_pending (fields_at k a).primary_state
+
+-- the first primary of a logical subsystem whose secondary is in another, and that isn't Suspended
+abbrev pub is_active : Control → ℕ → ℕ → ℕ → Bool
+is_active k src tgt v =
+    nat_eq (subsystem v) src
+    && (is_part (fields_at k v).primary && (nat_eq (subsystem (fields_at k v).primary_partner) tgt && not (is_suspended (fields_at k v).primary_state)))
+
+abbrev pub first_active : Control → ℕ → ℕ → Option ℕ
+first_active k src tgt = find (is_active k src tgt) k.volumes

@@ -1,0 +1,152 @@
+-- Pairs: what the fields of a primary and of a secondary become, and what they say.
+use Rattle.std.specs.Prelude.{ℕ, Bool, true, false, not, ◌&&◌, ◌||◌, List, Option, Some, None, nat_eq, if◌then◌else◌}
+use Rattle.std.specs.FinSet.{union, contains, insert, remove, empty}
+use Rattle.dr_ids.specs.declared.refusal.PairSeen.{PairSeen}
+use Rattle.dr_ids.specs.declared.refusal.PairSeen.TheVariants as seen
+use Rattle.dr_model.specs.declared.state.Part.{Part}
+use Rattle.dr_model.specs.declared.state.Part.TheVariants.{Absent, Metro, Global}
+use Rattle.dr_model.specs.declared.state.PairState.{PairState}
+use Rattle.dr_model.specs.declared.state.PairState.TheVariants.{CopyPending, FullDuplex, Suspended}
+use Rattle.dr_model.specs.Layout.{Tracks, Fields, is_part}
+use Rattle.dr_model.specs.Relations.{all_tracks, is_bare}
+
+-- the secondary of a primary, and the primary of a secondary
+abbrev pub secondary_of : Fields → Option ℕ
+secondary_of f = if is_part f.primary then Some f.primary_partner else None
+
+abbrev pub primary_of : Fields → Option ℕ
+primary_of f = if is_part f.secondary then Some f.secondary_partner else None
+
+-- a volume with these fields is a primary of b; it is the secondary of a
+abbrev pub is_primary_of : ℕ → Fields → Bool
+is_primary_of b f = is_part f.primary && nat_eq f.primary_partner b
+
+abbrev pub is_secondary_of : ℕ → Fields → Bool
+is_secondary_of a f = is_part f.secondary && nat_eq f.secondary_partner a
+
+abbrev pub is_unpaired : Fields → Bool
+is_unpaired f = not (is_part f.primary) && not (is_part f.secondary)
+
+abbrev pub is_metro : Part → Bool
+is_metro Metro = true
+is_metro _ = false
+
+abbrev pub is_kind : Part → Part → Bool
+is_kind Metro Metro = true
+is_kind Global Global = true
+is_kind _ _ = false
+
+abbrev pub is_pending : PairState → Bool
+is_pending CopyPending = true
+is_pending _ = false
+
+abbrev pub is_suspended : PairState → Bool
+is_suspended Suspended = true
+is_suspended _ = false
+
+-- a volume that is no primary, or a Suspended one
+abbrev pub is_quiet : Fields → Bool
+is_quiet f = not (is_part f.primary) || is_suspended f.primary_state
+
+-- how a volume's pair is seen: the state of the part that it has
+abbrev pub state_seen : PairState → PairSeen
+state_seen CopyPending = seen.CopyPending
+state_seen FullDuplex = seen.FullDuplex
+state_seen Suspended = seen.Suspended
+
+abbrev pub target_seen : PairState → PairSeen
+target_seen CopyPending = seen.TargetCopyPending
+target_seen FullDuplex = seen.TargetFullDuplex
+target_seen Suspended = seen.TargetSuspended
+
+abbrev pub pair_seen : Fields → PairSeen
+pair_seen f = if is_part f.primary then state_seen f.primary_state else if is_part f.secondary then target_seen f.secondary_state else seen.None
+
+-- track t of a primary changes without its secondary: it is out of sync from then on
+abbrev pub parted_track : Fields → ℕ → Fields
+parted_track f t = record f { out_of_sync = if is_part f.primary then insert f.out_of_sync t else f.out_of_sync }
+
+-- A void: what changed while it recorded is out of sync too, and it neither records nor is held by coordination. So
+-- nothing changes where it does neither.
+abbrev pub is_engaged : Fields → Bool
+is_engaged f = f.recording || f.coordination
+
+abbrev pub voided : Fields → Fields
+voided f = record f {
+  coordination = false;
+  recording = false;
+  out_of_sync = if is_engaged f then union f.out_of_sync f.change_recording else f.out_of_sync;
+  change_recording = if is_engaged f then empty else f.change_recording;
+}
+
+-- a primary is Suspended; a long busy state, where it is set, stays
+abbrev pub suspended : Bool → Fields → Fields
+suspended busy f = record (voided f) { primary_state = Suspended; long_busy = f.long_busy || busy }
+
+-- a pair is made: the part of the secondary, and that of the primary, of which all tracks are out of sync or none
+abbrev pub first_state : Part → Bool → PairState
+first_state Metro full = if full then CopyPending else FullDuplex
+first_state _ full = CopyPending
+
+abbrev pub made_secondary : ℕ → Part → PairState → Fields → Fields
+made_secondary a kind state f = record f { secondary = kind; secondary_state = state; secondary_partner = a; seal = 0 }
+
+abbrev pub made_primary : ℕ → ℕ → Part → PairState → Bool → Fields → Fields
+made_primary n b kind state full f = record f {
+  primary = kind;
+  primary_state = state;
+  primary_partner = b;
+  coordination = false;
+  long_busy = false;
+  recording = false;
+  out_of_sync = if full then all_tracks n else empty;
+  change_recording = empty;
+}
+
+-- a part is taken away; of a primary the attempt stays
+abbrev pub no_primary : Fields → Fields
+no_primary f = record f {
+  primary = Absent;
+  primary_state = CopyPending;
+  primary_partner = 0;
+  coordination = false;
+  long_busy = false;
+  recording = false;
+  out_of_sync = empty;
+  change_recording = empty;
+}
+
+abbrev pub no_secondary : Fields → Fields
+no_secondary f = record f { secondary = Absent; secondary_state = CopyPending; secondary_partner = 0; seal = 0 }
+
+-- the last track of a Metro Mirror pair that is out of sync
+abbrev pub is_last : Fields → ℕ → Bool
+is_last f t = is_metro f.primary && is_bare (remove f.out_of_sync t)
+
+-- a secondary has stored track t, and its primary strikes the track off; with the last one of a Metro Mirror pair both
+-- are Full Duplex
+abbrev pub received : Bool → Fields → ℕ → Fields
+received last f t = record f { blank = remove f.blank t; seal = 0; secondary_state = if last then FullDuplex else f.secondary_state }
+
+abbrev pub struck : Bool → Fields → ℕ → Fields
+struck last f t = record f { out_of_sync = remove f.out_of_sync t; primary_state = if last then FullDuplex else f.primary_state }
+
+-- a pair that goes on
+abbrev pub next_state : Fields → PairState
+next_state f = if is_metro f.primary && is_bare f.out_of_sync then FullDuplex else CopyPending
+
+abbrev pub resumed : PairState → Fields → Fields
+resumed state f = record f { primary_state = state; long_busy = false }
+
+-- a secondary becomes a Suspended primary of its primary, with no track out of sync
+abbrev pub taken_over : Fields → Fields
+taken_over f = record (no_secondary f) {
+  primary = f.secondary;
+  primary_state = Suspended;
+  primary_partner = f.secondary_partner;
+  coordination = false;
+  long_busy = false;
+  recording = false;
+  out_of_sync = empty;
+  change_recording = empty;
+}
