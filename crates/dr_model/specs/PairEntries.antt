@@ -160,9 +160,12 @@ abbrev pub sends : List ℕ → ℕ → ℕ → List ℕ → List Entry
 sends volumes a b [] = []
 sends volumes a b (t ∷ ts) = send_entries volumes a b t ++ sends volumes a b ts
 
--- where another server stopped, primary a is suspended
-abbrev pub suspend_after : Control → ℕ → ℕ → List Entry
-suspend_after k a s = if nat_eq s (k.volume a).server then [] else now (Suspend a false) ∷ []
+-- what follows the stop of a server: the primary is suspended, where its own server still runs
+abbrev pub suspend_running : ℕ → Entry
+suspend_running a k = if is_part (fields_at k a).primary && is_running a k then Do (Make (Suspend a false)) else Pass
+
+abbrev pub suspend_after : ℕ → ℕ → List Entry
+suspend_after a s = suspend_running a ∷ []
 
 -- the tracks of a set in order, at most so many
 abbrev pub tracks_to_send : Option ℕ → ℕ → Tracks → List ℕ

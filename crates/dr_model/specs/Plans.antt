@@ -465,7 +465,7 @@ drain_plan k a most =
       first = same;
       told = [];
       entries = check (is_defined a) (unknown OfVolume) ∷ running_check k a ∷ check (is_copying a) (pair_state k a) ∷ sends k.volumes a (fields_at k a).primary_partner ts;
-      follows = suspend_after k a;
+      follows = suspend_after a;
       last = same;
       says = always (Done (Counted (length ts)));
     }
