@@ -22,6 +22,7 @@ ghost use Rattle.dr_flash.specs.Views.{view_seen, OthersShow};
 use crate::acts::shift;
 use crate::fields::made;
 use crate::options::Options;
+use crate::pairs::{is_unpaired, pair_state};
 use crate::place::{server_of, tracks_of};
 use crate::standing::{look_at_targets, relation_state};
 use crate::told::{Telling, Told};
@@ -58,7 +59,8 @@ fn alike_refusal(c: &Config, s: VolumeId, t: VolumeId) -> Option<Refusal>
     None
 }
 
-/// Why t can't become a target of s: t stands in a relationship, s is a target, or s has 12 targets.
+/// Why t can't become a target of s: t stands in a relationship, s is a target, t has a part in a pair, or s has 12
+/// targets.
 fn free_refusal<P: Plant>(p: &P, c: &Config, s: VolumeId, t: VolumeId) -> Option<Refusal>
     requires stands { StandsFor c.now (P.state p.now) }
     requires source { IsSome (place_of c.now s.0) }
@@ -76,6 +78,9 @@ fn free_refusal<P: Plant>(p: &P, c: &Config, s: VolumeId, t: VolumeId) -> Option
     }
     if peek_fields(p, c, s).related {
         return Some(relation_state(p, c, s));
+    }
+    if !is_unpaired(&peek_fields(p, c, t)) {
+        return Some(pair_state(p, c, t));
     }
     if look_at_targets(p, c, s).count >= MOST_TARGETS {
         return Some(Refusal::Limit {
@@ -126,8 +131,8 @@ fn relate<P: Plant>(
 }
 
 /// Makes t a target of s; the caller knows both volumes. Refused, in this order, where the server of s is off, s and t are
-/// one, their servers or sizes differ, t is a target or a source, s is a target, or s has 12 targets. Fails too where the
-/// server stops in the move or goes off at a read. The journal needs room for two events.
+/// one, their servers or sizes differ, t is a target or a source, s is a target, t has a part in a pair, or s has 12 targets.
+/// Fails too where the server stops in the move or goes off at a read. The journal needs room for two events.
 pub fn establish<P: Plant>(
     p: &mut P,
     c: &Config,

@@ -12,6 +12,7 @@ ghost use Rattle.dr_flash.specs.Here.{seen};
 ghost use Rattle.dr_flash.specs.Standing.{targets_in, any_of, relation_of};
 ghost use Rattle.dr_flash.specs.HostWrites.{write_refusal};
 
+use crate::pairs::is_part;
 use dr_config::Config;
 use dr_ids::{Refusal, RelSeen, VolumeId};
 use dr_plant::Plant;
@@ -112,7 +113,7 @@ fn is_settled_by(f: &Fields, all: Targets) -> bool
         && !((f.related && f.reversing) || all.reversing)
 }
 
-/// Why a host write on a volume is refused for good, if it is: the volume is an inhibited target, or target or source of a
+/// Why a host write on a volume is refused for good, if it is: the volume is a secondary, an inhibited target, or target or source of a
 /// revertible or reversing relationship. It is looked at whether or not the volume's server is on.
 pub fn write_refusal<P: Plant>(p: &P, c: &Config, v: VolumeId) -> Option<Refusal>
     requires stands { StandsFor c.now (P.state p.now) }
@@ -121,6 +122,9 @@ pub fn write_refusal<P: Plant>(p: &P, c: &Config, v: VolumeId) -> Option<Refusal
     ensures calm { is_stop result ≡ false }
 {
     let fields = peek_fields(p, c, v);
+    if is_part(fields.secondary) {
+        return Some(Refusal::NotPrimary { volume: v });
+    }
     if fields.related && fields.inhibited {
         return Some(Refusal::Inhibited { volume: v });
     }

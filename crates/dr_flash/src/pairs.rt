@@ -1,0 +1,101 @@
+//! What a volume's fields say of its pair.
+
+ghost use Rattle.std.specs.Prelude.{◌≡◌, not, ◌||◌, false, Some, List, IsSome};
+ghost use Rattle.dr_config.specs.Table.{StandsFor, place_of};
+ghost use Rattle.dr_model.specs.declared.event.Event.{Event};
+ghost use Rattle.dr_model.specs.Entries as entries;
+ghost use Rattle.dr_model.specs.Layout as layout;
+ghost use Rattle.dr_model.specs.Pairs as pairs;
+ghost use Rattle.dr_volume.specs.Plain.{plain};
+ghost use Rattle.dr_volume.specs.View.{Rest};
+ghost use Rattle.dr_flash.specs.Checks.{is_stop};
+ghost use Rattle.dr_flash.specs.Here.{seen};
+
+use dr_config::Config;
+use dr_ids::{PairSeen, Refusal, VolumeId};
+use dr_model::{PairState, Part};
+use dr_plant::Plant;
+use dr_volume::{Fields, peek_fields};
+
+/// Whether a volume has a part in a pair.
+pub fn is_part(part: Part) -> bool
+    ensures { result ≡ layout.is_part part }
+{
+    match part {
+        Part::Absent => false,
+        Part::Metro | Part::Global => true,
+    }
+}
+
+/// Whether a primary is Suspended.
+pub fn is_suspended(state: PairState) -> bool
+    ensures { result ≡ pairs.is_suspended state }
+{
+    match state {
+        PairState::Suspended => true,
+        PairState::CopyPending | PairState::FullDuplex => false,
+    }
+}
+
+/// Whether a volume has no part in a pair.
+pub fn is_unpaired(f: &Fields) -> bool
+    ensures { result ≡ pairs.is_unpaired (plain f.now) }
+{
+    !is_part(f.primary) && !is_part(f.secondary)
+}
+
+/// Whether a volume is no primary, or a Suspended one.
+pub fn is_quiet(f: &Fields) -> bool
+    ensures { result ≡ pairs.is_quiet (plain f.now) }
+{
+    !is_part(f.primary) || is_suspended(f.primary_state)
+}
+
+/// How the state of a primary is seen.
+fn state_seen(state: PairState) -> PairSeen
+    ensures { result ≡ pairs.state_seen state }
+{
+    match state {
+        PairState::CopyPending => PairSeen::CopyPending,
+        PairState::FullDuplex => PairSeen::FullDuplex,
+        PairState::Suspended => PairSeen::Suspended,
+    }
+}
+
+/// How the state of a secondary is seen.
+fn target_seen(state: PairState) -> PairSeen
+    ensures { result ≡ pairs.target_seen state }
+{
+    match state {
+        PairState::CopyPending => PairSeen::TargetCopyPending,
+        PairState::FullDuplex => PairSeen::TargetFullDuplex,
+        PairState::Suspended => PairSeen::TargetSuspended,
+    }
+}
+
+/// How a volume's pair is seen: the state of the part that it has.
+fn pair_seen(f: &Fields) -> PairSeen
+    ensures { result ≡ pairs.pair_seen (plain f.now) }
+{
+    if is_part(f.primary) {
+        state_seen(f.primary_state)
+    } else if is_part(f.secondary) {
+        target_seen(f.secondary_state)
+    } else {
+        PairSeen::None
+    }
+}
+
+/// The refusal that says how a volume's pair is seen, whether or not its server is on.
+pub fn pair_state<P: Plant>(p: &P, c: &Config, v: VolumeId) -> Refusal
+    requires stands { StandsFor c.now (P.state p.now) }
+    requires defined { IsSome (place_of c.now v.0) }
+    ensures refusal { (r : Rest) (events : List Event) → result ≡ entries.pair_state (seen (P.state p.now) c.now r events).control v.0 }
+    ensures calm { is_stop (Some result) ≡ false }
+{
+    let fields = peek_fields(p, c, v);
+    Refusal::PairState {
+        volume: v,
+        found: pair_seen(&fields),
+    }
+}
