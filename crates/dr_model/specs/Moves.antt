@@ -1,14 +1,14 @@
 -- The catalogue of moves. A move updates the control record of one volume, done or not done as a whole,
 -- and may carry one track to it. Each kind is a constructor, with a row in each of the tables below.
 use Rattle.std.specs.Prelude.{ℕ, Bool, true, false, not, List, [], ◌∷◌, ◌++◌, map, filter, Option, Some, None, nat_eq, if◌then◌else◌}
-use Rattle.std.specs.FinSet.{contains, remove}
+use Rattle.std.specs.FinSet.{contains}
 use Rattle.dr_model.specs.Tables.{at}
 use Rattle.dr_model.specs.Histories.{Write}
 use Rattle.dr_model.specs.Contents.{zeros, with_write}
 use Rattle.dr_model.specs.Layout.{Tracks, Fields}
 use Rattle.dr_model.specs.declared.state.Part.{Part}
 use Rattle.dr_model.specs.declared.state.PairState.{PairState}
-use Rattle.dr_model.specs.Pairs.{parted_track, is_suspended, suspended, made_secondary, made_primary, no_primary, no_secondary, received, struck, resumed, taken_over}
+use Rattle.dr_model.specs.Pairs.{altered, is_suspended, suspended, made_secondary, made_primary, no_primary, no_secondary, received, struck, resumed, taken_over}
 use Rattle.dr_model.specs.Views.{view}
 use Rattle.dr_model.specs.Control.{Pending, Volume, World}
 use Rattle.dr_model.specs.Relations.{Choices, rest, in_order, is_bare, closed, fetched, noted, rewritten, made, withdrawn_if, resynced, turned, given_up, restored}
@@ -82,7 +82,7 @@ target (TakeOver v) = v
 
 -- the fields that the move leaves there
 abbrev pub fields_left : Move → Volume → Fields
-fields_left (Land w v t) u = record (parted_track u.fields t) { blank = remove u.fields.blank t }
+fields_left (Land w v t) u = altered u.fields t
 fields_left (Overwrite w v t) u = closed u.tracks (rewritten (fetched u.fields t) t)
 fields_left (Keep v t) u = closed u.tracks (noted (fetched u.fields t) t)
 fields_left (Note v t) u = noted u.fields t
@@ -91,7 +91,7 @@ fields_left (Withdraw v) u = withdrawn_if true u.tracks u.fields
 fields_left (Fetch v t) u = closed u.tracks (fetched u.fields t)
 fields_left (Resync v sequence) u = resynced sequence u.fields
 fields_left (Reverse v) u = restored u.tracks (turned u.fields)
-fields_left (Restore v t from) u = record (parted_track u.fields t) { blank = remove u.fields.blank t }
+fields_left (Restore v t from) u = altered u.fields t
 fields_left (Release v t) u = restored u.tracks (given_up u.fields t)
 fields_left (Store v t from last) u = received last u.fields t
 fields_left (Strike v t last) u = struck last u.fields t

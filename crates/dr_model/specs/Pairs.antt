@@ -66,6 +66,10 @@ pair_seen f = if is_part f.primary then state_seen f.primary_state else if is_pa
 abbrev pub parted_track : Fields → ℕ → Fields
 parted_track f t = record f { out_of_sync = if is_part f.primary then insert f.out_of_sync t else f.out_of_sync }
 
+-- a volume's track t has new bytes
+abbrev pub altered : Fields → ℕ → Fields
+altered f t = record (parted_track f t) { blank = remove f.blank t }
+
 -- A void: what changed while it recorded is out of sync too, and it neither records nor is held by coordination. So
 -- nothing changes where it does neither.
 abbrev pub is_engaged : Fields → Bool
