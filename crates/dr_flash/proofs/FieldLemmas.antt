@@ -1,15 +1,16 @@
 -- What moves make of fields: they stay lawful, what a target holds isn't blank, and what is blank stays so.
-use Rattle.std.proofs.Common.{ℕ, List, ◌≡◌, ◌<◌, Bool, true, false, not, ◌&&◌, ◌||◌, nat_lt, refl, sym, ◌∙◌, ap, arith, rules, inl, inr, Some, None}
+use Rattle.std.proofs.Common.{ℕ, List, ◌≡◌, ◌<◌, Bool, true, false, not, ◌&&◌, ◌||◌, nat_lt, refl, sym, ◌∙◌, ap, cond, arith, rules, inl, inr, Some, None}
 use Rattle.std.specs.Prelude.{if◌then◌else◌}
 use Rattle.std.proofs.lemmas.Bool.Decides.{nat_tests, eqb_tells, Decides-ltb}
 use Rattle.std.specs.Cmp.{unsigned_tied}
 use Rattle.std.specs.FinSet.{contains, insert, remove, empty, contains-empty, members}
 use Rattle.std.specs.Ordering.{nat_cmp}
 use Rattle.dr_bits.proofs.Laws.{contains-insert_tracks, contains-remove_tracks}
-use Rattle.dr_model.specs.Layout.{Tracks, Fields}
+use Rattle.dr_model.specs.Layout.{Tracks, Fields, is_part}
 use Rattle.dr_model.specs.Lawful.{Low, HasSets, IsLawful}
 use Rattle.dr_model.specs.Moves.{Carried, is_carried}
 use Rattle.dr_model.specs.Relations.{Choices, rest, is_whole, parted_if, closed, fetched, noted, rewritten, made, withdrawn_if}
+use Rattle.dr_model.specs.Pairs.{altered}
 use Rattle.dr_volume.specs.Update.{Covers}
 use Rattle.dr_flash.proofs.SetLaws.{contains-rest}
 
@@ -48,6 +49,23 @@ lawful-fetched n t f below related law = let s : HasSets n f = law.sets in recor
   primary = law.primary;
   secondary = law.secondary;
   relation = λ absent. absurd (let e : true ≡ false = sym related ∙ absent in cc);
+}
+
+-- of a volume whose track has new bytes
+pub lawful-altered : (n t : ℕ) (f : Fields) → t < n → IsLawful n f → IsLawful n (altered f t)
+lawful-altered n t f below law = let s : HasSets n f = law.sets in record {
+  sets = record {
+    out_of_sync_low = low-if (is_part f.primary) n _ _ (low-insert n t f.out_of_sync below s.out_of_sync_low) s.out_of_sync_low;
+    change_recording_low = s.change_recording_low;
+    own_low = s.own_low;
+    previous_own_low = s.previous_own_low;
+    source_changes_low = s.source_changes_low;
+    target_changes_low = s.target_changes_low;
+    blank_low = low-remove n t f.blank s.blank_low;
+  };
+  primary = λ absent. let p = law.primary absent in (p.0, p.1, p.2, p.3, p.4, ap {B = Tracks} (λ b. cond b (insert f.out_of_sync t) f.out_of_sync) absent ∙ p.5, p.6);
+  secondary = law.secondary;
+  relation = law.relation;
 }
 
 pub lawful-noted : (n t : ℕ) (f : Fields) → t < n → f.related ≡ true → IsLawful n f → IsLawful n (noted f t)

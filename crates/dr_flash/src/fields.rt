@@ -1,11 +1,13 @@
 //! What the fields of a volume become as relationships are made, kept and ended.
 
 ghost use Rattle.std.specs.Prelude.{◌≡◌, ◌≤◌, ◌<◌, true};
+ghost use Rattle.dr_model.specs.Pairs as pairs;
 ghost use Rattle.dr_model.specs.Relations as relations;
 ghost use Rattle.dr_volume.specs.Plain.{plain};
 ghost use Rattle.dr_flash.specs.Options.{choices};
 
 use crate::options::Options;
+use crate::pairs::is_part;
 use crate::sets::{is_whole, rest};
 use dr_bits::TrackSet;
 use dr_ids::VolumeId;
@@ -45,6 +47,32 @@ pub fn closed(n: u16, f: &Fields) -> Fields
         parted(f)
     } else {
         *f
+    }
+}
+
+/// Of a primary, the tracks that are out of sync once track t changes without its secondary.
+fn unsent_with(f: &Fields, t: u16) -> TrackSet
+    requires { t < 256 }
+    ensures { result ≡ (pairs.parted_track (plain f.now) t).out_of_sync }
+{
+    let mut unsent = f.out_of_sync;
+    if is_part(f.primary) {
+        unsent.insert(t);
+    }
+    unsent
+}
+
+/// A volume whose track t has new bytes.
+pub fn altered(f: &Fields, t: u16) -> Fields
+    requires { t < 256 }
+    ensures { plain result ≡ pairs.altered (plain f.now) t }
+{
+    let mut blank = f.blank;
+    blank.remove(t);
+    Fields {
+        out_of_sync: unsent_with(f, t),
+        blank,
+        ..*f
     }
 }
 

@@ -23,6 +23,7 @@ use Rattle.dr_flash.proofs.CheckLemmas.{same-test, differ-test}
 use Rattle.dr_flash.proofs.SetLaws.{contains-rest}
 use Rattle.dr_flash.proofs.ViewLemmas.{view-source, view-own}
 use Rattle.dr_flash.specs.Views.{view_seen}
+use Rattle.dr_model.specs.Pairs.{altered}
 use Rattle.dr_incr.specs.Copies.{HoldsUnchanged, BlankAreZeros, Restores}
 use Rattle.dr_incr.specs.Steps.{HasFitSets}
 use Rattle.dr_incr.proofs.RestoreLemmas.{remove-held, union-held}
@@ -74,7 +75,7 @@ unfolding in_order
 lowest-held n k own h = first-held (contains own) k (range_with_len 0 n) h
 
 -- a volume that stores a track keeps the others
-pub stored-other : (x u : PlantState) (c : Table) (v k : ℕ) (bytes : List ℕ) → IsMoved x u c v (record (volume_seen x c v).fields { blank = remove (volume_seen x c v).fields.blank k }) (Some (k, bytes)) → BlankAreZeros x c v
+pub stored-other : (x u : PlantState) (c : Table) (v k : ℕ) (bytes : List ℕ) → IsMoved x u c v (altered (volume_seen x c v).fields k) (Some (k, bytes)) → BlankAreZeros x c v
     → (q : ℕ) → q ≢ k → track_seen u c v q ≡ track_seen x c v q
 stored-other x u c v k bytes is blank q ne =
     ap (λ (z : ℕ → List ℕ). z q) is.tracks

@@ -1,6 +1,6 @@
 -- The moves of a resynchronization and of a restore: their fields are lawful and leave the relationships fitting, and what
 -- they tell.
-use Rattle.std.proofs.Common.{ℕ, zero, suc, List, [], ◌∷◌, ◌++◌, map, length, ◌≡◌, ◌≤◌, ◌+◌, Bool, true, false, not, ◌&&◌, ◌||◌, cond, refl, sym, ◌∙◌, ap, subst, arith, None, Some, Option}
+use Rattle.std.proofs.Common.{ℕ, zero, suc, List, [], ◌∷◌, ◌++◌, map, length, ◌≡◌, ◌≤◌, ◌<◌, ◌+◌, Bool, true, false, not, ◌&&◌, ◌||◌, cond, refl, sym, ◌∙◌, ap, subst, arith, None, Some, Option}
 use Rattle.std.specs.Prelude.{filter, max, if◌then◌else◌}
 use Rattle.std.specs.List.{range_with_len}
 use Rattle.std.specs.FinSet.{contains, remove, union, difference}
@@ -15,6 +15,7 @@ use Rattle.dr_model.specs.Lawful.{Low, HasSets, IsLawful}
 use Rattle.dr_model.specs.Control.{Volume}
 use Rattle.dr_model.specs.Moves.{Resync, Reverse, Restore, Release, fields_left, told_blank, told_restored}
 use Rattle.dr_model.specs.Relations.{in_order, rest, is_bare, withdrawn_if, resynced, turned, given_up, restored}
+use Rattle.dr_model.specs.Pairs.{altered}
 use Rattle.dr_volume.specs.View.{volume_seen}
 use Rattle.dr_volume.specs.Update.{Covers}
 use Rattle.dr_flash.specs.Fit.{RelationsFit}
@@ -23,7 +24,7 @@ use Rattle.dr_flash.specs.Turns.{room_of}
 use Rattle.dr_flash.specs.declared.told.Told.TheVariants.{One, Returned}
 use Rattle.dr_flash.specs.declared.told.Telling.{Telling}
 use Rattle.dr_flash.proofs.FitLemmas.{fit-kept}
-use Rattle.dr_flash.proofs.FieldLemmas.{low-empty, low-remove, lawful-withdrawn, Apart, apart-empty, covers-all, covers-rest, covers-carried}
+use Rattle.dr_flash.proofs.FieldLemmas.{low-empty, low-remove, lawful-altered, lawful-withdrawn, Apart, apart-empty, covers-all, covers-rest, covers-carried}
 use Rattle.dr_flash.proofs.TurnLemmas.{Tells}
 use Rattle.dr_flash.proofs.MoveLemmas.{MoveFits}
 use Rattle.dr_incr.specs.Steps.{HasFitSets}
@@ -91,24 +92,11 @@ module _ (s : PlantState) (t : Table) (v : ℕ) (fit : RelationsFit s t) (lawful
   n = x.tracks
 
   -- a source stores a track
-  pub restore-fits : (k u : ℕ) (bytes : List ℕ) → x.fields.related ≡ false → MoveFits s t v (fields_left (Restore v k u) x) (Some (k, bytes))
-  restore-fits k u bytes plain = let sets : HasSets n x.fields = lawful.sets in record {
-    lawful = record {
-      sets = record {
-        out_of_sync_low = sets.out_of_sync_low;
-        change_recording_low = sets.change_recording_low;
-        own_low = sets.own_low;
-        previous_own_low = sets.previous_own_low;
-        source_changes_low = sets.source_changes_low;
-        target_changes_low = sets.target_changes_low;
-        blank_low = low-remove n k x.fields.blank sets.blank_low;
-      };
-      primary = lawful.primary;
-      secondary = lawful.secondary;
-      relation = lawful.relation;
-    };
+  pub restore-fits : (k u : ℕ) (bytes : List ℕ) → k < n → x.fields.related ≡ false → MoveFits s t v (fields_left (Restore v k u) x) (Some (k, bytes))
+  restore-fits k u bytes low plain = record {
+    lawful = lawful-altered n k x.fields low lawful;
     covers = covers-carried x.fields.blank k bytes;
-    leaves = fit-kept s t v (record x.fields { blank = remove x.fields.blank k }) fit (λ r. (r, refl)) (λ q held. kept _ (contains x.fields.blank q) _ (fit.apart v q held) (contains-remove_tracks x.fields.blank k q));
+    leaves = fit-kept s t v (altered x.fields k) fit (λ r. (r, refl)) (λ q held. kept _ (contains x.fields.blank q) _ (fit.apart v q held) (contains-remove_tracks x.fields.blank k q));
   }
     where
       kept : (a b c : Bool) → b ≡ false → c ≡ (a && b) → c ≡ false

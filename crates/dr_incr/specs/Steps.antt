@@ -6,8 +6,8 @@ use Rattle.dr_model.specs.Laws.{SetsFit}
 use Rattle.dr_model.specs.Control.{Control}
 use Rattle.dr_model.specs.Moves.{Resync, Reverse}
 use Rattle.dr_model.specs.Carry.{Entry, now, check}
-use Rattle.dr_model.specs.Entries.{relation_state, keep_on, for_lowest, running_check}
-use Rattle.dr_model.specs.Plans.{is_recorded_target, is_lone_restore}
+use Rattle.dr_model.specs.Entries.{relation_state, pair_state, keep_on, for_lowest, running_check}
+use Rattle.dr_model.specs.Plans.{is_recorded_target, is_lone_restore, may_return}
 
 -- the server of s is on, and t is a target of s whose changes are recorded
 abbrev pub resync_checks : Control → ℕ → ℕ → List Entry
@@ -16,9 +16,9 @@ resync_checks k s t = running_check k s ∷ check (is_recorded_target s t) (rela
 abbrev pub resync_entries : Control → ℕ → ℕ → Option ℕ → List Entry
 resync_entries k s t sequence = resync_checks k s t ++ now (Resync t sequence) ∷ []
 
--- and no other target of s is revertible or restored
+-- and no other target of s is revertible or restored, and s is no secondary and no primary but a Suspended one
 abbrev pub lone_checks : Control → ℕ → ℕ → List Entry
-lone_checks k s t = check (is_lone_restore s t) (relation_state k s) ∷ []
+lone_checks k s t = check (is_lone_restore s t) (relation_state k s) ∷ check (may_return s) (pair_state k s) ∷ []
 
 abbrev pub reverse_checks : Control → ℕ → ℕ → List Entry
 reverse_checks k s t = resync_checks k s t ++ lone_checks k s t

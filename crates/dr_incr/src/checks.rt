@@ -5,6 +5,8 @@ ghost use Rattle.std.specs.List.{list_any};
 ghost use Rattle.dr_config.specs.Table.{place_of};
 ghost use Rattle.dr_model.specs.declared.event.Event.{Event};
 ghost use Rattle.dr_model.specs.Entries.{copies_from};
+ghost use Rattle.dr_model.specs.Layout.{is_part};
+ghost use Rattle.dr_model.specs.Pairs as pairs;
 ghost use Rattle.dr_volume.specs.Plain.{plain};
 ghost use Rattle.dr_volume.specs.View.{Rest, volume_seen};
 ghost use Rattle.dr_flash.specs.Checks.{Checked, OnNone, is_stop};
@@ -13,7 +15,7 @@ ghost use Rattle.dr_flash.specs.Standing.{targets_in};
 ghost use Rattle.dr_incr.specs.Steps.{resync_checks, lone_checks};
 
 use dr_config::Config;
-use dr_flash::{relation_state, server_of};
+use dr_flash::{is_part, is_quiet, pair_state, relation_state, server_of};
 use dr_ids::{Refusal, VolumeId};
 use dr_plant::Plant;
 use dr_volume::{Fields, peek_fields};
@@ -75,7 +77,15 @@ fn has_other_restore<P: Plant>(p: &P, c: &Config, s: VolumeId, t: VolumeId) -> b
     false
 }
 
-/// Why t can't be restored onto s: another target of s is revertible or restored.
+/// Whether a volume with these fields may take tracks back: it is no secondary, and no primary but a Suspended one.
+fn may_return(f: &Fields) -> bool
+    ensures { result ≡ (not (is_part f.now.secondary) && pairs.is_quiet (plain f.now)) }
+{
+    !is_part(f.secondary) && is_quiet(f)
+}
+
+/// Why t can't be restored onto s: another target of s is revertible or restored, or s is a secondary, or a primary that
+/// isn't Suspended.
 pub(crate) fn lone_refusal<P: Plant>(p: &P, c: &Config, s: VolumeId, t: VolumeId) -> Option<Refusal>
     requires rest { IsAtRest (P.state p.now) c.now }
     requires source { IsSome (place_of c.now s.0) }
@@ -84,6 +94,9 @@ pub(crate) fn lone_refusal<P: Plant>(p: &P, c: &Config, s: VolumeId, t: VolumeId
 {
     if has_other_restore(p, c, s, t) {
         return Some(relation_state(p, c, s));
+    }
+    if !may_return(&peek_fields(p, c, s)) {
+        return Some(pair_state(p, c, s));
     }
     None
 }

@@ -1,14 +1,13 @@
 //! One move of a resynchronization or a restore each.
 
 ghost use Rattle.std.specs.Prelude.{◌≡◌, ℕ, ◌<◌, ◌≤◌, ◌+◌, true, false, length, None, Some, IsSome, OnOk, OnErr, is_err};
-ghost use Rattle.std.specs.FinSet.{remove};
 ghost use Rattle.dr_plant.specs.State.{PlantState};
 ghost use Rattle.dr_config.specs.Table.{place_of};
 ghost use Rattle.dr_model.specs.Carry.{now};
 ghost use Rattle.dr_model.specs.Moves.{Resync, Reverse, Restore, Release};
 ghost use Rattle.dr_model.specs.Refusals.{stopped};
+ghost use Rattle.dr_model.specs.Pairs as pairs;
 ghost use Rattle.dr_model.specs.Relations as relations;
-ghost use Rattle.dr_volume.specs.Plain.{plain};
 ghost use Rattle.dr_volume.specs.Update.{IsMoved, OthersStay};
 ghost use Rattle.dr_volume.specs.View.{Rest, volume_seen, track_seen};
 ghost use Rattle.dr_flash.specs.Faults.{Counted};
@@ -20,7 +19,7 @@ ghost use Rattle.dr_incr.specs.Steps.{HasFitSets, IsRestoredOnto};
 
 use dr_bits::TrackSet;
 use dr_config::Config;
-use dr_flash::{Telling, Told, given_up, read_told, restored, resynced, shift, tracks_of, turned};
+use dr_flash::{Telling, Told, altered, given_up, read_told, restored, resynced, shift, tracks_of, turned};
 use dr_ids::{Refusal, VolumeId};
 use dr_model::{Event, Journal};
 use dr_plant::{Block, Plant};
@@ -111,15 +110,6 @@ pub(crate) fn turn_back<P: Plant>(
     shift(p, c, j, t, &next, None, &told)
 }
 
-/// The fields of a volume that stores track k.
-fn filled(f: &Fields, k: u16) -> Fields
-    ensures { plain result ≡ record (plain f.now) { blank = remove f.now.blank k } }
-{
-    let mut next = *f;
-    next.blank.remove(k);
-    next
-}
-
 /// Source s stores these bytes of track k, which are those of its target t.
 fn store_back<P: Plant>(
     p: &mut P,
@@ -147,13 +137,13 @@ fn store_back<P: Plant>(
     ensures faults { Counted (is_err result) (P.state p.old).faults (P.state p.new).faults }
     ensures others { OthersStay (P.state p.old) (P.state p.new) c.now s.0 }
     ensures on { OnOk result ((P.state p.new).on ≡ (P.state p.old).on) }
-    ensures moved { OnOk result (IsMoved (P.state p.old) (P.state p.new) c.now s.0 (record (volume_seen (P.state p.old) c.now s.0).fields { blank = remove (volume_seen (P.state p.old) c.now s.0).fields.blank k }) (Some (k, bytes.now))) }
+    ensures moved { OnOk result (IsMoved (P.state p.old) (P.state p.new) c.now s.0 (pairs.altered (volume_seen (P.state p.old) c.now s.0).fields k) (Some (k, bytes.now))) }
     ensures room { j.old.spare ≤ j.new.spare + 2 }
     ensures room_left { OnOk result (j.old.spare ≤ j.new.spare + 1) }
     ensures spare { length j.new.events + j.new.spare ≡ length j.old.events + j.old.spare }
 {
     let track = *bytes;
-    let next = filled(&peek_fields(p, c, s), k);
+    let next = altered(&peek_fields(p, c, s), k);
     let told = Telling::of(Told::One(Event::Back {
         volume: s.0,
         track: k,
@@ -190,7 +180,7 @@ pub(crate) fn take_back<P: Plant>(
     ensures faults { Counted (is_err result) (P.state p.old).faults (P.state p.new).faults }
     ensures others { OthersStay (P.state p.old) (P.state p.new) c.now s.0 }
     ensures on { OnOk result ((P.state p.new).on ≡ (P.state p.old).on) }
-    ensures moved { OnOk result (IsMoved (P.state p.old) (P.state p.new) c.now s.0 (record (volume_seen (P.state p.old) c.now s.0).fields { blank = remove (volume_seen (P.state p.old) c.now s.0).fields.blank k }) (Some (k, track_seen (P.state p.old) c.now t.0 k))) }
+    ensures moved { OnOk result (IsMoved (P.state p.old) (P.state p.new) c.now s.0 (pairs.altered (volume_seen (P.state p.old) c.now s.0).fields k) (Some (k, track_seen (P.state p.old) c.now t.0 k))) }
     ensures room { j.old.spare ≤ j.new.spare + 2 }
     ensures room_left { OnOk result (j.old.spare ≤ j.new.spare + 1) }
     ensures spare { length j.new.events + j.new.spare ≡ length j.old.events + j.old.spare }

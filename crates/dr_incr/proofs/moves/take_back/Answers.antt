@@ -12,7 +12,7 @@ use Rattle.dr_flash.specs.Turns.{Advances, Halts}
 use Rattle.dr_flash.proofs.FitLemmas.{fit-same}
 use Rattle.dr_flash.proofs.TurnLemmas.{err-always, refused-by, halts-gone}
 use Rattle.std.proofs.Common.{ℕ, List, Some}
-use Rattle.std.specs.FinSet.{remove}
+use Rattle.dr_model.specs.Pairs.{altered}
 use Rattle.dr_model.specs.Layout.{Fields}
 use Rattle.dr_volume.specs.Update.{IsMoved}
 use Rattle.dr_volume.specs.View.{volume_seen}
@@ -58,7 +58,7 @@ returns-clause-moved g c =
     let s1 = g.P.Plant.state c.read_told.new.p in
     let u = g.P.Plant.state c.store_back.new.p in
     let t = c.args.c.now in
-    let f : PlantState → Fields = (λ x. record (volume_seen x t c.args.s.0).fields { blank = remove (volume_seen x t c.args.s.0).fields.blank c.args.k }) in
+    let f : PlantState → Fields = (λ x. altered (volume_seen x t c.args.s.0).fields c.args.k) in
     ok-along c.store_back.result c.store_back.ensures.moved (λ moved.
     subst (λ (b : List ℕ). IsMoved (g.P.Plant.state c.args.p.now) u t c.args.s.0 (f (g.P.Plant.state c.args.p.now)) (Some (c.args.k, b))) c.in_ok-read_told.ensures.bytes
     (subst (λ (x : PlantState). IsMoved x u t c.args.s.0 (f x) (Some (c.args.k, c.read_told.new.into))) c.in_ok-read_told.ensures.passed moved))

@@ -17,7 +17,7 @@ use Rattle.dr_incr.proofs.StepLemmas.{then-leads, then-fails, fails-first, lowes
 use Rattle.dr_incr.proofs.TargetLemmas.{target-of, lowest-below, neither, differs, other-target, same-lowest}
 use Rattle.dr_model.specs.Relations.{restored, given_up}
 use Rattle.dr_incr.proofs.CopyLaws.{moved-after, stored-track}
-use Rattle.std.specs.FinSet.{remove}
+use Rattle.dr_model.specs.Pairs.{altered}
 use Rattle.dr_incr.proofs.BackLaws.{stored-other}
 use Rattle.dr_incr.proofs.restore.give_back.Goals as goal
 
@@ -164,5 +164,5 @@ returns-clause-kept g c =
     ok-along c.reverse_finish.result (c.reverse_finish.ensures.moved k (same-lowest x x2 t c.args.t.0 k same c.requires.held)) (λ is blank q ne.
     ap (λ (f : ℕ → List ℕ). f q) (c.reverse_finish.ensures.others c.args.s.0 (λ same. apart (sym same))).tracks
     ∙ stored-other x x2 t c.args.s.0 k _
-    (moved-after x x1 x2 t c.args.s.0 (λ (z : Volume). record z.fields { blank = remove z.fields.blank k }) _ (c.in_ok-keep_others.ensures.others c.args.s.0 (no-own x t c.args.s.0 c.requires.fit)) c.in_ok-take_back.ensures.moved)
+    (moved-after x x1 x2 t c.args.s.0 (λ (z : Volume). altered z.fields k) _ (c.in_ok-keep_others.ensures.others c.args.s.0 (no-own x t c.args.s.0 c.requires.fit)) c.in_ok-take_back.ensures.moved)
     blank q ne)
