@@ -16,10 +16,10 @@ use Rattle.dr_model.specs.declared.said.Addition.TheVariants.{Counted}
 use Rattle.dr_model.specs.Runs.{after_plan, said}
 use Rattle.dr_model.specs.Refusals.{unknown, server_off}
 use Rattle.dr_ids.specs.declared.refusal.Kind.TheVariants.{Volume as OfVolume}
-use Rattle.dr_model.specs.Plans.{copy_plan, copy_one, is_defined, may_copy, at_most, left_to_copy}
+use Rattle.dr_model.specs.Plans.{copy_plan, copy_one, is_defined, may_copy, may_give_back, at_most, left_to_copy}
 use Rattle.dr_model.specs.Control.{World}
 use Rattle.dr_model.specs.Carry.{Entry, Outcome, carry, check}
-use Rattle.dr_model.specs.Entries.{times, give_back, is_running, relation_state}
+use Rattle.dr_model.specs.Entries.{fields_at, times, give_back, is_running, relation_state, pair_state, takes_back}
 use Rattle.dr_model.specs.Laws.{Sound}
 use Rattle.dr_volume.specs.View.{volume_seen, volume_at, volume_on, ids_of, ReadsPass}
 use Rattle.dr_flash.specs.Here.{IsAtRest, armed_in}
@@ -99,6 +99,15 @@ may_copy_by f = f.related && (not f.revertible && (f.reversing || not f.nocopy))
 abbrev pub left_by : Fields → ℕ → ℕ
 left_by f n = if f.reversing then len f.own else len (rest n f.own)
 
+-- whether what a restored target gives back may be taken, and where it may
+pub gives : (b : Bool) (why : Refusal) (o : Option Refusal) → o ≡ (if b then None else Some why) → o ≡ None → b ≡ true
+gives true why o is none = refl
+gives false why o is none = absurd (let e : None ≡ Some why = sym none ∙ is in cc)
+
+pub held : (b : Bool) (why x : Refusal) (o : Option Refusal) → o ≡ (if b then None else Some why) → o ≡ Some x → (b ≡ false) × (x ≡ why)
+held true why x o is some = absurd (let e : Some x ≡ None = sym some ∙ is in cc)
+held false why x o is some = (refl, (let e : Some x ≡ Some why = sym some ∙ is in cc))
+
 -- what comes before tracks are copied
 module _ (s : PlantState) (c : Table) (h : Writes) (ev : List Event) (t : ℕ) (most : Option ℕ) (pass : ReadsPass s) where
   abbrev pub before : World
@@ -111,7 +120,8 @@ module _ (s : PlantState) (c : Table) (h : Writes) (ev : List Event) (t : ℕ) (
   checks =
       check (is_defined t) (unknown OfVolume)
       ∷ check (is_running t) (server_off (before.control.volume t).server)
-      ∷ check (may_copy t) (relation_state before.control t) ∷ []
+      ∷ check (may_copy t) (relation_state before.control t)
+      ∷ check (may_give_back t) (pair_state before.control (fields_at before.control t).source) ∷ []
 
   refused-so : (why : Refusal) → Checked before checks (Some why) → (line : ℕ) → after_plan before line (copy_plan before.control t most) ≡ said before line (Refused why)
   refused-so why checked line = step-nowhere c s s h ev ev checks (times copied (copy_one before.control t)) (Done (Counted copied)) pass why checked line
@@ -136,24 +146,36 @@ module _ (s : PlantState) (c : Table) (h : Writes) (ev : List Event) (t : ℕ) (
           (ends-passed armed before (Some why) before (is_running t) (server_off (before.control.volume t).server) _ on
           (refuses armed before (may_copy t) (relation_state before.control t) (Some why) _ never (ap Some is))))
 
+      pub copy-held : (why : Refusal) → may_copy t before.control ≡ true → may_give_back t before.control ≡ false → why ≡ pair_state before.control (fields_at before.control t).source
+          → (line : ℕ) → after_plan before line (copy_plan before.control t most) ≡ said before line (Refused why)
+      copy-held why may held is =
+          refused-so why (λ armed ds. ends-passed armed before (Some why) before (is_defined t) (unknown OfVolume) _ there
+          (ends-passed armed before (Some why) before (is_running t) (server_off (before.control.volume t).server) _ on
+          (ends-passed armed before (Some why) before (may_copy t) (relation_state before.control t) _ may
+          (refuses armed before (may_give_back t) (pair_state before.control (fields_at before.control t).source) (Some why) _ held (ap Some is)))))
+
       -- then the tracks are
-      checked : may_copy t before.control ≡ true → Checked before checks None
+      abbrev pub Copies : Type 0
+      Copies = (may_copy t before.control ≡ true) × (may_give_back t before.control ≡ true)
+
+      checked : Copies → Checked before checks None
       checked may armed u r ds ends =
           ends-passed armed u r before (is_defined t) (unknown OfVolume) _ there
           (ends-passed armed u r before (is_running t) (server_off (before.control.volume t).server) _ on
-          (ends-passed armed u r before (may_copy t) (relation_state before.control t) _ may ends))
+          (ends-passed armed u r before (may_copy t) (relation_state before.control t) _ may.0
+          (ends-passed armed u r before (may_give_back t) (pair_state before.control (fields_at before.control t).source) _ may.1 ends)))
 
-      all-carried : may_copy t before.control ≡ true → (n : ℕ) → n ≡ copied → (u : World) (r : Option Refusal) → carry before (times n (copy_one before.control t)) ≡ (u, r) → carry before (checks ++ times copied (copy_one before.control t)) ≡ (u, r)
+      all-carried : Copies → (n : ℕ) → n ≡ copied → (u : World) (r : Option Refusal) → carry before (times n (copy_one before.control t)) ≡ (u, r) → carry before (checks ++ times copied (copy_one before.control t)) ≡ (u, r)
       all-carried may n is u r carried =
           goes-on before before checks (times copied (copy_one before.control t))
           (exact s before None before checks pass (checked may (armed_in s) before None [] (ends-none (armed_in s) before None before (record { world = refl; refusal = refl }))))
           ∙ ap (λ k. carry before (times k (copy_one before.control t))) (sym is) ∙ carried
 
-      pub copy-done : may_copy t before.control ≡ true → (n : ℕ) → n ≡ copied → (u : World) → carry before (times n (copy_one before.control t)) ≡ (u, None) → (line : ℕ) → after_plan before line (copy_plan before.control t most) ≡ said u line (Done (Counted n))
+      pub copy-done : Copies → (n : ℕ) → n ≡ copied → (u : World) → carry before (times n (copy_one before.control t)) ≡ (u, None) → (line : ℕ) → after_plan before line (copy_plan before.control t most) ≡ said u line (Done (Counted n))
       copy-done may n is u carried line =
           entries-done before u line (checks ++ times copied (copy_one before.control t)) (Done (Counted copied)) (all-carried may n is u None carried)
           ∙ ap (λ k. said u line (Done (Counted k))) (sym is)
 
-      pub copy-failed : may_copy t before.control ≡ true → (n : ℕ) → n ≡ copied → (u : World) (r : Refusal) → carry before (times n (copy_one before.control t)) ≡ (u, Some r) → (line : ℕ) → after_plan before line (copy_plan before.control t most) ≡ said u line (Refused r)
+      pub copy-failed : Copies → (n : ℕ) → n ≡ copied → (u : World) (r : Refusal) → carry before (times n (copy_one before.control t)) ≡ (u, Some r) → (line : ℕ) → after_plan before line (copy_plan before.control t most) ≡ said u line (Refused r)
       copy-failed may n is u r carried line =
           entries-refused before u line (checks ++ times copied (copy_one before.control t)) (Done (Counted copied)) r (all-carried may n is u (Some r) carried)

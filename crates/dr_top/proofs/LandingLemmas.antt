@@ -13,11 +13,11 @@ use Rattle.dr_config.specs.Table.{Table}
 use Rattle.dr_model.specs.Control.{Volume}
 use Rattle.dr_model.specs.Lawful.{IsLawful}
 use Rattle.dr_model.specs.Relations.{closed, fetched, rewritten}
-use Rattle.dr_model.proofs.LawfulLemmas.{lawful-filled}
+use Rattle.dr_model.specs.Pairs.{altered}
 use Rattle.dr_volume.specs.View.{volume_seen}
 use Rattle.dr_flash.specs.Fit.{RelationsFit}
 use Rattle.dr_flash.proofs.FitLemmas.{fit-kept}
-use Rattle.dr_flash.proofs.FieldLemmas.{covers-carried}
+use Rattle.dr_flash.proofs.FieldLemmas.{covers-carried, lawful-altered}
 use Rattle.dr_flash.proofs.MoveLemmas.{MoveFits, overwrite-fits}
 use Rattle.dr_top.specs.Landing.{landed_on}
 use Rattle.dr_model.specs.Contents.{laid, byte_laid}
@@ -86,12 +86,12 @@ module _ (s : PlantState) (c : Table) (v k : ℕ) (fit : RelationsFit s c) (lawf
   x = volume_seen s c v
 
   lands-by : (target : Bool) → x.fields.related ≡ target
-      → MoveFits s c v (if target then closed x.tracks (rewritten (fetched x.fields k) k) else record x.fields { blank = remove x.fields.blank k }) (Some (k, bytes))
+      → MoveFits s c v (if target then closed x.tracks (rewritten (fetched x.fields k) k) else altered x.fields k) (Some (k, bytes))
   lands-by true is = overwrite-fits s c v fit lawful is k low 0 bytes
   lands-by false is = record {
-    lawful = lawful-filled x.tracks x.fields k lawful;
+    lawful = lawful-altered x.tracks k x.fields low lawful;
     covers = covers-carried x.fields.blank k bytes;
-    leaves = fit-kept s c v (record x.fields { blank = remove x.fields.blank k }) fit (λ r. (r, refl)) (λ q h. removed_from x.fields.blank k q (fit.apart v q h));
+    leaves = fit-kept s c v (altered x.fields k) fit (λ r. (r, refl)) (λ q h. removed_from x.fields.blank k q (fit.apart v q h));
   }
 
   pub lands-fit : MoveFits s c v (landed_on x k) (Some (k, bytes))

@@ -32,8 +32,8 @@ use Rattle.dr_model.specs.Refusals.{server_off, unknown, over}
 use Rattle.dr_model.specs.Contents.{image_at}
 use Rattle.dr_model.specs.Control.{World, is_volume}
 use Rattle.dr_model.specs.Laws.{Sound}
-use Rattle.dr_model.specs.Entries.{is_running, is_open, is_settled, relation_state, drop_unless, check_or_drop, copy_first, land_on, landing}
-use Rattle.dr_ids.specs.declared.refusal.Refusal.TheVariants.{Inhibited, Stopped}
+use Rattle.dr_model.specs.Entries.{is_running, is_no_secondary, is_open, is_settled, relation_state, drop_unless, check_or_drop, copy_first, land_on, landing}
+use Rattle.dr_ids.specs.declared.refusal.Refusal.TheVariants.{Inhibited, NotPrimary, Stopped}
 use Rattle.dr_model.specs.Plans.{Plan, unless, same, track_refusal, issue_refusal, show_done, show_plan, with_pending, issue_then, write_done, apply_done, apply_on, apply_plan}
 use Rattle.dr_model.specs.Moves as moves
 use Rattle.dr_model.specs.Control.{Control}
@@ -93,10 +93,11 @@ drops-check w n ok r ds is still =
     carry-goes w (dropped w n) (drop_unless n ok) (check ok r ∷ ds) (Drop n) (ap (λ b. cond b Pass (Do (Drop n))) is) (act-drop w n)
     ∙ carry-refused (dropped w n) ok r ds still
 
-may-write : (o q : Bool) (a b : Refusal) → (if o then (if q then None else Some a) else Some b) ≡ None → (o ≡ true) × (q ≡ true)
-may-write true true a b e = (refl, refl)
-may-write true false a b e = absurd (cc)
-may-write false q a b e = absurd (cc)
+may-write : (p o q : Bool) (a b d : Refusal) → (if not p then Some d else if not o then Some b else if not q then Some a else None) ≡ None → (p ≡ true) × (o ≡ true) × (q ≡ true)
+may-write true true true a b d e = (refl, refl, refl)
+may-write true true false a b d e = absurd (cc)
+may-write true false q a b d e = absurd (cc)
+may-write false o q a b d e = absurd (cc)
 
 -- a refusal that says no stop
 pub is_stopped-alike : (r : Refusal) → is_stopped (Refused r) ≡ is_stop (Some r)
@@ -142,7 +143,7 @@ module _ (s : PlantState) (t : Table) (h : Writes) (ev : List Event) (line v k :
   kept_landing n = copy_first (ids_of t.volumes) v k ++ land_on n v k ∷ []
 
   abbrev pub places : ℕ → List Entry
-  places n = check_or_drop n (is_open v) (Inhibited (record { 0 = v })) ++ (check_or_drop n (is_settled v) (relation_state w.control v) ++ kept_landing n)
+  places n = check_or_drop n (is_no_secondary v) (NotPrimary (record { 0 = v })) ++ (check_or_drop n (is_open v) (Inhibited (record { 0 = v })) ++ (check_or_drop n (is_settled v) (relation_state w.control v) ++ kept_landing n))
 
   -- a pending write whose server is off stays pending
   pub lands-off : (n server : ℕ) → (volume_seen s t v).server ≡ server → server < 8 → s.on server ≡ false → carry w (landing w.control n v k) ≡ (w, Some (server_off server))
@@ -156,19 +157,22 @@ module _ (s : PlantState) (t : Table) (h : Writes) (ev : List Event) (line v k :
   -- where the host may write there, it lands behind copy first
   pub lands-on : (n server : ℕ) → (volume_seen s t v).server ≡ server → server < 8 → s.on server ≡ true → write_refusal w.control v ≡ None → carry w (landing w.control n v k) ≡ carry w (kept_landing n)
   lands-on n server owner known on free =
-      let both = may-write (is_open v w.control) (is_settled v w.control) _ _ free in
+      let all = may-write (is_no_secondary v w.control) (is_open v w.control) (is_settled v w.control) _ _ _ free in
       running n server owner known on
-      ∙ passes-check w n (is_open v) _ _ both.0
-      ∙ passes-check w n (is_settled v) _ _ both.1
+      ∙ passes-check w n (is_no_secondary v) _ _ all.0
+      ∙ passes-check w n (is_open v) _ _ all.1
+      ∙ passes-check w n (is_settled v) _ _ all.2
 
   -- elsewhere it is dropped
   pub lands-nowhere : (n server : ℕ) (r : Refusal) → (volume_seen s t v).server ≡ server → server < 8 → s.on server ≡ true → write_refusal w.control v ≡ Some r → carry w (landing w.control n v k) ≡ (dropped w n, Some r)
-  lands-nowhere n server r owner known on why = running n server owner known on ∙ by (is_open v w.control) (is_settled v w.control) refl refl why
+  lands-nowhere n server r owner known on why = running n server owner known on ∙ by (is_no_secondary v w.control) (is_open v w.control) (is_settled v w.control) refl refl refl why
     where
-      by : (o q : Bool) → is_open v w.control ≡ o → is_settled v w.control ≡ q → (if o then (if q then None else Some (relation_state w.control v)) else Some (Inhibited (record { 0 = v }))) ≡ Some r → carry w (places n) ≡ (dropped w n, Some r)
-      by false q is there e = drops-check w n (is_open v) _ _ is is ∙ ap (λ x. (dropped w n, x)) e
-      by true false is there e = passes-check w n (is_open v) _ _ is ∙ drops-check w n (is_settled v) _ _ there there ∙ ap (λ x. (dropped w n, x)) e
-      by true true is there e = absurd (cc)
+      by : (p o q : Bool) → is_no_secondary v w.control ≡ p → is_open v w.control ≡ o → is_settled v w.control ≡ q
+          → (if not p then Some (NotPrimary (record { 0 = v })) else if not o then Some (Inhibited (record { 0 = v })) else if not q then Some (relation_state w.control v) else None) ≡ Some r → carry w (places n) ≡ (dropped w n, Some r)
+      by false o q first is there e = drops-check w n (is_no_secondary v) _ _ first first ∙ ap (λ x. (dropped w n, x)) e
+      by true false q first is there e = passes-check w n (is_no_secondary v) _ _ first ∙ drops-check w n (is_open v) _ _ is is ∙ ap (λ x. (dropped w n, x)) e
+      by true true false first is there e = passes-check w n (is_no_secondary v) _ _ first ∙ passes-check w n (is_open v) _ _ is ∙ drops-check w n (is_settled v) _ _ there there ∙ ap (λ x. (dropped w n, x)) e
+      by true true true first is there e = absurd (cc)
 
 -- why a write isn't issued
 module _ (s : PlantState) (t : Table) (h : Writes) (ev : List Event) (v k : ℕ) where

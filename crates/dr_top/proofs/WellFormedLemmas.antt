@@ -1,21 +1,22 @@
 -- A step that a line of the grammar gives is well formed.
-use Rattle.std.proofs.Common.{ℕ, ◌≡◌, ◌+◌, ◌-◌, ◌^◌, ◌≤◌, List, [], ◌∷◌, ◌++◌, length, arith, Bool, true, not, replicate, Option, Some, None, ◌&&◌, ◌||◌, nat_eq, nat_le, nat_lt}
+use Rattle.std.proofs.Common.{ℕ, ◌≡◌, ◌+◌, ◌-◌, ◌^◌, ◌≤◌, List, [], ◌∷◌, ◌++◌, length, arith, Bool, true, false, cond, not, replicate, Option, Some, None, ◌&&◌, ◌||◌, nat_eq, nat_le, nat_lt}
 use Rattle.std.specs.Prelude.{is_some, unwrap_or}
 use Rattle.std.specs.List.{list_all}
 use Rattle.std.specs.Str.{bytes_eq}
 use Rattle.std.proofs.lemmas.Bool.{and_parts}
 use Rattle.std.proofs.lemmas.Bool.Decides.{nat_tests}
 use Rattle.dr_model.specs.declared.step.Name.{Name}
+use Rattle.dr_model.specs.declared.step.Devs.{Devs}
 use Rattle.dr_model.specs.declared.step.Step.{Step}
-use Rattle.dr_model.specs.declared.step.Step.TheVariants.{Server, Volume, Link, Stop, StopAfter, Start, Issue, Write, MakeFlash, RemoveFlash, ResyncFlash, ReverseFlash}
+use Rattle.dr_model.specs.declared.step.Step.TheVariants.{Server, Volume, Link, Stop, StopAfter, Start, Issue, Write, MakeFlash, RemoveFlash, ResyncFlash, ReverseFlash, MakePath, RemovePath, MakePair, RemovePair, PausePair, ResumePair}
 use Rattle.dr_model.specs.LineTable as table
 use Rattle.dr_model.specs.LineText as line
 use Rattle.dr_model.specs.LineText.{at_sign, for_item, said_fits, said_operands, settings_fit, operands_fit, remote_fits, IsWritten, name_fits, name_text, bytes_fit}
 use Rattle.dr_model.specs.LineSteps.{has, no_options, no_operands, no_name}
 use Rattle.dr_model.specs.declared.grammar.Saying.{Saying}
-use Rattle.dr_model.specs.declared.grammar.Command.TheVariants.{AtServer, AtVolume, AtLink, AtStop, AtStart, AtIssue, AtWrite, Mkflash, Rmflash, Resyncflash, Reverseflash}
+use Rattle.dr_model.specs.declared.grammar.Command.TheVariants.{AtServer, AtVolume, AtLink, AtStop, AtStart, AtIssue, AtWrite, Mkflash, Rmflash, Resyncflash, Reverseflash, Mkpprcpath, Rmpprcpath, Mkpprc, Rmpprc, Pausepprc, Resumepprc}
 use Rattle.dr_model.specs.LineWords.{is_name, is_name_byte, begins_with_letter}
-use Rattle.dr_top.specs.WellFormed.{FitsName, FitsOwner, IsWellFormed}
+use Rattle.dr_top.specs.WellFormed.{FitsName, FitsOwner, FitsDevs, IsWellFormed}
 
 some_letter : (word : List ℕ) → begins_with_letter word ≡ true → 1 ≤ length word
 some_letter [] h = cc
@@ -68,6 +69,10 @@ one-name name rest h = fits-name name (and_parts (name_fits name) rest h).0
 behind : (a b : Bool) → (a && b) ≡ true → b ≡ true
 behind a b h = (and_parts a b h).1
 
+-- and both servers have names where they are named
+devs-fit : (devs : Devs) (rest : Bool) → ((not (is_some devs.dev) || name_fits (unwrap_or devs.dev no_name)) && ((not (is_some devs.remotedev) || name_fits (unwrap_or devs.remotedev no_name)) && rest)) ≡ true → FitsDevs devs
+devs-fit devs rest h = (owner-fits devs.dev _ h, owner-fits devs.remotedev rest (behind (not (is_some devs.dev) || name_fits (unwrap_or devs.dev no_name)) _ h))
+
 write-operands : (v t offset len : ℕ) (bytes : List ℕ) → (nat_lt v 65536 && (nat_lt t (2 ^ 32) && (nat_le offset 63 && ((nat_le 1 len && nat_le (offset + len) 64 && bytes_fit len bytes) && true)))) ≡ true → (1 ≤ len) × (offset + len ≤ 64)
 write-operands v t offset len bytes h =
     let a : Bool = nat_le 1 len && nat_le (offset + len) 64 && bytes_fit len bytes in
@@ -94,4 +99,10 @@ written-fits (ResyncFlash devs s t nocopy persistent recorded inhibited sequence
     owner-fits devs.dev _ (settings-fit (for_item Resyncflash (record no_options { devs = devs; nocopy = nocopy; persistent = persistent; recorded = recorded; inhibited = inhibited; sequence = sequence }) s t) h)
 written-fits (ReverseFlash devs s t tgtpprc sequence) h =
     owner-fits devs.dev _ (settings-fit (for_item Reverseflash (record no_options { devs = devs; sequence = sequence; fast = true; tgtpprc = tgtpprc }) s t) h)
+written-fits (MakePath devs src tgt group) h = devs-fit devs _ (settings-fit (for_item Mkpprcpath (record no_options { devs = devs; src = Some src; tgt = Some tgt; group = group }) 0 0) h)
+written-fits (RemovePath devs src tgt force) h = devs-fit devs _ (settings-fit (for_item Rmpprcpath (record no_options { devs = devs; force = force }) src tgt) h)
+written-fits (MakePair devs a b kind full) h = devs-fit devs _ (settings-fit (for_item Mkpprc (record no_options { devs = devs; kind = Some kind; full = cond full None (Some false) }) a b) h)
+written-fits (RemovePair devs a b source_only) h = devs-fit devs _ (settings-fit (for_item Rmpprc (record no_options { devs = devs; unconditional = source_only; at_source = source_only }) a b) h)
+written-fits (PausePair devs a b) h = devs-fit devs _ (settings-fit (for_item Pausepprc (record no_options { devs = devs }) a b) h)
+written-fits (ResumePair devs a b kind) h = devs-fit devs _ (settings-fit (for_item Resumepprc (record no_options { devs = devs; kind = Some kind }) a b) h)
 written-fits _ h = tt

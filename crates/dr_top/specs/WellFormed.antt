@@ -1,8 +1,9 @@
 -- Steps as a line can give them.
 use Rattle.std.specs.Prelude.{◌+◌, ◌≤◌, Option, Some, None}
 use Rattle.dr_model.specs.declared.step.Name.{Name}
+use Rattle.dr_model.specs.declared.step.Devs.{Devs}
 use Rattle.dr_model.specs.declared.step.Step.{Step}
-use Rattle.dr_model.specs.declared.step.Step.TheVariants.{Server, Volume, Link, Stop, StopAfter, Start, Issue, Write, MakeFlash, RemoveFlash, ResyncFlash, ReverseFlash}
+use Rattle.dr_model.specs.declared.step.Step.TheVariants.{Server, Volume, Link, Stop, StopAfter, Start, Issue, Write, MakeFlash, RemoveFlash, ResyncFlash, ReverseFlash, MakePath, RemovePath, MakePair, RemovePair, PausePair, ResumePair}
 
 -- a name has 1 to 24 bytes
 abbrev pub FitsName : Name → Type 0
@@ -12,6 +13,10 @@ FitsName n = (1 ≤ n.len) × (n.len ≤ 24)
 abbrev pub FitsOwner : Option Name → Type 0
 FitsOwner None = Unit {0}
 FitsOwner (Some n) = FitsName n
+
+-- and those of two servers
+abbrev pub FitsDevs : Devs → Type 0
+FitsDevs d = FitsOwner d.dev × FitsOwner d.remotedev
 
 -- names fit, and the bytes of a write, one at least, lie in one track
 abbrev pub IsWellFormed : Step → Type 0
@@ -27,4 +32,10 @@ IsWellFormed (MakeFlash devs s t nocopy persistent recorded inhibited sequence) 
 IsWellFormed (RemoveFlash devs s t sequence) = FitsOwner devs.dev
 IsWellFormed (ResyncFlash devs s t nocopy persistent recorded inhibited sequence) = FitsOwner devs.dev
 IsWellFormed (ReverseFlash devs s t tgtpprc sequence) = FitsOwner devs.dev
+IsWellFormed (MakePath devs src tgt group) = FitsDevs devs
+IsWellFormed (RemovePath devs src tgt force) = FitsDevs devs
+IsWellFormed (MakePair devs a b kind full) = FitsDevs devs
+IsWellFormed (RemovePair devs a b source_only) = FitsDevs devs
+IsWellFormed (PausePair devs a b) = FitsDevs devs
+IsWellFormed (ResumePair devs a b kind) = FitsDevs devs
 IsWellFormed _ = Unit {0}

@@ -1,11 +1,12 @@
 //! Tracks of a FlashCopy target are copied in the background, or given back.
 
-ghost use Rattle.std.specs.Prelude.{◌≡◌, ℕ, ◌+◌, ◌≤◌, Bool, true, not, ◌&&◌, ◌||◌, List, [], ◌∷◌, length, Some, IsSome, OnErr, is_err, if◌then◌else◌};
+ghost use Rattle.std.specs.Prelude.{◌≡◌, ℕ, ◌+◌, ◌≤◌, Bool, true, not, ◌&&◌, ◌||◌, List, [], ◌∷◌, length, None, Some, IsSome, false, OnErr, is_err, if◌then◌else◌};
 ghost use Rattle.std.specs.FinSet.{len};
 ghost use Rattle.dr_ids.specs.declared.refusal.Refusal.{Refusal};
-ghost use Rattle.dr_config.specs.Table.{place_of};
+ghost use Rattle.dr_config.specs.Table.{StandsFor, place_of};
 ghost use Rattle.dr_model.specs.Carry.{carry};
-ghost use Rattle.dr_model.specs.Entries.{times, fetch_next, give_back};
+ghost use Rattle.dr_model.specs.declared.event.Event.{Event};
+ghost use Rattle.dr_model.specs.Entries.{times, fetch_next, give_back, takes_back, pair_state};
 ghost use Rattle.dr_model.specs.Lawful.{IsLawful};
 ghost use Rattle.dr_model.specs.Laws.{Sound};
 ghost use Rattle.dr_model.specs.Plans as plans;
@@ -14,13 +15,15 @@ ghost use Rattle.dr_model.specs.Runs.{after_plan, said};
 ghost use Rattle.dr_model.specs.Refusals.{stopped};
 ghost use Rattle.dr_volume.specs.Plain.{plain};
 ghost use Rattle.dr_volume.specs.View.{volume_seen, ids_of};
+ghost use Rattle.dr_host.specs.Writes.{Writes};
+ghost use Rattle.dr_flash.specs.Checks.{is_stop};
 ghost use Rattle.dr_flash.specs.Fit.{RelationsFit};
 ghost use Rattle.dr_flash.specs.Here.{refusal_of};
 ghost use Rattle.dr_top.specs.Faults.{Counted, Counts};
 ghost use Rattle.dr_top.specs.Here.{here, said_of, IsReady};
 
 use dr_config::Config;
-use dr_flash::{copy_step, relation_state, rest, tracks_of};
+use dr_flash::{copy_step, is_quiet, pair_state, relation_state, rest, tracks_of};
 use dr_host::Host;
 use dr_ids::{Kind, Refusal, VolumeId};
 use dr_incr::reverse_step;
@@ -152,6 +155,21 @@ fn copy_tracks<P: Plant>(
     }
 }
 
+/// Why a target with these fields can't give tracks back, if it is being restored: its source is a primary that isn't
+/// Suspended.
+fn source_refusal<P: Plant>(plant: &P, config: &Config, f: &Fields) -> Option<Refusal>
+    requires stands { StandsFor config.now (P.state plant.now) }
+    requires source { IsSome (place_of config.now f.now.source.0) }
+    ensures refusal { (h : Writes) (events : List Event) → result ≡ (if not f.now.reversing || takes_back f.now.source.0 (here (P.state plant.now) config.now h events).control then None
+        else Some (pair_state (here (P.state plant.now) config.now h events).control f.now.source.0)) }
+    ensures calm { is_stop result ≡ false }
+{
+    if !f.reversing || is_quiet(&peek_fields(plant, config, f.source)) {
+        return None;
+    }
+    Some(pair_state(plant, config, f.source))
+}
+
 /// Copies tracks of a FlashCopy target whose server is on, as many as are left, or as many of them as a line asks for. One
 /// that is restored gives them back to its source.
 pub fn copy<P: Plant>(
@@ -182,6 +200,9 @@ pub fn copy<P: Plant>(
     let fields = peek_fields(plant, config, t);
     if !may_copy(&fields) {
         return Err(relation_state(plant, config, t));
+    }
+    if let Some(why) = source_refusal(plant, config, &fields) {
+        return Err(why);
     }
     let count = at_most(most, left_to_copy(tracks_of(config, t), &fields));
     match copy_tracks(plant, config, host, journal, t, fields.reversing, count) {

@@ -1,0 +1,165 @@
+//! The steps on pairs of volumes.
+
+ghost use Rattle.std.specs.Prelude.{◌≡◌, ℕ, ◌+◌, ◌≤◌, false, IsSome, List, length};
+ghost use Rattle.dr_plant.specs.State.{PlantState};
+ghost use Rattle.dr_config.specs.Table.{place_of};
+ghost use Rattle.dr_host.specs.Writes.{Writes};
+ghost use Rattle.dr_model.specs.declared.event.Event.{Event};
+ghost use Rattle.dr_model.specs.declared.state.Part.TheVariants.{Global};
+ghost use Rattle.dr_model.specs.Laws.{Sound};
+ghost use Rattle.dr_model.specs.Plans as plans;
+ghost use Rattle.dr_model.specs.Runs.{after_plan, said};
+ghost use Rattle.dr_flash.specs.Checks.{Checked, OnNone, is_stop};
+ghost use Rattle.dr_top.specs.Faults.{Counts};
+ghost use Rattle.dr_top.specs.Here.{here, said_of, IsReady};
+ghost use Rattle.dr_top.specs.WellFormed.{FitsDevs};
+
+use crate::define::unknown_server;
+use crate::flash::found_refusal;
+use crate::paths::is_named;
+use dr_config::Config;
+use dr_gcopy::{CopyKind, make_pair, pause, remove_pair, resume};
+use dr_host::Host;
+use dr_ids::{Refusal, VolumeId};
+use dr_model::{Addition, Devs, Journal};
+use dr_plant::Plant;
+
+/// Why a line on a pair doesn't find its volumes: one isn't defined, or one isn't on the server that is named.
+fn found_volumes(config: &Config, devs: &Devs, a: VolumeId, b: VolumeId) -> Option<Refusal>
+    requires { FitsDevs devs.now }
+    ensures checked { (x : PlantState) (h : Writes) (events : List Event) → Checked (here x config.now h events) (plans.found_volumes devs.now a.0 b.0) result }
+    ensures calm { is_stop result ≡ false }
+    ensures first { OnNone result (IsSome (place_of config.now a.0)) }
+    ensures second { OnNone result (IsSome (place_of config.now b.0)) }
+{
+    if let Some(why) = found_refusal(config, &devs.dev, a, b) {
+        return Some(why);
+    }
+    let server = dr_flash::server_of(config, b);
+    if !is_named(config, &devs.remotedev, server) {
+        return Some(unknown_server());
+    }
+    None
+}
+
+/// Makes a Global Copy pair of two volumes on two servers.
+pub fn make_copy<P: Plant>(
+    plant: &mut P,
+    config: &Config,
+    host: &Host,
+    journal: &mut Journal,
+    devs: &Devs,
+    a: VolumeId,
+    b: VolumeId,
+    full: bool,
+) -> Result<Addition, Refusal>
+    requires ready { IsReady (P.state plant.old) config.now host.now journal.old.events }
+    requires sound { Sound (here (P.state plant.old) config.now host.now journal.old.events) }
+    requires short { FitsDevs devs.now }
+    requires room { 512 ≤ journal.old.spare }
+    ensures step { (line : ℕ) → after_plan (here (P.state plant.old) config.now host.now journal.old.events) line
+        (plans.pair_plan (here (P.state plant.old) config.now host.now journal.old.events).control journal.old.events devs.now a.0 b.0 Global full)
+        ≡ said (here (P.state plant.new) config.now host.now journal.new.events) line (said_of result) }
+    ensures faults { Counts (said_of result) (P.state plant.old) (P.state plant.new) }
+    ensures ready { IsReady (P.state plant.new) config.now host.now journal.new.events }
+    ensures room { 1 ≤ journal.new.spare }
+{
+    if let Some(why) = found_volumes(config, devs, a, b) {
+        return Err(why);
+    }
+    match make_pair(plant, config, journal, a, b, CopyKind::Global, full) {
+        Ok(()) => Ok(Addition::Alone),
+        Err(refusal) => Err(refusal),
+    }
+}
+
+/// Ends a pair, or the part of its primary alone.
+pub fn end_copy<P: Plant>(
+    plant: &mut P,
+    config: &Config,
+    host: &Host,
+    journal: &mut Journal,
+    devs: &Devs,
+    a: VolumeId,
+    b: VolumeId,
+    source_only: bool,
+) -> Result<Addition, Refusal>
+    requires ready { IsReady (P.state plant.old) config.now host.now journal.old.events }
+    requires sound { Sound (here (P.state plant.old) config.now host.now journal.old.events) }
+    requires short { FitsDevs devs.now }
+    requires room { 512 ≤ journal.old.spare }
+    ensures step { (line : ℕ) → after_plan (here (P.state plant.old) config.now host.now journal.old.events) line
+        (plans.remove_plan (here (P.state plant.old) config.now host.now journal.old.events).control devs.now a.0 b.0 source_only)
+        ≡ said (here (P.state plant.new) config.now host.now journal.new.events) line (said_of result) }
+    ensures faults { Counts (said_of result) (P.state plant.old) (P.state plant.new) }
+    ensures ready { IsReady (P.state plant.new) config.now host.now journal.new.events }
+    ensures room { 1 ≤ journal.new.spare }
+{
+    if let Some(why) = found_volumes(config, devs, a, b) {
+        return Err(why);
+    }
+    match remove_pair(plant, config, journal, a, b, source_only) {
+        Ok(()) => Ok(Addition::Alone),
+        Err(refusal) => Err(refusal),
+    }
+}
+
+/// Suspends a pair.
+pub fn pause_copy<P: Plant>(
+    plant: &mut P,
+    config: &Config,
+    host: &Host,
+    journal: &mut Journal,
+    devs: &Devs,
+    a: VolumeId,
+    b: VolumeId,
+) -> Result<Addition, Refusal>
+    requires ready { IsReady (P.state plant.old) config.now host.now journal.old.events }
+    requires sound { Sound (here (P.state plant.old) config.now host.now journal.old.events) }
+    requires short { FitsDevs devs.now }
+    requires room { 512 ≤ journal.old.spare }
+    ensures step { (line : ℕ) → after_plan (here (P.state plant.old) config.now host.now journal.old.events) line
+        (plans.pause_plan (here (P.state plant.old) config.now host.now journal.old.events).control devs.now a.0 b.0)
+        ≡ said (here (P.state plant.new) config.now host.now journal.new.events) line (said_of result) }
+    ensures faults { Counts (said_of result) (P.state plant.old) (P.state plant.new) }
+    ensures ready { IsReady (P.state plant.new) config.now host.now journal.new.events }
+    ensures room { 1 ≤ journal.new.spare }
+{
+    if let Some(why) = found_volumes(config, devs, a, b) {
+        return Err(why);
+    }
+    match pause(plant, config, journal, a, b) {
+        Ok(()) => Ok(Addition::Alone),
+        Err(refusal) => Err(refusal),
+    }
+}
+
+/// Resumes a Suspended Global Copy pair.
+pub fn resume_copy<P: Plant>(
+    plant: &mut P,
+    config: &Config,
+    host: &Host,
+    journal: &mut Journal,
+    devs: &Devs,
+    a: VolumeId,
+    b: VolumeId,
+) -> Result<Addition, Refusal>
+    requires ready { IsReady (P.state plant.old) config.now host.now journal.old.events }
+    requires sound { Sound (here (P.state plant.old) config.now host.now journal.old.events) }
+    requires short { FitsDevs devs.now }
+    requires room { 512 ≤ journal.old.spare }
+    ensures step { (line : ℕ) → after_plan (here (P.state plant.old) config.now host.now journal.old.events) line
+        (plans.resume_plan (here (P.state plant.old) config.now host.now journal.old.events).control devs.now a.0 b.0 Global)
+        ≡ said (here (P.state plant.new) config.now host.now journal.new.events) line (said_of result) }
+    ensures faults { Counts (said_of result) (P.state plant.old) (P.state plant.new) }
+    ensures ready { IsReady (P.state plant.new) config.now host.now journal.new.events }
+    ensures room { 1 ≤ journal.new.spare }
+{
+    if let Some(why) = found_volumes(config, devs, a, b) {
+        return Err(why);
+    }
+    match resume(plant, config, journal, a, b, CopyKind::Global) {
+        Ok(()) => Ok(Addition::Alone),
+        Err(refusal) => Err(refusal),
+    }
+}
