@@ -1,9 +1,10 @@
 -- A step of a line, with its answer.
-use Rattle.std.proofs.Common.{ℕ, ◌≡◌, ◌+◌, List, [], ◌∷◌, ◌++◌, refl, ap, ◌∙◌, sym, subst, arith, Bool, true, false, ◌||◌, cond, not, nat_le, Ok, Err, Result, Option}
+use Rattle.std.proofs.Common.{ℕ, ◌≡◌, ◌+◌, List, [], ◌∷◌, ◌++◌, refl, ap, ◌∙◌, sym, subst, arith, Bool, true, false, ◌||◌, cond, not, nat_eq, nat_le, Ok, Err, Result, Option}
 use Rattle.std.specs.Prelude.{OnOk, OnErr}
 use Rattle.std.specs.List.{list_any}
 use Rattle.std.proofs.lemmas.List.{same_from_push}
 use Rattle.std.proofs.lemmas.List.Folds.{list_any-append}
+use Rattle.std.proofs.lemmas.Bool.{eqb-true}
 use Rattle.std.proofs.lemmas.Bool.Decides.{nat_tests}
 use Rattle.dr_io.specs.Faults.{Rose}
 use Rattle.dr_ids.specs.declared.refusal.Refusal.{Refusal}
@@ -16,10 +17,12 @@ use Rattle.dr_model.specs.declared.said.Said.{Said}
 use Rattle.dr_model.specs.declared.said.Said.TheVariants.{Done, Held, Refused}
 use Rattle.dr_model.specs.declared.step.Name.{Name}
 use Rattle.dr_model.specs.declared.step.Step.{Step}
-use Rattle.dr_model.specs.declared.step.Step.TheVariants.{Server, Volume, Link, Stop, StopAfter, Start, Issue, Write, Apply, Show, MakeFlash, RemoveFlash, ResyncFlash, ReverseFlash, Copy}
+use Rattle.dr_model.specs.declared.step.Step.TheVariants.{Server, Volume, Link, Stop, StopAfter, Start, Issue, Write, Apply, Show, MakeFlash, RemoveFlash, ResyncFlash, ReverseFlash, Copy, MakePath, RemovePath, MakePair, RemovePair, PausePair, ResumePair, Drain}
 use Rattle.dr_model.specs.declared.step.TornWord.{TornWord}
 use Rattle.dr_model.specs.declared.step.Devs.{Devs}
-use Rattle.dr_top.specs.Forms.{is_plain}
+use Rattle.dr_model.specs.declared.state.Part.TheVariants.{Global}
+use Rattle.dr_model.specs.Layout.{part_of}
+use Rattle.dr_top.specs.Forms.{is_plain, is_relation}
 use Rattle.dr_model.specs.Answers.{answer}
 use Rattle.dr_model.specs.Control.{Control, World}
 use Rattle.dr_model.specs.Plans.{refuses, plan_of, is_built, has_room}
@@ -33,52 +36,85 @@ use Rattle.dr_top.specs.Faults.{Counted, is_stop, told_stop, is_stopped}
 use Rattle.dr_top.specs.Here.{here, IsTold}
 use Rattle.dr_top.proofs.ReachLemmas.{told-answer}
 
--- a step of another form is none of those on servers, volumes and host writes
-pub none-plain : (step : Step) → ((n : Name) → step ≡ Server n → ⊥) → ((v : ℕ) (n : Name) (t : ℕ) → step ≡ Volume v n t → ⊥) → ((a b : Name) (up : Bool) → step ≡ Link a b up → ⊥)
-    → ((v t o l : ℕ) (b : List ℕ) → step ≡ Issue v t o l b → ⊥) → ((v t o l : ℕ) (b : List ℕ) → step ≡ Write v t o l b → ⊥) → ((n : ℕ) → step ≡ Apply n → ⊥) → ((v t : ℕ) → step ≡ Show v t → ⊥)
-    → ((n : Name) → step ≡ Stop n → ⊥) → ((n : Name) (k : ℕ) (torn : TornWord) → step ≡ StopAfter n k torn → ⊥) → ((n : Name) → step ≡ Start n → ⊥)
+-- a step of another form is none of those on servers, volumes, paths and host writes
+pub none-plain : (step : Step)
+    → ((n : Name) → step ≡ Server n → ⊥)
+    → ((v : ℕ) (n : Name) (t : ℕ) → step ≡ Volume v n t → ⊥)
+    → ((a b : Name) (up : Bool) → step ≡ Link a b up → ⊥)
+    → ((v t o l : ℕ) (b : List ℕ) → step ≡ Issue v t o l b → ⊥)
+    → ((v t o l : ℕ) (b : List ℕ) → step ≡ Write v t o l b → ⊥)
+    → ((n : ℕ) → step ≡ Apply n → ⊥)
+    → ((v t : ℕ) → step ≡ Show v t → ⊥)
+    → ((n : Name) → step ≡ Stop n → ⊥)
+    → ((n : Name) (k : ℕ) (torn : TornWord) → step ≡ StopAfter n k torn → ⊥)
+    → ((n : Name) → step ≡ Start n → ⊥)
+    → ((d : Devs) (s t : ℕ) (g : Bool) → step ≡ MakePath d s t g → ⊥)
+    → ((d : Devs) (s t : ℕ) (f : Bool) → step ≡ RemovePath d s t f → ⊥)
     → is_plain step ≡ false
-none-plain (Server n) server volume link issue write apply show stop arm start = absurd (server n refl)
-none-plain (Volume v n t) server volume link issue write apply show stop arm start = absurd (volume v n t refl)
-none-plain (Link a b up) server volume link issue write apply show stop arm start = absurd (link a b up refl)
-none-plain (Issue v t o l b) server volume link issue write apply show stop arm start = absurd (issue v t o l b refl)
-none-plain (Write v t o l b) server volume link issue write apply show stop arm start = absurd (write v t o l b refl)
-none-plain (Apply n) server volume link issue write apply show stop arm start = absurd (apply n refl)
-none-plain (Show v t) server volume link issue write apply show stop arm start = absurd (show v t refl)
-none-plain (Stop n) server volume link issue write apply show stop arm start = absurd (stop n refl)
-none-plain (StopAfter n x torn) server volume link issue write apply show stop arm start = absurd (arm n x torn refl)
-none-plain (Start n) server volume link issue write apply show stop arm start = absurd (start n refl)
-none-plain _ server volume link issue write apply show stop arm start = refl
+none-plain (Server n) server volume link issue write apply show stop arm start path unpath = absurd (server n refl)
+none-plain (Volume v n t) server volume link issue write apply show stop arm start path unpath = absurd (volume v n t refl)
+none-plain (Link a b up) server volume link issue write apply show stop arm start path unpath = absurd (link a b up refl)
+none-plain (Issue v t o l b) server volume link issue write apply show stop arm start path unpath = absurd (issue v t o l b refl)
+none-plain (Write v t o l b) server volume link issue write apply show stop arm start path unpath = absurd (write v t o l b refl)
+none-plain (Apply n) server volume link issue write apply show stop arm start path unpath = absurd (apply n refl)
+none-plain (Show v t) server volume link issue write apply show stop arm start path unpath = absurd (show v t refl)
+none-plain (Stop n) server volume link issue write apply show stop arm start path unpath = absurd (stop n refl)
+none-plain (StopAfter n x torn) server volume link issue write apply show stop arm start path unpath = absurd (arm n x torn refl)
+none-plain (Start n) server volume link issue write apply show stop arm start path unpath = absurd (start n refl)
+none-plain (MakePath d s t g) server volume link issue write apply show stop arm start path unpath = absurd (path d s t g refl)
+none-plain (RemovePath d s t f) server volume link issue write apply show stop arm start path unpath = absurd (unpath d s t f refl)
+none-plain _ server volume link issue write apply show stop arm start path unpath = refl
 
--- a form that isn't built
-pub unbuilt : (w : World) (line : ℕ) (step : Step) → is_plain step ≡ false
-    → ((d : Devs) (s t : ℕ) (a b c e : Bool) (n : Option ℕ) → step ≡ MakeFlash d s t a b c e n → ⊥) → ((d : Devs) (s t : ℕ) (n : Option ℕ) → step ≡ RemoveFlash d s t n → ⊥)
-    → ((d : Devs) (s t : ℕ) (a b c e : Bool) (n : Option ℕ) → step ≡ ResyncFlash d s t a b c e n → ⊥) → ((d : Devs) (s t : ℕ) (p : Bool) (n : Option ℕ) → step ≡ ReverseFlash d s t p n → ⊥)
+-- or none of those on relationships
+pub none-relation : (step : Step)
+    → ((d : Devs) (s t : ℕ) (a b c e : Bool) (n : Option ℕ) → step ≡ MakeFlash d s t a b c e n → ⊥)
+    → ((d : Devs) (s t : ℕ) (n : Option ℕ) → step ≡ RemoveFlash d s t n → ⊥)
+    → ((d : Devs) (s t : ℕ) (a b c e : Bool) (n : Option ℕ) → step ≡ ResyncFlash d s t a b c e n → ⊥)
+    → ((d : Devs) (s t : ℕ) (p : Bool) (n : Option ℕ) → step ≡ ReverseFlash d s t p n → ⊥)
     → ((t : ℕ) (most : Option ℕ) → step ≡ Copy t most → ⊥)
-    → after_plan w line (plan_of w.control w.events line step) ≡ said w line (Refused NotBuilt)
-unbuilt w line step plain make remove resync reverse copy = ap (after_plan w line) (refused w.control w.events line step plain make remove resync reverse copy) ∙ plan-refuses w line NotBuilt
-  where
-    refused : (k : Control) (events : List Event) (line : ℕ) (step : Step) → is_plain step ≡ false
-        → ((d : Devs) (s t : ℕ) (a b c e : Bool) (n : Option ℕ) → step ≡ MakeFlash d s t a b c e n → ⊥) → ((d : Devs) (s t : ℕ) (n : Option ℕ) → step ≡ RemoveFlash d s t n → ⊥)
-        → ((d : Devs) (s t : ℕ) (a b c e : Bool) (n : Option ℕ) → step ≡ ResyncFlash d s t a b c e n → ⊥) → ((d : Devs) (s t : ℕ) (p : Bool) (n : Option ℕ) → step ≡ ReverseFlash d s t p n → ⊥)
-        → ((t : ℕ) (most : Option ℕ) → step ≡ Copy t most → ⊥)
-        → plan_of k events line step ≡ refuses NotBuilt
-    refused k events line (Server n) plain make remove resync reverse copy = absurd cc
-    refused k events line (Volume v n t) plain make remove resync reverse copy = absurd cc
-    refused k events line (Link a b up) plain make remove resync reverse copy = absurd cc
-    refused k events line (Issue v t o l b) plain make remove resync reverse copy = absurd cc
-    refused k events line (Write v t o l b) plain make remove resync reverse copy = absurd cc
-    refused k events line (Apply n) plain make remove resync reverse copy = absurd cc
-    refused k events line (Show v t) plain make remove resync reverse copy = absurd cc
-    refused k events line (Stop n) plain make remove resync reverse copy = absurd cc
-    refused k events line (StopAfter n x torn) plain make remove resync reverse copy = absurd cc
-    refused k events line (Start n) plain make remove resync reverse copy = absurd cc
-    refused k events line (MakeFlash d s t a b c e n) plain make remove resync reverse copy = absurd (make d s t a b c e n refl)
-    refused k events line (RemoveFlash d s t n) plain make remove resync reverse copy = absurd (remove d s t n refl)
-    refused k events line (ResyncFlash d s t a b c e n) plain make remove resync reverse copy = absurd (resync d s t a b c e n refl)
-    refused k events line (ReverseFlash d s t p n) plain make remove resync reverse copy = absurd (reverse d s t p n refl)
-    refused k events line (Copy t most) plain make remove resync reverse copy = absurd (copy t most refl)
-    refused k events line _ plain make remove resync reverse copy = refl
+    → is_relation step ≡ false
+none-relation (MakeFlash d s t a b c e n) make remove resync reverse copy = absurd (make d s t a b c e n refl)
+none-relation (RemoveFlash d s t n) make remove resync reverse copy = absurd (remove d s t n refl)
+none-relation (ResyncFlash d s t a b c e n) make remove resync reverse copy = absurd (resync d s t a b c e n refl)
+none-relation (ReverseFlash d s t p n) make remove resync reverse copy = absurd (reverse d s t p n refl)
+none-relation (Copy t most) make remove resync reverse copy = absurd (copy t most refl)
+none-relation _ make remove resync reverse copy = refl
+
+-- a step that is built, and none of those, is one on a pair
+pub none-else : {P : Type 0} (step : Step) → is_plain step ≡ false → is_relation step ≡ false → is_built step ≡ true
+    → ((d : Devs) (a b k : ℕ) (f : Bool) → step ≡ MakePair d a b k f → ⊥)
+    → ((d : Devs) (a b : ℕ) (s : Bool) → step ≡ RemovePair d a b s → ⊥)
+    → ((d : Devs) (a b : ℕ) → step ≡ PausePair d a b → ⊥)
+    → ((d : Devs) (a b k : ℕ) → step ≡ ResumePair d a b k → ⊥)
+    → ((a : ℕ) (most : Option ℕ) → step ≡ Drain a most → ⊥)
+    → P
+none-else (Server n) plain relation built make end pause resume drain = absurd cc
+none-else (Volume v n t) plain relation built make end pause resume drain = absurd cc
+none-else (Link a b up) plain relation built make end pause resume drain = absurd cc
+none-else (Issue v t o l b) plain relation built make end pause resume drain = absurd cc
+none-else (Write v t o l b) plain relation built make end pause resume drain = absurd cc
+none-else (Apply n) plain relation built make end pause resume drain = absurd cc
+none-else (Show v t) plain relation built make end pause resume drain = absurd cc
+none-else (Stop n) plain relation built make end pause resume drain = absurd cc
+none-else (StopAfter n x torn) plain relation built make end pause resume drain = absurd cc
+none-else (Start n) plain relation built make end pause resume drain = absurd cc
+none-else (MakePath d s t g) plain relation built make end pause resume drain = absurd cc
+none-else (RemovePath d s t f) plain relation built make end pause resume drain = absurd cc
+none-else (MakeFlash d s t a b c e n) plain relation built make end pause resume drain = absurd cc
+none-else (RemoveFlash d s t n) plain relation built make end pause resume drain = absurd cc
+none-else (ResyncFlash d s t a b c e n) plain relation built make end pause resume drain = absurd cc
+none-else (ReverseFlash d s t p n) plain relation built make end pause resume drain = absurd cc
+none-else (Copy t most) plain relation built make end pause resume drain = absurd cc
+none-else (MakePair d a b k f) plain relation built make end pause resume drain = absurd (make d a b k f refl)
+none-else (RemovePair d a b s) plain relation built make end pause resume drain = absurd (end d a b s refl)
+none-else (PausePair d a b) plain relation built make end pause resume drain = absurd (pause d a b refl)
+none-else (ResumePair d a b k) plain relation built make end pause resume drain = absurd (resume d a b k refl)
+none-else (Drain a most) plain relation built make end pause resume drain = absurd (drain a most refl)
+none-else _ plain relation built make end pause resume drain = absurd cc
+
+-- a pair of a form that is built is one of Global Copy
+pub global-kind : (kind : ℕ) → nat_eq kind 2 ≡ true → part_of kind ≡ Global
+global-kind kind is = ap part_of (eqb-true kind 2 is)
 
 -- the room that is left, counted either way
 pub room-left : (n : ℕ) → nat_le n 995904 ≡ nat_le (n + 4096) 1000000

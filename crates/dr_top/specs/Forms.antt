@@ -1,9 +1,9 @@
 -- Forms of steps.
 use Rattle.std.specs.Prelude.{Bool, true, false}
 use Rattle.dr_model.specs.declared.step.Step.{Step}
-use Rattle.dr_model.specs.declared.step.Step.TheVariants.{Server, Volume, Link, Stop, StopAfter, Start, Issue, Write, Apply, Show}
+use Rattle.dr_model.specs.declared.step.Step.TheVariants.{Server, Volume, Link, Stop, StopAfter, Start, Issue, Write, Apply, Show, MakePath, RemovePath, MakeFlash, RemoveFlash, ResyncFlash, ReverseFlash, Copy}
 
--- those on servers, volumes and host writes
+-- those on servers, volumes, paths and host writes
 abbrev pub is_plain : Step → Bool
 is_plain (Server name) = true
 is_plain (Volume v name tracks) = true
@@ -15,4 +15,15 @@ is_plain (Show v t) = true
 is_plain (Stop name) = true
 is_plain (StopAfter name writes torn) = true
 is_plain (Start name) = true
+is_plain (MakePath devs src tgt group) = true
+is_plain (RemovePath devs src tgt force) = true
 is_plain _ = false
+
+-- those on FlashCopy relationships
+abbrev pub is_relation : Step → Bool
+is_relation (MakeFlash devs s t nocopy persistent recorded inhibited sequence) = true
+is_relation (RemoveFlash devs s t sequence) = true
+is_relation (ResyncFlash devs s t nocopy persistent recorded inhibited sequence) = true
+is_relation (ReverseFlash devs s t tgtpprc sequence) = true
+is_relation (Copy t most) = true
+is_relation _ = false

@@ -8,6 +8,8 @@ mod flash;
 mod landing;
 mod locate;
 mod machine;
+mod pairs;
+mod paths;
 mod put;
 mod run;
 mod status;

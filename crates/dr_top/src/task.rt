@@ -10,19 +10,21 @@ ghost use Rattle.dr_model.specs.Plans.{is_built, has_room};
 ghost use Rattle.dr_model.specs.Runs.{after_task};
 ghost use Rattle.dr_model.specs.declared.said.Said.TheVariants.{Refused};
 ghost use Rattle.dr_top.specs.Faults.{Counted, Counts, told_stop};
-ghost use Rattle.dr_top.specs.Forms.{is_plain};
+ghost use Rattle.dr_top.specs.Forms.{is_plain, is_relation};
 ghost use Rattle.dr_top.specs.Here.{here, said_of, widened, OnAnswer, OnNoMemory, Leads, IsReady};
 ghost use Rattle.dr_top.specs.WellFormed.{IsWellFormed};
 
 use crate::background::copy;
 use crate::define::{define_server, define_volume, set_link};
 use crate::flash::{make_flash, remove_flash, resync_flash, reverse_flash};
+use crate::pairs::{drain_copy, end_copy, make_copy, pause_copy, resume_copy};
+use crate::paths::{make_path, remove_path};
 use crate::steps::{HostWrite, apply, issue, show, write};
 use crate::stops::{arm, start, stop};
 use dr_config::Config;
 use dr_flash::Options;
 use dr_host::Host;
-use dr_ids::{Fault, Refusal, VolumeId};
+use dr_ids::{Fault, Lss, Refusal, VolumeId};
 use dr_model::{Addition, Journal, Said, Step};
 use dr_plant::Plant;
 use std::alloc::AllocError;
@@ -32,6 +34,9 @@ pub const MOST_EVENTS: usize = 1_000_000;
 
 /// The room that a step needs in the journal before it begins.
 const STEP_EVENTS: usize = 4096;
+
+/// The number of Global Copy in a step.
+const GLOBAL_COPY: u8 = 2;
 
 /// Whether the form of a step is built.
 fn is_built(step: &Step) -> bool
@@ -44,6 +49,9 @@ fn is_built(step: &Step) -> bool
         Step::Show { .. } | Step::Copy { .. } => true,
         Step::MakeFlash { .. } | Step::RemoveFlash { .. } => true,
         Step::ResyncFlash { .. } | Step::ReverseFlash { .. } => true,
+        Step::MakePath { .. } | Step::RemovePath { .. } => true,
+        Step::RemovePair { .. } | Step::PausePair { .. } | Step::Drain { .. } => true,
+        Step::MakePair { kind, .. } | Step::ResumePair { kind, .. } => *kind == GLOBAL_COPY,
         _ => false,
     }
 }
@@ -105,6 +113,7 @@ fn carry_relation<P: Plant>(
     requires few { length config.now.volumes ≤ 64 }
     requires room { 4096 ≤ journal.old.spare }
     requires form { is_plain step.now ≡ false }
+    requires built { is_built step.now ≡ true }
     ensures step { (line : ℕ) → Leads (here (P.state plant.old) config.now host.now journal.old.events) line step.now
         (here (P.state plant.new) config.now host.now journal.new.events) (said_of result) }
     ensures faults { Counts (said_of result) (P.state plant.old) (P.state plant.new) }
@@ -183,6 +192,79 @@ fn carry_relation<P: Plant>(
         Step::Copy { volume, most } => {
             copy(plant, config, host, journal, VolumeId(volume), most)
         }
+        _ => carry_pair(plant, config, host, journal, step),
+    }
+}
+
+/// Carries out a step on a pair whose form is built.
+fn carry_pair<P: Plant>(
+    plant: &mut P,
+    config: &Config,
+    host: &Host,
+    journal: &mut Journal,
+    step: &Step,
+) -> Result<Addition, Refusal>
+    requires ready { IsReady (P.state plant.old) config.now host.now journal.old.events }
+    requires sound { Sound (here (P.state plant.old) config.now host.now journal.old.events) }
+    requires fits { IsWellFormed step.now }
+    requires few { length config.now.volumes ≤ 64 }
+    requires room { 4096 ≤ journal.old.spare }
+    requires form { is_plain step.now ≡ false }
+    requires other { is_relation step.now ≡ false }
+    requires built { is_built step.now ≡ true }
+    ensures step { (line : ℕ) → Leads (here (P.state plant.old) config.now host.now journal.old.events) line step.now
+        (here (P.state plant.new) config.now host.now journal.new.events) (said_of result) }
+    ensures faults { Counts (said_of result) (P.state plant.old) (P.state plant.new) }
+    ensures ready { IsReady (P.state plant.new) config.now host.now journal.new.events }
+    ensures room { 1 ≤ journal.new.spare }
+{
+    match *step {
+        Step::MakePair { devs, a, b, full, .. } => make_copy(
+            plant,
+            config,
+            host,
+            journal,
+            &devs,
+            VolumeId(a),
+            VolumeId(b),
+            full,
+        ),
+        Step::RemovePair {
+            devs,
+            a,
+            b,
+            source_only,
+        } => end_copy(
+            plant,
+            config,
+            host,
+            journal,
+            &devs,
+            VolumeId(a),
+            VolumeId(b),
+            source_only,
+        ),
+        Step::PausePair { devs, a, b } => pause_copy(
+            plant,
+            config,
+            host,
+            journal,
+            &devs,
+            VolumeId(a),
+            VolumeId(b),
+        ),
+        Step::ResumePair { devs, a, b, .. } => resume_copy(
+            plant,
+            config,
+            host,
+            journal,
+            &devs,
+            VolumeId(a),
+            VolumeId(b),
+        ),
+        Step::Drain { volume, most } => {
+            drain_copy(plant, config, host, journal, VolumeId(volume), most)
+        }
         _ => Err(Refusal::NotBuilt),
     }
 }
@@ -202,6 +284,7 @@ fn carry_out<P: Plant>(
     requires few { length config.old.volumes ≤ 64 }
     requires room { 4096 ≤ journal.old.spare }
     requires count { host.old.issued + 1 < 2 ^ 32 }
+    requires built { is_built step.now ≡ true }
     ensures step { OnAnswer result (λ a. Leads (here (P.state plant.old) config.old host.old journal.old.events) line step.now
         (here (P.state plant.new) config.new host.new journal.new.events) a) }
     ensures faults { OnAnswer result (λ a. Counts a (P.state plant.old) (P.state plant.new)) }
@@ -226,6 +309,27 @@ fn carry_out<P: Plant>(
             &server,
             tracks,
         ),
+        Step::MakePath {
+            devs,
+            src,
+            tgt,
+            group,
+        } => make_path(plant, config, host, journal, &devs, Lss(src), Lss(tgt), group),
+        Step::RemovePath {
+            devs,
+            src,
+            tgt,
+            force,
+        } => widened(remove_path(
+            plant,
+            config,
+            host,
+            journal,
+            &devs,
+            Lss(src),
+            Lss(tgt),
+            force,
+        )),
         Step::Link { a, b, up } => widened(set_link(plant, config, host, journal, &a, &b, up)),
         Step::Issue {
             volume,

@@ -1,8 +1,8 @@
-use Rattle.std.proofs.Common.{arith, refl, ap, sym, ◌∙◌}
+use Rattle.std.proofs.Common.{ap, sym, ◌∙◌}
 use Rattle.dr_model.specs.Plans.{plan_of, flash_plan}
 use Rattle.dr_model.specs.Runs.{after_plan}
 use Rattle.dr_top.specs.Here.{here}
-use Rattle.dr_top.proofs.StepTaskLemmas.{unbuilt}
+use Rattle.dr_top.proofs.StepTaskLemmas.{none-relation}
 use Rattle.dr_top.proofs.task.carry_relation.Goals as goal
 
 pub returns-in-MakeFlash-clause-step : goal.returns-in-MakeFlash-clause-step
@@ -30,11 +30,5 @@ returns-in-ReverseFlash-clause-step g c line =
     ap (λ x. after_plan w line (plan_of w.control w.events line x)) c.in-ReverseFlash.is
     ∙ c.reverse_flash.ensures.step line
 
-pub returns-in_default : goal.returns-in_default
-returns-in_default g c = record {
-  step = λ line. unbuilt (here (g.P.Plant.state c.args.plant.now) c.args.config.now c.args.host.now c.args.journal.now.events) line c.args.step.now c.requires.form
-      c.in_default.not-MakeFlash c.in_default.not-RemoveFlash c.in_default.not-ResyncFlash c.in_default.not-ReverseFlash c.in_default.not-Copy;
-  faults = refl;
-  ready = c.requires.ready;
-  room = let room = c.requires.room in omega (arith, room);
-}
+pub carry_pair-requires-clause-other : goal.carry_pair-requires-clause-other
+carry_pair-requires-clause-other g c = none-relation c.args.step.now c.in_default.not-MakeFlash c.in_default.not-RemoveFlash c.in_default.not-ResyncFlash c.in_default.not-ReverseFlash c.in_default.not-Copy

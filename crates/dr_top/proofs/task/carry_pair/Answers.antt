@@ -1,0 +1,41 @@
+use Rattle.std.proofs.Common.{ap, sym, ◌∙◌}
+use Rattle.dr_model.specs.Plans.{plan_of, pair_plan, resume_plan, is_built}
+use Rattle.dr_model.specs.Runs.{after_plan}
+use Rattle.dr_top.specs.Here.{here}
+use Rattle.dr_top.proofs.StepTaskLemmas.{none-else, global-kind}
+use Rattle.dr_top.proofs.task.carry_pair.Goals as goal
+
+pub returns-in-MakePair-clause-step : goal.returns-in-MakePair-clause-step
+returns-in-MakePair-clause-step g c line =
+    let w = here (g.P.Plant.state c.args.plant.now) c.args.config.now c.args.host.now c.args.journal.now.events in
+    ap (λ x. after_plan w line (plan_of w.control w.events line x)) c.in-MakePair.is
+    ∙ ap (λ kind. after_plan w line (pair_plan w.control w.events c.in-MakePair.devs c.in-MakePair.a c.in-MakePair.b kind c.in-MakePair.full)) (global-kind c.in-MakePair.kind (sym (ap is_built c.in-MakePair.is) ∙ c.requires.built))
+    ∙ c.make_copy.ensures.step line
+
+pub returns-in-RemovePair-clause-step : goal.returns-in-RemovePair-clause-step
+returns-in-RemovePair-clause-step g c line =
+    let w = here (g.P.Plant.state c.args.plant.now) c.args.config.now c.args.host.now c.args.journal.now.events in
+    ap (λ x. after_plan w line (plan_of w.control w.events line x)) c.in-RemovePair.is
+    ∙ c.end_copy.ensures.step line
+
+pub returns-in-PausePair-clause-step : goal.returns-in-PausePair-clause-step
+returns-in-PausePair-clause-step g c line =
+    let w = here (g.P.Plant.state c.args.plant.now) c.args.config.now c.args.host.now c.args.journal.now.events in
+    ap (λ x. after_plan w line (plan_of w.control w.events line x)) c.in-PausePair.is
+    ∙ c.pause_copy.ensures.step line
+
+pub returns-in-ResumePair-clause-step : goal.returns-in-ResumePair-clause-step
+returns-in-ResumePair-clause-step g c line =
+    let w = here (g.P.Plant.state c.args.plant.now) c.args.config.now c.args.host.now c.args.journal.now.events in
+    ap (λ x. after_plan w line (plan_of w.control w.events line x)) c.in-ResumePair.is
+    ∙ ap (λ kind. after_plan w line (resume_plan w.control c.in-ResumePair.devs c.in-ResumePair.a c.in-ResumePair.b kind)) (global-kind c.in-ResumePair.kind (sym (ap is_built c.in-ResumePair.is) ∙ c.requires.built))
+    ∙ c.resume_copy.ensures.step line
+
+pub returns-in-Drain-clause-step : goal.returns-in-Drain-clause-step
+returns-in-Drain-clause-step g c line =
+    let w = here (g.P.Plant.state c.args.plant.now) c.args.config.now c.args.host.now c.args.journal.now.events in
+    ap (λ x. after_plan w line (plan_of w.control w.events line x)) c.in-Drain.is
+    ∙ c.drain_copy.ensures.step line
+
+pub returns-in_default : goal.returns-in_default
+returns-in_default g c = none-else c.args.step.now c.requires.form c.requires.other c.requires.built c.in_default.not-MakePair c.in_default.not-RemovePair c.in_default.not-PausePair c.in_default.not-ResumePair c.in_default.not-Drain
