@@ -6,8 +6,10 @@ pub mod Due
 pub mod RowsAfter
 pub mod KeepsLawful
 pub mod KeepsStructure
+pub mod KeepsParts
 pub mod KeepsImages
 pub mod KeepsRecorded
+pub mod KeepsPairs
 pub mod KeepsTargets
 pub mod KeepsQueue
 pub mod Along
