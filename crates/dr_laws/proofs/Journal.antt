@@ -6,7 +6,7 @@ use Rattle.std.proofs.lemmas.List.{append-nil, length-append}
 use Rattle.dr_ids.specs.declared.refusal.Refusal.{Refusal}
 use Rattle.dr_ids.specs.declared.refusal.Refusal.TheVariants.{Stopped as StoppedIn}
 use Rattle.dr_model.specs.declared.event.Event.{Event}
-use Rattle.dr_model.specs.declared.event.Event.TheVariants.{Issue, Ack, Blanked, Restored, Stopped, Started, Answer}
+use Rattle.dr_model.specs.declared.event.Event.TheVariants.{Issue, Ack, Blanked, Restored, Stopped, Suspended, Started, Answer}
 use Rattle.dr_model.specs.declared.said.Said.{Said}
 use Rattle.dr_model.specs.declared.said.Said.TheVariants.{Done}
 use Rattle.dr_model.specs.declared.said.Addition.TheVariants.{Alone, Wrote, Showed}
@@ -17,7 +17,8 @@ use Rattle.dr_model.specs.Control.{Control, Fuse, Pending, Volume, World, new_vo
 use Rattle.dr_model.specs.Layout.{Tracks}
 use Rattle.dr_model.specs.Tables.{at}
 use Rattle.dr_model.specs.Relations.{rest, in_order, is_bare, turned, given_up}
-use Rattle.dr_model.specs.Moves.{Move, Land, Overwrite, Keep, Note, Relate, Withdraw, Fetch, Resync, Reverse, Restore, Release, told_blank, told_restored, told, told_in_stop, landed, target, settled, settled_in_stop, is_other, marked}
+use Rattle.dr_model.specs.Pairs.{is_suspended}
+use Rattle.dr_model.specs.Moves.{Move, Land, Overwrite, Keep, Note, Relate, Withdraw, Fetch, Resync, Reverse, Restore, Release, Store, Strike, Suspend, MakeSecondary, MakePrimary, DropPrimary, DropSecondary, Follow, Resume, TakeOver, told_blank, told_restored, told, told_in_stop, landed, target, settled, settled_in_stop, is_other, marked}
 use Rattle.dr_model.specs.Carry.{Act, Make, Redo, Acknowledge, Drop, act, Next, Pass, Do, End, Entry, Outcome, carry, continue, go, follow}
 use Rattle.dr_model.specs.Entries.{landing}
 use Rattle.dr_model.specs.Plans.{Plan, plan, entries_plan, name_bytes, same, always, none_follow, server_done, volume_done, link_done, with_pending, issue_then, show_done, stop_done, arm_on, starting, start_plan}
@@ -112,6 +113,10 @@ restored-silent v s n own = by (is_bare own)
     by true = silent-append (told_blank v n own) (Restored s v ∷ []) (blanks-silent v (in_order n (rest n own))) refl
     by false = refl
 
+suspended-silent : (none : Bool) (v : ℕ) → Silent (cond none [] (Suspended v ∷ []))
+suspended-silent true v = refl
+suspended-silent false v = refl
+
 tells-silent : (m : Move) (u : Volume) → Silent (told m u)
 tells-silent (Land n v t) u = refl
 tells-silent (Overwrite n v t) u = refl
@@ -124,6 +129,16 @@ tells-silent (Resync v sequence) u = refl
 tells-silent (Reverse v) u = restored-silent v u.fields.source u.tracks (turned u.fields).own
 tells-silent (Restore v t from) u = refl
 tells-silent (Release v t) u = restored-silent v u.fields.source u.tracks (given_up u.fields t).own
+tells-silent (Store v t from last) u = refl
+tells-silent (Strike v t last) u = refl
+tells-silent (Suspend v busy) u = suspended-silent (is_suspended u.fields.primary_state) v
+tells-silent (MakeSecondary v a kind state) u = refl
+tells-silent (MakePrimary v b kind state full) u = refl
+tells-silent (DropPrimary v) u = refl
+tells-silent (DropSecondary v) u = refl
+tells-silent (Follow v state) u = refl
+tells-silent (Resume v state) u = refl
+tells-silent (TakeOver v) u = refl
 
 in_stop-silent : (m : Move) (u : Volume) → Silent (told_in_stop m u)
 in_stop-silent (Land n v t) u = refl

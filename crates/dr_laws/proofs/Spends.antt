@@ -17,8 +17,8 @@ use Rattle.dr_model.specs.Limits.{step_events, most_volumes, most_tracks}
 use Rattle.dr_model.specs.Control.{Control, World}
 use Rattle.dr_model.specs.Moves.{Land, Overwrite, Keep, Note, Relate, Withdraw, Fetch, Resync, Reverse}
 use Rattle.dr_model.specs.Carry.{Make, Redo, Acknowledge, Drop, Pass, Do, Entry, Outcome, carry, follow, check, now}
-use Rattle.dr_model.specs.Entries.{fields_at, copies_from, is_running, is_open, is_settled, relation_state, landing, land_on, keep_on, keep_if, copy_first, drop_unless, check_or_drop, times, on_found, lowest_missing, fetch_next, give_back, share_server, share_size, is_no_target}
-use Rattle.dr_model.specs.Plans.{Plan, plan, entries_plan, tables_plan, redo_on, belongs, acknowledge_on, acknowledge_if, landed_on, named_pair, is_defined, is_owner, differ, is_no_source, has_few_targets, is_plain_target, is_recorded_target, is_lone_restore, may_copy, at_most, left_to_copy}
+use Rattle.dr_model.specs.Entries.{fields_at, copies_from, is_running, is_no_secondary, is_open, is_settled, relation_state, landing, land_on, keep_on, keep_if, copy_first, drop_unless, check_or_drop, times, on_found, lowest_missing, fetch_next, give_back, share_server, share_size, is_no_target}
+use Rattle.dr_model.specs.Plans.{Plan, plan, entries_plan, tables_plan, redo_on, belongs, acknowledge_on, acknowledge_if, landed_on, named_pair, is_defined, is_owner, differ, is_no_source, has_few_targets, is_plain_target, is_recorded_target, is_lone_restore, has_no_pair, may_return, may_give_back, may_copy, at_most, left_to_copy}
 use Rattle.dr_model.specs.Runs.{begun, finish, after_plan}
 use Rattle.dr_model.specs.Laws.{Sound}
 use Rattle.dr_laws.specs.Limits.{IsWithin}
@@ -97,10 +97,10 @@ light-drop n ok r ds rest = light-then (drop_unless n ok) _ (λ w. small-choice 
 
 light-landing : (k : Control) (n v t : ℕ) → AllLight (landing k n v t)
 light-landing k n v t =
-    light-then (check (is_running v) _) _ (light-check (is_running v) _) (light-drop n (is_open v) _ _ (light-drop n (is_settled v) (relation_state k v) _
-    (light-append (copy_first k.volumes v t) _ (light-map (keep_on v t) (light-keep v t) k.volumes) (light-then (land_on n v t) [] (light-land n v t) light-none))))
+    light-then (check (is_running v) _) _ (light-check (is_running v) _) (light-drop n (is_no_secondary v) _ _ (light-drop n (is_open v) _ _ (light-drop n (is_settled v) (relation_state k v) _
+    (light-append (copy_first k.volumes v t) _ (light-map (keep_on v t) (light-keep v t) k.volumes) (light-then (land_on n v t) [] (light-land n v t) light-none)))))
 
-landing-length : (k : Control) (n v t : ℕ) → length (landing k n v t) ≡ length k.volumes + 6
+landing-length : (k : Control) (n v t : ℕ) → length (landing k n v t) ≡ length k.volumes + 8
 landing-length k n v t =
     let a : length (copy_first k.volumes v t ++ land_on n v t ∷ []) ≡ length (copy_first k.volumes v t) + 1 = length-append (copy_first k.volumes v t) (land_on n v t ∷ []) in
     let b : length (copy_first k.volumes v t) ≡ length k.volumes = length-map k.volumes (keep_on v t) in omega arith
@@ -165,8 +165,8 @@ module _ (w : World) (x : Sound w) (h : IsWithin w.control) where
   tables-spends : (first : Control → Control) (told : List Event) (said : Said) → length told ≤ 1 → Spends w (tables_plan first told said)
   tables-spends first told said le = record { spends = 0; costs = costs-nil 0 _; follows = λ s. refl; few = omega arith }
 
-  landing-few : (n v t : ℕ) → length (landing w.control n v t) ≤ 70
-  landing-few n v t = let e : length (landing w.control n v t) ≡ length w.control.volumes + 6 = landing-length w.control n v t in let le : length w.control.volumes ≤ most_volumes = h.volumes in omega arith
+  landing-few : (n v t : ℕ) → length (landing w.control n v t) ≤ 72
+  landing-few n v t = let e : length (landing w.control n v t) ≡ length w.control.volumes + 8 = landing-length w.control n v t in let le : length w.control.volumes ≤ most_volumes = h.volumes in omega arith
 
   case-spends : (line : ℕ) (p : Plan) → Case w.control w.events line p → Spends w p
   case-spends line _ (Says a) = tables-spends _ _ _ (omega arith)
@@ -175,8 +175,8 @@ module _ (w : World) (x : Sound w) (h : IsWithin w.control) where
   case-spends line _ (Links a b up) = tables-spends _ _ _ (omega arith)
   case-spends line _ (Issues v t offset len bytes free) = record { spends = 0; costs = costs-nil 0 _; follows = λ s. refl; few = omega arith }
   case-spends line _ (Writes v t offset len bytes free) =
-      record { spends = 70; costs = light-costs _ (light-landing w.control (w.control.issued + 1) v t) 70 _ (landing-few (w.control.issued + 1) v t); follows = λ s. refl; few = omega arith }
-  case-spends line _ (Applies n p found) = record { spends = 70; costs = light-costs _ (light-landing w.control p.w p.volume p.track) 70 _ (landing-few p.w p.volume p.track); follows = λ s. refl; few = omega arith }
+      record { spends = 72; costs = light-costs _ (light-landing w.control (w.control.issued + 1) v t) 72 _ (landing-few (w.control.issued + 1) v t); follows = λ s. refl; few = omega arith }
+  case-spends line _ (Applies n p found) = record { spends = 72; costs = light-costs _ (light-landing w.control p.w p.volume p.track) 72 _ (landing-few p.w p.volume p.track); follows = λ s. refl; few = omega arith }
   case-spends line _ (Shows v t there) = tables-spends _ _ _ (omega arith)
   case-spends line _ (Stops s on) = tables-spends _ _ _ (omega arith)
   case-spends line _ (Arms writes torn s) = tables-spends _ _ _ (omega arith)
@@ -188,7 +188,7 @@ module _ (w : World) (x : Sound w) (h : IsWithin w.control) where
       record { spends = 70; costs = light-costs ds (light-start s w.control.volumes) 70 _ (omega arith); follows = λ s. refl; few = omega arith }
   case-spends line _ (Flashes dev s t choices) = entries-spends _ _ 1
       (named-costs 1 _ w.control dev s t _ (costs-check 1 _ (differ s t) _ _ (costs-check 1 _ (share_server s t) _ _ (costs-check 1 _ (share_size s t) _ _ (costs-check 1 _ (is_no_target t) _ _
-      (costs-check 1 _ (is_no_source t) _ _ (costs-check 1 _ (is_no_target s) _ _ (costs-check 1 _ (has_few_targets s) _ _ (costs-last 1 _ (Relate t s choices) (omega arith)))))))))) (omega arith)
+      (costs-check 1 _ (is_no_source t) _ _ (costs-check 1 _ (is_no_target s) _ _ (costs-check 1 _ (has_no_pair t) _ _ (costs-check 1 _ (has_few_targets s) _ _ (costs-last 1 _ (Relate t s choices) (omega arith))))))))))) (omega arith)
   case-spends line _ (Withdraws dev s t) =
       let u = w.control.volume t in
       let small : u.tracks ≤ most_tracks = h.tracks t in
@@ -199,10 +199,10 @@ module _ (w : World) (x : Sound w) (h : IsWithin w.control) where
       let u = w.control.volume t in
       let small : u.tracks ≤ most_tracks = h.tracks t in
       let le = restored-few t u.fields.source u.tracks (turned u.fields).own in
-      entries-spends _ _ 257 (named-costs 257 _ w.control dev s t _ (costs-check 257 _ (is_recorded_target s t) _ _ (costs-check 257 _ (is_lone_restore s t) _ _ (costs-last 257 _ (Reverse t) (omega arith))))) (omega arith)
+      entries-spends _ _ 257 (named-costs 257 _ w.control dev s t _ (costs-check 257 _ (is_recorded_target s t) _ _ (costs-check 257 _ (is_lone_restore s t) _ _ (costs-check 257 _ (may_return s) _ _ (costs-last 257 _ (Reverse t) (omega arith)))))) (omega arith)
   case-spends line _ (Copies t most) = entries-spends _ _ 3585
-      (costs-check 3585 _ (is_defined t) _ _ (costs-check 3585 _ (is_running t) _ _ (costs-check 3585 _ (may_copy t) _ _
-      (copy-costs (at_most most (left_to_copy w.control t)) t (copied-few w.control t most_tracks most (left-few t)) _ refl)))) (omega arith)
+      (costs-check 3585 _ (is_defined t) _ _ (costs-check 3585 _ (is_running t) _ _ (costs-check 3585 _ (may_copy t) _ _ (costs-check 3585 _ (may_give_back t) _ _
+      (copy-costs (at_most most (left_to_copy w.control t)) t (copied-few w.control t most_tracks most (left-few t)) _ refl))))) (omega arith)
 
   pub plan-spends : (line : ℕ) (asked : Result Step ℕ) → Spends w (plan w.control w.events line asked)
   plan-spends line asked = case-spends line _ (plan-case w.control w.events line asked)

@@ -5,16 +5,17 @@ use Rattle.std.specs.Option.{option_or}
 use Rattle.std.specs.FinSet.{contains}
 use Rattle.dr_ids.specs.declared.refusal.Refusal.{Refusal}
 use Rattle.dr_model.specs.declared.event.Event.{Event}
-use Rattle.dr_model.specs.declared.event.Event.TheVariants.{Ack, Blanked, Restored, Stopped}
+use Rattle.dr_model.specs.declared.event.Event.TheVariants.{Ack, Blanked, Restored, Stopped, Suspended}
 use Rattle.dr_model.specs.declared.step.Name.{Name}
 use Rattle.dr_model.specs.declared.step.Step.{Step}
 use Rattle.dr_model.specs.Control.{Control, Fuse, Volume as VolumeRow, World}
 use Rattle.dr_model.specs.Layout.{Tracks, Fields}
 use Rattle.dr_model.specs.Relations.{is_bare, in_order, rest}
-use Rattle.dr_model.specs.Moves.{Move, Land, Overwrite, Keep, Note, Relate, Withdraw, Fetch, Resync, Reverse, Restore, Release, told_blank, told_restored, told, told_in_stop, landed, target}
+use Rattle.dr_model.specs.Pairs.{is_suspended}
+use Rattle.dr_model.specs.Moves.{Move, Land, Overwrite, Keep, Note, Relate, Withdraw, Fetch, Resync, Reverse, Restore, Release, Store, Strike, Suspend, MakeSecondary, MakePrimary, DropPrimary, DropSecondary, Follow, Resume, TakeOver, told_blank, told_restored, told, told_in_stop, landed, target}
 use Rattle.dr_model.specs.Carry.{Act, Make, Redo, Acknowledge, Drop, check, now, act, Turn, Next, Pass, Do, End, Entry, Outcome, carry, continue, go}
-use Rattle.dr_model.specs.Entries.{fields_at, copies_from, is_running, is_open, is_settled, relation_state, landing, land_on, keep_on, keep_if, copy_first, drop_unless, check_or_drop, times, on_found, lowest_missing, lowest_held, fetch_next, for_lowest, give_back, share_server, share_size, is_no_target}
-use Rattle.dr_model.specs.Plans.{Plan, plan, redo_on, acknowledge_on, acknowledge_if, landed_on, belongs, named_pair, is_defined, is_owner, differ, is_no_source, has_few_targets, is_plain_target, is_recorded_target, is_lone_restore, may_copy, at_most, left_to_copy}
+use Rattle.dr_model.specs.Entries.{fields_at, copies_from, is_running, is_no_secondary, is_open, is_settled, relation_state, pair_state, landing, land_on, keep_on, keep_if, copy_first, drop_unless, check_or_drop, times, on_found, lowest_missing, lowest_held, fetch_next, for_lowest, give_back, share_server, share_size, is_no_target}
+use Rattle.dr_model.specs.Plans.{Plan, plan, redo_on, acknowledge_on, acknowledge_if, landed_on, belongs, named_pair, is_defined, is_owner, differ, is_no_source, has_few_targets, is_plain_target, is_recorded_target, is_lone_restore, has_no_pair, may_return, may_give_back, may_copy, at_most, left_to_copy}
 use Rattle.dr_laws.specs.Stops.{first_stop, stop_in, refused_stop, StopsTold}
 use Rattle.dr_laws.proofs.Cases.{Case, Says, Defines, Adds, Links, Issues, Writes, Applies, Shows, Stops, Arms, Starts, Flashes, Withdraws, Resyncs, Reverses, Copies, plan-case}
 use Rattle.dr_laws.proofs.Turns.{act-cases, Counts, after_act, server_of}
@@ -39,6 +40,10 @@ restored-calm v s n own = by (is_bare own)
     by true = first-append (told_blank v n own) (Restored s v ∷ []) ∙ ap (λ o. option_or o None) (blanks-calm v (in_order n (rest n own)))
     by false = refl
 
+suspended-calm : (none : Bool) (v : ℕ) → first_stop (cond none [] (Suspended v ∷ [])) ≡ None
+suspended-calm true v = refl
+suspended-calm false v = refl
+
 told-calm : (m : Move) (u : VolumeRow) → first_stop (told m u) ≡ None
 told-calm (Land n v t) u = refl
 told-calm (Overwrite n v t) u = refl
@@ -51,6 +56,16 @@ told-calm (Resync v sequence) u = refl
 told-calm (Reverse v) u = restored-calm v _ _ _
 told-calm (Restore v t from) u = refl
 told-calm (Release v t) u = restored-calm v _ _ _
+told-calm (Store v t from last) u = refl
+told-calm (Strike v t last) u = refl
+told-calm (Suspend v busy) u = suspended-calm (is_suspended u.fields.primary_state) v
+told-calm (MakeSecondary v a kind state) u = refl
+told-calm (MakePrimary v b kind state full) u = refl
+told-calm (DropPrimary v) u = refl
+told-calm (DropSecondary v) u = refl
+told-calm (Follow v state) u = refl
+told-calm (Resume v state) u = refl
+told-calm (TakeOver v) u = refl
 
 -- and the stop that it tells is the first
 in_stop-calm : (m : Move) (u : VolumeRow) → first_stop (told_in_stop m u) ≡ None
@@ -181,8 +196,8 @@ drop-calm n ok other ds calm rest = then-calm (drop_unless n ok) _ (goes-calm (d
 
 landing-calm : (k : Control) (n v t : ℕ) → Unstopped (landing k n v t)
 landing-calm k n v t =
-    checked-calm (is_running v) _ _ refl (drop-calm n (is_open v) _ _ refl (drop-calm n (is_settled v) (relation_state k v) _ refl
-    (append-calm (copy_first k.volumes v t) _ (map-calm (keep_on v t) (keep-goes v t) k.volumes) (last-calm (land_on n v t) (λ j. do-goes _)))))
+    checked-calm (is_running v) _ _ refl (drop-calm n (is_no_secondary v) _ _ refl (drop-calm n (is_open v) _ _ refl (drop-calm n (is_settled v) (relation_state k v) _ refl
+    (append-calm (copy_first k.volumes v t) _ (map-calm (keep_on v t) (keep-goes v t) k.volumes) (last-calm (land_on n v t) (λ j. do-goes _))))))
 
 named-calm : (k : Control) (dev : Option Name) (s t : ℕ) (ds : List Entry) → Unstopped ds → Unstopped (named_pair k dev s t ++ ds)
 named-calm k dev s t ds rest = checked-calm (is_defined s) _ _ refl (checked-calm (is_defined t) _ _ refl (checked-calm (is_owner dev s) _ _ refl (checked-calm (is_running s) _ _ refl rest)))
@@ -216,14 +231,14 @@ case-calm k events line _ (Arms writes torn s) = none-calm
 case-calm k events line _ (Flashes dev s t choices) = named-calm k dev s t _
     (checked-calm (differ s t) _ _ refl (checked-calm (share_server s t) _ _ refl (checked-calm (share_size s t) _ _ refl
     (checked-calm (is_no_target t) (relation_state k t) _ refl (checked-calm (is_no_source t) (relation_state k t) _ refl (checked-calm (is_no_target s) (relation_state k s) _ refl
-    (checked-calm (has_few_targets s) _ _ refl (now-calm (Relate t s choices)))))))))
+    (checked-calm (has_no_pair t) (pair_state k t) _ refl (checked-calm (has_few_targets s) _ _ refl (now-calm (Relate t s choices))))))))))
 case-calm k events line _ (Withdraws dev s t) = named-calm k dev s t _ (checked-calm (is_plain_target s t) (relation_state k t) _ refl (now-calm (Withdraw t)))
 case-calm k events line _ (Resyncs dev s t sequence) = named-calm k dev s t _ (checked-calm (is_recorded_target s t) (relation_state k t) _ refl (now-calm (Resync t sequence)))
 case-calm k events line _ (Reverses dev s t) =
-    named-calm k dev s t _ (checked-calm (is_recorded_target s t) (relation_state k t) _ refl (checked-calm (is_lone_restore s t) (relation_state k s) _ refl (now-calm (Reverse t))))
+    named-calm k dev s t _ (checked-calm (is_recorded_target s t) (relation_state k t) _ refl (checked-calm (is_lone_restore s t) (relation_state k s) _ refl (checked-calm (may_return s) (pair_state k s) _ refl (now-calm (Reverse t)))))
 case-calm k events line _ (Copies t most) =
-    checked-calm (is_defined t) _ _ refl (checked-calm (is_running t) _ _ refl (checked-calm (may_copy t) (relation_state k t) _ refl
-    (times-calm (at_most most (left_to_copy k t)) _ (copy-calm k t (fields_at k t).reversing))))
+    checked-calm (is_defined t) _ _ refl (checked-calm (is_running t) _ _ refl (checked-calm (may_copy t) (relation_state k t) _ refl (checked-calm (may_give_back t) (pair_state k (fields_at k t).source) _ refl
+    (times-calm (at_most most (left_to_copy k t)) _ (copy-calm k t (fields_at k t).reversing)))))
 
 pub plan-calm : (k : Control) (events : List Event) (line : ℕ) (asked : Result Step ℕ) → Unstopped (plan k events line asked).entries
 plan-calm k events line asked = case-calm k events line _ (plan-case k events line asked)
