@@ -83,6 +83,13 @@ pub and-false : (a b : Bool) → (a && b) ≡ false → a ≡ true → b ≡ fal
 and-false true b h is = h
 and-false false b h is = absurd cc
 
+-- nothing is restored onto a volume that is settled
+pub unrestored : {P : Type 0} (w : World) → Sound w → (v : ℕ) → is_settled v w.control ≡ true → (u : ℕ) → from w u ≡ Some v → (fields_at w.control u).reversing ≡ true → P
+unrestored w s v settled u h r =
+    let calm = (both-not (stands_in is_revertible w.control v) (stands_in is_reversing w.control v) settled).1 in
+    false_true (or_parts ((fields_at w.control v).related && (fields_at w.control v).reversing) _ calm).1
+    (any-has (λ u. copies_from v (fields_at w.control u)) (λ u. (fields_at w.control u).reversing) u w.control.volumes (s.rows.structure.defined u (from_source _ _ v h).0) (from-copies v (fields_at w.control u) h) r)
+
 module _ (w : World) (s : Sound w) (p : Pending) (one : filter (is_write p.w) w.control.pending ≡ p ∷ []) where
   abbrev v : ℕ
   v = p.volume
@@ -90,14 +97,10 @@ module _ (w : World) (s : Sound w) (p : Pending) (one : filter (is_write p.w) w.
   abbrev f : Fields
   f = fields_at w.control v
 
-  -- nothing is restored onto the volume, nor it onto another
+  -- the volume isn't restored onto another
   module _ (settled : is_settled v w.control ≡ true) (on : Runs w v) where
     calm : stands_in is_reversing w.control v ≡ false
     calm = (both-not (stands_in is_revertible w.control v) (stands_in is_reversing w.control v) settled).1
-
-    none-restored : {P : Type 0} (u : ℕ) → from w u ≡ Some v → (fields_at w.control u).reversing ≡ true → P
-    none-restored u h r = false_true (or_parts (f.related && f.reversing) _ calm).1
-        (any-has (λ u. copies_from v (fields_at w.control u)) (λ u. (fields_at w.control u).reversing) u w.control.volumes (s.rows.structure.defined u (from_source _ _ v h).0) (from-copies v (fields_at w.control u) h) r)
 
     -- on a volume that is no target, whose targets keep the track first
     plain-lands : is_part f.secondary ≡ false → f.related ≡ false → Along w (copy_first w.control.volumes v p.track ++ land_on p.w v p.track ∷ [])
@@ -114,7 +117,7 @@ module _ (w : World) (s : Sound w) (p : Pending) (one : filter (is_write p.w) w.
           record { runs = on_k; allowed = record { low = waits_k.low; defined = waits_k.defined; plain = no_source _ _ is_k; first = ap (λ (x : Volume). is_part x.fields.secondary) here ∙ free; kept = kept }; fits = tt; ready = may-ack k sk p one_k on_k },
           λ f j. over _ j,
         ))
-        (λ u h r. none-restored u h r) s
+        (λ u h r. unrestored w s v settled u h r) s
 
     -- on a target
     target-lands : f.related ≡ true → Along w (copy_first w.control.volumes v p.track ++ land_on p.w v p.track ∷ [])

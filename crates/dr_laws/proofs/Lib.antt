@@ -19,6 +19,7 @@ pub mod CopyFirst
 pub mod Lands
 pub mod FitsFlash
 pub mod FitsCopy
+pub mod FitsPairs
 pub mod Issues
 pub mod Defines
 pub mod Starts
