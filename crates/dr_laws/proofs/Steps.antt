@@ -3,7 +3,7 @@ use Rattle.std.proofs.Common.{ℕ, ◌≡◌, ◌+◌, refl, ap, sym, ◌∙◌,
 use Rattle.std.proofs.lemmas.List.{append-nil}
 use Rattle.std.specs.List.{find}
 use Rattle.dr_ids.specs.Links.{joins}
-use Rattle.dr_ids.specs.Paths.{Path}
+use Rattle.dr_ids.specs.Paths.{Path, with_path, without_path}
 use Rattle.dr_model.specs.declared.event.Event.{Event}
 use Rattle.dr_model.specs.declared.event.Event.TheVariants.{Server as ServerDefined, Stopped, Shown}
 use Rattle.dr_model.specs.declared.said.Said.{Said}
@@ -21,13 +21,14 @@ use Rattle.dr_model.specs.Table.{table}
 use Rattle.dr_model.specs.Laws.{SoundRows, Sound}
 use Rattle.dr_model.proofs.Images.{histories-append}
 use Rattle.dr_model.proofs.LawfulLemmas.{lawful-no_fields}
-use Rattle.dr_laws.proofs.Cases.{Case, Says, Defines, Adds, Links, Issues, Writes, Applies, Shows, Stops, Arms, Starts, Flashes, Withdraws, Resyncs, Reverses, Copies, IsTrack, plan-case, is-new, may-issue}
+use Rattle.dr_laws.proofs.Cases.{Case, Says, Defines, Adds, Links, Issues, Writes, Applies, Shows, Stops, Arms, Starts, Flashes, Withdraws, Resyncs, Reverses, Copies, Paths, Unpaths, MakesPair, RemovesPair, Pauses, ResumesPair, Drains, IsTrack, plan-case, is-new, may-issue}
 use Rattle.dr_laws.proofs.KeepsQueue.{Quiet, AllQuiet, goes-off}
 use Rattle.dr_laws.proofs.KeepsSound.{StepHolds, RowsAt, MayDo, Along, holds-moves, keeps-sound, sound-told, over}
 use Rattle.dr_laws.proofs.Issues.{issued, sound-issued, one-new}
 use Rattle.dr_laws.proofs.Lands.{found-alone, lands}
 use Rattle.dr_laws.proofs.FitsFlash.{holds-flash, holds-withdraw, holds-resync, holds-reverse}
 use Rattle.dr_laws.proofs.FitsCopy.{holds-copy}
+use Rattle.dr_laws.proofs.FitsPairs.{holds-pair, holds-remove, holds-pause, holds-resume, holds-drain}
 use Rattle.dr_laws.proofs.Sets.{in_none}
 use Rattle.dr_laws.proofs.Defines.{sound-defined}
 use Rattle.dr_laws.proofs.Starts.{holds-start}
@@ -115,6 +116,13 @@ module _ (w : World) (s : Sound w) (line : ℕ) where
   case-holds _ (Resyncs dev v t sequence) = holds-resync w s dev v t sequence
   case-holds _ (Reverses dev v t) = holds-reverse w s dev v t
   case-holds _ (Copies t most) = holds-copy w s t most
+  case-holds _ (Paths src tgt group) = holds-quiet w w.control.fuse w.control.link (with_path w.control.paths src tgt group) _ s (λ k. record k { paths = with_path k.paths src tgt group }) refl
+  case-holds _ (Unpaths src tgt) = holds-quiet w w.control.fuse w.control.link (without_path w.control.paths src tgt) _ s (λ k. record k { paths = without_path k.paths src tgt }) refl
+  case-holds _ (MakesPair devs a b kind full part) = holds-pair w s devs a b kind full part
+  case-holds _ (RemovesPair devs a b source_only) = holds-remove w s devs a b source_only
+  case-holds _ (Pauses devs a b) = holds-pause w s devs a b
+  case-holds _ (ResumesPair devs a b kind) = holds-resume w s devs a b kind
+  case-holds _ (Drains a most) = holds-drain w s a most
 
   pub step-holds : (asked : Result Step ℕ) → StepHolds w (plan w.control w.events line asked)
   step-holds asked = case-holds _ (plan-case w.control w.events line asked)
