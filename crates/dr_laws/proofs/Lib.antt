@@ -27,6 +27,7 @@ pub mod Steps
 pub mod Journal
 pub mod Costs
 pub mod CopyCosts
+pub mod PairCosts
 pub mod Spends
 pub mod Limits
 pub mod Texts
