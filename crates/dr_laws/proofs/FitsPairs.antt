@@ -9,7 +9,6 @@ use Rattle.std.specs.List.{find, range_with_len}
 use Rattle.std.specs.Str.{bytes_eq}
 use Rattle.std.specs.FinSet.{contains}
 use Rattle.dr_ids.specs.declared.refusal.Refusal.{Refusal}
-use Rattle.dr_model.specs.declared.event.Event.{Event}
 use Rattle.dr_model.specs.declared.state.Part.{Part}
 use Rattle.dr_model.specs.declared.state.PairState.{PairState}
 use Rattle.dr_model.specs.declared.state.PairState.TheVariants.{Suspended}
@@ -29,7 +28,7 @@ use Rattle.dr_model.specs.Laws.{Sound}
 use Rattle.dr_model.specs.Allowed.{Runs}
 use Rattle.dr_model.proofs.Images.{at_same, at_other}
 use Rattle.dr_laws.proofs.AtLemmas.{at_part}
-use Rattle.dr_laws.proofs.Sets.{false_true, if_true, no_source, has_source, from_source}
+use Rattle.dr_laws.proofs.Sets.{false_true, if_true, has_source, from_source}
 use Rattle.dr_laws.proofs.Turns.{done, next_of, carried_in}
 use Rattle.dr_laws.proofs.RowsAfter.{idle}
 use Rattle.dr_laws.proofs.KeepsParts.{unrelated, unrelated_primary}

@@ -9,7 +9,7 @@ use Rattle.dr_model.specs.Layout.{Tracks, Fields}
 use Rattle.dr_model.specs.Histories.{Write}
 use Rattle.dr_model.specs.Views.{source_of, view}
 use Rattle.dr_model.specs.Relations.{rest, is_bare, is_whole, parted_if, fetched, withdrawn_if, turned, given_up}
-use Rattle.dr_model.specs.Pairs.{parted_track, received}
+use Rattle.dr_model.specs.Pairs.{altered, received}
 use Rattle.dr_model.specs.Moves.{Move, Land, Overwrite, Keep, Relate, Withdraw, Fetch, Resync, Reverse, Restore, Release, Store, Carried, target, moved}
 use Rattle.dr_model.specs.Table.{Row, Table}
 use Rattle.dr_model.specs.Rows.{after, emptied, contents_of, carried_on}
@@ -192,7 +192,7 @@ module _ (write : ℕ → Write) (T : Table) (structure : Structure T) (parts : 
   with m = carried_on write m T
 
   pub kept-images : (m : Move) → Allowed write T m → Images (after write T m)
-  kept-images (Land w v t) a = images-at T v _ images (stored v t (record (parted_track (fields T v) t) { blank = remove (fields T v).blank t }) (with (Land w v t)) _ _ refl a.plain a.defined a.plain a.kept (λ lt. ap (λ b. with_write write b w) (images.plain v a.plain t lt)))
+  kept-images (Land w v t) a = images-at T v _ images (stored v t (altered (fields T v) t) (with (Land w v t)) _ _ refl a.plain a.defined a.plain a.kept (λ lt. ap (λ b. with_write write b w) (images.plain v a.plain t lt)))
   kept-images (Overwrite w v t) a = images-at T v _ images (taken-owes v t a.from a.related _ (at (T v).due t (with_write write ((T v).due t) w))
       (λ lt. ap (λ b. with_write write b w) (shows v t a.from a.related lt) ∙ sym (at_same (T v).due t _)) (λ q ne. at_other (T v).due t _ q ne) _ _ (with (Overwrite w v t)))
   kept-images (Keep v t) a = images-at T v _ images (taken-owes v t a.from a.related _ (T v).due (old-track v t a) (λ q ne. refl) _ _ (with (Keep v t)))
@@ -217,7 +217,7 @@ module _ (write : ℕ → Write) (T : Table) (structure : Structure T) (parts : 
   })
   kept-images (Reverse v) b = let a = b.resync in images-at T v _ images (withdrawn-owes v a.from a.related (is_bare (turned (fields T v)).own) (turned (fields T v)) refl refl refl
       (λ q lt. reverse-seen v a.from q a.related a.recorded a.forward lt _ _ refl refl) (with (Reverse v)))
-  kept-images (Restore v t u) a = let f = structure.flash u v a.related in images-at T v _ images (stored v t (record (parted_track (fields T v) t) { blank = remove (fields T v).blank t }) (with (Restore v t u)) _ _ refl f.plain f.defined f.plain a.kept (λ lt. sym (if_true _ _ a.holds) ∙ images.seen u v a.related t (subst (λ n. t < n) (sym f.same_tracks) lt)))
+  kept-images (Restore v t u) a = let f = structure.flash u v a.related in images-at T v _ images (stored v t (altered (fields T v) t) (with (Restore v t u)) _ _ refl f.plain f.defined f.plain a.kept (λ lt. sym (if_true _ _ a.holds) ∙ images.seen u v a.related t (subst (λ n. t < n) (sym f.same_tracks) lt)))
   kept-images (Release v t) a = images-at T v _ images (withdrawn-owes v a.from a.related (is_bare (given_up (fields T v) t).own) (given_up (fields T v) t) refl refl refl (release-seen v t a.from a.related (sym a.equal)) (with (Release v t)))
   kept-images (Store v t u last) a =
       let out = parts.secondary u v a.sends in

@@ -5,7 +5,7 @@ use Rattle.dr_model.specs.declared.state.Part.{Part}
 use Rattle.dr_model.specs.declared.state.PairState.{PairState}
 use Rattle.dr_model.specs.Layout.{Tracks, Fields, is_part}
 use Rattle.dr_model.specs.Lawful.{Low, HasSets, NoPrimary, NoSecondary, NoRelation, IsLawful}
-use Rattle.dr_model.specs.Pairs.{parted_track, is_engaged, suspended, made_secondary, made_primary, no_primary, no_secondary, received, struck, resumed, taken_over}
+use Rattle.dr_model.specs.Pairs.{altered, is_engaged, suspended, made_secondary, made_primary, no_primary, no_secondary, received, struck, resumed, taken_over}
 use Rattle.dr_model.specs.Relations.{Choices, rest, parted_if, fetched, noted, rewritten, made, withdrawn_if, resynced, turned, given_up}
 use Rattle.dr_laws.proofs.Sets.{false_true, if_false, in_cond, in_none, in_more, remove_from, rest_low, low_all, from_difference, from_union}
 
@@ -177,8 +177,8 @@ module _ (n : ℕ) (f : Fields) (law : IsLawful n f) where
   blank-less t q h = old.blank_low q (remove_from f.blank t q h)
 
   -- a track is stored, of a primary it is out of sync
-  pub lawful-parted : (t : ℕ) → t < n → IsLawful n (record (parted_track f t) { blank = remove f.blank t })
-  lawful-parted t lt = lawful-paired (record (parted_track f t) { blank = remove f.blank t }) (in_cond (is_part f.primary) _ _ (λ q. q < n) (in_more f.out_of_sync t (λ q. q < n) lt old.out_of_sync_low) old.out_of_sync_low)
+  pub lawful-altered : (t : ℕ) → t < n → IsLawful n (altered f t)
+  lawful-altered t lt = lawful-paired (altered f t) (in_cond (is_part f.primary) _ _ (λ q. q < n) (in_more f.out_of_sync t (λ q. q < n) lt old.out_of_sync_low) old.out_of_sync_low)
       old.change_recording_low (blank-less t) (λ h. let o = law.primary h in (o.0, o.1, o.2, o.3, o.4, if_false _ _ h ∙ o.5, o.6)) law.secondary
 
   -- a secondary stores a track, its primary strikes it off

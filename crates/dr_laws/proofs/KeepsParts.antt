@@ -1,12 +1,10 @@
 -- Each kind of move keeps the parts: what the records of pairs say together.
-use Rattle.std.proofs.Common.{ℕ, ◌≡◌, refl, ap, sym, ◌∙◌, subst, Bool, true, false, cond, not, ◌&&◌, List, Some, None}
+use Rattle.std.proofs.Common.{ℕ, ◌≡◌, refl, sym, ◌∙◌, subst, Bool, true, false, cond, not, ◌&&◌, List, Some, None}
 use Rattle.std.specs.FinSet.{insert}
 use Rattle.dr_model.specs.Tables.{at}
 use Rattle.dr_model.specs.declared.state.Part.{Part}
 use Rattle.dr_model.specs.Layout.{Fields, is_part}
 use Rattle.dr_model.specs.Histories.{Write}
-use Rattle.dr_model.specs.Views.{source_of}
-use Rattle.dr_model.specs.Pairs.{secondary_of, primary_of}
 use Rattle.dr_model.specs.Relations.{is_bare, is_whole, turned, given_up}
 use Rattle.dr_model.specs.Moves.{Move, Overwrite, Keep, Relate, Withdraw, Fetch, Reverse, Release, MakeSecondary, MakePrimary, DropPrimary, DropSecondary, TakeOver, Carried, moved, target, next_fields}
 use Rattle.dr_model.specs.Table.{Row, Table}
@@ -14,35 +12,26 @@ use Rattle.dr_model.specs.Rows.{after, volumes_of, carried_on, next_bytes, next_
 use Rattle.dr_model.specs.Laws.{Structure, Parts, OnePart, RowParts, Partnered, OneWay, FreeSource, source, its_primary, its_secondary, fields}
 use Rattle.dr_model.specs.Allowed.{Allowed}
 use Rattle.dr_laws.proofs.AtLemmas.{each-at, linked-at}
-use Rattle.dr_laws.proofs.KeepsStructure.{no_loop, no_targets}
-use Rattle.dr_laws.proofs.Sets.{false_true, none_some, no_source, has_source, from_source, from_none, still_related}
+use Rattle.dr_laws.proofs.KeepsStructure.{no_loop, part-defined, still_turned}
+use Rattle.dr_laws.proofs.Sets.{false_true, no_source, from_source, still_related}
 
 -- one is not the other
 pub not_both : {P : Type 0} (a b : Bool) → (a ≡ true → b ≡ false) → a ≡ true → b ≡ true → P
 not_both a b one is too = false_true (one is) too
 
-pub not_first : (a b : Bool) → (a ≡ true → b ≡ false) → b ≡ true → a ≡ false
-not_first true b one h = false_true (one refl) h
-not_first false b one h = refl
-
-part-ended : (e related part : Bool) → (related ≡ true → part ≡ false) → cond e false related ≡ true → part ≡ false
-part-ended true related part old h = absurd cc
-part-ended false related part old h = old h
-
-still_turned : (e related reversing : Bool) (o s : ℕ) → cond (cond e false related) (Some (cond e 0 o)) None ≡ Some s → cond e false reversing ≡ true → (cond related (Some o) None ≡ Some s) × (reversing ≡ true)
-still_turned true related reversing o s h r = absurd cc
-still_turned false related reversing o s h r = (h, r)
-
 module _ (T : Table) where
   -- what changed fields owe
-  pub record Shape (x : ℕ) (g : Fields) : Type 0 where
-    pub one : OnePart (is_part g.primary) (is_part g.secondary) g.related
-    pub second : (u : ℕ) → secondary_of g ≡ Some u → Partnered x (T x) u (T u)
-    pub first : (u : ℕ) → primary_of g ≡ Some u → Partnered x (T x) u (T u)
-    pub way : (u : ℕ) → primary_of g ≡ Some u → its_primary (T u) ≡ Some x → ⊥
-    pub from : (u : ℕ) → source_of g ≡ Some u → g.reversing ≡ true → is_part (fields T u).secondary ≡ false
-    pub loop : source_of g ≡ Some x → ⊥
-    pub onto : (u : ℕ) → source (T u) ≡ Some x → (fields T u).reversing ≡ true → is_part g.secondary ≡ false
+  pub record PartShape (x : ℕ) (primary : Part) (primary_partner : ℕ) (secondary : Part) (secondary_partner : ℕ) (related : Bool) (origin : ℕ) (reversing : Bool) : Type 0 where
+    pub one : OnePart (is_part primary) (is_part secondary) related
+    pub second : (u : ℕ) → cond (is_part primary) (Some primary_partner) None ≡ Some u → Partnered x (T x) u (T u)
+    pub first : (u : ℕ) → cond (is_part secondary) (Some secondary_partner) None ≡ Some u → Partnered x (T x) u (T u)
+    pub way : (u : ℕ) → cond (is_part secondary) (Some secondary_partner) None ≡ Some u → its_primary (T u) ≡ Some x → ⊥
+    pub from : (u : ℕ) → cond related (Some origin) None ≡ Some u → reversing ≡ true → is_part (fields T u).secondary ≡ false
+    pub loop : cond related (Some origin) None ≡ Some x → ⊥
+    pub onto : (u : ℕ) → source (T u) ≡ Some x → (fields T u).reversing ≡ true → is_part secondary ≡ false
+
+  abbrev pub Shape : ℕ → Fields → Type 0
+  Shape x g = PartShape x g.primary g.primary_partner g.secondary g.secondary_partner g.related g.source g.reversing
 
 module _ (T : Table) (old : Parts T) where
   -- a volume with a part is no target
@@ -72,79 +61,37 @@ module _ (T : Table) (old : Parts T) where
     free = linked-at T x y source FreeSource (λ u ne. s.from u) (λ h. absurd (s.loop h)) (λ v ne. s.onto v) old.free;
   }
 
-  -- fields with the same parts and the same relationship owe nothing
-  module _ (write : ℕ → Write) (structure : Structure T) (v : ℕ) where
-    abbrev f : Fields
-    f = fields T v
-
-    parted-loop : (e : Bool) → cond (cond e false f.related) (Some (cond e 0 f.source)) None ≡ Some v → ⊥
-    parted-loop e h = no_loop write T structure v (still_related e f.related f.source v h)
-
-    -- a relationship may have ended
-    parted-one : (e : Bool) → OnePart (is_part f.primary) (is_part f.secondary) (cond e false f.related)
-    parted-one e = let o = old.one v in record { one = o.one; no_primary = part-ended e f.related _ o.no_primary; no_secondary = part-ended e f.related _ o.no_secondary }
-
-    parted-from : (e : Bool) (u : ℕ) → cond (cond e false f.related) (Some (cond e 0 f.source)) None ≡ Some u → cond e false f.reversing ≡ true → is_part (fields T u).secondary ≡ false
-    parted-from e u h r = let both = still_turned e f.related f.reversing f.source u h r in old.free v u both.0 both.1
-
   module _ (write : ℕ → Write) (structure : Structure T) where
+    -- the parts stay, and a relationship may have ended
+    ended : (v : ℕ) (e : Bool) → let f : Fields = fields T v in
+        PartShape T v f.primary f.primary_partner f.secondary f.secondary_partner (cond e false f.related) (cond e 0 f.source) (cond e false f.reversing)
+    ended v e = let f : Fields = fields T v in let o = old.one v in record {
+      one = record { one = o.one; no_primary = part-defined e f.related o.no_primary; no_secondary = part-defined e f.related o.no_secondary };
+      second = old.secondary v;
+      first = old.primary v;
+      way = old.one_way v;
+      from = λ u h r. let both = still_turned e f.related f.reversing f.source u h r in old.free v u both.0 both.1;
+      loop = λ h. no_loop write T structure v (still_related e f.related f.source v h);
+      onto = λ u. old.free u v;
+    }
+
     pub part-shape : (m : Move) → Allowed write T m → Shape T (target m) (next_fields m (volumes_of T))
-    part-shape (Overwrite w v t) a = let e : Bool = is_whole (T v).volume.tracks (insert (fields T v).own t) && not (fields T v).persistent in record {
-      one = parted-one write structure v e;
-      second = old.secondary v;
-      first = old.primary v;
-      way = old.one_way v;
-      from = parted-from write structure v e;
-      loop = parted-loop write structure v e;
-      onto = λ u. old.free u v;
-    }
-    part-shape (Keep v t) a = let e : Bool = is_whole (T v).volume.tracks (insert (fields T v).own t) && not (fields T v).persistent in record {
-      one = parted-one write structure v e;
-      second = old.secondary v;
-      first = old.primary v;
-      way = old.one_way v;
-      from = parted-from write structure v e;
-      loop = parted-loop write structure v e;
-      onto = λ u. old.free u v;
-    }
-    part-shape (Fetch v t) a = let e : Bool = is_whole (T v).volume.tracks (insert (fields T v).own t) && not (fields T v).persistent in record {
-      one = parted-one write structure v e;
-      second = old.secondary v;
-      first = old.primary v;
-      way = old.one_way v;
-      from = parted-from write structure v e;
-      loop = parted-loop write structure v e;
-      onto = λ u. old.free u v;
-    }
-    part-shape (Withdraw v) a = record {
-      one = parted-one write structure v true;
-      second = old.secondary v;
-      first = old.primary v;
-      way = old.one_way v;
-      from = parted-from write structure v true;
-      loop = parted-loop write structure v true;
-      onto = λ u. old.free u v;
-    }
-    part-shape (Release v t) a = let e : Bool = is_bare (given_up (fields T v) t).own in record {
-      one = parted-one write structure v e;
-      second = old.secondary v;
-      first = old.primary v;
-      way = old.one_way v;
-      from = parted-from write structure v e;
-      loop = parted-loop write structure v e;
-      onto = λ u. old.free u v;
-    }
-    part-shape (Reverse v) a = let f : Fields = fields T v in let e : Bool = is_bare (turned f).own in record {
-      one = parted-one write structure v e;
-      second = old.secondary v;
-      first = old.primary v;
-      way = old.one_way v;
+    part-shape (Overwrite w v t) a = ended v (is_whole (T v).volume.tracks (insert (fields T v).own t) && not (fields T v).persistent)
+    part-shape (Keep v t) a = ended v (is_whole (T v).volume.tracks (insert (fields T v).own t) && not (fields T v).persistent)
+    part-shape (Fetch v t) a = ended v (is_whole (T v).volume.tracks (insert (fields T v).own t) && not (fields T v).persistent)
+    part-shape (Withdraw v) a = ended v true
+    part-shape (Release v t) a = ended v (is_bare (given_up (fields T v) t).own)
+    part-shape (Reverse v) a = let f : Fields = fields T v in let e : Bool = is_bare (turned f).own in let still = ended v e in record {
+      one = still.one;
+      second = still.second;
+      first = still.first;
+      way = still.way;
       from = λ u h r.
           let here = (from_source f.related f.source u (still_related e f.related f.source u h)).1 in
           let is = (from_source f.related f.source a.resync.from a.resync.related).1 in
           subst (λ j. is_part (fields T j).secondary ≡ false) (sym is ∙ here) a.free;
-      loop = parted-loop write structure v e;
-      onto = λ u. old.free u v;
+      loop = still.loop;
+      onto = still.onto;
     }
     part-shape (Relate v s c) a = let o = old.one v in record {
       one = record { one = o.one; no_primary = λ h. a.no_primary; no_secondary = λ h. a.no_secondary };
@@ -200,15 +147,7 @@ module _ (T : Table) (old : Parts T) where
       loop = no_loop write T structure v;
       onto = λ u h r. refl;
     }
-    part-shape m a = let v : ℕ = target m in record {
-      one = record { one = (old.one v).one; no_primary = (old.one v).no_primary; no_secondary = (old.one v).no_secondary };
-      second = old.secondary v;
-      first = old.primary v;
-      way = old.one_way v;
-      from = old.free v;
-      loop = no_loop write T structure v;
-      onto = λ u. old.free u v;
-    }
+    part-shape m a = ended (target m) false
 
     pub kept-parts : (m : Move) → Allowed write T m → Parts (after write T m)
     kept-parts m a = parts-at (target m) (next_fields m (volumes_of T)) (carried_on write m T) (next_bytes write m T) (next_due write m T) (part-shape m a)

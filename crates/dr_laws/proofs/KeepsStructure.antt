@@ -13,7 +13,7 @@ use Rattle.dr_model.specs.Allowed.{Allowed}
 use Rattle.dr_model.specs.Lawful.{IsLawful}
 use Rattle.dr_model.proofs.Images.{at_same}
 use Rattle.dr_laws.proofs.AtLemmas.{at_cases, each-at, linked-at}
-use Rattle.dr_laws.proofs.KeepsLawful.{lawful-parted, lawful-received, lawful-struck, lawful-suspended, lawful-resumed, lawful-followed, lawful-made_secondary, lawful-made_primary, lawful-no_primary, lawful-no_secondary, lawful-taken_over, lawful-taken, low-noted, lawful-noted, lawful-made, lawful-withdrawn, lawful-resynced, lawful-turned, lawful-given_up}
+use Rattle.dr_laws.proofs.KeepsLawful.{lawful-altered, lawful-received, lawful-struck, lawful-suspended, lawful-resumed, lawful-followed, lawful-made_secondary, lawful-made_primary, lawful-no_primary, lawful-no_secondary, lawful-taken_over, lawful-taken, low-noted, lawful-noted, lawful-made, lawful-withdrawn, lawful-resynced, lawful-turned, lawful-given_up}
 use Rattle.dr_laws.proofs.Sets.{In, in_cond, in_none, in_more, in_insert, still_in, false_true, none_some, not_turned, from_source, still_related, from_difference, from_union, remove_from, not_removed, not_removed_from, empty_has}
 
 -- sets and flags, by their parts
@@ -56,11 +56,11 @@ part-flags true persistent recorded reversing own noted rewritten is persists re
 part-flags false persistent recorded reversing own noted rewritten is persists records unchanged = record { persists = persists; records = records; unchanged = unchanged; some = λ h. is }
 
 -- a relationship that stands still is restored
-still_turned : (e related reversing : Bool) (o s : ℕ) → cond (cond e false related) (Some (cond e 0 o)) None ≡ Some s → cond e false reversing ≡ true → (cond related (Some o) None ≡ Some s) × (reversing ≡ true)
+pub still_turned : (e related reversing : Bool) (o s : ℕ) → cond (cond e false related) (Some (cond e 0 o)) None ≡ Some s → cond e false reversing ≡ true → (cond related (Some o) None ≡ Some s) × (reversing ≡ true)
 still_turned true related reversing o s h r = absurd cc
 still_turned false related reversing o s h r = (h, r)
 
-part-defined : {P : Type 0} (e related : Bool) → (related ≡ true → P) → cond e false related ≡ true → P
+pub part-defined : {P : Type 0} (e related : Bool) → (related ≡ true → P) → cond e false related ≡ true → P
 part-defined true related old h = absurd cc
 part-defined false related old h = old h
 
@@ -161,8 +161,8 @@ module _ (write : ℕ → Write) (T : Table) (old : Structure T) where
   })
 
   pub kept-structure : (m : Move) → Allowed write T m → Structure (after write T m)
-  kept-structure (Land w v t) a = paired (Land w v t) (lawful-parted _ _ (old.lawful v) t a.low) (filled v t)
-  kept-structure (Restore v t u) a = paired (Restore v t u) (lawful-parted _ _ (old.lawful v) t a.low) (filled v t)
+  kept-structure (Land w v t) a = paired (Land w v t) (lawful-altered _ _ (old.lawful v) t a.low) (filled v t)
+  kept-structure (Restore v t u) a = paired (Restore v t u) (lawful-altered _ _ (old.lawful v) t a.low) (filled v t)
   kept-structure (Store v t u last) a = paired (Store v t u last) (lawful-received _ _ (old.lawful v) last t (from_source _ _ u a.takes).0) (filled v t)
   kept-structure (Strike v t last) a = paired (Strike v t last) (lawful-struck _ _ (old.lawful v) last t (from_source _ _ a.to a.sends).0) (old.sets v).apart
   kept-structure (Suspend v busy) a = paired (Suspend v busy) (lawful-suspended _ _ (old.lawful v) busy a) (old.sets v).apart

@@ -1,5 +1,5 @@
 -- A pending write comes to land: where its volume's server is on and the volume is a place for it, it may.
-use Rattle.std.proofs.Common.{ℕ, ◌≡◌, refl, ap, sym, ◌∙◌, subst, Bool, true, false, cond, not, ◌&&◌, List, [], ◌∷◌, ◌++◌, map, filter, Some, None}
+use Rattle.std.proofs.Common.{ℕ, ◌≡◌, refl, ap, sym, ◌∙◌, subst, Bool, true, false, cond, ◌&&◌, List, [], ◌∷◌, ◌++◌, map, filter, Some, None}
 use Rattle.std.proofs.lemmas.Bool.{false_from_ne_true, not-true, eqb-true, ne_eqb, or_parts}
 use Rattle.std.specs.List.{find}
 use Rattle.dr_ids.specs.declared.refusal.Refusal.{Refusal}

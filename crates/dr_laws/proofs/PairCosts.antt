@@ -9,14 +9,14 @@ use Rattle.dr_model.specs.declared.state.Part.{Part}
 use Rattle.dr_model.specs.declared.state.PairState.TheVariants.{Suspended as SuspendedState}
 use Rattle.dr_model.specs.declared.step.Devs.{Devs}
 use Rattle.dr_model.specs.Layout.{Tracks, Fields}
-use Rattle.dr_model.specs.Limits.{most_targets, most_tracks}
+use Rattle.dr_model.specs.Limits.{most_targets}
 use Rattle.dr_model.specs.Relations.{in_order, is_whole}
 use Rattle.dr_model.specs.Pairs.{is_suspended, is_last, first_state}
 use Rattle.dr_model.specs.Control.{Control, Fuse, Volume, World}
-use Rattle.dr_model.specs.Moves.{Move, Keep, Note, Store, Strike, Suspend, MakeSecondary, MakePrimary, DropPrimary, DropSecondary, Follow, Resume, target, told, fields_left}
+use Rattle.dr_model.specs.Moves.{Move, Keep, Note, Store, Strike, Suspend, MakeSecondary, MakePrimary, DropPrimary, DropSecondary, Follow, target, told, fields_left}
 use Rattle.dr_model.specs.Carry.{Make, Pass, Do, Entry, carry, check, now}
 use Rattle.dr_model.specs.Entries.{fields_at, copies_from, is_running, share_size, is_no_target, is_settled, keep_on}
-use Rattle.dr_model.specs.PairEntries.{reach_refusal, end_if, refuse_if, differs_at, two_servers, stands_free, may_follow, make_entries, leads_to, belongs_to, are_linked, let_go, remove_both, remove_entries, may_pause, tell_paused, pause_entries, may_resume, follow_on, resume_on, resume_entries, send_refusal, suspend_where, flashed_refusal, store_on, strike_on, send_entries, sends, suspend_running, suspend_after, tracks_to_send}
+use Rattle.dr_model.specs.PairEntries.{reach_refusal, end_if, refuse_if, differs_at, two_servers, stands_free, may_follow, make_entries, leads_to, belongs_to, are_linked, remove_both, remove_entries, may_pause, pause_entries, may_resume, follow_on, resume_on, resume_entries, send_refusal, suspend_where, flashed_refusal, store_on, strike_on, send_entries, sends, suspend_running, suspend_after, tracks_to_send}
 use Rattle.dr_model.specs.Plans.{is_defined, is_owner, found_volumes}
 use Rattle.dr_laws.proofs.Turns.{done}
 use Rattle.dr_laws.proofs.KeepsTargets.{parted-copies}

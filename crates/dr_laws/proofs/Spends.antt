@@ -211,7 +211,6 @@ module _ (w : World) (x : Sound w) (h : IsWithin w.control) where
   case-spends line _ (Copies t most) = entries-spends _ _ 3585
       (costs-check 3585 _ (is_defined t) _ _ (costs-check 3585 _ (is_running t) _ _ (costs-check 3585 _ (may_copy t) _ _ (costs-check 3585 _ (may_give_back t) _ _
       (copy-costs (at_most most (left_to_copy w.control t)) t (copied-few w.control t most_tracks most (left-few t)) _ refl))))) (omega arith)
-
   case-spends line _ (Paths src tgt group) = tables-spends _ _ _ (omega arith)
   case-spends line _ (Unpaths src tgt) = tables-spends _ _ _ (omega arith)
   case-spends line _ (MakesPair devs a b kind full part) = entries-spends _ _ 20 (light-costs _ (light-pair w.control devs a b kind full _) 20 _ (omega arith)) (omega arith)

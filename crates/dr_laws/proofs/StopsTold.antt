@@ -327,7 +327,6 @@ case-calm k events line _ (Reverses dev s t) =
 case-calm k events line _ (Copies t most) =
     checked-calm (is_defined t) _ _ refl (checked-calm (is_running t) _ _ refl (checked-calm (may_copy t) (relation_state k t) _ refl (checked-calm (may_give_back t) (pair_state k (fields_at k t).source) _ refl
     (times-calm (at_most most (left_to_copy k t)) _ (copy-calm k t (fields_at k t).reversing)))))
-
 case-calm k events line _ (Paths src tgt group) = none-calm
 case-calm k events line _ (Unpaths src tgt) = none-calm
 case-calm k events line _ (MakesPair devs a b kind full part) = pair-calm a b k devs kind full _

@@ -6,13 +6,13 @@ use Rattle.dr_model.specs.declared.event.Event.{Event}
 use Rattle.dr_model.specs.declared.event.Event.TheVariants.{Blanked, Restored, Stopped, Ack, Suspended}
 use Rattle.dr_model.specs.Layout.{Tracks}
 use Rattle.dr_model.specs.Relations.{rest, in_order, is_bare, turned, given_up}
-use Rattle.dr_model.specs.Histories.{Write, Histories, histories, after_event}
+use Rattle.dr_model.specs.Histories.{Histories, histories, after_event}
 use Rattle.dr_model.specs.Control.{Fuse, Volume, World}
 use Rattle.dr_model.specs.Pairs.{is_suspended}
-use Rattle.dr_model.specs.Moves.{Move, Land, Overwrite, Keep, Note, Relate, Withdraw, Fetch, Resync, Reverse, Restore, Release, Suspend, target, told, told_in_stop, told_blank, told_restored, landed}
+use Rattle.dr_model.specs.Moves.{Move, Land, Overwrite, Withdraw, Reverse, Release, Suspend, target, told, told_in_stop, told_blank, landed}
 use Rattle.dr_model.specs.Carry.{Act, Make, Redo, Acknowledge, Drop, Next, Pass, Do, End, Entry, Turn, Outcome, act, carry, continue, go}
 use Rattle.dr_model.proofs.Images.{histories-append}
-use Rattle.dr_laws.proofs.Turns.{act-cases, Counts, after_act, server_of, not_done}
+use Rattle.dr_laws.proofs.Turns.{act-cases, Counts, after_act, server_of}
 
 abbrev after : Histories → List Event → Histories
 after h es = fold after_event h es
