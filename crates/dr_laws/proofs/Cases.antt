@@ -14,15 +14,19 @@ use Rattle.dr_model.specs.declared.said.Addition.TheVariants.{Alone}
 use Rattle.dr_model.specs.declared.said.Said.{Said}
 use Rattle.dr_model.specs.declared.said.Said.TheVariants.{Done, Refused}
 use Rattle.dr_model.specs.declared.step.Name.{Name}
+use Rattle.dr_model.specs.declared.state.Part.{Part}
+use Rattle.dr_model.specs.declared.state.Part.TheVariants.{Absent, Metro, Global}
+use Rattle.dr_model.specs.declared.step.Devs.{Devs}
 use Rattle.dr_model.specs.declared.step.TornWord.{TornWord}
 use Rattle.dr_model.specs.declared.step.Step.{Step}
-use Rattle.dr_model.specs.declared.step.Step.TheVariants.{Server, Volume, Link, Stop, StopAfter, Start, Issue, Write, Apply, Show, MakeFlash, RemoveFlash, ResyncFlash, ReverseFlash, Copy}
+use Rattle.dr_model.specs.declared.step.Step.TheVariants.{Server, Volume, Link, Stop, StopAfter, Start, Issue, Write, Apply, Show, MakeFlash, RemoveFlash, ResyncFlash, ReverseFlash, Copy, MakePath, RemovePath, MakePair, RemovePair, PausePair, ResumePair, Drain}
+use Rattle.dr_model.specs.Layout.{is_part, part_of}
 use Rattle.dr_model.specs.Limits.{most_servers, most_volumes, most_tracks, most_pending}
 use Rattle.dr_model.specs.Refusals.{unknown, duplicate, over}
 use Rattle.dr_model.specs.Control.{Control, Pending, is_volume}
 use Rattle.dr_model.specs.Relations.{Choices}
 use Rattle.dr_model.specs.Moves.{is_write}
-use Rattle.dr_model.specs.Plans.{Plan, plan, step_plan, plan_of, is_built, has_room, only_says, refuses, unless, on_named, on_server, name_bytes, server_named, server_refusal, server_done, volume_refusal, volume_done, link_between, link_done, track_refusal, issue_refusal, issue_then, write_done, apply_on, apply_done, show_refusal, show_done, is_foreign, stop_on, stop_done, arm_on, start_on, start_plan, flash_plan, withdraw_plan, resync_plan, reverse_plan, copy_plan}
+use Rattle.dr_model.specs.Plans.{Plan, plan, step_plan, plan_of, is_built, has_room, only_says, refuses, unless, on_named, on_server, name_bytes, server_named, server_refusal, server_done, volume_refusal, volume_done, link_between, link_done, track_refusal, issue_refusal, issue_then, write_done, apply_on, apply_done, show_refusal, show_done, is_foreign, stop_on, stop_done, arm_on, start_on, start_plan, flash_plan, withdraw_plan, resync_plan, reverse_plan, copy_plan, on_owner, owner_of, path_refusal, path_done, unpath_refusal, unpath_done, pair_plan, remove_plan, pause_plan, resume_plan, drain_plan}
 use Rattle.dr_model.specs.Entries.{first_of, subsystem}
 
 -- what a step comes to, with what was seen before
@@ -43,6 +47,30 @@ pub data Case (k : Control) (events : List Event) (line : ℕ) : Plan → Type 0
   Resyncs : (dev : Option Name) → (s t : ℕ) → (sequence : Option ℕ) → Case k events line (resync_plan k dev s t sequence)
   Reverses : (dev : Option Name) → (s t : ℕ) → Case k events line (reverse_plan k dev s t)
   Copies : (t : ℕ) → (most : Option ℕ) → Case k events line (copy_plan k t most)
+  Paths : (src tgt : ℕ) → (group : Bool) → Case k events line (path_done src tgt group)
+  Unpaths : (src tgt : ℕ) → Case k events line (unpath_done src tgt)
+  MakesPair : (devs : Devs) → (a b : ℕ) → (kind : Part) → (full : Bool) → is_part kind ≡ true → Case k events line (pair_plan k events devs a b kind full)
+  RemovesPair : (devs : Devs) → (a b : ℕ) → (source_only : Bool) → Case k events line (remove_plan k devs a b source_only)
+  Pauses : (devs : Devs) → (a b : ℕ) → Case k events line (pause_plan k devs a b)
+  ResumesPair : (devs : Devs) → (a b : ℕ) → (kind : Part) → Case k events line (resume_plan k devs a b kind)
+  Drains : (a : ℕ) → (most : Option ℕ) → Case k events line (drain_plan k a most)
+
+-- what the tests that passed tell
+pub one-passed : (b : Bool) (r : Refusal) (o : Option Refusal) → cond b (Some r) o ≡ None → (b ≡ false) × (o ≡ None)
+one-passed true r o h = absurd cc
+one-passed false r o h = (refl, h)
+
+pub or-passed : (a b : Option Refusal) → option_or a b ≡ None → (a ≡ None) × (b ≡ None)
+or-passed None b h = (refl, h)
+or-passed (Some r) b h = absurd cc
+
+pub met : (b : Bool) (r : Refusal) → cond b None (Some r) ≡ None → b ≡ true
+met true r h = refl
+met false r h = absurd cc
+
+pub is-not : (b : Bool) → not b ≡ false → b ≡ true
+is-not true h = refl
+is-not false h = absurd cc
 
 module _ (k : Control) (events : List Event) (line : ℕ) where
   abbrev Is : Plan → Type 0
@@ -60,6 +88,10 @@ module _ (k : Control) (events : List Event) (line : ℕ) where
   where-named None p go = Says (Refused (unknown OfServer))
   where-named (Some s) p go = go s
 
+  where-owned : (o : Option ℕ) (p : ℕ → Plan) → ((s : ℕ) → Is (p s)) → Is (on_owner o p)
+  where-owned None p go = Says (Refused (unknown OfLss))
+  where-owned (Some s) p go = go s
+
   apply-case : (n : ℕ) (o : Option Pending) → find (is_write n) k.pending ≡ o → Is (apply_on k o)
   apply-case n None e = Says (Refused (unknown OfWrite))
   apply-case n (Some p) e = Applies n p e
@@ -73,49 +105,52 @@ module _ (k : Control) (events : List Event) (line : ℕ) where
   start-case : (s : ℕ) → Is (start_on k s)
   start-case s = choice (k.on s) (only_says (Done Alone)) (start_plan k s) (λ on. Says _) (Starts s)
 
-  of-case : (step : Step) → Is (plan_of k events line step)
-  of-case (Server name) = where-none (server_refusal k (name_bytes name)) (server_done k name) (Defines name)
-  of-case (Volume v name tracks) = where-named (server_named k (name_bytes name)) (λ s. unless (volume_refusal k v s tracks) (volume_done v s tracks)) (λ s. where-none (volume_refusal k v s tracks) (volume_done v s tracks) (Adds v s tracks))
-  of-case (Link a b up) = where-named (server_named k (name_bytes a)) (λ x. on_server k b (λ y. link_between x y up)) (λ x. where-named (server_named k (name_bytes b)) (λ y. link_between x y up) (λ y. link-case x y up))
-  of-case (Issue v t offset len bytes) = where-none (issue_refusal k v t) (issue_then [] k v t offset len bytes) (Issues v t offset len bytes)
-  of-case (Write v t offset len bytes) = where-none (issue_refusal k v t) (write_done k v t offset len bytes) (Writes v t offset len bytes)
-  of-case (Apply n) = apply-case n _ refl
-  of-case (Stop name) = where-named (server_named k (name_bytes name)) (stop_on k) stop-case
-  of-case (StopAfter name writes torn) = where-named (server_named k (name_bytes name)) (arm_on writes torn) (Arms writes torn)
-  of-case (Start name) = where-named (server_named k (name_bytes name)) (start_on k) start-case
-  of-case (Show v t) = where-none (show_refusal k v t) (show_done events line v t) (Shows v t)
-  of-case (MakeFlash devs s t nocopy persistent recorded inhibited sequence) = Flashes devs.dev s t _
-  of-case (RemoveFlash devs s t sequence) = Withdraws devs.dev s t
-  of-case (ResyncFlash devs s t nocopy persistent recorded inhibited sequence) = Resyncs devs.dev s t sequence
-  of-case (ReverseFlash devs s t tgtpprc sequence) = Reverses devs.dev s t
-  of-case (Copy t most) = Copies t most
-  of-case _ = Says (Refused NotBuilt)
+  -- the kind of a pair that is built
+  built-part : (kind : ℕ) → nat_eq kind 2 ≡ true → is_part (part_of kind) ≡ true
+  built-part kind is = by (nat_eq kind 1) (nat_eq kind 2) is
+    where
+      by : (m g : Bool) → g ≡ true → is_part (cond m Metro (cond g Global Absent)) ≡ true
+      by true g h = refl
+      by false true h = refl
+      by false false h = h
+
+  of-case : (step : Step) → is_built step ≡ true → Is (plan_of k events line step)
+  of-case (Server name) built = where-none (server_refusal k (name_bytes name)) (server_done k name) (Defines name)
+  of-case (Volume v name tracks) built = where-named (server_named k (name_bytes name)) (λ s. unless (volume_refusal k v s tracks) (volume_done v s tracks)) (λ s. where-none (volume_refusal k v s tracks) (volume_done v s tracks) (Adds v s tracks))
+  of-case (Link a b up) built = where-named (server_named k (name_bytes a)) (λ x. on_server k b (λ y. link_between x y up)) (λ x. where-named (server_named k (name_bytes b)) (λ y. link_between x y up) (λ y. link-case x y up))
+  of-case (Issue v t offset len bytes) built = where-none (issue_refusal k v t) (issue_then [] k v t offset len bytes) (Issues v t offset len bytes)
+  of-case (Write v t offset len bytes) built = where-none (issue_refusal k v t) (write_done k v t offset len bytes) (Writes v t offset len bytes)
+  of-case (Apply n) built = apply-case n _ refl
+  of-case (Stop name) built = where-named (server_named k (name_bytes name)) (stop_on k) stop-case
+  of-case (StopAfter name writes torn) built = where-named (server_named k (name_bytes name)) (arm_on writes torn) (Arms writes torn)
+  of-case (Start name) built = where-named (server_named k (name_bytes name)) (start_on k) start-case
+  of-case (Show v t) built = where-none (show_refusal k v t) (show_done events line v t) (Shows v t)
+  of-case (MakeFlash devs s t nocopy persistent recorded inhibited sequence) built = Flashes devs.dev s t _
+  of-case (RemoveFlash devs s t sequence) built = Withdraws devs.dev s t
+  of-case (ResyncFlash devs s t nocopy persistent recorded inhibited sequence) built = Resyncs devs.dev s t sequence
+  of-case (ReverseFlash devs s t tgtpprc sequence) built = Reverses devs.dev s t
+  of-case (Copy t most) built = Copies t most
+  of-case (MakePath devs src tgt group) built =
+      where-owned (owner_of k src) (λ s. on_owner (owner_of k tgt) (λ u. unless (path_refusal k devs s u) (path_done src tgt group)))
+      (λ s. where-owned (owner_of k tgt) (λ u. unless (path_refusal k devs s u) (path_done src tgt group)) (λ u. where-none (path_refusal k devs s u) (path_done src tgt group) (λ free. Paths src tgt group)))
+  of-case (RemovePath devs src tgt force) built =
+      where-owned (owner_of k src) (λ s. on_owner (owner_of k tgt) (λ u. unless (unpath_refusal k devs src tgt s u force) (unpath_done src tgt)))
+      (λ s. where-owned (owner_of k tgt) (λ u. unless (unpath_refusal k devs src tgt s u force) (unpath_done src tgt)) (λ u. where-none (unpath_refusal k devs src tgt s u force) (unpath_done src tgt) (λ free. Unpaths src tgt)))
+  of-case (MakePair devs a b kind full) built = MakesPair devs a b (part_of kind) full (built-part kind built)
+  of-case (RemovePair devs a b source_only) built = RemovesPair devs a b source_only
+  of-case (PausePair devs a b) built = Pauses devs a b
+  of-case (ResumePair devs a b kind) built = ResumesPair devs a b (part_of kind)
+  of-case (Drain a most) built = Drains a most
+  of-case _ built = Says (Refused NotBuilt)
 
   step-case : (step : Step) → Is (step_plan k events line step)
   step-case step =
       choice (not (is_built step)) (refuses NotBuilt) (cond (has_room events) (plan_of k events line step) (refuses JournalFull)) (λ none. Says _)
-      (λ built. choice (has_room events) (plan_of k events line step) (refuses JournalFull) (λ room. of-case step) (λ full. Says _))
+      (λ built. choice (has_room events) (plan_of k events line step) (refuses JournalFull) (λ room. of-case step (is-not (is_built step) built)) (λ full. Says _))
 
   pub plan-case : (asked : Result Step ℕ) → Is (plan k events line asked)
   plan-case (Ok step) = step-case step
   plan-case (Err column) = Says (Refused (Syntax column))
-
--- what the tests that passed tell
-one-passed : (b : Bool) (r : Refusal) (o : Option Refusal) → cond b (Some r) o ≡ None → (b ≡ false) × (o ≡ None)
-one-passed true r o h = absurd cc
-one-passed false r o h = (refl, h)
-
-or-passed : (a b : Option Refusal) → option_or a b ≡ None → (a ≡ None) × (b ≡ None)
-or-passed None b h = (refl, h)
-or-passed (Some r) b h = absurd cc
-
-met : (b : Bool) (r : Refusal) → cond b None (Some r) ≡ None → b ≡ true
-met true r h = refl
-met false r h = absurd cc
-
-is-not : (b : Bool) → not b ≡ false → b ≡ true
-is-not true h = refl
-is-not false h = absurd cc
 
 below : (n m : ℕ) → nat_le m n ≡ false → n < m
 below n m h = grind (arith, nat_tests, h)

@@ -19,24 +19,26 @@ use Rattle.dr_laws.proofs.KeepsTargets.{fewer, parted-copies}
 use Rattle.dr_laws.proofs.FitsCopy.{lowest-none}
 use Rattle.dr_laws.proofs.Costs.{Costs, costs_next, costs-nil, costs-entry, restored-by}
 
-module _ (volumes : List ℕ) (v s : ℕ) where
-  abbrev copies : World → ℕ → Bool
+-- the targets of s
+module _ (s : ℕ) where
+  abbrev pub copies : World → ℕ → Bool
   copies w u = copies_from s (fields_at w.control u)
 
-  abbrev count : World → List ℕ → ℕ
+  abbrev pub count : World → List ℕ → ℕ
   count w us = length (filter (copies w) us)
 
+  -- a move on x makes no new target of s
+  pub copies-after : (w : World) (m : Move) (y : Volume) → (copies_from s y.fields ≡ true → copies w (target m) ≡ true) → (us : List ℕ) → length (filter (λ u. copies_from s (at w.control.volume (target m) y u).fields) us) ≤ count w us
+  copies-after w m y still us =
+      fewer (λ u. copies_from s (at w.control.volume (target m) y u).fields) (copies w)
+      (at_cases (λ u (z : Volume). copies_from s z.fields ≡ true → copies w u ≡ true) w.control.volume (target m) y still (λ q ne h. h)) us
+
+module _ (volumes : List ℕ) (v s : ℕ) where
   -- v is restored, and s has few targets
   pub record Live (w : World) : Type 0 where
     pub reversing : (fields_at w.control v).reversing ≡ true
     pub small : (w.control.volume v).tracks ≤ most_tracks
-    pub few : count w volumes ≤ most_targets
-
-  -- a move on x makes no new target of s
-  copies-after : (w : World) (m : Move) (y : Volume) → (copies_from s y.fields ≡ true → copies w (target m) ≡ true) → (us : List ℕ) → length (filter (λ u. copies_from s (at w.control.volume (target m) y u).fields) us) ≤ count w us
-  copies-after w m y still us =
-      fewer (λ u. copies_from s (at w.control.volume (target m) y u).fields) (copies w)
-      (at_cases (λ u (z : Volume). copies_from s z.fields ≡ true → copies w u ≡ true) w.control.volume (target m) y still (λ q ne h. h)) us
+    pub few : count s w volumes ≤ most_targets
 
   -- the targets of s keep track t, or note its change
   module _ (t m : ℕ) (more : List Entry) (rest : (b : ℕ) → m ≤ b → (k : World) → Live k → lowest_held v k.control ≡ Some t → Costs b k more) where
@@ -44,25 +46,25 @@ module _ (volumes : List ℕ) (v s : ℕ) where
     entry u = for_lowest v (λ t. keep_on s t u)
 
     abbrev After : List ℕ → Type 0
-    After us = (c b : ℕ) (w : World) → count w us ≤ c → c + m ≤ b → Live w → lowest_held v w.control ≡ Some t → Costs b w (map entry us ++ more)
+    After us = (c b : ℕ) (w : World) → count s w us ≤ c → c + m ≤ b → Live w → lowest_held v w.control ≡ Some t → Costs b w (map entry us ++ more)
 
     -- after a move on a target that isn't v
-    moved-on : (us : List ℕ) → After us → (a : Move) → (w : World) → (c b : ℕ) → count w us ≤ c → c + m ≤ b → Live w → lowest_held v w.control ≡ Some t → v ≢ target a
-        → (copies_from s (fields_left a (w.control.volume (target a))) ≡ true → copies w (target a) ≡ true) → (f : Option Fuse) → Costs b (done w a f) (map entry us ++ more)
+    moved-on : (us : List ℕ) → After us → (a : Move) → (w : World) → (c b : ℕ) → count s w us ≤ c → c + m ≤ b → Live w → lowest_held v w.control ≡ Some t → v ≢ target a
+        → (copies_from s (fields_left a (w.control.volume (target a))) ≡ true → copies s w (target a) ≡ true) → (f : Option Fuse) → Costs b (done w a f) (map entry us ++ more)
     moved-on us next a w c b cnt le live is ne still f =
         let k : World = done w a f in
         let same : k.control.volume v ≡ w.control.volume v = at_other w.control.volume (target a) _ v ne in
-        let few_us : count k us ≤ count w us = copies-after w a _ still us in
-        let few_all : count k volumes ≤ count w volumes = copies-after w a _ still volumes in
-        let few : count w volumes ≤ most_targets = live.few in
+        let few_us : count s k us ≤ count s w us = copies-after s w a _ still us in
+        let few_all : count s k volumes ≤ count s w volumes = copies-after s w a _ still volumes in
+        let few : count s w volumes ≤ most_targets = live.few in
         next c b k (omega arith) le (record {
           reversing = ap (λ (x : Volume). x.fields.reversing) same ∙ live.reversing;
           small = subst (λ (x : Volume). x.tracks ≤ most_tracks) (sym same) live.small;
           few = omega arith;
         }) (ap (λ (x : Volume). lowest x.tracks x.fields.own) same ∙ is)
 
-    keep-by : (x : ℕ) (us : List ℕ) → After us → (w : World) → Live w → lowest_held v w.control ≡ Some t → (g rev own nt : Bool) → (fields_at w.control x).reversing ≡ rev → copies w x ≡ g
-        → (c b : ℕ) → length (cond g (x ∷ filter (copies w) us) (filter (copies w) us)) ≤ c → c + m ≤ b
+    keep-by : (x : ℕ) (us : List ℕ) → After us → (w : World) → Live w → lowest_held v w.control ≡ Some t → (g rev own nt : Bool) → (fields_at w.control x).reversing ≡ rev → copies s w x ≡ g
+        → (c b : ℕ) → length (cond g (x ∷ filter (copies s w) us) (filter (copies s w) us)) ≤ c → c + m ≤ b
         → costs_next b w (cond (g && not rev) (cond (not own) (Do (Make (Keep x t))) (cond nt (Do (Make (Note x t))) Pass)) Pass) (λ m v. Costs m v (map entry us ++ more))
     keep-by x us next w live is false rev own nt ir ig c b cnt le = next c b w cnt le live is
     keep-by x us next w live is true true own nt ir ig c b cnt le = next c b w (omega arith) le live is
@@ -82,7 +84,7 @@ module _ (volumes : List ℕ) (v s : ℕ) where
     keeps [] c b w cnt le live is = rest b (omega arith) w live is
     keeps (x ∷ us) c b w cnt le live is =
         let f : Fields = fields_at w.control x in
-        costs-entry b w (entry x) _ _ (ap (λ o. on_found o (λ t. keep_on s t x) w.control) is) (keep-by x us (keeps us) w live is (copies w x) f.reversing (contains f.own t) (f.recorded && not (contains f.source_changes t)) refl refl c b cnt le)
+        costs-entry b w (entry x) _ _ (ap (λ o. on_found o (λ t. keep_on s t x) w.control) is) (keep-by x us (keeps us) w live is (copies s w x) f.reversing (contains f.own t) (f.recorded && not (contains f.source_changes t)) refl refl c b cnt le)
 
   -- v gives up track t, which s has taken back; it may be the last
   module _ (t p : ℕ) (more : List Entry) (enough : most_tracks + 1 ≤ p)
@@ -110,8 +112,8 @@ module _ (volumes : List ℕ) (v s : ℕ) where
             let k : World = done w (Release v t) f in
             let here : k.control.volume v ≡ moved (w.control.volume v) (fields_left (Release v t) (w.control.volume v)) (carried_in w (Release v t)) = at_same w.control.volume v _ in
             let u : Volume = w.control.volume v in
-            let few_all : count k volumes ≤ count w volumes = copies-after w (Release v t) _ (parted-copies (is_bare (given_up u.fields t).own) u.fields.related u.fields.source s) volumes in
-            let few : count w volumes ≤ most_targets = live.few in
+            let few_all : count s k volumes ≤ count s w volumes = copies-after s w (Release v t) _ (parted-copies (is_bare (given_up u.fields t).own) u.fields.related u.fields.source s) volumes in
+            let few : count s w volumes ≤ most_targets = live.few in
             next b le k (record {
               reversing = ap (λ (x : Volume). x.fields.reversing) here ∙ ap (λ (e : Bool). cond e false u.fields.reversing) is ∙ live.reversing;
               small = subst (λ (x : Volume). x.tracks ≤ most_tracks) (sym here) live.small;
@@ -136,8 +138,8 @@ module _ (volumes : List ℕ) (v s : ℕ) where
               (omega arith),
               λ f.
                   let k : World = done w m f in
-                  let few_all : count k volumes ≤ count w volumes = copies-after w m y (λ h. h) volumes in
-                  let few : count w volumes ≤ most_targets = live.few in
+                  let few_all : count s k volumes ≤ count s w volumes = copies-after s w m y (λ h. h) volumes in
+                  let few : count s w volumes ≤ most_targets = live.few in
                   release p (omega arith) k (record {
                     reversing = at_part (λ (x : Volume). x.fields.reversing) w.control.volume s y refl v ∙ live.reversing;
                     small = subst (λ n. n ≤ most_tracks) (sym (at_part (λ (x : Volume). x.tracks) w.control.volume s y refl v)) live.small;

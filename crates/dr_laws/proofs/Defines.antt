@@ -9,9 +9,9 @@ use Rattle.dr_model.specs.Contents.{image, zeros}
 use Rattle.dr_model.specs.Histories.{Write, Histories, histories, after_event}
 use Rattle.dr_model.specs.Control.{Pending, Volume, World, is_volume, new_volume}
 use Rattle.dr_model.specs.Table.{Row, table, waiting, due_by}
-use Rattle.dr_model.specs.Laws.{SoundRows, HoldsOld, source, Numbered, Waits, AllPending, Lone, Together, servers, sizes, Sound}
+use Rattle.dr_model.specs.Laws.{SoundRows, HoldsOld, RowParts, Partnered, OneWay, FreeSource, Alike, source, its_primary, its_secondary, Numbered, Waits, AllPending, Lone, Together, servers, sizes, Sound}
 use Rattle.dr_model.proofs.Images.{histories-append, at_other}
-use Rattle.dr_laws.proofs.AtLemmas.{Told, linked-at}
+use Rattle.dr_laws.proofs.AtLemmas.{Told, each-at, linked-at}
 use Rattle.dr_laws.proofs.Sets.{if_false, false_true, in_none}
 use Rattle.dr_model.proofs.LawfulLemmas.{lawful-no_fields}
 use Rattle.dr_laws.proofs.KeepsQueue.{each-on, numbered-after}
@@ -120,6 +120,12 @@ module _ (w : World) (s : Sound w) (v server tracks : ℕ) (undefined : is_volum
   no-source-yet : {P : Type 0} (u : ℕ) → source (table w u) ≡ Some v → P
   no-source-yet u h = false_true undefined (s.rows.structure.flash u v h).defined
 
+  no-primary-yet : {P : Type 0} (u : ℕ) → its_secondary (table w u) ≡ Some v → P
+  no-primary-yet u h = false_true undefined (s.rows.parts.secondary u v h).defined
+
+  no-secondary-yet : {P : Type 0} (u : ℕ) → its_primary (table w u) ≡ Some v → P
+  no-secondary-yet u h = false_true undefined (s.rows.parts.primary u v h).defined
+
   rows-defined : SoundRows (at (table w) v row)
   rows-defined = record {
     structure = structure-at h.write (table w) s.rows.structure v row (record {
@@ -132,6 +138,13 @@ module _ (w : World) (s : Sound w) (v server tracks : ℕ) (undefined : is_volum
       onto = λ u e. no-source-yet u e;
       restores = λ u e. absurd cc;
     });
+    parts = record {
+      one = each-at (table w) v row (λ v r. RowParts r) (record { one = λ e. absurd cc; no_primary = λ e. refl; no_secondary = λ e. refl }) s.rows.parts.one;
+      secondary = linked-at (table w) v row its_secondary Partnered (λ u ne e. absurd cc) (λ e. absurd cc) (λ u ne e. no-primary-yet u e) s.rows.parts.secondary;
+      primary = linked-at (table w) v row its_primary Partnered (λ u ne e. absurd cc) (λ e. absurd cc) (λ u ne e. no-secondary-yet u e) s.rows.parts.primary;
+      one_way = linked-at (table w) v row its_primary OneWay (λ u ne e. absurd cc) (λ e. absurd cc) (λ u ne e. no-secondary-yet u e) s.rows.parts.one_way;
+      free = linked-at (table w) v row source FreeSource (λ u ne e. absurd cc) (λ e. absurd cc) (λ u ne e. no-source-yet u e) s.rows.parts.free;
+    };
     images = images-at (table w) v row s.rows.images (record {
       blank = λ t e. s.rows.images.fresh v undefined t;
       fresh = λ e. absurd cc;
@@ -141,6 +154,7 @@ module _ (w : World) (s : Sound w) (v server tracks : ℕ) (undefined : is_volum
       onto = λ u ne e. no-source-yet u e;
     });
     recorded = linked-at (table w) v row source HoldsOld (λ u ne e. absurd cc) (λ e. absurd cc) (λ u ne e. no-source-yet u e) s.rows.recorded;
+    pairs = linked-at (table w) v row its_secondary Alike (λ u ne e. absurd cc) (λ e. absurd cc) (λ u ne e. no-primary-yet u e) s.rows.pairs;
   }
 
   same-server : (p : Pending) → Waits None w.control h.write p → servers with_volume.control p.volume ≡ servers w.control p.volume

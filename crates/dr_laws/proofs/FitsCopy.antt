@@ -10,7 +10,7 @@ use Rattle.dr_model.specs.Control.{Volume, World, Fuse}
 use Rattle.dr_model.specs.Moves.{Fetch, Restore, Release, fields_left, moved, tracks_after}
 use Rattle.dr_model.specs.Carry.{Make, Pass, Do, Entry, now}
 use Rattle.dr_model.specs.Entries.{fields_at, is_running, keep_on, times, on_found, lowest_held, fetch_next, for_lowest, give_back}
-use Rattle.dr_model.specs.Plans.{is_defined, may_copy, at_most, left_to_copy, copy_plan}
+use Rattle.dr_model.specs.Plans.{is_defined, may_copy, may_give_back, at_most, left_to_copy, copy_plan}
 use Rattle.dr_model.specs.Laws.{Sound}
 use Rattle.dr_model.specs.Allowed.{Runs}
 use Rattle.dr_model.proofs.Images.{at_same, at_other}
@@ -230,7 +230,8 @@ module _ (w : World) (x : Sound w) (t : ℕ) where
       checked first (is_defined t) _ _ begins (λ there.
       checked first (is_running t) _ _ begins (λ on.
       checked first (may_copy t) _ _ begins (λ may.
-      copies-by (at_most most (left_to_copy w.control t)) on (and_parts (fields_at w.control t).related _ may).0 _ refl)))
+      checked first (may_give_back t) _ _ begins (λ back.
+      copies-by (at_most most (left_to_copy w.control t)) on (and_parts (fields_at w.control t).related _ may).0 _ refl))))
 
   pub holds-copy : (most : Option ℕ) → StepHolds w (copy_plan w.control t most)
   holds-copy most = holds-entries w _ _ x (along-copy most)

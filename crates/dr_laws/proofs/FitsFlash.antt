@@ -4,13 +4,13 @@ use Rattle.std.proofs.lemmas.List.{append-nil}
 use Rattle.std.proofs.lemmas.Bool.{and_parts, and_from, or_parts, not-true, eqb-true, eq-eqb, ltb-true, false≢true}
 use Rattle.std.proofs.lemmas.Bool.Decides.{eqb_tells}
 use Rattle.dr_model.specs.Limits.{most_targets}
-use Rattle.dr_model.specs.Layout.{Fields}
+use Rattle.dr_model.specs.Layout.{Fields, is_part}
 use Rattle.dr_model.specs.Relations.{Choices}
 use Rattle.dr_model.specs.Control.{Control, World, is_volume}
 use Rattle.dr_model.specs.Moves.{Relate, Withdraw, Resync, Reverse}
 use Rattle.dr_model.specs.Carry.{Entry}
-use Rattle.dr_model.specs.Entries.{fields_at, copies_from, targets_of, stands_in, is_any, is_running, share_server, share_size, is_no_target}
-use Rattle.dr_model.specs.Plans.{entries_plan, named_pair, is_defined, is_owner, differ, is_no_source, has_few_targets, is_plain_target, is_recorded_target, is_lone_restore, flash_plan, withdraw_plan, resync_plan, reverse_plan}
+use Rattle.dr_model.specs.Entries.{fields_at, copies_from, targets_of, stands_in, is_any, is_running, share_server, share_size, is_no_target, is_no_secondary}
+use Rattle.dr_model.specs.Plans.{entries_plan, named_pair, is_defined, is_owner, differ, is_no_source, has_few_targets, is_plain_target, is_recorded_target, is_lone_restore, has_no_pair, may_return, flash_plan, withdraw_plan, resync_plan, reverse_plan}
 use Rattle.dr_model.specs.declared.said.Said.{Said}
 use Rattle.dr_model.specs.declared.step.Name.{Name}
 use Rattle.dr_model.specs.Table.{table}
@@ -20,6 +20,12 @@ use Rattle.dr_laws.proofs.Sets.{false_true, no_source, from_source}
 use Rattle.dr_laws.proofs.RowsAfter.{idle}
 use Rattle.dr_laws.proofs.KeepsSound.{Along, StepHolds, holds-moves, over, moves, checked}
 use Rattle.dr_laws.proofs.CopyFirst.{from, copies-from, from-copies, any-has}
+
+-- what a check of two tells that neither holds
+pub both-not : (a b : Bool) → (not a && not b) ≡ true → (a ≡ false) × (b ≡ false)
+both-not true b h = absurd cc
+both-not false true h = absurd cc
+both-not false false h = (refl, refl)
 
 -- a plan that begins with nothing told
 abbrev pub as_begun : World → World
@@ -83,9 +89,11 @@ module _ (w : World) (x : Sound w) where
       checked first (is_no_target t) _ _ begins (λ plain.
       checked first (is_no_source t) _ _ begins (λ free.
       checked first (is_no_target s) _ _ begins (λ from_plain.
+      checked first (has_no_pair t) _ _ begins (λ unpaired.
       checked first (has_few_targets s) _ _ begins (λ few.
       let same : (w.control.volume s).server ≡ (w.control.volume t).server = eqb-true _ _ server in
       let on_t : Runs first t = ap w.control.on (sym same) ∙ on in
+      let no_part = both-not (is_part (fields_at w.control t).primary) (is_part (fields_at w.control t).secondary) unpaired in
       moves first (Relate t s choices) [] (record {
         runs = on_t;
         allowed = record {
@@ -97,10 +105,12 @@ module _ (w : World) (x : Sound w) where
           from_plain = no_source _ _ (not-true (fields_at w.control s).related from_plain);
           plain = no_source _ _ (not-true (fields_at w.control t).related plain);
           no_source = λ u h. sourceless t free u h;
+          no_primary = no_part.0;
+          no_secondary = no_part.1;
         };
         fits = ltb-true (length (targets_of w.control s)) most_targets few;
         ready = idle first t begins.queue on_t;
-      }) (λ f j. over _ j)))))))))
+      }) (λ f j. over _ j))))))))))
 
   pub holds-flash : (dev : Option Name) (s t : ℕ) (choices : Choices) → StepHolds w (flash_plan w.control dev s t choices)
   holds-flash dev s t choices = holds-entries w _ _ x (along-flash dev s t choices)
@@ -144,9 +154,10 @@ module _ (w : World) (x : Sound w) where
       named first begins w.control dev s t _ (λ there here on.
       checked first (is_recorded_target s t) _ _ begins (λ target.
       checked first (is_lone_restore s t) _ _ begins (λ free.
+      checked first (may_return s) _ _ begins (λ returns.
       let may = may-resync first s t target in
       let on_t : Runs first t = runs-target first begins t s may.related on in
-      moves first (Reverse t) [] (record { runs = on_t; allowed = record { resync = may; alone = lone s t may.forward free }; fits = tt; ready = idle first t begins.queue on_t }) (λ f j. over _ j))))
+      moves first (Reverse t) [] (record { runs = on_t; allowed = record { resync = may; free = not-true (is_part (fields_at w.control s).secondary) (and_parts (is_no_secondary s w.control) _ returns).0; alone = lone s t may.forward free }; fits = tt; ready = idle first t begins.queue on_t }) (λ f j. over _ j)))))
 
   pub holds-reverse : (dev : Option Name) (s t : ℕ) → StepHolds w (reverse_plan w.control dev s t)
   holds-reverse dev s t = holds-entries w _ _ x (along-reverse dev s t)

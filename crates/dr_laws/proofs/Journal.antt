@@ -6,7 +6,7 @@ use Rattle.std.proofs.lemmas.List.{append-nil, length-append}
 use Rattle.dr_ids.specs.declared.refusal.Refusal.{Refusal}
 use Rattle.dr_ids.specs.declared.refusal.Refusal.TheVariants.{Stopped as StoppedIn}
 use Rattle.dr_model.specs.declared.event.Event.{Event}
-use Rattle.dr_model.specs.declared.event.Event.TheVariants.{Issue, Ack, Blanked, Restored, Stopped, Started, Answer}
+use Rattle.dr_model.specs.declared.event.Event.TheVariants.{Issue, Ack, Blanked, Restored, Stopped, Suspended, Started, Answer}
 use Rattle.dr_model.specs.declared.said.Said.{Said}
 use Rattle.dr_model.specs.declared.said.Said.TheVariants.{Done}
 use Rattle.dr_model.specs.declared.said.Addition.TheVariants.{Alone, Wrote, Showed}
@@ -17,13 +17,14 @@ use Rattle.dr_model.specs.Control.{Control, Fuse, Pending, Volume, World, new_vo
 use Rattle.dr_model.specs.Layout.{Tracks}
 use Rattle.dr_model.specs.Tables.{at}
 use Rattle.dr_model.specs.Relations.{rest, in_order, is_bare, turned, given_up}
-use Rattle.dr_model.specs.Moves.{Move, Land, Overwrite, Keep, Note, Relate, Withdraw, Fetch, Resync, Reverse, Restore, Release, told_blank, told_restored, told, told_in_stop, landed, target, settled, settled_in_stop, is_other, marked}
+use Rattle.dr_model.specs.Pairs.{is_suspended}
+use Rattle.dr_model.specs.Moves.{Move, Land, Overwrite, Keep, Note, Relate, Withdraw, Fetch, Resync, Reverse, Restore, Release, Store, Strike, Suspend, MakeSecondary, MakePrimary, DropPrimary, DropSecondary, Follow, Resume, TakeOver, told_blank, told_restored, told, told_in_stop, landed, target, settled, settled_in_stop, is_other, marked}
 use Rattle.dr_model.specs.Carry.{Act, Make, Redo, Acknowledge, Drop, act, Next, Pass, Do, End, Entry, Outcome, carry, continue, go, follow}
 use Rattle.dr_model.specs.Entries.{landing}
-use Rattle.dr_model.specs.Plans.{Plan, plan, entries_plan, name_bytes, same, always, none_follow, server_done, volume_done, link_done, with_pending, issue_then, show_done, stop_done, arm_on, starting, start_plan}
+use Rattle.dr_model.specs.Plans.{Plan, plan, entries_plan, name_bytes, same, always, none_follow, server_done, volume_done, link_done, with_pending, issue_then, show_done, stop_done, arm_on, starting, start_plan, path_done, unpath_done}
 use Rattle.dr_model.specs.Runs.{Task, begun, finish, carried_out, answered, after_plan, after_task, after_tasks, run}
 use Rattle.dr_laws.specs.Limits.{IsWithin}
-use Rattle.dr_laws.proofs.Cases.{Case, Says, Defines, Adds, Links, Issues, Writes, Applies, Shows, Stops, Arms, Starts, Flashes, Withdraws, Resyncs, Reverses, Copies, plan-case, servers-left, is-new, may-issue}
+use Rattle.dr_laws.proofs.Cases.{Case, Says, Defines, Adds, Links, Issues, Writes, Applies, Shows, Stops, Arms, Starts, Flashes, Withdraws, Resyncs, Reverses, Copies, Paths, Unpaths, MakesPair, RemovesPair, Pauses, ResumesPair, Drains, plan-case, servers-left, is-new, may-issue}
 use Rattle.dr_laws.proofs.AtLemmas.{at_cases, at_part}
 use Rattle.dr_laws.proofs.Turns.{act-cases, Counts, after_act, server_of}
 
@@ -112,6 +113,10 @@ restored-silent v s n own = by (is_bare own)
     by true = silent-append (told_blank v n own) (Restored s v ∷ []) (blanks-silent v (in_order n (rest n own))) refl
     by false = refl
 
+suspended-silent : (none : Bool) (v : ℕ) → Silent (cond none [] (Suspended v ∷ []))
+suspended-silent true v = refl
+suspended-silent false v = refl
+
 tells-silent : (m : Move) (u : Volume) → Silent (told m u)
 tells-silent (Land n v t) u = refl
 tells-silent (Overwrite n v t) u = refl
@@ -124,6 +129,16 @@ tells-silent (Resync v sequence) u = refl
 tells-silent (Reverse v) u = restored-silent v u.fields.source u.tracks (turned u.fields).own
 tells-silent (Restore v t from) u = refl
 tells-silent (Release v t) u = restored-silent v u.fields.source u.tracks (given_up u.fields t).own
+tells-silent (Store v t from last) u = refl
+tells-silent (Strike v t last) u = refl
+tells-silent (Suspend v busy) u = suspended-silent (is_suspended u.fields.primary_state) v
+tells-silent (MakeSecondary v a kind state) u = refl
+tells-silent (MakePrimary v b kind state full) u = refl
+tells-silent (DropPrimary v) u = refl
+tells-silent (DropSecondary v) u = refl
+tells-silent (Follow v state) u = refl
+tells-silent (Resume v state) u = refl
+tells-silent (TakeOver v) u = refl
 
 in_stop-silent : (m : Move) (u : Volume) → Silent (told_in_stop m u)
 in_stop-silent (Land n v t) u = refl
@@ -278,6 +293,13 @@ module _ (k : Control) where
   case-modest events line _ (Resyncs dev s t sequence) = entries-modest _ _
   case-modest events line _ (Reverses dev s t) = entries-modest _ _
   case-modest events line _ (Copies t most) = entries-modest _ _
+  case-modest events line _ (Paths src tgt group) = quiet (path_done src tgt group).first [] [] (always (Done Alone)) refl unmoved refl
+  case-modest events line _ (Unpaths src tgt) = quiet (unpath_done src tgt).first [] [] (always (Done Alone)) refl unmoved refl
+  case-modest events line _ (MakesPair devs a b kind full part) = entries-modest _ _
+  case-modest events line _ (RemovesPair devs a b source_only) = entries-modest _ _
+  case-modest events line _ (Pauses devs a b) = entries-modest _ _
+  case-modest events line _ (ResumesPair devs a b kind) = entries-modest _ _
+  case-modest events line _ (Drains a most) = record { one = omega arith; within = λ h. h; last = stays-same; silent = refl }
 
 pub plan-modest : (k : Control) (events : List Event) (line : ℕ) (asked : Result Step ℕ) → Modest k (plan k events line asked)
 plan-modest k events line asked = case-modest k events line _ (plan-case k events line asked)

@@ -7,16 +7,18 @@ use Rattle.dr_model.specs.Tables.{at}
 use Rattle.dr_model.specs.Contents.{zeros, with_write}
 use Rattle.dr_model.specs.Layout.{Tracks, Fields}
 use Rattle.dr_model.specs.Histories.{Write}
-use Rattle.dr_model.specs.Views.{view}
+use Rattle.dr_model.specs.Views.{source_of, view}
 use Rattle.dr_model.specs.Relations.{rest, is_bare, is_whole, parted_if, fetched, withdrawn_if, turned, given_up}
-use Rattle.dr_model.specs.Moves.{Move, Land, Overwrite, Keep, Note, Relate, Withdraw, Fetch, Resync, Reverse, Restore, Release, Carried, moved}
+use Rattle.dr_model.specs.Pairs.{altered, received}
+use Rattle.dr_model.specs.Moves.{Move, Land, Overwrite, Keep, Relate, Withdraw, Fetch, Resync, Reverse, Restore, Release, Store, Carried, target, moved}
 use Rattle.dr_model.specs.Table.{Row, Table}
 use Rattle.dr_model.specs.Rows.{after, emptied, contents_of, carried_on}
-use Rattle.dr_model.specs.Laws.{Structure, Recorded, source, fields, Images, Plain, Seen}
+use Rattle.dr_model.specs.Laws.{Structure, Parts, Recorded, source, fields, Images, Plain, Seen}
 use Rattle.dr_model.specs.Allowed.{Allowed, Kept, MayKeep}
 use Rattle.dr_model.proofs.Images.{at_same, at_other}
 use Rattle.dr_laws.proofs.AtLemmas.{at_cases, at_two, each-at, linked-at}
 use Rattle.dr_laws.proofs.KeepsStructure.{no_loop, no_targets}
+use Rattle.dr_laws.proofs.KeepsParts.{unrelated, unrelated_primary}
 use Rattle.dr_laws.proofs.Sets.{false_true, none_some, if_true, if_false, in_insert, insert_other, not_removed, remove_from, remove_other, whole_has, in_all, in_rest, empty_has, from_source, still_related, from_difference, from_union, not_in_union}
 
 -- what a changed row owes
@@ -42,7 +44,7 @@ view-by true true x y h = refl
 view-by true false x y h = refl
 view-by false c x y h = absurd cc
 
-module _ (write : ℕ → Write) (T : Table) (structure : Structure T) (recorded : Recorded T) (images : Images T) where
+module _ (write : ℕ → Write) (T : Table) (structure : Structure T) (parts : Parts T) (recorded : Recorded T) (images : Images T) where
   -- a track is stored at v, whose targets hold it
   onto-stored : (v t : ℕ) (b : List ℕ) → Kept T v t → (u : ℕ) → source (T u) ≡ Some v → (q : ℕ) → q < (T u).volume.tracks
       → cond (contains (fields T u).own q) ((T u).bytes q) (at (T v).bytes t b q) ≡ (T u).due q
@@ -55,15 +57,15 @@ module _ (write : ℕ → Write) (T : Table) (structure : Structure T) (recorded
       at_cases (λ q c. contains (remove (fields T v).blank t) q ≡ true → c ≡ zeros) (T v).bytes t b
       (λ h. absurd (false_true (not_removed (fields T v).blank t) h)) (λ q ne h. images.blank v q (remove_from (fields T v).blank t q h))
 
-  -- a track is stored at a volume that is no target, as it is due
-  stored : (v t : ℕ) (c : Carried) (b d : List ℕ) → (T v).defined ≡ true → source (T v) ≡ None → Kept T v t → (t < (T v).volume.tracks → b ≡ d)
-      → Owes T v (record (T v) { volume = moved (T v).volume (record (fields T v) { blank = remove (fields T v).blank t }) c; bytes = at (T v).bytes t b; due = at (T v).due t d })
-  stored v t c b d defined none all same = record {
-    blank = blank-stored v t b;
+  -- a track is stored at a volume that is no target, as it is due, and is no longer blank
+  stored : (v t : ℕ) (g : Fields) (c : Carried) (b d : List ℕ) → g.blank ≡ remove (fields T v).blank t → source_of g ≡ None → (T v).defined ≡ true → source (T v) ≡ None → Kept T v t → (t < (T v).volume.tracks → b ≡ d)
+      → Owes T v (record (T v) { volume = moved (T v).volume g c; bytes = at (T v).bytes t b; due = at (T v).due t d })
+  stored v t g c b d less still defined none all same = record {
+    blank = λ q h. blank-stored v t b q (ap (λ s. contains s q) (sym less) ∙ h);
     fresh = λ h. absurd (false_true h defined);
     plain = λ n. at_two (λ q b d. q < (T v).volume.tracks → b ≡ d) (T v).bytes (T v).due t b d same (λ q ne lt. images.plain v none q lt);
-    seen = λ u ne h. none_some none h;
-    loop = λ h. none_some none h;
+    seen = λ u ne h. none_some still h;
+    loop = λ h. none_some still h;
     onto = λ u ne h. onto-stored v t b all u h;
   }
 
@@ -190,19 +192,11 @@ module _ (write : ℕ → Write) (T : Table) (structure : Structure T) (recorded
   with m = carried_on write m T
 
   pub kept-images : (m : Move) → Allowed write T m → Images (after write T m)
-  kept-images (Land w v t) a = images-at T v _ images (stored v t (with (Land w v t)) _ _ a.defined a.plain a.kept (λ lt. ap (λ b. with_write write b w) (images.plain v a.plain t lt)))
+  kept-images (Land w v t) a = images-at T v _ images (stored v t (altered (fields T v) t) (with (Land w v t)) _ _ refl a.plain a.defined a.plain a.kept (λ lt. ap (λ b. with_write write b w) (images.plain v a.plain t lt)))
   kept-images (Overwrite w v t) a = images-at T v _ images (taken-owes v t a.from a.related _ (at (T v).due t (with_write write ((T v).due t) w))
       (λ lt. ap (λ b. with_write write b w) (shows v t a.from a.related lt) ∙ sym (at_same (T v).due t _)) (λ q ne. at_other (T v).due t _ q ne) _ _ (with (Overwrite w v t)))
   kept-images (Keep v t) a = images-at T v _ images (taken-owes v t a.from a.related _ (T v).due (old-track v t a) (λ q ne. refl) _ _ (with (Keep v t)))
   kept-images (Fetch v t) a = images-at T v _ images (taken-owes v t a.from a.related _ (T v).due (old-track v t a) (λ q ne. refl) _ _ (with (Fetch v t)))
-  kept-images (Note v t) a = images-at T v _ images (record {
-    blank = images.blank v;
-    fresh = images.fresh v;
-    plain = images.plain v;
-    seen = λ u ne. images.seen v u;
-    loop = no_loop write T structure v;
-    onto = λ u ne. images.seen u v;
-  })
   kept-images (Relate v s c) a = images-at T v _ images (record {
     blank = images.blank v;
     fresh = images.fresh v;
@@ -223,5 +217,18 @@ module _ (write : ℕ → Write) (T : Table) (structure : Structure T) (recorded
   })
   kept-images (Reverse v) b = let a = b.resync in images-at T v _ images (withdrawn-owes v a.from a.related (is_bare (turned (fields T v)).own) (turned (fields T v)) refl refl refl
       (λ q lt. reverse-seen v a.from q a.related a.recorded a.forward lt _ _ refl refl) (with (Reverse v)))
-  kept-images (Restore v t u) a = let f = structure.flash u v a.related in images-at T v _ images (stored v t (with (Restore v t u)) _ _ f.defined f.plain a.kept (λ lt. sym (if_true _ _ a.holds) ∙ images.seen u v a.related t (subst (λ n. t < n) (sym f.same_tracks) lt)))
+  kept-images (Restore v t u) a = let f = structure.flash u v a.related in images-at T v _ images (stored v t (altered (fields T v) t) (with (Restore v t u)) _ _ refl f.plain f.defined f.plain a.kept (λ lt. sym (if_true _ _ a.holds) ∙ images.seen u v a.related t (subst (λ n. t < n) (sym f.same_tracks) lt)))
   kept-images (Release v t) a = images-at T v _ images (withdrawn-owes v a.from a.related (is_bare (given_up (fields T v) t).own) (given_up (fields T v) t) refl refl refl (release-seen v t a.from a.related (sym a.equal)) (with (Release v t)))
+  kept-images (Store v t u last) a =
+      let out = parts.secondary u v a.sends in
+      let none = unrelated T parts v a.takes in
+      let first = unrelated_primary T parts u a.sends in
+      images-at T v _ images (stored v t (received last (fields T v) t) (with (Store v t u last)) _ _ refl none out.defined none a.kept (λ lt. images.plain u first t (subst (λ n. t < n) (sym out.same_tracks) lt)))
+  kept-images m a = let v : ℕ = target m in images-at T v _ images (record {
+    blank = images.blank v;
+    fresh = images.fresh v;
+    plain = images.plain v;
+    seen = λ u ne. images.seen v u;
+    loop = no_loop write T structure v;
+    onto = λ u ne. images.seen u v;
+  })

@@ -1,10 +1,13 @@
 -- Each kind of move leaves lawful fields.
-use Rattle.std.proofs.Common.{ℕ, ◌≡◌, ◌<◌, refl, Bool, true, false, cond, Option}
-use Rattle.std.specs.FinSet.{insert, empty}
-use Rattle.dr_model.specs.Layout.{Tracks, Fields}
-use Rattle.dr_model.specs.Lawful.{Low, HasSets, NoRelation, IsLawful}
+use Rattle.std.proofs.Common.{ℕ, ◌≡◌, ◌<◌, ◌∙◌, refl, Bool, true, false, cond, Option}
+use Rattle.std.specs.FinSet.{insert, remove, empty}
+use Rattle.dr_model.specs.declared.state.Part.{Part}
+use Rattle.dr_model.specs.declared.state.PairState.{PairState}
+use Rattle.dr_model.specs.Layout.{Tracks, Fields, is_part}
+use Rattle.dr_model.specs.Lawful.{Low, HasSets, NoPrimary, NoSecondary, NoRelation, IsLawful}
+use Rattle.dr_model.specs.Pairs.{altered, is_engaged, suspended, made_secondary, made_primary, no_primary, no_secondary, received, struck, resumed, taken_over}
 use Rattle.dr_model.specs.Relations.{Choices, rest, parted_if, fetched, noted, rewritten, made, withdrawn_if, resynced, turned, given_up}
-use Rattle.dr_laws.proofs.Sets.{false_true, in_cond, in_none, in_more, remove_from, rest_low, from_difference, from_union}
+use Rattle.dr_laws.proofs.Sets.{false_true, if_false, in_cond, in_none, in_more, remove_from, rest_low, low_all, from_difference, from_union}
 
 module _ (n : ℕ) (f : Fields) (law : IsLawful n f) where
   abbrev old : HasSets n f
@@ -137,3 +140,78 @@ module _ (n : ℕ) (f : Fields) (law : IsLawful n f) where
     secondary = law.secondary;
     relation = λ h. false_true h related;
   }
+
+  -- the parts in pairs change, and tracks are no longer blank
+  lawful-paired : (g : Fields) → Low n g.out_of_sync → Low n g.change_recording → Low n g.blank → (is_part g.primary ≡ false → NoPrimary g) → (is_part g.secondary ≡ false → NoSecondary g)
+      → IsLawful n (record f {
+        primary = g.primary;
+        primary_state = g.primary_state;
+        primary_partner = g.primary_partner;
+        coordination = g.coordination;
+        long_busy = g.long_busy;
+        recording = g.recording;
+        out_of_sync = g.out_of_sync;
+        change_recording = g.change_recording;
+        secondary = g.secondary;
+        secondary_state = g.secondary_state;
+        secondary_partner = g.secondary_partner;
+        seal = g.seal;
+        blank = g.blank;
+      })
+  lawful-paired g first second blank primary secondary = record {
+    sets = record {
+      out_of_sync_low = first;
+      change_recording_low = second;
+      own_low = old.own_low;
+      previous_own_low = old.previous_own_low;
+      source_changes_low = old.source_changes_low;
+      target_changes_low = old.target_changes_low;
+      blank_low = blank;
+    };
+    primary = primary;
+    secondary = secondary;
+    relation = law.relation;
+  }
+
+  blank-less : (t : ℕ) → Low n (remove f.blank t)
+  blank-less t q h = old.blank_low q (remove_from f.blank t q h)
+
+  -- a track is stored, of a primary it is out of sync
+  pub lawful-altered : (t : ℕ) → t < n → IsLawful n (altered f t)
+  lawful-altered t lt = lawful-paired (altered f t) (in_cond (is_part f.primary) _ _ (λ q. q < n) (in_more f.out_of_sync t (λ q. q < n) lt old.out_of_sync_low) old.out_of_sync_low)
+      old.change_recording_low (blank-less t) (λ h. let o = law.primary h in (o.0, o.1, o.2, o.3, o.4, if_false _ _ h ∙ o.5, o.6)) law.secondary
+
+  -- a secondary stores a track, its primary strikes it off
+  pub lawful-received : (last : Bool) (t : ℕ) → is_part f.secondary ≡ true → IsLawful n (received last f t)
+  lawful-received last t is = lawful-paired (received last f t) old.out_of_sync_low old.change_recording_low (blank-less t) law.primary (λ h. false_true h is)
+
+  pub lawful-struck : (last : Bool) (t : ℕ) → is_part f.primary ≡ true → IsLawful n (struck last f t)
+  lawful-struck last t is = lawful-paired (struck last f t) (λ q h. old.out_of_sync_low q (remove_from f.out_of_sync t q h)) old.change_recording_low old.blank_low (λ h. false_true h is) law.secondary
+
+  -- a primary is suspended, or goes on; a secondary has another state
+  pub lawful-suspended : (busy : Bool) → is_part f.primary ≡ true → IsLawful n (suspended busy f)
+  lawful-suspended busy is = lawful-paired (suspended busy f) (in_cond (is_engaged f) _ _ (λ q. q < n) (from_union _ _ (λ q. q < n) old.out_of_sync_low old.change_recording_low) old.out_of_sync_low)
+      (low-if (is_engaged f) _ old.change_recording_low) old.blank_low (λ h. false_true h is) law.secondary
+
+  pub lawful-resumed : (state : PairState) → is_part f.primary ≡ true → IsLawful n (resumed state f)
+  lawful-resumed state is = lawful-paired (resumed state f) old.out_of_sync_low old.change_recording_low old.blank_low (λ h. false_true h is) law.secondary
+
+  pub lawful-followed : (state : PairState) → is_part f.secondary ≡ true → IsLawful n (record f { secondary_state = state })
+  lawful-followed state is = lawful-paired (record f { secondary_state = state }) old.out_of_sync_low old.change_recording_low old.blank_low law.primary (λ h. false_true h is)
+
+  -- a pair is made
+  pub lawful-made_secondary : (u : ℕ) (kind : Part) (state : PairState) → is_part kind ≡ true → IsLawful n (made_secondary u kind state f)
+  lawful-made_secondary u kind state is = lawful-paired (made_secondary u kind state f) old.out_of_sync_low old.change_recording_low old.blank_low law.primary (λ h. false_true h is)
+
+  pub lawful-made_primary : (u : ℕ) (kind : Part) (state : PairState) (full : Bool) → is_part kind ≡ true → IsLawful n (made_primary n u kind state full f)
+  lawful-made_primary u kind state full is = lawful-paired (made_primary n u kind state full f) (in_cond full _ _ (λ q. q < n) (low_all n) (in_none _)) (in_none _) old.blank_low (λ h. false_true h is) law.secondary
+
+  -- or a part is taken away
+  pub lawful-no_primary : IsLawful n (no_primary f)
+  lawful-no_primary = lawful-paired (no_primary f) (in_none _) (in_none _) old.blank_low (λ h. (refl, refl, refl, refl, refl, refl, refl)) law.secondary
+
+  pub lawful-no_secondary : IsLawful n (no_secondary f)
+  lawful-no_secondary = lawful-paired (no_secondary f) old.out_of_sync_low old.change_recording_low old.blank_low law.primary (λ h. (refl, refl, refl))
+
+  pub lawful-taken_over : is_part f.secondary ≡ true → IsLawful n (taken_over f)
+  lawful-taken_over is = lawful-paired (taken_over f) (in_none _) (in_none _) old.blank_low (λ h. false_true h is) (λ h. (refl, refl, refl))

@@ -3,13 +3,14 @@ use Rattle.std.proofs.Common.{ℕ, ◌≡◌, ◌<◌, ◌+◌, refl, ap, sym, �
 use Rattle.std.proofs.lemmas.Bool.{eqb-true, eq-eqb, false≢true}
 use Rattle.std.specs.List.{fold}
 use Rattle.dr_model.specs.declared.event.Event.{Event}
-use Rattle.dr_model.specs.declared.event.Event.TheVariants.{Volume as VolumeDefined, Issue, Ack, Mirrored, Sent, Flashed, Committed, Reverted, Set, Back, Blanked, Restored, Stopped}
+use Rattle.dr_model.specs.declared.event.Event.TheVariants.{Volume as VolumeDefined, Issue, Ack, Mirrored, Sent, Flashed, Committed, Reverted, Set, Back, Blanked, Restored, Stopped, Suspended}
 use Rattle.dr_model.specs.Tables.{at, at2}
 use Rattle.dr_model.specs.Histories.{Lists, Write, Histories, histories, after_event}
 use Rattle.dr_model.specs.Layout.{Tracks}
 use Rattle.dr_model.specs.Relations.{is_bare}
 use Rattle.dr_model.specs.Control.{Control, Pending, Fuse, Volume, World, is_volume}
-use Rattle.dr_model.specs.Moves.{Move, Land, Overwrite, Relate, Withdraw, Resync, Reverse, Restore, Release, Keep, Note, Fetch, told_blank, told_restored, target, told, told_in_stop, settled, settled_in_stop, is_write, is_other, marked, landed}
+use Rattle.dr_model.specs.Pairs.{is_suspended}
+use Rattle.dr_model.specs.Moves.{Move, Land, Overwrite, Relate, Withdraw, Resync, Reverse, Restore, Release, Keep, Note, Fetch, Store, Strike, Suspend, MakeSecondary, MakePrimary, DropPrimary, DropSecondary, Follow, Resume, TakeOver, told_blank, told_restored, target, told, told_in_stop, settled, settled_in_stop, is_write, is_other, marked, landed}
 use Rattle.dr_model.specs.Laws.{Lone, Together, servers, sizes, Below, Numbered, Queue, Waits, AllPending, Apart}
 use Rattle.dr_model.specs.Entries.{is_at}
 use Rattle.dr_model.specs.Allowed.{Coming, Ready}
@@ -236,6 +237,20 @@ module _ (starts : Option ℕ) (w : World) (old : Queue starts w) where
   told-quiet (Fetch v t) ready = (tt, tt)
   told-quiet (Resync v sequence) ready = (tt, tt)
   told-quiet (Restore v t u) ready = (tt, tt)
+  told-quiet (Store v t u last) ready = (tt, tt)
+  told-quiet (Suspend v busy) ready = by (is_suspended (w.control.volume v).fields.primary_state)
+    where
+      by : (b : Bool) → AllQuiet n (cond b [] (Suspended v ∷ []))
+      by true = tt
+      by false = (tt, tt)
+  told-quiet (TakeOver v) ready = (tt, tt)
+  told-quiet (Strike v t last) ready = tt
+  told-quiet (MakeSecondary v u kind state) ready = tt
+  told-quiet (MakePrimary v u kind state full) ready = tt
+  told-quiet (DropPrimary v) ready = tt
+  told-quiet (DropSecondary v) ready = tt
+  told-quiet (Follow v state) ready = tt
+  told-quiet (Resume v state) ready = tt
 
   stop-quiet : (m : Move) → Ready w m → AllQuiet n (told_in_stop m (w.control.volume (target m)))
   stop-quiet (Land k v t) ready = tt

@@ -5,16 +5,17 @@ use Rattle.dr_model.specs.Tables.{at}
 use Rattle.dr_model.specs.Layout.{Tracks, Fields}
 use Rattle.dr_model.specs.Histories.{Write}
 use Rattle.dr_model.specs.Relations.{is_bare, turned, given_up, is_whole}
-use Rattle.dr_model.specs.Moves.{Move, Land, Overwrite, Keep, Note, Relate, Withdraw, Fetch, Resync, Reverse, Restore, Release}
+use Rattle.dr_model.specs.Moves.{Move, Land, Overwrite, Keep, Note, Relate, Withdraw, Fetch, Resync, Reverse, Restore, Release, Store, target}
 use Rattle.dr_model.specs.Table.{Row, Table}
 use Rattle.dr_model.specs.Rows.{after}
-use Rattle.dr_model.specs.Laws.{Structure, Recorded, HoldsOld, source, fields}
+use Rattle.dr_model.specs.Laws.{Structure, Parts, Recorded, HoldsOld, source, fields}
 use Rattle.dr_model.specs.Allowed.{Allowed, Kept}
 use Rattle.dr_laws.proofs.AtLemmas.{at_cases, linked-at}
 use Rattle.dr_laws.proofs.KeepsStructure.{no_loop, no_targets}
+use Rattle.dr_laws.proofs.KeepsParts.{unrelated}
 use Rattle.dr_laws.proofs.Sets.{false_true, none_some, in_insert, insert_other, not_in_empty, not_in_more, from_source, still_related, from_difference}
 
-module _ (write : ℕ → Write) (T : Table) (structure : Structure T) (old : Recorded T) where
+module _ (write : ℕ → Write) (T : Table) (structure : Structure T) (parts : Parts T) (old : Recorded T) where
   -- what a changed row owes
   changed : (x : ℕ) (y : Row) → ((u : ℕ) → source y ≡ Some u → HoldsOld x y u (T u)) → (source y ≡ Some x → ⊥) → ((v : ℕ) → source (T v) ≡ Some x → HoldsOld v (T v) x y) → Recorded (at T x y)
   changed x y from loop onto = linked-at T x y source HoldsOld (λ u ne. from u) (λ h. absurd (loop h)) (λ v ne. onto v) old
@@ -84,3 +85,5 @@ module _ (write : ℕ → Write) (T : Table) (structure : Structure T) (old : Re
       changed v _ (λ u h rec rev. reversed e f.related true f.source u refl h rev) (parted-loop v e) (λ u. targets_at v a.resync.from u a.resync.related)
   kept-recorded (Release v t) a = let f : Fields = fields T v in let e : Bool = is_bare (given_up f t).own in
       changed v _ (λ u h rec rev. reversed e f.related f.reversing f.source u a.reversing h rev) (parted-loop v e) (λ u. targets_at v a.from u a.related)
+  kept-recorded (Store v t u last) a = let none = unrelated T parts v a.takes in changed v _ (λ u h. none_some none h) (λ h. none_some none h) (λ u h. onto-stored v t _ a.kept u h)
+  kept-recorded m a = let v : ℕ = target m in changed v _ (old v) (loop_at v) (λ u. old u v)

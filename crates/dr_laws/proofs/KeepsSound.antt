@@ -1,5 +1,6 @@
 -- A sound world stays sound in an act that may come, however it ends.
 use Rattle.std.proofs.Common.{ℕ, ◌≡◌, ◌+◌, refl, ap, sym, subst, Bool, true, false, List, [], ◌∷◌, ◌++◌, filter, Option, None}
+use Rattle.dr_ids.specs.Paths.{Path}
 use Rattle.dr_ids.specs.declared.refusal.Refusal.{Refusal}
 use Rattle.dr_model.specs.declared.event.Event.{Event}
 use Rattle.dr_model.specs.declared.event.Event.TheVariants.{Stopped}
@@ -20,8 +21,10 @@ use Rattle.dr_model.proofs.Images.{histories-append}
 use Rattle.dr_laws.proofs.Turns.{carried_in, done, done_in_stop, not_done, after_act, place, Writes}
 use Rattle.dr_laws.proofs.RowsAfter.{table-done, table-stop}
 use Rattle.dr_laws.proofs.KeepsStructure.{kept-structure}
+use Rattle.dr_laws.proofs.KeepsParts.{kept-parts}
 use Rattle.dr_laws.proofs.KeepsImages.{kept-images}
 use Rattle.dr_laws.proofs.KeepsRecorded.{kept-recorded}
+use Rattle.dr_laws.proofs.KeepsPairs.{kept-pairs}
 use Rattle.dr_laws.proofs.KeepsTargets.{few-after}
 use Rattle.dr_laws.proofs.KeepsQueue.{AllQuiet, queue-done, queue-stop, queue-same, goes-off, all-filter, apart-filter, lone-filter}
 use Rattle.dr_laws.proofs.Due.{waiting-settled}
@@ -30,8 +33,10 @@ use Rattle.dr_laws.proofs.Along as along
 pub rows-after : (write : ℕ → Write) (T : Table) (m : Move) → SoundRows T → Allowed write T m → SoundRows (after write T m)
 rows-after write T m r a = record {
   structure = kept-structure write T r.structure m a;
-  images = kept-images write T r.structure r.recorded r.images m a;
-  recorded = kept-recorded write T r.structure r.recorded m a;
+  parts = kept-parts T r.parts write r.structure m a;
+  images = kept-images write T r.structure r.parts r.recorded r.images m a;
+  recorded = kept-recorded write T r.structure r.parts r.recorded m a;
+  pairs = kept-pairs write T r.structure r.parts r.pairs m a;
 }
 
 -- events that no list hears of
@@ -53,23 +58,23 @@ module _ (starts : Option ℕ) where
     queue = queue-stop starts w s.queue m f may.ready;
   }
 
-  -- events that change no list, one server more, other links, and servers that may have gone off
-  pub sound-told : (w : World) (servers : List (List ℕ)) (on : ℕ → Bool) (fuse : ℕ → Option Fuse) (link : ℕ → ℕ → Bool) (es : List Event) → histories (w.events ++ es) ≡ histories w.events → AllQuiet (w.control.issued + 1) es
+  -- events that change no list, one server more, other links and paths, and servers that may have gone off
+  pub sound-told : (w : World) (servers : List (List ℕ)) (on : ℕ → Bool) (fuse : ℕ → Option Fuse) (link : ℕ → ℕ → Bool) (paths : List Path) (es : List Event) → histories (w.events ++ es) ≡ histories w.events → AllQuiet (w.control.issued + 1) es
       → ((j : ℕ) → w.control.on j ≡ false → on j ≡ false) → SoundBut starts w
-      → SoundBut starts (record { control = record w.control { servers = servers; on = on; fuse = fuse; link = link }; contents = w.contents; events = w.events ++ es })
-  sound-told w servers on fuse link es same quiet off s = record {
+      → SoundBut starts (record { control = record w.control { servers = servers; on = on; fuse = fuse; link = link; paths = paths }; contents = w.contents; events = w.events ++ es })
+  sound-told w servers on fuse link paths es same quiet off s = record {
     rows = rows-told w es same s.rows;
     targets = record { once = s.targets.once; few = s.targets.few };
-    queue = queue-same starts w s.queue (record w.control { servers = servers; on = on; fuse = fuse; link = link }) es w.contents quiet refl refl refl (λ v. refl) (λ v. refl) off;
+    queue = queue-same starts w s.queue (record w.control { servers = servers; on = on; fuse = fuse; link = link; paths = paths }) es w.contents quiet refl refl refl (λ v. refl) (λ v. refl) off;
   }
 
   pub sound-not : (w : World) (x : ℕ) (f : Option Fuse) → SoundBut starts w → SoundBut starts (not_done w x f)
   sound-not w x f s =
-      sound-told w w.control.servers (at w.control.on x false) (at w.control.fuse x f) w.control.link (Stopped x 0 ∷ []) (histories-append w.events (Stopped x 0 ∷ [])) (tt, tt) (goes-off starts w s.queue w.control.on x) s
+      sound-told w w.control.servers (at w.control.on x false) (at w.control.fuse x f) w.control.link w.control.paths (Stopped x 0 ∷ []) (histories-append w.events (Stopped x 0 ∷ [])) (tt, tt) (goes-off starts w s.queue w.control.on x) s
 
   pub sound-gone : (w : World) (x : ℕ) → SoundBut starts w → SoundBut starts (gone_off w x)
   sound-gone w x s =
-      sound-told w w.control.servers (at w.control.on x false) w.control.fuse w.control.link (Stopped x 0 ∷ []) (histories-append w.events (Stopped x 0 ∷ [])) (tt, tt) (goes-off starts w s.queue w.control.on x) s
+      sound-told w w.control.servers (at w.control.on x false) w.control.fuse w.control.link w.control.paths (Stopped x 0 ∷ []) (histories-append w.events (Stopped x 0 ∷ [])) (tt, tt) (goes-off starts w s.queue w.control.on x) s
 
   -- a write that hasn't landed is dropped
   pub sound-dropped : (w : World) (n : ℕ) → AllPending (λ p. p.landed ≡ false) (filter (is_write n) w.control.pending) → SoundBut starts w → SoundBut starts (dropped w n)

@@ -5,16 +5,15 @@ use Rattle.dr_model.specs.Tables.{at}
 use Rattle.dr_model.specs.Layout.{Tracks, Fields}
 use Rattle.dr_model.specs.Histories.{Write}
 use Rattle.dr_model.specs.Relations.{rest, is_bare, is_whole, turned, given_up}
-use Rattle.dr_model.specs.Moves.{Move, Land, Overwrite, Keep, Note, Relate, Withdraw, Fetch, Resync, Reverse, Restore, Release, target, next_fields}
+use Rattle.dr_model.specs.Moves.{Move, Land, Overwrite, Keep, Note, Relate, Withdraw, Fetch, Resync, Reverse, Restore, Release, Store, Strike, Suspend, MakeSecondary, MakePrimary, DropPrimary, DropSecondary, Follow, Resume, TakeOver, moved, target, next_fields}
 use Rattle.dr_model.specs.Table.{Row, Table}
-use Rattle.dr_model.specs.Rows.{after, next_row, volumes_of}
+use Rattle.dr_model.specs.Rows.{after, next_row, next_bytes, next_due, volumes_of, carried_on}
 use Rattle.dr_model.specs.Laws.{Structure, Lawful, RowSets, RowFlags, RowDefined, SetsFit, FlagsFit, Flashed, OneRestore, source, fields}
 use Rattle.dr_model.specs.Allowed.{Allowed}
 use Rattle.dr_model.specs.Lawful.{IsLawful}
 use Rattle.dr_model.proofs.Images.{at_same}
-use Rattle.dr_model.proofs.LawfulLemmas.{lawful-filled}
 use Rattle.dr_laws.proofs.AtLemmas.{at_cases, each-at, linked-at}
-use Rattle.dr_laws.proofs.KeepsLawful.{lawful-taken, low-noted, lawful-noted, lawful-made, lawful-withdrawn, lawful-resynced, lawful-turned, lawful-given_up}
+use Rattle.dr_laws.proofs.KeepsLawful.{lawful-altered, lawful-received, lawful-struck, lawful-suspended, lawful-resumed, lawful-followed, lawful-made_secondary, lawful-made_primary, lawful-no_primary, lawful-no_secondary, lawful-taken_over, lawful-taken, low-noted, lawful-noted, lawful-made, lawful-withdrawn, lawful-resynced, lawful-turned, lawful-given_up}
 use Rattle.dr_laws.proofs.Sets.{In, in_cond, in_none, in_more, in_insert, still_in, false_true, none_some, not_turned, from_source, still_related, from_difference, from_union, remove_from, not_removed, not_removed_from, empty_has}
 
 -- sets and flags, by their parts
@@ -57,11 +56,11 @@ part-flags true persistent recorded reversing own noted rewritten is persists re
 part-flags false persistent recorded reversing own noted rewritten is persists records unchanged = record { persists = persists; records = records; unchanged = unchanged; some = λ h. is }
 
 -- a relationship that stands still is restored
-still_turned : (e related reversing : Bool) (o s : ℕ) → cond (cond e false related) (Some (cond e 0 o)) None ≡ Some s → cond e false reversing ≡ true → (cond related (Some o) None ≡ Some s) × (reversing ≡ true)
+pub still_turned : (e related reversing : Bool) (o s : ℕ) → cond (cond e false related) (Some (cond e 0 o)) None ≡ Some s → cond e false reversing ≡ true → (cond related (Some o) None ≡ Some s) × (reversing ≡ true)
 still_turned true related reversing o s h r = absurd cc
 still_turned false related reversing o s h r = (h, r)
 
-part-defined : {P : Type 0} (e related : Bool) → (related ≡ true → P) → cond e false related ≡ true → P
+pub part-defined : {P : Type 0} (e related : Bool) → (related ≡ true → P) → cond e false related ≡ true → P
 part-defined true related old h = absurd cc
 part-defined false related old h = old h
 
@@ -121,30 +120,59 @@ module _ (write : ℕ → Write) (T : Table) (old : Structure T) where
     parted-restores : (e : Bool) (s : ℕ) → cond (cond e false f.related) (Some (cond e 0 f.source)) None ≡ Some s → cond e false f.reversing ≡ true → (b : ℕ) → source (T b) ≡ Some s → (fields T b).reversing ≡ true → v ≡ b
     parted-restores e s h r b k q = let both = still_turned e f.related f.reversing f.source s h r in old.one_restore s v b both.0 k both.1 q
 
-    filled-sets : (t : ℕ) → SetsFit f.own f.source_changes f.target_changes (remove f.blank t)
-    filled-sets t = let s = old.sets v in record { apart = λ q h. not_removed_from f.blank t q (s.apart q h); noted_held = s.noted_held; rewritten_held = s.rewritten_held }
+    filled : (t q : ℕ) → contains f.own q ≡ true → contains (remove f.blank t) q ≡ false
+    filled t q h = not_removed_from f.blank t q ((old.sets v).apart q h)
+
+  -- the row after a move, where it changes the parts in pairs and blank tracks alone
+  abbrev paired_row : Move → Row
+  paired_row m =
+      let v : ℕ = target m in
+      let g : Fields = next_fields m (volumes_of T) in
+      record (T v) {
+        volume = moved (T v).volume (record (fields T v) {
+          primary = g.primary;
+          primary_state = g.primary_state;
+          primary_partner = g.primary_partner;
+          coordination = g.coordination;
+          long_busy = g.long_busy;
+          recording = g.recording;
+          out_of_sync = g.out_of_sync;
+          change_recording = g.change_recording;
+          secondary = g.secondary;
+          secondary_state = g.secondary_state;
+          secondary_partner = g.secondary_partner;
+          seal = g.seal;
+          blank = g.blank;
+        }) (carried_on write m T);
+        bytes = next_bytes write m T;
+        due = next_due write m T;
+      }
+
+  paired : (m : Move) → Lawful (paired_row m) → ((q : ℕ) → contains (fields T (target m)).own q ≡ true → contains (next_fields m (volumes_of T)).blank q ≡ false) → Structure (at T (target m) (paired_row m))
+  paired m lawful apart = let v : ℕ = target m in structure-at v (paired_row m) (record {
+    lawful = lawful;
+    sets = let s = old.sets v in record { apart = apart; noted_held = s.noted_held; rewritten_held = s.rewritten_held };
+    flags = old.flags v;
+    defined = old.defined v;
+    from = old.flash v;
+    loop = no_loop v;
+    onto = λ u. old.flash u v;
+    restores = stays-restores v;
+  })
 
   pub kept-structure : (m : Move) → Allowed write T m → Structure (after write T m)
-  kept-structure (Land w v t) a = structure-at v _ (record {
-    lawful = lawful-filled _ _ t (old.lawful v);
-    sets = filled-sets v t;
-    flags = old.flags v;
-    defined = old.defined v;
-    from = old.flash v;
-    loop = no_loop v;
-    onto = λ u. old.flash u v;
-    restores = stays-restores v;
-  })
-  kept-structure (Restore v t u) a = structure-at v _ (record {
-    lawful = lawful-filled _ _ t (old.lawful v);
-    sets = filled-sets v t;
-    flags = old.flags v;
-    defined = old.defined v;
-    from = old.flash v;
-    loop = no_loop v;
-    onto = λ u. old.flash u v;
-    restores = stays-restores v;
-  })
+  kept-structure (Land w v t) a = paired (Land w v t) (lawful-altered _ _ (old.lawful v) t a.low) (filled v t)
+  kept-structure (Restore v t u) a = paired (Restore v t u) (lawful-altered _ _ (old.lawful v) t a.low) (filled v t)
+  kept-structure (Store v t u last) a = paired (Store v t u last) (lawful-received _ _ (old.lawful v) last t (from_source _ _ u a.takes).0) (filled v t)
+  kept-structure (Strike v t last) a = paired (Strike v t last) (lawful-struck _ _ (old.lawful v) last t (from_source _ _ a.to a.sends).0) (old.sets v).apart
+  kept-structure (Suspend v busy) a = paired (Suspend v busy) (lawful-suspended _ _ (old.lawful v) busy a) (old.sets v).apart
+  kept-structure (MakeSecondary v u kind state) a = paired (MakeSecondary v u kind state) (lawful-made_secondary _ _ (old.lawful v) u kind state a.is_kind) (old.sets v).apart
+  kept-structure (MakePrimary v u kind state full) a = paired (MakePrimary v u kind state full) (lawful-made_primary _ _ (old.lawful v) u kind state full a.is_kind) (old.sets v).apart
+  kept-structure (DropPrimary v) a = paired (DropPrimary v) (lawful-no_primary _ _ (old.lawful v)) (old.sets v).apart
+  kept-structure (DropSecondary v) a = paired (DropSecondary v) (lawful-no_secondary _ _ (old.lawful v)) (old.sets v).apart
+  kept-structure (Follow v state) a = paired (Follow v state) (lawful-followed _ _ (old.lawful v) state a) (old.sets v).apart
+  kept-structure (Resume v state) a = paired (Resume v state) (lawful-resumed _ _ (old.lawful v) state a) (old.sets v).apart
+  kept-structure (TakeOver v) a = paired (TakeOver v) (lawful-taken_over _ _ (old.lawful v) a) (old.sets v).apart
   kept-structure (Overwrite w v t) a = let f : Fields = fields T v in let n : ℕ = (T v).volume.tracks in let e : Bool = is_whole n (insert f.own t) && not f.persistent in let sets = old.sets v in let flags = old.flags v in let low = (old.lawful v).sets in structure-at v _ (record {
     lawful = lawful-taken n f (old.lawful v) e t _ _ (from_source f.related f.source a.from a.related).0 a.low low.source_changes_low (low-noted n f (old.lawful v) f.target_changes t a.low low.target_changes_low);
     sets = take-sets e t f.own _ _ f.blank (held-more f.own _ t sets.noted_held) (held-noted f.recorded f.own _ t sets.rewritten_held) sets.apart;

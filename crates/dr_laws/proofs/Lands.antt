@@ -1,20 +1,21 @@
 -- A pending write comes to land: where its volume's server is on and the volume is a place for it, it may.
-use Rattle.std.proofs.Common.{ℕ, ◌≡◌, refl, ap, sym, ◌∙◌, subst, Bool, true, false, cond, not, ◌&&◌, List, [], ◌∷◌, ◌++◌, map, filter, Some, None}
-use Rattle.std.proofs.lemmas.Bool.{false_from_ne_true, eqb-true, ne_eqb, or_parts}
+use Rattle.std.proofs.Common.{ℕ, ◌≡◌, refl, ap, sym, ◌∙◌, subst, Bool, true, false, cond, ◌&&◌, List, [], ◌∷◌, ◌++◌, map, filter, Some, None}
+use Rattle.std.proofs.lemmas.Bool.{false_from_ne_true, not-true, eqb-true, ne_eqb, or_parts}
 use Rattle.std.specs.List.{find}
 use Rattle.dr_ids.specs.declared.refusal.Refusal.{Refusal}
-use Rattle.dr_model.specs.Layout.{Fields}
+use Rattle.dr_model.specs.Layout.{Fields, is_part}
 use Rattle.dr_model.specs.Histories.{histories}
 use Rattle.dr_model.specs.Control.{Control, Pending, Volume, World}
 use Rattle.dr_model.specs.Moves.{Land, Overwrite, is_write}
 use Rattle.dr_model.specs.Carry.{Make, Drop, dropped, Pass, Do, Entry, check}
-use Rattle.dr_model.specs.Entries.{fields_at, is_running, is_open, is_settled, is_revertible, is_reversing, stands_in, copies_from, copy_first, keep_on, land_on, landing, drop_unless, check_or_drop}
+use Rattle.dr_model.specs.Entries.{fields_at, is_running, is_no_secondary, is_open, is_settled, is_revertible, is_reversing, stands_in, copies_from, copy_first, keep_on, land_on, landing, drop_unless, check_or_drop}
 use Rattle.dr_model.specs.Laws.{Sound, Waits, AllPending, Apart}
 use Rattle.dr_model.specs.Allowed.{Coming, MayAck, Runs}
 use Rattle.dr_laws.proofs.Sets.{false_true, none_some, no_source, has_source, from_source}
 use Rattle.dr_laws.proofs.RowsAfter.{idle}
 use Rattle.dr_laws.proofs.KeepsQueue.{all-filter}
 use Rattle.dr_laws.proofs.KeepsSound.{Along, Then, over, decides, checked}
+use Rattle.dr_laws.proofs.FitsFlash.{both-not}
 use Rattle.dr_laws.proofs.CopyFirst.{from, from-copies, any-has, copy-first, copy-none}
 
 -- a pending write that was found by its number is the only one with it
@@ -78,14 +79,16 @@ dropped-checked w n ok r ds s unlanded same go = decides w (drop_unless n ok) (c
     by false is = (unlanded, λ f k. checked (dropped w n) ok r ds k (λ passed. false_true is (sym same ∙ passed)))
 
 -- what the checks tell
-both-not : (a b : Bool) → (not a && not b) ≡ true → (a ≡ false) × (b ≡ false)
-both-not true b h = absurd cc
-both-not false true h = absurd cc
-both-not false false h = (refl, refl)
-
 pub and-false : (a b : Bool) → (a && b) ≡ false → a ≡ true → b ≡ false
 and-false true b h is = h
 and-false false b h is = absurd cc
+
+-- nothing is restored onto a volume that is settled
+pub unrestored : {P : Type 0} (w : World) → Sound w → (v : ℕ) → is_settled v w.control ≡ true → (u : ℕ) → from w u ≡ Some v → (fields_at w.control u).reversing ≡ true → P
+unrestored w s v settled u h r =
+    let calm = (both-not (stands_in is_revertible w.control v) (stands_in is_reversing w.control v) settled).1 in
+    false_true (or_parts ((fields_at w.control v).related && (fields_at w.control v).reversing) _ calm).1
+    (any-has (λ u. copies_from v (fields_at w.control u)) (λ u. (fields_at w.control u).reversing) u w.control.volumes (s.rows.structure.defined u (from_source _ _ v h).0) (from-copies v (fields_at w.control u) h) r)
 
 module _ (w : World) (s : Sound w) (p : Pending) (one : filter (is_write p.w) w.control.pending ≡ p ∷ []) where
   abbrev v : ℕ
@@ -94,18 +97,14 @@ module _ (w : World) (s : Sound w) (p : Pending) (one : filter (is_write p.w) w.
   abbrev f : Fields
   f = fields_at w.control v
 
-  -- nothing is restored onto the volume, nor it onto another
+  -- the volume isn't restored onto another
   module _ (settled : is_settled v w.control ≡ true) (on : Runs w v) where
     calm : stands_in is_reversing w.control v ≡ false
     calm = (both-not (stands_in is_revertible w.control v) (stands_in is_reversing w.control v) settled).1
 
-    none-restored : {P : Type 0} (u : ℕ) → from w u ≡ Some v → (fields_at w.control u).reversing ≡ true → P
-    none-restored u h r = false_true (or_parts (f.related && f.reversing) _ calm).1
-        (any-has (λ u. copies_from v (fields_at w.control u)) (λ u. (fields_at w.control u).reversing) u w.control.volumes (s.rows.structure.defined u (from_source _ _ v h).0) (from-copies v (fields_at w.control u) h) r)
-
     -- on a volume that is no target, whose targets keep the track first
-    plain-lands : f.related ≡ false → Along w (copy_first w.control.volumes v p.track ++ land_on p.w v p.track ∷ [])
-    plain-lands is =
+    plain-lands : is_part f.secondary ≡ false → f.related ≡ false → Along w (copy_first w.control.volumes v p.track ++ land_on p.w v p.track ∷ [])
+    plain-lands free is =
         let plain : from w v ≡ None = no_source f.related f.source is in
         copy-first v p.track w plain (waits w s p one).low on (keep_on v p.track) (λ w x st. refl) _
         (λ k sk st kept.
@@ -115,10 +114,10 @@ module _ (w : World) (s : Sound w) (p : Pending) (one : filter (is_write p.w) w.
         let waits_k = waits k sk p one_k in
         let is_k : (fields_at k.control v).related ≡ false = ap (λ (x : Volume). x.fields.related) here ∙ is in
         decides k (land_on p.w v p.track) [] (Do (Make (Land p.w v p.track))) (ap (λ b. Do (Make (cond b (Overwrite p.w v p.track) (Land p.w v p.track)))) is_k) (
-          record { runs = on_k; allowed = record { low = waits_k.low; defined = waits_k.defined; plain = no_source _ _ is_k; kept = kept }; fits = tt; ready = may-ack k sk p one_k on_k },
+          record { runs = on_k; allowed = record { low = waits_k.low; defined = waits_k.defined; plain = no_source _ _ is_k; first = ap (λ (x : Volume). is_part x.fields.secondary) here ∙ free; kept = kept }; fits = tt; ready = may-ack k sk p one_k on_k },
           λ f j. over _ j,
         ))
-        (λ u h r. none-restored u h r) s
+        (λ u h r. unrestored w s v settled u h r) s
 
     -- on a target
     target-lands : f.related ≡ true → Along w (copy_first w.control.volumes v p.track ++ land_on p.w v p.track ∷ [])
@@ -135,13 +134,14 @@ module _ (w : World) (s : Sound w) (p : Pending) (one : filter (is_write p.w) w.
           λ f j. over _ j,
         )) w.control.volumes
 
-    lands-by : (b : Bool) → f.related ≡ b → Along w (copy_first w.control.volumes v p.track ++ land_on p.w v p.track ∷ [])
-    lands-by true is = target-lands is
-    lands-by false is = plain-lands is
+    lands-by : is_part f.secondary ≡ false → (b : Bool) → f.related ≡ b → Along w (copy_first w.control.volumes v p.track ++ land_on p.w v p.track ∷ [])
+    lands-by free true is = target-lands is
+    lands-by free false is = plain-lands free is
 
   pub lands : (k : Control) → k.volumes ≡ w.control.volumes → Along w (landing k p.w v p.track)
   lands k volumes =
       checked w (is_running v) _ _ s (λ on.
+      dropped-checked w p.w (is_no_secondary v) _ _ s (unlanded w s p one on) refl (λ free.
       dropped-checked w p.w (is_open v) _ _ s (unlanded w s p one on) refl (λ open_to.
       dropped-checked w p.w (is_settled v) _ _ s (unlanded w s p one on) refl (λ settled.
-      subst (λ vs. Along w (copy_first vs v p.track ++ land_on p.w v p.track ∷ [])) (sym volumes) (lands-by settled on f.related refl))))
+      subst (λ vs. Along w (copy_first vs v p.track ++ land_on p.w v p.track ∷ [])) (sym volumes) (lands-by settled on (not-true (is_part f.secondary) free) f.related refl)))))

@@ -6,8 +6,10 @@ pub mod Due
 pub mod RowsAfter
 pub mod KeepsLawful
 pub mod KeepsStructure
+pub mod KeepsParts
 pub mod KeepsImages
 pub mod KeepsRecorded
+pub mod KeepsPairs
 pub mod KeepsTargets
 pub mod KeepsQueue
 pub mod Along
@@ -17,6 +19,7 @@ pub mod CopyFirst
 pub mod Lands
 pub mod FitsFlash
 pub mod FitsCopy
+pub mod FitsPairs
 pub mod Issues
 pub mod Defines
 pub mod Starts
@@ -24,6 +27,7 @@ pub mod Steps
 pub mod Journal
 pub mod Costs
 pub mod CopyCosts
+pub mod PairCosts
 pub mod Spends
 pub mod Limits
 pub mod Texts

@@ -3,6 +3,7 @@ use Rattle.std.proofs.Common.{ℕ, ◌≡◌, ◌+◌, refl, ap, sym, ◌∙◌,
 use Rattle.std.proofs.lemmas.List.{append-nil}
 use Rattle.std.specs.List.{find}
 use Rattle.dr_ids.specs.Links.{joins}
+use Rattle.dr_ids.specs.Paths.{Path, with_path, without_path}
 use Rattle.dr_model.specs.declared.event.Event.{Event}
 use Rattle.dr_model.specs.declared.event.Event.TheVariants.{Server as ServerDefined, Stopped, Shown}
 use Rattle.dr_model.specs.declared.said.Said.{Said}
@@ -20,13 +21,14 @@ use Rattle.dr_model.specs.Table.{table}
 use Rattle.dr_model.specs.Laws.{SoundRows, Sound}
 use Rattle.dr_model.proofs.Images.{histories-append}
 use Rattle.dr_model.proofs.LawfulLemmas.{lawful-no_fields}
-use Rattle.dr_laws.proofs.Cases.{Case, Says, Defines, Adds, Links, Issues, Writes, Applies, Shows, Stops, Arms, Starts, Flashes, Withdraws, Resyncs, Reverses, Copies, IsTrack, plan-case, is-new, may-issue}
+use Rattle.dr_laws.proofs.Cases.{Case, Says, Defines, Adds, Links, Issues, Writes, Applies, Shows, Stops, Arms, Starts, Flashes, Withdraws, Resyncs, Reverses, Copies, Paths, Unpaths, MakesPair, RemovesPair, Pauses, ResumesPair, Drains, IsTrack, plan-case, is-new, may-issue}
 use Rattle.dr_laws.proofs.KeepsQueue.{Quiet, AllQuiet, goes-off}
 use Rattle.dr_laws.proofs.KeepsSound.{StepHolds, RowsAt, MayDo, Along, holds-moves, keeps-sound, sound-told, over}
 use Rattle.dr_laws.proofs.Issues.{issued, sound-issued, one-new}
 use Rattle.dr_laws.proofs.Lands.{found-alone, lands}
 use Rattle.dr_laws.proofs.FitsFlash.{holds-flash, holds-withdraw, holds-resync, holds-reverse}
 use Rattle.dr_laws.proofs.FitsCopy.{holds-copy}
+use Rattle.dr_laws.proofs.FitsPairs.{holds-pair, holds-remove, holds-pause, holds-resume, holds-drain}
 use Rattle.dr_laws.proofs.Sets.{in_none}
 use Rattle.dr_laws.proofs.Defines.{sound-defined}
 use Rattle.dr_laws.proofs.Starts.{holds-start}
@@ -34,30 +36,30 @@ use Rattle.dr_laws.proofs.Along as along
 
 -- an answer changes no list
 pub sound-said : (w : World) (line : ℕ) (a : Said) → Sound w → Sound (said w line a)
-sound-said w line a s = sound-told None w w.control.servers w.control.on w.control.fuse w.control.link (answer line a ∷ []) (histories-append w.events (answer line a ∷ [])) (tt, tt) (λ j h. h) s
+sound-said w line a s = sound-told None w w.control.servers w.control.on w.control.fuse w.control.link w.control.paths (answer line a ∷ []) (histories-append w.events (answer line a ∷ [])) (tt, tt) (λ j h. h) s
 
 -- a step without entries leaves what it begins with
 holds-tables : (w : World) (first : Control → Control) (told : List Event) (a : Said) → Sound (begun w (tables_plan first told a)) → StepHolds w (tables_plan first told a)
 holds-tables w first told a s = holds-moves w (tables_plan first told a) s (over _ s) (λ q v i. over v i) (λ v i. i)
 
--- the names, servers, fuses and links that it changes, and what it tells, are nothing to the volumes and the queue
-holds-told : (w : World) (servers : List (List ℕ)) (on : ℕ → Bool) (fuse : ℕ → Option Fuse) (link : ℕ → ℕ → Bool) (told : List Event) (a : Said) → Sound w → histories (w.events ++ told) ≡ histories w.events → AllQuiet (w.control.issued + 1) told
-    → ((j : ℕ) → w.control.on j ≡ false → on j ≡ false) → (first : Control → Control) → first w.control ≡ record w.control { servers = servers; on = on; fuse = fuse; link = link } → StepHolds w (tables_plan first told a)
-holds-told w servers on fuse link told a s lists quiet off first is =
-    holds-tables w first told a (subst (λ k. Sound (record { control = k; contents = w.contents; events = w.events ++ told })) (sym is) (sound-told None w servers on fuse link told lists quiet off s))
+-- the names, servers, fuses, links and paths that it changes, and what it tells, are nothing to the volumes and the queue
+holds-told : (w : World) (servers : List (List ℕ)) (on : ℕ → Bool) (fuse : ℕ → Option Fuse) (link : ℕ → ℕ → Bool) (paths : List Path) (told : List Event) (a : Said) → Sound w → histories (w.events ++ told) ≡ histories w.events → AllQuiet (w.control.issued + 1) told
+    → ((j : ℕ) → w.control.on j ≡ false → on j ≡ false) → (first : Control → Control) → first w.control ≡ record w.control { servers = servers; on = on; fuse = fuse; link = link; paths = paths } → StepHolds w (tables_plan first told a)
+holds-told w servers on fuse link paths told a s lists quiet off first is =
+    holds-tables w first told a (subst (λ k. Sound (record { control = k; contents = w.contents; events = w.events ++ told })) (sym is) (sound-told None w servers on fuse link paths told lists quiet off s))
 
 -- nothing is told, and no server goes off
-holds-quiet : (w : World) (fuse : ℕ → Option Fuse) (link : ℕ → ℕ → Bool) (a : Said) → Sound w → (first : Control → Control) → first w.control ≡ record w.control { fuse = fuse; link = link } → StepHolds w (tables_plan first [] a)
-holds-quiet w fuse link a s first is = holds-told w w.control.servers w.control.on fuse link [] a s (ap histories (append-nil w.events)) tt (λ j h. h) first is
+holds-quiet : (w : World) (fuse : ℕ → Option Fuse) (link : ℕ → ℕ → Bool) (paths : List Path) (a : Said) → Sound w → (first : Control → Control) → first w.control ≡ record w.control { fuse = fuse; link = link; paths = paths } → StepHolds w (tables_plan first [] a)
+holds-quiet w fuse link paths a s first is = holds-told w w.control.servers w.control.on fuse link paths [] a s (ap histories (append-nil w.events)) tt (λ j h. h) first is
 
 -- one event is told that no list hears of
 holds-event : (w : World) (servers : List (List ℕ)) (on : ℕ → Bool) (e : Event) (a : Said) → Sound w → after_event (histories w.events) e ≡ histories w.events → Quiet (w.control.issued + 1) e
     → ((j : ℕ) → w.control.on j ≡ false → on j ≡ false) → (first : Control → Control) → first w.control ≡ record w.control { servers = servers; on = on } → StepHolds w (tables_plan first (e ∷ []) a)
 holds-event w servers on e a s unheard quiet off first is =
-    holds-told w servers on w.control.fuse w.control.link (e ∷ []) a s (histories-append w.events (e ∷ []) ∙ unheard) (quiet, tt) off first is
+    holds-told w servers on w.control.fuse w.control.link w.control.paths (e ∷ []) a s (histories-append w.events (e ∷ []) ∙ unheard) (quiet, tt) off first is
 
 pub holds-says : (w : World) (a : Said) → Sound w → StepHolds w (only_says a)
-holds-says w a s = holds-quiet w w.control.fuse w.control.link a s same refl
+holds-says w a s = holds-quiet w w.control.fuse w.control.link w.control.paths a s same refl
 
 -- a write is issued, and what follows may come
 module _ (w : World) (s : Sound w) (v t offset len : ℕ) (bytes : List ℕ) (there : IsTrack w.control v t) where
@@ -98,7 +100,7 @@ module _ (w : World) (s : Sound w) (line : ℕ) where
       holds-event w (w.control.servers ++ name_bytes name ∷ []) w.control.on (ServerDefined (length w.control.servers) name.len name.bytes) _ s refl tt (λ j h. h) (λ k. record k { servers = k.servers ++ name_bytes name ∷ [] }) refl
   case-holds _ (Adds v x tracks free) = holds-tables w _ _ _ (sound-defined w s v x tracks (is-new w.control v x tracks free).undefined)
   case-holds _ (Links a b up) =
-      holds-quiet w w.control.fuse (λ x y. cond (joins x y a b) up (w.control.link x y)) _ s (λ k. record k { link = λ x y. cond (joins x y a b) up (k.link x y) }) refl
+      holds-quiet w w.control.fuse (λ x y. cond (joins x y a b) up (w.control.link x y)) w.control.paths _ s (λ k. record k { link = λ x y. cond (joins x y a b) up (k.link x y) }) refl
   case-holds _ (Issues v t offset len bytes free) = let there = (may-issue w.control v t free).0 in holds-issue w s v t offset len bytes there [] (over _ (begins w s v t offset len bytes there))
   case-holds _ (Writes v t offset len bytes free) = holds-write w s v t offset len bytes (may-issue w.control v t free).0
   case-holds _ (Applies n p found) = holds-apply w s n p found
@@ -107,13 +109,20 @@ module _ (w : World) (s : Sound w) (line : ℕ) where
       holds-event w w.control.servers (at w.control.on x false) (Stopped x 0) _ s refl tt (goes-off None w s.queue w.control.on x) (λ k. record k { on = at k.on x false }) refl
   case-holds _ (Arms writes torn x) =
       let f : Fuse = record { after = writes; torn = torn_bytes torn } in
-      holds-quiet w (at w.control.fuse x (Some f)) w.control.link _ s (λ k. record k { fuse = at k.fuse x (Some f) }) refl
+      holds-quiet w (at w.control.fuse x (Some f)) w.control.link w.control.paths _ s (λ k. record k { fuse = at k.fuse x (Some f) }) refl
   case-holds _ (Starts x off) = holds-start x w s
   case-holds _ (Flashes dev v t choices) = holds-flash w s dev v t choices
   case-holds _ (Withdraws dev v t) = holds-withdraw w s dev v t
   case-holds _ (Resyncs dev v t sequence) = holds-resync w s dev v t sequence
   case-holds _ (Reverses dev v t) = holds-reverse w s dev v t
   case-holds _ (Copies t most) = holds-copy w s t most
+  case-holds _ (Paths src tgt group) = holds-quiet w w.control.fuse w.control.link (with_path w.control.paths src tgt group) _ s (λ k. record k { paths = with_path k.paths src tgt group }) refl
+  case-holds _ (Unpaths src tgt) = holds-quiet w w.control.fuse w.control.link (without_path w.control.paths src tgt) _ s (λ k. record k { paths = without_path k.paths src tgt }) refl
+  case-holds _ (MakesPair devs a b kind full part) = holds-pair w s devs a b kind full part
+  case-holds _ (RemovesPair devs a b source_only) = holds-remove w s devs a b source_only
+  case-holds _ (Pauses devs a b) = holds-pause w s devs a b
+  case-holds _ (ResumesPair devs a b kind) = holds-resume w s devs a b kind
+  case-holds _ (Drains a most) = holds-drain w s a most
 
   pub step-holds : (asked : Result Step ℕ) → StepHolds w (plan w.control w.events line asked)
   step-holds asked = case-holds _ (plan-case w.control w.events line asked)
@@ -143,8 +152,16 @@ sound-nothing = record {
       flash = λ v u h. absurd cc;
       one_restore = λ v a b h. absurd cc;
     };
+    parts = record {
+      one = λ v. record { one = λ h. absurd cc; no_primary = λ h. absurd cc; no_secondary = λ h. absurd cc };
+      secondary = λ v u h. absurd cc;
+      primary = λ v u h. absurd cc;
+      one_way = λ v u h. absurd cc;
+      free = λ v u h. absurd cc;
+    };
     images = record { blank = λ v t h. refl; fresh = λ v h t. refl; plain = λ v h t lt. refl; seen = λ v u h. absurd cc };
     recorded = λ v u h. absurd cc;
+    pairs = λ v u h. absurd cc;
   };
   targets = record { once = tt; few = λ v. omega arith };
   queue = record { each = tt; apart = tt; lone = tt; numbers = record { now = λ v t. tt; aside = λ v t. tt } };

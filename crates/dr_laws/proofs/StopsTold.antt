@@ -1,22 +1,30 @@
 -- Where a step is refused because a server stopped, its acts told that stop, and the other way round.
 use Rattle.std.proofs.Common.{ℕ, zero, suc, ◌≡◌, ◌+◌, not, ◌&&◌, List, [], ◌∷◌, ◌++◌, refl, ap, ◌∙◌, sym, append_assoc, Bool, true, false, cond, map, Option, Some, None, Result}
 use Rattle.std.proofs.lemmas.List.{append-nil}
+use Rattle.std.specs.Prelude.{is_some}
 use Rattle.std.specs.Option.{option_or}
 use Rattle.std.specs.FinSet.{contains}
 use Rattle.dr_ids.specs.declared.refusal.Refusal.{Refusal}
 use Rattle.dr_model.specs.declared.event.Event.{Event}
-use Rattle.dr_model.specs.declared.event.Event.TheVariants.{Ack, Blanked, Restored, Stopped}
+use Rattle.dr_model.specs.declared.event.Event.TheVariants.{Ack, Blanked, Restored, Stopped, Suspended}
+use Rattle.dr_ids.specs.declared.refusal.Refusal.TheVariants.{NotIdentical}
+use Rattle.dr_model.specs.Refusals.{server_off}
+use Rattle.dr_model.specs.declared.state.Part.{Part}
+use Rattle.dr_model.specs.declared.state.PairState.TheVariants.{Suspended as SuspendedState}
+use Rattle.dr_model.specs.declared.step.Devs.{Devs}
 use Rattle.dr_model.specs.declared.step.Name.{Name}
 use Rattle.dr_model.specs.declared.step.Step.{Step}
 use Rattle.dr_model.specs.Control.{Control, Fuse, Volume as VolumeRow, World}
 use Rattle.dr_model.specs.Layout.{Tracks, Fields}
 use Rattle.dr_model.specs.Relations.{is_bare, in_order, rest}
-use Rattle.dr_model.specs.Moves.{Move, Land, Overwrite, Keep, Note, Relate, Withdraw, Fetch, Resync, Reverse, Restore, Release, told_blank, told_restored, told, told_in_stop, landed, target}
+use Rattle.dr_model.specs.Pairs.{is_suspended, first_state}
+use Rattle.dr_model.specs.Moves.{Move, Land, Overwrite, Keep, Note, Relate, Withdraw, Fetch, Resync, Reverse, Restore, Release, Store, Strike, Suspend, MakeSecondary, MakePrimary, DropPrimary, DropSecondary, Follow, Resume, TakeOver, told_blank, told_restored, told, told_in_stop, landed, target}
 use Rattle.dr_model.specs.Carry.{Act, Make, Redo, Acknowledge, Drop, check, now, act, Turn, Next, Pass, Do, End, Entry, Outcome, carry, continue, go}
-use Rattle.dr_model.specs.Entries.{fields_at, copies_from, is_running, is_open, is_settled, relation_state, landing, land_on, keep_on, keep_if, copy_first, drop_unless, check_or_drop, times, on_found, lowest_missing, lowest_held, fetch_next, for_lowest, give_back, share_server, share_size, is_no_target}
-use Rattle.dr_model.specs.Plans.{Plan, plan, redo_on, acknowledge_on, acknowledge_if, landed_on, belongs, named_pair, is_defined, is_owner, differ, is_no_source, has_few_targets, is_plain_target, is_recorded_target, is_lone_restore, may_copy, at_most, left_to_copy}
+use Rattle.dr_model.specs.Entries.{fields_at, is_revertible, stands_in, copies_from, is_running, is_no_secondary, is_open, is_settled, relation_state, pair_state, landing, land_on, keep_on, keep_if, copy_first, drop_unless, check_or_drop, times, on_found, lowest_missing, lowest_held, fetch_next, for_lowest, give_back, share_server, share_size, is_no_target}
+use Rattle.dr_model.specs.PairEntries.{link_down, are_linked, has_path, reach_refusal, end_if, refuse_if, differs_at, two_servers, stands_free, may_follow, make_entries, leads_to, belongs_to, let_go, remove_both, remove_entries, may_pause, tell_paused, pause_entries, may_resume, follow_on, resume_on, resume_entries, send_refusal, suspend_where, flashed_refusal, store_on, strike_on, send_entries, sends, tracks_to_send, is_copying}
+use Rattle.dr_model.specs.Plans.{Plan, plan, found_volumes, redo_on, acknowledge_on, acknowledge_if, landed_on, belongs, named_pair, is_defined, is_owner, differ, is_no_source, has_few_targets, is_plain_target, is_recorded_target, is_lone_restore, has_no_pair, may_return, may_give_back, may_copy, at_most, left_to_copy}
 use Rattle.dr_laws.specs.Stops.{first_stop, stop_in, refused_stop, StopsTold}
-use Rattle.dr_laws.proofs.Cases.{Case, Says, Defines, Adds, Links, Issues, Writes, Applies, Shows, Stops, Arms, Starts, Flashes, Withdraws, Resyncs, Reverses, Copies, plan-case}
+use Rattle.dr_laws.proofs.Cases.{Case, Says, Defines, Adds, Links, Issues, Writes, Applies, Shows, Stops, Arms, Starts, Flashes, Withdraws, Resyncs, Reverses, Copies, Paths, Unpaths, MakesPair, RemovesPair, Pauses, ResumesPair, Drains, plan-case}
 use Rattle.dr_laws.proofs.Turns.{act-cases, Counts, after_act, server_of}
 
 first-append : (es fs : List Event) → first_stop (es ++ fs) ≡ option_or (first_stop es) (first_stop fs)
@@ -39,6 +47,10 @@ restored-calm v s n own = by (is_bare own)
     by true = first-append (told_blank v n own) (Restored s v ∷ []) ∙ ap (λ o. option_or o None) (blanks-calm v (in_order n (rest n own)))
     by false = refl
 
+suspended-calm : (none : Bool) (v : ℕ) → first_stop (cond none [] (Suspended v ∷ [])) ≡ None
+suspended-calm true v = refl
+suspended-calm false v = refl
+
 told-calm : (m : Move) (u : VolumeRow) → first_stop (told m u) ≡ None
 told-calm (Land n v t) u = refl
 told-calm (Overwrite n v t) u = refl
@@ -51,6 +63,16 @@ told-calm (Resync v sequence) u = refl
 told-calm (Reverse v) u = restored-calm v _ _ _
 told-calm (Restore v t from) u = refl
 told-calm (Release v t) u = restored-calm v _ _ _
+told-calm (Store v t from last) u = refl
+told-calm (Strike v t last) u = refl
+told-calm (Suspend v busy) u = suspended-calm (is_suspended u.fields.primary_state) v
+told-calm (MakeSecondary v a kind state) u = refl
+told-calm (MakePrimary v b kind state full) u = refl
+told-calm (DropPrimary v) u = refl
+told-calm (DropSecondary v) u = refl
+told-calm (Follow v state) u = refl
+told-calm (Resume v state) u = refl
+told-calm (TakeOver v) u = refl
 
 -- and the stop that it tells is the first
 in_stop-calm : (m : Move) (u : VolumeRow) → first_stop (told_in_stop m u) ≡ None
@@ -181,8 +203,8 @@ drop-calm n ok other ds calm rest = then-calm (drop_unless n ok) _ (goes-calm (d
 
 landing-calm : (k : Control) (n v t : ℕ) → Unstopped (landing k n v t)
 landing-calm k n v t =
-    checked-calm (is_running v) _ _ refl (drop-calm n (is_open v) _ _ refl (drop-calm n (is_settled v) (relation_state k v) _ refl
-    (append-calm (copy_first k.volumes v t) _ (map-calm (keep_on v t) (keep-goes v t) k.volumes) (last-calm (land_on n v t) (λ j. do-goes _)))))
+    checked-calm (is_running v) _ _ refl (drop-calm n (is_no_secondary v) _ _ refl (drop-calm n (is_open v) _ _ refl (drop-calm n (is_settled v) (relation_state k v) _ refl
+    (append-calm (copy_first k.volumes v t) _ (map-calm (keep_on v t) (keep-goes v t) k.volumes) (last-calm (land_on n v t) (λ j. do-goes _))))))
 
 named-calm : (k : Control) (dev : Option Name) (s t : ℕ) (ds : List Entry) → Unstopped ds → Unstopped (named_pair k dev s t ++ ds)
 named-calm k dev s t ds rest = checked-calm (is_defined s) _ _ refl (checked-calm (is_defined t) _ _ refl (checked-calm (is_owner dev s) _ _ refl (checked-calm (is_running s) _ _ refl rest)))
@@ -201,6 +223,87 @@ copy-calm k t true =
     (last-calm (for_lowest t (λ q. now (Release t q))) (lowest-goes t (λ q. now (Release t q)) (λ q k. do-goes _))))
 copy-calm k t false = last-calm (fetch_next t) (λ j. found-goes (lowest_missing t j) (λ q. now (Fetch t q)) j (λ q. do-goes _))
 
+-- what may be refused by an entry is no stop
+abbrev Mild : Option Refusal → Type 0
+Mild o = (r : Refusal) → o ≡ Some r → refused_stop (Some r) ≡ None
+
+mild-none : Mild None
+mild-none r e = absurd cc
+
+mild-some : (other : Refusal) → refused_stop (Some other) ≡ None → Mild (Some other)
+mild-some other calm r e = let is : other ≡ r = cc in ap (λ r. refused_stop (Some r)) (sym is) ∙ calm
+
+mild-choice : (b : Bool) (x y : Option Refusal) → Mild x → Mild y → Mild (cond b x y)
+mild-choice true x y p q = p
+mild-choice false x y p q = q
+
+mild-or : (x y : Option Refusal) → Mild x → Mild y → Mild (option_or x y)
+mild-or None y p q = q
+mild-or (Some r) y p q = p
+
+refused-calm : (why : Control → Option Refusal) (ds : List Entry) → ((k : Control) → Mild (why k)) → Unstopped ds → Unstopped (refuse_if why ∷ ds)
+refused-calm why ds mild rest = then-calm (refuse_if why) ds (λ k r. by (why k) r (mild k)) rest
+  where
+    by : (o : Option Refusal) (r : Refusal) → Mild o → end_if o ≡ End r → refused_stop (Some r) ≡ None
+    by None r m e = absurd cc
+    by (Some x) r m e = m r (let is : x ≡ r = cc in ap (λ r. Some r) is)
+
+module _ (a b : ℕ) where
+  reach-mild : (k : Control) → Mild (reach_refusal a b k)
+  reach-mild k =
+      mild-choice (not (has_path a b k)) _ _ (mild-some _ refl) (mild-choice (not (is_running b k)) _ _ (mild-some (server_off (k.volume b).server) refl)
+      (mild-choice (not (are_linked a b k)) _ _ (mild-some (link_down (k.volume a).server (k.volume b).server) refl) mild-none))
+
+  send-mild : (k : Control) → Mild (send_refusal a b k)
+  send-mild k = mild-or (reach_refusal a b k) _ (reach-mild k) (mild-choice (belongs_to a b k) None _ mild-none (mild-some (pair_state k b) refl))
+
+  flashed-mild : (k : Control) → Mild (flashed_refusal b k)
+  flashed-mild k = mild-choice (stands_in is_revertible k b) _ None (mild-some (relation_state k b) refl) mild-none
+
+  found-calm : (devs : Devs) (ds : List Entry) → Unstopped ds → Unstopped (found_volumes devs a b ++ ds)
+  found-calm devs ds rest = checked-calm (is_defined a) _ _ refl (checked-calm (is_defined b) _ _ refl (checked-calm (is_owner devs.dev a) _ _ refl (checked-calm (is_owner devs.remotedev b) _ _ refl rest)))
+
+  move-calm : (m : Move) (ds : List Entry) → Unstopped ds → Unstopped (now m ∷ ds)
+  move-calm m ds rest = then-calm (now m) ds (goes-calm (now m) (λ k. do-goes (Make m))) rest
+
+  differs-mild : (difference : Option ℕ) (k : Control) → Mild (differs_at difference k)
+  differs-mild None k = mild-none
+  differs-mild (Some t) k = mild-some (NotIdentical t) refl
+
+  pair-calm : (k : Control) (devs : Devs) (kind : Part) (full : Bool) (difference : Option ℕ) → Unstopped (found_volumes devs a b ++ make_entries k a b kind full difference)
+  pair-calm k devs kind full difference =
+      found-calm devs _ (checked-calm (is_running a) _ _ refl (refused-calm (reach_refusal a b) _ reach-mild (checked-calm (two_servers a b) _ _ refl (checked-calm (share_size a b) _ _ refl
+      (checked-calm (stands_free a) (pair_state k a) _ refl (checked-calm (may_follow a b) (pair_state k b) _ refl (checked-calm (is_no_target a) (relation_state k a) _ refl (checked-calm (is_no_target b) (relation_state k b) _ refl
+      (checked-calm (is_settled b) (relation_state k b) _ refl (refused-calm (differs_at difference) _ (differs-mild difference)
+      (move-calm (MakeSecondary b a kind (first_state kind full)) _ (now-calm (MakePrimary a b kind (first_state kind full) full)))))))))))))
+
+  remove-calm : (k : Control) (devs : Devs) (source_only : Bool) → Unstopped (found_volumes devs a b ++ remove_entries k a b source_only)
+  remove-calm k devs source_only = found-calm devs _ (checked-calm (is_running a) _ _ refl (checked-calm (leads_to a b) (pair_state k a) _ refl (by source_only)))
+    where
+      by : (c : Bool) → Unstopped (cond c (now (DropPrimary a) ∷ []) (remove_both k a b))
+      by true = now-calm (DropPrimary a)
+      by false = checked-calm (is_running b) _ _ refl (checked-calm (are_linked a b) _ _ refl (move-calm (DropPrimary a) _ (last-calm (let_go a b) (λ k. choice-goes (belongs_to a b k) (Do (Make (DropSecondary b))) Pass (do-goes _) pass-goes))))
+
+  pause-calm : (k : Control) (devs : Devs) → Unstopped (found_volumes devs a b ++ pause_entries k a b)
+  pause-calm k devs =
+      found-calm devs _ (checked-calm (is_running a) _ _ refl (checked-calm (may_pause a b) (pair_state k a) _ refl (move-calm (Suspend a false) _
+      (last-calm (tell_paused a b) (λ k. choice-goes (not (is_some (reach_refusal a b k)) && belongs_to a b k) (Do (Make (Follow b SuspendedState))) Pass (do-goes _) pass-goes)))))
+
+  resume-calm : (k : Control) (devs : Devs) (kind : Part) → Unstopped (found_volumes devs a b ++ resume_entries k a b kind)
+  resume-calm k devs kind =
+      found-calm devs _ (checked-calm (is_running a) _ _ refl (checked-calm (may_resume a b kind) (pair_state k a) _ refl (refused-calm (reach_refusal a b) _ reach-mild (checked-calm (belongs_to a b) (pair_state k b) _ refl
+      (then-calm (follow_on a b) _ (goes-calm (follow_on a b) (λ k. do-goes _)) (last-calm (resume_on a) (λ k. do-goes _)))))))
+
+  sends-calm : (volumes : List ℕ) (ts : List ℕ) → Unstopped (sends volumes a b ts)
+  sends-calm volumes [] = none-calm
+  sends-calm volumes (t ∷ ts) =
+      append-calm (send_entries volumes a b t) _
+      (then-calm (suspend_where (send_refusal a b) a) _ (goes-calm (suspend_where (send_refusal a b) a) (λ k. choice-goes (is_some (send_refusal a b k)) (Do (Make (Suspend a false))) Pass (do-goes _) pass-goes))
+      (refused-calm (send_refusal a b) _ send-mild (refused-calm (flashed_refusal b) _ flashed-mild
+      (append-calm (copy_first volumes b t) _ (map-calm (keep_on b t) (keep-goes b t) volumes)
+      (then-calm (store_on a b t) _ (goes-calm (store_on a b t) (λ k. do-goes _)) (last-calm (strike_on a t) (λ k. do-goes _)))))))
+      (sends-calm volumes ts)
+
 case-calm : (k : Control) (events : List Event) (line : ℕ) (p : Plan) → Case k events line p → Unstopped p.entries
 case-calm k events line _ (Writes v t offset len bytes free) = landing-calm k (k.issued + 1) v t
 case-calm k events line _ (Applies n p found) = landing-calm k p.w p.volume p.track
@@ -216,14 +319,23 @@ case-calm k events line _ (Arms writes torn s) = none-calm
 case-calm k events line _ (Flashes dev s t choices) = named-calm k dev s t _
     (checked-calm (differ s t) _ _ refl (checked-calm (share_server s t) _ _ refl (checked-calm (share_size s t) _ _ refl
     (checked-calm (is_no_target t) (relation_state k t) _ refl (checked-calm (is_no_source t) (relation_state k t) _ refl (checked-calm (is_no_target s) (relation_state k s) _ refl
-    (checked-calm (has_few_targets s) _ _ refl (now-calm (Relate t s choices)))))))))
+    (checked-calm (has_no_pair t) (pair_state k t) _ refl (checked-calm (has_few_targets s) _ _ refl (now-calm (Relate t s choices))))))))))
 case-calm k events line _ (Withdraws dev s t) = named-calm k dev s t _ (checked-calm (is_plain_target s t) (relation_state k t) _ refl (now-calm (Withdraw t)))
 case-calm k events line _ (Resyncs dev s t sequence) = named-calm k dev s t _ (checked-calm (is_recorded_target s t) (relation_state k t) _ refl (now-calm (Resync t sequence)))
 case-calm k events line _ (Reverses dev s t) =
-    named-calm k dev s t _ (checked-calm (is_recorded_target s t) (relation_state k t) _ refl (checked-calm (is_lone_restore s t) (relation_state k s) _ refl (now-calm (Reverse t))))
+    named-calm k dev s t _ (checked-calm (is_recorded_target s t) (relation_state k t) _ refl (checked-calm (is_lone_restore s t) (relation_state k s) _ refl (checked-calm (may_return s) (pair_state k s) _ refl (now-calm (Reverse t)))))
 case-calm k events line _ (Copies t most) =
-    checked-calm (is_defined t) _ _ refl (checked-calm (is_running t) _ _ refl (checked-calm (may_copy t) (relation_state k t) _ refl
-    (times-calm (at_most most (left_to_copy k t)) _ (copy-calm k t (fields_at k t).reversing))))
+    checked-calm (is_defined t) _ _ refl (checked-calm (is_running t) _ _ refl (checked-calm (may_copy t) (relation_state k t) _ refl (checked-calm (may_give_back t) (pair_state k (fields_at k t).source) _ refl
+    (times-calm (at_most most (left_to_copy k t)) _ (copy-calm k t (fields_at k t).reversing)))))
+case-calm k events line _ (Paths src tgt group) = none-calm
+case-calm k events line _ (Unpaths src tgt) = none-calm
+case-calm k events line _ (MakesPair devs a b kind full part) = pair-calm a b k devs kind full _
+case-calm k events line _ (RemovesPair devs a b source_only) = remove-calm a b k devs source_only
+case-calm k events line _ (Pauses devs a b) = pause-calm a b k devs
+case-calm k events line _ (ResumesPair devs a b kind) = resume-calm a b k devs kind
+case-calm k events line _ (Drains a most) =
+    checked-calm (is_defined a) _ _ refl (checked-calm (is_running a) _ _ refl (checked-calm (is_copying a) (pair_state k a) _ refl
+    (sends-calm a (fields_at k a).primary_partner k.volumes (tracks_to_send most (k.volume a).tracks (fields_at k a).out_of_sync))))
 
 pub plan-calm : (k : Control) (events : List Event) (line : ℕ) (asked : Result Step ℕ) → Unstopped (plan k events line asked).entries
 plan-calm k events line asked = case-calm k events line _ (plan-case k events line asked)

@@ -3,15 +3,16 @@ use Rattle.std.proofs.Common.{ℕ, ◌≡◌, List, [], ◌∷◌, ◌++◌, map
 use Rattle.std.specs.List.{fold}
 use Rattle.std.proofs.lemmas.List.Sums.{fold-append}
 use Rattle.dr_model.specs.declared.event.Event.{Event}
-use Rattle.dr_model.specs.declared.event.Event.TheVariants.{Blanked, Restored, Stopped, Ack}
+use Rattle.dr_model.specs.declared.event.Event.TheVariants.{Blanked, Restored, Stopped, Ack, Suspended}
 use Rattle.dr_model.specs.Layout.{Tracks}
 use Rattle.dr_model.specs.Relations.{rest, in_order, is_bare, turned, given_up}
-use Rattle.dr_model.specs.Histories.{Write, Histories, histories, after_event}
+use Rattle.dr_model.specs.Histories.{Histories, histories, after_event}
 use Rattle.dr_model.specs.Control.{Fuse, Volume, World}
-use Rattle.dr_model.specs.Moves.{Move, Land, Overwrite, Keep, Note, Relate, Withdraw, Fetch, Resync, Reverse, Restore, Release, target, told, told_in_stop, told_blank, told_restored, landed}
+use Rattle.dr_model.specs.Pairs.{is_suspended}
+use Rattle.dr_model.specs.Moves.{Move, Land, Overwrite, Withdraw, Reverse, Release, Suspend, target, told, told_in_stop, told_blank, landed}
 use Rattle.dr_model.specs.Carry.{Act, Make, Redo, Acknowledge, Drop, Next, Pass, Do, End, Entry, Turn, Outcome, act, carry, continue, go}
 use Rattle.dr_model.proofs.Images.{histories-append}
-use Rattle.dr_laws.proofs.Turns.{act-cases, Counts, after_act, server_of, not_done}
+use Rattle.dr_laws.proofs.Turns.{act-cases, Counts, after_act, server_of}
 
 abbrev after : Histories → List Event → Histories
 after h es = fold after_event h es
@@ -24,10 +25,15 @@ restored : (h : Histories) (ends : Bool) (v s n : ℕ) (own : Tracks) → (after
 restored h true v s n own = ap (λ (x : Histories). x.write) (fold-append after_event h (told_blank v n own) (Restored s v ∷ [])) ∙ blanked h v (in_order n (rest n own))
 restored h false v s n own = refl
 
+suspended : (h : Histories) (none : Bool) (v : ℕ) → (after h (cond none [] (Suspended v ∷ []))).write ≡ h.write
+suspended h true v = refl
+suspended h false v = refl
+
 told-writes : (h : Histories) (m : Move) (u : Volume) → (after h (told m u)).write ≡ h.write
 told-writes h (Withdraw v) u = blanked h v (in_order u.tracks (rest u.tracks u.fields.own))
 told-writes h (Reverse v) u = restored h (is_bare (turned u.fields).own) v u.fields.source u.tracks (turned u.fields).own
 told-writes h (Release v t) u = restored h (is_bare (given_up u.fields t).own) v u.fields.source u.tracks (given_up u.fields t).own
+told-writes h (Suspend v busy) u = suspended h (is_suspended u.fields.primary_state) v
 told-writes h m u = refl
 
 stop-writes : (h : Histories) (m : Move) (u : Volume) → (after h (told_in_stop m u)).write ≡ h.write

@@ -20,7 +20,10 @@ ghost use Rattle.dr_laws.specs.Limits.{IsWithin};
 ghost use Rattle.dr_laws.specs.Stops.{StopsTold, refused_stop};
 
 /// Every run leaves a sound world: its volumes' records fit each other, each track shows what the host writes say, and
-/// each pending write is the one that was issued.
+/// each pending write is the one that was issued. A volume has at most one part in a pair, as its primary or as its
+/// secondary, and is then no FlashCopy target; its partner is a volume of the same size on another server. A primary and its
+/// secondary contain the same, but on tracks that the primary records as out of sync or as changed since; so do two volumes
+/// that are primaries of each other, but on tracks that either records.
 pub fn every_run_is_sound()
     ensures { (tasks : List Task) → Sound (run tasks) }
 {}
