@@ -373,6 +373,7 @@ impl Config {
     pub fn lss_owner(&self, l: Lss) -> Option<ServerId>
         ensures value { option_map (λ s. s.0) result ≡ lss_owner self.now l.0 }
         ensures defined { IfSome result (λ s. HasServer self.now s.0) }
+        ensures sound { IsSound self.now }
     {
         let entry = entry_of_lss(&self.volumes, l.0)?;
         Some(ServerId(entry.server))

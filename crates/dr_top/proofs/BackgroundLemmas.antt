@@ -99,7 +99,13 @@ may_copy_by f = f.related && (not f.revertible && (f.reversing || not f.nocopy))
 abbrev pub left_by : Fields → ℕ → ℕ
 left_by f n = if f.reversing then len f.own else len (rest n f.own)
 
--- whether what a restored target gives back may be taken, and where it may
+-- whether what a restored target gives back may be taken
+pub source-free : (b : Bool) (y : Refusal) → b ≡ true → None ≡ (if b then None else Some y)
+source-free b y is = sym (ap (λ b. if b then None else Some y) is)
+
+pub source-held : (b : Bool) (x y : Refusal) → b ≡ false → x ≡ y → Some x ≡ (if b then None else Some y)
+source-held b x y is same = ap (λ r. Some r) same ∙ sym (ap (λ b. if b then None else Some y) is)
+
 pub gives : (b : Bool) (why : Refusal) (o : Option Refusal) → o ≡ (if b then None else Some why) → o ≡ None → b ≡ true
 gives true why o is none = refl
 gives false why o is none = absurd (let e : None ≡ Some why = sym none ∙ is in cc)

@@ -21,6 +21,7 @@ use Rattle.dr_model.specs.declared.said.Said.TheVariants.{Done, Refused}
 use Rattle.dr_model.specs.declared.said.Addition.TheVariants.{Alone}
 use Rattle.dr_model.specs.declared.step.Name.{Name}
 use Rattle.dr_model.specs.Control.{Control, Volume, World, new_volume}
+use Rattle.dr_model.specs.Entries as model
 use Rattle.dr_model.specs.Plans as plans
 use Rattle.dr_model.specs.Plans.{Plan, unless, refuses, on_server, name_bytes, server_done, server_plan, volume_done, volume_plan, link_done, link_between, link_plan}
 use Rattle.dr_model.specs.Refusals.{duplicate, over}
@@ -94,7 +95,7 @@ pub along-table : (s : PlantState) (t u : Table) → t ≡ u → IsAtRest s u �
 along-table s t u is rest = subst (IsAtRest s) (sym is) rest
 
 -- the volume that a list of entries has first of those that pass, by its identifier
-find-ids : (p : ℕ → Bool) (es : List VolumeEntry) → find p (ids_of es) ≡ option_map (λ (e : VolumeEntry). e.id) (find (λ (e : VolumeEntry). p e.id) es)
+pub find-ids : (p : ℕ → Bool) (es : List VolumeEntry) → find p (ids_of es) ≡ option_map (λ (e : VolumeEntry). e.id) (find (λ (e : VolumeEntry). p e.id) es)
 find-ids p [] = refl
 find-ids p (e ∷ es) = elim (p e.id) as (λ b. cond b (Some e.id) (find p (ids_of es)) ≡ option_map (λ (e : VolumeEntry). e.id) (cond b (Some e) (find (λ (e : VolumeEntry). p e.id) es))) [ true ↦ refl | false ↦ find-ids p es ]
 
@@ -127,9 +128,9 @@ module _ (s : PlantState) (t : Table) (h : Writes) (ev : List Event) (sound : Is
       let listed = entry-listed t found.0 e sound found.2 in
       ap (λ x. not (nat_eq x server)) (ap (λ (x : Volume). x.server) (volume-placed s t e.id found.0 e listed.0 found.2))
 
-  foreign-here : plans.is_foreign k (plans.first_of k (plans.subsystem v)) server ≡ rules.is_foreign (lss_owner t (lss_of v)) server
+  foreign-here : plans.is_foreign k (model.first_of k (model.subsystem v)) server ≡ rules.is_foreign (lss_owner t (lss_of v)) server
   foreign-here =
-      ap (λ o. plans.is_foreign k o server) (find-ids (λ x. nat_eq (plans.subsystem x) (plans.subsystem v)) t.volumes)
+      ap (λ o. plans.is_foreign k o server) (find-ids (λ x. nat_eq (model.subsystem x) (model.subsystem v)) t.volumes)
       ∙ owner-by (find (λ (e : VolumeEntry). nat_eq (lss_of e.id) (lss_of v)) t.volumes) refl
 
   pub volume-refusal : plans.volume_refusal k v server n ≡ rules.volume_refusal t v server (capped n)
@@ -146,7 +147,7 @@ module _ (s : PlantState) (t : Table) (h : Writes) (ev : List Event) (sound : Is
       plans-sizes = cond (nat_eq n 0 || nat_lt 256 n) (Some (over limit.Tracks)) (plans-count (length (ids_of t.volumes)))
 
       plans-rest : Option Refusal
-      plans-rest = cond (plans.is_foreign k (plans.first_of k (plans.subsystem v)) server) (Some (duplicate kind.Lss)) plans-sizes
+      plans-rest = cond (plans.is_foreign k (model.first_of k (model.subsystem v)) server) (Some (duplicate kind.Lss)) plans-sizes
 
 -- one device more changes no server
 on-still : (s : PlantState) (server blocks : ℕ) → on_seen (with_device s server blocks) ≡ on_seen s

@@ -23,3 +23,5 @@ pub mod WellFormedLemmas
 pub mod StepTaskLemmas
 pub mod RelationLemmas
 pub mod FlashLemmas
+pub mod PairLemmas
+pub mod PathLemmas

@@ -35,7 +35,7 @@ use Rattle.dr_top.proofs.StepLemmas.{on-known}
 -- before the first step
 module _ (s : PlantState) (fresh : IsFresh s) where
   abbrev pub empty_table : Table
-  empty_table = record { names = []; volumes = []; down = none_down }
+  empty_table = record { names = []; volumes = []; down = none_down; paths = [] }
 
   abbrev pub idle : Writes
   idle = record { issued = 0; pending = [] }

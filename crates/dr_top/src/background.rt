@@ -9,6 +9,7 @@ ghost use Rattle.dr_model.specs.declared.event.Event.{Event};
 ghost use Rattle.dr_model.specs.Entries.{times, fetch_next, give_back, takes_back, pair_state};
 ghost use Rattle.dr_model.specs.Lawful.{IsLawful};
 ghost use Rattle.dr_model.specs.Laws.{Sound};
+ghost use Rattle.dr_model.specs.Pairs.{is_quiet};
 ghost use Rattle.dr_model.specs.Plans as plans;
 ghost use Rattle.dr_model.specs.Relations as relations;
 ghost use Rattle.dr_model.specs.Runs.{after_plan, said};
@@ -155,6 +156,14 @@ fn copy_tracks<P: Plant>(
     }
 }
 
+/// Whether a source with these fields takes what its target copies, which may be restored onto it: it does unless it is a
+/// primary that isn't Suspended.
+fn may_take(reversing: bool, source: &Fields) -> bool
+    ensures { result ≡ (not reversing || is_quiet (plain source.now)) }
+{
+    !reversing || is_quiet(source)
+}
+
 /// Why a target with these fields can't give tracks back, if it is being restored: its source is a primary that isn't
 /// Suspended.
 fn source_refusal<P: Plant>(plant: &P, config: &Config, f: &Fields) -> Option<Refusal>
@@ -164,7 +173,7 @@ fn source_refusal<P: Plant>(plant: &P, config: &Config, f: &Fields) -> Option<Re
         else Some (pair_state (here (P.state plant.now) config.now h events).control f.now.source.0)) }
     ensures calm { is_stop result ≡ false }
 {
-    if !f.reversing || is_quiet(&peek_fields(plant, config, f.source)) {
+    if may_take(f.reversing, &peek_fields(plant, config, f.source)) {
         return None;
     }
     Some(pair_state(plant, config, f.source))

@@ -163,3 +163,27 @@ pub fn resume_copy<P: Plant>(
         Err(refusal) => Err(refusal),
     }
 }
+
+/// Sends tracks of a primary that are out of sync, as many as there are, or as many of them as a line asks for.
+pub fn drain_copy<P: Plant>(
+    plant: &mut P,
+    config: &Config,
+    host: &Host,
+    journal: &mut Journal,
+    a: VolumeId,
+    most: Option<u32>,
+) -> Result<Addition, Refusal>
+    requires stub { ⊥ }
+    requires ready { IsReady (P.state plant.old) config.now host.now journal.old.events }
+    requires sound { Sound (here (P.state plant.old) config.now host.now journal.old.events) }
+    requires few { length config.now.volumes ≤ 64 }
+    requires room { 4096 ≤ journal.old.spare }
+    ensures step { (line : ℕ) → after_plan (here (P.state plant.old) config.now host.now journal.old.events) line
+        (plans.drain_plan (here (P.state plant.old) config.now host.now journal.old.events).control a.0 most)
+        ≡ said (here (P.state plant.new) config.now host.now journal.new.events) line (said_of result) }
+    ensures faults { Counts (said_of result) (P.state plant.old) (P.state plant.new) }
+    ensures ready { IsReady (P.state plant.new) config.now host.now journal.new.events }
+    ensures room { 1 ≤ journal.new.spare }
+{
+    Ok(Addition::Alone)
+}

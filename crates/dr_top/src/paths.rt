@@ -1,19 +1,18 @@
 //! The steps on paths between logical subsystems.
 
-ghost use Rattle.std.specs.Prelude.{◌≡◌, ℕ, ◌&&◌, not, false, List, IsSome, Some, None, option_map};
-ghost use Rattle.std.specs.List.{find};
+ghost use Rattle.std.specs.Prelude.{◌≡◌, ℕ, ◌<◌, ◌&&◌, not, nat_eq, false, List, IsSome, IfSome, Some, None, option_map, if◌then◌else◌};
+ghost use Rattle.dr_ids.specs.declared.refusal.Kind.TheVariants.{Lss as OfLss};
 ghost use Rattle.dr_plant.specs.State.{PlantState};
-ghost use Rattle.dr_config.specs.Table.{StandsFor, place_of, lss_owner};
+ghost use Rattle.dr_config.specs.Table.{StandsFor, place_of};
 ghost use Rattle.dr_host.specs.Writes.{Writes};
 ghost use Rattle.dr_model.specs.declared.event.Event.{Event};
-ghost use Rattle.dr_model.specs.Entries.{subsystem};
+ghost use Rattle.dr_model.specs.Entries.{subsystem, pair_state};
+ghost use Rattle.dr_model.specs.Refusals.{unknown, server_off};
 ghost use Rattle.dr_model.specs.Layout.{is_part};
 ghost use Rattle.dr_model.specs.PairEntries as entries;
 ghost use Rattle.dr_model.specs.Pairs.{is_suspended};
 ghost use Rattle.dr_model.specs.Plans as plans;
 ghost use Rattle.dr_model.specs.Runs.{after_plan, said};
-ghost use Rattle.dr_volume.specs.Plain.{plain};
-ghost use Rattle.dr_volume.specs.View.{volume_seen, ids_of};
 ghost use Rattle.dr_flash.specs.Checks.{is_stop};
 ghost use Rattle.dr_top.specs.Faults.{Counts};
 ghost use Rattle.dr_top.specs.Here.{here, said_of, OnAnswer, OnNoMemory, IsReady};
@@ -30,7 +29,7 @@ use dr_volume::{Fields, peek_fields};
 
 /// No volume lies in that logical subsystem.
 fn unknown_lss() -> Refusal
-    ensures { result ≡ Refusal.Unknown kind.Lss }
+    ensures { result ≡ unknown OfLss }
 {
     Refusal::Unknown { kind: Kind::Lss }
 }
@@ -54,7 +53,16 @@ fn are_named(config: &Config, devs: &Devs, first: ServerId, second: ServerId) ->
     requires { FitsDevs devs.now }
     ensures { (x : PlantState) (h : Writes) (events : List Event) → result ≡ (plans.is_named devs.now.dev first.0 (here x config.now h events).control && plans.is_named devs.now.remotedev second.0 (here x config.now h events).control) }
 {
-    is_named(config, &devs.dev, first) && is_named(config, &devs.remotedev, second)
+    both(
+        is_named(config, &devs.dev, first),
+        is_named(config, &devs.remotedev, second),
+    )
+}
+
+fn both(first: bool, second: bool) -> bool
+    ensures { result ≡ (first && second) }
+{
+    first && second
 }
 
 /// Defines the path from one logical subsystem to another, or gives it another flag. Refused where no volume lies in one of
@@ -141,7 +149,7 @@ fn held_refusal<P: Plant>(
     requires known { first.0 < 8 }
     ensures refusal { (h : Writes) (events : List Event) → result ≡ (if not ((here (P.state plant.now) config.now h events).control.on first.0) then Some (server_off first.0)
         else if force then None
-        else option_map (entries_state (here (P.state plant.now) config.now h events).control) (entries.first_active (here (P.state plant.now) config.now h events).control src.0 tgt.0)) }
+        else option_map (pair_state (here (P.state plant.now) config.now h events).control) (entries.first_active (here (P.state plant.now) config.now h events).control src.0 tgt.0)) }
     ensures calm { is_stop result ≡ false }
 {
     if !plant.is_on(first.0) {
@@ -150,8 +158,10 @@ fn held_refusal<P: Plant>(
     if force {
         return None;
     }
-    let v = first_active(plant, config, src, tgt)?;
-    Some(pair_state(plant, config, v))
+    match first_active(plant, config, src, tgt) {
+        Some(v) => Some(pair_state(plant, config, v)),
+        None => None,
+    }
 }
 
 /// Removes the path from one logical subsystem to another. Refused where no volume lies in one of them, where there is no such
@@ -181,9 +191,9 @@ pub fn remove_path<P: Plant>(
     let Some(second) = config.lss_owner(tgt) else {
         return Err(unknown_lss());
     };
-    if config.path(src, tgt).is_none() {
+    let Some(_) = config.path(src, tgt) else {
         return Err(Refusal::Unknown { kind: Kind::Path });
-    }
+    };
     if !are_named(config, devs, first, second) {
         return Err(unknown_server());
     }
