@@ -25,3 +25,4 @@ pub mod RelationLemmas
 pub mod FlashLemmas
 pub mod PairLemmas
 pub mod PathLemmas
+pub mod DrainLemmas

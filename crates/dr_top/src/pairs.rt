@@ -1,12 +1,14 @@
 //! The steps on pairs of volumes.
 
-ghost use Rattle.std.specs.Prelude.{◌≡◌, ℕ, ◌+◌, ◌≤◌, false, IsSome, List, length};
+ghost use Rattle.std.specs.Prelude.{◌≡◌, ℕ, ◌+◌, ◌≤◌, ◌&&◌, false, IsSome, List, length};
 ghost use Rattle.dr_plant.specs.State.{PlantState};
 ghost use Rattle.dr_config.specs.Table.{place_of};
 ghost use Rattle.dr_host.specs.Writes.{Writes};
 ghost use Rattle.dr_model.specs.declared.event.Event.{Event};
 ghost use Rattle.dr_model.specs.declared.state.Part.TheVariants.{Global};
 ghost use Rattle.dr_model.specs.Laws.{Sound};
+ghost use Rattle.dr_model.specs.Layout as part;
+ghost use Rattle.dr_model.specs.Pairs as pairs;
 ghost use Rattle.dr_model.specs.Plans as plans;
 ghost use Rattle.dr_model.specs.Runs.{after_plan, said};
 ghost use Rattle.dr_flash.specs.Checks.{Checked, OnNone, is_stop};
@@ -18,11 +20,13 @@ use crate::define::unknown_server;
 use crate::flash::found_refusal;
 use crate::paths::is_named;
 use dr_config::Config;
-use dr_gcopy::{CopyKind, make_pair, pause, remove_pair, resume};
+use dr_flash::{is_part, pair_state, server_of};
+use dr_gcopy::{CopyKind, drain, make_pair, pause, remove_pair, resume};
 use dr_host::Host;
-use dr_ids::{Refusal, VolumeId};
-use dr_model::{Addition, Devs, Journal};
+use dr_ids::{Kind, Refusal, VolumeId};
+use dr_model::{Addition, Devs, Journal, PairState};
 use dr_plant::Plant;
+use dr_volume::{Fields, peek_fields};
 
 /// Why a line on a pair doesn't find its volumes: one isn't defined, or one isn't on the server that is named.
 fn found_volumes(config: &Config, devs: &Devs, a: VolumeId, b: VolumeId) -> Option<Refusal>
@@ -35,7 +39,7 @@ fn found_volumes(config: &Config, devs: &Devs, a: VolumeId, b: VolumeId) -> Opti
     if let Some(why) = found_refusal(config, &devs.dev, a, b) {
         return Some(why);
     }
-    let server = dr_flash::server_of(config, b);
+    let server = server_of(config, b);
     if !is_named(config, &devs.remotedev, server) {
         return Some(unknown_server());
     }
@@ -164,7 +168,24 @@ pub fn resume_copy<P: Plant>(
     }
 }
 
-/// Sends tracks of a primary that are out of sync, as many as there are, or as many of them as a line asks for.
+/// Whether a volume with these fields is a primary in Copy Pending.
+fn is_copying(f: &Fields) -> bool
+    ensures { result ≡ (part.is_part f.now.primary && pairs.is_pending f.now.primary_state) }
+{
+    is_part(f.primary) && is_pending(f.primary_state)
+}
+
+fn is_pending(state: PairState) -> bool
+    ensures { result ≡ pairs.is_pending state }
+{
+    match state {
+        PairState::CopyPending => true,
+        PairState::FullDuplex | PairState::Suspended => false,
+    }
+}
+
+/// Sends the tracks of a primary in Copy Pending that are out of sync, lowest first, or as many of them as a line asks for.
+/// Where the server of its secondary stops in that, the primary is suspended.
 pub fn drain_copy<P: Plant>(
     plant: &mut P,
     config: &Config,
@@ -173,7 +194,6 @@ pub fn drain_copy<P: Plant>(
     a: VolumeId,
     most: Option<u32>,
 ) -> Result<Addition, Refusal>
-    requires stub { ⊥ }
     requires ready { IsReady (P.state plant.old) config.now host.now journal.old.events }
     requires sound { Sound (here (P.state plant.old) config.now host.now journal.old.events) }
     requires few { length config.now.volumes ≤ 64 }
@@ -185,5 +205,20 @@ pub fn drain_copy<P: Plant>(
     ensures ready { IsReady (P.state plant.new) config.now host.now journal.new.events }
     ensures room { 1 ≤ journal.new.spare }
 {
-    Ok(Addition::Alone)
+    let Some(server) = config.server_of(a) else {
+        return Err(Refusal::Unknown { kind: Kind::Volume });
+    };
+    if !plant.is_on(server.0) {
+        return Err(Refusal::ServerOff { server });
+    }
+    let fields = peek_fields(plant, config, a);
+    if !is_copying(&fields) {
+        return Err(pair_state(plant, config, a));
+    }
+    match drain(plant, config, journal, a, most) {
+        Ok(sent) => Ok(Addition::Counted {
+            tracks: u32::from(sent),
+        }),
+        Err(refusal) => Err(refusal),
+    }
 }
