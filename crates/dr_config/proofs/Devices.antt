@@ -5,7 +5,7 @@ use Rattle.std.proofs.lemmas.Bool.Decides.{Decides-eqb, nat_tests}
 use Rattle.dr_plant.specs.State.{PlantState, with_device, at}
 use Rattle.dr_config.specs.declared.entries.VolumeEntry.{VolumeEntry}
 use Rattle.dr_config.specs.Table.{Table, place_of, entry_of, StandsFor}
-use Rattle.dr_config.specs.Rules.{with_server, with_volume, with_link}
+use Rattle.dr_config.specs.Rules.{with_server, with_volume, with_link, with_path_between, without_path_between}
 use Rattle.dr_config.proofs.Lists.{element-of-push}
 use Rattle.dr_config.proofs.Lookups.{entry-at-place}
 
@@ -19,8 +19,8 @@ at-other f k x q h = let e : eqb q k ≡ false = grind (arith, nat_tests) in rw 
 at-same : (f : ℕ → ℕ) (k x q : ℕ) → q ≡ k → at f k x q ≡ x
 at-same f k x q h = let e : eqb q k ≡ true = (Decides-eqb q k).1 h in rw e refl
 
--- a table with no volumes stands for a plant with no devices
-pub stands-empty : (names : List (List ℕ)) (down : List (List Bool)) (s : PlantState) → s.count ≡ 0 → StandsFor (record { names = names; volumes = []; down = down }) s
+-- a table with no volumes and paths stands for a plant with no devices
+pub stands-empty : (names : List (List ℕ)) (down : List (List Bool)) (s : PlantState) → s.count ≡ 0 → StandsFor (record { names = names; volumes = []; down = down; paths = [] }) s
 stands-empty names down s h = record { count = h; device = λ d e p. absurd (cc) }
 
 -- only the devices' owners and sizes matter
@@ -47,6 +47,14 @@ stands-with_server t name s h = record { count = h.count; device = h.device }
 -- nor does a link that is set
 pub stands-with_link : (t : Table) (a b : ℕ) (up : Bool) (s : PlantState) → StandsFor t s → StandsFor (with_link t a b up) s
 stands-with_link t a b up s h = record { count = h.count; device = h.device }
+
+-- nor does a path that is defined
+pub stands-with_path_between : (t : Table) (src tgt : ℕ) (group : Bool) (s : PlantState) → StandsFor t s → StandsFor (with_path_between t src tgt group) s
+stands-with_path_between t src tgt group s h = record { count = h.count; device = h.device }
+
+-- nor one that is removed
+pub stands-without_path_between : (t : Table) (src tgt : ℕ) (s : PlantState) → StandsFor t s → StandsFor (without_path_between t src tgt) s
+stands-without_path_between t src tgt s h = record { count = h.count; device = h.device }
 
 earlier : (s : PlantState) (server blocks d : ℕ) (e : VolumeEntry) → d < s.count → Matches s d e → Matches (with_device s server blocks) d e
 unfolding with_device

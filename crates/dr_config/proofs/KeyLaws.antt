@@ -1,5 +1,5 @@
 -- What the maps hold is what the lists say: look-ups by key, and one more entry.
-use Rattle.std.proofs.Common.{◌≡◌, ℕ, ◌≤◌, Bool, true, false, not, ◌||◌, cond, ◌+◌, List, [], ◌∷◌, ◌++◌, length, slice_get, Some, None, Result, Ok, Err, IsOk, OnOk, option_map, refl, ◌∙◌, ap, arith, eqb}
+use Rattle.std.proofs.Common.{◌≡◌, ℕ, ◌≤◌, Bool, true, false, not, ◌||◌, cond, ◌+◌, List, [], ◌∷◌, ◌++◌, length, slice_get, Some, None, Result, Ok, Err, IsOk, OnOk, OnErr, option_map, refl, ◌∙◌, ap, arith, eqb}
 use Rattle.std.specs.List.{position, position_or_len, find, list_any}
 use Rattle.std.specs.Map.{keys_of, values_of, lookup}
 use Rattle.std.proofs.lemmas.List.{map-append}
@@ -15,7 +15,8 @@ Entries = List (ℕ × VolumeEntry)
 cons-parts : {X : Type 0} {x y : X} {xs ys : List X} → x ∷ xs ≡ y ∷ ys → (x ≡ y) × (xs ≡ ys)
 cons-parts h = (cc, cc)
 
-eqb-turned : (m n : ℕ) → eqb m n ≡ eqb n m
+-- two numbers are compared either way round
+pub eqb-turned : (m n : ℕ) → eqb m n ≡ eqb n m
 eqb-turned m n = grind (arith, nat_tests)
 
 -- the place of a key is that of the volume
@@ -56,6 +57,11 @@ none-any p xs h = let past : length xs ≤ position_or_len p xs = grind (arith, 
 pub ok-holds : {T E P : Type 0} (r : Result T E) → IsOk r → OnOk r P → P
 ok-holds (Ok x) ok h = h
 ok-holds (Err e) ok h = cc
+
+-- what holds anyhow holds on Err
+pub on-err : {T E P : Type 0} (r : Result T E) → P → OnErr r P
+on-err (Ok x) h = tt
+on-err (Err e) h = h
 
 -- a volume that has no place isn't in the map
 pub absent-keyed : (v : ℕ) (es : Entries) → IsKeyed es → position (λ (e : VolumeEntry). eqb e.id v) (values_of es) ≡ None → lookup (eqb v) es ≡ None

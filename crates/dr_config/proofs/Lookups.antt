@@ -1,11 +1,12 @@
 -- Where the look-ups of a table agree, and what one more server or volume does to them.
-use Rattle.std.proofs.Common.{◌≡◌, ℕ, Bool, true, false, cond, List, length, slice_get, Option, Some, None, ◌⊎◌, inl, inr, refl, sym, ◌∙◌, arith, eqb}
+use Rattle.std.proofs.Common.{◌≡◌, ℕ, Bool, true, false, cond, List, length, slice_get, Option, Some, None, ◌⊎◌, inl, inr, is_some, refl, sym, ◌∙◌, ap, true≢false, arith, eqb}
 use Rattle.std.specs.Option.{option_or, option_map}
 use Rattle.std.specs.Str.{bytes_eq}
 use Rattle.std.proofs.lemmas.Option.{none-some}
 use Rattle.std.proofs.lemmas.Bool.Decides.{Decides-eqb, nat_tests}
+use Rattle.dr_ids.specs.declared.names.ServerId.{ServerId}
 use Rattle.dr_config.specs.declared.entries.VolumeEntry.{VolumeEntry}
-use Rattle.dr_config.specs.Table.{Table, server_named, place_of, entry_of, lss_of, lss_owner, IsSound}
+use Rattle.dr_config.specs.Table.{Table, server_named, place_of, entry_of, server_of, lss_of, lss_owner, IsSound}
 use Rattle.dr_config.specs.Rules.{with_server, with_volume}
 use Rattle.dr_config.proofs.Lists.{found-at, position-of-found, none-found, position-push, find-push}
 
@@ -33,6 +34,17 @@ either (Some x) = inl (x, refl)
 pub no-place : (t : Table) (v : ℕ) → entry_of t v ≡ None → place_of t v ≡ None
 no-place t v h =
     elim (either (place_of t v)) [ inl d ↦ (let at = entry-at-place t v d.0 d.1 in absurd (none-some at.0 (sym h ∙ at.2))) | inr none ↦ none ]
+
+none-mapped : {A B : Type 0} (f : A → B) (o : Option A) → None ≡ option_map f o → o ≡ None
+none-mapped f None h = refl
+none-mapped f (Some x) h = absurd (none-some (f x) h)
+
+-- a volume that has a place has a server
+pub server-found : (t : Table) (v : ℕ) (r : Option ServerId) → is_some (place_of t v) ≡ true → option_map (λ (s : ServerId). s.0) r ≡ server_of t v → is_some r ≡ true
+server-found t v None defined is =
+    let none : place_of t v ≡ None = no-place t v (none-mapped (λ (e : VolumeEntry). e.server) (entry_of t v) is) in
+    absurd (true≢false (sym defined ∙ ap is_some none))
+server-found t v (Some s) defined is = refl
 
 -- each entry that is listed is that of its identifier, and stands at its place
 pub entry-listed : (t : Table) (d : ℕ) (e : VolumeEntry) → IsSound t → slice_get t.volumes d ≡ Some e → (place_of t e.id ≡ Some d) × (entry_of t e.id ≡ Some e)

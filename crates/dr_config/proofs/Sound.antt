@@ -1,10 +1,12 @@
--- What is true of every configuration stays true with one more server or volume, and with a link set.
+-- What is true of every configuration stays true with one more server or volume, with a link set, and with
+-- other paths.
 use Rattle.std.proofs.Common.{◌≡◌, ℕ, ◌<◌, ◌≤◌, Bool, true, false, not, cond, ◌||◌, inl, inr, List, [], ◌∷◌, length, slice_get, Option, Some, None, is_some, refl, sym, ◌∙◌, ap, subst, arith, eqb, leb, ltb, length-append}
 use Rattle.std.specs.List.{find}
 use Rattle.std.specs.Option.{option_or}
 use Rattle.std.specs.Str.{bytes_eq}
 use Rattle.std.proofs.lemmas.Slice.Eq.{bytes_eq-Decides}
 use Rattle.std.proofs.lemmas.Bool.Decides.{Decides-eqb, nat_tests}
+use Rattle.dr_ids.specs.Paths.{Path}
 use Rattle.dr_ids.specs.declared.refusal.Refusal.{Refusal}
 use Rattle.dr_config.specs.declared.entries.VolumeEntry.{VolumeEntry}
 use Rattle.dr_config.specs.Links.{none_down}
@@ -14,8 +16,8 @@ use Rattle.dr_config.proofs.LinkLaws.{link_up-with_link, square-with_link, squar
 use Rattle.dr_config.proofs.Lists.{element-of-push, position-of-found, position-within}
 use Rattle.dr_config.proofs.Lookups.{place-of-entry, place-of-new, place-stays, lss_owner-with_volume, server_named-with_server}
 
--- a table with no servers and no volumes, and with all links up
-pub sound-empty : IsSound (record { names = []; volumes = []; down = none_down })
+-- a table with no servers, volumes and paths, and with all links up
+pub sound-empty : IsSound (record { names = []; volumes = []; down = none_down; paths = [] })
 sound-empty = record {
   few_servers = omega arith;
   few_volumes = omega arith;
@@ -175,6 +177,18 @@ sound-with_link t a b up da db differ s =
       both_ways = λ x y. law x y ∙ ((λ i. cond (joins-turned x y a b i) up (s.both_ways x y i)) ∙ sym (law y x));
       own_link = λ x. law x x ∙ (ap (λ j. cond j up (link_up t x x)) (joins-none x a b differ) ∙ s.own_link x);
     }
+
+-- paths are no part of what is true
+pub sound-with_paths : (t : Table) (ps : List Path) → IsSound t → IsSound (record t { paths = ps })
+sound-with_paths t ps s = record {
+  few_servers = s.few_servers;
+  few_volumes = s.few_volumes;
+  server = λ k n h. let q = s.server k n h in record { name = q.name; own = q.own };
+  volume = λ d e h. let q = s.volume d e h in record { server = q.server; some = q.some; most = q.most; own = q.own; lss = q.lss };
+  square = s.square;
+  both_ways = s.both_ways;
+  own_link = s.own_link;
+}
 
 -- a server that a name gives is defined
 pub named-defined : (t : Table) (name : List ℕ) (k : ℕ) → IsSound t → server_named t name ≡ Some k → HasServer t k

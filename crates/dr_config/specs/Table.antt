@@ -2,15 +2,18 @@
 use Rattle.std.specs.Prelude.{◌≡◌, ℕ, ◌+◌, ◌/◌, ◌<◌, ◌≤◌, ◌==◌, Bool, true, not, List, length, slice_get, Option, Some, option_map}
 use Rattle.std.specs.List.{position, find}
 use Rattle.std.specs.Str.{bytes_eq}
+use Rattle.dr_ids.specs.Paths.{Path}
 use Rattle.dr_plant.specs.State.{PlantState}
 use Rattle.dr_config.specs.declared.entries.VolumeEntry.{VolumeEntry}
 use Rattle.dr_config.specs.Links.{is_down, IsSquare}
 
--- The servers' names and the volumes, in order of definition, and which links are down.
+-- The servers' names and the volumes, in order of definition, which links are down, and the paths between
+-- logical subsystems, in order of definition.
 pub record Table : Type 0 where
   pub names : List (List ℕ)
   pub volumes : List VolumeEntry
   pub down : List (List Bool)
+  pub paths : List Path
 
 -- The number of the server of that name, which is its place.
 abbrev pub server_named : Table → List ℕ → Option ℕ
@@ -23,6 +26,10 @@ place_of t v = position (λ (e : VolumeEntry). e.id == v) t.volumes
 -- What is defined of that volume.
 abbrev pub entry_of : Table → ℕ → Option VolumeEntry
 entry_of t v = find (λ (e : VolumeEntry). e.id == v) t.volumes
+
+-- The server of that volume, if it is defined.
+abbrev pub server_of : Table → ℕ → Option ℕ
+server_of t v = option_map (λ (e : VolumeEntry). e.server) (entry_of t v)
 
 -- The logical subsystem of a volume: the high byte of its identifier.
 abbrev pub lss_of : ℕ → ℕ

@@ -1,33 +1,38 @@
-ghost use Rattle.std.specs.Prelude.{◌≡◌, ℕ, ◌<◌, ◌≤◌, ◌+◌, [], true, length, slice_get, Some, OnOk, OnErr, IfOk, IfSome, option_map, if◌then◌else◌};
+ghost use Rattle.std.specs.Prelude.{◌≡◌, ◌≢◌, ℕ, ◌<◌, ◌≤◌, ◌+◌, [], true, length, slice_get, Some, Err, IsSome, OnOk, OnErr, IfOk, IfSome, is_some, option_map, if◌then◌else◌};
+ghost use Rattle.std.specs.Option.{unwrap_or};
 ghost use Rattle.std.specs.Result.{result_err};
 ghost use Rattle.dr_ids.specs.Links.{joins};
+ghost use Rattle.dr_ids.specs.Paths.{path_in};
+ghost use Rattle.dr_ids.specs.declared.refusal.Fault.TheVariants as fault;
 ghost use Rattle.dr_plant.specs.State.{with_device};
 ghost use Rattle.dr_config.specs.Links.{none_down};
-ghost use Rattle.dr_config.specs.Table.{server_named, place_of, entry_of, lss_of, lss_owner, link_up, IsName, HasServer, IsSound, StandsFor};
-ghost use Rattle.dr_config.specs.Rules.{is_foreign, refusal_of, server_refusal, volume_refusal, link_refusal, with_server, with_volume, with_link};
+ghost use Rattle.dr_config.specs.Table.{server_named, place_of, entry_of, server_of, lss_of, lss_owner, link_up, IsName, HasServer, IsSound, StandsFor};
+ghost use Rattle.dr_config.specs.Rules.{is_foreign, refusal_of, server_refusal, volume_refusal, link_refusal, contact_refusal, path_refusal, reach_refusal, with_server, with_volume, with_link, with_path_between, without_path_between};
 
 use crate::entries::{
     Names, VolumeEntry, Volumes, add_entry, add_name, entry_of_lss, entry_of_volume, lss_of,
     place_of_name, place_of_volume,
 };
 use crate::links::{MOST_SERVERS, Rows, is_down, none_down, set_between};
+use crate::paths::{Paths, group_of, put_path, take_path};
 use dr_ids::{Fault, Kind, Lss, MAX_TRACKS, Refusal, ServerId, VolumeId, Which, blocks_of};
 use dr_plant::{DeviceId, Plant};
 use indexmap::{IndexMap, IndexSet};
-use std::alloc::Global;
+use std::alloc::{AllocError, Global};
 use std::marker::Model;
 
 /// How many volumes a configuration has at most.
 const MOST_VOLUMES: usize = 64;
 
-/// Servers and volumes in order of definition, and the links between the servers. A server's number is
-/// its place, and the number of a volume's device is the volume's place.
+/// Servers and volumes in order of definition, the links between the servers, and the paths between logical
+/// subsystems. A server's number is its place, and the number of a volume's device is the volume's place.
 #[derive(Drop)]
 pub struct Config {
     alloc: Global,
     servers: Names,
     volumes: Volumes,
     down: Rows,
+    paths: Paths,
 }
 
 impl Model for Config {
@@ -36,15 +41,15 @@ impl Model for Config {
 
     ghost Value = { Table };
 
-    ghost view = { λ c. table_of c.servers.keys c.volumes.entries c.down };
+    ghost view = { λ c. table_of c.servers.keys c.volumes.entries c.down c.paths.entries };
 
-    ghost invariant = { λ c. IsKept c.servers.keys c.volumes.entries c.down };
+    ghost invariant = { λ c. IsKept c.servers.keys c.volumes.entries c.down c.paths.entries };
 }
 
 impl Config {
-    /// A configuration with no servers and no volumes, and with all links up.
+    /// A configuration with no servers, volumes and paths, and with all links up.
     pub fn new(alloc: Global) -> Self
-        ensures empty { result ≡ record { names = []; volumes = []; down = none_down } }
+        ensures empty { result ≡ record { names = []; volumes = []; down = none_down; paths = [] } }
         ensures links { (x y : ℕ) → link_up result x y ≡ true }
     {
         Config {
@@ -52,6 +57,7 @@ impl Config {
             servers: IndexSet::new(alloc),
             volumes: IndexMap::new(alloc),
             down: none_down(),
+            paths: IndexMap::new(alloc),
         }
     }
 
@@ -146,6 +152,119 @@ impl Config {
         ensures { result ≡ link_up self.now a.0 b.0 }
     {
         !is_down(&self.down, usize::from(a.0), usize::from(b.0))
+    }
+
+    /// Defines a path from one logical subsystem to another, with or without a consistency group; one that
+    /// is defined keeps its place and gets the new flag. Refused where both have the same server, or else
+    /// where the first's server is off, or else where the second's is, or else where the link between them is
+    /// down; fails too where there is no memory, which can't be where the path is defined. Then nothing has
+    /// changed.
+    pub fn add_path<P: Plant>(
+        &mut self,
+        p: &P,
+        src: Lss,
+        tgt: Lss,
+        group: bool,
+    ) -> Result<(), Fault>
+        requires src { IsSome (lss_owner self.old src.0) }
+        requires tgt { IsSome (lss_owner self.old tgt.0) }
+        ensures refused { refusal_of result ≡ path_refusal self.old (P.state p.now).on src.0 tgt.0 }
+        ensures added { OnOk result (self.new ≡ with_path_between self.old src.0 tgt.0 group) }
+        ensures same { OnErr result (self.new ≡ self.old) }
+        ensures room { IsSome (path_in self.old.paths src.0 tgt.0) → result ≢ Err fault.NoMemory }
+    {
+        if let Some(why) = self.path_refusal(p, src, tgt) {
+            return Err(Fault::Refused(why));
+        }
+        match put_path(&mut self.paths, src, tgt, group) {
+            Ok(()) => Ok(()),
+            Err(AllocError) => Err(Fault::NoMemory),
+        }
+    }
+
+    /// The path from one logical subsystem to another is gone; tells whether it was defined. The other paths
+    /// keep their order.
+    pub fn remove_path(&mut self, src: Lss, tgt: Lss) -> bool
+        ensures found { result ≡ is_some (path_in self.old.paths src.0 tgt.0) }
+        ensures removed { self.new ≡ without_path_between self.old src.0 tgt.0 }
+    {
+        take_path(&mut self.paths, src, tgt)
+    }
+
+    /// Whether the path from one logical subsystem to another has a consistency group, if it is defined.
+    pub fn path(&self, src: Lss, tgt: Lss) -> Option<bool>
+        ensures { result ≡ path_in self.now.paths src.0 tgt.0 }
+    {
+        group_of(&self.paths, src, tgt)
+    }
+
+    /// Whether one volume can reach another. Refused where no path goes from the logical subsystem of the
+    /// first to that of the second, or else where the second's server is off, or else where the link between
+    /// their servers is down.
+    pub fn reach<P: Plant>(&self, p: &P, from: VolumeId, to: VolumeId) -> Result<(), Refusal>
+        requires from { IsSome (place_of self.now from.0) }
+        requires to { IsSome (place_of self.now to.0) }
+        ensures refused { result_err result ≡ reach_refusal self.now (P.state p.now).on from.0 to.0 }
+    {
+        if self.path(lss_of(from), lss_of(to)).is_none() {
+            return Err(Refusal::Unknown { kind: Kind::Path });
+        }
+        match self.contact_refusal(p, self.host(from), self.host(to)) {
+            Some(why) => Err(why),
+            None => Ok(()),
+        }
+    }
+
+    // Why a path from one logical subsystem to another is refused, if it is.
+    fn path_refusal<P: Plant>(&self, p: &P, src: Lss, tgt: Lss) -> Option<Refusal>
+        requires src { IsSome (lss_owner self.now src.0) }
+        requires tgt { IsSome (lss_owner self.now tgt.0) }
+        ensures { result ≡ path_refusal self.now (P.state p.now).on src.0 tgt.0 }
+    {
+        let a = self.owner(src);
+        let b = self.owner(tgt);
+        if a.0 == b.0 {
+            Some(Refusal::Limit {
+                which: Which::Server,
+            })
+        } else if !p.is_on(a.0) {
+            Some(Refusal::ServerOff { server: a })
+        } else {
+            self.contact_refusal(p, a, b)
+        }
+    }
+
+    // Why server b can't be reached from server a, if it can't.
+    fn contact_refusal<P: Plant>(&self, p: &P, a: ServerId, b: ServerId) -> Option<Refusal>
+        requires first { HasServer self.now a.0 }
+        requires second { HasServer self.now b.0 }
+        ensures { result ≡ contact_refusal self.now (P.state p.now).on a.0 b.0 }
+    {
+        if !p.is_on(b.0) {
+            Some(Refusal::ServerOff { server: b })
+        } else if !self.link_up(a, b) {
+            Some(Refusal::LinkDown { a, b })
+        } else {
+            None
+        }
+    }
+
+    // The server of a logical subsystem that has one.
+    fn owner(&self, l: Lss) -> ServerId
+        requires { IsSome (lss_owner self.now l.0) }
+        ensures value { result.0 ≡ unwrap_or (lss_owner self.now l.0) 0 }
+        ensures defined { HasServer self.now result.0 }
+    {
+        self.lss_owner(l).unwrap()
+    }
+
+    // The server of a volume that is defined.
+    fn host(&self, v: VolumeId) -> ServerId
+        requires { IsSome (place_of self.now v.0) }
+        ensures value { result.0 ≡ unwrap_or (server_of self.now v.0) 0 }
+        ensures defined { HasServer self.now result.0 }
+    {
+        self.server_of(v).unwrap()
     }
 
     // Why a server of that name is refused, if it is.

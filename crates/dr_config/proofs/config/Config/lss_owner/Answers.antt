@@ -8,7 +8,7 @@ use Rattle.dr_config.proofs.config.Config.lss_owner.Goals as goal
 
 pub returns-clause-defined : goal.returns-clause-defined
 returns-clause-defined c =
-    let t : Table = table_of c.self.inside.servers.keys c.self.inside.volumes.entries c.self.inside.down in
+    let t : Table = table_of c.self.inside.servers.keys c.self.inside.volumes.entries c.self.inside.down c.self.inside.paths.entries in
     let same : t ≡ c.args.self.now = c.self.view_is in
     let found : find (λ (e : VolumeEntry). eqb (lss_of e.id) c.args.l.0) t.volumes ≡ Some c.in_ok-entry.entry = search rules in
     let Defined : Table → Type 0 = λ x. HasServer x c.in_ok-entry.entry.server in

@@ -7,8 +7,8 @@ use Rattle.dr_config.proofs.config.Config.new.Goals as goal
 
 pub invariant_of-result : goal.invariant_of-result
 invariant_of-result c =
-    let empty : IsKept [] [] none_down = record { sound = sound-empty; keyed = refl } in
-    rw (c.new.ensures.empty, c.new-2.ensures.empty, c.none_down.ensures) empty
+    let empty : IsKept [] [] none_down [] = record { sound = sound-empty; keyed = refl } in
+    rw (c.new.ensures.empty, c.new-2.ensures.empty, c.new-3.ensures.empty, c.none_down.ensures) empty
 
 pub returns-clause-links : goal.returns-clause-links
 returns-clause-links c = λ x y. ap (λ (rows : List (List Bool)). not (is_down rows x y)) c.none_down.ensures ∙ ap not (none-down x y)

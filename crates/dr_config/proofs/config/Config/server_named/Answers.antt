@@ -15,7 +15,7 @@ returns-clause-place c = rw (← c.self.view_is, position-map (λ (n : Vec ℕ G
 
 pub returns-clause-defined : goal.returns-clause-defined
 returns-clause-defined c =
-    let t : Table = table_of c.self.inside.servers.keys c.self.inside.volumes.entries c.self.inside.down in
+    let t : Table = table_of c.self.inside.servers.keys c.self.inside.volumes.entries c.self.inside.down c.self.inside.paths.entries in
     let same : t ≡ c.args.self.now = c.self.view_is in
     let place : server_named t c.args.name.now ≡ Some c.in_ok-place.place = rw (position-map (λ (n : Vec ℕ Global). n.items) (λ (n : List ℕ). bytes_eq c.args.name.now n) c.self.inside.servers.keys) (search rules) in
     let Defined : Table → Type 0 = λ x. HasServer x c.in_ok-place.place in

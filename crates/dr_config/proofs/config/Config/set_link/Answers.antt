@@ -9,17 +9,17 @@ use Rattle.dr_config.proofs.config.Config.set_link.Goals as goal
 
 pub invariant_of-self : goal.invariant_of-self
 invariant_of-self c =
-    let t : Table = table_of c.self.inside.servers.keys c.self.inside.volumes.entries c.self.inside.down in
+    let t : Table = table_of c.self.inside.servers.keys c.self.inside.volumes.entries c.self.inside.down c.self.inside.paths.entries in
     let same : t ≡ c.args.self.now = c.self.view_is in
     let First : Table → Type 0 = λ x. c.args.a.0 < length x.names in
     let Second : Table → Type 0 = λ x. c.args.b.0 < length x.names in
     let rows : c.set_between.new.rows ≡ set_between c.self.inside.down c.args.a.0 c.args.b.0 (not c.args.up) = rw (← c.from.ensures, ← c.from-2.ensures) c.set_between.ensures in
-    subst (λ (rs : List (List Bool)). IsKept c.self.inside.servers.keys c.self.inside.volumes.entries rs) (sym rows)
-    (kept-link c.self.inside.servers.keys c.self.inside.volumes.entries c.self.inside.down c.args.a.0 c.args.b.0 c.args.up (subst First (sym same) c.requires.first) (subst Second (sym same) c.requires.second) c.if-a-b.false c.self.invariant)
+    subst (λ (rs : List (List Bool)). IsKept c.self.inside.servers.keys c.self.inside.volumes.entries rs c.self.inside.paths.entries) (sym rows)
+    (kept-link c.self.inside.servers.keys c.self.inside.volumes.entries c.self.inside.down c.self.inside.paths.entries c.args.a.0 c.args.b.0 c.args.up (subst First (sym same) c.requires.first) (subst Second (sym same) c.requires.second) c.if-a-b.false c.self.invariant)
 
 pub returns-clause-links : goal.returns-clause-links
 returns-clause-links c =
-    let t : Table = table_of c.self.inside.servers.keys c.self.inside.volumes.entries c.self.inside.down in
+    let t : Table = table_of c.self.inside.servers.keys c.self.inside.volumes.entries c.self.inside.down c.self.inside.paths.entries in
     let same : t ≡ c.args.self.now = c.self.view_is in
     let First : Table → Type 0 = λ x. c.args.a.0 < length x.names in
     let Second : Table → Type 0 = λ x. c.args.b.0 < length x.names in
