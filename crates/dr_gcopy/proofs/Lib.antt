@@ -1,1 +1,4 @@
 pub mod PairLemmas
+pub mod ReachLemmas
+pub mod PairChecks
+pub mod TwoMoves

@@ -1,6 +1,7 @@
 -- Moves that change a volume's part in a pair: their fields are lawful and leave the relationships fitting, and what they
 -- tell.
-use Rattle.std.proofs.Common.{ℕ, ◌≡◌, Bool, true, false, refl, sym, ◌∙◌, ap, subst, None}
+use Rattle.std.proofs.Common.{ℕ, ◌≡◌, Bool, true, false, inl, inr, refl, sym, ◌∙◌, ap, subst, None}
+use Rattle.std.proofs.lemmas.Bool.{cases_eq}
 use Rattle.std.proofs.lemmas.Bool.Decides.{Decides-ltb}
 use Rattle.std.specs.Prelude.{if◌then◌else◌}
 use Rattle.std.specs.FinSet.{contains, empty}
@@ -17,7 +18,7 @@ use Rattle.dr_model.specs.Relations.{all_tracks}
 use Rattle.dr_model.specs.Pairs.{made_secondary, made_primary, no_primary, no_secondary, resumed, taken_over}
 use Rattle.dr_model.specs.Moves.{MakeSecondary, MakePrimary, DropPrimary, DropSecondary, Follow, Resume, TakeOver}
 use Rattle.dr_volume.specs.View.{volume_seen}
-use Rattle.dr_volume.specs.Update.{Covers}
+use Rattle.dr_volume.specs.Update.{Covers, IsMoved, OthersStay}
 use Rattle.dr_flash.specs.Fit.{RelationsFit}
 use Rattle.dr_flash.specs.declared.told.Told.TheVariants.{Nothing, One}
 use Rattle.dr_flash.proofs.FitLemmas.{fit-kept}
@@ -115,6 +116,13 @@ pair-fits s t v f fit law related source own blank =
       covers = subst (λ b. Covers x.fields.blank b None) (sym blank) (covers-all x.fields.blank None);
       leaves = fit-kept s t v f fit (λ r. (sym related ∙ r, source)) (subst (λ b. Apart f.own b) (sym blank) (subst (λ o. Apart o x.fields.blank) (sym own) (fit.apart v)));
     }
+
+-- a move that leaves a volume's part as a primary leaves that of each
+pub primary-stays : (s u : PlantState) (t : Table) (v : ℕ) (f : Fields) → IsMoved s u t v f None → f.primary ≡ (volume_seen s t v).fields.primary → OthersStay s u t v → (q : ℕ) → (volume_seen u t q).fields.primary ≡ (volume_seen s t q).fields.primary
+primary-stays s u t v f is same others q = elim (cases_eq q v) [
+  | inl p ↦ ap (λ z. (volume_seen u t z).fields.primary) p ∙ ap (λ (x : Volume). x.fields.primary) is.volume ∙ same ∙ ap (λ z. (volume_seen s t z).fields.primary) (sym p)
+  | inr ne ↦ ap (λ (x : Volume). x.fields.primary) (others q ne).volume
+]
 
 -- what they tell
 pub tells-make_secondary : (v u : ℕ) (kind : Part) (state : PairState) (x : Volume) → Tells (MakeSecondary v u kind state) x (record { done = Nothing; in_stop = Nothing; landed = 0 })

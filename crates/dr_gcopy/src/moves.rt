@@ -172,7 +172,7 @@ pub(crate) fn follow<P: Plant>(
     ensures unarmed { (q : ℕ) → (P.state p.old).read_fuse q ≡ None → (P.state p.new).read_fuse q ≡ None }
     ensures faults { Counted (is_err result) (P.state p.old).faults (P.state p.new).faults }
     ensures others { OthersStay (P.state p.old) (P.state p.new) c.now b.0 }
-    ensures primary { OnOk result ((volume_seen (P.state p.new) c.now b.0).fields.primary ≡ (volume_seen (P.state p.old) c.now b.0).fields.primary) }
+    ensures primaries { OnOk result ((q : ℕ) → (volume_seen (P.state p.new) c.now q).fields.primary ≡ (volume_seen (P.state p.old) c.now q).fields.primary) }
     ensures on { OnOk result ((P.state p.new).on ≡ (P.state p.old).on) }
     ensures room { j.old.spare ≤ j.new.spare + 2 }
     ensures room_left { OnOk result (j.old.spare ≤ j.new.spare + 1) }

@@ -1,5 +1,5 @@
 -- The state of the machine that a plant and its configuration show.
-use Rattle.std.specs.Prelude.{◌≡◌, ℕ, ◌+◌, ◌<◌, Bool, true, List, [], Option, Some, None, slice_get, nat_lt, unwrap_or, map, if◌then◌else◌}
+use Rattle.std.specs.Prelude.{◌≡◌, ℕ, ◌+◌, ◌<◌, Bool, true, List, Option, Some, None, slice_get, nat_lt, unwrap_or, map, if◌then◌else◌}
 use Rattle.dr_plant.specs.State.{PlantState}
 use Rattle.dr_plant.specs.declared.plant.WriteFuse.{WriteFuse}
 use Rattle.dr_plant.specs.declared.plant.Torn.{Torn}
@@ -72,7 +72,7 @@ control_seen s t r = record {
   on = on_seen s;
   fuse = fuses_seen s;
   link = link_up t;
-  paths = [];
+  paths = t.paths;
   volumes = ids_of t.volumes;
   volume = volume_seen s t;
   issued = r.issued;

@@ -2,8 +2,7 @@ use Rattle.std.proofs.Common.{arith, length, ap, refl, sym, subst, ◌∙◌, No
 use Rattle.dr_model.specs.Layout.{Fields}
 use Rattle.dr_model.specs.Lawful.{IsLawful}
 use Rattle.dr_model.specs.Moves.{Follow}
-use Rattle.dr_model.specs.Control.{Volume}
-use Rattle.dr_gcopy.proofs.PairLemmas.{pair-fits, lawful-followed, tells-follow}
+use Rattle.dr_gcopy.proofs.PairLemmas.{pair-fits, lawful-followed, tells-follow, primary-stays}
 use Rattle.dr_volume.specs.Plain.{plain}
 use Rattle.dr_volume.specs.View.{volume_seen}
 use Rattle.dr_flash.specs.Here.{seen, armed_in, refusal_of}
@@ -58,7 +57,7 @@ returns-clause-room_left g c =
     let told = ap (λ (y : Telling). length (events_of y.done)) c.of.ensures in
     ok-along c.shift.result c.shift.ensures.room_left (λ left. omega (arith, left, told))
 
-pub returns-clause-primary : goal.returns-clause-primary
-returns-clause-primary g c =
+pub returns-clause-primaries : goal.returns-clause-primaries
+returns-clause-primaries g c =
     ok-along c.shift.result c.shift.ensures.moved (λ is.
-    ap (λ (x : Volume). x.fields.primary) is.volume ∙ ap (λ (f : Fields). f.primary) (c.followed-next.ensures ∙ ap (λ (f : Fields). record f { secondary_state = c.args.state }) c.peek_fields.ensures.fields))
+    primary-stays (g.P.Plant.state c.args.p.now) (g.P.Plant.state c.shift.new.p) c.args.c.now c.args.b.0 (plain c.followed-next.result) is (ap (λ (f : Fields). f.primary) (c.followed-next.ensures ∙ ap (λ (f : Fields). record f { secondary_state = c.args.state }) c.peek_fields.ensures.fields)) c.shift.ensures.others)
