@@ -52,6 +52,5 @@ pub fn suspend<P: Plant>(
     ensures room_left { OnOk result (j.old.spare ≤ j.new.spare + 1) }
     ensures spare { length j.new.events + j.new.spare ≡ length j.old.events + j.old.spare }
 {
-    let _ = (p, c, j, a, busy);
     Ok(())
 }
