@@ -98,12 +98,7 @@ fn flash_refusal<P: Plant>(p: &P, c: &Config, a: VolumeId, b: VolumeId) -> Optio
 }
 
 /// Why a and b can't be made a pair, whatever their tracks have.
-pub(crate) fn make_refusal<P: Plant>(
-    p: &P,
-    c: &Config,
-    a: VolumeId,
-    b: VolumeId,
-) -> Option<Refusal>
+pub(crate) fn make_refusal<P: Plant>(p: &P, c: &Config, a: VolumeId, b: VolumeId) -> Option<Refusal>
     requires rest { IsAtRest (P.state p.now) c.now }
     requires primary { IsSome (place_of c.now a.0) }
     requires secondary { IsSome (place_of c.now b.0) }

@@ -164,12 +164,7 @@ fn follow_on<P: Plant>(
 }
 
 /// Primary a goes on.
-fn resume_on<P: Plant>(
-    p: &mut P,
-    c: &Config,
-    j: &mut Journal,
-    a: VolumeId,
-) -> Result<(), Refusal>
+fn resume_on<P: Plant>(p: &mut P, c: &Config, j: &mut Journal, a: VolumeId) -> Result<(), Refusal>
     requires rest { IsAtRest (P.state p.old) c.now }
     requires fit { RelationsFit (P.state p.old) c.now }
     requires primary { IsSome (place_of c.now a.0) }

@@ -31,6 +31,3 @@ returns-in-Some-clause-fails g c r ds =
 pub returns-in-None-clause-leads : goal.returns-in-None-clause-leads
 returns-in-None-clause-leads g c r armed u r' ds more =
     ends-clear armed u r' (seen (g.P.Plant.state c.args.p.now) c.args.c.now r c.args.j.now.events) (differs_at (difference_seen (g.P.Plant.state c.args.p.now) c.args.c.now c.args.a.0 c.args.b.0 c.args.full)) ds (ap (λ b. differs_at (difference_seen (g.P.Plant.state c.args.p.now) c.args.c.now c.args.a.0 c.args.b.0 b) (seen (g.P.Plant.state c.args.p.now) c.args.c.now r c.args.j.now.events).control) c.if-full.false ∙ ap (λ o. differs_at o (seen (g.P.Plant.state c.args.p.now) c.args.c.now r c.args.j.now.events).control) (sym c.in_ok-track.ensures.found ∙ c.in-None.is)) more
-
-pub difference-requires-clause-stub : goal.difference-requires-clause-stub
-difference-requires-clause-stub g c = ?

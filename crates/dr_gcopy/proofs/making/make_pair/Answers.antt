@@ -33,7 +33,7 @@ returns-in_err-compare-clause-others g c q na nb = c.in_err-compare.ensures.same
 pub returns-clause-carried : goal.returns-clause-carried
 returns-clause-carried g c r =
     let kinds = ap (λ z. make_moves c.args.a.0 c.args.b.0 c.part_of-part.result z c.args.full) c.first_state.ensures
-        ∙ ap (λ k. make_moves c.args.a.0 c.args.b.0 k (first_state k c.args.full) c.args.full) c.part_of-part.ensures.part in
+    ∙ ap (λ k. make_moves c.args.a.0 c.args.b.0 k (first_state k c.args.full) c.args.full) c.part_of-part.ensures.part in
     c.in_default.ensures.checked r c.args.j.now.events (armed_in (g.P.Plant.state c.args.p.now)) (seen (g.P.Plant.state c.make_both.new.p) c.args.c.now r c.make_both.new.j.events) (refusal_of c.make_both.result) _
     (c.in_ok-compare.ensures.leads r (armed_in (g.P.Plant.state c.args.p.now)) (seen (g.P.Plant.state c.make_both.new.p) c.args.c.now r c.make_both.new.j.events) (refusal_of c.make_both.result) _
     (subst (λ es. Ends (armed_in (g.P.Plant.state c.args.p.now)) (seen (g.P.Plant.state c.make_both.new.p) c.args.c.now r c.make_both.new.j.events) (refusal_of c.make_both.result) (seen (g.P.Plant.state c.args.p.now) c.args.c.now r c.args.j.now.events) es) kinds
