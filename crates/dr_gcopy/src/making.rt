@@ -93,7 +93,8 @@ fn difference<P: Plant>(
     ensures room { j.old.spare ≤ j.new.spare + 1 }
     ensures spare { length j.new.events + j.new.spare ≡ length j.old.events + j.old.spare }
 {
-    for track in 0..tracks_of(c, a) {
+    let tracks = tracks_of(c, a);
+    for track in 0..tracks {
         if differs_in(p, c, j, a, b, track)? {
             return Ok(Some(track));
         }

@@ -29,7 +29,7 @@ returns-then-branch-clause-found g c =
     let s = g.P.Plant.state c.args.p.now in
     let t = c.args.c.now in
     let k = c.loop-track.track in
-    let n = c.tracks_of-track-end.ensures.seen s in
+    let n = c.tracks_of-tracks.ensures.seen s in
     let low = c.loop-track-test.true in
     sym (differs-here s t c.args.a.0 c.args.b.0 k (omega (arith, n, low)) (sym (ap (λ (x : PlantState). differs x t c.args.a.0 c.args.b.0 k) c.loop-track.invariant.same) ∙ sym c.in_ok-differs_in.ensures.found ∙ c.if-branch.true))
     ∙ c.loop-track.invariant.left ∙ differing-all s t c.args.a.0 c.args.b.0
@@ -39,7 +39,7 @@ loop-track-preserved g c =
     let s = g.P.Plant.state c.args.p.now in
     let t = c.args.c.now in
     let k = c.loop-track.track in
-    let n = c.tracks_of-track-end.ensures.seen s in
+    let n = c.tracks_of-tracks.ensures.seen s in
     let low = c.loop-track-test.true in
     record {
       same = c.in_ok-differs_in.ensures.passed ∙ c.loop-track.invariant.same;
