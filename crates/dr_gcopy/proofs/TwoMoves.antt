@@ -1,5 +1,5 @@
 -- Two entries in a row, and what comes of them.
-use Rattle.std.proofs.Common.{ℕ, Bool, ◌≡◌, ◌≢◌, true, List, [], ◌∷◌, sym, ◌∙◌, ap, subst, Option, Some, None}
+use Rattle.std.proofs.Common.{ℕ, Bool, ◌≡◌, true, List, [], ◌∷◌, sym, ◌∙◌, Option, Some, None}
 use Rattle.std.specs.Prelude.{is_some, Result, Ok, Err, OnOk, OnErr}
 use Rattle.dr_ids.specs.declared.refusal.Refusal.{Refusal}
 use Rattle.dr_plant.specs.State.{PlantState}

@@ -1,4 +1,4 @@
-use Rattle.std.proofs.Common.{ap, sym, ◌∙◌, Some}
+use Rattle.std.proofs.Common.{sym, ◌∙◌, Some}
 use Rattle.dr_config.specs.Table.{link_up}
 use Rattle.dr_model.specs.PairEntries.{are_linked, link_down}
 use Rattle.dr_volume.specs.View.{volume_seen}

@@ -4,7 +4,7 @@ use Rattle.dr_ids.specs.declared.refusal.Refusal.TheVariants.{NotIdentical}
 use Rattle.dr_model.specs.Log.{Log}
 use Rattle.dr_model.specs.PairEntries.{refuse_if, differs_at}
 use Rattle.dr_model.specs.ReadStops.{Ends}
-use Rattle.dr_flash.specs.Here.{seen, armed_in, refusal_of}
+use Rattle.dr_flash.specs.Here.{seen, armed_in}
 use Rattle.dr_flash.proofs.EndsLemmas.{ends-off}
 use Rattle.dr_flash.proofs.TurnLemmas.{err-always, refused-by}
 use Rattle.dr_gcopy.specs.Steps.{difference_seen}

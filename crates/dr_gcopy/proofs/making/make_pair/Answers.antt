@@ -1,4 +1,4 @@
-use Rattle.std.proofs.Common.{ap, sym, subst, ◌∙◌, ◌∷◌, Some}
+use Rattle.std.proofs.Common.{ap, sym, subst, ◌∙◌, ◌∷◌}
 use Rattle.dr_plant.specs.State.{PlantState}
 use Rattle.dr_model.specs.Log.{Log}
 use Rattle.dr_model.specs.PairEntries.{refuse_if, differs_at}

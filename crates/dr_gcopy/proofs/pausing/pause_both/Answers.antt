@@ -1,4 +1,4 @@
-use Rattle.std.proofs.Common.{arith, ap, sym, subst, ◌∙◌, ◌∷◌}
+use Rattle.std.proofs.Common.{ap, sym, subst, ◌∙◌, ◌∷◌}
 use Rattle.std.specs.Prelude.{is_err}
 use Rattle.dr_model.specs.Carry.{now}
 use Rattle.std.proofs.Common.{false}
