@@ -95,8 +95,8 @@ pub fn relation_state<P: Plant>(p: &P, c: &Config, v: VolumeId) -> Refusal
     }
 }
 
-/// Whether a volume stands in no revertible and no reversing relationship.
-pub(crate) fn is_settled<P: Plant>(p: &P, c: &Config, v: VolumeId) -> bool
+/// Whether a volume stands in no revertible and no reversing relationship; it is looked at whether or not its server is on.
+pub fn is_settled<P: Plant>(p: &P, c: &Config, v: VolumeId) -> bool
     requires stands { StandsFor c.now (P.state p.now) }
     requires defined { IsSome (place_of c.now v.0) }
     ensures { (r : Rest) (events : List Event) → result ≡ entries.is_settled v.0 (seen (P.state p.now) c.now r events).control }

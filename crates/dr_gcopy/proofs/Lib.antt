@@ -1,0 +1,5 @@
+pub mod PairLemmas
+pub mod ReachLemmas
+pub mod PairChecks
+pub mod TwoMoves
+pub mod DifferLemmas

@@ -1,0 +1,34 @@
+-- Two entries in a row, and what comes of them.
+use Rattle.std.proofs.Common.{ℕ, Bool, ◌≡◌, true, List, [], ◌∷◌, sym, ◌∙◌, Option, Some, None}
+use Rattle.std.specs.Prelude.{is_some, Result, Ok, Err, OnOk, OnErr}
+use Rattle.dr_ids.specs.declared.refusal.Refusal.{Refusal}
+use Rattle.dr_plant.specs.State.{PlantState}
+use Rattle.dr_config.specs.Table.{Table, place_of}
+use Rattle.dr_model.specs.Control.{World}
+use Rattle.dr_model.specs.Carry.{Entry}
+use Rattle.dr_model.specs.ReadStops.{Ends}
+use Rattle.dr_volume.specs.View.{Rest, volume_seen}
+use Rattle.dr_flash.specs.Here.{armed_in, refusal_of}
+use Rattle.dr_flash.specs.Turns.{Advances, Halts, Leads, Fails}
+use Rattle.dr_flash.proofs.EndsLemmas.{ends-wider}
+use Rattle.dr_flash.proofs.CopyLemmas.{wider-armed, led, failed}
+use Rattle.dr_flash.proofs.PlaceLaws.{entry-found}
+
+pub two-lead : (w v u : World) (d e : Entry) → Advances w d v → Advances v e u → Leads w (d ∷ e ∷ []) u
+two-lead w v u d e first second armed x r ds more = first armed x r (e ∷ ds) (second armed x r ds more)
+
+-- the second is carried out where fuses may be fewer
+pub second-fails : (s m : PlantState) (w v u : World) (r : Option Refusal) (d e : Entry) → ((q : ℕ) → s.read_fuse q ≡ None → m.read_fuse q ≡ None) → Advances w d v → Halts (armed_in m) v e u r → Fails (armed_in s) w (d ∷ e ∷ []) u r
+second-fails s m w v u r d e unarmed first halts ds = first (armed_in s) u r (e ∷ ds) (ends-wider (armed_in m) (armed_in s) (wider-armed s m unarmed) u r v (e ∷ ds) (halts ds))
+
+-- a volume stays on its server
+pub server-stays : (s u : PlantState) (t : Table) (v : ℕ) → is_some (place_of t v) ≡ true → (volume_seen u t v).server ≡ (volume_seen s t v).server
+server-stays s u t v defined = let x = entry-found t v defined in x.2 u ∙ sym (x.2 s)
+
+pub still-running : (s u : PlantState) (t : Table) (v : ℕ) → is_some (place_of t v) ≡ true → u.on ≡ s.on → s.on (volume_seen s t v).server ≡ true → u.on (volume_seen u t v).server ≡ true
+still-running s u t v defined on running = (λ i. on i (server-stays s u t v defined i)) ∙ running
+
+-- the entries end as those that led on or failed say
+pub ends-by : (res : Result (Unit {0}) Refusal) (armed : ℕ → Bool) (w u : Rest → World) (es : List Entry) → OnOk res ((r : Rest) → Leads (w r) es (u r)) → OnErr res ((r : Rest) → Fails armed (w r) es (u r) (refusal_of res)) → (r : Rest) → Ends armed (u r) (refusal_of res) (w r) es
+ends-by (Ok x) armed w u es leads fails r = led armed (w r) (u r) es (leads r)
+ends-by (Err e) armed w u es leads fails r = failed armed (w r) (u r) (Some e) es (fails r)

@@ -1,0 +1,130 @@
+//! Ending a pair.
+
+ghost use Rattle.std.specs.Prelude.{◌≡◌, ℕ, ◌≤◌, ◌+◌, true, false, [], ◌∷◌, length, None, Some, IsSome, OnOk, OnErr, is_err};
+ghost use Rattle.dr_config.specs.Table.{place_of};
+ghost use Rattle.dr_model.specs.Carry.{now};
+ghost use Rattle.dr_model.specs.Moves.{DropPrimary};
+ghost use Rattle.dr_model.specs.PairEntries.{let_go, remove_entries};
+ghost use Rattle.dr_model.specs.ReadStops.{Ends};
+ghost use Rattle.dr_model.specs.Refusals.{stopped};
+ghost use Rattle.dr_volume.specs.Update.{OthersStay};
+ghost use Rattle.dr_volume.specs.View.{Rest, volume_seen};
+ghost use Rattle.dr_flash.specs.Checks.{is_stop};
+ghost use Rattle.dr_flash.specs.Faults.{Counted};
+ghost use Rattle.dr_flash.specs.Fit.{RelationsFit};
+ghost use Rattle.dr_flash.specs.Here.{seen, refusal_of, armed_in, IsAtRest};
+ghost use Rattle.dr_flash.specs.Turns.{Advances, Halts, Leads, Fails};
+ghost use Rattle.dr_gcopy.specs.Steps.{BothAlone};
+
+use crate::checks::{contact_refusal, remove_refusal};
+use crate::moves::{drop_primary, drop_secondary};
+use crate::parts::is_secondary_of;
+use dr_config::Config;
+use dr_ids::{Refusal, VolumeId};
+use dr_model::Journal;
+use dr_plant::Plant;
+use dr_volume::peek_fields;
+
+/// Volume b is a secondary no more, where it is that of a.
+fn let_go<P: Plant>(
+    p: &mut P,
+    c: &Config,
+    j: &mut Journal,
+    a: VolumeId,
+    b: VolumeId,
+) -> Result<(), Refusal>
+    requires rest { IsAtRest (P.state p.old) c.now }
+    requires fit { RelationsFit (P.state p.old) c.now }
+    requires secondary { IsSome (place_of c.now b.0) }
+    requires reached { (P.state p.old).on (volume_seen (P.state p.old) c.now b.0).server ≡ true }
+    requires room { 2 ≤ j.old.spare }
+    ensures advances { OnOk result ((r : Rest) → Advances (seen (P.state p.old) c.now r j.old.events) (let_go a.0 b.0) (seen (P.state p.new) c.now r j.new.events)) }
+    ensures halts { OnErr result ((r : Rest) → Halts (armed_in (P.state p.old)) (seen (P.state p.old) c.now r j.old.events) (let_go a.0 b.0) (seen (P.state p.new) c.now r j.new.events) (refusal_of result)) }
+    ensures refused { OnErr result (refusal_of result ≡ Some (stopped (volume_seen (P.state p.old) c.now b.0).server)) }
+    ensures rest { IsAtRest (P.state p.new) c.now }
+    ensures fit { RelationsFit (P.state p.new) c.now }
+    ensures unarmed { (q : ℕ) → (P.state p.old).read_fuse q ≡ None → (P.state p.new).read_fuse q ≡ None }
+    ensures faults { Counted (is_err result) (P.state p.old).faults (P.state p.new).faults }
+    ensures others { OthersStay (P.state p.old) (P.state p.new) c.now b.0 }
+    ensures on { OnOk result ((P.state p.new).on ≡ (P.state p.old).on) }
+    ensures room { j.old.spare ≤ j.new.spare + 2 }
+    ensures room_left { OnOk result (j.old.spare ≤ j.new.spare + 1) }
+    ensures spare { length j.new.events + j.new.spare ≡ length j.old.events + j.old.spare }
+{
+    if !is_secondary_of(&peek_fields(p, c, b), a) {
+        return Ok(());
+    }
+    drop_secondary(p, c, j, b)
+}
+
+/// Volume a is a primary no more, and b, where it is the secondary of a, no secondary.
+fn drop_both<P: Plant>(
+    p: &mut P,
+    c: &Config,
+    j: &mut Journal,
+    a: VolumeId,
+    b: VolumeId,
+) -> Result<(), Refusal>
+    requires rest { IsAtRest (P.state p.old) c.now }
+    requires fit { RelationsFit (P.state p.old) c.now }
+    requires primary { IsSome (place_of c.now a.0) }
+    requires secondary { IsSome (place_of c.now b.0) }
+    requires running { (P.state p.old).on (volume_seen (P.state p.old) c.now a.0).server ≡ true }
+    requires reached { (P.state p.old).on (volume_seen (P.state p.old) c.now b.0).server ≡ true }
+    requires room { 3 ≤ j.old.spare }
+    ensures leads { OnOk result ((r : Rest) → Leads (seen (P.state p.old) c.now r j.old.events) (now (DropPrimary a.0) ∷ let_go a.0 b.0 ∷ []) (seen (P.state p.new) c.now r j.new.events)) }
+    ensures fails { OnErr result ((r : Rest) → Fails (armed_in (P.state p.old)) (seen (P.state p.old) c.now r j.old.events) (now (DropPrimary a.0) ∷ let_go a.0 b.0 ∷ []) (seen (P.state p.new) c.now r j.new.events) (refusal_of result)) }
+    ensures stops { OnErr result (is_stop (refusal_of result) ≡ true) }
+    ensures rest { IsAtRest (P.state p.new) c.now }
+    ensures fit { RelationsFit (P.state p.new) c.now }
+    ensures unarmed { (q : ℕ) → (P.state p.old).read_fuse q ≡ None → (P.state p.new).read_fuse q ≡ None }
+    ensures faults { Counted (is_err result) (P.state p.old).faults (P.state p.new).faults }
+    ensures others { BothAlone (P.state p.old) (P.state p.new) c.now a.0 b.0 }
+    ensures on { OnOk result ((P.state p.new).on ≡ (P.state p.old).on) }
+    ensures room { j.old.spare ≤ j.new.spare + 3 }
+    ensures spare { length j.new.events + j.new.spare ≡ length j.old.events + j.old.spare }
+{
+    drop_primary(p, c, j, a)?;
+    let_go(p, c, j, a, b)
+}
+
+/// Ends the pair of a and b; the caller knows both volumes. The attempt of a stays. Where only the source is told, b stays
+/// a secondary. Refused, in this order, where the server of a is off, or a is no primary of b; and then, where b is told too,
+/// where the server of b is off, or the link between their servers is down. Fails too where a server stops in a move or
+/// goes off at a read; what was done by then stays. The journal needs room for three events.
+pub fn remove_pair<P: Plant>(
+    p: &mut P,
+    c: &Config,
+    j: &mut Journal,
+    a: VolumeId,
+    b: VolumeId,
+    source_only: bool,
+) -> Result<(), Refusal>
+    requires rest { IsAtRest (P.state p.old) c.now }
+    requires fit { RelationsFit (P.state p.old) c.now }
+    requires primary { IsSome (place_of c.now a.0) }
+    requires secondary { IsSome (place_of c.now b.0) }
+    requires room { 3 ≤ j.old.spare }
+    ensures carried { (r : Rest) → Ends (armed_in (P.state p.old)) (seen (P.state p.new) c.now r j.new.events) (refusal_of result) (seen (P.state p.old) c.now r j.old.events)
+        (remove_entries (seen (P.state p.old) c.now r j.old.events).control a.0 b.0 source_only) }
+    ensures unchanged { is_stop (refusal_of result) ≡ false → OnErr result ((P.state p.new ≡ P.state p.old) × (j.new ≡ j.old)) }
+    ensures rest { IsAtRest (P.state p.new) c.now }
+    ensures fit { RelationsFit (P.state p.new) c.now }
+    ensures unarmed { (q : ℕ) → (P.state p.old).read_fuse q ≡ None → (P.state p.new).read_fuse q ≡ None }
+    ensures faults { Counted (is_stop (refusal_of result)) (P.state p.old).faults (P.state p.new).faults }
+    ensures others { BothAlone (P.state p.old) (P.state p.new) c.now a.0 b.0 }
+    ensures on { OnOk result ((P.state p.new).on ≡ (P.state p.old).on) }
+    ensures room { j.old.spare ≤ j.new.spare + 3 }
+    ensures spare { length j.new.events + j.new.spare ≡ length j.old.events + j.old.spare }
+{
+    if let Some(why) = remove_refusal(p, c, a, b) {
+        return Err(why);
+    }
+    if source_only {
+        return drop_primary(p, c, j, a);
+    }
+    if let Some(why) = contact_refusal(p, c, a, b) {
+        return Err(why);
+    }
+    drop_both(p, c, j, a, b)
+}

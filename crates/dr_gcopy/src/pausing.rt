@@ -1,0 +1,258 @@
+//! Pausing a pair, and letting it go on.
+
+ghost use Rattle.std.specs.Prelude.{◌≡◌, ℕ, ◌≤◌, ◌+◌, true, false, [], ◌∷◌, length, None, Some, IsSome, OnOk, OnErr, is_err};
+ghost use Rattle.dr_config.specs.Table.{place_of};
+ghost use Rattle.dr_model.specs.Carry.{now};
+ghost use Rattle.dr_model.specs.Layout as layout;
+ghost use Rattle.dr_model.specs.Moves.{Suspend};
+ghost use Rattle.dr_model.specs.PairEntries.{tell_paused, follow_on, resume_on, pause_entries, resume_entries};
+ghost use Rattle.dr_model.specs.ReadStops.{Ends};
+ghost use Rattle.dr_model.specs.Refusals.{stopped};
+ghost use Rattle.dr_volume.specs.Update.{OthersStay};
+ghost use Rattle.dr_volume.specs.View.{Rest, volume_seen};
+ghost use Rattle.dr_flash.specs.Checks.{is_stop};
+ghost use Rattle.dr_flash.specs.Faults.{Counted};
+ghost use Rattle.dr_flash.specs.Fit.{RelationsFit};
+ghost use Rattle.dr_flash.specs.Here.{seen, refusal_of, armed_in, IsAtRest};
+ghost use Rattle.dr_flash.specs.Turns.{Advances, Halts, Leads, Fails};
+ghost use Rattle.dr_gcopy.specs.Kinds.{part_of};
+ghost use Rattle.dr_gcopy.specs.Steps.{BothAlone};
+
+use crate::checks::{pause_refusal, resume_refusal};
+use crate::kinds::{CopyKind, part_of};
+use crate::moves::{follow, resume_primary};
+use crate::parts::{is_secondary_of, next_state};
+use crate::reach::reach_refusal;
+use crate::suspending::suspend;
+use dr_config::Config;
+use dr_ids::{Refusal, VolumeId};
+use dr_model::{Journal, PairState};
+use dr_plant::Plant;
+use dr_volume::peek_fields;
+
+/// Volume b is told that its pair is paused, where it can be reached from a and is its secondary.
+fn tell_paused<P: Plant>(
+    p: &mut P,
+    c: &Config,
+    j: &mut Journal,
+    a: VolumeId,
+    b: VolumeId,
+) -> Result<(), Refusal>
+    requires rest { IsAtRest (P.state p.old) c.now }
+    requires fit { RelationsFit (P.state p.old) c.now }
+    requires primary { IsSome (place_of c.now a.0) }
+    requires secondary { IsSome (place_of c.now b.0) }
+    requires room { 2 ≤ j.old.spare }
+    ensures advances { OnOk result ((r : Rest) → Advances (seen (P.state p.old) c.now r j.old.events) (tell_paused a.0 b.0) (seen (P.state p.new) c.now r j.new.events)) }
+    ensures halts { OnErr result ((r : Rest) → Halts (armed_in (P.state p.old)) (seen (P.state p.old) c.now r j.old.events) (tell_paused a.0 b.0) (seen (P.state p.new) c.now r j.new.events) (refusal_of result)) }
+    ensures refused { OnErr result (refusal_of result ≡ Some (stopped (volume_seen (P.state p.old) c.now b.0).server)) }
+    ensures rest { IsAtRest (P.state p.new) c.now }
+    ensures fit { RelationsFit (P.state p.new) c.now }
+    ensures unarmed { (q : ℕ) → (P.state p.old).read_fuse q ≡ None → (P.state p.new).read_fuse q ≡ None }
+    ensures faults { Counted (is_err result) (P.state p.old).faults (P.state p.new).faults }
+    ensures others { OthersStay (P.state p.old) (P.state p.new) c.now b.0 }
+    ensures on { OnOk result ((P.state p.new).on ≡ (P.state p.old).on) }
+    ensures room { j.old.spare ≤ j.new.spare + 2 }
+    ensures room_left { OnOk result (j.old.spare ≤ j.new.spare + 1) }
+    ensures spare { length j.new.events + j.new.spare ≡ length j.old.events + j.old.spare }
+{
+    if let Some(_) = reach_refusal(p, c, a, b) {
+        return Ok(());
+    }
+    if !is_secondary_of(&peek_fields(p, c, b), a) {
+        return Ok(());
+    }
+    follow(p, c, j, b, PairState::Suspended)
+}
+
+/// Primary a is suspended, and b is told where it can be.
+fn pause_both<P: Plant>(
+    p: &mut P,
+    c: &Config,
+    j: &mut Journal,
+    a: VolumeId,
+    b: VolumeId,
+) -> Result<(), Refusal>
+    requires rest { IsAtRest (P.state p.old) c.now }
+    requires fit { RelationsFit (P.state p.old) c.now }
+    requires primary { IsSome (place_of c.now a.0) }
+    requires secondary { IsSome (place_of c.now b.0) }
+    requires running { (P.state p.old).on (volume_seen (P.state p.old) c.now a.0).server ≡ true }
+    requires part { layout.is_part (volume_seen (P.state p.old) c.now a.0).fields.primary ≡ true }
+    requires room { 3 ≤ j.old.spare }
+    ensures leads { OnOk result ((r : Rest) → Leads (seen (P.state p.old) c.now r j.old.events) (now (Suspend a.0 false) ∷ tell_paused a.0 b.0 ∷ []) (seen (P.state p.new) c.now r j.new.events)) }
+    ensures fails { OnErr result ((r : Rest) → Fails (armed_in (P.state p.old)) (seen (P.state p.old) c.now r j.old.events) (now (Suspend a.0 false) ∷ tell_paused a.0 b.0 ∷ []) (seen (P.state p.new) c.now r j.new.events) (refusal_of result)) }
+    ensures stops { OnErr result (is_stop (refusal_of result) ≡ true) }
+    ensures rest { IsAtRest (P.state p.new) c.now }
+    ensures fit { RelationsFit (P.state p.new) c.now }
+    ensures unarmed { (q : ℕ) → (P.state p.old).read_fuse q ≡ None → (P.state p.new).read_fuse q ≡ None }
+    ensures faults { Counted (is_err result) (P.state p.old).faults (P.state p.new).faults }
+    ensures others { BothAlone (P.state p.old) (P.state p.new) c.now a.0 b.0 }
+    ensures on { OnOk result ((P.state p.new).on ≡ (P.state p.old).on) }
+    ensures room { j.old.spare ≤ j.new.spare + 3 }
+    ensures spare { length j.new.events + j.new.spare ≡ length j.old.events + j.old.spare }
+{
+    suspend(p, c, j, a, false)?;
+    tell_paused(p, c, j, a, b)
+}
+
+/// Pauses the pair of a and b; the caller knows both volumes. Primary a is suspended, and b too, where it can be reached
+/// from a and is its secondary. Refused, in this order, where the server of a is off, or a is no primary of b, or a Suspended
+/// one. Fails too where a server stops in a move or goes off at a read; what was done by then stays. The journal needs room
+/// for three events.
+pub fn pause<P: Plant>(
+    p: &mut P,
+    c: &Config,
+    j: &mut Journal,
+    a: VolumeId,
+    b: VolumeId,
+) -> Result<(), Refusal>
+    requires rest { IsAtRest (P.state p.old) c.now }
+    requires fit { RelationsFit (P.state p.old) c.now }
+    requires primary { IsSome (place_of c.now a.0) }
+    requires secondary { IsSome (place_of c.now b.0) }
+    requires room { 3 ≤ j.old.spare }
+    ensures carried { (r : Rest) → Ends (armed_in (P.state p.old)) (seen (P.state p.new) c.now r j.new.events) (refusal_of result) (seen (P.state p.old) c.now r j.old.events)
+        (pause_entries (seen (P.state p.old) c.now r j.old.events).control a.0 b.0) }
+    ensures unchanged { is_stop (refusal_of result) ≡ false → OnErr result ((P.state p.new ≡ P.state p.old) × (j.new ≡ j.old)) }
+    ensures rest { IsAtRest (P.state p.new) c.now }
+    ensures fit { RelationsFit (P.state p.new) c.now }
+    ensures unarmed { (q : ℕ) → (P.state p.old).read_fuse q ≡ None → (P.state p.new).read_fuse q ≡ None }
+    ensures faults { Counted (is_stop (refusal_of result)) (P.state p.old).faults (P.state p.new).faults }
+    ensures others { BothAlone (P.state p.old) (P.state p.new) c.now a.0 b.0 }
+    ensures on { OnOk result ((P.state p.new).on ≡ (P.state p.old).on) }
+    ensures room { j.old.spare ≤ j.new.spare + 3 }
+    ensures spare { length j.new.events + j.new.spare ≡ length j.old.events + j.old.spare }
+{
+    if let Some(why) = pause_refusal(p, c, a, b) {
+        return Err(why);
+    }
+    pause_both(p, c, j, a, b)
+}
+
+/// Secondary b goes on in the state that primary a is to have.
+fn follow_on<P: Plant>(
+    p: &mut P,
+    c: &Config,
+    j: &mut Journal,
+    a: VolumeId,
+    b: VolumeId,
+) -> Result<(), Refusal>
+    requires rest { IsAtRest (P.state p.old) c.now }
+    requires fit { RelationsFit (P.state p.old) c.now }
+    requires primary { IsSome (place_of c.now a.0) }
+    requires secondary { IsSome (place_of c.now b.0) }
+    requires reached { (P.state p.old).on (volume_seen (P.state p.old) c.now b.0).server ≡ true }
+    requires follows { layout.is_part (volume_seen (P.state p.old) c.now b.0).fields.secondary ≡ true }
+    requires room { 2 ≤ j.old.spare }
+    ensures advances { OnOk result ((r : Rest) → Advances (seen (P.state p.old) c.now r j.old.events) (follow_on a.0 b.0) (seen (P.state p.new) c.now r j.new.events)) }
+    ensures halts { OnErr result ((r : Rest) → Halts (armed_in (P.state p.old)) (seen (P.state p.old) c.now r j.old.events) (follow_on a.0 b.0) (seen (P.state p.new) c.now r j.new.events) (refusal_of result)) }
+    ensures refused { OnErr result (refusal_of result ≡ Some (stopped (volume_seen (P.state p.old) c.now b.0).server)) }
+    ensures rest { IsAtRest (P.state p.new) c.now }
+    ensures fit { RelationsFit (P.state p.new) c.now }
+    ensures unarmed { (q : ℕ) → (P.state p.old).read_fuse q ≡ None → (P.state p.new).read_fuse q ≡ None }
+    ensures faults { Counted (is_err result) (P.state p.old).faults (P.state p.new).faults }
+    ensures others { OthersStay (P.state p.old) (P.state p.new) c.now b.0 }
+    ensures on { OnOk result ((P.state p.new).on ≡ (P.state p.old).on) }
+    ensures room { j.old.spare ≤ j.new.spare + 2 }
+    ensures part { OnOk result ((volume_seen (P.state p.new) c.now a.0).fields.primary ≡ (volume_seen (P.state p.old) c.now a.0).fields.primary) }
+    ensures room_left { OnOk result (j.old.spare ≤ j.new.spare + 1) }
+    ensures spare { length j.new.events + j.new.spare ≡ length j.old.events + j.old.spare }
+{
+    let state = next_state(&peek_fields(p, c, a));
+    follow(p, c, j, b, state)
+}
+
+/// Primary a goes on.
+fn resume_on<P: Plant>(p: &mut P, c: &Config, j: &mut Journal, a: VolumeId) -> Result<(), Refusal>
+    requires rest { IsAtRest (P.state p.old) c.now }
+    requires fit { RelationsFit (P.state p.old) c.now }
+    requires primary { IsSome (place_of c.now a.0) }
+    requires running { (P.state p.old).on (volume_seen (P.state p.old) c.now a.0).server ≡ true }
+    requires part { layout.is_part (volume_seen (P.state p.old) c.now a.0).fields.primary ≡ true }
+    requires room { 2 ≤ j.old.spare }
+    ensures advances { OnOk result ((r : Rest) → Advances (seen (P.state p.old) c.now r j.old.events) (resume_on a.0) (seen (P.state p.new) c.now r j.new.events)) }
+    ensures halts { OnErr result ((r : Rest) → Halts (armed_in (P.state p.old)) (seen (P.state p.old) c.now r j.old.events) (resume_on a.0) (seen (P.state p.new) c.now r j.new.events) (refusal_of result)) }
+    ensures refused { OnErr result (refusal_of result ≡ Some (stopped (volume_seen (P.state p.old) c.now a.0).server)) }
+    ensures rest { IsAtRest (P.state p.new) c.now }
+    ensures fit { RelationsFit (P.state p.new) c.now }
+    ensures unarmed { (q : ℕ) → (P.state p.old).read_fuse q ≡ None → (P.state p.new).read_fuse q ≡ None }
+    ensures faults { Counted (is_err result) (P.state p.old).faults (P.state p.new).faults }
+    ensures others { OthersStay (P.state p.old) (P.state p.new) c.now a.0 }
+    ensures on { OnOk result ((P.state p.new).on ≡ (P.state p.old).on) }
+    ensures room { j.old.spare ≤ j.new.spare + 2 }
+    ensures room_left { OnOk result (j.old.spare ≤ j.new.spare + 1) }
+    ensures spare { length j.new.events + j.new.spare ≡ length j.old.events + j.old.spare }
+{
+    let state = next_state(&peek_fields(p, c, a));
+    resume_primary(p, c, j, a, state)
+}
+
+/// Secondary b goes on, and then primary a.
+fn resume_both<P: Plant>(
+    p: &mut P,
+    c: &Config,
+    j: &mut Journal,
+    a: VolumeId,
+    b: VolumeId,
+) -> Result<(), Refusal>
+    requires rest { IsAtRest (P.state p.old) c.now }
+    requires fit { RelationsFit (P.state p.old) c.now }
+    requires primary { IsSome (place_of c.now a.0) }
+    requires secondary { IsSome (place_of c.now b.0) }
+    requires running { (P.state p.old).on (volume_seen (P.state p.old) c.now a.0).server ≡ true }
+    requires reached { (P.state p.old).on (volume_seen (P.state p.old) c.now b.0).server ≡ true }
+    requires part { layout.is_part (volume_seen (P.state p.old) c.now a.0).fields.primary ≡ true }
+    requires follows { layout.is_part (volume_seen (P.state p.old) c.now b.0).fields.secondary ≡ true }
+    requires room { 3 ≤ j.old.spare }
+    ensures leads { OnOk result ((r : Rest) → Leads (seen (P.state p.old) c.now r j.old.events) (follow_on a.0 b.0 ∷ resume_on a.0 ∷ []) (seen (P.state p.new) c.now r j.new.events)) }
+    ensures fails { OnErr result ((r : Rest) → Fails (armed_in (P.state p.old)) (seen (P.state p.old) c.now r j.old.events) (follow_on a.0 b.0 ∷ resume_on a.0 ∷ []) (seen (P.state p.new) c.now r j.new.events) (refusal_of result)) }
+    ensures stops { OnErr result (is_stop (refusal_of result) ≡ true) }
+    ensures rest { IsAtRest (P.state p.new) c.now }
+    ensures fit { RelationsFit (P.state p.new) c.now }
+    ensures unarmed { (q : ℕ) → (P.state p.old).read_fuse q ≡ None → (P.state p.new).read_fuse q ≡ None }
+    ensures faults { Counted (is_err result) (P.state p.old).faults (P.state p.new).faults }
+    ensures others { BothAlone (P.state p.old) (P.state p.new) c.now a.0 b.0 }
+    ensures on { OnOk result ((P.state p.new).on ≡ (P.state p.old).on) }
+    ensures room { j.old.spare ≤ j.new.spare + 3 }
+    ensures spare { length j.new.events + j.new.spare ≡ length j.old.events + j.old.spare }
+{
+    follow_on(p, c, j, a, b)?;
+    resume_on(p, c, j, a)
+}
+
+/// Lets a Suspended pair of that kind of a and b go on; the caller knows both volumes. It is Full Duplex where it is a Metro
+/// Mirror and no track of a is out of sync, else Copy Pending. Refused, in this order, where the server of a is off, a is no
+/// Suspended primary of b of that kind, b can't be reached from a (no path, its server off, the link down), or b isn't the
+/// secondary of a. Fails too where a server stops in a move or goes off at a read; what was done by then stays. The journal
+/// needs room for three events.
+pub fn resume<P: Plant>(
+    p: &mut P,
+    c: &Config,
+    j: &mut Journal,
+    a: VolumeId,
+    b: VolumeId,
+    kind: CopyKind,
+) -> Result<(), Refusal>
+    requires rest { IsAtRest (P.state p.old) c.now }
+    requires fit { RelationsFit (P.state p.old) c.now }
+    requires primary { IsSome (place_of c.now a.0) }
+    requires secondary { IsSome (place_of c.now b.0) }
+    requires room { 3 ≤ j.old.spare }
+    ensures carried { (r : Rest) → Ends (armed_in (P.state p.old)) (seen (P.state p.new) c.now r j.new.events) (refusal_of result) (seen (P.state p.old) c.now r j.old.events)
+        (resume_entries (seen (P.state p.old) c.now r j.old.events).control a.0 b.0 (part_of kind)) }
+    ensures unchanged { is_stop (refusal_of result) ≡ false → OnErr result ((P.state p.new ≡ P.state p.old) × (j.new ≡ j.old)) }
+    ensures rest { IsAtRest (P.state p.new) c.now }
+    ensures fit { RelationsFit (P.state p.new) c.now }
+    ensures unarmed { (q : ℕ) → (P.state p.old).read_fuse q ≡ None → (P.state p.new).read_fuse q ≡ None }
+    ensures faults { Counted (is_stop (refusal_of result)) (P.state p.old).faults (P.state p.new).faults }
+    ensures others { BothAlone (P.state p.old) (P.state p.new) c.now a.0 b.0 }
+    ensures on { OnOk result ((P.state p.new).on ≡ (P.state p.old).on) }
+    ensures room { j.old.spare ≤ j.new.spare + 3 }
+    ensures spare { length j.new.events + j.new.spare ≡ length j.old.events + j.old.spare }
+{
+    if let Some(why) = resume_refusal(p, c, a, b, part_of(kind)) {
+        return Err(why);
+    }
+    resume_both(p, c, j, a, b)
+}
