@@ -2,4 +2,9 @@ pub mod PairLemmas
 pub mod ReachLemmas
 pub mod PairChecks
 pub mod TwoMoves
-pub mod DifferLemmas
+pub mod FirstLemmas
+pub mod DifferenceLemmas
+pub mod SendMoves
+pub mod SendLemmas
+pub mod FollowLemmas
+pub mod DrainLemmas

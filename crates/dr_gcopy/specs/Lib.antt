@@ -1,2 +1,5 @@
 pub mod Kinds
 pub mod Steps
+pub mod Differences
+pub mod Sending
+pub mod Followed

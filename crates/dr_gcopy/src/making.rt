@@ -1,11 +1,10 @@
 //! Making a pair.
 
-ghost use Rattle.std.specs.Prelude.{◌≡◌, ℕ, ◌≤◌, ◌+◌, true, false, [], ◌∷◌, length, None, Some, IsSome, OnOk, OnErr, is_err, ◌≢◌, ◌<◌, not, Option, IfOk, if◌then◌else◌};
-ghost use Rattle.std.specs.Str.{bytes_eq};
+ghost use Rattle.std.specs.Prelude.{◌≡◌, ℕ, ◌≤◌, ◌+◌, true, false, [], ◌∷◌, length, None, Some, IsSome, OnOk, OnErr, is_err, ◌≢◌, if◌then◌else◌};
 ghost use Rattle.dr_config.specs.Table.{place_of};
 ghost use Rattle.dr_model.specs.Layout as layout;
 ghost use Rattle.dr_model.specs.PairEntries.{refuse_if, differs_at, first_differing, make_entries};
-ghost use Rattle.dr_model.specs.ReadStops.{Ends, GoesOff};
+ghost use Rattle.dr_model.specs.ReadStops.{Ends};
 ghost use Rattle.dr_volume.specs.Update.{IsAsBefore};
 ghost use Rattle.dr_volume.specs.View.{Rest, volume_seen, track_seen};
 ghost use Rattle.dr_flash.specs.Checks.{is_stop};
@@ -17,90 +16,14 @@ ghost use Rattle.dr_gcopy.specs.Kinds.{part_of};
 ghost use Rattle.dr_gcopy.specs.Steps.{make_moves, difference_seen, BothAlone};
 
 use crate::checks::make_refusal;
+use crate::compare::difference;
 use crate::kinds::{CopyKind, part_of};
 use crate::moves::{make_primary, make_secondary};
 use crate::parts::first_state;
 use dr_config::Config;
-use dr_flash::{read_told, tracks_of};
 use dr_ids::{Refusal, VolumeId};
 use dr_model::{Journal, PairState, Part};
 use dr_plant::Plant;
-
-/// Whether two volumes differ in a track. Fails where a server goes off at a read.
-fn differs_in<P: Plant>(
-    p: &mut P,
-    c: &Config,
-    j: &mut Journal,
-    a: VolumeId,
-    b: VolumeId,
-    track: u16,
-) -> Result<bool, Refusal>
-    requires rest { IsAtRest (P.state p.old) c.now }
-    requires fit { RelationsFit (P.state p.old) c.now }
-    requires primary { IsSome (place_of c.now a.0) }
-    requires secondary { IsSome (place_of c.now b.0) }
-    requires running { (P.state p.old).on (volume_seen (P.state p.old) c.now a.0).server ≡ true }
-    requires reached { (P.state p.old).on (volume_seen (P.state p.old) c.now b.0).server ≡ true }
-    requires size { (volume_seen (P.state p.old) c.now a.0).tracks ≡ (volume_seen (P.state p.old) c.now b.0).tracks }
-    requires within { track < (volume_seen (P.state p.old) c.now a.0).tracks }
-    requires room { 1 ≤ j.old.spare }
-    ensures found { IfOk result (λ d. d ≡ not (bytes_eq (track_seen (P.state p.old) c.now a.0 track) (track_seen (P.state p.old) c.now b.0 track))) }
-    ensures passed { OnOk result (P.state p.new ≡ P.state p.old) }
-    ensures silent { OnOk result (j.new ≡ j.old) }
-    ensures gone { OnErr result ((r : Rest) → GoesOff (armed_in (P.state p.old)) (seen (P.state p.new) c.now r j.new.events) (refusal_of result) (seen (P.state p.old) c.now r j.old.events)) }
-    ensures stops { OnErr result (is_stop (refusal_of result) ≡ true) }
-    ensures same { (u : ℕ) → IsAsBefore (P.state p.old) (P.state p.new) c.now u }
-    ensures rest { IsAtRest (P.state p.new) c.now }
-    ensures fit { RelationsFit (P.state p.new) c.now }
-    ensures unarmed { (q : ℕ) → (P.state p.old).read_fuse q ≡ None → (P.state p.new).read_fuse q ≡ None }
-    ensures faults { Counted (is_err result) (P.state p.old).faults (P.state p.new).faults }
-    ensures room { j.old.spare ≤ j.new.spare + 1 }
-    ensures spare { length j.new.events + j.new.spare ≡ length j.old.events + j.old.spare }
-{
-    let mut first = [0; 64];
-    let mut second = [0; 64];
-    read_told(p, c, j, a, track, &mut first)?;
-    read_told(p, c, j, b, track, &mut second)?;
-    Ok(first != second)
-}
-
-/// The first track in which two volumes differ, if there is one. Fails where a server goes off at a read.
-fn difference<P: Plant>(
-    p: &mut P,
-    c: &Config,
-    j: &mut Journal,
-    a: VolumeId,
-    b: VolumeId,
-) -> Result<Option<u16>, Refusal>
-    requires rest { IsAtRest (P.state p.old) c.now }
-    requires fit { RelationsFit (P.state p.old) c.now }
-    requires primary { IsSome (place_of c.now a.0) }
-    requires secondary { IsSome (place_of c.now b.0) }
-    requires running { (P.state p.old).on (volume_seen (P.state p.old) c.now a.0).server ≡ true }
-    requires reached { (P.state p.old).on (volume_seen (P.state p.old) c.now b.0).server ≡ true }
-    requires size { (volume_seen (P.state p.old) c.now a.0).tracks ≡ (volume_seen (P.state p.old) c.now b.0).tracks }
-    requires room { 1 ≤ j.old.spare }
-    ensures found { IfOk result (λ d. d ≡ first_differing (track_seen (P.state p.old) c.now) (volume_seen (P.state p.old) c.now a.0).tracks a.0 b.0) }
-    ensures passed { OnOk result (P.state p.new ≡ P.state p.old) }
-    ensures silent { OnOk result (j.new ≡ j.old) }
-    ensures gone { OnErr result ((r : Rest) → GoesOff (armed_in (P.state p.old)) (seen (P.state p.new) c.now r j.new.events) (refusal_of result) (seen (P.state p.old) c.now r j.old.events)) }
-    ensures stops { OnErr result (is_stop (refusal_of result) ≡ true) }
-    ensures same { (u : ℕ) → IsAsBefore (P.state p.old) (P.state p.new) c.now u }
-    ensures rest { IsAtRest (P.state p.new) c.now }
-    ensures fit { RelationsFit (P.state p.new) c.now }
-    ensures unarmed { (q : ℕ) → (P.state p.old).read_fuse q ≡ None → (P.state p.new).read_fuse q ≡ None }
-    ensures faults { Counted (is_err result) (P.state p.old).faults (P.state p.new).faults }
-    ensures room { j.old.spare ≤ j.new.spare + 1 }
-    ensures spare { length j.new.events + j.new.spare ≡ length j.old.events + j.old.spare }
-{
-    let tracks = tracks_of(c, a);
-    for track in 0..tracks {
-        if differs_in(p, c, j, a, b, track)? {
-            return Ok(Some(track));
-        }
-    }
-    Ok(None)
-}
 
 /// Looks whether two volumes are the same, where they have to be: where not all tracks are to be copied.
 fn compare<P: Plant>(
