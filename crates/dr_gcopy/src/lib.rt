@@ -1,0 +1,8 @@
+//! Pairs of volumes on two servers: tracks are sent from a primary to its secondary, and pairs are suspended.
+#![tactic(auto)]
+
+mod reach;
+mod states;
+
+pub use reach::reach_refusal;
+pub use states::{is_last, received, struck, suspended, voided};
