@@ -3,6 +3,10 @@
 
 mod reach;
 mod states;
+mod storing;
+mod suspending;
 
 pub use reach::reach_refusal;
 pub use states::{is_last, received, struck, suspended, voided};
+pub use storing::{store, strike};
+pub use suspending::suspend;
