@@ -1,1 +1,2 @@
 pub mod SendMoves
+pub mod SendLemmas

@@ -2,11 +2,13 @@
 #![tactic(auto)]
 
 mod reach;
+mod receiving;
 mod states;
 mod storing;
 mod suspending;
 
 pub use reach::reach_refusal;
+pub use receiving::receive_track;
 pub use states::{is_last, received, struck, suspended, voided};
 pub use storing::{store, strike};
 pub use suspending::suspend;
