@@ -1,5 +1,5 @@
 -- Entries of a send, one behind the other.
-use Rattle.std.proofs.Common.{ℕ, ◌≡◌, ◌≢◌, ◌≤◌, ◌+◌, Bool, true, false, not, ◌&&◌, ◌||◌, cond, nat_eq, nat_lt, arith, inl, inr, refl, ap, ◌∙◌, List, [], ◌∷◌, ◌++◌, sym, subst, Option, None, Some, length, slice_get}
+use Rattle.std.proofs.Common.{ℕ, ◌≡◌, ◌≢◌, ◌<◌, ◌≤◌, ◌+◌, Bool, true, false, not, ◌&&◌, ◌||◌, cond, nat_eq, nat_lt, arith, inl, inr, refl, ap, ◌∙◌, List, [], ◌∷◌, ◌++◌, sym, subst, Option, None, Some, length, slice_get}
 use Rattle.std.specs.Prelude.{Result, Ok, Err, OnOk, OnErr, is_some, min, if◌then◌else◌}
 use Rattle.std.specs.Option.{option_or}
 use Rattle.std.proofs.lemmas.List.{append_assoc}
@@ -9,16 +9,27 @@ use Rattle.dr_plant.specs.State.{PlantState}
 use Rattle.dr_config.specs.Table.{Table, place_of}
 use Rattle.dr_config.specs.declared.entries.VolumeEntry.{VolumeEntry}
 use Rattle.dr_model.specs.Control.{Control, World}
-use Rattle.dr_model.specs.Carry.{Entry, Pass, End, check}
+use Rattle.dr_ids.specs.Paths.{Path, path_in}
+use Rattle.dr_ids.specs.declared.refusal.Refusal.TheVariants.{PairState}
+use Rattle.dr_ids.specs.declared.refusal.Kind.TheVariants.{Path as OfPath}
+use Rattle.dr_model.specs.Refusals.{server_off, unknown}
+use Rattle.dr_model.specs.Control.{Volume}
+use Rattle.dr_model.specs.Carry.{Entry, Pass, Do, Make, End, check, now}
+use Rattle.dr_model.specs.Layout.{is_part}
+use Rattle.dr_model.specs.Moves.{Suspend}
+use Rattle.dr_model.specs.Pairs.{is_secondary_of, pair_seen}
 use Rattle.dr_model.specs.ReadStops.{Ends}
-use Rattle.dr_model.specs.Entries.{copies_from}
-use Rattle.dr_model.specs.PairEntries.{end_if, refuse_if}
-use Rattle.dr_volume.specs.View.{Rest, volume_seen, volume_at, volume_on}
+use Rattle.dr_model.specs.Entries.{copies_from, fields_at, is_running, subsystem}
+use Rattle.dr_model.specs.PairEntries.{end_if, refuse_if, link_down, has_path, are_linked, reach_refusal, send_refusal, suspend_where, suspend_running}
+use Rattle.dr_volume.specs.View.{Rest, volume_seen, volume_at, volume_on, on_seen}
+use Rattle.dr_flash.specs.Faults.{Counted}
+use Rattle.dr_flash.proofs.CheckLemmas.{on-low}
+use Rattle.dr_gcopy.specs.Followed.{EndsSo}
 use Rattle.dr_flash.specs.Fit.{RelationsFit}
 use Rattle.dr_flash.specs.Here.{refusal_of}
 use Rattle.dr_flash.specs.Turns.{Advances, Halts, Leads, Fails}
 use Rattle.dr_flash.proofs.CopyLemmas.{led, failed}
-use Rattle.dr_flash.proofs.EndsLemmas.{ends-skips, ends-refused, ends-alike, ends-wider}
+use Rattle.dr_flash.proofs.EndsLemmas.{ends-none, ends-skips, ends-refused, ends-alike, ends-wider}
 
 pub then-leads : (w v u : World) (es fs : List Entry) → Leads w es v → Leads v fs u → Leads w (es ++ fs) u
 then-leads w v u es fs first more armed x r ds e = subst (Ends armed x r w) (sym (append_assoc es fs ds)) (first armed x r (fs ++ ds) (more armed x r ds e))
@@ -96,3 +107,59 @@ pick-true false x y h = absurd cc
 pub pick-false : {T : Type 0} (b : Bool) (x y : T) → b ≡ false → y ≡ (if b then x else y)
 pick-false false x y h = refl
 pick-false true x y h = absurd cc
+
+both-off : (a b : Bool) → b ≡ false → (a && b) ≡ false
+both-off true b h = h
+both-off false b h = refl
+
+-- what follows a stop, by what is known of the primary
+pub follows-absent : (a : ℕ) (k : Control) → is_part (fields_at k a).primary ≡ false → suspend_running a k ≡ Pass
+follows-absent a k absent = ap (λ b. cond (b && is_running a k) (Do (Make (Suspend a false))) Pass) absent
+
+pub follows-off : (a : ℕ) (k : Control) → is_running a k ≡ false → suspend_running a k ≡ Pass
+follows-off a k off = ap (λ b. cond b (Do (Make (Suspend a false))) Pass) (both-off (is_part (fields_at k a).primary) (is_running a k) off)
+
+pub follows-on : (a : ℕ) (k : Control) → is_part (fields_at k a).primary ≡ true → is_running a k ≡ true → suspend_running a k ≡ now (Suspend a false) k
+follows-on a k part on = λ i. cond (part i && on i) (Do (Make (Suspend a false))) Pass
+
+pub nothing-follows : (armed : ℕ → Bool) (w : World) (d : Entry) → d w.control ≡ Pass → EndsSo armed w (d ∷ []) w
+nothing-follows armed w d is = record { refusal = None; ends = ends-skips armed w None w d [] is (ends-none armed w None w (record { world = refl; refusal = refl })) }
+
+-- a primary that can't send is suspended first
+pub suspends : (w : World) (why : Control → Option Refusal) (a : ℕ) (r : Refusal) → why w.control ≡ Some r → suspend_where why a w.control ≡ now (Suspend a false) w.control
+suspends w why a r is = ap (λ o. cond (is_some o) (Do (Make (Suspend a false))) Pass) is
+
+pub suspends-none : (w : World) (why : Control → Option Refusal) (a : ℕ) → why w.control ≡ None → suspend_where why a w.control ≡ Pass
+suspends-none w why a is = ap (λ o. cond (is_some o) (Do (Make (Suspend a false))) Pass) is
+
+-- what says whether a can send to b, part by part
+abbrev refusal_by : ℕ → ℕ → List Path → (ℕ → Bool) → (ℕ → ℕ → Bool) → ℕ → Volume → Option Refusal
+refusal_by a b paths on link from to = option_or
+    (if not (is_some (path_in paths (subsystem a) (subsystem b))) then Some (unknown OfPath)
+    else if not (on to.server) then Some (server_off to.server)
+    else if not (link from to.server) then Some (link_down from to.server)
+    else None)
+    (if is_secondary_of a to.fields then None else Some (PairState (record { 0 = b }) (pair_seen to.fields)))
+
+pub same-refusal : (a b : ℕ) (k l : Control) → l.paths ≡ k.paths → l.on ≡ k.on → l.link ≡ k.link → (l.volume a).server ≡ (k.volume a).server → l.volume b ≡ k.volume b → send_refusal a b l ≡ send_refusal a b k
+same-refusal a b k l paths on link from to = λ i. refusal_by a b (paths i) (on i) (link i) (from i) (to i)
+
+-- where b can be reached, its server is on
+pub reached-on : (a b : ℕ) (k : Control) → reach_refusal a b k ≡ None → is_running b k ≡ true
+reached-on a b k none = by (has_path a b k) (is_running b k) (are_linked a b k) (unknown OfPath) (server_off (k.volume b).server) (link_down (k.volume a).server (k.volume b).server) none
+  where
+    by : (path on up : Bool) (x y z : Refusal) → (if not path then Some x else if not on then Some y else if not up then Some z else None) ≡ None → on ≡ true
+    by true true up x y z h = refl
+    by true false up x y z h = absurd cc
+    by false on up x y z h = absurd cc
+
+pub on-of-seen : (s : PlantState) (server : ℕ) → server < 8 → on_seen s server ≡ true → s.on server ≡ true
+on-of-seen s server low h = sym (on-low s server low) ∙ h
+
+-- a count that rose stays risen
+pub rose-then : (f x y : ℕ) → Counted true f x → Counted true x y → Counted true f y
+rose-then f x y first more = grind (arith, first, more)
+
+pub rose-on : (b : Bool) (f x y : ℕ) → Counted b x y → Counted true f x → Counted true f y
+rose-on true f x y more first = rose-then f x y first more
+rose-on false f x y more first = subst (λ n. Counted true f n) (sym more) first
