@@ -1,12 +1,12 @@
 -- Entries of a send, one behind the other.
 use Rattle.std.proofs.Common.{ℕ, ◌≡◌, ◌≢◌, ◌<◌, ◌≤◌, ◌+◌, Bool, true, false, not, ◌&&◌, ◌||◌, cond, nat_eq, nat_lt, arith, inl, inr, refl, ap, ◌∙◌, List, [], ◌∷◌, ◌++◌, sym, subst, Option, None, Some, length, slice_get}
-use Rattle.std.specs.Prelude.{Result, Ok, Err, OnOk, OnErr, is_some, min, if◌then◌else◌}
+use Rattle.std.specs.Prelude.{Result, Ok, Err, OnOk, OnErr, is_err, is_some, min, if◌then◌else◌}
 use Rattle.std.specs.Option.{option_or}
 use Rattle.std.proofs.lemmas.List.{append_assoc}
 use Rattle.std.proofs.lemmas.Bool.Decides.{eqb_tells}
 use Rattle.dr_ids.specs.declared.refusal.Refusal.{Refusal}
 use Rattle.dr_plant.specs.State.{PlantState}
-use Rattle.dr_config.specs.Table.{Table, place_of}
+use Rattle.dr_config.specs.Table.{Table, StandsFor, place_of}
 use Rattle.dr_config.specs.declared.entries.VolumeEntry.{VolumeEntry}
 use Rattle.dr_model.specs.Control.{Control, World}
 use Rattle.dr_ids.specs.Paths.{Path, path_in}
@@ -22,6 +22,8 @@ use Rattle.dr_model.specs.ReadStops.{Ends}
 use Rattle.dr_model.specs.Entries.{copies_from, fields_at, is_running, subsystem}
 use Rattle.dr_model.specs.PairEntries.{end_if, refuse_if, link_down, has_path, are_linked, reach_refusal, send_refusal, suspend_where, suspend_running}
 use Rattle.dr_volume.specs.View.{Rest, volume_seen, volume_at, volume_on, on_seen}
+use Rattle.dr_volume.proofs.VolumeLaws.{placed, volume-placed}
+use Rattle.dr_flash.specs.Checks.{OnNone, is_stop}
 use Rattle.dr_flash.specs.Faults.{Counted}
 use Rattle.dr_flash.proofs.CheckLemmas.{on-low}
 use Rattle.dr_gcopy.specs.Followed.{EndsSo}
@@ -163,3 +165,18 @@ rose-then f x y first more = grind (arith, first, more)
 pub rose-on : (b : Bool) (f x y : ℕ) → Counted b x y → Counted true f x → Counted true f y
 rose-on true f x y more first = rose-then f x y first more
 rose-on false f x y more first = subst (λ n. Counted true f n) (sym more) first
+
+pub none-always : (o : Option Refusal) {P : Type 0} → P → OnNone o P
+none-always None p = p
+none-always (Some why) p = tt
+
+-- the server of a volume that is defined is one of the eight
+pub low-server : (s : PlantState) (t : Table) (v : ℕ) → StandsFor t s → is_some (place_of t v) ≡ true → (volume_seen s t v).server < 8
+low-server s t v stands defined =
+    let x = placed t v defined in
+    subst (λ n. n < 8) (sym (ap (λ (w : Volume). w.server) (volume-placed s t v x.0 x.1 x.2 x.3))) (stands.device x.0 x.1 x.3).2
+
+-- a call that fails only by stops
+pub counted-stops : (r : Result (Unit {0}) Refusal) (a b : ℕ) → Counted (is_err r) a b → OnErr r (is_stop (refusal_of r) ≡ true) → Counted (is_stop (refusal_of r)) a b
+counted-stops (Ok x) a b counted stops = counted
+counted-stops (Err e) a b counted stops = subst (λ z. Counted z a b) (sym stops) counted
