@@ -10,7 +10,7 @@ use Rattle.dr_config.specs.Table.{Table, StandsFor, place_of}
 use Rattle.dr_config.specs.declared.entries.VolumeEntry.{VolumeEntry}
 use Rattle.dr_model.specs.Control.{Control, World}
 use Rattle.dr_ids.specs.Paths.{Path, path_in}
-use Rattle.dr_ids.specs.declared.refusal.Refusal.TheVariants.{PairState}
+use Rattle.dr_ids.specs.declared.refusal.Refusal.TheVariants.{PairState, Stopped}
 use Rattle.dr_ids.specs.declared.refusal.Kind.TheVariants.{Path as OfPath}
 use Rattle.dr_model.specs.Refusals.{server_off, unknown}
 use Rattle.dr_model.specs.Control.{Volume}
@@ -26,7 +26,7 @@ use Rattle.dr_volume.proofs.VolumeLaws.{placed, volume-placed}
 use Rattle.dr_flash.specs.Checks.{OnNone, is_stop}
 use Rattle.dr_flash.specs.Faults.{Counted}
 use Rattle.dr_flash.proofs.CheckLemmas.{on-low}
-use Rattle.dr_gcopy.specs.Followed.{EndsSo}
+use Rattle.dr_gcopy.specs.Followed.{EndsSo, Follows}
 use Rattle.dr_flash.specs.Fit.{RelationsFit}
 use Rattle.dr_flash.specs.Here.{refusal_of}
 use Rattle.dr_flash.specs.Turns.{Advances, Halts, Leads, Fails}
@@ -180,3 +180,8 @@ low-server s t v stands defined =
 pub counted-stops : (r : Result (Unit {0}) Refusal) (a b : ℕ) → Counted (is_err r) a b → OnErr r (is_stop (refusal_of r) ≡ true) → Counted (is_stop (refusal_of r)) a b
 counted-stops (Ok x) a b counted stops = counted
 counted-stops (Err e) a b counted stops = subst (λ z. Counted z a b) (sym stops) counted
+
+-- more servers may be armed
+pub follows-wider : (armed more : ℕ → Bool) → ((q : ℕ) → armed q ≡ true → more q ≡ true) → (v : World) (r : Option Refusal) (follows : ℕ → List Entry) (u : World) → Follows armed v r follows u → Follows more v r follows u
+follows-wider armed more wider v (Some (Stopped s)) follows u h = record { refusal = h.refusal; ends = ends-wider armed more wider u h.refusal v (follows s.0) h.ends }
+follows-wider armed more wider v r follows u h = h
