@@ -1,2 +1,4 @@
 pub mod SendMoves
 pub mod SendLemmas
+pub mod FollowLemmas
+pub mod DrainLemmas

@@ -1,5 +1,5 @@
 -- What a secondary does for a track that comes to it, and what a primary does with one that it sends.
-use Rattle.std.specs.Prelude.{ℕ, Bool, List, [], ◌∷◌, ◌++◌, Option, Some, None, if◌then◌else◌}
+use Rattle.std.specs.Prelude.{ℕ, nat_le, false, Bool, List, [], ◌∷◌, ◌++◌, Option, Some, None, if◌then◌else◌}
 use Rattle.dr_ids.specs.declared.refusal.Refusal.{Refusal}
 use Rattle.dr_model.specs.Control.{Control}
 use Rattle.dr_model.specs.Moves.{Store}
@@ -28,3 +28,8 @@ exchange_entries a b t = store_on a b t ∷ strike_on a t ∷ []
 
 abbrev pub pass_entries : List ℕ → ℕ → ℕ → ℕ → List Entry
 pass_entries volumes a b t = copy_first volumes b t ++ exchange_entries a b t
+
+-- as many tracks were sent as were to be, at most
+abbrev pub enough : Option ℕ → ℕ → Bool
+enough None sent = false
+enough (Some most) sent = nat_le most sent

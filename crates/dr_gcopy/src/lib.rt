@@ -1,6 +1,7 @@
 //! Pairs of volumes on two servers: tracks are sent from a primary to its secondary, and pairs are suspended.
 #![tactic(auto)]
 
+mod draining;
 mod following;
 mod passing;
 mod reach;
@@ -10,6 +11,7 @@ mod states;
 mod storing;
 mod suspending;
 
+pub use draining::drain;
 pub use reach::reach_refusal;
 pub use receiving::receive_track;
 pub use sending::send_track;
