@@ -26,7 +26,7 @@ use Rattle.dr_volume.proofs.VolumeLaws.{placed, volume-placed}
 use Rattle.dr_flash.specs.Checks.{OnNone, is_stop}
 use Rattle.dr_flash.specs.Faults.{Counted}
 use Rattle.dr_flash.proofs.CheckLemmas.{on-low}
-use Rattle.dr_gcopy.specs.Followed.{EndsSo, Follows}
+use Rattle.dr_gcopy.specs.Followed.{EndsSo, Follows, EndsFollowed, FailsFollowed}
 use Rattle.dr_flash.specs.Fit.{RelationsFit}
 use Rattle.dr_flash.specs.Here.{refusal_of}
 use Rattle.dr_flash.specs.Turns.{Advances, Halts, Leads, Fails}
@@ -185,3 +185,13 @@ counted-stops (Err e) a b counted stops = subst (λ z. Counted z a b) (sym stops
 pub follows-wider : (armed more : ℕ → Bool) → ((q : ℕ) → armed q ≡ true → more q ≡ true) → (v : World) (r : Option Refusal) (follows : ℕ → List Entry) (u : World) → Follows armed v r follows u → Follows more v r follows u
 follows-wider armed more wider v (Some (Stopped s)) follows u h = record { refusal = h.refusal; ends = ends-wider armed more wider u h.refusal v (follows s.0) h.ends }
 follows-wider armed more wider v r follows u h = h
+
+pub failed-wider : (armed more : ℕ → Bool) → ((q : ℕ) → armed q ≡ true → more q ≡ true) → (w u : World) (es : List Entry) (follows : ℕ → List Entry) (r : Option Refusal) → FailsFollowed armed w es follows u r → FailsFollowed more w es follows u r
+failed-wider armed more wider w u es follows r h = record {
+  middle = h.middle;
+  fails = fails-wider armed more wider w h.middle r es h.fails;
+  followed = follows-wider armed more wider h.middle r follows u h.followed;
+}
+
+pub ends-followed : (armed : ℕ → Bool) (w u : World) (es : List Entry) (follows : ℕ → List Entry) (r : Option Refusal) → FailsFollowed armed w es follows u r → EndsFollowed armed w es follows u r
+ends-followed armed w u es follows r h = record { middle = h.middle; ends = failed armed w h.middle r es h.fails; followed = h.followed }
