@@ -95,6 +95,24 @@ pub fn relation_state<P: Plant>(p: &P, c: &Config, v: VolumeId) -> Refusal
     }
 }
 
+/// Whether a volume stands in a revertible relationship, as target or source; it is looked at whether or not its server is
+/// on.
+pub fn is_revertible<P: Plant>(p: &P, c: &Config, v: VolumeId) -> bool
+    requires stands { StandsFor c.now (P.state p.now) }
+    requires defined { IsSome (place_of c.now v.0) }
+    ensures { (r : Rest) (events : List Event) → result ≡ entries.stands_in is_revertible (seen (P.state p.now) c.now r events).control v.0 }
+{
+    let f = peek_fields(p, c, v);
+    let all = look_at_targets(p, c, v);
+    is_revertible_by(&f, all)
+}
+
+fn is_revertible_by(f: &Fields, all: Targets) -> bool
+    ensures { result ≡ ((f.now.related && f.now.revertible) || all.revertible) }
+{
+    (f.related && f.revertible) || all.revertible
+}
+
 /// Whether a volume stands in no revertible and no reversing relationship; it is looked at whether or not its server is on.
 pub fn is_settled<P: Plant>(p: &P, c: &Config, v: VolumeId) -> bool
     requires stands { StandsFor c.now (P.state p.now) }

@@ -4,20 +4,32 @@
 
 mod checks;
 mod compare;
+mod draining;
 mod ending;
+mod following;
 mod kinds;
 mod making;
 mod moves;
 mod parts;
+mod passing;
 mod pausing;
 mod reach;
+mod receiving;
+mod sending;
+mod states;
+mod storing;
 mod suspending;
 
 pub use compare::difference;
+pub use draining::drain;
 pub use ending::remove_pair;
 pub use kinds::{CopyKind, part_of};
 pub use making::make_pair;
 pub use moves::take_over;
 pub use pausing::{pause, resume};
 pub use reach::reach_refusal;
+pub use receiving::receive_track;
+pub use sending::send_track;
+pub use states::{is_last, received, struck, suspended, voided};
+pub use storing::{store, strike};
 pub use suspending::suspend;

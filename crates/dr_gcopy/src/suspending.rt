@@ -1,7 +1,8 @@
 //! A primary is suspended.
 
-ghost use Rattle.std.specs.Prelude.{◌≡◌, ℕ, ◌≤◌, ◌+◌, true, length, [], ◌∷◌, None, Some, IsSome, OnOk, OnErr, is_err};
+ghost use Rattle.std.specs.Prelude.{◌≡◌, ℕ, ◌≤◌, ◌+◌, true, length, [], ◌∷◌, None, Some, IsSome, OnOk, OnErr, is_err, if◌then◌else◌};
 ghost use Rattle.dr_config.specs.Table.{place_of};
+ghost use Rattle.dr_model.specs.declared.event.Event.TheVariants.{Suspended};
 ghost use Rattle.dr_model.specs.Carry.{now};
 ghost use Rattle.dr_model.specs.Layout.{is_part};
 ghost use Rattle.dr_model.specs.Moves.{Suspend};
@@ -10,15 +11,30 @@ ghost use Rattle.dr_model.specs.ReadStops.{Ends};
 ghost use Rattle.dr_model.specs.Refusals.{stopped};
 ghost use Rattle.dr_volume.specs.Update.{IsMoved, OthersStay};
 ghost use Rattle.dr_volume.specs.View.{Rest, volume_seen};
+ghost use Rattle.dr_flash.specs.declared.told.Told.TheVariants.{Nothing, One};
 ghost use Rattle.dr_flash.specs.Faults.{Counted};
 ghost use Rattle.dr_flash.specs.Fit.{RelationsFit};
 ghost use Rattle.dr_flash.specs.Here.{seen, refusal_of, armed_in, IsAtRest};
 ghost use Rattle.dr_flash.specs.Turns.{Advances, Halts};
 
+use crate::states::suspended;
 use dr_config::Config;
+use dr_flash::{Telling, Told, is_suspended, shift};
 use dr_ids::{Refusal, VolumeId};
-use dr_model::Journal;
+use dr_model::{Event, Journal, PairState};
 use dr_plant::Plant;
+use dr_volume::peek_fields;
+
+/// What is told where a primary in this state is suspended: nothing where it was Suspended.
+fn told_of(a: VolumeId, state: PairState) -> Told
+    ensures { result ≡ (if pairs.is_suspended state then Nothing else One (Suspended a.0)) }
+{
+    if is_suspended(state) {
+        Told::Nothing
+    } else {
+        Told::One(Event::Suspended { volume: a.0 })
+    }
+}
 
 /// Suspends a primary whose server is on: what changed while it recorded is out of sync too, it neither records nor is held
 /// by coordination any more, and it is long busy where it is to be, or was. The journal is told where it wasn't Suspended.
@@ -30,7 +46,6 @@ pub fn suspend<P: Plant>(
     a: VolumeId,
     busy: bool,
 ) -> Result<(), Refusal>
-    requires stub { ⊥ }
     requires rest { IsAtRest (P.state p.old) c.now }
     requires fit { RelationsFit (P.state p.old) c.now }
     requires defined { IsSome (place_of c.now a.0) }
@@ -52,5 +67,8 @@ pub fn suspend<P: Plant>(
     ensures room_left { OnOk result (j.old.spare ≤ j.new.spare + 1) }
     ensures spare { length j.new.events + j.new.spare ≡ length j.old.events + j.old.spare }
 {
-    Ok(())
+    let fields = peek_fields(p, c, a);
+    let next = suspended(busy, &fields);
+    let told = Telling::of(told_of(a, fields.primary_state));
+    shift(p, c, j, a, &next, None, &told)
 }

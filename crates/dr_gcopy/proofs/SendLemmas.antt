@@ -1,0 +1,197 @@
+-- Entries of a send, one behind the other.
+use Rattle.std.proofs.Common.{ℕ, ◌≡◌, ◌≢◌, ◌<◌, ◌≤◌, ◌+◌, Bool, true, false, not, ◌&&◌, ◌||◌, cond, nat_eq, nat_lt, arith, inl, inr, refl, ap, ◌∙◌, List, [], ◌∷◌, ◌++◌, sym, subst, Option, None, Some, length, slice_get}
+use Rattle.std.specs.Prelude.{Result, Ok, Err, OnOk, OnErr, is_err, is_some, min, if◌then◌else◌}
+use Rattle.std.specs.Option.{option_or}
+use Rattle.std.proofs.lemmas.List.{append_assoc}
+use Rattle.std.proofs.lemmas.Bool.Decides.{eqb_tells}
+use Rattle.dr_ids.specs.declared.refusal.Refusal.{Refusal}
+use Rattle.dr_plant.specs.State.{PlantState}
+use Rattle.dr_config.specs.Table.{Table, StandsFor, place_of}
+use Rattle.dr_config.specs.declared.entries.VolumeEntry.{VolumeEntry}
+use Rattle.dr_model.specs.Control.{Control, World}
+use Rattle.dr_ids.specs.Paths.{Path, path_in}
+use Rattle.dr_ids.specs.declared.refusal.Refusal.TheVariants.{PairState, Stopped}
+use Rattle.dr_ids.specs.declared.refusal.Kind.TheVariants.{Path as OfPath}
+use Rattle.dr_model.specs.Refusals.{server_off, unknown}
+use Rattle.dr_model.specs.Control.{Volume}
+use Rattle.dr_model.specs.Carry.{Entry, Pass, Do, Make, End, check, now}
+use Rattle.dr_model.specs.Layout.{is_part}
+use Rattle.dr_model.specs.Moves.{Suspend}
+use Rattle.dr_model.specs.Pairs.{is_secondary_of, pair_seen}
+use Rattle.dr_model.specs.ReadStops.{Ends}
+use Rattle.dr_model.specs.Entries.{copies_from, fields_at, is_running, subsystem}
+use Rattle.dr_model.specs.PairEntries.{end_if, refuse_if, link_down, has_path, are_linked, reach_refusal, send_refusal, suspend_where, suspend_running}
+use Rattle.dr_volume.specs.View.{Rest, volume_seen, volume_at, volume_on, on_seen}
+use Rattle.dr_volume.proofs.VolumeLaws.{placed, volume-placed}
+use Rattle.dr_flash.specs.Checks.{OnNone, is_stop}
+use Rattle.dr_flash.specs.Faults.{Counted}
+use Rattle.dr_flash.proofs.CheckLemmas.{on-low}
+use Rattle.dr_gcopy.specs.Followed.{EndsSo, Follows, EndsFollowed, FailsFollowed}
+use Rattle.dr_flash.specs.Fit.{RelationsFit}
+use Rattle.dr_flash.specs.Here.{refusal_of}
+use Rattle.dr_flash.specs.Turns.{Advances, Halts, Leads, Fails}
+use Rattle.dr_flash.proofs.CopyLemmas.{led, failed}
+use Rattle.dr_flash.proofs.EndsLemmas.{ends-none, ends-skips, ends-refused, ends-alike, ends-wider}
+
+pub then-leads : (w v u : World) (es fs : List Entry) → Leads w es v → Leads v fs u → Leads w (es ++ fs) u
+then-leads w v u es fs first more armed x r ds e = subst (Ends armed x r w) (sym (append_assoc es fs ds)) (first armed x r (fs ++ ds) (more armed x r ds e))
+
+pub then-fails : (armed : ℕ → Bool) (w v u : World) (r : Option Refusal) (es fs : List Entry) → Leads w es v → Fails armed v fs u r → Fails armed w (es ++ fs) u r
+then-fails armed w v u r es fs first fails ds = subst (Ends armed u r w) (sym (append_assoc es fs ds)) (first armed u r (fs ++ ds) (fails ds))
+
+pub fails-first : (armed : ℕ → Bool) (w u : World) (r : Option Refusal) (es fs : List Entry) → Fails armed w es u r → Fails armed w (es ++ fs) u r
+fails-first armed w u r es fs fails ds = subst (Ends armed u r w) (sym (append_assoc es fs ds)) (fails (fs ++ ds))
+
+pub fails-wider : (armed more : ℕ → Bool) → ((q : ℕ) → armed q ≡ true → more q ≡ true) → (w u : World) (r : Option Refusal) (es : List Entry) → Fails armed w es u r → Fails more w es u r
+fails-wider armed more wider w u r es fails ds = ends-wider armed more wider u r w (es ++ ds) (fails ds)
+
+-- the entries end as those that led on or failed say
+pub ends-by : {T : Type 0} (res : Result T Refusal) (armed : ℕ → Bool) (w u : Rest → World) (es : List Entry)
+    → OnOk res ((r : Rest) → Leads (w r) es (u r)) → OnErr res ((r : Rest) → Fails armed (w r) es (u r) (refusal_of res)) → (r : Rest) → Ends armed (u r) (refusal_of res) (w r) es
+ends-by (Ok x) armed w u es leads fails r = led armed (w r) (u r) es (leads r)
+ends-by (Err e) armed w u es leads fails r = failed armed (w r) (u r) (Some e) es (fails r)
+
+-- where there is no refusal, the plan goes on; where there is one, it ends
+pub refuse-passes : (w : World) (why : Control → Option Refusal) → why w.control ≡ None → Advances w (refuse_if why) w
+refuse-passes w why none armed u r ds more = ends-skips armed u r w (refuse_if why) ds (ap end_if none) more
+
+pub refuse-ends : (armed : ℕ → Bool) (w : World) (why : Control → Option Refusal) (r : Refusal) → why w.control ≡ Some r → Halts armed w (refuse_if why) w (Some r)
+refuse-ends armed w why r is ds = ends-alike armed w (Some r) w (refuse_if why) (check (λ k. false) r) ds (ap end_if is) (ends-refused armed w (Some r) w (λ k. false) r ds refl refl refl)
+
+first_of : (a b : Bool) → (a && b) ≡ true → a ≡ true
+first_of true b h = refl
+first_of false b h = h
+
+-- a volume on another server is no target
+pub other-server : (s : PlantState) (t : Table) (a b : ℕ) → RelationsFit s t → (volume_seen s t a).server ≢ (volume_seen s t b).server → copies_from b (volume_seen s t a).fields ≡ false
+other-server s t a b fit apart =
+    let f = (volume_seen s t a).fields in
+    elim f.related as (λ x. f.related ≡ x → (x && nat_eq f.source b) ≡ false) [
+      | false ↦ λ is. refl
+      | true ↦ λ is. elim (eqb_tells f.source b) as (λ _. nat_eq f.source b ≡ false) [
+        | inl p ↦ absurd (apart ((fit.source a is).same_server ∙ ap (λ z. (volume_seen s t z).server) p.1))
+        | inr p ↦ p.0
+      ]
+    ] refl
+
+-- nor is it the same volume
+pub other-volume : (s : PlantState) (t : Table) (a b : ℕ) → (volume_seen s t a).server ≢ (volume_seen s t b).server → a ≢ b
+other-volume s t a b apart is = apart (ap (λ z. (volume_seen s t z).server) is)
+
+-- a volume stays on its server, and has as many tracks as ever
+pub same-server : (s u : PlantState) (c : Table) (v : ℕ) → (volume_seen s c v).server ≡ (volume_seen u c v).server
+same-server s u c v = at (place_of c v)
+  where
+    on : (d : ℕ) (o : Option VolumeEntry) → (volume_on (s.block d) o).server ≡ (volume_on (u.block d) o).server
+    on d None = refl
+    on d (Some e) = refl
+
+    at : (o : Option ℕ) → (volume_at s c o).server ≡ (volume_at u c o).server
+    at None = refl
+    at (Some d) = on d (slice_get c.volumes d)
+
+pub same-tracks : (s u : PlantState) (c : Table) (v : ℕ) → (volume_seen s c v).tracks ≡ (volume_seen u c v).tracks
+same-tracks s u c v = at (place_of c v)
+  where
+    on : (d : ℕ) (o : Option VolumeEntry) → (volume_on (s.block d) o).tracks ≡ (volume_on (u.block d) o).tracks
+    on d None = refl
+    on d (Some e) = refl
+
+    at : (o : Option ℕ) → (volume_at s c o).tracks ≡ (volume_at u c o).tracks
+    at None = refl
+    at (Some d) = on d (slice_get c.volumes d)
+
+-- a choice, where the test is known
+pub pick-true : {T : Type 0} (b : Bool) (x y : T) → b ≡ true → x ≡ (if b then x else y)
+pick-true true x y h = refl
+pick-true false x y h = absurd cc
+
+pub pick-false : {T : Type 0} (b : Bool) (x y : T) → b ≡ false → y ≡ (if b then x else y)
+pick-false false x y h = refl
+pick-false true x y h = absurd cc
+
+both-off : (a b : Bool) → b ≡ false → (a && b) ≡ false
+both-off true b h = h
+both-off false b h = refl
+
+-- what follows a stop, by what is known of the primary
+pub follows-absent : (a : ℕ) (k : Control) → is_part (fields_at k a).primary ≡ false → suspend_running a k ≡ Pass
+follows-absent a k absent = ap (λ b. cond (b && is_running a k) (Do (Make (Suspend a false))) Pass) absent
+
+pub follows-off : (a : ℕ) (k : Control) → is_running a k ≡ false → suspend_running a k ≡ Pass
+follows-off a k off = ap (λ b. cond b (Do (Make (Suspend a false))) Pass) (both-off (is_part (fields_at k a).primary) (is_running a k) off)
+
+pub follows-on : (a : ℕ) (k : Control) → is_part (fields_at k a).primary ≡ true → is_running a k ≡ true → suspend_running a k ≡ now (Suspend a false) k
+follows-on a k part on = λ i. cond (part i && on i) (Do (Make (Suspend a false))) Pass
+
+pub nothing-follows : (armed : ℕ → Bool) (w : World) (d : Entry) → d w.control ≡ Pass → EndsSo armed w (d ∷ []) w
+nothing-follows armed w d is = record { refusal = None; ends = ends-skips armed w None w d [] is (ends-none armed w None w (record { world = refl; refusal = refl })) }
+
+-- a primary that can't send is suspended first
+pub suspends : (w : World) (why : Control → Option Refusal) (a : ℕ) (r : Refusal) → why w.control ≡ Some r → suspend_where why a w.control ≡ now (Suspend a false) w.control
+suspends w why a r is = ap (λ o. cond (is_some o) (Do (Make (Suspend a false))) Pass) is
+
+pub suspends-none : (w : World) (why : Control → Option Refusal) (a : ℕ) → why w.control ≡ None → suspend_where why a w.control ≡ Pass
+suspends-none w why a is = ap (λ o. cond (is_some o) (Do (Make (Suspend a false))) Pass) is
+
+-- what says whether a can send to b, part by part
+abbrev refusal_by : ℕ → ℕ → List Path → (ℕ → Bool) → (ℕ → ℕ → Bool) → ℕ → Volume → Option Refusal
+refusal_by a b paths on link from to = option_or
+    (if not (is_some (path_in paths (subsystem a) (subsystem b))) then Some (unknown OfPath)
+    else if not (on to.server) then Some (server_off to.server)
+    else if not (link from to.server) then Some (link_down from to.server)
+    else None)
+    (if is_secondary_of a to.fields then None else Some (PairState (record { 0 = b }) (pair_seen to.fields)))
+
+pub same-refusal : (a b : ℕ) (k l : Control) → l.paths ≡ k.paths → l.on ≡ k.on → l.link ≡ k.link → (l.volume a).server ≡ (k.volume a).server → l.volume b ≡ k.volume b → send_refusal a b l ≡ send_refusal a b k
+same-refusal a b k l paths on link from to = λ i. refusal_by a b (paths i) (on i) (link i) (from i) (to i)
+
+-- where b can be reached, its server is on
+pub reached-on : (a b : ℕ) (k : Control) → reach_refusal a b k ≡ None → is_running b k ≡ true
+reached-on a b k none = by (has_path a b k) (is_running b k) (are_linked a b k) (unknown OfPath) (server_off (k.volume b).server) (link_down (k.volume a).server (k.volume b).server) none
+  where
+    by : (path on up : Bool) (x y z : Refusal) → (if not path then Some x else if not on then Some y else if not up then Some z else None) ≡ None → on ≡ true
+    by true true up x y z h = refl
+    by true false up x y z h = absurd cc
+    by false on up x y z h = absurd cc
+
+pub on-of-seen : (s : PlantState) (server : ℕ) → server < 8 → on_seen s server ≡ true → s.on server ≡ true
+on-of-seen s server low h = sym (on-low s server low) ∙ h
+
+-- a count that rose stays risen
+pub rose-then : (f x y : ℕ) → Counted true f x → Counted true x y → Counted true f y
+rose-then f x y first more = grind (arith, first, more)
+
+pub rose-on : (b : Bool) (f x y : ℕ) → Counted b x y → Counted true f x → Counted true f y
+rose-on true f x y more first = rose-then f x y first more
+rose-on false f x y more first = subst (λ n. Counted true f n) (sym more) first
+
+pub none-always : (o : Option Refusal) {P : Type 0} → P → OnNone o P
+none-always None p = p
+none-always (Some why) p = tt
+
+-- the server of a volume that is defined is one of the eight
+pub low-server : (s : PlantState) (t : Table) (v : ℕ) → StandsFor t s → is_some (place_of t v) ≡ true → (volume_seen s t v).server < 8
+low-server s t v stands defined =
+    let x = placed t v defined in
+    subst (λ n. n < 8) (sym (ap (λ (w : Volume). w.server) (volume-placed s t v x.0 x.1 x.2 x.3))) (stands.device x.0 x.1 x.3).2
+
+-- a call that fails only by stops
+pub counted-stops : (r : Result (Unit {0}) Refusal) (a b : ℕ) → Counted (is_err r) a b → OnErr r (is_stop (refusal_of r) ≡ true) → Counted (is_stop (refusal_of r)) a b
+counted-stops (Ok x) a b counted stops = counted
+counted-stops (Err e) a b counted stops = subst (λ z. Counted z a b) (sym stops) counted
+
+-- more servers may be armed
+pub follows-wider : (armed more : ℕ → Bool) → ((q : ℕ) → armed q ≡ true → more q ≡ true) → (v : World) (r : Option Refusal) (follows : ℕ → List Entry) (u : World) → Follows armed v r follows u → Follows more v r follows u
+follows-wider armed more wider v (Some (Stopped s)) follows u h = record { refusal = h.refusal; ends = ends-wider armed more wider u h.refusal v (follows s.0) h.ends }
+follows-wider armed more wider v r follows u h = h
+
+pub failed-wider : (armed more : ℕ → Bool) → ((q : ℕ) → armed q ≡ true → more q ≡ true) → (w u : World) (es : List Entry) (follows : ℕ → List Entry) (r : Option Refusal) → FailsFollowed armed w es follows u r → FailsFollowed more w es follows u r
+failed-wider armed more wider w u es follows r h = record {
+  middle = h.middle;
+  fails = fails-wider armed more wider w h.middle r es h.fails;
+  followed = follows-wider armed more wider h.middle r follows u h.followed;
+}
+
+pub ends-followed : (armed : ℕ → Bool) (w u : World) (es : List Entry) (follows : ℕ → List Entry) (r : Option Refusal) → FailsFollowed armed w es follows u r → EndsFollowed armed w es follows u r
+ends-followed armed w u es follows r h = record { middle = h.middle; ends = failed armed w h.middle r es h.fails; followed = h.followed }

@@ -1,0 +1,42 @@
+use Rattle.std.proofs.Common.{ℕ, ◌≡◌, ◌≢◌, ◌++◌, false, ap, sym, subst, ◌∙◌}
+use Rattle.std.specs.Prelude.{OnOk, OnErr}
+use Rattle.dr_plant.specs.State.{PlantState}
+use Rattle.dr_model.specs.Log.{Log}
+use Rattle.dr_model.specs.Entries.{copies_from}
+use Rattle.dr_model.specs.ReadStops.{GoesOff}
+use Rattle.dr_volume.specs.Update.{IsAsBefore}
+use Rattle.dr_volume.specs.View.{Rest, volume_seen, ids_of}
+use Rattle.dr_flash.specs.Here.{seen, armed_in, refusal_of}
+use Rattle.dr_flash.specs.Turns.{Leads, Fails}
+use Rattle.dr_flash.proofs.EndsLemmas.{ends-off}
+use Rattle.dr_flash.proofs.FitLemmas.{fit-same}
+use Rattle.dr_flash.proofs.TurnLemmas.{err-always, refused-by}
+use Rattle.dr_gcopy.specs.Sending.{pass_entries}
+use Rattle.dr_gcopy.proofs.passing.pass_on.Goals as goal
+
+pub returns-in_err-read_told-clause-fails : goal.returns-in_err-read_told-clause-fails
+returns-in_err-read_told-clause-fails g c =
+    err-always c.from_residual.result (λ r ds. ends-off (armed_in (g.P.Plant.state c.args.p.now)) (seen (g.P.Plant.state c.read_told.new.p) c.args.c.now r c.read_told.new.j.events) (refusal_of c.from_residual.result) (seen (g.P.Plant.state c.args.p.now) c.args.c.now r c.args.j.now.events) ((pass_entries (ids_of c.args.c.now.volumes) c.args.a.0 c.args.b.0 c.args.t) ++ ds)
+    (subst (λ e. GoesOff (armed_in (g.P.Plant.state c.args.p.now)) (seen (g.P.Plant.state c.read_told.new.p) c.args.c.now r c.read_told.new.j.events) e (seen (g.P.Plant.state c.args.p.now) c.args.c.now r c.args.j.now.events)) (sym (refused-by c.from_residual.result c.in_err-read_told.field-0.0 c.from_residual.ensures.0 c.from_residual.ensures.1)) (c.in_err-read_told.ensures.gone r)))
+
+pub returns-in_err-read_told-clause-fit : goal.returns-in_err-read_told-clause-fit
+returns-in_err-read_told-clause-fit g c =
+    fit-same (g.P.Plant.state c.args.p.now) (g.P.Plant.state c.read_told.new.p) c.args.c.now c.in_err-read_told.ensures.same c.requires.fit
+
+pub returns-clause-leads : goal.returns-clause-leads
+returns-clause-leads g c =
+    subst (λ (x : PlantState). OnOk c.hand_over.result ((r : Rest) → Leads (seen x c.args.c.now r c.args.j.now.events) (pass_entries (ids_of c.args.c.now.volumes) c.args.a.0 c.args.b.0 c.args.t) (seen (g.P.Plant.state c.hand_over.new.p) c.args.c.now r c.hand_over.new.j.events))) c.in_ok-read_told.ensures.passed
+    (subst (λ (l : Log). OnOk c.hand_over.result ((r : Rest) → Leads (seen (g.P.Plant.state c.read_told.new.p) c.args.c.now r l.events) (pass_entries (ids_of c.args.c.now.volumes) c.args.a.0 c.args.b.0 c.args.t) (seen (g.P.Plant.state c.hand_over.new.p) c.args.c.now r c.hand_over.new.j.events))) c.in_ok-read_told.ensures.silent c.hand_over.ensures.leads)
+
+pub returns-clause-fails : goal.returns-clause-fails
+returns-clause-fails g c =
+    subst (λ (x : PlantState). OnErr c.hand_over.result ((r : Rest) → Fails (armed_in x) (seen x c.args.c.now r c.args.j.now.events) (pass_entries (ids_of c.args.c.now.volumes) c.args.a.0 c.args.b.0 c.args.t) (seen (g.P.Plant.state c.hand_over.new.p) c.args.c.now r c.hand_over.new.j.events) (refusal_of c.hand_over.result))) c.in_ok-read_told.ensures.passed
+    (subst (λ (l : Log). OnErr c.hand_over.result ((r : Rest) → Fails (armed_in (g.P.Plant.state c.read_told.new.p)) (seen (g.P.Plant.state c.read_told.new.p) c.args.c.now r l.events) (pass_entries (ids_of c.args.c.now.volumes) c.args.a.0 c.args.b.0 c.args.t) (seen (g.P.Plant.state c.hand_over.new.p) c.args.c.now r c.hand_over.new.j.events) (refusal_of c.hand_over.result))) c.in_ok-read_told.ensures.silent c.hand_over.ensures.fails)
+
+pub returns-clause-unarmed : goal.returns-clause-unarmed
+returns-clause-unarmed g c q none =
+    c.hand_over.ensures.unarmed q (ap (λ (x : PlantState). x.read_fuse q) c.in_ok-read_told.ensures.passed ∙ none)
+
+pub returns-clause-others : goal.returns-clause-others
+returns-clause-others g c =
+    subst (λ (x : PlantState). (q : ℕ) → q ≢ c.args.a.0 → q ≢ c.args.b.0 → copies_from c.args.b.0 (volume_seen x c.args.c.now q).fields ≡ false → IsAsBefore x (g.P.Plant.state c.hand_over.new.p) c.args.c.now q) c.in_ok-read_told.ensures.passed c.hand_over.ensures.others

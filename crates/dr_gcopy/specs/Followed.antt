@@ -1,0 +1,30 @@
+-- Entries, and what follows the stop of a server in them.
+use Rattle.std.specs.Prelude.{◌≡◌, ℕ, Bool, List, Option, Some, None}
+use Rattle.dr_ids.specs.declared.refusal.Refusal.{Refusal}
+use Rattle.dr_ids.specs.declared.refusal.Refusal.TheVariants.{Stopped}
+use Rattle.dr_model.specs.Control.{World}
+use Rattle.dr_model.specs.Carry.{Entry}
+use Rattle.dr_model.specs.ReadStops.{Ends}
+use Rattle.dr_flash.specs.Turns.{Fails}
+
+-- These entries, carried out from v on, end in u, whatever they are refused for.
+pub record EndsSo (armed : ℕ → Bool) (v : World) (entries : List Entry) (u : World) : Type 0 where
+  pub refusal : Option Refusal
+  pub ends : Ends armed u refusal v entries
+
+-- What follows what ended in v with that refusal leads to u: where a server stopped, these entries; else nothing.
+abbrev pub Follows : (ℕ → Bool) → World → Option Refusal → (ℕ → List Entry) → World → Type 0
+Follows armed v (Some (Stopped s)) follows u = EndsSo armed v (follows s.0) u
+Follows armed v _ follows u = u ≡ v
+
+-- From w the entries end with refusal r, and what follows that leads to u.
+pub record EndsFollowed (armed : ℕ → Bool) (w : World) (entries : List Entry) (follows : ℕ → List Entry) (u : World) (r : Option Refusal) : Type 0 where
+  pub middle : World
+  pub ends : Ends armed middle r w entries
+  pub followed : Follows armed middle r follows u
+
+-- The same where they end all entries that come behind them, too.
+pub record FailsFollowed (armed : ℕ → Bool) (w : World) (entries : List Entry) (follows : ℕ → List Entry) (u : World) (r : Option Refusal) : Type 0 where
+  pub middle : World
+  pub fails : Fails armed w entries middle r
+  pub followed : Follows armed middle r follows u

@@ -1,0 +1,129 @@
+//! A primary sends the tracks that are out of sync.
+
+ghost use Rattle.std.specs.Prelude.{◌≡◌, ◌≢◌, ℕ, ◌≤◌, ◌+◌, true, false, length, take, None, IsSome, IfOk, OnOk, OnErr};
+ghost use Rattle.dr_config.specs.Table.{place_of};
+ghost use Rattle.dr_model.specs.Control.{World};
+ghost use Rattle.dr_model.specs.Layout.{is_part};
+ghost use Rattle.dr_model.specs.PairEntries.{sends, suspend_after, tracks_to_send};
+ghost use Rattle.dr_model.specs.Relations.{in_order};
+ghost use Rattle.dr_volume.specs.View.{Rest, volume_seen, ids_of};
+ghost use Rattle.dr_flash.specs.Checks.{is_stop};
+ghost use Rattle.dr_flash.specs.Faults.{Counted};
+ghost use Rattle.dr_flash.specs.Fit.{RelationsFit};
+ghost use Rattle.dr_flash.specs.Here.{seen, refusal_of, armed_in, IsAtRest};
+ghost use Rattle.dr_flash.specs.Turns.{Leads};
+ghost use Rattle.dr_gcopy.specs.Followed.{EndsFollowed, FailsFollowed};
+ghost use Rattle.dr_gcopy.specs.Sending.{enough};
+
+use crate::sending::send_to;
+use dr_bits::TrackSet;
+use dr_config::Config;
+use dr_flash::{lowest, tracks_of};
+use dr_ids::{Refusal, VolumeId};
+use dr_model::Journal;
+use dr_plant::Plant;
+use dr_volume::peek_fields;
+
+/// Whether as many tracks were sent as are to be.
+fn is_enough(most: Option<u32>, sent: u16) -> bool
+    ensures { result ≡ enough most sent }
+{
+    match most {
+        Some(most) => most <= u32::from(sent),
+        None => false,
+    }
+}
+
+/// Primary a, a volume of n tracks, sends these to its partner b, the lowest first, at most so many.
+fn drain_to<P: Plant>(
+    p: &mut P,
+    c: &Config,
+    j: &mut Journal,
+    a: VolumeId,
+    b: VolumeId,
+    n: u16,
+    most: Option<u32>,
+    out_of_sync: &TrackSet,
+) -> Result<u16, Refusal>
+    requires rest { IsAtRest (P.state p.old) c.now }
+    requires fit { RelationsFit (P.state p.old) c.now }
+    requires from { IsSome (place_of c.now a.0) }
+    requires to { IsSome (place_of c.now b.0) }
+    requires running { (P.state p.old).on (volume_seen (P.state p.old) c.now a.0).server ≡ true }
+    requires primary { is_part (volume_seen (P.state p.old) c.now a.0).fields.primary ≡ true }
+    requires two_servers { (volume_seen (P.state p.old) c.now a.0).server ≢ (volume_seen (P.state p.old) c.now b.0).server }
+    requires size { (volume_seen (P.state p.old) c.now b.0).tracks ≡ (volume_seen (P.state p.old) c.now a.0).tracks }
+    requires tracks { (volume_seen (P.state p.old) c.now a.0).tracks ≡ n }
+    requires room { (k : ℕ) (r : Rest) (u : World) → Leads (seen (P.state p.old) c.now r j.old.events) (sends (ids_of c.now.volumes) a.0 b.0 (take k (in_order n out_of_sync.now))) u → length u.events + (length c.now.volumes + 5) ≤ length j.old.events + j.old.spare }
+    ensures carried { (r : Rest) → EndsFollowed (armed_in (P.state p.old)) (seen (P.state p.old) c.now r j.old.events) (sends (ids_of c.now.volumes) a.0 b.0 (tracks_to_send most n out_of_sync.now)) (suspend_after a.0) (seen (P.state p.new) c.now r j.new.events) (refusal_of result) }
+    ensures leads { OnOk result ((r : Rest) → Leads (seen (P.state p.old) c.now r j.old.events) (sends (ids_of c.now.volumes) a.0 b.0 (tracks_to_send most n out_of_sync.now)) (seen (P.state p.new) c.now r j.new.events)) }
+    ensures fails { OnErr result ((r : Rest) → FailsFollowed (armed_in (P.state p.old)) (seen (P.state p.old) c.now r j.old.events) (sends (ids_of c.now.volumes) a.0 b.0 (tracks_to_send most n out_of_sync.now)) (suspend_after a.0) (seen (P.state p.new) c.now r j.new.events) (refusal_of result)) }
+    ensures count { IfOk result (λ sent. sent ≡ length (tracks_to_send most n out_of_sync.now)) }
+    ensures rest { IsAtRest (P.state p.new) c.now }
+    ensures fit { RelationsFit (P.state p.new) c.now }
+    ensures unarmed { (q : ℕ) → (P.state p.old).read_fuse q ≡ None → (P.state p.new).read_fuse q ≡ None }
+    ensures faults { Counted (is_stop (refusal_of result)) (P.state p.old).faults (P.state p.new).faults }
+    ensures on { OnOk result ((P.state p.new).on ≡ (P.state p.old).on) }
+    ensures room { 1 ≤ j.new.spare }
+    ensures spare { length j.new.events + j.new.spare ≡ length j.old.events + j.old.spare }
+{
+    let mut left = *out_of_sync;
+    for sent in 0..n {
+        if is_enough(most, sent) {
+            return Ok(sent);
+        }
+        let Some(t) = lowest(n, &left) else {
+            return Ok(sent);
+        };
+        send_to(p, c, j, a, b, t)?;
+        left.remove(t);
+    }
+    Ok(n)
+}
+
+/// Primary a, whose server is on, sends the tracks that are out of sync to its partner, which is on another server and of the same
+/// size, the lowest first, and at most so many, where a number is given. Says how many were sent. What was out of sync at the call
+/// is sent, whatever changes in between. It ends where one send is refused or fails, as `send_track` does; what was sent by then
+/// stays. Whatever the sends of any number of tracks tell, the journal needs room for them, for an event for each volume, and five
+/// more.
+pub fn drain<P: Plant>(
+    p: &mut P,
+    c: &Config,
+    j: &mut Journal,
+    a: VolumeId,
+    most: Option<u32>,
+) -> Result<u16, Refusal>
+    requires rest { IsAtRest (P.state p.old) c.now }
+    requires fit { RelationsFit (P.state p.old) c.now }
+    requires from { IsSome (place_of c.now a.0) }
+    requires to { IsSome (place_of c.now (volume_seen (P.state p.old) c.now a.0).fields.primary_partner) }
+    requires running { (P.state p.old).on (volume_seen (P.state p.old) c.now a.0).server ≡ true }
+    requires primary { is_part (volume_seen (P.state p.old) c.now a.0).fields.primary ≡ true }
+    requires two_servers { (volume_seen (P.state p.old) c.now a.0).server ≢ (volume_seen (P.state p.old) c.now (volume_seen (P.state p.old) c.now a.0).fields.primary_partner).server }
+    requires size { (volume_seen (P.state p.old) c.now (volume_seen (P.state p.old) c.now a.0).fields.primary_partner).tracks ≡ (volume_seen (P.state p.old) c.now a.0).tracks }
+    requires room { (k : ℕ) (r : Rest) (u : World) → Leads (seen (P.state p.old) c.now r j.old.events) (sends (ids_of c.now.volumes) a.0 (volume_seen (P.state p.old) c.now a.0).fields.primary_partner (take k (in_order (volume_seen (P.state p.old) c.now a.0).tracks (volume_seen (P.state p.old) c.now a.0).fields.out_of_sync))) u → length u.events + (length c.now.volumes + 5) ≤ length j.old.events + j.old.spare }
+    ensures carried { (r : Rest) → EndsFollowed (armed_in (P.state p.old)) (seen (P.state p.old) c.now r j.old.events) (sends (ids_of c.now.volumes) a.0 (volume_seen (P.state p.old) c.now a.0).fields.primary_partner (tracks_to_send most (volume_seen (P.state p.old) c.now a.0).tracks (volume_seen (P.state p.old) c.now a.0).fields.out_of_sync)) (suspend_after a.0) (seen (P.state p.new) c.now r j.new.events) (refusal_of result) }
+    ensures leads { OnOk result ((r : Rest) → Leads (seen (P.state p.old) c.now r j.old.events) (sends (ids_of c.now.volumes) a.0 (volume_seen (P.state p.old) c.now a.0).fields.primary_partner (tracks_to_send most (volume_seen (P.state p.old) c.now a.0).tracks (volume_seen (P.state p.old) c.now a.0).fields.out_of_sync)) (seen (P.state p.new) c.now r j.new.events)) }
+    ensures fails { OnErr result ((r : Rest) → FailsFollowed (armed_in (P.state p.old)) (seen (P.state p.old) c.now r j.old.events) (sends (ids_of c.now.volumes) a.0 (volume_seen (P.state p.old) c.now a.0).fields.primary_partner (tracks_to_send most (volume_seen (P.state p.old) c.now a.0).tracks (volume_seen (P.state p.old) c.now a.0).fields.out_of_sync)) (suspend_after a.0) (seen (P.state p.new) c.now r j.new.events) (refusal_of result)) }
+    ensures count { IfOk result (λ sent. sent ≡ length (tracks_to_send most (volume_seen (P.state p.old) c.now a.0).tracks (volume_seen (P.state p.old) c.now a.0).fields.out_of_sync)) }
+    ensures rest { IsAtRest (P.state p.new) c.now }
+    ensures fit { RelationsFit (P.state p.new) c.now }
+    ensures unarmed { (q : ℕ) → (P.state p.old).read_fuse q ≡ None → (P.state p.new).read_fuse q ≡ None }
+    ensures faults { Counted (is_stop (refusal_of result)) (P.state p.old).faults (P.state p.new).faults }
+    ensures on { OnOk result ((P.state p.new).on ≡ (P.state p.old).on) }
+    ensures room { 1 ≤ j.new.spare }
+    ensures spare { length j.new.events + j.new.spare ≡ length j.old.events + j.old.spare }
+{
+    let fields = peek_fields(p, c, a);
+    let n = tracks_of(c, a);
+    drain_to(
+        p,
+        c,
+        j,
+        a,
+        fields.primary_partner,
+        n,
+        most,
+        &fields.out_of_sync,
+    )
+}

@@ -1,0 +1,205 @@
+//! A primary sends a track to its secondary.
+
+ghost use Rattle.std.specs.Prelude.{◌≡◌, ◌≢◌, ℕ, ◌<◌, ◌≤◌, ◌+◌, true, false, List, length, None, Some, IsSome, OnOk, OnErr};
+ghost use Rattle.dr_config.specs.Table.{StandsFor, place_of};
+ghost use Rattle.dr_model.specs.declared.event.Event.{Event};
+ghost use Rattle.dr_model.specs.Entries.{copies_from};
+ghost use Rattle.dr_model.specs.Layout.{is_part};
+ghost use Rattle.dr_model.specs.PairEntries as pair_entries;
+ghost use Rattle.dr_model.specs.PairEntries.{send_entries, suspend_after};
+ghost use Rattle.dr_model.specs.Pairs as pairs;
+ghost use Rattle.dr_volume.specs.Update.{IsAsBefore, OthersStay};
+ghost use Rattle.dr_volume.specs.View.{Rest, volume_seen, ids_of};
+ghost use Rattle.dr_flash.specs.Checks.{OnNone, is_stop};
+ghost use Rattle.dr_flash.specs.Faults.{Counted};
+ghost use Rattle.dr_flash.specs.Fit.{RelationsFit};
+ghost use Rattle.dr_flash.specs.Here.{seen, refusal_of, armed_in, IsAtRest};
+ghost use Rattle.dr_flash.specs.Turns.{Leads, Fails};
+ghost use Rattle.dr_gcopy.specs.Followed.{EndsFollowed, FailsFollowed};
+ghost use Rattle.dr_gcopy.specs.Sending.{refuse_entries};
+
+use crate::following::follow_stop;
+use crate::passing::pass_on;
+use crate::reach::reach_refusal;
+use crate::receiving::{flashed_refusal, stranger_refusal};
+use crate::suspending::suspend;
+use dr_config::Config;
+use dr_ids::{Refusal, VolumeId};
+use dr_model::Journal;
+use dr_plant::Plant;
+use dr_volume::peek_fields;
+
+/// Why primary a can't send to b, if it can't: b can't be reached, or isn't the secondary of a.
+fn send_refusal<P: Plant>(p: &P, c: &Config, a: VolumeId, b: VolumeId) -> Option<Refusal>
+    requires stands { StandsFor c.now (P.state p.now) }
+    requires from { IsSome (place_of c.now a.0) }
+    requires to { IsSome (place_of c.now b.0) }
+    ensures refusal { (r : Rest) (events : List Event) → result ≡ pair_entries.send_refusal a.0 b.0 (seen (P.state p.now) c.now r events).control }
+    ensures calm { is_stop result ≡ false }
+    ensures reached { OnNone result ((P.state p.now).on (volume_seen (P.state p.now) c.now b.0).server ≡ true) }
+    ensures secondary { OnNone result (is_part (volume_seen (P.state p.now) c.now b.0).fields.secondary ≡ true) }
+{
+    if let Some(why) = reach_refusal(p, c, a, b) {
+        return Some(why);
+    }
+    stranger_refusal(p, c, a, b)
+}
+
+/// Suspends primary a, which can't send to b for this reason, and gives it, or the stop of a's server in the suspension.
+fn refuse<P: Plant>(
+    p: &mut P,
+    c: &Config,
+    j: &mut Journal,
+    a: VolumeId,
+    b: VolumeId,
+    why: Refusal,
+) -> Refusal
+    requires rest { IsAtRest (P.state p.old) c.now }
+    requires fit { RelationsFit (P.state p.old) c.now }
+    requires from { IsSome (place_of c.now a.0) }
+    requires running { (P.state p.old).on (volume_seen (P.state p.old) c.now a.0).server ≡ true }
+    requires primary { is_part (volume_seen (P.state p.old) c.now a.0).fields.primary ≡ true }
+    requires apart { a.0 ≢ b.0 }
+    requires why { (r : Rest) (events : List Event) → Some why ≡ pair_entries.send_refusal a.0 b.0 (seen (P.state p.old) c.now r events).control }
+    requires calm { is_stop (Some why) ≡ false }
+    requires room { 2 ≤ j.old.spare }
+    ensures fails { (r : Rest) → Fails (armed_in (P.state p.old)) (seen (P.state p.old) c.now r j.old.events) (refuse_entries a.0 b.0) (seen (P.state p.new) c.now r j.new.events) (Some result) }
+    ensures rest { IsAtRest (P.state p.new) c.now }
+    ensures fit { RelationsFit (P.state p.new) c.now }
+    ensures unarmed { (q : ℕ) → (P.state p.old).read_fuse q ≡ None → (P.state p.new).read_fuse q ≡ None }
+    ensures faults { Counted (is_stop (Some result)) (P.state p.old).faults (P.state p.new).faults }
+    ensures others { OthersStay (P.state p.old) (P.state p.new) c.now a.0 }
+    ensures room { j.old.spare ≤ j.new.spare + 2 }
+    ensures spare { length j.new.events + j.new.spare ≡ length j.old.events + j.old.spare }
+{
+    match suspend(p, c, j, a, false) {
+        Ok(()) => why,
+        Err(stop) => stop,
+    }
+}
+
+/// Primary a sends track t to b, without what follows the stop of a server.
+fn send_on<P: Plant>(
+    p: &mut P,
+    c: &Config,
+    j: &mut Journal,
+    a: VolumeId,
+    b: VolumeId,
+    t: u16,
+) -> Result<(), Refusal>
+    requires rest { IsAtRest (P.state p.old) c.now }
+    requires fit { RelationsFit (P.state p.old) c.now }
+    requires from { IsSome (place_of c.now a.0) }
+    requires to { IsSome (place_of c.now b.0) }
+    requires running { (P.state p.old).on (volume_seen (P.state p.old) c.now a.0).server ≡ true }
+    requires primary { is_part (volume_seen (P.state p.old) c.now a.0).fields.primary ≡ true }
+    requires two_servers { (volume_seen (P.state p.old) c.now a.0).server ≢ (volume_seen (P.state p.old) c.now b.0).server }
+    requires within { t < (volume_seen (P.state p.old) c.now a.0).tracks }
+    requires size { (volume_seen (P.state p.old) c.now b.0).tracks ≡ (volume_seen (P.state p.old) c.now a.0).tracks }
+    requires room { length c.now.volumes + 2 ≤ j.old.spare }
+    ensures leads { OnOk result ((r : Rest) → Leads (seen (P.state p.old) c.now r j.old.events) (send_entries (ids_of c.now.volumes) a.0 b.0 t) (seen (P.state p.new) c.now r j.new.events)) }
+    ensures fails { OnErr result ((r : Rest) → Fails (armed_in (P.state p.old)) (seen (P.state p.old) c.now r j.old.events) (send_entries (ids_of c.now.volumes) a.0 b.0 t) (seen (P.state p.new) c.now r j.new.events) (refusal_of result)) }
+    ensures struck { OnOk result ((volume_seen (P.state p.new) c.now a.0).fields ≡ pairs.struck (pairs.is_last (volume_seen (P.state p.old) c.now a.0).fields t) (volume_seen (P.state p.old) c.now a.0).fields t) }
+    ensures rest { IsAtRest (P.state p.new) c.now }
+    ensures fit { RelationsFit (P.state p.new) c.now }
+    ensures unarmed { (q : ℕ) → (P.state p.old).read_fuse q ≡ None → (P.state p.new).read_fuse q ≡ None }
+    ensures faults { Counted (is_stop (refusal_of result)) (P.state p.old).faults (P.state p.new).faults }
+    ensures others { (q : ℕ) → q ≢ a.0 → q ≢ b.0 → copies_from b.0 (volume_seen (P.state p.old) c.now q).fields ≡ false → IsAsBefore (P.state p.old) (P.state p.new) c.now q }
+    ensures on { OnOk result ((P.state p.new).on ≡ (P.state p.old).on) }
+    ensures room { j.old.spare ≤ j.new.spare + (length c.now.volumes + 2) }
+    ensures room_left { OnOk result (j.old.spare ≤ j.new.spare + (length c.now.volumes + 1)) }
+    ensures spare { length j.new.events + j.new.spare ≡ length j.old.events + j.old.spare }
+{
+    if let Some(why) = send_refusal(p, c, a, b) {
+        return Err(refuse(p, c, j, a, b, why));
+    }
+    if let Some(why) = flashed_refusal(p, c, b) {
+        return Err(why);
+    }
+    pass_on(p, c, j, a, b, t)
+}
+
+/// Primary a sends track t to its partner b.
+pub(crate) fn send_to<P: Plant>(
+    p: &mut P,
+    c: &Config,
+    j: &mut Journal,
+    a: VolumeId,
+    b: VolumeId,
+    t: u16,
+) -> Result<(), Refusal>
+    requires rest { IsAtRest (P.state p.old) c.now }
+    requires fit { RelationsFit (P.state p.old) c.now }
+    requires from { IsSome (place_of c.now a.0) }
+    requires to { IsSome (place_of c.now b.0) }
+    requires running { (P.state p.old).on (volume_seen (P.state p.old) c.now a.0).server ≡ true }
+    requires primary { is_part (volume_seen (P.state p.old) c.now a.0).fields.primary ≡ true }
+    requires two_servers { (volume_seen (P.state p.old) c.now a.0).server ≢ (volume_seen (P.state p.old) c.now b.0).server }
+    requires within { t < (volume_seen (P.state p.old) c.now a.0).tracks }
+    requires size { (volume_seen (P.state p.old) c.now b.0).tracks ≡ (volume_seen (P.state p.old) c.now a.0).tracks }
+    requires room { length c.now.volumes + 4 ≤ j.old.spare }
+    ensures carried { (r : Rest) → EndsFollowed (armed_in (P.state p.old)) (seen (P.state p.old) c.now r j.old.events) (send_entries (ids_of c.now.volumes) a.0 b.0 t) (suspend_after a.0) (seen (P.state p.new) c.now r j.new.events) (refusal_of result) }
+    ensures leads { OnOk result ((r : Rest) → Leads (seen (P.state p.old) c.now r j.old.events) (send_entries (ids_of c.now.volumes) a.0 b.0 t) (seen (P.state p.new) c.now r j.new.events)) }
+    ensures fails { OnErr result ((r : Rest) → FailsFollowed (armed_in (P.state p.old)) (seen (P.state p.old) c.now r j.old.events) (send_entries (ids_of c.now.volumes) a.0 b.0 t) (suspend_after a.0) (seen (P.state p.new) c.now r j.new.events) (refusal_of result)) }
+    ensures struck { OnOk result ((volume_seen (P.state p.new) c.now a.0).fields ≡ pairs.struck (pairs.is_last (volume_seen (P.state p.old) c.now a.0).fields t) (volume_seen (P.state p.old) c.now a.0).fields t) }
+    ensures rest { IsAtRest (P.state p.new) c.now }
+    ensures fit { RelationsFit (P.state p.new) c.now }
+    ensures unarmed { (q : ℕ) → (P.state p.old).read_fuse q ≡ None → (P.state p.new).read_fuse q ≡ None }
+    ensures faults { Counted (is_stop (refusal_of result)) (P.state p.old).faults (P.state p.new).faults }
+    ensures others { (q : ℕ) → q ≢ a.0 → q ≢ b.0 → copies_from b.0 (volume_seen (P.state p.old) c.now q).fields ≡ false → IsAsBefore (P.state p.old) (P.state p.new) c.now q }
+    ensures on { OnOk result ((P.state p.new).on ≡ (P.state p.old).on) }
+    ensures room { j.old.spare ≤ j.new.spare + (length c.now.volumes + 4) }
+    ensures room_left { OnOk result (j.old.spare ≤ j.new.spare + (length c.now.volumes + 1)) }
+    ensures spare { length j.new.events + j.new.spare ≡ length j.old.events + j.old.spare }
+{
+    match send_on(p, c, j, a, b, t) {
+        Ok(()) => Ok(()),
+        Err(why) => {
+            follow_stop(p, c, j, a, why);
+            Err(why)
+        }
+    }
+}
+
+/// Primary a, whose server is on, sends track t to its partner b, which is on another server and of the same size. Refused where
+/// there is no path from the subsystem of a to that of b, then where b's server is off, then where the link between the two
+/// servers is down, and then where b isn't the secondary of a: then a is suspended first, and a stop of its server in that is
+/// given in place of the refusal. Refused too, without a suspension, where b stands in a revertible relationship. Else the track
+/// is read, the targets of b keep theirs, b stores it, and a strikes it off; with the last track of a Metro Mirror pair both are
+/// Full Duplex. Fails where a server stops in a move or goes off at a read; what was done by then stays, and a is suspended where
+/// its own server still runs. The first stop is the one that is given. The journal needs room for an event for each volume and
+/// four more.
+pub fn send_track<P: Plant>(
+    p: &mut P,
+    c: &Config,
+    j: &mut Journal,
+    a: VolumeId,
+    t: u16,
+) -> Result<(), Refusal>
+    requires rest { IsAtRest (P.state p.old) c.now }
+    requires fit { RelationsFit (P.state p.old) c.now }
+    requires from { IsSome (place_of c.now a.0) }
+    requires to { IsSome (place_of c.now (volume_seen (P.state p.old) c.now a.0).fields.primary_partner) }
+    requires running { (P.state p.old).on (volume_seen (P.state p.old) c.now a.0).server ≡ true }
+    requires primary { is_part (volume_seen (P.state p.old) c.now a.0).fields.primary ≡ true }
+    requires two_servers { (volume_seen (P.state p.old) c.now a.0).server ≢ (volume_seen (P.state p.old) c.now (volume_seen (P.state p.old) c.now a.0).fields.primary_partner).server }
+    requires within { t < (volume_seen (P.state p.old) c.now a.0).tracks }
+    requires size { (volume_seen (P.state p.old) c.now (volume_seen (P.state p.old) c.now a.0).fields.primary_partner).tracks ≡ (volume_seen (P.state p.old) c.now a.0).tracks }
+    requires room { length c.now.volumes + 4 ≤ j.old.spare }
+    ensures carried { (r : Rest) → EndsFollowed (armed_in (P.state p.old)) (seen (P.state p.old) c.now r j.old.events) (send_entries (ids_of c.now.volumes) a.0 (volume_seen (P.state p.old) c.now a.0).fields.primary_partner t) (suspend_after a.0) (seen (P.state p.new) c.now r j.new.events) (refusal_of result) }
+    ensures leads { OnOk result ((r : Rest) → Leads (seen (P.state p.old) c.now r j.old.events) (send_entries (ids_of c.now.volumes) a.0 (volume_seen (P.state p.old) c.now a.0).fields.primary_partner t) (seen (P.state p.new) c.now r j.new.events)) }
+    ensures fails { OnErr result ((r : Rest) → FailsFollowed (armed_in (P.state p.old)) (seen (P.state p.old) c.now r j.old.events) (send_entries (ids_of c.now.volumes) a.0 (volume_seen (P.state p.old) c.now a.0).fields.primary_partner t) (suspend_after a.0) (seen (P.state p.new) c.now r j.new.events) (refusal_of result)) }
+    ensures struck { OnOk result ((volume_seen (P.state p.new) c.now a.0).fields ≡ pairs.struck (pairs.is_last (volume_seen (P.state p.old) c.now a.0).fields t) (volume_seen (P.state p.old) c.now a.0).fields t) }
+    ensures rest { IsAtRest (P.state p.new) c.now }
+    ensures fit { RelationsFit (P.state p.new) c.now }
+    ensures unarmed { (q : ℕ) → (P.state p.old).read_fuse q ≡ None → (P.state p.new).read_fuse q ≡ None }
+    ensures faults { Counted (is_stop (refusal_of result)) (P.state p.old).faults (P.state p.new).faults }
+    ensures others { (q : ℕ) → q ≢ a.0 → q ≢ (volume_seen (P.state p.old) c.now a.0).fields.primary_partner → copies_from (volume_seen (P.state p.old) c.now a.0).fields.primary_partner (volume_seen (P.state p.old) c.now q).fields ≡ false → IsAsBefore (P.state p.old) (P.state p.new) c.now q }
+    ensures on { OnOk result ((P.state p.new).on ≡ (P.state p.old).on) }
+    ensures room { j.old.spare ≤ j.new.spare + (length c.now.volumes + 4) }
+    ensures room_left { OnOk result (j.old.spare ≤ j.new.spare + (length c.now.volumes + 1)) }
+    ensures spare { length j.new.events + j.new.spare ≡ length j.old.events + j.old.spare }
+{
+    let b = peek_fields(p, c, a).primary_partner;
+    send_to(p, c, j, a, b, t)
+}
