@@ -1,9 +1,7 @@
 -- Tracks that are sent one after the other: which comes next, and when all were sent.
-use Rattle.std.proofs.Common.{ℕ, zero, suc, ◌≡◌, ◌≢◌, ◌≤◌, ◌<◌, ◌+◌, Bool, true, false, not, ◌&&◌, cond, List, [], ◌∷◌, ◌++◌, length, take, drop, filter, nat_eq, nat_le, arith, inl, inr, ◌⊎◌, refl, sym, ◌∙◌, ap, subst, Option, Some, None, slice_get}
-use Rattle.std.specs.Prelude.{MatchOption}
+use Rattle.std.proofs.Common.{ℕ, zero, suc, ◌≡◌, ◌≢◌, ◌≤◌, ◌<◌, ◌+◌, Bool, true, false, not, ◌&&◌, cond, List, [], ◌∷◌, ◌++◌, length, take, drop, filter, nat_le, arith, inl, inr, ◌⊎◌, refl, sym, ◌∙◌, ap, subst, Option, Some, None, slice_get}
 use Rattle.std.specs.List.{range_with_len}
 use Rattle.std.specs.FinSet.{contains, remove}
-use Rattle.std.proofs.Math.Numerals.{suc-eq-add-one}
 use Rattle.std.proofs.lemmas.List.{append_assoc, append-nil}
 use Rattle.std.proofs.lemmas.Bool.Decides.{eqb_tells, nat_tests}
 use Rattle.dr_bits.proofs.Laws.{contains-remove_tracks}
@@ -12,7 +10,7 @@ use Rattle.dr_model.specs.Control.{World}
 use Rattle.dr_model.specs.Carry.{Entry}
 use Rattle.dr_model.specs.ReadStops.{Ends}
 use Rattle.dr_model.specs.Layout.{Tracks}
-use Rattle.dr_model.specs.Relations.{in_order, lowest}
+use Rattle.dr_model.specs.Relations.{in_order}
 use Rattle.dr_model.specs.PairEntries.{send_entries, sends, tracks_to_send}
 use Rattle.dr_flash.specs.Turns.{Leads}
 use Rattle.dr_flash.proofs.CheckLemmas.{same-test, differ-test}

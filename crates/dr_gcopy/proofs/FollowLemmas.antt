@@ -1,12 +1,11 @@
 -- Where no read fuse is armed, entries and what follows a stop in them are what the machine says.
-use Rattle.std.proofs.Common.{ℕ, ◌≡◌, inl, inr, Bool, true, List, [], ◌∷◌, refl, sym, ◌∙◌, ap, subst, Option, Some, None}
+use Rattle.std.proofs.Common.{ℕ, ◌≡◌, inl, inr, Bool, true, List, [], ◌∷◌, sym, ◌∙◌, ap, Option, Some, None}
 use Rattle.dr_ids.specs.declared.refusal.Refusal.{Refusal}
 use Rattle.dr_ids.specs.declared.refusal.Refusal.TheVariants.{Stopped}
-use Rattle.dr_model.specs.Refusals.{stopped}
 use Rattle.dr_model.specs.Control.{World}
 use Rattle.dr_model.specs.Carry.{act, Turn, Next, Pass, Do, End, Entry, Outcome, carry, continue, go, follow}
-use Rattle.dr_model.specs.ReadStops.{GoesOff, IsEnd, EndsTurn, EndsNext, Ends}
-use Rattle.dr_gcopy.specs.Followed.{EndsSo, Follows, EndsFollowed}
+use Rattle.dr_model.specs.ReadStops.{IsEnd, EndsTurn, EndsNext, Ends}
+use Rattle.dr_gcopy.specs.Followed.{Follows, EndsFollowed}
 
 module _ (armed : ℕ → Bool) (none : (s : ℕ) → armed s ≡ true → ⊥) where
   is-end : (u : World) (r : Option Refusal) (w : World) (end : Option Refusal) → IsEnd armed u r w end → ◌≡◌ {A = Outcome} (w, end) (u, r)

@@ -1,6 +1,6 @@
 -- Entries of a send, one behind the other.
-use Rattle.std.proofs.Common.{ℕ, ◌≡◌, ◌≢◌, ◌<◌, ◌≤◌, ◌+◌, Bool, true, false, not, ◌&&◌, ◌||◌, cond, nat_eq, nat_lt, arith, inl, inr, refl, ap, ◌∙◌, List, [], ◌∷◌, ◌++◌, sym, subst, Option, None, Some, length, slice_get}
-use Rattle.std.specs.Prelude.{Result, Ok, Err, OnOk, OnErr, is_err, is_some, min, if◌then◌else◌}
+use Rattle.std.proofs.Common.{ℕ, ◌≡◌, ◌≢◌, ◌<◌, Bool, true, false, not, ◌&&◌, cond, nat_eq, arith, inl, inr, refl, ap, ◌∙◌, List, [], ◌∷◌, ◌++◌, sym, subst, Option, None, Some, slice_get}
+use Rattle.std.specs.Prelude.{Result, Ok, Err, OnOk, OnErr, is_err, is_some, if◌then◌else◌}
 use Rattle.std.specs.Option.{option_or}
 use Rattle.std.proofs.lemmas.List.{append_assoc}
 use Rattle.std.proofs.lemmas.Bool.Decides.{eqb_tells}
@@ -14,7 +14,7 @@ use Rattle.dr_ids.specs.declared.refusal.Refusal.TheVariants.{PairState, Stopped
 use Rattle.dr_ids.specs.declared.refusal.Kind.TheVariants.{Path as OfPath}
 use Rattle.dr_model.specs.Refusals.{server_off, unknown}
 use Rattle.dr_model.specs.Control.{Volume}
-use Rattle.dr_model.specs.Carry.{Entry, Pass, Do, Make, End, check, now}
+use Rattle.dr_model.specs.Carry.{Entry, Pass, Do, Make, check, now}
 use Rattle.dr_model.specs.Layout.{is_part}
 use Rattle.dr_model.specs.Moves.{Suspend}
 use Rattle.dr_model.specs.Pairs.{is_secondary_of, pair_seen}

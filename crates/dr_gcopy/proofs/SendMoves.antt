@@ -1,14 +1,14 @@
 -- What moves of pairs make of fields: they stay lawful and leave the relationships fitting; and what is told of them.
-use Rattle.std.proofs.Common.{ℕ, List, ◌≡◌, ◌≤◌, ◌+◌, ◌<◌, Bool, true, false, not, ◌&&◌, ◌||◌, [], ◌∷◌, length, refl, sym, ◌∙◌, ap, arith, Option, None, Some}
+use Rattle.std.proofs.Common.{ℕ, List, ◌≡◌, ◌≤◌, ◌+◌, Bool, true, false, ◌&&◌, ◌||◌, [], ◌∷◌, length, refl, sym, ◌∙◌, ap, arith, None, Some}
 use Rattle.std.specs.Prelude.{if◌then◌else◌, max}
-use Rattle.std.specs.FinSet.{contains, union, empty, remove}
+use Rattle.std.specs.FinSet.{contains, union}
 use Rattle.dr_bits.proofs.Laws.{contains-union_tracks, contains-remove_tracks}
 use Rattle.dr_plant.specs.State.{PlantState}
 use Rattle.dr_config.specs.Table.{Table}
 use Rattle.dr_model.specs.declared.event.Event.{Event}
 use Rattle.dr_model.specs.declared.event.Event.TheVariants.{Sent, Suspended}
 use Rattle.dr_model.specs.declared.state.PairState.{PairState}
-use Rattle.dr_model.specs.Layout.{Tracks, Fields, is_part}
+use Rattle.dr_model.specs.Layout.{Tracks, is_part}
 use Rattle.dr_model.specs.Lawful.{Low, HasSets, IsLawful}
 use Rattle.dr_model.specs.Control.{Volume}
 use Rattle.dr_model.specs.Moves.{Suspend, Store, Strike, fields_left}

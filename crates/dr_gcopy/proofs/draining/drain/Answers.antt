@@ -1,4 +1,4 @@
-use Rattle.std.proofs.Common.{ℕ, ◌≡◌, List, length, take, ap, sym, subst, ◌∙◌}
+use Rattle.std.proofs.Common.{ℕ, ◌≡◌, List, length, take, sym, subst}
 use Rattle.std.specs.Prelude.{IfOk, OnOk, OnErr}
 use Rattle.dr_model.specs.Carry.{Entry}
 use Rattle.dr_model.specs.PairEntries.{sends, suspend_after, tracks_to_send}

@@ -1,4 +1,4 @@
-use Rattle.std.proofs.Common.{ℕ, ◌≡◌, ◌≤◌, ◌+◌, List, [], ◌∷◌, length, take, drop, arith, inl, inr, refl, ap, sym, subst, ◌∙◌, Some}
+use Rattle.std.proofs.Common.{◌≡◌, [], take, drop, arith, inl, inr, refl, ap, sym, subst, ◌∙◌, Some}
 use Rattle.std.proofs.Math.Numerals.{suc-eq-add-one}
 use Rattle.dr_model.specs.Layout.{Fields, is_part}
 use Rattle.dr_model.specs.PairEntries.{send_entries, sends, suspend_after, tracks_to_send}

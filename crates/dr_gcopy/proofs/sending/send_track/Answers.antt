@@ -1,4 +1,4 @@
-use Rattle.std.proofs.Common.{ℕ, ◌≡◌, ◌≢◌, false, ap, sym, subst, ◌∙◌}
+use Rattle.std.proofs.Common.{ℕ, ◌≡◌, ◌≢◌, false, ap, subst}
 use Rattle.std.specs.Prelude.{OnOk, OnErr}
 use Rattle.dr_model.specs.Entries.{copies_from}
 use Rattle.dr_model.specs.Layout.{Fields}
