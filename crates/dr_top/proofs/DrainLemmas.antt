@@ -28,9 +28,9 @@ use Rattle.dr_model.specs.Runs.{after_plan, finish, answered, said}
 use Rattle.dr_model.proofs.CarryLemmas.{plan-ends}
 use Rattle.dr_laws.proofs.Costs.{Costs, carry-adds}
 use Rattle.dr_laws.proofs.PairCosts.{sends-costs, sent-few}
-use Rattle.dr_volume.specs.View.{volume_seen, ids_of, ReadsPass}
+use Rattle.dr_volume.specs.View.{Rest, volume_seen, ids_of, ReadsPass}
 use Rattle.dr_flash.specs.Checks.{Checked}
-use Rattle.dr_flash.specs.Here.{armed_in, IsAtRest}
+use Rattle.dr_flash.specs.Here.{seen, armed_in, IsAtRest}
 use Rattle.dr_flash.specs.Turns.{Leads}
 use Rattle.dr_flash.proofs.CheckLemmas.{refuses}
 use Rattle.dr_flash.proofs.EndsLemmas.{ends-passed, ends-none}
@@ -60,19 +60,20 @@ module _ (s : PlantState) (c : Table) (h : Writes) (ev : List Event) (a : ℕ) (
       let fits = sound.rows.parts.secondary a to (ap (λ b. if b then Some to else None) is) in
       (placed-here s c h ev to fits.defined, sym fits.same_tracks, fits.apart)
 
-  -- as many tracks as were sent tell at most this
-  pub sends-tell : Sound before → IsAtRest s c → (k : ℕ) (u : World) → Leads before (sends (ids_of c.volumes) a to (take k (in_order (volume_seen s c a).tracks own.out_of_sync))) u → length u.events ≤ length ev + 3584 + 1
-  sends-tell sound rest k u leads =
+  -- as many tracks as were sent tell at most this, whatever the rest of the world is
+  pub sends-tell : Sound before → IsAtRest s c → (k : ℕ) (r : Rest) (u : World) → Leads (seen s c r ev) (sends (ids_of c.volumes) a to (take k (in_order (volume_seen s c a).tracks own.out_of_sync))) u → length u.events ≤ length ev + 3584 + 1
+  sends-tell sound rest k r u leads =
+      let w : World = seen s c r ev in
       let n : ℕ = (volume_seen s c a).tracks in
       let ts : List ℕ = take k (in_order n own.out_of_sync) in
       let es : List Entry = sends (ids_of c.volumes) a to ts in
-      let is : carry before es ≡ (u, None) =
-      ap (carry before) (sym (append-nil es))
-      ∙ exact s u None before (es ++ []) pass (leads (armed_in s) u None [] (ends-none (armed_in s) u None u (record { world = refl; refusal = refl }))) in
+      let is : carry w es ≡ (u, None) =
+      ap (carry w) (sym (append-nil es))
+      ∙ exact s u None w (es ++ []) pass (leads (armed_in s) u None [] (ends-none (armed_in s) u None u (record { world = refl; refusal = refl }))) in
       let few : length ts ≤ n = sent-few (Some k) n own.out_of_sync in
       let small : n ≤ 256 = rest.sizes a in
-      let costs : Costs 3584 before es = sends-costs (ids_of c.volumes) to a ts 3584 (omega (arith, few, small)) before (sound.targets.few to) in
-      subst (λ (o : World × Option Refusal). length o.0.events ≤ length ev + 3584 + 1) is (carry-adds 3584 before es costs)
+      let costs : Costs 3584 w es = sends-costs (ids_of c.volumes) to a ts 3584 (omega (arith, few, small)) w (sound.targets.few to) in
+      subst (λ (o : World × Option Refusal). length o.0.events ≤ length ev + 3584 + 1) is (carry-adds 3584 w es costs)
 
   module _ (most : Option ℕ) where
     abbrev pub plan : Plan

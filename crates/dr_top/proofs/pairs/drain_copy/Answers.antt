@@ -87,7 +87,7 @@ drain-requires-clause-size g c =
 pub drain-requires-clause-room : goal.drain-requires-clause-room
 drain-requires-clause-room g c k r u leads =
     let s = g.P.Plant.state c.args.plant.now in let t = c.args.config.now in let h = c.args.host.now in let ev = c.args.journal.now.events in
-    let tell : length u.events ≤ length ev + 3584 + 1 = ? in
+    let tell : length u.events ≤ length ev + 3584 + 1 = sends-tell s t h ev c.args.a.0 c.requires.ready.reads c.requires.sound c.requires.ready.rest k r u leads in
     let few = c.requires.few in
     let room = c.requires.room in
     omega (arith, tell, few, room)
