@@ -1,8 +1,6 @@
-use dr_config::Config;
-use dr_ids::{ServerId, VolumeId};
 use dr_io::{MemSink, MemSource};
 use dr_model::{Event, Journal, image_of};
-use dr_plant::{DeviceId, ModelPlant, Plant};
+use dr_plant::ModelPlant;
 use dr_top::drsim;
 use std::alloc::{AllocError, Global};
 use std::process::Abort;
@@ -91,164 +89,6 @@ fn prints(
 
 const FIRST: &str = "@server A\n@volume 1000 A 2\n@write 1000 0 0 41\n@show 1000 0\n";
 
-/// Runs this script, and asserts what it leaves.
-fn runs(
-    rt: &impl Abort,
-    alloc: Global,
-    script: &str,
-    printed: &str,
-    status: u8,
-    events: usize,
-) -> Result<(), AllocError> {
-    expect(rt, alloc, "run", script, printed, status, events)
-}
-
-/// Runs these steps behind a server and a volume of two tracks, and asserts what they leave.
-fn goes_on(
-    rt: &impl Abort,
-    alloc: Global,
-    steps: &str,
-    printed: &str,
-    status: u8,
-    events: usize,
-) -> Result<(), AllocError> {
-    let script = format!(in alloc; "@server A\n@volume 10AB A 2\n{steps}")?;
-    let whole = format!(in alloc; "1 ok\n2 ok\n{printed}")?;
-    runs(rt, alloc, &script, &whole, status, events)
-}
-
-#[test]
-fn lines(rt: HostRuntime) -> Result<(), AllocError> {
-    let alloc = rt.alloc();
-    runs(&rt, alloc, "", "", 0, 0)?;
-    runs(&rt, alloc, FIRST, "1 ok\n2 ok\n3 ok w1\n4 ok 41\n", 0, 9)?;
-    // Line ends, comments, and lines of nothing.
-    runs(
-        &rt,
-        alloc,
-        "@server A\r\n@volume 1000 A 1\r\n",
-        "1 ok\n2 ok\n",
-        0,
-        4,
-    )?;
-    runs(
-        &rt,
-        alloc,
-        "# @server A\n\n \t \n\r\n@server A\n#",
-        "5 ok\n",
-        0,
-        2,
-    )?;
-    runs(
-        &rt,
-        alloc,
-        "@server A\n@volume 1000 A 1",
-        "1 ok\n2 ok\n",
-        0,
-        4,
-    )?;
-    runs(&rt, alloc, "@server A\r", "1 E01 syntax 9\n", 1, 1)?;
-    Ok(())
-}
-
-#[test]
-fn definitions(rt: HostRuntime) -> Result<(), AllocError> {
-    let alloc = rt.alloc();
-    // Names of 25 and 24 bytes, one that begins with a digit, and what comes before a server or a volume.
-    runs(
-        &rt,
-        alloc,
-        "@server ABCDEFGHIJKLMNOPQRSTUVWXY\n@server ABCDEFGHIJKLMNOPQRSTUVWX\n",
-        "1 E01 syntax 9\n2 ok\n",
-        1,
-        3,
-    )?;
-    runs(
-        &rt,
-        alloc,
-        "@server 1A\n@volume 1000 A 1\n@show 1000 0\n@write 1000 0 0 41\n",
-        "1 E01 syntax 9\n2 E02 unknown server\n3 E02 unknown volume\n4 E02 unknown volume\n",
-        1,
-        4,
-    )?;
-    // The least and the most tracks.
-    runs(
-        &rt,
-        alloc,
-        "@server A\n@volume 1000 A 0\n@volume 1000 A 257\n@volume 1000 A 256\n@show 1000 255\n",
-        "1 ok\n2 E04 limit tracks\n3 E04 limit tracks\n4 ok\n5 ok -\n",
-        1,
-        8,
-    )?;
-    Ok(())
-}
-
-#[test]
-fn writes(rt: HostRuntime) -> Result<(), AllocError> {
-    let alloc = rt.alloc();
-    // Later bytes replace earlier ones, in the one track alone.
-    goes_on(
-        &rt,
-        alloc,
-        "@write 10aB 1 3 4142434445\n@write 10Ab 01 5 5a5B\n@show 10AB 1\n@show 10AB 0\n",
-        "3 ok w1\n4 ok w2\n5 ok 00000041425A5B45\n6 ok -\n",
-        0,
-        14,
-    )?;
-    // Zeros at the end, and nothing but zeros.
-    goes_on(
-        &rt,
-        alloc,
-        "@write 10AB 0 0 414200\n@show 10AB 0\n@write 10AB 0 0 0000\n@show 10AB 0\n",
-        "3 ok w1\n4 ok 4142\n5 ok w2\n6 ok -\n",
-        0,
-        14,
-    )?;
-    // The last byte of a track, and one past it.
-    goes_on(
-        &rt,
-        alloc,
-        "@write 10AB 0 63 41\n@write 10AB 0 62 424344\n@write 10AB 0 64 41\n@write 10AB 0 60 4A4B4C\n",
-        "3 ok w1\n4 E01 syntax 18\n5 E01 syntax 15\n6 ok w2\n",
-        1,
-        12,
-    )?;
-    Ok(())
-}
-
-#[test]
-fn refusals(rt: HostRuntime) -> Result<(), AllocError> {
-    let alloc = rt.alloc();
-    // Tracks and volumes that aren't there.
-    goes_on(
-        &rt,
-        alloc,
-        "@write 10AB 2 0 41\n@show 10AB 2\n@write 10AC 0 0 41\n@show 10AC 0\n@show 10AB 4294967296\n",
-        "3 E02 unknown track\n4 E02 unknown track\n5 E02 unknown volume\n6 E02 unknown volume\n7 E01 syntax 12\n",
-        1,
-        9,
-    )?;
-    // A server that is there already, a command that isn't built, and gaps of any size.
-    goes_on(
-        &rt,
-        alloc,
-        "@server B\n@server A\n@volume 10AC A 1\n@image\n@show  10AB 0\n@show 10AB 0 \n @show 10AB 0\n@show\t10AB 0\n@show 10AB 0 0\n",
-        "3 ok\n4 E03 duplicate server\n5 ok\n6 E24 not built\n7 ok -\n8 ok -\n9 ok -\n10 ok -\n11 E01 syntax 14\n",
-        1,
-        19,
-    )?;
-    // Bytes that aren't pairs of digits.
-    goes_on(
-        &rt,
-        alloc,
-        "@write 10AB 0 0 4\n@write 10AB 0 0 \n@write 10AB 0 0 4G\n@show 10AB 0\n",
-        "3 E01 syntax 17\n4 E01 syntax 17\n5 E01 syntax 17\n6 ok -\n",
-        1,
-        9,
-    )?;
-    Ok(())
-}
-
 /// What the steps of a torn write come to: their answers, the status, and the events of the whole run.
 #[derive(Clone, Copy)]
 struct Outcome {
@@ -293,37 +133,31 @@ fn torn_write(
         events,
     } = wanted;
     let printed = format!(in alloc; "1 ok\n2 ok\n3 ok w1\n4 ok\n{answers}")?;
-    runs(rt, alloc, &script, &printed, status, events)
+    expect(rt, alloc, "run", &script, &printed, status, events)
 }
 
 /// Every device write of a host write is cut short with this in its block. The second write's record goes to slot 0,
 /// so that a torn gate takes it where the lowest bit of its first byte is 0.
-fn torn_writes(
+fn torn_with(
     rt: &impl Abort,
     alloc: Global,
     torn: &str,
     at_gate: Outcome,
 ) -> Result<(), AllocError> {
-    for writes in 0..6 {
-        torn_write(rt, alloc, writes, torn, LOST)?;
+    for writes in 0..10 {
+        let wanted = match writes {
+            0..=5 => LOST,
+            6 => at_gate,
+            7 => LATE,
+            _ => WHOLE,
+        };
+        torn_write(rt, alloc, writes, torn, wanted)?;
     }
-    torn_write(rt, alloc, 6, torn, at_gate)?;
-    torn_write(rt, alloc, 7, torn, LATE)?;
-    torn_write(rt, alloc, 8, torn, WHOLE)?;
-    torn_write(rt, alloc, 9, torn, WHOLE)
+    Ok(())
 }
 
 #[test]
-fn torn_by_bytes(rt: HostRuntime) -> Result<(), AllocError> {
-    let alloc = rt.alloc();
-    torn_writes(&rt, alloc, "none", LOST)?;
-    torn_writes(&rt, alloc, "00", LATE)?;
-    torn_writes(&rt, alloc, "01", LOST)?;
-    torn_writes(&rt, alloc, "FF", LOST)
-}
-
-#[test]
-fn torn_by_blocks(rt: HostRuntime) -> Result<(), AllocError> {
+fn torn_writes(rt: HostRuntime) -> Result<(), AllocError> {
     let alloc = rt.alloc();
     let mut rest = String::new(alloc);
     for _ in 0..21 {
@@ -331,112 +165,12 @@ fn torn_by_blocks(rt: HostRuntime) -> Result<(), AllocError> {
     }
     let even = format!(in alloc; "FE{rest}")?;
     let odd = format!(in alloc; "fd{rest}")?;
-    torn_writes(&rt, alloc, &even, LATE)?;
-    torn_writes(&rt, alloc, &odd, LOST)
-}
-
-#[test]
-fn stops(rt: HostRuntime) -> Result<(), AllocError> {
-    let alloc = rt.alloc();
-    // A first write, whose record goes to slot 1.
-    goes_on(
-        &rt,
-        alloc,
-        "@stop A after 6 torn 01\n@write 10AB 0 0 41\n@show 10AB 0\n@start A\n@show 10AB 0\n",
-        "3 ok\n4 E21 stopped A\n5 E05 server off A\n6 ok acked w1\n7 ok 41\n",
-        1,
-        14,
-    )?;
-    goes_on(
-        &rt,
-        alloc,
-        "@stop A after 6 torn 00\n@write 10AB 0 0 41\n@show 10AB 0\n@start A\n@show 10AB 0\n",
-        "3 ok\n4 E21 stopped A\n5 E05 server off A\n6 ok\n7 ok -\n",
-        1,
-        13,
-    )?;
-    // Twice each; a write waits where its server is off, and a later one is carried out all the same.
-    goes_on(
-        &rt,
-        alloc,
-        "@stop A\n@stop A\n@write 10AB 0 0 41\n@start A\n@start A\n@show 10AB 0\n@write 10AB 0 0 42\n",
-        "3 ok\n4 ok\n5 E05 server off A\n6 ok\n7 ok\n8 ok -\n9 ok w2\n",
-        1,
-        17,
-    )?;
-    Ok(())
-}
-
-#[test]
-fn fuses(rt: HostRuntime) -> Result<(), AllocError> {
-    let alloc = rt.alloc();
-    // A fuse counts on over steps, stops and starts; one that stands at 0 goes with a start.
-    goes_on(
-        &rt,
-        alloc,
-        "@stop A after 9 torn none\n@stop A\n@start A\n@write 10AB 0 0 41\n@write 10AB 1 0 42\n@start A\n@write 10AB 1 0 43\n",
-        "3 ok\n4 ok\n5 ok\n6 ok w1\n7 E21 stopped A\n8 ok\n9 ok w3\n",
-        1,
-        20,
-    )?;
-    // A later fuse takes the place of an earlier one, also where the server is off.
-    goes_on(
-        &rt,
-        alloc,
-        "@stop A after 0 torn none\n@stop A after 100 torn none\n@write 10AB 0 0 41\n@stop A\n@stop A after 0 torn 00\n@start A\n@write 10AB 0 0 42\n",
-        "3 ok\n4 ok\n5 ok w1\n6 ok\n7 ok\n8 ok\n9 ok w2\n",
-        0,
-        17,
-    )?;
-    Ok(())
-}
-
-#[test]
-fn stop_words(rt: HostRuntime) -> Result<(), AllocError> {
-    let alloc = rt.alloc();
-    // A server that isn't defined, and words that are no stop or start.
-    goes_on(
-        &rt,
-        alloc,
-        "@stop B\n@start B\n@stop B after 0 torn none\n@stop A after 4294967296 torn none\n@stop A after 1 torn 0\n@stop A after 1 torn 0G\n@stop A after 1 torn 0000\n@stop A after 1 torn None\n@stop A After 1 torn none\n@stop A after 1 none\n@stop  A\n@start\n@start A A\n@stop A after 4294967295 torn aB\n",
-        "3 E02 unknown server\n4 E02 unknown server\n5 E02 unknown server\n6 E01 syntax 15\n7 E01 syntax 22\n8 E01 syntax 22\n9 E01 syntax 22\n10 E01 syntax 22\n11 E01 syntax 9\n12 E01 syntax 17\n13 ok\n14 E01 syntax 7\n15 E01 syntax 10\n16 ok\n",
-        1,
-        19,
-    )?;
-    Ok(())
-}
-
-/// Several servers and volumes: what is refused in which order, ranges, links, and writes that wait.
-#[test]
-fn tables(rt: HostRuntime) -> Result<(), AllocError> {
-    let alloc = rt.alloc();
-    goes_on(
-        &rt,
-        alloc,
-        "@server B\n@volume 10AA-10AC A 1\n@volume 1000 B 0\n@volume 2000-2001 B 1\n@link A C down\n@link A A up\n@link B A down\n",
-        "3 ok\n4 ok\n4 E03 duplicate volume\n4 ok\n5 E03 duplicate lss\n6 ok\n6 ok\n7 E02 unknown server\n8 E03 duplicate server\n9 ok\n",
-        1,
-        19,
-    )?;
-    // Each server stops and starts by itself; what landed is acknowledged, and what waits is applied.
-    goes_on(
-        &rt,
-        alloc,
-        "@server B\n@volume 2000 B 1\n@issue 10AB 0 0 41\n@issue 2000 0 0 42\n@apply 3\n@stop B after 7 torn none\n@apply 2\n@apply 1\n@apply 2\n@start B\n@show 2000 0\n@show 10AB 0\n",
-        "3 ok\n4 ok\n5 ok w1\n6 ok w2\n7 E02 unknown write\n8 ok\n9 E21 stopped B\n10 ok w1\n11 E05 server off B\n12 ok acked w2\n13 ok 42\n14 ok 41\n",
-        1,
-        26,
-    )?;
-    // A start that is stopped in its second staged track, and a later one that ends.
-    goes_on(
-        &rt,
-        alloc,
-        "@volume 10AC A 1\n@write 10AB 0 0 41\n@write 10AC 0 0 42\n@stop A\n@stop A after 1 torn FF\n@start A\n@show 10AC 0\n@start A\n@show 10AC 0\n",
-        "3 ok\n4 ok w1\n5 ok w2\n6 ok\n7 ok\n8 E21 stopped A\n9 E05 server off A\n10 ok\n11 ok 42\n",
-        1,
-        23,
-    )?;
-    Ok(())
+    torn_with(&rt, alloc, "none", LOST)?;
+    torn_with(&rt, alloc, "00", LATE)?;
+    torn_with(&rt, alloc, "01", LOST)?;
+    torn_with(&rt, alloc, "FF", LOST)?;
+    torn_with(&rt, alloc, &even, LATE)?;
+    torn_with(&rt, alloc, &odd, LOST)
 }
 
 /// A source that is cut into pieces of any size gives the same output.
@@ -456,47 +190,6 @@ fn pieces(rt: HostRuntime) -> Result<(), AllocError> {
         assert_eq!(rt; left.status, 0, "in pieces of {piece}");
     }
     Ok(())
-}
-
-/// As many writes are pending as may be, on two servers, one of which stops and starts again.
-#[test]
-fn pending_writes(rt: HostRuntime) -> Result<(), AllocError> {
-    let alloc = rt.alloc();
-    let mut issues = String::new(alloc);
-    let mut issued = String::new(alloc);
-    for k in 1u32..33 {
-        issues.push_str(&format!(in alloc; "@issue 1000 0 {k} 41\n@issue 2000 0 {k} 42\n")?)?;
-        let even = 2 * k;
-        let odd = even - 1;
-        let first = even + 3;
-        let second = even + 4;
-        issued.push_str(&format!(in alloc; "{first} ok w{odd}\n{second} ok w{even}\n")?)?;
-    }
-    let script = format!(in alloc;
-        "@server A\n@server B\n@volume 1000 A 1\n@volume 2000 B 1\n{issues}@issue 1000 0 0 43\n@write 2000 0 0 43\n@stop B\n@apply 2\n@apply 1\n@issue 1000 0 0 43\n@start B\n@apply 2\n@apply 64\n@show 2000 0\n"
-    )?;
-    let mut zeros = String::new(alloc);
-    for _ in 0..30 {
-        zeros.push_str("00")?;
-    }
-    let printed = format!(in alloc;
-        "1 ok\n2 ok\n3 ok\n4 ok\n{issued}69 E04 limit pending\n70 E04 limit pending\n71 ok\n72 E05 server off B\n73 ok w1\n74 ok w65\n75 ok\n76 ok w2\n77 ok w64\n78 ok 0042{zeros}42\n"
-    )?;
-    runs(&rt, alloc, &script, &printed, 1, 153)
-}
-
-/// A write of a whole track, and one of a byte more.
-#[test]
-fn whole_track(rt: HostRuntime) -> Result<(), AllocError> {
-    let mut digits = String::new(rt.alloc());
-    for _ in 0..16 {
-        digits.push_str("4A4B4C4D")?;
-    }
-    let script = format!(in rt.alloc();
-        "@server A\n@volume 1000 A 1\n@write 1000 0 0 {digits}\n@show 1000 0\n@write 1000 0 0 {digits}41\n"
-    )?;
-    let printed = format!(in rt.alloc(); "1 ok\n2 ok\n3 ok w1\n4 ok {digits}\n5 E01 syntax 17\n")?;
-    expect(&rt, rt.alloc(), "run", &script, &printed, 1, 10)
 }
 
 #[test]
@@ -697,33 +390,4 @@ fn stops_in_a_restore(rt: HostRuntime) -> Result<(), AllocError> {
         restore_of_two(&rt, alloc, writes, "41", "42", 1)?;
     }
     Ok(())
-}
-
-#[test]
-fn relationships(rt: HostRuntime) -> Result<(), AllocError> {
-    let alloc = rt.alloc();
-    // A target keeps the bytes around those of a write, and notes it as a change; a resynchronization takes it back.
-    prints(
-        &rt,
-        alloc,
-        "@server A\n@volume 1000-1001 A 2\n@write 1000 0 0 414243\nmkflash -record 1000:1001\n@write 1001 0 1 58\n@show 1001 0\n@show 1000 0\nresyncflash 1000:1001\n@show 1001 0\n@copy 1001 1\n@copy 1001 all\n@copy 1001 all\n",
-        "1 ok\n2 ok\n2 ok\n3 ok w1\n4 ok\n5 ok w2\n6 ok 415843\n7 ok 414243\n8 ok\n9 ok 414243\n10 ok 1\n11 ok 1\n12 ok 0\n",
-        0,
-    )?;
-    // A target that isn't persistent ends with its last track; one that is withdrawn keeps what it holds, and else zeros.
-    prints(
-        &rt,
-        alloc,
-        "@server A\n@volume 1000-1002 A 2\n@write 1000 0 0 41\n@write 1000 1 0 42\nmkflash 1000:1001 1000:1002\n@copy 1001 all\n@copy 1001 all\n@copy 1002 1\nrmflash 1000:1002\n@show 1001 1\n@show 1002 0\n@show 1002 1\n",
-        "1 ok\n2 ok\n2 ok\n2 ok\n3 ok w1\n4 ok w2\n5 ok\n5 ok\n6 ok 2\n7 E11 relation state 1001 none\n8 ok 1\n9 ok\n10 ok 42\n11 ok 41\n12 ok -\n",
-        1,
-    )?;
-    // Each refusal in its order.
-    prints(
-        &rt,
-        alloc,
-        "@server A\n@server B\n@volume 1000-1003 A 2\n@volume 1100 B 2\n@volume 1004 A 3\nmkflash 1000:1000 1000:1100 1000:1004 1000:1005\nmkflash -dev B 1000:1001\nmkflash -dev C 1000:1001\nmkflash -tgtinhibit 1000:1001\nmkflash 1000:1001 1001:1002 1002:1000\n@write 1001 0 0 41\nresyncflash 1000:1001\nrmflash 1000:1002\n@copy 1003 all\n@stop A\nmkflash 1000:1003\n",
-        "1 ok\n2 ok\n3 ok\n3 ok\n3 ok\n3 ok\n4 ok\n5 ok\n6 E03 duplicate volume\n6 E04 limit server\n6 E04 limit size\n6 E02 unknown volume\n7 E02 unknown server\n8 E02 unknown server\n9 ok\n10 E11 relation state 1001 target\n10 E11 relation state 1001 target\n10 E11 relation state 1000 source\n11 E09 inhibited 1001\n12 E11 relation state 1001 target\n13 E11 relation state 1002 none\n14 E11 relation state 1003 none\n15 ok\n16 E05 server off A\n",
-        1,
-    )
 }
