@@ -1,4 +1,4 @@
-use Rattle.std.proofs.Common.{◌≡◌, ◌≢◌, ℕ, ◌-◌, List, ◌++◌, Bool, true, false, cond, Option, None, Some, Bor, MatchOption, length, take, nat_eq, ap, sym, ◌∙◌, refl, subst}
+use Rattle.std.proofs.Common.{◌≡◌, ℕ, ◌-◌, List, cond, Option, None, Some, Bor, MatchOption, length, take, nat_eq, ap, sym, ◌∙◌, refl}
 use Rattle.std.specs.List.{ends_with}
 use Rattle.std.specs.Option.{option_copied}
 use Rattle.std.specs.Str.Pattern.{FindsTextSuffix, StripsSuffix}

@@ -1,4 +1,4 @@
-use Rattle.std.specs.Prelude.{◌≡◌, ◌≢◌, ℕ, List, Bool, true, false, ◌==◌, if◌then◌else◌}
+use Rattle.std.specs.Prelude.{◌≡◌, ◌≢◌, ℕ, Bool, true, false, ◌==◌, if◌then◌else◌}
 use Rattle.scenarios.specs.declared.verdict.Verdict.{Verdict}
 use Rattle.scenarios.specs.declared.verdict.Verdict.TheVariants.{Agrees, LineDiffers, StatusDiffers}
 use Rattle.scenarios.specs.declared.verdict.Outcome.{Outcome}

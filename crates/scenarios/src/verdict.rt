@@ -6,14 +6,14 @@ ghost use Rattle.scenarios.specs.Verdict.{IsVerdict, is_agreement, code_of};
 use crate::difference::differing_line;
 
 /// What a script printed, and the status with which its run ended.
-#[derive(Debug, Drop)]
+#[derive(Drop)]
 pub struct Outcome {
     pub printed: Vec<u8>,
     pub status: u8,
 }
 
 /// What a scenario's run is worth.
-#[derive(Clone, Copy, Debug)]
+#[derive(Clone, Copy)]
 pub enum Verdict {
     /// Output and status are as stored.
     Agrees,
@@ -44,7 +44,7 @@ fn is_agreement(verdict: &Verdict) -> bool
 }
 
 /// How many scenarios agree, and how many differ.
-#[derive(Clone, Copy, Debug)]
+#[derive(Clone, Copy)]
 pub struct Tally {
     pub agree: usize,
     pub differ: usize,
