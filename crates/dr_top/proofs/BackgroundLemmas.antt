@@ -19,7 +19,7 @@ use Rattle.dr_ids.specs.declared.refusal.Kind.TheVariants.{Volume as OfVolume}
 use Rattle.dr_model.specs.Plans.{copy_plan, copy_one, is_defined, may_copy, may_give_back, at_most, left_to_copy}
 use Rattle.dr_model.specs.Control.{World}
 use Rattle.dr_model.specs.Carry.{Entry, Outcome, carry, check}
-use Rattle.dr_model.specs.Entries.{fields_at, times, give_back, is_running, relation_state, pair_state, takes_back}
+use Rattle.dr_model.specs.Entries.{fields_at, times, give_back, is_running, relation_state, pair_state}
 use Rattle.dr_model.specs.Laws.{Sound}
 use Rattle.dr_volume.specs.View.{volume_seen, volume_at, volume_on, ids_of, ReadsPass}
 use Rattle.dr_flash.specs.Here.{IsAtRest, armed_in}

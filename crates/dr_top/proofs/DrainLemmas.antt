@@ -1,5 +1,5 @@
 -- A drain as a step: what it is refused for, what it tells at most, and what follows where a server stops in it.
-use Rattle.std.proofs.Common.{ℕ, ◌≡◌, ◌≢◌, ◌≤◌, ◌+◌, ◌*◌, List, [], ◌∷◌, ◌++◌, length, take, refl, sym, ◌∙◌, ap, subst, arith, Bool, true, false, ◌&&◌, Option, Some, None}
+use Rattle.std.proofs.Common.{ℕ, ◌≡◌, ◌≢◌, ◌≤◌, ◌+◌, List, [], ◌∷◌, ◌++◌, length, take, refl, sym, ◌∙◌, ap, subst, arith, Bool, true, false, ◌&&◌, Option, Some, None}
 use Rattle.std.specs.Prelude.{is_some, if◌then◌else◌}
 use Rattle.std.proofs.lemmas.List.{append-nil}
 use Rattle.dr_ids.specs.declared.refusal.Refusal.{Refusal}
@@ -10,21 +10,20 @@ use Rattle.dr_config.specs.Table.{Table, place_of, entry_of}
 use Rattle.dr_config.specs.declared.entries.VolumeEntry.{VolumeEntry}
 use Rattle.dr_host.specs.Writes.{Writes}
 use Rattle.dr_model.specs.declared.event.Event.{Event}
-use Rattle.dr_model.specs.declared.said.Said.{Said}
 use Rattle.dr_model.specs.declared.said.Said.TheVariants.{Done, Refused}
 use Rattle.dr_model.specs.declared.said.Addition.TheVariants.{Counted}
 use Rattle.dr_model.specs.Layout.{Fields, is_part}
 use Rattle.dr_model.specs.Relations.{in_order}
-use Rattle.dr_model.specs.Pairs.{is_pending, secondary_of}
+use Rattle.dr_model.specs.Pairs.{is_pending}
 use Rattle.dr_model.specs.Control.{World}
 use Rattle.dr_model.specs.Carry.{Entry, carry, check, follow}
-use Rattle.dr_model.specs.Entries.{fields_at, is_running, pair_state}
-use Rattle.dr_model.specs.Laws.{Sound, PartnerFits}
+use Rattle.dr_model.specs.Entries.{is_running, pair_state}
+use Rattle.dr_model.specs.Laws.{Sound}
 use Rattle.dr_model.specs.PairEntries.{sends, tracks_to_send, suspend_after, is_copying}
 use Rattle.dr_model.specs.Plans.{Plan, is_defined, drain_plan}
 use Rattle.dr_model.specs.ReadStops.{Ends}
 use Rattle.dr_model.specs.Refusals.{unknown, server_off}
-use Rattle.dr_model.specs.Runs.{after_plan, finish, answered, said}
+use Rattle.dr_model.specs.Runs.{after_plan, said}
 use Rattle.dr_model.proofs.CarryLemmas.{plan-ends}
 use Rattle.dr_laws.proofs.Costs.{Costs, carry-adds}
 use Rattle.dr_laws.proofs.PairCosts.{sends-costs, sent-few}
@@ -35,8 +34,8 @@ use Rattle.dr_flash.specs.Turns.{Leads}
 use Rattle.dr_flash.proofs.CheckLemmas.{refuses}
 use Rattle.dr_flash.proofs.EndsLemmas.{ends-passed, ends-none}
 use Rattle.dr_gcopy.specs.Followed.{EndsFollowed, Follows}
-use Rattle.dr_top.specs.Here.{here, IsReady, IsTold}
-use Rattle.dr_top.proofs.LandLemmas.{exact, goes-on, told-through, ready-after}
+use Rattle.dr_top.specs.Here.{here, IsTold}
+use Rattle.dr_top.proofs.LandLemmas.{exact, told-through}
 use Rattle.dr_top.proofs.LocatedLemmas.{is_volume-here}
 use Rattle.dr_top.proofs.RelationLemmas.{placed-here}
 

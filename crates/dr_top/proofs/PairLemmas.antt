@@ -1,6 +1,6 @@
 -- The steps on pairs: the servers that a line names, and what is compared where a pair is made.
 use Rattle.std.proofs.Common.{ℕ, zero, suc, ◌≡◌, ◌<◌, ◌+◌, List, [], ◌∷◌, ◌++◌, refl, sym, ◌∙◌, ap, subst, arith, Bool, true, false, not, cond, Option, Some, None}
-use Rattle.std.specs.Prelude.{nat_eq, if◌then◌else◌}
+use Rattle.std.specs.Prelude.{if◌then◌else◌}
 use Rattle.std.specs.List.{find, range_with_len}
 use Rattle.std.specs.Str.{bytes_eq}
 use Rattle.std.proofs.lemmas.Bool.{eqb-true, not-true}
@@ -20,12 +20,12 @@ use Rattle.dr_model.specs.Control.{Control, World}
 use Rattle.dr_model.specs.Pairs.{first_state}
 use Rattle.dr_model.specs.Moves.{MakeSecondary, MakePrimary}
 use Rattle.dr_model.specs.Carry.{Entry, carry, check, now}
-use Rattle.dr_model.specs.Entries.{is_at, is_running, share_size, is_no_target, is_settled, pair_state, relation_state}
+use Rattle.dr_model.specs.Entries.{is_at, is_running, share_size, is_no_target, is_settled}
 use Rattle.dr_model.specs.Laws.{Sound}
-use Rattle.dr_model.specs.PairEntries.{make_entries, refuse_if, end_if, reach_refusal, first_differing, differs_at, two_servers, stands_free, may_follow, has_path, are_linked, link_down}
+use Rattle.dr_model.specs.PairEntries.{make_entries, refuse_if, end_if, reach_refusal, first_differing, differs_at, two_servers, stands_free, may_follow, has_path, are_linked}
 use Rattle.dr_model.specs.Plans.{found_pair, found_volumes, is_owner, is_named, server_named, name_bytes, pair_plan}
 use Rattle.dr_model.specs.ReadStops.{Ends}
-use Rattle.dr_model.specs.Refusals.{unknown, over, server_off}
+use Rattle.dr_model.specs.Refusals.{unknown, server_off}
 use Rattle.dr_model.specs.Runs.{after_plan, said}
 use Rattle.dr_model.proofs.CarryLemmas.{carry-passed, carry-refused, carry-skips, carry-first}
 use Rattle.dr_laws.proofs.Agree.{contents-image}

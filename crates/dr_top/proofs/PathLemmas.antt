@@ -1,5 +1,5 @@
 -- The steps on paths: whose the subsystems are, which primaries copy over a path, and what a line comes to.
-use Rattle.std.proofs.Common.{ℕ, ◌≡◌, ◌<◌, ◌≤◌, ◌+◌, List, [], ◌∷◌, refl, sym, ◌∙◌, ap, subst, Bool, true, false, not, ◌&&◌, cond, nat_eq, length, drop, slice_get, Option, Some, None}
+use Rattle.std.proofs.Common.{ℕ, ◌≡◌, ◌<◌, ◌≤◌, ◌+◌, List, [], refl, sym, ◌∙◌, ap, subst, Bool, true, false, not, ◌&&◌, cond, nat_eq, length, drop, slice_get, Option, Some, None}
 use Rattle.std.specs.Prelude.{is_some, option_map, unwrap_or, if◌then◌else◌}
 use Rattle.std.specs.List.{find}
 use Rattle.std.proofs.lemmas.List.{append-nil, drop_all}
@@ -27,7 +27,7 @@ use Rattle.dr_model.specs.Plans.{Plan, owner_of, on_owner, is_named, path_refusa
 use Rattle.dr_model.specs.Refusals.{unknown, over, server_off}
 use Rattle.dr_model.specs.Runs.{after_plan, said}
 use Rattle.dr_model.proofs.CarryLemmas.{plan-refuses, plan-tables}
-use Rattle.dr_volume.specs.View.{volume_seen, ids_of, on_seen}
+use Rattle.dr_volume.specs.View.{volume_seen, ids_of}
 use Rattle.dr_volume.proofs.VolumeLaws.{volume-placed}
 use Rattle.dr_flash.proofs.CopyLemmas.{ids-next}
 use Rattle.dr_flash.proofs.CheckLemmas.{on-low}

@@ -24,7 +24,7 @@ use Rattle.dr_model.specs.declared.state.Part.TheVariants.{Global}
 use Rattle.dr_model.specs.Layout.{part_of}
 use Rattle.dr_top.specs.Forms.{is_plain, is_relation}
 use Rattle.dr_model.specs.Answers.{answer}
-use Rattle.dr_model.specs.Control.{Control, World}
+use Rattle.dr_model.specs.Control.{World}
 use Rattle.dr_model.specs.Plans.{refuses, plan_of, is_built, has_room}
 use Rattle.dr_model.specs.Runs.{Task, after_plan, after_task, said}
 use Rattle.dr_model.proofs.CarryLemmas.{plan-refuses}

@@ -13,7 +13,7 @@ use Rattle.dr_model.specs.Contents.{laid, with_write}
 use Rattle.dr_model.specs.Views.{view}
 use Rattle.dr_model.specs.Pairs.{altered}
 use Rattle.dr_model.specs.Relations.{closed, fetched, rewritten}
-use Rattle.std.specs.FinSet.{contains, remove}
+use Rattle.std.specs.FinSet.{contains}
 use Rattle.dr_model.specs.Layout.{Fields}
 use Rattle.dr_model.specs.Control.{World, Volume}
 use Rattle.dr_model.specs.Moves.{Move, Land, Overwrite, Carried, marked, moved, updated}

@@ -39,7 +39,12 @@ fn is_owner(config: &Config, dev: &Option<Name>, server: ServerId) -> bool
 }
 
 /// Why a line on a relationship doesn't find its volumes: one isn't defined, or the first isn't on the server that is named.
-pub fn found_refusal(config: &Config, dev: &Option<Name>, s: VolumeId, t: VolumeId) -> Option<Refusal>
+pub fn found_refusal(
+    config: &Config,
+    dev: &Option<Name>,
+    s: VolumeId,
+    t: VolumeId,
+) -> Option<Refusal>
     requires { FitsOwner dev.now }
     ensures checked { (x : PlantState) (h : Writes) (events : List Event) → Checked (here x config.now h events) (plans.found_pair dev.now s.0 t.0) result }
     ensures calm { is_stop result ≡ false }

@@ -219,7 +219,13 @@ fn carry_pair<P: Plant>(
     ensures room { 1 ≤ journal.new.spare }
 {
     match *step {
-        Step::MakePair { devs, a, b, full, .. } => make_copy(
+        Step::MakePair {
+            devs,
+            a,
+            b,
+            full,
+            ..
+        } => make_copy(
             plant,
             config,
             host,
@@ -314,7 +320,16 @@ fn carry_out<P: Plant>(
             src,
             tgt,
             group,
-        } => make_path(plant, config, host, journal, &devs, Lss(src), Lss(tgt), group),
+        } => make_path(
+            plant,
+            config,
+            host,
+            journal,
+            &devs,
+            Lss(src),
+            Lss(tgt),
+            group,
+        ),
         Step::RemovePath {
             devs,
             src,

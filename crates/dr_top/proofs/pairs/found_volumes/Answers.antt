@@ -1,9 +1,4 @@
-use Rattle.std.proofs.Common.{sym, ap, ◌∙◌, refl, Some, None}
-use Rattle.std.specs.Prelude.{is_some}
-use Rattle.dr_model.specs.Plans.{found_pair, is_named, is_owner}
-use Rattle.dr_model.specs.Plans as plans
-use Rattle.dr_ids.specs.declared.refusal.Kind.TheVariants.{Server as OfServer}
-use Rattle.dr_model.specs.Refusals.{unknown}
+use Rattle.std.proofs.Common.{sym, ◌∙◌}
 use Rattle.dr_top.specs.Here.{here}
 use Rattle.dr_top.proofs.PairLemmas.{owner-named, found-then_named, found-then_foreign}
 use Rattle.dr_top.proofs.pairs.found_volumes.Goals as goal

@@ -1,7 +1,6 @@
 use Rattle.std.proofs.Common.{ℕ, ◌+◌, Bool, ap, sym, ◌∙◌, cond, option_map, Some}
 use Rattle.dr_ids.specs.declared.names.VolumeId.{VolumeId}
-use Rattle.dr_model.specs.Layout.{Fields}
-use Rattle.dr_top.proofs.PathLemmas.{first_from, first-next, first-none, active_by, active_in}
+use Rattle.dr_top.proofs.PathLemmas.{first_from, first-next, active_by, active_in}
 use Rattle.dr_top.proofs.paths.first_active.Goals as goal
 
 pub returns-then-is_active-clause-first : goal.returns-then-is_active-clause-first

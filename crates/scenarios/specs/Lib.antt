@@ -1,0 +1,4 @@
+pub mod Difference
+pub mod Names
+pub mod Report
+pub mod Verdict

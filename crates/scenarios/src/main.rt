@@ -1,0 +1,86 @@
+//! Runs a folder of scenarios: each script through the top call, in memory, with what it prints and how it ends compared
+//! with what is stored beside it.
+#![tactic(auto)]
+
+mod difference;
+mod folder;
+mod names;
+mod report;
+mod run;
+mod verdict;
+
+use anyhow::{Context, Result};
+use std::env;
+use std::process::ExitCode;
+use std::rt::{Env, Files};
+use verdict::{Tally, Verdict};
+
+/// The status where the words are no folder.
+const USAGE: u8 = 2;
+/// The status where a folder can't be run.
+const FAULT: u8 = 3;
+
+/// The words after the program's name.
+fn words(rt: &(impl Env + AllocGlobal)) -> Result<Vec<String>> {
+    let mut words = Vec::new(rt.alloc());
+    for word in env::args(rt)?.skip(1) {
+        words.push(word)?;
+    }
+    Ok(words)
+}
+
+/// The folder that the words name: the current one, where there are no words.
+fn folder_of(words: &[String]) -> Option<&str> {
+    match words {
+        [] => Some("."),
+        [folder] => Some(folder.as_str()),
+        _ => None,
+    }
+}
+
+/// Runs one scenario of a folder.
+fn try_scenario(rt: &(impl Files + AllocGlobal), folder: &str, name: &str) -> Result<Verdict> {
+    let wanted = folder::stored(rt, folder, name)?;
+    let script = folder::script(rt, folder, name)?;
+    let found = run::run_script(rt.alloc(), script, wanted.printed.len())?;
+    Ok(verdict::judge(&wanted, &found))
+}
+
+/// Runs the scenarios of a folder, and prints a line for each that differs.
+fn try_folder<R: Files + AllocGlobal + Print + Clone + Drop>(
+    rt: &R,
+    folder: &str,
+) -> Result<Tally> {
+    let files = folder::files(rt, folder)?;
+    let mut verdicts = Vec::new(rt.alloc());
+    for name in folder::scenarios(rt.alloc(), &files)?.iter() {
+        let verdict = try_scenario(rt, folder, name).context(format_args!("{name} wasn't run"))?;
+        if let Some(line) = report::difference(rt.alloc(), name, verdict)? {
+            rt.println(line)?;
+        }
+        verdicts.push(verdict)?;
+    }
+    Ok(Tally::of(&verdicts))
+}
+
+/// Runs the folder that the words name, and gives the status to end with.
+fn run_words(rt: &HostRuntime) -> Result<u8> {
+    let words = words(rt)?;
+    let Some(folder) = folder_of(&words) else {
+        eprintln!(rt; "usage: scenarios [FOLDER]")?;
+        return Ok(USAGE);
+    };
+    let tally = try_folder(rt, folder)?;
+    rt.println(report::counts(rt.alloc(), tally)?)?;
+    Ok(tally.code())
+}
+
+fn main(rt: HostRuntime) -> ExitCode {
+    match run_words(&rt) {
+        Ok(code) => ExitCode::from(code),
+        Err(error) => {
+            let _ = eprintln!(rt; "scenarios: {error:#}");
+            ExitCode::from(FAULT)
+        }
+    }
+}
