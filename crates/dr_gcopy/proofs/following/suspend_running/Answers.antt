@@ -1,4 +1,4 @@
-use Rattle.std.proofs.Common.{ap, sym, ◌∙◌, [], ◌∷◌, false}
+use Rattle.std.proofs.Common.{ap, sym, ◌∙◌, [], false}
 use Rattle.dr_model.specs.Carry.{now}
 use Rattle.dr_model.specs.Layout.{Fields, is_part}
 use Rattle.dr_model.specs.Moves.{Suspend}

@@ -1,7 +1,7 @@
-use Rattle.std.proofs.Common.{ℕ, ◌≡◌, ◌<◌, Bool, List, [], ◌∷◌, arith, ap, sym, subst, ◌∙◌, Some}
+use Rattle.std.proofs.Common.{◌<◌, Bool, [], ◌∷◌, arith, ap, sym, subst, ◌∙◌, Some}
 use Rattle.dr_model.specs.Carry.{now, Do, Make}
 use Rattle.dr_model.specs.Control.{Volume}
-use Rattle.dr_model.specs.Layout.{Fields, is_part}
+use Rattle.dr_model.specs.Layout.{is_part}
 use Rattle.dr_model.specs.Moves.{Store, Strike}
 use Rattle.dr_model.specs.PairEntries.{store_on, strike_on}
 use Rattle.dr_model.specs.Pairs.{is_last, struck}
@@ -11,7 +11,6 @@ use Rattle.dr_flash.specs.Turns.{Halts}
 use Rattle.dr_flash.proofs.CopyLemmas.{before-then, wider-armed}
 use Rattle.dr_flash.proofs.KeepLemmas.{alike-advances, alike-halts}
 use Rattle.dr_flash.proofs.TurnLemmas.{err-always, refused-by, ok-along, err-along}
-use Rattle.dr_gcopy.specs.Sending.{exchange_entries}
 use Rattle.dr_gcopy.proofs.SendLemmas.{fails-wider}
 use Rattle.dr_gcopy.proofs.passing.exchange.Goals as goal
 

@@ -1,4 +1,4 @@
-use Rattle.std.proofs.Common.{ℕ, ◌≡◌, ◌<◌, List, [], ◌∷◌, ◌++◌, arith, ap, sym, subst, ◌∙◌, Some}
+use Rattle.std.proofs.Common.{ℕ, ◌<◌, List, arith, ap, sym, subst, ◌∙◌, Some}
 use Rattle.dr_model.specs.Control.{Volume}
 use Rattle.dr_model.specs.Entries.{copy_first}
 use Rattle.dr_model.specs.Layout.{is_part}

@@ -1,7 +1,4 @@
-use Rattle.std.proofs.Common.{ℕ, ◌≡◌, List, [], ◌∷◌, ◌++◌, sym, Some}
-use Rattle.dr_model.specs.Carry.{now}
-use Rattle.dr_model.specs.Entries.{copy_first}
-use Rattle.dr_model.specs.Moves.{Store}
+use Rattle.std.proofs.Common.{sym, Some}
 use Rattle.dr_model.specs.PairEntries.{flashed_refusal}
 use Rattle.dr_volume.specs.View.{ids_of}
 use Rattle.dr_flash.specs.Here.{seen, armed_in, refusal_of}

@@ -4,7 +4,7 @@ use Rattle.dr_model.specs.Entries.{pair_state}
 use Rattle.dr_model.specs.PairEntries.{belongs_to}
 use Rattle.dr_model.specs.Pairs.{is_secondary_of}
 use Rattle.dr_flash.specs.Here.{seen}
-use Rattle.dr_gcopy.proofs.SendLemmas.{pick-true, pick-false}
+use Rattle.dr_gcopy.proofs.SendLemmas.{pick-false}
 use Rattle.dr_gcopy.proofs.receiving.stranger_refusal.Goals as goal
 
 pub returns-clause-refusal : goal.returns-clause-refusal

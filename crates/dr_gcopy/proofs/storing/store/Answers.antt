@@ -1,14 +1,12 @@
-use Rattle.std.proofs.Common.{ℕ, ◌≡◌, ◌≤◌, arith, List, ap, refl, sym, subst, ◌∙◌, None, Some}
+use Rattle.std.proofs.Common.{ℕ, List, ap, sym, subst, ◌∙◌, Some}
 use Rattle.dr_model.specs.Layout.{Fields}
 use Rattle.dr_model.specs.Lawful.{IsLawful}
 use Rattle.dr_model.specs.Carry.{now}
 use Rattle.dr_model.specs.Moves.{Store}
 use Rattle.dr_model.specs.Pairs.{received}
 use Rattle.dr_volume.specs.Plain.{plain}
-use Rattle.dr_volume.specs.Update.{IsMoved}
-use Rattle.dr_volume.specs.View.{Rest, volume_seen}
+use Rattle.dr_volume.specs.View.{volume_seen}
 use Rattle.dr_flash.specs.Here.{seen, armed_in, refusal_of}
-use Rattle.dr_flash.specs.Turns.{Advances, Halts}
 use Rattle.dr_flash.proofs.CheckLemmas.{act-ends}
 use Rattle.dr_flash.proofs.ReadLemmas.{on-running}
 use Rattle.dr_flash.proofs.TurnLemmas.{Tells, advances, halts, ok-along, err-along}

@@ -1,21 +1,18 @@
-use Rattle.std.proofs.Common.{ℕ, ◌≡◌, ◌≤◌, arith, List, ap, refl, sym, subst, ◌∙◌, None, Some}
+use Rattle.std.proofs.Common.{arith, ap, refl, sym, subst, ◌∙◌, None}
 use Rattle.dr_model.specs.Layout.{Fields}
 use Rattle.dr_model.specs.Lawful.{IsLawful}
 use Rattle.dr_model.specs.Carry.{now}
 use Rattle.dr_model.specs.Moves.{Suspend}
 use Rattle.dr_model.specs.Pairs.{suspended}
 use Rattle.dr_volume.specs.Plain.{plain}
-use Rattle.dr_volume.specs.Update.{IsMoved}
-use Rattle.dr_volume.specs.View.{Rest, volume_seen}
+use Rattle.dr_volume.specs.View.{volume_seen}
 use Rattle.dr_flash.specs.Here.{seen, armed_in, refusal_of}
-use Rattle.dr_flash.specs.Turns.{Advances, Halts}
 use Rattle.dr_flash.proofs.CheckLemmas.{act-ends}
 use Rattle.dr_flash.proofs.ReadLemmas.{on-running}
 use Rattle.dr_flash.proofs.TurnLemmas.{Tells, advances, halts, ok-along, err-along}
 use Rattle.dr_flash.proofs.MoveLemmas.{MoveFits}
-use Rattle.dr_gcopy.proofs.SendMoves.{suspend-fits, tells-suspend, told_suspended, suspend_telling, few-suspended, room-suspended}
+use Rattle.dr_gcopy.proofs.SendMoves.{suspend-fits, tells-suspend, told_suspended, few-suspended, room-suspended}
 use Rattle.dr_flash.specs.declared.told.Told.{Told}
-use Rattle.dr_flash.specs.declared.told.Telling.{Telling}
 use Rattle.dr_gcopy.proofs.suspending.suspend.Goals as goal
 
 pub shift-requires-clause-lawful : goal.shift-requires-clause-lawful
