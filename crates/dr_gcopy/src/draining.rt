@@ -81,11 +81,11 @@ fn drain_to<P: Plant>(
     Ok(n)
 }
 
-/// Primary a, whose server is on, sends the tracks that are out of sync to its partner, which is on another server and of the same
-/// size, the lowest first, and at most so many, where a number is given. Says how many were sent. What was out of sync at the call
-/// is sent, whatever changes in between. It ends where one send is refused or fails, as `send_track` does; what was sent by then
-/// stays. Whatever the sends of any number of tracks tell, the journal needs room for them, for an event for each volume, and five
-/// more.
+/// Primary a, whose server is on, sends the tracks that are out of sync to its partner, which is on another server and of
+/// the same size, the lowest first, and at most so many, where a number is given. Says how many were sent. What was out
+/// of sync at the call is sent, whatever changes in between. It ends where one send is refused or fails, as `send_track`
+/// does; what was sent by then stays. Whatever the sends of any number of tracks tell, the journal needs room for them,
+/// for an event for each volume, and five more.
 pub fn drain<P: Plant>(
     p: &mut P,
     c: &Config,

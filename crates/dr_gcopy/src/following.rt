@@ -19,8 +19,8 @@ use dr_model::Journal;
 use dr_plant::Plant;
 use dr_volume::peek_fields;
 
-/// Suspends a volume that is a primary and whose server is on. A stop of that server in it is told, and changes nothing of
-/// what was refused before.
+/// Suspends a volume that is a primary and whose server is on. A stop of that server in it is told, and changes nothing
+/// of what was refused before.
 fn suspend_running<P: Plant>(p: &mut P, c: &Config, j: &mut Journal, a: VolumeId)
     requires rest { IsAtRest (P.state p.old) c.now }
     requires fit { RelationsFit (P.state p.old) c.now }

@@ -1,5 +1,5 @@
-//! A track of a primary goes to its secondary: its targets keep theirs first, it stores the track, and the primary strikes it
-//! off.
+//! A track of a primary goes to its secondary: its targets keep theirs first, it stores the track, and the primary
+//! strikes it off.
 
 ghost use Rattle.std.specs.Prelude.{◌≡◌, ◌≢◌, ℕ, ◌<◌, ◌≤◌, ◌+◌, true, false, length, None, IsSome, OnOk, OnErr, is_err};
 ghost use Rattle.dr_config.specs.Table.{place_of};

@@ -68,11 +68,11 @@ pub(crate) fn flashed_refusal<P: Plant>(p: &P, c: &Config, b: VolumeId) -> Optio
     None
 }
 
-/// Secondary b, whose server is on, takes these bytes of track t of its primary a; with the last track of a Metro Mirror pair
-/// it is Full Duplex. The caller knows both volumes, which are on two servers. Refused where b isn't the secondary of a, or
-/// else where it stands in a revertible relationship. The targets of b keep the track first. Fails too where the server stops
-/// in a move or goes off at a read; what was kept by then stays. The journal needs room for an event for each volume and two
-/// more.
+/// Secondary b, whose server is on, takes these bytes of track t of its primary a; with the last track of a Metro Mirror
+/// pair it is Full Duplex. The caller knows both volumes, which are on two servers. Refused where b isn't the secondary
+/// of a, or else where it stands in a revertible relationship. The targets of b keep the track first. Fails too where the
+/// server stops in a move or goes off at a read; what was kept by then stays. The journal needs room for an event for
+/// each volume and two more.
 pub fn receive_track<P: Plant>(
     p: &mut P,
     c: &Config,

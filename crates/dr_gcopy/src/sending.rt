@@ -161,14 +161,14 @@ pub(crate) fn send_to<P: Plant>(
     }
 }
 
-/// Primary a, whose server is on, sends track t to its partner b, which is on another server and of the same size. Refused where
-/// there is no path from the subsystem of a to that of b, then where b's server is off, then where the link between the two
-/// servers is down, and then where b isn't the secondary of a: then a is suspended first, and a stop of its server in that is
-/// given in place of the refusal. Refused too, without a suspension, where b stands in a revertible relationship. Else the track
-/// is read, the targets of b keep theirs, b stores it, and a strikes it off; with the last track of a Metro Mirror pair both are
-/// Full Duplex. Fails where a server stops in a move or goes off at a read; what was done by then stays, and a is suspended where
-/// its own server still runs. The first stop is the one that is given. The journal needs room for an event for each volume and
-/// four more.
+/// Primary a, whose server is on, sends track t to its partner b, which is on another server and of the same size.
+/// Refused where there is no path from the subsystem of a to that of b, then where b's server is off, then where the link
+/// between the two servers is down, and then where b isn't the secondary of a: then a is suspended first, and a stop of
+/// its server in that is given in place of the refusal. Refused too, without a suspension, where b stands in a revertible
+/// relationship. Else the track is read, the targets of b keep theirs, b stores it, and a strikes it off; with the last
+/// track of a Metro Mirror pair both are Full Duplex. Fails where a server stops in a move or goes off at a read; what
+/// was done by then stays, and a is suspended where its own server still runs. The first stop is the one that is given.
+/// The journal needs room for an event for each volume and four more.
 pub fn send_track<P: Plant>(
     p: &mut P,
     c: &Config,

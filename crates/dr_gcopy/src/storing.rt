@@ -23,9 +23,9 @@ use dr_model::{Event, Journal};
 use dr_plant::{Block, Plant};
 use dr_volume::peek_fields;
 
-/// Stores at secondary b, whose server is on, the bytes of track t of its primary a. With the last track of a Metro Mirror
-/// pair it is Full Duplex. Fails where the server stops in the move or goes off at a read. The journal needs room for two
-/// events.
+/// Stores at secondary b, whose server is on, the bytes of track t of its primary a. With the last track of a Metro
+/// Mirror pair it is Full Duplex. Fails where the server stops in the move or goes off at a read. The journal needs room
+/// for two events.
 pub fn store<P: Plant>(
     p: &mut P,
     c: &Config,
@@ -69,9 +69,9 @@ pub fn store<P: Plant>(
     shift(p, c, j, b, &next, Some((t, track)), &told)
 }
 
-/// Primary a, whose server is on, strikes off track t, which its secondary has stored. With the last track of a Metro Mirror
-/// pair it is Full Duplex. Nothing is told. Fails where the server stops in the move or goes off at a read. The journal needs
-/// room for an event.
+/// Primary a, whose server is on, strikes off track t, which its secondary has stored. With the last track of a Metro
+/// Mirror pair it is Full Duplex. Nothing is told. Fails where the server stops in the move or goes off at a read. The
+/// journal needs room for an event.
 pub fn strike<P: Plant>(
     p: &mut P,
     c: &Config,

@@ -36,9 +36,9 @@ fn told_of(a: VolumeId, state: PairState) -> Told
     }
 }
 
-/// Suspends a primary whose server is on: what changed while it recorded is out of sync too, it neither records nor is held
-/// by coordination any more, and it is long busy where it is to be, or was. The journal is told where it wasn't Suspended.
-/// Fails where the server stops in the move or goes off at a read. The journal needs room for two events.
+/// Suspends a primary whose server is on: what changed while it recorded is out of sync too, it neither records nor is
+/// held by coordination any more, and it is long busy where it is to be, or was. The journal is told where it wasn't
+/// Suspended. Fails where the server stops in the move or goes off at a read. The journal needs room for two events.
 pub fn suspend<P: Plant>(
     p: &mut P,
     c: &Config,
