@@ -1,5 +1,5 @@
 -- A sound world agrees with a plant whose tracks contain what the world says, and what it shows is what is due.
-use Rattle.std.proofs.Common.{ℕ, ◌≡◌, ◌<◌, ◌∙◌, refl, sym, subst, ap, Bool, true, false, cond, not, ◌&&◌, List, ◌++◌, Option}
+use Rattle.std.proofs.Common.{ℕ, ◌≡◌, ◌<◌, ◌∙◌, refl, sym, subst, ap, Bool, true, false, cond, not, ◌&&◌, List, ◌++◌, Option, Some, ◌⊎◌, inl, inr}
 use Rattle.std.proofs.lemmas.List.{append-nil}
 use Rattle.std.specs.FinSet.{contains}
 use Rattle.dr_model.specs.Histories.{histories}
@@ -8,9 +8,9 @@ use Rattle.dr_model.specs.Layout.{Blocks, Fields}
 use Rattle.dr_model.specs.Control.{World, Fuse, is_volume}
 use Rattle.dr_model.specs.Views.{view}
 use Rattle.dr_model.specs.Table.{table, due}
-use Rattle.dr_model.specs.Laws.{Sound}
+use Rattle.dr_model.specs.Laws.{Sound, PairLaw, Partnered, its_primary, its_secondary}
 use Rattle.dr_model.specs.Allowed.{Runs}
-use Rattle.dr_model.specs.Fits.{Fits, SaysVolume, device_of, on_device}
+use Rattle.dr_model.specs.Fits.{Fits, SaysVolume, device_of, on_device, on_devices}
 use Rattle.dr_laws.proofs.Sets.{has_source}
 use Rattle.dr_laws.proofs.Views.{shown-due}
 use Rattle.dr_laws.proofs.RowsAfter.{idle, calm}
@@ -51,6 +51,21 @@ view-same w s contents same v t there lt = by f.related refl
         ap (λ b. cond (b && not (contains f.own t)) (contents f.source t) (contents v t)) is ∙ same v t there lt
         ∙ sym (ap (λ b. cond (b && not (contains f.own t)) (w.contents f.source t) (w.contents v t)) is)
 
+-- the pair law holds of what the devices contain
+pairs-on : (w : World) (s : Sound w) (device : ℕ → Blocks)
+    → ((v t : ℕ) → is_volume w.control v ≡ true → t < (w.control.volume v).tracks → on_device w.control device v t ≡ w.contents v t)
+    → PairLaw (on_devices w device)
+pairs-on w s device tracks v u to both t lt clear clear' =
+    let own = partnered both in
+    let other = s.rows.parts.secondary v u to in
+    tracks v t own.defined lt
+    ∙ s.rows.pairs v u to both t lt clear clear'
+    ∙ sym (tracks u t other.defined (subst (λ n. t < n) other.same_tracks lt))
+  where
+    partnered : (its_primary (table w u) ≡ Some v) ⊎ (its_secondary (table w u) ≡ Some v) → Partnered u (table w u) v (table w v)
+    partnered (inl is) = s.rows.parts.primary u v is
+    partnered (inr is) = s.rows.parts.secondary u v is
+
 pub fits-sound : (w : World) (on : ℕ → Bool) (fuse : ℕ → Option Fuse) (device : ℕ → Blocks) → Sound w
     → ((s : ℕ) → s < 8 → on s ≡ w.control.on s)
     → ((s : ℕ) → s < 8 → fuse s ≡ w.control.fuse s)
@@ -62,4 +77,5 @@ fits-sound w on fuse device s servers fuses volumes tracks = record {
   fuses = fuses;
   volumes = volumes;
   tracks = λ v t there inside. view-same w s (on_device w.control device) tracks v t there inside ∙ view-due w s v t inside;
+  pairs = pairs-on w s device tracks;
 }

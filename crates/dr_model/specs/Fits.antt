@@ -5,7 +5,8 @@ use Rattle.std.specs.Option.{unwrap_or}
 use Rattle.dr_model.specs.Layout.{Blocks, slot_chosen, fields, staged, physical}
 use Rattle.dr_model.specs.Control.{Control, World, Volume, Fuse, is_volume}
 use Rattle.dr_model.specs.Views.{view}
-use Rattle.dr_model.specs.Table.{due}
+use Rattle.dr_model.specs.Table.{Table, table, due}
+use Rattle.dr_model.specs.Laws.{PairLaw}
 
 -- the number of a volume's device: volumes lie on devices in order of definition
 abbrev pub device_of : Control → ℕ → ℕ
@@ -21,11 +22,17 @@ pub record SaysVolume (blocks : Blocks) (v : Volume) : Type 0 where
 abbrev pub on_device : Control → (ℕ → Blocks) → ℕ → ℕ → List ℕ
 on_device k device v t = physical (k.volume v).tracks (device (device_of k v)) t
 
--- Servers are on, and fuses armed, as the control state says; each volume's device says what is known of it; and
--- each track reads as the host writes of the journal say.
+-- each volume as it is known, with what its tracks contain on the devices
+abbrev pub on_devices : World → (ℕ → Blocks) → Table
+on_devices w device v = record (table w v) { bytes = on_device w.control device v }
+
+-- Servers are on, and fuses armed, as the control state says; each volume's device says what is known of it; each
+-- track reads as the host writes of the journal say; and outside the tracks that a primary records, the devices of a
+-- pair contain the same.
 pub record Fits (w : World) (on : ℕ → Bool) (fuse : ℕ → Option Fuse) (device : ℕ → Blocks) : Type 0 where
   pub servers : (s : ℕ) → s < 8 → on s ≡ w.control.on s
   pub fuses : (s : ℕ) → s < 8 → fuse s ≡ w.control.fuse s
   pub volumes : (v : ℕ) → is_volume w.control v ≡ true → SaysVolume (device (device_of w.control v)) (w.control.volume v)
   pub tracks : (v t : ℕ) → is_volume w.control v ≡ true → t < (w.control.volume v).tracks
       → view (λ u. (w.control.volume u).fields) (on_device w.control device) v t ≡ due w v t
+  pub pairs : PairLaw (on_devices w device)
