@@ -22,7 +22,8 @@ pub use acts::shift;
 pub use ending::withdraw;
 pub use fetching::{copy_step, read_target};
 pub use fields::{
-    altered, closed, fetched, given_up, made, noted, restored, resynced, rewritten, turned, withdrawn,
+    altered, closed, fetched, given_up, made, noted, restored, resynced, rewritten, turned,
+    withdrawn,
 };
 pub use keep::keep_on;
 pub use keeping::copy_first;

@@ -19,7 +19,9 @@ ghost use Rattle.dr_incr.specs.Steps.{HasFitSets, IsRestoredOnto};
 
 use dr_bits::TrackSet;
 use dr_config::Config;
-use dr_flash::{Telling, Told, altered, given_up, read_told, restored, resynced, shift, tracks_of, turned};
+use dr_flash::{
+    Telling, Told, altered, given_up, read_told, restored, resynced, shift, tracks_of, turned,
+};
 use dr_ids::{Refusal, VolumeId};
 use dr_model::{Event, Journal};
 use dr_plant::{Block, Plant};

@@ -1,9 +1,8 @@
 -- Entries of plans: what the targets of a FlashCopy source keep before it changes, how a host write is carried out, and
 -- how tracks are copied in the background.
-use Rattle.std.specs.Prelude.{ℕ, zero, suc, ◌/◌, Bool, true, false, ◌&&◌, ◌||◌, not, List, [], ◌∷◌, ◌++◌, map, length, filter, Option, Some, None, nat_eq, if◌then◌else◌}
+use Rattle.std.specs.Prelude.{ℕ, zero, suc, ◌/◌, Bool, true, false, ◌&&◌, ◌||◌, not, List, [], ◌∷◌, ◌++◌, map, filter, Option, Some, None, nat_eq, if◌then◌else◌}
 use Rattle.std.specs.List.{list_any, find}
 use Rattle.std.specs.FinSet.{contains}
-use Rattle.dr_ids.specs.declared.names.VolumeId.{VolumeId}
 use Rattle.dr_ids.specs.declared.refusal.RelSeen.{RelSeen}
 use Rattle.dr_ids.specs.declared.refusal.RelSeen.TheVariants.{Revertible, Reversing, Target, Source, None as Unrelated}
 use Rattle.dr_ids.specs.declared.refusal.Refusal.{Refusal}

@@ -1,5 +1,5 @@
 -- Entries of plans on pairs: making and ending them, pausing and resuming, and sending tracks.
-use Rattle.std.specs.Prelude.{ℕ, Bool, true, false, ◌&&◌, ◌||◌, not, List, [], ◌∷◌, ◌++◌, take, Option, Some, None, is_some, option_map, nat_eq, if◌then◌else◌}
+use Rattle.std.specs.Prelude.{ℕ, Bool, false, ◌&&◌, ◌||◌, not, List, [], ◌∷◌, ◌++◌, take, Option, Some, None, is_some, option_map, nat_eq, if◌then◌else◌}
 use Rattle.std.specs.List.{find, range_with_len}
 use Rattle.std.specs.Option.{option_or}
 use Rattle.std.specs.Str.{bytes_eq}
@@ -11,7 +11,7 @@ use Rattle.dr_ids.specs.declared.refusal.Which.TheVariants.{Size, Server as OneS
 use Rattle.dr_model.specs.Refusals.{server_off, unknown, over}
 use Rattle.dr_model.specs.declared.state.Part.{Part}
 use Rattle.dr_model.specs.declared.state.PairState.TheVariants.{Suspended}
-use Rattle.dr_model.specs.Layout.{Tracks, Fields, is_part}
+use Rattle.dr_model.specs.Layout.{Tracks, is_part}
 use Rattle.dr_model.specs.Control.{Control}
 use Rattle.dr_model.specs.Relations.{in_order}
 use Rattle.dr_model.specs.Pairs.{is_primary_of, is_secondary_of, is_unpaired, is_kind, is_pending, is_suspended, first_state, next_state, is_last}

@@ -1,13 +1,13 @@
 -- Pairs: what the fields of a primary and of a secondary become, and what they say.
-use Rattle.std.specs.Prelude.{ℕ, Bool, true, false, not, ◌&&◌, ◌||◌, List, Option, Some, None, nat_eq, if◌then◌else◌}
-use Rattle.std.specs.FinSet.{union, contains, insert, remove, empty}
+use Rattle.std.specs.Prelude.{ℕ, Bool, true, false, not, ◌&&◌, ◌||◌, Option, Some, None, nat_eq, if◌then◌else◌}
+use Rattle.std.specs.FinSet.{union, insert, remove, empty}
 use Rattle.dr_ids.specs.declared.refusal.PairSeen.{PairSeen}
 use Rattle.dr_ids.specs.declared.refusal.PairSeen.TheVariants as seen
 use Rattle.dr_model.specs.declared.state.Part.{Part}
 use Rattle.dr_model.specs.declared.state.Part.TheVariants.{Absent, Metro, Global}
 use Rattle.dr_model.specs.declared.state.PairState.{PairState}
 use Rattle.dr_model.specs.declared.state.PairState.TheVariants.{CopyPending, FullDuplex, Suspended}
-use Rattle.dr_model.specs.Layout.{Tracks, Fields, is_part}
+use Rattle.dr_model.specs.Layout.{Fields, is_part}
 use Rattle.dr_model.specs.Relations.{all_tracks, is_bare}
 
 -- the secondary of a primary, and the primary of a secondary

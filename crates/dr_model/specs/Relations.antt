@@ -1,5 +1,5 @@
 -- FlashCopy relationships: what the fields of a target become.
-use Rattle.std.specs.Prelude.{ℕ, Bool, true, false, not, ◌&&◌, ◌||◌, List, filter, Option, Some, None, slice_get, unwrap_or, nat_eq, if◌then◌else◌}
+use Rattle.std.specs.Prelude.{ℕ, Bool, true, false, not, ◌&&◌, ◌||◌, List, filter, Option, slice_get, unwrap_or, nat_eq, if◌then◌else◌}
 use Rattle.std.specs.List.{range_with_len}
 use Rattle.std.specs.FinSet.{union, contains, insert, remove, difference, empty, from_list, is_subset, len}
 use Rattle.dr_model.specs.Layout.{Tracks, Fields}
