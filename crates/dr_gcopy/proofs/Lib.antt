@@ -6,5 +6,4 @@ pub mod FirstLemmas
 pub mod DifferenceLemmas
 pub mod SendMoves
 pub mod SendLemmas
-pub mod FollowLemmas
 pub mod DrainLemmas

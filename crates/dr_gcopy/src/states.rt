@@ -51,7 +51,7 @@ fn still_recorded(f: &Fields) -> TrackSet
 
 /// A primary after a void: what changed while it recorded is out of sync too, and it neither records nor is held by
 /// coordination.
-pub fn voided(f: &Fields) -> Fields
+pub(crate) fn voided(f: &Fields) -> Fields
     ensures { plain result ≡ pairs.voided (plain f.now) }
 {
     Fields {
@@ -64,7 +64,7 @@ pub fn voided(f: &Fields) -> Fields
 }
 
 /// A primary that is Suspended, after a void; it is long busy where it is to be, or was.
-pub fn suspended(busy: bool, f: &Fields) -> Fields
+pub(crate) fn suspended(busy: bool, f: &Fields) -> Fields
     ensures { plain result ≡ pairs.suspended busy (plain f.now) }
 {
     Fields {
@@ -82,7 +82,7 @@ fn state_after(last: bool, state: PairState) -> PairState
 }
 
 /// A secondary that has stored track t, maybe the last one.
-pub fn received(last: bool, f: &Fields, t: u16) -> Fields
+pub(crate) fn received(last: bool, f: &Fields, t: u16) -> Fields
     ensures { plain result ≡ pairs.received last (plain f.now) t }
 {
     let mut next = *f;
@@ -93,7 +93,7 @@ pub fn received(last: bool, f: &Fields, t: u16) -> Fields
 }
 
 /// A primary whose track t is out of sync no more, maybe the last one.
-pub fn struck(last: bool, f: &Fields, t: u16) -> Fields
+pub(crate) fn struck(last: bool, f: &Fields, t: u16) -> Fields
     ensures { plain result ≡ pairs.struck last (plain f.now) t }
 {
     let mut next = *f;
@@ -103,7 +103,7 @@ pub fn struck(last: bool, f: &Fields, t: u16) -> Fields
 }
 
 /// Whether t is the last track of a Metro Mirror pair that is out of sync.
-pub fn is_last(f: &Fields, t: u16) -> bool
+pub(crate) fn is_last(f: &Fields, t: u16) -> bool
     ensures { result ≡ pairs.is_last (plain f.now) t }
 {
     let mut left = f.out_of_sync;
