@@ -1,9 +1,8 @@
 //! Reads a folder of scenarios. The scenario NAME has its script in NAME.dscli, what it should print in NAME.out and,
 //! where it isn't 0, the status with which its run should end in NAME.status.
 
-use crate::names::{OUTPUT, SCRIPT, STATUS, is_stray, script_names, status_of};
-use crate::verdict::Outcome;
 use anyhow::{Context, Result, bail};
+use dr_verdict::{OUTPUT, Outcome, SCRIPT, STATUS, is_stray, script_names, status_of};
 use std::alloc::{AllocError, Global};
 use std::fs;
 use std::io::ErrorKind;

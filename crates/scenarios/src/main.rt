@@ -2,18 +2,14 @@
 //! with what is stored beside it.
 #![tactic(auto)]
 
-mod difference;
 mod folder;
-mod names;
-mod report;
 mod run;
-mod verdict;
 
 use anyhow::{Context, Result};
+use dr_verdict::{Tally, Verdict, counts, difference, judge};
 use std::env;
 use std::process::ExitCode;
 use std::rt::{Env, Files};
-use verdict::{Tally, Verdict};
 
 /// The status where the words are no folder.
 const USAGE: u8 = 2;
@@ -43,7 +39,7 @@ fn try_scenario(rt: &(impl Files + AllocGlobal), folder: &str, name: &str) -> Re
     let wanted = folder::stored(rt, folder, name)?;
     let script = folder::script(rt, folder, name)?;
     let found = run::run_script(rt.alloc(), script, wanted.printed.len())?;
-    Ok(verdict::judge(&wanted, &found))
+    Ok(judge(&wanted, &found))
 }
 
 /// Runs the scenarios of a folder, and prints a line for each that differs.
@@ -55,7 +51,7 @@ fn try_folder<R: Files + AllocGlobal + Print + Clone + Drop>(
     let mut verdicts = Vec::new(rt.alloc());
     for name in folder::scenarios(rt.alloc(), &files)?.iter() {
         let verdict = try_scenario(rt, folder, name).context(format_args!("{name} wasn't run"))?;
-        if let Some(line) = report::difference(rt.alloc(), name, verdict)? {
+        if let Some(line) = difference(rt.alloc(), name, verdict)? {
             rt.println(line)?;
         }
         verdicts.push(verdict)?;
@@ -71,7 +67,7 @@ fn run_words(rt: &HostRuntime) -> Result<u8> {
         return Ok(USAGE);
     };
     let tally = try_folder(rt, folder)?;
-    rt.println(report::counts(rt.alloc(), tally)?)?;
+    rt.println(counts(rt.alloc(), tally)?)?;
     Ok(tally.code())
 }
 

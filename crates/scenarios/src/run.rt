@@ -1,10 +1,10 @@
 //! Runs a script in memory.
 
-use crate::verdict::Outcome;
 use dr_io::{MemSink, MemSource};
 use dr_model::Journal;
 use dr_plant::ModelPlant;
 use dr_top::{Status, drsim};
+use dr_verdict::Outcome;
 use std::alloc::{AllocError, Global};
 
 /// How many bytes of a script the source gives at a time.

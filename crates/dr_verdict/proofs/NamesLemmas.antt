@@ -5,7 +5,7 @@ use Rattle.std.specs.Str.Pattern.{FindsTextSuffix, StripsSuffix}
 use Rattle.std.proofs.lemmas.Bool.{false_from_ne_true}
 use Rattle.std.proofs.lemmas.Bool.Decides.{Decides-eqb}
 use Rattle.std.proofs.lemmas.Slice.Eq.{ends_is}
-use Rattle.scenarios.specs.Names.{name_before}
+use Rattle.dr_verdict.specs.Names.{name_before}
 
 -- what `strip_suffix` gives at a text is the name before it
 pub name_before-stripped : (file ending : List ℕ) (r : Option (Bor (List ℕ))) → MatchOption r (FindsTextSuffix ending file None) (λ x. StripsSuffix (FindsTextSuffix ending) file x.now) → option_copied r ≡ name_before file ending

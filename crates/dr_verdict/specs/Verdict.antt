@@ -1,8 +1,8 @@
 use Rattle.std.specs.Prelude.{◌≡◌, ◌≢◌, ℕ, Bool, true, false, ◌==◌, if◌then◌else◌}
-use Rattle.scenarios.specs.declared.verdict.Verdict.{Verdict}
-use Rattle.scenarios.specs.declared.verdict.Verdict.TheVariants.{Agrees, LineDiffers, StatusDiffers}
-use Rattle.scenarios.specs.declared.verdict.Outcome.{Outcome}
-use Rattle.scenarios.specs.Difference.{differing_line}
+use Rattle.dr_verdict.specs.declared.verdict.Verdict.{Verdict}
+use Rattle.dr_verdict.specs.declared.verdict.Verdict.TheVariants.{Agrees, LineDiffers, StatusDiffers}
+use Rattle.dr_verdict.specs.declared.verdict.Outcome.{Outcome}
+use Rattle.dr_verdict.specs.Difference.{differing_line}
 
 -- what a run that came to `found` is worth where `wanted` is stored
 abbrev pub IsVerdict : Outcome → Outcome → Verdict → Type 0

@@ -1,9 +1,9 @@
 //! What a run comes to, and whether that is what is stored.
 
 ghost use Rattle.std.specs.Prelude.{◌≡◌, ◌+◌, count_by, length};
-ghost use Rattle.scenarios.specs.Verdict.{IsVerdict, is_agreement, code_of};
+ghost use Rattle.dr_verdict.specs.Verdict.{IsVerdict, is_agreement, code_of};
 
-use crate::difference::differing_line;
+use crate::texts::differing_line;
 
 /// What a script printed, and the status with which its run ended.
 #[derive(Drop)]

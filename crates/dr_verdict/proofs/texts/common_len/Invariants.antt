@@ -1,6 +1,6 @@
 use Rattle.std.proofs.Common.{length, ◌-◌, ◌≡◌, ◌≤◌, ◌==◌, ◌+◌, drop}
 use Rattle.std.specs.List.{common_prefix_len}
-use Rattle.scenarios.proofs.difference.common_len.Given as goal
+use Rattle.dr_verdict.proofs.texts.common_len.Given as goal
 
 abbrev pub invariant-loop-at : goal.invariant-loop-at
 invariant-loop-at l =

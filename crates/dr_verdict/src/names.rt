@@ -2,7 +2,7 @@
 
 ghost use Rattle.std.specs.Prelude.{◌≡◌, ◌↔◌, IfOk, map, string_bytes, codes, SomeIff};
 ghost use Rattle.std.specs.Option.{option_copied};
-ghost use Rattle.scenarios.specs.Names.{name_before, script_names, is_known, is_stray, IsStatus, status_of};
+ghost use Rattle.dr_verdict.specs.Names.{name_before, script_names, is_known, is_stray, IsStatus, status_of};
 
 use std::alloc::{AllocError, Global};
 

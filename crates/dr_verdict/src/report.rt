@@ -1,7 +1,7 @@
 //! What the runner prints.
 
 ghost use Rattle.std.specs.Prelude.{◌≡◌, ◌++◌, IfOk, string_bytes, codes, decimal, option_map};
-ghost use Rattle.scenarios.specs.Report.{line_of};
+ghost use Rattle.dr_verdict.specs.Report.{line_of};
 
 use crate::verdict::{Tally, Verdict};
 use std::alloc::{AllocError, Global};

@@ -1,7 +1,7 @@
 use Rattle.std.proofs.Common.{◌==◌, drop, arith}
 use Rattle.std.proofs.lemmas.List.{length-drop}
 use Rattle.std.proofs.lemmas.List.Sums.{common_prefix_len-le}
-use Rattle.scenarios.proofs.difference.common_len.Goals as goal
+use Rattle.dr_verdict.proofs.texts.common_len.Goals as goal
 
 pub returns-else-at-printed-clause-value : goal.returns-else-at-printed-clause-value
 returns-else-at-printed-clause-value c =

@@ -1,6 +1,6 @@
 use Rattle.std.specs.Prelude.{ℕ, List, ◌++◌, Option, None, Some, codes, decimal}
-use Rattle.scenarios.specs.declared.verdict.Verdict.{Verdict}
-use Rattle.scenarios.specs.declared.verdict.Verdict.TheVariants.{Agrees, LineDiffers, StatusDiffers}
+use Rattle.dr_verdict.specs.declared.verdict.Verdict.{Verdict}
+use Rattle.dr_verdict.specs.declared.verdict.Verdict.TheVariants.{Agrees, LineDiffers, StatusDiffers}
 
 -- the line that says where the scenario of this name differs
 abbrev pub line_of : List ℕ → Verdict → Option (List ℕ)

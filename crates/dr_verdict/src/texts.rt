@@ -2,7 +2,7 @@
 
 ghost use Rattle.std.specs.Prelude.{◌≡◌, ◌↔◌, ◌≤◌, ◌==◌, IsNone, IfSome, length};
 ghost use Rattle.std.specs.List.{common_prefix_len};
-ghost use Rattle.scenarios.specs.Difference.{line_at, differing_line};
+ghost use Rattle.dr_verdict.specs.Difference.{line_at, differing_line};
 
 /// How many bytes both texts begin with alike.
 fn common_len(wanted: &[u8], printed: &[u8]) -> usize

@@ -1,6 +1,6 @@
 use Rattle.std.proofs.Common.{◌≡◌, ◌++◌, map, string_bytes, drop}
-use Rattle.scenarios.specs.Names.{script_names}
-use Rattle.scenarios.proofs.names.script_names.Given as goal
+use Rattle.dr_verdict.specs.Names.{script_names}
+use Rattle.dr_verdict.proofs.names.script_names.Given as goal
 
 abbrev pub invariant-loop-file : goal.invariant-loop-file
 invariant-loop-file l =
