@@ -3,10 +3,11 @@ use Rattle.std.specs.Prelude.{◌≡◌, ◌≢◌, ◌<◌, ◌+◌, ℕ, Bool,
 use Rattle.std.specs.FinSet.{contains}
 use Rattle.dr_model.specs.Limits.{most_targets}
 use Rattle.dr_model.specs.Histories.{Write, histories}
+use Rattle.dr_model.specs.Contents.{with_write}
 use Rattle.dr_model.specs.Control.{Pending, Control, World}
 use Rattle.dr_model.specs.declared.state.Part.{Part}
 use Rattle.dr_model.specs.Layout.{is_part}
-use Rattle.dr_model.specs.Moves.{Move, Land, Overwrite, Keep, Note, Relate, Withdraw, Fetch, Resync, Reverse, Restore, Release, Store, Strike, Suspend, MakeSecondary, MakePrimary, DropPrimary, DropSecondary, Follow, Resume, TakeOver, target, is_write}
+use Rattle.dr_model.specs.Moves.{Move, Land, Overwrite, Keep, Note, Relate, Withdraw, Fetch, Resync, Reverse, Restore, Release, Store, Strike, Suspend, MakeSecondary, MakePrimary, DropPrimary, DropSecondary, Follow, Resume, TakeOver, Unsync, Mirror, LandBoth, Thaw, Lift, Restart, target, is_write}
 use Rattle.dr_model.specs.Entries.{targets_of}
 use Rattle.dr_model.specs.Table.{Table, table}
 use Rattle.dr_model.specs.Laws.{source, its_primary, its_secondary, fields, servers, AllPending}
@@ -130,6 +131,26 @@ pub record MayMakePrimary (T : Table) (v u : ℕ) (kind : Part) (full : Bool) : 
   pub takes : its_primary (T u) ≡ Some v
   pub equal : full ≡ false → (t : ℕ) → t < (T v).volume.tracks → (T v).bytes t ≡ (T u).bytes t
 
+-- track t of primary v is about to change on both sides
+pub record MayUnsync (T : Table) (v t : ℕ) : Type 0 where
+  pub low : t < (T v).volume.tracks
+  pub first : is_part (fields T v).primary ≡ true
+
+-- secondary v stores a host write on a track of its primary u, which u has out of sync, and each target of v holds
+pub record MayMirror (T : Table) (v t u : ℕ) : Type 0 where
+  pub low : t < (T v).volume.tracks
+  pub sends : its_secondary (T u) ≡ Some v
+  pub takes : its_primary (T v) ≡ Some u
+  pub out : contains (fields T u).out_of_sync t ≡ true
+  pub kept : Kept T v t
+
+-- a host write lands on a track of v whose secondary has stored it
+pub record MayLandBoth (write : ℕ → Write) (T : Table) (n v t : ℕ) : Type 0 where
+  pub land : MayLand T v t
+  pub to : ℕ
+  pub sends : its_secondary (T v) ≡ Some to
+  pub equal : (T to).bytes t ≡ with_write write ((T v).bytes t) n
+
 abbrev pub IsPrimary : Table → ℕ → Type 0
 IsPrimary T v = is_part (fields T v).primary ≡ true
 
@@ -158,6 +179,12 @@ Allowed write T (DropSecondary v) = IsSecondary T v
 Allowed write T (Follow v state) = IsSecondary T v
 Allowed write T (Resume v state) = IsPrimary T v
 Allowed write T (TakeOver v) = IsSecondary T v
+Allowed write T (Unsync v t) = MayUnsync T v t
+Allowed write T (Mirror v t u n) = MayMirror T v t u
+Allowed write T (LandBoth n v t) = MayLandBoth write T n v t
+Allowed write T (Thaw v) = Unit {0}
+Allowed write T (Lift v) = Unit {0}
+Allowed write T (Restart v) = Unit {0}
 
 -- no write has landed on a volume of v's server
 abbrev pub Idle : World → ℕ → Type 0
@@ -178,11 +205,21 @@ pub record MayAck (w : World) (n v t : ℕ) : Type 0 where
   pub one : map (λ (p : Pending). p.w) (filter (is_write n) w.control.pending) ≡ n ∷ []
   pub idle : Idle w v
 
+-- host write n is one for track t of volume u, and no write has landed on a volume of the servers of u and v
+pub record MayTell (w : World) (n v t u : ℕ) : Type 0 where
+  pub number : n < w.control.issued + 1
+  pub volume : ((histories w.events).write n).volume ≡ u
+  pub track : ((histories w.events).write n).track ≡ t
+  pub idle : Idle w v
+  pub from_idle : Idle w u
+
 -- what a move asks of the pending writes
 abbrev pub Ready : World → Move → Type 0
 Ready w (Land n v t) = MayAck w n v t
 Ready w (Overwrite n v t) = MayAck w n v t
+Ready w (LandBoth n v t) = MayAck w n v t
 Ready w (Store v t u last) = Idle w v × Idle w u
+Ready w (Mirror v t u n) = MayTell w n v t u
 Ready w m = Idle w (target m)
 
 -- the source of a new target has a place for it

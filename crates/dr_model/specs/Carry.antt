@@ -1,5 +1,6 @@
 -- Moves carried out on servers that may stop within any device write. No plan says what a stop leaves: this does.
 use Rattle.std.specs.Prelude.{ℕ, ◌-◌, Bool, true, false, not, List, [], ◌∷◌, ◌++◌, filter, Option, Some, None, nat_eq, nat_lt, nat_le, if◌then◌else◌}
+use Rattle.dr_ids.specs.Paths.{without_path}
 use Rattle.dr_ids.specs.declared.refusal.Refusal.{Refusal}
 use Rattle.dr_ids.specs.declared.refusal.Refusal.TheVariants.{Stopped as StoppedIn}
 use Rattle.dr_model.specs.Tables.{at}
@@ -8,7 +9,7 @@ use Rattle.dr_model.specs.Histories.{histories}
 use Rattle.dr_model.specs.Layout.{Fields, byte, bit}
 use Rattle.dr_model.specs.Control.{Control, Fuse, Volume, World}
 use Rattle.dr_model.specs.Moves.{Move, Carried, target, next_fields, carried, told, told_in_stop, landed, settled, settled_in_stop, updated, is_other}
-use Rattle.dr_model.specs.declared.event.Event.TheVariants.{Ack, Stopped}
+use Rattle.dr_model.specs.declared.event.Event.TheVariants.{Ack, Stopped, Frozen, Thawed}
 
 -- a move writes the six blocks of the slot that isn't chosen, then the gate, then the carried track's own block
 abbrev pub writes : Carried → ℕ
@@ -134,19 +135,34 @@ acknowledged w n = record w {
 abbrev pub dropped : World → ℕ → World
 dropped w n = record w { control = record w.control { pending = filter (is_other n) w.control.pending } }
 
--- What a step does in turn: a move; a volume's staged track is written to its place; a write that landed in a stop is
--- acknowledged, or a pending write is dropped, which take no device write.
+-- a freeze ends: the path from one logical subsystem to another is removed
+abbrev pub frozen : World → ℕ → ℕ → World
+frozen w l m = record w {
+  control = record w.control { paths = without_path w.control.paths l m };
+  events = w.events ++ Frozen l m ∷ [];
+}
+
+-- a thaw ends
+abbrev pub thawed : World → ℕ → ℕ → World
+thawed w l m = record w { events = w.events ++ Thawed l m ∷ [] }
+
+-- What a step does in turn: a move; a volume's staged track is written to its place; and what takes no device write: a
+-- write that landed in a stop is acknowledged, a pending write is dropped, a freeze or a thaw ends.
 pub data Act : Type 0 where
   Make : Move → Act
   Redo : (v : ℕ) → Act
   Acknowledge : (w : ℕ) → Act
   Drop : (w : ℕ) → Act
+  EndFreeze : (l m : ℕ) → Act
+  EndThaw : (l m : ℕ) → Act
 
 unfoldable pub act : World → Act → Turn
 act w (Make m) = turn w m
 act w (Redo v) = redo_ended w v (redo w v)
 act w (Acknowledge n) = (acknowledged w n, None)
 act w (Drop n) = (dropped w n, None)
+act w (EndFreeze l m) = (frozen w l m, None)
+act w (EndThaw l m) = (thawed w l m, None)
 
 -- What an entry of a plan comes to: nothing, an act, or the plan ends with a refusal.
 pub data Next : Type 0 where

@@ -122,16 +122,18 @@ is_settled v k = not (stands_in is_revertible k v) && not (stands_in is_reversin
 abbrev pub land_on : ℕ → ℕ → ℕ → Entry
 land_on n v t k = Do (Make (if (fields_at k v).related then Overwrite n v t else Land n v t))
 
--- A pending write lands where its volume's server is on, else it stays pending. It is dropped where the volume is no
--- place for it.
-abbrev pub landing : Control → ℕ → ℕ → ℕ → List Entry
-landing k n v t =
+-- A host write is refused where its volume's server is off, and stays pending. It is dropped where the volume is no place
+-- for it.
+abbrev pub write_checks : Control → ℕ → ℕ → List Entry
+write_checks k n v =
     check (is_running v) (server_off (k.volume v).server)
     ∷ check_or_drop n (is_no_secondary v) (NotPrimary (record { 0 = v }))
     ++ check_or_drop n (is_open v) (Inhibited (record { 0 = v }))
     ++ check_or_drop n (is_settled v) (relation_state k v)
-    ++ copy_first k.volumes v t
-    ++ land_on n v t ∷ []
+
+-- host write n lands on v alone: the targets of v keep the track first
+abbrev pub land_alone : List ℕ → ℕ → ℕ → ℕ → List Entry
+land_alone volumes n v t = copy_first volumes v t ++ land_on n v t ∷ []
 
 -- entries so many times in order
 abbrev pub times : ℕ → List Entry → List Entry

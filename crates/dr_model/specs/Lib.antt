@@ -17,6 +17,7 @@ pub mod ReadStops
 pub mod Answers
 pub mod Entries
 pub mod PairEntries
+pub mod WriteEntries
 pub mod Plans
 pub mod Runs
 pub mod Text

@@ -8,12 +8,12 @@ use Rattle.dr_model.specs.Contents.{zeros, with_write}
 use Rattle.dr_model.specs.Layout.{Tracks, Fields}
 use Rattle.dr_model.specs.declared.state.Part.{Part}
 use Rattle.dr_model.specs.declared.state.PairState.{PairState}
-use Rattle.dr_model.specs.Pairs.{altered, is_suspended, suspended, made_secondary, made_primary, no_primary, no_secondary, received, struck, resumed, taken_over}
+use Rattle.dr_model.specs.Pairs.{altered, is_suspended, suspended, made_secondary, made_primary, no_primary, no_secondary, received, struck, resumed, taken_over, unsynced, mirrored, synced, thawed, lifted, restarted}
 use Rattle.dr_model.specs.Views.{view}
 use Rattle.dr_model.specs.Control.{Pending, Volume, World}
 use Rattle.dr_model.specs.Relations.{Choices, rest, in_order, is_bare, closed, fetched, noted, rewritten, made, withdrawn_if, resynced, turned, given_up, restored}
 use Rattle.dr_model.specs.declared.event.Event.{Event}
-use Rattle.dr_model.specs.declared.event.Event.TheVariants.{Ack, Set, Copied, Back, Blanked, Restored, Sent, Suspended, TakenOver}
+use Rattle.dr_model.specs.declared.event.Event.TheVariants.{Ack, Set, Copied, Back, Blanked, Restored, Sent, Mirrored, Suspended, TakenOver}
 
 pub data Move : Type 0 where
   -- host write w lands on track t of volume v, which is no target; of a primary the track is out of sync from then on
@@ -55,6 +55,18 @@ pub data Move : Type 0 where
   Resume : (v : ℕ) (state : PairState) → Move
   -- secondary v becomes a Suspended primary of its primary
   TakeOver : (v : ℕ) → Move
+  -- track t of primary v is about to change on both sides: it is out of sync until it has
+  Unsync : (v t : ℕ) → Move
+  -- secondary v stores what host write w makes of track t of its primary u
+  Mirror : (v t u w : ℕ) → Move
+  -- host write w, which the secondary of v has stored, lands on track t of v
+  LandBoth : (w v t : ℕ) → Move
+  -- primary v is long busy no more
+  Thaw : (v : ℕ) → Move
+  -- host writes on v wait no more
+  Lift : (v : ℕ) → Move
+  -- v goes on after a stop
+  Restart : (v : ℕ) → Move
 
 -- the volume whose record the move updates
 abbrev pub target : Move → ℕ
@@ -79,6 +91,12 @@ target (DropSecondary v) = v
 target (Follow v state) = v
 target (Resume v state) = v
 target (TakeOver v) = v
+target (Unsync v t) = v
+target (Mirror v t u w) = v
+target (LandBoth w v t) = v
+target (Thaw v) = v
+target (Lift v) = v
+target (Restart v) = v
 
 -- the fields that the move leaves there
 abbrev pub fields_left : Move → Volume → Fields
@@ -103,6 +121,12 @@ fields_left (DropSecondary v) u = no_secondary u.fields
 fields_left (Follow v state) u = record u.fields { secondary_state = state }
 fields_left (Resume v state) u = resumed state u.fields
 fields_left (TakeOver v) u = taken_over u.fields
+fields_left (Unsync v t) u = unsynced u.fields t
+fields_left (Mirror v t from w) u = mirrored u.fields t
+fields_left (LandBoth w v t) u = synced u.fields t
+fields_left (Thaw v) u = thawed u.fields
+fields_left (Lift v) u = lifted u.fields
+fields_left (Restart v) u = restarted u.fields
 
 -- by the fields of all volumes before it
 abbrev pub next_fields : Move → (ℕ → Volume) → Fields
@@ -120,6 +144,8 @@ carried (Keep v t) volume contents write = Some (t, contents (volume v).fields.s
 carried (Fetch v t) volume contents write = Some (t, contents (volume v).fields.source t)
 carried (Restore v t u) volume contents write = Some (t, contents u t)
 carried (Store v t u last) volume contents write = Some (t, contents u t)
+carried (Mirror v t u n) volume contents write = Some (t, with_write write (contents u t) n)
+carried (LandBoth n v t) volume contents write = Some (t, with_write write (contents v t) n)
 carried _ volume contents write = None
 
 -- a relationship that has ended where its target held these tracks: the others read zeros
@@ -145,18 +171,22 @@ told (Release v t) u = told_restored v u.fields.source u.tracks (given_up u.fiel
 told (Store v t from last) u = Sent from t v ∷ []
 told (Suspend v busy) u = if is_suspended u.fields.primary_state then [] else Suspended v ∷ []
 told (TakeOver v) u = TakenOver v ∷ []
+told (Mirror v t from n) u = Mirrored n v ∷ []
+told (LandBoth n v t) u = Ack n ∷ []
 told _ u = []
 
 -- what it is told where the server stopped in a move that counts as done: a write is acknowledged at the next start
 abbrev pub told_in_stop : Move → Volume → List Event
 told_in_stop (Land n v t) u = []
 told_in_stop (Overwrite n v t) u = []
+told_in_stop (LandBoth n v t) u = []
 told_in_stop m u = told m u
 
 -- the write that a stop leaves landed, 0 for none
 abbrev pub landed : Move → ℕ
 landed (Land n v t) = n
 landed (Overwrite n v t) = n
+landed (LandBoth n v t) = n
 landed _ = 0
 
 abbrev pub is_write : ℕ → Pending → Bool
@@ -173,11 +203,13 @@ marked n (p ∷ ps) = (if is_write n p then record p { landed = true } else p) �
 abbrev pub settled : Move → List Pending → List Pending
 settled (Land n v t) ps = filter (is_other n) ps
 settled (Overwrite n v t) ps = filter (is_other n) ps
+settled (LandBoth n v t) ps = filter (is_other n) ps
 settled _ ps = ps
 
 abbrev pub settled_in_stop : Move → List Pending → List Pending
 settled_in_stop (Land n v t) ps = marked n ps
 settled_in_stop (Overwrite n v t) ps = marked n ps
+settled_in_stop (LandBoth n v t) ps = marked n ps
 settled_in_stop _ ps = ps
 
 -- a volume after a move: the other slot has the new fields, and the carried track is staged

@@ -1,6 +1,6 @@
 -- Pairs: what the fields of a primary and of a secondary become, and what they say.
 use Rattle.std.specs.Prelude.{ℕ, Bool, true, false, not, ◌&&◌, ◌||◌, Option, Some, None, nat_eq, if◌then◌else◌}
-use Rattle.std.specs.FinSet.{union, insert, remove, empty}
+use Rattle.std.specs.FinSet.{union, insert, remove, contains, empty}
 use Rattle.dr_ids.specs.declared.refusal.PairSeen.{PairSeen}
 use Rattle.dr_ids.specs.declared.refusal.PairSeen.TheVariants as seen
 use Rattle.dr_model.specs.declared.state.Part.{Part}
@@ -43,6 +43,14 @@ is_pending _ = false
 abbrev pub is_suspended : PairState → Bool
 is_suspended Suspended = true
 is_suspended _ = false
+
+abbrev pub is_full_duplex : PairState → Bool
+is_full_duplex FullDuplex = true
+is_full_duplex _ = false
+
+-- host writes on a volume wait: coordination holds it, or it is long busy
+abbrev pub held : Fields → Bool
+held f = f.coordination || f.long_busy
 
 -- a volume that is no primary, or a Suspended one
 abbrev pub is_quiet : Fields → Bool
@@ -141,6 +149,45 @@ next_state f = if is_metro f.primary && is_bare f.out_of_sync then FullDuplex el
 
 abbrev pub resumed : PairState → Fields → Fields
 resumed state f = record f { primary_state = state; long_busy = false }
+
+-- track t of a primary is about to change on both sides; the secondary stores the new bytes; then they are on both sides
+abbrev pub unsynced : Fields → ℕ → Fields
+unsynced f t = record f { out_of_sync = insert f.out_of_sync t }
+
+abbrev pub mirrored : Fields → ℕ → Fields
+mirrored f t = record f { blank = remove f.blank t }
+
+abbrev pub synced : Fields → ℕ → Fields
+synced f t = record f { blank = remove f.blank t; out_of_sync = remove f.out_of_sync t }
+
+-- a host write on track t goes to the secondary first: of a Metro Mirror pair that isn't Suspended, where t is in sync
+abbrev pub goes_over : Fields → ℕ → Bool
+goes_over f t = is_metro f.primary && (not (is_suspended f.primary_state) && not (contains f.out_of_sync t))
+
+-- a primary is long busy no more
+abbrev pub thawed : Fields → Fields
+thawed f = record f { long_busy = false }
+
+-- no host write waits any more: a coordination hold ends with a void
+abbrev pub lifted : Fields → Fields
+lifted f = record f {
+  coordination = false;
+  long_busy = false;
+  recording = if f.coordination then false else f.recording;
+  out_of_sync = if f.coordination then union f.out_of_sync f.change_recording else f.out_of_sync;
+  change_recording = if f.coordination then empty else f.change_recording;
+}
+
+-- A stop within a host write left a Metro Mirror pair Full Duplex with a track out of sync.
+abbrev pub is_torn : Fields → Bool
+is_torn f = is_metro f.primary && (is_full_duplex f.primary_state && not (is_bare f.out_of_sync))
+
+-- as its server starts, such a pair is in Copy Pending, and a volume that records or is held is voided
+abbrev pub must_restart : Fields → Bool
+must_restart f = is_engaged f || is_torn f
+
+abbrev pub restarted : Fields → Fields
+restarted f = record (voided f) { primary_state = if is_torn f then CopyPending else f.primary_state }
 
 -- a secondary becomes a Suspended primary of its primary, with no track out of sync
 abbrev pub taken_over : Fields → Fields

@@ -17,23 +17,24 @@ use Rattle.dr_model.specs.Contents.{image_at}
 use Rattle.dr_model.specs.Control.{Control, Fuse, Pending, new_volume, is_volume}
 use Rattle.dr_model.specs.Relations.{Choices, rest}
 use Rattle.dr_model.specs.Moves.{Relate, Withdraw, Resync, Reverse, is_write}
-use Rattle.dr_model.specs.Carry.{Entry, Next, Pass, Do, Redo, Acknowledge, now, check}
+use Rattle.dr_model.specs.Carry.{Entry, Next, Pass, Do, Acknowledge, now, check}
 use Rattle.dr_model.specs.Pairs.{is_unpaired}
-use Rattle.dr_model.specs.Entries.{fields_at, is_running, running_check, is_at, subsystem, first_of, share_server, share_size, is_no_target, copies_from, targets_of, stands_in, is_any, relation_state, pair_state, is_no_secondary, takes_back, landing, times, fetch_next, give_back}
+use Rattle.dr_model.specs.Entries.{fields_at, is_running, running_check, is_at, subsystem, first_of, share_server, share_size, is_no_target, copies_from, targets_of, stands_in, is_any, relation_state, pair_state, is_no_secondary, takes_back, times, fetch_next, give_back}
 use Rattle.dr_model.specs.PairEntries.{make_entries, remove_entries, pause_entries, resume_entries, is_copying, tracks_to_send, sends, suspend_after, link_down, first_active, first_differing}
+use Rattle.dr_model.specs.WriteEntries.{landing, says_written, part_after, belongs, start_entries, lift_on, freeze_entries, thaw_entries}
 use Rattle.dr_model.specs.declared.said.Addition.TheVariants.{Alone, Wrote, Acked, Counted, Showed}
 use Rattle.dr_model.specs.declared.said.Said.{Said}
 use Rattle.dr_model.specs.declared.said.Said.TheVariants.{Done, Refused}
 use Rattle.dr_model.specs.declared.event.Event.{Event}
 use Rattle.dr_model.specs.declared.event.Event.TheVariants.{Server as ServerDefined, Volume as VolumeDefined, Issue, Stopped, Started, Shown}
 use Rattle.dr_model.specs.declared.state.Part.{Part}
-use Rattle.dr_model.specs.Layout.{part_of}
+use Rattle.dr_model.specs.Layout.{is_part, part_of}
 use Rattle.dr_model.specs.declared.step.Name.{Name}
 use Rattle.dr_model.specs.declared.step.Devs.{Devs}
 use Rattle.dr_model.specs.declared.step.TornWord.{TornWord}
 use Rattle.dr_model.specs.declared.step.TornWord.TheVariants.{Same, Fill, Bytes}
 use Rattle.dr_model.specs.declared.step.Step.{Step}
-use Rattle.dr_model.specs.declared.step.Step.TheVariants.{Server, Volume, Link, Stop, StopAfter, Start, Issue as IssueWrite, Write, Apply, Show, MakeFlash, RemoveFlash, ResyncFlash, ReverseFlash, Copy, MakePath, RemovePath, MakePair, RemovePair, PausePair, ResumePair, Drain}
+use Rattle.dr_model.specs.declared.step.Step.TheVariants.{Server, Volume, Link, Stop, StopAfter, Start, Issue as IssueWrite, Write, Apply, Show, MakeFlash, RemoveFlash, ResyncFlash, ReverseFlash, Copy, MakePath, RemovePath, MakePair, RemovePair, PausePair, ResumePair, Drain, Expire, Freeze, Unfreeze}
 
 -- What a step comes to: the tables as it begins, what the journal is told then, the entries, those that follow where a
 -- server stops in them, the tables where it ended well, and what it says then, by the last control state.
@@ -148,24 +149,24 @@ abbrev pub with_pending : ℕ → ℕ → Control → Control
 with_pending v t k =
     record k { issued = k.issued + 1; pending = k.pending ++ record { w = k.issued + 1; volume = v; track = t; landed = false } ∷ [] }
 
--- a write is issued, and these entries follow
-abbrev pub issue_then : List Entry → Control → ℕ → ℕ → ℕ → ℕ → List ℕ → Plan
-issue_then entries k v t offset len bytes = record {
-  first = with_pending v t;
-  told = Issue (k.issued + 1) v t offset len bytes ∷ [];
-  entries = entries;
-  follows = none_follow;
-  last = same;
-  says = always (Done (Wrote (k.issued + 1)));
-}
-
 -- a write is issued
+abbrev pub issue_done : Control → ℕ → ℕ → ℕ → ℕ → List ℕ → Plan
+issue_done k v t offset len bytes =
+    tables_plan (with_pending v t) (Issue (k.issued + 1) v t offset len bytes ∷ []) (Done (Wrote (k.issued + 1)))
+
 abbrev pub issue_plan : Control → ℕ → ℕ → ℕ → ℕ → List ℕ → Plan
-issue_plan k v t offset len bytes = unless (issue_refusal k v t) (issue_then [] k v t offset len bytes)
+issue_plan k v t offset len bytes = unless (issue_refusal k v t) (issue_done k v t offset len bytes)
 
 -- a write is issued, and carried out
 abbrev pub write_done : Control → ℕ → ℕ → ℕ → ℕ → List ℕ → Plan
-write_done k v t offset len bytes = issue_then (landing k (k.issued + 1) v t) k v t offset len bytes
+write_done k v t offset len bytes = record {
+  first = with_pending v t;
+  told = Issue (k.issued + 1) v t offset len bytes ∷ [];
+  entries = landing k (k.issued + 1) v t;
+  follows = part_after v;
+  last = same;
+  says = always (says_written k (k.issued + 1) v t);
+}
 
 abbrev pub write_plan : Control → ℕ → ℕ → ℕ → ℕ → List ℕ → Plan
 write_plan k v t offset len bytes = unless (issue_refusal k v t) (write_done k v t offset len bytes)
@@ -176,9 +177,9 @@ apply_done k p = record {
   first = same;
   told = [];
   entries = landing k p.w p.volume p.track;
-  follows = none_follow;
+  follows = part_after p.volume;
   last = same;
-  says = always (Done (Wrote p.w));
+  says = always (says_written k p.w p.volume p.track);
 }
 
 abbrev pub apply_on : Control → Option Pending → Plan
@@ -227,14 +228,6 @@ fuse_at_start (Some f) = if nat_eq f.after 0 then None else Some f
 abbrev pub starting : ℕ → Control → Control
 starting s k = record k { on = at k.on s true; fuse = at k.fuse s (fuse_at_start (k.fuse s)) }
 
--- a volume that is defined, and the server's
-abbrev pub belongs : Control → ℕ → ℕ → Bool
-belongs k s v = is_volume k v && nat_eq (k.volume v).server s
-
--- where a volume belongs to the server, its staged track is written to its place
-abbrev pub redo_on : ℕ → ℕ → Entry
-redo_on s v k = if belongs k s v then Do (Redo v) else Pass
-
 -- the first write that landed on a volume of the server in a stop
 abbrev pub has_landed : Control → ℕ → Pending → Bool
 has_landed k s p = p.landed && belongs k s p.volume
@@ -253,13 +246,13 @@ abbrev pub says_acked : Option ℕ → Said
 says_acked None = Done Alone
 says_acked (Some w) = Done (Acked w)
 
--- A server starts: its volumes in order of definition write their staged tracks to their places, and at the end the
--- write that landed is acknowledged. Where it is on, nothing happens.
+-- A server starts: its volumes in order of definition write their staged tracks to their places and go on, and at the end
+-- the write that landed is acknowledged. Where it is on, nothing happens.
 abbrev pub start_plan : Control → ℕ → Plan
 start_plan k s = record {
   first = starting s;
   told = Started s ∷ [];
-  entries = map (redo_on s) k.volumes ++ acknowledge_on s ∷ [];
+  entries = start_entries s k.volumes ++ acknowledge_on s ∷ [];
   follows = none_follow;
   last = same;
   says = always (says_acked (landed_on k s));
@@ -279,6 +272,13 @@ is_owner (Some name) v k = is_at (server_named k (name_bytes name)) (k.volume v)
 
 abbrev pub is_defined : ℕ → Control → Bool
 is_defined v k = is_volume k v
+
+-- no write on a volume of a server waits any more
+abbrev pub expire_plan : Control → ℕ → Plan
+expire_plan k s = entries_plan (map (lift_on s) k.volumes) (Done Alone)
+
+abbrev pub expire_on : Control → ℕ → Plan
+expire_on k s = if k.on s then expire_plan k s else refuses (server_off s)
 
 -- the two volumes of a relationship are there, the first on the server that may be named
 abbrev pub found_pair : Option Name → ℕ → ℕ → List Entry
@@ -439,6 +439,34 @@ abbrev pub unpath_plan : Control → Devs → ℕ → ℕ → Bool → Plan
 unpath_plan k devs src tgt force =
     on_owner (owner_of k src) (λ s. on_owner (owner_of k tgt) (λ u. unless (unpath_refusal k devs src tgt s u force) (unpath_done src tgt)))
 
+-- a freeze between two logical subsystems: there is no such path, the servers aren't those that are named, or that of the
+-- source is off
+abbrev pub freeze_refusal : Control → Devs → ℕ → ℕ → ℕ → ℕ → Option Refusal
+freeze_refusal k devs l m s u =
+    if not (is_some (path_in k.paths l m)) then Some (unknown OfPath)
+    else if not (is_named devs.dev s k && is_named devs.remotedev u k) then Some (unknown OfServer)
+    else if not (k.on s) then Some (server_off s)
+    else None
+
+abbrev pub freeze_done : Control → ℕ → ℕ → Plan
+freeze_done k l m = entries_plan (freeze_entries k.volumes l m) (Done Alone)
+
+abbrev pub freeze_plan : Control → Devs → ℕ → ℕ → Plan
+freeze_plan k devs l m = on_owner (owner_of k l) (λ s. on_owner (owner_of k m) (λ u. unless (freeze_refusal k devs l m s u) (freeze_done k l m)))
+
+-- a thaw, which asks for no path
+abbrev pub thaw_refusal : Control → Devs → ℕ → ℕ → Option Refusal
+thaw_refusal k devs s u =
+    if not (is_named devs.dev s k && is_named devs.remotedev u k) then Some (unknown OfServer)
+    else if not (k.on s) then Some (server_off s)
+    else None
+
+abbrev pub thaw_done : Control → ℕ → ℕ → Plan
+thaw_done k l m = entries_plan (thaw_entries k.volumes l m) (Done Alone)
+
+abbrev pub thaw_plan : Control → Devs → ℕ → ℕ → Plan
+thaw_plan k devs l m = on_owner (owner_of k l) (λ s. on_owner (owner_of k m) (λ u. unless (thaw_refusal k devs s u) (thaw_done k l m)))
+
 -- the two volumes of a pair are there, each on the server that may be named
 abbrev pub found_volumes : Devs → ℕ → ℕ → List Entry
 found_volumes devs a b = found_pair devs.dev a b ++ check (is_owner devs.remotedev b) (unknown OfServer) ∷ []
@@ -495,9 +523,12 @@ plan_of k events line (RemovePair devs a b source_only) = remove_plan k devs a b
 plan_of k events line (PausePair devs a b) = pause_plan k devs a b
 plan_of k events line (ResumePair devs a b kind) = resume_plan k devs a b (part_of kind)
 plan_of k events line (Drain a most) = drain_plan k a most
+plan_of k events line (Expire name) = on_server k name (expire_on k)
+plan_of k events line (Freeze devs l m) = freeze_plan k devs l m
+plan_of k events line (Unfreeze devs l m) = thaw_plan k devs l m
 plan_of k events line _ = refuses NotBuilt
 
--- the forms that are built; of pairs those of Global Copy
+-- the forms that are built
 abbrev pub is_built : Step → Bool
 is_built (Server name) = true
 is_built (Volume v name tracks) = true
@@ -516,11 +547,14 @@ is_built (ReverseFlash devs s t tgtpprc sequence) = true
 is_built (Copy t most) = true
 is_built (MakePath devs src tgt group) = true
 is_built (RemovePath devs src tgt force) = true
-is_built (MakePair devs a b kind full) = nat_eq kind 2
+is_built (MakePair devs a b kind full) = is_part (part_of kind)
 is_built (RemovePair devs a b source_only) = true
 is_built (PausePair devs a b) = true
-is_built (ResumePair devs a b kind) = nat_eq kind 2
+is_built (ResumePair devs a b kind) = is_part (part_of kind)
 is_built (Drain a most) = true
+is_built (Expire name) = true
+is_built (Freeze devs l m) = true
+is_built (Unfreeze devs l m) = true
 is_built _ = false
 
 -- the journal has room for what a step may tell

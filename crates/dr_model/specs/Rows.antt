@@ -8,7 +8,7 @@ use Rattle.dr_model.specs.Layout.{Tracks, Fields}
 use Rattle.dr_model.specs.Control.{Volume}
 use Rattle.dr_model.specs.Views.{view}
 use Rattle.dr_model.specs.Relations.{rest, is_bare, turned, given_up}
-use Rattle.dr_model.specs.Moves.{Move, Land, Overwrite, Keep, Relate, Withdraw, Fetch, Resync, Reverse, Restore, Release, Store, Carried, target, next_fields, carried, moved}
+use Rattle.dr_model.specs.Moves.{Move, Land, Overwrite, Keep, Relate, Withdraw, Fetch, Resync, Reverse, Restore, Release, Store, Mirror, LandBoth, Carried, target, next_fields, carried, moved}
 use Rattle.dr_model.specs.Table.{Row, Table}
 
 abbrev pub volumes_of : Table → ℕ → Volume
@@ -37,6 +37,8 @@ next_due write (Resync v sequence) T = (source_row T v).due
 next_due write (Reverse v) T = emptied_if_bare (T v).volume.tracks (turned (T v).volume.fields) (T v).due
 next_due write (Restore v t u) T = at (T v).due t ((T u).due t)
 next_due write (Store v t u last) T = at (T v).due t ((T u).due t)
+next_due write (Mirror v t u n) T = at (T v).due t (with_write write ((T u).due t) n)
+next_due write (LandBoth n v t) T = at (T v).due t (with_write write ((T v).due t) n)
 next_due write (Release v t) T = emptied_if_bare (T v).volume.tracks (given_up (T v).volume.fields t) (T v).due
 next_due write m T = (T (target m)).due
 
@@ -50,6 +52,8 @@ next_bytes write (Fetch v t) T = at (T v).bytes t ((source_row T v).bytes t)
 next_bytes write (Reverse v) T = emptied_if_bare (T v).volume.tracks (turned (T v).volume.fields) (T v).bytes
 next_bytes write (Restore v t u) T = at (T v).bytes t ((T u).bytes t)
 next_bytes write (Store v t u last) T = at (T v).bytes t ((T u).bytes t)
+next_bytes write (Mirror v t u n) T = at (T v).bytes t (with_write write ((T u).bytes t) n)
+next_bytes write (LandBoth n v t) T = at (T v).bytes t (with_write write ((T v).bytes t) n)
 next_bytes write (Release v t) T = emptied_if_bare (T v).volume.tracks (given_up (T v).volume.fields t) (T v).bytes
 next_bytes write m T = (T (target m)).bytes
 

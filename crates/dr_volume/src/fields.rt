@@ -1,5 +1,9 @@
 //! The fields of a volume's control record.
 
+ghost use Rattle.std.specs.Prelude.{◌≡◌};
+ghost use Rattle.dr_model.specs.Pairs.{held};
+ghost use Rattle.dr_volume.specs.Plain.{plain};
+
 use dr_bits::TrackSet;
 use dr_ids::VolumeId;
 use dr_model::{PairState, Part};
@@ -52,4 +56,11 @@ pub struct Fields {
     pub staged: Option<u16>,
     /// The bytes of the staged track, zeros where none is staged.
     pub staged_bytes: Block,
+}
+
+/// Whether host writes on the volume wait: coordination holds it, or it is long busy.
+pub fn is_held(f: &Fields) -> bool
+    ensures { result ≡ held (plain f.now) }
+{
+    f.coordination || f.long_busy
 }

@@ -14,6 +14,6 @@ mod volume;
 pub use blocks::from_blocks;
 pub use change::{redo, update};
 pub use dr_model::{PairState, Part};
-pub use fields::Fields;
+pub use fields::{Fields, is_held};
 pub use opened::{Opened, open};
 pub use volume::{load, peek_fields, read_track, slot};

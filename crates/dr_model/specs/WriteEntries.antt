@@ -1,0 +1,113 @@
+-- Entries of plans on host writes, on long busy primaries, and on servers that start.
+use Rattle.std.specs.Prelude.{ℕ, Bool, true, false, ◌&&◌, ◌||◌, List, [], ◌∷◌, ◌++◌, map, Option, is_some, unwrap_or, nat_eq, if◌then◌else◌}
+use Rattle.std.specs.List.{flat_map}
+use Rattle.dr_ids.specs.Paths.{path_in}
+use Rattle.dr_model.specs.Layout.{Fields, is_part}
+use Rattle.dr_model.specs.Control.{Control, is_volume}
+use Rattle.dr_model.specs.Pairs.{held, goes_over, must_restart}
+use Rattle.dr_model.specs.Moves.{Suspend, Unsync, Mirror, LandBoth, Thaw, Lift, Restart}
+use Rattle.dr_model.specs.Carry.{Make, Redo, EndFreeze, EndThaw, Pass, Do, Entry, now}
+use Rattle.dr_model.specs.Entries.{fields_at, is_running, subsystem, copy_first, write_checks, land_alone}
+use Rattle.dr_model.specs.PairEntries.{send_refusal}
+use Rattle.dr_model.specs.declared.said.Addition.TheVariants.{Wrote}
+use Rattle.dr_model.specs.declared.said.Said.{Said}
+use Rattle.dr_model.specs.declared.said.Said.TheVariants.{Done, Held}
+
+-- the secondary of a primary
+abbrev pub partner_of : Control → ℕ → ℕ
+partner_of k v = (fields_at k v).primary_partner
+
+-- a path, where there is one, makes the primaries that lose their secondary over it long busy
+abbrev pub is_grouped : Control → ℕ → ℕ → Bool
+is_grouped k a b = unwrap_or (path_in k.paths (subsystem a) (subsystem b)) false
+
+-- host write n lands on v and on its secondary u: u stores it before it lands on v, and until then the track is out of sync
+abbrev pub land_mirrored : List ℕ → ℕ → ℕ → ℕ → ℕ → List Entry
+land_mirrored volumes n v t u =
+    now (Unsync v t)
+    ∷ copy_first volumes u t
+    ++ now (Mirror u t v n)
+    ∷ copy_first volumes v t
+    ++ now (LandBoth n v t) ∷ []
+
+-- v can't send to its secondary: it is suspended, and where the path makes it long busy the write waits
+abbrev pub land_parted : Control → ℕ → ℕ → ℕ → List Entry
+land_parted k n v t = now (Suspend v (is_grouped k v (partner_of k v))) ∷ (if is_grouped k v (partner_of k v) then [] else land_alone k.volumes n v t)
+
+abbrev pub is_parted : Control → ℕ → Bool
+is_parted k v = is_some (send_refusal v (partner_of k v) k)
+
+abbrev pub land_over : Control → ℕ → ℕ → ℕ → List Entry
+land_over k n v t = if is_parted k v then land_parted k n v t else land_mirrored k.volumes n v t (partner_of k v)
+
+-- a host write on a volume where the host may write
+abbrev pub land_entries : Control → ℕ → ℕ → ℕ → List Entry
+land_entries k n v t =
+    if held (fields_at k v) then []
+    else if goes_over (fields_at k v) t then land_over k n v t
+    else land_alone k.volumes n v t
+
+-- pending write n on track t of volume v is carried out
+abbrev pub landing : Control → ℕ → ℕ → ℕ → List Entry
+landing k n v t = write_checks k n v ++ land_entries k n v t
+
+-- it waits: the volume is held, or becomes long busy since its secondary can't be reached
+abbrev pub waits : Control → ℕ → ℕ → Bool
+waits k v t = held (fields_at k v) || (goes_over (fields_at k v) t && (is_parted k v && is_grouped k v (partner_of k v)))
+
+abbrev pub says_written : Control → ℕ → ℕ → ℕ → Said
+says_written k n v t = if waits k v t then Held n else Done (Wrote n)
+
+-- What follows the stop of a server in a host write on v: where it was that of the secondary, so that v's own still runs, v is
+-- suspended, and long busy where the path makes it so.
+abbrev pub part_running : ℕ → Entry
+part_running v k = if is_part (fields_at k v).primary && is_running v k then Do (Make (Suspend v (is_grouped k v (partner_of k v)))) else Pass
+
+abbrev pub part_after : ℕ → ℕ → List Entry
+part_after v s = part_running v ∷ []
+
+-- a primary of logical subsystem l, whose server runs, with its secondary in m
+abbrev pub is_between : Control → ℕ → ℕ → ℕ → Bool
+is_between k l m v = nat_eq (subsystem v) l && (is_running v k && (is_part (fields_at k v).primary && nat_eq (subsystem (partner_of k v)) m))
+
+-- each primary between two logical subsystems is Suspended and long busy, and the path is removed
+abbrev pub freeze_on : ℕ → ℕ → ℕ → Entry
+freeze_on l m v k = if is_between k l m v then Do (Make (Suspend v true)) else Pass
+
+abbrev pub end_freeze : ℕ → ℕ → Entry
+end_freeze l m k = Do (EndFreeze l m)
+
+abbrev pub freeze_entries : List ℕ → ℕ → ℕ → List Entry
+freeze_entries volumes l m = map (freeze_on l m) volumes ++ end_freeze l m ∷ []
+
+-- each of them is long busy no more
+abbrev pub thaw_on : ℕ → ℕ → ℕ → Entry
+thaw_on l m v k = if is_between k l m v && (fields_at k v).long_busy then Do (Make (Thaw v)) else Pass
+
+abbrev pub end_thaw : ℕ → ℕ → Entry
+end_thaw l m k = Do (EndThaw l m)
+
+abbrev pub thaw_entries : List ℕ → ℕ → ℕ → List Entry
+thaw_entries volumes l m = map (thaw_on l m) volumes ++ end_thaw l m ∷ []
+
+-- a volume that is defined, and the server's
+abbrev pub belongs : Control → ℕ → ℕ → Bool
+belongs k s v = is_volume k v && nat_eq (k.volume v).server s
+
+-- where a volume of the server is held, its writes wait no more
+abbrev pub lift_on : ℕ → ℕ → Entry
+lift_on s v k = if belongs k s v && held (fields_at k v) then Do (Make (Lift v)) else Pass
+
+-- As a server starts, each of its volumes writes its staged track to its place and then goes on.
+abbrev pub redo_on : ℕ → ℕ → Entry
+redo_on s v k = if belongs k s v then Do (Redo v) else Pass
+
+abbrev pub restart_on : ℕ → ℕ → Entry
+restart_on s v k = if belongs k s v && must_restart (fields_at k v) then Do (Make (Restart v)) else Pass
+
+abbrev pub start_on_volume : ℕ → ℕ → List Entry
+start_on_volume s v = redo_on s v ∷ restart_on s v ∷ []
+
+-- volume by volume, in order of definition
+abbrev pub start_entries : ℕ → List ℕ → List Entry
+start_entries s volumes = flat_map (start_on_volume s) volumes
