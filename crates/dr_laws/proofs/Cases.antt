@@ -15,18 +15,17 @@ use Rattle.dr_model.specs.declared.said.Said.{Said}
 use Rattle.dr_model.specs.declared.said.Said.TheVariants.{Done, Refused}
 use Rattle.dr_model.specs.declared.step.Name.{Name}
 use Rattle.dr_model.specs.declared.state.Part.{Part}
-use Rattle.dr_model.specs.declared.state.Part.TheVariants.{Absent, Metro, Global}
 use Rattle.dr_model.specs.declared.step.Devs.{Devs}
 use Rattle.dr_model.specs.declared.step.TornWord.{TornWord}
 use Rattle.dr_model.specs.declared.step.Step.{Step}
-use Rattle.dr_model.specs.declared.step.Step.TheVariants.{Server, Volume, Link, Stop, StopAfter, Start, Issue, Write, Apply, Show, MakeFlash, RemoveFlash, ResyncFlash, ReverseFlash, Copy, MakePath, RemovePath, MakePair, RemovePair, PausePair, ResumePair, Drain}
+use Rattle.dr_model.specs.declared.step.Step.TheVariants.{Server, Volume, Link, Stop, StopAfter, Start, Issue, Write, Apply, Show, MakeFlash, RemoveFlash, ResyncFlash, ReverseFlash, Copy, MakePath, RemovePath, MakePair, RemovePair, PausePair, ResumePair, Drain, Expire, Freeze, Unfreeze}
 use Rattle.dr_model.specs.Layout.{is_part, part_of}
 use Rattle.dr_model.specs.Limits.{most_servers, most_volumes, most_tracks, most_pending}
-use Rattle.dr_model.specs.Refusals.{unknown, duplicate, over}
+use Rattle.dr_model.specs.Refusals.{server_off, unknown, duplicate, over}
 use Rattle.dr_model.specs.Control.{Control, Pending, is_volume}
 use Rattle.dr_model.specs.Relations.{Choices}
 use Rattle.dr_model.specs.Moves.{is_write}
-use Rattle.dr_model.specs.Plans.{Plan, plan, step_plan, plan_of, is_built, has_room, only_says, refuses, unless, on_named, on_server, name_bytes, server_named, server_refusal, server_done, volume_refusal, volume_done, link_between, link_done, track_refusal, issue_refusal, issue_then, write_done, apply_on, apply_done, show_refusal, show_done, is_foreign, stop_on, stop_done, arm_on, start_on, start_plan, flash_plan, withdraw_plan, resync_plan, reverse_plan, copy_plan, on_owner, owner_of, path_refusal, path_done, unpath_refusal, unpath_done, pair_plan, remove_plan, pause_plan, resume_plan, drain_plan}
+use Rattle.dr_model.specs.Plans.{Plan, plan, step_plan, plan_of, is_built, has_room, only_says, refuses, unless, on_named, on_server, name_bytes, server_named, server_refusal, server_done, volume_refusal, volume_done, link_between, link_done, track_refusal, issue_refusal, issue_done, write_done, apply_on, apply_done, show_refusal, show_done, is_foreign, stop_on, stop_done, arm_on, start_on, start_plan, flash_plan, withdraw_plan, resync_plan, reverse_plan, copy_plan, on_owner, owner_of, path_refusal, path_done, unpath_refusal, unpath_done, pair_plan, remove_plan, pause_plan, resume_plan, drain_plan, expire_on, expire_plan, freeze_refusal, freeze_done, thaw_refusal, thaw_done}
 use Rattle.dr_model.specs.Entries.{first_of, subsystem}
 
 -- what a step comes to, with what was seen before
@@ -35,7 +34,7 @@ pub data Case (k : Control) (events : List Event) (line : ℕ) : Plan → Type 0
   Defines : (name : Name) → server_refusal k (name_bytes name) ≡ None → Case k events line (server_done k name)
   Adds : (v s tracks : ℕ) → volume_refusal k v s tracks ≡ None → Case k events line (volume_done v s tracks)
   Links : (a b : ℕ) → (up : Bool) → Case k events line (link_done a b up)
-  Issues : (v t offset len : ℕ) → (bytes : List ℕ) → issue_refusal k v t ≡ None → Case k events line (issue_then [] k v t offset len bytes)
+  Issues : (v t offset len : ℕ) → (bytes : List ℕ) → issue_refusal k v t ≡ None → Case k events line (issue_done k v t offset len bytes)
   Writes : (v t offset len : ℕ) → (bytes : List ℕ) → issue_refusal k v t ≡ None → Case k events line (write_done k v t offset len bytes)
   Applies : (n : ℕ) → (p : Pending) → find (is_write n) k.pending ≡ Some p → Case k events line (apply_done k p)
   Shows : (v t : ℕ) → show_refusal k v t ≡ None → Case k events line (show_done events line v t)
@@ -54,6 +53,9 @@ pub data Case (k : Control) (events : List Event) (line : ℕ) : Plan → Type 0
   Pauses : (devs : Devs) → (a b : ℕ) → Case k events line (pause_plan k devs a b)
   ResumesPair : (devs : Devs) → (a b : ℕ) → (kind : Part) → Case k events line (resume_plan k devs a b kind)
   Drains : (a : ℕ) → (most : Option ℕ) → Case k events line (drain_plan k a most)
+  Expires : (s : ℕ) → k.on s ≡ true → Case k events line (expire_plan k s)
+  Freezes : (l m : ℕ) → Case k events line (freeze_done k l m)
+  Thaws : (l m : ℕ) → Case k events line (thaw_done k l m)
 
 -- what the tests that passed tell
 pub one-passed : (b : Bool) (r : Refusal) (o : Option Refusal) → cond b (Some r) o ≡ None → (b ≡ false) × (o ≡ None)
@@ -105,20 +107,14 @@ module _ (k : Control) (events : List Event) (line : ℕ) where
   start-case : (s : ℕ) → Is (start_on k s)
   start-case s = choice (k.on s) (only_says (Done Alone)) (start_plan k s) (λ on. Says _) (Starts s)
 
-  -- the kind of a pair that is built
-  built-part : (kind : ℕ) → nat_eq kind 2 ≡ true → is_part (part_of kind) ≡ true
-  built-part kind is = by (nat_eq kind 1) (nat_eq kind 2) is
-    where
-      by : (m g : Bool) → g ≡ true → is_part (cond m Metro (cond g Global Absent)) ≡ true
-      by true g h = refl
-      by false true h = refl
-      by false false h = h
+  expire-case : (s : ℕ) → Is (expire_on k s)
+  expire-case s = choice (k.on s) (expire_plan k s) (refuses (server_off s)) (Expires s) (λ off. Says _)
 
   of-case : (step : Step) → is_built step ≡ true → Is (plan_of k events line step)
   of-case (Server name) built = where-none (server_refusal k (name_bytes name)) (server_done k name) (Defines name)
   of-case (Volume v name tracks) built = where-named (server_named k (name_bytes name)) (λ s. unless (volume_refusal k v s tracks) (volume_done v s tracks)) (λ s. where-none (volume_refusal k v s tracks) (volume_done v s tracks) (Adds v s tracks))
   of-case (Link a b up) built = where-named (server_named k (name_bytes a)) (λ x. on_server k b (λ y. link_between x y up)) (λ x. where-named (server_named k (name_bytes b)) (λ y. link_between x y up) (λ y. link-case x y up))
-  of-case (Issue v t offset len bytes) built = where-none (issue_refusal k v t) (issue_then [] k v t offset len bytes) (Issues v t offset len bytes)
+  of-case (Issue v t offset len bytes) built = where-none (issue_refusal k v t) (issue_done k v t offset len bytes) (Issues v t offset len bytes)
   of-case (Write v t offset len bytes) built = where-none (issue_refusal k v t) (write_done k v t offset len bytes) (Writes v t offset len bytes)
   of-case (Apply n) built = apply-case n _ refl
   of-case (Stop name) built = where-named (server_named k (name_bytes name)) (stop_on k) stop-case
@@ -136,11 +132,18 @@ module _ (k : Control) (events : List Event) (line : ℕ) where
   of-case (RemovePath devs src tgt force) built =
       where-owned (owner_of k src) (λ s. on_owner (owner_of k tgt) (λ u. unless (unpath_refusal k devs src tgt s u force) (unpath_done src tgt)))
       (λ s. where-owned (owner_of k tgt) (λ u. unless (unpath_refusal k devs src tgt s u force) (unpath_done src tgt)) (λ u. where-none (unpath_refusal k devs src tgt s u force) (unpath_done src tgt) (λ free. Unpaths src tgt)))
-  of-case (MakePair devs a b kind full) built = MakesPair devs a b (part_of kind) full (built-part kind built)
+  of-case (MakePair devs a b kind full) built = MakesPair devs a b (part_of kind) full built
   of-case (RemovePair devs a b source_only) built = RemovesPair devs a b source_only
   of-case (PausePair devs a b) built = Pauses devs a b
   of-case (ResumePair devs a b kind) built = ResumesPair devs a b (part_of kind)
   of-case (Drain a most) built = Drains a most
+  of-case (Expire name) built = where-named (server_named k (name_bytes name)) (expire_on k) expire-case
+  of-case (Freeze devs l m) built =
+      where-owned (owner_of k l) (λ s. on_owner (owner_of k m) (λ u. unless (freeze_refusal k devs l m s u) (freeze_done k l m)))
+      (λ s. where-owned (owner_of k m) (λ u. unless (freeze_refusal k devs l m s u) (freeze_done k l m)) (λ u. where-none (freeze_refusal k devs l m s u) (freeze_done k l m) (λ free. Freezes l m)))
+  of-case (Unfreeze devs l m) built =
+      where-owned (owner_of k l) (λ s. on_owner (owner_of k m) (λ u. unless (thaw_refusal k devs s u) (thaw_done k l m)))
+      (λ s. where-owned (owner_of k m) (λ u. unless (thaw_refusal k devs s u) (thaw_done k l m)) (λ u. where-none (thaw_refusal k devs s u) (thaw_done k l m) (λ free. Thaws l m)))
   of-case _ built = Says (Refused NotBuilt)
 
   step-case : (step : Step) → Is (step_plan k events line step)

@@ -53,26 +53,29 @@ found w s devs a b ds go =
     checked w (is_defined a) _ _ s (λ first. checked w (is_defined b) _ _ s (λ second. checked w (is_owner devs.dev a) _ _ s (λ owner. checked w (is_owner devs.remotedev b) _ _ s (λ other. go first second))))
 
 -- b can be reached: its server is on
-reached : (w : World) (a b : ℕ) → reach_refusal a b w.control ≡ None → Runs w b
+pub reached : (w : World) (a b : ℕ) → reach_refusal a b w.control ≡ None → Runs w b
 reached w a b h = is-not (is_running b w.control) (one-passed (not (is_running b w.control)) _ _ (one-passed (not (has_path a b w.control)) _ _ h).1).0
 
 -- who is the partner
-its-second : (b : ℕ) (f : Fields) → is_primary_of b f ≡ true → secondary_of f ≡ Some b
+pub its-second : (b : ℕ) (f : Fields) → is_primary_of b f ≡ true → secondary_of f ≡ Some b
 its-second b f h = let both = and_parts (is_part f.primary) _ h in has_source (is_part f.primary) f.primary_partner both.0 ∙ ap (λ j. Some j) (eqb-true f.primary_partner b both.1)
 
-its-first : (a : ℕ) (f : Fields) → is_secondary_of a f ≡ true → primary_of f ≡ Some a
+pub its-first : (a : ℕ) (f : Fields) → is_secondary_of a f ≡ true → primary_of f ≡ Some a
 its-first a f h = let both = and_parts (is_part f.secondary) _ h in has_source (is_part f.secondary) f.secondary_partner both.0 ∙ ap (λ j. Some j) (eqb-true f.secondary_partner a both.1)
 
 -- a move leaves each volume its server, and what it doesn't change
 module _ (w : World) (m : Move) (f : Option Fuse) where
-  abbrev row : Volume
+  abbrev pub row : Volume
   row = moved (w.control.volume (target m)) (next_of w m) (carried_in w m)
 
-  runs-done : (v : ℕ) → Runs w v → Runs (done w m f) v
+  pub runs-done : (v : ℕ) → Runs w v → Runs (done w m f) v
   runs-done v on = ap w.control.on (at_part (λ (x : Volume). x.server) w.control.volume (target m) row refl v) ∙ on
 
+  pub part-same : {X : Type 0} (part : Fields → X) → part (next_of w m) ≡ part (fields_at w.control (target m)) → (v : ℕ) → part (fields_at (done w m f).control v) ≡ part (fields_at w.control v)
+  part-same part same v = at_part (λ (x : Volume). part x.fields) w.control.volume (target m) row same v
+
   part-done : (part : Fields → Bool) → part (next_of w m) ≡ part (fields_at w.control (target m)) → (v : ℕ) → part (fields_at w.control v) ≡ true → part (fields_at (done w m f).control v) ≡ true
-  part-done part same v is = at_part (λ (x : Volume). part x.fields) w.control.volume (target m) row same v ∙ is
+  part-done part same v is = part-same part same v ∙ is
 
 -- no track differs
 none-found : (f : ℕ → Bool) (n b q : ℕ) → find f (range_with_len b n) ≡ None → b < q + 1 → q < b + n → f q ≡ false

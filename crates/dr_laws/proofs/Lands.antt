@@ -8,7 +8,7 @@ use Rattle.dr_model.specs.Histories.{histories}
 use Rattle.dr_model.specs.Control.{Control, Pending, Volume, World}
 use Rattle.dr_model.specs.Moves.{Land, Overwrite, is_write}
 use Rattle.dr_model.specs.Carry.{Make, Drop, dropped, Pass, Do, Entry, check}
-use Rattle.dr_model.specs.Entries.{fields_at, is_running, is_no_secondary, is_open, is_settled, is_revertible, is_reversing, stands_in, copies_from, copy_first, keep_on, land_on, landing, drop_unless, check_or_drop}
+use Rattle.dr_model.specs.Entries.{fields_at, is_running, is_no_secondary, is_open, is_settled, is_revertible, is_reversing, stands_in, copies_from, keep_on, land_on, land_alone, drop_unless, check_or_drop}
 use Rattle.dr_model.specs.Laws.{Sound, Waits, AllPending, Apart}
 use Rattle.dr_model.specs.Allowed.{Coming, MayAck, Runs}
 use Rattle.dr_laws.proofs.Sets.{false_true, none_some, no_source, has_source, from_source}
@@ -50,16 +50,16 @@ found-waits w s n p found = all-found _ p w.control.pending (found-alone n p w.c
 
 -- one of the queue, alone with its number
 module _ (w : World) (s : Sound w) (p : Pending) (one : filter (is_write p.w) w.control.pending ≡ p ∷ []) where
-  waits : Waits None w.control (histories w.events).write p
+  pub waits : Waits None w.control (histories w.events).write p
   waits = all-found _ p w.control.pending one s.queue.each
 
   not_landed : Runs w p.volume → p.landed ≡ false
   not_landed on = false_from_ne_true p.landed (λ l. false_true (waits.calm l refl) on)
 
-  unlanded : Runs w p.volume → AllPending (λ p. p.landed ≡ false) (filter (is_write p.w) w.control.pending)
+  pub unlanded : Runs w p.volume → AllPending (λ p. p.landed ≡ false) (filter (is_write p.w) w.control.pending)
   unlanded on = subst (AllPending (λ p. p.landed ≡ false)) (sym one) (not_landed on, tt)
 
-  may-ack : Runs w p.volume → MayAck w p.w p.volume p.track
+  pub may-ack : Runs w p.volume → MayAck w p.w p.volume p.track
   may-ack on = record {
     number = waits.number;
     volume = waits.volume;
@@ -70,7 +70,7 @@ module _ (w : World) (s : Sound w) (p : Pending) (one : filter (is_write p.w) w.
   }
 
 -- a check that drops the write where it doesn't pass
-dropped-checked : (w : World) (n : ℕ) (ok : Control → Bool) (r : Refusal) (ds : List Entry) → Sound w → AllPending (λ p. p.landed ≡ false) (filter (is_write n) w.control.pending) → ok (dropped w n).control ≡ ok w.control
+pub dropped-checked : (w : World) (n : ℕ) (ok : Control → Bool) (r : Refusal) (ds : List Entry) → Sound w → AllPending (λ p. p.landed ≡ false) (filter (is_write n) w.control.pending) → ok (dropped w n).control ≡ ok w.control
     → (ok w.control ≡ true → Along w ds) → Along w (check_or_drop n ok r ++ ds)
 dropped-checked w n ok r ds s unlanded same go = decides w (drop_unless n ok) (check ok r ∷ ds) _ refl (by (ok w.control) refl)
   where
@@ -83,7 +83,11 @@ pub and-false : (a b : Bool) → (a && b) ≡ false → a ≡ true → b ≡ fal
 and-false true b h is = h
 and-false false b h is = absurd cc
 
--- nothing is restored onto a volume that is settled
+-- nothing is restored onto a volume
+abbrev pub Unrestored : World → ℕ → Type 0
+Unrestored w v = (u : ℕ) → from w u ≡ Some v → (fields_at w.control u).reversing ≡ true → ⊥
+
+-- as where it is settled
 pub unrestored : {P : Type 0} (w : World) → Sound w → (v : ℕ) → is_settled v w.control ≡ true → (u : ℕ) → from w u ≡ Some v → (fields_at w.control u).reversing ≡ true → P
 unrestored w s v settled u h r =
     let calm = (both-not (stands_in is_revertible w.control v) (stands_in is_reversing w.control v) settled).1 in
@@ -97,51 +101,34 @@ module _ (w : World) (s : Sound w) (p : Pending) (one : filter (is_write p.w) w.
   abbrev f : Fields
   f = fields_at w.control v
 
-  -- the volume isn't restored onto another
-  module _ (settled : is_settled v w.control ≡ true) (on : Runs w v) where
-    calm : stands_in is_reversing w.control v ≡ false
-    calm = (both-not (stands_in is_revertible w.control v) (stands_in is_reversing w.control v) settled).1
+  -- on a volume that is no target, onto which nothing is restored, and whose targets keep the track first
+  pub plain-lands : Runs w v → is_part f.secondary ≡ false → f.related ≡ false → Unrestored w v → Along w (land_alone w.control.volumes p.w v p.track)
+  plain-lands on free is still =
+      let plain : from w v ≡ None = no_source f.related f.source is in
+      copy-first v p.track w plain (waits w s p one).low on (keep_on v p.track) (λ w x st. refl) _
+      (λ k sk st kept.
+      let here = st.volume v plain in
+      let one_k : filter (is_write p.w) k.control.pending ≡ p ∷ [] = ap (filter (is_write p.w)) st.pending ∙ one in
+      let on_k : Runs k v = (λ i. st.on i (here i).server) ∙ on in
+      let waits_k = waits k sk p one_k in
+      let is_k : (fields_at k.control v).related ≡ false = ap (λ (x : Volume). x.fields.related) here ∙ is in
+      decides k (land_on p.w v p.track) [] (Do (Make (Land p.w v p.track))) (ap (λ b. Do (Make (cond b (Overwrite p.w v p.track) (Land p.w v p.track)))) is_k) (
+        record { runs = on_k; allowed = record { low = waits_k.low; defined = waits_k.defined; plain = no_source _ _ is_k; first = ap (λ (x : Volume). is_part x.fields.secondary) here ∙ free; kept = kept }; fits = tt; ready = may-ack k sk p one_k on_k },
+        λ f j. over _ j,
+      ))
+      (λ u h r. absurd (still u h r)) s
 
-    -- on a volume that is no target, whose targets keep the track first
-    plain-lands : is_part f.secondary ≡ false → f.related ≡ false → Along w (copy_first w.control.volumes v p.track ++ land_on p.w v p.track ∷ [])
-    plain-lands free is =
-        let plain : from w v ≡ None = no_source f.related f.source is in
-        copy-first v p.track w plain (waits w s p one).low on (keep_on v p.track) (λ w x st. refl) _
-        (λ k sk st kept.
-        let here = st.volume v plain in
-        let one_k : filter (is_write p.w) k.control.pending ≡ p ∷ [] = ap (filter (is_write p.w)) st.pending ∙ one in
-        let on_k : Runs k v = (λ i. st.on i (here i).server) ∙ on in
-        let waits_k = waits k sk p one_k in
-        let is_k : (fields_at k.control v).related ≡ false = ap (λ (x : Volume). x.fields.related) here ∙ is in
-        decides k (land_on p.w v p.track) [] (Do (Make (Land p.w v p.track))) (ap (λ b. Do (Make (cond b (Overwrite p.w v p.track) (Land p.w v p.track)))) is_k) (
-          record { runs = on_k; allowed = record { low = waits_k.low; defined = waits_k.defined; plain = no_source _ _ is_k; first = ap (λ (x : Volume). is_part x.fields.secondary) here ∙ free; kept = kept }; fits = tt; ready = may-ack k sk p one_k on_k },
-          λ f j. over _ j,
-        ))
-        (λ u h r. unrestored w s v settled u h r) s
+  -- on a target, which isn't restored
+  target-lands : Runs w v → f.related ≡ true → f.reversing ≡ false → Along w (land_alone w.control.volumes p.w v p.track)
+  target-lands on is forward =
+      let related : from w v ≡ Some f.source = has_source f.related f.source is in
+      copy-none w v p.track _ (λ u h. none_some (s.rows.structure.flash u v h).plain related)
+      (decides w (land_on p.w v p.track) [] (Do (Make (Overwrite p.w v p.track))) (ap (λ b. Do (Make (cond b (Overwrite p.w v p.track) (Land p.w v p.track)))) is) (
+        record { runs = on; allowed = record { low = (waits w s p one).low; from = f.source; related = related; forward = forward }; fits = tt; ready = may-ack w s p one on },
+        λ f j. over _ j,
+      )) w.control.volumes
 
-    -- on a target
-    target-lands : f.related ≡ true → Along w (copy_first w.control.volumes v p.track ++ land_on p.w v p.track ∷ [])
-    target-lands is =
-        let related : from w v ≡ Some f.source = has_source f.related f.source is in
-        copy-none w v p.track _ (λ u h. none_some (s.rows.structure.flash u v h).plain related)
-        (decides w (land_on p.w v p.track) [] (Do (Make (Overwrite p.w v p.track))) (ap (λ b. Do (Make (cond b (Overwrite p.w v p.track) (Land p.w v p.track)))) is) (
-          record {
-            runs = on;
-            allowed = record { low = (waits w s p one).low; from = f.source; related = related; forward = and-false f.related f.reversing (or_parts (f.related && f.reversing) _ calm).0 is };
-            fits = tt;
-            ready = may-ack w s p one on;
-          },
-          λ f j. over _ j,
-        )) w.control.volumes
-
-    lands-by : is_part f.secondary ≡ false → (b : Bool) → f.related ≡ b → Along w (copy_first w.control.volumes v p.track ++ land_on p.w v p.track ∷ [])
-    lands-by free true is = target-lands is
-    lands-by free false is = plain-lands free is
-
-  pub lands : (k : Control) → k.volumes ≡ w.control.volumes → Along w (landing k p.w v p.track)
-  lands k volumes =
-      checked w (is_running v) _ _ s (λ on.
-      dropped-checked w p.w (is_no_secondary v) _ _ s (unlanded w s p one on) refl (λ free.
-      dropped-checked w p.w (is_open v) _ _ s (unlanded w s p one on) refl (λ open_to.
-      dropped-checked w p.w (is_settled v) _ _ s (unlanded w s p one on) refl (λ settled.
-      subst (λ vs. Along w (copy_first vs v p.track ++ land_on p.w v p.track ∷ [])) (sym volumes) (lands-by settled on (not-true (is_part f.secondary) free) f.related refl)))))
+  -- on either: a volume that is settled isn't restored, nor is another onto it
+  pub lands-alone : Runs w v → is_part f.secondary ≡ false → is_settled v w.control ≡ true → (b : Bool) → f.related ≡ b → Along w (land_alone w.control.volumes p.w v p.track)
+  lands-alone on free settled true is = target-lands on is (and-false f.related f.reversing (or_parts (f.related && f.reversing) _ (both-not (stands_in is_revertible w.control v) (stands_in is_reversing w.control v) settled).1).0 is)
+  lands-alone on free settled false is = plain-lands on free is (λ u h r. unrestored w s v settled u h r)

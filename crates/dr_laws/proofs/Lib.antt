@@ -20,6 +20,8 @@ pub mod Lands
 pub mod FitsFlash
 pub mod FitsCopy
 pub mod FitsPairs
+pub mod FitsWrites
+pub mod FitsHolds
 pub mod Issues
 pub mod Defines
 pub mod Starts

@@ -1,4 +1,4 @@
--- A server starts: until its landed write is acknowledged, it alone may be on with a write that waits.
+-- A server starts: its volumes go on, and until its landed write is acknowledged, it alone may be on with a write that waits.
 use Rattle.std.proofs.Common.{ℕ, ◌≡◌, ◌≢◌, ◌+◌, ◌⊎◌, inl, inr, refl, ap, sym, ◌∙◌, subst, Bool, true, false, cond, not, ◌&&◌, nat_eq, List, [], ◌∷◌, ◌++◌, map, filter, Option, Some, None}
 use Rattle.std.specs.Prelude.{option_map}
 use Rattle.std.proofs.lemmas.List.{append-nil}
@@ -10,21 +10,24 @@ use Rattle.dr_model.specs.Tables.{at}
 use Rattle.dr_model.specs.Contents.{image}
 use Rattle.dr_model.specs.Histories.{Write, Histories, histories}
 use Rattle.dr_model.specs.Control.{Control, Pending, World, Fuse, is_volume}
-use Rattle.dr_model.specs.Moves.{is_other}
-use Rattle.dr_model.specs.Carry.{Act, Make, Redo, Acknowledge, Drop, Pass, Do, Entry, acknowledged}
-use Rattle.dr_model.specs.Plans.{redo_on, belongs, has_landed, acknowledge_on, acknowledge_if, start_plan, starting}
+use Rattle.dr_model.specs.Pairs.{must_restart}
+use Rattle.dr_model.specs.Moves.{Move, Restart, is_other}
+use Rattle.dr_model.specs.Carry.{Act, Make, Redo, Acknowledge, Drop, EndFreeze, EndThaw, Pass, Do, Entry, acknowledged}
+use Rattle.dr_model.specs.Entries.{fields_at}
+use Rattle.dr_model.specs.WriteEntries.{belongs, redo_on, restart_on, start_entries}
+use Rattle.dr_model.specs.Plans.{has_landed, acknowledge_on, acknowledge_if, start_plan, starting}
 use Rattle.dr_model.specs.Runs.{begun}
 use Rattle.dr_model.specs.Table.{table, waiting, due, due_by}
 use Rattle.dr_model.specs.Laws.{SoundRows, Sound, SoundBut, Waits, AllPending, Apart, Lone, Together, servers, Numbered}
-use Rattle.dr_model.specs.Allowed.{Runs}
+use Rattle.dr_model.specs.Allowed.{Runs, May}
 use Rattle.dr_model.proofs.Images.{histories-append, at_same, at_other}
 use Rattle.dr_laws.proofs.AtLemmas.{at_cases}
 use Rattle.dr_laws.proofs.Sets.{if_false, if_true}
-use Rattle.dr_laws.proofs.Turns.{after_act, not_done, place, server_of, Writes}
+use Rattle.dr_laws.proofs.Turns.{after_act, done, done_in_stop, not_done, place, server_of, Writes}
 use Rattle.dr_laws.proofs.Due.{acked_lists}
 use Rattle.dr_laws.proofs.RowsAfter.{calm-each}
 use Rattle.dr_laws.proofs.KeepsQueue.{each-on, all-filter, apart-filter, lone-filter, numbered-after}
-use Rattle.dr_laws.proofs.KeepsSound.{StepHolds, over, sound-not, rows-told}
+use Rattle.dr_laws.proofs.KeepsSound.{StepHolds, over, sound-done, sound-stop, sound-not, rows-told}
 use Rattle.dr_laws.proofs.Along as along
 
 -- no write has landed on the server
@@ -136,15 +139,21 @@ module _ (s : ℕ) where
     number : waits.w ≡ n
     first : first_landed w ≡ Some waits
 
-  record MayRedo (w : World) (v : ℕ) : Type 0 where
+  record OnServer (w : World) (v : ℕ) : Type 0 where
     own : servers w.control v ≡ s
     on : w.control.on s ≡ true
 
+  abbrev MayMove : World → Move → Type 0
+  MayMove w (Restart v) = OnServer w v
+  MayMove w m = ⊥
+
   abbrev MayStart : World → Act → Type 0
-  MayStart w (Make m) = ⊥
-  MayStart w (Redo v) = MayRedo w v
+  MayStart w (Make m) = MayMove w m
+  MayStart w (Redo v) = OnServer w v
   MayStart w (Acknowledge n) = MayAcknowledge w n
   MayStart w (Drop n) = ⊥
+  MayStart w (EndFreeze l m) = ⊥
+  MayStart w (EndThaw l m) = ⊥
 
   -- the server stays on while its acts are done
   record Inner (w : World) : Type 0 where
@@ -224,25 +233,45 @@ module _ (s : ℕ) where
     }
 
   runs : (w : World) (a : Act) → Writes a → MayStart w a → Runs w (place a)
+  runs w (Make (Restart v)) d may = ap w.control.on may.own ∙ may.on
   runs w (Make m) d may = absurd may
   runs w (Redo v) d may = ap w.control.on may.own ∙ may.on
   runs w (Acknowledge n) d may = absurd d
   runs w (Drop n) d may = absurd d
+  runs w (EndFreeze l m) d may = absurd d
+  runs w (EndThaw l m) d may = absurd d
+
+  -- a volume that goes on leaves the queue as it was
+  may-restart : (w : World) (v : ℕ) → OnServer w v → May w (Restart v)
+  may-restart w v may = record { runs = ap w.control.on may.own ∙ may.on; allowed = tt; fits = tt; ready = tt }
 
   does : (w : World) (a : Act) (f : Option Fuse) → Inner w → MayStart w a → Inner (after_act w a f)
+  does w (Make (Restart v)) f j may = record { sound = sound-done (Some s) w (Restart v) f j.sound (may-restart w v may); on = j.on }
   does w (Make m) f j may = absurd may
   does w (Redo v) f j may = let x = j.sound in record { sound = record { rows = x.rows; targets = record { once = x.targets.once; few = x.targets.few }; queue = record { each = x.queue.each; apart = x.queue.apart; lone = x.queue.lone; numbers = x.queue.numbers } }; on = j.on }
   does w (Acknowledge n) f j may = record { sound = subst (λ n. Starting (acknowledged w n)) may.number (acknowledges w j.sound may.waits may.first); on = j.on }
   does w (Drop n) f j may = absurd may
+  does w (EndFreeze l m) f j may = absurd may
+  does w (EndThaw l m) f j may = absurd may
+
+  counts : (w : World) (m : Move) (f : Option Fuse) → Inner w → MayMove w m → Sound (done_in_stop w m f)
+  counts w (Restart v) f j may = sound-off (done_in_stop w (Restart v) f) (sound-stop (Some s) w (Restart v) f j.sound (may-restart w v may)) (ap (λ x. at w.control.on x false s) may.own ∙ at_same w.control.on s false)
+  counts w m f j may = absurd may
+
+  stopped-off : (w : World) (v : ℕ) (f : Option Fuse) → Inner w → OnServer w v → Sound (not_done w (servers w.control v) f)
+  stopped-off w v f j may = sound-off (not_done w (servers w.control v) f) (sound-not (Some s) w (servers w.control v) f j.sound) (ap (λ x. at w.control.on x false s) may.own ∙ at_same w.control.on s false)
 
   fails : (w : World) (a : Act) (f : Option Fuse) → Writes a → Inner w → MayStart w a → Sound (not_done w (server_of w a) f)
+  fails w (Make (Restart v)) f d j may = stopped-off w v f j may
   fails w (Make m) f d j may = absurd may
-  fails w (Redo v) f d j may = sound-off (not_done w (servers w.control v) f) (sound-not (Some s) w (servers w.control v) f j.sound) (ap (λ x. at w.control.on x false s) may.own ∙ at_same w.control.on s false)
+  fails w (Redo v) f d j may = stopped-off w v f j may
   fails w (Acknowledge n) f d j may = absurd d
   fails w (Drop n) f d j may = absurd d
+  fails w (EndFreeze l m) f d j may = absurd d
+  fails w (EndThaw l m) f d j may = absurd d
 
   keeps : along.Keeps Inner Sound MayStart
-  keeps = record { runs = runs; does = does; counts = λ w m f j may. absurd may; fails = λ w a f d j may. fails w a f d j may }
+  keeps = record { runs = runs; does = does; counts = counts; fails = λ w a f d j may. fails w a f d j may }
 
   -- all that a start does
   abbrev Along : World → List Entry → Type 0
@@ -257,9 +286,16 @@ module _ (s : ℕ) where
   redo-by w v more j go false h = go w j
   redo-by w v more j go true h = (record { own = eqb-true (servers w.control v) s (and_parts _ _ h).1; on = j.on }, λ f k. go _ k)
 
-  redoes : (vs : List ℕ) (w : World) → Inner w → Along w (map (redo_on s) vs ++ acknowledge_on s ∷ [])
-  redoes [] w j = along.along-entry Inner Sound MayStart w (acknowledge_on s) [] _ refl (acknowledge-by w _ refl j)
-  redoes (v ∷ vs) w j = along.along-entry Inner Sound MayStart w (redo_on s v) _ _ refl (redo-by w v _ j (λ k. redoes vs k) _ refl)
+  restart-by : (w : World) (v : ℕ) (more : World → Type 0) → Inner w → ((k : World) → Inner k → more k) → (b : Bool) → (belongs w.control s v && must_restart (fields_at w.control v)) ≡ b
+      → along.along_next Inner Sound MayStart w (cond b (Do (Make (Restart v))) Pass) more
+  restart-by w v more j go false h = go w j
+  restart-by w v more j go true h = (record { own = eqb-true (servers w.control v) s (and_parts (is_volume w.control v) _ (and_parts (belongs w.control s v) _ h).0).1; on = j.on }, λ f k. go _ k)
+
+  volumes-start : (vs : List ℕ) (w : World) → Inner w → Along w (start_entries s vs ++ acknowledge_on s ∷ [])
+  volumes-start [] w j = along.along-entry Inner Sound MayStart w (acknowledge_on s) [] _ refl (acknowledge-by w _ refl j)
+  volumes-start (v ∷ vs) w j =
+      along.along-entry Inner Sound MayStart w (redo_on s v) _ _ refl (redo-by w v _ j (λ k i.
+      along.along-entry Inner Sound MayStart k (restart_on s v) _ _ refl (restart-by k v _ i (λ k i. volumes-start vs k i) _ refl)) _ refl)
 
   starts-waits : (w : World) → Sound w → (p : Pending) → Waits None w.control (histories w.events).write p → Waits (Some s) (starting s w.control) (histories w.events).write p
   starts-waits w x p waits = record {
@@ -295,7 +331,7 @@ module _ (s : ℕ) where
     keeps = keeps;
     within = λ v j. j.sound.rows;
     begins = begins w x;
-    entries = redoes w.control.volumes (begun w (start_plan w.control s)) (begins w x);
+    entries = volumes-start w.control.volumes (begun w (start_plan w.control s)) (begins w x);
     follows = λ q v i. over v i;
     last = λ v i. i;
   }

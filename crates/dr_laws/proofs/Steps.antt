@@ -15,20 +15,22 @@ use Rattle.dr_model.specs.Histories.{histories, after_event}
 use Rattle.dr_model.specs.Control.{Control, Pending, Fuse, World, nothing}
 use Rattle.dr_model.specs.Moves.{is_write}
 use Rattle.dr_model.specs.Carry.{Entry, carry}
-use Rattle.dr_model.specs.Plans.{Plan, plan, same, only_says, tables_plan, name_bytes, issue_then, write_done, apply_done, torn_bytes}
+use Rattle.dr_model.specs.Plans.{Plan, plan, same, only_says, tables_plan, name_bytes, issue_done, write_done, apply_done, torn_bytes}
 use Rattle.dr_model.specs.Runs.{Task, begun, said, after_plan, after_task, after_tasks, run}
 use Rattle.dr_model.specs.Table.{table}
 use Rattle.dr_model.specs.Laws.{SoundRows, Sound}
 use Rattle.dr_model.proofs.Images.{histories-append}
 use Rattle.dr_model.proofs.LawfulLemmas.{lawful-no_fields}
-use Rattle.dr_laws.proofs.Cases.{Case, Says, Defines, Adds, Links, Issues, Writes, Applies, Shows, Stops, Arms, Starts, Flashes, Withdraws, Resyncs, Reverses, Copies, Paths, Unpaths, MakesPair, RemovesPair, Pauses, ResumesPair, Drains, IsTrack, plan-case, is-new, may-issue}
+use Rattle.dr_laws.proofs.Cases.{Case, Says, Defines, Adds, Links, Issues, Writes, Applies, Shows, Stops, Arms, Starts, Flashes, Withdraws, Resyncs, Reverses, Copies, Paths, Unpaths, MakesPair, RemovesPair, Pauses, ResumesPair, Drains, Expires, Freezes, Thaws, IsTrack, plan-case, is-new, may-issue}
 use Rattle.dr_laws.proofs.KeepsQueue.{Quiet, AllQuiet, goes-off}
 use Rattle.dr_laws.proofs.KeepsSound.{StepHolds, RowsAt, MayDo, Along, holds-moves, keeps-sound, sound-told, over}
 use Rattle.dr_laws.proofs.Issues.{issued, sound-issued, one-new}
-use Rattle.dr_laws.proofs.Lands.{found-alone, lands}
+use Rattle.dr_laws.proofs.Lands.{found-alone}
 use Rattle.dr_laws.proofs.FitsFlash.{holds-flash, holds-withdraw, holds-resync, holds-reverse}
 use Rattle.dr_laws.proofs.FitsCopy.{holds-copy}
 use Rattle.dr_laws.proofs.FitsPairs.{holds-pair, holds-remove, holds-pause, holds-resume, holds-drain}
+use Rattle.dr_laws.proofs.FitsWrites.{lands, parts-after}
+use Rattle.dr_laws.proofs.FitsHolds.{holds-freeze, holds-thaw, holds-expire}
 use Rattle.dr_laws.proofs.Sets.{in_none}
 use Rattle.dr_laws.proofs.Defines.{sound-defined}
 use Rattle.dr_laws.proofs.Starts.{holds-start}
@@ -61,7 +63,7 @@ holds-event w servers on e a s unheard quiet off first is =
 pub holds-says : (w : World) (a : Said) → Sound w → StepHolds w (only_says a)
 holds-says w a s = holds-quiet w w.control.fuse w.control.link w.control.paths a s same refl
 
--- a write is issued, and what follows may come
+-- a write is issued, and may be carried out
 module _ (w : World) (s : Sound w) (v t offset len : ℕ) (bytes : List ℕ) (there : IsTrack w.control v t) where
   abbrev first : World
   first = issued w s v t offset len bytes there.defined there.low
@@ -72,11 +74,11 @@ module _ (w : World) (s : Sound w) (v t offset len : ℕ) (bytes : List ℕ) (th
   abbrev new : Pending
   new = record { w = w.control.issued + 1; volume = v; track = t; landed = false }
 
-  holds-issue : (entries : List Entry) → Along first entries → StepHolds w (issue_then entries w.control v t offset len bytes)
-  holds-issue entries a = holds-moves w (issue_then entries w.control v t offset len bytes) begins a (λ q k i. over k i) (λ k i. i)
+  holds-issue : StepHolds w (issue_done w.control v t offset len bytes)
+  holds-issue = holds-moves w (issue_done w.control v t offset len bytes) begins (over _ begins) (λ q k i. over k i) (λ k i. i)
 
   holds-write : StepHolds w (write_done w.control v t offset len bytes)
-  holds-write = holds-issue _ (lands first begins new (one-new w s v t offset len bytes there.defined there.low) w.control refl)
+  holds-write = holds-moves w (write_done w.control v t offset len bytes) begins (lands first begins new (one-new w s v t offset len bytes there.defined there.low)) (λ q k i. parts-after v q k i) (λ k i. i)
 
 -- a pending write is carried out
 module _ (w : World) (s : Sound w) (n : ℕ) (p : Pending) (found : find (is_write n) w.control.pending ≡ Some p) where
@@ -90,7 +92,7 @@ module _ (w : World) (s : Sound w) (n : ℕ) (p : Pending) (found : find (is_wri
   here-sound = subst Sound same-world s
 
   holds-apply : StepHolds w (apply_done w.control p)
-  holds-apply = holds-moves w (apply_done w.control p) here-sound (lands here here-sound p (found-alone n p w.control.pending found s.queue.apart) w.control refl) (λ q k i. over k i) (λ k i. i)
+  holds-apply = holds-moves w (apply_done w.control p) here-sound (lands here here-sound p (found-alone n p w.control.pending found s.queue.apart)) (λ q k i. parts-after p.volume q k i) (λ k i. i)
 
 -- whatever a step comes to
 module _ (w : World) (s : Sound w) (line : ℕ) where
@@ -101,7 +103,7 @@ module _ (w : World) (s : Sound w) (line : ℕ) where
   case-holds _ (Adds v x tracks free) = holds-tables w _ _ _ (sound-defined w s v x tracks (is-new w.control v x tracks free).undefined)
   case-holds _ (Links a b up) =
       holds-quiet w w.control.fuse (λ x y. cond (joins x y a b) up (w.control.link x y)) w.control.paths _ s (λ k. record k { link = λ x y. cond (joins x y a b) up (k.link x y) }) refl
-  case-holds _ (Issues v t offset len bytes free) = let there = (may-issue w.control v t free).0 in holds-issue w s v t offset len bytes there [] (over _ (begins w s v t offset len bytes there))
+  case-holds _ (Issues v t offset len bytes free) = let there = (may-issue w.control v t free).0 in holds-issue w s v t offset len bytes there
   case-holds _ (Writes v t offset len bytes free) = holds-write w s v t offset len bytes (may-issue w.control v t free).0
   case-holds _ (Applies n p found) = holds-apply w s n p found
   case-holds _ (Shows v t there) = holds-event w w.control.servers w.control.on (Shown line v t (image_at w.events v t)) _ s refl tt (λ j h. h) same refl
@@ -123,6 +125,9 @@ module _ (w : World) (s : Sound w) (line : ℕ) where
   case-holds _ (Pauses devs a b) = holds-pause w s devs a b
   case-holds _ (ResumesPair devs a b kind) = holds-resume w s devs a b kind
   case-holds _ (Drains a most) = holds-drain w s a most
+  case-holds _ (Expires x on) = holds-expire x w s on
+  case-holds _ (Freezes l m) = holds-freeze l m w s
+  case-holds _ (Thaws l m) = holds-thaw l m w s
 
   pub step-holds : (asked : Result Step ℕ) → StepHolds w (plan w.control w.events line asked)
   step-holds asked = case-holds _ (plan-case w.control w.events line asked)
