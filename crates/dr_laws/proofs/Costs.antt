@@ -10,8 +10,8 @@ use Rattle.dr_model.specs.declared.event.Event.TheVariants.{Blanked, Restored, S
 use Rattle.dr_model.specs.Layout.{Tracks}
 use Rattle.dr_model.specs.Relations.{rest, in_order, is_bare}
 use Rattle.dr_model.specs.Control.{Control, Fuse, Volume, World}
-use Rattle.dr_model.specs.Moves.{Move, Land, Overwrite, target, told, told_in_stop, told_blank, told_restored, landed}
-use Rattle.dr_model.specs.Carry.{Act, Make, Redo, Acknowledge, Drop, Next, Pass, Do, End, Entry, Outcome, carry, continue, go, check, now}
+use Rattle.dr_model.specs.Moves.{Move, Land, Overwrite, LandBoth, target, told, told_in_stop, told_blank, told_restored, landed}
+use Rattle.dr_model.specs.Carry.{Act, Make, Redo, Acknowledge, Drop, EndFreeze, EndThaw, Next, Pass, Do, End, Entry, Outcome, carry, continue, go, check, now}
 use Rattle.dr_laws.proofs.Turns.{act-cases, Counts, after_act, server_of, done}
 
 -- no more tracks stand in order than a volume has
@@ -50,6 +50,8 @@ tells w (Make m) = length (told m (w.control.volume (target m)))
 tells w (Redo v) = 0
 tells w (Acknowledge n) = 1
 tells w (Drop n) = 0
+tells w (EndFreeze l m) = 1
+tells w (EndThaw l m) = 1
 
 -- entries that tell n events at most; an act for which the server is off is passed over
 abbrev pub costs_next : ℕ → World → Next → (ℕ → World → Type 0) → Type 0
@@ -87,6 +89,7 @@ costs-last n w m le =
 in_stop-few : (m : Move) (u : Volume) → length (told_in_stop m u) ≤ length (told m u)
 in_stop-few (Land n v t) u = omega arith
 in_stop-few (Overwrite n v t) u = omega arith
+in_stop-few (LandBoth n v t) u = omega arith
 in_stop-few m u = omega arith
 
 done-adds : (w : World) (a : Act) (f : Option Fuse) → length (after_act w a f).events ≡ length w.events + tells w a
@@ -94,6 +97,8 @@ done-adds w (Make m) f = length-append w.events (told m (w.control.volume (targe
 done-adds w (Redo v) f = omega arith
 done-adds w (Acknowledge n) f = length-append w.events _
 done-adds w (Drop n) f = omega arith
+done-adds w (EndFreeze l m) f = length-append w.events _
+done-adds w (EndThaw l m) f = length-append w.events _
 
 counts-adds : (n : ℕ) (w : World) (a : Act) (next : World → Outcome) → tells w a ≤ n → Counts w a (λ t. length (continue t.0 t.1 next).0.events ≤ length w.events + n + 1)
 counts-adds n w (Make m) next le = λ f.
@@ -106,6 +111,8 @@ counts-adds n w (Make m) next le = λ f.
 counts-adds n w (Redo v) next le = tt
 counts-adds n w (Acknowledge k) next le = tt
 counts-adds n w (Drop k) next le = tt
+counts-adds n w (EndFreeze l m) next le = tt
+counts-adds n w (EndThaw l m) next le = tt
 
 go-adds : (n : ℕ) (w : World) (x : Next) (next : World → Outcome) (more : ℕ → World → Type 0) → ((m : ℕ) (v : World) → more m v → length (next v).0.events ≤ length v.events + m + 1) → costs_next n w x more
     → length (go w x next).0.events ≤ length w.events + n + 1

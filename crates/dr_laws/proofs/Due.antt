@@ -7,7 +7,7 @@ use Rattle.std.proofs.lemmas.List.Sums.{fold-append}
 use Rattle.std.specs.List.{fold, list_any, range_with_len}
 use Rattle.std.specs.FinSet.{contains}
 use Rattle.dr_model.specs.declared.event.Event.{Event}
-use Rattle.dr_model.specs.declared.event.Event.TheVariants.{Ack, Set, Back, Blanked, Restored}
+use Rattle.dr_model.specs.declared.event.Event.TheVariants.{Ack, Mirrored, Set, Back, Blanked, Restored}
 use Rattle.dr_model.specs.Tables.{at}
 use Rattle.dr_model.specs.Contents.{image, with_write, zeros}
 use Rattle.dr_model.specs.Layout.{Tracks}
@@ -165,6 +165,19 @@ module _ (h : Histories) (ps : List Pending) where
       (ap (λ ws. image h.write (h.now v t ++ ws)) (waiting-marked_here n v t ps coming (calm t) ∙ one) ∙ ap (image h.write) (sym (append-nil _)) ∙ landed-at n v t calm)
       (λ q ne. ap (λ ws. image h.write (h.now v q ++ ws)) (waiting-marked_else n v t v q ps (inr ne) coming)) q)
       (λ u ne. ap (λ ws. image h.write (h.now u q ++ ws)) (waiting-marked_else n v t u q ps (inl ne) coming)) u
+
+  -- a write is stored on another volume that takes its track
+  mirrored_lists : (n v t a : ℕ) → (h.write n).volume ≡ a → (h.write n).track ≡ t → (after_event h (Mirrored n v)).now ≡ at h.now v (at (h.now v) t (h.now a t ++ n ∷ []))
+  mirrored_lists n v t a on of =
+      at2_at h.now v (h.write n).track (h.now (h.write n).volume (h.write n).track ++ n ∷ [])
+      ∙ (λ i. at h.now v (at (h.now v) (of i) (h.now (on i) (of i) ++ n ∷ [])))
+
+  pub due-mirrored : (n v t a : ℕ) → (h.write n).volume ≡ a → (h.write n).track ≡ t → Calm ps v → Calm ps a → (u q : ℕ)
+      → due_by (after_event h (Mirrored n v)) ps u q ≡ at old v (at (old v) t (with_write h.write (old a t) n)) u q
+  due-mirrored n v t a on of calm from u q =
+      ap (λ (l : ℕ → ℕ → List ℕ). image h.write (l u q ++ waiting ps u q)) (mirrored_lists n v t a on of)
+      ∙ due-at v (at (h.now v) t (h.now a t ++ n ∷ [])) (at (old v) t (with_write h.write (old a t) n)) (waiting ps) u q
+      (at_two (λ q l d. image h.write (l ++ waiting ps v q) ≡ d) (h.now v) (old v) t _ _ (ap (λ r. image h.write ((h.now a t ++ n ∷ []) ++ r)) (calm t) ∙ landed-at n a t from) (λ q ne. refl) q) (λ ne. refl)
 
   pub due-set : (v s : ℕ) → Calm ps v → Calm ps s → (u q : ℕ) → due_by (after_event h (Set v s)) ps u q ≡ at old v (old s) u q
   due-set v s calm from u q = due-at v (h.now s) (old s) (waiting ps) u q (ap (λ ws. image h.write (h.now s q ++ ws)) (calm q ∙ sym (from q))) (λ ne. refl)

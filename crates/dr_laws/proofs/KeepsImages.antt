@@ -9,8 +9,8 @@ use Rattle.dr_model.specs.Layout.{Tracks, Fields}
 use Rattle.dr_model.specs.Histories.{Write}
 use Rattle.dr_model.specs.Views.{source_of, view}
 use Rattle.dr_model.specs.Relations.{rest, is_bare, is_whole, parted_if, fetched, withdrawn_if, turned, given_up}
-use Rattle.dr_model.specs.Pairs.{altered, received}
-use Rattle.dr_model.specs.Moves.{Move, Land, Overwrite, Keep, Relate, Withdraw, Fetch, Resync, Reverse, Restore, Release, Store, Carried, target, moved}
+use Rattle.dr_model.specs.Pairs.{altered, received, mirrored, synced}
+use Rattle.dr_model.specs.Moves.{Move, Land, Overwrite, Keep, Relate, Withdraw, Fetch, Resync, Reverse, Restore, Release, Store, Mirror, LandBoth, Carried, target, moved}
 use Rattle.dr_model.specs.Table.{Row, Table}
 use Rattle.dr_model.specs.Rows.{after, emptied, contents_of, carried_on}
 use Rattle.dr_model.specs.Laws.{Structure, Parts, Recorded, source, fields, Images, Plain, Seen}
@@ -224,6 +224,12 @@ module _ (write : ℕ → Write) (T : Table) (structure : Structure T) (parts : 
       let none = unrelated T parts v a.takes in
       let first = unrelated_primary T parts u a.sends in
       images-at T v _ images (stored v t (received last (fields T v) t) (with (Store v t u last)) _ _ refl none out.defined none a.kept (λ lt. images.plain u first t (subst (λ n. t < n) (sym out.same_tracks) lt)))
+  kept-images (Mirror v t u w) a =
+      let out = parts.secondary u v a.sends in
+      let none = unrelated T parts v a.takes in
+      let first = unrelated_primary T parts u a.sends in
+      images-at T v _ images (stored v t (mirrored (fields T v) t) (with (Mirror v t u w)) _ _ refl none out.defined none a.kept (λ lt. ap (λ b. with_write write b w) (images.plain u first t (subst (λ n. t < n) (sym out.same_tracks) lt))))
+  kept-images (LandBoth w v t) a = let m = a.land in images-at T v _ images (stored v t (synced (fields T v) t) (with (LandBoth w v t)) _ _ refl m.plain m.defined m.plain m.kept (λ lt. ap (λ b. with_write write b w) (images.plain v m.plain t lt)))
   kept-images m a = let v : ℕ = target m in images-at T v _ images (record {
     blank = images.blank v;
     fresh = images.fresh v;

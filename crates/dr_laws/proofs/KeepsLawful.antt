@@ -1,13 +1,17 @@
 -- Each kind of move leaves lawful fields.
-use Rattle.std.proofs.Common.{ℕ, ◌≡◌, ◌<◌, ◌∙◌, refl, Bool, true, false, cond, Option}
-use Rattle.std.specs.FinSet.{insert, remove, empty}
+use Rattle.std.proofs.Common.{ℕ, ◌≡◌, ◌<◌, ◌∙◌, refl, Bool, true, false, cond, ◌||◌, Option}
+use Rattle.std.specs.FinSet.{insert, remove, union, empty}
 use Rattle.dr_model.specs.declared.state.Part.{Part}
 use Rattle.dr_model.specs.declared.state.PairState.{PairState}
 use Rattle.dr_model.specs.Layout.{Tracks, Fields, is_part}
 use Rattle.dr_model.specs.Lawful.{Low, HasSets, NoPrimary, NoSecondary, NoRelation, IsLawful}
-use Rattle.dr_model.specs.Pairs.{altered, is_engaged, suspended, made_secondary, made_primary, no_primary, no_secondary, received, struck, resumed, taken_over}
+use Rattle.dr_model.specs.Pairs.{altered, is_engaged, is_torn, suspended, made_secondary, made_primary, no_primary, no_secondary, received, struck, resumed, taken_over, unsynced, mirrored, synced, thawed, lifted, restarted}
 use Rattle.dr_model.specs.Relations.{Choices, rest, parted_if, fetched, noted, rewritten, made, withdrawn_if, resynced, turned, given_up}
 use Rattle.dr_laws.proofs.Sets.{false_true, if_false, in_cond, in_none, in_more, remove_from, rest_low, low_all, from_difference, from_union}
+
+one_either_way : {X : Type 0} (b : Bool) (x y : X) → y ≡ x → cond b x y ≡ x
+one_either_way true x y same = refl
+one_either_way false x y same = same
 
 module _ (n : ℕ) (f : Fields) (law : IsLawful n f) where
   abbrev old : HasSets n f
@@ -188,10 +192,13 @@ module _ (n : ℕ) (f : Fields) (law : IsLawful n f) where
   pub lawful-struck : (last : Bool) (t : ℕ) → is_part f.primary ≡ true → IsLawful n (struck last f t)
   lawful-struck last t is = lawful-paired (struck last f t) (λ q h. old.out_of_sync_low q (remove_from f.out_of_sync t q h)) old.change_recording_low old.blank_low (λ h. false_true h is) law.secondary
 
+  -- a void
+  low-voided : (e : Bool) → Low n (cond e (union f.out_of_sync f.change_recording) f.out_of_sync)
+  low-voided e = in_cond e _ _ (λ q. q < n) (from_union _ _ (λ q. q < n) old.out_of_sync_low old.change_recording_low) old.out_of_sync_low
+
   -- a primary is suspended, or goes on; a secondary has another state
   pub lawful-suspended : (busy : Bool) → is_part f.primary ≡ true → IsLawful n (suspended busy f)
-  lawful-suspended busy is = lawful-paired (suspended busy f) (in_cond (is_engaged f) _ _ (λ q. q < n) (from_union _ _ (λ q. q < n) old.out_of_sync_low old.change_recording_low) old.out_of_sync_low)
-      (low-if (is_engaged f) _ old.change_recording_low) old.blank_low (λ h. false_true h is) law.secondary
+  lawful-suspended busy is = lawful-paired (suspended busy f) (low-voided (is_engaged f)) (low-if (is_engaged f) _ old.change_recording_low) old.blank_low (λ h. false_true h is) law.secondary
 
   pub lawful-resumed : (state : PairState) → is_part f.primary ≡ true → IsLawful n (resumed state f)
   lawful-resumed state is = lawful-paired (resumed state f) old.out_of_sync_low old.change_recording_low old.blank_low (λ h. false_true h is) law.secondary
@@ -215,3 +222,28 @@ module _ (n : ℕ) (f : Fields) (law : IsLawful n f) where
 
   pub lawful-taken_over : is_part f.secondary ≡ true → IsLawful n (taken_over f)
   lawful-taken_over is = lawful-paired (taken_over f) (in_none _) (in_none _) old.blank_low (λ h. false_true h is) (λ h. (refl, refl, refl))
+
+  -- a track changes on both sides: it is out of sync, the secondary stores it, it is out of sync no more
+  pub lawful-unsynced : (t : ℕ) → t < n → is_part f.primary ≡ true → IsLawful n (unsynced f t)
+  lawful-unsynced t lt is = lawful-paired (unsynced f t) (in_more f.out_of_sync t (λ q. q < n) lt old.out_of_sync_low) old.change_recording_low old.blank_low (λ h. false_true h is) law.secondary
+
+  pub lawful-mirrored : (t : ℕ) → IsLawful n (mirrored f t)
+  lawful-mirrored t = lawful-paired (mirrored f t) old.out_of_sync_low old.change_recording_low (blank-less t) law.primary law.secondary
+
+  pub lawful-synced : (t : ℕ) → is_part f.primary ≡ true → IsLawful n (synced f t)
+  lawful-synced t is = lawful-paired (synced f t) (λ q h. old.out_of_sync_low q (remove_from f.out_of_sync t q h)) old.change_recording_low (blank-less t) (λ h. false_true h is) law.secondary
+
+  -- writes wait no more, or a volume goes on after a stop; without a part in a pair nothing changes
+  pub lawful-thawed : IsLawful n (thawed f)
+  lawful-thawed = lawful-paired (thawed f) old.out_of_sync_low old.change_recording_low old.blank_low (λ h. let o = law.primary h in (o.0, o.1, o.2, refl, o.4, o.5, o.6)) law.secondary
+
+  pub lawful-lifted : IsLawful n (lifted f)
+  lawful-lifted = lawful-paired (lifted f) (low-voided f.coordination) (low-if f.coordination _ old.change_recording_low) old.blank_low
+      (λ h. let o = law.primary h in (o.0, o.1, refl, refl, if_false _ _ o.2 ∙ o.4, if_false _ _ o.2 ∙ o.5, if_false _ _ o.2 ∙ o.6)) law.secondary
+
+  pub lawful-restarted : IsLawful n (restarted f)
+  lawful-restarted = lawful-paired (restarted f) (low-voided (is_engaged f)) (low-if (is_engaged f) _ old.change_recording_low) old.blank_low
+      (λ h.
+      let o = law.primary h in
+      let e : is_engaged f ≡ false = λ i. o.4 i || o.2 i in
+      (one_either_way (is_torn f) _ _ o.0, o.1, refl, o.3, refl, if_false _ _ e ∙ o.5, if_false _ _ e ∙ o.6)) law.secondary

@@ -7,14 +7,15 @@ use Rattle.std.specs.FinSet.{contains, insert, remove, empty, union}
 use Rattle.dr_model.specs.Tables.{at}
 use Rattle.dr_model.specs.Layout.{Tracks, Fields, is_part}
 use Rattle.dr_model.specs.Histories.{Write}
+use Rattle.dr_model.specs.Contents.{with_write}
 use Rattle.dr_model.specs.Pairs.{is_engaged}
 use Rattle.dr_model.specs.Relations.{all_tracks}
-use Rattle.dr_model.specs.Moves.{Move, Land, Overwrite, Keep, Withdraw, Fetch, Reverse, Restore, Release, Store, Strike, Suspend, MakeSecondary, MakePrimary, DropPrimary, DropSecondary, TakeOver, target}
+use Rattle.dr_model.specs.Moves.{Move, Land, Overwrite, Keep, Withdraw, Fetch, Reverse, Restore, Release, Store, Strike, Suspend, MakeSecondary, MakePrimary, DropPrimary, DropSecondary, TakeOver, Unsync, Mirror, LandBoth, Lift, Restart, target}
 use Rattle.dr_model.specs.Table.{Row, Table}
 use Rattle.dr_model.specs.Rows.{after, next_row}
 use Rattle.dr_model.specs.Laws.{Structure, Parts, PairLaw, Alike, unsent, source, its_primary, its_secondary, fields}
-use Rattle.dr_model.specs.Allowed.{Allowed, MayStore, MayStrike}
-use Rattle.dr_model.proofs.Images.{at_other}
+use Rattle.dr_model.specs.Allowed.{Allowed}
+use Rattle.dr_model.proofs.Images.{at_same, at_other}
 use Rattle.dr_laws.proofs.AtLemmas.{Told, at_cases, linked-at}
 use Rattle.dr_laws.proofs.KeepsParts.{not_both, no_partner, part-shape}
 use Rattle.dr_laws.proofs.Sets.{false_true, not_inserted, remove_other, not_in_union, from_source, in_all}
@@ -79,30 +80,34 @@ module _ (write : ℕ → Write) (T : Table) (structure : Structure T) (parts : 
         let less = more-unsent (is_part f.primary) f.out_of_sync f.change_recording t q (from_source _ _ u k).0 (back k) in
         old u v h (inr k) q lt sent (λ k. less.0) ∙ sym (at_other (T v).bytes t b q less.1)
 
-  -- a secondary stores a track of its primary
-  stored-onto : (v t u : ℕ) → MayStore T v t u → (x : ℕ) → its_secondary (T x) ≡ Some v → (its_primary (T v) ≡ Some x) ⊎ (its_secondary (T v) ≡ Some x) → (q : ℕ) → q < (T x).volume.tracks → unsent (T x) q ≡ false → (its_secondary (T v) ≡ Some x → unsent (T v) q ≡ false)
-      → (T x).bytes q ≡ at (T v).bytes t ((T u).bytes t) q
-  stored-onto v t u a x h (inl k) q =
-      let same : u ≡ x = sym (from_source _ _ u a.takes).1 ∙ (from_source _ _ x k).1 in
-      at_cases (λ q c. q < (T x).volume.tracks → unsent (T x) q ≡ false → (its_secondary (T v) ≡ Some x → unsent (T v) q ≡ false) → (T x).bytes q ≡ c) (T v).bytes t ((T u).bytes t)
-      (λ lt sent back. ap (λ j. (T j).bytes t) (sym same)) (λ q ne lt sent back. old x v h (inl k) q lt sent back) q
-  stored-onto v t u a x h (inr k) q = no_first v (from_source _ _ u a.takes).0 k
+  -- a secondary stores a track, which its primary has too, or has out of sync
+  stored-onto : (v t u : ℕ) (b : List ℕ) → its_primary (T v) ≡ Some u → (unsent (T u) t ≡ false → (T u).bytes t ≡ b) → (x : ℕ) → its_secondary (T x) ≡ Some v → (its_primary (T v) ≡ Some x) ⊎ (its_secondary (T v) ≡ Some x) → (q : ℕ) → q < (T x).volume.tracks → unsent (T x) q ≡ false
+      → (its_secondary (T v) ≡ Some x → unsent (T v) q ≡ false) → (T x).bytes q ≡ at (T v).bytes t b q
+  stored-onto v t u b takes here x h (inl k) q =
+      let same : u ≡ x = sym (from_source _ _ u takes).1 ∙ (from_source _ _ x k).1 in
+      at_cases (λ q c. q < (T x).volume.tracks → unsent (T x) q ≡ false → (its_secondary (T v) ≡ Some x → unsent (T v) q ≡ false) → (T x).bytes q ≡ c) (T v).bytes t b
+      (λ lt sent back. subst (λ j. unsent (T j) t ≡ false → (T j).bytes t ≡ b) same here sent) (λ q ne lt sent back. old x v h (inl k) q lt sent back) q
+  stored-onto v t u b takes here x h (inr k) q = no_first v (from_source _ _ u takes).0 k
 
-  -- and the primary strikes it off
-  struck-from : (v t : ℕ) (a : MayStrike T v t) (u : ℕ) → its_secondary (T v) ≡ Some u → (its_primary (T u) ≡ Some v) ⊎ (its_secondary (T u) ≡ Some v) → (q : ℕ) → Told q t → q < (T v).volume.tracks
-      → (contains (remove (fields T v).out_of_sync t) q || contains (fields T v).change_recording q) ≡ false → (its_secondary (T u) ≡ Some v → unsent (T u) q ≡ false) → (T v).bytes q ≡ (T u).bytes q
-  struck-from v t a u h link q (inl is) lt sent back =
-      let same : a.to ≡ u = sym (from_source _ _ a.to a.sends).1 ∙ (from_source _ _ u h).1 in
-      subst (λ j. (T v).bytes j ≡ (T u).bytes j) (sym is.1) (sym a.equal ∙ ap (λ j. (T j).bytes t) same)
-  struck-from v t a u h link q (inr not) lt sent back = old v u h link q lt (less-unsent _ _ t q not.1 sent) back
+  -- and the primary strikes it off, or comes to contain it
+  module _ (v t to : ℕ) (sends : its_secondary (T v) ≡ Some to) (B : ℕ → List ℕ) (here : (T to).bytes t ≡ B t) (there : (q : ℕ) → q ≢ t → B q ≡ (T v).bytes q) where
+    abbrev unsent_else : ℕ → Bool
+    unsent_else q = contains (remove (fields T v).out_of_sync t) q || contains (fields T v).change_recording q
 
-  struck-onto : (v t : ℕ) (a : MayStrike T v t) (u : ℕ) → its_secondary (T u) ≡ Some v → (its_primary (T v) ≡ Some u) ⊎ (its_secondary (T v) ≡ Some u) → (q : ℕ) → Told q t → q < (T u).volume.tracks → unsent (T u) q ≡ false
-      → (its_secondary (T v) ≡ Some u → (contains (remove (fields T v).out_of_sync t) q || contains (fields T v).change_recording q) ≡ false) → (T u).bytes q ≡ (T v).bytes q
-  struck-onto v t a u h (inl k) q told lt sent back = no_second v (from_source _ _ a.to a.sends).0 k
-  struck-onto v t a u h (inr k) q (inl is) lt sent back =
-      let same : a.to ≡ u = sym (from_source _ _ a.to a.sends).1 ∙ (from_source _ _ u k).1 in
-      subst (λ j. (T u).bytes j ≡ (T v).bytes j) (sym is.1) (ap (λ j. (T j).bytes t) (sym same) ∙ a.equal)
-  struck-onto v t a u h (inr k) q (inr not) lt sent back = old u v h (inr k) q lt sent (λ l. less-unsent _ _ t q not.1 (back k))
+    struck-from : (u : ℕ) → its_secondary (T v) ≡ Some u → (its_primary (T u) ≡ Some v) ⊎ (its_secondary (T u) ≡ Some v) → (q : ℕ) → Told q t → q < (T v).volume.tracks
+        → unsent_else q ≡ false → (its_secondary (T u) ≡ Some v → unsent (T u) q ≡ false) → B q ≡ (T u).bytes q
+    struck-from u h link q (inl is) lt sent back =
+        let same : to ≡ u = sym (from_source _ _ to sends).1 ∙ (from_source _ _ u h).1 in
+        subst (λ j. B j ≡ (T u).bytes j) (sym is.1) (sym here ∙ ap (λ j. (T j).bytes t) same)
+    struck-from u h link q (inr not) lt sent back = there q not.1 ∙ old v u h link q lt (less-unsent _ _ t q not.1 sent) back
+
+    struck-onto : (u : ℕ) → its_secondary (T u) ≡ Some v → (its_primary (T v) ≡ Some u) ⊎ (its_secondary (T v) ≡ Some u) → (q : ℕ) → Told q t → q < (T u).volume.tracks → unsent (T u) q ≡ false
+        → (its_secondary (T v) ≡ Some u → unsent_else q ≡ false) → (T u).bytes q ≡ B q
+    struck-onto u h (inl k) q told lt sent back = no_second v (from_source _ _ to sends).0 k
+    struck-onto u h (inr k) q (inl is) lt sent back =
+        let same : to ≡ u = sym (from_source _ _ to sends).1 ∙ (from_source _ _ u k).1 in
+        subst (λ j. (T u).bytes j ≡ B j) (sym is.1) (ap (λ j. (T j).bytes t) (sym same) ∙ here)
+    struck-onto u h (inr k) q (inr not) lt sent back = old u v h (inr k) q lt sent (λ l. less-unsent _ _ t q not.1 (back k)) ∙ sym (there q not.1)
 
   -- a secondary becomes a primary of its primary
   taken_over : (v u q : ℕ) → its_primary (T v) ≡ Some u → its_secondary (T u) ≡ Some v → q < (T u).volume.tracks → unsent (T u) q ≡ false → (T u).bytes q ≡ (T v).bytes q
@@ -131,10 +136,27 @@ module _ (write : ℕ → Write) (T : Table) (structure : Structure T) (parts : 
   kept-pairs (Withdraw v) a = changed (Withdraw v) a (λ u h. target_first v a.related h) (λ u h k. target_part v a.related k)
   kept-pairs (Reverse v) a = changed (Reverse v) a (λ u h. target_first v a.resync.related h) (λ u h k. target_part v a.resync.related k)
   kept-pairs (Release v t) a = changed (Release v t) a (λ u h. target_first v a.related h) (λ u h k. target_part v a.related k)
-  kept-pairs (Store v t u last) a = changed (Store v t u last) a (λ x h. no_first v (from_source _ _ u a.takes).0 h) (stored-onto v t u a)
-  kept-pairs (Strike v t last) a = changed (Strike v t last) a (λ u h k q. struck-from v t a u h k q (eqb_tells q t)) (λ u h k q. struck-onto v t a u h k q (eqb_tells q t))
+  kept-pairs (Store v t u last) a = changed (Store v t u last) a (λ x h. no_first v (from_source _ _ u a.takes).0 h) (stored-onto v t u _ a.takes (λ sent. refl))
+  kept-pairs (Mirror v t u w) a = changed (Mirror v t u w) a (λ x h. no_first v (from_source _ _ u a.takes).0 h) (stored-onto v t u _ a.takes (λ sent. false_true (or_parts _ _ sent).0 a.out))
+  kept-pairs (Strike v t last) a =
+      changed (Strike v t last) a (λ u h k q. struck-from v t a.to a.sends (T v).bytes a.equal (λ q ne. refl) u h k q (eqb_tells q t)) (λ u h k q. struck-onto v t a.to a.sends (T v).bytes a.equal (λ q ne. refl) u h k q (eqb_tells q t))
+  kept-pairs (LandBoth w v t) a =
+      let b : List ℕ = with_write write ((T v).bytes t) w in
+      let B : (ℕ → List ℕ) = at (T v).bytes t b in
+      let here : (T a.to).bytes t ≡ B t = a.equal ∙ sym (at_same (T v).bytes t b) in
+      changed (LandBoth w v t) a (λ u h k q. struck-from v t a.to a.sends B here (at_other (T v).bytes t b) u h k q (eqb_tells q t))
+      (λ u h k q. struck-onto v t a.to a.sends B here (at_other (T v).bytes t b) u h k q (eqb_tells q t))
+  kept-pairs (Unsync v t) a = let f : Fields = fields T v in
+      changed (Unsync v t) a (λ u h k q lt sent. old v u h k q lt (more-unsent true f.out_of_sync f.change_recording t q refl sent).0)
+      (λ u h k q lt sent back. old u v h k q lt sent (λ l. (more-unsent true f.out_of_sync f.change_recording t q refl (back l)).0))
   kept-pairs (Suspend v busy) a = let f : Fields = fields T v in
       changed (Suspend v busy) a (λ u h k q lt sent. old v u h k q lt (void-unsent (is_engaged f) f.out_of_sync f.change_recording q sent))
+      (λ u h k q lt sent back. old u v h k q lt sent (λ l. void-unsent (is_engaged f) f.out_of_sync f.change_recording q (back l)))
+  kept-pairs (Lift v) a = let f : Fields = fields T v in
+      changed (Lift v) a (λ u h k q lt sent. old v u h k q lt (void-unsent f.coordination f.out_of_sync f.change_recording q sent))
+      (λ u h k q lt sent back. old u v h k q lt sent (λ l. void-unsent f.coordination f.out_of_sync f.change_recording q (back l)))
+  kept-pairs (Restart v) a = let f : Fields = fields T v in
+      changed (Restart v) a (λ u h k q lt sent. old v u h k q lt (void-unsent (is_engaged f) f.out_of_sync f.change_recording q sent))
       (λ u h k q lt sent back. old u v h k q lt sent (λ l. void-unsent (is_engaged f) f.out_of_sync f.change_recording q (back l)))
   kept-pairs (MakeSecondary v u kind state) a = changed (MakeSecondary v u kind state) a (λ x h. false_true a.first (from_source _ _ x h).0) (λ x h k. either x h k)
     where

@@ -10,7 +10,7 @@ use Rattle.dr_model.specs.Layout.{Tracks}
 use Rattle.dr_model.specs.Relations.{is_bare}
 use Rattle.dr_model.specs.Control.{Control, Pending, Fuse, Volume, World, is_volume}
 use Rattle.dr_model.specs.Pairs.{is_suspended}
-use Rattle.dr_model.specs.Moves.{Move, Land, Overwrite, Relate, Withdraw, Resync, Reverse, Restore, Release, Keep, Note, Fetch, Store, Strike, Suspend, MakeSecondary, MakePrimary, DropPrimary, DropSecondary, Follow, Resume, TakeOver, told_blank, told_restored, target, told, told_in_stop, settled, settled_in_stop, is_write, is_other, marked, landed}
+use Rattle.dr_model.specs.Moves.{Move, Land, Overwrite, Relate, Withdraw, Resync, Reverse, Restore, Release, Keep, Note, Fetch, Store, Strike, Suspend, MakeSecondary, MakePrimary, DropPrimary, DropSecondary, Follow, Resume, TakeOver, Unsync, Mirror, LandBoth, Thaw, Lift, Restart, told_blank, told_restored, target, told, told_in_stop, settled, settled_in_stop, is_write, is_other, marked, landed}
 use Rattle.dr_model.specs.Laws.{Lone, Together, servers, sizes, Below, Numbered, Queue, Waits, AllPending, Apart}
 use Rattle.dr_model.specs.Entries.{is_at}
 use Rattle.dr_model.specs.Allowed.{Coming, Ready}
@@ -251,10 +251,17 @@ module _ (starts : Option ℕ) (w : World) (old : Queue starts w) where
   told-quiet (DropSecondary v) ready = tt
   told-quiet (Follow v state) ready = tt
   told-quiet (Resume v state) ready = tt
+  told-quiet (Unsync v t) ready = tt
+  told-quiet (Mirror v t u k) ready = (ready.number, tt)
+  told-quiet (LandBoth k v t) ready = (ready.number, tt)
+  told-quiet (Thaw v) ready = tt
+  told-quiet (Lift v) ready = tt
+  told-quiet (Restart v) ready = tt
 
   stop-quiet : (m : Move) → Ready w m → AllQuiet n (told_in_stop m (w.control.volume (target m)))
   stop-quiet (Land k v t) ready = tt
   stop-quiet (Overwrite k v t) ready = tt
+  stop-quiet (LandBoth k v t) ready = tt
   stop-quiet m ready = told-quiet m ready
 
   -- a move leaves each volume its server
@@ -276,21 +283,25 @@ module _ (starts : Option ℕ) (w : World) (old : Queue starts w) where
     settled-waits : (m : Move) → AllPending (Waits starts k write) (settled m w.control.pending)
     settled-waits (Land i v t) = all-filter _ (is_other i) _ (each-on on w.control.pending old.each)
     settled-waits (Overwrite i v t) = all-filter _ (is_other i) _ (each-on on w.control.pending old.each)
+    settled-waits (LandBoth i v t) = all-filter _ (is_other i) _ (each-on on w.control.pending old.each)
     settled-waits m = each-on on w.control.pending old.each
 
     stop-waits : (m : Move) → Ready w m → k.on (servers k (target m)) ≡ false → AllPending (Waits starts k write) (settled_in_stop m w.control.pending)
     stop-waits (Land i v t) ready off = marks-wait k write i v t off on w.control.pending ready.coming old.each
     stop-waits (Overwrite i v t) ready off = marks-wait k write i v t off on w.control.pending ready.coming old.each
+    stop-waits (LandBoth i v t) ready off = marks-wait k write i v t off on w.control.pending ready.coming old.each
     stop-waits m ready off = each-on on w.control.pending old.each
 
   settled-apart : (m : Move) → Apart (settled m w.control.pending) × Lone (servers w.control) (settled m w.control.pending)
   settled-apart (Land i v t) = (apart-filter i _ old.apart, lone-filter (servers w.control) i _ old.lone)
   settled-apart (Overwrite i v t) = (apart-filter i _ old.apart, lone-filter (servers w.control) i _ old.lone)
+  settled-apart (LandBoth i v t) = (apart-filter i _ old.apart, lone-filter (servers w.control) i _ old.lone)
   settled-apart m = (old.apart, old.lone)
 
   stop-apart : (m : Move) → Ready w m → Apart (settled_in_stop m w.control.pending) × Lone (servers w.control) (settled_in_stop m w.control.pending)
   stop-apart (Land i v t) ready = (apart-marked i _ old.apart, lone-marked (servers w.control) i v t _ old.apart ready.idle (here-all (servers w.control) i v t _ ready.coming) old.lone)
   stop-apart (Overwrite i v t) ready = (apart-marked i _ old.apart, lone-marked (servers w.control) i v t _ old.apart ready.idle (here-all (servers w.control) i v t _ ready.coming) old.lone)
+  stop-apart (LandBoth i v t) ready = (apart-marked i _ old.apart, lone-marked (servers w.control) i v t _ old.apart ready.idle (here-all (servers w.control) i v t _ ready.coming) old.lone)
   stop-apart m ready = (old.apart, old.lone)
 
   pub queue-done : (m : Move) (f : Option Fuse) → Ready w m → Queue starts (done w m f)

@@ -5,7 +5,7 @@ use Rattle.dr_model.specs.Tables.{at}
 use Rattle.dr_model.specs.Layout.{Tracks, Fields}
 use Rattle.dr_model.specs.Histories.{Write}
 use Rattle.dr_model.specs.Relations.{is_bare, turned, given_up, is_whole}
-use Rattle.dr_model.specs.Moves.{Move, Land, Overwrite, Keep, Note, Relate, Withdraw, Fetch, Resync, Reverse, Restore, Release, Store, target}
+use Rattle.dr_model.specs.Moves.{Move, Land, Overwrite, Keep, Note, Relate, Withdraw, Fetch, Resync, Reverse, Restore, Release, Store, Mirror, LandBoth, target}
 use Rattle.dr_model.specs.Table.{Row, Table}
 use Rattle.dr_model.specs.Rows.{after}
 use Rattle.dr_model.specs.Laws.{Structure, Parts, Recorded, HoldsOld, source, fields}
@@ -86,4 +86,6 @@ module _ (write : ℕ → Write) (T : Table) (structure : Structure T) (parts : 
   kept-recorded (Release v t) a = let f : Fields = fields T v in let e : Bool = is_bare (given_up f t).own in
       changed v _ (λ u h rec rev. reversed e f.related f.reversing f.source u a.reversing h rev) (parted-loop v e) (λ u. targets_at v a.from u a.related)
   kept-recorded (Store v t u last) a = let none = unrelated T parts v a.takes in changed v _ (λ u h. none_some none h) (λ h. none_some none h) (λ u h. onto-stored v t _ a.kept u h)
+  kept-recorded (Mirror v t u w) a = let none = unrelated T parts v a.takes in changed v _ (λ u h. none_some none h) (λ h. none_some none h) (λ u h. onto-stored v t _ a.kept u h)
+  kept-recorded (LandBoth w v t) a = let m = a.land in changed v _ (λ u h. none_some m.plain h) (λ h. none_some m.plain h) (λ u h. onto-stored v t _ m.kept u h)
   kept-recorded m a = let v : ℕ = target m in changed v _ (old v) (loop_at v) (λ u. old u v)

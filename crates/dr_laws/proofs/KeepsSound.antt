@@ -1,15 +1,15 @@
 -- A sound world stays sound in an act that may come, however it ends.
 use Rattle.std.proofs.Common.{ℕ, ◌≡◌, ◌+◌, refl, ap, sym, subst, Bool, true, false, List, [], ◌∷◌, ◌++◌, filter, Option, None}
-use Rattle.dr_ids.specs.Paths.{Path}
+use Rattle.dr_ids.specs.Paths.{Path, without_path}
 use Rattle.dr_ids.specs.declared.refusal.Refusal.{Refusal}
 use Rattle.dr_model.specs.declared.event.Event.{Event}
-use Rattle.dr_model.specs.declared.event.Event.TheVariants.{Stopped}
+use Rattle.dr_model.specs.declared.event.Event.TheVariants.{Stopped, Frozen, Thawed}
 use Rattle.dr_model.specs.Tables.{at}
 use Rattle.dr_model.specs.Histories.{Write, Histories, histories}
 use Rattle.dr_model.specs.Contents.{image}
 use Rattle.dr_model.specs.Control.{Pending, Control, World, Fuse}
 use Rattle.dr_model.specs.Moves.{Move, is_write, is_other}
-use Rattle.dr_model.specs.Carry.{Act, Make, Redo, Acknowledge, Drop, dropped, Entry, Next, check, now}
+use Rattle.dr_model.specs.Carry.{Act, Make, Redo, Acknowledge, Drop, EndFreeze, EndThaw, dropped, frozen, thawed, Entry, Next, check, now}
 use Rattle.dr_model.specs.Plans.{Plan}
 use Rattle.dr_model.specs.Runs.{begun}
 use Rattle.dr_model.specs.ReadStops.{gone_off}
@@ -76,6 +76,17 @@ module _ (starts : Option ℕ) where
   sound-gone w x s =
       sound-told w w.control.servers (at w.control.on x false) w.control.fuse w.control.link w.control.paths (Stopped x 0 ∷ []) (histories-append w.events (Stopped x 0 ∷ [])) (tt, tt) (goes-off starts w s.queue w.control.on x) s
 
+  -- a freeze ends, or a thaw
+  pub sound-frozen : (w : World) (l m : ℕ) → SoundBut starts w → SoundBut starts (frozen w l m)
+  sound-frozen w l m s =
+      let k : Control = w.control in
+      sound-told w k.servers k.on k.fuse k.link (without_path k.paths l m) (Frozen l m ∷ []) (histories-append w.events (Frozen l m ∷ [])) (tt, tt) (λ j h. h) s
+
+  pub sound-thawed : (w : World) (l m : ℕ) → SoundBut starts w → SoundBut starts (thawed w l m)
+  sound-thawed w l m s =
+      let k : Control = w.control in
+      sound-told w k.servers k.on k.fuse k.link k.paths (Thawed l m ∷ []) (histories-append w.events (Thawed l m ∷ [])) (tt, tt) (λ j h. h) s
+
   -- a write that hasn't landed is dropped
   pub sound-dropped : (w : World) (n : ℕ) → AllPending (λ p. p.landed ≡ false) (filter (is_write n) w.control.pending) → SoundBut starts w → SoundBut starts (dropped w n)
   sound-dropped w n unlanded s =
@@ -98,6 +109,8 @@ MayDo w (Make m) = May w m
 MayDo w (Redo v) = ⊥
 MayDo w (Acknowledge n) = ⊥
 MayDo w (Drop n) = AllPending (λ p. p.landed ≡ false) (filter (is_write n) w.control.pending)
+MayDo w (EndFreeze l m) = Unit {0}
+MayDo w (EndThaw l m) = Unit {0}
 
 pub keeps-sound : along.Keeps Sound Sound MayDo
 keeps-sound = record { runs = runs; does = does; counts = λ w m f s may. sound-stop None w m f s may; fails = λ w a f d s may. sound-not None w _ f s }
@@ -107,12 +120,16 @@ keeps-sound = record { runs = runs; does = does; counts = λ w m f s may. sound-
     runs w (Redo v) d may = absurd may
     runs w (Acknowledge n) d may = absurd may
     runs w (Drop n) d may = absurd d
+    runs w (EndFreeze l m) d may = absurd d
+    runs w (EndThaw l m) d may = absurd d
 
     does : (w : World) (a : Act) (f : Option Fuse) → Sound w → MayDo w a → Sound (after_act w a f)
     does w (Make m) f s may = sound-done None w m f s may
     does w (Redo v) f s may = absurd may
     does w (Acknowledge n) f s may = absurd may
     does w (Drop n) f s may = sound-dropped None w n may s
+    does w (EndFreeze l m) f s may = sound-frozen None w l m s
+    does w (EndThaw l m) f s may = sound-thawed None w l m s
 
 abbrev pub Along : World → List Entry → Type 0
 Along = along.Along Sound Sound MayDo

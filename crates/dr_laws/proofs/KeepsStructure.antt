@@ -5,7 +5,7 @@ use Rattle.dr_model.specs.Tables.{at}
 use Rattle.dr_model.specs.Layout.{Tracks, Fields}
 use Rattle.dr_model.specs.Histories.{Write}
 use Rattle.dr_model.specs.Relations.{rest, is_bare, is_whole, turned, given_up}
-use Rattle.dr_model.specs.Moves.{Move, Land, Overwrite, Keep, Note, Relate, Withdraw, Fetch, Resync, Reverse, Restore, Release, Store, Strike, Suspend, MakeSecondary, MakePrimary, DropPrimary, DropSecondary, Follow, Resume, TakeOver, moved, target, next_fields}
+use Rattle.dr_model.specs.Moves.{Move, Land, Overwrite, Keep, Note, Relate, Withdraw, Fetch, Resync, Reverse, Restore, Release, Store, Strike, Suspend, MakeSecondary, MakePrimary, DropPrimary, DropSecondary, Follow, Resume, TakeOver, Unsync, Mirror, LandBoth, Thaw, Lift, Restart, moved, target, next_fields}
 use Rattle.dr_model.specs.Table.{Row, Table}
 use Rattle.dr_model.specs.Rows.{after, next_row, next_bytes, next_due, volumes_of, carried_on}
 use Rattle.dr_model.specs.Laws.{Structure, Lawful, RowSets, RowFlags, RowDefined, SetsFit, FlagsFit, Flashed, OneRestore, source, fields}
@@ -13,7 +13,7 @@ use Rattle.dr_model.specs.Allowed.{Allowed}
 use Rattle.dr_model.specs.Lawful.{IsLawful}
 use Rattle.dr_model.proofs.Images.{at_same}
 use Rattle.dr_laws.proofs.AtLemmas.{at_cases, each-at, linked-at}
-use Rattle.dr_laws.proofs.KeepsLawful.{lawful-altered, lawful-received, lawful-struck, lawful-suspended, lawful-resumed, lawful-followed, lawful-made_secondary, lawful-made_primary, lawful-no_primary, lawful-no_secondary, lawful-taken_over, lawful-taken, low-noted, lawful-noted, lawful-made, lawful-withdrawn, lawful-resynced, lawful-turned, lawful-given_up}
+use Rattle.dr_laws.proofs.KeepsLawful.{lawful-altered, lawful-received, lawful-struck, lawful-suspended, lawful-resumed, lawful-followed, lawful-made_secondary, lawful-made_primary, lawful-no_primary, lawful-no_secondary, lawful-taken_over, lawful-unsynced, lawful-mirrored, lawful-synced, lawful-thawed, lawful-lifted, lawful-restarted, lawful-taken, low-noted, lawful-noted, lawful-made, lawful-withdrawn, lawful-resynced, lawful-turned, lawful-given_up}
 use Rattle.dr_laws.proofs.Sets.{In, in_cond, in_none, in_more, in_insert, still_in, false_true, none_some, not_turned, from_source, still_related, from_difference, from_union, remove_from, not_removed, not_removed_from, empty_has}
 
 -- sets and flags, by their parts
@@ -173,6 +173,12 @@ module _ (write : ℕ → Write) (T : Table) (old : Structure T) where
   kept-structure (Follow v state) a = paired (Follow v state) (lawful-followed _ _ (old.lawful v) state a) (old.sets v).apart
   kept-structure (Resume v state) a = paired (Resume v state) (lawful-resumed _ _ (old.lawful v) state a) (old.sets v).apart
   kept-structure (TakeOver v) a = paired (TakeOver v) (lawful-taken_over _ _ (old.lawful v) a) (old.sets v).apart
+  kept-structure (Unsync v t) a = paired (Unsync v t) (lawful-unsynced _ _ (old.lawful v) t a.low a.first) (old.sets v).apart
+  kept-structure (Mirror v t u w) a = paired (Mirror v t u w) (lawful-mirrored _ _ (old.lawful v) t) (filled v t)
+  kept-structure (LandBoth w v t) a = paired (LandBoth w v t) (lawful-synced _ _ (old.lawful v) t (from_source _ _ a.to a.sends).0) (filled v t)
+  kept-structure (Thaw v) a = paired (Thaw v) (lawful-thawed _ _ (old.lawful v)) (old.sets v).apart
+  kept-structure (Lift v) a = paired (Lift v) (lawful-lifted _ _ (old.lawful v)) (old.sets v).apart
+  kept-structure (Restart v) a = paired (Restart v) (lawful-restarted _ _ (old.lawful v)) (old.sets v).apart
   kept-structure (Overwrite w v t) a = let f : Fields = fields T v in let n : ℕ = (T v).volume.tracks in let e : Bool = is_whole n (insert f.own t) && not f.persistent in let sets = old.sets v in let flags = old.flags v in let low = (old.lawful v).sets in structure-at v _ (record {
     lawful = lawful-taken n f (old.lawful v) e t _ _ (from_source f.related f.source a.from a.related).0 a.low low.source_changes_low (low-noted n f (old.lawful v) f.target_changes t a.low low.target_changes_low);
     sets = take-sets e t f.own _ _ f.blank (held-more f.own _ t sets.noted_held) (held-noted f.recorded f.own _ t sets.rewritten_held) sets.apart;

@@ -14,7 +14,7 @@ use Rattle.dr_model.specs.Control.{Control, Pending, Volume, Fuse, World, is_vol
 use Rattle.dr_model.specs.Layout.{Tracks}
 use Rattle.dr_model.specs.Relations.{rest, is_bare, turned, given_up}
 use Rattle.dr_model.specs.Pairs.{is_suspended}
-use Rattle.dr_model.specs.Moves.{Move, Land, Overwrite, Keep, Relate, Withdraw, Fetch, Resync, Reverse, Restore, Release, Store, Suspend, target, told, told_in_stop, landed, settled, settled_in_stop, moved, tracks_after}
+use Rattle.dr_model.specs.Moves.{Move, Land, Overwrite, Keep, Relate, Withdraw, Fetch, Resync, Reverse, Restore, Release, Store, Suspend, Mirror, LandBoth, target, told, told_in_stop, landed, settled, settled_in_stop, moved, tracks_after}
 use Rattle.dr_model.specs.Table.{table, waiting, due, due_by}
 use Rattle.dr_model.specs.Rows.{emptied, next_row, next_due, next_bytes, after}
 use Rattle.dr_model.specs.Laws.{servers, Structure, Blank, Queue, Waits, AllPending}
@@ -23,7 +23,7 @@ use Rattle.dr_model.proofs.Images.{histories-append}
 use Rattle.dr_laws.proofs.AtLemmas.{Told}
 use Rattle.dr_laws.proofs.Sets.{if_false, remove_from, false_true, from_source}
 use Rattle.dr_laws.proofs.Turns.{next_of, carried_in, done, done_in_stop}
-use Rattle.dr_laws.proofs.Due.{Calm, due-same, due-acked, due-marked, due-set, due-back, due-told, due-blanked, due-restored}
+use Rattle.dr_laws.proofs.Due.{Calm, due-same, due-acked, due-marked, due-mirrored, due-set, due-back, due-told, due-blanked, due-restored}
 
 -- no write waits on a volume whose server is idle
 pub calm-each : (server : ℕ → ℕ) (v q : ℕ) (ps : List Pending) → AllPending (λ p. p.landed ≡ true → server p.volume ≡ server v → ⊥) ps → waiting ps v q ≡ []
@@ -83,6 +83,8 @@ module _ (w : World) (blank : Blank (table w)) where
   bytes-after (Fetch v t) q = stored v t q _
   bytes-after (Restore v t u) q = stored v t q _
   bytes-after (Store v t u last) q = stored v t q _
+  bytes-after (Mirror v t u n) q = stored v t q _
+  bytes-after (LandBoth n v t) q = stored v t q _
   bytes-after (Withdraw v) q = refl
   bytes-after (Reverse v) q = let f = (w.control.volume v).fields in may_end v q (is_bare (turned f).own) (turned f).own
   bytes-after (Release v t) q = let f = (w.control.volume v).fields in may_end v q (is_bare (given_up f t).own) (given_up f t).own
@@ -148,12 +150,15 @@ module _ (w : World) where
     each-due (Restore v t u) a ready = due-back h ps v t u (calm w v ready) (idle_with v u ready (structure.flash u v a.related).same_server)
     each-due (Release v t) a ready = let u = w.control.volume v in due-restored h ps v u.fields.source u.tracks (given_up u.fields t).own (calm w v ready)
     each-due (Store v t u last) a ready = due-back h ps v t u (calm w v ready.0) (calm w u ready.1)
+    each-due (Mirror v t u n) a ready = due-mirrored h ps n v t u ready.volume ready.track (calm w v ready.idle) (calm w u ready.from_idle)
+    each-due (LandBoth n v t) a ready = due-acked h ps n v t ready.volume ready.track (calm w v ready.idle) ready.coming
     each-due (Suspend v busy) a ready = due-told h ps v (Suspended v) (λ h. refl) (is_suspended (w.control.volume v).fields.primary_state)
     each-due m a ready = due-same h ps (target m)
 
     stop-due : (m : Move) → Allowed h.write (table w) m → Ready w m → Leads m (told_in_stop m (w.control.volume (target m))) (settled_in_stop m ps)
     stop-due (Land n v t) a ready = due-marked h ps n v t (calm w v ready.idle) ready.coming ready.one
     stop-due (Overwrite n v t) a ready = due-marked h ps n v t (calm w v ready.idle) ready.coming ready.one
+    stop-due (LandBoth n v t) a ready = due-marked h ps n v t (calm w v ready.idle) ready.coming ready.one
     stop-due m a ready = each-due m a ready
 
     -- a move that is done, and one that counts as done where the server stopped in it, leave one table

@@ -6,7 +6,7 @@ use Rattle.std.specs.Option.{option_or}
 use Rattle.std.specs.FinSet.{contains}
 use Rattle.dr_ids.specs.declared.refusal.Refusal.{Refusal}
 use Rattle.dr_model.specs.declared.event.Event.{Event}
-use Rattle.dr_model.specs.declared.event.Event.TheVariants.{Ack, Blanked, Restored, Stopped, Suspended}
+use Rattle.dr_model.specs.declared.event.Event.TheVariants.{Ack, Blanked, Restored, Stopped, Suspended, Frozen, Thawed}
 use Rattle.dr_ids.specs.declared.refusal.Refusal.TheVariants.{NotIdentical}
 use Rattle.dr_model.specs.Refusals.{server_off}
 use Rattle.dr_model.specs.declared.state.Part.{Part}
@@ -18,8 +18,8 @@ use Rattle.dr_model.specs.Control.{Control, Fuse, Volume as VolumeRow, World}
 use Rattle.dr_model.specs.Layout.{Tracks, Fields}
 use Rattle.dr_model.specs.Relations.{is_bare, in_order, rest}
 use Rattle.dr_model.specs.Pairs.{is_suspended, first_state}
-use Rattle.dr_model.specs.Moves.{Move, Land, Overwrite, Keep, Note, Relate, Withdraw, Fetch, Resync, Reverse, Restore, Release, Store, Strike, Suspend, MakeSecondary, MakePrimary, DropPrimary, DropSecondary, Follow, Resume, TakeOver, told_blank, told_restored, told, told_in_stop, landed, target}
-use Rattle.dr_model.specs.Carry.{Act, Make, Redo, Acknowledge, Drop, check, now, act, Turn, Next, Pass, Do, End, Entry, Outcome, carry, continue, go}
+use Rattle.dr_model.specs.Moves.{Move, Land, Overwrite, Keep, Note, Relate, Withdraw, Fetch, Resync, Reverse, Restore, Release, Store, Strike, Suspend, MakeSecondary, MakePrimary, DropPrimary, DropSecondary, Follow, Resume, TakeOver, Unsync, Mirror, LandBoth, Thaw, Lift, Restart, told_blank, told_restored, told, told_in_stop, landed, target}
+use Rattle.dr_model.specs.Carry.{Act, Make, Redo, Acknowledge, Drop, EndFreeze, EndThaw, check, now, act, Turn, Next, Pass, Do, End, Entry, Outcome, carry, continue, go}
 use Rattle.dr_model.specs.Entries.{fields_at, is_revertible, stands_in, copies_from, is_running, is_no_secondary, is_open, is_settled, relation_state, pair_state, landing, land_on, keep_on, keep_if, copy_first, drop_unless, check_or_drop, times, on_found, lowest_missing, lowest_held, fetch_next, for_lowest, give_back, share_server, share_size, is_no_target}
 use Rattle.dr_model.specs.PairEntries.{link_down, are_linked, has_path, reach_refusal, end_if, refuse_if, differs_at, two_servers, stands_free, may_follow, make_entries, leads_to, belongs_to, let_go, remove_both, remove_entries, may_pause, tell_paused, pause_entries, may_resume, follow_on, resume_on, resume_entries, send_refusal, suspend_where, flashed_refusal, store_on, strike_on, send_entries, sends, tracks_to_send, is_copying}
 use Rattle.dr_model.specs.Plans.{Plan, plan, found_volumes, redo_on, acknowledge_on, acknowledge_if, landed_on, belongs, named_pair, is_defined, is_owner, differ, is_no_source, has_few_targets, is_plain_target, is_recorded_target, is_lone_restore, has_no_pair, may_return, may_give_back, may_copy, at_most, left_to_copy}
@@ -73,11 +73,18 @@ told-calm (DropSecondary v) u = refl
 told-calm (Follow v state) u = refl
 told-calm (Resume v state) u = refl
 told-calm (TakeOver v) u = refl
+told-calm (Unsync v t) u = refl
+told-calm (Mirror v t from n) u = refl
+told-calm (LandBoth n v t) u = refl
+told-calm (Thaw v) u = refl
+told-calm (Lift v) u = refl
+told-calm (Restart v) u = refl
 
 -- and the stop that it tells is the first
 in_stop-calm : (m : Move) (u : VolumeRow) → first_stop (told_in_stop m u) ≡ None
 in_stop-calm (Land n v t) u = refl
 in_stop-calm (Overwrite n v t) u = refl
+in_stop-calm (LandBoth n v t) u = refl
 in_stop-calm m u = told-calm m u
 
 stop-told : (m : Move) (u : VolumeRow) → first_stop (told_in_stop m u ++ Stopped u.server (landed m) ∷ []) ≡ Some u.server
@@ -88,12 +95,16 @@ done-tells w (Make m) f = record { events = told m (w.control.volume (target m))
 done-tells w (Redo v) f = record { events = []; told = sym (append-nil w.events); tells = refl }
 done-tells w (Acknowledge n) f = record { events = Ack n ∷ []; told = refl; tells = refl }
 done-tells w (Drop n) f = record { events = []; told = sym (append-nil w.events); tells = refl }
+done-tells w (EndFreeze l m) f = record { events = Frozen l m ∷ []; told = refl; tells = refl }
+done-tells w (EndThaw l m) f = record { events = Thawed l m ∷ []; told = refl; tells = refl }
 
 counts-tells : (w : World) (a : Act) → Counts w a (λ t. StopsTold w t.0 t.1)
 counts-tells w (Make m) = λ f. let u : VolumeRow = w.control.volume (target m) in record { events = told_in_stop m u ++ Stopped u.server (landed m) ∷ []; told = refl; tells = stop-told m u }
 counts-tells w (Redo v) = tt
 counts-tells w (Acknowledge n) = tt
 counts-tells w (Drop n) = tt
+counts-tells w (EndFreeze l m) = tt
+counts-tells w (EndThaw l m) = tt
 
 act-tells : (w : World) (a : Act) → StopsTold w (act w a).0 (act w a).1
 act-tells w a = act-cases w a (λ t. StopsTold w t.0 t.1) (λ d off. record { events = []; told = sym (append-nil w.events); tells = refl })

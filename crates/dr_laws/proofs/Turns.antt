@@ -6,7 +6,7 @@ use Rattle.dr_model.specs.Histories.{histories}
 use Rattle.dr_model.specs.Layout.{Fields}
 use Rattle.dr_model.specs.Control.{Fuse, Volume, World}
 use Rattle.dr_model.specs.Moves.{Move, Carried, target, next_fields, carried, told, told_in_stop, landed, settled, settled_in_stop, updated}
-use Rattle.dr_model.specs.Carry.{Act, Make, Redo, Acknowledge, Drop, dropped, Turn, Ended, ended, update, turn, redo, redo_ended, redo_writes, act, acknowledged, spent, off, pass, counts_by, writes, finished, cut_short}
+use Rattle.dr_model.specs.Carry.{Act, Make, Redo, Acknowledge, Drop, EndFreeze, EndThaw, dropped, frozen, thawed, Turn, Ended, ended, update, turn, redo, redo_ended, redo_writes, act, acknowledged, spent, off, pass, counts_by, writes, finished, cut_short}
 
 abbrev pub server_at : World → ℕ → ℕ
 server_at w v = (w.control.volume v).server
@@ -115,6 +115,8 @@ place (Make m) = target m
 place (Redo v) = v
 place (Acknowledge n) = 0
 place (Drop n) = 0
+place (EndFreeze l m) = 0
+place (EndThaw l m) = 0
 
 abbrev pub server_of : World → Act → ℕ
 server_of w a = server_at w (place a)
@@ -125,11 +127,15 @@ after_act w (Make m) f = done w m f
 after_act w (Redo v) f = fused w (server_at w v) f
 after_act w (Acknowledge n) f = acknowledged w n
 after_act w (Drop n) f = dropped w n
+after_act w (EndFreeze l m) f = frozen w l m
+after_act w (EndThaw l m) f = thawed w l m
 
 -- acts that write to a device
 abbrev pub Writes : Act → Type 0
 Writes (Acknowledge n) = ⊥
 Writes (Drop n) = ⊥
+Writes (EndFreeze l m) = ⊥
+Writes (EndThaw l m) = ⊥
 Writes a = Unit {0}
 
 -- a move that counts as done in a stop
@@ -148,3 +154,5 @@ act-cases w (Make m) P o a b c = turn-cases w m P (o tt) a b (c tt)
 act-cases w (Redo v) P o a b c = subst P (sym (redo-by w v)) (redo_by-cases w v P _ _ (o tt) a (c tt))
 act-cases w (Acknowledge n) P o a b c = a None
 act-cases w (Drop n) P o a b c = a None
+act-cases w (EndFreeze l m) P o a b c = a None
+act-cases w (EndThaw l m) P o a b c = a None

@@ -3,14 +3,14 @@ use Rattle.std.proofs.Common.{ℕ, ◌≡◌, List, [], ◌∷◌, ◌++◌, map
 use Rattle.std.specs.List.{fold}
 use Rattle.std.proofs.lemmas.List.Sums.{fold-append}
 use Rattle.dr_model.specs.declared.event.Event.{Event}
-use Rattle.dr_model.specs.declared.event.Event.TheVariants.{Blanked, Restored, Stopped, Ack, Suspended}
+use Rattle.dr_model.specs.declared.event.Event.TheVariants.{Blanked, Restored, Stopped, Ack, Suspended, Frozen, Thawed}
 use Rattle.dr_model.specs.Layout.{Tracks}
 use Rattle.dr_model.specs.Relations.{rest, in_order, is_bare, turned, given_up}
 use Rattle.dr_model.specs.Histories.{Histories, histories, after_event}
 use Rattle.dr_model.specs.Control.{Fuse, Volume, World}
 use Rattle.dr_model.specs.Pairs.{is_suspended}
-use Rattle.dr_model.specs.Moves.{Move, Land, Overwrite, Withdraw, Reverse, Release, Suspend, target, told, told_in_stop, told_blank, landed}
-use Rattle.dr_model.specs.Carry.{Act, Make, Redo, Acknowledge, Drop, Next, Pass, Do, End, Entry, Turn, Outcome, act, carry, continue, go}
+use Rattle.dr_model.specs.Moves.{Move, Land, Overwrite, Withdraw, Reverse, Release, Suspend, LandBoth, target, told, told_in_stop, told_blank, landed}
+use Rattle.dr_model.specs.Carry.{Act, Make, Redo, Acknowledge, Drop, EndFreeze, EndThaw, Next, Pass, Do, End, Entry, Turn, Outcome, act, carry, continue, go}
 use Rattle.dr_model.proofs.Images.{histories-append}
 use Rattle.dr_laws.proofs.Turns.{act-cases, Counts, after_act, server_of}
 
@@ -39,6 +39,7 @@ told-writes h m u = refl
 stop-writes : (h : Histories) (m : Move) (u : Volume) → (after h (told_in_stop m u)).write ≡ h.write
 stop-writes h (Land n v t) u = refl
 stop-writes h (Overwrite n v t) u = refl
+stop-writes h (LandBoth n v t) u = refl
 stop-writes h m u = told-writes h m u
 
 -- the writes of one world are those of another
@@ -53,6 +54,8 @@ done-writes w (Make m) f = with-told w (told m (w.control.volume (target m))) (t
 done-writes w (Redo v) f = refl
 done-writes w (Acknowledge n) f = with-told w (Ack n ∷ []) refl
 done-writes w (Drop n) f = refl
+done-writes w (EndFreeze l m) f = with-told w (Frozen l m ∷ []) refl
+done-writes w (EndThaw l m) f = with-told w (Thawed l m ∷ []) refl
 
 counts-writes : (w : World) (a : Act) → Counts w a (λ (t : Turn). Alike t.0 w)
 counts-writes w (Make m) = λ f.
@@ -63,6 +66,8 @@ counts-writes w (Make m) = λ f.
 counts-writes w (Redo v) = tt
 counts-writes w (Acknowledge n) = tt
 counts-writes w (Drop n) = tt
+counts-writes w (EndFreeze l m) = tt
+counts-writes w (EndThaw l m) = tt
 
 act-writes : (w : World) (a : Act) → Alike (act w a).0 w
 act-writes w a = act-cases w a (λ (t : Turn). Alike t.0 w) (λ d off. refl) (λ f. done-writes w a f) (counts-writes w a) (λ d f. with-told w (Stopped (server_of w a) 0 ∷ []) refl)

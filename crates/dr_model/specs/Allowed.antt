@@ -213,13 +213,14 @@ pub record MayTell (w : World) (n v t u : ℕ) : Type 0 where
   pub idle : Idle w v
   pub from_idle : Idle w u
 
--- what a move asks of the pending writes
+-- What a move asks of the pending writes. As its server starts, a volume goes on while a landed write still waits.
 abbrev pub Ready : World → Move → Type 0
 Ready w (Land n v t) = MayAck w n v t
 Ready w (Overwrite n v t) = MayAck w n v t
 Ready w (LandBoth n v t) = MayAck w n v t
 Ready w (Store v t u last) = Idle w v × Idle w u
 Ready w (Mirror v t u n) = MayTell w n v t u
+Ready w (Restart v) = Unit {0}
 Ready w m = Idle w (target m)
 
 -- the source of a new target has a place for it
