@@ -1,13 +1,13 @@
 -- The plans of a freeze, a thaw and an expiry are allowed along.
-use Rattle.std.proofs.Common.{ℕ, ◌≡◌, refl, ap, ◌∙◌, Bool, true, false, cond, ◌&&◌, nat_eq, List, [], ◌∷◌, ◌++◌, map, Option}
+use Rattle.std.proofs.Common.{ℕ, ◌≡◌, refl, ap, ◌∙◌, Bool, true, false, cond, ◌&&◌, nat_eq, List, [], ◌∷◌, ◌++◌, map}
 use Rattle.std.proofs.lemmas.Bool.{and_parts, eqb-true}
 use Rattle.dr_model.specs.Layout.{is_part}
 use Rattle.dr_model.specs.Pairs.{held}
-use Rattle.dr_model.specs.Control.{Control, World, is_volume}
+use Rattle.dr_model.specs.Control.{World, is_volume}
 use Rattle.dr_model.specs.Moves.{Suspend, Thaw, Lift}
-use Rattle.dr_model.specs.Carry.{Make, EndFreeze, EndThaw, Pass, Do, Entry}
+use Rattle.dr_model.specs.Carry.{Make, EndFreeze, EndThaw, Pass, Do}
 use Rattle.dr_model.specs.Entries.{fields_at, is_running, subsystem}
-use Rattle.dr_model.specs.WriteEntries.{partner_of, is_between, freeze_on, end_freeze, thaw_on, end_thaw, belongs, lift_on}
+use Rattle.dr_model.specs.WriteEntries.{is_between, freeze_on, end_freeze, thaw_on, end_thaw, belongs, lift_on}
 use Rattle.dr_model.specs.Plans.{freeze_done, thaw_done, expire_plan}
 use Rattle.dr_model.specs.Laws.{Sound}
 use Rattle.dr_model.specs.Allowed.{Runs}

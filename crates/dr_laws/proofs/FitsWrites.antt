@@ -1,9 +1,8 @@
 -- Host writes are allowed along: one that waits, one that lands on its volume alone, and one that its secondary stores first.
-use Rattle.std.proofs.Common.{ℕ, ◌≡◌, ◌≢◌, ◌<◌, refl, ap, sym, ◌∙◌, subst, Bool, true, false, cond, not, ◌&&◌, List, [], ◌∷◌, ◌++◌, append_assoc, filter, Option, Some, None}
+use Rattle.std.proofs.Common.{ℕ, ◌≡◌, ◌≢◌, ◌<◌, refl, ap, sym, ◌∙◌, subst, Bool, true, false, cond, ◌&&◌, List, [], ◌∷◌, ◌++◌, append_assoc, filter, Option, Some, None}
 use Rattle.std.specs.Prelude.{is_some}
 use Rattle.std.proofs.lemmas.Bool.{and_parts, eq-eqb, not-true}
 use Rattle.std.specs.FinSet.{contains}
-use Rattle.dr_ids.specs.declared.refusal.Refusal.{Refusal}
 use Rattle.dr_model.specs.declared.event.Event.TheVariants.{Mirrored}
 use Rattle.dr_model.specs.declared.state.Part.{Part}
 use Rattle.dr_model.specs.declared.state.Part.TheVariants.{Absent, Metro, Global}
@@ -12,9 +11,9 @@ use Rattle.dr_model.specs.Histories.{Histories, histories}
 use Rattle.dr_model.specs.Layout.{Fields, is_part}
 use Rattle.dr_model.specs.Pairs.{secondary_of, primary_of, is_metro, held, goes_over}
 use Rattle.dr_model.specs.Views.{source_of}
-use Rattle.dr_model.specs.Control.{Control, Fuse, Pending, Volume, World}
+use Rattle.dr_model.specs.Control.{Fuse, Pending, Volume, World}
 use Rattle.dr_model.specs.Moves.{Move, Suspend, Unsync, Mirror, LandBoth, target, is_write, tracks_after}
-use Rattle.dr_model.specs.Carry.{Make, Pass, Do, Entry, now}
+use Rattle.dr_model.specs.Carry.{Make, Pass, Do, now}
 use Rattle.dr_model.specs.Entries.{fields_at, is_running, is_no_secondary, is_open, is_settled, copy_first, keep_on, land_alone}
 use Rattle.dr_model.specs.PairEntries.{reach_refusal, belongs_to, send_refusal}
 use Rattle.dr_model.specs.WriteEntries.{partner_of, is_grouped, land_mirrored, land_parted, is_parted, landing, part_running, part_after}

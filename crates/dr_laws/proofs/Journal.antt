@@ -6,7 +6,7 @@ use Rattle.std.proofs.lemmas.List.{append-nil, length-append}
 use Rattle.dr_ids.specs.declared.refusal.Refusal.{Refusal}
 use Rattle.dr_ids.specs.declared.refusal.Refusal.TheVariants.{Stopped as StoppedIn}
 use Rattle.dr_model.specs.declared.event.Event.{Event}
-use Rattle.dr_model.specs.declared.event.Event.TheVariants.{Issue, Ack, Blanked, Restored, Stopped, Suspended, Started, Answer}
+use Rattle.dr_model.specs.declared.event.Event.TheVariants.{Issue, Ack, Blanked, Restored, Stopped, Suspended, Started, Frozen, Thawed, Answer}
 use Rattle.dr_model.specs.declared.said.Said.{Said}
 use Rattle.dr_model.specs.declared.said.Said.TheVariants.{Done}
 use Rattle.dr_model.specs.declared.said.Addition.TheVariants.{Alone, Wrote, Showed}
@@ -18,13 +18,12 @@ use Rattle.dr_model.specs.Layout.{Tracks}
 use Rattle.dr_model.specs.Tables.{at}
 use Rattle.dr_model.specs.Relations.{rest, in_order, is_bare, turned, given_up}
 use Rattle.dr_model.specs.Pairs.{is_suspended}
-use Rattle.dr_model.specs.Moves.{Move, Land, Overwrite, Keep, Note, Relate, Withdraw, Fetch, Resync, Reverse, Restore, Release, Store, Strike, Suspend, MakeSecondary, MakePrimary, DropPrimary, DropSecondary, Follow, Resume, TakeOver, told_blank, told_restored, told, told_in_stop, landed, target, settled, settled_in_stop, is_other, marked}
-use Rattle.dr_model.specs.Carry.{Act, Make, Redo, Acknowledge, Drop, act, Next, Pass, Do, End, Entry, Outcome, carry, continue, go, follow}
-use Rattle.dr_model.specs.Entries.{landing}
-use Rattle.dr_model.specs.Plans.{Plan, plan, entries_plan, name_bytes, same, always, none_follow, server_done, volume_done, link_done, with_pending, issue_then, show_done, stop_done, arm_on, starting, start_plan, path_done, unpath_done}
+use Rattle.dr_model.specs.Moves.{Move, Land, Overwrite, Keep, Note, Relate, Withdraw, Fetch, Resync, Reverse, Restore, Release, Store, Strike, Suspend, MakeSecondary, MakePrimary, DropPrimary, DropSecondary, Follow, Resume, TakeOver, Unsync, Mirror, LandBoth, Thaw, Lift, Restart, told_blank, told_restored, told, told_in_stop, landed, target, settled, settled_in_stop, is_other, marked}
+use Rattle.dr_model.specs.Carry.{Act, Make, Redo, Acknowledge, Drop, EndFreeze, EndThaw, act, Next, Pass, Do, End, Entry, Outcome, carry, continue, go, follow}
+use Rattle.dr_model.specs.Plans.{Plan, plan, entries_plan, name_bytes, same, always, none_follow, server_done, volume_done, link_done, with_pending, issue_done, show_done, stop_done, arm_on, starting, start_plan, path_done, unpath_done}
 use Rattle.dr_model.specs.Runs.{Task, begun, finish, carried_out, answered, after_plan, after_task, after_tasks, run}
 use Rattle.dr_laws.specs.Limits.{IsWithin}
-use Rattle.dr_laws.proofs.Cases.{Case, Says, Defines, Adds, Links, Issues, Writes, Applies, Shows, Stops, Arms, Starts, Flashes, Withdraws, Resyncs, Reverses, Copies, Paths, Unpaths, MakesPair, RemovesPair, Pauses, ResumesPair, Drains, plan-case, servers-left, is-new, may-issue}
+use Rattle.dr_laws.proofs.Cases.{Case, Says, Defines, Adds, Links, Issues, Writes, Applies, Shows, Stops, Arms, Starts, Flashes, Withdraws, Resyncs, Reverses, Copies, Paths, Unpaths, MakesPair, RemovesPair, Pauses, ResumesPair, Drains, Expires, Freezes, Thaws, plan-case, servers-left, is-new, may-issue}
 use Rattle.dr_laws.proofs.AtLemmas.{at_cases, at_part}
 use Rattle.dr_laws.proofs.Turns.{act-cases, Counts, after_act, server_of}
 
@@ -95,11 +94,13 @@ length-marked n (p ∷ ps) = let e : length (marked n ps) ≡ length ps = length
 settled-fewer : (m : Move) (ps : List Pending) → length (settled m ps) ≤ length ps
 settled-fewer (Land n v t) ps = filter-fewer (is_other n) ps
 settled-fewer (Overwrite n v t) ps = filter-fewer (is_other n) ps
+settled-fewer (LandBoth n v t) ps = filter-fewer (is_other n) ps
 settled-fewer m ps = omega arith
 
 stop-fewer : (m : Move) (ps : List Pending) → length (settled_in_stop m ps) ≤ length ps
 stop-fewer (Land n v t) ps = let e : length (marked n ps) ≡ length ps = length-marked n ps in omega arith
 stop-fewer (Overwrite n v t) ps = let e : length (marked n ps) ≡ length ps = length-marked n ps in omega arith
+stop-fewer (LandBoth n v t) ps = let e : length (marked n ps) ≡ length ps = length-marked n ps in omega arith
 stop-fewer m ps = omega arith
 
 blanks-silent : (v : ℕ) (ts : List ℕ) → Silent (map (Blanked v) ts)
@@ -139,10 +140,17 @@ tells-silent (DropSecondary v) u = refl
 tells-silent (Follow v state) u = refl
 tells-silent (Resume v state) u = refl
 tells-silent (TakeOver v) u = refl
+tells-silent (Unsync v t) u = refl
+tells-silent (Mirror v t from n) u = refl
+tells-silent (LandBoth n v t) u = refl
+tells-silent (Thaw v) u = refl
+tells-silent (Lift v) u = refl
+tells-silent (Restart v) u = refl
 
 in_stop-silent : (m : Move) (u : Volume) → Silent (told_in_stop m u)
 in_stop-silent (Land n v t) u = refl
 in_stop-silent (Overwrite n v t) u = refl
+in_stop-silent (LandBoth n v t) u = refl
 in_stop-silent m u = tells-silent m u
 
 -- a move leaves each volume its size
@@ -156,6 +164,8 @@ done-onward w (Make m) f =
 done-onward w (Redo v) f = record { stays = record { servers = refl; tracks = λ v. refl; volumes = refl; issued = refl; pending = omega arith }; added = []; events = sym (append-nil w.events); silent = refl }
 done-onward w (Acknowledge n) f = record { stays = record { servers = refl; tracks = λ v. refl; volumes = refl; issued = refl; pending = filter-fewer (is_other n) w.control.pending }; added = Ack n ∷ []; events = refl; silent = refl }
 done-onward w (Drop n) f = record { stays = record { servers = refl; tracks = λ v. refl; volumes = refl; issued = refl; pending = filter-fewer (is_other n) w.control.pending }; added = []; events = sym (append-nil w.events); silent = refl }
+done-onward w (EndFreeze l m) f = record { stays = record { servers = refl; tracks = λ v. refl; volumes = refl; issued = refl; pending = omega arith }; added = Frozen l m ∷ []; events = refl; silent = refl }
+done-onward w (EndThaw l m) f = record { stays = record { servers = refl; tracks = λ v. refl; volumes = refl; issued = refl; pending = omega arith }; added = Thawed l m ∷ []; events = refl; silent = refl }
 
 counts-onward : (w : World) (a : Act) → Counts w a (λ t. Onward w t.0)
 counts-onward w (Make m) = λ f.
@@ -169,6 +179,8 @@ counts-onward w (Make m) = λ f.
 counts-onward w (Redo v) = tt
 counts-onward w (Acknowledge n) = tt
 counts-onward w (Drop n) = tt
+counts-onward w (EndFreeze l m) = tt
+counts-onward w (EndThaw l m) = tt
 
 act-onward : (w : World) (a : Act) → Onward w (act w a).0
 act-onward w a = act-cases w a (λ t. Onward w t.0) (λ d off. onward-same w) (done-onward w a) (counts-onward w a)
@@ -262,9 +274,9 @@ module _ (k : Control) where
   room-more : {X : Type 0} (xs : List X) (x : X) (n : ℕ) → length xs < n → length (xs ++ x ∷ []) ≤ n
   room-more xs x n lt = let e : length (xs ++ x ∷ []) ≡ length xs + 1 = length-append xs (x ∷ []) in omega arith
 
-  issue-modest : (entries : List Entry) (v t offset len : ℕ) (bytes : List ℕ) → length k.pending < most_pending → Modest k (issue_then entries k v t offset len bytes)
-  issue-modest entries v t offset len bytes left =
-      modest (with_pending v t) (Issue (k.issued + 1) v t offset len bytes ∷ []) entries (always (Done (Wrote (k.issued + 1)))) (omega arith)
+  issue-modest : (v t offset len : ℕ) (bytes : List ℕ) → length k.pending < most_pending → Modest k (issue_done k v t offset len bytes)
+  issue-modest v t offset len bytes left =
+      modest (with_pending v t) (Issue (k.issued + 1) v t offset len bytes ∷ []) [] (always (Done (Wrote (k.issued + 1)))) (omega arith)
       (λ h. record { servers = h.servers; volumes = h.volumes; pending = room-more k.pending (record { w = k.issued + 1; volume = v; track = t; landed = false }) most_pending left; tracks = h.tracks }) refl
 
   -- a volume is defined, which isn't too large
@@ -281,9 +293,10 @@ module _ (k : Control) where
       modest (volume_done v s tracks).first (volume_done v s tracks).told [] (always (Done Alone)) (omega arith)
       (λ h. record { servers = h.servers; volumes = room-more k.volumes v most_volumes new.left; pending = h.pending; tracks = sizes-within v s tracks new.small h }) refl
   case-modest events line _ (Links a b up) = quiet (link_done a b up).first [] [] (always (Done Alone)) refl unmoved refl
-  case-modest events line _ (Issues v t offset len bytes free) = issue-modest [] v t offset len bytes (may-issue k v t free).1
-  case-modest events line _ (Writes v t offset len bytes free) = issue-modest (landing k (k.issued + 1) v t) v t offset len bytes (may-issue k v t free).1
-  case-modest events line _ (Applies n p found) = quiet same [] (landing k p.w p.volume p.track) (always (Done (Wrote p.w))) refl unmoved refl
+  case-modest events line _ (Issues v t offset len bytes free) = issue-modest v t offset len bytes (may-issue k v t free).1
+  case-modest events line _ (Writes v t offset len bytes free) =
+      let issues : Modest k (issue_done k v t offset len bytes) = issue-modest v t offset len bytes (may-issue k v t free).1 in record { one = issues.one; within = issues.within; last = issues.last; silent = issues.silent }
+  case-modest events line _ (Applies n p found) = record { one = omega arith; within = λ h. h; last = stays-same; silent = refl }
   case-modest events line _ (Shows v t there) = quiet same (show_done events line v t).told [] (always (Done Showed)) refl unmoved refl
   case-modest events line _ (Stops s on) = quiet (stop_done s).first (Stopped s 0 ∷ []) [] (always (Done Alone)) refl unmoved refl
   case-modest events line _ (Arms writes torn s) = quiet (arm_on writes torn s).first [] [] (always (Done Alone)) refl unmoved refl
@@ -300,6 +313,9 @@ module _ (k : Control) where
   case-modest events line _ (Pauses devs a b) = entries-modest _ _
   case-modest events line _ (ResumesPair devs a b kind) = entries-modest _ _
   case-modest events line _ (Drains a most) = record { one = omega arith; within = λ h. h; last = stays-same; silent = refl }
+  case-modest events line _ (Expires s on) = entries-modest _ _
+  case-modest events line _ (Freezes l m) = entries-modest _ _
+  case-modest events line _ (Thaws l m) = entries-modest _ _
 
 pub plan-modest : (k : Control) (events : List Event) (line : ℕ) (asked : Result Step ℕ) → Modest k (plan k events line asked)
 plan-modest k events line asked = case-modest k events line _ (plan-case k events line asked)

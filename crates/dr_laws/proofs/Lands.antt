@@ -1,6 +1,6 @@
 -- A pending write comes to land: where its volume's server is on and the volume is a place for it, it may.
 use Rattle.std.proofs.Common.{ℕ, ◌≡◌, refl, ap, sym, ◌∙◌, subst, Bool, true, false, cond, ◌&&◌, List, [], ◌∷◌, ◌++◌, map, filter, Some, None}
-use Rattle.std.proofs.lemmas.Bool.{false_from_ne_true, not-true, eqb-true, ne_eqb, or_parts}
+use Rattle.std.proofs.lemmas.Bool.{false_from_ne_true, eqb-true, ne_eqb, or_parts}
 use Rattle.std.specs.List.{find}
 use Rattle.dr_ids.specs.declared.refusal.Refusal.{Refusal}
 use Rattle.dr_model.specs.Layout.{Fields, is_part}
@@ -8,7 +8,7 @@ use Rattle.dr_model.specs.Histories.{histories}
 use Rattle.dr_model.specs.Control.{Control, Pending, Volume, World}
 use Rattle.dr_model.specs.Moves.{Land, Overwrite, is_write}
 use Rattle.dr_model.specs.Carry.{Make, Drop, dropped, Pass, Do, Entry, check}
-use Rattle.dr_model.specs.Entries.{fields_at, is_running, is_no_secondary, is_open, is_settled, is_revertible, is_reversing, stands_in, copies_from, keep_on, land_on, land_alone, drop_unless, check_or_drop}
+use Rattle.dr_model.specs.Entries.{fields_at, is_settled, is_revertible, is_reversing, stands_in, copies_from, keep_on, land_on, land_alone, drop_unless, check_or_drop}
 use Rattle.dr_model.specs.Laws.{Sound, Waits, AllPending, Apart}
 use Rattle.dr_model.specs.Allowed.{Coming, MayAck, Runs}
 use Rattle.dr_laws.proofs.Sets.{false_true, none_some, no_source, has_source, from_source}

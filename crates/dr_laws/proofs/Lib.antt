@@ -30,6 +30,7 @@ pub mod Journal
 pub mod Costs
 pub mod CopyCosts
 pub mod PairCosts
+pub mod WriteCosts
 pub mod Spends
 pub mod Limits
 pub mod Texts

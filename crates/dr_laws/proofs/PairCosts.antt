@@ -28,7 +28,7 @@ suspended-once : (none : Bool) (v : ℕ) → length (cond none [] (Suspended v �
 suspended-once true v = omega arith
 suspended-once false v = omega arith
 
-suspend-once : (v : ℕ) (busy : Bool) (u : Volume) → length (told (Suspend v busy) u) ≤ 1
+pub suspend-once : (v : ℕ) (busy : Bool) (u : Volume) → length (told (Suspend v busy) u) ≤ 1
 suspend-once v busy u = suspended-once (is_suspended u.fields.primary_state) v
 
 costs-refused : (n : ℕ) (w : World) (why : Control → Option Refusal) (ds : List Entry) → Costs n w ds → Costs n w (refuse_if why ∷ ds)

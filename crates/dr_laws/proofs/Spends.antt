@@ -1,6 +1,6 @@
 -- What each step tells: with its answer it is no more than a step has room for.
-use Rattle.std.proofs.Common.{ℕ, zero, suc, ◌≡◌, ◌≢◌, ◌≤◌, ◌<◌, ◌+◌, ◌-◌, List, [], ◌∷◌, ◌++◌, length, map, refl, ap, sym, ◌∙◌, arith, Bool, true, false, cond, not, ◌&&◌, Option, Some, None, Result}
-use Rattle.std.proofs.lemmas.List.{length-append, length-map}
+use Rattle.std.proofs.Common.{ℕ, zero, suc, ◌≡◌, ◌≢◌, ◌≤◌, ◌<◌, ◌+◌, ◌-◌, List, [], ◌∷◌, ◌++◌, length, refl, ap, sym, ◌∙◌, arith, Bool, true, false, cond, Option, Some, None, Result}
+use Rattle.std.proofs.lemmas.List.{length-append}
 use Rattle.std.proofs.Math.Nat.{min-le_right}
 use Rattle.std.specs.Cmp.{nat_cmp_total}
 use Rattle.std.specs.FinSet.{contains, remove, empty, len, len-empty, len-remove, same_set, nat_cmp-IsAntisymmetric}
@@ -15,19 +15,20 @@ use Rattle.dr_model.specs.Layout.{Tracks, Fields}
 use Rattle.dr_model.specs.Relations.{rest, turned}
 use Rattle.dr_model.specs.Limits.{step_events, most_volumes, most_tracks}
 use Rattle.dr_model.specs.Control.{Control, World}
-use Rattle.dr_model.specs.Moves.{Land, Overwrite, Keep, Note, Relate, Withdraw, Fetch, Resync, Reverse}
-use Rattle.dr_model.specs.Carry.{Make, Redo, Acknowledge, Drop, Pass, Do, Entry, Outcome, carry, follow, check, now}
-use Rattle.dr_model.specs.Entries.{fields_at, copies_from, is_running, is_no_secondary, is_open, is_settled, relation_state, landing, land_on, keep_on, keep_if, copy_first, drop_unless, check_or_drop, times, on_found, lowest_missing, fetch_next, give_back, share_server, share_size, is_no_target}
+use Rattle.dr_model.specs.Moves.{Relate, Withdraw, Fetch, Resync, Reverse}
+use Rattle.dr_model.specs.Carry.{Make, Entry, Outcome, carry, follow, now}
+use Rattle.dr_model.specs.Entries.{fields_at, is_running, times, on_found, lowest_missing, fetch_next, give_back, share_server, share_size, is_no_target}
 use Rattle.dr_model.specs.PairEntries.{tracks_to_send, is_copying}
-use Rattle.dr_model.specs.Plans.{Plan, plan, entries_plan, tables_plan, redo_on, belongs, acknowledge_on, acknowledge_if, landed_on, named_pair, is_defined, is_owner, differ, is_no_source, has_few_targets, is_plain_target, is_recorded_target, is_lone_restore, has_no_pair, may_return, may_give_back, may_copy, at_most, left_to_copy}
+use Rattle.dr_model.specs.Plans.{Plan, plan, entries_plan, tables_plan, named_pair, is_defined, is_owner, differ, is_no_source, has_few_targets, is_plain_target, is_recorded_target, is_lone_restore, has_no_pair, may_return, may_give_back, may_copy, at_most, left_to_copy}
 use Rattle.dr_model.specs.Runs.{begun, finish, after_plan}
 use Rattle.dr_model.specs.Laws.{Sound}
 use Rattle.dr_laws.specs.Limits.{IsWithin}
-use Rattle.dr_laws.proofs.Cases.{Case, Says, Defines, Adds, Links, Issues, Writes, Applies, Shows, Stops, Arms, Starts, Flashes, Withdraws, Resyncs, Reverses, Copies, Paths, Unpaths, MakesPair, RemovesPair, Pauses, ResumesPair, Drains, plan-case}
+use Rattle.dr_laws.proofs.Cases.{Case, Says, Defines, Adds, Links, Issues, Writes, Applies, Shows, Stops, Arms, Starts, Flashes, Withdraws, Resyncs, Reverses, Copies, Paths, Unpaths, MakesPair, RemovesPair, Pauses, ResumesPair, Drains, Expires, Freezes, Thaws, plan-case}
 use Rattle.dr_laws.proofs.Sets.{false_true, remove_from, not_removed, empty_has, rest_low}
-use Rattle.dr_laws.proofs.Costs.{Costs, costs-nil, costs-check, costs-last, carry-adds, blanks-few, restored-few, Small, Light, AllLight, light-none, light-then, light-append, light-map, light-check, light-costs, small-pass, small-do, small-choice}
+use Rattle.dr_laws.proofs.Costs.{Costs, costs-nil, costs-check, costs-last, carry-adds, blanks-few, restored-few, Small, Light, AllLight, light-none, light-then, light-costs, small-pass, small-do}
 use Rattle.dr_laws.proofs.CopyCosts.{rounds}
 use Rattle.dr_laws.proofs.PairCosts.{sends-costs, sent-few, suspend_after-few, light-pair, light-remove, length-remove, light-pause, light-resume}
+use Rattle.dr_laws.proofs.WriteCosts.{brief-costs, brief-landing, part_after-few, brief-freeze, brief-thaw, brief-expire, brief-start}
 
 -- a set of numbers below n has no more than n
 pub len-low : (n : ℕ) (s : Tracks) → ((q : ℕ) → contains s q ≡ true → q < n) → len s ≤ n
@@ -86,42 +87,6 @@ after_plan-adds w line p s =
     let few : length p.told + n + m + 2 ≤ step_events = s.few in omega arith
 
 -- entries of one event each
-light-keep : (v t u : ℕ) → Light (keep_on v t u)
-light-keep v t u w =
-    let f : Fields = fields_at w.control u in
-    small-choice w (copies_from v f && not f.reversing) (keep_if f u t) Pass
-    (small-choice w (not (contains f.own t)) (Do (Make (Keep u t))) _ (small-do w (Make (Keep u t)) (omega arith))
-    (small-choice w (f.recorded && not (contains f.source_changes t)) (Do (Make (Note u t))) Pass (small-do w (Make (Note u t)) (omega arith)) (small-pass w))) (small-pass w)
-
-light-land : (n v t : ℕ) → Light (land_on n v t)
-light-land n v t w = by (fields_at w.control v).related
-  where
-    by : (b : Bool) → Small w (Do (Make (cond b (Overwrite n v t) (Land n v t))))
-    by true = small-do w (Make (Overwrite n v t)) (omega arith)
-    by false = small-do w (Make (Land n v t)) (omega arith)
-
-light-drop : (n : ℕ) (ok : Control → Bool) (r : Refusal) (ds : List Entry) → AllLight ds → AllLight (check_or_drop n ok r ++ ds)
-light-drop n ok r ds rest = light-then (drop_unless n ok) _ (λ w. small-choice w (ok w.control) Pass (Do (Drop n)) (small-pass w) (small-do w (Drop n) (omega arith))) (light-then (check ok r) _ (light-check ok r) rest)
-
-light-landing : (k : Control) (n v t : ℕ) → AllLight (landing k n v t)
-light-landing k n v t =
-    light-then (check (is_running v) _) _ (light-check (is_running v) _) (light-drop n (is_no_secondary v) _ _ (light-drop n (is_open v) _ _ (light-drop n (is_settled v) (relation_state k v) _
-    (light-append (copy_first k.volumes v t) _ (light-map (keep_on v t) (light-keep v t) k.volumes) (light-then (land_on n v t) [] (light-land n v t) light-none)))))
-
-landing-length : (k : Control) (n v t : ℕ) → length (landing k n v t) ≡ length k.volumes + 8
-landing-length k n v t =
-    let a : length (copy_first k.volumes v t ++ land_on n v t ∷ []) ≡ length (copy_first k.volumes v t) + 1 = length-append (copy_first k.volumes v t) (land_on n v t ∷ []) in
-    let b : length (copy_first k.volumes v t) ≡ length k.volumes = length-map k.volumes (keep_on v t) in omega arith
-
-light-acknowledge : (o : Option ℕ) (w : World) → Small w (acknowledge_if o)
-light-acknowledge None w = small-pass w
-light-acknowledge (Some n) w = small-do w (Acknowledge n) (omega arith)
-
-light-start : (s : ℕ) (vs : List ℕ) → AllLight (map (redo_on s) vs ++ acknowledge_on s ∷ [])
-light-start s vs =
-    light-append (map (redo_on s) vs) _ (light-map (redo_on s) (λ v w. small-choice w (belongs w.control s v) (Do (Redo v)) Pass (small-do w (Redo v) (omega arith)) (small-pass w)) vs)
-    (light-then (acknowledge_on s) [] (λ w. light-acknowledge (landed_on w.control s) w) light-none)
-
 light-fetch : (v : ℕ) → Light (fetch_next v)
 light-fetch v w = by (lowest_missing v w.control)
   where
@@ -173,27 +138,25 @@ module _ (w : World) (x : Sound w) (h : IsWithin w.control) where
   tables-spends : (first : Control → Control) (told : List Event) (said : Said) → length told ≤ 1 → Spends w (tables_plan first told said)
   tables-spends first told said le = record { spends = 0; costs = costs-nil 0 _; after = 0; follows = none-adds; few = omega arith }
 
-  landing-few : (n v t : ℕ) → length (landing w.control n v t) ≤ 72
-  landing-few n v t = let e : length (landing w.control n v t) ≡ length w.control.volumes + 8 = landing-length w.control n v t in let le : length w.control.volumes ≤ most_volumes = h.volumes in omega arith
-
   case-spends : (line : ℕ) (p : Plan) → Case w.control w.events line p → Spends w p
   case-spends line _ (Says a) = tables-spends _ _ _ (omega arith)
   case-spends line _ (Defines name free) = tables-spends _ _ _ (omega arith)
   case-spends line _ (Adds v s tracks free) = tables-spends _ _ _ (omega arith)
   case-spends line _ (Links a b up) = tables-spends _ _ _ (omega arith)
   case-spends line _ (Issues v t offset len bytes free) = record { spends = 0; costs = costs-nil 0 _; after = 0; follows = none-adds; few = omega arith }
-  case-spends line _ (Writes v t offset len bytes free) =
-      record { spends = 72; costs = light-costs _ (light-landing w.control (w.control.issued + 1) v t) 72 _ (landing-few (w.control.issued + 1) v t); after = 0; follows = none-adds; few = omega arith }
-  case-spends line _ (Applies n p found) = record { spends = 72; costs = light-costs _ (light-landing w.control p.w p.volume p.track) 72 _ (landing-few p.w p.volume p.track); after = 0; follows = none-adds; few = omega arith }
+  case-spends line _ (Writes v t offset len bytes free) = record {
+    spends = 138;
+    costs = brief-costs 138 _ (brief-landing most_volumes w.control h.volumes (w.control.issued + 1) v t) _;
+    after = 2;
+    follows = λ s u. part_after-few v s u;
+    few = omega arith;
+  }
+  case-spends line _ (Applies n p found) =
+      record { spends = 138; costs = brief-costs 138 _ (brief-landing most_volumes w.control h.volumes p.w p.volume p.track) _; after = 2; follows = λ s u. part_after-few p.volume s u; few = omega arith }
   case-spends line _ (Shows v t there) = tables-spends _ _ _ (omega arith)
   case-spends line _ (Stops s on) = tables-spends _ _ _ (omega arith)
   case-spends line _ (Arms writes torn s) = tables-spends _ _ _ (omega arith)
-  case-spends line _ (Starts s off) =
-      let le : length w.control.volumes ≤ most_volumes = h.volumes in
-      let ds : List Entry = map (redo_on s) w.control.volumes ++ acknowledge_on s ∷ [] in
-      let a : length ds ≡ length (map (redo_on s) w.control.volumes) + 1 = length-append (map (redo_on s) w.control.volumes) (acknowledge_on s ∷ []) in
-      let b : length (map (redo_on s) w.control.volumes) ≡ length w.control.volumes = length-map w.control.volumes (redo_on s) in
-      record { spends = 70; costs = light-costs ds (light-start s w.control.volumes) 70 _ (omega arith); after = 0; follows = none-adds; few = omega arith }
+  case-spends line _ (Starts s off) = record { spends = 129; costs = brief-costs 129 _ (brief-start most_volumes w.control.volumes h.volumes s) _; after = 0; follows = none-adds; few = omega arith }
   case-spends line _ (Flashes dev s t choices) = entries-spends _ _ 1
       (named-costs 1 _ w.control dev s t _ (costs-check 1 _ (differ s t) _ _ (costs-check 1 _ (share_server s t) _ _ (costs-check 1 _ (share_size s t) _ _ (costs-check 1 _ (is_no_target t) _ _
       (costs-check 1 _ (is_no_source t) _ _ (costs-check 1 _ (is_no_target s) _ _ (costs-check 1 _ (has_no_pair t) _ _ (costs-check 1 _ (has_few_targets s) _ _ (costs-last 1 _ (Relate t s choices) (omega arith))))))))))) (omega arith)
@@ -231,6 +194,9 @@ module _ (w : World) (x : Sound w) (h : IsWithin w.control) where
         follows = λ s v. suspend_after-few a s v;
         few = omega arith;
       }
+  case-spends line _ (Expires s on) = entries-spends _ _ 64 (brief-costs 64 _ (brief-expire most_volumes w.control.volumes h.volumes s) _) (omega arith)
+  case-spends line _ (Freezes l m) = entries-spends _ _ 65 (brief-costs 65 _ (brief-freeze most_volumes w.control.volumes h.volumes l m) _) (omega arith)
+  case-spends line _ (Thaws l m) = entries-spends _ _ 65 (brief-costs 65 _ (brief-thaw most_volumes w.control.volumes h.volumes l m) _) (omega arith)
 
   pub plan-spends : (line : ℕ) (asked : Result Step ℕ) → Spends w (plan w.control w.events line asked)
   plan-spends line asked = case-spends line _ (plan-case w.control w.events line asked)

@@ -1,5 +1,5 @@
 -- A server starts: its volumes go on, and until its landed write is acknowledged, it alone may be on with a write that waits.
-use Rattle.std.proofs.Common.{ℕ, ◌≡◌, ◌≢◌, ◌+◌, ◌⊎◌, inl, inr, refl, ap, sym, ◌∙◌, subst, Bool, true, false, cond, not, ◌&&◌, nat_eq, List, [], ◌∷◌, ◌++◌, map, filter, Option, Some, None}
+use Rattle.std.proofs.Common.{ℕ, ◌≡◌, ◌≢◌, ◌+◌, ◌⊎◌, inl, inr, refl, ap, sym, ◌∙◌, subst, Bool, true, false, cond, not, ◌&&◌, nat_eq, List, [], ◌∷◌, ◌++◌, filter, Option, Some, None}
 use Rattle.std.specs.Prelude.{option_map}
 use Rattle.std.proofs.lemmas.List.{append-nil}
 use Rattle.std.proofs.lemmas.Bool.Decides.{eqb_tells}
@@ -23,7 +23,7 @@ use Rattle.dr_model.specs.Allowed.{Runs, May}
 use Rattle.dr_model.proofs.Images.{histories-append, at_same, at_other}
 use Rattle.dr_laws.proofs.AtLemmas.{at_cases}
 use Rattle.dr_laws.proofs.Sets.{if_false, if_true}
-use Rattle.dr_laws.proofs.Turns.{after_act, done, done_in_stop, not_done, place, server_of, Writes}
+use Rattle.dr_laws.proofs.Turns.{after_act, done_in_stop, not_done, place, server_of, Writes}
 use Rattle.dr_laws.proofs.Due.{acked_lists}
 use Rattle.dr_laws.proofs.RowsAfter.{calm-each}
 use Rattle.dr_laws.proofs.KeepsQueue.{each-on, all-filter, apart-filter, lone-filter, numbered-after}

@@ -14,7 +14,7 @@ use Rattle.dr_model.specs.Contents.{image, image_at}
 use Rattle.dr_model.specs.Histories.{histories, after_event}
 use Rattle.dr_model.specs.Control.{Control, Pending, Fuse, World, nothing}
 use Rattle.dr_model.specs.Moves.{is_write}
-use Rattle.dr_model.specs.Carry.{Entry, carry}
+use Rattle.dr_model.specs.Carry.{carry}
 use Rattle.dr_model.specs.Plans.{Plan, plan, same, only_says, tables_plan, name_bytes, issue_done, write_done, apply_done, torn_bytes}
 use Rattle.dr_model.specs.Runs.{Task, begun, said, after_plan, after_task, after_tasks, run}
 use Rattle.dr_model.specs.Table.{table}
@@ -23,7 +23,7 @@ use Rattle.dr_model.proofs.Images.{histories-append}
 use Rattle.dr_model.proofs.LawfulLemmas.{lawful-no_fields}
 use Rattle.dr_laws.proofs.Cases.{Case, Says, Defines, Adds, Links, Issues, Writes, Applies, Shows, Stops, Arms, Starts, Flashes, Withdraws, Resyncs, Reverses, Copies, Paths, Unpaths, MakesPair, RemovesPair, Pauses, ResumesPair, Drains, Expires, Freezes, Thaws, IsTrack, plan-case, is-new, may-issue}
 use Rattle.dr_laws.proofs.KeepsQueue.{Quiet, AllQuiet, goes-off}
-use Rattle.dr_laws.proofs.KeepsSound.{StepHolds, RowsAt, MayDo, Along, holds-moves, keeps-sound, sound-told, over}
+use Rattle.dr_laws.proofs.KeepsSound.{StepHolds, RowsAt, MayDo, holds-moves, keeps-sound, sound-told, over}
 use Rattle.dr_laws.proofs.Issues.{issued, sound-issued, one-new}
 use Rattle.dr_laws.proofs.Lands.{found-alone}
 use Rattle.dr_laws.proofs.FitsFlash.{holds-flash, holds-withdraw, holds-resync, holds-reverse}

@@ -17,14 +17,15 @@ use Rattle.dr_model.specs.declared.step.Step.{Step}
 use Rattle.dr_model.specs.Control.{Control, Fuse, Volume as VolumeRow, World}
 use Rattle.dr_model.specs.Layout.{Tracks, Fields}
 use Rattle.dr_model.specs.Relations.{is_bare, in_order, rest}
-use Rattle.dr_model.specs.Pairs.{is_suspended, first_state}
+use Rattle.dr_model.specs.Pairs.{is_suspended, first_state, held, goes_over, must_restart}
 use Rattle.dr_model.specs.Moves.{Move, Land, Overwrite, Keep, Note, Relate, Withdraw, Fetch, Resync, Reverse, Restore, Release, Store, Strike, Suspend, MakeSecondary, MakePrimary, DropPrimary, DropSecondary, Follow, Resume, TakeOver, Unsync, Mirror, LandBoth, Thaw, Lift, Restart, told_blank, told_restored, told, told_in_stop, landed, target}
 use Rattle.dr_model.specs.Carry.{Act, Make, Redo, Acknowledge, Drop, EndFreeze, EndThaw, check, now, act, Turn, Next, Pass, Do, End, Entry, Outcome, carry, continue, go}
-use Rattle.dr_model.specs.Entries.{fields_at, is_revertible, stands_in, copies_from, is_running, is_no_secondary, is_open, is_settled, relation_state, pair_state, landing, land_on, keep_on, keep_if, copy_first, drop_unless, check_or_drop, times, on_found, lowest_missing, lowest_held, fetch_next, for_lowest, give_back, share_server, share_size, is_no_target}
+use Rattle.dr_model.specs.Entries.{fields_at, is_revertible, stands_in, copies_from, is_running, is_no_secondary, is_open, is_settled, relation_state, pair_state, land_on, land_alone, keep_on, keep_if, copy_first, drop_unless, check_or_drop, times, on_found, lowest_missing, lowest_held, fetch_next, for_lowest, give_back, share_server, share_size, is_no_target}
 use Rattle.dr_model.specs.PairEntries.{link_down, are_linked, has_path, reach_refusal, end_if, refuse_if, differs_at, two_servers, stands_free, may_follow, make_entries, leads_to, belongs_to, let_go, remove_both, remove_entries, may_pause, tell_paused, pause_entries, may_resume, follow_on, resume_on, resume_entries, send_refusal, suspend_where, flashed_refusal, store_on, strike_on, send_entries, sends, tracks_to_send, is_copying}
-use Rattle.dr_model.specs.Plans.{Plan, plan, found_volumes, redo_on, acknowledge_on, acknowledge_if, landed_on, belongs, named_pair, is_defined, is_owner, differ, is_no_source, has_few_targets, is_plain_target, is_recorded_target, is_lone_restore, has_no_pair, may_return, may_give_back, may_copy, at_most, left_to_copy}
+use Rattle.dr_model.specs.WriteEntries.{partner_of, is_grouped, land_mirrored, land_parted, is_parted, land_over, land_entries, landing, is_between, freeze_on, end_freeze, freeze_entries, thaw_on, end_thaw, thaw_entries, belongs, lift_on, redo_on, restart_on, start_entries}
+use Rattle.dr_model.specs.Plans.{Plan, plan, found_volumes, acknowledge_on, acknowledge_if, landed_on, named_pair, is_defined, is_owner, differ, is_no_source, has_few_targets, is_plain_target, is_recorded_target, is_lone_restore, has_no_pair, may_return, may_give_back, may_copy, at_most, left_to_copy}
 use Rattle.dr_laws.specs.Stops.{first_stop, stop_in, refused_stop, StopsTold}
-use Rattle.dr_laws.proofs.Cases.{Case, Says, Defines, Adds, Links, Issues, Writes, Applies, Shows, Stops, Arms, Starts, Flashes, Withdraws, Resyncs, Reverses, Copies, Paths, Unpaths, MakesPair, RemovesPair, Pauses, ResumesPair, Drains, plan-case}
+use Rattle.dr_laws.proofs.Cases.{Case, Says, Defines, Adds, Links, Issues, Writes, Applies, Shows, Stops, Arms, Starts, Flashes, Withdraws, Resyncs, Reverses, Copies, Paths, Unpaths, MakesPair, RemovesPair, Pauses, ResumesPair, Drains, Expires, Freezes, Thaws, plan-case}
 use Rattle.dr_laws.proofs.Turns.{act-cases, Counts, after_act, server_of}
 
 first-append : (es fs : List Event) → first_stop (es ++ fs) ≡ option_or (first_stop es) (first_stop fs)
@@ -204,18 +205,59 @@ times-calm : (n : ℕ) (ds : List Entry) → Unstopped ds → Unstopped (times n
 times-calm zero ds p = none-calm
 times-calm (suc n) ds p = append-calm ds (times n ds) p (times-calm n ds p)
 
-start-calm : (s : ℕ) (vs : List ℕ) → Unstopped (map (redo_on s) vs ++ acknowledge_on s ∷ [])
-start-calm s vs =
-    append-calm (map (redo_on s) vs) _ (map-calm (redo_on s) (λ v k. choice-goes (belongs k s v) (Do (Redo v)) Pass (do-goes _) pass-goes) vs)
-    (last-calm (acknowledge_on s) (λ k. acknowledge-goes (landed_on k s)))
+volumes-calm : (s : ℕ) (vs : List ℕ) → Unstopped (start_entries s vs)
+volumes-calm s [] = none-calm
+volumes-calm s (v ∷ vs) =
+    then-calm (redo_on s v) _ (goes-calm (redo_on s v) (λ k. choice-goes (belongs k s v) (Do (Redo v)) Pass (do-goes _) pass-goes))
+    (then-calm (restart_on s v) _ (goes-calm (restart_on s v) (λ k. choice-goes (belongs k s v && must_restart (fields_at k v)) (Do (Make (Restart v))) Pass (do-goes _) pass-goes)) (volumes-calm s vs))
+
+start-calm : (s : ℕ) (vs : List ℕ) → Unstopped (start_entries s vs ++ acknowledge_on s ∷ [])
+start-calm s vs = append-calm (start_entries s vs) _ (volumes-calm s vs) (last-calm (acknowledge_on s) (λ k. acknowledge-goes (landed_on k s)))
+
+freeze-calm : (l m : ℕ) (vs : List ℕ) → Unstopped (freeze_entries vs l m)
+freeze-calm l m vs =
+    append-calm (map (freeze_on l m) vs) _ (map-calm (freeze_on l m) (λ v k. choice-goes (is_between k l m v) (Do (Make (Suspend v true))) Pass (do-goes _) pass-goes) vs) (last-calm (end_freeze l m) (λ k. do-goes _))
+
+thaw-calm : (l m : ℕ) (vs : List ℕ) → Unstopped (thaw_entries vs l m)
+thaw-calm l m vs =
+    append-calm (map (thaw_on l m) vs) _ (map-calm (thaw_on l m) (λ v k. choice-goes (is_between k l m v && (fields_at k v).long_busy) (Do (Make (Thaw v))) Pass (do-goes _) pass-goes) vs) (last-calm (end_thaw l m) (λ k. do-goes _))
+
+expire-calm : (s : ℕ) (vs : List ℕ) → Unstopped (map (lift_on s) vs)
+expire-calm s vs = map-calm (lift_on s) (λ v k. choice-goes (belongs k s v && held (fields_at k v)) (Do (Make (Lift v))) Pass (do-goes _) pass-goes) vs
 
 drop-calm : (n : ℕ) (ok : Control → Bool) (other : Refusal) (ds : List Entry) → refused_stop (Some other) ≡ None → Unstopped ds → Unstopped (check_or_drop n ok other ++ ds)
 drop-calm n ok other ds calm rest = then-calm (drop_unless n ok) _ (goes-calm (drop_unless n ok) (λ k. choice-goes (ok k) Pass (Do (Drop n)) pass-goes (do-goes _))) (checked-calm ok other ds calm rest)
 
-landing-calm : (k : Control) (n v t : ℕ) → Unstopped (landing k n v t)
-landing-calm k n v t =
-    checked-calm (is_running v) _ _ refl (drop-calm n (is_no_secondary v) _ _ refl (drop-calm n (is_open v) _ _ refl (drop-calm n (is_settled v) (relation_state k v) _ refl
-    (append-calm (copy_first k.volumes v t) _ (map-calm (keep_on v t) (keep-goes v t) k.volumes) (last-calm (land_on n v t) (λ j. do-goes _))))))
+choice-calm : (b : Bool) (ds es : List Entry) → Unstopped ds → Unstopped es → Unstopped (cond b ds es)
+choice-calm true ds es p q = p
+choice-calm false ds es p q = q
+
+module _ (k : Control) (n v t : ℕ) where
+  keeps-calm : (s : ℕ) → Unstopped (copy_first k.volumes s t)
+  keeps-calm s = map-calm (keep_on s t) (keep-goes s t) k.volumes
+
+  alone-calm : Unstopped (land_alone k.volumes n v t)
+  alone-calm = append-calm (copy_first k.volumes v t) _ (keeps-calm v) (last-calm (land_on n v t) (λ j. do-goes _))
+
+  mirrored-calm : (u : ℕ) → Unstopped (land_mirrored k.volumes n v t u)
+  mirrored-calm u =
+      append-calm (now (Unsync v t) ∷ copy_first k.volumes u t ++ now (Mirror u t v n) ∷ copy_first k.volumes v t) _
+      (append-calm (now (Unsync v t) ∷ copy_first k.volumes u t) _ (then-calm (now (Unsync v t)) _ (goes-calm (now (Unsync v t)) (λ k. do-goes _)) (keeps-calm u))
+      (then-calm (now (Mirror u t v n)) _ (goes-calm (now (Mirror u t v n)) (λ k. do-goes _)) (keeps-calm v)))
+      (last-calm (now (LandBoth n v t)) (λ k. do-goes _))
+
+  parted-calm : Unstopped (land_parted k n v t)
+  parted-calm =
+      let busy : Bool = is_grouped k v (partner_of k v) in then-calm (now (Suspend v busy)) _ (goes-calm (now (Suspend v busy)) (λ k. do-goes _)) (choice-calm busy [] (land_alone k.volumes n v t) none-calm alone-calm)
+
+  lands-calm : Unstopped (land_entries k n v t)
+  lands-calm =
+      choice-calm (held (fields_at k v)) [] _ none-calm
+      (choice-calm (goes_over (fields_at k v) t) (land_over k n v t) (land_alone k.volumes n v t)
+      (choice-calm (is_parted k v) (land_parted k n v t) (land_mirrored k.volumes n v t (partner_of k v)) parted-calm (mirrored-calm (partner_of k v))) alone-calm)
+
+  landing-calm : Unstopped (landing k n v t)
+  landing-calm = checked-calm (is_running v) _ _ refl (drop-calm n (is_no_secondary v) _ _ refl (drop-calm n (is_open v) _ _ refl (drop-calm n (is_settled v) (relation_state k v) _ refl lands-calm)))
 
 named-calm : (k : Control) (dev : Option Name) (s t : ℕ) (ds : List Entry) → Unstopped ds → Unstopped (named_pair k dev s t ++ ds)
 named-calm k dev s t ds rest = checked-calm (is_defined s) _ _ refl (checked-calm (is_defined t) _ _ refl (checked-calm (is_owner dev s) _ _ refl (checked-calm (is_running s) _ _ refl rest)))
@@ -347,6 +389,9 @@ case-calm k events line _ (ResumesPair devs a b kind) = resume-calm a b k devs k
 case-calm k events line _ (Drains a most) =
     checked-calm (is_defined a) _ _ refl (checked-calm (is_running a) _ _ refl (checked-calm (is_copying a) (pair_state k a) _ refl
     (sends-calm a (fields_at k a).primary_partner k.volumes (tracks_to_send most (k.volume a).tracks (fields_at k a).out_of_sync))))
+case-calm k events line _ (Expires s on) = expire-calm s k.volumes
+case-calm k events line _ (Freezes l m) = freeze-calm l m k.volumes
+case-calm k events line _ (Thaws l m) = thaw-calm l m k.volumes
 
 pub plan-calm : (k : Control) (events : List Event) (line : ℕ) (asked : Result Step ℕ) → Unstopped (plan k events line asked).entries
 plan-calm k events line asked = case-calm k events line _ (plan-case k events line asked)
