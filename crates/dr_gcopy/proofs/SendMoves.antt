@@ -29,10 +29,10 @@ either-low : (a b : Bool) {P : Type 0} → (a || b) ≡ true → (a ≡ true →
 either-low true b h f g = f refl
 either-low false b h f g = g h
 
-low-union : (n : ℕ) (x y : Tracks) → Low n x → Low n y → Low n (union x y)
+pub low-union : (n : ℕ) (x y : Tracks) → Low n x → Low n y → Low n (union x y)
 low-union n x y h k q member = either-low (contains x q) (contains y q) (sym (contains-union_tracks x y q) ∙ member) (h q) (k q)
 
-low-if : (b : Bool) (n : ℕ) (x y : Tracks) → Low n x → Low n y → Low n (if b then x else y)
+pub low-if : (b : Bool) (n : ℕ) (x y : Tracks) → Low n x → Low n y → Low n (if b then x else y)
 low-if true n x y h k = h
 low-if false n x y h k = k
 

@@ -11,7 +11,7 @@ use dr_model::{PairState, Part};
 use dr_volume::Fields;
 
 /// Whether a part is that of a Metro Mirror pair.
-fn is_metro(part: Part) -> bool
+pub fn is_metro(part: Part) -> bool
     ensures { result ≡ pairs.is_metro part }
 {
     match part {
@@ -51,7 +51,7 @@ fn still_recorded(f: &Fields) -> TrackSet
 
 /// A primary after a void: what changed while it recorded is out of sync too, and it neither records nor is held by
 /// coordination.
-pub(crate) fn voided(f: &Fields) -> Fields
+pub fn voided(f: &Fields) -> Fields
     ensures { plain result ≡ pairs.voided (plain f.now) }
 {
     Fields {

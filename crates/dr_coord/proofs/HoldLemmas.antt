@@ -1,0 +1,216 @@
+-- How holds of a volume end, and how it goes on as its server starts: the fields are lawful, and what is told.
+use Rattle.std.proofs.Common.{ℕ, ◌≡◌, ◌≤◌, ◌<◌, ◌⊎◌, inl, inr, Bool, true, false, not, ◌&&◌, ◌||◌, cond, nat_eq, ◌==◌, arith, List, [], ◌∷◌, ◌++◌, refl, sym, ◌∙◌, ap, subst, Option, None, Some}
+use Rattle.std.specs.Prelude.{is_some, if◌then◌else◌}
+use Rattle.std.proofs.lemmas.Bool.Decides.{Decides-eqb, nat_tests}
+use Rattle.std.proofs.lemmas.List.{append-nil}
+use Rattle.std.specs.List.{find, list_any}
+use Rattle.std.specs.FinSet.{union, empty}
+use Rattle.dr_bits.specs.Tracks.{Tracks}
+use Rattle.dr_plant.specs.State.{PlantState}
+use Rattle.dr_config.specs.Table.{Table, StandsFor, place_of}
+use Rattle.dr_config.specs.declared.entries.VolumeEntry.{VolumeEntry}
+use Rattle.dr_ids.specs.declared.refusal.Refusal.{Refusal}
+use Rattle.dr_model.specs.declared.event.Event.{Event}
+use Rattle.dr_model.specs.declared.event.Event.TheVariants.{Stopped}
+use Rattle.dr_model.specs.declared.state.PairState.{PairState}
+use Rattle.dr_model.specs.declared.state.PairState.TheVariants.{CopyPending}
+use Rattle.dr_model.specs.Layout.{Fields, is_part}
+use Rattle.dr_model.specs.Lawful.{Low, HasSets, IsLawful, NoPrimary}
+use Rattle.dr_model.specs.Control.{Volume, World, is_volume}
+use Rattle.dr_model.specs.Pairs.{held, lifted, restarted, voided, is_engaged, is_torn, must_restart}
+use Rattle.dr_model.specs.Moves.{Move, Lift, Restart, fields_left}
+use Rattle.dr_model.specs.Carry.{Next, Pass, Do, Make, Entry, Ended, ended, update, now}
+use Rattle.dr_model.specs.WriteEntries.{belongs, lift_on, restart_on}
+use Rattle.dr_volume.specs.View.{Rest, volume_seen, ids_of}
+use Rattle.dr_flash.specs.Fit.{RelationsFit}
+use Rattle.dr_flash.specs.Here.{seen, armed_in}
+use Rattle.dr_flash.specs.declared.told.Told.TheVariants.{Nothing}
+use Rattle.dr_flash.specs.Turns.{told_in_stop, Advances, Halts}
+use Rattle.dr_flash.specs.declared.told.Telling.{Telling}
+use Rattle.dr_flash.proofs.MadeLemmas.{made-goes, made-stops}
+use Rattle.dr_flash.proofs.PlaceLaws.{entry-found}
+use Rattle.dr_flash.proofs.ReadLemmas.{on-running, is-armed}
+use Rattle.dr_volume.specs.Update.{EndsAs, after_reading}
+use Rattle.dr_volume.proofs.UnreadLaws.{armed-of, lies-low}
+use Rattle.dr_plant.specs.State.{passes_read}
+use Rattle.dr_model.specs.ReadStops.{shut, Ends}
+use Rattle.dr_model.specs.Refusals.{stopped}
+use Rattle.dr_coord.specs.Standing.{StandsReady}
+use Rattle.dr_flash.proofs.FitLemmas.{fit-kept}
+use Rattle.dr_flash.proofs.FieldLemmas.{low-empty, covers-all}
+use Rattle.dr_flash.proofs.MoveLemmas.{MoveFits}
+use Rattle.dr_flash.proofs.TurnLemmas.{Tells, advances, halts, halts-gone}
+use Rattle.dr_flash.proofs.EndsLemmas.{ends-skips, ends-alike, ends-none}
+use Rattle.dr_gcopy.proofs.SendMoves.{low-if, low-union}
+
+-- the server, whose read fuse is armed, went off before any write
+record Shuts (armed : ℕ → Bool) (server : ℕ) (w u : World) (failed : Bool) : Type 0 where
+  is_armed : armed server ≡ true
+  world : u ≡ shut w server
+  answer : failed ≡ true
+
+-- an act that begins with a read ends as the machine's, or at that read
+split : (s : PlantState) (w u : World) (b : Bool) (e : Ended) → {server : ℕ} → server < 8 → EndsAs u b (after_reading s server w e) → EndsAs u b e ⊎ Shuts (armed_in s) server w u b
+split s w u b e {server} low ends =
+    elim (passes_read (s.read_fuse server)) as (λ p. passes_read (s.read_fuse server) ≡ p → EndsAs u b (if p then e else ended (shut w server) true false) → EndsAs u b e ⊎ Shuts (armed_in s) server w u b) [
+      | true ↦ λ pass h. inl h
+      | false ↦ λ stuck h. inr (record { is_armed = is-armed s server low (armed-of (s.read_fuse server) stuck); world = h.world; answer = h.stopped })
+    ] refl ends
+
+-- of a volume that is no primary nothing is there to end
+if-off : {A : Type 0} (b : Bool) (x y : A) → b ≡ false → (if b then x else y) ≡ y
+if-off b x y off = ap (λ c. if c then x else y) off
+
+lifted-lawful : (n : ℕ) (f : Fields) → IsLawful n f → IsLawful n (lifted f)
+lifted-lawful n f lawful = let sets : HasSets n f = lawful.sets in record {
+  sets = record {
+    out_of_sync_low = low-if f.coordination n _ _ (low-union n f.out_of_sync f.change_recording sets.out_of_sync_low sets.change_recording_low) sets.out_of_sync_low;
+    change_recording_low = low-if f.coordination n _ _ (low-empty n) sets.change_recording_low;
+    own_low = sets.own_low;
+    previous_own_low = sets.previous_own_low;
+    source_changes_low = sets.source_changes_low;
+    target_changes_low = sets.target_changes_low;
+    blank_low = sets.blank_low;
+  };
+  primary = λ absent.
+      let none : NoPrimary f = lawful.primary absent in
+      (none.0, none.1, refl, refl, if-off f.coordination false f.recording none.2 ∙ none.4, if-off f.coordination _ f.out_of_sync none.2 ∙ none.5, if-off f.coordination _ f.change_recording none.2 ∙ none.6);
+  secondary = lawful.secondary;
+  relation = lawful.relation;
+}
+
+-- nor does it record
+not-engaged : (f : Fields) → NoPrimary f → is_engaged f ≡ false
+not-engaged f none = ap (λ r. r || f.coordination) none.4 ∙ none.2
+
+pub restarted-lawful : (n : ℕ) (f : Fields) → IsLawful n f → IsLawful n (restarted f)
+restarted-lawful n f lawful = let sets : HasSets n f = lawful.sets in record {
+  sets = record {
+    out_of_sync_low = low-if (is_engaged f) n _ _ (low-union n f.out_of_sync f.change_recording sets.out_of_sync_low sets.change_recording_low) sets.out_of_sync_low;
+    change_recording_low = low-if (is_engaged f) n _ _ (low-empty n) sets.change_recording_low;
+    own_low = sets.own_low;
+    previous_own_low = sets.previous_own_low;
+    source_changes_low = sets.source_changes_low;
+    target_changes_low = sets.target_changes_low;
+    blank_low = sets.blank_low;
+  };
+  primary = λ absent.
+      let none : NoPrimary f = lawful.primary absent in
+      (if-same (is_torn f) f.primary_state none.0, none.1, refl, none.3, refl, if-off (is_engaged f) _ f.out_of_sync (not-engaged f none) ∙ none.5, if-off (is_engaged f) _ f.change_recording (not-engaged f none) ∙ none.6);
+  secondary = lawful.secondary;
+  relation = lawful.relation;
+}
+  where
+    if-same : (b : Bool) (s : PairState) → s ≡ CopyPending → (if b then CopyPending else s) ≡ CopyPending
+    if-same true s is = refl
+    if-same false s is = is
+
+module _ (s : PlantState) (t : Table) (v : ℕ) (fit : RelationsFit s t) (lawful : IsLawful (volume_seen s t v).tracks (volume_seen s t v).fields) where
+  abbrev x : Volume
+  x = volume_seen s t v
+
+  pub lift-fits : MoveFits s t v (fields_left (Lift v) x) None
+  lift-fits = record {
+    lawful = lifted-lawful x.tracks x.fields lawful;
+    covers = covers-all x.fields.blank None;
+    leaves = fit-kept s t v (lifted x.fields) fit (λ r. (r, refl)) (fit.apart v);
+  }
+
+pub tells-lift : (v : ℕ) (x : Volume) → Tells (Lift v) x (record { done = Nothing; in_stop = Nothing; landed = 0 })
+tells-lift v x = record { done = refl; in_stop = refl; landed = refl; settles = λ ps. refl; settles_in_stop = λ ps. refl }
+
+pub tells-restart : (v : ℕ) (x : Volume) → Tells (Restart v) x (record { done = Nothing; in_stop = Nothing; landed = 0 })
+tells-restart v x = record { done = refl; in_stop = refl; landed = refl; settles = λ ps. refl; settles_in_stop = λ ps. refl }
+
+same_id : (a b : ℕ) → nat_eq a b ≡ nat_eq b a
+same_id a b = grind (arith, nat_tests)
+
+any_id : (es : List VolumeEntry) (v : ℕ) → list_any (nat_eq v) (ids_of es) ≡ is_some (find (λ (e : VolumeEntry). e.id == v) es)
+any_id [] v = refl
+any_id (e ∷ es) v =
+    ap (λ b. b || list_any (nat_eq v) (ids_of es)) (same_id v e.id)
+    ∙ elim (nat_eq e.id v) as (λ b. (b || list_any (nat_eq v) (ids_of es)) ≡ is_some (cond b (Some e) (find (λ (e : VolumeEntry). e.id == v) es))) [ true ↦ refl | false ↦ any_id es v ]
+
+-- a volume that the configuration has belongs to its server
+module _ (s : PlantState) (t : Table) (r : Rest) (events : List Event) (v : ℕ) (defined : is_some (place_of t v) ≡ true) where
+  abbrev w : World
+  w = seen s t r events
+
+  abbrev server : ℕ
+  server = (volume_seen s t v).server
+
+  belongs-seen : belongs w.control server v ≡ true
+  belongs-seen =
+      ap (λ b. b && nat_eq server server) (any_id t.volumes v ∙ ap is_some (entry-found t v defined).1)
+      ∙ (Decides-eqb server server).1 refl
+
+  entry-is : (so : Bool) (m : Move) → (if belongs w.control server v && so then Do (Make m) else Pass) ≡ (if so then Do (Make m) else Pass)
+  entry-is so m = ap (λ b. if b && so then Do (Make m) else Pass) belongs-seen
+
+  -- no hold to end, or nothing to go on from
+  pub lift-skips : held (volume_seen s t v).fields ≡ false → Advances w (lift_on server v) w
+  lift-skips free armed u q ds more = ends-skips armed u q w (lift_on server v) ds (entry-is (held (volume_seen s t v).fields) (Lift v) ∙ ap (λ b. if b then Do (Make (Lift v)) else Pass) free) more
+
+  pub restart-skips : must_restart (volume_seen s t v).fields ≡ false → Advances w (restart_on server v) w
+  restart-skips fine armed u q ds more = ends-skips armed u q w (restart_on server v) ds (entry-is (must_restart (volume_seen s t v).fields) (Restart v) ∙ ap (λ b. if b then Do (Make (Restart v)) else Pass) fine) more
+
+  -- else the move comes
+  pub lift-comes : held (volume_seen s t v).fields ≡ true → lift_on server v w.control ≡ now (Lift v) w.control
+  lift-comes is = entry-is (held (volume_seen s t v).fields) (Lift v) ∙ ap (λ b. if b then Do (Make (Lift v)) else Pass) is
+
+  pub restart-comes : must_restart (volume_seen s t v).fields ≡ true → restart_on server v w.control ≡ now (Restart v) w.control
+  restart-comes is = entry-is (must_restart (volume_seen s t v).fields) (Restart v) ∙ ap (λ b. if b then Do (Make (Restart v)) else Pass) is
+
+-- one entry that leads on
+pub one-skipped : (armed : ℕ → Bool) (w : World) (d : Entry) → Advances w d w → Ends armed w None w (d ∷ [])
+one-skipped armed w d go = go armed w None [] (ends-none armed w None w (record { world = refl; refusal = refl }))
+
+pub advances-alike : (w v : World) (d e : Entry) → d w.control ≡ e w.control → Advances w e v → Advances w d v
+advances-alike w v d e same go armed u r ds more = ends-alike armed u r w d e ds same (go armed u r ds more)
+
+pub halts-alike : (armed : ℕ → Bool) (w u : World) (r : Option Refusal) (d e : Entry) → d w.control ≡ e w.control → Halts armed w e u r → Halts armed w d u r
+halts-alike armed w u r d e same end ds = ends-alike armed u r w d e ds same (end ds)
+
+-- A move that tells nothing, from the update of its volume: done, or stopped; or its server went off at a read before it.
+module _ (s s' : PlantState) (t : Table) (r : Rest) (events : List Event) (v : ℕ) (ready : StandsReady s t v) where
+  abbrev before : World
+  before = seen s t r events
+
+  abbrev y : Volume
+  y = volume_seen s t v
+
+  abbrev e : Ended
+  e = update before v (restarted y.fields) None
+
+  pub server-low : y.server < 8
+  server-low = lies-low t s v ready.defined ready.size ready.stands
+
+  abbrev quiet : Telling
+  quiet = record { done = Nothing; in_stop = Nothing; landed = 0 }
+
+  told-stop : (done : Bool) → told_in_stop done quiet y.server ≡ Stopped y.server 0 ∷ []
+  told-stop true = refl
+  told-stop false = refl
+
+  silent : (u : World) → record u { events = u.events ++ [] } ≡ u
+  silent u i = record u { events = append-nil u.events i }
+
+  pub went-on : EndsAs (seen s' t r events) false (after_reading s y.server before e) → Advances before (now (Restart v)) (seen s' t r events)
+  went-on ends = elim (split s before (seen s' t r events) false e server-low ends) [
+    | inl is ↦ advances before (Restart v) quiet (restarted y.fields) None (on-running s y.server ready.running) (tells-restart v y) refl refl (seen s' t r events)
+        (made-goes (seen s' t r events) e y.server quiet events is (sym (append-nil events)))
+    | inr gone ↦ absurd (let no : false ≡ true = gone.answer in cc)
+  ]
+
+  pub came-off : (now' : List Event) (why : Option Refusal) → EndsAs (seen s' t r events) true (after_reading s y.server before e) → now' ≡ events ++ Stopped y.server 0 ∷ [] → why ≡ Some (stopped y.server) → Halts (armed_in s) before (now (Restart v)) (seen s' t r now') why
+  came-off now' why ends told is = elim (split s before (seen s' t r events) true e server-low ends) [
+    | inl at ↦ halts before (Restart v) quiet (restarted y.fields) None (on-running s y.server ready.running) (tells-restart v y) refl refl (armed_in s) (seen s' t r now') why is
+        (inr (made-stops (seen s' t r events) e y.server quiet e.done now' at refl (told ∙ ap (λ es. events ++ es) (sym (told-stop e.done)))))
+    | inr gone ↦ halts-gone (armed_in s) before (seen s' t r now') why (now (Restart v)) (record {
+      server = y.server;
+      on = on-running s y.server ready.running;
+      is_armed = gone.is_armed;
+      world = ap (seen s' t r) told ∙ ap (λ (u : World). record u { events = events ++ Stopped y.server 0 ∷ [] }) gone.world;
+      refusal = is;
+    })
+  ]
