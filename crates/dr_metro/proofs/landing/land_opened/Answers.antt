@@ -14,11 +14,11 @@ use Rattle.dr_flash.specs.Here.{IsAtRest}
 use Rattle.dr_flash.specs.Views.{view_seen}
 use Rattle.dr_flash.proofs.FitLemmas.{fit-after}
 use Rattle.dr_flash.proofs.MoveLemmas.{MoveFits}
-use Rattle.dr_top.specs.Landing.{landed, landed_on}
-use Rattle.dr_top.proofs.LandingLemmas.{lands-fit}
-use Rattle.dr_top.proofs.LandLemmas.{updated-rest}
-use Rattle.dr_top.proofs.FaultLemmas.{counted-by}
-use Rattle.dr_top.proofs.landing.land_opened.Goals as goal
+use Rattle.dr_metro.specs.Landing.{landed, landed_on}
+use Rattle.dr_metro.proofs.LandingLemmas.{lands-fit}
+use Rattle.dr_metro.proofs.LandLemmas.{updated-rest}
+use Rattle.dr_metro.proofs.FaultLemmas.{counted-by}
+use Rattle.dr_metro.proofs.landing.land_opened.Goals as goal
 
 pub landed-next-requires : goal.landed-next-requires
 landed-next-requires g c =

@@ -1,6 +1,6 @@
 //! Landing a host write on a track, as one move of its volume.
 
-ghost use Rattle.std.specs.Prelude.{◌≡◌, ℕ, ◌+◌, ◌<◌, ◌≤◌, true, length, is_err, IsSome, Some, None};
+ghost use Rattle.std.specs.Prelude.{◌≡◌, ℕ, ◌+◌, ◌<◌, ◌≤◌, true, length, is_err, IsSome, Some, None, OnOk};
 ghost use Rattle.dr_plant.specs.State.{can_read};
 ghost use Rattle.dr_config.specs.Table.{place_of};
 ghost use Rattle.dr_model.specs.Contents.{laid};
@@ -9,11 +9,11 @@ ghost use Rattle.dr_volume.specs.Opened.{IsOpened};
 ghost use Rattle.dr_volume.specs.Plain.{plain};
 ghost use Rattle.dr_volume.specs.Update.{EndsAs};
 ghost use Rattle.dr_volume.specs.View.{Rest, world, volume_seen, device_of};
-ghost use Rattle.dr_top.specs.Faults.{Counted};
+ghost use Rattle.dr_flash.specs.Faults.{Counted};
 ghost use Rattle.dr_flash.specs.Fit.{RelationsFit};
 ghost use Rattle.dr_flash.specs.Here.{IsAtRest, armed_in};
 ghost use Rattle.dr_flash.specs.Views.{view_seen};
-ghost use Rattle.dr_top.specs.Landing.{LandsAs, landed, landed_on};
+ghost use Rattle.dr_metro.specs.Landing.{LandsAs, landed, landed_on};
 
 use dr_config::Config;
 use dr_flash::{altered, closed, fetched, rewritten, tracks_of, view_of};
@@ -64,6 +64,7 @@ fn land_opened<P: Plant>(
     requires fits { offset + length bytes.now ≤ 64 }
     ensures exact { (r : Rest) → EndsAs (world (P.state p.new) c.now r) (is_err result)
         (carry.update (world (P.state p.old) c.now r) v.0 (landed_on (volume_seen (P.state p.old) c.now v.0) t) (Some (t, laid offset bytes.now (view_seen (P.state p.old) c.now v.0 t)))) }
+    ensures left { OnOk result ((volume_seen (P.state p.new) c.now v.0).fields ≡ landed_on (volume_seen (P.state p.old) c.now v.0) t) }
     ensures rest { IsAtRest (P.state p.new) c.now }
     ensures fit { RelationsFit (P.state p.new) c.now }
     ensures unarmed { (q : ℕ) → (P.state p.old).read_fuse q ≡ None → (P.state p.new).read_fuse q ≡ None }
@@ -94,6 +95,7 @@ pub fn land<P: Plant>(
     requires fits { offset + length bytes.now ≤ 64 }
     ensures exact { (r : Rest) → LandsAs (armed_in (P.state p.old)) (volume_seen (P.state p.old) c.now v.0).server (world (P.state p.old) c.now r) (world (P.state p.new) c.now r) (is_err result)
         (carry.update (world (P.state p.old) c.now r) v.0 (landed_on (volume_seen (P.state p.old) c.now v.0) t) (Some (t, laid offset bytes.now (view_seen (P.state p.old) c.now v.0 t)))) }
+    ensures left { OnOk result ((volume_seen (P.state p.new) c.now v.0).fields ≡ landed_on (volume_seen (P.state p.old) c.now v.0) t) }
     ensures rest { IsAtRest (P.state p.new) c.now }
     ensures fit { RelationsFit (P.state p.new) c.now }
     ensures unarmed { (q : ℕ) → (P.state p.old).read_fuse q ≡ None → (P.state p.new).read_fuse q ≡ None }

@@ -1,6 +1,6 @@
 use Rattle.std.proofs.Common.{arith, length-set, ◌∙◌}
-use Rattle.dr_top.proofs.LandingLemmas.{laid-none, laid-more, laid-all}
-use Rattle.dr_top.proofs.landing.laid.Goals as goal
+use Rattle.dr_metro.proofs.LandingLemmas.{laid-none, laid-more, laid-all}
+use Rattle.dr_metro.proofs.landing.laid.Goals as goal
 
 pub loop-i-init : goal.loop-i-init
 loop-i-init c = record { sized = c.told-old; so_far = λ k lt. laid-none c.args.offset k c.args.bytes.now c.args.old.now }

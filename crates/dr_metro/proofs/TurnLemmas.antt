@@ -19,7 +19,7 @@ use Rattle.dr_model.specs.Control.{World, Volume}
 use Rattle.dr_model.specs.Moves.{Move, Land, Overwrite, Carried, marked, moved, updated}
 use Rattle.dr_model.specs.Carry.{turn, update, finished, cut_short, ended, Ended, turn_ended, pass, writes, counts_by, spent, off}
 use Rattle.dr_volume.specs.Update.{EndsAs}
-use Rattle.dr_top.specs.Landing.{landing_move, landed_on}
+use Rattle.dr_metro.specs.Landing.{landing_move, landed_on}
 use Rattle.dr_model.proofs.Images.{at_same}
 
 abbrev pub Landing : World → ℕ → ℕ → ℕ → List ℕ → Ended

@@ -6,19 +6,19 @@ use Rattle.dr_model.specs.Control.{World}
 use Rattle.dr_model.specs.Moves.{marked}
 use Rattle.dr_model.specs.Carry.{Make}
 use Rattle.dr_model.specs.Entries.{land_on}
-use Rattle.dr_top.specs.Landing.{landing_move}
+use Rattle.dr_metro.specs.Landing.{landing_move}
 use Rattle.dr_model.specs.ReadStops.{shut}
 use Rattle.dr_model.proofs.CarryLemmas.{act-move}
-use Rattle.dr_laws.proofs.ReadStops.{ends-goes, ends-stops, ends-none, ends-off}
+use Rattle.dr_flash.proofs.EndsLemmas.{ends-goes, ends-stops, ends-none, ends-off}
 use Rattle.dr_volume.specs.View.{world, control_seen, volume_seen, on_seen}
 use Rattle.dr_host.specs.Writes.{Writes, with_marked}
 use Rattle.dr_host.specs.Seen.{seen}
 use Rattle.dr_host.proofs.Seen.{seen-without}
-use Rattle.dr_top.specs.Here.{here, rest_of}
+use Rattle.dr_metro.specs.Here.{here, rest_of}
 use Rattle.dr_flash.specs.Here.{armed_in}
-use Rattle.dr_top.proofs.TurnLemmas.{turn-goes, turn-stops, done-by_slot, cut_short-is, seen-landed, issued-landed, differ, differ_same, not_beq, on-running, failed-not}
-use Rattle.dr_top.proofs.ToldLemmas.{told-push, told-acked, told-marked}
-use Rattle.dr_top.proofs.machine.land_write.Goals as goal
+use Rattle.dr_metro.proofs.TurnLemmas.{turn-goes, turn-stops, done-by_slot, cut_short-is, seen-landed, issued-landed, differ, differ_same, not_beq, on-running, failed-not}
+use Rattle.dr_metro.proofs.ToldLemmas.{told-push, told-acked, told-marked}
+use Rattle.dr_metro.proofs.machine.land_write.Goals as goal
 
 pub land-requires-clause-running : goal.land-requires-clause-running
 land-requires-clause-running g c = ap (g.P.Plant.state c.args.plant.now).on c.requires.server ∙ c.requires.running

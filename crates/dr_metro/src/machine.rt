@@ -1,19 +1,19 @@
 //! How a host write lands in what a run holds beside the plant and the journal.
 
-ghost use Rattle.std.specs.Prelude.{◌≡◌, ℕ, ◌+◌, ◌<◌, ◌≤◌, true, [], ◌∷◌, ◌++◌, length, is_err, IsSome, Some, None, OnErr, if◌then◌else◌};
+ghost use Rattle.std.specs.Prelude.{◌≡◌, ℕ, ◌+◌, ◌<◌, ◌≤◌, true, [], ◌∷◌, length, is_err, IsSome, Some, None, OnOk, OnErr, if◌then◌else◌};
 ghost use Rattle.std.specs.List.{find};
 ghost use Rattle.dr_config.specs.Table.{place_of};
 ghost use Rattle.dr_host.specs.Writes.{has_number, with_marked};
-ghost use Rattle.dr_model.specs.Carry.{carry};
-ghost use Rattle.dr_model.specs.Entries.{copy_first, land_on};
+ghost use Rattle.dr_model.specs.Entries.{land_on, land_alone};
 ghost use Rattle.dr_model.specs.ReadStops.{Ends};
 ghost use Rattle.dr_model.specs.Refusals.{stopped};
 ghost use Rattle.dr_volume.specs.View.{volume_seen, ids_of};
 ghost use Rattle.dr_flash.specs.Fit.{RelationsFit};
-ghost use Rattle.dr_top.specs.Faults.{Counted};
-ghost use Rattle.dr_top.specs.Here.{here, IsReady, IsTold};
+ghost use Rattle.dr_flash.specs.Faults.{Counted};
+ghost use Rattle.dr_metro.specs.Here.{here, IsTold};
+ghost use Rattle.dr_metro.specs.Landing.{landed_on};
 ghost use Rattle.dr_flash.specs.Here.{refusal_of, armed_in, IsAtRest};
-ghost use Rattle.dr_top.specs.Waiting.{IsPending};
+ghost use Rattle.dr_metro.specs.Waiting.{IsPending};
 
 use crate::landing::land;
 use dr_config::Config;
@@ -58,12 +58,15 @@ pub fn land_write<P: Plant>(
     ensures carried { Ends (armed_in (P.state plant.old)) (here (P.state plant.new) config.now host.new journal.new.events) (refusal_of result)
         (here (P.state plant.old) config.now host.old journal.old.events) (land_on w.0 target.volume.0 target.track ∷ []) }
     ensures stopped { OnErr result (refusal_of result ≡ Some (stopped target.server.0)) }
+    ensures left { OnOk result ((volume_seen (P.state plant.new) config.now target.volume.0).fields ≡ landed_on (volume_seen (P.state plant.old) config.now target.volume.0) target.track) }
     ensures rest { IsAtRest (P.state plant.new) config.now }
+    ensures fit { RelationsFit (P.state plant.new) config.now }
     ensures told { IsTold host.new journal.new.events }
     ensures unarmed { (q : ℕ) → (P.state plant.old).read_fuse q ≡ None → (P.state plant.new).read_fuse q ≡ None }
     ensures faults { Counted (is_err result) (P.state plant.old).faults (P.state plant.new).faults }
     ensures issued { host.new.issued ≡ host.old.issued }
     ensures room { journal.old.spare ≡ journal.new.spare + 1 }
+    ensures spare { length journal.new.events + journal.new.spare ≡ length journal.old.events + journal.old.spare }
 {
     let before = slot(plant, config, target.volume);
     match land(
@@ -93,8 +96,9 @@ pub fn land_write<P: Plant>(
     }
 }
 
-/// Lands a pending write on its track, after each target of the volume kept the track, where the volume's server is on.
-/// Where the server stops, the write stays pending.
+/// Lands a pending write on its track of a volume whose server is on, after each target of the volume kept the track, and
+/// acknowledges it. Fails where the server stops in a move or goes off at a read: then the write stays pending. The
+/// journal needs room for an event for each volume and two more.
 pub fn land_kept<P: Plant>(
     plant: &mut P,
     config: &Config,
@@ -104,8 +108,9 @@ pub fn land_kept<P: Plant>(
     target: Target,
     bytes: &[u8],
 ) -> Result<(), Refusal>
-    requires ready { IsReady (P.state plant.old) config.now host.old journal.old.events }
+    requires rest { IsAtRest (P.state plant.old) config.now }
     requires fit { RelationsFit (P.state plant.old) config.now }
+    requires told { IsTold host.old journal.old.events }
     requires defined { IsSome (place_of config.now target.volume.0) }
     requires server { (volume_seen (P.state plant.old) config.now target.volume.0).server ≡ target.server.0 }
     requires running { (P.state plant.old).on target.server.0 ≡ true }
@@ -114,13 +119,18 @@ pub fn land_kept<P: Plant>(
     requires fits { target.offset + length bytes.now ≤ 64 }
     requires room { length config.now.volumes + 2 ≤ journal.old.spare }
     requires pending { IsPending host.old journal.old.events w.0 target bytes.now }
-    ensures carried { carry (here (P.state plant.old) config.now host.old journal.old.events) (copy_first (ids_of config.now.volumes) target.volume.0 target.track ++ land_on w.0 target.volume.0 target.track ∷ [])
-        ≡ (here (P.state plant.new) config.now host.new journal.new.events, refusal_of result) }
+    ensures carried { Ends (armed_in (P.state plant.old)) (here (P.state plant.new) config.now host.new journal.new.events) (refusal_of result)
+        (here (P.state plant.old) config.now host.old journal.old.events) (land_alone (ids_of config.now.volumes) w.0 target.volume.0 target.track) }
     ensures stopped { OnErr result (refusal_of result ≡ Some (stopped target.server.0)) }
-    ensures ready { IsReady (P.state plant.new) config.now host.new journal.new.events }
+    ensures left { OnOk result ((volume_seen (P.state plant.new) config.now target.volume.0).fields ≡ landed_on (volume_seen (P.state plant.old) config.now target.volume.0) target.track) }
+    ensures rest { IsAtRest (P.state plant.new) config.now }
+    ensures fit { RelationsFit (P.state plant.new) config.now }
+    ensures told { IsTold host.new journal.new.events }
+    ensures unarmed { (q : ℕ) → (P.state plant.old).read_fuse q ≡ None → (P.state plant.new).read_fuse q ≡ None }
     ensures faults { Counted (is_err result) (P.state plant.old).faults (P.state plant.new).faults }
     ensures issued { host.new.issued ≡ host.old.issued }
     ensures room { journal.old.spare ≤ journal.new.spare + (length config.now.volumes + 1) }
+    ensures spare { length journal.new.events + journal.new.spare ≡ length journal.old.events + journal.old.spare }
 {
     copy_first(plant, config, journal, target.volume, target.track)?;
     land_write(plant, config, host, journal, w, target, bytes)

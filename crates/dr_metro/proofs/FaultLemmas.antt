@@ -3,8 +3,8 @@ use Rattle.std.proofs.Common.{ℕ, ◌≡◌, ◌∙◌, sym, ap, subst, true, f
 use Rattle.std.specs.Prelude.{OnOk, OnErr, is_err}
 use Rattle.dr_plant.specs.State.{PlantState, risen, after_read, can_read}
 use Rattle.dr_plant.proofs.StateLemmas.{read_stopped}
-use Rattle.dr_io.specs.Faults.{Rose}
-use Rattle.dr_top.specs.Faults.{Counted}
+use Rattle.dr_flash.specs.Faults.{Rose}
+use Rattle.dr_flash.specs.Faults.{Counted}
 
 -- a count that went up by one rose
 pub rose-by : (before now : ℕ) → now ≡ risen before → Rose before now

@@ -1,6 +1,6 @@
 use Rattle.std.proofs.Common.{◌≡◌, ◌<◌, ℕ, length, get_or, take}
 use Rattle.dr_model.specs.Contents.{byte_laid}
-use Rattle.dr_top.proofs.landing.laid.Given as goal
+use Rattle.dr_metro.proofs.landing.laid.Given as goal
 
 abbrev pub invariant-loop-i : goal.invariant-loop-i
 invariant-loop-i l = record {

@@ -11,11 +11,11 @@ use Rattle.dr_flash.specs.Here.{IsAtRest}
 use Rattle.dr_flash.specs.Views.{view_seen}
 use Rattle.dr_flash.proofs.ReadLemmas.{left-unread, unread-rest}
 use Rattle.dr_flash.proofs.FitLemmas.{fit-same}
-use Rattle.dr_top.specs.Faults.{Counted}
-use Rattle.dr_top.specs.Landing.{landed_on}
-use Rattle.dr_top.proofs.LandLemmas.{lands-unread}
-use Rattle.dr_top.proofs.FaultLemmas.{counted-unread}
-use Rattle.dr_top.proofs.landing.land.Goals as goal
+use Rattle.dr_flash.specs.Faults.{Counted}
+use Rattle.dr_metro.specs.Landing.{landed_on}
+use Rattle.dr_metro.proofs.LandLemmas.{lands-unread}
+use Rattle.dr_metro.proofs.FaultLemmas.{counted-unread}
+use Rattle.dr_metro.proofs.landing.land.Goals as goal
 
 pub returns-in_err-opened-clause-exact : goal.returns-in_err-opened-clause-exact
 returns-in_err-opened-clause-exact g c r =

@@ -19,7 +19,7 @@ use Rattle.dr_flash.specs.Fit.{RelationsFit}
 use Rattle.dr_flash.proofs.FitLemmas.{fit-kept}
 use Rattle.dr_flash.proofs.FieldLemmas.{covers-carried, lawful-altered}
 use Rattle.dr_flash.proofs.MoveLemmas.{MoveFits, overwrite-fits}
-use Rattle.dr_top.specs.Landing.{landed_on}
+use Rattle.dr_metro.specs.Landing.{landed_on}
 use Rattle.dr_model.specs.Contents.{laid, byte_laid}
 
 within : (o k n : ℕ) → o ≤ k → k < o + n → (nat_le o k && nat_lt k (o + n)) ≡ true

@@ -9,7 +9,7 @@ use Rattle.dr_model.specs.Histories.{Write, Histories, histories, after_event}
 use Rattle.dr_model.proofs.Images.{histories-push}
 use Rattle.dr_plant.specs.State.{PlantState}
 use Rattle.dr_config.specs.Table.{Table}
-use Rattle.dr_top.specs.Here.{IsTold, IsReady}
+use Rattle.dr_metro.specs.Here.{IsTold, IsReady}
 
 -- a pending write is the one with that number
 abbrev pub IsWrite : (ℕ → Write) → Pending → Type 0

@@ -1,0 +1,6 @@
+pub mod FaultLemmas
+pub mod ToldLemmas
+pub mod LandLemmas
+pub mod LandingLemmas
+pub mod TurnLemmas
+pub mod IssueLemmas
