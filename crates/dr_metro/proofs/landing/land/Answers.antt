@@ -1,5 +1,5 @@
 use Rattle.std.proofs.Common.{◌≡◌, ◌<◌, ap, sym, subst, ◌∙◌, true, inl, Some}
-use Rattle.std.specs.Prelude.{is_err}
+use Rattle.std.specs.Prelude.{is_err, OnOk}
 use Rattle.dr_plant.specs.State.{PlantState, can_read}
 use Rattle.dr_model.specs.Contents.{laid}
 use Rattle.dr_model.specs.Carry as carry
@@ -62,6 +62,7 @@ returns g c =
     let same = c.in_ok-opened.ensures.same in
     record {
       exact = λ r. inl (subst (λ (y : PlantState). EndsAs (world u t r) (is_err c.land_opened.result) (carry.update (world y t r) v (landed_on (volume_seen y t v) c.args.t) (Some (c.args.t, laid c.args.offset c.args.bytes.now (view_seen y t v c.args.t))))) same (c.land_opened.ensures.exact r));
+      left = subst (λ (y : PlantState). OnOk c.land_opened.result ((volume_seen u t v).fields ≡ landed_on (volume_seen y t v) c.args.t)) same c.land_opened.ensures.left;
       rest = c.land_opened.ensures.rest;
       fit = c.land_opened.ensures.fit;
       unarmed = λ q none. c.land_opened.ensures.unarmed q (ap (λ (x : PlantState). x.read_fuse q) same ∙ none);

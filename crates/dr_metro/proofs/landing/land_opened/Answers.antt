@@ -12,6 +12,8 @@ use Rattle.dr_volume.specs.Update.{EndsAs, Covers}
 use Rattle.dr_flash.specs.Fit.{RelationsFit, LeavesFit}
 use Rattle.dr_flash.specs.Here.{IsAtRest}
 use Rattle.dr_flash.specs.Views.{view_seen}
+use Rattle.dr_model.specs.Control.{Volume}
+use Rattle.dr_flash.proofs.TurnLemmas.{ok-along}
 use Rattle.dr_flash.proofs.FitLemmas.{fit-after}
 use Rattle.dr_flash.proofs.MoveLemmas.{MoveFits}
 use Rattle.dr_metro.specs.Landing.{landed, landed_on}
@@ -66,6 +68,7 @@ returns g c =
       exact = λ r. subst (λ (y : PlantState). EndsAs (world u t r) (is_err c.change.result) (carry.update (world y t r) v (landed_on (volume_seen s t v) c.args.t) (Some (c.args.t, laid c.args.offset c.args.bytes.now (view_seen s t v c.args.t))))) same
           (subst (λ f. EndsAs (world u t r) (is_err c.change.result) (carry.update (world x t r) v f (Some (c.args.t, laid c.args.offset c.args.bytes.now (view_seen s t v c.args.t))))) given
           (subst (λ b. EndsAs (world u t r) (is_err c.change.result) (carry.update (world x t r) v (plain c.landed-next.result) (Some (c.args.t, b)))) track (c.change.ensures.exact r)));
+      left = ok-along c.change.result c.change.ensures.done (λ is. ap (λ (y : Volume). y.fields) is.volume ∙ given);
       rest = updated-rest t x u v _ _ (subst (λ y. IsAtRest y t) (sym same) c.requires.rest) c.change.ensures.stands c.change.ensures.settled c.change.ensures.old_or_new c.change.ensures.others;
       fit = fit-after x u t v (plain c.landed-next.result) _ (subst (λ y. RelationsFit y t) (sym same) c.requires.fit)
           (subst (λ y. LeavesFit y t v (plain c.landed-next.result)) (sym same) (subst (λ f. LeavesFit s t v f) (sym given) fits.leaves)) c.change.ensures.old_or_new c.change.ensures.others;
