@@ -29,6 +29,6 @@ pub use moves::take_over;
 pub use pausing::{pause, resume};
 pub use reach::reach_refusal;
 pub use receiving::receive_track;
-pub use sending::send_track;
+pub use sending::{send_refusal, send_track};
 pub use storing::{store, strike};
 pub use suspending::suspend;

@@ -78,7 +78,7 @@ laid-all o n bytes old track all sized h =
     fill_by_all (byte_laid o bytes old) track 64 0 sized (λ k lt. h k lt ∙ ap (λ bs. byte_laid o bs old k) whole)
 
 -- the fields and the track of a landing may come, of a target or not
-removed_from : (b : Tracks) (t q : ℕ) → contains b q ≡ false → contains (remove b t) q ≡ false
+pub removed_from : (b : Tracks) (t q : ℕ) → contains b q ≡ false → contains (remove b t) q ≡ false
 removed_from b t q h = grind (members, rules, nat_tests, unsigned_tied)
 
 module _ (s : PlantState) (c : Table) (v k : ℕ) (fit : RelationsFit s c) (lawful : IsLawful (volume_seen s c v).tracks (volume_seen s c v).fields) (low : k < (volume_seen s c v).tracks) (bytes : List ℕ) where

@@ -4,3 +4,5 @@ pub mod LandLemmas
 pub mod LandingLemmas
 pub mod TurnLemmas
 pub mod IssueLemmas
+pub mod MirrorLemmas
+pub mod BothLemmas

@@ -1,8 +1,13 @@
 //! Host writes: how they land on a volume alone, and how they go to the secondary of a Metro Mirror pair first.
 #![tactic(auto)]
 
+mod both;
 mod landing;
 mod machine;
+mod moves;
+mod states;
 
+pub use both::land_both;
 pub use landing::land;
 pub use machine::{Target, land_kept, land_write};
+pub use moves::{mirror, unsync};

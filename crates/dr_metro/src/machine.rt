@@ -137,7 +137,7 @@ pub fn land_kept<P: Plant>(
 }
 
 /// Marks a pending write, where it has landed in a stop.
-fn land_if(host: &mut Host, w: WriteId, landed: bool)
+pub(crate) fn land_if(host: &mut Host, w: WriteId, landed: bool)
     requires { IsSome (find (has_number w.0) host.old.pending) }
     ensures { host.new ≡ (if landed then with_marked host.old w.0 else host.old) }
 {
