@@ -6,3 +6,4 @@ pub mod TurnLemmas
 pub mod IssueLemmas
 pub mod MirrorLemmas
 pub mod BothLemmas
+pub mod RouteLemmas

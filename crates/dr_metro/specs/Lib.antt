@@ -1,3 +1,4 @@
 pub mod Here
 pub mod Landing
 pub mod Waiting
+pub mod Mirroring

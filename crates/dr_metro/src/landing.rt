@@ -22,7 +22,7 @@ use dr_plant::{Block, Plant, Stopped};
 use dr_volume::{Fields, Opened, open};
 
 /// A track after bytes were written from an offset on.
-fn laid(old: &Block, offset: u8, bytes: &[u8]) -> Block
+pub(crate) fn laid(old: &Block, offset: u8, bytes: &[u8]) -> Block
     requires { offset + length bytes.now ≤ 64 }
     ensures { result ≡ laid offset bytes.now old.now }
 {

@@ -4,10 +4,12 @@
 mod both;
 mod landing;
 mod machine;
+mod mirroring;
 mod moves;
 mod states;
 
 pub use both::land_both;
 pub use landing::land;
 pub use machine::{Target, land_kept, land_write};
+pub use mirroring::write_both;
 pub use moves::{mirror, unsync};
