@@ -7,3 +7,4 @@ pub mod IssueLemmas
 pub mod MirrorLemmas
 pub mod BothLemmas
 pub mod RouteLemmas
+pub mod SyncLemmas

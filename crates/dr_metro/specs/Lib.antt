@@ -2,3 +2,4 @@ pub mod Here
 pub mod Landing
 pub mod Waiting
 pub mod Mirroring
+pub mod Syncing
