@@ -1,6 +1,5 @@
 -- No act of a step issues a write: however entries end, the writes that the journal tells of are as before.
 use Rattle.std.proofs.Common.{ℕ, ◌≡◌, inl, inr, List, [], ◌∷◌, ◌++◌, map, refl, ap, ◌∙◌, Bool, true, false, not, cond, Option, Some, None}
-use Rattle.std.specs.Prelude.{if◌then◌else◌}
 use Rattle.std.specs.List.{fold}
 use Rattle.std.proofs.lemmas.List.Sums.{fold-append}
 use Rattle.dr_ids.specs.declared.refusal.Refusal.{Refusal}

@@ -1,19 +1,19 @@
 -- The moves of a synchronous write: the fields stay lawful and leave the relationships fitting, what is told of them, and
 -- how the last of them settles its write.
-use Rattle.std.proofs.Common.{ℕ, ◌≡◌, ◌<◌, ◌+◌, Bool, true, false, not, ◌&&◌, ◌||◌, List, [], ◌∷◌, ◌++◌, refl, sym, ◌∙◌, ap, cond, arith, inl, inr, filter, Option, None, Some}
+use Rattle.std.proofs.Common.{ℕ, ◌≡◌, ◌<◌, Bool, true, false, not, ◌||◌, List, [], ◌∷◌, ◌++◌, refl, sym, ◌∙◌, ap, cond, arith, inl, inr, filter, Option, None, Some}
 use Rattle.std.specs.Prelude.{if◌then◌else◌}
-use Rattle.std.specs.FinSet.{contains, insert, remove}
+use Rattle.std.specs.FinSet.{contains, insert}
 use Rattle.std.proofs.lemmas.Bool.Decides.{eqb_tells}
-use Rattle.dr_bits.proofs.Laws.{contains-insert_tracks, contains-remove_tracks}
+use Rattle.dr_bits.proofs.Laws.{contains-insert_tracks}
 use Rattle.dr_plant.specs.State.{PlantState}
 use Rattle.dr_config.specs.Table.{Table}
-use Rattle.dr_model.specs.declared.event.Event.TheVariants.{Mirrored, Ack, Stopped}
+use Rattle.dr_model.specs.declared.event.Event.TheVariants.{Mirrored, Ack}
 use Rattle.dr_model.specs.Layout.{Tracks, Fields, is_part}
 use Rattle.dr_model.specs.Lawful.{Low, HasSets, IsLawful}
 use Rattle.dr_model.specs.Control.{Volume, World}
 use Rattle.dr_model.specs.Histories.{histories}
 use Rattle.dr_model.specs.Contents.{with_write}
-use Rattle.dr_model.specs.Moves.{Move, Carried, Unsync, Mirror, LandBoth, fields_left, marked, is_other}
+use Rattle.dr_model.specs.Moves.{Carried, Unsync, Mirror, LandBoth, fields_left, marked, is_other}
 use Rattle.dr_model.specs.Carry.{Turn, Ended, update, turn, turn_ended, finished, cut_short}
 use Rattle.dr_model.specs.Pairs.{unsynced, mirrored, synced}
 use Rattle.dr_volume.specs.View.{volume_seen}

@@ -1,15 +1,14 @@
 -- A host write on its way to both sides: what one move leaves for the next.
-use Rattle.std.proofs.Common.{ℕ, ◌≡◌, ◌≢◌, Bool, true, false, List, [], ◌∷◌, refl, sym, ◌∙◌, ap, cond, subst, Option, None, Some}
-use Rattle.std.specs.Prelude.{IfSome, is_some, Result, Ok, Err, OnOk, OnErr, is_err}
+use Rattle.std.proofs.Common.{ℕ, ◌≡◌, Bool, true, List, [], ◌∷◌, refl, sym, ◌∙◌, ap, cond, subst, Option, Some}
+use Rattle.std.specs.Prelude.{IfSome, is_some}
 use Rattle.std.specs.FinSet.{contains}
 use Rattle.std.specs.List.{find}
 use Rattle.std.proofs.lemmas.List.{append_assoc}
 use Rattle.dr_ids.specs.declared.refusal.Refusal.{Refusal}
 use Rattle.dr_plant.specs.State.{PlantState}
-use Rattle.dr_config.specs.Table.{Table, place_of}
+use Rattle.dr_config.specs.Table.{Table}
 use Rattle.dr_model.specs.declared.event.Event.{Event}
 use Rattle.dr_model.specs.Layout.{Fields}
-use Rattle.dr_model.specs.Control.{Volume, World}
 use Rattle.dr_model.specs.Contents.{zeros, laid, with_write}
 use Rattle.dr_model.specs.Histories.{histories, Write}
 use Rattle.dr_model.specs.ReadStops.{Ends}
@@ -20,7 +19,7 @@ use Rattle.dr_model.specs.WriteEntries.{land_mirrored}
 use Rattle.dr_host.specs.Writes.{Writes, number, has_number, bytes_of}
 use Rattle.dr_host.specs.declared.pending.Pending.{Pending}
 use Rattle.dr_host.proofs.Each.{each-found, named-found}
-use Rattle.dr_volume.specs.Update.{IsAsBefore, IsMoved}
+use Rattle.dr_volume.specs.Update.{IsMoved}
 use Rattle.dr_volume.specs.View.{volume_seen, track_seen}
 use Rattle.dr_flash.proofs.CheckLemmas.{same-test}
 use Rattle.dr_metro.specs.Here.{here, IsTold}

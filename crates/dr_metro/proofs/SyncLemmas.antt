@@ -1,12 +1,11 @@
 -- A pending write carried out: its checks, how it waits or goes on, what it leaves, and what follows a stop.
-use Rattle.std.proofs.Common.{ℕ, ◌≡◌, ◌<◌, Bool, true, false, not, ◌&&◌, ◌||◌, cond, nat_eq, List, [], ◌∷◌, ◌++◌, refl, sym, ◌∙◌, ap, subst, Option, None, Some}
-use Rattle.std.specs.Prelude.{if◌then◌else◌, IfSome, is_some, Result, Ok, Err, OnOk, OnErr, is_err}
+use Rattle.std.proofs.Common.{ℕ, ◌≡◌, Bool, true, false, not, ◌&&◌, ◌||◌, cond, nat_eq, List, ◌∷◌, ◌++◌, refl, sym, ◌∙◌, ap, subst, Option, None, Some}
+use Rattle.std.specs.Prelude.{if◌then◌else◌, is_some, Result, Ok, Err, OnOk, OnErr, is_err}
 use Rattle.std.specs.Result.{IfOk}
 use Rattle.std.specs.FinSet.{contains, insert}
 use Rattle.dr_bits.proofs.Laws.{contains-insert_tracks}
 use Rattle.dr_ids.specs.declared.refusal.Refusal.{Refusal}
 use Rattle.dr_ids.specs.declared.refusal.Refusal.TheVariants.{Stopped, NotPrimary, Inhibited}
-use Rattle.dr_model.specs.declared.event.Event.{Event}
 use Rattle.dr_model.specs.declared.state.Part.{Part}
 use Rattle.dr_model.specs.declared.state.Part.TheVariants.{Absent, Metro, Global}
 use Rattle.dr_model.specs.Layout.{Tracks, Fields, is_part}
@@ -15,21 +14,18 @@ use Rattle.dr_model.specs.Refusals.{server_off}
 use Rattle.dr_model.specs.Relations.{closed, fetched, rewritten}
 use Rattle.dr_model.specs.Pairs.{altered, is_metro, is_suspended, goes_over}
 use Rattle.dr_model.specs.Moves.{Suspend}
-use Rattle.dr_model.specs.Carry.{Entry, Pass, Do, End, Make, Drop, act, dropped, check, now}
+use Rattle.dr_model.specs.Carry.{Entry, Pass, Do, Make, Drop, act, dropped, check, now}
 use Rattle.dr_model.specs.Entries.{fields_at, is_running, is_no_secondary, is_open, is_settled, relation_state, drop_unless, check_or_drop, write_checks}
 use Rattle.dr_model.specs.WriteEntries.{partner_of, is_grouped, part_running}
 use Rattle.dr_model.specs.ReadStops.{Ends}
 use Rattle.dr_host.specs.Writes.{Writes}
-use Rattle.dr_plant.specs.State.{PlantState}
-use Rattle.dr_config.specs.Table.{Table}
 use Rattle.dr_flash.specs.Checks.{OnNone, is_stop}
 use Rattle.dr_flash.specs.Faults.{Counted}
 use Rattle.dr_flash.specs.Here.{refusal_of}
 use Rattle.dr_flash.specs.HostWrites.{write_refusal}
-use Rattle.dr_flash.proofs.CheckLemmas.{same-test}
 use Rattle.dr_flash.proofs.EndsLemmas.{ends-skips, ends-goes, ends-passed, ends-refused}
 use Rattle.dr_gcopy.specs.Followed.{Follows}
-use Rattle.dr_metro.specs.Here.{here, IsTold}
+use Rattle.dr_metro.specs.Here.{IsTold}
 use Rattle.dr_metro.specs.Landing.{landed}
 use Rattle.dr_metro.proofs.LandLemmas.{told-through}
 

@@ -1,5 +1,5 @@
 -- How a host write is carried out, by what is known of its volume.
-use Rattle.std.specs.Prelude.{ℕ, Bool, ◌&&◌, List, [], ◌∷◌, if◌then◌else◌}
+use Rattle.std.specs.Prelude.{ℕ, Bool, List, [], ◌∷◌, if◌then◌else◌}
 use Rattle.dr_model.specs.Moves.{Suspend}
 use Rattle.dr_model.specs.Carry.{Entry, now}
 use Rattle.dr_model.specs.Entries.{land_alone}

@@ -1,15 +1,14 @@
-use Rattle.std.proofs.Common.{ℕ, ◌<◌, ◌≡◌, ◌∷◌, [], ◌∙◌, arith, sym, ap, subst, Some, None}
+use Rattle.std.proofs.Common.{◌<◌, ◌≡◌, ◌∷◌, [], ◌∙◌, sym, ap, subst, Some, None}
 use Rattle.std.specs.Prelude.{OnOk}
 use Rattle.dr_model.specs.Control.{Volume}
 use Rattle.dr_model.specs.Entries.{copy_first, land_on, land_alone}
 use Rattle.dr_model.specs.ReadStops.{Ends}
 use Rattle.dr_model.specs.Refusals.{stopped}
-use Rattle.dr_model.specs.Layout.{Fields}
 use Rattle.dr_volume.specs.View.{ids_of, volume_seen}
 use Rattle.dr_flash.specs.Here.{armed_in, refusal_of}
 use Rattle.dr_flash.proofs.CopyLemmas.{no-own, wider-armed}
 use Rattle.dr_flash.proofs.EndsLemmas.{ends-wider}
-use Rattle.dr_flash.proofs.TurnLemmas.{err-always, refused-by, ok-along}
+use Rattle.dr_flash.proofs.TurnLemmas.{err-always, refused-by}
 use Rattle.dr_metro.specs.Here.{here, rest_of}
 use Rattle.dr_metro.specs.Landing.{landed_on}
 use Rattle.dr_metro.proofs.IssueLemmas.{unissued}

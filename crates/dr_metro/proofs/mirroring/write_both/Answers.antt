@@ -1,21 +1,17 @@
-use Rattle.std.proofs.Common.{ℕ, ◌≡◌, ◌<◌, ◌≢◌, ◌∷◌, [], List, ap, sym, subst, ◌∙◌, None, Some}
+use Rattle.std.proofs.Common.{◌∷◌, [], ap, sym, subst, ◌∙◌, None, Some}
 use Rattle.dr_model.specs.Carry.{now}
 use Rattle.dr_model.specs.Control.{Volume}
-use Rattle.dr_model.specs.Entries.{copy_first}
-use Rattle.dr_model.specs.Layout.{Fields, is_part}
-use Rattle.dr_model.specs.Moves.{LandBoth, Mirror, Unsync}
-use Rattle.dr_model.specs.Pairs.{synced, mirrored, unsynced}
+use Rattle.dr_model.specs.Moves.{Unsync}
 use Rattle.dr_model.specs.ReadStops.{Ends}
 use Rattle.dr_model.specs.WriteEntries.{land_mirrored}
-use Rattle.dr_volume.specs.View.{ids_of, volume_seen, track_seen}
-use Rattle.dr_flash.specs.Checks.{is_stop}
+use Rattle.dr_volume.specs.View.{ids_of}
 use Rattle.dr_flash.specs.Here.{armed_in, refusal_of}
-use Rattle.dr_flash.proofs.CopyLemmas.{no-own, wider-armed}
+use Rattle.dr_flash.proofs.CopyLemmas.{wider-armed}
 use Rattle.dr_flash.proofs.EndsLemmas.{ends-wider}
-use Rattle.dr_flash.proofs.TurnLemmas.{err-always, refused-by, ok-along, err-along}
-use Rattle.dr_gcopy.proofs.SendLemmas.{other-server, other-volume, same-server, same-tracks}
+use Rattle.dr_flash.proofs.TurnLemmas.{refused-by}
+use Rattle.dr_gcopy.proofs.SendLemmas.{other-volume, same-server, same-tracks}
 use Rattle.dr_metro.specs.Here.{here, rest_of}
-use Rattle.dr_metro.specs.Mirroring.{settle_entries, store_entries, mirror_entries}
+use Rattle.dr_metro.specs.Mirroring.{mirror_entries}
 use Rattle.dr_metro.proofs.LandLemmas.{told-through}
 use Rattle.dr_metro.proofs.RouteLemmas.{runs-still, mirrored-is}
 use Rattle.dr_metro.proofs.mirroring.write_both.Goals as goal
