@@ -29,7 +29,7 @@ pub use moves::take_over;
 pub use pausing::{pause, resume};
 pub use reach::reach_refusal;
 pub use receiving::receive_track;
-pub use sending::send_track;
+pub use sending::{send_refusal, send_track};
 pub use states::{is_metro, voided};
 pub use storing::{store, strike};
 pub use suspending::suspend;

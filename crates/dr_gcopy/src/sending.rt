@@ -30,7 +30,7 @@ use dr_plant::Plant;
 use dr_volume::peek_fields;
 
 /// Why primary a can't send to b, if it can't: b can't be reached, or isn't the secondary of a.
-fn send_refusal<P: Plant>(p: &P, c: &Config, a: VolumeId, b: VolumeId) -> Option<Refusal>
+pub fn send_refusal<P: Plant>(p: &P, c: &Config, a: VolumeId, b: VolumeId) -> Option<Refusal>
     requires stands { StandsFor c.now (P.state p.now) }
     requires from { IsSome (place_of c.now a.0) }
     requires to { IsSome (place_of c.now b.0) }

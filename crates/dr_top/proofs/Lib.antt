@@ -2,16 +2,12 @@ pub mod BackgroundLemmas
 pub mod PutLemmas
 pub mod LineLemmas
 pub mod TaskLemmas
-pub mod ToldLemmas
 pub mod ReachLemmas
 pub mod RunLemmas
 pub mod TakenLemmas
 pub mod EndLemmas
 pub mod RefusalLemmas
-pub mod LandingLemmas
-pub mod FaultLemmas
 pub mod LandLemmas
-pub mod TurnLemmas
 pub mod LocatedLemmas
 pub mod StepLemmas
 pub mod StopLemmas

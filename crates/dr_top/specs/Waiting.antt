@@ -1,21 +1,14 @@
--- A write of the host that is issued, and one that is pending.
-use Rattle.std.specs.Prelude.{◌≡◌, ℕ, ◌+◌, List, [], ◌∷◌, ◌++◌, take, IsSome, Some, None}
+-- A write of the host that is issued.
+use Rattle.std.specs.Prelude.{◌≡◌, ℕ, ◌+◌, List, [], ◌∷◌, ◌++◌, take, Some, None}
 use Rattle.std.specs.List.{find}
 use Rattle.dr_host.specs.Writes.{Writes, has_number, written, with_write}
 use Rattle.dr_model.specs.declared.event.Event.{Event}
-use Rattle.dr_model.specs.Histories.{histories}
 use Rattle.dr_plant.specs.State.{PlantState}
 use Rattle.dr_config.specs.Table.{Table}
 use Rattle.dr_model.specs.declared.event.Event.TheVariants.{Issue}
 use Rattle.dr_model.specs.Plans.{track_refusal, issue_refusal}
-use Rattle.dr_top.specs.Here.{here}
-use Rattle.dr_top.specs.declared.machine.Target.{Target}
+use Rattle.dr_metro.specs.Here.{here}
 use Rattle.dr_top.specs.declared.steps.HostWrite.{HostWrite}
-
--- the write of that number is pending, and these are its place and its bytes
-pub record IsPending (h : Writes) (events : List Event) (w : ℕ) (target : Target) (bytes : List ℕ) : Type 0 where
-  pub waits : IsSome (find (has_number w) h.pending)
-  pub issue : (histories events).write w ≡ record { volume = target.volume.0; track = target.track; offset = target.offset; bytes = bytes }
 
 -- a write was issued on a track that is there, with this number: the host has it, and the journal is told
 pub record IsIssued (t : Table) (h : Writes) (events : List Event) (h' : Writes) (events' : List Event) (x : HostWrite) (w : ℕ) : Type 0 where

@@ -1,0 +1,164 @@
+-- A pending write carried out: its checks, how it waits or goes on, what it leaves, and what follows a stop.
+use Rattle.std.proofs.Common.{ℕ, ◌≡◌, Bool, true, false, not, ◌&&◌, ◌||◌, cond, nat_eq, List, ◌∷◌, ◌++◌, refl, sym, ◌∙◌, ap, subst, Option, None, Some}
+use Rattle.std.specs.Prelude.{if◌then◌else◌, is_some, Result, Ok, Err, OnOk, OnErr, is_err}
+use Rattle.std.specs.Result.{IfOk}
+use Rattle.std.specs.FinSet.{contains, insert}
+use Rattle.dr_bits.proofs.Laws.{contains-insert_tracks}
+use Rattle.dr_ids.specs.declared.refusal.Refusal.{Refusal}
+use Rattle.dr_ids.specs.declared.refusal.Refusal.TheVariants.{Stopped, NotPrimary, Inhibited}
+use Rattle.dr_model.specs.declared.state.Part.{Part}
+use Rattle.dr_model.specs.declared.state.Part.TheVariants.{Absent, Metro, Global}
+use Rattle.dr_model.specs.Layout.{Tracks, Fields, is_part}
+use Rattle.dr_model.specs.Control.{Control, World}
+use Rattle.dr_model.specs.Refusals.{server_off}
+use Rattle.dr_model.specs.Relations.{closed, fetched, rewritten}
+use Rattle.dr_model.specs.Pairs.{altered, is_metro, is_suspended, goes_over}
+use Rattle.dr_model.specs.Moves.{Suspend}
+use Rattle.dr_model.specs.Carry.{Entry, Pass, Do, Make, Drop, act, dropped, check, now}
+use Rattle.dr_model.specs.Entries.{fields_at, is_running, is_no_secondary, is_open, is_settled, relation_state, drop_unless, check_or_drop, write_checks}
+use Rattle.dr_model.specs.WriteEntries.{partner_of, is_grouped, part_running}
+use Rattle.dr_model.specs.ReadStops.{Ends}
+use Rattle.dr_host.specs.Writes.{Writes}
+use Rattle.dr_flash.specs.Checks.{OnNone, is_stop}
+use Rattle.dr_flash.specs.Faults.{Counted}
+use Rattle.dr_flash.specs.Here.{refusal_of}
+use Rattle.dr_flash.specs.HostWrites.{write_refusal}
+use Rattle.dr_flash.proofs.EndsLemmas.{ends-skips, ends-goes, ends-passed, ends-refused}
+use Rattle.dr_gcopy.specs.Followed.{Follows}
+use Rattle.dr_metro.specs.Here.{IsTold}
+use Rattle.dr_metro.specs.Landing.{landed}
+use Rattle.dr_metro.proofs.LandLemmas.{told-through}
+
+-- what follows a stop, by what is known of the primary
+pub absent-part : (v : ℕ) (k : Control) → is_part (fields_at k v).primary ≡ false → part_running v k ≡ Pass
+absent-part v k absent = ap (λ b. cond (b && is_running v k) (Do (Make (Suspend v (is_grouped k v (partner_of k v))))) Pass) absent
+
+both_off : (a b : Bool) → b ≡ false → (a && b) ≡ false
+both_off true b h = h
+both_off false b h = refl
+
+pub off-part : (v : ℕ) (k : Control) → is_running v k ≡ false → part_running v k ≡ Pass
+off-part v k off = ap (λ b. cond b (Do (Make (Suspend v (is_grouped k v (partner_of k v))))) Pass) (both_off (is_part (fields_at k v).primary) (is_running v k) off)
+
+pub on-part : (v : ℕ) (k : Control) (busy : Bool) → is_part (fields_at k v).primary ≡ true → is_running v k ≡ true → busy ≡ is_grouped k v (partner_of k v) → part_running v k ≡ now (Suspend v busy) k
+on-part v k busy part on is = (λ i. cond (part i && on i) (Do (Make (Suspend v (sym is i)))) Pass)
+
+-- what follows issues no write
+pub told-followed : (armed : ℕ → Bool) (h : Writes) (v u : World) (r : Option Refusal) (follows : ℕ → List Entry) → Follows armed v r follows u → IsTold h v.events → IsTold h u.events
+told-followed armed h v u (Some (Stopped s)) follows f told = told-through armed h v u (follows s.0) f.refusal f.ends told
+told-followed armed h v u r follows f told = subst (λ (x : World). IsTold h x.events) (sym f) told
+
+-- a landing leaves the state of the pair as it was, and a track that is out of sync stays so
+pub state-landed : (n : ℕ) (f : Fields) (t : ℕ) → (landed n f t).primary_state ≡ f.primary_state
+state-landed n f t = by f.related
+  where
+    by : (b : Bool) → (if b then closed n (rewritten (fetched f t) t) else altered f t).primary_state ≡ f.primary_state
+    by true = refl
+    by false = refl
+
+or_right : (a b : Bool) → b ≡ true → (a || b) ≡ true
+or_right true b h = refl
+or_right false b h = h
+
+stays_in : (part : Bool) (s : Tracks) (t : ℕ) → contains s t ≡ true → contains (if part then insert s t else s) t ≡ true
+stays_in true s t h = contains-insert_tracks s t t ∙ or_right (nat_eq t t) (contains s t) h
+stays_in false s t h = h
+
+pub out-landed : (n : ℕ) (f : Fields) (t : ℕ) → contains f.out_of_sync t ≡ true → contains (landed n f t).out_of_sync t ≡ true
+out-landed n f t out = by f.related
+  where
+    by : (b : Bool) → contains (if b then closed n (rewritten (fetched f t) t) else altered f t).out_of_sync t ≡ true
+    by true = out
+    by false = stays_in (is_part f.primary) f.out_of_sync t out
+
+true-false : {P : Type 0} (b : Bool) → b ≡ true → b ≡ false → P
+true-false b is not_so = absurd (let never : true ≡ false = sym is ∙ not_so in cc)
+
+-- so a write that lands alone on a Metro Mirror primary leaves nothing that its secondary would have to have
+pub nothing-mirrored : {P : Type 0} (n : ℕ) (f g : Fields) (t : ℕ) → g ≡ landed n f t → is_metro f.primary ≡ true → goes_over f t ≡ false → contains g.out_of_sync t ≡ false → is_suspended g.primary_state ≡ false → P
+nothing-mirrored {P = P} n f g t is metro stays in_sync active =
+    by (is_suspended f.primary_state) (contains f.out_of_sync t) refl refl (sym (ap (λ b. b && (not (is_suspended f.primary_state) && not (contains f.out_of_sync t))) metro) ∙ stays)
+  where
+    by : (s o : Bool) → is_suspended f.primary_state ≡ s → contains f.out_of_sync t ≡ o → (not s && not o) ≡ false → P
+    by true o susp out h = true-false (is_suspended g.primary_state) (ap (λ (x : Fields). is_suspended x.primary_state) is ∙ ap is_suspended (state-landed n f t) ∙ susp) active
+    by false true susp out h = true-false (contains g.out_of_sync t) (ap (λ (x : Fields). contains x.out_of_sync t) is ∙ out-landed n f t out) in_sync
+    by false false susp out h = absurd cc
+
+pub nothing-active : {P : Type 0} (b : Bool) → b ≡ true → b ≡ false → P
+nothing-active b is not_so = true-false b is not_so
+
+-- a Metro Mirror primary is a primary, and so is one from which a write goes over
+pub metro-part : (p : Part) → is_metro p ≡ true → is_part p ≡ true
+metro-part Metro h = refl
+metro-part Absent h = absurd cc
+metro-part Global h = absurd cc
+
+pub over-metro : (a b : Bool) → (a && b) ≡ true → a ≡ true
+over-metro true b h = refl
+over-metro false b h = h
+
+pub none-gives : {P : Type 0} (o : Option Refusal) → is_some o ≡ false → OnNone o P → P
+none-gives None h p = p
+none-gives (Some x) h p = absurd cc
+
+pub ok-given : {T E : Type 0} {P : Type 0} {Q : T → Type 0} (r : Result T E) → OnOk r P → (P → (e : T) → Q e) → IfOk r Q
+ok-given (Ok x) p f = f p x
+ok-given (Err e) p f = p
+
+-- a call that fails only by stops
+pub counted-stops : {T : Type 0} (r : Result T Refusal) (a b : ℕ) → Counted (is_err r) a b → OnErr r (is_stop (refusal_of r) ≡ true) → Counted (is_stop (refusal_of r)) a b
+counted-stops (Ok x) a b counted stops = counted
+counted-stops (Err e) a b counted stops = subst (λ z. Counted z a b) (sym stops) counted
+
+-- a check that drops the write passes, or ends all
+act-drop : (w : World) (n : ℕ) → act w (Drop n) ≡ (dropped w n, None)
+unfolding act
+act-drop w n = refl
+
+module _ (armed : ℕ → Bool) (w : World) (n v : ℕ) where
+  passes : (u : World) (r : Option Refusal) (ok : Control → Bool) (why : Refusal) (ds : List Entry) → ok w.control ≡ true → Ends armed u r w ds → Ends armed u r w (check_or_drop n ok why ++ ds)
+  passes u r ok why ds is ends = ends-skips armed u r w (drop_unless n ok) (check ok why ∷ ds) (ap (λ b. cond b Pass (Do (Drop n))) is) (ends-passed armed u r w ok why ds is ends)
+
+  drops : (ok : Control → Bool) (why : Refusal) (ds : List Entry) → ok w.control ≡ false → ok (dropped w n).control ≡ false → Ends armed (dropped w n) (Some why) w (check_or_drop n ok why ++ ds)
+  drops ok why ds is still =
+      ends-goes armed (dropped w n) (Some why) w (dropped w n) (drop_unless n ok) (check ok why ∷ ds) (Drop n) (ap (λ b. cond b Pass (Do (Drop n))) is) (act-drop w n)
+      (ends-refused armed (dropped w n) (Some why) (dropped w n) ok why ds still refl refl)
+
+  pub write-off : (es : List Entry) → is_running v w.control ≡ false → Ends armed w (Some (server_off (w.control.volume v).server)) w (write_checks w.control n v ++ es)
+  write-off es off = ends-refused armed w (Some (server_off (w.control.volume v).server)) w (is_running v) (server_off (w.control.volume v).server) _ off refl refl
+
+  -- the checks behind the first
+  abbrev places : List Entry → List Entry
+  places es = check_or_drop n (is_no_secondary v) (NotPrimary (record { 0 = v })) ++ (check_or_drop n (is_open v) (Inhibited (record { 0 = v })) ++ (check_or_drop n (is_settled v) (relation_state w.control v) ++ es))
+
+  pub write-passes : (u : World) (r : Option Refusal) (es : List Entry) → is_running v w.control ≡ true → write_refusal w.control v ≡ None → Ends armed u r w es → Ends armed u r w (write_checks w.control n v ++ es)
+  write-passes u r es on free ends =
+      let all = may_write (is_no_secondary v w.control) (is_open v w.control) (is_settled v w.control) _ _ _ free in
+      ends-passed armed u r w (is_running v) (server_off (w.control.volume v).server) (places es) on
+      (passes u r (is_no_secondary v) (NotPrimary (record { 0 = v })) _ all.0
+      (passes u r (is_open v) (Inhibited (record { 0 = v })) _ all.1
+      (passes u r (is_settled v) (relation_state w.control v) es all.2 ends)))
+    where
+      may_write : (p o q : Bool) (a b d : Refusal) → (if not p then Some d else if not o then Some b else if not q then Some a else None) ≡ None → (p ≡ true) × (o ≡ true) × (q ≡ true)
+      may_write true true true a b d e = (refl, refl, refl)
+      may_write true true false a b d e = absurd cc
+      may_write true false q a b d e = absurd cc
+      may_write false o q a b d e = absurd cc
+
+  pub write-drops : (r : Refusal) (es : List Entry) → is_running v w.control ≡ true → write_refusal w.control v ≡ Some r → Ends armed (dropped w n) (Some r) w (write_checks w.control n v ++ es)
+  write-drops r es on why =
+      ends-passed armed (dropped w n) (Some r) w (is_running v) (server_off (w.control.volume v).server) (places es) on
+      (by (is_no_secondary v w.control) (is_open v w.control) (is_settled v w.control) refl refl refl why)
+    where
+      by : (p o q : Bool) → is_no_secondary v w.control ≡ p → is_open v w.control ≡ o → is_settled v w.control ≡ q
+          → (if not p then Some (NotPrimary (record { 0 = v })) else if not o then Some (Inhibited (record { 0 = v })) else if not q then Some (relation_state w.control v) else None) ≡ Some r
+          → Ends armed (dropped w n) (Some r) w (places es)
+      by false o q first is there e = subst (λ x. Ends armed (dropped w n) x w (places es)) e (drops (is_no_secondary v) (NotPrimary (record { 0 = v })) _ first first)
+      by true false q first is there e =
+          passes (dropped w n) (Some r) (is_no_secondary v) (NotPrimary (record { 0 = v })) _ first
+          (subst (λ x. Ends armed (dropped w n) x w (check_or_drop n (is_open v) (Inhibited (record { 0 = v })) ++ (check_or_drop n (is_settled v) (relation_state w.control v) ++ es))) e (drops (is_open v) (Inhibited (record { 0 = v })) _ is is))
+      by true true false first is there e =
+          passes (dropped w n) (Some r) (is_no_secondary v) (NotPrimary (record { 0 = v })) _ first
+          (passes (dropped w n) (Some r) (is_open v) (Inhibited (record { 0 = v })) _ is
+          (subst (λ x. Ends armed (dropped w n) x w (check_or_drop n (is_settled v) (relation_state w.control v) ++ es)) e (drops (is_settled v) (relation_state w.control v) es there there)))
+      by true true true first is there e = absurd cc

@@ -1,0 +1,34 @@
+-- The host's pending writes are those that the journal tells of, also after more events.
+use Rattle.std.proofs.Common.{ℕ, ◌≡◌, List, [], ◌∷◌, ◌++◌, refl, ap, ◌∙◌, sym, subst, Bool, true, false, cond}
+use Rattle.dr_host.specs.Writes.{Writes, Each, bytes_of, without, with_marked}
+use Rattle.dr_host.specs.declared.pending.Pending.{Pending}
+use Rattle.dr_host.proofs.Each.{each-marked, each-without}
+use Rattle.dr_model.specs.declared.event.Event.{Event}
+use Rattle.dr_model.specs.declared.event.Event.TheVariants.{Ack}
+use Rattle.dr_model.specs.Histories.{Write, Histories, histories, after_event}
+use Rattle.dr_model.proofs.Images.{histories-push}
+use Rattle.dr_plant.specs.State.{PlantState}
+use Rattle.dr_config.specs.Table.{Table}
+use Rattle.dr_metro.specs.Here.{IsTold, IsReady}
+
+-- a pending write is the one with that number
+abbrev pub IsWrite : (ℕ → Write) → Pending → Type 0
+IsWrite write p = write (p.w.0) ≡ record { volume = p.volume.0; track = p.track; offset = p.offset; bytes = bytes_of p }
+
+-- an event that issues no write
+pub told-push : (h : Writes) (ev now : List Event) (e : Event) → ((x : Histories) → (after_event x e).write ≡ x.write) → now ≡ ev ++ e ∷ [] → IsTold h ev → IsTold h now
+told-push h ev now e calm told is =
+    subst (λ write. Each (IsWrite write) h.pending) (sym (ap (λ es. (histories es).write) told ∙ ap (λ (x : Histories). x.write) (histories-push ev e) ∙ calm (histories ev))) is
+
+-- a write that is acknowledged
+pub told-acked : (h h' : Writes) (ev now : List Event) (n : ℕ) → h' ≡ without h n → now ≡ ev ++ Ack n ∷ [] → IsTold h ev → IsTold h' now
+told-acked h h' ev now n gone told is =
+    subst (λ (x : Writes). IsTold x now) (sym gone) (each-without (IsWrite (histories now).write) n h.pending (told-push h ev now (Ack n) (λ x. refl) told is))
+
+-- one that has landed in a stop
+pub told-marked : (h h' : Writes) (ev : List Event) (n : ℕ) (landed : Bool) → h' ≡ cond landed (with_marked h n) h → IsTold h ev → IsTold h' ev
+told-marked h h' ev n true is told = subst (λ x. IsTold x ev) (sym is) (each-marked (IsWrite (histories ev).write) n h.pending (λ p x. x) told)
+told-marked h h' ev n false is told = subst (λ x. IsTold x ev) (sym is) told
+
+pub told-ready : (s : PlantState) (t : Table) (h : Writes) (ev now : List Event) (e : Event) → ((x : Histories) → (after_event x e).write ≡ x.write) → now ≡ ev ++ e ∷ [] → IsReady s t h ev → IsReady s t h now
+told-ready s t h ev now e calm is ready = record { rest = ready.rest; reads = ready.reads; told = told-push h ev now e calm is ready.told }

@@ -1,0 +1,91 @@
+use Rattle.std.proofs.Common.{◌<◌, ◌≡◌, ◌∷◌, [], ◌∙◌, sym, ap, subst, Some, None}
+use Rattle.std.specs.Prelude.{OnOk}
+use Rattle.dr_model.specs.Control.{Volume}
+use Rattle.dr_model.specs.Entries.{copy_first, land_on, land_alone}
+use Rattle.dr_model.specs.ReadStops.{Ends}
+use Rattle.dr_model.specs.Refusals.{stopped}
+use Rattle.dr_volume.specs.View.{ids_of, volume_seen}
+use Rattle.dr_flash.specs.Here.{armed_in, refusal_of}
+use Rattle.dr_flash.proofs.CopyLemmas.{no-own, wider-armed}
+use Rattle.dr_flash.proofs.EndsLemmas.{ends-wider}
+use Rattle.dr_flash.proofs.TurnLemmas.{err-always, refused-by}
+use Rattle.dr_metro.specs.Here.{here, rest_of}
+use Rattle.dr_metro.specs.Landing.{landed_on}
+use Rattle.dr_metro.proofs.IssueLemmas.{unissued}
+use Rattle.dr_metro.proofs.LandLemmas.{told-through}
+use Rattle.dr_metro.proofs.machine.land_kept.Goals as goal
+
+pub returns-in_err-copy_first-clause-carried : goal.returns-in_err-copy_first-clause-carried
+returns-in_err-copy_first-clause-carried g c =
+    let s = g.P.Plant.state c.args.plant.now in
+    let t = c.args.config.now in
+    let h = c.args.host.now in
+    let ev = c.args.journal.now.events in
+    subst (λ e. Ends (armed_in s) (here (g.P.Plant.state c.copy_first.new.p) t h c.copy_first.new.j.events) e (here s t h ev) (land_alone (ids_of t.volumes) c.args.w.0 c.args.target.volume.0 c.args.target.track)) (sym (refused-by c.from_residual.result c.in_err-copy_first.field-0.0 c.from_residual.ensures.0 c.from_residual.ensures.1))
+    (c.in_err-copy_first.ensures.fails (rest_of h ev) (land_on c.args.w.0 c.args.target.volume.0 c.args.target.track ∷ []))
+
+pub returns-in_err-copy_first-clause-stopped : goal.returns-in_err-copy_first-clause-stopped
+returns-in_err-copy_first-clause-stopped g c =
+    err-always c.from_residual.result (refused-by c.from_residual.result c.in_err-copy_first.field-0.0 c.from_residual.ensures.0 c.from_residual.ensures.1 ∙ c.in_err-copy_first.ensures.refused ∙ ap (λ n. Some (stopped n)) c.requires.server)
+
+pub returns-in_err-copy_first-clause-told : goal.returns-in_err-copy_first-clause-told
+returns-in_err-copy_first-clause-told g c =
+    let s = g.P.Plant.state c.args.plant.now in
+    let t = c.args.config.now in
+    let h = c.args.host.now in
+    let ev = c.args.journal.now.events in
+    told-through (armed_in s) h (here s t h ev) (here (g.P.Plant.state c.copy_first.new.p) t h c.copy_first.new.j.events) (copy_first (ids_of t.volumes) c.args.target.volume.0 c.args.target.track) (Some c.in_err-copy_first.field-0.0) (c.in_err-copy_first.ensures.carried (rest_of h ev)) c.requires.told
+
+pub land_write-requires-clause-told : goal.land_write-requires-clause-told
+land_write-requires-clause-told g c =
+    let s = g.P.Plant.state c.args.plant.now in
+    let t = c.args.config.now in
+    let h = c.args.host.now in
+    let ev = c.args.journal.now.events in
+    told-through (armed_in s) h (here s t h ev) (here (g.P.Plant.state c.copy_first.new.p) t h c.copy_first.new.j.events) (copy_first (ids_of t.volumes) c.args.target.volume.0 c.args.target.track) None (c.in_ok-copy_first.ensures.carried (rest_of h ev)) c.requires.told
+
+pub land_write-requires-clause-server : goal.land_write-requires-clause-server
+land_write-requires-clause-server g c =
+    let v = c.args.target.volume.0 in
+    let same = c.in_ok-copy_first.ensures.others v (no-own (g.P.Plant.state c.args.plant.now) c.args.config.now v c.requires.fit) in
+    ap (λ (x : Volume). x.server) same.volume ∙ c.requires.server
+
+pub land_write-requires-clause-within : goal.land_write-requires-clause-within
+land_write-requires-clause-within g c =
+    let v = c.args.target.volume.0 in
+    let same = c.in_ok-copy_first.ensures.others v (no-own (g.P.Plant.state c.args.plant.now) c.args.config.now v c.requires.fit) in
+    subst (λ (x : Volume). c.args.target.track < x.tracks) (sym same.volume) c.requires.within
+
+pub land_write-requires-clause-pending : goal.land_write-requires-clause-pending
+land_write-requires-clause-pending g c =
+    let s = g.P.Plant.state c.args.plant.now in
+    let t = c.args.config.now in
+    let h = c.args.host.now in
+    let ev = c.args.journal.now.events in
+    let is = unissued (armed_in s) (here (g.P.Plant.state c.copy_first.new.p) t h c.copy_first.new.j.events) None (here s t h ev) (copy_first (ids_of t.volumes) c.args.target.volume.0 c.args.target.track) (c.in_ok-copy_first.ensures.carried (rest_of h ev)) in
+    record {
+      waits = c.requires.pending.waits;
+      issue = (λ i. is i c.args.w.0) ∙ c.requires.pending.issue;
+    }
+
+pub returns-clause-carried : goal.returns-clause-carried
+returns-clause-carried g c =
+    let s = g.P.Plant.state c.args.plant.now in
+    let t = c.args.config.now in
+    let h = c.args.host.now in
+    let ev = c.args.journal.now.events in
+    let m = g.P.Plant.state c.copy_first.new.p in
+    let u = here (g.P.Plant.state c.land_write.new.plant) t c.land_write.new.host c.land_write.new.journal.events in
+    let more = land_on c.args.w.0 c.args.target.volume.0 c.args.target.track ∷ [] in
+    let middle = here m t h c.copy_first.new.j.events in
+    c.in_ok-copy_first.ensures.leads (rest_of h ev) (armed_in s) u (refusal_of c.land_write.result) more
+    (ends-wider (armed_in m) (armed_in s) (wider-armed s m c.in_ok-copy_first.ensures.unarmed) u (refusal_of c.land_write.result) middle more c.land_write.ensures.carried)
+
+pub returns-clause-left : goal.returns-clause-left
+returns-clause-left g c =
+    let v = c.args.target.volume.0 in
+    let same = c.in_ok-copy_first.ensures.others v (no-own (g.P.Plant.state c.args.plant.now) c.args.config.now v c.requires.fit) in
+    subst (λ (x : Volume). OnOk c.land_write.result ((volume_seen (g.P.Plant.state c.land_write.new.plant) c.args.config.now v).fields ≡ landed_on x c.args.target.track)) same.volume c.land_write.ensures.left
+
+pub returns-clause-unarmed : goal.returns-clause-unarmed
+returns-clause-unarmed g c q none = c.land_write.ensures.unarmed q (c.in_ok-copy_first.ensures.unarmed q none)

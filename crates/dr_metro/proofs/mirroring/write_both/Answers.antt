@@ -1,0 +1,101 @@
+use Rattle.std.proofs.Common.{◌∷◌, [], ap, sym, subst, ◌∙◌, None, Some}
+use Rattle.dr_model.specs.Carry.{now}
+use Rattle.dr_model.specs.Control.{Volume}
+use Rattle.dr_model.specs.Moves.{Unsync}
+use Rattle.dr_model.specs.ReadStops.{Ends}
+use Rattle.dr_model.specs.WriteEntries.{land_mirrored}
+use Rattle.dr_volume.specs.View.{ids_of}
+use Rattle.dr_flash.specs.Here.{armed_in, refusal_of}
+use Rattle.dr_flash.proofs.CopyLemmas.{wider-armed}
+use Rattle.dr_flash.proofs.EndsLemmas.{ends-wider}
+use Rattle.dr_flash.proofs.TurnLemmas.{refused-by}
+use Rattle.dr_gcopy.proofs.SendLemmas.{other-volume, same-server, same-tracks}
+use Rattle.dr_metro.specs.Here.{here, rest_of}
+use Rattle.dr_metro.specs.Mirroring.{mirror_entries}
+use Rattle.dr_metro.proofs.LandLemmas.{told-through}
+use Rattle.dr_metro.proofs.RouteLemmas.{runs-still, mirrored-is}
+use Rattle.dr_metro.proofs.mirroring.write_both.Goals as goal
+
+pub returns-in_err-unsync-clause-carried : goal.returns-in_err-unsync-clause-carried
+returns-in_err-unsync-clause-carried g c =
+    let s = g.P.Plant.state c.args.p.now in
+    let t = c.args.c.now in
+    let h = c.args.h.now in
+    let ev = c.args.j.now.events in
+    let m = g.P.Plant.state c.unsync.new.p in
+    let mid = c.unsync.new.j.events in
+    subst (λ e. Ends (armed_in s) (here m t h mid) e (here s t h ev) (land_mirrored (ids_of t.volumes) c.args.w.now.w.0 c.args.w.now.volume.0 c.args.w.now.track c.args.u.0)) (sym (refused-by c.from_residual.result c.in_err-unsync.field-0.0 c.from_residual.ensures.0 c.from_residual.ensures.1))
+    (subst (Ends (armed_in s) (here m t h mid) (Some c.in_err-unsync.field-0.0) (here s t h ev)) (sym (mirrored-is (ids_of t.volumes) c.args.w.now.w.0 c.args.w.now.volume.0 c.args.w.now.track c.args.u.0)) (c.in_err-unsync.ensures.halts (rest_of h ev) (mirror_entries (ids_of t.volumes) c.args.w.now.w.0 c.args.w.now.volume.0 c.args.w.now.track c.args.u.0)))
+
+pub returns-in_err-unsync-clause-told : goal.returns-in_err-unsync-clause-told
+returns-in_err-unsync-clause-told g c =
+    let s = g.P.Plant.state c.args.p.now in
+    let t = c.args.c.now in
+    let h = c.args.h.now in
+    let ev = c.args.j.now.events in
+    let m = g.P.Plant.state c.unsync.new.p in
+    let mid = c.unsync.new.j.events in
+    told-through (armed_in s) h (here s t h ev) (here m t h mid) (now (Unsync c.args.w.now.volume.0 c.args.w.now.track) ∷ []) (Some c.in_err-unsync.field-0.0) (c.in_err-unsync.ensures.carried (rest_of h ev)) c.requires.told
+
+pub read_and_mirror-requires-clause-told : goal.read_and_mirror-requires-clause-told
+read_and_mirror-requires-clause-told g c =
+    let s = g.P.Plant.state c.args.p.now in
+    let t = c.args.c.now in
+    let h = c.args.h.now in
+    let ev = c.args.j.now.events in
+    let m = g.P.Plant.state c.unsync.new.p in
+    let mid = c.unsync.new.j.events in
+    told-through (armed_in s) h (here s t h ev) (here m t h mid) (now (Unsync c.args.w.now.volume.0 c.args.w.now.track) ∷ []) None (c.in_ok-unsync.ensures.carried (rest_of h ev)) c.requires.told
+
+pub read_and_mirror-requires-clause-reached : goal.read_and_mirror-requires-clause-reached
+read_and_mirror-requires-clause-reached g c =
+    let s = g.P.Plant.state c.args.p.now in
+    let t = c.args.c.now in
+    let h = c.args.h.now in
+    let ev = c.args.j.now.events in
+    let m = g.P.Plant.state c.unsync.new.p in
+    let mid = c.unsync.new.j.events in
+    runs-still s m t c.args.u.0 c.in_ok-unsync.ensures.on (ap (λ (x : Volume). x.server) (c.in_ok-unsync.ensures.others c.args.u.0 (λ e. other-volume s t c.args.w.now.volume.0 c.args.u.0 c.requires.two_servers (sym e))).volume) c.requires.reached
+
+pub read_and_mirror-requires-clause-two_servers : goal.read_and_mirror-requires-clause-two_servers
+read_and_mirror-requires-clause-two_servers g c =
+    let s = g.P.Plant.state c.args.p.now in
+    let t = c.args.c.now in
+    let h = c.args.h.now in
+    let ev = c.args.j.now.events in
+    let m = g.P.Plant.state c.unsync.new.p in
+    let mid = c.unsync.new.j.events in
+    λ e. c.requires.two_servers (same-server s m t c.args.w.now.volume.0 ∙ e ∙ same-server m s t c.args.u.0)
+
+pub read_and_mirror-requires-clause-size : goal.read_and_mirror-requires-clause-size
+read_and_mirror-requires-clause-size g c =
+    let s = g.P.Plant.state c.args.p.now in
+    let t = c.args.c.now in
+    let h = c.args.h.now in
+    let ev = c.args.j.now.events in
+    let m = g.P.Plant.state c.unsync.new.p in
+    let mid = c.unsync.new.j.events in
+    sym (same-tracks s m t c.args.u.0) ∙ c.requires.size ∙ same-tracks s m t c.args.w.now.volume.0
+
+pub returns-clause-carried : goal.returns-clause-carried
+returns-clause-carried g c =
+    let s = g.P.Plant.state c.args.p.now in
+    let t = c.args.c.now in
+    let h = c.args.h.now in
+    let ev = c.args.j.now.events in
+    let m = g.P.Plant.state c.unsync.new.p in
+    let mid = c.unsync.new.j.events in
+    let u = here (g.P.Plant.state c.read_and_mirror.new.p) t c.read_and_mirror.new.h c.read_and_mirror.new.j.events in
+    subst (Ends (armed_in s) u (refusal_of c.read_and_mirror.result) (here s t h ev)) (sym (mirrored-is (ids_of t.volumes) c.args.w.now.w.0 c.args.w.now.volume.0 c.args.w.now.track c.args.u.0))
+    (c.in_ok-unsync.ensures.advances (rest_of h ev) (armed_in s) u (refusal_of c.read_and_mirror.result) (mirror_entries (ids_of t.volumes) c.args.w.now.w.0 c.args.w.now.volume.0 c.args.w.now.track c.args.u.0)
+    (ends-wider (armed_in m) (armed_in s) (wider-armed s m c.in_ok-unsync.ensures.unarmed) u (refusal_of c.read_and_mirror.result) (here m t h mid) (mirror_entries (ids_of t.volumes) c.args.w.now.w.0 c.args.w.now.volume.0 c.args.w.now.track c.args.u.0) c.read_and_mirror.ensures.carried))
+
+pub returns-clause-unarmed : goal.returns-clause-unarmed
+returns-clause-unarmed g c q none =
+    let s = g.P.Plant.state c.args.p.now in
+    let t = c.args.c.now in
+    let h = c.args.h.now in
+    let ev = c.args.j.now.events in
+    let m = g.P.Plant.state c.unsync.new.p in
+    let mid = c.unsync.new.j.events in
+    c.read_and_mirror.ensures.unarmed q (c.in_ok-unsync.ensures.unarmed q none)

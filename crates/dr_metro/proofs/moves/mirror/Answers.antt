@@ -1,0 +1,71 @@
+use Rattle.std.proofs.Common.{ℕ, List, ap, sym, subst, ◌∙◌, Some}
+use Rattle.dr_model.specs.Layout.{Fields}
+use Rattle.dr_model.specs.Lawful.{IsLawful}
+use Rattle.dr_model.specs.Carry.{now}
+use Rattle.dr_model.specs.Moves.{Mirror}
+use Rattle.dr_model.specs.Pairs.{mirrored}
+use Rattle.dr_volume.specs.Plain.{plain}
+use Rattle.dr_volume.specs.View.{volume_seen}
+use Rattle.dr_flash.specs.Here.{seen, armed_in, refusal_of}
+use Rattle.dr_flash.proofs.CheckLemmas.{act-ends}
+use Rattle.dr_flash.proofs.ReadLemmas.{on-running}
+use Rattle.dr_flash.proofs.TurnLemmas.{Tells, advances, halts, ok-along, err-along}
+use Rattle.dr_flash.proofs.MoveLemmas.{MoveFits}
+use Rattle.dr_metro.proofs.MirrorLemmas.{mirror-fits, tells-mirror}
+use Rattle.dr_metro.proofs.moves.mirror.Goals as goal
+
+pub shift-requires-clause-lawful : goal.shift-requires-clause-lawful
+shift-requires-clause-lawful g c =
+    let s = g.P.Plant.state c.args.p.now in
+    let t = c.args.c.now in
+    let x = volume_seen s t c.args.u.0 in
+    (subst (λ f. MoveFits s t c.args.u.0 f (Some (c.args.t, c.args.bytes.now))) (sym (c.mirrored-next.ensures ∙ ap (λ (f : Fields). mirrored f c.args.t) c.peek_fields.ensures.fields)) (mirror-fits s t c.args.u.0 c.requires.fit (subst (λ (f : Fields). IsLawful x.tracks f) c.peek_fields.ensures.fields c.peek_fields.ensures.lawful) c.args.t c.args.v.0 c.args.w.0 c.args.bytes.now)).lawful
+
+pub shift-requires-clause-leaves : goal.shift-requires-clause-leaves
+shift-requires-clause-leaves g c =
+    let s = g.P.Plant.state c.args.p.now in
+    let t = c.args.c.now in
+    let x = volume_seen s t c.args.u.0 in
+    (subst (λ f. MoveFits s t c.args.u.0 f (Some (c.args.t, c.args.bytes.now))) (sym (c.mirrored-next.ensures ∙ ap (λ (f : Fields). mirrored f c.args.t) c.peek_fields.ensures.fields)) (mirror-fits s t c.args.u.0 c.requires.fit (subst (λ (f : Fields). IsLawful x.tracks f) c.peek_fields.ensures.fields c.peek_fields.ensures.lawful) c.args.t c.args.v.0 c.args.w.0 c.args.bytes.now)).leaves
+
+pub shift-requires-clause-covers : goal.shift-requires-clause-covers
+shift-requires-clause-covers g c =
+    let s = g.P.Plant.state c.args.p.now in
+    let t = c.args.c.now in
+    let x = volume_seen s t c.args.u.0 in
+    (subst (λ f. MoveFits s t c.args.u.0 f (Some (c.args.t, c.args.bytes.now))) (sym (c.mirrored-next.ensures ∙ ap (λ (f : Fields). mirrored f c.args.t) c.peek_fields.ensures.fields)) (mirror-fits s t c.args.u.0 c.requires.fit (subst (λ (f : Fields). IsLawful x.tracks f) c.peek_fields.ensures.fields c.peek_fields.ensures.lawful) c.args.t c.args.v.0 c.args.w.0 c.args.bytes.now)).covers
+
+pub returns-clause-advances : goal.returns-clause-advances
+returns-clause-advances g c =
+    let s = g.P.Plant.state c.args.p.now in
+    let t = c.args.c.now in
+    let x = volume_seen s t c.args.u.0 in
+    ok-along c.shift.result c.shift.ensures.done (λ done r.
+    advances (seen s t r c.args.j.now.events) (Mirror c.args.u.0 c.args.t c.args.v.0 c.args.w.0) c.of-told.result (plain c.mirrored-next.result) (Some (c.args.t, c.args.bytes.now)) (on-running s x.server c.requires.running)
+    (subst (λ y. Tells (Mirror c.args.u.0 c.args.t c.args.v.0 c.args.w.0) x y) (sym (c.of-told.ensures)) (tells-mirror c.args.u.0 c.args.t c.args.v.0 c.args.w.0 x)) (sym (c.mirrored-next.ensures ∙ ap (λ (f : Fields). mirrored f c.args.t) c.peek_fields.ensures.fields)) (ap (λ (b : List ℕ). Some (c.args.t, b)) (sym c.requires.bytes))
+    (seen (g.P.Plant.state c.shift.new.p) t r c.shift.new.j.events) (done r))
+
+pub returns-clause-halts : goal.returns-clause-halts
+returns-clause-halts g c =
+    let s = g.P.Plant.state c.args.p.now in
+    let t = c.args.c.now in
+    let x = volume_seen s t c.args.u.0 in
+    err-along c.shift.result c.shift.ensures.failed c.shift.ensures.refused (λ failed refused r.
+    halts (seen s t r c.args.j.now.events) (Mirror c.args.u.0 c.args.t c.args.v.0 c.args.w.0) c.of-told.result (plain c.mirrored-next.result) (Some (c.args.t, c.args.bytes.now)) (on-running s x.server c.requires.running)
+    (subst (λ y. Tells (Mirror c.args.u.0 c.args.t c.args.v.0 c.args.w.0) x y) (sym (c.of-told.ensures)) (tells-mirror c.args.u.0 c.args.t c.args.v.0 c.args.w.0 x)) (sym (c.mirrored-next.ensures ∙ ap (λ (f : Fields). mirrored f c.args.t) c.peek_fields.ensures.fields)) (ap (λ (b : List ℕ). Some (c.args.t, b)) (sym c.requires.bytes))
+    (armed_in s) (seen (g.P.Plant.state c.shift.new.p) t r c.shift.new.j.events) (refusal_of c.shift.result) refused (failed r))
+
+pub returns-clause-carried : goal.returns-clause-carried
+returns-clause-carried g c =
+    let s = g.P.Plant.state c.args.p.now in
+    let t = c.args.c.now in
+    let x = volume_seen s t c.args.u.0 in
+    act-ends c.shift.result (armed_in s) (λ r. seen s t r c.args.j.now.events) (λ r. seen (g.P.Plant.state c.shift.new.p) t r c.shift.new.j.events) (now (Mirror c.args.u.0 c.args.t c.args.v.0 c.args.w.0))
+    (ok-along c.shift.result c.shift.ensures.done (λ done r.
+    advances (seen s t r c.args.j.now.events) (Mirror c.args.u.0 c.args.t c.args.v.0 c.args.w.0) c.of-told.result (plain c.mirrored-next.result) (Some (c.args.t, c.args.bytes.now)) (on-running s x.server c.requires.running)
+    (subst (λ y. Tells (Mirror c.args.u.0 c.args.t c.args.v.0 c.args.w.0) x y) (sym (c.of-told.ensures)) (tells-mirror c.args.u.0 c.args.t c.args.v.0 c.args.w.0 x)) (sym (c.mirrored-next.ensures ∙ ap (λ (f : Fields). mirrored f c.args.t) c.peek_fields.ensures.fields)) (ap (λ (b : List ℕ). Some (c.args.t, b)) (sym c.requires.bytes))
+    (seen (g.P.Plant.state c.shift.new.p) t r c.shift.new.j.events) (done r)))
+    (err-along c.shift.result c.shift.ensures.failed c.shift.ensures.refused (λ failed refused r.
+    halts (seen s t r c.args.j.now.events) (Mirror c.args.u.0 c.args.t c.args.v.0 c.args.w.0) c.of-told.result (plain c.mirrored-next.result) (Some (c.args.t, c.args.bytes.now)) (on-running s x.server c.requires.running)
+    (subst (λ y. Tells (Mirror c.args.u.0 c.args.t c.args.v.0 c.args.w.0) x y) (sym (c.of-told.ensures)) (tells-mirror c.args.u.0 c.args.t c.args.v.0 c.args.w.0 x)) (sym (c.mirrored-next.ensures ∙ ap (λ (f : Fields). mirrored f c.args.t) c.peek_fields.ensures.fields)) (ap (λ (b : List ℕ). Some (c.args.t, b)) (sym c.requires.bytes))
+    (armed_in s) (seen (g.P.Plant.state c.shift.new.p) t r c.shift.new.j.events) (refusal_of c.shift.result) refused (failed r)))

@@ -1,0 +1,266 @@
+use Rattle.std.proofs.Common.{◌≡◌, ◌≢◌, true, false, ◌&&◌, ◌||◌, [], ap, sym, subst, refl, ◌∙◌, None}
+use Rattle.std.specs.Prelude.{is_some, OnOk, IsSome}
+use Rattle.std.specs.Result.{IfOk}
+use Rattle.std.specs.Prelude.{if◌then◌else◌}
+use Rattle.dr_config.specs.Table.{place_of}
+use Rattle.dr_model.specs.Layout.{Fields}
+use Rattle.dr_model.specs.Entries.{land_alone}
+use Rattle.dr_model.specs.PairEntries.{send_refusal}
+use Rattle.dr_model.specs.Pairs.{held, goes_over, is_metro}
+use Rattle.dr_model.specs.ReadStops.{Ends}
+use Rattle.dr_model.specs.WriteEntries.{is_grouped, is_parted, land_parted, land_mirrored}
+use Rattle.dr_volume.specs.View.{ids_of, volume_seen}
+use Rattle.dr_flash.specs.Here.{armed_in, refusal_of}
+use Rattle.dr_flash.proofs.EndsLemmas.{ends-none}
+use Rattle.dr_metro.specs.declared.sync.WriteEnd.{WriteEnd}
+use Rattle.dr_metro.specs.Here.{here}
+use Rattle.dr_metro.specs.Mirroring.{Mirrors}
+use Rattle.dr_metro.specs.Syncing.{over_entries, end_of}
+use Rattle.dr_metro.proofs.SyncLemmas.{nothing-mirrored, metro-part, over-metro, ok-given}
+use Rattle.dr_metro.proofs.sync.place_write.Goals as goal
+
+pub returns-then-is_held-clause-carried : goal.returns-then-is_held-clause-carried
+returns-then-is_held-clause-carried g c =
+    let s = g.P.Plant.state c.args.p.now in
+    let t = c.args.c.now in
+    let h = c.args.h.now in
+    let ev = c.args.j.now.events in
+    let w = c.args.w.now in
+    let v = w.volume.0 in
+    let k = (here s t h ev).control in
+    let ids = ids_of t.volumes in
+    let f = (volume_seen s t v).fields in
+    let shows = c.peek_fields-fields.ensures.fields in
+    let over = (if is_parted k v then land_parted k w.w.0 v w.track else land_mirrored ids w.w.0 v w.track f.primary_partner) in
+    let alone = land_alone ids w.w.0 v w.track in
+    let is_held : held f ≡ true = ap held (sym shows) ∙ sym c.is_held.ensures ∙ c.if-is_held.true in
+    subst (λ b. Ends (armed_in s) (here s t h ev) None (here s t h ev) (if b then [] else if goes_over f w.track then over else alone)) (sym is_held)
+    (ends-none (armed_in s) (here s t h ev) None (here s t h ev) (record { world = refl; refusal = refl }))
+
+pub returns-then-is_held-clause-end : goal.returns-then-is_held-clause-end
+returns-then-is_held-clause-end g c =
+    let s = g.P.Plant.state c.args.p.now in
+    let t = c.args.c.now in
+    let h = c.args.h.now in
+    let ev = c.args.j.now.events in
+    let w = c.args.w.now in
+    let v = w.volume.0 in
+    let k = (here s t h ev).control in
+    let ids = ids_of t.volumes in
+    let f = (volume_seen s t v).fields in
+    let shows = c.peek_fields-fields.ensures.fields in
+    let over = (if is_parted k v then land_parted k w.w.0 v w.track else land_mirrored ids w.w.0 v w.track f.primary_partner) in
+    let alone = land_alone ids w.w.0 v w.track in
+    let is_held : held f ≡ true = ap held (sym shows) ∙ sym c.is_held.ensures ∙ c.if-is_held.true in
+    let rest = is_parted k v && is_grouped k v f.primary_partner in
+    ap (λ b. end_of (b || (goes_over f w.track && rest))) (sym is_held)
+
+pub returns-then-is_held-clause-mirrors : goal.returns-then-is_held-clause-mirrors
+returns-then-is_held-clause-mirrors g c =
+    let s = g.P.Plant.state c.args.p.now in
+    let t = c.args.c.now in
+    let h = c.args.h.now in
+    let ev = c.args.j.now.events in
+    let w = c.args.w.now in
+    let v = w.volume.0 in
+    λ metro never. absurd cc
+
+pub write_over-requires-clause-primary : goal.write_over-requires-clause-primary
+write_over-requires-clause-primary g c =
+    let s = g.P.Plant.state c.args.p.now in
+    let t = c.args.c.now in
+    let h = c.args.h.now in
+    let ev = c.args.j.now.events in
+    let w = c.args.w.now in
+    let v = w.volume.0 in
+    let k = (here s t h ev).control in
+    let ids = ids_of t.volumes in
+    let f = (volume_seen s t v).fields in
+    let shows = c.peek_fields-fields.ensures.fields in
+    let over = (if is_parted k v then land_parted k w.w.0 v w.track else land_mirrored ids w.w.0 v w.track f.primary_partner) in
+    let alone = land_alone ids w.w.0 v w.track in
+    let goes : goes_over f w.track ≡ true = ap (λ (x : Fields). goes_over x w.track) (sym shows) ∙ sym c.goes_over.ensures ∙ c.if-goes_over.true in
+    let metro : is_metro f.primary ≡ true = over-metro (is_metro f.primary) _ goes in
+    let to = ap (λ (x : Fields). x.primary_partner) shows in
+    metro-part f.primary metro
+
+pub write_over-requires-clause-to : goal.write_over-requires-clause-to
+write_over-requires-clause-to g c =
+    let s = g.P.Plant.state c.args.p.now in
+    let t = c.args.c.now in
+    let h = c.args.h.now in
+    let ev = c.args.j.now.events in
+    let w = c.args.w.now in
+    let v = w.volume.0 in
+    let k = (here s t h ev).control in
+    let ids = ids_of t.volumes in
+    let f = (volume_seen s t v).fields in
+    let shows = c.peek_fields-fields.ensures.fields in
+    let over = (if is_parted k v then land_parted k w.w.0 v w.track else land_mirrored ids w.w.0 v w.track f.primary_partner) in
+    let alone = land_alone ids w.w.0 v w.track in
+    let goes : goes_over f w.track ≡ true = ap (λ (x : Fields). goes_over x w.track) (sym shows) ∙ sym c.goes_over.ensures ∙ c.if-goes_over.true in
+    let metro : is_metro f.primary ≡ true = over-metro (is_metro f.primary) _ goes in
+    let to = ap (λ (x : Fields). x.primary_partner) shows in
+    subst (λ q. IsSome (place_of t q)) (sym to) (c.requires.to metro)
+
+pub write_over-requires-clause-two_servers : goal.write_over-requires-clause-two_servers
+write_over-requires-clause-two_servers g c =
+    let s = g.P.Plant.state c.args.p.now in
+    let t = c.args.c.now in
+    let h = c.args.h.now in
+    let ev = c.args.j.now.events in
+    let w = c.args.w.now in
+    let v = w.volume.0 in
+    let k = (here s t h ev).control in
+    let ids = ids_of t.volumes in
+    let f = (volume_seen s t v).fields in
+    let shows = c.peek_fields-fields.ensures.fields in
+    let over = (if is_parted k v then land_parted k w.w.0 v w.track else land_mirrored ids w.w.0 v w.track f.primary_partner) in
+    let alone = land_alone ids w.w.0 v w.track in
+    let goes : goes_over f w.track ≡ true = ap (λ (x : Fields). goes_over x w.track) (sym shows) ∙ sym c.goes_over.ensures ∙ c.if-goes_over.true in
+    let metro : is_metro f.primary ≡ true = over-metro (is_metro f.primary) _ goes in
+    let to = ap (λ (x : Fields). x.primary_partner) shows in
+    subst (λ q. (volume_seen s t v).server ≢ (volume_seen s t q).server) (sym to) (c.requires.two_servers metro)
+
+pub write_over-requires-clause-size : goal.write_over-requires-clause-size
+write_over-requires-clause-size g c =
+    let s = g.P.Plant.state c.args.p.now in
+    let t = c.args.c.now in
+    let h = c.args.h.now in
+    let ev = c.args.j.now.events in
+    let w = c.args.w.now in
+    let v = w.volume.0 in
+    let k = (here s t h ev).control in
+    let ids = ids_of t.volumes in
+    let f = (volume_seen s t v).fields in
+    let shows = c.peek_fields-fields.ensures.fields in
+    let over = (if is_parted k v then land_parted k w.w.0 v w.track else land_mirrored ids w.w.0 v w.track f.primary_partner) in
+    let alone = land_alone ids w.w.0 v w.track in
+    let goes : goes_over f w.track ≡ true = ap (λ (x : Fields). goes_over x w.track) (sym shows) ∙ sym c.goes_over.ensures ∙ c.if-goes_over.true in
+    let metro : is_metro f.primary ≡ true = over-metro (is_metro f.primary) _ goes in
+    let to = ap (λ (x : Fields). x.primary_partner) shows in
+    subst (λ q. (volume_seen s t q).tracks ≡ (volume_seen s t v).tracks) (sym to) (c.requires.size metro)
+
+pub returns-then-goes_over-clause-carried : goal.returns-then-goes_over-clause-carried
+returns-then-goes_over-clause-carried g c =
+    let s = g.P.Plant.state c.args.p.now in
+    let t = c.args.c.now in
+    let h = c.args.h.now in
+    let ev = c.args.j.now.events in
+    let w = c.args.w.now in
+    let v = w.volume.0 in
+    let k = (here s t h ev).control in
+    let ids = ids_of t.volumes in
+    let f = (volume_seen s t v).fields in
+    let shows = c.peek_fields-fields.ensures.fields in
+    let over = (if is_parted k v then land_parted k w.w.0 v w.track else land_mirrored ids w.w.0 v w.track f.primary_partner) in
+    let alone = land_alone ids w.w.0 v w.track in
+    let free : held f ≡ false = ap held (sym shows) ∙ sym c.is_held.ensures ∙ c.if-is_held.false in
+    let goes : goes_over f w.track ≡ true = ap (λ (x : Fields). goes_over x w.track) (sym shows) ∙ sym c.goes_over.ensures ∙ c.if-goes_over.true in
+    let to = ap (λ (x : Fields). x.primary_partner) shows in
+    let x = here (g.P.Plant.state c.write_over.new.p) t c.write_over.new.h c.write_over.new.j.events in
+    let r = refusal_of c.write_over.result in
+    subst (λ b. Ends (armed_in s) x r (here s t h ev) (if b then [] else if goes_over f w.track then over else alone)) (sym free)
+    (subst (λ b. Ends (armed_in s) x r (here s t h ev) (if b then over else alone)) (sym goes)
+    (subst (λ q. Ends (armed_in s) x r (here s t h ev) (over_entries ids (is_some (send_refusal v q k)) (is_grouped k v q) w.w.0 v w.track q)) to c.write_over.ensures.carried))
+
+pub returns-then-goes_over-clause-end : goal.returns-then-goes_over-clause-end
+returns-then-goes_over-clause-end g c =
+    let s = g.P.Plant.state c.args.p.now in
+    let t = c.args.c.now in
+    let h = c.args.h.now in
+    let ev = c.args.j.now.events in
+    let w = c.args.w.now in
+    let v = w.volume.0 in
+    let k = (here s t h ev).control in
+    let ids = ids_of t.volumes in
+    let f = (volume_seen s t v).fields in
+    let shows = c.peek_fields-fields.ensures.fields in
+    let over = (if is_parted k v then land_parted k w.w.0 v w.track else land_mirrored ids w.w.0 v w.track f.primary_partner) in
+    let alone = land_alone ids w.w.0 v w.track in
+    let free : held f ≡ false = ap held (sym shows) ∙ sym c.is_held.ensures ∙ c.if-is_held.false in
+    let goes : goes_over f w.track ≡ true = ap (λ (x : Fields). goes_over x w.track) (sym shows) ∙ sym c.goes_over.ensures ∙ c.if-goes_over.true in
+    let rest = is_parted k v && is_grouped k v f.primary_partner in
+    let to = ap (λ (x : Fields). x.primary_partner) shows in
+    subst (λ b. IfOk c.write_over.result (λ (e : WriteEnd). e ≡ end_of (b || (goes_over f w.track && rest)))) (sym free)
+    (subst (λ b. IfOk c.write_over.result (λ (e : WriteEnd). e ≡ end_of (b && rest))) (sym goes)
+    (subst (λ q. IfOk c.write_over.result (λ (e : WriteEnd). e ≡ end_of (is_some (send_refusal v q k) && is_grouped k v q))) to c.write_over.ensures.end))
+
+pub returns-then-goes_over-clause-mirrors : goal.returns-then-goes_over-clause-mirrors
+returns-then-goes_over-clause-mirrors g c =
+    let s = g.P.Plant.state c.args.p.now in
+    let t = c.args.c.now in
+    let h = c.args.h.now in
+    let ev = c.args.j.now.events in
+    let w = c.args.w.now in
+    let v = w.volume.0 in
+    let k = (here s t h ev).control in
+    let ids = ids_of t.volumes in
+    let f = (volume_seen s t v).fields in
+    let shows = c.peek_fields-fields.ensures.fields in
+    let over = (if is_parted k v then land_parted k w.w.0 v w.track else land_mirrored ids w.w.0 v w.track f.primary_partner) in
+    let alone = land_alone ids w.w.0 v w.track in
+    λ metro.
+    let to = ap (λ (x : Fields). x.primary_partner) shows in
+    let u = g.P.Plant.state c.write_over.new.p in
+    ok-given c.write_over.result (subst (λ q. OnOk c.write_over.result (Mirrors u t v q w.track)) to c.write_over.ensures.mirrors) (λ is e landed. is)
+
+pub returns-clause-carried : goal.returns-clause-carried
+returns-clause-carried g c =
+    let s = g.P.Plant.state c.args.p.now in
+    let t = c.args.c.now in
+    let h = c.args.h.now in
+    let ev = c.args.j.now.events in
+    let w = c.args.w.now in
+    let v = w.volume.0 in
+    let k = (here s t h ev).control in
+    let ids = ids_of t.volumes in
+    let f = (volume_seen s t v).fields in
+    let shows = c.peek_fields-fields.ensures.fields in
+    let over = (if is_parted k v then land_parted k w.w.0 v w.track else land_mirrored ids w.w.0 v w.track f.primary_partner) in
+    let alone = land_alone ids w.w.0 v w.track in
+    let free : held f ≡ false = ap held (sym shows) ∙ sym c.is_held.ensures ∙ c.if-is_held.false in
+    let stays : goes_over f w.track ≡ false = ap (λ (x : Fields). goes_over x w.track) (sym shows) ∙ sym c.goes_over.ensures ∙ c.if-goes_over.false in
+    let x = here (g.P.Plant.state c.write_alone.new.p) t c.write_alone.new.h c.write_alone.new.j.events in
+    let r = refusal_of c.write_alone.result in
+    subst (λ b. Ends (armed_in s) x r (here s t h ev) (if b then [] else if goes_over f w.track then over else alone)) (sym free)
+    (subst (λ b. Ends (armed_in s) x r (here s t h ev) (if b then over else alone)) (sym stays) c.write_alone.ensures.carried)
+
+pub returns-clause-end : goal.returns-clause-end
+returns-clause-end g c =
+    let s = g.P.Plant.state c.args.p.now in
+    let t = c.args.c.now in
+    let h = c.args.h.now in
+    let ev = c.args.j.now.events in
+    let w = c.args.w.now in
+    let v = w.volume.0 in
+    let k = (here s t h ev).control in
+    let ids = ids_of t.volumes in
+    let f = (volume_seen s t v).fields in
+    let shows = c.peek_fields-fields.ensures.fields in
+    let over = (if is_parted k v then land_parted k w.w.0 v w.track else land_mirrored ids w.w.0 v w.track f.primary_partner) in
+    let alone = land_alone ids w.w.0 v w.track in
+    let free : held f ≡ false = ap held (sym shows) ∙ sym c.is_held.ensures ∙ c.if-is_held.false in
+    let stays : goes_over f w.track ≡ false = ap (λ (x : Fields). goes_over x w.track) (sym shows) ∙ sym c.goes_over.ensures ∙ c.if-goes_over.false in
+    let rest = is_parted k v && is_grouped k v f.primary_partner in
+    subst (λ b. IfOk c.write_alone.result (λ (e : WriteEnd). e ≡ end_of (b || (goes_over f w.track && rest)))) (sym free)
+    (subst (λ b. IfOk c.write_alone.result (λ (e : WriteEnd). e ≡ end_of (b && rest))) (sym stays) c.write_alone.ensures.end)
+
+pub returns-clause-mirrors : goal.returns-clause-mirrors
+returns-clause-mirrors g c =
+    let s = g.P.Plant.state c.args.p.now in
+    let t = c.args.c.now in
+    let h = c.args.h.now in
+    let ev = c.args.j.now.events in
+    let w = c.args.w.now in
+    let v = w.volume.0 in
+    let k = (here s t h ev).control in
+    let ids = ids_of t.volumes in
+    let f = (volume_seen s t v).fields in
+    let shows = c.peek_fields-fields.ensures.fields in
+    let over = (if is_parted k v then land_parted k w.w.0 v w.track else land_mirrored ids w.w.0 v w.track f.primary_partner) in
+    let alone = land_alone ids w.w.0 v w.track in
+    let stays : goes_over f w.track ≡ false = ap (λ (x : Fields). goes_over x w.track) (sym shows) ∙ sym c.goes_over.ensures ∙ c.if-goes_over.false in
+    λ metro.
+    let u = g.P.Plant.state c.write_alone.new.p in
+    ok-given c.write_alone.result c.write_alone.ensures.left (λ is e landed in_sync active. nothing-mirrored (volume_seen s t v).tracks f (volume_seen u t v).fields w.track is metro stays in_sync active)

@@ -1,0 +1,5 @@
+pub mod Here
+pub mod Landing
+pub mod Waiting
+pub mod Mirroring
+pub mod Syncing

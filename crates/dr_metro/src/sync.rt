@@ -1,0 +1,311 @@
+//! A pending write of the host is carried out: on its volume alone, or on its secondary first.
+
+ghost use Rattle.std.specs.Prelude.{◌≡◌, ◌≢◌, ℕ, ◌<◌, ◌≤◌, ◌+◌, true, false, ◌&&◌, length, None, Some, IsSome, IfOk, OnOk, OnErr, is_err, is_some};
+ghost use Rattle.std.specs.List.{find};
+ghost use Rattle.dr_config.specs.Table.{place_of};
+ghost use Rattle.dr_host.specs.Writes.{has_number};
+ghost use Rattle.dr_model.specs.Entries.{land_alone};
+ghost use Rattle.dr_model.specs.Layout.{is_part};
+ghost use Rattle.dr_model.specs.PairEntries as pair_entries;
+ghost use Rattle.dr_model.specs.Pairs.{is_metro, is_suspended};
+ghost use Rattle.dr_model.specs.ReadStops.{Ends};
+ghost use Rattle.dr_model.specs.WriteEntries as entries;
+ghost use Rattle.dr_model.specs.WriteEntries.{land_entries, landing, waits, part_after};
+ghost use Rattle.dr_volume.specs.View.{volume_seen, ids_of};
+ghost use Rattle.dr_flash.specs.Checks.{is_stop};
+ghost use Rattle.dr_flash.specs.Faults.{Counted};
+ghost use Rattle.dr_flash.specs.Fit.{RelationsFit};
+ghost use Rattle.dr_flash.specs.Here.{refusal_of, armed_in, IsAtRest};
+ghost use Rattle.dr_gcopy.specs.Followed.{EndsFollowed};
+ghost use Rattle.dr_metro.specs.Here.{here, IsTold};
+ghost use Rattle.dr_metro.specs.Landing.{landed_on};
+ghost use Rattle.dr_metro.specs.Mirroring.{Mirrors};
+ghost use Rattle.dr_metro.specs.declared.sync.WriteEnd.TheVariants.{Landed};
+ghost use Rattle.dr_metro.specs.Syncing.{parted_entries, over_entries, end_of};
+
+use crate::machine::{Target, land_kept};
+use crate::mirroring::{front, write_both};
+use crate::parting::{follow_part, is_grouped};
+use crate::states::goes_over;
+use dr_config::Config;
+use dr_flash::{server_of, write_refusal};
+use dr_gcopy::{send_refusal, suspend};
+use dr_host::{Host, Pending};
+use dr_ids::{Refusal, VolumeId};
+use dr_model::Journal;
+use dr_plant::Plant;
+use dr_volume::{is_held, peek_fields};
+
+/// What became of a host write that was carried out.
+#[derive(Clone, Copy)]
+pub enum WriteEnd {
+    /// It landed, and was acknowledged.
+    Landed,
+    /// It waits.
+    Held,
+}
+
+/// Lands the write on its volume alone, whose server is on.
+fn write_alone<P: Plant>(
+    p: &mut P,
+    c: &Config,
+    j: &mut Journal,
+    h: &mut Host,
+    w: &Pending,
+) -> Result<WriteEnd, Refusal>
+    requires rest { IsAtRest (P.state p.old) c.now }
+    requires fit { RelationsFit (P.state p.old) c.now }
+    requires told { IsTold h.old j.old.events }
+    requires defined { IsSome (place_of c.now w.now.volume.0) }
+    requires running { (P.state p.old).on (volume_seen (P.state p.old) c.now w.now.volume.0).server ≡ true }
+    requires within { w.now.track < (volume_seen (P.state p.old) c.now w.now.volume.0).tracks }
+    requires fits { w.now.offset + w.now.len ≤ 64 }
+    requires found { find (has_number w.now.w.0) h.old.pending ≡ Some w.now }
+    requires room { length c.now.volumes + 2 ≤ j.old.spare }
+    ensures carried { Ends (armed_in (P.state p.old)) (here (P.state p.new) c.now h.new j.new.events) (refusal_of result) (here (P.state p.old) c.now h.old j.old.events) (land_alone (ids_of c.now.volumes) w.now.w.0 w.now.volume.0 w.now.track) }
+    ensures end { IfOk result (λ e. e ≡ Landed) }
+    ensures left { OnOk result ((volume_seen (P.state p.new) c.now w.now.volume.0).fields ≡ landed_on (volume_seen (P.state p.old) c.now w.now.volume.0) w.now.track) }
+    ensures stops { OnErr result (is_stop (refusal_of result) ≡ true) }
+    ensures rest { IsAtRest (P.state p.new) c.now }
+    ensures fit { RelationsFit (P.state p.new) c.now }
+    ensures told { IsTold h.new j.new.events }
+    ensures unarmed { (q : ℕ) → (P.state p.old).read_fuse q ≡ None → (P.state p.new).read_fuse q ≡ None }
+    ensures faults { Counted (is_err result) (P.state p.old).faults (P.state p.new).faults }
+    ensures issued { h.new.issued ≡ h.old.issued }
+    ensures room { j.old.spare ≤ j.new.spare + (length c.now.volumes + 1) }
+    ensures spare { length j.new.events + j.new.spare ≡ length j.old.events + j.old.spare }
+{
+    let target = Target {
+        volume: w.volume,
+        server: server_of(c, w.volume),
+        track: w.track,
+        offset: w.offset,
+    };
+    match land_kept(p, c, h, j, w.w, target, front(&w.bytes, w.len)) {
+        Ok(()) => Ok(WriteEnd::Landed),
+        Err(stop) => Err(stop),
+    }
+}
+
+/// Suspends a primary that can't send to its secondary: the write waits where it is long busy from then on, or lands alone.
+fn write_parted<P: Plant>(
+    p: &mut P,
+    c: &Config,
+    j: &mut Journal,
+    h: &mut Host,
+    w: &Pending,
+    busy: bool,
+) -> Result<WriteEnd, Refusal>
+    requires rest { IsAtRest (P.state p.old) c.now }
+    requires fit { RelationsFit (P.state p.old) c.now }
+    requires told { IsTold h.old j.old.events }
+    requires defined { IsSome (place_of c.now w.now.volume.0) }
+    requires running { (P.state p.old).on (volume_seen (P.state p.old) c.now w.now.volume.0).server ≡ true }
+    requires primary { is_part (volume_seen (P.state p.old) c.now w.now.volume.0).fields.primary ≡ true }
+    requires within { w.now.track < (volume_seen (P.state p.old) c.now w.now.volume.0).tracks }
+    requires fits { w.now.offset + w.now.len ≤ 64 }
+    requires found { find (has_number w.now.w.0) h.old.pending ≡ Some w.now }
+    requires room { length c.now.volumes + 3 ≤ j.old.spare }
+    ensures carried { Ends (armed_in (P.state p.old)) (here (P.state p.new) c.now h.new j.new.events) (refusal_of result) (here (P.state p.old) c.now h.old j.old.events) (parted_entries (ids_of c.now.volumes) busy w.now.w.0 w.now.volume.0 w.now.track) }
+    ensures end { IfOk result (λ e. e ≡ end_of busy) }
+    ensures suspended { OnOk result (is_suspended (volume_seen (P.state p.new) c.now w.now.volume.0).fields.primary_state ≡ true) }
+    ensures stops { OnErr result (is_stop (refusal_of result) ≡ true) }
+    ensures rest { IsAtRest (P.state p.new) c.now }
+    ensures fit { RelationsFit (P.state p.new) c.now }
+    ensures told { IsTold h.new j.new.events }
+    ensures unarmed { (q : ℕ) → (P.state p.old).read_fuse q ≡ None → (P.state p.new).read_fuse q ≡ None }
+    ensures faults { Counted (is_err result) (P.state p.old).faults (P.state p.new).faults }
+    ensures issued { h.new.issued ≡ h.old.issued }
+    ensures room { j.old.spare ≤ j.new.spare + (length c.now.volumes + 2) }
+    ensures spare { length j.new.events + j.new.spare ≡ length j.old.events + j.old.spare }
+{
+    match suspend(p, c, j, w.volume, busy) {
+        Ok(()) => {
+            if busy {
+                return Ok(WriteEnd::Held);
+            }
+            write_alone(p, c, j, h, w)
+        }
+        Err(stop) => Err(stop),
+    }
+}
+
+/// Carries out the write on the secondary u and then on its primary, or where it can't be sent there as above.
+fn write_over<P: Plant>(
+    p: &mut P,
+    c: &Config,
+    j: &mut Journal,
+    h: &mut Host,
+    w: &Pending,
+    u: VolumeId,
+) -> Result<WriteEnd, Refusal>
+    requires rest { IsAtRest (P.state p.old) c.now }
+    requires fit { RelationsFit (P.state p.old) c.now }
+    requires told { IsTold h.old j.old.events }
+    requires defined { IsSome (place_of c.now w.now.volume.0) }
+    requires running { (P.state p.old).on (volume_seen (P.state p.old) c.now w.now.volume.0).server ≡ true }
+    requires primary { is_part (volume_seen (P.state p.old) c.now w.now.volume.0).fields.primary ≡ true }
+    requires to { IsSome (place_of c.now u.0) }
+    requires two_servers { (volume_seen (P.state p.old) c.now w.now.volume.0).server ≢ (volume_seen (P.state p.old) c.now u.0).server }
+    requires size { (volume_seen (P.state p.old) c.now u.0).tracks ≡ (volume_seen (P.state p.old) c.now w.now.volume.0).tracks }
+    requires within { w.now.track < (volume_seen (P.state p.old) c.now w.now.volume.0).tracks }
+    requires fits { w.now.offset + w.now.len ≤ 64 }
+    requires found { find (has_number w.now.w.0) h.old.pending ≡ Some w.now }
+    requires room { length c.now.volumes + (length c.now.volumes + 3) ≤ j.old.spare }
+    ensures carried { Ends (armed_in (P.state p.old)) (here (P.state p.new) c.now h.new j.new.events) (refusal_of result) (here (P.state p.old) c.now h.old j.old.events) (over_entries (ids_of c.now.volumes) (is_some (pair_entries.send_refusal w.now.volume.0 u.0 (here (P.state p.old) c.now h.old j.old.events).control)) (entries.is_grouped (here (P.state p.old) c.now h.old j.old.events).control w.now.volume.0 u.0) w.now.w.0 w.now.volume.0 w.now.track u.0) }
+    ensures end { IfOk result (λ e. e ≡ end_of (is_some (pair_entries.send_refusal w.now.volume.0 u.0 (here (P.state p.old) c.now h.old j.old.events).control) && entries.is_grouped (here (P.state p.old) c.now h.old j.old.events).control w.now.volume.0 u.0)) }
+    ensures mirrors { OnOk result (Mirrors (P.state p.new) c.now w.now.volume.0 u.0 w.now.track) }
+    ensures stops { OnErr result (is_stop (refusal_of result) ≡ true) }
+    ensures rest { IsAtRest (P.state p.new) c.now }
+    ensures fit { RelationsFit (P.state p.new) c.now }
+    ensures told { IsTold h.new j.new.events }
+    ensures unarmed { (q : ℕ) → (P.state p.old).read_fuse q ≡ None → (P.state p.new).read_fuse q ≡ None }
+    ensures faults { Counted (is_err result) (P.state p.old).faults (P.state p.new).faults }
+    ensures issued { h.new.issued ≡ h.old.issued }
+    ensures room { j.old.spare ≤ j.new.spare + (length c.now.volumes + (length c.now.volumes + 2)) }
+    ensures spare { length j.new.events + j.new.spare ≡ length j.old.events + j.old.spare }
+{
+    if send_refusal(p, c, w.volume, u).is_some() {
+        return write_parted(p, c, j, h, w, is_grouped(c, w.volume, u));
+    }
+    match write_both(p, c, j, h, w, u) {
+        Ok(()) => Ok(WriteEnd::Landed),
+        Err(stop) => Err(stop),
+    }
+}
+
+/// Carries out the write on a volume where the host may write.
+fn place_write<P: Plant>(
+    p: &mut P,
+    c: &Config,
+    j: &mut Journal,
+    h: &mut Host,
+    w: &Pending,
+) -> Result<WriteEnd, Refusal>
+    requires rest { IsAtRest (P.state p.old) c.now }
+    requires fit { RelationsFit (P.state p.old) c.now }
+    requires told { IsTold h.old j.old.events }
+    requires defined { IsSome (place_of c.now w.now.volume.0) }
+    requires running { (P.state p.old).on (volume_seen (P.state p.old) c.now w.now.volume.0).server ≡ true }
+    requires to { is_metro (volume_seen (P.state p.old) c.now w.now.volume.0).fields.primary ≡ true → IsSome (place_of c.now (volume_seen (P.state p.old) c.now w.now.volume.0).fields.primary_partner) }
+    requires two_servers { is_metro (volume_seen (P.state p.old) c.now w.now.volume.0).fields.primary ≡ true → (volume_seen (P.state p.old) c.now w.now.volume.0).server ≢ (volume_seen (P.state p.old) c.now (volume_seen (P.state p.old) c.now w.now.volume.0).fields.primary_partner).server }
+    requires size { is_metro (volume_seen (P.state p.old) c.now w.now.volume.0).fields.primary ≡ true → (volume_seen (P.state p.old) c.now (volume_seen (P.state p.old) c.now w.now.volume.0).fields.primary_partner).tracks ≡ (volume_seen (P.state p.old) c.now w.now.volume.0).tracks }
+    requires within { w.now.track < (volume_seen (P.state p.old) c.now w.now.volume.0).tracks }
+    requires fits { w.now.offset + w.now.len ≤ 64 }
+    requires found { find (has_number w.now.w.0) h.old.pending ≡ Some w.now }
+    requires room { length c.now.volumes + (length c.now.volumes + 3) ≤ j.old.spare }
+    ensures carried { Ends (armed_in (P.state p.old)) (here (P.state p.new) c.now h.new j.new.events) (refusal_of result) (here (P.state p.old) c.now h.old j.old.events) (land_entries (here (P.state p.old) c.now h.old j.old.events).control w.now.w.0 w.now.volume.0 w.now.track) }
+    ensures end { IfOk result (λ e. e ≡ end_of (waits (here (P.state p.old) c.now h.old j.old.events).control w.now.volume.0 w.now.track)) }
+    ensures mirrors { is_metro (volume_seen (P.state p.old) c.now w.now.volume.0).fields.primary ≡ true → IfOk result (λ e. e ≡ Landed → Mirrors (P.state p.new) c.now w.now.volume.0 (volume_seen (P.state p.old) c.now w.now.volume.0).fields.primary_partner w.now.track) }
+    ensures stops { OnErr result (is_stop (refusal_of result) ≡ true) }
+    ensures rest { IsAtRest (P.state p.new) c.now }
+    ensures fit { RelationsFit (P.state p.new) c.now }
+    ensures told { IsTold h.new j.new.events }
+    ensures unarmed { (q : ℕ) → (P.state p.old).read_fuse q ≡ None → (P.state p.new).read_fuse q ≡ None }
+    ensures faults { Counted (is_err result) (P.state p.old).faults (P.state p.new).faults }
+    ensures issued { h.new.issued ≡ h.old.issued }
+    ensures room { j.old.spare ≤ j.new.spare + (length c.now.volumes + (length c.now.volumes + 2)) }
+    ensures spare { length j.new.events + j.new.spare ≡ length j.old.events + j.old.spare }
+{
+    let fields = peek_fields(p, c, w.volume);
+    if is_held(&fields) {
+        return Ok(WriteEnd::Held);
+    }
+    if goes_over(&fields, w.track) {
+        return write_over(p, c, j, h, w, fields.primary_partner);
+    }
+    write_alone(p, c, j, h, w)
+}
+
+/// Carries out the write, without what follows the stop of a server.
+fn carry_write<P: Plant>(
+    p: &mut P,
+    c: &Config,
+    j: &mut Journal,
+    h: &mut Host,
+    w: &Pending,
+) -> Result<WriteEnd, Refusal>
+    requires rest { IsAtRest (P.state p.old) c.now }
+    requires fit { RelationsFit (P.state p.old) c.now }
+    requires told { IsTold h.old j.old.events }
+    requires defined { IsSome (place_of c.now w.now.volume.0) }
+    requires to { is_metro (volume_seen (P.state p.old) c.now w.now.volume.0).fields.primary ≡ true → IsSome (place_of c.now (volume_seen (P.state p.old) c.now w.now.volume.0).fields.primary_partner) }
+    requires two_servers { is_metro (volume_seen (P.state p.old) c.now w.now.volume.0).fields.primary ≡ true → (volume_seen (P.state p.old) c.now w.now.volume.0).server ≢ (volume_seen (P.state p.old) c.now (volume_seen (P.state p.old) c.now w.now.volume.0).fields.primary_partner).server }
+    requires size { is_metro (volume_seen (P.state p.old) c.now w.now.volume.0).fields.primary ≡ true → (volume_seen (P.state p.old) c.now (volume_seen (P.state p.old) c.now w.now.volume.0).fields.primary_partner).tracks ≡ (volume_seen (P.state p.old) c.now w.now.volume.0).tracks }
+    requires within { w.now.track < (volume_seen (P.state p.old) c.now w.now.volume.0).tracks }
+    requires fits { w.now.offset + w.now.len ≤ 64 }
+    requires found { find (has_number w.now.w.0) h.old.pending ≡ Some w.now }
+    requires room { length c.now.volumes + (length c.now.volumes + 3) ≤ j.old.spare }
+    ensures carried { Ends (armed_in (P.state p.old)) (here (P.state p.new) c.now h.new j.new.events) (refusal_of result) (here (P.state p.old) c.now h.old j.old.events) (landing (here (P.state p.old) c.now h.old j.old.events).control w.now.w.0 w.now.volume.0 w.now.track) }
+    ensures end { IfOk result (λ e. e ≡ end_of (waits (here (P.state p.old) c.now h.old j.old.events).control w.now.volume.0 w.now.track)) }
+    ensures mirrors { is_metro (volume_seen (P.state p.old) c.now w.now.volume.0).fields.primary ≡ true → IfOk result (λ e. e ≡ Landed → Mirrors (P.state p.new) c.now w.now.volume.0 (volume_seen (P.state p.old) c.now w.now.volume.0).fields.primary_partner w.now.track) }
+    ensures rest { IsAtRest (P.state p.new) c.now }
+    ensures fit { RelationsFit (P.state p.new) c.now }
+    ensures told { IsTold h.new j.new.events }
+    ensures unarmed { (q : ℕ) → (P.state p.old).read_fuse q ≡ None → (P.state p.new).read_fuse q ≡ None }
+    ensures faults { Counted (is_stop (refusal_of result)) (P.state p.old).faults (P.state p.new).faults }
+    ensures issued { h.new.issued ≡ h.old.issued }
+    ensures room { j.old.spare ≤ j.new.spare + (length c.now.volumes + (length c.now.volumes + 2)) }
+    ensures spare { length j.new.events + j.new.spare ≡ length j.old.events + j.old.spare }
+{
+    let server = server_of(c, w.volume);
+    if !p.is_on(server.0) {
+        return Err(Refusal::ServerOff { server });
+    }
+    if let Some(why) = write_refusal(p, c, w.volume) {
+        h.finish(w.w);
+        return Err(why);
+    }
+    place_write(p, c, j, h, w)
+}
+
+/// Carries out pending write w. Where its volume is a primary of a Metro Mirror pair, the secondary is defined, on another
+/// server and of the same size. Refused where the volume's server is off; then the write stays pending. Refused too where
+/// the volume is a secondary, or else an inhibited target, or else stands in a revertible or a reversing relationship; then
+/// the write is dropped. Where the volume is held the write waits, and nothing is done. On a Metro Mirror primary that isn't
+/// Suspended, of which the track isn't out of sync, it goes to the secondary first: the track is out of sync until both have
+/// it, the secondary stores the new bytes, and then it lands; the targets of each keep the track before it changes. Where
+/// the secondary can't be reached, or isn't that of the primary, the primary is suspended, and where the path between them
+/// has its group flag it is long busy and the write waits; else it lands on the primary alone, as it does on any other
+/// volume. A write that landed is acknowledged. Fails where a server stops in a move or goes off at a read: then the write
+/// stays pending, what was done by then stays, and a primary whose own server still runs is suspended, long busy where the
+/// path has its group flag. The first stop is the one that is given. The journal needs room for two events for each volume
+/// and five more.
+pub fn sync_write<P: Plant>(
+    p: &mut P,
+    c: &Config,
+    j: &mut Journal,
+    h: &mut Host,
+    w: &Pending,
+) -> Result<WriteEnd, Refusal>
+    requires rest { IsAtRest (P.state p.old) c.now }
+    requires fit { RelationsFit (P.state p.old) c.now }
+    requires told { IsTold h.old j.old.events }
+    requires defined { IsSome (place_of c.now w.now.volume.0) }
+    requires to { is_metro (volume_seen (P.state p.old) c.now w.now.volume.0).fields.primary ≡ true → IsSome (place_of c.now (volume_seen (P.state p.old) c.now w.now.volume.0).fields.primary_partner) }
+    requires two_servers { is_metro (volume_seen (P.state p.old) c.now w.now.volume.0).fields.primary ≡ true → (volume_seen (P.state p.old) c.now w.now.volume.0).server ≢ (volume_seen (P.state p.old) c.now (volume_seen (P.state p.old) c.now w.now.volume.0).fields.primary_partner).server }
+    requires size { is_metro (volume_seen (P.state p.old) c.now w.now.volume.0).fields.primary ≡ true → (volume_seen (P.state p.old) c.now (volume_seen (P.state p.old) c.now w.now.volume.0).fields.primary_partner).tracks ≡ (volume_seen (P.state p.old) c.now w.now.volume.0).tracks }
+    requires within { w.now.track < (volume_seen (P.state p.old) c.now w.now.volume.0).tracks }
+    requires fits { w.now.offset + w.now.len ≤ 64 }
+    requires found { find (has_number w.now.w.0) h.old.pending ≡ Some w.now }
+    requires room { length c.now.volumes + (length c.now.volumes + 5) ≤ j.old.spare }
+    ensures carried { EndsFollowed (armed_in (P.state p.old)) (here (P.state p.old) c.now h.old j.old.events) (landing (here (P.state p.old) c.now h.old j.old.events).control w.now.w.0 w.now.volume.0 w.now.track) (part_after w.now.volume.0) (here (P.state p.new) c.now h.new j.new.events) (refusal_of result) }
+    ensures end { IfOk result (λ e. e ≡ end_of (waits (here (P.state p.old) c.now h.old j.old.events).control w.now.volume.0 w.now.track)) }
+    ensures mirrors { is_metro (volume_seen (P.state p.old) c.now w.now.volume.0).fields.primary ≡ true → IfOk result (λ e. e ≡ Landed → Mirrors (P.state p.new) c.now w.now.volume.0 (volume_seen (P.state p.old) c.now w.now.volume.0).fields.primary_partner w.now.track) }
+    ensures rest { IsAtRest (P.state p.new) c.now }
+    ensures fit { RelationsFit (P.state p.new) c.now }
+    ensures told { IsTold h.new j.new.events }
+    ensures unarmed { (q : ℕ) → (P.state p.old).read_fuse q ≡ None → (P.state p.new).read_fuse q ≡ None }
+    ensures faults { Counted (is_stop (refusal_of result)) (P.state p.old).faults (P.state p.new).faults }
+    ensures issued { h.new.issued ≡ h.old.issued }
+    ensures room { j.old.spare ≤ j.new.spare + (length c.now.volumes + (length c.now.volumes + 4)) }
+    ensures spare { length j.new.events + j.new.spare ≡ length j.old.events + j.old.spare }
+{
+    match carry_write(p, c, j, h, w) {
+        Ok(end) => Ok(end),
+        Err(why) => {
+            follow_part(p, c, j, w.volume, why);
+            Err(why)
+        }
+    }
+}
