@@ -1,0 +1,2 @@
+//! Freeze and thaw of the pairs between two logical subsystems.
+#![tactic(auto)]
