@@ -11,6 +11,7 @@ use Rattle.dr_model.specs.Control as control
 use Rattle.dr_model.specs.Control.{Control}
 use Rattle.dr_model.specs.Moves as moves
 use Rattle.dr_model.specs.Plans as plans
+use Rattle.dr_model.specs.WriteEntries as writes
 use Rattle.dr_host.specs.declared.pending.Pending.{Pending}
 use Rattle.dr_host.specs.Writes.{Writes, number, has_number, is_other, bytes_of, written, marked, issue_refusal, has_owner, has_landed, landed_on}
 use Rattle.dr_host.specs.Seen.{seen}
@@ -55,7 +56,7 @@ seen-found n (p ∷ ps) =
     ]
 
 -- the first that landed on a volume of the server, where control state and table agree on which volumes are the server's
-first-landed : (t : Table) (k : Control) (s : ℕ) (ps : List Pending) → ((v : ℕ) → plans.belongs k s v ≡ has_owner t v s)
+first-landed : (t : Table) (k : Control) (s : ℕ) (ps : List Pending) → ((v : ℕ) → writes.belongs k s v ≡ has_owner t v s)
     → landed_on t s ps ≡ option_map (λ (p : control.Pending). p.w) (find (plans.has_landed k s) (map seen ps))
 first-landed t k s [] agree = refl
 first-landed t k s (p ∷ ps) agree =
@@ -65,7 +66,7 @@ first-landed t k s (p ∷ ps) agree =
     ]
     ∙ ap (λ b. option_map (λ (q : control.Pending). q.w) (cond (p.landed && b) (Some (seen p)) (find (plans.has_landed k s) (map seen ps)))) (sym (agree p.volume.0))
 
-pub seen-landed : (t : Table) (k : Control) (s : ℕ) (ps : List Pending) → k.pending ≡ map seen ps → ((v : ℕ) → plans.belongs k s v ≡ has_owner t v s)
+pub seen-landed : (t : Table) (k : Control) (s : ℕ) (ps : List Pending) → k.pending ≡ map seen ps → ((v : ℕ) → writes.belongs k s v ≡ has_owner t v s)
     → landed_on t s ps ≡ plans.landed_on k s
 seen-landed t k s ps is agree = first-landed t k s ps agree ∙ ap (λ qs. option_map (λ (p : control.Pending). p.w) (find (plans.has_landed k s) qs)) (sym is)
 
