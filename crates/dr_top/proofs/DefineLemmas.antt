@@ -41,7 +41,7 @@ use Rattle.dr_ids.specs.declared.refusal.Fault.TheVariants.{NoMemory, Refused as
 use Rattle.dr_model.specs.declared.said.Said.{Said}
 use Rattle.dr_top.specs.Here.{here, IsReady, OnAnswer}
 use Rattle.dr_flash.specs.Here.{IsAtRest}
-use Rattle.dr_top.proofs.ToldLemmas.{told-push}
+use Rattle.dr_metro.proofs.ToldLemmas.{told-push}
 use Rattle.dr_top.proofs.LocatedLemmas.{is_volume-here}
 use Rattle.dr_top.proofs.StartLemmas.{some_or_none}
 use Rattle.dr_top.proofs.StopLemmas.{known-server}

@@ -27,7 +27,7 @@ use Rattle.dr_volume.proofs.UnreadLaws.{Unread, unread, armed-of, lies-low}
 use Rattle.dr_host.specs.Writes.{Writes, Each}
 use Rattle.dr_flash.specs.Fit.{RelationsFit}
 use Rattle.dr_flash.proofs.FitLemmas.{target-no_source}
-use Rattle.dr_top.proofs.ToldLemmas.{IsWrite}
+use Rattle.dr_metro.proofs.ToldLemmas.{IsWrite}
 use Rattle.dr_model.specs.declared.event.Event.{Event}
 use Rattle.dr_top.specs.Here.{IsReady, IsTold, said_of}
 use Rattle.dr_flash.specs.Here.{IsAtRest, armed_in, refusal_of}

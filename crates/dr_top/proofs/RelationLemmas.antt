@@ -1,4 +1,4 @@
--- In a sound world the relationships of the plant fit.
+-- In a sound world the relationships of the plant fit, and so do the secondaries of its Metro Mirror primaries.
 use Rattle.std.proofs.Common.{ℕ, ◌≡◌, Bool, true, false, List, refl, sym, ◌∙◌, ap, Some, None}
 use Rattle.std.specs.Prelude.{is_some, if◌then◌else◌}
 use Rattle.dr_plant.specs.State.{PlantState}
@@ -8,9 +8,13 @@ use Rattle.dr_host.specs.Writes.{Writes}
 use Rattle.dr_model.specs.declared.event.Event.{Event}
 use Rattle.dr_model.specs.Control.{is_volume}
 use Rattle.dr_model.specs.Laws.{Sound}
+use Rattle.dr_model.specs.Layout.{is_part}
+use Rattle.dr_model.specs.Pairs.{is_metro}
 use Rattle.dr_volume.specs.View.{volume_seen}
 use Rattle.dr_flash.specs.Fit.{RelationsFit}
+use Rattle.dr_metro.proofs.SyncLemmas.{metro-part}
 use Rattle.dr_top.specs.Here.{here}
+use Rattle.dr_top.specs.Waiting.{PartnersFit}
 use Rattle.dr_top.proofs.LocatedLemmas.{is_volume-here, some_entry}
 
 -- a volume of the machine lies on a device
@@ -36,3 +40,16 @@ relations-fit s t h ev sound = record {
       };
   apart = λ v k held. (sound.rows.structure.sets v).apart k held;
 }
+
+pub partners-fit : (s : PlantState) (t : Table) (h : Writes) (ev : List Event) → Sound (here s t h ev) → PartnersFit s t
+partners-fit s t h ev sound = record {
+  defined = λ v metro. placed-here s t h ev (to v) (sound.rows.parts.secondary v (to v) (its v metro)).defined;
+  apart = λ v metro. (sound.rows.parts.secondary v (to v) (its v metro)).apart;
+  same_tracks = λ v metro. sym (sound.rows.parts.secondary v (to v) (its v metro)).same_tracks;
+}
+  where
+    to : ℕ → ℕ
+    to v = (volume_seen s t v).fields.primary_partner
+
+    its : (v : ℕ) → is_metro (volume_seen s t v).fields.primary ≡ true → (if is_part (volume_seen s t v).fields.primary then Some (to v) else None) ≡ Some (to v)
+    its v metro = ap (λ b. if b then Some (to v) else None) (metro-part (volume_seen s t v).fields.primary metro)

@@ -24,7 +24,7 @@ use Rattle.dr_host.proofs.Each.{each-push, each-found, named-found}
 use Rattle.dr_model.specs.declared.event.Event.{Event}
 use Rattle.dr_model.specs.declared.event.Event.TheVariants.{Shown, Issue}
 use Rattle.dr_model.specs.declared.said.Said.{Said}
-use Rattle.dr_model.specs.declared.said.Said.TheVariants.{Done, Refused}
+use Rattle.dr_model.specs.declared.said.Said.TheVariants.{Done, Held, Refused}
 use Rattle.dr_model.specs.declared.said.Addition.{Addition}
 use Rattle.dr_model.specs.declared.said.Addition.TheVariants.{Showed, Wrote}
 use Rattle.dr_model.specs.Limits.{most_pending}
@@ -32,32 +32,38 @@ use Rattle.dr_model.specs.Refusals.{server_off, unknown, over}
 use Rattle.dr_model.specs.Contents.{image_at}
 use Rattle.dr_model.specs.Control.{World, is_volume}
 use Rattle.dr_model.specs.Laws.{Sound}
-use Rattle.dr_model.specs.Entries.{is_running, is_no_secondary, is_open, is_settled, relation_state, drop_unless, check_or_drop, copy_first, land_on, landing}
-use Rattle.dr_ids.specs.declared.refusal.Refusal.TheVariants.{Inhibited, NotPrimary, Stopped}
-use Rattle.dr_model.specs.Plans.{Plan, unless, same, track_refusal, issue_refusal, show_done, show_plan, with_pending, issue_then, write_done, apply_done, apply_on, apply_plan}
+use Rattle.dr_model.specs.Entries.{is_running}
+use Rattle.dr_model.specs.WriteEntries.{landing, says_written, part_after}
+use Rattle.dr_ids.specs.declared.refusal.Refusal.TheVariants.{Stopped}
+use Rattle.dr_model.specs.Plans.{Plan, unless, same, track_refusal, issue_refusal, show_done, show_plan, with_pending, issue_done, write_done, apply_done, apply_on, apply_plan}
 use Rattle.dr_model.specs.Moves as moves
 use Rattle.dr_model.specs.Control.{Control}
-use Rattle.dr_model.specs.Carry.{Drop, Do, Pass, Entry, act, dropped, carry, check}
+use Rattle.dr_model.specs.Carry.{Entry, follow}
 use Rattle.dr_model.specs.Histories.{Histories, Write, histories}
 use Rattle.dr_model.specs.Runs.{after_plan, begun, said}
 use Rattle.dr_model.specs.Tables.{at}
 use Rattle.dr_model.proofs.Images.{histories-push, at_same, at_other}
-use Rattle.dr_model.proofs.CarryLemmas.{carry-none, carry-skips, carry-goes, carry-passed, carry-refused, plan-ends, plan-tables, plan-refuses, plan-fails}
+use Rattle.dr_model.proofs.CarryLemmas.{carry-none, plan-ends, plan-tables, plan-refuses}
 use Rattle.dr_laws.proofs.Agree.{view-image}
 use Rattle.dr_laws.proofs.Lands.{found-waits}
-use Rattle.dr_volume.specs.View.{on_seen, volume_seen, ids_of}
+use Rattle.dr_volume.specs.View.{on_seen, volume_seen, ReadsPass}
 use Rattle.dr_flash.specs.Checks.{is_stop}
 use Rattle.dr_flash.specs.Views.{view_seen}
-use Rattle.dr_flash.specs.HostWrites.{write_refusal}
-use Rattle.dr_top.specs.Here.{here, said_of, ended_by, OnAnswer, OnRefused, IsTold}
+use Rattle.dr_flash.specs.Here.{refusal_of, armed_in}
+use Rattle.dr_gcopy.specs.Followed.{EndsFollowed, Follows}
+use Rattle.dr_metro.specs.Syncing.{end_of}
+use Rattle.dr_metro.specs.declared.sync.WriteEnd.{WriteEnd}
+use Rattle.dr_metro.specs.declared.sync.WriteEnd.TheVariants.{Landed, Held as Waits}
+use Rattle.dr_top.specs.Here.{here, answered_by, OnAnswer, OnSaid, OnRefused, IsTold}
 use Rattle.dr_ids.specs.declared.refusal.Kind.{Kind}
 use Rattle.dr_top.specs.Faults.{Counted, Counts, is_stopped}
-use Rattle.dr_top.specs.Waiting.{IsIssued}
+use Rattle.dr_top.specs.Waiting.{IsIssued, written_as}
 use Rattle.dr_top.specs.declared.steps.HostWrite.{HostWrite}
 use Rattle.dr_top.specs.declared.locate.Place.{Place}
 use Rattle.dr_top.specs.Located.{IsPlace}
+use Rattle.dr_top.proofs.LandLemmas.{exact}
 use Rattle.dr_top.proofs.LocatedLemmas.{is_volume-here, mapped_some, seen-entry}
-use Rattle.dr_top.proofs.ToldLemmas.{IsWrite}
+use Rattle.dr_metro.proofs.ToldLemmas.{IsWrite}
 
 -- of a server that may be there
 pub on-known : (s : PlantState) (server : ℕ) → server < 8 → on_seen s server ≡ s.on server
@@ -79,25 +85,6 @@ there-is s t h ev v k none =
         ] refl e,
       )
     ] refl none
-
-act-drop : (w : World) (n : ℕ) → act w (Drop n) ≡ (dropped w n, None)
-unfolding act
-act-drop w n = refl
-
--- what passes drops nothing, and what doesn't drops the write and ends all
-passes-check : (w : World) (n : ℕ) (ok : Control → Bool) (r : Refusal) (ds : List Entry) → ok w.control ≡ true → carry w (check_or_drop n ok r ++ ds) ≡ carry w ds
-passes-check w n ok r ds is = carry-skips w (drop_unless n ok) (check ok r ∷ ds) (ap (λ b. cond b Pass (Do (Drop n))) is) ∙ carry-passed w ok r ds is
-
-drops-check : (w : World) (n : ℕ) (ok : Control → Bool) (r : Refusal) (ds : List Entry) → ok w.control ≡ false → ok (dropped w n).control ≡ false → carry w (check_or_drop n ok r ++ ds) ≡ (dropped w n, Some r)
-drops-check w n ok r ds is still =
-    carry-goes w (dropped w n) (drop_unless n ok) (check ok r ∷ ds) (Drop n) (ap (λ b. cond b Pass (Do (Drop n))) is) (act-drop w n)
-    ∙ carry-refused (dropped w n) ok r ds still
-
-may-write : (p o q : Bool) (a b d : Refusal) → (if not p then Some d else if not o then Some b else if not q then Some a else None) ≡ None → (p ≡ true) × (o ≡ true) × (q ≡ true)
-may-write true true true a b d e = (refl, refl, refl)
-may-write true true false a b d e = absurd (cc)
-may-write true false q a b d e = absurd (cc)
-may-write false o q a b d e = absurd (cc)
 
 -- a refusal that says no stop
 pub is_stopped-alike : (r : Refusal) → is_stopped (Refused r) ≡ is_stop (Some r)
@@ -138,41 +125,34 @@ module _ (s : PlantState) (t : Table) (h : Writes) (ev : List Event) (line v k :
       ∙ ap (λ x. said (here s t h (ev ++ Shown line v x bytes ∷ [])) line (Done Showed)) (sym at.track)
       ∙ ap (λ x. said (here s t h x) line (Done Showed)) (sym shown)
 
-  -- what comes once a write may land
-  abbrev pub kept_landing : ℕ → List Entry
-  kept_landing n = copy_first (ids_of t.volumes) v k ++ land_on n v k ∷ []
+-- what is answered of a host write that was carried out
+pub written-end : (n : ℕ) (waits : Bool) → written_as n (end_of waits) ≡ (if waits then Held n else Done (Wrote n))
+written-end n true = refl
+written-end n false = refl
 
-  abbrev pub places : ℕ → List Entry
-  places n = check_or_drop n (is_no_secondary v) (NotPrimary (record { 0 = v })) ++ (check_or_drop n (is_open v) (Inhibited (record { 0 = v })) ++ (check_or_drop n (is_settled v) (relation_state w.control v) ++ kept_landing n))
+pub written-calm : (n : ℕ) (end : WriteEnd) → is_stopped (written_as n end) ≡ false
+written-calm n Landed = refl
+written-calm n Waits = refl
 
-  -- a pending write whose server is off stays pending
-  pub lands-off : (n server : ℕ) → (volume_seen s t v).server ≡ server → server < 8 → s.on server ≡ false → carry w (landing w.control n v k) ≡ (w, Some (server_off server))
-  lands-off n server owner known off =
-      carry-refused w (is_running v) (server_off (volume_seen s t v).server) (places n) (running-known s t h ev v server owner known ∙ off)
-      ∙ ap (λ x. (w, Some (server_off x))) owner
+pub calm-counts : (a : Said) (s u : PlantState) → is_stopped a ≡ false → u.faults ≡ s.faults → Counts a s u
+calm-counts a s u calm same = subst (λ b. Counted b s.faults u.faults) (sym calm) same
 
-  running : (n server : ℕ) → (volume_seen s t v).server ≡ server → server < 8 → s.on server ≡ true → carry w (landing w.control n v k) ≡ carry w (places n)
-  running n server owner known on = carry-passed w (is_running v) (server_off (volume_seen s t v).server) (places n) (running-known s t h ev v server owner known ∙ on)
+-- where no read fuse is armed, what follows a stop is what the plan says
+follows-to : (s : PlantState) (pass : ReadsPass s) (follows : ℕ → List Entry) (v u : World) (r : Refusal) → Follows (armed_in s) v (Some r) follows u → follow v r follows ≡ u
+follows-to s pass follows v u (Stopped server) so = ap (λ (o : World × Option Refusal). o.0) (exact s u so.refusal v (follows server.0) pass so.ends)
+follows-to s pass follows v u _ same = sym same
 
-  -- where the host may write there, it lands behind copy first
-  pub lands-on : (n server : ℕ) → (volume_seen s t v).server ≡ server → server < 8 → s.on server ≡ true → write_refusal w.control v ≡ None → carry w (landing w.control n v k) ≡ carry w (kept_landing n)
-  lands-on n server owner known on free =
-      let all = may-write (is_no_secondary v w.control) (is_open v w.control) (is_settled v w.control) _ _ _ free in
-      running n server owner known on
-      ∙ passes-check w n (is_no_secondary v) _ _ all.0
-      ∙ passes-check w n (is_open v) _ _ all.1
-      ∙ passes-check w n (is_settled v) _ _ all.2
-
-  -- elsewhere it is dropped
-  pub lands-nowhere : (n server : ℕ) (r : Refusal) → (volume_seen s t v).server ≡ server → server < 8 → s.on server ≡ true → write_refusal w.control v ≡ Some r → carry w (landing w.control n v k) ≡ (dropped w n, Some r)
-  lands-nowhere n server r owner known on why = running n server owner known on ∙ by (is_no_secondary v w.control) (is_open v w.control) (is_settled v w.control) refl refl refl why
-    where
-      by : (p o q : Bool) → is_no_secondary v w.control ≡ p → is_open v w.control ≡ o → is_settled v w.control ≡ q
-          → (if not p then Some (NotPrimary (record { 0 = v })) else if not o then Some (Inhibited (record { 0 = v })) else if not q then Some (relation_state w.control v) else None) ≡ Some r → carry w (places n) ≡ (dropped w n, Some r)
-      by false o q first is there e = drops-check w n (is_no_secondary v) _ _ first first ∙ ap (λ x. (dropped w n, x)) e
-      by true false q first is there e = passes-check w n (is_no_secondary v) _ _ first ∙ drops-check w n (is_open v) _ _ is is ∙ ap (λ x. (dropped w n, x)) e
-      by true true false first is there e = passes-check w n (is_no_secondary v) _ _ first ∙ passes-check w n (is_open v) _ _ is ∙ drops-check w n (is_settled v) _ _ there there ∙ ap (λ x. (dropped w n, x)) e
-      by true true true first is there e = absurd (cc)
+-- a plan that was carried out, with what follows a stop in it
+pub followed-leads : (s : PlantState) (pass : ReadsPass s) (w u : World) (line : ℕ) (p : Plan) (result : Result Said Refusal) → ((k : Control) → p.last k ≡ k)
+    → EndsFollowed (armed_in s) (begun w p) p.entries p.follows u (refusal_of result) → ((k : Control) → IfOk result (λ a. a ≡ p.says k)) → after_plan w line p ≡ said u line (answered_by result)
+followed-leads s pass w u line p (Ok a) last ended says =
+    plan-ends w line p (ended.middle, None) (exact s ended.middle None (begun w p) p.entries pass ended.ends)
+    ∙ ap (λ (k : Control). said (record ended.middle { control = k }) line (p.says k)) (last ended.middle.control)
+    ∙ ap (λ a. said ended.middle line a) (sym (says ended.middle.control))
+    ∙ ap (λ (v : World). said v line a) (sym ended.followed)
+followed-leads s pass w u line p (Err r) last ended says =
+    plan-ends w line p (ended.middle, Some r) (exact s ended.middle (Some r) (begun w p) p.entries pass ended.ends)
+    ∙ ap (λ (v : World). said v line (Refused r)) (follows-to s pass p.follows ended.middle u r ended.followed)
 
 -- why a write isn't issued
 module _ (s : PlantState) (t : Table) (h : Writes) (ev : List Event) (v k : ℕ) where
@@ -194,12 +174,19 @@ pub fault-answers : (T : Type 0) (e : Fault) (P : Refusal → Type 0) (Q : Said 
 fault-answers T NoMemory P Q f is = tt
 fault-answers T (FaultRefused r) P Q f is = f r is
 
+pub fault-says : (T : Type 0) (e : Fault) (P : Refusal → Type 0) (Q : Said → Type 0) → ((r : Refusal) → P r → Q (Refused r)) → OnRefused {T = T} (Err e) P → OnSaid (Err e) Q
+fault-says T NoMemory P Q f is = tt
+fault-says T (FaultRefused r) P Q f is = f r is
+
 -- a plan that a refusal comes before
 pub plan-unless : (w : World) (line : ℕ) (p : Plan) (o : Option Refusal) (r : Refusal) → o ≡ Some r → after_plan w line (unless o p) ≡ said w line (Refused r)
 plan-unless w line p o r is = ap (λ o. after_plan w line (unless o p)) is ∙ plan-refuses w line r
 
 pub plan-free : (w u : World) (line : ℕ) (p : Plan) (o : Option Refusal) → o ≡ None → after_plan w line p ≡ u → after_plan w line (unless o p) ≡ u
 plan-free w u line p o none is = ap (λ o. after_plan w line (unless o p)) none ∙ is
+
+some-same : {T : Type 0} {x y : T} → Some x ≡ Some y → x ≡ y
+some-same {x = x} e = subst (λ o. IfSome o (λ z. x ≡ z)) e refl
 
 -- a write that was issued
 module _ (s : PlantState) (t : Table) (h h' : Writes) (ev mid : List Event) (x : HostWrite) (n : ℕ) (issued : IsIssued t h ev h' mid x n) where
@@ -217,22 +204,30 @@ module _ (s : PlantState) (t : Table) (h h' : Writes) (ev mid : List Event) (x :
       (λ i. record w' { control = record w'.control { issued = h.issued + 1; pending = sym (seen-push h.pending (h.issued + 1) v x.track x.offset bytes) i }; events = ev ++ Issue (sym issued.number i) v x.track x.offset x.len x.bytes ∷ [] })
       ∙ (λ i. here s t (sym issued.host i) (sym issued.told i))
 
-  pub issued-stays : (line : ℕ) → after_plan w' line (unless (issue_refusal w'.control v x.track) (issue_then [] w'.control v x.track x.offset x.len x.bytes)) ≡ said (here s t h' mid) line (Done (Wrote n))
+  pub issued-stays : (line : ℕ) → after_plan w' line (unless (issue_refusal w'.control v x.track) (issue_done w'.control v x.track x.offset x.len x.bytes)) ≡ said (here s t h' mid) line (Done (Wrote n))
   issued-stays line =
-      plan-free w' _ line (issue_then [] w'.control v x.track x.offset x.len x.bytes) (issue_refusal w'.control v x.track) (issued.free s) (
-      plan-ends w' line (issue_then [] w'.control v x.track x.offset x.len x.bytes) _ (carry-none _)
+      plan-free w' _ line (issue_done w'.control v x.track x.offset x.len x.bytes) (issue_refusal w'.control v x.track) (issued.free s) (
+      plan-ends w' line (issue_done w'.control v x.track x.offset x.len x.bytes) _ (carry-none _)
       ∙ ap (λ u. said u line (Done (Wrote (h.issued + 1)))) issued-begun ∙ ap (λ m. said (here s t h' mid) line (Done (Wrote m))) (sym issued.number))
 
-  pub issued-lands : (line : ℕ) (u : World) (result : Result Addition Refusal) → carry (here s t h' mid) (landing (here s t h' mid).control n v x.track) ≡ (u, ended_by result) → IfOk result (λ a. a ≡ Wrote n)
-      → after_plan w' line (unless (issue_refusal w'.control v x.track) (write_done w'.control v x.track x.offset x.len x.bytes)) ≡ said u line (said_of result)
-  issued-lands line u result carried wrote = plan-free w' _ line p (issue_refusal w'.control v x.track) (issued.free s) (by result (ap (λ y. carry y p.entries) issued-begun ∙ ap (λ m. carry (here s t h' mid) (landing w'.control m v x.track)) (sym issued.number) ∙ carried) wrote)
-    where
-      p : Plan
-      p = write_done w'.control v x.track x.offset x.len x.bytes
+  -- the write that was found is that one, and its track is there
+  is-written : (p : Pending) → find (has_number n) h'.pending ≡ Some p → written n v x.track x.offset bytes ≡ p
+  is-written p found = some-same (sym issued.found ∙ found)
 
-      by : (result : Result Addition Refusal) → carry (begun w' p) p.entries ≡ (u, ended_by result) → IfOk result (λ a. a ≡ Wrote n) → after_plan w' line p ≡ said u line (said_of result)
-      by (Ok a) is wrote = plan-ends w' line p (u, None) is ∙ ap (λ m. said u line (Done (Wrote m))) (sym issued.number) ∙ ap (λ a. said u line (Done a)) (sym wrote)
-      by (Err r) is wrote = plan-fails w' u line p r (λ s. refl) is
+  pub issued-there : (p : Pending) → find (has_number n) h'.pending ≡ Some p → track_refusal (here s t h' mid).control p.volume.0 p.track ≡ None
+  issued-there p found = subst (λ (p : Pending). track_refusal (here s t h' mid).control p.volume.0 p.track ≡ None) (is-written p found) (issued.there s)
+
+  -- it is carried out
+  pub issued-lands : ReadsPass s → (line : ℕ) (u : World) (result : Result Said Refusal) (p : Pending) → find (has_number n) h'.pending ≡ Some p
+      → EndsFollowed (armed_in s) (here s t h' mid) (landing (here s t h' mid).control p.w.0 p.volume.0 p.track) (part_after p.volume.0) u (refusal_of result) → IfOk result (λ a. a ≡ says_written (here s t h' mid).control p.w.0 p.volume.0 p.track)
+      → after_plan w' line (unless (issue_refusal w'.control v x.track) (write_done w'.control v x.track x.offset x.len x.bytes)) ≡ said u line (answered_by result)
+  issued-lands pass line u result p found ended says =
+      let is : p ≡ written (h.issued + 1) v x.track x.offset bytes = sym (is-written p found) ∙ ap (λ m. written m v x.track x.offset bytes) issued.number in
+      plan-free w' _ line (write_done w'.control v x.track x.offset x.len x.bytes) (issue_refusal w'.control v x.track) (issued.free s)
+      (followed-leads s pass w' u line (write_done w'.control v x.track x.offset x.len x.bytes) result (λ k. refl)
+      (subst (λ (y : World). EndsFollowed (armed_in s) y (landing w'.control (h.issued + 1) v x.track) (part_after v) u (refusal_of result)) (sym issued-begun)
+      (subst (λ (p : Pending). EndsFollowed (armed_in s) (here s t h' mid) (landing w'.control p.w.0 p.volume.0 p.track) (part_after p.volume.0) u (refusal_of result)) is ended))
+      (λ k. subst (λ (p : Pending). IfOk result (λ a. a ≡ says_written w'.control p.w.0 p.volume.0 p.track)) is says))
 
 -- the write that is applied
 module _ (s : PlantState) (t : Table) (h : Writes) (ev : List Event) (line n : ℕ) where
@@ -256,21 +251,14 @@ module _ (s : PlantState) (t : Table) (h : Writes) (ev : List Event) (line n : �
       ap (λ b. cond (not b) (Some (unknown OfVolume)) (cond (nat_lt p.track (volume_seen s t p.volume.0).tracks) None (Some (unknown OfTrack)))) waits.defined
       ∙ ap (λ b. cond b None (Some (unknown OfTrack))) (lt_true p.track (volume_seen s t p.volume.0).tracks waits.low)
 
-  pub applied-lands : (u : World) (result : Result Addition Refusal) → is_some (find (has_number n) h.pending) ≡ true
-      → ((p : Pending) → find (has_number n) h.pending ≡ Some p → carry w'' (landing w''.control n p.volume.0 p.track) ≡ (u, ended_by result)) → IfOk result (λ a. a ≡ Wrote n)
-      → after_plan w'' line (apply_plan w''.control n) ≡ said u line (said_of result)
-  applied-lands u result some carried wrote = by (find (has_number n) h.pending) refl some
-    where
-      ends : (p : Pending) (result : Result Addition Refusal) → p.w.0 ≡ n → carry w'' (landing w''.control n p.volume.0 p.track) ≡ (u, ended_by result) → IfOk result (λ a. a ≡ Wrote n)
-          → after_plan w'' line (apply_done w''.control (seen p)) ≡ said u line (said_of result)
-      ends p (Ok a) named is wrote = plan-ends w'' line (apply_done w''.control (seen p)) (u, None) (ap (λ es. carry (record w'' { events = es }) (landing w''.control p.w.0 p.volume.0 p.track)) (append-nil ev) ∙ ap (λ m. carry w'' (landing w''.control m p.volume.0 p.track)) named ∙ is) ∙ ap (λ m. said u line (Done (Wrote m))) named ∙ ap (λ a. said u line (Done a)) (sym wrote)
-      ends p (Err r) named is wrote = plan-fails w'' u line (apply_done w''.control (seen p)) r (λ s. refl) (ap (λ es. carry (record w'' { events = es }) (landing w''.control p.w.0 p.volume.0 p.track)) (append-nil ev) ∙ ap (λ m. carry w'' (landing w''.control m p.volume.0 p.track)) named ∙ is)
-
-      by : (o : Option Pending) → find (has_number n) h.pending ≡ o → is_some o ≡ true → after_plan w'' line (apply_plan w''.control n) ≡ said u line (said_of result)
-      by None is e = absurd (cc)
-      by (Some p) is e =
-          ap (λ o. after_plan w'' line (apply_on w''.control o)) (found-by (Some p) is)
-          ∙ ends p result (subst (λ o. IfSome o (λ p. number p ≡ n)) is (named-found n h.pending)) (carried p is) wrote
+  pub applied-lands : ReadsPass s → (u : World) (result : Result Said Refusal) (p : Pending) → find (has_number n) h.pending ≡ Some p
+      → EndsFollowed (armed_in s) w'' (landing w''.control p.w.0 p.volume.0 p.track) (part_after p.volume.0) u (refusal_of result) → IfOk result (λ a. a ≡ says_written w''.control p.w.0 p.volume.0 p.track)
+      → after_plan w'' line (apply_plan w''.control n) ≡ said u line (answered_by result)
+  applied-lands pass u result p is ended says =
+      ap (λ o. after_plan w'' line (apply_on w''.control o)) (found-by (Some p) is)
+      ∙ followed-leads s pass w'' u line (apply_done w''.control (seen p)) result (λ k. refl)
+      (subst (λ es. EndsFollowed (armed_in s) (record w'' { events = es }) (landing w''.control p.w.0 p.volume.0 p.track) (part_after p.volume.0) u (refusal_of result)) (sym (append-nil ev)) ended)
+      (λ k. says)
 
 -- a track that isn't there stops no server
 pub calm-nowhere : (s : PlantState) (t : Table) (h : Writes) (ev : List Event) (v k : ℕ) (r : Refusal) (u : PlantState) → track_refusal (here s t h ev).control v k ≡ Some r → Counts (Refused r) u u

@@ -17,11 +17,9 @@ use Rattle.dr_model.specs.declared.said.Said.{Said}
 use Rattle.dr_model.specs.declared.said.Said.TheVariants.{Done, Held, Refused}
 use Rattle.dr_model.specs.declared.step.Name.{Name}
 use Rattle.dr_model.specs.declared.step.Step.{Step}
-use Rattle.dr_model.specs.declared.step.Step.TheVariants.{Server, Volume, Link, Stop, StopAfter, Start, Issue, Write, Apply, Show, MakeFlash, RemoveFlash, ResyncFlash, ReverseFlash, Copy, MakePath, RemovePath, MakePair, RemovePair, PausePair, ResumePair, Drain}
+use Rattle.dr_model.specs.declared.step.Step.TheVariants.{Server, Volume, Link, Stop, StopAfter, Start, Issue, Write, Apply, Show, MakeFlash, RemoveFlash, ResyncFlash, ReverseFlash, Copy, MakePath, RemovePath, MakePair, RemovePair, PausePair, ResumePair, Drain, Expire, Freeze, Unfreeze}
 use Rattle.dr_model.specs.declared.step.TornWord.{TornWord}
 use Rattle.dr_model.specs.declared.step.Devs.{Devs}
-use Rattle.dr_model.specs.declared.state.Part.TheVariants.{Global}
-use Rattle.dr_model.specs.Layout.{part_of}
 use Rattle.dr_top.specs.Forms.{is_plain, is_relation}
 use Rattle.dr_model.specs.Answers.{answer}
 use Rattle.dr_model.specs.Control.{World}
@@ -36,7 +34,7 @@ use Rattle.dr_top.specs.Faults.{Counted, is_stop, told_stop, is_stopped}
 use Rattle.dr_top.specs.Here.{here, IsTold}
 use Rattle.dr_top.proofs.ReachLemmas.{told-answer}
 
--- a step of another form is none of those on servers, volumes, paths and host writes
+-- a step of another form is none of those on servers, volumes, paths and host writes, and no freeze or thaw
 pub none-plain : (step : Step)
     → ((n : Name) → step ≡ Server n → ⊥)
     → ((v : ℕ) (n : Name) (t : ℕ) → step ≡ Volume v n t → ⊥)
@@ -50,20 +48,26 @@ pub none-plain : (step : Step)
     → ((n : Name) → step ≡ Start n → ⊥)
     → ((d : Devs) (s t : ℕ) (g : Bool) → step ≡ MakePath d s t g → ⊥)
     → ((d : Devs) (s t : ℕ) (f : Bool) → step ≡ RemovePath d s t f → ⊥)
+    → ((n : Name) → step ≡ Expire n → ⊥)
+    → ((d : Devs) (l m : ℕ) → step ≡ Freeze d l m → ⊥)
+    → ((d : Devs) (l m : ℕ) → step ≡ Unfreeze d l m → ⊥)
     → is_plain step ≡ false
-none-plain (Server n) server volume link issue write apply show stop arm start path unpath = absurd (server n refl)
-none-plain (Volume v n t) server volume link issue write apply show stop arm start path unpath = absurd (volume v n t refl)
-none-plain (Link a b up) server volume link issue write apply show stop arm start path unpath = absurd (link a b up refl)
-none-plain (Issue v t o l b) server volume link issue write apply show stop arm start path unpath = absurd (issue v t o l b refl)
-none-plain (Write v t o l b) server volume link issue write apply show stop arm start path unpath = absurd (write v t o l b refl)
-none-plain (Apply n) server volume link issue write apply show stop arm start path unpath = absurd (apply n refl)
-none-plain (Show v t) server volume link issue write apply show stop arm start path unpath = absurd (show v t refl)
-none-plain (Stop n) server volume link issue write apply show stop arm start path unpath = absurd (stop n refl)
-none-plain (StopAfter n x torn) server volume link issue write apply show stop arm start path unpath = absurd (arm n x torn refl)
-none-plain (Start n) server volume link issue write apply show stop arm start path unpath = absurd (start n refl)
-none-plain (MakePath d s t g) server volume link issue write apply show stop arm start path unpath = absurd (path d s t g refl)
-none-plain (RemovePath d s t f) server volume link issue write apply show stop arm start path unpath = absurd (unpath d s t f refl)
-none-plain _ server volume link issue write apply show stop arm start path unpath = refl
+none-plain (Server n) server volume link issue write apply show stop arm start path unpath expire freeze thaw = absurd (server n refl)
+none-plain (Volume v n t) server volume link issue write apply show stop arm start path unpath expire freeze thaw = absurd (volume v n t refl)
+none-plain (Link a b up) server volume link issue write apply show stop arm start path unpath expire freeze thaw = absurd (link a b up refl)
+none-plain (Issue v t o l b) server volume link issue write apply show stop arm start path unpath expire freeze thaw = absurd (issue v t o l b refl)
+none-plain (Write v t o l b) server volume link issue write apply show stop arm start path unpath expire freeze thaw = absurd (write v t o l b refl)
+none-plain (Apply n) server volume link issue write apply show stop arm start path unpath expire freeze thaw = absurd (apply n refl)
+none-plain (Show v t) server volume link issue write apply show stop arm start path unpath expire freeze thaw = absurd (show v t refl)
+none-plain (Stop n) server volume link issue write apply show stop arm start path unpath expire freeze thaw = absurd (stop n refl)
+none-plain (StopAfter n x torn) server volume link issue write apply show stop arm start path unpath expire freeze thaw = absurd (arm n x torn refl)
+none-plain (Start n) server volume link issue write apply show stop arm start path unpath expire freeze thaw = absurd (start n refl)
+none-plain (MakePath d s t g) server volume link issue write apply show stop arm start path unpath expire freeze thaw = absurd (path d s t g refl)
+none-plain (RemovePath d s t f) server volume link issue write apply show stop arm start path unpath expire freeze thaw = absurd (unpath d s t f refl)
+none-plain (Expire n) server volume link issue write apply show stop arm start path unpath expire freeze thaw = absurd (expire n refl)
+none-plain (Freeze d l m) server volume link issue write apply show stop arm start path unpath expire freeze thaw = absurd (freeze d l m refl)
+none-plain (Unfreeze d l m) server volume link issue write apply show stop arm start path unpath expire freeze thaw = absurd (thaw d l m refl)
+none-plain _ server volume link issue write apply show stop arm start path unpath expire freeze thaw = refl
 
 -- or none of those on relationships
 pub none-relation : (step : Step)
@@ -100,6 +104,9 @@ none-else (StopAfter n x torn) plain relation built make end pause resume drain 
 none-else (Start n) plain relation built make end pause resume drain = absurd cc
 none-else (MakePath d s t g) plain relation built make end pause resume drain = absurd cc
 none-else (RemovePath d s t f) plain relation built make end pause resume drain = absurd cc
+none-else (Expire n) plain relation built make end pause resume drain = absurd cc
+none-else (Freeze d l m) plain relation built make end pause resume drain = absurd cc
+none-else (Unfreeze d l m) plain relation built make end pause resume drain = absurd cc
 none-else (MakeFlash d s t a b c e n) plain relation built make end pause resume drain = absurd cc
 none-else (RemoveFlash d s t n) plain relation built make end pause resume drain = absurd cc
 none-else (ResyncFlash d s t a b c e n) plain relation built make end pause resume drain = absurd cc
@@ -111,10 +118,6 @@ none-else (PausePair d a b) plain relation built make end pause resume drain = a
 none-else (ResumePair d a b k) plain relation built make end pause resume drain = absurd (resume d a b k refl)
 none-else (Drain a most) plain relation built make end pause resume drain = absurd (drain a most refl)
 none-else _ plain relation built make end pause resume drain = absurd cc
-
--- a pair of a form that is built is one of Global Copy
-pub global-kind : (kind : ℕ) → nat_eq kind 2 ≡ true → part_of kind ≡ Global
-global-kind kind is = ap part_of (eqb-true kind 2 is)
 
 -- the room that is left, counted either way
 pub room-left : (n : ℕ) → nat_le n 995904 ≡ nat_le (n + 4096) 1000000

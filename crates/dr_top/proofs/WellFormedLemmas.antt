@@ -8,13 +8,13 @@ use Rattle.std.proofs.lemmas.Bool.Decides.{nat_tests}
 use Rattle.dr_model.specs.declared.step.Name.{Name}
 use Rattle.dr_model.specs.declared.step.Devs.{Devs}
 use Rattle.dr_model.specs.declared.step.Step.{Step}
-use Rattle.dr_model.specs.declared.step.Step.TheVariants.{Server, Volume, Link, Stop, StopAfter, Start, Issue, Write, MakeFlash, RemoveFlash, ResyncFlash, ReverseFlash, MakePath, RemovePath, MakePair, RemovePair, PausePair, ResumePair}
+use Rattle.dr_model.specs.declared.step.Step.TheVariants.{Server, Volume, Link, Stop, StopAfter, Start, Issue, Write, MakeFlash, RemoveFlash, ResyncFlash, ReverseFlash, MakePath, RemovePath, MakePair, RemovePair, PausePair, ResumePair, Expire, Freeze, Unfreeze}
 use Rattle.dr_model.specs.LineTable as table
 use Rattle.dr_model.specs.LineText as line
 use Rattle.dr_model.specs.LineText.{at_sign, for_item, said_fits, said_operands, settings_fit, operands_fit, remote_fits, IsWritten, name_fits, name_text, bytes_fit}
 use Rattle.dr_model.specs.LineSteps.{has, no_options, no_operands, no_name}
 use Rattle.dr_model.specs.declared.grammar.Saying.{Saying}
-use Rattle.dr_model.specs.declared.grammar.Command.TheVariants.{AtServer, AtVolume, AtLink, AtStop, AtStart, AtIssue, AtWrite, Mkflash, Rmflash, Resyncflash, Reverseflash, Mkpprcpath, Rmpprcpath, Mkpprc, Rmpprc, Pausepprc, Resumepprc}
+use Rattle.dr_model.specs.declared.grammar.Command.TheVariants.{AtServer, AtVolume, AtLink, AtStop, AtStart, AtExpire, AtIssue, AtWrite, Mkflash, Rmflash, Resyncflash, Reverseflash, Mkpprcpath, Rmpprcpath, Mkpprc, Rmpprc, Pausepprc, Resumepprc, Freezepprc, Unfreezepprc}
 use Rattle.dr_model.specs.LineWords.{is_name, is_name_byte, begins_with_letter}
 use Rattle.dr_top.specs.WellFormed.{FitsName, FitsOwner, FitsDevs, IsWellFormed}
 
@@ -90,6 +90,7 @@ written-fits (Link a b up) h =
 written-fits (Stop name) h = one-name name true (operands-fit (at_sign AtStop (record no_operands { server = name })) h)
 written-fits (StopAfter name writes torn) h = one-name name _ (operands-fit (at_sign AtStop (record no_operands { server = name; after = true; torn = torn; count = writes })) h)
 written-fits (Start name) h = one-name name true (operands-fit (at_sign AtStart (record no_operands { server = name })) h)
+written-fits (Expire name) h = one-name name true (operands-fit (at_sign AtExpire (record no_operands { server = name })) h)
 written-fits (Issue v t offset len bytes) h = write-operands v t offset len bytes (operands-fit (at_sign AtIssue (record no_operands { volume = v; track = t; offset = offset; len = len; bytes = bytes })) h)
 written-fits (Write v t offset len bytes) h = write-operands v t offset len bytes (operands-fit (at_sign AtWrite (record no_operands { volume = v; track = t; offset = offset; len = len; bytes = bytes })) h)
 written-fits (MakeFlash devs s t nocopy persistent recorded inhibited sequence) h =
@@ -105,4 +106,6 @@ written-fits (MakePair devs a b kind full) h = devs-fit devs _ (settings-fit (fo
 written-fits (RemovePair devs a b source_only) h = devs-fit devs _ (settings-fit (for_item Rmpprc (record no_options { devs = devs; unconditional = source_only; at_source = source_only }) a b) h)
 written-fits (PausePair devs a b) h = devs-fit devs _ (settings-fit (for_item Pausepprc (record no_options { devs = devs }) a b) h)
 written-fits (ResumePair devs a b kind) h = devs-fit devs _ (settings-fit (for_item Resumepprc (record no_options { devs = devs; kind = Some kind }) a b) h)
+written-fits (Freeze devs l m) h = devs-fit devs _ (settings-fit (for_item Freezepprc (record no_options { devs = devs }) l m) h)
+written-fits (Unfreeze devs l m) h = devs-fit devs _ (settings-fit (for_item Unfreezepprc (record no_options { devs = devs }) l m) h)
 written-fits _ h = tt

@@ -1,9 +1,9 @@
 -- Forms of steps.
 use Rattle.std.specs.Prelude.{Bool, true, false}
 use Rattle.dr_model.specs.declared.step.Step.{Step}
-use Rattle.dr_model.specs.declared.step.Step.TheVariants.{Server, Volume, Link, Stop, StopAfter, Start, Issue, Write, Apply, Show, MakePath, RemovePath, MakeFlash, RemoveFlash, ResyncFlash, ReverseFlash, Copy}
+use Rattle.dr_model.specs.declared.step.Step.TheVariants.{Server, Volume, Link, Stop, StopAfter, Start, Issue, Write, Apply, Show, MakePath, RemovePath, Expire, Freeze, Unfreeze, MakeFlash, RemoveFlash, ResyncFlash, ReverseFlash, Copy}
 
--- those on servers, volumes, paths and host writes
+-- those on servers, volumes, paths and host writes, and freezes and thaws
 abbrev pub is_plain : Step → Bool
 is_plain (Server name) = true
 is_plain (Volume v name tracks) = true
@@ -17,6 +17,9 @@ is_plain (StopAfter name writes torn) = true
 is_plain (Start name) = true
 is_plain (MakePath devs src tgt group) = true
 is_plain (RemovePath devs src tgt force) = true
+is_plain (Expire name) = true
+is_plain (Freeze devs l m) = true
+is_plain (Unfreeze devs l m) = true
 is_plain _ = false
 
 -- those on FlashCopy relationships

@@ -1,5 +1,5 @@
 -- How a call leads on from the machine's state that a run of the program has reached.
-use Rattle.std.specs.Prelude.{◌≡◌, ℕ, List, map, Option, Some, None, Result, Ok, Err}
+use Rattle.std.specs.Prelude.{◌≡◌, ℕ, Result, Ok, Err}
 use Rattle.dr_ids.specs.declared.refusal.Fault.{Fault}
 use Rattle.dr_ids.specs.declared.refusal.Fault.TheVariants.{NoMemory, Refused as FaultRefused}
 use Rattle.dr_ids.specs.declared.refusal.Refusal.{Refusal}
@@ -10,21 +10,31 @@ use Rattle.dr_model.specs.declared.step.Step.{Step}
 use Rattle.dr_model.specs.Control.{World}
 use Rattle.dr_model.specs.Plans.{plan_of}
 use Rattle.dr_model.specs.Runs.{after_plan, said}
+pub use Rattle.dr_metro.specs.Here.{rest_of, here, IsTold, IsReady}
 
 -- what is answered by the end of a call
 abbrev pub said_of : Result Addition Refusal → Said
 said_of (Ok added) = Done added
 said_of (Err r) = Refused r
 
--- and one that adds to the answer
-abbrev pub ended_by : Result Addition Refusal → Option Refusal
-ended_by (Ok added) = None
-ended_by (Err r) = Some r
+-- the same of a call that may be answered in other ways than done
+abbrev pub answered_by : Result Said Refusal → Said
+answered_by (Ok a) = a
+answered_by (Err r) = Refused r
 
 -- a call that wants no memory, among those that may
-abbrev pub widened : Result Addition Refusal → Result Addition Fault
-widened (Ok added) = Ok added
+abbrev pub widened : Result Addition Refusal → Result Said Fault
+widened (Ok added) = Ok (Done added)
 widened (Err r) = Err (FaultRefused r)
+
+abbrev pub answer_widened : Result Said Refusal → Result Said Fault
+answer_widened (Ok a) = Ok a
+answer_widened (Err r) = Err (FaultRefused r)
+
+-- a call that is done where it isn't refused, among those that may be answered in other ways
+abbrev pub all_done : Result Addition Fault → Result Said Fault
+all_done (Ok added) = Ok (Done added)
+all_done (Err fault) = Err fault
 
 -- what holds of the answer, where there is one: want of memory gives none
 abbrev pub OnAnswer : Result Addition Fault → (Said → Type 0) → Type 0
@@ -32,8 +42,13 @@ OnAnswer (Ok added) P = P (Done added)
 OnAnswer (Err (FaultRefused r)) P = P (Refused r)
 OnAnswer (Err NoMemory) P = Unit {0}
 
+abbrev pub OnSaid : Result Said Fault → (Said → Type 0) → Type 0
+OnSaid (Ok a) P = P a
+OnSaid (Err (FaultRefused r)) P = P (Refused r)
+OnSaid (Err NoMemory) P = Unit {0}
+
 -- what holds where memory was wanting
-abbrev pub OnNoMemory : Result Addition Fault → Type 0 → Type 0
+abbrev pub OnNoMemory : {T : Type 0} → Result T Fault → Type 0 → Type 0
 OnNoMemory (Err NoMemory) P = P
 OnNoMemory _ P = Unit {0}
 

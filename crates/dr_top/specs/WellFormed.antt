@@ -3,7 +3,7 @@ use Rattle.std.specs.Prelude.{◌+◌, ◌≤◌, Option, Some, None}
 use Rattle.dr_model.specs.declared.step.Name.{Name}
 use Rattle.dr_model.specs.declared.step.Devs.{Devs}
 use Rattle.dr_model.specs.declared.step.Step.{Step}
-use Rattle.dr_model.specs.declared.step.Step.TheVariants.{Server, Volume, Link, Stop, StopAfter, Start, Issue, Write, MakeFlash, RemoveFlash, ResyncFlash, ReverseFlash, MakePath, RemovePath, MakePair, RemovePair, PausePair, ResumePair}
+use Rattle.dr_model.specs.declared.step.Step.TheVariants.{Server, Volume, Link, Stop, StopAfter, Start, Issue, Write, MakeFlash, RemoveFlash, ResyncFlash, ReverseFlash, MakePath, RemovePath, MakePair, RemovePair, PausePair, ResumePair, Expire, Freeze, Unfreeze}
 
 -- a name has 1 to 24 bytes
 abbrev pub FitsName : Name → Type 0
@@ -26,6 +26,7 @@ IsWellFormed (Link a b up) = FitsName a × FitsName b
 IsWellFormed (Stop name) = FitsName name
 IsWellFormed (StopAfter name writes torn) = FitsName name
 IsWellFormed (Start name) = FitsName name
+IsWellFormed (Expire name) = FitsName name
 IsWellFormed (Issue v t offset len bytes) = (1 ≤ len) × (offset + len ≤ 64)
 IsWellFormed (Write v t offset len bytes) = (1 ≤ len) × (offset + len ≤ 64)
 IsWellFormed (MakeFlash devs s t nocopy persistent recorded inhibited sequence) = FitsOwner devs.dev
@@ -34,6 +35,8 @@ IsWellFormed (ResyncFlash devs s t nocopy persistent recorded inhibited sequence
 IsWellFormed (ReverseFlash devs s t tgtpprc sequence) = FitsOwner devs.dev
 IsWellFormed (MakePath devs src tgt group) = FitsDevs devs
 IsWellFormed (RemovePath devs src tgt force) = FitsDevs devs
+IsWellFormed (Freeze devs l m) = FitsDevs devs
+IsWellFormed (Unfreeze devs l m) = FitsDevs devs
 IsWellFormed (MakePair devs a b kind full) = FitsDevs devs
 IsWellFormed (RemovePair devs a b source_only) = FitsDevs devs
 IsWellFormed (PausePair devs a b) = FitsDevs devs

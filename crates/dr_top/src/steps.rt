@@ -1,32 +1,32 @@
 //! The steps on a track of a volume: it is shown, and host writes are issued and carried out.
 
-ghost use Rattle.std.specs.Prelude.{◌≡◌, ℕ, ◌+◌, ◌<◌, ◌≤◌, ◌^◌, true, List, length, take, is_some, IsSome, IfOk, OnErr, Some, None};
+ghost use Rattle.std.specs.Prelude.{◌≡◌, ℕ, ◌+◌, ◌<◌, ◌≤◌, ◌^◌, true, length, take, is_some, IsSome, IfOk, OnErr, Some, None};
 ghost use Rattle.std.specs.List.{find};
 ghost use Rattle.dr_ids.specs.declared.refusal.Refusal.{Refusal};
 ghost use Rattle.dr_plant.specs.State.{PlantState};
 ghost use Rattle.dr_config.specs.Table.{place_of};
 ghost use Rattle.dr_host.specs.declared.pending.Pending.{Pending};
 ghost use Rattle.dr_host.specs.Writes.{has_number};
-ghost use Rattle.dr_model.specs.Carry.{carry};
-ghost use Rattle.dr_model.specs.declared.said.Addition.{Addition};
 ghost use Rattle.dr_model.specs.declared.step.Step.{Step};
 ghost use Rattle.dr_model.specs.Laws.{Sound};
-ghost use Rattle.dr_model.specs.Entries.{landing};
 ghost use Rattle.dr_model.specs.Plans.{track_refusal, issue_refusal};
+ghost use Rattle.dr_model.specs.WriteEntries.{landing, says_written, part_after};
 ghost use Rattle.dr_volume.specs.View.{volume_seen};
 ghost use Rattle.dr_flash.specs.Fit.{RelationsFit};
+ghost use Rattle.dr_flash.specs.Here.{refusal_of, armed_in};
 ghost use Rattle.dr_flash.specs.Views.{view_seen};
+ghost use Rattle.dr_gcopy.specs.Followed.{EndsFollowed};
 ghost use Rattle.dr_top.specs.Faults.{Counts};
-ghost use Rattle.dr_top.specs.Here.{here, said_of, widened, ended_by, OnAnswer, OnNoMemory, OnRefused, Leads, IsReady, IsTold};
-ghost use Rattle.dr_top.specs.Waiting.{IsIssued};
+ghost use Rattle.dr_top.specs.Here.{here, said_of, answered_by, OnAnswer, OnSaid, OnNoMemory, OnRefused, Leads, IsReady, IsTold};
+ghost use Rattle.dr_top.specs.Waiting.{IsIssued, PartnersFit, written_as};
 
 use crate::locate::locate;
-use crate::machine::{Target, land_kept};
 use dr_config::Config;
-use dr_flash::{read_target, write_refusal};
+use dr_flash::read_target;
 use dr_host::{Host, Pending};
 use dr_ids::{Fault, Kind, Refusal, VolumeId, WriteId};
-use dr_model::{Addition, Event, Journal};
+use dr_metro::{WriteEnd, sync_write};
+use dr_model::{Addition, Event, Journal, Said};
 use dr_plant::{Block, Plant};
 
 /// What a track of a volume whose server is on reads as, where reads pass.
@@ -188,7 +188,7 @@ pub fn issue<P: Plant>(
     }
 }
 
-/// Issues a host write and lands it, where its volume's server is on; else it stays pending. Where there is no memory
+/// Issues a host write and carries it out, where its volume's server is on; else it stays pending. Where there is no memory
 /// nothing has changed.
 pub fn write<P: Plant>(
     plant: &mut P,
@@ -196,55 +196,59 @@ pub fn write<P: Plant>(
     host: &mut Host,
     journal: &mut Journal,
     write: &HostWrite,
-) -> Result<Addition, Fault>
+) -> Result<Said, Fault>
     requires ready { IsReady (P.state plant.old) config.now host.old journal.old.events }
     requires sound { Sound (here (P.state plant.old) config.now host.old journal.old.events) }
     requires some { 1 ≤ write.now.len }
     requires fits { write.now.offset + write.now.len ≤ 64 }
     requires count { host.old.issued + 1 < 2 ^ 32 }
-    requires room { length config.now.volumes + 3 ≤ journal.old.spare }
-    ensures step { OnAnswer result (λ a. (line : ℕ) → Leads (here (P.state plant.old) config.now host.old journal.old.events) line
+    requires room { length config.now.volumes + (length config.now.volumes + 6) ≤ journal.old.spare }
+    ensures step { OnSaid result (λ a. (line : ℕ) → Leads (here (P.state plant.old) config.now host.old journal.old.events) line
         (Step.Write write.now.volume.0 write.now.track write.now.offset write.now.len write.now.bytes)
         (here (P.state plant.new) config.now host.new journal.new.events) a) }
     ensures same { OnNoMemory result (host.new ≡ host.old) }
     ensures same_plant { OnNoMemory result (P.state plant.new ≡ P.state plant.old) }
     ensures untold { OnNoMemory result (journal.new.events ≡ journal.old.events) }
     ensures ready { IsReady (P.state plant.new) config.now host.new journal.new.events }
-    ensures faults { OnAnswer result (λ a. Counts a (P.state plant.old) (P.state plant.new)) }
+    ensures faults { OnSaid result (λ a. Counts a (P.state plant.old) (P.state plant.new)) }
     ensures issued { host.new.issued ≤ host.old.issued + 1 }
     ensures room { 1 ≤ journal.new.spare }
 {
     match issue_write(config, host, journal, write) {
-        Ok(w) => match land_number(plant, config, host, journal, w) {
-            Ok(added) => Ok(added),
-            Err(refusal) => Err(Fault::Refused(refusal)),
-        },
+        Ok(w) => {
+            let issued = pending_write(host, w);
+            match carry_write(plant, config, host, journal, &issued) {
+                Ok(answer) => Ok(answer),
+                Err(refusal) => Err(Fault::Refused(refusal)),
+            }
+        }
         Err(fault) => Err(fault),
     }
 }
 
-/// Lands a pending write, where its volume's server is on; else it stays pending.
+/// Carries out a pending write, where its volume's server is on; else it stays pending.
 pub fn apply<P: Plant>(
     plant: &mut P,
     config: &Config,
     host: &mut Host,
     journal: &mut Journal,
     w: u32,
-) -> Result<Addition, Refusal>
+) -> Result<Said, Refusal>
     requires ready { IsReady (P.state plant.old) config.now host.old journal.old.events }
     requires sound { Sound (here (P.state plant.old) config.now host.old journal.old.events) }
-    requires room { length config.now.volumes + 2 ≤ journal.old.spare }
+    requires room { length config.now.volumes + (length config.now.volumes + 5) ≤ journal.old.spare }
     ensures step { (line : ℕ) → Leads (here (P.state plant.old) config.now host.old journal.old.events) line (Step.Apply w)
-        (here (P.state plant.new) config.now host.new journal.new.events) (said_of result) }
+        (here (P.state plant.new) config.now host.new journal.new.events) (answered_by result) }
     ensures ready { IsReady (P.state plant.new) config.now host.new journal.new.events }
-    ensures faults { Counts (said_of result) (P.state plant.old) (P.state plant.new) }
+    ensures faults { Counts (answered_by result) (P.state plant.old) (P.state plant.new) }
     ensures issued { host.new.issued ≡ host.old.issued }
     ensures room { 1 ≤ journal.new.spare }
 {
     if !is_pending(host, WriteId(w)) {
         return Err(Refusal::Unknown { kind: Kind::Write });
     }
-    land_number(plant, config, host, journal, WriteId(w))
+    let write = pending_write(host, WriteId(w));
+    carry_write(plant, config, host, journal, &write)
 }
 
 /// Whether the write of that number is pending.
@@ -258,6 +262,7 @@ fn is_pending(host: &Host, w: WriteId) -> bool
 fn pending_write(host: &Host, w: WriteId) -> Pending
     requires waits { IsSome (find (has_number w.0) host.now.pending) }
     ensures found { find (has_number w.0) host.now.pending ≡ Some result }
+    ensures named { result.w.0 ≡ w.0 }
     ensures fits { result.offset + result.len ≤ 64 }
 {
     match host.pending(w) {
@@ -266,58 +271,43 @@ fn pending_write(host: &Host, w: WriteId) -> Pending
     }
 }
 
-/// Lands the pending write of that number on its track, which is there, where its volume's server is on; else it stays
-/// pending. Where the host may not write on the volume, the write is dropped.
-fn land_number<P: Plant>(
+/// The answer where write w was carried out.
+fn answer(w: WriteId, end: WriteEnd) -> Said
+    ensures { result ≡ written_as w.0 end }
+{
+    match end {
+        WriteEnd::Landed => Said::Done(Addition::Wrote { w: w.0 }),
+        WriteEnd::Held => Said::Held { w: w.0 },
+    }
+}
+
+/// Carries out a pending write on its track, which is there, where its volume's server is on; else it stays pending. Where
+/// the host may not write on the volume, the write is dropped.
+fn carry_write<P: Plant>(
     plant: &mut P,
     config: &Config,
     host: &mut Host,
     journal: &mut Journal,
-    w: WriteId,
-) -> Result<Addition, Refusal>
+    write: &Pending,
+) -> Result<Said, Refusal>
     requires ready { IsReady (P.state plant.old) config.now host.old journal.old.events }
-    requires waits { IsSome (find (has_number w.0) host.old.pending) }
-    requires there { (p : Pending) → find (has_number w.0) host.old.pending ≡ Some p
-        → track_refusal (here (P.state plant.old) config.now host.old journal.old.events).control p.volume.0 p.track ≡ None }
+    requires found { find (has_number write.now.w.0) host.old.pending ≡ Some write.now }
+    requires fits { write.now.offset + write.now.len ≤ 64 }
+    requires there { track_refusal (here (P.state plant.old) config.now host.old journal.old.events).control write.now.volume.0 write.now.track ≡ None }
     requires fit { RelationsFit (P.state plant.old) config.now }
-    requires room { length config.now.volumes + 2 ≤ journal.old.spare }
-    ensures carried { (p : Pending) → find (has_number w.0) host.old.pending ≡ Some p
-        → carry (here (P.state plant.old) config.now host.old journal.old.events) (landing (here (P.state plant.old) config.now host.old journal.old.events).control w.0 p.volume.0 p.track)
-        ≡ (here (P.state plant.new) config.now host.new journal.new.events, ended_by result) }
-    ensures wrote { IfOk result (λ a. a ≡ Addition.Wrote w.0) }
+    requires partners { PartnersFit (P.state plant.old) config.now }
+    requires room { length config.now.volumes + (length config.now.volumes + 5) ≤ journal.old.spare }
+    ensures carried { EndsFollowed (armed_in (P.state plant.old)) (here (P.state plant.old) config.now host.old journal.old.events)
+        (landing (here (P.state plant.old) config.now host.old journal.old.events).control write.now.w.0 write.now.volume.0 write.now.track)
+        (part_after write.now.volume.0) (here (P.state plant.new) config.now host.new journal.new.events) (refusal_of result) }
+    ensures says { IfOk result (λ a. a ≡ says_written (here (P.state plant.old) config.now host.old journal.old.events).control write.now.w.0 write.now.volume.0 write.now.track) }
     ensures ready { IsReady (P.state plant.new) config.now host.new journal.new.events }
-    ensures faults { Counts (said_of result) (P.state plant.old) (P.state plant.new) }
+    ensures faults { Counts (answered_by result) (P.state plant.old) (P.state plant.new) }
     ensures issued { host.new.issued ≡ host.old.issued }
     ensures room { 1 ≤ journal.new.spare }
 {
-    let write = pending_write(host, w);
-    let Some(server) = config.server_of(write.volume) else {
-        unreachable!()
-    };
-    if !plant.is_on(server.0) {
-        return Err(Refusal::ServerOff { server });
-    }
-    if let Some(refusal) = write_refusal(plant, config, write.volume) {
-        host.finish(w);
-        return Err(refusal);
-    }
-    let target = Target {
-        volume: write.volume,
-        server,
-        track: write.track,
-        offset: write.offset,
-    };
-    let bytes = write.bytes;
-    match land_kept(
-        plant,
-        config,
-        host,
-        journal,
-        w,
-        target,
-        front(&bytes, write.len),
-    ) {
-        Ok(()) => Ok(Addition::Wrote { w: w.0 }),
+    match sync_write(plant, config, journal, host, write) {
+        Ok(end) => Ok(answer(write.w, end)),
         Err(refusal) => Err(refusal),
     }
 }

@@ -4,15 +4,17 @@ ghost use Rattle.std.specs.Prelude.{◌≡◌, ℕ, ◌+◌, ◌<◌, ◌≤◌,
 ghost use Rattle.dr_ids.specs.declared.refusal.Refusal.{Refusal};
 ghost use Rattle.dr_model.specs.Answers.{answer};
 ghost use Rattle.dr_model.specs.Laws.{Sound};
+ghost use Rattle.dr_model.specs.Layout.{is_part, part_of};
 ghost use Rattle.dr_model.specs.Limits.{most_events};
 ghost use Rattle.dr_model.specs.LineText.{IsWritten};
 ghost use Rattle.dr_model.specs.Plans.{is_built, has_room};
 ghost use Rattle.dr_model.specs.Runs.{after_task};
 ghost use Rattle.dr_model.specs.declared.said.Said.TheVariants.{Refused};
+ghost use Rattle.dr_model.specs.declared.step.Step.{Step};
 ghost use Rattle.dr_top.specs.Faults.{Counted, Counts, told_stop};
 ghost use Rattle.dr_top.specs.Forms.{is_plain, is_relation};
-ghost use Rattle.dr_top.specs.Here.{here, said_of, widened, OnAnswer, OnNoMemory, Leads, IsReady};
-ghost use Rattle.dr_top.specs.WellFormed.{IsWellFormed};
+ghost use Rattle.dr_top.specs.Here.{here, said_of, widened, answer_widened, all_done, OnSaid, OnNoMemory, Leads, IsReady};
+ghost use Rattle.dr_top.specs.WellFormed.{FitsDevs, IsWellFormed};
 
 use crate::background::copy;
 use crate::define::{define_server, define_volume, set_link};
@@ -25,7 +27,7 @@ use dr_config::Config;
 use dr_flash::Options;
 use dr_host::Host;
 use dr_ids::{Fault, Lss, Refusal, VolumeId};
-use dr_model::{Addition, Journal, Said, Step};
+use dr_model::{Addition, Devs, Journal, Name, Said, Step};
 use dr_plant::Plant;
 use std::alloc::AllocError;
 
@@ -35,8 +37,16 @@ pub const MOST_EVENTS: usize = 1_000_000;
 /// The room that a step needs in the journal before it begins.
 const STEP_EVENTS: usize = 4096;
 
-/// The number of Global Copy in a step.
+/// The numbers of the kinds of pairs in a step.
+const METRO_MIRROR: u8 = 1;
 const GLOBAL_COPY: u8 = 2;
+
+/// Whether pairs of that kind are built.
+fn is_copied(kind: u8) -> bool
+    ensures { result ≡ is_part (part_of kind) }
+{
+    kind == METRO_MIRROR || kind == GLOBAL_COPY
+}
 
 /// Whether the form of a step is built.
 fn is_built(step: &Step) -> bool
@@ -51,7 +61,8 @@ fn is_built(step: &Step) -> bool
         Step::ResyncFlash { .. } | Step::ReverseFlash { .. } => true,
         Step::MakePath { .. } | Step::RemovePath { .. } => true,
         Step::RemovePair { .. } | Step::PausePair { .. } | Step::Drain { .. } => true,
-        Step::MakePair { kind, .. } | Step::ResumePair { kind, .. } => *kind == GLOBAL_COPY,
+        Step::MakePair { kind, .. } | Step::ResumePair { kind, .. } => is_copied(*kind),
+        Step::Expire { .. } | Step::Freeze { .. } | Step::Unfreeze { .. } => true,
         _ => false,
     }
 }
@@ -90,12 +101,32 @@ pub fn refuse_syntax(journal: &mut Journal, number: u32, column: u16) -> Result<
 }
 
 /// A call that wants no memory, among those that may.
-fn widened(carried: Result<Addition, Refusal>) -> Result<Addition, Fault>
+fn widened(carried: Result<Addition, Refusal>) -> Result<Said, Fault>
     ensures { result ≡ widened carried }
 {
     match carried {
-        Ok(added) => Ok(added),
+        Ok(added) => Ok(Said::Done(added)),
         Err(refusal) => Err(Fault::Refused(refusal)),
+    }
+}
+
+/// The same of a call that may be answered in other ways than done.
+fn answer_widened(carried: Result<Said, Refusal>) -> Result<Said, Fault>
+    ensures { result ≡ answer_widened carried }
+{
+    match carried {
+        Ok(answer) => Ok(answer),
+        Err(refusal) => Err(Fault::Refused(refusal)),
+    }
+}
+
+/// A call that is done where it isn't refused, among those that may be answered in other ways.
+fn all_done(carried: Result<Addition, Fault>) -> Result<Said, Fault>
+    ensures { result ≡ all_done carried }
+{
+    match carried {
+        Ok(added) => Ok(Said::Done(added)),
+        Err(fault) => Err(fault),
     }
 }
 
@@ -223,8 +254,8 @@ fn carry_pair<P: Plant>(
             devs,
             a,
             b,
+            kind,
             full,
-            ..
         } => make_copy(
             plant,
             config,
@@ -233,6 +264,7 @@ fn carry_pair<P: Plant>(
             &devs,
             VolumeId(a),
             VolumeId(b),
+            kind,
             full,
         ),
         Step::RemovePair {
@@ -259,7 +291,7 @@ fn carry_pair<P: Plant>(
             VolumeId(a),
             VolumeId(b),
         ),
-        Step::ResumePair { devs, a, b, .. } => resume_copy(
+        Step::ResumePair { devs, a, b, kind } => resume_copy(
             plant,
             config,
             host,
@@ -267,6 +299,7 @@ fn carry_pair<P: Plant>(
             &devs,
             VolumeId(a),
             VolumeId(b),
+            kind,
         ),
         Step::Drain { volume, most } => {
             drain_copy(plant, config, host, journal, VolumeId(volume), most)
@@ -274,6 +307,75 @@ fn carry_pair<P: Plant>(
         _ => Err(Refusal::NotBuilt),
     }
 }
+
+// STUBS: the lead replaces these three by the calls of stops.rt and freezing.rt.
+fn expire<P: Plant>(
+    plant: &mut P,
+    config: &Config,
+    host: &Host,
+    journal: &mut Journal,
+    name: &Name,
+) -> Result<Addition, Refusal>
+    requires stub { ⊥ }
+    requires ready { IsReady (P.state plant.old) config.now host.now journal.old.events }
+    requires short { name.now.len ≤ 24 }
+    requires few { length config.now.volumes ≤ 64 }
+    requires room { 4096 ≤ journal.old.spare }
+    ensures step { (line : ℕ) → Leads (here (P.state plant.old) config.now host.now journal.old.events) line (Step.Expire name.now)
+        (here (P.state plant.new) config.now host.now journal.new.events) (said_of result) }
+    ensures faults { Counts (said_of result) (P.state plant.old) (P.state plant.new) }
+    ensures ready { IsReady (P.state plant.new) config.now host.now journal.new.events }
+    ensures room { 1 ≤ journal.new.spare }
+{
+    Err(Refusal::NotBuilt)
+}
+
+fn freeze<P: Plant>(
+    plant: &mut P,
+    config: &mut Config,
+    host: &Host,
+    journal: &mut Journal,
+    devs: &Devs,
+    l: Lss,
+    m: Lss,
+) -> Result<Addition, Refusal>
+    requires stub { ⊥ }
+    requires ready { IsReady (P.state plant.old) config.old host.now journal.old.events }
+    requires short { FitsDevs devs.now }
+    requires few { length config.old.volumes ≤ 64 }
+    requires room { 4096 ≤ journal.old.spare }
+    ensures step { (line : ℕ) → Leads (here (P.state plant.old) config.old host.now journal.old.events) line (Step.Freeze devs.now l.0 m.0)
+        (here (P.state plant.new) config.new host.now journal.new.events) (said_of result) }
+    ensures faults { Counts (said_of result) (P.state plant.old) (P.state plant.new) }
+    ensures ready { IsReady (P.state plant.new) config.new host.now journal.new.events }
+    ensures room { 1 ≤ journal.new.spare }
+{
+    Err(Refusal::NotBuilt)
+}
+
+fn thaw<P: Plant>(
+    plant: &mut P,
+    config: &Config,
+    host: &Host,
+    journal: &mut Journal,
+    devs: &Devs,
+    l: Lss,
+    m: Lss,
+) -> Result<Addition, Refusal>
+    requires stub { ⊥ }
+    requires ready { IsReady (P.state plant.old) config.now host.now journal.old.events }
+    requires short { FitsDevs devs.now }
+    requires few { length config.now.volumes ≤ 64 }
+    requires room { 4096 ≤ journal.old.spare }
+    ensures step { (line : ℕ) → Leads (here (P.state plant.old) config.now host.now journal.old.events) line (Step.Unfreeze devs.now l.0 m.0)
+        (here (P.state plant.new) config.now host.now journal.new.events) (said_of result) }
+    ensures faults { Counts (said_of result) (P.state plant.old) (P.state plant.new) }
+    ensures ready { IsReady (P.state plant.new) config.now host.now journal.new.events }
+    ensures room { 1 ≤ journal.new.spare }
+{
+    Err(Refusal::NotBuilt)
+}
+// END OF STUBS
 
 /// Carries out a step whose form is built. Where there is no memory nothing has changed.
 fn carry_out<P: Plant>(
@@ -283,7 +385,7 @@ fn carry_out<P: Plant>(
     journal: &mut Journal,
     line: u32,
     step: &Step,
-) -> Result<Addition, Fault>
+) -> Result<Said, Fault>
     requires ready { IsReady (P.state plant.old) config.old host.old journal.old.events }
     requires sound { Sound (here (P.state plant.old) config.old host.old journal.old.events) }
     requires fits { IsWellFormed step.now }
@@ -291,9 +393,9 @@ fn carry_out<P: Plant>(
     requires room { 4096 ≤ journal.old.spare }
     requires count { host.old.issued + 1 < 2 ^ 32 }
     requires built { is_built step.now ≡ true }
-    ensures step { OnAnswer result (λ a. Leads (here (P.state plant.old) config.old host.old journal.old.events) line step.now
+    ensures step { OnSaid result (λ a. Leads (here (P.state plant.old) config.old host.old journal.old.events) line step.now
         (here (P.state plant.new) config.new host.new journal.new.events) a) }
-    ensures faults { OnAnswer result (λ a. Counts a (P.state plant.old) (P.state plant.new)) }
+    ensures faults { OnSaid result (λ a. Counts a (P.state plant.old) (P.state plant.new)) }
     ensures same { OnNoMemory result (here (P.state plant.new) config.new host.new journal.new.events ≡ here (P.state plant.old) config.old host.old journal.old.events) }
     ensures same_plant { OnNoMemory result (P.state plant.new ≡ P.state plant.old) }
     ensures ready { IsReady (P.state plant.new) config.new host.new journal.new.events }
@@ -301,12 +403,12 @@ fn carry_out<P: Plant>(
     ensures room { 1 ≤ journal.new.spare }
 {
     match *step {
-        Step::Server { name } => define_server(plant, config, host, journal, &name),
+        Step::Server { name } => all_done(define_server(plant, config, host, journal, &name)),
         Step::Volume {
             volume,
             server,
             tracks,
-        } => define_volume(
+        } => all_done(define_volume(
             plant,
             config,
             host,
@@ -314,13 +416,13 @@ fn carry_out<P: Plant>(
             VolumeId(volume),
             &server,
             tracks,
-        ),
+        )),
         Step::MakePath {
             devs,
             src,
             tgt,
             group,
-        } => make_path(
+        } => all_done(make_path(
             plant,
             config,
             host,
@@ -329,7 +431,7 @@ fn carry_out<P: Plant>(
             Lss(src),
             Lss(tgt),
             group,
-        ),
+        )),
         Step::RemovePath {
             devs,
             src,
@@ -354,7 +456,7 @@ fn carry_out<P: Plant>(
             bytes,
         } => {
             let asked = asked(volume, track, offset, len, bytes);
-            issue(plant, config, host, journal, &asked)
+            all_done(issue(plant, config, host, journal, &asked))
         }
         Step::Write {
             volume,
@@ -366,7 +468,7 @@ fn carry_out<P: Plant>(
             let asked = asked(volume, track, offset, len, bytes);
             write(plant, config, host, journal, &asked)
         }
-        Step::Apply { w } => widened(apply(plant, config, host, journal, w)),
+        Step::Apply { w } => answer_widened(apply(plant, config, host, journal, w)),
         Step::Show { volume, track } => widened(show(
             plant,
             config,
@@ -383,6 +485,25 @@ fn carry_out<P: Plant>(
             torn,
         } => widened(arm(plant, config, host, journal, &server, writes, torn)),
         Step::Start { server } => widened(start(plant, config, host, journal, &server)),
+        Step::Expire { server } => widened(expire(plant, config, host, journal, &server)),
+        Step::Freeze { devs, l, m } => widened(freeze(
+            plant,
+            config,
+            host,
+            journal,
+            &devs,
+            Lss(l),
+            Lss(m),
+        )),
+        Step::Unfreeze { devs, l, m } => widened(thaw(
+            plant,
+            config,
+            host,
+            journal,
+            &devs,
+            Lss(l),
+            Lss(m),
+        )),
         _ => widened(carry_relation(plant, config, host, journal, step)),
     }
 }
@@ -426,8 +547,8 @@ fn carry_built<P: Plant>(
     ensures issued { host.new.issued ≤ host.old.issued + 1 }
 {
     match carry_out(plant, config, host, journal, number, step) {
-        Ok(added) => {
-            say(journal, number, Said::Done(added));
+        Ok(answer) => {
+            say(journal, number, answer);
             Ok(())
         }
         Err(Fault::Refused(refusal)) => {

@@ -1,7 +1,7 @@
 use Rattle.std.proofs.Common.{refl}
 use Rattle.dr_model.specs.declared.event.Event.TheVariants.{Server}
 use Rattle.dr_top.proofs.DefineLemmas.{server-refused-here, server-defined, rest-server, on-refusal, along-table}
-use Rattle.dr_top.proofs.ToldLemmas.{told-push}
+use Rattle.dr_metro.proofs.ToldLemmas.{told-push}
 use Rattle.dr_top.proofs.define.define_server.Goals as goal
 
 pub returns-in-Ok-clause-step : goal.returns-in-Ok-clause-step

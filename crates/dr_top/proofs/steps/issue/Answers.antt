@@ -1,5 +1,5 @@
 use Rattle.std.proofs.Common.{sym, ◌∙◌, []}
-use Rattle.dr_model.specs.Plans.{issue_refusal, issue_then}
+use Rattle.dr_model.specs.Plans.{issue_refusal, issue_done}
 use Rattle.dr_model.specs.Runs.{said}
 use Rattle.dr_model.specs.declared.said.Said.TheVariants.{Refused}
 use Rattle.dr_ids.specs.declared.names.WriteId.{WriteId}
@@ -16,5 +16,5 @@ returns-in-Err-clause-step g c =
     let s = g.P.Plant.state c.args.plant.now in let t = c.args.config.now in let h = c.args.host.now in let ev = c.args.journal.now.events in let x = c.args.write.now in
     let w = here s t h ev in
     fault-answers WriteId c.in-Err.fault _ _ (λ r is line.
-    plan-unless w line (issue_then [] w.control x.volume.0 x.track x.offset x.len x.bytes) (issue_refusal w.control x.volume.0 x.track) r (is s)
+    plan-unless w line (issue_done w.control x.volume.0 x.track x.offset x.len x.bytes) (issue_refusal w.control x.volume.0 x.track) r (is s)
     ∙ (λ i. said (here s t (sym c.in-Err.ensures.same i) (sym c.in-Err.ensures.untold i)) line (Refused r))) c.in-Err.ensures.refused

@@ -4,7 +4,7 @@ use Rattle.dr_model.specs.declared.said.Addition.TheVariants.{Showed}
 use Rattle.dr_model.specs.Runs.{said}
 use Rattle.dr_top.specs.Here.{here, IsReady}
 use Rattle.dr_top.proofs.StepLemmas.{showed-nowhere, showed-off, showed-on, calm-nowhere}
-use Rattle.dr_top.proofs.ToldLemmas.{told-ready}
+use Rattle.dr_metro.proofs.ToldLemmas.{told-ready}
 use Rattle.dr_top.proofs.RelationLemmas.{relations-fit}
 use Rattle.dr_top.proofs.steps.show.Goals as goal
 

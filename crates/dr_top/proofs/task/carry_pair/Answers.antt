@@ -1,16 +1,18 @@
 use Rattle.std.proofs.Common.{ap, sym, ◌∙◌}
-use Rattle.dr_model.specs.Plans.{plan_of, pair_plan, resume_plan, is_built}
+use Rattle.dr_model.specs.Plans.{plan_of, is_built}
 use Rattle.dr_model.specs.Runs.{after_plan}
 use Rattle.dr_top.specs.Here.{here}
-use Rattle.dr_top.proofs.StepTaskLemmas.{none-else, global-kind}
+use Rattle.dr_top.proofs.StepTaskLemmas.{none-else}
 use Rattle.dr_top.proofs.task.carry_pair.Goals as goal
 
 pub returns-in-MakePair-clause-step : goal.returns-in-MakePair-clause-step
 returns-in-MakePair-clause-step g c line =
     let w = here (g.P.Plant.state c.args.plant.now) c.args.config.now c.args.host.now c.args.journal.now.events in
     ap (λ x. after_plan w line (plan_of w.control w.events line x)) c.in-MakePair.is
-    ∙ ap (λ kind. after_plan w line (pair_plan w.control w.events c.in-MakePair.devs c.in-MakePair.a c.in-MakePair.b kind c.in-MakePair.full)) (global-kind c.in-MakePair.kind (sym (ap is_built c.in-MakePair.is) ∙ c.requires.built))
     ∙ c.make_copy.ensures.step line
+
+pub make_copy-requires-clause-kind : goal.make_copy-requires-clause-kind
+make_copy-requires-clause-kind g c = sym (ap is_built c.in-MakePair.is) ∙ c.requires.built
 
 pub returns-in-RemovePair-clause-step : goal.returns-in-RemovePair-clause-step
 returns-in-RemovePair-clause-step g c line =
@@ -28,8 +30,10 @@ pub returns-in-ResumePair-clause-step : goal.returns-in-ResumePair-clause-step
 returns-in-ResumePair-clause-step g c line =
     let w = here (g.P.Plant.state c.args.plant.now) c.args.config.now c.args.host.now c.args.journal.now.events in
     ap (λ x. after_plan w line (plan_of w.control w.events line x)) c.in-ResumePair.is
-    ∙ ap (λ kind. after_plan w line (resume_plan w.control c.in-ResumePair.devs c.in-ResumePair.a c.in-ResumePair.b kind)) (global-kind c.in-ResumePair.kind (sym (ap is_built c.in-ResumePair.is) ∙ c.requires.built))
     ∙ c.resume_copy.ensures.step line
+
+pub resume_copy-requires-clause-kind : goal.resume_copy-requires-clause-kind
+resume_copy-requires-clause-kind g c = sym (ap is_built c.in-ResumePair.is) ∙ c.requires.built
 
 pub returns-in-Drain-clause-step : goal.returns-in-Drain-clause-step
 returns-in-Drain-clause-step g c line =
