@@ -22,3 +22,4 @@ pub mod FlashLemmas
 pub mod PairLemmas
 pub mod PathLemmas
 pub mod DrainLemmas
+pub mod FreezeLemmas

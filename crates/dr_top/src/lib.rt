@@ -5,6 +5,7 @@ mod background;
 mod carry;
 mod define;
 mod flash;
+mod freezing;
 mod locate;
 mod pairs;
 mod paths;
