@@ -61,8 +61,8 @@ pub fn freeze_pairs<P: Plant>(
     }
 }
 
-/// Thaws the pairs from one logical subsystem to another: no primary is long busy any more. Refused where no volume lies in
-/// one of them, where their servers aren't those that the line names, or where that of the source is off.
+/// Thaws the pairs from one logical subsystem to another: their primaries are long busy no more. Refused where no volume lies
+/// in one of them, where their servers aren't those that the line names, or where that of the source is off.
 pub fn thaw_pairs<P: Plant>(
     plant: &mut P,
     config: &Config,
