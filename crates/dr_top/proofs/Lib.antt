@@ -23,3 +23,4 @@ pub mod FlashLemmas
 pub mod PairLemmas
 pub mod PathLemmas
 pub mod DrainLemmas
+pub mod FreezeLemmas

@@ -6,6 +6,7 @@ mod carry;
 mod define;
 mod expiry;
 mod flash;
+mod freezing;
 mod locate;
 mod pairs;
 mod paths;

@@ -29,7 +29,7 @@ use dr_plant::Plant;
 use dr_volume::{Fields, peek_fields};
 
 /// No volume lies in that logical subsystem.
-fn unknown_lss() -> Refusal
+pub fn unknown_lss() -> Refusal
     ensures { result ≡ unknown OfLss }
 {
     Refusal::Unknown { kind: Kind::Lss }
@@ -50,7 +50,7 @@ pub fn is_named(config: &Config, dev: &Option<Name>, server: ServerId) -> bool
 }
 
 /// Whether two servers are those that a line names, where it names them.
-fn are_named(config: &Config, devs: &Devs, first: ServerId, second: ServerId) -> bool
+pub fn are_named(config: &Config, devs: &Devs, first: ServerId, second: ServerId) -> bool
     requires { FitsDevs devs.now }
     ensures { (x : PlantState) (h : Writes) (events : List Event) → result ≡ (plans.is_named devs.now.dev first.0 (here x config.now h events).control && plans.is_named devs.now.remotedev second.0 (here x config.now h events).control) }
 {

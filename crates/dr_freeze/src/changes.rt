@@ -1,0 +1,138 @@
+//! What a freeze or a thaw does with one volume.
+
+ghost use Rattle.std.specs.Prelude.{◌≡◌, ℕ, ◌≤◌, ◌+◌, true, length, None, Some, IsSome, OnOk, OnErr, is_err};
+ghost use Rattle.dr_config.specs.Table.{place_of};
+ghost use Rattle.dr_model.specs.Refusals.{stopped};
+ghost use Rattle.dr_model.specs.WriteEntries.{freeze_on, thaw_on};
+ghost use Rattle.dr_volume.specs.Update.{OthersStay};
+ghost use Rattle.dr_volume.specs.View.{Rest, volume_seen};
+ghost use Rattle.dr_flash.specs.Faults.{Counted};
+ghost use Rattle.dr_flash.specs.Fit.{RelationsFit};
+ghost use Rattle.dr_flash.specs.Here.{seen, refusal_of, armed_in, IsAtRest};
+ghost use Rattle.dr_flash.specs.Turns.{Advances, Halts};
+ghost use Rattle.dr_freeze.specs.Between.{between, StillBetween};
+ghost use Rattle.dr_freeze.specs.Changes.{change_on, IsChanged};
+ghost use Rattle.dr_freeze.specs.declared.changes.Change.TheVariants as change;
+
+use crate::between::is_between;
+use crate::thawing::clear_busy;
+use dr_config::Config;
+use dr_gcopy::suspend;
+use dr_ids::{Lss, Refusal, VolumeId};
+use dr_model::Journal;
+use dr_plant::Plant;
+use dr_volume::peek_fields;
+
+/// What is done with the primaries between two logical subsystems.
+#[derive(Clone, Copy)]
+pub(crate) enum Change {
+    Freeze,
+    Thaw,
+}
+
+/// A primary between the two logical subsystems is suspended and long busy. Fails where its server stops in the move or
+/// goes off at a read. The journal needs room for two events.
+fn freeze_volume<P: Plant>(
+    p: &mut P,
+    c: &Config,
+    j: &mut Journal,
+    l: Lss,
+    m: Lss,
+    v: VolumeId,
+) -> Result<(), Refusal>
+    requires rest { IsAtRest (P.state p.old) c.now }
+    requires fit { RelationsFit (P.state p.old) c.now }
+    requires defined { IsSome (place_of c.now v.0) }
+    requires room { 2 ≤ j.old.spare }
+    ensures advances { OnOk result ((r : Rest) → Advances (seen (P.state p.old) c.now r j.old.events) (freeze_on l.0 m.0 v.0) (seen (P.state p.new) c.now r j.new.events)) }
+    ensures halts { OnErr result ((r : Rest) → Halts (armed_in (P.state p.old)) (seen (P.state p.old) c.now r j.old.events) (freeze_on l.0 m.0 v.0) (seen (P.state p.new) c.now r j.new.events) (refusal_of result)) }
+    ensures refused { OnErr result (refusal_of result ≡ Some (stopped (volume_seen (P.state p.old) c.now v.0).server)) }
+    ensures rest { IsAtRest (P.state p.new) c.now }
+    ensures fit { RelationsFit (P.state p.new) c.now }
+    ensures unarmed { (q : ℕ) → (P.state p.old).read_fuse q ≡ None → (P.state p.new).read_fuse q ≡ None }
+    ensures faults { Counted (is_err result) (P.state p.old).faults (P.state p.new).faults }
+    ensures changed { OnOk result (between (P.state p.old) c.now l.0 m.0 v.0 ≡ true → IsChanged change.Freeze (volume_seen (P.state p.new) c.now v.0).fields) }
+    ensures still { OnOk result (StillBetween (P.state p.old) (P.state p.new) c.now l.0 m.0) }
+    ensures others { OthersStay (P.state p.old) (P.state p.new) c.now v.0 }
+    ensures on { OnOk result ((P.state p.new).on ≡ (P.state p.old).on) }
+    ensures room { j.old.spare ≤ j.new.spare + 2 }
+    ensures room_left { OnOk result (j.old.spare ≤ j.new.spare + 1) }
+    ensures spare { length j.new.events + j.new.spare ≡ length j.old.events + j.old.spare }
+{
+    if !is_between(p, c, l, m, v) {
+        return Ok(());
+    }
+    suspend(p, c, j, v, true)
+}
+
+/// A primary between the two logical subsystems that is long busy is so no more.
+fn thaw_volume<P: Plant>(
+    p: &mut P,
+    c: &Config,
+    j: &mut Journal,
+    l: Lss,
+    m: Lss,
+    v: VolumeId,
+) -> Result<(), Refusal>
+    requires rest { IsAtRest (P.state p.old) c.now }
+    requires fit { RelationsFit (P.state p.old) c.now }
+    requires defined { IsSome (place_of c.now v.0) }
+    requires room { 2 ≤ j.old.spare }
+    ensures advances { OnOk result ((r : Rest) → Advances (seen (P.state p.old) c.now r j.old.events) (thaw_on l.0 m.0 v.0) (seen (P.state p.new) c.now r j.new.events)) }
+    ensures halts { OnErr result ((r : Rest) → Halts (armed_in (P.state p.old)) (seen (P.state p.old) c.now r j.old.events) (thaw_on l.0 m.0 v.0) (seen (P.state p.new) c.now r j.new.events) (refusal_of result)) }
+    ensures refused { OnErr result (refusal_of result ≡ Some (stopped (volume_seen (P.state p.old) c.now v.0).server)) }
+    ensures rest { IsAtRest (P.state p.new) c.now }
+    ensures fit { RelationsFit (P.state p.new) c.now }
+    ensures unarmed { (q : ℕ) → (P.state p.old).read_fuse q ≡ None → (P.state p.new).read_fuse q ≡ None }
+    ensures faults { Counted (is_err result) (P.state p.old).faults (P.state p.new).faults }
+    ensures changed { OnOk result (between (P.state p.old) c.now l.0 m.0 v.0 ≡ true → IsChanged change.Thaw (volume_seen (P.state p.new) c.now v.0).fields) }
+    ensures still { OnOk result (StillBetween (P.state p.old) (P.state p.new) c.now l.0 m.0) }
+    ensures others { OthersStay (P.state p.old) (P.state p.new) c.now v.0 }
+    ensures on { OnOk result ((P.state p.new).on ≡ (P.state p.old).on) }
+    ensures room { j.old.spare ≤ j.new.spare + 2 }
+    ensures room_left { OnOk result (j.old.spare ≤ j.new.spare + 1) }
+    ensures spare { length j.new.events + j.new.spare ≡ length j.old.events + j.old.spare }
+{
+    if !is_between(p, c, l, m, v) {
+        return Ok(());
+    }
+    if !peek_fields(p, c, v).long_busy {
+        return Ok(());
+    }
+    clear_busy(p, c, j, v)
+}
+
+/// One of both.
+pub(crate) fn change_volume<P: Plant>(
+    p: &mut P,
+    c: &Config,
+    j: &mut Journal,
+    x: Change,
+    l: Lss,
+    m: Lss,
+    v: VolumeId,
+) -> Result<(), Refusal>
+    requires rest { IsAtRest (P.state p.old) c.now }
+    requires fit { RelationsFit (P.state p.old) c.now }
+    requires defined { IsSome (place_of c.now v.0) }
+    requires room { 2 ≤ j.old.spare }
+    ensures advances { OnOk result ((r : Rest) → Advances (seen (P.state p.old) c.now r j.old.events) (change_on x l.0 m.0 v.0) (seen (P.state p.new) c.now r j.new.events)) }
+    ensures halts { OnErr result ((r : Rest) → Halts (armed_in (P.state p.old)) (seen (P.state p.old) c.now r j.old.events) (change_on x l.0 m.0 v.0) (seen (P.state p.new) c.now r j.new.events) (refusal_of result)) }
+    ensures refused { OnErr result (refusal_of result ≡ Some (stopped (volume_seen (P.state p.old) c.now v.0).server)) }
+    ensures rest { IsAtRest (P.state p.new) c.now }
+    ensures fit { RelationsFit (P.state p.new) c.now }
+    ensures unarmed { (q : ℕ) → (P.state p.old).read_fuse q ≡ None → (P.state p.new).read_fuse q ≡ None }
+    ensures faults { Counted (is_err result) (P.state p.old).faults (P.state p.new).faults }
+    ensures changed { OnOk result (between (P.state p.old) c.now l.0 m.0 v.0 ≡ true → IsChanged x (volume_seen (P.state p.new) c.now v.0).fields) }
+    ensures still { OnOk result (StillBetween (P.state p.old) (P.state p.new) c.now l.0 m.0) }
+    ensures others { OthersStay (P.state p.old) (P.state p.new) c.now v.0 }
+    ensures on { OnOk result ((P.state p.new).on ≡ (P.state p.old).on) }
+    ensures room { j.old.spare ≤ j.new.spare + 2 }
+    ensures room_left { OnOk result (j.old.spare ≤ j.new.spare + 1) }
+    ensures spare { length j.new.events + j.new.spare ≡ length j.old.events + j.old.spare }
+{
+    match x {
+        Change::Freeze => freeze_volume(p, c, j, l, m, v),
+        Change::Thaw => thaw_volume(p, c, j, l, m, v),
+    }
+}

@@ -1,0 +1,63 @@
+//! A primary is long busy no more.
+
+ghost use Rattle.std.specs.Prelude.{◌≡◌, ℕ, ◌≤◌, ◌+◌, true, length, None, Some, IsSome, OnOk, OnErr, is_err};
+ghost use Rattle.dr_config.specs.Table.{place_of};
+ghost use Rattle.dr_model.specs.Carry.{now};
+ghost use Rattle.dr_model.specs.Moves.{Thaw};
+ghost use Rattle.dr_model.specs.Pairs as pairs;
+ghost use Rattle.dr_model.specs.Refusals.{stopped};
+ghost use Rattle.dr_volume.specs.Plain.{plain};
+ghost use Rattle.dr_volume.specs.Update.{IsMoved, OthersStay};
+ghost use Rattle.dr_volume.specs.View.{Rest, volume_seen};
+ghost use Rattle.dr_flash.specs.Faults.{Counted};
+ghost use Rattle.dr_flash.specs.Fit.{RelationsFit};
+ghost use Rattle.dr_flash.specs.Here.{seen, refusal_of, armed_in, IsAtRest};
+ghost use Rattle.dr_flash.specs.Turns.{Advances, Halts};
+
+use dr_config::Config;
+use dr_flash::{Telling, Told, shift};
+use dr_ids::{Refusal, VolumeId};
+use dr_model::Journal;
+use dr_plant::Plant;
+use dr_volume::{Fields, peek_fields};
+
+/// A volume that is long busy no more.
+fn thawed(f: &Fields) -> Fields
+    ensures { plain result ≡ pairs.thawed (plain f.now) }
+{
+    Fields {
+        long_busy: false,
+        ..*f
+    }
+}
+
+/// A volume whose server is on is long busy no more. Nothing is told. Fails where the server stops in the move or goes off
+/// at a read.
+pub(crate) fn clear_busy<P: Plant>(
+    p: &mut P,
+    c: &Config,
+    j: &mut Journal,
+    v: VolumeId,
+) -> Result<(), Refusal>
+    requires rest { IsAtRest (P.state p.old) c.now }
+    requires fit { RelationsFit (P.state p.old) c.now }
+    requires defined { IsSome (place_of c.now v.0) }
+    requires running { (P.state p.old).on (volume_seen (P.state p.old) c.now v.0).server ≡ true }
+    requires room { 1 ≤ j.old.spare }
+    ensures advances { OnOk result ((r : Rest) → Advances (seen (P.state p.old) c.now r j.old.events) (now (Thaw v.0)) (seen (P.state p.new) c.now r j.new.events)) }
+    ensures halts { OnErr result ((r : Rest) → Halts (armed_in (P.state p.old)) (seen (P.state p.old) c.now r j.old.events) (now (Thaw v.0)) (seen (P.state p.new) c.now r j.new.events) (refusal_of result)) }
+    ensures refused { OnErr result (refusal_of result ≡ Some (stopped (volume_seen (P.state p.old) c.now v.0).server)) }
+    ensures rest { IsAtRest (P.state p.new) c.now }
+    ensures fit { RelationsFit (P.state p.new) c.now }
+    ensures unarmed { (q : ℕ) → (P.state p.old).read_fuse q ≡ None → (P.state p.new).read_fuse q ≡ None }
+    ensures faults { Counted (is_err result) (P.state p.old).faults (P.state p.new).faults }
+    ensures moved { OnOk result (IsMoved (P.state p.old) (P.state p.new) c.now v.0 (pairs.thawed (volume_seen (P.state p.old) c.now v.0).fields) None) }
+    ensures others { OthersStay (P.state p.old) (P.state p.new) c.now v.0 }
+    ensures on { OnOk result ((P.state p.new).on ≡ (P.state p.old).on) }
+    ensures room { j.old.spare ≤ j.new.spare + 1 }
+    ensures room_left { OnOk result (j.old.spare ≡ j.new.spare) }
+    ensures spare { length j.new.events + j.new.spare ≡ length j.old.events + j.old.spare }
+{
+    let next = thawed(&peek_fields(p, c, v));
+    shift(p, c, j, v, &next, None, &Telling::of(Told::Nothing))
+}
