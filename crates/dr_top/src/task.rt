@@ -14,11 +14,13 @@ ghost use Rattle.dr_model.specs.declared.step.Step.{Step};
 ghost use Rattle.dr_top.specs.Faults.{Counted, Counts, told_stop};
 ghost use Rattle.dr_top.specs.Forms.{is_plain, is_relation};
 ghost use Rattle.dr_top.specs.Here.{here, said_of, widened, answer_widened, all_done, OnSaid, OnNoMemory, Leads, IsReady};
-ghost use Rattle.dr_top.specs.WellFormed.{FitsDevs, IsWellFormed};
+ghost use Rattle.dr_top.specs.WellFormed.{IsWellFormed};
 
 use crate::background::copy;
 use crate::define::{define_server, define_volume, set_link};
+use crate::expiry::expire;
 use crate::flash::{make_flash, remove_flash, resync_flash, reverse_flash};
+use crate::freezing::{freeze_pairs, thaw_pairs};
 use crate::pairs::{drain_copy, end_copy, make_copy, pause_copy, resume_copy};
 use crate::paths::{make_path, remove_path};
 use crate::steps::{HostWrite, apply, issue, show, write};
@@ -27,7 +29,7 @@ use dr_config::Config;
 use dr_flash::Options;
 use dr_host::Host;
 use dr_ids::{Fault, Lss, Refusal, VolumeId};
-use dr_model::{Addition, Devs, Journal, Name, Said, Step};
+use dr_model::{Addition, Journal, Said, Step};
 use dr_plant::Plant;
 use std::alloc::AllocError;
 
@@ -39,6 +41,7 @@ const STEP_EVENTS: usize = 4096;
 
 /// The numbers of the kinds of pairs in a step.
 const METRO_MIRROR: u8 = 1;
+
 const GLOBAL_COPY: u8 = 2;
 
 /// Whether pairs of that kind are built.
@@ -308,75 +311,6 @@ fn carry_pair<P: Plant>(
     }
 }
 
-// STUBS: the lead replaces these three by the calls of stops.rt and freezing.rt.
-fn expire<P: Plant>(
-    plant: &mut P,
-    config: &Config,
-    host: &Host,
-    journal: &mut Journal,
-    name: &Name,
-) -> Result<Addition, Refusal>
-    requires stub { ⊥ }
-    requires ready { IsReady (P.state plant.old) config.now host.now journal.old.events }
-    requires short { name.now.len ≤ 24 }
-    requires few { length config.now.volumes ≤ 64 }
-    requires room { 4096 ≤ journal.old.spare }
-    ensures step { (line : ℕ) → Leads (here (P.state plant.old) config.now host.now journal.old.events) line (Step.Expire name.now)
-        (here (P.state plant.new) config.now host.now journal.new.events) (said_of result) }
-    ensures faults { Counts (said_of result) (P.state plant.old) (P.state plant.new) }
-    ensures ready { IsReady (P.state plant.new) config.now host.now journal.new.events }
-    ensures room { 1 ≤ journal.new.spare }
-{
-    Err(Refusal::NotBuilt)
-}
-
-fn freeze<P: Plant>(
-    plant: &mut P,
-    config: &mut Config,
-    host: &Host,
-    journal: &mut Journal,
-    devs: &Devs,
-    l: Lss,
-    m: Lss,
-) -> Result<Addition, Refusal>
-    requires stub { ⊥ }
-    requires ready { IsReady (P.state plant.old) config.old host.now journal.old.events }
-    requires short { FitsDevs devs.now }
-    requires few { length config.old.volumes ≤ 64 }
-    requires room { 4096 ≤ journal.old.spare }
-    ensures step { (line : ℕ) → Leads (here (P.state plant.old) config.old host.now journal.old.events) line (Step.Freeze devs.now l.0 m.0)
-        (here (P.state plant.new) config.new host.now journal.new.events) (said_of result) }
-    ensures faults { Counts (said_of result) (P.state plant.old) (P.state plant.new) }
-    ensures ready { IsReady (P.state plant.new) config.new host.now journal.new.events }
-    ensures room { 1 ≤ journal.new.spare }
-{
-    Err(Refusal::NotBuilt)
-}
-
-fn thaw<P: Plant>(
-    plant: &mut P,
-    config: &Config,
-    host: &Host,
-    journal: &mut Journal,
-    devs: &Devs,
-    l: Lss,
-    m: Lss,
-) -> Result<Addition, Refusal>
-    requires stub { ⊥ }
-    requires ready { IsReady (P.state plant.old) config.now host.now journal.old.events }
-    requires short { FitsDevs devs.now }
-    requires few { length config.now.volumes ≤ 64 }
-    requires room { 4096 ≤ journal.old.spare }
-    ensures step { (line : ℕ) → Leads (here (P.state plant.old) config.now host.now journal.old.events) line (Step.Unfreeze devs.now l.0 m.0)
-        (here (P.state plant.new) config.now host.now journal.new.events) (said_of result) }
-    ensures faults { Counts (said_of result) (P.state plant.old) (P.state plant.new) }
-    ensures ready { IsReady (P.state plant.new) config.now host.now journal.new.events }
-    ensures room { 1 ≤ journal.new.spare }
-{
-    Err(Refusal::NotBuilt)
-}
-// END OF STUBS
-
 /// Carries out a step whose form is built. Where there is no memory nothing has changed.
 fn carry_out<P: Plant>(
     plant: &mut P,
@@ -486,7 +420,7 @@ fn carry_out<P: Plant>(
         } => widened(arm(plant, config, host, journal, &server, writes, torn)),
         Step::Start { server } => widened(start(plant, config, host, journal, &server)),
         Step::Expire { server } => widened(expire(plant, config, host, journal, &server)),
-        Step::Freeze { devs, l, m } => widened(freeze(
+        Step::Freeze { devs, l, m } => widened(freeze_pairs(
             plant,
             config,
             host,
@@ -495,7 +429,7 @@ fn carry_out<P: Plant>(
             Lss(l),
             Lss(m),
         )),
-        Step::Unfreeze { devs, l, m } => widened(thaw(
+        Step::Unfreeze { devs, l, m } => widened(thaw_pairs(
             plant,
             config,
             host,
