@@ -25,7 +25,7 @@ use Rattle.dr_volume.specs.View.{volume_seen, volume_at, volume_on, ids_of, Read
 use Rattle.dr_flash.specs.Here.{IsAtRest, armed_in}
 use Rattle.dr_laws.proofs.Costs.{Costs, carry-adds}
 use Rattle.dr_laws.proofs.CopyCosts.{Live, rounds}
-use Rattle.dr_top.specs.Here.{here}
+use Rattle.dr_metro.specs.Here.{here}
 use Rattle.dr_top.proofs.LandLemmas.{ends-first, goes-on, exact}
 use Rattle.dr_top.proofs.LocatedLemmas.{is_volume-here}
 use Rattle.dr_top.proofs.FlashLemmas.{step-nowhere, entries-done, entries-refused}

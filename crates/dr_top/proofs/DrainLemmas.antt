@@ -34,7 +34,7 @@ use Rattle.dr_flash.specs.Turns.{Leads}
 use Rattle.dr_flash.proofs.CheckLemmas.{refuses}
 use Rattle.dr_flash.proofs.EndsLemmas.{ends-passed, ends-none}
 use Rattle.dr_gcopy.specs.Followed.{EndsFollowed, Follows}
-use Rattle.dr_top.specs.Here.{here, IsTold}
+use Rattle.dr_metro.specs.Here.{here, IsTold}
 use Rattle.dr_top.proofs.LandLemmas.{exact, told-through}
 use Rattle.dr_top.proofs.LocatedLemmas.{is_volume-here}
 use Rattle.dr_top.proofs.RelationLemmas.{placed-here}

@@ -27,7 +27,7 @@ use Rattle.dr_flash.proofs.EndsLemmas.{ends-passed}
 use Rattle.dr_flash.specs.Here.{armed_in, IsAtRest}
 use Rattle.dr_flash.specs.Checks.{Checked, is_stop}
 use Rattle.dr_top.specs.Faults.{Counted, Counts}
-use Rattle.dr_top.specs.Here.{here, IsReady, IsTold}
+use Rattle.dr_metro.specs.Here.{here, IsReady, IsTold}
 use Rattle.dr_top.proofs.LandLemmas.{exact, told-through, ready-after}
 use Rattle.dr_top.proofs.LocatedLemmas.{is_volume-here}
 use Rattle.dr_top.proofs.StepLemmas.{is_stopped-alike}

@@ -12,6 +12,7 @@ pub mod LocatedLemmas
 pub mod StepLemmas
 pub mod StopLemmas
 pub mod StartLemmas
+pub mod ExpiryLemmas
 pub mod ZeroDevice
 pub mod DefineLemmas
 pub mod TopLemmas

@@ -34,7 +34,7 @@ use Rattle.dr_flash.specs.Checks.{Checked}
 use Rattle.dr_flash.specs.Here.{armed_in, IsAtRest}
 use Rattle.dr_flash.proofs.CheckLemmas.{refuses}
 use Rattle.dr_flash.proofs.EndsLemmas.{ends-passed, ends-none}
-use Rattle.dr_top.specs.Here.{here, IsReady, IsTold}
+use Rattle.dr_metro.specs.Here.{here, IsReady, IsTold}
 use Rattle.dr_top.proofs.FlashLemmas.{entries-done, entries-refused}
 use Rattle.dr_top.proofs.LandLemmas.{exact, goes-on, told-through, ready-after}
 
@@ -128,28 +128,30 @@ module _ (c : Table) (s u : PlantState) (h : Writes) (ev mid : List Event) (devs
   abbrev pub after : World
   after = here u c h mid
 
-  abbrev by_devices : List Entry
-  by_devices = make_entries before.control a b kind full (seen-of before sound a b kind full before.contents)
+  -- the kind of the pair is what the call below takes
+  abbrev by_devices : Part → List Entry
+  by_devices kind = make_entries before.control a b kind full (seen-of before sound a b kind full before.contents)
 
   abbrev by_journal : List Entry
   by_journal = make_entries before.control a b kind full (seen-of before sound a b kind full (image_at ev))
 
-  made : (r : Option Refusal) → Checked before (found_volumes devs a b) None → Ends (armed_in s) after r before by_devices → carry before (found_volumes devs a b ++ by_journal) ≡ (after, r)
-  made r checked ends =
+  made : (r : Option Refusal) (known : Part) → known ≡ kind → Checked before (found_volumes devs a b) None → Ends (armed_in s) after r before (by_devices known) → carry before (found_volumes devs a b ++ by_journal) ≡ (after, r)
+  made r known same checked ends =
       goes-on before before (found_volumes devs a b) by_journal
       (exact s before None before (found_volumes devs a b) pass (checked (armed_in s) before None [] (ends-none (armed_in s) before None before (record { world = refl; refusal = refl }))))
       ∙ sym (make-alike before sound a b kind full)
-      ∙ exact s after r before by_devices pass ends
+      ∙ ap (λ k. carry before (by_devices k)) (sym same)
+      ∙ exact s after r before (by_devices known) pass ends
 
   pub make-nowhere : (why : Refusal) → Checked before (found_volumes devs a b) (Some why) → (line : ℕ) → after_plan before line (pair_plan before.control ev devs a b kind full) ≡ said before line (Refused why)
   make-nowhere why checked line =
       entries-refused before before line (found_volumes devs a b ++ by_journal) (Done Alone) why (exact s before (Some why) before (found_volumes devs a b ++ by_journal) pass (checked (armed_in s) by_journal))
 
-  pub make-done : Checked before (found_volumes devs a b) None → Ends (armed_in s) after None before by_devices → (line : ℕ) → after_plan before line (pair_plan before.control ev devs a b kind full) ≡ said after line (Done Alone)
-  make-done checked ends line = entries-done before after line (found_volumes devs a b ++ by_journal) (Done Alone) (made None checked ends)
+  pub make-done : (known : Part) → known ≡ kind → Checked before (found_volumes devs a b) None → Ends (armed_in s) after None before (by_devices known) → (line : ℕ) → after_plan before line (pair_plan before.control ev devs a b kind full) ≡ said after line (Done Alone)
+  make-done known same checked ends line = entries-done before after line (found_volumes devs a b ++ by_journal) (Done Alone) (made None known same checked ends)
 
-  pub make-refused : (r : Refusal) → Checked before (found_volumes devs a b) None → Ends (armed_in s) after (Some r) before by_devices → (line : ℕ) → after_plan before line (pair_plan before.control ev devs a b kind full) ≡ said after line (Refused r)
-  make-refused r checked ends line = entries-refused before after line (found_volumes devs a b ++ by_journal) (Done Alone) r (made (Some r) checked ends)
+  pub make-refused : (r : Refusal) (known : Part) → known ≡ kind → Checked before (found_volumes devs a b) None → Ends (armed_in s) after (Some r) before (by_devices known) → (line : ℕ) → after_plan before line (pair_plan before.control ev devs a b kind full) ≡ said after line (Refused r)
+  make-refused r known same checked ends line = entries-refused before after line (found_volumes devs a b ++ by_journal) (Done Alone) r (made (Some r) known same checked ends)
 
-  pub make-ready : (r : Option Refusal) → Checked before (found_volumes devs a b) None → Ends (armed_in s) after r before by_devices → IsAtRest u c → ((q : ℕ) → s.read_fuse q ≡ None → u.read_fuse q ≡ None) → IsTold h ev → IsReady u c h mid
-  make-ready r checked ends rest unarmed told = ready-after c s u h mid pass rest unarmed (told-through h before after (found_volumes devs a b ++ by_journal) r (made r checked ends) told)
+  pub make-ready : (r : Option Refusal) (known : Part) → known ≡ kind → Checked before (found_volumes devs a b) None → Ends (armed_in s) after r before (by_devices known) → IsAtRest u c → ((q : ℕ) → s.read_fuse q ≡ None → u.read_fuse q ≡ None) → IsTold h ev → IsReady u c h mid
+  make-ready r known same checked ends rest unarmed told = ready-after c s u h mid pass rest unarmed (told-through h before after (found_volumes devs a b ++ by_journal) r (made r known same checked ends) told)

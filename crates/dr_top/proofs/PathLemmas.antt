@@ -31,7 +31,7 @@ use Rattle.dr_volume.specs.View.{volume_seen, ids_of}
 use Rattle.dr_volume.proofs.VolumeLaws.{volume-placed}
 use Rattle.dr_flash.proofs.CopyLemmas.{ids-next}
 use Rattle.dr_flash.proofs.CheckLemmas.{on-low}
-use Rattle.dr_top.specs.Here.{here, IsReady}
+use Rattle.dr_metro.specs.Here.{here, IsReady}
 use Rattle.dr_config.proofs.Lookups.{entry-listed}
 use Rattle.dr_config.proofs.Lists.{position-of-found}
 use Rattle.dr_top.proofs.DefineLemmas.{find-ids}

@@ -1,5 +1,6 @@
--- What starting a server comes to: its volumes' staged tracks are written to their places, and a write is acknowledged.
-use Rattle.std.proofs.Common.{ℕ, ◌≡◌, ◌≢◌, ◌<◌, ◌≤◌, ◌+◌, ◌⊎◌, inl, inr, suc, zero, List, [], ◌∷◌, ◌++◌, drop, length, map, slice_get, refl, ap, ◌∙◌, sym, subst, arith, Bool, true, false, not, ◌&&◌, cond, nat_eq, Option, Some, None, unwrap_or}
+-- What starting a server comes to: its volumes write their staged tracks to their places and go on, and a write is
+-- acknowledged.
+use Rattle.std.proofs.Common.{ℕ, ◌≡◌, ◌≢◌, ◌<◌, ◌≤◌, ◌+◌, ◌⊎◌, inl, inr, suc, zero, List, [], ◌∷◌, ◌++◌, drop, length, slice_get, refl, ap, ◌∙◌, sym, subst, arith, Bool, true, false, not, ◌&&◌, cond, nat_eq, Option, Some, None, unwrap_or}
 use Rattle.std.specs.Prelude.{is_some, option_map, if◌then◌else◌}
 use Rattle.std.specs.Option.{option_map_or}
 use Rattle.std.proofs.lemmas.Bool.Decides.{eqb_tells, Decides-eqb}
@@ -19,33 +20,42 @@ use Rattle.dr_model.specs.declared.said.Addition.TheVariants.{Alone}
 use Rattle.dr_model.specs.declared.said.Said.TheVariants.{Done, Refused}
 use Rattle.dr_model.specs.Refusals.{stopped}
 use Rattle.dr_model.specs.Control.{Control, World}
-use Rattle.dr_model.specs.Carry.{Ended, Entry, Outcome, Do, Pass, Redo, Acknowledge, act, carry, redo, acknowledged}
+use Rattle.dr_model.specs.Carry.{Ended, Entry, Outcome, Do, Pass, Make, Redo, Acknowledge, act, carry, redo, acknowledged}
 use Rattle.dr_model.specs.ReadStops.{Ends}
-use Rattle.dr_model.specs.Plans.{Plan, only_says, belongs, redo_on, landed_on, acknowledge_if, acknowledge_on, says_acked, start_plan, start_on}
+use Rattle.dr_model.specs.Plans.{Plan, only_says, landed_on, acknowledge_if, acknowledge_on, says_acked, start_plan, start_on}
+use Rattle.dr_model.specs.Entries.{fields_at}
+use Rattle.dr_model.specs.Moves.{Restart}
+use Rattle.dr_model.specs.Pairs.{must_restart}
+use Rattle.dr_model.specs.WriteEntries.{belongs, redo_on, restart_on, start_entries}
 use Rattle.dr_model.specs.Runs.{begun, after_plan, said}
 use Rattle.dr_model.proofs.CarryLemmas.{act-redo, act-acknowledge, carry-none, carry-skips, carry-goes, carry-append, onward, plan-ends, plan-says, plan-fails}
-use Rattle.dr_laws.proofs.ReadStops.{ends-skips, ends-goes, ends-stops, ends-off, ends-none}
+use Rattle.dr_laws.proofs.ReadStops.{ends-skips, ends-goes, ends-stops, ends-off, ends-none, ends-wider}
 use Rattle.dr_volume.specs.View.{volume_seen, volume_at, ids_of, device_of, IsSettled, TracksSettled, ReadsPass}
 use Rattle.dr_volume.specs.Update.{IsAsBefore, EndsAs, after_reading}
 use Rattle.dr_volume.proofs.WorldLaws.{on-seen}
-use Rattle.std.specs.Prelude.{Result, Ok, Err, is_err}
+use Rattle.std.specs.Prelude.{Result, Ok, Err, OnOk, OnErr, is_err}
 use Rattle.std.specs.Result.{IsErrAnd}
 use Rattle.dr_io.specs.Faults.{Rose}
 use Rattle.dr_ids.specs.declared.names.ServerId.{ServerId}
 use Rattle.dr_ids.specs.declared.refusal.Refusal.TheVariants.{Stopped as StoppedIn}
-use Rattle.dr_top.specs.Faults.{Counts}
-use Rattle.dr_top.specs.Here.{here, said_of}
-use Rattle.dr_flash.specs.Here.{armed_in, IsAtRest}
-use Rattle.dr_top.specs.Landing.{Shuts}
+use Rattle.dr_top.specs.Faults.{Counted, Counts}
+use Rattle.dr_flash.specs.Faults.{Counted as Below}
+use Rattle.dr_metro.specs.Here.{here, IsTold}
+use Rattle.dr_top.specs.Here.{said_of}
+use Rattle.dr_flash.specs.Here.{armed_in, refusal_of, IsAtRest}
+use Rattle.dr_flash.specs.Turns.{Advances, Halts}
+use Rattle.dr_coord.specs.Standing.{StandsReady}
+use Rattle.dr_metro.specs.Landing.{Shuts}
 use Rattle.dr_host.specs.Writes as writes
 use Rattle.dr_host.specs.Writes.{has_owner, without}
 use Rattle.dr_host.proofs.Seen.{seen-landed, seen-without}
-use Rattle.dr_top.specs.Starting.{IsLater, IsStarting, redo_from}
+use Rattle.dr_top.specs.Starting.{IsLater, IsStarting, start_from}
 use Rattle.dr_host.specs.Writes.{Writes}
-use Rattle.dr_top.proofs.LandLemmas.{lands-updated}
+use Rattle.dr_metro.proofs.LandLemmas.{lands-updated, told-through}
+use Rattle.dr_top.proofs.LandLemmas.{wider-armed}
 use Rattle.dr_top.proofs.LocatedLemmas.{is_volume-here, seen-entry}
 use Rattle.dr_top.proofs.StopLemmas.{started-here}
-use Rattle.dr_top.proofs.TurnLemmas.{on-running, failed-not}
+use Rattle.dr_metro.proofs.TurnLemmas.{on-running, failed-not}
 
 pub some_or_none : {A : Type 0} (o : Option A) → ((x : A) × (o ≡ Some x)) ⊎ (o ≡ None)
 some_or_none None = inr refl
@@ -86,11 +96,11 @@ drop-at [] i v h = cc
 drop-at (e ∷ es) zero v h = let same : v ≡ e.id = cc in ap (λ x. x ∷ ids_of es) (sym same)
 drop-at (e ∷ es) (suc i) v h = drop-at es i v h
 
-next-at : (es : List VolumeEntry) (i v : ℕ) → Some v ≡ option_map (λ (e : VolumeEntry). e.id) (slice_get es i) → ids_of (drop i es) ≡ v ∷ ids_of (drop (i + 1) es)
+pub next-at : (es : List VolumeEntry) (i v : ℕ) → Some v ≡ option_map (λ (e : VolumeEntry). e.id) (slice_get es i) → ids_of (drop i es) ≡ v ∷ ids_of (drop (i + 1) es)
 next-at es i v h = drop-at es i v h ∙ ap (λ n. v ∷ ids_of (drop n es)) (suc-eq-add-one i)
 
 -- a volume's staged track is written to its place, or the server stops in that write
-module _ (s : PlantState) (t : Table) (h : Writes) (ev : List Event) (v server place : ℕ) (at : Some v ≡ option_map (λ (x : VolumeEntry). x.id) (slice_get t.volumes place)) where
+module _ (s : PlantState) (t : Table) (h : Writes) (ev : List Event) (v server : ℕ) where
   abbrev w : World
   w = here s t h ev
 
@@ -100,24 +110,21 @@ module _ (s : PlantState) (t : Table) (h : Writes) (ev : List Event) (v server p
   abbrev o : ℕ
   o = (volume_seen s t v).server
 
-  abbrev rest : List Entry
-  rest = redo_from t server (place + 1)
-
-  next_is : redo_from t server place ≡ redo_on server v ∷ rest
-  next_is = ap (map (redo_on server)) (next-at t.volumes place v at)
-
-  -- what is looked at first is the volume at the place
+  -- what is looked at first is the volume
   entry_is : (b : Bool) → has_owner t v server ≡ b → redo_on server v w.control ≡ (if b then Do (Redo v) else Pass)
   entry_is b owned = ap (λ b. if b then Do (Redo v) else Pass) (belongs-here s t h ev v server ∙ owned)
-
-  pub redone-skip : (armed : ℕ → Bool) (u : World) (r : Option Refusal) → has_owner t v server ≡ false → Ends armed u r w rest → Ends armed u r w (redo_from t server place)
-  redone-skip armed u r other more = subst (Ends armed u r w) (sym next_is) (ends-skips armed u r w (redo_on server v) rest (entry_is false other) more)
 
   redo_by : (stopped : Bool) → w.control.on o ≡ true → stopped ≡ e.stopped → act w (Redo v) ≡ (if stopped then (record e.world { events = ev ++ Stopped o 0 ∷ [] }, Some o) else (e.world, None))
   redo_by stopped on is =
       act-redo w v
       ∙ ap (λ b. cond (not b) (w, None) (cond e.stopped (record e.world { events = ev ++ Stopped o 0 ∷ [] }, Some o) (e.world, None))) on
       ∙ ap (λ b. cond b (record e.world { events = ev ++ Stopped o 0 ∷ [] }, Some o) (e.world, None)) (sym is)
+
+  -- a volume of another server is passed over
+  pub others-skip : (armed : ℕ → Bool) (u : World) (r : Option Refusal) (rest : List Entry) → has_owner t v server ≡ false → Ends armed u r w rest → Ends armed u r w (redo_on server v ∷ restart_on server v ∷ rest)
+  others-skip armed u r rest other more =
+      ends-skips armed u r w (redo_on server v) (restart_on server v ∷ rest) (entry_is false other)
+      (ends-skips armed u r w (restart_on server v) rest (ap (λ b. if b && must_restart (fields_at w.control v) then Do (Make (Restart v)) else Pass) (belongs-here s t h ev v server ∙ other)) more)
 
   -- from the plant after the call
   module _ (s' : PlantState) (low : server < 8) (on : s.on server ≡ true) (owned : has_owner t v server ≡ true) where
@@ -133,24 +140,21 @@ module _ (s : PlantState) (t : Table) (h : Writes) (ev : List Event) (v server p
       | inr x ↦ inr (subst (λ q. Shuts (armed_in s) q w (here s' t h ev) stopped) own x)
     ]
 
-    pub redone-goes : (armed : ℕ → Bool) (u : World) (r : Option Refusal) → EndsAs (here s' t h ev) false (after_reading s o w e) → Ends armed u r (here s' t h ev) rest → Ends armed u r w (redo_from t server place)
-    redone-goes armed u r ends more = elim (redone-ends false ends) [
-      | inl x ↦
-          subst (Ends armed u r w) (sym next_is)
-          (ends-goes armed u r w (here s' t h ev) (redo_on server v) rest (Redo v) (entry_is true owned) (redo_by false on_own x.stopped ∙ ap (λ (y : World). (y, None)) (sym x.world)) more)
+    pub redone-advances : EndsAs (here s' t h ev) false (after_reading s o w e) → Advances w (redo_on server v) (here s' t h ev)
+    redone-advances ends armed u r ds more = elim (redone-ends false ends) [
+      | inl x ↦ ends-goes armed u r w (here s' t h ev) (redo_on server v) ds (Redo v) (entry_is true owned) (redo_by false on_own x.stopped ∙ ap (λ (y : World). (y, None)) (sym x.world)) more
       | inr x ↦ absurd (failed-not x.answer)
     ]
 
-    pub redone-stops : (mid : List Event) → EndsAs (here s' t h ev) true (after_reading s o w e) → mid ≡ ev ++ Stopped server 0 ∷ [] → Ends (armed_in s) (here s' t h mid) (Some (stopped server)) w (redo_from t server place)
-    redone-stops mid ends told = elim (redone-ends true ends) [
+    pub redone-halts : (mid : List Event) → EndsAs (here s' t h ev) true (after_reading s o w e) → mid ≡ ev ++ Stopped server 0 ∷ [] → Halts (armed_in s) w (redo_on server v) (here s' t h mid) (Some (stopped server))
+    redone-halts mid ends told ds = elim (redone-ends true ends) [
       | inl x ↦
-          subst (Ends (armed_in s) (here s' t h mid) (Some (stopped server)) w) (sym next_is)
-          (ends-stops (armed_in s) (here s' t h mid) (Some (stopped server)) w (redo_on server v) rest (Redo v) server (entry_is true owned)
+          ends-stops (armed_in s) (here s' t h mid) (Some (stopped server)) w (redo_on server v) ds (Redo v) server (entry_is true owned)
           (redo_by true on_own x.stopped
           ∙ ap (λ (y : World). (record y { events = ev ++ Stopped o 0 ∷ [] }, Some o)) (sym x.world)
           ∙ ap (λ q. (record (here s' t h ev) { events = ev ++ Stopped q 0 ∷ [] }, Some q)) own
-          ∙ ap (λ es. (here s' t h es, Some server)) (sym told)) refl)
-      | inr x ↦ ends-off (armed_in s) (here s' t h mid) (Some (stopped server)) w (redo_from t server place) (record {
+          ∙ ap (λ es. (here s' t h es, Some server)) (sym told)) refl
+      | inr x ↦ ends-off (armed_in s) (here s' t h mid) (Some (stopped server)) w (redo_on server v ∷ ds) (record {
         server = server;
         on = on-running s server on;
         is_armed = x.is_armed;
@@ -159,10 +163,38 @@ module _ (s : PlantState) (t : Table) (h : Writes) (ev : List Event) (v server p
       })
     ]
 
+-- a volume's two entries come first of what is left
+module _ (t : Table) (v server place : ℕ) (at : Some v ≡ option_map (λ (x : VolumeEntry). x.id) (slice_get t.volumes place)) where
+  abbrev behind : List Entry
+  behind = start_from t server (place + 1)
+
+  next_is : start_from t server place ≡ redo_on server v ∷ restart_on server v ∷ behind
+  next_is = ap (start_entries server) (next-at t.volumes place v at)
+
+  pub started-skip : (s : PlantState) (h : Writes) (ev : List Event) (armed : ℕ → Bool) (u : World) (r : Option Refusal) → has_owner t v server ≡ false → Ends armed u r (here s t h ev) behind → Ends armed u r (here s t h ev) (start_from t server place)
+  started-skip s h ev armed u r other more = subst (Ends armed u r (here s t h ev)) (sym next_is) (others-skip s t h ev v server armed u r behind other more)
+
+  -- it wrote its track, and went on
+  pub started-goes : (w w1 w2 : World) → Advances w (redo_on server v) w1 → Advances w1 (restart_on server v) w2 → (armed : ℕ → Bool) (u : World) (r : Option Refusal) → Ends armed u r w2 behind → Ends armed u r w (start_from t server place)
+  started-goes w w1 w2 first second armed u r more = subst (Ends armed u r w) (sym next_is) (first armed u r (restart_on server v ∷ behind) (second armed u r behind more))
+
+  -- its server stopped as it wrote its track, or as it went on
+  pub started-fails : (armed : ℕ → Bool) (w u : World) (r : Option Refusal) → Halts armed w (redo_on server v) u r → Ends armed u r w (start_from t server place)
+  started-fails armed w u r ends = subst (Ends armed u r w) (sym next_is) (ends (restart_on server v ∷ behind))
+
+  pub started-stops : (s s1 : PlantState) (w w1 u : World) (r : Option Refusal) → ((q : ℕ) → s.read_fuse q ≡ None → s1.read_fuse q ≡ None) → Advances w (redo_on server v) w1 → Halts (armed_in s1) w1 (restart_on server v) u r
+      → Ends (armed_in s) u r w (start_from t server place)
+  started-stops s s1 w w1 u r unarmed first ends =
+      subst (Ends (armed_in s) u r w) (sym next_is)
+      (first (armed_in s) u r (restart_on server v ∷ behind) (ends-wider (armed_in s1) (armed_in s) (wider-armed s s1 unarmed) u r w1 (restart_on server v ∷ behind) (ends behind)))
+
 -- what is settled on the way
 settled-alike : (s : PlantState) (t : Table) (u v : ℕ) → place_of t u ≡ place_of t v → IsSettled s t v → IsSettled s t u
 settled-alike s t u v same h =
     subst (λ o. s.on (volume_at s t o).server ≡ true → TracksSettled (s.block (unwrap_or o 0)) (volume_at s t o).staged) (sym same) h
+
+later-still : (s s' : PlantState) (t : Table) (server n u : ℕ) → (volume_seen s' t u).server ≡ (volume_seen s t u).server → IsLater s t server n u → IsLater s' t server n u
+later-still s s' t server n u same l = record { own = same ∙ l.own; at = l.at; stands = l.stands; later = l.later }
 
 module _ (s : PlantState) (t : Table) (v server place : ℕ) (starting : IsStarting s t server place) (at : place_of t v ≡ Some place) where
   further : (u : ℕ) → (place_of t u ≡ place_of t v → IsLater s t server (place + 1) u) → IsLater s t server place u → IsLater s t server (place + 1) u
@@ -186,10 +218,7 @@ module _ (s : PlantState) (t : Table) (v server place : ℕ) (starting : IsStart
   -- where the volume's track stands at its place now
   module _ (s' : PlantState) (same : (u : ℕ) → IsAsBefore s s' t u) (stands : StandsFor t s') (kept : (u : ℕ) → IsSettled s t u → IsSettled s' t u) where
     still-later : (u n : ℕ) → IsLater s t server n u → IsLater s' t server n u
-    still-later u n l = record { own = ap (λ x. x.server) (same u).volume ∙ l.own; at = l.at; stands = l.stands; later = l.later }
-
-    sizes-still : (u : ℕ) → (volume_seen s' t u).tracks ≤ 256
-    sizes-still u = subst (λ x. x ≤ 256) (sym (ap (λ x. x.tracks) (same u).volume)) (starting.sizes u)
+    still-later u n l = later-still s s' t server n u (ap (λ x. x.server) (same u).volume) l
 
     settled-next : (u : ℕ) → IsSettled s' t v → IsSettled s t u ⊎ IsLater s t server place u → IsSettled s' t u ⊎ IsLater s' t server (place + 1) u
     settled-next u done (inl h) = inl (kept u h)
@@ -204,15 +233,57 @@ module _ (s : PlantState) (t : Table) (v server place : ℕ) (starting : IsStart
       stands = stands;
       on = ap (λ f. f server) on ∙ starting.on;
       settled = λ u. settled-next u (λ _. done) (starting.settled u);
-      sizes = sizes-still;
+      sizes = λ u. subst (λ x. x ≤ 256) (sym (ap (λ x. x.tracks) (same u).volume)) (starting.sizes u);
     }
 
-    settled-off : (u : ℕ) → s'.on server ≡ false → IsSettled s t u ⊎ IsLater s t server place u → IsSettled s' t u
-    settled-off u off (inl h) = kept u h
-    settled-off u off (inr l) = λ on. let e : true ≡ false = sym on ∙ ap s'.on (still-later u place l).own ∙ off in absurd cc
+-- where no volume changed its server or its size, each is settled that was
+module _ (s s' : PlantState) (t : Table) (server place : ℕ) (starting : IsStarting s t server place) (servers : (u : ℕ) → (volume_seen s' t u).server ≡ (volume_seen s t u).server) (tracks : (u : ℕ) → (volume_seen s' t u).tracks ≡ (volume_seen s t u).tracks)
+    (stands : StandsFor t s') (kept : (u : ℕ) → IsSettled s t u → IsSettled s' t u) where
+  sizes-still : (u : ℕ) → (volume_seen s' t u).tracks ≤ 256
+  sizes-still u = subst (λ x. x ≤ 256) (sym (tracks u)) (starting.sizes u)
 
-    pub rest-stopped : s'.on server ≡ false → IsAtRest s' t
-    rest-stopped off = record { stands = stands; settled = λ u. settled-off u off (starting.settled u); sizes = sizes-still }
+  settled-still : (u : ℕ) → IsSettled s t u ⊎ IsLater s t server place u → IsSettled s' t u ⊎ IsLater s' t server place u
+  settled-still u (inl h) = inl (kept u h)
+  settled-still u (inr l) = inr (later-still s s' t server place u (servers u) l)
+
+  pub starting-still : s'.on ≡ s.on → IsStarting s' t server place
+  starting-still on = record {
+    stands = stands;
+    on = ap (λ f. f server) on ∙ starting.on;
+    settled = λ u. settled-still u (starting.settled u);
+    sizes = sizes-still;
+  }
+
+  settled-off : (u : ℕ) → s'.on server ≡ false → IsSettled s t u ⊎ IsLater s t server place u → IsSettled s' t u
+  settled-off u off (inl h) = kept u h
+  settled-off u off (inr l) = λ on. let e : true ≡ false = sym on ∙ ap s'.on (servers u ∙ l.own) ∙ off in absurd cc
+
+  pub rest-stopped : s'.on server ≡ false → IsAtRest s' t
+  rest-stopped off = record { stands = stands; settled = λ u. settled-off u off (starting.settled u); sizes = sizes-still }
+
+-- what holds of one volume and of all others holds of each
+pub of-each : (P : ℕ → Type 0) (v : ℕ) → P v → ((u : ℕ) → u ≢ v → P u) → (u : ℕ) → P u
+of-each P v here there u = elim (eqb_tells u v) [ inl p ↦ subst P (sym p.1) here | inr p ↦ there u p.1 ]
+
+-- a volume of the server stands ready to go on, once its track stands at its place
+pub ready-volume : (s : PlantState) (t : Table) (v server place at : ℕ) → IsStarting s t server place → IsSettled s t v → place_of t v ≡ Some at → has_owner t v server ≡ true → StandsReady s t v
+ready-volume s t v server place at starting settled is owned = record {
+  stands = starting.stands;
+  defined = ap is_some is;
+  running = ap s.on (own-server s t v server owned) ∙ starting.on;
+  settled = settled;
+  size = starting.sizes v;
+}
+
+-- what a volume that goes on leaves of the pending writes' events
+pub told-either : (s : PlantState) (r : Result (Unit {0}) Refusal) (h : Writes) (w u : World) (d : Entry) → OnOk r (u.events ≡ w.events) → OnErr r (Halts (armed_in s) w d u (refusal_of r)) → IsTold h w.events → IsTold h u.events
+told-either s (Ok x) h w u d same ends told = subst (IsTold h) (sym same) told
+told-either s (Err e) h w u d same ends told = told-through (armed_in s) h w u (d ∷ []) (Some e) (ends []) told
+
+-- a call of the layer below that counts a fault
+pub counted-top : (b : Bool) (before now : ℕ) → Below b before now → Counted b before now
+counted-top true before now rose = rose
+counted-top false before now same = same
 
 -- no volume is left
 pub rest-started : (s : PlantState) (t : Table) (server place : ℕ) → IsStarting s t server place → length t.volumes ≤ place → IsAtRest s t
@@ -225,8 +296,8 @@ rest-started s t server place starting all = record {
   sizes = starting.sizes;
 }
 
-pub redone-all : (armed : ℕ → Bool) (w : World) (t : Table) (server place : ℕ) → length t.volumes ≤ place → Ends armed w None w (redo_from t server place)
-redone-all armed w t server place all = subst (Ends armed w None w) (sym (ap (λ es. map (redo_on server) (ids_of es)) (drop_all place t.volumes all))) (ends-none armed w None w (record { world = refl; refusal = refl }))
+pub started-all : (armed : ℕ → Bool) (w : World) (t : Table) (server place : ℕ) → length t.volumes ≤ place → Ends armed w None w (start_from t server place)
+started-all armed w t server place all = subst (Ends armed w None w) (sym (ap (λ es. start_entries server (ids_of es)) (drop_all place t.volumes all))) (ends-none armed w None w (record { world = refl; refusal = refl }))
 
 -- where a server is turned on, its own volumes aren't settled yet
 started-other : (s : PlantState) (server q : ℕ) → q ≢ server → (started s server).on q ≡ true → s.on q ≡ true
@@ -289,7 +360,7 @@ module _ (s : PlantState) (t : Table) (h : Writes) (ev : List Event) (line serve
   starts = start_plan w0.control server
 
   abbrev redoes : List Entry
-  redoes = map (redo_on server) (ids_of t.volumes)
+  redoes = start_entries server (ids_of t.volumes)
 
   abbrev last : List Entry
   last = acknowledge_on server ∷ []
@@ -302,11 +373,11 @@ module _ (s : PlantState) (t : Table) (h : Writes) (ev : List Event) (line serve
       ap (λ x. carry x (redoes ++ last)) (started-here s t h ev line server mid low told)
       ∙ carry-append (here (started s server) t h mid) redoes last ∙ ap (λ o. onward o (λ u. carry u last)) is ∙ ends
 
-  pub turned-fails : (u : PlantState) (now : List Event) (r : Refusal) → carry (here (started s server) t h mid) (redo_from t server 0) ≡ (here u t h now, Some r)
+  pub turned-fails : (u : PlantState) (now : List Event) (r : Refusal) → carry (here (started s server) t h mid) (start_from t server 0) ≡ (here u t h now, Some r)
       → after_plan w0 line (start_on w0.control server) ≡ said (here u t h now) line (Refused r)
   turned-fails u now r is = starts_on ∙ plan-fails w0 (here u t h now) line starts r (λ s. refl) (carried _ _ is refl)
 
-  pub turned-goes : (u : PlantState) (h' : Writes) (mid' now : List Event) (a : Addition) → carry (here (started s server) t h mid) (redo_from t server 0) ≡ (here u t h mid', None)
+  pub turned-goes : (u : PlantState) (h' : Writes) (mid' now : List Event) (a : Addition) → carry (here (started s server) t h mid) (start_from t server 0) ≡ (here u t h mid', None)
       → carry (here u t h mid') (acknowledge_on server ∷ []) ≡ (here u t h' now, None) → Done a ≡ says_acked (landed_on w0.control server)
       → after_plan w0 line (start_on w0.control server) ≡ said (here u t h' now) line (Done a)
   turned-goes u h' mid' now a is acked answers =

@@ -25,7 +25,7 @@ use Rattle.dr_volume.proofs.WorldLaws.{on-at, on-seen, fuses-at, fuse-seen}
 use Rattle.std.proofs.lemmas.Bool.Decides.{eqb_tells}
 use Rattle.dr_model.proofs.Images.{at_same, at_other}
 use Rattle.dr_volume.specs.View.{volume_seen, ReadsPass}
-use Rattle.dr_top.specs.Here.{here}
+use Rattle.dr_metro.specs.Here.{here}
 use Rattle.dr_flash.specs.Here.{IsAtRest}
 use Rattle.dr_host.specs.Writes.{Writes}
 

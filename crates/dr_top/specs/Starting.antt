@@ -1,14 +1,19 @@
--- A server that starts, while its volumes' staged tracks are written to their places in order of definition.
+-- A server that starts, while its volumes write their staged tracks to their places and go on, and one whose volumes' holds
+-- end, in order of definition.
 use Rattle.std.specs.Prelude.{◌≡◌, ℕ, ◌≤◌, ◌⊎◌, true, List, map, drop, Some}
 use Rattle.dr_plant.specs.State.{PlantState}
 use Rattle.dr_config.specs.Table.{Table, StandsFor, place_of}
 use Rattle.dr_model.specs.Carry.{Entry}
-use Rattle.dr_model.specs.Plans.{redo_on}
+use Rattle.dr_model.specs.WriteEntries.{start_entries, lift_on}
 use Rattle.dr_volume.specs.View.{volume_seen, ids_of, IsSettled}
 
--- what is left to do for the volumes from a place on
-abbrev pub redo_from : Table → ℕ → ℕ → List Entry
-redo_from t server place = map (redo_on server) (ids_of (drop place t.volumes))
+-- what is left to do, as a server starts, for the volumes from a place on
+abbrev pub start_from : Table → ℕ → ℕ → List Entry
+start_from t server place = start_entries server (ids_of (drop place t.volumes))
+
+-- what is left to do for the volumes from a place on, where the holds of a server's volumes end
+abbrev pub lift_from : Table → ℕ → ℕ → List Entry
+lift_from t server place = map (lift_on server) (ids_of (drop place t.volumes))
 
 -- a volume of the server that stands at that place or behind it
 pub record IsLater (s : PlantState) (t : Table) (server place v : ℕ) : Type 0 where

@@ -21,7 +21,8 @@ ghost use Rattle.dr_flash.specs.Checks.{is_stop};
 ghost use Rattle.dr_flash.specs.Fit.{RelationsFit};
 ghost use Rattle.dr_flash.specs.Here.{refusal_of};
 ghost use Rattle.dr_top.specs.Faults.{Counted, Counts};
-ghost use Rattle.dr_top.specs.Here.{here, said_of, IsReady};
+ghost use Rattle.dr_metro.specs.Here.{here, IsReady};
+ghost use Rattle.dr_top.specs.Here.{said_of};
 
 use dr_config::Config;
 use dr_flash::{copy_step, is_quiet, pair_state, relation_state, rest, tracks_of};

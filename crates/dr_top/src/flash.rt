@@ -12,7 +12,8 @@ ghost use Rattle.dr_volume.specs.View.{volume_seen};
 ghost use Rattle.dr_flash.specs.Checks.{Checked, OnNone, is_stop};
 ghost use Rattle.dr_flash.specs.Options.{choices};
 ghost use Rattle.dr_top.specs.Faults.{Counts};
-ghost use Rattle.dr_top.specs.Here.{here, said_of, IsReady};
+ghost use Rattle.dr_metro.specs.Here.{here, IsReady};
+ghost use Rattle.dr_top.specs.Here.{said_of};
 ghost use Rattle.dr_top.specs.WellFormed.{FitsOwner};
 
 use crate::define::{bytes_of, unknown_server};

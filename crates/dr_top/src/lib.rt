@@ -4,6 +4,7 @@
 mod background;
 mod carry;
 mod define;
+mod expiry;
 mod flash;
 mod locate;
 mod pairs;

@@ -1,19 +1,20 @@
 //! The steps on pairs of volumes.
 
-ghost use Rattle.std.specs.Prelude.{◌≡◌, ℕ, ◌+◌, ◌≤◌, ◌&&◌, false, IsSome, List, length};
+ghost use Rattle.std.specs.Prelude.{◌≡◌, ℕ, ◌+◌, ◌≤◌, ◌&&◌, true, false, IsSome, List, length};
 ghost use Rattle.dr_plant.specs.State.{PlantState};
 ghost use Rattle.dr_config.specs.Table.{place_of};
 ghost use Rattle.dr_host.specs.Writes.{Writes};
 ghost use Rattle.dr_model.specs.declared.event.Event.{Event};
-ghost use Rattle.dr_model.specs.declared.state.Part.TheVariants.{Global};
 ghost use Rattle.dr_model.specs.Laws.{Sound};
 ghost use Rattle.dr_model.specs.Layout as part;
 ghost use Rattle.dr_model.specs.Pairs as pairs;
 ghost use Rattle.dr_model.specs.Plans as plans;
 ghost use Rattle.dr_model.specs.Runs.{after_plan, said};
+ghost use Rattle.dr_gcopy.specs.Kinds.{part_of};
 ghost use Rattle.dr_flash.specs.Checks.{Checked, OnNone, is_stop};
 ghost use Rattle.dr_top.specs.Faults.{Counts};
-ghost use Rattle.dr_top.specs.Here.{here, said_of, IsReady};
+ghost use Rattle.dr_metro.specs.Here.{here, IsReady};
+ghost use Rattle.dr_top.specs.Here.{said_of};
 ghost use Rattle.dr_top.specs.WellFormed.{FitsDevs};
 
 use crate::define::unknown_server;
@@ -46,7 +47,22 @@ fn found_volumes(config: &Config, devs: &Devs, a: VolumeId, b: VolumeId) -> Opti
     None
 }
 
-/// Makes a Global Copy pair of two volumes on two servers.
+/// The number of Metro Mirror in a step.
+const METRO_MIRROR: u8 = 1;
+
+/// The kind of pair that a step names.
+fn kind_of(kind: u8) -> CopyKind
+    requires { part.is_part (part.part_of kind) ≡ true }
+    ensures { part_of result ≡ part.part_of kind }
+{
+    if kind == METRO_MIRROR {
+        CopyKind::Metro
+    } else {
+        CopyKind::Global
+    }
+}
+
+/// Makes a pair of two volumes on two servers.
 pub fn make_copy<P: Plant>(
     plant: &mut P,
     config: &Config,
@@ -55,14 +71,16 @@ pub fn make_copy<P: Plant>(
     devs: &Devs,
     a: VolumeId,
     b: VolumeId,
+    kind: u8,
     full: bool,
 ) -> Result<Addition, Refusal>
     requires ready { IsReady (P.state plant.old) config.now host.now journal.old.events }
     requires sound { Sound (here (P.state plant.old) config.now host.now journal.old.events) }
     requires short { FitsDevs devs.now }
+    requires kind { part.is_part (part.part_of kind) ≡ true }
     requires room { 512 ≤ journal.old.spare }
     ensures step { (line : ℕ) → after_plan (here (P.state plant.old) config.now host.now journal.old.events) line
-        (plans.pair_plan (here (P.state plant.old) config.now host.now journal.old.events).control journal.old.events devs.now a.0 b.0 Global full)
+        (plans.pair_plan (here (P.state plant.old) config.now host.now journal.old.events).control journal.old.events devs.now a.0 b.0 (part.part_of kind) full)
         ≡ said (here (P.state plant.new) config.now host.now journal.new.events) line (said_of result) }
     ensures faults { Counts (said_of result) (P.state plant.old) (P.state plant.new) }
     ensures ready { IsReady (P.state plant.new) config.now host.now journal.new.events }
@@ -71,7 +89,7 @@ pub fn make_copy<P: Plant>(
     if let Some(why) = found_volumes(config, devs, a, b) {
         return Err(why);
     }
-    match make_pair(plant, config, journal, a, b, CopyKind::Global, full) {
+    match make_pair(plant, config, journal, a, b, kind_of(kind), full) {
         Ok(()) => Ok(Addition::Alone),
         Err(refusal) => Err(refusal),
     }
@@ -138,7 +156,7 @@ pub fn pause_copy<P: Plant>(
     }
 }
 
-/// Resumes a Suspended Global Copy pair.
+/// Resumes a Suspended pair.
 pub fn resume_copy<P: Plant>(
     plant: &mut P,
     config: &Config,
@@ -147,13 +165,15 @@ pub fn resume_copy<P: Plant>(
     devs: &Devs,
     a: VolumeId,
     b: VolumeId,
+    kind: u8,
 ) -> Result<Addition, Refusal>
     requires ready { IsReady (P.state plant.old) config.now host.now journal.old.events }
     requires sound { Sound (here (P.state plant.old) config.now host.now journal.old.events) }
     requires short { FitsDevs devs.now }
+    requires kind { part.is_part (part.part_of kind) ≡ true }
     requires room { 512 ≤ journal.old.spare }
     ensures step { (line : ℕ) → after_plan (here (P.state plant.old) config.now host.now journal.old.events) line
-        (plans.resume_plan (here (P.state plant.old) config.now host.now journal.old.events).control devs.now a.0 b.0 Global)
+        (plans.resume_plan (here (P.state plant.old) config.now host.now journal.old.events).control devs.now a.0 b.0 (part.part_of kind))
         ≡ said (here (P.state plant.new) config.now host.now journal.new.events) line (said_of result) }
     ensures faults { Counts (said_of result) (P.state plant.old) (P.state plant.new) }
     ensures ready { IsReady (P.state plant.new) config.now host.now journal.new.events }
@@ -162,7 +182,7 @@ pub fn resume_copy<P: Plant>(
     if let Some(why) = found_volumes(config, devs, a, b) {
         return Err(why);
     }
-    match resume(plant, config, journal, a, b, CopyKind::Global) {
+    match resume(plant, config, journal, a, b, kind_of(kind)) {
         Ok(()) => Ok(Addition::Alone),
         Err(refusal) => Err(refusal),
     }

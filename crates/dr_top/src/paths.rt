@@ -15,7 +15,8 @@ ghost use Rattle.dr_model.specs.Plans as plans;
 ghost use Rattle.dr_model.specs.Runs.{after_plan, said};
 ghost use Rattle.dr_flash.specs.Checks.{is_stop};
 ghost use Rattle.dr_top.specs.Faults.{Counts};
-ghost use Rattle.dr_top.specs.Here.{here, said_of, OnAnswer, OnNoMemory, IsReady};
+ghost use Rattle.dr_metro.specs.Here.{here, IsReady};
+ghost use Rattle.dr_top.specs.Here.{said_of, OnAnswer, OnNoMemory};
 ghost use Rattle.dr_top.specs.WellFormed.{FitsOwner, FitsDevs};
 
 use crate::define::{bytes_of, unknown_server};

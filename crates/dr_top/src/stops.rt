@@ -1,6 +1,6 @@
 //! The steps that stop a server, arm its fuse, and start it.
 
-ghost use Rattle.std.specs.Prelude.{◌≡◌, ℕ, ◌+◌, ◌<◌, ◌≤◌, Bool, false, [], ◌∷◌, length, List, Option, Some, None, OnOk, OnErr, is_err};
+ghost use Rattle.std.specs.Prelude.{◌≡◌, ℕ, ◌+◌, ◌<◌, ◌≤◌, Bool, false, true, [], ◌∷◌, length, List, Option, Some, None, OnOk, OnErr, is_err};
 ghost use Rattle.dr_ids.specs.declared.refusal.Refusal.{Refusal};
 ghost use Rattle.dr_plant.specs.State.{PlantState};
 ghost use Rattle.dr_model.specs.Control.{World};
@@ -9,10 +9,14 @@ ghost use Rattle.dr_model.specs.ReadStops.{Ends};
 ghost use Rattle.dr_model.specs.Plans as plans;
 ghost use Rattle.dr_model.specs.Plans.{torn_bytes, acknowledge_on, says_acked};
 ghost use Rattle.dr_model.specs.Runs.{after_plan, said};
-ghost use Rattle.dr_volume.specs.View.{torn_seen};
-ghost use Rattle.dr_top.specs.Here.{here, said_of, Leads, IsReady, IsTold};
+ghost use Rattle.dr_model.specs.WriteEntries.{redo_on, restart_on};
+ghost use Rattle.dr_config.specs.Table.{place_of};
+ghost use Rattle.dr_volume.specs.View.{torn_seen, IsSettled};
+ghost use Rattle.dr_flash.specs.Turns.{Advances, Halts};
+ghost use Rattle.dr_metro.specs.Here.{here, IsReady, IsTold};
+ghost use Rattle.dr_top.specs.Here.{said_of, Leads};
 ghost use Rattle.dr_flash.specs.Here.{refusal_of, armed_in, IsAtRest};
-ghost use Rattle.dr_top.specs.Starting.{IsStarting, redo_from};
+ghost use Rattle.dr_top.specs.Starting.{IsStarting, start_from};
 ghost use Rattle.dr_model.specs.declared.event.Event.{Event};
 ghost use Rattle.dr_model.specs.declared.said.Said.TheVariants.{Done};
 ghost use Rattle.dr_model.specs.declared.step.Step.{Step};
@@ -21,6 +25,7 @@ ghost use Rattle.dr_top.specs.Faults.{Counted, Counts};
 
 use crate::define::{bytes_of, unknown_server};
 use dr_config::Config;
+use dr_coord::restart;
 use dr_host::Host;
 use dr_ids::{Refusal, ServerId, VolumeId};
 use dr_model::{Addition, Event, Journal, Name, TornWord};
@@ -93,8 +98,8 @@ pub fn arm<P: Plant>(
     Ok(Addition::Alone)
 }
 
-/// Turns a server on; where it is on, nothing happens. Its volumes' staged tracks are written to their places, and
-/// at the end the write that had landed in a stop is acknowledged.
+/// Turns a server on; where it is on, nothing happens. Its volumes write their staged tracks to their places and go on,
+/// and at the end the write that had landed in a stop is acknowledged.
 pub fn start<P: Plant>(
     plant: &mut P,
     config: &Config,
@@ -148,7 +153,7 @@ fn turn_on<P: Plant>(
 }
 
 /// Whether a volume is defined, and the server's.
-fn belongs(config: &Config, volume: VolumeId, server: ServerId) -> bool
+pub(crate) fn belongs(config: &Config, volume: VolumeId, server: ServerId) -> bool
     ensures { result ≡ has_owner config.now volume.0 server.0 }
 {
     match config.server_of(volume) {
@@ -157,7 +162,8 @@ fn belongs(config: &Config, volume: VolumeId, server: ServerId) -> bool
     }
 }
 
-/// Writes the staged tracks of a server's volumes to their places, in order of definition, until the server stops.
+/// Lets a server's volumes write their staged tracks to their places and go on, volume by volume, in order of definition,
+/// until the server stops.
 fn redo_volumes<P: Plant>(
     plant: &mut P,
     config: &Config,
@@ -168,7 +174,7 @@ fn redo_volumes<P: Plant>(
     requires known { server.0 < 8 }
     requires room { 2 ≤ journal.old.spare }
     ensures carried { (h : Writes) → Ends (armed_in (P.state plant.old)) (here (P.state plant.new) config.now h journal.new.events) (refusal_of result)
-        (here (P.state plant.old) config.now h journal.old.events) (redo_from config.now server.0 0) }
+        (here (P.state plant.old) config.now h journal.old.events) (start_from config.now server.0 0) }
     ensures stopped { OnErr result (refusal_of result ≡ Some (Refusal.Stopped server)) }
     ensures faults { Counted (is_err result) (P.state plant.old).faults (P.state plant.new).faults }
     ensures told { (h : Writes) → IsTold h journal.old.events → IsTold h journal.new.events }
@@ -183,7 +189,7 @@ fn redo_volumes<P: Plant>(
     Ok(())
 }
 
-/// Writes the staged track of the volume at a place to its own place, where the volume is the server's.
+/// Lets the volume at a place write its staged track to its own place and go on, where the volume is the server's.
 fn redo_at<P: Plant>(
     plant: &mut P,
     config: &Config,
@@ -195,10 +201,10 @@ fn redo_at<P: Plant>(
     requires known { server.0 < 8 }
     requires within { place < length config.now.volumes }
     requires room { 1 ≤ journal.old.spare }
-    ensures carried { OnOk result ((h : Writes) (armed : ℕ → Bool) (u : World) (r : Option Refusal) → Ends armed u r (here (P.state plant.new) config.now h journal.new.events) (redo_from config.now server.0 (place + 1))
-        → Ends armed u r (here (P.state plant.old) config.now h journal.old.events) (redo_from config.now server.0 place)) }
+    ensures carried { OnOk result ((h : Writes) (armed : ℕ → Bool) (u : World) (r : Option Refusal) → Ends armed u r (here (P.state plant.new) config.now h journal.new.events) (start_from config.now server.0 (place + 1))
+        → Ends armed u r (here (P.state plant.old) config.now h journal.old.events) (start_from config.now server.0 place)) }
     ensures ended { OnErr result ((h : Writes) → Ends (armed_in (P.state plant.old)) (here (P.state plant.new) config.now h journal.new.events) (refusal_of result)
-        (here (P.state plant.old) config.now h journal.old.events) (redo_from config.now server.0 place)) }
+        (here (P.state plant.old) config.now h journal.old.events) (start_from config.now server.0 place)) }
     ensures stopped { OnErr result (refusal_of result ≡ Some (Refusal.Stopped server)) }
     ensures faults { Counted (is_err result) (P.state plant.old).faults (P.state plant.new).faults }
     ensures told { (h : Writes) → IsTold h journal.old.events → IsTold h journal.new.events }
@@ -212,6 +218,38 @@ fn redo_at<P: Plant>(
     if !belongs(config, volume, server) {
         return Ok(());
     }
+    match redo_own(plant, config, journal, server, volume, place) {
+        Ok(()) => restart_own(plant, config, journal, server, volume, place),
+        Err(refusal) => Err(refusal),
+    }
+}
+
+/// Writes the staged track of the server's volume at a place to its own place.
+fn redo_own<P: Plant>(
+    plant: &mut P,
+    config: &Config,
+    journal: &mut Journal,
+    server: ServerId,
+    volume: VolumeId,
+    place: usize,
+) -> Result<(), Refusal>
+    requires starting { IsStarting (P.state plant.old) config.now server.0 place }
+    requires known { server.0 < 8 }
+    requires at { place_of config.now volume.0 ≡ Some place }
+    requires owned { has_owner config.now volume.0 server.0 ≡ true }
+    requires room { 1 ≤ journal.old.spare }
+    ensures advances { OnOk result ((h : Writes) → Advances (here (P.state plant.old) config.now h journal.old.events) (redo_on server.0 volume.0) (here (P.state plant.new) config.now h journal.new.events)) }
+    ensures halts { OnErr result ((h : Writes) → Halts (armed_in (P.state plant.old)) (here (P.state plant.old) config.now h journal.old.events) (redo_on server.0 volume.0) (here (P.state plant.new) config.now h journal.new.events) (refusal_of result)) }
+    ensures stopped { OnErr result (refusal_of result ≡ Some (Refusal.Stopped server)) }
+    ensures faults { Counted (is_err result) (P.state plant.old).faults (P.state plant.new).faults }
+    ensures told { (h : Writes) → IsTold h journal.old.events → IsTold h journal.new.events }
+    ensures starting { OnOk result (IsStarting (P.state plant.new) config.now server.0 (place + 1)) }
+    ensures settled { OnOk result (IsSettled (P.state plant.new) config.now volume.0) }
+    ensures rest { OnErr result (IsAtRest (P.state plant.new) config.now) }
+    ensures unarmed { (q : ℕ) → (P.state plant.old).read_fuse q ≡ None → (P.state plant.new).read_fuse q ≡ None }
+    ensures room { journal.old.spare ≤ journal.new.spare + 1 }
+    ensures room_left { OnOk result (journal.new.spare ≡ journal.old.spare) }
+{
     match redo(plant, config, volume) {
         Ok(()) => Ok(()),
         Err(_) => {
@@ -222,6 +260,34 @@ fn redo_at<P: Plant>(
             Err(Refusal::Stopped { server })
         }
     }
+}
+
+/// Lets the server's volume before a place go on, whose staged track stands at its place.
+fn restart_own<P: Plant>(
+    plant: &mut P,
+    config: &Config,
+    journal: &mut Journal,
+    server: ServerId,
+    volume: VolumeId,
+    place: usize,
+) -> Result<(), Refusal>
+    requires starting { IsStarting (P.state plant.old) config.now server.0 (place + 1) }
+    requires settled { IsSettled (P.state plant.old) config.now volume.0 }
+    requires at { place_of config.now volume.0 ≡ Some place }
+    requires owned { has_owner config.now volume.0 server.0 ≡ true }
+    requires room { 1 ≤ journal.old.spare }
+    ensures advances { OnOk result ((h : Writes) → Advances (here (P.state plant.old) config.now h journal.old.events) (restart_on server.0 volume.0) (here (P.state plant.new) config.now h journal.new.events)) }
+    ensures halts { OnErr result ((h : Writes) → Halts (armed_in (P.state plant.old)) (here (P.state plant.old) config.now h journal.old.events) (restart_on server.0 volume.0) (here (P.state plant.new) config.now h journal.new.events) (refusal_of result)) }
+    ensures stopped { OnErr result (refusal_of result ≡ Some (Refusal.Stopped server)) }
+    ensures faults { Counted (is_err result) (P.state plant.old).faults (P.state plant.new).faults }
+    ensures told { (h : Writes) → IsTold h journal.old.events → IsTold h journal.new.events }
+    ensures starting { OnOk result (IsStarting (P.state plant.new) config.now server.0 (place + 1)) }
+    ensures rest { OnErr result (IsAtRest (P.state plant.new) config.now) }
+    ensures unarmed { (q : ℕ) → (P.state plant.old).read_fuse q ≡ None → (P.state plant.new).read_fuse q ≡ None }
+    ensures room { journal.old.spare ≤ journal.new.spare + 1 }
+    ensures room_left { OnOk result (journal.new.spare ≡ journal.old.spare) }
+{
+    restart(plant, config, journal, volume)
 }
 
 /// Acknowledges the write that had landed on a volume of the server, where there is one. Says what a start adds.

@@ -12,7 +12,7 @@ use Rattle.dr_model.specs.Runs.{said}
 use Rattle.dr_model.specs.declared.said.Said.TheVariants.{Done}
 use Rattle.dr_model.specs.declared.said.Addition.TheVariants.{Counted}
 use Rattle.dr_volume.specs.View.{volume_seen, on_seen}
-use Rattle.dr_top.specs.Here.{here, rest_of}
+use Rattle.dr_metro.specs.Here.{here, rest_of}
 use Rattle.dr_flash.proofs.CheckLemmas.{on-low}
 use Rattle.dr_top.proofs.LocatedLemmas.{mapped_none, mapped_some, seen-entry}
 use Rattle.dr_top.proofs.BackgroundLemmas.{may_copy_by, left_by, gives, held, copy-nowhere, copy-off, copy-unfit, copy-held, copy-done, copy-failed}

@@ -2,7 +2,7 @@ use Rattle.std.proofs.Common.{arith, sym, ap, ◌∙◌, ◌≡◌, [], ◌∷�
 use Rattle.dr_model.specs.Carry.{carry}
 use Rattle.dr_model.specs.Entries.{times, fetch_next}
 use Rattle.std.proofs.Common.{refl}
-use Rattle.dr_top.specs.Here.{here, rest_of}
+use Rattle.dr_metro.specs.Here.{here, rest_of}
 use Rattle.dr_flash.proofs.TurnLemmas.{err-always}
 use Rattle.dr_top.proofs.LandLemmas.{exact, told-through, ready-after, refused-by}
 use Rattle.dr_top.proofs.BackgroundLemmas.{same-server, carried-next, carried-failed, carried-none, pass-later}

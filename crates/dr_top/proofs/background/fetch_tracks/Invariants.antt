@@ -3,7 +3,7 @@ use Rattle.dr_model.specs.Carry.{carry}
 use Rattle.dr_model.specs.Entries.{times, fetch_next}
 use Rattle.dr_flash.specs.Fit.{RelationsFit}
 use Rattle.dr_flash.specs.Here.{IsAtRest}
-use Rattle.dr_top.specs.Here.{here}
+use Rattle.dr_metro.specs.Here.{here}
 use Rattle.dr_top.proofs.background.fetch_tracks.Given as goal
 
 abbrev pub invariant-loop : goal.invariant-loop

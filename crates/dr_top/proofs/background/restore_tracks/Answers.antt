@@ -4,7 +4,7 @@ use Rattle.dr_model.specs.Entries.{times, give_back}
 use Rattle.std.proofs.Common.{refl}
 use Rattle.dr_top.proofs.RelationLemmas.{relations-fit}
 use Rattle.dr_volume.specs.View.{volume_seen, ids_of}
-use Rattle.dr_top.specs.Here.{here, rest_of}
+use Rattle.dr_metro.specs.Here.{here, rest_of}
 use Rattle.dr_flash.proofs.TurnLemmas.{err-always}
 use Rattle.dr_top.proofs.LandLemmas.{exact, told-through, ready-after, refused-by}
 use Rattle.dr_top.proofs.BackgroundLemmas.{same-server, carried-next, carried-failed, carried-none, pass-later, rounds-tell}

@@ -5,7 +5,7 @@ use Rattle.dr_volume.specs.View.{volume_seen, ids_of}
 use Rattle.dr_flash.specs.Fit.{RelationsFit}
 use Rattle.dr_flash.specs.Here.{IsAtRest}
 use Rattle.dr_incr.specs.Steps.{IsRestoredOnto}
-use Rattle.dr_top.specs.Here.{here}
+use Rattle.dr_metro.specs.Here.{here}
 use Rattle.dr_top.proofs.background.restore_tracks.Given as goal
 
 abbrev pub invariant-loop : goal.invariant-loop

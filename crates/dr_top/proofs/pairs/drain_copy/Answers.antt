@@ -9,7 +9,7 @@ use Rattle.dr_model.specs.declared.said.Said.TheVariants.{Done}
 use Rattle.dr_model.specs.declared.said.Addition.TheVariants.{Counted}
 use Rattle.dr_volume.specs.View.{volume_seen, on_seen}
 use Rattle.dr_flash.proofs.CheckLemmas.{on-low}
-use Rattle.dr_top.specs.Here.{here, rest_of}
+use Rattle.dr_metro.specs.Here.{here, rest_of}
 use Rattle.dr_top.proofs.LocatedLemmas.{mapped_none, mapped_some, seen-entry}
 use Rattle.dr_top.proofs.LandLemmas.{ready-after}
 use Rattle.dr_top.proofs.RelationLemmas.{relations-fit}

@@ -3,7 +3,7 @@ use Rattle.dr_model.specs.declared.said.Said.TheVariants.{Done}
 use Rattle.dr_model.specs.declared.said.Addition.TheVariants.{Alone}
 use Rattle.dr_model.specs.Plans.{found_volumes}
 use Rattle.dr_model.specs.PairEntries.{remove_entries}
-use Rattle.dr_top.specs.Here.{here, rest_of}
+use Rattle.dr_metro.specs.Here.{here, rest_of}
 use Rattle.dr_top.proofs.RelationLemmas.{relations-fit}
 use Rattle.dr_top.proofs.FlashLemmas.{step-nowhere, step-done, step-refused, step-ready}
 use Rattle.dr_top.proofs.pairs.end_copy.Goals as goal

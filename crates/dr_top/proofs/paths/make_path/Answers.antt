@@ -1,7 +1,7 @@
 use Rattle.std.proofs.Common.{sym, ap, ◌∙◌}
 use Rattle.dr_model.specs.declared.said.Said.TheVariants.{Refused}
 use Rattle.dr_model.specs.Runs.{said}
-use Rattle.dr_top.specs.Here.{here}
+use Rattle.dr_metro.specs.Here.{here}
 use Rattle.dr_top.proofs.DefineLemmas.{on-refusal}
 use Rattle.dr_top.proofs.PathLemmas.{owner-nowhere, owner-there, path-foreign, path-refused, path-made, ready-path}
 use Rattle.dr_top.proofs.paths.make_path.Goals as goal

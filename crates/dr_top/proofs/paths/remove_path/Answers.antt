@@ -2,7 +2,7 @@ use Rattle.std.proofs.Common.{sym, ap, ◌∙◌}
 use Rattle.std.specs.Prelude.{is_some}
 use Rattle.dr_model.specs.declared.said.Said.TheVariants.{Refused}
 use Rattle.dr_model.specs.Runs.{said}
-use Rattle.dr_top.specs.Here.{here}
+use Rattle.dr_metro.specs.Here.{here}
 use Rattle.dr_top.proofs.PathLemmas.{owner-nowhere, owner-there, unpath-nowhere, unpath-foreign, unpath-held, unpath-done, ready-unpath}
 use Rattle.dr_top.proofs.paths.remove_path.Goals as goal
 

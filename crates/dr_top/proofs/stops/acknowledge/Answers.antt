@@ -1,7 +1,7 @@
 use Rattle.std.proofs.Common.{sym, ap, ◌∙◌}
 use Rattle.dr_model.specs.Plans.{says_acked}
 use Rattle.dr_top.proofs.StartLemmas.{landed-here, acked-none, acked-one}
-use Rattle.dr_top.proofs.ToldLemmas.{told-acked}
+use Rattle.dr_metro.proofs.ToldLemmas.{told-acked}
 use Rattle.dr_top.proofs.stops.acknowledge.Goals as goal
 
 pub returns-in_default-clause-said : goal.returns-in_default-clause-said

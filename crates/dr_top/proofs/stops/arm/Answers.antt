@@ -3,7 +3,7 @@ use Rattle.dr_model.specs.declared.said.Said.TheVariants.{Done, Refused}
 use Rattle.dr_model.specs.declared.said.Addition.TheVariants.{Alone}
 use Rattle.dr_model.specs.Plans.{arm_on}
 use Rattle.dr_model.specs.Runs.{said}
-use Rattle.dr_top.specs.Here.{here}
+use Rattle.dr_metro.specs.Here.{here}
 use Rattle.dr_top.proofs.StopLemmas.{unknown-server, known-server, armed-now}
 use Rattle.dr_top.proofs.stops.arm.Goals as goal
 

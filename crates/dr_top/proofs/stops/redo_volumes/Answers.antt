@@ -3,11 +3,11 @@ use Rattle.dr_io.specs.Faults.{Rose}
 use Rattle.dr_top.specs.Faults.{Counted}
 use Rattle.dr_model.specs.ReadStops.{Ends}
 use Rattle.dr_laws.proofs.ReadStops.{ends-wider}
-use Rattle.dr_top.specs.Here.{here}
+use Rattle.dr_metro.specs.Here.{here}
 use Rattle.dr_flash.specs.Here.{armed_in}
-use Rattle.dr_top.specs.Starting.{redo_from}
+use Rattle.dr_top.specs.Starting.{start_from}
 use Rattle.dr_top.proofs.LandLemmas.{refused-by, wider-armed}
-use Rattle.dr_top.proofs.StartLemmas.{rest-started, redone-all}
+use Rattle.dr_top.proofs.StartLemmas.{rest-started, started-all}
 use Rattle.dr_top.proofs.stops.redo_volumes.Goals as goal
 
 pub loop-place-preserved : goal.loop-place-preserved
@@ -27,7 +27,7 @@ returns-in_err-redo_at-clause-carried g c h =
     let t = c.args.config.now in
     let u = here (g.P.Plant.state c.redo_at.new.plant) t h c.redo_at.new.journal.events in
     let e = c.in_err-redo_at.field-0.0 in
-    subst (λ r. Ends (armed_in s0) u r (here s0 t h c.args.journal.now.events) (redo_from t c.args.server.0 0)) (sym (refused-by c.from_residual.result e c.from_residual.ensures.0 c.from_residual.ensures.1))
+    subst (λ r. Ends (armed_in s0) u r (here s0 t h c.args.journal.now.events) (start_from t c.args.server.0 0)) (sym (refused-by c.from_residual.result e c.from_residual.ensures.0 c.from_residual.ensures.1))
     (c.loop-place.invariant.rest h u (Some e)
     (ends-wider (armed_in s) (armed_in s0) (wider-armed s0 s c.loop-place.invariant.unarmed) u (Some e) _ _ (c.in_err-redo_at.ensures.ended h)))
 
@@ -39,7 +39,7 @@ returns-clause-carried g c h =
     let s = g.P.Plant.state c.loop-place.plant in
     let all : length c.args.config.now.volumes ≤ c.loop-place.place = (let e = c.volumes-place-end.ensures.count in let f = c.loop-place-test.false in omega arith) in
     c.loop-place.invariant.rest h (here s c.args.config.now h c.loop-place.journal.events) None
-    (redone-all (armed_in (g.P.Plant.state c.args.plant.now)) (here s c.args.config.now h c.loop-place.journal.events) c.args.config.now c.args.server.0 c.loop-place.place all)
+    (started-all (armed_in (g.P.Plant.state c.args.plant.now)) (here s c.args.config.now h c.loop-place.journal.events) c.args.config.now c.args.server.0 c.loop-place.place all)
 
 pub returns-clause-rest : goal.returns-clause-rest
 returns-clause-rest g c =

@@ -3,7 +3,8 @@ use Rattle.dr_model.specs.declared.said.Said.TheVariants.{Done, Refused}
 use Rattle.dr_model.specs.declared.said.Addition.TheVariants.{Alone}
 use Rattle.dr_model.specs.Plans.{start_on}
 use Rattle.dr_model.specs.Runs.{said}
-use Rattle.dr_top.specs.Here.{here, said_of}
+use Rattle.dr_metro.specs.Here.{here}
+use Rattle.dr_top.specs.Here.{said_of}
 use Rattle.dr_top.proofs.StopLemmas.{unknown-server, known-server}
 use Rattle.dr_top.proofs.StartLemmas.{started-already}
 use Rattle.dr_top.proofs.stops.start.Goals as goal

@@ -1,11 +1,11 @@
 use Rattle.std.proofs.Common.{sym, ap, refl, ◌∙◌}
 use Rattle.dr_model.specs.declared.event.Event.TheVariants.{Stopped}
-use Rattle.dr_top.proofs.ToldLemmas.{told-push}
+use Rattle.dr_metro.proofs.ToldLemmas.{told-push}
 use Rattle.dr_model.specs.declared.said.Said.TheVariants.{Done, Refused}
 use Rattle.dr_model.specs.declared.said.Addition.TheVariants.{Alone}
 use Rattle.dr_model.specs.Plans.{stop_on}
 use Rattle.dr_model.specs.Runs.{said}
-use Rattle.dr_top.specs.Here.{here}
+use Rattle.dr_metro.specs.Here.{here}
 use Rattle.dr_top.proofs.StopLemmas.{unknown-server, known-server, stopped-already, stopped-now, rest-off, reads-off}
 use Rattle.dr_top.proofs.stops.stop.Goals as goal
 

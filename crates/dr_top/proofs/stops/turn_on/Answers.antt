@@ -5,11 +5,11 @@ use Rattle.dr_plant.specs.State.{PlantState}
 use Rattle.dr_model.specs.Carry.{carry}
 use Rattle.dr_model.specs.Runs.{said}
 use Rattle.dr_volume.specs.View.{ReadsPass}
-use Rattle.dr_top.specs.Here.{here}
-use Rattle.dr_top.specs.Starting.{IsStarting, redo_from}
+use Rattle.dr_metro.specs.Here.{here}
+use Rattle.dr_top.specs.Starting.{IsStarting, start_from}
 use Rattle.dr_top.proofs.LandLemmas.{exact, ready-after, failed-by}
 use Rattle.dr_top.proofs.StartLemmas.{started-faults, stopped-counts, turned-fails, turned-goes, starting-first, started-reads}
-use Rattle.dr_top.proofs.ToldLemmas.{told-push}
+use Rattle.dr_metro.proofs.ToldLemmas.{told-push}
 use Rattle.dr_top.proofs.stops.turn_on.Goals as goal
 
 pub redo_volumes-requires-clause-starting : goal.redo_volumes-requires-clause-starting
@@ -23,8 +23,8 @@ returns-in_err-redo_volumes-clause-step g c line =
     let e = c.in_err-redo_volumes.field-0.0 in
     let reads = subst ReadsPass (sym c.start.ensures) (started-reads s c.args.server.0 c.requires.ready.reads) in
     turned-fails s t h c.args.journal.now.events line c.args.server.0 c.requires.known c.requires.off mid c.push.ensures.events u now e
-    (ap (λ (x : PlantState). carry (here x t h mid) (redo_from t c.args.server.0 0)) (sym c.start.ensures)
-    ∙ exact s1 (here u t h now) (Some e) (here s1 t h mid) (redo_from t c.args.server.0 0) reads (c.in_err-redo_volumes.ensures.carried h))
+    (ap (λ (x : PlantState). carry (here x t h mid) (start_from t c.args.server.0 0)) (sym c.start.ensures)
+    ∙ exact s1 (here u t h now) (Some e) (here s1 t h mid) (start_from t c.args.server.0 0) reads (c.in_err-redo_volumes.ensures.carried h))
     ∙ ap (said (here u t h now) line) (sym (failed-by c.from_residual.result e c.from_residual.ensures.0 c.from_residual.ensures.1))
 
 pub returns-in_err-redo_volumes-clause-ready : goal.returns-in_err-redo_volumes-clause-ready
@@ -51,8 +51,8 @@ returns-clause-step g c line =
     let reads = subst ReadsPass (sym c.start.ensures) (started-reads s c.args.server.0 c.requires.ready.reads) in
     turned-goes s t h c.args.journal.now.events line c.args.server.0 c.requires.known c.requires.off mid c.push.ensures.events
     u c.acknowledge.new.host c.redo_volumes.new.journal.events c.acknowledge.new.journal.events c.acknowledge.result
-    (ap (λ (x : PlantState). carry (here x t h mid) (redo_from t c.args.server.0 0)) (sym c.start.ensures)
-    ∙ exact s1 (here u t h c.redo_volumes.new.journal.events) None (here s1 t h mid) (redo_from t c.args.server.0 0) reads (c.in_ok-redo_volumes.ensures.carried h))
+    (ap (λ (x : PlantState). carry (here x t h mid) (start_from t c.args.server.0 0)) (sym c.start.ensures)
+    ∙ exact s1 (here u t h c.redo_volumes.new.journal.events) None (here s1 t h mid) (start_from t c.args.server.0 0) reads (c.in_ok-redo_volumes.ensures.carried h))
     (c.acknowledge.ensures.act u) (c.acknowledge.ensures.said s)
 
 pub returns-clause-ready : goal.returns-clause-ready

@@ -1,0 +1,23 @@
+use Rattle.std.proofs.Common.{ℕ, ◌≡◌, Option, true, None}
+use Rattle.dr_ids.specs.declared.refusal.Refusal.{Refusal}
+use Rattle.dr_model.specs.Control.{World}
+use Rattle.dr_model.specs.ReadStops.{Ends}
+use Rattle.dr_flash.specs.Fit.{RelationsFit}
+use Rattle.dr_flash.specs.Here.{armed_in, IsAtRest}
+use Rattle.dr_host.specs.Writes.{Writes}
+use Rattle.dr_metro.specs.Here.{here}
+use Rattle.dr_top.specs.Starting.{lift_from}
+use Rattle.dr_top.proofs.expiry.expire_volumes.Given as goal
+
+abbrev pub invariant-loop-place : goal.invariant-loop-place
+invariant-loop-place g l = record {
+  -- what is left to do ends as all would
+  left : (h : Writes) (u : World) (r : Option Refusal) → Ends (armed_in (g.P.Plant.state l.fn.plant)) u r (here (g.P.Plant.state l.plant) l.config h l.journal.events) (lift_from l.config l.server.0 l.place)
+      → Ends (armed_in (g.P.Plant.state l.fn.plant)) u r (here (g.P.Plant.state l.fn.plant) l.config h l.fn.journal.events) (lift_from l.config l.server.0 0);
+  rest : IsAtRest (g.P.Plant.state l.plant) l.config;
+  fit : RelationsFit (g.P.Plant.state l.plant) l.config;
+  on : (g.P.Plant.state l.plant).on l.server.0 ≡ true;
+  spare : l.journal.spare ≡ l.fn.journal.spare;
+  faults : (g.P.Plant.state l.plant).faults ≡ (g.P.Plant.state l.fn.plant).faults;
+  unarmed : (q : ℕ) → (g.P.Plant.state l.fn.plant).read_fuse q ≡ None → (g.P.Plant.state l.plant).read_fuse q ≡ None;
+}
