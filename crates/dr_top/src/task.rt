@@ -18,6 +18,7 @@ ghost use Rattle.dr_top.specs.WellFormed.{FitsDevs, IsWellFormed};
 
 use crate::background::copy;
 use crate::define::{define_server, define_volume, set_link};
+use crate::expiry::expire;
 use crate::flash::{make_flash, remove_flash, resync_flash, reverse_flash};
 use crate::pairs::{drain_copy, end_copy, make_copy, pause_copy, resume_copy};
 use crate::paths::{make_path, remove_path};
@@ -27,7 +28,7 @@ use dr_config::Config;
 use dr_flash::Options;
 use dr_host::Host;
 use dr_ids::{Fault, Lss, Refusal, VolumeId};
-use dr_model::{Addition, Devs, Journal, Name, Said, Step};
+use dr_model::{Addition, Devs, Journal, Said, Step};
 use dr_plant::Plant;
 use std::alloc::AllocError;
 
@@ -39,6 +40,7 @@ const STEP_EVENTS: usize = 4096;
 
 /// The numbers of the kinds of pairs in a step.
 const METRO_MIRROR: u8 = 1;
+
 const GLOBAL_COPY: u8 = 2;
 
 /// Whether pairs of that kind are built.
@@ -333,28 +335,7 @@ fn carry_pair<P: Plant>(
     }
 }
 
-// STUBS: the lead replaces these three by the calls of stops.rt and freezing.rt.
-fn expire<P: Plant>(
-    plant: &mut P,
-    config: &Config,
-    host: &Host,
-    journal: &mut Journal,
-    name: &Name,
-) -> Result<Addition, Refusal>
-    requires stub { ⊥ }
-    requires ready { IsReady (P.state plant.old) config.now host.now journal.old.events }
-    requires short { name.now.len ≤ 24 }
-    requires few { length config.now.volumes ≤ 64 }
-    requires room { 4096 ≤ journal.old.spare }
-    ensures step { (line : ℕ) → Leads (here (P.state plant.old) config.now host.now journal.old.events) line (Step.Expire name.now)
-        (here (P.state plant.new) config.now host.now journal.new.events) (said_of result) }
-    ensures faults { Counts (said_of result) (P.state plant.old) (P.state plant.new) }
-    ensures ready { IsReady (P.state plant.new) config.now host.now journal.new.events }
-    ensures room { 1 ≤ journal.new.spare }
-{
-    Err(Refusal::NotBuilt)
-}
-
+// STUBS: the lead replaces these two by the calls of freezing.rt.
 fn freeze<P: Plant>(
     plant: &mut P,
     config: &mut Config,
