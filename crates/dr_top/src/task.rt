@@ -12,7 +12,7 @@ ghost use Rattle.dr_model.specs.Runs.{after_task};
 ghost use Rattle.dr_model.specs.declared.said.Said.TheVariants.{Refused};
 ghost use Rattle.dr_model.specs.declared.step.Step.{Step};
 ghost use Rattle.dr_top.specs.Faults.{Counted, Counts, told_stop};
-ghost use Rattle.dr_top.specs.Forms.{is_plain, is_relation};
+ghost use Rattle.dr_top.specs.Forms.{is_plain, is_relation, is_pair};
 ghost use Rattle.dr_top.specs.Here.{here, said_of, widened, answer_widened, all_done, OnSaid, OnNoMemory, Leads, IsReady};
 ghost use Rattle.dr_top.specs.WellFormed.{IsWellFormed};
 
@@ -51,23 +51,48 @@ fn is_copied(kind: u8) -> bool
     kind == METRO_MIRROR || kind == GLOBAL_COPY
 }
 
-/// Whether the form of a step is built.
-fn is_built(step: &Step) -> bool
-    ensures { result ≡ is_built step.now }
+/// Whether a step is one on servers, volumes, paths or host writes, or a freeze or a thaw.
+fn is_plain(step: &Step) -> bool
+    ensures { result ≡ is_plain step.now }
 {
     match step {
         Step::Server { .. } | Step::Volume { .. } | Step::Link { .. } => true,
         Step::Stop { .. } | Step::StopAfter { .. } | Step::Start { .. } => true,
         Step::Issue { .. } | Step::Write { .. } | Step::Apply { .. } => true,
-        Step::Show { .. } | Step::Copy { .. } => true,
-        Step::MakeFlash { .. } | Step::RemoveFlash { .. } => true,
-        Step::ResyncFlash { .. } | Step::ReverseFlash { .. } => true,
+        Step::Show { .. } | Step::Expire { .. } => true,
         Step::MakePath { .. } | Step::RemovePath { .. } => true,
-        Step::RemovePair { .. } | Step::PausePair { .. } | Step::Drain { .. } => true,
-        Step::MakePair { kind, .. } | Step::ResumePair { kind, .. } => is_copied(*kind),
-        Step::Expire { .. } | Step::Freeze { .. } | Step::Unfreeze { .. } => true,
+        Step::Freeze { .. } | Step::Unfreeze { .. } => true,
         _ => false,
     }
+}
+
+/// Whether a step is one on a FlashCopy relationship whose form is built.
+fn is_relation(step: &Step) -> bool
+    ensures { result ≡ is_relation step.now }
+{
+    match step {
+        Step::MakeFlash { .. } | Step::RemoveFlash { .. } | Step::Copy { .. } => true,
+        Step::ResyncFlash { .. } | Step::ReverseFlash { .. } => true,
+        _ => false,
+    }
+}
+
+/// Whether a step is one on a pair whose form is built.
+fn is_pair(step: &Step) -> bool
+    ensures { result ≡ is_pair step.now }
+{
+    match step {
+        Step::RemovePair { .. } | Step::PausePair { .. } | Step::Drain { .. } => true,
+        Step::MakePair { kind, .. } | Step::ResumePair { kind, .. } => is_copied(*kind),
+        _ => false,
+    }
+}
+
+/// Whether the form of a step is built.
+fn is_built(step: &Step) -> bool
+    ensures { result ≡ is_built step.now }
+{
+    is_plain(step) || is_relation(step) || is_pair(step)
 }
 
 /// Whether the journal has room for what a step may tell.
