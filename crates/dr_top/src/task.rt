@@ -39,6 +39,7 @@ const STEP_EVENTS: usize = 4096;
 
 /// The numbers of the kinds of pairs in a step.
 const METRO_MIRROR: u8 = 1;
+
 const GLOBAL_COPY: u8 = 2;
 
 /// Whether pairs of that kind are built.
