@@ -1,32 +1,22 @@
 -- Entries that were carried out where no read fuse is armed, and calls that failed.
-use Rattle.std.proofs.Common.{ℕ, ◌≡◌, ◌≤◌, ◌<◌, ◌⊎◌, inl, inr, Bool, true, false, ◌&&◌, List, ◌++◌, nat_eq, refl, sym, ◌∙◌, ap, subst, nat_lt, arith, Option, None, Some}
-use Rattle.std.specs.Prelude.{is_some, if◌then◌else◌, Result, Ok, Err, is_err}
+use Rattle.std.proofs.Common.{ℕ, ◌≡◌, Bool, true, false, ◌&&◌, List, ◌++◌, refl, sym, ◌∙◌, ap, subst, nat_lt, arith, Option, None, Some}
+use Rattle.std.specs.Prelude.{is_some, Result, Ok, Err, is_err}
 use Rattle.std.specs.Result.{IsErrAnd}
 use Rattle.dr_model.specs.declared.said.Addition.{Addition}
 use Rattle.dr_model.specs.declared.said.Said.TheVariants.{Refused}
-use Rattle.std.proofs.lemmas.Bool.{cases_eq, ne_eqb}
 use Rattle.std.proofs.lemmas.Bool.Decides.{nat_tests}
-use Rattle.dr_bits.specs.Membership.{lt_true}
-use Rattle.dr_plant.specs.State.{PlantState, after_read, can_read, passes_read}
-use Rattle.dr_plant.proofs.StateLemmas.{read_done}
-use Rattle.dr_config.specs.Table.{Table, StandsFor, place_of}
-use Rattle.dr_model.specs.Layout.{Fields}
+use Rattle.dr_plant.specs.State.{PlantState}
+use Rattle.dr_config.specs.Table.{Table}
 use Rattle.dr_model.specs.Control.{World}
-use Rattle.dr_model.specs.Moves.{Carried}
 use Rattle.dr_ids.specs.declared.refusal.Refusal.{Refusal}
-use Rattle.dr_model.specs.Carry.{Ended, ended, Entry, Outcome, carry}
-use Rattle.dr_model.specs.Entries.{copies_from}
+use Rattle.dr_model.specs.Carry.{Entry, Outcome, carry}
 use Rattle.dr_model.specs.Histories.{histories}
 use Rattle.dr_model.proofs.CarryLemmas.{carry-append, onward}
 use Rattle.dr_laws.proofs.Unissued.{unissued}
-use Rattle.dr_model.specs.ReadStops.{shut, Ends}
+use Rattle.dr_model.specs.ReadStops.{Ends}
 use Rattle.dr_laws.proofs.ReadStops.{ends-exact}
-use Rattle.dr_volume.specs.View.{Rest, world, volume_seen, device_of, IsSettled, ReadsPass}
-use Rattle.dr_volume.specs.Update.{IsAsBefore, IsMoved, OthersStay, EndsAs, after_reading}
-use Rattle.dr_volume.proofs.UnreadLaws.{Unread, unread, armed-of, lies-low}
+use Rattle.dr_volume.specs.View.{ReadsPass}
 use Rattle.dr_host.specs.Writes.{Writes, Each}
-use Rattle.dr_flash.specs.Fit.{RelationsFit}
-use Rattle.dr_flash.proofs.FitLemmas.{target-no_source}
 use Rattle.dr_metro.proofs.ToldLemmas.{IsWrite}
 use Rattle.dr_model.specs.declared.event.Event.{Event}
 use Rattle.dr_top.specs.Here.{IsReady, IsTold, said_of}

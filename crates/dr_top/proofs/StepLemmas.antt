@@ -25,7 +25,6 @@ use Rattle.dr_model.specs.declared.event.Event.{Event}
 use Rattle.dr_model.specs.declared.event.Event.TheVariants.{Shown, Issue}
 use Rattle.dr_model.specs.declared.said.Said.{Said}
 use Rattle.dr_model.specs.declared.said.Said.TheVariants.{Done, Held, Refused}
-use Rattle.dr_model.specs.declared.said.Addition.{Addition}
 use Rattle.dr_model.specs.declared.said.Addition.TheVariants.{Showed, Wrote}
 use Rattle.dr_model.specs.Limits.{most_pending}
 use Rattle.dr_model.specs.Refusals.{server_off, unknown, over}

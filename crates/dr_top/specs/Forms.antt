@@ -1,7 +1,8 @@
 -- Forms of steps.
 use Rattle.std.specs.Prelude.{Bool, true, false}
+use Rattle.dr_model.specs.Layout.{is_part, part_of}
 use Rattle.dr_model.specs.declared.step.Step.{Step}
-use Rattle.dr_model.specs.declared.step.Step.TheVariants.{Server, Volume, Link, Stop, StopAfter, Start, Issue, Write, Apply, Show, MakePath, RemovePath, Expire, Freeze, Unfreeze, MakeFlash, RemoveFlash, ResyncFlash, ReverseFlash, Copy}
+use Rattle.dr_model.specs.declared.step.Step.TheVariants.{Server, Volume, Link, Stop, StopAfter, Start, Issue, Write, Apply, Show, MakePath, RemovePath, Expire, Freeze, Unfreeze, MakeFlash, RemoveFlash, ResyncFlash, ReverseFlash, Copy, MakePair, RemovePair, PausePair, ResumePair, Drain}
 
 -- those on servers, volumes, paths and host writes, and freezes and thaws
 abbrev pub is_plain : Step → Bool
@@ -30,3 +31,12 @@ is_relation (ResyncFlash devs s t nocopy persistent recorded inhibited sequence)
 is_relation (ReverseFlash devs s t tgtpprc sequence) = true
 is_relation (Copy t most) = true
 is_relation _ = false
+
+-- those on pairs of Metro Mirror and of Global Copy
+abbrev pub is_pair : Step → Bool
+is_pair (MakePair devs a b kind full) = is_part (part_of kind)
+is_pair (RemovePair devs a b source_only) = true
+is_pair (PausePair devs a b) = true
+is_pair (ResumePair devs a b kind) = is_part (part_of kind)
+is_pair (Drain a most) = true
+is_pair _ = false

@@ -12,12 +12,13 @@ ghost use Rattle.dr_model.specs.Runs.{after_task};
 ghost use Rattle.dr_model.specs.declared.said.Said.TheVariants.{Refused};
 ghost use Rattle.dr_model.specs.declared.step.Step.{Step};
 ghost use Rattle.dr_top.specs.Faults.{Counted, Counts, told_stop};
-ghost use Rattle.dr_top.specs.Forms.{is_plain, is_relation};
+ghost use Rattle.dr_top.specs.Forms.{is_plain, is_relation, is_pair};
 ghost use Rattle.dr_top.specs.Here.{here, said_of, widened, answer_widened, all_done, OnSaid, OnNoMemory, Leads, IsReady};
 ghost use Rattle.dr_top.specs.WellFormed.{FitsDevs, IsWellFormed};
 
 use crate::background::copy;
 use crate::define::{define_server, define_volume, set_link};
+use crate::expiry::expire;
 use crate::flash::{make_flash, remove_flash, resync_flash, reverse_flash};
 use crate::pairs::{drain_copy, end_copy, make_copy, pause_copy, resume_copy};
 use crate::paths::{make_path, remove_path};
@@ -27,7 +28,7 @@ use dr_config::Config;
 use dr_flash::Options;
 use dr_host::Host;
 use dr_ids::{Fault, Lss, Refusal, VolumeId};
-use dr_model::{Addition, Devs, Journal, Name, Said, Step};
+use dr_model::{Addition, Devs, Journal, Said, Step};
 use dr_plant::Plant;
 use std::alloc::AllocError;
 
@@ -49,23 +50,48 @@ fn is_copied(kind: u8) -> bool
     kind == METRO_MIRROR || kind == GLOBAL_COPY
 }
 
-/// Whether the form of a step is built.
-fn is_built(step: &Step) -> bool
-    ensures { result ≡ is_built step.now }
+/// Whether a step is one on servers, volumes, paths or host writes, or a freeze or a thaw.
+fn is_plain(step: &Step) -> bool
+    ensures { result ≡ is_plain step.now }
 {
     match step {
         Step::Server { .. } | Step::Volume { .. } | Step::Link { .. } => true,
         Step::Stop { .. } | Step::StopAfter { .. } | Step::Start { .. } => true,
         Step::Issue { .. } | Step::Write { .. } | Step::Apply { .. } => true,
-        Step::Show { .. } | Step::Copy { .. } => true,
-        Step::MakeFlash { .. } | Step::RemoveFlash { .. } => true,
-        Step::ResyncFlash { .. } | Step::ReverseFlash { .. } => true,
+        Step::Show { .. } | Step::Expire { .. } => true,
         Step::MakePath { .. } | Step::RemovePath { .. } => true,
-        Step::RemovePair { .. } | Step::PausePair { .. } | Step::Drain { .. } => true,
-        Step::MakePair { kind, .. } | Step::ResumePair { kind, .. } => is_copied(*kind),
-        Step::Expire { .. } | Step::Freeze { .. } | Step::Unfreeze { .. } => true,
+        Step::Freeze { .. } | Step::Unfreeze { .. } => true,
         _ => false,
     }
+}
+
+/// Whether a step is one on a FlashCopy relationship whose form is built.
+fn is_relation(step: &Step) -> bool
+    ensures { result ≡ is_relation step.now }
+{
+    match step {
+        Step::MakeFlash { .. } | Step::RemoveFlash { .. } | Step::Copy { .. } => true,
+        Step::ResyncFlash { .. } | Step::ReverseFlash { .. } => true,
+        _ => false,
+    }
+}
+
+/// Whether a step is one on a pair whose form is built.
+fn is_pair(step: &Step) -> bool
+    ensures { result ≡ is_pair step.now }
+{
+    match step {
+        Step::RemovePair { .. } | Step::PausePair { .. } | Step::Drain { .. } => true,
+        Step::MakePair { kind, .. } | Step::ResumePair { kind, .. } => is_copied(*kind),
+        _ => false,
+    }
+}
+
+/// Whether the form of a step is built.
+fn is_built(step: &Step) -> bool
+    ensures { result ≡ is_built step.now }
+{
+    is_plain(step) || is_relation(step) || is_pair(step)
 }
 
 /// Whether the journal has room for what a step may tell.
@@ -309,28 +335,7 @@ fn carry_pair<P: Plant>(
     }
 }
 
-// STUBS: the lead replaces these three by the calls of stops.rt and freezing.rt.
-fn expire<P: Plant>(
-    plant: &mut P,
-    config: &Config,
-    host: &Host,
-    journal: &mut Journal,
-    name: &Name,
-) -> Result<Addition, Refusal>
-    requires stub { ⊥ }
-    requires ready { IsReady (P.state plant.old) config.now host.now journal.old.events }
-    requires short { name.now.len ≤ 24 }
-    requires few { length config.now.volumes ≤ 64 }
-    requires room { 4096 ≤ journal.old.spare }
-    ensures step { (line : ℕ) → Leads (here (P.state plant.old) config.now host.now journal.old.events) line (Step.Expire name.now)
-        (here (P.state plant.new) config.now host.now journal.new.events) (said_of result) }
-    ensures faults { Counts (said_of result) (P.state plant.old) (P.state plant.new) }
-    ensures ready { IsReady (P.state plant.new) config.now host.now journal.new.events }
-    ensures room { 1 ≤ journal.new.spare }
-{
-    Err(Refusal::NotBuilt)
-}
-
+// STUBS: the lead replaces these two by the calls of freezing.rt.
 fn freeze<P: Plant>(
     plant: &mut P,
     config: &mut Config,

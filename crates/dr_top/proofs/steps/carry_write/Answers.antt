@@ -1,4 +1,4 @@
-use Rattle.std.proofs.Common.{◌≡◌, ◌∙◌, ap}
+use Rattle.std.proofs.Common.{◌∙◌, ap}
 use Rattle.dr_model.specs.WriteEntries.{waits}
 use Rattle.dr_top.specs.Faults.{is_stopped}
 use Rattle.dr_top.specs.Here.{here}
