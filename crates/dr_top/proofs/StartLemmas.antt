@@ -275,7 +275,7 @@ ready-volume s t v server place at starting settled is owned = record {
   size = starting.sizes v;
 }
 
--- what a volume that goes on leaves of the pending writes' events
+-- whether a volume went on or its server stopped, the host's writes are still those of the journal
 pub told-either : (s : PlantState) (r : Result (Unit {0}) Refusal) (h : Writes) (w u : World) (d : Entry) → OnOk r (u.events ≡ w.events) → OnErr r (Halts (armed_in s) w d u (refusal_of r)) → IsTold h w.events → IsTold h u.events
 told-either s (Ok x) h w u d same ends told = subst (IsTold h) (sym same) told
 told-either s (Err e) h w u d same ends told = told-through (armed_in s) h w u (d ∷ []) (Some e) (ends []) told

@@ -11,7 +11,7 @@ use Rattle.dr_volume.specs.View.{volume_seen, ids_of, IsSettled}
 abbrev pub start_from : Table → ℕ → ℕ → List Entry
 start_from t server place = start_entries server (ids_of (drop place t.volumes))
 
--- what is left to do for the volumes from a place on, where the holds of a server's volumes end
+-- and where the holds of its volumes end
 abbrev pub lift_from : Table → ℕ → ℕ → List Entry
 lift_from t server place = map (lift_on server) (ids_of (drop place t.volumes))
 
