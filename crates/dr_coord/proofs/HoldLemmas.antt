@@ -1,25 +1,23 @@
 -- How holds of a volume end, and how it goes on as its server starts: the fields are lawful, and what is told.
-use Rattle.std.proofs.Common.{ℕ, ◌≡◌, ◌≤◌, ◌<◌, ◌⊎◌, inl, inr, Bool, true, false, not, ◌&&◌, ◌||◌, cond, nat_eq, ◌==◌, arith, List, [], ◌∷◌, ◌++◌, refl, sym, ◌∙◌, ap, subst, Option, None, Some}
+use Rattle.std.proofs.Common.{ℕ, ◌≡◌, ◌<◌, ◌⊎◌, inl, inr, Bool, true, false, ◌&&◌, ◌||◌, cond, nat_eq, ◌==◌, arith, List, [], ◌∷◌, ◌++◌, refl, sym, ◌∙◌, ap, Option, None, Some}
 use Rattle.std.specs.Prelude.{is_some, if◌then◌else◌}
 use Rattle.std.proofs.lemmas.Bool.Decides.{Decides-eqb, nat_tests}
 use Rattle.std.proofs.lemmas.List.{append-nil}
 use Rattle.std.specs.List.{find, list_any}
-use Rattle.std.specs.FinSet.{union, empty}
-use Rattle.dr_bits.specs.Tracks.{Tracks}
 use Rattle.dr_plant.specs.State.{PlantState}
-use Rattle.dr_config.specs.Table.{Table, StandsFor, place_of}
+use Rattle.dr_config.specs.Table.{Table, place_of}
 use Rattle.dr_config.specs.declared.entries.VolumeEntry.{VolumeEntry}
 use Rattle.dr_ids.specs.declared.refusal.Refusal.{Refusal}
 use Rattle.dr_model.specs.declared.event.Event.{Event}
 use Rattle.dr_model.specs.declared.event.Event.TheVariants.{Stopped}
 use Rattle.dr_model.specs.declared.state.PairState.{PairState}
 use Rattle.dr_model.specs.declared.state.PairState.TheVariants.{CopyPending}
-use Rattle.dr_model.specs.Layout.{Fields, is_part}
-use Rattle.dr_model.specs.Lawful.{Low, HasSets, IsLawful, NoPrimary}
-use Rattle.dr_model.specs.Control.{Volume, World, is_volume}
-use Rattle.dr_model.specs.Pairs.{held, lifted, restarted, voided, is_engaged, is_torn, must_restart}
+use Rattle.dr_model.specs.Layout.{Fields}
+use Rattle.dr_model.specs.Lawful.{HasSets, IsLawful, NoPrimary}
+use Rattle.dr_model.specs.Control.{Volume, World}
+use Rattle.dr_model.specs.Pairs.{held, lifted, restarted, is_engaged, is_torn, must_restart}
 use Rattle.dr_model.specs.Moves.{Move, Lift, Restart, fields_left}
-use Rattle.dr_model.specs.Carry.{Next, Pass, Do, Make, Entry, Ended, ended, update, now}
+use Rattle.dr_model.specs.Carry.{Pass, Do, Make, Entry, Ended, ended, update, now}
 use Rattle.dr_model.specs.WriteEntries.{belongs, lift_on, restart_on}
 use Rattle.dr_volume.specs.View.{Rest, volume_seen, ids_of}
 use Rattle.dr_flash.specs.Fit.{RelationsFit}

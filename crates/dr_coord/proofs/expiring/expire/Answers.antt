@@ -1,4 +1,4 @@
-use Rattle.std.proofs.Common.{◌≡◌, ap, refl, sym, subst, ◌∙◌}
+use Rattle.std.proofs.Common.{ap, sym, ◌∙◌}
 use Rattle.dr_model.specs.Carry.{now}
 use Rattle.dr_model.specs.Moves.{Lift}
 use Rattle.dr_model.specs.Pairs.{held}
@@ -6,9 +6,7 @@ use Rattle.dr_model.specs.WriteEntries.{lift_on}
 use Rattle.dr_volume.specs.View.{volume_seen}
 use Rattle.dr_flash.specs.Here.{seen, armed_in, refusal_of}
 use Rattle.dr_flash.proofs.CheckLemmas.{act-ends}
-use Rattle.dr_flash.proofs.CopyLemmas.{led}
-use Rattle.dr_flash.proofs.TurnLemmas.{ok-along, err-along, err-always}
-use Rattle.dr_flash.proofs.EndsLemmas.{ends-none}
+use Rattle.dr_flash.proofs.TurnLemmas.{ok-along, err-along}
 use Rattle.dr_coord.proofs.HoldLemmas.{lift-skips, lift-comes, advances-alike, halts-alike, one-skipped}
 use Rattle.dr_coord.proofs.expiring.expire.Goals as goal
 

@@ -1,4 +1,4 @@
-use Rattle.std.proofs.Common.{◌≡◌, ap, refl, sym, ◌∙◌}
+use Rattle.std.proofs.Common.{ap, sym, ◌∙◌}
 use Rattle.dr_model.specs.Carry.{now}
 use Rattle.dr_model.specs.Moves.{Restart}
 use Rattle.dr_model.specs.Pairs.{must_restart}
