@@ -75,6 +75,22 @@ module _ (s : PlantState) (t : Table) (h : Writes) (ev : List Event) (sound : Is
       let at = place-of-entry t v _ (some_entry (entry_of t v) (sym (is_volume-here s t h ev v) ∙ there)).1 in
       (at.0, _, at.1, at.2, device-here s t h ev v at.0 at.1)
 
+  -- what its track contains there is what the machine knows of it
+  tracks-here : (v k : ℕ) → is_volume (here s t h ev).control v ≡ true → k < (volume_seen s t v).tracks → on_device (here s t h ev).control s.block v k ≡ track_seen s t v k
+  tracks-here v k there lt =
+      let l = lies v there in
+      let seen = volume-placed s t v l.0 l.1 l.2 l.3 in
+      let low : k < l.1.tracks = subst (λ (x : Volume). k < x.tracks) seen lt in
+      ap (λ d. physical (volume_seen s t v).tracks (s.block d) k) l.4
+      ∙ ap (λ (x : Volume). physical x.tracks (s.block l.0) k) seen
+      ∙ sym (track-placed s t v l.0 k l.1 l.2 l.3 ∙ ap (λ b. cond b (physical l.1.tracks (s.block l.0) k) zeros) (let e : nat_lt k l.1.tracks ≡ true = grind (arith, nat_tests, low) in e))
+
+  -- where a freeze window ends here, the devices contain the cut
+  pub frozen-here : (tasks : List Task) → run tasks ≡ here s t h ev → EndsInCut tasks s.block
+  frozen-here tasks leads =
+      ends-in-cut tasks s.block (cut-of-run tasks)
+      (subst (λ (w : World). (v k : ℕ) → is_volume w.control v ≡ true → k < (w.control.volume v).tracks → on_device w.control s.block v k ≡ w.contents v k) (sym leads) tracks-here)
+
   pub fits-here : Sound (here s t h ev) → Fits (here s t h ev) s.on (λ server. fuse_seen (s.write_fuse server)) s.block
   fits-here is = fits-sound (here s t h ev) s.on (λ server. fuse_seen (s.write_fuse server)) s.block is
       (λ k lt. sym (on-known s k lt))
@@ -82,12 +98,7 @@ module _ (s : PlantState) (t : Table) (h : Writes) (ev : List Event) (sound : Is
       (λ v there. let l = lies v there in
       subst (λ d. SaysVolume (s.block d) (volume_seen s t v)) (sym l.4)
       (subst (λ x. SaysVolume (s.block l.0) x) (sym (volume-placed s t v l.0 l.1 l.2 l.3)) (record { slot = refl; fields = refl; staged = refl })))
-      (λ v k there lt. let l = lies v there in
-      let seen = volume-placed s t v l.0 l.1 l.2 l.3 in
-      let low : k < l.1.tracks = subst (λ (x : Volume). k < x.tracks) seen lt in
-      ap (λ d. physical (volume_seen s t v).tracks (s.block d) k) l.4
-      ∙ ap (λ (x : Volume). physical x.tracks (s.block l.0) k) seen
-      ∙ sym (track-placed s t v l.0 k l.1 l.2 l.3 ∙ ap (λ b. cond b (physical l.1.tracks (s.block l.0) k) zeros) (let e : nat_lt k l.1.tracks ≡ true = grind (arith, nat_tests, low) in e)))
+      tracks-here
 
 module _ (s : PlantState) (t : Table) (h : Writes) (ev : List Event) (sound : IsSound t) (stands : StandsFor t s) where
   pub devices-here : HasDevices (here s t h ev) s
@@ -109,6 +120,7 @@ module _ {S K : Type 0} (left : S → Option (List ℕ)) (written : K → Option
     room = room;
     devices = devices-here s t h ev sound ready.rest.stands;
     fits = fits-here s t h ev sound (reached-sound (here s t h ev) reached);
+    frozen = frozen-here s t h ev sound;
     reads = ready.reads;
     stops = stops;
   }
