@@ -13,13 +13,15 @@ use Rattle.dr_config.proofs.LinkLaws.{none-down}
 use Rattle.dr_config.proofs.Devices.{stands-empty}
 use Rattle.dr_config.proofs.Lookups.{entry-listed, place-of-entry}
 use Rattle.dr_model.specs.declared.event.Event.{Event}
-use Rattle.dr_model.specs.Control.{Volume, nothing, is_volume}
-use Rattle.dr_model.specs.Fits.{Fits, SaysVolume, device_of}
+use Rattle.dr_model.specs.Control.{Volume, World, nothing, is_volume}
+use Rattle.dr_model.specs.Fits.{Fits, SaysVolume, device_of, on_device}
+use Rattle.dr_model.specs.Runs.{Task, run}
 use Rattle.dr_model.specs.Layout.{physical}
 use Rattle.dr_model.specs.Contents.{zeros}
 use Rattle.dr_model.specs.Laws.{Sound}
 use Rattle.dr_laws.proofs.Agree.{fits-sound}
-use Rattle.dr_volume.specs.View.{fuse_seen, ids_of, volume_seen}
+use Rattle.dr_laws.specs.Windows.{EndsInCut}
+use Rattle.dr_volume.specs.View.{fuse_seen, ids_of, volume_seen, track_seen}
 use Rattle.dr_volume.proofs.VolumeLaws.{volume-placed, track-placed}
 use Rattle.dr_top.specs.Here.{here, IsReady}
 use Rattle.dr_model.specs.Limits.{most_events}
