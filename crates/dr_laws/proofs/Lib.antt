@@ -38,3 +38,4 @@ pub mod Agree
 pub mod ReadStops
 pub mod StopsTold
 pub mod Unissued
+pub mod WindowTracks
