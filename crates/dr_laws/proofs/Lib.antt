@@ -39,3 +39,5 @@ pub mod ReadStops
 pub mod StopsTold
 pub mod Unissued
 pub mod WindowTracks
+pub mod Fair
+pub mod KeepsWindow
