@@ -41,3 +41,4 @@ pub mod Unissued
 pub mod WindowTracks
 pub mod Fair
 pub mod KeepsWindow
+pub mod KeepsMirror
