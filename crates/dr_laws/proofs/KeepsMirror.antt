@@ -29,7 +29,7 @@ use Rattle.dr_laws.proofs.Fair.{OnlyOut, Unacked}
 use Rattle.dr_laws.proofs.KeepsWindow.{two}
 
 -- of a write on another track nothing is unacknowledged here
-off-track : (events : List Event) (t n : ℕ) → ((histories events).write n).track ≢ t → unacked_on events t (Some n) ≡ []
+pub off-track : (events : List Event) (t n : ℕ) → ((histories events).write n).track ≢ t → unacked_on events t (Some n) ≡ []
 off-track events t n ne = ap (λ b. cond (b && not (list_any (is_ack n) events)) (n ∷ []) []) (ne_eqb _ t ne)
 
 pub on-track : (events : List Event) (t n : ℕ) → ((histories events).write n).track ≡ t → list_any (is_ack n) events ≡ false → unacked_on events t (Some n) ≡ n ∷ []

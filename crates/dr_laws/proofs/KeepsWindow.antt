@@ -43,12 +43,12 @@ in-union true s u q h = contains-union nat_cmp_total s u q ∙ ap (λ b. b || co
 in-union false s u q h = h
 
 -- events that neither acknowledge a write nor mirror one
-abbrev Silent : Event → Type 0
+abbrev pub Silent : Event → Type 0
 Silent (Ack n) = ⊥
 Silent (Mirrored n u) = ⊥
 Silent e = Unit {0}
 
-abbrev AllSilent : List Event → Type 0
+abbrev pub AllSilent : List Event → Type 0
 AllSilent [] = Unit {0}
 AllSilent (e ∷ es) = Silent e × AllSilent es
 
@@ -228,26 +228,26 @@ module _ (v q : ℕ) (w : World) (rows : SoundRows (table w)) (st : Stays v q w)
     not-overwritten : (n x t : ℕ) → Allowed write T (Overwrite n x t) → x ≢ v
     not-overwritten n x t a e = no-target x a.from (inl e) a.related
 
-    deaf-told : (m : Move) → May w m → Fair tag w m → Else m → (u : Volume) → Deaf q g (told m u)
+    pub deaf-told : (m : Move) → May w m → Fair tag w m → Else m → (u : Volume) → Deaf q g (told m u)
     deaf-told (Land n x t) may fair else u = other-ack n x may.ready.volume (λ e. not-locked x e fair)
     deaf-told (Overwrite n x t) may fair else u = other-ack n x may.ready.volume (not-overwritten n x t may.allowed)
     deaf-told (LandBoth n x t) may fair else u = other-ack n x may.ready.volume else
     deaf-told (Mirror x t y n) may fair else u = record { last = ap (λ b. cond b (Some n) g) (ne_eqb x q else); acks = λ k is. refl }
     deaf-told m may fair else u = deaf-silent q g _ (silent-told m u tt)
 
-    deaf-stop : (m : Move) → May w m → Fair tag w m → Else m → (u : Volume) (s k : ℕ) → Deaf q g (told_in_stop m u ++ Stopped s k ∷ [])
+    pub deaf-stop : (m : Move) → May w m → Fair tag w m → Else m → (u : Volume) (s k : ℕ) → Deaf q g (told_in_stop m u ++ Stopped s k ∷ [])
     deaf-stop (Land n x t) may fair else u s k = record { last = refl; acks = λ k is. refl }
     deaf-stop (Overwrite n x t) may fair else u s k = record { last = refl; acks = λ k is. refl }
     deaf-stop (LandBoth n x t) may fair else u s k = record { last = refl; acks = λ k is. refl }
     deaf-stop m may fair else u s k = deaf-append q g (told m u) (Stopped s k ∷ []) (deaf-told m may fair else u) (record { last = refl; acks = λ k is. refl })
 
-    waits-done : (m : Move) → May w m → (t : ℕ) → waiting (settled m w.control.pending) v t ≡ waiting w.control.pending v t
+    pub waits-done : (m : Move) → May w m → (t : ℕ) → waiting (settled m w.control.pending) v t ≡ waiting w.control.pending v t
     waits-done (Land n x y) may t = waiting-settled n v t w.control.pending (none_landed x y _ may.ready.coming)
     waits-done (Overwrite n x y) may t = waiting-settled n v t w.control.pending (none_landed x y _ may.ready.coming)
     waits-done (LandBoth n x y) may t = waiting-settled n v t w.control.pending (none_landed x y _ may.ready.coming)
     waits-done m may t = refl
 
-    waits-stop : (m : Move) → May w m → Fair tag w m → Else m → (t : ℕ) → waiting (settled_in_stop m w.control.pending) v t ≡ waiting w.control.pending v t
+    pub waits-stop : (m : Move) → May w m → Fair tag w m → Else m → (t : ℕ) → waiting (settled_in_stop m w.control.pending) v t ≡ waiting w.control.pending v t
     waits-stop (Land n x y) may fair else t = waiting-marked_else n x y v t w.control.pending (inl (λ e. not-locked x (sym e) fair)) may.ready.coming
     waits-stop (Overwrite n x y) may fair else t = waiting-marked_else n x y v t w.control.pending (inl (λ e. not-overwritten n x y may.allowed (sym e))) may.ready.coming
     waits-stop (LandBoth n x y) may fair else t = waiting-marked_else n x y v t w.control.pending (inl (λ e. else (sym e))) may.ready.coming
@@ -269,7 +269,7 @@ module _ (v q : ℕ) (w : World) (rows : SoundRows (table w)) (st : Stays v q w)
           at_cases (λ u (c : ℕ → List ℕ). Ours u → c t ≡ w.contents u t) w.contents x1 (tracks_after (next_of w m) (carried_in w m) (w.contents x1))
           (λ ours. bytes-after w rows.images.blank m t ∙ own-bytes m may.allowed fair else ours t) (λ u ne ours. refl) u ours
 
-      quiet-changed : (histories (w.events ++ es)).write ≡ write → Deaf q g es → ((t : ℕ) → waiting ps v t ≡ waiting w.control.pending v t) → Stays v q W → Quiet v q w W es g
+      pub quiet-changed : (histories (w.events ++ es)).write ≡ write → Deaf q g es → ((t : ℕ) → waiting ps v t ≡ waiting w.control.pending v t) → Stays v q W → Quiet v q w W es g
       quiet-changed same deaf waits st2 = record {
         events = refl;
         writes = λ n lt. ap (λ (f : ℕ → Write). f n) same;

@@ -42,3 +42,4 @@ pub mod WindowTracks
 pub mod Fair
 pub mod KeepsWindow
 pub mod KeepsMirror
+pub mod KeepsStep

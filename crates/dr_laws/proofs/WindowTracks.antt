@@ -25,7 +25,7 @@ abbrev pub is_firm : Fields → Bool
 is_firm f = is_full_duplex f.primary_state || (is_suspended f.primary_state && f.long_busy)
 
 -- what isn't acknowledged, as the write says that it is
-unacked-is : (events : List Event) (t n : ℕ) (g : Option ℕ) → unacked_on events t g ≡ n ∷ [] → g ≡ Some n
+pub unacked-is : (events : List Event) (t n : ℕ) (g : Option ℕ) → unacked_on events t g ≡ n ∷ [] → g ≡ Some n
 unacked-is events t n None h = absurd cc
 unacked-is events t n (Some k) h = by (nat_eq ((histories events).write k).track t && not (list_any (is_ack k) events)) h
   where
@@ -38,7 +38,7 @@ or-none true b h = refl
 or-none false b h = h
 
 -- other events say nothing of it
-unacked-told : (events es : List Event) (t : ℕ) (g : Option ℕ) → ((n : ℕ) → g ≡ Some n → (histories (events ++ es)).write n ≡ (histories events).write n) → ((n : ℕ) → g ≡ Some n → list_any (is_ack n) es ≡ false)
+pub unacked-told : (events es : List Event) (t : ℕ) (g : Option ℕ) → ((n : ℕ) → g ≡ Some n → (histories (events ++ es)).write n ≡ (histories events).write n) → ((n : ℕ) → g ≡ Some n → list_any (is_ack n) es ≡ false)
     → unacked_on (events ++ es) t g ≡ unacked_on events t g
 unacked-told events es t None write acks = refl
 unacked-told events es t (Some n) write acks =
