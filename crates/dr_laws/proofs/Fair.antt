@@ -22,13 +22,13 @@ abbrev pub OnlyOut : World → ℕ → ℕ → Type 0
 OnlyOut w u t = (x : ℕ) → x ≢ t → contains (fields_at w.control u).out_of_sync x ≡ false
 
 -- No write lands on a locked primary alone; what is sent from one its secondary has already, and what it strikes off isn't out
--- of sync. A write is mirrored where no other track is out of sync, and lands on both sides where it was mirrored last.
+-- of sync. From one a write is mirrored where no other track is out of sync, and it lands on both sides where it was mirrored last.
 abbrev pub Fair : Option ℕ → World → Move → Type 0
 Fair tag w (Land n v t) = is_locked (fields_at w.control v) ≡ false
 Fair tag w (Store v t u last) = is_locked (fields_at w.control u) ≡ true → w.contents u t ≡ w.contents v t
 Fair tag w (Strike v t last) = is_locked (fields_at w.control v) ≡ true → contains (fields_at w.control v).out_of_sync t ≡ false
 Fair tag w (MakePrimary v u kind state full) = is_part (fields_at w.control v).primary ≡ false
-Fair tag w (Mirror v t u n) = OnlyOut w u t × Unacked w n
+Fair tag w (Mirror v t u n) = (is_locked (fields_at w.control u) ≡ true → OnlyOut w u t) × Unacked w n
 Fair tag w (LandBoth n v t) = (tag ≡ Some n) × Unacked w n
 Fair tag w m = Unit {0}
 

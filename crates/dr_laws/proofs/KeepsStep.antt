@@ -18,7 +18,7 @@ use Rattle.dr_model.specs.Table.{table, waiting}
 use Rattle.dr_model.specs.Laws.{SoundRows}
 use Rattle.dr_model.specs.Allowed.{May}
 use Rattle.dr_laws.specs.Windows.{later_mirrored, is_ack, is_back_to, unacked_on}
-use Rattle.dr_laws.proofs.AtLemmas.{Told}
+use Rattle.dr_laws.proofs.AtLemmas.{Told, at_part}
 use Rattle.dr_laws.proofs.Sets.{none_some, false_true, from_source}
 use Rattle.dr_laws.proofs.Turns.{done, done_in_stop}
 use Rattle.dr_laws.proofs.RowsAfter.{calm}
@@ -26,7 +26,7 @@ use Rattle.dr_laws.proofs.Due.{waiting-settled, waiting-marked_else, waiting-mar
 use Rattle.dr_laws.proofs.Unissued.{told-writes, stop-writes, with-told}
 use Rattle.dr_laws.proofs.WindowTracks.{Stays, Same, Ahead, Holds, Window, Quiet, window-quiet, unacked-is, unacked-told}
 use Rattle.dr_laws.proofs.Fair.{Unacked, Fair, tag_after}
-use Rattle.dr_laws.proofs.KeepsWindow.{AllSilent, Deaf, deaf-silent, Else, deaf-told, deaf-stop, waits-done, waits-stop, quiet-changed}
+use Rattle.dr_laws.proofs.KeepsWindow.{AllSilent, locked, Deaf, deaf-silent, Else, deaf-told, deaf-stop, waits-done, waits-stop, quiet-changed}
 use Rattle.dr_laws.proofs.KeepsMirror.{off-track, on-track, acked, just-acked, still-unacked, window-mirrored, window-landed}
 
 -- a landed write that is acknowledged: no other waits on its track
@@ -57,13 +57,14 @@ pub data Step (tag : Option ℕ) (w : World) : Option ℕ → World → Type 0 w
   Passes : (next : Option ℕ) → (u : World) → (es : List Event) → Unchanged w u es → ((n : ℕ) → next ≡ Some n → tag ≡ Some n) → Step tag w next u
 
 module _ (v q : ℕ) where
-  abbrev Backless : List Event → Type 0
+  abbrev pub Backless : List Event → Type 0
   Backless es = (list_any (is_back_to v) es ≡ false) × (list_any (is_back_to q) es ≡ false)
 
   -- the window at the next moment, with what was told since
   pub record Next (g next : Option ℕ) (w u : World) : Type 0 where
     pub told : List Event
     pub events : u.events ≡ w.events ++ told
+    pub size : (u.control.volume v).tracks ≡ (w.control.volume v).tracks
     pub window : Window v q next (fold (later_mirrored q) g told) u
 
   module _ (w : World) (rows : SoundRows (table w)) (st : Stays v q w) (tag g : Option ℕ) (win : Window v q tag g w) where
@@ -142,7 +143,7 @@ module _ (v q : ℕ) where
     does-by _ f may fair st2 (Own t n) =
         let m : Move = Mirror q t v n in
         subst (λ g. Window v q (Some n) g (done w m f)) (sym (q-mirrored n))
-        (window-mirrored v q w rows st tag g win t n may fair.0 fair.1 (done w m f).control.on (done w m f).control.fuse (Mirrored n q ∷ []) (with-told w (Mirrored n q ∷ []) refl) refl (Some n) (λ k h. h))
+        (window-mirrored v q w rows st tag g win t n may (fair.0 (locked v q w rows st tag g win)) fair.1 (done w m f).control.on (done w m f).control.fuse (Mirrored n q ∷ []) (with-told w (Mirrored n q ∷ []) refl) refl (Some n) (λ k h. h))
     does-by _ f may fair st2 (Lands t n) =
         let m : Move = LandBoth n v t in
         let last : g ≡ Some n = win.goes_on n fair.0 may.ready.volume in
@@ -175,7 +176,7 @@ module _ (v q : ℕ) where
     stops-by _ f may fair st2 (Own t n) =
         let m : Move = Mirror q t v n in
         subst (λ g. Window v q None g (done_in_stop w m f)) (sym (q-mirrored n))
-        (window-mirrored v q w rows st tag g win t n may fair.0 fair.1 (done_in_stop w m f).control.on (done_in_stop w m f).control.fuse (stop-told m) (stop-same m) refl None (λ k h. absurd cc))
+        (window-mirrored v q w rows st tag g win t n may (fair.0 (locked v q w rows st tag g win)) fair.1 (done_in_stop w m f).control.on (done_in_stop w m f).control.fuse (stop-told m) (stop-same m) refl None (λ k h. absurd cc))
     stops-by _ f may fair st2 (Lands t n) =
         let m : Move = LandBoth n v t in
         let last : g ≡ Some n = win.goes_on n fair.0 may.ready.volume in
@@ -256,9 +257,9 @@ module _ (v q : ℕ) where
 
     pub window-step : (next : Option ℕ) (u : World) → Step tag w next u → Stays v q u → ((es : List Event) → u.events ≡ w.events ++ es → Backless es) → Next g next w u
     window-step _ _ (Does m f may fair) st2 back =
-        record { told = told m (w.control.volume (target m)); events = refl; window = does-by m f may fair st2 (kind m may (off-done m (w.control.volume (target m)) (back _ refl))) }
+        record { told = told m (w.control.volume (target m)); events = refl; size = at_part (λ (y : Volume). y.tracks) w.control.volume (target m) _ refl v; window = does-by m f may fair st2 (kind m may (off-done m (w.control.volume (target m)) (back _ refl))) }
     window-step _ _ (Stops m f may fair) st2 back =
         let u : Volume = w.control.volume (target m) in
-        record { told = stop-told m; events = refl; window = stops-by m f may fair st2 (kind m may (off-stop m u u.server (landed m) (back _ refl))) }
-    window-step _ _ (Acks n a) st2 back = record { told = Ack n ∷ []; events = refl; window = window-acked n a }
-    window-step _ _ (Passes next u es x less) st2 back = record { told = es; events = x.events; window = window-quiet v q w u es tag g win (unchanged u es x) next less }
+        record { told = stop-told m; events = refl; size = at_part (λ (y : Volume). y.tracks) w.control.volume (target m) _ refl v; window = stops-by m f may fair st2 (kind m may (off-stop m u u.server (landed m) (back _ refl))) }
+    window-step _ _ (Acks n a) st2 back = record { told = Ack n ∷ []; events = refl; size = refl; window = window-acked n a }
+    window-step _ _ (Passes next u es x less) st2 back = record { told = es; events = x.events; size = (unchanged u es x).size; window = window-quiet v q w u es tag g win (unchanged u es x) next less }

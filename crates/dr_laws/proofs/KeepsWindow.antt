@@ -140,7 +140,7 @@ module _ (v q : ℕ) (w : World) (rows : SoundRows (table w)) (st : Stays v q w)
   no_second : is_part (fields_at w.control v).secondary ≡ false
   no_second = (rows.parts.one v).one first
 
-  no_first : {P : Type 0} → is_part (fields_at w.control q).primary ≡ true → P
+  pub no_first : {P : Type 0} → is_part (fields_at w.control q).primary ≡ true → P
   no_first h = false_true ((rows.parts.one q).one h) second
 
   pub two : v ≢ q

@@ -43,3 +43,4 @@ pub mod Fair
 pub mod KeepsWindow
 pub mod KeepsMirror
 pub mod KeepsStep
+pub mod Windows
