@@ -44,3 +44,4 @@ pub mod KeepsWindow
 pub mod KeepsMirror
 pub mod KeepsStep
 pub mod Windows
+pub mod Chains
