@@ -107,13 +107,13 @@ module _ (Fin : Option ℕ → World → Option Refusal → Type 0) where
 
   -- then their moments come one after the other, and those behind them
   module _ (rest : Outcome → List World) (ends : (tag : Option ℕ) (w : World) (r : Option Refusal) → Good tag w → Fin tag w r → Chain tag w (rest (w, r)))
-      (good_fin : (tag : Option ℕ) (w : World) (r : Option Refusal) → Fin tag w r → Good tag w) where
+      (good_fin : (w : World) (r : Option Refusal) → Fin None w r → Good None w) where
     abbrev Turned : Option ℕ → World → (World → List World) → (World → Outcome) → Turn → Type 0
     Turned tag w more go t = Chain tag w (on_from t.0 t.1 more ++ rest (continue t.0 t.1 go))
 
     counts-chain : (tag : Option ℕ) (w : World) (a : Act) (more : World → List World) (go : World → Outcome) → Good tag w → FairAct tag w a → CountsFin w a → Counts w a (Turned tag w more go)
     counts-chain tag w (Make m) more go good fair fin =
-        λ f. let c = fin f in Then tag None w (done_in_stop w m f) _ good (Stops m f fair.0 fair.1) (ends None _ _ (good_fin None _ _ c) c)
+        λ f. let c = fin f in Then tag None w (done_in_stop w m f) _ good (Stops m f fair.0 fair.1) (ends None _ _ (good_fin _ _ c) c)
     counts-chain tag w (Redo v) more go good fair fin = tt
     counts-chain tag w (Acknowledge n) more go good fair fin = tt
     counts-chain tag w (Drop n) more go good fair fin = tt
@@ -129,9 +129,86 @@ module _ (Fin : Option ℕ → World → Option Refusal → Type 0) where
         (λ d off. absurd (false_true off (act-runs tag w x d a.0)))
         (λ f. Then tag (act_tag x tag) w (after_act w x f) _ good (act-step tag w x f a.0) (on (act_tag x tag) (after_act w x f) (a.1 f)))
         (counts-chain tag w x more go_on good a.0 a.2.0)
-        (λ d f. let c = a.2.1 d f in Then tag None w (not_done w (server_of w x) f) _ good (Passes None _ _ (not-unchanged w (server_of w x) f) (λ n h. absurd cc)) (ends None _ _ (good_fin None _ _ c) c))
+        (λ d f. let c = a.2.1 d f in Then tag None w (not_done w (server_of w x) f) _ good (Passes None _ _ (not-unchanged w (server_of w x) f) (λ n h. absurd cc)) (ends None _ _ (good_fin _ _ c) c))
 
     pub entries-chain : (ds : List Entry) (tag : Option ℕ) (w : World) → Fairly tag w ds → Chain tag w (worlds w ds ++ rest (carry w ds))
     unfolding Fairly worlds carry
     entries-chain [] tag w a = ends tag w None a.0 a.1
     entries-chain (d ∷ ds) tag w a = next-chain tag w (d w.control) (λ v. worlds v ds) (λ v. carry v ds) (λ tag v. Fairly tag v ds) (λ tag v b. entries-chain ds tag v b) a.0 a.1
+
+pub good-none : (w : World) → SoundRows (table w) → Good None w
+good-none w rows = record { rows = rows; low = λ n is. absurd cc; out = λ n is. absurd cc }
+
+pub said-unchanged : (w : World) (line : ℕ) (a : Said) → Unchanged w (said w line a) (answer line a ∷ [])
+said-unchanged w line a = told-unchanged w (said w line a) (answer line a ∷ []) refl (tt, tt) (histories-append w.events (answer line a ∷ [])) refl refl refl (λ v t. refl)
+
+-- K holds between steps
+module _ (K : World → Type 0) (rows : (w : World) → K w → SoundRows (table w)) (answers : (w : World) (line : ℕ) (a : Said) → K w → K (said w line a)) where
+  -- how what follows a stop ends, and how a plan's entries end
+  abbrev pub EndFin : Option ℕ → World → Option Refusal → Type 0
+  EndFin tag w r = K w
+
+  abbrev pub PlanFin : Plan → Option ℕ → World → Option Refusal → Type 0
+  PlanFin p tag w (Some (StoppedIn s)) = Fairly EndFin tag w (p.follows s.0)
+  PlanFin p tag w r = K w
+
+  -- what is to be shown of a plan
+  pub record PlanFair (w : World) (p : Plan) : Type 0 where
+    pub told : List Event
+    pub begins : Unchanged w (begun w p) told
+    pub entries : Fairly (PlanFin p) None (begun w p) p.entries
+    pub last : (k : Control) → p.last k ≡ k
+
+  good-end : (w : World) (r : Option Refusal) → EndFin None w r → Good None w
+  good-end w r k = good-none w (rows w k)
+
+  good-fairly : (Fin : Option ℕ → World → Option Refusal → Type 0) (tag : Option ℕ) (w : World) (ds : List Entry) → Fairly Fin tag w ds → Good tag w
+  unfolding Fairly
+  good-fairly Fin tag w [] a = a.0
+  good-fairly Fin tag w (d ∷ ds) a = a.0
+
+  good-plan : (p : Plan) (w : World) (r : Option Refusal) → PlanFin p None w r → Good None w
+  good-plan p w None k = good-none w (rows w k)
+  good-plan p w (Some (StoppedIn s)) a = good-fairly EndFin None w (p.follows s.0) a
+  good-plan p w (Some r) k = good-none w (rows w k)
+
+  module _ (line : ℕ) (p : Plan) (last : (k : Control) → p.last k ≡ k) (more : World → List World) (goes_on : (w : World) → K w → Chain None w (more w)) where
+    abbrev over : World → Option Refusal → World
+    over w r = said w line (answered p w.control r)
+
+    answer-chain : (tag : Option ℕ) (w : World) (r : Option Refusal) → Good tag w → K w → Chain tag w (over w r ∷ more (over w r))
+    answer-chain tag w r good k = Then tag None w (over w r) (more (over w r)) good (Passes None (over w r) _ (said-unchanged w line (answered p w.control r)) (λ n h. absurd cc)) (goes_on (over w r) (answers w line (answered p w.control r) k))
+
+    abbrev rest : Outcome → List World
+    rest o = worlds_after o.0 o.1 p.follows ++ over (finish p o.0 o.1) o.1 ∷ more (over (finish p o.0 o.1) o.1)
+
+    same-end : (w : World) → w ≡ record w { control = p.last w.control }
+    same-end w = λ i. record w { control = sym (last w.control) i }
+
+    ends : (tag : Option ℕ) (w : World) (r : Option Refusal) → Good tag w → PlanFin p tag w r → Chain tag w (rest (w, r))
+    ends tag w None good k = subst (λ u. Chain tag w (over u None ∷ more (over u None))) (same-end w) (answer-chain tag w None good k)
+    ends tag w (Some (StoppedIn s)) good a =
+        let r : Option Refusal = Some (StoppedIn s) in
+        entries-chain EndFin (λ o. over o.0 r ∷ more (over o.0 r)) (λ tag u x good k. answer-chain tag u r good k) good-end (p.follows s.0) tag w a
+    ends tag w (Some r) good k = answer-chain tag w (Some r) good k
+
+    pub plan-chain : (w : World) → K w → PlanFair w p → Chain None w (begun w p ∷ (worlds (begun w p) p.entries ++ rest (carry (begun w p) p.entries)))
+    plan-chain w k fair = Then None None w (begun w p) _ (good-none w (rows w k)) (Passes None (begun w p) fair.told fair.begins (λ n h. absurd cc)) (entries-chain (PlanFin p) rest ends (good-plan p) p.entries None (begun w p) fair.entries)
+
+  -- a run whose plans are fair
+  module _ (each : (w : World) (t : Task) → K w → PlanFair w (plan w.control w.events t.line t.asked)) where
+    joins : (a b d : List World) (c : World) → ((a ++ b) ++ c ∷ []) ++ d ≡ a ++ (b ++ c ∷ d)
+    joins a b d c = append_assoc (a ++ b) (c ∷ []) d ∙ append_assoc a b (c ∷ d)
+
+    task-chain : (w : World) (t : Task) → K w → (more : World → List World) → ((v : World) → K v → Chain None v (more v)) → Chain None w (task_moments w t ++ more (after_task w t))
+    unfolding after_plan
+    task-chain w t k more goes_on =
+        let p : Plan = plan w.control w.events t.line t.asked in
+        let o : Outcome = carry (begun w p) p.entries in
+        subst (λ us. Chain None w (begun w p ∷ us)) (sym (joins (worlds (begun w p) p.entries) (worlds_after o.0 o.1 p.follows) (more (after_task w t)) (after_task w t)))
+        (plan-chain t.line p (each w t k).last more goes_on w k (each w t k))
+
+    pub run-chain : (tasks : List Task) (w : World) → K w → Chain None w (moments_from w tasks)
+    unfolding moments_from
+    run-chain [] w k = Last None w (good-none w (rows w k))
+    run-chain (t ∷ ts) w k = task-chain w t k (λ v. moments_from v ts) (λ v k. run-chain ts v k)

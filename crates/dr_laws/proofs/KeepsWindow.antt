@@ -73,7 +73,7 @@ silent-fold : (q : ℕ) (g : Option ℕ) (es : List Event) → AllSilent es → 
 silent-fold q g [] a = refl
 silent-fold q g (e ∷ es) a = ap (λ g. fold (later_mirrored q) g es) (silent-last q g e a.0) ∙ silent-fold q g es a.1
 
-silent-acks : (n : ℕ) (es : List Event) → AllSilent es → list_any (is_ack n) es ≡ false
+pub silent-acks : (n : ℕ) (es : List Event) → AllSilent es → list_any (is_ack n) es ≡ false
 silent-acks n [] a = refl
 silent-acks n (e ∷ es) a = ap (λ b. b || list_any (is_ack n) es) (silent-ack n e a.0) ∙ silent-acks n es a.1
 
@@ -99,14 +99,14 @@ silent-suspended : (b : Bool) (v : ℕ) → AllSilent (cond b [] (Suspended v �
 silent-suspended true v = tt
 silent-suspended false v = (tt, tt)
 
-abbrev Mute : Move → Type 0
+abbrev pub Mute : Move → Type 0
 Mute (Land n v t) = ⊥
 Mute (Overwrite n v t) = ⊥
 Mute (Mirror v t u n) = ⊥
 Mute (LandBoth n v t) = ⊥
 Mute m = Unit {0}
 
-silent-told : (m : Move) (u : Volume) → Mute m → AllSilent (told m u)
+pub silent-told : (m : Move) (u : Volume) → Mute m → AllSilent (told m u)
 silent-told (Land n v t) u m = absurd m
 silent-told (Overwrite n v t) u m = absurd m
 silent-told (Mirror v t x n) u m = absurd m

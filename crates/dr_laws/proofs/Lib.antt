@@ -44,4 +44,5 @@ pub mod KeepsWindow
 pub mod KeepsMirror
 pub mod KeepsStep
 pub mod Windows
+pub mod Tidy
 pub mod Chains

@@ -59,7 +59,7 @@ chain-from (b ∷ []) _ _ _ first rest (Last tag w g) e = absurd cc
 chain-from (b ∷ c ∷ bs) _ _ _ first rest (Last tag w g) e = absurd cc
 chain-from (b ∷ bs) _ _ _ first rest (Then tag next w u us g s c) e = let there : u ∷ us ≡ bs ++ first ∷ rest = cc in chain-from bs next u us first rest c there
 
-bare-has : (s : Tracks) (t : ℕ) → is_bare s ≡ true → contains s t ≡ false
+pub bare-has : (s : Tracks) (t : ℕ) → is_bare s ≡ true → contains s t ≡ false
 bare-has s t h = ap (λ s. contains s t) (empty_of_len s (eqb-true _ 0 h)) ∙ empty_has t
 
 -- where no landed write waits on a volume, none waits on its tracks
