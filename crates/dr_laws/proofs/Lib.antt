@@ -46,3 +46,4 @@ pub mod KeepsStep
 pub mod Windows
 pub mod Tidy
 pub mod Chains
+pub mod FairPlans

@@ -1,7 +1,8 @@
 -- Between steps a Metro Mirror primary that is Full Duplex has no track out of sync where its server runs.
-use Rattle.std.proofs.Common.{ℕ, ◌≡◌, ◌≢◌, ◌<◌, ◌+◌, ◌⊎◌, inl, inr, refl, ap, sym, ◌∙◌, subst, Bool, true, false, cond, not, ◌&&◌, ◌||◌, nat_eq, List, [], ◌∷◌, ◌++◌, filter, Option, Some, None, rules}
+use Rattle.std.proofs.Common.{ℕ, ◌≡◌, ◌≢◌, ◌<◌, ◌+◌, ◌⊎◌, inl, inr, refl, ap, sym, ◌∙◌, subst, Bool, true, false, cond, not, ◌&&◌, ◌||◌, nat_eq, List, [], ◌∷◌, ◌++◌, filter, Option, Some, None, rules, arith}
 use Rattle.std.proofs.lemmas.Bool.{and_parts, and_from, ne_eqb}
-use Rattle.std.proofs.lemmas.Bool.Decides.{nat_tests}
+use Rattle.std.proofs.lemmas.Bool.Decides.{nat_tests, eqb_tells}
+use Rattle.std.proofs.lemmas.List.Folds.{list_any-append}
 use Rattle.std.specs.Cmp.{unsigned_tied}
 use Rattle.std.specs.FinSet.{contains, insert, remove, union, empty, members}
 use Rattle.dr_model.specs.declared.state.Part.{Part}
@@ -11,19 +12,23 @@ use Rattle.dr_model.specs.declared.state.PairState.TheVariants.{CopyPending, Ful
 use Rattle.dr_model.specs.Layout.{Tracks, Fields, is_part}
 use Rattle.dr_model.specs.Relations.{all_tracks, is_bare}
 use Rattle.dr_model.specs.declared.event.Event.{Event}
+use Rattle.dr_model.specs.declared.event.Event.TheVariants.{Stopped}
+use Rattle.dr_model.specs.Tables.{at}
 use Rattle.dr_model.specs.Control.{Pending, Volume, Fuse, World}
 use Rattle.dr_model.specs.Pairs.{is_metro, is_full_duplex, is_torn, is_engaged, first_state, next_state, is_last}
-use Rattle.dr_model.specs.Moves.{Move, Land, Overwrite, Mirror, Restore, Strike, Suspend, MakePrimary, DropPrimary, Resume, TakeOver, Unsync, LandBoth, Lift, Restart, target, told, landed, fields_left, moved}
+use Rattle.dr_model.specs.Moves.{Move, Land, Overwrite, Mirror, Restore, Strike, Suspend, MakePrimary, DropPrimary, Resume, TakeOver, Unsync, LandBoth, Lift, Restart, target, told, told_in_stop, settled, settled_in_stop, landed, is_write, is_other, marked, fields_left, moved}
 use Rattle.dr_model.specs.Entries.{fields_at}
-use Rattle.dr_model.specs.Allowed.{Runs}
+use Rattle.dr_model.specs.Allowed.{May, Runs}
 use Rattle.dr_model.specs.Laws.{AllPending}
 use Rattle.dr_laws.specs.Windows.{is_ack}
-use Rattle.dr_laws.proofs.AtLemmas.{at_cases, at_part}
+use Rattle.dr_laws.proofs.AtLemmas.{Told, at_cases, at_part}
 use Rattle.dr_laws.proofs.Sets.{false_true, empty_has}
-use Rattle.dr_laws.proofs.Turns.{next_of, carried_in}
+use Rattle.dr_laws.proofs.Turns.{next_of, carried_in, done, done_in_stop, not_done}
 use Rattle.dr_laws.proofs.RowsAfter.{changed}
 use Rattle.dr_laws.proofs.Fair.{Unacked}
 use Rattle.dr_laws.proofs.KeepsWindow.{silent-acks, silent-told}
+use Rattle.dr_laws.proofs.KeepsQueue.{each-on}
+use Rattle.dr_laws.proofs.KeepsMirror.{still-unacked}
 use Rattle.dr_laws.proofs.Windows.{bare-has}
 use Rattle.std.specs.List.{list_any}
 
@@ -123,12 +128,87 @@ pub record Tidy (w : World) : Type 0 where
   pub fresh : Fresh w
 
 -- the acknowledgements that a move tells
-pub none-acked : (m : Move) (u : Volume) (n : ℕ) → landed m ≢ n → list_any (is_ack n) (told m u) ≡ false
+abbrev LandsElse : Move → ℕ → Type 0
+LandsElse (Land k v t) n = k ≢ n
+LandsElse (Overwrite k v t) n = k ≢ n
+LandsElse (LandBoth k v t) n = k ≢ n
+LandsElse m n = Unit {0}
+
+none-acked : (m : Move) (u : Volume) (n : ℕ) → LandsElse m n → list_any (is_ack n) (told m u) ≡ false
 none-acked (Land k v t) u n ne = ap (λ b. b || false) (ne_eqb k n ne)
 none-acked (Overwrite k v t) u n ne = ap (λ b. b || false) (ne_eqb k n ne)
 none-acked (LandBoth k v t) u n ne = ap (λ b. b || false) (ne_eqb k n ne)
 none-acked (Mirror v t x k) u n ne = refl
 none-acked m u n ne = silent-acks n (told m u) (silent-told m u tt)
+
+stop-acked : (m : Move) (u : Volume) (n s k : ℕ) → list_any (is_ack n) (told_in_stop m u ++ Stopped s k ∷ []) ≡ false
+stop-acked (Land j v t) u n s k = refl
+stop-acked (Overwrite j v t) u n s k = refl
+stop-acked (LandBoth j v t) u n s k = refl
+stop-acked (Mirror v t x j) u n s k = refl
+stop-acked m u n s k = list_any-append (is_ack n) (told m u) (Stopped s k ∷ []) ∙ ap (λ b. b || false) (silent-acks n (told m u) (silent-told m u tt))
+
+all-other : (P : Pending → Type 0) (n : ℕ) (ps : List Pending) → AllPending P ps → AllPending (λ p. P p × (p.w ≢ n)) (filter (is_other n) ps)
+all-other P n [] all = tt
+all-other P n (p ∷ ps) all = by (eqb_tells p.w n) (all-other P n ps all.1)
+  where
+    by : Told p.w n → AllPending (λ p. P p × (p.w ≢ n)) (filter (is_other n) ps) → AllPending (λ p. P p × (p.w ≢ n)) (cond (not (nat_eq p.w n)) (p ∷ filter (is_other n) ps) (filter (is_other n) ps))
+    by (inl is) more = subst (λ b. AllPending (λ p. P p × (p.w ≢ n)) (cond (not b) (p ∷ filter (is_other n) ps) (filter (is_other n) ps))) (sym is.0) more
+    by (inr other) more = subst (λ b. AllPending (λ p. P p × (p.w ≢ n)) (cond (not b) (p ∷ filter (is_other n) ps) (filter (is_other n) ps))) (sym other.0) ((all.0, other.1), more)
+
+all-marked : (P : ℕ → Type 0) (n : ℕ) (ps : List Pending) → AllPending (λ p. P p.w) ps → AllPending (λ p. P p.w) (marked n ps)
+all-marked P n [] all = tt
+all-marked P n (p ∷ ps) all = (by (is_write n p), all-marked P n ps all.1)
+  where
+    by : (b : Bool) → P (cond b (record p { landed = true }) p).w
+    by true = all.0
+    by false = all.0
+
+-- events that acknowledge none of them
+pub fresh-by : (w u : World) (es : List Event) → u.events ≡ w.events ++ es → u.control.issued ≡ w.control.issued → AllPending (λ p. Unacked w p.w × (list_any (is_ack p.w) es ≡ false)) u.control.pending
+    → ((n : ℕ) → w.control.issued < n → list_any (is_ack n) es ≡ false) → Fresh w → Fresh u
+fresh-by w u es events issued all later fresh = record {
+  unacked = each-on (λ p a. told p.w a.0 a.1) u.control.pending all;
+  later = λ n lt. let h : w.control.issued < n = subst (λ i. i < n) issued lt in told n (fresh.later n h) (later n h);
+}
+  where
+    told : (n : ℕ) → Unacked w n → list_any (is_ack n) es ≡ false → Unacked u n
+    told n a b = ap (list_any (is_ack n)) events ∙ still-unacked w.events es n a b
+
+-- events that acknowledge nothing
+pub fresh-told : (w u : World) (es : List Event) → u.events ≡ w.events ++ es → u.control.issued ≡ w.control.issued → AllPending (λ p. Unacked w p.w) u.control.pending → ((n : ℕ) → list_any (is_ack n) es ≡ false) → Fresh w → Fresh u
+fresh-told w u es events issued all none fresh = fresh-by w u es events issued (each-on (λ p a. (a, none p.w)) u.control.pending all) (λ n lt. none n) fresh
+
+above : (k i n : ℕ) → k < i + 1 → i < n → k ≢ n
+above k i n lt gt e = absurd (let h : k ≡ n = e in omega arith)
+
+lands-else : (w : World) (m : Move) (n : ℕ) → May w m → w.control.issued < n → LandsElse m n
+lands-else w (Land k v t) n may lt = above k w.control.issued n may.ready.number lt
+lands-else w (Overwrite k v t) n may lt = above k w.control.issued n may.ready.number lt
+lands-else w (LandBoth k v t) n may lt = above k w.control.issued n may.ready.number lt
+lands-else w m n may lt = tt
+
+settled-unacked : (w : World) (m : Move) → Fresh w → AllPending (λ p. Unacked w p.w × LandsElse m p.w) (settled m w.control.pending)
+settled-unacked w (Land k v t) fresh = each-on (λ p a. (a.0, λ e. a.1 (sym e))) _ (all-other (λ p. Unacked w p.w) k w.control.pending fresh.unacked)
+settled-unacked w (Overwrite k v t) fresh = each-on (λ p a. (a.0, λ e. a.1 (sym e))) _ (all-other (λ p. Unacked w p.w) k w.control.pending fresh.unacked)
+settled-unacked w (LandBoth k v t) fresh = each-on (λ p a. (a.0, λ e. a.1 (sym e))) _ (all-other (λ p. Unacked w p.w) k w.control.pending fresh.unacked)
+settled-unacked w m fresh = each-on (λ p a. (a, tt)) w.control.pending fresh.unacked
+
+pub fresh-done : (w : World) (m : Move) (f : Option Fuse) → May w m → Fresh w → Fresh (done w m f)
+fresh-done w m f may fresh =
+    let u : Volume = w.control.volume (target m) in
+    fresh-by w (done w m f) (told m u) refl refl (each-on (λ p a. (a.0, none-acked m u p.w a.1)) (settled m w.control.pending) (settled-unacked w m fresh)) (λ n lt. none-acked m u n (lands-else w m n may lt)) fresh
+
+stop-unacked : (w : World) (m : Move) → Fresh w → AllPending (λ p. Unacked w p.w) (settled_in_stop m w.control.pending)
+stop-unacked w (Land k v t) fresh = all-marked (Unacked w) k w.control.pending fresh.unacked
+stop-unacked w (Overwrite k v t) fresh = all-marked (Unacked w) k w.control.pending fresh.unacked
+stop-unacked w (LandBoth k v t) fresh = all-marked (Unacked w) k w.control.pending fresh.unacked
+stop-unacked w m fresh = fresh.unacked
+
+pub fresh-stop : (w : World) (m : Move) (f : Option Fuse) → Fresh w → Fresh (done_in_stop w m f)
+fresh-stop w m f fresh =
+    let u : Volume = w.control.volume (target m) in
+    fresh-told w (done_in_stop w m f) (told_in_stop m u ++ Stopped u.server (landed m) ∷ []) refl refl (stop-unacked w m fresh) (λ n. stop-acked m u n u.server (landed m)) fresh
 
 module _ (w : World) (m : Move) (gentle : Gentle (fields_at w.control (target m)) m) (tidy : Tidy w) (on : ℕ → Bool) (fuse : ℕ → Option Fuse) (ps : List Pending) (es : List Event) (less : (j : ℕ) → on j ≡ true → w.control.on j ≡ true) where
   abbrev W : World
@@ -156,3 +236,16 @@ tidy-same w u volume less fresh tidy = record {
   free = λ v. subst (λ (y : Volume). Free y.fields) (λ i. sym volume i v) (tidy.free v);
   fresh = fresh;
 }
+
+went-off : (on : ℕ → Bool) (s j : ℕ) → at on s false j ≡ true → on j ≡ true
+went-off on s j h = at_cases (λ j b. b ≡ true → on j ≡ true) on s false (λ h. absurd cc) (λ j ne h. h) j h
+
+pub tidy-done : (w : World) (m : Move) (f : Option Fuse) → May w m → Gentle (fields_at w.control (target m)) m → Tidy w → Tidy (done w m f)
+tidy-done w m f may gentle tidy = tidy-changed w m gentle tidy (done w m f).control.on (done w m f).control.fuse (settled m w.control.pending) (done w m f).events (λ j h. h) (fresh-done w m f may tidy.fresh)
+
+pub tidy-stop : (w : World) (m : Move) (f : Option Fuse) → Gentle (fields_at w.control (target m)) m → Tidy w → Tidy (done_in_stop w m f)
+tidy-stop w m f gentle tidy =
+    tidy-changed w m gentle tidy (done_in_stop w m f).control.on (done_in_stop w m f).control.fuse (settled_in_stop m w.control.pending) (done_in_stop w m f).events (went-off w.control.on (w.control.volume (target m)).server) (fresh-stop w m f tidy.fresh)
+
+pub tidy-not : (w : World) (s : ℕ) (f : Option Fuse) → Tidy w → Tidy (not_done w s f)
+tidy-not w s f tidy = tidy-same w (not_done w s f) refl (went-off w.control.on s) (fresh-told w (not_done w s f) (Stopped s 0 ∷ []) refl refl tidy.fresh.unacked (λ n. refl) tidy.fresh) tidy
