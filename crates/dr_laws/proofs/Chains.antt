@@ -43,7 +43,7 @@ act_tag (Make m) tag = tag_after m tag
 act_tag a tag = None
 
 -- events that no list hears of
-told-unchanged : (w u : World) (es : List Event) → u.events ≡ w.events ++ es → AllSilent es → histories (w.events ++ es) ≡ histories w.events → u.control.volume ≡ w.control.volume → u.contents ≡ w.contents → u.control.issued ≡ w.control.issued
+pub told-unchanged : (w u : World) (es : List Event) → u.events ≡ w.events ++ es → AllSilent es → histories (w.events ++ es) ≡ histories w.events → u.control.volume ≡ w.control.volume → u.contents ≡ w.contents → u.control.issued ≡ w.control.issued
     → ((v t : ℕ) → waiting u.control.pending v t ≡ waiting w.control.pending v t) → Unchanged w u es
 told-unchanged w u es events silent lists volume contents issued waits = record {
   events = events;

@@ -47,3 +47,4 @@ pub mod Windows
 pub mod Tidy
 pub mod Chains
 pub mod FairPlans
+pub mod FairCases
