@@ -48,3 +48,4 @@ pub mod Tidy
 pub mod Chains
 pub mod FairPlans
 pub mod FairCases
+pub mod FairTables

@@ -1,5 +1,5 @@
 use Rattle.dr_laws.proofs.Windows.{freeze-cut}
-use Rattle.dr_laws.proofs.FairCases.{fair-remove}
+use Rattle.dr_laws.proofs.FairTables.{fair-issues}
 use Rattle.dr_laws.proofs.Chains.{not-unchanged}
 use Rattle.dr_laws.proofs.WindowTracks.{window-image}
 use Rattle.dr_laws.proofs.freezes_leave_one_cut.Goals as goal
