@@ -36,7 +36,7 @@ rows-between w k = k.sound.rows
 pub answers-between : (w : World) (line : ℕ) (a : Said) → Between w → Between (said w line a)
 answers-between w line a k = record {
   sound = sound-said w line a k.sound;
-  tidy = tidy-same w (said w line a) refl (λ j h. h) (fresh-told w (said w line a) (answer line a ∷ []) refl refl k.tidy.fresh.unacked (λ n. refl) k.tidy.fresh) k.tidy;
+  tidy = tidy-same w (said w line a) refl refl (λ j h. h) (fresh-told w (said w line a) (answer line a ∷ []) refl refl k.tidy.fresh.unacked (λ n. refl) k.tidy.fresh) k.tidy;
 }
 
 abbrev pub Fair : World → Plan → Type 0
@@ -45,7 +45,7 @@ Fair = PlanFair Between rows-between answers-between
 pub begun-between : (w : World) → Between w → Between (as_begun w)
 begun-between w k = record {
   sound = sound-begun w k.sound;
-  tidy = tidy-same w (as_begun w) refl (λ j h. h) (fresh-told w (as_begun w) [] refl refl k.tidy.fresh.unacked (λ n. refl) k.tidy.fresh) k.tidy;
+  tidy = tidy-same w (as_begun w) refl refl (λ j h. h) (fresh-told w (as_begun w) [] refl refl k.tidy.fresh.unacked (λ n. refl) k.tidy.fresh) k.tidy;
 }
 
 -- a plan of easy entries
@@ -53,28 +53,31 @@ module _ (w : World) (k : Between w) (entries : List Entry) (a : Said) where
   abbrev p : Plan
   p = entries_plan entries a
 
-  fin : (u : World) (r : Option Refusal) → Between u → PlanFin Between rows-between answers-between p None u r
+  pub fin : (u : World) (r : Option Refusal) → Between u → PlanFin Between rows-between answers-between p None u r
   fin u None b = b
   fin u (Some (StoppedIn s)) b = fairly-nil (EndFin Between rows-between answers-between) None u (good-none u b.sound.rows) b
   fin u (Some r) b = b
 
-  pub easy-plan : AllEasy entries → Along (as_begun w) entries → Fair w p
-  easy-plan easy along = record {
+  pub entries-fair : Fairly (PlanFin Between rows-between answers-between p) None (as_begun w) entries → Fair w p
+  entries-fair fairly = record {
     told = [];
     begins = told-unchanged w (as_begun w) [] refl tt (ap histories (append-nil w.events)) refl refl refl (λ v t. refl);
-    entries = easy-fairly (PlanFin Between rows-between answers-between p) fin entries (as_begun w) (begun-between w k) easy along;
+    entries = fairly;
     last = λ k. refl;
   }
+
+  pub easy-plan : AllEasy entries → Along (as_begun w) entries → Fair w p
+  easy-plan easy along = entries-fair (easy-fairly (PlanFin Between rows-between answers-between p) fin entries (as_begun w) (begun-between w k) easy along)
 
 -- entries by what they decide
 pass-or : (k : Control) (b : Bool) (x y : Next) → EasyNext k x → EasyNext k y → EasyNext k (cond b x y)
 pass-or k true x y a c = a
 pass-or k false x y a c = c
 
-easy-check : (ok : Control → Bool) (r : Refusal) (k : Control) → EasyNext k (check ok r k)
+pub easy-check : (ok : Control → Bool) (r : Refusal) (k : Control) → EasyNext k (check ok r k)
 easy-check ok r k = pass-or k (ok k) Pass (End r) tt tt
 
-easy-refuse : (why : Control → Option Refusal) (k : Control) → EasyNext k (refuse_if why k)
+pub easy-refuse : (why : Control → Option Refusal) (k : Control) → EasyNext k (refuse_if why k)
 easy-refuse why k = by (why k)
   where
     by : (o : Option Refusal) → EasyNext k (end_if o)

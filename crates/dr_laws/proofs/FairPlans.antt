@@ -101,9 +101,9 @@ module _ (w : World) (tidy : Tidy w) where
   act-tidy (Redo v) f may easy = absurd easy
   act-tidy (Acknowledge n) f may easy = absurd easy
   act-tidy (Drop n) f may easy =
-      tidy-same w (dropped w n) refl (λ j h. h) (fresh-told w (dropped w n) [] (sym (append-nil w.events)) refl (all-filter _ (is_other n) w.control.pending tidy.fresh.unacked) (λ n. refl) tidy.fresh) tidy
-  act-tidy (EndFreeze l m) f may easy = tidy-same w (frozen w l m) refl (λ j h. h) (fresh-told w (frozen w l m) (Frozen l m ∷ []) refl refl tidy.fresh.unacked (λ n. refl) tidy.fresh) tidy
-  act-tidy (EndThaw l m) f may easy = tidy-same w (thawed w l m) refl (λ j h. h) (fresh-told w (thawed w l m) (Thawed l m ∷ []) refl refl tidy.fresh.unacked (λ n. refl) tidy.fresh) tidy
+      tidy-same w (dropped w n) refl refl (λ j h. h) (fresh-told w (dropped w n) [] (sym (append-nil w.events)) refl (all-filter _ (is_other n) w.control.pending tidy.fresh.unacked) (λ n. refl) tidy.fresh) tidy
+  act-tidy (EndFreeze l m) f may easy = tidy-same w (frozen w l m) refl refl (λ j h. h) (fresh-told w (frozen w l m) (Frozen l m ∷ []) refl refl tidy.fresh.unacked (λ n. refl) tidy.fresh) tidy
+  act-tidy (EndThaw l m) f may easy = tidy-same w (thawed w l m) refl refl (λ j h. h) (fresh-told w (thawed w l m) (Thawed l m ∷ []) refl refl tidy.fresh.unacked (λ n. refl) tidy.fresh) tidy
 
   act-fair : (a : Act) → MayDo w a → EasyAct w.control a → FairAct None w a
   act-fair (Make m) may easy = (may, easy-fair w m easy)
@@ -135,7 +135,7 @@ module _ (Fin : Option ℕ → World → Option Refusal → Type 0) (fin : (w : 
   counts-fin w (EndFreeze l m) k may easy = tt
   counts-fin w (EndThaw l m) k may easy = tt
 
-  next-easy : (w : World) (x : Next) (more : World → Type 0) (then : Option ℕ → World → Type 0) → ((v : World) → Between v → more v → then None v) → Between w → EasyNext w.control x → Then w x more → fairly_next Fin None w x then
+  pub next-easy : (w : World) (x : Next) (more : World → Type 0) (then : Option ℕ → World → Type 0) → ((v : World) → Between v → more v → then None v) → Between w → EasyNext w.control x → Then w x more → fairly_next Fin None w x then
   next-easy w Pass more then on k easy a = on w k a
   next-easy w (End r) more then on k easy a = fin w (Some r) k
   next-easy w (Do x) more then on k easy a = (

@@ -1,6 +1,7 @@
 -- Steps that only change tables and tell events are fair.
-use Rattle.std.proofs.Common.{ℕ, ◌≡◌, ◌≢◌, ◌<◌, ◌+◌, refl, ap, sym, ◌∙◌, subst, Bool, true, false, cond, ◌&&◌, nat_eq, List, [], ◌∷◌, ◌++◌, length, Option, Some, None, arith}
+use Rattle.std.proofs.Common.{ℕ, ◌≡◌, ◌≢◌, ◌<◌, ◌+◌, refl, ap, sym, ◌∙◌, subst, Bool, true, false, cond, ◌&&◌, ◌||◌, nat_eq, List, [], ◌∷◌, ◌++◌, length, Option, Some, None, arith}
 use Rattle.std.proofs.lemmas.List.{append-nil}
+use Rattle.std.proofs.lemmas.Bool.{false≢true, ne_eqb}
 use Rattle.std.specs.List.{list_any}
 use Rattle.dr_ids.specs.Links.{joins}
 use Rattle.dr_ids.specs.Paths.{Path, with_path, without_path}
@@ -47,15 +48,24 @@ fair-tables w first told a holds unchanged tidy =
     let k : Between (begun w p) = record { sound = sound-tables w first told a holds; tidy = tidy } in
     record { told = told; begins = unchanged; entries = fairly-nil (PlanFin Between rows-between answers-between p) None (begun w p) (good-none (begun w p) k.sound.rows) k; last = λ k. refl }
 
+-- a volume that was defined before
+not-new : (vs : List ℕ) (x v : ℕ) → x ≢ v → list_any (nat_eq x) (vs ++ v ∷ []) ≡ true → list_any (nat_eq x) vs ≡ true
+not-new [] x v ne h = absurd (false≢true (sym (ap (λ b. b || false) (ne_eqb x v ne)) ∙ h))
+not-new (y ∷ ys) x v ne h = by (nat_eq x y) (not-new ys x v ne) h
+  where
+    by : (b : Bool) → (list_any (nat_eq x) (ys ++ v ∷ []) ≡ true → list_any (nat_eq x) ys ≡ true) → (b || list_any (nat_eq x) (ys ++ v ∷ [])) ≡ true → (b || list_any (nat_eq x) ys) ≡ true
+    by true more h = refl
+    by false more h = more h
+
 -- an event that no list hears of
 module _ (w : World) (k : Between w) where
-  fair-told : (first : Control → Control) (told : List Event) (a : Said) → StepHolds w (tables_plan first told a) → AllSilent told → histories (w.events ++ told) ≡ histories w.events → ((n : ℕ) → list_any (is_ack n) told ≡ false) → (first w.control).volume ≡ w.control.volume
+  fair-told : (first : Control → Control) (told : List Event) (a : Said) → StepHolds w (tables_plan first told a) → AllSilent told → histories (w.events ++ told) ≡ histories w.events → ((n : ℕ) → list_any (is_ack n) told ≡ false) → (first w.control).volume ≡ w.control.volume → (first w.control).volumes ≡ w.control.volumes
       → (first w.control).issued ≡ w.control.issued → (first w.control).pending ≡ w.control.pending → ((j : ℕ) → (first w.control).on j ≡ true → w.control.on j ≡ true) → Fair w (tables_plan first told a)
-  fair-told first told a holds silent lists acks volume issued pending on =
+  fair-told first told a holds silent lists acks volume volumes issued pending on =
       let u : World = begun w (tables_plan first told a) in
       fair-tables w first told a holds
       (told-unchanged w u told refl silent lists volume refl issued (λ v t. ap (λ ps. waiting ps v t) pending))
-      (tidy-same w u volume on (fresh-told w u told refl issued (subst (AllPending (λ p. Unacked w p.w)) (sym pending) k.tidy.fresh.unacked) acks k.tidy.fresh) k.tidy)
+      (tidy-same w u volume volumes on (fresh-told w u told refl issued (subst (AllPending (λ p. Unacked w p.w)) (sym pending) k.tidy.fresh.unacked) acks k.tidy.fresh) k.tidy)
 
   module _ (line : ℕ) where
     abbrev holds : (p : Plan) → Case w.control w.events line p → StepHolds w p
@@ -65,31 +75,31 @@ module _ (w : World) (k : Between w) where
     none-told = ap histories (append-nil w.events)
 
     pub fair-says : (a : Said) → Fair w (only_says a)
-    fair-says a = fair-told same [] a (holds _ (Says a)) tt none-told (λ n. refl) refl refl refl (λ j h. h)
+    fair-says a = fair-told same [] a (holds _ (Says a)) tt none-told (λ n. refl) refl refl refl refl (λ j h. h)
 
     pub fair-defines : (name : Name) → (free : server_refusal w.control (name_bytes name) ≡ None) → Fair w (server_done w.control name)
     fair-defines name free = let e : Event = ServerDefined (length w.control.servers) name.len name.bytes in
-        fair-told _ (e ∷ []) _ (holds _ (Defines name free)) (tt, tt) (histories-append w.events (e ∷ [])) (λ n. refl) refl refl refl (λ j h. h)
+        fair-told _ (e ∷ []) _ (holds _ (Defines name free)) (tt, tt) (histories-append w.events (e ∷ [])) (λ n. refl) refl refl refl refl (λ j h. h)
 
     pub fair-links : (a b : ℕ) (up : Bool) → Fair w (link_done a b up)
-    fair-links a b up = fair-told _ [] _ (holds _ (Links a b up)) tt none-told (λ n. refl) refl refl refl (λ j h. h)
+    fair-links a b up = fair-told _ [] _ (holds _ (Links a b up)) tt none-told (λ n. refl) refl refl refl refl (λ j h. h)
 
     pub fair-shows : (v t : ℕ) → (there : show_refusal w.control v t ≡ None) → Fair w (show_done w.events line v t)
-    fair-shows v t there = let e : Event = Shown line v t (image_at w.events v t) in fair-told same (e ∷ []) _ (holds _ (Shows v t there)) (tt, tt) (histories-append w.events (e ∷ [])) (λ n. refl) refl refl refl (λ j h. h)
+    fair-shows v t there = let e : Event = Shown line v t (image_at w.events v t) in fair-told same (e ∷ []) _ (holds _ (Shows v t there)) (tt, tt) (histories-append w.events (e ∷ [])) (λ n. refl) refl refl refl refl (λ j h. h)
 
     pub fair-stops : (s : ℕ) → (on : w.control.on s ≡ true) → Fair w (stop_done s)
     fair-stops s on =
-        fair-told _ (Stopped s 0 ∷ []) _ (holds _ (Stops s on)) (tt, tt) (histories-append w.events (Stopped s 0 ∷ [])) (λ n. refl) refl refl refl
+        fair-told _ (Stopped s 0 ∷ []) _ (holds _ (Stops s on)) (tt, tt) (histories-append w.events (Stopped s 0 ∷ [])) (λ n. refl) refl refl refl refl
         (λ j h. at_cases (λ j b. b ≡ true → w.control.on j ≡ true) w.control.on s false (λ h. absurd cc) (λ j ne h. h) j h)
 
     pub fair-arms : (writes : ℕ) (torn : TornWord) (s : ℕ) → Fair w (arm_on writes torn s)
-    fair-arms writes torn s = fair-told _ [] _ (holds _ (Arms writes torn s)) tt none-told (λ n. refl) refl refl refl (λ j h. h)
+    fair-arms writes torn s = fair-told _ [] _ (holds _ (Arms writes torn s)) tt none-told (λ n. refl) refl refl refl refl (λ j h. h)
 
     pub fair-paths : (src tgt : ℕ) (group : Bool) → Fair w (path_done src tgt group)
-    fair-paths src tgt group = fair-told _ [] _ (holds _ (Paths src tgt group)) tt none-told (λ n. refl) refl refl refl (λ j h. h)
+    fair-paths src tgt group = fair-told _ [] _ (holds _ (Paths src tgt group)) tt none-told (λ n. refl) refl refl refl refl (λ j h. h)
 
     pub fair-unpaths : (src tgt : ℕ) → Fair w (unpath_done src tgt)
-    fair-unpaths src tgt = fair-told _ [] _ (holds _ (Unpaths src tgt)) tt none-told (λ n. refl) refl refl refl (λ j h. h)
+    fair-unpaths src tgt = fair-told _ [] _ (holds _ (Unpaths src tgt)) tt none-told (λ n. refl) refl refl refl refl (λ j h. h)
 
     -- a new volume is no primary
     pub fair-adds : (v s tracks : ℕ) → (free : volume_refusal w.control v s tracks ≡ None) → Fair w (volume_done v s tracks)
@@ -108,8 +118,9 @@ module _ (w : World) (k : Between w) where
           contents = λ x there t. refl;
         })
         (record {
-          clean = λ x. at_cases (λ x (y : Volume). w.control.on y.server ≡ true → Clean y.fields) w.control.volume v (new_volume s tracks) (λ on h t. absurd cc) (λ x ne. k.tidy.clean x) x;
-          free = λ x. at_cases (λ x (y : Volume). Free y.fields) w.control.volume v (new_volume s tracks) (record { coordination = λ h. refl; recording = λ h. refl }) (λ x ne. k.tidy.free x) x;
+          clean = λ x. at_cases (λ x (y : Volume). is_volume u.control x ≡ true → w.control.on y.server ≡ true → Clean y.fields) w.control.volume v (new_volume s tracks) (λ there on h t. absurd cc)
+              (λ x ne there. k.tidy.clean x (not-new w.control.volumes x v ne there)) x;
+          free = λ x. at_cases (λ x (y : Volume). Free y.fields) w.control.volume v (new_volume s tracks) (record { coordination = λ h. refl; recording = λ h. refl; changes = λ h t. absurd cc }) (λ x ne. k.tidy.free x) x;
           fresh = fresh-told w u (e ∷ []) refl refl k.tidy.fresh.unacked (λ n. refl) k.tidy.fresh;
         })
 
@@ -147,7 +158,7 @@ module _ (w : World) (tidy : Tidy w) (v t offset len : ℕ) (bytes : List ℕ) w
   }
 
   pub issued-tidy : Tidy issued
-  issued-tidy = tidy-same w issued refl (λ j h. h) (record {
+  issued-tidy = tidy-same w issued refl refl (λ j h. h) (record {
     unacked = more-pending (λ p. Unacked issued p.w) w.control.pending _ (each-on (λ p a. still-unacked w.events (e ∷ []) p.w a refl) w.control.pending tidy.fresh.unacked) (late-unacked w (w.control.issued + 1) tidy.fresh (omega arith) (e ∷ []) refl);
     later = λ n lt. late-unacked w n tidy.fresh (omega arith) (e ∷ []) refl;
   }) tidy

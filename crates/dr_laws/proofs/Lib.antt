@@ -49,3 +49,6 @@ pub mod Chains
 pub mod FairPlans
 pub mod FairCases
 pub mod FairTables
+pub mod FairPairs
+pub mod FairCopy
+pub mod FairStart

@@ -14,7 +14,7 @@ use Rattle.dr_model.specs.Relations.{all_tracks, is_bare}
 use Rattle.dr_model.specs.declared.event.Event.{Event}
 use Rattle.dr_model.specs.declared.event.Event.TheVariants.{Stopped}
 use Rattle.dr_model.specs.Tables.{at}
-use Rattle.dr_model.specs.Control.{Pending, Volume, Fuse, World}
+use Rattle.dr_model.specs.Control.{Pending, Volume, Fuse, World, is_volume}
 use Rattle.dr_model.specs.Pairs.{is_metro, is_full_duplex, is_torn, is_engaged, first_state, next_state, is_last}
 use Rattle.dr_model.specs.Moves.{Move, Land, Overwrite, Mirror, Restore, Strike, Suspend, MakePrimary, DropPrimary, Resume, TakeOver, Unsync, LandBoth, Lift, Restart, target, told, told_in_stop, settled, settled_in_stop, landed, is_write, is_other, marked, fields_left, moved}
 use Rattle.dr_model.specs.Entries.{fields_at}
@@ -39,10 +39,11 @@ is_synced f = is_metro f.primary && is_full_duplex f.primary_state
 abbrev pub Clean : Fields → Type 0
 Clean f = is_synced f ≡ true → (t : ℕ) → contains f.out_of_sync t ≡ false
 
--- a Metro Mirror primary takes part in no session
+-- a Metro Mirror primary takes part in no session, and records no change
 pub record Free (f : Fields) : Type 0 where
   pub coordination : is_metro f.primary ≡ true → f.coordination ≡ false
   pub recording : is_metro f.primary ≡ true → f.recording ≡ false
+  pub changes : is_metro f.primary ≡ true → (t : ℕ) → contains f.change_recording t ≡ false
 
 -- what a move asks so that its volume stays clean
 abbrev pub Gentle : Fields → Move → Type 0
@@ -75,19 +76,24 @@ next-duplex f h = by (is_metro f.primary) (is_bare f.out_of_sync) h
 none-engaged : (f : Fields) → Free f → is_metro f.primary ≡ true → is_engaged f ≡ false
 none-engaged f free metro = λ i. free.recording metro i || free.coordination metro i
 
+-- what a void leaves recorded
+none-changed : (b : Bool) (s : Tracks) → ((t : ℕ) → contains s t ≡ false) → (t : ℕ) → contains (cond b empty s) t ≡ false
+none-changed true s none t = empty_has t
+none-changed false s none t = none t
+
 -- a volume stays free and clean
 pub free-left : (m : Move) (u : Volume) → Free u.fields → Free (fields_left m u)
-free-left (Suspend v busy) u free = record { coordination = λ h. refl; recording = λ h. refl }
-free-left (MakePrimary v b kind state full) u free = record { coordination = λ h. refl; recording = λ h. refl }
-free-left (DropPrimary v) u free = record { coordination = λ h. refl; recording = λ h. refl }
-free-left (TakeOver v) u free = record { coordination = λ h. refl; recording = λ h. refl }
-free-left (Restart v) u free = record { coordination = λ h. refl; recording = λ h. refl }
-free-left (Lift v) u free = record { coordination = λ h. refl; recording = λ h. by u.fields.coordination (free.recording h) }
+free-left (Suspend v busy) u free = record { coordination = λ h. refl; recording = λ h. refl; changes = λ h. none-changed (is_engaged u.fields) u.fields.change_recording (free.changes h) }
+free-left (MakePrimary v b kind state full) u free = record { coordination = λ h. refl; recording = λ h. refl; changes = λ h t. empty_has t }
+free-left (DropPrimary v) u free = record { coordination = λ h. refl; recording = λ h. refl; changes = λ h t. empty_has t }
+free-left (TakeOver v) u free = record { coordination = λ h. refl; recording = λ h. refl; changes = λ h t. empty_has t }
+free-left (Restart v) u free = record { coordination = λ h. refl; recording = λ h. refl; changes = λ h. none-changed (is_engaged u.fields) u.fields.change_recording (free.changes h) }
+free-left (Lift v) u free = record { coordination = λ h. refl; recording = λ h. by u.fields.coordination (free.recording h); changes = λ h. none-changed u.fields.coordination u.fields.change_recording (free.changes h) }
   where
     by : (b : Bool) → u.fields.recording ≡ false → cond b false u.fields.recording ≡ false
     by true h = refl
     by false h = h
-free-left m u free = record { coordination = free.coordination; recording = free.recording }
+free-left m u free = record { coordination = free.coordination; recording = free.recording; changes = free.changes }
 
 pub clean-left : (m : Move) (u : Volume) → Gentle u.fields m → Free u.fields → Clean u.fields → Clean (fields_left m u)
 clean-left (Land n v t) u gentle free clean h q = false_true gentle h
@@ -123,7 +129,7 @@ pub record Fresh (w : World) : Type 0 where
   pub later : (n : ℕ) → w.control.issued < n → Unacked w n
 
 pub record Tidy (w : World) : Type 0 where
-  pub clean : (v : ℕ) → Runs w v → Clean (fields_at w.control v)
+  pub clean : (v : ℕ) → is_volume w.control v ≡ true → Runs w v → Clean (fields_at w.control v)
   pub free : (v : ℕ) → Free (fields_at w.control v)
   pub fresh : Fresh w
 
@@ -148,7 +154,7 @@ stop-acked (LandBoth j v t) u n s k = refl
 stop-acked (Mirror v t x j) u n s k = refl
 stop-acked m u n s k = list_any-append (is_ack n) (told m u) (Stopped s k ∷ []) ∙ ap (λ b. b || false) (silent-acks n (told m u) (silent-told m u tt))
 
-all-other : (P : Pending → Type 0) (n : ℕ) (ps : List Pending) → AllPending P ps → AllPending (λ p. P p × (p.w ≢ n)) (filter (is_other n) ps)
+pub all-other : (P : Pending → Type 0) (n : ℕ) (ps : List Pending) → AllPending P ps → AllPending (λ p. P p × (p.w ≢ n)) (filter (is_other n) ps)
 all-other P n [] all = tt
 all-other P n (p ∷ ps) all = by (eqb_tells p.w n) (all-other P n ps all.1)
   where
@@ -179,7 +185,7 @@ fresh-by w u es events issued all later fresh = record {
 pub fresh-told : (w u : World) (es : List Event) → u.events ≡ w.events ++ es → u.control.issued ≡ w.control.issued → AllPending (λ p. Unacked w p.w) u.control.pending → ((n : ℕ) → list_any (is_ack n) es ≡ false) → Fresh w → Fresh u
 fresh-told w u es events issued all none fresh = fresh-by w u es events issued (each-on (λ p a. (a, none p.w)) u.control.pending all) (λ n lt. none n) fresh
 
-above : (k i n : ℕ) → k < i + 1 → i < n → k ≢ n
+pub above : (k i n : ℕ) → k < i + 1 → i < n → k ≢ n
 above k i n lt gt e = absurd (let h : k ≡ n = e in omega arith)
 
 lands-else : (w : World) (m : Move) (n : ℕ) → May w m → w.control.issued < n → LandsElse m n
@@ -222,17 +228,17 @@ module _ (w : World) (m : Move) (gentle : Gentle (fields_at w.control (target m)
 
   pub tidy-changed : Fresh W → Tidy W
   tidy-changed fresh = record {
-    clean = λ v runs. at_cases (λ j (y : Volume). Runs w j → Clean y.fields) w.control.volume x row
-        (λ r. clean-left m (w.control.volume x) gentle (tidy.free x) (tidy.clean x r)) (λ j ne r. tidy.clean j r) v
+    clean = λ v there runs. at_cases (λ j (y : Volume). is_volume w.control j ≡ true → Runs w j → Clean y.fields) w.control.volume x row
+        (λ d r. clean-left m (w.control.volume x) gentle (tidy.free x) (tidy.clean x d r)) (λ j ne d r. tidy.clean j d r) v there
         (sym (ap w.control.on (at_part (λ (y : Volume). y.server) w.control.volume x row refl v)) ∙ less _ runs);
     free = λ v. at_cases (λ j (y : Volume). Free y.fields) w.control.volume x row (free-left m (w.control.volume x) (tidy.free x)) (λ j ne. tidy.free j) v;
     fresh = fresh;
   }
 
 -- other worlds in which no volume changes, and no server starts
-pub tidy-same : (w u : World) → u.control.volume ≡ w.control.volume → ((j : ℕ) → u.control.on j ≡ true → w.control.on j ≡ true) → Fresh u → Tidy w → Tidy u
-tidy-same w u volume less fresh tidy = record {
-  clean = λ v runs. subst (λ (y : Volume). Clean y.fields) (λ i. sym volume i v) (tidy.clean v ((λ i. w.control.on (sym volume i v).server) ∙ less (u.control.volume v).server runs));
+pub tidy-same : (w u : World) → u.control.volume ≡ w.control.volume → u.control.volumes ≡ w.control.volumes → ((j : ℕ) → u.control.on j ≡ true → w.control.on j ≡ true) → Fresh u → Tidy w → Tidy u
+tidy-same w u volume volumes less fresh tidy = record {
+  clean = λ v there runs. subst (λ (y : Volume). Clean y.fields) (λ i. sym volume i v) (tidy.clean v (sym (ap (λ vs. list_any (nat_eq v) vs) volumes) ∙ there) ((λ i. w.control.on (sym volume i v).server) ∙ less (u.control.volume v).server runs));
   free = λ v. subst (λ (y : Volume). Free y.fields) (λ i. sym volume i v) (tidy.free v);
   fresh = fresh;
 }
@@ -248,4 +254,4 @@ tidy-stop w m f gentle tidy =
     tidy-changed w m gentle tidy (done_in_stop w m f).control.on (done_in_stop w m f).control.fuse (settled_in_stop m w.control.pending) (done_in_stop w m f).events (went-off w.control.on (w.control.volume (target m)).server) (fresh-stop w m f tidy.fresh)
 
 pub tidy-not : (w : World) (s : ℕ) (f : Option Fuse) → Tidy w → Tidy (not_done w s f)
-tidy-not w s f tidy = tidy-same w (not_done w s f) refl (went-off w.control.on s) (fresh-told w (not_done w s f) (Stopped s 0 ∷ []) refl refl tidy.fresh.unacked (λ n. refl) tidy.fresh) tidy
+tidy-not w s f tidy = tidy-same w (not_done w s f) refl refl (went-off w.control.on s) (fresh-told w (not_done w s f) (Stopped s 0 ∷ []) refl refl tidy.fresh.unacked (λ n. refl) tidy.fresh) tidy
