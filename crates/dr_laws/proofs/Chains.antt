@@ -1,7 +1,6 @@
 -- The moments of a run come one after the other as they may, where the acts of its plans are fair.
-use Rattle.std.proofs.Common.{ℕ, ◌≡◌, ◌<◌, ◌+◌, refl, ap, sym, ◌∙◌, subst, Bool, true, false, cond, List, [], ◌∷◌, ◌++◌, append_assoc, filter, Option, Some, None}
+use Rattle.std.proofs.Common.{ℕ, ◌≡◌, ◌<◌, ◌+◌, refl, ap, sym, ◌∙◌, subst, false, List, [], ◌∷◌, ◌++◌, append_assoc, filter, Option, Some, None}
 use Rattle.std.proofs.lemmas.List.{append-nil}
-use Rattle.std.specs.FinSet.{contains}
 use Rattle.dr_ids.specs.declared.refusal.Refusal.{Refusal}
 use Rattle.dr_ids.specs.declared.refusal.Refusal.TheVariants.{Stopped as StoppedIn}
 use Rattle.dr_model.specs.declared.event.Event.{Event}
@@ -9,20 +8,19 @@ use Rattle.dr_model.specs.declared.event.Event.TheVariants.{Stopped, Frozen, Tha
 use Rattle.dr_model.specs.declared.said.Said.{Said}
 use Rattle.dr_model.specs.Answers.{answer}
 use Rattle.dr_model.specs.Histories.{Histories, histories}
-use Rattle.dr_model.specs.Control.{Control, Pending, Fuse, World}
+use Rattle.dr_model.specs.Control.{Control, Fuse, World}
 use Rattle.dr_model.specs.Moves.{is_write}
-use Rattle.dr_model.specs.Carry.{Act, Make, Redo, Acknowledge, Drop, EndFreeze, EndThaw, Turn, Next, Pass, Do, End, Entry, Outcome, act, continue, go, carry, dropped, frozen, thawed}
+use Rattle.dr_model.specs.Carry.{Act, Make, Redo, Acknowledge, Drop, EndFreeze, EndThaw, Turn, Next, Pass, Do, End, Entry, Outcome, continue, go, carry, dropped, frozen, thawed}
 use Rattle.dr_model.specs.Plans.{Plan, plan}
-use Rattle.dr_model.specs.Runs.{Task, begun, finish, carried_out, answered, said, after_plan, after_task}
+use Rattle.dr_model.specs.Runs.{Task, begun, finish, answered, said, after_plan, after_task}
 use Rattle.dr_model.specs.Table.{table, waiting}
 use Rattle.dr_model.specs.Laws.{SoundRows, AllPending}
 use Rattle.dr_model.specs.Allowed.{May, Runs}
 use Rattle.dr_model.proofs.Images.{histories-append}
-use Rattle.dr_laws.specs.Moments.{on_from, on_next, worlds, worlds_after, plan_moments, task_moments, moments_from}
+use Rattle.dr_laws.specs.Moments.{on_from, on_next, worlds, worlds_after, task_moments, moments_from}
 use Rattle.dr_laws.proofs.Sets.{false_true}
-use Rattle.dr_laws.proofs.Turns.{done, done_in_stop, not_done, fused, place, server_of, server_at, after_act, Writes, Counts, act-cases}
+use Rattle.dr_laws.proofs.Turns.{done_in_stop, not_done, fused, place, server_of, server_at, after_act, Writes, Counts, act-cases}
 use Rattle.dr_laws.proofs.Due.{waiting-settled}
-use Rattle.dr_laws.proofs.Unissued.{with-told}
 use Rattle.dr_laws.proofs.Fair.{Fair, tag_after}
 use Rattle.dr_laws.proofs.KeepsWindow.{AllSilent}
 use Rattle.dr_laws.proofs.KeepsStep.{Step, Does, Stops, Acks, Passes, Acknowledges, Unchanged}

@@ -1,5 +1,5 @@
 -- What each kind of move asks of pairs in freeze windows.
-use Rattle.std.specs.Prelude.{◌≡◌, ◌≢◌, ℕ, Bool, true, false, ◌&&◌, ◌||◌, List, Option, Some, None}
+use Rattle.std.specs.Prelude.{◌≡◌, ◌≢◌, ℕ, Bool, true, false, ◌&&◌, Option, Some, None}
 use Rattle.std.specs.List.{list_any}
 use Rattle.std.specs.FinSet.{contains}
 use Rattle.dr_model.specs.Layout.{Fields, is_part}

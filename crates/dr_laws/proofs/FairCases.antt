@@ -1,6 +1,5 @@
 -- Each step's plan is fair.
-use Rattle.std.proofs.Common.{ℕ, ◌≡◌, refl, ap, sym, ◌∙◌, subst, Bool, true, false, cond, not, ◌&&◌, List, [], ◌∷◌, ◌++◌, map, Option, Some, None}
-use Rattle.std.specs.Prelude.{is_some}
+use Rattle.std.proofs.Common.{ℕ, ◌≡◌, refl, ap, Bool, true, false, cond, List, [], ◌∷◌, map, Option, Some, None}
 use Rattle.std.proofs.lemmas.List.{append-nil}
 use Rattle.dr_ids.specs.declared.refusal.Refusal.{Refusal}
 use Rattle.dr_ids.specs.declared.refusal.Refusal.TheVariants.{Stopped as StoppedIn}
@@ -15,18 +14,18 @@ use Rattle.dr_model.specs.Relations.{Choices}
 use Rattle.dr_model.specs.Control.{Control, World}
 use Rattle.dr_model.specs.Carry.{Make, Next, Pass, Do, End, Entry, check}
 use Rattle.dr_model.specs.Moves.{Suspend, Thaw, Lift, Follow, DropPrimary, DropSecondary}
-use Rattle.dr_model.specs.PairEntries.{end_if, refuse_if, let_go, remove_both, tell_paused}
+use Rattle.dr_model.specs.PairEntries.{end_if, refuse_if, remove_both}
 use Rattle.dr_model.specs.WriteEntries.{freeze_on, end_freeze, thaw_on, end_thaw, lift_on}
 use Rattle.dr_model.specs.Plans.{Plan, entries_plan, flash_plan, withdraw_plan, resync_plan, reverse_plan, remove_plan, pause_plan, resume_plan, expire_plan, freeze_done, thaw_done}
-use Rattle.dr_model.specs.Runs.{begun, said}
+use Rattle.dr_model.specs.Runs.{said}
 use Rattle.dr_model.specs.Table.{table}
-use Rattle.dr_model.specs.Laws.{SoundRows, Sound}
+use Rattle.dr_model.specs.Laws.{SoundRows}
 use Rattle.dr_laws.proofs.KeepsSound.{Along}
 use Rattle.dr_laws.proofs.FitsFlash.{as_begun, sound-begun, along-flash, along-withdraw, along-resync, along-reverse}
 use Rattle.dr_laws.proofs.FitsPairs.{along-remove, along-pause, along-resume}
 use Rattle.dr_laws.proofs.FitsHolds.{freezes, thaws, lifts}
 use Rattle.dr_laws.proofs.Steps.{sound-said}
-use Rattle.dr_laws.proofs.Tidy.{Tidy, tidy-same, fresh-told}
+use Rattle.dr_laws.proofs.Tidy.{tidy-same, fresh-told}
 use Rattle.dr_laws.proofs.Chains.{Fairly, fairly-nil, EndFin, PlanFin, PlanFair, good-none, told-unchanged}
 use Rattle.dr_laws.proofs.FairPlans.{EasyNext, AllEasy, easy-nil, easy-cons, easy-append, easy-map, Between, easy-fairly}
 

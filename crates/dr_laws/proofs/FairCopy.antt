@@ -1,5 +1,5 @@
 -- The background copy of a target, and its restore onto its source, are fair.
-use Rattle.std.proofs.Common.{ℕ, zero, suc, ◌≡◌, refl, ap, sym, ◌∙◌, subst, Bool, true, false, cond, not, ◌&&◌, ◌||◌, List, [], ◌∷◌, ◌++◌, append_assoc, map, Option, Some, None}
+use Rattle.std.proofs.Common.{ℕ, zero, suc, ◌≡◌, refl, ap, sym, ◌∙◌, Bool, true, false, cond, not, ◌&&◌, ◌||◌, List, [], ◌∷◌, ◌++◌, map, Option, Some, None}
 use Rattle.std.specs.FinSet.{contains}
 use Rattle.dr_ids.specs.declared.refusal.Refusal.{Refusal}
 use Rattle.dr_model.specs.declared.said.Addition.TheVariants.{Counted}
@@ -11,10 +11,10 @@ use Rattle.dr_model.specs.declared.state.PairState.TheVariants.{CopyPending, Ful
 use Rattle.dr_model.specs.Layout.{Fields, is_part}
 use Rattle.dr_model.specs.Pairs.{is_metro, is_full_duplex, is_suspended, is_quiet}
 use Rattle.dr_model.specs.Control.{Control, Fuse, Volume, World}
-use Rattle.dr_model.specs.Moves.{Move, Keep, Note, Fetch, Restore, Release, target}
+use Rattle.dr_model.specs.Moves.{Move, Keep, Note, Fetch, Restore, Release}
 use Rattle.dr_model.specs.Carry.{Act, Make, Next, Pass, Do, End, Entry, now, check}
-use Rattle.dr_model.specs.Entries.{fields_at, keep_on, keep_if, copies_from, times, on_found, lowest_held, lowest_missing, fetch_next, for_lowest, give_back, is_running, takes_back}
-use Rattle.dr_model.specs.Plans.{Plan, copy_plan, copy_one, at_most, left_to_copy, is_defined, may_copy, may_give_back}
+use Rattle.dr_model.specs.Entries.{fields_at, keep_on, copies_from, times, on_found, lowest_held, lowest_missing, fetch_next, for_lowest, give_back, is_running, takes_back}
+use Rattle.dr_model.specs.Plans.{copy_plan, at_most, left_to_copy, is_defined, may_copy, may_give_back}
 use Rattle.dr_laws.proofs.AtLemmas.{at_part}
 use Rattle.dr_laws.proofs.Turns.{done}
 use Rattle.dr_laws.proofs.KeepsSound.{Along, Then, comes}
@@ -23,7 +23,7 @@ use Rattle.dr_laws.proofs.FitsPairs.{row}
 use Rattle.dr_laws.proofs.FitsCopy.{along-copy}
 use Rattle.dr_laws.proofs.Tidy.{is_synced}
 use Rattle.dr_laws.proofs.Chains.{Fairly, fairly_next, fairly-entry, fairly-nil, PlanFin, good-none}
-use Rattle.dr_laws.proofs.FairPlans.{EasyNext, AllEasy, easy-nil, easy-append, Between, easy-fairly}
+use Rattle.dr_laws.proofs.FairPlans.{EasyNext, AllEasy, easy-append, Between, easy-fairly}
 use Rattle.dr_laws.proofs.FairCases.{rows-between, answers-between, begun-between, Fair, fin, entries-fair}
 use Rattle.dr_laws.proofs.FairPairs.{move-fairly}
 

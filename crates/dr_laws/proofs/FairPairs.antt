@@ -1,30 +1,27 @@
 -- A plan that makes a pair is fair: its primary had no part.
-use Rattle.std.proofs.Common.{ℕ, ◌≡◌, ◌≢◌, ◌<◌, ◌+◌, refl, ap, sym, ◌∙◌, subst, Bool, true, false, cond, not, ◌&&◌, List, [], ◌∷◌, ◌++◌, map, take, Option, Some, None}
+use Rattle.std.proofs.Common.{ℕ, ◌≡◌, ◌≢◌, refl, ap, sym, ◌∙◌, subst, Bool, true, false, List, [], ◌∷◌, ◌++◌, take, Option, None}
 use Rattle.dr_ids.specs.declared.refusal.Refusal.{Refusal}
-use Rattle.dr_ids.specs.declared.refusal.Refusal.TheVariants.{Stopped as StoppedIn}
 use Rattle.dr_model.specs.declared.said.Addition.TheVariants.{Alone}
 use Rattle.dr_model.specs.declared.said.Said.TheVariants.{Done}
 use Rattle.dr_model.specs.declared.state.Part.{Part}
 use Rattle.dr_model.specs.declared.state.PairState.{PairState}
 use Rattle.dr_model.specs.declared.step.Devs.{Devs}
-use Rattle.dr_model.specs.Contents.{image_at}
-use Rattle.dr_model.specs.Layout.{Fields, is_part}
-use Rattle.dr_model.specs.Control.{Control, Fuse, Volume, World}
+use Rattle.dr_model.specs.Layout.{is_part}
+use Rattle.dr_model.specs.Control.{Fuse, Volume, World}
 use Rattle.dr_model.specs.Pairs.{first_state}
 use Rattle.dr_model.specs.Moves.{Move, MakeSecondary, MakePrimary, target}
-use Rattle.dr_model.specs.Carry.{Make, Next, Pass, Do, End, Entry, now, check}
+use Rattle.dr_model.specs.Carry.{Make, Do, Entry, now}
 use Rattle.dr_model.specs.Entries.{fields_at}
-use Rattle.dr_model.specs.PairEntries.{first_differing}
 use Rattle.dr_model.specs.Plans.{Plan, pair_plan}
 use Rattle.dr_model.specs.Allowed.{May}
 use Rattle.dr_model.proofs.Images.{at_other}
-use Rattle.dr_laws.proofs.Turns.{done, done_in_stop, not_done, server_at, next_of, carried_in}
-use Rattle.dr_laws.proofs.KeepsSound.{Along, Then, comes, keeps-sound}
+use Rattle.dr_laws.proofs.Turns.{done, done_in_stop, not_done, server_at}
+use Rattle.dr_laws.proofs.KeepsSound.{Along, comes, keeps-sound}
 use Rattle.dr_laws.proofs.FitsFlash.{as_begun}
 use Rattle.dr_laws.proofs.FitsPairs.{along-pair, row}
 use Rattle.dr_laws.proofs.Fair.{Fair as FairMove, tag_after}
 use Rattle.dr_laws.proofs.Tidy.{Gentle, tidy-done, tidy-stop, tidy-not}
-use Rattle.dr_laws.proofs.Chains.{Fairly, fairly-entry, fairly-nil, PlanFin, good-none, told-unchanged}
+use Rattle.dr_laws.proofs.Chains.{Fairly, fairly-entry, fairly-nil, PlanFin, good-none}
 use Rattle.dr_laws.proofs.FairPlans.{AllEasy, Between, next-easy}
 use Rattle.dr_laws.proofs.FairCases.{rows-between, answers-between, begun-between, Fair, fin, easy-check, easy-refuse, entries-fair}
 
@@ -41,13 +38,13 @@ module _ (Fin : Option ℕ → World → Option Refusal → Type 0) (fin : (w : 
   pub move-fairly : (w : World) → Between w → (d : Entry) (m : Move) (ds : List Entry) → d w.control ≡ Do (Make m) → May w m → FairMove None w m → Gentle (fields_at w.control (target m)) m → tag_after m None ≡ None
       → ((f : Option Fuse) → Between (done w m f) → Fairly Fin None (done w m f) ds) → Fairly Fin None w (d ∷ ds)
   move-fairly w k d m ds is may fair gentle none go = fairly-entry Fin None w d ds (Do (Make m)) is (good-none w k.sound.rows) (
-      (may, fair),
-      λ f. subst (λ tag. Fairly Fin tag (done w m f) ds) (sym none) (go f (record { sound = keeps-sound.does w (Make m) f k.sound may; tidy = tidy-done w m f may gentle k.tidy })),
-      (
-        λ f. fin (done_in_stop w m f) _ (record { sound = keeps-sound.counts w m f k.sound may; tidy = tidy-stop w m f gentle k.tidy }),
-        λ d f. fin (not_done w (server_at w (target m)) f) _ (record { sound = keeps-sound.fails w (Make m) f tt k.sound may; tidy = tidy-not w (server_at w (target m)) f k.tidy }),
-      ),
-    )
+    (may, fair),
+    λ f. subst (λ tag. Fairly Fin tag (done w m f) ds) (sym none) (go f (record { sound = keeps-sound.does w (Make m) f k.sound may; tidy = tidy-done w m f may gentle k.tidy })),
+    (
+      λ f. fin (done_in_stop w m f) _ (record { sound = keeps-sound.counts w m f k.sound may; tidy = tidy-stop w m f gentle k.tidy }),
+      λ d f. fin (not_done w (server_at w (target m)) f) _ (record { sound = keeps-sound.fails w (Make m) f tt k.sound may; tidy = tidy-not w (server_at w (target m)) f k.tidy }),
+    ),
+  )
 
 -- the two moves that make a pair
 module _ (Fin : Option ℕ → World → Option Refusal → Type 0) (fin : (w : World) (r : Option Refusal) → Between w → Fin None w r) (a b : ℕ) (kind : Part) (full : Bool) where

@@ -1,21 +1,19 @@
 -- Plans whose acts are fair wherever they come.
-use Rattle.std.proofs.Common.{ℕ, ◌≡◌, ◌≢◌, ◌<◌, ◌+◌, refl, ap, sym, ◌∙◌, subst, Bool, true, false, cond, ◌&&◌, List, [], ◌∷◌, ◌++◌, map, filter, Option, Some, None}
+use Rattle.std.proofs.Common.{ℕ, ◌≡◌, refl, sym, subst, Bool, true, false, cond, List, [], ◌∷◌, ◌++◌, map, Option, Some, None}
 use Rattle.dr_ids.specs.declared.refusal.Refusal.{Refusal}
-use Rattle.dr_ids.specs.declared.refusal.Refusal.TheVariants.{Stopped as StoppedIn}
 use Rattle.dr_model.specs.declared.event.Event.TheVariants.{Frozen, Thawed}
-use Rattle.dr_model.specs.Control.{Control, Pending, Fuse, World}
+use Rattle.dr_model.specs.Control.{Control, Fuse, World}
 use Rattle.dr_model.specs.Pairs.{next_state}
 use Rattle.dr_model.specs.Moves.{Move, Land, Restore, Store, Strike, MakePrimary, Resume, Unsync, Mirror, LandBoth, target, is_other}
 use Rattle.dr_model.specs.Carry.{Act, Make, Redo, Acknowledge, Drop, EndFreeze, EndThaw, dropped, frozen, thawed, Next, Pass, Do, End, Entry, check}
 use Rattle.dr_model.specs.Entries.{fields_at}
-use Rattle.dr_model.specs.Table.{table}
-use Rattle.dr_model.specs.Laws.{Sound, AllPending}
-use Rattle.dr_laws.proofs.Turns.{done, done_in_stop, not_done, server_at, server_of, place, after_act, Writes}
+use Rattle.dr_model.specs.Laws.{Sound}
+use Rattle.dr_laws.proofs.Turns.{done_in_stop, server_of, after_act}
 use Rattle.dr_laws.proofs.KeepsQueue.{all-filter}
 use Rattle.dr_laws.proofs.KeepsSound.{MayDo, Along, Then, comes, keeps-sound}
 use Rattle.dr_laws.proofs.Fair.{Fair, tag_after}
 use Rattle.dr_laws.proofs.Tidy.{Gentle, Tidy, tidy-done, tidy-stop, tidy-not, tidy-same, fresh-told}
-use Rattle.dr_laws.proofs.Chains.{FairAct, act_tag, CountsFin, StopFin, fairly_next, Fairly, fairly-entry, fairly-nil, good-none}
+use Rattle.dr_laws.proofs.Chains.{FairAct, act_tag, CountsFin, fairly_next, Fairly, fairly-entry, fairly-nil, good-none}
 use Rattle.std.proofs.lemmas.List.{append-nil}
 
 -- moves that are fair and gentle by what they look at
@@ -139,11 +137,11 @@ module _ (Fin : Option ℕ → World → Option Refusal → Type 0) (fin : (w : 
   next-easy w Pass more then on k easy a = on w k a
   next-easy w (End r) more then on k easy a = fin w (Some r) k
   next-easy w (Do x) more then on k easy a = (
-      act-fair w k.tidy x a.0 easy,
-      λ f. let sound : Sound (after_act w x f) = keeps-sound.does w x f k.sound a.0 in
-          subst (λ tag. then tag (after_act w x f)) (sym (act-none w k.tidy x easy)) (on (after_act w x f) (record { sound = sound; tidy = act-tidy w k.tidy x f a.0 easy }) (a.1 f sound)),
-      (counts-fin w x k a.0 easy, λ d f. fin _ _ (record { sound = keeps-sound.fails w x f d k.sound a.0; tidy = tidy-not w (server_of w x) f k.tidy })),
-    )
+    act-fair w k.tidy x a.0 easy,
+    λ f. let sound : Sound (after_act w x f) = keeps-sound.does w x f k.sound a.0 in
+        subst (λ tag. then tag (after_act w x f)) (sym (act-none w k.tidy x easy)) (on (after_act w x f) (record { sound = sound; tidy = act-tidy w k.tidy x f a.0 easy }) (a.1 f sound)),
+    (counts-fin w x k a.0 easy, λ d f. fin _ _ (record { sound = keeps-sound.fails w x f d k.sound a.0; tidy = tidy-not w (server_of w x) f k.tidy })),
+  )
 
   pub easy-fairly : (ds : List Entry) (w : World) → Between w → AllEasy ds → Along w ds → Fairly Fin None w ds
   unfolding AllEasy

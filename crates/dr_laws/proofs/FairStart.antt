@@ -1,31 +1,28 @@
 -- The start of a server is fair: it leaves no pair torn.
-use Rattle.std.proofs.Common.{ℕ, ◌≡◌, ◌≢◌, ◌<◌, ◌+◌, ◌⊎◌, inl, inr, refl, ap, sym, ◌∙◌, subst, Bool, true, false, cond, not, ◌&&◌, ◌||◌, nat_eq, List, [], ◌∷◌, ◌++◌, filter, Option, Some, None}
+use Rattle.std.proofs.Common.{ℕ, ◌≡◌, ◌≢◌, inl, inr, refl, ap, sym, ◌∙◌, subst, Bool, true, false, cond, not, ◌&&◌, ◌||◌, nat_eq, List, [], ◌∷◌, ◌++◌, Option, Some, None}
 use Rattle.std.specs.Prelude.{option_map}
 use Rattle.std.proofs.lemmas.Bool.{and_parts, and_from, eq-eqb, eqb-true, ne_eqb, false≢true}
 use Rattle.std.proofs.lemmas.Bool.Decides.{eqb_tells}
-use Rattle.std.specs.List.{list_any, find}
-use Rattle.std.specs.FinSet.{contains, union}
+use Rattle.std.specs.List.{list_any}
+use Rattle.std.specs.FinSet.{contains}
 use Rattle.dr_ids.specs.declared.refusal.Refusal.{Refusal}
 use Rattle.dr_ids.specs.declared.refusal.Refusal.TheVariants.{Stopped as StoppedIn}
 use Rattle.dr_model.specs.declared.event.Event.TheVariants.{Ack, Started, Stopped}
 use Rattle.dr_model.specs.Tables.{at}
-use Rattle.dr_model.specs.Histories.{histories}
 use Rattle.dr_model.specs.Layout.{Fields}
 use Rattle.dr_model.specs.Relations.{is_bare}
-use Rattle.dr_model.specs.Control.{Control, Pending, Fuse, Volume, World, is_volume}
+use Rattle.dr_model.specs.Control.{Pending, Fuse, Volume, World, is_volume}
 use Rattle.dr_model.specs.Pairs.{is_metro, is_full_duplex, is_torn, is_engaged, must_restart}
 use Rattle.dr_model.specs.declared.state.PairState.TheVariants.{CopyPending}
-use Rattle.dr_model.specs.Moves.{Restart, fields_left, is_other}
-use Rattle.dr_model.specs.Carry.{Act, Make, Redo, Acknowledge, Pass, Do, Entry, acknowledged}
+use Rattle.dr_model.specs.Moves.{Restart, fields_left}
+use Rattle.dr_model.specs.Carry.{Make, Redo, Pass, Do, Entry, acknowledged}
 use Rattle.dr_model.specs.Entries.{fields_at}
 use Rattle.dr_model.specs.WriteEntries.{belongs, redo_on, restart_on, start_entries}
-use Rattle.dr_model.specs.Plans.{Plan, acknowledge_on, acknowledge_if, start_plan, starting}
+use Rattle.dr_model.specs.Plans.{Plan, acknowledge_on, acknowledge_if, start_plan}
 use Rattle.dr_model.specs.Runs.{begun}
-use Rattle.dr_model.specs.Table.{table}
-use Rattle.dr_model.specs.Laws.{Sound, SoundBut, AllPending, servers}
+use Rattle.dr_model.specs.Laws.{servers}
 use Rattle.dr_model.specs.Allowed.{Runs}
 use Rattle.dr_model.proofs.Images.{at_same, at_other, histories-append}
-use Rattle.dr_laws.specs.Windows.{is_ack}
 use Rattle.dr_laws.proofs.AtLemmas.{Told, at_cases, at_part}
 use Rattle.dr_laws.proofs.Turns.{done, done_in_stop, not_done, fused}
 use Rattle.dr_laws.proofs.KeepsQueue.{each-on}
@@ -33,9 +30,8 @@ use Rattle.dr_laws.proofs.FitsPairs.{row}
 use Rattle.dr_laws.proofs.Starts as starts
 use Rattle.dr_laws.proofs.Fair.{Unacked}
 use Rattle.dr_laws.proofs.Windows.{bare-has}
-use Rattle.dr_laws.proofs.KeepsStep.{Acknowledges}
-use Rattle.dr_laws.proofs.Tidy.{is_synced, Clean, Free, free-left, clean-left, Fresh, Tidy, fresh-by, fresh-told, fresh-done, fresh-stop, all-other, above}
-use Rattle.dr_laws.proofs.Chains.{Fairly, fairly_next, fairly-entry, fairly-nil, StopFin, PlanFin, EndFin, good-none, told-unchanged}
+use Rattle.dr_laws.proofs.Tidy.{Clean, Free, free-left, clean-left, Fresh, Tidy, fresh-by, fresh-told, fresh-done, fresh-stop, all-other, above}
+use Rattle.dr_laws.proofs.Chains.{Fairly, fairly_next, fairly-entry, fairly-nil, PlanFin, EndFin, good-none, told-unchanged}
 use Rattle.dr_laws.proofs.FairPlans.{Between}
 use Rattle.dr_laws.proofs.FairCases.{rows-between, answers-between, Fair}
 

@@ -1,18 +1,15 @@
 -- Steps that only change tables and tell events are fair.
-use Rattle.std.proofs.Common.{ℕ, ◌≡◌, ◌≢◌, ◌<◌, ◌+◌, refl, ap, sym, ◌∙◌, subst, Bool, true, false, cond, ◌&&◌, ◌||◌, nat_eq, List, [], ◌∷◌, ◌++◌, length, Option, Some, None, arith}
+use Rattle.std.proofs.Common.{ℕ, ◌≡◌, ◌≢◌, ◌<◌, ◌+◌, refl, ap, sym, ◌∙◌, subst, Bool, true, false, cond, ◌&&◌, ◌||◌, nat_eq, List, [], ◌∷◌, ◌++◌, length, None, arith}
 use Rattle.std.proofs.lemmas.List.{append-nil}
 use Rattle.std.proofs.lemmas.Bool.{false≢true, ne_eqb}
 use Rattle.std.specs.List.{list_any}
-use Rattle.dr_ids.specs.Links.{joins}
-use Rattle.dr_ids.specs.Paths.{Path, with_path, without_path}
 use Rattle.dr_model.specs.declared.event.Event.{Event}
 use Rattle.dr_model.specs.declared.event.Event.TheVariants.{Server as ServerDefined, Volume as VolumeDefined, Issue, Stopped, Shown}
 use Rattle.dr_model.specs.declared.said.Said.{Said}
 use Rattle.dr_model.specs.declared.step.Name.{Name}
 use Rattle.dr_model.specs.declared.step.TornWord.{TornWord}
-use Rattle.dr_model.specs.Tables.{at}
 use Rattle.dr_model.specs.Contents.{image_at}
-use Rattle.dr_model.specs.Histories.{Histories, histories, after_event}
+use Rattle.dr_model.specs.Histories.{Histories, histories}
 use Rattle.dr_model.specs.Control.{Control, Pending, Volume, World, is_volume, new_volume}
 use Rattle.dr_model.specs.Carry.{carry}
 use Rattle.dr_model.specs.Plans.{Plan, tables_plan, only_says, same, name_bytes, server_done, server_refusal, volume_done, volume_refusal, link_done, issue_done, issue_refusal, with_pending, show_done, show_refusal, stop_done, arm_on, path_done, unpath_done}

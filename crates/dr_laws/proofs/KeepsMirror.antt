@@ -1,30 +1,29 @@
 -- A freeze window lasts as its secondary stores a host write, and as that lands.
-use Rattle.std.proofs.Common.{ℕ, ◌≡◌, ◌≢◌, ◌<◌, ◌+◌, ◌⊎◌, inl, inr, refl, ap, sym, ◌∙◌, subst, Bool, true, false, cond, not, ◌&&◌, ◌||◌, nat_eq, List, [], ◌∷◌, ◌++◌, map, filter, Option, Some, None}
+use Rattle.std.proofs.Common.{ℕ, ◌≡◌, ◌≢◌, ◌<◌, ◌+◌, inl, inr, refl, ap, sym, ◌∙◌, subst, Bool, true, false, cond, not, ◌&&◌, ◌||◌, nat_eq, List, [], ◌∷◌, ◌++◌, Option, Some, None}
 use Rattle.std.proofs.lemmas.List.Folds.{list_any-append}
 use Rattle.std.proofs.lemmas.Bool.{ne_eqb, eq-eqb}
 use Rattle.std.proofs.lemmas.Bool.Decides.{eqb_tells}
-use Rattle.std.specs.List.{list_any, fold}
+use Rattle.std.specs.List.{list_any}
 use Rattle.std.specs.FinSet.{contains}
 use Rattle.dr_model.specs.declared.event.Event.{Event}
-use Rattle.dr_model.specs.declared.event.Event.TheVariants.{Ack, Mirrored, Stopped}
+use Rattle.dr_model.specs.declared.event.Event.TheVariants.{Ack}
 use Rattle.dr_model.specs.Tables.{at}
 use Rattle.dr_model.specs.Histories.{Write, histories}
-use Rattle.dr_model.specs.Contents.{laid, with_write}
-use Rattle.dr_model.specs.Layout.{Fields}
+use Rattle.dr_model.specs.Contents.{with_write}
 use Rattle.dr_model.specs.Control.{Pending, Volume, Fuse, World}
 use Rattle.dr_model.specs.Pairs.{is_metro}
-use Rattle.dr_model.specs.Moves.{Move, Mirror, LandBoth, moved, tracks_after, told, told_in_stop, settled, settled_in_stop, marked, is_other, is_write}
+use Rattle.dr_model.specs.Moves.{Move, Mirror, LandBoth, moved, tracks_after}
 use Rattle.dr_model.specs.Entries.{fields_at}
 use Rattle.dr_model.specs.Table.{table, waiting}
 use Rattle.dr_model.specs.Laws.{SoundRows}
 use Rattle.dr_model.specs.Allowed.{May}
 use Rattle.dr_model.proofs.Images.{at_same, at_other}
-use Rattle.dr_laws.specs.Windows.{later_mirrored, is_ack, unacked_on}
+use Rattle.dr_laws.specs.Windows.{is_ack, unacked_on}
 use Rattle.dr_laws.proofs.AtLemmas.{at_part, Told}
 use Rattle.dr_laws.proofs.Sets.{false_true, from_source}
 use Rattle.dr_laws.proofs.Turns.{next_of, carried_in}
 use Rattle.dr_laws.proofs.RowsAfter.{calm, changed, bytes-after}
-use Rattle.dr_laws.proofs.WindowTracks.{Stays, Same, Ahead, Holds, Window}
+use Rattle.dr_laws.proofs.WindowTracks.{Stays, Holds, Window}
 use Rattle.dr_laws.proofs.Fair.{OnlyOut, Unacked}
 use Rattle.dr_laws.proofs.KeepsWindow.{two}
 

@@ -1,5 +1,5 @@
 -- A freeze window lasts from each moment of a run to the next.
-use Rattle.std.proofs.Common.{ℕ, ◌≡◌, ◌≢◌, ◌<◌, ◌+◌, ◌⊎◌, inl, inr, refl, ap, sym, ◌∙◌, subst, Bool, true, false, cond, not, ◌&&◌, ◌||◌, nat_eq, List, [], ◌∷◌, ◌++◌, filter, Option, Some, None}
+use Rattle.std.proofs.Common.{ℕ, ◌≡◌, ◌≢◌, ◌<◌, ◌+◌, ◌⊎◌, inl, inr, refl, ap, sym, ◌∙◌, subst, Bool, true, false, cond, not, ◌||◌, nat_eq, List, [], ◌∷◌, ◌++◌, filter, Option, Some, None}
 use Rattle.std.proofs.lemmas.List.Sums.{fold-append}
 use Rattle.std.proofs.lemmas.Bool.{ne_eqb, eq-eqb}
 use Rattle.std.proofs.lemmas.Bool.Decides.{eqb_tells}
@@ -17,15 +17,15 @@ use Rattle.dr_model.specs.Entries.{fields_at}
 use Rattle.dr_model.specs.Table.{table, waiting}
 use Rattle.dr_model.specs.Laws.{SoundRows}
 use Rattle.dr_model.specs.Allowed.{May}
-use Rattle.dr_laws.specs.Windows.{later_mirrored, is_ack, is_back_to, unacked_on}
+use Rattle.dr_laws.specs.Windows.{later_mirrored, is_back_to, unacked_on}
 use Rattle.dr_laws.proofs.AtLemmas.{Told, at_part}
-use Rattle.dr_laws.proofs.Sets.{none_some, false_true, from_source}
+use Rattle.dr_laws.proofs.Sets.{false_true, from_source}
 use Rattle.dr_laws.proofs.Turns.{done, done_in_stop}
 use Rattle.dr_laws.proofs.RowsAfter.{calm}
-use Rattle.dr_laws.proofs.Due.{waiting-settled, waiting-marked_else, waiting-marked_here, none_landed}
+use Rattle.dr_laws.proofs.Due.{waiting-marked_else, waiting-marked_here}
 use Rattle.dr_laws.proofs.Unissued.{told-writes, stop-writes, with-told}
-use Rattle.dr_laws.proofs.WindowTracks.{Stays, Same, Ahead, Holds, Window, Quiet, window-quiet, unacked-is, unacked-told}
-use Rattle.dr_laws.proofs.Fair.{Unacked, Fair, tag_after}
+use Rattle.dr_laws.proofs.WindowTracks.{Stays, Holds, Window, Quiet, window-quiet, unacked-is, unacked-told}
+use Rattle.dr_laws.proofs.Fair.{Fair, tag_after}
 use Rattle.dr_laws.proofs.KeepsWindow.{AllSilent, locked, Deaf, deaf-silent, Else, deaf-told, deaf-stop, waits-done, waits-stop, quiet-changed}
 use Rattle.dr_laws.proofs.KeepsMirror.{off-track, on-track, acked, just-acked, still-unacked, window-mirrored, window-landed}
 
@@ -201,8 +201,8 @@ module _ (v q : ℕ) where
       unacked-else j None ne = refl
       unacked-else j (Some k) ne = elim (eqb_tells n k) [
         | inl is ↦
-          let no : ((write k).track ≢ j) = λ e. ne (ap (λ k. Some k) (sym is.1)) (ap (λ k. (write k).track) is.1 ∙ e) in
-          off-track after.events j k (λ e. no (ap (λ (g : ℕ → Write). (g k).track) (sym same) ∙ e)) ∙ sym (off-track w.events j k no)
+            let no : ((write k).track ≢ j) = λ e. ne (ap (λ k. Some k) (sym is.1)) (ap (λ k. (write k).track) is.1 ∙ e) in
+            off-track after.events j k (λ e. no (ap (λ (g : ℕ → Write). (g k).track) (sym same) ∙ e)) ∙ sym (off-track w.events j k no)
         | inr not ↦ unacked-told w.events (Ack n ∷ []) j (Some k) (λ i is. ap (λ (g : ℕ → Write). g i) same) (λ i is. let e : k ≡ i = cc in ap (λ b. b || false) (ne_eqb n i (λ d. not.1 (d ∙ sym e))))
       ]
 

@@ -1,39 +1,35 @@
 -- A freeze window lasts in each kind of move that is fair, whether or not its server stops in it.
-use Rattle.std.proofs.Common.{ℕ, ◌≡◌, ◌≢◌, ◌<◌, ◌+◌, ◌⊎◌, inl, inr, refl, ap, sym, ◌∙◌, subst, Bool, true, false, cond, not, ◌&&◌, ◌||◌, nat_eq, List, [], ◌∷◌, ◌++◌, map, filter, Option, Some, None, rules}
-use Rattle.std.proofs.lemmas.List.{append-nil}
+use Rattle.std.proofs.Common.{ℕ, ◌≡◌, ◌≢◌, ◌⊎◌, inl, inr, refl, ap, sym, ◌∙◌, Bool, true, false, cond, ◌||◌, List, [], ◌∷◌, ◌++◌, map, Option, Some, rules}
 use Rattle.std.proofs.lemmas.List.Folds.{list_any-append}
 use Rattle.std.proofs.lemmas.List.Sums.{fold-append}
-use Rattle.std.proofs.lemmas.Bool.{and_from, ne_eqb, eq-eqb}
-use Rattle.std.proofs.lemmas.Bool.Decides.{nat_tests, eqb_tells}
+use Rattle.std.proofs.lemmas.Bool.{and_from, ne_eqb}
+use Rattle.std.proofs.lemmas.Bool.Decides.{nat_tests}
 use Rattle.std.specs.List.{list_any, fold}
 use Rattle.std.specs.Cmp.{unsigned_tied, nat_cmp_total}
-use Rattle.std.specs.FinSet.{contains, insert, remove, union, members, contains-union}
+use Rattle.std.specs.FinSet.{contains, remove, union, members, contains-union}
 use Rattle.dr_model.specs.declared.event.Event.{Event}
 use Rattle.dr_model.specs.declared.event.Event.TheVariants.{Ack, Mirrored, Blanked, Restored, Suspended, Stopped}
-use Rattle.dr_model.specs.Tables.{at}
 use Rattle.dr_model.specs.Histories.{Write, histories}
-use Rattle.dr_model.specs.Contents.{with_write}
 use Rattle.dr_model.specs.Layout.{Tracks, Fields, is_part}
 use Rattle.dr_model.specs.Relations.{rest, in_order, is_bare, turned, given_up}
-use Rattle.dr_model.specs.Control.{Control, Pending, Volume, Fuse, World}
-use Rattle.dr_model.specs.Pairs.{secondary_of, primary_of, is_metro, is_suspended, is_engaged}
-use Rattle.dr_model.specs.Moves.{Move, Land, Overwrite, Keep, Note, Relate, Withdraw, Fetch, Resync, Reverse, Restore, Release, Store, Strike, Suspend, MakeSecondary, MakePrimary, DropPrimary, TakeOver, Unsync, Mirror, LandBoth, Lift, Restart, target, told, told_in_stop, told_blank, settled, settled_in_stop, landed, is_write, is_other, marked, moved, tracks_after}
+use Rattle.dr_model.specs.Control.{Pending, Volume, Fuse, World}
+use Rattle.dr_model.specs.Pairs.{secondary_of, is_metro, is_suspended, is_engaged}
+use Rattle.dr_model.specs.Moves.{Move, Land, Overwrite, Keep, Relate, Withdraw, Fetch, Resync, Reverse, Restore, Release, Store, Strike, Suspend, MakePrimary, DropPrimary, TakeOver, Unsync, Mirror, LandBoth, Lift, Restart, target, told, told_in_stop, told_blank, settled, settled_in_stop, moved, tracks_after}
 use Rattle.dr_model.specs.Entries.{fields_at}
 use Rattle.dr_model.specs.Table.{Table, table, waiting}
 use Rattle.dr_model.specs.Rows.{next_bytes}
 use Rattle.dr_model.specs.Laws.{SoundRows, source}
-use Rattle.dr_model.specs.Allowed.{Allowed, Ready, May}
-use Rattle.dr_model.proofs.Images.{at_same, at_other}
+use Rattle.dr_model.specs.Allowed.{Allowed, May}
+use Rattle.dr_model.proofs.Images.{at_same}
 use Rattle.dr_laws.specs.Windows.{later_mirrored, is_ack}
 use Rattle.dr_laws.proofs.AtLemmas.{at_cases, at_part}
 use Rattle.dr_laws.proofs.Sets.{none_some, false_true, from_source, still_in}
-use Rattle.dr_laws.proofs.Turns.{next_of, carried_in, done, done_in_stop, server_at}
+use Rattle.dr_laws.proofs.Turns.{next_of, carried_in}
 use Rattle.dr_laws.proofs.RowsAfter.{changed, bytes-after}
 use Rattle.dr_laws.proofs.Due.{waiting-settled, waiting-marked_else, none_landed}
 use Rattle.dr_laws.proofs.KeepsParts.{unrelated, unrelated_primary}
-use Rattle.dr_laws.proofs.Unissued.{told-writes, stop-writes, with-told}
-use Rattle.dr_laws.proofs.WindowTracks.{Stays, Window, Quiet, window-quiet}
-use Rattle.dr_laws.proofs.Fair.{is_locked, Fair, tag_after}
+use Rattle.dr_laws.proofs.WindowTracks.{Stays, Window, Quiet}
+use Rattle.dr_laws.proofs.Fair.{is_locked, Fair}
 
 still-removed : (s : Tracks) (t q : ℕ) → q ≢ t → contains s q ≡ true → contains (remove s t) q ≡ true
 still-removed s t q ne h = grind (members, rules, nat_tests, unsigned_tied)

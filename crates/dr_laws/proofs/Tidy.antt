@@ -1,15 +1,14 @@
 -- Between steps a Metro Mirror primary that is Full Duplex has no track out of sync where its server runs.
-use Rattle.std.proofs.Common.{ℕ, ◌≡◌, ◌≢◌, ◌<◌, ◌+◌, ◌⊎◌, inl, inr, refl, ap, sym, ◌∙◌, subst, Bool, true, false, cond, not, ◌&&◌, ◌||◌, nat_eq, List, [], ◌∷◌, ◌++◌, filter, Option, Some, None, rules, arith}
+use Rattle.std.proofs.Common.{ℕ, ◌≡◌, ◌≢◌, ◌<◌, ◌+◌, inl, inr, refl, ap, sym, ◌∙◌, subst, Bool, true, false, cond, not, ◌&&◌, ◌||◌, nat_eq, List, [], ◌∷◌, ◌++◌, filter, Option, rules, arith}
 use Rattle.std.proofs.lemmas.Bool.{and_parts, and_from, ne_eqb}
 use Rattle.std.proofs.lemmas.Bool.Decides.{nat_tests, eqb_tells}
 use Rattle.std.proofs.lemmas.List.Folds.{list_any-append}
 use Rattle.std.specs.Cmp.{unsigned_tied}
-use Rattle.std.specs.FinSet.{contains, insert, remove, union, empty, members}
+use Rattle.std.specs.FinSet.{contains, remove, union, empty, members}
 use Rattle.dr_model.specs.declared.state.Part.{Part}
 use Rattle.dr_model.specs.declared.state.Part.TheVariants.{Absent, Metro, Global}
-use Rattle.dr_model.specs.declared.state.PairState.{PairState}
-use Rattle.dr_model.specs.declared.state.PairState.TheVariants.{CopyPending, FullDuplex, Suspended}
-use Rattle.dr_model.specs.Layout.{Tracks, Fields, is_part}
+use Rattle.dr_model.specs.declared.state.PairState.TheVariants.{CopyPending, FullDuplex}
+use Rattle.dr_model.specs.Layout.{Tracks, Fields}
 use Rattle.dr_model.specs.Relations.{all_tracks, is_bare}
 use Rattle.dr_model.specs.declared.event.Event.{Event}
 use Rattle.dr_model.specs.declared.event.Event.TheVariants.{Stopped}

@@ -6,12 +6,11 @@ use Rattle.std.proofs.lemmas.Bool.{and_parts}
 use Rattle.std.specs.List.{list_any, fold}
 use Rattle.std.specs.FinSet.{contains}
 use Rattle.dr_model.specs.declared.event.Event.{Event}
-use Rattle.dr_model.specs.declared.event.Event.TheVariants.{Ack, Mirrored}
 use Rattle.dr_model.specs.Histories.{Write, histories}
 use Rattle.dr_model.specs.Contents.{image, laid, with_write}
-use Rattle.dr_model.specs.Layout.{Fields, is_part}
-use Rattle.dr_model.specs.Control.{Control, World}
-use Rattle.dr_model.specs.Pairs.{secondary_of, primary_of, is_metro, is_full_duplex, is_suspended, is_primary_of, is_secondary_of}
+use Rattle.dr_model.specs.Layout.{Fields}
+use Rattle.dr_model.specs.Control.{World}
+use Rattle.dr_model.specs.Pairs.{secondary_of, primary_of, is_metro, is_full_duplex, is_suspended, is_primary_of}
 use Rattle.dr_model.specs.Entries.{fields_at}
 use Rattle.dr_model.specs.Table.{table, waiting}
 use Rattle.dr_model.specs.Laws.{SoundRows}

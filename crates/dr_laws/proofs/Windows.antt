@@ -1,21 +1,20 @@
 -- Freeze windows of a run whose moments come one after the other as they may: their law.
-use Rattle.std.proofs.Common.{ℕ, ◌≡◌, ◌<◌, ◌+◌, ◌⊎◌, inl, inr, refl, ap, sym, ◌∙◌, subst, Bool, true, false, cond, ◌&&◌, ◌||◌, nat_eq, List, [], ◌∷◌, ◌++◌, append_assoc, drop, length, Option, Some, None}
+use Rattle.std.proofs.Common.{ℕ, ◌≡◌, ◌<◌, ◌+◌, inl, refl, ap, sym, ◌∙◌, subst, Bool, true, false, cond, ◌&&◌, ◌||◌, nat_eq, List, [], ◌∷◌, ◌++◌, append_assoc, drop, length, Option, Some, None}
 use Rattle.std.specs.Prelude.{All}
 use Rattle.std.proofs.Math.Seq.{drop-append_seam}
 use Rattle.std.proofs.lemmas.List.{append-nil}
 use Rattle.std.proofs.lemmas.List.Folds.{list_any-append}
 use Rattle.std.proofs.lemmas.List.Sums.{fold-append}
 use Rattle.std.proofs.lemmas.List.Elements.{All-head, All-tail}
-use Rattle.std.proofs.lemmas.Bool.{and_parts, or_parts, eqb-true, eq-eqb}
+use Rattle.std.proofs.lemmas.Bool.{and_parts, or_parts, eqb-true}
 use Rattle.std.specs.List.{list_any, fold}
-use Rattle.std.specs.FinSet.{contains, empty, empty_of_len}
-use Rattle.std.specs.Ordering.{nat_cmp}
+use Rattle.std.specs.FinSet.{contains, empty_of_len}
 use Rattle.dr_model.specs.declared.event.Event.{Event}
 use Rattle.dr_model.specs.declared.event.Event.TheVariants.{Ack, Stopped}
 use Rattle.dr_model.specs.Layout.{Tracks, Fields, is_part}
 use Rattle.dr_model.specs.Relations.{is_bare}
 use Rattle.dr_model.specs.Contents.{image}
-use Rattle.dr_model.specs.Histories.{Write, histories, lists}
+use Rattle.dr_model.specs.Histories.{histories, lists}
 use Rattle.dr_model.specs.Control.{Pending, World, nothing}
 use Rattle.dr_model.specs.Pairs.{secondary_of, is_metro, is_full_duplex}
 use Rattle.dr_model.specs.Moves.{target, told, told_in_stop, landed}
@@ -24,10 +23,10 @@ use Rattle.dr_model.specs.WriteEntries.{partner_of}
 use Rattle.dr_model.specs.Table.{table, waiting}
 use Rattle.dr_model.specs.Laws.{SoundRows}
 use Rattle.dr_model.specs.Runs.{Task}
-use Rattle.dr_laws.specs.Moments.{moments_from, moments}
-use Rattle.dr_laws.specs.Windows.{LssPairs, is_in, is_clean, waits_on, stays_with, IsSound, is_back_to, later_mirrored, last_mirrored, unacked_on, frozen, last_of, told_since, FreezeCut}
+use Rattle.dr_laws.specs.Moments.{moments_from}
+use Rattle.dr_laws.specs.Windows.{is_clean, waits_on, stays_with, is_back_to, later_mirrored, last_mirrored, unacked_on, last_of, told_since, FreezeCut}
 use Rattle.dr_laws.proofs.Sets.{false_true, empty_has, from_source}
-use Rattle.dr_laws.proofs.WindowTracks.{Stays, stays, Same, Holds, Window, window-image}
+use Rattle.dr_laws.proofs.WindowTracks.{Stays, stays, Window, window-image}
 use Rattle.dr_laws.proofs.KeepsWindow.{no_first}
 use Rattle.dr_laws.proofs.KeepsStep.{Step, Does, Stops, Acks, Passes, Backless, Next, window-step}
 
