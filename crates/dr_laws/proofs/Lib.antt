@@ -52,3 +52,4 @@ pub mod FairTables
 pub mod FairPairs
 pub mod FairCopy
 pub mod FairStart
+pub mod FairDrain
