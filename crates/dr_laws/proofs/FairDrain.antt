@@ -1,5 +1,5 @@
 -- Sending tracks to a secondary is fair.
-use Rattle.std.proofs.Common.{ℕ, ◌≡◌, ◌≢◌, ◌<◌, ◌+◌, inl, inr, refl, ap, sym, ◌∙◌, subst, Bool, true, false, cond, not, ◌&&◌, ◌||◌, List, [], ◌∷◌, ◌++◌, append_assoc, map, length, Option, Some, None}
+use Rattle.std.proofs.Common.{ℕ, ◌≡◌, ◌≢◌, ◌<◌, inl, refl, ap, sym, ◌∙◌, subst, Bool, true, false, cond, not, ◌&&◌, ◌||◌, List, [], ◌∷◌, ◌++◌, append_assoc, map, Option, Some, None}
 use Rattle.std.specs.Prelude.{is_some}
 use Rattle.std.specs.Option.{option_or}
 use Rattle.std.specs.FinSet.{contains}
@@ -7,7 +7,6 @@ use Rattle.std.proofs.lemmas.Bool.{and_parts, and_from}
 use Rattle.dr_ids.specs.declared.refusal.Refusal.{Refusal}
 use Rattle.dr_ids.specs.declared.refusal.Refusal.TheVariants.{Stopped as StoppedIn, PairState as InState}
 use Rattle.dr_ids.specs.declared.refusal.Kind.TheVariants.{Path as OfPath}
-use Rattle.dr_model.specs.declared.state.Part.{Part}
 use Rattle.dr_model.specs.declared.state.PairState.{PairState}
 use Rattle.dr_model.specs.declared.state.PairState.TheVariants.{CopyPending, FullDuplex, Suspended}
 use Rattle.dr_model.specs.Refusals.{server_off, unknown}
@@ -15,11 +14,10 @@ use Rattle.dr_model.specs.Layout.{Fields, is_part}
 use Rattle.dr_model.specs.Pairs.{secondary_of, is_metro, is_full_duplex, is_suspended, is_pending, is_secondary_of, pair_seen, is_last}
 use Rattle.dr_model.specs.Control.{Control, Fuse, Volume, World, is_volume}
 use Rattle.dr_model.specs.Moves.{Move, Keep, Note, Store, Strike, Suspend, target}
-use Rattle.dr_model.specs.Carry.{Make, Next, Pass, Do, End, Entry}
+use Rattle.dr_model.specs.Carry.{Make, Pass, Do, End, Entry}
 use Rattle.dr_model.specs.Entries.{fields_at, is_running, keep_on, copies_from}
 use Rattle.dr_model.specs.PairEntries.{has_path, link_down, send_refusal, end_if, refuse_if, suspend_where, flashed_refusal, store_on, strike_on, send_entries, sends, suspend_after, is_copying, tracks_to_send}
 use Rattle.dr_model.specs.Plans.{Plan, drain_plan, is_defined}
-use Rattle.dr_model.specs.Table.{table}
 use Rattle.dr_model.specs.Allowed.{Runs}
 use Rattle.dr_model.proofs.Images.{at_same, at_other}
 use Rattle.dr_laws.proofs.AtLemmas.{at_part}
@@ -169,7 +167,7 @@ module _ (Fin : Option ℕ → World → Option Refusal → Type 0) (fin : (w : 
       sends-one : (w : World) → Between w → Sends w → Along w (send_entries volumes a b t ++ more) → Fairly Fin None w (send_entries volumes a b t ++ more)
       sends-one w k x al =
           let assoc : send_entries volumes a b t ++ more ≡ suspend_where (send_refusal a b) a ∷ refusals =
-              ap (λ ds. suspend_where (send_refusal a b) a ∷ refuse_if (send_refusal a b) ∷ refuse_if (flashed_refusal b) ∷ ds) (append_assoc (map (keep_on b t) volumes) (store_on a b t ∷ strike_on a t ∷ []) more) in
+          ap (λ ds. suspend_where (send_refusal a b) a ∷ refuse_if (send_refusal a b) ∷ refuse_if (flashed_refusal b) ∷ ds) (append_assoc (map (keep_on b t) volumes) (store_on a b t ∷ strike_on a t ∷ []) more) in
           subst (Fairly Fin None w) (sym assoc) (suspends-by w (send_refusal a b w.control) k x refl (subst (Along w) assoc al))
 
     pub sends-all : (ts : List ℕ) (w : World) → Between w → Sends w → Along w (sends volumes a b ts) → Fairly Fin None w (sends volumes a b ts)

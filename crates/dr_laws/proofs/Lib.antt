@@ -53,3 +53,4 @@ pub mod FairPairs
 pub mod FairCopy
 pub mod FairStart
 pub mod FairDrain
+pub mod FairSteps
