@@ -81,7 +81,7 @@ pub waiting-marked_here : (n v t : ℕ) (ps : List Pending) → AllPending (Comi
 waiting-marked_here n v t [] all none = refl
 waiting-marked_here n v t (p ∷ ps) all none = marked_here-by n v t p ps (is_write n p) all none (waiting-marked_here n v t ps)
 
-none_landed : (v t : ℕ) (ps : List Pending) → AllPending (Coming v t) ps → AllPending (λ p. p.landed ≡ false) ps
+pub none_landed : (v t : ℕ) (ps : List Pending) → AllPending (Coming v t) ps → AllPending (λ p. p.landed ≡ false) ps
 none_landed v t [] all = tt
 none_landed v t (p ∷ ps) all = (all.0.landed, none_landed v t ps all.1)
 

@@ -28,7 +28,7 @@ module _ (l m : ℕ) where
   freezes-by w v more s go false is = go w s
   freezes-by w v more s go true is = let primary = between w v is in (record { runs = primary.0; allowed = primary.1; fits = tt; ready = idle w v s.queue primary.0 }, λ f y. go _ y)
 
-  freezes : (vs : List ℕ) (w : World) → Sound w → Along w (map (freeze_on l m) vs ++ end_freeze l m ∷ [])
+  pub freezes : (vs : List ℕ) (w : World) → Sound w → Along w (map (freeze_on l m) vs ++ end_freeze l m ∷ [])
   freezes [] w s = decides w (end_freeze l m) [] (Do (EndFreeze l m)) refl (tt, λ f y. over _ y)
   freezes (v ∷ vs) w s = decides w (freeze_on l m v) _ _ refl (freezes-by w v _ s (λ k y. freezes vs k y) _ refl)
 
@@ -38,7 +38,7 @@ module _ (l m : ℕ) where
   thaws-by w v more s go true is =
       let primary = between w v (and_parts (is_between w.control l m v) _ is).0 in (record { runs = primary.0; allowed = tt; fits = tt; ready = idle w v s.queue primary.0 }, λ f y. go _ y)
 
-  thaws : (vs : List ℕ) (w : World) → Sound w → Along w (map (thaw_on l m) vs ++ end_thaw l m ∷ [])
+  pub thaws : (vs : List ℕ) (w : World) → Sound w → Along w (map (thaw_on l m) vs ++ end_thaw l m ∷ [])
   thaws [] w s = decides w (end_thaw l m) [] (Do (EndThaw l m)) refl (tt, λ f y. over _ y)
   thaws (v ∷ vs) w s = decides w (thaw_on l m v) _ _ refl (thaws-by w v _ s (λ k y. thaws vs k y) _ refl)
 
@@ -57,7 +57,7 @@ module _ (x : ℕ) where
       let own : (w.control.volume v).server ≡ x = eqb-true (w.control.volume v).server x (and_parts (is_volume w.control v) _ (and_parts (belongs w.control x v) _ is).0).1 in
       let runs : Runs w v = ap w.control.on own ∙ on in (record { runs = runs; allowed = tt; fits = tt; ready = idle w v s.queue runs }, λ f y. go _ y on)
 
-  lifts : (vs : List ℕ) (w : World) → Sound w → w.control.on x ≡ true → Along w (map (lift_on x) vs)
+  pub lifts : (vs : List ℕ) (w : World) → Sound w → w.control.on x ≡ true → Along w (map (lift_on x) vs)
   lifts [] w s on = over w s
   lifts (v ∷ vs) w s on = decides w (lift_on x v) _ _ refl (lifts-by w v _ s on (λ k y on. lifts vs k y on) _ refl)
 

@@ -76,7 +76,7 @@ module _ (w : World) (blank : Blank (table w)) where
   may_end v q true own = refl
   may_end v q false own = untouched v q
 
-  bytes-after : (m : Move) (q : ℕ) → tracks_after (next_of w m) (carried_in w m) (w.contents (target m)) q ≡ next_bytes write m (table w) q
+  pub bytes-after : (m : Move) (q : ℕ) → tracks_after (next_of w m) (carried_in w m) (w.contents (target m)) q ≡ next_bytes write m (table w) q
   bytes-after (Land n v t) q = stored v t q _
   bytes-after (Overwrite n v t) q = stored v t q _
   bytes-after (Keep v t) q = stored v t q _

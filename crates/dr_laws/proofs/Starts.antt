@@ -31,7 +31,7 @@ use Rattle.dr_laws.proofs.KeepsSound.{StepHolds, over, sound-done, sound-stop, s
 use Rattle.dr_laws.proofs.Along as along
 
 -- no write has landed on the server
-abbrev Free : (ℕ → ℕ) → ℕ → Pending → Type 0
+abbrev pub Free : (ℕ → ℕ) → ℕ → Pending → Type 0
 Free server s p = p.landed ≡ true → server p.volume ≡ s → ⊥
 
 both-on : {P Q R : Pending → Type 0} → ((p : Pending) → P p → Q p → R p) → (ps : List Pending) → AllPending P ps → AllPending Q ps → AllPending R ps
@@ -39,13 +39,13 @@ both-on f [] a b = tt
 both-on f (p ∷ ps) a b = (f p a.0 b.0, both-on f ps a.1 b.1)
 
 -- what the first write that landed on a server leaves when it goes
-record Gone (server : ℕ → ℕ) (s : ℕ) (p : Pending) (ps : List Pending) : Type 0 where
-  landed : p.landed ≡ true
-  on : server p.volume ≡ s
-  here : waiting ps p.volume p.track ≡ p.w ∷ []
-  gone : waiting (filter (is_other p.w) ps) p.volume p.track ≡ []
-  else : (u q : ℕ) → (u ≢ p.volume) ⊎ (q ≢ p.track) → waiting (filter (is_other p.w) ps) u q ≡ waiting ps u q
-  free : AllPending (Free server s) (filter (is_other p.w) ps)
+pub record Gone (server : ℕ → ℕ) (s : ℕ) (p : Pending) (ps : List Pending) : Type 0 where
+  pub landed : p.landed ≡ true
+  pub on : server p.volume ≡ s
+  pub here : waiting ps p.volume p.track ≡ p.w ∷ []
+  pub gone : waiting (filter (is_other p.w) ps) p.volume p.track ≡ []
+  pub else : (u q : ℕ) → (u ≢ p.volume) ⊎ (q ≢ p.track) → waiting (filter (is_other p.w) ps) u q ≡ waiting ps u q
+  pub free : AllPending (Free server s) (filter (is_other p.w) ps)
 
 found-by : (P : Pending → Type 0) (x p : Pending) (o : Option Pending) (b : Bool) → P x → (o ≡ Some p → P p) → cond b (Some x) o ≡ Some p → P p
 found-by P x p o true here more h = let e : x ≡ p = cc in subst P e here
@@ -121,33 +121,33 @@ module _ (server : ℕ → ℕ) (is_defined : ℕ → Bool) (s : ℕ) where
   none-by x xs true d is h more = absurd cc
   none-by x xs false d is h more = ((λ l e. false≢true (sym is ∙ is-found x d l e)), more h)
 
-  none-found : (ps : List Pending) → AllPending Defined ps → find found ps ≡ None → AllPending (Free server s) ps
+  pub none-found : (ps : List Pending) → AllPending Defined ps → find found ps ≡ None → AllPending (Free server s) ps
   none-found [] d h = tt
   none-found (x ∷ xs) d h = none-by x xs (found x) d.0 refl h (none-found xs d.1)
 
 -- while server s starts
 module _ (s : ℕ) where
-  abbrev Starting : World → Type 0
+  abbrev pub Starting : World → Type 0
   Starting = SoundBut (Some s)
 
-  abbrev first_landed : World → Option Pending
+  abbrev pub first_landed : World → Option Pending
   first_landed w = find (has_landed w.control s) w.control.pending
 
   -- what its acts may be
-  record MayAcknowledge (w : World) (n : ℕ) : Type 0 where
-    waits : Pending
-    number : waits.w ≡ n
-    first : first_landed w ≡ Some waits
+  pub record MayAcknowledge (w : World) (n : ℕ) : Type 0 where
+    pub waits : Pending
+    pub number : waits.w ≡ n
+    pub first : first_landed w ≡ Some waits
 
-  record OnServer (w : World) (v : ℕ) : Type 0 where
-    own : servers w.control v ≡ s
-    on : w.control.on s ≡ true
+  pub record OnServer (w : World) (v : ℕ) : Type 0 where
+    pub own : servers w.control v ≡ s
+    pub on : w.control.on s ≡ true
 
-  abbrev MayMove : World → Move → Type 0
+  abbrev pub MayMove : World → Move → Type 0
   MayMove w (Restart v) = OnServer w v
   MayMove w m = ⊥
 
-  abbrev MayStart : World → Act → Type 0
+  abbrev pub MayStart : World → Act → Type 0
   MayStart w (Make m) = MayMove w m
   MayStart w (Redo v) = OnServer w v
   MayStart w (Acknowledge n) = MayAcknowledge w n
@@ -156,11 +156,11 @@ module _ (s : ℕ) where
   MayStart w (EndThaw l m) = ⊥
 
   -- the server stays on while its acts are done
-  record Inner (w : World) : Type 0 where
+  pub record Inner (w : World) : Type 0 where
     pub sound : Starting w
     pub on : w.control.on s ≡ true
 
-  are-defined : (w : World) → Starting w → AllPending (λ p. is_volume w.control p.volume ≡ true) w.control.pending
+  pub are-defined : (w : World) → Starting w → AllPending (λ p. is_volume w.control p.volume ≡ true) w.control.pending
   are-defined w j = each-on (λ p waits. waits.defined) w.control.pending j.queue.each
 
   waits-free : (k : Control) (write : ℕ → Write) (p : Pending) → Waits (Some s) k write p → (k.on s ≡ false) ⊎ Free (servers k) s p → Waits None k write p
@@ -184,7 +184,7 @@ module _ (s : ℕ) where
     queue = record { each = each-on (λ p waits. waits-free w.control _ p waits (inl off)) w.control.pending j.queue.each; apart = j.queue.apart; lone = j.queue.lone; numbers = j.queue.numbers };
   }
 
-  sound-free : (w : World) → Starting w → AllPending (Free (servers w.control) s) w.control.pending → Sound w
+  pub sound-free : (w : World) → Starting w → AllPending (Free (servers w.control) s) w.control.pending → Sound w
   sound-free w j free = record {
     rows = j.rows;
     targets = j.targets;
@@ -199,10 +199,10 @@ module _ (s : ℕ) where
     abbrev ps : List Pending
     ps = w.control.pending
 
-    gone : Gone (servers w.control) s p ps
+    pub gone : Gone (servers w.control) s p ps
     gone = goes (servers w.control) (is_volume w.control) s p ps (are-defined w j) first j.queue.apart j.queue.lone
 
-    waits : Waits (Some s) w.control h.write p
+    pub waits : Waits (Some s) w.control h.write p
     waits = find-all (Waits (Some s) w.control h.write) (has_landed w.control s) p ps first j.queue.each
 
     abbrev held : List ℕ
@@ -220,7 +220,7 @@ module _ (s : ℕ) where
         (λ q ne. ap (λ ws. image h.write (h.now p.volume q ++ ws)) (gone.else p.volume q (inr ne))) q)
         (λ u ne. ap (λ ws. image h.write (h.now u q ++ ws)) (gone.else u q (inl ne))) u
 
-    acknowledges : Starting (acknowledged w p.w)
+    pub acknowledges : Starting (acknowledged w p.w)
     acknowledges = record {
       rows = subst SoundRows (λ i u. record (table w u) { due = λ q. sym (same-due u q) i }) j.rows;
       targets = record { once = j.targets.once; few = j.targets.few };
@@ -242,7 +242,7 @@ module _ (s : ℕ) where
   runs w (EndThaw l m) d may = absurd d
 
   -- a volume that goes on leaves the queue as it was
-  may-restart : (w : World) (v : ℕ) → OnServer w v → May w (Restart v)
+  pub may-restart : (w : World) (v : ℕ) → OnServer w v → May w (Restart v)
   may-restart w v may = record { runs = ap w.control.on may.own ∙ may.on; allowed = tt; fits = tt; ready = tt }
 
   does : (w : World) (a : Act) (f : Option Fuse) → Inner w → MayStart w a → Inner (after_act w a f)
@@ -270,7 +270,7 @@ module _ (s : ℕ) where
   fails w (EndFreeze l m) f d j may = absurd d
   fails w (EndThaw l m) f d j may = absurd d
 
-  keeps : along.Keeps Inner Sound MayStart
+  pub keeps : along.Keeps Inner Sound MayStart
   keeps = record { runs = runs; does = does; counts = counts; fails = λ w a f d j may. fails w a f d j may }
 
   -- all that a start does
@@ -307,7 +307,7 @@ module _ (s : ℕ) where
     calm = λ l ne. at_other w.control.on s true (servers w.control p.volume) (λ e. false≢true (sym ne ∙ eq-eqb s (servers w.control p.volume) (sym e))) ∙ waits.calm l refl;
   }
 
-  begins : (w : World) → Sound w → Inner (begun w (start_plan w.control s))
+  pub begins : (w : World) → Sound w → Inner (begun w (start_plan w.control s))
   begins w x =
       let same : histories (w.events ++ Started s ∷ []) ≡ histories w.events = histories-append w.events (Started s ∷ []) in
       record {

@@ -96,7 +96,7 @@ module _ (w : World) (s : Sound w) (n : ℕ) (p : Pending) (found : find (is_wri
 
 -- whatever a step comes to
 module _ (w : World) (s : Sound w) (line : ℕ) where
-  case-holds : (p : Plan) → Case w.control w.events line p → StepHolds w p
+  pub case-holds : (p : Plan) → Case w.control w.events line p → StepHolds w p
   case-holds _ (Says a) = holds-says w a s
   case-holds _ (Defines name free) =
       holds-event w (w.control.servers ++ name_bytes name ∷ []) w.control.on (ServerDefined (length w.control.servers) name.len name.bytes) _ s refl tt (λ j h. h) (λ k. record k { servers = k.servers ++ name_bytes name ∷ [] }) refl

@@ -29,14 +29,14 @@ suspended : (h : Histories) (none : Bool) (v : ℕ) → (after h (cond none [] (
 suspended h true v = refl
 suspended h false v = refl
 
-told-writes : (h : Histories) (m : Move) (u : Volume) → (after h (told m u)).write ≡ h.write
+pub told-writes : (h : Histories) (m : Move) (u : Volume) → (after h (told m u)).write ≡ h.write
 told-writes h (Withdraw v) u = blanked h v (in_order u.tracks (rest u.tracks u.fields.own))
 told-writes h (Reverse v) u = restored h (is_bare (turned u.fields).own) v u.fields.source u.tracks (turned u.fields).own
 told-writes h (Release v t) u = restored h (is_bare (given_up u.fields t).own) v u.fields.source u.tracks (given_up u.fields t).own
 told-writes h (Suspend v busy) u = suspended h (is_suspended u.fields.primary_state) v
 told-writes h m u = refl
 
-stop-writes : (h : Histories) (m : Move) (u : Volume) → (after h (told_in_stop m u)).write ≡ h.write
+pub stop-writes : (h : Histories) (m : Move) (u : Volume) → (after h (told_in_stop m u)).write ≡ h.write
 stop-writes h (Land n v t) u = refl
 stop-writes h (Overwrite n v t) u = refl
 stop-writes h (LandBoth n v t) u = refl
@@ -46,7 +46,7 @@ stop-writes h m u = told-writes h m u
 abbrev Alike : World → World → Type 0
 Alike v w = (histories v.events).write ≡ (histories w.events).write
 
-with-told : (w : World) (es : List Event) → (after (histories w.events) es).write ≡ (histories w.events).write → (histories (w.events ++ es)).write ≡ (histories w.events).write
+pub with-told : (w : World) (es : List Event) → (after (histories w.events) es).write ≡ (histories w.events).write → (histories (w.events ++ es)).write ≡ (histories w.events).write
 with-told w es same = ap (λ (x : Histories). x.write) (histories-append w.events es) ∙ same
 
 done-writes : (w : World) (a : Act) (f : Option Fuse) → Alike (after_act w a f) w

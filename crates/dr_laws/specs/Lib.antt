@@ -1,2 +1,4 @@
 pub mod Limits
 pub mod Stops
+pub mod Moments
+pub mod Windows

@@ -1,0 +1,212 @@
+-- The moments of a run come one after the other as they may, where the acts of its plans are fair.
+use Rattle.std.proofs.Common.{ℕ, ◌≡◌, ◌<◌, ◌+◌, refl, ap, sym, ◌∙◌, subst, false, List, [], ◌∷◌, ◌++◌, append_assoc, filter, Option, Some, None}
+use Rattle.std.proofs.lemmas.List.{append-nil}
+use Rattle.dr_ids.specs.declared.refusal.Refusal.{Refusal}
+use Rattle.dr_ids.specs.declared.refusal.Refusal.TheVariants.{Stopped as StoppedIn}
+use Rattle.dr_model.specs.declared.event.Event.{Event}
+use Rattle.dr_model.specs.declared.event.Event.TheVariants.{Stopped, Frozen, Thawed}
+use Rattle.dr_model.specs.declared.said.Said.{Said}
+use Rattle.dr_model.specs.Answers.{answer}
+use Rattle.dr_model.specs.Histories.{Histories, histories}
+use Rattle.dr_model.specs.Control.{Control, Fuse, World}
+use Rattle.dr_model.specs.Moves.{is_write}
+use Rattle.dr_model.specs.Carry.{Act, Make, Redo, Acknowledge, Drop, EndFreeze, EndThaw, Turn, Next, Pass, Do, End, Entry, Outcome, continue, go, carry, dropped, frozen, thawed}
+use Rattle.dr_model.specs.Plans.{Plan, plan}
+use Rattle.dr_model.specs.Runs.{Task, begun, finish, answered, said, after_plan, after_task}
+use Rattle.dr_model.specs.Table.{table, waiting}
+use Rattle.dr_model.specs.Laws.{SoundRows, AllPending}
+use Rattle.dr_model.specs.Allowed.{May, Runs}
+use Rattle.dr_model.proofs.Images.{histories-append}
+use Rattle.dr_laws.specs.Moments.{on_from, on_next, worlds, worlds_after, task_moments, moments_from}
+use Rattle.dr_laws.proofs.Sets.{false_true}
+use Rattle.dr_laws.proofs.Turns.{done_in_stop, not_done, fused, place, server_of, server_at, after_act, Writes, Counts, act-cases}
+use Rattle.dr_laws.proofs.Due.{waiting-settled}
+use Rattle.dr_laws.proofs.Fair.{Fair, tag_after}
+use Rattle.dr_laws.proofs.KeepsWindow.{AllSilent}
+use Rattle.dr_laws.proofs.KeepsStep.{Step, Does, Stops, Acks, Passes, Acknowledges, Unchanged}
+use Rattle.dr_laws.proofs.Windows.{Good, Chain, Last, Then}
+
+-- what an act asks where it comes
+abbrev pub FairAct : Option ℕ → World → Act → Type 0
+FairAct tag w (Make m) = May w m × Fair tag w m
+FairAct tag w (Redo v) = Runs w v
+FairAct tag w (Acknowledge n) = Acknowledges w n
+FairAct tag w (Drop n) = AllPending (λ p. p.landed ≡ false) (filter (is_write n) w.control.pending)
+FairAct tag w (EndFreeze l m) = Unit {0}
+FairAct tag w (EndThaw l m) = Unit {0}
+
+-- the write that goes on after it
+abbrev pub act_tag : Act → Option ℕ → Option ℕ
+act_tag (Make m) tag = tag_after m tag
+act_tag a tag = None
+
+-- events that no list hears of
+pub told-unchanged : (w u : World) (es : List Event) → u.events ≡ w.events ++ es → AllSilent es → histories (w.events ++ es) ≡ histories w.events → u.control.volume ≡ w.control.volume → u.contents ≡ w.contents → u.control.issued ≡ w.control.issued
+    → ((v t : ℕ) → waiting u.control.pending v t ≡ waiting w.control.pending v t) → Unchanged w u es
+told-unchanged w u es events silent lists volume contents issued waits = record {
+  events = events;
+  silent = silent;
+  writes = λ n lt. ap (λ es. (histories es).write n) events ∙ ap (λ (h : Histories). h.write n) lists;
+  issued = λ n lt. subst (λ i. n < i + 1) (sym issued) lt;
+  waits = waits;
+  volume = λ v there. λ i. volume i v;
+  contents = λ v there t. λ i. contents i v t;
+}
+
+pub not-unchanged : (w : World) (s : ℕ) (f : Option Fuse) → Unchanged w (not_done w s f) (Stopped s 0 ∷ [])
+not-unchanged w s f = told-unchanged w (not_done w s f) (Stopped s 0 ∷ []) refl (tt, tt) (histories-append w.events (Stopped s 0 ∷ [])) refl refl refl (λ v t. refl)
+
+-- an act that is done
+act-step : (tag : Option ℕ) (w : World) (a : Act) (f : Option Fuse) → FairAct tag w a → Step tag w (act_tag a tag) (after_act w a f)
+act-step tag w (Make m) f fair = Does m f fair.0 fair.1
+act-step tag w (Redo v) f fair = Passes None (fused w (server_at w v) f) [] (told-unchanged w (fused w (server_at w v) f) [] (sym (append-nil w.events)) tt (ap histories (append-nil w.events)) refl refl refl (λ v t. refl)) (λ n h. absurd cc)
+act-step tag w (Acknowledge n) f fair = Acks n fair
+act-step tag w (Drop n) f fair =
+    Passes None (dropped w n) [] (told-unchanged w (dropped w n) [] (sym (append-nil w.events)) tt (ap histories (append-nil w.events)) refl refl refl (λ v t. waiting-settled n v t w.control.pending fair)) (λ n h. absurd cc)
+act-step tag w (EndFreeze l m) f fair = Passes None (frozen w l m) (Frozen l m ∷ []) (told-unchanged w (frozen w l m) (Frozen l m ∷ []) refl (tt, tt) (histories-append w.events (Frozen l m ∷ [])) refl refl refl (λ v t. refl)) (λ n h. absurd cc)
+act-step tag w (EndThaw l m) f fair = Passes None (thawed w l m) (Thawed l m ∷ []) (told-unchanged w (thawed w l m) (Thawed l m ∷ []) refl (tt, tt) (histories-append w.events (Thawed l m ∷ [])) refl refl refl (λ v t. refl)) (λ n h. absurd cc)
+
+act-runs : (tag : Option ℕ) (w : World) (a : Act) → Writes a → FairAct tag w a → Runs w (place a)
+act-runs tag w (Make m) d fair = fair.0.runs
+act-runs tag w (Redo v) d fair = fair
+act-runs tag w (Acknowledge n) d fair = absurd d
+act-runs tag w (Drop n) d fair = absurd d
+act-runs tag w (EndFreeze l m) d fair = absurd d
+act-runs tag w (EndThaw l m) d fair = absurd d
+
+-- what is to be shown of entries, where this holds of how they end
+module _ (Fin : Option ℕ → World → Option Refusal → Type 0) where
+  -- where the server of an act stops in it
+  abbrev pub StopFin : World → ℕ → World → Type 0
+  StopFin w s u = Fin None u (Some (StoppedIn (record { 0 = s })))
+
+  abbrev pub CountsFin : World → Act → Type 0
+  CountsFin w (Make m) = (f : Option Fuse) → StopFin w (server_at w (place (Make m))) (done_in_stop w m f)
+  CountsFin w a = Unit {0}
+
+  abbrev pub fairly_next : Option ℕ → World → Next → (Option ℕ → World → Type 0) → Type 0
+  fairly_next tag w Pass more = more tag w
+  fairly_next tag w (End r) more = Fin tag w (Some r)
+  fairly_next tag w (Do a) more =
+      FairAct tag w a × ((f : Option Fuse) → more (act_tag a tag) (after_act w a f)) × (CountsFin w a × (Writes a → (f : Option Fuse) → StopFin w (server_of w a) (not_done w (server_of w a) f)))
+
+  -- each act is fair where it comes, and each moment good
+  unfoldable pub Fairly : Option ℕ → World → List Entry → Type 0
+  Fairly tag w [] = Good tag w × Fin tag w None
+  Fairly tag w (d ∷ ds) = Good tag w × fairly_next tag w (d w.control) (λ tag v. Fairly tag v ds)
+
+  pub fairly-entry : (tag : Option ℕ) (w : World) (d : Entry) (ds : List Entry) (x : Next) → d w.control ≡ x → Good tag w → fairly_next tag w x (λ tag v. Fairly tag v ds) → Fairly tag w (d ∷ ds)
+  unfolding Fairly
+  fairly-entry tag w d ds x is good a = (good, subst (λ x. fairly_next tag w x (λ tag v. Fairly tag v ds)) (sym is) a)
+
+  pub fairly-nil : (tag : Option ℕ) (w : World) → Good tag w → Fin tag w None → Fairly tag w []
+  unfolding Fairly
+  fairly-nil tag w good fin = (good, fin)
+
+  -- then their moments come one after the other, and those behind them
+  module _ (rest : Outcome → List World) (ends : (tag : Option ℕ) (w : World) (r : Option Refusal) → Good tag w → Fin tag w r → Chain tag w (rest (w, r)))
+      (good_fin : (w : World) (r : Option Refusal) → Fin None w r → Good None w) where
+    abbrev Turned : Option ℕ → World → (World → List World) → (World → Outcome) → Turn → Type 0
+    Turned tag w more go t = Chain tag w (on_from t.0 t.1 more ++ rest (continue t.0 t.1 go))
+
+    counts-chain : (tag : Option ℕ) (w : World) (a : Act) (more : World → List World) (go : World → Outcome) → Good tag w → FairAct tag w a → CountsFin w a → Counts w a (Turned tag w more go)
+    counts-chain tag w (Make m) more go good fair fin =
+        λ f. let c = fin f in Then tag None w (done_in_stop w m f) _ good (Stops m f fair.0 fair.1) (ends None _ _ (good_fin _ _ c) c)
+    counts-chain tag w (Redo v) more go good fair fin = tt
+    counts-chain tag w (Acknowledge n) more go good fair fin = tt
+    counts-chain tag w (Drop n) more go good fair fin = tt
+    counts-chain tag w (EndFreeze l m) more go good fair fin = tt
+    counts-chain tag w (EndThaw l m) more go good fair fin = tt
+
+    next-chain : (tag : Option ℕ) (w : World) (x : Next) (more : World → List World) (go_on : World → Outcome) (then : Option ℕ → World → Type 0)
+        → ((tag : Option ℕ) (v : World) → then tag v → Chain tag v (more v ++ rest (go_on v))) → Good tag w → fairly_next tag w x then → Chain tag w (on_next w x more ++ rest (go w x go_on))
+    next-chain tag w Pass more go_on then on good a = on tag w a
+    next-chain tag w (End r) more go_on then on good a = ends tag w (Some r) good a
+    next-chain tag w (Do x) more go_on then on good a =
+        act-cases w x (Turned tag w more go_on)
+        (λ d off. absurd (false_true off (act-runs tag w x d a.0)))
+        (λ f. Then tag (act_tag x tag) w (after_act w x f) _ good (act-step tag w x f a.0) (on (act_tag x tag) (after_act w x f) (a.1 f)))
+        (counts-chain tag w x more go_on good a.0 a.2.0)
+        (λ d f. let c = a.2.1 d f in Then tag None w (not_done w (server_of w x) f) _ good (Passes None _ _ (not-unchanged w (server_of w x) f) (λ n h. absurd cc)) (ends None _ _ (good_fin _ _ c) c))
+
+    pub entries-chain : (ds : List Entry) (tag : Option ℕ) (w : World) → Fairly tag w ds → Chain tag w (worlds w ds ++ rest (carry w ds))
+    unfolding Fairly worlds carry
+    entries-chain [] tag w a = ends tag w None a.0 a.1
+    entries-chain (d ∷ ds) tag w a = next-chain tag w (d w.control) (λ v. worlds v ds) (λ v. carry v ds) (λ tag v. Fairly tag v ds) (λ tag v b. entries-chain ds tag v b) a.0 a.1
+
+pub good-none : (w : World) → SoundRows (table w) → Good None w
+good-none w rows = record { rows = rows; low = λ n is. absurd cc; out = λ n is. absurd cc }
+
+pub said-unchanged : (w : World) (line : ℕ) (a : Said) → Unchanged w (said w line a) (answer line a ∷ [])
+said-unchanged w line a = told-unchanged w (said w line a) (answer line a ∷ []) refl (tt, tt) (histories-append w.events (answer line a ∷ [])) refl refl refl (λ v t. refl)
+
+-- K holds between steps
+module _ (K : World → Type 0) (rows : (w : World) → K w → SoundRows (table w)) (answers : (w : World) (line : ℕ) (a : Said) → K w → K (said w line a)) where
+  -- how what follows a stop ends, and how a plan's entries end
+  abbrev pub EndFin : Option ℕ → World → Option Refusal → Type 0
+  EndFin tag w r = K w
+
+  abbrev pub PlanFin : Plan → Option ℕ → World → Option Refusal → Type 0
+  PlanFin p tag w (Some (StoppedIn s)) = Fairly EndFin tag w (p.follows s.0)
+  PlanFin p tag w r = K w
+
+  -- what is to be shown of a plan
+  pub record PlanFair (w : World) (p : Plan) : Type 0 where
+    pub told : List Event
+    pub begins : Unchanged w (begun w p) told
+    pub entries : Fairly (PlanFin p) None (begun w p) p.entries
+    pub last : (k : Control) → p.last k ≡ k
+
+  good-end : (w : World) (r : Option Refusal) → EndFin None w r → Good None w
+  good-end w r k = good-none w (rows w k)
+
+  good-fairly : (Fin : Option ℕ → World → Option Refusal → Type 0) (tag : Option ℕ) (w : World) (ds : List Entry) → Fairly Fin tag w ds → Good tag w
+  unfolding Fairly
+  good-fairly Fin tag w [] a = a.0
+  good-fairly Fin tag w (d ∷ ds) a = a.0
+
+  good-plan : (p : Plan) (w : World) (r : Option Refusal) → PlanFin p None w r → Good None w
+  good-plan p w None k = good-none w (rows w k)
+  good-plan p w (Some (StoppedIn s)) a = good-fairly EndFin None w (p.follows s.0) a
+  good-plan p w (Some r) k = good-none w (rows w k)
+
+  module _ (line : ℕ) (p : Plan) (last : (k : Control) → p.last k ≡ k) (more : World → List World) (goes_on : (w : World) → K w → Chain None w (more w)) where
+    abbrev over : World → Option Refusal → World
+    over w r = said w line (answered p w.control r)
+
+    answer-chain : (tag : Option ℕ) (w : World) (r : Option Refusal) → Good tag w → K w → Chain tag w (over w r ∷ more (over w r))
+    answer-chain tag w r good k = Then tag None w (over w r) (more (over w r)) good (Passes None (over w r) _ (said-unchanged w line (answered p w.control r)) (λ n h. absurd cc)) (goes_on (over w r) (answers w line (answered p w.control r) k))
+
+    abbrev rest : Outcome → List World
+    rest o = worlds_after o.0 o.1 p.follows ++ over (finish p o.0 o.1) o.1 ∷ more (over (finish p o.0 o.1) o.1)
+
+    same-end : (w : World) → w ≡ record w { control = p.last w.control }
+    same-end w = λ i. record w { control = sym (last w.control) i }
+
+    ends : (tag : Option ℕ) (w : World) (r : Option Refusal) → Good tag w → PlanFin p tag w r → Chain tag w (rest (w, r))
+    ends tag w None good k = subst (λ u. Chain tag w (over u None ∷ more (over u None))) (same-end w) (answer-chain tag w None good k)
+    ends tag w (Some (StoppedIn s)) good a =
+        let r : Option Refusal = Some (StoppedIn s) in
+        entries-chain EndFin (λ o. over o.0 r ∷ more (over o.0 r)) (λ tag u x good k. answer-chain tag u r good k) good-end (p.follows s.0) tag w a
+    ends tag w (Some r) good k = answer-chain tag w (Some r) good k
+
+    pub plan-chain : (w : World) → K w → PlanFair w p → Chain None w (begun w p ∷ (worlds (begun w p) p.entries ++ rest (carry (begun w p) p.entries)))
+    plan-chain w k fair = Then None None w (begun w p) _ (good-none w (rows w k)) (Passes None (begun w p) fair.told fair.begins (λ n h. absurd cc)) (entries-chain (PlanFin p) rest ends (good-plan p) p.entries None (begun w p) fair.entries)
+
+  -- a run whose plans are fair
+  module _ (each : (w : World) (t : Task) → K w → PlanFair w (plan w.control w.events t.line t.asked)) where
+    joins : (a b d : List World) (c : World) → ((a ++ b) ++ c ∷ []) ++ d ≡ a ++ (b ++ c ∷ d)
+    joins a b d c = append_assoc (a ++ b) (c ∷ []) d ∙ append_assoc a b (c ∷ d)
+
+    task-chain : (w : World) (t : Task) → K w → (more : World → List World) → ((v : World) → K v → Chain None v (more v)) → Chain None w (task_moments w t ++ more (after_task w t))
+    unfolding after_plan
+    task-chain w t k more goes_on =
+        let p : Plan = plan w.control w.events t.line t.asked in
+        let o : Outcome = carry (begun w p) p.entries in
+        subst (λ us. Chain None w (begun w p ∷ us)) (sym (joins (worlds (begun w p) p.entries) (worlds_after o.0 o.1 p.follows) (more (after_task w t)) (after_task w t)))
+        (plan-chain t.line p (each w t k).last more goes_on w k (each w t k))
+
+    pub run-chain : (tasks : List Task) (w : World) → K w → Chain None w (moments_from w tasks)
+    unfolding moments_from
+    run-chain [] w k = Last None w (good-none w (rows w k))
+    run-chain (t ∷ ts) w k = task-chain w t k (λ v. moments_from v ts) (λ v k. run-chain ts v k)
