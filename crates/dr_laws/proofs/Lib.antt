@@ -53,4 +53,6 @@ pub mod FairPairs
 pub mod FairCopy
 pub mod FairStart
 pub mod FairDrain
+pub mod FairWithin
+pub mod FairWrites
 pub mod FairSteps
