@@ -3,10 +3,11 @@ use Rattle.std.proofs.Common.{ℕ, refl, List, None}
 use Rattle.dr_model.specs.Control.{World, nothing}
 use Rattle.dr_model.specs.Plans.{Plan}
 use Rattle.dr_model.specs.Runs.{Task}
+use Rattle.dr_laws.specs.Moments.{moments_from}
 use Rattle.dr_laws.specs.Windows.{FreezeCut}
 use Rattle.dr_laws.proofs.Cases.{Case, Says, Defines, Adds, Links, Issues, Writes, Applies, Shows, Stops, Arms, Starts, Flashes, Withdraws, Resyncs, Reverses, Copies, Paths, Unpaths, MakesPair, RemovesPair, Pauses, ResumesPair, Drains, Expires, Freezes, Thaws, plan-case}
 use Rattle.dr_laws.proofs.Steps.{sound-nothing}
-use Rattle.dr_laws.proofs.Windows.{freeze-cut}
+use Rattle.dr_laws.proofs.Windows.{Chain, freeze-cut}
 use Rattle.dr_laws.proofs.Chains.{run-chain}
 use Rattle.dr_laws.proofs.FairPlans.{Between}
 use Rattle.dr_laws.proofs.FairCases.{rows-between, answers-between, Fair, fair-flash, fair-withdraw, fair-resync, fair-reverse, fair-freeze, fair-thaw, fair-expire, fair-pause, fair-resume, fair-remove}
@@ -56,5 +57,9 @@ fair-case w k line _ (Expires x on) = fair-expire w k x on
 fair-case w k line _ (Freezes l m) = fair-freeze w k l m
 fair-case w k line _ (Thaws l m) = fair-thaw w k l m
 
+-- the moments of a run
+pub chain-of : (tasks : List Task) → Chain None nothing (moments_from nothing tasks)
+chain-of tasks = run-chain Between rows-between answers-between (λ w t k. fair-case w k t.line _ (plan-case w.control w.events t.line t.asked)) tasks nothing between-nothing
+
 pub cut-run : (tasks : List Task) → FreezeCut tasks
-cut-run tasks = freeze-cut tasks None (run-chain Between rows-between answers-between (λ w t k. fair-case w k t.line _ (plan-case w.control w.events t.line t.asked)) tasks nothing between-nothing)
+cut-run tasks = freeze-cut tasks None (chain-of tasks)

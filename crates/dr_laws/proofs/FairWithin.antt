@@ -6,9 +6,6 @@ use Rattle.std.specs.FinSet.{contains}
 use Rattle.dr_ids.specs.declared.refusal.Refusal.{Refusal}
 use Rattle.dr_model.specs.declared.event.Event.{Event}
 use Rattle.dr_model.specs.declared.event.Event.TheVariants.{Stopped}
-use Rattle.dr_model.specs.declared.state.Part.{Part}
-use Rattle.dr_model.specs.declared.state.Part.TheVariants.{Absent, Metro, Global}
-use Rattle.dr_model.specs.Tables.{at}
 use Rattle.dr_model.specs.Layout.{Fields, is_part}
 use Rattle.dr_model.specs.Pairs.{is_metro}
 use Rattle.dr_model.specs.Control.{Control, Fuse, Pending, Volume, World, is_volume}
@@ -25,26 +22,18 @@ use Rattle.dr_laws.proofs.Turns.{next_of, carried_in, done, done_in_stop, not_do
 use Rattle.dr_laws.proofs.RowsAfter.{changed}
 use Rattle.dr_laws.proofs.KeepsSound.{Along, Then, comes, keeps-sound}
 use Rattle.dr_laws.proofs.FitsPairs.{row}
-use Rattle.dr_laws.proofs.FitsWrites.{parts-after}
+use Rattle.dr_laws.proofs.FitsWrites.{metro-part, parts-after}
 use Rattle.dr_laws.proofs.Fair.{Fair as FairMove, tag_after}
-use Rattle.dr_laws.proofs.Tidy.{is_synced, Clean, Free, Fresh, Tidy, free-left, fresh-done, fresh-stop, fresh-told}
+use Rattle.dr_laws.proofs.Tidy.{is_synced, Clean, Free, Fresh, Tidy, free-left, went-off, fresh-done, fresh-stop, fresh-told}
 use Rattle.dr_laws.proofs.Windows.{Good}
 use Rattle.dr_laws.proofs.Chains.{Fairly, fairly_next, fairly-entry, fairly-nil, StopFin, EndFin, good-none}
 use Rattle.dr_laws.proofs.FairPlans.{Between, next-easy}
 use Rattle.dr_laws.proofs.FairCases.{rows-between, answers-between}
 use Rattle.dr_laws.proofs.FairCopy.{fairly-check}
 
-metro-part : (x : Part) → is_metro x ≡ true → is_part x ≡ true
-metro-part Absent h = absurd cc
-metro-part Metro h = refl
-metro-part Global h = refl
-
-and-no : (b : Bool) → (b && false) ≡ false
+pub and-no : (b : Bool) → (b && false) ≡ false
 and-no true = refl
 and-no false = refl
-
-went-off : (on : ℕ → Bool) (s j : ℕ) → at on s false j ≡ true → on j ≡ true
-went-off on s j h = at_cases (λ j b. b ≡ true → on j ≡ true) on s false (λ h. absurd cc) (λ j ne h. h) j h
 
 module _ (v t : ℕ) where
   -- any track but t of v

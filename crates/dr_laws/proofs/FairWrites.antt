@@ -43,17 +43,9 @@ use Rattle.dr_laws.proofs.FairTables.{issued-unchanged, issued-tidy}
 use Rattle.dr_laws.proofs.FairPairs.{move-fairly}
 use Rattle.dr_laws.proofs.FairCopy.{fairly-check}
 use Rattle.dr_laws.proofs.FairDrain.{locked-synced}
-use Rattle.dr_laws.proofs.FairWithin.{Within, within-between, heal, Here, part-fairly, within-fairly, Keeps, copies-fairly, fairly-dropped}
+use Rattle.dr_laws.proofs.FairWithin.{and-no, Within, within-between, heal, Here, part-fairly, within-fairly, Keeps, copies-fairly, fairly-dropped}
 
 -- what tests tell
-and-none : (a b : Bool) → (a && b) ≡ false → a ≡ true → b ≡ false
-and-none true b h is = h
-and-none false b h is = absurd cc
-
-and-no : (b : Bool) → (b && false) ≡ false
-and-no true = refl
-and-no false = refl
-
 or-none : (a b : Bool) → (a || b) ≡ false → (a ≡ false) × (b ≡ false)
 or-none true b h = absurd cc
 or-none false b h = (refl, h)

@@ -17,7 +17,7 @@ use Rattle.dr_model.specs.Entries.{fields_at}
 use Rattle.dr_model.specs.Table.{table, waiting}
 use Rattle.dr_model.specs.Laws.{SoundRows}
 use Rattle.dr_model.specs.Allowed.{May}
-use Rattle.dr_laws.specs.Windows.{later_mirrored, is_back_to, unacked_on}
+use Rattle.dr_laws.specs.Windows.{later_mirrored, is_back_to}
 use Rattle.dr_laws.proofs.AtLemmas.{Told, at_part}
 use Rattle.dr_laws.proofs.Sets.{false_true, from_source}
 use Rattle.dr_laws.proofs.Turns.{done, done_in_stop}

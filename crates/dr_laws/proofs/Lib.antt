@@ -56,3 +56,4 @@ pub mod FairDrain
 pub mod FairWithin
 pub mod FairWrites
 pub mod FairSteps
+pub mod EndsInCut

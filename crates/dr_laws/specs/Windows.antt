@@ -5,12 +5,13 @@ use Rattle.dr_model.specs.declared.event.Event.{Event}
 use Rattle.dr_model.specs.declared.event.Event.TheVariants.{Ack, Mirrored, Back}
 use Rattle.dr_model.specs.Histories.{histories, lists}
 use Rattle.dr_model.specs.Contents.{image}
-use Rattle.dr_model.specs.Layout.{Fields, is_part}
+use Rattle.dr_model.specs.Layout.{Blocks, Fields, is_part}
 use Rattle.dr_model.specs.Control.{Control, World, is_volume}
 use Rattle.dr_model.specs.Pairs.{is_metro, is_full_duplex, is_suspended, is_primary_of, is_secondary_of}
 use Rattle.dr_model.specs.Relations.{is_bare}
 use Rattle.dr_model.specs.Entries.{fields_at, subsystem}
 use Rattle.dr_model.specs.WriteEntries.{partner_of}
+use Rattle.dr_model.specs.Fits.{on_device}
 use Rattle.dr_model.specs.Runs.{Task}
 use Rattle.dr_model.specs.Table.{waiting}
 use Rattle.dr_laws.specs.Moments.{moments}
@@ -91,3 +92,13 @@ FreezeCut tasks =
     IsSound set first later (told_since first last)
     → (v t : ℕ) → is_in set first.control v ≡ true → t < (first.control.volume v).tracks
     → last.contents (partner_of first.control v) t ≡ image (histories last.events).write (frozen last (told_since first last) (partner_of first.control v) v t)
+
+-- Where a sound window ends with the run, the devices contain the cut: the same of each secondary's track as its device has it.
+abbrev pub EndsInCut : List Task → (ℕ → Blocks) → Type 0
+EndsInCut tasks device =
+    (set : LssPairs) (before later : List World) (first : World)
+    → moments tasks ≡ before ++ (first ∷ later)
+    → let last : World = last_of first later in
+    IsSound set first later (told_since first last)
+    → (v t : ℕ) → is_in set first.control v ≡ true → t < (first.control.volume v).tracks
+    → on_device last.control device (partner_of first.control v) t ≡ image (histories last.events).write (frozen last (told_since first last) (partner_of first.control v) v t)
