@@ -37,7 +37,7 @@ use Rattle.dr_laws.proofs.FairCopy.{fairly-check}
 use Rattle.dr_laws.proofs.FairPairs.{move-fairly}
 
 -- a locked primary that isn't Suspended is Full Duplex
-locked-synced : (f : Fields) → is_suspended f.primary_state ≡ false → is_locked f ≡ true → is_synced f ≡ true
+pub locked-synced : (f : Fields) → is_suspended f.primary_state ≡ false → is_locked f ≡ true → is_synced f ≡ true
 locked-synced f going h = let both = and_parts (is_metro f.primary) _ h in and_from (is_metro f.primary) _ both.0 (by (is_full_duplex f.primary_state) (is_suspended f.primary_state) f.long_busy going both.1)
   where
     by : (x s l : Bool) → s ≡ false → (x || (s && l)) ≡ true → x ≡ true

@@ -1,14 +1,13 @@
--- Each step's plan is fair, where those of host writes that are carried out are; then the law of freeze windows holds of every run.
-use Rattle.std.proofs.Common.{ℕ, ◌≡◌, refl, List, Some, None}
-use Rattle.std.specs.List.{find}
-use Rattle.dr_model.specs.Control.{Pending, World, nothing}
-use Rattle.dr_model.specs.Moves.{is_write}
-use Rattle.dr_model.specs.Plans.{Plan, issue_refusal, write_done, apply_done}
+-- Each step's plan is fair, and so the law of freeze windows holds of every run.
+use Rattle.std.proofs.Common.{ℕ, refl, List, None}
+use Rattle.dr_model.specs.Control.{World, nothing}
+use Rattle.dr_model.specs.Plans.{Plan}
 use Rattle.dr_model.specs.Runs.{Task}
+use Rattle.dr_laws.specs.Moments.{moments_from}
 use Rattle.dr_laws.specs.Windows.{FreezeCut}
 use Rattle.dr_laws.proofs.Cases.{Case, Says, Defines, Adds, Links, Issues, Writes, Applies, Shows, Stops, Arms, Starts, Flashes, Withdraws, Resyncs, Reverses, Copies, Paths, Unpaths, MakesPair, RemovesPair, Pauses, ResumesPair, Drains, Expires, Freezes, Thaws, plan-case}
 use Rattle.dr_laws.proofs.Steps.{sound-nothing}
-use Rattle.dr_laws.proofs.Windows.{freeze-cut}
+use Rattle.dr_laws.proofs.Windows.{Chain, freeze-cut}
 use Rattle.dr_laws.proofs.Chains.{run-chain}
 use Rattle.dr_laws.proofs.FairPlans.{Between}
 use Rattle.dr_laws.proofs.FairCases.{rows-between, answers-between, Fair, fair-flash, fair-withdraw, fair-resync, fair-reverse, fair-freeze, fair-thaw, fair-expire, fair-pause, fair-resume, fair-remove}
@@ -17,6 +16,7 @@ use Rattle.dr_laws.proofs.FairPairs.{fair-pair}
 use Rattle.dr_laws.proofs.FairCopy.{fair-copy}
 use Rattle.dr_laws.proofs.FairDrain.{fair-drain}
 use Rattle.dr_laws.proofs.FairStart.{fair-start}
+use Rattle.dr_laws.proofs.FairWrites.{fair-writes, fair-applies}
 
 -- before the first step
 between-nothing : Between nothing
@@ -29,35 +29,37 @@ between-nothing = record {
   };
 }
 
-module _ (fair-writes : (w : World) → Between w → (v t offset len : ℕ) (bytes : List ℕ) → issue_refusal w.control v t ≡ None → Fair w (write_done w.control v t offset len bytes))
-    (fair-applies : (w : World) → Between w → (n : ℕ) (p : Pending) → find (is_write n) w.control.pending ≡ Some p → Fair w (apply_done w.control p)) where
-  fair-case : (w : World) (k : Between w) (line : ℕ) (p : Plan) → Case w.control w.events line p → Fair w p
-  fair-case w k line _ (Says a) = fair-says w k line a
-  fair-case w k line _ (Defines name free) = fair-defines w k line name free
-  fair-case w k line _ (Adds v s tracks free) = fair-adds w k line v s tracks free
-  fair-case w k line _ (Links a b up) = fair-links w k line a b up
-  fair-case w k line _ (Issues v t offset len bytes free) = fair-issues w k line v t offset len bytes free
-  fair-case w k line _ (Writes v t offset len bytes free) = fair-writes w k v t offset len bytes free
-  fair-case w k line _ (Applies n p found) = fair-applies w k n p found
-  fair-case w k line _ (Shows v t there) = fair-shows w k line v t there
-  fair-case w k line _ (Stops x on) = fair-stops w k line x on
-  fair-case w k line _ (Arms writes torn x) = fair-arms w k line writes torn x
-  fair-case w k line _ (Starts x off) = fair-start x w k
-  fair-case w k line _ (Flashes dev v t choices) = fair-flash w k dev v t choices
-  fair-case w k line _ (Withdraws dev v t) = fair-withdraw w k dev v t
-  fair-case w k line _ (Resyncs dev v t sequence) = fair-resync w k dev v t sequence
-  fair-case w k line _ (Reverses dev v t) = fair-reverse w k dev v t
-  fair-case w k line _ (Copies t most) = fair-copy w k t most
-  fair-case w k line _ (Paths src tgt group) = fair-paths w k line src tgt group
-  fair-case w k line _ (Unpaths src tgt) = fair-unpaths w k line src tgt
-  fair-case w k line _ (MakesPair devs a b kind full part) = fair-pair w k devs a b kind full part
-  fair-case w k line _ (RemovesPair devs a b source_only) = fair-remove w k devs a b source_only
-  fair-case w k line _ (Pauses devs a b) = fair-pause w k devs a b
-  fair-case w k line _ (ResumesPair devs a b kind) = fair-resume w k devs a b kind
-  fair-case w k line _ (Drains a most) = fair-drain w k a most
-  fair-case w k line _ (Expires x on) = fair-expire w k x on
-  fair-case w k line _ (Freezes l m) = fair-freeze w k l m
-  fair-case w k line _ (Thaws l m) = fair-thaw w k l m
+fair-case : (w : World) (k : Between w) (line : ℕ) (p : Plan) → Case w.control w.events line p → Fair w p
+fair-case w k line _ (Says a) = fair-says w k line a
+fair-case w k line _ (Defines name free) = fair-defines w k line name free
+fair-case w k line _ (Adds v s tracks free) = fair-adds w k line v s tracks free
+fair-case w k line _ (Links a b up) = fair-links w k line a b up
+fair-case w k line _ (Issues v t offset len bytes free) = fair-issues w k line v t offset len bytes free
+fair-case w k line _ (Writes v t offset len bytes free) = fair-writes w k v t offset len bytes free
+fair-case w k line _ (Applies n p found) = fair-applies w k n p found
+fair-case w k line _ (Shows v t there) = fair-shows w k line v t there
+fair-case w k line _ (Stops x on) = fair-stops w k line x on
+fair-case w k line _ (Arms writes torn x) = fair-arms w k line writes torn x
+fair-case w k line _ (Starts x off) = fair-start x w k
+fair-case w k line _ (Flashes dev v t choices) = fair-flash w k dev v t choices
+fair-case w k line _ (Withdraws dev v t) = fair-withdraw w k dev v t
+fair-case w k line _ (Resyncs dev v t sequence) = fair-resync w k dev v t sequence
+fair-case w k line _ (Reverses dev v t) = fair-reverse w k dev v t
+fair-case w k line _ (Copies t most) = fair-copy w k t most
+fair-case w k line _ (Paths src tgt group) = fair-paths w k line src tgt group
+fair-case w k line _ (Unpaths src tgt) = fair-unpaths w k line src tgt
+fair-case w k line _ (MakesPair devs a b kind full part) = fair-pair w k devs a b kind full part
+fair-case w k line _ (RemovesPair devs a b source_only) = fair-remove w k devs a b source_only
+fair-case w k line _ (Pauses devs a b) = fair-pause w k devs a b
+fair-case w k line _ (ResumesPair devs a b kind) = fair-resume w k devs a b kind
+fair-case w k line _ (Drains a most) = fair-drain w k a most
+fair-case w k line _ (Expires x on) = fair-expire w k x on
+fair-case w k line _ (Freezes l m) = fair-freeze w k l m
+fair-case w k line _ (Thaws l m) = fair-thaw w k l m
 
-  pub cut-run : (tasks : List Task) → FreezeCut tasks
-  cut-run tasks = freeze-cut tasks None (run-chain Between rows-between answers-between (λ w t k. fair-case w k t.line _ (plan-case w.control w.events t.line t.asked)) tasks nothing between-nothing)
+-- the moments of a run
+pub chain-of : (tasks : List Task) → Chain None nothing (moments_from nothing tasks)
+chain-of tasks = run-chain Between rows-between answers-between (λ w t k. fair-case w k t.line _ (plan-case w.control w.events t.line t.asked)) tasks nothing between-nothing
+
+pub cut-run : (tasks : List Task) → FreezeCut tasks
+cut-run tasks = freeze-cut tasks None (chain-of tasks)

@@ -36,7 +36,7 @@ none-there : {X : Type 0} (o : Option X) → is_some o ≡ false → o ≡ None
 none-there None h = refl
 none-there (Some x) h = absurd cc
 
-metro-part : (x : Part) → is_metro x ≡ true → is_part x ≡ true
+pub metro-part : (x : Part) → is_metro x ≡ true → is_part x ≡ true
 metro-part Absent h = absurd cc
 metro-part Metro h = refl
 metro-part Global h = refl

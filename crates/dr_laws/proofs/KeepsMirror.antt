@@ -23,23 +23,28 @@ use Rattle.dr_laws.proofs.AtLemmas.{at_part, Told}
 use Rattle.dr_laws.proofs.Sets.{false_true, from_source}
 use Rattle.dr_laws.proofs.Turns.{next_of, carried_in}
 use Rattle.dr_laws.proofs.RowsAfter.{calm, changed, bytes-after}
-use Rattle.dr_laws.proofs.WindowTracks.{Stays, Holds, Window}
+use Rattle.dr_laws.proofs.WindowTracks.{unacked, unacked-is, Stays, Holds, Window}
 use Rattle.dr_laws.proofs.Fair.{OnlyOut, Unacked}
 use Rattle.dr_laws.proofs.KeepsWindow.{two}
 
 -- of a write on another track nothing is unacknowledged here
-pub off-track : (events : List Event) (t n : ℕ) → ((histories events).write n).track ≢ t → unacked_on events t (Some n) ≡ []
+pub off-track : (events : List Event) (t n : ℕ) → ((histories events).write n).track ≢ t → unacked events t (Some n) ≡ []
 off-track events t n ne = ap (λ b. cond (b && not (list_any (is_ack n) events)) (n ∷ []) []) (ne_eqb _ t ne)
 
-pub on-track : (events : List Event) (t n : ℕ) → ((histories events).write n).track ≡ t → list_any (is_ack n) events ≡ false → unacked_on events t (Some n) ≡ n ∷ []
+pub on-track : (events : List Event) (t n : ℕ) → ((histories events).write n).track ≡ t → list_any (is_ack n) events ≡ false → unacked events t (Some n) ≡ n ∷ []
 on-track events t n is none = λ i. cond (eq-eqb _ t is i && not (none i)) (n ∷ []) []
 
 none-left : (b : Bool) (n : ℕ) → cond (b && false) (n ∷ []) [] ≡ []
 none-left true n = refl
 none-left false n = refl
 
-pub acked : (events : List Event) (t n : ℕ) → list_any (is_ack n) events ≡ true → unacked_on events t (Some n) ≡ []
+pub acked : (events : List Event) (t n : ℕ) → list_any (is_ack n) events ≡ true → unacked events t (Some n) ≡ []
 acked events t n is = ap (λ b. cond (nat_eq ((histories events).write n).track t && not b) (n ∷ []) []) is ∙ none-left (nat_eq ((histories events).write n).track t) n
+
+-- the write that waited is acknowledged
+pub acked-here : (ev ev' : List Event) (t n : ℕ) (g : Option ℕ) (ws ws' : List ℕ) → unacked_on ev t ws g ≡ n ∷ [] → list_any (is_ack n) ev' ≡ true → ws' ≡ [] → unacked_on ev' t ws' g ≡ ws'
+acked-here ev ev' t n None ws ws' h ack gone = refl
+acked-here ev ev' t n (Some k) ws ws' h ack gone = ap (unacked ev' t) (unacked-is ev t n (Some k) h) ∙ acked ev' t n ack ∙ sym gone
 
 or-true : (a b : Bool) → b ≡ true → (a || b) ≡ true
 or-true true b h = refl
@@ -114,7 +119,7 @@ module _ (v q : ℕ) (w : World) (rows : SoundRows (table w)) (st : Stays v q w)
 
   -- it lands on v
   module _ (t n : ℕ) (may : May w (LandBoth n v t)) (last : g ≡ Some n) (on : ℕ → Bool) (fuse : ℕ → Option Fuse) (ps : List Pending) (es : List Event) (same : (histories (w.events ++ es)).write ≡ write)
-      (here : unacked_on (w.events ++ es) t (Some n) ≡ waiting ps v t) (else : (j : ℕ) → j ≢ t → waiting ps v j ≡ waiting w.control.pending v j) where
+      (here : unacked (w.events ++ es) t (Some n) ≡ waiting ps v t) (else : (j : ℕ) → j ≢ t → waiting ps v j ≡ waiting w.control.pending v j) where
     abbrev m2 : Move
     m2 = LandBoth n v t
 
@@ -141,19 +146,22 @@ module _ (v q : ℕ) (w : World) (rows : SoundRows (table w)) (st : Stays v q w)
 
     lands : (j : ℕ) → j < (w.control.volume v).tracks → Told j t → Holds v q W2 (Some n) j
     lands j lt (inl is) = inl (record {
-      settled = subst (λ j. unacked_on (w.events ++ es) j (Some n) ≡ waiting ps v j) (sym is.1) here;
+      settled = subst (λ j. unacked (w.events ++ es) j (Some n) ≡ waiting ps v j) (sym is.1) here;
       bytes = bytes2_q j ∙ ap (w.contents q) is.1 ∙ ap (λ u. w.contents u t) (sym to-q) ∙ may.allowed.equal ∙ sym (at_same (w.contents v) t _)
           ∙ ap (at (w.contents v) t (with_write write (w.contents v t) n)) (sym is.1) ∙ sym (bytes2_v j);
     })
     lands j lt (inr not) = by (win.tracks j lt)
       where
-        none : unacked_on w.events j g ≡ []
-        none = ap (unacked_on w.events j) last ∙ off-track w.events j n (λ e. not.1 (sym e ∙ may.ready.track))
+        none : unacked w.events j g ≡ []
+        none = ap (unacked w.events j) last ∙ off-track w.events j n (λ e. not.1 (sym e ∙ may.ready.track))
+
+        held : unacked_on w.events j (waiting w.control.pending v j) g ≡ []
+        held = ap (unacked_on w.events j (waiting w.control.pending v j)) last ∙ off-track w.events j n (λ e. not.1 (sym e ∙ may.ready.track))
 
         by : Holds v q w g j → Holds v q W2 (Some n) j
         by (inr a) = let no : [] ≡ a.n ∷ [] = sym none ∙ a.stored in absurd cc
         by (inl s) = inl (record {
-          settled = off-track W2.events j n (λ e. not.1 (sym e ∙ track2)) ∙ sym none ∙ s.settled ∙ sym (else j not.1);
+          settled = off-track W2.events j n (λ e. not.1 (sym e ∙ track2)) ∙ sym held ∙ s.settled ∙ sym (else j not.1);
           bytes = bytes2_q j ∙ s.bytes ∙ sym (at_other (w.contents v) t _ j not.1) ∙ sym (bytes2_v j);
         })
 

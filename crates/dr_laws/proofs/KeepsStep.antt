@@ -17,17 +17,17 @@ use Rattle.dr_model.specs.Entries.{fields_at}
 use Rattle.dr_model.specs.Table.{table, waiting}
 use Rattle.dr_model.specs.Laws.{SoundRows}
 use Rattle.dr_model.specs.Allowed.{May}
-use Rattle.dr_laws.specs.Windows.{later_mirrored, is_back_to, unacked_on}
+use Rattle.dr_laws.specs.Windows.{later_mirrored, is_back_to}
 use Rattle.dr_laws.proofs.AtLemmas.{Told, at_part}
 use Rattle.dr_laws.proofs.Sets.{false_true, from_source}
 use Rattle.dr_laws.proofs.Turns.{done, done_in_stop}
 use Rattle.dr_laws.proofs.RowsAfter.{calm}
 use Rattle.dr_laws.proofs.Due.{waiting-marked_else, waiting-marked_here}
 use Rattle.dr_laws.proofs.Unissued.{told-writes, stop-writes, with-told}
-use Rattle.dr_laws.proofs.WindowTracks.{Stays, Holds, Window, Quiet, window-quiet, unacked-is, unacked-told}
+use Rattle.dr_laws.proofs.WindowTracks.{unacked, still-waits, Stays, Holds, Window, Quiet, window-quiet, unacked-told}
 use Rattle.dr_laws.proofs.Fair.{Fair, tag_after}
 use Rattle.dr_laws.proofs.KeepsWindow.{AllSilent, locked, Deaf, deaf-silent, Else, deaf-told, deaf-stop, waits-done, waits-stop, quiet-changed}
-use Rattle.dr_laws.proofs.KeepsMirror.{off-track, on-track, acked, just-acked, still-unacked, window-mirrored, window-landed}
+use Rattle.dr_laws.proofs.KeepsMirror.{off-track, on-track, acked, acked-here, just-acked, still-unacked, window-mirrored, window-landed}
 
 -- a landed write that is acknowledged: no other waits on its track
 pub record Acknowledges (w : World) (n : ℕ) : Type 0 where
@@ -182,7 +182,7 @@ module _ (v q : ℕ) where
         let last : g ≡ Some n = win.goes_on n fair.0 may.ready.volume in
         let ps : List Pending = w.control.pending in
         let here : waiting (marked n ps) v t ≡ n ∷ [] = waiting-marked_here n v t ps may.ready.coming (calm w v may.ready.idle t) ∙ may.ready.one in
-        let stored : unacked_on (w.events ++ stop-told m) t (Some n) ≡ n ∷ [] = on-track (w.events ++ stop-told m) t n (ap (λ (g : ℕ → Write). (g n).track) (stop-same m) ∙ may.ready.track) (still-unacked w.events (stop-told m) n fair.1 refl) in
+        let stored : unacked (w.events ++ stop-told m) t (Some n) ≡ n ∷ [] = on-track (w.events ++ stop-told m) t n (ap (λ (g : ℕ → Write). (g n).track) (stop-same m) ∙ may.ready.track) (still-unacked w.events (stop-told m) n fair.1 refl) in
         subst (λ g. Window v q None g (done_in_stop w m f)) (sym last)
         (window-landed v q w rows st tag g win t n may last (done_in_stop w m f).control.on (done_in_stop w m f).control.fuse (settled_in_stop m ps) (stop-told m) (stop-same m)
         (stored ∙ sym here) (λ j ne. waiting-marked_else n v t v j ps (inr ne) may.ready.coming))
@@ -197,7 +197,7 @@ module _ (v q : ℕ) where
       same : (histories after.events).write ≡ write
       same = with-told w (Ack n ∷ []) refl
 
-      unacked-else : (j : ℕ) (g : Option ℕ) → (g ≡ Some n → (write n).track ≢ j) → unacked_on after.events j g ≡ unacked_on w.events j g
+      unacked-else : (j : ℕ) (g : Option ℕ) → (g ≡ Some n → (write n).track ≢ j) → unacked after.events j g ≡ unacked w.events j g
       unacked-else j None ne = refl
       unacked-else j (Some k) ne = elim (eqb_tells n k) [
         | inl is ↦
@@ -207,15 +207,14 @@ module _ (v q : ℕ) where
       ]
 
       holds-else : (j : ℕ) → (g ≡ Some n → (write n).track ≢ j) → (v ≢ a.volume) ⊎ (j ≢ a.track) → Holds v q w g j → Holds v q after g j
-      holds-else j ne apart (inl s) = inl (record { settled = unacked-else j g ne ∙ s.settled ∙ sym (a.else v j apart); bytes = s.bytes })
+      holds-else j ne apart (inl s) = inl (record { settled = still-waits w.events after.events j g (waiting w.control.pending v j) (waiting after.control.pending v j) (unacked-else j g ne) (a.else v j apart) s.settled; bytes = s.bytes })
       holds-else j ne apart (inr x) = inr (record { n = x.n; stored = unacked-else j g ne ∙ x.stored; none = a.else v j apart ∙ x.none; bytes = x.bytes ∙ sym (λ i. with_write (same i) (w.contents v j) x.n); out = x.out })
 
       holds-here : (j : ℕ) → a.volume ≡ v → j ≡ a.track → Holds v q w g j → Holds v q after g j
       holds-here j on is (inl s) =
           let here : waiting w.control.pending v j ≡ n ∷ [] = (λ i. waiting w.control.pending (sym on i) (is i)) ∙ a.here in
           let gone : waiting after.control.pending v j ≡ [] = (λ i. waiting after.control.pending (sym on i) (is i)) ∙ a.gone in
-          let last : g ≡ Some n = unacked-is w.events j n g (s.settled ∙ here) in
-          inl (record { settled = ap (unacked_on after.events j) last ∙ acked after.events j n (just-acked w.events n) ∙ sym gone; bytes = s.bytes })
+          inl (record { settled = acked-here w.events after.events j n g (waiting w.control.pending v j) (waiting after.control.pending v j) (s.settled ∙ here) (just-acked w.events n) gone; bytes = s.bytes })
       holds-here j on is (inr x) =
           let no : [] ≡ n ∷ [] = sym x.none ∙ (λ i. waiting w.control.pending (sym on i) (is i)) ∙ a.here in
           absurd cc

@@ -53,4 +53,7 @@ pub mod FairPairs
 pub mod FairCopy
 pub mod FairStart
 pub mod FairDrain
+pub mod FairWithin
+pub mod FairWrites
 pub mod FairSteps
+pub mod EndsInCut

@@ -242,7 +242,7 @@ tidy-same w u volume volumes less fresh tidy = record {
   fresh = fresh;
 }
 
-went-off : (on : ℕ → Bool) (s j : ℕ) → at on s false j ≡ true → on j ≡ true
+pub went-off : (on : ℕ → Bool) (s j : ℕ) → at on s false j ≡ true → on j ≡ true
 went-off on s j h = at_cases (λ j b. b ≡ true → on j ≡ true) on s false (λ h. absurd cc) (λ j ne h. h) j h
 
 pub tidy-done : (w : World) (m : Move) (f : Option Fuse) → May w m → Gentle (fields_at w.control (target m)) m → Tidy w → Tidy (done w m f)

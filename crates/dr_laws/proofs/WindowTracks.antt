@@ -23,8 +23,12 @@ use Rattle.dr_laws.proofs.FitsPairs.{its-second, its-first}
 abbrev pub is_firm : Fields → Bool
 is_firm f = is_full_duplex f.primary_state || (is_suspended f.primary_state && f.long_busy)
 
+-- the write that was mirrored last, where it is one on track t that wasn't acknowledged
+abbrev pub unacked : List Event → ℕ → Option ℕ → List ℕ
+unacked events t g = unacked_on events t [] g
+
 -- what isn't acknowledged, as the write says that it is
-pub unacked-is : (events : List Event) (t n : ℕ) (g : Option ℕ) → unacked_on events t g ≡ n ∷ [] → g ≡ Some n
+pub unacked-is : (events : List Event) (t n : ℕ) (g : Option ℕ) → unacked events t g ≡ n ∷ [] → g ≡ Some n
 unacked-is events t n None h = absurd cc
 unacked-is events t n (Some k) h = by (nat_eq ((histories events).write k).track t && not (list_any (is_ack k) events)) h
   where
@@ -32,13 +36,23 @@ unacked-is events t n (Some k) h = by (nat_eq ((histories events).write k).track
     by true h = let same : k ≡ n = cc in ap (λ j. Some j) same
     by false h = absurd cc
 
+-- where there is one, what waits isn't looked at
+pub ahead-is : (events : List Event) (t n : ℕ) (ws : List ℕ) (g : Option ℕ) → unacked events t g ≡ n ∷ [] → unacked_on events t ws g ≡ n ∷ []
+ahead-is events t n ws None h = absurd cc
+ahead-is events t n ws (Some k) h = h
+
+-- what isn't acknowledged waits, at another moment too
+pub still-waits : (ev ev' : List Event) (t : ℕ) (g : Option ℕ) (ws ws' : List ℕ) → unacked ev' t g ≡ unacked ev t g → ws' ≡ ws → unacked_on ev t ws g ≡ ws → unacked_on ev' t ws' g ≡ ws'
+still-waits ev ev' t None ws ws' same waits h = refl
+still-waits ev ev' t (Some k) ws ws' same waits h = same ∙ h ∙ sym waits
+
 or-none : (a b : Bool) → b ≡ false → (a || b) ≡ a
 or-none true b h = refl
 or-none false b h = h
 
 -- other events say nothing of it
 pub unacked-told : (events es : List Event) (t : ℕ) (g : Option ℕ) → ((n : ℕ) → g ≡ Some n → (histories (events ++ es)).write n ≡ (histories events).write n) → ((n : ℕ) → g ≡ Some n → list_any (is_ack n) es ≡ false)
-    → unacked_on (events ++ es) t g ≡ unacked_on events t g
+    → unacked (events ++ es) t g ≡ unacked events t g
 unacked-told events es t None write acks = refl
 unacked-told events es t (Some n) write acks =
     λ i. cond (nat_eq (write n refl i).track t && not ((list_any-append (is_ack n) events es ∙ or-none (list_any (is_ack n) events) _ (acks n refl)) i)) (n ∷ []) []
@@ -58,13 +72,13 @@ module _ (v q : ℕ) where
 
   -- both contain the same, and what q stored first has landed
   pub record Same (w : World) (g : Option ℕ) (t : ℕ) : Type 0 where
-    pub settled : unacked_on w.events t g ≡ waiting w.control.pending v t
+    pub settled : unacked_on w.events t (waiting w.control.pending v t) g ≡ waiting w.control.pending v t
     pub bytes : w.contents q t ≡ w.contents v t
 
   -- or q has stored a write that hasn't landed, and the track is out of sync
   pub record Ahead (w : World) (g : Option ℕ) (t : ℕ) : Type 0 where
     pub n : ℕ
-    pub stored : unacked_on w.events t g ≡ n ∷ []
+    pub stored : unacked w.events t g ≡ n ∷ []
     pub none : waiting w.control.pending v t ≡ []
     pub bytes : w.contents q t ≡ with_write (histories w.events).write (w.contents v t) n
     pub out : contains (fields_at w.control v).out_of_sync t ≡ true
@@ -84,7 +98,7 @@ module _ (v q : ℕ) where
 
   -- there q holds what its primary holds, and that write
   pub window-image : (tag g : Option ℕ) (w : World) → SoundRows (table w) → Stays w → Window tag g w → (t : ℕ) → t < (w.control.volume v).tracks
-      → w.contents q t ≡ image (histories w.events).write ((histories w.events).now v t ++ unacked_on w.events t g)
+      → w.contents q t ≡ image (histories w.events).write ((histories w.events).now v t ++ unacked_on w.events t (waiting w.control.pending v t) g)
   window-image tag g w rows st x t lt = by (x.tracks t lt)
     where
       write : ℕ → Write
@@ -96,11 +110,11 @@ module _ (v q : ℕ) where
       plain : w.contents v t ≡ image write (now ++ waiting w.control.pending v t)
       plain = rows.images.plain v (unrelated_primary (table w) rows.parts v st.to) t lt
 
-      by : Holds w g t → w.contents q t ≡ image write (now ++ unacked_on w.events t g)
+      by : Holds w g t → w.contents q t ≡ image write (now ++ unacked_on w.events t (waiting w.control.pending v t) g)
       by (inl s) = s.bytes ∙ plain ∙ ap (λ ws. image write (now ++ ws)) (sym s.settled)
       by (inr a) =
           a.bytes ∙ ap (λ b. with_write write b a.n) (plain ∙ ap (λ ws. image write (now ++ ws)) a.none ∙ ap (image write) (append-nil now))
-          ∙ sym (image-push write now a.n) ∙ ap (λ ws. image write (now ++ ws)) (sym a.stored)
+          ∙ sym (image-push write now a.n) ∙ ap (λ ws. image write (now ++ ws)) (sym (ahead-is w.events t a.n (waiting w.control.pending v t) g a.stored))
 
   -- from w to u nothing of the window changes; these events are told
   pub record Quiet (w u : World) (es : List Event) (g : Option ℕ) : Type 0 where
@@ -117,11 +131,11 @@ module _ (v q : ℕ) where
     pub metro : is_metro (fields_at w.control v).primary ≡ true → is_metro (fields_at u.control v).primary ≡ true
 
   module _ (w u : World) (es : List Event) (tag g : Option ℕ) (x : Window tag g w) (y : Quiet w u es g) where
-    unacked-same : (t : ℕ) → unacked_on u.events t g ≡ unacked_on w.events t g
-    unacked-same t = ap (λ es. unacked_on es t g) y.events ∙ unacked-told w.events es t g (λ n is. ap (λ es. (histories es).write n) (sym y.events) ∙ y.writes n (x.low n is)) y.acks
+    unacked-same : (t : ℕ) → unacked u.events t g ≡ unacked w.events t g
+    unacked-same t = ap (λ es. unacked es t g) y.events ∙ unacked-told w.events es t g (λ n is. ap (λ es. (histories es).write n) (sym y.events) ∙ y.writes n (x.low n is)) y.acks
 
     holds-quiet : (t : ℕ) → t < (w.control.volume v).tracks → Holds w g t → Holds u g t
-    holds-quiet t lt (inl s) = inl (record { settled = unacked-same t ∙ s.settled ∙ sym (y.waits t); bytes = y.secondary t lt ∙ s.bytes ∙ sym (y.primary t lt) })
+    holds-quiet t lt (inl s) = inl (record { settled = still-waits w.events u.events t g (waiting w.control.pending v t) (waiting u.control.pending v t) (unacked-same t) (y.waits t) s.settled; bytes = y.secondary t lt ∙ s.bytes ∙ sym (y.primary t lt) })
     holds-quiet t lt (inr a) =
         let write : (histories u.events).write a.n ≡ (histories w.events).write a.n = y.writes a.n (x.low a.n (unacked-is w.events t a.n g a.stored)) in
         inr (record {

@@ -1,5 +1,5 @@
 -- Freeze windows of a run whose moments come one after the other as they may: their law.
-use Rattle.std.proofs.Common.{ℕ, ◌≡◌, ◌<◌, ◌+◌, inl, refl, ap, sym, ◌∙◌, subst, Bool, true, false, cond, ◌&&◌, ◌||◌, nat_eq, List, [], ◌∷◌, ◌++◌, append_assoc, drop, length, Option, Some, None}
+use Rattle.std.proofs.Common.{ℕ, ◌≡◌, ◌<◌, ◌+◌, inl, refl, ap, sym, ◌∙◌, subst, true, false, ◌||◌, List, [], ◌∷◌, ◌++◌, append_assoc, drop, length, Option, Some, None}
 use Rattle.std.specs.Prelude.{All}
 use Rattle.std.proofs.Math.Seq.{drop-append_seam}
 use Rattle.std.proofs.lemmas.List.{append-nil}
@@ -15,7 +15,7 @@ use Rattle.dr_model.specs.Layout.{Tracks, Fields, is_part}
 use Rattle.dr_model.specs.Relations.{is_bare}
 use Rattle.dr_model.specs.Contents.{image}
 use Rattle.dr_model.specs.Histories.{histories, lists}
-use Rattle.dr_model.specs.Control.{Pending, World, nothing}
+use Rattle.dr_model.specs.Control.{World, nothing}
 use Rattle.dr_model.specs.Pairs.{secondary_of, is_metro, is_full_duplex}
 use Rattle.dr_model.specs.Moves.{target, told, told_in_stop, landed}
 use Rattle.dr_model.specs.Entries.{fields_at}
@@ -23,8 +23,8 @@ use Rattle.dr_model.specs.WriteEntries.{partner_of}
 use Rattle.dr_model.specs.Table.{table, waiting}
 use Rattle.dr_model.specs.Laws.{SoundRows}
 use Rattle.dr_model.specs.Runs.{Task}
-use Rattle.dr_laws.specs.Moments.{moments_from}
-use Rattle.dr_laws.specs.Windows.{is_clean, waits_on, stays_with, is_back_to, later_mirrored, last_mirrored, unacked_on, last_of, told_since, FreezeCut}
+use Rattle.dr_laws.specs.Moments.{moments_from, moments}
+use Rattle.dr_laws.specs.Windows.{LssPairs, is_in, IsSound, is_clean, stays_with, is_back_to, later_mirrored, last_mirrored, unacked_on, last_of, told_since, frozen, FreezeCut}
 use Rattle.dr_laws.proofs.Sets.{false_true, empty_has, from_source}
 use Rattle.dr_laws.proofs.WindowTracks.{Stays, stays, Window, window-image}
 use Rattle.dr_laws.proofs.KeepsWindow.{no_first}
@@ -60,17 +60,6 @@ chain-from (b ∷ bs) _ _ _ first rest (Then tag next w u us g s c) e = let ther
 
 pub bare-has : (s : Tracks) (t : ℕ) → is_bare s ≡ true → contains s t ≡ false
 bare-has s t h = ap (λ s. contains s t) (empty_of_len s (eqb-true _ 0 h)) ∙ empty_has t
-
--- where no landed write waits on a volume, none waits on its tracks
-none-waits : (v t : ℕ) (ps : List Pending) → list_any (waits_on v) ps ≡ false → waiting ps v t ≡ []
-none-waits v t [] h = refl
-none-waits v t (p ∷ ps) h = let both = or_parts (waits_on v p) _ h in
-    ap (λ b. cond b (p.w ∷ waiting ps v t) (waiting ps v t)) (none p.landed (nat_eq p.volume v) (nat_eq p.track t) both.0) ∙ none-waits v t ps both.1
-  where
-    none : (a b c : Bool) → (a && b) ≡ false → (a && (b && c)) ≡ false
-    none true true c h = absurd cc
-    none true false c h = refl
-    none false b c h = refl
 
 -- what was told since another moment
 record Grows (w u : World) : Type 0 where
@@ -108,13 +97,13 @@ module _ (v q : ℕ) where
       ((x.0, y.0), (x.1, y.1))
 
   -- the window where it ends
-  record Ends (g : Option ℕ) (w x : World) : Type 0 where
+  pub record Ends (g : Option ℕ) (w x : World) : Type 0 where
     told : List Event
     events : x.events ≡ w.events ++ told
     tag : Option ℕ
-    rows : SoundRows (table x)
-    stay : Stays v q x
-    size : (x.control.volume v).tracks ≡ (w.control.volume v).tracks
+    pub rows : SoundRows (table x)
+    pub stay : Stays v q x
+    pub size : (x.control.volume v).tracks ≡ (w.control.volume v).tracks
     window : Window v q tag (fold (later_mirrored q) g told) x
 
   abbrev Stay : World → Type 0
@@ -163,8 +152,8 @@ module _ (v q : ℕ) where
       (λ g win bare. lasts ys after next g u us there c win all2 bare))
 
   -- as it begins
-  begins : (tag : Option ℕ) (w : World) → Good tag w → Stays v q w → is_clean (fields_at w.control v) ≡ true → list_any (waits_on v) w.control.pending ≡ false → Window v q tag None w
-  begins tag w k st clean none =
+  begins : (tag : Option ℕ) (w : World) → Good tag w → Stays v q w → is_clean (fields_at w.control v) ≡ true → Window v q tag None w
+  begins tag w k st clean =
       let f : Fields = fields_at w.control v in
       let a = and_parts (is_metro f.primary) _ clean in
       let b = and_parts (is_full_duplex f.primary_state) _ a.1 in
@@ -177,7 +166,7 @@ module _ (v q : ℕ) where
         goes_on = λ n is on. let x = (histories w.events).write n in
             false_true (bare-has f.out_of_sync x.track bare.0) (ap (λ j. contains (fields_at w.control j).out_of_sync x.track) (sym on) ∙ k.out n is);
         tracks = λ t lt. inl (record {
-          settled = sym (none-waits v t w.control.pending none);
+          settled = refl;
           bytes = sym (k.rows.pairs v q st.to (inl st.takes) t lt (λ i. bare-has f.out_of_sync t bare.0 i || bare-has f.change_recording t bare.1 i) (λ back. no_first v q w k.rows st (from-second back)));
         });
       }
@@ -185,18 +174,36 @@ module _ (v q : ℕ) where
       from-second : secondary_of (fields_at w.control q) ≡ Some v → is_part (fields_at w.control q).primary ≡ true
       from-second back = (from_source _ _ v back).0
 
--- every run whose moments are such a chain keeps the law
+-- a sound window of a run whose moments are such a chain
+module _ (tasks : List Task) (tag : Option ℕ) (chain : Chain tag nothing (moments_from nothing tasks)) (set : LssPairs) (before later after : List World) (first : World) (is : moments tasks ≡ before ++ (first ∷ later ++ after))
+    (sound : IsSound set first later (told_since first (last_of first later))) (v : ℕ) (in_set : is_in set first.control v ≡ true) where
+  abbrev q : ℕ
+  q = partner_of first.control v
+
+  abbrev last : World
+  last = last_of first later
+
+  abbrev since : List Event
+  since = told_since first last
+
+  since-told : (es : List Event) → last.events ≡ first.events ++ es → since ≡ es
+  since-told es e = ap (drop (length first.events)) e ∙ drop-append_seam first.events es
+
+  pub window-ends : Ends v q None first last
+  window-ends =
+      let from : From first (later ++ after) = chain-from before tag nothing (moments_from nothing tasks) first (later ++ after) chain is in
+      let stay = sound.stay v in_set in
+      let st : Stays v q first = stays v q first (All-head (Stay v q) first later stay) in
+      let bare : Bare v q first last = λ es e. subst (Backless v q) (since-told es e) (sound.primaries v in_set, sound.secondaries v in_set) in
+      lasts v q later after from.tag None first (later ++ after) refl from.chain (begins v q from.tag first (good from.tag first (later ++ after) from.chain) st (sound.clean v in_set)) stay bare
+
+  cut : (t : ℕ) → t < (first.control.volume v).tracks → last.contents q t ≡ image (histories last.events).write (frozen last since q v t)
+  cut t lt =
+      let end : Ends v q None first last = window-ends in
+      let size : (last.control.volume v).tracks ≡ (first.control.volume v).tracks = end.size in
+      window-image v q end.tag _ last end.rows end.stay end.window t (subst (λ n. t < n) (sym size) lt)
+      ∙ ap (λ es. image (histories last.events).write (lists last.events v t ++ unacked_on last.events t (waiting last.control.pending v t) (last_mirrored q es))) (sym (since-told end.told end.events))
+
+-- every such run keeps the law
 pub freeze-cut : (tasks : List Task) (tag : Option ℕ) → Chain tag nothing (moments_from nothing tasks) → FreezeCut tasks
-freeze-cut tasks tag chain set before later after first is sound v t in_set lt =
-    let q : ℕ = partner_of first.control v in
-    let last : World = last_of first later in
-    let since : List Event = told_since first last in
-    let from : From first (later ++ after) = chain-from before tag nothing (moments_from nothing tasks) first (later ++ after) chain is in
-    let stay = sound.stay v in_set in
-    let st : Stays v q first = stays v q first (All-head (Stay v q) first later stay) in
-    let same : ((es : List Event) → last.events ≡ first.events ++ es → since ≡ es) = λ es e. ap (drop (length first.events)) e ∙ drop-append_seam first.events es in
-    let bare : Bare v q first last = λ es e. subst (Backless v q) (same es e) (sound.primaries v in_set, sound.secondaries v in_set) in
-    let end : Ends v q None first last = lasts v q later after from.tag None first (later ++ after) refl from.chain (begins v q from.tag first (good from.tag first (later ++ after) from.chain) st (sound.clean v in_set) (sound.settled v in_set)) stay bare in
-    let size : (last.control.volume v).tracks ≡ (first.control.volume v).tracks = end.size in
-    window-image v q end.tag _ last end.rows end.stay end.window t (subst (λ n. t < n) (sym size) lt)
-    ∙ ap (λ es. image (histories last.events).write (lists last.events v t ++ unacked_on last.events t (last_mirrored q es))) (sym (same end.told end.events))
+freeze-cut tasks tag chain set before later after first is sound v t in_set lt = cut tasks tag chain set before later after first is sound v in_set t lt

@@ -5,13 +5,15 @@ use Rattle.dr_model.specs.declared.event.Event.{Event}
 use Rattle.dr_model.specs.declared.event.Event.TheVariants.{Ack, Mirrored, Back}
 use Rattle.dr_model.specs.Histories.{histories, lists}
 use Rattle.dr_model.specs.Contents.{image}
-use Rattle.dr_model.specs.Layout.{Fields, is_part}
-use Rattle.dr_model.specs.Control.{Control, Pending, World, is_volume}
+use Rattle.dr_model.specs.Layout.{Blocks, Fields, is_part}
+use Rattle.dr_model.specs.Control.{Control, World, is_volume}
 use Rattle.dr_model.specs.Pairs.{is_metro, is_full_duplex, is_suspended, is_primary_of, is_secondary_of}
 use Rattle.dr_model.specs.Relations.{is_bare}
 use Rattle.dr_model.specs.Entries.{fields_at, subsystem}
 use Rattle.dr_model.specs.WriteEntries.{partner_of}
+use Rattle.dr_model.specs.Fits.{on_device}
 use Rattle.dr_model.specs.Runs.{Task}
+use Rattle.dr_model.specs.Table.{waiting}
 use Rattle.dr_laws.specs.Moments.{moments}
 
 -- pairs of logical subsystems, and the primaries of such a set
@@ -28,10 +30,6 @@ is_in set k v = is_volume k v && list_any (is_of k v) set
 abbrev pub is_clean : Fields → Bool
 is_clean f = is_metro f.primary && (is_full_duplex f.primary_state && (is_bare f.out_of_sync && is_bare f.change_recording))
 
--- a write landed on v as its server stopped, and waits to be acknowledged
-abbrev pub waits_on : ℕ → Pending → Bool
-waits_on v p = p.landed && nat_eq p.volume v
-
 -- v is the primary of q, which has the part for it, and it is Full Duplex, or Suspended and long busy
 abbrev pub stays_with : ℕ → ℕ → Control → Bool
 stays_with q v k =
@@ -45,11 +43,10 @@ is_back_to v (Back u t from) = nat_eq u v
 is_back_to v _ = false
 
 -- A window of a set is a stretch of moments, in which these events were told. It is sound where at its first moment each
--- primary of the set is clean and no landed write waits on it, where at each of its moments each such primary stays with its
--- partner, and where no restore stored a track of a volume of the set.
+-- primary of the set is clean, where at each of its moments each such primary stays with its partner, and where no restore
+-- stored a track of a volume of the set.
 pub record IsSound (set : LssPairs) (first : World) (later : List World) (events : List Event) : Type 0 where
   pub clean : (v : ℕ) → is_in set first.control v ≡ true → is_clean (fields_at first.control v) ≡ true
-  pub settled : (v : ℕ) → is_in set first.control v ≡ true → list_any (waits_on v) first.control.pending ≡ false
   pub stay : (v : ℕ) → is_in set first.control v ≡ true → All (λ w. stays_with (partner_of first.control v) v w.control ≡ true) (first ∷ later)
   pub primaries : (v : ℕ) → is_in set first.control v ≡ true → list_any (is_back_to v) events ≡ false
   pub secondaries : (v : ℕ) → is_in set first.control v ≡ true → list_any (is_back_to (partner_of first.control v)) events ≡ false
@@ -66,14 +63,15 @@ abbrev pub is_ack : ℕ → Event → Bool
 is_ack w (Ack n) = nat_eq n w
 is_ack w _ = false
 
--- that write, where it is one on track t that wasn't acknowledged
-abbrev pub unacked_on : List Event → ℕ → Option ℕ → List ℕ
-unacked_on events t None = []
-unacked_on events t (Some w) = if nat_eq ((histories events).write w).track t && not (list_any (is_ack w) events) then w ∷ [] else []
+-- That write, where it is one on track t that wasn't acknowledged. Where there is none in the window, those that landed on the
+-- primary before it, as its server stopped, and wait.
+abbrev pub unacked_on : List Event → ℕ → List ℕ → Option ℕ → List ℕ
+unacked_on events t waits None = waits
+unacked_on events t waits (Some w) = if nat_eq ((histories events).write w).track t && not (list_any (is_ack w) events) then w ∷ [] else []
 
 -- the host writes that the secondary q of v holds on track t where a window ends in which these events were told
 abbrev pub frozen : World → List Event → ℕ → ℕ → ℕ → List ℕ
-frozen last events q v t = lists last.events v t ++ unacked_on last.events t (last_mirrored q events)
+frozen last events q v t = lists last.events v t ++ unacked_on last.events t (waiting last.control.pending v t) (last_mirrored q events)
 
 -- the last world of a window, and the events that were told in it
 abbrev pub last_of : World → List World → World
@@ -94,3 +92,13 @@ FreezeCut tasks =
     IsSound set first later (told_since first last)
     → (v t : ℕ) → is_in set first.control v ≡ true → t < (first.control.volume v).tracks
     → last.contents (partner_of first.control v) t ≡ image (histories last.events).write (frozen last (told_since first last) (partner_of first.control v) v t)
+
+-- Where a sound window ends with the run, the devices contain the cut: the same of each secondary's track as its device has it.
+abbrev pub EndsInCut : List Task → (ℕ → Blocks) → Type 0
+EndsInCut tasks device =
+    (set : LssPairs) (before later : List World) (first : World)
+    → moments tasks ≡ before ++ (first ∷ later)
+    → let last : World = last_of first later in
+    IsSound set first later (told_since first last)
+    → (v t : ℕ) → is_in set first.control v ≡ true → t < (first.control.volume v).tracks
+    → on_device last.control device (partner_of first.control v) t ≡ image (histories last.events).write (frozen last (told_since first last) (partner_of first.control v) v t)

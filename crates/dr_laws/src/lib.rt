@@ -18,6 +18,7 @@ ghost use Rattle.dr_model.specs.Allowed.{Allowed};
 ghost use Rattle.dr_model.specs.Limits.{most_events};
 ghost use Rattle.dr_laws.specs.Limits.{IsWithin};
 ghost use Rattle.dr_laws.specs.Stops.{StopsTold, refused_stop};
+ghost use Rattle.dr_laws.specs.Windows.{FreezeCut};
 
 /// Every run leaves a sound world: its volumes' records fit each other, each track shows what the host writes say, and
 /// each pending write is the one that was issued. A volume has at most one part in a pair, as its primary or as its
@@ -75,4 +76,13 @@ pub fn runs_stay_within_limits()
 pub fn journals_fit()
     ensures grows { (w : World) (t : Task) → length w.events < length (after_task w t).events }
     ensures fits { (w : World) (t : Task) → Sound w → IsWithin w.control → length w.events < most_events → length (after_task w t).events ≤ most_events }
+{}
+
+/// At the end of a sound freeze window of a run, the secondaries of the set hold one moment of the host's writes: each track of
+/// each contains what the writes make that its primary holds then, and the last write that it stored where that wasn't
+/// acknowledged. So they hold every write that was acknowledged on the primaries of the set, and with each all that it depended
+/// on. A window is a stretch of moments at which each primary that was Full Duplex and in sync at its begin stays so, or is
+/// Suspended and long busy.
+pub fn freezes_leave_one_cut()
+    ensures { (tasks : List Task) → FreezeCut tasks }
 {}
