@@ -21,6 +21,8 @@ use Rattle.dr_model.specs.Contents.{zeros}
 use Rattle.dr_model.specs.Laws.{Sound}
 use Rattle.dr_laws.proofs.Agree.{fits-sound}
 use Rattle.dr_laws.specs.Windows.{EndsInCut}
+use Rattle.dr_laws.proofs.FairSteps.{cut-run}
+use Rattle.dr_laws.proofs.EndsInCut.{ends-in-cut}
 use Rattle.dr_volume.specs.View.{fuse_seen, ids_of, volume_seen, track_seen}
 use Rattle.dr_volume.proofs.VolumeLaws.{volume-placed, track-placed}
 use Rattle.dr_top.specs.Here.{here, IsReady}
@@ -90,7 +92,7 @@ module _ (s : PlantState) (t : Table) (h : Writes) (ev : List Event) (sound : Is
   -- where a freeze window ends here, the devices contain the cut
   pub frozen-here : (tasks : List Task) → run tasks ≡ here s t h ev → EndsInCut tasks s.block
   frozen-here tasks leads =
-      ends-in-cut tasks s.block (cut-of-run tasks)
+      ends-in-cut tasks s.block (cut-run tasks)
       (subst (λ (w : World). (v k : ℕ) → is_volume w.control v ≡ true → k < (w.control.volume v).tracks → on_device w.control s.block v k ≡ w.contents v k) (sym leads) tracks-here)
 
   pub fits-here : Sound (here s t h ev) → Fits (here s t h ev) s.on (λ server. fuse_seen (s.write_fuse server)) s.block
