@@ -7,7 +7,7 @@ use Rattle.dr_model.specs.declared.event.Event.{Event}
 use Rattle.dr_model.specs.declared.event.Event.TheVariants.{Stopped, Frozen, Thawed}
 use Rattle.dr_model.specs.declared.said.Said.{Said}
 use Rattle.dr_model.specs.Answers.{answer}
-use Rattle.dr_model.specs.Histories.{Histories, histories}
+use Rattle.dr_model.specs.Histories.{Histories, histories, lists}
 use Rattle.dr_model.specs.Control.{Control, Fuse, World}
 use Rattle.dr_model.specs.Moves.{is_write}
 use Rattle.dr_model.specs.Carry.{Act, Make, Redo, Acknowledge, Drop, EndFreeze, EndThaw, Turn, Next, Pass, Do, End, Entry, Outcome, continue, go, carry, dropped, frozen, thawed}
@@ -43,14 +43,16 @@ act_tag a tag = None
 -- events that no list hears of
 pub told-unchanged : (w u : World) (es : List Event) → u.events ≡ w.events ++ es → AllSilent es → histories (w.events ++ es) ≡ histories w.events → u.control.volume ≡ w.control.volume → u.contents ≡ w.contents → u.control.issued ≡ w.control.issued
     → ((v t : ℕ) → waiting u.control.pending v t ≡ waiting w.control.pending v t) → Unchanged w u es
-told-unchanged w u es events silent lists volume contents issued waits = record {
+told-unchanged w u es events silent same volume contents issued waits = record {
   events = events;
   silent = silent;
-  writes = λ n lt. ap (λ es. (histories es).write n) events ∙ ap (λ (h : Histories). h.write n) lists;
+  writes = λ n lt. ap (λ es. (histories es).write n) events ∙ ap (λ (h : Histories). h.write n) same;
   issued = λ n lt. subst (λ i. n < i + 1) (sym issued) lt;
   waits = waits;
   volume = λ v there. λ i. volume i v;
   contents = λ v there t. λ i. contents i v t;
+  lists = λ v there t. ap (λ es. lists es v t) events ∙ ap (λ (h : Histories). h.now v t) same;
+  acked = λ n h. ap (λ es. (histories es).write n) events ∙ ap (λ (h : Histories). h.write n) same;
 }
 
 pub not-unchanged : (w : World) (s : ℕ) (f : Option Fuse) → Unchanged w (not_done w s f) (Stopped s 0 ∷ [])

@@ -43,4 +43,5 @@ ends-in-cut tasks device cut on set before later first is sound v t in_set lt =
     let end : Ends v q None first last = window-ends tasks None (chain-of tasks) set before later [] first all sound v in_set in
     let fits = end.rows.parts.secondary v q end.stay.to in
     let on_last : OnDevices device last = subst (OnDevices device) (sym (last-moment tasks before later first is)) on in
-    on_last q t fits.defined (subst (λ n. t < n) (sym end.size ∙ fits.same_tracks) lt) ∙ cut set before later [] first all sound v t in_set lt
+    let held = cut set before later [] first all sound v t in_set lt in
+    (on_last q t fits.defined (subst (λ n. t < n) (sym end.size ∙ fits.same_tracks) lt) ∙ held.0, held.1)

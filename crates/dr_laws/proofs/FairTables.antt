@@ -9,7 +9,7 @@ use Rattle.dr_model.specs.declared.said.Said.{Said}
 use Rattle.dr_model.specs.declared.step.Name.{Name}
 use Rattle.dr_model.specs.declared.step.TornWord.{TornWord}
 use Rattle.dr_model.specs.Contents.{image_at}
-use Rattle.dr_model.specs.Histories.{Histories, histories}
+use Rattle.dr_model.specs.Histories.{Histories, histories, lists}
 use Rattle.dr_model.specs.Control.{Control, Pending, Volume, World, is_volume, new_volume}
 use Rattle.dr_model.specs.Carry.{carry}
 use Rattle.dr_model.specs.Plans.{Plan, tables_plan, only_says, same, name_bytes, server_done, server_refusal, volume_done, volume_refusal, link_done, issue_done, issue_refusal, with_pending, show_done, show_refusal, stop_done, arm_on, path_done, unpath_done}
@@ -113,6 +113,8 @@ module _ (w : World) (k : Between w) where
           waits = λ x t. refl;
           volume = λ x there. at_other w.control.volume v (new_volume s tracks) x (other x there);
           contents = λ x there t. refl;
+          lists = λ x there t. ap (λ (h : Histories). h.now x t) (histories-append w.events (e ∷ [])) ∙ ap (λ (f : ℕ → List ℕ). f t) (at_other (lists w.events) v (λ t. []) x (other x there));
+          acked = λ n h. ap (λ (h : Histories). h.write n) (histories-append w.events (e ∷ []));
         })
         (record {
           clean = λ x. at_cases (λ x (y : Volume). is_volume u.control x ≡ true → w.control.on y.server ≡ true → Clean y.fields) w.control.volume v (new_volume s tracks) (λ there on h t. absurd cc)
@@ -152,6 +154,8 @@ module _ (w : World) (tidy : Tidy w) (v t offset len : ℕ) (bytes : List ℕ) w
     waits = λ x q. waiting-new w.control.pending _ x q refl;
     volume = λ x there. refl;
     contents = λ x there q. refl;
+    lists = λ x there q. ap (λ (h : Histories). h.now x q) (histories-append w.events (e ∷ []));
+    acked = λ n h. ap (λ (h : Histories). h.write n) (histories-append w.events (e ∷ [])) ∙ at_other (histories w.events).write (w.control.issued + 1) _ n (λ is. false_true (tidy.fresh.later n (let h : n ≡ w.control.issued + 1 = is in omega arith)) h);
   }
 
   pub issued-tidy : Tidy issued

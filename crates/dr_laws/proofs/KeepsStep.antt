@@ -1,5 +1,6 @@
 -- A freeze window lasts from each moment of a run to the next.
 use Rattle.std.proofs.Common.{ℕ, ◌≡◌, ◌≢◌, ◌<◌, ◌+◌, ◌⊎◌, inl, inr, refl, ap, sym, ◌∙◌, subst, Bool, true, false, cond, not, ◌||◌, nat_eq, List, [], ◌∷◌, ◌++◌, filter, Option, Some, None}
+use Rattle.std.proofs.lemmas.List.{append-nil}
 use Rattle.std.proofs.lemmas.List.Sums.{fold-append}
 use Rattle.std.proofs.lemmas.Bool.{ne_eqb, eq-eqb}
 use Rattle.std.proofs.lemmas.Bool.Decides.{eqb_tells}
@@ -7,7 +8,7 @@ use Rattle.std.specs.List.{list_any, fold}
 use Rattle.std.specs.FinSet.{contains}
 use Rattle.dr_model.specs.declared.event.Event.{Event}
 use Rattle.dr_model.specs.declared.event.Event.TheVariants.{Ack, Mirrored, Stopped}
-use Rattle.dr_model.specs.Histories.{Write, Histories, histories, after_event}
+use Rattle.dr_model.specs.Histories.{Write, Histories, histories, lists, after_event}
 use Rattle.dr_model.specs.Contents.{with_write}
 use Rattle.dr_model.specs.Control.{Pending, Volume, Fuse, World, is_volume}
 use Rattle.dr_model.specs.Pairs.{is_metro}
@@ -17,7 +18,7 @@ use Rattle.dr_model.specs.Entries.{fields_at}
 use Rattle.dr_model.specs.Table.{table, waiting}
 use Rattle.dr_model.specs.Laws.{SoundRows}
 use Rattle.dr_model.specs.Allowed.{May}
-use Rattle.dr_laws.specs.Windows.{later_mirrored, is_back_to}
+use Rattle.dr_laws.specs.Windows.{later_mirrored, is_ack, is_back_to}
 use Rattle.dr_laws.proofs.AtLemmas.{Told, at_part}
 use Rattle.dr_laws.proofs.Sets.{false_true, from_source}
 use Rattle.dr_laws.proofs.Turns.{done, done_in_stop}
@@ -27,6 +28,7 @@ use Rattle.dr_laws.proofs.Unissued.{told-writes, stop-writes, with-told}
 use Rattle.dr_laws.proofs.WindowTracks.{unacked, still-waits, Stays, Holds, Window, Quiet, window-quiet, unacked-told}
 use Rattle.dr_laws.proofs.Fair.{Fair, tag_after}
 use Rattle.dr_laws.proofs.KeepsWindow.{AllSilent, locked, Deaf, deaf-silent, Else, deaf-told, deaf-stop, waits-done, waits-stop, quiet-changed}
+use Rattle.dr_laws.proofs.KeepsLists.{ListGrows, NoRestore, silent-none, grows-apart, apart-told, apart-stop}
 use Rattle.dr_laws.proofs.KeepsMirror.{off-track, on-track, acked, acked-here, just-acked, still-unacked, window-mirrored, window-landed}
 
 -- a landed write that is acknowledged: no other waits on its track
@@ -48,6 +50,8 @@ pub record Unchanged (w u : World) (es : List Event) : Type 0 where
   pub waits : (v t : ℕ) → waiting u.control.pending v t ≡ waiting w.control.pending v t
   pub volume : (v : ℕ) → is_volume w.control v ≡ true → u.control.volume v ≡ w.control.volume v
   pub contents : (v : ℕ) → is_volume w.control v ≡ true → (t : ℕ) → u.contents v t ≡ w.contents v t
+  pub lists : (v : ℕ) → is_volume w.control v ≡ true → (t : ℕ) → lists u.events v t ≡ lists w.events v t
+  pub acked : (n : ℕ) → list_any (is_ack n) w.events ≡ true → (histories u.events).write n ≡ (histories w.events).write n
 
 -- one moment of a run and the next, each with the write that goes on
 pub data Step (tag : Option ℕ) (w : World) : Option ℕ → World → Type 0 where
@@ -66,6 +70,7 @@ module _ (v q : ℕ) where
     pub events : u.events ≡ w.events ++ told
     pub size : (u.control.volume v).tracks ≡ (w.control.volume v).tracks
     pub window : Window v q next (fold (later_mirrored q) g told) u
+    pub grows : ListGrows v w u told
 
   module _ (w : World) (rows : SoundRows (table w)) (st : Stays v q w) (tag g : Option ℕ) (win : Window v q tag g w) where
     abbrev write : ℕ → Write
@@ -254,11 +259,38 @@ module _ (v q : ℕ) where
           metro = λ h. ap (λ (y : Volume). is_metro y.fields.primary) (x.volume v there_v) ∙ h;
         }
 
+    no-restore : (m : Move) → Off m → NoRestore v m
+    no-restore (Restore x t u) off = λ e. off.0 (sym e)
+    no-restore m off = tt
+
+    unchanged-list : (u : World) (es : List Event) → Unchanged w u es → ListGrows v w u es
+    unchanged-list u es x = record {
+      list = λ t. x.lists v (rows.parts.primary q v st.takes).defined t ∙ sym (append-nil (lists w.events v t)) ∙ ap (λ ns. lists w.events v t ++ ns) (sym (silent-none (histories u.events).write v t es x.silent));
+      writes = x.acked;
+    }
+
     pub window-step : (next : Option ℕ) (u : World) → Step tag w next u → Stays v q u → ((es : List Event) → u.events ≡ w.events ++ es → Backless es) → Next g next w u
     window-step _ _ (Does m f may fair) st2 back =
-        record { told = told m (w.control.volume (target m)); events = refl; size = at_part (λ (y : Volume). y.tracks) w.control.volume (target m) _ refl v; window = does-by m f may fair st2 (kind m may (off-done m (w.control.volume (target m)) (back _ refl))) }
+        let u : Volume = w.control.volume (target m) in
+        let off : Off m = off-done m u (back _ refl) in
+        record {
+          told = told m u;
+          events = refl;
+          size = at_part (λ (y : Volume). y.tracks) w.control.volume (target m) _ refl v;
+          window = does-by m f may fair st2 (kind m may off);
+          grows = grows-apart v w (done w m f) (told m u) refl (apart-told v q w rows st m may.allowed (no-restore m off) u);
+        }
     window-step _ _ (Stops m f may fair) st2 back =
         let u : Volume = w.control.volume (target m) in
-        record { told = stop-told m; events = refl; size = at_part (λ (y : Volume). y.tracks) w.control.volume (target m) _ refl v; window = stops-by m f may fair st2 (kind m may (off-stop m u u.server (landed m) (back _ refl))) }
-    window-step _ _ (Acks n a) st2 back = record { told = Ack n ∷ []; events = refl; size = refl; window = window-acked n a }
-    window-step _ _ (Passes next u es x less) st2 back = record { told = es; events = x.events; size = (unchanged u es x).size; window = window-quiet v q w u es tag g win (unchanged u es x) next less }
+        let off : Off m = off-stop m u u.server (landed m) (back _ refl) in
+        record {
+          told = stop-told m;
+          events = refl;
+          size = at_part (λ (y : Volume). y.tracks) w.control.volume (target m) _ refl v;
+          window = stops-by m f may fair st2 (kind m may off);
+          grows = grows-apart v w (done_in_stop w m f) (stop-told m) refl (apart-stop v q w rows st m may.allowed (no-restore m off) u u.server (landed m));
+        }
+    window-step _ _ (Acks n a) st2 back =
+        record { told = Ack n ∷ []; events = refl; size = refl; window = window-acked n a; grows = grows-apart v w (acknowledged w n) (Ack n ∷ []) refl (tt, tt) }
+    window-step _ _ (Passes next u es x less) st2 back =
+        record { told = es; events = x.events; size = (unchanged u es x).size; window = window-quiet v q w u es tag g win (unchanged u es x) next less; grows = unchanged-list u es x }

@@ -133,7 +133,7 @@ module _ (v q : ℕ) (w : World) (rows : SoundRows (table w)) (st : Stays v q w)
   second : is_part (fields_at w.control q).secondary ≡ true
   second = (from_source _ _ v st.takes).0
 
-  no_second : is_part (fields_at w.control v).secondary ≡ false
+  pub no_second : is_part (fields_at w.control v).secondary ≡ false
   no_second = (rows.parts.one v).one first
 
   pub no_first : {P : Type 0} → is_part (fields_at w.control q).primary ≡ true → P
@@ -146,7 +146,7 @@ module _ (v q : ℕ) (w : World) (rows : SoundRows (table w)) (st : Stays v q w)
   Ours x = (x ≡ v) ⊎ (x ≡ q)
 
   -- neither is a target
-  no-target : {P : Type 0} (x s : ℕ) → Ours x → source (T x) ≡ Some s → P
+  pub no-target : {P : Type 0} (x s : ℕ) → Ours x → source (T x) ≡ Some s → P
   no-target x s (inl e) h = none_some (unrelated_primary T rows.parts v st.to) (ap (λ j. source (T j)) (sym e) ∙ h)
   no-target x s (inr e) h = none_some (unrelated T rows.parts q st.takes) (ap (λ j. source (T j)) (sym e) ∙ h)
 

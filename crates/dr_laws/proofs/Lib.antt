@@ -41,6 +41,7 @@ pub mod Unissued
 pub mod WindowTracks
 pub mod Fair
 pub mod KeepsWindow
+pub mod KeepsLists
 pub mod KeepsMirror
 pub mod KeepsStep
 pub mod Windows

@@ -24,10 +24,11 @@ use Rattle.dr_model.specs.Table.{table, waiting}
 use Rattle.dr_model.specs.Laws.{SoundRows}
 use Rattle.dr_model.specs.Runs.{Task}
 use Rattle.dr_laws.specs.Moments.{moments_from, moments}
-use Rattle.dr_laws.specs.Windows.{LssPairs, is_in, IsSound, is_clean, stays_with, is_back_to, later_mirrored, last_mirrored, unacked_on, last_of, told_since, frozen, FreezeCut}
+use Rattle.dr_laws.specs.Windows.{LssPairs, is_in, IsSound, is_clean, stays_with, is_back_to, later_mirrored, last_mirrored, unacked_on, last_of, told_since, frozen, acked_on, IsKept, FreezeCut}
 use Rattle.dr_laws.proofs.Sets.{false_true, empty_has, from_source}
 use Rattle.dr_laws.proofs.WindowTracks.{Stays, stays, Window, window-image}
 use Rattle.dr_laws.proofs.KeepsWindow.{no_first}
+use Rattle.dr_laws.proofs.KeepsLists.{ListGrows, grows-none, grows-more}
 use Rattle.dr_laws.proofs.KeepsStep.{Step, Does, Stops, Acks, Passes, Backless, Next, window-step}
 
 -- what holds of each moment: the write that goes on is on a track that is out of sync
@@ -105,6 +106,7 @@ module _ (v q : ℕ) where
     pub stay : Stays v q x
     pub size : (x.control.volume v).tracks ≡ (w.control.volume v).tracks
     window : Window v q tag (fold (later_mirrored q) g told) x
+    grows : ListGrows v w x told
 
   abbrev Stay : World → Type 0
   Stay w = stays_with q v w.control ≡ true
@@ -124,6 +126,7 @@ module _ (v q : ℕ) where
     stay = end.stay;
     size = end.size ∙ one.size;
     window = subst (λ g. Window v q end.tag g x) (sym (fold-append (later_mirrored q) g one.told end.told)) end.window;
+    grows = grows-more v w u x one.told end.told one.events one.grows end.grows;
   }
 
   carry-on : (g next : Option ℕ) (w u x : World) → Next v q g next w u → Bare w x → ((g : Option ℕ) → Window v q next g u → Bare u x → Ends g u x) → Ends g w x
@@ -141,6 +144,7 @@ module _ (v q : ℕ) where
     stay = stays v q w (All-head Stay w [] all);
     size = refl;
     window = x;
+    grows = grows-none v w;
   }
   lasts (y ∷ ys) after _ g _ _ e (Last tag w k) x all bare = absurd cc
   lasts (y ∷ ys) after _ g _ _ e (Then tag next w u us k s c) x all bare =
@@ -204,6 +208,12 @@ module _ (tasks : List Task) (tag : Option ℕ) (chain : Chain tag nothing (mome
       window-image v q end.tag _ last end.rows end.stay end.window t (subst (λ n. t < n) (sym size) lt)
       ∙ ap (λ es. image (histories last.events).write (lists last.events v t ++ unacked_on last.events t (waiting last.control.pending v t) (last_mirrored q es))) (sym (since-told end.told end.events))
 
+  pub kept : (t : ℕ) → IsKept first last v t
+  kept t =
+      let end : Ends v q None first last = window-ends in
+      end.grows.list t ∙ ap (λ es. lists first.events v t ++ acked_on (histories last.events).write v t es) (sym (since-told end.told end.events))
+
 -- every such run keeps the law
 pub freeze-cut : (tasks : List Task) (tag : Option ℕ) → Chain tag nothing (moments_from nothing tasks) → FreezeCut tasks
-freeze-cut tasks tag chain set before later after first is sound v t in_set lt = cut tasks tag chain set before later after first is sound v in_set t lt
+freeze-cut tasks tag chain set before later after first is sound v t in_set lt =
+    (cut tasks tag chain set before later after first is sound v in_set t lt, kept tasks tag chain set before later after first is sound v in_set t)

@@ -3,7 +3,7 @@ use Rattle.std.specs.Prelude.{◌≡◌, ℕ, ◌<◌, Bool, true, false, not, �
 use Rattle.std.specs.List.{list_any, fold}
 use Rattle.dr_model.specs.declared.event.Event.{Event}
 use Rattle.dr_model.specs.declared.event.Event.TheVariants.{Ack, Mirrored, Back}
-use Rattle.dr_model.specs.Histories.{histories, lists}
+use Rattle.dr_model.specs.Histories.{Write, histories, lists}
 use Rattle.dr_model.specs.Contents.{image}
 use Rattle.dr_model.specs.Layout.{Blocks, Fields, is_part}
 use Rattle.dr_model.specs.Control.{Control, World, is_volume}
@@ -81,9 +81,23 @@ last_of w (v ∷ vs) = last_of v vs
 abbrev pub told_since : World → World → List Event
 told_since first last = drop (length first.events) last.events
 
+-- the writes on track t of volume v that these events acknowledge, in their order
+abbrev pub acked_in : (ℕ → Write) → ℕ → ℕ → Event → List ℕ
+acked_in write v t (Ack n) = if nat_eq v (write n).volume && nat_eq t (write n).track then n ∷ [] else []
+acked_in write v t _ = []
+
+abbrev pub acked_on : (ℕ → Write) → ℕ → ℕ → List Event → List ℕ
+acked_on write v t [] = []
+acked_on write v t (e ∷ es) = acked_in write v t e ++ acked_on write v t es
+
+-- Track t of v holds the host writes that it held at the first of two moments, and each that was acknowledged on it since.
+abbrev pub IsKept : World → World → ℕ → ℕ → Type 0
+IsKept first last v t = lists last.events v t ≡ lists first.events v t ++ acked_on (histories last.events).write v t (told_since first last)
+
 -- At each moment of a sound window of a run, so also where it ends with the freeze of its last pair: each track of each
 -- secondary of the set contains what the host writes make that its primary holds, and the last one that the secondary stored
--- where it wasn't acknowledged.
+-- where it wasn't acknowledged. The primary holds what it held as the window began, and each write that was
+-- acknowledged on it since; so a secondary of the set lacks none of them, nor any of them on which another depends.
 abbrev pub FreezeCut : List Task → Type 0
 FreezeCut tasks =
     (set : LssPairs) (before later after : List World) (first : World)
@@ -91,7 +105,8 @@ FreezeCut tasks =
     → let last : World = last_of first later in
     IsSound set first later (told_since first last)
     → (v t : ℕ) → is_in set first.control v ≡ true → t < (first.control.volume v).tracks
-    → last.contents (partner_of first.control v) t ≡ image (histories last.events).write (frozen last (told_since first last) (partner_of first.control v) v t)
+    → (last.contents (partner_of first.control v) t ≡ image (histories last.events).write (frozen last (told_since first last) (partner_of first.control v) v t))
+    × IsKept first last v t
 
 -- Where a sound window ends with the run, the devices contain the cut: the same of each secondary's track as its device has it.
 abbrev pub EndsInCut : List Task → (ℕ → Blocks) → Type 0
@@ -101,4 +116,5 @@ EndsInCut tasks device =
     → let last : World = last_of first later in
     IsSound set first later (told_since first last)
     → (v t : ℕ) → is_in set first.control v ≡ true → t < (first.control.volume v).tracks
-    → on_device last.control device (partner_of first.control v) t ≡ image (histories last.events).write (frozen last (told_since first last) (partner_of first.control v) v t)
+    → (on_device last.control device (partner_of first.control v) t ≡ image (histories last.events).write (frozen last (told_since first last) (partner_of first.control v) v t))
+    × IsKept first last v t
