@@ -18,7 +18,7 @@ use Rattle.dr_laws.proofs.FitsFlash.{as_begun, sound-begun, holds-entries}
 -- between two logical subsystems
 module _ (l m : ℕ) where
   -- a primary between them is one, and its server runs
-  between : (w : World) (v : ℕ) → is_between w.control l m v ≡ true → Runs w v × (is_part (fields_at w.control v).primary ≡ true)
+  pub between : (w : World) (v : ℕ) → is_between w.control l m v ≡ true → Runs w v × (is_part (fields_at w.control v).primary ≡ true)
   between w v is =
       let both = and_parts (is_running v w.control) _ (and_parts (nat_eq (subsystem v) l) _ is).1 in
       (both.0, (and_parts (is_part (fields_at w.control v).primary) _ both.1).0)

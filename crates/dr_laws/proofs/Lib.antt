@@ -58,3 +58,4 @@ pub mod FairWithin
 pub mod FairWrites
 pub mod FairSteps
 pub mod EndsInCut
+pub mod Thaws

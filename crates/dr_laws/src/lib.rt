@@ -4,12 +4,14 @@
 
 ghost use Rattle.std.specs.Prelude.{◌≡◌, ◌≢◌, ◌≤◌, ◌<◌, ℕ, Bool, List, Option, take, length};
 ghost use Rattle.dr_ids.specs.declared.refusal.Refusal.{Refusal};
+ghost use Rattle.dr_model.specs.declared.step.Devs.{Devs};
+ghost use Rattle.dr_model.specs.declared.step.Step.TheVariants as step;
 ghost use Rattle.dr_model.specs.Histories.{Write};
 ghost use Rattle.dr_model.specs.Control.{World};
 ghost use Rattle.dr_model.specs.Moves.{Move, Keep, Note, Fetch, target};
 ghost use Rattle.dr_model.specs.Carry.{carry};
-ghost use Rattle.dr_model.specs.Plans.{Plan, plan};
-ghost use Rattle.dr_model.specs.Runs.{Task, begun, after_task, after_tasks, run};
+ghost use Rattle.dr_model.specs.Plans.{Plan, plan, step_plan};
+ghost use Rattle.dr_model.specs.Runs.{Task, begun, after_plan, after_task, after_tasks, run};
 ghost use Rattle.dr_model.specs.ReadStops.{Ends};
 ghost use Rattle.dr_model.specs.Table.{Table, table};
 ghost use Rattle.dr_model.specs.Rows.{after};
@@ -80,9 +82,14 @@ pub fn journals_fit()
 
 /// At the end of a sound freeze window of a run, the secondaries of the set hold one moment of the host's writes: each track of
 /// each contains what the writes make that its primary holds then, and the last write that it stored where that wasn't
-/// acknowledged. So they hold every write that was acknowledged on the primaries of the set, and with each all that it depended
-/// on. A window is a stretch of moments at which each primary that was Full Duplex and in sync at its begin stays so, or is
-/// Suspended and long busy.
+/// acknowledged. A primary holds what it held as the window began, and every write that was acknowledged on it since, in that
+/// order. So no secondary lacks a write on which another write depends that one of them holds. A window is a stretch of
+/// moments at which each primary that was Full Duplex and in sync at its begin stays so, or is Suspended and long busy.
 pub fn freezes_leave_one_cut()
     ensures { (tasks : List Task) → FreezeCut tasks }
+{}
+
+/// A thaw changes no track, whatever it answers, and wherever a server stops in it.
+pub fn thaws_change_no_track()
+    ensures { (w : World) (line : ℕ) (devs : Devs) (l m v t : ℕ) → Sound w → (after_plan w line (step_plan w.control w.events line (step.Unfreeze devs l m))).contents v t ≡ w.contents v t }
 {}
