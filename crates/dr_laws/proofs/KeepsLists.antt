@@ -1,8 +1,8 @@
 -- From one moment of a freeze window to the next, the list of a primary grows by what is acknowledged on it alone.
-use Rattle.std.proofs.Common.{ℕ, ◌≡◌, ◌≢◌, inl, inr, refl, ap, sym, ◌∙◌, subst, Bool, true, false, cond, ◌&&◌, ◌||◌, nat_eq, List, [], ◌∷◌, ◌++◌, append_assoc, map, Some}
+use Rattle.std.proofs.Common.{ℕ, ◌≡◌, ◌≢◌, inl, inr, refl, ap, sym, ◌∙◌, Bool, true, false, cond, ◌&&◌, ◌||◌, nat_eq, List, [], ◌∷◌, ◌++◌, append_assoc, map, Some}
 use Rattle.std.proofs.lemmas.List.{append-nil}
 use Rattle.std.proofs.lemmas.List.Folds.{list_any-append}
-use Rattle.std.proofs.lemmas.Bool.{ne_eqb, eq-eqb}
+use Rattle.std.proofs.lemmas.Bool.{ne_eqb, eq-eqb, or_left, or_right}
 use Rattle.std.proofs.lemmas.Bool.Decides.{eqb_tells}
 use Rattle.std.specs.List.{list_any, fold}
 use Rattle.dr_model.specs.declared.event.Event.{Event}
@@ -100,18 +100,11 @@ acked-event : (f g : ℕ → Write) (v t : ℕ) (e : Event) → ((n : ℕ) → i
 acked-event f g v t (Ack n) same = λ i. let x : Write = same n (eq-eqb n n refl) i in cond (nat_eq v x.volume && nat_eq t x.track) (n ∷ []) []
 acked-event f g v t e same = refl
 
-or-left : (a b : Bool) → a ≡ true → (a || b) ≡ true
-or-left a b h = ap (λ a. a || b) h
-
-or-right : (a b : Bool) → b ≡ true → (a || b) ≡ true
-or-right true b h = refl
-or-right false b h = h
-
 acked-same : (f g : ℕ → Write) (v t : ℕ) (es : List Event) → ((n : ℕ) → list_any (is_ack n) es ≡ true → f n ≡ g n) → acked_on f v t es ≡ acked_on g v t es
 acked-same f g v t [] same = refl
 acked-same f g v t (e ∷ es) same =
-    let one = acked-event f g v t e (λ n h. same n (or-left (is_ack n e) (list_any (is_ack n) es) h)) in
-    let more = acked-same f g v t es (λ n h. same n (or-right (is_ack n e) (list_any (is_ack n) es) h)) in
+    let one = acked-event f g v t e (λ n h. same n (or_left (is_ack n e) (list_any (is_ack n) es) h)) in
+    let more = acked-same f g v t es (λ n h. same n (or_right (is_ack n e) (list_any (is_ack n) es) h)) in
     λ i. one i ++ more i
 
 silent-acked : (f : ℕ → Write) (v t : ℕ) (e : Event) → Silent e → acked_in f v t e ≡ []
@@ -146,12 +139,12 @@ grows-more v w u x es fs is a b =
     let told : ((n : ℕ) → list_any (is_ack n) u.events ≡ (list_any (is_ack n) w.events || list_any (is_ack n) es)) = λ n. ap (list_any (is_ack n)) is ∙ list_any-append (is_ack n) w.events es in
     record {
       list = λ t.
-        b.list t
-        ∙ (λ i. a.list t i ++ acked_on g v t fs)
-        ∙ ap (λ ns. (lists w.events v t ++ ns) ++ acked_on g v t fs) (acked-same f g v t es (λ n h. sym (b.writes n (told n ∙ or-right (list_any (is_ack n) w.events) (list_any (is_ack n) es) h))))
-        ∙ append_assoc (lists w.events v t) (acked_on g v t es) (acked_on g v t fs)
-        ∙ ap (λ ns. lists w.events v t ++ ns) (sym (acked-append g v t es fs));
-      writes = λ n h. b.writes n (told n ∙ or-left (list_any (is_ack n) w.events) (list_any (is_ack n) es) h) ∙ a.writes n h;
+          b.list t
+          ∙ (λ i. a.list t i ++ acked_on g v t fs)
+          ∙ ap (λ ns. (lists w.events v t ++ ns) ++ acked_on g v t fs) (acked-same f g v t es (λ n h. sym (b.writes n (told n ∙ or_right (list_any (is_ack n) w.events) (list_any (is_ack n) es) h))))
+          ∙ append_assoc (lists w.events v t) (acked_on g v t es) (acked_on g v t fs)
+          ∙ ap (λ ns. lists w.events v t ++ ns) (sym (acked-append g v t es fs));
+      writes = λ n h. b.writes n (told n ∙ or_left (list_any (is_ack n) w.events) (list_any (is_ack n) es) h) ∙ a.writes n h;
     }
 
 apart-blank : (v x : ℕ) (ts : List ℕ) → v ≢ x → AllApart v (map (Blanked x) ts)

@@ -3,7 +3,6 @@ use Rattle.std.proofs.Common.{ℕ, ◌≡◌, refl, ◌∙◌, Bool, true, false
 use Rattle.std.proofs.lemmas.Bool.{and_parts}
 use Rattle.dr_ids.specs.declared.refusal.Refusal.{Refusal}
 use Rattle.dr_ids.specs.declared.refusal.Kind.TheVariants.{Lss as OfLss}
-use Rattle.dr_model.specs.declared.event.Event.{Event}
 use Rattle.dr_model.specs.declared.said.Addition.TheVariants.{Alone}
 use Rattle.dr_model.specs.declared.said.Said.{Said}
 use Rattle.dr_model.specs.declared.said.Said.TheVariants.{Done, Refused}
@@ -11,16 +10,16 @@ use Rattle.dr_model.specs.declared.step.Devs.{Devs}
 use Rattle.dr_model.specs.declared.step.Step.TheVariants.{Unfreeze}
 use Rattle.dr_model.specs.Refusals.{unknown}
 use Rattle.dr_model.specs.Control.{Fuse, World}
-use Rattle.dr_model.specs.Moves.{Move, Thaw, target, tracks_after}
-use Rattle.dr_model.specs.Carry.{Act, Make, Redo, Acknowledge, Drop, EndFreeze, EndThaw, Pass, Do, Entry, carry}
+use Rattle.dr_model.specs.Moves.{Move, Thaw, tracks_after}
+use Rattle.dr_model.specs.Carry.{Act, Make, EndThaw, Pass, Do, Entry}
 use Rattle.dr_model.specs.Entries.{fields_at}
 use Rattle.dr_model.specs.WriteEntries.{is_between, thaw_on, end_thaw, thaw_entries}
-use Rattle.dr_model.specs.Plans.{Plan, entries_plan, only_says, refuses, unless, on_owner, owner_of, thaw_refusal, thaw_done, has_room, step_plan}
-use Rattle.dr_model.specs.Runs.{begun, carried_out, after_plan}
+use Rattle.dr_model.specs.Plans.{Plan, entries_plan, only_says, refuses, unless, on_owner, owner_of, thaw_refusal, has_room, step_plan}
+use Rattle.dr_model.specs.Runs.{carried_out, after_plan}
 use Rattle.dr_model.specs.Laws.{Sound}
 use Rattle.dr_model.specs.Allowed.{May, Runs}
 use Rattle.dr_laws.proofs.AtLemmas.{at_cases}
-use Rattle.dr_laws.proofs.Turns.{done, done_in_stop, not_done, place, server_of, after_act, next_of, carried_in, Writes}
+use Rattle.dr_laws.proofs.Turns.{done, not_done, place, server_of, after_act, next_of, carried_in, Writes}
 use Rattle.dr_laws.proofs.RowsAfter.{idle, bytes-after}
 use Rattle.dr_laws.proofs.KeepsSound.{keeps-sound}
 use Rattle.dr_laws.proofs.FitsFlash.{as_begun, sound-begun}
@@ -94,8 +93,14 @@ module _ (old : ℕ → ℕ → List ℕ) where
 
     leaves : (entries : List Entry) (a : Said) → along.Along Within Within Thawing (as_begun w) entries → Within (carried_out w (entries_plan entries a)).0
     leaves entries a all = along.plan-keeps Within Within Thawing keeps (λ v s. s) w (entries_plan entries a) (record {
-      inner = Within; may = Thawing; keeps = keeps; within = λ v s. s; begins = begins; entries = all;
-      follows = λ q v i. along.along-nil Within Within Thawing v i; last = λ v i. i;
+      inner = Within;
+      may = Thawing;
+      keeps = keeps;
+      within = λ v s. s;
+      begins = begins;
+      entries = all;
+      follows = λ q v i. along.along-nil Within Within Thawing v i;
+      last = λ v i. i;
     })
 
     says : (a : Said) → Within (carried_out w (only_says a)).0
