@@ -54,7 +54,7 @@ done-by w u v f c server told = pick (w.control.on (w.control.volume v).server) 
     pick true false false h = absurd (never h)
 
 nothing_else : Rest
-nothing_else = record { issued = 0; pending = []; events = [] }
+nothing_else = record { issued = 0; pending = []; sessions = []; events = [] }
 
 pub moved-by : (s u : PlantState) (t : Table) (v : ℕ) (f : Fields) (c : Carried) (server : ℕ) (told : Telling) (old now : List Event)
     → ((r : Rest) → made_by (update (seen s t r old) v f c) server told ≡ (seen u t r now, None)) → IsMoved s u t v f c

@@ -5,6 +5,7 @@ use Rattle.dr_ids.specs.Paths.{Path}
 use Rattle.dr_model.specs.declared.event.Event.{Event}
 use Rattle.dr_model.specs.Contents.{zeros}
 use Rattle.dr_model.specs.Layout.{Fields, no_fields}
+use Rattle.dr_model.specs.Sessions.{Session}
 
 -- how many writes of a server still pass, and what the next one leaves in its block: None for what stood there
 pub record Fuse : Type 0 where
@@ -32,7 +33,7 @@ new_volume server tracks = record { server = server; tracks = tracks; slot = fal
 
 -- servers and volumes in order of definition (a server's number is its place), which servers are on, their
 -- fuses, which links between them are up, the paths between logical subsystems, each volume, how many writes were issued, and those that are pending, in
--- order of issue
+-- order of issue, and the sessions
 pub record Control : Type 0 where
   pub servers : List (List ℕ)
   pub on : ℕ → Bool
@@ -43,6 +44,7 @@ pub record Control : Type 0 where
   pub volume : ℕ → Volume
   pub issued : ℕ
   pub pending : List Pending
+  pub sessions : List Session
 
 abbrev pub no_control : Control
 no_control = record {
@@ -55,6 +57,7 @@ no_control = record {
   volume = λ v. new_volume 0 0;
   issued = 0;
   pending = [];
+  sessions = [];
 }
 
 -- the volume is defined

@@ -6,6 +6,7 @@ use Rattle.dr_model.specs.Control.{Control, World, nothing}
 use Rattle.dr_model.specs.Carry.{Outcome, carry, follow}
 use Rattle.dr_model.specs.declared.said.Said.{Said}
 use Rattle.dr_model.specs.declared.said.Said.TheVariants.{Refused}
+use Rattle.dr_model.specs.Sessions.{lost_since}
 use Rattle.dr_model.specs.Answers.{answer}
 use Rattle.dr_model.specs.Plans.{Plan, plan}
 use Rattle.dr_model.specs.declared.step.Step.{Step}
@@ -40,8 +41,12 @@ said w line a = record w { events = w.events ++ answer line a ∷ [] }
 unfoldable pub after_plan : World → ℕ → Plan → World
 after_plan w line p = said (carried_out w p).0 line (answered p (carried_out w p).0.control (carried_out w p).1)
 
+-- the masters whose servers went off in a step are lost as it ends
+abbrev pub masters_lost : World → World → World
+masters_lost w u = record u { control = record u.control { sessions = lost_since w.control.on u.control.on u.control.sessions } }
+
 abbrev pub after_task : World → Task → World
-after_task w t = after_plan w t.line (plan w.control w.events t.line t.asked)
+after_task w t = masters_lost w (after_plan w t.line (plan w.control w.events t.line t.asked))
 
 -- the world after steps in order
 unfoldable pub after_tasks : World → List Task → World

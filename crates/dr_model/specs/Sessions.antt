@@ -1,5 +1,5 @@
 -- The sessions, in order of definition, and the calls on their table.
-use Rattle.std.specs.Prelude.{ℕ, Bool, false, not, max, ◌≡◌, IsTrue, ◌+◌, ◌/◌, ◌==◌, ◌||◌, nat_le, nat_lt, length, List, [], ◌∷◌, ◌++◌, filter, Option, Some, None, option_map, if◌then◌else◌}
+use Rattle.std.specs.Prelude.{ℕ, Bool, false, not, max, ◌≡◌, IsTrue, ◌+◌, ◌/◌, ◌==◌, ◌&&◌, ◌||◌, map, nat_le, nat_lt, length, List, [], ◌∷◌, ◌++◌, filter, Option, Some, None, option_map, if◌then◌else◌}
 use Rattle.std.specs.List.{find, list_any, list_all}
 use Rattle.std.specs.Option.{option_or}
 use Rattle.dr_ids.specs.declared.names.Lss.{Lss}
@@ -141,6 +141,13 @@ mirror_lost server r = if r.server == server then record r { master = master.los
 -- the server has stopped: a master that it runs is lost
 abbrev pub lost_with : ℕ → Session → Session
 lost_with server x = with_mirror (mirror_lost server) x
+
+-- the masters whose servers were on, by the first test, and are off now, by the second, are lost
+abbrev pub mirror_lost_since : (ℕ → Bool) → (ℕ → Bool) → Mirror → Mirror
+mirror_lost_since before now r = if before r.server && not (now r.server) then record r { master = master.lost r.master } else r
+
+abbrev pub lost_since : (ℕ → Bool) → (ℕ → Bool) → List Session → List Session
+lost_since before now ss = map (with_mirror (mirror_lost_since before now)) ss
 
 -- one logical subsystem more, or less
 abbrev pub joined_by : ℕ → Session → Session

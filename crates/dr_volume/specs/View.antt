@@ -8,13 +8,15 @@ use Rattle.dr_config.specs.Table.{Table, place_of, link_up}
 use Rattle.dr_config.specs.declared.entries.VolumeEntry.{VolumeEntry}
 use Rattle.dr_model.specs.declared.event.Event.{Event}
 use Rattle.dr_model.specs.Contents.{zeros}
+use Rattle.dr_model.specs.Sessions.{Session}
 use Rattle.dr_model.specs.Layout.{Blocks, slot_chosen, fields, staged, physical, chosen}
 use Rattle.dr_model.specs.Control.{Control, Fuse, Pending, Volume, World, new_volume}
 
--- what a run knows beside the plant and the configuration: the writes issued and pending, and the journal
+-- what a run knows beside the plant and the configuration: the writes issued and pending, the sessions, and the journal
 pub record Rest : Type 0 where
   pub issued : ℕ
   pub pending : List Pending
+  pub sessions : List Session
   pub events : List Event
 
 abbrev pub torn_seen : Torn → Option (List ℕ)
@@ -77,6 +79,7 @@ control_seen s t r = record {
   volume = volume_seen s t;
   issued = r.issued;
   pending = r.pending;
+  sessions = r.sessions;
 }
 
 abbrev pub world : PlantState → Table → Rest → World

@@ -27,7 +27,7 @@ returns-then-is_enough-clause-count g c =
 
 pub returns-then-is_enough-clause-room : goal.returns-then-is_enough-clause-room
 returns-then-is_enough-clause-room g c =
-    let h = c.requires.room c.loop-sent.sent (record { issued = 0; pending = []; events = [] }) (seen (g.P.Plant.state c.loop-sent.p) c.args.c.now (record { issued = 0; pending = []; events = [] }) c.loop-sent.j.events) (c.loop-sent.invariant.led (record { issued = 0; pending = []; events = [] })) in
+    let h = c.requires.room c.loop-sent.sent (record { issued = 0; pending = []; sessions = []; events = [] }) (seen (g.P.Plant.state c.loop-sent.p) c.args.c.now (record { issued = 0; pending = []; sessions = []; events = [] }) c.loop-sent.j.events) (c.loop-sent.invariant.led (record { issued = 0; pending = []; sessions = []; events = [] })) in
     let sum = c.loop-sent.invariant.spare in
     omega (arith, h, sum)
 
@@ -45,7 +45,7 @@ returns-in_default-clause-count g c =
 
 pub returns-in_default-clause-room : goal.returns-in_default-clause-room
 returns-in_default-clause-room g c =
-    let h = c.requires.room c.loop-sent.sent (record { issued = 0; pending = []; events = [] }) (seen (g.P.Plant.state c.loop-sent.p) c.args.c.now (record { issued = 0; pending = []; events = [] }) c.loop-sent.j.events) (c.loop-sent.invariant.led (record { issued = 0; pending = []; events = [] })) in
+    let h = c.requires.room c.loop-sent.sent (record { issued = 0; pending = []; sessions = []; events = [] }) (seen (g.P.Plant.state c.loop-sent.p) c.args.c.now (record { issued = 0; pending = []; sessions = []; events = [] }) c.loop-sent.j.events) (c.loop-sent.invariant.led (record { issued = 0; pending = []; sessions = []; events = [] })) in
     let sum = c.loop-sent.invariant.spare in
     omega (arith, h, sum)
 
@@ -64,13 +64,13 @@ returns-clause-count g c =
 
 pub returns-clause-room : goal.returns-clause-room
 returns-clause-room g c =
-    let h = c.requires.room c.loop-sent.sent (record { issued = 0; pending = []; events = [] }) (seen (g.P.Plant.state c.loop-sent.p) c.args.c.now (record { issued = 0; pending = []; events = [] }) c.loop-sent.j.events) (c.loop-sent.invariant.led (record { issued = 0; pending = []; events = [] })) in
+    let h = c.requires.room c.loop-sent.sent (record { issued = 0; pending = []; sessions = []; events = [] }) (seen (g.P.Plant.state c.loop-sent.p) c.args.c.now (record { issued = 0; pending = []; sessions = []; events = [] }) c.loop-sent.j.events) (c.loop-sent.invariant.led (record { issued = 0; pending = []; sessions = []; events = [] })) in
     let sum = c.loop-sent.invariant.spare in
     omega (arith, h, sum)
 
 pub send_to-requires-clause-room : goal.send_to-requires-clause-room
 send_to-requires-clause-room g c =
-    let h = c.requires.room c.loop-sent.sent (record { issued = 0; pending = []; events = [] }) (seen (g.P.Plant.state c.loop-sent.p) c.args.c.now (record { issued = 0; pending = []; events = [] }) c.loop-sent.j.events) (c.loop-sent.invariant.led (record { issued = 0; pending = []; events = [] })) in
+    let h = c.requires.room c.loop-sent.sent (record { issued = 0; pending = []; sessions = []; events = [] }) (seen (g.P.Plant.state c.loop-sent.p) c.args.c.now (record { issued = 0; pending = []; sessions = []; events = [] }) c.loop-sent.j.events) (c.loop-sent.invariant.led (record { issued = 0; pending = []; sessions = []; events = [] })) in
     let sum = c.loop-sent.invariant.spare in
     omega (arith, h, sum)
 
@@ -94,7 +94,7 @@ returns-in_err-send_to-clause-carried g c r =
 
 pub returns-in_err-send_to-clause-room : goal.returns-in_err-send_to-clause-room
 returns-in_err-send_to-clause-room g c =
-    let h = c.requires.room c.loop-sent.sent (record { issued = 0; pending = []; events = [] }) (seen (g.P.Plant.state c.loop-sent.p) c.args.c.now (record { issued = 0; pending = []; events = [] }) c.loop-sent.j.events) (c.loop-sent.invariant.led (record { issued = 0; pending = []; events = [] })) in
+    let h = c.requires.room c.loop-sent.sent (record { issued = 0; pending = []; sessions = []; events = [] }) (seen (g.P.Plant.state c.loop-sent.p) c.args.c.now (record { issued = 0; pending = []; sessions = []; events = [] }) c.loop-sent.j.events) (c.loop-sent.invariant.led (record { issued = 0; pending = []; sessions = []; events = [] })) in
     let sum = c.loop-sent.invariant.spare in
     let left = c.in_err-send_to.ensures.room in
     omega (arith, h, sum, left)

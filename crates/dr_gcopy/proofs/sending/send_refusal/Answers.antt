@@ -17,5 +17,5 @@ returns-clause-refusal g c r events =
 
 pub returns-clause-reached : goal.returns-clause-reached
 returns-clause-reached g c =
-    let r : Rest = record { issued = 0; pending = []; events = [] } in
+    let r : Rest = record { issued = 0; pending = []; sessions = []; events = [] } in
     none-always c.stranger_refusal.result (on-of-seen (g.P.Plant.state c.args.p.now) (volume_seen (g.P.Plant.state c.args.p.now) c.args.c.now c.args.b.0).server (low-server (g.P.Plant.state c.args.p.now) c.args.c.now c.args.b.0 c.requires.stands c.requires.to) (reached-on c.args.a.0 c.args.b.0 (seen (g.P.Plant.state c.args.p.now) c.args.c.now r []).control (sym (c.in_default.ensures.refusal r []))))
