@@ -1,13 +1,15 @@
 -- What each kind of move asks of the table where it comes, and of the writes that wait.
-use Rattle.std.specs.Prelude.{◌≡◌, ◌≢◌, ◌<◌, ◌+◌, ℕ, Bool, true, false, [], ◌∷◌, length, map, filter, Some, None}
+use Rattle.std.specs.Prelude.{◌≡◌, ◌≢◌, ◌<◌, ◌≤◌, ◌+◌, ℕ, Bool, true, false, [], ◌∷◌, length, map, filter, Some, None}
 use Rattle.std.specs.FinSet.{contains}
 use Rattle.dr_model.specs.Limits.{most_targets}
 use Rattle.dr_model.specs.Histories.{Write, histories}
 use Rattle.dr_model.specs.Contents.{with_write}
 use Rattle.dr_model.specs.Control.{Pending, Control, World}
 use Rattle.dr_model.specs.declared.state.Part.{Part}
+use Rattle.dr_model.specs.declared.state.Part.TheVariants.{Global}
 use Rattle.dr_model.specs.Layout.{is_part}
-use Rattle.dr_model.specs.Moves.{Move, Land, Overwrite, Keep, Note, Relate, Withdraw, Fetch, Resync, Reverse, Restore, Release, Store, Strike, Suspend, MakeSecondary, MakePrimary, DropPrimary, DropSecondary, Follow, Resume, TakeOver, Unsync, Mirror, LandBoth, Thaw, Lift, Restart, target, is_write}
+use Rattle.dr_model.specs.Moves.{Move, Land, Overwrite, Keep, Note, Relate, Withdraw, Fetch, Resync, Reverse, Restore, Release, Store, Strike, Suspend, MakeSecondary, MakePrimary, DropPrimary, DropSecondary, Follow, Resume, TakeOver, Unsync, Mirror, LandBoth, Thaw, Lift, Restart, Hold, Free, Seal, Finish, RaiseAttempt, RaiseFloor, Leave, target, is_write}
+use Rattle.dr_model.specs.Pairs.{is_metro, is_kind, is_pending, is_suspended, records}
 use Rattle.dr_model.specs.Entries.{targets_of}
 use Rattle.dr_model.specs.Table.{Table, table}
 use Rattle.dr_model.specs.Laws.{source, its_primary, its_secondary, fields, servers, AllPending}
@@ -18,13 +20,16 @@ pub record Kept (T : Table) (v t : ℕ) : Type 0 where
   pub own : (u : ℕ) → source (T u) ≡ Some v → contains (fields T u).own t ≡ true
   pub noted : (u : ℕ) → source (T u) ≡ Some v → (fields T u).recorded ≡ true → (fields T u).reversing ≡ false → contains (fields T u).source_changes t ≡ true
 
--- a host write lands on a track of a volume that is no target and no secondary
+-- a host write lands on a track of a volume that is no target and no secondary, and that coordination doesn't hold; where it
+-- records, the track has been sent
 pub record MayLand (T : Table) (v t : ℕ) : Type 0 where
   pub low : t < (T v).volume.tracks
   pub defined : (T v).defined ≡ true
   pub plain : source (T v) ≡ None
   pub first : is_part (fields T v).secondary ≡ false
   pub kept : Kept T v t
+  pub free : (fields T v).coordination ≡ false
+  pub sent : (fields T v).recording ≡ true → contains (fields T v).out_of_sync t ≡ false
 
 -- or of a target that isn't restored onto its source
 pub record MayOverwrite (T : Table) (v t : ℕ) : Type 0 where
@@ -103,8 +108,9 @@ pub record MayStore (T : Table) (v t u : ℕ) : Type 0 where
   pub takes : its_primary (T v) ≡ Some u
   pub kept : Kept T v t
 
--- the secondary of v has what v strikes off
-pub record MayStrike (T : Table) (v t : ℕ) : Type 0 where
+-- the secondary of v has what v strikes off; the last track is one of a Metro Mirror pair
+pub record MayStrike (T : Table) (v t : ℕ) (last : Bool) : Type 0 where
+  pub metro : last ≡ true → is_metro (fields T v).primary ≡ true
   pub to : ℕ
   pub sends : its_secondary (T v) ≡ Some to
   pub equal : (T to).bytes t ≡ (T v).bytes t
@@ -157,6 +163,30 @@ IsPrimary T v = is_part (fields T v).primary ≡ true
 abbrev pub IsSecondary : Table → ℕ → Type 0
 IsSecondary T v = is_part (fields T v).secondary ≡ true
 
+-- a Suspended primary goes on
+pub record MayResume (T : Table) (v : ℕ) : Type 0 where
+  pub first : is_part (fields T v).primary ≡ true
+  pub waits : is_suspended (fields T v).primary_state ≡ true
+
+-- a Global Copy primary in Copy Pending, which doesn't record, is held for a newer attempt than all of its own
+pub record MayHold (T : Table) (v n : ℕ) : Type 0 where
+  pub global : is_kind Global (fields T v).primary ≡ true
+  pub pending : is_pending (fields T v).primary_state ≡ true
+  pub idle : (fields T v).recording ≡ false
+  pub newer : (fields T v).attempt < n
+
+-- secondary v is sealed for an attempt that its primary u records, which has nothing left to send
+pub record MaySeal (T : Table) (v u n : ℕ) : Type 0 where
+  pub sends : its_secondary (T u) ≡ Some v
+  pub takes : its_primary (T v) ≡ Some u
+  pub records : records n (fields T u) ≡ true
+  pub drained : (t : ℕ) → contains (fields T u).out_of_sync t ≡ false
+
+-- a volume that doesn't record has no attempts up to n any more, which is not lower than its own
+pub record MayRaise (T : Table) (v n : ℕ) : Type 0 where
+  pub idle : (fields T v).recording ≡ false
+  pub higher : (fields T v).attempt ≤ n
+
 abbrev pub Allowed : (ℕ → Write) → Table → Move → Type 0
 Allowed write T (Land n v t) = MayLand T v t
 Allowed write T (Overwrite n v t) = MayOverwrite T v t
@@ -170,14 +200,14 @@ Allowed write T (Reverse v) = MayReverse T v
 Allowed write T (Restore v t u) = MayRestore T v t u
 Allowed write T (Release v t) = MayRelease T v t
 Allowed write T (Store v t u last) = MayStore T v t u
-Allowed write T (Strike v t last) = MayStrike T v t
+Allowed write T (Strike v t last) = MayStrike T v t last
 Allowed write T (Suspend v busy) = IsPrimary T v
 Allowed write T (MakeSecondary v u kind state) = MayMakeSecondary T v u kind
 Allowed write T (MakePrimary v u kind state full) = MayMakePrimary T v u kind full
 Allowed write T (DropPrimary v) = IsPrimary T v
 Allowed write T (DropSecondary v) = IsSecondary T v
 Allowed write T (Follow v state) = IsSecondary T v
-Allowed write T (Resume v state) = IsPrimary T v
+Allowed write T (Resume v state) = MayResume T v
 Allowed write T (TakeOver v) = IsSecondary T v
 Allowed write T (Unsync v t) = MayUnsync T v t
 Allowed write T (Mirror v t u n) = MayMirror T v t u
@@ -185,6 +215,13 @@ Allowed write T (LandBoth n v t) = MayLandBoth write T n v t
 Allowed write T (Thaw v) = Unit {0}
 Allowed write T (Lift v) = Unit {0}
 Allowed write T (Restart v) = Unit {0}
+Allowed write T (Hold v s n first) = MayHold T v n
+Allowed write T (Free v) = Unit {0}
+Allowed write T (Seal v u s n) = MaySeal T v u n
+Allowed write T (Finish v n) = Unit {0}
+Allowed write T (RaiseAttempt v n) = MayRaise T v n
+Allowed write T (RaiseFloor v n) = Unit {0}
+Allowed write T (Leave v u s) = Unit {0}
 
 -- no write has landed on a volume of v's server
 abbrev pub Idle : World → ℕ → Type 0

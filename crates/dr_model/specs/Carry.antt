@@ -8,7 +8,8 @@ use Rattle.dr_model.specs.Refusals.{stopped}
 use Rattle.dr_model.specs.Histories.{histories}
 use Rattle.dr_model.specs.Layout.{Fields, byte, bit}
 use Rattle.dr_model.specs.Control.{Control, Fuse, Volume, World}
-use Rattle.dr_model.specs.Moves.{Move, Carried, target, next_fields, carried, told, told_in_stop, landed, settled, settled_in_stop, updated, is_other}
+use Rattle.dr_model.specs.Sessions.{changed, begun}
+use Rattle.dr_model.specs.Moves.{Move, Hold, Carried, target, next_fields, carried, told, told_in_stop, landed, settled, settled_in_stop, updated, is_other}
 use Rattle.dr_model.specs.declared.event.Event.TheVariants.{Ack, Stopped, Frozen, Thawed}
 
 -- a move writes the six blocks of the slot that isn't chosen, then the gate, then the carried track's own block
@@ -146,10 +147,20 @@ frozen w l m = record w {
 abbrev pub thawed : World → ℕ → ℕ → World
 thawed w l m = record w { events = w.events ++ Thawed l m ∷ [] }
 
--- What a step does in turn: a move; a volume's staged track is written to its place; and what takes no device write: a
--- write that landed in a stop is acknowledged, a pending write is dropped, a freeze or a thaw ends.
+-- the first hold of an attempt: where it counts as done, so that the volume's other slot is chosen, the session's next attempt
+-- has begun
+abbrev pub attempt_begun : World → ℕ → World
+attempt_begun w s = record w { control = record w.control { sessions = changed s begun w.control.sessions } }
+
+abbrev pub opened_by : World → ℕ → ℕ → Turn → Turn
+opened_by w v s t = (if equal (w.control.volume v).slot (t.0.control.volume v).slot then t.0 else attempt_begun t.0 s, t.1)
+
+-- What a step does in turn: a move; a move that begins an attempt of a session; a volume's staged track is written to its place;
+-- and what takes no device write: a write that landed in a stop is acknowledged, a pending write is dropped, a freeze or a thaw
+-- ends.
 pub data Act : Type 0 where
   Make : Move → Act
+  OpenAttempt : (v s n : ℕ) → Act
   Redo : (v : ℕ) → Act
   Acknowledge : (w : ℕ) → Act
   Drop : (w : ℕ) → Act
@@ -158,6 +169,7 @@ pub data Act : Type 0 where
 
 unfoldable pub act : World → Act → Turn
 act w (Make m) = turn w m
+act w (OpenAttempt v s n) = opened_by w v s (turn w (Hold v s n true))
 act w (Redo v) = redo_ended w v (redo w v)
 act w (Acknowledge n) = (acknowledged w n, None)
 act w (Drop n) = (dropped w n, None)

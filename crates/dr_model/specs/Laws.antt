@@ -10,7 +10,10 @@ use Rattle.dr_model.specs.Limits.{most_targets}
 use Rattle.dr_model.specs.Control.{Pending, Control, World, is_volume}
 use Rattle.dr_model.specs.Views.{source_of, view}
 use Rattle.dr_model.specs.Relations.{is_bare}
-use Rattle.dr_model.specs.Pairs.{primary_of, secondary_of}
+use Rattle.dr_model.specs.declared.state.Part.{Part}
+use Rattle.dr_model.specs.declared.state.Part.TheVariants.{Global}
+use Rattle.dr_model.specs.declared.state.PairState.{PairState}
+use Rattle.dr_model.specs.Pairs.{primary_of, secondary_of, is_kind, is_pending}
 use Rattle.dr_model.specs.Entries.{is_at, targets_of}
 use Rattle.dr_model.specs.Table.{Row, Table, table}
 
@@ -123,6 +126,24 @@ pub record Parts (T : Table) : Type 0 where
   pub one_way : Linked its_primary OneWay T
   pub free : Linked source FreeSource T
 
+-- Recorders: what is recorded for an attempt. A primary that coordination holds records; one that records is a Global Copy
+-- primary in Copy Pending; and where none does, nothing has changed since.
+pub record Records (kind : Part) (state : PairState) (held recording : Bool) (changed : Tracks) : Type 0 where
+  pub holds : held ≡ true → recording ≡ true
+  pub global : recording ≡ true → is_kind Global kind ≡ true
+  pub pending : recording ≡ true → is_pending state ≡ true
+  pub none : recording ≡ false → (t : ℕ) → contains changed t ≡ false
+
+abbrev pub RowRecords : Row → Type 0
+RowRecords r = Records r.volume.fields.primary r.volume.fields.primary_state r.volume.fields.coordination r.volume.fields.recording r.volume.fields.change_recording
+
+abbrev pub Recorders : Table → Type 0
+Recorders = Each (λ v r. RowRecords r)
+
+-- no relationship is revertible yet
+abbrev pub AllFinal : Table → Type 0
+AllFinal = Each (λ v r. r.volume.fields.revertible ≡ false)
+
 -- The pair law. Two volumes are a pair where one is the primary of the other, which is its secondary, or where each is
 -- a primary of the other. Outside the tracks that those of them record which are primaries, both contain the same.
 abbrev pub unsent : Row → ℕ → Bool
@@ -231,6 +252,8 @@ pub record SoundRows (T : Table) : Type 0 where
   pub parts : Parts T
   pub images : Images T
   pub recorded : Recorded T
+  pub recorders : Recorders T
+  pub final : AllFinal T
   pub pairs : PairLaw T
 
 -- Targets: no volume is defined twice, and none has more than 12 targets.

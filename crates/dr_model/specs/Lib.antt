@@ -18,6 +18,9 @@ pub mod Answers
 pub mod Entries
 pub mod PairEntries
 pub mod WriteEntries
+pub mod PlanParts
+pub mod SessionEntries
+pub mod SessionPlans
 pub mod Plans
 pub mod Runs
 pub mod Text

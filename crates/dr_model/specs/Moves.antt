@@ -8,12 +8,12 @@ use Rattle.dr_model.specs.Contents.{zeros, with_write}
 use Rattle.dr_model.specs.Layout.{Tracks, Fields}
 use Rattle.dr_model.specs.declared.state.Part.{Part}
 use Rattle.dr_model.specs.declared.state.PairState.{PairState}
-use Rattle.dr_model.specs.Pairs.{altered, is_suspended, suspended, made_secondary, made_primary, no_primary, no_secondary, received, struck, resumed, taken_over, unsynced, mirrored, synced, thawed, lifted, restarted}
+use Rattle.dr_model.specs.Pairs.{altered, written, held_for, freed, sealed, past_attempt, with_attempt, with_floor, no_member, is_suspended, suspended, made_secondary, made_primary, no_primary, no_secondary, received, struck, resumed, taken_over, unsynced, mirrored, synced, thawed, lifted, restarted}
 use Rattle.dr_model.specs.Views.{view}
 use Rattle.dr_model.specs.Control.{Pending, Volume, World}
 use Rattle.dr_model.specs.Relations.{Choices, rest, in_order, is_bare, closed, fetched, noted, rewritten, made, withdrawn_if, resynced, turned, given_up, restored}
 use Rattle.dr_model.specs.declared.event.Event.{Event}
-use Rattle.dr_model.specs.declared.event.Event.TheVariants.{Ack, Set, Copied, Back, Blanked, Restored, Sent, Mirrored, Suspended, TakenOver}
+use Rattle.dr_model.specs.declared.event.Event.TheVariants.{Ack, Set, Copied, Back, Blanked, Restored, Sent, Mirrored, Suspended, TakenOver, Begin, Cut, Sealed, Left}
 
 pub data Move : Type 0 where
   -- host write w lands on track t of volume v, which is no target; of a primary the track is out of sync from then on
@@ -67,6 +67,19 @@ pub data Move : Type 0 where
   Lift : (v : ℕ) → Move
   -- v goes on after a stop
   Restart : (v : ℕ) → Move
+  -- primary v is held for attempt n of session s, maybe as the first of its members
+  Hold : (v s n : ℕ) (first : Bool) → Move
+  -- primary v, which is held, is let go
+  Free : (v : ℕ) → Move
+  -- secondary v of u is sealed for attempt n of session s
+  Seal : (v u s n : ℕ) → Move
+  -- attempt n is over for primary v
+  Finish : (v n : ℕ) → Move
+  -- no attempt up to n is made with primary v any more, nor flashed on target v
+  RaiseAttempt : (v n : ℕ) → Move
+  RaiseFloor : (v n : ℕ) → Move
+  -- target v is no longer one of session s, whose member u is the primary of
+  Leave : (v u s : ℕ) → Move
 
 -- the volume whose record the move updates
 abbrev pub target : Move → ℕ
@@ -97,10 +110,17 @@ target (LandBoth w v t) = v
 target (Thaw v) = v
 target (Lift v) = v
 target (Restart v) = v
+target (Hold v s n first) = v
+target (Free v) = v
+target (Seal v u s n) = v
+target (Finish v n) = v
+target (RaiseAttempt v n) = v
+target (RaiseFloor v n) = v
+target (Leave v u s) = v
 
 -- the fields that the move leaves there
 abbrev pub fields_left : Move → Volume → Fields
-fields_left (Land w v t) u = altered u.fields t
+fields_left (Land w v t) u = written u.fields t
 fields_left (Overwrite w v t) u = closed u.tracks (rewritten (fetched u.fields t) t)
 fields_left (Keep v t) u = closed u.tracks (noted (fetched u.fields t) t)
 fields_left (Note v t) u = noted u.fields t
@@ -127,6 +147,13 @@ fields_left (LandBoth w v t) u = synced u.fields t
 fields_left (Thaw v) u = thawed u.fields
 fields_left (Lift v) u = lifted u.fields
 fields_left (Restart v) u = restarted u.fields
+fields_left (Hold v s n first) u = held_for n u.fields
+fields_left (Free v) u = freed u.fields
+fields_left (Seal v a s n) u = sealed n u.fields
+fields_left (Finish v n) u = past_attempt n u.fields
+fields_left (RaiseAttempt v n) u = with_attempt n u.fields
+fields_left (RaiseFloor v n) u = with_floor n u.fields
+fields_left (Leave v a s) u = no_member u.fields
 
 -- by the fields of all volumes before it
 abbrev pub next_fields : Move → (ℕ → Volume) → Fields
@@ -173,6 +200,9 @@ told (Suspend v busy) u = if is_suspended u.fields.primary_state then [] else Su
 told (TakeOver v) u = TakenOver v ∷ []
 told (Mirror v t from n) u = Mirrored n v ∷ []
 told (LandBoth n v t) u = Ack n ∷ []
+told (Hold v s n first) u = if first then Begin s n ∷ Cut s n v ∷ [] else Cut s n v ∷ []
+told (Seal v a s n) u = Sealed s n a ∷ []
+told (Leave v a s) u = Left s a ∷ []
 told _ u = []
 
 -- what it is told where the server stopped in a move that counts as done: a write is acknowledged at the next start

@@ -1,5 +1,5 @@
 -- Pairs: what the fields of a primary and of a secondary become, and what they say.
-use Rattle.std.specs.Prelude.{ℕ, Bool, true, false, not, ◌&&◌, ◌||◌, Option, Some, None, nat_eq, if◌then◌else◌}
+use Rattle.std.specs.Prelude.{ℕ, max, Bool, true, false, not, ◌&&◌, ◌||◌, Option, Some, None, nat_eq, if◌then◌else◌}
 use Rattle.std.specs.FinSet.{union, insert, remove, contains, empty}
 use Rattle.dr_ids.specs.declared.refusal.PairSeen.{PairSeen}
 use Rattle.dr_ids.specs.declared.refusal.PairSeen.TheVariants as seen
@@ -77,6 +77,15 @@ parted_track f t = record f { out_of_sync = if is_part f.primary then insert f.o
 -- a volume's track t has new bytes
 abbrev pub altered : Fields → ℕ → Fields
 altered f t = record (parted_track f t) { blank = remove f.blank t }
+
+-- A host write lands on track t of a volume. Of a primary that records, the track has changed since it began to; of any other
+-- primary it is out of sync.
+abbrev pub written : Fields → ℕ → Fields
+written f t = record f {
+  out_of_sync = if is_part f.primary && not f.recording then insert f.out_of_sync t else f.out_of_sync;
+  change_recording = if is_part f.primary && f.recording then insert f.change_recording t else f.change_recording;
+  blank = remove f.blank t;
+}
 
 -- A void: what changed while it recorded is out of sync too, and it neither records nor is held by coordination. So
 -- nothing changes where it does neither.
@@ -188,6 +197,39 @@ must_restart f = is_engaged f || is_torn f
 
 abbrev pub restarted : Fields → Fields
 restarted f = record (voided f) { primary_state = if is_torn f then CopyPending else f.primary_state }
+
+-- a host write on track t collides: a Global Copy primary records, and still has to send what the track was as it began to
+abbrev pub collides : Fields → ℕ → Bool
+collides f t = is_kind Global f.primary && (f.recording && contains f.out_of_sync t)
+
+-- a primary records attempt n
+abbrev pub records : ℕ → Fields → Bool
+records n f = f.recording && nat_eq f.attempt n
+
+-- It is held for attempt n, and from then on what is out of sync and what changes since stand apart. It is let go again. Its
+-- secondary is sealed for n. And the attempt is over: the two sets are one again, and no attempt up to n is made any more.
+abbrev pub held_for : ℕ → Fields → Fields
+held_for n f = record f { coordination = true; recording = true; attempt = n; change_recording = empty }
+
+abbrev pub freed : Fields → Fields
+freed f = record f { coordination = false }
+
+abbrev pub sealed : ℕ → Fields → Fields
+sealed n f = record f { seal = n }
+
+abbrev pub past_attempt : ℕ → Fields → Fields
+past_attempt n f = record (voided f) { attempt = max f.attempt n }
+
+-- no attempt up to n is made with a volume, or flashed on it, any more
+abbrev pub with_attempt : ℕ → Fields → Fields
+with_attempt n f = record f { attempt = n }
+
+abbrev pub with_floor : ℕ → Fields → Fields
+with_floor n f = record f { floor = n }
+
+-- a target is a member's no more
+abbrev pub no_member : Fields → Fields
+no_member f = record f { member = false; session = 0 }
 
 -- a secondary becomes a Suspended primary of its primary, with no track out of sync
 abbrev pub taken_over : Fields → Fields

@@ -21,7 +21,9 @@ use Rattle.dr_model.specs.Carry.{Entry, Next, Pass, Do, Acknowledge, now, check}
 use Rattle.dr_model.specs.Pairs.{is_unpaired}
 use Rattle.dr_model.specs.Entries.{fields_at, is_running, running_check, is_at, subsystem, first_of, share_server, share_size, is_no_target, copies_from, targets_of, stands_in, is_any, relation_state, pair_state, is_no_secondary, takes_back, times, fetch_next, give_back}
 use Rattle.dr_model.specs.PairEntries.{make_entries, remove_entries, pause_entries, resume_entries, is_copying, tracks_to_send, sends, suspend_after, link_down, first_active, first_differing}
-use Rattle.dr_model.specs.WriteEntries.{landing, says_written, part_after, belongs, start_entries, lift_on, freeze_entries, thaw_entries}
+use Rattle.dr_model.specs.WriteEntries.{landing, says_written, after_write, belongs, start_entries, lift_on, freeze_entries, thaw_entries}
+pub use Rattle.dr_model.specs.PlanParts.{Plan, same, none_follow, always, tables_plan, only_says, refuses, name_bytes, server_named, on_named, on_server, unless, entries_plan, is_owner, is_defined, is_named, owner_of, on_owner, on_session}
+use Rattle.dr_model.specs.SessionPlans.{join_plan, leave_plan, add_plan, expel_plan, mirror_plan, pause_mirror_plan, unmirror_plan, abort_plan, exchange_plan, is_ahead}
 use Rattle.dr_model.specs.declared.said.Addition.TheVariants.{Alone, Wrote, Acked, Counted, Showed}
 use Rattle.dr_model.specs.declared.said.Said.{Said}
 use Rattle.dr_model.specs.declared.said.Said.TheVariants.{Done, Refused}
@@ -34,61 +36,7 @@ use Rattle.dr_model.specs.declared.step.Devs.{Devs}
 use Rattle.dr_model.specs.declared.step.TornWord.{TornWord}
 use Rattle.dr_model.specs.declared.step.TornWord.TheVariants.{Same, Fill, Bytes}
 use Rattle.dr_model.specs.declared.step.Step.{Step}
-use Rattle.dr_model.specs.declared.step.Step.TheVariants.{Server, Volume, Link, Stop, StopAfter, Start, Issue as IssueWrite, Write, Apply, Show, MakeFlash, RemoveFlash, ResyncFlash, ReverseFlash, Copy, MakePath, RemovePath, MakePair, RemovePair, PausePair, ResumePair, Drain, Expire, Freeze, Unfreeze}
-
--- What a step comes to: the tables as it begins, what the journal is told then, the entries, those that follow where a
--- server stops in them, the tables where it ended well, and what it says then, by the last control state.
-pub record Plan : Type 0 where
-  pub first : Control → Control
-  pub told : List Event
-  pub entries : List Entry
-  pub follows : ℕ → List Entry
-  pub last : Control → Control
-  pub says : Control → Said
-
--- the tables stay
-abbrev pub same : Control → Control
-same k = k
-
--- a stop ends the step
-abbrev pub none_follow : ℕ → List Entry
-none_follow server = []
-
--- an answer that looks at nothing
-abbrev pub always : Said → Control → Said
-always said k = said
-
--- a step that changes tables and tells events, and does nothing else
-abbrev pub tables_plan : (Control → Control) → List Event → Said → Plan
-tables_plan first told said = record { first = first; told = told; entries = []; follows = none_follow; last = same; says = always said }
-
--- nothing but an answer
-abbrev pub only_says : Said → Plan
-only_says said = tables_plan same [] said
-
-abbrev pub refuses : Refusal → Plan
-refuses r = only_says (Refused r)
-
-abbrev pub name_bytes : Name → List ℕ
-name_bytes n = take n.len n.bytes
-
--- the number of a server, by its name
-abbrev pub server_named : Control → List ℕ → Option ℕ
-server_named k name = position (bytes_eq name) k.servers
-
--- what needs the server that a name gave, if there is one
-abbrev pub on_named : Option ℕ → (ℕ → Plan) → Plan
-on_named None plan = refuses (unknown OfServer)
-on_named (Some s) plan = plan s
-
--- what needs a server of that name
-abbrev pub on_server : Control → Name → (ℕ → Plan) → Plan
-on_server k name plan = on_named (server_named k (name_bytes name)) plan
-
--- a plan that is refused where there is a refusal
-abbrev pub unless : Option Refusal → Plan → Plan
-unless None p = p
-unless (Some r) p = refuses r
+use Rattle.dr_model.specs.declared.step.Step.TheVariants.{Server, Volume, Link, Stop, StopAfter, Start, Issue as IssueWrite, Write, Apply, Show, MakeFlash, RemoveFlash, ResyncFlash, ReverseFlash, Copy, MakePath, RemovePath, MakePair, RemovePair, PausePair, ResumePair, Drain, Expire, Freeze, Unfreeze, MakeSession, RemoveSession, AddMember, RemoveMember, MakeMirror, PauseMirror, ResumeMirror, RemoveMirror, Abort, Exchange}
 
 -- a server is defined; it is on
 abbrev pub server_done : Control → Name → Plan
@@ -163,7 +111,7 @@ write_done k v t offset len bytes = record {
   first = with_pending v t;
   told = Issue (k.issued + 1) v t offset len bytes ∷ [];
   entries = landing k (k.issued + 1) v t;
-  follows = part_after v;
+  follows = after_write k v t;
   last = same;
   says = always (says_written k (k.issued + 1) v t);
 }
@@ -177,7 +125,7 @@ apply_done k p = record {
   first = same;
   told = [];
   entries = landing k p.w p.volume p.track;
-  follows = part_after p.volume;
+  follows = after_write k p.volume p.track;
   last = same;
   says = always (says_written k p.w p.volume p.track);
 }
@@ -260,18 +208,6 @@ start_plan k s = record {
 
 abbrev pub start_on : Control → ℕ → Plan
 start_on k s = if k.on s then only_says (Done Alone) else start_plan k s
-
--- a plan of entries alone
-abbrev pub entries_plan : List Entry → Said → Plan
-entries_plan entries said = record { first = same; told = []; entries = entries; follows = none_follow; last = same; says = always said }
-
--- a name, where one is given, is that of the volume's server
-abbrev pub is_owner : Option Name → ℕ → Control → Bool
-is_owner None v k = true
-is_owner (Some name) v k = is_at (server_named k (name_bytes name)) (k.volume v).server
-
-abbrev pub is_defined : ℕ → Control → Bool
-is_defined v k = is_volume k v
 
 -- no write on a volume of a server waits any more
 abbrev pub expire_plan : Control → ℕ → Plan
@@ -390,20 +326,6 @@ copy_plan k t most =
     ∷ check (may_give_back t) (pair_state k (fields_at k t).source)
     ∷ times count (copy_one k t))
     (Done (Counted count))
-
--- a name, where one is given, is that of the server
-abbrev pub is_named : Option Name → ℕ → Control → Bool
-is_named None s k = true
-is_named (Some name) s k = is_at (server_named k (name_bytes name)) s
-
--- the server of the volumes of a logical subsystem
-abbrev pub owner_of : Control → ℕ → Option ℕ
-owner_of k lss = option_map (λ v. (k.volume v).server) (first_of k lss)
-
--- what needs the server of a logical subsystem, if it has one
-abbrev pub on_owner : Option ℕ → (ℕ → Plan) → Plan
-on_owner None plan = refuses (unknown OfLss)
-on_owner (Some s) plan = plan s
 
 -- a path is defined, or gets another flag
 abbrev pub path_done : ℕ → ℕ → Bool → Plan
@@ -526,6 +448,16 @@ plan_of k events line (Drain a most) = drain_plan k a most
 plan_of k events line (Expire name) = on_server k name (expire_on k)
 plan_of k events line (Freeze devs l m) = freeze_plan k devs l m
 plan_of k events line (Unfreeze devs l m) = thaw_plan k devs l m
+plan_of k events line (MakeSession devs l s) = join_plan k devs.dev l s
+plan_of k events line (RemoveSession devs l s) = leave_plan k devs.dev l s
+plan_of k events line (AddMember devs l a s) = add_plan k devs.dev l a s
+plan_of k events line (RemoveMember devs l a s) = expel_plan k devs.dev l a s
+plan_of k events line (MakeMirror devs l s cginterval coordinate drain) = mirror_plan k devs.dev l s
+plan_of k events line (PauseMirror devs l s) = pause_mirror_plan k devs.dev l s true
+plan_of k events line (ResumeMirror devs l s cginterval coordinate drain) = pause_mirror_plan k devs.dev l s false
+plan_of k events line (RemoveMirror devs l s) = unmirror_plan k devs.dev l s
+plan_of k events line (Abort s) = abort_plan k s
+plan_of k events line (Exchange s name reply) = exchange_plan k s name reply
 plan_of k events line _ = refuses NotBuilt
 
 -- the forms that are built
@@ -555,16 +487,34 @@ is_built (Drain a most) = true
 is_built (Expire name) = true
 is_built (Freeze devs l m) = true
 is_built (Unfreeze devs l m) = true
+is_built (MakeSession devs l s) = true
+is_built (RemoveSession devs l s) = true
+is_built (AddMember devs l a s) = true
+is_built (RemoveMember devs l a s) = true
+is_built (MakeMirror devs l s cginterval coordinate drain) = true
+is_built (PauseMirror devs l s) = true
+is_built (ResumeMirror devs l s cginterval coordinate drain) = true
+is_built (RemoveMirror devs l s) = true
+is_built (Abort s) = true
+is_built (Exchange s name reply) = true
 is_built _ = false
 
 -- the journal has room for what a step may tell
 abbrev pub has_room : List Event → Bool
 has_room events = nat_le (length events + step_events) most_events
 
+-- an exchange that would flash, commit, revert or report is none yet
+abbrev pub is_later : Control → Step → Bool
+is_later k (Exchange s name reply) = is_ahead k s
+is_later k _ = false
+
 -- a form that isn't built is refused, and then a step without room
 abbrev pub step_plan : Control → List Event → ℕ → Step → Plan
 step_plan k events line step =
-    if not (is_built step) then refuses NotBuilt else if has_room events then plan_of k events line step else refuses JournalFull
+    if not (is_built step) then refuses NotBuilt
+    else if is_later k step then refuses NotBuilt
+    else if has_room events then plan_of k events line step
+    else refuses JournalFull
 
 -- what a step comes to; a line outside the grammar is refused, with the column of its first fault
 abbrev pub plan : Control → List Event → ℕ → Result Step ℕ → Plan

@@ -1,14 +1,14 @@
 -- Entries of plans on host writes, on long busy primaries, and on servers that start.
-use Rattle.std.specs.Prelude.{ℕ, Bool, true, false, ◌&&◌, ◌||◌, List, [], ◌∷◌, ◌++◌, map, Option, is_some, unwrap_or, nat_eq, if◌then◌else◌}
+use Rattle.std.specs.Prelude.{ℕ, Bool, true, false, ◌&&◌, ◌||◌, not, List, [], ◌∷◌, ◌++◌, map, Option, is_some, unwrap_or, nat_eq, if◌then◌else◌}
 use Rattle.std.specs.List.{flat_map}
 use Rattle.dr_ids.specs.Paths.{path_in}
 use Rattle.dr_model.specs.Layout.{Fields, is_part}
 use Rattle.dr_model.specs.Control.{Control, is_volume}
-use Rattle.dr_model.specs.Pairs.{held, goes_over, must_restart}
+use Rattle.dr_model.specs.Pairs.{held, goes_over, collides, must_restart}
 use Rattle.dr_model.specs.Moves.{Suspend, Unsync, Mirror, LandBoth, Thaw, Lift, Restart}
 use Rattle.dr_model.specs.Carry.{Make, Redo, EndFreeze, EndThaw, Pass, Do, Entry, now}
 use Rattle.dr_model.specs.Entries.{fields_at, is_running, subsystem, copy_first, write_checks, land_alone}
-use Rattle.dr_model.specs.PairEntries.{send_refusal}
+use Rattle.dr_model.specs.PairEntries.{send_refusal, suspend_where, flashed_refusal, store_on, strike_on, suspend_after}
 use Rattle.dr_model.specs.declared.said.Addition.TheVariants.{Wrote}
 use Rattle.dr_model.specs.declared.said.Said.{Said}
 use Rattle.dr_model.specs.declared.said.Said.TheVariants.{Done, Held}
@@ -40,11 +40,30 @@ is_parted k v = is_some (send_refusal v (partner_of k v) k)
 abbrev pub land_over : Control → ℕ → ℕ → ℕ → List Entry
 land_over k n v t = if is_parted k v then land_parted k n v t else land_mirrored k.volumes n v t (partner_of k v)
 
+-- The secondary u of v can still be sent what a track was before a host write that collides with it; the entries of the send
+-- come as long as that is so.
+abbrev pub sends_first : ℕ → ℕ → ℕ → Control → Bool
+sends_first v u t k = collides (fields_at k v) t && (not (is_some (send_refusal v u k)) && not (is_some (flashed_refusal u k)))
+
+abbrev pub where_sent : ℕ → ℕ → ℕ → Entry → Entry
+where_sent v u t d k = if sends_first v u t k then d k else Pass
+
+-- Track t is sent from v to its secondary u, as a drain does. Where u can't be reached, or isn't the secondary of v, v is
+-- suspended, and the host write goes on; so it does where u is the source of a revertible relationship.
+abbrev pub send_first : List ℕ → ℕ → ℕ → ℕ → List Entry
+send_first volumes v u t =
+    suspend_where (send_refusal v u) v
+    ∷ map (where_sent v u t) (copy_first volumes u t ++ store_on v u t ∷ strike_on v t ∷ [])
+
+abbrev pub land_collided : Control → ℕ → ℕ → ℕ → List Entry
+land_collided k n v t = send_first k.volumes v (partner_of k v) t ++ land_alone k.volumes n v t
+
 -- a host write on a volume where the host may write
 abbrev pub land_entries : Control → ℕ → ℕ → ℕ → List Entry
 land_entries k n v t =
     if held (fields_at k v) then []
     else if goes_over (fields_at k v) t then land_over k n v t
+    else if collides (fields_at k v) t then land_collided k n v t
     else land_alone k.volumes n v t
 
 -- pending write n on track t of volume v is carried out
@@ -65,6 +84,10 @@ part_running v k = if is_part (fields_at k v).primary && is_running v k then Do 
 
 abbrev pub part_after : ℕ → ℕ → List Entry
 part_after v s = part_running v ∷ []
+
+-- a host write that collides is followed as a send is
+abbrev pub after_write : Control → ℕ → ℕ → ℕ → List Entry
+after_write k v t s = if collides (fields_at k v) t then suspend_after v s else part_after v s
 
 -- a primary of logical subsystem l, whose server runs, with its secondary in m
 abbrev pub is_between : Control → ℕ → ℕ → ℕ → Bool

@@ -1,0 +1,122 @@
+-- Entries of plans on sessions: what each order does with a member, and what adding and removing one does.
+use Rattle.std.specs.Prelude.{ℕ, max, Bool, true, false, ◌&&◌, ◌||◌, ◌==◌, not, List, [], ◌∷◌, filter, Option, Some, None, option_map, unwrap_or, nat_eq, nat_lt, if◌then◌else◌}
+use Rattle.std.specs.List.{flat_map, list_any}
+use Rattle.dr_ids.specs.declared.names.Member.{Member}
+use Rattle.dr_ids.specs.declared.refusal.Refusal.{Refusal}
+use Rattle.dr_ids.specs.declared.refusal.Refusal.TheVariants.{Void, Stale}
+use Rattle.dr_model.specs.declared.state.Part.TheVariants.{Global}
+use Rattle.dr_model.specs.Layout.{Fields}
+use Rattle.dr_model.specs.Control.{Control}
+use Rattle.dr_model.specs.Relations.{is_bare}
+use Rattle.dr_model.specs.Pairs.{is_primary_of, is_kind, is_pending, records}
+use Rattle.dr_model.specs.Sessions.{session_in}
+use Rattle.dr_model.specs.Phases as phases
+use Rattle.dr_model.specs.Moves.{Hold, Free, Seal, Finish, RaiseAttempt, RaiseFloor, Leave}
+use Rattle.dr_model.specs.Carry.{Make, OpenAttempt, Next, Pass, Do, Entry, now}
+use Rattle.dr_model.specs.Entries.{fields_at, pair_state}
+use Rattle.dr_model.specs.PairEntries.{refuse_if, send_refusal}
+
+-- the number of a session's last attempt, 0 where it isn't defined
+abbrev pub last_of : Control → ℕ → ℕ
+last_of k s = unwrap_or (option_map (λ x. x.last) (session_in k.sessions s)) 0
+
+-- ---- Hold: a Global Copy primary in Copy Pending is held for an attempt that is newer than all of its own
+
+abbrev pub may_hold : ℕ → ℕ → Control → Bool
+may_hold a b k = is_primary_of b (fields_at k a) && (is_kind Global (fields_at k a).primary && is_pending (fields_at k a).primary_state)
+
+abbrev pub hold_refusal : ℕ → ℕ → Control → Option Refusal
+hold_refusal a b k = if may_hold a b k then None else Some (pair_state k a)
+
+-- the attempt isn't newer; one that the primary records already is done
+abbrev pub stale_refusal : ℕ → ℕ → Control → Option Refusal
+stale_refusal a n k =
+    if records n (fields_at k a) then None
+    else if nat_lt (fields_at k a).attempt n then None
+    else Some (Stale n (fields_at k a).attempt)
+
+-- the first hold of an attempt begins it
+abbrev pub hold_on : ℕ → ℕ → ℕ → Entry
+hold_on s a n k =
+    if records n (fields_at k a) then Pass
+    else Do (if nat_lt (last_of k s) n then OpenAttempt a s n else Make (Hold a s n false))
+
+abbrev pub hold_entries : ℕ → ℕ → ℕ → ℕ → List Entry
+hold_entries s a b n = refuse_if (hold_refusal a b) ∷ refuse_if (stale_refusal a n) ∷ hold_on s a n ∷ []
+
+-- ---- Release: a primary that records the attempt is held no more
+
+abbrev pub void_refusal : ℕ → ℕ → Control → Option Refusal
+void_refusal a n k = if records n (fields_at k a) then None else Some (Void n)
+
+abbrev pub free_on : ℕ → Entry
+free_on a k = if (fields_at k a).coordination then Do (Make (Free a)) else Pass
+
+abbrev pub release_entries : ℕ → ℕ → List Entry
+release_entries a n = refuse_if (void_refusal a n) ∷ free_on a ∷ []
+
+-- ---- Seal: where nothing is left to send, the secondary holds what its primary held at the cut
+
+-- where tracks are still out of sync, the member is passed over
+abbrev pub is_drained : ℕ → Control → Bool
+is_drained a k = is_bare (fields_at k a).out_of_sync
+
+abbrev pub seal_refusal : ℕ → ℕ → Control → Option Refusal
+seal_refusal a b k = if is_drained a k then send_refusal a b k else None
+
+abbrev pub seal_on : ℕ → ℕ → ℕ → ℕ → Entry
+seal_on s a b n k = if is_drained a k && not (nat_eq (fields_at k b).seal n) then Do (Make (Seal b a s n)) else Pass
+
+abbrev pub seal_entries : ℕ → ℕ → ℕ → ℕ → List Entry
+seal_entries s a b n = refuse_if (void_refusal a n) ∷ refuse_if (seal_refusal a b) ∷ seal_on s a b n ∷ []
+
+-- ---- Finish: the attempt is over for a primary, and each older one
+
+abbrev pub is_past : ℕ → Fields → Bool
+is_past n f = nat_lt n f.attempt || (nat_eq f.attempt n && not f.recording)
+
+abbrev pub finish_on : ℕ → ℕ → Entry
+finish_on a n k = if is_past n (fields_at k a) then Pass else Do (Make (Finish a n))
+
+-- ---- an order over the members of a server, in order
+
+abbrev pub member_entries : phases.Work → ℕ → ℕ → Member → List Entry
+member_entries phases.Hold s n m = hold_entries s m.a.0 m.b.0 n
+member_entries phases.Release s n m = release_entries m.a.0 n
+member_entries phases.Seal s n m = seal_entries s m.a.0 m.b.0 n
+member_entries phases.Finish s n m = finish_on m.a.0 n ∷ []
+member_entries _ s n m = []
+
+abbrev pub is_on : ℕ → Member → Bool
+is_on x m = m.server.0 == x
+
+abbrev pub members_on : ℕ → List Member → List Member
+members_on x ms = filter (is_on x) ms
+
+abbrev pub order_entries : phases.Work → ℕ → ℕ → List Member → List Entry
+order_entries work s n ms = flat_map (member_entries work s n) ms
+
+-- what the server replies when it is done: a seal has to wait where a member of its still has tracks to send
+abbrev pub reply_after : phases.Work → List Member → Control → phases.Reply
+reply_after phases.Seal ms k = if list_any (λ m. not (is_drained m.a.0 k)) ms then phases.NotYet else phases.Done
+reply_after _ ms k = phases.Done
+
+-- ---- a member is added or removed
+
+-- the number from which attempts with the new member count: none of its volumes, and not the session, has seen a greater one
+abbrev pub first_number : Control → ℕ → Member → ℕ
+first_number k last m =
+    max last (max (fields_at k m.a.0).attempt (max (fields_at k m.b.0).seal
+    (max (fields_at k m.c.0).floor (if (fields_at k m.c.0).member then (fields_at k m.c.0).sequence else 0))))
+
+abbrev pub raise_attempt_on : ℕ → ℕ → Entry
+raise_attempt_on a n k = if nat_lt (fields_at k a).attempt n then Do (Make (RaiseAttempt a n)) else Pass
+
+abbrev pub raise_floor_on : ℕ → ℕ → Entry
+raise_floor_on c n k = if nat_lt (fields_at k c).floor n then Do (Make (RaiseFloor c n)) else Pass
+
+abbrev pub add_entries : Member → ℕ → List Entry
+add_entries m n = raise_attempt_on m.a.0 n ∷ raise_floor_on m.c.0 n ∷ []
+
+abbrev pub expel_entries : ℕ → Member → List Entry
+expel_entries s m = now (Leave m.c.0 m.a.0 s) ∷ []
