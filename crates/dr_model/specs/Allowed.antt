@@ -12,6 +12,7 @@ use Rattle.dr_model.specs.Moves.{Move, Land, Overwrite, Keep, Note, Relate, With
 use Rattle.dr_model.specs.Pairs.{is_metro, is_kind, is_pending, is_suspended, records}
 use Rattle.dr_model.specs.Entries.{targets_of}
 use Rattle.dr_model.specs.Table.{Table, table}
+use Rattle.dr_model.specs.Groups.{HoldsMember, OpensAttempt}
 use Rattle.dr_model.specs.Laws.{source, its_primary, its_secondary, fields, servers, AllPending}
 
 -- each target of v holds track t, but one that is restored onto v, which holds it too where it gives it back; and it
@@ -265,6 +266,11 @@ abbrev pub Fits : Control → Move → Type 0
 Fits k (Relate v s choices) = length (targets_of k s) < most_targets
 Fits k m = Unit {0}
 
+-- what a hold asks of the sessions
+abbrev pub InGroup : Control → Move → Type 0
+InGroup k (Hold v s n first) = HoldsMember k v s n
+InGroup k m = Unit {0}
+
 -- the server of a volume is on
 abbrev pub Runs : World → ℕ → Type 0
 Runs w v = w.control.on (w.control.volume v).server ≡ true
@@ -275,3 +281,11 @@ pub record May (w : World) (m : Move) : Type 0 where
   pub allowed : Allowed (histories w.events).write (table w) m
   pub fits : Fits w.control m
   pub ready : Ready w m
+  pub group : InGroup w.control m
+
+-- the first hold of an attempt may come in a world
+pub record MayOpen (w : World) (v s n : ℕ) : Type 0 where
+  pub runs : Runs w v
+  pub allowed : MayHold (table w) v n
+  pub ready : Idle w v
+  pub opens : OpensAttempt w.control v s n

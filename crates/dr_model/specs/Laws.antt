@@ -16,6 +16,8 @@ use Rattle.dr_model.specs.declared.state.PairState.{PairState}
 use Rattle.dr_model.specs.Pairs.{primary_of, secondary_of, is_kind, is_pending}
 use Rattle.dr_model.specs.Entries.{is_at, targets_of}
 use Rattle.dr_model.specs.Table.{Row, Table, table}
+pub use Rattle.dr_model.specs.Tables.{Once}
+use Rattle.dr_model.specs.Groups.{Groups}
 
 -- a law on each volume, and one on each volume and the one that it points to
 abbrev pub Each : (ℕ → Row → Type 0) → Table → Type 0
@@ -258,11 +260,6 @@ pub record SoundRows (T : Table) : Type 0 where
 
 -- Targets: no volume is defined twice, and none has more than 12 targets.
 
--- no number comes twice
-abbrev pub Once : List ℕ → Type 0
-Once [] = Unit {0}
-Once (x ∷ xs) = (list_any (nat_eq x) xs ≡ false) × Once xs
-
 pub record FewTargets (k : Control) : Type 0 where
   pub once : Once k.volumes
   pub few : (v : ℕ) → length (targets_of k v) ≤ most_targets
@@ -272,6 +269,7 @@ pub record SoundBut (starts : Option ℕ) (w : World) : Type 0 where
   pub rows : SoundRows (table w)
   pub targets : FewTargets w.control
   pub queue : Queue starts w
+  pub groups : Groups w.control
 
 -- what holds of a world between steps
 abbrev pub Sound : World → Type 0

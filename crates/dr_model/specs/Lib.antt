@@ -26,6 +26,7 @@ pub mod Runs
 pub mod Text
 pub mod Table
 pub mod Rows
+pub mod Groups
 pub mod Laws
 pub mod Allowed
 pub mod Fits

@@ -1,0 +1,91 @@
+-- What the sessions and the records of volumes say together.
+use Rattle.std.specs.Prelude.{◌≡◌, ◌≢◌, ◌⊎◌, ◌+◌, ℕ, Bool, true, false, List, [], ◌∷◌, map, Option, Some}
+use Rattle.dr_ids.specs.declared.names.Member.{Member}
+use Rattle.dr_ids.specs.declared.refusal.PhaseName.TheVariants as phase
+use Rattle.dr_model.specs.Phases as phases
+use Rattle.dr_model.specs.Sessions.{Session, Mirror, IsSound}
+use Rattle.dr_model.specs.Control.{Control, is_volume}
+use Rattle.dr_model.specs.Entries.{fields_at}
+use Rattle.dr_model.specs.Tables.{Once}
+
+-- x is one of a list
+abbrev pub In : {A : Type 0} → A → List A → Type 0
+In x [] = ⊥
+In x (y ∷ ys) = (x ≡ y) ⊎ In x ys
+
+-- the three volumes of a member are there, on the servers of a primary with its secondary and of a target with its source, and
+-- of one size
+pub record MemberStands (k : Control) (m : Member) : Type 0 where
+  pub a : is_volume k m.a.0 ≡ true
+  pub b : is_volume k m.b.0 ≡ true
+  pub c : is_volume k m.c.0 ≡ true
+  pub server : m.server.0 ≡ (k.volume m.a.0).server
+  pub apart : (k.volume m.b.0).server ≢ (k.volume m.a.0).server
+  pub target_server : (k.volume m.c.0).server ≡ (k.volume m.b.0).server
+  pub tracks : (k.volume m.b.0).tracks ≡ (k.volume m.a.0).tracks
+  pub target_tracks : (k.volume m.c.0).tracks ≡ (k.volume m.b.0).tracks
+
+-- the server of a member has finished its attempt: its primary records no more
+abbrev pub Finished : Control → Mirror → Member → Type 0
+Finished k r m = phases.is_among m.server.0 r.master.owed ≡ false → (fields_at k m.a.0).recording ≡ false
+
+pub record SessionFits (k : Control) (x : Session) : Type 0 where
+  pub sound : IsSound x
+  pub stands : (m : Member) → In m x.members → MemberStands k m
+  pub finished : (r : Mirror) → x.mirror ≡ Some r → r.master.phase ≡ phase.Finishing → (m : Member) → In m x.members → Finished k r m
+
+-- a volume has one place in one member of one session
+abbrev pub IsAt : ℕ → Member → Type 0
+IsAt v m = (v ≡ m.a.0) ⊎ ((v ≡ m.b.0) ⊎ (v ≡ m.c.0))
+
+pub record PlacesDiffer (m : Member) : Type 0 where
+  pub a_b : m.a.0 ≢ m.b.0
+  pub a_c : m.a.0 ≢ m.c.0
+  pub b_c : m.b.0 ≢ m.c.0
+
+pub record Lone (ss : List Session) : Type 0 where
+  pub differ : (x : Session) (m : Member) → In x ss → In m x.members → PlacesDiffer m
+  pub one : (v : ℕ) (x y : Session) (m q : Member) → In x ss → In y ss → In m x.members → In q y.members → IsAt v m → IsAt v q → (x.number ≡ y.number) × (m ≡ q)
+
+-- v is the primary of a member of a session whose master isn't Idle, and that is the session's last attempt
+pub record IsRecorder (ss : List Session) (v attempt : ℕ) : Type 0 where
+  pub session : Session
+  pub listed : In session ss
+  pub mirror : Mirror
+  pub has_master : session.mirror ≡ Some mirror
+  pub busy : mirror.master.phase ≢ phase.Idle
+  pub member : Member
+  pub here : In member session.members
+  pub is : member.a.0 ≡ v
+  pub last : attempt ≡ session.last
+
+-- No number is that of two sessions. Only the primaries of members record, and the last attempt of their session, while it goes
+-- on.
+pub record Groups (k : Control) : Type 0 where
+  pub once : Once (map (λ (x : Session). x.number) k.sessions)
+  pub each : (x : Session) → In x k.sessions → SessionFits k x
+  pub lone : Lone k.sessions
+  pub recorders : (v : ℕ) → (fields_at k v).recording ≡ true → IsRecorder k.sessions v (fields_at k v).attempt
+
+-- v is the primary of a member of the session of that number, whose master is in that phase
+pub record IsMember (k : Control) (v s : ℕ) : Type 0 where
+  pub session : Session
+  pub listed : In session k.sessions
+  pub number : session.number ≡ s
+  pub mirror : Mirror
+  pub has_master : session.mirror ≡ Some mirror
+  pub member : Member
+  pub here : In member session.members
+  pub is : member.a.0 ≡ v
+
+-- a hold is one of the session's last attempt, while its master coordinates
+pub record HoldsMember (k : Control) (v s n : ℕ) : Type 0 where
+  pub place : IsMember k v s
+  pub coordinates : place.mirror.master.phase ≡ phase.Coordinating
+  pub last : n ≡ place.session.last
+
+-- or the first of the next one, while it is Idle
+pub record OpensAttempt (k : Control) (v s n : ℕ) : Type 0 where
+  pub place : IsMember k v s
+  pub idle : place.mirror.master.phase ≡ phase.Idle
+  pub next : n ≡ place.session.last + 1
