@@ -159,14 +159,14 @@ module _ (v t : ℕ) where
         let g : Fields = fields_left (Keep x t) u in
         let e : Bool = is_whole u.tracks (insert u.fields.own t) && not u.fields.persistent in
         let never : ((s : ℕ) → source_of g ≡ Some s → g.reversing ≡ true → ⊥) = λ s h. not_turned e u.fields.reversing iv in (
-          record { runs = runs-at w s st x is; allowed = record { low = low-at w s st x is; from = v; related = is; new = io; forward = iv }; fits = tt; ready = idle w x s.queue (runs-at w s st x is) },
+          record { runs = runs-at w s st x is; allowed = record { low = low-at w s st x is; from = v; related = is; new = io; forward = iv }; fits = tt; group = tt; ready = idle w x s.queue (runs-at w s st x is) },
           λ f k. go _ k (still-done first w x v _ _ st is iv never (done w (Keep x t) f) refl refl refl refl refl refl (histories-append w.events _))
               (made x left w _ (done w (Keep x t) f) refl l (kept-own e u.fields.related u.fields.source u.fields.own) (kept-noted e u.fields.related u.fields.recorded u.fields.source u.fields.source_changes) never),
         )
     act-by w x left more s st l go true false true true false ib iv io ir ic =
         let is = copies-from v (fields_at w.control x) ib in
         let never : ((s : ℕ) → from w x ≡ Some s → (fields_at w.control x).reversing ≡ true → ⊥) = λ s h r. false_true iv r in (
-          record { runs = runs-at w s st x is; allowed = record { low = low-at w s st x is; from = v; related = is; held = io; forward = iv }; fits = tt; ready = idle w x s.queue (runs-at w s st x is) },
+          record { runs = runs-at w s st x is; allowed = record { low = low-at w s st x is; from = v; related = is; held = io; forward = iv }; fits = tt; group = tt; ready = idle w x s.queue (runs-at w s st x is) },
           λ f k. go _ k (still-done first w x v _ _ st is iv never (done w (Note x t) f) refl refl refl refl refl refl (ap histories (append-nil w.events)))
               (made x left w _ (done w (Note x t) f) refl l (λ h. io) (λ h r. noted-has _ _ r) never),
         )

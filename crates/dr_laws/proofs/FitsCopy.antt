@@ -72,6 +72,7 @@ module _ (v : ℕ) where
             forward = c.forward;
           };
           fits = tt;
+          group = tt;
           ready = idle w v s.queue c.on;
         },
         λ f k. let here : (done w (Fetch v t) f).control.volume v ≡ moved u (fields_left (Fetch v t) u) (carried_in w (Fetch v t)) = at_same w.control.volume v _ in
@@ -172,6 +173,7 @@ module _ (volumes : List ℕ) (v s : ℕ) where
             runs = lasts.on;
             allowed = record { from = s; related = lasts.related; reversing = lasts.reversing; holds = lowest-in _ _ t is2; equal = bytes_s ∙ sym bytes_v };
             fits = tt;
+            group = tt;
             ready = idle m v x2.queue lasts.on;
           },
           λ g x3. go _ x3 (given m g lasts),
@@ -195,6 +197,7 @@ module _ (volumes : List ℕ) (v s : ℕ) where
             runs = on_s;
             allowed = record { low = subst (λ (x : Volume). t < x.tracks) (sym (st.volume s (plain w x r))) low; related = rk.related; reversing = rk.reversing; holds = lowest-in _ _ t (stands k st); kept = kept };
             fits = tt;
+            group = tt;
             ready = idle k s sk.queue on_s;
           },
           λ f x2. releases k f sk rk (stands k st) x2,

@@ -16,7 +16,7 @@ use Rattle.dr_model.specs.declared.step.Devs.{Devs}
 use Rattle.dr_model.specs.Contents.{image_at}
 use Rattle.dr_model.specs.Layout.{Tracks, Fields, is_part}
 use Rattle.dr_model.specs.Relations.{in_order}
-use Rattle.dr_model.specs.Pairs.{secondary_of, primary_of, is_primary_of, is_secondary_of, first_state, next_state, is_last}
+use Rattle.dr_model.specs.Pairs.{is_metro, is_kind, is_suspended, secondary_of, primary_of, is_primary_of, is_secondary_of, first_state, next_state, is_last}
 use Rattle.dr_model.specs.Control.{Control, Fuse, Volume, World, is_volume}
 use Rattle.dr_model.specs.Moves.{Move, Store, Strike, Suspend, MakeSecondary, MakePrimary, DropPrimary, DropSecondary, Follow, Resume, target, moved, tracks_after}
 use Rattle.dr_model.specs.Carry.{Make, Pass, Do, Entry, now}
@@ -162,6 +162,7 @@ module _ (w : World) (s : Sound w) where
                 contents-image k x a t lt on_a plain_a ∙ told-nothing f a t ∙ p.equal no t lt_a ∙ sym (told-nothing f b t) ∙ sym (contents-image k x b t lt_b on_b plain_b);
           };
           fits = tt;
+          group = tt;
           ready = idle k a x.queue on_a;
         }) (λ g y. over _ y)
 
@@ -180,6 +181,7 @@ module _ (w : World) (s : Sound w) where
         still = λ x h r. unrestored first begins b p.settled x h r;
       };
       fits = tt;
+      group = tt;
       ready = idle first b begins.queue p.on_b;
     }) second-half
 
@@ -218,13 +220,13 @@ module _ (w : World) (s : Sound w) where
 
   -- it is removed
   drops-primary : (a : ℕ) (more : List Entry) → Runs first a → is_part (fields_at w.control a).primary ≡ true → ((f : Option Fuse) → Sound (done first (DropPrimary a) f) → Along (done first (DropPrimary a) f) more) → Along first (now (DropPrimary a) ∷ more)
-  drops-primary a more on is go = moves first (DropPrimary a) more (record { runs = on; allowed = is; fits = tt; ready = idle first a begins.queue on }) go
+  drops-primary a more on is go = moves first (DropPrimary a) more (record { runs = on; allowed = is; fits = tt; group = tt; ready = idle first a begins.queue on }) go
 
   lets-go : (a b : ℕ) (k : World) → Sound k → Runs k b → Along k (let_go a b ∷ [])
   lets-go a b k x on = decides k (let_go a b) [] _ refl (by (belongs_to a b k.control) refl)
     where
       by : (c : Bool) → belongs_to a b k.control ≡ c → Then k (cond c (Do (Make (DropSecondary b))) Pass) (λ v. Along v [])
-      by true is = (record { runs = on; allowed = (and_parts (is_part (fields_at k.control b).secondary) _ is).0; fits = tt; ready = idle k b x.queue on }, λ f y. over _ y)
+      by true is = (record { runs = on; allowed = (and_parts (is_part (fields_at k.control b).secondary) _ is).0; fits = tt; group = tt; ready = idle k b x.queue on }, λ f y. over _ y)
       by false is = over k x
 
   removes-by : (a b : ℕ) (source_only : Bool) → Runs first a → is_part (fields_at w.control a).primary ≡ true → Along first (cond source_only (now (DropPrimary a) ∷ []) (remove_both w.control a b))
@@ -249,7 +251,7 @@ module _ (w : World) (s : Sound w) where
   tells-paused a b k x = decides k (tell_paused a b) [] _ refl (by (reach_refusal a b k.control) (belongs_to a b k.control) refl refl)
     where
       by : (o : Option Refusal) (c : Bool) → reach_refusal a b k.control ≡ o → belongs_to a b k.control ≡ c → Then k (cond (not (is_some o) && c) (Do (Make (Follow b Suspended))) Pass) (λ v. Along v [])
-      by None true reach is = let on : Runs k b = reached k a b reach in (record { runs = on; allowed = (and_parts (is_part (fields_at k.control b).secondary) _ is).0; fits = tt; ready = idle k b x.queue on }, λ f y. over _ y)
+      by None true reach is = let on : Runs k b = reached k a b reach in (record { runs = on; allowed = (and_parts (is_part (fields_at k.control b).secondary) _ is).0; fits = tt; group = tt; ready = idle k b x.queue on }, λ f y. over _ y)
       by None false reach is = over k x
       by (Some r) c reach is = over k x
 
@@ -259,23 +261,23 @@ module _ (w : World) (s : Sound w) where
       checked first (is_running a) _ _ begins (λ on.
       checked first (may_pause a b) _ _ begins (λ may.
       moves first (Suspend a false) _
-      (record { runs = on; allowed = (and_parts (is_part (fields_at w.control a).primary) _ (and_parts (leads_to a b w.control) _ may).0).0; fits = tt; ready = idle first a begins.queue on })
+      (record { runs = on; allowed = (and_parts (is_part (fields_at w.control a).primary) _ (and_parts (leads_to a b w.control) _ may).0).0; fits = tt; group = tt; ready = idle first a begins.queue on })
       (λ f y. tells-paused a b _ y))))
 
   pub holds-pause : (devs : Devs) (a b : ℕ) → StepHolds w (pause_plan w.control devs a b)
   holds-pause devs a b = holds-entries w _ _ s (along-pause devs a b)
 
   -- it goes on
-  goes-on : (a b : ℕ) → Runs first a → Runs first b → is_part (fields_at w.control a).primary ≡ true → is_part (fields_at w.control b).secondary ≡ true → Along first (follow_on a b ∷ resume_on a ∷ [])
-  goes-on a b on_a on_b leads belongs =
+  goes-on : (a b : ℕ) → Runs first a → Runs first b → is_part (fields_at w.control a).primary ≡ true → is_suspended (fields_at w.control a).primary_state ≡ true → is_part (fields_at w.control b).secondary ≡ true → Along first (follow_on a b ∷ resume_on a ∷ [])
+  goes-on a b on_a on_b leads waits belongs =
       let next : PairState = next_state (fields_at w.control a) in
       decides first (follow_on a b) _ (Do (Make (Follow b next))) refl (
-        record { runs = on_b; allowed = belongs; fits = tt; ready = idle first b begins.queue on_b },
+        record { runs = on_b; allowed = belongs; fits = tt; group = tt; ready = idle first b begins.queue on_b },
         λ f y.
             let k : World = done first (Follow b next) f in
             let on : Runs k a = runs-done first (Follow b next) f a on_a in
             decides k (resume_on a) [] (Do (Make (Resume a (next_state (fields_at k.control a))))) refl
-            (record { runs = on; allowed = part-done first (Follow b next) f (λ (g : Fields). is_part g.primary) refl a leads; fits = tt; ready = idle k a y.queue on }, λ g z. over _ z),
+            (record { runs = on; allowed = record { first = part-done first (Follow b next) f (λ (g : Fields). is_part g.primary) refl a leads; waits = part-done first (Follow b next) f (λ (g : Fields). is_suspended g.primary_state) refl a waits }; fits = tt; group = tt; ready = idle k a y.queue on }, λ g z. over _ z),
       )
 
   pub along-resume : (devs : Devs) (a b : ℕ) (kind : Part) → Along first (resume_plan w.control devs a b kind).entries
@@ -285,7 +287,8 @@ module _ (w : World) (s : Sound w) where
       checked first (may_resume a b kind) _ _ begins (λ may.
       refused first (reach_refusal a b) _ begins (λ reach.
       checked first (belongs_to a b) _ _ begins (λ belongs.
-      goes-on a b on (reached first a b reach) (and_parts (is_part (fields_at w.control a).primary) _ (and_parts (leads_to a b w.control) _ may).0).0 (and_parts (is_part (fields_at w.control b).secondary) _ belongs).0)))))
+      goes-on a b on (reached first a b reach) (and_parts (is_part (fields_at w.control a).primary) _ (and_parts (leads_to a b w.control) _ may).0).0
+      (and_parts (is_kind kind (fields_at w.control a).primary) _ (and_parts (leads_to a b w.control) _ may).1).1 (and_parts (is_part (fields_at w.control b).secondary) _ belongs).0)))))
 
   pub holds-resume : (devs : Devs) (a b : ℕ) (kind : Part) → StepHolds w (resume_plan w.control devs a b kind)
   holds-resume devs a b kind = holds-entries w _ _ s (along-resume devs a b kind)
@@ -343,7 +346,7 @@ module _ (volumes : List ℕ) (a b n : ℕ) where
         let bytes_b : m.contents b t ≡ k.contents a t = ap (λ (g : ℕ → List ℕ). g t) (at_same k.contents b (tracks_after (next_of k (Store b t a last)) (carried_in k (Store b t a last)) (k.contents b))) ∙ if_true _ _ (eq-eqb t t refl) in
         let bytes_a : m.contents a t ≡ k.contents a t = ap (λ (g : ℕ → List ℕ). g t) (at_other k.contents b _ a ne) in
         decides m (strike_on a t) more (Do (Make strike)) refl (
-          record { runs = lasts.on; allowed = record { to = b; sends = lasts.to; equal = bytes_b ∙ sym bytes_a }; fits = tt; ready = idle m a y.queue lasts.on },
+          record { runs = lasts.on; allowed = record { metro = λ last. (and_parts (is_metro (fields_at m.control a).primary) _ last).0; to = b; sends = lasts.to; equal = bytes_b ∙ sym bytes_a }; fits = tt; group = tt; ready = idle m a y.queue lasts.on },
           λ g z. go _ z (sending-done m strike g refl lasts),
         )
 
@@ -372,6 +375,7 @@ module _ (volumes : List ℕ) (a b n : ℕ) where
             runs = on_k;
             allowed = record { low = subst (λ (u : Volume). t < u.tracks) (sym here_b) low_b; sends = lasts.to; takes = ap (λ (u : Volume). primary_of u.fields) here_b ∙ takes; kept = kept };
             fits = tt;
+            group = tt;
             ready = (idle k b sk.queue on_k, idle k a sk.queue lasts.on);
           },
           λ f y. strikes k last f lasts ne y,
@@ -393,7 +397,7 @@ module _ (volumes : List ℕ) (a b n : ℕ) where
     suspends : (w : World) → Sound w → Sending w → (o : Option Refusal) → Then w (cond (is_some o) (Do (Make (Suspend a false))) Pass) (λ v. Along v rest)
     suspends w s x None = goes w s x
     suspends w s x (Some r) = (
-      record { runs = x.on; allowed = (from_source (is_part (fields_at w.control a).primary) _ b x.to).0; fits = tt; ready = idle w a s.queue x.on },
+      record { runs = x.on; allowed = (from_source (is_part (fields_at w.control a).primary) _ b x.to).0; fits = tt; group = tt; ready = idle w a s.queue x.on },
       λ f y. goes _ y (sending-done w (Suspend a false) f refl x),
     )
 
@@ -411,7 +415,7 @@ pub suspends-after : (a server : ℕ) (w : World) → Sound w → Along w (suspe
 suspends-after a server w s = decides w (suspend_running a) [] _ refl (by _ refl)
   where
     by : (c : Bool) → (is_part (fields_at w.control a).primary && is_running a w.control) ≡ c → Then w (cond c (Do (Make (Suspend a false))) Pass) (λ v. Along v [])
-    by true is = let both = and_parts (is_part (fields_at w.control a).primary) _ is in (record { runs = both.1; allowed = both.0; fits = tt; ready = idle w a s.queue both.1 }, λ f y. over _ y)
+    by true is = let both = and_parts (is_part (fields_at w.control a).primary) _ is in (record { runs = both.1; allowed = both.0; fits = tt; group = tt; ready = idle w a s.queue both.1 }, λ f y. over _ y)
     by false is = over w s
 
 module _ (w : World) (s : Sound w) where

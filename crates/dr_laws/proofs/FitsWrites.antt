@@ -63,7 +63,7 @@ module _ (w : World) (s : Sound w) (p : Pending) (one : filter (is_write p.w) w.
 
   -- the volume is suspended, since it can't send; then the write waits, or lands alone
   parted : is_part f.primary ≡ true → is_part f.secondary ≡ false → f.related ≡ false → Unrestored w v → Along w (land_parted w.control n v t)
-  parted first free plain still = moves w (Suspend v busy) _ (record { runs = on; allowed = first; fits = tt; ready = idle w v s.queue on }) (λ h y. by h y busy)
+  parted first free plain still = moves w (Suspend v busy) _ (record { runs = on; allowed = first; fits = tt; group = tt; ready = idle w v s.queue on }) (λ h y. by h y busy)
     where
       by : (h : Option Fuse) → Sound (done w (Suspend v busy) h) → (b : Bool) → Along (done w (Suspend v busy) h) (cond b [] (land_alone w.control.volumes n v t))
       by h y true = over _ y
@@ -134,6 +134,7 @@ module _ (w : World) (s : Sound w) (p : Pending) (one : filter (is_write p.w) w.
             equal = is;
           };
           fits = tt;
+          group = tt;
           ready = may-ack k y p b.one_is b.on_v;
         }) (λ h z. over _ z)
 
@@ -153,6 +154,7 @@ module _ (w : World) (s : Sound w) (p : Pending) (one : filter (is_write p.w) w.
           runs = b.on_u;
           allowed = record { low = low_u k y b; sends = b.to; takes = b.takes; out = b.out; kept = kept };
           fits = tt;
+          group = tt;
           ready = record { number = held.number; volume = held.volume; track = held.track; idle = idle k u y.queue b.on_u; from_idle = idle k v y.queue b.on_v };
         }) (λ h z.
         let j : World = done k m h in
@@ -182,7 +184,7 @@ module _ (w : World) (s : Sound w) (p : Pending) (one : filter (is_write p.w) w.
     goes-both : secondary_of f ≡ Some u → primary_of (fields_at w.control u) ≡ Some v → Runs w u → Unrestored w v → Along w (land_mirrored w.control.volumes n v t u)
     goes-both to takes on_u still =
         let m : Move = Unsync v t in
-        moves w m _ (record { runs = on; allowed = record { low = (waits w s p one).low; first = (from_source (is_part f.primary) _ u to).0 }; fits = tt; ready = idle w v s.queue on }) (λ h y. stores (done w m h) y (record {
+        moves w m _ (record { runs = on; allowed = record { low = (waits w s p one).low; first = (from_source (is_part f.primary) _ u to).0 }; fits = tt; group = tt; ready = idle w v s.queue on }) (λ h y. stores (done w m h) y (record {
           on_v = runs-done w m h v on;
           on_u = runs-done w m h u on_u;
           to = part-same w m h secondary_of refl v ∙ to;
@@ -230,5 +232,5 @@ pub parts-after : (v server : ℕ) (w : World) → Sound w → Along w (part_aft
 parts-after v server w s = decides w (part_running v) [] _ refl (by _ refl)
   where
     by : (c : Bool) → (is_part (fields_at w.control v).primary && is_running v w.control) ≡ c → Then w (cond c (Do (Make (Suspend v (is_grouped w.control v (partner_of w.control v))))) Pass) (λ k. Along k [])
-    by true is = let both = and_parts (is_part (fields_at w.control v).primary) _ is in (record { runs = both.1; allowed = both.0; fits = tt; ready = idle w v s.queue both.1 }, λ f y. over _ y)
+    by true is = let both = and_parts (is_part (fields_at w.control v).primary) _ is in (record { runs = both.1; allowed = both.0; fits = tt; group = tt; ready = idle w v s.queue both.1 }, λ f y. over _ y)
     by false is = over w s

@@ -9,9 +9,12 @@ pub mod KeepsStructure
 pub mod KeepsParts
 pub mod KeepsImages
 pub mod KeepsRecorded
+pub mod KeepsRecorders
 pub mod KeepsPairs
 pub mod KeepsTargets
 pub mod KeepsQueue
+pub mod GroupsWanted
+pub mod KeepsGroups
 pub mod Along
 pub mod KeepsSound
 pub mod Views

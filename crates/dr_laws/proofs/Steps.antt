@@ -31,7 +31,7 @@ use Rattle.dr_laws.proofs.FitsCopy.{holds-copy}
 use Rattle.dr_laws.proofs.FitsPairs.{holds-pair, holds-remove, holds-pause, holds-resume, holds-drain}
 use Rattle.dr_laws.proofs.FitsWrites.{lands, parts-after}
 use Rattle.dr_laws.proofs.FitsHolds.{holds-freeze, holds-thaw, holds-expire}
-use Rattle.dr_laws.proofs.Sets.{in_none}
+use Rattle.dr_laws.proofs.Sets.{in_none, empty_has}
 use Rattle.dr_laws.proofs.Defines.{sound-defined}
 use Rattle.dr_laws.proofs.Starts.{holds-start}
 use Rattle.dr_laws.proofs.Along as along
@@ -166,7 +166,15 @@ sound-nothing = record {
     };
     images = record { blank = λ v t h. refl; fresh = λ v h t. refl; plain = λ v h t lt. refl; seen = λ v u h. absurd cc };
     recorded = λ v u h. absurd cc;
+    recorders = λ v. record { holds = λ h. absurd cc; global = λ h. absurd cc; pending = λ h. absurd cc; none = λ h. empty_has };
+    final = λ v. refl;
     pairs = λ v u h. absurd cc;
+  };
+  groups = record {
+    once = tt;
+    each = λ x h. absurd h;
+    lone = record { differ = λ x m h. absurd h; one = λ v x y m q h. absurd h };
+    recorders = λ v h. absurd cc;
   };
   targets = record { once = tt; few = λ v. omega arith };
   queue = record { each = tt; apart = tt; lone = tt; numbers = record { now = λ v t. tt; aside = λ v t. tt } };
