@@ -25,7 +25,8 @@ use Rattle.dr_laws.proofs.Sets.{false_true, has_source, from_source}
 use Rattle.dr_laws.proofs.Turns.{done, next_of}
 use Rattle.dr_laws.proofs.KeepsSound.{Along, Then, comes}
 use Rattle.dr_laws.proofs.FitsFlash.{as_begun}
-use Rattle.dr_laws.proofs.FitsPairs.{row, runs-done, part-same, along-drain, suspends-after}
+use Rattle.dr_laws.proofs.FitsPairs.{row, runs-done, part-same}
+use Rattle.dr_laws.proofs.FitsDrain.{along-drain, suspends-after}
 use Rattle.dr_laws.proofs.Fair.{is_locked}
 use Rattle.dr_laws.proofs.Tidy.{is_synced}
 use Rattle.dr_model.specs.Histories.{histories}

@@ -1,7 +1,9 @@
 -- What is still to be shown of sessions and records together: each of these is a statement on control states alone.
-use Rattle.std.proofs.Common.{ℕ, ◌≡◌, ◌≢◌, ◌+◌, ◌⊎◌, Bool, true, false, List, [], ◌∷◌, ◌++◌}
+use Rattle.std.proofs.Common.{ℕ, ◌≡◌, ◌≢◌, ◌+◌, ◌⊎◌, Bool, true, false, List, [], ◌∷◌, ◌++◌, Option, Some, None}
 use Rattle.dr_model.specs.Tables.{at}
-use Rattle.dr_model.specs.Sessions.{changed, begun, lost_since}
+use Rattle.dr_model.specs.Sessions.{Session, session_in, changed, begun, lost_since, joined, left, mirrored_by, paused, unmirrored, with_master, join_refusal, leave_refusal, make_refusal, drop_refusal, abort_refusal}
+use Rattle.dr_model.specs.Phases as phases
+use Rattle.dr_model.specs.SessionPlans.{with_sessions}
 use Rattle.dr_model.specs.Control.{Control, new_volume, is_volume}
 use Rattle.dr_model.specs.Entries.{fields_at}
 use Rattle.dr_model.specs.Groups.{Groups, HoldsMember, OpensAttempt}
@@ -36,3 +38,22 @@ groups-lost k before now old = ?
 -- a volume is defined
 pub groups-defined : (k : Control) (v server tracks : ℕ) → is_volume k v ≡ false → Groups k → Groups (record k { volumes = k.volumes ++ v ∷ []; volume = at k.volume v (new_volume server tracks) })
 groups-defined k v server tracks new old = ?
+
+-- a logical subsystem joins a session and leaves one; a master is appointed, paused, dismissed and aborted
+pub groups-joined : (k : Control) (l s : ℕ) → join_refusal (session_in k.sessions s) l k.sessions ≡ None → Groups k → Groups (with_sessions (joined s l) k)
+groups-joined k l s free old = ?
+
+pub groups-left : (k : Control) (l s : ℕ) (x : Session) → session_in k.sessions s ≡ Some x → leave_refusal (Some x) s l ≡ None → Groups k → Groups (with_sessions (left s l) k)
+groups-left k l s x found free old = ?
+
+pub groups-mirrored : (k : Control) (owner s : ℕ) (x : Session) → session_in k.sessions s ≡ Some x → make_refusal x.mirror ≡ None → Groups k → Groups (with_sessions (changed s (mirrored_by owner)) k)
+groups-mirrored k owner s x found free old = ?
+
+pub groups-paused : (k : Control) (s : ℕ) (on : Bool) → Groups k → Groups (with_sessions (changed s (paused on)) k)
+groups-paused k s on old = ?
+
+pub groups-unmirrored : (k : Control) (s : ℕ) (x : Session) → session_in k.sessions s ≡ Some x → drop_refusal x.mirror ≡ None → Groups k → Groups (with_sessions (changed s unmirrored) k)
+groups-unmirrored k s x found free old = ?
+
+pub groups-aborted : (k : Control) (s : ℕ) (x : Session) → session_in k.sessions s ≡ Some x → abort_refusal x.mirror ≡ None → Groups k → Groups (with_sessions (changed s (with_master phases.aborted)) k)
+groups-aborted k s x found free old = ?

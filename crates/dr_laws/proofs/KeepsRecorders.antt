@@ -9,7 +9,7 @@ use Rattle.dr_model.specs.declared.state.PairState.TheVariants.{CopyPending, Ful
 use Rattle.dr_model.specs.Layout.{Tracks, Fields, is_part}
 use Rattle.dr_model.specs.Histories.{Write}
 use Rattle.dr_model.specs.Relations.{is_bare, is_whole, turned, given_up}
-use Rattle.dr_model.specs.Pairs.{is_metro, is_kind, is_pending, is_suspended, is_engaged}
+use Rattle.dr_model.specs.Pairs.{is_metro, is_kind, is_pending, is_suspended, is_quiet, is_engaged}
 use Rattle.dr_model.specs.Moves.{Move, Land, Overwrite, Keep, Relate, Withdraw, Fetch, Reverse, Release, Strike, Suspend, MakePrimary, DropPrimary, Resume, TakeOver, Lift, Restart, Hold, Free, Finish, target}
 use Rattle.dr_model.specs.Table.{Row, Table}
 use Rattle.dr_model.specs.Rows.{after, next_row}
@@ -28,6 +28,27 @@ not-suspended : (state : PairState) → is_pending state ≡ true → is_suspend
 not-suspended CopyPending p s = absurd cc
 not-suspended FullDuplex p s = absurd cc
 not-suspended Suspended p s = absurd cc
+
+-- one that takes tracks back doesn't record
+quiet-by : (part : Part) (state : PairState) → is_kind Global part ≡ true → is_pending state ≡ true → (not (is_part part) || is_suspended state) ≡ true → ⊥
+quiet-by Absent state g p q = absurd cc
+quiet-by Metro state g p q = absurd cc
+quiet-by Global state g p q = not-suspended state p q
+
+pub quiet-idle : (r : Row) → RowRecords r → is_quiet r.volume.fields ≡ true → r.volume.fields.recording ≡ false
+quiet-idle r o quiet = by r.volume.fields.recording refl
+  where
+    by : (b : Bool) → r.volume.fields.recording ≡ b → b ≡ false
+    by true is = absurd (quiet-by r.volume.fields.primary r.volume.fields.primary_state (o.global is) (o.pending is) quiet)
+    by false is = refl
+
+-- nor does one of Metro Mirror
+pub metro-idle : (r : Row) → RowRecords r → is_metro r.volume.fields.primary ≡ true → r.volume.fields.recording ≡ false
+metro-idle r o metro = by r.volume.fields.recording refl
+  where
+    by : (b : Bool) → r.volume.fields.recording ≡ b → b ≡ false
+    by true is = absurd (not-metro r.volume.fields.primary (o.global is) metro)
+    by false is = refl
 
 struck-pending : (last : Bool) (state : PairState) → (last ≡ true → ⊥) → is_pending state ≡ true → is_pending (cond last FullDuplex state) ≡ true
 struck-pending true state never is = absurd (never refl)

@@ -4,7 +4,7 @@ use Rattle.std.specs.FinSet.{contains, insert, remove, empty}
 use Rattle.dr_model.specs.Tables.{at}
 use Rattle.dr_model.specs.declared.state.Part.{Part}
 use Rattle.dr_model.specs.declared.state.Part.TheVariants.{Absent, Metro, Global}
-use Rattle.dr_model.specs.Pairs.{is_kind}
+use Rattle.dr_model.specs.Pairs.{is_metro, is_kind}
 use Rattle.dr_model.specs.Layout.{Tracks, Fields, is_part}
 use Rattle.dr_model.specs.Histories.{Write}
 use Rattle.dr_model.specs.Relations.{rest, is_bare, is_whole, turned, given_up}
@@ -20,6 +20,11 @@ use Rattle.dr_laws.proofs.KeepsLawful.{lawful-altered, lawful-written, lawful-he
 use Rattle.dr_laws.proofs.Sets.{In, in_cond, in_none, in_more, in_insert, still_in, false_true, none_some, not_turned, from_source, still_related, from_difference, from_union, remove_from, not_removed, not_removed_from, empty_has}
 
 -- a part of some kind is one
+pub metro_part : (part : Part) → is_metro part ≡ true → is_part part ≡ true
+metro_part Absent h = absurd cc
+metro_part Metro h = refl
+metro_part Global h = refl
+
 pub kind_part : (kind part : Part) → is_kind kind part ≡ true → is_part part ≡ true
 kind_part kind Absent h = absurd (none kind h)
   where
@@ -189,13 +194,13 @@ module _ (write : ℕ → Write) (T : Table) (old : Structure T) where
   kept-structure (Follow v state) a = paired (Follow v state) (lawful-followed _ _ (old.lawful v) state a) (old.sets v).apart
   kept-structure (Resume v state) a = paired (Resume v state) (lawful-resumed _ _ (old.lawful v) state a.first) (old.sets v).apart
   kept-structure (TakeOver v) a = paired (TakeOver v) (lawful-taken_over _ _ (old.lawful v) a) (old.sets v).apart
-  kept-structure (Unsync v t) a = paired (Unsync v t) (lawful-unsynced _ _ (old.lawful v) t a.low a.first) (old.sets v).apart
+  kept-structure (Unsync v t) a = paired (Unsync v t) (lawful-unsynced _ _ (old.lawful v) t a.low (metro_part (fields T v).primary a.metro)) (old.sets v).apart
   kept-structure (Mirror v t u w) a = paired (Mirror v t u w) (lawful-mirrored _ _ (old.lawful v) t) (filled v t)
   kept-structure (LandBoth w v t) a = paired (LandBoth w v t) (lawful-synced _ _ (old.lawful v) t (from_source _ _ a.to a.sends).0) (filled v t)
   kept-structure (Thaw v) a = paired (Thaw v) (lawful-thawed _ _ (old.lawful v)) (old.sets v).apart
   kept-structure (Lift v) a = paired (Lift v) (lawful-lifted _ _ (old.lawful v)) (old.sets v).apart
   kept-structure (Restart v) a = paired (Restart v) (lawful-restarted _ _ (old.lawful v)) (old.sets v).apart
-  kept-structure (Hold v s n first) a = paired (Hold v s n first) (lawful-held _ _ (old.lawful v) n (kind_part _ _ a.global)) (old.sets v).apart
+  kept-structure (Hold v s n first) a = paired (Hold v s n first) (lawful-held _ _ (old.lawful v) n (kind_part Global (fields T v).primary a.global)) (old.sets v).apart
   kept-structure (Free v) a = paired (Free v) (lawful-freed _ _ (old.lawful v)) (old.sets v).apart
   kept-structure (Seal v u s n) a = paired (Seal v u s n) (lawful-sealed _ _ (old.lawful v) n (from_source _ _ u a.takes).0) (old.sets v).apart
   kept-structure (Finish v n) a = paired (Finish v n) (lawful-past_attempt _ _ (old.lawful v) n) (old.sets v).apart

@@ -23,8 +23,11 @@ pub mod Lands
 pub mod FitsFlash
 pub mod FitsCopy
 pub mod FitsPairs
+pub mod FitsDrain
+pub mod FitsCollide
 pub mod FitsWrites
 pub mod FitsHolds
+pub mod FitsSessions
 pub mod Issues
 pub mod Defines
 pub mod Starts
@@ -40,6 +43,7 @@ pub mod Texts
 pub mod Agree
 pub mod ReadStops
 pub mod StopsTold
+pub mod CalmPlans
 pub mod Unissued
 pub mod WindowTracks
 pub mod Fair
