@@ -36,37 +36,38 @@ module _ (J I : World → Type 0) (May : World → Act → Type 0) where
   act-keeps keeps w a P j may goes ends =
       act-cases w a P (λ d off. absurd (false_true off (keeps.runs w a d may))) (λ f. goes f (keeps.does w a f j may)) (counts-by keeps w a P j may ends) (λ d f. ends _ _ (keeps.fails w a f d j may))
 
--- J holds along a plan, I where it is refused or stopped, and E where its entries end well
-module _ (J I E : World → Type 0) (May : World → Act → Type 0) where
+  -- what comes after an entry, by what it decides
   abbrev pub along_next : World → Next → (World → Type 0) → Type 0
   along_next w Pass more = more w
   along_next w (End r) more = I w
   along_next w (Do a) more = May w a × ((f : Option Fuse) → J (after_act w a f) → more (after_act w a f))
 
+-- J holds along a plan, I where it is refused or stopped, and E where its entries end well
+module _ (J I E : World → Type 0) (May : World → Act → Type 0) where
   -- each act of a plan may come where it comes, whatever the fuses are
   unfoldable pub Along : World → List Entry → Type 0
   Along w [] = E w
-  Along w (d ∷ ds) = along_next w (d w.control) (λ v. Along v ds)
+  Along w (d ∷ ds) = along_next J I May w (d w.control) (λ v. Along v ds)
 
   pub along-nil : (w : World) → E w → Along w []
   unfolding Along
   along-nil w e = e
 
   -- an entry, by what it decides
-  pub along-entry : (w : World) (d : Entry) (ds : List Entry) (x : Next) → d w.control ≡ x → along_next w x (λ v. Along v ds) → Along w (d ∷ ds)
+  pub along-entry : (w : World) (d : Entry) (ds : List Entry) (x : Next) → d w.control ≡ x → along_next J I May w x (λ v. Along v ds) → Along w (d ∷ ds)
   unfolding Along
-  along-entry w d ds x is a = subst (λ x. along_next w x (λ v. Along v ds)) (sym is) a
+  along-entry w d ds x is a = subst (λ x. along_next J I May w x (λ v. Along v ds)) (sym is) a
 
-  pub along-comes : (w : World) (d : Entry) (ds : List Entry) (x : Next) → d w.control ≡ x → Along w (d ∷ ds) → along_next w x (λ v. Along v ds)
+  pub along-comes : (w : World) (d : Entry) (ds : List Entry) (x : Next) → d w.control ≡ x → Along w (d ∷ ds) → along_next J I May w x (λ v. Along v ds)
   unfolding Along
-  along-comes w d ds x is a = subst (λ x. along_next w x (λ v. Along v ds)) is a
+  along-comes w d ds x is a = subst (λ x. along_next J I May w x (λ v. Along v ds)) is a
 
   pub along-ends : (w : World) → Along w [] → E w
   unfolding Along
   along-ends w a = a
 
   -- a check, and a move that comes in any case
-  check-by : (w : World) (b : Bool) (r : Refusal) (more : World → Type 0) → I w → (b ≡ true → more w) → along_next w (cond b Pass (End r)) more
+  check-by : (w : World) (b : Bool) (r : Refusal) (more : World → Type 0) → I w → (b ≡ true → more w) → along_next J I May w (cond b Pass (End r)) more
   check-by w true r more i go = go refl
   check-by w false r more i go = i
 
@@ -82,7 +83,7 @@ module _ (J I E : World → Type 0) (May : World → Act → Type 0) where
   EndedBy w (Some r) = I w
 
   module _ (keeps : Keeps J I May) where
-    next-keeps : (w : World) (x : Next) (rest : World → Outcome) (more : World → Type 0) → ((v : World) → J v → more v → EndedBy (rest v).0 (rest v).1) → J w → along_next w x more → EndedBy (go w x rest).0 (go w x rest).1
+    next-keeps : (w : World) (x : Next) (rest : World → Outcome) (more : World → Type 0) → ((v : World) → J v → more v → EndedBy (rest v).0 (rest v).1) → J w → along_next J I May w x more → EndedBy (go w x rest).0 (go w x rest).1
     next-keeps w Pass rest more on j a = on w j a
     next-keeps w (End r) rest more on j a = a
     next-keeps w (Do x) rest more on j a = act-keeps J I May keeps w x (λ t. EndedBy (continue t.0 t.1 rest).0 (continue t.0 t.1 rest).1) j a.0 (λ f k. on _ k (a.1 f k)) (λ v s i. i)
@@ -103,7 +104,7 @@ module _ (J I : World → Type 0) (May : World → Act → Type 0) (keeps : Keep
   act-ends : (w : World) (a : Act) (less : World → Type 0) → J w → May w a → ((f : Option Fuse) → J (after_act w a f) → less (after_act w a f) → I u) → EndsTurn armed u r (act w a).0 (act w a).1 less → I u
   act-ends w a less j may on = act-keeps J I May keeps w a (λ t. EndsTurn armed u r t.0 t.1 less → I u) j may on (λ v s i e. end-keeps v _ i e)
 
-  next-ends : (w : World) (x : Next) (more less : World → Type 0) → ((v : World) → J v → more v → less v → I u) → J w → along_next J I I May w x more → EndsNext armed u r w x less → I u
+  next-ends : (w : World) (x : Next) (more less : World → Type 0) → ((v : World) → J v → more v → less v → I u) → J w → along_next J I May w x more → EndsNext armed u r w x less → I u
   next-ends w Pass more less on j a e = on w j a e
   next-ends w (End end) more less on j a e = end-keeps w _ a e
   next-ends w (Do x) more less on j a e = act-ends w x less j a.0 (λ f k l. on _ k (a.1 f k) l) e
@@ -117,7 +118,7 @@ module _ (J I : World → Type 0) (May : World → Act → Type 0) (keeps : Keep
 
 -- at every moment of a plan a law holds that J, I and E give
 module _ (J I E W : World → Type 0) (May : World → Act → Type 0) (inner : (w : World) → J w → W w) (outer : (w : World) → I w → W w) (end : (w : World) → E w → W w) where
-  next-weaker : (w : World) (x : Next) (more less : World → Type 0) → ((v : World) → J v → more v → less v) → J w → along_next J I E May w x more → along_next J W W May w x less
+  next-weaker : (w : World) (x : Next) (more less : World → Type 0) → ((v : World) → J v → more v → less v) → J w → along_next J I May w x more → along_next J W May w x less
   next-weaker w Pass more less f j a = f w j a
   next-weaker w (End r) more less f j a = outer w a
   next-weaker w (Do x) more less f j a = (a.0, λ u k. f _ k (a.1 u k))

@@ -215,5 +215,5 @@ module _ (w : World) (k : Between w) (a : ℕ) (most : Option ℕ) where
             let both = and_parts (is_part (fields_at w.control a).primary) _ copying in
             sends-all Fins fins w.control.volumes a (fields_at w.control a).primary_partner (tracks_to_send most (w.control.volume a).tracks (fields_at w.control a).out_of_sync) u b
             (record { on = on; there = there; to = has_source (is_part (fields_at w.control a).primary) (fields_at w.control a).primary_partner both.0; going = pending-going (fields_at w.control a).primary_state both.1 }) al)));
-        last = λ k. refl;
+        last = λ k. (k.sessions, refl);
       }

@@ -13,12 +13,13 @@ use Rattle.dr_model.specs.Groups.{Groups}
 use Rattle.dr_model.specs.Plans.{Plan}
 use Rattle.dr_model.specs.SessionEntries.{members_on}
 use Rattle.dr_model.specs.SessionPlans.{with_sessions, table_plan, off_refusal, member_with}
-use Rattle.dr_model.specs.Runs.{masters_lost}
+use Rattle.dr_model.specs.Runs.{begun, masters_lost}
 use Rattle.dr_model.specs.Laws.{Sound}
 use Rattle.dr_laws.proofs.GroupsWanted.{groups-lost, groups-joined, groups-left, groups-mirrored, groups-paused, groups-unmirrored, groups-aborted}
 use Rattle.dr_laws.proofs.Cases.{Joins, Ordered, added, expelled, aborted, ordered}
 use Rattle.dr_laws.proofs.FitsFlash.{as_begun, sound-begun}
-use Rattle.dr_laws.proofs.KeepsSound.{StepHolds, holds-moves, over}
+use Rattle.dr_laws.proofs.KeepsSound.{Along, MayDo, StepHolds, keeps-sound, holds-moves, over}
+use Rattle.dr_laws.proofs.Along as along
 
 -- other sessions
 pub sound-sessions : (w : World) (ss : List Session) → Groups (record w.control { sessions = ss }) → Sound w → Sound (record w { control = record w.control { sessions = ss } })
@@ -59,12 +60,36 @@ module _ (w : World) (s : Sound w) where
   pub holds-aborted : (i : ℕ) (x : Session) → session_in w.control.sessions i ≡ Some x → abort_refusal x.mirror ≡ None → StepHolds w (aborted i)
   holds-aborted i x found free = holds-sessions (changed i (with_master phases.aborted)) (aborted i).says (groups-aborted w.control i x found free s.groups)
 
-  -- members that come and go, and orders
-  pub holds-added : (i a c : ℕ) (x : Session) → Joins w.control i a c x → StepHolds w (added w.control i x (member_with w.control a c))
-  holds-added i a c x joins = ?
+-- What is to be shown of a plan whose entries may say more where they end well, on which the sessions that it leaves rest.
+pub record Orders (w : World) (p : Plan) : Type 1 where
+  pub ends : World → Type 0
+  pub complete : (v : World) → ends v → Sound v
+  pub begins : Sound (begun w p)
+  pub entries : along.Along Sound Sound ends MayDo (begun w p) p.entries
+  pub follows : (s : ℕ) (v : World) → Sound v → Along v (p.follows s)
+  pub last : (v : World) → ends v → Sound (record v { control = p.last v.control })
 
-  pub holds-expelled : (i a : ℕ) (x : Session) (m : Member) → session_in w.control.sessions i ≡ Some x → find (λ (m : Member). m.a.0 == a) x.members ≡ Some m → busy x.mirror ≡ None → off_refusal w.control (w.control.volume m.c.0).server ≡ None → StepHolds w (expelled i m)
-  holds-expelled i a x m found is idle on = ?
+pub holds-orders : (w : World) (p : Plan) → Orders w p → StepHolds w p
+holds-orders w p o = record {
+  inner = Sound;
+  ends = o.ends;
+  may = MayDo;
+  keeps = keeps-sound;
+  within = λ v s. s.rows;
+  complete = λ v e. (o.complete v e).rows;
+  begins = o.begins;
+  entries = o.entries;
+  follows = o.follows;
+  last = o.last;
+}
 
-  pub holds-ordered : (i server : ℕ) (reply : Bool) (x : Session) (r : Mirror) (o : phases.Order) → Ordered w.control i server x r o → StepHolds w (ordered i server reply (members_on server x.members) o)
-  holds-ordered i server reply x r o allowed = ?
+-- members that come and go, and orders
+module _ (w : World) (s : Sound w) where
+  pub orders-added : (i a c : ℕ) (x : Session) → Joins w.control i a c x → Orders w (added w.control i x (member_with w.control a c))
+  orders-added i a c x joins = ?
+
+  pub orders-expelled : (i a : ℕ) (x : Session) (m : Member) → session_in w.control.sessions i ≡ Some x → find (λ (m : Member). m.a.0 == a) x.members ≡ Some m → busy x.mirror ≡ None → off_refusal w.control (w.control.volume m.c.0).server ≡ None → Orders w (expelled i m)
+  orders-expelled i a x m found is idle on = ?
+
+  pub orders-ordered : (i server : ℕ) (reply : Bool) (x : Session) (r : Mirror) (o : phases.Order) → Ordered w.control i server x r o → Orders w (ordered i server reply (members_on server x.members) o)
+  orders-ordered i server reply x r o allowed = ?

@@ -1,5 +1,5 @@
 -- What is still to be shown of sessions and records together: each of these is a statement on control states alone.
-use Rattle.std.proofs.Common.{ℕ, ◌≡◌, ◌≢◌, ◌+◌, ◌⊎◌, Bool, true, false, List, [], ◌∷◌, ◌++◌, Option, Some, None}
+use Rattle.std.proofs.Common.{ℕ, ◌≡◌, ◌≢◌, ◌+◌, ◌⊎◌, Bool, true, false, ◌≤◌, List, [], ◌∷◌, ◌++◌, length, Option, Some, None}
 use Rattle.dr_model.specs.Tables.{at}
 use Rattle.dr_model.specs.Sessions.{Session, session_in, changed, begun, lost_since, joined, left, mirrored_by, paused, unmirrored, with_master, join_refusal, leave_refusal, make_refusal, drop_refusal, abort_refusal}
 use Rattle.dr_model.specs.Phases as phases
@@ -57,3 +57,8 @@ groups-unmirrored k s x found free old = ?
 
 pub groups-aborted : (k : Control) (s : ℕ) (x : Session) → session_in k.sessions s ≡ Some x → abort_refusal x.mirror ≡ None → Groups k → Groups (with_sessions (changed s (with_master phases.aborted)) k)
 groups-aborted k s x found free old = ?
+
+-- A session has no more members than there are volumes. This rests on no two of its members having one primary, which `Groups`
+-- leaves open for a member that comes twice in the list.
+pub members-few : (k : Control) (s : ℕ) (x : Session) → session_in k.sessions s ≡ Some x → Groups k → length x.members ≤ length k.volumes
+members-few k s x found old = ?

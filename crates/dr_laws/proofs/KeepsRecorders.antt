@@ -59,7 +59,7 @@ none-left : (e : Bool) (changed : Tracks) → (e ≡ false → (t : ℕ) → con
 none-left true changed none t = empty_has t
 none-left false changed none t = none refl t
 
-none-written : (part records : Bool) (changed : Tracks) (t : ℕ) → records ≡ false → ((q : ℕ) → contains changed q ≡ false) → (q : ℕ) → contains (cond (part && records) (insert changed t) changed) q ≡ false
+pub none-written : (part records : Bool) (changed : Tracks) (t : ℕ) → records ≡ false → ((q : ℕ) → contains changed q ≡ false) → (q : ℕ) → contains (cond (part && records) (insert changed t) changed) q ≡ false
 none-written true true changed t is none q = absurd cc
 none-written true false changed t is none q = none q
 none-written false records changed t is none q = none q

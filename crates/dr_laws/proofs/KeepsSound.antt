@@ -178,7 +178,7 @@ Along = along.Along Sound Sound Sound MayDo
 -- The steps of a proof that a plan of moves is allowed along: what follows a decision; no entry is left; an entry, by
 -- what it decides; a move that comes in any case; a check.
 abbrev pub Then : World → Next → (World → Type 0) → Type 0
-Then = along.along_next Sound Sound Sound MayDo
+Then = along.along_next Sound Sound MayDo
 
 pub over : (w : World) → Sound w → Along w []
 over = along.along-nil Sound Sound Sound MayDo

@@ -37,6 +37,7 @@ pub mod Costs
 pub mod CopyCosts
 pub mod PairCosts
 pub mod WriteCosts
+pub mod SessionCosts
 pub mod Spends
 pub mod Limits
 pub mod Texts
@@ -63,6 +64,7 @@ pub mod FairStart
 pub mod FairDrain
 pub mod FairWithin
 pub mod FairWrites
+pub mod FairSessions
 pub mod FairSteps
 pub mod EndsInCut
 pub mod Thaws

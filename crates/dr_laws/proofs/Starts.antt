@@ -291,17 +291,17 @@ module _ (s : ℕ) where
   abbrev Along : World → List Entry → Type 0
   Along = along.Along Inner Sound Sound MayStart
 
-  acknowledge-by : (w : World) (o : Option Pending) → first_landed w ≡ o → Inner w → along.along_next Inner Sound Sound MayStart w (acknowledge_if (option_map (λ (p : Pending). p.w) o)) (λ v. Along v [])
+  acknowledge-by : (w : World) (o : Option Pending) → first_landed w ≡ o → Inner w → along.along_next Inner Sound MayStart w (acknowledge_if (option_map (λ (p : Pending). p.w) o)) (λ v. Along v [])
   acknowledge-by w None none j = along.along-nil Inner Sound Sound MayStart w (sound-free w j.sound (none-found (servers w.control) (is_volume w.control) s w.control.pending (are-defined w j.sound) none))
   acknowledge-by w (Some p) first j =
       (record { waits = p; number = refl; first = first }, λ f k. along.along-nil Inner Sound Sound MayStart _ (sound-free _ k.sound (gone w j.sound p first).free))
 
-  redo-by : (w : World) (v : ℕ) (more : World → Type 0) → Inner w → ((k : World) → Inner k → more k) → (b : Bool) → belongs w.control s v ≡ b → along.along_next Inner Sound Sound MayStart w (cond b (Do (Redo v)) Pass) more
+  redo-by : (w : World) (v : ℕ) (more : World → Type 0) → Inner w → ((k : World) → Inner k → more k) → (b : Bool) → belongs w.control s v ≡ b → along.along_next Inner Sound MayStart w (cond b (Do (Redo v)) Pass) more
   redo-by w v more j go false h = go w j
   redo-by w v more j go true h = (record { own = eqb-true (servers w.control v) s (and_parts _ _ h).1; on = j.on }, λ f k. go _ k)
 
   restart-by : (w : World) (v : ℕ) (more : World → Type 0) → Inner w → ((k : World) → Inner k → more k) → (b : Bool) → (belongs w.control s v && must_restart (fields_at w.control v)) ≡ b
-      → along.along_next Inner Sound Sound MayStart w (cond b (Do (Make (Restart v))) Pass) more
+      → along.along_next Inner Sound MayStart w (cond b (Do (Make (Restart v))) Pass) more
   restart-by w v more j go false h = go w j
   restart-by w v more j go true h = (record { own = eqb-true (servers w.control v) s (and_parts (is_volume w.control v) _ (and_parts (belongs w.control s v) _ h).0).1; on = j.on }, λ f k. go _ k)
 

@@ -78,7 +78,7 @@ module _ (old : ℕ → ℕ → List ℕ) where
 
   module _ (l m : ℕ) where
     thaws-by : (w : World) (v : ℕ) (more : World → Type 0) → Within w → ((k : World) → Within k → more k)
-        → (b : Bool) → (is_between w.control l m v && (fields_at w.control v).long_busy) ≡ b → along.along_next Within Within Within Thawing w (cond b (Do (Make (Thaw v))) Pass) more
+        → (b : Bool) → (is_between w.control l m v && (fields_at w.control v).long_busy) ≡ b → along.along_next Within Within Thawing w (cond b (Do (Make (Thaw v))) Pass) more
     thaws-by w v more s go false is = go w s
     thaws-by w v more s go true is =
         let primary = between l m w v (and_parts (is_between w.control l m v) _ is).0 in
