@@ -16,7 +16,7 @@ use Rattle.dr_model.specs.Allowed.{Allowed}
 use Rattle.dr_model.specs.Lawful.{IsLawful}
 use Rattle.dr_model.proofs.Images.{at_same}
 use Rattle.dr_laws.proofs.AtLemmas.{at_cases, each-at, linked-at}
-use Rattle.dr_laws.proofs.KeepsLawful.{lawful-altered, lawful-written, lawful-held, lawful-freed, lawful-sealed, lawful-past_attempt, lawful-attempt, lawful-floor, lawful-no_member,  lawful-received, lawful-struck, lawful-suspended, lawful-resumed, lawful-followed, lawful-made_secondary, lawful-made_primary, lawful-no_primary, lawful-no_secondary, lawful-taken_over, lawful-unsynced, lawful-mirrored, lawful-synced, lawful-thawed, lawful-lifted, lawful-restarted, lawful-taken, low-noted, lawful-noted, lawful-made, lawful-withdrawn, lawful-resynced, lawful-turned, lawful-given_up}
+use Rattle.dr_laws.proofs.KeepsLawful.{lawful-altered, lawful-written, lawful-held, lawful-freed, lawful-sealed, lawful-past_attempt, lawful-attempt, lawful-floor, lawful-no_member, lawful-received, lawful-struck, lawful-suspended, lawful-resumed, lawful-followed, lawful-made_secondary, lawful-made_primary, lawful-no_primary, lawful-no_secondary, lawful-taken_over, lawful-unsynced, lawful-mirrored, lawful-synced, lawful-thawed, lawful-lifted, lawful-restarted, lawful-taken, low-noted, lawful-noted, lawful-made, lawful-withdrawn, lawful-resynced, lawful-turned, lawful-given_up}
 use Rattle.dr_laws.proofs.Sets.{In, in_cond, in_none, in_more, in_insert, still_in, false_true, none_some, not_turned, from_source, still_related, from_difference, from_union, remove_from, not_removed, not_removed_from, empty_has}
 
 -- a part of some kind is one
