@@ -1,0 +1,35 @@
+-- What a control state keeps of another one.
+use Rattle.std.specs.Prelude.{◌≡◌, ◌≢◌, ℕ, Bool, true, false, Option, Some}
+use Rattle.dr_ids.specs.declared.names.Member.{Member}
+use Rattle.dr_ids.specs.declared.refusal.PhaseName.TheVariants as phase
+use Rattle.dr_model.specs.Tables.{at}
+use Rattle.dr_model.specs.Layout.{Fields}
+use Rattle.dr_model.specs.Control.{Control, is_volume}
+use Rattle.dr_model.specs.Moves.{Carried, moved}
+use Rattle.dr_model.specs.Entries.{fields_at}
+use Rattle.dr_model.specs.Sessions.{Session, Mirror}
+use Rattle.dr_model.specs.Groups.{In}
+
+-- each volume that was there is there, on its server and of its size
+pub record Grows (k j : Control) : Type 0 where
+  pub defined : (v : ℕ) → is_volume k v ≡ true → is_volume j v ≡ true
+  pub server : (v : ℕ) → is_volume k v ≡ true → (j.volume v).server ≡ (k.volume v).server
+  pub tracks : (v : ℕ) → is_volume k v ≡ true → (j.volume v).tracks ≡ (k.volume v).tracks
+
+-- what records then has recorded before, for the same attempt
+pub record Quieter (k j : Control) : Type 0 where
+  pub recorded : (v : ℕ) → (fields_at j v).recording ≡ true → (fields_at k v).recording ≡ true
+  pub attempt : (v : ℕ) → (fields_at j v).recording ≡ true → (fields_at j v).attempt ≡ (fields_at k v).attempt
+
+-- volume v has other fields, and nothing else of a volume changed
+pub record Moves (k j : Control) (v : ℕ) (f : Fields) (c : Carried) : Type 0 where
+  pub volumes : j.volumes ≡ k.volumes
+  pub volume : j.volume ≡ at k.volume v (moved (k.volume v) f c)
+
+-- a session without a master, or whose master is Idle
+abbrev pub Quiet : Session → Type 0
+Quiet x = (r : Mirror) → x.mirror ≡ Some r → r.master.phase ≡ phase.Idle
+
+-- a member's server has done the last order: its primary doesn't record
+abbrev pub ServerSilent : Control → Session → ℕ → Type 0
+ServerSilent k x server = (m : Member) → In m x.members → m.server.0 ≡ server → (fields_at k m.a.0).recording ≡ false
