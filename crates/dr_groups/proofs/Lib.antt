@@ -2,3 +2,5 @@ pub mod Lists
 pub mod Changes
 pub mod AtLemmas
 pub mod Frames
+pub mod Sound
+pub mod Masters
