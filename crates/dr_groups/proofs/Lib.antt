@@ -4,3 +4,4 @@ pub mod AtLemmas
 pub mod Frames
 pub mod Sound
 pub mod Masters
+pub mod Tables
