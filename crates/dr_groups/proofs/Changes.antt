@@ -1,12 +1,12 @@
 -- The table of sessions, where one session changes or goes.
-use Rattle.std.proofs.Common.{ℕ, ◌≡◌, ◌≢◌, ◌⊎◌, inl, inr, refl, ap, sym, ◌∙◌, subst, Bool, true, false, cond, ◌||◌, nat_eq, List, [], ◌∷◌, map, Option, None, Some, ◌==◌}
+use Rattle.std.proofs.Common.{ℕ, ◌≡◌, ◌≢◌, ◌⊎◌, inl, inr, refl, ap, sym, ◌∙◌, subst, Bool, true, false, cond, ◌||◌, nat_eq, List, [], ◌∷◌, map, None, Some, ◌==◌}
 use Rattle.std.specs.List.{list_any}
-use Rattle.std.proofs.lemmas.Bool.{eqb-true, eqb-false, eq-eqb, ne_eqb}
+use Rattle.std.proofs.lemmas.Bool.{cases_Bool, eqb-true, eqb-false}
 use Rattle.std.proofs.lemmas.Bool.Decides.{eqb_tells}
 use Rattle.dr_model.specs.Tables.{Once}
 use Rattle.dr_model.specs.Groups.{In}
 use Rattle.dr_model.specs.Sessions.{Session, session_in, changed, without_session}
-use Rattle.dr_groups.proofs.Lists.{found, not-found, once-same, once-later}
+use Rattle.dr_groups.proofs.Lists.{some_is, found, not-found, once-same, once-later}
 
 abbrev pub numbers : List Session → List ℕ
 numbers ss = map (λ (x : Session). x.number) ss
@@ -84,6 +84,20 @@ changed-becomes s f (z ∷ xs) x once h e = by (λ more. changed-becomes s f xs 
     by : (In x xs → In (f x) (changed s f xs)) → ((nat_eq z.number s ≡ true) × (z.number ≡ s)) ⊎ ((nat_eq z.number s ≡ false) × (z.number ≢ s)) → In x (z ∷ xs) → In (f x) (cond (z.number == s) (f z ∷ xs) (z ∷ changed s f xs))
     by again (inl n) k = subst (λ b. In (f x) (cond b (f z ∷ xs) (z ∷ changed s f xs))) (sym n.0) (here n.1 k)
     by again (inr n) k = subst (λ b. In (f x) (cond b (f z ∷ xs) (z ∷ changed s f xs))) (sym n.0) (there again n.1 k)
+
+pub changed-found : (s : ℕ) (f : Session → Session) (ss : List Session) (x : Session) → ((x : Session) → (f x).number ≡ x.number) → session_in ss s ≡ Some x → session_in (changed s f ss) s ≡ Some (f x)
+unfolding changed
+changed-found s f [] x same h = absurd cc
+changed-found s f (z ∷ xs) x same h = by (changed-found s f xs x same) (cases_Bool (z.number == s)) h
+  where
+    by : (session_in xs s ≡ Some x → session_in (changed s f xs) s ≡ Some (f x)) → ((z.number == s) ≡ true) ⊎ ((z.number == s) ≡ false) → cond (z.number == s) (Some z) (session_in xs s) ≡ Some x
+        → session_in (cond (z.number == s) (f z ∷ xs) (z ∷ changed s f xs)) s ≡ Some (f x)
+    by again (inl e) k =
+        ap (λ b. session_in (cond b (f z ∷ xs) (z ∷ changed s f xs)) s) e
+        ∙ (ap (λ b. cond b (Some (f z)) (session_in xs s)) (ap (λ n. n == s) (same z) ∙ e) ∙ ap (λ y. Some (f y)) (some_is (sym (ap (λ b. cond b (Some z) (session_in xs s)) e) ∙ k)))
+    by again (inr e) k =
+        ap (λ b. session_in (cond b (f z ∷ xs) (z ∷ changed s f xs)) s) e
+        ∙ (ap (λ b. cond b (Some z) (session_in (changed s f xs) s)) e ∙ again (sym (ap (λ b. cond b (Some z) (session_in xs s)) e) ∙ k))
 
 -- no number changes
 pub changed-numbers : (s : ℕ) (f : Session → Session) (ss : List Session) → ((x : Session) → (f x).number ≡ x.number) → numbers (changed s f ss) ≡ numbers ss

@@ -1,20 +1,19 @@
 -- Where the laws of sessions stay: over other volumes, and for other sessions.
-use Rattle.std.proofs.Common.{ℕ, ◌≡◌, ◌≢◌, ◌⊎◌, inl, inr, refl, ap, sym, ◌∙◌, subst, Bool, true, false, nat_eq, List, Option, Some}
+use Rattle.std.proofs.Common.{ℕ, ◌≡◌, ◌≢◌, ◌⊎◌, inl, inr, refl, sym, ◌∙◌, subst, true, false, List, Some}
 use Rattle.std.proofs.lemmas.Bool.{cases_Bool}
-use Rattle.std.proofs.lemmas.Bool.Decides.{eqb_tells}
 use Rattle.dr_ids.specs.declared.names.Member.{Member}
 use Rattle.dr_ids.specs.declared.refusal.PhaseName.TheVariants as phase
-use Rattle.dr_model.specs.Tables.{Once, at}
+use Rattle.dr_model.specs.Tables.{Once}
 use Rattle.dr_model.specs.Layout.{Fields}
 use Rattle.dr_model.specs.Control.{Control, Volume, is_volume}
 use Rattle.dr_model.specs.Moves.{Carried, moved}
 use Rattle.dr_model.specs.Entries.{fields_at}
-use Rattle.dr_model.specs.Sessions.{Session, Mirror, IsSound}
-use Rattle.dr_model.specs.Groups.{In, MemberStands, Finished, SessionFits, IsAt, PlacesDiffer, Lone, IsRecorder, Groups}
+use Rattle.dr_model.specs.Sessions.{Session, Mirror}
+use Rattle.dr_model.specs.Groups.{In, MemberStands, SessionFits, Lone, IsRecorder, Groups}
 use Rattle.dr_groups.specs.Frames.{Grows, Quieter, Moves, Quiet}
 use Rattle.dr_groups.proofs.Lists.{false_true}
-use Rattle.dr_groups.proofs.AtLemmas.{Told, at_cases}
-use Rattle.dr_groups.proofs.Changes.{numbers, same-session}
+use Rattle.dr_groups.proofs.AtLemmas.{at_cases}
+use Rattle.dr_groups.proofs.Changes.{numbers}
 
 -- ---- over other volumes
 

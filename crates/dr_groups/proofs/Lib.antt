@@ -5,3 +5,7 @@ pub mod Frames
 pub mod Sound
 pub mod Masters
 pub mod Tables
+pub mod Members
+pub mod Volumes
+pub mod Quieting
+pub mod Silent

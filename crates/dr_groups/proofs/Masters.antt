@@ -1,21 +1,19 @@
 -- A session whose master changes.
-use Rattle.std.proofs.Common.{ℕ, ◌≡◌, ◌≢◌, ◌⊎◌, inl, inr, refl, ap, sym, ◌∙◌, subst, Bool, true, false, cond, not, ◌||◌, ◌&&◌, nat_eq, List, [], ◌∷◌, filter, Option, None, Some, option_map, ◌==◌}
-use Rattle.std.proofs.lemmas.Bool.{cases_Bool}
+use Rattle.std.proofs.Common.{ℕ, ◌≡◌, ◌≢◌, ◌⊎◌, inl, inr, refl, ap, sym, ◌∙◌, subst, Bool, true, false, cond, not, ◌&&◌, List, [], ◌∷◌, Option, None, Some, option_map}
 use Rattle.std.proofs.lemmas.Bool.Decides.{eqb_tells}
-use Rattle.std.specs.List.{list_any}
 use Rattle.dr_ids.specs.declared.names.Member.{Member}
 use Rattle.dr_ids.specs.declared.refusal.PhaseName.{PhaseName}
 use Rattle.dr_ids.specs.declared.refusal.PhaseName.TheVariants as phase
 use Rattle.dr_model.specs.Phases as phases
 use Rattle.dr_model.specs.Control.{Control}
 use Rattle.dr_model.specs.Entries.{fields_at}
-use Rattle.dr_model.specs.Sessions.{Session, Mirror, IsSound, servers_of, with_mirror, with_master, paused, mirror_lost_since}
+use Rattle.dr_model.specs.Sessions.{Session, Mirror, servers_of, with_mirror, with_master, paused, mirror_lost_since}
 use Rattle.dr_model.specs.Groups.{In, Finished, SessionFits}
 use Rattle.dr_groups.specs.Frames.{ServerSilent}
-use Rattle.dr_groups.proofs.Lists.{false_true, any-some, any-none}
+use Rattle.dr_groups.proofs.Lists.{false_true}
 use Rattle.dr_groups.proofs.AtLemmas.{Told}
-use Rattle.dr_groups.proofs.Frames.{Keeps, Turns}
-use Rattle.dr_groups.proofs.Sound.{among-servers, among-without, Mapped, mapped}
+use Rattle.dr_groups.proofs.Frames.{Turns}
+use Rattle.dr_groups.proofs.Sound.{among-servers, among-without, mapped}
 
 -- what a master becomes, and the laws of its session stay
 pub record MirrorTurns (k : Control) (x : Session) (r q : Mirror) : Type 0 where

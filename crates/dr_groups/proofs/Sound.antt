@@ -1,7 +1,7 @@
 -- What stays true of a session by itself, and of its master.
-use Rattle.std.proofs.Common.{ℕ, zero, suc, ◌≡◌, ◌≢◌, ◌<◌, ◌⊎◌, inl, inr, refl, ap, sym, ◌∙◌, subst, max, ◌+◌, Bool, true, false, cond, not, ◌||◌, nat_eq, nat_lt, List, [], ◌∷◌, ◌++◌, filter, Option, None, Some, option_map, arith, ◌==◌}
-use Rattle.std.specs.List.{list_any, list_all, range_with_len}
-use Rattle.std.proofs.lemmas.Bool.{ltb-true, eq-eqb, ne_eqb, cases_Bool}
+use Rattle.std.proofs.Common.{ℕ, zero, suc, ◌≡◌, ◌≢◌, ◌<◌, ◌⊎◌, inl, inr, refl, ap, sym, ◌∙◌, max, ◌+◌, Bool, true, cond, not, ◌||◌, nat_eq, nat_lt, List, [], ◌∷◌, ◌++◌, filter, Option, None, Some, option_map, arith, ◌==◌}
+use Rattle.std.specs.List.{list_any, range_with_len}
+use Rattle.std.proofs.lemmas.Bool.{ltb-true, eq-eqb, ne_eqb}
 use Rattle.std.proofs.lemmas.Bool.Decides.{eqb_tells}
 use Rattle.dr_ids.specs.declared.names.Member.{Member}
 use Rattle.dr_ids.specs.declared.refusal.PhaseName.{PhaseName}
@@ -9,7 +9,7 @@ use Rattle.dr_ids.specs.declared.refusal.PhaseName.TheVariants as phase
 use Rattle.dr_ids.specs.declared.refusal.Refusal.{Refusal}
 use Rattle.dr_model.specs.Phases as phases
 use Rattle.dr_model.specs.Control.{Control}
-use Rattle.dr_model.specs.Sessions.{Session, Mirror, IsSound, servers_of, all_low, with_mirror, with_members, raised, begun, mirrored_by, unmirrored, busy, unless_idle, formation, no_master, drop_refusal, new_session}
+use Rattle.dr_model.specs.Sessions.{Session, Mirror, IsSound, servers_of, all_low, with_mirror, with_members, raised, begun, mirrored_by, unmirrored, busy, unless_idle, drop_refusal, new_session}
 use Rattle.dr_model.specs.Groups.{In, MemberStands, SessionFits}
 use Rattle.dr_groups.specs.Frames.{Quiet}
 use Rattle.dr_groups.proofs.Lists.{in-joined, from-filter, to-filter, any-some, all-each, each-all, some_is, none_some}

@@ -1,22 +1,23 @@
 -- The laws stay where the table of sessions changes.
-use Rattle.std.proofs.Common.{ℕ, ◌≡◌, ◌≢◌, ◌⊎◌, inl, inr, refl, ap, sym, ◌∙◌, subst, max, Bool, true, false, cond, not, ◌&&◌, ◌||◌, nat_eq, nat_lt, List, [], ◌∷◌, ◌++◌, map, filter, Option, None, Some, option_map, ◌==◌}
-use Rattle.std.specs.List.{find, list_any}
-use Rattle.std.proofs.lemmas.Bool.{cases_Bool, eq-eqb, or_cases}
+use Rattle.std.proofs.Common.{ℕ, ◌≡◌, ◌≢◌, ◌⊎◌, inl, inr, refl, ap, sym, ◌∙◌, subst, Bool, true, false, cond, not, List, [], ◌∷◌, ◌++◌, Option, None, Some}
+use Rattle.std.specs.List.{list_any}
+use Rattle.std.proofs.lemmas.Bool.{cases_Bool}
 use Rattle.std.proofs.lemmas.Bool.Decides.{eqb_tells}
 use Rattle.dr_ids.specs.declared.names.Member.{Member}
 use Rattle.dr_ids.specs.declared.refusal.PhaseName.TheVariants as phase
 use Rattle.dr_model.specs.Phases as phases
 use Rattle.dr_model.specs.Tables.{Once}
 use Rattle.dr_model.specs.Control.{Control}
-use Rattle.dr_model.specs.Entries.{fields_at}
-use Rattle.dr_model.specs.Sessions.{Session, Mirror, session_in, has_place, has_place_of, has_subsystem, has_member_in, is_only, with_mirror, with_master, mirror_with, servers_of, with_members, raised, begun, mirrored_by, unmirrored, paused, mirror_lost_since, lost_since, joined_by, left_by, with_member, without_member, new_session, changed, without_session, joins, joined, leaves, left, busy, last_refusal, leave_refusal, not_in_session, in_session, drop_refusal}
-use Rattle.dr_model.specs.Groups.{In, MemberStands, SessionFits, IsAt, PlacesDiffer, Lone, IsRecorder, Groups}
+use Rattle.dr_model.specs.SessionEntries.{is_drained, reply_after}
+use Rattle.dr_model.specs.SessionPlans.{answered_by}
+use Rattle.dr_model.specs.Sessions.{Session, Mirror, session_in, has_subsystem, has_member_in, is_only, with_mirror, with_master, mirrored_by, unmirrored, paused, mirror_lost_since, lost_since, joined_by, left_by, new_session, changed, without_session, joins, joined, leaves, left, last_refusal, leave_refusal, not_in_session, in_session, drop_refusal}
+use Rattle.dr_model.specs.Groups.{In, SessionFits, Groups}
 use Rattle.dr_groups.specs.Frames.{Grows, Quieter, Quiet, ServerSilent}
-use Rattle.dr_groups.proofs.Lists.{false_true, none_some, some_is, in-first, in-second, in-joined, from-filter, not-found, any-none, from-map, to-map, Image, once-more}
+use Rattle.dr_groups.proofs.Lists.{some_is, in-first, in-joined, from-map, to-map, once-more}
 use Rattle.dr_groups.proofs.AtLemmas.{Told}
 use Rattle.dr_groups.proofs.Changes.{numbers, session-found, none-numbered, same-session, Became, changed-in, changed-stays, changed-becomes, changed-once, without-in, without-stays, without-once}
-use Rattle.dr_groups.proofs.Frames.{Fit, fit-of, groups-of, stands-grows, Turns, turn-same, turn-quiet, Stem, Goes, fit-turns, recorder-goes, Origin, lone-origin}
-use Rattle.dr_groups.proofs.Sound.{sound-raised, sound-begun, sound-mirrored, sound-unmirrored, sound-members, sound-new, low-more, low-fewer, quiet-of, quiet-drop, quiet-none, quiet-mirror, fits-calm, fits-quiet}
+use Rattle.dr_groups.proofs.Frames.{Fit, fit-of, groups-of, Turns, turn-same, turn-quiet, Stem, Goes, fit-turns, Origin, lone-origin}
+use Rattle.dr_groups.proofs.Sound.{sound-mirrored, sound-unmirrored, sound-new, quiet-drop, quiet-none, fits-quiet}
 use Rattle.dr_groups.proofs.Masters.{turn-paused, session-aborted, session-lost, session-done, session-waits}
 
 -- the same volumes
@@ -62,16 +63,16 @@ groups-mirrored k s server x groups found none =
     let fits = session-fits k s x groups found in
     table-one k s (mirrored_by server) x groups found (λ x. refl)
     (turn-quiet k x (mirrored_by server x) (quiet-none x none) refl
-      (fits-quiet k (mirrored_by server x) (sound-mirrored server x fits.sound) fits.stands (λ r h. ap (λ (q : Mirror). q.master.phase) (sym (some_is h))))
-      (λ m here. here))
+    (fits-quiet k (mirrored_by server x) (sound-mirrored server x fits.sound) fits.stands (λ r h. ap (λ (q : Mirror). q.master.phase) (sym (some_is h))))
+    (λ m here. here))
 
 pub groups-unmirrored : (k : Control) (s : ℕ) (x : Session) → Groups k → session_in k.sessions s ≡ Some x → drop_refusal x.mirror ≡ None → Groups (record k { sessions = changed s unmirrored k.sessions })
 groups-unmirrored k s x groups found idle =
     let fits = session-fits k s x groups found in
     table-one k s unmirrored x groups found (λ x. refl)
     (turn-quiet k x (unmirrored x) (quiet-drop x idle) refl
-      (fits-quiet k (unmirrored x) (sound-unmirrored x fits.sound) fits.stands (quiet-none (unmirrored x) refl))
-      (λ m here. here))
+    (fits-quiet k (unmirrored x) (sound-unmirrored x fits.sound) fits.stands (quiet-none (unmirrored x) refl))
+    (λ m here. here))
 
 -- these hold of whichever session has the number
 pub groups-paused : (k : Control) (s : ℕ) (on : Bool) → Groups k → Groups (record k { sessions = changed s (paused on) k.sessions })
@@ -90,6 +91,23 @@ pub groups-done : (k : Control) (s server : ℕ) (x : Session) → Groups k → 
 groups-done k s server x groups found silent =
     table-one k s (with_master (λ m. phases.replied m server phases.Done)) x groups found (λ x. refl) (session-done k x server (session-fits k s x groups found) silent)
 
+-- the reply that a server gives when it has done an order
+replies : (work : phases.Work) (ms : List Member) (j : Control) → (reply_after work ms j ≡ phases.Done) ⊎ (reply_after work ms j ≡ phases.NotYet)
+replies phases.Seal ms j = by (list_any (λ (m : Member). not (is_drained m.a.0 j)) ms)
+  where
+    by : (b : Bool) → (cond b phases.NotYet phases.Done ≡ phases.Done) ⊎ (cond b phases.NotYet phases.Done ≡ phases.NotYet)
+    by true = inr refl
+    by false = inl refl
+replies work ms j = inl refl
+
+pub groups-answered : (k : Control) (s server : ℕ) (work : phases.Work) (ms : List Member) (x : Session) → Groups k → session_in k.sessions s ≡ Some x → ((r : Mirror) → x.mirror ≡ Some r → r.master.phase ≡ phase.Finishing → ServerSilent k x server)
+    → Groups (answered_by s server work ms k)
+groups-answered k s server work ms x groups found silent = by (replies work ms k)
+  where
+    by : (reply_after work ms k ≡ phases.Done) ⊎ (reply_after work ms k ≡ phases.NotYet) → Groups (record k { sessions = changed s (with_master (λ m. phases.replied m server (reply_after work ms k))) k.sessions })
+    by (inl done) = subst (λ a. Groups (record k { sessions = changed s (with_master (λ m. phases.replied m server a)) k.sessions })) (sym done) (groups-done k s server x groups found silent)
+    by (inr waits) = subst (λ a. Groups (record k { sessions = changed s (with_master (λ m. phases.replied m server a)) k.sessions })) (sym waits) (groups-waits k s server groups)
+
 -- ---- masters are lost
 
 lost-numbers : (before now : ℕ → Bool) (ss : List Session) → numbers (lost_since before now ss) ≡ numbers ss
@@ -100,9 +118,9 @@ pub groups-lost : (k : Control) (before now : ℕ → Bool) → Groups k → Gro
 groups-lost k before now groups =
     with-table k (lost_since before now k.sessions)
     (fit-turns k k.sessions (lost_since before now k.sessions) (fit-of k groups) (subst Once (sym (lost-numbers before now k.sessions)) groups.once)
-      (λ y i. let o = from-map (with_mirror (mirror_lost_since before now)) k.sessions y i in
-        record { from = o.from; listed = o.here; turns = subst (λ z. Turns k o.from z) (sym o.is) (session-lost k o.from before now (groups.each o.from o.here)) })
-      (λ x i. record { to = with_mirror (mirror_lost_since before now) x; listed = to-map (with_mirror (mirror_lost_since before now)) k.sessions x i; turns = session-lost k x before now (groups.each x i) }))
+    (λ y i. let o = from-map (with_mirror (mirror_lost_since before now)) k.sessions y i in
+    record { from = o.from; listed = o.here; turns = subst (λ z. Turns k o.from z) (sym o.is) (session-lost k o.from before now (groups.each o.from o.here)) })
+    (λ x i. record { to = with_mirror (mirror_lost_since before now) x; listed = to-map (with_mirror (mirror_lost_since before now)) k.sessions x i; turns = session-lost k x before now (groups.each x i) }))
 
 -- ---- logical subsystems
 
@@ -187,7 +205,7 @@ groups-left k s l x groups found leaves_it = subst (λ o. Groups (record k { ses
     by : (is_only l x ≡ true) ⊎ (is_only l x ≡ false) → Groups (record k { sessions = cond (is_only l x) (without_session s k.sessions) (changed s (left_by l) k.sessions) })
     by (inl only) = subst (λ b. Groups (record k { sessions = cond b (without_session s k.sessions) (changed s (left_by l) k.sessions) })) (sym only)
         (with-table k (without_session s k.sessions) (fit-without k s groups (λ y i e.
-          subst Quiet (same-session k.sessions x y groups.once there.0 i (there.1 ∙ sym e)) (quiet-none x (leave-last x s l leaves_it only)))))
+        subst Quiet (same-session k.sessions x y groups.once there.0 i (there.1 ∙ sym e)) (quiet-none x (leave-last x s l leaves_it only)))))
     by (inr more) = subst (λ b. Groups (record k { sessions = cond b (without_session s k.sessions) (changed s (left_by l) k.sessions) })) (sym more)
         (with-table k (changed s (left_by l) k.sessions)
         (fit-changed k s (left_by l) groups (λ x. refl) (λ x i e. turn-subsystems k x (left_by l x) refl refl refl refl (groups.each x i) (left-fits k l x (groups.each x i)))))

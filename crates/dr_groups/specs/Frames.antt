@@ -1,14 +1,14 @@
 -- What a control state keeps of another one.
-use Rattle.std.specs.Prelude.{◌≡◌, ◌≢◌, ℕ, Bool, true, false, Option, Some}
+use Rattle.std.specs.Prelude.{◌≡◌, ◌⊎◌, ℕ, true, false, List, Some}
 use Rattle.dr_ids.specs.declared.names.Member.{Member}
 use Rattle.dr_ids.specs.declared.refusal.PhaseName.TheVariants as phase
 use Rattle.dr_model.specs.Tables.{at}
 use Rattle.dr_model.specs.Layout.{Fields}
 use Rattle.dr_model.specs.Control.{Control, is_volume}
-use Rattle.dr_model.specs.Moves.{Carried, moved}
+use Rattle.dr_model.specs.Moves.{Move, Hold, RaiseAttempt, Carried, moved}
 use Rattle.dr_model.specs.Entries.{fields_at}
 use Rattle.dr_model.specs.Sessions.{Session, Mirror}
-use Rattle.dr_model.specs.Groups.{In}
+use Rattle.dr_model.specs.Groups.{In, IsAt, HoldsMember}
 
 -- each volume that was there is there, on its server and of its size
 pub record Grows (k j : Control) : Type 0 where
@@ -33,3 +33,17 @@ Quiet x = (r : Mirror) → x.mirror ≡ Some r → r.master.phase ≡ phase.Idle
 -- a member's server has done the last order: its primary doesn't record
 abbrev pub ServerSilent : Control → Session → ℕ → Type 0
 ServerSilent k x server = (m : Member) → In m x.members → m.server.0 ≡ server → (fields_at k m.a.0).recording ≡ false
+
+-- no volume of a member has a place in a session
+abbrev pub NoPlace : List Session → Member → Type 0
+NoPlace ss m = (v : ℕ) (x : Session) (q : Member) → In x ss → In q x.members → IsAt v m → IsAt v q → ⊥
+
+-- what a move asks of the sessions: a hold is one of its session, and an attempt is raised only where nothing is recorded
+abbrev pub Suits : Control → Move → Type 0
+Suits k (Hold v s n first) = HoldsMember k v s n
+Suits k (RaiseAttempt v n) = (fields_at k v).recording ≡ false
+Suits k m = Unit {0}
+
+-- each member of the session on that server is left to do, or doesn't record
+abbrev pub SilentBut : Control → Session → ℕ → List Member → Type 0
+SilentBut k x server rest = (m : Member) → In m x.members → m.server.0 ≡ server → In m rest ⊎ ((fields_at k m.a.0).recording ≡ false)

@@ -1,11 +1,96 @@
-//! Laws of what the sessions and the records of volumes say together. Its functions do nothing: each names a law by its contract.
+//! Laws of what the sessions and the records of volumes say together: no number is that of two sessions, each session is sound
+//! and its members' volumes stand, a volume has one place in one member, and only primaries of members record, the last
+//! attempt of their session. Its functions do nothing: each names a law by its contract.
 #![tactic(auto)]
 
-ghost use Rattle.std.specs.Prelude.{◌≡◌, ◌≢◌, ◌⊎◌, ℕ, Option, Some, List};
-ghost use Rattle.dr_model.specs.Sessions.{Session, session_in};
-ghost use Rattle.dr_model.specs.Groups.{In};
+ghost use Rattle.std.specs.Prelude.{◌≡◌, ◌≢◌, ◌⊎◌, ◌+◌, ◌++◌, ◌∷◌, [], ℕ, Bool, true, false, nat_lt, Option, None, Some, List};
+ghost use Rattle.std.specs.List.{find};
+ghost use Rattle.dr_ids.specs.declared.names.Member.{Member};
+ghost use Rattle.dr_ids.specs.declared.refusal.PhaseName.TheVariants as phase;
+ghost use Rattle.dr_model.specs.Phases as phases;
+ghost use Rattle.dr_model.specs.Tables.{at, Once};
+ghost use Rattle.dr_model.specs.Layout.{Fields};
+ghost use Rattle.dr_model.specs.Control.{Control, no_control, is_volume, new_volume};
+ghost use Rattle.dr_model.specs.Pairs.{held_for, records};
+ghost use Rattle.dr_model.specs.Moves.{Move, Carried, target, next_fields};
+ghost use Rattle.dr_model.specs.Entries.{fields_at};
+ghost use Rattle.dr_model.specs.SessionEntries.{is_past, members_on};
+ghost use Rattle.dr_model.specs.SessionPlans.{answered_by};
+ghost use Rattle.dr_model.specs.Sessions.{Session, Mirror, session_in, has_place_of, changed, joined, left, lost_since, begun, raised, mirrored_by, unmirrored, paused, with_master, with_member, without_member, busy, leave_refusal, drop_refusal};
+ghost use Rattle.dr_model.specs.Groups.{In, IsAt, MemberStands, PlacesDiffer, Groups, HoldsMember, OpensAttempt};
+ghost use Rattle.dr_groups.specs.Frames.{Grows, Quieter, Moves, Suits, Quiet, ServerSilent, SilentBut};
 
-/// The session that a number gives is one of the table, and has that number.
+/// The laws hold before the first step, and stay where a volume is defined.
+pub fn the_laws_of_sessions_begin()
+    ensures none { Groups no_control }
+    ensures defined { (k : Control) (v server tracks : ℕ) → is_volume k v ≡ false → Groups k → Groups (record k { volumes = k.volumes ++ v ∷ []; volume = at k.volume v (new_volume server tracks) }) }
+{}
+
+/// They stay where the sessions do, each volume stays on its server and of its size, and what records then has recorded before,
+/// for the same attempt; and in each kind of move, of which a hold is one of its session.
+pub fn each_move_keeps_the_laws_of_sessions()
+    ensures still { (k j : Control) → j.sessions ≡ k.sessions → Grows k j → Quieter k j → Groups k → Groups j }
+    ensures moved { (k j : Control) (v : ℕ) (f : Fields) (c : Carried) → j.sessions ≡ k.sessions → Moves k j v f c → (f.recording ≡ true → ((fields_at k v).recording ≡ true) × (f.attempt ≡ (fields_at k v).attempt)) → Groups k → Groups j }
+    ensures held { (k j : Control) (v s n : ℕ) (c : Carried) → j.sessions ≡ k.sessions → Moves k j v (held_for n (fields_at k v)) c → HoldsMember k v s n → Groups k → Groups j }
+    ensures opened { (k j : Control) (v s n : ℕ) (c : Carried) → j.sessions ≡ changed s begun k.sessions → Moves k j v (held_for n (fields_at k v)) c → OpensAttempt k v s n → Groups k → Groups j }
+    ensures any { (k j : Control) (m : Move) (c : Carried) → j.sessions ≡ k.sessions → Moves k j (target m) (next_fields m k.volume) c → Suits k m → Groups k → Groups j }
+{}
+
+/// They stay where a logical subsystem joins or leaves a session.
+pub fn joining_and_leaving_keep_the_laws_of_sessions()
+    ensures joined { (k : Control) (s l : ℕ) → Groups k → Groups (record k { sessions = joined s l k.sessions }) }
+    ensures left { (k : Control) (s l : ℕ) (x : Session) → Groups k → session_in k.sessions s ≡ Some x → leave_refusal (Some x) s l ≡ None → Groups (record k { sessions = left s l k.sessions }) }
+{}
+
+/// They stay where a master is appointed, dismissed, paused, aborted or lost.
+pub fn masters_keep_the_laws_of_sessions()
+    ensures mirrored { (k : Control) (s server : ℕ) (x : Session) → Groups k → session_in k.sessions s ≡ Some x → x.mirror ≡ None → Groups (record k { sessions = changed s (mirrored_by server) k.sessions }) }
+    ensures unmirrored { (k : Control) (s : ℕ) (x : Session) → Groups k → session_in k.sessions s ≡ Some x → drop_refusal x.mirror ≡ None → Groups (record k { sessions = changed s unmirrored k.sessions }) }
+    ensures paused { (k : Control) (s : ℕ) (on : Bool) → Groups k → Groups (record k { sessions = changed s (paused on) k.sessions }) }
+    ensures aborted { (k : Control) (s : ℕ) → Groups k → Groups (record k { sessions = changed s (with_master phases.aborted) k.sessions }) }
+    ensures lost { (k : Control) (before now : ℕ → Bool) → Groups k → Groups (record k { sessions = lost_since before now k.sessions }) }
+{}
+
+/// They stay where a master takes the reply of a server. In Finishing no member on it may record.
+pub fn replies_keep_the_laws_of_sessions()
+    ensures done { (k : Control) (s server : ℕ) (x : Session) → Groups k → session_in k.sessions s ≡ Some x → ((r : Mirror) → x.mirror ≡ Some r → r.master.phase ≡ phase.Finishing → ServerSilent k x server) → Groups (record k { sessions = changed s (with_master (λ m. phases.replied m server phases.Done)) k.sessions }) }
+    ensures waits { (k : Control) (s server : ℕ) → Groups k → Groups (record k { sessions = changed s (with_master (λ m. phases.replied m server phases.NotYet)) k.sessions }) }
+    ensures answered { (k : Control) (s server : ℕ) (work : phases.Work) (ms : List Member) (x : Session) → Groups k → session_in k.sessions s ≡ Some x → ((r : Mirror) → x.mirror ≡ Some r → r.master.phase ≡ phase.Finishing → ServerSilent k x server) → Groups (answered_by s server work ms k) }
+{}
+
+/// They stay where a session without an attempt has its last number raised, and a member more or less.
+pub fn members_keep_the_laws_of_sessions()
+    ensures raised { (k : Control) (s n : ℕ) (x : Session) → Groups k → session_in k.sessions s ≡ Some x → busy x.mirror ≡ None → Groups (record k { sessions = changed s (raised n) k.sessions }) }
+    ensures added { (k : Control) (s n : ℕ) (x : Session) (m : Member) → Groups k → session_in k.sessions s ≡ Some x → busy x.mirror ≡ None → nat_lt m.server.0 8 ≡ true → MemberStands k m → PlacesDiffer m → find (has_place_of m) k.sessions ≡ None → Groups (record k { sessions = changed s (with_member m) (changed s (raised n) k.sessions) }) }
+    ensures removed { (k : Control) (s a : ℕ) (x : Session) → Groups k → session_in k.sessions s ≡ Some x → busy x.mirror ≡ None → Groups (record k { sessions = changed s (without_member a) k.sessions }) }
+{}
+
+/// The session that a number gives is one of the table, and has that number. No other session has it.
 pub fn a_session_that_is_found_is_listed()
-    ensures { (ss : List Session) (s : ℕ) (x : Session) → session_in ss s ≡ Some x → In x ss × (x.number ≡ s) }
+    ensures found { (ss : List Session) (s : ℕ) (x : Session) → session_in ss s ≡ Some x → In x ss × (x.number ≡ s) }
+    ensures same { (k : Control) (x y : Session) → Groups k → In x k.sessions → In y k.sessions → x.number ≡ y.number → x ≡ y }
+{}
+
+/// Nobody records in a session without a master, or whose master is Idle; a member that doesn't record its session's last attempt
+/// records none; and a volume without a place doesn't record.
+pub fn only_members_record()
+    ensures quiet { (k : Control) (x : Session) (m : Member) → Groups k → In x k.sessions → Quiet x → In m x.members → (fields_at k m.a.0).recording ≡ false }
+    ensures member { (k : Control) (x : Session) (m : Member) (n : ℕ) → Groups k → In x k.sessions → In m x.members → x.last ≡ n → records n (fields_at k m.a.0) ≡ false → (fields_at k m.a.0).recording ≡ false }
+    ensures past { (k : Control) (x : Session) (m : Member) (n : ℕ) → Groups k → In x k.sessions → In m x.members → x.last ≡ n → is_past n (fields_at k m.a.0) ≡ true → (fields_at k m.a.0).recording ≡ false }
+    ensures stranger { (k : Control) (v : ℕ) → Groups k → ((x : Session) (m : Member) → In x k.sessions → In m x.members → m.a.0 ≢ v) → (fields_at k v).recording ≡ false }
+    ensures placeless { (k : Control) (m : Member) (v : ℕ) → Groups k → find (has_place_of m) k.sessions ≡ None → IsAt v m → (fields_at k v).recording ≡ false }
+    ensures apart { (k : Control) (x : Session) (m : Member) (v : ℕ) → Groups k → In x k.sessions → In m x.members → (v ≡ m.b.0) ⊎ (v ≡ m.c.0) → (fields_at k v).recording ≡ false }
+{}
+
+/// What a master's order begins with or holds is one of its session, with the number that it is to have.
+pub fn orders_hold_members()
+    ensures holds { (k : Control) (s : ℕ) (x : Session) (r : Mirror) (m : Member) → Groups k → session_in k.sessions s ≡ Some x → x.mirror ≡ Some r → In m x.members → r.master.phase ≡ phase.Coordinating → HoldsMember k m.a.0 s r.master.number }
+    ensures opens { (k : Control) (s : ℕ) (x : Session) (r : Mirror) (m : Member) → Groups k → session_in k.sessions s ≡ Some x → x.mirror ≡ Some r → In m x.members → r.master.phase ≡ phase.Idle → OpensAttempt k m.a.0 s (r.master.number + 1) }
+{}
+
+/// One member after another on a server stops to record, and at last none records.
+pub fn a_server_falls_silent()
+    ensures begins { (k : Control) (x : Session) (server : ℕ) → SilentBut k x server (members_on server x.members) }
+    ensures next { (k j : Control) (x : Session) (server : ℕ) (q : Member) (rest : List Member) → SilentBut k x server (q ∷ rest) → ((v : ℕ) → (fields_at k v).recording ≡ false → (fields_at j v).recording ≡ false) → (fields_at j q.a.0).recording ≡ false → SilentBut j x server rest }
+    ensures ends { (k : Control) (x : Session) (server : ℕ) → SilentBut k x server [] → ServerSilent k x server }
 {}
