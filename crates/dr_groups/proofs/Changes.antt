@@ -6,6 +6,7 @@ use Rattle.std.proofs.lemmas.Bool.Decides.{eqb_tells}
 use Rattle.dr_model.specs.Tables.{Once}
 use Rattle.dr_model.specs.Groups.{In}
 use Rattle.dr_model.specs.Sessions.{Session, session_in, changed, without_session}
+use Rattle.dr_groups.specs.Frames.{Became}
 use Rattle.dr_groups.proofs.Lists.{some_is, found, not-found, once-same, once-later}
 
 abbrev pub numbers : List Session → List ℕ
@@ -23,12 +24,6 @@ pub same-session : (ss : List Session) (x y : Session) → Once (numbers ss) →
 same-session ss x y once i j e = once-same (λ (z : Session). z.number) ss x y once i j e
 
 -- a session of the new table was there, or is what the one of that number became
-pub record Became (s : ℕ) (f : Session → Session) (ss : List Session) (y : Session) : Type 0 where
-  pub from : Session
-  pub listed : In from ss
-  pub number : from.number ≡ s
-  pub is : y ≡ f from
-
 pub changed-in : (s : ℕ) (f : Session → Session) (ss : List Session) (y : Session) → Once (numbers ss) → In y (changed s f ss) → (In y ss × (y.number ≢ s)) ⊎ Became s f ss y
 unfolding changed
 changed-in s f [] y once h = absurd h

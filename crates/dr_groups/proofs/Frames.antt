@@ -4,15 +4,12 @@ use Rattle.std.proofs.lemmas.Bool.{cases_Bool}
 use Rattle.dr_ids.specs.declared.names.Member.{Member}
 use Rattle.dr_ids.specs.declared.refusal.PhaseName.TheVariants as phase
 use Rattle.dr_model.specs.Tables.{Once}
-use Rattle.dr_model.specs.Layout.{Fields}
-use Rattle.dr_model.specs.Control.{Control, Volume, is_volume}
-use Rattle.dr_model.specs.Moves.{Carried, moved}
+use Rattle.dr_model.specs.Control.{Control}
 use Rattle.dr_model.specs.Entries.{fields_at}
 use Rattle.dr_model.specs.Sessions.{Session, Mirror}
 use Rattle.dr_model.specs.Groups.{In, MemberStands, SessionFits, Lone, IsRecorder, Groups}
-use Rattle.dr_groups.specs.Frames.{Grows, Quieter, Moves, Quiet}
+use Rattle.dr_groups.specs.Frames.{Grows, Quieter, Quiet}
 use Rattle.dr_groups.proofs.Lists.{false_true}
-use Rattle.dr_groups.proofs.AtLemmas.{at_cases}
 use Rattle.dr_groups.proofs.Changes.{numbers}
 
 -- ---- over other volumes
@@ -53,6 +50,9 @@ pub record Fit (k : Control) (ss : List Session) : Type 0 where
 pub fit-of : (k : Control) → Groups k → Fit k k.sessions
 fit-of k groups = record { once = groups.once; each = groups.each; lone = groups.lone; recorders = groups.recorders }
 
+pub groups-fit : (k : Control) → Fit k k.sessions → Groups k
+groups-fit k fit = record { once = fit.once; each = fit.each; lone = fit.lone; recorders = fit.recorders }
+
 pub groups-of : (k j : Control) → Grows k j → Quieter k j → Fit k j.sessions → Groups j
 groups-of k j grows quieter fit = record {
   once = fit.once;
@@ -60,25 +60,6 @@ groups-of k j grows quieter fit = record {
   lone = fit.lone;
   recorders = λ v h. subst (λ n. IsRecorder j.sessions v n) (sym (quieter.attempt v h)) (fit.recorders v (quieter.recorded v h));
 }
-
--- other fields of one volume
-pub grows-moved : (k j : Control) (v : ℕ) (f : Fields) (c : Carried) → Moves k j v f c → Grows k j
-grows-moved k j v f c moves = record {
-  defined = λ u d. subst (λ vs. is_volume (record k { volumes = vs }) u ≡ true) (sym moves.volumes) d;
-  server = λ u d. (λ i. (moves.volume i u).server) ∙ at_cases (λ u (y : Volume). y.server ≡ (k.volume u).server) k.volume v (moved (k.volume v) f c) refl (λ u ne. refl) u;
-  tracks = λ u d. (λ i. (moves.volume i u).tracks) ∙ at_cases (λ u (y : Volume). y.tracks ≡ (k.volume u).tracks) k.volume v (moved (k.volume v) f c) refl (λ u ne. refl) u;
-}
-
-pub quieter-moved : (k j : Control) (v : ℕ) (f : Fields) (c : Carried) → Moves k j v f c
-    → (f.recording ≡ true → ((fields_at k v).recording ≡ true) × (f.attempt ≡ (fields_at k v).attempt)) → Quieter k j
-quieter-moved k j v f c moves quiet = record {
-  recorded = λ u h. (both u h).0;
-  attempt = λ u h. (both u h).1;
-}
-  where
-    both : (u : ℕ) → (fields_at j u).recording ≡ true → ((fields_at k u).recording ≡ true) × ((fields_at j u).attempt ≡ (fields_at k u).attempt)
-    both u = subst (λ (w : ℕ → Volume). (w u).fields.recording ≡ true → ((fields_at k u).recording ≡ true) × ((w u).fields.attempt ≡ (fields_at k u).attempt)) (sym moves.volume)
-        (at_cases (λ u (y : Volume). y.fields.recording ≡ true → ((fields_at k u).recording ≡ true) × (y.fields.attempt ≡ (fields_at k u).attempt)) k.volume v (moved (k.volume v) f c) quiet (λ u ne h. (h, refl)) u)
 
 -- ---- for other sessions
 

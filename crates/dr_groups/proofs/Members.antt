@@ -13,10 +13,10 @@ use Rattle.dr_model.specs.Control.{Control}
 use Rattle.dr_model.specs.Entries.{fields_at}
 use Rattle.dr_model.specs.Sessions.{Session, Mirror, session_in, has_place, has_place_of, servers_of, with_members, raised, with_member, without_member, changed, busy, unless_idle}
 use Rattle.dr_model.specs.Groups.{In, MemberStands, SessionFits, IsAt, PlacesDiffer, IsRecorder, Groups}
-use Rattle.dr_groups.specs.Frames.{Quiet, NoPlace}
+use Rattle.dr_groups.specs.Frames.{Became, Quiet, NoPlace}
 use Rattle.dr_groups.proofs.Lists.{false_true, in-joined, from-filter, not-found, any-none}
 use Rattle.dr_groups.proofs.AtLemmas.{Told}
-use Rattle.dr_groups.proofs.Changes.{numbers, session-found, same-session, Became, changed-in, changed-stays, changed-once, changed-found}
+use Rattle.dr_groups.proofs.Changes.{numbers, session-found, same-session, changed-in, changed-stays, changed-once, changed-found}
 use Rattle.dr_groups.proofs.Frames.{Turns, turn-quiet, stands-grows}
 use Rattle.dr_groups.proofs.Sound.{sound-raised, sound-members, low-more, low-fewer, quiet-of, quiet-mirror, fits-quiet}
 use Rattle.dr_groups.proofs.Tables.{grows-same, with-table, fit-changed, one-turns, session-fits}

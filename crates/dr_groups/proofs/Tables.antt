@@ -12,10 +12,10 @@ use Rattle.dr_model.specs.SessionEntries.{is_drained, reply_after}
 use Rattle.dr_model.specs.SessionPlans.{answered_by}
 use Rattle.dr_model.specs.Sessions.{Session, Mirror, session_in, has_subsystem, has_member_in, is_only, with_mirror, with_master, mirrored_by, unmirrored, paused, mirror_lost_since, lost_since, joined_by, left_by, new_session, changed, without_session, joins, joined, leaves, left, last_refusal, leave_refusal, not_in_session, in_session, drop_refusal}
 use Rattle.dr_model.specs.Groups.{In, SessionFits, Groups}
-use Rattle.dr_groups.specs.Frames.{Grows, Quieter, Quiet, ServerSilent}
+use Rattle.dr_groups.specs.Frames.{Became, Grows, Quieter, Quiet, ServerSilent}
 use Rattle.dr_groups.proofs.Lists.{some_is, in-first, in-joined, from-map, to-map, once-more}
 use Rattle.dr_groups.proofs.AtLemmas.{Told}
-use Rattle.dr_groups.proofs.Changes.{numbers, session-found, none-numbered, same-session, Became, changed-in, changed-stays, changed-becomes, changed-once, without-in, without-stays, without-once}
+use Rattle.dr_groups.proofs.Changes.{numbers, session-found, none-numbered, same-session, changed-in, changed-stays, changed-becomes, changed-once, without-in, without-stays, without-once}
 use Rattle.dr_groups.proofs.Frames.{Fit, fit-of, groups-of, Turns, turn-same, turn-quiet, Stem, Goes, fit-turns, Origin, lone-origin}
 use Rattle.dr_groups.proofs.Sound.{sound-mirrored, sound-unmirrored, sound-new, quiet-drop, quiet-none, fits-quiet}
 use Rattle.dr_groups.proofs.Masters.{turn-paused, session-aborted, session-lost, session-done, session-waits}

@@ -1,26 +1,24 @@
 -- The laws of sessions stay where volumes change: before the first step, where a volume is defined, and in a move.
-use Rattle.std.proofs.Common.{ℕ, ◌≡◌, ◌≢◌, inl, refl, ap, sym, ◌∙◌, subst, true, false, ◌||◌, nat_eq, List, [], ◌∷◌, ◌++◌, Some, option_map}
+use Rattle.std.proofs.Common.{ℕ, ◌≡◌, ◌≢◌, ◌⊎◌, inl, inr, refl, ap, sym, ◌∙◌, subst, true, false, ◌||◌, nat_eq, List, [], ◌∷◌, ◌++◌, Some, option_map}
 use Rattle.std.specs.List.{list_any}
+use Rattle.std.proofs.lemmas.Bool.{cases_Bool}
 use Rattle.std.proofs.lemmas.List.Folds.{list_any-append}
 use Rattle.dr_ids.specs.declared.names.Member.{Member}
 use Rattle.dr_ids.specs.declared.refusal.PhaseName.{PhaseName}
 use Rattle.dr_ids.specs.declared.refusal.PhaseName.TheVariants as phase
 use Rattle.dr_model.specs.Phases as phases
 use Rattle.dr_model.specs.Tables.{at}
-use Rattle.dr_model.specs.Layout.{Fields}
 use Rattle.dr_model.specs.Control.{Control, Volume, new_volume, no_control, is_volume}
-use Rattle.dr_model.specs.Pairs.{held_for}
-use Rattle.dr_model.specs.Moves.{Carried, moved}
 use Rattle.dr_model.specs.Entries.{fields_at}
 use Rattle.dr_model.specs.Sessions.{Session, Mirror, changed, begun}
 use Rattle.dr_model.specs.Groups.{In, Finished, SessionFits, IsRecorder, Groups, IsMember, HoldsMember, OpensAttempt}
-use Rattle.dr_groups.specs.Frames.{Grows, Quieter, Moves, Quiet}
+use Rattle.dr_groups.specs.Frames.{Grows, Quieter, Framed, Recorded, RecordedOr, Quiet}
 use Rattle.dr_groups.proofs.Lists.{false_true, some_is}
 use Rattle.dr_groups.proofs.AtLemmas.{at_cases}
 use Rattle.dr_groups.proofs.Changes.{same-session, changed-becomes}
-use Rattle.dr_groups.proofs.Frames.{Fit, fit-of, groups-of, stands-grows, grows-moved, quieter-moved, Turns, turn-quiet}
+use Rattle.dr_groups.proofs.Frames.{Fit, fit-of, groups-fit, groups-of, stands-grows, Turns, turn-quiet}
 use Rattle.dr_groups.proofs.Sound.{mapped, sound-begun, fits-calm}
-use Rattle.dr_groups.proofs.Tables.{fit-changed}
+use Rattle.dr_groups.proofs.Tables.{with-table, fit-changed}
 
 pub groups-none : Groups no_control
 groups-none = record {
@@ -58,14 +56,20 @@ groups-defined k v server tracks new groups = groups-of k (defined k v server tr
       attempt = λ u h. at_cases (λ u (y : Volume). y.fields.recording ≡ true → y.fields.attempt ≡ (fields_at k u).attempt) k.volume v (new_volume server tracks) (λ h. absurd cc) (λ u ne h. refl) u h;
     }
 
--- ---- a move that makes nothing record
+-- ---- nothing more records
 
 pub groups-still : (k j : Control) → j.sessions ≡ k.sessions → Grows k j → Quieter k j → Groups k → Groups j
 groups-still k j same grows quieter groups = groups-of k j grows quieter (subst (Fit k) (sym same) (fit-of k groups))
 
-pub groups-moved : (k j : Control) (v : ℕ) (f : Fields) (c : Carried) → j.sessions ≡ k.sessions → Moves k j v f c
-    → (f.recording ≡ true → ((fields_at k v).recording ≡ true) × (f.attempt ≡ (fields_at k v).attempt)) → Groups k → Groups j
-groups-moved k j v f c same moves quiet groups = groups-still k j same (grows-moved k j v f c moves) (quieter-moved k j v f c moves quiet) groups
+pub grows-framed : (j k : Control) → Framed j k → Grows j k
+grows-framed j k frame = record {
+  defined = λ u d. subst (λ vs. is_volume (record j { volumes = vs }) u ≡ true) (sym frame.volumes) d;
+  server = λ u d. frame.server u;
+  tracks = λ u d. frame.tracks u;
+}
+
+pub groups-same : (j k : Control) → Framed j k → ((v : ℕ) → (fields_at k v).recording ≡ true → Recorded j k v) → Groups j → Groups k
+groups-same j k frame stays old = groups-still j k frame.sessions (grows-framed j k frame) (record { recorded = λ v h. (stays v h).0; attempt = λ v h. (stays v h).1 }) old
 
 -- ---- a hold
 
@@ -87,46 +91,56 @@ holding-busy r e idle = absurd cc
 holding-unfinished : (r q : Mirror) → r ≡ q → r.master.phase ≡ phase.Coordinating → q.master.phase ≡ phase.Finishing → ⊥
 holding-unfinished r q is e ends = let f : r.master.phase ≡ phase.Finishing = ap (λ (q : Mirror). q.master.phase) is ∙ ends in absurd cc
 
-module _ (k j : Control) (ss : List Session) (v n : ℕ) (c : Carried) (fit : Fit k ss) (moves : Moves k j v (held_for n (fields_at k v)) c) (hold : HoldsIn ss v n) where
-  grows : Grows k j
-  grows = grows-moved k j v (held_for n (fields_at k v)) c moves
+module _ (j k : Control) (ss : List Session) (v n : ℕ) (grows : Grows j k) (stays : (u : ℕ) → (fields_at k u).recording ≡ true → RecordedOr j k v n u) (fit : Fit j ss) (hold : HoldsIn ss v n) where
+  -- a session whose master is Finishing isn't that of the hold
+  elsewhere : (y : Session) (r : Mirror) (m : Member) → In y ss → y.mirror ≡ Some r → r.master.phase ≡ phase.Finishing → In m y.members → m.a.0 ≢ v
+  elsewhere y r m i has ends here e =
+      let one = fit.lone.one v hold.session y hold.member m hold.listed i hold.here here (inl (sym hold.is)) (inl (sym e)) in
+      let is : hold.session ≡ y = same-session ss hold.session y fit.once hold.listed i one.0 in
+      holding-unfinished hold.mirror r (some_is (sym hold.has_master ∙ (ap (λ (z : Session). z.mirror) is ∙ has))) hold.coordinates ends
 
-  -- what is so of the held volume, and of the others as they were, is so
-  fields-by : (P : ℕ → Fields → Type 0) → P v (held_for n (fields_at k v)) → ((u : ℕ) → u ≢ v → P u (fields_at k u)) → (u : ℕ) → P u (fields_at j u)
-  fields-by P here there u = subst (λ (w : ℕ → Volume). P u (w u).fields) (sym moves.volume) (at_cases (λ u (y : Volume). P u y.fields) k.volume v (moved (k.volume v) (held_for n (fields_at k v)) c) here there u)
-
-  finished : (y : Session) → In y ss → (r : Mirror) → y.mirror ≡ Some r → r.master.phase ≡ phase.Finishing → (m : Member) → In m y.members → Finished j r m
-  finished y i r has ends m here out = fields-by (λ u f. m.a.0 ≡ u → f.recording ≡ false) itself (λ u ne e. subst (λ u. (fields_at k u).recording ≡ false) e ((fit.each y i).finished r has ends m here out)) m.a.0 refl
+  finished : (y : Session) → In y ss → (r : Mirror) → y.mirror ≡ Some r → r.master.phase ≡ phase.Finishing → (m : Member) → In m y.members → Finished k r m
+  finished y i r has ends m here out = by (cases_Bool (fields_at k m.a.0).recording)
     where
-      itself : m.a.0 ≡ v → (held_for n (fields_at k v)).recording ≡ false
-      itself e =
-          let one = fit.lone.one v hold.session y hold.member m hold.listed i hold.here here (inl (sym hold.is)) (inl (sym e)) in
-          let is : hold.session ≡ y = same-session ss hold.session y fit.once hold.listed i one.0 in
-          absurd (holding-unfinished hold.mirror r (some_is (sym hold.has_master ∙ (ap (λ (z : Session). z.mirror) is ∙ has))) hold.coordinates ends)
+      never : RecordedOr j k v n m.a.0 → ⊥
+      never (inl itself) = elsewhere y r m i has ends here itself.0
+      never (inr recorded) = false_true ((fit.each y i).finished r has ends m here out) recorded.0
 
-  pub groups-holds : j.sessions ≡ ss → Groups j
-  groups-holds same = from (subst (Fit j) (sym same) (record {
+      by : ((fields_at k m.a.0).recording ≡ true) ⊎ ((fields_at k m.a.0).recording ≡ false) → (fields_at k m.a.0).recording ≡ false
+      by (inl h) = absurd (never (stays m.a.0 h))
+      by (inr h) = h
+
+  recorder : (u : ℕ) → (fields_at k u).recording ≡ true → RecordedOr j k v n u → IsRecorder ss u (fields_at k u).attempt
+  recorder u h (inl itself) = record {
+    session = hold.session;
+    listed = hold.listed;
+    mirror = hold.mirror;
+    has_master = hold.has_master;
+    busy = holding-busy hold.mirror hold.coordinates;
+    member = hold.member;
+    here = hold.here;
+    is = hold.is ∙ sym itself.0;
+    last = itself.1 ∙ hold.last;
+  }
+  recorder u h (inr recorded) = subst (λ n. IsRecorder ss u n) (sym recorded.1) (fit.recorders u recorded.0)
+
+  pub fit-holds : Fit k ss
+  fit-holds = record {
     once = fit.once;
     each = λ y i. record {
       sound = (fit.each y i).sound;
-      stands = λ m here. stands-grows k j m grows ((fit.each y i).stands m here);
+      stands = λ m here. stands-grows j k m grows ((fit.each y i).stands m here);
       finished = finished y i;
     };
     lone = fit.lone;
-    recorders = fields-by (λ u f. f.recording ≡ true → IsRecorder ss u f.attempt)
-        (λ h. record { session = hold.session; listed = hold.listed; mirror = hold.mirror; has_master = hold.has_master; busy = holding-busy hold.mirror hold.coordinates; member = hold.member; here = hold.here; is = hold.is; last = hold.last })
-        (λ u ne h. fit.recorders u h);
-  }))
-    where
-      from : Fit j j.sessions → Groups j
-      from f = record { once = f.once; each = f.each; lone = f.lone; recorders = f.recorders }
+    recorders = λ u h. recorder u h (stays u h);
+  }
 
-pub groups-held : (k j : Control) (v s n : ℕ) (c : Carried) → j.sessions ≡ k.sessions → Moves k j v (held_for n (fields_at k v)) c → HoldsMember k v s n → Groups k → Groups j
-groups-held k j v s n c same moves holds groups =
-    let p : IsMember k v s = holds.place in
-    groups-holds k j k.sessions v n c (fit-of k groups) moves
-    (record { session = p.session; listed = p.listed; mirror = p.mirror; has_master = p.has_master; coordinates = holds.coordinates; member = p.member; here = p.here; is = p.is; last = holds.last })
-    same
+pub groups-held : (j k : Control) (v s n : ℕ) → Framed j k → ((u : ℕ) → (fields_at k u).recording ≡ true → RecordedOr j k v n u) → HoldsMember j v s n → Groups j → Groups k
+groups-held j k v s n frame stays holds old =
+    let p : IsMember j v s = holds.place in
+    groups-fit k (subst (Fit k) (sym frame.sessions) (fit-holds j k j.sessions v n (grows-framed j k frame) stays (fit-of j old)
+    (record { session = p.session; listed = p.listed; mirror = p.mirror; has_master = p.has_master; coordinates = holds.coordinates; member = p.member; here = p.here; is = p.is; last = holds.last })))
 
 -- ---- the first hold of an attempt
 
@@ -149,13 +163,14 @@ fit-begun k v s n opens groups =
     subst (λ z. Turns k z (begun z)) (same-session k.sessions p.session y groups.once p.listed i (p.number ∙ sym e))
     (turn-begun k p.session (idle-quiet p.session p.mirror p.has_master opens.idle) (groups.each p.session p.listed)))
 
-pub groups-opened : (k j : Control) (v s n : ℕ) (c : Carried) → j.sessions ≡ changed s begun k.sessions → Moves k j v (held_for n (fields_at k v)) c → OpensAttempt k v s n → Groups k → Groups j
-groups-opened k j v s n c same moves opens groups =
-    let p : IsMember k v s = opens.place in
-    groups-holds k j (changed s begun k.sessions) v n c (fit-begun k v s n opens groups) moves
+pub groups-opened : (j k : Control) (v s n : ℕ) → Framed j k → ((u : ℕ) → (fields_at k u).recording ≡ true → RecordedOr j k v n u) → OpensAttempt j v s n → Groups j → Groups (record k { sessions = changed s begun k.sessions })
+groups-opened j k v s n frame stays opens old =
+    let p : IsMember j v s = opens.place in
+    with-table k (changed s begun k.sessions)
+    (subst (λ ss. Fit k (changed s begun ss)) (sym frame.sessions) (fit-holds j k (changed s begun j.sessions) v n (grows-framed j k frame) stays (fit-begun j v s n opens old)
     (record {
       session = begun p.session;
-      listed = changed-becomes s begun k.sessions p.session groups.once p.listed p.number;
+      listed = changed-becomes s begun j.sessions p.session old.once p.listed p.number;
       mirror = record p.mirror { master = phases.begun p.mirror.master };
       has_master = ap (option_map (λ (r : Mirror). record r { master = phases.begun r.master })) p.has_master;
       coordinates = refl;
@@ -163,5 +178,4 @@ groups-opened k j v s n c same moves opens groups =
       here = p.here;
       is = p.is;
       last = opens.next;
-    })
-    same
+    })))

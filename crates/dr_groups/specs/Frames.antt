@@ -21,6 +21,21 @@ pub record Quieter (k j : Control) : Type 0 where
   pub recorded : (v : ℕ) → (fields_at j v).recording ≡ true → (fields_at k v).recording ≡ true
   pub attempt : (v : ℕ) → (fields_at j v).recording ≡ true → (fields_at j v).attempt ≡ (fields_at k v).attempt
 
+-- sessions, volumes, their servers and their sizes stay
+pub record Framed (j k : Control) : Type 0 where
+  pub sessions : k.sessions ≡ j.sessions
+  pub volumes : k.volumes ≡ j.volumes
+  pub server : (v : ℕ) → (k.volume v).server ≡ (j.volume v).server
+  pub tracks : (v : ℕ) → (k.volume v).tracks ≡ (j.volume v).tracks
+
+-- a volume that records now recorded before, for the same attempt
+abbrev pub Recorded : Control → Control → ℕ → Type 0
+Recorded j k v = ((fields_at j v).recording ≡ true) × ((fields_at k v).attempt ≡ (fields_at j v).attempt)
+
+-- or it is v, for attempt n
+abbrev pub RecordedOr : Control → Control → ℕ → ℕ → ℕ → Type 0
+RecordedOr j k v n u = ((u ≡ v) × ((fields_at k u).attempt ≡ n)) ⊎ Recorded j k u
+
 -- volume v has other fields, and nothing else of a volume changed
 pub record Moves (k j : Control) (v : ℕ) (f : Fields) (c : Carried) : Type 0 where
   pub volumes : j.volumes ≡ k.volumes
@@ -47,3 +62,10 @@ Suits k m = Unit {0}
 -- each member of the session on that server is left to do, or doesn't record
 abbrev pub SilentBut : Control → Session → ℕ → List Member → Type 0
 SilentBut k x server rest = (m : Member) → In m x.members → m.server.0 ≡ server → In m rest ⊎ ((fields_at k m.a.0).recording ≡ false)
+
+-- y is what a session of that number became
+pub record Became (s : ℕ) (f : Session → Session) (ss : List Session) (y : Session) : Type 0 where
+  pub from : Session
+  pub listed : In from ss
+  pub number : from.number ≡ s
+  pub is : y ≡ f from

@@ -3,7 +3,7 @@
 //! attempt of their session. Its functions do nothing: each names a law by its contract.
 #![tactic(auto)]
 
-ghost use Rattle.std.specs.Prelude.{◌≡◌, ◌≢◌, ◌⊎◌, ◌+◌, ◌++◌, ◌∷◌, [], ℕ, Bool, true, false, nat_lt, Option, None, Some, List};
+ghost use Rattle.std.specs.Prelude.{◌≡◌, ◌≢◌, ◌⊎◌, ◌+◌, ◌++◌, ◌∷◌, ◌==◌, [], map, ℕ, Bool, true, false, nat_lt, Option, None, Some, List};
 ghost use Rattle.std.specs.List.{find};
 ghost use Rattle.dr_ids.specs.declared.names.Member.{Member};
 ghost use Rattle.dr_ids.specs.declared.refusal.PhaseName.TheVariants as phase;
@@ -18,7 +18,7 @@ ghost use Rattle.dr_model.specs.SessionEntries.{is_past, members_on};
 ghost use Rattle.dr_model.specs.SessionPlans.{answered_by};
 ghost use Rattle.dr_model.specs.Sessions.{Session, Mirror, session_in, has_place_of, changed, joined, left, lost_since, begun, raised, mirrored_by, unmirrored, paused, with_master, with_member, without_member, busy, leave_refusal, drop_refusal};
 ghost use Rattle.dr_model.specs.Groups.{In, IsAt, MemberStands, PlacesDiffer, Groups, HoldsMember, OpensAttempt};
-ghost use Rattle.dr_groups.specs.Frames.{Grows, Quieter, Moves, Suits, Quiet, ServerSilent, SilentBut};
+ghost use Rattle.dr_groups.specs.Frames.{Grows, Quieter, Framed, Recorded, RecordedOr, Moves, Suits, Quiet, ServerSilent, SilentBut, Became};
 
 /// The laws hold before the first step, and stay where a volume is defined.
 pub fn the_laws_of_sessions_begin()
@@ -30,10 +30,10 @@ pub fn the_laws_of_sessions_begin()
 /// for the same attempt; and in each kind of move, of which a hold is one of its session.
 pub fn each_move_keeps_the_laws_of_sessions()
     ensures still { (k j : Control) → j.sessions ≡ k.sessions → Grows k j → Quieter k j → Groups k → Groups j }
-    ensures moved { (k j : Control) (v : ℕ) (f : Fields) (c : Carried) → j.sessions ≡ k.sessions → Moves k j v f c → (f.recording ≡ true → ((fields_at k v).recording ≡ true) × (f.attempt ≡ (fields_at k v).attempt)) → Groups k → Groups j }
-    ensures held { (k j : Control) (v s n : ℕ) (c : Carried) → j.sessions ≡ k.sessions → Moves k j v (held_for n (fields_at k v)) c → HoldsMember k v s n → Groups k → Groups j }
-    ensures opened { (k j : Control) (v s n : ℕ) (c : Carried) → j.sessions ≡ changed s begun k.sessions → Moves k j v (held_for n (fields_at k v)) c → OpensAttempt k v s n → Groups k → Groups j }
-    ensures any { (k j : Control) (m : Move) (c : Carried) → j.sessions ≡ k.sessions → Moves k j (target m) (next_fields m k.volume) c → Suits k m → Groups k → Groups j }
+    ensures same { (j k : Control) → Framed j k → ((v : ℕ) → (fields_at k v).recording ≡ true → Recorded j k v) → Groups j → Groups k }
+    ensures held { (j k : Control) (v s n : ℕ) → Framed j k → ((u : ℕ) → (fields_at k u).recording ≡ true → RecordedOr j k v n u) → HoldsMember j v s n → Groups j → Groups k }
+    ensures opened { (j k : Control) (v s n : ℕ) → Framed j k → ((u : ℕ) → (fields_at k u).recording ≡ true → RecordedOr j k v n u) → OpensAttempt j v s n → Groups j → Groups (record k { sessions = changed s begun k.sessions }) }
+    ensures moved { (k j : Control) (m : Move) (c : Carried) → j.sessions ≡ k.sessions → Moves k j (target m) (next_fields m k.volume) c → Suits k m → Groups k → Groups j }
 {}
 
 /// They stay where a logical subsystem joins or leaves a session.
@@ -68,7 +68,17 @@ pub fn members_keep_the_laws_of_sessions()
 /// The session that a number gives is one of the table, and has that number. No other session has it.
 pub fn a_session_that_is_found_is_listed()
     ensures found { (ss : List Session) (s : ℕ) (x : Session) → session_in ss s ≡ Some x → In x ss × (x.number ≡ s) }
+    ensures member { (ms : List Member) (a : ℕ) (m : Member) → find (λ (m : Member). m.a.0 == a) ms ≡ Some m → In m ms × (m.a.0 ≡ a) }
     ensures same { (k : Control) (x y : Session) → Groups k → In x k.sessions → In y k.sessions → x.number ≡ y.number → x ≡ y }
+{}
+
+/// Where one session of a table changes, each session of the new table was there, or is what the one of that number became; and each
+/// that was there stays, or becomes that.
+pub fn a_changed_session_is_the_only_one()
+    ensures comes { (s : ℕ) (f : Session → Session) (ss : List Session) (y : Session) → Once (map (λ (x : Session). x.number) ss) → In y (changed s f ss) → (In y ss × (y.number ≢ s)) ⊎ Became s f ss y }
+    ensures stays { (s : ℕ) (f : Session → Session) (ss : List Session) (x : Session) → In x ss → x.number ≢ s → In x (changed s f ss) }
+    ensures becomes { (s : ℕ) (f : Session → Session) (ss : List Session) (x : Session) → Once (map (λ (x : Session). x.number) ss) → In x ss → x.number ≡ s → In (f x) (changed s f ss) }
+    ensures found { (s : ℕ) (f : Session → Session) (ss : List Session) (x : Session) → ((x : Session) → (f x).number ≡ x.number) → session_in ss s ≡ Some x → session_in (changed s f ss) s ≡ Some (f x) }
 {}
 
 /// Nobody records in a session without a master, or whose master is Idle; a member that doesn't record its session's last attempt
