@@ -9,3 +9,4 @@ pub mod Members
 pub mod Volumes
 pub mod Quieting
 pub mod Silent
+pub mod Orders

@@ -29,6 +29,13 @@ module _ (k j : Control) (v : ℕ) (f : Fields) (c : Carried) (same : j.sessions
   pub groups-moved : (f.recording ≡ true → ((fields_at k v).recording ≡ true) × (f.attempt ≡ (fields_at k v).attempt)) → Groups k → Groups j
   groups-moved quiet old = groups-same k j framed (fields-by (λ u g. g.recording ≡ true → ((fields_at k u).recording ≡ true) × (g.attempt ≡ (fields_at k u).attempt)) quiet (λ u ne h. (h, refl))) old
 
+  -- where v doesn't record any more, nothing more records, and v doesn't
+  pub moved-silent : f.recording ≡ false → (u : ℕ) → (fields_at k u).recording ≡ false → (fields_at j u).recording ≡ false
+  moved-silent silent = fields-by (λ u g. (fields_at k u).recording ≡ false → g.recording ≡ false) (λ h. silent) (λ u ne h. h)
+
+  pub moved-itself : (P : Fields → Type 0) → P f → P (fields_at j v)
+  moved-itself P here = fields-by (λ u g. u ≡ v → P g) (λ e. here) (λ u ne e. absurd (ne e)) v refl
+
   -- v records attempt n, or what it recorded
   records-or : (n : ℕ) → f.attempt ≡ n → (u : ℕ) → (fields_at j u).recording ≡ true → RecordedOr k j v n u
   records-or n is = fields-by (λ u g. g.recording ≡ true → ((u ≡ v) × (g.attempt ≡ n)) ⊎ (((fields_at k u).recording ≡ true) × (g.attempt ≡ (fields_at k u).attempt))) (λ h. inl (refl, is)) (λ u ne h. inr (h, refl))

@@ -86,7 +86,7 @@ apart-silent k x m v groups listed here at_v = silent-by (fields_at k v) (λ h. 
 pub member-found : (ms : List Member) (a : ℕ) (m : Member) → find (λ m. m.a.0 == a) ms ≡ Some m → In m ms × (m.a.0 ≡ a)
 member-found ms a m h = let r = found (λ (q : Member). q.a.0 == a) ms m h in (r.0, eqb-true m.a.0 a r.1)
 
-pub member-of : (k : Control) (s : ℕ) (x : Session) (r : Mirror) (m : Member) → session_in k.sessions s ≡ Some x → x.mirror ≡ Some r → In m x.members → IsMember k m.a.0 s
+unfoldable pub member-of : (k : Control) (s : ℕ) (x : Session) (r : Mirror) (m : Member) → session_in k.sessions s ≡ Some x → x.mirror ≡ Some r → In m x.members → IsMember k m.a.0 s
 member-of k s x r m is has here =
     let there = session-found k.sessions s x is in
     record { session = x; listed = there.0; number = there.1; mirror = r; has_master = has; member = m; here = here; is = refl }

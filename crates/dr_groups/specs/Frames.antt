@@ -1,5 +1,5 @@
 -- What a control state keeps of another one.
-use Rattle.std.specs.Prelude.{◌≡◌, ◌⊎◌, ℕ, true, false, List, Some}
+use Rattle.std.specs.Prelude.{◌≡◌, ◌⊎◌, ◌+◌, ℕ, true, false, List, Some}
 use Rattle.dr_ids.specs.declared.names.Member.{Member}
 use Rattle.dr_ids.specs.declared.refusal.PhaseName.TheVariants as phase
 use Rattle.dr_model.specs.Tables.{at}
@@ -7,7 +7,7 @@ use Rattle.dr_model.specs.Layout.{Fields}
 use Rattle.dr_model.specs.Control.{Control, is_volume}
 use Rattle.dr_model.specs.Moves.{Move, Hold, RaiseAttempt, Carried, moved}
 use Rattle.dr_model.specs.Entries.{fields_at}
-use Rattle.dr_model.specs.Sessions.{Session, Mirror}
+use Rattle.dr_model.specs.Sessions.{Session, Mirror, session_in}
 use Rattle.dr_model.specs.Groups.{In, IsAt, HoldsMember}
 
 -- each volume that was there is there, on its server and of its size
@@ -69,3 +69,15 @@ pub record Became (s : ℕ) (f : Session → Session) (ss : List Session) (y : S
   pub listed : In from ss
   pub number : from.number ≡ s
   pub is : y ≡ f from
+
+-- attempt n of the session that a number gives is about to begin, or its master holds members for it
+abbrev pub BeginsOrHolds : Session → Mirror → ℕ → Type 0
+BeginsOrHolds x r n = ((r.master.phase ≡ phase.Idle) × (n ≡ x.last + 1)) ⊎ ((r.master.phase ≡ phase.Coordinating) × (n ≡ x.last))
+
+pub record Holding (k : Control) (s n : ℕ) (ms : List Member) : Type 0 where
+  pub session : Session
+  pub found : session_in k.sessions s ≡ Some session
+  pub mirror : Mirror
+  pub has_master : session.mirror ≡ Some mirror
+  pub members : session.members ≡ ms
+  pub stage : BeginsOrHolds session mirror n

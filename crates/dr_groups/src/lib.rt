@@ -11,14 +11,14 @@ ghost use Rattle.dr_model.specs.Phases as phases;
 ghost use Rattle.dr_model.specs.Tables.{at, Once};
 ghost use Rattle.dr_model.specs.Layout.{Fields};
 ghost use Rattle.dr_model.specs.Control.{Control, no_control, is_volume, new_volume};
-ghost use Rattle.dr_model.specs.Pairs.{held_for, records};
+ghost use Rattle.dr_model.specs.Pairs.{records, past_attempt};
 ghost use Rattle.dr_model.specs.Moves.{Move, Carried, target, next_fields};
 ghost use Rattle.dr_model.specs.Entries.{fields_at};
-ghost use Rattle.dr_model.specs.SessionEntries.{is_past, members_on};
-ghost use Rattle.dr_model.specs.SessionPlans.{answered_by};
+ghost use Rattle.dr_model.specs.SessionEntries.{is_past, last_of, members_on};
+ghost use Rattle.dr_model.specs.SessionPlans.{order_of, answered_by};
 ghost use Rattle.dr_model.specs.Sessions.{Session, Mirror, session_in, has_place_of, changed, joined, left, lost_since, begun, raised, mirrored_by, unmirrored, paused, with_master, with_member, without_member, busy, leave_refusal, drop_refusal};
 ghost use Rattle.dr_model.specs.Groups.{In, IsAt, MemberStands, PlacesDiffer, Groups, HoldsMember, OpensAttempt};
-ghost use Rattle.dr_groups.specs.Frames.{Grows, Quieter, Framed, Recorded, RecordedOr, Moves, Suits, Quiet, ServerSilent, SilentBut, Became};
+ghost use Rattle.dr_groups.specs.Frames.{Grows, Quieter, Framed, Recorded, RecordedOr, Moves, Suits, Quiet, ServerSilent, SilentBut, Became, Holding};
 
 /// The laws hold before the first step, and stay where a volume is defined.
 pub fn the_laws_of_sessions_begin()
@@ -98,9 +98,23 @@ pub fn orders_hold_members()
     ensures opens { (k : Control) (s : ℕ) (x : Session) (r : Mirror) (m : Member) → Groups k → session_in k.sessions s ≡ Some x → x.mirror ≡ Some r → In m x.members → r.master.phase ≡ phase.Idle → OpensAttempt k m.a.0 s (r.master.number + 1) }
 {}
 
+/// While a server carries out a hold, the first member that isn't held yet begins the attempt where none has begun, and each other is
+/// held for the one that has.
+pub fn one_member_after_another_is_held()
+    ensures begins { (k : Control) (s server : ℕ) (x : Session) (r : Mirror) (o : phases.Order) → Groups k → session_in k.sessions s ≡ Some x → x.mirror ≡ Some r → order_of r server ≡ Some o → o.work ≡ phases.Hold → Holding k s o.number x.members }
+    ensures opens { (k : Control) (s n : ℕ) (ms : List Member) (m : Member) → Holding k s n ms → In m ms → nat_lt (last_of k s) n ≡ true → OpensAttempt k m.a.0 s n }
+    ensures holds { (k : Control) (s n : ℕ) (ms : List Member) (m : Member) → Holding k s n ms → In m ms → nat_lt (last_of k s) n ≡ false → HoldsMember k m.a.0 s n }
+    ensures stays { (k j : Control) (s n : ℕ) (ms : List Member) → j.sessions ≡ k.sessions → Holding k s n ms → Holding j s n ms }
+    ensures begun { (k j : Control) (v s n : ℕ) (ms : List Member) → j.sessions ≡ changed s begun k.sessions → nat_lt (last_of k s) n ≡ true → Holding k s n ms → Holding j s n ms }
+{}
+
 /// One member after another on a server stops to record, and at last none records.
 pub fn a_server_falls_silent()
+    ensures order { (r : Mirror) (server : ℕ) (o : phases.Order) → r.master.phase ≡ phase.Finishing → order_of r server ≡ Some o → (o.work ≡ phases.Finish) × (o.number ≡ r.master.number) }
     ensures begins { (k : Control) (x : Session) (server : ℕ) → SilentBut k x server (members_on server x.members) }
+    ensures passes { (k : Control) (x : Session) (server n : ℕ) (q : Member) (rest : List Member) → Groups k → In x k.sessions → In q x.members → x.last ≡ n → is_past n (fields_at k q.a.0) ≡ true → SilentBut k x server (q ∷ rest) → SilentBut k x server rest }
+    ensures finishes { (k j : Control) (x : Session) (server n : ℕ) (q : Member) (rest : List Member) (c : Carried) → j.sessions ≡ k.sessions → Moves k j q.a.0 (past_attempt n (fields_at k q.a.0)) c → SilentBut k x server (q ∷ rest) → SilentBut j x server rest }
     ensures next { (k j : Control) (x : Session) (server : ℕ) (q : Member) (rest : List Member) → SilentBut k x server (q ∷ rest) → ((v : ℕ) → (fields_at k v).recording ≡ false → (fields_at j v).recording ≡ false) → (fields_at j q.a.0).recording ≡ false → SilentBut j x server rest }
+    ensures stays { (k j : Control) (x : Session) (server : ℕ) (rest : List Member) → SilentBut k x server rest → ((u : ℕ) → (fields_at j u).recording ≡ true → Recorded k j u) → SilentBut j x server rest }
     ensures ends { (k : Control) (x : Session) (server : ℕ) → SilentBut k x server [] → ServerSilent k x server }
 {}
