@@ -10,3 +10,4 @@ pub mod Volumes
 pub mod Quieting
 pub mod Silent
 pub mod Orders
+pub mod PlanTables

@@ -4,6 +4,9 @@ use Rattle.std.proofs.lemmas.Bool.Decides.{eqb_tells}
 use Rattle.dr_ids.specs.declared.names.Member.{Member}
 use Rattle.dr_ids.specs.declared.refusal.PhaseName.{PhaseName}
 use Rattle.dr_ids.specs.declared.refusal.PhaseName.TheVariants as phase
+use Rattle.dr_ids.specs.declared.refusal.Decision.{Decision}
+use Rattle.dr_ids.specs.declared.refusal.Decision.TheVariants.{CommitRest}
+use Rattle.dr_model.specs.Decisions.{Shown, decision}
 use Rattle.dr_model.specs.Phases as phases
 use Rattle.dr_model.specs.Control.{Control}
 use Rattle.dr_model.specs.Entries.{fields_at}
@@ -136,6 +139,25 @@ turn-left k x r server (s ∷ rest) fits has silent is = record {
 pub turn-done : (k : Control) (x : Session) (r : Mirror) (server : ℕ) → SessionFits k x → x.mirror ≡ Some r → (r.master.phase ≡ phase.Finishing → ServerSilent k x server) → MirrorTurns k x r (record r { master = phases.replied r.master server phases.Done })
 turn-done k x r server fits has silent = turn-left k x r server (phases.without server r.master.owed) fits has silent refl
 
+-- what a server reports to a master that was lost, and what follows all reports
+lost-unfinished : (p : PhaseName) → p ≡ phase.Lost → p ≢ phase.Finishing
+lost-unfinished p is ends = absurd cc
+
+pub turn-reported : (k : Control) (x : Session) (r : Mirror) (server : ℕ) (xs : List Shown) → r.master.phase ≡ phase.Lost → MirrorTurns k x r (record r { master = phases.replied r.master server (phases.Reported xs) })
+turn-reported k x r server xs is = record {
+  servers = refl;
+  number = refl;
+  finished = λ ends m here out. absurd (lost-unfinished r.master.phase is ends);
+  busy = λ busy m here records. busy;
+}
+
+settled-busy : (d : Decision) → phases.phase_by d ≢ phase.Idle
+settled-busy (CommitRest n) idle = absurd cc
+settled-busy d idle = absurd cc
+
+pub turn-settled : (k : Control) (x : Session) (r : Mirror) → SessionFits k x → x.mirror ≡ Some r → MirrorTurns k x r (record r { master = phases.settled r.master })
+turn-settled k x r fits has = turn-begins k x r (phases.phase_by (decision r.master.reports)) fits has (λ busy m here records. settled-busy (decision r.master.reports))
+
 -- ---- whole sessions
 
 pub turn-paused : (k : Control) (x : Session) (on : Bool) → SessionFits k x → Turns k x (paused on x)
@@ -152,3 +174,9 @@ session-done k x server fits silent = turn-mirror k x (λ r. record r { master =
 
 pub session-waits : (k : Control) (x : Session) (server : ℕ) → SessionFits k x → Turns k x (with_master (λ m. phases.replied m server phases.NotYet) x)
 session-waits k x server fits = turn-mirror k x (λ r. record r { master = phases.replied r.master server phases.NotYet }) fits (λ r has. turn-still k x r (record r { master = r.master }) fits has refl)
+
+pub session-reported : (k : Control) (x : Session) (server : ℕ) (xs : List Shown) → SessionFits k x → ((r : Mirror) → x.mirror ≡ Some r → r.master.phase ≡ phase.Lost) → Turns k x (with_master (λ m. phases.replied m server (phases.Reported xs)) x)
+session-reported k x server xs fits is = turn-mirror k x (λ r. record r { master = phases.replied r.master server (phases.Reported xs) }) fits (λ r has. turn-reported k x r server xs (is r has))
+
+pub session-settled : (k : Control) (x : Session) → SessionFits k x → Turns k x (with_master phases.settled x)
+session-settled k x fits = turn-mirror k x (λ r. record r { master = phases.settled r.master }) fits (λ r has. turn-settled k x r fits has)

@@ -187,3 +187,11 @@ groups-added k s n x m groups found idle low stands differ none =
     groups-with (record k { sessions = ss }) s (raised n x) m (groups-raised k s n x groups found idle) (changed-found s (raised n) k.sessions x (λ x. refl) found) (busy-raised n x.mirror idle) low
     (stands-grows k (record k { sessions = ss }) m (grows-same k ss) stands) differ
     (no-place-changed s (raised n) k.sessions m (λ x. refl) groups.once (no-place k.sessions m none))
+
+-- the places of a member differ, whose volumes stand, where no volume is the target of itself
+pub places-differ : (k : Control) (m : Member) → MemberStands k m → m.b.0 ≢ m.c.0 → PlacesDiffer m
+places-differ k m stands other = record {
+  a_b = λ e. stands.apart (ap (λ v. (k.volume v).server) (sym e));
+  a_c = λ e. stands.apart (sym stands.target_server ∙ ap (λ v. (k.volume v).server) (sym e));
+  b_c = other;
+}

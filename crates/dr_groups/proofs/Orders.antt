@@ -1,20 +1,19 @@
 -- What an exchange does with one member after another: a hold is one of its session, and a server falls silent.
-use Rattle.std.proofs.Common.{ℕ, ◌≡◌, ◌≢◌, ◌⊎◌, ◌<◌, ◌+◌, inl, inr, refl, ap, sym, ◌∙◌, subst, Bool, true, false, cond, not, ◌&&◌, ◌||◌, nat_eq, nat_lt, List, [], ◌∷◌, Option, None, Some, option_map, arith}
-use Rattle.std.proofs.lemmas.Bool.{ltb-true, ltb-false, lt-ltb, le-ltb}
+use Rattle.std.proofs.Common.{ℕ, ◌≡◌, ◌⊎◌, ◌<◌, ◌+◌, inl, inr, refl, ap, sym, ◌∙◌, subst, Bool, true, false, cond, nat_lt, List, ◌∷◌, Some, option_map, arith}
+use Rattle.std.proofs.lemmas.Bool.{ltb-true, lt-ltb}
 use Rattle.dr_ids.specs.declared.names.Member.{Member}
 use Rattle.dr_ids.specs.declared.refusal.PhaseName.{PhaseName}
 use Rattle.dr_ids.specs.declared.refusal.PhaseName.TheVariants as phase
 use Rattle.dr_model.specs.Phases as phases
-use Rattle.dr_model.specs.Layout.{Fields}
 use Rattle.dr_model.specs.Control.{Control}
 use Rattle.dr_model.specs.Moves.{Carried}
 use Rattle.dr_model.specs.Pairs.{past_attempt}
 use Rattle.dr_model.specs.Entries.{fields_at}
-use Rattle.dr_model.specs.SessionEntries.{is_past, last_of, members_on}
+use Rattle.dr_model.specs.SessionEntries.{is_past, last_of}
 use Rattle.dr_model.specs.SessionPlans.{is_idle, order_of}
 use Rattle.dr_model.specs.Sessions.{Session, Mirror, session_in, changed, begun}
 use Rattle.dr_model.specs.Groups.{In, HoldsMember, OpensAttempt, Groups}
-use Rattle.dr_groups.specs.Frames.{Recorded, Moves, SilentBut, ServerSilent, BeginsOrHolds, Holding}
+use Rattle.dr_groups.specs.Frames.{Recorded, Moves, SilentBut, BeginsOrHolds, Holding}
 use Rattle.dr_groups.proofs.Lists.{false_true, some_is}
 use Rattle.dr_groups.proofs.Changes.{session-found, changed-found}
 use Rattle.dr_groups.proofs.Quieting.{moved-silent, moved-itself}

@@ -5,6 +5,7 @@ use Rattle.std.proofs.lemmas.Bool.{cases_Bool}
 use Rattle.std.proofs.lemmas.Bool.Decides.{eqb_tells}
 use Rattle.dr_ids.specs.declared.names.Member.{Member}
 use Rattle.dr_ids.specs.declared.refusal.PhaseName.TheVariants as phase
+use Rattle.dr_model.specs.Decisions.{Shown}
 use Rattle.dr_model.specs.Phases as phases
 use Rattle.dr_model.specs.Tables.{Once}
 use Rattle.dr_model.specs.Control.{Control}
@@ -18,7 +19,7 @@ use Rattle.dr_groups.proofs.AtLemmas.{Told}
 use Rattle.dr_groups.proofs.Changes.{numbers, session-found, none-numbered, same-session, changed-in, changed-stays, changed-becomes, changed-once, without-in, without-stays, without-once}
 use Rattle.dr_groups.proofs.Frames.{Fit, fit-of, groups-of, Turns, turn-same, turn-quiet, Stem, Goes, fit-turns, Origin, lone-origin}
 use Rattle.dr_groups.proofs.Sound.{sound-mirrored, sound-unmirrored, sound-new, quiet-drop, quiet-none, fits-quiet}
-use Rattle.dr_groups.proofs.Masters.{turn-paused, session-aborted, session-lost, session-done, session-waits}
+use Rattle.dr_groups.proofs.Masters.{turn-paused, session-aborted, session-lost, session-done, session-waits, session-reported, session-settled}
 
 -- the same volumes
 pub grows-same : (k : Control) (ss : List Session) → Grows k (record k { sessions = ss })
@@ -90,6 +91,14 @@ pub groups-done : (k : Control) (s server : ℕ) (x : Session) → Groups k → 
     → Groups (record k { sessions = changed s (with_master (λ m. phases.replied m server phases.Done)) k.sessions })
 groups-done k s server x groups found silent =
     table-one k s (with_master (λ m. phases.replied m server phases.Done)) x groups found (λ x. refl) (session-done k x server (session-fits k s x groups found) silent)
+
+pub groups-reported : (k : Control) (s server : ℕ) (xs : List Shown) (x : Session) → Groups k → session_in k.sessions s ≡ Some x → ((r : Mirror) → x.mirror ≡ Some r → r.master.phase ≡ phase.Lost)
+    → Groups (record k { sessions = changed s (with_master (λ m. phases.replied m server (phases.Reported xs))) k.sessions })
+groups-reported k s server xs x groups found is =
+    table-one k s (with_master (λ m. phases.replied m server (phases.Reported xs))) x groups found (λ x. refl) (session-reported k x server xs (session-fits k s x groups found) is)
+
+pub groups-settled : (k : Control) (s : ℕ) → Groups k → Groups (record k { sessions = changed s (with_master phases.settled) k.sessions })
+groups-settled k s groups = with-table k (changed s (with_master phases.settled) k.sessions) (fit-changed k s (with_master phases.settled) groups (λ x. refl) (λ x i e. session-settled k x (groups.each x i)))
 
 -- the reply that a server gives when it has done an order
 replies : (work : phases.Work) (ms : List Member) (j : Control) → (reply_after work ms j ≡ phases.Done) ⊎ (reply_after work ms j ≡ phases.NotYet)

@@ -7,6 +7,8 @@ ghost use Rattle.std.specs.Prelude.{◌≡◌, ◌≢◌, ◌⊎◌, ◌+◌, �
 ghost use Rattle.std.specs.List.{find};
 ghost use Rattle.dr_ids.specs.declared.names.Member.{Member};
 ghost use Rattle.dr_ids.specs.declared.refusal.PhaseName.TheVariants as phase;
+ghost use Rattle.dr_model.specs.declared.step.Name.{Name};
+ghost use Rattle.dr_model.specs.Decisions.{Shown};
 ghost use Rattle.dr_model.specs.Phases as phases;
 ghost use Rattle.dr_model.specs.Tables.{at, Once};
 ghost use Rattle.dr_model.specs.Layout.{Fields};
@@ -15,7 +17,7 @@ ghost use Rattle.dr_model.specs.Pairs.{records, past_attempt};
 ghost use Rattle.dr_model.specs.Moves.{Move, Carried, target, next_fields};
 ghost use Rattle.dr_model.specs.Entries.{fields_at};
 ghost use Rattle.dr_model.specs.SessionEntries.{is_past, last_of, members_on};
-ghost use Rattle.dr_model.specs.SessionPlans.{order_of, answered_by};
+ghost use Rattle.dr_model.specs.SessionPlans.{order_of, answered_by, join_plan, leave_plan, mirror_plan, pause_mirror_plan, unmirror_plan, abort_plan, add_done, expel_done, exchange_done};
 ghost use Rattle.dr_model.specs.Sessions.{Session, Mirror, session_in, has_place_of, changed, joined, left, lost_since, begun, raised, mirrored_by, unmirrored, paused, with_master, with_member, without_member, busy, leave_refusal, drop_refusal};
 ghost use Rattle.dr_model.specs.Groups.{In, IsAt, MemberStands, PlacesDiffer, Groups, HoldsMember, OpensAttempt};
 ghost use Rattle.dr_groups.specs.Frames.{Grows, Quieter, Framed, Recorded, RecordedOr, Moves, Suits, Quiet, ServerSilent, SilentBut, Became, Holding};
@@ -55,6 +57,8 @@ pub fn masters_keep_the_laws_of_sessions()
 pub fn replies_keep_the_laws_of_sessions()
     ensures done { (k : Control) (s server : ℕ) (x : Session) → Groups k → session_in k.sessions s ≡ Some x → ((r : Mirror) → x.mirror ≡ Some r → r.master.phase ≡ phase.Finishing → ServerSilent k x server) → Groups (record k { sessions = changed s (with_master (λ m. phases.replied m server phases.Done)) k.sessions }) }
     ensures waits { (k : Control) (s server : ℕ) → Groups k → Groups (record k { sessions = changed s (with_master (λ m. phases.replied m server phases.NotYet)) k.sessions }) }
+    ensures reported { (k : Control) (s server : ℕ) (xs : List Shown) (x : Session) → Groups k → session_in k.sessions s ≡ Some x → ((r : Mirror) → x.mirror ≡ Some r → r.master.phase ≡ phase.Lost) → Groups (record k { sessions = changed s (with_master (λ m. phases.replied m server (phases.Reported xs))) k.sessions }) }
+    ensures settled { (k : Control) (s : ℕ) → Groups k → Groups (record k { sessions = changed s (with_master phases.settled) k.sessions }) }
     ensures answered { (k : Control) (s server : ℕ) (work : phases.Work) (ms : List Member) (x : Session) → Groups k → session_in k.sessions s ≡ Some x → ((r : Mirror) → x.mirror ≡ Some r → r.master.phase ≡ phase.Finishing → ServerSilent k x server) → Groups (answered_by s server work ms k) }
 {}
 
@@ -62,7 +66,22 @@ pub fn replies_keep_the_laws_of_sessions()
 pub fn members_keep_the_laws_of_sessions()
     ensures raised { (k : Control) (s n : ℕ) (x : Session) → Groups k → session_in k.sessions s ≡ Some x → busy x.mirror ≡ None → Groups (record k { sessions = changed s (raised n) k.sessions }) }
     ensures added { (k : Control) (s n : ℕ) (x : Session) (m : Member) → Groups k → session_in k.sessions s ≡ Some x → busy x.mirror ≡ None → nat_lt m.server.0 8 ≡ true → MemberStands k m → PlacesDiffer m → find (has_place_of m) k.sessions ≡ None → Groups (record k { sessions = changed s (with_member m) (changed s (raised n) k.sessions) }) }
+    ensures differ { (k : Control) (m : Member) → MemberStands k m → m.b.0 ≢ m.c.0 → PlacesDiffer m }
     ensures removed { (k : Control) (s a : ℕ) (x : Session) → Groups k → session_in k.sessions s ≡ Some x → busy x.mirror ≡ None → Groups (record k { sessions = changed s (without_member a) k.sessions }) }
+{}
+
+/// They stay in what a line on sessions makes of the tables, whatever it answers: as the step begins, or as it ends, where its acts
+/// left the sessions.
+pub fn lines_on_sessions_keep_their_laws()
+    ensures joins { (k : Control) (dev : Option Name) (l s : ℕ) → Groups k → Groups ((join_plan k dev l s).first k) }
+    ensures leaves { (k : Control) (dev : Option Name) (l s : ℕ) → Groups k → Groups ((leave_plan k dev l s).first k) }
+    ensures mirrors { (k : Control) (dev : Option Name) (l s : ℕ) → Groups k → Groups ((mirror_plan k dev l s).first k) }
+    ensures pauses { (k : Control) (dev : Option Name) (l s : ℕ) (on : Bool) → Groups k → Groups ((pause_mirror_plan k dev l s on).first k) }
+    ensures unmirrors { (k : Control) (dev : Option Name) (l s : ℕ) → Groups k → Groups ((unmirror_plan k dev l s).first k) }
+    ensures aborts { (k : Control) (s : ℕ) → Groups k → Groups ((abort_plan k s).first k) }
+    ensures adds { (k j : Control) (s : ℕ) (x : Session) (m : Member) → j.sessions ≡ k.sessions → session_in k.sessions s ≡ Some x → busy x.mirror ≡ None → nat_lt m.server.0 8 ≡ true → MemberStands j m → PlacesDiffer m → Groups j → Groups ((add_done k s x m).last j) }
+    ensures expels { (k j : Control) (s : ℕ) (x : Session) (m : Member) → j.sessions ≡ k.sessions → session_in k.sessions s ≡ Some x → busy x.mirror ≡ None → Groups j → Groups ((expel_done k s m).last j) }
+    ensures exchanges { (j : Control) (s server : ℕ) (reply : Bool) (ms : List Member) (o : Option phases.Order) (x : Session) → session_in j.sessions s ≡ Some x → ((r : Mirror) → x.mirror ≡ Some r → r.master.phase ≡ phase.Finishing → ServerSilent j x server) → Groups j → Groups ((exchange_done s server reply ms o).last j) }
 {}
 
 /// The session that a number gives is one of the table, and has that number. No other session has it.

@@ -1,4 +1,4 @@
-use Rattle.dr_groups.proofs.Tables.{groups-done, groups-waits, groups-answered}
+use Rattle.dr_groups.proofs.Tables.{groups-done, groups-waits, groups-answered, groups-reported, groups-settled}
 use Rattle.dr_groups.proofs.replies_keep_the_laws_of_sessions.Goals as goal
 
 pub returns-clause-done : goal.returns-clause-done
@@ -9,3 +9,9 @@ returns-clause-waits c = groups-waits
 
 pub returns-clause-answered : goal.returns-clause-answered
 returns-clause-answered c = groups-answered
+
+pub returns-clause-reported : goal.returns-clause-reported
+returns-clause-reported c = groups-reported
+
+pub returns-clause-settled : goal.returns-clause-settled
+returns-clause-settled c = groups-settled
