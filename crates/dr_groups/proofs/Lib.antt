@@ -11,3 +11,4 @@ pub mod Quieting
 pub mod Silent
 pub mod Orders
 pub mod PlanTables
+pub mod Housed

@@ -18,9 +18,10 @@ ghost use Rattle.dr_model.specs.Moves.{Move, Carried, target, next_fields};
 ghost use Rattle.dr_model.specs.Entries.{fields_at};
 ghost use Rattle.dr_model.specs.SessionEntries.{is_past, last_of, members_on};
 ghost use Rattle.dr_model.specs.SessionPlans.{order_of, answered_by, join_plan, leave_plan, mirror_plan, pause_mirror_plan, unmirror_plan, abort_plan, add_done, expel_done, exchange_done};
+ghost use Rattle.dr_model.specs.Plans.{server_plan, volume_plan};
 ghost use Rattle.dr_model.specs.Sessions.{Session, Mirror, session_in, has_place_of, changed, joined, left, lost_since, begun, raised, mirrored_by, unmirrored, paused, with_master, with_member, without_member, busy, leave_refusal, drop_refusal};
 ghost use Rattle.dr_model.specs.Groups.{In, IsAt, MemberStands, PlacesDiffer, Groups, HoldsMember, OpensAttempt};
-ghost use Rattle.dr_groups.specs.Frames.{Grows, Quieter, Framed, Recorded, RecordedOr, Moves, Suits, Quiet, ServerSilent, SilentBut, Became, Holding};
+ghost use Rattle.dr_groups.specs.Frames.{Grows, Quieter, Framed, Recorded, RecordedOr, Moves, Suits, Quiet, ServerSilent, SilentBut, Became, Holding, Housed};
 
 /// The laws hold before the first step, and stay where a volume is defined.
 pub fn the_laws_of_sessions_begin()
@@ -82,6 +83,15 @@ pub fn lines_on_sessions_keep_their_laws()
     ensures adds { (k j : Control) (s : ℕ) (x : Session) (m : Member) → j.sessions ≡ k.sessions → session_in k.sessions s ≡ Some x → busy x.mirror ≡ None → nat_lt m.server.0 8 ≡ true → MemberStands j m → PlacesDiffer m → Groups j → Groups ((add_done k s x m).last j) }
     ensures expels { (k j : Control) (s : ℕ) (x : Session) (m : Member) → j.sessions ≡ k.sessions → session_in k.sessions s ≡ Some x → busy x.mirror ≡ None → Groups j → Groups ((expel_done k s m).last j) }
     ensures exchanges { (j : Control) (s server : ℕ) (reply : Bool) (ms : List Member) (o : Option phases.Order) (x : Session) → session_in j.sessions s ≡ Some x → ((r : Mirror) → x.mirror ≡ Some r → r.master.phase ≡ phase.Finishing → ServerSilent j x server) → Groups j → Groups ((exchange_done s server reply ms o).last j) }
+{}
+
+/// Each volume is on one of eight servers at most, wherever servers and volumes are defined; so a member whose volumes stand is.
+pub fn volumes_stay_on_eight_servers()
+    ensures none { Housed no_control }
+    ensures stays { (j k : Control) → k.servers ≡ j.servers → k.volumes ≡ j.volumes → ((v : ℕ) → (k.volume v).server ≡ (j.volume v).server) → Housed j → Housed k }
+    ensures servers { (k : Control) (name : Name) → Housed k → Housed ((server_plan k name).first k) }
+    ensures volumes { (k : Control) (v : ℕ) (name : Name) (tracks : ℕ) → Housed k → Housed ((volume_plan k v name tracks).first k) }
+    ensures member { (k : Control) (m : Member) → Housed k → MemberStands k m → nat_lt m.server.0 8 ≡ true }
 {}
 
 /// The session that a number gives is one of the table, and has that number. No other session has it.
