@@ -1,0 +1,14 @@
+pub mod Lists
+pub mod Changes
+pub mod AtLemmas
+pub mod Frames
+pub mod Sound
+pub mod Masters
+pub mod Tables
+pub mod Members
+pub mod Volumes
+pub mod Quieting
+pub mod Silent
+pub mod Orders
+pub mod PlanTables
+pub mod Housed
