@@ -93,6 +93,7 @@ pub record MayRestore (T : Table) (v t u : ℕ) : Type 0 where
   pub reversing : (fields T u).reversing ≡ true
   pub holds : contains (fields T u).own t ≡ true
   pub kept : Kept T v t
+  pub idle : (fields T v).recording ≡ false
 
 -- v's source holds what v gives up
 pub record MayRelease (T : Table) (v t : ℕ) : Type 0 where
@@ -102,11 +103,12 @@ pub record MayRelease (T : Table) (v t : ℕ) : Type 0 where
   pub holds : contains (fields T v).own t ≡ true
   pub equal : (T from).bytes t ≡ (T v).bytes t
 
--- secondary v stores a track of its primary u, which each target of v holds
+-- secondary v stores a track of its primary u, which u has out of sync, and each target of v holds
 pub record MayStore (T : Table) (v t u : ℕ) : Type 0 where
   pub low : t < (T v).volume.tracks
   pub sends : its_secondary (T u) ≡ Some v
   pub takes : its_primary (T v) ≡ Some u
+  pub out : contains (fields T u).out_of_sync t ≡ true
   pub kept : Kept T v t
 
 -- the secondary of v has what v strikes off; the last track is one of a Metro Mirror pair
@@ -136,24 +138,27 @@ pub record MayMakePrimary (T : Table) (v u : ℕ) (kind : Part) (full : Bool) : 
   pub second : is_part (fields T v).secondary ≡ false
   pub defined : (T u).defined ≡ true
   pub takes : its_primary (T u) ≡ Some v
+  pub alike : (fields T u).secondary ≡ kind
   pub equal : full ≡ false → (t : ℕ) → t < (T v).volume.tracks → (T v).bytes t ≡ (T u).bytes t
 
--- track t of primary v is about to change on both sides
+-- track t of a Metro Mirror primary v is about to change on both sides
 pub record MayUnsync (T : Table) (v t : ℕ) : Type 0 where
   pub low : t < (T v).volume.tracks
-  pub first : is_part (fields T v).primary ≡ true
+  pub metro : is_metro (fields T v).primary ≡ true
 
--- secondary v stores a host write on a track of its primary u, which u has out of sync, and each target of v holds
+-- secondary v stores a host write on a track of its Metro Mirror primary u, which u has out of sync, and each target of v holds
 pub record MayMirror (T : Table) (v t u : ℕ) : Type 0 where
   pub low : t < (T v).volume.tracks
+  pub metro : is_metro (fields T u).primary ≡ true
   pub sends : its_secondary (T u) ≡ Some v
   pub takes : its_primary (T v) ≡ Some u
   pub out : contains (fields T u).out_of_sync t ≡ true
   pub kept : Kept T v t
 
--- a host write lands on a track of v whose secondary has stored it
+-- a host write lands on a track of a Metro Mirror primary v whose secondary has stored it
 pub record MayLandBoth (write : ℕ → Write) (T : Table) (n v t : ℕ) : Type 0 where
   pub land : MayLand T v t
+  pub metro : is_metro (fields T v).primary ≡ true
   pub to : ℕ
   pub sends : its_secondary (T v) ≡ Some to
   pub equal : (T to).bytes t ≡ with_write write ((T v).bytes t) n

@@ -29,6 +29,7 @@ pub mod Rows
 pub mod Groups
 pub mod Laws
 pub mod Allowed
+pub mod Cuts
 pub mod Fits
 pub mod Limits
 pub mod LineWords
