@@ -20,7 +20,8 @@ use Rattle.dr_model.specs.Moves.{Relate, Withdraw, Resync, Reverse, is_write}
 use Rattle.dr_model.specs.Carry.{Entry, Next, Pass, Do, Acknowledge, now, check}
 use Rattle.dr_model.specs.Pairs.{is_unpaired}
 use Rattle.dr_model.specs.Entries.{fields_at, is_running, running_check, is_at, subsystem, first_of, share_server, share_size, is_no_target, copies_from, targets_of, stands_in, is_any, relation_state, pair_state, is_no_secondary, takes_back, times, fetch_next, give_back}
-use Rattle.dr_model.specs.PairEntries.{make_entries, remove_entries, pause_entries, resume_entries, is_copying, tracks_to_send, sends, suspend_after, link_down, first_active, first_differing}
+use Rattle.dr_model.specs.Sessions.{is_member, in_session}
+use Rattle.dr_model.specs.PairEntries.{refuse_if, make_entries, remove_entries, pause_entries, resume_entries, is_copying, tracks_to_send, sends, suspend_after, link_down, first_active, first_differing}
 use Rattle.dr_model.specs.WriteEntries.{landing, says_written, after_write, belongs, start_entries, lift_on, freeze_entries, thaw_entries}
 pub use Rattle.dr_model.specs.PlanParts.{Plan, same, none_follow, always, tables_plan, only_says, refuses, name_bytes, server_named, on_named, on_server, unless, entries_plan, is_owner, is_defined, is_named, owner_of, on_owner, on_session}
 use Rattle.dr_model.specs.SessionPlans.{join_plan, leave_plan, add_plan, expel_plan, mirror_plan, pause_mirror_plan, unmirror_plan, abort_plan, exchange_plan, is_ahead}
@@ -398,8 +399,12 @@ abbrev pub pair_plan : Control → List Event → Devs → ℕ → ℕ → Part 
 pair_plan k events devs a b kind full =
     entries_plan (found_volumes devs a b ++ make_entries k a b kind full (if full then None else first_differing (image_at events) (k.volume a).tracks a b)) (Done Alone)
 
+-- one of two volumes is the primary of a member; its session is named
+abbrev pub member_refusal : ℕ → ℕ → Control → Option Refusal
+member_refusal a b k = option_or (in_session (find (is_member a) k.sessions)) (in_session (find (is_member b) k.sessions))
+
 abbrev pub remove_plan : Control → Devs → ℕ → ℕ → Bool → Plan
-remove_plan k devs a b source_only = entries_plan (found_volumes devs a b ++ remove_entries k a b source_only) (Done Alone)
+remove_plan k devs a b source_only = entries_plan (found_volumes devs a b ++ refuse_if (member_refusal a b) ∷ remove_entries k a b source_only) (Done Alone)
 
 abbrev pub pause_plan : Control → Devs → ℕ → ℕ → Plan
 pause_plan k devs a b = entries_plan (found_volumes devs a b ++ pause_entries k a b) (Done Alone)
