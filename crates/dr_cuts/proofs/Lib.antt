@@ -1,0 +1,4 @@
+pub mod AtLemmas
+pub mod Sets
+pub mod Still
+pub mod KeepsKinds

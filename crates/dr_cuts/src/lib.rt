@@ -1,0 +1,2 @@
+//! Laws on cuts and seals. Its functions do nothing: each names a law by its contract.
+#![tactic(auto)]
