@@ -2,3 +2,4 @@ pub mod AtLemmas
 pub mod Sets
 pub mod Still
 pub mod KeepsKinds
+pub mod KeepsCut
