@@ -6,3 +6,5 @@ pub mod KeepsCut
 pub mod KeepsSent
 pub mod Kept
 pub mod Journal
+pub mod Told
+pub mod Places

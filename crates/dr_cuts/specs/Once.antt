@@ -3,6 +3,7 @@ use Rattle.std.specs.Prelude.{◌≡◌, ℕ, List, [], ◌∷◌, Some, None, i
 use Rattle.dr_model.specs.declared.event.Event.{Event}
 use Rattle.dr_model.specs.declared.event.Event.TheVariants.{Cut}
 use Rattle.dr_model.specs.Histories.{no_history, lists}
+use Rattle.dr_model.specs.Moves.{Move, Hold}
 use Rattle.dr_model.specs.Cuts.{Cuts, Past, CutAt, cuts, no_cuts, past_event}
 
 -- before the first event
@@ -26,3 +27,8 @@ pub record Found (events : List Event) (s n a : ℕ) : Type 0 where
   pub place : CutAt events s n a
   pub held : (t : ℕ) → (cuts events).held n a t ≡ lists place.before a t
   pub last : (z : ℕ) → CutAt place.behind z n a → ⊥
+
+-- a hold is the first of its volume for its number
+abbrev pub HoldsNew : Cuts → Move → Type 0
+HoldsNew c (Hold v s n first) = c.by n v ≡ None
+HoldsNew c m = Unit {0}

@@ -1,0 +1,66 @@
+-- Where in a journal a volume was cut for a number.
+use Rattle.std.proofs.Common.{ℕ, ◌≡◌, ◌≢◌, ◌⊎◌, inl, inr, refl, ap, sym, ◌∙◌, Bool, true, false, List, [], ◌∷◌, ◌++◌, Option, Some, None, subst}
+use Rattle.std.proofs.lemmas.Bool.Decides.{eqb_tells}
+use Rattle.std.proofs.lemmas.List.{append-nil, append_assoc}
+use Rattle.std.specs.Prelude.{is_some}
+use Rattle.dr_model.specs.declared.event.Event.{Event}
+use Rattle.dr_model.specs.declared.event.Event.TheVariants.{Cut}
+use Rattle.dr_model.specs.Tables.{at2}
+use Rattle.dr_model.specs.Histories.{Lists, lists}
+use Rattle.dr_model.specs.Cuts.{Cuts, Past, CutAt, past, cuts, past_event, cuts_after, cut_for}
+use Rattle.dr_cuts.specs.Once.{no_past, IsNew, AllNew, CutOnce, Found}
+use Rattle.dr_cuts.proofs.AtLemmas.{Told, at2_cases, at2_same, at2_other}
+use Rattle.dr_cuts.proofs.Sets.{false_true, none_some}
+use Rattle.dr_cuts.proofs.Journal.{NoCut, cuts-push, cut-pushed}
+
+-- induction at the end of a list
+snoc-from : {X : Type 0} (P : List X → Type 0) → ((xs : List X) (x : X) → P xs → P (xs ++ x ∷ [])) → (todo done : List X) → P done → P (done ++ todo)
+snoc-from P step [] done p = subst P (sym (append-nil done)) p
+snoc-from P step (x ∷ xs) done p = subst P (append_assoc done (x ∷ []) xs) (snoc-from P step xs (done ++ x ∷ []) (step done x p))
+
+snoc : {X : Type 0} (P : List X → Type 0) → P [] → ((xs : List X) (x : X) → P xs → P (xs ++ x ∷ [])) → (xs : List X) → P xs
+snoc P none step xs = snoc-from P step xs [] none
+
+head-same : (x y : Event) (xs ys : List Event) → x ∷ xs ≡ y ∷ ys → x ≡ y
+head-same x y xs ys h = cc
+
+tail-same : (x y : Event) (xs ys : List Event) → x ∷ xs ≡ y ∷ ys → xs ≡ ys
+tail-same x y xs ys h = cc
+
+module _ (n a : ℕ) where
+  cut-then : Past → Bool
+  cut-then p = is_some (p.cuts.by n a)
+
+  -- a volume that was cut stays so, and is not cut again
+  still-cut : (p : Past) (e : Event) → is_some (p.cuts.by n a) ≡ true → is_some ((past_event p e).cuts.by n a) ≡ true
+  still-cut p (Cut z k x) h = at2_cases (λ j y o. is_some (p.cuts.by j y) ≡ true → is_some o ≡ true) p.cuts.by k x (Some z) (λ h. refl) (λ j y ne h. h) n a h
+  still-cut p e h = h
+
+  now-cut : (p : Past) (s : ℕ) → is_some ((past_event p (Cut s n a)).cuts.by n a) ≡ true
+  now-cut p s = ap is_some (at2_same p.cuts.by n a (Some s))
+
+  no-more-cuts : (p : Past) (s : ℕ) (before behind : List Event) → is_some (p.cuts.by n a) ≡ true → AllNew p (before ++ Cut s n a ∷ behind) → ⊥
+  unfolding AllNew
+  no-more-cuts p s [] behind is new = false_true (ap is_some new.0) is
+  no-more-cuts p s (e ∷ es) behind is new = no-more-cuts (past_event p e) s es behind (still-cut p e is) new.1
+
+  -- so there is one place
+  one-place : (p : Past) (s z : ℕ) (before behind other rest : List Event) → AllNew p (before ++ Cut s n a ∷ behind) → before ++ Cut s n a ∷ behind ≡ other ++ Cut z n a ∷ rest → other ≡ before
+  unfolding AllNew
+  one-place p s z [] behind [] rest new same = refl
+  one-place p s z [] behind (y ∷ ys) rest new same =
+      absurd (no-more-cuts (past_event p (Cut s n a)) z ys rest (now-cut p s) (subst (AllNew (past_event p (Cut s n a))) (tail-same _ _ behind (ys ++ Cut z n a ∷ rest) same) new.1))
+  one-place p s z (x ∷ xs) behind [] rest new same =
+      absurd (no-more-cuts (past_event p x) s xs behind (subst (λ e. is_some ((past_event p e).cuts.by n a) ≡ true) (sym (head-same x (Cut z n a) _ _ same)) (now-cut p z)) new.1)
+  one-place p s z (x ∷ xs) behind (y ∷ ys) rest new same =
+      let tails : xs ++ Cut s n a ∷ behind ≡ ys ++ Cut z n a ∷ rest = tail-same x y _ _ same in
+      let heads : x ≡ y = head-same x y _ _ same in
+      ap (λ e. e ∷ ys) (sym heads) ∙ ap (λ es. x ∷ es) (one-place (past_event p x) s z xs behind ys rest new.1 tails)
+
+pub cut-once : (events : List Event) → CutOnce events → (n a s z : ℕ) (place : CutAt events s n a) (other : CutAt events z n a) → other.before ≡ place.before
+cut-once events once n a s z place other = one-place n a no_past s z place.before place.behind other.before other.behind (subst (AllNew no_past) place.is once) (sym place.is ∙ other.is)
+
+-- a place in a journal that has one event more
+last-or : (before behind es : List Event) (c e : Event) → es ++ e ∷ [] ≡ before ++ c ∷ behind → (e ≡ c) ⊎ (behind ≡ [] → ⊥)
+last-or before [] es c e same = inl ?
+last-or before (x ∷ xs) es c e same = inr (λ h. absurd cc)
