@@ -91,14 +91,14 @@ no-more : (es fs : List Event) → NoCuts es → NoCuts fs → NoCuts (es ++ fs)
 no-more [] fs here later = later
 no-more (e ∷ es) fs here later = (here.0, no-more es fs here.1 later)
 
-blank-quiet : (v : ℕ) (ts : List ℕ) → NoCuts (map (Blanked v) ts)
+pub blank-quiet : (v : ℕ) (ts : List ℕ) → NoCuts (map (Blanked v) ts)
 blank-quiet v [] = tt
 blank-quiet v (t ∷ ts) = (tt, blank-quiet v ts)
 
-restored-quiet : (v s n : ℕ) (own : Tracks) (b : Bool) → NoCuts (cond b (told_blank v n own ++ Restored s v ∷ []) [])
+pub restored-quiet : (v s n : ℕ) (own : Tracks) (b : Bool) → NoCuts (cond b (told_blank v n own ++ Restored s v ∷ []) [])
 restored-quiet v s n own true = no-more (told_blank v n own) (Restored s v ∷ []) (blank-quiet v (in_order n (rest n own))) (tt, tt)
 restored-quiet v s n own false = tt
 
-suspended-quiet : (v : ℕ) (b : Bool) → NoCuts (cond b [] (Suspended v ∷ []))
+pub suspended-quiet : (v : ℕ) (b : Bool) → NoCuts (cond b [] (Suspended v ∷ []))
 suspended-quiet v true = tt
 suspended-quiet v false = (tt, tt)
