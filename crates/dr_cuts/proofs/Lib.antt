@@ -8,3 +8,7 @@ pub mod Kept
 pub mod Journal
 pub mod Told
 pub mod Places
+pub mod Seals
+pub mod Writes
+pub mod Begins
+pub mod Worlds
