@@ -12,7 +12,7 @@ use Rattle.dr_model.specs.Control.{Volume}
 use Rattle.dr_model.specs.Pairs.{is_suspended}
 use Rattle.dr_model.specs.Moves.{Move, Land, Overwrite, LandBoth, Withdraw, Reverse, Release, Suspend, Hold, told, told_in_stop, told_blank, told_restored}
 use Rattle.dr_model.specs.Cuts.{Cuts, Past, past, cuts, past_event, cuts_after, cut_for, next_cuts}
-use Rattle.dr_cuts.specs.Once.{no_past, IsNew, AllNew, CutOnce}
+use Rattle.dr_cuts.specs.Once.{no_past, IsNew, AllNew, CutOnce, NoCut, NoCuts}
 
 -- the histories are those of the journal
 history-fold : (p : Past) (es : List Event) → (fold past_event p es).history ≡ fold after_event p.history es
@@ -36,15 +36,7 @@ cuts-append events more = ap (λ (p : Past). p.cuts) (past-append events more)
 pub cuts-push : (events : List Event) (e : Event) → cuts (events ++ e ∷ []) ≡ cuts_after (past events) e
 cuts-push events e = cuts-append events (e ∷ [])
 
--- an event that cuts no volume, and a list of such
-abbrev pub NoCut : Event → Type 0
-NoCut (Cut s n a) = ⊥
-NoCut e = Unit {0}
-
-abbrev pub NoCuts : List Event → Type 0
-NoCuts [] = Unit {0}
-NoCuts (e ∷ es) = NoCut e × NoCuts es
-
+-- events that cut no volume leave the cuts
 no-cut : (p : Past) (e : Event) → NoCut e → cuts_after p e ≡ p.cuts
 no-cut p (Cut s n a) quiet = absurd quiet
 no-cut p e quiet = refl

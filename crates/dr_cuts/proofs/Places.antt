@@ -11,7 +11,7 @@ use Rattle.dr_model.specs.Cuts.{Cuts, Past, CutAt, past, cuts, past_event, cuts_
 use Rattle.dr_cuts.specs.Once.{no_past, IsNew, AllNew, CutOnce, Found}
 use Rattle.dr_cuts.proofs.AtLemmas.{Told, at2_cases, at2_same, at2_other}
 use Rattle.dr_cuts.proofs.Sets.{false_true, none_some}
-use Rattle.dr_cuts.proofs.Journal.{NoCut, cuts-push, cut-pushed}
+use Rattle.dr_cuts.proofs.Journal.{cuts-push, cut-pushed}
 
 -- induction at the end of a list
 snoc-from : {X : Type 0} (P : List X → Type 0) → ((xs : List X) (x : X) → P xs → P (xs ++ x ∷ [])) → (todo done : List X) → P done → P (done ++ todo)

@@ -1,5 +1,6 @@
 -- What each kind of move tells the journal makes of the cuts: a hold alone cuts.
-use Rattle.std.proofs.Common.{ℕ, ◌≡◌, ap, ◌∙◌, Bool, true, false, List, [], ◌∷◌, ◌++◌, map, None}
+use Rattle.std.proofs.Common.{ℕ, ◌≡◌, ap, sym, ◌∙◌, subst, Bool, true, false, List, [], ◌∷◌, ◌++◌, map, None}
+use Rattle.std.proofs.lemmas.List.{append_assoc}
 use Rattle.dr_model.specs.declared.event.Event.{Event}
 use Rattle.dr_model.specs.declared.event.Event.TheVariants.{Begin, Cut}
 use Rattle.dr_model.specs.Histories.{Histories, Write, lists}
@@ -11,8 +12,8 @@ use Rattle.dr_model.specs.Table.{Table}
 use Rattle.dr_model.specs.Laws.{Each, SoundRows}
 use Rattle.dr_model.specs.Allowed.{Allowed}
 use Rattle.dr_model.specs.Cuts.{Cuts, Past, RowCuts, past, cuts, cut_for, next_cuts}
-use Rattle.dr_cuts.specs.Once.{AllNew, CutOnce, HoldsNew}
-use Rattle.dr_cuts.proofs.Journal.{NoCuts, past-history, cuts-append, cut-pushed, cuts-quiet, once-append, once-quiet, blank-quiet, restored-quiet, suspended-quiet}
+use Rattle.dr_cuts.specs.Once.{AllNew, CutOnce, NoCuts, HoldsNew}
+use Rattle.dr_cuts.proofs.Journal.{past-history, cuts-append, cut-pushed, cuts-quiet, once-append, once-quiet, blank-quiet, restored-quiet, suspended-quiet}
 use Rattle.dr_cuts.proofs.KeepsCut.{fresh}
 
 abbrev pub IsNoHold : Move → Type 0
@@ -61,11 +62,14 @@ module _ (events : List Event) where
   cuts-told m u = cuts-append events (told m u)
 
   -- and where the server stopped in it
-  pub cuts-told-in-stop : (m : Move) (u : Volume) → cuts (events ++ told_in_stop m u) ≡ next_cuts (lists events) m (cuts events)
+  cuts-told-in-stop : (m : Move) (u : Volume) → cuts (events ++ told_in_stop m u) ≡ next_cuts (lists events) m (cuts events)
   cuts-told-in-stop (Land n v t) u = cuts-append events []
   cuts-told-in-stop (Overwrite n v t) u = cuts-append events []
   cuts-told-in-stop (LandBoth n v t) u = cuts-append events []
   cuts-told-in-stop m u = cuts-told m u
+
+  pub cuts-stopped : (more : List Event) (m : Move) (u : Volume) → NoCuts more → cuts (events ++ (told_in_stop m u ++ more)) ≡ next_cuts (lists events) m (cuts events)
+  cuts-stopped more m u quiet = ap cuts (sym (append_assoc events (told_in_stop m u) more)) ∙ (cuts-quiet (events ++ told_in_stop m u) more quiet ∙ cuts-told-in-stop m u)
 
   -- no volume is cut twice by it
   pub once-told : (m : Move) (u : Volume) → CutOnce events → HoldsNew (cuts events) m → CutOnce (events ++ told m u)
@@ -74,9 +78,12 @@ module _ (events : List Event) where
   once-told (Hold v s n false) u once new = once-append events (Cut s n v ∷ []) once (new, tt)
   once-told m u once new = once-quiet events (told m u) (told-quiet m u tt) once
 
-  pub once-told-in-stop : (m : Move) (u : Volume) → CutOnce events → HoldsNew (cuts events) m → CutOnce (events ++ told_in_stop m u)
+  once-told-in-stop : (m : Move) (u : Volume) → CutOnce events → HoldsNew (cuts events) m → CutOnce (events ++ told_in_stop m u)
   once-told-in-stop (Hold v s n first) u once new = once-told (Hold v s n first) u once new
   once-told-in-stop m u once new = once-quiet events (told_in_stop m u) (stop-quiet m u tt) once
+
+  pub once-stopped : (more : List Event) (m : Move) (u : Volume) → NoCuts more → CutOnce events → HoldsNew (cuts events) m → CutOnce (events ++ (told_in_stop m u ++ more))
+  once-stopped more m u quiet once new = subst CutOnce (append_assoc events (told_in_stop m u) more) (once-quiet (events ++ told_in_stop m u) more quiet (once-told-in-stop m u once new))
 
 -- a hold that is allowed is the first of its number
 pub holds-new : (write : ℕ → Write) (T : Table) (rows : SoundRows T) (c : Cuts) → Each (RowCuts c) T → (m : Move) → Allowed write T m → HoldsNew c m

@@ -2,7 +2,7 @@
 -- cuts no volume, and as a volume is defined.
 use Rattle.std.proofs.Common.{ℕ, ◌≡◌, ◌≢◌, ◌<◌, ◌≤◌, ◌+◌, refl, ap, sym, ◌∙◌, arith, Bool, true, false, cond, ◌&&◌, nat_eq, List, [], ◌∷◌, ◌++◌, Some, None, subst}
 use Rattle.std.proofs.lemmas.Bool.{and_parts, eqb-true}
-use Rattle.std.proofs.lemmas.List.{append-nil, append_assoc}
+use Rattle.std.proofs.lemmas.List.{append-nil}
 use Rattle.dr_model.specs.declared.event.Event.{Event}
 use Rattle.dr_model.specs.Tables.{at}
 use Rattle.dr_model.specs.Layout.{no_fields}
@@ -16,11 +16,11 @@ use Rattle.dr_model.specs.Groups.{Groups, IsMember}
 use Rattle.dr_model.specs.Laws.{SoundRows, Numbered, AllPending, servers}
 use Rattle.dr_model.specs.Allowed.{Allowed, Ready, Idle, InGroup}
 use Rattle.dr_model.specs.Cuts.{Cuts, CutLaws, Past, IsCalm, past, cuts, next_cuts}
-use Rattle.dr_cuts.specs.Once.{CutOnce, HoldsNew}
+use Rattle.dr_cuts.specs.Once.{CutOnce, NoCuts, HoldsNew}
 use Rattle.dr_cuts.specs.Sound.{CutsBelow, CutsDefined, SoundCuts, HeldDefined, MovedTo, SameRow}
 use Rattle.dr_cuts.proofs.Sets.{false_true}
-use Rattle.dr_cuts.proofs.Journal.{NoCuts, cuts-quiet, once-quiet, once-none}
-use Rattle.dr_cuts.proofs.Told.{cuts-told, cuts-told-in-stop, once-told, once-told-in-stop, holds-new}
+use Rattle.dr_cuts.proofs.Journal.{cuts-quiet, once-quiet, once-none}
+use Rattle.dr_cuts.proofs.Told.{cuts-told, cuts-stopped, once-told, once-stopped, holds-new}
 use Rattle.dr_cuts.proofs.Kept.{kept-cuts}
 use Rattle.dr_cuts.proofs.Writes.{below-none, below-more, below-next, laws-write, laws-rows}
 use Rattle.dr_cuts.proofs.Begins.{laws-start, laws-defined, stand-defined, stand-next}
@@ -58,12 +58,12 @@ sound-nothing = record {
   defined = λ n v h. absurd cc;
 }
 
-module _ (w : World) (rows : SoundRows (table w)) (numbers : Numbered (w.control.issued + 1) (histories w.events)) (old : SoundCuts w) where
+module _ (w : World) where
   abbrev write : ℕ → Write
   write = (histories w.events).write
 
   -- a move
-  module _ (x : World) (m : Move) (a : Allowed write (table w) m) (calm : IsCalm write (lists w.events) (table w) m) (held : HeldDefined (table w) m) (to : MovedTo w x m) where
+  module _ (rows : SoundRows (table w)) (numbers : Numbered (w.control.issued + 1) (histories w.events)) (old : SoundCuts w) (x : World) (m : Move) (a : Allowed write (table w) m) (calm : IsCalm write (lists w.events) (table w) m) (held : HeldDefined (table w) m) (to : MovedTo w x m) where
     moved : cuts x.events ≡ next_cuts (lists w.events) m (cuts w.events) → CutOnce x.events → SoundCuts x
     moved is once = record {
       laws = subst (λ (h : ℕ → Write). CutLaws h (cuts x.events) (table x)) (sym to.writes)
@@ -83,16 +83,13 @@ module _ (w : World) (rows : SoundRows (table w)) (numbers : Numbered (w.control
     sound-done u is = moved (ap cuts is ∙ cuts-told w.events m u) (subst CutOnce (sym is) (once-told w.events m u old.once new))
 
     pub sound-stop : (u : Volume) (more : List Event) → NoCuts more → x.events ≡ w.events ++ (told_in_stop m u ++ more) → SoundCuts x
-    sound-stop u more quiet is =
-        let apart = is ∙ sym (append_assoc w.events (told_in_stop m u) more) in
-        moved (ap cuts apart ∙ (cuts-quiet (w.events ++ told_in_stop m u) more quiet ∙ cuts-told-in-stop w.events m u))
-        (subst CutOnce (sym apart) (once-quiet (w.events ++ told_in_stop m u) more quiet (once-told-in-stop w.events m u old.once new)))
+    sound-stop u more quiet is = moved (ap cuts is ∙ cuts-stopped w.events more m u quiet) (subst CutOnce (sym is) (once-stopped w.events more m u quiet old.once new))
 
   -- what cuts no volume, and leaves what is due: an acknowledgement, an answer, a stop, or a write that is issued
-  pub sound-quiet : (x : World) (more : List Event) → NoCuts more → x.events ≡ w.events ++ more
+  pub sound-quiet : SoundCuts w → (x : World) (more : List Event) → NoCuts more → x.events ≡ w.events ++ more
       → ((k v t : ℕ) → image (histories x.events).write ((cuts w.events).held k v t) ≡ image write ((cuts w.events).held k v t)) → w.control.issued ≤ x.control.issued
       → ((v : ℕ) → SameRow (table w v) (table x v)) → ((v : ℕ) → (table w v).defined ≡ true → (table x v).defined ≡ true) → SoundCuts x
-  sound-quiet x more quiet is writes issued same still =
+  sound-quiet old x more quiet is writes issued same still =
       let here : cuts x.events ≡ cuts w.events = ap cuts is ∙ cuts-quiet w.events more quiet in
       record {
         laws = subst (λ c. CutLaws (histories x.events).write c (table x)) (sym here)
@@ -103,9 +100,9 @@ module _ (w : World) (rows : SoundRows (table w)) (numbers : Numbered (w.control
       }
 
   -- a volume is defined
-  pub sound-defined : (x : World) (more : List Event) → NoCuts more → x.events ≡ w.events ++ more → (histories x.events).write ≡ write → x.control.issued ≡ w.control.issued
+  pub sound-defined : SoundRows (table w) → SoundCuts w → (x : World) (more : List Event) → NoCuts more → x.events ≡ w.events ++ more → (histories x.events).write ≡ write → x.control.issued ≡ w.control.issued
       → (v : ℕ) (y : Row) → (table w v).defined ≡ false → y.volume.fields ≡ no_fields → y.defined ≡ true → table x ≡ at (table w) v y → SoundCuts x
-  sound-defined x more quiet is writes issued v y undefined bare defines to =
+  sound-defined rows old x more quiet is writes issued v y undefined bare defines to =
       let here : cuts x.events ≡ cuts w.events = ap cuts is ∙ cuts-quiet w.events more quiet in
       record {
         laws = subst (λ (h : ℕ → Write). CutLaws h (cuts x.events) (table x)) (sym writes)

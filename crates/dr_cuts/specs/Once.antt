@@ -22,6 +22,15 @@ AllNew p (e ∷ es) = IsNew p e × AllNew (past_event p e) es
 abbrev pub CutOnce : List Event → Type 0
 CutOnce events = AllNew no_past events
 
+-- an event that cuts no volume, and a list of such
+abbrev pub NoCut : Event → Type 0
+NoCut (Cut s n a) = ⊥
+NoCut e = Unit {0}
+
+abbrev pub NoCuts : List Event → Type 0
+NoCuts [] = Unit {0}
+NoCuts (e ∷ es) = NoCut e × NoCuts es
+
 -- the last place of a journal where volume a is cut for attempt n: it is session s's, and what is held of the cut are the lists there
 pub record Found (events : List Event) (s n a : ℕ) : Type 0 where
   pub place : CutAt events s n a

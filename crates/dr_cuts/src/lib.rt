@@ -1,2 +1,75 @@
-//! Laws on cuts and seals. Its functions do nothing: each names a law by its contract.
+//! Laws on cuts and seals, about the machine of `dr_model`: what a primary held as it was held for an attempt, and what its
+//! secondary holds once it is sealed. Its functions do nothing: each names a law by its contract.
 #![tactic(auto)]
+
+ghost use Rattle.std.specs.Prelude.{◌≡◌, ◌≤◌, ◌+◌, ◌++◌, ℕ, List, [], ◌∷◌, Some, true, false};
+ghost use Rattle.dr_model.specs.declared.event.Event.{Event};
+ghost use Rattle.dr_model.specs.Tables.{at};
+ghost use Rattle.dr_model.specs.Layout.{no_fields};
+ghost use Rattle.dr_model.specs.Histories.{Lists, Write, histories, lists};
+ghost use Rattle.dr_model.specs.Contents.{image};
+ghost use Rattle.dr_model.specs.Control.{Volume, World, nothing};
+ghost use Rattle.dr_model.specs.Moves.{Move, told, told_in_stop};
+ghost use Rattle.dr_model.specs.Table.{Row, Table, table};
+ghost use Rattle.dr_model.specs.Rows.{after};
+ghost use Rattle.dr_model.specs.Laws.{SoundRows, Numbered};
+ghost use Rattle.dr_model.specs.Allowed.{Allowed};
+ghost use Rattle.dr_model.specs.Cuts.{Cuts, CutLaws, IsCalm, CutAt, SealsHold, past, cuts, next_cuts};
+ghost use Rattle.dr_cuts.specs.Once.{CutOnce, NoCuts, HoldsNew, Found};
+ghost use Rattle.dr_cuts.specs.Sound.{CutsBelow, SoundCuts, HeldDefined, MovedTo, SameRow};
+
+/// Each kind of move keeps the laws on cuts, where it is allowed: a primary that records was cut for its attempt and for none
+/// that is greater; what it still has to send is as at that cut, and of every other track its secondary is; and a secondary that
+/// is sealed for a number holds the cut of that number.
+pub fn each_kind_of_move_keeps_the_cuts()
+    ensures { (write : ℕ → Write) (T : Table) (c : Cuts) (now : Lists) (m : Move) →
+        CutLaws write c T → SoundRows T → Allowed write T m → IsCalm write now T m → CutLaws write (next_cuts now m c) (after write T m) }
+{}
+
+/// The cuts of a journal go along with the moves: a hold makes one, and nothing else does, also where a server stops in it.
+/// The histories beside them are the journal's.
+pub fn holds_alone_cut()
+    ensures history { (events : List Event) → (past events).history ≡ histories events }
+    ensures done { (events : List Event) (m : Move) (u : Volume) → cuts (events ++ told m u) ≡ next_cuts (lists events) m (cuts events) }
+    ensures stopped { (events more : List Event) (m : Move) (u : Volume) → NoCuts more → cuts (events ++ (told_in_stop m u ++ more)) ≡ next_cuts (lists events) m (cuts events) }
+    ensures quiet { (events more : List Event) → NoCuts more → cuts (events ++ more) ≡ cuts events }
+{}
+
+/// Where a cut is told of, a place of the journal makes it, and what is held of it are the lists of that place; and where no
+/// volume is cut twice for one number, there is one such place. It stays so where each hold is the first of its volume for its
+/// number, as each hold is that is allowed.
+pub fn cuts_have_one_place()
+    ensures found { (n a : ℕ) (events : List Event) (s : ℕ) → (cuts events).by n a ≡ Some s → Found events s n a }
+    ensures one { (events : List Event) → CutOnce events → (n a s z : ℕ) (place : CutAt events s n a) (other : CutAt events z n a) → other.before ≡ place.before }
+    ensures done { (events : List Event) (m : Move) (u : Volume) → CutOnce events → HoldsNew (cuts events) m → CutOnce (events ++ told m u) }
+    ensures new { (write : ℕ → Write) (T : Table) (c : Cuts) (m : Move) → CutLaws write c T → SoundRows T → Allowed write T m → HoldsNew c m }
+{}
+
+/// In a world whose cuts are sound, each sealed secondary contains on every track what the host writes make that its primary held
+/// at the one cut of that number.
+pub fn seals_hold()
+    ensures { (w : World) → SoundRows (table w) → SoundCuts w → SealsHold w }
+{}
+
+/// A write that is issued later changes no cut: the lists that are held at cuts have only numbers of writes that were issued.
+pub fn later_writes_leave_cuts()
+    ensures { (write : ℕ → Write) (n : ℕ) (x : Write) (c : Cuts) (T : Table) → CutsBelow n c → CutLaws write c T → CutLaws (at write n x) c T }
+{}
+
+/// Before the first step the cuts are sound; and they stay so in a move that is done, in one in which its server stops and that
+/// counts as done, in whatever tells of no cut and leaves what is due, and where a volume is defined.
+pub fn cuts_stay_sound()
+    ensures nothing { SoundCuts nothing }
+    ensures done { (w x : World) (m : Move) (u : Volume) → SoundRows (table w) → Numbered (w.control.issued + 1) (histories w.events) → SoundCuts w →
+        Allowed (histories w.events).write (table w) m → IsCalm (histories w.events).write (lists w.events) (table w) m → HeldDefined (table w) m → MovedTo w x m →
+        x.events ≡ w.events ++ told m u → SoundCuts x }
+    ensures stopped { (w x : World) (m : Move) (u : Volume) (more : List Event) → SoundRows (table w) → Numbered (w.control.issued + 1) (histories w.events) → SoundCuts w →
+        Allowed (histories w.events).write (table w) m → IsCalm (histories w.events).write (lists w.events) (table w) m → HeldDefined (table w) m → MovedTo w x m →
+        NoCuts more → x.events ≡ w.events ++ (told_in_stop m u ++ more) → SoundCuts x }
+    ensures quiet { (w x : World) (more : List Event) → SoundCuts w → NoCuts more → x.events ≡ w.events ++ more →
+        ((k v t : ℕ) → image (histories x.events).write ((cuts w.events).held k v t) ≡ image (histories w.events).write ((cuts w.events).held k v t)) →
+        w.control.issued ≤ x.control.issued → ((v : ℕ) → SameRow (table w v) (table x v)) → ((v : ℕ) → (table w v).defined ≡ true → (table x v).defined ≡ true) → SoundCuts x }
+    ensures defined { (w x : World) (more : List Event) (v : ℕ) (y : Row) → SoundRows (table w) → SoundCuts w → NoCuts more → x.events ≡ w.events ++ more →
+        (histories x.events).write ≡ (histories w.events).write → x.control.issued ≡ w.control.issued →
+        (table w v).defined ≡ false → y.volume.fields ≡ no_fields → y.defined ≡ true → table x ≡ at (table w) v y → SoundCuts x }
+{}
