@@ -1,5 +1,5 @@
 -- A table changed at one number, or at two: what holds of each row, and of each row and the one that it points to.
-use Rattle.std.proofs.Common.{ℕ, ◌≡◌, ◌≢◌, ◌⊎◌, inl, inr, refl, sym, ap, ◌∙◌, subst, Bool, true, false, cond, nat_eq, Option, Some, None}
+use Rattle.std.proofs.Common.{ℕ, ◌≡◌, ◌≢◌, ◌⊎◌, inl, inr, refl, sym, ap, ◌∙◌, subst, true, false, cond, nat_eq, Option, Some}
 use Rattle.std.proofs.lemmas.Bool.Decides.{eqb_tells}
 use Rattle.dr_model.specs.Tables.{at, at2}
 use Rattle.dr_model.specs.Table.{Row, Table}

@@ -1,13 +1,13 @@
 -- Before the first cut the laws hold, and a volume that is newly defined leaves them.
-use Rattle.std.proofs.Common.{ℕ, ◌≡◌, ◌≢◌, refl, ap, sym, ◌∙◌, Bool, true, false, Some, None, subst}
+use Rattle.std.proofs.Common.{ℕ, ◌≡◌, ap, true, false, Some}
 use Rattle.std.specs.Prelude.{is_some}
-use Rattle.dr_model.specs.Tables.{at, at2}
+use Rattle.dr_model.specs.Tables.{at}
 use Rattle.dr_model.specs.Layout.{Fields, is_part, no_fields}
 use Rattle.dr_model.specs.Histories.{Lists, Write}
 use Rattle.dr_model.specs.Moves.{Move, Hold, target}
 use Rattle.dr_model.specs.Table.{Row, Table}
 use Rattle.dr_model.specs.Rows.{after, next_row}
-use Rattle.dr_model.specs.Laws.{SoundRows, its_primary, its_secondary, fields}
+use Rattle.dr_model.specs.Laws.{SoundRows, its_primary, its_secondary}
 use Rattle.dr_model.specs.Cuts.{Cuts, CutLaws, OneKind, SealedGlobal, RowCuts, UnsentAsAtCut, SentAsAtCut, SealedAsAtCut, no_cuts, next_cuts}
 use Rattle.dr_cuts.specs.Sound.{CutsDefined, HeldDefined}
 use Rattle.dr_cuts.proofs.AtLemmas.{at_cases, each-at, linked-at, at2_cases}

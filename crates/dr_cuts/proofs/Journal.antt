@@ -1,17 +1,14 @@
 -- The cuts of a journal, one event further and several.
-use Rattle.std.proofs.Common.{ℕ, ◌≡◌, refl, ap, sym, ◌∙◌, Bool, true, false, cond, List, [], ◌∷◌, ◌++◌, map, Some, None, subst}
-use Rattle.std.proofs.lemmas.List.{append-nil, append_assoc}
+use Rattle.std.proofs.Common.{ℕ, ◌≡◌, refl, ap, ◌∙◌, Bool, true, false, cond, List, [], ◌∷◌, ◌++◌, map}
 use Rattle.std.proofs.lemmas.List.Sums.{fold-append}
 use Rattle.std.specs.List.{fold}
 use Rattle.dr_model.specs.declared.event.Event.{Event}
-use Rattle.dr_model.specs.declared.event.Event.TheVariants.{Begin, Cut, Blanked, Restored, Suspended}
-use Rattle.dr_model.specs.Histories.{Lists, Histories, histories, no_history, after_event, lists}
+use Rattle.dr_model.specs.declared.event.Event.TheVariants.{Cut, Blanked, Restored, Suspended}
+use Rattle.dr_model.specs.Histories.{Histories, histories, after_event, lists}
 use Rattle.dr_model.specs.Layout.{Tracks}
-use Rattle.dr_model.specs.Relations.{is_bare, rest, in_order, turned, given_up}
-use Rattle.dr_model.specs.Control.{Volume}
-use Rattle.dr_model.specs.Pairs.{is_suspended}
-use Rattle.dr_model.specs.Moves.{Move, Land, Overwrite, LandBoth, Withdraw, Reverse, Release, Suspend, Hold, told, told_in_stop, told_blank, told_restored}
-use Rattle.dr_model.specs.Cuts.{Cuts, Past, past, cuts, past_event, cuts_after, cut_for, next_cuts}
+use Rattle.dr_model.specs.Relations.{rest, in_order}
+use Rattle.dr_model.specs.Moves.{told_blank}
+use Rattle.dr_model.specs.Cuts.{Past, past, cuts, past_event, cuts_after, cut_for}
 use Rattle.dr_cuts.specs.Once.{no_past, IsNew, AllNew, CutOnce, NoCut, NoCuts}
 
 -- the histories are those of the journal
@@ -79,13 +76,17 @@ pub cut-pushed : (events : List Event) (s n a : ℕ) → cuts (events ++ Cut s n
 cut-pushed events s n a = cuts-push events (Cut s n a) ∙ ap (λ (h : Histories). cut_for s n a h.now (cuts events)) (past-history events)
 
 -- what a move tells: a hold alone cuts
-no-more : (es fs : List Event) → NoCuts es → NoCuts fs → NoCuts (es ++ fs)
+pub no-more : (es fs : List Event) → NoCuts es → NoCuts fs → NoCuts (es ++ fs)
 no-more [] fs here later = later
 no-more (e ∷ es) fs here later = (here.0, no-more es fs here.1 later)
 
 pub blank-quiet : (v : ℕ) (ts : List ℕ) → NoCuts (map (Blanked v) ts)
 blank-quiet v [] = tt
 blank-quiet v (t ∷ ts) = (tt, blank-quiet v ts)
+
+pub map-quiet : {X : Type 0} (f : X → Event) (xs : List X) → ((x : X) → NoCut (f x)) → NoCuts (map f xs)
+map-quiet f [] quiet = tt
+map-quiet f (x ∷ xs) quiet = (quiet x, map-quiet f xs quiet)
 
 pub restored-quiet : (v s n : ℕ) (own : Tracks) (b : Bool) → NoCuts (cond b (told_blank v n own ++ Restored s v ∷ []) [])
 restored-quiet v s n own true = no-more (told_blank v n own) (Restored s v ∷ []) (blank-quiet v (in_order n (rest n own))) (tt, tt)

@@ -1,5 +1,5 @@
 -- Each kind of move keeps that a primary that records was cut for its attempt, and that what it still has to send is as at that cut.
-use Rattle.std.proofs.Common.{ℕ, ◌≡◌, ◌≢◌, ◌<◌, ◌≤◌, ◌+◌, max, refl, ap, sym, ◌∙◌, arith, Bool, true, false, cond, not, ◌&&◌, List, Option, Some, None, subst}
+use Rattle.std.proofs.Common.{ℕ, ◌≡◌, ◌≢◌, ◌<◌, ◌≤◌, max, refl, ap, sym, ◌∙◌, arith, true, false, List, Option, Some, None, subst}
 use Rattle.std.specs.Prelude.{is_some}
 use Rattle.std.specs.FinSet.{contains, insert, union}
 use Rattle.dr_model.specs.Tables.{at, at2}
@@ -51,7 +51,7 @@ module _ (write : ℕ → Write) (T : Table) (rows : SoundRows T) (c : Cuts) (no
       recorder = λ h. ap is_some (at2_same c.by n v (Some s));
       positive = λ k. at2_cases (λ k x y. is_some y ≡ true → 0 < k) c.by n v (Some s) (λ h. omega arith) (λ k x ne h. (old x).positive k h) k v;
       low = λ k h. at2_cases (λ k x y. x ≡ v → is_some y ≡ true → k ≤ n) c.by n v (Some s) (λ e h. omega arith)
-        (λ k x ne e h. let low : k ≤ (fields T v).attempt = subst (λ j. k ≤ (fields T j).attempt) e ((old x).low k h) in omega arith) k v refl h;
+          (λ k x ne e h. let low : k ≤ (fields T v).attempt = subst (λ j. k ≤ (fields T j).attempt) e ((old x).low k h) in omega arith) k v refl h;
     }
 
     pub kept-cut : (m : Move) → Allowed write T m → Each (RowCuts (next_cuts now m c)) (after write T m)

@@ -1,5 +1,5 @@
 -- Each kind of move keeps that a pair is of one kind, and that only a secondary of Global Copy is sealed.
-use Rattle.std.proofs.Common.{ℕ, ◌≡◌, ◌≢◌, refl, ap, sym, ◌∙◌, Bool, true, false, Some, subst}
+use Rattle.std.proofs.Common.{ℕ, ◌≡◌, refl, ap, ◌∙◌, false, Some, subst}
 use Rattle.dr_model.specs.Layout.{is_part}
 use Rattle.dr_model.specs.Histories.{Write}
 use Rattle.dr_model.specs.Pairs.{is_kind}
@@ -7,7 +7,7 @@ use Rattle.dr_model.specs.declared.state.Part.TheVariants.{Global}
 use Rattle.dr_model.specs.Moves.{Move, Store, MakeSecondary, MakePrimary, DropPrimary, DropSecondary, TakeOver, Seal, target}
 use Rattle.dr_model.specs.Table.{Row, Table}
 use Rattle.dr_model.specs.Rows.{after, next_row}
-use Rattle.dr_model.specs.Laws.{Each, Linked, SoundRows, its_primary, its_secondary, fields}
+use Rattle.dr_model.specs.Laws.{Each, Linked, SoundRows, its_primary, fields}
 use Rattle.dr_model.specs.Allowed.{Allowed}
 use Rattle.dr_model.specs.Cuts.{OneKind, SealedGlobal}
 use Rattle.dr_cuts.proofs.AtLemmas.{each-at, linked-at}

@@ -1,11 +1,11 @@
 -- Each kind of move keeps that what a primary that records has sent its secondary is as at the cut, and that a sealed secondary
 -- holds the cut.
-use Rattle.std.proofs.Common.{ℕ, ◌≡◌, ◌≢◌, ◌<◌, ◌+◌, ◌||◌, inl, inr, refl, ap, sym, ◌∙◌, arith, Bool, true, false, cond, List, Some, None, subst}
+use Rattle.std.proofs.Common.{ℕ, ◌≡◌, ◌<◌, ◌||◌, inl, inr, refl, ap, sym, ◌∙◌, Bool, true, false, List, Some, None, subst}
 use Rattle.std.proofs.lemmas.Bool.Decides.{eqb_tells}
 use Rattle.std.specs.Prelude.{is_some}
 use Rattle.std.specs.FinSet.{contains, insert, union}
-use Rattle.dr_model.specs.Tables.{at, at2}
-use Rattle.dr_model.specs.Layout.{Tracks, is_part}
+use Rattle.dr_model.specs.Tables.{at}
+use Rattle.dr_model.specs.Layout.{is_part}
 use Rattle.dr_model.specs.Histories.{Lists, Write}
 use Rattle.dr_model.specs.Contents.{image}
 use Rattle.dr_model.specs.Pairs.{is_kind}
@@ -13,14 +13,13 @@ use Rattle.dr_model.specs.declared.state.Part.TheVariants.{Global}
 use Rattle.dr_model.specs.Moves.{Move, Land, Overwrite, Relate, Withdraw, Resync, Reverse, Restore, Release, Store, Strike, Suspend, MakeSecondary, MakePrimary, DropPrimary, DropSecondary, TakeOver, Unsync, Mirror, LandBoth, Lift, Restart, Hold, Seal, Finish, RaiseAttempt, target}
 use Rattle.dr_model.specs.Table.{Row, Table}
 use Rattle.dr_model.specs.Rows.{after, next_row}
-use Rattle.dr_model.specs.Laws.{Each, Linked, SoundRows, its_primary, its_secondary, fields}
+use Rattle.dr_model.specs.Laws.{Linked, SoundRows, its_primary, its_secondary, fields}
 use Rattle.dr_model.specs.Allowed.{Allowed}
-use Rattle.dr_model.specs.Cuts.{Cuts, CutLaws, RowCuts, SentAsAtCut, SealedAsAtCut, HoldsCut, IsCalm, next_cuts, at_cut}
-use Rattle.dr_cuts.proofs.AtLemmas.{Told, at_cases, linked-at, at2_other}
+use Rattle.dr_model.specs.Cuts.{Cuts, CutLaws, SentAsAtCut, SealedAsAtCut, HoldsCut, IsCalm, next_cuts, at_cut}
+use Rattle.dr_cuts.proofs.AtLemmas.{at_cases, linked-at, at2_other}
 use Rattle.dr_cuts.proofs.Sets.{false_true, from_source, global_metro, landed_out, lifted_out, not_after}
-use Rattle.dr_cuts.proofs.Still.{first, target-still, metro-still, target-second, second-first, due-equal, no-first-then, no-second-then, recorded}
-use Rattle.dr_cuts.proofs.KeepsKinds.{kept-kinds, kept-global}
-use Rattle.dr_cuts.proofs.KeepsCut.{by-other, held-other, held-here, fresh, kept-cut, kept-unsent}
+use Rattle.dr_cuts.proofs.Still.{metro-still, target-second, second-first, due-equal, no-first-then, no-second-then, recorded}
+use Rattle.dr_cuts.proofs.KeepsCut.{held-other, held-here, fresh}
 
 module _ (write : ℕ → Write) (T : Table) (rows : SoundRows T) (c : Cuts) (now : Lists) (old : CutLaws write c T) where
   abbrev row : Move → Row

@@ -1,16 +1,15 @@
 -- Where in a journal a volume was cut for a number.
-use Rattle.std.proofs.Common.{ℕ, ◌≡◌, ◌≢◌, ◌⊎◌, inl, inr, refl, ap, sym, ◌∙◌, Bool, true, false, List, [], ◌∷◌, ◌++◌, Option, Some, None, subst}
+use Rattle.std.proofs.Common.{ℕ, ◌≡◌, ◌⊎◌, inl, inr, refl, ap, sym, ◌∙◌, Bool, true, List, [], ◌∷◌, ◌++◌, Some, subst}
 use Rattle.std.proofs.lemmas.Bool.Decides.{eqb_tells}
 use Rattle.std.proofs.lemmas.List.{append-nil, append_assoc}
 use Rattle.std.specs.Prelude.{is_some}
 use Rattle.dr_model.specs.declared.event.Event.{Event}
 use Rattle.dr_model.specs.declared.event.Event.TheVariants.{Cut}
-use Rattle.dr_model.specs.Tables.{at2}
-use Rattle.dr_model.specs.Histories.{Lists, lists}
-use Rattle.dr_model.specs.Cuts.{Cuts, Past, CutAt, past, cuts, past_event, cuts_after, cut_for}
-use Rattle.dr_cuts.specs.Once.{no_past, IsNew, AllNew, CutOnce, Found}
+use Rattle.dr_model.specs.Histories.{lists}
+use Rattle.dr_model.specs.Cuts.{Cuts, Past, CutAt, past, cuts, past_event, cuts_after}
+use Rattle.dr_cuts.specs.Once.{no_past, AllNew, CutOnce, Found}
 use Rattle.dr_cuts.proofs.AtLemmas.{Told, at2_cases, at2_same, at2_other}
-use Rattle.dr_cuts.proofs.Sets.{false_true, none_some}
+use Rattle.dr_cuts.proofs.Sets.{false_true}
 use Rattle.dr_cuts.proofs.Journal.{cuts-push, cut-pushed}
 
 -- induction at the end of a list

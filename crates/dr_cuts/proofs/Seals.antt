@@ -1,13 +1,13 @@
 -- From the laws on rows to what a run promises: a sealed secondary contains what its primary held at the cut.
-use Rattle.std.proofs.Common.{ℕ, ◌≡◌, ◌<◌, refl, ap, sym, ◌∙◌, Bool, true, false, Option, Some, None}
+use Rattle.std.proofs.Common.{ℕ, ◌≡◌, refl, ap, ◌∙◌, true, Option, Some, None}
 use Rattle.std.specs.Prelude.{is_some}
 use Rattle.dr_model.specs.Histories.{histories}
 use Rattle.dr_model.specs.Contents.{image}
 use Rattle.dr_model.specs.Control.{World}
 use Rattle.dr_model.specs.Table.{table}
 use Rattle.dr_model.specs.Laws.{SoundRows, fields}
-use Rattle.dr_model.specs.Cuts.{CutLaws, SealsHold, SealedCut, HoldsCut, cuts}
-use Rattle.dr_cuts.specs.Once.{CutOnce, Found}
+use Rattle.dr_model.specs.Cuts.{CutLaws, SealsHold, cuts}
+use Rattle.dr_cuts.specs.Once.{CutOnce}
 use Rattle.dr_cuts.proofs.Still.{plain-second}
 use Rattle.dr_cuts.proofs.Places.{cut-found, cut-once}
 

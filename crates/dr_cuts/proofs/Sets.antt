@@ -1,9 +1,9 @@
 -- Sets of tracks, and choices.
-use Rattle.std.proofs.Common.{ℕ, ◌≡◌, ◌≢◌, refl, ap, sym, ◌∙◌, Bool, true, false, cond, not, ◌&&◌, rules, Option, Some, None}
+use Rattle.std.proofs.Common.{ℕ, ◌≡◌, ◌≢◌, refl, ap, Bool, true, false, cond, not, ◌&&◌, rules, Option, Some, None}
 use Rattle.std.proofs.lemmas.Bool.Decides.{nat_tests}
 use Rattle.std.specs.Prelude.{is_some}
 use Rattle.std.specs.Cmp.{unsigned_tied}
-use Rattle.std.specs.FinSet.{contains, insert, remove, union, empty, members}
+use Rattle.std.specs.FinSet.{contains, remove, members}
 use Rattle.dr_model.specs.Layout.{Tracks}
 use Rattle.dr_model.specs.declared.state.Part.{Part}
 use Rattle.dr_model.specs.declared.state.Part.TheVariants.{Absent, Metro, Global}

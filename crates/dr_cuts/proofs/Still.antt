@@ -1,13 +1,11 @@
 -- What sound rows say of volumes that may record, and of pairs: used by each law on cuts.
-use Rattle.std.proofs.Common.{ℕ, ◌≡◌, ◌<◌, refl, ap, sym, ◌∙◌, Bool, true, false, cond, ◌&&◌, nat_eq, Some, None, subst}
+use Rattle.std.proofs.Common.{ℕ, ◌≡◌, ◌<◌, refl, ap, sym, ◌∙◌, Bool, true, false, ◌&&◌, nat_eq, Some, None, subst}
 use Rattle.std.proofs.lemmas.Bool.{and_parts, eqb-true}
-use Rattle.std.specs.FinSet.{contains}
 use Rattle.dr_model.specs.Layout.{is_part}
 use Rattle.dr_model.specs.Histories.{Write}
-use Rattle.dr_model.specs.Pairs.{is_kind, is_metro, records}
-use Rattle.dr_model.specs.declared.state.Part.TheVariants.{Global}
+use Rattle.dr_model.specs.Pairs.{is_metro}
 use Rattle.dr_model.specs.Moves.{Move, MakeSecondary, MakePrimary, DropPrimary, DropSecondary, TakeOver, target}
-use Rattle.dr_model.specs.Table.{Row, Table}
+use Rattle.dr_model.specs.Table.{Table}
 use Rattle.dr_model.specs.Rows.{next_row}
 use Rattle.dr_model.specs.Laws.{SoundRows, source, its_primary, its_secondary, fields}
 use Rattle.dr_model.specs.Allowed.{Allowed}

@@ -1,17 +1,16 @@
 -- What each kind of move tells the journal makes of the cuts: a hold alone cuts.
-use Rattle.std.proofs.Common.{ℕ, ◌≡◌, ap, sym, ◌∙◌, subst, Bool, true, false, List, [], ◌∷◌, ◌++◌, map, None}
+use Rattle.std.proofs.Common.{ℕ, ◌≡◌, ap, sym, ◌∙◌, subst, true, false, List, [], ◌∷◌, ◌++◌}
 use Rattle.std.proofs.lemmas.List.{append_assoc}
 use Rattle.dr_model.specs.declared.event.Event.{Event}
 use Rattle.dr_model.specs.declared.event.Event.TheVariants.{Begin, Cut}
 use Rattle.dr_model.specs.Histories.{Histories, Write, lists}
 use Rattle.dr_model.specs.Relations.{rest, in_order, turned, given_up}
 use Rattle.dr_model.specs.Control.{Volume}
-use Rattle.dr_model.specs.Pairs.{is_suspended}
 use Rattle.dr_model.specs.Moves.{Move, Land, Overwrite, Keep, Relate, Withdraw, Fetch, Resync, Reverse, Restore, Release, Store, Suspend, TakeOver, Mirror, LandBoth, Hold, Seal, Leave, told, told_in_stop}
 use Rattle.dr_model.specs.Table.{Table}
 use Rattle.dr_model.specs.Laws.{Each, SoundRows}
 use Rattle.dr_model.specs.Allowed.{Allowed}
-use Rattle.dr_model.specs.Cuts.{Cuts, Past, RowCuts, past, cuts, cut_for, next_cuts}
+use Rattle.dr_model.specs.Cuts.{Cuts, RowCuts, cuts, cut_for, next_cuts}
 use Rattle.dr_cuts.specs.Once.{AllNew, CutOnce, NoCuts, HoldsNew}
 use Rattle.dr_cuts.proofs.Journal.{past-history, cuts-append, cut-pushed, cuts-quiet, once-append, once-quiet, blank-quiet, restored-quiet, suspended-quiet}
 use Rattle.dr_cuts.proofs.KeepsCut.{fresh}

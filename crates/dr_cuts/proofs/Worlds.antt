@@ -1,24 +1,22 @@
 -- A world whose cuts are sound keeps them so: in a move that is done, in one that counts as done where its server stopped, in what
 -- cuts no volume, and as a volume is defined.
-use Rattle.std.proofs.Common.{ℕ, ◌≡◌, ◌≢◌, ◌<◌, ◌≤◌, ◌+◌, refl, ap, sym, ◌∙◌, arith, Bool, true, false, cond, ◌&&◌, nat_eq, List, [], ◌∷◌, ◌++◌, Some, None, subst}
+use Rattle.std.proofs.Common.{ℕ, ◌≡◌, ◌≤◌, ◌+◌, refl, ap, sym, ◌∙◌, arith, Bool, true, false, cond, ◌&&◌, nat_eq, List, [], ◌∷◌, ◌++◌, subst}
 use Rattle.std.proofs.lemmas.Bool.{and_parts, eqb-true}
 use Rattle.std.proofs.lemmas.List.{append-nil}
 use Rattle.dr_model.specs.declared.event.Event.{Event}
 use Rattle.dr_model.specs.Tables.{at}
 use Rattle.dr_model.specs.Layout.{no_fields}
-use Rattle.dr_model.specs.Histories.{Lists, Write, histories, lists}
+use Rattle.dr_model.specs.Histories.{Write, histories, lists}
 use Rattle.dr_model.specs.Contents.{image}
 use Rattle.dr_model.specs.Control.{Pending, Volume, World, is_volume, nothing}
 use Rattle.dr_model.specs.Moves.{Move, Hold, told, told_in_stop}
-use Rattle.dr_model.specs.Table.{Row, Table, table, waiting}
-use Rattle.dr_model.specs.Rows.{after}
+use Rattle.dr_model.specs.Table.{Row, table, waiting}
 use Rattle.dr_model.specs.Groups.{Groups, IsMember}
 use Rattle.dr_model.specs.Laws.{SoundRows, Numbered, AllPending, servers}
-use Rattle.dr_model.specs.Allowed.{Allowed, Ready, Idle, InGroup}
-use Rattle.dr_model.specs.Cuts.{Cuts, CutLaws, Past, IsCalm, past, cuts, next_cuts}
+use Rattle.dr_model.specs.Allowed.{Allowed, Ready, InGroup}
+use Rattle.dr_model.specs.Cuts.{CutLaws, IsCalm, past, cuts, next_cuts}
 use Rattle.dr_cuts.specs.Once.{CutOnce, NoCuts, HoldsNew}
 use Rattle.dr_cuts.specs.Sound.{CutsBelow, CutsDefined, SoundCuts, HeldDefined, MovedTo, SameRow}
-use Rattle.dr_cuts.proofs.Sets.{false_true}
 use Rattle.dr_cuts.proofs.Journal.{cuts-quiet, once-quiet, once-none}
 use Rattle.dr_cuts.proofs.Told.{cuts-told, cuts-stopped, once-told, once-stopped, holds-new}
 use Rattle.dr_cuts.proofs.Kept.{kept-cuts}
@@ -67,13 +65,13 @@ module _ (w : World) where
     moved : cuts x.events ≡ next_cuts (lists w.events) m (cuts w.events) → CutOnce x.events → SoundCuts x
     moved is once = record {
       laws = subst (λ (h : ℕ → Write). CutLaws h (cuts x.events) (table x)) (sym to.writes)
-        (subst (λ c. CutLaws write c (table x)) (sym is)
-        (subst (CutLaws write (next_cuts (lists w.events) m (cuts w.events))) (sym to.rows) (kept-cuts write (table w) (cuts w.events) (lists w.events) m old.laws rows a calm)));
+          (subst (λ c. CutLaws write c (table x)) (sym is)
+          (subst (CutLaws write (next_cuts (lists w.events) m (cuts w.events))) (sym to.rows) (kept-cuts write (table w) (cuts w.events) (lists w.events) m old.laws rows a calm)));
       once = once;
       numbers = subst (λ n. CutsBelow (n + 1) (cuts x.events)) (sym to.issued)
-        (subst (CutsBelow (w.control.issued + 1)) (sym is) (below-next (w.control.issued + 1) (cuts w.events) (lists w.events) m numbers.now old.numbers));
+          (subst (CutsBelow (w.control.issued + 1)) (sym is) (below-next (w.control.issued + 1) (cuts w.events) (lists w.events) m numbers.now old.numbers));
       defined = subst (λ c. CutsDefined c (table x)) (sym is)
-        (subst (CutsDefined (next_cuts (lists w.events) m (cuts w.events))) (sym to.rows) (stand-next write (cuts w.events) (table w) (lists w.events) m held old.defined));
+          (subst (CutsDefined (next_cuts (lists w.events) m (cuts w.events))) (sym to.rows) (stand-next write (cuts w.events) (table w) (lists w.events) m held old.defined));
     }
 
     new : HoldsNew (cuts w.events) m
@@ -93,7 +91,7 @@ module _ (w : World) where
       let here : cuts x.events ≡ cuts w.events = ap cuts is ∙ cuts-quiet w.events more quiet in
       record {
         laws = subst (λ c. CutLaws (histories x.events).write c (table x)) (sym here)
-          (laws-rows (histories x.events).write (cuts w.events) (table w) (table x) same (laws-write write (histories x.events).write (cuts w.events) (table w) writes old.laws));
+            (laws-rows (histories x.events).write (cuts w.events) (table w) (table x) same (laws-write write (histories x.events).write (cuts w.events) (table w) writes old.laws));
         once = subst CutOnce (sym is) (once-quiet w.events more quiet old.once);
         numbers = subst (CutsBelow (x.control.issued + 1)) (sym here) (below-more (w.control.issued + 1) (x.control.issued + 1) (cuts w.events) (omega arith) old.numbers);
         defined = subst (λ c. CutsDefined c (table x)) (sym here) (λ n v h. still v (old.defined n v h));
@@ -106,8 +104,8 @@ module _ (w : World) where
       let here : cuts x.events ≡ cuts w.events = ap cuts is ∙ cuts-quiet w.events more quiet in
       record {
         laws = subst (λ (h : ℕ → Write). CutLaws h (cuts x.events) (table x)) (sym writes)
-          (subst (λ c. CutLaws write c (table x)) (sym here)
-          (subst (CutLaws write (cuts w.events)) (sym to) (laws-defined write (cuts w.events) (table w) rows old.defined v y undefined bare old.laws)));
+            (subst (λ c. CutLaws write c (table x)) (sym here)
+            (subst (CutLaws write (cuts w.events)) (sym to) (laws-defined write (cuts w.events) (table w) rows old.defined v y undefined bare old.laws)));
         once = subst CutOnce (sym is) (once-quiet w.events more quiet old.once);
         numbers = subst (λ n. CutsBelow (n + 1) (cuts x.events)) (sym issued) (subst (CutsBelow (w.control.issued + 1)) (sym here) old.numbers);
         defined = subst (λ c. CutsDefined c (table x)) (sym here) (subst (CutsDefined (cuts w.events)) (sym to) (stand-defined (cuts w.events) (table w) v y defines old.defined));

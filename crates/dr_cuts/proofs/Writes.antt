@@ -1,11 +1,11 @@
 -- The lists that are held at cuts have only numbers of issued writes: so a write that is issued later changes no law. Nor do the
 -- laws depend on what tracks contain.
-use Rattle.std.proofs.Common.{ℕ, ◌≡◌, ◌≢◌, ◌<◌, ◌+◌, refl, ap, sym, ◌∙◌, Bool, true, false, List, [], Some, None, subst}
-use Rattle.dr_model.specs.Tables.{at, at2}
+use Rattle.std.proofs.Common.{ℕ, ◌≡◌, ◌<◌, ◌+◌, sym, ◌∙◌, List, subst}
+use Rattle.dr_model.specs.Tables.{at}
 use Rattle.dr_model.specs.Histories.{Lists, Write}
 use Rattle.dr_model.specs.Contents.{image}
 use Rattle.dr_model.specs.Moves.{Move, Hold}
-use Rattle.dr_model.specs.Table.{Row, Table}
+use Rattle.dr_model.specs.Table.{Table}
 use Rattle.dr_model.specs.Laws.{Below}
 use Rattle.dr_model.specs.Cuts.{Cuts, CutLaws, no_cuts, next_cuts}
 use Rattle.dr_model.proofs.Images.{image-issue, Below-more}

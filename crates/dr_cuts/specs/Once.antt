@@ -1,5 +1,5 @@
 -- Along a journal no volume is cut twice for one number.
-use Rattle.std.specs.Prelude.{◌≡◌, ℕ, List, [], ◌∷◌, Some, None, is_some}
+use Rattle.std.specs.Prelude.{◌≡◌, ℕ, List, [], ◌∷◌, None}
 use Rattle.dr_model.specs.declared.event.Event.{Event}
 use Rattle.dr_model.specs.declared.event.Event.TheVariants.{Cut}
 use Rattle.dr_model.specs.Histories.{no_history, lists}

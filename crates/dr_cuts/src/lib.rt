@@ -12,11 +12,11 @@ ghost use Rattle.dr_model.specs.Control.{Volume, World, nothing};
 ghost use Rattle.dr_model.specs.Moves.{Move, told, told_in_stop};
 ghost use Rattle.dr_model.specs.Table.{Row, Table, table};
 ghost use Rattle.dr_model.specs.Rows.{after};
-ghost use Rattle.dr_model.specs.Laws.{SoundRows, Numbered};
+ghost use Rattle.dr_model.specs.Laws.{SoundRows, Numbered, Below};
 ghost use Rattle.dr_model.specs.Allowed.{Allowed};
-ghost use Rattle.dr_model.specs.Cuts.{Cuts, CutLaws, IsCalm, CutAt, SealsHold, past, cuts, next_cuts};
+ghost use Rattle.dr_model.specs.Cuts.{Cuts, CutLaws, IsCalm, CutAt, SealsHold, no_cuts, past, cuts, next_cuts};
 ghost use Rattle.dr_cuts.specs.Once.{CutOnce, NoCuts, HoldsNew, Found};
-ghost use Rattle.dr_cuts.specs.Sound.{CutsBelow, SoundCuts, HeldDefined, MovedTo, SameRow};
+ghost use Rattle.dr_cuts.specs.Sound.{CutsBelow, CutsDefined, SoundCuts, HeldDefined, MovedTo, SameRow};
 
 /// Each kind of move keeps the laws on cuts, where it is allowed: a primary that records was cut for its attempt and for none
 /// that is greater; what it still has to send is as at that cut, and of every other track its secondary is; and a secondary that
@@ -51,9 +51,20 @@ pub fn seals_hold()
     ensures { (w : World) → SoundRows (table w) → SoundCuts w → SealsHold w }
 {}
 
-/// A write that is issued later changes no cut: the lists that are held at cuts have only numbers of writes that were issued.
+/// A write that is issued later changes no law on cuts: the lists that are held at cuts have only numbers of writes that were
+/// issued, as the lists of volumes do. Nor does it matter what tracks contain, but for what is due.
 pub fn later_writes_leave_cuts()
-    ensures { (write : ℕ → Write) (n : ℕ) (x : Write) (c : Cuts) (T : Table) → CutsBelow n c → CutLaws write c T → CutLaws (at write n x) c T }
+    ensures issue { (write : ℕ → Write) (n : ℕ) (x : Write) (c : Cuts) (T : Table) → CutsBelow n c → CutLaws write c T → CutLaws (at write n x) c T }
+    ensures numbers { (n : ℕ) (c : Cuts) (now : Lists) (m : Move) → ((v t : ℕ) → Below n (now v t)) → CutsBelow n c → CutsBelow n (next_cuts now m c) }
+    ensures rows { (write : ℕ → Write) (c : Cuts) (T U : Table) → ((v : ℕ) → SameRow (T v) (U v)) → CutLaws write c T → CutLaws write c U }
+{}
+
+/// The laws hold of new volumes before the first cut; a volume that is newly defined keeps them; and a volume that was cut is
+/// defined from then on.
+pub fn new_volumes_keep_the_cuts()
+    ensures start { (write : ℕ → Write) (T : Table) → ((v : ℕ) → (T v).volume.fields ≡ no_fields) → CutLaws write no_cuts T }
+    ensures defined { (write : ℕ → Write) (c : Cuts) (T : Table) (v : ℕ) (y : Row) → SoundRows T → CutsDefined c T → (T v).defined ≡ false → y.volume.fields ≡ no_fields → CutLaws write c T → CutLaws write c (at T v y) }
+    ensures stays { (write : ℕ → Write) (c : Cuts) (T : Table) (now : Lists) (m : Move) → HeldDefined T m → CutsDefined c T → CutsDefined (next_cuts now m c) (after write T m) }
 {}
 
 /// Before the first step the cuts are sound; and they stay so in a move that is done, in one in which its server stops and that
