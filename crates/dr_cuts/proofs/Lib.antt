@@ -12,3 +12,4 @@ pub mod Seals
 pub mod Writes
 pub mod Begins
 pub mod Worlds
+pub mod Mays

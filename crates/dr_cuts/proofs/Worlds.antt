@@ -1,16 +1,18 @@
 -- A world whose cuts are sound keeps them so: in a move that is done, in one that counts as done where its server stopped, in what
 -- cuts no volume, and as a volume is defined.
-use Rattle.std.proofs.Common.{ℕ, ◌≡◌, ◌≤◌, ◌+◌, refl, ap, sym, ◌∙◌, arith, Bool, true, false, cond, ◌&&◌, nat_eq, List, [], ◌∷◌, ◌++◌, subst}
+use Rattle.std.proofs.Common.{ℕ, ◌≡◌, ◌≤◌, ◌+◌, refl, ap, sym, ◌∙◌, arith, Bool, true, false, cond, ◌&&◌, nat_eq, List, [], ◌∷◌, ◌++◌, take, subst}
 use Rattle.std.proofs.lemmas.Bool.{and_parts, eqb-true}
 use Rattle.std.proofs.lemmas.List.{append-nil}
 use Rattle.dr_model.specs.declared.event.Event.{Event}
 use Rattle.dr_model.specs.Tables.{at}
 use Rattle.dr_model.specs.Layout.{no_fields}
-use Rattle.dr_model.specs.Histories.{Write, histories, lists}
+use Rattle.dr_model.specs.declared.event.Event.TheVariants.{Issue}
+use Rattle.dr_model.specs.Histories.{Histories, Write, histories, lists}
+use Rattle.dr_model.proofs.Images.{histories-push, image-issue}
 use Rattle.dr_model.specs.Contents.{image}
 use Rattle.dr_model.specs.Control.{Pending, Volume, World, is_volume, nothing}
 use Rattle.dr_model.specs.Moves.{Move, Hold, told, told_in_stop}
-use Rattle.dr_model.specs.Table.{Row, table, waiting}
+use Rattle.dr_model.specs.Table.{Row, Table, table, waiting}
 use Rattle.dr_model.specs.Groups.{Groups, IsMember}
 use Rattle.dr_model.specs.Laws.{SoundRows, Numbered, AllPending, servers}
 use Rattle.dr_model.specs.Allowed.{Allowed, Ready, InGroup}
@@ -110,3 +112,28 @@ module _ (w : World) where
         numbers = subst (λ n. CutsBelow (n + 1) (cuts x.events)) (sym issued) (subst (CutsBelow (w.control.issued + 1)) (sym here) old.numbers);
         defined = subst (λ c. CutsDefined c (table x)) (sym here) (subst (CutsDefined (cuts w.events)) (sym to) (stand-defined (cuts w.events) (table w) v y defines old.defined));
       }
+
+  -- the same where the table is as it was, and with a write that is issued
+  same-row : (T U : Table) → U ≡ T → (v : ℕ) → SameRow (T v) (U v)
+  same-row T U same v = record {
+    fields = ap (λ (T : Table). (T v).volume.fields) same;
+    tracks = ap (λ (T : Table). (T v).volume.tracks) same;
+    due = λ t. ap (λ (T : Table). (T v).due t) same;
+  }
+
+  pub sound-told : SoundCuts w → (x : World) (more : List Event) → NoCuts more → x.events ≡ w.events ++ more → (histories x.events).write ≡ write → x.control.issued ≡ w.control.issued → table x ≡ table w → SoundCuts x
+  sound-told old x more quiet is writes issued same = sound-quiet old x more quiet is
+      (λ k v t. ap (λ (h : ℕ → Write). image h ((cuts w.events).held k v t)) writes) (omega arith)
+      (same-row (table w) (table x) same) (λ v h. ap (λ (T : Table). (T v).defined) same ∙ h)
+
+  pub sound-same : SoundCuts w → (x : World) → x.events ≡ w.events → x.control.issued ≡ w.control.issued → table x ≡ table w → SoundCuts x
+  sound-same old x is issued same = sound-told old x [] tt (is ∙ sym (append-nil w.events)) (ap (λ es. (histories es).write) is) issued same
+
+  pub sound-issue : SoundCuts w → (x : World) (v t offset len : ℕ) (bytes : List ℕ) → x.events ≡ w.events ++ Issue (w.control.issued + 1) v t offset len bytes ∷ [] → x.control.issued ≡ w.control.issued + 1 → table x ≡ table w → SoundCuts x
+  sound-issue old x v t offset len bytes is issued same =
+      let n : ℕ = w.control.issued + 1 in
+      let new : Write = record { volume = v; track = t; offset = offset; bytes = take len bytes } in
+      let writes : (histories x.events).write ≡ at write n new = ap (λ es. (histories es).write) is ∙ ap (λ (h : Histories). h.write) (histories-push w.events (Issue n v t offset len bytes)) in
+      sound-quiet old x (Issue n v t offset len bytes ∷ []) (tt, tt) is
+      (λ k u q. ap (λ (h : ℕ → Write). image h ((cuts w.events).held k u q)) writes ∙ image-issue write n new ((cuts w.events).held k u q) (old.numbers k u q)) (omega arith)
+      (same-row (table w) (table x) same) (λ v h. ap (λ (T : Table). (T v).defined) same ∙ h)

@@ -2,18 +2,18 @@
 //! secondary holds once it is sealed. Its functions do nothing: each names a law by its contract.
 #![tactic(auto)]
 
-ghost use Rattle.std.specs.Prelude.{◌≡◌, ◌≤◌, ◌+◌, ◌++◌, ℕ, List, [], ◌∷◌, Some, true, false};
+ghost use Rattle.std.specs.Prelude.{◌≡◌, ◌+◌, ◌++◌, ℕ, List, [], ◌∷◌, Option, Some, true, false};
 ghost use Rattle.dr_model.specs.declared.event.Event.{Event};
+ghost use Rattle.dr_model.specs.declared.event.Event.TheVariants.{Issue};
 ghost use Rattle.dr_model.specs.Tables.{at};
 ghost use Rattle.dr_model.specs.Layout.{no_fields};
 ghost use Rattle.dr_model.specs.Histories.{Lists, Write, histories, lists};
-ghost use Rattle.dr_model.specs.Contents.{image};
 ghost use Rattle.dr_model.specs.Control.{Volume, World, nothing};
-ghost use Rattle.dr_model.specs.Moves.{Move, told, told_in_stop};
+ghost use Rattle.dr_model.specs.Moves.{Move, Hold, told, told_in_stop};
 ghost use Rattle.dr_model.specs.Table.{Row, Table, table};
 ghost use Rattle.dr_model.specs.Rows.{after};
-ghost use Rattle.dr_model.specs.Laws.{SoundRows, Numbered, Below};
-ghost use Rattle.dr_model.specs.Allowed.{Allowed};
+ghost use Rattle.dr_model.specs.Laws.{SoundRows, SoundBut, Below};
+ghost use Rattle.dr_model.specs.Allowed.{Allowed, May, MayOpen};
 ghost use Rattle.dr_model.specs.Cuts.{Cuts, CutLaws, IsCalm, CutAt, SealsHold, no_cuts, past, cuts, next_cuts};
 ghost use Rattle.dr_cuts.specs.Once.{CutOnce, NoCuts, HoldsNew, Found};
 ghost use Rattle.dr_cuts.specs.Sound.{CutsBelow, CutsDefined, SoundCuts, HeldDefined, MovedTo, SameRow};
@@ -67,19 +67,22 @@ pub fn new_volumes_keep_the_cuts()
     ensures stays { (write : ℕ → Write) (c : Cuts) (T : Table) (now : Lists) (m : Move) → HeldDefined T m → CutsDefined c T → CutsDefined (next_cuts now m c) (after write T m) }
 {}
 
-/// Before the first step the cuts are sound; and they stay so in a move that is done, in one in which its server stops and that
-/// counts as done, in whatever tells of no cut and leaves what is due, and where a volume is defined.
+/// Before the first step the cuts are sound; and in a sound world they stay so in a move that may come, and in the first hold of an
+/// attempt, whether it is done or its server stops in it and it counts as done; in whatever tells of no cut and leaves the table
+/// of volumes, such as a host write that is issued; and where a volume is defined.
 pub fn cuts_stay_sound()
     ensures nothing { SoundCuts nothing }
-    ensures done { (w x : World) (m : Move) (u : Volume) → SoundRows (table w) → Numbered (w.control.issued + 1) (histories w.events) → SoundCuts w →
-        Allowed (histories w.events).write (table w) m → IsCalm (histories w.events).write (lists w.events) (table w) m → HeldDefined (table w) m → MovedTo w x m →
-        x.events ≡ w.events ++ told m u → SoundCuts x }
-    ensures stopped { (w x : World) (m : Move) (u : Volume) (more : List Event) → SoundRows (table w) → Numbered (w.control.issued + 1) (histories w.events) → SoundCuts w →
-        Allowed (histories w.events).write (table w) m → IsCalm (histories w.events).write (lists w.events) (table w) m → HeldDefined (table w) m → MovedTo w x m →
+    ensures done { (starts : Option ℕ) (w x : World) (u : Volume) (m : Move) → SoundBut starts w → SoundCuts w → May w m → MovedTo w x m → x.events ≡ w.events ++ told m u → SoundCuts x }
+    ensures stopped { (starts : Option ℕ) (w x : World) (u : Volume) (m : Move) (more : List Event) → SoundBut starts w → SoundCuts w → May w m → MovedTo w x m →
         NoCuts more → x.events ≡ w.events ++ (told_in_stop m u ++ more) → SoundCuts x }
-    ensures quiet { (w x : World) (more : List Event) → SoundCuts w → NoCuts more → x.events ≡ w.events ++ more →
-        ((k v t : ℕ) → image (histories x.events).write ((cuts w.events).held k v t) ≡ image (histories w.events).write ((cuts w.events).held k v t)) →
-        w.control.issued ≤ x.control.issued → ((v : ℕ) → SameRow (table w v) (table x v)) → ((v : ℕ) → (table w v).defined ≡ true → (table x v).defined ≡ true) → SoundCuts x }
+    ensures opened { (starts : Option ℕ) (w x : World) (u : Volume) (v s n : ℕ) → SoundBut starts w → SoundCuts w → MayOpen w v s n → MovedTo w x (Hold v s n true) →
+        x.events ≡ w.events ++ told (Hold v s n true) u → SoundCuts x }
+    ensures opened_in_stop { (starts : Option ℕ) (w x : World) (u : Volume) (v s n : ℕ) (more : List Event) → SoundBut starts w → SoundCuts w → MayOpen w v s n → MovedTo w x (Hold v s n true) →
+        NoCuts more → x.events ≡ w.events ++ (told_in_stop (Hold v s n true) u ++ more) → SoundCuts x }
+    ensures told { (w x : World) (more : List Event) → SoundCuts w → NoCuts more → x.events ≡ w.events ++ more → (histories x.events).write ≡ (histories w.events).write →
+        x.control.issued ≡ w.control.issued → table x ≡ table w → SoundCuts x }
+    ensures issued { (w x : World) (v t offset len : ℕ) (bytes : List ℕ) → SoundCuts w → x.events ≡ w.events ++ Issue (w.control.issued + 1) v t offset len bytes ∷ [] →
+        x.control.issued ≡ w.control.issued + 1 → table x ≡ table w → SoundCuts x }
     ensures defined { (w x : World) (more : List Event) (v : ℕ) (y : Row) → SoundRows (table w) → SoundCuts w → NoCuts more → x.events ≡ w.events ++ more →
         (histories x.events).write ≡ (histories w.events).write → x.control.issued ≡ w.control.issued →
         (table w v).defined ≡ false → y.volume.fields ≡ no_fields → y.defined ≡ true → table x ≡ at (table w) v y → SoundCuts x }
