@@ -1,6 +1,6 @@
 -- What each step comes to, by cases: an answer, or one of the plans of the step table behind its tests.
-use Rattle.std.proofs.Common.{ℕ, ◌≡◌, ◌<◌, ◌≤◌, refl, Bool, true, false, cond, not, ◌||◌, List, Option, Some, None, Result, Ok, Err, nat_eq, nat_lt, nat_le, arith}
-use Rattle.std.specs.Prelude.{length, is_some}
+use Rattle.std.proofs.Common.{ℕ, ◌≡◌, ◌<◌, ◌≤◌, refl, Bool, true, false, cond, not, ◌||◌, List, [], Option, Some, None, Result, Ok, Err, nat_eq, nat_lt, nat_le, arith}
+use Rattle.std.specs.Prelude.{length, is_some, if◌then◌else◌, ◌==◌}
 use Rattle.std.specs.List.{find}
 use Rattle.std.specs.Option.{option_or}
 use Rattle.std.proofs.lemmas.Bool.Decides.{nat_tests}
@@ -18,15 +18,75 @@ use Rattle.dr_model.specs.declared.state.Part.{Part}
 use Rattle.dr_model.specs.declared.step.Devs.{Devs}
 use Rattle.dr_model.specs.declared.step.TornWord.{TornWord}
 use Rattle.dr_model.specs.declared.step.Step.{Step}
-use Rattle.dr_model.specs.declared.step.Step.TheVariants.{Server, Volume, Link, Stop, StopAfter, Start, Issue, Write, Apply, Show, MakeFlash, RemoveFlash, ResyncFlash, ReverseFlash, Copy, MakePath, RemovePath, MakePair, RemovePair, PausePair, ResumePair, Drain, Expire, Freeze, Unfreeze}
+use Rattle.dr_model.specs.declared.step.Step.TheVariants.{Server, Volume, Link, Stop, StopAfter, Start, Issue, Write, Apply, Show, MakeFlash, RemoveFlash, ResyncFlash, ReverseFlash, Copy, MakePath, RemovePath, MakePair, RemovePair, PausePair, ResumePair, Drain, Expire, Freeze, Unfreeze, MakeSession, RemoveSession, AddMember, RemoveMember, MakeMirror, PauseMirror, ResumeMirror, RemoveMirror, Abort, Exchange}
 use Rattle.dr_model.specs.Layout.{is_part, part_of}
 use Rattle.dr_model.specs.Limits.{most_servers, most_volumes, most_tracks, most_pending}
 use Rattle.dr_model.specs.Refusals.{server_off, unknown, duplicate, over}
 use Rattle.dr_model.specs.Control.{Control, Pending, is_volume}
 use Rattle.dr_model.specs.Relations.{Choices}
 use Rattle.dr_model.specs.Moves.{is_write}
-use Rattle.dr_model.specs.Plans.{Plan, plan, step_plan, plan_of, is_built, has_room, only_says, refuses, unless, on_named, on_server, name_bytes, server_named, server_refusal, server_done, volume_refusal, volume_done, link_between, link_done, track_refusal, issue_refusal, issue_done, write_done, apply_on, apply_done, show_refusal, show_done, is_foreign, stop_on, stop_done, arm_on, start_on, start_plan, flash_plan, withdraw_plan, resync_plan, reverse_plan, copy_plan, on_owner, owner_of, path_refusal, path_done, unpath_refusal, unpath_done, pair_plan, remove_plan, pause_plan, resume_plan, drain_plan, expire_on, expire_plan, freeze_refusal, freeze_done, thaw_refusal, thaw_done}
+use Rattle.dr_ids.specs.declared.names.Member.{Member}
+use Rattle.dr_ids.specs.declared.refusal.Refusal.TheVariants.{OutOfOrder}
+use Rattle.dr_ids.specs.declared.refusal.Kind.TheVariants.{Session as OfSession}
+use Rattle.dr_ids.specs.declared.refusal.PhaseName.TheVariants as phase
+use Rattle.dr_model.specs.Phases as phases
+use Rattle.dr_model.specs.Sessions.{Session, Mirror, session_in, has_place_of, is_member, joined, left, changed, mirrored_by, paused, unmirrored, with_master, with_member, without_member, raised, busy, in_session, not_in_session, leave_refusal, join_refusal, make_refusal, drop_refusal, abort_refusal}
+use Rattle.dr_model.specs.SessionEntries.{order_entries, members_on, first_number, add_entries, expel_entries}
+use Rattle.dr_model.specs.Entries.{fields_at, relation_state}
+use Rattle.dr_model.specs.SessionPlans.{with_sessions, table_plan, says_phase, name_refusal, off_refusal, outside_refusal, master_refusal, place_refusal, taken_refusal, copy_refusal, member_target, member_with, add_done, add_target, add_to, expel_done, expel_found, exchange_refusal, order_of, answered_by, exchange_done, exchange_on, mirror_ahead, is_ahead, on_volume, join_plan, leave_plan, mirror_plan, pause_mirror_plan, unmirror_plan, abort_plan, add_plan, expel_plan, exchange_plan}
+use Rattle.dr_model.specs.Plans.{Plan, plan, step_plan, plan_of, is_built, is_later, has_room, same, none_follow, always, on_session, is_defined, only_says, refuses, unless, on_named, on_server, name_bytes, server_named, server_refusal, server_done, volume_refusal, volume_done, link_between, link_done, track_refusal, issue_refusal, issue_done, write_done, apply_on, apply_done, show_refusal, show_done, is_foreign, stop_on, stop_done, arm_on, start_on, start_plan, flash_plan, withdraw_plan, resync_plan, reverse_plan, copy_plan, on_owner, owner_of, path_refusal, path_done, unpath_refusal, unpath_done, pair_plan, remove_plan, pause_plan, resume_plan, drain_plan, expire_on, expire_plan, freeze_refusal, freeze_done, thaw_refusal, thaw_done}
 use Rattle.dr_model.specs.Entries.{first_of, subsystem}
+
+-- a member is added, and removed; a master is aborted, and an order is carried out
+abbrev pub added : Control → ℕ → Session → Member → Plan
+added k s x m = record {
+  first = same;
+  told = [];
+  entries = add_entries m (first_number k x.last m);
+  follows = none_follow;
+  last = with_sessions (λ ss. changed s (with_member m) (changed s (raised (first_number k x.last m)) ss));
+  says = always (Done Alone);
+}
+
+abbrev pub expelled : ℕ → Member → Plan
+expelled s m = record {
+  first = same;
+  told = [];
+  entries = expel_entries s m;
+  follows = none_follow;
+  last = with_sessions (changed s (without_member m.a.0));
+  says = always (Done Alone);
+}
+
+abbrev pub aborted : ℕ → Plan
+aborted s = record (table_plan (changed s (with_master phases.aborted))) { says = says_phase s }
+
+abbrev pub ordered : ℕ → ℕ → Bool → List Member → phases.Order → Plan
+ordered s server reply ms o = record {
+  first = same;
+  told = [];
+  entries = order_entries o.work s o.number ms;
+  follows = none_follow;
+  last = if reply then answered_by s server o.work ms else same;
+  says = says_phase s;
+}
+
+-- why a volume may become a member, with c as its target
+pub record Joins (k : Control) (s a c : ℕ) (x : Session) : Type 0 where
+  pub found : session_in k.sessions s ≡ Some x
+  pub there : is_volume k a ≡ true
+  pub free : taken_refusal k x a ≡ None
+  pub copies : copy_refusal k a ≡ None
+  pub target : member_target k (fields_at k a).primary_partner ≡ Some c
+  pub places : in_session (find (has_place_of (member_with k a c)) k.sessions) ≡ None
+
+-- and why a server may be given an order
+pub record Ordered (k : Control) (s server : ℕ) (x : Session) (r : Mirror) (o : phases.Order) : Type 0 where
+  pub found : session_in k.sessions s ≡ Some x
+  pub mirror : x.mirror ≡ Some r
+  pub near : is_ahead k s ≡ false
+  pub allowed : exchange_refusal k r server x.members ≡ None
+  pub order : order_of r server ≡ Some o
 
 -- what a step comes to, with what was seen before
 pub data Case (k : Control) (events : List Event) (line : ℕ) : Plan → Type 0 where
@@ -56,6 +116,15 @@ pub data Case (k : Control) (events : List Event) (line : ℕ) : Plan → Type 0
   Expires : (s : ℕ) → k.on s ≡ true → Case k events line (expire_plan k s)
   Freezes : (l m : ℕ) → Case k events line (freeze_done k l m)
   Thaws : (l m : ℕ) → Case k events line (thaw_done k l m)
+  JoinsSession : (l s : ℕ) → join_refusal (session_in k.sessions s) l k.sessions ≡ None → Case k events line (table_plan (joined s l))
+  LeavesSession : (l s : ℕ) → (x : Session) → session_in k.sessions s ≡ Some x → leave_refusal (Some x) s l ≡ None → Case k events line (table_plan (left s l))
+  Mirrors : (owner s : ℕ) → (x : Session) → session_in k.sessions s ≡ Some x → make_refusal x.mirror ≡ None → Case k events line (table_plan (changed s (mirrored_by owner)))
+  PausesMirror : (s : ℕ) → (on : Bool) → Case k events line (table_plan (changed s (paused on)))
+  Unmirrors : (s : ℕ) → (x : Session) → session_in k.sessions s ≡ Some x → drop_refusal x.mirror ≡ None → Case k events line (table_plan (changed s unmirrored))
+  Aborts : (s : ℕ) → (x : Session) → session_in k.sessions s ≡ Some x → abort_refusal x.mirror ≡ None → Case k events line (aborted s)
+  AddsMember : (s a c : ℕ) → (x : Session) → Joins k s a c x → Case k events line (added k s x (member_with k a c))
+  Expels : (s a : ℕ) → (x : Session) → (m : Member) → session_in k.sessions s ≡ Some x → find (λ m. m.a.0 == a) x.members ≡ Some m → busy x.mirror ≡ None → off_refusal k (k.volume m.c.0).server ≡ None → Case k events line (expelled s m)
+  Exchanges : (s server : ℕ) → (reply : Bool) → (x : Session) → (r : Mirror) → (o : phases.Order) → Ordered k s server x r o → Case k events line (ordered s server reply (members_on server x.members) o)
 
 -- what the tests that passed tell
 pub one-passed : (b : Bool) (r : Refusal) (o : Option Refusal) → cond b (Some r) o ≡ None → (b ≡ false) × (o ≡ None)
@@ -110,46 +179,129 @@ module _ (k : Control) (events : List Event) (line : ℕ) where
   expire-case : (s : ℕ) → Is (expire_on k s)
   expire-case s = choice (k.on s) (expire_plan k s) (refuses (server_off s)) (Expires s) (λ off. Says _)
 
-  of-case : (step : Step) → is_built step ≡ true → Is (plan_of k events line step)
-  of-case (Server name) built = where-none (server_refusal k (name_bytes name)) (server_done k name) (Defines name)
-  of-case (Volume v name tracks) built = where-named (server_named k (name_bytes name)) (λ s. unless (volume_refusal k v s tracks) (volume_done v s tracks)) (λ s. where-none (volume_refusal k v s tracks) (volume_done v s tracks) (Adds v s tracks))
-  of-case (Link a b up) built = where-named (server_named k (name_bytes a)) (λ x. on_server k b (λ y. link_between x y up)) (λ x. where-named (server_named k (name_bytes b)) (λ y. link_between x y up) (λ y. link-case x y up))
-  of-case (Issue v t offset len bytes) built = where-none (issue_refusal k v t) (issue_done k v t offset len bytes) (Issues v t offset len bytes)
-  of-case (Write v t offset len bytes) built = where-none (issue_refusal k v t) (write_done k v t offset len bytes) (Writes v t offset len bytes)
-  of-case (Apply n) built = apply-case n _ refl
-  of-case (Stop name) built = where-named (server_named k (name_bytes name)) (stop_on k) stop-case
-  of-case (StopAfter name writes torn) built = where-named (server_named k (name_bytes name)) (arm_on writes torn) (Arms writes torn)
-  of-case (Start name) built = where-named (server_named k (name_bytes name)) (start_on k) start-case
-  of-case (Show v t) built = where-none (show_refusal k v t) (show_done events line v t) (Shows v t)
-  of-case (MakeFlash devs s t nocopy persistent recorded inhibited sequence) built = Flashes devs.dev s t _
-  of-case (RemoveFlash devs s t sequence) built = Withdraws devs.dev s t
-  of-case (ResyncFlash devs s t nocopy persistent recorded inhibited sequence) built = Resyncs devs.dev s t sequence
-  of-case (ReverseFlash devs s t tgtpprc sequence) built = Reverses devs.dev s t
-  of-case (Copy t most) built = Copies t most
-  of-case (MakePath devs src tgt group) built =
+  -- lines on sessions
+  where-session : (o : Option Session) (p : Session → Plan) → ((x : Session) → o ≡ Some x → Is (p x)) → Is (on_session o p)
+  where-session None p go = Says (Refused (unknown OfSession))
+  where-session (Some x) p go = go x refl
+
+  where-volume : (v : ℕ) (p : Plan) → (is_volume k v ≡ true → Is p) → Is (on_volume k v p)
+  where-volume v p go = choice (is_defined v k) p (refuses (unknown OfVolume)) go (λ none. Says _)
+
+  join-case : (dev : Option Name) (l s : ℕ) → Is (join_plan k dev l s)
+  join-case dev l s = where-owned (owner_of k l) _ (λ owner.
+      let why : Option Refusal = option_or (name_refusal k dev owner) (option_or (off_refusal k owner) (join_refusal (session_in k.sessions s) l k.sessions)) in
+      where-none why (table_plan (joined s l)) (λ free. JoinsSession l s (or-passed (off_refusal k owner) _ (or-passed (name_refusal k dev owner) _ free).1).1))
+
+  leave-case : (dev : Option Name) (l s : ℕ) → Is (leave_plan k dev l s)
+  leave-case dev l s = where-owned (owner_of k l) _ (λ owner. where-session (session_in k.sessions s) _ (λ x is.
+      where-none (option_or (name_refusal k dev owner) (leave_refusal (Some x) s l)) (table_plan (left s l)) (λ free. LeavesSession l s x is (or-passed (name_refusal k dev owner) _ free).1)))
+
+  mirror-case : (dev : Option Name) (l s : ℕ) → Is (mirror_plan k dev l s)
+  mirror-case dev l s = where-owned (owner_of k l) _ (λ owner. where-session (session_in k.sessions s) _ (λ x is.
+      let why : Option Refusal = option_or (name_refusal k dev owner) (option_or (outside_refusal x l) (option_or (off_refusal k owner) (make_refusal x.mirror))) in
+      where-none why (table_plan (changed s (mirrored_by owner)))
+      (λ free. Mirrors owner s x is (or-passed (off_refusal k owner) _ (or-passed (outside_refusal x l) _ (or-passed (name_refusal k dev owner) _ free).1).1).1)))
+
+  pause-case : (dev : Option Name) (l s : ℕ) (on : Bool) → Is (pause_mirror_plan k dev l s on)
+  pause-case dev l s on = where-owned (owner_of k l) _ (λ owner. where-session (session_in k.sessions s) _ (λ x is.
+      where-none (option_or (name_refusal k dev owner) (option_or (outside_refusal x l) (master_refusal k x.mirror))) (table_plan (changed s (paused on))) (λ free. PausesMirror s on)))
+
+  unmirror-case : (dev : Option Name) (l s : ℕ) → Is (unmirror_plan k dev l s)
+  unmirror-case dev l s = where-owned (owner_of k l) _ (λ owner. where-session (session_in k.sessions s) _ (λ x is.
+      let why : Option Refusal = option_or (name_refusal k dev owner) (option_or (outside_refusal x l) (option_or (master_refusal k x.mirror) (drop_refusal x.mirror))) in
+      where-none why (table_plan (changed s unmirrored))
+      (λ free. Unmirrors s x is (or-passed (master_refusal k x.mirror) _ (or-passed (outside_refusal x l) _ (or-passed (name_refusal k dev owner) _ free).1).1).1)))
+
+  abort-case : (s : ℕ) → Is (abort_plan k s)
+  abort-case s = where-session (session_in k.sessions s) _ (λ x is.
+      where-none (option_or (abort_refusal x.mirror) (master_refusal k x.mirror)) (aborted s) (λ free. Aborts s x is (or-passed (abort_refusal x.mirror) _ free).0))
+
+  target-case : (s a : ℕ) (x : Session) (o : Option ℕ) → ((c : ℕ) → o ≡ Some c → in_session (find (has_place_of (member_with k a c)) k.sessions) ≡ None → Joins k s a c x) → Is (add_target k s x a (fields_at k a).primary_partner o)
+  target-case s a x None go = Says _
+  target-case s a x (Some c) go =
+      where-none (in_session (find (has_place_of (member_with k a c)) k.sessions)) (added k s x (member_with k a c)) (λ free. AddsMember s a c x (go c refl free))
+
+  add-case : (dev : Option Name) (l a s : ℕ) → Is (add_plan k dev l a s)
+  add-case dev l a s = where-owned (owner_of k l) _ (λ owner. where-volume a _ (λ there. where-session (session_in k.sessions s) _ (λ x is.
+      where-none (place_refusal k dev owner l a) (add_to k s x l a) (λ named.
+      where-none (option_or (outside_refusal x l) (option_or (taken_refusal k x a) (copy_refusal k a))) (add_target k s x a (fields_at k a).primary_partner (member_target k (fields_at k a).primary_partner)) (λ free.
+      let rest = or-passed (taken_refusal k x a) _ (or-passed (outside_refusal x l) _ free).1 in
+      target-case s a x (member_target k (fields_at k a).primary_partner) (λ c target places. record { found = is; there = there; free = rest.0; copies = rest.1; target = target; places = places }))))))
+
+  found-case : (s a : ℕ) (x : Session) (o : Option Member) → session_in k.sessions s ≡ Some x → find (λ m. m.a.0 == a) x.members ≡ o → Is (expel_found k s x o)
+  found-case s a x None is none = Says _
+  found-case s a x (Some m) is found =
+      where-none (busy x.mirror) (expel_done k s m) (λ idle. where-none (off_refusal k (k.volume m.c.0).server) (expelled s m) (λ on. Expels s a x m is found idle on))
+
+  expel-case : (dev : Option Name) (l a s : ℕ) → Is (expel_plan k dev l a s)
+  expel-case dev l a s = where-owned (owner_of k l) _ (λ owner. where-volume a _ (λ there. where-session (session_in k.sessions s) _ (λ x is.
+      where-none (name_refusal k dev owner) (expel_found k s x (find (λ m. m.a.0 == a) x.members)) (λ named. found-case s a x _ is refl))))
+
+  order-case : (s server : ℕ) (reply : Bool) (x : Session) (r : Mirror) (o : Option phases.Order) → ((p : phases.Order) → o ≡ Some p → Ordered k s server x r p) → Is (exchange_done s server reply (members_on server x.members) o)
+  order-case s server reply x r None go = Says _
+  order-case s server reply x r (Some o) go = Exchanges s server reply x r o (go o refl)
+
+  on-case : (s server : ℕ) (reply : Bool) (x : Session) (m : Option Mirror) → session_in k.sessions s ≡ Some x → x.mirror ≡ m → is_ahead k s ≡ false → Is (exchange_on k s m server reply x.members)
+  on-case s server reply x None is none near = Says _
+  on-case s server reply x (Some r) is mirror near =
+      where-none (exchange_refusal k r server x.members) (exchange_done s server reply (members_on server x.members) (order_of r server)) (λ free.
+      order-case s server reply x r (order_of r server) (λ o order. record { found = is; mirror = mirror; near = near; allowed = free; order = order }))
+
+  exchange-case : (s : ℕ) (name : Name) (reply : Bool) → is_ahead k s ≡ false → Is (exchange_plan k s name reply)
+  exchange-case s name reply near = where-session (session_in k.sessions s) _ (λ x is.
+      where-named (server_named k (name_bytes name)) (λ server. exchange_on k s x.mirror server reply x.members) (λ server. on-case s server reply x x.mirror is refl near))
+
+  of-case : (step : Step) → is_built step ≡ true → is_later k step ≡ false → Is (plan_of k events line step)
+  of-case (Server name) built now = where-none (server_refusal k (name_bytes name)) (server_done k name) (Defines name)
+  of-case (Volume v name tracks) built now = where-named (server_named k (name_bytes name)) (λ s. unless (volume_refusal k v s tracks) (volume_done v s tracks)) (λ s. where-none (volume_refusal k v s tracks) (volume_done v s tracks) (Adds v s tracks))
+  of-case (Link a b up) built now = where-named (server_named k (name_bytes a)) (λ x. on_server k b (λ y. link_between x y up)) (λ x. where-named (server_named k (name_bytes b)) (λ y. link_between x y up) (λ y. link-case x y up))
+  of-case (Issue v t offset len bytes) built now = where-none (issue_refusal k v t) (issue_done k v t offset len bytes) (Issues v t offset len bytes)
+  of-case (Write v t offset len bytes) built now = where-none (issue_refusal k v t) (write_done k v t offset len bytes) (Writes v t offset len bytes)
+  of-case (Apply n) built now = apply-case n _ refl
+  of-case (Stop name) built now = where-named (server_named k (name_bytes name)) (stop_on k) stop-case
+  of-case (StopAfter name writes torn) built now = where-named (server_named k (name_bytes name)) (arm_on writes torn) (Arms writes torn)
+  of-case (Start name) built now = where-named (server_named k (name_bytes name)) (start_on k) start-case
+  of-case (Show v t) built now = where-none (show_refusal k v t) (show_done events line v t) (Shows v t)
+  of-case (MakeFlash devs s t nocopy persistent recorded inhibited sequence) built now = Flashes devs.dev s t _
+  of-case (RemoveFlash devs s t sequence) built now = Withdraws devs.dev s t
+  of-case (ResyncFlash devs s t nocopy persistent recorded inhibited sequence) built now = Resyncs devs.dev s t sequence
+  of-case (ReverseFlash devs s t tgtpprc sequence) built now = Reverses devs.dev s t
+  of-case (Copy t most) built now = Copies t most
+  of-case (MakePath devs src tgt group) built now =
       where-owned (owner_of k src) (λ s. on_owner (owner_of k tgt) (λ u. unless (path_refusal k devs s u) (path_done src tgt group)))
       (λ s. where-owned (owner_of k tgt) (λ u. unless (path_refusal k devs s u) (path_done src tgt group)) (λ u. where-none (path_refusal k devs s u) (path_done src tgt group) (λ free. Paths src tgt group)))
-  of-case (RemovePath devs src tgt force) built =
+  of-case (RemovePath devs src tgt force) built now =
       where-owned (owner_of k src) (λ s. on_owner (owner_of k tgt) (λ u. unless (unpath_refusal k devs src tgt s u force) (unpath_done src tgt)))
       (λ s. where-owned (owner_of k tgt) (λ u. unless (unpath_refusal k devs src tgt s u force) (unpath_done src tgt)) (λ u. where-none (unpath_refusal k devs src tgt s u force) (unpath_done src tgt) (λ free. Unpaths src tgt)))
-  of-case (MakePair devs a b kind full) built = MakesPair devs a b (part_of kind) full built
-  of-case (RemovePair devs a b source_only) built = RemovesPair devs a b source_only
-  of-case (PausePair devs a b) built = Pauses devs a b
-  of-case (ResumePair devs a b kind) built = ResumesPair devs a b (part_of kind)
-  of-case (Drain a most) built = Drains a most
-  of-case (Expire name) built = where-named (server_named k (name_bytes name)) (expire_on k) expire-case
-  of-case (Freeze devs l m) built =
+  of-case (MakePair devs a b kind full) built now = MakesPair devs a b (part_of kind) full built
+  of-case (RemovePair devs a b source_only) built now = RemovesPair devs a b source_only
+  of-case (PausePair devs a b) built now = Pauses devs a b
+  of-case (ResumePair devs a b kind) built now = ResumesPair devs a b (part_of kind)
+  of-case (Drain a most) built now = Drains a most
+  of-case (Expire name) built now = where-named (server_named k (name_bytes name)) (expire_on k) expire-case
+  of-case (Freeze devs l m) built now =
       where-owned (owner_of k l) (λ s. on_owner (owner_of k m) (λ u. unless (freeze_refusal k devs l m s u) (freeze_done k l m)))
       (λ s. where-owned (owner_of k m) (λ u. unless (freeze_refusal k devs l m s u) (freeze_done k l m)) (λ u. where-none (freeze_refusal k devs l m s u) (freeze_done k l m) (λ free. Freezes l m)))
-  of-case (Unfreeze devs l m) built =
+  of-case (Unfreeze devs l m) built now =
       where-owned (owner_of k l) (λ s. on_owner (owner_of k m) (λ u. unless (thaw_refusal k devs s u) (thaw_done k l m)))
       (λ s. where-owned (owner_of k m) (λ u. unless (thaw_refusal k devs s u) (thaw_done k l m)) (λ u. where-none (thaw_refusal k devs s u) (thaw_done k l m) (λ free. Thaws l m)))
-  of-case _ built = Says (Refused NotBuilt)
+  of-case (MakeSession devs l s) built now = join-case devs.dev l s
+  of-case (RemoveSession devs l s) built now = leave-case devs.dev l s
+  of-case (AddMember devs l a s) built now = add-case devs.dev l a s
+  of-case (RemoveMember devs l a s) built now = expel-case devs.dev l a s
+  of-case (MakeMirror devs l s cginterval coordinate drain) built now = mirror-case devs.dev l s
+  of-case (PauseMirror devs l s) built now = pause-case devs.dev l s true
+  of-case (ResumeMirror devs l s cginterval coordinate drain) built now = pause-case devs.dev l s false
+  of-case (RemoveMirror devs l s) built now = unmirror-case devs.dev l s
+  of-case (Abort s) built now = abort-case s
+  of-case (Exchange s name reply) built now = exchange-case s name reply now
+  of-case _ built now = Says (Refused NotBuilt)
 
   step-case : (step : Step) → Is (step_plan k events line step)
   step-case step =
-      choice (not (is_built step)) (refuses NotBuilt) (cond (has_room events) (plan_of k events line step) (refuses JournalFull)) (λ none. Says _)
-      (λ built. choice (has_room events) (plan_of k events line step) (refuses JournalFull) (λ room. of-case step (is-not (is_built step) built)) (λ full. Says _))
+      choice (not (is_built step)) (refuses NotBuilt) (cond (is_later k step) (refuses NotBuilt) (cond (has_room events) (plan_of k events line step) (refuses JournalFull))) (λ none. Says _)
+      (λ built. choice (is_later k step) (refuses NotBuilt) (cond (has_room events) (plan_of k events line step) (refuses JournalFull)) (λ later. Says _)
+      (λ soon. choice (has_room events) (plan_of k events line step) (refuses JournalFull) (λ room. of-case step (is-not (is_built step) built) soon) (λ full. Says _)))
 
   pub plan-case : (asked : Result Step ℕ) → Is (plan k events line asked)
   plan-case (Ok step) = step-case step

@@ -1,5 +1,5 @@
 -- The moments of a run come one after the other as they may, where the acts of its plans are fair.
-use Rattle.std.proofs.Common.{ℕ, ◌≡◌, ◌<◌, ◌+◌, refl, ap, sym, ◌∙◌, subst, false, List, [], ◌∷◌, ◌++◌, append_assoc, filter, Option, Some, None}
+use Rattle.std.proofs.Common.{ℕ, ◌≡◌, ◌<◌, ◌+◌, refl, ap, sym, ◌∙◌, subst, true, false, List, [], ◌∷◌, ◌++◌, append_assoc, filter, Option, Some, None}
 use Rattle.std.proofs.lemmas.List.{append-nil}
 use Rattle.dr_ids.specs.declared.refusal.Refusal.{Refusal}
 use Rattle.dr_ids.specs.declared.refusal.Refusal.TheVariants.{Stopped as StoppedIn}
@@ -8,27 +8,29 @@ use Rattle.dr_model.specs.declared.event.Event.TheVariants.{Stopped, Frozen, Tha
 use Rattle.dr_model.specs.declared.said.Said.{Said}
 use Rattle.dr_model.specs.Answers.{answer}
 use Rattle.dr_model.specs.Histories.{Histories, histories, lists}
+use Rattle.dr_model.specs.Sessions.{Session}
 use Rattle.dr_model.specs.Control.{Control, Fuse, World}
-use Rattle.dr_model.specs.Moves.{is_write}
-use Rattle.dr_model.specs.Carry.{Act, Make, Redo, Acknowledge, Drop, EndFreeze, EndThaw, Turn, Next, Pass, Do, End, Entry, Outcome, continue, go, carry, dropped, frozen, thawed}
+use Rattle.dr_model.specs.Moves.{Move, Hold, is_write}
+use Rattle.dr_model.specs.Carry.{Act, Make, OpenAttempt, Redo, Acknowledge, Drop, EndFreeze, EndThaw, Turn, Next, Pass, Do, End, Entry, Outcome, continue, go, carry, dropped, frozen, thawed}
 use Rattle.dr_model.specs.Plans.{Plan, plan}
-use Rattle.dr_model.specs.Runs.{Task, begun, finish, answered, said, after_plan, after_task}
+use Rattle.dr_model.specs.Runs.{Task, masters_lost, begun, finish, answered, said, after_plan, after_task}
 use Rattle.dr_model.specs.Table.{table, waiting}
 use Rattle.dr_model.specs.Laws.{SoundRows, AllPending}
-use Rattle.dr_model.specs.Allowed.{May, Runs}
+use Rattle.dr_model.specs.Allowed.{May, MayOpen, Runs}
 use Rattle.dr_model.proofs.Images.{histories-append}
 use Rattle.dr_laws.specs.Moments.{on_from, on_next, worlds, worlds_after, task_moments, moments_from}
 use Rattle.dr_laws.proofs.Sets.{false_true}
-use Rattle.dr_laws.proofs.Turns.{done_in_stop, not_done, fused, place, server_of, server_at, after_act, Writes, Counts, act-cases}
+use Rattle.dr_laws.proofs.Turns.{done, done_in_stop, opened_in_stop, not_done, fused, place, server_of, server_at, after_act, Writes, Counts, act-cases}
 use Rattle.dr_laws.proofs.Due.{waiting-settled}
-use Rattle.dr_laws.proofs.Fair.{Fair, tag_after}
+use Rattle.dr_laws.proofs.Fair.{Fair, tag_after, come, come-open}
 use Rattle.dr_laws.proofs.KeepsWindow.{AllSilent}
-use Rattle.dr_laws.proofs.KeepsStep.{Step, Does, Stops, Acks, Passes, Acknowledges, Unchanged}
+use Rattle.dr_laws.proofs.KeepsStep.{Step, Does, Stops, Acks, Others, Passes, Acknowledges, Unchanged}
 use Rattle.dr_laws.proofs.Windows.{Good, Chain, Last, Then}
 
 -- what an act asks where it comes
 abbrev pub FairAct : Option ℕ → World → Act → Type 0
 FairAct tag w (Make m) = May w m × Fair tag w m
+FairAct tag w (OpenAttempt v s n) = MayOpen w v s n
 FairAct tag w (Redo v) = Runs w v
 FairAct tag w (Acknowledge n) = Acknowledges w n
 FairAct tag w (Drop n) = AllPending (λ p. p.landed ≡ false) (filter (is_write n) w.control.pending)
@@ -38,6 +40,7 @@ FairAct tag w (EndThaw l m) = Unit {0}
 -- the write that goes on after it
 abbrev pub act_tag : Act → Option ℕ → Option ℕ
 act_tag (Make m) tag = tag_after m tag
+act_tag (OpenAttempt v s n) tag = tag
 act_tag a tag = None
 
 -- events that no list hears of
@@ -60,7 +63,8 @@ not-unchanged w s f = told-unchanged w (not_done w s f) (Stopped s 0 ∷ []) ref
 
 -- an act that is done
 act-step : (tag : Option ℕ) (w : World) (a : Act) (f : Option Fuse) → FairAct tag w a → Step tag w (act_tag a tag) (after_act w a f)
-act-step tag w (Make m) f fair = Does m f fair.0 fair.1
+act-step tag w (Make m) f fair = Does m f (come w m fair.0) fair.1
+act-step tag w (OpenAttempt v s n) f fair = let m : Move = Hold v s n true in Others tag (done w m f) _ (Does m f (come-open w v s n fair) tt)
 act-step tag w (Redo v) f fair = Passes None (fused w (server_at w v) f) [] (told-unchanged w (fused w (server_at w v) f) [] (sym (append-nil w.events)) tt (ap histories (append-nil w.events)) refl refl refl (λ v t. refl)) (λ n h. absurd cc)
 act-step tag w (Acknowledge n) f fair = Acks n fair
 act-step tag w (Drop n) f fair =
@@ -70,6 +74,7 @@ act-step tag w (EndThaw l m) f fair = Passes None (thawed w l m) (Thawed l m ∷
 
 act-runs : (tag : Option ℕ) (w : World) (a : Act) → Writes a → FairAct tag w a → Runs w (place a)
 act-runs tag w (Make m) d fair = fair.0.runs
+act-runs tag w (OpenAttempt v s n) d fair = fair.runs
 act-runs tag w (Redo v) d fair = fair
 act-runs tag w (Acknowledge n) d fair = absurd d
 act-runs tag w (Drop n) d fair = absurd d
@@ -84,6 +89,7 @@ module _ (Fin : Option ℕ → World → Option Refusal → Type 0) where
 
   abbrev pub CountsFin : World → Act → Type 0
   CountsFin w (Make m) = (f : Option Fuse) → StopFin w (server_at w (place (Make m))) (done_in_stop w m f)
+  CountsFin w (OpenAttempt v s n) = (f : Option Fuse) → StopFin w (server_at w v) (opened_in_stop w v s n f)
   CountsFin w a = Unit {0}
 
   abbrev pub fairly_next : Option ℕ → World → Next → (Option ℕ → World → Type 0) → Type 0
@@ -113,7 +119,9 @@ module _ (Fin : Option ℕ → World → Option Refusal → Type 0) where
 
     counts-chain : (tag : Option ℕ) (w : World) (a : Act) (more : World → List World) (go : World → Outcome) → Good tag w → FairAct tag w a → CountsFin w a → Counts w a (Turned tag w more go)
     counts-chain tag w (Make m) more go good fair fin =
-        λ f. let c = fin f in Then tag None w (done_in_stop w m f) _ good (Stops m f fair.0 fair.1) (ends None _ _ (good_fin _ _ c) c)
+        λ f. let c = fin f in Then tag None w (done_in_stop w m f) _ good (Stops m f (come w m fair.0) fair.1) (ends None _ _ (good_fin _ _ c) c)
+    counts-chain tag w (OpenAttempt v s n) more go good fair fin =
+        λ f. let c = fin f in let m : Move = Hold v s n true in Then tag None w (opened_in_stop w v s n f) _ good (Others None (done_in_stop w m f) _ (Stops m f (come-open w v s n fair) tt)) (ends None _ _ (good_fin _ _ c) c)
     counts-chain tag w (Redo v) more go good fair fin = tt
     counts-chain tag w (Acknowledge n) more go good fair fin = tt
     counts-chain tag w (Drop n) more go good fair fin = tt
@@ -139,25 +147,36 @@ module _ (Fin : Option ℕ → World → Option Refusal → Type 0) where
 pub good-none : (w : World) → SoundRows (table w) → Good None w
 good-none w rows = record { rows = rows; low = λ n is. absurd cc; out = λ n is. absurd cc }
 
-pub said-unchanged : (w : World) (line : ℕ) (a : Said) → Unchanged w (said w line a) (answer line a ∷ [])
-said-unchanged w line a = told-unchanged w (said w line a) (answer line a ∷ []) refl (tt, tt) (histories-append w.events (answer line a ∷ [])) refl refl refl (λ v t. refl)
+-- a step ends: its plan may have left other sessions, it is answered, and masters whose servers went off are lost
+abbrev pub ended : World → World → ℕ → Said → World
+ended first w line a = masters_lost first (said w line a)
+
+pub said-unchanged : (first w : World) (k : Control) (ss : List Session) (line : ℕ) (a : Said) → k ≡ record w.control { sessions = ss } → Unchanged w (ended first (record w { control = k }) line a) (answer line a ∷ [])
+said-unchanged first w k ss line a same =
+    told-unchanged w (ended first (record w { control = k }) line a) (answer line a ∷ []) refl (tt, tt) (histories-append w.events (answer line a ∷ []))
+    (ap (λ (k : Control). k.volume) same) refl (ap (λ (k : Control). k.issued) same) (λ v t. ap (λ (k : Control). waiting k.pending v t) same)
 
 -- K holds between steps
-module _ (K : World → Type 0) (rows : (w : World) → K w → SoundRows (table w)) (answers : (w : World) (line : ℕ) (a : Said) → K w → K (said w line a)) where
+module _ (K : World → Type 0) (rows : (w : World) → K w → SoundRows (table w)) (answers : (first w : World) (line : ℕ) (a : Said) → K w → K (ended first w line a)) where
   -- how what follows a stop ends, and how a plan's entries end
   abbrev pub EndFin : Option ℕ → World → Option Refusal → Type 0
   EndFin tag w r = K w
 
   abbrev pub PlanFin : Plan → Option ℕ → World → Option Refusal → Type 0
+  PlanFin p tag w None = K (record w { control = p.last w.control })
   PlanFin p tag w (Some (StoppedIn s)) = Fairly EndFin tag w (p.follows s.0)
-  PlanFin p tag w r = K w
+  PlanFin p tag w (Some r) = K w
+
+  -- the tables as a plan ends differ in the sessions alone
+  abbrev pub Leaves : Plan → Type 0
+  Leaves p = (k : Control) → (ss : List Session) × (p.last k ≡ record k { sessions = ss })
 
   -- what is to be shown of a plan
   pub record PlanFair (w : World) (p : Plan) : Type 0 where
     pub told : List Event
     pub begins : Unchanged w (begun w p) told
     pub entries : Fairly (PlanFin p) None (begun w p) p.entries
-    pub last : (k : Control) → p.last k ≡ k
+    pub last : Leaves p
 
   good-end : (w : World) (r : Option Refusal) → EndFin None w r → Good None w
   good-end w r k = good-none w (rows w k)
@@ -167,33 +186,35 @@ module _ (K : World → Type 0) (rows : (w : World) → K w → SoundRows (table
   good-fairly Fin tag w [] a = a.0
   good-fairly Fin tag w (d ∷ ds) a = a.0
 
-  good-plan : (p : Plan) (w : World) (r : Option Refusal) → PlanFin p None w r → Good None w
-  good-plan p w None k = good-none w (rows w k)
-  good-plan p w (Some (StoppedIn s)) a = good-fairly EndFin None w (p.follows s.0) a
-  good-plan p w (Some r) k = good-none w (rows w k)
+  good-plan : (p : Plan) → Leaves p → (w : World) (r : Option Refusal) → PlanFin p None w r → Good None w
+  good-plan p last w None k =
+      let same : table (record w { control = p.last w.control }) ≡ table w = ap (λ (k : Control). table (record w { control = k })) (last w.control).1 in
+      good-none w (subst SoundRows same (rows (record w { control = p.last w.control }) k))
+  good-plan p last w (Some (StoppedIn s)) a = good-fairly EndFin None w (p.follows s.0) a
+  good-plan p last w (Some r) k = good-none w (rows w k)
 
-  module _ (line : ℕ) (p : Plan) (last : (k : Control) → p.last k ≡ k) (more : World → List World) (goes_on : (w : World) → K w → Chain None w (more w)) where
+  module _ (first : World) (line : ℕ) (p : Plan) (last : Leaves p) (more : World → List World) (goes_on : (w : World) → K w → Chain None w (more w)) where
     abbrev over : World → Option Refusal → World
-    over w r = said w line (answered p w.control r)
+    over w r = ended first w line (answered p w.control r)
 
-    answer-chain : (tag : Option ℕ) (w : World) (r : Option Refusal) → Good tag w → K w → Chain tag w (over w r ∷ more (over w r))
-    answer-chain tag w r good k = Then tag None w (over w r) (more (over w r)) good (Passes None (over w r) _ (said-unchanged w line (answered p w.control r)) (λ n h. absurd cc)) (goes_on (over w r) (answers w line (answered p w.control r) k))
+    answer-chain : (tag : Option ℕ) (w : World) (k : Control) (ss : List Session) (r : Option Refusal) → k ≡ record w.control { sessions = ss } → Good tag w → K (record w { control = k }) → let u : World = record w { control = k } in Chain tag w (over u r ∷ more (over u r))
+    answer-chain tag w k ss r same good y =
+        let u : World = record w { control = k } in
+        Then tag None w (over u r) (more (over u r)) good (Passes None (over u r) _ (said-unchanged first w k ss line (answered p k r) same) (λ n h. absurd cc)) (goes_on (over u r) (answers first u line (answered p k r) y))
 
     abbrev rest : Outcome → List World
     rest o = worlds_after o.0 o.1 p.follows ++ over (finish p o.0 o.1) o.1 ∷ more (over (finish p o.0 o.1) o.1)
 
-    same-end : (w : World) → w ≡ record w { control = p.last w.control }
-    same-end w = λ i. record w { control = sym (last w.control) i }
-
     ends : (tag : Option ℕ) (w : World) (r : Option Refusal) → Good tag w → PlanFin p tag w r → Chain tag w (rest (w, r))
-    ends tag w None good k = subst (λ u. Chain tag w (over u None ∷ more (over u None))) (same-end w) (answer-chain tag w None good k)
+    ends tag w None good k = answer-chain tag w (p.last w.control) (last w.control).0 None (last w.control).1 good k
     ends tag w (Some (StoppedIn s)) good a =
         let r : Option Refusal = Some (StoppedIn s) in
-        entries-chain EndFin (λ o. over o.0 r ∷ more (over o.0 r)) (λ tag u x good k. answer-chain tag u r good k) good-end (p.follows s.0) tag w a
-    ends tag w (Some r) good k = answer-chain tag w (Some r) good k
+        entries-chain EndFin (λ o. over o.0 r ∷ more (over o.0 r)) (λ tag u x good k. answer-chain tag u u.control u.control.sessions r refl good k) good-end (p.follows s.0) tag w a
+    ends tag w (Some r) good k = answer-chain tag w w.control w.control.sessions (Some r) refl good k
 
-    pub plan-chain : (w : World) → K w → PlanFair w p → Chain None w (begun w p ∷ (worlds (begun w p) p.entries ++ rest (carry (begun w p) p.entries)))
-    plan-chain w k fair = Then None None w (begun w p) _ (good-none w (rows w k)) (Passes None (begun w p) fair.told fair.begins (λ n h. absurd cc)) (entries-chain (PlanFin p) rest ends (good-plan p) p.entries None (begun w p) fair.entries)
+    pub plan-chain : K first → PlanFair first p → Chain None first (begun first p ∷ (worlds (begun first p) p.entries ++ rest (carry (begun first p) p.entries)))
+    plan-chain k fair =
+        Then None None first (begun first p) _ (good-none first (rows first k)) (Passes None (begun first p) fair.told fair.begins (λ n h. absurd cc)) (entries-chain (PlanFin p) rest ends (good-plan p last) p.entries None (begun first p) fair.entries)
 
   -- a run whose plans are fair
   module _ (each : (w : World) (t : Task) → K w → PlanFair w (plan w.control w.events t.line t.asked)) where
@@ -206,7 +227,7 @@ module _ (K : World → Type 0) (rows : (w : World) → K w → SoundRows (table
         let p : Plan = plan w.control w.events t.line t.asked in
         let o : Outcome = carry (begun w p) p.entries in
         subst (λ us. Chain None w (begun w p ∷ us)) (sym (joins (worlds (begun w p) p.entries) (worlds_after o.0 o.1 p.follows) (more (after_task w t)) (after_task w t)))
-        (plan-chain t.line p (each w t k).last more goes_on w k (each w t k))
+        (plan-chain w t.line p (each w t k).last more goes_on k (each w t k))
 
     pub run-chain : (tasks : List Task) (w : World) → K w → Chain None w (moments_from w tasks)
     unfolding moments_from

@@ -57,19 +57,21 @@ pub record Still (w v : World) : Type 0 where
   pub spared : (u : ℕ) → (fields_at w.control u).reversing ≡ true → v.control.volume u ≡ w.control.volume u
   pub turned : (u s : ℕ) → from v u ≡ Some s → (fields_at v.control u).reversing ≡ true → (from w u ≡ Some s) × ((fields_at w.control u).reversing ≡ true)
   pub on : v.control.on ≡ w.control.on
+  pub link : v.control.link ≡ w.control.link
+  pub paths : v.control.paths ≡ w.control.paths
   pub volumes : v.control.volumes ≡ w.control.volumes
   pub issued : v.control.issued ≡ w.control.issued
   pub pending : v.control.pending ≡ w.control.pending
   pub lists : histories v.events ≡ histories w.events
 
 pub still : (w : World) → Still w w
-still w = record { volume = λ u h. refl; contents = λ u h. refl; spared = λ u h. refl; turned = λ u s h r. (h, r); on = refl; volumes = refl; issued = refl; pending = refl; lists = refl }
+still w = record { volume = λ u h. refl; contents = λ u h. refl; spared = λ u h. refl; turned = λ u s h r. (h, r); on = refl; link = refl; paths = refl; volumes = refl; issued = refl; pending = refl; lists = refl }
 
 -- a move on a target
 still-done : (w v : World) (u s : ℕ) (x : Volume) (bytes : ℕ → List ℕ) → Still w v → from v u ≡ Some s → (fields_at v.control u).reversing ≡ false → ((s : ℕ) → source_of x.fields ≡ Some s → x.fields.reversing ≡ true → ⊥)
-    → (k : World) → k.control.volume ≡ at v.control.volume u x → k.contents ≡ at v.contents u bytes → k.control.on ≡ v.control.on → k.control.volumes ≡ v.control.volumes → k.control.issued ≡ v.control.issued
+    → (k : World) → k.control.volume ≡ at v.control.volume u x → k.contents ≡ at v.contents u bytes → k.control.on ≡ v.control.on → k.control.link ≡ v.control.link → k.control.paths ≡ v.control.paths → k.control.volumes ≡ v.control.volumes → k.control.issued ≡ v.control.issued
     → k.control.pending ≡ v.control.pending → histories k.events ≡ histories v.events → Still w k
-still-done w v u s x bytes old is forward never k volume contents on volumes issued pending lists =
+still-done w v u s x bytes old is forward never k volume contents on link paths volumes issued pending lists =
     let other : ((j : ℕ) → from w j ≡ None → j ≢ u) = λ j none e. none_some (ap (λ (x : Volume). source_of x.fields) (old.volume j none) ∙ none) (ap (from v) e ∙ is) in
     record {
       volume = λ j none. ap (λ (g : ℕ → Volume). g j) volume ∙ at_other v.control.volume u x j (other j none) ∙ old.volume j none;
@@ -81,6 +83,8 @@ still-done w v u s x bytes old is forward never k volume contents on volumes iss
           (ap (λ (g : ℕ → Volume). source_of (g j).fields) (sym volume) ∙ h) (ap (λ (g : ℕ → Volume). (g j).fields.reversing) (sym volume) ∙ r);
       contents = λ j none. ap (λ (g : ℕ → ℕ → List ℕ). g j) contents ∙ at_other v.contents u bytes j (other j none) ∙ old.contents j none;
       on = on ∙ old.on;
+      link = link ∙ old.link;
+      paths = paths ∙ old.paths;
       volumes = volumes ∙ old.volumes;
       issued = issued ∙ old.issued;
       pending = pending ∙ old.pending;
@@ -159,29 +163,29 @@ module _ (v t : ℕ) where
         let g : Fields = fields_left (Keep x t) u in
         let e : Bool = is_whole u.tracks (insert u.fields.own t) && not u.fields.persistent in
         let never : ((s : ℕ) → source_of g ≡ Some s → g.reversing ≡ true → ⊥) = λ s h. not_turned e u.fields.reversing iv in (
-          record { runs = runs-at w s st x is; allowed = record { low = low-at w s st x is; from = v; related = is; new = io; forward = iv }; fits = tt; ready = idle w x s.queue (runs-at w s st x is) },
-          λ f k. go _ k (still-done first w x v _ _ st is iv never (done w (Keep x t) f) refl refl refl refl refl refl (histories-append w.events _))
+          record { runs = runs-at w s st x is; allowed = record { low = low-at w s st x is; from = v; related = is; new = io; forward = iv }; fits = tt; group = tt; ready = idle w x s.queue (runs-at w s st x is) },
+          λ f k. go _ k (still-done first w x v _ _ st is iv never (done w (Keep x t) f) refl refl refl refl refl refl refl refl (histories-append w.events _))
               (made x left w _ (done w (Keep x t) f) refl l (kept-own e u.fields.related u.fields.source u.fields.own) (kept-noted e u.fields.related u.fields.recorded u.fields.source u.fields.source_changes) never),
         )
     act-by w x left more s st l go true false true true false ib iv io ir ic =
         let is = copies-from v (fields_at w.control x) ib in
         let never : ((s : ℕ) → from w x ≡ Some s → (fields_at w.control x).reversing ≡ true → ⊥) = λ s h r. false_true iv r in (
-          record { runs = runs-at w s st x is; allowed = record { low = low-at w s st x is; from = v; related = is; held = io; forward = iv }; fits = tt; ready = idle w x s.queue (runs-at w s st x is) },
-          λ f k. go _ k (still-done first w x v _ _ st is iv never (done w (Note x t) f) refl refl refl refl refl refl (ap histories (append-nil w.events)))
+          record { runs = runs-at w s st x is; allowed = record { low = low-at w s st x is; from = v; related = is; held = io; forward = iv }; fits = tt; group = tt; ready = idle w x s.queue (runs-at w s st x is) },
+          λ f k. go _ k (still-done first w x v _ _ st is iv never (done w (Note x t) f) refl refl refl refl refl refl refl refl (ap histories (append-nil w.events)))
               (made x left w _ (done w (Note x t) f) refl l (λ h. io) (λ h r. noted-has _ _ r) never),
         )
     act-by w x left more s st l go true false true true true ib iv io ir ic = go w s st (less x left w l (λ h. (io, λ r f. ic)))
     act-by w x left more s st l go true false true false c ib iv io ir ic = go w s st (less x left w l (λ h. (io, λ r f. false_true ir r)))
 
     -- all of them, by entries that come to this all along
-    along-copy : (entry : ℕ → Entry) → ((w : World) (x : ℕ) → Still first w → entry x w.control ≡ keep_on v t x w.control)
+    along-copy : (entry : ℕ → Entry) → ((w : World) (x : ℕ) → Sound w → Still first w → entry x w.control ≡ keep_on v t x w.control)
         → (more : List Entry) → ((k : World) → Sound k → Still first k → Kept (table k) v t → Along k more)
         → (left : List ℕ) (w : World) → Sound w → Still first w → Left left w → Along w (map entry left ++ more)
     along-copy entry comes more go [] w s st l = go w s st (kept w l)
-    along-copy entry comes more go (x ∷ left) w s st l = decides w (entry x) _ _ (comes w x st) (act-by w x left _ s st l (along-copy entry comes more go left) _ _ _ _ _ refl refl refl refl refl)
+    along-copy entry comes more go (x ∷ left) w s st l = decides w (entry x) _ _ (comes w x s st) (act-by w x left _ s st l (along-copy entry comes more go left) _ _ _ _ _ refl refl refl refl refl)
 
     -- over the volumes that are defined
-    pub copy-first : (entry : ℕ → Entry) → ((w : World) (x : ℕ) → Still first w → entry x w.control ≡ keep_on v t x w.control)
+    pub copy-first : (entry : ℕ → Entry) → ((w : World) (x : ℕ) → Sound w → Still first w → entry x w.control ≡ keep_on v t x w.control)
         → (more : List Entry) → ((k : World) → Sound k → Still first k → Kept (table k) v t → Along k more)
         → ((u : ℕ) → from first u ≡ Some v → (fields_at first.control u).reversing ≡ true → contains (fields_at first.control u).own t ≡ true)
         → Sound first → Along first (map entry first.control.volumes ++ more)

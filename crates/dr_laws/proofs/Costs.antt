@@ -10,8 +10,8 @@ use Rattle.dr_model.specs.declared.event.Event.TheVariants.{Blanked, Restored, S
 use Rattle.dr_model.specs.Layout.{Tracks}
 use Rattle.dr_model.specs.Relations.{rest, in_order, is_bare}
 use Rattle.dr_model.specs.Control.{Control, Fuse, Volume, World}
-use Rattle.dr_model.specs.Moves.{Move, Land, Overwrite, LandBoth, target, told, told_in_stop, told_blank, told_restored, landed}
-use Rattle.dr_model.specs.Carry.{Act, Make, Redo, Acknowledge, Drop, EndFreeze, EndThaw, Next, Pass, Do, End, Entry, Outcome, carry, continue, go, check, now}
+use Rattle.dr_model.specs.Moves.{Move, Land, Overwrite, LandBoth, Hold, target, told, told_in_stop, told_blank, told_restored, landed}
+use Rattle.dr_model.specs.Carry.{Act, Make, OpenAttempt, Redo, Acknowledge, Drop, EndFreeze, EndThaw, Next, Pass, Do, End, Entry, Outcome, carry, continue, go, check, now}
 use Rattle.dr_laws.proofs.Turns.{act-cases, Counts, after_act, server_of, done}
 
 -- no more tracks stand in order than a volume has
@@ -47,6 +47,7 @@ restored-few v s n own = restored-by (is_bare own) v s n own
 -- what an act tells
 abbrev pub tells : World → Act → ℕ
 tells w (Make m) = length (told m (w.control.volume (target m)))
+tells w (OpenAttempt v s n) = 2
 tells w (Redo v) = 0
 tells w (Acknowledge n) = 1
 tells w (Drop n) = 0
@@ -94,20 +95,25 @@ in_stop-few m u = omega arith
 
 done-adds : (w : World) (a : Act) (f : Option Fuse) → length (after_act w a f).events ≡ length w.events + tells w a
 done-adds w (Make m) f = length-append w.events (told m (w.control.volume (target m)))
+done-adds w (OpenAttempt v s n) f = length-append w.events (told (Hold v s n true) (w.control.volume v))
 done-adds w (Redo v) f = omega arith
 done-adds w (Acknowledge n) f = length-append w.events _
 done-adds w (Drop n) f = omega arith
 done-adds w (EndFreeze l m) f = length-append w.events _
 done-adds w (EndThaw l m) f = length-append w.events _
 
-counts-adds : (n : ℕ) (w : World) (a : Act) (next : World → Outcome) → tells w a ≤ n → Counts w a (λ t. length (continue t.0 t.1 next).0.events ≤ length w.events + n + 1)
-counts-adds n w (Make m) next le = λ f.
+stop-adds : (n : ℕ) (w : World) (m : Move) → length (told m (w.control.volume (target m))) ≤ n → let u : Volume = w.control.volume (target m) in length (w.events ++ (told_in_stop m u ++ Stopped u.server (landed m) ∷ [])) ≤ length w.events + n + 1
+stop-adds n w m le =
     let u : Volume = w.control.volume (target m) in
     let es : List Event = told_in_stop m u in
     let stop : List Event = Stopped u.server (landed m) ∷ [] in
     let a : length (w.events ++ (es ++ stop)) ≡ length w.events + length (es ++ stop) = length-append w.events (es ++ stop) in
     let b : length (es ++ stop) ≡ length es + 1 = length-append es stop in
     let c : length es ≤ length (told m u) = in_stop-few m u in omega arith
+
+counts-adds : (n : ℕ) (w : World) (a : Act) (next : World → Outcome) → tells w a ≤ n → Counts w a (λ t. length (continue t.0 t.1 next).0.events ≤ length w.events + n + 1)
+counts-adds n w (Make m) next le = λ f. stop-adds n w m le
+counts-adds n w (OpenAttempt v s i) next le = λ f. stop-adds n w (Hold v s i true) le
 counts-adds n w (Redo v) next le = tt
 counts-adds n w (Acknowledge k) next le = tt
 counts-adds n w (Drop k) next le = tt

@@ -9,10 +9,11 @@ use Rattle.dr_model.specs.Contents.{image, zeros}
 use Rattle.dr_model.specs.Histories.{Write, Histories, histories, after_event}
 use Rattle.dr_model.specs.Control.{Pending, Volume, World, is_volume, new_volume}
 use Rattle.dr_model.specs.Table.{Row, table, waiting, due_by}
-use Rattle.dr_model.specs.Laws.{SoundRows, HoldsOld, RowParts, Partnered, OneWay, FreeSource, Alike, source, its_primary, its_secondary, Numbered, Waits, AllPending, Lone, Together, servers, sizes, Sound}
+use Rattle.dr_model.specs.Laws.{SoundRows, HoldsOld, RowParts, RowRecords, Partnered, OneWay, FreeSource, Alike, source, its_primary, its_secondary, Numbered, Waits, AllPending, Lone, Together, servers, sizes, Sound}
 use Rattle.dr_model.proofs.Images.{histories-append, at_other}
 use Rattle.dr_laws.proofs.AtLemmas.{Told, each-at, linked-at}
-use Rattle.dr_laws.proofs.Sets.{if_false, false_true, in_none}
+use Rattle.dr_laws.proofs.Sets.{if_false, false_true, in_none, empty_has}
+use Rattle.dr_laws.proofs.GroupsWanted.{groups-defined}
 use Rattle.dr_model.proofs.LawfulLemmas.{lawful-no_fields}
 use Rattle.dr_laws.proofs.KeepsQueue.{each-on, numbered-after}
 use Rattle.dr_laws.proofs.KeepsStructure.{structure-at}
@@ -153,6 +154,8 @@ module _ (w : World) (s : Sound w) (v server tracks : ℕ) (undefined : is_volum
       loop = λ e. cc;
       onto = λ u ne e. no-source-yet u e;
     });
+    recorders = each-at (table w) v row (λ v r. RowRecords r) (record { holds = λ e. absurd cc; global = λ e. absurd cc; pending = λ e. absurd cc; none = λ e. empty_has }) s.rows.recorders;
+    final = each-at (table w) v row (λ v r. r.volume.fields.revertible ≡ false) refl s.rows.final;
     recorded = linked-at (table w) v row source HoldsOld (λ u ne e. absurd cc) (λ e. absurd cc) (λ u ne e. no-source-yet u e) s.rows.recorded;
     pairs = linked-at (table w) v row its_secondary Alike (λ u ne e. absurd cc) (λ e. absurd cc) (λ u ne e. no-primary-yet u e) s.rows.pairs;
   }
@@ -179,6 +182,7 @@ module _ (w : World) (s : Sound w) (v server tracks : ℕ) (undefined : is_volum
   sound-defined = record {
     rows = subst SoundRows (sym table-defined) rows-defined;
     targets = few-defined w.control s.targets v server tracks undefined;
+    groups = groups-defined w.control v server tracks undefined s.groups;
     queue = record {
       each = each-on waits-on ps s.queue.each;
       apart = s.queue.apart;

@@ -5,8 +5,11 @@ use Rattle.std.specs.FinSet.{contains}
 use Rattle.dr_model.specs.Layout.{Fields, is_part}
 use Rattle.dr_model.specs.Control.{World}
 use Rattle.dr_model.specs.Pairs.{is_metro}
-use Rattle.dr_model.specs.Moves.{Move, Land, Store, Strike, MakePrimary, Mirror, LandBoth}
+use Rattle.dr_model.specs.Moves.{Move, Land, Store, Strike, MakePrimary, Mirror, LandBoth, Hold}
 use Rattle.dr_model.specs.Entries.{fields_at}
+use Rattle.dr_model.specs.Histories.{histories}
+use Rattle.dr_model.specs.Table.{table}
+use Rattle.dr_model.specs.Allowed.{Allowed, Ready, May, MayOpen}
 use Rattle.dr_laws.specs.Windows.{is_ack}
 use Rattle.dr_laws.proofs.WindowTracks.{is_firm}
 
@@ -37,3 +40,14 @@ abbrev pub tag_after : Move → Option ℕ → Option ℕ
 tag_after (Mirror v t u n) tag = Some n
 tag_after (LandBoth n v t) tag = None
 tag_after m tag = tag
+
+-- a move that comes where it may, but for what it asks of the sessions
+pub record MayCome (w : World) (m : Move) : Type 0 where
+  pub allowed : Allowed (histories w.events).write (table w) m
+  pub ready : Ready w m
+
+pub come : (w : World) (m : Move) → May w m → MayCome w m
+come w m may = record { allowed = may.allowed; ready = may.ready }
+
+pub come-open : (w : World) (v s n : ℕ) → MayOpen w v s n → MayCome w (Hold v s n true)
+come-open w v s n may = record { allowed = may.allowed; ready = may.ready }

@@ -23,19 +23,20 @@ use Rattle.dr_model.specs.Laws.{SoundRows}
 use Rattle.dr_laws.proofs.KeepsSound.{Along}
 use Rattle.dr_laws.proofs.FitsFlash.{as_begun, sound-begun, along-flash, along-withdraw, along-resync, along-reverse}
 use Rattle.dr_laws.proofs.FitsPairs.{along-remove, along-pause, along-resume}
+use Rattle.dr_laws.proofs.FitsSessions.{sound-lost}
 use Rattle.dr_laws.proofs.FitsHolds.{freezes, thaws, lifts}
 use Rattle.dr_laws.proofs.Steps.{sound-said}
 use Rattle.dr_laws.proofs.Tidy.{tidy-same, fresh-told}
-use Rattle.dr_laws.proofs.Chains.{Fairly, fairly-nil, EndFin, PlanFin, PlanFair, good-none, told-unchanged}
+use Rattle.dr_laws.proofs.Chains.{ended, Fairly, fairly-nil, EndFin, PlanFin, PlanFair, good-none, told-unchanged}
 use Rattle.dr_laws.proofs.FairPlans.{EasyNext, AllEasy, easy-nil, easy-cons, easy-append, easy-map, Between, easy-fairly}
 
 pub rows-between : (w : World) → Between w → SoundRows (table w)
 rows-between w k = k.sound.rows
 
-pub answers-between : (w : World) (line : ℕ) (a : Said) → Between w → Between (said w line a)
-answers-between w line a k = record {
-  sound = sound-said w line a k.sound;
-  tidy = tidy-same w (said w line a) refl refl (λ j h. h) (fresh-told w (said w line a) (answer line a ∷ []) refl refl k.tidy.fresh.unacked (λ n. refl) k.tidy.fresh) k.tidy;
+pub answers-between : (first w : World) (line : ℕ) (a : Said) → Between w → Between (ended first w line a)
+answers-between first w line a k = record {
+  sound = sound-lost first (said w line a) (sound-said w line a k.sound);
+  tidy = tidy-same w (ended first w line a) refl refl (λ j h. h) (fresh-told w (ended first w line a) (answer line a ∷ []) refl refl k.tidy.fresh.unacked (λ n. refl) k.tidy.fresh) k.tidy;
 }
 
 abbrev pub Fair : World → Plan → Type 0
@@ -62,7 +63,7 @@ module _ (w : World) (k : Between w) (entries : List Entry) (a : Said) where
     told = [];
     begins = told-unchanged w (as_begun w) [] refl tt (ap histories (append-nil w.events)) refl refl refl (λ v t. refl);
     entries = fairly;
-    last = λ k. refl;
+    last = λ k. (k.sessions, refl);
   }
 
   pub easy-plan : AllEasy entries → Along (as_begun w) entries → Fair w p
@@ -134,4 +135,4 @@ module _ (w : World) (k : Between w) where
   pub fair-remove : (devs : Devs) (a b : ℕ) (source_only : Bool) → Fair w (remove_plan w.control devs a b source_only)
   unfolding AllEasy
   fair-remove devs a b source_only =
-      easy-plan w k _ _ (easy-check _ _, (easy-check _ _, (easy-check _ _, (easy-check _ _, (easy-check _ _, (easy-check _ _, easy-removed a b source_only)))))) (along-remove w k.sound devs a b source_only)
+      easy-plan w k _ _ (easy-check _ _, (easy-check _ _, (easy-check _ _, (easy-check _ _, (easy-refuse _, (easy-check _ _, (easy-check _ _, easy-removed a b source_only))))))) (along-remove w k.sound devs a b source_only)

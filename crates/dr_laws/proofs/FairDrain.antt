@@ -25,7 +25,8 @@ use Rattle.dr_laws.proofs.Sets.{false_true, has_source, from_source}
 use Rattle.dr_laws.proofs.Turns.{done, next_of}
 use Rattle.dr_laws.proofs.KeepsSound.{Along, Then, comes}
 use Rattle.dr_laws.proofs.FitsFlash.{as_begun}
-use Rattle.dr_laws.proofs.FitsPairs.{row, runs-done, part-same, along-drain, suspends-after}
+use Rattle.dr_laws.proofs.FitsPairs.{row, runs-done, part-same}
+use Rattle.dr_laws.proofs.FitsDrain.{along-drain, suspends-after}
 use Rattle.dr_laws.proofs.Fair.{is_locked}
 use Rattle.dr_laws.proofs.Tidy.{is_synced}
 use Rattle.dr_model.specs.Histories.{histories}
@@ -214,5 +215,5 @@ module _ (w : World) (k : Between w) (a : ℕ) (most : Option ℕ) where
             let both = and_parts (is_part (fields_at w.control a).primary) _ copying in
             sends-all Fins fins w.control.volumes a (fields_at w.control a).primary_partner (tracks_to_send most (w.control.volume a).tracks (fields_at w.control a).out_of_sync) u b
             (record { on = on; there = there; to = has_source (is_part (fields_at w.control a).primary) (fields_at w.control a).primary_partner both.0; going = pending-going (fields_at w.control a).primary_state both.1 }) al)));
-        last = λ k. refl;
+        last = λ k. (k.sessions, refl);
       }

@@ -20,6 +20,7 @@ use Rattle.dr_laws.proofs.KeepsSound.{Along, comes, keeps-sound}
 use Rattle.dr_laws.proofs.FitsFlash.{as_begun}
 use Rattle.dr_laws.proofs.FitsPairs.{along-pair, row}
 use Rattle.dr_laws.proofs.Fair.{Fair as FairMove, tag_after}
+use Rattle.dr_laws.proofs.Fair.{come}
 use Rattle.dr_laws.proofs.Tidy.{Gentle, tidy-done, tidy-stop, tidy-not}
 use Rattle.dr_laws.proofs.Chains.{Fairly, fairly-entry, fairly-nil, PlanFin, good-none}
 use Rattle.dr_laws.proofs.FairPlans.{AllEasy, Between, next-easy}
@@ -39,9 +40,9 @@ module _ (Fin : Option ℕ → World → Option Refusal → Type 0) (fin : (w : 
       → ((f : Option Fuse) → Between (done w m f) → Fairly Fin None (done w m f) ds) → Fairly Fin None w (d ∷ ds)
   move-fairly w k d m ds is may fair gentle none go = fairly-entry Fin None w d ds (Do (Make m)) is (good-none w k.sound.rows) (
     (may, fair),
-    λ f. subst (λ tag. Fairly Fin tag (done w m f) ds) (sym none) (go f (record { sound = keeps-sound.does w (Make m) f k.sound may; tidy = tidy-done w m f may gentle k.tidy })),
+    λ f. subst (λ tag. Fairly Fin tag (done w m f) ds) (sym none) (go f (record { sound = keeps-sound.does w (Make m) f k.sound may; tidy = tidy-done w m f (come w m may) gentle k.tidy })),
     (
-      λ f. fin (done_in_stop w m f) _ (record { sound = keeps-sound.counts w m f k.sound may; tidy = tidy-stop w m f gentle k.tidy }),
+      λ f. fin (done_in_stop w m f) _ (record { sound = keeps-sound.counts w m f k.sound may; tidy = tidy-stop w m f (come w m may) gentle k.tidy }),
       λ d f. fin (not_done w (server_at w (target m)) f) _ (record { sound = keeps-sound.fails w (Make m) f tt k.sound may; tidy = tidy-not w (server_at w (target m)) f k.tidy }),
     ),
   )

@@ -4,14 +4,15 @@ use Rattle.dr_ids.specs.declared.refusal.Refusal.{Refusal}
 use Rattle.dr_model.specs.declared.event.Event.TheVariants.{Frozen, Thawed}
 use Rattle.dr_model.specs.Control.{Control, Fuse, World}
 use Rattle.dr_model.specs.Pairs.{next_state}
-use Rattle.dr_model.specs.Moves.{Move, Land, Restore, Store, Strike, MakePrimary, Resume, Unsync, Mirror, LandBoth, target, is_other}
-use Rattle.dr_model.specs.Carry.{Act, Make, Redo, Acknowledge, Drop, EndFreeze, EndThaw, dropped, frozen, thawed, Next, Pass, Do, End, Entry, check}
+use Rattle.dr_model.specs.Moves.{Move, Land, Restore, Store, Strike, MakePrimary, Resume, Unsync, Mirror, LandBoth, Hold, target, is_other}
+use Rattle.dr_model.specs.Carry.{Act, Make, OpenAttempt, attempt_begun, Redo, Acknowledge, Drop, EndFreeze, EndThaw, dropped, frozen, thawed, Next, Pass, Do, End, Entry, check}
 use Rattle.dr_model.specs.Entries.{fields_at}
 use Rattle.dr_model.specs.Laws.{Sound}
-use Rattle.dr_laws.proofs.Turns.{done_in_stop, server_of, after_act}
+use Rattle.dr_laws.proofs.Turns.{done, done_in_stop, opened_in_stop, server_of, after_act}
 use Rattle.dr_laws.proofs.KeepsQueue.{all-filter}
+use Rattle.dr_laws.proofs.Along as along
 use Rattle.dr_laws.proofs.KeepsSound.{MayDo, Along, Then, comes, keeps-sound}
-use Rattle.dr_laws.proofs.Fair.{Fair, tag_after}
+use Rattle.dr_laws.proofs.Fair.{Fair, tag_after, come, come-open}
 use Rattle.dr_laws.proofs.Tidy.{Gentle, Tidy, tidy-done, tidy-stop, tidy-not, tidy-same, fresh-told}
 use Rattle.dr_laws.proofs.Chains.{FairAct, act_tag, CountsFin, fairly_next, Fairly, fairly-entry, fairly-nil, good-none}
 use Rattle.std.proofs.lemmas.List.{append-nil}
@@ -95,7 +96,11 @@ easy-check ok r k = by (ok k)
 -- an act that is easy, and may be done, keeps what holds between steps
 module _ (w : World) (tidy : Tidy w) where
   act-tidy : (a : Act) (f : Option Fuse) → MayDo w a → EasyAct w.control a → Tidy (after_act w a f)
-  act-tidy (Make m) f may easy = tidy-done w m f may (easy-gentle w m easy) tidy
+  act-tidy (Make m) f may easy = tidy-done w m f (come w m may) (easy-gentle w m easy) tidy
+  act-tidy (OpenAttempt v s n) f may easy =
+      let m : Move = Hold v s n true in
+      let y : Tidy (done w m f) = tidy-done w m f (come-open w v s n may) tt tidy in
+      tidy-same (done w m f) (attempt_begun (done w m f) s) refl refl (λ j h. h) (record { unacked = y.fresh.unacked; later = y.fresh.later }) y
   act-tidy (Redo v) f may easy = absurd easy
   act-tidy (Acknowledge n) f may easy = absurd easy
   act-tidy (Drop n) f may easy =
@@ -105,6 +110,7 @@ module _ (w : World) (tidy : Tidy w) where
 
   act-fair : (a : Act) → MayDo w a → EasyAct w.control a → FairAct None w a
   act-fair (Make m) may easy = (may, easy-fair w m easy)
+  act-fair (OpenAttempt v s n) may easy = may
   act-fair (Redo v) may easy = absurd easy
   act-fair (Acknowledge n) may easy = absurd easy
   act-fair (Drop n) may easy = may
@@ -113,6 +119,7 @@ module _ (w : World) (tidy : Tidy w) where
 
   act-none : (a : Act) → EasyAct w.control a → act_tag a None ≡ None
   act-none (Make m) easy = easy-tag w.control m easy
+  act-none (OpenAttempt v s n) easy = refl
   act-none (Redo v) easy = absurd easy
   act-none (Acknowledge n) easy = absurd easy
   act-none (Drop n) easy = refl
@@ -124,28 +131,43 @@ pub record Between (w : World) : Type 0 where
   pub sound : Sound w
   pub tidy : Tidy w
 
-module _ (Fin : Option ℕ → World → Option Refusal → Type 0) (fin : (w : World) (r : Option Refusal) → Between w → Fin None w r) where
+module _ (Fin : Option ℕ → World → Option Refusal → Type 0) (fin : (w : World) (r : Refusal) → Between w → Fin None w (Some r)) where
   counts-fin : (w : World) (a : Act) → Between w → MayDo w a → EasyAct w.control a → CountsFin Fin w a
-  counts-fin w (Make m) k may easy = λ f. fin (done_in_stop w m f) _ (record { sound = keeps-sound.counts w m f k.sound may; tidy = tidy-stop w m f (easy-gentle w m easy) k.tidy })
+  counts-fin w (Make m) k may easy = λ f. fin (done_in_stop w m f) _ (record { sound = keeps-sound.counts w m f k.sound may; tidy = tidy-stop w m f (come w m may) (easy-gentle w m easy) k.tidy })
+  counts-fin w (OpenAttempt v s n) k may easy = λ f.
+      let m : Move = Hold v s n true in
+      let y : Tidy (done_in_stop w m f) = tidy-stop w m f (come-open w v s n may) tt k.tidy in
+      fin (opened_in_stop w v s n f) _ (record {
+        sound = keeps-sound.opens w v s n f k.sound may;
+        tidy = tidy-same (done_in_stop w m f) (opened_in_stop w v s n f) refl refl (λ j h. h) (record { unacked = y.fresh.unacked; later = y.fresh.later }) y;
+      })
   counts-fin w (Redo v) k may easy = tt
   counts-fin w (Acknowledge n) k may easy = tt
   counts-fin w (Drop n) k may easy = tt
   counts-fin w (EndFreeze l m) k may easy = tt
   counts-fin w (EndThaw l m) k may easy = tt
 
-  pub next-easy : (w : World) (x : Next) (more : World → Type 0) (then : Option ℕ → World → Type 0) → ((v : World) → Between v → more v → then None v) → Between w → EasyNext w.control x → Then w x more → fairly_next Fin None w x then
-  next-easy w Pass more then on k easy a = on w k a
-  next-easy w (End r) more then on k easy a = fin w (Some r) k
-  next-easy w (Do x) more then on k easy a = (
+  next-ended : (w : World) (x : Next) (more : World → Type 0) (then : Option ℕ → World → Type 0) → ((v : World) → Between v → more v → then None v) → Between w → EasyNext w.control x → Then w x more → fairly_next Fin None w x then
+  next-ended w Pass more then on k easy a = on w k a
+  next-ended w (End r) more then on k easy a = fin w r k
+  next-ended w (Do x) more then on k easy a = (
     act-fair w k.tidy x a.0 easy,
     λ f. let sound : Sound (after_act w x f) = keeps-sound.does w x f k.sound a.0 in
         subst (λ tag. then tag (after_act w x f)) (sym (act-none w k.tidy x easy)) (on (after_act w x f) (record { sound = sound; tidy = act-tidy w k.tidy x f a.0 easy }) (a.1 f sound)),
     (counts-fin w x k a.0 easy, λ d f. fin _ _ (record { sound = keeps-sound.fails w x f d k.sound a.0; tidy = tidy-not w (server_of w x) f k.tidy })),
   )
 
-  pub easy-fairly : (ds : List Entry) (w : World) → Between w → AllEasy ds → Along w ds → Fairly Fin None w ds
+  -- where the entries end well, more may be known
+  pub easy-ended : (E : World → Type 0) → ((w : World) → Between w → E w → Fin None w None) → (ds : List Entry) (w : World) → Between w → AllEasy ds → along.Along Sound Sound E MayDo w ds → Fairly Fin None w ds
   unfolding AllEasy
-  easy-fairly [] w k easy a = fairly-nil Fin None w (good-none w k.sound.rows) (fin w None k)
-  easy-fairly (d ∷ ds) w k easy a =
+  easy-ended E ends [] w k easy a = fairly-nil Fin None w (good-none w k.sound.rows) (ends w k (along.along-ends Sound Sound E MayDo w a))
+  easy-ended E ends (d ∷ ds) w k easy a =
       fairly-entry Fin None w d ds (d w.control) refl (good-none w k.sound.rows)
-      (next-easy w (d w.control) (λ v. Along v ds) (λ tag v. Fairly Fin tag v ds) (λ v k a. easy-fairly ds v k easy.1 a) k (easy.0 w.control) (comes w d ds (d w.control) refl a))
+      (next-ended w (d w.control) (λ v. along.Along Sound Sound E MayDo v ds) (λ tag v. Fairly Fin tag v ds) (λ v k a. easy-ended E ends ds v k easy.1 a) k (easy.0 w.control) (along.along-comes Sound Sound E MayDo w d ds (d w.control) refl a))
+
+module _ (Fin : Option ℕ → World → Option Refusal → Type 0) (fin : (w : World) (r : Option Refusal) → Between w → Fin None w r) where
+  pub next-easy : (w : World) (x : Next) (more : World → Type 0) (then : Option ℕ → World → Type 0) → ((v : World) → Between v → more v → then None v) → Between w → EasyNext w.control x → Then w x more → fairly_next Fin None w x then
+  next-easy = next-ended Fin (λ w r. fin w (Some r))
+
+  pub easy-fairly : (ds : List Entry) (w : World) → Between w → AllEasy ds → Along w ds → Fairly Fin None w ds
+  easy-fairly = easy-ended Fin (λ w r. fin w (Some r)) Sound (λ w k s. fin w None k)

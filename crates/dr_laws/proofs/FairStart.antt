@@ -28,7 +28,7 @@ use Rattle.dr_laws.proofs.Turns.{done, done_in_stop, not_done, fused}
 use Rattle.dr_laws.proofs.KeepsQueue.{each-on}
 use Rattle.dr_laws.proofs.FitsPairs.{row}
 use Rattle.dr_laws.proofs.Starts as starts
-use Rattle.dr_laws.proofs.Fair.{Unacked}
+use Rattle.dr_laws.proofs.Fair.{Unacked, come}
 use Rattle.dr_laws.proofs.Windows.{bare-has}
 use Rattle.dr_laws.proofs.Tidy.{Clean, Free, free-left, clean-left, Fresh, Tidy, fresh-by, fresh-told, fresh-done, fresh-stop, all-other, above}
 use Rattle.dr_laws.proofs.Chains.{Fairly, fairly_next, fairly-entry, fairly-nil, PlanFin, EndFin, good-none, told-unchanged}
@@ -165,7 +165,7 @@ module _ (s : ℕ) where
         by true is =
             let own : servers w.control v ≡ s = eqb-true (servers w.control v) s (and_parts (is_volume w.control v) _ (and_parts (belongs w.control s v) _ is).0).1 in
             let may : starts.OnServer s w v = record { own = own; on = g.inner.on } in
-            let frees : ((f : Option Fuse) (u : ℕ) → Free (at w.control.volume v (row w (Restart v) f) u).fields) = λ f u. at_cases (λ u (y : Volume). Free y.fields) w.control.volume v (row w (Restart v) f) (free-left (Restart v) (w.control.volume v) (g.free v)) (λ u ne. g.free u) u in
+            let frees : ((f : Option Fuse) (u : ℕ) → Free (at w.control.volume v (row w (Restart v) f) u).fields) = λ f u. at_cases (λ u (y : Volume). Free y.fields) w.control.volume v (row w (Restart v) f) (free-left (Restart v) (w.control.volume v) tt (g.free v)) (λ u ne. g.free u) u in
             let servers_are : ((f : Option Fuse) (u : ℕ) → (at w.control.volume v (row w (Restart v) f) u).server ≡ servers w.control u) = λ f u. at_part (λ (y : Volume). y.server) w.control.volume v (row w (Restart v) f) refl u in (
               (starts.may-restart s w v may, tt),
               λ f. go (done w (Restart v) f) (record {
@@ -173,7 +173,7 @@ module _ (s : ℕ) where
                 clean = λ u there runs none. at_cases (λ u (y : Volume). is_volume w.control u ≡ true → Runs w u → (servers w.control u ≡ s → list_any (nat_eq u) left ≡ false) → Clean y.fields) w.control.volume v (row w (Restart v) f)
                     (λ there runs none. goes-on v (w.control.volume v) (g.free v)) (λ u ne there runs none. other u there runs ne none) u there (sym (ap w.control.on (servers_are f u)) ∙ runs) (λ e. none (servers_are f u ∙ e));
                 free = frees f;
-                fresh = fresh-done w (Restart v) f (starts.may-restart s w v may) g.fresh;
+                fresh = fresh-done w (Restart v) f (come w (Restart v) (starts.may-restart s w v may)) g.fresh;
               }),
               (
                 λ f. fin (done_in_stop w (Restart v) f) (Some (StoppedIn (record { 0 = servers w.control v }))) (record {
@@ -207,5 +207,5 @@ module _ (s : ℕ) where
             free = k.tidy.free;
             fresh = fresh-told w0 u (Started s ∷ []) refl refl k.tidy.fresh.unacked (λ n. refl) k.tidy.fresh;
           });
-          last = λ k. refl;
+          last = λ k. (k.sessions, refl);
         }

@@ -1,12 +1,19 @@
 -- Each step's plan is fair, and so the law of freeze windows holds of every run.
-use Rattle.std.proofs.Common.{ℕ, refl, List, None}
-use Rattle.dr_model.specs.Control.{World, nothing}
-use Rattle.dr_model.specs.Plans.{Plan}
+use Rattle.std.proofs.Common.{ℕ, ◌≡◌, refl, Bool, true, false, cond, List, None}
+use Rattle.dr_ids.specs.declared.names.Member.{Member}
+use Rattle.dr_model.specs.Phases as phases
+use Rattle.dr_model.specs.Sessions.{Session, joined, left, changed, mirrored_by, paused, unmirrored, with_master}
+use Rattle.dr_model.specs.SessionEntries.{first_number, add_entries, expel_entries, order_entries, members_on}
+use Rattle.dr_model.specs.SessionPlans.{table_plan, member_with, answered_by}
+use Rattle.dr_model.specs.Control.{Control, World, nothing}
+use Rattle.dr_model.specs.Plans.{Plan, same}
 use Rattle.dr_model.specs.Runs.{Task}
 use Rattle.dr_laws.specs.Moments.{moments_from}
 use Rattle.dr_laws.specs.Windows.{FreezeCut}
-use Rattle.dr_laws.proofs.Cases.{Case, Says, Defines, Adds, Links, Issues, Writes, Applies, Shows, Stops, Arms, Starts, Flashes, Withdraws, Resyncs, Reverses, Copies, Paths, Unpaths, MakesPair, RemovesPair, Pauses, ResumesPair, Drains, Expires, Freezes, Thaws, plan-case}
-use Rattle.dr_laws.proofs.Steps.{sound-nothing}
+use Rattle.dr_laws.proofs.Cases.{Case, Says, Defines, Adds, Links, Issues, Writes, Applies, Shows, Stops, Arms, Starts, Flashes, Withdraws, Resyncs, Reverses, Copies, Paths, Unpaths, MakesPair, RemovesPair, Pauses, ResumesPair, Drains, Expires, Freezes, Thaws, JoinsSession, LeavesSession, Mirrors, PausesMirror, Unmirrors, Aborts, AddsMember, Expels, Exchanges, added, expelled, aborted, ordered, plan-case}
+use Rattle.dr_laws.proofs.Steps.{sound-nothing, case-holds}
+use Rattle.dr_laws.proofs.FitsSessions.{orders-added, orders-expelled, orders-ordered}
+use Rattle.dr_laws.proofs.FairSessions.{fair-sessions, fair-leaving, easy-add, easy-expel, easy-order}
 use Rattle.dr_laws.proofs.Windows.{Chain, freeze-cut}
 use Rattle.dr_laws.proofs.Chains.{run-chain}
 use Rattle.dr_laws.proofs.FairPlans.{Between}
@@ -56,6 +63,24 @@ fair-case w k line _ (Drains a most) = fair-drain w k a most
 fair-case w k line _ (Expires x on) = fair-expire w k x on
 fair-case w k line _ (Freezes l m) = fair-freeze w k l m
 fair-case w k line _ (Thaws l m) = fair-thaw w k l m
+fair-case w k line _ (JoinsSession l i free) = fair-sessions w k (joined i l) (table_plan (joined i l)).says (case-holds w k.sound line _ (JoinsSession l i free))
+fair-case w k line _ (LeavesSession l i x found free) = fair-sessions w k (left i l) (table_plan (left i l)).says (case-holds w k.sound line _ (LeavesSession l i x found free))
+fair-case w k line _ (Mirrors owner i x found free) = fair-sessions w k (changed i (mirrored_by owner)) (table_plan (changed i (mirrored_by owner))).says (case-holds w k.sound line _ (Mirrors owner i x found free))
+fair-case w k line _ (PausesMirror i on) = fair-sessions w k (changed i (paused on)) (table_plan (changed i (paused on))).says (case-holds w k.sound line _ (PausesMirror i on))
+fair-case w k line _ (Unmirrors i x found free) = fair-sessions w k (changed i unmirrored) (table_plan (changed i unmirrored)).says (case-holds w k.sound line _ (Unmirrors i x found free))
+fair-case w k line _ (Aborts i x found free) = fair-sessions w k (changed i (with_master phases.aborted)) (aborted i).says (case-holds w k.sound line _ (Aborts i x found free))
+fair-case w k line _ (AddsMember i a c x joins) =
+    let m : Member = member_with w.control a c in
+    let n : ℕ = first_number w.control x.last m in
+    fair-leaving w k (add_entries m n) (added w.control i x m).last (added w.control i x m).says (λ k. (_, refl)) (orders-added w k.sound i a c x joins) (easy-add m n)
+fair-case w k line _ (Expels i a x m found is idle on) = fair-leaving w k (expel_entries i m) (expelled i m).last (expelled i m).says (λ k. (_, refl)) (orders-expelled w k.sound i a x m found is idle on) (easy-expel i m)
+fair-case w k line _ (Exchanges i server reply x r o allowed) =
+    let ms : List Member = members_on server x.members in
+    fair-leaving w k (order_entries o.work i o.number ms) (ordered i server reply ms o).last (ordered i server reply ms o).says (by reply) (orders-ordered w k.sound i server reply x r o allowed) (easy-order o.work i o.number ms)
+  where
+    by : (b : Bool) (k : Control) → (ss : List Session) × (cond b (answered_by i server o.work (members_on server x.members)) same k ≡ record k { sessions = ss })
+    by true k = (_, refl)
+    by false k = (_, refl)
 
 -- the moments of a run
 pub chain-of : (tasks : List Task) → Chain None nothing (moments_from nothing tasks)

@@ -43,7 +43,7 @@ pub fair-tables : (w : World) (first : Control → Control) (told : List Event) 
 fair-tables w first told a holds unchanged tidy =
     let p : Plan = tables_plan first told a in
     let k : Between (begun w p) = record { sound = sound-tables w first told a holds; tidy = tidy } in
-    record { told = told; begins = unchanged; entries = fairly-nil (PlanFin Between rows-between answers-between p) None (begun w p) (good-none (begun w p) k.sound.rows) k; last = λ k. refl }
+    record { told = told; begins = unchanged; entries = fairly-nil (PlanFin Between rows-between answers-between p) None (begun w p) (good-none (begun w p) k.sound.rows) k; last = λ k. (k.sessions, refl) }
 
 -- a volume that was defined before
 not-new : (vs : List ℕ) (x v : ℕ) → x ≢ v → list_any (nat_eq x) (vs ++ v ∷ []) ≡ true → list_any (nat_eq x) vs ≡ true

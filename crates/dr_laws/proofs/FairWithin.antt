@@ -10,7 +10,7 @@ use Rattle.dr_model.specs.Layout.{Fields, is_part}
 use Rattle.dr_model.specs.Pairs.{is_metro}
 use Rattle.dr_model.specs.Control.{Control, Fuse, Pending, Volume, World, is_volume}
 use Rattle.dr_model.specs.Moves.{Move, Keep, Note, Suspend, target, settled, settled_in_stop, moved}
-use Rattle.dr_model.specs.Carry.{Make, Drop, Pass, Do, Entry, check}
+use Rattle.dr_model.specs.Carry.{Make, Drop, Next, Pass, Do, Entry, check}
 use Rattle.dr_model.specs.Entries.{fields_at, is_running, keep_on, copies_from, drop_unless, check_or_drop}
 use Rattle.dr_model.specs.WriteEntries.{partner_of, is_grouped, part_running, part_after}
 use Rattle.dr_model.specs.Laws.{Sound}
@@ -22,9 +22,12 @@ use Rattle.dr_laws.proofs.Turns.{next_of, carried_in, done, done_in_stop, not_do
 use Rattle.dr_laws.proofs.RowsAfter.{changed}
 use Rattle.dr_laws.proofs.KeepsSound.{Along, Then, comes, keeps-sound}
 use Rattle.dr_laws.proofs.FitsPairs.{row}
-use Rattle.dr_laws.proofs.FitsWrites.{metro-part, parts-after}
-use Rattle.dr_laws.proofs.Fair.{Fair as FairMove, tag_after}
-use Rattle.dr_laws.proofs.Tidy.{is_synced, Clean, Free, Fresh, Tidy, free-left, went-off, fresh-done, fresh-stop, fresh-told}
+use Rattle.dr_model.specs.PairEntries.{suspend_running, suspend_after}
+use Rattle.dr_laws.proofs.FitsDrain.{suspends-after}
+use Rattle.dr_laws.proofs.FitsWrites.{parts-after}
+use Rattle.dr_laws.proofs.KeepsStructure.{metro_part}
+use Rattle.dr_laws.proofs.Fair.{Fair as FairMove, tag_after, come}
+use Rattle.dr_laws.proofs.Tidy.{is_synced, Unheld, unheld, Clean, Free, Fresh, Tidy, free-left, went-off, fresh-done, fresh-stop, fresh-told}
 use Rattle.dr_laws.proofs.Windows.{Good}
 use Rattle.dr_laws.proofs.Chains.{Fairly, fairly_next, fairly-entry, fairly-nil, StopFin, EndFin, good-none}
 use Rattle.dr_laws.proofs.FairPlans.{Between, next-easy}
@@ -73,7 +76,7 @@ module _ (v t : ℕ) where
   abbrev pub Here : World → Move → Type 0
   Here w m = is_volume w.control (target m) ≡ true → Runs w (target m) → CleanBut (target m) (next_of w m)
 
-  module _ (w : World) (m : Move) (here : Here w m) (tidy : TidyBut w) (on : ℕ → Bool) (fuse : ℕ → Option Fuse) (ps : List Pending) (es : List Event) (less : (j : ℕ) → on j ≡ true → w.control.on j ≡ true) where
+  module _ (w : World) (m : Move) (here : Here w m) (none : Unheld (fields_at w.control (target m)) m) (tidy : TidyBut w) (on : ℕ → Bool) (fuse : ℕ → Option Fuse) (ps : List Pending) (es : List Event) (less : (j : ℕ) → on j ≡ true → w.control.on j ≡ true) where
     abbrev W : World
     W = changed w m on fuse ps es
 
@@ -87,7 +90,7 @@ module _ (v t : ℕ) where
     but-changed fresh = record {
       clean = λ j there runs. at_cases (λ j (y : Volume). is_volume w.control j ≡ true → Runs w j → CleanBut j y.fields) w.control.volume x new here (λ j ne. tidy.clean j) j there
           (sym (ap w.control.on (at_part (λ (y : Volume). y.server) w.control.volume x new refl j)) ∙ less _ runs);
-      free = λ j. at_cases (λ j (y : Volume). Free y.fields) w.control.volume x new (free-left m (w.control.volume x) (tidy.free x)) (λ j ne. tidy.free j) j;
+      free = λ j. at_cases (λ j (y : Volume). Free y.fields) w.control.volume x new (free-left m (w.control.volume x) none (tidy.free x)) (λ j ne. tidy.free j) j;
       fresh = fresh;
     }
 
@@ -96,13 +99,13 @@ module _ (v t : ℕ) where
     pub within-done : Here w m → Within (done w m f)
     within-done here = record {
       sound = keeps-sound.does w (Make m) f k.sound may;
-      tidy = but-changed w m here k.tidy (done w m f).control.on (done w m f).control.fuse (settled m w.control.pending) (done w m f).events (λ j h. h) (fresh-done w m f may k.tidy.fresh);
+      tidy = but-changed w m here (unheld w m (come w m may)) k.tidy (done w m f).control.on (done w m f).control.fuse (settled m w.control.pending) (done w m f).events (λ j h. h) (fresh-done w m f (come w m may) k.tidy.fresh);
     }
 
     pub within-stop : Here w m → Within (done_in_stop w m f)
     within-stop here = record {
       sound = keeps-sound.counts w m f k.sound may;
-      tidy = but-changed w m here k.tidy (done_in_stop w m f).control.on (done_in_stop w m f).control.fuse (settled_in_stop m w.control.pending) (done_in_stop w m f).events (went-off w.control.on (w.control.volume (target m)).server) (fresh-stop w m f k.tidy.fresh);
+      tidy = but-changed w m here (unheld w m (come w m may)) k.tidy (done_in_stop w m f).control.on (done_in_stop w m f).control.fuse (settled_in_stop m w.control.pending) (done_in_stop w m f).events (went-off w.control.on (w.control.volume (target m)).server) (fresh-stop w m f k.tidy.fresh);
     }
 
     pub within-not : Within (not_done w (server_at w (target m)) f)
@@ -116,12 +119,15 @@ module _ (v t : ℕ) where
     }
 
   -- where a server stopped, v is suspended, or its server is off
-  module _ (w : World) (k : Within w) where
+  module _ (w : World) (k : Within w) (busy : Bool) where
     abbrev End : Option ℕ → World → Option Refusal → Type 0
     End = EndFin Between rows-between answers-between
 
     abbrev m : Move
-    m = Suspend v (is_grouped w.control v (partner_of w.control v))
+    m = Suspend v busy
+
+    abbrev what : Next
+    what = cond (is_part (fields_at w.control v).primary && is_running v w.control) (Do (Make m)) Pass
 
     here : Here w m
     here there runs h q other = let no : false ≡ true = (and_parts (is_metro (fields_at w.control v).primary) false h).1 in absurd cc
@@ -139,11 +145,16 @@ module _ (v t : ℕ) where
       ),
     )
     parts-by false is a = fairly-nil End None w (good-none w k.sound.rows)
-        (heal w k (λ runs h. false_true is (and_from _ _ (metro-part (fields_at w.control v).primary (and_parts (is_metro (fields_at w.control v).primary) _ h).0) runs)))
+        (heal w k (λ runs h. false_true is (and_from _ _ (metro_part (fields_at w.control v).primary (and_parts (is_metro (fields_at w.control v).primary) _ h).0) runs)))
 
-    pub part-fairly : (s : ℕ) → Fairly End None w (part_after v s)
-    part-fairly s = fairly-entry End None w (part_running v) [] (cond (is_part (fields_at w.control v).primary && is_running v w.control) (Do (Make m)) Pass) refl (good-none w k.sound.rows)
-        (parts-by _ refl (comes w (part_running v) [] (cond (is_part (fields_at w.control v).primary && is_running v w.control) (Do (Make m)) Pass) refl (parts-after v s w k.sound)))
+    suspend-fairly : (d : Entry) → d w.control ≡ what → Along w (d ∷ []) → Fairly End None w (d ∷ [])
+    suspend-fairly d is al = fairly-entry End None w d [] what is (good-none w k.sound.rows) (parts-by _ refl (comes w d [] what is al))
+
+  pub part-fairly : (w : World) (k : Within w) (s : ℕ) → Fairly (EndFin Between rows-between answers-between) None w (part_after v s)
+  part-fairly w k s = suspend-fairly w k (is_grouped w.control v (partner_of w.control v)) (part_running v) refl (parts-after v s w k.sound)
+
+  pub after-fairly : (w : World) (k : Within w) (s : ℕ) → Fairly (EndFin Between rows-between answers-between) None w (suspend_after v s)
+  after-fairly w k s = suspend-fairly w k false (suspend_running v) refl (suspends-after v s w k.sound)
 
   -- a move within the write
   pub within-fairly : (Fin : Option ℕ → World → Option Refusal → Type 0) → ((u : World) (s : ℕ) → Within u → StopFin Fin u s u) → (tag : Option ℕ) (w : World) → Within w → (d : Entry) (m : Move) (ds : List Entry) → d w.control ≡ Do (Make m) → Good tag w

@@ -1,6 +1,6 @@
 -- Host writes that are carried out are fair: one that lands on its volume alone lands on no locked primary, and one that its
 -- secondary stores first lands on both sides where nothing else is out of sync.
-use Rattle.std.proofs.Common.{ℕ, ◌≡◌, ◌<◌, ◌+◌, inl, inr, refl, ap, sym, ◌∙◌, subst, Bool, true, false, cond, not, ◌&&◌, ◌||◌, List, [], ◌∷◌, ◌++◌, append_assoc, filter, Option, Some, None}
+use Rattle.std.proofs.Common.{ℕ, ◌≡◌, ◌<◌, ◌+◌, inl, inr, refl, ap, sym, ◌∙◌, subst, Bool, true, false, cond, not, ◌&&◌, ◌||◌, List, [], ◌∷◌, ◌++◌, append_assoc, map, filter, Option, Some, None}
 use Rattle.std.specs.List.{find}
 use Rattle.std.specs.FinSet.{contains}
 use Rattle.std.proofs.lemmas.List.{append-nil}
@@ -13,19 +13,19 @@ use Rattle.dr_model.specs.declared.state.PairState.{PairState}
 use Rattle.dr_model.specs.declared.state.PairState.TheVariants.{CopyPending, FullDuplex, Suspended}
 use Rattle.dr_model.specs.Histories.{histories}
 use Rattle.dr_model.specs.Layout.{Fields}
-use Rattle.dr_model.specs.Pairs.{is_metro, is_full_duplex, is_suspended, held, goes_over}
-use Rattle.dr_model.specs.Control.{Fuse, Pending, Volume, World}
-use Rattle.dr_model.specs.Moves.{Move, Land, Overwrite, Keep, Note, Suspend, Unsync, Mirror, LandBoth, is_write}
-use Rattle.dr_model.specs.Carry.{Make, Do, Entry, now}
-use Rattle.dr_model.specs.Entries.{fields_at, is_running, is_no_secondary, is_open, is_settled, copy_first, land_on, land_alone}
-use Rattle.dr_model.specs.WriteEntries.{partner_of, is_grouped, land_mirrored, land_parted, is_parted, land_over, landing, part_after}
-use Rattle.dr_model.specs.Plans.{Plan, issue_refusal, write_done, apply_done}
+use Rattle.dr_model.specs.Pairs.{is_metro, is_kind, is_last, is_full_duplex, is_suspended, held, goes_over, collides}
+use Rattle.dr_model.specs.Control.{Control, Fuse, Pending, Volume, World}
+use Rattle.dr_model.specs.Moves.{Move, Land, Overwrite, Keep, Note, Store, Strike, Suspend, target, Unsync, Mirror, LandBoth, is_write}
+use Rattle.dr_model.specs.Carry.{Make, Pass, Do, Entry, now}
+use Rattle.dr_model.specs.Entries.{fields_at, is_running, is_no_secondary, is_open, is_settled, copies_from, keep_on, copy_first, land_on, land_alone}
+use Rattle.dr_model.specs.WriteEntries.{sends_first, where_sent, send_first, land_collided, after_write, partner_of, is_grouped, land_mirrored, land_parted, is_parted, land_over, landing, part_after}
+use Rattle.dr_model.specs.Plans.{Plan, same, issue_refusal, write_done, apply_done}
 use Rattle.dr_model.specs.Laws.{AllPending}
 use Rattle.dr_model.specs.Allowed.{May, Runs}
 use Rattle.dr_model.proofs.Images.{at_same}
 use Rattle.dr_laws.proofs.Cases.{may-issue}
-use Rattle.dr_laws.proofs.Sets.{insert_other, not_removed, not_removed_from}
-use Rattle.dr_laws.proofs.Turns.{done}
+use Rattle.dr_laws.proofs.Sets.{false_true, insert_other, not_removed, not_removed_from}
+use Rattle.dr_laws.proofs.Turns.{done, next_of}
 use Rattle.dr_laws.proofs.KeepsQueue.{all-filter}
 use Rattle.dr_laws.proofs.KeepsSound.{Along, comes}
 use Rattle.dr_laws.proofs.Issues.{issued, sound-issued, one-new}
@@ -33,17 +33,22 @@ use Rattle.dr_laws.proofs.Lands.{found-alone, waits}
 use Rattle.dr_laws.proofs.FitsFlash.{as_begun}
 use Rattle.dr_laws.proofs.FitsPairs.{row, runs-done, part-same}
 use Rattle.dr_laws.proofs.FitsWrites.{lands}
-use Rattle.dr_laws.proofs.Fair.{is_locked, Unacked}
-use Rattle.dr_laws.proofs.Tidy.{is_synced, Clean}
+use Rattle.dr_laws.proofs.Fair.{is_locked, Unacked, Fair as FairMove, tag_after}
+use Rattle.dr_laws.proofs.Tidy.{is_synced, Clean, Gentle}
 use Rattle.dr_laws.proofs.Windows.{Good}
-use Rattle.dr_laws.proofs.Chains.{Fairly, fairly-nil, StopFin, EndFin, PlanFin, good-none, told-unchanged}
+use Rattle.dr_laws.proofs.Chains.{Fairly, fairly-entry, fairly-nil, StopFin, EndFin, PlanFin, good-none, told-unchanged}
 use Rattle.dr_laws.proofs.FairPlans.{Between}
 use Rattle.dr_laws.proofs.FairCases.{rows-between, answers-between, begun-between, Fair}
 use Rattle.dr_laws.proofs.FairTables.{issued-unchanged, issued-tidy}
 use Rattle.dr_laws.proofs.FairPairs.{move-fairly}
 use Rattle.dr_laws.proofs.FairCopy.{fairly-check}
 use Rattle.dr_laws.proofs.FairDrain.{locked-synced}
-use Rattle.dr_laws.proofs.FairWithin.{and-no, Within, within-between, heal, Here, part-fairly, within-fairly, Keeps, copies-fairly, fairly-dropped}
+use Rattle.dr_model.specs.declared.state.Part.TheVariants.{Global}
+use Rattle.std.specs.Prelude.{is_some}
+use Rattle.dr_model.specs.PairEntries.{send_refusal, suspend_where, store_on, strike_on, suspend_after}
+use Rattle.dr_laws.proofs.WindowTracks.{is_firm}
+use Rattle.dr_laws.proofs.KeepsRecorders.{not-metro}
+use Rattle.dr_laws.proofs.FairWithin.{after-fairly, and-no, Within, within-between, heal, Here, part-fairly, within-fairly, Keeps, copies-fairly, fairly-dropped}
 
 -- what tests tell
 or-none : (a b : Bool) → (a || b) ≡ false → (a ≡ false) × (b ≡ false)
@@ -113,6 +118,103 @@ module _ (p : Pending) (Fin : Option ℕ → World → Option Refusal → Type 0
 
   alone : (volumes : List ℕ) (w : World) → Alone w → Along w (land_alone volumes n v t) → Fairly Fin None w (land_alone volumes n v t)
   alone volumes w k al = copies-fairly Fin None Alone (λ w k. k.between.sound) (λ w k. good-none w k.between.sound.rows) alone-keeps v t volumes (land_on n v t ∷ []) w k al last-alone
+
+  -- it collides on a Global Copy primary, which is never locked
+  record Sends (w : World) : Type 0 where
+    between : Between w
+    global : is_kind Global (fields_at w.control v).primary ≡ true
+
+  no-metro : (w : World) → Sends w → is_metro (fields_at w.control v).primary ≡ false
+  no-metro w k = by (is_metro (fields_at w.control v).primary) refl
+    where
+      by : (b : Bool) → is_metro (fields_at w.control v).primary ≡ b → b ≡ false
+      by true is = absurd (not-metro (fields_at w.control v).primary k.global is)
+      by false is = refl
+
+  sends-alone : (w : World) → Sends w → Alone w
+  sends-alone w k = record {
+    between = k.between;
+    synced = ap (λ b. b && is_full_duplex (fields_at w.control v).primary_state) (no-metro w k);
+    locked = ap (λ b. b && is_firm (fields_at w.control v)) (no-metro w k);
+  }
+
+  module _ (u : ℕ) where
+    -- a move that leaves it so
+    sends-move : (w : World) → Sends w → (d : Entry) (m : Move) (ds : List Entry) → d w.control ≡ Do (Make m) → May w m → FairMove None w m → Gentle (fields_at w.control (target m)) m → tag_after m None ≡ None
+        → is_kind Global (next_of w m).primary ≡ is_kind Global (fields_at w.control (target m)).primary → ((f : Option Fuse) → Sends (done w m f) → Fairly Fin None (done w m f) ds) → Fairly Fin None w (d ∷ ds)
+    sends-move w k d m ds is may fair gentle tag same go =
+        move-fairly Fin fin w k.between d m ds is may fair gentle tag (λ f b. go f (record { between = b; global = part-same w m f (λ (g : Fields). is_kind Global g.primary) same v ∙ k.global }))
+
+    passed : (w : World) → Sends w → (d : Entry) (ds : List Entry) → d w.control ≡ Pass → Along w (d ∷ ds) → (Along w ds → Fairly Fin None w ds) → Fairly Fin None w (d ∷ ds)
+    passed w k d ds is al go = fairly-entry Fin None w d ds Pass is (good-none w k.between.sound.rows) (go (comes w d ds Pass is al))
+
+    -- an entry that comes where the track can be sent
+    where-by : (w : World) → Sends w → (d : Entry) (ds : List Entry) → Along w (where_sent v u t d ∷ ds) → (Along w ds → Fairly Fin None w ds) → ((is : where_sent v u t d w.control ≡ d w.control) → Fairly Fin None w (where_sent v u t d ∷ ds)) → Fairly Fin None w (where_sent v u t d ∷ ds)
+    where-by w k d ds al pass go = by (sends_first v u t w.control) refl
+      where
+        by : (b : Bool) → sends_first v u t w.control ≡ b → Fairly Fin None w (where_sent v u t d ∷ ds)
+        by true is = go (ap (λ b. cond b (d w.control) Pass) is)
+        by false is = passed w k (where_sent v u t d) ds (ap (λ b. cond b (d w.control) Pass) is) al pass
+
+    strikes : (ds : List Entry) (w : World) → Sends w → Along w (where_sent v u t (strike_on v t) ∷ ds) → ((w : World) → Sends w → Along w ds → Fairly Fin None w ds) → Fairly Fin None w (where_sent v u t (strike_on v t) ∷ ds)
+    strikes ds w k al go = where-by w k (strike_on v t) ds al (go w k) (λ is.
+        let last : Bool = is_last (fields_at w.control v) t in
+        let m : Move = Strike v t last in
+        let one = comes w (where_sent v u t (strike_on v t)) ds (Do (Make m)) is al in
+        sends-move w k (where_sent v u t (strike_on v t)) m ds is one.0 (λ locked. false_true (sends-alone w k).locked locked) refl refl refl (λ f z. go (done w m f) z (one.1 f z.between.sound)))
+
+    stores : (ds : List Entry) (w : World) → Sends w → Along w (where_sent v u t (store_on v u t) ∷ where_sent v u t (strike_on v t) ∷ ds) → ((w : World) → Sends w → Along w ds → Fairly Fin None w ds)
+        → Fairly Fin None w (where_sent v u t (store_on v u t) ∷ where_sent v u t (strike_on v t) ∷ ds)
+    stores ds w k al go = where-by w k (store_on v u t) (where_sent v u t (strike_on v t) ∷ ds) al (λ al. strikes ds w k al go) (λ is.
+        let last : Bool = is_last (fields_at w.control v) t in
+        let m : Move = Store u t v last in
+        let one = comes w (where_sent v u t (store_on v u t)) (where_sent v u t (strike_on v t) ∷ ds) (Do (Make m)) is al in
+        sends-move w k (where_sent v u t (store_on v u t)) m (where_sent v u t (strike_on v t) ∷ ds) is one.0 (λ locked. false_true (sends-alone w k).locked locked) tt refl refl
+        (λ f z. strikes ds (done w m f) z (one.1 f z.between.sound) go))
+
+    keeps : (xs : List ℕ) (ds : List Entry) (w : World) → Sends w → let es : List Entry = map (where_sent v u t) (map (keep_on u t) xs ++ store_on v u t ∷ strike_on v t ∷ []) ++ ds in Along w es → ((w : World) → Sends w → Along w ds → Fairly Fin None w ds) → Fairly Fin None w es
+    keeps [] ds w k al go = stores ds w k al go
+    keeps (x ∷ xs) ds w k al go =
+        let rest : List Entry = map (where_sent v u t) (map (keep_on u t) xs ++ store_on v u t ∷ strike_on v t ∷ []) ++ ds in
+        where-by w k (keep_on u t x) rest al (λ al. keeps xs ds w k al go) (λ is. by (copies_from u g && not g.reversing) (not (contains g.own t)) (g.recorded && not (contains g.source_changes t)) is (λ w k al. keeps xs ds w k al go))
+      where
+        g : Fields
+        g = fields_at w.control x
+
+        d : Entry
+        d = where_sent v u t (keep_on u t x)
+
+        left : List Entry
+        left = map (where_sent v u t) (map (keep_on u t) xs ++ store_on v u t ∷ strike_on v t ∷ []) ++ ds
+
+        by : (p c r : Bool) → d w.control ≡ cond p (cond c (Do (Make (Keep x t))) (cond r (Do (Make (Note x t))) Pass)) Pass → ((w : World) → Sends w → Along w left → Fairly Fin None w left) → Fairly Fin None w (d ∷ left)
+        by true true r is rest =
+            let one = comes w d left (Do (Make (Keep x t))) is al in
+            sends-move w k d (Keep x t) left is one.0 tt tt refl refl (λ f z. rest (done w (Keep x t) f) z (one.1 f z.between.sound))
+        by true false true is rest =
+            let one = comes w d left (Do (Make (Note x t))) is al in
+            sends-move w k d (Note x t) left is one.0 tt tt refl refl (λ f z. rest (done w (Note x t) f) z (one.1 f z.between.sound))
+        by true false false is rest = passed w k d left is al (rest w k)
+        by false c r is rest = passed w k d left is al (rest w k)
+
+    collided : (volumes : List ℕ) (w : World) → Sends w → Along w (send_first volumes v u t ++ land_alone volumes n v t) → Fairly Fin None w (send_first volumes v u t ++ land_alone volumes n v t)
+    collided volumes w k al = by (is_some (send_refusal v u w.control)) refl
+      where
+        rest : List Entry
+        rest = map (where_sent v u t) (map (keep_on u t) volumes ++ store_on v u t ∷ strike_on v t ∷ []) ++ land_alone volumes n v t
+
+        d : Entry
+        d = suspend_where (send_refusal v u) v
+
+        lands : (w : World) → Sends w → Along w (land_alone volumes n v t) → Fairly Fin None w (land_alone volumes n v t)
+        lands w k al = alone volumes w (sends-alone w k) al
+
+        by : (b : Bool) → is_some (send_refusal v u w.control) ≡ b → Fairly Fin None w (d ∷ rest)
+        by true is =
+            let does : d w.control ≡ Do (Make (Suspend v false)) = ap (λ b. cond b (Do (Make (Suspend v false))) Pass) is in
+            let one = comes w d rest (Do (Make (Suspend v false))) does al in
+            sends-move w k d (Suspend v false) rest does one.0 tt tt refl refl (λ f z. keeps volumes (land_alone volumes n v t) (done w (Suspend v false) f) z (one.1 f z.between.sound) lands)
+        by false is = passed w k d rest (ap (λ b. cond b (Do (Make (Suspend v false))) Pass) is) al (λ al. keeps volumes (land_alone volumes n v t) w k al lands)
 
   -- it is stored on the secondary, and the track is out of sync until it has landed
   record Both (tag : Option ℕ) (w : World) : Type 0 where
@@ -253,15 +355,16 @@ module _ (p : Pending) (Fin : Option ℕ → World → Option Refusal → Type 0
             sym (and_from _ _ both.0 (and_from _ _ (ap not (not-suspended f.primary_state both.1)) (ap not clean))) ∙ none
         by false is = refl
 
-    abbrev ways : Bool → Bool → List Entry
-    ways h g = cond h [] (cond g (land_over w.control n v t) (land_alone w.control.volumes n v t))
+    abbrev ways : Bool → Bool → Bool → List Entry
+    ways h g c = cond h [] (cond g (land_over w.control n v t) (cond c (land_collided w.control n v t) (land_alone w.control.volumes n v t)))
 
-    ways-fair : (h g : Bool) → held f ≡ h → goes_over f t ≡ g → Along w (ways h g) → Fairly Fin None w (ways h g)
-    ways-fair true g hs gs al = fairly-nil Fin None w (good-none w k.sound.rows) (fin w None k)
-    ways-fair false true hs gs al =
+    ways-fair : (h g c : Bool) → held f ≡ h → goes_over f t ≡ g → collides f t ≡ c → Along w (ways h g c) → Fairly Fin None w (ways h g c)
+    ways-fair true g c hs gs cs al = fairly-nil Fin None w (good-none w k.sound.rows) (fin w None k)
+    ways-fair false true c hs gs cs al =
         let both = and_parts (is_metro f.primary) _ gs in
         over-by (or-none f.coordination f.long_busy hs).1 (going-state (is_suspended f.primary_state) (and_parts (not (is_suspended f.primary_state)) _ both.1).0) (is_parted w.control v) al
-    ways-fair false false hs gs al = alone w.control.volumes w (record { between = k; synced = not-synced gs; locked = calm-locked f (or-none f.coordination f.long_busy hs).1 (not-synced gs) }) al
+    ways-fair false false true hs gs cs al = collided (partner_of w.control v) w.control.volumes w (record { between = k; global = (and_parts (is_kind Global f.primary) _ cs).0 }) al
+    ways-fair false false false hs gs cs al = alone w.control.volumes w (record { between = k; synced = not-synced gs; locked = calm-locked f (or-none f.coordination f.long_busy hs).1 (not-synced gs) }) al
 
   pub landing-fair : (w : World) → Between w → One w → Fairly Fin None w (landing w.control n v t)
   landing-fair w k one =
@@ -269,18 +372,22 @@ module _ (p : Pending) (Fin : Option ℕ → World → Option Refusal → Type 0
       fairly-dropped Fin fin w k n (is_no_secondary v) _ _ (λ ps. refl) al (λ free al.
       fairly-dropped Fin fin w k n (is_open v) _ _ (λ ps. refl) al (λ open_to al.
       fairly-dropped Fin fin w k n (is_settled v) _ _ (λ ps. refl) al (λ settled al.
-      ways-fair w k one on (held (fields_at w.control v)) (goes_over (fields_at w.control v) t) refl refl al))))
+      ways-fair w k one on (held (fields_at w.control v)) (goes_over (fields_at w.control v) t) (collides (fields_at w.control v) t) refl refl refl al))))
 
 -- a plan that carries one out
-module _ (q : Plan) (p : Pending) (follows : q.follows ≡ part_after p.volume) where
+module _ (q : Plan) (p : Pending) (k0 : Control) (follows : q.follows ≡ after_write k0 p.volume p.track) (last : q.last ≡ same) where
   abbrev Fins : Option ℕ → World → Option Refusal → Type 0
   Fins = PlanFin Between rows-between answers-between q
 
   stops : (u : World) (s : ℕ) → Within p.volume p.track u → StopFin Fins u s u
-  stops u s k = subst (λ (g : ℕ → List Entry). Fairly (EndFin Between rows-between answers-between) None u (g s)) (sym follows) (part-fairly p.volume p.track u k s)
+  stops u s k = subst (λ (g : ℕ → List Entry). Fairly (EndFin Between rows-between answers-between) None u (g s)) (sym follows) (by (collides (fields_at k0 p.volume) p.track))
+    where
+      by : (c : Bool) → Fairly (EndFin Between rows-between answers-between) None u (cond c (suspend_after p.volume s) (part_after p.volume s))
+      by true = after-fairly p.volume p.track u k s
+      by false = part-fairly p.volume p.track u k s
 
   fins : (u : World) (r : Option Refusal) → Between u → Fins None u r
-  fins u None b = b
+  fins u None b = subst (λ (g : Control → Control). Between (record u { control = g u.control })) (sym last) b
   fins u (Some (StoppedIn s)) b = stops u s.0 (within-between p.volume p.track u b)
   fins u (Some r) b = b
 
@@ -295,15 +402,15 @@ module _ (w : World) (k : Between w) where
       record {
         told = Issue (w.control.issued + 1) v t offset len bytes ∷ [];
         begins = issued-unchanged w k.tidy v t offset len bytes;
-        entries = carried-fair (write_done w.control v t offset len bytes) new refl (issued w k.sound v t offset len bytes there.defined there.low)
+        entries = carried-fair (write_done w.control v t offset len bytes) new w.control refl refl (issued w k.sound v t offset len bytes there.defined there.low)
             (record { sound = sound-issued w k.sound v t offset len bytes there.defined there.low; tidy = issued-tidy w k.tidy v t offset len bytes }) (one-new w k.sound v t offset len bytes there.defined there.low);
-        last = λ k. refl;
+        last = λ k. (k.sessions, refl);
       }
 
   pub fair-applies : (n : ℕ) (p : Pending) → find (is_write n) w.control.pending ≡ Some p → Fair w (apply_done w.control p)
   fair-applies n p found = record {
     told = [];
     begins = told-unchanged w (as_begun w) [] refl tt (ap histories (append-nil w.events)) refl refl refl (λ v t. refl);
-    entries = carried-fair (apply_done w.control p) p refl (as_begun w) (begun-between w k) (found-alone n p w.control.pending found k.sound.queue.apart);
-    last = λ k. refl;
+    entries = carried-fair (apply_done w.control p) p w.control refl refl (as_begun w) (begun-between w k) (found-alone n p w.control.pending found k.sound.queue.apart);
+    last = λ k. (k.sessions, refl);
   }

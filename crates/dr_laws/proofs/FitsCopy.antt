@@ -1,5 +1,5 @@
 -- The background copy of a target, and its restore onto its source, are allowed along.
-use Rattle.std.proofs.Common.{ℕ, zero, suc, ◌≡◌, ◌≢◌, ◌<◌, ◌⊎◌, inl, inr, refl, ap, sym, ◌∙◌, subst, Bool, true, false, cond, not, ◌&&◌, List, [], ◌∷◌, ◌++◌, append_assoc, map, filter, Option, Some, None}
+use Rattle.std.proofs.Common.{ℕ, zero, suc, ◌≡◌, ◌≢◌, ◌<◌, ◌⊎◌, inl, inr, refl, ap, sym, ◌∙◌, subst, Bool, true, false, cond, not, ◌&&◌, ◌||◌, List, [], ◌∷◌, ◌++◌, append_assoc, map, filter, Option, Some, None}
 use Rattle.std.specs.Prelude.{slice_get}
 use Rattle.std.proofs.lemmas.Bool.{and_parts, eq-eqb, not-true}
 use Rattle.std.specs.List.{range_with_len}
@@ -9,12 +9,14 @@ use Rattle.dr_model.specs.Relations.{rest, in_order, lowest, is_bare, is_whole, 
 use Rattle.dr_model.specs.Control.{Volume, World, Fuse}
 use Rattle.dr_model.specs.Moves.{Fetch, Restore, Release, fields_left, moved, tracks_after}
 use Rattle.dr_model.specs.Carry.{Make, Pass, Do, Entry, now}
-use Rattle.dr_model.specs.Entries.{fields_at, is_running, keep_on, times, on_found, lowest_held, fetch_next, for_lowest, give_back}
+use Rattle.dr_model.specs.Entries.{fields_at, is_running, keep_on, times, on_found, lowest_held, fetch_next, for_lowest, give_back, takes_back}
 use Rattle.dr_model.specs.Plans.{is_defined, may_copy, may_give_back, at_most, left_to_copy, copy_plan}
 use Rattle.dr_model.specs.Laws.{Sound}
 use Rattle.dr_model.specs.Allowed.{Runs}
 use Rattle.dr_model.proofs.Images.{at_same, at_other}
 use Rattle.dr_laws.proofs.Sets.{none_some, if_true, in_rest, rest_low, empty_has, has_source}
+use Rattle.dr_model.specs.Table.{table}
+use Rattle.dr_laws.proofs.KeepsRecorders.{quiet-idle}
 use Rattle.dr_laws.proofs.RowsAfter.{idle}
 use Rattle.dr_laws.proofs.Turns.{done, next_of, carried_in}
 use Rattle.dr_laws.proofs.KeepsSound.{Along, Then, StepHolds, over, decides, checked}
@@ -72,6 +74,7 @@ module _ (v : ℕ) where
             forward = c.forward;
           };
           fits = tt;
+          group = tt;
           ready = idle w v s.queue c.on;
         },
         λ f k. let here : (done w (Fetch v t) f).control.volume v ≡ moved u (fields_left (Fetch v t) u) (carried_in w (Fetch v t)) = at_same w.control.volume v _ in
@@ -88,6 +91,7 @@ module _ (volumes : List ℕ) (v s : ℕ) where
     on : Runs w v
     related : from w v ≡ Some s
     reversing : (fields_at w.control v).reversing ≡ true
+    quiet : (fields_at w.control s).recording ≡ false
     volumes_are : w.control.volumes ≡ volumes
 
   -- it goes on, or nothing is left
@@ -107,6 +111,7 @@ module _ (volumes : List ℕ) (v s : ℕ) where
         on = (λ i. st.on i (a i).server) ∙ r.on;
         related = ap (λ (x : Volume). from_fields x.fields) a ∙ r.related;
         reversing = ap (λ (x : Volume). x.fields.reversing) a ∙ r.reversing;
+        quiet = ap (λ (x : Volume). x.fields.recording) (st.volume s (plain w x r)) ∙ r.quiet;
         volumes_are = st.volumes ∙ r.volumes_are;
       }
     where
@@ -127,8 +132,8 @@ module _ (volumes : List ℕ) (v s : ℕ) where
 
   -- the target gives the track up, once the source holds it
   module _ (t : ℕ) (more : List Entry) (go : (k : World) → Sound k → Going k → Along k more) where
-    given : (m : World) (g : Option Fuse) → Restoring m → Going (done m (Release v t) g)
-    given m g r = by (is_bare (given_up (fields_at m.control v) t).own) refl
+    given : (m : World) (g : Option Fuse) → v ≢ s → Restoring m → Going (done m (Release v t) g)
+    given m g ne r = by (is_bare (given_up (fields_at m.control v) t).own) refl
       where
         k : World
         k = done m (Release v t) g
@@ -150,6 +155,7 @@ module _ (volumes : List ℕ) (v s : ℕ) where
           on = ap (λ (x : Volume). m.control.on x.server) here ∙ r.on;
           related = ap (λ (x : Volume). cond x.fields.related (Some x.fields.source) None) here ∙ ended _ (fields_at m.control v).related (fields_at m.control v).source is ∙ r.related;
           reversing = ap (λ (x : Volume). x.fields.reversing) here ∙ turned _ (fields_at m.control v).reversing is ∙ r.reversing;
+          quiet = ap (λ (x : Volume). x.fields.recording) (at_other m.control.volume v _ s (λ e. ne (sym e))) ∙ r.quiet;
           volumes_are = r.volumes_are;
         })
 
@@ -164,6 +170,7 @@ module _ (volumes : List ℕ) (v s : ℕ) where
           on = ap (λ (x : Volume). k.control.on x.server) same ∙ r.on;
           related = ap (λ (x : Volume). cond x.fields.related (Some x.fields.source) None) same ∙ r.related;
           reversing = ap (λ (x : Volume). x.fields.reversing) same ∙ r.reversing;
+          quiet = ap (λ (x : Volume). x.fields.recording) (at_same k.control.volume s _) ∙ r.quiet;
           volumes_are = r.volumes_are;
         } in
         let is2 : lowest_held v m.control ≡ Some t = ap (λ (x : Volume). lowest x.tracks x.fields.own) same ∙ is in
@@ -172,9 +179,10 @@ module _ (volumes : List ℕ) (v s : ℕ) where
             runs = lasts.on;
             allowed = record { from = s; related = lasts.related; reversing = lasts.reversing; holds = lowest-in _ _ t is2; equal = bytes_s ∙ sym bytes_v };
             fits = tt;
+            group = tt;
             ready = idle m v x2.queue lasts.on;
           },
-          λ g x3. go _ x3 (given m g lasts),
+          λ g x3. go _ x3 (given m g ne lasts),
         )
 
     -- one track
@@ -186,15 +194,16 @@ module _ (volumes : List ℕ) (v s : ℕ) where
         let low : t < (w.control.volume s).tracks = subst (λ n. t < n) size ((x.rows.structure.lawful v).sets.own_low t held) in
         let stands : ((k : World) → Still w k → lowest_held v k.control ≡ Some t) = λ k st. ap (λ (x : Volume). lowest x.tracks x.fields.own) (st.spared v r.reversing) ∙ is in
         subst (λ vs. Along w (map (λ u. for_lowest v (λ t. keep_on s t u)) vs ++ for_lowest v (λ t. now (Restore s t v)) ∷ for_lowest v (λ t. now (Release v t)) ∷ more)) r.volumes_are
-        (copy-first s t w (plain w x r) low (runs-source w x v s r.related r.on) (λ u. for_lowest v (λ t. keep_on s t u)) (λ k u st. comes k (λ t. keep_on s t u) t (stands k st)) _
+        (copy-first s t w (plain w x r) low (runs-source w x v s r.related r.on) (λ u. for_lowest v (λ t. keep_on s t u)) (λ k u y st. comes k (λ t. keep_on s t u) t (stands k st)) _
         (λ k sk st kept.
         let rk = restoring-still w k x r st in
         let on_s : Runs k s = runs-source k sk v s rk.related rk.on in
         decides k (for_lowest v (λ t. now (Restore s t v))) _ (Do (Make (Restore s t v))) (comes k (λ t. now (Restore s t v)) t (stands k st)) (
           record {
             runs = on_s;
-            allowed = record { low = subst (λ (x : Volume). t < x.tracks) (sym (st.volume s (plain w x r))) low; related = rk.related; reversing = rk.reversing; holds = lowest-in _ _ t (stands k st); kept = kept };
+            allowed = record { low = subst (λ (x : Volume). t < x.tracks) (sym (st.volume s (plain w x r))) low; related = rk.related; reversing = rk.reversing; holds = lowest-in _ _ t (stands k st); kept = kept; idle = rk.quiet };
             fits = tt;
+            group = tt;
             ready = idle k s sk.queue on_s;
           },
           λ f x2. releases k f sk rk (stands k st) x2,
@@ -220,10 +229,10 @@ module _ (w : World) (x : Sound w) (t : ℕ) where
   abbrev begins : Sound first
   begins = sound-begun w x
 
-  copies-by : (n : ℕ) → Runs first t → (fields_at w.control t).related ≡ true → (r : Bool) → (fields_at w.control t).reversing ≡ r
+  copies-by : (n : ℕ) → Runs first t → (fields_at w.control t).related ≡ true → (r : Bool) → (fields_at w.control t).reversing ≡ r → (not r || takes_back (fields_at w.control t).source w.control) ≡ true
       → Along first (times n (cond r (give_back w.control.volumes (fields_at w.control t).source t) (fetch_next t ∷ [])))
-  copies-by n on related false is = fetches t n first begins (record { on = on; forward = is })
-  copies-by n on related true is = rounds w.control.volumes t (fields_at w.control t).source n first begins (inl (record { on = on; related = has_source _ _ related; reversing = is; volumes_are = refl }))
+  copies-by n on related false is back = fetches t n first begins (record { on = on; forward = is })
+  copies-by n on related true is back = rounds w.control.volumes t (fields_at w.control t).source n first begins (inl (record { on = on; related = has_source _ _ related; reversing = is; quiet = quiet-idle (table w (fields_at w.control t).source) (x.rows.recorders (fields_at w.control t).source) back; volumes_are = refl }))
 
   pub along-copy : (most : Option ℕ) → Along first (copy_plan w.control t most).entries
   along-copy most =
@@ -231,7 +240,7 @@ module _ (w : World) (x : Sound w) (t : ℕ) where
       checked first (is_running t) _ _ begins (λ on.
       checked first (may_copy t) _ _ begins (λ may.
       checked first (may_give_back t) _ _ begins (λ back.
-      copies-by (at_most most (left_to_copy w.control t)) on (and_parts (fields_at w.control t).related _ may).0 _ refl))))
+      copies-by (at_most most (left_to_copy w.control t)) on (and_parts (fields_at w.control t).related _ may).0 _ refl back))))
 
   pub holds-copy : (most : Option ℕ) → StepHolds w (copy_plan w.control t most)
   holds-copy most = holds-entries w _ _ x (along-copy most)

@@ -109,6 +109,7 @@ module _ (w : World) (x : Sound w) where
           no_secondary = no_part.1;
         };
         fits = ltb-true (length (targets_of w.control s)) most_targets few;
+        group = tt;
         ready = idle first t begins.queue on_t;
       }) (λ f j. over _ j))))))))))
 
@@ -121,7 +122,7 @@ module _ (w : World) (x : Sound w) where
       checked first (is_plain_target s t) _ _ begins (λ target.
       let plain = plain-target first s t target in
       let on_t : Runs first t = runs-target first begins t s plain.related on in
-      moves first (Withdraw t) [] (record { runs = on_t; allowed = record { from = s; related = plain.related; forward = plain.forward }; fits = tt; ready = idle first t begins.queue on_t }) (λ f j. over _ j)))
+      moves first (Withdraw t) [] (record { runs = on_t; allowed = record { from = s; related = plain.related; forward = plain.forward }; fits = tt; group = tt; ready = idle first t begins.queue on_t }) (λ f j. over _ j)))
 
   pub holds-withdraw : (dev : Option Name) (s t : ℕ) → StepHolds w (withdraw_plan w.control dev s t)
   holds-withdraw dev s t = holds-entries w _ _ x (along-withdraw dev s t)
@@ -132,7 +133,7 @@ module _ (w : World) (x : Sound w) where
       checked first (is_recorded_target s t) _ _ begins (λ target.
       let may = may-resync first s t target in
       let on_t : Runs first t = runs-target first begins t s may.related on in
-      moves first (Resync t sequence) [] (record { runs = on_t; allowed = may; fits = tt; ready = idle first t begins.queue on_t }) (λ f j. over _ j)))
+      moves first (Resync t sequence) [] (record { runs = on_t; allowed = may; fits = tt; group = tt; ready = idle first t begins.queue on_t }) (λ f j. over _ j)))
 
   pub holds-resync : (dev : Option Name) (s t : ℕ) (sequence : Option ℕ) → StepHolds w (resync_plan w.control dev s t sequence)
   holds-resync dev s t sequence = holds-entries w _ _ x (along-resync dev s t sequence)
@@ -157,7 +158,7 @@ module _ (w : World) (x : Sound w) where
       checked first (may_return s) _ _ begins (λ returns.
       let may = may-resync first s t target in
       let on_t : Runs first t = runs-target first begins t s may.related on in
-      moves first (Reverse t) [] (record { runs = on_t; allowed = record { resync = may; free = not-true (is_part (fields_at w.control s).secondary) (and_parts (is_no_secondary s w.control) _ returns).0; alone = lone s t may.forward free }; fits = tt; ready = idle first t begins.queue on_t }) (λ f j. over _ j)))))
+      moves first (Reverse t) [] (record { runs = on_t; allowed = record { resync = may; free = not-true (is_part (fields_at w.control s).secondary) (and_parts (is_no_secondary s w.control) _ returns).0; alone = lone s t may.forward free }; fits = tt; group = tt; ready = idle first t begins.queue on_t }) (λ f j. over _ j)))))
 
   pub holds-reverse : (dev : Option Name) (s t : ℕ) → StepHolds w (reverse_plan w.control dev s t)
   holds-reverse dev s t = holds-entries w _ _ x (along-reverse dev s t)

@@ -26,7 +26,7 @@ module _ (l m : ℕ) where
   -- each is suspended, and long busy
   freezes-by : (w : World) (v : ℕ) (more : World → Type 0) → Sound w → ((k : World) → Sound k → more k) → (b : Bool) → is_between w.control l m v ≡ b → Then w (cond b (Do (Make (Suspend v true))) Pass) more
   freezes-by w v more s go false is = go w s
-  freezes-by w v more s go true is = let primary = between w v is in (record { runs = primary.0; allowed = primary.1; fits = tt; ready = idle w v s.queue primary.0 }, λ f y. go _ y)
+  freezes-by w v more s go true is = let primary = between w v is in (record { runs = primary.0; allowed = primary.1; fits = tt; group = tt; ready = idle w v s.queue primary.0 }, λ f y. go _ y)
 
   pub freezes : (vs : List ℕ) (w : World) → Sound w → Along w (map (freeze_on l m) vs ++ end_freeze l m ∷ [])
   freezes [] w s = decides w (end_freeze l m) [] (Do (EndFreeze l m)) refl (tt, λ f y. over _ y)
@@ -36,7 +36,7 @@ module _ (l m : ℕ) where
   thaws-by : (w : World) (v : ℕ) (more : World → Type 0) → Sound w → ((k : World) → Sound k → more k) → (b : Bool) → (is_between w.control l m v && (fields_at w.control v).long_busy) ≡ b → Then w (cond b (Do (Make (Thaw v))) Pass) more
   thaws-by w v more s go false is = go w s
   thaws-by w v more s go true is =
-      let primary = between w v (and_parts (is_between w.control l m v) _ is).0 in (record { runs = primary.0; allowed = tt; fits = tt; ready = idle w v s.queue primary.0 }, λ f y. go _ y)
+      let primary = between w v (and_parts (is_between w.control l m v) _ is).0 in (record { runs = primary.0; allowed = tt; fits = tt; group = tt; ready = idle w v s.queue primary.0 }, λ f y. go _ y)
 
   pub thaws : (vs : List ℕ) (w : World) → Sound w → Along w (map (thaw_on l m) vs ++ end_thaw l m ∷ [])
   thaws [] w s = decides w (end_thaw l m) [] (Do (EndThaw l m)) refl (tt, λ f y. over _ y)
@@ -55,7 +55,7 @@ module _ (x : ℕ) where
   lifts-by w v more s on go false is = go w s on
   lifts-by w v more s on go true is =
       let own : (w.control.volume v).server ≡ x = eqb-true (w.control.volume v).server x (and_parts (is_volume w.control v) _ (and_parts (belongs w.control x v) _ is).0).1 in
-      let runs : Runs w v = ap w.control.on own ∙ on in (record { runs = runs; allowed = tt; fits = tt; ready = idle w v s.queue runs }, λ f y. go _ y on)
+      let runs : Runs w v = ap w.control.on own ∙ on in (record { runs = runs; allowed = tt; fits = tt; group = tt; ready = idle w v s.queue runs }, λ f y. go _ y on)
 
   pub lifts : (vs : List ℕ) (w : World) → Sound w → w.control.on x ≡ true → Along w (map (lift_on x) vs)
   lifts [] w s on = over w s

@@ -6,7 +6,7 @@ use Rattle.std.proofs.lemmas.List.{append-nil, length-append}
 use Rattle.dr_ids.specs.declared.refusal.Refusal.{Refusal}
 use Rattle.dr_ids.specs.declared.refusal.Refusal.TheVariants.{Stopped as StoppedIn}
 use Rattle.dr_model.specs.declared.event.Event.{Event}
-use Rattle.dr_model.specs.declared.event.Event.TheVariants.{Issue, Ack, Blanked, Restored, Stopped, Suspended, Started, Frozen, Thawed, Answer}
+use Rattle.dr_model.specs.declared.event.Event.TheVariants.{Issue, Ack, Blanked, Restored, Stopped, Suspended, Started, Frozen, Thawed, Begin, Cut, Answer}
 use Rattle.dr_model.specs.declared.said.Said.{Said}
 use Rattle.dr_model.specs.declared.said.Said.TheVariants.{Done}
 use Rattle.dr_model.specs.declared.said.Addition.TheVariants.{Alone, Wrote, Showed}
@@ -18,12 +18,15 @@ use Rattle.dr_model.specs.Layout.{Tracks}
 use Rattle.dr_model.specs.Tables.{at}
 use Rattle.dr_model.specs.Relations.{rest, in_order, is_bare, turned, given_up}
 use Rattle.dr_model.specs.Pairs.{is_suspended}
-use Rattle.dr_model.specs.Moves.{Move, Land, Overwrite, Keep, Note, Relate, Withdraw, Fetch, Resync, Reverse, Restore, Release, Store, Strike, Suspend, MakeSecondary, MakePrimary, DropPrimary, DropSecondary, Follow, Resume, TakeOver, Unsync, Mirror, LandBoth, Thaw, Lift, Restart, told_blank, told_restored, told, told_in_stop, landed, target, settled, settled_in_stop, is_other, marked}
-use Rattle.dr_model.specs.Carry.{Act, Make, Redo, Acknowledge, Drop, EndFreeze, EndThaw, act, Next, Pass, Do, End, Entry, Outcome, carry, continue, go, follow}
+use Rattle.dr_model.specs.Moves.{Move, Land, Overwrite, Keep, Note, Relate, Withdraw, Fetch, Resync, Reverse, Restore, Release, Store, Strike, Suspend, MakeSecondary, MakePrimary, DropPrimary, DropSecondary, Follow, Resume, TakeOver, Unsync, Mirror, LandBoth, Thaw, Lift, Restart, Hold, Free, Seal, Finish, RaiseAttempt, RaiseFloor, Leave, told_blank, told_restored, told, told_in_stop, landed, target, settled, settled_in_stop, is_other, marked}
+use Rattle.dr_model.specs.Carry.{Act, Make, OpenAttempt, Redo, Acknowledge, Drop, EndFreeze, EndThaw, act, Next, Pass, Do, End, Entry, Outcome, carry, continue, go, follow}
 use Rattle.dr_model.specs.Plans.{Plan, plan, entries_plan, name_bytes, same, always, none_follow, server_done, volume_done, link_done, with_pending, issue_done, show_done, stop_done, arm_on, starting, start_plan, path_done, unpath_done}
 use Rattle.dr_model.specs.Runs.{Task, begun, finish, carried_out, answered, after_plan, after_task, after_tasks, run}
+use Rattle.dr_model.specs.Sessions.{Session, joined, left, changed, mirrored_by, paused, unmirrored}
+use Rattle.dr_model.specs.SessionEntries.{members_on}
+use Rattle.dr_model.specs.SessionPlans.{with_sessions, table_plan, says_phase, answered_by}
 use Rattle.dr_laws.specs.Limits.{IsWithin}
-use Rattle.dr_laws.proofs.Cases.{Case, Says, Defines, Adds, Links, Issues, Writes, Applies, Shows, Stops, Arms, Starts, Flashes, Withdraws, Resyncs, Reverses, Copies, Paths, Unpaths, MakesPair, RemovesPair, Pauses, ResumesPair, Drains, Expires, Freezes, Thaws, plan-case, servers-left, is-new, may-issue}
+use Rattle.dr_laws.proofs.Cases.{Case, Says, Defines, Adds, Links, Issues, Writes, Applies, Shows, Stops, Arms, Starts, Flashes, Withdraws, Resyncs, Reverses, Copies, Paths, Unpaths, MakesPair, RemovesPair, Pauses, ResumesPair, Drains, Expires, Freezes, Thaws, JoinsSession, LeavesSession, Mirrors, PausesMirror, Unmirrors, Aborts, AddsMember, Expels, Exchanges, aborted, plan-case, servers-left, is-new, may-issue}
 use Rattle.dr_laws.proofs.AtLemmas.{at_cases, at_part}
 use Rattle.dr_laws.proofs.Turns.{act-cases, Counts, after_act, server_of}
 
@@ -56,6 +59,9 @@ pub record Onward (w u : World) : Type 0 where
 
 stays-same : (k : Control) → Stays k k
 stays-same k = record { servers = refl; tracks = λ v. refl; volumes = refl; issued = refl; pending = omega arith }
+
+stays-sessions : (f : List Session → List Session) (k : Control) → Stays k (with_sessions f k)
+stays-sessions f k = record { servers = refl; tracks = λ v. refl; volumes = refl; issued = refl; pending = omega arith }
 
 stays-then : (i j k : Control) → Stays i j → Stays j k → Stays i k
 stays-then i j k p q = record {
@@ -118,6 +124,10 @@ suspended-silent : (none : Bool) (v : ℕ) → Silent (cond none [] (Suspended v
 suspended-silent true v = refl
 suspended-silent false v = refl
 
+held-silent : (first : Bool) (v s n : ℕ) → Silent (cond first (Begin s n ∷ Cut s n v ∷ []) (Cut s n v ∷ []))
+held-silent true v s n = refl
+held-silent false v s n = refl
+
 tells-silent : (m : Move) (u : Volume) → Silent (told m u)
 tells-silent (Land n v t) u = refl
 tells-silent (Overwrite n v t) u = refl
@@ -146,6 +156,13 @@ tells-silent (LandBoth n v t) u = refl
 tells-silent (Thaw v) u = refl
 tells-silent (Lift v) u = refl
 tells-silent (Restart v) u = refl
+tells-silent (Hold v s n first) u = held-silent first v s n
+tells-silent (Free v) u = refl
+tells-silent (Seal v a s n) u = refl
+tells-silent (Finish v n) u = refl
+tells-silent (RaiseAttempt v n) u = refl
+tells-silent (RaiseFloor v n) u = refl
+tells-silent (Leave v a s) u = refl
 
 in_stop-silent : (m : Move) (u : Volume) → Silent (told_in_stop m u)
 in_stop-silent (Land n v t) u = refl
@@ -161,6 +178,9 @@ done-onward : (w : World) (a : Act) (f : Option Fuse) → Onward w (after_act w 
 done-onward w (Make m) f =
     let u : Volume = w.control.volume (target m) in
     record { stays = record { servers = refl; tracks = move-tracks w m _ refl; volumes = refl; issued = refl; pending = settled-fewer m w.control.pending }; added = told m u; events = refl; silent = tells-silent m u }
+done-onward w (OpenAttempt v s n) f =
+    let m : Move = Hold v s n true in
+    let u : Volume = w.control.volume v in record { stays = record { servers = refl; tracks = move-tracks w m _ refl; volumes = refl; issued = refl; pending = omega arith }; added = told m u; events = refl; silent = tells-silent m u }
 done-onward w (Redo v) f = record { stays = record { servers = refl; tracks = λ v. refl; volumes = refl; issued = refl; pending = omega arith }; added = []; events = sym (append-nil w.events); silent = refl }
 done-onward w (Acknowledge n) f = record { stays = record { servers = refl; tracks = λ v. refl; volumes = refl; issued = refl; pending = filter-fewer (is_other n) w.control.pending }; added = Ack n ∷ []; events = refl; silent = refl }
 done-onward w (Drop n) f = record { stays = record { servers = refl; tracks = λ v. refl; volumes = refl; issued = refl; pending = filter-fewer (is_other n) w.control.pending }; added = []; events = sym (append-nil w.events); silent = refl }
@@ -175,6 +195,15 @@ counts-onward w (Make m) = λ f.
       added = told_in_stop m u ++ Stopped u.server (landed m) ∷ [];
       events = refl;
       silent = silent-append (told_in_stop m u) (Stopped u.server (landed m) ∷ []) (in_stop-silent m u) refl;
+    }
+counts-onward w (OpenAttempt v s n) = λ f.
+    let m : Move = Hold v s n true in
+    let u : Volume = w.control.volume v in
+    record {
+      stays = record { servers = refl; tracks = move-tracks w m _ refl; volumes = refl; issued = refl; pending = omega arith };
+      added = told_in_stop m u ++ Stopped u.server 0 ∷ [];
+      events = refl;
+      silent = silent-append (told_in_stop m u) (Stopped u.server 0 ∷ []) (in_stop-silent m u) refl;
     }
 counts-onward w (Redo v) = tt
 counts-onward w (Acknowledge n) = tt
@@ -316,6 +345,19 @@ module _ (k : Control) where
   case-modest events line _ (Expires s on) = entries-modest _ _
   case-modest events line _ (Freezes l m) = entries-modest _ _
   case-modest events line _ (Thaws l m) = entries-modest _ _
+  case-modest events line _ (JoinsSession l s free) = quiet (table_plan (joined s l)).first [] [] (always (Done Alone)) refl unmoved refl
+  case-modest events line _ (LeavesSession l s x found free) = quiet (table_plan (left s l)).first [] [] (always (Done Alone)) refl unmoved refl
+  case-modest events line _ (Mirrors owner s x found free) = quiet (table_plan (changed s (mirrored_by owner))).first [] [] (always (Done Alone)) refl unmoved refl
+  case-modest events line _ (PausesMirror s on) = quiet (table_plan (changed s (paused on))).first [] [] (always (Done Alone)) refl unmoved refl
+  case-modest events line _ (Unmirrors s x found free) = quiet (table_plan (changed s unmirrored)).first [] [] (always (Done Alone)) refl unmoved refl
+  case-modest events line _ (Aborts s x found free) = quiet (aborted s).first [] [] (says_phase s) refl unmoved refl
+  case-modest events line _ (AddsMember s a c x joins) = record { one = omega arith; within = λ h. h; last = stays-sessions _; silent = refl }
+  case-modest events line _ (Expels s a x m found is idle on) = record { one = omega arith; within = λ h. h; last = stays-sessions _; silent = refl }
+  case-modest events line _ (Exchanges s server reply x r o allowed) = record { one = omega arith; within = λ h. h; last = by reply; silent = refl }
+    where
+      by : (b : Bool) (j : Control) → Stays j (cond b (answered_by s server o.work (members_on server x.members)) same j)
+      by true j = record { servers = refl; tracks = λ v. refl; volumes = refl; issued = refl; pending = omega arith }
+      by false j = stays-same j
 
 pub plan-modest : (k : Control) (events : List Event) (line : ℕ) (asked : Result Step ℕ) → Modest k (plan k events line asked)
 plan-modest k events line asked = case-modest k events line _ (plan-case k events line asked)
@@ -327,7 +369,7 @@ pub modest-in : (w : World) (t : Task) → Modest w.control (plan-in w t)
 modest-in w t = plan-modest w.control w.events t.line t.asked
 
 pub after_task-ends : (w : World) (t : Task) → EndsAnswered w t.line (after_task w t)
-after_task-ends w t = after_plan-ends w t.line (plan-in w t) (modest-in w t)
+after_task-ends w t = let e = after_plan-ends w t.line (plan-in w t) (modest-in w t) in record { before = e.before; silent = e.silent; says = e.says; events = e.events }
 
 pub after_task-grows : (w : World) (t : Task) → (es : List Event) × ((after_task w t).events ≡ w.events ++ es)
 after_task-grows w t =

@@ -9,7 +9,7 @@ use Rattle.dr_model.specs.Layout.{Tracks, Fields}
 use Rattle.dr_model.specs.Histories.{Write}
 use Rattle.dr_model.specs.Views.{source_of, view}
 use Rattle.dr_model.specs.Relations.{rest, is_bare, is_whole, parted_if, fetched, withdrawn_if, turned, given_up}
-use Rattle.dr_model.specs.Pairs.{altered, received, mirrored, synced}
+use Rattle.dr_model.specs.Pairs.{altered, written, received, mirrored, synced}
 use Rattle.dr_model.specs.Moves.{Move, Land, Overwrite, Keep, Relate, Withdraw, Fetch, Resync, Reverse, Restore, Release, Store, Mirror, LandBoth, Carried, target, moved}
 use Rattle.dr_model.specs.Table.{Row, Table}
 use Rattle.dr_model.specs.Rows.{after, emptied, contents_of, carried_on}
@@ -192,7 +192,7 @@ module _ (write : ℕ → Write) (T : Table) (structure : Structure T) (parts : 
   with m = carried_on write m T
 
   pub kept-images : (m : Move) → Allowed write T m → Images (after write T m)
-  kept-images (Land w v t) a = images-at T v _ images (stored v t (altered (fields T v) t) (with (Land w v t)) _ _ refl a.plain a.defined a.plain a.kept (λ lt. ap (λ b. with_write write b w) (images.plain v a.plain t lt)))
+  kept-images (Land w v t) a = images-at T v _ images (stored v t (written (fields T v) t) (with (Land w v t)) _ _ refl a.plain a.defined a.plain a.kept (λ lt. ap (λ b. with_write write b w) (images.plain v a.plain t lt)))
   kept-images (Overwrite w v t) a = images-at T v _ images (taken-owes v t a.from a.related _ (at (T v).due t (with_write write ((T v).due t) w))
       (λ lt. ap (λ b. with_write write b w) (shows v t a.from a.related lt) ∙ sym (at_same (T v).due t _)) (λ q ne. at_other (T v).due t _ q ne) _ _ (with (Overwrite w v t)))
   kept-images (Keep v t) a = images-at T v _ images (taken-owes v t a.from a.related _ (T v).due (old-track v t a) (λ q ne. refl) _ _ (with (Keep v t)))

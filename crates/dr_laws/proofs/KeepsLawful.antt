@@ -1,11 +1,11 @@
 -- Each kind of move leaves lawful fields.
-use Rattle.std.proofs.Common.{ℕ, ◌≡◌, ◌<◌, ◌∙◌, refl, Bool, true, false, cond, ◌||◌, Option}
+use Rattle.std.proofs.Common.{ℕ, ◌≡◌, ◌<◌, ◌∙◌, refl, ap, Bool, true, false, cond, not, ◌&&◌, ◌||◌, Option}
 use Rattle.std.specs.FinSet.{insert, remove, union, empty}
 use Rattle.dr_model.specs.declared.state.Part.{Part}
 use Rattle.dr_model.specs.declared.state.PairState.{PairState}
 use Rattle.dr_model.specs.Layout.{Tracks, Fields, is_part}
 use Rattle.dr_model.specs.Lawful.{Low, HasSets, NoPrimary, NoSecondary, NoRelation, IsLawful}
-use Rattle.dr_model.specs.Pairs.{altered, is_engaged, is_torn, suspended, made_secondary, made_primary, no_primary, no_secondary, received, struck, resumed, taken_over, unsynced, mirrored, synced, thawed, lifted, restarted}
+use Rattle.dr_model.specs.Pairs.{altered, written, held_for, freed, sealed, past_attempt, with_attempt, with_floor, no_member, is_engaged, is_torn, suspended, made_secondary, made_primary, no_primary, no_secondary, received, struck, resumed, taken_over, unsynced, mirrored, synced, thawed, lifted, restarted}
 use Rattle.dr_model.specs.Relations.{Choices, rest, parted_if, fetched, noted, rewritten, made, withdrawn_if, resynced, turned, given_up}
 use Rattle.dr_laws.proofs.Sets.{false_true, if_false, in_cond, in_none, in_more, remove_from, rest_low, low_all, from_difference, from_union}
 
@@ -154,12 +154,14 @@ module _ (n : ℕ) (f : Fields) (law : IsLawful n f) where
         coordination = g.coordination;
         long_busy = g.long_busy;
         recording = g.recording;
+        attempt = g.attempt;
         out_of_sync = g.out_of_sync;
         change_recording = g.change_recording;
         secondary = g.secondary;
         secondary_state = g.secondary_state;
         secondary_partner = g.secondary_partner;
         seal = g.seal;
+        floor = g.floor;
         blank = g.blank;
       })
   lawful-paired g first second blank primary secondary = record {
@@ -184,6 +186,14 @@ module _ (n : ℕ) (f : Fields) (law : IsLawful n f) where
   pub lawful-altered : (t : ℕ) → t < n → IsLawful n (altered f t)
   lawful-altered t lt = lawful-paired (altered f t) (in_cond (is_part f.primary) _ _ (λ q. q < n) (in_more f.out_of_sync t (λ q. q < n) lt old.out_of_sync_low) old.out_of_sync_low)
       old.change_recording_low (blank-less t) (λ h. let o = law.primary h in (o.0, o.1, o.2, o.3, o.4, if_false _ _ h ∙ o.5, o.6)) law.secondary
+
+  -- a host write lands, which of a primary that records is a change
+  low-more : (e : Bool) (s : Tracks) (t : ℕ) → t < n → Low n s → Low n (cond e (insert s t) s)
+  low-more e s t lt low = in_cond e (insert s t) s (λ q. q < n) (in_more s t (λ q. q < n) lt low) low
+
+  pub lawful-written : (t : ℕ) → t < n → IsLawful n (written f t)
+  lawful-written t lt = lawful-paired (written f t) (low-more (is_part f.primary && not f.recording) f.out_of_sync t lt old.out_of_sync_low) (low-more (is_part f.primary && f.recording) f.change_recording t lt old.change_recording_low)
+      (blank-less t) (λ h. let o = law.primary h in (o.0, o.1, o.2, o.3, o.4, if_false _ _ (ap (λ b. b && not f.recording) h) ∙ o.5, if_false _ _ (ap (λ b. b && f.recording) h) ∙ o.6)) law.secondary
 
   -- a secondary stores a track, its primary strikes it off
   pub lawful-received : (last : Bool) (t : ℕ) → is_part f.secondary ≡ true → IsLawful n (received last f t)
@@ -247,3 +257,43 @@ module _ (n : ℕ) (f : Fields) (law : IsLawful n f) where
       let o = law.primary h in
       let e : is_engaged f ≡ false = λ i. o.4 i || o.2 i in
       (one_either_way (is_torn f) _ _ o.0, o.1, refl, o.3, refl, if_false _ _ e ∙ o.5, if_false _ _ e ∙ o.6)) law.secondary
+
+  -- a primary is held for an attempt and let go, and the attempt is over; a secondary is sealed; numbers are raised
+  pub lawful-held : (i : ℕ) → is_part f.primary ≡ true → IsLawful n (held_for i f)
+  lawful-held i is = lawful-paired (held_for i f) old.out_of_sync_low (in_none _) old.blank_low (λ h. false_true h is) law.secondary
+
+  pub lawful-freed : IsLawful n (freed f)
+  lawful-freed = lawful-paired (freed f) old.out_of_sync_low old.change_recording_low old.blank_low (λ h. let o = law.primary h in (o.0, o.1, refl, o.3, o.4, o.5, o.6)) law.secondary
+
+  pub lawful-past_attempt : (i : ℕ) → IsLawful n (past_attempt i f)
+  lawful-past_attempt i = lawful-paired (past_attempt i f) (low-voided (is_engaged f)) (low-if (is_engaged f) _ old.change_recording_low) old.blank_low
+      (λ h.
+      let o = law.primary h in
+      let e : is_engaged f ≡ false = λ i. o.4 i || o.2 i in
+      (o.0, o.1, refl, o.3, refl, if_false _ _ e ∙ o.5, if_false _ _ e ∙ o.6)) law.secondary
+
+  pub lawful-sealed : (i : ℕ) → is_part f.secondary ≡ true → IsLawful n (sealed i f)
+  lawful-sealed i is = lawful-paired (sealed i f) old.out_of_sync_low old.change_recording_low old.blank_low law.primary (λ h. false_true h is)
+
+  pub lawful-attempt : (i : ℕ) → IsLawful n (with_attempt i f)
+  lawful-attempt i = lawful-paired (with_attempt i f) old.out_of_sync_low old.change_recording_low old.blank_low law.primary law.secondary
+
+  pub lawful-floor : (i : ℕ) → IsLawful n (with_floor i f)
+  lawful-floor i = lawful-paired (with_floor i f) old.out_of_sync_low old.change_recording_low old.blank_low law.primary law.secondary
+
+  -- a target is no member's
+  pub lawful-no_member : IsLawful n (no_member f)
+  lawful-no_member = record {
+    sets = record {
+      out_of_sync_low = old.out_of_sync_low;
+      change_recording_low = old.change_recording_low;
+      own_low = old.own_low;
+      previous_own_low = old.previous_own_low;
+      source_changes_low = old.source_changes_low;
+      target_changes_low = old.target_changes_low;
+      blank_low = old.blank_low;
+    };
+    primary = law.primary;
+    secondary = law.secondary;
+    relation = λ h. let o = law.relation h in (o.0, o.1, o.2, o.3, o.4, o.5, o.6, o.7, o.8, o.9, o.10, o.11, o.12, refl, refl);
+  }

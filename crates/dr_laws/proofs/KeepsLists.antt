@@ -6,13 +6,13 @@ use Rattle.std.proofs.lemmas.Bool.{ne_eqb, eq-eqb, or_left, or_right}
 use Rattle.std.proofs.lemmas.Bool.Decides.{eqb_tells}
 use Rattle.std.specs.List.{list_any, fold}
 use Rattle.dr_model.specs.declared.event.Event.{Event}
-use Rattle.dr_model.specs.declared.event.Event.TheVariants.{Volume as VolumeDefined, Issue, Ack, Mirrored, Sent, Flashed, Reverted, Set, Back, Blanked, Restored, Suspended, Stopped}
+use Rattle.dr_model.specs.declared.event.Event.TheVariants.{Volume as VolumeDefined, Issue, Ack, Mirrored, Sent, Flashed, Reverted, Set, Back, Blanked, Restored, Suspended, Stopped, Begin, Cut}
 use Rattle.dr_model.specs.Histories.{Write, Histories, histories, lists, joined, after_event}
 use Rattle.dr_model.specs.Layout.{Tracks, is_part}
 use Rattle.dr_model.specs.Relations.{rest, in_order, is_bare, turned, given_up}
 use Rattle.dr_model.specs.Control.{Volume, World}
 use Rattle.dr_model.specs.Pairs.{is_suspended}
-use Rattle.dr_model.specs.Moves.{Move, Land, Overwrite, Keep, Relate, Withdraw, Fetch, Resync, Reverse, Restore, Release, Store, Suspend, TakeOver, Mirror, LandBoth, told, told_in_stop, told_blank}
+use Rattle.dr_model.specs.Moves.{Move, Land, Overwrite, Keep, Relate, Withdraw, Fetch, Resync, Reverse, Restore, Release, Store, Suspend, TakeOver, Mirror, LandBoth, Hold, Seal, Leave, told, told_in_stop, told_blank}
 use Rattle.dr_model.specs.Entries.{fields_at}
 use Rattle.dr_model.specs.Table.{table}
 use Rattle.dr_model.specs.Laws.{SoundRows, source}
@@ -159,6 +159,10 @@ apart-suspended : (v : ℕ) (b : Bool) (x : ℕ) → AllApart v (cond b [] (Susp
 apart-suspended v true x = tt
 apart-suspended v false x = (tt, tt)
 
+apart-held : (v : ℕ) (b : Bool) (x s n : ℕ) → AllApart v (cond b (Begin s n ∷ Cut s n x ∷ []) (Cut s n x ∷ []))
+apart-held v true x s n = (tt, (tt, tt))
+apart-held v false x s n = (tt, tt)
+
 -- no restore stores a track of v
 abbrev pub NoRestore : ℕ → Move → Type 0
 NoRestore v (Restore x t u) = v ≢ x
@@ -190,6 +194,9 @@ module _ (v q : ℕ) (w : World) (rows : SoundRows (table w)) (st : Stays v q w)
   apart-told (Keep x t) a off u = (tt, tt)
   apart-told (Fetch x t) a off u = (tt, tt)
   apart-told (TakeOver x) a off u = (tt, tt)
+  apart-told (Hold x s n first) a off u = apart-held v first x s n
+  apart-told (Seal x y s n) a off u = (tt, tt)
+  apart-told (Leave x y s) a off u = (tt, tt)
   apart-told m a off u = tt
 
   pub apart-stop : (m : Move) → Allowed (histories w.events).write (table w) m → NoRestore v m → (u : Volume) (s k : ℕ) → AllApart v (told_in_stop m u ++ Stopped s k ∷ [])

@@ -16,7 +16,6 @@ use Rattle.dr_model.specs.Moves.{Move, Mirror, LandBoth, moved, tracks_after}
 use Rattle.dr_model.specs.Entries.{fields_at}
 use Rattle.dr_model.specs.Table.{table, waiting}
 use Rattle.dr_model.specs.Laws.{SoundRows}
-use Rattle.dr_model.specs.Allowed.{May}
 use Rattle.dr_model.proofs.Images.{at_same, at_other}
 use Rattle.dr_laws.specs.Windows.{is_ack, unacked_on}
 use Rattle.dr_laws.proofs.AtLemmas.{at_part, Told}
@@ -24,7 +23,7 @@ use Rattle.dr_laws.proofs.Sets.{false_true, from_source}
 use Rattle.dr_laws.proofs.Turns.{next_of, carried_in}
 use Rattle.dr_laws.proofs.RowsAfter.{calm, changed, bytes-after}
 use Rattle.dr_laws.proofs.WindowTracks.{unacked, unacked-is, Stays, Holds, Window}
-use Rattle.dr_laws.proofs.Fair.{OnlyOut, Unacked}
+use Rattle.dr_laws.proofs.Fair.{MayCome, OnlyOut, Unacked}
 use Rattle.dr_laws.proofs.KeepsWindow.{two}
 
 -- of a write on another track nothing is unacknowledged here
@@ -64,7 +63,7 @@ module _ (v q : ℕ) (w : World) (rows : SoundRows (table w)) (st : Stays v q w)
   write = (histories w.events).write
 
   -- q stores the write
-  module _ (t n : ℕ) (may : May w (Mirror q t v n)) (only : OnlyOut w v t) (unacked : Unacked w n) (on : ℕ → Bool) (fuse : ℕ → Option Fuse) (es : List Event) (same : (histories (w.events ++ es)).write ≡ write) (quiet : list_any (is_ack n) es ≡ false) where
+  module _ (t n : ℕ) (may : MayCome w (Mirror q t v n)) (only : OnlyOut w v t) (unacked : Unacked w n) (on : ℕ → Bool) (fuse : ℕ → Option Fuse) (es : List Event) (same : (histories (w.events ++ es)).write ≡ write) (quiet : list_any (is_ack n) es ≡ false) where
     abbrev m : Move
     m = Mirror q t v n
 
@@ -118,7 +117,7 @@ module _ (v q : ℕ) (w : World) (rows : SoundRows (table w)) (st : Stays v q w)
     }
 
   -- it lands on v
-  module _ (t n : ℕ) (may : May w (LandBoth n v t)) (last : g ≡ Some n) (on : ℕ → Bool) (fuse : ℕ → Option Fuse) (ps : List Pending) (es : List Event) (same : (histories (w.events ++ es)).write ≡ write)
+  module _ (t n : ℕ) (may : MayCome w (LandBoth n v t)) (last : g ≡ Some n) (on : ℕ → Bool) (fuse : ℕ → Option Fuse) (ps : List Pending) (es : List Event) (same : (histories (w.events ++ es)).write ≡ write)
       (here : unacked (w.events ++ es) t (Some n) ≡ waiting ps v t) (else : (j : ℕ) → j ≢ t → waiting ps v j ≡ waiting w.control.pending v j) where
     abbrev m2 : Move
     m2 = LandBoth n v t

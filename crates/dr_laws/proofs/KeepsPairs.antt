@@ -1,5 +1,5 @@
 -- Each kind of move keeps the pair law: outside the tracks that primaries record, both volumes of a pair contain the same.
-use Rattle.std.proofs.Common.{ℕ, ◌≡◌, ◌≢◌, ◌<◌, ◌⊎◌, inl, inr, refl, ap, sym, ◌∙◌, subst, Bool, true, false, cond, ◌||◌, List, Some, None}
+use Rattle.std.proofs.Common.{ℕ, ◌≡◌, ◌≢◌, ◌<◌, ◌⊎◌, inl, inr, refl, ap, sym, ◌∙◌, subst, Bool, true, false, cond, not, ◌&&◌, ◌||◌, List, Some, None}
 use Rattle.std.proofs.lemmas.Bool.{or_parts}
 use Rattle.std.proofs.lemmas.Bool.Decides.{eqb_tells}
 use Rattle.std.specs.Ordering.{nat_cmp}
@@ -10,10 +10,10 @@ use Rattle.dr_model.specs.Histories.{Write}
 use Rattle.dr_model.specs.Contents.{with_write}
 use Rattle.dr_model.specs.Pairs.{is_engaged}
 use Rattle.dr_model.specs.Relations.{all_tracks}
-use Rattle.dr_model.specs.Moves.{Move, Land, Overwrite, Keep, Withdraw, Fetch, Reverse, Restore, Release, Store, Strike, Suspend, MakeSecondary, MakePrimary, DropPrimary, DropSecondary, TakeOver, Unsync, Mirror, LandBoth, Lift, Restart, target}
+use Rattle.dr_model.specs.Moves.{Move, Land, Overwrite, Keep, Withdraw, Fetch, Reverse, Restore, Release, Store, Strike, Suspend, MakeSecondary, MakePrimary, DropPrimary, DropSecondary, TakeOver, Unsync, Mirror, LandBoth, Lift, Restart, Hold, Finish, target}
 use Rattle.dr_model.specs.Table.{Row, Table}
 use Rattle.dr_model.specs.Rows.{after, next_row}
-use Rattle.dr_model.specs.Laws.{Structure, Parts, PairLaw, Alike, unsent, source, its_primary, its_secondary, fields}
+use Rattle.dr_model.specs.Laws.{Structure, Parts, Recorders, PairLaw, Alike, unsent, source, its_primary, its_secondary, fields}
 use Rattle.dr_model.specs.Allowed.{Allowed}
 use Rattle.dr_model.proofs.Images.{at_same, at_other}
 use Rattle.dr_laws.proofs.AtLemmas.{Told, at_cases, linked-at}
@@ -24,6 +24,16 @@ use Rattle.dr_laws.proofs.Sets.{false_true, not_inserted, remove_other, not_in_u
 more-unsent : (part : Bool) (out recording : Tracks) (t q : ℕ) → part ≡ true → (contains (cond part (insert out t) out) q || contains recording q) ≡ false → ((contains out q || contains recording q) ≡ false) × (q ≢ t)
 more-unsent true out recording t q is h = let both = or_parts _ _ h in let not = not_inserted out t q both.0 in ((λ i. not.0 i || both.1 i), not.1)
 more-unsent false out recording t q is h = absurd cc
+
+write-unsent : (part records : Bool) (out recording : Tracks) (t q : ℕ) → part ≡ true → (contains (cond (part && not records) (insert out t) out) q || contains (cond (part && records) (insert recording t) recording) q) ≡ false
+    → ((contains out q || contains recording q) ≡ false) × (q ≢ t)
+write-unsent true true out recording t q is h = let both = or_parts _ _ h in let not = not_inserted recording t q both.1 in ((λ i. both.0 i || not.0 i), not.1)
+write-unsent true false out recording t q is h = let both = or_parts _ _ h in let not = not_inserted out t q both.0 in ((λ i. not.0 i || both.1 i), not.1)
+write-unsent false records out recording t q is h = absurd cc
+
+-- and where nothing had changed, and nothing has since
+none-unsent : (out recording : Tracks) (q : ℕ) → contains recording q ≡ false → (contains out q || contains {R = nat_cmp} empty q) ≡ false → (contains out q || contains recording q) ≡ false
+none-unsent out recording q none h = let both = or_parts _ _ h in (λ i. both.0 i || none i)
 
 less-unsent : (out recording : Tracks) (t q : ℕ) → q ≢ t → (contains (remove out t) q || contains recording q) ≡ false → (contains out q || contains recording q) ≡ false
 less-unsent out recording t q ne h = ap (λ b. b || contains recording q) (sym (remove_other out t q ne)) ∙ h
@@ -36,7 +46,7 @@ full-unsent : {P : Type 0} (full : Bool) (n q : ℕ) (rest : Bool) → q < n →
 full-unsent true n q rest lt h go = false_true (or_parts _ _ h).0 (in_all n q lt)
 full-unsent false n q rest lt h go = go refl
 
-module _ (write : ℕ → Write) (T : Table) (structure : Structure T) (parts : Parts T) (old : PairLaw T) where
+module _ (write : ℕ → Write) (T : Table) (structure : Structure T) (parts : Parts T) (recorders : Recorders T) (old : PairLaw T) where
   abbrev row : Move → Row
   row m = next_row write m T
 
@@ -59,26 +69,37 @@ module _ (write : ℕ → Write) (T : Table) (structure : Structure T) (parts : 
   target_part v {s} {u} is (inl h) = false_true ((parts.one v).no_secondary (from_source _ _ s is).0) (from_source _ _ u h).0
   target_part v is (inr h) = target_first v is h
 
-  -- a track is stored at v, which is no secondary: of a primary it is out of sync from then on
-  module _ (v t : ℕ) (b : List ℕ) (free : is_part (fields T v).secondary ≡ false) where
+  -- a track is stored at v, which is no secondary: of a primary it is unsent from then on
+  module _ (v t : ℕ) (b : List ℕ) (free : is_part (fields T v).secondary ≡ false) (unsent_then : ℕ → Bool)
+      (less_then : (q : ℕ) → is_part (fields T v).primary ≡ true → unsent_then q ≡ false → (unsent (T v) q ≡ false) × (q ≢ t)) where
     abbrev f : Fields
     f = fields T v
-
-    abbrev unsent_then : ℕ → Bool
-    unsent_then q = contains (cond (is_part f.primary) (insert f.out_of_sync t) f.out_of_sync) q || contains f.change_recording q
 
     parted-from : (u : ℕ) → its_secondary (T v) ≡ Some u → (its_primary (T u) ≡ Some v) ⊎ (its_secondary (T u) ≡ Some v) → (q : ℕ) → q < (T v).volume.tracks → unsent_then q ≡ false → (its_secondary (T u) ≡ Some v → unsent (T u) q ≡ false)
         → at (T v).bytes t b q ≡ (T u).bytes q
     parted-from u h link q lt sent back =
-        let less = more-unsent (is_part f.primary) f.out_of_sync f.change_recording t q (from_source _ _ u h).0 sent in
+        let less = less_then q (from_source _ _ u h).0 sent in
         at_other (T v).bytes t b q less.1 ∙ old v u h link q lt less.0 back
 
     parted-onto : (u : ℕ) → its_secondary (T u) ≡ Some v → (its_primary (T v) ≡ Some u) ⊎ (its_secondary (T v) ≡ Some u) → (q : ℕ) → q < (T u).volume.tracks → unsent (T u) q ≡ false → (its_secondary (T v) ≡ Some u → unsent_then q ≡ false)
         → (T u).bytes q ≡ at (T v).bytes t b q
     parted-onto u h (inl k) q lt sent back = false_true free (from_source _ _ u k).0
     parted-onto u h (inr k) q lt sent back =
-        let less = more-unsent (is_part f.primary) f.out_of_sync f.change_recording t q (from_source _ _ u k).0 (back k) in
+        let less = less_then q (from_source _ _ u k).0 (back k) in
         old u v h (inr k) q lt sent (λ k. less.0) ∙ sym (at_other (T v).bytes t b q less.1)
+
+  -- a host write lands, and a track comes back
+  abbrev unsent_written : ℕ → ℕ → ℕ → Bool
+  unsent_written v t q = let f : Fields = fields T v in contains (cond (is_part f.primary && not f.recording) (insert f.out_of_sync t) f.out_of_sync) q || contains (cond (is_part f.primary && f.recording) (insert f.change_recording t) f.change_recording) q
+
+  abbrev unsent_altered : ℕ → ℕ → ℕ → Bool
+  unsent_altered v t q = let f : Fields = fields T v in contains (cond (is_part f.primary) (insert f.out_of_sync t) f.out_of_sync) q || contains f.change_recording q
+
+  less-written : (v t q : ℕ) → is_part (fields T v).primary ≡ true → unsent_written v t q ≡ false → (unsent (T v) q ≡ false) × (q ≢ t)
+  less-written v t q is h = let f : Fields = fields T v in write-unsent (is_part f.primary) f.recording f.out_of_sync f.change_recording t q is h
+
+  less-altered : (v t q : ℕ) → is_part (fields T v).primary ≡ true → unsent_altered v t q ≡ false → (unsent (T v) q ≡ false) × (q ≢ t)
+  less-altered v t q is h = let f : Fields = fields T v in more-unsent (is_part f.primary) f.out_of_sync f.change_recording t q is h
 
   -- a secondary stores a track, which its primary has too, or has out of sync
   stored-onto : (v t u : ℕ) (b : List ℕ) → its_primary (T v) ≡ Some u → (unsent (T u) t ≡ false → (T u).bytes t ≡ b) → (x : ℕ) → its_secondary (T x) ≡ Some v → (its_primary (T v) ≡ Some x) ⊎ (its_secondary (T v) ≡ Some x) → (q : ℕ) → q < (T x).volume.tracks → unsent (T x) q ≡ false
@@ -128,8 +149,8 @@ module _ (write : ℕ → Write) (T : Table) (structure : Structure T) (parts : 
       subst (λ j. (T v).bytes q ≡ (T j).bytes q) (from_source part u x h).1 (full-unsent full (T v).volume.tracks q (contains {R = nat_cmp} empty q) lt sent (λ no. equal no q lt))
 
   pub kept-pairs : (m : Move) → Allowed write T m → PairLaw (after write T m)
-  kept-pairs (Land w v t) a = changed (Land w v t) a (parted-from v t _ a.first) (parted-onto v t _ a.first)
-  kept-pairs (Restore v t u) a = let free = parts.free u v a.related a.reversing in changed (Restore v t u) a (parted-from v t _ free) (parted-onto v t _ free)
+  kept-pairs (Land w v t) a = changed (Land w v t) a (parted-from v t _ a.first (unsent_written v t) (less-written v t)) (parted-onto v t _ a.first (unsent_written v t) (less-written v t))
+  kept-pairs (Restore v t u) a = let free = parts.free u v a.related a.reversing in changed (Restore v t u) a (parted-from v t _ free (unsent_altered v t) (less-altered v t)) (parted-onto v t _ free (unsent_altered v t) (less-altered v t))
   kept-pairs (Overwrite w v t) a = changed (Overwrite w v t) a (λ u h. target_first v a.related h) (λ u h k. target_part v a.related k)
   kept-pairs (Keep v t) a = changed (Keep v t) a (λ u h. target_first v a.related h) (λ u h k. target_part v a.related k)
   kept-pairs (Fetch v t) a = changed (Fetch v t) a (λ u h. target_first v a.related h) (λ u h k. target_part v a.related k)
@@ -158,6 +179,12 @@ module _ (write : ℕ → Write) (T : Table) (structure : Structure T) (parts : 
   kept-pairs (Restart v) a = let f : Fields = fields T v in
       changed (Restart v) a (λ u h k q lt sent. old v u h k q lt (void-unsent (is_engaged f) f.out_of_sync f.change_recording q sent))
       (λ u h k q lt sent back. old u v h k q lt sent (λ l. void-unsent (is_engaged f) f.out_of_sync f.change_recording q (back l)))
+  kept-pairs (Finish v n) a = let f : Fields = fields T v in
+      changed (Finish v n) a (λ u h k q lt sent. old v u h k q lt (void-unsent (is_engaged f) f.out_of_sync f.change_recording q sent))
+      (λ u h k q lt sent back. old u v h k q lt sent (λ l. void-unsent (is_engaged f) f.out_of_sync f.change_recording q (back l)))
+  kept-pairs (Hold v s n first) a = let f : Fields = fields T v in
+      changed (Hold v s n first) a (λ u h k q lt sent. old v u h k q lt (none-unsent f.out_of_sync f.change_recording q ((recorders v).none a.idle q) sent))
+      (λ u h k q lt sent back. old u v h k q lt sent (λ l. none-unsent f.out_of_sync f.change_recording q ((recorders v).none a.idle q) (back l)))
   kept-pairs (MakeSecondary v u kind state) a = changed (MakeSecondary v u kind state) a (λ x h. false_true a.first (from_source _ _ x h).0) (λ x h k. either x h k)
     where
       either : {P : Type 0} (x : ℕ) → its_secondary (T x) ≡ Some v → (cond (is_part kind) (Some u) None ≡ Some x) ⊎ (its_secondary (T v) ≡ Some x) → P

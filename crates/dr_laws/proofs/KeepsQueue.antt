@@ -3,14 +3,14 @@ use Rattle.std.proofs.Common.{ℕ, ◌≡◌, ◌<◌, ◌+◌, refl, ap, sym, �
 use Rattle.std.proofs.lemmas.Bool.{eqb-true, eq-eqb, false≢true}
 use Rattle.std.specs.List.{fold}
 use Rattle.dr_model.specs.declared.event.Event.{Event}
-use Rattle.dr_model.specs.declared.event.Event.TheVariants.{Volume as VolumeDefined, Issue, Ack, Mirrored, Sent, Flashed, Committed, Reverted, Set, Back, Blanked, Restored, Stopped, Suspended}
+use Rattle.dr_model.specs.declared.event.Event.TheVariants.{Volume as VolumeDefined, Issue, Ack, Mirrored, Sent, Flashed, Committed, Reverted, Set, Back, Blanked, Restored, Stopped, Suspended, Begin, Cut}
 use Rattle.dr_model.specs.Tables.{at, at2}
 use Rattle.dr_model.specs.Histories.{Lists, Write, Histories, histories, after_event}
 use Rattle.dr_model.specs.Layout.{Tracks}
 use Rattle.dr_model.specs.Relations.{is_bare}
 use Rattle.dr_model.specs.Control.{Control, Pending, Fuse, Volume, World, is_volume}
 use Rattle.dr_model.specs.Pairs.{is_suspended}
-use Rattle.dr_model.specs.Moves.{Move, Land, Overwrite, Relate, Withdraw, Resync, Reverse, Restore, Release, Keep, Note, Fetch, Store, Strike, Suspend, MakeSecondary, MakePrimary, DropPrimary, DropSecondary, Follow, Resume, TakeOver, Unsync, Mirror, LandBoth, Thaw, Lift, Restart, told_blank, told_restored, target, told, told_in_stop, settled, settled_in_stop, is_write, is_other, marked, landed}
+use Rattle.dr_model.specs.Moves.{Move, Land, Overwrite, Relate, Withdraw, Resync, Reverse, Restore, Release, Keep, Note, Fetch, Store, Strike, Suspend, MakeSecondary, MakePrimary, DropPrimary, DropSecondary, Follow, Resume, TakeOver, Unsync, Mirror, LandBoth, Thaw, Lift, Restart, Hold, Free, Seal, Finish, RaiseAttempt, RaiseFloor, Leave, told_blank, told_restored, target, told, told_in_stop, settled, settled_in_stop, is_write, is_other, marked, landed}
 use Rattle.dr_model.specs.Laws.{Lone, Together, servers, sizes, Below, Numbered, Queue, Waits, AllPending, Apart}
 use Rattle.dr_model.specs.Entries.{is_at}
 use Rattle.dr_model.specs.Allowed.{Coming, Ready}
@@ -257,6 +257,17 @@ module _ (starts : Option ℕ) (w : World) (old : Queue starts w) where
   told-quiet (Thaw v) ready = tt
   told-quiet (Lift v) ready = tt
   told-quiet (Restart v) ready = tt
+  told-quiet (Hold v s i first) ready = by first
+    where
+      by : (b : Bool) → AllQuiet n (cond b (Begin s i ∷ Cut s i v ∷ []) (Cut s i v ∷ []))
+      by true = (tt, (tt, tt))
+      by false = (tt, tt)
+  told-quiet (Free v) ready = tt
+  told-quiet (Seal v u s i) ready = (tt, tt)
+  told-quiet (Finish v i) ready = tt
+  told-quiet (RaiseAttempt v i) ready = tt
+  told-quiet (RaiseFloor v i) ready = tt
+  told-quiet (Leave v u s) ready = (tt, tt)
 
   stop-quiet : (m : Move) → Ready w m → AllQuiet n (told_in_stop m (w.control.volume (target m)))
   stop-quiet (Land k v t) ready = tt

@@ -8,23 +8,27 @@ use Rattle.dr_model.specs.Tables.{at}
 use Rattle.dr_model.specs.Histories.{Write, Histories, histories}
 use Rattle.dr_model.specs.Contents.{image}
 use Rattle.dr_model.specs.Control.{Pending, Control, World, Fuse}
-use Rattle.dr_model.specs.Moves.{Move, is_write, is_other}
-use Rattle.dr_model.specs.Carry.{Act, Make, Redo, Acknowledge, Drop, EndFreeze, EndThaw, dropped, frozen, thawed, Entry, Next, check, now}
+use Rattle.dr_model.specs.Moves.{Move, Hold, is_write, is_other}
+use Rattle.dr_model.specs.Carry.{Act, Make, OpenAttempt, Redo, Acknowledge, Drop, EndFreeze, EndThaw, dropped, frozen, thawed, Entry, Next, check, now}
 use Rattle.dr_model.specs.Plans.{Plan}
 use Rattle.dr_model.specs.Runs.{begun}
 use Rattle.dr_model.specs.ReadStops.{gone_off}
+use Rattle.dr_model.specs.Groups.{Groups}
 use Rattle.dr_model.specs.Table.{Table, table, due_by}
 use Rattle.dr_model.specs.Rows.{after}
-use Rattle.dr_model.specs.Laws.{SoundRows, SoundBut, Sound, AllPending, Waits, servers}
-use Rattle.dr_model.specs.Allowed.{Allowed, May, Runs}
+use Rattle.dr_model.specs.Laws.{SoundRows, SoundBut, Sound, Queue, AllPending, Waits, servers}
+use Rattle.dr_model.specs.Allowed.{Allowed, May, MayOpen, Runs}
 use Rattle.dr_model.proofs.Images.{histories-append}
-use Rattle.dr_laws.proofs.Turns.{carried_in, done, done_in_stop, not_done, after_act, place, Writes}
+use Rattle.dr_laws.proofs.Turns.{carried_in, done, done_in_stop, opened_in_stop, not_done, after_act, place, Writes}
 use Rattle.dr_laws.proofs.RowsAfter.{table-done, table-stop}
 use Rattle.dr_laws.proofs.KeepsStructure.{kept-structure}
 use Rattle.dr_laws.proofs.KeepsParts.{kept-parts}
 use Rattle.dr_laws.proofs.KeepsImages.{kept-images}
 use Rattle.dr_laws.proofs.KeepsRecorded.{kept-recorded}
+use Rattle.dr_laws.proofs.KeepsRecorders.{kept-recorders, kept-final}
 use Rattle.dr_laws.proofs.KeepsPairs.{kept-pairs}
+use Rattle.dr_laws.proofs.KeepsGroups.{groups-after, groups-begun}
+use Rattle.dr_laws.proofs.GroupsWanted.{Framed, groups-same}
 use Rattle.dr_laws.proofs.KeepsTargets.{few-after}
 use Rattle.dr_laws.proofs.KeepsQueue.{AllQuiet, queue-done, queue-stop, queue-same, goes-off, all-filter, apart-filter, lone-filter}
 use Rattle.dr_laws.proofs.Due.{waiting-settled}
@@ -36,7 +40,9 @@ rows-after write T m r a = record {
   parts = kept-parts T r.parts write r.structure m a;
   images = kept-images write T r.structure r.parts r.recorded r.images m a;
   recorded = kept-recorded write T r.structure r.parts r.recorded m a;
-  pairs = kept-pairs write T r.structure r.parts r.pairs m a;
+  recorders = kept-recorders T r.recorders write m a;
+  final = kept-final write T r.final m;
+  pairs = kept-pairs write T r.structure r.parts r.recorders r.pairs m a;
 }
 
 -- events that no list hears of
@@ -49,6 +55,7 @@ module _ (starts : Option ℕ) where
     rows = subst SoundRows (sym (table-done w s.rows.structure m f s.rows.images.blank may.allowed may.ready)) (rows-after (histories w.events).write (table w) m s.rows may.allowed);
     targets = record { once = s.targets.once; few = few-after w.control s.targets m (carried_in w m) may.fits };
     queue = queue-done starts w s.queue m f may.ready;
+    groups = groups-after w (histories w.events).write (done w m f).control.on (done w m f).control.fuse (done w m f).control.pending m may.allowed may.group s.groups;
   }
 
   pub sound-stop : (w : World) (m : Move) (f : Option Fuse) → SoundBut starts w → May w m → SoundBut starts (done_in_stop w m f)
@@ -56,7 +63,36 @@ module _ (starts : Option ℕ) where
     rows = subst SoundRows (sym (table-stop w s.rows.structure m f s.rows.images.blank may.allowed may.ready)) (rows-after (histories w.events).write (table w) m s.rows may.allowed);
     targets = record { once = s.targets.once; few = few-after w.control s.targets m (carried_in w m) may.fits };
     queue = queue-stop starts w s.queue m f may.ready;
+    groups = groups-after w (histories w.events).write (done_in_stop w m f).control.on (done_in_stop w m f).control.fuse (done_in_stop w m f).control.pending m may.allowed may.group s.groups;
   }
+
+  -- the first hold of an attempt, with which it begins
+  pub sound-opened : (w : World) (v i n : ℕ) (f : Option Fuse) → SoundBut starts w → MayOpen w v i n → SoundBut starts (after_act w (OpenAttempt v i n) f)
+  sound-opened w v i n f s may =
+      let m : Move = Hold v i n true in
+      let k : Control = (done w m f).control in
+      let q : Queue starts (done w m f) = queue-done starts w s.queue m f may.ready in
+      record {
+        rows = subst SoundRows (sym (table-done w s.rows.structure m f s.rows.images.blank may.allowed may.ready)) (rows-after (histories w.events).write (table w) m s.rows may.allowed);
+        targets = record { once = s.targets.once; few = few-after w.control s.targets m (carried_in w m) tt };
+        queue = record { each = q.each; apart = q.apart; lone = q.lone; numbers = q.numbers };
+        groups = groups-begun w (histories w.events).write k.on k.fuse k.pending v i n may.opens s.groups;
+      }
+
+  pub sound-opened_stop : (w : World) (v i n : ℕ) (f : Option Fuse) → SoundBut starts w → MayOpen w v i n → SoundBut starts (opened_in_stop w v i n f)
+  sound-opened_stop w v i n f s may =
+      let m : Move = Hold v i n true in
+      let k : Control = (done_in_stop w m f).control in
+      let q : Queue starts (done_in_stop w m f) = queue-stop starts w s.queue m f may.ready in
+      record {
+        rows = subst SoundRows (sym (table-stop w s.rows.structure m f s.rows.images.blank may.allowed may.ready)) (rows-after (histories w.events).write (table w) m s.rows may.allowed);
+        targets = record { once = s.targets.once; few = few-after w.control s.targets m (carried_in w m) tt };
+        queue = record { each = q.each; apart = q.apart; lone = q.lone; numbers = q.numbers };
+        groups = groups-begun w (histories w.events).write k.on k.fuse k.pending v i n may.opens s.groups;
+      }
+
+  told-groups : (w : World) (servers : List (List ℕ)) (on : ℕ → Bool) (fuse : ℕ → Option Fuse) (link : ℕ → ℕ → Bool) (paths : List Path) → Groups w.control → Groups (record w.control { servers = servers; on = on; fuse = fuse; link = link; paths = paths })
+  told-groups w servers on fuse link paths = groups-same w.control _ (record { sessions = refl; volumes = refl; server = λ v. refl; tracks = λ v. refl }) (λ v h. (h, refl))
 
   -- events that change no list, one server more, other links and paths, and servers that may have gone off
   pub sound-told : (w : World) (servers : List (List ℕ)) (on : ℕ → Bool) (fuse : ℕ → Option Fuse) (link : ℕ → ℕ → Bool) (paths : List Path) (es : List Event) → histories (w.events ++ es) ≡ histories w.events → AllQuiet (w.control.issued + 1) es
@@ -65,6 +101,7 @@ module _ (starts : Option ℕ) where
   sound-told w servers on fuse link paths es same quiet off s = record {
     rows = rows-told w es same s.rows;
     targets = record { once = s.targets.once; few = s.targets.few };
+    groups = told-groups w servers on fuse link paths s.groups;
     queue = queue-same starts w s.queue (record w.control { servers = servers; on = on; fuse = fuse; link = link; paths = paths }) es w.contents quiet refl refl refl (λ v. refl) (λ v. refl) off;
   }
 
@@ -95,6 +132,7 @@ module _ (starts : Option ℕ) where
       record {
         rows = subst SoundRows (λ i u. record (table w u) { due = λ q. image h.write (h.now u q ++ sym (waiting-settled n u q ps unlanded) i) }) s.rows;
         targets = record { once = s.targets.once; few = s.targets.few };
+        groups = groups-same w.control _ (record { sessions = refl; volumes = refl; server = λ v. refl; tracks = λ v. refl }) (λ v h. (h, refl)) s.groups;
         queue = record {
           each = all-filter (Waits starts w.control h.write) (is_other n) ps s.queue.each;
           apart = apart-filter n ps s.queue.apart;
@@ -106,6 +144,7 @@ module _ (starts : Option ℕ) where
 -- what a plan's acts may be but where a server starts
 abbrev pub MayDo : World → Act → Type 0
 MayDo w (Make m) = May w m
+MayDo w (OpenAttempt v s n) = MayOpen w v s n
 MayDo w (Redo v) = ⊥
 MayDo w (Acknowledge n) = ⊥
 MayDo w (Drop n) = AllPending (λ p. p.landed ≡ false) (filter (is_write n) w.control.pending)
@@ -113,10 +152,11 @@ MayDo w (EndFreeze l m) = Unit {0}
 MayDo w (EndThaw l m) = Unit {0}
 
 pub keeps-sound : along.Keeps Sound Sound MayDo
-keeps-sound = record { runs = runs; does = does; counts = λ w m f s may. sound-stop None w m f s may; fails = λ w a f d s may. sound-not None w _ f s }
+keeps-sound = record { runs = runs; does = does; counts = λ w m f s may. sound-stop None w m f s may; opens = λ w v i n f s may. sound-opened_stop None w v i n f s may; fails = λ w a f d s may. sound-not None w _ f s }
   where
     runs : (w : World) (a : Act) → Writes a → MayDo w a → Runs w (place a)
     runs w (Make m) d may = may.runs
+    runs w (OpenAttempt v s n) d may = may.runs
     runs w (Redo v) d may = absurd may
     runs w (Acknowledge n) d may = absurd may
     runs w (Drop n) d may = absurd d
@@ -125,6 +165,7 @@ keeps-sound = record { runs = runs; does = does; counts = λ w m f s may. sound-
 
     does : (w : World) (a : Act) (f : Option Fuse) → Sound w → MayDo w a → Sound (after_act w a f)
     does w (Make m) f s may = sound-done None w m f s may
+    does w (OpenAttempt v i n) f s may = sound-opened None w v i n f s may
     does w (Redo v) f s may = absurd may
     does w (Acknowledge n) f s may = absurd may
     does w (Drop n) f s may = sound-dropped None w n may s
@@ -132,7 +173,7 @@ keeps-sound = record { runs = runs; does = does; counts = λ w m f s may. sound-
     does w (EndThaw l m) f s may = sound-thawed None w l m s
 
 abbrev pub Along : World → List Entry → Type 0
-Along = along.Along Sound Sound MayDo
+Along = along.Along Sound Sound Sound MayDo
 
 -- The steps of a proof that a plan of moves is allowed along: what follows a decision; no entry is left; an entry, by
 -- what it decides; a move that comes in any case; a check.
@@ -140,21 +181,21 @@ abbrev pub Then : World → Next → (World → Type 0) → Type 0
 Then = along.along_next Sound Sound MayDo
 
 pub over : (w : World) → Sound w → Along w []
-over = along.along-nil Sound Sound MayDo
+over = along.along-nil Sound Sound Sound MayDo
 
 pub decides : (w : World) (d : Entry) (ds : List Entry) (x : Next) → d w.control ≡ x → Then w x (λ v. Along v ds) → Along w (d ∷ ds)
-decides = along.along-entry Sound Sound MayDo
+decides = along.along-entry Sound Sound Sound MayDo
 
 -- what a plan that is allowed along says of its first entry: where it is a move, that this may come, and that the rest is
 -- allowed along after it
 pub comes : (w : World) (d : Entry) (ds : List Entry) (x : Next) → d w.control ≡ x → Along w (d ∷ ds) → Then w x (λ v. Along v ds)
-comes = along.along-comes Sound Sound MayDo
+comes = along.along-comes Sound Sound Sound MayDo
 
 pub moves : (w : World) (m : Move) (ds : List Entry) → May w m → ((f : Option Fuse) → Sound (done w m f) → Along (done w m f) ds) → Along w (now m ∷ ds)
-moves = along.along-now Sound Sound MayDo
+moves = along.along-now Sound Sound Sound MayDo
 
 pub checked : (w : World) (ok : Control → Bool) (r : Refusal) (ds : List Entry) → Sound w → (ok w.control ≡ true → Along w ds) → Along w (check ok r ∷ ds)
-checked = along.along-check Sound Sound MayDo
+checked = along.along-check Sound Sound Sound MayDo
 
 -- what is to be shown of a step
 abbrev pub RowsAt : World → Type 0
@@ -165,4 +206,4 @@ StepHolds = along.Holds Sound RowsAt MayDo
 
 -- a plan of moves
 pub holds-moves : (w : World) (p : Plan) → Sound (begun w p) → Along (begun w p) p.entries → ((s : ℕ) (v : World) → Sound v → Along v (p.follows s)) → ((v : World) → Sound v → Sound (record v { control = p.last v.control })) → StepHolds w p
-holds-moves w p begins entries follows last = record { inner = Sound; may = MayDo; keeps = keeps-sound; within = λ v s. s.rows; begins = begins; entries = entries; follows = follows; last = last }
+holds-moves w p begins entries follows last = record { inner = Sound; ends = Sound; may = MayDo; keeps = keeps-sound; within = λ v s. s.rows; complete = λ v s. s.rows; begins = begins; entries = entries; follows = follows; last = last }

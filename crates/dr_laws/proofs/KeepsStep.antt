@@ -14,10 +14,10 @@ use Rattle.dr_model.specs.Control.{Pending, Volume, Fuse, World, is_volume}
 use Rattle.dr_model.specs.Pairs.{is_metro}
 use Rattle.dr_model.specs.Moves.{Move, Mirror, LandBoth, Restore, target, told, told_in_stop, landed, settled, settled_in_stop, marked, is_other}
 use Rattle.dr_model.specs.Carry.{acknowledged}
+use Rattle.dr_model.specs.Sessions.{Session}
 use Rattle.dr_model.specs.Entries.{fields_at}
 use Rattle.dr_model.specs.Table.{table, waiting}
 use Rattle.dr_model.specs.Laws.{SoundRows}
-use Rattle.dr_model.specs.Allowed.{May}
 use Rattle.dr_laws.specs.Windows.{later_mirrored, is_ack, is_back_to}
 use Rattle.dr_laws.proofs.AtLemmas.{Told, at_part}
 use Rattle.dr_laws.proofs.Sets.{false_true, from_source}
@@ -26,7 +26,7 @@ use Rattle.dr_laws.proofs.RowsAfter.{calm}
 use Rattle.dr_laws.proofs.Due.{waiting-marked_else, waiting-marked_here}
 use Rattle.dr_laws.proofs.Unissued.{told-writes, stop-writes, with-told}
 use Rattle.dr_laws.proofs.WindowTracks.{unacked, still-waits, Stays, Holds, Window, Quiet, window-quiet, unacked-told}
-use Rattle.dr_laws.proofs.Fair.{Fair, tag_after}
+use Rattle.dr_laws.proofs.Fair.{MayCome, Fair, tag_after}
 use Rattle.dr_laws.proofs.KeepsWindow.{AllSilent, locked, Deaf, deaf-silent, Else, deaf-told, deaf-stop, waits-done, waits-stop, quiet-changed}
 use Rattle.dr_laws.proofs.KeepsLists.{ListGrows, NoRestore, silent-none, grows-apart, apart-told, apart-stop}
 use Rattle.dr_laws.proofs.KeepsMirror.{off-track, on-track, acked, acked-here, just-acked, still-unacked, window-mirrored, window-landed}
@@ -53,11 +53,16 @@ pub record Unchanged (w u : World) (es : List Event) : Type 0 where
   pub lists : (v : ℕ) → is_volume w.control v ≡ true → (t : ℕ) → lists u.events v t ≡ lists w.events v t
   pub acked : (n : ℕ) → list_any (is_ack n) w.events ≡ true → (histories u.events).write n ≡ (histories w.events).write n
 
+-- a world with other sessions
+abbrev pub others : World → List Session → World
+others w ss = record w { control = record w.control { sessions = ss } }
+
 -- one moment of a run and the next, each with the write that goes on
 pub data Step (tag : Option ℕ) (w : World) : Option ℕ → World → Type 0 where
-  Does : (m : Move) → (f : Option Fuse) → May w m → Fair tag w m → Step tag w (tag_after m tag) (done w m f)
-  Stops : (m : Move) → (f : Option Fuse) → May w m → Fair tag w m → Step tag w None (done_in_stop w m f)
+  Does : (m : Move) → (f : Option Fuse) → MayCome w m → Fair tag w m → Step tag w (tag_after m tag) (done w m f)
+  Stops : (m : Move) → (f : Option Fuse) → MayCome w m → Fair tag w m → Step tag w None (done_in_stop w m f)
   Acks : (n : ℕ) → Acknowledges w n → Step tag w None (acknowledged w n)
+  Others : (next : Option ℕ) → (u : World) → (ss : List Session) → Step tag w next u → Step tag w next (others u ss)
   Passes : (next : Option ℕ) → (u : World) → (es : List Event) → Unchanged w u es → ((n : ℕ) → next ≡ Some n → tag ≡ Some n) → Step tag w next u
 
 module _ (v q : ℕ) where
@@ -93,7 +98,7 @@ module _ (v q : ℕ) where
       Plain : (m : Move) → Other m → ((n : ℕ) → tag_after m tag ≡ Some n → tag ≡ Some n) → Kind m
       Mirrors : (x t u n : ℕ) → x ≢ q → u ≢ v → Kind (Mirror x t u n)
 
-    kind-mirror : (x t u n : ℕ) → May w (Mirror x t u n) → Told x q → Kind (Mirror x t u n)
+    kind-mirror : (x t u n : ℕ) → MayCome w (Mirror x t u n) → Told x q → Kind (Mirror x t u n)
     kind-mirror x t u n may (inl is) =
         let same : u ≡ v = sym (from_source _ _ u may.allowed.takes).1 ∙ ap (λ j. (fields_at w.control j).secondary_partner) is.1 ∙ (from_source _ _ v st.takes).1 in
         subst (λ x. Kind (Mirror x t u n)) (sym is.1) (subst (λ u. Kind (Mirror q t u n)) (sym same) (Own t n))
@@ -117,7 +122,7 @@ module _ (v q : ℕ) where
     off-stop (Restore x t y) u s k back = (apart-by x v (or-left _ back.0), apart-by x q (or-left _ back.1))
     off-stop m u s k back = tt
 
-    kind : (m : Move) → May w m → Off m → Kind m
+    kind : (m : Move) → MayCome w m → Off m → Kind m
     kind (Mirror x t u n) may off = kind-mirror x t u n may (eqb_tells x q)
     kind (LandBoth n x t) may off = kind-landed n x t (eqb_tells x v)
     kind (Restore x t u) may off = Plain (Restore x t u) off (λ n h. h)
@@ -137,14 +142,14 @@ module _ (v q : ℕ) where
     q-mirrored : (n : ℕ) → later_mirrored q g (Mirrored n q) ≡ Some n
     q-mirrored n = ap (λ b. cond b (Some n) g) (eq-eqb q q refl)
 
-    done-quiet : (m : Move) (f : Option Fuse) (next : Option ℕ) → May w m → Fair tag w m → Other m → Stays v q (done w m f) → ((n : ℕ) → next ≡ Some n → tag ≡ Some n) → Window v q next (fold (later_mirrored q) g (told m (w.control.volume (target m)))) (done w m f)
+    done-quiet : (m : Move) (f : Option Fuse) (next : Option ℕ) → MayCome w m → Fair tag w m → Other m → Stays v q (done w m f) → ((n : ℕ) → next ≡ Some n → tag ≡ Some n) → Window v q next (fold (later_mirrored q) g (told m (w.control.volume (target m)))) (done w m f)
     done-quiet m f next may fair else st2 less =
         let u : Volume = w.control.volume (target m) in
         window-quiet v q w (done w m f) (told m u) tag g win
         (quiet-changed v q w rows st tag g win m may fair else (done w m f).control.on (done w m f).control.fuse (settled m w.control.pending) (told m u) (with-told w (told m u) (told-writes (histories w.events) m u)) (deaf-told v q w rows st tag g win m may fair else u)
         (waits-done v q w rows st tag g win m may) st2) next less
 
-    does-by : (m : Move) (f : Option Fuse) → May w m → Fair tag w m → Stays v q (done w m f) → Kind m → Window v q (tag_after m tag) (fold (later_mirrored q) g (told m (w.control.volume (target m)))) (done w m f)
+    does-by : (m : Move) (f : Option Fuse) → MayCome w m → Fair tag w m → Stays v q (done w m f) → Kind m → Window v q (tag_after m tag) (fold (later_mirrored q) g (told m (w.control.volume (target m)))) (done w m f)
     does-by _ f may fair st2 (Own t n) =
         let m : Move = Mirror q t v n in
         subst (λ g. Window v q (Some n) g (done w m f)) (sym (q-mirrored n))
@@ -170,14 +175,14 @@ module _ (v q : ℕ) where
         let u : Volume = w.control.volume (target m) in
         with-told w (stop-told m) (ap (λ (h : Histories). h.write) (fold-append after_event (histories w.events) (told_in_stop m u) (Stopped u.server (landed m) ∷ [])) ∙ stop-writes (histories w.events) m u)
 
-    stop-quiet : (m : Move) (f : Option Fuse) → May w m → Fair tag w m → Other m → Stays v q (done_in_stop w m f) → Window v q None (fold (later_mirrored q) g (stop-told m)) (done_in_stop w m f)
+    stop-quiet : (m : Move) (f : Option Fuse) → MayCome w m → Fair tag w m → Other m → Stays v q (done_in_stop w m f) → Window v q None (fold (later_mirrored q) g (stop-told m)) (done_in_stop w m f)
     stop-quiet m f may fair else st2 =
         let u : Volume = w.control.volume (target m) in
         window-quiet v q w (done_in_stop w m f) (stop-told m) tag g win
         (quiet-changed v q w rows st tag g win m may fair else (done_in_stop w m f).control.on (done_in_stop w m f).control.fuse (settled_in_stop m w.control.pending) (stop-told m) (stop-same m) (deaf-stop v q w rows st tag g win m may fair else u u.server (landed m))
         (waits-stop v q w rows st tag g win m may fair else) st2) None (λ k h. absurd cc)
 
-    stops-by : (m : Move) (f : Option Fuse) → May w m → Fair tag w m → Stays v q (done_in_stop w m f) → Kind m → Window v q None (fold (later_mirrored q) g (stop-told m)) (done_in_stop w m f)
+    stops-by : (m : Move) (f : Option Fuse) → MayCome w m → Fair tag w m → Stays v q (done_in_stop w m f) → Kind m → Window v q None (fold (later_mirrored q) g (stop-told m)) (done_in_stop w m f)
     stops-by _ f may fair st2 (Own t n) =
         let m : Move = Mirror q t v n in
         subst (λ g. Window v q None g (done_in_stop w m f)) (sym (q-mirrored n))
@@ -269,6 +274,20 @@ module _ (v q : ℕ) where
       writes = x.acked;
     }
 
+    -- which sessions there are is nothing to the window
+    same-holds : (u : World) (ss : List Session) (g : Option ℕ) (t : ℕ) → Holds v q u g t → Holds v q (others u ss) g t
+    same-holds u ss g t (inl s) = inl (record { settled = s.settled; bytes = s.bytes })
+    same-holds u ss g t (inr a) = inr (record { n = a.n; stored = a.stored; none = a.none; bytes = a.bytes; out = a.out })
+
+    same-next : (next : Option ℕ) (u : World) (ss : List Session) → Next g next w u → Next g next w (others u ss)
+    same-next next u ss x = record {
+      told = x.told;
+      events = x.events;
+      size = x.size;
+      window = let y = x.window in record { metro = y.metro; low = y.low; on_v = y.on_v; tag_low = y.tag_low; goes_on = y.goes_on; tracks = λ t lt. same-holds u ss (fold (later_mirrored q) g x.told) t (y.tracks t lt) };
+      grows = let y = x.grows in record { list = y.list; writes = y.writes };
+    }
+
     pub window-step : (next : Option ℕ) (u : World) → Step tag w next u → Stays v q u → ((es : List Event) → u.events ≡ w.events ++ es → Backless es) → Next g next w u
     window-step _ _ (Does m f may fair) st2 back =
         let u : Volume = w.control.volume (target m) in
@@ -292,5 +311,6 @@ module _ (v q : ℕ) where
         }
     window-step _ _ (Acks n a) st2 back =
         record { told = Ack n ∷ []; events = refl; size = refl; window = window-acked n a; grows = grows-apart v w (acknowledged w n) (Ack n ∷ []) refl (tt, tt) }
+    window-step _ _ (Others next u ss step) st2 back = same-next next u ss (window-step next u step (record { to = st2.to; takes = st2.takes; firm = st2.firm }) back)
     window-step _ _ (Passes next u es x less) st2 back =
         record { told = es; events = x.events; size = (unchanged u es x).size; window = window-quiet v q w u es tag g win (unchanged u es x) next less; grows = unchanged-list u es x }

@@ -2,10 +2,13 @@
 use Rattle.std.proofs.Common.{ℕ, ◌≡◌, refl, ap, sym, ◌∙◌, subst, Bool, true, false, cond, not, ◌&&◌, ◌||◌, Some, None}
 use Rattle.std.specs.FinSet.{contains, insert, remove, empty}
 use Rattle.dr_model.specs.Tables.{at}
-use Rattle.dr_model.specs.Layout.{Tracks, Fields}
+use Rattle.dr_model.specs.declared.state.Part.{Part}
+use Rattle.dr_model.specs.declared.state.Part.TheVariants.{Absent, Metro, Global}
+use Rattle.dr_model.specs.Pairs.{is_metro, is_kind}
+use Rattle.dr_model.specs.Layout.{Tracks, Fields, is_part}
 use Rattle.dr_model.specs.Histories.{Write}
 use Rattle.dr_model.specs.Relations.{rest, is_bare, is_whole, turned, given_up}
-use Rattle.dr_model.specs.Moves.{Move, Land, Overwrite, Keep, Note, Relate, Withdraw, Fetch, Resync, Reverse, Restore, Release, Store, Strike, Suspend, MakeSecondary, MakePrimary, DropPrimary, DropSecondary, Follow, Resume, TakeOver, Unsync, Mirror, LandBoth, Thaw, Lift, Restart, moved, target, next_fields}
+use Rattle.dr_model.specs.Moves.{Move, Land, Overwrite, Keep, Note, Relate, Withdraw, Fetch, Resync, Reverse, Restore, Release, Store, Strike, Suspend, MakeSecondary, MakePrimary, DropPrimary, DropSecondary, Follow, Resume, TakeOver, Unsync, Mirror, LandBoth, Thaw, Lift, Restart, Hold, Free, Seal, Finish, RaiseAttempt, RaiseFloor, Leave, moved, target, next_fields}
 use Rattle.dr_model.specs.Table.{Row, Table}
 use Rattle.dr_model.specs.Rows.{after, next_row, next_bytes, next_due, volumes_of, carried_on}
 use Rattle.dr_model.specs.Laws.{Structure, Lawful, RowSets, RowFlags, RowDefined, SetsFit, FlagsFit, Flashed, OneRestore, source, fields}
@@ -13,8 +16,24 @@ use Rattle.dr_model.specs.Allowed.{Allowed}
 use Rattle.dr_model.specs.Lawful.{IsLawful}
 use Rattle.dr_model.proofs.Images.{at_same}
 use Rattle.dr_laws.proofs.AtLemmas.{at_cases, each-at, linked-at}
-use Rattle.dr_laws.proofs.KeepsLawful.{lawful-altered, lawful-received, lawful-struck, lawful-suspended, lawful-resumed, lawful-followed, lawful-made_secondary, lawful-made_primary, lawful-no_primary, lawful-no_secondary, lawful-taken_over, lawful-unsynced, lawful-mirrored, lawful-synced, lawful-thawed, lawful-lifted, lawful-restarted, lawful-taken, low-noted, lawful-noted, lawful-made, lawful-withdrawn, lawful-resynced, lawful-turned, lawful-given_up}
+use Rattle.dr_laws.proofs.KeepsLawful.{lawful-altered, lawful-written, lawful-held, lawful-freed, lawful-sealed, lawful-past_attempt, lawful-attempt, lawful-floor, lawful-no_member, lawful-received, lawful-struck, lawful-suspended, lawful-resumed, lawful-followed, lawful-made_secondary, lawful-made_primary, lawful-no_primary, lawful-no_secondary, lawful-taken_over, lawful-unsynced, lawful-mirrored, lawful-synced, lawful-thawed, lawful-lifted, lawful-restarted, lawful-taken, low-noted, lawful-noted, lawful-made, lawful-withdrawn, lawful-resynced, lawful-turned, lawful-given_up}
 use Rattle.dr_laws.proofs.Sets.{In, in_cond, in_none, in_more, in_insert, still_in, false_true, none_some, not_turned, from_source, still_related, from_difference, from_union, remove_from, not_removed, not_removed_from, empty_has}
+
+-- a part of some kind is one
+pub metro_part : (part : Part) → is_metro part ≡ true → is_part part ≡ true
+metro_part Absent h = absurd cc
+metro_part Metro h = refl
+metro_part Global h = refl
+
+pub kind_part : (kind part : Part) → is_kind kind part ≡ true → is_part part ≡ true
+kind_part kind Absent h = absurd (none kind h)
+  where
+    none : (kind : Part) → is_kind kind Absent ≡ true → ⊥
+    none Absent h = absurd cc
+    none Metro h = absurd cc
+    none Global h = absurd cc
+kind_part kind Metro h = refl
+kind_part kind Global h = refl
 
 -- sets and flags, by their parts
 take-sets : (e : Bool) (t : ℕ) (own noted rewritten blank : Tracks) → In noted (λ q. contains (insert own t) q ≡ true) → In rewritten (λ q. contains (insert own t) q ≡ true) → In own (λ q. contains blank q ≡ false)
@@ -136,12 +155,14 @@ module _ (write : ℕ → Write) (T : Table) (old : Structure T) where
           coordination = g.coordination;
           long_busy = g.long_busy;
           recording = g.recording;
+          attempt = g.attempt;
           out_of_sync = g.out_of_sync;
           change_recording = g.change_recording;
           secondary = g.secondary;
           secondary_state = g.secondary_state;
           secondary_partner = g.secondary_partner;
           seal = g.seal;
+          floor = g.floor;
           blank = g.blank;
         }) (carried_on write m T);
         bytes = next_bytes write m T;
@@ -161,7 +182,7 @@ module _ (write : ℕ → Write) (T : Table) (old : Structure T) where
   })
 
   pub kept-structure : (m : Move) → Allowed write T m → Structure (after write T m)
-  kept-structure (Land w v t) a = paired (Land w v t) (lawful-altered _ _ (old.lawful v) t a.low) (filled v t)
+  kept-structure (Land w v t) a = paired (Land w v t) (lawful-written _ _ (old.lawful v) t a.low) (filled v t)
   kept-structure (Restore v t u) a = paired (Restore v t u) (lawful-altered _ _ (old.lawful v) t a.low) (filled v t)
   kept-structure (Store v t u last) a = paired (Store v t u last) (lawful-received _ _ (old.lawful v) last t (from_source _ _ u a.takes).0) (filled v t)
   kept-structure (Strike v t last) a = paired (Strike v t last) (lawful-struck _ _ (old.lawful v) last t (from_source _ _ a.to a.sends).0) (old.sets v).apart
@@ -171,14 +192,30 @@ module _ (write : ℕ → Write) (T : Table) (old : Structure T) where
   kept-structure (DropPrimary v) a = paired (DropPrimary v) (lawful-no_primary _ _ (old.lawful v)) (old.sets v).apart
   kept-structure (DropSecondary v) a = paired (DropSecondary v) (lawful-no_secondary _ _ (old.lawful v)) (old.sets v).apart
   kept-structure (Follow v state) a = paired (Follow v state) (lawful-followed _ _ (old.lawful v) state a) (old.sets v).apart
-  kept-structure (Resume v state) a = paired (Resume v state) (lawful-resumed _ _ (old.lawful v) state a) (old.sets v).apart
+  kept-structure (Resume v state) a = paired (Resume v state) (lawful-resumed _ _ (old.lawful v) state a.first) (old.sets v).apart
   kept-structure (TakeOver v) a = paired (TakeOver v) (lawful-taken_over _ _ (old.lawful v) a) (old.sets v).apart
-  kept-structure (Unsync v t) a = paired (Unsync v t) (lawful-unsynced _ _ (old.lawful v) t a.low a.first) (old.sets v).apart
+  kept-structure (Unsync v t) a = paired (Unsync v t) (lawful-unsynced _ _ (old.lawful v) t a.low (metro_part (fields T v).primary a.metro)) (old.sets v).apart
   kept-structure (Mirror v t u w) a = paired (Mirror v t u w) (lawful-mirrored _ _ (old.lawful v) t) (filled v t)
   kept-structure (LandBoth w v t) a = paired (LandBoth w v t) (lawful-synced _ _ (old.lawful v) t (from_source _ _ a.to a.sends).0) (filled v t)
   kept-structure (Thaw v) a = paired (Thaw v) (lawful-thawed _ _ (old.lawful v)) (old.sets v).apart
   kept-structure (Lift v) a = paired (Lift v) (lawful-lifted _ _ (old.lawful v)) (old.sets v).apart
   kept-structure (Restart v) a = paired (Restart v) (lawful-restarted _ _ (old.lawful v)) (old.sets v).apart
+  kept-structure (Hold v s n first) a = paired (Hold v s n first) (lawful-held _ _ (old.lawful v) n (kind_part Global (fields T v).primary a.global)) (old.sets v).apart
+  kept-structure (Free v) a = paired (Free v) (lawful-freed _ _ (old.lawful v)) (old.sets v).apart
+  kept-structure (Seal v u s n) a = paired (Seal v u s n) (lawful-sealed _ _ (old.lawful v) n (from_source _ _ u a.takes).0) (old.sets v).apart
+  kept-structure (Finish v n) a = paired (Finish v n) (lawful-past_attempt _ _ (old.lawful v) n) (old.sets v).apart
+  kept-structure (RaiseAttempt v n) a = paired (RaiseAttempt v n) (lawful-attempt _ _ (old.lawful v) n) (old.sets v).apart
+  kept-structure (RaiseFloor v n) a = paired (RaiseFloor v n) (lawful-floor _ _ (old.lawful v) n) (old.sets v).apart
+  kept-structure (Leave v u s) a = structure-at v _ (record {
+    lawful = lawful-no_member _ _ (old.lawful v);
+    sets = let s = old.sets v in record { apart = s.apart; noted_held = s.noted_held; rewritten_held = s.rewritten_held };
+    flags = let g = old.flags v in record { persists = g.persists; records = g.records; unchanged = g.unchanged; some = g.some };
+    defined = old.defined v;
+    from = old.flash v;
+    loop = no_loop v;
+    onto = λ u. old.flash u v;
+    restores = stays-restores v;
+  })
   kept-structure (Overwrite w v t) a = let f : Fields = fields T v in let n : ℕ = (T v).volume.tracks in let e : Bool = is_whole n (insert f.own t) && not f.persistent in let sets = old.sets v in let flags = old.flags v in let low = (old.lawful v).sets in structure-at v _ (record {
     lawful = lawful-taken n f (old.lawful v) e t _ _ (from_source f.related f.source a.from a.related).0 a.low low.source_changes_low (low-noted n f (old.lawful v) f.target_changes t a.low low.target_changes_low);
     sets = take-sets e t f.own _ _ f.blank (held-more f.own _ t sets.noted_held) (held-noted f.recorded f.own _ t sets.rewritten_held) sets.apart;

@@ -8,18 +8,18 @@ use Rattle.std.specs.List.{list_any, fold}
 use Rattle.std.specs.Cmp.{unsigned_tied, nat_cmp_total}
 use Rattle.std.specs.FinSet.{contains, remove, union, members, contains-union}
 use Rattle.dr_model.specs.declared.event.Event.{Event}
-use Rattle.dr_model.specs.declared.event.Event.TheVariants.{Ack, Mirrored, Blanked, Restored, Suspended, Stopped}
+use Rattle.dr_model.specs.declared.event.Event.TheVariants.{Ack, Mirrored, Blanked, Restored, Suspended, Stopped, Begin, Cut}
 use Rattle.dr_model.specs.Histories.{Write, histories}
 use Rattle.dr_model.specs.Layout.{Tracks, Fields, is_part}
 use Rattle.dr_model.specs.Relations.{rest, in_order, is_bare, turned, given_up}
 use Rattle.dr_model.specs.Control.{Pending, Volume, Fuse, World}
 use Rattle.dr_model.specs.Pairs.{secondary_of, is_metro, is_suspended, is_engaged}
-use Rattle.dr_model.specs.Moves.{Move, Land, Overwrite, Keep, Relate, Withdraw, Fetch, Resync, Reverse, Restore, Release, Store, Strike, Suspend, MakePrimary, DropPrimary, TakeOver, Unsync, Mirror, LandBoth, Lift, Restart, target, told, told_in_stop, told_blank, settled, settled_in_stop, moved, tracks_after}
+use Rattle.dr_model.specs.Moves.{Move, Land, Overwrite, Keep, Relate, Withdraw, Fetch, Resync, Reverse, Restore, Release, Store, Strike, Suspend, MakePrimary, DropPrimary, TakeOver, Unsync, Mirror, LandBoth, Lift, Restart, Hold, Seal, Finish, Leave, target, told, told_in_stop, told_blank, settled, settled_in_stop, moved, tracks_after}
 use Rattle.dr_model.specs.Entries.{fields_at}
 use Rattle.dr_model.specs.Table.{Table, table, waiting}
 use Rattle.dr_model.specs.Rows.{next_bytes}
 use Rattle.dr_model.specs.Laws.{SoundRows, source}
-use Rattle.dr_model.specs.Allowed.{Allowed, May}
+use Rattle.dr_model.specs.Allowed.{Allowed}
 use Rattle.dr_model.proofs.Images.{at_same}
 use Rattle.dr_laws.specs.Windows.{later_mirrored, is_ack}
 use Rattle.dr_laws.proofs.AtLemmas.{at_cases, at_part}
@@ -29,7 +29,7 @@ use Rattle.dr_laws.proofs.RowsAfter.{changed, bytes-after}
 use Rattle.dr_laws.proofs.Due.{waiting-settled, waiting-marked_else, none_landed}
 use Rattle.dr_laws.proofs.KeepsParts.{unrelated, unrelated_primary}
 use Rattle.dr_laws.proofs.WindowTracks.{Stays, Window, Quiet}
-use Rattle.dr_laws.proofs.Fair.{is_locked, Fair}
+use Rattle.dr_laws.proofs.Fair.{MayCome, is_locked, Fair}
 
 still-removed : (s : Tracks) (t q : ℕ) → q ≢ t → contains s q ≡ true → contains (remove s t) q ≡ true
 still-removed s t q ne h = grind (members, rules, nat_tests, unsigned_tied)
@@ -95,6 +95,10 @@ silent-suspended : (b : Bool) (v : ℕ) → AllSilent (cond b [] (Suspended v �
 silent-suspended true v = tt
 silent-suspended false v = (tt, tt)
 
+silent-held : (b : Bool) (v s n : ℕ) → AllSilent (cond b (Begin s n ∷ Cut s n v ∷ []) (Cut s n v ∷ []))
+silent-held true v s n = (tt, (tt, tt))
+silent-held false v s n = (tt, tt)
+
 abbrev pub Mute : Move → Type 0
 Mute (Land n v t) = ⊥
 Mute (Overwrite n v t) = ⊥
@@ -118,6 +122,9 @@ silent-told (Resync v s) u m = (tt, tt)
 silent-told (Restore v t x) u m = (tt, tt)
 silent-told (Store v t x last) u m = (tt, tt)
 silent-told (TakeOver v) u m = (tt, tt)
+silent-told (Hold v s n first) u m = silent-held first v s n
+silent-told (Seal v x s n) u m = (tt, tt)
+silent-told (Leave v x s) u m = (tt, tt)
 silent-told m u k = tt
 
 module _ (v q : ℕ) (w : World) (rows : SoundRows (table w)) (st : Stays v q w) where
@@ -201,6 +208,7 @@ module _ (v q : ℕ) (w : World) (rows : SoundRows (table w)) (st : Stays v q w)
     own-out (Suspend x busy) a fair else to e j h = let f : Fields = fields_at w.control x in in-union (is_engaged f) f.out_of_sync f.change_recording j h
     own-out (Lift x) a fair else to e j h = let f : Fields = fields_at w.control x in in-union f.coordination f.out_of_sync f.change_recording j h
     own-out (Restart x) a fair else to e j h = let f : Fields = fields_at w.control x in in-union (is_engaged f) f.out_of_sync f.change_recording j h
+    own-out (Finish x n) a fair else to e j h = let f : Fields = fields_at w.control x in in-union (is_engaged f) f.out_of_sync f.change_recording j h
     own-out (MakePrimary x u kind state full) a fair else to e j h = false_true fair (ap (λ j. is_part (fields_at w.control j).primary) e ∙ first)
     own-out (DropPrimary x) a fair else to e j h = none_some refl to
     own-out (TakeOver x) a fair else to e j h = is-second x e a
@@ -224,33 +232,33 @@ module _ (v q : ℕ) (w : World) (rows : SoundRows (table w)) (st : Stays v q w)
     not-overwritten : (n x t : ℕ) → Allowed write T (Overwrite n x t) → x ≢ v
     not-overwritten n x t a e = no-target x a.from (inl e) a.related
 
-    pub deaf-told : (m : Move) → May w m → Fair tag w m → Else m → (u : Volume) → Deaf q g (told m u)
+    pub deaf-told : (m : Move) → MayCome w m → Fair tag w m → Else m → (u : Volume) → Deaf q g (told m u)
     deaf-told (Land n x t) may fair else u = other-ack n x may.ready.volume (λ e. not-locked x e fair)
     deaf-told (Overwrite n x t) may fair else u = other-ack n x may.ready.volume (not-overwritten n x t may.allowed)
     deaf-told (LandBoth n x t) may fair else u = other-ack n x may.ready.volume else
     deaf-told (Mirror x t y n) may fair else u = record { last = ap (λ b. cond b (Some n) g) (ne_eqb x q else); acks = λ k is. refl }
     deaf-told m may fair else u = deaf-silent q g _ (silent-told m u tt)
 
-    pub deaf-stop : (m : Move) → May w m → Fair tag w m → Else m → (u : Volume) (s k : ℕ) → Deaf q g (told_in_stop m u ++ Stopped s k ∷ [])
+    pub deaf-stop : (m : Move) → MayCome w m → Fair tag w m → Else m → (u : Volume) (s k : ℕ) → Deaf q g (told_in_stop m u ++ Stopped s k ∷ [])
     deaf-stop (Land n x t) may fair else u s k = record { last = refl; acks = λ k is. refl }
     deaf-stop (Overwrite n x t) may fair else u s k = record { last = refl; acks = λ k is. refl }
     deaf-stop (LandBoth n x t) may fair else u s k = record { last = refl; acks = λ k is. refl }
     deaf-stop m may fair else u s k = deaf-append q g (told m u) (Stopped s k ∷ []) (deaf-told m may fair else u) (record { last = refl; acks = λ k is. refl })
 
-    pub waits-done : (m : Move) → May w m → (t : ℕ) → waiting (settled m w.control.pending) v t ≡ waiting w.control.pending v t
+    pub waits-done : (m : Move) → MayCome w m → (t : ℕ) → waiting (settled m w.control.pending) v t ≡ waiting w.control.pending v t
     waits-done (Land n x y) may t = waiting-settled n v t w.control.pending (none_landed x y _ may.ready.coming)
     waits-done (Overwrite n x y) may t = waiting-settled n v t w.control.pending (none_landed x y _ may.ready.coming)
     waits-done (LandBoth n x y) may t = waiting-settled n v t w.control.pending (none_landed x y _ may.ready.coming)
     waits-done m may t = refl
 
-    pub waits-stop : (m : Move) → May w m → Fair tag w m → Else m → (t : ℕ) → waiting (settled_in_stop m w.control.pending) v t ≡ waiting w.control.pending v t
+    pub waits-stop : (m : Move) → MayCome w m → Fair tag w m → Else m → (t : ℕ) → waiting (settled_in_stop m w.control.pending) v t ≡ waiting w.control.pending v t
     waits-stop (Land n x y) may fair else t = waiting-marked_else n x y v t w.control.pending (inl (λ e. not-locked x (sym e) fair)) may.ready.coming
     waits-stop (Overwrite n x y) may fair else t = waiting-marked_else n x y v t w.control.pending (inl (λ e. not-overwritten n x y may.allowed (sym e))) may.ready.coming
     waits-stop (LandBoth n x y) may fair else t = waiting-marked_else n x y v t w.control.pending (inl (λ e. else (sym e))) may.ready.coming
     waits-stop m may fair else t = refl
 
     -- the world after it
-    module _ (m : Move) (may : May w m) (fair : Fair tag w m) (else : Else m) (on : ℕ → Bool) (fuse : ℕ → Option Fuse) (ps : List Pending) (es : List Event) where
+    module _ (m : Move) (may : MayCome w m) (fair : Fair tag w m) (else : Else m) (on : ℕ → Bool) (fuse : ℕ → Option Fuse) (ps : List Pending) (es : List Event) where
       abbrev W : World
       W = changed w m on fuse ps (w.events ++ es)
 

@@ -2,6 +2,7 @@
 use Rattle.std.proofs.Common.{ℕ, ◌≡◌, refl, ap, sym, ◌∙◌, subst, Bool, true, false, cond, ◌&&◌, List, [], ◌∷◌, ◌++◌, map, filter, Some, None}
 use Rattle.std.proofs.lemmas.Bool.{false_from_ne_true, eqb-true, ne_eqb, or_parts}
 use Rattle.std.specs.List.{find}
+use Rattle.std.specs.FinSet.{contains}
 use Rattle.dr_ids.specs.declared.refusal.Refusal.{Refusal}
 use Rattle.dr_model.specs.Layout.{Fields, is_part}
 use Rattle.dr_model.specs.Histories.{histories}
@@ -102,10 +103,10 @@ module _ (w : World) (s : Sound w) (p : Pending) (one : filter (is_write p.w) w.
   f = fields_at w.control v
 
   -- on a volume that is no target, onto which nothing is restored, and whose targets keep the track first
-  pub plain-lands : Runs w v → is_part f.secondary ≡ false → f.related ≡ false → Unrestored w v → Along w (land_alone w.control.volumes p.w v p.track)
-  plain-lands on free is still =
+  pub plain-lands : Runs w v → is_part f.secondary ≡ false → f.related ≡ false → f.coordination ≡ false → (f.recording ≡ true → contains f.out_of_sync p.track ≡ false) → Unrestored w v → Along w (land_alone w.control.volumes p.w v p.track)
+  plain-lands on free is open_to sent still =
       let plain : from w v ≡ None = no_source f.related f.source is in
-      copy-first v p.track w plain (waits w s p one).low on (keep_on v p.track) (λ w x st. refl) _
+      copy-first v p.track w plain (waits w s p one).low on (keep_on v p.track) (λ w x y st. refl) _
       (λ k sk st kept.
       let here = st.volume v plain in
       let one_k : filter (is_write p.w) k.control.pending ≡ p ∷ [] = ap (filter (is_write p.w)) st.pending ∙ one in
@@ -113,7 +114,7 @@ module _ (w : World) (s : Sound w) (p : Pending) (one : filter (is_write p.w) w.
       let waits_k = waits k sk p one_k in
       let is_k : (fields_at k.control v).related ≡ false = ap (λ (x : Volume). x.fields.related) here ∙ is in
       decides k (land_on p.w v p.track) [] (Do (Make (Land p.w v p.track))) (ap (λ b. Do (Make (cond b (Overwrite p.w v p.track) (Land p.w v p.track)))) is_k) (
-        record { runs = on_k; allowed = record { low = waits_k.low; defined = waits_k.defined; plain = no_source _ _ is_k; first = ap (λ (x : Volume). is_part x.fields.secondary) here ∙ free; kept = kept }; fits = tt; ready = may-ack k sk p one_k on_k },
+        record { runs = on_k; allowed = record { low = waits_k.low; defined = waits_k.defined; plain = no_source _ _ is_k; first = ap (λ (x : Volume). is_part x.fields.secondary) here ∙ free; kept = kept; free = ap (λ (x : Volume). x.fields.coordination) here ∙ open_to; sent = λ r. ap (λ (x : Volume). contains x.fields.out_of_sync p.track) here ∙ sent (ap (λ (x : Volume). x.fields.recording) (sym here) ∙ r) }; fits = tt; group = tt; ready = may-ack k sk p one_k on_k },
         λ f j. over _ j,
       ))
       (λ u h r. absurd (still u h r)) s
@@ -124,11 +125,11 @@ module _ (w : World) (s : Sound w) (p : Pending) (one : filter (is_write p.w) w.
       let related : from w v ≡ Some f.source = has_source f.related f.source is in
       copy-none w v p.track _ (λ u h. none_some (s.rows.structure.flash u v h).plain related)
       (decides w (land_on p.w v p.track) [] (Do (Make (Overwrite p.w v p.track))) (ap (λ b. Do (Make (cond b (Overwrite p.w v p.track) (Land p.w v p.track)))) is) (
-        record { runs = on; allowed = record { low = (waits w s p one).low; from = f.source; related = related; forward = forward }; fits = tt; ready = may-ack w s p one on },
+        record { runs = on; allowed = record { low = (waits w s p one).low; from = f.source; related = related; forward = forward }; fits = tt; group = tt; ready = may-ack w s p one on },
         λ f j. over _ j,
       )) w.control.volumes
 
   -- on either: a volume that is settled isn't restored, nor is another onto it
-  pub lands-alone : Runs w v → is_part f.secondary ≡ false → is_settled v w.control ≡ true → (b : Bool) → f.related ≡ b → Along w (land_alone w.control.volumes p.w v p.track)
-  lands-alone on free settled true is = target-lands on is (and-false f.related f.reversing (or_parts (f.related && f.reversing) _ (both-not (stands_in is_revertible w.control v) (stands_in is_reversing w.control v) settled).1).0 is)
-  lands-alone on free settled false is = plain-lands on free is (λ u h r. unrestored w s v settled u h r)
+  pub lands-alone : Runs w v → is_part f.secondary ≡ false → is_settled v w.control ≡ true → f.coordination ≡ false → (f.recording ≡ true → contains f.out_of_sync p.track ≡ false) → (b : Bool) → f.related ≡ b → Along w (land_alone w.control.volumes p.w v p.track)
+  lands-alone on free settled open_to sent true is = target-lands on is (and-false f.related f.reversing (or_parts (f.related && f.reversing) _ (both-not (stands_in is_revertible w.control v) (stands_in is_reversing w.control v) settled).1).0 is)
+  lands-alone on free settled open_to sent false is = plain-lands on free is open_to sent (λ u h r. unrestored w s v settled u h r)

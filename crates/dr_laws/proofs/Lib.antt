@@ -9,9 +9,12 @@ pub mod KeepsStructure
 pub mod KeepsParts
 pub mod KeepsImages
 pub mod KeepsRecorded
+pub mod KeepsRecorders
 pub mod KeepsPairs
 pub mod KeepsTargets
 pub mod KeepsQueue
+pub mod GroupsWanted
+pub mod KeepsGroups
 pub mod Along
 pub mod KeepsSound
 pub mod Views
@@ -20,8 +23,11 @@ pub mod Lands
 pub mod FitsFlash
 pub mod FitsCopy
 pub mod FitsPairs
+pub mod FitsDrain
+pub mod FitsCollide
 pub mod FitsWrites
 pub mod FitsHolds
+pub mod FitsSessions
 pub mod Issues
 pub mod Defines
 pub mod Starts
@@ -31,12 +37,14 @@ pub mod Costs
 pub mod CopyCosts
 pub mod PairCosts
 pub mod WriteCosts
+pub mod SessionCosts
 pub mod Spends
 pub mod Limits
 pub mod Texts
 pub mod Agree
 pub mod ReadStops
 pub mod StopsTold
+pub mod CalmPlans
 pub mod Unissued
 pub mod WindowTracks
 pub mod Fair
@@ -56,6 +64,7 @@ pub mod FairStart
 pub mod FairDrain
 pub mod FairWithin
 pub mod FairWrites
+pub mod FairSessions
 pub mod FairSteps
 pub mod EndsInCut
 pub mod Thaws

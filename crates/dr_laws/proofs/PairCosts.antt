@@ -17,7 +17,7 @@ use Rattle.dr_model.specs.Moves.{Move, Keep, Note, Store, Strike, Suspend, MakeS
 use Rattle.dr_model.specs.Carry.{Make, Pass, Do, Entry, carry, check, now}
 use Rattle.dr_model.specs.Entries.{fields_at, copies_from, is_running, share_size, is_no_target, is_settled, keep_on}
 use Rattle.dr_model.specs.PairEntries.{reach_refusal, end_if, refuse_if, differs_at, two_servers, stands_free, may_follow, make_entries, leads_to, belongs_to, are_linked, remove_both, remove_entries, may_pause, pause_entries, may_resume, follow_on, resume_on, resume_entries, send_refusal, suspend_where, flashed_refusal, store_on, strike_on, send_entries, sends, suspend_running, suspend_after, tracks_to_send}
-use Rattle.dr_model.specs.Plans.{is_defined, is_owner, found_volumes}
+use Rattle.dr_model.specs.Plans.{is_defined, is_owner, found_volumes, member_refusal}
 use Rattle.dr_laws.proofs.Turns.{done}
 use Rattle.dr_laws.proofs.KeepsTargets.{parted-copies}
 use Rattle.dr_laws.proofs.Costs.{Costs, costs_next, costs-nil, costs-entry, carry-adds, in_order-short, Small, Light, AllLight, light-none, light-then, light-check, light-costs, small-pass, small-end, small-do, small-choice}
@@ -158,14 +158,14 @@ module _ (k : Control) (devs : Devs) (a b : ℕ) where
   light-both : AllLight (remove_both k a b)
   light-both = with-check (is_running b) _ _ (with-check (are_linked a b) _ _ (with-move (DropPrimary a) _ (λ u. omega arith) (with-choice (belongs_to a b) (DropSecondary b) (λ u. omega arith))))
 
-  pub light-remove : (source_only : Bool) → AllLight (found_volumes devs a b ++ remove_entries k a b source_only)
-  light-remove source_only = with-found devs a b _ (with-check (is_running a) _ _ (with-check (leads_to a b) _ _ (by source_only)))
+  pub light-remove : (source_only : Bool) → AllLight (found_volumes devs a b ++ refuse_if (member_refusal a b) ∷ remove_entries k a b source_only)
+  light-remove source_only = with-found devs a b _ (with-refusal (member_refusal a b) _ (with-check (is_running a) _ _ (with-check (leads_to a b) _ _ (by source_only))))
     where
       by : (c : Bool) → AllLight (cond c (now (DropPrimary a) ∷ []) (remove_both k a b))
       by true = with-move (DropPrimary a) [] (λ u. omega arith) light-none
       by false = light-both
 
-  pub length-remove : (source_only : Bool) → length (found_volumes devs a b ++ remove_entries k a b source_only) ≤ 20
+  pub length-remove : (source_only : Bool) → length (found_volumes devs a b ++ refuse_if (member_refusal a b) ∷ remove_entries k a b source_only) ≤ 20
   length-remove true = omega arith
   length-remove false = omega arith
 

@@ -93,4 +93,4 @@ pub rows-ends : (armed : ℕ → Bool) (w u : World) (r : Option Refusal) (t : T
 rows-ends armed w u r t s e =
     let p : Plan = plan w.control w.events t.line t.asked in
     let holds : StepHolds w p = step-holds w s t.line t.asked in
-    along.ends-weaker holds.inner Sound RowsAt holds.may holds.within (λ v x. x.rows) holds.keeps armed (λ v x j on is. rows-gone v x (holds.within v j)) u r (begun w p) p.entries holds.begins holds.entries e
+    along.ends-weaker holds.inner Sound holds.ends RowsAt holds.may holds.within (λ v x. x.rows) holds.complete holds.keeps armed (λ v x j on is. rows-gone v x (holds.within v j)) u r (begun w p) p.entries holds.begins holds.entries e

@@ -6,7 +6,7 @@ use Rattle.std.specs.FinSet.{contains, remove}
 use Rattle.std.specs.List.{fold}
 use Rattle.std.proofs.lemmas.List.Sums.{fold-append}
 use Rattle.dr_model.specs.declared.event.Event.{Event}
-use Rattle.dr_model.specs.declared.event.Event.TheVariants.{Stopped, Suspended}
+use Rattle.dr_model.specs.declared.event.Event.TheVariants.{Stopped, Suspended, Begin, Cut}
 use Rattle.dr_model.specs.Tables.{at}
 use Rattle.dr_model.specs.Contents.{zeros}
 use Rattle.dr_model.specs.Histories.{Write, Histories, histories, after_event}
@@ -14,7 +14,7 @@ use Rattle.dr_model.specs.Control.{Control, Pending, Volume, Fuse, World, is_vol
 use Rattle.dr_model.specs.Layout.{Tracks}
 use Rattle.dr_model.specs.Relations.{rest, is_bare, turned, given_up}
 use Rattle.dr_model.specs.Pairs.{is_suspended}
-use Rattle.dr_model.specs.Moves.{Move, Land, Overwrite, Keep, Relate, Withdraw, Fetch, Resync, Reverse, Restore, Release, Store, Suspend, Mirror, LandBoth, target, told, told_in_stop, landed, settled, settled_in_stop, moved, tracks_after}
+use Rattle.dr_model.specs.Moves.{Move, Land, Overwrite, Keep, Relate, Withdraw, Fetch, Resync, Reverse, Restore, Release, Store, Suspend, Mirror, LandBoth, Hold, target, told, told_in_stop, landed, settled, settled_in_stop, moved, tracks_after}
 use Rattle.dr_model.specs.Table.{table, waiting, due, due_by}
 use Rattle.dr_model.specs.Rows.{emptied, next_row, next_due, next_bytes, after}
 use Rattle.dr_model.specs.Laws.{servers, Structure, Blank, Queue, Waits, AllPending}
@@ -153,6 +153,11 @@ module _ (w : World) where
     each-due (Mirror v t u n) a ready = due-mirrored h ps n v t u ready.volume ready.track (calm w v ready.idle) (calm w u ready.from_idle)
     each-due (LandBoth n v t) a ready = due-acked h ps n v t ready.volume ready.track (calm w v ready.idle) ready.coming
     each-due (Suspend v busy) a ready = due-told h ps v (Suspended v) (λ h. refl) (is_suspended (w.control.volume v).fields.primary_state)
+    each-due (Hold v s n first) a ready = by first
+      where
+        by : (b : Bool) → (u q : ℕ) → due_by (fold after_event h (cond b (Begin s n ∷ Cut s n v ∷ []) (Cut s n v ∷ []))) ps u q ≡ at (due w) v (due w v) u q
+        by true u q = due-same h ps v u q
+        by false u q = due-same h ps v u q
     each-due m a ready = due-same h ps (target m)
 
     stop-due : (m : Move) → Allowed h.write (table w) m → Ready w m → Leads m (told_in_stop m (w.control.volume (target m))) (settled_in_stop m ps)

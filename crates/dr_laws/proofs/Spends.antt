@@ -15,7 +15,7 @@ use Rattle.dr_model.specs.Layout.{Tracks, Fields}
 use Rattle.dr_model.specs.Relations.{rest, turned}
 use Rattle.dr_model.specs.Limits.{step_events, most_volumes, most_tracks}
 use Rattle.dr_model.specs.Control.{Control, World}
-use Rattle.dr_model.specs.Moves.{Relate, Withdraw, Fetch, Resync, Reverse}
+use Rattle.dr_model.specs.Moves.{Relate, Withdraw, Fetch, Resync, Reverse, Leave}
 use Rattle.dr_model.specs.Carry.{Make, Entry, Outcome, carry, follow, now}
 use Rattle.dr_model.specs.Entries.{fields_at, is_running, times, on_found, lowest_missing, fetch_next, give_back, share_server, share_size, is_no_target}
 use Rattle.dr_model.specs.PairEntries.{tracks_to_send, is_copying}
@@ -23,12 +23,15 @@ use Rattle.dr_model.specs.Plans.{Plan, plan, entries_plan, tables_plan, named_pa
 use Rattle.dr_model.specs.Runs.{begun, finish, after_plan}
 use Rattle.dr_model.specs.Laws.{Sound}
 use Rattle.dr_laws.specs.Limits.{IsWithin}
-use Rattle.dr_laws.proofs.Cases.{Case, Says, Defines, Adds, Links, Issues, Writes, Applies, Shows, Stops, Arms, Starts, Flashes, Withdraws, Resyncs, Reverses, Copies, Paths, Unpaths, MakesPair, RemovesPair, Pauses, ResumesPair, Drains, Expires, Freezes, Thaws, plan-case}
+use Rattle.dr_laws.proofs.Cases.{Case, Says, Defines, Adds, Links, Issues, Writes, Applies, Shows, Stops, Arms, Starts, Flashes, Withdraws, Resyncs, Reverses, Copies, Paths, Unpaths, MakesPair, RemovesPair, Pauses, ResumesPair, Drains, Expires, Freezes, Thaws, JoinsSession, LeavesSession, Mirrors, PausesMirror, Unmirrors, Aborts, AddsMember, Expels, Exchanges, plan-case}
 use Rattle.dr_laws.proofs.Sets.{false_true, remove_from, not_removed, empty_has, rest_low}
 use Rattle.dr_laws.proofs.Costs.{Costs, costs-nil, costs-check, costs-last, carry-adds, blanks-few, restored-few, Small, Light, AllLight, light-none, light-then, light-costs, small-pass, small-do}
 use Rattle.dr_laws.proofs.CopyCosts.{rounds}
 use Rattle.dr_laws.proofs.PairCosts.{sends-costs, sent-few, suspend_after-few, light-pair, light-remove, length-remove, light-pause, light-resume}
-use Rattle.dr_laws.proofs.WriteCosts.{brief-costs, brief-landing, part_after-few, brief-freeze, brief-thaw, brief-expire, brief-start}
+use Rattle.dr_model.specs.SessionPlans.{member_with}
+use Rattle.dr_laws.proofs.GroupsWanted.{members-few}
+use Rattle.dr_laws.proofs.SessionCosts.{add-costs, order-costs}
+use Rattle.dr_laws.proofs.WriteCosts.{brief-costs, brief-landing, after_write-few, brief-freeze, brief-thaw, brief-expire, brief-start}
 
 -- a set of numbers below n has no more than n
 pub len-low : (n : ℕ) (s : Tracks) → ((q : ℕ) → contains s q ≡ true → q < n) → len s ≤ n
@@ -145,14 +148,14 @@ module _ (w : World) (x : Sound w) (h : IsWithin w.control) where
   case-spends line _ (Links a b up) = tables-spends _ _ _ (omega arith)
   case-spends line _ (Issues v t offset len bytes free) = record { spends = 0; costs = costs-nil 0 _; after = 0; follows = none-adds; few = omega arith }
   case-spends line _ (Writes v t offset len bytes free) = record {
-    spends = 138;
-    costs = brief-costs 138 _ (brief-landing most_volumes w.control h.volumes (w.control.issued + 1) v t) _;
+    spends = 139;
+    costs = brief-costs 139 _ (brief-landing most_volumes w.control h.volumes (w.control.issued + 1) v t) _;
     after = 2;
-    follows = λ s u. part_after-few v s u;
+    follows = λ s u. after_write-few w.control v t s u;
     few = omega arith;
   }
   case-spends line _ (Applies n p found) =
-      record { spends = 138; costs = brief-costs 138 _ (brief-landing most_volumes w.control h.volumes p.w p.volume p.track) _; after = 2; follows = λ s u. part_after-few p.volume s u; few = omega arith }
+      record { spends = 139; costs = brief-costs 139 _ (brief-landing most_volumes w.control h.volumes p.w p.volume p.track) _; after = 2; follows = λ s u. after_write-few w.control p.volume p.track s u; few = omega arith }
   case-spends line _ (Shows v t there) = tables-spends _ _ _ (omega arith)
   case-spends line _ (Stops s on) = tables-spends _ _ _ (omega arith)
   case-spends line _ (Arms writes torn s) = tables-spends _ _ _ (omega arith)
@@ -197,6 +200,18 @@ module _ (w : World) (x : Sound w) (h : IsWithin w.control) where
   case-spends line _ (Expires s on) = entries-spends _ _ 64 (brief-costs 64 _ (brief-expire most_volumes w.control.volumes h.volumes s) _) (omega arith)
   case-spends line _ (Freezes l m) = entries-spends _ _ 65 (brief-costs 65 _ (brief-freeze most_volumes w.control.volumes h.volumes l m) _) (omega arith)
   case-spends line _ (Thaws l m) = entries-spends _ _ 65 (brief-costs 65 _ (brief-thaw most_volumes w.control.volumes h.volumes l m) _) (omega arith)
+  case-spends line _ (JoinsSession l s free) = tables-spends _ _ _ (omega arith)
+  case-spends line _ (LeavesSession l s y found free) = tables-spends _ _ _ (omega arith)
+  case-spends line _ (Mirrors owner s y found free) = tables-spends _ _ _ (omega arith)
+  case-spends line _ (PausesMirror s on) = tables-spends _ _ _ (omega arith)
+  case-spends line _ (Unmirrors s y found free) = tables-spends _ _ _ (omega arith)
+  case-spends line _ (Aborts s y found free) = record { spends = 0; costs = costs-nil 0 _; after = 0; follows = none-adds; few = omega arith }
+  case-spends line _ (AddsMember s a c y joins) = record { spends = 2; costs = add-costs (member_with w.control a c) _ _; after = 0; follows = none-adds; few = omega arith }
+  case-spends line _ (Expels s a y m found is idle on) = record { spends = 1; costs = costs-last 1 _ (Leave m.c.0 m.a.0 s) (omega arith); after = 0; follows = none-adds; few = omega arith }
+  case-spends line _ (Exchanges s server reply y r o allowed) =
+      let few : length y.members ≤ length w.control.volumes = members-few w.control s y allowed.found x.groups in
+      let room : length w.control.volumes ≤ most_volumes = h.volumes in
+      record { spends = 384; costs = order-costs o.work s o.number server y.members 64 (omega arith) 384 (omega arith) _; after = 0; follows = none-adds; few = omega arith }
 
   pub plan-spends : (line : ℕ) (asked : Result Step ℕ) → Spends w (plan w.control w.events line asked)
   plan-spends line asked = case-spends line _ (plan-case w.control w.events line asked)

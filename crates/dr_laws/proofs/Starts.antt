@@ -9,22 +9,24 @@ use Rattle.dr_model.specs.declared.event.Event.TheVariants.{Ack, Started}
 use Rattle.dr_model.specs.Tables.{at}
 use Rattle.dr_model.specs.Contents.{image}
 use Rattle.dr_model.specs.Histories.{Write, Histories, histories}
-use Rattle.dr_model.specs.Control.{Control, Pending, World, Fuse, is_volume}
+use Rattle.dr_model.specs.Control.{Control, Pending, Volume, World, Fuse, is_volume}
 use Rattle.dr_model.specs.Pairs.{must_restart}
 use Rattle.dr_model.specs.Moves.{Move, Restart, is_other}
-use Rattle.dr_model.specs.Carry.{Act, Make, Redo, Acknowledge, Drop, EndFreeze, EndThaw, Pass, Do, Entry, acknowledged}
+use Rattle.dr_model.specs.Carry.{Act, Make, OpenAttempt, Redo, Acknowledge, Drop, EndFreeze, EndThaw, Pass, Do, Entry, acknowledged}
 use Rattle.dr_model.specs.Entries.{fields_at}
 use Rattle.dr_model.specs.WriteEntries.{belongs, redo_on, restart_on, start_entries}
 use Rattle.dr_model.specs.Plans.{has_landed, acknowledge_on, acknowledge_if, start_plan, starting}
 use Rattle.dr_model.specs.Runs.{begun}
+use Rattle.dr_model.specs.Groups.{Groups}
 use Rattle.dr_model.specs.Table.{table, waiting, due, due_by}
 use Rattle.dr_model.specs.Laws.{SoundRows, Sound, SoundBut, Waits, AllPending, Apart, Lone, Together, servers, Numbered}
 use Rattle.dr_model.specs.Allowed.{Runs, May}
 use Rattle.dr_model.proofs.Images.{histories-append, at_same, at_other}
 use Rattle.dr_laws.proofs.AtLemmas.{at_cases}
 use Rattle.dr_laws.proofs.Sets.{if_false, if_true}
-use Rattle.dr_laws.proofs.Turns.{after_act, done_in_stop, not_done, place, server_of, Writes}
+use Rattle.dr_laws.proofs.Turns.{after_act, fused, done_in_stop, not_done, place, server_of, Writes}
 use Rattle.dr_laws.proofs.Due.{acked_lists}
+use Rattle.dr_laws.proofs.GroupsWanted.{groups-same}
 use Rattle.dr_laws.proofs.RowsAfter.{calm-each}
 use Rattle.dr_laws.proofs.KeepsQueue.{each-on, all-filter, apart-filter, lone-filter, numbered-after}
 use Rattle.dr_laws.proofs.KeepsSound.{StepHolds, over, sound-done, sound-stop, sound-not, rows-told}
@@ -125,6 +127,11 @@ module _ (server : ℕ → ℕ) (is_defined : ℕ → Bool) (s : ℕ) where
   none-found [] d h = tt
   none-found (x ∷ xs) d h = none-by x xs (found x) d.0 refl h (none-found xs d.1)
 
+-- the volumes and sessions are as they were
+same-groups : (j k : Control) → k.sessions ≡ j.sessions → k.volumes ≡ j.volumes → k.volume ≡ j.volume → Groups j → Groups k
+same-groups j k sessions volumes volume = groups-same j k (record { sessions = sessions; volumes = volumes; server = λ v. ap (λ (g : ℕ → Volume). (g v).server) volume; tracks = λ v. ap (λ (g : ℕ → Volume). (g v).tracks) volume })
+    (λ v h. (ap (λ (g : ℕ → Volume). (g v).fields.recording) (sym volume) ∙ h, ap (λ (g : ℕ → Volume). (g v).fields.attempt) volume))
+
 -- while server s starts
 module _ (s : ℕ) where
   abbrev pub Starting : World → Type 0
@@ -149,6 +156,7 @@ module _ (s : ℕ) where
 
   abbrev pub MayStart : World → Act → Type 0
   MayStart w (Make m) = MayMove w m
+  MayStart w (OpenAttempt v i n) = ⊥
   MayStart w (Redo v) = OnServer w v
   MayStart w (Acknowledge n) = MayAcknowledge w n
   MayStart w (Drop n) = ⊥
@@ -181,6 +189,7 @@ module _ (s : ℕ) where
   sound-off w j off = record {
     rows = j.rows;
     targets = j.targets;
+    groups = j.groups;
     queue = record { each = each-on (λ p waits. waits-free w.control _ p waits (inl off)) w.control.pending j.queue.each; apart = j.queue.apart; lone = j.queue.lone; numbers = j.queue.numbers };
   }
 
@@ -188,6 +197,7 @@ module _ (s : ℕ) where
   sound-free w j free = record {
     rows = j.rows;
     targets = j.targets;
+    groups = j.groups;
     queue = record { each = both-on (λ p waits free. waits-free w.control _ p waits (inr free)) w.control.pending j.queue.each free; apart = j.queue.apart; lone = j.queue.lone; numbers = j.queue.numbers };
   }
 
@@ -224,6 +234,7 @@ module _ (s : ℕ) where
     acknowledges = record {
       rows = subst SoundRows (λ i u. record (table w u) { due = λ q. sym (same-due u q) i }) j.rows;
       targets = record { once = j.targets.once; few = j.targets.few };
+      groups = same-groups w.control (acknowledged w p.w).control refl refl refl j.groups;
       queue = record {
         each = subst (λ (h : Histories). AllPending (Waits (Some s) w.control h.write) (filter (is_other p.w) ps)) (sym told) (all-filter _ (is_other p.w) ps j.queue.each);
         apart = apart-filter p.w ps j.queue.apart;
@@ -235,6 +246,7 @@ module _ (s : ℕ) where
   runs : (w : World) (a : Act) → Writes a → MayStart w a → Runs w (place a)
   runs w (Make (Restart v)) d may = ap w.control.on may.own ∙ may.on
   runs w (Make m) d may = absurd may
+  runs w (OpenAttempt v i n) d may = absurd may
   runs w (Redo v) d may = ap w.control.on may.own ∙ may.on
   runs w (Acknowledge n) d may = absurd d
   runs w (Drop n) d may = absurd d
@@ -243,12 +255,13 @@ module _ (s : ℕ) where
 
   -- a volume that goes on leaves the queue as it was
   pub may-restart : (w : World) (v : ℕ) → OnServer w v → May w (Restart v)
-  may-restart w v may = record { runs = ap w.control.on may.own ∙ may.on; allowed = tt; fits = tt; ready = tt }
+  may-restart w v may = record { runs = ap w.control.on may.own ∙ may.on; allowed = tt; fits = tt; group = tt; ready = tt }
 
   does : (w : World) (a : Act) (f : Option Fuse) → Inner w → MayStart w a → Inner (after_act w a f)
   does w (Make (Restart v)) f j may = record { sound = sound-done (Some s) w (Restart v) f j.sound (may-restart w v may); on = j.on }
   does w (Make m) f j may = absurd may
-  does w (Redo v) f j may = let x = j.sound in record { sound = record { rows = x.rows; targets = record { once = x.targets.once; few = x.targets.few }; queue = record { each = x.queue.each; apart = x.queue.apart; lone = x.queue.lone; numbers = x.queue.numbers } }; on = j.on }
+  does w (OpenAttempt v i n) f j may = absurd may
+  does w (Redo v) f j may = let x = j.sound in record { sound = record { rows = x.rows; targets = record { once = x.targets.once; few = x.targets.few }; groups = same-groups w.control (fused w (servers w.control v) f).control refl refl refl x.groups; queue = record { each = x.queue.each; apart = x.queue.apart; lone = x.queue.lone; numbers = x.queue.numbers } }; on = j.on }
   does w (Acknowledge n) f j may = record { sound = subst (λ n. Starting (acknowledged w n)) may.number (acknowledges w j.sound may.waits may.first); on = j.on }
   does w (Drop n) f j may = absurd may
   does w (EndFreeze l m) f j may = absurd may
@@ -264,6 +277,7 @@ module _ (s : ℕ) where
   fails : (w : World) (a : Act) (f : Option Fuse) → Writes a → Inner w → MayStart w a → Sound (not_done w (server_of w a) f)
   fails w (Make (Restart v)) f d j may = stopped-off w v f j may
   fails w (Make m) f d j may = absurd may
+  fails w (OpenAttempt v i n) f d j may = absurd may
   fails w (Redo v) f d j may = stopped-off w v f j may
   fails w (Acknowledge n) f d j may = absurd d
   fails w (Drop n) f d j may = absurd d
@@ -271,16 +285,16 @@ module _ (s : ℕ) where
   fails w (EndThaw l m) f d j may = absurd d
 
   pub keeps : along.Keeps Inner Sound MayStart
-  keeps = record { runs = runs; does = does; counts = counts; fails = λ w a f d j may. fails w a f d j may }
+  keeps = record { runs = runs; does = does; counts = counts; opens = λ w v i n f j may. absurd may; fails = λ w a f d j may. fails w a f d j may }
 
   -- all that a start does
   abbrev Along : World → List Entry → Type 0
-  Along = along.Along Inner Sound MayStart
+  Along = along.Along Inner Sound Sound MayStart
 
   acknowledge-by : (w : World) (o : Option Pending) → first_landed w ≡ o → Inner w → along.along_next Inner Sound MayStart w (acknowledge_if (option_map (λ (p : Pending). p.w) o)) (λ v. Along v [])
-  acknowledge-by w None none j = along.along-nil Inner Sound MayStart w (sound-free w j.sound (none-found (servers w.control) (is_volume w.control) s w.control.pending (are-defined w j.sound) none))
+  acknowledge-by w None none j = along.along-nil Inner Sound Sound MayStart w (sound-free w j.sound (none-found (servers w.control) (is_volume w.control) s w.control.pending (are-defined w j.sound) none))
   acknowledge-by w (Some p) first j =
-      (record { waits = p; number = refl; first = first }, λ f k. along.along-nil Inner Sound MayStart _ (sound-free _ k.sound (gone w j.sound p first).free))
+      (record { waits = p; number = refl; first = first }, λ f k. along.along-nil Inner Sound Sound MayStart _ (sound-free _ k.sound (gone w j.sound p first).free))
 
   redo-by : (w : World) (v : ℕ) (more : World → Type 0) → Inner w → ((k : World) → Inner k → more k) → (b : Bool) → belongs w.control s v ≡ b → along.along_next Inner Sound MayStart w (cond b (Do (Redo v)) Pass) more
   redo-by w v more j go false h = go w j
@@ -292,10 +306,10 @@ module _ (s : ℕ) where
   restart-by w v more j go true h = (record { own = eqb-true (servers w.control v) s (and_parts (is_volume w.control v) _ (and_parts (belongs w.control s v) _ h).0).1; on = j.on }, λ f k. go _ k)
 
   volumes-start : (vs : List ℕ) (w : World) → Inner w → Along w (start_entries s vs ++ acknowledge_on s ∷ [])
-  volumes-start [] w j = along.along-entry Inner Sound MayStart w (acknowledge_on s) [] _ refl (acknowledge-by w _ refl j)
+  volumes-start [] w j = along.along-entry Inner Sound Sound MayStart w (acknowledge_on s) [] _ refl (acknowledge-by w _ refl j)
   volumes-start (v ∷ vs) w j =
-      along.along-entry Inner Sound MayStart w (redo_on s v) _ _ refl (redo-by w v _ j (λ k i.
-      along.along-entry Inner Sound MayStart k (restart_on s v) _ _ refl (restart-by k v _ i (λ k i. volumes-start vs k i) _ refl)) _ refl)
+      along.along-entry Inner Sound Sound MayStart w (redo_on s v) _ _ refl (redo-by w v _ j (λ k i.
+      along.along-entry Inner Sound Sound MayStart k (restart_on s v) _ _ refl (restart-by k v _ i (λ k i. volumes-start vs k i) _ refl)) _ refl)
 
   starts-waits : (w : World) → Sound w → (p : Pending) → Waits None w.control (histories w.events).write p → Waits (Some s) (starting s w.control) (histories w.events).write p
   starts-waits w x p waits = record {
@@ -314,6 +328,7 @@ module _ (s : ℕ) where
         sound = record {
           rows = rows-told w (Started s ∷ []) same x.rows;
           targets = record { once = x.targets.once; few = x.targets.few };
+          groups = same-groups w.control (starting s w.control) refl refl refl x.groups;
           queue = record {
             each = subst (λ (h : Histories). AllPending (Waits (Some s) (starting s w.control) h.write) w.control.pending) (sym same) (each-on (starts-waits w x) w.control.pending x.queue.each);
             apart = x.queue.apart;
@@ -327,9 +342,11 @@ module _ (s : ℕ) where
   pub holds-start : (w : World) → Sound w → StepHolds w (start_plan w.control s)
   holds-start w x = record {
     inner = Inner;
+    ends = Sound;
     may = MayStart;
     keeps = keeps;
     within = λ v j. j.sound.rows;
+    complete = λ v i. i.rows;
     begins = begins w x;
     entries = volumes-start w.control.volumes (begun w (start_plan w.control s)) (begins w x);
     follows = λ q v i. over v i;

@@ -21,17 +21,19 @@ use Rattle.dr_model.specs.Table.{table}
 use Rattle.dr_model.specs.Laws.{SoundRows, Sound}
 use Rattle.dr_model.proofs.Images.{histories-append}
 use Rattle.dr_model.proofs.LawfulLemmas.{lawful-no_fields}
-use Rattle.dr_laws.proofs.Cases.{Case, Says, Defines, Adds, Links, Issues, Writes, Applies, Shows, Stops, Arms, Starts, Flashes, Withdraws, Resyncs, Reverses, Copies, Paths, Unpaths, MakesPair, RemovesPair, Pauses, ResumesPair, Drains, Expires, Freezes, Thaws, IsTrack, plan-case, is-new, may-issue}
+use Rattle.dr_laws.proofs.Cases.{Case, Says, Defines, Adds, Links, Issues, Writes, Applies, Shows, Stops, Arms, Starts, Flashes, Withdraws, Resyncs, Reverses, Copies, Paths, Unpaths, MakesPair, RemovesPair, Pauses, ResumesPair, Drains, Expires, Freezes, Thaws, JoinsSession, LeavesSession, Mirrors, PausesMirror, Unmirrors, Aborts, AddsMember, Expels, Exchanges, IsTrack, plan-case, is-new, may-issue}
 use Rattle.dr_laws.proofs.KeepsQueue.{Quiet, AllQuiet, goes-off}
 use Rattle.dr_laws.proofs.KeepsSound.{StepHolds, RowsAt, MayDo, holds-moves, keeps-sound, sound-told, over}
 use Rattle.dr_laws.proofs.Issues.{issued, sound-issued, one-new}
 use Rattle.dr_laws.proofs.Lands.{found-alone}
 use Rattle.dr_laws.proofs.FitsFlash.{holds-flash, holds-withdraw, holds-resync, holds-reverse}
 use Rattle.dr_laws.proofs.FitsCopy.{holds-copy}
-use Rattle.dr_laws.proofs.FitsPairs.{holds-pair, holds-remove, holds-pause, holds-resume, holds-drain}
-use Rattle.dr_laws.proofs.FitsWrites.{lands, parts-after}
+use Rattle.dr_laws.proofs.FitsPairs.{holds-pair, holds-remove, holds-pause, holds-resume}
+use Rattle.dr_laws.proofs.FitsDrain.{holds-drain}
+use Rattle.dr_laws.proofs.FitsWrites.{lands, writes-after}
+use Rattle.dr_laws.proofs.FitsSessions.{sound-lost, holds-joined, holds-left, holds-mirrored, holds-paused, holds-unmirrored, holds-aborted, holds-orders, orders-added, orders-expelled, orders-ordered}
 use Rattle.dr_laws.proofs.FitsHolds.{holds-freeze, holds-thaw, holds-expire}
-use Rattle.dr_laws.proofs.Sets.{in_none}
+use Rattle.dr_laws.proofs.Sets.{in_none, empty_has}
 use Rattle.dr_laws.proofs.Defines.{sound-defined}
 use Rattle.dr_laws.proofs.Starts.{holds-start}
 use Rattle.dr_laws.proofs.Along as along
@@ -78,7 +80,7 @@ module _ (w : World) (s : Sound w) (v t offset len : ℕ) (bytes : List ℕ) (th
   holds-issue = holds-moves w (issue_done w.control v t offset len bytes) begins (over _ begins) (λ q k i. over k i) (λ k i. i)
 
   holds-write : StepHolds w (write_done w.control v t offset len bytes)
-  holds-write = holds-moves w (write_done w.control v t offset len bytes) begins (lands first begins new (one-new w s v t offset len bytes there.defined there.low)) (λ q k i. parts-after v q k i) (λ k i. i)
+  holds-write = holds-moves w (write_done w.control v t offset len bytes) begins (lands first begins new (one-new w s v t offset len bytes there.defined there.low)) (λ q k i. writes-after w.control v t q k i) (λ k i. i)
 
 -- a pending write is carried out
 module _ (w : World) (s : Sound w) (n : ℕ) (p : Pending) (found : find (is_write n) w.control.pending ≡ Some p) where
@@ -92,7 +94,7 @@ module _ (w : World) (s : Sound w) (n : ℕ) (p : Pending) (found : find (is_wri
   here-sound = subst Sound same-world s
 
   holds-apply : StepHolds w (apply_done w.control p)
-  holds-apply = holds-moves w (apply_done w.control p) here-sound (lands here here-sound p (found-alone n p w.control.pending found s.queue.apart)) (λ q k i. parts-after p.volume q k i) (λ k i. i)
+  holds-apply = holds-moves w (apply_done w.control p) here-sound (lands here here-sound p (found-alone n p w.control.pending found s.queue.apart)) (λ q k i. writes-after w.control p.volume p.track q k i) (λ k i. i)
 
 -- whatever a step comes to
 module _ (w : World) (s : Sound w) (line : ℕ) where
@@ -128,6 +130,15 @@ module _ (w : World) (s : Sound w) (line : ℕ) where
   case-holds _ (Expires x on) = holds-expire x w s on
   case-holds _ (Freezes l m) = holds-freeze l m w s
   case-holds _ (Thaws l m) = holds-thaw l m w s
+  case-holds _ (JoinsSession l i free) = holds-joined w s l i free
+  case-holds _ (LeavesSession l i x found free) = holds-left w s l i x found free
+  case-holds _ (Mirrors owner i x found free) = holds-mirrored w s owner i x found free
+  case-holds _ (PausesMirror i on) = holds-paused w s i on
+  case-holds _ (Unmirrors i x found free) = holds-unmirrored w s i x found free
+  case-holds _ (Aborts i x found free) = holds-aborted w s i x found free
+  case-holds _ (AddsMember i a c x joins) = holds-orders w _ (orders-added w s i a c x joins)
+  case-holds _ (Expels i a x m found is idle on) = holds-orders w _ (orders-expelled w s i a x m found is idle on)
+  case-holds _ (Exchanges i server reply x r o allowed) = holds-orders w _ (orders-ordered w s i server reply x r o allowed)
 
   pub step-holds : (asked : Result Step ℕ) → StepHolds w (plan w.control w.events line asked)
   step-holds asked = case-holds _ (plan-case w.control w.events line asked)
@@ -137,7 +148,7 @@ unfolding after_plan
 sound-plan w line p holds = sound-said _ line _ (along.plan-keeps Sound RowsAt MayDo keeps-sound (λ v s. s.rows) w p holds)
 
 pub sound-task : (w : World) (t : Task) → Sound w → Sound (after_task w t)
-sound-task w t s = sound-plan w t.line (plan w.control w.events t.line t.asked) (step-holds w s t.line t.asked)
+sound-task w t s = sound-lost w _ (sound-plan w t.line (plan w.control w.events t.line t.asked) (step-holds w s t.line t.asked))
 
 pub sound-tasks : (w : World) (tasks : List Task) → Sound w → Sound (after_tasks w tasks)
 unfolding after_tasks
@@ -166,7 +177,15 @@ sound-nothing = record {
     };
     images = record { blank = λ v t h. refl; fresh = λ v h t. refl; plain = λ v h t lt. refl; seen = λ v u h. absurd cc };
     recorded = λ v u h. absurd cc;
+    recorders = λ v. record { holds = λ h. absurd cc; global = λ h. absurd cc; pending = λ h. absurd cc; none = λ h. empty_has };
+    final = λ v. refl;
     pairs = λ v u h. absurd cc;
+  };
+  groups = record {
+    once = tt;
+    each = λ x h. absurd h;
+    lone = record { differ = λ x m h. absurd h; one = λ v x y m q h. absurd h };
+    recorders = λ v h. absurd cc;
   };
   targets = record { once = tt; few = λ v. omega arith };
   queue = record { each = tt; apart = tt; lone = tt; numbers = record { now = λ v t. tt; aside = λ v t. tt } };

@@ -56,6 +56,7 @@ module _ (old : ℕ → ℕ → List ℕ) where
   keeps = record {
     runs = runs;
     does = does;
+    opens = λ w v s n f j may. absurd may;
     counts = λ w m f s may. (keeps-sound.counts w m f s.0 (thaw-may w m may), stays w m s may);
     fails = fails;
   }
@@ -81,30 +82,32 @@ module _ (old : ℕ → ℕ → List ℕ) where
     thaws-by w v more s go false is = go w s
     thaws-by w v more s go true is =
         let primary = between l m w v (and_parts (is_between w.control l m v) _ is).0 in
-        (record { runs = primary.0; allowed = tt; fits = tt; ready = idle w v s.0.queue primary.0 }, λ f y. go _ y)
+        (record { runs = primary.0; allowed = tt; fits = tt; group = tt; ready = idle w v s.0.queue primary.0 }, λ f y. go _ y)
 
-    thaws : (vs : List ℕ) (w : World) → Within w → along.Along Within Within Thawing w (map (thaw_on l m) vs ++ end_thaw l m ∷ [])
-    thaws [] w s = along.along-entry Within Within Thawing w (end_thaw l m) [] (Do (EndThaw l m)) refl (tt, λ f y. along.along-nil Within Within Thawing _ y)
-    thaws (v ∷ vs) w s = along.along-entry Within Within Thawing w (thaw_on l m v) _ _ refl (thaws-by w v _ s (λ k y. thaws vs k y) _ refl)
+    thaws : (vs : List ℕ) (w : World) → Within w → along.Along Within Within Within Thawing w (map (thaw_on l m) vs ++ end_thaw l m ∷ [])
+    thaws [] w s = along.along-entry Within Within Within Thawing w (end_thaw l m) [] (Do (EndThaw l m)) refl (tt, λ f y. along.along-nil Within Within Within Thawing _ y)
+    thaws (v ∷ vs) w s = along.along-entry Within Within Within Thawing w (thaw_on l m v) _ _ refl (thaws-by w v _ s (λ k y. thaws vs k y) _ refl)
 
   module _ (w : World) (s : Within w) where
     begins : Within (as_begun w)
     begins = (sound-begun w s.0, s.1)
 
-    leaves : (entries : List Entry) (a : Said) → along.Along Within Within Thawing (as_begun w) entries → Within (carried_out w (entries_plan entries a)).0
+    leaves : (entries : List Entry) (a : Said) → along.Along Within Within Within Thawing (as_begun w) entries → Within (carried_out w (entries_plan entries a)).0
     leaves entries a all = along.plan-keeps Within Within Thawing keeps (λ v s. s) w (entries_plan entries a) (record {
       inner = Within;
+      ends = Within;
+      complete = λ v s. s;
       may = Thawing;
       keeps = keeps;
       within = λ v s. s;
       begins = begins;
       entries = all;
-      follows = λ q v i. along.along-nil Within Within Thawing v i;
+      follows = λ q v i. along.along-nil Within Within Within Thawing v i;
       last = λ v i. i;
     })
 
     says : (a : Said) → Within (carried_out w (only_says a)).0
-    says a = leaves [] a (along.along-nil Within Within Thawing _ begins)
+    says a = leaves [] a (along.along-nil Within Within Within Thawing _ begins)
 
     abbrev Keeps : Plan → Type 0
     Keeps p = Within (carried_out w p).0

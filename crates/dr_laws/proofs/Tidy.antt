@@ -8,27 +8,28 @@ use Rattle.std.specs.FinSet.{contains, remove, union, empty, members}
 use Rattle.dr_model.specs.declared.state.Part.{Part}
 use Rattle.dr_model.specs.declared.state.Part.TheVariants.{Absent, Metro, Global}
 use Rattle.dr_model.specs.declared.state.PairState.TheVariants.{CopyPending, FullDuplex}
-use Rattle.dr_model.specs.Layout.{Tracks, Fields}
+use Rattle.dr_model.specs.Layout.{Tracks, Fields, is_part}
 use Rattle.dr_model.specs.Relations.{all_tracks, is_bare}
 use Rattle.dr_model.specs.declared.event.Event.{Event}
 use Rattle.dr_model.specs.declared.event.Event.TheVariants.{Stopped}
 use Rattle.dr_model.specs.Tables.{at}
 use Rattle.dr_model.specs.Control.{Pending, Volume, Fuse, World, is_volume}
-use Rattle.dr_model.specs.Pairs.{is_metro, is_full_duplex, is_torn, is_engaged, first_state, next_state, is_last}
-use Rattle.dr_model.specs.Moves.{Move, Land, Overwrite, Mirror, Restore, Strike, Suspend, MakePrimary, DropPrimary, Resume, TakeOver, Unsync, LandBoth, Lift, Restart, target, told, told_in_stop, settled, settled_in_stop, landed, is_write, is_other, marked, fields_left, moved}
+use Rattle.dr_model.specs.Pairs.{is_metro, is_kind, is_full_duplex, is_torn, is_engaged, first_state, next_state, is_last}
+use Rattle.dr_model.specs.Moves.{Move, Land, Overwrite, Mirror, Restore, Strike, Suspend, MakePrimary, DropPrimary, Resume, TakeOver, Unsync, LandBoth, Lift, Restart, Hold, Free as FreeMove, Finish, target, told, told_in_stop, settled, settled_in_stop, landed, is_write, is_other, marked, fields_left, moved}
 use Rattle.dr_model.specs.Entries.{fields_at}
-use Rattle.dr_model.specs.Allowed.{May, Runs}
+use Rattle.dr_model.specs.Allowed.{Runs}
 use Rattle.dr_model.specs.Laws.{AllPending}
 use Rattle.dr_laws.specs.Windows.{is_ack}
 use Rattle.dr_laws.proofs.AtLemmas.{Told, at_cases, at_part}
 use Rattle.dr_laws.proofs.Sets.{false_true, empty_has}
 use Rattle.dr_laws.proofs.Turns.{next_of, carried_in, done, done_in_stop, not_done}
 use Rattle.dr_laws.proofs.RowsAfter.{changed}
-use Rattle.dr_laws.proofs.Fair.{Unacked}
+use Rattle.dr_laws.proofs.Fair.{MayCome, Unacked}
 use Rattle.dr_laws.proofs.KeepsWindow.{silent-acks, silent-told}
 use Rattle.dr_laws.proofs.KeepsQueue.{each-on}
 use Rattle.dr_laws.proofs.KeepsMirror.{still-unacked}
 use Rattle.dr_laws.proofs.Windows.{bare-has}
+use Rattle.dr_laws.proofs.KeepsRecorders.{none-written}
 use Rattle.std.specs.List.{list_any}
 
 abbrev pub is_synced : Fields → Bool
@@ -80,19 +81,41 @@ none-changed : (b : Bool) (s : Tracks) → ((t : ℕ) → contains s t ≡ false
 none-changed true s none t = empty_has t
 none-changed false s none t = none t
 
+-- one that is held isn't of Metro Mirror
+abbrev pub Unheld : Fields → Move → Type 0
+Unheld f (Hold v s n first) = is_metro f.primary ≡ false
+Unheld f m = Unit {0}
+
+no-metro : (part : Part) → is_kind Global part ≡ true → is_metro part ≡ false
+no-metro Absent h = refl
+no-metro Metro h = absurd cc
+no-metro Global h = refl
+
+pub unheld : (w : World) (m : Move) → MayCome w m → Unheld (fields_at w.control (target m)) m
+unheld w (Hold v s n first) may = no-metro (fields_at w.control v).primary may.allowed.global
+unheld w m may = tt
+
 -- a volume stays free and clean
-pub free-left : (m : Move) (u : Volume) → Free u.fields → Free (fields_left m u)
-free-left (Suspend v busy) u free = record { coordination = λ h. refl; recording = λ h. refl; changes = λ h. none-changed (is_engaged u.fields) u.fields.change_recording (free.changes h) }
-free-left (MakePrimary v b kind state full) u free = record { coordination = λ h. refl; recording = λ h. refl; changes = λ h t. empty_has t }
-free-left (DropPrimary v) u free = record { coordination = λ h. refl; recording = λ h. refl; changes = λ h t. empty_has t }
-free-left (TakeOver v) u free = record { coordination = λ h. refl; recording = λ h. refl; changes = λ h t. empty_has t }
-free-left (Restart v) u free = record { coordination = λ h. refl; recording = λ h. refl; changes = λ h. none-changed (is_engaged u.fields) u.fields.change_recording (free.changes h) }
-free-left (Lift v) u free = record { coordination = λ h. refl; recording = λ h. by u.fields.coordination (free.recording h); changes = λ h. none-changed u.fields.coordination u.fields.change_recording (free.changes h) }
+pub free-left : (m : Move) (u : Volume) → Unheld u.fields m → Free u.fields → Free (fields_left m u)
+free-left (Suspend v busy) u none free = record { coordination = λ h. refl; recording = λ h. refl; changes = λ h. none-changed (is_engaged u.fields) u.fields.change_recording (free.changes h) }
+free-left (MakePrimary v b kind state full) u none free = record { coordination = λ h. refl; recording = λ h. refl; changes = λ h t. empty_has t }
+free-left (DropPrimary v) u none free = record { coordination = λ h. refl; recording = λ h. refl; changes = λ h t. empty_has t }
+free-left (TakeOver v) u none free = record { coordination = λ h. refl; recording = λ h. refl; changes = λ h t. empty_has t }
+free-left (Restart v) u none free = record { coordination = λ h. refl; recording = λ h. refl; changes = λ h. none-changed (is_engaged u.fields) u.fields.change_recording (free.changes h) }
+free-left (Lift v) u none free = record { coordination = λ h. refl; recording = λ h. by u.fields.coordination (free.recording h); changes = λ h. none-changed u.fields.coordination u.fields.change_recording (free.changes h) }
   where
     by : (b : Bool) → u.fields.recording ≡ false → cond b false u.fields.recording ≡ false
     by true h = refl
     by false h = h
-free-left m u free = record { coordination = free.coordination; recording = free.recording; changes = free.changes }
+free-left (Land n v t) u none free = record {
+  coordination = free.coordination;
+  recording = free.recording;
+  changes = λ h. none-written (is_part u.fields.primary) u.fields.recording u.fields.change_recording t (free.recording h) (free.changes h);
+}
+free-left (Finish v n) u none free = record { coordination = λ h. refl; recording = λ h. refl; changes = λ h. none-changed (is_engaged u.fields) u.fields.change_recording (free.changes h) }
+free-left (FreeMove v) u none free = record { coordination = λ h. refl; recording = free.recording; changes = free.changes }
+free-left (Hold v s n first) u none free = record { coordination = λ h. false_true none h; recording = λ h. false_true none h; changes = λ h. false_true none h }
+free-left m u none free = record { coordination = free.coordination; recording = free.recording; changes = free.changes }
 
 pub clean-left : (m : Move) (u : Volume) → Gentle u.fields m → Free u.fields → Clean u.fields → Clean (fields_left m u)
 clean-left (Land n v t) u gentle free clean h q = false_true gentle h
@@ -120,6 +143,9 @@ clean-left (Restart v) u gentle free clean h q =
     by : (b : Bool) → is_full_duplex (cond b CopyPending u.fields.primary_state) ≡ true → is_full_duplex u.fields.primary_state ≡ true
     by true h = absurd cc
     by false h = h
+clean-left (Finish v n) u gentle free clean h q =
+    let f : Fields = u.fields in
+    ap (λ b. contains (cond b (union f.out_of_sync f.change_recording) f.out_of_sync) q) (none-engaged f free (and_parts (is_metro f.primary) (is_full_duplex f.primary_state) h).0) ∙ clean h q
 clean-left m u gentle free clean h q = clean h q
 
 -- no pending write is acknowledged, and none that wasn't issued
@@ -187,7 +213,7 @@ fresh-told w u es events issued all none fresh = fresh-by w u es events issued (
 pub above : (k i n : ℕ) → k < i + 1 → i < n → k ≢ n
 above k i n lt gt e = absurd (let h : k ≡ n = e in omega arith)
 
-lands-else : (w : World) (m : Move) (n : ℕ) → May w m → w.control.issued < n → LandsElse m n
+lands-else : (w : World) (m : Move) (n : ℕ) → MayCome w m → w.control.issued < n → LandsElse m n
 lands-else w (Land k v t) n may lt = above k w.control.issued n may.ready.number lt
 lands-else w (Overwrite k v t) n may lt = above k w.control.issued n may.ready.number lt
 lands-else w (LandBoth k v t) n may lt = above k w.control.issued n may.ready.number lt
@@ -199,7 +225,7 @@ settled-unacked w (Overwrite k v t) fresh = each-on (λ p a. (a.0, λ e. a.1 (sy
 settled-unacked w (LandBoth k v t) fresh = each-on (λ p a. (a.0, λ e. a.1 (sym e))) _ (all-other (λ p. Unacked w p.w) k w.control.pending fresh.unacked)
 settled-unacked w m fresh = each-on (λ p a. (a, tt)) w.control.pending fresh.unacked
 
-pub fresh-done : (w : World) (m : Move) (f : Option Fuse) → May w m → Fresh w → Fresh (done w m f)
+pub fresh-done : (w : World) (m : Move) (f : Option Fuse) → MayCome w m → Fresh w → Fresh (done w m f)
 fresh-done w m f may fresh =
     let u : Volume = w.control.volume (target m) in
     fresh-by w (done w m f) (told m u) refl refl (each-on (λ p a. (a.0, none-acked m u p.w a.1)) (settled m w.control.pending) (settled-unacked w m fresh)) (λ n lt. none-acked m u n (lands-else w m n may lt)) fresh
@@ -215,7 +241,7 @@ fresh-stop w m f fresh =
     let u : Volume = w.control.volume (target m) in
     fresh-told w (done_in_stop w m f) (told_in_stop m u ++ Stopped u.server (landed m) ∷ []) refl refl (stop-unacked w m fresh) (λ n. stop-acked m u n u.server (landed m)) fresh
 
-module _ (w : World) (m : Move) (gentle : Gentle (fields_at w.control (target m)) m) (tidy : Tidy w) (on : ℕ → Bool) (fuse : ℕ → Option Fuse) (ps : List Pending) (es : List Event) (less : (j : ℕ) → on j ≡ true → w.control.on j ≡ true) where
+module _ (w : World) (m : Move) (gentle : Gentle (fields_at w.control (target m)) m) (none : Unheld (fields_at w.control (target m)) m) (tidy : Tidy w) (on : ℕ → Bool) (fuse : ℕ → Option Fuse) (ps : List Pending) (es : List Event) (less : (j : ℕ) → on j ≡ true → w.control.on j ≡ true) where
   abbrev W : World
   W = changed w m on fuse ps es
 
@@ -230,7 +256,7 @@ module _ (w : World) (m : Move) (gentle : Gentle (fields_at w.control (target m)
     clean = λ v there runs. at_cases (λ j (y : Volume). is_volume w.control j ≡ true → Runs w j → Clean y.fields) w.control.volume x row
         (λ d r. clean-left m (w.control.volume x) gentle (tidy.free x) (tidy.clean x d r)) (λ j ne d r. tidy.clean j d r) v there
         (sym (ap w.control.on (at_part (λ (y : Volume). y.server) w.control.volume x row refl v)) ∙ less _ runs);
-    free = λ v. at_cases (λ j (y : Volume). Free y.fields) w.control.volume x row (free-left m (w.control.volume x) (tidy.free x)) (λ j ne. tidy.free j) v;
+    free = λ v. at_cases (λ j (y : Volume). Free y.fields) w.control.volume x row (free-left m (w.control.volume x) none (tidy.free x)) (λ j ne. tidy.free j) v;
     fresh = fresh;
   }
 
@@ -245,12 +271,12 @@ tidy-same w u volume volumes less fresh tidy = record {
 pub went-off : (on : ℕ → Bool) (s j : ℕ) → at on s false j ≡ true → on j ≡ true
 went-off on s j h = at_cases (λ j b. b ≡ true → on j ≡ true) on s false (λ h. absurd cc) (λ j ne h. h) j h
 
-pub tidy-done : (w : World) (m : Move) (f : Option Fuse) → May w m → Gentle (fields_at w.control (target m)) m → Tidy w → Tidy (done w m f)
-tidy-done w m f may gentle tidy = tidy-changed w m gentle tidy (done w m f).control.on (done w m f).control.fuse (settled m w.control.pending) (done w m f).events (λ j h. h) (fresh-done w m f may tidy.fresh)
+pub tidy-done : (w : World) (m : Move) (f : Option Fuse) → MayCome w m → Gentle (fields_at w.control (target m)) m → Tidy w → Tidy (done w m f)
+tidy-done w m f may gentle tidy = tidy-changed w m gentle (unheld w m may) tidy (done w m f).control.on (done w m f).control.fuse (settled m w.control.pending) (done w m f).events (λ j h. h) (fresh-done w m f may tidy.fresh)
 
-pub tidy-stop : (w : World) (m : Move) (f : Option Fuse) → Gentle (fields_at w.control (target m)) m → Tidy w → Tidy (done_in_stop w m f)
-tidy-stop w m f gentle tidy =
-    tidy-changed w m gentle tidy (done_in_stop w m f).control.on (done_in_stop w m f).control.fuse (settled_in_stop m w.control.pending) (done_in_stop w m f).events (went-off w.control.on (w.control.volume (target m)).server) (fresh-stop w m f tidy.fresh)
+pub tidy-stop : (w : World) (m : Move) (f : Option Fuse) → MayCome w m → Gentle (fields_at w.control (target m)) m → Tidy w → Tidy (done_in_stop w m f)
+tidy-stop w m f may gentle tidy =
+    tidy-changed w m gentle (unheld w m may) tidy (done_in_stop w m f).control.on (done_in_stop w m f).control.fuse (settled_in_stop m w.control.pending) (done_in_stop w m f).events (went-off w.control.on (w.control.volume (target m)).server) (fresh-stop w m f tidy.fresh)
 
 pub tidy-not : (w : World) (s : ℕ) (f : Option Fuse) → Tidy w → Tidy (not_done w s f)
 tidy-not w s f tidy = tidy-same w (not_done w s f) refl refl (went-off w.control.on s) (fresh-told w (not_done w s f) (Stopped s 0 ∷ []) refl refl tidy.fresh.unacked (λ n. refl) tidy.fresh) tidy

@@ -1,12 +1,13 @@
 -- How an act ends: it is done; or its server stops in it, and it counts as done or doesn't.
-use Rattle.std.proofs.Common.{ℕ, ◌≡◌, refl, sym, subst, Bool, true, false, cond, not, [], ◌∷◌, ◌++◌, Option, Some, None}
+use Rattle.std.proofs.Common.{ℕ, ◌≡◌, refl, ap, ◌∙◌, sym, subst, Bool, true, false, cond, not, [], ◌∷◌, ◌++◌, Option, Some, None}
 use Rattle.dr_model.specs.declared.event.Event.TheVariants.{Stopped}
 use Rattle.dr_model.specs.Tables.{at}
 use Rattle.dr_model.specs.Histories.{histories}
 use Rattle.dr_model.specs.Layout.{Fields}
 use Rattle.dr_model.specs.Control.{Fuse, Volume, World}
-use Rattle.dr_model.specs.Moves.{Move, Carried, target, next_fields, carried, told, told_in_stop, landed, settled, settled_in_stop, updated}
-use Rattle.dr_model.specs.Carry.{Act, Make, Redo, Acknowledge, Drop, EndFreeze, EndThaw, dropped, frozen, thawed, Turn, Ended, ended, update, turn, redo, redo_ended, redo_writes, act, acknowledged, spent, off, pass, counts_by, writes, finished, cut_short}
+use Rattle.dr_model.specs.Moves.{Move, Hold, Carried, target, next_fields, carried, told, told_in_stop, landed, settled, settled_in_stop, updated, moved}
+use Rattle.dr_model.specs.Carry.{Act, Make, OpenAttempt, Redo, Acknowledge, Drop, EndFreeze, EndThaw, dropped, frozen, thawed, Turn, Ended, ended, update, turn, redo, redo_ended, redo_writes, act, acknowledged, spent, off, pass, counts_by, writes, finished, cut_short, equal, attempt_begun, opened_by}
+use Rattle.dr_model.proofs.Images.{at_same}
 
 abbrev pub server_at : World → ℕ → ℕ
 server_at w v = (w.control.volume v).server
@@ -112,6 +113,7 @@ redo_by-cases w v P true false o a b = b _
 -- the volume whose server carries an act out
 abbrev pub place : Act → ℕ
 place (Make m) = target m
+place (OpenAttempt v s n) = v
 place (Redo v) = v
 place (Acknowledge n) = 0
 place (Drop n) = 0
@@ -124,6 +126,7 @@ server_of w a = server_at w (place a)
 -- the world after an act that is done
 abbrev pub after_act : World → Act → Option Fuse → World
 after_act w (Make m) f = done w m f
+after_act w (OpenAttempt v s n) f = attempt_begun (done w (Hold v s n true) f) s
 after_act w (Redo v) f = fused w (server_at w v) f
 after_act w (Acknowledge n) f = acknowledged w n
 after_act w (Drop n) f = dropped w n
@@ -138,10 +141,41 @@ Writes (EndFreeze l m) = ⊥
 Writes (EndThaw l m) = ⊥
 Writes a = Unit {0}
 
--- a move that counts as done in a stop
+-- a move that counts as done in a stop, and one that begins an attempt
+abbrev pub opened_in_stop : World → ℕ → ℕ → ℕ → Option Fuse → World
+opened_in_stop w v s n f = attempt_begun (done_in_stop w (Hold v s n true) f) s
+
 abbrev pub Counts : World → Act → (Turn → Type 0) → Type 0
 Counts w (Make m) P = (f : Option Fuse) → P (done_in_stop w m f, Some (server_at w (target m)))
+Counts w (OpenAttempt v s n) P = (f : Option Fuse) → P (opened_in_stop w v s n f, Some (server_at w v))
 Counts w a P = Unit {0}
+
+-- an attempt begins where the other slot is chosen
+turned : (b : Bool) → equal b (not b) ≡ false
+turned true = refl
+turned false = refl
+
+unturned : (b : Bool) → equal b b ≡ true
+unturned true = refl
+unturned false = refl
+
+open-cases : (w : World) (v s n : ℕ) (P : Turn → Type 0)
+    → (w.control.on (server_at w v) ≡ false → P (w, None))
+    → ((f : Option Fuse) → P (attempt_begun (done w (Hold v s n true) f) s, None))
+    → ((f : Option Fuse) → P (opened_in_stop w v s n f, Some (server_at w v)))
+    → ((f : Option Fuse) → P (not_done w (server_at w v) f, Some (server_at w v)))
+    → P (opened_by w v s (turn w (Hold v s n true)))
+open-cases w v s n P o a b c =
+    let m : Move = Hold v s n true in
+    let slot : Bool = (w.control.volume v).slot in
+    let new : ((at w.control.volume v (moved (w.control.volume v) (next_of w m) None) v).slot ≡ not slot) = ap (λ (x : Volume). x.slot) (at_same w.control.volume v (moved (w.control.volume v) (next_of w m) None)) in
+    let opens : (equal slot (at w.control.volume v (moved (w.control.volume v) (next_of w m) None) v).slot ≡ false) = ap (equal slot) new ∙ turned slot in
+    let stays : (equal slot slot ≡ true) = unturned slot in
+    turn-cases w m (λ t. P (opened_by w v s t))
+    (λ off. subst (λ e. P (cond e w (attempt_begun w s), None)) (sym stays) (o off))
+    (λ f. subst (λ e. P (cond e (done w m f) (attempt_begun (done w m f) s), None)) (sym opens) (a f))
+    (λ f. subst (λ e. P (cond e (done_in_stop w m f) (opened_in_stop w v s n f), Some (server_at w v))) (sym opens) (b f))
+    (λ f. subst (λ e. P (cond e (not_done w (server_at w v) f) (attempt_begun (not_done w (server_at w v) f) s), Some (server_at w v))) (sym stays) (c f))
 
 pub act-cases : (w : World) (a : Act) (P : Turn → Type 0)
     → (Writes a → w.control.on (server_of w a) ≡ false → P (w, None))
@@ -151,6 +185,7 @@ pub act-cases : (w : World) (a : Act) (P : Turn → Type 0)
     → P (act w a)
 unfolding act
 act-cases w (Make m) P o a b c = turn-cases w m P (o tt) a b (c tt)
+act-cases w (OpenAttempt v s n) P o a b c = open-cases w v s n P (o tt) a b (c tt)
 act-cases w (Redo v) P o a b c = subst P (sym (redo-by w v)) (redo_by-cases w v P _ _ (o tt) a (c tt))
 act-cases w (Acknowledge n) P o a b c = a None
 act-cases w (Drop n) P o a b c = a None

@@ -29,7 +29,7 @@ use Rattle.dr_laws.proofs.Sets.{false_true, empty_has, from_source}
 use Rattle.dr_laws.proofs.WindowTracks.{Stays, stays, Window, window-image}
 use Rattle.dr_laws.proofs.KeepsWindow.{no_first}
 use Rattle.dr_laws.proofs.KeepsLists.{ListGrows, grows-none, grows-more}
-use Rattle.dr_laws.proofs.KeepsStep.{Step, Does, Stops, Acks, Passes, Backless, Next, window-step}
+use Rattle.dr_laws.proofs.KeepsStep.{Step, Does, Stops, Acks, Others, Passes, Backless, Next, window-step}
 
 -- what holds of each moment: the write that goes on is on a track that is out of sync
 pub record Good (tag : Option ℕ) (w : World) : Type 0 where
@@ -67,11 +67,12 @@ record Grows (w u : World) : Type 0 where
   told : List Event
   events : u.events ≡ w.events ++ told
 
-step-grows : (tag next : Option ℕ) (w u : World) → Step tag w next u → Grows w u
-step-grows tag _ w _ (Does m f may fair) = record { told = told m (w.control.volume (target m)); events = refl }
-step-grows tag _ w _ (Stops m f may fair) = record { told = told_in_stop m (w.control.volume (target m)) ++ Stopped (w.control.volume (target m)).server (landed m) ∷ []; events = refl }
-step-grows tag _ w _ (Acks n a) = record { told = Ack n ∷ []; events = refl }
-step-grows tag _ w _ (Passes next u es x less) = record { told = es; events = x.events }
+step-grows : (tag : Option ℕ) (w : World) (next : Option ℕ) (u : World) → Step tag w next u → Grows w u
+step-grows tag w _ _ (Does m f may fair) = record { told = told m (w.control.volume (target m)); events = refl }
+step-grows tag w _ _ (Stops m f may fair) = record { told = told_in_stop m (w.control.volume (target m)) ++ Stopped (w.control.volume (target m)).server (landed m) ∷ []; events = refl }
+step-grows tag w _ _ (Acks n a) = record { told = Ack n ∷ []; events = refl }
+step-grows tag w _ _ (Others next u ss step) = let g = step-grows tag w next u step in record { told = g.told; events = g.events }
+step-grows tag w _ _ (Passes next u es x less) = record { told = es; events = x.events }
 
 told-on : (w u x : World) (es fs : List Event) → u.events ≡ w.events ++ es → x.events ≡ u.events ++ fs → x.events ≡ w.events ++ (es ++ fs)
 told-on w u x es fs is more = more ∙ ap (λ es. es ++ fs) is ∙ append_assoc w.events es fs
@@ -84,7 +85,7 @@ chain-grows [] after tag w us e c = record { told = []; events = sym (append-nil
 chain-grows (x ∷ xs) after _ _ _ e (Last tag w g) = absurd cc
 chain-grows (x ∷ xs) after _ _ _ e (Then tag next w u us g s c) =
     let here : u ≡ x = cc in let there : us ≡ xs ++ after = cc in
-    let one = step-grows tag next w u s in
+    let one = step-grows tag w next u s in
     subst (λ x. Grows w (last_of x xs)) here (grows-on w u (last_of u xs) one.told one.events (chain-grows xs after next u us there c))
 
 module _ (v q : ℕ) where

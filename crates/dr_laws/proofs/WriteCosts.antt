@@ -4,15 +4,17 @@ use Rattle.std.proofs.lemmas.List.{length-append, length-map}
 use Rattle.std.specs.FinSet.{contains}
 use Rattle.dr_ids.specs.declared.refusal.Refusal.{Refusal}
 use Rattle.dr_model.specs.Layout.{Fields, is_part}
-use Rattle.dr_model.specs.Pairs.{held, goes_over, must_restart}
+use Rattle.dr_model.specs.Pairs.{held, goes_over, collides, is_last, must_restart}
 use Rattle.dr_model.specs.Control.{Control, Volume, World}
-use Rattle.dr_model.specs.Moves.{Move, Land, Overwrite, Keep, Note, Suspend, Unsync, Mirror, LandBoth, Thaw, Lift, Restart, target, told}
+use Rattle.dr_model.specs.Moves.{Move, Land, Overwrite, Keep, Note, Store, Strike, Suspend, Unsync, Mirror, LandBoth, Thaw, Lift, Restart, target, told}
 use Rattle.dr_model.specs.Carry.{Make, Redo, Acknowledge, Drop, EndFreeze, EndThaw, Pass, Do, Entry, carry, check, now}
 use Rattle.dr_model.specs.Entries.{fields_at, copies_from, is_running, is_no_secondary, is_open, is_settled, relation_state, land_on, land_alone, keep_on, keep_if, copy_first, drop_unless, check_or_drop}
-use Rattle.dr_model.specs.WriteEntries.{partner_of, is_grouped, land_mirrored, land_parted, is_parted, land_over, land_entries, landing, part_running, part_after, is_between, freeze_on, end_freeze, freeze_entries, thaw_on, end_thaw, thaw_entries, belongs, lift_on, redo_on, restart_on, start_entries}
+use Rattle.dr_model.specs.WriteEntries.{sends_first, where_sent, send_first, land_collided, after_write, partner_of, is_grouped, land_mirrored, land_parted, is_parted, land_over, land_entries, landing, part_running, part_after, is_between, freeze_on, end_freeze, freeze_entries, thaw_on, end_thaw, thaw_entries, belongs, lift_on, redo_on, restart_on, start_entries}
+use Rattle.std.specs.Prelude.{is_some}
+use Rattle.dr_model.specs.PairEntries.{send_refusal, suspend_where, store_on, strike_on, suspend_after}
 use Rattle.dr_model.specs.Plans.{acknowledge_on, acknowledge_if, landed_on}
 use Rattle.dr_laws.proofs.Costs.{Costs, carry-adds, Small, Light, AllLight, light-none, light-then, light-append, light-map, light-check, light-costs, small-pass, small-do, small-choice}
-use Rattle.dr_laws.proofs.PairCosts.{suspend-once}
+use Rattle.dr_laws.proofs.PairCosts.{suspend-once, suspend_after-few}
 
 -- so many entries at most, of one event each
 pub record Brief (n : ℕ) (ds : List Entry) : Type 0 where
@@ -93,17 +95,33 @@ module _ (c : ℕ) (k : Control) (few : length k.volumes ≤ c) (n v t : ℕ) wh
       brief-more (c + 1 + 1) (c + 2) (land_parted k n v t) (omega arith)
       (brief-then (c + 1) (now (Suspend v busy)) (cond busy [] (land_alone k.volumes n v t)) (light-move (Suspend v busy) (suspend-once v busy)) (brief-choice (c + 1) busy [] (land_alone k.volumes n v t) (brief-none (c + 1)) brief-alone))
 
-  brief-lands : Brief (c + c + 3) (land_entries k n v t)
-  brief-lands =
-      brief-choice (c + c + 3) (held (fields_at k v)) [] _ (brief-none (c + c + 3))
-      (brief-choice (c + c + 3) (goes_over (fields_at k v) t) (land_over k n v t) (land_alone k.volumes n v t)
-      (brief-choice (c + c + 3) (is_parted k v) (land_parted k n v t) (land_mirrored k.volumes n v t (partner_of k v)) (brief-more (c + 2) (c + c + 3) _ (omega arith) brief-parted) (brief-mirrored (partner_of k v)))
-      (brief-more (c + 1) (c + c + 3) _ (omega arith) brief-alone))
+  -- the track is sent first
+  light-where : (u : ℕ) (d : Entry) → Light d → Light (where_sent v u t d)
+  light-where u d one w = small-choice w (sends_first v u t w.control) (d w.control) Pass (one w) (small-pass w)
 
-  pub brief-landing : Brief (c + c + 10) (landing k n v t)
+  brief-sent : (u : ℕ) (vs : List ℕ) → Brief (length vs + 2) (map (where_sent v u t) (map (keep_on u t) vs ++ store_on v u t ∷ strike_on v t ∷ []))
+  brief-sent u [] =
+      brief-then 1 (where_sent v u t (store_on v u t)) _ (light-where u (store_on v u t) (λ w. small-do w (Make (Store u t v (is_last (fields_at w.control v) t))) (omega arith)))
+      (brief-then 0 (where_sent v u t (strike_on v t)) [] (light-where u (strike_on v t) (λ w. small-do w (Make (Strike v t (is_last (fields_at w.control v) t))) (omega arith))) (brief-none 0))
+  brief-sent u (x ∷ vs) = brief-more (length vs + 2 + 1) (length (x ∷ vs) + 2) _ (omega arith) (brief-then (length vs + 2) (where_sent v u t (keep_on u t x)) _ (light-where u (keep_on u t x) (light-keep u t x)) (brief-sent u vs))
+
+  brief-collided : (u : ℕ) → Brief (c + c + 4) (send_first k.volumes v u t ++ land_alone k.volumes n v t)
+  brief-collided u =
+      brief-more (length k.volumes + 2 + 1 + (c + 1)) (c + c + 4) _ (omega arith)
+      (brief-append (length k.volumes + 2 + 1) (c + 1) (send_first k.volumes v u t) (land_alone k.volumes n v t)
+      (brief-then (length k.volumes + 2) (suspend_where (send_refusal v u) v) _ (light-if (λ j. is_some (send_refusal v u j)) (Suspend v false) (suspend-once v false)) (brief-sent u k.volumes)) brief-alone)
+
+  brief-lands : Brief (c + c + 4) (land_entries k n v t)
+  brief-lands =
+      brief-choice (c + c + 4) (held (fields_at k v)) [] _ (brief-none (c + c + 4))
+      (brief-choice (c + c + 4) (goes_over (fields_at k v) t) (land_over k n v t) _
+      (brief-choice (c + c + 4) (is_parted k v) (land_parted k n v t) (land_mirrored k.volumes n v t (partner_of k v)) (brief-more (c + 2) (c + c + 4) _ (omega arith) brief-parted) (brief-more (c + c + 3) (c + c + 4) _ (omega arith) (brief-mirrored (partner_of k v))))
+      (brief-choice (c + c + 4) (collides (fields_at k v) t) (land_collided k n v t) (land_alone k.volumes n v t) (brief-collided (partner_of k v)) (brief-more (c + 1) (c + c + 4) _ (omega arith) brief-alone)))
+
+  pub brief-landing : Brief (c + c + 11) (landing k n v t)
   brief-landing =
-      let m : ℕ = c + c + 3 in
-      brief-more (m + 2 + 2 + 2 + 1) (c + c + 10) (landing k n v t) (omega arith)
+      let m : ℕ = c + c + 4 in
+      brief-more (m + 2 + 2 + 2 + 1) (c + c + 11) (landing k n v t) (omega arith)
       (brief-then (m + 2 + 2 + 2) (check (is_running v) _) _ (light-check (is_running v) _) (brief-drop (m + 2 + 2) n (is_no_secondary v) _ _ (brief-drop (m + 2) n (is_open v) _ _ (brief-drop m n (is_settled v) (relation_state k v) _ brief-lands))))
 
 -- what follows a stop in it
@@ -115,6 +133,13 @@ light-part v w =
 pub part_after-few : (v s : ℕ) (w : World) → length (carry w (part_after v s)).0.events ≤ length w.events + 2
 part_after-few v s w =
     let le : length (carry w (part_after v s)).0.events ≤ length w.events + 1 + 1 = carry-adds 1 w (part_after v s) (brief-costs 1 (part_after v s) (brief-then 0 (part_running v) [] (light-part v) (brief-none 0)) w) in omega arith
+
+pub after_write-few : (k : Control) (v t s : ℕ) (w : World) → length (carry w (after_write k v t s)).0.events ≤ length w.events + 2
+after_write-few k v t s w = by (collides (fields_at k v) t)
+  where
+    by : (c : Bool) → length (carry w (cond c (suspend_after v s) (part_after v s))).0.events ≤ length w.events + 2
+    by true = suspend_after-few v s w
+    by false = part_after-few v s w
 
 -- a freeze, a thaw and an expiry
 pub brief-freeze : (c : ℕ) (us : List ℕ) → length us ≤ c → (l m : ℕ) → Brief (c + 1) (freeze_entries us l m)

@@ -1,4 +1,5 @@
-use Rattle.dr_laws.proofs.StopsTold.{carry-tells, plan-calm}
+use Rattle.dr_laws.proofs.StopsTold.{carry-tells}
+use Rattle.dr_laws.proofs.CalmPlans.{plan-calm}
 use Rattle.dr_laws.proofs.stops_are_told.Goals as goal
 
 pub returns : goal.returns

@@ -1,0 +1,62 @@
+-- Each kind of move keeps what sessions and records say together, whether or not the server stopped in it.
+use Rattle.std.proofs.Common.{ℕ, ◌≡◌, ◌⊎◌, inl, inr, refl, Bool, true, false, cond, List, Option}
+use Rattle.dr_model.specs.Tables.{at}
+use Rattle.dr_model.specs.Sessions.{changed, begun}
+use Rattle.dr_model.specs.Histories.{Write}
+use Rattle.dr_model.specs.Control.{Control, Fuse, Pending, Volume, World}
+use Rattle.dr_model.specs.Moves.{Move, Suspend, MakePrimary, DropPrimary, TakeOver, Lift, Restart, Hold, Finish, RaiseAttempt, target, moved}
+use Rattle.dr_model.specs.Entries.{fields_at}
+use Rattle.dr_model.specs.Groups.{Groups, OpensAttempt}
+use Rattle.dr_model.specs.Table.{table}
+use Rattle.dr_model.specs.Allowed.{Allowed, InGroup}
+use Rattle.dr_laws.proofs.AtLemmas.{at_cases, at_part}
+use Rattle.dr_laws.proofs.Sets.{false_true}
+use Rattle.dr_laws.proofs.Turns.{next_of, carried_in}
+use Rattle.dr_laws.proofs.GroupsWanted.{Framed, Records, groups-same, groups-held, groups-opened}
+
+module _ (w : World) (write : ℕ → Write) (on : ℕ → Bool) (fuse : ℕ → Option Fuse) (ps : List Pending) where
+  abbrev next : Move → Volume
+  next m = moved (w.control.volume (target m)) (next_of w m) (carried_in w m)
+
+  -- the control state when the move is done
+  abbrev after : Move → Control
+  after m = record w.control { volume = at w.control.volume (target m) (next m); on = on; fuse = fuse; pending = ps }
+
+  frame : (m : Move) → Framed w.control (after m)
+  frame m = record {
+    sessions = refl;
+    volumes = refl;
+    server = at_part (λ (x : Volume). x.server) w.control.volume (target m) (next m) refl;
+    tracks = at_part (λ (x : Volume). x.tracks) w.control.volume (target m) (next m) refl;
+  }
+
+  -- a volume that records recorded, for the same attempt
+  by : (m : Move) → ((next_of w m).recording ≡ true → ((fields_at w.control (target m)).recording ≡ true) × ((next_of w m).attempt ≡ (fields_at w.control (target m)).attempt)) → Groups w.control → Groups (after m)
+  by m here old = groups-same w.control (after m) (frame m)
+      (at_cases (λ u (x : Volume). x.fields.recording ≡ true → ((fields_at w.control u).recording ≡ true) × (x.fields.attempt ≡ (fields_at w.control u).attempt)) w.control.volume (target m) (next m) here (λ q ne h. (h, refl))) old
+
+  lifted : (held records : Bool) → cond held false records ≡ true → records ≡ true
+  lifted true records h = absurd cc
+  lifted false records h = h
+
+  -- or is held for this one
+  holds : (v s n : ℕ) (first : Bool) (u : ℕ) → (fields_at (after (Hold v s n first)) u).recording ≡ true → ((u ≡ v) × ((fields_at (after (Hold v s n first)) u).attempt ≡ n)) ⊎ Records w.control (after (Hold v s n first)) u
+  holds v s n first =
+      at_cases (λ u (x : Volume). x.fields.recording ≡ true → ((u ≡ v) × (x.fields.attempt ≡ n)) ⊎ (((fields_at w.control u).recording ≡ true) × (x.fields.attempt ≡ (fields_at w.control u).attempt))) w.control.volume v (next (Hold v s n first))
+      (λ h. inl (refl, refl)) (λ q ne h. inr (h, refl))
+
+  pub groups-after : (m : Move) → Allowed write (table w) m → InGroup w.control m → Groups w.control → Groups (after m)
+  groups-after (Hold v s n first) a g old = groups-held w.control (after (Hold v s n first)) v s n (frame (Hold v s n first)) (holds v s n first) g old
+  groups-after (Suspend v busy) a g old = by (Suspend v busy) (λ h. absurd cc) old
+  groups-after (MakePrimary v u kind state full) a g old = by (MakePrimary v u kind state full) (λ h. absurd cc) old
+  groups-after (DropPrimary v) a g old = by (DropPrimary v) (λ h. absurd cc) old
+  groups-after (TakeOver v) a g old = by (TakeOver v) (λ h. absurd cc) old
+  groups-after (Restart v) a g old = by (Restart v) (λ h. absurd cc) old
+  groups-after (Finish v n) a g old = by (Finish v n) (λ h. absurd cc) old
+  groups-after (Lift v) a g old = by (Lift v) (λ h. (lifted (fields_at w.control v).coordination (fields_at w.control v).recording h, refl)) old
+  groups-after (RaiseAttempt v n) a g old = by (RaiseAttempt v n) (λ h. false_true a.idle h) old
+  groups-after m a g old = by m (λ h. (h, refl)) old
+
+  -- the first hold of an attempt, with which it begins
+  pub groups-begun : (v s n : ℕ) → OpensAttempt w.control v s n → Groups w.control → Groups (record (after (Hold v s n true)) { sessions = changed s begun w.control.sessions })
+  groups-begun v s n opens old = groups-opened w.control (after (Hold v s n true)) v s n (frame (Hold v s n true)) (holds v s n true) opens old
