@@ -16,6 +16,7 @@ use Rattle.dr_model.specs.Carry.{Entry, now}
 use Rattle.dr_model.specs.Entries.{copy_first}
 use Rattle.dr_model.specs.Moves.{Unsync, Mirror, LandBoth}
 use Rattle.dr_model.specs.WriteEntries.{land_mirrored}
+use Rattle.dr_model.specs.Sessions.{Session}
 use Rattle.dr_host.specs.Writes.{Writes, number, has_number, bytes_of}
 use Rattle.dr_host.specs.declared.pending.Pending.{Pending}
 use Rattle.dr_host.proofs.Each.{each-found, named-found}
@@ -33,11 +34,11 @@ carried-track s u c v t f bytes is =
     ap (λ (z : ℕ → List ℕ). z t) is.tracks ∙ ap (λ b. cond b bytes (cond (contains f.blank t) zeros (track_seen s c v t))) (same-test t t refl)
 
 -- the write and the track are what they were, so the new bytes are too
-pub same-bytes : (armed : ℕ → Bool) (s u : PlantState) (c : Table) (h : Writes) (ev now : List Event) (ds : List Entry) (r : Option Refusal) (v t n : ℕ) (bytes : List ℕ)
-    → Ends armed (here u c h now) r (here s c h ev) ds → track_seen u c v t ≡ track_seen s c v t
+pub same-bytes : (armed : ℕ → Bool) (s u : PlantState) (c : Table) (xs : List Session) (h : Writes) (ev now : List Event) (ds : List Entry) (r : Option Refusal) (v t n : ℕ) (bytes : List ℕ)
+    → Ends armed (here u c xs h now) r (here s c xs h ev) ds → track_seen u c v t ≡ track_seen s c v t
     → bytes ≡ with_write (histories ev).write (track_seen s c v t) n → bytes ≡ with_write (histories now).write (track_seen u c v t) n
-same-bytes armed s u c h ev now ds r v t n bytes ends same is =
-    is ∙ sym (λ i. with_write (unissued armed (here u c h now) r (here s c h ev) ds ends i) (same i) n)
+same-bytes armed s u c xs h ev now ds r v t n bytes ends same is =
+    is ∙ sym (λ i. with_write (unissued armed (here u c xs h now) r (here s c xs h ev) ds ends i) (same i) n)
 
 -- a volume that has what it had is on its server, which is on
 pub runs-still : (s u : PlantState) (c : Table) (v : ℕ) → u.on ≡ s.on → (volume_seen u c v).server ≡ (volume_seen s c v).server → s.on (volume_seen s c v).server ≡ true → u.on (volume_seen u c v).server ≡ true

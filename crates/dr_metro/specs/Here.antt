@@ -1,22 +1,23 @@
--- The machine's state that plant, configuration, host and journal show.
+-- The machine's state that plant, configuration, sessions, host and journal show.
 use Rattle.std.specs.Prelude.{◌≡◌, List, map}
 use Rattle.dr_plant.specs.State.{PlantState}
 use Rattle.dr_config.specs.Table.{Table}
 use Rattle.dr_model.specs.declared.event.Event.{Event}
 use Rattle.dr_model.specs.Control.{World}
 use Rattle.dr_model.specs.Histories.{histories}
+use Rattle.dr_model.specs.Sessions.{Session}
 use Rattle.dr_volume.specs.View.{Rest, world, ReadsPass}
 use Rattle.dr_flash.specs.Here.{IsAtRest}
 use Rattle.dr_host.specs.Writes.{Writes, Each, bytes_of}
 use Rattle.dr_host.specs.Seen.{seen}
 use Rattle.dr_host.specs.declared.pending.Pending.{Pending}
 
-abbrev pub rest_of : Writes → List Event → Rest
-rest_of h events = record { issued = h.issued; pending = map seen h.pending; events = events }
+abbrev pub rest_of : List Session → Writes → List Event → Rest
+rest_of xs h events = record { issued = h.issued; pending = map seen h.pending; sessions = xs; events = events }
 
--- the state that plant, configuration, writes and journal show
-abbrev pub here : PlantState → Table → Writes → List Event → World
-here s t h events = world s t (rest_of h events)
+-- the state that plant, configuration, sessions, writes and journal show
+abbrev pub here : PlantState → Table → List Session → Writes → List Event → World
+here s t xs h events = world s t (rest_of xs h events)
 
 -- each pending write is the one that the journal tells of
 abbrev pub IsTold : Writes → List Event → Type 0

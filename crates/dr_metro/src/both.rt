@@ -1,6 +1,6 @@
 //! A host write lands on a primary whose secondary has stored it.
 
-ghost use Rattle.std.specs.Prelude.{◌≡◌, ℕ, ◌<◌, ◌≤◌, ◌+◌, true, length, [], ◌∷◌, None, Some, IsSome, OnOk, OnErr, is_err};
+ghost use Rattle.std.specs.Prelude.{◌≡◌, ℕ, ◌<◌, ◌≤◌, ◌+◌, true, length, [], ◌∷◌, None, Some, IsSome, OnOk, OnErr, is_err, List};
 ghost use Rattle.std.specs.List.{find};
 ghost use Rattle.dr_config.specs.Table.{place_of};
 ghost use Rattle.dr_host.specs.Writes.{has_number};
@@ -12,6 +12,7 @@ ghost use Rattle.dr_model.specs.Moves.{LandBoth};
 ghost use Rattle.dr_model.specs.Pairs as pairs;
 ghost use Rattle.dr_model.specs.ReadStops.{Ends};
 ghost use Rattle.dr_model.specs.Refusals.{stopped};
+ghost use Rattle.dr_model.specs.Sessions.{Session};
 ghost use Rattle.dr_volume.specs.Update.{IsMoved, OthersStay};
 ghost use Rattle.dr_volume.specs.View.{volume_seen, track_seen};
 ghost use Rattle.dr_model.specs.declared.event.Event.TheVariants.{Ack};
@@ -65,7 +66,7 @@ pub fn land_both<P: Plant>(
     requires bytes { bytes.now ≡ with_write (histories j.old.events).write (track_seen (P.state p.old) c.now v.0 t) w.0 }
     requires waits { IsSome (find (has_number w.0) h.old.pending) }
     requires room { 1 ≤ j.old.spare }
-    ensures carried { Ends (armed_in (P.state p.old)) (here (P.state p.new) c.now h.new j.new.events) (refusal_of result) (here (P.state p.old) c.now h.old j.old.events) (now (LandBoth w.0 v.0 t) ∷ []) }
+    ensures carried { (xs : List Session) → Ends (armed_in (P.state p.old)) (here (P.state p.new) c.now xs h.new j.new.events) (refusal_of result) (here (P.state p.old) c.now xs h.old j.old.events) (now (LandBoth w.0 v.0 t) ∷ []) }
     ensures refused { OnErr result (refusal_of result ≡ Some (stopped (volume_seen (P.state p.old) c.now v.0).server)) }
     ensures rest { IsAtRest (P.state p.new) c.now }
     ensures fit { RelationsFit (P.state p.new) c.now }

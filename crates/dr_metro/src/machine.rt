@@ -1,12 +1,13 @@
 //! How a host write lands in what a run holds beside the plant and the journal.
 
-ghost use Rattle.std.specs.Prelude.{◌≡◌, ℕ, ◌+◌, ◌<◌, ◌≤◌, true, [], ◌∷◌, length, is_err, IsSome, Some, None, OnOk, OnErr, if◌then◌else◌};
+ghost use Rattle.std.specs.Prelude.{◌≡◌, ℕ, ◌+◌, ◌<◌, ◌≤◌, true, [], ◌∷◌, length, is_err, IsSome, Some, None, OnOk, OnErr, if◌then◌else◌, List};
 ghost use Rattle.std.specs.List.{find};
 ghost use Rattle.dr_config.specs.Table.{place_of};
 ghost use Rattle.dr_host.specs.Writes.{has_number, with_marked};
 ghost use Rattle.dr_model.specs.Entries.{land_on, land_alone};
 ghost use Rattle.dr_model.specs.ReadStops.{Ends};
 ghost use Rattle.dr_model.specs.Refusals.{stopped};
+ghost use Rattle.dr_model.specs.Sessions.{Session};
 ghost use Rattle.dr_volume.specs.View.{volume_seen, ids_of};
 ghost use Rattle.dr_flash.specs.Fit.{RelationsFit};
 ghost use Rattle.dr_flash.specs.Faults.{Counted};
@@ -55,8 +56,8 @@ pub fn land_write<P: Plant>(
     requires fits { target.offset + length bytes.now ≤ 64 }
     requires room { 0 < journal.old.spare }
     requires pending { IsPending host.old journal.old.events w.0 target bytes.now }
-    ensures carried { Ends (armed_in (P.state plant.old)) (here (P.state plant.new) config.now host.new journal.new.events) (refusal_of result)
-        (here (P.state plant.old) config.now host.old journal.old.events) (land_on w.0 target.volume.0 target.track ∷ []) }
+    ensures carried { (xs : List Session) → Ends (armed_in (P.state plant.old)) (here (P.state plant.new) config.now xs host.new journal.new.events) (refusal_of result)
+        (here (P.state plant.old) config.now xs host.old journal.old.events) (land_on w.0 target.volume.0 target.track ∷ []) }
     ensures stopped { OnErr result (refusal_of result ≡ Some (stopped target.server.0)) }
     ensures left { OnOk result ((volume_seen (P.state plant.new) config.now target.volume.0).fields ≡ landed_on (volume_seen (P.state plant.old) config.now target.volume.0) target.track) }
     ensures rest { IsAtRest (P.state plant.new) config.now }
@@ -119,8 +120,8 @@ pub fn land_kept<P: Plant>(
     requires fits { target.offset + length bytes.now ≤ 64 }
     requires room { length config.now.volumes + 2 ≤ journal.old.spare }
     requires pending { IsPending host.old journal.old.events w.0 target bytes.now }
-    ensures carried { Ends (armed_in (P.state plant.old)) (here (P.state plant.new) config.now host.new journal.new.events) (refusal_of result)
-        (here (P.state plant.old) config.now host.old journal.old.events) (land_alone (ids_of config.now.volumes) w.0 target.volume.0 target.track) }
+    ensures carried { (xs : List Session) → Ends (armed_in (P.state plant.old)) (here (P.state plant.new) config.now xs host.new journal.new.events) (refusal_of result)
+        (here (P.state plant.old) config.now xs host.old journal.old.events) (land_alone (ids_of config.now.volumes) w.0 target.volume.0 target.track) }
     ensures stopped { OnErr result (refusal_of result ≡ Some (stopped target.server.0)) }
     ensures left { OnOk result ((volume_seen (P.state plant.new) config.now target.volume.0).fields ≡ landed_on (volume_seen (P.state plant.old) config.now target.volume.0) target.track) }
     ensures rest { IsAtRest (P.state plant.new) config.now }

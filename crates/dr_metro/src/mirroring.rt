@@ -1,6 +1,6 @@
 //! A host write goes to the secondary before it lands on the primary.
 
-ghost use Rattle.std.specs.Prelude.{◌≡◌, ◌≢◌, ℕ, ◌<◌, ◌≤◌, ◌+◌, true, length, take, None, Some, IsSome, OnOk, OnErr, is_err};
+ghost use Rattle.std.specs.Prelude.{◌≡◌, ◌≢◌, ℕ, ◌<◌, ◌≤◌, ◌+◌, true, length, take, None, Some, IsSome, OnOk, OnErr, is_err, List};
 ghost use Rattle.std.specs.List.{find};
 ghost use Rattle.dr_config.specs.Table.{place_of};
 ghost use Rattle.dr_host.specs.Writes.{has_number};
@@ -9,6 +9,7 @@ ghost use Rattle.dr_model.specs.Histories.{histories};
 ghost use Rattle.dr_model.specs.Layout.{is_part};
 ghost use Rattle.dr_model.specs.ReadStops.{Ends};
 ghost use Rattle.dr_model.specs.WriteEntries.{land_mirrored};
+ghost use Rattle.dr_model.specs.Sessions.{Session};
 ghost use Rattle.dr_volume.specs.View.{volume_seen, track_seen, ids_of};
 ghost use Rattle.dr_flash.specs.Checks.{is_stop};
 ghost use Rattle.dr_flash.specs.Faults.{Counted};
@@ -57,7 +58,7 @@ fn keep_and_land<P: Plant>(
     requires stored { track_seen (P.state p.old) c.now m.to.0 m.track ≡ bytes.now }
     requires waits { IsSome (find (has_number m.write.0) h.old.pending) }
     requires room { length c.now.volumes + 1 ≤ j.old.spare }
-    ensures carried { Ends (armed_in (P.state p.old)) (here (P.state p.new) c.now h.new j.new.events) (refusal_of result) (here (P.state p.old) c.now h.old j.old.events) (settle_entries (ids_of c.now.volumes) m.write.0 m.from.0 m.track) }
+    ensures carried { (xs : List Session) → Ends (armed_in (P.state p.old)) (here (P.state p.new) c.now xs h.new j.new.events) (refusal_of result) (here (P.state p.old) c.now xs h.old j.old.events) (settle_entries (ids_of c.now.volumes) m.write.0 m.from.0 m.track) }
     ensures stops { OnErr result (is_stop (refusal_of result) ≡ true) }
     ensures equal { OnOk result (track_seen (P.state p.new) c.now m.to.0 m.track ≡ track_seen (P.state p.new) c.now m.from.0 m.track) }
     ensures rest { IsAtRest (P.state p.new) c.now }
@@ -96,7 +97,7 @@ fn store_and_land<P: Plant>(
     requires bytes { bytes.now ≡ with_write (histories j.old.events).write (track_seen (P.state p.old) c.now m.from.0 m.track) m.write.0 }
     requires waits { IsSome (find (has_number m.write.0) h.old.pending) }
     requires room { length c.now.volumes + 2 ≤ j.old.spare }
-    ensures carried { Ends (armed_in (P.state p.old)) (here (P.state p.new) c.now h.new j.new.events) (refusal_of result) (here (P.state p.old) c.now h.old j.old.events) (store_entries (ids_of c.now.volumes) m.write.0 m.from.0 m.track m.to.0) }
+    ensures carried { (xs : List Session) → Ends (armed_in (P.state p.old)) (here (P.state p.new) c.now xs h.new j.new.events) (refusal_of result) (here (P.state p.old) c.now xs h.old j.old.events) (store_entries (ids_of c.now.volumes) m.write.0 m.from.0 m.track m.to.0) }
     ensures stops { OnErr result (is_stop (refusal_of result) ≡ true) }
     ensures equal { OnOk result (track_seen (P.state p.new) c.now m.to.0 m.track ≡ track_seen (P.state p.new) c.now m.from.0 m.track) }
     ensures rest { IsAtRest (P.state p.new) c.now }
@@ -135,7 +136,7 @@ fn mirror_kept<P: Plant>(
     requires bytes { bytes.now ≡ with_write (histories j.old.events).write (track_seen (P.state p.old) c.now m.from.0 m.track) m.write.0 }
     requires waits { IsSome (find (has_number m.write.0) h.old.pending) }
     requires room { length c.now.volumes + (length c.now.volumes + 2) ≤ j.old.spare }
-    ensures carried { Ends (armed_in (P.state p.old)) (here (P.state p.new) c.now h.new j.new.events) (refusal_of result) (here (P.state p.old) c.now h.old j.old.events) (mirror_entries (ids_of c.now.volumes) m.write.0 m.from.0 m.track m.to.0) }
+    ensures carried { (xs : List Session) → Ends (armed_in (P.state p.old)) (here (P.state p.new) c.now xs h.new j.new.events) (refusal_of result) (here (P.state p.old) c.now xs h.old j.old.events) (mirror_entries (ids_of c.now.volumes) m.write.0 m.from.0 m.track m.to.0) }
     ensures stops { OnErr result (is_stop (refusal_of result) ≡ true) }
     ensures equal { OnOk result (track_seen (P.state p.new) c.now m.to.0 m.track ≡ track_seen (P.state p.new) c.now m.from.0 m.track) }
     ensures rest { IsAtRest (P.state p.new) c.now }
@@ -182,7 +183,7 @@ fn read_and_mirror<P: Plant>(
     requires fits { w.now.offset + w.now.len ≤ 64 }
     requires found { find (has_number w.now.w.0) h.old.pending ≡ Some w.now }
     requires room { length c.now.volumes + (length c.now.volumes + 2) ≤ j.old.spare }
-    ensures carried { Ends (armed_in (P.state p.old)) (here (P.state p.new) c.now h.new j.new.events) (refusal_of result) (here (P.state p.old) c.now h.old j.old.events) (mirror_entries (ids_of c.now.volumes) w.now.w.0 w.now.volume.0 w.now.track u.0) }
+    ensures carried { (xs : List Session) → Ends (armed_in (P.state p.old)) (here (P.state p.new) c.now xs h.new j.new.events) (refusal_of result) (here (P.state p.old) c.now xs h.old j.old.events) (mirror_entries (ids_of c.now.volumes) w.now.w.0 w.now.volume.0 w.now.track u.0) }
     ensures stops { OnErr result (is_stop (refusal_of result) ≡ true) }
     ensures equal { OnOk result (track_seen (P.state p.new) c.now u.0 w.now.track ≡ track_seen (P.state p.new) c.now w.now.volume.0 w.now.track) }
     ensures rest { IsAtRest (P.state p.new) c.now }
@@ -232,7 +233,7 @@ pub fn write_both<P: Plant>(
     requires fits { w.now.offset + w.now.len ≤ 64 }
     requires found { find (has_number w.now.w.0) h.old.pending ≡ Some w.now }
     requires room { length c.now.volumes + (length c.now.volumes + 2) ≤ j.old.spare }
-    ensures carried { Ends (armed_in (P.state p.old)) (here (P.state p.new) c.now h.new j.new.events) (refusal_of result) (here (P.state p.old) c.now h.old j.old.events) (land_mirrored (ids_of c.now.volumes) w.now.w.0 w.now.volume.0 w.now.track u.0) }
+    ensures carried { (xs : List Session) → Ends (armed_in (P.state p.old)) (here (P.state p.new) c.now xs h.new j.new.events) (refusal_of result) (here (P.state p.old) c.now xs h.old j.old.events) (land_mirrored (ids_of c.now.volumes) w.now.w.0 w.now.volume.0 w.now.track u.0) }
     ensures stops { OnErr result (is_stop (refusal_of result) ≡ true) }
     ensures equal { OnOk result (track_seen (P.state p.new) c.now u.0 w.now.track ≡ track_seen (P.state p.new) c.now w.now.volume.0 w.now.track) }
     ensures rest { IsAtRest (P.state p.new) c.now }

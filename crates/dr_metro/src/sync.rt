@@ -1,6 +1,6 @@
 //! A pending write of the host is carried out: on its volume alone, or on its secondary first.
 
-ghost use Rattle.std.specs.Prelude.{◌≡◌, ◌≢◌, ℕ, ◌<◌, ◌≤◌, ◌+◌, true, false, ◌&&◌, length, None, Some, IsSome, IfOk, OnOk, OnErr, is_err, is_some};
+ghost use Rattle.std.specs.Prelude.{◌≡◌, ◌≢◌, ℕ, ◌<◌, ◌≤◌, ◌+◌, true, false, ◌&&◌, length, None, Some, IsSome, IfOk, OnOk, OnErr, is_err, is_some, List};
 ghost use Rattle.std.specs.List.{find};
 ghost use Rattle.dr_config.specs.Table.{place_of};
 ghost use Rattle.dr_host.specs.Writes.{has_number};
@@ -11,6 +11,7 @@ ghost use Rattle.dr_model.specs.Pairs.{is_metro, is_suspended};
 ghost use Rattle.dr_model.specs.ReadStops.{Ends};
 ghost use Rattle.dr_model.specs.WriteEntries as entries;
 ghost use Rattle.dr_model.specs.WriteEntries.{land_entries, landing, waits, part_after};
+ghost use Rattle.dr_model.specs.Sessions.{Session};
 ghost use Rattle.dr_volume.specs.View.{volume_seen, ids_of};
 ghost use Rattle.dr_flash.specs.Checks.{is_stop};
 ghost use Rattle.dr_flash.specs.Faults.{Counted};
@@ -62,7 +63,7 @@ fn write_alone<P: Plant>(
     requires fits { w.now.offset + w.now.len ≤ 64 }
     requires found { find (has_number w.now.w.0) h.old.pending ≡ Some w.now }
     requires room { length c.now.volumes + 2 ≤ j.old.spare }
-    ensures carried { Ends (armed_in (P.state p.old)) (here (P.state p.new) c.now h.new j.new.events) (refusal_of result) (here (P.state p.old) c.now h.old j.old.events) (land_alone (ids_of c.now.volumes) w.now.w.0 w.now.volume.0 w.now.track) }
+    ensures carried { (xs : List Session) → Ends (armed_in (P.state p.old)) (here (P.state p.new) c.now xs h.new j.new.events) (refusal_of result) (here (P.state p.old) c.now xs h.old j.old.events) (land_alone (ids_of c.now.volumes) w.now.w.0 w.now.volume.0 w.now.track) }
     ensures end { IfOk result (λ e. e ≡ Landed) }
     ensures left { OnOk result ((volume_seen (P.state p.new) c.now w.now.volume.0).fields ≡ landed_on (volume_seen (P.state p.old) c.now w.now.volume.0) w.now.track) }
     ensures stops { OnErr result (is_stop (refusal_of result) ≡ true) }
@@ -106,7 +107,7 @@ fn write_parted<P: Plant>(
     requires fits { w.now.offset + w.now.len ≤ 64 }
     requires found { find (has_number w.now.w.0) h.old.pending ≡ Some w.now }
     requires room { length c.now.volumes + 3 ≤ j.old.spare }
-    ensures carried { Ends (armed_in (P.state p.old)) (here (P.state p.new) c.now h.new j.new.events) (refusal_of result) (here (P.state p.old) c.now h.old j.old.events) (parted_entries (ids_of c.now.volumes) busy w.now.w.0 w.now.volume.0 w.now.track) }
+    ensures carried { (xs : List Session) → Ends (armed_in (P.state p.old)) (here (P.state p.new) c.now xs h.new j.new.events) (refusal_of result) (here (P.state p.old) c.now xs h.old j.old.events) (parted_entries (ids_of c.now.volumes) busy w.now.w.0 w.now.volume.0 w.now.track) }
     ensures end { IfOk result (λ e. e ≡ end_of busy) }
     ensures suspended { OnOk result (is_suspended (volume_seen (P.state p.new) c.now w.now.volume.0).fields.primary_state ≡ true) }
     ensures stops { OnErr result (is_stop (refusal_of result) ≡ true) }
@@ -152,8 +153,8 @@ fn write_over<P: Plant>(
     requires fits { w.now.offset + w.now.len ≤ 64 }
     requires found { find (has_number w.now.w.0) h.old.pending ≡ Some w.now }
     requires room { length c.now.volumes + (length c.now.volumes + 3) ≤ j.old.spare }
-    ensures carried { Ends (armed_in (P.state p.old)) (here (P.state p.new) c.now h.new j.new.events) (refusal_of result) (here (P.state p.old) c.now h.old j.old.events) (over_entries (ids_of c.now.volumes) (is_some (pair_entries.send_refusal w.now.volume.0 u.0 (here (P.state p.old) c.now h.old j.old.events).control)) (entries.is_grouped (here (P.state p.old) c.now h.old j.old.events).control w.now.volume.0 u.0) w.now.w.0 w.now.volume.0 w.now.track u.0) }
-    ensures end { IfOk result (λ e. e ≡ end_of (is_some (pair_entries.send_refusal w.now.volume.0 u.0 (here (P.state p.old) c.now h.old j.old.events).control) && entries.is_grouped (here (P.state p.old) c.now h.old j.old.events).control w.now.volume.0 u.0)) }
+    ensures carried { (xs : List Session) → Ends (armed_in (P.state p.old)) (here (P.state p.new) c.now xs h.new j.new.events) (refusal_of result) (here (P.state p.old) c.now xs h.old j.old.events) (over_entries (ids_of c.now.volumes) (is_some (pair_entries.send_refusal w.now.volume.0 u.0 (here (P.state p.old) c.now xs h.old j.old.events).control)) (entries.is_grouped (here (P.state p.old) c.now xs h.old j.old.events).control w.now.volume.0 u.0) w.now.w.0 w.now.volume.0 w.now.track u.0) }
+    ensures end { (xs : List Session) → IfOk result (λ e. e ≡ end_of (is_some (pair_entries.send_refusal w.now.volume.0 u.0 (here (P.state p.old) c.now xs h.old j.old.events).control) && entries.is_grouped (here (P.state p.old) c.now xs h.old j.old.events).control w.now.volume.0 u.0)) }
     ensures mirrors { OnOk result (Mirrors (P.state p.new) c.now w.now.volume.0 u.0 w.now.track) }
     ensures stops { OnErr result (is_stop (refusal_of result) ≡ true) }
     ensures rest { IsAtRest (P.state p.new) c.now }
@@ -194,8 +195,8 @@ fn place_write<P: Plant>(
     requires fits { w.now.offset + w.now.len ≤ 64 }
     requires found { find (has_number w.now.w.0) h.old.pending ≡ Some w.now }
     requires room { length c.now.volumes + (length c.now.volumes + 3) ≤ j.old.spare }
-    ensures carried { Ends (armed_in (P.state p.old)) (here (P.state p.new) c.now h.new j.new.events) (refusal_of result) (here (P.state p.old) c.now h.old j.old.events) (land_entries (here (P.state p.old) c.now h.old j.old.events).control w.now.w.0 w.now.volume.0 w.now.track) }
-    ensures end { IfOk result (λ e. e ≡ end_of (waits (here (P.state p.old) c.now h.old j.old.events).control w.now.volume.0 w.now.track)) }
+    ensures carried { (xs : List Session) → Ends (armed_in (P.state p.old)) (here (P.state p.new) c.now xs h.new j.new.events) (refusal_of result) (here (P.state p.old) c.now xs h.old j.old.events) (land_entries (here (P.state p.old) c.now xs h.old j.old.events).control w.now.w.0 w.now.volume.0 w.now.track) }
+    ensures end { (xs : List Session) → IfOk result (λ e. e ≡ end_of (waits (here (P.state p.old) c.now xs h.old j.old.events).control w.now.volume.0 w.now.track)) }
     ensures mirrors { is_metro (volume_seen (P.state p.old) c.now w.now.volume.0).fields.primary ≡ true → IfOk result (λ e. e ≡ Landed → Mirrors (P.state p.new) c.now w.now.volume.0 (volume_seen (P.state p.old) c.now w.now.volume.0).fields.primary_partner w.now.track) }
     ensures stops { OnErr result (is_stop (refusal_of result) ≡ true) }
     ensures rest { IsAtRest (P.state p.new) c.now }
@@ -236,8 +237,8 @@ fn carry_write<P: Plant>(
     requires fits { w.now.offset + w.now.len ≤ 64 }
     requires found { find (has_number w.now.w.0) h.old.pending ≡ Some w.now }
     requires room { length c.now.volumes + (length c.now.volumes + 3) ≤ j.old.spare }
-    ensures carried { Ends (armed_in (P.state p.old)) (here (P.state p.new) c.now h.new j.new.events) (refusal_of result) (here (P.state p.old) c.now h.old j.old.events) (landing (here (P.state p.old) c.now h.old j.old.events).control w.now.w.0 w.now.volume.0 w.now.track) }
-    ensures end { IfOk result (λ e. e ≡ end_of (waits (here (P.state p.old) c.now h.old j.old.events).control w.now.volume.0 w.now.track)) }
+    ensures carried { (xs : List Session) → Ends (armed_in (P.state p.old)) (here (P.state p.new) c.now xs h.new j.new.events) (refusal_of result) (here (P.state p.old) c.now xs h.old j.old.events) (landing (here (P.state p.old) c.now xs h.old j.old.events).control w.now.w.0 w.now.volume.0 w.now.track) }
+    ensures end { (xs : List Session) → IfOk result (λ e. e ≡ end_of (waits (here (P.state p.old) c.now xs h.old j.old.events).control w.now.volume.0 w.now.track)) }
     ensures mirrors { is_metro (volume_seen (P.state p.old) c.now w.now.volume.0).fields.primary ≡ true → IfOk result (λ e. e ≡ Landed → Mirrors (P.state p.new) c.now w.now.volume.0 (volume_seen (P.state p.old) c.now w.now.volume.0).fields.primary_partner w.now.track) }
     ensures rest { IsAtRest (P.state p.new) c.now }
     ensures fit { RelationsFit (P.state p.new) c.now }
@@ -289,8 +290,8 @@ pub fn sync_write<P: Plant>(
     requires fits { w.now.offset + w.now.len ≤ 64 }
     requires found { find (has_number w.now.w.0) h.old.pending ≡ Some w.now }
     requires room { length c.now.volumes + (length c.now.volumes + 5) ≤ j.old.spare }
-    ensures carried { EndsFollowed (armed_in (P.state p.old)) (here (P.state p.old) c.now h.old j.old.events) (landing (here (P.state p.old) c.now h.old j.old.events).control w.now.w.0 w.now.volume.0 w.now.track) (part_after w.now.volume.0) (here (P.state p.new) c.now h.new j.new.events) (refusal_of result) }
-    ensures end { IfOk result (λ e. e ≡ end_of (waits (here (P.state p.old) c.now h.old j.old.events).control w.now.volume.0 w.now.track)) }
+    ensures carried { (xs : List Session) → EndsFollowed (armed_in (P.state p.old)) (here (P.state p.old) c.now xs h.old j.old.events) (landing (here (P.state p.old) c.now xs h.old j.old.events).control w.now.w.0 w.now.volume.0 w.now.track) (part_after w.now.volume.0) (here (P.state p.new) c.now xs h.new j.new.events) (refusal_of result) }
+    ensures end { (xs : List Session) → IfOk result (λ e. e ≡ end_of (waits (here (P.state p.old) c.now xs h.old j.old.events).control w.now.volume.0 w.now.track)) }
     ensures mirrors { is_metro (volume_seen (P.state p.old) c.now w.now.volume.0).fields.primary ≡ true → IfOk result (λ e. e ≡ Landed → Mirrors (P.state p.new) c.now w.now.volume.0 (volume_seen (P.state p.old) c.now w.now.volume.0).fields.primary_partner w.now.track) }
     ensures rest { IsAtRest (P.state p.new) c.now }
     ensures fit { RelationsFit (P.state p.new) c.now }

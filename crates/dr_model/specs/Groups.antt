@@ -29,8 +29,10 @@ pub record MemberStands (k : Control) (m : Member) : Type 0 where
 abbrev pub Finished : Control → Mirror → Member → Type 0
 Finished k r m = phases.is_among m.server.0 r.master.owed ≡ false → (fields_at k m.a.0).recording ≡ false
 
+-- a session is sound, no primary is that of two of its members, and they stand
 pub record SessionFits (k : Control) (x : Session) : Type 0 where
   pub sound : IsSound x
+  pub once : Once (map (λ (m : Member). m.a.0) x.members)
   pub stands : (m : Member) → In m x.members → MemberStands k m
   pub finished : (r : Mirror) → x.mirror ≡ Some r → r.master.phase ≡ phase.Finishing → (m : Member) → In m x.members → Finished k r m
 

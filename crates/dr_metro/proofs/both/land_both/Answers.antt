@@ -1,4 +1,4 @@
-use Rattle.std.proofs.Common.{◌≡◌, ◌⊎◌, ap, sym, subst, ◌∙◌, not, None, Some}
+use Rattle.std.proofs.Common.{◌≡◌, ◌⊎◌, ap, sym, subst, ◌∙◌, not, None, Some, []}
 use mathlib.Core.Bool.{beq}
 use Rattle.dr_model.specs.Layout.{Fields}
 use Rattle.dr_model.specs.Lawful.{IsLawful}
@@ -43,14 +43,14 @@ shift-requires-clause-leaves g c =
     (subst (λ f. MoveFits s t v f (Some (c.args.t, c.args.bytes.now))) (sym (c.synced-next.ensures ∙ ap (λ (f : Fields). synced f c.args.t) c.peek_fields.ensures.fields)) (both-fits s t v c.requires.fit (subst (λ (f : Fields). IsLawful x.tracks f) c.peek_fields.ensures.fields c.peek_fields.ensures.lawful) c.args.w.0 c.args.t c.args.bytes.now c.requires.primary)).leaves
 
 pub returns-in-Ok-clause-carried : goal.returns-in-Ok-clause-carried
-returns-in-Ok-clause-carried g c =
+returns-in-Ok-clause-carried g c xs =
     let s = g.P.Plant.state c.args.p.now in
     let t = c.args.c.now in
     let v = c.args.v.0 in
     let x = volume_seen s t v in
-    both-ends s (g.P.Plant.state c.shift.new.p) t c.args.h.now c.args.j.now.events c.shift.new.j.events c.args.w.0 v c.args.t (plain c.synced-next.result) c.args.bytes.now (on-running s x.server c.requires.running) (sym (c.synced-next.ensures ∙ ap (λ (f : Fields). synced f c.args.t) c.peek_fields.ensures.fields)) (sym c.requires.bytes)
+    both-ends s (g.P.Plant.state c.shift.new.p) t xs c.args.h.now c.args.j.now.events c.shift.new.j.events c.args.w.0 v c.args.t (plain c.synced-next.result) c.args.bytes.now (on-running s x.server c.requires.running) (sym (c.synced-next.ensures ∙ ap (λ (f : Fields). synced f c.args.t) c.peek_fields.ensures.fields)) (sym c.requires.bytes)
     c.finish.new.self c.finish.ensures
-    (subst (λ (y : Telling). made_by (update (here s t c.args.h.now c.args.j.now.events) v (plain c.synced-next.result) (Some (c.args.t, c.args.bytes.now))) x.server y ≡ (here (g.P.Plant.state c.shift.new.p) t c.args.h.now c.shift.new.j.events, None)) c.telling_of.ensures (c.in-Ok.ensures.done (rest_of c.args.h.now c.args.j.now.events)))
+    (subst (λ (y : Telling). made_by (update (here s t xs c.args.h.now c.args.j.now.events) v (plain c.synced-next.result) (Some (c.args.t, c.args.bytes.now))) x.server y ≡ (here (g.P.Plant.state c.shift.new.p) t xs c.args.h.now c.shift.new.j.events, None)) c.telling_of.ensures (c.in-Ok.ensures.done (rest_of xs c.args.h.now c.args.j.now.events)))
 
 pub returns-in-Ok-clause-told : goal.returns-in-Ok-clause-told
 returns-in-Ok-clause-told g c =
@@ -58,22 +58,22 @@ returns-in-Ok-clause-told g c =
     let t = c.args.c.now in
     let v = c.args.v.0 in
     let x = volume_seen s t v in
-    both-told s (g.P.Plant.state c.shift.new.p) t c.args.h.now c.args.j.now.events c.shift.new.j.events c.args.w.0 v c.args.t (plain c.synced-next.result) c.args.bytes.now (on-running s x.server c.requires.running) (sym (c.synced-next.ensures ∙ ap (λ (f : Fields). synced f c.args.t) c.peek_fields.ensures.fields)) (sym c.requires.bytes)
+    both-told s (g.P.Plant.state c.shift.new.p) t [] c.args.h.now c.args.j.now.events c.shift.new.j.events c.args.w.0 v c.args.t (plain c.synced-next.result) c.args.bytes.now (on-running s x.server c.requires.running) (sym (c.synced-next.ensures ∙ ap (λ (f : Fields). synced f c.args.t) c.peek_fields.ensures.fields)) (sym c.requires.bytes)
     c.finish.new.self c.finish.ensures
-    (subst (λ (y : Telling). made_by (update (here s t c.args.h.now c.args.j.now.events) v (plain c.synced-next.result) (Some (c.args.t, c.args.bytes.now))) x.server y ≡ (here (g.P.Plant.state c.shift.new.p) t c.args.h.now c.shift.new.j.events, None)) c.telling_of.ensures (c.in-Ok.ensures.done (rest_of c.args.h.now c.args.j.now.events)))
+    (subst (λ (y : Telling). made_by (update (here s t [] c.args.h.now c.args.j.now.events) v (plain c.synced-next.result) (Some (c.args.t, c.args.bytes.now))) x.server y ≡ (here (g.P.Plant.state c.shift.new.p) t [] c.args.h.now c.shift.new.j.events, None)) c.telling_of.ensures (c.in-Ok.ensures.done (rest_of [] c.args.h.now c.args.j.now.events)))
     c.requires.told
 
 pub returns-in-Err-clause-carried : goal.returns-in-Err-clause-carried
-returns-in-Err-clause-carried g c =
+returns-in-Err-clause-carried g c xs =
     let s = g.P.Plant.state c.args.p.now in
     let t = c.args.c.now in
     let v = c.args.v.0 in
     let x = volume_seen s t v in
-    both-fails s (g.P.Plant.state c.shift.new.p) t c.args.h.now c.args.j.now.events c.shift.new.j.events c.args.w.0 v c.args.t (plain c.synced-next.result) c.args.bytes.now (on-running s x.server c.requires.running) (sym (c.synced-next.ensures ∙ ap (λ (f : Fields). synced f c.args.t) c.peek_fields.ensures.fields)) (sym c.requires.bytes)
+    both-fails s (g.P.Plant.state c.shift.new.p) t xs c.args.h.now c.args.j.now.events c.shift.new.j.events c.args.w.0 v c.args.t (plain c.synced-next.result) c.args.bytes.now (on-running s x.server c.requires.running) (sym (c.synced-next.ensures ∙ ap (λ (f : Fields). synced f c.args.t) c.peek_fields.ensures.fields)) (sym c.requires.bytes)
     c.land_if.new.host (not (beq c.slot.result c.slot-before.result)) (Some c.in-Err.stop)
     (ap (λ b. differ b x.slot) (sym c.slot.ensures) ∙ ap (differ c.slot.result) (sym c.slot-before.ensures) ∙ sym (not_beq c.slot.result c.slot-before.result))
     c.land_if.ensures c.in-Err.ensures.refused
-    (subst (λ (y : Telling). GoesOff (armed_in s) (here (g.P.Plant.state c.shift.new.p) t c.args.h.now c.shift.new.j.events) (Some c.in-Err.stop) (here s t c.args.h.now c.args.j.now.events) ⊎ (made_by (update (here s t c.args.h.now c.args.j.now.events) v (plain c.synced-next.result) (Some (c.args.t, c.args.bytes.now))) x.server y ≡ (here (g.P.Plant.state c.shift.new.p) t c.args.h.now c.shift.new.j.events, Some x.server))) c.telling_of.ensures (c.in-Err.ensures.failed (rest_of c.args.h.now c.args.j.now.events)))
+    (subst (λ (y : Telling). GoesOff (armed_in s) (here (g.P.Plant.state c.shift.new.p) t xs c.args.h.now c.shift.new.j.events) (Some c.in-Err.stop) (here s t xs c.args.h.now c.args.j.now.events) ⊎ (made_by (update (here s t xs c.args.h.now c.args.j.now.events) v (plain c.synced-next.result) (Some (c.args.t, c.args.bytes.now))) x.server y ≡ (here (g.P.Plant.state c.shift.new.p) t xs c.args.h.now c.shift.new.j.events, Some x.server))) c.telling_of.ensures (c.in-Err.ensures.failed (rest_of xs c.args.h.now c.args.j.now.events)))
 
 pub returns-in-Err-clause-told : goal.returns-in-Err-clause-told
 returns-in-Err-clause-told g c =
@@ -81,9 +81,9 @@ returns-in-Err-clause-told g c =
     let t = c.args.c.now in
     let v = c.args.v.0 in
     let x = volume_seen s t v in
-    fails-told s (g.P.Plant.state c.shift.new.p) t c.args.h.now c.args.j.now.events c.shift.new.j.events c.args.w.0 v c.args.t (plain c.synced-next.result) c.args.bytes.now (on-running s x.server c.requires.running) (sym (c.synced-next.ensures ∙ ap (λ (f : Fields). synced f c.args.t) c.peek_fields.ensures.fields)) (sym c.requires.bytes)
+    fails-told s (g.P.Plant.state c.shift.new.p) t [] c.args.h.now c.args.j.now.events c.shift.new.j.events c.args.w.0 v c.args.t (plain c.synced-next.result) c.args.bytes.now (on-running s x.server c.requires.running) (sym (c.synced-next.ensures ∙ ap (λ (f : Fields). synced f c.args.t) c.peek_fields.ensures.fields)) (sym c.requires.bytes)
     c.land_if.new.host (not (beq c.slot.result c.slot-before.result)) (Some c.in-Err.stop)
     (ap (λ b. differ b x.slot) (sym c.slot.ensures) ∙ ap (differ c.slot.result) (sym c.slot-before.ensures) ∙ sym (not_beq c.slot.result c.slot-before.result))
     c.land_if.ensures c.in-Err.ensures.refused
-    (subst (λ (y : Telling). GoesOff (armed_in s) (here (g.P.Plant.state c.shift.new.p) t c.args.h.now c.shift.new.j.events) (Some c.in-Err.stop) (here s t c.args.h.now c.args.j.now.events) ⊎ (made_by (update (here s t c.args.h.now c.args.j.now.events) v (plain c.synced-next.result) (Some (c.args.t, c.args.bytes.now))) x.server y ≡ (here (g.P.Plant.state c.shift.new.p) t c.args.h.now c.shift.new.j.events, Some x.server))) c.telling_of.ensures (c.in-Err.ensures.failed (rest_of c.args.h.now c.args.j.now.events)))
+    (subst (λ (y : Telling). GoesOff (armed_in s) (here (g.P.Plant.state c.shift.new.p) t [] c.args.h.now c.shift.new.j.events) (Some c.in-Err.stop) (here s t [] c.args.h.now c.args.j.now.events) ⊎ (made_by (update (here s t [] c.args.h.now c.args.j.now.events) v (plain c.synced-next.result) (Some (c.args.t, c.args.bytes.now))) x.server y ≡ (here (g.P.Plant.state c.shift.new.p) t [] c.args.h.now c.shift.new.j.events, Some x.server))) c.telling_of.ensures (c.in-Err.ensures.failed (rest_of [] c.args.h.now c.args.j.now.events)))
     c.requires.told

@@ -16,13 +16,13 @@ use Rattle.dr_metro.proofs.LandLemmas.{told-through}
 use Rattle.dr_metro.proofs.machine.land_kept.Goals as goal
 
 pub returns-in_err-copy_first-clause-carried : goal.returns-in_err-copy_first-clause-carried
-returns-in_err-copy_first-clause-carried g c =
+returns-in_err-copy_first-clause-carried g c xs =
     let s = g.P.Plant.state c.args.plant.now in
     let t = c.args.config.now in
     let h = c.args.host.now in
     let ev = c.args.journal.now.events in
-    subst (λ e. Ends (armed_in s) (here (g.P.Plant.state c.copy_first.new.p) t h c.copy_first.new.j.events) e (here s t h ev) (land_alone (ids_of t.volumes) c.args.w.0 c.args.target.volume.0 c.args.target.track)) (sym (refused-by c.from_residual.result c.in_err-copy_first.field-0.0 c.from_residual.ensures.0 c.from_residual.ensures.1))
-    (c.in_err-copy_first.ensures.fails (rest_of h ev) (land_on c.args.w.0 c.args.target.volume.0 c.args.target.track ∷ []))
+    subst (λ e. Ends (armed_in s) (here (g.P.Plant.state c.copy_first.new.p) t xs h c.copy_first.new.j.events) e (here s t xs h ev) (land_alone (ids_of t.volumes) c.args.w.0 c.args.target.volume.0 c.args.target.track)) (sym (refused-by c.from_residual.result c.in_err-copy_first.field-0.0 c.from_residual.ensures.0 c.from_residual.ensures.1))
+    (c.in_err-copy_first.ensures.fails (rest_of xs h ev) (land_on c.args.w.0 c.args.target.volume.0 c.args.target.track ∷ []))
 
 pub returns-in_err-copy_first-clause-stopped : goal.returns-in_err-copy_first-clause-stopped
 returns-in_err-copy_first-clause-stopped g c =
@@ -34,7 +34,7 @@ returns-in_err-copy_first-clause-told g c =
     let t = c.args.config.now in
     let h = c.args.host.now in
     let ev = c.args.journal.now.events in
-    told-through (armed_in s) h (here s t h ev) (here (g.P.Plant.state c.copy_first.new.p) t h c.copy_first.new.j.events) (copy_first (ids_of t.volumes) c.args.target.volume.0 c.args.target.track) (Some c.in_err-copy_first.field-0.0) (c.in_err-copy_first.ensures.carried (rest_of h ev)) c.requires.told
+    told-through (armed_in s) h (here s t [] h ev) (here (g.P.Plant.state c.copy_first.new.p) t [] h c.copy_first.new.j.events) (copy_first (ids_of t.volumes) c.args.target.volume.0 c.args.target.track) (Some c.in_err-copy_first.field-0.0) (c.in_err-copy_first.ensures.carried (rest_of [] h ev)) c.requires.told
 
 pub land_write-requires-clause-told : goal.land_write-requires-clause-told
 land_write-requires-clause-told g c =
@@ -42,7 +42,7 @@ land_write-requires-clause-told g c =
     let t = c.args.config.now in
     let h = c.args.host.now in
     let ev = c.args.journal.now.events in
-    told-through (armed_in s) h (here s t h ev) (here (g.P.Plant.state c.copy_first.new.p) t h c.copy_first.new.j.events) (copy_first (ids_of t.volumes) c.args.target.volume.0 c.args.target.track) None (c.in_ok-copy_first.ensures.carried (rest_of h ev)) c.requires.told
+    told-through (armed_in s) h (here s t [] h ev) (here (g.P.Plant.state c.copy_first.new.p) t [] h c.copy_first.new.j.events) (copy_first (ids_of t.volumes) c.args.target.volume.0 c.args.target.track) None (c.in_ok-copy_first.ensures.carried (rest_of [] h ev)) c.requires.told
 
 pub land_write-requires-clause-server : goal.land_write-requires-clause-server
 land_write-requires-clause-server g c =
@@ -62,24 +62,24 @@ land_write-requires-clause-pending g c =
     let t = c.args.config.now in
     let h = c.args.host.now in
     let ev = c.args.journal.now.events in
-    let is = unissued (armed_in s) (here (g.P.Plant.state c.copy_first.new.p) t h c.copy_first.new.j.events) None (here s t h ev) (copy_first (ids_of t.volumes) c.args.target.volume.0 c.args.target.track) (c.in_ok-copy_first.ensures.carried (rest_of h ev)) in
+    let is = unissued (armed_in s) (here (g.P.Plant.state c.copy_first.new.p) t [] h c.copy_first.new.j.events) None (here s t [] h ev) (copy_first (ids_of t.volumes) c.args.target.volume.0 c.args.target.track) (c.in_ok-copy_first.ensures.carried (rest_of [] h ev)) in
     record {
       waits = c.requires.pending.waits;
       issue = (λ i. is i c.args.w.0) ∙ c.requires.pending.issue;
     }
 
 pub returns-clause-carried : goal.returns-clause-carried
-returns-clause-carried g c =
+returns-clause-carried g c xs =
     let s = g.P.Plant.state c.args.plant.now in
     let t = c.args.config.now in
     let h = c.args.host.now in
     let ev = c.args.journal.now.events in
     let m = g.P.Plant.state c.copy_first.new.p in
-    let u = here (g.P.Plant.state c.land_write.new.plant) t c.land_write.new.host c.land_write.new.journal.events in
+    let u = here (g.P.Plant.state c.land_write.new.plant) t xs c.land_write.new.host c.land_write.new.journal.events in
     let more = land_on c.args.w.0 c.args.target.volume.0 c.args.target.track ∷ [] in
-    let middle = here m t h c.copy_first.new.j.events in
-    c.in_ok-copy_first.ensures.leads (rest_of h ev) (armed_in s) u (refusal_of c.land_write.result) more
-    (ends-wider (armed_in m) (armed_in s) (wider-armed s m c.in_ok-copy_first.ensures.unarmed) u (refusal_of c.land_write.result) middle more c.land_write.ensures.carried)
+    let middle = here m t xs h c.copy_first.new.j.events in
+    c.in_ok-copy_first.ensures.leads (rest_of xs h ev) (armed_in s) u (refusal_of c.land_write.result) more
+    (ends-wider (armed_in m) (armed_in s) (wider-armed s m c.in_ok-copy_first.ensures.unarmed) u (refusal_of c.land_write.result) middle more (c.land_write.ensures.carried xs))
 
 pub returns-clause-left : goal.returns-clause-left
 returns-clause-left g c =

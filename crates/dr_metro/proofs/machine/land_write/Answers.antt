@@ -24,15 +24,15 @@ pub land-requires-clause-running : goal.land-requires-clause-running
 land-requires-clause-running g c = ap (g.P.Plant.state c.args.plant.now).on c.requires.server ∙ c.requires.running
 
 pub returns-in-Ok-clause-carried : goal.returns-in-Ok-clause-carried
-returns-in-Ok-clause-carried g c =
+returns-in-Ok-clause-carried g c xs =
     let t = c.args.config.now in
     let host = c.args.host.now in
     let at = c.args.target in
     let w = c.args.w.0 in
-    let r = rest_of host c.args.journal.now.events in
+    let r = rest_of xs host c.args.journal.now.events in
     let s0 = g.P.Plant.state c.args.plant.now in
     let s1 = g.P.Plant.state c.land.new.p in
-    let w0 = here s0 t host c.args.journal.now.events in
+    let w0 = here s0 t xs host c.args.journal.now.events in
     let on = ap (on_seen s0) c.requires.server ∙ on-running s0 at.server.0 c.requires.running in
     let left = sym (seen-without w host.pending) ∙ ap (λ (x : Writes). map seen x.pending) (sym c.finish.ensures) in
     let count = ap (λ (x : Writes). x.issued) (sym c.finish.ensures) in
@@ -45,16 +45,16 @@ returns-in-Ok-clause-carried g c =
     ]
 
 pub returns-in-Err-clause-carried : goal.returns-in-Err-clause-carried
-returns-in-Err-clause-carried g c =
+returns-in-Err-clause-carried g c xs =
     let t = c.args.config.now in
     let host = c.args.host.now in
     let at = c.args.target in
     let n = c.args.w.0 in
     let events = c.args.journal.now.events in
-    let r = rest_of host events in
+    let r = rest_of xs host events in
     let s0 = g.P.Plant.state c.args.plant.now in
     let s1 = g.P.Plant.state c.land.new.p in
-    let w0 = here s0 t host events in
+    let w0 = here s0 t xs host events in
     let landed = not (beq c.slot.result c.slot-before.result) in
     let by_slot : (x : World) → world s1 t r ≡ x → differ (x.control.volume at.volume.0).slot (volume_seen s0 t at.volume.0).slot ≡ landed = (λ x is.
     ap (λ (x : World). differ (x.control.volume at.volume.0).slot (volume_seen s0 t at.volume.0).slot) (sym is)
@@ -85,7 +85,7 @@ returns-in-Err-clause-carried g c =
             on = on-running s0 at.server.0 c.requires.running;
             is_armed = ap (armed_in s0) (sym c.requires.server) ∙ off.is_armed;
             world =
-                (λ i. here s1 t (same i) (silent i))
+                (λ i. here s1 t xs (same i) (silent i))
                 ∙ (λ i. record (off.world i) { events = events ++ Stopped at.server.0 0 ∷ [] })
                 ∙ ap (λ o. record (shut w0 o) { events = events ++ Stopped at.server.0 0 ∷ [] }) c.requires.server;
             refusal = refl;

@@ -20,15 +20,15 @@ use Rattle.dr_metro.proofs.RouteLemmas.{carried-track, same-bytes, runs-still}
 use Rattle.dr_metro.proofs.mirroring.keep_and_land.Goals as goal
 
 pub returns-in_err-copy_first-clause-carried : goal.returns-in_err-copy_first-clause-carried
-returns-in_err-copy_first-clause-carried g c =
+returns-in_err-copy_first-clause-carried g c xs =
     let s = g.P.Plant.state c.args.p.now in
     let t = c.args.c.now in
     let h = c.args.h.now in
     let ev = c.args.j.now.events in
     let m = g.P.Plant.state c.copy_first.new.p in
     let mid = c.copy_first.new.j.events in
-    subst (λ e. Ends (armed_in s) (here m t h mid) e (here s t h ev) (settle_entries (ids_of t.volumes) c.args.m.write.0 c.args.m.from.0 c.args.m.track)) (sym (refused-by c.from_residual.result c.in_err-copy_first.field-0.0 c.from_residual.ensures.0 c.from_residual.ensures.1))
-    (c.in_err-copy_first.ensures.fails (rest_of h ev) (now (LandBoth c.args.m.write.0 c.args.m.from.0 c.args.m.track) ∷ []))
+    subst (λ e. Ends (armed_in s) (here m t xs h mid) e (here s t xs h ev) (settle_entries (ids_of t.volumes) c.args.m.write.0 c.args.m.from.0 c.args.m.track)) (sym (refused-by c.from_residual.result c.in_err-copy_first.field-0.0 c.from_residual.ensures.0 c.from_residual.ensures.1))
+    (c.in_err-copy_first.ensures.fails (rest_of xs h ev) (now (LandBoth c.args.m.write.0 c.args.m.from.0 c.args.m.track) ∷ []))
 
 pub returns-in_err-copy_first-clause-stops : goal.returns-in_err-copy_first-clause-stops
 returns-in_err-copy_first-clause-stops g c =
@@ -48,7 +48,7 @@ returns-in_err-copy_first-clause-told g c =
     let ev = c.args.j.now.events in
     let m = g.P.Plant.state c.copy_first.new.p in
     let mid = c.copy_first.new.j.events in
-    told-through (armed_in s) h (here s t h ev) (here m t h mid) (copy_first (ids_of t.volumes) c.args.m.from.0 c.args.m.track) (Some c.in_err-copy_first.field-0.0) (c.in_err-copy_first.ensures.carried (rest_of h ev)) c.requires.told
+    told-through (armed_in s) h (here s t [] h ev) (here m t [] h mid) (copy_first (ids_of t.volumes) c.args.m.from.0 c.args.m.track) (Some c.in_err-copy_first.field-0.0) (c.in_err-copy_first.ensures.carried (rest_of [] h ev)) c.requires.told
 
 pub land_both-requires-clause-told : goal.land_both-requires-clause-told
 land_both-requires-clause-told g c =
@@ -58,7 +58,7 @@ land_both-requires-clause-told g c =
     let ev = c.args.j.now.events in
     let m = g.P.Plant.state c.copy_first.new.p in
     let mid = c.copy_first.new.j.events in
-    told-through (armed_in s) h (here s t h ev) (here m t h mid) (copy_first (ids_of t.volumes) c.args.m.from.0 c.args.m.track) None (c.in_ok-copy_first.ensures.carried (rest_of h ev)) c.requires.told
+    told-through (armed_in s) h (here s t [] h ev) (here m t [] h mid) (copy_first (ids_of t.volumes) c.args.m.from.0 c.args.m.track) None (c.in_ok-copy_first.ensures.carried (rest_of [] h ev)) c.requires.told
 
 pub land_both-requires-clause-running : goal.land_both-requires-clause-running
 land_both-requires-clause-running g c =
@@ -98,19 +98,19 @@ land_both-requires-clause-bytes g c =
     let ev = c.args.j.now.events in
     let m = g.P.Plant.state c.copy_first.new.p in
     let mid = c.copy_first.new.j.events in
-    same-bytes (armed_in s) s m t h ev mid (copy_first (ids_of t.volumes) c.args.m.from.0 c.args.m.track) None c.args.m.from.0 c.args.m.track c.args.m.write.0 c.args.bytes.now (c.in_ok-copy_first.ensures.carried (rest_of h ev)) (ap (λ (z : ℕ → List ℕ). z c.args.m.track) (c.in_ok-copy_first.ensures.others c.args.m.from.0 (no-own s t c.args.m.from.0 c.requires.fit)).tracks) c.requires.bytes
+    same-bytes (armed_in s) s m t [] h ev mid (copy_first (ids_of t.volumes) c.args.m.from.0 c.args.m.track) None c.args.m.from.0 c.args.m.track c.args.m.write.0 c.args.bytes.now (c.in_ok-copy_first.ensures.carried (rest_of [] h ev)) (ap (λ (z : ℕ → List ℕ). z c.args.m.track) (c.in_ok-copy_first.ensures.others c.args.m.from.0 (no-own s t c.args.m.from.0 c.requires.fit)).tracks) c.requires.bytes
 
 pub returns-clause-carried : goal.returns-clause-carried
-returns-clause-carried g c =
+returns-clause-carried g c xs =
     let s = g.P.Plant.state c.args.p.now in
     let t = c.args.c.now in
     let h = c.args.h.now in
     let ev = c.args.j.now.events in
     let m = g.P.Plant.state c.copy_first.new.p in
     let mid = c.copy_first.new.j.events in
-    let u = here (g.P.Plant.state c.land_both.new.p) t c.land_both.new.h c.land_both.new.j.events in
-    c.in_ok-copy_first.ensures.leads (rest_of h ev) (armed_in s) u (refusal_of c.land_both.result) (now (LandBoth c.args.m.write.0 c.args.m.from.0 c.args.m.track) ∷ [])
-    (ends-wider (armed_in m) (armed_in s) (wider-armed s m c.in_ok-copy_first.ensures.unarmed) u (refusal_of c.land_both.result) (here m t h mid) (now (LandBoth c.args.m.write.0 c.args.m.from.0 c.args.m.track) ∷ []) c.land_both.ensures.carried)
+    let u = here (g.P.Plant.state c.land_both.new.p) t xs c.land_both.new.h c.land_both.new.j.events in
+    c.in_ok-copy_first.ensures.leads (rest_of xs h ev) (armed_in s) u (refusal_of c.land_both.result) (now (LandBoth c.args.m.write.0 c.args.m.from.0 c.args.m.track) ∷ [])
+    (ends-wider (armed_in m) (armed_in s) (wider-armed s m c.in_ok-copy_first.ensures.unarmed) u (refusal_of c.land_both.result) (here m t xs h mid) (now (LandBoth c.args.m.write.0 c.args.m.from.0 c.args.m.track) ∷ []) (c.land_both.ensures.carried xs))
 
 pub returns-clause-unarmed : goal.returns-clause-unarmed
 returns-clause-unarmed g c q none =

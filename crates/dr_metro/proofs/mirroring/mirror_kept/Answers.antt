@@ -1,4 +1,4 @@
-use Rattle.std.proofs.Common.{ℕ, ◌<◌, List, ap, sym, subst, ◌∙◌, None, Some}
+use Rattle.std.proofs.Common.{ℕ, ◌<◌, List, ap, sym, subst, ◌∙◌, None, Some, []}
 use Rattle.dr_model.specs.Control.{Volume}
 use Rattle.dr_model.specs.Entries.{copy_first}
 use Rattle.dr_model.specs.Layout.{is_part}
@@ -17,15 +17,15 @@ use Rattle.dr_metro.proofs.RouteLemmas.{same-bytes, runs-still}
 use Rattle.dr_metro.proofs.mirroring.mirror_kept.Goals as goal
 
 pub returns-in_err-copy_first-clause-carried : goal.returns-in_err-copy_first-clause-carried
-returns-in_err-copy_first-clause-carried g c =
+returns-in_err-copy_first-clause-carried g c xs =
     let s = g.P.Plant.state c.args.p.now in
     let t = c.args.c.now in
     let h = c.args.h.now in
     let ev = c.args.j.now.events in
     let m = g.P.Plant.state c.copy_first.new.p in
     let mid = c.copy_first.new.j.events in
-    subst (λ e. Ends (armed_in s) (here m t h mid) e (here s t h ev) (mirror_entries (ids_of t.volumes) c.args.m.write.0 c.args.m.from.0 c.args.m.track c.args.m.to.0)) (sym (refused-by c.from_residual.result c.in_err-copy_first.field-0.0 c.from_residual.ensures.0 c.from_residual.ensures.1))
-    (c.in_err-copy_first.ensures.fails (rest_of h ev) (store_entries (ids_of t.volumes) c.args.m.write.0 c.args.m.from.0 c.args.m.track c.args.m.to.0))
+    subst (λ e. Ends (armed_in s) (here m t xs h mid) e (here s t xs h ev) (mirror_entries (ids_of t.volumes) c.args.m.write.0 c.args.m.from.0 c.args.m.track c.args.m.to.0)) (sym (refused-by c.from_residual.result c.in_err-copy_first.field-0.0 c.from_residual.ensures.0 c.from_residual.ensures.1))
+    (c.in_err-copy_first.ensures.fails (rest_of xs h ev) (store_entries (ids_of t.volumes) c.args.m.write.0 c.args.m.from.0 c.args.m.track c.args.m.to.0))
 
 pub returns-in_err-copy_first-clause-stops : goal.returns-in_err-copy_first-clause-stops
 returns-in_err-copy_first-clause-stops g c =
@@ -45,7 +45,7 @@ returns-in_err-copy_first-clause-told g c =
     let ev = c.args.j.now.events in
     let m = g.P.Plant.state c.copy_first.new.p in
     let mid = c.copy_first.new.j.events in
-    told-through (armed_in s) h (here s t h ev) (here m t h mid) (copy_first (ids_of t.volumes) c.args.m.to.0 c.args.m.track) (Some c.in_err-copy_first.field-0.0) (c.in_err-copy_first.ensures.carried (rest_of h ev)) c.requires.told
+    told-through (armed_in s) h (here s t [] h ev) (here m t [] h mid) (copy_first (ids_of t.volumes) c.args.m.to.0 c.args.m.track) (Some c.in_err-copy_first.field-0.0) (c.in_err-copy_first.ensures.carried (rest_of [] h ev)) c.requires.told
 
 pub store_and_land-requires-clause-told : goal.store_and_land-requires-clause-told
 store_and_land-requires-clause-told g c =
@@ -55,7 +55,7 @@ store_and_land-requires-clause-told g c =
     let ev = c.args.j.now.events in
     let m = g.P.Plant.state c.copy_first.new.p in
     let mid = c.copy_first.new.j.events in
-    told-through (armed_in s) h (here s t h ev) (here m t h mid) (copy_first (ids_of t.volumes) c.args.m.to.0 c.args.m.track) None (c.in_ok-copy_first.ensures.carried (rest_of h ev)) c.requires.told
+    told-through (armed_in s) h (here s t [] h ev) (here m t [] h mid) (copy_first (ids_of t.volumes) c.args.m.to.0 c.args.m.track) None (c.in_ok-copy_first.ensures.carried (rest_of [] h ev)) c.requires.told
 
 pub store_and_land-requires-clause-running : goal.store_and_land-requires-clause-running
 store_and_land-requires-clause-running g c =
@@ -95,19 +95,19 @@ store_and_land-requires-clause-bytes g c =
     let ev = c.args.j.now.events in
     let m = g.P.Plant.state c.copy_first.new.p in
     let mid = c.copy_first.new.j.events in
-    same-bytes (armed_in s) s m t h ev mid (copy_first (ids_of t.volumes) c.args.m.to.0 c.args.m.track) None c.args.m.from.0 c.args.m.track c.args.m.write.0 c.args.bytes.now (c.in_ok-copy_first.ensures.carried (rest_of h ev)) (ap (λ (z : ℕ → List ℕ). z c.args.m.track) (c.in_ok-copy_first.ensures.others c.args.m.from.0 (other-server s t c.args.m.from.0 c.args.m.to.0 c.requires.fit c.requires.two_servers)).tracks) c.requires.bytes
+    same-bytes (armed_in s) s m t [] h ev mid (copy_first (ids_of t.volumes) c.args.m.to.0 c.args.m.track) None c.args.m.from.0 c.args.m.track c.args.m.write.0 c.args.bytes.now (c.in_ok-copy_first.ensures.carried (rest_of [] h ev)) (ap (λ (z : ℕ → List ℕ). z c.args.m.track) (c.in_ok-copy_first.ensures.others c.args.m.from.0 (other-server s t c.args.m.from.0 c.args.m.to.0 c.requires.fit c.requires.two_servers)).tracks) c.requires.bytes
 
 pub returns-clause-carried : goal.returns-clause-carried
-returns-clause-carried g c =
+returns-clause-carried g c xs =
     let s = g.P.Plant.state c.args.p.now in
     let t = c.args.c.now in
     let h = c.args.h.now in
     let ev = c.args.j.now.events in
     let m = g.P.Plant.state c.copy_first.new.p in
     let mid = c.copy_first.new.j.events in
-    let u = here (g.P.Plant.state c.store_and_land.new.p) t c.store_and_land.new.h c.store_and_land.new.j.events in
-    c.in_ok-copy_first.ensures.leads (rest_of h ev) (armed_in s) u (refusal_of c.store_and_land.result) (store_entries (ids_of t.volumes) c.args.m.write.0 c.args.m.from.0 c.args.m.track c.args.m.to.0)
-    (ends-wider (armed_in m) (armed_in s) (wider-armed s m c.in_ok-copy_first.ensures.unarmed) u (refusal_of c.store_and_land.result) (here m t h mid) (store_entries (ids_of t.volumes) c.args.m.write.0 c.args.m.from.0 c.args.m.track c.args.m.to.0) c.store_and_land.ensures.carried)
+    let u = here (g.P.Plant.state c.store_and_land.new.p) t xs c.store_and_land.new.h c.store_and_land.new.j.events in
+    c.in_ok-copy_first.ensures.leads (rest_of xs h ev) (armed_in s) u (refusal_of c.store_and_land.result) (store_entries (ids_of t.volumes) c.args.m.write.0 c.args.m.from.0 c.args.m.track c.args.m.to.0)
+    (ends-wider (armed_in m) (armed_in s) (wider-armed s m c.in_ok-copy_first.ensures.unarmed) u (refusal_of c.store_and_land.result) (here m t xs h mid) (store_entries (ids_of t.volumes) c.args.m.write.0 c.args.m.from.0 c.args.m.track c.args.m.to.0) (c.store_and_land.ensures.carried xs))
 
 pub returns-clause-unarmed : goal.returns-clause-unarmed
 returns-clause-unarmed g c q none =

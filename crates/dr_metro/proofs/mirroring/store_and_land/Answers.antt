@@ -19,15 +19,15 @@ use Rattle.dr_metro.proofs.RouteLemmas.{carried-track, same-bytes, runs-still}
 use Rattle.dr_metro.proofs.mirroring.store_and_land.Goals as goal
 
 pub returns-in_err-mirror-clause-carried : goal.returns-in_err-mirror-clause-carried
-returns-in_err-mirror-clause-carried g c =
+returns-in_err-mirror-clause-carried g c xs =
     let s = g.P.Plant.state c.args.p.now in
     let t = c.args.c.now in
     let h = c.args.h.now in
     let ev = c.args.j.now.events in
     let m = g.P.Plant.state c.mirror.new.p in
     let mid = c.mirror.new.j.events in
-    subst (λ e. Ends (armed_in s) (here m t h mid) e (here s t h ev) (store_entries (ids_of t.volumes) c.args.m.write.0 c.args.m.from.0 c.args.m.track c.args.m.to.0)) (sym (refused-by c.from_residual.result c.in_err-mirror.field-0.0 c.from_residual.ensures.0 c.from_residual.ensures.1))
-    (c.in_err-mirror.ensures.halts (rest_of h ev) (settle_entries (ids_of t.volumes) c.args.m.write.0 c.args.m.from.0 c.args.m.track))
+    subst (λ e. Ends (armed_in s) (here m t xs h mid) e (here s t xs h ev) (store_entries (ids_of t.volumes) c.args.m.write.0 c.args.m.from.0 c.args.m.track c.args.m.to.0)) (sym (refused-by c.from_residual.result c.in_err-mirror.field-0.0 c.from_residual.ensures.0 c.from_residual.ensures.1))
+    (c.in_err-mirror.ensures.halts (rest_of xs h ev) (settle_entries (ids_of t.volumes) c.args.m.write.0 c.args.m.from.0 c.args.m.track))
 
 pub returns-in_err-mirror-clause-stops : goal.returns-in_err-mirror-clause-stops
 returns-in_err-mirror-clause-stops g c =
@@ -47,7 +47,7 @@ returns-in_err-mirror-clause-told g c =
     let ev = c.args.j.now.events in
     let m = g.P.Plant.state c.mirror.new.p in
     let mid = c.mirror.new.j.events in
-    told-through (armed_in s) h (here s t h ev) (here m t h mid) (now (Mirror c.args.m.to.0 c.args.m.track c.args.m.from.0 c.args.m.write.0) ∷ []) (Some c.in_err-mirror.field-0.0) (c.in_err-mirror.ensures.carried (rest_of h ev)) c.requires.told
+    told-through (armed_in s) h (here s t [] h ev) (here m t [] h mid) (now (Mirror c.args.m.to.0 c.args.m.track c.args.m.from.0 c.args.m.write.0) ∷ []) (Some c.in_err-mirror.field-0.0) (c.in_err-mirror.ensures.carried (rest_of [] h ev)) c.requires.told
 
 pub keep_and_land-requires-clause-told : goal.keep_and_land-requires-clause-told
 keep_and_land-requires-clause-told g c =
@@ -57,7 +57,7 @@ keep_and_land-requires-clause-told g c =
     let ev = c.args.j.now.events in
     let m = g.P.Plant.state c.mirror.new.p in
     let mid = c.mirror.new.j.events in
-    told-through (armed_in s) h (here s t h ev) (here m t h mid) (now (Mirror c.args.m.to.0 c.args.m.track c.args.m.from.0 c.args.m.write.0) ∷ []) None (c.in_ok-mirror.ensures.carried (rest_of h ev)) c.requires.told
+    told-through (armed_in s) h (here s t [] h ev) (here m t [] h mid) (now (Mirror c.args.m.to.0 c.args.m.track c.args.m.from.0 c.args.m.write.0) ∷ []) None (c.in_ok-mirror.ensures.carried (rest_of [] h ev)) c.requires.told
 
 pub keep_and_land-requires-clause-running : goal.keep_and_land-requires-clause-running
 keep_and_land-requires-clause-running g c =
@@ -97,19 +97,19 @@ keep_and_land-requires-clause-bytes g c =
     let ev = c.args.j.now.events in
     let m = g.P.Plant.state c.mirror.new.p in
     let mid = c.mirror.new.j.events in
-    same-bytes (armed_in s) s m t h ev mid (now (Mirror c.args.m.to.0 c.args.m.track c.args.m.from.0 c.args.m.write.0) ∷ []) None c.args.m.from.0 c.args.m.track c.args.m.write.0 c.args.bytes.now (c.in_ok-mirror.ensures.carried (rest_of h ev)) (ap (λ (z : ℕ → List ℕ). z c.args.m.track) (c.in_ok-mirror.ensures.others c.args.m.from.0 (other-volume s t c.args.m.from.0 c.args.m.to.0 c.requires.two_servers)).tracks) c.requires.bytes
+    same-bytes (armed_in s) s m t [] h ev mid (now (Mirror c.args.m.to.0 c.args.m.track c.args.m.from.0 c.args.m.write.0) ∷ []) None c.args.m.from.0 c.args.m.track c.args.m.write.0 c.args.bytes.now (c.in_ok-mirror.ensures.carried (rest_of [] h ev)) (ap (λ (z : ℕ → List ℕ). z c.args.m.track) (c.in_ok-mirror.ensures.others c.args.m.from.0 (other-volume s t c.args.m.from.0 c.args.m.to.0 c.requires.two_servers)).tracks) c.requires.bytes
 
 pub returns-clause-carried : goal.returns-clause-carried
-returns-clause-carried g c =
+returns-clause-carried g c xs =
     let s = g.P.Plant.state c.args.p.now in
     let t = c.args.c.now in
     let h = c.args.h.now in
     let ev = c.args.j.now.events in
     let m = g.P.Plant.state c.mirror.new.p in
     let mid = c.mirror.new.j.events in
-    let u = here (g.P.Plant.state c.keep_and_land.new.p) t c.keep_and_land.new.h c.keep_and_land.new.j.events in
-    c.in_ok-mirror.ensures.advances (rest_of h ev) (armed_in s) u (refusal_of c.keep_and_land.result) (settle_entries (ids_of t.volumes) c.args.m.write.0 c.args.m.from.0 c.args.m.track)
-    (ends-wider (armed_in m) (armed_in s) (wider-armed s m c.in_ok-mirror.ensures.unarmed) u (refusal_of c.keep_and_land.result) (here m t h mid) (settle_entries (ids_of t.volumes) c.args.m.write.0 c.args.m.from.0 c.args.m.track) c.keep_and_land.ensures.carried)
+    let u = here (g.P.Plant.state c.keep_and_land.new.p) t xs c.keep_and_land.new.h c.keep_and_land.new.j.events in
+    c.in_ok-mirror.ensures.advances (rest_of xs h ev) (armed_in s) u (refusal_of c.keep_and_land.result) (settle_entries (ids_of t.volumes) c.args.m.write.0 c.args.m.from.0 c.args.m.track)
+    (ends-wider (armed_in m) (armed_in s) (wider-armed s m c.in_ok-mirror.ensures.unarmed) u (refusal_of c.keep_and_land.result) (here m t xs h mid) (settle_entries (ids_of t.volumes) c.args.m.write.0 c.args.m.from.0 c.args.m.track) (c.keep_and_land.ensures.carried xs))
 
 pub returns-clause-unarmed : goal.returns-clause-unarmed
 returns-clause-unarmed g c q none =

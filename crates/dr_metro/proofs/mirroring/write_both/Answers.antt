@@ -17,15 +17,15 @@ use Rattle.dr_metro.proofs.RouteLemmas.{runs-still, mirrored-is}
 use Rattle.dr_metro.proofs.mirroring.write_both.Goals as goal
 
 pub returns-in_err-unsync-clause-carried : goal.returns-in_err-unsync-clause-carried
-returns-in_err-unsync-clause-carried g c =
+returns-in_err-unsync-clause-carried g c xs =
     let s = g.P.Plant.state c.args.p.now in
     let t = c.args.c.now in
     let h = c.args.h.now in
     let ev = c.args.j.now.events in
     let m = g.P.Plant.state c.unsync.new.p in
     let mid = c.unsync.new.j.events in
-    subst (λ e. Ends (armed_in s) (here m t h mid) e (here s t h ev) (land_mirrored (ids_of t.volumes) c.args.w.now.w.0 c.args.w.now.volume.0 c.args.w.now.track c.args.u.0)) (sym (refused-by c.from_residual.result c.in_err-unsync.field-0.0 c.from_residual.ensures.0 c.from_residual.ensures.1))
-    (subst (Ends (armed_in s) (here m t h mid) (Some c.in_err-unsync.field-0.0) (here s t h ev)) (sym (mirrored-is (ids_of t.volumes) c.args.w.now.w.0 c.args.w.now.volume.0 c.args.w.now.track c.args.u.0)) (c.in_err-unsync.ensures.halts (rest_of h ev) (mirror_entries (ids_of t.volumes) c.args.w.now.w.0 c.args.w.now.volume.0 c.args.w.now.track c.args.u.0)))
+    subst (λ e. Ends (armed_in s) (here m t xs h mid) e (here s t xs h ev) (land_mirrored (ids_of t.volumes) c.args.w.now.w.0 c.args.w.now.volume.0 c.args.w.now.track c.args.u.0)) (sym (refused-by c.from_residual.result c.in_err-unsync.field-0.0 c.from_residual.ensures.0 c.from_residual.ensures.1))
+    (subst (Ends (armed_in s) (here m t xs h mid) (Some c.in_err-unsync.field-0.0) (here s t xs h ev)) (sym (mirrored-is (ids_of t.volumes) c.args.w.now.w.0 c.args.w.now.volume.0 c.args.w.now.track c.args.u.0)) (c.in_err-unsync.ensures.halts (rest_of xs h ev) (mirror_entries (ids_of t.volumes) c.args.w.now.w.0 c.args.w.now.volume.0 c.args.w.now.track c.args.u.0)))
 
 pub returns-in_err-unsync-clause-told : goal.returns-in_err-unsync-clause-told
 returns-in_err-unsync-clause-told g c =
@@ -35,7 +35,7 @@ returns-in_err-unsync-clause-told g c =
     let ev = c.args.j.now.events in
     let m = g.P.Plant.state c.unsync.new.p in
     let mid = c.unsync.new.j.events in
-    told-through (armed_in s) h (here s t h ev) (here m t h mid) (now (Unsync c.args.w.now.volume.0 c.args.w.now.track) ∷ []) (Some c.in_err-unsync.field-0.0) (c.in_err-unsync.ensures.carried (rest_of h ev)) c.requires.told
+    told-through (armed_in s) h (here s t [] h ev) (here m t [] h mid) (now (Unsync c.args.w.now.volume.0 c.args.w.now.track) ∷ []) (Some c.in_err-unsync.field-0.0) (c.in_err-unsync.ensures.carried (rest_of [] h ev)) c.requires.told
 
 pub read_and_mirror-requires-clause-told : goal.read_and_mirror-requires-clause-told
 read_and_mirror-requires-clause-told g c =
@@ -45,7 +45,7 @@ read_and_mirror-requires-clause-told g c =
     let ev = c.args.j.now.events in
     let m = g.P.Plant.state c.unsync.new.p in
     let mid = c.unsync.new.j.events in
-    told-through (armed_in s) h (here s t h ev) (here m t h mid) (now (Unsync c.args.w.now.volume.0 c.args.w.now.track) ∷ []) None (c.in_ok-unsync.ensures.carried (rest_of h ev)) c.requires.told
+    told-through (armed_in s) h (here s t [] h ev) (here m t [] h mid) (now (Unsync c.args.w.now.volume.0 c.args.w.now.track) ∷ []) None (c.in_ok-unsync.ensures.carried (rest_of [] h ev)) c.requires.told
 
 pub read_and_mirror-requires-clause-reached : goal.read_and_mirror-requires-clause-reached
 read_and_mirror-requires-clause-reached g c =
@@ -78,17 +78,17 @@ read_and_mirror-requires-clause-size g c =
     sym (same-tracks s m t c.args.u.0) ∙ c.requires.size ∙ same-tracks s m t c.args.w.now.volume.0
 
 pub returns-clause-carried : goal.returns-clause-carried
-returns-clause-carried g c =
+returns-clause-carried g c xs =
     let s = g.P.Plant.state c.args.p.now in
     let t = c.args.c.now in
     let h = c.args.h.now in
     let ev = c.args.j.now.events in
     let m = g.P.Plant.state c.unsync.new.p in
     let mid = c.unsync.new.j.events in
-    let u = here (g.P.Plant.state c.read_and_mirror.new.p) t c.read_and_mirror.new.h c.read_and_mirror.new.j.events in
-    subst (Ends (armed_in s) u (refusal_of c.read_and_mirror.result) (here s t h ev)) (sym (mirrored-is (ids_of t.volumes) c.args.w.now.w.0 c.args.w.now.volume.0 c.args.w.now.track c.args.u.0))
-    (c.in_ok-unsync.ensures.advances (rest_of h ev) (armed_in s) u (refusal_of c.read_and_mirror.result) (mirror_entries (ids_of t.volumes) c.args.w.now.w.0 c.args.w.now.volume.0 c.args.w.now.track c.args.u.0)
-    (ends-wider (armed_in m) (armed_in s) (wider-armed s m c.in_ok-unsync.ensures.unarmed) u (refusal_of c.read_and_mirror.result) (here m t h mid) (mirror_entries (ids_of t.volumes) c.args.w.now.w.0 c.args.w.now.volume.0 c.args.w.now.track c.args.u.0) c.read_and_mirror.ensures.carried))
+    let u = here (g.P.Plant.state c.read_and_mirror.new.p) t xs c.read_and_mirror.new.h c.read_and_mirror.new.j.events in
+    subst (Ends (armed_in s) u (refusal_of c.read_and_mirror.result) (here s t xs h ev)) (sym (mirrored-is (ids_of t.volumes) c.args.w.now.w.0 c.args.w.now.volume.0 c.args.w.now.track c.args.u.0))
+    (c.in_ok-unsync.ensures.advances (rest_of xs h ev) (armed_in s) u (refusal_of c.read_and_mirror.result) (mirror_entries (ids_of t.volumes) c.args.w.now.w.0 c.args.w.now.volume.0 c.args.w.now.track c.args.u.0)
+    (ends-wider (armed_in m) (armed_in s) (wider-armed s m c.in_ok-unsync.ensures.unarmed) u (refusal_of c.read_and_mirror.result) (here m t xs h mid) (mirror_entries (ids_of t.volumes) c.args.w.now.w.0 c.args.w.now.volume.0 c.args.w.now.track c.args.u.0) (c.read_and_mirror.ensures.carried xs)))
 
 pub returns-clause-unarmed : goal.returns-clause-unarmed
 returns-clause-unarmed g c q none =

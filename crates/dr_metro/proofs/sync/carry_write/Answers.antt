@@ -18,33 +18,33 @@ use Rattle.dr_metro.proofs.ToldLemmas.{IsWrite}
 use Rattle.dr_metro.proofs.sync.carry_write.Goals as goal
 
 pub returns-then-not-is_on-clause-carried : goal.returns-then-not-is_on-clause-carried
-returns-then-not-is_on-clause-carried g c =
+returns-then-not-is_on-clause-carried g c xs =
     let s = g.P.Plant.state c.args.p.now in
     let t = c.args.c.now in
     let h = c.args.h.now in
     let ev = c.args.j.now.events in
     let w = c.args.w.now in
     let v = w.volume.0 in
-    let k = (here s t h ev).control in
+    let k = (here s t xs h ev).control in
     let on = ap (on_seen s) (c.server_of-server.ensures.seen s) ∙ on-low s c.server_of-server.result.0 c.server_of-server.ensures.known ∙ sym c.is_on.ensures in
-    subst (λ n. Ends (armed_in s) (here s t h ev) (Some (server_off n)) (here s t h ev) (landing k w.w.0 v w.track)) (c.server_of-server.ensures.seen s)
-    (write-off (armed_in s) (here s t h ev) w.w.0 v (land_entries k w.w.0 v w.track) (on ∙ c.if-not-is_on.true))
+    subst (λ n. Ends (armed_in s) (here s t xs h ev) (Some (server_off n)) (here s t xs h ev) (landing k w.w.0 v w.track)) (c.server_of-server.ensures.seen s)
+    (write-off (armed_in s) (here s t xs h ev) w.w.0 v (land_entries k w.w.0 v w.track) (on ∙ c.if-not-is_on.true))
 
 pub returns-in-Some-clause-carried : goal.returns-in-Some-clause-carried
-returns-in-Some-clause-carried g c =
+returns-in-Some-clause-carried g c xs =
     let s = g.P.Plant.state c.args.p.now in
     let t = c.args.c.now in
     let h = c.args.h.now in
     let ev = c.args.j.now.events in
     let w = c.args.w.now in
     let v = w.volume.0 in
-    let k = (here s t h ev).control in
+    let k = (here s t xs h ev).control in
     let on = ap (on_seen s) (c.server_of-server.ensures.seen s) ∙ on-low s c.server_of-server.result.0 c.server_of-server.ensures.known ∙ sym c.is_on.ensures in
     let why = c.in-Some.why in
     let gone = c.finish.ensures in
-    subst (λ x. Ends (armed_in s) x (Some why) (here s t h ev) (landing k w.w.0 v w.track))
-    (λ i. record (here s t h ev) { control = record k { issued = (sym (ap (λ (x : Writes). x.issued) gone) i); pending = (sym (seen-without w.w.0 h.pending) ∙ ap (λ (x : Writes). map seen x.pending) (sym gone)) i } })
-    (write-drops (armed_in s) (here s t h ev) w.w.0 v why (land_entries k w.w.0 v w.track) (on ∙ c.if-not-is_on.false) (sym (c.in-Some.ensures.refusal (rest_of h ev) ev)))
+    subst (λ x. Ends (armed_in s) x (Some why) (here s t xs h ev) (landing k w.w.0 v w.track))
+    (λ i. record (here s t xs h ev) { control = record k { issued = (sym (ap (λ (x : Writes). x.issued) gone) i); pending = (sym (seen-without w.w.0 h.pending) ∙ ap (λ (x : Writes). map seen x.pending) (sym gone)) i } })
+    (write-drops (armed_in s) (here s t xs h ev) w.w.0 v why (land_entries k w.w.0 v w.track) (on ∙ c.if-not-is_on.false) (sym (c.in-Some.ensures.refusal (rest_of xs h ev) ev)))
 
 pub returns-in-Some-clause-told : goal.returns-in-Some-clause-told
 returns-in-Some-clause-told g c =
@@ -87,17 +87,17 @@ place_write-requires-clause-running g c =
     ap s.on (c.server_of-server.ensures.seen s) ∙ sym c.is_on.ensures ∙ c.if-not-is_on.false
 
 pub returns-clause-carried : goal.returns-clause-carried
-returns-clause-carried g c =
+returns-clause-carried g c xs =
     let s = g.P.Plant.state c.args.p.now in
     let t = c.args.c.now in
     let h = c.args.h.now in
     let ev = c.args.j.now.events in
     let w = c.args.w.now in
     let v = w.volume.0 in
-    let k = (here s t h ev).control in
+    let k = (here s t xs h ev).control in
     let on = ap (on_seen s) (c.server_of-server.ensures.seen s) ∙ on-low s c.server_of-server.result.0 c.server_of-server.ensures.known ∙ sym c.is_on.ensures in
-    let x = here (g.P.Plant.state c.place_write.new.p) t c.place_write.new.h c.place_write.new.j.events in
-    write-passes (armed_in s) (here s t h ev) w.w.0 v x (refusal_of c.place_write.result) (land_entries k w.w.0 v w.track) (on ∙ c.if-not-is_on.false) (sym (c.in_default.ensures.refusal (rest_of h ev) ev)) c.place_write.ensures.carried
+    let x = here (g.P.Plant.state c.place_write.new.p) t xs c.place_write.new.h c.place_write.new.j.events in
+    write-passes (armed_in s) (here s t xs h ev) w.w.0 v x (refusal_of c.place_write.result) (land_entries k w.w.0 v w.track) (on ∙ c.if-not-is_on.false) (sym (c.in_default.ensures.refusal (rest_of xs h ev) ev)) (c.place_write.ensures.carried xs)
 
 pub returns-clause-faults : goal.returns-clause-faults
 returns-clause-faults g c =

@@ -20,32 +20,32 @@ use Rattle.dr_metro.proofs.SyncLemmas.{nothing-mirrored, metro-part, over-metro,
 use Rattle.dr_metro.proofs.sync.place_write.Goals as goal
 
 pub returns-then-is_held-clause-carried : goal.returns-then-is_held-clause-carried
-returns-then-is_held-clause-carried g c =
+returns-then-is_held-clause-carried g c xs =
     let s = g.P.Plant.state c.args.p.now in
     let t = c.args.c.now in
     let h = c.args.h.now in
     let ev = c.args.j.now.events in
     let w = c.args.w.now in
     let v = w.volume.0 in
-    let k = (here s t h ev).control in
+    let k = (here s t xs h ev).control in
     let ids = ids_of t.volumes in
     let f = (volume_seen s t v).fields in
     let shows = c.peek_fields-fields.ensures.fields in
     let over = (if is_parted k v then land_parted k w.w.0 v w.track else land_mirrored ids w.w.0 v w.track f.primary_partner) in
     let alone = land_alone ids w.w.0 v w.track in
     let is_held : held f ≡ true = ap held (sym shows) ∙ sym c.is_held.ensures ∙ c.if-is_held.true in
-    subst (λ b. Ends (armed_in s) (here s t h ev) None (here s t h ev) (if b then [] else if goes_over f w.track then over else alone)) (sym is_held)
-    (ends-none (armed_in s) (here s t h ev) None (here s t h ev) (record { world = refl; refusal = refl }))
+    subst (λ b. Ends (armed_in s) (here s t xs h ev) None (here s t xs h ev) (if b then [] else if goes_over f w.track then over else alone)) (sym is_held)
+    (ends-none (armed_in s) (here s t xs h ev) None (here s t xs h ev) (record { world = refl; refusal = refl }))
 
 pub returns-then-is_held-clause-end : goal.returns-then-is_held-clause-end
-returns-then-is_held-clause-end g c =
+returns-then-is_held-clause-end g c xs =
     let s = g.P.Plant.state c.args.p.now in
     let t = c.args.c.now in
     let h = c.args.h.now in
     let ev = c.args.j.now.events in
     let w = c.args.w.now in
     let v = w.volume.0 in
-    let k = (here s t h ev).control in
+    let k = (here s t xs h ev).control in
     let ids = ids_of t.volumes in
     let f = (volume_seen s t v).fields in
     let shows = c.peek_fields-fields.ensures.fields in
@@ -73,7 +73,7 @@ write_over-requires-clause-primary g c =
     let ev = c.args.j.now.events in
     let w = c.args.w.now in
     let v = w.volume.0 in
-    let k = (here s t h ev).control in
+    let k = (here s t [] h ev).control in
     let ids = ids_of t.volumes in
     let f = (volume_seen s t v).fields in
     let shows = c.peek_fields-fields.ensures.fields in
@@ -92,7 +92,7 @@ write_over-requires-clause-to g c =
     let ev = c.args.j.now.events in
     let w = c.args.w.now in
     let v = w.volume.0 in
-    let k = (here s t h ev).control in
+    let k = (here s t [] h ev).control in
     let ids = ids_of t.volumes in
     let f = (volume_seen s t v).fields in
     let shows = c.peek_fields-fields.ensures.fields in
@@ -111,7 +111,7 @@ write_over-requires-clause-two_servers g c =
     let ev = c.args.j.now.events in
     let w = c.args.w.now in
     let v = w.volume.0 in
-    let k = (here s t h ev).control in
+    let k = (here s t [] h ev).control in
     let ids = ids_of t.volumes in
     let f = (volume_seen s t v).fields in
     let shows = c.peek_fields-fields.ensures.fields in
@@ -130,7 +130,7 @@ write_over-requires-clause-size g c =
     let ev = c.args.j.now.events in
     let w = c.args.w.now in
     let v = w.volume.0 in
-    let k = (here s t h ev).control in
+    let k = (here s t [] h ev).control in
     let ids = ids_of t.volumes in
     let f = (volume_seen s t v).fields in
     let shows = c.peek_fields-fields.ensures.fields in
@@ -142,14 +142,14 @@ write_over-requires-clause-size g c =
     subst (λ q. (volume_seen s t q).tracks ≡ (volume_seen s t v).tracks) (sym to) (c.requires.size metro)
 
 pub returns-then-goes_over-clause-carried : goal.returns-then-goes_over-clause-carried
-returns-then-goes_over-clause-carried g c =
+returns-then-goes_over-clause-carried g c xs =
     let s = g.P.Plant.state c.args.p.now in
     let t = c.args.c.now in
     let h = c.args.h.now in
     let ev = c.args.j.now.events in
     let w = c.args.w.now in
     let v = w.volume.0 in
-    let k = (here s t h ev).control in
+    let k = (here s t xs h ev).control in
     let ids = ids_of t.volumes in
     let f = (volume_seen s t v).fields in
     let shows = c.peek_fields-fields.ensures.fields in
@@ -158,21 +158,21 @@ returns-then-goes_over-clause-carried g c =
     let free : held f ≡ false = ap held (sym shows) ∙ sym c.is_held.ensures ∙ c.if-is_held.false in
     let goes : goes_over f w.track ≡ true = ap (λ (x : Fields). goes_over x w.track) (sym shows) ∙ sym c.goes_over.ensures ∙ c.if-goes_over.true in
     let to = ap (λ (x : Fields). x.primary_partner) shows in
-    let x = here (g.P.Plant.state c.write_over.new.p) t c.write_over.new.h c.write_over.new.j.events in
+    let x = here (g.P.Plant.state c.write_over.new.p) t xs c.write_over.new.h c.write_over.new.j.events in
     let r = refusal_of c.write_over.result in
-    subst (λ b. Ends (armed_in s) x r (here s t h ev) (if b then [] else if goes_over f w.track then over else alone)) (sym free)
-    (subst (λ b. Ends (armed_in s) x r (here s t h ev) (if b then over else alone)) (sym goes)
-    (subst (λ q. Ends (armed_in s) x r (here s t h ev) (over_entries ids (is_some (send_refusal v q k)) (is_grouped k v q) w.w.0 v w.track q)) to c.write_over.ensures.carried))
+    subst (λ b. Ends (armed_in s) x r (here s t xs h ev) (if b then [] else if goes_over f w.track then over else alone)) (sym free)
+    (subst (λ b. Ends (armed_in s) x r (here s t xs h ev) (if b then over else alone)) (sym goes)
+    (subst (λ q. Ends (armed_in s) x r (here s t xs h ev) (over_entries ids (is_some (send_refusal v q k)) (is_grouped k v q) w.w.0 v w.track q)) to (c.write_over.ensures.carried xs)))
 
 pub returns-then-goes_over-clause-end : goal.returns-then-goes_over-clause-end
-returns-then-goes_over-clause-end g c =
+returns-then-goes_over-clause-end g c xs =
     let s = g.P.Plant.state c.args.p.now in
     let t = c.args.c.now in
     let h = c.args.h.now in
     let ev = c.args.j.now.events in
     let w = c.args.w.now in
     let v = w.volume.0 in
-    let k = (here s t h ev).control in
+    let k = (here s t xs h ev).control in
     let ids = ids_of t.volumes in
     let f = (volume_seen s t v).fields in
     let shows = c.peek_fields-fields.ensures.fields in
@@ -184,7 +184,7 @@ returns-then-goes_over-clause-end g c =
     let to = ap (λ (x : Fields). x.primary_partner) shows in
     subst (λ b. IfOk c.write_over.result (λ (e : WriteEnd). e ≡ end_of (b || (goes_over f w.track && rest)))) (sym free)
     (subst (λ b. IfOk c.write_over.result (λ (e : WriteEnd). e ≡ end_of (b && rest))) (sym goes)
-    (subst (λ q. IfOk c.write_over.result (λ (e : WriteEnd). e ≡ end_of (is_some (send_refusal v q k) && is_grouped k v q))) to c.write_over.ensures.end))
+    (subst (λ q. IfOk c.write_over.result (λ (e : WriteEnd). e ≡ end_of (is_some (send_refusal v q k) && is_grouped k v q))) to (c.write_over.ensures.end xs)))
 
 pub returns-then-goes_over-clause-mirrors : goal.returns-then-goes_over-clause-mirrors
 returns-then-goes_over-clause-mirrors g c =
@@ -194,7 +194,7 @@ returns-then-goes_over-clause-mirrors g c =
     let ev = c.args.j.now.events in
     let w = c.args.w.now in
     let v = w.volume.0 in
-    let k = (here s t h ev).control in
+    let k = (here s t [] h ev).control in
     let ids = ids_of t.volumes in
     let f = (volume_seen s t v).fields in
     let shows = c.peek_fields-fields.ensures.fields in
@@ -206,14 +206,14 @@ returns-then-goes_over-clause-mirrors g c =
     ok-given c.write_over.result (subst (λ q. OnOk c.write_over.result (Mirrors u t v q w.track)) to c.write_over.ensures.mirrors) (λ is e landed. is)
 
 pub returns-clause-carried : goal.returns-clause-carried
-returns-clause-carried g c =
+returns-clause-carried g c xs =
     let s = g.P.Plant.state c.args.p.now in
     let t = c.args.c.now in
     let h = c.args.h.now in
     let ev = c.args.j.now.events in
     let w = c.args.w.now in
     let v = w.volume.0 in
-    let k = (here s t h ev).control in
+    let k = (here s t xs h ev).control in
     let ids = ids_of t.volumes in
     let f = (volume_seen s t v).fields in
     let shows = c.peek_fields-fields.ensures.fields in
@@ -221,20 +221,20 @@ returns-clause-carried g c =
     let alone = land_alone ids w.w.0 v w.track in
     let free : held f ≡ false = ap held (sym shows) ∙ sym c.is_held.ensures ∙ c.if-is_held.false in
     let stays : goes_over f w.track ≡ false = ap (λ (x : Fields). goes_over x w.track) (sym shows) ∙ sym c.goes_over.ensures ∙ c.if-goes_over.false in
-    let x = here (g.P.Plant.state c.write_alone.new.p) t c.write_alone.new.h c.write_alone.new.j.events in
+    let x = here (g.P.Plant.state c.write_alone.new.p) t xs c.write_alone.new.h c.write_alone.new.j.events in
     let r = refusal_of c.write_alone.result in
-    subst (λ b. Ends (armed_in s) x r (here s t h ev) (if b then [] else if goes_over f w.track then over else alone)) (sym free)
-    (subst (λ b. Ends (armed_in s) x r (here s t h ev) (if b then over else alone)) (sym stays) c.write_alone.ensures.carried)
+    subst (λ b. Ends (armed_in s) x r (here s t xs h ev) (if b then [] else if goes_over f w.track then over else alone)) (sym free)
+    (subst (λ b. Ends (armed_in s) x r (here s t xs h ev) (if b then over else alone)) (sym stays) (c.write_alone.ensures.carried xs))
 
 pub returns-clause-end : goal.returns-clause-end
-returns-clause-end g c =
+returns-clause-end g c xs =
     let s = g.P.Plant.state c.args.p.now in
     let t = c.args.c.now in
     let h = c.args.h.now in
     let ev = c.args.j.now.events in
     let w = c.args.w.now in
     let v = w.volume.0 in
-    let k = (here s t h ev).control in
+    let k = (here s t xs h ev).control in
     let ids = ids_of t.volumes in
     let f = (volume_seen s t v).fields in
     let shows = c.peek_fields-fields.ensures.fields in
@@ -254,7 +254,7 @@ returns-clause-mirrors g c =
     let ev = c.args.j.now.events in
     let w = c.args.w.now in
     let v = w.volume.0 in
-    let k = (here s t h ev).control in
+    let k = (here s t [] h ev).control in
     let ids = ids_of t.volumes in
     let f = (volume_seen s t v).fields in
     let shows = c.peek_fields-fields.ensures.fields in

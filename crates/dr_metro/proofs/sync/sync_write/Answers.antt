@@ -1,4 +1,4 @@
-use Rattle.std.proofs.Common.{refl, Some}
+use Rattle.std.proofs.Common.{refl, Some, []}
 use Rattle.dr_model.specs.WriteEntries.{part_after}
 use Rattle.dr_flash.specs.Here.{armed_in}
 use Rattle.dr_flash.proofs.CopyLemmas.{wider-armed}
@@ -8,36 +8,36 @@ use Rattle.dr_metro.proofs.SyncLemmas.{told-followed}
 use Rattle.dr_metro.proofs.sync.sync_write.Goals as goal
 
 pub returns-in-Ok-clause-carried : goal.returns-in-Ok-clause-carried
-returns-in-Ok-clause-carried g c =
+returns-in-Ok-clause-carried g c xs =
     let s = g.P.Plant.state c.args.p.now in
     let t = c.args.c.now in
     let h = c.args.h.now in
     let ev = c.args.j.now.events in
     let w = c.args.w.now in
     let v = w.volume.0 in
-    let k = (here s t h ev).control in
+    let k = (here s t xs h ev).control in
     let m = g.P.Plant.state c.carry_write.new.p in
     let h1 = c.carry_write.new.h in
     let mid = c.carry_write.new.j.events in
-    record { middle = here m t h1 mid; ends = c.in-Ok.ensures.carried; followed = refl }
+    record { middle = here m t xs h1 mid; ends = (c.in-Ok.ensures.carried xs); followed = refl }
 
 pub returns-in-Err-clause-carried : goal.returns-in-Err-clause-carried
-returns-in-Err-clause-carried g c =
+returns-in-Err-clause-carried g c xs =
     let s = g.P.Plant.state c.args.p.now in
     let t = c.args.c.now in
     let h = c.args.h.now in
     let ev = c.args.j.now.events in
     let w = c.args.w.now in
     let v = w.volume.0 in
-    let k = (here s t h ev).control in
+    let k = (here s t xs h ev).control in
     let m = g.P.Plant.state c.carry_write.new.p in
     let h1 = c.carry_write.new.h in
     let mid = c.carry_write.new.j.events in
     let u = g.P.Plant.state c.follow_part.new.p in
     record {
-      middle = here m t h1 mid;
-      ends = c.in-Err.ensures.carried;
-      followed = follows-wider (armed_in m) (armed_in s) (wider-armed s m c.in-Err.ensures.unarmed) (here m t h1 mid) (Some c.in-Err.why) (part_after v) (here u t h1 c.follow_part.new.j.events) (c.follow_part.ensures.follows (rest_of h1 mid));
+      middle = here m t xs h1 mid;
+      ends = (c.in-Err.ensures.carried xs);
+      followed = follows-wider (armed_in m) (armed_in s) (wider-armed s m c.in-Err.ensures.unarmed) (here m t xs h1 mid) (Some c.in-Err.why) (part_after v) (here u t xs h1 c.follow_part.new.j.events) (c.follow_part.ensures.follows (rest_of xs h1 mid));
     }
 
 pub returns-in-Err-clause-told : goal.returns-in-Err-clause-told
@@ -48,12 +48,12 @@ returns-in-Err-clause-told g c =
     let ev = c.args.j.now.events in
     let w = c.args.w.now in
     let v = w.volume.0 in
-    let k = (here s t h ev).control in
+    let k = (here s t [] h ev).control in
     let m = g.P.Plant.state c.carry_write.new.p in
     let h1 = c.carry_write.new.h in
     let mid = c.carry_write.new.j.events in
     let u = g.P.Plant.state c.follow_part.new.p in
-    told-followed (armed_in m) h1 (here m t h1 mid) (here u t h1 c.follow_part.new.j.events) (Some c.in-Err.why) (part_after v) (c.follow_part.ensures.follows (rest_of h1 mid)) c.in-Err.ensures.told
+    told-followed (armed_in m) h1 (here m t [] h1 mid) (here u t [] h1 c.follow_part.new.j.events) (Some c.in-Err.why) (part_after v) (c.follow_part.ensures.follows (rest_of [] h1 mid)) c.in-Err.ensures.told
 
 pub returns-in-Err-clause-unarmed : goal.returns-in-Err-clause-unarmed
 returns-in-Err-clause-unarmed g c q none =

@@ -22,7 +22,7 @@ use Rattle.dr_metro.proofs.SyncLemmas.{state-landed}
 use Rattle.dr_metro.proofs.sync.write_parted.Goals as goal
 
 pub returns-in-Err-clause-carried : goal.returns-in-Err-clause-carried
-returns-in-Err-clause-carried g c =
+returns-in-Err-clause-carried g c xs =
     let s = g.P.Plant.state c.args.p.now in
     let t = c.args.c.now in
     let h = c.args.h.now in
@@ -32,7 +32,7 @@ returns-in-Err-clause-carried g c =
     let m = g.P.Plant.state c.suspend.new.p in
     let mid = c.suspend.new.j.events in
     let alone = land_alone (ids_of t.volumes) w.w.0 v w.track in
-    c.in-Err.ensures.halts (rest_of h ev) (cond c.args.busy [] alone)
+    c.in-Err.ensures.halts (rest_of xs h ev) (cond c.args.busy [] alone)
 
 pub returns-in-Err-clause-stops : goal.returns-in-Err-clause-stops
 returns-in-Err-clause-stops g c =
@@ -55,10 +55,10 @@ returns-in-Err-clause-told g c =
     let m = g.P.Plant.state c.suspend.new.p in
     let mid = c.suspend.new.j.events in
     let alone = land_alone (ids_of t.volumes) w.w.0 v w.track in
-    told-through (armed_in s) h (here s t h ev) (here m t h mid) (now (Suspend v c.args.busy) ∷ []) (Some c.in-Err.stop) (c.in-Err.ensures.carried (rest_of h ev)) c.requires.told
+    told-through (armed_in s) h (here s t [] h ev) (here m t [] h mid) (now (Suspend v c.args.busy) ∷ []) (Some c.in-Err.stop) (c.in-Err.ensures.carried (rest_of [] h ev)) c.requires.told
 
 pub returns-then-busy-clause-carried : goal.returns-then-busy-clause-carried
-returns-then-busy-clause-carried g c =
+returns-then-busy-clause-carried g c xs =
     let s = g.P.Plant.state c.args.p.now in
     let t = c.args.c.now in
     let h = c.args.h.now in
@@ -68,8 +68,8 @@ returns-then-busy-clause-carried g c =
     let m = g.P.Plant.state c.suspend.new.p in
     let mid = c.suspend.new.j.events in
     let alone = land_alone (ids_of t.volumes) w.w.0 v w.track in
-    c.in-Ok.ensures.advances (rest_of h ev) (armed_in s) (here m t h mid) None (cond c.args.busy [] alone)
-    (subst (λ b. Ends (armed_in s) (here m t h mid) None (here m t h mid) (cond b [] alone)) (sym c.if-busy.true) (ends-none (armed_in s) (here m t h mid) None (here m t h mid) (record { world = refl; refusal = refl })))
+    c.in-Ok.ensures.advances (rest_of xs h ev) (armed_in s) (here m t xs h mid) None (cond c.args.busy [] alone)
+    (subst (λ b. Ends (armed_in s) (here m t xs h mid) None (here m t xs h mid) (cond b [] alone)) (sym c.if-busy.true) (ends-none (armed_in s) (here m t xs h mid) None (here m t xs h mid) (record { world = refl; refusal = refl })))
 
 pub returns-then-busy-clause-end : goal.returns-then-busy-clause-end
 returns-then-busy-clause-end g c =
@@ -102,7 +102,7 @@ returns-then-busy-clause-told g c =
     let m = g.P.Plant.state c.suspend.new.p in
     let mid = c.suspend.new.j.events in
     let alone = land_alone (ids_of t.volumes) w.w.0 v w.track in
-    told-through (armed_in s) h (here s t h ev) (here m t h mid) (now (Suspend v c.args.busy) ∷ []) (None) (c.in-Ok.ensures.carried (rest_of h ev)) c.requires.told
+    told-through (armed_in s) h (here s t [] h ev) (here m t [] h mid) (now (Suspend v c.args.busy) ∷ []) (None) (c.in-Ok.ensures.carried (rest_of [] h ev)) c.requires.told
 
 pub write_alone-requires-clause-running : goal.write_alone-requires-clause-running
 write_alone-requires-clause-running g c =
@@ -141,10 +141,10 @@ write_alone-requires-clause-told g c =
     let m = g.P.Plant.state c.suspend.new.p in
     let mid = c.suspend.new.j.events in
     let alone = land_alone (ids_of t.volumes) w.w.0 v w.track in
-    told-through (armed_in s) h (here s t h ev) (here m t h mid) (now (Suspend v c.args.busy) ∷ []) (None) (c.in-Ok.ensures.carried (rest_of h ev)) c.requires.told
+    told-through (armed_in s) h (here s t [] h ev) (here m t [] h mid) (now (Suspend v c.args.busy) ∷ []) (None) (c.in-Ok.ensures.carried (rest_of [] h ev)) c.requires.told
 
 pub returns-else-busy-clause-carried : goal.returns-else-busy-clause-carried
-returns-else-busy-clause-carried g c =
+returns-else-busy-clause-carried g c xs =
     let s = g.P.Plant.state c.args.p.now in
     let t = c.args.c.now in
     let h = c.args.h.now in
@@ -154,10 +154,10 @@ returns-else-busy-clause-carried g c =
     let m = g.P.Plant.state c.suspend.new.p in
     let mid = c.suspend.new.j.events in
     let alone = land_alone (ids_of t.volumes) w.w.0 v w.track in
-    let u = here (g.P.Plant.state c.write_alone.new.p) t c.write_alone.new.h c.write_alone.new.j.events in
-    c.in-Ok.ensures.advances (rest_of h ev) (armed_in s) u (refusal_of c.write_alone.result) (cond c.args.busy [] alone)
-    (subst (λ b. Ends (armed_in s) u (refusal_of c.write_alone.result) (here m t h mid) (cond b [] alone)) (sym c.if-busy.false)
-    (ends-wider (armed_in m) (armed_in s) (wider-armed s m c.in-Ok.ensures.unarmed) u (refusal_of c.write_alone.result) (here m t h mid) alone c.write_alone.ensures.carried))
+    let u = here (g.P.Plant.state c.write_alone.new.p) t xs c.write_alone.new.h c.write_alone.new.j.events in
+    c.in-Ok.ensures.advances (rest_of xs h ev) (armed_in s) u (refusal_of c.write_alone.result) (cond c.args.busy [] alone)
+    (subst (λ b. Ends (armed_in s) u (refusal_of c.write_alone.result) (here m t xs h mid) (cond b [] alone)) (sym c.if-busy.false)
+    (ends-wider (armed_in m) (armed_in s) (wider-armed s m c.in-Ok.ensures.unarmed) u (refusal_of c.write_alone.result) (here m t xs h mid) alone (c.write_alone.ensures.carried xs)))
 
 pub returns-else-busy-clause-end : goal.returns-else-busy-clause-end
 returns-else-busy-clause-end g c =

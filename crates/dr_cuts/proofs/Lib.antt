@@ -1,0 +1,15 @@
+pub mod AtLemmas
+pub mod Sets
+pub mod Still
+pub mod KeepsKinds
+pub mod KeepsCut
+pub mod KeepsSent
+pub mod Kept
+pub mod Journal
+pub mod Told
+pub mod Places
+pub mod Seals
+pub mod Writes
+pub mod Begins
+pub mod Worlds
+pub mod Mays
