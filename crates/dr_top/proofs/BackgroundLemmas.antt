@@ -9,7 +9,7 @@ use Rattle.dr_ids.specs.declared.refusal.Refusal.{Refusal}
 use Rattle.dr_plant.specs.State.{PlantState}
 use Rattle.dr_config.specs.Table.{Table, place_of, entry_of}
 use Rattle.dr_config.specs.declared.entries.VolumeEntry.{VolumeEntry}
-use Rattle.dr_host.specs.Writes.{Writes}
+use Rattle.dr_top.specs.declared.tables.Tables.{Tables}
 use Rattle.dr_model.specs.declared.event.Event.{Event}
 use Rattle.dr_model.specs.declared.said.Said.TheVariants.{Done, Refused}
 use Rattle.dr_model.specs.declared.said.Addition.TheVariants.{Counted}
@@ -25,7 +25,7 @@ use Rattle.dr_volume.specs.View.{volume_seen, volume_at, volume_on, ids_of, Read
 use Rattle.dr_flash.specs.Here.{IsAtRest, armed_in}
 use Rattle.dr_laws.proofs.Costs.{Costs, carry-adds}
 use Rattle.dr_laws.proofs.CopyCosts.{Live, rounds}
-use Rattle.dr_metro.specs.Here.{here}
+use Rattle.dr_top.specs.Here.{here}
 use Rattle.dr_top.proofs.LandLemmas.{ends-first, goes-on, exact}
 use Rattle.dr_top.proofs.LocatedLemmas.{is_volume-here}
 use Rattle.dr_top.proofs.FlashLemmas.{step-nowhere, entries-done, entries-refused}
@@ -74,7 +74,7 @@ module _ (w v : World) (n : ℕ) (ds : List Entry) (so_far : carry w (times n ds
       ∙ ends-first w u (times n ds ++ ds) (times m ds) r (carried-more u (Some r) is)
 
 -- what so many rounds of a restore tell, at most
-pub rounds-tell : (s : PlantState) (c : Table) (h : Writes) (ev : List Event) (v n : ℕ) (u : World) → Sound (here s c h ev) → IsAtRest s c → (volume_seen s c v).fields.reversing ≡ true
+pub rounds-tell : (s : PlantState) (c : Table) (h : Tables) (ev : List Event) (v n : ℕ) (u : World) → Sound (here s c h ev) → IsAtRest s c → (volume_seen s c v).fields.reversing ≡ true
     → carry (here s c h ev) (times n (give_back (ids_of c.volumes) (volume_seen s c v).fields.source v)) ≡ (u, None) → length u.events ≤ length ev + (n * 13 + 257) + 1
 rounds-tell s c h ev v n u sound rest reversing is =
     let w : World = here s c h ev in
@@ -115,7 +115,7 @@ held true why x o is some = absurd (let e : Some x ≡ None = sym some ∙ is in
 held false why x o is some = (refl, (let e : Some x ≡ Some why = sym some ∙ is in cc))
 
 -- what comes before tracks are copied
-module _ (s : PlantState) (c : Table) (h : Writes) (ev : List Event) (t : ℕ) (most : Option ℕ) (pass : ReadsPass s) where
+module _ (s : PlantState) (c : Table) (h : Tables) (ev : List Event) (t : ℕ) (most : Option ℕ) (pass : ReadsPass s) where
   abbrev pub before : World
   before = here s c h ev
 

@@ -45,7 +45,7 @@ use Rattle.dr_metro.proofs.ToldLemmas.{told-push}
 use Rattle.dr_top.proofs.LocatedLemmas.{is_volume-here}
 use Rattle.dr_top.proofs.StartLemmas.{some_or_none}
 use Rattle.dr_top.proofs.StopLemmas.{known-server}
-use Rattle.dr_host.specs.Writes.{Writes}
+use Rattle.dr_top.specs.declared.tables.Tables.{Tables}
 use Rattle.dr_top.proofs.ZeroDevice.{zero_blocks, volume-zeros, track-zeros}
 
 -- a list with one more has what it had, and then that
@@ -62,7 +62,7 @@ slice_get-seam (x ∷ xs) y = slice_get-seam xs y
 pub rest-server : (s : PlantState) (t : Table) (name : List ℕ) → IsAtRest s t → IsAtRest s (with_server t name)
 rest-server s t name r = record { stands = stands-with_server t name s r.stands; settled = r.settled; sizes = r.sizes }
 
-module _ (s : PlantState) (t : Table) (h : Writes) (ev : List Event) (line : ℕ) (name : Name) where
+module _ (s : PlantState) (t : Table) (h : Tables) (ev : List Event) (line : ℕ) (name : Name) where
   abbrev w : World
   w = here s t h ev
 
@@ -110,7 +110,7 @@ capped-small : (n size : ℕ) → size ≡ capped n → size ≤ 256 → size �
 capped-small n size sized most = omega (arith, sized, most)
 
 -- a volume is refused by the machine where it is by the configuration
-module _ (s : PlantState) (t : Table) (h : Writes) (ev : List Event) (sound : IsSound t) (v server n : ℕ) where
+module _ (s : PlantState) (t : Table) (h : Tables) (ev : List Event) (sound : IsSound t) (v server n : ℕ) where
   abbrev k : Control
   k = (here s t h ev).control
 
@@ -261,7 +261,7 @@ module _ (s : PlantState) (t : Table) (v server n : ℕ) (stands : StandsFor t s
   }
 
   -- the machine's state once the volume is defined
-  defined-here : (h : Writes) (ev mid : List Event) → mid ≡ ev ++ VolumeDefined v server n ∷ []
+  defined-here : (h : Tables) (ev mid : List Event) → mid ≡ ev ++ VolumeDefined v server n ∷ []
       → (let u : World = here s t h ev in record u { control = record u.control { volumes = u.control.volumes ++ v ∷ []; volume = at u.control.volume v (new_volume server n) }; events = ev ++ VolumeDefined v server n ∷ [] }) ≡ here s' t' h mid
   defined-here h ev mid told i = record (here s t h ev) {
     control = record (here s t h ev).control {
@@ -274,7 +274,7 @@ module _ (s : PlantState) (t : Table) (v server n : ℕ) (stands : StandsFor t s
     events = sym told i;
   }
 
-module _ (s : PlantState) (t : Table) (h : Writes) (ev : List Event) (line v n : ℕ) (name : Name) (sound : IsSound t) where
+module _ (s : PlantState) (t : Table) (h : Tables) (ev : List Event) (line v n : ℕ) (name : Name) (sound : IsSound t) where
   abbrev w' : World
   w' = here s t h ev
 
@@ -307,7 +307,7 @@ module _ (s : PlantState) (t : Table) (h : Writes) (ev : List Event) (line v n :
       ∙ ap (λ x. said (here x (with_volume t v server size) h mid) line (Done Alone)) (sym added)
       ∙ ap (λ x. said (here s' x h mid) line (Done Alone)) (sym is))
 
-pub ready-defined : (s : PlantState) (t : Table) (h : Writes) (ev mid : List Event) (v server n : ℕ) (s' : PlantState) (t' : Table) → IsReady s t h ev → None ≡ rules.volume_refusal t v server n → s' ≡ with_device s server (13 + n)
+pub ready-defined : (s : PlantState) (t : Table) (h : Tables) (ev mid : List Event) (v server n : ℕ) (s' : PlantState) (t' : Table) → IsReady s t h ev → None ≡ rules.volume_refusal t v server n → s' ≡ with_device s server (13 + n)
     → t' ≡ with_volume t v server n → StandsFor t' s' → mid ≡ ev ++ VolumeDefined v server n ∷ [] → IsReady s' t' h mid
 ready-defined s t h ev mid v server n s' t' ready free added is stands told =
     let fits = volume-accepted t v server n (sym free) in
@@ -316,7 +316,7 @@ ready-defined s t h ev mid v server n s' t' ready free added is stands told =
     record {
       rest = subst (λ x. IsAtRest x t') (sym added) (subst (λ x. IsAtRest (with_device s server (13 + n)) x) (sym is) rest);
       reads = λ k lt. ap (λ (x : PlantState). x.read_fuse k) added ∙ ap (λ (f : ℕ → Option ℕ). f k) (reads-still s server (13 + n)) ∙ ready.reads k lt;
-      told = told-push h ev mid (VolumeDefined v server n) (λ x. refl) told ready.told;
+      told = told-push h.host ev mid (VolumeDefined v server n) (λ x. refl) told ready.told;
     }
 
 faults-still : (s : PlantState) (server blocks : ℕ) → (with_device s server blocks).faults ≡ s.faults
@@ -328,7 +328,7 @@ pub device-faults : (s s' : PlantState) (server blocks : ℕ) → s' ≡ with_de
 device-faults s s' server blocks is = ap (λ (x : PlantState). x.faults) is ∙ faults-still s server blocks
 
 -- a link between two servers
-module _ (s : PlantState) (t : Table) (h : Writes) (ev : List Event) (line : ℕ) (first second : Name) (up : Bool) (a b : ℕ) (one two : List ℕ) (named : one ≡ name_bytes first) (there : server_named t one ≡ Some a)
+module _ (s : PlantState) (t : Table) (h : Tables) (ev : List Event) (line : ℕ) (first second : Name) (up : Bool) (a b : ℕ) (one two : List ℕ) (named : one ≡ name_bytes first) (there : server_named t one ≡ Some a)
     (named' : two ≡ name_bytes second) (there' : server_named t two ≡ Some b) where
   abbrev w'' : World
   w'' = here s t h ev
@@ -360,7 +360,7 @@ module _ (s : PlantState) (t : Table) (h : Writes) (ev : List Event) (line : ℕ
       below : (n : ℕ) → n < length t.names → n < 8
       below n lt = let few = sound.few_servers in omega (arith, lt, few)
 
-pub ready-link : (s : PlantState) (t t' : Table) (h : Writes) (ev : List Event) (a b : ℕ) (up : Bool) → t' ≡ with_link t a b up → IsReady s t h ev → IsReady s t' h ev
+pub ready-link : (s : PlantState) (t t' : Table) (h : Tables) (ev : List Event) (a b : ℕ) (up : Bool) → t' ≡ with_link t a b up → IsReady s t h ev → IsReady s t' h ev
 ready-link s t t' h ev a b up is r = subst (λ x. IsReady s x h ev) (sym is) (record {
   rest = record { stands = stands-with_link t a b up s r.rest.stands; settled = r.rest.settled; sizes = r.rest.sizes };
   reads = r.reads;

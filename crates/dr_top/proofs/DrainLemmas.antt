@@ -8,7 +8,7 @@ use Rattle.dr_ids.specs.declared.refusal.Kind.TheVariants.{Volume as OfVolume}
 use Rattle.dr_plant.specs.State.{PlantState}
 use Rattle.dr_config.specs.Table.{Table, place_of, entry_of}
 use Rattle.dr_config.specs.declared.entries.VolumeEntry.{VolumeEntry}
-use Rattle.dr_host.specs.Writes.{Writes}
+use Rattle.dr_top.specs.declared.tables.Tables.{Tables}
 use Rattle.dr_model.specs.declared.event.Event.{Event}
 use Rattle.dr_model.specs.declared.said.Said.TheVariants.{Done, Refused}
 use Rattle.dr_model.specs.declared.said.Addition.TheVariants.{Counted}
@@ -34,7 +34,7 @@ use Rattle.dr_flash.specs.Turns.{Leads}
 use Rattle.dr_flash.proofs.CheckLemmas.{refuses}
 use Rattle.dr_flash.proofs.EndsLemmas.{ends-passed, ends-none}
 use Rattle.dr_gcopy.specs.Followed.{EndsFollowed, Follows}
-use Rattle.dr_metro.specs.Here.{here, IsTold}
+use Rattle.dr_top.specs.Here.{here, IsTold}
 use Rattle.dr_top.proofs.LandLemmas.{exact, told-through}
 use Rattle.dr_top.proofs.LocatedLemmas.{is_volume-here}
 use Rattle.dr_top.proofs.RelationLemmas.{placed-here}
@@ -43,7 +43,7 @@ use Rattle.dr_top.proofs.RelationLemmas.{placed-here}
 abbrev pub copying_by : Fields → Bool
 copying_by f = is_part f.primary && is_pending f.primary_state
 
-module _ (s : PlantState) (c : Table) (h : Writes) (ev : List Event) (a : ℕ) (pass : ReadsPass s) where
+module _ (s : PlantState) (c : Table) (h : Tables) (ev : List Event) (a : ℕ) (pass : ReadsPass s) where
   abbrev pub before : World
   before = here s c h ev
 

@@ -23,10 +23,11 @@ use Rattle.dr_model.proofs.CarryLemmas.{plan-refuses}
 use Rattle.dr_laws.proofs.ReadStops.{ends-skips, ends-none}
 use Rattle.dr_volume.specs.View.{ids_of, ReadsPass}
 use Rattle.dr_volume.proofs.WorldLaws.{on-seen}
-use Rattle.dr_host.specs.Writes.{Writes, has_owner}
+use Rattle.dr_host.specs.Writes.{has_owner}
+use Rattle.dr_top.specs.declared.tables.Tables.{Tables}
 use Rattle.dr_flash.specs.Here.{armed_in, IsAtRest}
 use Rattle.dr_flash.specs.Turns.{Advances, Halts}
-use Rattle.dr_metro.specs.Here.{here, IsTold, IsReady}
+use Rattle.dr_top.specs.Here.{here, IsTold, IsReady}
 use Rattle.dr_top.specs.Starting.{lift_from}
 use Rattle.dr_top.proofs.FlashLemmas.{entries-done, entries-refused}
 use Rattle.dr_top.proofs.LandLemmas.{exact, told-through, ready-after}
@@ -41,7 +42,7 @@ module _ (t : Table) (v server place : ℕ) (at : Some v ≡ option_map (λ (x :
   next_is = ap (map (lift_on server)) (next-at t.volumes place v at)
 
   -- a volume of another server is passed over
-  pub lifted-skip : (s : PlantState) (h : Writes) (ev : List Event) (armed : ℕ → Bool) (u : World) (r : Option Refusal) → has_owner t v server ≡ false → Ends armed u r (here s t h ev) behind → Ends armed u r (here s t h ev) (lift_from t server place)
+  pub lifted-skip : (s : PlantState) (h : Tables) (ev : List Event) (armed : ℕ → Bool) (u : World) (r : Option Refusal) → has_owner t v server ≡ false → Ends armed u r (here s t h ev) behind → Ends armed u r (here s t h ev) (lift_from t server place)
   lifted-skip s h ev armed u r other more =
       let w : World = here s t h ev in
       subst (Ends armed u r w) (sym next_is)
@@ -58,7 +59,7 @@ pub lifted-all : (armed : ℕ → Bool) (w : World) (t : Table) (server place : 
 lifted-all armed w t server place all = subst (Ends armed w None w) (sym (ap (λ es. map (lift_on server) (ids_of es)) (drop_all place t.volumes all))) (ends-none armed w None w (record { world = refl; refusal = refl }))
 
 -- the step, where the server is off, and where it is on
-module _ (s : PlantState) (t : Table) (h : Writes) (ev : List Event) (line server : ℕ) (low : server < 8) where
+module _ (s : PlantState) (t : Table) (h : Tables) (ev : List Event) (line server : ℕ) (low : server < 8) where
   abbrev w : World
   w = here s t h ev
 

@@ -6,7 +6,7 @@ use Rattle.dr_ids.specs.declared.refusal.Refusal.{Refusal}
 use Rattle.dr_plant.specs.State.{PlantState}
 use Rattle.dr_config.specs.Table.{Table, entry_of, server_named}
 use Rattle.dr_config.specs.declared.entries.VolumeEntry.{VolumeEntry}
-use Rattle.dr_host.specs.Writes.{Writes}
+use Rattle.dr_top.specs.declared.tables.Tables.{Tables}
 use Rattle.dr_model.specs.declared.event.Event.{Event}
 use Rattle.dr_model.specs.declared.said.Said.{Said}
 use Rattle.dr_model.specs.declared.said.Said.TheVariants.{Refused}
@@ -27,7 +27,7 @@ use Rattle.dr_flash.proofs.EndsLemmas.{ends-passed}
 use Rattle.dr_flash.specs.Here.{armed_in, IsAtRest}
 use Rattle.dr_flash.specs.Checks.{Checked, is_stop}
 use Rattle.dr_top.specs.Faults.{Counted, Counts}
-use Rattle.dr_metro.specs.Here.{here, IsReady, IsTold}
+use Rattle.dr_top.specs.Here.{here, IsReady, IsTold}
 use Rattle.dr_top.proofs.LandLemmas.{exact, told-through, ready-after}
 use Rattle.dr_top.proofs.LocatedLemmas.{is_volume-here}
 use Rattle.dr_top.proofs.StepLemmas.{is_stopped-alike}
@@ -45,7 +45,7 @@ adds (Ok x) a = Ok a
 adds (Err r) a = Err r
 
 -- a step on a relationship: its volumes are found, and then this comes
-module _ (c : Table) (s u : PlantState) (h : Writes) (ev mid : List Event) (found more : List Entry) (a : Said) (pass : ReadsPass s) where
+module _ (c : Table) (s u : PlantState) (h : Tables) (ev mid : List Event) (found more : List Entry) (a : Said) (pass : ReadsPass s) where
   abbrev pub before : World
   before = here s c h ev
 
@@ -79,7 +79,7 @@ owner-none c name bytes v named none = ap (λ o. is_at o v) (none ∙ ap (server
 pub owner-some : (c : Table) (name : Name) (bytes : List ℕ) (owner v w : ℕ) → bytes ≡ name_bytes name → Some owner ≡ server_named c bytes → w ≡ v → is_at (Some owner) v ≡ is_at (server_named c (name_bytes name)) w
 owner-some c name bytes owner v w named some is = (λ i. is_at ((some ∙ ap (server_named c) named) i) (sym is i))
 
-module _ (x : PlantState) (c : Table) (h : Writes) (ev : List Event) (dev : Option Name) (s t : ℕ) where
+module _ (x : PlantState) (c : Table) (h : Tables) (ev : List Event) (dev : Option Name) (s t : ℕ) where
   abbrev pub w : World
   w = here x c h ev
 

@@ -1,12 +1,12 @@
 -- What a line that freezes or thaws comes to.
-use Rattle.std.proofs.Common.{ℕ, ◌≡◌, ◌<◌, List, ◌++◌, refl, sym, ◌∙◌, ap, Bool, true, false, not, ◌&&◌, Option, Some, None}
+use Rattle.std.proofs.Common.{ℕ, ◌≡◌, ◌<◌, List, ◌++◌, refl, sym, ◌∙◌, Bool, true, false, not, ◌&&◌, Option, Some, None}
 use Rattle.std.specs.Prelude.{is_some, if◌then◌else◌}
 use Rattle.dr_ids.specs.Paths.{path_in}
 use Rattle.dr_ids.specs.declared.refusal.Refusal.{Refusal}
 use Rattle.dr_ids.specs.declared.refusal.Kind.TheVariants.{Server as OfServer, Path as OfPath}
 use Rattle.dr_plant.specs.State.{PlantState}
 use Rattle.dr_config.specs.Table.{Table, lss_owner, IsSound}
-use Rattle.dr_host.specs.Writes.{Writes}
+use Rattle.dr_top.specs.declared.tables.Tables.{Tables}
 use Rattle.dr_model.specs.declared.event.Event.{Event}
 use Rattle.dr_model.specs.declared.said.Said.TheVariants.{Done, Refused}
 use Rattle.dr_model.specs.declared.said.Addition.TheVariants.{Alone}
@@ -24,14 +24,14 @@ use Rattle.dr_flash.specs.Here.{armed_in, IsAtRest}
 use Rattle.dr_flash.proofs.CheckLemmas.{on-low}
 use Rattle.dr_freeze.specs.Checks.{owner_in, has_path, is_up, freeze_checks, thaw_checks}
 use Rattle.dr_freeze.proofs.OwnerLemmas.{up-here}
-use Rattle.dr_top.specs.Here.{here, rest_of, IsReady, IsTold}
+use Rattle.dr_top.specs.Here.{here, rest_of, IsReady}
 use Rattle.dr_top.proofs.FlashLemmas.{entries-done, entries-refused}
 use Rattle.dr_top.proofs.LandLemmas.{exact, told-through, ready-after}
 use Rattle.dr_top.proofs.PathLemmas.{owner-there}
 use Rattle.dr_top.proofs.StepLemmas.{plan-unless, plan-free}
 
 -- both subsystems have a server
-module _ (s : PlantState) (t : Table) (h : Writes) (ev : List Event) (line : ℕ) (sound : IsSound t) (devs : Devs) (src tgt a b : ℕ) (first : lss_owner t src ≡ Some a) (second : lss_owner t tgt ≡ Some b) (low : a < 8) where
+module _ (s : PlantState) (t : Table) (h : Tables) (ev : List Event) (line : ℕ) (sound : IsSound t) (devs : Devs) (src tgt a b : ℕ) (first : lss_owner t src ≡ Some a) (second : lss_owner t tgt ≡ Some b) (low : a < 8) where
   abbrev w : World
   w = here s t h ev
 
@@ -116,6 +116,6 @@ module _ (s : PlantState) (t : Table) (h : Writes) (ev : List Event) (line : ℕ
       freeze-failed r ends = freeze-goes (entries-refused w after line freezing (Done Alone) r (freeze-carried (Some r) ends))
 
 -- what is ready stays so, where a call ends as entries do
-pub ready-ends : (s u : PlantState) (t n : Table) (h : Writes) (ev mid : List Event) (r : Option Refusal) (ds : List Entry) → Ends (armed_in s) (here u n h mid) r (here s t h ev) ds → IsAtRest u n → ((q : ℕ) → s.read_fuse q ≡ None → u.read_fuse q ≡ None) → IsReady s t h ev → IsReady u n h mid
+pub ready-ends : (s u : PlantState) (t n : Table) (h : Tables) (ev mid : List Event) (r : Option Refusal) (ds : List Entry) → Ends (armed_in s) (here u n h mid) r (here s t h ev) ds → IsAtRest u n → ((q : ℕ) → s.read_fuse q ≡ None → u.read_fuse q ≡ None) → IsReady s t h ev → IsReady u n h mid
 ready-ends s u t n h ev mid r ds ends rest unarmed ready =
     ready-after n s u h mid ready.reads rest unarmed (told-through h (here s t h ev) (here u n h mid) ds r (exact s (here u n h mid) r (here s t h ev) ds ready.reads ends) ready.told)

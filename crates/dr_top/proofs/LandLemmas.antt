@@ -16,7 +16,8 @@ use Rattle.dr_laws.proofs.Unissued.{unissued}
 use Rattle.dr_model.specs.ReadStops.{Ends}
 use Rattle.dr_laws.proofs.ReadStops.{ends-exact}
 use Rattle.dr_volume.specs.View.{ReadsPass}
-use Rattle.dr_host.specs.Writes.{Writes, Each}
+use Rattle.dr_host.specs.Writes.{Each}
+use Rattle.dr_top.specs.declared.tables.Tables.{Tables}
 use Rattle.dr_metro.proofs.ToldLemmas.{IsWrite}
 use Rattle.dr_model.specs.declared.event.Event.{Event}
 use Rattle.dr_top.specs.Here.{IsReady, IsTold, said_of}
@@ -34,7 +35,7 @@ none-armed s pass q h =
 pub exact : (s : PlantState) (u : World) (r : Option Refusal) (w : World) (ds : List Entry) → ReadsPass s → Ends (armed_in s) u r w ds → carry w ds ≡ (u, r)
 exact s u r w ds pass e = ends-exact (armed_in s) (none-armed s pass) u r w ds e
 
-pub ready-after : (c : Table) (s u : PlantState) (h : Writes) (ev : List Event) → ReadsPass s → IsAtRest u c → ((q : ℕ) → s.read_fuse q ≡ None → u.read_fuse q ≡ None) → IsTold h ev → IsReady u c h ev
+pub ready-after : (c : Table) (s u : PlantState) (h : Tables) (ev : List Event) → ReadsPass s → IsAtRest u c → ((q : ℕ) → s.read_fuse q ≡ None → u.read_fuse q ≡ None) → IsTold h ev → IsReady u c h ev
 ready-after c s u h ev pass rest unarmed told = record { rest = rest; reads = λ q low. unarmed q (pass q low); told = told }
 
 -- a call that failed as the one within it
@@ -63,9 +64,9 @@ wider-armed s u unarmed q h =
     either_yes false x h = h
 
 -- entries that were carried out issued no write
-pub told-through : (h : Writes) (w u : World) (ds : List Entry) (r : Option Refusal) → carry w ds ≡ (u, r) → IsTold h w.events → IsTold h u.events
+pub told-through : (h : Tables) (w u : World) (ds : List Entry) (r : Option Refusal) → carry w ds ≡ (u, r) → IsTold h w.events → IsTold h u.events
 told-through h w u ds r is told =
-    subst (λ write. Each (IsWrite write) h.pending) (sym (unissued w ds) ∙ ap (λ (o : Outcome). (histories o.0.events).write) is) told
+    subst (λ write. Each (IsWrite write) h.host.pending) (sym (unissued w ds) ∙ ap (λ (o : Outcome). (histories o.0.events).write) is) told
 
 -- what follows entries that a refusal ended, or that passed
 pub ends-first : (w u : World) (first more : List Entry) (r : Refusal) → carry w first ≡ (u, Some r) → carry w (first ++ more) ≡ (u, Some r)

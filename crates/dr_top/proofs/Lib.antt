@@ -9,6 +9,7 @@ pub mod EndLemmas
 pub mod RefusalLemmas
 pub mod LandLemmas
 pub mod LocatedLemmas
+pub mod LossLemmas
 pub mod StepLemmas
 pub mod StopLemmas
 pub mod StartLemmas

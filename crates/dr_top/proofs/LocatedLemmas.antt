@@ -21,7 +21,7 @@ use Rattle.dr_model.specs.Plans.{track_refusal}
 use Rattle.dr_volume.specs.View.{volume_seen, ids_of}
 use Rattle.dr_volume.proofs.VolumeLaws.{volume-placed}
 use Rattle.dr_top.specs.Here.{here}
-use Rattle.dr_host.specs.Writes.{Writes}
+use Rattle.dr_top.specs.declared.tables.Tables.{Tables}
 
 same_id : (a b : ℕ) → nat_eq a b ≡ nat_eq b a
 same_id a b = grind (arith, nat_tests)
@@ -33,7 +33,7 @@ any_id (e ∷ es) v =
     ∙ elim (nat_eq e.id v) as (λ b. (b || list_any (nat_eq v) (ids_of es)) ≡ is_some (cond b (Some e) (find (λ (e : VolumeEntry). e.id == v) es))) [ true ↦ refl | false ↦ any_id es v ]
 
 -- the machine has a volume exactly where the configuration has
-pub is_volume-here : (s : PlantState) (t : Table) (h : Writes) (events : List Event) (v : ℕ) → is_volume (here s t h events).control v ≡ is_some (entry_of t v)
+pub is_volume-here : (s : PlantState) (t : Table) (h : Tables) (events : List Event) (v : ℕ) → is_volume (here s t h events).control v ≡ is_some (entry_of t v)
 is_volume-here s t h events v = any_id t.volumes v
 
 pub some_entry : (o : Option VolumeEntry) → is_some o ≡ true → (e : VolumeEntry) × (o ≡ Some e)
@@ -45,7 +45,7 @@ same_place [] v = refl
 same_place (e ∷ es) v = (λ i. cond (not (same_id v e.id i)) (1 + same_place es v i) 0)
 
 -- the number of its device is its place there, too
-pub device-here : (s : PlantState) (t : Table) (h : Writes) (events : List Event) (v d : ℕ) → place_of t v ≡ Some d → device_of (here s t h events).control v ≡ d
+pub device-here : (s : PlantState) (t : Table) (h : Tables) (events : List Event) (v d : ℕ) → place_of t v ≡ Some d → device_of (here s t h events).control v ≡ d
 device-here s t h events v d place =
     ap (λ o. unwrap_or o 0) ((λ i. let n : ℕ = same_place t.volumes v i in cond (nat_lt n (length-map t.volumes (λ (e : VolumeEntry). e.id) i)) (Some n) None) ∙ place)
 
@@ -56,7 +56,7 @@ seen-entry s t v e found =
     let on = volume-placed s t v at.0 e at.1 at.2 in
     (ap (λ x. x.server) on, ap (λ x. x.tracks) on, ap is_some at.1)
 
-pub refusal-entry : (s : PlantState) (t : Table) (h : Writes) (events : List Event) (v k : ℕ) (e : VolumeEntry) → entry_of t v ≡ Some e → track_refusal (here s t h events).control v k ≡ cond (nat_lt k e.tracks) None (Some (unknown OfTrack))
+pub refusal-entry : (s : PlantState) (t : Table) (h : Tables) (events : List Event) (v k : ℕ) (e : VolumeEntry) → entry_of t v ≡ Some e → track_refusal (here s t h events).control v k ≡ cond (nat_lt k e.tracks) None (Some (unknown OfTrack))
 refusal-entry s t h events v k e found =
     ap (λ b. cond (not b) (Some (unknown OfVolume)) (cond (nat_lt k (volume_seen s t v).tracks) None (Some (unknown OfTrack)))) (is_volume-here s t h events v ∙ ap is_some found)
     ∙ ap (λ n. cond (nat_lt k n) None (Some (unknown OfTrack))) (seen-entry s t v e found).1

@@ -8,7 +8,7 @@ use Rattle.dr_ids.specs.declared.refusal.Refusal.{Refusal}
 use Rattle.dr_ids.specs.declared.refusal.Kind.TheVariants.{Server as OfServer}
 use Rattle.dr_plant.specs.State.{PlantState}
 use Rattle.dr_config.specs.Table.{Table}
-use Rattle.dr_host.specs.Writes.{Writes}
+use Rattle.dr_top.specs.declared.tables.Tables.{Tables}
 use Rattle.dr_model.specs.declared.event.Event.{Event}
 use Rattle.dr_model.specs.declared.said.Said.TheVariants.{Done, Refused}
 use Rattle.dr_model.specs.declared.said.Addition.TheVariants.{Alone}
@@ -34,7 +34,7 @@ use Rattle.dr_flash.specs.Checks.{Checked}
 use Rattle.dr_flash.specs.Here.{armed_in, IsAtRest}
 use Rattle.dr_flash.proofs.CheckLemmas.{refuses}
 use Rattle.dr_flash.proofs.EndsLemmas.{ends-passed, ends-none}
-use Rattle.dr_metro.specs.Here.{here, IsReady, IsTold}
+use Rattle.dr_top.specs.Here.{here, IsReady, IsTold}
 use Rattle.dr_top.proofs.FlashLemmas.{entries-done, entries-refused}
 use Rattle.dr_top.proofs.LandLemmas.{exact, goes-on, told-through, ready-after}
 
@@ -121,7 +121,7 @@ module _ (w : World) (sound : Sound w) (a b : ℕ) (kind : Part) where
       by false on_a on_b size plain_a plain_b = difference-image on_a on_b size plain_a plain_b
 
 -- the step that makes a pair
-module _ (c : Table) (s u : PlantState) (h : Writes) (ev mid : List Event) (devs : Devs) (a b : ℕ) (kind : Part) (full : Bool) (pass : ReadsPass s) (sound : Sound (here s c h ev)) where
+module _ (c : Table) (s u : PlantState) (h : Tables) (ev mid : List Event) (devs : Devs) (a b : ℕ) (kind : Part) (full : Bool) (pass : ReadsPass s) (sound : Sound (here s c h ev)) where
   abbrev pub before : World
   before = here s c h ev
 

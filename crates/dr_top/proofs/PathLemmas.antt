@@ -13,7 +13,7 @@ use Rattle.dr_config.specs.Rules as rules
 use Rattle.dr_config.specs.Rules.{with_path_between, without_path_between}
 use Rattle.dr_config.specs.declared.entries.VolumeEntry.{VolumeEntry}
 use Rattle.dr_config.proofs.Devices.{stands-with_path_between, stands-without_path_between}
-use Rattle.dr_host.specs.Writes.{Writes}
+use Rattle.dr_top.specs.declared.tables.Tables.{Tables}
 use Rattle.dr_model.specs.declared.event.Event.{Event}
 use Rattle.dr_model.specs.declared.said.Said.TheVariants.{Done, Refused}
 use Rattle.dr_model.specs.declared.said.Addition.TheVariants.{Alone}
@@ -31,7 +31,7 @@ use Rattle.dr_volume.specs.View.{volume_seen, ids_of}
 use Rattle.dr_volume.proofs.VolumeLaws.{volume-placed}
 use Rattle.dr_flash.proofs.CopyLemmas.{ids-next}
 use Rattle.dr_flash.proofs.CheckLemmas.{on-low}
-use Rattle.dr_metro.specs.Here.{here, IsReady}
+use Rattle.dr_top.specs.Here.{here, IsReady}
 use Rattle.dr_config.proofs.Lookups.{entry-listed}
 use Rattle.dr_config.proofs.Lists.{position-of-found}
 use Rattle.dr_top.proofs.DefineLemmas.{find-ids}
@@ -54,7 +54,7 @@ active_by src tgt v f = nat_eq (subsystem v) src && (is_part f.primary && (nat_e
 abbrev pub active_in : PlantState → Table → ℕ → ℕ → ℕ → Bool
 active_in s t src tgt v = active_by src tgt v (volume_seen s t v).fields
 
-module _ (s : PlantState) (t : Table) (h : Writes) (ev : List Event) (line : ℕ) where
+module _ (s : PlantState) (t : Table) (h : Tables) (ev : List Event) (line : ℕ) where
   abbrev pub w : World
   w = here s t h ev
 
@@ -151,14 +151,14 @@ pub held-some : (on force : Bool) (r x : Refusal) (o : Option Refusal) → on �
 held-some on force r x o is unforced some = some ∙ (λ i. if not (sym is i) then Some r else if sym unforced i then None else o)
 
 -- what is ready stays so
-pub ready-path : (s : PlantState) (t u : Table) (h : Writes) (ev : List Event) (src tgt : ℕ) (group : Bool) → u ≡ with_path_between t src tgt group → IsReady s t h ev → IsReady s u h ev
+pub ready-path : (s : PlantState) (t u : Table) (h : Tables) (ev : List Event) (src tgt : ℕ) (group : Bool) → u ≡ with_path_between t src tgt group → IsReady s t h ev → IsReady s u h ev
 ready-path s t u h ev src tgt group is r = subst (λ x. IsReady s x h ev) (sym is) (record {
   rest = record { stands = stands-with_path_between t src tgt group s r.rest.stands; settled = r.rest.settled; sizes = r.rest.sizes };
   reads = r.reads;
   told = r.told;
 })
 
-pub ready-unpath : (s : PlantState) (t u : Table) (h : Writes) (ev : List Event) (src tgt : ℕ) → u ≡ without_path_between t src tgt → IsReady s t h ev → IsReady s u h ev
+pub ready-unpath : (s : PlantState) (t u : Table) (h : Tables) (ev : List Event) (src tgt : ℕ) → u ≡ without_path_between t src tgt → IsReady s t h ev → IsReady s u h ev
 ready-unpath s t u h ev src tgt is r = subst (λ x. IsReady s x h ev) (sym is) (record {
   rest = record { stands = stands-without_path_between t src tgt s r.rest.stands; settled = r.rest.settled; sizes = r.rest.sizes };
   reads = r.reads;

@@ -16,7 +16,7 @@ use Rattle.dr_model.specs.Grammar.{line_of}
 use Rattle.dr_model.proofs.CarryLemmas.{plan-refuses}
 use Rattle.dr_model.specs.Control.{World, nothing}
 use Rattle.dr_model.specs.Lines.{task, tasks_read, tasks_of}
-use Rattle.dr_model.specs.Runs.{Task, after_task, after_tasks}
+use Rattle.dr_model.specs.Runs.{Task, after_task, after_tasks, masters_lost, said}
 use Rattle.dr_model.specs.Laws.{Sound}
 use Rattle.dr_model.specs.LineText.{IsWritten}
 use Rattle.dr_model.specs.Limits.{most_events}
@@ -27,7 +27,8 @@ use Rattle.dr_laws.proofs.Limits.{within-run, journal-fits}
 use Rattle.dr_top.specs.Carried.{Reached, EndsBy, GoesTo}
 use Rattle.dr_top.specs.Faults.{is_stop, told_stop}
 use Rattle.dr_top.specs.declared.carry.Bar.{Bar}
-use Rattle.dr_host.specs.Writes.{Writes, Each, bytes_of}
+use Rattle.dr_host.specs.Writes.{Each, bytes_of}
+use Rattle.dr_top.specs.declared.tables.Tables.{Tables}
 use Rattle.dr_host.specs.declared.pending.Pending.{Pending}
 use Rattle.dr_model.specs.Histories.{Histories, histories}
 use Rattle.dr_model.proofs.Images.{histories-push}
@@ -37,6 +38,7 @@ use Rattle.dr_config.specs.Table.{Table}
 use Rattle.dr_config.specs.declared.entries.VolumeEntry.{VolumeEntry}
 use Rattle.dr_volume.specs.View.{ids_of}
 use Rattle.dr_top.specs.Here.{here, IsTold}
+use Rattle.dr_top.proofs.LossLemmas.{masters-stay}
 use Rattle.dr_top.proofs.TaskLemmas.{tasks-then, tasks-one, tasks-none}
 
 pub reached-more : (w u : World) (ts : List Task) → Reached w → after_tasks w ts ≡ u → Reached u
@@ -108,7 +110,7 @@ module _ (number column : ℕ) where
 
   pub fault-said : (w : World) (events : List Event) → events ≡ w.events ++ answer number (Refused (Syntax column)) ∷ [] → GoesTo w (tasks_read number (Err column)) (record w { events = events }) (Ok (tt))
   unfolding after_tasks
-  fault-said w events told = record { done = 1; within = omega arith; leads = plan-refuses w number (Syntax column) ∙ ap (λ es. record w { events = es }) (sym told); ends = refl }
+  fault-said w events told = record { done = 1; within = omega arith; leads = ap (masters_lost w) (plan-refuses w number (Syntax column)) ∙ masters-stay w (said w number (Refused (Syntax column))) refl ∙ ap (λ es. record w { events = es }) (sym told); ends = refl }
 
 pub fault-room : (events now : List Event) (e : Event) → length events < most_events → now ≡ events ++ e ∷ [] → length now ≤ most_events
 fault-room events now e below told = let sum = length-append events (e ∷ []) in let same = ap (λ es. length es) told in fits (length events) most_events (length now) below (omega (arith, sum, same))
@@ -131,13 +133,13 @@ pub read-fault : (number : ℕ) (line : List ℕ) (column : ℕ) → line_of lin
 read-fault number line column is = ap (tasks_read number) is
 
 -- an answer tells of no write
-pub told-answer : (h : Writes) (events now : List Event) (line : ℕ) (a : Said) → now ≡ events ++ answer line a ∷ [] → IsTold h events → IsTold h now
+pub told-answer : (h : Tables) (events now : List Event) (line : ℕ) (a : Said) → now ≡ events ++ answer line a ∷ [] → IsTold h events → IsTold h now
 told-answer h events now line a told is =
-    subst (λ (x : Histories). Each (λ (p : Pending). x.write (p.w.0) ≡ record { volume = p.volume.0; track = p.track; offset = p.offset; bytes = bytes_of p }) h.pending)
+    subst (λ (x : Histories). Each (λ (p : Pending). x.write (p.w.0) ≡ record { volume = p.volume.0; track = p.track; offset = p.offset; bytes = bytes_of p }) h.host.pending)
     (sym (ap histories told ∙ histories-push events (answer line a))) is
 
 -- a configuration that was reached has few volumes
-pub reached-few : (s : PlantState) (t : Table) (h : Writes) (ev : List Event) → Reached (here s t h ev) → length t.volumes ≤ 64
+pub reached-few : (s : PlantState) (t : Table) (h : Tables) (ev : List Event) → Reached (here s t h ev) → length t.volumes ≤ 64
 reached-few s t h ev reached =
     let within = subst (λ (w : World). IsWithin w.control) reached.1 (within-run reached.0) in
     let few : length (ids_of t.volumes) ≤ 64 = within.volumes in

@@ -4,7 +4,7 @@ use Rattle.std.specs.Prelude.{is_some, if◌then◌else◌}
 use Rattle.dr_plant.specs.State.{PlantState}
 use Rattle.dr_config.specs.Table.{Table, place_of}
 use Rattle.dr_config.proofs.Lookups.{place-of-entry}
-use Rattle.dr_host.specs.Writes.{Writes}
+use Rattle.dr_top.specs.declared.tables.Tables.{Tables}
 use Rattle.dr_model.specs.declared.event.Event.{Event}
 use Rattle.dr_model.specs.Control.{is_volume}
 use Rattle.dr_model.specs.Laws.{Sound}
@@ -18,7 +18,7 @@ use Rattle.dr_top.specs.Waiting.{PartnersFit}
 use Rattle.dr_top.proofs.LocatedLemmas.{is_volume-here, some_entry}
 
 -- a volume of the machine lies on a device
-pub placed-here : (s : PlantState) (t : Table) (h : Writes) (ev : List Event) (v : ℕ) → is_volume (here s t h ev).control v ≡ true → is_some (place_of t v) ≡ true
+pub placed-here : (s : PlantState) (t : Table) (h : Tables) (ev : List Event) (v : ℕ) → is_volume (here s t h ev).control v ≡ true → is_some (place_of t v) ≡ true
 placed-here s t h ev v there =
     let e = some_entry _ (sym (is_volume-here s t h ev v) ∙ there) in
     ap is_some (place-of-entry t v e.0 e.1).1
@@ -27,7 +27,7 @@ unrelated : (b : Bool) (n : ℕ) → (if b then Some n else None) ≡ None → b
 unrelated true n e = absurd (cc)
 unrelated false n e = refl
 
-pub relations-fit : (s : PlantState) (t : Table) (h : Writes) (ev : List Event) → Sound (here s t h ev) → RelationsFit s t
+pub relations-fit : (s : PlantState) (t : Table) (h : Tables) (ev : List Event) → Sound (here s t h ev) → RelationsFit s t
 relations-fit s t h ev sound = record {
   source = λ v related.
       let f = (volume_seen s t v).fields in
@@ -41,7 +41,7 @@ relations-fit s t h ev sound = record {
   apart = λ v k held. (sound.rows.structure.sets v).apart k held;
 }
 
-pub partners-fit : (s : PlantState) (t : Table) (h : Writes) (ev : List Event) → Sound (here s t h ev) → PartnersFit s t
+pub partners-fit : (s : PlantState) (t : Table) (h : Tables) (ev : List Event) → Sound (here s t h ev) → PartnersFit s t
 partners-fit s t h ev sound = record {
   defined = λ v metro. placed-here s t h ev (to v) (sound.rows.parts.secondary v (to v) (its v metro)).defined;
   apart = λ v metro. (sound.rows.parts.secondary v (to v) (its v metro)).apart;

@@ -40,8 +40,7 @@ use Rattle.dr_ids.specs.declared.names.ServerId.{ServerId}
 use Rattle.dr_ids.specs.declared.refusal.Refusal.TheVariants.{Stopped as StoppedIn}
 use Rattle.dr_top.specs.Faults.{Counted, Counts}
 use Rattle.dr_flash.specs.Faults.{Counted as Below}
-use Rattle.dr_metro.specs.Here.{here, IsTold}
-use Rattle.dr_top.specs.Here.{said_of}
+use Rattle.dr_top.specs.Here.{said_of, here, IsTold}
 use Rattle.dr_flash.specs.Here.{armed_in, refusal_of, IsAtRest}
 use Rattle.dr_flash.specs.Turns.{Advances, Halts}
 use Rattle.dr_coord.specs.Standing.{StandsReady}
@@ -56,6 +55,7 @@ use Rattle.dr_top.proofs.LandLemmas.{wider-armed}
 use Rattle.dr_top.proofs.LocatedLemmas.{is_volume-here, seen-entry}
 use Rattle.dr_top.proofs.StopLemmas.{started-here}
 use Rattle.dr_metro.proofs.TurnLemmas.{on-running, failed-not}
+use Rattle.dr_top.specs.declared.tables.Tables.{Tables}
 
 pub some_or_none : {A : Type 0} (o : Option A) → ((x : A) × (o ≡ Some x)) ⊎ (o ≡ None)
 some_or_none None = inr refl
@@ -65,7 +65,7 @@ owner-of : (t : Table) (v server : ℕ) (e : VolumeEntry) → entry_of t v ≡ S
 owner-of t v server e found = ap (λ o. option_map_or (λ (x : VolumeEntry). nat_eq x.server server) o false) found
 
 -- a volume is the server's for the machine where it is for the configuration
-pub belongs-here : (s : PlantState) (t : Table) (h : Writes) (ev : List Event) (v server : ℕ) → belongs (here s t h ev).control server v ≡ has_owner t v server
+pub belongs-here : (s : PlantState) (t : Table) (h : Tables) (ev : List Event) (v server : ℕ) → belongs (here s t h ev).control server v ≡ has_owner t v server
 belongs-here s t h ev v server =
     let own : Bool = nat_eq (volume_seen s t v).server server in
     elim (some_or_none (entry_of t v)) [
@@ -100,7 +100,7 @@ pub next-at : (es : List VolumeEntry) (i v : ℕ) → Some v ≡ option_map (λ 
 next-at es i v h = drop-at es i v h ∙ ap (λ n. v ∷ ids_of (drop n es)) (suc-eq-add-one i)
 
 -- a volume's staged track is written to its place, or the server stops in that write
-module _ (s : PlantState) (t : Table) (h : Writes) (ev : List Event) (v server : ℕ) where
+module _ (s : PlantState) (t : Table) (h : Tables) (ev : List Event) (v server : ℕ) where
   abbrev w : World
   w = here s t h ev
 
@@ -171,7 +171,7 @@ module _ (t : Table) (v server place : ℕ) (at : Some v ≡ option_map (λ (x :
   next_is : start_from t server place ≡ redo_on server v ∷ restart_on server v ∷ behind
   next_is = ap (start_entries server) (next-at t.volumes place v at)
 
-  pub started-skip : (s : PlantState) (h : Writes) (ev : List Event) (armed : ℕ → Bool) (u : World) (r : Option Refusal) → has_owner t v server ≡ false → Ends armed u r (here s t h ev) behind → Ends armed u r (here s t h ev) (start_from t server place)
+  pub started-skip : (s : PlantState) (h : Tables) (ev : List Event) (armed : ℕ → Bool) (u : World) (r : Option Refusal) → has_owner t v server ≡ false → Ends armed u r (here s t h ev) behind → Ends armed u r (here s t h ev) (start_from t server place)
   started-skip s h ev armed u r other more = subst (Ends armed u r (here s t h ev)) (sym next_is) (others-skip s t h ev v server armed u r behind other more)
 
   -- it wrote its track, and went on
@@ -276,9 +276,9 @@ ready-volume s t v server place at starting settled is owned = record {
 }
 
 -- whether a volume went on or its server stopped, the host's writes are still those of the journal
-pub told-either : (s : PlantState) (r : Result (Unit {0}) Refusal) (h : Writes) (w u : World) (d : Entry) → OnOk r (u.events ≡ w.events) → OnErr r (Halts (armed_in s) w d u (refusal_of r)) → IsTold h w.events → IsTold h u.events
+pub told-either : (s : PlantState) (r : Result (Unit {0}) Refusal) (h : Tables) (w u : World) (d : Entry) → OnOk r (u.events ≡ w.events) → OnErr r (Halts (armed_in s) w d u (refusal_of r)) → IsTold h w.events → IsTold h u.events
 told-either s (Ok x) h w u d same ends told = subst (IsTold h) (sym same) told
-told-either s (Err e) h w u d same ends told = told-through (armed_in s) h w u (d ∷ []) (Some e) (ends []) told
+told-either s (Err e) h w u d same ends told = told-through (armed_in s) h.host w u (d ∷ []) (Some e) (ends []) told
 
 -- a call of the layer below that counts a fault
 pub counted-top : (b : Bool) (before now : ℕ) → Below b before now → Counted b before now
@@ -334,25 +334,25 @@ starting-first s t server ready = record {
 }
 
 -- the write that is acknowledged, if one landed on a volume of the server
-module _ (s : PlantState) (t : Table) (h : Writes) (ev : List Event) (server : ℕ) where
+module _ (s : PlantState) (t : Table) (h : Tables) (ev : List Event) (server : ℕ) where
   abbrev w' : World
   w' = here s t h ev
 
-  pub landed-here : writes.landed_on t server h.pending ≡ landed_on w'.control server
-  landed-here = seen-landed t w'.control server h.pending refl (λ v. belongs-here s t h ev v server)
+  pub landed-here : writes.landed_on t server h.host.pending ≡ landed_on w'.control server
+  landed-here = seen-landed t w'.control server h.host.pending refl (λ v. belongs-here s t h ev v server)
 
   pub acked-none : landed_on w'.control server ≡ None → carry w' (acknowledge_on server ∷ []) ≡ (w', None)
   acked-none none = carry-skips w' (acknowledge_on server) [] (ap acknowledge_if none) ∙ carry-none w'
 
-  pub acked-one : (n : ℕ) (h' : Writes) (now : List Event) → landed_on w'.control server ≡ Some n → h' ≡ without h n → now ≡ ev ++ Ack n ∷ []
-      → carry w' (acknowledge_on server ∷ []) ≡ (here s t h' now, None)
+  pub acked-one : (n : ℕ) (h' : Writes) (now : List Event) → landed_on w'.control server ≡ Some n → h' ≡ without h.host n → now ≡ ev ++ Ack n ∷ []
+      → carry w' (acknowledge_on server ∷ []) ≡ (here s t (record h { host = h' }) now, None)
   acked-one n h' now one gone told =
       carry-goes w' (acknowledged w' n) (acknowledge_on server) [] (Acknowledge n) (ap acknowledge_if one) (act-acknowledge w' n) ∙ carry-none (acknowledged w' n)
-      ∙ (λ i. (record w' { control = record w'.control { pending = sym (seen-without n h.pending) i }; events = sym told i }, None))
-      ∙ ap (λ (x : Writes). (here s t x now, None)) (sym gone)
+      ∙ (λ i. (record w' { control = record w'.control { pending = sym (seen-without n h.host.pending) i }; events = sym told i }, None))
+      ∙ ap (λ (x : Writes). (here s t (record h { host = x }) now, None)) (sym gone)
 
 -- a server that was off is turned on
-module _ (s : PlantState) (t : Table) (h : Writes) (ev : List Event) (line server : ℕ) (low : server < 8) (off : s.on server ≡ false) (mid : List Event) (told : mid ≡ ev ++ Started server ∷ []) where
+module _ (s : PlantState) (t : Table) (h : Tables) (ev : List Event) (line server : ℕ) (low : server < 8) (off : s.on server ≡ false) (mid : List Event) (told : mid ≡ ev ++ Started server ∷ []) where
   abbrev w0 : World
   w0 = here s t h ev
 
@@ -377,13 +377,13 @@ module _ (s : PlantState) (t : Table) (h : Writes) (ev : List Event) (line serve
       → after_plan w0 line (start_on w0.control server) ≡ said (here u t h now) line (Refused r)
   turned-fails u now r is = starts_on ∙ plan-fails w0 (here u t h now) line starts r (λ s. refl) (carried _ _ is refl)
 
-  pub turned-goes : (u : PlantState) (h' : Writes) (mid' now : List Event) (a : Addition) → carry (here (started s server) t h mid) (start_from t server 0) ≡ (here u t h mid', None)
+  pub turned-goes : (u : PlantState) (h' : Tables) (mid' now : List Event) (a : Addition) → carry (here (started s server) t h mid) (start_from t server 0) ≡ (here u t h mid', None)
       → carry (here u t h mid') (acknowledge_on server ∷ []) ≡ (here u t h' now, None) → Done a ≡ says_acked (landed_on w0.control server)
       → after_plan w0 line (start_on w0.control server) ≡ said (here u t h' now) line (Done a)
   turned-goes u h' mid' now a is acked answers =
       starts_on ∙ plan-ends w0 line starts (here u t h' now, None) (carried _ _ is acked) ∙ ap (said (here u t h' now) line) (sym answers)
 
-pub started-already : (s : PlantState) (t : Table) (h : Writes) (ev : List Event) (line server : ℕ) → server < 8 → s.on server ≡ true
+pub started-already : (s : PlantState) (t : Table) (h : Tables) (ev : List Event) (line server : ℕ) → server < 8 → s.on server ≡ true
     → after_plan (here s t h ev) line (start_on (here s t h ev).control server) ≡ said (here s t h ev) line (Done Alone)
 started-already s t h ev line server low on =
     let k : Control = (here s t h ev).control in

@@ -50,6 +50,7 @@ use Rattle.dr_flash.specs.Checks.{is_stop}
 use Rattle.dr_flash.specs.Views.{view_seen}
 use Rattle.dr_flash.specs.Here.{refusal_of, armed_in}
 use Rattle.dr_gcopy.specs.Followed.{EndsFollowed, Follows}
+use Rattle.dr_metro.specs.Here as metro
 use Rattle.dr_metro.specs.Syncing.{end_of}
 use Rattle.dr_metro.specs.declared.sync.WriteEnd.{WriteEnd}
 use Rattle.dr_metro.specs.declared.sync.WriteEnd.TheVariants.{Landed, Held as Waits}
@@ -63,16 +64,17 @@ use Rattle.dr_top.specs.Located.{IsPlace}
 use Rattle.dr_top.proofs.LandLemmas.{exact}
 use Rattle.dr_top.proofs.LocatedLemmas.{is_volume-here, mapped_some, seen-entry}
 use Rattle.dr_metro.proofs.ToldLemmas.{IsWrite}
+use Rattle.dr_top.specs.declared.tables.Tables.{Tables}
 
 -- of a server that may be there
 pub on-known : (s : PlantState) (server : ℕ) → server < 8 → on_seen s server ≡ s.on server
 on-known s server lt = let e : nat_lt server 8 ≡ true = grind (arith, nat_tests) in ap (λ b. cond b (s.on server) true) e
 
-pub running-known : (s : PlantState) (t : Table) (h : Writes) (events : List Event) (v server : ℕ) → (volume_seen s t v).server ≡ server → server < 8 → is_running v (here s t h events).control ≡ s.on server
+pub running-known : (s : PlantState) (t : Table) (h : Tables) (events : List Event) (v server : ℕ) → (volume_seen s t v).server ≡ server → server < 8 → is_running v (here s t h events).control ≡ s.on server
 running-known s t h events v server e lt = ap (on_seen s) e ∙ on-known s server lt
 
 -- a track that isn't refused is there
-pub there-is : (s : PlantState) (t : Table) (h : Writes) (ev : List Event) (v k : ℕ) → track_refusal (here s t h ev).control v k ≡ None → (is_some (entry_of t v) ≡ true) × (k < (volume_seen s t v).tracks)
+pub there-is : (s : PlantState) (t : Table) (h : Tables) (ev : List Event) (v k : ℕ) → track_refusal (here s t h ev).control v k ≡ None → (is_some (entry_of t v) ≡ true) × (k < (volume_seen s t v).tracks)
 there-is s t h ev v k none =
     elim (is_volume (here s t h ev).control v) as (λ b. is_volume (here s t h ev).control v ≡ b → cond (not b) (Some (unknown OfVolume)) (cond (nat_lt k (volume_seen s t v).tracks) None (Some (unknown OfTrack))) ≡ None → (is_some (entry_of t v) ≡ true) × (k < (volume_seen s t v).tracks)) [
       | false ↦ λ is e. absurd (cc)
@@ -93,7 +95,7 @@ is_stopped-alike _ = refl
 pub calm-refused : (r : Refusal) (s u : PlantState) → is_stop (Some r) ≡ false → u.faults ≡ s.faults → Counts (Refused r) s u
 calm-refused r s u calm same = subst (λ b. Counted b s.faults u.faults) (sym (is_stopped-alike r ∙ calm)) same
 
-module _ (s : PlantState) (t : Table) (h : Writes) (ev : List Event) (line v k : ℕ) where
+module _ (s : PlantState) (t : Table) (h : Tables) (ev : List Event) (line v k : ℕ) where
   abbrev w : World
   w = here s t h ev
 
@@ -154,15 +156,15 @@ followed-leads s pass w u line p (Err r) last ended says =
     ∙ ap (λ (v : World). said v line (Refused r)) (follows-to s pass p.follows ended.middle u r ended.followed)
 
 -- why a write isn't issued
-module _ (s : PlantState) (t : Table) (h : Writes) (ev : List Event) (v k : ℕ) where
+module _ (s : PlantState) (t : Table) (h : Tables) (ev : List Event) (v k : ℕ) where
   abbrev full : Option Refusal
-  full = cond (nat_le most_pending (length (map seen h.pending))) (Some (over limit.Pending)) None
+  full = cond (nat_le most_pending (length (map seen h.host.pending))) (Some (over limit.Pending)) None
 
   pub issues-nowhere : (r : Refusal) → track_refusal (here s t h ev).control v k ≡ Some r → issue_refusal (here s t h ev).control v k ≡ Some r
   issues-nowhere r none = ap (λ o. option_or o full) none
 
-  pub issues-by : (o : Option Refusal) → track_refusal (here s t h ev).control v k ≡ None → o ≡ writes.issue_refusal h → issue_refusal (here s t h ev).control v k ≡ o
-  issues-by o there is = ap (λ o. option_or o full) there ∙ sym (seen-refusal h) ∙ sym is
+  pub issues-by : (o : Option Refusal) → track_refusal (here s t h ev).control v k ≡ None → o ≡ writes.issue_refusal h.host → issue_refusal (here s t h ev).control v k ≡ o
+  issues-by o there is = ap (λ o. option_or o full) there ∙ sym (seen-refusal h.host) ∙ sym is
 
 -- a fault is a refusal, or there was no memory
 pub fault-refused : (T : Type 0) (e : Fault) (o : Option Refusal) (P : Refusal → Type 0) → rules.refusal_of {T = T} (Err e) ≡ o → ((r : Refusal) → Some r ≡ o → P r) → OnRefused {T = T} (Err e) P
@@ -188,7 +190,7 @@ some-same : {T : Type 0} {x y : T} → Some x ≡ Some y → x ≡ y
 some-same {x = x} e = subst (λ o. IfSome o (λ z. x ≡ z)) e refl
 
 -- a write that was issued
-module _ (s : PlantState) (t : Table) (h h' : Writes) (ev mid : List Event) (x : HostWrite) (n : ℕ) (issued : IsIssued t h ev h' mid x n) where
+module _ (s : PlantState) (t : Table) (h h' : Tables) (ev mid : List Event) (x : HostWrite) (n : ℕ) (issued : IsIssued t h ev h' mid x n) where
   abbrev w' : World
   w' = here s t h ev
 
@@ -198,59 +200,59 @@ module _ (s : PlantState) (t : Table) (h h' : Writes) (ev mid : List Event) (x :
   abbrev bytes : List ℕ
   bytes = take x.len x.bytes
 
-  pub issued-begun : record w' { control = with_pending v x.track w'.control; events = ev ++ Issue (h.issued + 1) v x.track x.offset x.len x.bytes ∷ [] } ≡ here s t h' mid
+  pub issued-begun : record w' { control = with_pending v x.track w'.control; events = ev ++ Issue (h.host.issued + 1) v x.track x.offset x.len x.bytes ∷ [] } ≡ here s t h' mid
   issued-begun =
-      (λ i. record w' { control = record w'.control { issued = h.issued + 1; pending = sym (seen-push h.pending (h.issued + 1) v x.track x.offset bytes) i }; events = ev ++ Issue (sym issued.number i) v x.track x.offset x.len x.bytes ∷ [] })
-      ∙ (λ i. here s t (sym issued.host i) (sym issued.told i))
+      (λ i. record w' { control = record w'.control { issued = h.host.issued + 1; pending = sym (seen-push h.host.pending (h.host.issued + 1) v x.track x.offset bytes) i }; events = ev ++ Issue (sym issued.number i) v x.track x.offset x.len x.bytes ∷ [] })
+      ∙ (λ i. here s t (sym issued.tables i) (sym issued.told i))
 
   pub issued-stays : (line : ℕ) → after_plan w' line (unless (issue_refusal w'.control v x.track) (issue_done w'.control v x.track x.offset x.len x.bytes)) ≡ said (here s t h' mid) line (Done (Wrote n))
   issued-stays line =
       plan-free w' _ line (issue_done w'.control v x.track x.offset x.len x.bytes) (issue_refusal w'.control v x.track) (issued.free s) (
       plan-ends w' line (issue_done w'.control v x.track x.offset x.len x.bytes) _ (carry-none _)
-      ∙ ap (λ u. said u line (Done (Wrote (h.issued + 1)))) issued-begun ∙ ap (λ m. said (here s t h' mid) line (Done (Wrote m))) (sym issued.number))
+      ∙ ap (λ u. said u line (Done (Wrote (h.host.issued + 1)))) issued-begun ∙ ap (λ m. said (here s t h' mid) line (Done (Wrote m))) (sym issued.number))
 
   -- the write that was found is that one, and its track is there
-  is-written : (p : Pending) → find (has_number n) h'.pending ≡ Some p → written n v x.track x.offset bytes ≡ p
+  is-written : (p : Pending) → find (has_number n) h'.host.pending ≡ Some p → written n v x.track x.offset bytes ≡ p
   is-written p found = some-same (sym issued.found ∙ found)
 
-  pub issued-there : (p : Pending) → find (has_number n) h'.pending ≡ Some p → track_refusal (here s t h' mid).control p.volume.0 p.track ≡ None
+  pub issued-there : (p : Pending) → find (has_number n) h'.host.pending ≡ Some p → track_refusal (here s t h' mid).control p.volume.0 p.track ≡ None
   issued-there p found = subst (λ (p : Pending). track_refusal (here s t h' mid).control p.volume.0 p.track ≡ None) (is-written p found) (issued.there s)
 
   -- it is carried out
-  pub issued-lands : ReadsPass s → (line : ℕ) (u : World) (result : Result Said Refusal) (p : Pending) → find (has_number n) h'.pending ≡ Some p
+  pub issued-lands : ReadsPass s → (line : ℕ) (u : World) (result : Result Said Refusal) (p : Pending) → find (has_number n) h'.host.pending ≡ Some p
       → EndsFollowed (armed_in s) (here s t h' mid) (landing (here s t h' mid).control p.w.0 p.volume.0 p.track) (part_after p.volume.0) u (refusal_of result) → IfOk result (λ a. a ≡ says_written (here s t h' mid).control p.w.0 p.volume.0 p.track)
       → after_plan w' line (unless (issue_refusal w'.control v x.track) (write_done w'.control v x.track x.offset x.len x.bytes)) ≡ said u line (answered_by result)
   issued-lands pass line u result p found ended says =
-      let is : p ≡ written (h.issued + 1) v x.track x.offset bytes = sym (is-written p found) ∙ ap (λ m. written m v x.track x.offset bytes) issued.number in
+      let is : p ≡ written (h.host.issued + 1) v x.track x.offset bytes = sym (is-written p found) ∙ ap (λ m. written m v x.track x.offset bytes) issued.number in
       plan-free w' _ line (write_done w'.control v x.track x.offset x.len x.bytes) (issue_refusal w'.control v x.track) (issued.free s)
       (followed-leads s pass w' u line (write_done w'.control v x.track x.offset x.len x.bytes) result (λ k. refl)
-      (subst (λ (y : World). EndsFollowed (armed_in s) y (landing w'.control (h.issued + 1) v x.track) (part_after v) u (refusal_of result)) (sym issued-begun)
+      (subst (λ (y : World). EndsFollowed (armed_in s) y (landing w'.control (h.host.issued + 1) v x.track) (part_after v) u (refusal_of result)) (sym issued-begun)
       (subst (λ (p : Pending). EndsFollowed (armed_in s) (here s t h' mid) (landing w'.control p.w.0 p.volume.0 p.track) (part_after p.volume.0) u (refusal_of result)) is ended))
       (λ k. subst (λ (p : Pending). IfOk result (λ a. a ≡ says_written w'.control p.w.0 p.volume.0 p.track)) is says))
 
 -- the write that is applied
-module _ (s : PlantState) (t : Table) (h : Writes) (ev : List Event) (line n : ℕ) where
+module _ (s : PlantState) (t : Table) (h : Tables) (ev : List Event) (line n : ℕ) where
   abbrev w'' : World
   w'' = here s t h ev
 
-  found-by : (o : Option Pending) → find (has_number n) h.pending ≡ o → find (moves.is_write n) w''.control.pending ≡ option_map seen o
-  found-by o is = sym (seen-found n h.pending) ∙ ap (option_map seen) is
+  found-by : (o : Option Pending) → find (has_number n) h.host.pending ≡ o → find (moves.is_write n) w''.control.pending ≡ option_map seen o
+  found-by o is = sym (seen-found n h.host.pending) ∙ ap (option_map seen) is
 
-  pub applied-unknown : is_some (find (has_number n) h.pending) ≡ false → after_plan w'' line (apply_plan w''.control n) ≡ said w'' line (Refused (unknown OfWrite))
-  applied-unknown none = by (find (has_number n) h.pending) refl none
+  pub applied-unknown : is_some (find (has_number n) h.host.pending) ≡ false → after_plan w'' line (apply_plan w''.control n) ≡ said w'' line (Refused (unknown OfWrite))
+  applied-unknown none = by (find (has_number n) h.host.pending) refl none
     where
-      by : (o : Option Pending) → find (has_number n) h.pending ≡ o → is_some o ≡ false → after_plan w'' line (apply_plan w''.control n) ≡ said w'' line (Refused (unknown OfWrite))
+      by : (o : Option Pending) → find (has_number n) h.host.pending ≡ o → is_some o ≡ false → after_plan w'' line (apply_plan w''.control n) ≡ said w'' line (Refused (unknown OfWrite))
       by None is e = ap (λ o. after_plan w'' line (apply_on w''.control o)) (found-by None is) ∙ plan-refuses w'' line (unknown OfWrite)
       by (Some p) is e = absurd (cc)
 
   -- its track is there
-  pub applied-there : Sound w'' → (p : Pending) → find (has_number n) h.pending ≡ Some p → track_refusal w''.control p.volume.0 p.track ≡ None
+  pub applied-there : Sound w'' → (p : Pending) → find (has_number n) h.host.pending ≡ Some p → track_refusal w''.control p.volume.0 p.track ≡ None
   applied-there sound p is =
       let waits = found-waits w'' sound n (seen p) (found-by (Some p) is) in
       ap (λ b. cond (not b) (Some (unknown OfVolume)) (cond (nat_lt p.track (volume_seen s t p.volume.0).tracks) None (Some (unknown OfTrack)))) waits.defined
       ∙ ap (λ b. cond b None (Some (unknown OfTrack))) (lt_true p.track (volume_seen s t p.volume.0).tracks waits.low)
 
-  pub applied-lands : ReadsPass s → (u : World) (result : Result Said Refusal) (p : Pending) → find (has_number n) h.pending ≡ Some p
+  pub applied-lands : ReadsPass s → (u : World) (result : Result Said Refusal) (p : Pending) → find (has_number n) h.host.pending ≡ Some p
       → EndsFollowed (armed_in s) w'' (landing w''.control p.w.0 p.volume.0 p.track) (part_after p.volume.0) u (refusal_of result) → IfOk result (λ a. a ≡ says_written w''.control p.w.0 p.volume.0 p.track)
       → after_plan w'' line (apply_plan w''.control n) ≡ said u line (answered_by result)
   applied-lands pass u result p is ended says =
@@ -260,7 +262,7 @@ module _ (s : PlantState) (t : Table) (h : Writes) (ev : List Event) (line n : �
       (λ k. says)
 
 -- a track that isn't there stops no server
-pub calm-nowhere : (s : PlantState) (t : Table) (h : Writes) (ev : List Event) (v k : ℕ) (r : Refusal) (u : PlantState) → track_refusal (here s t h ev).control v k ≡ Some r → Counts (Refused r) u u
+pub calm-nowhere : (s : PlantState) (t : Table) (h : Tables) (ev : List Event) (v k : ℕ) (r : Refusal) (u : PlantState) → track_refusal (here s t h ev).control v k ≡ Some r → Counts (Refused r) u u
 calm-nowhere s t h ev v k r u is =
     elim (is_volume (here s t h ev).control v) as (λ b. cond (not b) (Some (unknown OfVolume)) (cond (nat_lt k (volume_seen s t v).tracks) None (Some (unknown OfTrack))) ≡ Some r → Counts (Refused r) u u) [
       | false ↦ λ e. calm-unknown OfVolume r u e
@@ -275,9 +277,9 @@ module _ (h h' : Writes) (ev mid : List Event) (n v k o l : ℕ) (b bytes : List
   abbrev new : Pending
   new = written n v k o bytes
 
-  pub issued-told : n ≡ h.issued + 1 → bytes ≡ take l b → h' ≡ with_write h v k o bytes → mid ≡ ev ++ Issue n v k o l b ∷ [] → IsSound h → IsTold h ev → IsTold h' mid
+  pub issued-told : n ≡ h.issued + 1 → bytes ≡ take l b → h' ≡ with_write h v k o bytes → mid ≡ ev ++ Issue n v k o l b ∷ [] → IsSound h → metro.IsTold h ev → metro.IsTold h' mid
   issued-told number is added told sound olds =
-      subst (λ (x : Writes). IsTold x mid) (sym (added ∙ ap (λ m. let y : Writes = record { issued = h.issued + 1; pending = h.pending ++ written m v k o bytes ∷ [] } in y) (sym number)))
+      subst (λ (x : Writes). metro.IsTold x mid) (sym (added ∙ ap (λ m. let y : Writes = record { issued = h.issued + 1; pending = h.pending ++ written m v k o bytes ∷ [] } in y) (sym number)))
       (each-push (IsWrite (histories mid).write) h.pending new (each-both h.pending olds sound.each) here-now)
     where
       table : (histories mid).write ≡ at (histories ev).write n (record { volume = v; track = k; offset = o; bytes = take l b })
@@ -300,15 +302,15 @@ pub any_plant : PlantState
 any_plant = record { count = 0; owner = λ d. 0; size = λ d. 0; block = λ d b. []; on = λ s. true; write_fuse = λ s. None; read_fuse = λ s. None; faults = 0 }
 
 -- an issue that is refused stops no server
-pub calm-issue : (s : PlantState) (t : Table) (h : Writes) (ev : List Event) (v k : ℕ) (r : Refusal) (u : PlantState) → issue_refusal (here s t h ev).control v k ≡ Some r → Counts (Refused r) u u
+pub calm-issue : (s : PlantState) (t : Table) (h : Tables) (ev : List Event) (v k : ℕ) (r : Refusal) (u : PlantState) → issue_refusal (here s t h ev).control v k ≡ Some r → Counts (Refused r) u u
 calm-issue s t h ev v k r u is = by (track_refusal (here s t h ev).control v k) refl is
   where
     full' : Bool → Option Refusal
     full' b = cond b (Some (over limit.Pending)) None
 
-    by : (o : Option Refusal) → track_refusal (here s t h ev).control v k ≡ o → option_or o (full' (nat_le most_pending (length (map seen h.pending)))) ≡ Some r → Counts (Refused r) u u
+    by : (o : Option Refusal) → track_refusal (here s t h ev).control v k ≡ o → option_or o (full' (nat_le most_pending (length (map seen h.host.pending)))) ≡ Some r → Counts (Refused r) u u
     by (Some q) there e = subst (λ o. IfSome o (λ r. Counts (Refused r) u u)) e (calm-nowhere s t h ev v k q u there)
-    by None there e = elim (nat_le most_pending (length (map seen h.pending))) as (λ b. full' b ≡ Some r → Counts (Refused r) u u) [
+    by None there e = elim (nat_le most_pending (length (map seen h.host.pending))) as (λ b. full' b ≡ Some r → Counts (Refused r) u u) [
       | true ↦ λ e. subst (λ o. IfSome o (λ r. Counts (Refused r) u u)) e refl
       | false ↦ λ e. absurd (cc)
     ] e
@@ -325,9 +327,9 @@ pub by-found : (P : Pending → Type 0) (o : Option Pending) (p : Pending) → o
 by-found P o p found is q there = subst (λ o. IfSome o P) (sym found ∙ there) is
 
 -- the journal has the write that was found
-pub pending-issue : (h : Writes) (ev : List Event) (n : ℕ) (p : Pending) (bytes : List ℕ) → IsTold h ev → find (has_number n) h.pending ≡ Some p → bytes ≡ bytes_of p
+pub pending-issue : (h : Tables) (ev : List Event) (n : ℕ) (p : Pending) (bytes : List ℕ) → IsTold h ev → find (has_number n) h.host.pending ≡ Some p → bytes ≡ bytes_of p
     → (histories ev).write n ≡ record { volume = p.volume.0; track = p.track; offset = p.offset; bytes = bytes }
 pending-issue h ev n p bs told found is =
-    let named : number p ≡ n = subst (λ o. IfSome o (λ p. number p ≡ n)) found (named-found n h.pending) in
-    let has : IsWrite (histories ev).write p = subst (λ o. IfSome o (IsWrite (histories ev).write)) found (each-found (IsWrite (histories ev).write) (has_number n) h.pending told) in
+    let named : number p ≡ n = subst (λ o. IfSome o (λ p. number p ≡ n)) found (named-found n h.host.pending) in
+    let has : IsWrite (histories ev).write p = subst (λ o. IfSome o (IsWrite (histories ev).write)) found (each-found (IsWrite (histories ev).write) (has_number n) h.host.pending told) in
     ap (histories ev).write (sym named) ∙ has ∙ ap (λ b. let x : Write = record { volume = p.volume.0; track = p.track; offset = p.offset; bytes = b } in x) (sym is)

@@ -1,5 +1,5 @@
 -- A step of a line, with its answer.
-use Rattle.std.proofs.Common.{ℕ, ◌≡◌, ◌+◌, List, [], ◌∷◌, ◌++◌, refl, ap, ◌∙◌, sym, subst, arith, Bool, true, false, ◌||◌, cond, not, nat_eq, nat_le, Ok, Err, Result, Option}
+use Rattle.std.proofs.Common.{ℕ, ◌≡◌, ◌+◌, List, [], ◌∷◌, ◌++◌, refl, ap, ◌∙◌, sym, subst, arith, Bool, true, false, ◌||◌, cond, not, nat_le, Ok, Err, Result, Option}
 use Rattle.std.specs.Prelude.{OnOk, OnErr}
 use Rattle.std.specs.List.{list_any}
 use Rattle.std.proofs.lemmas.List.{same_from_push}
@@ -23,14 +23,15 @@ use Rattle.dr_top.specs.Forms.{is_plain, is_relation}
 use Rattle.dr_model.specs.Answers.{answer}
 use Rattle.dr_model.specs.Control.{World}
 use Rattle.dr_model.specs.Plans.{refuses, plan_of, is_built, has_room}
-use Rattle.dr_model.specs.Runs.{Task, after_plan, after_task, said}
+use Rattle.dr_model.specs.Runs.{Task, after_plan, after_task, masters_lost, said}
 use Rattle.dr_model.proofs.CarryLemmas.{plan-refuses}
 use Rattle.dr_laws.proofs.Journal.{EndsAnswered, after_task-ends, is_answer, Silent}
-use Rattle.dr_host.specs.Writes.{Writes}
+use Rattle.dr_top.specs.declared.tables.Tables.{Tables}
 use Rattle.dr_plant.specs.State.{PlantState}
 use Rattle.dr_config.specs.Table.{Table}
 use Rattle.dr_top.specs.Faults.{Counted, is_stop, told_stop, is_stopped}
 use Rattle.dr_top.specs.Here.{here, IsTold}
+use Rattle.dr_top.proofs.LossLemmas.{masters-stay}
 use Rattle.dr_top.proofs.ReachLemmas.{told-answer}
 
 -- a step of another form is none of those on servers, volumes, paths and host writes, and no freeze or thaw
@@ -175,23 +176,27 @@ module _ (w : World) (number : ℕ) (step : Step) where
   task = record { line = number; asked = Ok step }
 
   by-tests : (built room : Bool) → is_built step ≡ built → has_room w.events ≡ room
-      → after_task w task ≡ after_plan w number (cond (not built) (refuses NotBuilt) (cond room (plan_of w.control w.events number step) (refuses JournalFull)))
-  by-tests built room is left = λ i. after_plan w number (cond (not (is i)) (refuses NotBuilt) (cond (left i) (plan_of w.control w.events number step) (refuses JournalFull)))
+      → after_task w task ≡ masters_lost w (after_plan w number (cond (not built) (refuses NotBuilt) (cond room (plan_of w.control w.events number step) (refuses JournalFull))))
+  by-tests built room is left = λ i. masters_lost w (after_plan w number (cond (not (is i)) (refuses NotBuilt) (cond (left i) (plan_of w.control w.events number step) (refuses JournalFull))))
+
+  -- a step that is refused before it begins
+  refused-first : (r : Refusal) → masters_lost w (after_plan w number (refuses r)) ≡ said w number (Refused r)
+  refused-first r = ap (masters_lost w) (plan-refuses w number r) ∙ masters-stay w (said w number (Refused r)) refl
 
   pub task-unbuilt : is_built step ≡ false → after_task w task ≡ said w number (Refused NotBuilt)
-  task-unbuilt is = by-tests false (has_room w.events) is refl ∙ plan-refuses w number NotBuilt
+  task-unbuilt is = by-tests false (has_room w.events) is refl ∙ refused-first NotBuilt
 
   pub task-full : is_built step ≡ true → has_room w.events ≡ false → after_task w task ≡ said w number (Refused JournalFull)
-  task-full is full = by-tests true false is full ∙ plan-refuses w number JournalFull
+  task-full is full = by-tests true false is full ∙ refused-first JournalFull
 
-  pub task-built : (u : World) (a : Said) → is_built step ≡ true → has_room w.events ≡ true → after_plan w number (plan_of w.control w.events number step) ≡ said u number a → after_task w task ≡ said u number a
-  task-built u a is room leads = by-tests true true is room ∙ leads
+  pub task-built : (u : World) → is_built step ≡ true → has_room w.events ≡ true → after_plan w number (plan_of w.control w.events number step) ≡ u → after_task w task ≡ masters_lost w u
+  task-built u is room leads = by-tests true true is room ∙ ap (masters_lost w) leads
 
   -- the journal before the answer tells no answer more
   ends : EndsAnswered w number (after_task w task)
   ends = after_task-ends w task
 
-  pub told-step : (u : World) (a : Said) → after_task w task ≡ said u number a → told_stop (u.events ++ answer number a ∷ []) ≡ (told_stop w.events || is_stopped a)
+  pub told-step : (u : World) (a : Said) → after_task w task ≡ masters_lost w (said u number a) → told_stop (u.events ++ answer number a ∷ []) ≡ (told_stop w.events || is_stopped a)
   told-step u a is =
       let whole : (w.events ++ ends.before) ++ answer number ends.says ∷ [] ≡ u.events ++ answer number a ∷ [] = sym ends.events ∙ ap (λ (x : World). x.events) is in
       let front : w.events ++ ends.before ≡ u.events = (same_from_push (w.events ++ ends.before) u.events (answer number ends.says) (answer number a) whole).0 in
@@ -200,7 +205,7 @@ module _ (w : World) (number : ℕ) (step : Step) where
       ∙ ap (λ b. b || list_any is_stop (answer number a ∷ [])) (list_any-append is_stop w.events ends.before ∙ ap (λ b. told_stop w.events || b) (none-silent ends.before ends.silent) ∙ or_no (told_stop w.events))
       ∙ ap (λ b. told_stop w.events || b) (answer-stop number a)
 
-  pub faults-step : (u : World) (a : Said) (now : List Event) (f x y : ℕ) → after_task w task ≡ said u number a → now ≡ u.events ++ answer number a ∷ [] → Counted (is_stopped a) x y
+  pub faults-step : (u : World) (a : Said) (now : List Event) (f x y : ℕ) → after_task w task ≡ masters_lost w (said u number a) → now ≡ u.events ++ answer number a ∷ [] → Counted (is_stopped a) x y
       → Counted (told_stop w.events) f x → Counted (told_stop now) f y
   faults-step u a now f x y is told counts before =
       subst (λ b. Counted b f y) (sym (ap told_stop told ∙ told-step u a is)) (counts-more (told_stop w.events) (is_stopped a) f x y before counts)
@@ -210,12 +215,12 @@ Says number refusal events now = now ≡ events ++ answer number (Refused refusa
 
 -- a step that was refused before it began, or for whose answer there was no memory
 module _ {E : Type 0} (number : ℕ) (refusal : Refusal) (events now : List Event) where
-  pub refused-task : (r : Result (Unit {0}) E) (s : PlantState) (t : Table) (h : Writes) (step : Step) → after_task (here s t h events) (task (here s t h events) number step) ≡ said (here s t h events) number (Refused refusal)
+  pub refused-task : (r : Result (Unit {0}) E) (s : PlantState) (t : Table) (h : Tables) (step : Step) → after_task (here s t h events) (task (here s t h events) number step) ≡ said (here s t h events) number (Refused refusal)
       → OnOk r (Says number refusal events now) → OnOk r (after_task (here s t h events) (task (here s t h events) number step) ≡ here s t h now)
   refused-task (Ok x) s t h step is told = is ∙ ap (here s t h) (sym told)
   refused-task (Err e) s t h step is told = tt
 
-  pub refused-told : (r : Result (Unit {0}) E) (h : Writes) → OnOk r (Says number refusal events now) → OnErr r (now ≡ events) → IsTold h events → IsTold h now
+  pub refused-told : (r : Result (Unit {0}) E) (h : Tables) → OnOk r (Says number refusal events now) → OnErr r (now ≡ events) → IsTold h events → IsTold h now
   refused-told (Ok x) h told same is = told-answer h events now number (Refused refusal) told is
   refused-told (Err e) h told same is = subst (IsTold h) (sym same) is
 

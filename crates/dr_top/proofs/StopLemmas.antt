@@ -25,16 +25,16 @@ use Rattle.dr_volume.proofs.WorldLaws.{on-at, on-seen, fuses-at, fuse-seen}
 use Rattle.std.proofs.lemmas.Bool.Decides.{eqb_tells}
 use Rattle.dr_model.proofs.Images.{at_same, at_other}
 use Rattle.dr_volume.specs.View.{volume_seen, ReadsPass}
-use Rattle.dr_metro.specs.Here.{here}
+use Rattle.dr_top.specs.Here.{here}
 use Rattle.dr_flash.specs.Here.{IsAtRest}
-use Rattle.dr_host.specs.Writes.{Writes}
+use Rattle.dr_top.specs.declared.tables.Tables.{Tables}
 
 -- a fuse that stands at 0 goes when its server starts
 started-fuse : (f : Option WriteFuse) → fuse_seen (started_write f) ≡ fuse_at_start (fuse_seen f)
 started-fuse None = refl
 started-fuse (Some f) = elim (nat_eq f.after 0) as (λ b. fuse_seen (cond (cond b false true) (Some f) None) ≡ cond b None (fuse_seen (Some f))) [ true ↦ refl | false ↦ refl ]
 
-module _ (s : PlantState) (t : Table) (h : Writes) (ev : List Event) (line : ℕ) where
+module _ (s : PlantState) (t : Table) (h : Tables) (ev : List Event) (line : ℕ) where
   abbrev w : World
   w = here s t h ev
 

@@ -32,17 +32,17 @@ use Rattle.dr_top.specs.Faults.{Counted, told_stop}
 use Rattle.dr_top.specs.Outcome.{HasDevices, IsRun, Ran}
 use Rattle.dr_top.proofs.ReachLemmas.{reached-sound}
 use Rattle.dr_top.specs.declared.status.Status.{Status}
-use Rattle.dr_host.specs.Writes.{Writes}
 use Rattle.dr_top.proofs.LocatedLemmas.{is_volume-here, device-here, some_entry}
 use Rattle.dr_top.proofs.StepLemmas.{on-known}
+use Rattle.dr_top.specs.declared.tables.Tables.{Tables}
 
 -- before the first step
 module _ (s : PlantState) (fresh : IsFresh s) where
   abbrev pub empty_table : Table
   empty_table = record { names = []; volumes = []; down = none_down; paths = [] }
 
-  abbrev pub idle : Writes
-  idle = record { issued = 0; pending = [] }
+  abbrev pub idle : Tables
+  idle = record { host = record { issued = 0; pending = [] }; sessions = record { sessions = []; room = true } }
 
   on-fresh : (k : ℕ) (b : Bool) → nat_lt k 8 ≡ b → cond b (s.on k) true ≡ true
   on-fresh k true h = fresh.all_on k (grind (arith, nat_tests, h))
@@ -63,7 +63,7 @@ module _ (s : PlantState) (fresh : IsFresh s) where
   }
 
 -- the plant fits the machine's state that it shows
-module _ (s : PlantState) (t : Table) (h : Writes) (ev : List Event) (sound : IsSound t) where
+module _ (s : PlantState) (t : Table) (h : Tables) (ev : List Event) (sound : IsSound t) where
   mapped : (o : Option VolumeEntry) (v : ℕ) → option_map (λ (e : VolumeEntry). e.id) o ≡ Some v → (e : VolumeEntry) × (o ≡ Some e) × (e.id ≡ v)
   mapped None v h = cc
   mapped (Some e) v h = (e, refl, cc)
@@ -104,7 +104,7 @@ module _ (s : PlantState) (t : Table) (h : Writes) (ev : List Event) (sound : Is
       (subst (λ x. SaysVolume (s.block l.0) x) (sym (volume-placed s t v l.0 l.1 l.2 l.3)) (record { slot = refl; fields = refl; staged = refl })))
       tracks-here
 
-module _ (s : PlantState) (t : Table) (h : Writes) (ev : List Event) (sound : IsSound t) (stands : StandsFor t s) where
+module _ (s : PlantState) (t : Table) (h : Tables) (ev : List Event) (sound : IsSound t) (stands : StandsFor t s) where
   pub devices-here : HasDevices (here s t h ev) s
   devices-here = record {
     count = stands.count ∙ sym (length-map t.volumes (λ (e : VolumeEntry). e.id));
@@ -114,7 +114,7 @@ module _ (s : PlantState) (t : Table) (h : Writes) (ev : List Event) (sound : Is
 
 -- a run that led to what the plant shows
 module _ {S K : Type 0} (left : S → Option (List ℕ)) (written : K → Option (List ℕ)) (source source' : S) (sink sink' : K) (read_faults : S → ℕ) (write_faults : K → ℕ) where
-  pub is-run : (status : Status) (s0 s : PlantState) (t : Table) (h : Writes) (ev : List Event) → IsSound t → IsReady s t h ev → Reached (here s t h ev) → length ev ≤ most_events
+  pub is-run : (status : Status) (s0 s : PlantState) (t : Table) (h : Tables) (ev : List Event) → IsSound t → IsReady s t h ev → Reached (here s t h ev) → length ev ≤ most_events
       → Counted (told_stop ev) s0.faults s.faults → Ran left written source source' sink sink' read_faults write_faults status (here s t h ev)
       → IsRun left written source source' sink sink' read_faults write_faults status ev s0 s
   is-run status s0 s t h ev sound ready reached room stops ran = record {

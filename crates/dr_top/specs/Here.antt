@@ -1,8 +1,11 @@
--- How a call leads on from the machine's state that a run of the program has reached.
-use Rattle.std.specs.Prelude.{◌≡◌, ℕ, Result, Ok, Err}
+-- The machine's state that a run of the program has reached, and how a call leads on from there.
+use Rattle.std.specs.Prelude.{◌≡◌, ℕ, List, Result, Ok, Err}
 use Rattle.dr_ids.specs.declared.refusal.Fault.{Fault}
 use Rattle.dr_ids.specs.declared.refusal.Fault.TheVariants.{NoMemory, Refused as FaultRefused}
 use Rattle.dr_ids.specs.declared.refusal.Refusal.{Refusal}
+use Rattle.dr_plant.specs.State.{PlantState}
+use Rattle.dr_config.specs.Table.{Table}
+use Rattle.dr_model.specs.declared.event.Event.{Event}
 use Rattle.dr_model.specs.declared.said.Addition.{Addition}
 use Rattle.dr_model.specs.declared.said.Said.{Said}
 use Rattle.dr_model.specs.declared.said.Said.TheVariants.{Done, Refused}
@@ -10,7 +13,25 @@ use Rattle.dr_model.specs.declared.step.Step.{Step}
 use Rattle.dr_model.specs.Control.{World}
 use Rattle.dr_model.specs.Plans.{plan_of}
 use Rattle.dr_model.specs.Runs.{after_plan, said}
-pub use Rattle.dr_metro.specs.Here.{rest_of, here, IsTold, IsReady}
+use Rattle.dr_volume.specs.View.{Rest, world}
+use Rattle.dr_metro.specs.Here as metro
+use Rattle.dr_top.specs.declared.tables.Tables.{Tables}
+
+-- what the tables and the journal show
+abbrev pub rest_of : Tables → List Event → Rest
+rest_of h events = metro.rest_of h.sessions.sessions h.host events
+
+-- the state that plant, configuration, tables and journal show
+abbrev pub here : PlantState → Table → Tables → List Event → World
+here s t h events = world s t (rest_of h events)
+
+-- each pending write is the one that the journal tells of
+abbrev pub IsTold : Tables → List Event → Type 0
+IsTold h events = metro.IsTold h.host events
+
+-- no read fuse is armed, and the host's pending writes are those of the journal
+abbrev pub IsReady : PlantState → Table → Tables → List Event → Type 0
+IsReady s t h events = metro.IsReady s t h.host events
 
 -- what is answered by the end of a call
 abbrev pub said_of : Result Addition Refusal → Said

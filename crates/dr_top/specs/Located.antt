@@ -6,7 +6,7 @@ use Rattle.dr_volume.specs.View.{volume_seen}
 use Rattle.dr_ids.specs.declared.refusal.Refusal.{Refusal}
 use Rattle.dr_model.specs.Plans.{track_refusal}
 use Rattle.dr_top.specs.Here.{here}
-use Rattle.dr_host.specs.Writes.{Writes}
+use Rattle.dr_top.specs.declared.tables.Tables.{Tables}
 use Rattle.dr_top.specs.declared.locate.Place.{Place}
 use Rattle.dr_model.specs.declared.event.Event.{Event}
 
@@ -20,5 +20,5 @@ pub record IsPlace (s : PlantState) (t : Table) (v k : ℕ) (p : Place) : Type 0
 
 -- a track is located exactly where the machine has it, and else it says why not
 abbrev pub Located : Table → ℕ → ℕ → Result Place Refusal → Type 0
-Located t v k (Ok p) = (s : PlantState) (h : Writes) (events : List Event) → (track_refusal (here s t h events).control v k ≡ None) × IsPlace s t v k p
-Located t v k (Err r) = (s : PlantState) (h : Writes) (events : List Event) → track_refusal (here s t h events).control v k ≡ Some r
+Located t v k (Ok p) = (s : PlantState) (h : Tables) (events : List Event) → (track_refusal (here s t h events).control v k ≡ None) × IsPlace s t v k p
+Located t v k (Err r) = (s : PlantState) (h : Tables) (events : List Event) → track_refusal (here s t h events).control v k ≡ Some r

@@ -16,17 +16,16 @@ ghost use Rattle.dr_model.specs.Runs.{after_plan, said};
 ghost use Rattle.dr_model.specs.Refusals.{stopped};
 ghost use Rattle.dr_volume.specs.Plain.{plain};
 ghost use Rattle.dr_volume.specs.View.{volume_seen, ids_of};
-ghost use Rattle.dr_host.specs.Writes.{Writes};
+ghost use Rattle.dr_top.specs.declared.tables.Tables.{Tables};
 ghost use Rattle.dr_flash.specs.Checks.{is_stop};
 ghost use Rattle.dr_flash.specs.Fit.{RelationsFit};
 ghost use Rattle.dr_flash.specs.Here.{refusal_of};
 ghost use Rattle.dr_top.specs.Faults.{Counted, Counts};
-ghost use Rattle.dr_metro.specs.Here.{here, IsReady};
-ghost use Rattle.dr_top.specs.Here.{said_of};
+ghost use Rattle.dr_top.specs.Here.{said_of, here, IsReady};
 
+use crate::tables::Tables;
 use dr_config::Config;
 use dr_flash::{copy_step, is_quiet, pair_state, relation_state, rest, tracks_of};
-use dr_host::Host;
 use dr_ids::{Kind, Refusal, VolumeId};
 use dr_incr::reverse_step;
 use dr_model::{Addition, Journal};
@@ -70,21 +69,21 @@ fn at_most(most: Option<u32>, left: u16) -> u16
 fn fetch_tracks<P: Plant>(
     plant: &mut P,
     config: &Config,
-    host: &Host,
+    tables: &Tables,
     journal: &mut Journal,
     t: VolumeId,
     count: u16,
 ) -> Result<(), Refusal>
-    requires ready { IsReady (P.state plant.old) config.now host.now journal.old.events }
+    requires ready { IsReady (P.state plant.old) config.now tables.now journal.old.events }
     requires fit { RelationsFit (P.state plant.old) config.now }
     requires defined { IsSome (place_of config.now t.0) }
     requires running { (P.state plant.old).on (volume_seen (P.state plant.old) config.now t.0).server ≡ true }
     requires room { count + 3 ≤ journal.old.spare }
-    ensures carried { carry (here (P.state plant.old) config.now host.now journal.old.events) (times count (fetch_next t.0 ∷ []))
-        ≡ (here (P.state plant.new) config.now host.now journal.new.events, refusal_of result) }
+    ensures carried { carry (here (P.state plant.old) config.now tables.now journal.old.events) (times count (fetch_next t.0 ∷ []))
+        ≡ (here (P.state plant.new) config.now tables.now journal.new.events, refusal_of result) }
     ensures refused { OnErr result (refusal_of result ≡ Some (stopped (volume_seen (P.state plant.old) config.now t.0).server)) }
     ensures faults { Counted (is_err result) (P.state plant.old).faults (P.state plant.new).faults }
-    ensures ready { IsReady (P.state plant.new) config.now host.now journal.new.events }
+    ensures ready { IsReady (P.state plant.new) config.now tables.now journal.new.events }
     ensures room { 1 ≤ journal.new.spare }
 {
     for _ in 0..count {
@@ -97,25 +96,25 @@ fn fetch_tracks<P: Plant>(
 fn restore_tracks<P: Plant>(
     plant: &mut P,
     config: &Config,
-    host: &Host,
+    tables: &Tables,
     journal: &mut Journal,
     t: VolumeId,
     count: u16,
 ) -> Result<(), Refusal>
-    requires ready { IsReady (P.state plant.old) config.now host.now journal.old.events }
-    requires sound { Sound (here (P.state plant.old) config.now host.now journal.old.events) }
+    requires ready { IsReady (P.state plant.old) config.now tables.now journal.old.events }
+    requires sound { Sound (here (P.state plant.old) config.now tables.now journal.old.events) }
     requires defined { IsSome (place_of config.now t.0) }
     requires running { (P.state plant.old).on (volume_seen (P.state plant.old) config.now t.0).server ≡ true }
     requires reversing { (volume_seen (P.state plant.old) config.now t.0).fields.reversing ≡ true }
     requires few { length config.now.volumes ≤ 64 }
     requires count { count ≤ 256 }
     requires room { 4096 ≤ journal.old.spare }
-    ensures carried { carry (here (P.state plant.old) config.now host.now journal.old.events)
+    ensures carried { carry (here (P.state plant.old) config.now tables.now journal.old.events)
         (times count (give_back (ids_of config.now.volumes) (volume_seen (P.state plant.old) config.now t.0).fields.source t.0))
-        ≡ (here (P.state plant.new) config.now host.now journal.new.events, refusal_of result) }
+        ≡ (here (P.state plant.new) config.now tables.now journal.new.events, refusal_of result) }
     ensures refused { OnErr result (refusal_of result ≡ Some (stopped (volume_seen (P.state plant.old) config.now t.0).server)) }
     ensures faults { Counted (is_err result) (P.state plant.old).faults (P.state plant.new).faults }
-    ensures ready { IsReady (P.state plant.new) config.now host.now journal.new.events }
+    ensures ready { IsReady (P.state plant.new) config.now tables.now journal.new.events }
     ensures room { 1 ≤ journal.new.spare }
 {
     for _ in 0..count {
@@ -128,32 +127,32 @@ fn restore_tracks<P: Plant>(
 fn copy_tracks<P: Plant>(
     plant: &mut P,
     config: &Config,
-    host: &Host,
+    tables: &Tables,
     journal: &mut Journal,
     t: VolumeId,
     reversing: bool,
     count: u16,
 ) -> Result<(), Refusal>
-    requires ready { IsReady (P.state plant.old) config.now host.now journal.old.events }
-    requires sound { Sound (here (P.state plant.old) config.now host.now journal.old.events) }
+    requires ready { IsReady (P.state plant.old) config.now tables.now journal.old.events }
+    requires sound { Sound (here (P.state plant.old) config.now tables.now journal.old.events) }
     requires defined { IsSome (place_of config.now t.0) }
     requires running { (P.state plant.old).on (volume_seen (P.state plant.old) config.now t.0).server ≡ true }
     requires reversing { reversing ≡ (volume_seen (P.state plant.old) config.now t.0).fields.reversing }
     requires few { length config.now.volumes ≤ 64 }
     requires count { count ≤ 256 }
     requires room { 4096 ≤ journal.old.spare }
-    ensures carried { carry (here (P.state plant.old) config.now host.now journal.old.events)
-        (times count (plans.copy_one (here (P.state plant.old) config.now host.now journal.old.events).control t.0))
-        ≡ (here (P.state plant.new) config.now host.now journal.new.events, refusal_of result) }
+    ensures carried { carry (here (P.state plant.old) config.now tables.now journal.old.events)
+        (times count (plans.copy_one (here (P.state plant.old) config.now tables.now journal.old.events).control t.0))
+        ≡ (here (P.state plant.new) config.now tables.now journal.new.events, refusal_of result) }
     ensures refused { OnErr result (refusal_of result ≡ Some (stopped (volume_seen (P.state plant.old) config.now t.0).server)) }
     ensures faults { Counted (is_err result) (P.state plant.old).faults (P.state plant.new).faults }
-    ensures ready { IsReady (P.state plant.new) config.now host.now journal.new.events }
+    ensures ready { IsReady (P.state plant.new) config.now tables.now journal.new.events }
     ensures room { 1 ≤ journal.new.spare }
 {
     if reversing {
-        restore_tracks(plant, config, host, journal, t, count)
+        restore_tracks(plant, config, tables, journal, t, count)
     } else {
-        fetch_tracks(plant, config, host, journal, t, count)
+        fetch_tracks(plant, config, tables, journal, t, count)
     }
 }
 
@@ -170,7 +169,7 @@ fn may_take(reversing: bool, source: &Fields) -> bool
 fn source_refusal<P: Plant>(plant: &P, config: &Config, f: &Fields) -> Option<Refusal>
     requires stands { StandsFor config.now (P.state plant.now) }
     requires source { IsSome (place_of config.now f.now.source.0) }
-    ensures refusal { (h : Writes) (events : List Event) → result ≡ (if not f.now.reversing || takes_back f.now.source.0 (here (P.state plant.now) config.now h events).control then None
+    ensures refusal { (h : Tables) (events : List Event) → result ≡ (if not f.now.reversing || takes_back f.now.source.0 (here (P.state plant.now) config.now h events).control then None
         else Some (pair_state (here (P.state plant.now) config.now h events).control f.now.source.0)) }
     ensures calm { is_stop result ≡ false }
 {
@@ -185,20 +184,20 @@ fn source_refusal<P: Plant>(plant: &P, config: &Config, f: &Fields) -> Option<Re
 pub fn copy<P: Plant>(
     plant: &mut P,
     config: &Config,
-    host: &Host,
+    tables: &Tables,
     journal: &mut Journal,
     t: VolumeId,
     most: Option<u32>,
 ) -> Result<Addition, Refusal>
-    requires ready { IsReady (P.state plant.old) config.now host.now journal.old.events }
-    requires sound { Sound (here (P.state plant.old) config.now host.now journal.old.events) }
+    requires ready { IsReady (P.state plant.old) config.now tables.now journal.old.events }
+    requires sound { Sound (here (P.state plant.old) config.now tables.now journal.old.events) }
     requires few { length config.now.volumes ≤ 64 }
     requires room { 4096 ≤ journal.old.spare }
-    ensures step { (line : ℕ) → after_plan (here (P.state plant.old) config.now host.now journal.old.events) line
-        (plans.copy_plan (here (P.state plant.old) config.now host.now journal.old.events).control t.0 most)
-        ≡ said (here (P.state plant.new) config.now host.now journal.new.events) line (said_of result) }
+    ensures step { (line : ℕ) → after_plan (here (P.state plant.old) config.now tables.now journal.old.events) line
+        (plans.copy_plan (here (P.state plant.old) config.now tables.now journal.old.events).control t.0 most)
+        ≡ said (here (P.state plant.new) config.now tables.now journal.new.events) line (said_of result) }
     ensures faults { Counts (said_of result) (P.state plant.old) (P.state plant.new) }
-    ensures ready { IsReady (P.state plant.new) config.now host.now journal.new.events }
+    ensures ready { IsReady (P.state plant.new) config.now tables.now journal.new.events }
     ensures room { 1 ≤ journal.new.spare }
 {
     let Some(server) = config.server_of(t) else {
@@ -215,7 +214,7 @@ pub fn copy<P: Plant>(
         return Err(why);
     }
     let count = at_most(most, left_to_copy(tracks_of(config, t), &fields));
-    match copy_tracks(plant, config, host, journal, t, fields.reversing, count) {
+    match copy_tracks(plant, config, tables, journal, t, fields.reversing, count) {
         Ok(()) => Ok(Addition::Counted {
             tracks: u32::from(count),
         }),

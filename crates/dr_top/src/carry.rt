@@ -12,12 +12,12 @@ ghost use Rattle.dr_model.specs.LineText.{IsWritten};
 ghost use Rattle.dr_model.specs.Runs.{after_task};
 ghost use Rattle.dr_top.specs.Carried.{Reached, GoesTo};
 ghost use Rattle.dr_top.specs.Faults.{Counted, told_stop};
-ghost use Rattle.dr_host.specs.Writes.{Writes};
+ghost use Rattle.dr_top.specs.declared.tables.Tables.{Tables};
 ghost use Rattle.dr_top.specs.Here.{here, IsTold, IsReady};
 
+use crate::tables::Tables;
 use crate::task::{MOST_EVENTS, carry_task, refuse_syntax};
 use dr_config::Config;
-use dr_host::Host;
 use dr_ids::{Fault, Refusal};
 use dr_model::Journal;
 use dr_plant::Plant;
@@ -44,18 +44,18 @@ fn is_full(journal: &Journal) -> bool
 fn carry_steps<P: Plant>(
     plant: &mut P,
     config: &mut Config,
-    host: &mut Host,
+    tables: &mut Tables,
     journal: &mut Journal,
     number: u32,
     line: &Line,
 ) -> Result<(), Bar>
-    requires ready { IsReady (P.state plant.old) config.old host.old journal.old.events }
-    requires reached { Reached (here (P.state plant.old) config.old host.old journal.old.events) }
+    requires ready { IsReady (P.state plant.old) config.old tables.old journal.old.events }
+    requires reached { Reached (here (P.state plant.old) config.old tables.old journal.old.events) }
     requires written { All IsWritten line.now }
     requires room { length journal.old.events ≤ most_events }
-    ensures goes { GoesTo (here (P.state plant.old) config.old host.old journal.old.events) (tasks_read number (Ok line.now))
-        (here (P.state plant.new) config.new host.new journal.new.events) result }
-    ensures ready { IsReady (P.state plant.new) config.new host.new journal.new.events }
+    ensures goes { GoesTo (here (P.state plant.old) config.old tables.old journal.old.events) (tasks_read number (Ok line.now))
+        (here (P.state plant.new) config.new tables.new journal.new.events) result }
+    ensures ready { IsReady (P.state plant.new) config.new tables.new journal.new.events }
     ensures faults { (f : ℕ) → Counted (told_stop journal.old.events) f (P.state plant.old).faults → Counted (told_stop journal.new.events) f (P.state plant.new).faults }
     ensures room { length journal.new.events ≤ most_events }
 {
@@ -64,7 +64,7 @@ fn carry_steps<P: Plant>(
             return Err(Bar::Full);
         }
         let step = line.step(i).unwrap();
-        let Ok(()) = carry_task(plant, config, host, journal, number, step) else {
+        let Ok(()) = carry_task(plant, config, tables, journal, number, step) else {
             return Err(Bar::NoMemory);
         };
     }
@@ -76,7 +76,7 @@ fn carry_fault(journal: &mut Journal, number: u32, column: u16) -> Result<(), Ba
     requires room { length journal.old.events ≤ most_events }
     ensures goes { (w : World) → w.events ≡ journal.old.events → GoesTo w (tasks_read number (Err column)) (record w { events = journal.new.events }) result }
     ensures stops { told_stop journal.new.events ≡ told_stop journal.old.events }
-    ensures told { (h : Writes) → IsTold h journal.old.events → IsTold h journal.new.events }
+    ensures told { (h : Tables) → IsTold h journal.old.events → IsTold h journal.new.events }
     ensures room { length journal.new.events ≤ most_events }
 {
     if is_full(journal) {
@@ -93,22 +93,22 @@ pub fn carry_line<P: Plant>(
     alloc: Global,
     plant: &mut P,
     config: &mut Config,
-    host: &mut Host,
+    tables: &mut Tables,
     journal: &mut Journal,
     number: u32,
     line: &[u8],
 ) -> Result<(), Bar>
-    requires ready { IsReady (P.state plant.old) config.old host.old journal.old.events }
-    requires reached { Reached (here (P.state plant.old) config.old host.old journal.old.events) }
+    requires ready { IsReady (P.state plant.old) config.old tables.old journal.old.events }
+    requires reached { Reached (here (P.state plant.old) config.old tables.old journal.old.events) }
     requires room { length journal.old.events ≤ most_events }
-    ensures goes { GoesTo (here (P.state plant.old) config.old host.old journal.old.events) (tasks_of number line.now)
-        (here (P.state plant.new) config.new host.new journal.new.events) result }
-    ensures ready { IsReady (P.state plant.new) config.new host.new journal.new.events }
+    ensures goes { GoesTo (here (P.state plant.old) config.old tables.old journal.old.events) (tasks_of number line.now)
+        (here (P.state plant.new) config.new tables.new journal.new.events) result }
+    ensures ready { IsReady (P.state plant.new) config.new tables.new journal.new.events }
     ensures faults { (f : ℕ) → Counted (told_stop journal.old.events) f (P.state plant.old).faults → Counted (told_stop journal.new.events) f (P.state plant.new).faults }
     ensures room { length journal.new.events ≤ most_events }
 {
     match read_line(alloc, line) {
-        Ok(steps) => carry_steps(plant, config, host, journal, number, &steps),
+        Ok(steps) => carry_steps(plant, config, tables, journal, number, &steps),
         Err(Fault::Refused(Refusal::Syntax { column })) => carry_fault(journal, number, column),
         Err(_) => Err(Bar::NoMemory),
     }

@@ -8,8 +8,8 @@ ghost use Rattle.dr_model.specs.declared.step.Step.{Step};
 ghost use Rattle.dr_top.specs.Faults.{Counts};
 ghost use Rattle.dr_top.specs.Here.{here, said_of, OnAnswer, OnNoMemory, Leads, IsReady};
 
+use crate::tables::Tables;
 use dr_config::Config;
-use dr_host::Host;
 use dr_ids::{Fault, Kind, Refusal, VolumeId};
 use dr_model::{Addition, Event, Journal, Name};
 use dr_plant::Plant;
@@ -34,20 +34,20 @@ pub fn unknown_server() -> Refusal
 pub fn define_server<P: Plant>(
     plant: &P,
     config: &mut Config,
-    host: &Host,
+    tables: &Tables,
     journal: &mut Journal,
     name: &Name,
 ) -> Result<Addition, Fault>
-    requires ready { IsReady (P.state plant.now) config.old host.now journal.old.events }
+    requires ready { IsReady (P.state plant.now) config.old tables.now journal.old.events }
     requires some { 1 ≤ name.now.len }
     requires short { name.now.len ≤ 24 }
     requires room { 2 ≤ journal.old.spare }
-    ensures step { OnAnswer result (λ a. (line : ℕ) → Leads (here (P.state plant.now) config.old host.now journal.old.events) line (Step.Server name.now)
-        (here (P.state plant.now) config.new host.now journal.new.events) a) }
+    ensures step { OnAnswer result (λ a. (line : ℕ) → Leads (here (P.state plant.now) config.old tables.now journal.old.events) line (Step.Server name.now)
+        (here (P.state plant.now) config.new tables.now journal.new.events) a) }
     ensures faults { OnAnswer result (λ a. Counts a (P.state plant.now) (P.state plant.now)) }
     ensures same { OnNoMemory result (config.new ≡ config.old) }
     ensures untold { OnNoMemory result (journal.new.events ≡ journal.old.events) }
-    ensures ready { IsReady (P.state plant.now) config.new host.now journal.new.events }
+    ensures ready { IsReady (P.state plant.now) config.new tables.now journal.new.events }
     ensures room { 1 ≤ journal.new.spare }
 {
     match config.add_server(bytes_of(name)) {
@@ -76,22 +76,22 @@ fn capped(tracks: u32) -> u16
 pub fn define_volume<P: Plant>(
     plant: &mut P,
     config: &mut Config,
-    host: &Host,
+    tables: &Tables,
     journal: &mut Journal,
     volume: VolumeId,
     name: &Name,
     tracks: u32,
 ) -> Result<Addition, Fault>
-    requires ready { IsReady (P.state plant.old) config.old host.now journal.old.events }
+    requires ready { IsReady (P.state plant.old) config.old tables.now journal.old.events }
     requires short { name.now.len ≤ 24 }
     requires room { 2 ≤ journal.old.spare }
-    ensures step { OnAnswer result (λ a. (line : ℕ) → Leads (here (P.state plant.old) config.old host.now journal.old.events) line (Step.Volume volume.0 name.now tracks)
-        (here (P.state plant.new) config.new host.now journal.new.events) a) }
+    ensures step { OnAnswer result (λ a. (line : ℕ) → Leads (here (P.state plant.old) config.old tables.now journal.old.events) line (Step.Volume volume.0 name.now tracks)
+        (here (P.state plant.new) config.new tables.now journal.new.events) a) }
     ensures faults { OnAnswer result (λ a. Counts a (P.state plant.old) (P.state plant.new)) }
     ensures same { OnNoMemory result (config.new ≡ config.old) }
     ensures same_plant { OnNoMemory result (P.state plant.new ≡ P.state plant.old) }
     ensures untold { OnNoMemory result (journal.new.events ≡ journal.old.events) }
-    ensures ready { IsReady (P.state plant.new) config.new host.now journal.new.events }
+    ensures ready { IsReady (P.state plant.new) config.new tables.now journal.new.events }
     ensures room { 1 ≤ journal.new.spare }
 {
     let Some(server) = config.server_named(bytes_of(name)) else {
@@ -116,19 +116,19 @@ pub fn define_volume<P: Plant>(
 pub fn set_link<P: Plant>(
     plant: &P,
     config: &mut Config,
-    host: &Host,
+    tables: &Tables,
     journal: &Journal,
     first: &Name,
     second: &Name,
     up: bool,
 ) -> Result<Addition, Refusal>
-    requires ready { IsReady (P.state plant.now) config.old host.now journal.now.events }
+    requires ready { IsReady (P.state plant.now) config.old tables.now journal.now.events }
     requires first_short { first.now.len ≤ 24 }
     requires second_short { second.now.len ≤ 24 }
-    ensures step { (line : ℕ) → Leads (here (P.state plant.now) config.old host.now journal.now.events) line (Step.Link first.now second.now up)
-        (here (P.state plant.now) config.new host.now journal.now.events) (said_of result) }
+    ensures step { (line : ℕ) → Leads (here (P.state plant.now) config.old tables.now journal.now.events) line (Step.Link first.now second.now up)
+        (here (P.state plant.now) config.new tables.now journal.now.events) (said_of result) }
     ensures faults { Counts (said_of result) (P.state plant.now) (P.state plant.now) }
-    ensures ready { IsReady (P.state plant.now) config.new host.now journal.now.events }
+    ensures ready { IsReady (P.state plant.now) config.new tables.now journal.now.events }
 {
     let Some(a) = config.server_named(bytes_of(first)) else {
         return Err(unknown_server());

@@ -6,19 +6,18 @@ ghost use Rattle.dr_model.specs.Control.{World};
 ghost use Rattle.dr_model.specs.Laws.{Sound};
 ghost use Rattle.dr_model.specs.ReadStops.{Ends};
 ghost use Rattle.dr_model.specs.declared.step.Step.{Step};
-ghost use Rattle.dr_host.specs.Writes.{Writes};
+ghost use Rattle.dr_top.specs.declared.tables.Tables.{Tables};
 ghost use Rattle.dr_flash.specs.Fit.{RelationsFit};
 ghost use Rattle.dr_flash.specs.Here.{refusal_of, armed_in, IsAtRest};
-ghost use Rattle.dr_metro.specs.Here.{here, IsReady};
 ghost use Rattle.dr_top.specs.Faults.{Counted, Counts};
-ghost use Rattle.dr_top.specs.Here.{said_of, Leads};
+ghost use Rattle.dr_top.specs.Here.{said_of, Leads, here, IsReady};
 ghost use Rattle.dr_top.specs.Starting.{lift_from};
 
 use crate::define::{bytes_of, unknown_server};
 use crate::stops::belongs;
+use crate::tables::Tables;
 use dr_config::Config;
 use dr_coord::expire as end_holds;
-use dr_host::Host;
 use dr_ids::{Refusal, ServerId};
 use dr_model::{Addition, Journal, Name};
 use dr_plant::Plant;
@@ -28,18 +27,18 @@ use dr_plant::Plant;
 pub fn expire<P: Plant>(
     plant: &mut P,
     config: &Config,
-    host: &Host,
+    tables: &Tables,
     journal: &mut Journal,
     name: &Name,
 ) -> Result<Addition, Refusal>
-    requires ready { IsReady (P.state plant.old) config.now host.now journal.old.events }
-    requires sound { Sound (here (P.state plant.old) config.now host.now journal.old.events) }
+    requires ready { IsReady (P.state plant.old) config.now tables.now journal.old.events }
+    requires sound { Sound (here (P.state plant.old) config.now tables.now journal.old.events) }
     requires short { name.now.len ≤ 24 }
     requires room { 2 ≤ journal.old.spare }
-    ensures step { (line : ℕ) → Leads (here (P.state plant.old) config.now host.now journal.old.events) line (Step.Expire name.now)
-        (here (P.state plant.new) config.now host.now journal.new.events) (said_of result) }
+    ensures step { (line : ℕ) → Leads (here (P.state plant.old) config.now tables.now journal.old.events) line (Step.Expire name.now)
+        (here (P.state plant.new) config.now tables.now journal.new.events) (said_of result) }
     ensures faults { Counts (said_of result) (P.state plant.old) (P.state plant.new) }
-    ensures ready { IsReady (P.state plant.new) config.now host.now journal.new.events }
+    ensures ready { IsReady (P.state plant.new) config.now tables.now journal.new.events }
     ensures room { 1 ≤ journal.new.spare }
 {
     let Some(server) = config.server_named(bytes_of(name)) else {
@@ -65,7 +64,7 @@ fn expire_volumes<P: Plant>(
     requires fit { RelationsFit (P.state plant.old) config.now }
     requires on { (P.state plant.old).on server.0 ≡ true }
     requires room { 1 ≤ journal.old.spare }
-    ensures carried { (h : Writes) → Ends (armed_in (P.state plant.old)) (here (P.state plant.new) config.now h journal.new.events) (refusal_of result)
+    ensures carried { (h : Tables) → Ends (armed_in (P.state plant.old)) (here (P.state plant.new) config.now h journal.new.events) (refusal_of result)
         (here (P.state plant.old) config.now h journal.old.events) (lift_from config.now server.0 0) }
     ensures stopped { OnErr result (refusal_of result ≡ Some (Refusal.Stopped server)) }
     ensures faults { Counted (is_err result) (P.state plant.old).faults (P.state plant.new).faults }
@@ -93,9 +92,9 @@ fn expire_at<P: Plant>(
     requires on { (P.state plant.old).on server.0 ≡ true }
     requires within { place < length config.now.volumes }
     requires room { 1 ≤ journal.old.spare }
-    ensures carried { OnOk result ((h : Writes) (armed : ℕ → Bool) (u : World) (r : Option Refusal) → Ends armed u r (here (P.state plant.new) config.now h journal.new.events) (lift_from config.now server.0 (place + 1))
+    ensures carried { OnOk result ((h : Tables) (armed : ℕ → Bool) (u : World) (r : Option Refusal) → Ends armed u r (here (P.state plant.new) config.now h journal.new.events) (lift_from config.now server.0 (place + 1))
         → Ends armed u r (here (P.state plant.old) config.now h journal.old.events) (lift_from config.now server.0 place)) }
-    ensures ended { OnErr result ((h : Writes) → Ends (armed_in (P.state plant.old)) (here (P.state plant.new) config.now h journal.new.events) (refusal_of result)
+    ensures ended { OnErr result ((h : Tables) → Ends (armed_in (P.state plant.old)) (here (P.state plant.new) config.now h journal.new.events) (refusal_of result)
         (here (P.state plant.old) config.now h journal.old.events) (lift_from config.now server.0 place)) }
     ensures stopped { OnErr result (refusal_of result ≡ Some (Refusal.Stopped server)) }
     ensures faults { Counted (is_err result) (P.state plant.old).faults (P.state plant.new).faults }

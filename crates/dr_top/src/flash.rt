@@ -7,19 +7,18 @@ ghost use Rattle.dr_model.specs.Laws.{Sound};
 ghost use Rattle.dr_model.specs.Plans as plans;
 ghost use Rattle.dr_model.specs.Runs.{after_plan, said};
 ghost use Rattle.dr_model.specs.declared.event.Event.{Event};
-ghost use Rattle.dr_host.specs.Writes.{Writes};
+ghost use Rattle.dr_top.specs.declared.tables.Tables.{Tables};
 ghost use Rattle.dr_volume.specs.View.{volume_seen};
 ghost use Rattle.dr_flash.specs.Checks.{Checked, OnNone, is_stop};
 ghost use Rattle.dr_flash.specs.Options.{choices};
 ghost use Rattle.dr_top.specs.Faults.{Counts};
-ghost use Rattle.dr_metro.specs.Here.{here, IsReady};
-ghost use Rattle.dr_top.specs.Here.{said_of};
+ghost use Rattle.dr_top.specs.Here.{said_of, here, IsReady};
 ghost use Rattle.dr_top.specs.WellFormed.{FitsOwner};
 
 use crate::define::{bytes_of, unknown_server};
+use crate::tables::Tables;
 use dr_config::Config;
 use dr_flash::{Options, establish, withdraw};
-use dr_host::Host;
 use dr_ids::{Kind, Refusal, ServerId, VolumeId};
 use dr_incr::{resync, reverse_start};
 use dr_model::{Addition, Journal, Name};
@@ -28,7 +27,7 @@ use dr_plant::Plant;
 /// Whether the server is the one of that name, where a name is given.
 fn is_owner(config: &Config, dev: &Option<Name>, server: ServerId) -> bool
     requires { FitsOwner dev.now }
-    ensures { (x : PlantState) (h : Writes) (events : List Event) (v : ℕ) → (volume_seen x config.now v).server ≡ server.0 → result ≡ plans.is_owner dev.now v (here x config.now h events).control }
+    ensures { (x : PlantState) (h : Tables) (events : List Event) (v : ℕ) → (volume_seen x config.now v).server ≡ server.0 → result ≡ plans.is_owner dev.now v (here x config.now h events).control }
 {
     match dev {
         Some(name) => match config.server_named(bytes_of(name)) {
@@ -47,7 +46,7 @@ pub fn found_refusal(
     t: VolumeId,
 ) -> Option<Refusal>
     requires { FitsOwner dev.now }
-    ensures checked { (x : PlantState) (h : Writes) (events : List Event) → Checked (here x config.now h events) (plans.found_pair dev.now s.0 t.0) result }
+    ensures checked { (x : PlantState) (h : Tables) (events : List Event) → Checked (here x config.now h events) (plans.found_pair dev.now s.0 t.0) result }
     ensures calm { is_stop result ≡ false }
     ensures source { OnNone result (IsSome (place_of config.now s.0)) }
     ensures target { OnNone result (IsSome (place_of config.now t.0)) }
@@ -68,22 +67,22 @@ pub fn found_refusal(
 pub fn make_flash<P: Plant>(
     plant: &mut P,
     config: &Config,
-    host: &Host,
+    tables: &Tables,
     journal: &mut Journal,
     dev: &Option<Name>,
     s: VolumeId,
     t: VolumeId,
     options: &Options,
 ) -> Result<Addition, Refusal>
-    requires ready { IsReady (P.state plant.old) config.now host.now journal.old.events }
-    requires sound { Sound (here (P.state plant.old) config.now host.now journal.old.events) }
+    requires ready { IsReady (P.state plant.old) config.now tables.now journal.old.events }
+    requires sound { Sound (here (P.state plant.old) config.now tables.now journal.old.events) }
     requires short { FitsOwner dev.now }
     requires room { 512 ≤ journal.old.spare }
-    ensures step { (line : ℕ) → after_plan (here (P.state plant.old) config.now host.now journal.old.events) line
-        (plans.flash_plan (here (P.state plant.old) config.now host.now journal.old.events).control dev.now s.0 t.0 (choices options.now))
-        ≡ said (here (P.state plant.new) config.now host.now journal.new.events) line (said_of result) }
+    ensures step { (line : ℕ) → after_plan (here (P.state plant.old) config.now tables.now journal.old.events) line
+        (plans.flash_plan (here (P.state plant.old) config.now tables.now journal.old.events).control dev.now s.0 t.0 (choices options.now))
+        ≡ said (here (P.state plant.new) config.now tables.now journal.new.events) line (said_of result) }
     ensures faults { Counts (said_of result) (P.state plant.old) (P.state plant.new) }
-    ensures ready { IsReady (P.state plant.new) config.now host.now journal.new.events }
+    ensures ready { IsReady (P.state plant.new) config.now tables.now journal.new.events }
     ensures room { 1 ≤ journal.new.spare }
 {
     if let Some(why) = found_refusal(config, dev, s, t) {
@@ -99,21 +98,21 @@ pub fn make_flash<P: Plant>(
 pub fn remove_flash<P: Plant>(
     plant: &mut P,
     config: &Config,
-    host: &Host,
+    tables: &Tables,
     journal: &mut Journal,
     dev: &Option<Name>,
     s: VolumeId,
     t: VolumeId,
 ) -> Result<Addition, Refusal>
-    requires ready { IsReady (P.state plant.old) config.now host.now journal.old.events }
-    requires sound { Sound (here (P.state plant.old) config.now host.now journal.old.events) }
+    requires ready { IsReady (P.state plant.old) config.now tables.now journal.old.events }
+    requires sound { Sound (here (P.state plant.old) config.now tables.now journal.old.events) }
     requires short { FitsOwner dev.now }
     requires room { 512 ≤ journal.old.spare }
-    ensures step { (line : ℕ) → after_plan (here (P.state plant.old) config.now host.now journal.old.events) line
-        (plans.withdraw_plan (here (P.state plant.old) config.now host.now journal.old.events).control dev.now s.0 t.0)
-        ≡ said (here (P.state plant.new) config.now host.now journal.new.events) line (said_of result) }
+    ensures step { (line : ℕ) → after_plan (here (P.state plant.old) config.now tables.now journal.old.events) line
+        (plans.withdraw_plan (here (P.state plant.old) config.now tables.now journal.old.events).control dev.now s.0 t.0)
+        ≡ said (here (P.state plant.new) config.now tables.now journal.new.events) line (said_of result) }
     ensures faults { Counts (said_of result) (P.state plant.old) (P.state plant.new) }
-    ensures ready { IsReady (P.state plant.new) config.now host.now journal.new.events }
+    ensures ready { IsReady (P.state plant.new) config.now tables.now journal.new.events }
     ensures room { 1 ≤ journal.new.spare }
 {
     if let Some(why) = found_refusal(config, dev, s, t) {
@@ -129,22 +128,22 @@ pub fn remove_flash<P: Plant>(
 pub fn resync_flash<P: Plant>(
     plant: &mut P,
     config: &Config,
-    host: &Host,
+    tables: &Tables,
     journal: &mut Journal,
     dev: &Option<Name>,
     s: VolumeId,
     t: VolumeId,
     sequence: Option<u32>,
 ) -> Result<Addition, Refusal>
-    requires ready { IsReady (P.state plant.old) config.now host.now journal.old.events }
-    requires sound { Sound (here (P.state plant.old) config.now host.now journal.old.events) }
+    requires ready { IsReady (P.state plant.old) config.now tables.now journal.old.events }
+    requires sound { Sound (here (P.state plant.old) config.now tables.now journal.old.events) }
     requires short { FitsOwner dev.now }
     requires room { 512 ≤ journal.old.spare }
-    ensures step { (line : ℕ) → after_plan (here (P.state plant.old) config.now host.now journal.old.events) line
-        (plans.resync_plan (here (P.state plant.old) config.now host.now journal.old.events).control dev.now s.0 t.0 sequence)
-        ≡ said (here (P.state plant.new) config.now host.now journal.new.events) line (said_of result) }
+    ensures step { (line : ℕ) → after_plan (here (P.state plant.old) config.now tables.now journal.old.events) line
+        (plans.resync_plan (here (P.state plant.old) config.now tables.now journal.old.events).control dev.now s.0 t.0 sequence)
+        ≡ said (here (P.state plant.new) config.now tables.now journal.new.events) line (said_of result) }
     ensures faults { Counts (said_of result) (P.state plant.old) (P.state plant.new) }
-    ensures ready { IsReady (P.state plant.new) config.now host.now journal.new.events }
+    ensures ready { IsReady (P.state plant.new) config.now tables.now journal.new.events }
     ensures room { 1 ≤ journal.new.spare }
 {
     if let Some(why) = found_refusal(config, dev, s, t) {
@@ -160,21 +159,21 @@ pub fn resync_flash<P: Plant>(
 pub fn reverse_flash<P: Plant>(
     plant: &mut P,
     config: &Config,
-    host: &Host,
+    tables: &Tables,
     journal: &mut Journal,
     dev: &Option<Name>,
     s: VolumeId,
     t: VolumeId,
 ) -> Result<Addition, Refusal>
-    requires ready { IsReady (P.state plant.old) config.now host.now journal.old.events }
-    requires sound { Sound (here (P.state plant.old) config.now host.now journal.old.events) }
+    requires ready { IsReady (P.state plant.old) config.now tables.now journal.old.events }
+    requires sound { Sound (here (P.state plant.old) config.now tables.now journal.old.events) }
     requires short { FitsOwner dev.now }
     requires room { 512 ≤ journal.old.spare }
-    ensures step { (line : ℕ) → after_plan (here (P.state plant.old) config.now host.now journal.old.events) line
-        (plans.reverse_plan (here (P.state plant.old) config.now host.now journal.old.events).control dev.now s.0 t.0)
-        ≡ said (here (P.state plant.new) config.now host.now journal.new.events) line (said_of result) }
+    ensures step { (line : ℕ) → after_plan (here (P.state plant.old) config.now tables.now journal.old.events) line
+        (plans.reverse_plan (here (P.state plant.old) config.now tables.now journal.old.events).control dev.now s.0 t.0)
+        ≡ said (here (P.state plant.new) config.now tables.now journal.new.events) line (said_of result) }
     ensures faults { Counts (said_of result) (P.state plant.old) (P.state plant.new) }
-    ensures ready { IsReady (P.state plant.new) config.now host.now journal.new.events }
+    ensures ready { IsReady (P.state plant.new) config.now tables.now journal.new.events }
     ensures room { 1 ≤ journal.new.spare }
 {
     if let Some(why) = found_refusal(config, dev, s, t) {

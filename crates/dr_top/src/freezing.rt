@@ -10,9 +10,9 @@ ghost use Rattle.dr_top.specs.WellFormed.{FitsDevs};
 
 use crate::define::unknown_server;
 use crate::paths::{are_named, unknown_lss};
+use crate::tables::Tables;
 use dr_config::Config;
 use dr_freeze::{freeze, thaw};
-use dr_host::Host;
 use dr_ids::{Kind, Lss, Refusal};
 use dr_model::{Addition, Devs, Journal};
 use dr_plant::Plant;
@@ -23,21 +23,21 @@ use dr_plant::Plant;
 pub fn freeze_pairs<P: Plant>(
     plant: &mut P,
     config: &mut Config,
-    host: &Host,
+    tables: &Tables,
     journal: &mut Journal,
     devs: &Devs,
     src: Lss,
     tgt: Lss,
 ) -> Result<Addition, Refusal>
-    requires ready { IsReady (P.state plant.old) config.old host.now journal.old.events }
-    requires sound { Sound (here (P.state plant.old) config.old host.now journal.old.events) }
+    requires ready { IsReady (P.state plant.old) config.old tables.now journal.old.events }
+    requires sound { Sound (here (P.state plant.old) config.old tables.now journal.old.events) }
     requires short { FitsDevs devs.now }
     requires room { 512 ≤ journal.old.spare }
-    ensures step { (line : ℕ) → after_plan (here (P.state plant.old) config.old host.now journal.old.events) line
-        (plans.freeze_plan (here (P.state plant.old) config.old host.now journal.old.events).control devs.now src.0 tgt.0)
-        ≡ said (here (P.state plant.new) config.new host.now journal.new.events) line (said_of result) }
+    ensures step { (line : ℕ) → after_plan (here (P.state plant.old) config.old tables.now journal.old.events) line
+        (plans.freeze_plan (here (P.state plant.old) config.old tables.now journal.old.events).control devs.now src.0 tgt.0)
+        ≡ said (here (P.state plant.new) config.new tables.now journal.new.events) line (said_of result) }
     ensures faults { Counts (said_of result) (P.state plant.old) (P.state plant.new) }
-    ensures ready { IsReady (P.state plant.new) config.new host.now journal.new.events }
+    ensures ready { IsReady (P.state plant.new) config.new tables.now journal.new.events }
     ensures room { 1 ≤ journal.new.spare }
 {
     let Some(first) = config.lss_owner(src) else {
@@ -66,21 +66,21 @@ pub fn freeze_pairs<P: Plant>(
 pub fn thaw_pairs<P: Plant>(
     plant: &mut P,
     config: &Config,
-    host: &Host,
+    tables: &Tables,
     journal: &mut Journal,
     devs: &Devs,
     src: Lss,
     tgt: Lss,
 ) -> Result<Addition, Refusal>
-    requires ready { IsReady (P.state plant.old) config.now host.now journal.old.events }
-    requires sound { Sound (here (P.state plant.old) config.now host.now journal.old.events) }
+    requires ready { IsReady (P.state plant.old) config.now tables.now journal.old.events }
+    requires sound { Sound (here (P.state plant.old) config.now tables.now journal.old.events) }
     requires short { FitsDevs devs.now }
     requires room { 512 ≤ journal.old.spare }
-    ensures step { (line : ℕ) → after_plan (here (P.state plant.old) config.now host.now journal.old.events) line
-        (plans.thaw_plan (here (P.state plant.old) config.now host.now journal.old.events).control devs.now src.0 tgt.0)
-        ≡ said (here (P.state plant.new) config.now host.now journal.new.events) line (said_of result) }
+    ensures step { (line : ℕ) → after_plan (here (P.state plant.old) config.now tables.now journal.old.events) line
+        (plans.thaw_plan (here (P.state plant.old) config.now tables.now journal.old.events).control devs.now src.0 tgt.0)
+        ≡ said (here (P.state plant.new) config.now tables.now journal.new.events) line (said_of result) }
     ensures faults { Counts (said_of result) (P.state plant.old) (P.state plant.new) }
-    ensures ready { IsReady (P.state plant.new) config.now host.now journal.new.events }
+    ensures ready { IsReady (P.state plant.new) config.now tables.now journal.new.events }
     ensures room { 1 ≤ journal.new.spare }
 {
     let Some(first) = config.lss_owner(src) else {

@@ -8,6 +8,7 @@ mod expiry;
 mod flash;
 mod freezing;
 mod locate;
+mod masters;
 mod pairs;
 mod paths;
 mod put;
@@ -15,6 +16,7 @@ mod run;
 mod status;
 mod steps;
 mod stops;
+mod tables;
 mod task;
 mod top;
 

@@ -3,7 +3,7 @@
 ghost use Rattle.std.specs.Prelude.{◌≡◌, ℕ, ◌+◌, ◌≤◌, ◌&&◌, true, false, IsSome, List, length};
 ghost use Rattle.dr_plant.specs.State.{PlantState};
 ghost use Rattle.dr_config.specs.Table.{place_of};
-ghost use Rattle.dr_host.specs.Writes.{Writes};
+ghost use Rattle.dr_top.specs.declared.tables.Tables.{Tables};
 ghost use Rattle.dr_model.specs.declared.event.Event.{Event};
 ghost use Rattle.dr_model.specs.Laws.{Sound};
 ghost use Rattle.dr_model.specs.Layout as part;
@@ -13,13 +13,13 @@ ghost use Rattle.dr_model.specs.Runs.{after_plan, said};
 ghost use Rattle.dr_gcopy.specs.Kinds.{part_of};
 ghost use Rattle.dr_flash.specs.Checks.{Checked, OnNone, is_stop};
 ghost use Rattle.dr_top.specs.Faults.{Counts};
-ghost use Rattle.dr_metro.specs.Here.{here, IsReady};
-ghost use Rattle.dr_top.specs.Here.{said_of};
+ghost use Rattle.dr_top.specs.Here.{said_of, here, IsReady};
 ghost use Rattle.dr_top.specs.WellFormed.{FitsDevs};
 
 use crate::define::unknown_server;
 use crate::flash::found_refusal;
 use crate::paths::is_named;
+use crate::tables::Tables;
 use dr_config::Config;
 use dr_flash::{is_part, pair_state, server_of};
 use dr_gcopy::{CopyKind, drain, make_pair, pause, remove_pair, resume};
@@ -32,7 +32,7 @@ use dr_volume::{Fields, peek_fields};
 /// Why a line on a pair doesn't find its volumes: one isn't defined, or one isn't on the server that is named.
 fn found_volumes(config: &Config, devs: &Devs, a: VolumeId, b: VolumeId) -> Option<Refusal>
     requires { FitsDevs devs.now }
-    ensures checked { (x : PlantState) (h : Writes) (events : List Event) → Checked (here x config.now h events) (plans.found_volumes devs.now a.0 b.0) result }
+    ensures checked { (x : PlantState) (h : Tables) (events : List Event) → Checked (here x config.now h events) (plans.found_volumes devs.now a.0 b.0) result }
     ensures calm { is_stop result ≡ false }
     ensures first { OnNone result (IsSome (place_of config.now a.0)) }
     ensures second { OnNone result (IsSome (place_of config.now b.0)) }
@@ -66,7 +66,7 @@ fn kind_of(kind: u8) -> CopyKind
 pub fn make_copy<P: Plant>(
     plant: &mut P,
     config: &Config,
-    host: &Host,
+    tables: &Tables,
     journal: &mut Journal,
     devs: &Devs,
     a: VolumeId,
@@ -74,16 +74,16 @@ pub fn make_copy<P: Plant>(
     kind: u8,
     full: bool,
 ) -> Result<Addition, Refusal>
-    requires ready { IsReady (P.state plant.old) config.now host.now journal.old.events }
-    requires sound { Sound (here (P.state plant.old) config.now host.now journal.old.events) }
+    requires ready { IsReady (P.state plant.old) config.now tables.now journal.old.events }
+    requires sound { Sound (here (P.state plant.old) config.now tables.now journal.old.events) }
     requires short { FitsDevs devs.now }
     requires kind { part.is_part (part.part_of kind) ≡ true }
     requires room { 512 ≤ journal.old.spare }
-    ensures step { (line : ℕ) → after_plan (here (P.state plant.old) config.now host.now journal.old.events) line
-        (plans.pair_plan (here (P.state plant.old) config.now host.now journal.old.events).control journal.old.events devs.now a.0 b.0 (part.part_of kind) full)
-        ≡ said (here (P.state plant.new) config.now host.now journal.new.events) line (said_of result) }
+    ensures step { (line : ℕ) → after_plan (here (P.state plant.old) config.now tables.now journal.old.events) line
+        (plans.pair_plan (here (P.state plant.old) config.now tables.now journal.old.events).control journal.old.events devs.now a.0 b.0 (part.part_of kind) full)
+        ≡ said (here (P.state plant.new) config.now tables.now journal.new.events) line (said_of result) }
     ensures faults { Counts (said_of result) (P.state plant.old) (P.state plant.new) }
-    ensures ready { IsReady (P.state plant.new) config.now host.now journal.new.events }
+    ensures ready { IsReady (P.state plant.new) config.now tables.now journal.new.events }
     ensures room { 1 ≤ journal.new.spare }
 {
     if let Some(why) = found_volumes(config, devs, a, b) {
@@ -99,22 +99,22 @@ pub fn make_copy<P: Plant>(
 pub fn end_copy<P: Plant>(
     plant: &mut P,
     config: &Config,
-    host: &Host,
+    tables: &Tables,
     journal: &mut Journal,
     devs: &Devs,
     a: VolumeId,
     b: VolumeId,
     source_only: bool,
 ) -> Result<Addition, Refusal>
-    requires ready { IsReady (P.state plant.old) config.now host.now journal.old.events }
-    requires sound { Sound (here (P.state plant.old) config.now host.now journal.old.events) }
+    requires ready { IsReady (P.state plant.old) config.now tables.now journal.old.events }
+    requires sound { Sound (here (P.state plant.old) config.now tables.now journal.old.events) }
     requires short { FitsDevs devs.now }
     requires room { 512 ≤ journal.old.spare }
-    ensures step { (line : ℕ) → after_plan (here (P.state plant.old) config.now host.now journal.old.events) line
-        (plans.remove_plan (here (P.state plant.old) config.now host.now journal.old.events).control devs.now a.0 b.0 source_only)
-        ≡ said (here (P.state plant.new) config.now host.now journal.new.events) line (said_of result) }
+    ensures step { (line : ℕ) → after_plan (here (P.state plant.old) config.now tables.now journal.old.events) line
+        (plans.remove_plan (here (P.state plant.old) config.now tables.now journal.old.events).control devs.now a.0 b.0 source_only)
+        ≡ said (here (P.state plant.new) config.now tables.now journal.new.events) line (said_of result) }
     ensures faults { Counts (said_of result) (P.state plant.old) (P.state plant.new) }
-    ensures ready { IsReady (P.state plant.new) config.now host.now journal.new.events }
+    ensures ready { IsReady (P.state plant.new) config.now tables.now journal.new.events }
     ensures room { 1 ≤ journal.new.spare }
 {
     if let Some(why) = found_volumes(config, devs, a, b) {
@@ -130,21 +130,21 @@ pub fn end_copy<P: Plant>(
 pub fn pause_copy<P: Plant>(
     plant: &mut P,
     config: &Config,
-    host: &Host,
+    tables: &Tables,
     journal: &mut Journal,
     devs: &Devs,
     a: VolumeId,
     b: VolumeId,
 ) -> Result<Addition, Refusal>
-    requires ready { IsReady (P.state plant.old) config.now host.now journal.old.events }
-    requires sound { Sound (here (P.state plant.old) config.now host.now journal.old.events) }
+    requires ready { IsReady (P.state plant.old) config.now tables.now journal.old.events }
+    requires sound { Sound (here (P.state plant.old) config.now tables.now journal.old.events) }
     requires short { FitsDevs devs.now }
     requires room { 512 ≤ journal.old.spare }
-    ensures step { (line : ℕ) → after_plan (here (P.state plant.old) config.now host.now journal.old.events) line
-        (plans.pause_plan (here (P.state plant.old) config.now host.now journal.old.events).control devs.now a.0 b.0)
-        ≡ said (here (P.state plant.new) config.now host.now journal.new.events) line (said_of result) }
+    ensures step { (line : ℕ) → after_plan (here (P.state plant.old) config.now tables.now journal.old.events) line
+        (plans.pause_plan (here (P.state plant.old) config.now tables.now journal.old.events).control devs.now a.0 b.0)
+        ≡ said (here (P.state plant.new) config.now tables.now journal.new.events) line (said_of result) }
     ensures faults { Counts (said_of result) (P.state plant.old) (P.state plant.new) }
-    ensures ready { IsReady (P.state plant.new) config.now host.now journal.new.events }
+    ensures ready { IsReady (P.state plant.new) config.now tables.now journal.new.events }
     ensures room { 1 ≤ journal.new.spare }
 {
     if let Some(why) = found_volumes(config, devs, a, b) {
@@ -160,23 +160,23 @@ pub fn pause_copy<P: Plant>(
 pub fn resume_copy<P: Plant>(
     plant: &mut P,
     config: &Config,
-    host: &Host,
+    tables: &Tables,
     journal: &mut Journal,
     devs: &Devs,
     a: VolumeId,
     b: VolumeId,
     kind: u8,
 ) -> Result<Addition, Refusal>
-    requires ready { IsReady (P.state plant.old) config.now host.now journal.old.events }
-    requires sound { Sound (here (P.state plant.old) config.now host.now journal.old.events) }
+    requires ready { IsReady (P.state plant.old) config.now tables.now journal.old.events }
+    requires sound { Sound (here (P.state plant.old) config.now tables.now journal.old.events) }
     requires short { FitsDevs devs.now }
     requires kind { part.is_part (part.part_of kind) ≡ true }
     requires room { 512 ≤ journal.old.spare }
-    ensures step { (line : ℕ) → after_plan (here (P.state plant.old) config.now host.now journal.old.events) line
-        (plans.resume_plan (here (P.state plant.old) config.now host.now journal.old.events).control devs.now a.0 b.0 (part.part_of kind))
-        ≡ said (here (P.state plant.new) config.now host.now journal.new.events) line (said_of result) }
+    ensures step { (line : ℕ) → after_plan (here (P.state plant.old) config.now tables.now journal.old.events) line
+        (plans.resume_plan (here (P.state plant.old) config.now tables.now journal.old.events).control devs.now a.0 b.0 (part.part_of kind))
+        ≡ said (here (P.state plant.new) config.now tables.now journal.new.events) line (said_of result) }
     ensures faults { Counts (said_of result) (P.state plant.old) (P.state plant.new) }
-    ensures ready { IsReady (P.state plant.new) config.now host.now journal.new.events }
+    ensures ready { IsReady (P.state plant.new) config.now tables.now journal.new.events }
     ensures room { 1 ≤ journal.new.spare }
 {
     if let Some(why) = found_volumes(config, devs, a, b) {
@@ -209,20 +209,20 @@ fn is_pending(state: PairState) -> bool
 pub fn drain_copy<P: Plant>(
     plant: &mut P,
     config: &Config,
-    host: &Host,
+    tables: &Tables,
     journal: &mut Journal,
     a: VolumeId,
     most: Option<u32>,
 ) -> Result<Addition, Refusal>
-    requires ready { IsReady (P.state plant.old) config.now host.now journal.old.events }
-    requires sound { Sound (here (P.state plant.old) config.now host.now journal.old.events) }
+    requires ready { IsReady (P.state plant.old) config.now tables.now journal.old.events }
+    requires sound { Sound (here (P.state plant.old) config.now tables.now journal.old.events) }
     requires few { length config.now.volumes ≤ 64 }
     requires room { 4096 ≤ journal.old.spare }
-    ensures step { (line : ℕ) → after_plan (here (P.state plant.old) config.now host.now journal.old.events) line
-        (plans.drain_plan (here (P.state plant.old) config.now host.now journal.old.events).control a.0 most)
-        ≡ said (here (P.state plant.new) config.now host.now journal.new.events) line (said_of result) }
+    ensures step { (line : ℕ) → after_plan (here (P.state plant.old) config.now tables.now journal.old.events) line
+        (plans.drain_plan (here (P.state plant.old) config.now tables.now journal.old.events).control a.0 most)
+        ≡ said (here (P.state plant.new) config.now tables.now journal.new.events) line (said_of result) }
     ensures faults { Counts (said_of result) (P.state plant.old) (P.state plant.new) }
-    ensures ready { IsReady (P.state plant.new) config.now host.now journal.new.events }
+    ensures ready { IsReady (P.state plant.new) config.now tables.now journal.new.events }
     ensures room { 1 ≤ journal.new.spare }
 {
     let Some(server) = config.server_of(a) else {

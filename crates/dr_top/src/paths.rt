@@ -4,7 +4,7 @@ ghost use Rattle.std.specs.Prelude.{◌≡◌, ℕ, ◌<◌, ◌&&◌, not, nat_
 ghost use Rattle.dr_ids.specs.declared.refusal.Kind.TheVariants.{Lss as OfLss};
 ghost use Rattle.dr_plant.specs.State.{PlantState};
 ghost use Rattle.dr_config.specs.Table.{StandsFor, place_of};
-ghost use Rattle.dr_host.specs.Writes.{Writes};
+ghost use Rattle.dr_top.specs.declared.tables.Tables.{Tables};
 ghost use Rattle.dr_model.specs.declared.event.Event.{Event};
 ghost use Rattle.dr_model.specs.Entries.{subsystem, pair_state};
 ghost use Rattle.dr_model.specs.Refusals.{unknown, server_off};
@@ -15,14 +15,13 @@ ghost use Rattle.dr_model.specs.Plans as plans;
 ghost use Rattle.dr_model.specs.Runs.{after_plan, said};
 ghost use Rattle.dr_flash.specs.Checks.{is_stop};
 ghost use Rattle.dr_top.specs.Faults.{Counts};
-ghost use Rattle.dr_metro.specs.Here.{here, IsReady};
-ghost use Rattle.dr_top.specs.Here.{said_of, OnAnswer, OnNoMemory};
+ghost use Rattle.dr_top.specs.Here.{said_of, OnAnswer, OnNoMemory, here, IsReady};
 ghost use Rattle.dr_top.specs.WellFormed.{FitsOwner, FitsDevs};
 
 use crate::define::{bytes_of, unknown_server};
+use crate::tables::Tables;
 use dr_config::Config;
 use dr_flash::{is_part, is_suspended, pair_state};
-use dr_host::Host;
 use dr_ids::{Fault, Kind, Lss, Refusal, ServerId, VolumeId};
 use dr_model::{Addition, Devs, Journal, Name};
 use dr_plant::Plant;
@@ -38,7 +37,7 @@ pub fn unknown_lss() -> Refusal
 /// Whether a server is the one of that name, where a name is given.
 pub fn is_named(config: &Config, dev: &Option<Name>, server: ServerId) -> bool
     requires { FitsOwner dev.now }
-    ensures { (x : PlantState) (h : Writes) (events : List Event) → result ≡ plans.is_named dev.now server.0 (here x config.now h events).control }
+    ensures { (x : PlantState) (h : Tables) (events : List Event) → result ≡ plans.is_named dev.now server.0 (here x config.now h events).control }
 {
     match dev {
         Some(name) => match config.server_named(bytes_of(name)) {
@@ -52,7 +51,7 @@ pub fn is_named(config: &Config, dev: &Option<Name>, server: ServerId) -> bool
 /// Whether two servers are those that a line names, where it names them.
 pub fn are_named(config: &Config, devs: &Devs, first: ServerId, second: ServerId) -> bool
     requires { FitsDevs devs.now }
-    ensures { (x : PlantState) (h : Writes) (events : List Event) → result ≡ (plans.is_named devs.now.dev first.0 (here x config.now h events).control && plans.is_named devs.now.remotedev second.0 (here x config.now h events).control) }
+    ensures { (x : PlantState) (h : Tables) (events : List Event) → result ≡ (plans.is_named devs.now.dev first.0 (here x config.now h events).control && plans.is_named devs.now.remotedev second.0 (here x config.now h events).control) }
 {
     both(
         is_named(config, &devs.dev, first),
@@ -72,21 +71,21 @@ fn both(first: bool, second: bool) -> bool
 pub fn make_path<P: Plant>(
     plant: &P,
     config: &mut Config,
-    host: &Host,
+    tables: &Tables,
     journal: &Journal,
     devs: &Devs,
     src: Lss,
     tgt: Lss,
     group: bool,
 ) -> Result<Addition, Fault>
-    requires ready { IsReady (P.state plant.now) config.old host.now journal.now.events }
+    requires ready { IsReady (P.state plant.now) config.old tables.now journal.now.events }
     requires short { FitsDevs devs.now }
-    ensures step { OnAnswer result (λ a. (line : ℕ) → after_plan (here (P.state plant.now) config.old host.now journal.now.events) line
-        (plans.path_plan (here (P.state plant.now) config.old host.now journal.now.events).control devs.now src.0 tgt.0 group)
-        ≡ said (here (P.state plant.now) config.new host.now journal.now.events) line a) }
+    ensures step { OnAnswer result (λ a. (line : ℕ) → after_plan (here (P.state plant.now) config.old tables.now journal.now.events) line
+        (plans.path_plan (here (P.state plant.now) config.old tables.now journal.now.events).control devs.now src.0 tgt.0 group)
+        ≡ said (here (P.state plant.now) config.new tables.now journal.now.events) line a) }
     ensures faults { OnAnswer result (λ a. Counts a (P.state plant.now) (P.state plant.now)) }
     ensures same { OnNoMemory result (config.new ≡ config.old) }
-    ensures ready { IsReady (P.state plant.now) config.new host.now journal.now.events }
+    ensures ready { IsReady (P.state plant.now) config.new tables.now journal.now.events }
 {
     let Some(first) = config.lss_owner(src) else {
         return Err(Fault::Refused(unknown_lss()));
@@ -123,7 +122,7 @@ fn lss_of(v: VolumeId) -> Lss
 /// The first primary in one logical subsystem with its secondary in the other that isn't Suspended.
 fn first_active<P: Plant>(plant: &P, config: &Config, src: Lss, tgt: Lss) -> Option<VolumeId>
     requires stands { StandsFor config.now (P.state plant.now) }
-    ensures first { (h : Writes) (events : List Event) → option_map (λ v. v.0) result ≡ entries.first_active (here (P.state plant.now) config.now h events).control src.0 tgt.0 }
+    ensures first { (h : Tables) (events : List Event) → option_map (λ v. v.0) result ≡ entries.first_active (here (P.state plant.now) config.now h events).control src.0 tgt.0 }
     ensures defined { IfSome result (λ v. IsSome (place_of config.now v.0)) }
 {
     for place in 0..config.volumes() {
@@ -148,7 +147,7 @@ fn held_refusal<P: Plant>(
 ) -> Option<Refusal>
     requires stands { StandsFor config.now (P.state plant.now) }
     requires known { first.0 < 8 }
-    ensures refusal { (h : Writes) (events : List Event) → result ≡ (if not ((here (P.state plant.now) config.now h events).control.on first.0) then Some (server_off first.0)
+    ensures refusal { (h : Tables) (events : List Event) → result ≡ (if not ((here (P.state plant.now) config.now h events).control.on first.0) then Some (server_off first.0)
         else if force then None
         else option_map (pair_state (here (P.state plant.now) config.now h events).control) (entries.first_active (here (P.state plant.now) config.now h events).control src.0 tgt.0)) }
     ensures calm { is_stop result ≡ false }
@@ -171,20 +170,20 @@ fn held_refusal<P: Plant>(
 pub fn remove_path<P: Plant>(
     plant: &P,
     config: &mut Config,
-    host: &Host,
+    tables: &Tables,
     journal: &Journal,
     devs: &Devs,
     src: Lss,
     tgt: Lss,
     force: bool,
 ) -> Result<Addition, Refusal>
-    requires ready { IsReady (P.state plant.now) config.old host.now journal.now.events }
+    requires ready { IsReady (P.state plant.now) config.old tables.now journal.now.events }
     requires short { FitsDevs devs.now }
-    ensures step { (line : ℕ) → after_plan (here (P.state plant.now) config.old host.now journal.now.events) line
-        (plans.unpath_plan (here (P.state plant.now) config.old host.now journal.now.events).control devs.now src.0 tgt.0 force)
-        ≡ said (here (P.state plant.now) config.new host.now journal.now.events) line (said_of result) }
+    ensures step { (line : ℕ) → after_plan (here (P.state plant.now) config.old tables.now journal.now.events) line
+        (plans.unpath_plan (here (P.state plant.now) config.old tables.now journal.now.events).control devs.now src.0 tgt.0 force)
+        ≡ said (here (P.state plant.now) config.new tables.now journal.now.events) line (said_of result) }
     ensures faults { Counts (said_of result) (P.state plant.now) (P.state plant.now) }
-    ensures ready { IsReady (P.state plant.now) config.new host.now journal.now.events }
+    ensures ready { IsReady (P.state plant.now) config.new tables.now journal.now.events }
 {
     let Some(first) = config.lss_owner(src) else {
         return Err(unknown_lss());

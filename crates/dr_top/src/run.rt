@@ -19,8 +19,8 @@ ghost use Rattle.dr_top.specs.Statuses.{halt_status};
 use crate::carry::{Bar, carry_line};
 use crate::put::put_all;
 use crate::status::{Status, whole_status};
+use crate::tables::Tables;
 use dr_config::Config;
-use dr_host::Host;
 use dr_io::{LineReader, Sink, Source, Taken};
 use dr_list::{Told, text_on};
 use dr_model::Journal;
@@ -81,27 +81,27 @@ fn run_line<P: Plant, K: Sink>(
     alloc: Global,
     plant: &mut P,
     config: &mut Config,
-    host: &mut Host,
+    tables: &mut Tables,
     journal: &mut Journal,
     told: &mut Told,
     sink: &mut K,
     number: u32,
     line: &[u8],
 ) -> Result<(), Halt>
-    requires ready { IsReady (P.state plant.old) config.old host.old journal.old.events }
-    requires reached { Reached (here (P.state plant.old) config.old host.old journal.old.events) }
+    requires ready { IsReady (P.state plant.old) config.old tables.old journal.old.events }
+    requires reached { Reached (here (P.state plant.old) config.old tables.old journal.old.events) }
     requires room { length journal.old.events ≤ most_events }
     requires heard { seen told.old ≡ fold heard untold journal.old.events }
     ensures heard { OnOk result (seen told.new ≡ fold heard untold journal.new.events) }
-    ensures ran { RanLine K.written sink.old sink.new (here (P.state plant.old) config.old host.old journal.old.events) (tasks_of number line.now)
-        (here (P.state plant.new) config.new host.new journal.new.events) result }
+    ensures ran { RanLine K.written sink.old sink.new (here (P.state plant.old) config.old tables.old journal.old.events) (tasks_of number line.now)
+        (here (P.state plant.new) config.new tables.new journal.new.events) result }
     ensures faults { Counted (is_on_sink result) (K.faults sink.old) (K.faults sink.new) }
-    ensures ready { IsReady (P.state plant.new) config.new host.new journal.new.events }
+    ensures ready { IsReady (P.state plant.new) config.new tables.new journal.new.events }
     ensures stops { (f : ℕ) → Counted (told_stop journal.old.events) f (P.state plant.old).faults → Counted (told_stop journal.new.events) f (P.state plant.new).faults }
     ensures room { length journal.new.events ≤ most_events }
 {
     let from = journal.len();
-    match carry_line(alloc, plant, config, host, journal, number, line) {
+    match carry_line(alloc, plant, config, tables, journal, number, line) {
         Ok(()) => print_from(alloc, told, journal, from, sink),
         Err(Bar::Full) => {
             print_from(alloc, told, journal, from, sink)?;
@@ -117,16 +117,16 @@ pub fn run_lines<P: Plant, S: Source, K: Sink>(
     alloc: Global,
     plant: &mut P,
     config: &mut Config,
-    host: &mut Host,
+    tables: &mut Tables,
     journal: &mut Journal,
     source: &mut S,
     sink: &mut K,
 ) -> Status
-    requires ready { IsReady (P.state plant.old) config.old host.old journal.old.events }
-    requires begins { here (P.state plant.old) config.old host.old journal.old.events ≡ nothing }
-    ensures ran { Ran S.left K.written source.old source.new sink.old sink.new S.faults K.faults result (here (P.state plant.new) config.new host.new journal.new.events) }
-    ensures ready { IsReady (P.state plant.new) config.new host.new journal.new.events }
-    ensures reached { Reached (here (P.state plant.new) config.new host.new journal.new.events) }
+    requires ready { IsReady (P.state plant.old) config.old tables.old journal.old.events }
+    requires begins { here (P.state plant.old) config.old tables.old journal.old.events ≡ nothing }
+    ensures ran { Ran S.left K.written source.old source.new sink.old sink.new S.faults K.faults result (here (P.state plant.new) config.new tables.new journal.new.events) }
+    ensures ready { IsReady (P.state plant.new) config.new tables.new journal.new.events }
+    ensures reached { Reached (here (P.state plant.new) config.new tables.new journal.new.events) }
     ensures stops { Counted (told_stop journal.new.events) (P.state plant.old).faults (P.state plant.new).faults }
     ensures room { length journal.new.events ≤ most_events }
 {
@@ -139,7 +139,7 @@ pub fn run_lines<P: Plant, S: Source, K: Sink>(
                 number += 1;
                 let line = reader.line();
                 match run_line(
-                    alloc, plant, config, host, journal, &mut told, sink, number, line,
+                    alloc, plant, config, tables, journal, &mut told, sink, number, line,
                 ) {
                     Ok(()) => {}
                     Err(halt) => return halt.status(),

@@ -21,6 +21,7 @@ ghost use Rattle.dr_top.specs.Here.{here, said_of, answered_by, OnAnswer, OnSaid
 ghost use Rattle.dr_top.specs.Waiting.{IsIssued, PartnersFit, written_as};
 
 use crate::locate::locate;
+use crate::tables::Tables;
 use dr_config::Config;
 use dr_flash::read_target;
 use dr_host::{Host, Pending};
@@ -33,12 +34,12 @@ use dr_plant::{Block, Plant};
 fn read_running<P: Plant>(
     p: &mut P,
     c: &Config,
-    host: &Host,
+    tables: &Tables,
     journal: &Journal,
     v: VolumeId,
     t: u16,
 ) -> Block
-    requires ready { IsReady (P.state p.old) c.now host.now journal.now.events }
+    requires ready { IsReady (P.state p.old) c.now tables.now journal.now.events }
     requires defined { IsSome (place_of c.now v.0) }
     requires running { (P.state p.old).on (volume_seen (P.state p.old) c.now v.0).server ≡ true }
     requires known { (volume_seen (P.state p.old) c.now v.0).server < 8 }
@@ -59,19 +60,19 @@ fn read_running<P: Plant>(
 pub fn show<P: Plant>(
     plant: &mut P,
     config: &Config,
-    host: &Host,
+    tables: &Tables,
     journal: &mut Journal,
     line: u32,
     volume: VolumeId,
     track: u32,
 ) -> Result<Addition, Refusal>
-    requires ready { IsReady (P.state plant.old) config.now host.now journal.old.events }
-    requires sound { Sound (here (P.state plant.old) config.now host.now journal.old.events) }
+    requires ready { IsReady (P.state plant.old) config.now tables.now journal.old.events }
+    requires sound { Sound (here (P.state plant.old) config.now tables.now journal.old.events) }
     requires room { 2 ≤ journal.old.spare }
     ensures same { P.state plant.new ≡ P.state plant.old }
-    ensures step { Leads (here (P.state plant.old) config.now host.now journal.old.events) line (Step.Show volume.0 track)
-        (here (P.state plant.new) config.now host.now journal.new.events) (said_of result) }
-    ensures ready { IsReady (P.state plant.new) config.now host.now journal.new.events }
+    ensures step { Leads (here (P.state plant.old) config.now tables.now journal.old.events) line (Step.Show volume.0 track)
+        (here (P.state plant.new) config.now tables.now journal.new.events) (said_of result) }
+    ensures ready { IsReady (P.state plant.new) config.now tables.now journal.new.events }
     ensures faults { Counts (said_of result) (P.state plant.old) (P.state plant.new) }
     ensures room { 1 ≤ journal.new.spare }
 {
@@ -84,7 +85,7 @@ pub fn show<P: Plant>(
             server: place.server,
         });
     }
-    let bytes = read_running(plant, config, host, journal, volume, place.track);
+    let bytes = read_running(plant, config, tables, journal, volume, place.track);
     journal.push(Event::Shown {
         line,
         volume: volume.0,
@@ -116,20 +117,20 @@ fn front(bytes: &Block, len: u8) -> &[u8]
 /// refused or there is no memory, nothing has changed.
 fn issue_write(
     config: &Config,
-    host: &mut Host,
+    tables: &mut Tables,
     journal: &mut Journal,
     write: &HostWrite,
 ) -> Result<WriteId, Fault>
     requires some { 1 ≤ write.now.len }
     requires fits { write.now.offset + write.now.len ≤ 64 }
-    requires count { host.old.issued + 1 < 2 ^ 32 }
+    requires count { tables.old.host.issued + 1 < 2 ^ 32 }
     requires room { 0 < journal.old.spare }
-    ensures refused { OnRefused result (λ r. (s : PlantState) → issue_refusal (here s config.now host.old journal.old.events).control write.now.volume.0 write.now.track ≡ Some r) }
-    ensures done { IfOk result (λ w. IsIssued config.now host.old journal.old.events host.new journal.new.events write.now w.0) }
-    ensures same { OnErr result (host.new ≡ host.old) }
+    ensures refused { OnRefused result (λ r. (s : PlantState) → issue_refusal (here s config.now tables.old journal.old.events).control write.now.volume.0 write.now.track ≡ Some r) }
+    ensures done { IfOk result (λ w. IsIssued config.now tables.old journal.old.events tables.new journal.new.events write.now w.0) }
+    ensures same { OnErr result (tables.new ≡ tables.old) }
     ensures untold { OnErr result (journal.new.events ≡ journal.old.events) }
-    ensures told { IsTold host.old journal.old.events → IsTold host.new journal.new.events }
-    ensures issued { host.new.issued ≤ host.old.issued + 1 }
+    ensures told { IsTold tables.old journal.old.events → IsTold tables.new journal.new.events }
+    ensures issued { tables.new.host.issued ≤ tables.old.host.issued + 1 }
     ensures room { journal.old.spare ≤ journal.new.spare + 1 }
 {
     let place = match locate(config, write.volume, write.track) {
@@ -137,8 +138,8 @@ fn issue_write(
         Err(refusal) => return Err(Fault::Refused(refusal)),
     };
     let bytes = write.bytes;
-    let _issued = host.issued();
-    match host.issue(
+    let _issued = tables.host.issued();
+    match tables.host.issue(
         write.volume,
         place.track,
         write.offset,
@@ -163,26 +164,26 @@ fn issue_write(
 pub fn issue<P: Plant>(
     plant: &P,
     config: &Config,
-    host: &mut Host,
+    tables: &mut Tables,
     journal: &mut Journal,
     write: &HostWrite,
 ) -> Result<Addition, Fault>
-    requires ready { IsReady (P.state plant.now) config.now host.old journal.old.events }
+    requires ready { IsReady (P.state plant.now) config.now tables.old journal.old.events }
     requires some { 1 ≤ write.now.len }
     requires fits { write.now.offset + write.now.len ≤ 64 }
-    requires count { host.old.issued + 1 < 2 ^ 32 }
+    requires count { tables.old.host.issued + 1 < 2 ^ 32 }
     requires room { 2 ≤ journal.old.spare }
-    ensures step { OnAnswer result (λ a. (line : ℕ) → Leads (here (P.state plant.now) config.now host.old journal.old.events) line
+    ensures step { OnAnswer result (λ a. (line : ℕ) → Leads (here (P.state plant.now) config.now tables.old journal.old.events) line
         (Step.Issue write.now.volume.0 write.now.track write.now.offset write.now.len write.now.bytes)
-        (here (P.state plant.now) config.now host.new journal.new.events) a) }
-    ensures same { OnNoMemory result (host.new ≡ host.old) }
+        (here (P.state plant.now) config.now tables.new journal.new.events) a) }
+    ensures same { OnNoMemory result (tables.new ≡ tables.old) }
     ensures untold { OnNoMemory result (journal.new.events ≡ journal.old.events) }
-    ensures ready { IsReady (P.state plant.now) config.now host.new journal.new.events }
+    ensures ready { IsReady (P.state plant.now) config.now tables.new journal.new.events }
     ensures faults { OnAnswer result (λ a. Counts a (P.state plant.now) (P.state plant.now)) }
-    ensures issued { host.new.issued ≤ host.old.issued + 1 }
+    ensures issued { tables.new.host.issued ≤ tables.old.host.issued + 1 }
     ensures room { 1 ≤ journal.new.spare }
 {
-    match issue_write(config, host, journal, write) {
+    match issue_write(config, tables, journal, write) {
         Ok(w) => Ok(Addition::Wrote { w: w.0 }),
         Err(fault) => Err(fault),
     }
@@ -193,31 +194,31 @@ pub fn issue<P: Plant>(
 pub fn write<P: Plant>(
     plant: &mut P,
     config: &Config,
-    host: &mut Host,
+    tables: &mut Tables,
     journal: &mut Journal,
     write: &HostWrite,
 ) -> Result<Said, Fault>
-    requires ready { IsReady (P.state plant.old) config.now host.old journal.old.events }
-    requires sound { Sound (here (P.state plant.old) config.now host.old journal.old.events) }
+    requires ready { IsReady (P.state plant.old) config.now tables.old journal.old.events }
+    requires sound { Sound (here (P.state plant.old) config.now tables.old journal.old.events) }
     requires some { 1 ≤ write.now.len }
     requires fits { write.now.offset + write.now.len ≤ 64 }
-    requires count { host.old.issued + 1 < 2 ^ 32 }
+    requires count { tables.old.host.issued + 1 < 2 ^ 32 }
     requires room { length config.now.volumes + (length config.now.volumes + 6) ≤ journal.old.spare }
-    ensures step { OnSaid result (λ a. (line : ℕ) → Leads (here (P.state plant.old) config.now host.old journal.old.events) line
+    ensures step { OnSaid result (λ a. (line : ℕ) → Leads (here (P.state plant.old) config.now tables.old journal.old.events) line
         (Step.Write write.now.volume.0 write.now.track write.now.offset write.now.len write.now.bytes)
-        (here (P.state plant.new) config.now host.new journal.new.events) a) }
-    ensures same { OnNoMemory result (host.new ≡ host.old) }
+        (here (P.state plant.new) config.now tables.new journal.new.events) a) }
+    ensures same { OnNoMemory result (tables.new ≡ tables.old) }
     ensures same_plant { OnNoMemory result (P.state plant.new ≡ P.state plant.old) }
     ensures untold { OnNoMemory result (journal.new.events ≡ journal.old.events) }
-    ensures ready { IsReady (P.state plant.new) config.now host.new journal.new.events }
+    ensures ready { IsReady (P.state plant.new) config.now tables.new journal.new.events }
     ensures faults { OnSaid result (λ a. Counts a (P.state plant.old) (P.state plant.new)) }
-    ensures issued { host.new.issued ≤ host.old.issued + 1 }
+    ensures issued { tables.new.host.issued ≤ tables.old.host.issued + 1 }
     ensures room { 1 ≤ journal.new.spare }
 {
-    match issue_write(config, host, journal, write) {
+    match issue_write(config, tables, journal, write) {
         Ok(w) => {
-            let issued = pending_write(host, w);
-            match carry_write(plant, config, host, journal, &issued) {
+            let issued = pending_write(&tables.host, w);
+            match carry_write(plant, config, tables, journal, &issued) {
                 Ok(answer) => Ok(answer),
                 Err(refusal) => Err(Fault::Refused(refusal)),
             }
@@ -230,25 +231,25 @@ pub fn write<P: Plant>(
 pub fn apply<P: Plant>(
     plant: &mut P,
     config: &Config,
-    host: &mut Host,
+    tables: &mut Tables,
     journal: &mut Journal,
     w: u32,
 ) -> Result<Said, Refusal>
-    requires ready { IsReady (P.state plant.old) config.now host.old journal.old.events }
-    requires sound { Sound (here (P.state plant.old) config.now host.old journal.old.events) }
+    requires ready { IsReady (P.state plant.old) config.now tables.old journal.old.events }
+    requires sound { Sound (here (P.state plant.old) config.now tables.old journal.old.events) }
     requires room { length config.now.volumes + (length config.now.volumes + 5) ≤ journal.old.spare }
-    ensures step { (line : ℕ) → Leads (here (P.state plant.old) config.now host.old journal.old.events) line (Step.Apply w)
-        (here (P.state plant.new) config.now host.new journal.new.events) (answered_by result) }
-    ensures ready { IsReady (P.state plant.new) config.now host.new journal.new.events }
+    ensures step { (line : ℕ) → Leads (here (P.state plant.old) config.now tables.old journal.old.events) line (Step.Apply w)
+        (here (P.state plant.new) config.now tables.new journal.new.events) (answered_by result) }
+    ensures ready { IsReady (P.state plant.new) config.now tables.new journal.new.events }
     ensures faults { Counts (answered_by result) (P.state plant.old) (P.state plant.new) }
-    ensures issued { host.new.issued ≡ host.old.issued }
+    ensures issued { tables.new.host.issued ≡ tables.old.host.issued }
     ensures room { 1 ≤ journal.new.spare }
 {
-    if !is_pending(host, WriteId(w)) {
+    if !is_pending(&tables.host, WriteId(w)) {
         return Err(Refusal::Unknown { kind: Kind::Write });
     }
-    let write = pending_write(host, WriteId(w));
-    carry_write(plant, config, host, journal, &write)
+    let write = pending_write(&tables.host, WriteId(w));
+    carry_write(plant, config, tables, journal, &write)
 }
 
 /// Whether the write of that number is pending.
@@ -286,27 +287,27 @@ fn answer(w: WriteId, end: WriteEnd) -> Said
 fn carry_write<P: Plant>(
     plant: &mut P,
     config: &Config,
-    host: &mut Host,
+    tables: &mut Tables,
     journal: &mut Journal,
     write: &Pending,
 ) -> Result<Said, Refusal>
-    requires ready { IsReady (P.state plant.old) config.now host.old journal.old.events }
-    requires found { find (has_number write.now.w.0) host.old.pending ≡ Some write.now }
+    requires ready { IsReady (P.state plant.old) config.now tables.old journal.old.events }
+    requires found { find (has_number write.now.w.0) tables.old.host.pending ≡ Some write.now }
     requires fits { write.now.offset + write.now.len ≤ 64 }
-    requires there { track_refusal (here (P.state plant.old) config.now host.old journal.old.events).control write.now.volume.0 write.now.track ≡ None }
+    requires there { track_refusal (here (P.state plant.old) config.now tables.old journal.old.events).control write.now.volume.0 write.now.track ≡ None }
     requires fit { RelationsFit (P.state plant.old) config.now }
     requires partners { PartnersFit (P.state plant.old) config.now }
     requires room { length config.now.volumes + (length config.now.volumes + 5) ≤ journal.old.spare }
-    ensures carried { EndsFollowed (armed_in (P.state plant.old)) (here (P.state plant.old) config.now host.old journal.old.events)
-        (landing (here (P.state plant.old) config.now host.old journal.old.events).control write.now.w.0 write.now.volume.0 write.now.track)
-        (part_after write.now.volume.0) (here (P.state plant.new) config.now host.new journal.new.events) (refusal_of result) }
-    ensures says { IfOk result (λ a. a ≡ says_written (here (P.state plant.old) config.now host.old journal.old.events).control write.now.w.0 write.now.volume.0 write.now.track) }
-    ensures ready { IsReady (P.state plant.new) config.now host.new journal.new.events }
+    ensures carried { EndsFollowed (armed_in (P.state plant.old)) (here (P.state plant.old) config.now tables.old journal.old.events)
+        (landing (here (P.state plant.old) config.now tables.old journal.old.events).control write.now.w.0 write.now.volume.0 write.now.track)
+        (part_after write.now.volume.0) (here (P.state plant.new) config.now tables.new journal.new.events) (refusal_of result) }
+    ensures says { IfOk result (λ a. a ≡ says_written (here (P.state plant.old) config.now tables.old journal.old.events).control write.now.w.0 write.now.volume.0 write.now.track) }
+    ensures ready { IsReady (P.state plant.new) config.now tables.new journal.new.events }
     ensures faults { Counts (answered_by result) (P.state plant.old) (P.state plant.new) }
-    ensures issued { host.new.issued ≡ host.old.issued }
+    ensures issued { tables.new.host.issued ≡ tables.old.host.issued }
     ensures room { 1 ≤ journal.new.spare }
 {
-    match sync_write(plant, config, journal, host, write) {
+    match sync_write(plant, config, journal, &mut tables.host, write) {
         Ok(end) => Ok(answer(write.w, end)),
         Err(refusal) => Err(refusal),
     }

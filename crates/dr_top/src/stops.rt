@@ -13,8 +13,7 @@ ghost use Rattle.dr_model.specs.WriteEntries.{redo_on, restart_on};
 ghost use Rattle.dr_config.specs.Table.{place_of};
 ghost use Rattle.dr_volume.specs.View.{torn_seen, IsSettled};
 ghost use Rattle.dr_flash.specs.Turns.{Advances, Halts};
-ghost use Rattle.dr_metro.specs.Here.{here, IsReady, IsTold};
-ghost use Rattle.dr_top.specs.Here.{said_of, Leads};
+ghost use Rattle.dr_top.specs.Here.{said_of, Leads, here, IsReady, IsTold};
 ghost use Rattle.dr_flash.specs.Here.{refusal_of, armed_in, IsAtRest};
 ghost use Rattle.dr_top.specs.Starting.{IsStarting, start_from};
 ghost use Rattle.dr_model.specs.declared.event.Event.{Event};
@@ -22,11 +21,12 @@ ghost use Rattle.dr_model.specs.declared.said.Said.TheVariants.{Done};
 ghost use Rattle.dr_model.specs.declared.step.Step.{Step};
 ghost use Rattle.dr_host.specs.Writes.{Writes, has_owner};
 ghost use Rattle.dr_top.specs.Faults.{Counted, Counts};
+ghost use Rattle.dr_top.specs.declared.tables.Tables.{Tables};
 
 use crate::define::{bytes_of, unknown_server};
+use crate::tables::Tables;
 use dr_config::Config;
 use dr_coord::restart;
-use dr_host::Host;
 use dr_ids::{Refusal, ServerId, VolumeId};
 use dr_model::{Addition, Event, Journal, Name, TornWord};
 use dr_plant::{Plant, Torn};
@@ -36,17 +36,17 @@ use dr_volume::redo;
 pub fn stop<P: Plant>(
     plant: &mut P,
     config: &Config,
-    host: &Host,
+    tables: &Tables,
     journal: &mut Journal,
     name: &Name,
 ) -> Result<Addition, Refusal>
-    requires ready { IsReady (P.state plant.old) config.now host.now journal.old.events }
+    requires ready { IsReady (P.state plant.old) config.now tables.now journal.old.events }
     requires short { name.now.len ≤ 24 }
     requires room { 2 ≤ journal.old.spare }
-    ensures step { (line : ℕ) → Leads (here (P.state plant.old) config.now host.now journal.old.events) line (Step.Stop name.now)
-        (here (P.state plant.new) config.now host.now journal.new.events) (said_of result) }
+    ensures step { (line : ℕ) → Leads (here (P.state plant.old) config.now tables.now journal.old.events) line (Step.Stop name.now)
+        (here (P.state plant.new) config.now tables.now journal.new.events) (said_of result) }
     ensures faults { Counts (said_of result) (P.state plant.old) (P.state plant.new) }
-    ensures ready { IsReady (P.state plant.new) config.now host.now journal.new.events }
+    ensures ready { IsReady (P.state plant.new) config.now tables.now journal.new.events }
     ensures room { 1 ≤ journal.new.spare }
 {
     let Some(server) = config.server_named(bytes_of(name)) else {
@@ -78,18 +78,18 @@ fn torn(word: TornWord) -> Torn
 pub fn arm<P: Plant>(
     plant: &mut P,
     config: &Config,
-    host: &Host,
+    tables: &Tables,
     journal: &Journal,
     name: &Name,
     writes: u32,
     word: TornWord,
 ) -> Result<Addition, Refusal>
-    requires ready { IsReady (P.state plant.old) config.now host.now journal.now.events }
+    requires ready { IsReady (P.state plant.old) config.now tables.now journal.now.events }
     requires short { name.now.len ≤ 24 }
-    ensures step { (line : ℕ) → Leads (here (P.state plant.old) config.now host.now journal.now.events) line (Step.StopAfter name.now writes word)
-        (here (P.state plant.new) config.now host.now journal.now.events) (said_of result) }
+    ensures step { (line : ℕ) → Leads (here (P.state plant.old) config.now tables.now journal.now.events) line (Step.StopAfter name.now writes word)
+        (here (P.state plant.new) config.now tables.now journal.now.events) (said_of result) }
     ensures faults { Counts (said_of result) (P.state plant.old) (P.state plant.new) }
-    ensures ready { IsReady (P.state plant.new) config.now host.now journal.now.events }
+    ensures ready { IsReady (P.state plant.new) config.now tables.now journal.now.events }
 {
     let Some(server) = config.server_named(bytes_of(name)) else {
         return Err(unknown_server());
@@ -103,18 +103,18 @@ pub fn arm<P: Plant>(
 pub fn start<P: Plant>(
     plant: &mut P,
     config: &Config,
-    host: &mut Host,
+    tables: &mut Tables,
     journal: &mut Journal,
     name: &Name,
 ) -> Result<Addition, Refusal>
-    requires ready { IsReady (P.state plant.old) config.now host.old journal.old.events }
+    requires ready { IsReady (P.state plant.old) config.now tables.old journal.old.events }
     requires short { name.now.len ≤ 24 }
     requires room { 3 ≤ journal.old.spare }
-    ensures step { (line : ℕ) → Leads (here (P.state plant.old) config.now host.old journal.old.events) line (Step.Start name.now)
-        (here (P.state plant.new) config.now host.new journal.new.events) (said_of result) }
+    ensures step { (line : ℕ) → Leads (here (P.state plant.old) config.now tables.old journal.old.events) line (Step.Start name.now)
+        (here (P.state plant.new) config.now tables.new journal.new.events) (said_of result) }
     ensures faults { Counts (said_of result) (P.state plant.old) (P.state plant.new) }
-    ensures ready { IsReady (P.state plant.new) config.now host.new journal.new.events }
-    ensures issued { host.new.issued ≡ host.old.issued }
+    ensures ready { IsReady (P.state plant.new) config.now tables.new journal.new.events }
+    ensures issued { tables.new.host.issued ≡ tables.old.host.issued }
     ensures room { 1 ≤ journal.new.spare }
 {
     let Some(server) = config.server_named(bytes_of(name)) else {
@@ -123,33 +123,33 @@ pub fn start<P: Plant>(
     if plant.is_on(server.0) {
         return Ok(Addition::Alone);
     }
-    turn_on(plant, config, host, journal, server)
+    turn_on(plant, config, tables, journal, server)
 }
 
 /// Turns on a server that is off.
 fn turn_on<P: Plant>(
     plant: &mut P,
     config: &Config,
-    host: &mut Host,
+    tables: &mut Tables,
     journal: &mut Journal,
     server: ServerId,
 ) -> Result<Addition, Refusal>
-    requires ready { IsReady (P.state plant.old) config.now host.old journal.old.events }
+    requires ready { IsReady (P.state plant.old) config.now tables.old journal.old.events }
     requires off { (P.state plant.old).on server.0 ≡ false }
     requires known { server.0 < 8 }
     requires room { 3 ≤ journal.old.spare }
-    ensures step { (line : ℕ) → after_plan (here (P.state plant.old) config.now host.old journal.old.events) line
-        (plans.start_on (here (P.state plant.old) config.now host.old journal.old.events).control server.0)
-        ≡ said (here (P.state plant.new) config.now host.new journal.new.events) line (said_of result) }
+    ensures step { (line : ℕ) → after_plan (here (P.state plant.old) config.now tables.old journal.old.events) line
+        (plans.start_on (here (P.state plant.old) config.now tables.old journal.old.events).control server.0)
+        ≡ said (here (P.state plant.new) config.now tables.new journal.new.events) line (said_of result) }
     ensures faults { Counts (said_of result) (P.state plant.old) (P.state plant.new) }
-    ensures ready { IsReady (P.state plant.new) config.now host.new journal.new.events }
-    ensures issued { host.new.issued ≡ host.old.issued }
+    ensures ready { IsReady (P.state plant.new) config.now tables.new journal.new.events }
+    ensures issued { tables.new.host.issued ≡ tables.old.host.issued }
     ensures room { 1 ≤ journal.new.spare }
 {
     plant.start(server.0);
     journal.push(Event::Started { server: server.0 });
     redo_volumes(plant, config, journal, server)?;
-    Ok(acknowledge(config, host, journal, server))
+    Ok(acknowledge(config, tables, journal, server))
 }
 
 /// Whether a volume is defined, and the server's.
@@ -173,11 +173,11 @@ fn redo_volumes<P: Plant>(
     requires starting { IsStarting (P.state plant.old) config.now server.0 0 }
     requires known { server.0 < 8 }
     requires room { 2 ≤ journal.old.spare }
-    ensures carried { (h : Writes) → Ends (armed_in (P.state plant.old)) (here (P.state plant.new) config.now h journal.new.events) (refusal_of result)
+    ensures carried { (h : Tables) → Ends (armed_in (P.state plant.old)) (here (P.state plant.new) config.now h journal.new.events) (refusal_of result)
         (here (P.state plant.old) config.now h journal.old.events) (start_from config.now server.0 0) }
     ensures stopped { OnErr result (refusal_of result ≡ Some (Refusal.Stopped server)) }
     ensures faults { Counted (is_err result) (P.state plant.old).faults (P.state plant.new).faults }
-    ensures told { (h : Writes) → IsTold h journal.old.events → IsTold h journal.new.events }
+    ensures told { (h : Tables) → IsTold h journal.old.events → IsTold h journal.new.events }
     ensures rest { IsAtRest (P.state plant.new) config.now }
     ensures unarmed { (q : ℕ) → (P.state plant.old).read_fuse q ≡ None → (P.state plant.new).read_fuse q ≡ None }
     ensures room { 1 ≤ journal.new.spare }
@@ -201,13 +201,13 @@ fn redo_at<P: Plant>(
     requires known { server.0 < 8 }
     requires within { place < length config.now.volumes }
     requires room { 1 ≤ journal.old.spare }
-    ensures carried { OnOk result ((h : Writes) (armed : ℕ → Bool) (u : World) (r : Option Refusal) → Ends armed u r (here (P.state plant.new) config.now h journal.new.events) (start_from config.now server.0 (place + 1))
+    ensures carried { OnOk result ((h : Tables) (armed : ℕ → Bool) (u : World) (r : Option Refusal) → Ends armed u r (here (P.state plant.new) config.now h journal.new.events) (start_from config.now server.0 (place + 1))
         → Ends armed u r (here (P.state plant.old) config.now h journal.old.events) (start_from config.now server.0 place)) }
-    ensures ended { OnErr result ((h : Writes) → Ends (armed_in (P.state plant.old)) (here (P.state plant.new) config.now h journal.new.events) (refusal_of result)
+    ensures ended { OnErr result ((h : Tables) → Ends (armed_in (P.state plant.old)) (here (P.state plant.new) config.now h journal.new.events) (refusal_of result)
         (here (P.state plant.old) config.now h journal.old.events) (start_from config.now server.0 place)) }
     ensures stopped { OnErr result (refusal_of result ≡ Some (Refusal.Stopped server)) }
     ensures faults { Counted (is_err result) (P.state plant.old).faults (P.state plant.new).faults }
-    ensures told { (h : Writes) → IsTold h journal.old.events → IsTold h journal.new.events }
+    ensures told { (h : Tables) → IsTold h journal.old.events → IsTold h journal.new.events }
     ensures starting { OnOk result (IsStarting (P.state plant.new) config.now server.0 (place + 1)) }
     ensures rest { OnErr result (IsAtRest (P.state plant.new) config.now) }
     ensures unarmed { (q : ℕ) → (P.state plant.old).read_fuse q ≡ None → (P.state plant.new).read_fuse q ≡ None }
@@ -238,11 +238,11 @@ fn redo_own<P: Plant>(
     requires at { place_of config.now volume.0 ≡ Some place }
     requires owned { has_owner config.now volume.0 server.0 ≡ true }
     requires room { 1 ≤ journal.old.spare }
-    ensures advances { OnOk result ((h : Writes) → Advances (here (P.state plant.old) config.now h journal.old.events) (redo_on server.0 volume.0) (here (P.state plant.new) config.now h journal.new.events)) }
-    ensures halts { OnErr result ((h : Writes) → Halts (armed_in (P.state plant.old)) (here (P.state plant.old) config.now h journal.old.events) (redo_on server.0 volume.0) (here (P.state plant.new) config.now h journal.new.events) (refusal_of result)) }
+    ensures advances { OnOk result ((h : Tables) → Advances (here (P.state plant.old) config.now h journal.old.events) (redo_on server.0 volume.0) (here (P.state plant.new) config.now h journal.new.events)) }
+    ensures halts { OnErr result ((h : Tables) → Halts (armed_in (P.state plant.old)) (here (P.state plant.old) config.now h journal.old.events) (redo_on server.0 volume.0) (here (P.state plant.new) config.now h journal.new.events) (refusal_of result)) }
     ensures stopped { OnErr result (refusal_of result ≡ Some (Refusal.Stopped server)) }
     ensures faults { Counted (is_err result) (P.state plant.old).faults (P.state plant.new).faults }
-    ensures told { (h : Writes) → IsTold h journal.old.events → IsTold h journal.new.events }
+    ensures told { (h : Tables) → IsTold h journal.old.events → IsTold h journal.new.events }
     ensures starting { OnOk result (IsStarting (P.state plant.new) config.now server.0 (place + 1)) }
     ensures settled { OnOk result (IsSettled (P.state plant.new) config.now volume.0) }
     ensures rest { OnErr result (IsAtRest (P.state plant.new) config.now) }
@@ -276,11 +276,11 @@ fn restart_own<P: Plant>(
     requires at { place_of config.now volume.0 ≡ Some place }
     requires owned { has_owner config.now volume.0 server.0 ≡ true }
     requires room { 1 ≤ journal.old.spare }
-    ensures advances { OnOk result ((h : Writes) → Advances (here (P.state plant.old) config.now h journal.old.events) (restart_on server.0 volume.0) (here (P.state plant.new) config.now h journal.new.events)) }
-    ensures halts { OnErr result ((h : Writes) → Halts (armed_in (P.state plant.old)) (here (P.state plant.old) config.now h journal.old.events) (restart_on server.0 volume.0) (here (P.state plant.new) config.now h journal.new.events) (refusal_of result)) }
+    ensures advances { OnOk result ((h : Tables) → Advances (here (P.state plant.old) config.now h journal.old.events) (restart_on server.0 volume.0) (here (P.state plant.new) config.now h journal.new.events)) }
+    ensures halts { OnErr result ((h : Tables) → Halts (armed_in (P.state plant.old)) (here (P.state plant.old) config.now h journal.old.events) (restart_on server.0 volume.0) (here (P.state plant.new) config.now h journal.new.events) (refusal_of result)) }
     ensures stopped { OnErr result (refusal_of result ≡ Some (Refusal.Stopped server)) }
     ensures faults { Counted (is_err result) (P.state plant.old).faults (P.state plant.new).faults }
-    ensures told { (h : Writes) → IsTold h journal.old.events → IsTold h journal.new.events }
+    ensures told { (h : Tables) → IsTold h journal.old.events → IsTold h journal.new.events }
     ensures starting { OnOk result (IsStarting (P.state plant.new) config.now server.0 (place + 1)) }
     ensures rest { OnErr result (IsAtRest (P.state plant.new) config.now) }
     ensures unarmed { (q : ℕ) → (P.state plant.old).read_fuse q ≡ None → (P.state plant.new).read_fuse q ≡ None }
@@ -293,21 +293,21 @@ fn restart_own<P: Plant>(
 /// Acknowledges the write that had landed on a volume of the server, where there is one. Says what a start adds.
 fn acknowledge(
     config: &Config,
-    host: &mut Host,
+    tables: &mut Tables,
     journal: &mut Journal,
     server: ServerId,
 ) -> Addition
     requires room { 2 ≤ journal.old.spare }
-    ensures said { (s : PlantState) → Done result ≡ says_acked (plans.landed_on (here s config.now host.old journal.old.events).control server.0) }
-    ensures act { (s : PlantState) → carry (here s config.now host.old journal.old.events) (acknowledge_on server.0 ∷ []) ≡ (here s config.now host.new journal.new.events, None) }
-    ensures told { IsTold host.old journal.old.events → IsTold host.new journal.new.events }
-    ensures issued { host.new.issued ≡ host.old.issued }
+    ensures said { (s : PlantState) → Done result ≡ says_acked (plans.landed_on (here s config.now tables.old journal.old.events).control server.0) }
+    ensures act { (s : PlantState) → carry (here s config.now tables.old journal.old.events) (acknowledge_on server.0 ∷ []) ≡ (here s config.now tables.new journal.new.events, None) }
+    ensures told { IsTold tables.old journal.old.events → IsTold tables.new journal.new.events }
+    ensures issued { tables.new.host.issued ≡ tables.old.host.issued }
     ensures room { 1 ≤ journal.new.spare }
 {
-    let Some(w) = host.landed_on(config, server) else {
+    let Some(w) = tables.host.landed_on(config, server) else {
         return Addition::Alone;
     };
-    host.finish(w);
+    tables.host.finish(w);
     journal.push(Event::Ack { w: w.0 });
     Addition::Acked { w: w.0 }
 }

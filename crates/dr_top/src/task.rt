@@ -7,8 +7,8 @@ ghost use Rattle.dr_model.specs.Laws.{Sound};
 ghost use Rattle.dr_model.specs.Layout.{is_part, part_of};
 ghost use Rattle.dr_model.specs.Limits.{most_events};
 ghost use Rattle.dr_model.specs.LineText.{IsWritten};
-ghost use Rattle.dr_model.specs.Plans.{is_built, has_room};
-ghost use Rattle.dr_model.specs.Runs.{after_task};
+ghost use Rattle.dr_model.specs.Plans.{is_built, has_room, plan_of};
+ghost use Rattle.dr_model.specs.Runs.{after_plan, after_task};
 ghost use Rattle.dr_model.specs.declared.said.Said.TheVariants.{Refused};
 ghost use Rattle.dr_model.specs.declared.step.Step.{Step};
 ghost use Rattle.dr_top.specs.Faults.{Counted, Counts, told_stop};
@@ -21,13 +21,14 @@ use crate::define::{define_server, define_volume, set_link};
 use crate::expiry::expire;
 use crate::flash::{make_flash, remove_flash, resync_flash, reverse_flash};
 use crate::freezing::{freeze_pairs, thaw_pairs};
+use crate::masters::{lose_masters, servers_on};
 use crate::pairs::{drain_copy, end_copy, make_copy, pause_copy, resume_copy};
 use crate::paths::{make_path, remove_path};
 use crate::steps::{HostWrite, apply, issue, show, write};
 use crate::stops::{arm, start, stop};
+use crate::tables::Tables;
 use dr_config::Config;
 use dr_flash::Options;
-use dr_host::Host;
 use dr_ids::{Fault, Lss, Refusal, VolumeId};
 use dr_model::{Addition, Journal, Said, Step};
 use dr_plant::Plant;
@@ -162,21 +163,21 @@ fn all_done(carried: Result<Addition, Fault>) -> Result<Said, Fault>
 fn carry_relation<P: Plant>(
     plant: &mut P,
     config: &Config,
-    host: &Host,
+    tables: &Tables,
     journal: &mut Journal,
     step: &Step,
 ) -> Result<Addition, Refusal>
-    requires ready { IsReady (P.state plant.old) config.now host.now journal.old.events }
-    requires sound { Sound (here (P.state plant.old) config.now host.now journal.old.events) }
+    requires ready { IsReady (P.state plant.old) config.now tables.now journal.old.events }
+    requires sound { Sound (here (P.state plant.old) config.now tables.now journal.old.events) }
     requires fits { IsWellFormed step.now }
     requires few { length config.now.volumes ≤ 64 }
     requires room { 4096 ≤ journal.old.spare }
     requires form { is_plain step.now ≡ false }
     requires built { is_built step.now ≡ true }
-    ensures step { (line : ℕ) → Leads (here (P.state plant.old) config.now host.now journal.old.events) line step.now
-        (here (P.state plant.new) config.now host.now journal.new.events) (said_of result) }
+    ensures step { (line : ℕ) → Leads (here (P.state plant.old) config.now tables.now journal.old.events) line step.now
+        (here (P.state plant.new) config.now tables.now journal.new.events) (said_of result) }
     ensures faults { Counts (said_of result) (P.state plant.old) (P.state plant.new) }
-    ensures ready { IsReady (P.state plant.new) config.now host.now journal.new.events }
+    ensures ready { IsReady (P.state plant.new) config.now tables.now journal.new.events }
     ensures room { 1 ≤ journal.new.spare }
 {
     match *step {
@@ -200,7 +201,7 @@ fn carry_relation<P: Plant>(
             make_flash(
                 plant,
                 config,
-                host,
+                tables,
                 journal,
                 &devs.dev,
                 VolumeId(s),
@@ -212,7 +213,7 @@ fn carry_relation<P: Plant>(
             remove_flash(
                 plant,
                 config,
-                host,
+                tables,
                 journal,
                 &devs.dev,
                 VolumeId(s),
@@ -229,7 +230,7 @@ fn carry_relation<P: Plant>(
             resync_flash(
                 plant,
                 config,
-                host,
+                tables,
                 journal,
                 &devs.dev,
                 VolumeId(s),
@@ -241,7 +242,7 @@ fn carry_relation<P: Plant>(
             reverse_flash(
                 plant,
                 config,
-                host,
+                tables,
                 journal,
                 &devs.dev,
                 VolumeId(s),
@@ -249,9 +250,9 @@ fn carry_relation<P: Plant>(
             )
         }
         Step::Copy { volume, most } => {
-            copy(plant, config, host, journal, VolumeId(volume), most)
+            copy(plant, config, tables, journal, VolumeId(volume), most)
         }
-        _ => carry_pair(plant, config, host, journal, step),
+        _ => carry_pair(plant, config, tables, journal, step),
     }
 }
 
@@ -259,22 +260,22 @@ fn carry_relation<P: Plant>(
 fn carry_pair<P: Plant>(
     plant: &mut P,
     config: &Config,
-    host: &Host,
+    tables: &Tables,
     journal: &mut Journal,
     step: &Step,
 ) -> Result<Addition, Refusal>
-    requires ready { IsReady (P.state plant.old) config.now host.now journal.old.events }
-    requires sound { Sound (here (P.state plant.old) config.now host.now journal.old.events) }
+    requires ready { IsReady (P.state plant.old) config.now tables.now journal.old.events }
+    requires sound { Sound (here (P.state plant.old) config.now tables.now journal.old.events) }
     requires fits { IsWellFormed step.now }
     requires few { length config.now.volumes ≤ 64 }
     requires room { 4096 ≤ journal.old.spare }
     requires form { is_plain step.now ≡ false }
     requires other { is_relation step.now ≡ false }
     requires built { is_built step.now ≡ true }
-    ensures step { (line : ℕ) → Leads (here (P.state plant.old) config.now host.now journal.old.events) line step.now
-        (here (P.state plant.new) config.now host.now journal.new.events) (said_of result) }
+    ensures step { (line : ℕ) → Leads (here (P.state plant.old) config.now tables.now journal.old.events) line step.now
+        (here (P.state plant.new) config.now tables.now journal.new.events) (said_of result) }
     ensures faults { Counts (said_of result) (P.state plant.old) (P.state plant.new) }
-    ensures ready { IsReady (P.state plant.new) config.now host.now journal.new.events }
+    ensures ready { IsReady (P.state plant.new) config.now tables.now journal.new.events }
     ensures room { 1 ≤ journal.new.spare }
 {
     match *step {
@@ -287,7 +288,7 @@ fn carry_pair<P: Plant>(
         } => make_copy(
             plant,
             config,
-            host,
+            tables,
             journal,
             &devs,
             VolumeId(a),
@@ -303,7 +304,7 @@ fn carry_pair<P: Plant>(
         } => end_copy(
             plant,
             config,
-            host,
+            tables,
             journal,
             &devs,
             VolumeId(a),
@@ -313,7 +314,7 @@ fn carry_pair<P: Plant>(
         Step::PausePair { devs, a, b } => pause_copy(
             plant,
             config,
-            host,
+            tables,
             journal,
             &devs,
             VolumeId(a),
@@ -322,7 +323,7 @@ fn carry_pair<P: Plant>(
         Step::ResumePair { devs, a, b, kind } => resume_copy(
             plant,
             config,
-            host,
+            tables,
             journal,
             &devs,
             VolumeId(a),
@@ -330,7 +331,7 @@ fn carry_pair<P: Plant>(
             kind,
         ),
         Step::Drain { volume, most } => {
-            drain_copy(plant, config, host, journal, VolumeId(volume), most)
+            drain_copy(plant, config, tables, journal, VolumeId(volume), most)
         }
         _ => Err(Refusal::NotBuilt),
     }
@@ -340,29 +341,29 @@ fn carry_pair<P: Plant>(
 fn carry_out<P: Plant>(
     plant: &mut P,
     config: &mut Config,
-    host: &mut Host,
+    tables: &mut Tables,
     journal: &mut Journal,
     line: u32,
     step: &Step,
 ) -> Result<Said, Fault>
-    requires ready { IsReady (P.state plant.old) config.old host.old journal.old.events }
-    requires sound { Sound (here (P.state plant.old) config.old host.old journal.old.events) }
+    requires ready { IsReady (P.state plant.old) config.old tables.old journal.old.events }
+    requires sound { Sound (here (P.state plant.old) config.old tables.old journal.old.events) }
     requires fits { IsWellFormed step.now }
     requires few { length config.old.volumes ≤ 64 }
     requires room { 4096 ≤ journal.old.spare }
-    requires count { host.old.issued + 1 < 2 ^ 32 }
+    requires count { tables.old.host.issued + 1 < 2 ^ 32 }
     requires built { is_built step.now ≡ true }
-    ensures step { OnSaid result (λ a. Leads (here (P.state plant.old) config.old host.old journal.old.events) line step.now
-        (here (P.state plant.new) config.new host.new journal.new.events) a) }
+    ensures step { OnSaid result (λ a. Leads (here (P.state plant.old) config.old tables.old journal.old.events) line step.now
+        (here (P.state plant.new) config.new tables.new journal.new.events) a) }
     ensures faults { OnSaid result (λ a. Counts a (P.state plant.old) (P.state plant.new)) }
-    ensures same { OnNoMemory result (here (P.state plant.new) config.new host.new journal.new.events ≡ here (P.state plant.old) config.old host.old journal.old.events) }
+    ensures same { OnNoMemory result (here (P.state plant.new) config.new tables.new journal.new.events ≡ here (P.state plant.old) config.old tables.old journal.old.events) }
     ensures same_plant { OnNoMemory result (P.state plant.new ≡ P.state plant.old) }
-    ensures ready { IsReady (P.state plant.new) config.new host.new journal.new.events }
-    ensures issued { host.new.issued ≤ host.old.issued + 1 }
+    ensures ready { IsReady (P.state plant.new) config.new tables.new journal.new.events }
+    ensures issued { tables.new.host.issued ≤ tables.old.host.issued + 1 }
     ensures room { 1 ≤ journal.new.spare }
 {
     match *step {
-        Step::Server { name } => all_done(define_server(plant, config, host, journal, &name)),
+        Step::Server { name } => all_done(define_server(plant, config, tables, journal, &name)),
         Step::Volume {
             volume,
             server,
@@ -370,7 +371,7 @@ fn carry_out<P: Plant>(
         } => all_done(define_volume(
             plant,
             config,
-            host,
+            tables,
             journal,
             VolumeId(volume),
             &server,
@@ -384,7 +385,7 @@ fn carry_out<P: Plant>(
         } => all_done(make_path(
             plant,
             config,
-            host,
+            tables,
             journal,
             &devs,
             Lss(src),
@@ -399,14 +400,14 @@ fn carry_out<P: Plant>(
         } => widened(remove_path(
             plant,
             config,
-            host,
+            tables,
             journal,
             &devs,
             Lss(src),
             Lss(tgt),
             force,
         )),
-        Step::Link { a, b, up } => widened(set_link(plant, config, host, journal, &a, &b, up)),
+        Step::Link { a, b, up } => widened(set_link(plant, config, tables, journal, &a, &b, up)),
         Step::Issue {
             volume,
             track,
@@ -415,7 +416,7 @@ fn carry_out<P: Plant>(
             bytes,
         } => {
             let asked = asked(volume, track, offset, len, bytes);
-            all_done(issue(plant, config, host, journal, &asked))
+            all_done(issue(plant, config, tables, journal, &asked))
         }
         Step::Write {
             volume,
@@ -425,30 +426,30 @@ fn carry_out<P: Plant>(
             bytes,
         } => {
             let asked = asked(volume, track, offset, len, bytes);
-            write(plant, config, host, journal, &asked)
+            write(plant, config, tables, journal, &asked)
         }
-        Step::Apply { w } => answer_widened(apply(plant, config, host, journal, w)),
+        Step::Apply { w } => answer_widened(apply(plant, config, tables, journal, w)),
         Step::Show { volume, track } => widened(show(
             plant,
             config,
-            host,
+            tables,
             journal,
             line,
             VolumeId(volume),
             track,
         )),
-        Step::Stop { server } => widened(stop(plant, config, host, journal, &server)),
+        Step::Stop { server } => widened(stop(plant, config, tables, journal, &server)),
         Step::StopAfter {
             server,
             writes,
             torn,
-        } => widened(arm(plant, config, host, journal, &server, writes, torn)),
-        Step::Start { server } => widened(start(plant, config, host, journal, &server)),
-        Step::Expire { server } => widened(expire(plant, config, host, journal, &server)),
+        } => widened(arm(plant, config, tables, journal, &server, writes, torn)),
+        Step::Start { server } => widened(start(plant, config, tables, journal, &server)),
+        Step::Expire { server } => widened(expire(plant, config, tables, journal, &server)),
         Step::Freeze { devs, l, m } => widened(freeze_pairs(
             plant,
             config,
-            host,
+            tables,
             journal,
             &devs,
             Lss(l),
@@ -457,13 +458,13 @@ fn carry_out<P: Plant>(
         Step::Unfreeze { devs, l, m } => widened(thaw_pairs(
             plant,
             config,
-            host,
+            tables,
             journal,
             &devs,
             Lss(l),
             Lss(m),
         )),
-        _ => widened(carry_relation(plant, config, host, journal, step)),
+        _ => widened(carry_relation(plant, config, tables, journal, step)),
     }
 }
 
@@ -480,32 +481,33 @@ fn asked(volume: u16, track: u32, offset: u8, len: u8, bytes: [u8; 64]) -> HostW
     }
 }
 
-/// Carries out a step whose form is built, for which the journal has room, and answers it. Where there is no memory
-/// nothing has changed.
-fn carry_built<P: Plant>(
+/// Carries out a step whose form is built, for which the journal has room, and answers it. What its end makes of the
+/// masters is still to come. Where there is no memory nothing has changed.
+fn carry_answered<P: Plant>(
     plant: &mut P,
     config: &mut Config,
-    host: &mut Host,
+    tables: &mut Tables,
     journal: &mut Journal,
     number: u32,
     step: &Step,
 ) -> Result<(), AllocError>
-    requires ready { IsReady (P.state plant.old) config.old host.old journal.old.events }
-    requires sound { Sound (here (P.state plant.old) config.old host.old journal.old.events) }
+    requires ready { IsReady (P.state plant.old) config.old tables.old journal.old.events }
+    requires sound { Sound (here (P.state plant.old) config.old tables.old journal.old.events) }
     requires fits { IsWellFormed step.now }
     requires few { length config.old.volumes ≤ 64 }
     requires room { 4096 ≤ journal.old.spare }
-    requires count { host.old.issued + 1 < 2 ^ 32 }
+    requires count { tables.old.host.issued + 1 < 2 ^ 32 }
     requires built { is_built step.now ≡ true }
     requires has_room { has_room journal.old.events ≡ true }
-    ensures task { OnOk result (after_task (here (P.state plant.old) config.old host.old journal.old.events) (record { line = number; asked = Ok step.now })
-        ≡ here (P.state plant.new) config.new host.new journal.new.events) }
-    ensures same { OnErr result (here (P.state plant.new) config.new host.new journal.new.events ≡ here (P.state plant.old) config.old host.old journal.old.events) }
-    ensures ready { IsReady (P.state plant.new) config.new host.new journal.new.events }
+    ensures plan { OnOk result (after_plan (here (P.state plant.old) config.old tables.old journal.old.events) number
+        (plan_of (here (P.state plant.old) config.old tables.old journal.old.events).control journal.old.events number step.now)
+        ≡ here (P.state plant.new) config.new tables.new journal.new.events) }
+    ensures same { OnErr result (here (P.state plant.new) config.new tables.new journal.new.events ≡ here (P.state plant.old) config.old tables.old journal.old.events) }
+    ensures ready { IsReady (P.state plant.new) config.new tables.new journal.new.events }
     ensures faults { (f : ℕ) → Counted (told_stop journal.old.events) f (P.state plant.old).faults → Counted (told_stop journal.new.events) f (P.state plant.new).faults }
-    ensures issued { host.new.issued ≤ host.old.issued + 1 }
+    ensures issued { tables.new.host.issued ≤ tables.old.host.issued + 1 }
 {
-    match carry_out(plant, config, host, journal, number, step) {
+    match carry_out(plant, config, tables, journal, number, step) {
         Ok(answer) => {
             say(journal, number, answer);
             Ok(())
@@ -518,28 +520,63 @@ fn carry_built<P: Plant>(
     }
 }
 
+/// Carries out a step whose form is built, for which the journal has room, and answers it: each master whose
+/// server stopped in it is lost as it ends. Where there is no memory nothing has changed.
+fn carry_built<P: Plant>(
+    plant: &mut P,
+    config: &mut Config,
+    tables: &mut Tables,
+    journal: &mut Journal,
+    number: u32,
+    step: &Step,
+) -> Result<(), AllocError>
+    requires ready { IsReady (P.state plant.old) config.old tables.old journal.old.events }
+    requires sound { Sound (here (P.state plant.old) config.old tables.old journal.old.events) }
+    requires fits { IsWellFormed step.now }
+    requires few { length config.old.volumes ≤ 64 }
+    requires room { 4096 ≤ journal.old.spare }
+    requires count { tables.old.host.issued + 1 < 2 ^ 32 }
+    requires built { is_built step.now ≡ true }
+    requires has_room { has_room journal.old.events ≡ true }
+    ensures task { OnOk result (after_task (here (P.state plant.old) config.old tables.old journal.old.events) (record { line = number; asked = Ok step.now })
+        ≡ here (P.state plant.new) config.new tables.new journal.new.events) }
+    ensures same { OnErr result (here (P.state plant.new) config.new tables.new journal.new.events ≡ here (P.state plant.old) config.old tables.old journal.old.events) }
+    ensures ready { IsReady (P.state plant.new) config.new tables.new journal.new.events }
+    ensures faults { (f : ℕ) → Counted (told_stop journal.old.events) f (P.state plant.old).faults → Counted (told_stop journal.new.events) f (P.state plant.new).faults }
+    ensures issued { tables.new.host.issued ≤ tables.old.host.issued + 1 }
+{
+    let before = servers_on(plant);
+    match carry_answered(plant, config, tables, journal, number, step) {
+        Ok(()) => {
+            lose_masters(plant, &before, &mut tables.sessions);
+            Ok(())
+        }
+        Err(AllocError) => Err(AllocError),
+    }
+}
+
 /// Carries out a step, and answers it: a form that isn't built is refused, then a step for which the journal has no room.
 /// Where there is no memory nothing has changed.
 pub fn carry_task<P: Plant>(
     plant: &mut P,
     config: &mut Config,
-    host: &mut Host,
+    tables: &mut Tables,
     journal: &mut Journal,
     number: u32,
     step: &Step,
 ) -> Result<(), AllocError>
-    requires ready { IsReady (P.state plant.old) config.old host.old journal.old.events }
-    requires sound { Sound (here (P.state plant.old) config.old host.old journal.old.events) }
+    requires ready { IsReady (P.state plant.old) config.old tables.old journal.old.events }
+    requires sound { Sound (here (P.state plant.old) config.old tables.old journal.old.events) }
     requires written { IsWritten step.now }
     requires few { length config.old.volumes ≤ 64 }
-    requires count { host.old.issued + 1 < 2 ^ 32 }
+    requires count { tables.old.host.issued + 1 < 2 ^ 32 }
     requires below { length journal.old.events < most_events }
-    ensures task { OnOk result (after_task (here (P.state plant.old) config.old host.old journal.old.events) (record { line = number; asked = Ok step.now })
-        ≡ here (P.state plant.new) config.new host.new journal.new.events) }
-    ensures same { OnErr result (here (P.state plant.new) config.new host.new journal.new.events ≡ here (P.state plant.old) config.old host.old journal.old.events) }
-    ensures ready { IsReady (P.state plant.new) config.new host.new journal.new.events }
+    ensures task { OnOk result (after_task (here (P.state plant.old) config.old tables.old journal.old.events) (record { line = number; asked = Ok step.now })
+        ≡ here (P.state plant.new) config.new tables.new journal.new.events) }
+    ensures same { OnErr result (here (P.state plant.new) config.new tables.new journal.new.events ≡ here (P.state plant.old) config.old tables.old journal.old.events) }
+    ensures ready { IsReady (P.state plant.new) config.new tables.new journal.new.events }
     ensures faults { (f : ℕ) → Counted (told_stop journal.old.events) f (P.state plant.old).faults → Counted (told_stop journal.new.events) f (P.state plant.new).faults }
-    ensures issued { host.new.issued ≤ host.old.issued + 1 }
+    ensures issued { tables.new.host.issued ≤ tables.old.host.issued + 1 }
 {
     if !is_built(step) {
         return refuse(journal, number, Refusal::NotBuilt);
@@ -548,5 +585,5 @@ pub fn carry_task<P: Plant>(
         return refuse(journal, number, Refusal::JournalFull);
     }
     journal.reserve(STEP_EVENTS)?;
-    carry_built(plant, config, host, journal, number, step)
+    carry_built(plant, config, tables, journal, number, step)
 }

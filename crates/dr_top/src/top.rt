@@ -7,8 +7,8 @@ ghost use Rattle.dr_top.specs.Outcome.{is_run, IsRun, EndsUsage, IsUsage};
 use crate::put::put_all;
 use crate::run::run_lines;
 use crate::status::Status;
+use crate::tables::Tables;
 use dr_config::Config;
-use dr_host::Host;
 use dr_io::{Sink, Source};
 use dr_model::Journal;
 use dr_plant::Plant;
@@ -38,8 +38,16 @@ fn run<P: Plant, S: Source, K: Sink>(
     ensures { IsRun S.left K.written source.old source.new sink.old sink.new S.faults K.faults result journal.new.events (P.state plant.old) (P.state plant.new) }
 {
     let mut config = Config::new(alloc);
-    let mut host = Host::new(alloc);
-    run_lines(alloc, plant, &mut config, &mut host, journal, source, sink)
+    let mut tables = Tables::new(alloc);
+    run_lines(
+        alloc,
+        plant,
+        &mut config,
+        &mut tables,
+        journal,
+        source,
+        sink,
+    )
 }
 
 fn usage<K: Sink>(sink: &mut K) -> Status

@@ -12,7 +12,7 @@ use Rattle.dr_model.specs.Runs.{said}
 use Rattle.dr_model.specs.declared.said.Said.TheVariants.{Done}
 use Rattle.dr_model.specs.declared.said.Addition.TheVariants.{Counted}
 use Rattle.dr_volume.specs.View.{volume_seen, on_seen}
-use Rattle.dr_metro.specs.Here.{here, rest_of}
+use Rattle.dr_top.specs.Here.{here, rest_of}
 use Rattle.dr_flash.proofs.CheckLemmas.{on-low}
 use Rattle.dr_top.proofs.LocatedLemmas.{mapped_none, mapped_some, seen-entry}
 use Rattle.dr_top.proofs.BackgroundLemmas.{may_copy_by, left_by, gives, held, copy-nowhere, copy-off, copy-unfit, copy-held, copy-done, copy-failed}
@@ -21,11 +21,11 @@ use Rattle.dr_top.proofs.background.copy.Goals as goal
 
 pub returns-in_default-clause-step : goal.returns-in_default-clause-step
 returns-in_default-clause-step g c =
-    copy-nowhere (g.P.Plant.state c.args.plant.now) c.args.config.now c.args.host.now c.args.journal.now.events c.args.t.0 c.args.most c.requires.ready.reads _ (mapped_none _ _ c.in_default.ensures.value) refl
+    copy-nowhere (g.P.Plant.state c.args.plant.now) c.args.config.now c.args.tables.now c.args.journal.now.events c.args.t.0 c.args.most c.requires.ready.reads _ (mapped_none _ _ c.in_default.ensures.value) refl
 
 pub returns-then-not-is_on-clause-step : goal.returns-then-not-is_on-clause-step
 returns-then-not-is_on-clause-step g c =
-    let s = g.P.Plant.state c.args.plant.now in let t = c.args.config.now in let h = c.args.host.now in let ev = c.args.journal.now.events in
+    let s = g.P.Plant.state c.args.plant.now in let t = c.args.config.now in let h = c.args.tables.now in let ev = c.args.journal.now.events in
     let e = mapped_some (λ (e : VolumeEntry). e.server) _ _ c.in-Some.ensures.value in
     let owner : (volume_seen s t c.args.t.0).server ≡ c.in-Some.server.0 = (seen-entry s t c.args.t.0 e.0 e.1).0 ∙ e.2 in
     copy-off s t h ev c.args.t.0 c.args.most c.requires.ready.reads e.0 e.1 _ (ap (on_seen s) owner ∙ on-low s c.in-Some.server.0 c.in-Some.ensures.defined.below ∙ sym c.if-not-is_on.ensures) (ap server_off (sym owner))
@@ -42,7 +42,7 @@ relation_state-requires-clause-defined g c =
 
 pub returns-then-not-may_copy-clause-step : goal.returns-then-not-may_copy-clause-step
 returns-then-not-may_copy-clause-step g c =
-    let s = g.P.Plant.state c.args.plant.now in let t = c.args.config.now in let h = c.args.host.now in let ev = c.args.journal.now.events in
+    let s = g.P.Plant.state c.args.plant.now in let t = c.args.config.now in let h = c.args.tables.now in let ev = c.args.journal.now.events in
     let e = mapped_some (λ (e : VolumeEntry). e.server) _ _ c.in-Some.ensures.value in
     let owner : (volume_seen s t c.args.t.0).server ≡ c.in-Some.server.0 = (seen-entry s t c.args.t.0 e.0 e.1).0 ∙ e.2 in
     let runs : on_seen s (volume_seen s t c.args.t.0).server ≡ true = ap (on_seen s) owner ∙ on-low s c.in-Some.server.0 c.in-Some.ensures.defined.below ∙ sym c.if-not-is_on.ensures in
@@ -51,14 +51,14 @@ returns-then-not-may_copy-clause-step g c =
 
 pub copy_tracks-requires-clause-running : goal.copy_tracks-requires-clause-running
 copy_tracks-requires-clause-running g c =
-    let s = g.P.Plant.state c.args.plant.now in let t = c.args.config.now in let h = c.args.host.now in let ev = c.args.journal.now.events in
+    let s = g.P.Plant.state c.args.plant.now in let t = c.args.config.now in let h = c.args.tables.now in let ev = c.args.journal.now.events in
     let e = mapped_some (λ (e : VolumeEntry). e.server) _ _ c.in-Some.ensures.value in
     let owner : (volume_seen s t c.args.t.0).server ≡ c.in-Some.server.0 = (seen-entry s t c.args.t.0 e.0 e.1).0 ∙ e.2 in
     ap s.on owner ∙ sym c.if-not-is_on.ensures
 
 pub returns-in-Ok-clause-step : goal.returns-in-Ok-clause-step
 returns-in-Ok-clause-step g c line =
-    let s = g.P.Plant.state c.args.plant.now in let t = c.args.config.now in let h = c.args.host.now in let ev = c.args.journal.now.events in
+    let s = g.P.Plant.state c.args.plant.now in let t = c.args.config.now in let h = c.args.tables.now in let ev = c.args.journal.now.events in
     let e = mapped_some (λ (e : VolumeEntry). e.server) _ _ c.in-Some.ensures.value in
     let owner : (volume_seen s t c.args.t.0).server ≡ c.in-Some.server.0 = (seen-entry s t c.args.t.0 e.0 e.1).0 ∙ e.2 in
     let runs : on_seen s (volume_seen s t c.args.t.0).server ≡ true = ap (on_seen s) owner ∙ on-low s c.in-Some.server.0 c.in-Some.ensures.defined.below ∙ sym c.if-not-is_on.ensures in
@@ -72,7 +72,7 @@ returns-in-Ok-clause-step g c line =
 
 pub returns-in-Err-clause-step : goal.returns-in-Err-clause-step
 returns-in-Err-clause-step g c =
-    let s = g.P.Plant.state c.args.plant.now in let t = c.args.config.now in let h = c.args.host.now in let ev = c.args.journal.now.events in
+    let s = g.P.Plant.state c.args.plant.now in let t = c.args.config.now in let h = c.args.tables.now in let ev = c.args.journal.now.events in
     let e = mapped_some (λ (e : VolumeEntry). e.server) _ _ c.in-Some.ensures.value in
     let owner : (volume_seen s t c.args.t.0).server ≡ c.in-Some.server.0 = (seen-entry s t c.args.t.0 e.0 e.1).0 ∙ e.2 in
     let runs : on_seen s (volume_seen s t c.args.t.0).server ≡ true = ap (on_seen s) owner ∙ on-low s c.in-Some.server.0 c.in-Some.ensures.defined.below ∙ sym c.if-not-is_on.ensures in
@@ -85,14 +85,14 @@ returns-in-Err-clause-step g c =
 
 pub source_refusal-requires-clause-source : goal.source_refusal-requires-clause-source
 source_refusal-requires-clause-source g c =
-    let s = g.P.Plant.state c.args.plant.now in let t = c.args.config.now in let h = c.args.host.now in let ev = c.args.journal.now.events in
+    let s = g.P.Plant.state c.args.plant.now in let t = c.args.config.now in let h = c.args.tables.now in let ev = c.args.journal.now.events in
     let may = ap may_copy_by (sym c.peek_fields-fields.ensures.fields) ∙ sym c.if-not-may_copy.ensures in
     let related : (volume_seen s t c.args.t.0).fields.related ≡ true = (and_parts _ _ may).0 in
     ap (λ (f : Fields). is_some (place_of t f.source)) c.peek_fields-fields.ensures.fields ∙ ((relations-fit s t h ev c.requires.sound).source c.args.t.0 related).defined
 
 pub returns-in-Some-source_refusal-clause-step : goal.returns-in-Some-source_refusal-clause-step
 returns-in-Some-source_refusal-clause-step g c =
-    let s = g.P.Plant.state c.args.plant.now in let t = c.args.config.now in let h = c.args.host.now in let ev = c.args.journal.now.events in
+    let s = g.P.Plant.state c.args.plant.now in let t = c.args.config.now in let h = c.args.tables.now in let ev = c.args.journal.now.events in
     let e = mapped_some (λ (e : VolumeEntry). e.server) _ _ c.in-Some.ensures.value in
     let owner : (volume_seen s t c.args.t.0).server ≡ c.in-Some.server.0 = (seen-entry s t c.args.t.0 e.0 e.1).0 ∙ e.2 in
     let runs : on_seen s (volume_seen s t c.args.t.0).server ≡ true = ap (on_seen s) owner ∙ on-low s c.in-Some.server.0 c.in-Some.ensures.defined.below ∙ sym c.if-not-is_on.ensures in

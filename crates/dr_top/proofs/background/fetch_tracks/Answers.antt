@@ -2,7 +2,7 @@ use Rattle.std.proofs.Common.{arith, sym, ap, ◌∙◌, ◌≡◌, [], ◌∷�
 use Rattle.dr_model.specs.Carry.{carry}
 use Rattle.dr_model.specs.Entries.{times, fetch_next}
 use Rattle.std.proofs.Common.{refl}
-use Rattle.dr_metro.specs.Here.{here, rest_of}
+use Rattle.dr_top.specs.Here.{here, rest_of}
 use Rattle.dr_flash.proofs.TurnLemmas.{err-always}
 use Rattle.dr_top.proofs.LandLemmas.{exact, told-through, ready-after, refused-by}
 use Rattle.dr_top.proofs.BackgroundLemmas.{same-server, carried-next, carried-failed, carried-none, pass-later}
@@ -11,7 +11,7 @@ use Rattle.dr_top.proofs.background.fetch_tracks.Goals as goal
 
 pub loop-init : goal.loop-init
 loop-init g c = record {
-  so_far = carried-none (here (g.P.Plant.state c.args.plant.now) c.args.config.now c.args.host.now c.args.journal.now.events);
+  so_far = carried-none (here (g.P.Plant.state c.args.plant.now) c.args.config.now c.args.tables.now c.args.journal.now.events);
   rest = c.requires.ready.rest;
   fit = c.requires.fit;
   unarmed = λ q none. none;
@@ -26,7 +26,7 @@ copy_step-requires-clause-running g c = (λ i. c.loop.invariant.on i (same-serve
 pub returns-in_err-copy_step-clause-carried : goal.returns-in_err-copy_step-clause-carried
 returns-in_err-copy_step-clause-carried g c =
     let s = g.P.Plant.state c.args.plant.now in let x = g.P.Plant.state c.loop.plant in let y = g.P.Plant.state c.copy_step.new.p in
-    let t = c.args.config.now in let h = c.args.host.now in let e = c.in_err-copy_step.field-0.0 in
+    let t = c.args.config.now in let h = c.args.tables.now in let e = c.in_err-copy_step.field-0.0 in
     let w = here s t h c.args.journal.now.events in let v = here x t h c.loop.journal.events in let u = here y t h c.copy_step.new.j.events in
     let ds = fetch_next c.args.t.0 ∷ [] in
     carried-failed w v c.loop.counter ds c.loop.invariant.so_far c.args.count u e (let lt = c.loop-test.true in omega (arith, lt)) (exact x u (Some e) v ds (pass-later s x c.requires.ready.reads c.loop.invariant.unarmed) (c.in_err-copy_step.ensures.carried (rest_of h c.loop.journal.events)))
@@ -35,7 +35,7 @@ returns-in_err-copy_step-clause-carried g c =
 pub returns-in_err-copy_step-clause-ready : goal.returns-in_err-copy_step-clause-ready
 returns-in_err-copy_step-clause-ready g c =
     let s = g.P.Plant.state c.args.plant.now in let x = g.P.Plant.state c.loop.plant in let y = g.P.Plant.state c.copy_step.new.p in
-    let t = c.args.config.now in let h = c.args.host.now in let e = c.in_err-copy_step.field-0.0 in
+    let t = c.args.config.now in let h = c.args.tables.now in let e = c.in_err-copy_step.field-0.0 in
     let w = here s t h c.args.journal.now.events in let v = here x t h c.loop.journal.events in let u = here y t h c.copy_step.new.j.events in
     let ds = fetch_next c.args.t.0 ∷ [] in
     ready-after t s y h c.copy_step.new.j.events c.requires.ready.reads c.in_err-copy_step.ensures.rest (λ q none. c.in_err-copy_step.ensures.unarmed q (c.loop.invariant.unarmed q none))
@@ -50,7 +50,7 @@ returns-in_err-copy_step-clause-refused g c =
 pub loop-preserved : goal.loop-preserved
 loop-preserved g c =
     let s = g.P.Plant.state c.args.plant.now in let x = g.P.Plant.state c.loop.plant in let y = g.P.Plant.state c.copy_step.new.p in
-    let t = c.args.config.now in let h = c.args.host.now in
+    let t = c.args.config.now in let h = c.args.tables.now in
     let w = here s t h c.args.journal.now.events in let v = here x t h c.loop.journal.events in let u = here y t h c.copy_step.new.j.events in
     let ds = fetch_next c.args.t.0 ∷ [] in
     record {
@@ -65,14 +65,14 @@ loop-preserved g c =
 
 pub returns-clause-carried : goal.returns-clause-carried
 returns-clause-carried g c =
-    let s = g.P.Plant.state c.args.plant.now in let t = c.args.config.now in let h = c.args.host.now in
+    let s = g.P.Plant.state c.args.plant.now in let t = c.args.config.now in let h = c.args.tables.now in
     let ds = fetch_next c.args.t.0 ∷ [] in
     let all : c.args.count ≡ c.loop.counter = (let e = c.loop.auto.counter-end in let f = c.loop-test.false in omega (arith, e, f)) in
     ap (λ n. carry (here s t h c.args.journal.now.events) (times n ds)) all ∙ c.loop.invariant.so_far
 
 pub returns-clause-ready : goal.returns-clause-ready
 returns-clause-ready g c =
-    let s = g.P.Plant.state c.args.plant.now in let x = g.P.Plant.state c.loop.plant in let t = c.args.config.now in let h = c.args.host.now in
+    let s = g.P.Plant.state c.args.plant.now in let x = g.P.Plant.state c.loop.plant in let t = c.args.config.now in let h = c.args.tables.now in
     let ds = fetch_next c.args.t.0 ∷ [] in
     ready-after t s x h c.loop.journal.events c.requires.ready.reads c.loop.invariant.rest (λ q none. c.loop.invariant.unarmed q none)
     (told-through h (here s t h c.args.journal.now.events) (here x t h c.loop.journal.events) (times c.loop.counter ds) None c.loop.invariant.so_far c.requires.ready.told)

@@ -4,7 +4,7 @@ use Rattle.dr_model.specs.Entries.{times, give_back}
 use Rattle.std.proofs.Common.{refl}
 use Rattle.dr_top.proofs.RelationLemmas.{relations-fit}
 use Rattle.dr_volume.specs.View.{volume_seen, ids_of}
-use Rattle.dr_metro.specs.Here.{here, rest_of}
+use Rattle.dr_top.specs.Here.{here, rest_of}
 use Rattle.dr_flash.proofs.TurnLemmas.{err-always}
 use Rattle.dr_top.proofs.LandLemmas.{exact, told-through, ready-after, refused-by}
 use Rattle.dr_top.proofs.BackgroundLemmas.{same-server, carried-next, carried-failed, carried-none, pass-later, rounds-tell}
@@ -13,10 +13,10 @@ use Rattle.dr_top.proofs.background.restore_tracks.Goals as goal
 
 pub loop-init : goal.loop-init
 loop-init g c = record {
-  so_far = carried-none (here (g.P.Plant.state c.args.plant.now) c.args.config.now c.args.host.now c.args.journal.now.events);
+  so_far = carried-none (here (g.P.Plant.state c.args.plant.now) c.args.config.now c.args.tables.now c.args.journal.now.events);
   onto = λ related. (c.requires.reversing, refl);
   rest = c.requires.ready.rest;
-  fit = relations-fit (g.P.Plant.state c.args.plant.now) c.args.config.now c.args.host.now c.args.journal.now.events c.requires.sound;
+  fit = relations-fit (g.P.Plant.state c.args.plant.now) c.args.config.now c.args.tables.now c.args.journal.now.events c.requires.sound;
   unarmed = λ q none. none;
   on = refl;
   faults = refl;
@@ -29,7 +29,7 @@ reverse_step-requires-clause-running g c = (λ i. c.loop.invariant.on i (same-se
 pub returns-in_err-reverse_step-clause-carried : goal.returns-in_err-reverse_step-clause-carried
 returns-in_err-reverse_step-clause-carried g c =
     let s = g.P.Plant.state c.args.plant.now in let x = g.P.Plant.state c.loop.plant in let y = g.P.Plant.state c.reverse_step.new.p in
-    let t = c.args.config.now in let h = c.args.host.now in let e = c.in_err-reverse_step.field-0.0 in
+    let t = c.args.config.now in let h = c.args.tables.now in let e = c.in_err-reverse_step.field-0.0 in
     let w = here s t h c.args.journal.now.events in let v = here x t h c.loop.journal.events in let u = here y t h c.reverse_step.new.j.events in
     let ds = give_back (ids_of c.args.config.now.volumes) (volume_seen (g.P.Plant.state c.args.plant.now) c.args.config.now c.args.t.0).fields.source c.args.t.0 in
     carried-failed w v c.loop.counter ds c.loop.invariant.so_far c.args.count u e (let lt = c.loop-test.true in omega (arith, lt)) (exact x u (Some e) v ds (pass-later s x c.requires.ready.reads c.loop.invariant.unarmed) (c.in_err-reverse_step.ensures.carried (volume_seen (g.P.Plant.state c.args.plant.now) c.args.config.now c.args.t.0).fields.source c.loop.invariant.onto (rest_of h c.loop.journal.events)))
@@ -38,7 +38,7 @@ returns-in_err-reverse_step-clause-carried g c =
 pub returns-in_err-reverse_step-clause-ready : goal.returns-in_err-reverse_step-clause-ready
 returns-in_err-reverse_step-clause-ready g c =
     let s = g.P.Plant.state c.args.plant.now in let x = g.P.Plant.state c.loop.plant in let y = g.P.Plant.state c.reverse_step.new.p in
-    let t = c.args.config.now in let h = c.args.host.now in let e = c.in_err-reverse_step.field-0.0 in
+    let t = c.args.config.now in let h = c.args.tables.now in let e = c.in_err-reverse_step.field-0.0 in
     let w = here s t h c.args.journal.now.events in let v = here x t h c.loop.journal.events in let u = here y t h c.reverse_step.new.j.events in
     let ds = give_back (ids_of c.args.config.now.volumes) (volume_seen (g.P.Plant.state c.args.plant.now) c.args.config.now c.args.t.0).fields.source c.args.t.0 in
     ready-after t s y h c.reverse_step.new.j.events c.requires.ready.reads c.in_err-reverse_step.ensures.rest (λ q none. c.in_err-reverse_step.ensures.unarmed q (c.loop.invariant.unarmed q none))
@@ -53,7 +53,7 @@ returns-in_err-reverse_step-clause-refused g c =
 pub loop-preserved : goal.loop-preserved
 loop-preserved g c =
     let s = g.P.Plant.state c.args.plant.now in let x = g.P.Plant.state c.loop.plant in let y = g.P.Plant.state c.reverse_step.new.p in
-    let t = c.args.config.now in let h = c.args.host.now in
+    let t = c.args.config.now in let h = c.args.tables.now in
     let w = here s t h c.args.journal.now.events in let v = here x t h c.loop.journal.events in let u = here y t h c.reverse_step.new.j.events in
     let ds = give_back (ids_of c.args.config.now.volumes) (volume_seen (g.P.Plant.state c.args.plant.now) c.args.config.now c.args.t.0).fields.source c.args.t.0 in
     record {
@@ -69,21 +69,21 @@ loop-preserved g c =
 
 pub returns-clause-carried : goal.returns-clause-carried
 returns-clause-carried g c =
-    let s = g.P.Plant.state c.args.plant.now in let t = c.args.config.now in let h = c.args.host.now in
+    let s = g.P.Plant.state c.args.plant.now in let t = c.args.config.now in let h = c.args.tables.now in
     let ds = give_back (ids_of c.args.config.now.volumes) (volume_seen (g.P.Plant.state c.args.plant.now) c.args.config.now c.args.t.0).fields.source c.args.t.0 in
     let all : c.args.count ≡ c.loop.counter = (let e = c.loop.auto.counter-end in let f = c.loop-test.false in omega (arith, e, f)) in
     ap (λ n. carry (here s t h c.args.journal.now.events) (times n ds)) all ∙ c.loop.invariant.so_far
 
 pub returns-clause-ready : goal.returns-clause-ready
 returns-clause-ready g c =
-    let s = g.P.Plant.state c.args.plant.now in let x = g.P.Plant.state c.loop.plant in let t = c.args.config.now in let h = c.args.host.now in
+    let s = g.P.Plant.state c.args.plant.now in let x = g.P.Plant.state c.loop.plant in let t = c.args.config.now in let h = c.args.tables.now in
     let ds = give_back (ids_of c.args.config.now.volumes) (volume_seen (g.P.Plant.state c.args.plant.now) c.args.config.now c.args.t.0).fields.source c.args.t.0 in
     ready-after t s x h c.loop.journal.events c.requires.ready.reads c.loop.invariant.rest (λ q none. c.loop.invariant.unarmed q none)
     (told-through h (here s t h c.args.journal.now.events) (here x t h c.loop.journal.events) (times c.loop.counter ds) None c.loop.invariant.so_far c.requires.ready.told)
 
 pub reverse_step-requires-clause-room : goal.reverse_step-requires-clause-room
 reverse_step-requires-clause-room g c =
-    let tell = rounds-tell (g.P.Plant.state c.args.plant.now) c.args.config.now c.args.host.now c.args.journal.now.events c.args.t.0 c.loop.counter (here (g.P.Plant.state c.loop.plant) c.args.config.now c.args.host.now c.loop.journal.events)
+    let tell = rounds-tell (g.P.Plant.state c.args.plant.now) c.args.config.now c.args.tables.now c.args.journal.now.events c.args.t.0 c.loop.counter (here (g.P.Plant.state c.loop.plant) c.args.config.now c.args.tables.now c.loop.journal.events)
     c.requires.sound c.requires.ready.rest c.requires.reversing c.loop.invariant.so_far in
     let size = c.loop.invariant.rest.sizes c.args.t.0 in
     let lt = c.loop-test.true in let most = c.requires.count in let few = c.requires.few in let room = c.requires.room in let spare = c.loop.invariant.spare in
@@ -91,7 +91,7 @@ reverse_step-requires-clause-room g c =
 
 pub returns-in_err-reverse_step-clause-room : goal.returns-in_err-reverse_step-clause-room
 returns-in_err-reverse_step-clause-room g c =
-    let tell = rounds-tell (g.P.Plant.state c.args.plant.now) c.args.config.now c.args.host.now c.args.journal.now.events c.args.t.0 c.loop.counter (here (g.P.Plant.state c.loop.plant) c.args.config.now c.args.host.now c.loop.journal.events)
+    let tell = rounds-tell (g.P.Plant.state c.args.plant.now) c.args.config.now c.args.tables.now c.args.journal.now.events c.args.t.0 c.loop.counter (here (g.P.Plant.state c.loop.plant) c.args.config.now c.args.tables.now c.loop.journal.events)
     c.requires.sound c.requires.ready.rest c.requires.reversing c.loop.invariant.so_far in
     let size = c.loop.invariant.rest.sizes c.args.t.0 in
     let lt = c.loop-test.true in let most = c.requires.count in let few = c.requires.few in let room = c.requires.room in let spare = c.loop.invariant.spare in
@@ -100,7 +100,7 @@ returns-in_err-reverse_step-clause-room g c =
 
 pub returns-clause-room : goal.returns-clause-room
 returns-clause-room g c =
-    let tell = rounds-tell (g.P.Plant.state c.args.plant.now) c.args.config.now c.args.host.now c.args.journal.now.events c.args.t.0 c.loop.counter (here (g.P.Plant.state c.loop.plant) c.args.config.now c.args.host.now c.loop.journal.events)
+    let tell = rounds-tell (g.P.Plant.state c.args.plant.now) c.args.config.now c.args.tables.now c.args.journal.now.events c.args.t.0 c.loop.counter (here (g.P.Plant.state c.loop.plant) c.args.config.now c.args.tables.now c.loop.journal.events)
     c.requires.sound c.requires.ready.rest c.requires.reversing c.loop.invariant.so_far in
     let end = c.loop.auto.counter-end in let most = c.requires.count in let room = c.requires.room in let spare = c.loop.invariant.spare in
     omega (arith, tell, end, most, room, spare)

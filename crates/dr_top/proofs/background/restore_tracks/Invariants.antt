@@ -5,13 +5,13 @@ use Rattle.dr_volume.specs.View.{volume_seen, ids_of}
 use Rattle.dr_flash.specs.Fit.{RelationsFit}
 use Rattle.dr_flash.specs.Here.{IsAtRest}
 use Rattle.dr_incr.specs.Steps.{IsRestoredOnto}
-use Rattle.dr_metro.specs.Here.{here}
+use Rattle.dr_top.specs.Here.{here}
 use Rattle.dr_top.proofs.background.restore_tracks.Given as goal
 
 abbrev pub invariant-loop : goal.invariant-loop
 invariant-loop g l = record {
-  so_far : carry (here (g.P.Plant.state l.fn.plant) l.config l.host l.fn.journal.events)
-      (times l.counter (give_back (ids_of l.config.volumes) (volume_seen (g.P.Plant.state l.fn.plant) l.config l.t.0).fields.source l.t.0)) ≡ (here (g.P.Plant.state l.plant) l.config l.host l.journal.events, None);
+  so_far : carry (here (g.P.Plant.state l.fn.plant) l.config l.tables l.fn.journal.events)
+      (times l.counter (give_back (ids_of l.config.volumes) (volume_seen (g.P.Plant.state l.fn.plant) l.config l.t.0).fields.source l.t.0)) ≡ (here (g.P.Plant.state l.plant) l.config l.tables l.journal.events, None);
   onto : IsRestoredOnto (volume_seen (g.P.Plant.state l.fn.plant) l.config l.t.0).fields.source (volume_seen (g.P.Plant.state l.plant) l.config l.t.0).fields;
   rest : IsAtRest (g.P.Plant.state l.plant) l.config;
   fit : RelationsFit (g.P.Plant.state l.plant) l.config;

@@ -1,7 +1,7 @@
 use Rattle.std.proofs.Common.{not, ◌||◌, ap, sym, ◌∙◌}
 use Rattle.dr_model.specs.Layout.{Fields}
 use Rattle.dr_model.specs.Pairs.{is_quiet}
-use Rattle.dr_metro.specs.Here.{rest_of}
+use Rattle.dr_top.specs.Here.{rest_of}
 use Rattle.dr_top.proofs.BackgroundLemmas.{source-free, source-held}
 use Rattle.dr_top.proofs.background.source_refusal.Goals as goal
 

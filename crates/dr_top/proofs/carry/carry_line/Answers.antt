@@ -4,11 +4,11 @@ use Rattle.dr_top.proofs.TaskLemmas.{tasks-none}
 use Rattle.dr_top.proofs.carry.carry_line.Goals as goal
 
 pub returns-in-Err-2-clause-goes : goal.returns-in-Err-2-clause-goes
-returns-in-Err-2-clause-goes g c = record { done = 0; within = omega arith; leads = tasks-none (here (g.P.Plant.state c.args.plant.now) c.args.config.now c.args.host.now c.args.journal.now.events); ends = tt }
+returns-in-Err-2-clause-goes g c = record { done = 0; within = omega arith; leads = tasks-none (here (g.P.Plant.state c.args.plant.now) c.args.config.now c.args.tables.now c.args.journal.now.events); ends = tt }
 
 pub returns-in-Err-Refused-Syntax-clause-ready : goal.returns-in-Err-Refused-Syntax-clause-ready
 returns-in-Err-Refused-Syntax-clause-ready g c = record {
   rest = c.requires.ready.rest;
   reads = c.requires.ready.reads;
-  told = c.carry_fault.ensures.told c.args.host.now c.requires.ready.told;
+  told = c.carry_fault.ensures.told c.args.tables.now c.requires.ready.told;
 }

@@ -31,7 +31,7 @@ carry_task-requires-clause-count g c =
 
 pub carry_task-requires-clause-few : goal.carry_task-requires-clause-few
 carry_task-requires-clause-few g c =
-    reached-few (g.P.Plant.state c.loop-i.plant) c.loop-i.config c.loop-i.host c.loop-i.journal.events
+    reached-few (g.P.Plant.state c.loop-i.plant) c.loop-i.config c.loop-i.tables c.loop-i.journal.events
     (reached-more _ _ (take c.loop-i.i (tasks_read c.args.number (Ok c.args.line.now))) c.requires.reached c.loop-i.invariant.leads)
 
 pub carry_task-requires-clause-written : goal.carry_task-requires-clause-written
@@ -43,7 +43,7 @@ pub loop-i-preserved : goal.loop-i-preserved
 loop-i-preserved g c =
     let lt : c.loop-i.i < length c.args.line.now = let lt = c.loop-i-test.true in let len = c.len-i-end.ensures in omega (arith, lt, len) in
     let s = c.unwrap-step.result.now in
-    let v = here (g.P.Plant.state c.loop-i.plant) c.loop-i.config c.loop-i.host c.loop-i.journal.events in
+    let v = here (g.P.Plant.state c.loop-i.plant) c.loop-i.config c.loop-i.tables c.loop-i.journal.events in
     let reached = reached-more _ v (take c.loop-i.i (tasks_read c.args.number (Ok c.args.line.now))) c.requires.reached c.loop-i.invariant.leads in
     record {
       leads = steps-next c.args.number c.args.line.now c.loop-i.i s _ v _ lt (sym c.step.ensures ∙ ap option_copied c.unwrap-step.ensures) c.loop-i.invariant.leads c.in-Ok.ensures.task;

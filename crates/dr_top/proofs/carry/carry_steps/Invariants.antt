@@ -8,9 +8,9 @@ use Rattle.dr_top.proofs.carry.carry_steps.Given as goal
 
 abbrev pub invariant-loop-i : goal.invariant-loop-i
 invariant-loop-i g l = record {
-  leads : after_tasks (here (g.P.Plant.state l.fn.plant) l.fn.config l.fn.host l.fn.journal.events) (take l.i (tasks_read l.number (Ok l.line)))
-      ≡ here (g.P.Plant.state l.plant) l.config l.host l.journal.events;
-  ready : IsReady (g.P.Plant.state l.plant) l.config l.host l.journal.events;
+  leads : after_tasks (here (g.P.Plant.state l.fn.plant) l.fn.config l.fn.tables l.fn.journal.events) (take l.i (tasks_read l.number (Ok l.line)))
+      ≡ here (g.P.Plant.state l.plant) l.config l.tables l.journal.events;
+  ready : IsReady (g.P.Plant.state l.plant) l.config l.tables l.journal.events;
   faults : (f : ℕ) → Counted (told_stop l.fn.journal.events) f (g.P.Plant.state l.fn.plant).faults → Counted (told_stop l.journal.events) f (g.P.Plant.state l.plant).faults;
   room : length l.journal.events ≤ most_events;
 }

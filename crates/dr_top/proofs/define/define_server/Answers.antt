@@ -6,7 +6,7 @@ use Rattle.dr_top.proofs.define.define_server.Goals as goal
 
 pub returns-in-Ok-clause-step : goal.returns-in-Ok-clause-step
 returns-in-Ok-clause-step g c line =
-    server-defined (g.P.Plant.state c.args.plant.now) c.args.config.now c.args.host.now c.args.journal.now.events line c.args.name.now c.push.new.self.events
+    server-defined (g.P.Plant.state c.args.plant.now) c.args.config.now c.args.tables.now c.args.journal.now.events line c.args.name.now c.push.new.self.events
     c.add_server.new.self c.in-Ok.server.0 c.bytes_of.result.now c.in-Ok.ensures.refused
     c.in-Ok.ensures.number c.bytes_of.ensures c.in-Ok.ensures.added c.push.ensures.events
 
@@ -14,10 +14,10 @@ pub returns-in-Ok-clause-ready : goal.returns-in-Ok-clause-ready
 returns-in-Ok-clause-ready g c = record {
   rest = along-table (g.P.Plant.state c.args.plant.now) c.add_server.new.self _ c.in-Ok.ensures.added (rest-server (g.P.Plant.state c.args.plant.now) c.args.config.now c.bytes_of.result.now c.requires.ready.rest);
   reads = c.requires.ready.reads;
-  told = told-push c.args.host.now c.args.journal.now.events c.push.new.self.events (Server c.in-Ok.server.0 c.args.name.now.len c.args.name.now.bytes) (λ x. refl) c.push.ensures.events c.requires.ready.told;
+  told = told-push c.args.tables.now.host c.args.journal.now.events c.push.new.self.events (Server c.in-Ok.server.0 c.args.name.now.len c.args.name.now.bytes) (λ x. refl) c.push.ensures.events c.requires.ready.told;
 }
 
 pub returns-in-Err-clause-step : goal.returns-in-Err-clause-step
 returns-in-Err-clause-step g c =
     on-refusal c.in-Err.fault _ _ c.in-Err.ensures.refused (λ r is line.
-    server-refused-here (g.P.Plant.state c.args.plant.now) c.args.config.now c.args.host.now c.args.journal.now.events line c.args.name.now c.add_server.new.self c.bytes_of.result.now r c.bytes_of.ensures is c.in-Err.ensures.same)
+    server-refused-here (g.P.Plant.state c.args.plant.now) c.args.config.now c.args.tables.now c.args.journal.now.events line c.args.name.now c.add_server.new.self c.bytes_of.result.now r c.bytes_of.ensures is c.in-Err.ensures.same)

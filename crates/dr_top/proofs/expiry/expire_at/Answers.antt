@@ -7,7 +7,7 @@ use Rattle.dr_model.specs.WriteEntries.{lift_on}
 use Rattle.dr_flash.specs.Here.{armed_in, refusal_of}
 use Rattle.dr_flash.specs.Turns.{Advances, Halts}
 use Rattle.dr_flash.proofs.TurnLemmas.{ok-along, err-along}
-use Rattle.dr_metro.specs.Here.{here, rest_of}
+use Rattle.dr_top.specs.Here.{here, rest_of}
 use Rattle.dr_top.proofs.ExpiryLemmas.{lifted-skip, lifted-goes, lifted-stops}
 use Rattle.dr_top.proofs.StartLemmas.{own-server, counted-top}
 use Rattle.dr_top.proofs.expiry.expire_at.Goals as goal

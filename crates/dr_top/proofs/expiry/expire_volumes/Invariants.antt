@@ -4,15 +4,15 @@ use Rattle.dr_model.specs.Control.{World}
 use Rattle.dr_model.specs.ReadStops.{Ends}
 use Rattle.dr_flash.specs.Fit.{RelationsFit}
 use Rattle.dr_flash.specs.Here.{armed_in, IsAtRest}
-use Rattle.dr_host.specs.Writes.{Writes}
-use Rattle.dr_metro.specs.Here.{here}
+use Rattle.dr_top.specs.declared.tables.Tables.{Tables}
+use Rattle.dr_top.specs.Here.{here}
 use Rattle.dr_top.specs.Starting.{lift_from}
 use Rattle.dr_top.proofs.expiry.expire_volumes.Given as goal
 
 abbrev pub invariant-loop-place : goal.invariant-loop-place
 invariant-loop-place g l = record {
   -- what is left to do ends as all would
-  left : (h : Writes) (u : World) (r : Option Refusal) → Ends (armed_in (g.P.Plant.state l.fn.plant)) u r (here (g.P.Plant.state l.plant) l.config h l.journal.events) (lift_from l.config l.server.0 l.place)
+  left : (h : Tables) (u : World) (r : Option Refusal) → Ends (armed_in (g.P.Plant.state l.fn.plant)) u r (here (g.P.Plant.state l.plant) l.config h l.journal.events) (lift_from l.config l.server.0 l.place)
       → Ends (armed_in (g.P.Plant.state l.fn.plant)) u r (here (g.P.Plant.state l.fn.plant) l.config h l.fn.journal.events) (lift_from l.config l.server.0 0);
   rest : IsAtRest (g.P.Plant.state l.plant) l.config;
   fit : RelationsFit (g.P.Plant.state l.plant) l.config;

@@ -1,6 +1,6 @@
 use Rattle.std.proofs.Common.{sym, ap, ◌∙◌}
 use Rattle.dr_model.specs.Plans as plans
-use Rattle.dr_metro.specs.Here.{here}
+use Rattle.dr_top.specs.Here.{here}
 use Rattle.dr_top.proofs.FlashLemmas.{owner-none}
 use Rattle.dr_top.proofs.flash.is_owner.Goals as goal
 

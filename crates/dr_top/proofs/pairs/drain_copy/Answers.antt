@@ -9,7 +9,7 @@ use Rattle.dr_model.specs.declared.said.Said.TheVariants.{Done}
 use Rattle.dr_model.specs.declared.said.Addition.TheVariants.{Counted}
 use Rattle.dr_volume.specs.View.{volume_seen, on_seen}
 use Rattle.dr_flash.proofs.CheckLemmas.{on-low}
-use Rattle.dr_metro.specs.Here.{here, rest_of}
+use Rattle.dr_top.specs.Here.{here, rest_of}
 use Rattle.dr_top.proofs.LocatedLemmas.{mapped_none, mapped_some, seen-entry}
 use Rattle.dr_top.proofs.LandLemmas.{ready-after}
 use Rattle.dr_top.proofs.RelationLemmas.{relations-fit}
@@ -18,11 +18,11 @@ use Rattle.dr_top.proofs.pairs.drain_copy.Goals as goal
 
 pub returns-in_default-clause-step : goal.returns-in_default-clause-step
 returns-in_default-clause-step g c =
-    drain-nowhere (g.P.Plant.state c.args.plant.now) c.args.config.now c.args.host.now c.args.journal.now.events c.args.a.0 c.requires.ready.reads c.args.most _ (mapped_none _ _ c.in_default.ensures.value) refl
+    drain-nowhere (g.P.Plant.state c.args.plant.now) c.args.config.now c.args.tables.now c.args.journal.now.events c.args.a.0 c.requires.ready.reads c.args.most _ (mapped_none _ _ c.in_default.ensures.value) refl
 
 pub returns-then-not-is_on-clause-step : goal.returns-then-not-is_on-clause-step
 returns-then-not-is_on-clause-step g c =
-    let s = g.P.Plant.state c.args.plant.now in let t = c.args.config.now in let h = c.args.host.now in let ev = c.args.journal.now.events in
+    let s = g.P.Plant.state c.args.plant.now in let t = c.args.config.now in let h = c.args.tables.now in let ev = c.args.journal.now.events in
     let e = mapped_some (λ (e : VolumeEntry). e.server) _ _ c.in-Some.ensures.value in
     let owner : (volume_seen s t c.args.a.0).server ≡ c.in-Some.server.0 = (seen-entry s t c.args.a.0 e.0 e.1).0 ∙ e.2 in
     drain-off s t h ev c.args.a.0 c.requires.ready.reads c.args.most e.0 e.1 _ (ap (on_seen s) owner ∙ on-low s c.in-Some.server.0 c.in-Some.ensures.defined.below ∙ sym c.if-not-is_on.ensures) (ap server_off (sym owner))
@@ -39,7 +39,7 @@ pair_state-requires-clause-defined g c =
 
 pub returns-then-not-is_copying-clause-step : goal.returns-then-not-is_copying-clause-step
 returns-then-not-is_copying-clause-step g c =
-    let s = g.P.Plant.state c.args.plant.now in let t = c.args.config.now in let h = c.args.host.now in let ev = c.args.journal.now.events in
+    let s = g.P.Plant.state c.args.plant.now in let t = c.args.config.now in let h = c.args.tables.now in let ev = c.args.journal.now.events in
     let e = mapped_some (λ (e : VolumeEntry). e.server) _ _ c.in-Some.ensures.value in
     let owner : (volume_seen s t c.args.a.0).server ≡ c.in-Some.server.0 = (seen-entry s t c.args.a.0 e.0 e.1).0 ∙ e.2 in
     let runs : on_seen s (volume_seen s t c.args.a.0).server ≡ true = ap (on_seen s) owner ∙ on-low s c.in-Some.server.0 c.in-Some.ensures.defined.below ∙ sym c.if-not-is_on.ensures in
@@ -47,7 +47,7 @@ returns-then-not-is_copying-clause-step g c =
     drain-unfit s t h ev c.args.a.0 c.requires.ready.reads c.args.most e.0 e.1 runs c.pair_state.result may (c.pair_state.ensures.refusal (rest_of h ev) ev)
 
 pub drain-requires-clause-fit : goal.drain-requires-clause-fit
-drain-requires-clause-fit g c = relations-fit (g.P.Plant.state c.args.plant.now) c.args.config.now c.args.host.now c.args.journal.now.events c.requires.sound
+drain-requires-clause-fit g c = relations-fit (g.P.Plant.state c.args.plant.now) c.args.config.now c.args.tables.now c.args.journal.now.events c.requires.sound
 
 pub drain-requires-clause-from : goal.drain-requires-clause-from
 drain-requires-clause-from g c =
@@ -56,14 +56,14 @@ drain-requires-clause-from g c =
 
 pub drain-requires-clause-running : goal.drain-requires-clause-running
 drain-requires-clause-running g c =
-    let s = g.P.Plant.state c.args.plant.now in let t = c.args.config.now in let h = c.args.host.now in let ev = c.args.journal.now.events in
+    let s = g.P.Plant.state c.args.plant.now in let t = c.args.config.now in let h = c.args.tables.now in let ev = c.args.journal.now.events in
     let e = mapped_some (λ (e : VolumeEntry). e.server) _ _ c.in-Some.ensures.value in
     let owner : (volume_seen s t c.args.a.0).server ≡ c.in-Some.server.0 = (seen-entry s t c.args.a.0 e.0 e.1).0 ∙ e.2 in
     ap s.on owner ∙ sym c.if-not-is_on.ensures
 
 pub drain-requires-clause-to : goal.drain-requires-clause-to
 drain-requires-clause-to g c =
-    let s = g.P.Plant.state c.args.plant.now in let t = c.args.config.now in let h = c.args.host.now in let ev = c.args.journal.now.events in
+    let s = g.P.Plant.state c.args.plant.now in let t = c.args.config.now in let h = c.args.tables.now in let ev = c.args.journal.now.events in
     let may = ap copying_by (sym c.peek_fields-fields.ensures.fields) ∙ sym c.if-not-is_copying.ensures in
     (partner s t h ev c.args.a.0 c.requires.ready.reads c.requires.sound (and_parts _ _ may).0).0
 
@@ -74,19 +74,19 @@ drain-requires-clause-primary g c =
 
 pub drain-requires-clause-two_servers : goal.drain-requires-clause-two_servers
 drain-requires-clause-two_servers g c =
-    let s = g.P.Plant.state c.args.plant.now in let t = c.args.config.now in let h = c.args.host.now in let ev = c.args.journal.now.events in
+    let s = g.P.Plant.state c.args.plant.now in let t = c.args.config.now in let h = c.args.tables.now in let ev = c.args.journal.now.events in
     let may = ap copying_by (sym c.peek_fields-fields.ensures.fields) ∙ sym c.if-not-is_copying.ensures in
     (partner s t h ev c.args.a.0 c.requires.ready.reads c.requires.sound (and_parts _ _ may).0).2
 
 pub drain-requires-clause-size : goal.drain-requires-clause-size
 drain-requires-clause-size g c =
-    let s = g.P.Plant.state c.args.plant.now in let t = c.args.config.now in let h = c.args.host.now in let ev = c.args.journal.now.events in
+    let s = g.P.Plant.state c.args.plant.now in let t = c.args.config.now in let h = c.args.tables.now in let ev = c.args.journal.now.events in
     let may = ap copying_by (sym c.peek_fields-fields.ensures.fields) ∙ sym c.if-not-is_copying.ensures in
     (partner s t h ev c.args.a.0 c.requires.ready.reads c.requires.sound (and_parts _ _ may).0).1
 
 pub drain-requires-clause-room : goal.drain-requires-clause-room
 drain-requires-clause-room g c k r u leads =
-    let s = g.P.Plant.state c.args.plant.now in let t = c.args.config.now in let h = c.args.host.now in let ev = c.args.journal.now.events in
+    let s = g.P.Plant.state c.args.plant.now in let t = c.args.config.now in let h = c.args.tables.now in let ev = c.args.journal.now.events in
     let tell : length u.events ≤ length ev + 3584 + 1 = sends-tell s t h ev c.args.a.0 c.requires.ready.reads c.requires.sound c.requires.ready.rest k r u leads in
     let few = c.requires.few in
     let room = c.requires.room in
@@ -94,7 +94,7 @@ drain-requires-clause-room g c k r u leads =
 
 pub returns-in-Ok-clause-step : goal.returns-in-Ok-clause-step
 returns-in-Ok-clause-step g c line =
-    let s = g.P.Plant.state c.args.plant.now in let t = c.args.config.now in let h = c.args.host.now in let ev = c.args.journal.now.events in
+    let s = g.P.Plant.state c.args.plant.now in let t = c.args.config.now in let h = c.args.tables.now in let ev = c.args.journal.now.events in
     let e = mapped_some (λ (e : VolumeEntry). e.server) _ _ c.in-Some.ensures.value in
     let owner : (volume_seen s t c.args.a.0).server ≡ c.in-Some.server.0 = (seen-entry s t c.args.a.0 e.0 e.1).0 ∙ e.2 in
     let runs : on_seen s (volume_seen s t c.args.a.0).server ≡ true = ap (on_seen s) owner ∙ on-low s c.in-Some.server.0 c.in-Some.ensures.defined.below ∙ sym c.if-not-is_on.ensures in
@@ -105,13 +105,13 @@ returns-in-Ok-clause-step g c line =
 
 pub returns-in-Ok-clause-ready : goal.returns-in-Ok-clause-ready
 returns-in-Ok-clause-ready g c =
-    let s = g.P.Plant.state c.args.plant.now in let t = c.args.config.now in let h = c.args.host.now in let ev = c.args.journal.now.events in
+    let s = g.P.Plant.state c.args.plant.now in let t = c.args.config.now in let h = c.args.tables.now in let ev = c.args.journal.now.events in
     let u = here (g.P.Plant.state c.drain.new.p) t h c.drain.new.j.events in
     ready-after t s (g.P.Plant.state c.drain.new.p) h c.drain.new.j.events c.requires.ready.reads c.in-Ok.ensures.rest c.in-Ok.ensures.unarmed (drain-told s t h ev c.args.a.0 c.requires.ready.reads c.args.most u None (c.in-Ok.ensures.carried (rest_of h ev)) c.requires.ready.told)
 
 pub returns-in-Err-clause-step : goal.returns-in-Err-clause-step
 returns-in-Err-clause-step g c =
-    let s = g.P.Plant.state c.args.plant.now in let t = c.args.config.now in let h = c.args.host.now in let ev = c.args.journal.now.events in
+    let s = g.P.Plant.state c.args.plant.now in let t = c.args.config.now in let h = c.args.tables.now in let ev = c.args.journal.now.events in
     let e = mapped_some (λ (e : VolumeEntry). e.server) _ _ c.in-Some.ensures.value in
     let owner : (volume_seen s t c.args.a.0).server ≡ c.in-Some.server.0 = (seen-entry s t c.args.a.0 e.0 e.1).0 ∙ e.2 in
     let runs : on_seen s (volume_seen s t c.args.a.0).server ≡ true = ap (on_seen s) owner ∙ on-low s c.in-Some.server.0 c.in-Some.ensures.defined.below ∙ sym c.if-not-is_on.ensures in
@@ -120,6 +120,6 @@ returns-in-Err-clause-step g c =
 
 pub returns-in-Err-clause-ready : goal.returns-in-Err-clause-ready
 returns-in-Err-clause-ready g c =
-    let s = g.P.Plant.state c.args.plant.now in let t = c.args.config.now in let h = c.args.host.now in let ev = c.args.journal.now.events in
+    let s = g.P.Plant.state c.args.plant.now in let t = c.args.config.now in let h = c.args.tables.now in let ev = c.args.journal.now.events in
     let u = here (g.P.Plant.state c.drain.new.p) t h c.drain.new.j.events in
     ready-after t s (g.P.Plant.state c.drain.new.p) h c.drain.new.j.events c.requires.ready.reads c.in-Err.ensures.rest c.in-Err.ensures.unarmed (drain-told s t h ev c.args.a.0 c.requires.ready.reads c.args.most u (Some c.in-Err.refusal) (c.in-Err.ensures.carried (rest_of h ev)) c.requires.ready.told)

@@ -1,5 +1,5 @@
 use Rattle.std.proofs.Common.{sym, ◌∙◌}
-use Rattle.dr_metro.specs.Here.{here}
+use Rattle.dr_top.specs.Here.{here}
 use Rattle.dr_top.proofs.PairLemmas.{owner-named, found-then_named, found-then_foreign}
 use Rattle.dr_top.proofs.pairs.found_volumes.Goals as goal
 

@@ -2,7 +2,7 @@ use Rattle.std.proofs.Common.{ap, sym, ◌∙◌, option_map, Some}
 use Rattle.dr_ids.specs.declared.refusal.Refusal.{Refusal}
 use Rattle.dr_model.specs.Entries.{pair_state}
 use Rattle.dr_flash.proofs.CheckLemmas.{on-low}
-use Rattle.dr_metro.specs.Here.{here, rest_of}
+use Rattle.dr_top.specs.Here.{here, rest_of}
 use Rattle.dr_top.proofs.PathLemmas.{held-none, held-some}
 use Rattle.dr_top.proofs.paths.held_refusal.Goals as goal
 

@@ -14,8 +14,8 @@ use Rattle.dr_top.proofs.run.run_line.Goals as goal
 
 pub print_from-requires : goal.print_from-requires
 print_from-requires g c =
-    let w = here (g.P.Plant.state c.args.plant.now) c.args.config.now c.args.host.now c.args.journal.now.events in
-    let u = here (g.P.Plant.state c.carry_line.new.plant) c.carry_line.new.config c.carry_line.new.host c.carry_line.new.journal.events in
+    let w = here (g.P.Plant.state c.args.plant.now) c.args.config.now c.args.tables.now c.args.journal.now.events in
+    let u = here (g.P.Plant.state c.carry_line.new.plant) c.carry_line.new.config c.carry_line.new.tables c.carry_line.new.journal.events in
     let goes = c.carry_line.ensures.goes in
     record {
       within = subst (λ n. n ≤ length u.events) (sym c.len-from.ensures) (carried-longer g.K.Sink.written c.args.sink.now c.args.sink.now w u (tasks_of c.args.number c.args.line.now) c.carry_line.result goes);
@@ -24,14 +24,14 @@ print_from-requires g c =
 
 pub print_from-requires-in-Err-Full-clause-heard : goal.print_from-requires-in-Err-Full-clause-heard
 print_from-requires-in-Err-Full-clause-heard g c =
-    let w = here (g.P.Plant.state c.args.plant.now) c.args.config.now c.args.host.now c.args.journal.now.events in
-    let u = here (g.P.Plant.state c.carry_line.new.plant) c.carry_line.new.config c.carry_line.new.host c.carry_line.new.journal.events in
+    let w = here (g.P.Plant.state c.args.plant.now) c.args.config.now c.args.tables.now c.args.journal.now.events in
+    let u = here (g.P.Plant.state c.carry_line.new.plant) c.carry_line.new.config c.carry_line.new.tables c.carry_line.new.journal.events in
     c.requires.heard ∙ ap (λ es. fold heard untold es) (sym (carried-before g.K.Sink.written c.args.sink.now c.args.sink.now w u (tasks_of c.args.number c.args.line.now) c.carry_line.result c.carry_line.ensures.goes) ∙ ap (λ n. take n u.events) (sym c.len-from.ensures))
 
 pub returns-in-Ok-clause-ran : goal.returns-in-Ok-clause-ran
 returns-in-Ok-clause-ran g c =
-    let w = here (g.P.Plant.state c.args.plant.now) c.args.config.now c.args.host.now c.args.journal.now.events in
-    let u = here (g.P.Plant.state c.carry_line.new.plant) c.carry_line.new.config c.carry_line.new.host c.carry_line.new.journal.events in
+    let w = here (g.P.Plant.state c.args.plant.now) c.args.config.now c.args.tables.now c.args.journal.now.events in
+    let u = here (g.P.Plant.state c.carry_line.new.plant) c.carry_line.new.config c.carry_line.new.tables c.carry_line.new.journal.events in
     let sink = c.args.sink.now in
     let after = c.print_from.new.sink in
     let end = c.print_from.result in
@@ -43,8 +43,8 @@ returns-in-Ok-clause-ran g c =
 
 pub returns-in_err-print_from-in-Err-Full-clause-ran : goal.returns-in_err-print_from-in-Err-Full-clause-ran
 returns-in_err-print_from-in-Err-Full-clause-ran g c =
-    let w = here (g.P.Plant.state c.args.plant.now) c.args.config.now c.args.host.now c.args.journal.now.events in
-    let u = here (g.P.Plant.state c.carry_line.new.plant) c.carry_line.new.config c.carry_line.new.host c.carry_line.new.journal.events in
+    let w = here (g.P.Plant.state c.args.plant.now) c.args.config.now c.args.tables.now c.args.journal.now.events in
+    let u = here (g.P.Plant.state c.carry_line.new.plant) c.carry_line.new.config c.carry_line.new.tables c.carry_line.new.journal.events in
     let sink = c.args.sink.now in
     let after = c.print_from-in-Err-Full.new.sink in
     let goes = subst (λ b. GoesTo w (tasks_of c.args.number c.args.line.now) u (Err b)) c.in-Err-Full.field-0-is c.in-Err-Full.ensures.goes in
@@ -56,15 +56,15 @@ returns-in_err-print_from-in-Err-Full-clause-ran g c =
 
 pub returns-in_ok-print_from-in-Err-Full-clause-ran : goal.returns-in_ok-print_from-in-Err-Full-clause-ran
 returns-in_ok-print_from-in-Err-Full-clause-ran g c =
-    let w = here (g.P.Plant.state c.args.plant.now) c.args.config.now c.args.host.now c.args.journal.now.events in
-    let u = here (g.P.Plant.state c.carry_line.new.plant) c.carry_line.new.config c.carry_line.new.host c.carry_line.new.journal.events in
+    let w = here (g.P.Plant.state c.args.plant.now) c.args.config.now c.args.tables.now c.args.journal.now.events in
+    let u = here (g.P.Plant.state c.carry_line.new.plant) c.carry_line.new.config c.carry_line.new.tables c.carry_line.new.journal.events in
     let goes = subst (λ b. GoesTo w (tasks_of c.args.number c.args.line.now) u (Err b)) c.in-Err-Full.field-0-is c.in-Err-Full.ensures.goes in
     ran-line g.K.Sink.written c.args.sink.now c.print_from-in-Err-Full.new.sink w u (tasks_of c.args.number c.args.line.now) (Err BarFull) goes (Err Full)
     (goes.ends, subst (λ n. Gave g.K.Sink.written c.args.sink.now c.print_from-in-Err-Full.new.sink (text_since u.events n)) c.len-from.ensures c.in_ok-print_from-in-Err-Full.ensures.whole)
 
 pub returns-in-Err-NoMemory-clause-ran : goal.returns-in-Err-NoMemory-clause-ran
 returns-in-Err-NoMemory-clause-ran g c =
-    let w = here (g.P.Plant.state c.args.plant.now) c.args.config.now c.args.host.now c.args.journal.now.events in
-    let u = here (g.P.Plant.state c.carry_line.new.plant) c.carry_line.new.config c.carry_line.new.host c.carry_line.new.journal.events in
+    let w = here (g.P.Plant.state c.args.plant.now) c.args.config.now c.args.tables.now c.args.journal.now.events in
+    let u = here (g.P.Plant.state c.carry_line.new.plant) c.carry_line.new.config c.carry_line.new.tables c.carry_line.new.journal.events in
     ran-line g.K.Sink.written c.args.sink.now c.args.sink.now w u (tasks_of c.args.number c.args.line.now) c.carry_line.result c.carry_line.ensures.goes (Err NoMemory)
     (gave-none g.K.Sink.written c.args.sink.now (text_since u.events (length w.events)))

@@ -17,7 +17,7 @@ use Rattle.dr_top.proofs.run.run_lines.Goals as goal
 
 pub loop-number-init : goal.loop-number-init
 loop-number-init g c =
-    let w = here (g.P.Plant.state c.args.plant.now) c.args.config.now c.args.host.now c.args.journal.now.events in
+    let w = here (g.P.Plant.state c.args.plant.now) c.args.config.now c.args.tables.now c.args.journal.now.events in
     let none = ap (λ (w : World). w.events) c.requires.begins in
     let s = c.args.source.now in
     let k = c.args.sink.now in
@@ -47,7 +47,7 @@ returns-in-Ok-End-clause-ran g c =
     let left = g.S.Source.left in
     let faults = g.S.Source.faults in
     let s0 = c.args.source.now in
-    let w = here (g.P.Plant.state c.loop-number.plant) c.loop-number.config c.loop-number.host c.loop-number.journal.events in
+    let w = here (g.P.Plant.state c.loop-number.plant) c.loop-number.config c.loop-number.tables c.loop-number.journal.events in
     let going = c.loop-number.invariant.going in
     let next = subst (λ t. IsNext left faults c.loop-number.source c.next.new.source c.loop-number.reader c.next.new.self (Ok t)) c.in-Ok-End.field-0-is c.in-Ok-End.ensures.next in
     subst (λ (st : Status). Ran left g.K.Sink.written s0 c.next.new.source c.args.sink.now c.loop-number.sink faults g.K.Sink.faults st w) (sym c.whole_status.ensures)
@@ -59,7 +59,7 @@ returns-in-Ok-TooLong-clause-ran g c =
     let left = g.S.Source.left in
     let faults = g.S.Source.faults in
     let s0 = c.args.source.now in
-    let w = here (g.P.Plant.state c.loop-number.plant) c.loop-number.config c.loop-number.host c.loop-number.journal.events in
+    let w = here (g.P.Plant.state c.loop-number.plant) c.loop-number.config c.loop-number.tables c.loop-number.journal.events in
     let going = c.loop-number.invariant.going in
     let next = subst (λ t. IsNext left faults c.loop-number.source c.next.new.source c.loop-number.reader c.next.new.self (Ok t)) c.in-Ok-TooLong.field-0-is c.in-Ok-TooLong.ensures.next in
     ran-long left faults g.K.Sink.written g.K.Sink.faults s0 c.args.sink.now c.loop-number.source c.next.new.source c.loop-number.sink c.loop-number.reader c.next.new.self c.loop-number.number w going
@@ -70,7 +70,7 @@ returns-in-Err-clause-ran g c =
     let left = g.S.Source.left in
     let faults = g.S.Source.faults in
     let s0 = c.args.source.now in
-    let w = here (g.P.Plant.state c.loop-number.plant) c.loop-number.config c.loop-number.host c.loop-number.journal.events in
+    let w = here (g.P.Plant.state c.loop-number.plant) c.loop-number.config c.loop-number.tables c.loop-number.journal.events in
     let going = c.loop-number.invariant.going in
     ran-fault left faults g.K.Sink.written g.K.Sink.faults s0 c.args.sink.now c.loop-number.source c.next.new.source c.loop-number.sink c.loop-number.reader c.next.new.self c.loop-number.number w going
     c.in-Err.field-0 (takes-part left faults s0 c.loop-number.source c.next.new.source c.loop-number.reader c.next.new.self going.before going.stands (Err c.in-Err.field-0) (fault-not c.in-Err.field-0) c.in-Err.ensures.next)
@@ -82,8 +82,8 @@ loop-number-preserved g c =
     let written = g.K.Sink.written in
     let s0 = c.args.source.now in
     let p' = c.next.new.self in
-    let w = here (g.P.Plant.state c.loop-number.plant) c.loop-number.config c.loop-number.host c.loop-number.journal.events in
-    let u = here (g.P.Plant.state c.run_line.new.plant) c.run_line.new.config c.run_line.new.host c.run_line.new.journal.events in
+    let w = here (g.P.Plant.state c.loop-number.plant) c.loop-number.config c.loop-number.tables c.loop-number.journal.events in
+    let u = here (g.P.Plant.state c.run_line.new.plant) c.run_line.new.config c.run_line.new.tables c.run_line.new.journal.events in
     let going = c.loop-number.invariant.going in
     let next = subst (λ t. IsNext left faults c.loop-number.source c.next.new.source c.loop-number.reader p' (Ok t)) c.in-Ok-Line.field-0-is c.in-Ok-Line.ensures.next in
     let took = takes-line left faults s0 c.loop-number.source c.next.new.source c.loop-number.reader p' going.before going.stands c.in-Ok-Line.ensures.near next in
@@ -104,8 +104,8 @@ returns-in-Err-run_line-clause-ran g c =
     let written = g.K.Sink.written in
     let s0 = c.args.source.now in
     let p' = c.next.new.self in
-    let w = here (g.P.Plant.state c.loop-number.plant) c.loop-number.config c.loop-number.host c.loop-number.journal.events in
-    let u = here (g.P.Plant.state c.run_line.new.plant) c.run_line.new.config c.run_line.new.host c.run_line.new.journal.events in
+    let w = here (g.P.Plant.state c.loop-number.plant) c.loop-number.config c.loop-number.tables c.loop-number.journal.events in
+    let u = here (g.P.Plant.state c.run_line.new.plant) c.run_line.new.config c.run_line.new.tables c.run_line.new.journal.events in
     let going = c.loop-number.invariant.going in
     let next = subst (λ t. IsNext left faults c.loop-number.source c.next.new.source c.loop-number.reader p' (Ok t)) c.in-Ok-Line.field-0-is c.in-Ok-Line.ensures.next in
     let took = takes-line left faults s0 c.loop-number.source c.next.new.source c.loop-number.reader p' going.before going.stands c.in-Ok-Line.ensures.near next in
@@ -116,7 +116,7 @@ returns-in-Err-run_line-clause-ran g c =
 
 pub returns-in-Err-run_line-clause-reached : goal.returns-in-Err-run_line-clause-reached
 returns-in-Err-run_line-clause-reached g c =
-    let w = here (g.P.Plant.state c.loop-number.plant) c.loop-number.config c.loop-number.host c.loop-number.journal.events in
-    let u = here (g.P.Plant.state c.run_line.new.plant) c.run_line.new.config c.run_line.new.host c.run_line.new.journal.events in
+    let w = here (g.P.Plant.state c.loop-number.plant) c.loop-number.config c.loop-number.tables c.loop-number.journal.events in
+    let u = here (g.P.Plant.state c.run_line.new.plant) c.run_line.new.config c.run_line.new.tables c.run_line.new.journal.events in
     line-reached g.K.Sink.written c.loop-number.sink c.run_line.new.sink w u _ _
     (going-reached g.S.Source.left g.S.Source.faults g.K.Sink.written g.K.Sink.faults c.args.source.now c.args.sink.now _ _ _ _ _ c.loop-number.invariant.going) c.in-Err-run_line.ensures.ran

@@ -12,12 +12,12 @@ sync_write-requires-clause-to g c = c.requires.partners.defined c.args.write.now
 
 pub returns-in-Ok-clause-says : goal.returns-in-Ok-clause-says
 returns-in-Ok-clause-says g c =
-    let w = here (g.P.Plant.state c.args.plant.now) c.args.config.now c.args.host.now c.args.journal.now.events in
-    c.answer.ensures ∙ ap (written_as c.args.write.now.w.0) c.in-Ok.ensures.end ∙ written-end c.args.write.now.w.0 (waits w.control c.args.write.now.volume.0 c.args.write.now.track)
+    let w = here (g.P.Plant.state c.args.plant.now) c.args.config.now c.args.tables.now c.args.journal.now.events in
+    c.answer.ensures ∙ ap (written_as c.args.write.now.w.0) (c.in-Ok.ensures.end c.args.tables.now.sessions.sessions) ∙ written-end c.args.write.now.w.0 (waits w.control c.args.write.now.volume.0 c.args.write.now.track)
 
 pub returns-in-Ok-clause-ready : goal.returns-in-Ok-clause-ready
 returns-in-Ok-clause-ready g c =
-    ready-after c.args.config.now (g.P.Plant.state c.args.plant.now) (g.P.Plant.state c.sync_write.new.p) c.sync_write.new.h c.sync_write.new.j.events c.requires.ready.reads c.in-Ok.ensures.rest c.in-Ok.ensures.unarmed c.in-Ok.ensures.told
+    ready-after c.args.config.now (g.P.Plant.state c.args.plant.now) (g.P.Plant.state c.sync_write.new.p) (record c.args.tables.now { host = c.sync_write.new.h }) c.sync_write.new.j.events c.requires.ready.reads c.in-Ok.ensures.rest c.in-Ok.ensures.unarmed c.in-Ok.ensures.told
 
 pub returns-in-Ok-clause-faults : goal.returns-in-Ok-clause-faults
 returns-in-Ok-clause-faults g c =
@@ -26,4 +26,10 @@ returns-in-Ok-clause-faults g c =
 
 pub returns-in-Err-clause-ready : goal.returns-in-Err-clause-ready
 returns-in-Err-clause-ready g c =
-    ready-after c.args.config.now (g.P.Plant.state c.args.plant.now) (g.P.Plant.state c.sync_write.new.p) c.sync_write.new.h c.sync_write.new.j.events c.requires.ready.reads c.in-Err.ensures.rest c.in-Err.ensures.unarmed c.in-Err.ensures.told
+    ready-after c.args.config.now (g.P.Plant.state c.args.plant.now) (g.P.Plant.state c.sync_write.new.p) (record c.args.tables.now { host = c.sync_write.new.h }) c.sync_write.new.j.events c.requires.ready.reads c.in-Err.ensures.rest c.in-Err.ensures.unarmed c.in-Err.ensures.told
+
+pub returns-in-Ok-clause-carried : goal.returns-in-Ok-clause-carried
+returns-in-Ok-clause-carried g c = c.in-Ok.ensures.carried c.args.tables.now.sessions.sessions
+
+pub returns-in-Err-clause-carried : goal.returns-in-Err-clause-carried
+returns-in-Err-clause-carried g c = c.in-Err.ensures.carried c.args.tables.now.sessions.sessions

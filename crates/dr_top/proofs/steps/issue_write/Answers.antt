@@ -8,16 +8,16 @@ use Rattle.dr_top.proofs.steps.issue_write.Goals as goal
 
 pub returns-in-Err-clause-refused : goal.returns-in-Err-clause-refused
 returns-in-Err-clause-refused c s =
-    issues-nowhere s c.args.config.now c.args.host.now c.args.journal.now.events c.args.write.now.volume.0 c.args.write.now.track c.in-Err.refusal (c.in-Err.ensures s c.args.host.now c.args.journal.now.events)
+    issues-nowhere s c.args.config.now c.args.tables.now c.args.journal.now.events c.args.write.now.volume.0 c.args.write.now.track c.in-Err.refusal (c.in-Err.ensures s c.args.tables.now c.args.journal.now.events)
 
 pub returns-in-Ok-issue-clause-done : goal.returns-in-Ok-issue-clause-done
 returns-in-Ok-issue-clause-done c =
-    let t = c.args.config.now in let h = c.args.host.now in let ev = c.args.journal.now.events in let x = c.args.write.now in let w = c.in-Ok-issue.w.0 in
+    let t = c.args.config.now in let h = c.args.tables.now in let ev = c.args.journal.now.events in let x = c.args.write.now in let w = c.in-Ok-issue.w.0 in
     let at = λ (s : PlantState). c.in-Ok.ensures s h ev in
     let track : c.in-Ok.place.track ≡ x.track = (at any_plant).1.track in
     record {
       number = c.in-Ok-issue.ensures.number;
-      host = c.in-Ok-issue.ensures.added ∙ (λ i. with_write h x.volume.0 (track i) x.offset (c.front.ensures i));
+      tables = (λ i. record h { host = (c.in-Ok-issue.ensures.added ∙ (λ i. with_write h.host x.volume.0 (track i) x.offset (c.front.ensures i))) i });
       found = c.in-Ok-issue.ensures.found ∙ (λ i. Some (written w x.volume.0 (track i) x.offset (c.front.ensures i)));
       told = c.push.ensures.events ∙ ap (λ k. ev ++ Issue w x.volume.0 k x.offset x.len x.bytes ∷ []) track;
       there = λ s. (at s).0;
@@ -26,10 +26,10 @@ returns-in-Ok-issue-clause-done c =
 
 pub returns-in-Ok-issue-clause-told : goal.returns-in-Ok-issue-clause-told
 returns-in-Ok-issue-clause-told c told =
-    let h = c.args.host.now in let ev = c.args.journal.now.events in let x = c.args.write.now in
-    issued-told h c.issue.new.self ev c.push.new.self.events c.in-Ok-issue.w.0 x.volume.0 c.in-Ok.place.track x.offset x.len x.bytes c.front.result.now c.in-Ok-issue.ensures.number c.front.ensures c.in-Ok-issue.ensures.added c.push.ensures.events c.issued-issued.ensures.sound told
+    let h = c.args.tables.now in let ev = c.args.journal.now.events in let x = c.args.write.now in
+    issued-told h.host c.issue.new.self ev c.push.new.self.events c.in-Ok-issue.w.0 x.volume.0 c.in-Ok.place.track x.offset x.len x.bytes c.front.result.now c.in-Ok-issue.ensures.number c.front.ensures c.in-Ok-issue.ensures.added c.push.ensures.events c.issued-issued.ensures.sound told
 
 pub returns-in-Err-issue-clause-refused : goal.returns-in-Err-issue-clause-refused
 returns-in-Err-issue-clause-refused c =
-    let t = c.args.config.now in let h = c.args.host.now in let ev = c.args.journal.now.events in let x = c.args.write.now in
+    let t = c.args.config.now in let h = c.args.tables.now in let ev = c.args.journal.now.events in let x = c.args.write.now in
     fault-refused WriteId c.in-Err-issue.fault _ _ c.in-Err-issue.ensures.refused (λ r is s. issues-by s t h ev x.volume.0 x.track (Some r) (c.in-Ok.ensures s h ev).0 is)

@@ -4,7 +4,7 @@ use Rattle.dr_ids.specs.declared.names.VolumeId.{VolumeId}
 use Rattle.dr_config.specs.Table.{place_of}
 use Rattle.dr_flash.specs.Here.{refusal_of}
 use Rattle.dr_flash.proofs.TurnLemmas.{ok-along, err-along}
-use Rattle.dr_metro.specs.Here.{here}
+use Rattle.dr_top.specs.Here.{here}
 use Rattle.dr_top.proofs.StartLemmas.{started-skip, started-goes, started-fails, started-stops, starting-skip}
 use Rattle.dr_top.proofs.stops.redo_at.Goals as goal
 

@@ -1,6 +1,6 @@
 use Rattle.std.proofs.Common.{refl, sym, ap, ◌∙◌}
 use Rattle.dr_model.specs.declared.event.Event.TheVariants.{Stopped}
-use Rattle.dr_metro.specs.Here.{rest_of}
+use Rattle.dr_top.specs.Here.{rest_of}
 use Rattle.dr_metro.proofs.ToldLemmas.{told-push}
 use Rattle.dr_top.proofs.StartLemmas.{own-server, redone-advances, redone-halts, starting-goes, rest-stopped}
 use Rattle.dr_top.proofs.stops.redo_own.Goals as goal
@@ -27,4 +27,4 @@ returns-in-Err-clause-rest g c =
     (sym (ap u.on (own-server s t c.args.volume.0 c.args.server.0 c.requires.owned)) ∙ c.in-Err.ensures.off)
 
 pub returns-in-Err-clause-told : goal.returns-in-Err-clause-told
-returns-in-Err-clause-told g c h is = told-push h c.args.journal.now.events c.push.new.self.events (Stopped c.args.server.0 0) (λ x. refl) c.push.ensures.events is
+returns-in-Err-clause-told g c h is = told-push h.host c.args.journal.now.events c.push.new.self.events (Stopped c.args.server.0 0) (λ x. refl) c.push.ensures.events is

@@ -3,7 +3,7 @@ use Rattle.dr_io.specs.Faults.{Rose}
 use Rattle.dr_top.specs.Faults.{Counted}
 use Rattle.dr_model.specs.ReadStops.{Ends}
 use Rattle.dr_laws.proofs.ReadStops.{ends-wider}
-use Rattle.dr_metro.specs.Here.{here}
+use Rattle.dr_top.specs.Here.{here}
 use Rattle.dr_flash.specs.Here.{armed_in}
 use Rattle.dr_top.specs.Starting.{start_from}
 use Rattle.dr_top.proofs.LandLemmas.{refused-by, wider-armed}

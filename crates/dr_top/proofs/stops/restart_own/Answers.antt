@@ -6,7 +6,7 @@ use Rattle.dr_volume.specs.View.{volume_seen}
 use Rattle.dr_flash.specs.Here.{armed_in, refusal_of}
 use Rattle.dr_flash.specs.Turns.{Advances, Halts}
 use Rattle.dr_flash.proofs.TurnLemmas.{ok-along, err-along}
-use Rattle.dr_metro.specs.Here.{here, rest_of}
+use Rattle.dr_top.specs.Here.{here, rest_of}
 use Rattle.dr_top.proofs.StartLemmas.{own-server, ready-volume, starting-still, rest-stopped, of-each, told-either, counted-top}
 use Rattle.dr_top.proofs.stops.restart_own.Goals as goal
 

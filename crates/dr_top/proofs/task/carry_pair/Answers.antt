@@ -7,7 +7,7 @@ use Rattle.dr_top.proofs.task.carry_pair.Goals as goal
 
 pub returns-in-MakePair-clause-step : goal.returns-in-MakePair-clause-step
 returns-in-MakePair-clause-step g c line =
-    let w = here (g.P.Plant.state c.args.plant.now) c.args.config.now c.args.host.now c.args.journal.now.events in
+    let w = here (g.P.Plant.state c.args.plant.now) c.args.config.now c.args.tables.now c.args.journal.now.events in
     ap (λ x. after_plan w line (plan_of w.control w.events line x)) c.in-MakePair.is
     ∙ c.make_copy.ensures.step line
 
@@ -16,19 +16,19 @@ make_copy-requires-clause-kind g c = sym (ap is_built c.in-MakePair.is) ∙ c.re
 
 pub returns-in-RemovePair-clause-step : goal.returns-in-RemovePair-clause-step
 returns-in-RemovePair-clause-step g c line =
-    let w = here (g.P.Plant.state c.args.plant.now) c.args.config.now c.args.host.now c.args.journal.now.events in
+    let w = here (g.P.Plant.state c.args.plant.now) c.args.config.now c.args.tables.now c.args.journal.now.events in
     ap (λ x. after_plan w line (plan_of w.control w.events line x)) c.in-RemovePair.is
     ∙ c.end_copy.ensures.step line
 
 pub returns-in-PausePair-clause-step : goal.returns-in-PausePair-clause-step
 returns-in-PausePair-clause-step g c line =
-    let w = here (g.P.Plant.state c.args.plant.now) c.args.config.now c.args.host.now c.args.journal.now.events in
+    let w = here (g.P.Plant.state c.args.plant.now) c.args.config.now c.args.tables.now c.args.journal.now.events in
     ap (λ x. after_plan w line (plan_of w.control w.events line x)) c.in-PausePair.is
     ∙ c.pause_copy.ensures.step line
 
 pub returns-in-ResumePair-clause-step : goal.returns-in-ResumePair-clause-step
 returns-in-ResumePair-clause-step g c line =
-    let w = here (g.P.Plant.state c.args.plant.now) c.args.config.now c.args.host.now c.args.journal.now.events in
+    let w = here (g.P.Plant.state c.args.plant.now) c.args.config.now c.args.tables.now c.args.journal.now.events in
     ap (λ x. after_plan w line (plan_of w.control w.events line x)) c.in-ResumePair.is
     ∙ c.resume_copy.ensures.step line
 
@@ -37,7 +37,7 @@ resume_copy-requires-clause-kind g c = sym (ap is_built c.in-ResumePair.is) ∙ 
 
 pub returns-in-Drain-clause-step : goal.returns-in-Drain-clause-step
 returns-in-Drain-clause-step g c line =
-    let w = here (g.P.Plant.state c.args.plant.now) c.args.config.now c.args.host.now c.args.journal.now.events in
+    let w = here (g.P.Plant.state c.args.plant.now) c.args.config.now c.args.tables.now c.args.journal.now.events in
     ap (λ x. after_plan w line (plan_of w.control w.events line x)) c.in-Drain.is
     ∙ c.drain_copy.ensures.step line
 

@@ -7,14 +7,14 @@ use Rattle.dr_top.proofs.task.carry_task.Goals as goal
 
 pub returns-then-not-is_built-clause-task : goal.returns-then-not-is_built-clause-task
 returns-then-not-is_built-clause-task g c =
-    let w = here (g.P.Plant.state c.args.plant.now) c.args.config.now c.args.host.now c.args.journal.now.events in
-    refused-task c.args.number NotBuilt c.args.journal.now.events c.refuse.new.journal.events c.refuse.result (g.P.Plant.state c.args.plant.now) c.args.config.now c.args.host.now c.args.step.now (task-unbuilt w c.args.number c.args.step.now (sym c.if-not-is_built.ensures)) c.refuse.ensures.told
+    let w = here (g.P.Plant.state c.args.plant.now) c.args.config.now c.args.tables.now c.args.journal.now.events in
+    refused-task c.args.number NotBuilt c.args.journal.now.events c.refuse.new.journal.events c.refuse.result (g.P.Plant.state c.args.plant.now) c.args.config.now c.args.tables.now c.args.step.now (task-unbuilt w c.args.number c.args.step.now (sym c.if-not-is_built.ensures)) c.refuse.ensures.told
 
 pub returns-then-not-is_built-clause-ready : goal.returns-then-not-is_built-clause-ready
 returns-then-not-is_built-clause-ready g c = record {
   rest = c.requires.ready.rest;
   reads = c.requires.ready.reads;
-  told = refused-told c.args.number NotBuilt c.args.journal.now.events c.refuse.new.journal.events c.refuse.result c.args.host.now c.refuse.ensures.told c.refuse.ensures.same c.requires.ready.told;
+  told = refused-told c.args.number NotBuilt c.args.journal.now.events c.refuse.new.journal.events c.refuse.result c.args.tables.now c.refuse.ensures.told c.refuse.ensures.same c.requires.ready.told;
 }
 
 pub returns-then-not-is_built-clause-faults : goal.returns-then-not-is_built-clause-faults
@@ -23,14 +23,14 @@ returns-then-not-is_built-clause-faults g c f before =
 
 pub returns-then-not-has_room-clause-task : goal.returns-then-not-has_room-clause-task
 returns-then-not-has_room-clause-task g c =
-    let w = here (g.P.Plant.state c.args.plant.now) c.args.config.now c.args.host.now c.args.journal.now.events in
-    refused-task c.args.number JournalFull c.args.journal.now.events c.refuse-then-not-has_room.new.journal.events c.refuse-then-not-has_room.result (g.P.Plant.state c.args.plant.now) c.args.config.now c.args.host.now c.args.step.now (task-full w c.args.number c.args.step.now (sym c.if-not-is_built.ensures) (sym c.if-not-has_room.ensures)) c.refuse-then-not-has_room.ensures.told
+    let w = here (g.P.Plant.state c.args.plant.now) c.args.config.now c.args.tables.now c.args.journal.now.events in
+    refused-task c.args.number JournalFull c.args.journal.now.events c.refuse-then-not-has_room.new.journal.events c.refuse-then-not-has_room.result (g.P.Plant.state c.args.plant.now) c.args.config.now c.args.tables.now c.args.step.now (task-full w c.args.number c.args.step.now (sym c.if-not-is_built.ensures) (sym c.if-not-has_room.ensures)) c.refuse-then-not-has_room.ensures.told
 
 pub returns-then-not-has_room-clause-ready : goal.returns-then-not-has_room-clause-ready
 returns-then-not-has_room-clause-ready g c = record {
   rest = c.requires.ready.rest;
   reads = c.requires.ready.reads;
-  told = refused-told c.args.number JournalFull c.args.journal.now.events c.refuse-then-not-has_room.new.journal.events c.refuse-then-not-has_room.result c.args.host.now c.refuse-then-not-has_room.ensures.told c.refuse-then-not-has_room.ensures.same c.requires.ready.told;
+  told = refused-told c.args.number JournalFull c.args.journal.now.events c.refuse-then-not-has_room.new.journal.events c.refuse-then-not-has_room.result c.args.tables.now c.refuse-then-not-has_room.ensures.told c.refuse-then-not-has_room.ensures.same c.requires.ready.told;
 }
 
 pub returns-then-not-has_room-clause-faults : goal.returns-then-not-has_room-clause-faults
