@@ -3,15 +3,13 @@ use Rattle.std.specs.Prelude.{◌≡◌, ◌≢◌, ◌<◌, ◌≤◌, ℕ, Boo
 use Rattle.std.specs.List.{fold}
 use Rattle.std.specs.FinSet.{contains}
 use Rattle.dr_model.specs.Tables.{at2}
-use Rattle.dr_model.specs.declared.state.Part.{Part}
 use Rattle.dr_model.specs.declared.state.Part.TheVariants.{Global}
 use Rattle.dr_model.specs.declared.event.Event.{Event}
 use Rattle.dr_model.specs.declared.event.Event.TheVariants.{Cut}
 use Rattle.dr_model.specs.Histories.{Lists, Write, Histories, no_history, after_event, histories, lists}
 use Rattle.dr_model.specs.Contents.{image}
-use Rattle.dr_model.specs.Layout.{Fields}
 use Rattle.dr_model.specs.Control.{World}
-use Rattle.dr_model.specs.Pairs.{primary_of, secondary_of, is_kind}
+use Rattle.dr_model.specs.Pairs.{primary_of, is_kind}
 use Rattle.dr_model.specs.Moves.{Move, Hold}
 use Rattle.dr_model.specs.Table.{Row, Table, table}
 use Rattle.dr_model.specs.Laws.{Each, Linked, its_primary, its_secondary, fields}

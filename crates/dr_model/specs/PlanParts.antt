@@ -1,6 +1,6 @@
 -- What plans of steps are made of: tables, entries and answers; and what needs a server, a logical subsystem or a session that a
 -- line names.
-use Rattle.std.specs.Prelude.{ℕ, Bool, true, List, [], ◌∷◌, take, Option, Some, None, option_map}
+use Rattle.std.specs.Prelude.{ℕ, Bool, true, List, [], take, Option, Some, None, option_map}
 use Rattle.std.specs.List.{position}
 use Rattle.std.specs.Str.{bytes_eq}
 use Rattle.dr_ids.specs.declared.refusal.Refusal.{Refusal}

@@ -1,8 +1,7 @@
 -- The step table: what each step comes to, from the control state and the journal. No answer looks at a device's bytes.
-use Rattle.std.specs.Prelude.{ℕ, ◌+◌, Bool, true, false, ◌&&◌, ◌||◌, not, List, [], ◌∷◌, ◌++◌, take, length, map, min, replicate, Option, Some, None, is_some, option_map, unwrap_or, Result, Ok, Err, nat_eq, nat_lt, nat_le, if◌then◌else◌}
-use Rattle.std.specs.List.{position, find, list_any}
+use Rattle.std.specs.Prelude.{ℕ, ◌+◌, Bool, true, false, ◌&&◌, ◌||◌, not, List, [], ◌∷◌, ◌++◌, length, map, min, replicate, Option, Some, None, is_some, option_map, unwrap_or, Result, Ok, Err, nat_eq, nat_lt, nat_le, if◌then◌else◌}
+use Rattle.std.specs.List.{find, list_any}
 use Rattle.std.specs.Option.{option_or}
-use Rattle.std.specs.Str.{bytes_eq}
 use Rattle.std.specs.FinSet.{len}
 use Rattle.dr_ids.specs.Links.{joins}
 use Rattle.dr_ids.specs.Paths.{path_in, with_path, without_path}
@@ -19,7 +18,7 @@ use Rattle.dr_model.specs.Relations.{Choices, rest}
 use Rattle.dr_model.specs.Moves.{Relate, Withdraw, Resync, Reverse, is_write}
 use Rattle.dr_model.specs.Carry.{Entry, Next, Pass, Do, Acknowledge, now, check}
 use Rattle.dr_model.specs.Pairs.{is_unpaired}
-use Rattle.dr_model.specs.Entries.{fields_at, is_running, running_check, is_at, subsystem, first_of, share_server, share_size, is_no_target, copies_from, targets_of, stands_in, is_any, relation_state, pair_state, is_no_secondary, takes_back, times, fetch_next, give_back}
+use Rattle.dr_model.specs.Entries.{fields_at, is_running, running_check, subsystem, first_of, share_server, share_size, is_no_target, copies_from, targets_of, stands_in, is_any, relation_state, pair_state, is_no_secondary, takes_back, times, fetch_next, give_back}
 use Rattle.dr_model.specs.Sessions.{is_member, in_session}
 use Rattle.dr_model.specs.PairEntries.{refuse_if, make_entries, remove_entries, pause_entries, resume_entries, is_copying, tracks_to_send, sends, suspend_after, link_down, first_active, first_differing}
 use Rattle.dr_model.specs.WriteEntries.{landing, says_written, after_write, belongs, start_entries, lift_on, freeze_entries, thaw_entries}
@@ -27,7 +26,7 @@ pub use Rattle.dr_model.specs.PlanParts.{Plan, same, none_follow, always, tables
 use Rattle.dr_model.specs.SessionPlans.{join_plan, leave_plan, add_plan, expel_plan, mirror_plan, pause_mirror_plan, unmirror_plan, abort_plan, exchange_plan, is_ahead}
 use Rattle.dr_model.specs.declared.said.Addition.TheVariants.{Alone, Wrote, Acked, Counted, Showed}
 use Rattle.dr_model.specs.declared.said.Said.{Said}
-use Rattle.dr_model.specs.declared.said.Said.TheVariants.{Done, Refused}
+use Rattle.dr_model.specs.declared.said.Said.TheVariants.{Done}
 use Rattle.dr_model.specs.declared.event.Event.{Event}
 use Rattle.dr_model.specs.declared.event.Event.TheVariants.{Server as ServerDefined, Volume as VolumeDefined, Issue, Stopped, Started, Shown}
 use Rattle.dr_model.specs.declared.state.Part.{Part}

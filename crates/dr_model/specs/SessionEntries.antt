@@ -1,5 +1,5 @@
 -- Entries of plans on sessions: what each order does with a member, and what adding and removing one does.
-use Rattle.std.specs.Prelude.{ℕ, max, Bool, true, false, ◌&&◌, ◌||◌, ◌==◌, not, List, [], ◌∷◌, filter, Option, Some, None, option_map, unwrap_or, nat_eq, nat_lt, if◌then◌else◌}
+use Rattle.std.specs.Prelude.{ℕ, max, Bool, false, ◌&&◌, ◌||◌, ◌==◌, not, List, [], ◌∷◌, filter, Option, Some, None, option_map, unwrap_or, nat_eq, nat_lt, if◌then◌else◌}
 use Rattle.std.specs.List.{flat_map, list_any}
 use Rattle.dr_ids.specs.declared.names.Member.{Member}
 use Rattle.dr_ids.specs.declared.refusal.Refusal.{Refusal}
@@ -12,7 +12,7 @@ use Rattle.dr_model.specs.Pairs.{is_primary_of, is_kind, is_pending, records}
 use Rattle.dr_model.specs.Sessions.{session_in}
 use Rattle.dr_model.specs.Phases as phases
 use Rattle.dr_model.specs.Moves.{Hold, Free, Seal, Finish, RaiseAttempt, RaiseFloor, Leave}
-use Rattle.dr_model.specs.Carry.{Make, OpenAttempt, Next, Pass, Do, Entry, now}
+use Rattle.dr_model.specs.Carry.{Make, OpenAttempt, Pass, Do, Entry, now}
 use Rattle.dr_model.specs.Entries.{fields_at, pair_state}
 use Rattle.dr_model.specs.PairEntries.{refuse_if, send_refusal}
 

@@ -1,5 +1,5 @@
 -- The step table for lines on sessions.
-use Rattle.std.specs.Prelude.{ℕ, ◌+◌, Bool, true, false, ◌&&◌, ◌||◌, ◌==◌, not, List, [], ◌∷◌, filter, Option, Some, None, is_some, nat_eq, if◌then◌else◌}
+use Rattle.std.specs.Prelude.{ℕ, ◌+◌, Bool, true, false, ◌&&◌, ◌||◌, ◌==◌, not, List, [], ◌∷◌, filter, Option, Some, None, nat_eq, if◌then◌else◌}
 use Rattle.std.specs.List.{find, list_any}
 use Rattle.std.specs.Option.{option_or}
 use Rattle.dr_ids.specs.declared.names.Member.{Member}
@@ -18,7 +18,6 @@ use Rattle.dr_model.specs.Refusals.{server_off, unknown}
 use Rattle.dr_model.specs.Control.{Control}
 use Rattle.dr_model.specs.Phases as phases
 use Rattle.dr_model.specs.Sessions.{Session, Mirror, session_in, is_member, has_place_of, has_subsystem, changed, joined, left, raised, with_member, without_member, with_master, mirrored_by, unmirrored, paused, not_in_session, in_session, busy, no_master, join_refusal, leave_refusal, make_refusal, drop_refusal, abort_refusal}
-use Rattle.dr_model.specs.Carry.{Entry}
 use Rattle.dr_model.specs.Pairs.{is_kind}
 use Rattle.dr_model.specs.Entries.{fields_at, is_running, subsystem, targets_of, relation_state, pair_state}
 use Rattle.dr_model.specs.PairEntries.{link_down, send_refusal}
@@ -227,9 +226,9 @@ is_idle p = false
 abbrev pub phase_refusal : Mirror → ℕ → List Member → Option Refusal
 phase_refusal r server ms =
     if is_idle r.master.phase then
-      (if r.paused || not (list_any (λ m. m.server.0 == server) ms) then Some (OutOfOrder phase.Idle)
-      else if r.master.number + 1 == 4294967296 then Some NumbersSpent
-      else None)
+    (if r.paused || not (list_any (λ m. m.server.0 == server) ms) then Some (OutOfOrder phase.Idle)
+    else if r.master.number + 1 == 4294967296 then Some NumbersSpent
+    else None)
     else if phases.is_among server r.master.owed then None
     else Some (OutOfOrder r.master.phase)
 

@@ -1,8 +1,8 @@
 -- Entries of plans on host writes, on long busy primaries, and on servers that start.
-use Rattle.std.specs.Prelude.{ℕ, Bool, true, false, ◌&&◌, ◌||◌, not, List, [], ◌∷◌, ◌++◌, map, Option, is_some, unwrap_or, nat_eq, if◌then◌else◌}
+use Rattle.std.specs.Prelude.{ℕ, Bool, true, false, ◌&&◌, ◌||◌, not, List, [], ◌∷◌, ◌++◌, map, is_some, unwrap_or, nat_eq, if◌then◌else◌}
 use Rattle.std.specs.List.{flat_map}
 use Rattle.dr_ids.specs.Paths.{path_in}
-use Rattle.dr_model.specs.Layout.{Fields, is_part}
+use Rattle.dr_model.specs.Layout.{is_part}
 use Rattle.dr_model.specs.Control.{Control, is_volume}
 use Rattle.dr_model.specs.Pairs.{held, goes_over, collides, must_restart}
 use Rattle.dr_model.specs.Moves.{Suspend, Unsync, Mirror, LandBoth, Thaw, Lift, Restart}
