@@ -12,7 +12,8 @@ use Rattle.dr_laws.specs.Moments.{moments_from}
 use Rattle.dr_laws.specs.Windows.{FreezeCut}
 use Rattle.dr_laws.proofs.Cases.{Case, Says, Defines, Adds, Links, Issues, Writes, Applies, Shows, Stops, Arms, Starts, Flashes, Withdraws, Resyncs, Reverses, Copies, Paths, Unpaths, MakesPair, RemovesPair, Pauses, ResumesPair, Drains, Expires, Freezes, Thaws, JoinsSession, LeavesSession, Mirrors, PausesMirror, Unmirrors, Aborts, AddsMember, Expels, Exchanges, added, expelled, aborted, ordered, plan-case}
 use Rattle.dr_laws.proofs.Steps.{sound-nothing, case-holds}
-use Rattle.dr_laws.proofs.FitsSessions.{orders-added, orders-expelled, orders-ordered}
+use Rattle.dr_laws.proofs.FitsMembers.{orders-added, orders-expelled}
+use Rattle.dr_laws.proofs.FitsOrders.{orders-ordered}
 use Rattle.dr_laws.proofs.FairSessions.{fair-sessions, fair-leaving, easy-add, easy-expel, easy-order}
 use Rattle.dr_laws.proofs.Windows.{Chain, freeze-cut}
 use Rattle.dr_laws.proofs.Chains.{run-chain}

@@ -33,7 +33,9 @@ use Rattle.dr_laws.proofs.FitsCopy.{holds-copy}
 use Rattle.dr_laws.proofs.FitsPairs.{holds-pair, holds-remove, holds-pause, holds-resume}
 use Rattle.dr_laws.proofs.FitsDrain.{holds-drain}
 use Rattle.dr_laws.proofs.FitsWrites.{lands, writes-after}
-use Rattle.dr_laws.proofs.FitsSessions.{sound-lost, holds-joined, holds-left, holds-mirrored, holds-paused, holds-unmirrored, holds-aborted, holds-orders, orders-added, orders-expelled, orders-ordered}
+use Rattle.dr_laws.proofs.FitsSessions.{sound-lost, holds-joined, holds-left, holds-mirrored, holds-paused, holds-unmirrored, holds-aborted, holds-orders}
+use Rattle.dr_laws.proofs.FitsMembers.{orders-added, orders-expelled}
+use Rattle.dr_laws.proofs.FitsOrders.{orders-ordered}
 use Rattle.dr_laws.proofs.FitsHolds.{holds-freeze, holds-thaw, holds-expire}
 use Rattle.dr_laws.proofs.Sets.{in_none, empty_has}
 use Rattle.dr_laws.proofs.Defines.{sound-defined}
