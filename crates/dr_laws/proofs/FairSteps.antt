@@ -12,7 +12,8 @@ use Rattle.dr_laws.specs.Moments.{moments_from}
 use Rattle.dr_laws.specs.Windows.{FreezeCut}
 use Rattle.dr_laws.proofs.Cases.{Case, Says, Defines, Adds, Links, Issues, Writes, Applies, Shows, Stops, Arms, Starts, Flashes, Withdraws, Resyncs, Reverses, Copies, Paths, Unpaths, MakesPair, RemovesPair, Pauses, ResumesPair, Drains, Expires, Freezes, Thaws, JoinsSession, LeavesSession, Mirrors, PausesMirror, Unmirrors, Aborts, AddsMember, Expels, Exchanges, added, expelled, aborted, ordered, plan-case}
 use Rattle.dr_laws.proofs.Steps.{sound-nothing, case-holds}
-use Rattle.dr_laws.proofs.FitsSessions.{orders-added, orders-expelled, orders-ordered}
+use Rattle.dr_laws.proofs.FitsMembers.{orders-added, orders-expelled}
+use Rattle.dr_laws.proofs.FitsOrders.{orders-ordered}
 use Rattle.dr_laws.proofs.FairSessions.{fair-sessions, fair-leaving, easy-add, easy-expel, easy-order}
 use Rattle.dr_laws.proofs.Windows.{Chain, freeze-cut}
 use Rattle.dr_laws.proofs.Chains.{run-chain}
@@ -39,7 +40,7 @@ between-nothing = record {
 fair-case : (w : World) (k : Between w) (line : ℕ) (p : Plan) → Case w.control w.events line p → Fair w p
 fair-case w k line _ (Says a) = fair-says w k line a
 fair-case w k line _ (Defines name free) = fair-defines w k line name free
-fair-case w k line _ (Adds v s tracks free) = fair-adds w k line v s tracks free
+fair-case w k line _ (Adds v s tracks here free) = fair-adds w k line v s tracks here free
 fair-case w k line _ (Links a b up) = fair-links w k line a b up
 fair-case w k line _ (Issues v t offset len bytes free) = fair-issues w k line v t offset len bytes free
 fair-case w k line _ (Writes v t offset len bytes free) = fair-writes w k v t offset len bytes free

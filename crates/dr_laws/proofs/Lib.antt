@@ -13,7 +13,6 @@ pub mod KeepsRecorders
 pub mod KeepsPairs
 pub mod KeepsTargets
 pub mod KeepsQueue
-pub mod GroupsWanted
 pub mod KeepsGroups
 pub mod Along
 pub mod KeepsSound
@@ -28,6 +27,8 @@ pub mod FitsCollide
 pub mod FitsWrites
 pub mod FitsHolds
 pub mod FitsSessions
+pub mod FitsMembers
+pub mod FitsOrders
 pub mod Issues
 pub mod Defines
 pub mod Starts
