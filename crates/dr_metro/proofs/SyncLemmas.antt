@@ -12,7 +12,7 @@ use Rattle.dr_model.specs.Layout.{Tracks, Fields, is_part}
 use Rattle.dr_model.specs.Control.{Control, World}
 use Rattle.dr_model.specs.Refusals.{server_off}
 use Rattle.dr_model.specs.Relations.{closed, fetched, rewritten}
-use Rattle.dr_model.specs.Pairs.{altered, is_metro, is_suspended, goes_over}
+use Rattle.dr_model.specs.Pairs.{written, is_metro, is_suspended, goes_over}
 use Rattle.dr_model.specs.Moves.{Suspend}
 use Rattle.dr_model.specs.Carry.{Entry, Pass, Do, Make, Drop, act, dropped, check, now}
 use Rattle.dr_model.specs.Entries.{fields_at, is_running, is_no_secondary, is_open, is_settled, relation_state, drop_unless, check_or_drop, write_checks}
@@ -52,7 +52,7 @@ told-followed armed h v u r follows f told = subst (λ (x : World). IsTold h x.e
 pub state-landed : (n : ℕ) (f : Fields) (t : ℕ) → (landed n f t).primary_state ≡ f.primary_state
 state-landed n f t = by f.related
   where
-    by : (b : Bool) → (if b then closed n (rewritten (fetched f t) t) else altered f t).primary_state ≡ f.primary_state
+    by : (b : Bool) → (if b then closed n (rewritten (fetched f t) t) else written f t).primary_state ≡ f.primary_state
     by true = refl
     by false = refl
 
@@ -67,9 +67,9 @@ stays_in false s t h = h
 pub out-landed : (n : ℕ) (f : Fields) (t : ℕ) → contains f.out_of_sync t ≡ true → contains (landed n f t).out_of_sync t ≡ true
 out-landed n f t out = by f.related
   where
-    by : (b : Bool) → contains (if b then closed n (rewritten (fetched f t) t) else altered f t).out_of_sync t ≡ true
+    by : (b : Bool) → contains (if b then closed n (rewritten (fetched f t) t) else written f t).out_of_sync t ≡ true
     by true = out
-    by false = stays_in (is_part f.primary) f.out_of_sync t out
+    by false = stays_in (is_part f.primary && not f.recording) f.out_of_sync t out
 
 true-false : {P : Type 0} (b : Bool) → b ≡ true → b ≡ false → P
 true-false b is not_so = absurd (let never : true ≡ false = sym is ∙ not_so in cc)
