@@ -56,7 +56,7 @@ with-told : (w : World) (es : List Event) → (after (histories w.events) es).wr
 with-told w es same = ap (λ (x : Histories). x.write) (histories-append w.events es) ∙ same
 
 -- an update tells nothing
-abbrev updated_by : World → ℕ → Fields → Carried → Bool → Bool → Bool → Ended
+abbrev pub updated_by : World → ℕ → Fields → Carried → Bool → Bool → Bool → Ended
 updated_by w v f c on passes counts =
     let s : ℕ = (w.control.volume v).server in
     cond (not on) (ended w true false) (cond passes (ended (spent (updated w v f c) s (writes c)) false true) (cond counts (ended (off (updated w v f c) s) true true) (ended (off w s) true false)))
