@@ -76,6 +76,46 @@ pub fn altered(f: &Fields, t: u16) -> Fields
     }
 }
 
+/// Of a primary that doesn't record, the tracks that are out of sync once a host write landed on track t.
+fn unsent_after(f: &Fields, t: u16) -> TrackSet
+    requires { t < 256 }
+    ensures { result ≡ (pairs.written (plain f.now) t).out_of_sync }
+{
+    let mut unsent = f.out_of_sync;
+    if is_part(f.primary) && !f.recording {
+        unsent.insert(t);
+    }
+    unsent
+}
+
+/// Of a primary that records, the tracks that have changed since it began to, once a host write landed on track t.
+fn changed_after(f: &Fields, t: u16) -> TrackSet
+    requires { t < 256 }
+    ensures { result ≡ (pairs.written (plain f.now) t).change_recording }
+{
+    let mut changed = f.change_recording;
+    if is_part(f.primary) && f.recording {
+        changed.insert(t);
+    }
+    changed
+}
+
+/// A volume on whose track t a host write landed: of a primary that records the track has changed since it began to, of
+/// any other primary it is out of sync.
+pub fn written(f: &Fields, t: u16) -> Fields
+    requires { t < 256 }
+    ensures { plain result ≡ pairs.written (plain f.now) t }
+{
+    let mut blank = f.blank;
+    blank.remove(t);
+    Fields {
+        out_of_sync: unsent_after(f, t),
+        change_recording: changed_after(f, t),
+        blank,
+        ..*f
+    }
+}
+
 /// The target holds track t.
 pub fn fetched(f: &Fields, t: u16) -> Fields
     requires { t < 256 }

@@ -23,7 +23,7 @@ pub use ending::withdraw;
 pub use fetching::{copy_step, read_target};
 pub use fields::{
     altered, closed, fetched, given_up, made, noted, restored, resynced, rewritten, turned,
-    withdrawn,
+    withdrawn, written,
 };
 pub use keep::keep_on;
 pub use keeping::copy_first;

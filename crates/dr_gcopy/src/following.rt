@@ -45,13 +45,7 @@ fn suspend_running<P: Plant>(p: &mut P, c: &Config, j: &mut Journal, a: VolumeId
 }
 
 /// What follows where primary a was refused so: after the stop of a server it is suspended, where its own still runs.
-pub(crate) fn follow_stop<P: Plant>(
-    p: &mut P,
-    c: &Config,
-    j: &mut Journal,
-    a: VolumeId,
-    why: Refusal,
-)
+pub fn follow_stop<P: Plant>(p: &mut P, c: &Config, j: &mut Journal, a: VolumeId, why: Refusal)
     requires rest { IsAtRest (P.state p.old) c.now }
     requires fit { RelationsFit (P.state p.old) c.now }
     requires defined { IsSome (place_of c.now a.0) }

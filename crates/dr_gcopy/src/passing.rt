@@ -113,7 +113,7 @@ fn hand_over<P: Plant>(
 /// Primary a sends track t to its secondary b, where both servers are on: the track is read, the targets of b keep theirs
 /// first, b stores it, and a strikes it off. Fails where a server stops in a move or goes off at a read; what was done by
 /// then stays. The journal needs room for an event for each volume and two more.
-pub(crate) fn pass_on<P: Plant>(
+pub fn pass_on<P: Plant>(
     p: &mut P,
     c: &Config,
     j: &mut Journal,

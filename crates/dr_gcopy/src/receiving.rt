@@ -56,7 +56,7 @@ pub(crate) fn stranger_refusal<P: Plant>(
 }
 
 /// The refusal where b stands in a revertible relationship.
-pub(crate) fn flashed_refusal<P: Plant>(p: &P, c: &Config, b: VolumeId) -> Option<Refusal>
+pub fn flashed_refusal<P: Plant>(p: &P, c: &Config, b: VolumeId) -> Option<Refusal>
     requires stands { StandsFor c.now (P.state p.now) }
     requires defined { IsSome (place_of c.now b.0) }
     ensures refusal { (r : Rest) (events : List Event) → result ≡ pair_entries.flashed_refusal b.0 (seen (P.state p.now) c.now r events).control }

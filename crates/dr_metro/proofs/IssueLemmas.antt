@@ -4,14 +4,14 @@ use Rattle.std.specs.List.{fold}
 use Rattle.std.proofs.lemmas.List.Sums.{fold-append}
 use Rattle.dr_ids.specs.declared.refusal.Refusal.{Refusal}
 use Rattle.dr_model.specs.declared.event.Event.{Event}
-use Rattle.dr_model.specs.declared.event.Event.TheVariants.{Blanked, Restored, Stopped, Ack, Suspended, Frozen, Thawed}
+use Rattle.dr_model.specs.declared.event.Event.TheVariants.{Blanked, Restored, Stopped, Ack, Suspended, Frozen, Thawed, Begin, Cut}
 use Rattle.dr_model.specs.Layout.{Tracks, Fields}
 use Rattle.dr_model.specs.Relations.{rest, in_order, is_bare, turned, given_up}
 use Rattle.dr_model.specs.Histories.{Histories, histories, after_event}
 use Rattle.dr_model.specs.Control.{Volume, World}
 use Rattle.dr_model.specs.Pairs.{is_suspended}
-use Rattle.dr_model.specs.Moves.{Move, Carried, Land, Overwrite, LandBoth, Withdraw, Reverse, Release, Suspend, target, next_fields, carried, told, told_in_stop, told_blank, landed, updated}
-use Rattle.dr_model.specs.Carry.{Act, Make, Redo, Acknowledge, Drop, EndFreeze, EndThaw, Next, Pass, Do, End, Entry, Turn, Ended, ended, update, spent, off, pass, writes, counts_by, turn, finished, cut_short, redo, redo_writes, act}
+use Rattle.dr_model.specs.Moves.{Move, Carried, Land, Overwrite, LandBoth, Withdraw, Reverse, Release, Suspend, Hold, target, next_fields, carried, told, told_in_stop, told_blank, landed, updated}
+use Rattle.dr_model.specs.Carry.{Act, Make, OpenAttempt, Redo, Acknowledge, Drop, EndFreeze, EndThaw, Next, Pass, Do, End, Entry, Turn, Ended, ended, update, spent, off, pass, writes, counts_by, turn, finished, cut_short, redo, redo_writes, act, equal, attempt_begun}
 use Rattle.dr_model.specs.ReadStops.{GoesOff, IsEnd, EndsTurn, EndsNext, Ends}
 use Rattle.dr_model.proofs.Images.{histories-append}
 
@@ -30,10 +30,15 @@ suspended : (h : Histories) (none : Bool) (v : ℕ) → (after h (cond none [] (
 suspended h true v = refl
 suspended h false v = refl
 
+held : (h : Histories) (first : Bool) (s n v : ℕ) → (after h (cond first (Begin s n ∷ Cut s n v ∷ []) (Cut s n v ∷ []))).write ≡ h.write
+held h true s n v = refl
+held h false s n v = refl
+
 told-writes : (h : Histories) (m : Move) (u : Volume) → (after h (told m u)).write ≡ h.write
 told-writes h (Withdraw v) u = blanked h v (in_order u.tracks (rest u.tracks u.fields.own))
 told-writes h (Reverse v) u = restored h (is_bare (turned u.fields).own) v u.fields.source u.tracks (turned u.fields).own
 told-writes h (Release v t) u = restored h (is_bare (given_up u.fields t).own) v u.fields.source u.tracks (given_up u.fields t).own
+told-writes h (Hold v s n first) u = held h first s n v
 told-writes h (Suspend v busy) u = suspended h (is_suspended u.fields.primary_state) v
 told-writes h m u = refl
 
@@ -51,7 +56,7 @@ with-told : (w : World) (es : List Event) → (after (histories w.events) es).wr
 with-told w es same = ap (λ (x : Histories). x.write) (histories-append w.events es) ∙ same
 
 -- an update tells nothing
-abbrev updated_by : World → ℕ → Fields → Carried → Bool → Bool → Bool → Ended
+abbrev pub updated_by : World → ℕ → Fields → Carried → Bool → Bool → Bool → Ended
 updated_by w v f c on passes counts =
     let s : ℕ = (w.control.volume v).server in
     cond (not on) (ended w true false) (cond passes (ended (spent (updated w v f c) s (writes c)) false true) (cond counts (ended (off (updated w v f c) s) true true) (ended (off w s) true false)))
@@ -94,9 +99,14 @@ redo_by-writes w v false passes = refl
 redo_by-writes w v true true = refl
 redo_by-writes w v true false = with-told w (Stopped (w.control.volume v).server 0 ∷ []) refl
 
+opened-writes : (w : World) (t : Turn) (s : ℕ) (same : Bool) → Alike t.0 w → Alike (cond same t.0 (attempt_begun t.0 s)) w
+opened-writes w t s true alike = alike
+opened-writes w t s false alike = alike
+
 act-writes : (w : World) (a : Act) → Alike (act w a).0 w
 unfolding act redo
 act-writes w (Make m) = turn-writes w m
+act-writes w (OpenAttempt v s n) = opened-writes w (turn w (Hold v s n true)) s (equal (w.control.volume v).slot ((turn w (Hold v s n true)).0.control.volume v).slot) (turn-writes w (Hold v s n true))
 act-writes w (Redo v) = redo_by-writes w v (w.control.on (w.control.volume v).server) (pass (w.control.fuse (w.control.volume v).server) (redo_writes (w.control.volume v).staged))
 act-writes w (Acknowledge n) = with-told w (Ack n ∷ []) refl
 act-writes w (Drop n) = refl

@@ -8,3 +8,4 @@ pub mod MirrorLemmas
 pub mod BothLemmas
 pub mod RouteLemmas
 pub mod SyncLemmas
+pub mod CollideLemmas

@@ -1,15 +1,12 @@
 -- The moves of a synchronous write: the fields stay lawful and leave the relationships fitting, what is told of them, and
 -- how the last of them settles its write.
-use Rattle.std.proofs.Common.{ℕ, ◌≡◌, ◌<◌, Bool, true, false, not, ◌||◌, List, [], ◌∷◌, ◌++◌, refl, sym, ◌∙◌, ap, cond, arith, inl, inr, filter, Option, None, Some}
+use Rattle.std.proofs.Common.{ℕ, ◌≡◌, ◌<◌, Bool, true, false, not, List, [], ◌∷◌, ◌++◌, refl, sym, ◌∙◌, ap, cond, filter, Option, None, Some}
 use Rattle.std.specs.Prelude.{if◌then◌else◌}
-use Rattle.std.specs.FinSet.{contains, insert}
-use Rattle.std.proofs.lemmas.Bool.Decides.{eqb_tells}
-use Rattle.dr_bits.proofs.Laws.{contains-insert_tracks}
 use Rattle.dr_plant.specs.State.{PlantState}
 use Rattle.dr_config.specs.Table.{Table}
 use Rattle.dr_model.specs.declared.event.Event.TheVariants.{Mirrored, Ack}
-use Rattle.dr_model.specs.Layout.{Tracks, Fields, is_part}
-use Rattle.dr_model.specs.Lawful.{Low, HasSets, IsLawful}
+use Rattle.dr_model.specs.Layout.{Fields, is_part}
+use Rattle.dr_model.specs.Lawful.{HasSets, IsLawful}
 use Rattle.dr_model.specs.Control.{Volume, World}
 use Rattle.dr_model.specs.Histories.{histories}
 use Rattle.dr_model.specs.Contents.{with_write}
@@ -25,15 +22,8 @@ use Rattle.dr_flash.proofs.FitLemmas.{fit-kept}
 use Rattle.dr_flash.proofs.FieldLemmas.{low-remove, covers-all, covers-carried}
 use Rattle.dr_flash.proofs.MoveLemmas.{MoveFits}
 use Rattle.dr_flash.proofs.TurnLemmas.{Tells}
-use Rattle.dr_metro.proofs.LandingLemmas.{removed_from}
+use Rattle.dr_metro.proofs.LandingLemmas.{removed_from, low-insert}
 use Rattle.dr_metro.proofs.TurnLemmas.{differ, done-by_slot}
-
-low-insert : (n t : ℕ) (s : Tracks) → t < n → Low n s → Low n (insert s t)
-low-insert n t s below low q h =
-    elim (eqb_tells q t) as (λ _. q < n) [
-      | inl p ↦ let e = p.1 in omega arith
-      | inr p ↦ low q (sym (contains-insert_tracks s t q ∙ ap (λ b. b || contains s q) p.0) ∙ h)
-    ]
 
 module _ (s : PlantState) (t : Table) (v : ℕ) (fit : RelationsFit s t) (lawful : IsLawful (volume_seen s t v).tracks (volume_seen s t v).fields) where
   abbrev x : Volume

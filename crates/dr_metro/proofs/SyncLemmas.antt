@@ -12,11 +12,12 @@ use Rattle.dr_model.specs.Layout.{Tracks, Fields, is_part}
 use Rattle.dr_model.specs.Control.{Control, World}
 use Rattle.dr_model.specs.Refusals.{server_off}
 use Rattle.dr_model.specs.Relations.{closed, fetched, rewritten}
-use Rattle.dr_model.specs.Pairs.{altered, is_metro, is_suspended, goes_over}
+use Rattle.dr_model.specs.Pairs.{written, is_kind, is_metro, is_suspended, goes_over, collides}
 use Rattle.dr_model.specs.Moves.{Suspend}
 use Rattle.dr_model.specs.Carry.{Entry, Pass, Do, Make, Drop, act, dropped, check, now}
 use Rattle.dr_model.specs.Entries.{fields_at, is_running, is_no_secondary, is_open, is_settled, relation_state, drop_unless, check_or_drop, write_checks}
-use Rattle.dr_model.specs.WriteEntries.{partner_of, is_grouped, part_running}
+use Rattle.dr_model.specs.PairEntries.{suspend_after}
+use Rattle.dr_model.specs.WriteEntries.{partner_of, is_grouped, part_running, part_after, after_write}
 use Rattle.dr_model.specs.ReadStops.{Ends}
 use Rattle.dr_host.specs.Writes.{Writes}
 use Rattle.dr_flash.specs.Checks.{OnNone, is_stop}
@@ -48,11 +49,16 @@ pub told-followed : (armed : ℕ → Bool) (h : Writes) (v u : World) (r : Optio
 told-followed armed h v u (Some (Stopped s)) follows f told = told-through armed h v u (follows s.0) f.refusal f.ends told
 told-followed armed h v u r follows f told = subst (λ (x : World). IsTold h x.events) (sym f) told
 
+-- what follows a stop is chosen by the state in which the plan began
+pub after-is : (armed : ℕ → Bool) (w u : World) (r : Option Refusal) (k : Control) (v t : ℕ) (b : Bool) → b ≡ collides (fields_at k v) t
+    → Follows armed w r (λ s. if b then suspend_after v s else part_after v s) u → Follows armed w r (after_write k v t) u
+after-is armed w u r k v t b is f = subst (λ c. Follows armed w r (λ s. if c then suspend_after v s else part_after v s) u) is f
+
 -- a landing leaves the state of the pair as it was, and a track that is out of sync stays so
 pub state-landed : (n : ℕ) (f : Fields) (t : ℕ) → (landed n f t).primary_state ≡ f.primary_state
 state-landed n f t = by f.related
   where
-    by : (b : Bool) → (if b then closed n (rewritten (fetched f t) t) else altered f t).primary_state ≡ f.primary_state
+    by : (b : Bool) → (if b then closed n (rewritten (fetched f t) t) else written f t).primary_state ≡ f.primary_state
     by true = refl
     by false = refl
 
@@ -67,9 +73,9 @@ stays_in false s t h = h
 pub out-landed : (n : ℕ) (f : Fields) (t : ℕ) → contains f.out_of_sync t ≡ true → contains (landed n f t).out_of_sync t ≡ true
 out-landed n f t out = by f.related
   where
-    by : (b : Bool) → contains (if b then closed n (rewritten (fetched f t) t) else altered f t).out_of_sync t ≡ true
+    by : (b : Bool) → contains (if b then closed n (rewritten (fetched f t) t) else written f t).out_of_sync t ≡ true
     by true = out
-    by false = stays_in (is_part f.primary) f.out_of_sync t out
+    by false = stays_in (is_part f.primary && not f.recording) f.out_of_sync t out
 
 true-false : {P : Type 0} (b : Bool) → b ≡ true → b ≡ false → P
 true-false b is not_so = absurd (let never : true ≡ false = sym is ∙ not_so in cc)
@@ -96,6 +102,20 @@ metro-part Global h = absurd cc
 pub over-metro : (a b : Bool) → (a && b) ≡ true → a ≡ true
 over-metro true b h = refl
 over-metro false b h = h
+
+-- and so is one whose write collides, which is of no Metro Mirror pair
+pub global-part : (p : Part) → is_kind Global p ≡ true → is_part p ≡ true
+global-part Global h = refl
+global-part Absent h = absurd cc
+global-part Metro h = absurd cc
+
+pub global-metro : {P : Type 0} (p : Part) → is_kind Global p ≡ true → is_metro p ≡ true → P
+global-metro Global h metro = absurd cc
+global-metro Absent h metro = absurd cc
+global-metro Metro h metro = absurd cc
+
+pub collides-global : (p : Part) (rest : Bool) → (is_kind Global p && rest) ≡ true → is_kind Global p ≡ true
+collides-global p rest h = over-metro (is_kind Global p) rest h
 
 pub none-gives : {P : Type 0} (o : Option Refusal) → is_some o ≡ false → OnNone o P → P
 none-gives None h p = p

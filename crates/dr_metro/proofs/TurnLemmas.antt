@@ -11,7 +11,7 @@ use Rattle.dr_model.specs.declared.event.Event.TheVariants.{Stopped}
 use Rattle.dr_model.specs.Histories.{histories, Write}
 use Rattle.dr_model.specs.Contents.{laid, with_write}
 use Rattle.dr_model.specs.Views.{view}
-use Rattle.dr_model.specs.Pairs.{altered}
+use Rattle.dr_model.specs.Pairs.{written}
 use Rattle.dr_model.specs.Relations.{closed, fetched, rewritten}
 use Rattle.std.specs.FinSet.{contains}
 use Rattle.dr_model.specs.Layout.{Fields}
@@ -51,7 +51,7 @@ module _ (w : World) (n v t o : ℕ) (bytes : List ℕ) (issue : (histories w.ev
   under target = if target && not (contains x.fields.own t) then w.contents x.fields.source t else w.contents v t
 
   left : Bool → Fields
-  left target = if target then closed x.tracks (rewritten (fetched x.fields t) t) else altered x.fields t
+  left target = if target then closed x.tracks (rewritten (fetched x.fields t) t) else written x.fields t
 
   ended_by : (y : Write) (target : Bool) → Ended
   ended_by y target = update w v (left target) (Some (t, laid y.offset y.bytes (under target)))

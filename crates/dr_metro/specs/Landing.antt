@@ -2,7 +2,7 @@
 use Rattle.std.specs.Prelude.{◌≡◌, ℕ, ◌⊎◌, Bool, true, if◌then◌else◌}
 use Rattle.dr_model.specs.Layout.{Fields}
 use Rattle.dr_model.specs.Control.{Volume, World}
-use Rattle.dr_model.specs.Pairs.{altered}
+use Rattle.dr_model.specs.Pairs.{written}
 use Rattle.dr_model.specs.Relations.{closed, fetched, rewritten}
 use Rattle.dr_model.specs.Moves.{Move, Land, Overwrite}
 use Rattle.dr_model.specs.Carry.{Ended}
@@ -15,7 +15,7 @@ landing_move target n v t = if target then Overwrite n v t else Land n v t
 
 -- the fields of a volume of n tracks once a host write landed on one
 abbrev pub landed : ℕ → Fields → ℕ → Fields
-landed n f t = if f.related then closed n (rewritten (fetched f t) t) else altered f t
+landed n f t = if f.related then closed n (rewritten (fetched f t) t) else written f t
 
 abbrev pub landed_on : Volume → ℕ → Fields
 landed_on u t = landed u.tracks u.fields t

@@ -16,7 +16,7 @@ ghost use Rattle.dr_flash.specs.Views.{view_seen};
 ghost use Rattle.dr_metro.specs.Landing.{LandsAs, landed, landed_on};
 
 use dr_config::Config;
-use dr_flash::{altered, closed, fetched, rewritten, tracks_of, view_of};
+use dr_flash::{closed, fetched, rewritten, tracks_of, view_of, written};
 use dr_ids::VolumeId;
 use dr_plant::{Block, Plant, Stopped};
 use dr_volume::{Fields, Opened, open};
@@ -42,7 +42,7 @@ fn landed(f: &Fields, tracks: u16, t: u16) -> Fields
     if f.related {
         return closed(tracks, &rewritten(&fetched(f, t), t));
     }
-    altered(f, t)
+    written(f, t)
 }
 
 /// Lands bytes on a track of a volume that was opened and whose device can still be read: one move.

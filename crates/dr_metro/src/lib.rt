@@ -2,6 +2,7 @@
 #![tactic(auto)]
 
 mod both;
+mod colliding;
 mod landing;
 mod machine;
 mod mirroring;

@@ -1,6 +1,7 @@
 //! What the fields of a primary and of its secondary become in a synchronous write.
 
 ghost use Rattle.std.specs.Prelude.{◌≡◌, ◌<◌};
+ghost use Rattle.dr_model.specs.declared.state.Part.TheVariants.{Global};
 ghost use Rattle.dr_model.specs.Pairs as pairs;
 ghost use Rattle.dr_volume.specs.Plain.{plain};
 
@@ -16,6 +17,24 @@ fn is_metro(part: Part) -> bool
         Part::Metro => true,
         Part::Absent | Part::Global => false,
     }
+}
+
+/// Whether a part is that of a Global Copy pair.
+fn is_global(part: Part) -> bool
+    ensures { result ≡ pairs.is_kind Global part }
+{
+    match part {
+        Part::Global => true,
+        Part::Absent | Part::Metro => false,
+    }
+}
+
+/// Whether a host write on track t collides: a Global Copy primary records, and the track is still out of sync, so that
+/// its secondary hasn't what it was as the primary began to.
+pub(crate) fn collides(f: &Fields, t: u16) -> bool
+    ensures { result ≡ pairs.collides (plain f.now) t }
+{
+    is_global(f.primary) && (f.recording && f.out_of_sync.contains(t))
 }
 
 /// Whether a host write on track t goes to the secondary first.

@@ -1,4 +1,5 @@
-//! A pending write of the host is carried out: on its volume alone, or on its secondary first.
+//! A pending write of the host is carried out: on its volume alone, on its secondary first, or behind the send of what its
+//! track was.
 
 ghost use Rattle.std.specs.Prelude.{◌≡◌, ◌≢◌, ℕ, ◌<◌, ◌≤◌, ◌+◌, true, false, ◌&&◌, length, None, Some, IsSome, IfOk, OnOk, OnErr, is_err, is_some, List};
 ghost use Rattle.std.specs.List.{find};
@@ -10,7 +11,7 @@ ghost use Rattle.dr_model.specs.PairEntries as pair_entries;
 ghost use Rattle.dr_model.specs.Pairs.{is_metro, is_suspended};
 ghost use Rattle.dr_model.specs.ReadStops.{Ends};
 ghost use Rattle.dr_model.specs.WriteEntries as entries;
-ghost use Rattle.dr_model.specs.WriteEntries.{land_entries, landing, waits, part_after};
+ghost use Rattle.dr_model.specs.WriteEntries.{land_entries, landing, waits, after_write};
 ghost use Rattle.dr_model.specs.Sessions.{Session};
 ghost use Rattle.dr_volume.specs.View.{volume_seen, ids_of};
 ghost use Rattle.dr_flash.specs.Checks.{is_stop};
@@ -24,10 +25,11 @@ ghost use Rattle.dr_metro.specs.Mirroring.{Mirrors};
 ghost use Rattle.dr_metro.specs.declared.sync.WriteEnd.TheVariants.{Landed};
 ghost use Rattle.dr_metro.specs.Syncing.{parted_entries, over_entries, end_of};
 
+use crate::colliding::write_collided;
 use crate::machine::{Target, land_kept};
 use crate::mirroring::{front, write_both};
-use crate::parting::{follow_part, is_grouped};
-use crate::states::goes_over;
+use crate::parting::{follow_write, is_grouped};
+use crate::states::{collides, goes_over};
 use dr_config::Config;
 use dr_flash::{server_of, write_refusal};
 use dr_gcopy::{send_refusal, suspend};
@@ -47,7 +49,7 @@ pub enum WriteEnd {
 }
 
 /// Lands the write on its volume alone, whose server is on.
-fn write_alone<P: Plant>(
+pub(crate) fn write_alone<P: Plant>(
     p: &mut P,
     c: &Config,
     j: &mut Journal,
@@ -188,9 +190,9 @@ fn place_write<P: Plant>(
     requires told { IsTold h.old j.old.events }
     requires defined { IsSome (place_of c.now w.now.volume.0) }
     requires running { (P.state p.old).on (volume_seen (P.state p.old) c.now w.now.volume.0).server ≡ true }
-    requires to { is_metro (volume_seen (P.state p.old) c.now w.now.volume.0).fields.primary ≡ true → IsSome (place_of c.now (volume_seen (P.state p.old) c.now w.now.volume.0).fields.primary_partner) }
-    requires two_servers { is_metro (volume_seen (P.state p.old) c.now w.now.volume.0).fields.primary ≡ true → (volume_seen (P.state p.old) c.now w.now.volume.0).server ≢ (volume_seen (P.state p.old) c.now (volume_seen (P.state p.old) c.now w.now.volume.0).fields.primary_partner).server }
-    requires size { is_metro (volume_seen (P.state p.old) c.now w.now.volume.0).fields.primary ≡ true → (volume_seen (P.state p.old) c.now (volume_seen (P.state p.old) c.now w.now.volume.0).fields.primary_partner).tracks ≡ (volume_seen (P.state p.old) c.now w.now.volume.0).tracks }
+    requires to { is_part (volume_seen (P.state p.old) c.now w.now.volume.0).fields.primary ≡ true → IsSome (place_of c.now (volume_seen (P.state p.old) c.now w.now.volume.0).fields.primary_partner) }
+    requires two_servers { is_part (volume_seen (P.state p.old) c.now w.now.volume.0).fields.primary ≡ true → (volume_seen (P.state p.old) c.now w.now.volume.0).server ≢ (volume_seen (P.state p.old) c.now (volume_seen (P.state p.old) c.now w.now.volume.0).fields.primary_partner).server }
+    requires size { is_part (volume_seen (P.state p.old) c.now w.now.volume.0).fields.primary ≡ true → (volume_seen (P.state p.old) c.now (volume_seen (P.state p.old) c.now w.now.volume.0).fields.primary_partner).tracks ≡ (volume_seen (P.state p.old) c.now w.now.volume.0).tracks }
     requires within { w.now.track < (volume_seen (P.state p.old) c.now w.now.volume.0).tracks }
     requires fits { w.now.offset + w.now.len ≤ 64 }
     requires found { find (has_number w.now.w.0) h.old.pending ≡ Some w.now }
@@ -215,6 +217,9 @@ fn place_write<P: Plant>(
     if goes_over(&fields, w.track) {
         return write_over(p, c, j, h, w, fields.primary_partner);
     }
+    if collides(&fields, w.track) {
+        return write_collided(p, c, j, h, w, fields.primary_partner);
+    }
     write_alone(p, c, j, h, w)
 }
 
@@ -230,9 +235,9 @@ fn carry_write<P: Plant>(
     requires fit { RelationsFit (P.state p.old) c.now }
     requires told { IsTold h.old j.old.events }
     requires defined { IsSome (place_of c.now w.now.volume.0) }
-    requires to { is_metro (volume_seen (P.state p.old) c.now w.now.volume.0).fields.primary ≡ true → IsSome (place_of c.now (volume_seen (P.state p.old) c.now w.now.volume.0).fields.primary_partner) }
-    requires two_servers { is_metro (volume_seen (P.state p.old) c.now w.now.volume.0).fields.primary ≡ true → (volume_seen (P.state p.old) c.now w.now.volume.0).server ≢ (volume_seen (P.state p.old) c.now (volume_seen (P.state p.old) c.now w.now.volume.0).fields.primary_partner).server }
-    requires size { is_metro (volume_seen (P.state p.old) c.now w.now.volume.0).fields.primary ≡ true → (volume_seen (P.state p.old) c.now (volume_seen (P.state p.old) c.now w.now.volume.0).fields.primary_partner).tracks ≡ (volume_seen (P.state p.old) c.now w.now.volume.0).tracks }
+    requires to { is_part (volume_seen (P.state p.old) c.now w.now.volume.0).fields.primary ≡ true → IsSome (place_of c.now (volume_seen (P.state p.old) c.now w.now.volume.0).fields.primary_partner) }
+    requires two_servers { is_part (volume_seen (P.state p.old) c.now w.now.volume.0).fields.primary ≡ true → (volume_seen (P.state p.old) c.now w.now.volume.0).server ≢ (volume_seen (P.state p.old) c.now (volume_seen (P.state p.old) c.now w.now.volume.0).fields.primary_partner).server }
+    requires size { is_part (volume_seen (P.state p.old) c.now w.now.volume.0).fields.primary ≡ true → (volume_seen (P.state p.old) c.now (volume_seen (P.state p.old) c.now w.now.volume.0).fields.primary_partner).tracks ≡ (volume_seen (P.state p.old) c.now w.now.volume.0).tracks }
     requires within { w.now.track < (volume_seen (P.state p.old) c.now w.now.volume.0).tracks }
     requires fits { w.now.offset + w.now.len ≤ 64 }
     requires found { find (has_number w.now.w.0) h.old.pending ≡ Some w.now }
@@ -260,18 +265,22 @@ fn carry_write<P: Plant>(
     place_write(p, c, j, h, w)
 }
 
-/// Carries out pending write w. Where its volume is a primary of a Metro Mirror pair, the secondary is defined, on another
-/// server and of the same size. Refused where the volume's server is off; then the write stays pending. Refused too where
-/// the volume is a secondary, or else an inhibited target, or else stands in a revertible or a reversing relationship; then
-/// the write is dropped. Where the volume is held the write waits, and nothing is done. On a Metro Mirror primary that isn't
-/// Suspended, of which the track isn't out of sync, it goes to the secondary first: the track is out of sync until both have
-/// it, the secondary stores the new bytes, and then it lands; the targets of each keep the track before it changes. Where
-/// the secondary can't be reached, or isn't that of the primary, the primary is suspended, and where the path between them
-/// has its group flag it is long busy and the write waits; else it lands on the primary alone, as it does on any other
-/// volume. A write that landed is acknowledged. Fails where a server stops in a move or goes off at a read: then the write
-/// stays pending, what was done by then stays, and a primary whose own server still runs is suspended, long busy where the
-/// path has its group flag. The first stop is the one that is given. The journal needs room for two events for each volume
-/// and five more.
+/// Carries out pending write w. Where its volume is a primary, the secondary is defined, on another server and of the
+/// same size. Refused where the volume's server is off; then the write stays pending. Refused too where the volume is a
+/// secondary, or else an inhibited target, or else stands in a revertible or a reversing relationship; then the write is
+/// dropped. Where the volume is held the write waits, and nothing is done. On a Metro Mirror primary that isn't
+/// Suspended, of which the track isn't out of sync, it goes to the secondary first: the track is out of sync until both
+/// have it, the secondary stores the new bytes, and then it lands; the targets of each keep the track before it changes.
+/// Where the secondary can't be reached, or isn't that of the primary, the primary is suspended, and where the path
+/// between them has its group flag it is long busy and the write waits; else it lands on the primary alone, as it does on
+/// any other volume. Where it collides, as a Global Copy primary records and still has the track out of sync, the track
+/// is sent first as it was: the targets of the secondary keep theirs, the secondary stores it, and the primary strikes it
+/// off. Where the secondary can't be reached, or isn't that of the primary, the primary is suspended instead, and where
+/// the secondary stands in a revertible relationship nothing is sent; then the write lands. A write that landed is
+/// acknowledged. Fails where a server stops in a move or goes off at a read: then the write stays pending, what was done
+/// by then stays, and a primary whose own server still runs is suspended, long busy where the path has its group flag and
+/// the write didn't collide. The first stop is the one that is given. The journal needs room for two events for each
+/// volume and five more.
 pub fn sync_write<P: Plant>(
     p: &mut P,
     c: &Config,
@@ -283,14 +292,14 @@ pub fn sync_write<P: Plant>(
     requires fit { RelationsFit (P.state p.old) c.now }
     requires told { IsTold h.old j.old.events }
     requires defined { IsSome (place_of c.now w.now.volume.0) }
-    requires to { is_metro (volume_seen (P.state p.old) c.now w.now.volume.0).fields.primary ≡ true → IsSome (place_of c.now (volume_seen (P.state p.old) c.now w.now.volume.0).fields.primary_partner) }
-    requires two_servers { is_metro (volume_seen (P.state p.old) c.now w.now.volume.0).fields.primary ≡ true → (volume_seen (P.state p.old) c.now w.now.volume.0).server ≢ (volume_seen (P.state p.old) c.now (volume_seen (P.state p.old) c.now w.now.volume.0).fields.primary_partner).server }
-    requires size { is_metro (volume_seen (P.state p.old) c.now w.now.volume.0).fields.primary ≡ true → (volume_seen (P.state p.old) c.now (volume_seen (P.state p.old) c.now w.now.volume.0).fields.primary_partner).tracks ≡ (volume_seen (P.state p.old) c.now w.now.volume.0).tracks }
+    requires to { is_part (volume_seen (P.state p.old) c.now w.now.volume.0).fields.primary ≡ true → IsSome (place_of c.now (volume_seen (P.state p.old) c.now w.now.volume.0).fields.primary_partner) }
+    requires two_servers { is_part (volume_seen (P.state p.old) c.now w.now.volume.0).fields.primary ≡ true → (volume_seen (P.state p.old) c.now w.now.volume.0).server ≢ (volume_seen (P.state p.old) c.now (volume_seen (P.state p.old) c.now w.now.volume.0).fields.primary_partner).server }
+    requires size { is_part (volume_seen (P.state p.old) c.now w.now.volume.0).fields.primary ≡ true → (volume_seen (P.state p.old) c.now (volume_seen (P.state p.old) c.now w.now.volume.0).fields.primary_partner).tracks ≡ (volume_seen (P.state p.old) c.now w.now.volume.0).tracks }
     requires within { w.now.track < (volume_seen (P.state p.old) c.now w.now.volume.0).tracks }
     requires fits { w.now.offset + w.now.len ≤ 64 }
     requires found { find (has_number w.now.w.0) h.old.pending ≡ Some w.now }
     requires room { length c.now.volumes + (length c.now.volumes + 5) ≤ j.old.spare }
-    ensures carried { (xs : List Session) → EndsFollowed (armed_in (P.state p.old)) (here (P.state p.old) c.now xs h.old j.old.events) (landing (here (P.state p.old) c.now xs h.old j.old.events).control w.now.w.0 w.now.volume.0 w.now.track) (part_after w.now.volume.0) (here (P.state p.new) c.now xs h.new j.new.events) (refusal_of result) }
+    ensures carried { (xs : List Session) → EndsFollowed (armed_in (P.state p.old)) (here (P.state p.old) c.now xs h.old j.old.events) (landing (here (P.state p.old) c.now xs h.old j.old.events).control w.now.w.0 w.now.volume.0 w.now.track) (after_write (here (P.state p.old) c.now xs h.old j.old.events).control w.now.volume.0 w.now.track) (here (P.state p.new) c.now xs h.new j.new.events) (refusal_of result) }
     ensures end { (xs : List Session) → IfOk result (λ e. e ≡ end_of (waits (here (P.state p.old) c.now xs h.old j.old.events).control w.now.volume.0 w.now.track)) }
     ensures mirrors { is_metro (volume_seen (P.state p.old) c.now w.now.volume.0).fields.primary ≡ true → IfOk result (λ e. e ≡ Landed → Mirrors (P.state p.new) c.now w.now.volume.0 (volume_seen (P.state p.old) c.now w.now.volume.0).fields.primary_partner w.now.track) }
     ensures rest { IsAtRest (P.state p.new) c.now }
@@ -302,10 +311,11 @@ pub fn sync_write<P: Plant>(
     ensures room { j.old.spare ≤ j.new.spare + (length c.now.volumes + (length c.now.volumes + 4)) }
     ensures spare { length j.new.events + j.new.spare ≡ length j.old.events + j.old.spare }
 {
+    let collided = collides(&peek_fields(p, c, w.volume), w.track);
     match carry_write(p, c, j, h, w) {
         Ok(end) => Ok(end),
         Err(why) => {
-            follow_part(p, c, j, w.volume, why);
+            follow_write(p, c, j, w.volume, collided, why);
             Err(why)
         }
     }

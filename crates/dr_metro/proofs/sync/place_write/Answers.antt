@@ -6,7 +6,7 @@ use Rattle.dr_config.specs.Table.{place_of}
 use Rattle.dr_model.specs.Layout.{Fields}
 use Rattle.dr_model.specs.Entries.{land_alone}
 use Rattle.dr_model.specs.PairEntries.{send_refusal}
-use Rattle.dr_model.specs.Pairs.{held, goes_over, is_metro}
+use Rattle.dr_model.specs.Pairs.{held, goes_over, collides, is_metro}
 use Rattle.dr_model.specs.ReadStops.{Ends}
 use Rattle.dr_model.specs.WriteEntries.{is_grouped, is_parted, land_parted, land_mirrored}
 use Rattle.dr_volume.specs.View.{ids_of, volume_seen}
@@ -15,8 +15,8 @@ use Rattle.dr_flash.proofs.EndsLemmas.{ends-none}
 use Rattle.dr_metro.specs.declared.sync.WriteEnd.{WriteEnd}
 use Rattle.dr_metro.specs.Here.{here}
 use Rattle.dr_metro.specs.Mirroring.{Mirrors}
-use Rattle.dr_metro.specs.Syncing.{over_entries, end_of}
-use Rattle.dr_metro.proofs.SyncLemmas.{nothing-mirrored, metro-part, over-metro, ok-given}
+use Rattle.dr_metro.specs.Syncing.{over_entries, collided_entries, end_of}
+use Rattle.dr_metro.proofs.SyncLemmas.{nothing-mirrored, metro-part, over-metro, global-part, global-metro, collides-global, ok-given}
 use Rattle.dr_metro.proofs.sync.place_write.Goals as goal
 
 pub returns-then-is_held-clause-carried : goal.returns-then-is_held-clause-carried
@@ -33,8 +33,10 @@ returns-then-is_held-clause-carried g c xs =
     let shows = c.peek_fields-fields.ensures.fields in
     let over = (if is_parted k v then land_parted k w.w.0 v w.track else land_mirrored ids w.w.0 v w.track f.primary_partner) in
     let alone = land_alone ids w.w.0 v w.track in
+    let collided = collided_entries ids w.w.0 v w.track f.primary_partner in
+    let late = (if collides f w.track then collided else alone) in
     let is_held : held f ≡ true = ap held (sym shows) ∙ sym c.is_held.ensures ∙ c.if-is_held.true in
-    subst (λ b. Ends (armed_in s) (here s t xs h ev) None (here s t xs h ev) (if b then [] else if goes_over f w.track then over else alone)) (sym is_held)
+    subst (λ b. Ends (armed_in s) (here s t xs h ev) None (here s t xs h ev) (if b then [] else if goes_over f w.track then over else late)) (sym is_held)
     (ends-none (armed_in s) (here s t xs h ev) None (here s t xs h ev) (record { world = refl; refusal = refl }))
 
 pub returns-then-is_held-clause-end : goal.returns-then-is_held-clause-end
@@ -51,6 +53,8 @@ returns-then-is_held-clause-end g c xs =
     let shows = c.peek_fields-fields.ensures.fields in
     let over = (if is_parted k v then land_parted k w.w.0 v w.track else land_mirrored ids w.w.0 v w.track f.primary_partner) in
     let alone = land_alone ids w.w.0 v w.track in
+    let collided = collided_entries ids w.w.0 v w.track f.primary_partner in
+    let late = (if collides f w.track then collided else alone) in
     let is_held : held f ≡ true = ap held (sym shows) ∙ sym c.is_held.ensures ∙ c.if-is_held.true in
     let rest = is_parted k v && is_grouped k v f.primary_partner in
     ap (λ b. end_of (b || (goes_over f w.track && rest))) (sym is_held)
@@ -79,6 +83,8 @@ write_over-requires-clause-primary g c =
     let shows = c.peek_fields-fields.ensures.fields in
     let over = (if is_parted k v then land_parted k w.w.0 v w.track else land_mirrored ids w.w.0 v w.track f.primary_partner) in
     let alone = land_alone ids w.w.0 v w.track in
+    let collided = collided_entries ids w.w.0 v w.track f.primary_partner in
+    let late = (if collides f w.track then collided else alone) in
     let goes : goes_over f w.track ≡ true = ap (λ (x : Fields). goes_over x w.track) (sym shows) ∙ sym c.goes_over.ensures ∙ c.if-goes_over.true in
     let metro : is_metro f.primary ≡ true = over-metro (is_metro f.primary) _ goes in
     let to = ap (λ (x : Fields). x.primary_partner) shows in
@@ -98,10 +104,12 @@ write_over-requires-clause-to g c =
     let shows = c.peek_fields-fields.ensures.fields in
     let over = (if is_parted k v then land_parted k w.w.0 v w.track else land_mirrored ids w.w.0 v w.track f.primary_partner) in
     let alone = land_alone ids w.w.0 v w.track in
+    let collided = collided_entries ids w.w.0 v w.track f.primary_partner in
+    let late = (if collides f w.track then collided else alone) in
     let goes : goes_over f w.track ≡ true = ap (λ (x : Fields). goes_over x w.track) (sym shows) ∙ sym c.goes_over.ensures ∙ c.if-goes_over.true in
     let metro : is_metro f.primary ≡ true = over-metro (is_metro f.primary) _ goes in
     let to = ap (λ (x : Fields). x.primary_partner) shows in
-    subst (λ q. IsSome (place_of t q)) (sym to) (c.requires.to metro)
+    subst (λ q. IsSome (place_of t q)) (sym to) (c.requires.to (metro-part f.primary metro))
 
 pub write_over-requires-clause-two_servers : goal.write_over-requires-clause-two_servers
 write_over-requires-clause-two_servers g c =
@@ -117,10 +125,12 @@ write_over-requires-clause-two_servers g c =
     let shows = c.peek_fields-fields.ensures.fields in
     let over = (if is_parted k v then land_parted k w.w.0 v w.track else land_mirrored ids w.w.0 v w.track f.primary_partner) in
     let alone = land_alone ids w.w.0 v w.track in
+    let collided = collided_entries ids w.w.0 v w.track f.primary_partner in
+    let late = (if collides f w.track then collided else alone) in
     let goes : goes_over f w.track ≡ true = ap (λ (x : Fields). goes_over x w.track) (sym shows) ∙ sym c.goes_over.ensures ∙ c.if-goes_over.true in
     let metro : is_metro f.primary ≡ true = over-metro (is_metro f.primary) _ goes in
     let to = ap (λ (x : Fields). x.primary_partner) shows in
-    subst (λ q. (volume_seen s t v).server ≢ (volume_seen s t q).server) (sym to) (c.requires.two_servers metro)
+    subst (λ q. (volume_seen s t v).server ≢ (volume_seen s t q).server) (sym to) (c.requires.two_servers (metro-part f.primary metro))
 
 pub write_over-requires-clause-size : goal.write_over-requires-clause-size
 write_over-requires-clause-size g c =
@@ -136,10 +146,12 @@ write_over-requires-clause-size g c =
     let shows = c.peek_fields-fields.ensures.fields in
     let over = (if is_parted k v then land_parted k w.w.0 v w.track else land_mirrored ids w.w.0 v w.track f.primary_partner) in
     let alone = land_alone ids w.w.0 v w.track in
+    let collided = collided_entries ids w.w.0 v w.track f.primary_partner in
+    let late = (if collides f w.track then collided else alone) in
     let goes : goes_over f w.track ≡ true = ap (λ (x : Fields). goes_over x w.track) (sym shows) ∙ sym c.goes_over.ensures ∙ c.if-goes_over.true in
     let metro : is_metro f.primary ≡ true = over-metro (is_metro f.primary) _ goes in
     let to = ap (λ (x : Fields). x.primary_partner) shows in
-    subst (λ q. (volume_seen s t q).tracks ≡ (volume_seen s t v).tracks) (sym to) (c.requires.size metro)
+    subst (λ q. (volume_seen s t q).tracks ≡ (volume_seen s t v).tracks) (sym to) (c.requires.size (metro-part f.primary metro))
 
 pub returns-then-goes_over-clause-carried : goal.returns-then-goes_over-clause-carried
 returns-then-goes_over-clause-carried g c xs =
@@ -155,13 +167,15 @@ returns-then-goes_over-clause-carried g c xs =
     let shows = c.peek_fields-fields.ensures.fields in
     let over = (if is_parted k v then land_parted k w.w.0 v w.track else land_mirrored ids w.w.0 v w.track f.primary_partner) in
     let alone = land_alone ids w.w.0 v w.track in
+    let collided = collided_entries ids w.w.0 v w.track f.primary_partner in
+    let late = (if collides f w.track then collided else alone) in
     let free : held f ≡ false = ap held (sym shows) ∙ sym c.is_held.ensures ∙ c.if-is_held.false in
     let goes : goes_over f w.track ≡ true = ap (λ (x : Fields). goes_over x w.track) (sym shows) ∙ sym c.goes_over.ensures ∙ c.if-goes_over.true in
     let to = ap (λ (x : Fields). x.primary_partner) shows in
     let x = here (g.P.Plant.state c.write_over.new.p) t xs c.write_over.new.h c.write_over.new.j.events in
     let r = refusal_of c.write_over.result in
-    subst (λ b. Ends (armed_in s) x r (here s t xs h ev) (if b then [] else if goes_over f w.track then over else alone)) (sym free)
-    (subst (λ b. Ends (armed_in s) x r (here s t xs h ev) (if b then over else alone)) (sym goes)
+    subst (λ b. Ends (armed_in s) x r (here s t xs h ev) (if b then [] else if goes_over f w.track then over else late)) (sym free)
+    (subst (λ b. Ends (armed_in s) x r (here s t xs h ev) (if b then over else late)) (sym goes)
     (subst (λ q. Ends (armed_in s) x r (here s t xs h ev) (over_entries ids (is_some (send_refusal v q k)) (is_grouped k v q) w.w.0 v w.track q)) to (c.write_over.ensures.carried xs)))
 
 pub returns-then-goes_over-clause-end : goal.returns-then-goes_over-clause-end
@@ -178,6 +192,8 @@ returns-then-goes_over-clause-end g c xs =
     let shows = c.peek_fields-fields.ensures.fields in
     let over = (if is_parted k v then land_parted k w.w.0 v w.track else land_mirrored ids w.w.0 v w.track f.primary_partner) in
     let alone = land_alone ids w.w.0 v w.track in
+    let collided = collided_entries ids w.w.0 v w.track f.primary_partner in
+    let late = (if collides f w.track then collided else alone) in
     let free : held f ≡ false = ap held (sym shows) ∙ sym c.is_held.ensures ∙ c.if-is_held.false in
     let goes : goes_over f w.track ≡ true = ap (λ (x : Fields). goes_over x w.track) (sym shows) ∙ sym c.goes_over.ensures ∙ c.if-goes_over.true in
     let rest = is_parted k v && is_grouped k v f.primary_partner in
@@ -200,10 +216,123 @@ returns-then-goes_over-clause-mirrors g c =
     let shows = c.peek_fields-fields.ensures.fields in
     let over = (if is_parted k v then land_parted k w.w.0 v w.track else land_mirrored ids w.w.0 v w.track f.primary_partner) in
     let alone = land_alone ids w.w.0 v w.track in
+    let collided = collided_entries ids w.w.0 v w.track f.primary_partner in
+    let late = (if collides f w.track then collided else alone) in
     λ metro.
     let to = ap (λ (x : Fields). x.primary_partner) shows in
     let u = g.P.Plant.state c.write_over.new.p in
     ok-given c.write_over.result (subst (λ q. OnOk c.write_over.result (Mirrors u t v q w.track)) to c.write_over.ensures.mirrors) (λ is e landed. is)
+
+pub write_collided-requires-clause-primary : goal.write_collided-requires-clause-primary
+write_collided-requires-clause-primary g c =
+    let s = g.P.Plant.state c.args.p.now in
+    let t = c.args.c.now in
+    let w = c.args.w.now in
+    let v = w.volume.0 in
+    let f = (volume_seen s t v).fields in
+    let shows = c.peek_fields-fields.ensures.fields in
+    let meets : collides f w.track ≡ true = ap (λ (x : Fields). collides x w.track) (sym shows) ∙ sym c.collides.ensures ∙ c.if-collides.true in
+    global-part f.primary (collides-global f.primary _ meets)
+
+pub write_collided-requires-clause-collides : goal.write_collided-requires-clause-collides
+write_collided-requires-clause-collides g c =
+    let s = g.P.Plant.state c.args.p.now in
+    let t = c.args.c.now in
+    let w = c.args.w.now in
+    let v = w.volume.0 in
+    let f = (volume_seen s t v).fields in
+    let shows = c.peek_fields-fields.ensures.fields in
+    let meets : collides f w.track ≡ true = ap (λ (x : Fields). collides x w.track) (sym shows) ∙ sym c.collides.ensures ∙ c.if-collides.true in
+    meets
+
+pub write_collided-requires-clause-to : goal.write_collided-requires-clause-to
+write_collided-requires-clause-to g c =
+    let s = g.P.Plant.state c.args.p.now in
+    let t = c.args.c.now in
+    let w = c.args.w.now in
+    let v = w.volume.0 in
+    let f = (volume_seen s t v).fields in
+    let shows = c.peek_fields-fields.ensures.fields in
+    let meets : collides f w.track ≡ true = ap (λ (x : Fields). collides x w.track) (sym shows) ∙ sym c.collides.ensures ∙ c.if-collides.true in
+    subst (λ q. IsSome (place_of t q)) (sym (ap (λ (x : Fields). x.primary_partner) shows)) (c.requires.to (global-part f.primary (collides-global f.primary _ meets)))
+
+pub write_collided-requires-clause-two_servers : goal.write_collided-requires-clause-two_servers
+write_collided-requires-clause-two_servers g c =
+    let s = g.P.Plant.state c.args.p.now in
+    let t = c.args.c.now in
+    let w = c.args.w.now in
+    let v = w.volume.0 in
+    let f = (volume_seen s t v).fields in
+    let shows = c.peek_fields-fields.ensures.fields in
+    let meets : collides f w.track ≡ true = ap (λ (x : Fields). collides x w.track) (sym shows) ∙ sym c.collides.ensures ∙ c.if-collides.true in
+    subst (λ q. (volume_seen s t v).server ≢ (volume_seen s t q).server) (sym (ap (λ (x : Fields). x.primary_partner) shows)) (c.requires.two_servers (global-part f.primary (collides-global f.primary _ meets)))
+
+pub write_collided-requires-clause-size : goal.write_collided-requires-clause-size
+write_collided-requires-clause-size g c =
+    let s = g.P.Plant.state c.args.p.now in
+    let t = c.args.c.now in
+    let w = c.args.w.now in
+    let v = w.volume.0 in
+    let f = (volume_seen s t v).fields in
+    let shows = c.peek_fields-fields.ensures.fields in
+    let meets : collides f w.track ≡ true = ap (λ (x : Fields). collides x w.track) (sym shows) ∙ sym c.collides.ensures ∙ c.if-collides.true in
+    subst (λ q. (volume_seen s t q).tracks ≡ (volume_seen s t v).tracks) (sym (ap (λ (x : Fields). x.primary_partner) shows)) (c.requires.size (global-part f.primary (collides-global f.primary _ meets)))
+
+pub returns-then-collides-clause-carried : goal.returns-then-collides-clause-carried
+returns-then-collides-clause-carried g c xs =
+    let h = c.args.h.now in
+    let ev = c.args.j.now.events in
+    let s = g.P.Plant.state c.args.p.now in
+    let t = c.args.c.now in
+    let w = c.args.w.now in
+    let v = w.volume.0 in
+    let f = (volume_seen s t v).fields in
+    let shows = c.peek_fields-fields.ensures.fields in
+    let meets : collides f w.track ≡ true = ap (λ (x : Fields). collides x w.track) (sym shows) ∙ sym c.collides.ensures ∙ c.if-collides.true in
+    let k = (here s t xs h ev).control in
+    let ids = ids_of t.volumes in
+    let over = (if is_parted k v then land_parted k w.w.0 v w.track else land_mirrored ids w.w.0 v w.track f.primary_partner) in
+    let alone = land_alone ids w.w.0 v w.track in
+    let collided = collided_entries ids w.w.0 v w.track f.primary_partner in
+    let late = (if collides f w.track then collided else alone) in
+    let free : held f ≡ false = ap held (sym shows) ∙ sym c.is_held.ensures ∙ c.if-is_held.false in
+    let stays : goes_over f w.track ≡ false = ap (λ (x : Fields). goes_over x w.track) (sym shows) ∙ sym c.goes_over.ensures ∙ c.if-goes_over.false in
+    let to = ap (λ (x : Fields). x.primary_partner) shows in
+    let x = here (g.P.Plant.state c.write_collided.new.p) t xs c.write_collided.new.h c.write_collided.new.j.events in
+    let r = refusal_of c.write_collided.result in
+    subst (λ b. Ends (armed_in s) x r (here s t xs h ev) (if b then [] else if goes_over f w.track then over else late)) (sym free)
+    (subst (λ b. Ends (armed_in s) x r (here s t xs h ev) (if b then over else late)) (sym stays)
+    (subst (λ b. Ends (armed_in s) x r (here s t xs h ev) (if b then collided else alone)) (sym meets)
+    (subst (λ q. Ends (armed_in s) x r (here s t xs h ev) (collided_entries ids w.w.0 v w.track q)) to (c.write_collided.ensures.carried xs))))
+
+pub returns-then-collides-clause-end : goal.returns-then-collides-clause-end
+returns-then-collides-clause-end g c xs =
+    let h = c.args.h.now in
+    let ev = c.args.j.now.events in
+    let s = g.P.Plant.state c.args.p.now in
+    let t = c.args.c.now in
+    let w = c.args.w.now in
+    let v = w.volume.0 in
+    let f = (volume_seen s t v).fields in
+    let shows = c.peek_fields-fields.ensures.fields in
+    let meets : collides f w.track ≡ true = ap (λ (x : Fields). collides x w.track) (sym shows) ∙ sym c.collides.ensures ∙ c.if-collides.true in
+    let k = (here s t xs h ev).control in
+    let free : held f ≡ false = ap held (sym shows) ∙ sym c.is_held.ensures ∙ c.if-is_held.false in
+    let stays : goes_over f w.track ≡ false = ap (λ (x : Fields). goes_over x w.track) (sym shows) ∙ sym c.goes_over.ensures ∙ c.if-goes_over.false in
+    let rest = is_parted k v && is_grouped k v f.primary_partner in
+    subst (λ b. IfOk c.write_collided.result (λ (e : WriteEnd). e ≡ end_of (b || (goes_over f w.track && rest)))) (sym free)
+    (subst (λ b. IfOk c.write_collided.result (λ (e : WriteEnd). e ≡ end_of (b && rest))) (sym stays) c.write_collided.ensures.end)
+
+pub returns-then-collides-clause-mirrors : goal.returns-then-collides-clause-mirrors
+returns-then-collides-clause-mirrors g c =
+    let s = g.P.Plant.state c.args.p.now in
+    let t = c.args.c.now in
+    let w = c.args.w.now in
+    let v = w.volume.0 in
+    let f = (volume_seen s t v).fields in
+    let shows = c.peek_fields-fields.ensures.fields in
+    let meets : collides f w.track ≡ true = ap (λ (x : Fields). collides x w.track) (sym shows) ∙ sym c.collides.ensures ∙ c.if-collides.true in
+    λ metro. global-metro f.primary (collides-global f.primary _ meets) metro
 
 pub returns-clause-carried : goal.returns-clause-carried
 returns-clause-carried g c xs =
@@ -219,12 +348,16 @@ returns-clause-carried g c xs =
     let shows = c.peek_fields-fields.ensures.fields in
     let over = (if is_parted k v then land_parted k w.w.0 v w.track else land_mirrored ids w.w.0 v w.track f.primary_partner) in
     let alone = land_alone ids w.w.0 v w.track in
+    let collided = collided_entries ids w.w.0 v w.track f.primary_partner in
+    let late = (if collides f w.track then collided else alone) in
     let free : held f ≡ false = ap held (sym shows) ∙ sym c.is_held.ensures ∙ c.if-is_held.false in
     let stays : goes_over f w.track ≡ false = ap (λ (x : Fields). goes_over x w.track) (sym shows) ∙ sym c.goes_over.ensures ∙ c.if-goes_over.false in
+    let passes : collides f w.track ≡ false = ap (λ (x : Fields). collides x w.track) (sym shows) ∙ sym c.collides.ensures ∙ c.if-collides.false in
     let x = here (g.P.Plant.state c.write_alone.new.p) t xs c.write_alone.new.h c.write_alone.new.j.events in
     let r = refusal_of c.write_alone.result in
-    subst (λ b. Ends (armed_in s) x r (here s t xs h ev) (if b then [] else if goes_over f w.track then over else alone)) (sym free)
-    (subst (λ b. Ends (armed_in s) x r (here s t xs h ev) (if b then over else alone)) (sym stays) (c.write_alone.ensures.carried xs))
+    subst (λ b. Ends (armed_in s) x r (here s t xs h ev) (if b then [] else if goes_over f w.track then over else late)) (sym free)
+    (subst (λ b. Ends (armed_in s) x r (here s t xs h ev) (if b then over else late)) (sym stays)
+    (subst (λ b. Ends (armed_in s) x r (here s t xs h ev) (if b then collided else alone)) (sym passes) (c.write_alone.ensures.carried xs)))
 
 pub returns-clause-end : goal.returns-clause-end
 returns-clause-end g c xs =
@@ -240,6 +373,8 @@ returns-clause-end g c xs =
     let shows = c.peek_fields-fields.ensures.fields in
     let over = (if is_parted k v then land_parted k w.w.0 v w.track else land_mirrored ids w.w.0 v w.track f.primary_partner) in
     let alone = land_alone ids w.w.0 v w.track in
+    let collided = collided_entries ids w.w.0 v w.track f.primary_partner in
+    let late = (if collides f w.track then collided else alone) in
     let free : held f ≡ false = ap held (sym shows) ∙ sym c.is_held.ensures ∙ c.if-is_held.false in
     let stays : goes_over f w.track ≡ false = ap (λ (x : Fields). goes_over x w.track) (sym shows) ∙ sym c.goes_over.ensures ∙ c.if-goes_over.false in
     let rest = is_parted k v && is_grouped k v f.primary_partner in
@@ -260,6 +395,8 @@ returns-clause-mirrors g c =
     let shows = c.peek_fields-fields.ensures.fields in
     let over = (if is_parted k v then land_parted k w.w.0 v w.track else land_mirrored ids w.w.0 v w.track f.primary_partner) in
     let alone = land_alone ids w.w.0 v w.track in
+    let collided = collided_entries ids w.w.0 v w.track f.primary_partner in
+    let late = (if collides f w.track then collided else alone) in
     let stays : goes_over f w.track ≡ false = ap (λ (x : Fields). goes_over x w.track) (sym shows) ∙ sym c.goes_over.ensures ∙ c.if-goes_over.false in
     λ metro.
     let u = g.P.Plant.state c.write_alone.new.p in

@@ -1,10 +1,14 @@
-use Rattle.std.proofs.Common.{refl, Some, []}
-use Rattle.dr_model.specs.WriteEntries.{part_after}
+use Rattle.std.proofs.Common.{refl, ap, ◌∙◌, Some, []}
+use Rattle.std.specs.Prelude.{if◌then◌else◌}
+use Rattle.dr_model.specs.Layout.{Fields}
+use Rattle.dr_model.specs.Pairs.{collides}
+use Rattle.dr_model.specs.PairEntries.{suspend_after}
+use Rattle.dr_model.specs.WriteEntries.{part_after, after_write}
 use Rattle.dr_flash.specs.Here.{armed_in}
 use Rattle.dr_flash.proofs.CopyLemmas.{wider-armed}
 use Rattle.dr_gcopy.proofs.SendLemmas.{follows-wider}
 use Rattle.dr_metro.specs.Here.{here, rest_of}
-use Rattle.dr_metro.proofs.SyncLemmas.{told-followed}
+use Rattle.dr_metro.proofs.SyncLemmas.{told-followed, after-is}
 use Rattle.dr_metro.proofs.sync.sync_write.Goals as goal
 
 pub returns-in-Ok-clause-carried : goal.returns-in-Ok-clause-carried
@@ -33,11 +37,12 @@ returns-in-Err-clause-carried g c xs =
     let m = g.P.Plant.state c.carry_write.new.p in
     let h1 = c.carry_write.new.h in
     let mid = c.carry_write.new.j.events in
-    let u = g.P.Plant.state c.follow_part.new.p in
+    let u = g.P.Plant.state c.follow_write.new.p in
     record {
       middle = here m t xs h1 mid;
       ends = (c.in-Err.ensures.carried xs);
-      followed = follows-wider (armed_in m) (armed_in s) (wider-armed s m c.in-Err.ensures.unarmed) (here m t xs h1 mid) (Some c.in-Err.why) (part_after v) (here u t xs h1 c.follow_part.new.j.events) (c.follow_part.ensures.follows (rest_of xs h1 mid));
+      followed = follows-wider (armed_in m) (armed_in s) (wider-armed s m c.in-Err.ensures.unarmed) (here m t xs h1 mid) (Some c.in-Err.why) (after_write k v w.track) (here u t xs h1 c.follow_write.new.j.events)
+          (after-is (armed_in m) (here m t xs h1 mid) (here u t xs h1 c.follow_write.new.j.events) (Some c.in-Err.why) k v w.track c.collides-collided.result (c.collides-collided.ensures ∙ ap (λ (x : Fields). collides x w.track) c.peek_fields.ensures.fields) (c.follow_write.ensures.follows (rest_of xs h1 mid)));
     }
 
 pub returns-in-Err-clause-told : goal.returns-in-Err-clause-told
@@ -52,8 +57,8 @@ returns-in-Err-clause-told g c =
     let m = g.P.Plant.state c.carry_write.new.p in
     let h1 = c.carry_write.new.h in
     let mid = c.carry_write.new.j.events in
-    let u = g.P.Plant.state c.follow_part.new.p in
-    told-followed (armed_in m) h1 (here m t [] h1 mid) (here u t [] h1 c.follow_part.new.j.events) (Some c.in-Err.why) (part_after v) (c.follow_part.ensures.follows (rest_of [] h1 mid)) c.in-Err.ensures.told
+    let u = g.P.Plant.state c.follow_write.new.p in
+    told-followed (armed_in m) h1 (here m t [] h1 mid) (here u t [] h1 c.follow_write.new.j.events) (Some c.in-Err.why) (λ e. if c.collides-collided.result then suspend_after v e else part_after v e) (c.follow_write.ensures.follows (rest_of [] h1 mid)) c.in-Err.ensures.told
 
 pub returns-in-Err-clause-unarmed : goal.returns-in-Err-clause-unarmed
 returns-in-Err-clause-unarmed g c q none =
@@ -63,7 +68,7 @@ returns-in-Err-clause-unarmed g c q none =
     let ev = c.args.j.now.events in
     let w = c.args.w.now in
     let v = w.volume.0 in
-    c.follow_part.ensures.unarmed q (c.in-Err.ensures.unarmed q none)
+    c.follow_write.ensures.unarmed q (c.in-Err.ensures.unarmed q none)
 
 pub returns-in-Err-clause-faults : goal.returns-in-Err-clause-faults
 returns-in-Err-clause-faults g c =
@@ -73,4 +78,4 @@ returns-in-Err-clause-faults g c =
     let ev = c.args.j.now.events in
     let w = c.args.w.now in
     let v = w.volume.0 in
-    c.follow_part.ensures.faults s.faults c.in-Err.ensures.faults
+    c.follow_write.ensures.faults s.faults c.in-Err.ensures.faults
