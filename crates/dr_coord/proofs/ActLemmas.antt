@@ -1,12 +1,13 @@
 -- An entry that comes to an act, from what the act made; checks before it; and a hold that begins an attempt.
-use Rattle.std.proofs.Common.{ℕ, ◌≡◌, ◌⊎◌, inl, inr, Bool, true, false, not, ◌&&◌, List, [], ◌∷◌, refl, sym, ◌∙◌, ap, subst, Option, None, Some}
+use Rattle.std.proofs.Common.{ℕ, ◌≡◌, ◌≤◌, ◌+◌, arith, ◌⊎◌, inl, inr, Bool, true, false, not, ◌&&◌, List, [], ◌∷◌, refl, sym, ◌∙◌, ap, subst, Option, None, Some}
 use Rattle.std.specs.Prelude.{nat_lt, if◌then◌else◌, Result, Ok, Err, OnOk, OnErr}
 use Rattle.std.specs.Option.{option_or}
 use Rattle.dr_ids.specs.declared.refusal.Refusal.{Refusal}
 use Rattle.dr_plant.specs.State.{PlantState}
 use Rattle.dr_config.specs.Table.{Table}
 use Rattle.dr_model.specs.declared.event.Event.{Event}
-use Rattle.dr_model.specs.Control.{Control, World}
+use Rattle.dr_model.specs.Layout.{Fields}
+use Rattle.dr_model.specs.Control.{Control, Volume, World}
 use Rattle.dr_model.specs.Pairs.{records, is_engaged}
 use Rattle.dr_model.specs.Moves.{Move, Hold, Free, Finish}
 use Rattle.dr_model.specs.Carry.{Act, Make, OpenAttempt, act, turn, opened_by, attempt_begun, Pass, Do, Entry, equal}
@@ -15,6 +16,7 @@ use Rattle.dr_model.specs.ReadStops.{GoesOff, Ends}
 use Rattle.dr_model.specs.Refusals.{stopped}
 use Rattle.dr_model.specs.SessionEntries.{last_of, hold_refusal, stale_refusal, hold_on, hold_entries, free_on, is_past, finish_on}
 use Rattle.dr_model.proofs.CarryLemmas.{act-move}
+use Rattle.dr_volume.specs.Update.{IsMoved}
 use Rattle.dr_volume.specs.View.{Rest, volume_seen}
 use Rattle.dr_flash.specs.Checks.{Checked}
 use Rattle.dr_flash.specs.Here.{seen, refusal_of}
@@ -22,7 +24,7 @@ use Rattle.dr_flash.specs.Turns.{Advances, Halts, Leads, Fails}
 use Rattle.dr_flash.proofs.CopyLemmas.{led, failed}
 use Rattle.dr_flash.proofs.EndsLemmas.{ends-off, ends-goes, ends-stops, ends-skips}
 use Rattle.dr_gcopy.proofs.PairChecks.{ends-clear, ends-why}
-use Rattle.dr_coord.specs.Changes.{begun_if, rest_after, void_on}
+use Rattle.dr_coord.specs.Changes.{begins, begun_if, rest_after, void_on}
 
 pub act-advances : (w v : World) (d : Entry) (a : Act) → d w.control ≡ Do a → act w a ≡ (v, None) → Advances w d v
 act-advances w v d a is done armed u r ds more = ends-goes armed u r w v d ds a is done more
@@ -130,6 +132,14 @@ equal-same : (b : Bool) → equal b b ≡ true
 equal-same true = refl
 equal-same false = refl
 
+equal-not : (b : Bool) → equal b (not b) ≡ false
+equal-not true = refl
+equal-not false = refl
+
+and-true : (b : Bool) → (b && true) ≡ b
+and-true true = refl
+and-true false = refl
+
 and-false : (b : Bool) → (b && false) ≡ false
 and-false true = refl
 and-false false = refl
@@ -160,3 +170,18 @@ hold-passes s t v k n first r events is =
 pub ends-so : (res : Result (Unit {0}) Refusal) (armed : ℕ → Bool) (w u : Rest → World) (es : List Entry) (So : Rest → Type 0) → OnOk res ((r : Rest) → So r → Leads (w r) es (u r)) → OnErr res ((r : Rest) → So r → Fails armed (w r) es (u r) (refusal_of res)) → (r : Rest) → So r → Ends armed (u r) (refusal_of res) (w r) es
 ends-so (Ok x) armed w u es So leads fails r so = led armed (w r) (u r) es (leads r so)
 ends-so (Err e) armed w u es So leads fails r so = failed armed (w r) (u r) (Some e) es (fails r so)
+
+-- where the move is done, the other slot is chosen
+pub begins-moved : (first : Bool) (s u : PlantState) (t : Table) (v : ℕ) (f : Fields) → IsMoved s u t v f None → begins first s u t v ≡ first
+begins-moved first s u t v f moved =
+    ap (λ (x : Volume). first && not (equal (volume_seen s t v).slot x.slot)) moved.volume
+    ∙ ap (λ b. first && not b) (equal-not (volume_seen s t v).slot)
+    ∙ and-true first
+
+pub spare-left : (a b : ℕ) (first begun : Bool) → begun ≡ first → a ≡ b + (if first then 2 else 1) → a ≤ b + (if begun then 2 else 1)
+spare-left a b first begun is e = let same = ap {B = ℕ} (λ (c : Bool). if c then 2 else 1) is in omega (arith, same, e)
+
+-- two facts of a result, along a third
+pub both-along : {T E : Type 0} {P Q S : Type 0} (r : Result T E) → OnOk r P → OnOk r Q → (P → Q → S) → OnOk r S
+both-along (Ok x) p q f = f p q
+both-along (Err e) p q f = p

@@ -4,6 +4,7 @@ ghost use Rattle.std.specs.Prelude.{◌≡◌, ℕ, ◌≤◌, ◌+◌, true, fa
 ghost use Rattle.dr_config.specs.Table.{place_of};
 ghost use Rattle.dr_model.specs.Layout.{is_part};
 ghost use Rattle.dr_model.specs.ReadStops.{Ends};
+ghost use Rattle.dr_model.specs.Pairs.{records};
 ghost use Rattle.dr_model.specs.Refusals.{stopped};
 ghost use Rattle.dr_model.specs.SessionEntries.{last_of, hold_on, hold_entries, free_on, release_entries};
 ghost use Rattle.dr_volume.specs.Update.{OthersStay};
@@ -13,7 +14,7 @@ ghost use Rattle.dr_flash.specs.Faults.{Counted};
 ghost use Rattle.dr_flash.specs.Fit.{RelationsFit};
 ghost use Rattle.dr_flash.specs.Here.{seen, refusal_of, armed_in, IsAtRest};
 ghost use Rattle.dr_flash.specs.Turns.{Advances, Halts, Leads, Fails};
-ghost use Rattle.dr_coord.specs.Changes.{rest_after};
+ghost use Rattle.dr_coord.specs.Changes.{begins, rest_after};
 
 use crate::changes::{Change, make_change};
 use crate::checks::{hold_refusal, void_refusal};
@@ -39,7 +40,7 @@ fn hold<P: Plant>(
     requires defined { IsSome (place_of c.now a.0) }
     requires running { (P.state p.old).on (volume_seen (P.state p.old) c.now a.0).server ≡ true }
     requires part { is_part (volume_seen (P.state p.old) c.now a.0).fields.primary ≡ true }
-    requires room { 3 ≤ j.old.spare }
+    requires room { (if first then 3 else 2) ≤ j.old.spare }
     ensures advances { OnOk result ((r : Rest) → nat_lt (last_of (seen (P.state p.old) c.now r j.old.events).control s.0) n ≡ first
         → Advances (seen (P.state p.old) c.now r j.old.events) (hold_on s.0 a.0 n) (seen (P.state p.new) c.now (rest_after first (P.state p.old) (P.state p.new) c.now a.0 s.0 r) j.new.events)) }
     ensures halts { OnErr result ((r : Rest) → nat_lt (last_of (seen (P.state p.old) c.now r j.old.events).control s.0) n ≡ first
@@ -51,8 +52,9 @@ fn hold<P: Plant>(
     ensures faults { Counted (is_err result) (P.state p.old).faults (P.state p.new).faults }
     ensures others { OthersStay (P.state p.old) (P.state p.new) c.now a.0 }
     ensures on { OnOk result ((P.state p.new).on ≡ (P.state p.old).on) }
-    ensures room { j.old.spare ≤ j.new.spare + 3 }
-    ensures room_left { OnOk result (j.old.spare ≤ j.new.spare + (if first then 2 else 1)) }
+    ensures room { j.old.spare ≤ j.new.spare + (if first then 3 else 2) }
+    ensures begins { OnOk result (records n (volume_seen (P.state p.old) c.now a.0).fields ≡ false → begins first (P.state p.old) (P.state p.new) c.now a.0 ≡ first) }
+    ensures room_left { OnOk result (j.old.spare ≤ j.new.spare + (if begins first (P.state p.old) (P.state p.new) c.now a.0 then 2 else 1)) }
     ensures spare { length j.new.events + j.new.spare ≡ length j.old.events + j.old.spare }
 {
     if records(n, &peek_fields(p, c, a)) {
@@ -71,7 +73,8 @@ fn hold<P: Plant>(
 /// where it is the first hold of it. Where the primary records the attempt, nothing happens. Refused where it is no Global
 /// Copy primary of the member's secondary in Copy Pending, or else where the attempt isn't newer than its own; then nothing
 /// has changed. Fails too where the server stops in the move or goes off at a read. The session's attempt has begun where
-/// this is the first hold and the volume's other slot is chosen after it. The journal needs room for three events.
+/// this is the first hold and the volume's other slot is chosen after it. The journal needs room for two events,
+/// and for one more where this is the first hold.
 pub fn hold_and_swap<P: Plant>(
     p: &mut P,
     c: &Config,
@@ -85,7 +88,7 @@ pub fn hold_and_swap<P: Plant>(
     requires fit { RelationsFit (P.state p.old) c.now }
     requires defined { IsSome (place_of c.now m.now.a.0) }
     requires running { (P.state p.old).on (volume_seen (P.state p.old) c.now m.now.a.0).server ≡ true }
-    requires room { 3 ≤ j.old.spare }
+    requires room { (if first then 3 else 2) ≤ j.old.spare }
     ensures carried { (r : Rest) → nat_lt (last_of (seen (P.state p.old) c.now r j.old.events).control s.0) n ≡ first
         → Ends (armed_in (P.state p.old)) (seen (P.state p.new) c.now (rest_after first (P.state p.old) (P.state p.new) c.now m.now.a.0 s.0 r) j.new.events) (refusal_of result) (seen (P.state p.old) c.now r j.old.events) (hold_entries s.0 m.now.a.0 m.now.b.0 n) }
     ensures leads { OnOk result ((r : Rest) → nat_lt (last_of (seen (P.state p.old) c.now r j.old.events).control s.0) n ≡ first
@@ -99,8 +102,9 @@ pub fn hold_and_swap<P: Plant>(
     ensures faults { Counted (is_stop (refusal_of result)) (P.state p.old).faults (P.state p.new).faults }
     ensures others { OthersStay (P.state p.old) (P.state p.new) c.now m.now.a.0 }
     ensures on { OnOk result ((P.state p.new).on ≡ (P.state p.old).on) }
-    ensures room { j.old.spare ≤ j.new.spare + 3 }
-    ensures room_left { OnOk result (j.old.spare ≤ j.new.spare + (if first then 2 else 1)) }
+    ensures room { j.old.spare ≤ j.new.spare + (if first then 3 else 2) }
+    ensures begins { OnOk result (records n (volume_seen (P.state p.old) c.now m.now.a.0).fields ≡ false → begins first (P.state p.old) (P.state p.new) c.now m.now.a.0 ≡ first) }
+    ensures room_left { OnOk result (j.old.spare ≤ j.new.spare + (if begins first (P.state p.old) (P.state p.new) c.now m.now.a.0 then 2 else 1)) }
     ensures spare { length j.new.events + j.new.spare ≡ length j.old.events + j.old.spare }
 {
     if let Some(why) = hold_refusal(p, c, m.a, m.b, n) {

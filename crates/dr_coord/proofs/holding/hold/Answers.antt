@@ -1,11 +1,11 @@
-use Rattle.std.proofs.Common.{ap, sym, ◌∙◌, None, Some, inl, inr}
+use Rattle.std.proofs.Common.{◌≡◌, true, false, ap, sym, ◌∙◌, None, Some, inl, inr}
 use Rattle.dr_model.specs.Pairs.{records}
 use Rattle.dr_model.specs.SessionEntries.{hold_on}
 use Rattle.dr_volume.specs.View.{volume_seen}
 use Rattle.dr_flash.specs.Here.{seen, armed_in, refusal_of}
 use Rattle.dr_flash.proofs.TurnLemmas.{ok-along, err-along}
-use Rattle.dr_coord.specs.Changes.{rest_after}
-use Rattle.dr_coord.proofs.ActLemmas.{act-advances, act-halts, hold_act, hold-comes, hold-act, hold-off, hold-passes}
+use Rattle.dr_coord.specs.Changes.{begins, rest_after}
+use Rattle.dr_coord.proofs.ActLemmas.{act-advances, act-halts, hold_act, hold-comes, hold-act, hold-off, hold-passes, begins-moved, spare-left, both-along}
 use Rattle.dr_coord.proofs.holding.hold.Goals as goal
 
 pub returns-then-records-clause-advances : goal.returns-then-records-clause-advances
@@ -37,3 +37,18 @@ returns-clause-halts g c =
       | inl off ↦ inl (hold-off (armed_in s) s u t r c.args.j.now.events c.make_change.new.j.events c.args.a.0 c.args.s.0 c.args.first (refusal_of c.make_change.result) off)
       | inr is ↦ inr (hold-act s t r c.args.j.now.events c.args.a.0 u c.args.s.0 c.args.n c.args.first c.make_change.new.j.events (Some server) is)
     ]))
+
+pub returns-then-records-clause-begins : goal.returns-then-records-clause-begins
+returns-then-records-clause-begins g c fresh =
+    absurd (let no : true ≡ false = sym (ap (records c.args.n) (sym c.peek_fields.ensures.fields) ∙ sym c.if-records.ensures) ∙ fresh in cc)
+
+pub returns-clause-begins : goal.returns-clause-begins
+returns-clause-begins g c =
+    ok-along c.make_change.result c.make_change.ensures.moved (λ moved _.
+    begins-moved c.args.first (g.P.Plant.state c.args.p.now) (g.P.Plant.state c.make_change.new.p) c.args.c.now c.args.a.0 _ moved)
+
+pub returns-clause-room_left : goal.returns-clause-room_left
+returns-clause-room_left g c =
+    both-along c.make_change.result c.make_change.ensures.moved c.make_change.ensures.room_left (λ moved left.
+    spare-left c.args.j.now.spare c.make_change.new.j.spare c.args.first (begins c.args.first (g.P.Plant.state c.args.p.now) (g.P.Plant.state c.make_change.new.p) c.args.c.now c.args.a.0)
+    (begins-moved c.args.first (g.P.Plant.state c.args.p.now) (g.P.Plant.state c.make_change.new.p) c.args.c.now c.args.a.0 _ moved) left)
