@@ -1,6 +1,7 @@
 //! The primary of a member is held, and the session's attempt begins with the first one.
 
-ghost use Rattle.std.specs.Prelude.{◌≡◌, ℕ, ◌≤◌, ◌+◌, true, false, length, nat_lt, None, OnOk, OnErr, if◌then◌else◌};
+ghost use Rattle.std.specs.Prelude.{◌≡◌, ℕ, ◌≤◌, ◌+◌, ◌&&◌, not, true, false, length, nat_lt, None, OnOk, OnErr};
+ghost use Rattle.dr_model.specs.Carry.{equal};
 ghost use Rattle.dr_model.specs.Pairs.{records};
 ghost use Rattle.dr_model.specs.Sessions as model;
 ghost use Rattle.dr_model.specs.SessionEntries.{hold_entries};
@@ -20,11 +21,18 @@ use dr_plant::Plant;
 use dr_session::Sessions;
 use dr_volume::slot;
 
-/// The number of a session's last attempt, 0 where it isn't defined.
-fn last_of(ss: &Sessions, s: SessionId) -> u32
-    ensures { result ≡ last_in ss.now.sessions s.0 }
+/// Whether a hold for attempt n of the session is the first one: the session's last attempt is an older one.
+fn is_first(ss: &Sessions, s: SessionId, n: u32) -> bool
+    ensures { result ≡ nat_lt (last_in ss.now.sessions s.0) n }
 {
-    ss.last(s).unwrap_or(0)
+    ss.last(s).unwrap_or(0) < n
+}
+
+/// Whether an attempt has begun with a hold of a volume: it was the first one, and the volume's other slot is chosen.
+fn has_begun(first: bool, before: bool, after: bool) -> bool
+    ensures { result ≡ (first && not (equal before after)) }
+{
+    first && before != after
 }
 
 /// An attempt of the session begins, where it does.
@@ -69,10 +77,10 @@ pub(crate) fn hold_member<P: Plant>(
     ensures room_left { OnOk result (j.old.spare + to_begin ss.new.sessions s.0 n ≤ j.new.spare + (1 + to_begin ss.old.sessions s.0 n)) }
     ensures spare { length j.new.events + j.new.spare ≡ length j.old.events + j.old.spare }
 {
-    let first = last_of(ss, s) < n;
+    let first = is_first(ss, s, n);
     let before = slot(p, c, m.a);
     let result = hold_and_swap(p, c, j, s, m, n, first);
-    let begins = first && slot(p, c, m.a) != before;
-    begin_if(ss, s, begins);
+    let after = slot(p, c, m.a);
+    begin_if(ss, s, has_begun(first, before, after));
     result
 }

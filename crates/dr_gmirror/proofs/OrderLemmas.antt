@@ -1,0 +1,1 @@
+-- Orders over members, one by one.
