@@ -56,7 +56,7 @@ split s w u b e {server} low ends =
     ] refl ends
 
 -- of a volume that is no primary nothing is there to end
-if-off : {A : Type 0} (b : Bool) (x y : A) → b ≡ false → (if b then x else y) ≡ y
+pub if-off : {A : Type 0} (b : Bool) (x y : A) → b ≡ false → (if b then x else y) ≡ y
 if-off b x y off = ap (λ c. if c then x else y) off
 
 lifted-lawful : (n : ℕ) (f : Fields) → IsLawful n f → IsLawful n (lifted f)
@@ -78,7 +78,7 @@ lifted-lawful n f lawful = let sets : HasSets n f = lawful.sets in record {
 }
 
 -- nor does it record
-not-engaged : (f : Fields) → NoPrimary f → is_engaged f ≡ false
+pub not-engaged : (f : Fields) → NoPrimary f → is_engaged f ≡ false
 not-engaged f none = ap (λ r. r || f.coordination) none.4 ∙ none.2
 
 pub restarted-lawful : (n : ℕ) (f : Fields) → IsLawful n f → IsLawful n (restarted f)

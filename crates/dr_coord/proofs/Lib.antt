@@ -1,1 +1,3 @@
 pub mod HoldLemmas
+pub mod ChangeLemmas
+pub mod ActLemmas

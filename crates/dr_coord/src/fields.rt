@@ -1,14 +1,18 @@
-//! What the fields of a volume become as its holds end and as its server starts.
+//! What the fields of a volume become as it is held, as its holds end and as its server starts.
 
-ghost use Rattle.std.specs.Prelude.{◌≡◌, false, if◌then◌else◌};
+ghost use Rattle.std.specs.Prelude.{◌≡◌, ◌&&◌, max, false, if◌then◌else◌};
 ghost use Rattle.std.specs.FinSet.{union, empty};
 ghost use Rattle.dr_model.specs.Pairs as pairs;
+ghost use Rattle.dr_model.specs.SessionEntries as sessions;
+ghost use Rattle.dr_model.specs.declared.state.Part.TheVariants.{Global};
 ghost use Rattle.dr_model.specs.declared.state.PairState.TheVariants.{CopyPending};
 ghost use Rattle.dr_volume.specs.Plain.{plain};
 
 use dr_bits::TrackSet;
+use dr_flash::is_part;
 use dr_gcopy::{is_metro, voided};
-use dr_model::PairState;
+use dr_ids::VolumeId;
+use dr_model::{PairState, Part};
 use dr_volume::Fields;
 
 /// The tracks that are out of sync after a coordination hold, where there was one, ended with a void.
@@ -71,6 +75,13 @@ fn is_torn(f: &Fields) -> bool
     is_metro(f.primary) && (is_full_duplex(f.primary_state) && f.out_of_sync.len() != 0)
 }
 
+/// Whether a volume records, or is held by coordination.
+pub(crate) fn is_engaged(f: &Fields) -> bool
+    ensures { result ≡ pairs.is_engaged (plain f.now) }
+{
+    f.recording || f.coordination
+}
+
 /// Whether a volume has a move to make as its server starts.
 pub(crate) fn must_restart(f: &Fields) -> bool
     ensures { result ≡ pairs.must_restart (plain f.now) }
@@ -95,6 +106,95 @@ pub(crate) fn restarted(f: &Fields) -> Fields
 {
     Fields {
         primary_state: state_at_start(f),
+        ..voided(f)
+    }
+}
+
+/// Whether a part is that of a Global Copy pair.
+fn is_global(part: Part) -> bool
+    ensures { result ≡ pairs.is_kind Global part }
+{
+    match part {
+        Part::Global => true,
+        Part::Absent | Part::Metro => false,
+    }
+}
+
+/// Whether a pair is in Copy Pending.
+fn is_pending(state: PairState) -> bool
+    ensures { result ≡ pairs.is_pending state }
+{
+    match state {
+        PairState::CopyPending => true,
+        PairState::FullDuplex | PairState::Suspended => false,
+    }
+}
+
+/// Whether a volume with these fields is a Global Copy primary of `b` in Copy Pending.
+pub(crate) fn may_hold(f: &Fields, b: VolumeId) -> bool
+    ensures { result ≡ (pairs.is_primary_of b.0 (plain f.now) && (pairs.is_kind Global f.now.primary && pairs.is_pending f.now.primary_state)) }
+{
+    is_part(f.primary)
+        && f.primary_partner.0 == b.0
+        && (is_global(f.primary) && is_pending(f.primary_state))
+}
+
+/// Whether a volume with these fields records attempt n.
+pub(crate) fn records(n: u32, f: &Fields) -> bool
+    ensures { result ≡ pairs.records n (plain f.now) }
+{
+    f.recording && f.attempt == n
+}
+
+/// Whether attempt n is over for a volume with these fields.
+pub(crate) fn is_past(n: u32, f: &Fields) -> bool
+    ensures { result ≡ sessions.is_past n (plain f.now) }
+{
+    n < f.attempt || (f.attempt == n && !f.recording)
+}
+
+/// A primary that is held for attempt n: what is out of sync, and what changes from now on, stand apart.
+pub(crate) fn held_for(n: u32, f: &Fields) -> Fields
+    ensures { plain result ≡ pairs.held_for n (plain f.now) }
+{
+    Fields {
+        coordination: true,
+        recording: true,
+        attempt: n,
+        change_recording: TrackSet::empty(),
+        ..*f
+    }
+}
+
+/// A primary that is let go.
+pub(crate) fn freed(f: &Fields) -> Fields
+    ensures { plain result ≡ pairs.freed (plain f.now) }
+{
+    let mut next = *f;
+    next.coordination = false;
+    next
+}
+
+/// A secondary that is sealed for attempt n.
+pub(crate) fn sealed(n: u32, f: &Fields) -> Fields
+    ensures { plain result ≡ pairs.sealed n (plain f.now) }
+{
+    Fields { seal: n, ..*f }
+}
+
+/// The later one of two attempts.
+fn later(n: u32, m: u32) -> u32
+    ensures { result ≡ max n m }
+{
+    if n < m { m } else { n }
+}
+
+/// A primary for which attempt n is over.
+pub(crate) fn past_attempt(n: u32, f: &Fields) -> Fields
+    ensures { plain result ≡ pairs.past_attempt n (plain f.now) }
+{
+    Fields {
+        attempt: later(f.attempt, n),
         ..voided(f)
     }
 }

@@ -1,9 +1,18 @@
-//! Holds of volumes: what ends them, and how a volume goes on as its server starts, one move of a volume at a time.
+//! Coordination of volumes: what an attempt makes of them, what ends their holds, and how a volume goes on as its server
+//! starts, one move of a volume at a time.
 #![tactic(auto)]
 
+mod changes;
+mod checks;
 mod expiring;
 mod fields;
+mod finishing;
+mod holding;
 mod restarting;
 
+pub use changes::{Change, make_change};
+pub use checks::void_refusal;
 pub use expiring::expire;
+pub use finishing::{finish, void};
+pub use holding::{hold_and_swap, release};
 pub use restarting::restart;

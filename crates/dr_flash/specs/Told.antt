@@ -3,11 +3,12 @@ use Rattle.std.specs.Prelude.{List, [], ◌∷◌}
 use Rattle.dr_model.specs.declared.event.Event.{Event}
 use Rattle.dr_model.specs.Moves.{told_blank, told_restored}
 use Rattle.dr_flash.specs.declared.told.Told.{Told}
-use Rattle.dr_flash.specs.declared.told.Told.TheVariants.{Nothing, One, Blanked, Returned}
+use Rattle.dr_flash.specs.declared.told.Told.TheVariants.{Nothing, One, Two, Blanked, Returned}
 
 -- the events
 abbrev pub events_of : Told → List Event
 events_of Nothing = []
 events_of (One e) = e ∷ []
+events_of (Two d e) = d ∷ e ∷ []
 events_of (Blanked v tracks own) = told_blank v tracks own
 events_of (Returned v s tracks own) = told_restored v s tracks own

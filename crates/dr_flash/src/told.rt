@@ -14,6 +14,7 @@ use dr_model::{Event, Journal};
 pub enum Told {
     Nothing,
     One(Event),
+    Two(Event, Event),
     /// A relationship has ended where the target, a volume with so many tracks, held these: each of the others now reads
     /// zeros.
     Blanked {
@@ -63,6 +64,10 @@ pub(crate) fn tell(j: &mut Journal, told: &Told)
     match told {
         Told::Nothing => {}
         Told::One(event) => j.push(*event),
+        Told::Two(first, second) => {
+            j.push(*first);
+            j.push(*second);
+        }
         Told::Blanked {
             volume,
             tracks,

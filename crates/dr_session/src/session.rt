@@ -126,6 +126,13 @@ impl Session {
         self.members.get(i).copied()
     }
 
+    /// How many members it has.
+    pub(crate) fn member_count(&self) -> usize
+        ensures { result ≡ length self.now.session.members }
+    {
+        self.members.len()
+    }
+
     /// Whether the logical subsystem is one of its own.
     pub(crate) fn has_subsystem(&self, l: Lss) -> bool
         ensures { result ≡ model.has_subsystem l.0 self.now.session }

@@ -1,4 +1,4 @@
-ghost use Rattle.std.specs.Prelude.{◌≡◌, ◌≢◌, ◌↔◌, ◌<◌, ◌+◌, ◌++◌, ◌∷◌, [], map, slice_get, true, None, Some, Err, IsTrue, IsOk, IsSome, IsSomeAnd, IfSome, IfOk, OnOk, OnErr, option_map, is_some};
+ghost use Rattle.std.specs.Prelude.{◌≡◌, ◌≢◌, ◌↔◌, ◌<◌, ◌+◌, ◌++◌, ◌∷◌, [], map, slice_get, length, true, None, Some, Err, IsTrue, IsOk, IsSome, IsSomeAnd, IfSome, IfOk, OnOk, OnErr, option_map, is_some};
 ghost use Rattle.std.specs.List.{find};
 ghost use Rattle.std.specs.Result.{result_err};
 ghost use Rattle.dr_ids.specs.declared.refusal.PhaseName.TheVariants as phase;
@@ -302,6 +302,16 @@ impl Sessions {
         ensures low { IfSome result (λ m. m.server.0 < 8) }
     {
         self.session(s)?.member_at(i)
+    }
+
+    /// How many members the session has, none where it isn't defined.
+    pub fn member_count(&self, s: SessionId) -> usize
+        ensures { result ≡ length (model.members_in (model.session_in self.now.sessions s.0)) }
+    {
+        match self.session(s) {
+            Some(session) => session.member_count(),
+            None => 0,
+        }
     }
 
     /// The session of which the volume is the primary of a member, if there is one.

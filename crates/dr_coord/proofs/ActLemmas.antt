@@ -1,0 +1,187 @@
+-- An entry that comes to an act, from what the act made; checks before it; and a hold that begins an attempt.
+use Rattle.std.proofs.Common.{ℕ, ◌≡◌, ◌≤◌, ◌+◌, arith, ◌⊎◌, inl, inr, Bool, true, false, not, ◌&&◌, List, [], ◌∷◌, refl, sym, ◌∙◌, ap, subst, Option, None, Some}
+use Rattle.std.specs.Prelude.{nat_lt, if◌then◌else◌, Result, Ok, Err, OnOk, OnErr}
+use Rattle.std.specs.Option.{option_or}
+use Rattle.dr_ids.specs.declared.refusal.Refusal.{Refusal}
+use Rattle.dr_plant.specs.State.{PlantState}
+use Rattle.dr_config.specs.Table.{Table}
+use Rattle.dr_model.specs.declared.event.Event.{Event}
+use Rattle.dr_model.specs.Layout.{Fields}
+use Rattle.dr_model.specs.Control.{Control, Volume, World}
+use Rattle.dr_model.specs.Pairs.{records, is_engaged}
+use Rattle.dr_model.specs.Moves.{Move, Hold, Free, Finish}
+use Rattle.dr_model.specs.Carry.{Act, Make, OpenAttempt, act, turn, opened_by, attempt_begun, Pass, Do, Entry, equal}
+use Rattle.dr_model.specs.PairEntries.{refuse_if}
+use Rattle.dr_model.specs.ReadStops.{GoesOff, Ends}
+use Rattle.dr_model.specs.Refusals.{stopped}
+use Rattle.dr_model.specs.SessionEntries.{last_of, hold_refusal, stale_refusal, hold_on, hold_entries, free_on, is_past, finish_on}
+use Rattle.dr_model.proofs.CarryLemmas.{act-move}
+use Rattle.dr_volume.specs.Update.{IsMoved}
+use Rattle.dr_volume.specs.View.{Rest, volume_seen}
+use Rattle.dr_flash.specs.Checks.{Checked}
+use Rattle.dr_flash.specs.Here.{seen, refusal_of}
+use Rattle.dr_flash.specs.Turns.{Advances, Halts, Leads, Fails}
+use Rattle.dr_flash.proofs.CopyLemmas.{led, failed}
+use Rattle.dr_flash.proofs.EndsLemmas.{ends-off, ends-goes, ends-stops, ends-skips}
+use Rattle.dr_gcopy.proofs.PairChecks.{ends-clear, ends-why}
+use Rattle.dr_coord.specs.Changes.{begins, begun_if, rest_after, void_on}
+
+pub act-advances : (w v : World) (d : Entry) (a : Act) → d w.control ≡ Do a → act w a ≡ (v, None) → Advances w d v
+act-advances w v d a is done armed u r ds more = ends-goes armed u r w v d ds a is done more
+
+pub act-halts : (armed : ℕ → Bool) (w u : World) (r : Option Refusal) (d : Entry) (a : Act) (server : ℕ) → d w.control ≡ Do a → r ≡ Some (stopped server) → GoesOff armed u r w ⊎ (act w a ≡ (u, Some server)) → Halts armed w d u r
+act-halts armed w u r d a server is refused (inl off) ds = ends-off armed u r w (d ∷ ds) off
+act-halts armed w u r d a server is refused (inr stops) ds = ends-stops armed u r w d ds a server is stops refused
+
+-- where the act is a move
+pub move-advances : (w v : World) (d : Entry) (m : Move) → d w.control ≡ Do (Make m) → turn w m ≡ (v, None) → Advances w d v
+move-advances w v d m is done = act-advances w v d (Make m) is (act-move w m ∙ done)
+
+pub move-halts : (armed : ℕ → Bool) (w u : World) (r : Option Refusal) (d : Entry) (m : Move) (server : ℕ) → d w.control ≡ Do (Make m) → r ≡ Some (stopped server) → GoesOff armed u r w ⊎ (turn w m ≡ (u, Some server)) → Halts armed w d u r
+move-halts armed w u r d m server is refused (inl off) = act-halts armed w u r d (Make m) server is refused (inl off)
+move-halts armed w u r d m server is refused (inr stops) = act-halts armed w u r d (Make m) server is refused (inr (act-move w m ∙ stops))
+
+pub not-true : (b : Bool) → not b ≡ true → b ≡ false
+not-true true h = absurd cc
+not-true false h = refl
+
+pub not-false : (b : Bool) → not b ≡ false → b ≡ true
+not-false true h = refl
+not-false false h = absurd cc
+
+-- an entry that passes
+pub passes : (w : World) (d : Entry) → d w.control ≡ Pass → Advances w d w
+passes w d is armed u r ds more = ends-skips armed u r w d ds is more
+
+-- one reason to refuse, or two
+pub one-checked : (w : World) (why : Control → Option Refusal) (o : Option Refusal) → o ≡ why w.control → Checked w (refuse_if why ∷ []) o
+one-checked w why None is = λ armed u r ds more. ends-clear armed u r w why ds (sym is) more
+one-checked w why (Some e) is = λ armed ds. ends-why armed w why e ds (sym is)
+
+or-none : (a b : Option Refusal) → option_or a b ≡ None → (a ≡ None) × (b ≡ None)
+or-none None b is = (refl, is)
+or-none (Some e) b is = absurd cc
+
+or-some : (a b : Option Refusal) (e : Refusal) → option_or a b ≡ Some e → (a ≡ Some e) ⊎ ((a ≡ None) × (b ≡ Some e))
+or-some None b e is = inr (refl, is)
+or-some (Some d) b e is = inl is
+
+pub two-checked : (w : World) (why also : Control → Option Refusal) (o : Option Refusal) → o ≡ option_or (why w.control) (also w.control) → Checked w (refuse_if why ∷ refuse_if also ∷ []) o
+two-checked w why also None is = λ armed u r ds more.
+    let none = or-none (why w.control) (also w.control) (sym is) in
+    ends-clear armed u r w why (refuse_if also ∷ ds) none.0 (ends-clear armed u r w also ds none.1 more)
+two-checked w why also (Some e) is = λ armed ds. elim (or-some (why w.control) (also w.control) e (sym is)) [
+  | inl first ↦ ends-why armed w why e (refuse_if also ∷ ds) first
+  | inr second ↦ ends-clear armed w (Some e) w why (refuse_if also ∷ ds) second.0 (ends-why armed w also e ds second.1)
+]
+
+-- the entries of an attempt, by what the primary's fields say
+module _ (s : PlantState) (t : Table) (r : Rest) (events : List Event) (v : ℕ) where
+  abbrev w : World
+  w = seen s t r events
+
+  pub free-skips : (volume_seen s t v).fields.coordination ≡ false → free_on v w.control ≡ Pass
+  free-skips is = ap (λ b. if b then Do (Make (Free v)) else Pass) is
+
+  pub free-comes : (volume_seen s t v).fields.coordination ≡ true → free_on v w.control ≡ Do (Make (Free v))
+  free-comes is = ap (λ b. if b then Do (Make (Free v)) else Pass) is
+
+  pub finish-skips : (n : ℕ) → is_past n (volume_seen s t v).fields ≡ true → finish_on v n w.control ≡ Pass
+  finish-skips n is = ap (λ b. if b then Pass else Do (Make (Finish v n))) is
+
+  pub finish-comes : (n : ℕ) → is_past n (volume_seen s t v).fields ≡ false → finish_on v n w.control ≡ Do (Make (Finish v n))
+  finish-comes n is = ap (λ b. if b then Pass else Do (Make (Finish v n))) is
+
+  pub void-skips : is_engaged (volume_seen s t v).fields ≡ false → void_on v w.control ≡ Pass
+  void-skips is = ap (λ b. if b then Do (Make (Finish v 0)) else Pass) is
+
+  pub void-comes : is_engaged (volume_seen s t v).fields ≡ true → void_on v w.control ≡ Do (Make (Finish v 0))
+  void-comes is = ap (λ b. if b then Do (Make (Finish v 0)) else Pass) is
+
+  abbrev pub hold_act : ℕ → ℕ → Bool → Act
+  hold_act k n first = if first then OpenAttempt v k n else Make (Hold v k n false)
+
+  pub hold-skips : (k n : ℕ) → records n (volume_seen s t v).fields ≡ true → hold_on k v n w.control ≡ Pass
+  hold-skips k n is = ap (λ b. if b then Pass else Do (hold_act k n (nat_lt (last_of w.control k) n))) is
+
+  pub hold-comes : (k n : ℕ) (first : Bool) → records n (volume_seen s t v).fields ≡ false → nat_lt (last_of w.control k) n ≡ first → hold_on k v n w.control ≡ Do (hold_act k n first)
+  hold-comes k n first is so = ap (λ b. if b then Pass else Do (hold_act k n (nat_lt (last_of w.control k) n))) is ∙ ap (λ b. Do (hold_act k n b)) so
+
+  -- the first hold begins the session's attempt where it counts as done
+  act-open : (k n : ℕ) → act w (OpenAttempt v k n) ≡ opened_by w v k (turn w (Hold v k n true))
+  unfolding act
+  act-open k n = refl
+
+  opened-if : (u : World) (b : Bool) (k : ℕ) (x : Option ℕ) → ◌≡◌ {A = World × Option ℕ} (if b then u else attempt_begun u k, x) (if not b then attempt_begun u k else u, x)
+  opened-if u true k x = refl
+  opened-if u false k x = refl
+
+  begun-if : (u : PlantState) (b : Bool) (k : ℕ) (told : List Event) → (if b then attempt_begun (seen u t r told) k else seen u t r told) ≡ seen u t (begun_if b k r) told
+  begun-if u true k told = refl
+  begun-if u false k told = refl
+
+  pub hold-act : (u : PlantState) (k n : ℕ) (first : Bool) (told : List Event) (x : Option ℕ) → turn w (Hold v k n first) ≡ (seen u t r told, x) → act w (hold_act k n first) ≡ (seen u t (rest_after first s u t v k r) told, x)
+  hold-act u k n true told x is =
+      act-open k n ∙ ap (opened_by w v k) is
+      ∙ opened-if (seen u t r told) (equal (volume_seen s t v).slot (volume_seen u t v).slot) k x
+      ∙ ap (λ (z : World). (z, x)) (begun-if u (not (equal (volume_seen s t v).slot (volume_seen u t v).slot)) k told)
+  hold-act u k n false told x is = act-move w (Hold v k n false) ∙ is
+
+-- where the slot is the same one, nothing has begun
+equal-same : (b : Bool) → equal b b ≡ true
+equal-same true = refl
+equal-same false = refl
+
+equal-not : (b : Bool) → equal b (not b) ≡ false
+equal-not true = refl
+equal-not false = refl
+
+and-true : (b : Bool) → (b && true) ≡ b
+and-true true = refl
+and-true false = refl
+
+and-false : (b : Bool) → (b && false) ≡ false
+and-false true = refl
+and-false false = refl
+
+pub rest-stays : (first : Bool) (s u : PlantState) (t : Table) (v k : ℕ) (r : Rest) → (volume_seen u t v).slot ≡ (volume_seen s t v).slot → rest_after first s u t v k r ≡ r
+rest-stays first s u t v k r same =
+    ap (λ b. begun_if (first && not (equal (volume_seen s t v).slot b)) k r) same
+    ∙ ap (λ b. begun_if (first && not b) k r) (equal-same (volume_seen s t v).slot)
+    ∙ ap (λ b. begun_if b k r) (and-false first)
+
+pub hold-off : (armed : ℕ → Bool) (s u : PlantState) (t : Table) (r : Rest) (events told : List Event) (v k : ℕ) (first : Bool) (why : Option Refusal) → GoesOff armed (seen u t r told) why (seen s t r events) → GoesOff armed (seen u t (rest_after first s u t v k r) told) why (seen s t r events)
+hold-off armed s u t r events told v k first why off =
+    subst (λ (z : Rest). GoesOff armed (seen u t z told) why (seen s t r events)) (sym (rest-stays first s u t v k r (ap (λ (z : World). (z.control.volume v).slot) off.world))) off
+
+-- a hold that is refused changes nothing
+pub hold-refused : (s : PlantState) (t : Table) (v b k n : ℕ) (first : Bool) (r : Rest) (events : List Event) (why : Refusal)
+    → Some why ≡ option_or (hold_refusal v b (seen s t r events).control) (stale_refusal v n (seen s t r events).control)
+    → (armed : ℕ → Bool) → Fails armed (seen s t r events) (hold_entries k v b n) (seen s t (rest_after first s s t v k r) events) (Some why)
+hold-refused s t v b k n first r events why is armed ds =
+    subst (λ (z : Rest). Ends armed (seen s t z events) (Some why) (seen s t r events) (refuse_if (hold_refusal v b) ∷ refuse_if (stale_refusal v n) ∷ hold_on k v n ∷ ds)) (sym (rest-stays first s s t v k r refl))
+    (two-checked (seen s t r events) (hold_refusal v b) (stale_refusal v n) (Some why) is armed (hold_on k v n ∷ ds))
+
+pub hold-passes : (s : PlantState) (t : Table) (v k n : ℕ) (first : Bool) (r : Rest) (events : List Event) → records n (volume_seen s t v).fields ≡ true → Advances (seen s t r events) (hold_on k v n) (seen s t (rest_after first s s t v k r) events)
+hold-passes s t v k n first r events is =
+    subst (λ (z : Rest). Advances (seen s t r events) (hold_on k v n) (seen s t z events)) (sym (rest-stays first s s t v k r refl)) (passes (seen s t r events) (hold_on k v n) (hold-skips s t r events v k n is))
+
+-- the entries end as those that led on or failed say, where that is so for this rest
+pub ends-so : (res : Result (Unit {0}) Refusal) (armed : ℕ → Bool) (w u : Rest → World) (es : List Entry) (So : Rest → Type 0) → OnOk res ((r : Rest) → So r → Leads (w r) es (u r)) → OnErr res ((r : Rest) → So r → Fails armed (w r) es (u r) (refusal_of res)) → (r : Rest) → So r → Ends armed (u r) (refusal_of res) (w r) es
+ends-so (Ok x) armed w u es So leads fails r so = led armed (w r) (u r) es (leads r so)
+ends-so (Err e) armed w u es So leads fails r so = failed armed (w r) (u r) (Some e) es (fails r so)
+
+-- where the move is done, the other slot is chosen
+pub begins-moved : (first : Bool) (s u : PlantState) (t : Table) (v : ℕ) (f : Fields) → IsMoved s u t v f None → begins first s u t v ≡ first
+begins-moved first s u t v f moved =
+    ap (λ (x : Volume). first && not (equal (volume_seen s t v).slot x.slot)) moved.volume
+    ∙ ap (λ b. first && not b) (equal-not (volume_seen s t v).slot)
+    ∙ and-true first
+
+pub spare-left : (a b : ℕ) (first begun : Bool) → begun ≡ first → a ≡ b + (if first then 2 else 1) → a ≤ b + (if begun then 2 else 1)
+spare-left a b first begun is e = let same = ap {B = ℕ} (λ (c : Bool). if c then 2 else 1) is in omega (arith, same, e)
+
+-- two facts of a result, along a third
+pub both-along : {T E : Type 0} {P Q S : Type 0} (r : Result T E) → OnOk r P → OnOk r Q → (P → Q → S) → OnOk r S
+both-along (Ok x) p q f = f p q
+both-along (Err e) p q f = p

@@ -1,0 +1,82 @@
+//! What an attempt asks of a primary.
+
+ghost use Rattle.std.specs.Prelude.{◌≡◌, nat_lt, true, false, Some, None, List, IsSome, if◌then◌else◌};
+ghost use Rattle.std.specs.Option.{option_or};
+ghost use Rattle.dr_config.specs.Table.{StandsFor, place_of};
+ghost use Rattle.dr_ids.specs.declared.refusal.Refusal.TheVariants.{Stale};
+ghost use Rattle.dr_model.specs.declared.event.Event.{Event};
+ghost use Rattle.dr_model.specs.Layout as layout;
+ghost use Rattle.dr_model.specs.Pairs as pairs;
+ghost use Rattle.dr_model.specs.SessionEntries as entries;
+ghost use Rattle.dr_volume.specs.Plain.{plain};
+ghost use Rattle.dr_volume.specs.View.{Rest, volume_seen};
+ghost use Rattle.dr_flash.specs.Checks.{OnNone, is_stop};
+ghost use Rattle.dr_flash.specs.Here.{seen};
+
+use crate::fields::{may_hold, records};
+use dr_config::Config;
+use dr_flash::pair_state;
+use dr_ids::{Refusal, VolumeId};
+use dr_plant::Plant;
+use dr_volume::{Fields, peek_fields};
+
+/// Why a volume isn't to be held, as far as its pair says: it is no Global Copy primary of b in Copy Pending.
+fn pair_refusal<P: Plant>(p: &P, c: &Config, a: VolumeId, b: VolumeId) -> Option<Refusal>
+    requires stands { StandsFor c.now (P.state p.now) }
+    requires defined { IsSome (place_of c.now a.0) }
+    ensures refusal { (r : Rest) (events : List Event) → result ≡ entries.hold_refusal a.0 b.0 (seen (P.state p.now) c.now r events).control }
+    ensures part { OnNone result (layout.is_part (volume_seen (P.state p.now) c.now a.0).fields.primary ≡ true) }
+    ensures calm { is_stop result ≡ false }
+{
+    if !may_hold(&peek_fields(p, c, a), b) {
+        return Some(pair_state(p, c, a));
+    }
+    None
+}
+
+/// Why attempt n is stale for a primary that doesn't record it: the primary's own isn't older.
+fn stale_if(n: u32, f: &Fields) -> Option<Refusal>
+    ensures refusal { result ≡ (if pairs.records n (plain f.now) then None else if nat_lt f.now.attempt n then None else Some (Stale n f.now.attempt)) }
+    ensures calm { is_stop result ≡ false }
+{
+    if records(n, f) || f.attempt < n {
+        return None;
+    }
+    Some(Refusal::Stale {
+        n,
+        floor: f.attempt,
+    })
+}
+
+/// Why primary a can't be held for attempt n: it is no Global Copy primary of b in Copy Pending, or else the attempt is stale.
+pub(crate) fn hold_refusal<P: Plant>(
+    p: &P,
+    c: &Config,
+    a: VolumeId,
+    b: VolumeId,
+    n: u32,
+) -> Option<Refusal>
+    requires stands { StandsFor c.now (P.state p.now) }
+    requires defined { IsSome (place_of c.now a.0) }
+    ensures refusal { (r : Rest) (events : List Event) → result ≡ option_or (entries.hold_refusal a.0 b.0 (seen (P.state p.now) c.now r events).control) (entries.stale_refusal a.0 n (seen (P.state p.now) c.now r events).control) }
+    ensures part { OnNone result (layout.is_part (volume_seen (P.state p.now) c.now a.0).fields.primary ≡ true) }
+    ensures calm { is_stop result ≡ false }
+{
+    if let Some(why) = pair_refusal(p, c, a, b) {
+        return Some(why);
+    }
+    stale_if(n, &peek_fields(p, c, a))
+}
+
+/// Why nothing is to be done for attempt n with a primary: it doesn't record it.
+pub fn void_refusal<P: Plant>(p: &P, c: &Config, a: VolumeId, n: u32) -> Option<Refusal>
+    requires stands { StandsFor c.now (P.state p.now) }
+    requires defined { IsSome (place_of c.now a.0) }
+    ensures refusal { (r : Rest) (events : List Event) → result ≡ entries.void_refusal a.0 n (seen (P.state p.now) c.now r events).control }
+    ensures calm { is_stop result ≡ false }
+{
+    if !records(n, &peek_fields(p, c, a)) {
+        return Some(Refusal::Void { n });
+    }
+    None
+}

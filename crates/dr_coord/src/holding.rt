@@ -1,0 +1,175 @@
+//! A primary is held for an attempt, and let go.
+
+ghost use Rattle.std.specs.Prelude.{◌≡◌, ℕ, ◌≤◌, ◌+◌, true, false, [], ◌∷◌, length, nat_lt, None, Some, IsSome, OnOk, OnErr, is_err, if◌then◌else◌};
+ghost use Rattle.dr_config.specs.Table.{place_of};
+ghost use Rattle.dr_model.specs.Layout.{is_part};
+ghost use Rattle.dr_model.specs.ReadStops.{Ends};
+ghost use Rattle.dr_model.specs.Pairs.{records};
+ghost use Rattle.dr_model.specs.Refusals.{stopped};
+ghost use Rattle.dr_model.specs.SessionEntries.{last_of, hold_on, hold_entries, free_on, release_entries};
+ghost use Rattle.dr_volume.specs.Update.{OthersStay};
+ghost use Rattle.dr_volume.specs.View.{Rest, volume_seen};
+ghost use Rattle.dr_flash.specs.Checks.{is_stop};
+ghost use Rattle.dr_flash.specs.Faults.{Counted};
+ghost use Rattle.dr_flash.specs.Fit.{RelationsFit};
+ghost use Rattle.dr_flash.specs.Here.{seen, refusal_of, armed_in, IsAtRest};
+ghost use Rattle.dr_flash.specs.Turns.{Advances, Halts, Leads, Fails};
+ghost use Rattle.dr_coord.specs.Changes.{begins, rest_after};
+
+use crate::changes::{Change, make_change};
+use crate::checks::{hold_refusal, void_refusal};
+use crate::fields::records;
+use dr_config::Config;
+use dr_ids::{Member, Refusal, SessionId, VolumeId};
+use dr_model::Journal;
+use dr_plant::Plant;
+use dr_volume::peek_fields;
+
+/// Primary a is held for attempt n of a session, unless it records it, maybe as the first of the session's members.
+fn hold<P: Plant>(
+    p: &mut P,
+    c: &Config,
+    j: &mut Journal,
+    a: VolumeId,
+    s: SessionId,
+    n: u32,
+    first: bool,
+) -> Result<(), Refusal>
+    requires rest { IsAtRest (P.state p.old) c.now }
+    requires fit { RelationsFit (P.state p.old) c.now }
+    requires defined { IsSome (place_of c.now a.0) }
+    requires running { (P.state p.old).on (volume_seen (P.state p.old) c.now a.0).server ≡ true }
+    requires part { is_part (volume_seen (P.state p.old) c.now a.0).fields.primary ≡ true }
+    requires room { (if first then 3 else 2) ≤ j.old.spare }
+    ensures advances { OnOk result ((r : Rest) → nat_lt (last_of (seen (P.state p.old) c.now r j.old.events).control s.0) n ≡ first
+        → Advances (seen (P.state p.old) c.now r j.old.events) (hold_on s.0 a.0 n) (seen (P.state p.new) c.now (rest_after first (P.state p.old) (P.state p.new) c.now a.0 s.0 r) j.new.events)) }
+    ensures halts { OnErr result ((r : Rest) → nat_lt (last_of (seen (P.state p.old) c.now r j.old.events).control s.0) n ≡ first
+        → Halts (armed_in (P.state p.old)) (seen (P.state p.old) c.now r j.old.events) (hold_on s.0 a.0 n) (seen (P.state p.new) c.now (rest_after first (P.state p.old) (P.state p.new) c.now a.0 s.0 r) j.new.events) (refusal_of result)) }
+    ensures refused { OnErr result (refusal_of result ≡ Some (stopped (volume_seen (P.state p.old) c.now a.0).server)) }
+    ensures rest { IsAtRest (P.state p.new) c.now }
+    ensures fit { RelationsFit (P.state p.new) c.now }
+    ensures unarmed { (q : ℕ) → (P.state p.old).read_fuse q ≡ None → (P.state p.new).read_fuse q ≡ None }
+    ensures faults { Counted (is_err result) (P.state p.old).faults (P.state p.new).faults }
+    ensures others { OthersStay (P.state p.old) (P.state p.new) c.now a.0 }
+    ensures on { OnOk result ((P.state p.new).on ≡ (P.state p.old).on) }
+    ensures room { j.old.spare ≤ j.new.spare + (if first then 3 else 2) }
+    ensures begins { OnOk result (records n (volume_seen (P.state p.old) c.now a.0).fields ≡ false → begins first (P.state p.old) (P.state p.new) c.now a.0 ≡ first) }
+    ensures room_left { OnOk result (j.old.spare ≤ j.new.spare + (if begins first (P.state p.old) (P.state p.new) c.now a.0 then 2 else 1)) }
+    ensures spare { length j.new.events + j.new.spare ≡ length j.old.events + j.old.spare }
+{
+    if records(n, &peek_fields(p, c, a)) {
+        return Ok(());
+    }
+    let hold = Change::Hold {
+        session: s,
+        n,
+        first,
+    };
+    make_change(p, c, j, a, hold)
+}
+
+/// Holds the primary of a member for attempt n of a session, where its server is on: host writes on it wait, and what is out
+/// of sync and what changes from then on stand apart. The journal is told of the cut, and before it that the attempt begins
+/// where it is the first hold of it. Where the primary records the attempt, nothing happens. Refused where it is no Global
+/// Copy primary of the member's secondary in Copy Pending, or else where the attempt isn't newer than its own; then nothing
+/// has changed. Fails too where the server stops in the move or goes off at a read. The session's attempt has begun where
+/// this is the first hold and the volume's other slot is chosen after it. The journal needs room for two events,
+/// and for one more where this is the first hold.
+pub fn hold_and_swap<P: Plant>(
+    p: &mut P,
+    c: &Config,
+    j: &mut Journal,
+    s: SessionId,
+    m: &Member,
+    n: u32,
+    first: bool,
+) -> Result<(), Refusal>
+    requires rest { IsAtRest (P.state p.old) c.now }
+    requires fit { RelationsFit (P.state p.old) c.now }
+    requires defined { IsSome (place_of c.now m.now.a.0) }
+    requires running { (P.state p.old).on (volume_seen (P.state p.old) c.now m.now.a.0).server ≡ true }
+    requires room { (if first then 3 else 2) ≤ j.old.spare }
+    ensures carried { (r : Rest) → nat_lt (last_of (seen (P.state p.old) c.now r j.old.events).control s.0) n ≡ first
+        → Ends (armed_in (P.state p.old)) (seen (P.state p.new) c.now (rest_after first (P.state p.old) (P.state p.new) c.now m.now.a.0 s.0 r) j.new.events) (refusal_of result) (seen (P.state p.old) c.now r j.old.events) (hold_entries s.0 m.now.a.0 m.now.b.0 n) }
+    ensures leads { OnOk result ((r : Rest) → nat_lt (last_of (seen (P.state p.old) c.now r j.old.events).control s.0) n ≡ first
+        → Leads (seen (P.state p.old) c.now r j.old.events) (hold_entries s.0 m.now.a.0 m.now.b.0 n) (seen (P.state p.new) c.now (rest_after first (P.state p.old) (P.state p.new) c.now m.now.a.0 s.0 r) j.new.events)) }
+    ensures fails { OnErr result ((r : Rest) → nat_lt (last_of (seen (P.state p.old) c.now r j.old.events).control s.0) n ≡ first
+        → Fails (armed_in (P.state p.old)) (seen (P.state p.old) c.now r j.old.events) (hold_entries s.0 m.now.a.0 m.now.b.0 n) (seen (P.state p.new) c.now (rest_after first (P.state p.old) (P.state p.new) c.now m.now.a.0 s.0 r) j.new.events) (refusal_of result)) }
+    ensures unchanged { is_stop (refusal_of result) ≡ false → OnErr result ((P.state p.new ≡ P.state p.old) × (j.new ≡ j.old)) }
+    ensures rest { IsAtRest (P.state p.new) c.now }
+    ensures fit { RelationsFit (P.state p.new) c.now }
+    ensures unarmed { (q : ℕ) → (P.state p.old).read_fuse q ≡ None → (P.state p.new).read_fuse q ≡ None }
+    ensures faults { Counted (is_stop (refusal_of result)) (P.state p.old).faults (P.state p.new).faults }
+    ensures others { OthersStay (P.state p.old) (P.state p.new) c.now m.now.a.0 }
+    ensures on { OnOk result ((P.state p.new).on ≡ (P.state p.old).on) }
+    ensures room { j.old.spare ≤ j.new.spare + (if first then 3 else 2) }
+    ensures begins { OnOk result (records n (volume_seen (P.state p.old) c.now m.now.a.0).fields ≡ false → begins first (P.state p.old) (P.state p.new) c.now m.now.a.0 ≡ first) }
+    ensures room_left { OnOk result (j.old.spare ≤ j.new.spare + (if begins first (P.state p.old) (P.state p.new) c.now m.now.a.0 then 2 else 1)) }
+    ensures spare { length j.new.events + j.new.spare ≡ length j.old.events + j.old.spare }
+{
+    if let Some(why) = hold_refusal(p, c, m.a, m.b, n) {
+        return Err(why);
+    }
+    hold(p, c, j, m.a, s, n, first)
+}
+
+/// Primary a is let go, where it is held.
+fn free<P: Plant>(p: &mut P, c: &Config, j: &mut Journal, a: VolumeId) -> Result<(), Refusal>
+    requires rest { IsAtRest (P.state p.old) c.now }
+    requires fit { RelationsFit (P.state p.old) c.now }
+    requires defined { IsSome (place_of c.now a.0) }
+    requires running { (P.state p.old).on (volume_seen (P.state p.old) c.now a.0).server ≡ true }
+    requires room { 1 ≤ j.old.spare }
+    ensures advances { OnOk result ((r : Rest) → Advances (seen (P.state p.old) c.now r j.old.events) (free_on a.0) (seen (P.state p.new) c.now r j.new.events)) }
+    ensures halts { OnErr result ((r : Rest) → Halts (armed_in (P.state p.old)) (seen (P.state p.old) c.now r j.old.events) (free_on a.0) (seen (P.state p.new) c.now r j.new.events) (refusal_of result)) }
+    ensures refused { OnErr result (refusal_of result ≡ Some (stopped (volume_seen (P.state p.old) c.now a.0).server)) }
+    ensures rest { IsAtRest (P.state p.new) c.now }
+    ensures fit { RelationsFit (P.state p.new) c.now }
+    ensures unarmed { (q : ℕ) → (P.state p.old).read_fuse q ≡ None → (P.state p.new).read_fuse q ≡ None }
+    ensures faults { Counted (is_err result) (P.state p.old).faults (P.state p.new).faults }
+    ensures others { OthersStay (P.state p.old) (P.state p.new) c.now a.0 }
+    ensures on { OnOk result ((P.state p.new).on ≡ (P.state p.old).on) }
+    ensures room { j.old.spare ≤ j.new.spare + 1 }
+    ensures room_left { OnOk result (j.old.spare ≡ j.new.spare) }
+    ensures spare { length j.new.events + j.new.spare ≡ length j.old.events + j.old.spare }
+{
+    if !peek_fields(p, c, a).coordination {
+        return Ok(());
+    }
+    make_change(p, c, j, a, Change::Free)
+}
+
+/// Lets the primary of a member go, where its server is on and it is held: host writes on it wait no more, and it goes on to
+/// record attempt n. Nothing is told. Refused where it doesn't record the attempt; then nothing has changed. Fails too where
+/// the server stops in the move or goes off at a read. The journal needs room for an event.
+pub fn release<P: Plant>(
+    p: &mut P,
+    c: &Config,
+    j: &mut Journal,
+    m: &Member,
+    n: u32,
+) -> Result<(), Refusal>
+    requires rest { IsAtRest (P.state p.old) c.now }
+    requires fit { RelationsFit (P.state p.old) c.now }
+    requires defined { IsSome (place_of c.now m.now.a.0) }
+    requires running { (P.state p.old).on (volume_seen (P.state p.old) c.now m.now.a.0).server ≡ true }
+    requires room { 1 ≤ j.old.spare }
+    ensures carried { (r : Rest) → Ends (armed_in (P.state p.old)) (seen (P.state p.new) c.now r j.new.events) (refusal_of result) (seen (P.state p.old) c.now r j.old.events) (release_entries m.now.a.0 n) }
+    ensures leads { OnOk result ((r : Rest) → Leads (seen (P.state p.old) c.now r j.old.events) (release_entries m.now.a.0 n) (seen (P.state p.new) c.now r j.new.events)) }
+    ensures fails { OnErr result ((r : Rest) → Fails (armed_in (P.state p.old)) (seen (P.state p.old) c.now r j.old.events) (release_entries m.now.a.0 n) (seen (P.state p.new) c.now r j.new.events) (refusal_of result)) }
+    ensures unchanged { is_stop (refusal_of result) ≡ false → OnErr result ((P.state p.new ≡ P.state p.old) × (j.new ≡ j.old)) }
+    ensures rest { IsAtRest (P.state p.new) c.now }
+    ensures fit { RelationsFit (P.state p.new) c.now }
+    ensures unarmed { (q : ℕ) → (P.state p.old).read_fuse q ≡ None → (P.state p.new).read_fuse q ≡ None }
+    ensures faults { Counted (is_stop (refusal_of result)) (P.state p.old).faults (P.state p.new).faults }
+    ensures others { OthersStay (P.state p.old) (P.state p.new) c.now m.now.a.0 }
+    ensures on { OnOk result ((P.state p.new).on ≡ (P.state p.old).on) }
+    ensures room { j.old.spare ≤ j.new.spare + 1 }
+    ensures room_left { OnOk result (j.old.spare ≡ j.new.spare) }
+    ensures spare { length j.new.events + j.new.spare ≡ length j.old.events + j.old.spare }
+{
+    if let Some(why) = void_refusal(p, c, m.a, n) {
+        return Err(why);
+    }
+    free(p, c, j, m.a)
+}

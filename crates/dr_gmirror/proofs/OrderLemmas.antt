@@ -1,0 +1,100 @@
+-- Orders over members, one by one.
+use Rattle.std.proofs.Common.{ℕ, zero, suc, ◌≡◌, ◌≤◌, ◌<◌, ◌+◌, Bool, true, false, not, ◌&&◌, ◌||◌, ◌==◌, cond, arith, List, [], ◌∷◌, ◌++◌, length, take, drop, slice_get, refl, sym, ◌∙◌, ap, subst, Option, None, Some}
+use Rattle.std.specs.Prelude.{filter, if◌then◌else◌, is_some}
+use Rattle.std.specs.List.{flat_map, list_any}
+use Rattle.std.proofs.lemmas.List.{append-nil, append_assoc}
+use Rattle.std.proofs.lemmas.List.Elements.{filter-append}
+use Rattle.std.proofs.lemmas.List.Folds.{list_any-append}
+use Rattle.std.proofs.lemmas.Grind.{flat_map-append}
+use Rattle.dr_ids.specs.declared.names.Member.{Member}
+use Rattle.dr_ids.specs.declared.refusal.Refusal.{Refusal}
+use Rattle.dr_bits.specs.Tracks.{Tracks}
+use Rattle.dr_plant.specs.State.{PlantState}
+use Rattle.dr_config.specs.Table.{Table}
+use Rattle.dr_model.specs.declared.event.Event.{Event}
+use Rattle.dr_model.specs.Phases as phases
+use Rattle.dr_model.specs.Control.{World}
+use Rattle.dr_model.specs.Carry.{Entry}
+use Rattle.dr_model.specs.SessionEntries.{member_entries, is_on, members_on, order_entries, reply_after}
+use Rattle.dr_volume.specs.View.{Rest}
+use Rattle.dr_flash.specs.Here.{seen}
+use Rattle.dr_flash.specs.Turns.{Leads, Fails}
+use Rattle.dr_gcopy.proofs.SendLemmas.{then-leads, then-fails, fails-first}
+use Rattle.dr_gcopy.proofs.TwoMoves.{server-stays}
+use Rattle.dr_gmirror.specs.Orders.{IsReady, is_seal, sync_seen, must_wait, waits_in}
+
+-- one member, on the server or elsewhere
+pub entries-on : (work : phases.Work) (s n server : ℕ) (m : Member) → is_on server m ≡ true → order_entries work s n (members_on server (m ∷ [])) ≡ member_entries work s n m
+entries-on work s n server m is = ap (λ b. order_entries work s n (cond b (m ∷ []) [])) is ∙ append-nil (member_entries work s n m)
+
+pub entries-off : (work : phases.Work) (s n server : ℕ) (m : Member) → is_on server m ≡ false → order_entries work s n (members_on server (m ∷ [])) ≡ []
+entries-off work s n server m is = ap (λ b. order_entries work s n (cond b (m ∷ []) [])) is
+
+or-false : (b : Bool) → (b || false) ≡ b
+or-false true = refl
+or-false false = refl
+
+pub waits-on : (work : phases.Work) (sync : ℕ → Tracks) (server : ℕ) (m : Member) → is_on server m ≡ true → waits_in work sync (members_on server (m ∷ [])) ≡ (is_seal work && must_wait sync m)
+waits-on work sync server m is = ap (λ b. waits_in work sync (cond b (m ∷ []) [])) is ∙ ap (λ b. is_seal work && b) (or-false (must_wait sync m))
+
+and-false : (b : Bool) → (b && false) ≡ false
+and-false true = refl
+and-false false = refl
+
+pub waits-off : (work : phases.Work) (sync : ℕ → Tracks) (server : ℕ) (m : Member) → is_on server m ≡ false → waits_in work sync (members_on server (m ∷ [])) ≡ false
+waits-off work sync server m is = ap (λ b. waits_in work sync (cond b (m ∷ []) [])) is ∙ and-false (is_seal work)
+
+-- one member more
+pub entries-more : (work : phases.Work) (s n server : ℕ) (xs ys : List Member) → order_entries work s n (members_on server (xs ++ ys)) ≡ order_entries work s n (members_on server xs) ++ order_entries work s n (members_on server ys)
+entries-more work s n server xs ys =
+    ap (order_entries work s n) (filter-append (is_on server) xs ys) ∙ flat_map-append (member_entries work s n) (members_on server xs) (members_on server ys)
+
+either-and : (a b c : Bool) → (a && (b || c)) ≡ ((a && b) || (a && c))
+either-and true b c = refl
+either-and false b c = refl
+
+pub waits-more : (work : phases.Work) (sync : ℕ → Tracks) (server : ℕ) (xs ys : List Member) → waits_in work sync (members_on server (xs ++ ys)) ≡ (waits_in work sync (members_on server xs) || waits_in work sync (members_on server ys))
+waits-more work sync server xs ys =
+    ap (λ ms. is_seal work && list_any (must_wait sync) ms) (filter-append (is_on server) xs ys)
+    ∙ ap (λ b. is_seal work && b) (list_any-append (must_wait sync) (members_on server xs) (members_on server ys))
+    ∙ either-and (is_seal work) _ _
+
+-- of a seal nothing more is out of sync, and nothing else has to wait
+pub waits-kept : (work : phases.Work) (now next : ℕ → Tracks) (ms : List Member) → (is_seal work ≡ true → (q : ℕ) → next q ≡ now q) → waits_in work next ms ≡ waits_in work now ms
+waits-kept work now next ms kept = elim (is_seal work) as (λ b. (b ≡ true → (q : ℕ) → next q ≡ now q) → (b && list_any (must_wait next) ms) ≡ (b && list_any (must_wait now) ms)) [
+  | true ↦ λ same. let is : next ≡ now = (λ i q. same refl q i) in ap (λ f. list_any (must_wait f) ms) is
+  | false ↦ λ same. refl
+] kept
+
+-- a list up to the next place
+pub member-next : (ms : List Member) (i : ℕ) (m : Member) → Some m ≡ slice_get ms i → take (i + 1) ms ≡ take i ms ++ m ∷ []
+member-next ms i m at = ap (λ k. take k ms) (let e : i + 1 ≡ suc i = omega arith in e) ∙ next ms i at
+  where
+    next : (ms : List Member) (i : ℕ) → Some m ≡ slice_get ms i → take (suc i) ms ≡ take i ms ++ m ∷ []
+    next [] i h = absurd cc
+    next (x ∷ xs) zero h = let e : x ≡ m = cc in ap (λ z. z ∷ []) e
+    next (x ∷ xs) (suc i) h = ap (λ ys. x ∷ ys) (next xs i h)
+
+pub member-there : (ms : List Member) (i : ℕ) (o : Option Member) → o ≡ slice_get ms i → i < length ms → is_some o ≡ true
+member-there ms i o is low = ap is_some is ∙ there ms i low
+  where
+    there : (ms : List Member) (i : ℕ) → i < length ms → is_some (slice_get ms i) ≡ true
+    there [] i low = absurd (omega (arith, low))
+    there (x ∷ xs) zero low = refl
+    there (x ∷ xs) (suc i) low = there xs i (omega (arith, low))
+
+-- a member is ready on a later plant, too
+pub still-ready : (s u : PlantState) (t : Table) (m : Member) → IsReady s t m → IsReady u t m
+still-ready s u t m ready = record { primary = ready.primary; secondary = ready.secondary; server = server-stays s u t m.a.0 ready.primary ∙ ready.server }
+
+-- what is replied
+
+pub reply-is : (work : phases.Work) (s : PlantState) (t : Table) (ms : List Member) (waits : Bool) (reply : phases.Reply) → waits ≡ waits_in work (sync_seen s t) ms → reply ≡ (if waits then phases.NotYet else phases.Done) → (r : Rest) (events : List Event) → reply ≡ reply_after work ms (seen s t r events).control
+reply-is phases.Seal s t ms waits reply is says r events = says ∙ ap (λ b. if b then phases.NotYet else phases.Done) is
+reply-is phases.Hold s t ms waits reply is says r events = says ∙ ap (λ b. if b then phases.NotYet else phases.Done) is
+reply-is phases.Release s t ms waits reply is says r events = says ∙ ap (λ b. if b then phases.NotYet else phases.Done) is
+reply-is phases.Flash s t ms waits reply is says r events = says ∙ ap (λ b. if b then phases.NotYet else phases.Done) is
+reply-is phases.Commit s t ms waits reply is says r events = says ∙ ap (λ b. if b then phases.NotYet else phases.Done) is
+reply-is phases.Revert s t ms waits reply is says r events = says ∙ ap (λ b. if b then phases.NotYet else phases.Done) is
+reply-is phases.Finish s t ms waits reply is says r events = says ∙ ap (λ b. if b then phases.NotYet else phases.Done) is
+reply-is phases.Report s t ms waits reply is says r events = says ∙ ap (λ b. if b then phases.NotYet else phases.Done) is

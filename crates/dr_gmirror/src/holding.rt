@@ -1,0 +1,86 @@
+//! The primary of a member is held, and the session's attempt begins with the first one.
+
+ghost use Rattle.std.specs.Prelude.{◌≡◌, ℕ, ◌≤◌, ◌+◌, ◌&&◌, not, true, false, length, nat_lt, None, OnOk, OnErr};
+ghost use Rattle.dr_model.specs.Carry.{equal};
+ghost use Rattle.dr_model.specs.Pairs.{records};
+ghost use Rattle.dr_model.specs.Sessions as model;
+ghost use Rattle.dr_model.specs.SessionEntries.{hold_entries};
+ghost use Rattle.dr_volume.specs.View.{Rest, volume_seen};
+ghost use Rattle.dr_flash.specs.Checks.{is_stop};
+ghost use Rattle.dr_flash.specs.Faults.{Counted};
+ghost use Rattle.dr_flash.specs.Fit.{RelationsFit};
+ghost use Rattle.dr_flash.specs.Here.{seen, refusal_of, armed_in, IsAtRest};
+ghost use Rattle.dr_flash.specs.Turns.{Leads, Fails};
+ghost use Rattle.dr_gmirror.specs.Orders.{with_sessions, last_in, to_begin, begun_in, MayBegin, IsReady};
+
+use dr_config::Config;
+use dr_coord::hold_and_swap;
+use dr_ids::{Member, Refusal, SessionId};
+use dr_model::Journal;
+use dr_plant::Plant;
+use dr_session::Sessions;
+use dr_volume::slot;
+
+/// Whether a hold for attempt n of the session is the first one: the session's last attempt is an older one.
+fn is_first(ss: &Sessions, s: SessionId, n: u32) -> bool
+    ensures { result ≡ nat_lt (last_in ss.now.sessions s.0) n }
+{
+    ss.last(s).unwrap_or(0) < n
+}
+
+/// Whether an attempt has begun with a hold of a volume: it was the first one, and the volume's other slot is chosen.
+fn has_begun(first: bool, before: bool, after: bool) -> bool
+    ensures { result ≡ (first && not (equal before after)) }
+{
+    first && before != after
+}
+
+/// An attempt of the session begins, where it does.
+fn begin_if(ss: &mut Sessions, s: SessionId, begins: bool)
+    requires free { begins ≡ true → model.begin_refusal (model.mirror_in (model.session_in ss.old.sessions s.0)) ≡ None }
+    ensures { ss.new.sessions ≡ begun_in begins ss.old.sessions s.0 }
+{
+    if begins {
+        let _ = ss.begin(s);
+    }
+}
+
+/// Holds the primary of a member for attempt n of a session, whose number is the session's last from the first hold on: where
+/// that hold counts as done, the session's attempt has begun.
+pub(crate) fn hold_member<P: Plant>(
+    p: &mut P,
+    c: &Config,
+    j: &mut Journal,
+    ss: &mut Sessions,
+    s: SessionId,
+    m: &Member,
+    n: u32,
+) -> Result<(), Refusal>
+    requires rest { IsAtRest (P.state p.old) c.now }
+    requires fit { RelationsFit (P.state p.old) c.now }
+    requires ready { IsReady (P.state p.old) c.now m.now }
+    requires running { (P.state p.old).on m.now.server.0 ≡ true }
+    requires begins { MayBegin ss.old.sessions s.0 n }
+    requires room { to_begin ss.old.sessions s.0 n + 2 ≤ j.old.spare }
+    ensures leads { OnOk result ((r : Rest) → Leads (seen (P.state p.old) c.now (with_sessions ss.old.sessions r) j.old.events) (hold_entries s.0 m.now.a.0 m.now.b.0 n) (seen (P.state p.new) c.now (with_sessions ss.new.sessions r) j.new.events)) }
+    ensures fails { OnErr result ((r : Rest) → Fails (armed_in (P.state p.old)) (seen (P.state p.old) c.now (with_sessions ss.old.sessions r) j.old.events) (hold_entries s.0 m.now.a.0 m.now.b.0 n) (seen (P.state p.new) c.now (with_sessions ss.new.sessions r) j.new.events) (refusal_of result)) }
+    ensures may_begin { MayBegin ss.new.sessions s.0 n }
+    ensures members { model.members_in (model.session_in ss.new.sessions s.0) ≡ model.members_in (model.session_in ss.old.sessions s.0) }
+    ensures begun { OnOk result (records n (volume_seen (P.state p.old) c.now m.now.a.0).fields ≡ false → nat_lt (last_in ss.old.sessions s.0) n ≡ true → ss.new.sessions ≡ begun_in true ss.old.sessions s.0) }
+    ensures kept { nat_lt (last_in ss.old.sessions s.0) n ≡ false → ss.new.sessions ≡ ss.old.sessions }
+    ensures rest { IsAtRest (P.state p.new) c.now }
+    ensures fit { RelationsFit (P.state p.new) c.now }
+    ensures unarmed { (q : ℕ) → (P.state p.old).read_fuse q ≡ None → (P.state p.new).read_fuse q ≡ None }
+    ensures faults { Counted (is_stop (refusal_of result)) (P.state p.old).faults (P.state p.new).faults }
+    ensures on { OnOk result ((P.state p.new).on ≡ (P.state p.old).on) }
+    ensures room { j.old.spare ≤ j.new.spare + (to_begin ss.old.sessions s.0 n + 2) }
+    ensures room_left { OnOk result (j.old.spare + to_begin ss.new.sessions s.0 n ≤ j.new.spare + (1 + to_begin ss.old.sessions s.0 n)) }
+    ensures spare { length j.new.events + j.new.spare ≡ length j.old.events + j.old.spare }
+{
+    let first = is_first(ss, s, n);
+    let before = slot(p, c, m.a);
+    let result = hold_and_swap(p, c, j, s, m, n, first);
+    let after = slot(p, c, m.a);
+    begin_if(ss, s, has_begun(first, before, after));
+    result
+}

@@ -1,0 +1,76 @@
+//! A server carries out what a session's master orders.
+
+ghost use Rattle.std.specs.Prelude.{◌≡◌, ℕ, ◌≤◌, ◌+◌, true, length, None, List, IfOk, OnOk, OnErr, if◌then◌else◌};
+ghost use Rattle.dr_model.specs.declared.event.Event.{Event};
+ghost use Rattle.dr_model.specs.Phases as phases;
+ghost use Rattle.dr_model.specs.ReadStops.{Ends};
+ghost use Rattle.dr_model.specs.Sessions as model;
+ghost use Rattle.dr_model.specs.SessionEntries.{order_entries, members_on, reply_after};
+ghost use Rattle.dr_master.specs.Seen.{work_of, reply_of};
+ghost use Rattle.dr_volume.specs.View.{Rest};
+ghost use Rattle.dr_flash.specs.Checks.{is_stop};
+ghost use Rattle.dr_flash.specs.Faults.{Counted};
+ghost use Rattle.dr_flash.specs.Fit.{RelationsFit};
+ghost use Rattle.dr_flash.specs.Here.{seen, refusal_of, armed_in, IsAtRest};
+ghost use Rattle.dr_flash.specs.Turns.{Leads, Fails};
+ghost use Rattle.dr_gmirror.specs.Orders.{with_sessions, MayOrder, AreReady};
+
+use crate::steps::order_on;
+use dr_config::Config;
+use dr_ids::{Refusal, ServerId, SessionId};
+use dr_master::{Order, Reply};
+use dr_model::Journal;
+use dr_plant::Plant;
+use dr_session::Sessions;
+
+/// What a server replies whose members are done, or one of them has to wait.
+fn reply_by(waits: bool) -> Reply
+    ensures { reply_of result ≡ (if waits then phases.NotYet else phases.Done) }
+{
+    if waits { Reply::NotYet } else { Reply::Done }
+}
+
+/// A server, which is on, carries out an order to hold, to release, to seal or to finish on its members of a session, in the
+/// order in which they came, and replies: a seal has to wait where a member's primary has tracks left to send, else all is
+/// done. Of other orders nothing is done. The first hold of an attempt begins it for the session, also where the server stops
+/// in that hold and it counts as done. Fails where a member refuses, or where a server stops in a move or goes off at a read;
+/// what was done by then stays. The journal needs room for an event for each of the session's members and two more.
+pub fn carry_out<P: Plant>(
+    p: &mut P,
+    c: &Config,
+    j: &mut Journal,
+    ss: &mut Sessions,
+    s: SessionId,
+    server: ServerId,
+    order: Order,
+) -> Result<Reply, Refusal>
+    requires rest { IsAtRest (P.state p.old) c.now }
+    requires fit { RelationsFit (P.state p.old) c.now }
+    requires members { AreReady (P.state p.old) c.now (model.members_in (model.session_in ss.old.sessions s.0)) }
+    requires running { (P.state p.old).on server.0 ≡ true }
+    requires begins { MayOrder (work_of order.kind) ss.old.sessions s.0 order.n }
+    requires room { length (model.members_in (model.session_in ss.old.sessions s.0)) + 2 ≤ j.old.spare }
+    ensures carried { (r : Rest) → Ends (armed_in (P.state p.old)) (seen (P.state p.new) c.now (with_sessions ss.new.sessions r) j.new.events) (refusal_of result) (seen (P.state p.old) c.now (with_sessions ss.old.sessions r) j.old.events)
+        (order_entries (work_of order.kind) s.0 order.n (members_on server.0 (model.members_in (model.session_in ss.old.sessions s.0)))) }
+    ensures leads { OnOk result ((r : Rest) → Leads (seen (P.state p.old) c.now (with_sessions ss.old.sessions r) j.old.events) (order_entries (work_of order.kind) s.0 order.n (members_on server.0 (model.members_in (model.session_in ss.old.sessions s.0))))
+        (seen (P.state p.new) c.now (with_sessions ss.new.sessions r) j.new.events)) }
+    ensures fails { OnErr result ((r : Rest) → Fails (armed_in (P.state p.old)) (seen (P.state p.old) c.now (with_sessions ss.old.sessions r) j.old.events) (order_entries (work_of order.kind) s.0 order.n (members_on server.0 (model.members_in (model.session_in ss.old.sessions s.0))))
+        (seen (P.state p.new) c.now (with_sessions ss.new.sessions r) j.new.events) (refusal_of result)) }
+    ensures reply { IfOk result (λ y. (r : Rest) (events : List Event) → reply_of y ≡ reply_after (work_of order.kind) (members_on server.0 (model.members_in (model.session_in ss.old.sessions s.0))) (seen (P.state p.new) c.now r events).control) }
+    ensures members { model.members_in (model.session_in ss.new.sessions s.0) ≡ model.members_in (model.session_in ss.old.sessions s.0) }
+    ensures rest { IsAtRest (P.state p.new) c.now }
+    ensures fit { RelationsFit (P.state p.new) c.now }
+    ensures unarmed { (q : ℕ) → (P.state p.old).read_fuse q ≡ None → (P.state p.new).read_fuse q ≡ None }
+    ensures faults { Counted (is_stop (refusal_of result)) (P.state p.old).faults (P.state p.new).faults }
+    ensures on { OnOk result ((P.state p.new).on ≡ (P.state p.old).on) }
+    ensures room { j.old.spare ≤ j.new.spare + (length (model.members_in (model.session_in ss.old.sessions s.0)) + 2) }
+    ensures spare { length j.new.events + j.new.spare ≡ length j.old.events + j.old.spare }
+{
+    let mut waits = false;
+    for at in 0..ss.member_count(s) {
+        let m = ss.member_at(s, at).unwrap();
+        let wait = order_on(p, c, j, ss, s, server, &m, order.kind, order.n)?;
+        waits = waits || wait;
+    }
+    Ok(reply_by(waits))
+}

@@ -1,0 +1,124 @@
+//! The secondary of a member is sealed.
+
+ghost use Rattle.std.specs.Prelude.{◌≡◌, ◌↔◌, ℕ, ◌≤◌, ◌+◌, true, false, [], ◌∷◌, length, Ok, None, Some, IsSome, IfOk, OnOk, OnErr, is_err};
+ghost use Rattle.dr_config.specs.Table.{place_of};
+ghost use Rattle.dr_model.specs.Pairs as pairs;
+ghost use Rattle.dr_model.specs.ReadStops.{Ends};
+ghost use Rattle.dr_model.specs.Relations.{is_bare};
+ghost use Rattle.dr_model.specs.SessionEntries.{seal_refusal, seal_on, seal_entries};
+ghost use Rattle.dr_model.specs.PairEntries.{refuse_if};
+ghost use Rattle.dr_volume.specs.Plain.{plain};
+ghost use Rattle.dr_volume.specs.Update.{OthersStay};
+ghost use Rattle.dr_volume.specs.View.{Rest, volume_seen};
+ghost use Rattle.dr_flash.specs.Checks.{is_stop};
+ghost use Rattle.dr_flash.specs.Faults.{Counted};
+ghost use Rattle.dr_flash.specs.Fit.{RelationsFit};
+ghost use Rattle.dr_flash.specs.Here.{seen, refusal_of, armed_in, IsAtRest};
+ghost use Rattle.dr_flash.specs.Turns.{Leads, Fails};
+ghost use Rattle.dr_gmirror.specs.Orders.{sync_seen};
+
+use dr_config::Config;
+use dr_coord::{Change, make_change, void_refusal};
+use dr_gcopy::send_refusal;
+use dr_ids::{Member, Refusal, SessionId};
+use dr_model::Journal;
+use dr_plant::Plant;
+use dr_volume::{Fields, peek_fields};
+
+/// Whether nothing is left to send to a primary's secondary.
+fn is_drained(f: &Fields) -> bool
+    ensures { result ≡ is_bare (plain f.now).out_of_sync }
+{
+    f.out_of_sync.len() == 0
+}
+
+/// Seals the secondary of a member whose primary has nothing to send, unless it is sealed so already.
+fn seal_drained<P: Plant>(
+    p: &mut P,
+    c: &Config,
+    j: &mut Journal,
+    s: SessionId,
+    m: &Member,
+    n: u32,
+) -> Result<(), Refusal>
+    requires rest { IsAtRest (P.state p.old) c.now }
+    requires fit { RelationsFit (P.state p.old) c.now }
+    requires primary { IsSome (place_of c.now m.now.a.0) }
+    requires secondary { IsSome (place_of c.now m.now.b.0) }
+    requires drained { is_bare (volume_seen (P.state p.old) c.now m.now.a.0).fields.out_of_sync ≡ true }
+    requires room { 2 ≤ j.old.spare }
+    ensures leads { OnOk result ((r : Rest) → Leads (seen (P.state p.old) c.now r j.old.events) (refuse_if (seal_refusal m.now.a.0 m.now.b.0) ∷ seal_on s.0 m.now.a.0 m.now.b.0 n ∷ []) (seen (P.state p.new) c.now r j.new.events)) }
+    ensures fails { OnErr result ((r : Rest) → Fails (armed_in (P.state p.old)) (seen (P.state p.old) c.now r j.old.events) (refuse_if (seal_refusal m.now.a.0 m.now.b.0) ∷ seal_on s.0 m.now.a.0 m.now.b.0 n ∷ []) (seen (P.state p.new) c.now r j.new.events) (refusal_of result)) }
+    ensures unchanged { is_stop (refusal_of result) ≡ false → OnErr result ((P.state p.new ≡ P.state p.old) × (j.new ≡ j.old)) }
+    ensures rest { IsAtRest (P.state p.new) c.now }
+    ensures fit { RelationsFit (P.state p.new) c.now }
+    ensures unarmed { (q : ℕ) → (P.state p.old).read_fuse q ≡ None → (P.state p.new).read_fuse q ≡ None }
+    ensures faults { Counted (is_stop (refusal_of result)) (P.state p.old).faults (P.state p.new).faults }
+    ensures kept { OnOk result ((q : ℕ) → sync_seen (P.state p.new) c.now q ≡ sync_seen (P.state p.old) c.now q) }
+    ensures others { OthersStay (P.state p.old) (P.state p.new) c.now m.now.b.0 }
+    ensures on { OnOk result ((P.state p.new).on ≡ (P.state p.old).on) }
+    ensures room { j.old.spare ≤ j.new.spare + 2 }
+    ensures room_left { OnOk result (j.old.spare ≤ j.new.spare + 1) }
+    ensures spare { length j.new.events + j.new.spare ≡ length j.old.events + j.old.spare }
+{
+    if let Some(why) = send_refusal(p, c, m.a, m.b) {
+        return Err(why);
+    }
+    if peek_fields(p, c, m.b).seal == n {
+        return Ok(());
+    }
+    let seal = Change::Seal {
+        primary: m.a,
+        session: s,
+        n,
+    };
+    make_change(p, c, j, m.b, seal)
+}
+
+/// Seals the secondary of a member for attempt n of a session, where the primary has nothing left to send to it, and tells
+/// whether it had nothing left: where tracks are still out of sync nothing happens, and the seal has to wait. The journal is
+/// told of it, unless the secondary is sealed so already. Refused where the primary doesn't record the attempt, or else where
+/// it has nothing left to send and there is no path from its logical subsystem to that of the secondary, or the secondary's
+/// server is off, or the link between their servers is down, or the secondary isn't the primary's; then nothing has changed.
+/// Fails too where the secondary's server stops in the move or goes off at a read. The journal needs room for two events.
+pub fn seal<P: Plant>(
+    p: &mut P,
+    c: &Config,
+    j: &mut Journal,
+    s: SessionId,
+    m: &Member,
+    n: u32,
+) -> Result<bool, Refusal>
+    requires rest { IsAtRest (P.state p.old) c.now }
+    requires fit { RelationsFit (P.state p.old) c.now }
+    requires primary { IsSome (place_of c.now m.now.a.0) }
+    requires secondary { IsSome (place_of c.now m.now.b.0) }
+    requires room { 2 ≤ j.old.spare }
+    ensures carried { (r : Rest) → Ends (armed_in (P.state p.old)) (seen (P.state p.new) c.now r j.new.events) (refusal_of result) (seen (P.state p.old) c.now r j.old.events) (seal_entries s.0 m.now.a.0 m.now.b.0 n) }
+    ensures leads { OnOk result ((r : Rest) → Leads (seen (P.state p.old) c.now r j.old.events) (seal_entries s.0 m.now.a.0 m.now.b.0 n) (seen (P.state p.new) c.now r j.new.events)) }
+    ensures fails { OnErr result ((r : Rest) → Fails (armed_in (P.state p.old)) (seen (P.state p.old) c.now r j.old.events) (seal_entries s.0 m.now.a.0 m.now.b.0 n) (seen (P.state p.new) c.now r j.new.events) (refusal_of result)) }
+    ensures waits { (result ≡ Ok false) ↔ ((pairs.records n (volume_seen (P.state p.old) c.now m.now.a.0).fields ≡ true) × (is_bare (volume_seen (P.state p.old) c.now m.now.a.0).fields.out_of_sync ≡ false)) }
+    ensures drained { IfOk result (λ done. done ≡ is_bare (volume_seen (P.state p.old) c.now m.now.a.0).fields.out_of_sync) }
+    ensures unchanged { is_stop (refusal_of result) ≡ false → OnErr result ((P.state p.new ≡ P.state p.old) × (j.new ≡ j.old)) }
+    ensures rest { IsAtRest (P.state p.new) c.now }
+    ensures fit { RelationsFit (P.state p.new) c.now }
+    ensures unarmed { (q : ℕ) → (P.state p.old).read_fuse q ≡ None → (P.state p.new).read_fuse q ≡ None }
+    ensures faults { Counted (is_stop (refusal_of result)) (P.state p.old).faults (P.state p.new).faults }
+    ensures kept { OnOk result ((q : ℕ) → sync_seen (P.state p.new) c.now q ≡ sync_seen (P.state p.old) c.now q) }
+    ensures others { OthersStay (P.state p.old) (P.state p.new) c.now m.now.b.0 }
+    ensures on { OnOk result ((P.state p.new).on ≡ (P.state p.old).on) }
+    ensures room { j.old.spare ≤ j.new.spare + 2 }
+    ensures room_left { OnOk result (j.old.spare ≤ j.new.spare + 1) }
+    ensures spare { length j.new.events + j.new.spare ≡ length j.old.events + j.old.spare }
+{
+    if let Some(why) = void_refusal(p, c, m.a, n) {
+        return Err(why);
+    }
+    if !is_drained(&peek_fields(p, c, m.a)) {
+        return Ok(false);
+    }
+    match seal_drained(p, c, j, s, m, n) {
+        Ok(()) => Ok(true),
+        Err(why) => Err(why),
+    }
+}

@@ -1,0 +1,116 @@
+//! An order is carried out on a member.
+
+ghost use Rattle.std.specs.Prelude.{◌≡◌, ℕ, ◌≤◌, ◌+◌, ◌&&◌, true, [], ◌∷◌, length, None, IfOk, OnOk, OnErr};
+ghost use Rattle.dr_model.specs.Sessions as model;
+ghost use Rattle.dr_model.specs.SessionEntries.{member_entries, members_on, order_entries};
+ghost use Rattle.dr_master.specs.Seen.{work_of};
+ghost use Rattle.dr_volume.specs.View.{Rest};
+ghost use Rattle.dr_flash.specs.Checks.{is_stop};
+ghost use Rattle.dr_flash.specs.Faults.{Counted};
+ghost use Rattle.dr_flash.specs.Fit.{RelationsFit};
+ghost use Rattle.dr_flash.specs.Here.{seen, refusal_of, armed_in, IsAtRest};
+ghost use Rattle.dr_flash.specs.Turns.{Leads, Fails};
+ghost use Rattle.dr_gmirror.specs.Orders.{with_sessions, to_begin, MayOrder, IsReady, is_seal, sync_seen, must_wait, waits_in};
+
+use crate::holding::hold_member;
+use crate::sealing::seal;
+use dr_config::Config;
+use dr_coord::{finish, release};
+use dr_ids::{Member, Refusal, ServerId, SessionId};
+use dr_master::OrderKind;
+use dr_model::Journal;
+use dr_plant::Plant;
+use dr_session::Sessions;
+
+/// Carries an order to hold, to release, to seal or to finish out on a member, and tells whether it has to wait. Of other
+/// orders nothing is done.
+fn order_member<P: Plant>(
+    p: &mut P,
+    c: &Config,
+    j: &mut Journal,
+    ss: &mut Sessions,
+    s: SessionId,
+    m: &Member,
+    kind: OrderKind,
+    n: u32,
+) -> Result<bool, Refusal>
+    requires rest { IsAtRest (P.state p.old) c.now }
+    requires fit { RelationsFit (P.state p.old) c.now }
+    requires ready { IsReady (P.state p.old) c.now m.now }
+    requires running { (P.state p.old).on m.now.server.0 ≡ true }
+    requires begins { MayOrder (work_of kind) ss.old.sessions s.0 n }
+    requires room { to_begin ss.old.sessions s.0 n + 2 ≤ j.old.spare }
+    ensures leads { OnOk result ((r : Rest) → Leads (seen (P.state p.old) c.now (with_sessions ss.old.sessions r) j.old.events) (member_entries (work_of kind) s.0 n m.now) (seen (P.state p.new) c.now (with_sessions ss.new.sessions r) j.new.events)) }
+    ensures fails { OnErr result ((r : Rest) → Fails (armed_in (P.state p.old)) (seen (P.state p.old) c.now (with_sessions ss.old.sessions r) j.old.events) (member_entries (work_of kind) s.0 n m.now) (seen (P.state p.new) c.now (with_sessions ss.new.sessions r) j.new.events) (refusal_of result)) }
+    ensures waits { IfOk result (λ waits. waits ≡ (is_seal (work_of kind) && must_wait (sync_seen (P.state p.new) c.now) m.now)) }
+    ensures kept { OnOk result (is_seal (work_of kind) ≡ true → (q : ℕ) → sync_seen (P.state p.new) c.now q ≡ sync_seen (P.state p.old) c.now q) }
+    ensures may { MayOrder (work_of kind) ss.new.sessions s.0 n }
+    ensures members { model.members_in (model.session_in ss.new.sessions s.0) ≡ model.members_in (model.session_in ss.old.sessions s.0) }
+    ensures rest { IsAtRest (P.state p.new) c.now }
+    ensures fit { RelationsFit (P.state p.new) c.now }
+    ensures unarmed { (q : ℕ) → (P.state p.old).read_fuse q ≡ None → (P.state p.new).read_fuse q ≡ None }
+    ensures faults { Counted (is_stop (refusal_of result)) (P.state p.old).faults (P.state p.new).faults }
+    ensures on { OnOk result ((P.state p.new).on ≡ (P.state p.old).on) }
+    ensures room { j.old.spare ≤ j.new.spare + (to_begin ss.old.sessions s.0 n + 2) }
+    ensures room_left { OnOk result (j.old.spare + to_begin ss.new.sessions s.0 n ≤ j.new.spare + (1 + to_begin ss.old.sessions s.0 n)) }
+    ensures spare { length j.new.events + j.new.spare ≡ length j.old.events + j.old.spare }
+{
+    match kind {
+        OrderKind::Hold => match hold_member(p, c, j, ss, s, m, n) {
+            Ok(()) => Ok(false),
+            Err(why) => Err(why),
+        },
+        OrderKind::Release => match release(p, c, j, m, n) {
+            Ok(()) => Ok(false),
+            Err(why) => Err(why),
+        },
+        OrderKind::Seal => match seal(p, c, j, s, m, n) {
+            Ok(done) => Ok(!done),
+            Err(why) => Err(why),
+        },
+        OrderKind::Finish => match finish(p, c, j, m, n) {
+            Ok(()) => Ok(false),
+            Err(why) => Err(why),
+        },
+        OrderKind::Flash | OrderKind::Commit | OrderKind::Revert | OrderKind::Report => Ok(false),
+    }
+}
+
+/// The same, where the member is on that server.
+pub(crate) fn order_on<P: Plant>(
+    p: &mut P,
+    c: &Config,
+    j: &mut Journal,
+    ss: &mut Sessions,
+    s: SessionId,
+    server: ServerId,
+    m: &Member,
+    kind: OrderKind,
+    n: u32,
+) -> Result<bool, Refusal>
+    requires rest { IsAtRest (P.state p.old) c.now }
+    requires fit { RelationsFit (P.state p.old) c.now }
+    requires ready { IsReady (P.state p.old) c.now m.now }
+    requires running { (P.state p.old).on server.0 ≡ true }
+    requires begins { MayOrder (work_of kind) ss.old.sessions s.0 n }
+    requires room { to_begin ss.old.sessions s.0 n + 2 ≤ j.old.spare }
+    ensures leads { OnOk result ((r : Rest) → Leads (seen (P.state p.old) c.now (with_sessions ss.old.sessions r) j.old.events) (order_entries (work_of kind) s.0 n (members_on server.0 (m.now ∷ []))) (seen (P.state p.new) c.now (with_sessions ss.new.sessions r) j.new.events)) }
+    ensures fails { OnErr result ((r : Rest) → Fails (armed_in (P.state p.old)) (seen (P.state p.old) c.now (with_sessions ss.old.sessions r) j.old.events) (order_entries (work_of kind) s.0 n (members_on server.0 (m.now ∷ []))) (seen (P.state p.new) c.now (with_sessions ss.new.sessions r) j.new.events) (refusal_of result)) }
+    ensures waits { IfOk result (λ waits. waits ≡ waits_in (work_of kind) (sync_seen (P.state p.new) c.now) (members_on server.0 (m.now ∷ []))) }
+    ensures kept { OnOk result (is_seal (work_of kind) ≡ true → (q : ℕ) → sync_seen (P.state p.new) c.now q ≡ sync_seen (P.state p.old) c.now q) }
+    ensures may { MayOrder (work_of kind) ss.new.sessions s.0 n }
+    ensures members { model.members_in (model.session_in ss.new.sessions s.0) ≡ model.members_in (model.session_in ss.old.sessions s.0) }
+    ensures rest { IsAtRest (P.state p.new) c.now }
+    ensures fit { RelationsFit (P.state p.new) c.now }
+    ensures unarmed { (q : ℕ) → (P.state p.old).read_fuse q ≡ None → (P.state p.new).read_fuse q ≡ None }
+    ensures faults { Counted (is_stop (refusal_of result)) (P.state p.old).faults (P.state p.new).faults }
+    ensures on { OnOk result ((P.state p.new).on ≡ (P.state p.old).on) }
+    ensures room { j.old.spare ≤ j.new.spare + (to_begin ss.old.sessions s.0 n + 2) }
+    ensures room_left { OnOk result (j.old.spare + to_begin ss.new.sessions s.0 n ≤ j.new.spare + (1 + to_begin ss.old.sessions s.0 n)) }
+    ensures spare { length j.new.events + j.new.spare ≡ length j.old.events + j.old.spare }
+{
+    if m.server.0 != server.0 {
+        return Ok(false);
+    }
+    order_member(p, c, j, ss, s, m, kind, n)
+}
