@@ -1,7 +1,6 @@
 -- The plan of an exchange: a server carries out an order over its members, one after another.
-use Rattle.std.proofs.Common.{ℕ, ◌≡◌, ◌≢◌, ◌<◌, ◌+◌, ◌⊎◌, inl, inr, refl, ap, sym, ◌∙◌, subst, Bool, true, false, cond, not, ◌&&◌, nat_eq, nat_lt, List, [], ◌∷◌, ◌++◌, Option, Some, None}
+use Rattle.std.proofs.Common.{ℕ, ◌≡◌, ◌⊎◌, inl, inr, refl, ap, sym, ◌∙◌, subst, Bool, true, false, cond, not, ◌&&◌, nat_eq, nat_lt, List, [], ◌∷◌, ◌++◌, Option, Some, None}
 use Rattle.std.specs.List.{flat_map}
-use Rattle.std.specs.FinSet.{contains}
 use Rattle.std.proofs.lemmas.Bool.{and_parts, eqb-true, ltb-true}
 use Rattle.dr_ids.specs.declared.names.Member.{Member}
 use Rattle.dr_ids.specs.declared.refusal.PhaseName.{PhaseName}
@@ -11,11 +10,10 @@ use Rattle.dr_ids.specs.declared.refusal.Refusal.TheVariants.{Void, Stale}
 use Rattle.dr_model.specs.declared.state.Part.TheVariants.{Global}
 use Rattle.dr_model.specs.Refusals.{server_off}
 use Rattle.dr_model.specs.Layout.{Fields, is_part}
-use Rattle.dr_model.specs.Relations.{is_bare}
 use Rattle.dr_model.specs.Phases as phases
 use Rattle.dr_model.specs.Sessions.{Session, Mirror, session_in}
 use Rattle.dr_model.specs.Control.{Control, Fuse, World}
-use Rattle.dr_model.specs.Pairs.{is_kind, is_pending, is_primary_of, records, secondary_of}
+use Rattle.dr_model.specs.Pairs.{is_kind, is_primary_of, records}
 use Rattle.dr_model.specs.Moves.{Move, Hold, Free, Seal, Finish}
 use Rattle.dr_model.specs.Carry.{Make, OpenAttempt, Pass, Do, Entry}
 use Rattle.dr_model.specs.Entries.{fields_at, pair_state}
@@ -204,12 +202,13 @@ module _ (w : World) (s : Sound w) (i server : ℕ) (x : Session) (r : Mirror) (
         silent = λ q has ends. silent-passes v.control x server n m rest st.stage.sound.groups (listed-in v (m ∷ rest) st.stage) (st.stage.left m (inl refl)).0 (last-is q has ends) past (st.silent q has ends);
       })
       by false past =
-          let on = runs-in v m rest st.stage in
-          (record { runs = on; allowed = tt; fits = tt; group = tt; ready = idle v m.a.0 st.stage.sound.queue on },
-          λ f y. go _ (record {
-            stage = moved v m rest (Finish m.a.0 n) f st.stage y;
-            silent = λ q has ends. silent-finishes v.control (done v (Finish m.a.0 n) f).control x server n m rest None refl (record { volumes = refl; volume = refl }) (st.silent q has ends);
-          }))
+          let on = runs-in v m rest st.stage in (
+            record { runs = on; allowed = tt; fits = tt; group = tt; ready = idle v m.a.0 st.stage.sound.queue on },
+            λ f y. go _ (record {
+              stage = moved v m rest (Finish m.a.0 n) f st.stage y;
+              silent = λ q has ends. silent-finishes v.control (done v (Finish m.a.0 n) f).control x server n m rest None refl (record { volumes = refl; volume = refl }) (st.silent q has ends);
+            }),
+          )
 
   finished : (v : World) → Finishes v [] → Answers v
   finished v st = record { sound = st.stage.sound; session = x; found = found-in v [] st.stage; silent = λ q has ends. silent-ends v.control x server (st.silent q has ends) }

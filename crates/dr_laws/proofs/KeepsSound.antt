@@ -28,7 +28,6 @@ use Rattle.dr_laws.proofs.KeepsRecorded.{kept-recorded}
 use Rattle.dr_laws.proofs.KeepsRecorders.{kept-recorders, kept-final}
 use Rattle.dr_laws.proofs.KeepsPairs.{kept-pairs}
 use Rattle.dr_laws.proofs.KeepsGroups.{groups-after, groups-begun, housed-after}
-use Rattle.dr_groups.specs.Frames.{Framed}
 use Rattle.dr_groups.proofs.Volumes.{groups-same}
 use Rattle.dr_laws.proofs.KeepsTargets.{few-after}
 use Rattle.dr_laws.proofs.KeepsQueue.{AllQuiet, queue-done, queue-stop, queue-same, goes-off, all-filter, apart-filter, lone-filter}
