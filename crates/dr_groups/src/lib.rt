@@ -1,6 +1,6 @@
 //! Laws of what the sessions and the records of volumes say together: no number is that of two sessions, each session is sound
 //! and its members' volumes stand, a volume has one place in one member, and only primaries of members record, the last
-//! attempt of their session. Its functions do nothing: each names a law by its contract.
+//! attempt of their session, with the member's secondary as their partner. Its functions do nothing: each names a law by its contract.
 #![tactic(auto)]
 
 ghost use Rattle.std.specs.Prelude.{◌≡◌, ◌≢◌, ◌≤◌, ◌⊎◌, ◌+◌, ◌++◌, ◌∷◌, ◌==◌, [], map, length, ℕ, Bool, true, false, nat_lt, Option, None, Some, List};

@@ -64,7 +64,7 @@ pub record IsRecorder (ss : List Session) (v attempt partner : ℕ) : Type 0 whe
   pub to : partner ≡ member.b.0
 
 -- No number is that of two sessions. Only the primaries of members record, and the last attempt of their session, while it goes
--- on and their partners are the members' secondaries.
+-- on; and the partner of one that records is the secondary of its member.
 pub record Groups (k : Control) : Type 0 where
   pub once : Once (map (λ (x : Session). x.number) k.sessions)
   pub each : (x : Session) → In x k.sessions → SessionFits k x
@@ -82,7 +82,7 @@ pub record IsMember (k : Control) (v s : ℕ) : Type 0 where
   pub here : In member session.members
   pub is : member.a.0 ≡ v
 
--- a hold is one of the session's last attempt, while its master coordinates and its secondary is v's partner
+-- a hold is one of the session's last attempt, while its master coordinates; v's partner is the member's secondary
 pub record HoldsMember (k : Control) (v s n : ℕ) : Type 0 where
   pub place : IsMember k v s
   pub coordinates : place.mirror.master.phase ≡ phase.Coordinating
