@@ -1,5 +1,5 @@
 -- The plans that make a volume a member of a session, and end that.
-use Rattle.std.proofs.Common.{ℕ, ◌≡◌, ◌≢◌, ◌≤◌, inl, inr, refl, ap, sym, ◌∙◌, subst, Bool, true, false, cond, not, ◌&&◌, ◌||◌, nat_lt, List, [], ◌∷◌, filter, Option, Some, None, arith}
+use Rattle.std.proofs.Common.{ℕ, ◌≡◌, ◌≢◌, inl, refl, ap, sym, ◌∙◌, subst, Bool, true, false, cond, not, ◌||◌, nat_lt, List, [], ◌∷◌, Option, Some, None, arith}
 use Rattle.std.specs.Prelude.{◌==◌}
 use Rattle.std.specs.List.{find}
 use Rattle.std.proofs.lemmas.Bool.{and_parts, ltb-true}
@@ -16,9 +16,8 @@ use Rattle.dr_model.specs.Carry.{Make, Pass, Do}
 use Rattle.dr_model.specs.Entries.{fields_at, is_running, copies_from, targets_of, pair_state}
 use Rattle.dr_model.specs.PairEntries.{reach_refusal, send_refusal}
 use Rattle.dr_model.specs.SessionEntries.{first_number, raise_attempt_on, raise_floor_on}
-use Rattle.dr_model.specs.SessionPlans.{off_refusal, member_with, member_target, mirrored_targets, is_mirrored_target, settled_target, the_only, copy_refusal}
-use Rattle.dr_model.specs.Groups.{In, MemberStands, PlacesDiffer}
-use Rattle.dr_model.specs.Table.{table}
+use Rattle.dr_model.specs.SessionPlans.{off_refusal, member_with, mirrored_targets, is_mirrored_target, settled_target, the_only}
+use Rattle.dr_model.specs.Groups.{In, MemberStands}
 use Rattle.dr_model.specs.Laws.{FlashFits, PartnerFits, Sound}
 use Rattle.dr_model.specs.Allowed.{Runs}
 use Rattle.dr_groups.specs.Frames.{Framed}
@@ -172,7 +171,7 @@ module _ (w : World) (s : Sound w) where
     joined v kept =
         let there : MemberStands v.control m = stands-grows w.control v.control m (grows-framed w.control v.control kept.frame) stands in
         sound-sessions v _ (groups-added v.control i n x m kept.sound.groups (ap (λ ss. session_in ss i) kept.frame.sessions ∙ joins.found) (taken-quiet w.control x a joins.free) (housed-low v.control m kept.sound.housed there) there
-            (places-differ v.control m there other) (ap (λ ss. find (has_place_of m) ss) kept.frame.sessions ∙ none)) kept.sound
+        (places-differ v.control m there other) (ap (λ ss. find (has_place_of m) ss) kept.frame.sessions ∙ none)) kept.sound
 
     pub orders-added : Orders w (added w.control i x m)
     orders-added = record {

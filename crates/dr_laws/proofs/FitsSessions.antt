@@ -1,14 +1,12 @@
 -- The plans of lines on sessions.
-use Rattle.std.proofs.Common.{ℕ, ◌≡◌, refl, ap, sym, subst, Bool, List, [], ◌∷◌, ◌++◌, Option, Some, None}
-use Rattle.std.proofs.lemmas.List.{append-nil}
+use Rattle.std.proofs.Common.{ℕ, ◌≡◌, Bool, List, Some, None}
 use Rattle.dr_model.specs.declared.said.Said.{Said}
 use Rattle.dr_model.specs.Phases as phases
-use Rattle.dr_model.specs.Sessions.{Session, Mirror, session_in, joined, left, changed, mirrored_by, paused, unmirrored, with_master, busy, join_refusal, leave_refusal, make_refusal, drop_refusal, abort_refusal}
-use Rattle.dr_model.specs.Histories.{histories}
+use Rattle.dr_model.specs.Sessions.{Session, session_in, joined, left, changed, mirrored_by, paused, unmirrored, with_master, join_refusal, leave_refusal, make_refusal, drop_refusal, abort_refusal}
 use Rattle.dr_model.specs.Control.{Control, World}
 use Rattle.dr_model.specs.Groups.{Groups}
 use Rattle.dr_model.specs.Plans.{Plan}
-use Rattle.dr_model.specs.SessionPlans.{with_sessions, table_plan, off_refusal, member_with}
+use Rattle.dr_model.specs.SessionPlans.{with_sessions, table_plan}
 use Rattle.dr_model.specs.Runs.{begun, masters_lost}
 use Rattle.dr_model.specs.Laws.{Sound}
 use Rattle.dr_groups.proofs.PlanTables.{no-maker}

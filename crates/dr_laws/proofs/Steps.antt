@@ -142,7 +142,7 @@ module _ (w : World) (s : Sound w) (line : ℕ) where
   case-holds _ (Aborts i x found free) = holds-aborted w s i x found free
   case-holds _ (AddsMember i a c x joins) = holds-orders w _ (orders-added w s i a c x joins)
   case-holds _ (Expels i a x m found is idle on) = holds-orders w _ (orders-expelled w s i a x m found is idle on)
-  case-holds _ (Exchanges i server reply x r o allowed) = holds-orders w _ (orders-ordered w s i server reply x r o allowed)
+  case-holds _ (Exchanges i server reply x r o allowed) = holds-orders w _ (orders-ordered w s i server x r o allowed reply)
 
   pub step-holds : (asked : Result Step ℕ) → StepHolds w (plan w.control w.events line asked)
   step-holds asked = case-holds _ (plan-case w.control w.events line asked)
