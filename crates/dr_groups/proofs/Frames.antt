@@ -36,6 +36,7 @@ silent-quieter k j v quieter silent = by (cases_Bool (fields_at j v).recording)
 pub fits-grows : (k j : Control) (x : Session) → Grows k j → Quieter k j → SessionFits k x → SessionFits j x
 fits-grows k j x grows quieter fits = record {
   sound = fits.sound;
+  once = fits.once;
   stands = λ m here. stands-grows k j m grows (fits.stands m here);
   finished = λ r has ends m here out. silent-quieter k j m.a.0 quieter (fits.finished r has ends m here out);
 }

@@ -18,42 +18,41 @@ use Rattle.dr_model.specs.Limits.{most_servers}
 use Rattle.dr_model.specs.Control.{Control, Volume, new_volume, no_control, is_volume}
 use Rattle.dr_model.specs.Plans.{Plan, server_named, server_refusal, server_plan, server_done, volume_plan, volume_done, volume_refusal, unless, on_named, name_bytes}
 use Rattle.dr_model.specs.declared.step.Name.{Name}
-use Rattle.dr_model.specs.Groups.{MemberStands}
-use Rattle.dr_groups.specs.Frames.{Housed}
+use Rattle.dr_model.specs.Groups.{MemberStands, Housed}
 use Rattle.dr_groups.proofs.AtLemmas.{Told, at_cases}
 
 pub housed-none : Housed no_control
-housed-none = record { few = omega arith; house = λ v d. absurd cc }
+housed-none = (omega arith, λ v d. absurd cc)
 
 -- a member whose volumes stand is on one of the servers 0 to 7
 pub housed-low : (k : Control) (m : Member) → Housed k → MemberStands k m → nat_lt m.server.0 8 ≡ true
 housed-low k m housed stands =
-    let here : (k.volume m.a.0).server < length k.servers = housed.house m.a.0 stands.a in
-    let few : length k.servers ≤ 8 = housed.few in
+    let here : (k.volume m.a.0).server < length k.servers = housed.1 m.a.0 stands.a in
+    let few : length k.servers ≤ 8 = housed.0 in
     let is : m.server.0 ≡ (k.volume m.a.0).server = stands.server in
     lt-ltb m.server.0 8 (omega arith)
 
 -- servers and volumes stay
 pub housed-stays : (j k : Control) → k.servers ≡ j.servers → k.volumes ≡ j.volumes → ((v : ℕ) → (k.volume v).server ≡ (j.volume v).server) → Housed j → Housed k
-housed-stays j k servers volumes server housed = record {
-  few = subst (λ (xs : List (List ℕ)). length xs ≤ 8) (sym servers) housed.few;
-  house = λ v d.
-      let was : (j.volume v).server < length j.servers = housed.house v (subst (λ vs. list_any (nat_eq v) vs ≡ true) volumes d) in
-      subst (λ (xs : List (List ℕ)). (k.volume v).server < length xs) (sym servers) (subst (λ n. n < length j.servers) (sym (server v)) was);
-}
+housed-stays j k servers volumes server housed = (
+  subst (λ (xs : List (List ℕ)). length xs ≤ 8) (sym servers) housed.0,
+  λ v d.
+      let was : (j.volume v).server < length j.servers = housed.1 v (subst (λ vs. list_any (nat_eq v) vs ≡ true) volumes d) in
+      subst (λ (xs : List (List ℕ)). (k.volume v).server < length xs) (sym servers) (subst (λ n. n < length j.servers) (sym (server v)) was),
+)
 
 -- one server more
 pub housed-server : (k : Control) (name : List ℕ) → length k.servers < 8 → Housed k → Housed (record k { servers = k.servers ++ name ∷ [] })
 housed-server k name room housed =
     let e : length (k.servers ++ name ∷ []) ≡ length k.servers + 1 = length-append k.servers (name ∷ []) in
-    record { few = omega arith; house = λ v d. let was : (k.volume v).server < length k.servers = housed.house v d in omega arith }
+    (omega arith, λ v d. let was : (k.volume v).server < length k.servers = housed.1 v d in omega arith)
 
 -- one volume more, on one of the servers
 pub housed-volume : (k : Control) (v server tracks : ℕ) → server < length k.servers → Housed k → Housed (record k { volumes = k.volumes ++ v ∷ []; volume = at k.volume v (new_volume server tracks) })
-housed-volume k v server tracks here housed = record {
-  few = housed.few;
-  house = λ u d. at_cases (λ u (y : Volume). list_any (nat_eq u) (k.volumes ++ v ∷ []) ≡ true → y.server < length k.servers) k.volume v (new_volume server tracks) (λ d. here) (λ u ne d. housed.house u (was u ne d)) u d;
-}
+housed-volume k v server tracks here housed = (
+  housed.0,
+  λ u d. at_cases (λ u (y : Volume). list_any (nat_eq u) (k.volumes ++ v ∷ []) ≡ true → y.server < length k.servers) k.volume v (new_volume server tracks) (λ d. here) (λ u ne d. housed.1 u (was u ne d)) u d,
+)
   where
     first : (b c : Bool) → c ≡ false → (b || (c || false)) ≡ true → b ≡ true
     first true c e h = refl

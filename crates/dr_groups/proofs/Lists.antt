@@ -1,5 +1,5 @@
 -- What is in a list, what is found in one, and numbers that come once.
-use Rattle.std.proofs.Common.{ℕ, ◌≡◌, ◌≢◌, ◌⊎◌, inl, inr, refl, ap, sym, ◌∙◌, subst, Bool, true, false, cond, ◌&&◌, ◌||◌, nat_eq, List, [], ◌∷◌, ◌++◌, map, filter, Option, None, Some}
+use Rattle.std.proofs.Common.{ℕ, suc, ◌≡◌, ◌≢◌, ◌⊎◌, ◌≤◌, length, arith, inl, inr, refl, ap, sym, ◌∙◌, subst, Bool, true, false, cond, ◌&&◌, ◌||◌, nat_eq, List, [], ◌∷◌, ◌++◌, map, filter, Option, None, Some}
 use Rattle.std.specs.List.{find, list_any, list_all}
 use Rattle.std.proofs.lemmas.Bool.{and_parts, cases_Bool, eqb-true, eq-eqb}
 use Rattle.dr_model.specs.Tables.{Once}
@@ -132,7 +132,7 @@ here-or-later : (n m : ℕ) (ns : List ℕ) → (nat_eq n m ≡ true) ⊎ (nat_e
 here-or-later n m ns (inl y) k further = inl (eqb-true n m y)
 here-or-later n m ns (inr o) k further = inr (further (sym (ap (λ b. b || list_any (nat_eq n) ns) o) ∙ k))
 
-is-met : (n : ℕ) (ns : List ℕ) → list_any (nat_eq n) ns ≡ true → In n ns
+pub is-met : (n : ℕ) (ns : List ℕ) → list_any (nat_eq n) ns ≡ true → In n ns
 is-met n [] h = absurd cc
 is-met n (m ∷ ns) h = here-or-later n m ns (cases_Bool (nat_eq n m)) h (is-met n ns)
 
@@ -152,3 +152,49 @@ once-more f (z ∷ xs) y once apart = (by (cases_Bool (list_any (nat_eq (f z)) (
     by : (list_any (nat_eq (f z)) (map f (xs ++ y ∷ [])) ≡ true) ⊎ (list_any (nat_eq (f z)) (map f (xs ++ y ∷ [])) ≡ false) → list_any (nat_eq (f z)) (map f (xs ++ y ∷ [])) ≡ false
     by (inr e) = e
     by (inl e) = absurd (either (from-map f (xs ++ y ∷ []) (f z) (is-met (f z) (map f (xs ++ y ∷ [])) e)))
+
+-- fewer of them
+any-fewer : {X : Type 0} (f : X → ℕ) (p : X → Bool) (n : ℕ) (xs : List X) → list_any (nat_eq n) (map f xs) ≡ false → list_any (nat_eq n) (map f (filter p xs)) ≡ false
+any-fewer f p n xs none = by (cases_Bool (list_any (nat_eq n) (map f (filter p xs))))
+  where
+    by : (list_any (nat_eq n) (map f (filter p xs)) ≡ true) ⊎ (list_any (nat_eq n) (map f (filter p xs)) ≡ false) → list_any (nat_eq n) (map f (filter p xs)) ≡ false
+    by (inr e) = e
+    by (inl e) =
+        let r = from-map f (filter p xs) n (is-met n (map f (filter p xs)) e) in
+        false_true none (any-some (nat_eq n) (map f xs) (f r.from) (to-map f xs r.from (from-filter p xs r.from r.here).0) (eq-eqb n (f r.from) r.is))
+
+pub once-filter : {X : Type 0} (f : X → ℕ) (p : X → Bool) (xs : List X) → Once (map f xs) → Once (map f (filter p xs))
+once-filter f p [] once = tt
+once-filter f p (z ∷ xs) once = by (p z) (once-filter f p xs once.1)
+  where
+    by : (b : Bool) → Once (map f (filter p xs)) → Once (map f (cond b (z ∷ filter p xs) (filter p xs)))
+    by true again = (any-fewer f p (f z) xs once.0, again)
+    by false again = again
+
+-- numbers that come once, each of which is one of a list, are no more than it has
+without-one : (x : ℕ) (ys : List ℕ) → In x ys → List ℕ
+without-one x [] h = absurd h
+without-one x (y ∷ ys) (inl is) = ys
+without-one x (y ∷ ys) (inr more) = y ∷ without-one x ys more
+
+without-length : (x : ℕ) (ys : List ℕ) (h : In x ys) → length ys ≡ suc (length (without-one x ys h))
+unfolding without-one
+without-length x [] h = absurd h
+without-length x (y ∷ ys) (inl is) = refl
+without-length x (y ∷ ys) (inr more) = ap suc (without-length x ys more)
+
+without-keeps : (x z : ℕ) (ys : List ℕ) (h : In x ys) → z ≢ x → In z ys → In z (without-one x ys h)
+unfolding without-one
+without-keeps x z [] h ne i = absurd i
+without-keeps x z (y ∷ ys) (inl is) ne (inl also) = absurd (ne (also ∙ sym is))
+without-keeps x z (y ∷ ys) (inl is) ne (inr i) = i
+without-keeps x z (y ∷ ys) (inr more) ne (inl also) = inl also
+without-keeps x z (y ∷ ys) (inr more) ne (inr i) = inr (without-keeps x z ys more ne i)
+
+pub once-few : (xs ys : List ℕ) → Once xs → ((x : ℕ) → In x xs → In x ys) → length xs ≤ length ys
+once-few [] ys once each = omega arith
+once-few (x ∷ xs) ys once each =
+    let here : In x ys = each x (inl refl) in
+    let rest : length xs ≤ length (without-one x ys here) = once-few xs (without-one x ys here) once.1 (λ z i. without-keeps x z ys here (λ e. false_true once.0 (any-some (nat_eq x) xs z i (eq-eqb x z (sym e)))) (each z (inr i))) in
+    let e : length ys ≡ suc (length (without-one x ys here)) = without-length x ys here in
+    omega arith

@@ -34,6 +34,7 @@ turn-mirror k x g fits turns = record {
       servers = λ r h. let p = mapped g x.mirror r h in ap (λ (q : Mirror). q.master.servers) p.is ∙ ((turns p.from p.was).servers ∙ fits.sound.servers p.from p.was);
       number = λ r h. let p = mapped g x.mirror r h in ap (λ (q : Mirror). q.master.number) p.is ∙ ((turns p.from p.was).number ∙ fits.sound.number p.from p.was);
     };
+    once = fits.once;
     stands = fits.stands;
     finished = λ r h ends m here.
         let p = mapped g x.mirror r h in

@@ -1,6 +1,7 @@
 -- The laws stay where a member is added or removed.
-use Rattle.std.proofs.Common.{ℕ, ◌≡◌, ◌≢◌, ◌⊎◌, inl, inr, refl, ap, sym, ◌∙◌, subst, Bool, true, false, not, ◌||◌, nat_lt, List, [], ◌∷◌, ◌++◌, filter, Option, None, Some, option_map, ◌==◌}
+use Rattle.std.proofs.Common.{ℕ, ◌≡◌, ◌≢◌, ◌≤◌, ◌⊎◌, inl, inr, refl, ap, sym, ◌∙◌, subst, Bool, true, false, not, ◌||◌, nat_lt, List, [], ◌∷◌, ◌++◌, length, filter, Option, None, Some, option_map, ◌==◌}
 use Rattle.std.specs.List.{find}
+use Rattle.std.proofs.lemmas.List.{length-map}
 use Rattle.std.proofs.lemmas.Bool.{eq-eqb}
 use Rattle.std.proofs.lemmas.Bool.Decides.{eqb_tells}
 use Rattle.dr_ids.specs.declared.names.Member.{Member}
@@ -14,17 +15,17 @@ use Rattle.dr_model.specs.Entries.{fields_at}
 use Rattle.dr_model.specs.Sessions.{Session, Mirror, session_in, has_place, has_place_of, servers_of, with_members, raised, with_member, without_member, changed, busy, unless_idle}
 use Rattle.dr_model.specs.Groups.{In, MemberStands, SessionFits, IsAt, PlacesDiffer, IsRecorder, Groups}
 use Rattle.dr_groups.specs.Frames.{Became, Quiet, NoPlace}
-use Rattle.dr_groups.proofs.Lists.{false_true, in-joined, from-filter, not-found, any-none}
+use Rattle.dr_groups.proofs.Lists.{false_true, in-joined, from-filter, not-found, any-none, from-map, is-met, once-more, once-filter, once-few}
 use Rattle.dr_groups.proofs.AtLemmas.{Told}
 use Rattle.dr_groups.proofs.Changes.{numbers, session-found, same-session, changed-in, changed-stays, changed-once, changed-found}
 use Rattle.dr_groups.proofs.Frames.{Turns, turn-quiet, stands-grows}
-use Rattle.dr_groups.proofs.Sound.{sound-raised, sound-members, low-more, low-fewer, quiet-of, quiet-mirror, fits-quiet}
+use Rattle.dr_groups.proofs.Sound.{sound-raised, sound-members, low-more, low-fewer, quiet-of, quiet-mirror, primaries, fits-quiet}
 use Rattle.dr_groups.proofs.Tables.{grows-same, with-table, fit-changed, one-turns, session-fits}
 
 turn-raised : (k : Control) (n : ℕ) (x : Session) → Quiet x → SessionFits k x → Turns k x (raised n x)
 turn-raised k n x quiet fits =
     turn-quiet k x (raised n x) quiet refl
-    (fits-quiet k (raised n x) (sound-raised n x fits.sound) fits.stands (quiet-mirror (λ r. record r { master = phases.raised r.master n }) x (raised n x) refl (λ r. refl) quiet))
+    (fits-quiet k (raised n x) (sound-raised n x fits.sound) fits.once fits.stands (quiet-mirror (λ r. record r { master = phases.raised r.master n }) x (raised n x) refl (λ r. refl) quiet))
     (λ m here. here)
 
 pub groups-raised : (k : Control) (s n : ℕ) (x : Session) → Groups k → session_in k.sessions s ≡ Some x → busy x.mirror ≡ None → Groups (record k { sessions = changed s (raised n) k.sessions })
@@ -42,6 +43,7 @@ turn-without k a x quiet fits =
     let ms : List Member = filter (λ (m : Member). not (m.a.0 == a)) x.members in
     turn-quiet k x (without_member a x) quiet refl
     (fits-quiet k (without_member a x) (sound-members ms x (low-fewer (λ (m : Member). not (m.a.0 == a)) x.members fits.sound.low) fits.sound)
+    (once-filter (λ (m : Member). m.a.0) (λ (m : Member). not (m.a.0 == a)) x.members fits.once)
     (λ m here. fits.stands m (from-filter (λ (m : Member). not (m.a.0 == a)) x.members m here).0) (quiet-members ms x quiet))
     (λ m here. (from-filter (λ (m : Member). not (m.a.0 == a)) x.members m here).0)
 
@@ -110,6 +112,7 @@ module _ (k : Control) (s : ℕ) (x : Session) (m : Member) (groups : Groups k) 
   with-fits : SessionFits k (with_member m x)
   with-fits =
       fits-quiet k (with_member m x) (sound-members (x.members ++ m ∷ []) x (low-more x.members m fits.sound.low low) fits.sound)
+      (once-more (λ (q : Member). q.a.0) x.members m fits.once (λ q here same. none m.a.0 x q there.0 here (inl refl) (inl (sym same))))
       (each-member (MemberStands k) fits.stands stands) (quiet-members (x.members ++ m ∷ []) x (quiet-of x idle))
 
   abbrev ss : List Session
@@ -195,3 +198,10 @@ places-differ k m stands other = record {
   a_c = λ e. stands.apart (sym stands.target_server ∙ ap (λ v. (k.volume v).server) (sym e));
   b_c = other;
 }
+
+-- a session has no more members than there are volumes
+pub members-few : (k : Control) (s : ℕ) (x : Session) → Groups k → session_in k.sessions s ≡ Some x → length x.members ≤ length k.volumes
+members-few k s x groups found =
+    let fits = session-fits k s x groups found in
+    let few : length (primaries x.members) ≤ length k.volumes = once-few (primaries x.members) k.volumes fits.once (λ v i. let o = from-map (λ (m : Member). m.a.0) x.members v i in subst (λ u. In u k.volumes) (sym o.is) (is-met o.from.a.0 k.volumes (fits.stands o.from o.here).a)) in
+    subst (λ n. n ≤ length k.volumes) (length-map x.members (λ (m : Member). m.a.0)) few

@@ -24,7 +24,7 @@ pub neither : (a b : Option Refusal) → option_or a b ≡ None → (a ≡ None)
 neither None b h = (refl, h)
 neither (Some r) b h = absurd cc
 
-no-maker : (o : Option Mirror) → make_refusal o ≡ None → o ≡ None
+pub no-maker : (o : Option Mirror) → make_refusal o ≡ None → o ≡ None
 no-maker None h = refl
 no-maker (Some r) h = absurd cc
 

@@ -1,5 +1,5 @@
 -- What stays true of a session by itself, and of its master.
-use Rattle.std.proofs.Common.{ℕ, zero, suc, ◌≡◌, ◌≢◌, ◌<◌, ◌⊎◌, inl, inr, refl, ap, sym, ◌∙◌, max, ◌+◌, Bool, true, cond, not, ◌||◌, nat_eq, nat_lt, List, [], ◌∷◌, ◌++◌, filter, Option, None, Some, option_map, arith, ◌==◌}
+use Rattle.std.proofs.Common.{ℕ, zero, suc, ◌≡◌, ◌≢◌, ◌<◌, ◌⊎◌, inl, inr, refl, ap, sym, ◌∙◌, max, ◌+◌, Bool, true, cond, not, ◌||◌, nat_eq, nat_lt, List, [], ◌∷◌, ◌++◌, map, filter, Option, None, Some, option_map, arith, ◌==◌}
 use Rattle.std.specs.List.{list_any, range_with_len}
 use Rattle.std.proofs.lemmas.Bool.{ltb-true, eq-eqb, ne_eqb}
 use Rattle.std.proofs.lemmas.Bool.Decides.{eqb_tells}
@@ -8,6 +8,7 @@ use Rattle.dr_ids.specs.declared.refusal.PhaseName.{PhaseName}
 use Rattle.dr_ids.specs.declared.refusal.PhaseName.TheVariants as phase
 use Rattle.dr_ids.specs.declared.refusal.Refusal.{Refusal}
 use Rattle.dr_model.specs.Phases as phases
+use Rattle.dr_model.specs.Tables.{Once}
 use Rattle.dr_model.specs.Control.{Control}
 use Rattle.dr_model.specs.Sessions.{Session, Mirror, IsSound, servers_of, all_low, with_mirror, with_members, raised, begun, mirrored_by, unmirrored, busy, unless_idle, drop_refusal, new_session}
 use Rattle.dr_model.specs.Groups.{In, MemberStands, SessionFits}
@@ -143,12 +144,16 @@ quiet-none x h r e = none_some h e
 pub quiet-mirror : (g : Mirror → Mirror) (x y : Session) → y.mirror ≡ option_map g x.mirror → ((r : Mirror) → (g r).master.phase ≡ r.master.phase) → Quiet x → Quiet y
 quiet-mirror g x y is same quiet r h = let p = mapped g x.mirror r (sym is ∙ h) in ap (λ (q : Mirror). q.master.phase) p.is ∙ (same p.from ∙ quiet p.from p.was)
 
+-- the primaries of members
+abbrev pub primaries : List Member → List ℕ
+primaries ms = map (λ (m : Member). m.a.0) ms
+
 -- where the master isn't Finishing, a session fits by itself and its members
-pub fits-calm : (k : Control) (x : Session) → IsSound x → ((m : Member) → In m x.members → MemberStands k m) → ((r : Mirror) → x.mirror ≡ Some r → r.master.phase ≢ phase.Finishing) → SessionFits k x
-fits-calm k x sound stands calm = record { sound = sound; stands = stands; finished = λ r has ends m here out. absurd (calm r has ends) }
+pub fits-calm : (k : Control) (x : Session) → IsSound x → Once (primaries x.members) → ((m : Member) → In m x.members → MemberStands k m) → ((r : Mirror) → x.mirror ≡ Some r → r.master.phase ≢ phase.Finishing) → SessionFits k x
+fits-calm k x sound once stands calm = record { sound = sound; once = once; stands = stands; finished = λ r has ends m here out. absurd (calm r has ends) }
 
 idle-calm : (p : PhaseName) → p ≡ phase.Idle → p ≢ phase.Finishing
 idle-calm p idle ends = absurd cc
 
-pub fits-quiet : (k : Control) (x : Session) → IsSound x → ((m : Member) → In m x.members → MemberStands k m) → Quiet x → SessionFits k x
-fits-quiet k x sound stands quiet = fits-calm k x sound stands (λ r has. idle-calm r.master.phase (quiet r has))
+pub fits-quiet : (k : Control) (x : Session) → IsSound x → Once (primaries x.members) → ((m : Member) → In m x.members → MemberStands k m) → Quiet x → SessionFits k x
+fits-quiet k x sound once stands quiet = fits-calm k x sound once stands (λ r has. idle-calm r.master.phase (quiet r has))

@@ -64,7 +64,7 @@ groups-mirrored k s server x groups found none =
     let fits = session-fits k s x groups found in
     table-one k s (mirrored_by server) x groups found (λ x. refl)
     (turn-quiet k x (mirrored_by server x) (quiet-none x none) refl
-    (fits-quiet k (mirrored_by server x) (sound-mirrored server x fits.sound) fits.stands (λ r h. ap (λ (q : Mirror). q.master.phase) (sym (some_is h))))
+    (fits-quiet k (mirrored_by server x) (sound-mirrored server x fits.sound) fits.once fits.stands (λ r h. ap (λ (q : Mirror). q.master.phase) (sym (some_is h))))
     (λ m here. here))
 
 pub groups-unmirrored : (k : Control) (s : ℕ) (x : Session) → Groups k → session_in k.sessions s ≡ Some x → drop_refusal x.mirror ≡ None → Groups (record k { sessions = changed s unmirrored k.sessions })
@@ -72,7 +72,7 @@ groups-unmirrored k s x groups found idle =
     let fits = session-fits k s x groups found in
     table-one k s unmirrored x groups found (λ x. refl)
     (turn-quiet k x (unmirrored x) (quiet-drop x idle) refl
-    (fits-quiet k (unmirrored x) (sound-unmirrored x fits.sound) fits.stands (quiet-none (unmirrored x) refl))
+    (fits-quiet k (unmirrored x) (sound-unmirrored x fits.sound) fits.once fits.stands (quiet-none (unmirrored x) refl))
     (λ m here. here))
 
 -- these hold of whichever session has the number
@@ -142,13 +142,13 @@ turn-subsystems k x y number members last mirror old fits = record {
 }
 
 joined-fits : (k : Control) (l : ℕ) (x : Session) → SessionFits k x → SessionFits k (joined_by l x)
-joined-fits k l x fits = record { sound = record { low = fits.sound.low; servers = fits.sound.servers; number = fits.sound.number }; stands = fits.stands; finished = fits.finished }
+joined-fits k l x fits = record { sound = record { low = fits.sound.low; servers = fits.sound.servers; number = fits.sound.number }; once = fits.once; stands = fits.stands; finished = fits.finished }
 
 left-fits : (k : Control) (l : ℕ) (x : Session) → SessionFits k x → SessionFits k (left_by l x)
-left-fits k l x fits = record { sound = record { low = fits.sound.low; servers = fits.sound.servers; number = fits.sound.number }; stands = fits.stands; finished = fits.finished }
+left-fits k l x fits = record { sound = record { low = fits.sound.low; servers = fits.sound.servers; number = fits.sound.number }; once = fits.once; stands = fits.stands; finished = fits.finished }
 
 new-fits : (k : Control) (s l : ℕ) → SessionFits k (new_session s l)
-new-fits k s l = record { sound = sound-new s l; stands = λ m here. absurd here; finished = λ r has ends m here. absurd here }
+new-fits k s l = record { sound = sound-new s l; once = tt; stands = λ m here. absurd here; finished = λ r has ends m here. absurd here }
 
 -- a new session behind the others, which has no member
 fit-new : (k : Control) (s l : ℕ) → Groups k → session_in k.sessions s ≡ None → Fit k (k.sessions ++ new_session s l ∷ [])

@@ -129,6 +129,7 @@ module _ (j k : Control) (ss : List Session) (v n : ℕ) (grows : Grows j k) (st
     once = fit.once;
     each = λ y i. record {
       sound = (fit.each y i).sound;
+      once = (fit.each y i).once;
       stands = λ m here. stands-grows j k m grows ((fit.each y i).stands m here);
       finished = finished y i;
     };
@@ -147,7 +148,7 @@ groups-held j k v s n frame stays holds old =
 turn-begun : (k : Control) (x : Session) → Quiet x → SessionFits k x → Turns k x (begun x)
 turn-begun k x quiet fits =
     turn-quiet k x (begun x) quiet refl
-    (fits-calm k (begun x) (sound-begun x fits.sound) fits.stands (λ r has. let p = mapped (λ r. record r { master = phases.begun r.master }) x.mirror r has in begins (sym (ap (λ (q : Mirror). q.master.phase) p.is))))
+    (fits-calm k (begun x) (sound-begun x fits.sound) fits.once fits.stands (λ r has. let p = mapped (λ r. record r { master = phases.begun r.master }) x.mirror r has in begins (sym (ap (λ (q : Mirror). q.master.phase) p.is))))
     (λ m here. here)
   where
     begins : {p : PhaseName} → phase.Coordinating ≡ p → p ≢ phase.Finishing

@@ -1,5 +1,5 @@
 -- What a control state keeps of another one.
-use Rattle.std.specs.Prelude.{◌≡◌, ◌⊎◌, ◌+◌, ◌<◌, ◌≤◌, ℕ, true, false, List, Some, length}
+use Rattle.std.specs.Prelude.{◌≡◌, ◌⊎◌, ◌+◌, ℕ, true, false, List, Some}
 use Rattle.dr_ids.specs.declared.names.Member.{Member}
 use Rattle.dr_ids.specs.declared.refusal.PhaseName.TheVariants as phase
 use Rattle.dr_model.specs.Tables.{at}
@@ -81,8 +81,3 @@ pub record Holding (k : Control) (s n : ℕ) (ms : List Member) : Type 0 where
   pub has_master : session.mirror ≡ Some mirror
   pub members : session.members ≡ ms
   pub stage : BeginsOrHolds session mirror n
-
--- there are eight servers at most, and each volume is one of theirs
-pub record Housed (k : Control) : Type 0 where
-  pub few : length k.servers ≤ 8
-  pub house : (v : ℕ) → is_volume k v ≡ true → (k.volume v).server < length k.servers

@@ -3,7 +3,7 @@
 //! attempt of their session. Its functions do nothing: each names a law by its contract.
 #![tactic(auto)]
 
-ghost use Rattle.std.specs.Prelude.{◌≡◌, ◌≢◌, ◌⊎◌, ◌+◌, ◌++◌, ◌∷◌, ◌==◌, [], map, ℕ, Bool, true, false, nat_lt, Option, None, Some, List};
+ghost use Rattle.std.specs.Prelude.{◌≡◌, ◌≢◌, ◌≤◌, ◌⊎◌, ◌+◌, ◌++◌, ◌∷◌, ◌==◌, [], map, length, ℕ, Bool, true, false, nat_lt, Option, None, Some, List};
 ghost use Rattle.std.specs.List.{find};
 ghost use Rattle.dr_ids.specs.declared.names.Member.{Member};
 ghost use Rattle.dr_ids.specs.declared.refusal.PhaseName.TheVariants as phase;
@@ -20,8 +20,8 @@ ghost use Rattle.dr_model.specs.SessionEntries.{is_past, last_of, members_on};
 ghost use Rattle.dr_model.specs.SessionPlans.{order_of, answered_by, join_plan, leave_plan, mirror_plan, pause_mirror_plan, unmirror_plan, abort_plan, add_done, expel_done, exchange_done};
 ghost use Rattle.dr_model.specs.Plans.{server_plan, volume_plan};
 ghost use Rattle.dr_model.specs.Sessions.{Session, Mirror, session_in, has_place_of, changed, joined, left, lost_since, begun, raised, mirrored_by, unmirrored, paused, with_master, with_member, without_member, busy, leave_refusal, drop_refusal};
-ghost use Rattle.dr_model.specs.Groups.{In, IsAt, MemberStands, PlacesDiffer, Groups, HoldsMember, OpensAttempt};
-ghost use Rattle.dr_groups.specs.Frames.{Grows, Quieter, Framed, Recorded, RecordedOr, Moves, Suits, Quiet, ServerSilent, SilentBut, Became, Holding, Housed};
+ghost use Rattle.dr_model.specs.Groups.{In, IsAt, MemberStands, PlacesDiffer, Groups, HoldsMember, OpensAttempt, Housed};
+ghost use Rattle.dr_groups.specs.Frames.{Grows, Quieter, Framed, Recorded, RecordedOr, Moves, Suits, Quiet, ServerSilent, SilentBut, Became, Holding};
 
 /// The laws hold before the first step, and stay where a volume is defined.
 pub fn the_laws_of_sessions_begin()
@@ -63,12 +63,14 @@ pub fn replies_keep_the_laws_of_sessions()
     ensures answered { (k : Control) (s server : ℕ) (work : phases.Work) (ms : List Member) (x : Session) → Groups k → session_in k.sessions s ≡ Some x → ((r : Mirror) → x.mirror ≡ Some r → r.master.phase ≡ phase.Finishing → ServerSilent k x server) → Groups (answered_by s server work ms k) }
 {}
 
-/// They stay where a session without an attempt has its last number raised, and a member more or less.
+/// They stay where a session without an attempt has its last number raised, and a member more or less; it has no more members
+/// than there are volumes.
 pub fn members_keep_the_laws_of_sessions()
     ensures raised { (k : Control) (s n : ℕ) (x : Session) → Groups k → session_in k.sessions s ≡ Some x → busy x.mirror ≡ None → Groups (record k { sessions = changed s (raised n) k.sessions }) }
     ensures added { (k : Control) (s n : ℕ) (x : Session) (m : Member) → Groups k → session_in k.sessions s ≡ Some x → busy x.mirror ≡ None → nat_lt m.server.0 8 ≡ true → MemberStands k m → PlacesDiffer m → find (has_place_of m) k.sessions ≡ None → Groups (record k { sessions = changed s (with_member m) (changed s (raised n) k.sessions) }) }
     ensures differ { (k : Control) (m : Member) → MemberStands k m → m.b.0 ≢ m.c.0 → PlacesDiffer m }
     ensures removed { (k : Control) (s a : ℕ) (x : Session) → Groups k → session_in k.sessions s ≡ Some x → busy x.mirror ≡ None → Groups (record k { sessions = changed s (without_member a) k.sessions }) }
+    ensures few { (k : Control) (s : ℕ) (x : Session) → Groups k → session_in k.sessions s ≡ Some x → length x.members ≤ length k.volumes }
 {}
 
 /// They stay in what a line on sessions makes of the tables, whatever it answers: as the step begins, or as it ends, where its acts

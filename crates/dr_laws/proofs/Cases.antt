@@ -3,6 +3,8 @@ use Rattle.std.proofs.Common.{ℕ, ◌≡◌, ◌<◌, ◌≤◌, refl, Bool, tr
 use Rattle.std.specs.Prelude.{length, is_some, if◌then◌else◌, ◌==◌}
 use Rattle.std.specs.List.{find}
 use Rattle.std.specs.Option.{option_or}
+use Rattle.std.specs.Str.{bytes_eq}
+use Rattle.std.proofs.lemmas.List.Quantifiers.{position-Some}
 use Rattle.std.proofs.lemmas.Bool.Decides.{nat_tests}
 use Rattle.std.proofs.lemmas.Bool.{or_parts}
 use Rattle.dr_ids.specs.declared.refusal.Refusal.{Refusal}
@@ -92,7 +94,7 @@ pub record Ordered (k : Control) (s server : ℕ) (x : Session) (r : Mirror) (o 
 pub data Case (k : Control) (events : List Event) (line : ℕ) : Plan → Type 0 where
   Says : (a : Said) → Case k events line (only_says a)
   Defines : (name : Name) → server_refusal k (name_bytes name) ≡ None → Case k events line (server_done k name)
-  Adds : (v s tracks : ℕ) → volume_refusal k v s tracks ≡ None → Case k events line (volume_done v s tracks)
+  Adds : (v s tracks : ℕ) → s < length k.servers → volume_refusal k v s tracks ≡ None → Case k events line (volume_done v s tracks)
   Links : (a b : ℕ) → (up : Bool) → Case k events line (link_done a b up)
   Issues : (v t offset len : ℕ) → (bytes : List ℕ) → issue_refusal k v t ≡ None → Case k events line (issue_done k v t offset len bytes)
   Writes : (v t offset len : ℕ) → (bytes : List ℕ) → issue_refusal k v t ≡ None → Case k events line (write_done k v t offset len bytes)
@@ -158,6 +160,10 @@ module _ (k : Control) (events : List Event) (line : ℕ) where
   where-named : (o : Option ℕ) (p : ℕ → Plan) → ((s : ℕ) → Is (p s)) → Is (on_named o p)
   where-named None p go = Says (Refused (unknown OfServer))
   where-named (Some s) p go = go s
+
+  where-placed : (o : Option ℕ) (p : ℕ → Plan) → ((s : ℕ) → o ≡ Some s → Is (p s)) → Is (on_named o p)
+  where-placed None p go = Says (Refused (unknown OfServer))
+  where-placed (Some s) p go = go s refl
 
   where-owned : (o : Option ℕ) (p : ℕ → Plan) → ((s : ℕ) → Is (p s)) → Is (on_owner o p)
   where-owned None p go = Says (Refused (unknown OfLss))
@@ -253,7 +259,9 @@ module _ (k : Control) (events : List Event) (line : ℕ) where
 
   of-case : (step : Step) → is_built step ≡ true → is_later k step ≡ false → Is (plan_of k events line step)
   of-case (Server name) built now = where-none (server_refusal k (name_bytes name)) (server_done k name) (Defines name)
-  of-case (Volume v name tracks) built now = where-named (server_named k (name_bytes name)) (λ s. unless (volume_refusal k v s tracks) (volume_done v s tracks)) (λ s. where-none (volume_refusal k v s tracks) (volume_done v s tracks) (Adds v s tracks))
+  of-case (Volume v name tracks) built now =
+      where-placed (server_named k (name_bytes name)) (λ s. unless (volume_refusal k v s tracks) (volume_done v s tracks))
+      (λ s is. where-none (volume_refusal k v s tracks) (volume_done v s tracks) (Adds v s tracks (position-Some (bytes_eq (name_bytes name)) k.servers s [] is).0))
   of-case (Link a b up) built now = where-named (server_named k (name_bytes a)) (λ x. on_server k b (λ y. link_between x y up)) (λ x. where-named (server_named k (name_bytes b)) (λ y. link_between x y up) (λ y. link-case x y up))
   of-case (Issue v t offset len bytes) built now = where-none (issue_refusal k v t) (issue_done k v t offset len bytes) (Issues v t offset len bytes)
   of-case (Write v t offset len bytes) built now = where-none (issue_refusal k v t) (write_done k v t offset len bytes) (Writes v t offset len bytes)

@@ -1,5 +1,5 @@
 -- A volume is defined: it has tracks of zeros, and nothing changes for the others.
-use Rattle.std.proofs.Common.{ℕ, ◌≡◌, ◌≢◌, ◌<◌, ◌+◌, inl, inr, refl, ap, sym, ◌∙◌, subst, Bool, true, false, cond, ◌&&◌, ◌||◌, nat_eq, List, [], ◌∷◌, ◌++◌, Some, None}
+use Rattle.std.proofs.Common.{ℕ, ◌≡◌, ◌≢◌, ◌<◌, ◌+◌, inl, inr, refl, ap, sym, ◌∙◌, subst, Bool, true, false, cond, ◌&&◌, ◌||◌, nat_eq, List, [], ◌∷◌, ◌++◌, length, Some, None}
 use Rattle.std.proofs.lemmas.Bool.Decides.{eqb_tells}
 use Rattle.std.proofs.lemmas.Bool.{false_from_ne_true, and_parts, eqb-true}
 use Rattle.std.specs.List.{list_any}
@@ -13,7 +13,8 @@ use Rattle.dr_model.specs.Laws.{SoundRows, HoldsOld, RowParts, RowRecords, Partn
 use Rattle.dr_model.proofs.Images.{histories-append, at_other}
 use Rattle.dr_laws.proofs.AtLemmas.{Told, each-at, linked-at}
 use Rattle.dr_laws.proofs.Sets.{if_false, false_true, in_none, empty_has}
-use Rattle.dr_laws.proofs.GroupsWanted.{groups-defined}
+use Rattle.dr_groups.proofs.Volumes.{groups-defined}
+use Rattle.dr_groups.proofs.Housed.{housed-volume}
 use Rattle.dr_model.proofs.LawfulLemmas.{lawful-no_fields}
 use Rattle.dr_laws.proofs.KeepsQueue.{each-on, numbered-after}
 use Rattle.dr_laws.proofs.KeepsStructure.{structure-at}
@@ -28,7 +29,7 @@ lone-each server other (p ∷ ps) same all = (each ps same.1 all.0, lone-each se
     each [] here old = tt
     each (q ∷ qs) here old = ((λ l m e. old.0 l m (sym same.0 ∙ e ∙ here.0)), each qs here.1 old.1)
 
-module _ (w : World) (s : Sound w) (v server tracks : ℕ) (undefined : is_volume w.control v ≡ false) where
+module _ (w : World) (s : Sound w) (v server tracks : ℕ) (here : server < length w.control.servers) (undefined : is_volume w.control v ≡ false) where
   abbrev h : Histories
   h = histories w.events
 
@@ -183,6 +184,7 @@ module _ (w : World) (s : Sound w) (v server tracks : ℕ) (undefined : is_volum
     rows = subst SoundRows (sym table-defined) rows-defined;
     targets = few-defined w.control s.targets v server tracks undefined;
     groups = groups-defined w.control v server tracks undefined s.groups;
+    housed = housed-volume w.control v server tracks here s.housed;
     queue = record {
       each = each-on waits-on ps s.queue.each;
       apart = s.queue.apart;

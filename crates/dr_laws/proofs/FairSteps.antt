@@ -39,7 +39,7 @@ between-nothing = record {
 fair-case : (w : World) (k : Between w) (line : ℕ) (p : Plan) → Case w.control w.events line p → Fair w p
 fair-case w k line _ (Says a) = fair-says w k line a
 fair-case w k line _ (Defines name free) = fair-defines w k line name free
-fair-case w k line _ (Adds v s tracks free) = fair-adds w k line v s tracks free
+fair-case w k line _ (Adds v s tracks here free) = fair-adds w k line v s tracks here free
 fair-case w k line _ (Links a b up) = fair-links w k line a b up
 fair-case w k line _ (Issues v t offset len bytes free) = fair-issues w k line v t offset len bytes free
 fair-case w k line _ (Writes v t offset len bytes free) = fair-writes w k v t offset len bytes free

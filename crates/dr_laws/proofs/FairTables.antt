@@ -99,12 +99,12 @@ module _ (w : World) (k : Between w) where
     fair-unpaths src tgt = fair-told _ [] _ (holds _ (Unpaths src tgt)) tt none-told (λ n. refl) refl refl refl refl (λ j h. h)
 
     -- a new volume is no primary
-    pub fair-adds : (v s tracks : ℕ) → (free : volume_refusal w.control v s tracks ≡ None) → Fair w (volume_done v s tracks)
-    fair-adds v s tracks free =
+    pub fair-adds : (v s tracks : ℕ) → (here : s < length w.control.servers) → (free : volume_refusal w.control v s tracks ≡ None) → Fair w (volume_done v s tracks)
+    fair-adds v s tracks here free =
         let e : Event = VolumeDefined v s tracks in
         let u : World = begun w (volume_done v s tracks) in
         let other : ((x : ℕ) → is_volume w.control x ≡ true → x ≢ v) = λ x there is. false_true (is-new w.control v s tracks free).undefined (ap (is_volume w.control) (sym is) ∙ there) in
-        fair-tables w _ (e ∷ []) _ (holds _ (Adds v s tracks free))
+        fair-tables w _ (e ∷ []) _ (holds _ (Adds v s tracks here free))
         (record {
           events = refl;
           silent = (tt, tt);

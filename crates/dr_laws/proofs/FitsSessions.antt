@@ -15,7 +15,8 @@ use Rattle.dr_model.specs.SessionEntries.{members_on}
 use Rattle.dr_model.specs.SessionPlans.{with_sessions, table_plan, off_refusal, member_with}
 use Rattle.dr_model.specs.Runs.{begun, masters_lost}
 use Rattle.dr_model.specs.Laws.{Sound}
-use Rattle.dr_laws.proofs.GroupsWanted.{groups-lost, groups-joined, groups-left, groups-mirrored, groups-paused, groups-unmirrored, groups-aborted}
+use Rattle.dr_groups.proofs.PlanTables.{no-maker}
+use Rattle.dr_groups.proofs.Tables.{groups-lost, groups-joined, groups-left, groups-mirrored, groups-paused, groups-unmirrored, groups-aborted}
 use Rattle.dr_laws.proofs.Cases.{Joins, Ordered, added, expelled, aborted, ordered}
 use Rattle.dr_laws.proofs.FitsFlash.{as_begun, sound-begun}
 use Rattle.dr_laws.proofs.KeepsSound.{Along, MayDo, StepHolds, keeps-sound, holds-moves, over}
@@ -28,6 +29,7 @@ sound-sessions w ss groups s = record {
   targets = record { once = s.targets.once; few = s.targets.few };
   queue = record { each = s.queue.each; apart = s.queue.apart; lone = s.queue.lone; numbers = s.queue.numbers };
   groups = groups;
+  housed = s.housed;
 }
 
 -- masters are lost as a step ends
@@ -43,22 +45,22 @@ module _ (w : World) (s : Sound w) where
       holds-moves w p begins (over _ begins) (λ q v i. over v i) (λ v i. i)
 
   pub holds-joined : (l i : ℕ) → join_refusal (session_in w.control.sessions i) l w.control.sessions ≡ None → StepHolds w (table_plan (joined i l))
-  holds-joined l i free = holds-sessions (joined i l) (table_plan (joined i l)).says (groups-joined w.control l i free s.groups)
+  holds-joined l i free = holds-sessions (joined i l) (table_plan (joined i l)).says (groups-joined w.control i l s.groups)
 
   pub holds-left : (l i : ℕ) (x : Session) → session_in w.control.sessions i ≡ Some x → leave_refusal (Some x) i l ≡ None → StepHolds w (table_plan (left i l))
-  holds-left l i x found free = holds-sessions (left i l) (table_plan (left i l)).says (groups-left w.control l i x found free s.groups)
+  holds-left l i x found free = holds-sessions (left i l) (table_plan (left i l)).says (groups-left w.control i l x s.groups found free)
 
   pub holds-mirrored : (owner i : ℕ) (x : Session) → session_in w.control.sessions i ≡ Some x → make_refusal x.mirror ≡ None → StepHolds w (table_plan (changed i (mirrored_by owner)))
-  holds-mirrored owner i x found free = holds-sessions (changed i (mirrored_by owner)) (table_plan (changed i (mirrored_by owner))).says (groups-mirrored w.control owner i x found free s.groups)
+  holds-mirrored owner i x found free = holds-sessions (changed i (mirrored_by owner)) (table_plan (changed i (mirrored_by owner))).says (groups-mirrored w.control i owner x s.groups found (no-maker x.mirror free))
 
   pub holds-paused : (i : ℕ) (on : Bool) → StepHolds w (table_plan (changed i (paused on)))
   holds-paused i on = holds-sessions (changed i (paused on)) (table_plan (changed i (paused on))).says (groups-paused w.control i on s.groups)
 
   pub holds-unmirrored : (i : ℕ) (x : Session) → session_in w.control.sessions i ≡ Some x → drop_refusal x.mirror ≡ None → StepHolds w (table_plan (changed i unmirrored))
-  holds-unmirrored i x found free = holds-sessions (changed i unmirrored) (table_plan (changed i unmirrored)).says (groups-unmirrored w.control i x found free s.groups)
+  holds-unmirrored i x found free = holds-sessions (changed i unmirrored) (table_plan (changed i unmirrored)).says (groups-unmirrored w.control i x s.groups found free)
 
   pub holds-aborted : (i : ℕ) (x : Session) → session_in w.control.sessions i ≡ Some x → abort_refusal x.mirror ≡ None → StepHolds w (aborted i)
-  holds-aborted i x found free = holds-sessions (changed i (with_master phases.aborted)) (aborted i).says (groups-aborted w.control i x found free s.groups)
+  holds-aborted i x found free = holds-sessions (changed i (with_master phases.aborted)) (aborted i).says (groups-aborted w.control i s.groups)
 
 -- What is to be shown of a plan whose entries may say more where they end well, on which the sessions that it leaves rest.
 pub record Orders (w : World) (p : Plan) : Type 1 where

@@ -12,7 +12,7 @@ use Rattle.dr_model.specs.Table.{table, waiting, due, due_by}
 use Rattle.dr_model.specs.Laws.{SoundRows, Below, Numbered, Waits, AllPending, Apart, Lone, Together, servers, Sound}
 use Rattle.dr_model.proofs.Images.{histories-append, image-issue, at_same, at_other, Below-append, Below-more}
 use Rattle.dr_laws.proofs.Sets.{false_true}
-use Rattle.dr_laws.proofs.GroupsWanted.{groups-same}
+use Rattle.dr_groups.proofs.Volumes.{groups-same}
 
 pub numbered-more : (n m : ℕ) (h : Histories) → n < m + 1 → Numbered n h → Numbered m h
 numbered-more n m h lt low = record { now = λ v t. Below-more n m (h.now v t) lt (low.now v t); aside = λ v t. Below-more n m (h.aside v t) lt (low.aside v t) }
@@ -110,6 +110,7 @@ module _ (w : World) (s : Sound w) (v t offset len : ℕ) (bytes : List ℕ) (de
     rows = subst SoundRows (sym same-table) s.rows;
     targets = record { once = s.targets.once; few = s.targets.few };
     groups = groups-same w.control issued.control (record { sessions = refl; volumes = refl; server = λ v. refl; tracks = λ v. refl }) (λ v h. (h, refl)) s.groups;
+    housed = s.housed;
     queue = record {
       each = each-new ps s.queue.each;
       apart = apart-new ps s.queue.each s.queue.apart;

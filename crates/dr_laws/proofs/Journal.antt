@@ -317,7 +317,7 @@ module _ (k : Control) where
   case-modest events line _ (Defines name free) =
       modest (server_done k name).first (server_done k name).told [] (always (Done Alone)) (omega arith)
       (λ h. record { servers = room-more k.servers (name_bytes name) most_servers (servers-left k (name_bytes name) free); volumes = h.volumes; pending = h.pending; tracks = h.tracks }) refl
-  case-modest events line _ (Adds v s tracks free) =
+  case-modest events line _ (Adds v s tracks here free) =
       let new = is-new k v s tracks free in
       modest (volume_done v s tracks).first (volume_done v s tracks).told [] (always (Done Alone)) (omega arith)
       (λ h. record { servers = h.servers; volumes = room-more k.volumes v most_volumes new.left; pending = h.pending; tracks = sizes-within v s tracks new.small h }) refl

@@ -6,13 +6,15 @@ use Rattle.dr_model.specs.Histories.{Write}
 use Rattle.dr_model.specs.Control.{Control, Fuse, Pending, Volume, World}
 use Rattle.dr_model.specs.Moves.{Move, Suspend, MakePrimary, DropPrimary, TakeOver, Lift, Restart, Hold, Finish, RaiseAttempt, target, moved}
 use Rattle.dr_model.specs.Entries.{fields_at}
-use Rattle.dr_model.specs.Groups.{Groups, OpensAttempt}
+use Rattle.dr_model.specs.Groups.{Groups, Housed, OpensAttempt}
 use Rattle.dr_model.specs.Table.{table}
 use Rattle.dr_model.specs.Allowed.{Allowed, InGroup}
 use Rattle.dr_laws.proofs.AtLemmas.{at_cases, at_part}
 use Rattle.dr_laws.proofs.Sets.{false_true}
 use Rattle.dr_laws.proofs.Turns.{next_of, carried_in}
-use Rattle.dr_laws.proofs.GroupsWanted.{Framed, Records, groups-same, groups-held, groups-opened}
+use Rattle.dr_groups.specs.Frames.{Framed, RecordedOr}
+use Rattle.dr_groups.proofs.Volumes.{groups-same, groups-held, groups-opened}
+use Rattle.dr_groups.proofs.Housed.{housed-stays}
 
 module _ (w : World) (write : ℕ → Write) (on : ℕ → Bool) (fuse : ℕ → Option Fuse) (ps : List Pending) where
   abbrev next : Move → Volume
@@ -40,7 +42,7 @@ module _ (w : World) (write : ℕ → Write) (on : ℕ → Bool) (fuse : ℕ →
   lifted false records h = h
 
   -- or is held for this one
-  holds : (v s n : ℕ) (first : Bool) (u : ℕ) → (fields_at (after (Hold v s n first)) u).recording ≡ true → ((u ≡ v) × ((fields_at (after (Hold v s n first)) u).attempt ≡ n)) ⊎ Records w.control (after (Hold v s n first)) u
+  holds : (v s n : ℕ) (first : Bool) (u : ℕ) → (fields_at (after (Hold v s n first)) u).recording ≡ true → RecordedOr w.control (after (Hold v s n first)) v n u
   holds v s n first =
       at_cases (λ u (x : Volume). x.fields.recording ≡ true → ((u ≡ v) × (x.fields.attempt ≡ n)) ⊎ (((fields_at w.control u).recording ≡ true) × (x.fields.attempt ≡ (fields_at w.control u).attempt))) w.control.volume v (next (Hold v s n first))
       (λ h. inl (refl, refl)) (λ q ne h. inr (h, refl))
@@ -60,3 +62,7 @@ module _ (w : World) (write : ℕ → Write) (on : ℕ → Bool) (fuse : ℕ →
   -- the first hold of an attempt, with which it begins
   pub groups-begun : (v s n : ℕ) → OpensAttempt w.control v s n → Groups w.control → Groups (record (after (Hold v s n true)) { sessions = changed s begun w.control.sessions })
   groups-begun v s n opens old = groups-opened w.control (after (Hold v s n true)) v s n (frame (Hold v s n true)) (holds v s n true) opens old
+
+  -- each volume stays on its server
+  pub housed-after : (m : Move) → Housed w.control → Housed (after m)
+  housed-after m old = housed-stays w.control (after m) refl refl (frame m).server old

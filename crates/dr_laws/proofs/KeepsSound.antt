@@ -13,7 +13,7 @@ use Rattle.dr_model.specs.Carry.{Act, Make, OpenAttempt, Redo, Acknowledge, Drop
 use Rattle.dr_model.specs.Plans.{Plan}
 use Rattle.dr_model.specs.Runs.{begun}
 use Rattle.dr_model.specs.ReadStops.{gone_off}
-use Rattle.dr_model.specs.Groups.{Groups}
+use Rattle.dr_model.specs.Groups.{Groups, Housed}
 use Rattle.dr_model.specs.Table.{Table, table, due_by}
 use Rattle.dr_model.specs.Rows.{after}
 use Rattle.dr_model.specs.Laws.{SoundRows, SoundBut, Sound, Queue, AllPending, Waits, servers}
@@ -27,8 +27,9 @@ use Rattle.dr_laws.proofs.KeepsImages.{kept-images}
 use Rattle.dr_laws.proofs.KeepsRecorded.{kept-recorded}
 use Rattle.dr_laws.proofs.KeepsRecorders.{kept-recorders, kept-final}
 use Rattle.dr_laws.proofs.KeepsPairs.{kept-pairs}
-use Rattle.dr_laws.proofs.KeepsGroups.{groups-after, groups-begun}
-use Rattle.dr_laws.proofs.GroupsWanted.{Framed, groups-same}
+use Rattle.dr_laws.proofs.KeepsGroups.{groups-after, groups-begun, housed-after}
+use Rattle.dr_groups.specs.Frames.{Framed}
+use Rattle.dr_groups.proofs.Volumes.{groups-same}
 use Rattle.dr_laws.proofs.KeepsTargets.{few-after}
 use Rattle.dr_laws.proofs.KeepsQueue.{AllQuiet, queue-done, queue-stop, queue-same, goes-off, all-filter, apart-filter, lone-filter}
 use Rattle.dr_laws.proofs.Due.{waiting-settled}
@@ -56,6 +57,7 @@ module _ (starts : Option ℕ) where
     targets = record { once = s.targets.once; few = few-after w.control s.targets m (carried_in w m) may.fits };
     queue = queue-done starts w s.queue m f may.ready;
     groups = groups-after w (histories w.events).write (done w m f).control.on (done w m f).control.fuse (done w m f).control.pending m may.allowed may.group s.groups;
+    housed = housed-after w (histories w.events).write (done w m f).control.on (done w m f).control.fuse (done w m f).control.pending m s.housed;
   }
 
   pub sound-stop : (w : World) (m : Move) (f : Option Fuse) → SoundBut starts w → May w m → SoundBut starts (done_in_stop w m f)
@@ -64,6 +66,7 @@ module _ (starts : Option ℕ) where
     targets = record { once = s.targets.once; few = few-after w.control s.targets m (carried_in w m) may.fits };
     queue = queue-stop starts w s.queue m f may.ready;
     groups = groups-after w (histories w.events).write (done_in_stop w m f).control.on (done_in_stop w m f).control.fuse (done_in_stop w m f).control.pending m may.allowed may.group s.groups;
+    housed = housed-after w (histories w.events).write (done_in_stop w m f).control.on (done_in_stop w m f).control.fuse (done_in_stop w m f).control.pending m s.housed;
   }
 
   -- the first hold of an attempt, with which it begins
@@ -77,6 +80,7 @@ module _ (starts : Option ℕ) where
         targets = record { once = s.targets.once; few = few-after w.control s.targets m (carried_in w m) tt };
         queue = record { each = q.each; apart = q.apart; lone = q.lone; numbers = q.numbers };
         groups = groups-begun w (histories w.events).write k.on k.fuse k.pending v i n may.opens s.groups;
+        housed = housed-after w (histories w.events).write k.on k.fuse k.pending m s.housed;
       }
 
   pub sound-opened_stop : (w : World) (v i n : ℕ) (f : Option Fuse) → SoundBut starts w → MayOpen w v i n → SoundBut starts (opened_in_stop w v i n f)
@@ -89,6 +93,7 @@ module _ (starts : Option ℕ) where
         targets = record { once = s.targets.once; few = few-after w.control s.targets m (carried_in w m) tt };
         queue = record { each = q.each; apart = q.apart; lone = q.lone; numbers = q.numbers };
         groups = groups-begun w (histories w.events).write k.on k.fuse k.pending v i n may.opens s.groups;
+        housed = housed-after w (histories w.events).write k.on k.fuse k.pending m s.housed;
       }
 
   told-groups : (w : World) (servers : List (List ℕ)) (on : ℕ → Bool) (fuse : ℕ → Option Fuse) (link : ℕ → ℕ → Bool) (paths : List Path) → Groups w.control → Groups (record w.control { servers = servers; on = on; fuse = fuse; link = link; paths = paths })
@@ -96,33 +101,34 @@ module _ (starts : Option ℕ) where
 
   -- events that change no list, one server more, other links and paths, and servers that may have gone off
   pub sound-told : (w : World) (servers : List (List ℕ)) (on : ℕ → Bool) (fuse : ℕ → Option Fuse) (link : ℕ → ℕ → Bool) (paths : List Path) (es : List Event) → histories (w.events ++ es) ≡ histories w.events → AllQuiet (w.control.issued + 1) es
-      → ((j : ℕ) → w.control.on j ≡ false → on j ≡ false) → SoundBut starts w
+      → ((j : ℕ) → w.control.on j ≡ false → on j ≡ false) → Housed (record w.control { servers = servers }) → SoundBut starts w
       → SoundBut starts (record { control = record w.control { servers = servers; on = on; fuse = fuse; link = link; paths = paths }; contents = w.contents; events = w.events ++ es })
-  sound-told w servers on fuse link paths es same quiet off s = record {
+  sound-told w servers on fuse link paths es same quiet off housed s = record {
     rows = rows-told w es same s.rows;
     targets = record { once = s.targets.once; few = s.targets.few };
     groups = told-groups w servers on fuse link paths s.groups;
+    housed = housed;
     queue = queue-same starts w s.queue (record w.control { servers = servers; on = on; fuse = fuse; link = link; paths = paths }) es w.contents quiet refl refl refl (λ v. refl) (λ v. refl) off;
   }
 
   pub sound-not : (w : World) (x : ℕ) (f : Option Fuse) → SoundBut starts w → SoundBut starts (not_done w x f)
   sound-not w x f s =
-      sound-told w w.control.servers (at w.control.on x false) (at w.control.fuse x f) w.control.link w.control.paths (Stopped x 0 ∷ []) (histories-append w.events (Stopped x 0 ∷ [])) (tt, tt) (goes-off starts w s.queue w.control.on x) s
+      sound-told w w.control.servers (at w.control.on x false) (at w.control.fuse x f) w.control.link w.control.paths (Stopped x 0 ∷ []) (histories-append w.events (Stopped x 0 ∷ [])) (tt, tt) (goes-off starts w s.queue w.control.on x) s.housed s
 
   pub sound-gone : (w : World) (x : ℕ) → SoundBut starts w → SoundBut starts (gone_off w x)
   sound-gone w x s =
-      sound-told w w.control.servers (at w.control.on x false) w.control.fuse w.control.link w.control.paths (Stopped x 0 ∷ []) (histories-append w.events (Stopped x 0 ∷ [])) (tt, tt) (goes-off starts w s.queue w.control.on x) s
+      sound-told w w.control.servers (at w.control.on x false) w.control.fuse w.control.link w.control.paths (Stopped x 0 ∷ []) (histories-append w.events (Stopped x 0 ∷ [])) (tt, tt) (goes-off starts w s.queue w.control.on x) s.housed s
 
   -- a freeze ends, or a thaw
   pub sound-frozen : (w : World) (l m : ℕ) → SoundBut starts w → SoundBut starts (frozen w l m)
   sound-frozen w l m s =
       let k : Control = w.control in
-      sound-told w k.servers k.on k.fuse k.link (without_path k.paths l m) (Frozen l m ∷ []) (histories-append w.events (Frozen l m ∷ [])) (tt, tt) (λ j h. h) s
+      sound-told w k.servers k.on k.fuse k.link (without_path k.paths l m) (Frozen l m ∷ []) (histories-append w.events (Frozen l m ∷ [])) (tt, tt) (λ j h. h) s.housed s
 
   pub sound-thawed : (w : World) (l m : ℕ) → SoundBut starts w → SoundBut starts (thawed w l m)
   sound-thawed w l m s =
       let k : Control = w.control in
-      sound-told w k.servers k.on k.fuse k.link k.paths (Thawed l m ∷ []) (histories-append w.events (Thawed l m ∷ [])) (tt, tt) (λ j h. h) s
+      sound-told w k.servers k.on k.fuse k.link k.paths (Thawed l m ∷ []) (histories-append w.events (Thawed l m ∷ [])) (tt, tt) (λ j h. h) s.housed s
 
   -- a write that hasn't landed is dropped
   pub sound-dropped : (w : World) (n : ℕ) → AllPending (λ p. p.landed ≡ false) (filter (is_write n) w.control.pending) → SoundBut starts w → SoundBut starts (dropped w n)
@@ -133,6 +139,7 @@ module _ (starts : Option ℕ) where
         rows = subst SoundRows (λ i u. record (table w u) { due = λ q. image h.write (h.now u q ++ sym (waiting-settled n u q ps unlanded) i) }) s.rows;
         targets = record { once = s.targets.once; few = s.targets.few };
         groups = groups-same w.control _ (record { sessions = refl; volumes = refl; server = λ v. refl; tracks = λ v. refl }) (λ v h. (h, refl)) s.groups;
+        housed = s.housed;
         queue = record {
           each = all-filter (Waits starts w.control h.write) (is_other n) ps s.queue.each;
           apart = apart-filter n ps s.queue.apart;

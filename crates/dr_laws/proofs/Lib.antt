@@ -13,7 +13,6 @@ pub mod KeepsRecorders
 pub mod KeepsPairs
 pub mod KeepsTargets
 pub mod KeepsQueue
-pub mod GroupsWanted
 pub mod KeepsGroups
 pub mod Along
 pub mod KeepsSound

@@ -29,7 +29,7 @@ use Rattle.dr_laws.proofs.Costs.{Costs, costs-nil, costs-check, costs-last, carr
 use Rattle.dr_laws.proofs.CopyCosts.{rounds}
 use Rattle.dr_laws.proofs.PairCosts.{sends-costs, sent-few, suspend_after-few, light-pair, light-remove, length-remove, light-pause, light-resume}
 use Rattle.dr_model.specs.SessionPlans.{member_with}
-use Rattle.dr_laws.proofs.GroupsWanted.{members-few}
+use Rattle.dr_groups.proofs.Members.{members-few}
 use Rattle.dr_laws.proofs.SessionCosts.{add-costs, order-costs}
 use Rattle.dr_laws.proofs.WriteCosts.{brief-costs, brief-landing, after_write-few, brief-freeze, brief-thaw, brief-expire, brief-start}
 
@@ -144,7 +144,7 @@ module _ (w : World) (x : Sound w) (h : IsWithin w.control) where
   case-spends : (line : ℕ) (p : Plan) → Case w.control w.events line p → Spends w p
   case-spends line _ (Says a) = tables-spends _ _ _ (omega arith)
   case-spends line _ (Defines name free) = tables-spends _ _ _ (omega arith)
-  case-spends line _ (Adds v s tracks free) = tables-spends _ _ _ (omega arith)
+  case-spends line _ (Adds v s tracks here free) = tables-spends _ _ _ (omega arith)
   case-spends line _ (Links a b up) = tables-spends _ _ _ (omega arith)
   case-spends line _ (Issues v t offset len bytes free) = record { spends = 0; costs = costs-nil 0 _; after = 0; follows = none-adds; few = omega arith }
   case-spends line _ (Writes v t offset len bytes free) = record {
@@ -209,7 +209,7 @@ module _ (w : World) (x : Sound w) (h : IsWithin w.control) where
   case-spends line _ (AddsMember s a c y joins) = record { spends = 2; costs = add-costs (member_with w.control a c) _ _; after = 0; follows = none-adds; few = omega arith }
   case-spends line _ (Expels s a y m found is idle on) = record { spends = 1; costs = costs-last 1 _ (Leave m.c.0 m.a.0 s) (omega arith); after = 0; follows = none-adds; few = omega arith }
   case-spends line _ (Exchanges s server reply y r o allowed) =
-      let few : length y.members ≤ length w.control.volumes = members-few w.control s y allowed.found x.groups in
+      let few : length y.members ≤ length w.control.volumes = members-few w.control s y x.groups allowed.found in
       let room : length w.control.volumes ≤ most_volumes = h.volumes in
       record { spends = 384; costs = order-costs o.work s o.number server y.members 64 (omega arith) 384 (omega arith) _; after = 0; follows = none-adds; few = omega arith }
 

@@ -26,7 +26,7 @@ use Rattle.dr_laws.proofs.AtLemmas.{at_cases}
 use Rattle.dr_laws.proofs.Sets.{if_false, if_true}
 use Rattle.dr_laws.proofs.Turns.{after_act, fused, done_in_stop, not_done, place, server_of, Writes}
 use Rattle.dr_laws.proofs.Due.{acked_lists}
-use Rattle.dr_laws.proofs.GroupsWanted.{groups-same}
+use Rattle.dr_groups.proofs.Volumes.{groups-same}
 use Rattle.dr_laws.proofs.RowsAfter.{calm-each}
 use Rattle.dr_laws.proofs.KeepsQueue.{each-on, all-filter, apart-filter, lone-filter, numbered-after}
 use Rattle.dr_laws.proofs.KeepsSound.{StepHolds, over, sound-done, sound-stop, sound-not, rows-told}
@@ -190,6 +190,7 @@ module _ (s : ℕ) where
     rows = j.rows;
     targets = j.targets;
     groups = j.groups;
+    housed = j.housed;
     queue = record { each = each-on (λ p waits. waits-free w.control _ p waits (inl off)) w.control.pending j.queue.each; apart = j.queue.apart; lone = j.queue.lone; numbers = j.queue.numbers };
   }
 
@@ -198,6 +199,7 @@ module _ (s : ℕ) where
     rows = j.rows;
     targets = j.targets;
     groups = j.groups;
+    housed = j.housed;
     queue = record { each = both-on (λ p waits free. waits-free w.control _ p waits (inr free)) w.control.pending j.queue.each free; apart = j.queue.apart; lone = j.queue.lone; numbers = j.queue.numbers };
   }
 
@@ -235,6 +237,7 @@ module _ (s : ℕ) where
       rows = subst SoundRows (λ i u. record (table w u) { due = λ q. sym (same-due u q) i }) j.rows;
       targets = record { once = j.targets.once; few = j.targets.few };
       groups = same-groups w.control (acknowledged w p.w).control refl refl refl j.groups;
+      housed = j.housed;
       queue = record {
         each = subst (λ (h : Histories). AllPending (Waits (Some s) w.control h.write) (filter (is_other p.w) ps)) (sym told) (all-filter _ (is_other p.w) ps j.queue.each);
         apart = apart-filter p.w ps j.queue.apart;
@@ -261,7 +264,7 @@ module _ (s : ℕ) where
   does w (Make (Restart v)) f j may = record { sound = sound-done (Some s) w (Restart v) f j.sound (may-restart w v may); on = j.on }
   does w (Make m) f j may = absurd may
   does w (OpenAttempt v i n) f j may = absurd may
-  does w (Redo v) f j may = let x = j.sound in record { sound = record { rows = x.rows; targets = record { once = x.targets.once; few = x.targets.few }; groups = same-groups w.control (fused w (servers w.control v) f).control refl refl refl x.groups; queue = record { each = x.queue.each; apart = x.queue.apart; lone = x.queue.lone; numbers = x.queue.numbers } }; on = j.on }
+  does w (Redo v) f j may = let x = j.sound in record { sound = record { rows = x.rows; targets = record { once = x.targets.once; few = x.targets.few }; groups = same-groups w.control (fused w (servers w.control v) f).control refl refl refl x.groups; housed = x.housed; queue = record { each = x.queue.each; apart = x.queue.apart; lone = x.queue.lone; numbers = x.queue.numbers } }; on = j.on }
   does w (Acknowledge n) f j may = record { sound = subst (λ n. Starting (acknowledged w n)) may.number (acknowledges w j.sound may.waits may.first); on = j.on }
   does w (Drop n) f j may = absurd may
   does w (EndFreeze l m) f j may = absurd may
@@ -329,6 +332,7 @@ module _ (s : ℕ) where
           rows = rows-told w (Started s ∷ []) same x.rows;
           targets = record { once = x.targets.once; few = x.targets.few };
           groups = same-groups w.control (starting s w.control) refl refl refl x.groups;
+          housed = x.housed;
           queue = record {
             each = subst (λ (h : Histories). AllPending (Waits (Some s) (starting s w.control) h.write) w.control.pending) (sym same) (each-on (starts-waits w x) w.control.pending x.queue.each);
             apart = x.queue.apart;

@@ -17,11 +17,13 @@ use Rattle.dr_model.specs.Moves.{is_write}
 use Rattle.dr_model.specs.Carry.{carry}
 use Rattle.dr_model.specs.Plans.{Plan, plan, same, only_says, tables_plan, name_bytes, issue_done, write_done, apply_done, torn_bytes}
 use Rattle.dr_model.specs.Runs.{Task, begun, said, after_plan, after_task, after_tasks, run}
+use Rattle.dr_model.specs.Groups.{Housed}
 use Rattle.dr_model.specs.Table.{table}
 use Rattle.dr_model.specs.Laws.{SoundRows, Sound}
 use Rattle.dr_model.proofs.Images.{histories-append}
 use Rattle.dr_model.proofs.LawfulLemmas.{lawful-no_fields}
-use Rattle.dr_laws.proofs.Cases.{Case, Says, Defines, Adds, Links, Issues, Writes, Applies, Shows, Stops, Arms, Starts, Flashes, Withdraws, Resyncs, Reverses, Copies, Paths, Unpaths, MakesPair, RemovesPair, Pauses, ResumesPair, Drains, Expires, Freezes, Thaws, JoinsSession, LeavesSession, Mirrors, PausesMirror, Unmirrors, Aborts, AddsMember, Expels, Exchanges, IsTrack, plan-case, is-new, may-issue}
+use Rattle.dr_groups.proofs.Housed.{housed-none, housed-server}
+use Rattle.dr_laws.proofs.Cases.{Case, Says, Defines, Adds, Links, Issues, Writes, Applies, Shows, Stops, Arms, Starts, Flashes, Withdraws, Resyncs, Reverses, Copies, Paths, Unpaths, MakesPair, RemovesPair, Pauses, ResumesPair, Drains, Expires, Freezes, Thaws, JoinsSession, LeavesSession, Mirrors, PausesMirror, Unmirrors, Aborts, AddsMember, Expels, Exchanges, IsTrack, plan-case, servers-left, is-new, may-issue}
 use Rattle.dr_laws.proofs.KeepsQueue.{Quiet, AllQuiet, goes-off}
 use Rattle.dr_laws.proofs.KeepsSound.{StepHolds, RowsAt, MayDo, holds-moves, keeps-sound, sound-told, over}
 use Rattle.dr_laws.proofs.Issues.{issued, sound-issued, one-new}
@@ -40,27 +42,27 @@ use Rattle.dr_laws.proofs.Along as along
 
 -- an answer changes no list
 pub sound-said : (w : World) (line : ℕ) (a : Said) → Sound w → Sound (said w line a)
-sound-said w line a s = sound-told None w w.control.servers w.control.on w.control.fuse w.control.link w.control.paths (answer line a ∷ []) (histories-append w.events (answer line a ∷ [])) (tt, tt) (λ j h. h) s
+sound-said w line a s = sound-told None w w.control.servers w.control.on w.control.fuse w.control.link w.control.paths (answer line a ∷ []) (histories-append w.events (answer line a ∷ [])) (tt, tt) (λ j h. h) s.housed s
 
 -- a step without entries leaves what it begins with
 holds-tables : (w : World) (first : Control → Control) (told : List Event) (a : Said) → Sound (begun w (tables_plan first told a)) → StepHolds w (tables_plan first told a)
 holds-tables w first told a s = holds-moves w (tables_plan first told a) s (over _ s) (λ q v i. over v i) (λ v i. i)
 
 -- the names, servers, fuses, links and paths that it changes, and what it tells, are nothing to the volumes and the queue
-holds-told : (w : World) (servers : List (List ℕ)) (on : ℕ → Bool) (fuse : ℕ → Option Fuse) (link : ℕ → ℕ → Bool) (paths : List Path) (told : List Event) (a : Said) → Sound w → histories (w.events ++ told) ≡ histories w.events → AllQuiet (w.control.issued + 1) told
+holds-told : (w : World) (servers : List (List ℕ)) (on : ℕ → Bool) (fuse : ℕ → Option Fuse) (link : ℕ → ℕ → Bool) (paths : List Path) (told : List Event) (a : Said) → Housed (record w.control { servers = servers }) → Sound w → histories (w.events ++ told) ≡ histories w.events → AllQuiet (w.control.issued + 1) told
     → ((j : ℕ) → w.control.on j ≡ false → on j ≡ false) → (first : Control → Control) → first w.control ≡ record w.control { servers = servers; on = on; fuse = fuse; link = link; paths = paths } → StepHolds w (tables_plan first told a)
-holds-told w servers on fuse link paths told a s lists quiet off first is =
-    holds-tables w first told a (subst (λ k. Sound (record { control = k; contents = w.contents; events = w.events ++ told })) (sym is) (sound-told None w servers on fuse link paths told lists quiet off s))
+holds-told w servers on fuse link paths told a housed s lists quiet off first is =
+    holds-tables w first told a (subst (λ k. Sound (record { control = k; contents = w.contents; events = w.events ++ told })) (sym is) (sound-told None w servers on fuse link paths told lists quiet off housed s))
 
 -- nothing is told, and no server goes off
 holds-quiet : (w : World) (fuse : ℕ → Option Fuse) (link : ℕ → ℕ → Bool) (paths : List Path) (a : Said) → Sound w → (first : Control → Control) → first w.control ≡ record w.control { fuse = fuse; link = link; paths = paths } → StepHolds w (tables_plan first [] a)
-holds-quiet w fuse link paths a s first is = holds-told w w.control.servers w.control.on fuse link paths [] a s (ap histories (append-nil w.events)) tt (λ j h. h) first is
+holds-quiet w fuse link paths a s first is = holds-told w w.control.servers w.control.on fuse link paths [] a s.housed s (ap histories (append-nil w.events)) tt (λ j h. h) first is
 
 -- one event is told that no list hears of
-holds-event : (w : World) (servers : List (List ℕ)) (on : ℕ → Bool) (e : Event) (a : Said) → Sound w → after_event (histories w.events) e ≡ histories w.events → Quiet (w.control.issued + 1) e
+holds-event : (w : World) (servers : List (List ℕ)) (on : ℕ → Bool) (e : Event) (a : Said) → Housed (record w.control { servers = servers }) → Sound w → after_event (histories w.events) e ≡ histories w.events → Quiet (w.control.issued + 1) e
     → ((j : ℕ) → w.control.on j ≡ false → on j ≡ false) → (first : Control → Control) → first w.control ≡ record w.control { servers = servers; on = on } → StepHolds w (tables_plan first (e ∷ []) a)
-holds-event w servers on e a s unheard quiet off first is =
-    holds-told w servers on w.control.fuse w.control.link w.control.paths (e ∷ []) a s (histories-append w.events (e ∷ []) ∙ unheard) (quiet, tt) off first is
+holds-event w servers on e a housed s unheard quiet off first is =
+    holds-told w servers on w.control.fuse w.control.link w.control.paths (e ∷ []) a housed s (histories-append w.events (e ∷ []) ∙ unheard) (quiet, tt) off first is
 
 pub holds-says : (w : World) (a : Said) → Sound w → StepHolds w (only_says a)
 holds-says w a s = holds-quiet w w.control.fuse w.control.link w.control.paths a s same refl
@@ -101,16 +103,16 @@ module _ (w : World) (s : Sound w) (line : ℕ) where
   pub case-holds : (p : Plan) → Case w.control w.events line p → StepHolds w p
   case-holds _ (Says a) = holds-says w a s
   case-holds _ (Defines name free) =
-      holds-event w (w.control.servers ++ name_bytes name ∷ []) w.control.on (ServerDefined (length w.control.servers) name.len name.bytes) _ s refl tt (λ j h. h) (λ k. record k { servers = k.servers ++ name_bytes name ∷ [] }) refl
-  case-holds _ (Adds v x tracks free) = holds-tables w _ _ _ (sound-defined w s v x tracks (is-new w.control v x tracks free).undefined)
+      holds-event w (w.control.servers ++ name_bytes name ∷ []) w.control.on (ServerDefined (length w.control.servers) name.len name.bytes) _ (housed-server w.control (name_bytes name) (servers-left w.control (name_bytes name) free) s.housed) s refl tt (λ j h. h) (λ k. record k { servers = k.servers ++ name_bytes name ∷ [] }) refl
+  case-holds _ (Adds v x tracks here free) = holds-tables w _ _ _ (sound-defined w s v x tracks here (is-new w.control v x tracks free).undefined)
   case-holds _ (Links a b up) =
       holds-quiet w w.control.fuse (λ x y. cond (joins x y a b) up (w.control.link x y)) w.control.paths _ s (λ k. record k { link = λ x y. cond (joins x y a b) up (k.link x y) }) refl
   case-holds _ (Issues v t offset len bytes free) = let there = (may-issue w.control v t free).0 in holds-issue w s v t offset len bytes there
   case-holds _ (Writes v t offset len bytes free) = holds-write w s v t offset len bytes (may-issue w.control v t free).0
   case-holds _ (Applies n p found) = holds-apply w s n p found
-  case-holds _ (Shows v t there) = holds-event w w.control.servers w.control.on (Shown line v t (image_at w.events v t)) _ s refl tt (λ j h. h) same refl
+  case-holds _ (Shows v t there) = holds-event w w.control.servers w.control.on (Shown line v t (image_at w.events v t)) _ s.housed s refl tt (λ j h. h) same refl
   case-holds _ (Stops x on) =
-      holds-event w w.control.servers (at w.control.on x false) (Stopped x 0) _ s refl tt (goes-off None w s.queue w.control.on x) (λ k. record k { on = at k.on x false }) refl
+      holds-event w w.control.servers (at w.control.on x false) (Stopped x 0) _ s.housed s refl tt (goes-off None w s.queue w.control.on x) (λ k. record k { on = at k.on x false }) refl
   case-holds _ (Arms writes torn x) =
       let f : Fuse = record { after = writes; torn = torn_bytes torn } in
       holds-quiet w (at w.control.fuse x (Some f)) w.control.link w.control.paths _ s (λ k. record k { fuse = at k.fuse x (Some f) }) refl
@@ -187,6 +189,7 @@ sound-nothing = record {
     lone = record { differ = λ x m h. absurd h; one = λ v x y m q h. absurd h };
     recorders = λ v h. absurd cc;
   };
+  housed = housed-none;
   targets = record { once = tt; few = λ v. omega arith };
   queue = record { each = tt; apart = tt; lone = tt; numbers = record { now = λ v t. tt; aside = λ v t. tt } };
 }

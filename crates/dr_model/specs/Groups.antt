@@ -1,5 +1,5 @@
 -- What the sessions and the records of volumes say together.
-use Rattle.std.specs.Prelude.{◌≡◌, ◌≢◌, ◌⊎◌, ◌+◌, ℕ, true, false, List, [], ◌∷◌, map, Some}
+use Rattle.std.specs.Prelude.{◌≡◌, ◌≢◌, ◌⊎◌, ◌<◌, ◌≤◌, ◌+◌, ℕ, true, false, List, [], ◌∷◌, length, map, Some}
 use Rattle.dr_ids.specs.declared.names.Member.{Member}
 use Rattle.dr_ids.specs.declared.refusal.PhaseName.TheVariants as phase
 use Rattle.dr_model.specs.Phases as phases
@@ -91,3 +91,7 @@ pub record OpensAttempt (k : Control) (v s n : ℕ) : Type 0 where
   pub place : IsMember k v s
   pub idle : place.mirror.master.phase ≡ phase.Idle
   pub next : n ≡ place.session.last + 1
+
+-- there are eight servers at most, and each volume is on one of them
+abbrev pub Housed : Control → Type 0
+Housed k = (length k.servers ≤ 8) × ((v : ℕ) → is_volume k v ≡ true → (k.volume v).server < length k.servers)

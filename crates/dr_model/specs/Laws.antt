@@ -16,7 +16,7 @@ use Rattle.dr_model.specs.Pairs.{primary_of, secondary_of, is_kind, is_pending}
 use Rattle.dr_model.specs.Entries.{is_at, targets_of}
 use Rattle.dr_model.specs.Table.{Row, Table, table}
 pub use Rattle.dr_model.specs.Tables.{Once}
-use Rattle.dr_model.specs.Groups.{Groups}
+use Rattle.dr_model.specs.Groups.{Groups, Housed}
 
 -- a law on each volume, and one on each volume and the one that it points to
 abbrev pub Each : (ℕ → Row → Type 0) → Table → Type 0
@@ -269,6 +269,7 @@ pub record SoundBut (starts : Option ℕ) (w : World) : Type 0 where
   pub targets : FewTargets w.control
   pub queue : Queue starts w
   pub groups : Groups w.control
+  pub housed : Housed w.control
 
 -- what holds of a world between steps
 abbrev pub Sound : World → Type 0

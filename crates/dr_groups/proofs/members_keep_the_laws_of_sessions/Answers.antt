@@ -1,4 +1,4 @@
-use Rattle.dr_groups.proofs.Members.{groups-raised, groups-added, places-differ, groups-removed}
+use Rattle.dr_groups.proofs.Members.{groups-raised, groups-added, places-differ, groups-removed, members-few}
 use Rattle.dr_groups.proofs.members_keep_the_laws_of_sessions.Goals as goal
 
 pub returns-clause-raised : goal.returns-clause-raised
@@ -12,3 +12,6 @@ returns-clause-differ c = places-differ
 
 pub returns-clause-removed : goal.returns-clause-removed
 returns-clause-removed c = groups-removed
+
+pub returns-clause-few : goal.returns-clause-few
+returns-clause-few c = members-few
