@@ -17,6 +17,7 @@ ghost use Rattle.dr_model.specs.Table.{Table, table};
 ghost use Rattle.dr_model.specs.Rows.{after};
 ghost use Rattle.dr_model.specs.Laws.{SoundRows, Sound, shown};
 ghost use Rattle.dr_model.specs.Allowed.{Allowed};
+ghost use Rattle.dr_model.specs.Cuts.{SealsHold};
 ghost use Rattle.dr_model.specs.Limits.{most_events};
 ghost use Rattle.dr_laws.specs.Limits.{IsWithin};
 ghost use Rattle.dr_laws.specs.Stops.{StopsTold, refused_stop};
@@ -92,4 +93,12 @@ pub fn freezes_leave_one_cut()
 /// A thaw changes no track, whatever it answers, and wherever a server stops in it.
 pub fn thaws_change_no_track()
     ensures { (w : World) (line : ℕ) (devs : Devs) (l m v t : ℕ) → Sound w → (after_plan w line (step_plan w.control w.events line (step.Unfreeze devs l m))).contents v t ≡ w.contents v t }
+{}
+
+/// At the end of each run, every secondary that is sealed for a number holds one moment of its primary: there is one place of the
+/// journal at which the primary was cut for that number, and each track of the secondary contains what the host writes make that
+/// the primary held there. So volumes that are sealed for one number hold what their primaries held as these were cut for it, and no
+/// later write.
+pub fn sealed_secondaries_hold_their_cut()
+    ensures { (tasks : List Task) → SealsHold (run tasks) }
 {}
