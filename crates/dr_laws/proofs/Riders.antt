@@ -57,7 +57,7 @@ unheard w u more events quiet lists contents volume volumes pending issued = rec
 -- issued, and a volume that is defined.
 pub record Rider (K : World → Type 0) : Type 0 where
   pub acts : Rides Sound K MayDo
-  pub starts : (s : ℕ) → Rides (starts.Inner s) K (starts.MayStart s)
+  pub start_acts : (s : ℕ) → Rides (starts.Inner s) K (starts.MayStart s)
   pub unheard : (w u : World) (more : List Event) → K w → Unheard w u more → K u
   pub issues : (w : World) (s : Sound w) (v t offset len : ℕ) (bytes : List ℕ) (defined : is_volume w.control v ≡ true) (low : t < (w.control.volume v).tracks) → K w → K (issued w s v t offset len bytes defined low)
   pub defines : (w : World) (s : Sound w) (v server tracks : ℕ) (here : server < length w.control.servers) (undefined : is_volume w.control v ≡ false) → K w → K (with_volume w s v server tracks here undefined)
@@ -149,7 +149,7 @@ module _ (K : World → Type 0) (rider : Rider K) where
     case-rides _ (Stops x on) = tables _ _ _ (event w _ (Stopped x 0) k refl (tt, tt) (histories-append w.events _) refl refl refl refl refl)
     case-rides _ (Arms writes torn x) = tables _ _ _ (silently w _ k refl refl refl refl refl refl)
     case-rides _ (Starts x off) =
-        record { holds = plan-rides Sound RowsAt K MayDo w (start_plan w.control x) (start-hold x w s) (rider.starts x) (event w _ (Started x) k refl (tt, tt) (histories-append w.events _) refl refl refl refl refl) (λ v e k. k) keeps-sound rider.acts }
+        record { holds = plan-rides Sound RowsAt K MayDo w (start_plan w.control x) (start-hold x w s) (rider.start_acts x) (event w _ (Started x) k refl (tt, tt) (histories-append w.events _) refl refl refl refl refl) (λ v e k. k) keeps-sound rider.acts }
     case-rides _ (Flashes dev v t choices) = entries _ _ (along-flash w s dev v t choices)
     case-rides _ (Withdraws dev v t) = entries _ _ (along-withdraw w s dev v t)
     case-rides _ (Resyncs dev v t sequence) = entries _ _ (along-resync w s dev v t sequence)

@@ -105,7 +105,7 @@ module _ (x : ℕ) where
 pub cuts-ride : Rider SoundCuts
 cuts-ride = record {
   acts = acts;
-  starts = start-acts;
+  start_acts = start-acts;
   unheard = cuts-unheard;
   issues = λ w s v t offset len bytes defined low k. sound-issue w k (issued w s v t offset len bytes defined low) v t offset len bytes refl refl (same-table w s v t offset len bytes defined low);
   defines = λ w s v server tracks here undefined k.
