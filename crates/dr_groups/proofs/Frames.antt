@@ -46,7 +46,7 @@ pub record Fit (k : Control) (ss : List Session) : Type 0 where
   pub once : Once (numbers ss)
   pub each : (x : Session) → In x ss → SessionFits k x
   pub lone : Lone ss
-  pub recorders : (v : ℕ) → (fields_at k v).recording ≡ true → IsRecorder ss v (fields_at k v).attempt
+  pub recorders : (v : ℕ) → (fields_at k v).recording ≡ true → IsRecorder ss v (fields_at k v).attempt (fields_at k v).primary_partner
 
 pub fit-of : (k : Control) → Groups k → Fit k k.sessions
 fit-of k groups = record { once = groups.once; each = groups.each; lone = groups.lone; recorders = groups.recorders }
@@ -54,12 +54,16 @@ fit-of k groups = record { once = groups.once; each = groups.each; lone = groups
 pub groups-fit : (k : Control) → Fit k k.sessions → Groups k
 groups-fit k fit = record { once = fit.once; each = fit.each; lone = fit.lone; recorders = fit.recorders }
 
+-- of the same attempt, with the same partner
+pub recorder-is : (ss : List Session) (v : ℕ) {n m u w : ℕ} → n ≡ m → u ≡ w → IsRecorder ss v m w → IsRecorder ss v n u
+recorder-is ss v attempt partner r = record { session = r.session; listed = r.listed; mirror = r.mirror; has_master = r.has_master; busy = r.busy; member = r.member; here = r.here; is = r.is; last = attempt ∙ r.last; to = partner ∙ r.to }
+
 pub groups-of : (k j : Control) → Grows k j → Quieter k j → Fit k j.sessions → Groups j
 groups-of k j grows quieter fit = record {
   once = fit.once;
   each = λ x listed. fits-grows k j x grows quieter (fit.each x listed);
   lone = fit.lone;
-  recorders = λ v h. subst (λ n. IsRecorder j.sessions v n) (sym (quieter.attempt v h)) (fit.recorders v (quieter.recorded v h));
+  recorders = λ v h. recorder-is j.sessions v (quieter.attempt v h) (quieter.partner v h) (fit.recorders v (quieter.recorded v h));
 }
 
 -- ---- for other sessions
@@ -124,15 +128,15 @@ pub record Goes (k : Control) (qs : List Session) (x : Session) : Type 0 where
   pub listed : In to qs
   pub turns : Turns k x to
 
-pub recorder-goes : (k : Control) (qs : List Session) (v n : ℕ) (x : Session) (m : Member) (r : Mirror) → Goes k qs x → In m x.members → m.a.0 ≡ v → x.mirror ≡ Some r → r.master.phase ≢ phase.Idle → (fields_at k v).recording ≡ true → n ≡ x.last → IsRecorder qs v n
-recorder-goes k qs v n x m r goes here is has busy records last =
+pub recorder-goes : (k : Control) (qs : List Session) (v n u : ℕ) (x : Session) (m : Member) (r : Mirror) → Goes k qs x → In m x.members → m.a.0 ≡ v → x.mirror ≡ Some r → r.master.phase ≢ phase.Idle → (fields_at k v).recording ≡ true → n ≡ x.last → u ≡ m.b.0 → IsRecorder qs v n u
+recorder-goes k qs v n u x m r goes here is has busy records last to =
     let t = goes.turns.keeps m r here has busy (subst (λ u. (fields_at k u).recording ≡ true) (sym is) records) in
-    record { session = goes.to; listed = goes.listed; mirror = t.mirror; has_master = t.has_master; busy = t.busy; member = m; here = t.here; is = is; last = last ∙ t.last }
+    record { session = goes.to; listed = goes.listed; mirror = t.mirror; has_master = t.has_master; busy = t.busy; member = m; here = t.here; is = is; last = last ∙ t.last; to = to }
 
 pub fit-turns : (k : Control) (ss qs : List Session) → Fit k ss → Once (numbers qs) → ((y : Session) → In y qs → Stem k ss y) → ((x : Session) → In x ss → Goes k qs x) → Fit k qs
 fit-turns k ss qs fit once stem goes = record {
   once = once;
   each = λ y i. (stem y i).turns.fits;
   lone = lone-origin ss qs fit.lone (λ y m i here. let s = stem y i in record { from = s.from; listed = s.listed; number = s.turns.number; here = s.turns.within m here });
-  recorders = λ v h. let r = fit.recorders v h in recorder-goes k qs v (fields_at k v).attempt r.session r.member r.mirror (goes r.session r.listed) r.here r.is r.has_master r.busy h r.last;
+  recorders = λ v h. let r = fit.recorders v h in recorder-goes k qs v (fields_at k v).attempt (fields_at k v).primary_partner r.session r.member r.mirror (goes r.session r.listed) r.here r.is r.has_master r.busy h r.last r.to;
 }

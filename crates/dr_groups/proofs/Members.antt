@@ -156,12 +156,12 @@ module _ (k : Control) (s : ℕ) (x : Session) (m : Member) (groups : Groups k) 
   one v y z p q (New e is) (New f also) at_p at_q = (e ∙ sym f, is ∙ sym also)
 
   -- nobody in x records
-  records : (v n : ℕ) → IsRecorder k.sessions v n → IsRecorder ss v n
-  records v n r = by (eqb_tells r.session.number s)
+  records : (v n u : ℕ) → IsRecorder k.sessions v n u → IsRecorder ss v n u
+  records v n u r = by (eqb_tells r.session.number s)
     where
-      by : Told r.session.number s → IsRecorder ss v n
+      by : Told r.session.number s → IsRecorder ss v n u
       by (inl is) = absurd (r.busy (quiet-of x idle r.mirror (ap (λ (z : Session). z.mirror) (is-x r.session r.listed is.1) ∙ r.has_master)))
-      by (inr other) = record { session = r.session; listed = changed-stays s (with_member m) k.sessions r.session r.listed other.1; mirror = r.mirror; has_master = r.has_master; busy = r.busy; member = r.member; here = r.here; is = r.is; last = r.last }
+      by (inr other) = record { session = r.session; listed = changed-stays s (with_member m) k.sessions r.session r.listed other.1; mirror = r.mirror; has_master = r.has_master; busy = r.busy; member = r.member; here = r.here; is = r.is; last = r.last; to = r.to }
 
   pub groups-with : Groups (record k { sessions = changed s (with_member m) k.sessions })
   groups-with = with-table k ss (record {
@@ -171,7 +171,7 @@ module _ (k : Control) (s : ℕ) (x : Session) (m : Member) (groups : Groups k) 
       differ = λ y q i here. differs y q (place y q i here);
       one = λ v y z p q i j here there at_p at_q. one v y z p q (place y p i here) (place z q j there) at_p at_q;
     };
-    recorders = λ v h. records v (fields_at k v).attempt (groups.recorders v h);
+    recorders = λ v h. records v (fields_at k v).attempt (fields_at k v).primary_partner (groups.recorders v h);
   })
 
 idle-still : (p : PhaseName) (why also : Refusal) → unless_idle p (Some why) ≡ None → unless_idle p (Some also) ≡ None

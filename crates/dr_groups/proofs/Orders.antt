@@ -63,27 +63,27 @@ holding-begins k s server x r o groups found has is holds = record { session = x
     by (inr h) = inr (h.0, h.1 ∙ number)
 
 -- the first hold begins the attempt, and each other is one of it
-pub holding-opens : (k : Control) (s n : ℕ) (ms : List Member) (m : Member) → Holding k s n ms → In m ms → nat_lt (last_of k s) n ≡ true → OpensAttempt k m.a.0 s n
+pub holding-opens : (k : Control) (s n : ℕ) (ms : List Member) (m : Member) → Holding k s n ms → In m ms → (fields_at k m.a.0).primary_partner ≡ m.b.0 → nat_lt (last_of k s) n ≡ true → OpensAttempt k m.a.0 s n
 unfolding member-of
-holding-opens k s n ms m holding here newer = by holding.stage
+holding-opens k s n ms m holding here to newer = by holding.stage
   where
     above : holding.session.last < n
     above = ltb-true holding.session.last n (ap (λ i. nat_lt i n) (sym (last-is k s holding.session holding.found)) ∙ newer)
 
     by : BeginsOrHolds holding.session holding.mirror n → OpensAttempt k m.a.0 s n
-    by (inl h) = record { place = member-of k s holding.session holding.mirror m holding.found holding.has_master (subst (In m) (sym holding.members) here); idle = h.0; next = h.1 }
+    by (inl h) = record { place = member-of k s holding.session holding.mirror m holding.found holding.has_master (subst (In m) (sym holding.members) here); idle = h.0; next = h.1; to = to }
     by (inr h) = let lt : holding.session.last < n = above in let e : n ≡ holding.session.last = h.1 in absurd (omega arith)
 
-pub holding-holds : (k : Control) (s n : ℕ) (ms : List Member) (m : Member) → Holding k s n ms → In m ms → nat_lt (last_of k s) n ≡ false → HoldsMember k m.a.0 s n
+pub holding-holds : (k : Control) (s n : ℕ) (ms : List Member) (m : Member) → Holding k s n ms → In m ms → (fields_at k m.a.0).primary_partner ≡ m.b.0 → nat_lt (last_of k s) n ≡ false → HoldsMember k m.a.0 s n
 unfolding member-of
-holding-holds k s n ms m holding here not_newer = by holding.stage
+holding-holds k s n ms m holding here to not_newer = by holding.stage
   where
     below : (holding.session.last < n) → ⊥
     below lt = false_true not_newer (ap (λ i. nat_lt i n) (last-is k s holding.session holding.found) ∙ lt-ltb holding.session.last n lt)
 
     by : BeginsOrHolds holding.session holding.mirror n → HoldsMember k m.a.0 s n
     by (inl h) = let e : n ≡ holding.session.last + 1 = h.1 in absurd (below (omega arith))
-    by (inr h) = record { place = member-of k s holding.session holding.mirror m holding.found holding.has_master (subst (In m) (sym holding.members) here); coordinates = h.0; last = h.1 }
+    by (inr h) = record { place = member-of k s holding.session holding.mirror m holding.found holding.has_master (subst (In m) (sym holding.members) here); coordinates = h.0; last = h.1; to = to }
 
 -- it stays so where the sessions do, and where the attempt has begun
 pub holding-stays : (k j : Control) (s n : ℕ) (ms : List Member) → j.sessions ≡ k.sessions → Holding k s n ms → Holding j s n ms

@@ -25,10 +25,16 @@ pub record Recording (x : Session) (attempt : ℕ) : Type 0 where
 
 pub member-records : (k : Control) (x : Session) (m : Member) → Groups k → In x k.sessions → In m x.members → (fields_at k m.a.0).recording ≡ true → Recording x (fields_at k m.a.0).attempt
 member-records k x m groups listed here recording =
-    let r : IsRecorder k.sessions m.a.0 (fields_at k m.a.0).attempt = groups.recorders m.a.0 recording in
+    let r : IsRecorder k.sessions m.a.0 (fields_at k m.a.0).attempt (fields_at k m.a.0).primary_partner = groups.recorders m.a.0 recording in
     let one = groups.lone.one m.a.0 r.session x r.member m r.listed listed r.here here (inl (sym r.is)) (inl refl) in
     let is : r.session ≡ x = same-session k.sessions r.session x groups.once r.listed listed one.0 in
     record { mirror = r.mirror; has_master = ap (λ (z : Session). z.mirror) (sym is) ∙ r.has_master; busy = r.busy; last = r.last ∙ ap (λ (z : Session). z.last) is }
+
+-- the partner of a member that records is the member's secondary
+pub partner-is : (k : Control) (x : Session) (m : Member) → Groups k → In x k.sessions → In m x.members → (fields_at k m.a.0).recording ≡ true → (fields_at k m.a.0).primary_partner ≡ m.b.0
+partner-is k x m groups listed here recording =
+    let r : IsRecorder k.sessions m.a.0 (fields_at k m.a.0).attempt (fields_at k m.a.0).primary_partner = groups.recorders m.a.0 recording in
+    r.to ∙ ap (λ (q : Member). q.b.0) (groups.lone.one m.a.0 r.session x r.member m r.listed listed r.here here (inl (sym r.is)) (inl refl)).1
 
 silent-by : (f : Fields) → (f.recording ≡ true → ⊥) → f.recording ≡ false
 silent-by f never = by (cases_Bool f.recording)
@@ -95,20 +101,22 @@ pub last-is : (k : Control) (s : ℕ) (x : Session) → session_in k.sessions s 
 last-is k s x is = ap (λ o. unwrap_or (option_map (λ (x : Session). x.last) o) 0) is
 
 -- what an order holds, or begins with, by the master's number
-pub holds-of : (k : Control) (s : ℕ) (x : Session) (r : Mirror) (m : Member) → Groups k → session_in k.sessions s ≡ Some x → x.mirror ≡ Some r → In m x.members → r.master.phase ≡ phase.Coordinating → HoldsMember k m.a.0 s r.master.number
+pub holds-of : (k : Control) (s : ℕ) (x : Session) (r : Mirror) (m : Member) → Groups k → session_in k.sessions s ≡ Some x → x.mirror ≡ Some r → In m x.members → (fields_at k m.a.0).primary_partner ≡ m.b.0 → r.master.phase ≡ phase.Coordinating → HoldsMember k m.a.0 s r.master.number
 unfolding member-of
-holds-of k s x r m groups is has here phase_is = record {
+holds-of k s x r m groups is has here to phase_is = record {
   place = member-of k s x r m is has here;
   coordinates = phase_is;
   last = (groups.each x (session-found k.sessions s x is).0).sound.number r has;
+  to = to;
 }
 
-pub opens-of : (k : Control) (s : ℕ) (x : Session) (r : Mirror) (m : Member) → Groups k → session_in k.sessions s ≡ Some x → x.mirror ≡ Some r → In m x.members → r.master.phase ≡ phase.Idle → OpensAttempt k m.a.0 s (r.master.number + 1)
+pub opens-of : (k : Control) (s : ℕ) (x : Session) (r : Mirror) (m : Member) → Groups k → session_in k.sessions s ≡ Some x → x.mirror ≡ Some r → In m x.members → (fields_at k m.a.0).primary_partner ≡ m.b.0 → r.master.phase ≡ phase.Idle → OpensAttempt k m.a.0 s (r.master.number + 1)
 unfolding member-of
-opens-of k s x r m groups is has here phase_is = record {
+opens-of k s x r m groups is has here to phase_is = record {
   place = member-of k s x r m is has here;
   idle = phase_is;
   next = λ i. (groups.each x (session-found k.sessions s x is).0).sound.number r has i + 1;
+  to = to;
 }
 
 -- ---- the members on a server, one after another

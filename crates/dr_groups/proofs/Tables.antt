@@ -26,7 +26,7 @@ pub grows-same : (k : Control) (ss : List Session) → Grows k (record k { sessi
 grows-same k ss = record { defined = λ v d. d; server = λ v d. refl; tracks = λ v d. refl }
 
 quieter-same : (k : Control) (ss : List Session) → Quieter k (record k { sessions = ss })
-quieter-same k ss = record { recorded = λ v h. h; attempt = λ v h. refl }
+quieter-same k ss = record { recorded = λ v h. h; attempt = λ v h. refl; partner = λ v h. refl }
 
 pub with-table : (k : Control) (ss : List Session) → Fit k ss → Groups (record k { sessions = ss })
 with-table k ss fit = groups-of k (record k { sessions = ss }) (grows-same k ss) (quieter-same k ss) fit
@@ -158,7 +158,7 @@ fit-new k s l groups none = record {
   lone = lone-origin k.sessions (k.sessions ++ new_session s l ∷ []) groups.lone (λ y m i here. origin y m here (in-joined k.sessions (new_session s l ∷ []) y i));
   recorders = λ v h.
       let r = groups.recorders v h in
-      record { session = r.session; listed = in-first k.sessions (new_session s l ∷ []) r.session r.listed; mirror = r.mirror; has_master = r.has_master; busy = r.busy; member = r.member; here = r.here; is = r.is; last = r.last };
+      record { session = r.session; listed = in-first k.sessions (new_session s l ∷ []) r.session r.listed; mirror = r.mirror; has_master = r.has_master; busy = r.busy; member = r.member; here = r.here; is = r.is; last = r.last; to = r.to };
 }
   where
     each : (x : Session) → In x k.sessions ⊎ In x (new_session s l ∷ []) → SessionFits k x
@@ -188,7 +188,7 @@ fit-without k s groups quiet = record {
   lone = lone-origin k.sessions (without_session s k.sessions) groups.lone (λ y m i here. record { from = y; listed = without-in s k.sessions y i; number = refl; here = here });
   recorders = λ v h.
       let r = groups.recorders v h in
-      record { session = r.session; listed = without-stays s k.sessions r.session r.listed (λ e. r.busy (quiet r.session r.listed e r.mirror r.has_master)); mirror = r.mirror; has_master = r.has_master; busy = r.busy; member = r.member; here = r.here; is = r.is; last = r.last };
+      record { session = r.session; listed = without-stays s k.sessions r.session r.listed (λ e. r.busy (quiet r.session r.listed e r.mirror r.has_master)); mirror = r.mirror; has_master = r.has_master; busy = r.busy; member = r.member; here = r.here; is = r.is; last = r.last; to = r.to };
 }
 
 no-last : (o : Option Mirror) → last_refusal o ≡ None → o ≡ None

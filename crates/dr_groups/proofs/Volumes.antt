@@ -16,7 +16,7 @@ use Rattle.dr_groups.specs.Frames.{Grows, Quieter, Framed, Recorded, RecordedOr,
 use Rattle.dr_groups.proofs.Lists.{false_true, some_is}
 use Rattle.dr_groups.proofs.AtLemmas.{at_cases}
 use Rattle.dr_groups.proofs.Changes.{same-session, changed-becomes}
-use Rattle.dr_groups.proofs.Frames.{Fit, fit-of, groups-fit, groups-of, stands-grows, Turns, turn-quiet}
+use Rattle.dr_groups.proofs.Frames.{Fit, fit-of, groups-fit, recorder-is, groups-of, stands-grows, Turns, turn-quiet}
 use Rattle.dr_groups.proofs.Sound.{mapped, sound-begun, fits-calm}
 use Rattle.dr_groups.proofs.Tables.{with-table, fit-changed}
 
@@ -54,6 +54,7 @@ groups-defined k v server tracks new groups = groups-of k (defined k v server tr
     quieter = record {
       recorded = λ u h. at_cases (λ u (y : Volume). y.fields.recording ≡ true → (fields_at k u).recording ≡ true) k.volume v (new_volume server tracks) (λ h. absurd cc) (λ u ne h. h) u h;
       attempt = λ u h. at_cases (λ u (y : Volume). y.fields.recording ≡ true → y.fields.attempt ≡ (fields_at k u).attempt) k.volume v (new_volume server tracks) (λ h. absurd cc) (λ u ne h. refl) u h;
+      partner = λ u h. at_cases (λ u (y : Volume). y.fields.recording ≡ true → y.fields.primary_partner ≡ (fields_at k u).primary_partner) k.volume v (new_volume server tracks) (λ h. absurd cc) (λ u ne h. refl) u h;
     }
 
 -- ---- nothing more records
@@ -69,12 +70,12 @@ grows-framed j k frame = record {
 }
 
 pub groups-same : (j k : Control) → Framed j k → ((v : ℕ) → (fields_at k v).recording ≡ true → Recorded j k v) → Groups j → Groups k
-groups-same j k frame stays old = groups-still j k frame.sessions (grows-framed j k frame) (record { recorded = λ v h. (stays v h).0; attempt = λ v h. (stays v h).1 }) old
+groups-same j k frame stays old = groups-still j k frame.sessions (grows-framed j k frame) (record { recorded = λ v h. (stays v h).0; attempt = λ v h. (stays v h).1.0; partner = λ v h. (stays v h).1.1 }) old
 
 -- ---- a hold
 
--- v is the primary of a member of a session whose master coordinates, and n is its last number
-pub record HoldsIn (ss : List Session) (v n : ℕ) : Type 0 where
+-- v is the primary of a member of a session whose master coordinates, n is its last number, and the partner is the member's secondary
+pub record HoldsIn (ss : List Session) (v n partner : ℕ) : Type 0 where
   pub session : Session
   pub listed : In session ss
   pub mirror : Mirror
@@ -84,6 +85,7 @@ pub record HoldsIn (ss : List Session) (v n : ℕ) : Type 0 where
   pub here : In member session.members
   pub is : member.a.0 ≡ v
   pub last : n ≡ session.last
+  pub to : partner ≡ member.b.0
 
 holding-busy : (r : Mirror) → r.master.phase ≡ phase.Coordinating → r.master.phase ≢ phase.Idle
 holding-busy r e idle = absurd cc
@@ -91,7 +93,7 @@ holding-busy r e idle = absurd cc
 holding-unfinished : (r q : Mirror) → r ≡ q → r.master.phase ≡ phase.Coordinating → q.master.phase ≡ phase.Finishing → ⊥
 holding-unfinished r q is e ends = let f : r.master.phase ≡ phase.Finishing = ap (λ (q : Mirror). q.master.phase) is ∙ ends in absurd cc
 
-module _ (j k : Control) (ss : List Session) (v n : ℕ) (grows : Grows j k) (stays : (u : ℕ) → (fields_at k u).recording ≡ true → RecordedOr j k v n u) (fit : Fit j ss) (hold : HoldsIn ss v n) where
+module _ (j k : Control) (ss : List Session) (v n : ℕ) (grows : Grows j k) (stays : (u : ℕ) → (fields_at k u).recording ≡ true → RecordedOr j k v n u) (fit : Fit j ss) (hold : HoldsIn ss v n (fields_at j v).primary_partner) where
   -- a session whose master is Finishing isn't that of the hold
   elsewhere : (y : Session) (r : Mirror) (m : Member) → In y ss → y.mirror ≡ Some r → r.master.phase ≡ phase.Finishing → In m y.members → m.a.0 ≢ v
   elsewhere y r m i has ends here e =
@@ -110,7 +112,7 @@ module _ (j k : Control) (ss : List Session) (v n : ℕ) (grows : Grows j k) (st
       by (inl h) = absurd (never (stays m.a.0 h))
       by (inr h) = h
 
-  recorder : (u : ℕ) → (fields_at k u).recording ≡ true → RecordedOr j k v n u → IsRecorder ss u (fields_at k u).attempt
+  recorder : (u : ℕ) → (fields_at k u).recording ≡ true → RecordedOr j k v n u → IsRecorder ss u (fields_at k u).attempt (fields_at k u).primary_partner
   recorder u h (inl itself) = record {
     session = hold.session;
     listed = hold.listed;
@@ -120,9 +122,10 @@ module _ (j k : Control) (ss : List Session) (v n : ℕ) (grows : Grows j k) (st
     member = hold.member;
     here = hold.here;
     is = hold.is ∙ sym itself.0;
-    last = itself.1 ∙ hold.last;
+    last = itself.1.0 ∙ hold.last;
+    to = itself.1.1 ∙ (ap (λ u. (fields_at j u).primary_partner) itself.0 ∙ hold.to);
   }
-  recorder u h (inr recorded) = subst (λ n. IsRecorder ss u n) (sym recorded.1) (fit.recorders u recorded.0)
+  recorder u h (inr recorded) = recorder-is ss u recorded.1.0 recorded.1.1 (fit.recorders u recorded.0)
 
   pub fit-holds : Fit k ss
   fit-holds = record {
@@ -141,7 +144,7 @@ pub groups-held : (j k : Control) (v s n : ℕ) → Framed j k → ((u : ℕ) �
 groups-held j k v s n frame stays holds old =
     let p : IsMember j v s = holds.place in
     groups-fit k (subst (Fit k) (sym frame.sessions) (fit-holds j k j.sessions v n (grows-framed j k frame) stays (fit-of j old)
-    (record { session = p.session; listed = p.listed; mirror = p.mirror; has_master = p.has_master; coordinates = holds.coordinates; member = p.member; here = p.here; is = p.is; last = holds.last })))
+    (record { session = p.session; listed = p.listed; mirror = p.mirror; has_master = p.has_master; coordinates = holds.coordinates; member = p.member; here = p.here; is = p.is; last = holds.last; to = holds.to })))
 
 -- ---- the first hold of an attempt
 
@@ -154,7 +157,7 @@ turn-begun k x quiet fits =
     begins : {p : PhaseName} → phase.Coordinating ≡ p → p ≢ phase.Finishing
     begins e ends = absurd cc
 
-idle-quiet : (x : Session) (q : Mirror) → x.mirror ≡ Some q → q.master.phase ≡ phase.Idle → Quiet x
+pub idle-quiet : (x : Session) (q : Mirror) → x.mirror ≡ Some q → q.master.phase ≡ phase.Idle → Quiet x
 idle-quiet x q has idle r also = ap (λ (z : Mirror). z.master.phase) (some_is (sym also ∙ has)) ∙ idle
 
 pub fit-begun : (k : Control) (v s n : ℕ) → OpensAttempt k v s n → Groups k → Fit k (changed s begun k.sessions)
@@ -179,4 +182,5 @@ groups-opened j k v s n frame stays opens old =
       here = p.here;
       is = p.is;
       last = opens.next;
+      to = opens.to;
     })))

@@ -16,10 +16,11 @@ pub record Grows (k j : Control) : Type 0 where
   pub server : (v : ℕ) → is_volume k v ≡ true → (j.volume v).server ≡ (k.volume v).server
   pub tracks : (v : ℕ) → is_volume k v ≡ true → (j.volume v).tracks ≡ (k.volume v).tracks
 
--- what records then has recorded before, for the same attempt
+-- what records then has recorded before, for the same attempt and with the same partner
 pub record Quieter (k j : Control) : Type 0 where
   pub recorded : (v : ℕ) → (fields_at j v).recording ≡ true → (fields_at k v).recording ≡ true
   pub attempt : (v : ℕ) → (fields_at j v).recording ≡ true → (fields_at j v).attempt ≡ (fields_at k v).attempt
+  pub partner : (v : ℕ) → (fields_at j v).recording ≡ true → (fields_at j v).primary_partner ≡ (fields_at k v).primary_partner
 
 -- sessions, volumes, their servers and their sizes stay
 pub record Framed (j k : Control) : Type 0 where
@@ -28,13 +29,13 @@ pub record Framed (j k : Control) : Type 0 where
   pub server : (v : ℕ) → (k.volume v).server ≡ (j.volume v).server
   pub tracks : (v : ℕ) → (k.volume v).tracks ≡ (j.volume v).tracks
 
--- a volume that records now recorded before, for the same attempt
+-- a volume that records now recorded before, for the same attempt and with the same partner
 abbrev pub Recorded : Control → Control → ℕ → Type 0
-Recorded j k v = ((fields_at j v).recording ≡ true) × ((fields_at k v).attempt ≡ (fields_at j v).attempt)
+Recorded j k v = ((fields_at j v).recording ≡ true) × (((fields_at k v).attempt ≡ (fields_at j v).attempt) × ((fields_at k v).primary_partner ≡ (fields_at j v).primary_partner))
 
 -- or it is v, for attempt n
 abbrev pub RecordedOr : Control → Control → ℕ → ℕ → ℕ → Type 0
-RecordedOr j k v n u = ((u ≡ v) × ((fields_at k u).attempt ≡ n)) ⊎ Recorded j k u
+RecordedOr j k v n u = ((u ≡ v) × (((fields_at k u).attempt ≡ n) × ((fields_at k u).primary_partner ≡ (fields_at j u).primary_partner))) ⊎ Recorded j k u
 
 -- volume v has other fields, and nothing else of a volume changed
 pub record Moves (k j : Control) (v : ℕ) (f : Fields) (c : Carried) : Type 0 where

@@ -30,7 +30,7 @@ pub fn the_laws_of_sessions_begin()
 {}
 
 /// They stay where the sessions do, each volume stays on its server and of its size, and what records then has recorded before,
-/// for the same attempt; and in each kind of move, of which a hold is one of its session.
+/// for the same attempt and with the same partner; and in each kind of move, of which a hold is one of its session.
 pub fn each_move_keeps_the_laws_of_sessions()
     ensures still { (k j : Control) → j.sessions ≡ k.sessions → Grows k j → Quieter k j → Groups k → Groups j }
     ensures same { (j k : Control) → Framed j k → ((v : ℕ) → (fields_at k v).recording ≡ true → Recorded j k v) → Groups j → Groups k }
@@ -113,11 +113,12 @@ pub fn a_changed_session_is_the_only_one()
 {}
 
 /// Nobody records in a session without a master, or whose master is Idle; a member that doesn't record its session's last attempt
-/// records none; and a volume without a place doesn't record.
+/// records none; and a volume without a place doesn't record. The partner of one that records is its member's secondary.
 pub fn only_members_record()
     ensures quiet { (k : Control) (x : Session) (m : Member) → Groups k → In x k.sessions → Quiet x → In m x.members → (fields_at k m.a.0).recording ≡ false }
     ensures member { (k : Control) (x : Session) (m : Member) (n : ℕ) → Groups k → In x k.sessions → In m x.members → x.last ≡ n → records n (fields_at k m.a.0) ≡ false → (fields_at k m.a.0).recording ≡ false }
     ensures past { (k : Control) (x : Session) (m : Member) (n : ℕ) → Groups k → In x k.sessions → In m x.members → x.last ≡ n → is_past n (fields_at k m.a.0) ≡ true → (fields_at k m.a.0).recording ≡ false }
+    ensures partner { (k : Control) (x : Session) (m : Member) → Groups k → In x k.sessions → In m x.members → (fields_at k m.a.0).recording ≡ true → (fields_at k m.a.0).primary_partner ≡ m.b.0 }
     ensures stranger { (k : Control) (v : ℕ) → Groups k → ((x : Session) (m : Member) → In x k.sessions → In m x.members → m.a.0 ≢ v) → (fields_at k v).recording ≡ false }
     ensures placeless { (k : Control) (m : Member) (v : ℕ) → Groups k → find (has_place_of m) k.sessions ≡ None → IsAt v m → (fields_at k v).recording ≡ false }
     ensures apart { (k : Control) (x : Session) (m : Member) (v : ℕ) → Groups k → In x k.sessions → In m x.members → (v ≡ m.b.0) ⊎ (v ≡ m.c.0) → (fields_at k v).recording ≡ false }
@@ -125,16 +126,16 @@ pub fn only_members_record()
 
 /// What a master's order begins with or holds is one of its session, with the number that it is to have.
 pub fn orders_hold_members()
-    ensures holds { (k : Control) (s : ℕ) (x : Session) (r : Mirror) (m : Member) → Groups k → session_in k.sessions s ≡ Some x → x.mirror ≡ Some r → In m x.members → r.master.phase ≡ phase.Coordinating → HoldsMember k m.a.0 s r.master.number }
-    ensures opens { (k : Control) (s : ℕ) (x : Session) (r : Mirror) (m : Member) → Groups k → session_in k.sessions s ≡ Some x → x.mirror ≡ Some r → In m x.members → r.master.phase ≡ phase.Idle → OpensAttempt k m.a.0 s (r.master.number + 1) }
+    ensures holds { (k : Control) (s : ℕ) (x : Session) (r : Mirror) (m : Member) → Groups k → session_in k.sessions s ≡ Some x → x.mirror ≡ Some r → In m x.members → (fields_at k m.a.0).primary_partner ≡ m.b.0 → r.master.phase ≡ phase.Coordinating → HoldsMember k m.a.0 s r.master.number }
+    ensures opens { (k : Control) (s : ℕ) (x : Session) (r : Mirror) (m : Member) → Groups k → session_in k.sessions s ≡ Some x → x.mirror ≡ Some r → In m x.members → (fields_at k m.a.0).primary_partner ≡ m.b.0 → r.master.phase ≡ phase.Idle → OpensAttempt k m.a.0 s (r.master.number + 1) }
 {}
 
 /// While a server carries out a hold, the first member that isn't held yet begins the attempt where none has begun, and each other is
 /// held for the one that has.
 pub fn one_member_after_another_is_held()
     ensures begins { (k : Control) (s server : ℕ) (x : Session) (r : Mirror) (o : phases.Order) → Groups k → session_in k.sessions s ≡ Some x → x.mirror ≡ Some r → order_of r server ≡ Some o → o.work ≡ phases.Hold → Holding k s o.number x.members }
-    ensures opens { (k : Control) (s n : ℕ) (ms : List Member) (m : Member) → Holding k s n ms → In m ms → nat_lt (last_of k s) n ≡ true → OpensAttempt k m.a.0 s n }
-    ensures holds { (k : Control) (s n : ℕ) (ms : List Member) (m : Member) → Holding k s n ms → In m ms → nat_lt (last_of k s) n ≡ false → HoldsMember k m.a.0 s n }
+    ensures opens { (k : Control) (s n : ℕ) (ms : List Member) (m : Member) → Holding k s n ms → In m ms → (fields_at k m.a.0).primary_partner ≡ m.b.0 → nat_lt (last_of k s) n ≡ true → OpensAttempt k m.a.0 s n }
+    ensures holds { (k : Control) (s n : ℕ) (ms : List Member) (m : Member) → Holding k s n ms → In m ms → (fields_at k m.a.0).primary_partner ≡ m.b.0 → nat_lt (last_of k s) n ≡ false → HoldsMember k m.a.0 s n }
     ensures stays { (k j : Control) (s n : ℕ) (ms : List Member) → j.sessions ≡ k.sessions → Holding k s n ms → Holding j s n ms }
     ensures begun { (k j : Control) (v s n : ℕ) (ms : List Member) → j.sessions ≡ changed s begun k.sessions → nat_lt (last_of k s) n ≡ true → Holding k s n ms → Holding j s n ms }
 {}

@@ -28,14 +28,12 @@ use Rattle.dr_model.specs.Control.{Control, Pending, is_volume}
 use Rattle.dr_model.specs.Relations.{Choices}
 use Rattle.dr_model.specs.Moves.{is_write}
 use Rattle.dr_ids.specs.declared.names.Member.{Member}
-use Rattle.dr_ids.specs.declared.refusal.Refusal.TheVariants.{OutOfOrder}
 use Rattle.dr_ids.specs.declared.refusal.Kind.TheVariants.{Session as OfSession}
-use Rattle.dr_ids.specs.declared.refusal.PhaseName.TheVariants as phase
 use Rattle.dr_model.specs.Phases as phases
-use Rattle.dr_model.specs.Sessions.{Session, Mirror, session_in, has_place_of, is_member, joined, left, changed, mirrored_by, paused, unmirrored, with_master, with_member, without_member, raised, busy, in_session, not_in_session, leave_refusal, join_refusal, make_refusal, drop_refusal, abort_refusal}
+use Rattle.dr_model.specs.Sessions.{Session, Mirror, session_in, has_place_of, joined, left, changed, mirrored_by, paused, unmirrored, with_master, with_member, without_member, raised, busy, in_session, leave_refusal, join_refusal, make_refusal, drop_refusal, abort_refusal}
 use Rattle.dr_model.specs.SessionEntries.{order_entries, members_on, first_number, add_entries, expel_entries}
-use Rattle.dr_model.specs.Entries.{fields_at, relation_state}
-use Rattle.dr_model.specs.SessionPlans.{with_sessions, table_plan, says_phase, name_refusal, off_refusal, outside_refusal, master_refusal, place_refusal, taken_refusal, copy_refusal, member_target, member_with, add_done, add_target, add_to, expel_done, expel_found, exchange_refusal, order_of, answered_by, exchange_done, exchange_on, mirror_ahead, is_ahead, on_volume, join_plan, leave_plan, mirror_plan, pause_mirror_plan, unmirror_plan, abort_plan, add_plan, expel_plan, exchange_plan}
+use Rattle.dr_model.specs.Entries.{fields_at}
+use Rattle.dr_model.specs.SessionPlans.{with_sessions, table_plan, says_phase, name_refusal, off_refusal, outside_refusal, master_refusal, place_refusal, taken_refusal, copy_refusal, member_target, member_with, add_target, add_to, expel_done, expel_found, exchange_refusal, order_of, answered_by, exchange_done, exchange_on, is_ahead, on_volume, join_plan, leave_plan, mirror_plan, pause_mirror_plan, unmirror_plan, abort_plan, add_plan, expel_plan, exchange_plan}
 use Rattle.dr_model.specs.Plans.{Plan, plan, step_plan, plan_of, is_built, is_later, has_room, same, none_follow, always, on_session, is_defined, only_says, refuses, unless, on_named, on_server, name_bytes, server_named, server_refusal, server_done, volume_refusal, volume_done, link_between, link_done, track_refusal, issue_refusal, issue_done, write_done, apply_on, apply_done, show_refusal, show_done, is_foreign, stop_on, stop_done, arm_on, start_on, start_plan, flash_plan, withdraw_plan, resync_plan, reverse_plan, copy_plan, on_owner, owner_of, path_refusal, path_done, unpath_refusal, unpath_done, pair_plan, remove_plan, pause_plan, resume_plan, drain_plan, expire_on, expire_plan, freeze_refusal, freeze_done, thaw_refusal, thaw_done}
 use Rattle.dr_model.specs.Entries.{first_of, subsystem}
 

@@ -11,7 +11,7 @@ use Rattle.dr_model.specs.Laws.{Sound}
 use Rattle.dr_laws.proofs.Turns.{done, done_in_stop, opened_in_stop, server_of, after_act}
 use Rattle.dr_laws.proofs.KeepsQueue.{all-filter}
 use Rattle.dr_laws.proofs.Along as along
-use Rattle.dr_laws.proofs.KeepsSound.{MayDo, Along, Then, comes, keeps-sound}
+use Rattle.dr_laws.proofs.KeepsSound.{MayDo, Along, Then, keeps-sound}
 use Rattle.dr_laws.proofs.Fair.{Fair, tag_after, come, come-open}
 use Rattle.dr_laws.proofs.Tidy.{Gentle, Tidy, tidy-done, tidy-stop, tidy-not, tidy-same, fresh-told}
 use Rattle.dr_laws.proofs.Chains.{FairAct, act_tag, CountsFin, fairly_next, Fairly, fairly-entry, fairly-nil, good-none}

@@ -1,5 +1,5 @@
 -- Lines on sessions are fair.
-use Rattle.std.proofs.Common.{ℕ, ◌≡◌, ◌<◌, refl, ap, sym, ◌∙◌, subst, Bool, true, false, cond, not, ◌&&◌, nat_eq, nat_lt, List, [], ◌∷◌, ◌++◌, Option, Some, None}
+use Rattle.std.proofs.Common.{ℕ, ◌≡◌, ◌<◌, refl, ap, sym, ◌∙◌, subst, Bool, true, false, cond, not, ◌&&◌, nat_eq, nat_lt, List, [], ◌∷◌, Option, Some, None}
 use Rattle.std.proofs.lemmas.List.{append-nil}
 use Rattle.dr_ids.specs.declared.names.Member.{Member}
 use Rattle.dr_ids.specs.declared.refusal.Refusal.{Refusal}
@@ -10,8 +10,8 @@ use Rattle.dr_model.specs.Control.{Control, World}
 use Rattle.dr_model.specs.Sessions.{Session}
 use Rattle.dr_model.specs.Phases.{Work, Hold, Release, Seal, Flash, Commit, Revert, Finish, Report}
 use Rattle.dr_model.specs.Carry.{Make, OpenAttempt, Next, Pass, Do, Entry, carry}
-use Rattle.dr_model.specs.SessionEntries.{last_of, is_drained, is_past, hold_refusal, stale_refusal, hold_on, void_refusal, free_on, seal_refusal, seal_on, finish_on, member_entries, order_entries, raise_attempt_on, raise_floor_on, add_entries, expel_entries}
-use Rattle.dr_model.specs.SessionPlans.{with_sessions, table_plan}
+use Rattle.dr_model.specs.SessionEntries.{last_of, is_drained, is_past, hold_refusal, stale_refusal, void_refusal, seal_refusal, member_entries, order_entries, add_entries, expel_entries}
+use Rattle.dr_model.specs.SessionPlans.{table_plan}
 use Rattle.dr_model.specs.Plans.{Plan, same, none_follow}
 use Rattle.dr_model.specs.Runs.{begun}
 use Rattle.dr_model.specs.Laws.{Sound, AllPending}
@@ -23,7 +23,7 @@ use Rattle.dr_laws.proofs.KeepsSound.{StepHolds, RowsAt, MayDo, keeps-sound}
 use Rattle.dr_laws.proofs.FitsSessions.{Orders}
 use Rattle.dr_laws.proofs.Tidy.{tidy-same, fresh-told}
 use Rattle.dr_laws.proofs.Chains.{fairly-nil, PlanFin, EndFin, Leaves, good-none, told-unchanged}
-use Rattle.dr_laws.proofs.FairPlans.{EasyNext, AllEasy, easy-nil, easy-cons, easy-append, Between, easy-ended}
+use Rattle.dr_laws.proofs.FairPlans.{EasyNext, AllEasy, easy-nil, easy-append, Between, easy-ended}
 use Rattle.dr_laws.proofs.FairCases.{rows-between, answers-between, begun-between, easy-refuse, Fair}
 use Rattle.dr_laws.proofs.Along as along
 

@@ -12,7 +12,8 @@ use Rattle.dr_laws.specs.Moments.{moments_from}
 use Rattle.dr_laws.specs.Windows.{FreezeCut}
 use Rattle.dr_laws.proofs.Cases.{Case, Says, Defines, Adds, Links, Issues, Writes, Applies, Shows, Stops, Arms, Starts, Flashes, Withdraws, Resyncs, Reverses, Copies, Paths, Unpaths, MakesPair, RemovesPair, Pauses, ResumesPair, Drains, Expires, Freezes, Thaws, JoinsSession, LeavesSession, Mirrors, PausesMirror, Unmirrors, Aborts, AddsMember, Expels, Exchanges, added, expelled, aborted, ordered, plan-case}
 use Rattle.dr_laws.proofs.Steps.{sound-nothing, case-holds}
-use Rattle.dr_laws.proofs.FitsSessions.{orders-added, orders-expelled, orders-ordered}
+use Rattle.dr_laws.proofs.FitsMembers.{orders-added, orders-expelled}
+use Rattle.dr_laws.proofs.FitsOrders.{orders-ordered}
 use Rattle.dr_laws.proofs.FairSessions.{fair-sessions, fair-leaving, easy-add, easy-expel, easy-order}
 use Rattle.dr_laws.proofs.Windows.{Chain, freeze-cut}
 use Rattle.dr_laws.proofs.Chains.{run-chain}
@@ -76,7 +77,7 @@ fair-case w k line _ (AddsMember i a c x joins) =
 fair-case w k line _ (Expels i a x m found is idle on) = fair-leaving w k (expel_entries i m) (expelled i m).last (expelled i m).says (λ k. (_, refl)) (orders-expelled w k.sound i a x m found is idle on) (easy-expel i m)
 fair-case w k line _ (Exchanges i server reply x r o allowed) =
     let ms : List Member = members_on server x.members in
-    fair-leaving w k (order_entries o.work i o.number ms) (ordered i server reply ms o).last (ordered i server reply ms o).says (by reply) (orders-ordered w k.sound i server reply x r o allowed) (easy-order o.work i o.number ms)
+    fair-leaving w k (order_entries o.work i o.number ms) (ordered i server reply ms o).last (ordered i server reply ms o).says (by reply) (orders-ordered w k.sound i server x r o allowed reply) (easy-order o.work i o.number ms)
   where
     by : (b : Bool) (k : Control) → (ss : List Session) × (cond b (answered_by i server o.work (members_on server x.members)) same k ≡ record k { sessions = ss })
     by true k = (_, refl)

@@ -12,15 +12,15 @@ use Rattle.dr_model.specs.declared.state.Part.TheVariants.{Global}
 use Rattle.dr_model.specs.Layout.{Fields, is_part}
 use Rattle.dr_model.specs.Pairs.{secondary_of, primary_of, is_metro, is_kind, is_last, is_secondary_of, collides}
 use Rattle.dr_model.specs.Views.{source_of}
-use Rattle.dr_model.specs.Control.{Control, Fuse, Pending, Volume, World}
+use Rattle.dr_model.specs.Control.{Fuse, Pending, Volume, World}
 use Rattle.dr_model.specs.Moves.{Move, Suspend, Store, Strike, target, is_write, tracks_after}
 use Rattle.dr_model.specs.Carry.{Make, Pass, Do, Entry}
-use Rattle.dr_model.specs.Entries.{fields_at, is_running, is_revertible, is_settled, targets_of, stands_in, relation_state, keep_on, land_alone}
+use Rattle.dr_model.specs.Entries.{fields_at, is_running, is_settled, targets_of, relation_state, keep_on, land_alone}
 use Rattle.dr_model.specs.PairEntries.{has_path, are_linked, reach_refusal, belongs_to, send_refusal, flashed_refusal, store_on, strike_on, suspend_where}
-use Rattle.dr_model.specs.WriteEntries.{partner_of, sends_first, where_sent, send_first, land_collided}
+use Rattle.dr_model.specs.WriteEntries.{partner_of, sends_first, where_sent, land_collided}
 use Rattle.dr_model.specs.Table.{table}
 use Rattle.dr_model.specs.Laws.{Sound}
-use Rattle.dr_model.specs.Allowed.{Kept, Runs}
+use Rattle.dr_model.specs.Allowed.{Runs}
 use Rattle.dr_model.proofs.Images.{at_same, at_other}
 use Rattle.dr_laws.proofs.AtLemmas.{at_part}
 use Rattle.dr_laws.proofs.Sets.{false_true, if_true, has_source, from_source, not_removed}
@@ -32,7 +32,7 @@ use Rattle.dr_laws.proofs.KeepsSound.{Along, Then, decides}
 use Rattle.dr_laws.proofs.Cases.{one-passed, or-passed, met, is-not}
 use Rattle.dr_laws.proofs.CopyFirst.{Still, from, copy-first}
 use Rattle.dr_laws.proofs.Lands.{Unrestored, unrestored, waits, plain-lands}
-use Rattle.dr_laws.proofs.FitsPairs.{reached, its-first, row, runs-done, part-same}
+use Rattle.dr_laws.proofs.FitsPairs.{its-first, row, runs-done, part-same}
 
 -- a move that leaves who is restored onto whom
 pub unrestored-done : (v : ℕ) (k : World) (m : Move) (h : Option Fuse) → source_of (next_of k m) ≡ source_of (fields_at k.control (target m)) → (next_of k m).reversing ≡ (fields_at k.control (target m)).reversing → Unrestored k v → Unrestored (done k m h) v

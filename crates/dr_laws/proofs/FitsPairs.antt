@@ -1,5 +1,5 @@
 -- The plans on pairs are allowed along: a pair is made and removed, paused and resumed.
-use Rattle.std.proofs.Common.{ℕ, zero, suc, ◌≡◌, ◌≢◌, ◌<◌, ◌+◌, inl, inr, refl, ap, sym, ◌∙◌, subst, Bool, true, false, cond, not, ◌&&◌, nat_eq, List, [], ◌∷◌, ◌++◌, append_assoc, map, filter, take, Option, Some, None, arith}
+use Rattle.std.proofs.Common.{ℕ, zero, suc, ◌≡◌, ◌≢◌, ◌<◌, ◌+◌, inl, inr, refl, ap, sym, ◌∙◌, subst, Bool, true, false, cond, not, ◌&&◌, nat_eq, List, [], ◌∷◌, ◌++◌, Option, Some, None, arith}
 use Rattle.std.specs.Prelude.{is_some}
 use Rattle.std.proofs.lemmas.List.{append-nil}
 use Rattle.std.proofs.lemmas.Bool.{and_parts, eqb-true, eq-eqb, not-true}
@@ -7,34 +7,29 @@ use Rattle.std.proofs.lemmas.Bool.Decides.{eqb_tells}
 use Rattle.std.proofs.lemmas.Slice.Eq.{bytes_eq-Decides}
 use Rattle.std.specs.List.{find, range_with_len}
 use Rattle.std.specs.Str.{bytes_eq}
-use Rattle.std.specs.FinSet.{contains}
 use Rattle.dr_ids.specs.declared.refusal.Refusal.{Refusal}
 use Rattle.dr_model.specs.declared.state.Part.{Part}
 use Rattle.dr_model.specs.declared.state.PairState.{PairState}
 use Rattle.dr_model.specs.declared.state.PairState.TheVariants.{Suspended}
 use Rattle.dr_model.specs.declared.step.Devs.{Devs}
 use Rattle.dr_model.specs.Contents.{image_at}
-use Rattle.dr_model.specs.Layout.{Tracks, Fields, is_part}
-use Rattle.dr_model.specs.Relations.{in_order}
-use Rattle.dr_model.specs.Pairs.{is_metro, is_kind, is_suspended, secondary_of, primary_of, is_primary_of, is_secondary_of, first_state, next_state, is_last}
+use Rattle.dr_model.specs.Layout.{Fields, is_part}
+use Rattle.dr_model.specs.Pairs.{is_kind, is_suspended, secondary_of, primary_of, is_primary_of, is_secondary_of, first_state, next_state}
 use Rattle.dr_model.specs.Control.{Control, Fuse, Volume, World, is_volume}
-use Rattle.dr_model.specs.Moves.{Move, Store, Strike, Suspend, MakeSecondary, MakePrimary, DropPrimary, DropSecondary, Follow, Resume, target, moved, tracks_after}
+use Rattle.dr_model.specs.Moves.{Move, Suspend, MakeSecondary, MakePrimary, DropPrimary, DropSecondary, Follow, Resume, target, moved}
 use Rattle.dr_model.specs.Carry.{Make, Pass, Do, Entry, now}
-use Rattle.dr_model.specs.Entries.{fields_at, is_running, share_size, is_no_target, is_settled, keep_on}
-use Rattle.dr_model.specs.PairEntries.{has_path, reach_refusal, end_if, refuse_if, first_differing, differs_at, two_servers, stands_free, may_follow, leads_to, belongs_to, are_linked, let_go, remove_both, may_pause, tell_paused, may_resume, follow_on, resume_on, send_refusal, suspend_where, flashed_refusal, store_on, strike_on, send_entries, sends, suspend_running, suspend_after, tracks_to_send, is_copying}
+use Rattle.dr_model.specs.Entries.{fields_at, is_running, share_size, is_no_target, is_settled}
+use Rattle.dr_model.specs.PairEntries.{has_path, reach_refusal, end_if, refuse_if, first_differing, differs_at, two_servers, stands_free, may_follow, leads_to, belongs_to, are_linked, let_go, remove_both, may_pause, tell_paused, may_resume, follow_on, resume_on}
 use Rattle.dr_model.specs.Plans.{is_defined, is_owner, found_volumes, pair_plan, remove_plan, pause_plan, resume_plan, member_refusal}
-use Rattle.dr_model.specs.Table.{table}
 use Rattle.dr_model.specs.Laws.{Sound}
 use Rattle.dr_model.specs.Allowed.{Runs}
 use Rattle.dr_model.proofs.Images.{at_same, at_other}
 use Rattle.dr_laws.proofs.AtLemmas.{at_part}
-use Rattle.dr_laws.proofs.Sets.{false_true, if_true, has_source, from_source}
+use Rattle.dr_laws.proofs.Sets.{false_true, has_source}
 use Rattle.dr_laws.proofs.Turns.{done, next_of, carried_in}
 use Rattle.dr_laws.proofs.RowsAfter.{idle}
-use Rattle.dr_laws.proofs.KeepsParts.{unrelated, unrelated_primary}
-use Rattle.dr_laws.proofs.KeepsSound.{Along, Then, StepHolds, holds-moves, over, decides, moves, checked}
-use Rattle.dr_laws.proofs.Cases.{one-passed, or-passed, met, is-not}
-use Rattle.dr_laws.proofs.CopyFirst.{from, copy-first}
+use Rattle.dr_laws.proofs.KeepsSound.{Along, Then, StepHolds, over, decides, moves, checked}
+use Rattle.dr_laws.proofs.Cases.{one-passed, is-not}
 use Rattle.dr_laws.proofs.FitsFlash.{as_begun, sound-begun, holds-entries, both-not}
 use Rattle.dr_laws.proofs.Lands.{unrestored}
 use Rattle.dr_laws.proofs.Agree.{contents-image}

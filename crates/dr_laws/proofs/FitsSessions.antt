@@ -1,23 +1,17 @@
 -- The plans of lines on sessions.
-use Rattle.std.proofs.Common.{ℕ, ◌≡◌, refl, ap, sym, subst, Bool, List, [], ◌∷◌, ◌++◌, Option, Some, None}
-use Rattle.std.proofs.lemmas.List.{append-nil}
-use Rattle.std.specs.List.{find}
-use Rattle.std.specs.Prelude.{◌==◌}
-use Rattle.dr_ids.specs.declared.names.Member.{Member}
+use Rattle.std.proofs.Common.{ℕ, ◌≡◌, Bool, List, Some, None}
 use Rattle.dr_model.specs.declared.said.Said.{Said}
 use Rattle.dr_model.specs.Phases as phases
-use Rattle.dr_model.specs.Sessions.{Session, Mirror, session_in, joined, left, changed, mirrored_by, paused, unmirrored, with_master, busy, join_refusal, leave_refusal, make_refusal, drop_refusal, abort_refusal}
-use Rattle.dr_model.specs.Histories.{histories}
+use Rattle.dr_model.specs.Sessions.{Session, session_in, joined, left, changed, mirrored_by, paused, unmirrored, with_master, join_refusal, leave_refusal, make_refusal, drop_refusal, abort_refusal}
 use Rattle.dr_model.specs.Control.{Control, World}
 use Rattle.dr_model.specs.Groups.{Groups}
 use Rattle.dr_model.specs.Plans.{Plan}
-use Rattle.dr_model.specs.SessionEntries.{members_on}
-use Rattle.dr_model.specs.SessionPlans.{with_sessions, table_plan, off_refusal, member_with}
+use Rattle.dr_model.specs.SessionPlans.{with_sessions, table_plan}
 use Rattle.dr_model.specs.Runs.{begun, masters_lost}
 use Rattle.dr_model.specs.Laws.{Sound}
 use Rattle.dr_groups.proofs.PlanTables.{no-maker}
 use Rattle.dr_groups.proofs.Tables.{groups-lost, groups-joined, groups-left, groups-mirrored, groups-paused, groups-unmirrored, groups-aborted}
-use Rattle.dr_laws.proofs.Cases.{Joins, Ordered, added, expelled, aborted, ordered}
+use Rattle.dr_laws.proofs.Cases.{aborted}
 use Rattle.dr_laws.proofs.FitsFlash.{as_begun, sound-begun}
 use Rattle.dr_laws.proofs.KeepsSound.{Along, MayDo, StepHolds, keeps-sound, holds-moves, over}
 use Rattle.dr_laws.proofs.Along as along
@@ -84,14 +78,3 @@ holds-orders w p o = record {
   follows = o.follows;
   last = o.last;
 }
-
--- members that come and go, and orders
-module _ (w : World) (s : Sound w) where
-  pub orders-added : (i a c : ℕ) (x : Session) → Joins w.control i a c x → Orders w (added w.control i x (member_with w.control a c))
-  orders-added i a c x joins = ?
-
-  pub orders-expelled : (i a : ℕ) (x : Session) (m : Member) → session_in w.control.sessions i ≡ Some x → find (λ (m : Member). m.a.0 == a) x.members ≡ Some m → busy x.mirror ≡ None → off_refusal w.control (w.control.volume m.c.0).server ≡ None → Orders w (expelled i m)
-  orders-expelled i a x m found is idle on = ?
-
-  pub orders-ordered : (i server : ℕ) (reply : Bool) (x : Session) (r : Mirror) (o : phases.Order) → Ordered w.control i server x r o → Orders w (ordered i server reply (members_on server x.members) o)
-  orders-ordered i server reply x r o allowed = ?

@@ -4,15 +4,13 @@ use Rattle.std.specs.Prelude.{is_some}
 use Rattle.std.proofs.lemmas.Bool.{and_parts, or_parts, eq-eqb, not-true}
 use Rattle.std.specs.FinSet.{contains}
 use Rattle.dr_model.specs.declared.event.Event.TheVariants.{Mirrored}
-use Rattle.dr_model.specs.declared.state.Part.{Part}
-use Rattle.dr_model.specs.declared.state.Part.TheVariants.{Absent, Metro, Global}
+use Rattle.dr_model.specs.declared.state.Part.TheVariants.{Global}
 use Rattle.dr_model.specs.Contents.{with_write}
 use Rattle.dr_model.specs.Histories.{Histories, histories}
 use Rattle.dr_model.specs.Layout.{Fields, is_part}
 use Rattle.dr_model.specs.Pairs.{secondary_of, primary_of, is_metro, is_kind, held, goes_over, collides}
-use Rattle.dr_model.specs.Views.{source_of}
 use Rattle.dr_model.specs.Control.{Control, Fuse, Pending, Volume, World}
-use Rattle.dr_model.specs.Moves.{Move, Suspend, Unsync, Mirror, LandBoth, target, is_write, tracks_after}
+use Rattle.dr_model.specs.Moves.{Move, Suspend, Unsync, Mirror, LandBoth, is_write, tracks_after}
 use Rattle.dr_model.specs.Carry.{Make, Pass, Do, now}
 use Rattle.dr_model.specs.Entries.{fields_at, is_running, is_no_secondary, is_open, is_settled, copy_first, keep_on, land_alone}
 use Rattle.dr_model.specs.PairEntries.{reach_refusal, belongs_to, send_refusal, suspend_after}

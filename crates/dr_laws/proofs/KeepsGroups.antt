@@ -32,10 +32,10 @@ module _ (w : World) (write : ℕ → Write) (on : ℕ → Bool) (fuse : ℕ →
     tracks = at_part (λ (x : Volume). x.tracks) w.control.volume (target m) (next m) refl;
   }
 
-  -- a volume that records recorded, for the same attempt
-  by : (m : Move) → ((next_of w m).recording ≡ true → ((fields_at w.control (target m)).recording ≡ true) × ((next_of w m).attempt ≡ (fields_at w.control (target m)).attempt)) → Groups w.control → Groups (after m)
+  -- a volume that records recorded, for the same attempt and with the same partner
+  by : (m : Move) → ((next_of w m).recording ≡ true → ((fields_at w.control (target m)).recording ≡ true) × (((next_of w m).attempt ≡ (fields_at w.control (target m)).attempt) × ((next_of w m).primary_partner ≡ (fields_at w.control (target m)).primary_partner))) → Groups w.control → Groups (after m)
   by m here old = groups-same w.control (after m) (frame m)
-      (at_cases (λ u (x : Volume). x.fields.recording ≡ true → ((fields_at w.control u).recording ≡ true) × (x.fields.attempt ≡ (fields_at w.control u).attempt)) w.control.volume (target m) (next m) here (λ q ne h. (h, refl))) old
+      (at_cases (λ u (x : Volume). x.fields.recording ≡ true → ((fields_at w.control u).recording ≡ true) × ((x.fields.attempt ≡ (fields_at w.control u).attempt) × (x.fields.primary_partner ≡ (fields_at w.control u).primary_partner))) w.control.volume (target m) (next m) here (λ q ne h. (h, (refl, refl)))) old
 
   lifted : (held records : Bool) → cond held false records ≡ true → records ≡ true
   lifted true records h = absurd cc
@@ -44,8 +44,8 @@ module _ (w : World) (write : ℕ → Write) (on : ℕ → Bool) (fuse : ℕ →
   -- or is held for this one
   holds : (v s n : ℕ) (first : Bool) (u : ℕ) → (fields_at (after (Hold v s n first)) u).recording ≡ true → RecordedOr w.control (after (Hold v s n first)) v n u
   holds v s n first =
-      at_cases (λ u (x : Volume). x.fields.recording ≡ true → ((u ≡ v) × (x.fields.attempt ≡ n)) ⊎ (((fields_at w.control u).recording ≡ true) × (x.fields.attempt ≡ (fields_at w.control u).attempt))) w.control.volume v (next (Hold v s n first))
-      (λ h. inl (refl, refl)) (λ q ne h. inr (h, refl))
+      at_cases (λ u (x : Volume). x.fields.recording ≡ true → ((u ≡ v) × ((x.fields.attempt ≡ n) × (x.fields.primary_partner ≡ (fields_at w.control u).primary_partner))) ⊎ (((fields_at w.control u).recording ≡ true) × ((x.fields.attempt ≡ (fields_at w.control u).attempt) × (x.fields.primary_partner ≡ (fields_at w.control u).primary_partner)))) w.control.volume v (next (Hold v s n first))
+      (λ h. inl (refl, (refl, refl))) (λ q ne h. inr (h, (refl, refl)))
 
   pub groups-after : (m : Move) → Allowed write (table w) m → InGroup w.control m → Groups w.control → Groups (after m)
   groups-after (Hold v s n first) a g old = groups-held w.control (after (Hold v s n first)) v s n (frame (Hold v s n first)) (holds v s n first) g old
@@ -55,9 +55,9 @@ module _ (w : World) (write : ℕ → Write) (on : ℕ → Bool) (fuse : ℕ →
   groups-after (TakeOver v) a g old = by (TakeOver v) (λ h. absurd cc) old
   groups-after (Restart v) a g old = by (Restart v) (λ h. absurd cc) old
   groups-after (Finish v n) a g old = by (Finish v n) (λ h. absurd cc) old
-  groups-after (Lift v) a g old = by (Lift v) (λ h. (lifted (fields_at w.control v).coordination (fields_at w.control v).recording h, refl)) old
+  groups-after (Lift v) a g old = by (Lift v) (λ h. (lifted (fields_at w.control v).coordination (fields_at w.control v).recording h, (refl, refl))) old
   groups-after (RaiseAttempt v n) a g old = by (RaiseAttempt v n) (λ h. false_true a.idle h) old
-  groups-after m a g old = by m (λ h. (h, refl)) old
+  groups-after m a g old = by m (λ h. (h, (refl, refl))) old
 
   -- the first hold of an attempt, with which it begins
   pub groups-begun : (v s n : ℕ) → OpensAttempt w.control v s n → Groups w.control → Groups (record (after (Hold v s n true)) { sessions = changed s begun w.control.sessions })

@@ -1,7 +1,7 @@
 -- Each kind of move keeps what a primary that records is, and no relationship is revertible.
-use Rattle.std.proofs.Common.{ℕ, ◌≡◌, refl, ap, ◌∙◌, sym, Bool, true, false, cond, not, ◌&&◌, ◌||◌}
+use Rattle.std.proofs.Common.{ℕ, ◌≡◌, refl, Bool, true, false, cond, not, ◌&&◌, ◌||◌}
 use Rattle.std.proofs.lemmas.Bool.{or_parts}
-use Rattle.std.specs.FinSet.{contains, insert, union, empty}
+use Rattle.std.specs.FinSet.{contains, insert, empty}
 use Rattle.dr_model.specs.declared.state.Part.{Part}
 use Rattle.dr_model.specs.declared.state.Part.TheVariants.{Absent, Metro, Global}
 use Rattle.dr_model.specs.declared.state.PairState.{PairState}
@@ -16,7 +16,7 @@ use Rattle.dr_model.specs.Rows.{after, next_row}
 use Rattle.dr_model.specs.Laws.{Records, RowRecords, Recorders, AllFinal, fields}
 use Rattle.dr_model.specs.Allowed.{Allowed}
 use Rattle.dr_laws.proofs.AtLemmas.{each-at}
-use Rattle.dr_laws.proofs.Sets.{false_true, empty_has}
+use Rattle.dr_laws.proofs.Sets.{empty_has}
 
 -- a part is of one kind, and a pair in one state
 pub not-metro : (part : Part) → is_kind Global part ≡ true → is_metro part ≡ true → ⊥

@@ -28,7 +28,6 @@ use Rattle.dr_laws.proofs.KeepsRecorded.{kept-recorded}
 use Rattle.dr_laws.proofs.KeepsRecorders.{kept-recorders, kept-final}
 use Rattle.dr_laws.proofs.KeepsPairs.{kept-pairs}
 use Rattle.dr_laws.proofs.KeepsGroups.{groups-after, groups-begun, housed-after}
-use Rattle.dr_groups.specs.Frames.{Framed}
 use Rattle.dr_groups.proofs.Volumes.{groups-same}
 use Rattle.dr_laws.proofs.KeepsTargets.{few-after}
 use Rattle.dr_laws.proofs.KeepsQueue.{AllQuiet, queue-done, queue-stop, queue-same, goes-off, all-filter, apart-filter, lone-filter}
@@ -97,7 +96,7 @@ module _ (starts : Option ℕ) where
       }
 
   told-groups : (w : World) (servers : List (List ℕ)) (on : ℕ → Bool) (fuse : ℕ → Option Fuse) (link : ℕ → ℕ → Bool) (paths : List Path) → Groups w.control → Groups (record w.control { servers = servers; on = on; fuse = fuse; link = link; paths = paths })
-  told-groups w servers on fuse link paths = groups-same w.control _ (record { sessions = refl; volumes = refl; server = λ v. refl; tracks = λ v. refl }) (λ v h. (h, refl))
+  told-groups w servers on fuse link paths = groups-same w.control _ (record { sessions = refl; volumes = refl; server = λ v. refl; tracks = λ v. refl }) (λ v h. (h, (refl, refl)))
 
   -- events that change no list, one server more, other links and paths, and servers that may have gone off
   pub sound-told : (w : World) (servers : List (List ℕ)) (on : ℕ → Bool) (fuse : ℕ → Option Fuse) (link : ℕ → ℕ → Bool) (paths : List Path) (es : List Event) → histories (w.events ++ es) ≡ histories w.events → AllQuiet (w.control.issued + 1) es
@@ -138,7 +137,7 @@ module _ (starts : Option ℕ) where
       record {
         rows = subst SoundRows (λ i u. record (table w u) { due = λ q. image h.write (h.now u q ++ sym (waiting-settled n u q ps unlanded) i) }) s.rows;
         targets = record { once = s.targets.once; few = s.targets.few };
-        groups = groups-same w.control _ (record { sessions = refl; volumes = refl; server = λ v. refl; tracks = λ v. refl }) (λ v h. (h, refl)) s.groups;
+        groups = groups-same w.control _ (record { sessions = refl; volumes = refl; server = λ v. refl; tracks = λ v. refl }) (λ v h. (h, (refl, refl))) s.groups;
         housed = s.housed;
         queue = record {
           each = all-filter (Waits starts w.control h.write) (is_other n) ps s.queue.each;

@@ -27,6 +27,8 @@ pub mod FitsCollide
 pub mod FitsWrites
 pub mod FitsHolds
 pub mod FitsSessions
+pub mod FitsMembers
+pub mod FitsOrders
 pub mod Issues
 pub mod Defines
 pub mod Starts

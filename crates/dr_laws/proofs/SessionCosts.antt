@@ -1,5 +1,5 @@
 -- What lines on sessions tell: an order tells two events with each entry, at most.
-use Rattle.std.proofs.Common.{ℕ, zero, suc, ◌≡◌, ◌≤◌, ◌+◌, ◌*◌, List, [], ◌∷◌, ◌++◌, length, filter, refl, subst, arith, Bool, true, false, cond, not, ◌&&◌, nat_eq, nat_lt, Option, Some, None}
+use Rattle.std.proofs.Common.{ℕ, zero, suc, ◌≡◌, ◌≤◌, ◌+◌, ◌*◌, List, [], ◌∷◌, ◌++◌, length, refl, subst, arith, Bool, true, false, cond, not, ◌&&◌, nat_eq, nat_lt, Option, Some, None}
 use Rattle.std.proofs.lemmas.List.{length-append}
 use Rattle.dr_ids.specs.declared.names.Member.{Member}
 use Rattle.dr_ids.specs.declared.refusal.Refusal.{Refusal}

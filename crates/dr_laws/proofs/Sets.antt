@@ -1,13 +1,13 @@
 -- Sets of tracks, and choices.
 use Rattle.std.proofs.Common.{ℕ, ◌≡◌, ◌≢◌, ◌<◌, ◌+◌, zero, suc, inl, inr, refl, ap, sym, ◌∙◌, Bool, true, false, cond, not, ◌&&◌, ◌||◌, nat_eq, arith, rules, Option, Some, None, subst}
 use Rattle.std.proofs.lemmas.Bool.Decides.{nat_tests, eqb_tells}
-use Rattle.std.proofs.lemmas.Bool.{or_cases, or_parts, not-true, and_parts}
+use Rattle.std.proofs.lemmas.Bool.{or_cases, or_parts, not-true, and_parts, eqb-true}
 use Rattle.std.specs.Ordering.{nat_cmp}
 use Rattle.std.specs.List.{range_with_len, list_any}
 use Rattle.std.specs.Cmp.{unsigned_tied, nat_cmp_total}
-use Rattle.std.specs.FinSet.{union, contains-union, difference, contains, insert, remove, empty, members, is_subset-contains, contains-from_list_nat, contains-difference}
+use Rattle.std.specs.FinSet.{union, contains-union, difference, contains, insert, remove, empty, empty_of_len, members, is_subset-contains, contains-from_list_nat, contains-difference}
 use Rattle.dr_model.specs.Layout.{Tracks}
-use Rattle.dr_model.specs.Relations.{all_tracks, is_whole, rest}
+use Rattle.dr_model.specs.Relations.{all_tracks, is_whole, rest, is_bare}
 
 pub none_some : {P : Type 0} {o : Option ℕ} {s : ℕ} → o ≡ None → o ≡ Some s → P
 none_some n h = absurd cc
@@ -42,6 +42,10 @@ not_in_empty q h = grind (members, rules)
 
 pub empty_has : (q : ℕ) → contains {R = nat_cmp} empty q ≡ false
 empty_has q = grind (members, rules)
+
+-- a set without tracks has none
+pub bare-has : (s : Tracks) (t : ℕ) → is_bare s ≡ true → contains s t ≡ false
+bare-has s t h = ap (λ s. contains s t) (empty_of_len s (eqb-true _ 0 h)) ∙ empty_has t
 
 pub if_true : {X : Type 0} {b : Bool} (x y : X) → b ≡ true → cond b x y ≡ x
 if_true x y h = ap (λ c. cond c x y) h

@@ -130,7 +130,7 @@ module _ (server : ℕ → ℕ) (is_defined : ℕ → Bool) (s : ℕ) where
 -- the volumes and sessions are as they were
 same-groups : (j k : Control) → k.sessions ≡ j.sessions → k.volumes ≡ j.volumes → k.volume ≡ j.volume → Groups j → Groups k
 same-groups j k sessions volumes volume = groups-same j k (record { sessions = sessions; volumes = volumes; server = λ v. ap (λ (g : ℕ → Volume). (g v).server) volume; tracks = λ v. ap (λ (g : ℕ → Volume). (g v).tracks) volume })
-    (λ v h. (ap (λ (g : ℕ → Volume). (g v).fields.recording) (sym volume) ∙ h, ap (λ (g : ℕ → Volume). (g v).fields.attempt) volume))
+    (λ v h. (ap (λ (g : ℕ → Volume). (g v).fields.recording) (sym volume) ∙ h, (ap (λ (g : ℕ → Volume). (g v).fields.attempt) volume, ap (λ (g : ℕ → Volume). (g v).fields.primary_partner) volume)))
 
 -- while server s starts
 module _ (s : ℕ) where

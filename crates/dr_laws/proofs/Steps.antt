@@ -33,7 +33,9 @@ use Rattle.dr_laws.proofs.FitsCopy.{holds-copy}
 use Rattle.dr_laws.proofs.FitsPairs.{holds-pair, holds-remove, holds-pause, holds-resume}
 use Rattle.dr_laws.proofs.FitsDrain.{holds-drain}
 use Rattle.dr_laws.proofs.FitsWrites.{lands, writes-after}
-use Rattle.dr_laws.proofs.FitsSessions.{sound-lost, holds-joined, holds-left, holds-mirrored, holds-paused, holds-unmirrored, holds-aborted, holds-orders, orders-added, orders-expelled, orders-ordered}
+use Rattle.dr_laws.proofs.FitsSessions.{sound-lost, holds-joined, holds-left, holds-mirrored, holds-paused, holds-unmirrored, holds-aborted, holds-orders}
+use Rattle.dr_laws.proofs.FitsMembers.{orders-added, orders-expelled}
+use Rattle.dr_laws.proofs.FitsOrders.{orders-ordered}
 use Rattle.dr_laws.proofs.FitsHolds.{holds-freeze, holds-thaw, holds-expire}
 use Rattle.dr_laws.proofs.Sets.{in_none, empty_has}
 use Rattle.dr_laws.proofs.Defines.{sound-defined}
@@ -140,7 +142,7 @@ module _ (w : World) (s : Sound w) (line : ℕ) where
   case-holds _ (Aborts i x found free) = holds-aborted w s i x found free
   case-holds _ (AddsMember i a c x joins) = holds-orders w _ (orders-added w s i a c x joins)
   case-holds _ (Expels i a x m found is idle on) = holds-orders w _ (orders-expelled w s i a x m found is idle on)
-  case-holds _ (Exchanges i server reply x r o allowed) = holds-orders w _ (orders-ordered w s i server reply x r o allowed)
+  case-holds _ (Exchanges i server reply x r o allowed) = holds-orders w _ (orders-ordered w s i server x r o allowed reply)
 
   pub step-holds : (asked : Result Step ℕ) → StepHolds w (plan w.control w.events line asked)
   step-holds asked = case-holds _ (plan-case w.control w.events line asked)

@@ -1,32 +1,18 @@
 -- Where a step is refused because a server stopped, its acts told that stop, and the other way round. That is so where no entry
 -- ends a plan with such a refusal.
-use Rattle.std.proofs.Common.{ℕ, zero, suc, ◌≡◌, ◌+◌, not, ◌&&◌, List, [], ◌∷◌, ◌++◌, refl, ap, ◌∙◌, sym, append_assoc, Bool, true, false, cond, map, Option, Some, None, Result}
+use Rattle.std.proofs.Common.{ℕ, ◌≡◌, List, [], ◌∷◌, ◌++◌, refl, ap, ◌∙◌, sym, append_assoc, Bool, true, false, cond, map, Option, Some, None}
 use Rattle.std.proofs.lemmas.List.{append-nil}
-use Rattle.std.specs.Prelude.{is_some}
 use Rattle.std.specs.Option.{option_or}
-use Rattle.std.specs.FinSet.{contains}
 use Rattle.dr_ids.specs.declared.refusal.Refusal.{Refusal}
 use Rattle.dr_model.specs.declared.event.Event.{Event}
 use Rattle.dr_model.specs.declared.event.Event.TheVariants.{Ack, Blanked, Restored, Stopped, Suspended, Frozen, Thawed, Begin, Cut}
-use Rattle.dr_ids.specs.declared.refusal.Refusal.TheVariants.{NotIdentical}
-use Rattle.dr_model.specs.Refusals.{server_off}
-use Rattle.dr_model.specs.declared.state.Part.{Part}
-use Rattle.dr_model.specs.declared.state.PairState.TheVariants.{Suspended as SuspendedState}
-use Rattle.dr_model.specs.declared.step.Devs.{Devs}
-use Rattle.dr_model.specs.declared.step.Name.{Name}
-use Rattle.dr_model.specs.declared.step.Step.{Step}
 use Rattle.dr_model.specs.Control.{Control, Fuse, Volume as VolumeRow, World}
-use Rattle.dr_model.specs.Layout.{Tracks, Fields}
+use Rattle.dr_model.specs.Layout.{Tracks}
 use Rattle.dr_model.specs.Relations.{is_bare, in_order, rest}
-use Rattle.dr_model.specs.Pairs.{is_suspended, first_state, held, goes_over, must_restart}
+use Rattle.dr_model.specs.Pairs.{is_suspended}
 use Rattle.dr_model.specs.Moves.{Move, Land, Overwrite, Keep, Note, Relate, Withdraw, Fetch, Resync, Reverse, Restore, Release, Store, Strike, Suspend, MakeSecondary, MakePrimary, DropPrimary, DropSecondary, Follow, Resume, TakeOver, Unsync, Mirror, LandBoth, Thaw, Lift, Restart, Hold, Free, Seal, Finish, RaiseAttempt, RaiseFloor, Leave, told_blank, told_restored, told, told_in_stop, landed, target}
-use Rattle.dr_model.specs.Carry.{Act, Make, OpenAttempt, Redo, Acknowledge, Drop, EndFreeze, EndThaw, check, now, act, Turn, Next, Pass, Do, End, Entry, Outcome, carry, continue, go}
-use Rattle.dr_model.specs.Entries.{fields_at, is_revertible, stands_in, copies_from, is_running, is_no_secondary, is_open, is_settled, relation_state, pair_state, land_on, land_alone, keep_on, keep_if, copy_first, drop_unless, check_or_drop, times, on_found, lowest_missing, lowest_held, fetch_next, for_lowest, give_back, share_server, share_size, is_no_target}
-use Rattle.dr_model.specs.PairEntries.{link_down, are_linked, has_path, reach_refusal, end_if, refuse_if, differs_at, two_servers, stands_free, may_follow, make_entries, leads_to, belongs_to, let_go, remove_both, remove_entries, may_pause, tell_paused, pause_entries, may_resume, follow_on, resume_on, resume_entries, send_refusal, suspend_where, flashed_refusal, store_on, strike_on, send_entries, sends, tracks_to_send, is_copying}
-use Rattle.dr_model.specs.WriteEntries.{partner_of, is_grouped, land_mirrored, land_parted, is_parted, land_over, land_entries, landing, is_between, freeze_on, end_freeze, freeze_entries, thaw_on, end_thaw, thaw_entries, belongs, lift_on, redo_on, restart_on, start_entries}
-use Rattle.dr_model.specs.Plans.{Plan, plan, found_volumes, acknowledge_on, acknowledge_if, landed_on, named_pair, is_defined, is_owner, differ, is_no_source, has_few_targets, is_plain_target, is_recorded_target, is_lone_restore, has_no_pair, may_return, may_give_back, may_copy, at_most, left_to_copy}
+use Rattle.dr_model.specs.Carry.{Act, Make, OpenAttempt, Redo, Acknowledge, Drop, EndFreeze, EndThaw, act, Turn, Next, Pass, Do, End, Entry, Outcome, carry, continue, go}
 use Rattle.dr_laws.specs.Stops.{first_stop, stop_in, refused_stop, StopsTold}
-use Rattle.dr_laws.proofs.Cases.{Case, Says, Defines, Adds, Links, Issues, Writes, Applies, Shows, Stops, Arms, Starts, Flashes, Withdraws, Resyncs, Reverses, Copies, Paths, Unpaths, MakesPair, RemovesPair, Pauses, ResumesPair, Drains, Expires, Freezes, Thaws, plan-case}
 use Rattle.dr_laws.proofs.Turns.{act-cases, Counts, after_act, server_of}
 
 first-append : (es fs : List Event) → first_stop (es ++ fs) ≡ option_or (first_stop es) (first_stop fs)

@@ -21,14 +21,13 @@ use Rattle.dr_model.specs.Allowed.{Runs}
 use Rattle.dr_model.specs.Laws.{AllPending}
 use Rattle.dr_laws.specs.Windows.{is_ack}
 use Rattle.dr_laws.proofs.AtLemmas.{Told, at_cases, at_part}
-use Rattle.dr_laws.proofs.Sets.{false_true, empty_has}
+use Rattle.dr_laws.proofs.Sets.{false_true, empty_has, bare-has}
 use Rattle.dr_laws.proofs.Turns.{next_of, carried_in, done, done_in_stop, not_done}
 use Rattle.dr_laws.proofs.RowsAfter.{changed}
 use Rattle.dr_laws.proofs.Fair.{MayCome, Unacked}
 use Rattle.dr_laws.proofs.KeepsWindow.{silent-acks, silent-told}
 use Rattle.dr_laws.proofs.KeepsQueue.{each-on}
 use Rattle.dr_laws.proofs.KeepsMirror.{still-unacked}
-use Rattle.dr_laws.proofs.Windows.{bare-has}
 use Rattle.dr_laws.proofs.KeepsRecorders.{none-written}
 use Rattle.std.specs.List.{list_any}
 

@@ -1,17 +1,17 @@
 -- Freeze windows of a run whose moments come one after the other as they may: their law.
-use Rattle.std.proofs.Common.{ℕ, ◌≡◌, ◌<◌, ◌+◌, inl, refl, ap, sym, ◌∙◌, subst, true, false, ◌||◌, List, [], ◌∷◌, ◌++◌, append_assoc, drop, length, Option, Some, None}
+use Rattle.std.proofs.Common.{ℕ, ◌≡◌, ◌<◌, ◌+◌, inl, refl, ap, sym, ◌∙◌, subst, true, ◌||◌, List, [], ◌∷◌, ◌++◌, append_assoc, drop, length, Option, Some, None}
 use Rattle.std.specs.Prelude.{All}
 use Rattle.std.proofs.Math.Seq.{drop-append_seam}
 use Rattle.std.proofs.lemmas.List.{append-nil}
 use Rattle.std.proofs.lemmas.List.Folds.{list_any-append}
 use Rattle.std.proofs.lemmas.List.Sums.{fold-append}
 use Rattle.std.proofs.lemmas.List.Elements.{All-head, All-tail}
-use Rattle.std.proofs.lemmas.Bool.{and_parts, or_parts, eqb-true}
+use Rattle.std.proofs.lemmas.Bool.{and_parts, or_parts}
 use Rattle.std.specs.List.{list_any, fold}
-use Rattle.std.specs.FinSet.{contains, empty_of_len}
+use Rattle.std.specs.FinSet.{contains}
 use Rattle.dr_model.specs.declared.event.Event.{Event}
 use Rattle.dr_model.specs.declared.event.Event.TheVariants.{Ack, Stopped}
-use Rattle.dr_model.specs.Layout.{Tracks, Fields, is_part}
+use Rattle.dr_model.specs.Layout.{Fields, is_part}
 use Rattle.dr_model.specs.Relations.{is_bare}
 use Rattle.dr_model.specs.Contents.{image}
 use Rattle.dr_model.specs.Histories.{histories, lists}
@@ -25,7 +25,7 @@ use Rattle.dr_model.specs.Laws.{SoundRows}
 use Rattle.dr_model.specs.Runs.{Task}
 use Rattle.dr_laws.specs.Moments.{moments_from, moments}
 use Rattle.dr_laws.specs.Windows.{LssPairs, is_in, IsSound, is_clean, stays_with, is_back_to, later_mirrored, last_mirrored, unacked_on, last_of, told_since, frozen, acked_on, IsKept, FreezeCut}
-use Rattle.dr_laws.proofs.Sets.{false_true, empty_has, from_source}
+use Rattle.dr_laws.proofs.Sets.{bare-has, false_true, from_source}
 use Rattle.dr_laws.proofs.WindowTracks.{Stays, stays, Window, window-image}
 use Rattle.dr_laws.proofs.KeepsWindow.{no_first}
 use Rattle.dr_laws.proofs.KeepsLists.{ListGrows, grows-none, grows-more}
@@ -58,9 +58,6 @@ chain-from [] tag w us first rest c e =
 chain-from (b ∷ []) _ _ _ first rest (Last tag w g) e = absurd cc
 chain-from (b ∷ c ∷ bs) _ _ _ first rest (Last tag w g) e = absurd cc
 chain-from (b ∷ bs) _ _ _ first rest (Then tag next w u us g s c) e = let there : u ∷ us ≡ bs ++ first ∷ rest = cc in chain-from bs next u us first rest c there
-
-pub bare-has : (s : Tracks) (t : ℕ) → is_bare s ≡ true → contains s t ≡ false
-bare-has s t h = ap (λ s. contains s t) (empty_of_len s (eqb-true _ 0 h)) ∙ empty_has t
 
 -- what was told since another moment
 record Grows (w u : World) : Type 0 where

@@ -49,8 +49,9 @@ pub record Lone (ss : List Session) : Type 0 where
   pub differ : (x : Session) (m : Member) → In x ss → In m x.members → PlacesDiffer m
   pub one : (v : ℕ) (x y : Session) (m q : Member) → In x ss → In y ss → In m x.members → In q y.members → IsAt v m → IsAt v q → (x.number ≡ y.number) × (m ≡ q)
 
--- v is the primary of a member of a session whose master isn't Idle, and that is the session's last attempt
-pub record IsRecorder (ss : List Session) (v attempt : ℕ) : Type 0 where
+-- v is the primary of a member of a session whose master isn't Idle, that is the session's last attempt, and v's partner is the
+-- secondary of the member
+pub record IsRecorder (ss : List Session) (v attempt partner : ℕ) : Type 0 where
   pub session : Session
   pub listed : In session ss
   pub mirror : Mirror
@@ -60,14 +61,15 @@ pub record IsRecorder (ss : List Session) (v attempt : ℕ) : Type 0 where
   pub here : In member session.members
   pub is : member.a.0 ≡ v
   pub last : attempt ≡ session.last
+  pub to : partner ≡ member.b.0
 
 -- No number is that of two sessions. Only the primaries of members record, and the last attempt of their session, while it goes
--- on.
+-- on and their partners are the members' secondaries.
 pub record Groups (k : Control) : Type 0 where
   pub once : Once (map (λ (x : Session). x.number) k.sessions)
   pub each : (x : Session) → In x k.sessions → SessionFits k x
   pub lone : Lone k.sessions
-  pub recorders : (v : ℕ) → (fields_at k v).recording ≡ true → IsRecorder k.sessions v (fields_at k v).attempt
+  pub recorders : (v : ℕ) → (fields_at k v).recording ≡ true → IsRecorder k.sessions v (fields_at k v).attempt (fields_at k v).primary_partner
 
 -- v is the primary of a member of the session of that number, whose master is in that phase
 pub record IsMember (k : Control) (v s : ℕ) : Type 0 where
@@ -80,17 +82,19 @@ pub record IsMember (k : Control) (v s : ℕ) : Type 0 where
   pub here : In member session.members
   pub is : member.a.0 ≡ v
 
--- a hold is one of the session's last attempt, while its master coordinates
+-- a hold is one of the session's last attempt, while its master coordinates and its secondary is v's partner
 pub record HoldsMember (k : Control) (v s n : ℕ) : Type 0 where
   pub place : IsMember k v s
   pub coordinates : place.mirror.master.phase ≡ phase.Coordinating
   pub last : n ≡ place.session.last
+  pub to : (fields_at k v).primary_partner ≡ place.member.b.0
 
 -- or the first of the next one, while it is Idle
 pub record OpensAttempt (k : Control) (v s n : ℕ) : Type 0 where
   pub place : IsMember k v s
   pub idle : place.mirror.master.phase ≡ phase.Idle
   pub next : n ≡ place.session.last + 1
+  pub to : (fields_at k v).primary_partner ≡ place.member.b.0
 
 -- there are eight servers at most, and each volume is on one of them
 abbrev pub Housed : Control → Type 0

@@ -1,4 +1,4 @@
-use Rattle.dr_groups.proofs.Silent.{quiet-silent, member-silent, past-silent, stranger-silent, placeless-silent, apart-silent}
+use Rattle.dr_groups.proofs.Silent.{quiet-silent, member-silent, past-silent, partner-is, stranger-silent, placeless-silent, apart-silent}
 use Rattle.dr_groups.proofs.only_members_record.Goals as goal
 
 pub returns-clause-quiet : goal.returns-clause-quiet
@@ -9,6 +9,9 @@ returns-clause-member c = member-silent
 
 pub returns-clause-past : goal.returns-clause-past
 returns-clause-past c = past-silent
+
+pub returns-clause-partner : goal.returns-clause-partner
+returns-clause-partner c = partner-is
 
 pub returns-clause-stranger : goal.returns-clause-stranger
 returns-clause-stranger c = stranger-silent
