@@ -70,7 +70,7 @@ module _ (w : World) (s : Sound w) (v server tracks : ℕ) (here : server < leng
       if_false {b = here} (p.w ∷ waiting ps v q) (waiting ps v q) (false_from_ne_true here (λ h. elsewhere p all.0 (eqb-true p.volume v (and_parts _ (nat_eq p.track q) (and_parts _ _ h).1).0)))
       ∙ none-waiting q ps all.1
 
-  abbrev row : Row
+  abbrev pub row : Row
   row = record { defined = true; volume = new_volume server tracks; bytes = w.contents v; due = λ t. zeros }
 
   image-none : (write : ℕ → Write) → image write [] ≡ zeros
@@ -115,7 +115,7 @@ module _ (w : World) (s : Sound w) (v server tracks : ℕ) (here : server < leng
       either true = refl
       either false = refl
 
-  table-defined : table with_volume ≡ at (table w) v row
+  pub table-defined : table with_volume ≡ at (table w) v row
   table-defined = λ i u. row-by u (eqb_tells u v) i
 
   -- no volume points to it

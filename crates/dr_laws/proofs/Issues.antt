@@ -57,7 +57,7 @@ module _ (w : World) (s : Sound w) (v t offset len : ℕ) (bytes : List ℕ) (de
       ∙ ap (λ ws. image (at h.write n written) (h.now u q ++ ws)) (waiting-new u q ps)
       ∙ image-issue h.write n written (h.now u q ++ waiting ps u q) (Below-append n (h.now u q) _ (s.queue.numbers.now u q) (low-waiting u q ps s.queue.each))
 
-  same-table : table issued ≡ table w
+  pub same-table : table issued ≡ table w
   same-table = λ i u. record { defined = is_volume w.control u; volume = w.control.volume u; bytes = w.contents u; due = λ q. same-due u q i }
 
   pub issued-write : (histories issued.events).write n ≡ written

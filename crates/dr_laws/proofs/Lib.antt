@@ -69,3 +69,7 @@ pub mod FairSessions
 pub mod FairSteps
 pub mod EndsInCut
 pub mod Thaws
+pub mod Rides
+pub mod Riders
+pub mod SealsAlong
+pub mod Seals

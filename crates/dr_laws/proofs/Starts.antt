@@ -223,7 +223,7 @@ module _ (s : ℕ) where
     told : histories (w.events ++ Ack p.w ∷ []) ≡ record h { now = at h.now p.volume (at (h.now p.volume) p.track held) }
     told = histories-append w.events (Ack p.w ∷ []) ∙ acked_lists h ps p.w p.volume p.track waits.volume waits.track
 
-    same-due : (u q : ℕ) → due (acknowledged w p.w) u q ≡ due w u q
+    pub same-due : (u q : ℕ) → due (acknowledged w p.w) u q ≡ due w u q
     same-due u q =
         ap (λ (h : Histories). due_by h (filter (is_other p.w) ps) u q) told
         ∙ at_cases (λ u l. image h.write (l q ++ waiting (filter (is_other p.w) ps) u q) ≡ image h.write (h.now u q ++ waiting ps u q)) h.now p.volume (at (h.now p.volume) p.track held)
@@ -308,7 +308,7 @@ module _ (s : ℕ) where
   restart-by w v more j go false h = go w j
   restart-by w v more j go true h = (record { own = eqb-true (servers w.control v) s (and_parts (is_volume w.control v) _ (and_parts (belongs w.control s v) _ h).0).1; on = j.on }, λ f k. go _ k)
 
-  volumes-start : (vs : List ℕ) (w : World) → Inner w → Along w (start_entries s vs ++ acknowledge_on s ∷ [])
+  pub volumes-start : (vs : List ℕ) (w : World) → Inner w → Along w (start_entries s vs ++ acknowledge_on s ∷ [])
   volumes-start [] w j = along.along-entry Inner Sound Sound MayStart w (acknowledge_on s) [] _ refl (acknowledge-by w _ refl j)
   volumes-start (v ∷ vs) w j =
       along.along-entry Inner Sound Sound MayStart w (redo_on s v) _ _ refl (redo-by w v _ j (λ k i.

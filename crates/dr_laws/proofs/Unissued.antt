@@ -54,7 +54,7 @@ Alike v w = (histories v.events).write ≡ (histories w.events).write
 pub with-told : (w : World) (es : List Event) → (after (histories w.events) es).write ≡ (histories w.events).write → (histories (w.events ++ es)).write ≡ (histories w.events).write
 with-told w es same = ap (λ (x : Histories). x.write) (histories-append w.events es) ∙ same
 
-done-writes : (w : World) (a : Act) (f : Option Fuse) → Alike (after_act w a f) w
+pub done-writes : (w : World) (a : Act) (f : Option Fuse) → Alike (after_act w a f) w
 done-writes w (Make m) f = with-told w (told m (w.control.volume (target m))) (told-writes (histories w.events) m (w.control.volume (target m)))
 done-writes w (OpenAttempt v s n) f = with-told w (told (Hold v s n true) (w.control.volume v)) (told-writes (histories w.events) (Hold v s n true) (w.control.volume v))
 done-writes w (Redo v) f = refl
@@ -63,7 +63,7 @@ done-writes w (Drop n) f = refl
 done-writes w (EndFreeze l m) f = with-told w (Frozen l m ∷ []) refl
 done-writes w (EndThaw l m) f = with-told w (Thawed l m ∷ []) refl
 
-stopped-writes : (w : World) (m : Move) → let u : Volume = w.control.volume (target m) in (histories (w.events ++ (told_in_stop m u ++ Stopped u.server (landed m) ∷ []))).write ≡ (histories w.events).write
+pub stopped-writes : (w : World) (m : Move) → let u : Volume = w.control.volume (target m) in (histories (w.events ++ (told_in_stop m u ++ Stopped u.server (landed m) ∷ []))).write ≡ (histories w.events).write
 stopped-writes w m =
     let u = w.control.volume (target m) in
     let es = told_in_stop m u in

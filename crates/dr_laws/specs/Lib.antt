@@ -2,3 +2,4 @@ pub mod Limits
 pub mod Stops
 pub mod Moments
 pub mod Windows
+pub mod Seals

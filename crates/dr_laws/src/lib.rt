@@ -7,7 +7,8 @@ ghost use Rattle.dr_ids.specs.declared.refusal.Refusal.{Refusal};
 ghost use Rattle.dr_model.specs.declared.step.Devs.{Devs};
 ghost use Rattle.dr_model.specs.declared.step.Step.TheVariants as step;
 ghost use Rattle.dr_model.specs.Histories.{Write};
-ghost use Rattle.dr_model.specs.Control.{World};
+ghost use Rattle.dr_model.specs.Layout.{Blocks};
+ghost use Rattle.dr_model.specs.Control.{World, Fuse};
 ghost use Rattle.dr_model.specs.Moves.{Move, Keep, Note, Fetch, target};
 ghost use Rattle.dr_model.specs.Carry.{carry};
 ghost use Rattle.dr_model.specs.Plans.{Plan, plan, step_plan};
@@ -17,9 +18,12 @@ ghost use Rattle.dr_model.specs.Table.{Table, table};
 ghost use Rattle.dr_model.specs.Rows.{after};
 ghost use Rattle.dr_model.specs.Laws.{SoundRows, Sound, shown};
 ghost use Rattle.dr_model.specs.Allowed.{Allowed};
+ghost use Rattle.dr_model.specs.Cuts.{SealsHold};
+ghost use Rattle.dr_model.specs.Fits.{Fits};
 ghost use Rattle.dr_model.specs.Limits.{most_events};
 ghost use Rattle.dr_laws.specs.Limits.{IsWithin};
 ghost use Rattle.dr_laws.specs.Stops.{StopsTold, refused_stop};
+ghost use Rattle.dr_laws.specs.Seals.{SealsHoldOn};
 ghost use Rattle.dr_laws.specs.Windows.{FreezeCut};
 
 /// Every run leaves a sound world: its volumes' records fit each other, each track shows what the host writes say, and
@@ -92,4 +96,13 @@ pub fn freezes_leave_one_cut()
 /// A thaw changes no track, whatever it answers, and wherever a server stops in it.
 pub fn thaws_change_no_track()
     ensures { (w : World) (line : ℕ) (devs : Devs) (l m v t : ℕ) → Sound w → (after_plan w line (step_plan w.control w.events line (step.Unfreeze devs l m))).contents v t ≡ w.contents v t }
+{}
+
+/// At the end of each run, every secondary that is sealed for a number holds one moment of its primary: there is one place of the
+/// journal at which the primary was cut for that number, and each track of the secondary contains what the host writes make that
+/// the primary held there. So volumes that are sealed for one number hold what their primaries held as these were cut for it, and no
+/// later write. The devices of a plant that fits the run's world contain the same.
+pub fn sealed_secondaries_hold_their_cut()
+    ensures hold { (tasks : List Task) → SealsHold (run tasks) }
+    ensures devices { (tasks : List Task) (on : ℕ → Bool) (fuse : ℕ → Option Fuse) (device : ℕ → Blocks) → Fits (run tasks) on fuse device → SealsHoldOn tasks device }
 {}

@@ -1,0 +1,197 @@
+-- A law on the rows of volumes and on the journal that each act keeps rides along every step, and so along every run.
+use Rattle.std.proofs.Common.{ℕ, ◌≡◌, ◌<◌, ◌+◌, refl, ap, sym, ◌∙◌, Bool, true, false, cond, List, [], ◌∷◌, ◌++◌, length, nat_eq}
+use Rattle.std.proofs.lemmas.List.{append-nil}
+use Rattle.std.specs.List.{list_any}
+use Rattle.dr_model.specs.declared.event.Event.{Event}
+use Rattle.dr_model.specs.declared.event.Event.TheVariants.{Server as ServerDefined, Started, Stopped, Shown}
+use Rattle.dr_model.specs.declared.said.Said.{Said}
+use Rattle.dr_model.specs.Answers.{answer}
+use Rattle.dr_model.specs.Contents.{image_at}
+use Rattle.dr_model.specs.Histories.{histories}
+use Rattle.dr_model.specs.Control.{Control, World, is_volume}
+use Rattle.dr_model.specs.Carry.{Entry, carry}
+use Rattle.dr_model.specs.Sessions.{Session}
+use Rattle.dr_model.specs.SessionEntries.{members_on}
+use Rattle.dr_model.specs.SessionPlans.{with_sessions, answered_by}
+use Rattle.dr_model.specs.Plans.{Plan, plan, same, always, none_follow, entries_plan, write_done, apply_done, drain_plan, start_plan}
+use Rattle.dr_model.specs.Runs.{Task, begun, carried_out, answered, said, after_plan, after_task, after_tasks}
+use Rattle.dr_model.specs.Table.{table, due_by}
+use Rattle.dr_model.specs.Laws.{Sound}
+use Rattle.dr_model.proofs.Images.{histories-append}
+use Rattle.dr_cuts.specs.Once.{NoCuts}
+use Rattle.dr_laws.proofs.Cases.{Case, Says, Defines, Adds, Links, Issues, Writes, Applies, Shows, Stops, Arms, Starts, Flashes, Withdraws, Resyncs, Reverses, Copies, Paths, Unpaths, MakesPair, RemovesPair, Pauses, ResumesPair, Drains, Expires, Freezes, Thaws, JoinsSession, LeavesSession, Mirrors, PausesMirror, Unmirrors, Aborts, AddsMember, Expels, Exchanges, plan-case, is-new, may-issue}
+use Rattle.dr_laws.proofs.KeepsSound.{Along, StepHolds, RowsAt, MayDo, keeps-sound, over}
+use Rattle.dr_laws.proofs.FitsFlash.{as_begun, sound-begun, along-flash, along-withdraw, along-resync, along-reverse}
+use Rattle.dr_laws.proofs.FitsCopy.{along-copy}
+use Rattle.dr_laws.proofs.FitsPairs.{along-pair, along-remove, along-pause, along-resume}
+use Rattle.dr_laws.proofs.FitsDrain.{along-drain, suspends-after}
+use Rattle.dr_laws.proofs.FitsWrites.{lands, writes-after}
+use Rattle.dr_laws.proofs.FitsHolds.{freezes, thaws, lifts}
+use Rattle.dr_laws.proofs.FitsSessions.{Orders, orders-added, orders-expelled, orders-ordered}
+use Rattle.dr_laws.proofs.Issues.{issued, sound-issued, one-new}
+use Rattle.dr_laws.proofs.Lands.{found-alone}
+use Rattle.dr_laws.proofs.Defines.{with_volume}
+use Rattle.dr_laws.proofs.Starts as starts
+use Rattle.dr_laws.proofs.Steps.{sound-task}
+use Rattle.dr_laws.proofs.Rides.{Rides, plan-rides}
+
+-- From w to u these events were told, of which no list hears and which cut no volume; the rows of volumes are as they were.
+pub record Unheard (w u : World) (more : List Event) : Type 0 where
+  pub events : u.events ≡ w.events ++ more
+  pub quiet : NoCuts more
+  pub lists : histories u.events ≡ histories w.events
+  pub rows : table u ≡ table w
+  pub issued : u.control.issued ≡ w.control.issued
+
+pub unheard : (w u : World) (more : List Event) → u.events ≡ w.events ++ more → NoCuts more → histories (w.events ++ more) ≡ histories w.events → u.contents ≡ w.contents → u.control.volume ≡ w.control.volume → u.control.volumes ≡ w.control.volumes
+    → u.control.pending ≡ w.control.pending → u.control.issued ≡ w.control.issued → Unheard w u more
+unheard w u more events quiet lists contents volume volumes pending issued = record {
+  events = events;
+  quiet = quiet;
+  lists = ap histories events ∙ lists;
+  rows = λ i v. record { defined = list_any (nat_eq v) (volumes i); volume = volume i v; bytes = contents i v; due = λ q. due_by ((ap histories events ∙ lists) i) (pending i) v q };
+  issued = issued;
+}
+
+-- What is to be shown of a law: acts that may come keep it, those of a start too; so does what no list hears of, a write that is
+-- issued, and a volume that is defined.
+pub record Rider (K : World → Type 0) : Type 0 where
+  pub acts : Rides Sound K MayDo
+  pub start_acts : (s : ℕ) → Rides (starts.Inner s) K (starts.MayStart s)
+  pub unheard : (w u : World) (more : List Event) → K w → Unheard w u more → K u
+  pub issues : (w : World) (s : Sound w) (v t offset len : ℕ) (bytes : List ℕ) (defined : is_volume w.control v ≡ true) (low : t < (w.control.volume v).tracks) → K w → K (issued w s v t offset len bytes defined low)
+  pub defines : (w : World) (s : Sound w) (v server tracks : ℕ) (here : server < length w.control.servers) (undefined : is_volume w.control v ≡ false) → K w → K (with_volume w s v server tracks here undefined)
+
+-- the records by which a plan's laws are shown, open to what rides along it
+abbrev orders-hold : (w : World) (p : Plan) → Orders w p → StepHolds w p
+orders-hold w p o = record { inner = Sound; ends = o.ends; may = MayDo; keeps = keeps-sound; within = λ v s. s.rows; complete = λ v e. (o.complete v e).rows; begins = o.begins; entries = o.entries; follows = o.follows; last = o.last }
+
+abbrev start-hold : (x : ℕ) (w : World) → Sound w → StepHolds w (start_plan w.control x)
+start-hold x w s = record {
+  inner = starts.Inner x;
+  ends = Sound;
+  may = starts.MayStart x;
+  keeps = starts.keeps x;
+  within = λ v j. j.sound.rows;
+  complete = λ v i. i.rows;
+  begins = starts.begins x w s;
+  entries = starts.volumes-start x w.control.volumes (begun w (start_plan w.control x)) (starts.begins x w s);
+  follows = λ q v i. over v i;
+  last = λ v i. i;
+}
+
+module _ (K : World → Type 0) (rider : Rider K) where
+  none-told : (w : World) → histories (w.events ++ []) ≡ histories w.events
+  none-told w = ap histories (append-nil w.events)
+
+  -- other tables that are nothing to the volumes, and nothing told
+  silently : (w u : World) → K w → u.events ≡ w.events ++ [] → u.contents ≡ w.contents → u.control.volume ≡ w.control.volume → u.control.volumes ≡ w.control.volumes → u.control.pending ≡ w.control.pending → u.control.issued ≡ w.control.issued → K u
+  silently w u k events contents volume volumes pending issued = rider.unheard w u [] k (unheard w u [] events tt (none-told w) contents volume volumes pending issued)
+
+  others : (w : World) (ss : List Session) → K w → K (record w { control = record w.control { sessions = ss } })
+  others w ss k = silently w (record w { control = record w.control { sessions = ss } }) k (sym (append-nil w.events)) refl refl refl refl refl
+
+  -- one event that no list hears of
+  event : (w u : World) (e : Event) → K w → u.events ≡ w.events ++ e ∷ [] → NoCuts (e ∷ []) → histories (w.events ++ e ∷ []) ≡ histories w.events → u.contents ≡ w.contents → u.control.volume ≡ w.control.volume
+      → u.control.volumes ≡ w.control.volumes → u.control.pending ≡ w.control.pending → u.control.issued ≡ w.control.issued → K u
+  event w u e k events quiet lists contents volume volumes pending issued = rider.unheard w u (e ∷ []) k (unheard w u (e ∷ []) events quiet lists contents volume volumes pending issued)
+
+  module _ (w : World) (s : Sound w) (k : K w) (line : ℕ) where
+    record Carried (p : Plan) : Type 0 where
+      holds : K (carried_out w p).0
+
+    -- a plan without entries
+    tables : (first : Control → Control) (told : List Event) (says : Control → Said) → let p : Plan = record { first = first; told = told; entries = []; follows = none_follow; last = same; says = says } in K (begun w p) → Carried p
+    unfolding carry
+    tables first told says begun = record { holds = begun }
+
+    -- one whose acts may come as they do but where a server starts
+    moves : (p : Plan) → Orders w p → K (begun w p) → ((v : World) → K v → K (record v { control = p.last v.control })) → Carried p
+    moves p o begun last = record { holds = plan-rides Sound RowsAt K MayDo w p (orders-hold w p o) rider.acts begun (λ v e k. last v k) keeps-sound rider.acts }
+
+    begins : K (as_begun w)
+    begins = silently w (as_begun w) k refl refl refl refl refl refl
+
+    entries : (ds : List Entry) (a : Said) → Along (as_begun w) ds → Carried (entries_plan ds a)
+    entries ds a all = moves (entries_plan ds a) (record { ends = Sound; complete = λ v i. i; begins = sound-begun w s; entries = all; follows = λ q v i. over v i; last = λ v i. i }) begins (λ v k. k)
+
+    sessions : (f : List Session → List Session) (says : Control → Said) → Carried (record { first = with_sessions f; told = []; entries = []; follows = none_follow; last = same; says = says })
+    sessions f says = tables (with_sessions f) [] says (silently w _ k refl refl refl refl refl refl)
+
+    case-rides : (p : Plan) → Case w.control w.events line p → Carried p
+    case-rides _ (Says a) = tables same [] (always a) begins
+    case-rides _ (Defines name free) = tables _ _ _ (event w _ (ServerDefined (length w.control.servers) name.len name.bytes) k refl (tt, tt) (histories-append w.events _) refl refl refl refl refl)
+    case-rides _ (Adds v x tracks here free) = tables _ _ _ (rider.defines w s v x tracks here (is-new w.control v x tracks free).undefined k)
+    case-rides _ (Links a b up) = tables _ _ _ (silently w _ k refl refl refl refl refl refl)
+    case-rides _ (Issues v t offset len bytes free) = let there = (may-issue w.control v t free).0 in tables _ _ _ (rider.issues w s v t offset len bytes there.defined there.low k)
+    case-rides _ (Writes v t offset len bytes free) =
+        let there = (may-issue w.control v t free).0 in
+        let first : World = issued w s v t offset len bytes there.defined there.low in
+        let sound : Sound first = sound-issued w s v t offset len bytes there.defined there.low in
+        moves (write_done w.control v t offset len bytes) (record {
+          ends = Sound;
+          complete = λ v i. i;
+          begins = sound;
+          entries = lands first sound (record { w = w.control.issued + 1; volume = v; track = t; landed = false }) (one-new w s v t offset len bytes there.defined there.low);
+          follows = λ q u i. writes-after w.control v t q u i;
+          last = λ v i. i;
+        }) (rider.issues w s v t offset len bytes there.defined there.low k) (λ v k. k)
+    case-rides _ (Applies n p found) =
+        moves (apply_done w.control p) (record {
+          ends = Sound;
+          complete = λ v i. i;
+          begins = sound-begun w s;
+          entries = lands (as_begun w) (sound-begun w s) p (found-alone n p w.control.pending found s.queue.apart);
+          follows = λ q u i. writes-after w.control p.volume p.track q u i;
+          last = λ v i. i;
+        }) begins (λ v k. k)
+    case-rides _ (Shows v t there) = tables _ _ _ (event w _ (Shown line v t (image_at w.events v t)) k refl (tt, tt) (histories-append w.events _) refl refl refl refl refl)
+    case-rides _ (Stops x on) = tables _ _ _ (event w _ (Stopped x 0) k refl (tt, tt) (histories-append w.events _) refl refl refl refl refl)
+    case-rides _ (Arms writes torn x) = tables _ _ _ (silently w _ k refl refl refl refl refl refl)
+    case-rides _ (Starts x off) =
+        record { holds = plan-rides Sound RowsAt K MayDo w (start_plan w.control x) (start-hold x w s) (rider.start_acts x) (event w _ (Started x) k refl (tt, tt) (histories-append w.events _) refl refl refl refl refl) (λ v e k. k) keeps-sound rider.acts }
+    case-rides _ (Flashes dev v t choices) = entries _ _ (along-flash w s dev v t choices)
+    case-rides _ (Withdraws dev v t) = entries _ _ (along-withdraw w s dev v t)
+    case-rides _ (Resyncs dev v t sequence) = entries _ _ (along-resync w s dev v t sequence)
+    case-rides _ (Reverses dev v t) = entries _ _ (along-reverse w s dev v t)
+    case-rides _ (Copies t most) = entries _ _ (along-copy w s t most)
+    case-rides _ (Paths src tgt group) = tables _ _ _ (silently w _ k refl refl refl refl refl refl)
+    case-rides _ (Unpaths src tgt) = tables _ _ _ (silently w _ k refl refl refl refl refl refl)
+    case-rides _ (MakesPair devs a b kind full part) = entries _ _ (along-pair w s devs a b kind full part)
+    case-rides _ (RemovesPair devs a b source_only) = entries _ _ (along-remove w s devs a b source_only)
+    case-rides _ (Pauses devs a b) = entries _ _ (along-pause w s devs a b)
+    case-rides _ (ResumesPair devs a b kind) = entries _ _ (along-resume w s devs a b kind)
+    case-rides _ (Drains a most) =
+        moves (drain_plan w.control a most) (record { ends = Sound; complete = λ v i. i; begins = sound-begun w s; entries = along-drain w s a most; follows = λ q v i. suspends-after a q v i; last = λ v i. i }) begins (λ v k. k)
+    case-rides _ (Expires x on) = entries _ _ (lifts x w.control.volumes (as_begun w) (sound-begun w s) on)
+    case-rides _ (Freezes l m) = entries _ _ (freezes l m w.control.volumes (as_begun w) (sound-begun w s))
+    case-rides _ (Thaws l m) = entries _ _ (thaws l m w.control.volumes (as_begun w) (sound-begun w s))
+    case-rides _ (JoinsSession l i free) = sessions _ _
+    case-rides _ (LeavesSession l i x found free) = sessions _ _
+    case-rides _ (Mirrors owner i x found free) = sessions _ _
+    case-rides _ (PausesMirror i on) = sessions _ _
+    case-rides _ (Unmirrors i x found free) = sessions _ _
+    case-rides _ (Aborts i x found free) = sessions _ _
+    case-rides _ (AddsMember i a c x joins) = moves _ (orders-added w s i a c x joins) begins (λ v k. others v _ k)
+    case-rides _ (Expels i a x m found is idle on) = moves _ (orders-expelled w s i a x m found is idle on) begins (λ v k. others v _ k)
+    case-rides _ (Exchanges i server reply x r o allowed) = moves _ (orders-ordered w s i server reply x r o allowed) begins (by reply)
+      where
+        by : (b : Bool) (v : World) → K v → K (record v { control = cond b (answered_by i server o.work (members_on server x.members)) same v.control })
+        by true v k = others v _ k
+        by false v k = k
+
+    -- the step, as it is answered
+    rides-plan : (p : Plan) → Case w.control w.events line p → K (after_plan w line p)
+    unfolding after_plan
+    rides-plan p c =
+        let u : World = (carried_out w p).0 in
+        let a : Said = answered p u.control (carried_out w p).1 in
+        event u (said u line a) (answer line a) (case-rides p c).holds refl (tt, tt) (histories-append u.events (answer line a ∷ [])) refl refl refl refl refl
+
+  pub rides-task : (w : World) (t : Task) → Sound w → K w → K (after_task w t)
+  rides-task w t s k = others _ _ (rides-plan w s k t.line (plan w.control w.events t.line t.asked) (plan-case w.control w.events t.line t.asked))
+
+  pub rides-tasks : (w : World) (tasks : List Task) → Sound w → K w → K (after_tasks w tasks)
+  unfolding after_tasks
+  rides-tasks w [] s k = k
+  rides-tasks w (t ∷ tasks) s k = rides-tasks (after_task w t) tasks (sound-task w t s) (rides-task w t s k)
