@@ -27,7 +27,9 @@ use Rattle.dr_laws.proofs.FitsPairs.{along-pair, along-remove, along-pause, alon
 use Rattle.dr_laws.proofs.FitsDrain.{along-drain, suspends-after}
 use Rattle.dr_laws.proofs.FitsWrites.{lands, writes-after}
 use Rattle.dr_laws.proofs.FitsHolds.{freezes, thaws, lifts}
-use Rattle.dr_laws.proofs.FitsSessions.{Orders, orders-added, orders-expelled, orders-ordered}
+use Rattle.dr_laws.proofs.FitsSessions.{Orders}
+use Rattle.dr_laws.proofs.FitsMembers.{orders-added, orders-expelled}
+use Rattle.dr_laws.proofs.FitsOrders.{orders-ordered}
 use Rattle.dr_laws.proofs.Issues.{issued, sound-issued, one-new}
 use Rattle.dr_laws.proofs.Lands.{found-alone}
 use Rattle.dr_laws.proofs.Defines.{with_volume}
@@ -174,7 +176,7 @@ module _ (K : World → Type 0) (rider : Rider K) where
     case-rides _ (Aborts i x found free) = sessions _ _
     case-rides _ (AddsMember i a c x joins) = moves _ (orders-added w s i a c x joins) begins (λ v k. others v _ k)
     case-rides _ (Expels i a x m found is idle on) = moves _ (orders-expelled w s i a x m found is idle on) begins (λ v k. others v _ k)
-    case-rides _ (Exchanges i server reply x r o allowed) = moves _ (orders-ordered w s i server reply x r o allowed) begins (by reply)
+    case-rides _ (Exchanges i server reply x r o allowed) = moves _ (orders-ordered w s i server x r o allowed reply) begins (by reply)
       where
         by : (b : Bool) (v : World) → K v → K (record v { control = cond b (answered_by i server o.work (members_on server x.members)) same v.control })
         by true v k = others v _ k
