@@ -113,6 +113,13 @@ impl Master {
         }
     }
 
+    /// All reports together speak of at most 64 members. Does nothing but state it.
+    pub fn tell_few(&self)
+        ensures { length self.now.reports ≤ 64 }
+    {
+        self.reports.tell_few();
+    }
+
     /// Whether no server is owed an order, as in Idle and where all have reported.
     pub fn is_answered(&self) -> bool
         ensures { IsTrue result ↔ (self.now.owed ≡ []) }

@@ -64,6 +64,12 @@ impl Report {
         usize::from(self.count) + r.count() <= MOST_REPORTED
     }
 
+    /// It speaks of at most 64 members. Does nothing but state it.
+    pub(crate) fn tell_few(&self)
+        requires { self.now.count ≤ 64 }
+        ensures { length (shown_in self.now) ≤ 64 }
+    {}
+
     /// Adds what another report says.
     pub(crate) fn append(&mut self, more: &Report)
         requires { self.old.count + more.now.count ≤ 64 }

@@ -1,4 +1,4 @@
-ghost use Rattle.std.specs.Prelude.{◌≡◌, ◌↔◌, ◌<◌, ◌+◌, ◌++◌, ◌==◌, ◌∷◌, [], not, filter, slice_get, length, Some, None, IsTrue, IsOk, IsSomeAnd, IfSome, IfOk, OnOk, OnErr, option_map, is_some};
+ghost use Rattle.std.specs.Prelude.{◌≡◌, ◌↔◌, ◌<◌, ◌≤◌, ◌+◌, ◌++◌, ◌==◌, ◌∷◌, [], not, filter, slice_get, length, Some, None, IsTrue, IsOk, IsSomeAnd, IfSome, IfOk, OnOk, OnErr, option_map, is_some};
 ghost use Rattle.std.specs.Result.{result_err};
 ghost use Rattle.dr_ids.specs.declared.refusal.PhaseName.TheVariants as phase;
 ghost use Rattle.dr_master.specs.Seen.{reply_of};
@@ -94,9 +94,13 @@ impl Session {
         ensures value { option_map (λ m. m.now) result ≡ option_map (λ r. r.master) self.now.session.mirror }
         ensures servers { IfSome result (λ m. m.now.servers ≡ model.servers_of self.now.session.members) }
         ensures number { IfSome result (λ m. self.now.session.last ≡ m.now.number) }
+        ensures reports { IfSome result (λ m. length m.now.reports ≤ 64) }
     {
         match &self.mirror {
-            Some(mirror) => Some(&mirror.master),
+            Some(mirror) => {
+                mirror.master.tell_few();
+                Some(&mirror.master)
+            }
             None => None,
         }
     }

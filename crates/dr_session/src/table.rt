@@ -1,4 +1,4 @@
-ghost use Rattle.std.specs.Prelude.{◌≡◌, ◌≢◌, ◌↔◌, ◌<◌, ◌+◌, ◌++◌, ◌∷◌, [], map, slice_get, length, true, None, Some, Err, IsTrue, IsOk, IsSome, IsSomeAnd, IfSome, IfOk, OnOk, OnErr, option_map, is_some};
+ghost use Rattle.std.specs.Prelude.{◌≡◌, ◌≢◌, ◌↔◌, ◌<◌, ◌≤◌, ◌+◌, ◌++◌, ◌∷◌, [], map, slice_get, length, true, None, Some, Err, IsTrue, IsOk, IsSome, IsSomeAnd, IfSome, IfOk, OnOk, OnErr, option_map, is_some};
 ghost use Rattle.std.specs.List.{find};
 ghost use Rattle.std.specs.Result.{result_err};
 ghost use Rattle.dr_ids.specs.declared.refusal.PhaseName.TheVariants as phase;
@@ -333,6 +333,7 @@ impl Sessions {
         ensures value { option_map (λ m. m.now) result ≡ option_map (λ r. r.master) (model.mirror_in (model.session_in self.now.sessions s.0)) }
         ensures servers { IfSome result (λ m. m.now.servers ≡ model.servers_of (model.members_in (model.session_in self.now.sessions s.0))) }
         ensures number { IfSome result (λ m. option_map (λ x. x.last) (model.session_in self.now.sessions s.0) ≡ Some m.now.number) }
+        ensures reports { IfSome result (λ m. length m.now.reports ≤ 64) }
     {
         self.session(s)?.master()
     }
