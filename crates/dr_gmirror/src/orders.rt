@@ -70,7 +70,7 @@ pub fn carry_out<P: Plant>(
     for at in 0..ss.member_count(s) {
         let m = ss.member_at(s, at).unwrap();
         let wait = order_on(p, c, j, ss, s, server, &m, order.kind, order.n)?;
-        waits = waits || wait;
+        waits |= wait;
     }
     Ok(reply_by(waits))
 }
