@@ -132,3 +132,16 @@ module _ (work : phases.Work) (s n server : ℕ) where
       (sym (ap entries (member-split ms i m at) ∙ entries-more work s n server (take i ms) (m ∷ [] ++ drop (suc i) ms) ∙ ap (λ es. entries (take i ms) ++ es) (entries-more work s n server (m ∷ []) (drop (suc i) ms))))
       (then-fails more w v u r (entries (take i ms)) (entries (m ∷ []) ++ entries (drop (suc i) ms)) first
       (fails-first more v u r (entries (m ∷ [])) (entries (drop (suc i) ms)) (fails-wider armed more wider v u r (entries (m ∷ [])) fails)))
+
+-- a member that passes a test, or doesn't
+or-hit : (b : Bool) → (b || true) ≡ true
+or-hit true = refl
+or-hit false = refl
+
+pub any-hit : (p : Member → Bool) (ms : List Member) (i : ℕ) (m : Member) → Some m ≡ slice_get ms i → p m ≡ true → true ≡ list_any p ms
+any-hit p ms i m at hit =
+    sym (ap (list_any p) (member-split ms i m at) ∙ list_any-append p (take i ms) (m ∷ drop (suc i) ms) ∙ ap (λ b. list_any p (take i ms) || (b || list_any p (drop (suc i) ms))) hit ∙ or-hit (list_any p (take i ms)))
+
+pub any-miss : (p : Member → Bool) (ms : List Member) (i : ℕ) (m : Member) → Some m ≡ slice_get ms i → list_any p (take i ms) ≡ false → p m ≡ false → list_any p (take (i + 1) ms) ≡ false
+any-miss p ms i m at none miss =
+    ap (list_any p) (member-next ms i m at) ∙ list_any-append p (take i ms) (m ∷ []) ∙ (λ k. none k || (miss k || false))

@@ -103,4 +103,4 @@ returns-clause-reply g c =
     let work = work_of c.args.order.kind in
     let ms = members_in (session_in c.args.ss.now.sessions c.args.s.0) in
     let all : length ms ≤ c.loop-at.at = let e = c.member_count-at-end.ensures in let f = c.loop-at-test.false in omega (arith, e, f) in
-    reply-is work u t (members_on c.args.server.0 ms) c.loop-at.waits (reply_of c.reply_by.result) (c.loop-at.invariant.waits ∙ ap (λ xs. waits_in work (sync_seen u t) (members_on c.args.server.0 xs)) (member-all ms c.loop-at.at all)) c.reply_by.ensures
+    reply-is work u t (members_on c.args.server.0 ms) c.loop-at.waits (reply_of c.reply_by.result) (c.loop-at.invariant.waits ∙ ap (λ xs. waits_in work (sync_seen u t) (members_on c.args.server.0 xs)) (member-all ms c.loop-at.at all)) c.reply_by.ensures.says
