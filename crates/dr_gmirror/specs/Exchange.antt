@@ -1,5 +1,5 @@
 -- Exchanges between a session's master and a server.
-use Rattle.std.specs.Prelude.{◌≡◌, ℕ, ◌<◌, ◌≤◌, Bool, true, false, ◌&&◌, List, length, nat_le, Option, Some, None, option_map, is_some, Result, Ok, Err, if◌then◌else◌}
+use Rattle.std.specs.Prelude.{◌≡◌, ℕ, ◌<◌, Bool, true, false, ◌&&◌, List, length, nat_le, Option, Some, None, option_map, Result, Ok, Err}
 use Rattle.dr_ids.specs.declared.names.Member.{Member}
 use Rattle.dr_ids.specs.declared.refusal.PhaseName.{PhaseName}
 use Rattle.dr_ids.specs.declared.refusal.PhaseName.TheVariants as phase
@@ -9,7 +9,7 @@ use Rattle.dr_master.specs.Seen.{order_of as order_seen}
 use Rattle.dr_model.specs.declared.said.Said.{Said}
 use Rattle.dr_model.specs.declared.said.Said.TheVariants.{Refused}
 use Rattle.dr_model.specs.Phases as phases
-use Rattle.dr_model.specs.Sessions.{Session, Mirror, session_in, mirror_in, members_in}
+use Rattle.dr_model.specs.Sessions.{Mirror, session_in, mirror_in, members_in}
 use Rattle.dr_model.specs.Control.{Control, World}
 use Rattle.dr_model.specs.PlanParts.{Plan}
 use Rattle.dr_model.specs.Runs.{begun, finish, answered}

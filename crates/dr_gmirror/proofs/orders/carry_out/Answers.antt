@@ -1,4 +1,4 @@
-use Rattle.std.proofs.Common.{List, ℕ, ◌≡◌, ◌≤◌, ◌+◌, ◌||◌, length, take, slice_get, arith, ap, sym, subst, ◌∙◌, [], ◌∷◌, None, Some}
+use Rattle.std.proofs.Common.{List, ◌≡◌, ◌≤◌, ◌||◌, length, take, slice_get, arith, ap, sym, subst, ◌∙◌, [], ◌∷◌, Some}
 use Rattle.dr_ids.specs.declared.names.Member.{Member}
 use Rattle.dr_model.specs.ReadStops.{Ends}
 use Rattle.dr_model.specs.Sessions.{session_in, members_in}
