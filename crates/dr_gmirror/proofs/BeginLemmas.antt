@@ -1,6 +1,6 @@
 -- A session whose attempt has begun: its members, its last number, and what may begin then.
-use Rattle.std.proofs.Common.{ℕ, ◌≡◌, ◌≤◌, ◌+◌, Bool, true, false, not, ◌&&◌, cond, ◌==◌, nat_lt, arith, List, [], ◌∷◌, refl, sym, ◌∙◌, ap, Option, None, Some, option_map}
-use Rattle.std.specs.Prelude.{is_some, unwrap_or, if◌then◌else◌}
+use Rattle.std.proofs.Common.{ℕ, ◌≡◌, ◌≤◌, ◌+◌, Bool, true, false, cond, ◌==◌, nat_lt, arith, List, [], ◌∷◌, refl, sym, ◌∙◌, ap, Option, None, Some, option_map}
+use Rattle.std.specs.Prelude.{unwrap_or, if◌then◌else◌}
 use Rattle.std.proofs.lemmas.Bool.Decides.{nat_tests}
 use Rattle.dr_model.specs.Sessions.{Session, session_in, members_in, mirror_in, begin_refusal, changed, begun}
 use Rattle.dr_volume.specs.View.{Rest}

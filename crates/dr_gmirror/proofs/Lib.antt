@@ -1,3 +1,4 @@
 pub mod BeginLemmas
 pub mod SealLemmas
 pub mod OrderLemmas
+pub mod ExchangeLemmas

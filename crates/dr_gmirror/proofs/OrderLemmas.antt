@@ -1,8 +1,8 @@
 -- Orders over members, one by one.
-use Rattle.std.proofs.Common.{ℕ, zero, suc, ◌≡◌, ◌≤◌, ◌<◌, ◌+◌, Bool, true, false, not, ◌&&◌, ◌||◌, ◌==◌, cond, arith, List, [], ◌∷◌, ◌++◌, length, take, drop, slice_get, refl, sym, ◌∙◌, ap, subst, Option, None, Some}
-use Rattle.std.specs.Prelude.{filter, if◌then◌else◌, is_some}
-use Rattle.std.specs.List.{flat_map, list_any}
-use Rattle.std.proofs.lemmas.List.{append-nil, append_assoc}
+use Rattle.std.proofs.Common.{ℕ, zero, suc, ◌≡◌, ◌≤◌, ◌<◌, ◌+◌, Bool, true, false, ◌&&◌, ◌||◌, cond, arith, List, [], ◌∷◌, ◌++◌, length, take, drop, slice_get, refl, sym, ◌∙◌, ap, subst, Option, Some}
+use Rattle.std.specs.Prelude.{if◌then◌else◌, is_some, Result, Ok, Err, IfOk}
+use Rattle.std.specs.List.{list_any}
+use Rattle.std.proofs.lemmas.List.{append-nil}
 use Rattle.std.proofs.lemmas.List.Elements.{filter-append}
 use Rattle.std.proofs.lemmas.List.Folds.{list_any-append}
 use Rattle.std.proofs.lemmas.Grind.{flat_map-append}
@@ -19,7 +19,7 @@ use Rattle.dr_model.specs.SessionEntries.{member_entries, is_on, members_on, ord
 use Rattle.dr_volume.specs.View.{Rest}
 use Rattle.dr_flash.specs.Here.{seen}
 use Rattle.dr_flash.specs.Turns.{Leads, Fails}
-use Rattle.dr_gcopy.proofs.SendLemmas.{then-leads, then-fails, fails-first}
+use Rattle.dr_gcopy.proofs.SendLemmas.{then-leads, then-fails, fails-first, fails-wider}
 use Rattle.dr_gcopy.proofs.TwoMoves.{server-stays}
 use Rattle.dr_gmirror.specs.Orders.{IsReady, is_seal, sync_seen, must_wait, waits_in}
 
@@ -98,3 +98,50 @@ reply-is phases.Commit s t ms waits reply is says r events = says ∙ ap (λ b. 
 reply-is phases.Revert s t ms waits reply is says r events = says ∙ ap (λ b. if b then phases.NotYet else phases.Done) is
 reply-is phases.Finish s t ms waits reply is says r events = says ∙ ap (λ b. if b then phases.NotYet else phases.Done) is
 reply-is phases.Report s t ms waits reply is says r events = says ∙ ap (λ b. if b then phases.NotYet else phases.Done) is
+
+-- what holds of an answer, along another fact of it
+pub if-along : {T E : Type 0} {P Q : T → Type 0} (r : Result T E) → IfOk r P → ((x : T) → P x → Q x) → IfOk r Q
+if-along (Ok x) p f = f x p
+if-along (Err e) p f = tt
+
+-- a list from its parts, and all of it
+pub member-split : (ms : List Member) (i : ℕ) (m : Member) → Some m ≡ slice_get ms i → ms ≡ take i ms ++ (m ∷ [] ++ drop (suc i) ms)
+member-split [] i m h = absurd cc
+member-split (x ∷ xs) zero m h = let e : x ≡ m = cc in ap (λ z. z ∷ xs) e
+member-split (x ∷ xs) (suc i) m h = ap (λ ys. x ∷ ys) (member-split xs i m h)
+
+pub member-all : (ms : List Member) (i : ℕ) → length ms ≤ i → take i ms ≡ ms
+member-all [] zero all = refl
+member-all [] (suc i) all = refl
+member-all (x ∷ xs) zero all = absurd (omega (arith, all))
+member-all (x ∷ xs) (suc i) all = ap (λ ys. x ∷ ys) (member-all xs i (omega (arith, all)))
+
+module _ (work : phases.Work) (s n server : ℕ) where
+  abbrev entries : List Member → List Entry
+  entries ms = order_entries work s n (members_on server ms)
+
+  -- one member more was done
+  pub order-next : (w v u : World) (ms : List Member) (i : ℕ) (m : Member) → Some m ≡ slice_get ms i → Leads w (entries (take i ms)) v → Leads v (entries (m ∷ [])) u → Leads w (entries (take (i + 1) ms)) u
+  order-next w v u ms i m at first more =
+      subst (λ es. Leads w es u) (sym (ap entries (member-next ms i m at) ∙ entries-more work s n server (take i ms) (m ∷ []))) (then-leads w v u (entries (take i ms)) (entries (m ∷ [])) first more)
+
+  -- the next one failed, where fuses may be fewer
+  pub order-fails : (armed more : ℕ → Bool) → ((q : ℕ) → armed q ≡ true → more q ≡ true) → (w v u : World) (r : Option Refusal) (ms : List Member) (i : ℕ) (m : Member) → Some m ≡ slice_get ms i → Leads w (entries (take i ms)) v → Fails armed v (entries (m ∷ [])) u r → Fails more w (entries ms) u r
+  order-fails armed more wider w v u r ms i m at first fails =
+      subst (λ es. Fails more w es u r)
+      (sym (ap entries (member-split ms i m at) ∙ entries-more work s n server (take i ms) (m ∷ [] ++ drop (suc i) ms) ∙ ap (λ es. entries (take i ms) ++ es) (entries-more work s n server (m ∷ []) (drop (suc i) ms))))
+      (then-fails more w v u r (entries (take i ms)) (entries (m ∷ []) ++ entries (drop (suc i) ms)) first
+      (fails-first more v u r (entries (m ∷ [])) (entries (drop (suc i) ms)) (fails-wider armed more wider v u r (entries (m ∷ [])) fails)))
+
+-- a member that passes a test, or doesn't
+or-hit : (b : Bool) → (b || true) ≡ true
+or-hit true = refl
+or-hit false = refl
+
+pub any-hit : (p : Member → Bool) (ms : List Member) (i : ℕ) (m : Member) → Some m ≡ slice_get ms i → p m ≡ true → true ≡ list_any p ms
+any-hit p ms i m at hit =
+    sym (ap (list_any p) (member-split ms i m at) ∙ list_any-append p (take i ms) (m ∷ drop (suc i) ms) ∙ ap (λ b. list_any p (take i ms) || (b || list_any p (drop (suc i) ms))) hit ∙ or-hit (list_any p (take i ms)))
+
+pub any-miss : (p : Member → Bool) (ms : List Member) (i : ℕ) (m : Member) → Some m ≡ slice_get ms i → list_any p (take i ms) ≡ false → p m ≡ false → list_any p (take (i + 1) ms) ≡ false
+any-miss p ms i m at none miss =
+    ap (list_any p) (member-next ms i m at) ∙ list_any-append p (take i ms) (m ∷ []) ∙ (λ k. none k || (miss k || false))

@@ -1,5 +1,5 @@
 -- What orders on members of a session ask for, and what they leave.
-use Rattle.std.specs.Prelude.{ℕ, ◌≡◌, ◌≤◌, ◌+◌, Bool, true, false, ◌&&◌, not, List, Option, Some, None, slice_get, nat_lt, option_map, unwrap_or, is_some, if◌then◌else◌}
+use Rattle.std.specs.Prelude.{ℕ, ◌≡◌, ◌≤◌, ◌+◌, Bool, true, false, ◌&&◌, not, List, Some, None, slice_get, nat_lt, option_map, unwrap_or, is_some, if◌then◌else◌}
 use Rattle.std.specs.List.{list_any}
 use Rattle.dr_ids.specs.declared.names.Member.{Member}
 use Rattle.dr_bits.specs.Tracks.{Tracks}

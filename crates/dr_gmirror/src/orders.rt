@@ -6,7 +6,7 @@ ghost use Rattle.dr_model.specs.Phases as phases;
 ghost use Rattle.dr_model.specs.ReadStops.{Ends};
 ghost use Rattle.dr_model.specs.Sessions as model;
 ghost use Rattle.dr_model.specs.SessionEntries.{order_entries, members_on, reply_after};
-ghost use Rattle.dr_master.specs.Seen.{work_of, reply_of};
+ghost use Rattle.dr_master.specs.Seen.{work_of, reply_of, count_in};
 ghost use Rattle.dr_volume.specs.View.{Rest};
 ghost use Rattle.dr_flash.specs.Checks.{is_stop};
 ghost use Rattle.dr_flash.specs.Faults.{Counted};
@@ -25,7 +25,8 @@ use dr_session::Sessions;
 
 /// What a server replies whose members are done, or one of them has to wait.
 fn reply_by(waits: bool) -> Reply
-    ensures { reply_of result ≡ (if waits then phases.NotYet else phases.Done) }
+    ensures says { reply_of result ≡ (if waits then phases.NotYet else phases.Done) }
+    ensures count { count_in result ≡ 0 }
 {
     if waits { Reply::NotYet } else { Reply::Done }
 }
@@ -57,6 +58,7 @@ pub fn carry_out<P: Plant>(
     ensures fails { OnErr result ((r : Rest) → Fails (armed_in (P.state p.old)) (seen (P.state p.old) c.now (with_sessions ss.old.sessions r) j.old.events) (order_entries (work_of order.kind) s.0 order.n (members_on server.0 (model.members_in (model.session_in ss.old.sessions s.0))))
         (seen (P.state p.new) c.now (with_sessions ss.new.sessions r) j.new.events) (refusal_of result)) }
     ensures reply { IfOk result (λ y. (r : Rest) (events : List Event) → reply_of y ≡ reply_after (work_of order.kind) (members_on server.0 (model.members_in (model.session_in ss.old.sessions s.0))) (seen (P.state p.new) c.now r events).control) }
+    ensures count { IfOk result (λ y. count_in y ≡ 0) }
     ensures members { model.members_in (model.session_in ss.new.sessions s.0) ≡ model.members_in (model.session_in ss.old.sessions s.0) }
     ensures rest { IsAtRest (P.state p.new) c.now }
     ensures fit { RelationsFit (P.state p.new) c.now }
@@ -70,7 +72,7 @@ pub fn carry_out<P: Plant>(
     for at in 0..ss.member_count(s) {
         let m = ss.member_at(s, at).unwrap();
         let wait = order_on(p, c, j, ss, s, server, &m, order.kind, order.n)?;
-        waits = waits || wait;
+        waits |= wait;
     }
     Ok(reply_by(waits))
 }

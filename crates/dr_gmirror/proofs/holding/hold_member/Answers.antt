@@ -1,12 +1,12 @@
-use Rattle.std.proofs.Common.{◌≡◌, ◌≤◌, ◌+◌, ◌&&◌, not, true, false, nat_lt, arith, ap, sym, subst, ◌∙◌}
+use Rattle.std.proofs.Common.{◌≡◌, ◌≤◌, ◌+◌, ◌&&◌, not, arith, ap, sym, subst, ◌∙◌}
 use Rattle.dr_model.specs.Carry.{equal}
 use Rattle.dr_model.specs.SessionEntries.{hold_entries}
-use Rattle.dr_volume.specs.View.{Rest, volume_seen}
+use Rattle.dr_volume.specs.View.{Rest}
 use Rattle.dr_flash.specs.Here.{seen, armed_in, refusal_of}
 use Rattle.dr_flash.specs.Turns.{Leads, Fails}
 use Rattle.dr_flash.proofs.TurnLemmas.{ok-along, err-along}
 use Rattle.dr_gcopy.proofs.PairChecks.{both-first}
-use Rattle.dr_coord.specs.Changes.{begins, begun_if, rest_after}
+use Rattle.dr_coord.specs.Changes.{begins, begun_if}
 use Rattle.std.specs.Prelude.{if◌then◌else◌}
 use Rattle.dr_model.specs.Sessions.{members_in, session_in}
 use Rattle.dr_gmirror.specs.Orders.{with_sessions, begun_in, to_begin, MayBegin}

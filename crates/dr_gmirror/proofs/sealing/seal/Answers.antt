@@ -5,8 +5,8 @@ use Rattle.dr_model.specs.Pairs.{records}
 use Rattle.dr_model.specs.Relations.{is_bare}
 use Rattle.dr_model.specs.SessionEntries.{void_refusal, seal_refusal, seal_on, seal_entries}
 use Rattle.dr_volume.specs.View.{Rest, volume_seen}
-use Rattle.dr_flash.specs.Here.{seen, armed_in, refusal_of}
-use Rattle.dr_flash.proofs.CopyLemmas.{led, failed}
+use Rattle.dr_flash.specs.Here.{seen, armed_in}
+use Rattle.dr_flash.proofs.CopyLemmas.{led}
 use Rattle.dr_coord.proofs.ActLemmas.{passes, one-checked}
 use Rattle.dr_gmirror.proofs.SealLemmas.{refusal-waits, seal-waits, recorded-by, unrecorded-by}
 use Rattle.dr_gmirror.proofs.sealing.seal.Goals as goal

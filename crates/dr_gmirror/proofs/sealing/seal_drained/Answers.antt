@@ -1,4 +1,4 @@
-use Rattle.std.proofs.Common.{arith, refl, ap, sym, ◌∙◌, [], ◌∷◌, None, Some, nat_eq}
+use Rattle.std.proofs.Common.{arith, refl, ap, sym, ◌∙◌, ◌∷◌, None, Some, nat_eq}
 use Rattle.dr_model.specs.Layout.{Fields}
 use Rattle.dr_model.specs.Moves.{Seal}
 use Rattle.dr_model.specs.SessionEntries.{seal_refusal, seal_on}
@@ -6,7 +6,7 @@ use Rattle.dr_volume.specs.View.{volume_seen}
 use Rattle.dr_flash.specs.Here.{seen, armed_in, refusal_of}
 use Rattle.dr_flash.proofs.CheckLemmas.{counted-stop, only-stops, same-test, differ-test}
 use Rattle.dr_flash.proofs.TurnLemmas.{ok-along, err-along}
-use Rattle.dr_coord.proofs.ActLemmas.{passes, move-advances, move-halts, one-checked, both-along}
+use Rattle.dr_coord.proofs.ActLemmas.{passes, move-advances, move-halts, one-checked}
 use Rattle.dr_gmirror.proofs.SealLemmas.{refusal-drained, seal-skips, seal-comes, sync-kept}
 use Rattle.dr_gmirror.proofs.sealing.seal_drained.Goals as goal
 

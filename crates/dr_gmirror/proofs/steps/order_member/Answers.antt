@@ -1,4 +1,4 @@
-use Rattle.std.proofs.Common.{ap, sym, subst, Some}
+use Rattle.std.proofs.Common.{sym, subst, Some}
 use Rattle.dr_master.specs.Seen.{work_of}
 use Rattle.dr_master.specs.declared.orders.OrderKind.{OrderKind}
 use Rattle.dr_model.specs.SessionEntries.{member_entries}

@@ -1,0 +1,61 @@
+use Rattle.std.proofs.Common.{length, ap, sym, subst, ◌∙◌, None, Some}
+use Rattle.dr_ids.specs.declared.refusal.PhaseName.TheVariants as phase
+use Rattle.dr_ids.specs.declared.refusal.Refusal.TheVariants.{OutOfOrder}
+use Rattle.dr_master.specs.Seen.{order_of}
+use Rattle.dr_model.specs.declared.said.Said.TheVariants.{Refused}
+use Rattle.dr_model.specs.PlanParts.{Plan}
+use Rattle.dr_model.specs.Sessions.{Mirror, session_in, members_in, mirror_in}
+use Rattle.std.specs.Prelude.{Option}
+use Rattle.dr_flash.specs.Here.{seen, armed_in}
+use Rattle.dr_gmirror.specs.Orders.{with_sessions}
+use Rattle.dr_gmirror.specs.Exchange.{PlanEnds, order_in, answer_of, IsNear}
+use Rattle.dr_gmirror.proofs.ExchangeLemmas.{refused-plan, look-none, look-some, if-some, plan-none, plan-refused, plan-order}
+use Rattle.dr_gmirror.proofs.exchanging.exchange.Goals as goal
+
+pub returns-in_default-clause-carried : goal.returns-in_default-clause-carried
+returns-in_default-clause-carried g c r =
+    let s = g.P.Plant.state c.args.p.now in
+    let w = seen s c.args.c.now (with_sessions c.args.ss.now.sessions r) c.args.j.now.events in
+    let o = mirror_in (session_in c.args.ss.now.sessions c.args.s.0) in
+    subst (λ (p : Plan). PlanEnds (armed_in s) w p w (Refused (OutOfOrder phase.None))) (sym (plan-none w.control c.args.s.0 c.args.server.0 c.args.reply (members_in (session_in c.args.ss.now.sessions c.args.s.0)) o (look-none o c.args.server.0 c.in_default.ensures)))
+    (refused-plan (armed_in s) w (OutOfOrder phase.None))
+
+pub returns-in-Some-exchange_refusal-clause-carried : goal.returns-in-Some-exchange_refusal-clause-carried
+returns-in-Some-exchange_refusal-clause-carried g c r =
+    let s = g.P.Plant.state c.args.p.now in
+    let w = seen s c.args.c.now (with_sessions c.args.ss.now.sessions r) c.args.j.now.events in
+    let o = mirror_in (session_in c.args.ss.now.sessions c.args.s.0) in
+    let l = look-some c.in-Some.x o c.args.server.0 c.in-Some.ensures in
+    let near = if-some (IsNear (length c.args.c.now.names)) o l.0 l.1 c.requires.near in
+    subst (λ (p : Plan). PlanEnds (armed_in s) w p w (Refused c.in-Some-exchange_refusal.why)) (sym (plan-refused w.control c.args.s.0 c.args.server.0 c.args.reply (members_in (session_in c.args.ss.now.sessions c.args.s.0)) o l.0 c.in-Some-exchange_refusal.why l.1
+    (c.in-Some-exchange_refusal.ensures.refusal (with_sessions c.args.ss.now.sessions r) c.args.j.now.events l.0 l.2 near.built)))
+    (refused-plan (armed_in s) w c.in-Some-exchange_refusal.why)
+
+pub returns-in_default-order_of-clause-carried : goal.returns-in_default-order_of-clause-carried
+returns-in_default-order_of-clause-carried g c r =
+    let s = g.P.Plant.state c.args.p.now in
+    let w = seen s c.args.c.now (with_sessions c.args.ss.now.sessions r) c.args.j.now.events in
+    let o = mirror_in (session_in c.args.ss.now.sessions c.args.s.0) in
+    let l = look-some c.in-Some.x o c.args.server.0 c.in-Some.ensures in
+    let near = if-some (IsNear (length c.args.c.now.names)) o l.0 l.1 c.requires.near in
+    subst (λ (p : Plan). PlanEnds (armed_in s) w p w (Refused (OutOfOrder phase.None))) (sym (plan-order w.control c.args.s.0 c.args.server.0 c.args.reply (members_in (session_in c.args.ss.now.sessions c.args.s.0)) o l.0 None l.1
+    (c.in_default-exchange_refusal.ensures.refusal (with_sessions c.args.ss.now.sessions r) c.args.j.now.events l.0 l.2 near.built) (c.in_default-order_of.ensures l.0 c.args.server.0 l.2)))
+    (refused-plan (armed_in s) w (OutOfOrder phase.None))
+
+pub exchange_order-requires-clause-may : goal.exchange_order-requires-clause-may
+exchange_order-requires-clause-may g c r =
+    let o = mirror_in (session_in c.args.ss.now.sessions c.args.s.0) in
+    let l = look-some c.in-Some.x o c.args.server.0 c.in-Some.ensures in
+    c.requires.may r (order_of c.in-Some-order_of.order) (ap (λ (o : Option Mirror). order_in o c.args.server.0) l.1 ∙ sym (c.in-Some-order_of.ensures l.0 c.args.server.0 l.2))
+
+pub returns-clause-carried : goal.returns-clause-carried
+returns-clause-carried g c r =
+    let s = g.P.Plant.state c.args.p.now in
+    let w = seen s c.args.c.now (with_sessions c.args.ss.now.sessions r) c.args.j.now.events in
+    let u = seen (g.P.Plant.state c.exchange_order.new.p) c.args.c.now (with_sessions c.exchange_order.new.ss.sessions r) c.exchange_order.new.j.events in
+    let o = mirror_in (session_in c.args.ss.now.sessions c.args.s.0) in
+    let l = look-some c.in-Some.x o c.args.server.0 c.in-Some.ensures in
+    let near = if-some (IsNear (length c.args.c.now.names)) o l.0 l.1 c.requires.near in
+    subst (λ (p : Plan). PlanEnds (armed_in s) w p u (answer_of c.exchange_order.result c.args.s.0 u.control)) (sym (plan-order w.control c.args.s.0 c.args.server.0 c.args.reply (members_in (session_in c.args.ss.now.sessions c.args.s.0)) o l.0 (Some (order_of c.in-Some-order_of.order)) l.1
+    (c.in_default-exchange_refusal.ensures.refusal (with_sessions c.args.ss.now.sessions r) c.args.j.now.events l.0 l.2 near.built) (c.in-Some-order_of.ensures l.0 c.args.server.0 l.2)))
+    (c.exchange_order.ensures.carried r)

@@ -1,0 +1,106 @@
+use Rattle.std.proofs.Common.{List, ◌≡◌, ◌≤◌, ◌||◌, length, take, slice_get, arith, ap, sym, subst, ◌∙◌, [], ◌∷◌, Some}
+use Rattle.dr_ids.specs.declared.names.Member.{Member}
+use Rattle.dr_model.specs.ReadStops.{Ends}
+use Rattle.dr_model.specs.Sessions.{session_in, members_in}
+use Rattle.dr_model.specs.SessionEntries.{order_entries, members_on}
+use Rattle.dr_master.specs.Seen.{work_of, reply_of}
+use Rattle.dr_flash.specs.Here.{seen, armed_in}
+use Rattle.dr_flash.specs.Turns.{Leads, Fails}
+use Rattle.dr_flash.proofs.CopyLemmas.{led, failed, wider-armed}
+use Rattle.dr_flash.proofs.TurnLemmas.{err-always, refused-by}
+use Rattle.dr_gmirror.specs.Orders.{with_sessions, sync_seen, waits_in}
+use Rattle.dr_gmirror.proofs.OrderLemmas.{waits-kept, waits-more, member-next, member-all, still-ready, reply-is, order-next, order-fails}
+use Rattle.dr_gmirror.proofs.orders.carry_out.Goals as goal
+
+pub order_on-requires-clause-ready : goal.order_on-requires-clause-ready
+order_on-requires-clause-ready g c =
+    still-ready (g.P.Plant.state c.args.p.now) (g.P.Plant.state c.loop-at.p) c.args.c.now c.unwrap-m.result
+    (c.requires.members c.loop-at.at c.unwrap-m.result (ap (λ (ms : List Member). slice_get ms c.loop-at.at) (sym c.loop-at.invariant.members) ∙ sym c.member_at.ensures.value ∙ c.unwrap-m.ensures))
+
+pub returns-in_err-wait-clause-fails : goal.returns-in_err-wait-clause-fails
+returns-in_err-wait-clause-fails g c =
+    let s0 = g.P.Plant.state c.args.p.now in
+    let s = g.P.Plant.state c.loop-at.p in
+    let t = c.args.c.now in
+    let ms = members_in (session_in c.args.ss.now.sessions c.args.s.0) in
+    let e = c.in_err-wait.field-0.0 in
+    err-always c.from_residual.result (λ r.
+    let w = seen s0 t (with_sessions c.args.ss.now.sessions r) c.args.j.now.events in
+    let u = seen (g.P.Plant.state c.order_on.new.p) t (with_sessions c.order_on.new.ss.sessions r) c.order_on.new.j.events in
+    subst (λ q. Fails (armed_in s0) w (order_entries (work_of c.args.order.kind) c.args.s.0 c.args.order.n (members_on c.args.server.0 ms)) u q) (sym (refused-by c.from_residual.result e c.from_residual.ensures.0 c.from_residual.ensures.1))
+    (order-fails (work_of c.args.order.kind) c.args.s.0 c.args.order.n c.args.server.0 (armed_in s) (armed_in s0) (wider-armed s0 s c.loop-at.invariant.unarmed) w (seen s t (with_sessions c.loop-at.ss.sessions r) c.loop-at.j.events) u (Some e) ms c.loop-at.at c.unwrap-m.result
+    (sym (ap (λ (ms : List Member). slice_get ms c.loop-at.at) (sym c.loop-at.invariant.members) ∙ sym c.member_at.ensures.value ∙ c.unwrap-m.ensures))
+    (c.loop-at.invariant.led r) (c.in_err-wait.ensures.fails r)))
+
+pub returns-in_err-wait-clause-carried : goal.returns-in_err-wait-clause-carried
+returns-in_err-wait-clause-carried g c r =
+    let s0 = g.P.Plant.state c.args.p.now in
+    let s = g.P.Plant.state c.loop-at.p in
+    let t = c.args.c.now in
+    let ms = members_in (session_in c.args.ss.now.sessions c.args.s.0) in
+    let e = c.in_err-wait.field-0.0 in
+    let w = seen s0 t (with_sessions c.args.ss.now.sessions r) c.args.j.now.events in
+    let u = seen (g.P.Plant.state c.order_on.new.p) t (with_sessions c.order_on.new.ss.sessions r) c.order_on.new.j.events in
+    subst (λ q. Ends (armed_in s0) u q w (order_entries (work_of c.args.order.kind) c.args.s.0 c.args.order.n (members_on c.args.server.0 ms))) (sym (refused-by c.from_residual.result e c.from_residual.ensures.0 c.from_residual.ensures.1))
+    (failed (armed_in s0) w u (Some e) (order_entries (work_of c.args.order.kind) c.args.s.0 c.args.order.n (members_on c.args.server.0 ms))
+    (order-fails (work_of c.args.order.kind) c.args.s.0 c.args.order.n c.args.server.0 (armed_in s) (armed_in s0) (wider-armed s0 s c.loop-at.invariant.unarmed) w (seen s t (with_sessions c.loop-at.ss.sessions r) c.loop-at.j.events) u (Some e) ms c.loop-at.at c.unwrap-m.result
+    (sym (ap (λ (ms : List Member). slice_get ms c.loop-at.at) (sym c.loop-at.invariant.members) ∙ sym c.member_at.ensures.value ∙ c.unwrap-m.ensures))
+    (c.loop-at.invariant.led r) (c.in_err-wait.ensures.fails r)))
+
+pub loop-at-preserved : goal.loop-at-preserved
+loop-at-preserved g c =
+    let s0 = g.P.Plant.state c.args.p.now in
+    let s = g.P.Plant.state c.loop-at.p in
+    let u = g.P.Plant.state c.order_on.new.p in
+    let t = c.args.c.now in
+    let work = work_of c.args.order.kind in
+    let ms = members_in (session_in c.args.ss.now.sessions c.args.s.0) in
+    let at : Some c.unwrap-m.result ≡ slice_get ms c.loop-at.at = sym (ap (λ (ms : List Member). slice_get ms c.loop-at.at) (sym c.loop-at.invariant.members) ∙ sym c.member_at.ensures.value ∙ c.unwrap-m.ensures) in
+    record {
+      led = λ r. order-next work c.args.s.0 c.args.order.n c.args.server.0 (seen s0 t (with_sessions c.args.ss.now.sessions r) c.args.j.now.events) (seen s t (with_sessions c.loop-at.ss.sessions r) c.loop-at.j.events) (seen u t (with_sessions c.order_on.new.ss.sessions r) c.order_on.new.j.events)
+          ms c.loop-at.at c.unwrap-m.result at (c.loop-at.invariant.led r) (c.in_ok-wait.ensures.leads r);
+      members = c.in_ok-wait.ensures.members ∙ c.loop-at.invariant.members;
+      waits =
+          (λ i. (c.loop-at.invariant.waits i) || (c.in_ok-wait.ensures.waits i))
+          ∙ ap (λ b. b || waits_in work (sync_seen u t) (members_on c.args.server.0 (c.unwrap-m.result ∷ []))) (sym (waits-kept work (sync_seen s t) (sync_seen u t) (members_on c.args.server.0 (take c.loop-at.at ms)) c.in_ok-wait.ensures.kept))
+          ∙ sym (waits-more work (sync_seen u t) c.args.server.0 (take c.loop-at.at ms) (c.unwrap-m.result ∷ []))
+          ∙ sym (ap (λ xs. waits_in work (sync_seen u t) (members_on c.args.server.0 xs)) (member-next ms c.loop-at.at c.unwrap-m.result at));
+      may = c.in_ok-wait.ensures.may;
+      rest = c.in_ok-wait.ensures.rest;
+      fit = c.in_ok-wait.ensures.fit;
+      unarmed = λ q none. c.in_ok-wait.ensures.unarmed q (c.loop-at.invariant.unarmed q none);
+      on = c.in_ok-wait.ensures.on ∙ c.loop-at.invariant.on;
+      faults = c.in_ok-wait.ensures.faults ∙ c.loop-at.invariant.faults;
+      room = let a = c.loop-at.invariant.room in let b = c.in_ok-wait.ensures.room_left in omega (arith, a, b);
+      spare = c.in_ok-wait.ensures.spare ∙ c.loop-at.invariant.spare;
+    }
+
+pub returns-clause-carried : goal.returns-clause-carried
+returns-clause-carried g c r =
+    let s0 = g.P.Plant.state c.args.p.now in
+    let t = c.args.c.now in
+    let ms = members_in (session_in c.args.ss.now.sessions c.args.s.0) in
+    let all : length ms ≤ c.loop-at.at = let e = c.member_count-at-end.ensures in let f = c.loop-at-test.false in omega (arith, e, f) in
+    let w = seen s0 t (with_sessions c.args.ss.now.sessions r) c.args.j.now.events in
+    let u = seen (g.P.Plant.state c.loop-at.p) t (with_sessions c.loop-at.ss.sessions r) c.loop-at.j.events in
+    led (armed_in s0) w u (order_entries (work_of c.args.order.kind) c.args.s.0 c.args.order.n (members_on c.args.server.0 ms))
+    (subst (λ xs. Leads w (order_entries (work_of c.args.order.kind) c.args.s.0 c.args.order.n (members_on c.args.server.0 xs)) u) (member-all ms c.loop-at.at all) (c.loop-at.invariant.led r))
+
+pub returns-clause-leads : goal.returns-clause-leads
+returns-clause-leads g c r =
+    let s0 = g.P.Plant.state c.args.p.now in
+    let t = c.args.c.now in
+    let ms = members_in (session_in c.args.ss.now.sessions c.args.s.0) in
+    let all : length ms ≤ c.loop-at.at = let e = c.member_count-at-end.ensures in let f = c.loop-at-test.false in omega (arith, e, f) in
+    let w = seen s0 t (with_sessions c.args.ss.now.sessions r) c.args.j.now.events in
+    let u = seen (g.P.Plant.state c.loop-at.p) t (with_sessions c.loop-at.ss.sessions r) c.loop-at.j.events in
+    subst (λ xs. Leads w (order_entries (work_of c.args.order.kind) c.args.s.0 c.args.order.n (members_on c.args.server.0 xs)) u) (member-all ms c.loop-at.at all) (c.loop-at.invariant.led r)
+
+pub returns-clause-reply : goal.returns-clause-reply
+returns-clause-reply g c =
+    let u = g.P.Plant.state c.loop-at.p in
+    let t = c.args.c.now in
+    let work = work_of c.args.order.kind in
+    let ms = members_in (session_in c.args.ss.now.sessions c.args.s.0) in
+    let all : length ms ≤ c.loop-at.at = let e = c.member_count-at-end.ensures in let f = c.loop-at-test.false in omega (arith, e, f) in
+    reply-is work u t (members_on c.args.server.0 ms) c.loop-at.waits (reply_of c.reply_by.result) (c.loop-at.invariant.waits ∙ ap (λ xs. waits_in work (sync_seen u t) (members_on c.args.server.0 xs)) (member-all ms c.loop-at.at all)) c.reply_by.ensures.says

@@ -1,0 +1,83 @@
+-- Exchanges between a session's master and a server.
+use Rattle.std.specs.Prelude.{◌≡◌, ℕ, ◌<◌, Bool, true, false, ◌&&◌, List, length, nat_le, Option, Some, None, option_map, Result, Ok, Err}
+use Rattle.dr_ids.specs.declared.names.Member.{Member}
+use Rattle.dr_ids.specs.declared.refusal.PhaseName.{PhaseName}
+use Rattle.dr_ids.specs.declared.refusal.PhaseName.TheVariants as phase
+use Rattle.dr_ids.specs.declared.refusal.Refusal.{Refusal}
+use Rattle.dr_ids.specs.declared.refusal.Refusal.TheVariants.{OutOfOrder}
+use Rattle.dr_master.specs.Seen.{order_of as order_seen}
+use Rattle.dr_model.specs.declared.said.Said.{Said}
+use Rattle.dr_model.specs.declared.said.Said.TheVariants.{Refused}
+use Rattle.dr_model.specs.Phases as phases
+use Rattle.dr_model.specs.Sessions.{Mirror, session_in, mirror_in, members_in}
+use Rattle.dr_model.specs.Control.{Control, World}
+use Rattle.dr_model.specs.PlanParts.{Plan}
+use Rattle.dr_model.specs.Runs.{begun, finish, answered}
+use Rattle.dr_model.specs.ReadStops.{Ends}
+use Rattle.dr_model.specs.SessionEntries.{order_entries, members_on, reply_after}
+use Rattle.dr_model.specs.SessionPlans.{exchange_refusal, order_of, says_phase}
+use Rattle.dr_flash.specs.Turns.{Leads}
+use Rattle.dr_gmirror.specs.declared.looks.Look.{Look}
+use Rattle.dr_gmirror.specs.Orders.{MayOrder}
+
+-- A plan is carried out from w, where reads may fail: how its entries ended, what follows, and what is answered.
+pub record PlanEnds (armed : ℕ → Bool) (w : World) (p : Plan) (u : World) (answer : Said) : Type 0 where
+  pub middle : World
+  pub refusal : Option Refusal
+  pub ends : Ends armed middle refusal (begun w p) p.entries
+  pub world : u ≡ finish p middle refusal
+  pub answers : answer ≡ answered p u.control refusal
+
+-- what an exchange answers: its session's phase after it, or why it failed
+abbrev pub answer_of : Result (Unit {0}) Refusal → ℕ → Control → Said
+answer_of (Ok x) s k = says_phase s k
+answer_of (Err why) s k = Refused why
+
+-- why there is no exchange: there is no master, or the master and the server say so
+abbrev pub refusal_in : Control → Option Mirror → ℕ → List Member → Option Refusal
+refusal_in k None server ms = Some (OutOfOrder phase.None)
+refusal_in k (Some r) server ms = exchange_refusal k r server ms
+
+-- the order that is carried out
+abbrev pub order_in : Option Mirror → ℕ → Option phases.Order
+order_in None server = None
+order_in (Some r) server = order_of r server
+
+-- the phases in which an exchange is built
+abbrev pub is_built : PhaseName → Bool
+is_built phase.Idle = true
+is_built phase.Coordinating = true
+is_built phase.Releasing = true
+is_built phase.Draining = true
+is_built phase.Finishing = true
+is_built p = false
+
+-- what an exchange looks at of a master
+pub record Looks (x : Look) (r : Mirror) (server : ℕ) : Type 0 where
+  pub runs : x.server.0 ≡ r.server
+  pub paused : x.paused ≡ r.paused
+  pub phase : x.phase ≡ r.master.phase
+  pub number : x.number ≡ r.master.number
+  pub owed : option_map order_seen x.owed ≡ phases.order_for r.master server
+
+abbrev pub LooksAt : Option Look → Option Mirror → ℕ → Type 0
+LooksAt None None server = Unit {0}
+LooksAt (Some x) (Some r) server = Looks x r server
+LooksAt _ _ server = ⊥
+
+-- whether there is a master, and it awaits this reply, and not too much was reported to it
+abbrev pub is_awaited : Option Mirror → ℕ → phases.Reply → Bool
+is_awaited None server y = false
+is_awaited (Some r) server y = phases.awaits r.master server y && nat_le (length r.master.reports) 64
+
+-- The master runs on a server that is defined, and its phase is one in which an exchange is built.
+pub record IsNear (names : ℕ) (r : Mirror) : Type 0 where
+  pub low : r.server < 8
+  pub known : r.server < names
+  pub built : is_built r.master.phase ≡ true
+
+-- The order that the server carries out may come, and where the entries lead on, the master awaits the reply.
+pub record MayExchange (w : World) (s server : ℕ) (o : phases.Order) : Type 0 where
+  pub may : MayOrder o.work w.control.sessions s o.number
+  pub awaited : (v : World) → Leads w (order_entries o.work s o.number (members_on server (members_in (session_in w.control.sessions s)))) v
+      → is_awaited (mirror_in (session_in v.control.sessions s)) server (reply_after o.work (members_on server (members_in (session_in w.control.sessions s))) v.control) ≡ true

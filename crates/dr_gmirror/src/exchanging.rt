@@ -1,0 +1,188 @@
+//! A session's master and a server exchange an order and the reply.
+
+ghost use Rattle.std.specs.Prelude.{◌≡◌, ℕ, ◌<◌, ◌≤◌, ◌+◌, true, false, length, None, Some, IfSome, List, OnOk, OnErr, option_map, if◌then◌else◌};
+ghost use Rattle.dr_model.specs.declared.event.Event.{Event};
+ghost use Rattle.dr_model.specs.Phases as phases;
+ghost use Rattle.dr_model.specs.SessionEntries.{members_on};
+ghost use Rattle.dr_model.specs.SessionPlans as plans;
+ghost use Rattle.dr_model.specs.Sessions as model;
+ghost use Rattle.dr_master.specs.Seen as master;
+ghost use Rattle.dr_master.specs.Seen.{reply_of};
+ghost use Rattle.dr_session.specs.Seen.{expects};
+ghost use Rattle.dr_volume.specs.View.{Rest};
+ghost use Rattle.dr_flash.specs.Checks.{OnNone, is_stop};
+ghost use Rattle.dr_flash.specs.Faults.{Counted};
+ghost use Rattle.dr_flash.specs.Fit.{RelationsFit};
+ghost use Rattle.dr_flash.specs.Here.{seen, refusal_of, armed_in, IsAtRest};
+ghost use Rattle.dr_gmirror.specs.Orders.{with_sessions, AreReady};
+ghost use Rattle.dr_gmirror.specs.Exchange.{PlanEnds, answer_of, order_in, is_built, Looks, IsNear, MayExchange};
+
+use crate::looks::{Look, apart_refusal, has_member_on, idle_refusal, is_idle, off_refusal};
+use crate::orders::carry_out;
+use dr_config::Config;
+use dr_ids::{PhaseName, Refusal, ServerId, SessionId};
+use dr_master::{Order, OrderKind, Reply};
+use dr_model::Journal;
+use dr_plant::Plant;
+use dr_session::Sessions;
+
+/// Why the server has no exchange with the master in its phase: where no attempt goes on, none begins with it; else it isn't
+/// owed an order.
+fn phase_refusal(ss: &Sessions, s: SessionId, server: ServerId, x: &Look) -> Option<Refusal>
+    ensures refusal { (r : model.Mirror) → Looks x.now r server.0 → is_built r.master.phase ≡ true → result ≡ plans.phase_refusal r server.0 (model.members_in (model.session_in ss.now.sessions s.0)) }
+    ensures number { OnNone result (plans.is_idle x.now.phase ≡ true → x.now.number + 1 < 4294967296) }
+    ensures calm { is_stop result ≡ false }
+{
+    if is_idle(x.phase) {
+        return idle_refusal(x.paused, x.number, has_member_on(ss, s, server));
+    }
+    if x.owed.is_some() {
+        return None;
+    }
+    Some(Refusal::OutOfOrder { phase: x.phase })
+}
+
+/// Why the server and the master have no exchange: the master's server is off, or else the phase says so, or else the server
+/// is off, or else the link between the two servers is down.
+fn exchange_refusal<P: Plant>(
+    p: &P,
+    c: &Config,
+    ss: &Sessions,
+    s: SessionId,
+    server: ServerId,
+    x: &Look,
+) -> Option<Refusal>
+    requires low { server.0 < 8 }
+    requires known { server.0 < length c.now.names }
+    requires master_low { x.now.server.0 < 8 }
+    requires master_known { x.now.server.0 < length c.now.names }
+    ensures refusal { (q : Rest) (events : List Event) (r : model.Mirror) → Looks x.now r server.0 → is_built r.master.phase ≡ true → result ≡ plans.exchange_refusal (seen (P.state p.now) c.now q events).control r server.0 (model.members_in (model.session_in ss.now.sessions s.0)) }
+    ensures running { OnNone result ((P.state p.now).on server.0 ≡ true) }
+    ensures number { OnNone result (plans.is_idle x.now.phase ≡ true → x.now.number + 1 < 4294967296) }
+    ensures calm { is_stop result ≡ false }
+{
+    if let Some(why) = off_refusal(p, c, x.server) {
+        return Some(why);
+    }
+    if let Some(why) = phase_refusal(ss, s, server, x) {
+        return Some(why);
+    }
+    if let Some(why) = off_refusal(p, c, server) {
+        return Some(why);
+    }
+    apart_refusal(c, x.server, server)
+}
+
+/// The order that the server carries out: the one that it is owed, or where no attempt goes on the first one of the next.
+fn order_of(x: &Look) -> Option<Order>
+    requires { plans.is_idle x.now.phase ≡ true → x.now.number + 1 < 4294967296 }
+    ensures { (r : model.Mirror) (server : ℕ) → Looks x.now r server → option_map master.order_of result ≡ plans.order_of r server }
+{
+    if is_idle(x.phase) {
+        return Some(Order {
+            kind: OrderKind::Hold,
+            n: x.number + 1,
+        });
+    }
+    x.owed
+}
+
+/// The master learns of a reply, where it does.
+fn reply_if(ss: &mut Sessions, s: SessionId, server: ServerId, y: Reply, on: bool)
+    requires server { server.0 < 8 }
+    requires expected { on ≡ true → expects (model.mirror_in (model.session_in ss.old.sessions s.0)) server.0 y ≡ true }
+    ensures { ss.new.sessions ≡ (if on then model.changed s.0 (model.with_master (λ m. phases.replied m server.0 (reply_of y))) ss.old.sessions else ss.old.sessions) }
+{
+    if on {
+        ss.reply(s, server, y);
+    }
+}
+
+/// The server carries out the order, and the master may learn of its reply.
+fn exchange_order<P: Plant>(
+    p: &mut P,
+    c: &Config,
+    j: &mut Journal,
+    ss: &mut Sessions,
+    s: SessionId,
+    server: ServerId,
+    order: Order,
+    reply: bool,
+) -> Result<(), Refusal>
+    requires rest { IsAtRest (P.state p.old) c.now }
+    requires fit { RelationsFit (P.state p.old) c.now }
+    requires members { AreReady (P.state p.old) c.now (model.members_in (model.session_in ss.old.sessions s.0)) }
+    requires running { (P.state p.old).on server.0 ≡ true }
+    requires low { server.0 < 8 }
+    requires may { (r : Rest) → MayExchange (seen (P.state p.old) c.now (with_sessions ss.old.sessions r) j.old.events) s.0 server.0 (master.order_of order) }
+    requires room { length (model.members_in (model.session_in ss.old.sessions s.0)) + 2 ≤ j.old.spare }
+    ensures carried { (r : Rest) → PlanEnds (armed_in (P.state p.old)) (seen (P.state p.old) c.now (with_sessions ss.old.sessions r) j.old.events)
+        (plans.exchange_done s.0 server.0 reply (members_on server.0 (model.members_in (model.session_in ss.old.sessions s.0))) (Some (master.order_of order)))
+        (seen (P.state p.new) c.now (with_sessions ss.new.sessions r) j.new.events) (answer_of result s.0 (seen (P.state p.new) c.now (with_sessions ss.new.sessions r) j.new.events).control) }
+    ensures rest { IsAtRest (P.state p.new) c.now }
+    ensures fit { RelationsFit (P.state p.new) c.now }
+    ensures unarmed { (q : ℕ) → (P.state p.old).read_fuse q ≡ None → (P.state p.new).read_fuse q ≡ None }
+    ensures faults { Counted (is_stop (refusal_of result)) (P.state p.old).faults (P.state p.new).faults }
+    ensures on { OnOk result ((P.state p.new).on ≡ (P.state p.old).on) }
+    ensures room { j.old.spare ≤ j.new.spare + (length (model.members_in (model.session_in ss.old.sessions s.0)) + 2) }
+    ensures spare { length j.new.events + j.new.spare ≡ length j.old.events + j.old.spare }
+{
+    match carry_out(p, c, j, ss, s, server, order) {
+        Ok(y) => {
+            reply_if(ss, s, server, y, reply);
+            Ok(())
+        }
+        Err(why) => Err(why),
+    }
+}
+
+/// A server carries out what a session's master asks of it, and the master learns of the reply where it is to. Where no
+/// attempt goes on, the exchange begins one: the order is the hold of the next attempt. Refused where the session has no
+/// master, or else where the master's server is off; or else, where no attempt goes on, where the master is paused or the
+/// server has no members, or the next number would be 2^32, and in other phases where the server isn't owed the phase's
+/// order; or else where the server is off, or else where the link between the two servers is down. Then nothing has changed.
+/// Fails too where a member refuses, or where a server stops in a move or goes off at a read; what was done by then stays, and
+/// the master learns of nothing. The journal needs room for an event for each of the session's members and two more.
+pub fn exchange<P: Plant>(
+    p: &mut P,
+    c: &Config,
+    j: &mut Journal,
+    ss: &mut Sessions,
+    s: SessionId,
+    server: ServerId,
+    reply: bool,
+) -> Result<(), Refusal>
+    requires rest { IsAtRest (P.state p.old) c.now }
+    requires fit { RelationsFit (P.state p.old) c.now }
+    requires members { AreReady (P.state p.old) c.now (model.members_in (model.session_in ss.old.sessions s.0)) }
+    requires low { server.0 < 8 }
+    requires known { server.0 < length c.now.names }
+    requires near { IfSome (model.mirror_in (model.session_in ss.old.sessions s.0)) (IsNear (length c.now.names)) }
+    requires may { (r : Rest) (o : phases.Order) → order_in (model.mirror_in (model.session_in ss.old.sessions s.0)) server.0 ≡ Some o → MayExchange (seen (P.state p.old) c.now (with_sessions ss.old.sessions r) j.old.events) s.0 server.0 o }
+    requires room { length (model.members_in (model.session_in ss.old.sessions s.0)) + 2 ≤ j.old.spare }
+    ensures carried { (r : Rest) → PlanEnds (armed_in (P.state p.old)) (seen (P.state p.old) c.now (with_sessions ss.old.sessions r) j.old.events)
+        (plans.exchange_on (seen (P.state p.old) c.now (with_sessions ss.old.sessions r) j.old.events).control s.0 (model.mirror_in (model.session_in ss.old.sessions s.0)) server.0 reply (model.members_in (model.session_in ss.old.sessions s.0)))
+        (seen (P.state p.new) c.now (with_sessions ss.new.sessions r) j.new.events) (answer_of result s.0 (seen (P.state p.new) c.now (with_sessions ss.new.sessions r) j.new.events).control) }
+    ensures rest { IsAtRest (P.state p.new) c.now }
+    ensures fit { RelationsFit (P.state p.new) c.now }
+    ensures unarmed { (q : ℕ) → (P.state p.old).read_fuse q ≡ None → (P.state p.new).read_fuse q ≡ None }
+    ensures faults { Counted (is_stop (refusal_of result)) (P.state p.old).faults (P.state p.new).faults }
+    ensures on { OnOk result ((P.state p.new).on ≡ (P.state p.old).on) }
+    ensures room { j.old.spare ≤ j.new.spare + (length (model.members_in (model.session_in ss.old.sessions s.0)) + 2) }
+    ensures spare { length j.new.events + j.new.spare ≡ length j.old.events + j.old.spare }
+{
+    let Some(x) = Look::at(ss, s, server) else {
+        return Err(Refusal::OutOfOrder {
+            phase: PhaseName::None,
+        });
+    };
+    if let Some(why) = exchange_refusal(p, c, ss, s, server, &x) {
+        return Err(why);
+    }
+    let Some(order) = order_of(&x) else {
+        return Err(Refusal::OutOfOrder {
+            phase: PhaseName::None,
+        });
+    };
+    exchange_order(p, c, j, ss, s, server, order, reply)
+}
