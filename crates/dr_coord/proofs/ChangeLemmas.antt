@@ -6,10 +6,10 @@ use Rattle.dr_config.specs.Table.{Table}
 use Rattle.dr_model.specs.declared.event.Event.{Event}
 use Rattle.dr_model.specs.declared.event.Event.TheVariants.{Begin, Cut}
 use Rattle.dr_model.specs.Layout.{Fields}
-use Rattle.dr_model.specs.Lawful.{HasSets, IsLawful, NoPrimary}
+use Rattle.dr_model.specs.Lawful.{HasSets, IsLawful, NoPrimary, NoRelation}
 use Rattle.dr_model.specs.Control.{Volume}
-use Rattle.dr_model.specs.Pairs.{held_for, freed, sealed, past_attempt, is_engaged}
-use Rattle.dr_model.specs.Moves.{Hold, Free, Seal, Finish}
+use Rattle.dr_model.specs.Pairs.{held_for, freed, sealed, past_attempt, with_attempt, with_floor, no_member, is_engaged}
+use Rattle.dr_model.specs.Moves.{Hold, Free, Seal, Finish, RaiseAttempt, RaiseFloor, Leave}
 use Rattle.dr_model.specs.Carry.{Turn, turn, update}
 use Rattle.dr_volume.specs.View.{Rest, volume_seen}
 use Rattle.dr_flash.specs.Fit.{RelationsFit}
@@ -76,6 +76,16 @@ change-lawful n (change.Finish m) f part lawful = let sets : HasSets n f = lawfu
   secondary = lawful.secondary;
   relation = lawful.relation;
 }
+change-lawful n (change.RaiseAttempt m) f part lawful = record { sets = lawful.sets; primary = lawful.primary; secondary = lawful.secondary; relation = lawful.relation }
+change-lawful n (change.RaiseFloor m) f part lawful = record { sets = lawful.sets; primary = lawful.primary; secondary = lawful.secondary; relation = lawful.relation }
+change-lawful n (change.Leave u k) f part lawful = record {
+  sets = lawful.sets;
+  primary = lawful.primary;
+  secondary = lawful.secondary;
+  relation = λ absent.
+      let none : NoRelation f = lawful.relation absent in
+      (none.0, none.1, none.2, none.3, none.4, none.5, none.6, none.7, none.8, none.9, none.10, none.11, none.12, refl, refl);
+}
 
 -- and leave the relationships as they were
 module _ (s : PlantState) (t : Table) (v : ℕ) (fit : RelationsFit s t) where
@@ -103,6 +113,21 @@ module _ (s : PlantState) (t : Table) (v : ℕ) (fit : RelationsFit s t) where
         covers = covers-all (volume_seen s t v).fields.blank None;
         leaves = fit-kept s t v (past_attempt m (volume_seen s t v).fields) fit (λ r. (r, refl)) (fit.apart v);
       }
+      fits (change.RaiseAttempt m) part lawful = record {
+        lawful = change-lawful _ (change.RaiseAttempt m) _ part lawful;
+        covers = covers-all (volume_seen s t v).fields.blank None;
+        leaves = fit-kept s t v (with_attempt m (volume_seen s t v).fields) fit (λ r. (r, refl)) (fit.apart v);
+      }
+      fits (change.RaiseFloor m) part lawful = record {
+        lawful = change-lawful _ (change.RaiseFloor m) _ part lawful;
+        covers = covers-all (volume_seen s t v).fields.blank None;
+        leaves = fit-kept s t v (with_floor m (volume_seen s t v).fields) fit (λ r. (r, refl)) (fit.apart v);
+      }
+      fits (change.Leave u k) part lawful = record {
+        lawful = change-lawful _ (change.Leave u k) _ part lawful;
+        covers = covers-all (volume_seen s t v).fields.blank None;
+        leaves = fit-kept s t v (no_member (volume_seen s t v).fields) fit (λ r. (r, refl)) (fit.apart v);
+      }
 
 -- what is told
 two-if : (b : Bool) (d e : Event) → (if b then d ∷ e ∷ [] else e ∷ []) ≡ events_of (if b then Two d e else One e)
@@ -129,6 +154,15 @@ turn-changes s t r events v (change.Seal u k n) on =
 turn-changes s t r events v (change.Finish n) on =
     turn-made (seen s t r events) (Finish v n) (telling_of v (change.Finish n)) (past_attempt n (volume_seen s t v).fields) None (on-running s (volume_seen s t v).server on)
     (record { done = refl; in_stop = refl; landed = refl; settles = λ ps. refl; settles_in_stop = λ ps. refl }) refl refl
+turn-changes s t r events v (change.RaiseAttempt n) on =
+    turn-made (seen s t r events) (RaiseAttempt v n) (telling_of v (change.RaiseAttempt n)) (with_attempt n (volume_seen s t v).fields) None (on-running s (volume_seen s t v).server on)
+    (record { done = refl; in_stop = refl; landed = refl; settles = λ ps. refl; settles_in_stop = λ ps. refl }) refl refl
+turn-changes s t r events v (change.RaiseFloor n) on =
+    turn-made (seen s t r events) (RaiseFloor v n) (telling_of v (change.RaiseFloor n)) (with_floor n (volume_seen s t v).fields) None (on-running s (volume_seen s t v).server on)
+    (record { done = refl; in_stop = refl; landed = refl; settles = λ ps. refl; settles_in_stop = λ ps. refl }) refl refl
+turn-changes s t r events v (change.Leave u k) on =
+    turn-made (seen s t r events) (Leave v u.0 k.0) (telling_of v (change.Leave u k)) (no_member (volume_seen s t v).fields) None (on-running s (volume_seen s t v).server on)
+    (record { done = refl; in_stop = refl; landed = refl; settles = λ ps. refl; settles_in_stop = λ ps. refl }) refl refl
 
 -- how much that is
 pub count-is : (v : ℕ) (x : Change) → length (events_of (told_of v x)) ≡ count_of x
@@ -136,6 +170,9 @@ count-is v (change.Hold k n first) = count-if first (Begin k.0 n) (Cut k.0 n v)
 count-is v change.Free = refl
 count-is v (change.Seal u k n) = refl
 count-is v (change.Finish n) = refl
+count-is v (change.RaiseAttempt n) = refl
+count-is v (change.RaiseFloor n) = refl
+count-is v (change.Leave u k) = refl
 
 max-next : (a : ℕ) → max a (a + 1) ≡ a + 1
 max-next a = grind (arith)

@@ -1,3 +1,4 @@
 pub mod HoldLemmas
 pub mod ChangeLemmas
 pub mod ActLemmas
+pub mod RaiseLemmas

@@ -2,11 +2,11 @@
 use Rattle.std.specs.Prelude.{ℕ, Bool, true, not, ◌&&◌, if◌then◌else◌}
 use Rattle.dr_plant.specs.State.{PlantState}
 use Rattle.dr_config.specs.Table.{Table}
-use Rattle.dr_model.specs.declared.event.Event.TheVariants.{Begin, Cut, Sealed}
+use Rattle.dr_model.specs.declared.event.Event.TheVariants.{Begin, Cut, Sealed, Left}
 use Rattle.dr_model.specs.Layout.{Fields, is_part}
 use Rattle.dr_model.specs.Sessions.{changed, begun}
-use Rattle.dr_model.specs.Pairs.{held_for, freed, sealed, past_attempt, is_engaged}
-use Rattle.dr_model.specs.Moves.{Move, Hold, Free, Seal, Finish}
+use Rattle.dr_model.specs.Pairs.{held_for, freed, sealed, past_attempt, with_attempt, with_floor, no_member, is_engaged}
+use Rattle.dr_model.specs.Moves.{Move, Hold, Free, Seal, Finish, RaiseAttempt, RaiseFloor, Leave}
 use Rattle.dr_model.specs.Carry.{Make, Pass, Do, Entry, equal}
 use Rattle.dr_model.specs.Entries.{fields_at}
 use Rattle.dr_volume.specs.View.{Rest, volume_seen}
@@ -20,6 +20,9 @@ move_of v (change.Hold s n first) = Hold v s.0 n first
 move_of v change.Free = Free v
 move_of v (change.Seal u s n) = Seal v u.0 s.0 n
 move_of v (change.Finish n) = Finish v n
+move_of v (change.RaiseAttempt n) = RaiseAttempt v n
+move_of v (change.RaiseFloor n) = RaiseFloor v n
+move_of v (change.Leave u s) = Leave v u.0 s.0
 
 -- a primary is held, and a secondary is sealed
 abbrev pub may_change : Change → Fields → Bool
@@ -32,12 +35,18 @@ next_of (change.Hold s n first) f = held_for n f
 next_of change.Free f = freed f
 next_of (change.Seal u s n) f = sealed n f
 next_of (change.Finish n) f = past_attempt n f
+next_of (change.RaiseAttempt n) f = with_attempt n f
+next_of (change.RaiseFloor n) f = with_floor n f
+next_of (change.Leave u s) f = no_member f
 
 abbrev pub told_of : ℕ → Change → Told
 told_of v (change.Hold s n first) = if first then Two (Begin s.0 n) (Cut s.0 n v) else One (Cut s.0 n v)
 told_of v change.Free = Nothing
 told_of v (change.Seal u s n) = One (Sealed s.0 n u.0)
 told_of v (change.Finish n) = Nothing
+told_of v (change.RaiseAttempt n) = Nothing
+told_of v (change.RaiseFloor n) = Nothing
+told_of v (change.Leave u s) = One (Left s.0 u.0)
 
 -- how many events that is
 abbrev pub count_of : Change → ℕ
@@ -45,6 +54,9 @@ count_of (change.Hold s n first) = if first then 2 else 1
 count_of change.Free = 0
 count_of (change.Seal u s n) = 1
 count_of (change.Finish n) = 0
+count_of (change.RaiseAttempt n) = 0
+count_of (change.RaiseFloor n) = 0
+count_of (change.Leave u s) = 1
 
 -- The sessions after a hold of v from s to u: where it was an attempt's first one and counts as done, so that the other slot of
 -- v is chosen, the session's attempt has begun.

@@ -14,7 +14,7 @@ ghost use Rattle.dr_flash.specs.Here.{seen, refusal_of, armed_in, IsAtRest};
 ghost use Rattle.dr_coord.specs.declared.changes.Change.TheVariants as change;
 ghost use Rattle.dr_coord.specs.Changes.{move_of, may_change, next_of, told_of, count_of};
 
-use crate::fields::{freed, held_for, past_attempt, sealed};
+use crate::fields::{freed, held_for, no_member, past_attempt, sealed, with_attempt, with_floor};
 use dr_config::Config;
 use dr_flash::{Telling, Told, shift};
 use dr_ids::{Refusal, SessionId, VolumeId};
@@ -43,6 +43,19 @@ pub enum Change {
     Finish {
         n: u32,
     },
+    /// No attempt up to `n` is made with the primary any more.
+    RaiseAttempt {
+        n: u32,
+    },
+    /// Nothing of an attempt up to `n` is flashed on the target any more.
+    RaiseFloor {
+        n: u32,
+    },
+    /// The target is a member's no more: `primary` was that of the member of the session.
+    Leave {
+        primary: VolumeId,
+        session: SessionId,
+    },
 }
 
 /// The fields that it leaves.
@@ -54,6 +67,9 @@ fn next_of(x: Change, f: &Fields) -> Fields
         Change::Free => freed(f),
         Change::Seal { n, .. } => sealed(n, f),
         Change::Finish { n } => past_attempt(n, f),
+        Change::RaiseAttempt { n } => with_attempt(n, f),
+        Change::RaiseFloor { n } => with_floor(n, f),
+        Change::Leave { .. } => no_member(f),
     }
 }
 
@@ -92,7 +108,14 @@ fn told_of(v: VolumeId, x: Change) -> Told
             n,
             volume: primary.0,
         }),
-        Change::Free | Change::Finish { .. } => Told::Nothing,
+        Change::Leave { primary, session } => Told::One(Event::Left {
+            session: session.0,
+            volume: primary.0,
+        }),
+        Change::Free
+        | Change::Finish { .. }
+        | Change::RaiseAttempt { .. }
+        | Change::RaiseFloor { .. } => Told::Nothing,
     }
 }
 

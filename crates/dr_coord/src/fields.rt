@@ -198,3 +198,28 @@ pub(crate) fn past_attempt(n: u32, f: &Fields) -> Fields
         ..voided(f)
     }
 }
+
+/// A primary with which no attempt up to n is made any more.
+pub(crate) fn with_attempt(n: u32, f: &Fields) -> Fields
+    ensures { plain result ≡ pairs.with_attempt n (plain f.now) }
+{
+    Fields { attempt: n, ..*f }
+}
+
+/// A target on which nothing of an attempt up to n is flashed any more.
+pub(crate) fn with_floor(n: u32, f: &Fields) -> Fields
+    ensures { plain result ≡ pairs.with_floor n (plain f.now) }
+{
+    Fields { floor: n, ..*f }
+}
+
+/// A target that is a member's no more.
+pub(crate) fn no_member(f: &Fields) -> Fields
+    ensures { plain result ≡ pairs.no_member (plain f.now) }
+{
+    Fields {
+        member: false,
+        session: 0,
+        ..*f
+    }
+}

@@ -8,6 +8,8 @@ mod expiring;
 mod fields;
 mod finishing;
 mod holding;
+mod leaving;
+mod raising;
 mod restarting;
 
 pub use changes::{Change, make_change};
@@ -15,4 +17,6 @@ pub use checks::void_refusal;
 pub use expiring::expire;
 pub use finishing::{finish, void};
 pub use holding::{hold_and_swap, release};
+pub use leaving::leave;
+pub use raising::{raise_attempt, raise_floor};
 pub use restarting::restart;

@@ -1,0 +1,4 @@
+pub mod SessionLemmas
+pub mod TargetLemmas
+pub mod PairLemmas
+pub mod PlanLemmas

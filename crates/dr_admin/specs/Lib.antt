@@ -1,0 +1,3 @@
+pub mod Adding
+pub mod Removing
+pub mod Targets

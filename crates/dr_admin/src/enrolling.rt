@@ -1,0 +1,119 @@
+//! A primary becomes a member of a session.
+
+ghost use Rattle.std.specs.Prelude.{◌≡◌, ℕ, ◌≤◌, ◌+◌, true, false, length, None, IsSome, OnOk, OnErr};
+ghost use Rattle.dr_config.specs.Table.{place_of};
+ghost use Rattle.dr_model.specs.Layout.{is_part};
+ghost use Rattle.dr_model.specs.ReadStops.{Ends};
+ghost use Rattle.dr_model.specs.SessionEntries.{add_entries};
+ghost use Rattle.dr_model.specs.Sessions as model;
+ghost use Rattle.dr_volume.specs.View.{Rest, volume_seen};
+ghost use Rattle.dr_flash.specs.Checks.{is_stop};
+ghost use Rattle.dr_flash.specs.Faults.{Counted};
+ghost use Rattle.dr_flash.specs.Fit.{RelationsFit};
+ghost use Rattle.dr_flash.specs.Here as flash;
+ghost use Rattle.dr_flash.specs.Here.{seen, armed_in, IsAtRest};
+ghost use Rattle.dr_session.specs.Kept.{refusal_of};
+ghost use Rattle.dr_admin.specs.Adding.{member_planned, enrol_refusal, entries_planned, sessions_planned, unless_stop, AddsSo};
+ghost use Rattle.dr_admin.specs.Removing.{Countable};
+ghost use Rattle.dr_admin.specs.Targets.{IsReady};
+
+use crate::checks::new_member;
+use crate::members::take_in;
+use crate::numbers::first_number;
+use dr_config::Config;
+use dr_coord::{raise_attempt, raise_floor};
+use dr_ids::{Fault, Lss, Member, Refusal, SessionId, VolumeId};
+use dr_model::Journal;
+use dr_plant::Plant;
+use dr_session::Sessions;
+
+/// The attempt of the primary and the floor of the target of a member are raised to n, where they are lower.
+fn raise_both<P: Plant>(
+    p: &mut P,
+    c: &Config,
+    j: &mut Journal,
+    m: &Member,
+    n: u32,
+) -> Result<(), Refusal>
+    requires rest { IsAtRest (P.state p.old) c.now }
+    requires fit { RelationsFit (P.state p.old) c.now }
+    requires ready { IsReady (P.state p.old) c.now m.now }
+    requires room { 1 ≤ j.old.spare }
+    ensures carried { (r : Rest) → Ends (armed_in (P.state p.old)) (seen (P.state p.new) c.now r j.new.events) (flash.refusal_of result) (seen (P.state p.old) c.now r j.old.events) (add_entries m.now n) }
+    ensures stops { OnErr result (is_stop (flash.refusal_of result) ≡ true) }
+    ensures rest { IsAtRest (P.state p.new) c.now }
+    ensures fit { RelationsFit (P.state p.new) c.now }
+    ensures unarmed { (q : ℕ) → (P.state p.old).read_fuse q ≡ None → (P.state p.new).read_fuse q ≡ None }
+    ensures faults { Counted (is_stop (flash.refusal_of result)) (P.state p.old).faults (P.state p.new).faults }
+    ensures on { OnOk result ((P.state p.new).on ≡ (P.state p.old).on) }
+    ensures room { j.old.spare ≤ j.new.spare + 1 }
+    ensures room_left { OnOk result (j.old.spare ≡ j.new.spare) }
+    ensures spare { length j.new.events + j.new.spare ≡ length j.old.events + j.old.spare }
+{
+    match raise_attempt(p, c, j, m.a, n) {
+        Ok(()) => raise_floor(p, c, j, m.c, n),
+        Err(why) => Err(why),
+    }
+}
+
+/// Primary a, which is defined, becomes a member of session s, which is defined, with its secondary b and the only target of b
+/// whose relationship is recorded and inhibited. From then on attempts count from n, the greatest number that the session, a, b
+/// and the target have seen: the attempt of a and the floor of the target are raised to n where they are lower, and then the
+/// session's last number is n, and the member stands last in its list. Refused, in this order, where logical subsystem l isn't
+/// one of the session's; where a is a member of it; where it is one of another session; where the session's master isn't Idle;
+/// where the server of a is off; where a is no Global Copy primary; where b can't be reached from a, for want of a path, since
+/// its server is off, or since the link is down; where b hasn't the part for a; where not just one relationship of b is recorded
+/// and inhibited, or that one is revertible or reversing; and where one of the three volumes has a place in a member of some
+/// session. Then nothing has changed, nor where there is no memory. Fails too where a server stops in a move or goes off at a
+/// read; what was done by then stays, and the sessions are as they were. Nothing is told but a stop. The journal needs room for
+/// an event.
+pub fn enrol<P: Plant>(
+    p: &mut P,
+    c: &Config,
+    j: &mut Journal,
+    ss: &mut Sessions,
+    l: Lss,
+    a: VolumeId,
+    s: SessionId,
+) -> Result<(), Fault>
+    requires rest { IsAtRest (P.state p.old) c.now }
+    requires fit { RelationsFit (P.state p.old) c.now }
+    requires defined { IsSome (place_of c.now a.0) }
+    requires partner { is_part (volume_seen (P.state p.old) c.now a.0).fields.primary ≡ true → IsSome (place_of c.now (volume_seen (P.state p.old) c.now a.0).fields.primary_partner) }
+    requires session { IsSome (model.session_in ss.old.sessions s.0) }
+    requires few { Countable (model.session_in ss.old.sessions s.0) }
+    requires room { 1 ≤ j.old.spare }
+    ensures plan { (r : Rest) → AddsSo (seen (P.state p.old) c.now r j.old.events).control s.0 (model.session_in ss.old.sessions s.0) l.0 a.0 }
+    ensures refused { (r : Rest) → r.sessions ≡ ss.old.sessions → unless_stop (refusal_of result) ≡ enrol_refusal (seen (P.state p.old) c.now r j.old.events).control (model.session_in ss.old.sessions s.0) l.0 a.0 }
+    ensures carried { OnOk result ((r : Rest) → Ends (armed_in (P.state p.old)) (seen (P.state p.new) c.now r j.new.events) None (seen (P.state p.old) c.now r j.old.events)
+        (entries_planned (seen (P.state p.old) c.now r j.old.events).control (model.session_in ss.old.sessions s.0) (member_planned (seen (P.state p.old) c.now r j.old.events).control a.0))) }
+    ensures stopped { is_stop (refusal_of result) ≡ true → (r : Rest) → Ends (armed_in (P.state p.old)) (seen (P.state p.new) c.now r j.new.events) (refusal_of result) (seen (P.state p.old) c.now r j.old.events)
+        (entries_planned (seen (P.state p.old) c.now r j.old.events).control (model.session_in ss.old.sessions s.0) (member_planned (seen (P.state p.old) c.now r j.old.events).control a.0)) }
+    ensures added { OnOk result ((r : Rest) → ss.new.sessions ≡ sessions_planned (seen (P.state p.old) c.now r j.old.events).control s.0 (model.session_in ss.old.sessions s.0) (member_planned (seen (P.state p.old) c.now r j.old.events).control a.0) ss.old.sessions) }
+    ensures same { OnErr result (ss.new.sessions ≡ ss.old.sessions) }
+    ensures unchanged { is_stop (refusal_of result) ≡ false → OnErr result ((P.state p.new ≡ P.state p.old) × (j.new ≡ j.old)) }
+    ensures rest { IsAtRest (P.state p.new) c.now }
+    ensures fit { RelationsFit (P.state p.new) c.now }
+    ensures unarmed { (q : ℕ) → (P.state p.old).read_fuse q ≡ None → (P.state p.new).read_fuse q ≡ None }
+    ensures faults { Counted (is_stop (refusal_of result)) (P.state p.old).faults (P.state p.new).faults }
+    ensures on { OnOk result ((P.state p.new).on ≡ (P.state p.old).on) }
+    ensures room { j.old.spare ≤ j.new.spare + 1 }
+    ensures room_left { OnOk result (j.old.spare ≡ j.new.spare) }
+    ensures spare { length j.new.events + j.new.spare ≡ length j.old.events + j.old.spare }
+{
+    let m = match new_member(p, c, ss, l, a, s) {
+        Ok(m) => m,
+        Err(why) => return Err(Fault::Refused(why)),
+    };
+    if ss.reserve().is_err() {
+        return Err(Fault::NoMemory);
+    }
+    let n = first_number(p, c, ss, s, &m);
+    match raise_both(p, c, j, &m, n) {
+        Ok(()) => {
+            take_in(ss, s, m, n);
+            Ok(())
+        }
+        Err(why) => Err(Fault::Refused(why)),
+    }
+}

@@ -1,0 +1,81 @@
+//! The target that makes a member of a primary and its secondary.
+
+ghost use Rattle.std.specs.Prelude.{◌≡◌, ◌&&◌, ◌||◌, not, List, IfSome, option_map};
+ghost use Rattle.dr_config.specs.Table.{StandsFor};
+ghost use Rattle.dr_model.specs.declared.event.Event.{Event};
+ghost use Rattle.dr_model.specs.Entries.{copies_from};
+ghost use Rattle.dr_model.specs.SessionPlans as plans;
+ghost use Rattle.dr_volume.specs.Plain.{plain};
+ghost use Rattle.dr_volume.specs.View.{Rest};
+ghost use Rattle.dr_flash.specs.Here.{seen};
+ghost use Rattle.dr_admin.specs.Targets.{IsNext, IsTarget};
+
+use dr_config::Config;
+use dr_ids::VolumeId;
+use dr_plant::Plant;
+use dr_volume::{Fields, peek_fields};
+
+/// A target, and its place in the configuration.
+#[derive(Clone, Copy)]
+pub(crate) struct Found {
+    volume: VolumeId,
+    place: usize,
+}
+
+/// Whether a volume with these fields is a target of b whose changes are recorded, and on which the host may not write.
+fn is_mirrored(f: &Fields, b: VolumeId) -> bool
+    ensures { result ≡ (copies_from b.0 (plain f.now) && plans.is_mirrored_target (plain f.now)) }
+{
+    f.related && f.source.0 == b.0 && (f.recorded && f.inhibited)
+}
+
+/// The first such target of b from a place on, if there is one.
+fn next_mirrored<P: Plant>(p: &P, c: &Config, b: VolumeId, from: usize) -> Option<Found>
+    requires stands { StandsFor c.now (P.state p.now) }
+    ensures { IsNext (P.state p.now) c.now b.0 from result }
+{
+    for place in from..c.volumes() {
+        let volume = c.volume_at(place).unwrap();
+        if is_mirrored(&peek_fields(p, c, volume), b) {
+            return Some(Found { volume, place });
+        }
+    }
+    None
+}
+
+/// The only such target of b, if it has just one.
+fn only_mirrored<P: Plant>(p: &P, c: &Config, b: VolumeId) -> Option<VolumeId>
+    requires stands { StandsFor c.now (P.state p.now) }
+    ensures target { (r : Rest) (events : List Event) → option_map (λ u. u.0) result ≡ plans.the_only (plans.mirrored_targets (seen (P.state p.now) c.now r events).control b.0) }
+    ensures is { IfSome result (λ u. IsTarget (P.state p.now) c.now b.0 u.0) }
+{
+    let Some(first) = next_mirrored(p, c, b, 0) else {
+        return None;
+    };
+    if let Some(_) = next_mirrored(p, c, b, first.place + 1) {
+        return None;
+    }
+    Some(first.volume)
+}
+
+/// Whether the relationship of a target with these fields is neither revertible nor reversing.
+fn is_settled(f: &Fields) -> bool
+    ensures { result ≡ not (f.now.revertible || f.now.reversing) }
+{
+    !(f.revertible || f.reversing)
+}
+
+/// The only such target of b, if it has just one, and that one is neither revertible nor reversing.
+pub(crate) fn member_target<P: Plant>(p: &P, c: &Config, b: VolumeId) -> Option<VolumeId>
+    requires stands { StandsFor c.now (P.state p.now) }
+    ensures target { (r : Rest) (events : List Event) → option_map (λ u. u.0) result ≡ plans.member_target (seen (P.state p.now) c.now r events).control b.0 }
+    ensures is { IfSome result (λ u. IsTarget (P.state p.now) c.now b.0 u.0) }
+{
+    let Some(u) = only_mirrored(p, c, b) else {
+        return None;
+    };
+    if is_settled(&peek_fields(p, c, u)) {
+        return Some(u);
+    }
+    None
+}

@@ -1,0 +1,57 @@
+//! A target is a member's no more.
+
+ghost use Rattle.std.specs.Prelude.{◌≡◌, ℕ, ◌≤◌, ◌+◌, true, [], ◌∷◌, length, None, Some, IsSome, OnOk, OnErr, is_err};
+ghost use Rattle.dr_config.specs.Table.{place_of};
+ghost use Rattle.dr_model.specs.Carry.{now};
+ghost use Rattle.dr_model.specs.Moves.{Leave};
+ghost use Rattle.dr_model.specs.ReadStops.{Ends};
+ghost use Rattle.dr_model.specs.Refusals.{stopped};
+ghost use Rattle.dr_volume.specs.Update.{OthersStay};
+ghost use Rattle.dr_volume.specs.View.{Rest, volume_seen};
+ghost use Rattle.dr_flash.specs.Faults.{Counted};
+ghost use Rattle.dr_flash.specs.Fit.{RelationsFit};
+ghost use Rattle.dr_flash.specs.Here.{seen, refusal_of, armed_in, IsAtRest};
+ghost use Rattle.dr_flash.specs.Turns.{Advances, Halts};
+
+use crate::changes::{Change, make_change};
+use dr_config::Config;
+use dr_ids::{Refusal, SessionId, VolumeId};
+use dr_model::Journal;
+use dr_plant::Plant;
+
+/// Target v, whose server is on, is no longer one of session s, of whose member a is the primary: what its control record
+/// says of a member is gone. The journal is told. Fails where the server stops in the move or goes off at a read. The journal
+/// needs room for two events.
+pub fn leave<P: Plant>(
+    p: &mut P,
+    c: &Config,
+    j: &mut Journal,
+    v: VolumeId,
+    a: VolumeId,
+    s: SessionId,
+) -> Result<(), Refusal>
+    requires rest { IsAtRest (P.state p.old) c.now }
+    requires fit { RelationsFit (P.state p.old) c.now }
+    requires defined { IsSome (place_of c.now v.0) }
+    requires running { (P.state p.old).on (volume_seen (P.state p.old) c.now v.0).server ≡ true }
+    requires room { 2 ≤ j.old.spare }
+    ensures carried { (r : Rest) → Ends (armed_in (P.state p.old)) (seen (P.state p.new) c.now r j.new.events) (refusal_of result) (seen (P.state p.old) c.now r j.old.events) (now (Leave v.0 a.0 s.0) ∷ []) }
+    ensures advances { OnOk result ((r : Rest) → Advances (seen (P.state p.old) c.now r j.old.events) (now (Leave v.0 a.0 s.0)) (seen (P.state p.new) c.now r j.new.events)) }
+    ensures halts { OnErr result ((r : Rest) → Halts (armed_in (P.state p.old)) (seen (P.state p.old) c.now r j.old.events) (now (Leave v.0 a.0 s.0)) (seen (P.state p.new) c.now r j.new.events) (refusal_of result)) }
+    ensures refused { OnErr result (refusal_of result ≡ Some (stopped (volume_seen (P.state p.old) c.now v.0).server)) }
+    ensures rest { IsAtRest (P.state p.new) c.now }
+    ensures fit { RelationsFit (P.state p.new) c.now }
+    ensures unarmed { (q : ℕ) → (P.state p.old).read_fuse q ≡ None → (P.state p.new).read_fuse q ≡ None }
+    ensures faults { Counted (is_err result) (P.state p.old).faults (P.state p.new).faults }
+    ensures others { OthersStay (P.state p.old) (P.state p.new) c.now v.0 }
+    ensures on { OnOk result ((P.state p.new).on ≡ (P.state p.old).on) }
+    ensures room { j.old.spare ≤ j.new.spare + 2 }
+    ensures room_left { OnOk result (j.old.spare ≡ j.new.spare + 1) }
+    ensures spare { length j.new.events + j.new.spare ≡ length j.old.events + j.old.spare }
+{
+    let leave = Change::Leave {
+        primary: a,
+        session: s,
+    };
+    make_change(p, c, j, v, leave)
+}

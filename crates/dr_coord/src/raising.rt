@@ -1,0 +1,90 @@
+//! No attempt up to a number is made with a primary, or flashed on a target, any more.
+
+ghost use Rattle.std.specs.Prelude.{◌≡◌, ℕ, ◌≤◌, ◌+◌, true, [], ◌∷◌, length, None, Some, IsSome, OnOk, OnErr, is_err};
+ghost use Rattle.dr_config.specs.Table.{place_of};
+ghost use Rattle.dr_model.specs.ReadStops.{Ends};
+ghost use Rattle.dr_model.specs.Refusals.{stopped};
+ghost use Rattle.dr_model.specs.SessionEntries.{raise_attempt_on, raise_floor_on};
+ghost use Rattle.dr_volume.specs.Update.{OthersStay};
+ghost use Rattle.dr_volume.specs.View.{Rest, volume_seen};
+ghost use Rattle.dr_flash.specs.Faults.{Counted};
+ghost use Rattle.dr_flash.specs.Fit.{RelationsFit};
+ghost use Rattle.dr_flash.specs.Here.{seen, refusal_of, armed_in, IsAtRest};
+ghost use Rattle.dr_flash.specs.Turns.{Advances, Halts};
+
+use crate::changes::{Change, make_change};
+use dr_config::Config;
+use dr_ids::{Refusal, VolumeId};
+use dr_model::Journal;
+use dr_plant::Plant;
+use dr_volume::peek_fields;
+
+/// The attempt of primary v, whose server is on, becomes n where it is lower: no attempt up to n is made with it any more.
+/// Else nothing happens. Nothing is told. Fails where the server stops in the move or goes off at a read. The journal needs
+/// room for an event.
+pub fn raise_attempt<P: Plant>(
+    p: &mut P,
+    c: &Config,
+    j: &mut Journal,
+    v: VolumeId,
+    n: u32,
+) -> Result<(), Refusal>
+    requires rest { IsAtRest (P.state p.old) c.now }
+    requires fit { RelationsFit (P.state p.old) c.now }
+    requires defined { IsSome (place_of c.now v.0) }
+    requires running { (P.state p.old).on (volume_seen (P.state p.old) c.now v.0).server ≡ true }
+    requires room { 1 ≤ j.old.spare }
+    ensures carried { (r : Rest) → Ends (armed_in (P.state p.old)) (seen (P.state p.new) c.now r j.new.events) (refusal_of result) (seen (P.state p.old) c.now r j.old.events) (raise_attempt_on v.0 n ∷ []) }
+    ensures advances { OnOk result ((r : Rest) → Advances (seen (P.state p.old) c.now r j.old.events) (raise_attempt_on v.0 n) (seen (P.state p.new) c.now r j.new.events)) }
+    ensures halts { OnErr result ((r : Rest) → Halts (armed_in (P.state p.old)) (seen (P.state p.old) c.now r j.old.events) (raise_attempt_on v.0 n) (seen (P.state p.new) c.now r j.new.events) (refusal_of result)) }
+    ensures refused { OnErr result (refusal_of result ≡ Some (stopped (volume_seen (P.state p.old) c.now v.0).server)) }
+    ensures rest { IsAtRest (P.state p.new) c.now }
+    ensures fit { RelationsFit (P.state p.new) c.now }
+    ensures unarmed { (q : ℕ) → (P.state p.old).read_fuse q ≡ None → (P.state p.new).read_fuse q ≡ None }
+    ensures faults { Counted (is_err result) (P.state p.old).faults (P.state p.new).faults }
+    ensures others { OthersStay (P.state p.old) (P.state p.new) c.now v.0 }
+    ensures on { OnOk result ((P.state p.new).on ≡ (P.state p.old).on) }
+    ensures room { j.old.spare ≤ j.new.spare + 1 }
+    ensures room_left { OnOk result (j.old.spare ≡ j.new.spare) }
+    ensures spare { length j.new.events + j.new.spare ≡ length j.old.events + j.old.spare }
+{
+    if n <= peek_fields(p, c, v).attempt {
+        return Ok(());
+    }
+    make_change(p, c, j, v, Change::RaiseAttempt { n })
+}
+
+/// The floor of target v, whose server is on, becomes n where it is lower: nothing of an attempt up to n is flashed on it any
+/// more. Else nothing happens. Nothing is told. Fails where the server stops in the move or goes off at a read. The journal
+/// needs room for an event.
+pub fn raise_floor<P: Plant>(
+    p: &mut P,
+    c: &Config,
+    j: &mut Journal,
+    v: VolumeId,
+    n: u32,
+) -> Result<(), Refusal>
+    requires rest { IsAtRest (P.state p.old) c.now }
+    requires fit { RelationsFit (P.state p.old) c.now }
+    requires defined { IsSome (place_of c.now v.0) }
+    requires running { (P.state p.old).on (volume_seen (P.state p.old) c.now v.0).server ≡ true }
+    requires room { 1 ≤ j.old.spare }
+    ensures carried { (r : Rest) → Ends (armed_in (P.state p.old)) (seen (P.state p.new) c.now r j.new.events) (refusal_of result) (seen (P.state p.old) c.now r j.old.events) (raise_floor_on v.0 n ∷ []) }
+    ensures advances { OnOk result ((r : Rest) → Advances (seen (P.state p.old) c.now r j.old.events) (raise_floor_on v.0 n) (seen (P.state p.new) c.now r j.new.events)) }
+    ensures halts { OnErr result ((r : Rest) → Halts (armed_in (P.state p.old)) (seen (P.state p.old) c.now r j.old.events) (raise_floor_on v.0 n) (seen (P.state p.new) c.now r j.new.events) (refusal_of result)) }
+    ensures refused { OnErr result (refusal_of result ≡ Some (stopped (volume_seen (P.state p.old) c.now v.0).server)) }
+    ensures rest { IsAtRest (P.state p.new) c.now }
+    ensures fit { RelationsFit (P.state p.new) c.now }
+    ensures unarmed { (q : ℕ) → (P.state p.old).read_fuse q ≡ None → (P.state p.new).read_fuse q ≡ None }
+    ensures faults { Counted (is_err result) (P.state p.old).faults (P.state p.new).faults }
+    ensures others { OthersStay (P.state p.old) (P.state p.new) c.now v.0 }
+    ensures on { OnOk result ((P.state p.new).on ≡ (P.state p.old).on) }
+    ensures room { j.old.spare ≤ j.new.spare + 1 }
+    ensures room_left { OnOk result (j.old.spare ≡ j.new.spare) }
+    ensures spare { length j.new.events + j.new.spare ≡ length j.old.events + j.old.spare }
+{
+    if n <= peek_fields(p, c, v).floor {
+        return Ok(());
+    }
+    make_change(p, c, j, v, Change::RaiseFloor { n })
+}
