@@ -1,13 +1,13 @@
 -- What a line on a session comes to.
 use Rattle.std.proofs.Common.{ℕ, ◌≡◌, ◌<◌, List, [], ◌∷◌, refl, sym, ◌∙◌, ap, arith, subst, Bool, true, false, not, cond, nat_eq, nat_lt, Option, Some, None}
-use Rattle.std.specs.Prelude.{IsSome, IsTrue, ◌↔◌, is_some, option_map, if◌then◌else◌}
+use Rattle.std.specs.Prelude.{IsSome, IsTrue, ◌↔◌, Err, option_map, if◌then◌else◌}
 use Rattle.std.specs.List.{find}
-use Rattle.std.specs.Option.{option_or}
+use Rattle.std.specs.Option.{option_or, unwrap_or}
 use Rattle.std.proofs.lemmas.Bool.Decides.{nat_tests}
 use Rattle.std.proofs.lemmas.List.{append-nil}
 use Rattle.dr_ids.specs.declared.refusal.Refusal.{Refusal}
-use Rattle.dr_ids.specs.declared.refusal.PhaseName.{PhaseName}
-use Rattle.dr_ids.specs.declared.refusal.PhaseName.TheVariants as phase
+use Rattle.dr_ids.specs.declared.refusal.Fault.{Fault}
+use Rattle.dr_ids.specs.declared.refusal.Fault.TheVariants.{NoMemory, Refused as FaultRefused}
 use Rattle.dr_ids.specs.declared.refusal.Kind.TheVariants.{Server as OfServer, Lss as OfLss, Session as OfSession}
 use Rattle.dr_plant.specs.State.{PlantState}
 use Rattle.dr_config.specs.Table.{Table, lss_owner, IsSound}
@@ -23,12 +23,11 @@ use Rattle.dr_model.specs.PlanParts.{Plan, unless, is_named, owner_of, on_owner,
 use Rattle.dr_model.specs.Phases as phases
 use Rattle.dr_model.specs.Refusals.{unknown, server_off}
 use Rattle.dr_model.specs.Runs.{after_plan, said}
-use Rattle.dr_model.specs.SessionPlans.{with_sessions, table_plan, on_both, name_refusal, off_refusal, outside_refusal, master_refusal, join_plan, abort_plan, says_phase, session_phase, mirror_phase}
-use Rattle.dr_model.specs.Sessions.{Session, Mirror, session_in, mirror_in, has_subsystem, is_only, has_member_in, in_session, not_in_session, no_master, formation, unless_idle, last_refusal, join_refusal, leave_refusal, make_refusal, drop_refusal, pause_refusal, abort_refusal, joined, changed, with_master}
+use Rattle.dr_model.specs.SessionPlans.{with_sessions, table_plan, name_refusal, off_refusal, outside_refusal, master_refusal, join_plan, abort_plan, says_phase, session_phase}
+use Rattle.dr_model.specs.Sessions.{Session, Mirror, session_in, mirror_in, has_lss, not_in_session, join_refusal, pause_refusal, abort_refusal, joined, changed, with_master}
 use Rattle.dr_model.proofs.CarryLemmas.{plan-refuses, plan-tables, plan-ends, carry-none}
-use Rattle.dr_flash.specs.Checks.{is_stop}
 use Rattle.dr_top.specs.Found.{IsFound, found_plan}
-use Rattle.dr_top.specs.Here.{here}
+use Rattle.dr_top.specs.Here.{here, OnAnswer}
 use Rattle.dr_top.specs.declared.tables.Tables.{Tables}
 use Rattle.dr_top.proofs.PathLemmas.{owner-nowhere, owner-there}
 use Rattle.dr_top.proofs.StepLemmas.{plan-unless, plan-free}
@@ -36,17 +35,17 @@ use Rattle.dr_top.proofs.StepLemmas.{plan-unless, plan-free}
 -- the session that is defined
 pub some-session : (o : Option Session) → IsSome o → (x : Session) × (o ≡ Some x)
 some-session (Some x) there = (x, refl)
-some-session None there = absurd there
+some-session None there = absurd cc
 
 pub no-session : (o : Option Session) → (IsSome o → ⊥) → o ≡ None
 no-session None none = refl
-no-session (Some x) none = absurd (none tt)
+no-session (Some x) none = absurd (none refl)
 
 pub is-defined : (b : Bool) (o : Option Session) → b ≡ true → (IsTrue b ↔ IsSome o) → IsSome o
-is-defined b o is iff = iff.0 (subst IsTrue (sym is) tt)
+is-defined b o is iff = iff.0 is
 
 pub not-defined : (b : Bool) (o : Option Session) → b ≡ false → (IsTrue b ↔ IsSome o) → o ≡ None
-not-defined b o is iff = no-session o (λ some. subst IsTrue is (iff.1 some))
+not-defined b o is iff = no-session o (λ some. let e = iff.1 some in absurd cc)
 
 -- its number is the one that was asked for
 pub found-number : (ss : List Session) (s : ℕ) (x : Session) → session_in ss s ≡ Some x → x.number ≡ s
@@ -59,6 +58,10 @@ found-number (y ∷ ys) s x h = elim (nat_eq y.number s) as (λ b. nat_eq y.numb
     by : Option Session → ℕ
     by (Some z) = z.number
     by None = 0
+
+-- a logical subsystem is one of its own, or isn't
+pub outside-by : (ss : List Session) (s l : ℕ) (x : Session) (b : Bool) → session_in ss s ≡ Some x → has_lss (session_in ss s) l ≡ b → outside_refusal x l ≡ (if b then None else not_in_session s)
+outside-by ss s l x b there has = λ i. if (sym (ap (λ o. has_lss o l) there) ∙ has) i then None else not_in_session (found-number ss s x there i)
 
 module _ (s : PlantState) (t : Table) (h : Tables) (ev : List Event) (line : ℕ) where
   abbrev w : World
@@ -145,6 +148,10 @@ module _ (s : PlantState) (t : Table) (h : Tables) (ev : List Event) (line : ℕ
         pub join-done : (ys : kept.Table) → None ≡ off_refusal k owner → None ≡ join_refusal (session_in ss n) l ss → ys.sessions ≡ joined n l ss → after_plan w line (join_plan k dev l n) ≡ said (with ys) line (Done Alone)
         join-done ys on is new = joins-by ∙ plan-free w _ line (table_plan (joined n l)) _ (join-by None on is) (changes (joined n l) ys new)
 
+  -- where the sessions are as they were
+  pub kept-said : (ys : kept.Table) (a : Said) → ys.sessions ≡ ss → said w line a ≡ said (with ys) line a
+  kept-said ys a is = λ i. said (record w { control = record k { sessions = sym is i } }) line a
+
   -- an attempt that is aborted
   module _ (n : ℕ) where
     abbrev aborting : Plan
@@ -174,76 +181,15 @@ module _ (s : PlantState) (t : Table) (h : Tables) (ev : List Event) (line : ℕ
 
 -- the master's server, if there is a master, tells whether it is off
 pub master-off : (k : Control) (m : Option Mirror) (server : ℕ) → Some server ≡ option_map (λ (r : Mirror). r.server) m → off_refusal k server ≡ master_refusal k m
-master-off k (Some r) server is = ap (off_refusal k) (some-number is)
-  where
-    some-number : {a b : ℕ} → Some a ≡ Some b → a ≡ b
-    some-number e = grind e
+master-off k (Some r) server is = ap (λ (o : Option ℕ). off_refusal k (unwrap_or o 0)) is
 master-off k None server is = absurd cc
 
-pub master-none : (k : Control) (m : Option Mirror) → None ≡ option_map (λ (r : Mirror). r.server) m → no_master ≡ master_refusal k m
-master-none k None is = refl
-master-none k (Some r) is = absurd cc
-
 -- a master whose server is on can be paused
-pub pauses : (k : Control) (m : Option Mirror) (r : Refusal) → None ≡ master_refusal k m → Some r ≡ pause_refusal m → ⊥
-pauses k None r on is = cc
-pauses k (Some x) r on is = cc
+pub pauses : {A : Type 0} (k : Control) (m : Option Mirror) (r : Refusal) → None ≡ master_refusal k m → Some r ≡ pause_refusal m → A
+pauses k None r on is = absurd cc
+pauses k (Some x) r on is = absurd cc
 
--- the phase of a master, by the master that is found
-pub phase-none : (o : Option Session) → None ≡ option_map (λ (r : Mirror). r.master) (mirror_in o) → Done (Addition.InPhase phase.None 0) ≡ session_phase o
-phase-none None is = refl
-phase-none (Some x) is = elim x.mirror as (λ m. None ≡ option_map (λ (r : Mirror). r.master) m → Done (Addition.InPhase phase.None 0) ≡ mirror_phase m) [ None ↦ λ e. refl | Some r ↦ λ e. absurd cc ] is
-
-pub phase-some : (o : Option Session) (m : phases.Master) → Some m ≡ option_map (λ (r : Mirror). r.master) (mirror_in o) → Done (Addition.InPhase m.phase m.number) ≡ session_phase o
-phase-some None m is = absurd cc
-phase-some (Some x) m is = elim x.mirror as (λ o. Some m ≡ option_map (λ (r : Mirror). r.master) o → Done (Addition.InPhase m.phase m.number) ≡ mirror_phase o) [
-  | None ↦ λ e. absurd cc
-  | Some r ↦ λ e. ap (λ (o : Option phases.Master). by o) e
-] is
-  where
-    by : Option phases.Master → Said
-    by None = Done Alone
-    by (Some m) = Done (Addition.InPhase m.phase m.number)
-
--- no refusal of the table of sessions is a stop
-calm-cond : (b : Bool) (x y : Option Refusal) → is_stop x ≡ false → is_stop y ≡ false → is_stop (cond b x y) ≡ false
-calm-cond true x y a b = a
-calm-cond false x y a b = b
-
-calm-idle : (p : PhaseName) (r : Mirror) → is_stop (unless_idle p (formation r)) ≡ false
-calm-idle phase.Idle r = refl
-calm-idle _ r = refl
-
-calm-last : (m : Option Mirror) → is_stop (last_refusal m) ≡ false
-calm-last None = refl
-calm-last (Some r) = refl
-
-pub calm-leave : (o : Option Session) (s l : ℕ) → is_stop (leave_refusal o s l) ≡ false
-calm-leave None s l = refl
-calm-leave (Some x) s l =
-    calm-cond (not (has_subsystem l x)) (not_in_session s) _ refl
-    (calm-cond (has_member_in l x) (in_session (Some x)) _ refl (calm-cond (is_only l x) (last_refusal x.mirror) None (calm-last x.mirror) refl))
-
-pub calm-join : (o : Option Session) (l : ℕ) (ss : List Session) → is_stop (join_refusal o l ss) ≡ false
-calm-join None l ss = calm-cond _ _ None refl refl
-calm-join (Some x) l ss = calm-cond (has_subsystem l x) _ None refl refl
-
-pub calm-make : (m : Option Mirror) → is_stop (make_refusal m) ≡ false
-calm-make None = refl
-calm-make (Some r) = refl
-
-pub calm-drop : (m : Option Mirror) → is_stop (drop_refusal m) ≡ false
-calm-drop None = refl
-calm-drop (Some r) = calm-idle r.master.phase r
-
-pub calm-pause : (m : Option Mirror) → is_stop (pause_refusal m) ≡ false
-calm-pause None = refl
-calm-pause (Some r) = refl
-
-calm-unless : (p : PhaseName) (o : Option PhaseName) → is_stop (phases.refusal_unless p o) ≡ false
-calm-unless p None = refl
-calm-unless p (Some q) = refl
-
-pub calm-abort : (m : Option Mirror) → is_stop (abort_refusal m) ≡ false
-calm-abort None = refl
-calm-abort (Some r) = calm-unless r.master.phase (phases.aborted_phase r.master.phase)
+-- a call that failed was refused, or wanted memory
+pub on-fault : (f : Fault) (o : Option Refusal) (P : Said → Type 0) → kept.refusal_of {T = Unit {0}} (Err f) ≡ o → ((r : Refusal) → Some r ≡ o → P (Refused r)) → OnAnswer (Err f) P
+on-fault (FaultRefused r) o P is each = each r is
+on-fault NoMemory o P is each = tt
