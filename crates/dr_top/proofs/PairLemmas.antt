@@ -63,8 +63,8 @@ module _ (w : World) (devs : Devs) (a b : ℕ) where
   nowhere-free why first armed ds = first armed (refuse_if (member_refusal a b) ∷ ds)
 
   pub found-then_free : (o : Option Refusal) → o ≡ member_refusal a b w.control → Checked w (found_volumes devs a b) None → Checked w found_free o
-  found-then_free None is first armed u r ds ends = first armed u r (refuse_if (member_refusal a b) ∷ ds) (refuse-passes w (member_refusal a b) (sym is) armed u r ds ends)
-  found-then_free (Some why) is first armed ds = first armed w (Some why) (refuse_if (member_refusal a b) ∷ ds) (refuse-ends armed w (member_refusal a b) why (sym is) ds)
+  found-then_free None is first = λ armed u r ds ends. first armed u r (refuse_if (member_refusal a b) ∷ ds) (refuse-passes w (member_refusal a b) (sym is) armed u r ds ends)
+  found-then_free (Some why) is first = λ armed ds. first armed w (Some why) (refuse_if (member_refusal a b) ∷ ds) (refuse-ends armed w (member_refusal a b) why (sym is) ds)
 
 pub on-none : (o : Option Refusal) (P : Type 0) → P → OnNone o P
 on-none None P p = p
