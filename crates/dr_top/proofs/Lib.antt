@@ -25,3 +25,4 @@ pub mod PairLemmas
 pub mod PathLemmas
 pub mod DrainLemmas
 pub mod FreezeLemmas
+pub mod SessionLemmas

@@ -1,10 +1,11 @@
 -- The steps on pairs: the servers that a line names, and what is compared where a pair is made.
 use Rattle.std.proofs.Common.{ℕ, zero, suc, ◌≡◌, ◌<◌, ◌+◌, List, [], ◌∷◌, ◌++◌, refl, sym, ◌∙◌, ap, subst, arith, Bool, true, false, not, cond, Option, Some, None}
-use Rattle.std.specs.Prelude.{if◌then◌else◌}
+use Rattle.std.specs.Prelude.{option_map, if◌then◌else◌}
 use Rattle.std.specs.List.{find, range_with_len}
 use Rattle.std.specs.Str.{bytes_eq}
 use Rattle.std.proofs.lemmas.Bool.{eqb-true, not-true}
 use Rattle.dr_ids.specs.declared.refusal.Refusal.{Refusal}
+use Rattle.dr_ids.specs.declared.refusal.Refusal.TheVariants.{InSession}
 use Rattle.dr_ids.specs.declared.refusal.Kind.TheVariants.{Server as OfServer}
 use Rattle.dr_plant.specs.State.{PlantState}
 use Rattle.dr_config.specs.Table.{Table}
@@ -23,17 +24,19 @@ use Rattle.dr_model.specs.Carry.{Entry, carry, check, now}
 use Rattle.dr_model.specs.Entries.{is_at, is_running, share_size, is_no_target, is_settled}
 use Rattle.dr_model.specs.Laws.{Sound}
 use Rattle.dr_model.specs.PairEntries.{make_entries, refuse_if, end_if, reach_refusal, first_differing, differs_at, two_servers, stands_free, may_follow, has_path, are_linked}
-use Rattle.dr_model.specs.Plans.{found_pair, found_volumes, is_owner, is_named, server_named, name_bytes, pair_plan}
+use Rattle.dr_model.specs.Plans.{found_pair, found_volumes, member_refusal, is_owner, is_named, server_named, name_bytes, pair_plan}
 use Rattle.dr_model.specs.ReadStops.{Ends}
 use Rattle.dr_model.specs.Refusals.{unknown, server_off}
 use Rattle.dr_model.specs.Runs.{after_plan, said}
+use Rattle.dr_model.specs.Sessions.{Session, in_session}
 use Rattle.dr_model.proofs.CarryLemmas.{carry-passed, carry-refused, carry-skips, carry-first}
 use Rattle.dr_laws.proofs.Agree.{contents-image}
 use Rattle.dr_volume.specs.View.{ReadsPass}
-use Rattle.dr_flash.specs.Checks.{Checked}
+use Rattle.dr_flash.specs.Checks.{Checked, OnNone}
 use Rattle.dr_flash.specs.Here.{armed_in, IsAtRest}
 use Rattle.dr_flash.proofs.CheckLemmas.{refuses}
 use Rattle.dr_flash.proofs.EndsLemmas.{ends-passed, ends-none}
+use Rattle.dr_gcopy.proofs.SendLemmas.{refuse-passes, refuse-ends}
 use Rattle.dr_top.specs.Here.{here, IsReady, IsTold}
 use Rattle.dr_top.proofs.FlashLemmas.{entries-done, entries-refused}
 use Rattle.dr_top.proofs.LandLemmas.{exact, goes-on, told-through, ready-after}
@@ -51,6 +54,34 @@ module _ (w : World) (devs : Devs) (a b : ℕ) where
   pub found-then_named : Checked w (found_pair devs.dev a b) None → is_owner devs.remotedev b w.control ≡ true → Checked w (found_volumes devs a b) None
   found-then_named first owned armed u r ds ends =
       first armed u r (check (is_owner devs.remotedev b) (unknown OfServer) ∷ ds) (ends-passed armed u r w (is_owner devs.remotedev b) (unknown OfServer) ds owned ends)
+
+  -- and neither is the primary of a member, or one is
+  abbrev pub found_free : List Entry
+  found_free = found_volumes devs a b ++ refuse_if (member_refusal a b) ∷ []
+
+  pub nowhere-free : (why : Refusal) → Checked w (found_volumes devs a b) (Some why) → Checked w found_free (Some why)
+  nowhere-free why first armed ds = first armed (refuse_if (member_refusal a b) ∷ ds)
+
+  pub found-then_free : (o : Option Refusal) → o ≡ member_refusal a b w.control → Checked w (found_volumes devs a b) None → Checked w found_free o
+  found-then_free None is first = λ armed u r ds ends. first armed u r (refuse_if (member_refusal a b) ∷ ds) (refuse-passes w (member_refusal a b) (sym is) armed u r ds ends)
+  found-then_free (Some why) is first = λ armed ds. first armed w (Some why) (refuse_if (member_refusal a b) ∷ ds) (refuse-ends armed w (member_refusal a b) why (sym is) ds)
+
+pub on-none : (o : Option Refusal) (P : Type 0) → P → OnNone o P
+on-none None P p = p
+on-none (Some r) P p = tt
+
+-- the session that a table has for a member, by its number
+pub in-session : (n : ℕ) (o : Option Session) → Some n ≡ option_map (λ (x : Session). x.number) o → Some (InSession (record { 0 = n })) ≡ in_session o
+in-session n None is = absurd cc
+in-session n (Some x) is = ap in_some is
+  where
+    in_some : Option ℕ → Option Refusal
+    in_some None = None
+    in_some (Some m) = Some (InSession (record { 0 = m }))
+
+pub in-none : (o : Option Session) → None ≡ option_map (λ (x : Session). x.number) o → None ≡ in_session o
+in-none None is = refl
+in-none (Some x) is = absurd cc
 
 -- the first number that passes, of two tests that agree
 find-alike : (p q : ℕ → Bool) (n s : ℕ) → ((t : ℕ) → t < s + n → p t ≡ q t) → find p (range_with_len s n) ≡ find q (range_with_len s n)

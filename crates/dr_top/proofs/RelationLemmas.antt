@@ -1,4 +1,4 @@
--- In a sound world the relationships of the plant fit, and so do the secondaries of its Metro Mirror primaries.
+-- In a sound world the relationships of the plant fit, and so do the secondaries of its primaries.
 use Rattle.std.proofs.Common.{ℕ, ◌≡◌, Bool, true, false, List, refl, sym, ◌∙◌, ap, Some, None}
 use Rattle.std.specs.Prelude.{is_some, if◌then◌else◌}
 use Rattle.dr_plant.specs.State.{PlantState}
@@ -9,10 +9,8 @@ use Rattle.dr_model.specs.declared.event.Event.{Event}
 use Rattle.dr_model.specs.Control.{is_volume}
 use Rattle.dr_model.specs.Laws.{Sound}
 use Rattle.dr_model.specs.Layout.{is_part}
-use Rattle.dr_model.specs.Pairs.{is_metro}
 use Rattle.dr_volume.specs.View.{volume_seen}
 use Rattle.dr_flash.specs.Fit.{RelationsFit}
-use Rattle.dr_metro.proofs.SyncLemmas.{metro-part}
 use Rattle.dr_top.specs.Here.{here}
 use Rattle.dr_top.specs.Waiting.{PartnersFit}
 use Rattle.dr_top.proofs.LocatedLemmas.{is_volume-here, some_entry}
@@ -43,13 +41,13 @@ relations-fit s t h ev sound = record {
 
 pub partners-fit : (s : PlantState) (t : Table) (h : Tables) (ev : List Event) → Sound (here s t h ev) → PartnersFit s t
 partners-fit s t h ev sound = record {
-  defined = λ v metro. placed-here s t h ev (to v) (sound.rows.parts.secondary v (to v) (its v metro)).defined;
-  apart = λ v metro. (sound.rows.parts.secondary v (to v) (its v metro)).apart;
-  same_tracks = λ v metro. sym (sound.rows.parts.secondary v (to v) (its v metro)).same_tracks;
+  defined = λ v part. placed-here s t h ev (to v) (sound.rows.parts.secondary v (to v) (its v part)).defined;
+  apart = λ v part. (sound.rows.parts.secondary v (to v) (its v part)).apart;
+  same_tracks = λ v part. sym (sound.rows.parts.secondary v (to v) (its v part)).same_tracks;
 }
   where
     to : ℕ → ℕ
     to v = (volume_seen s t v).fields.primary_partner
 
-    its : (v : ℕ) → is_metro (volume_seen s t v).fields.primary ≡ true → (if is_part (volume_seen s t v).fields.primary then Some (to v) else None) ≡ Some (to v)
-    its v metro = ap (λ b. if b then Some (to v) else None) (metro-part (volume_seen s t v).fields.primary metro)
+    its : (v : ℕ) → is_part (volume_seen s t v).fields.primary ≡ true → (if is_part (volume_seen s t v).fields.primary then Some (to v) else None) ≡ Some (to v)
+    its v part = ap (λ b. if b then Some (to v) else None) part

@@ -32,7 +32,7 @@ use Rattle.dr_model.specs.Contents.{image_at}
 use Rattle.dr_model.specs.Control.{World, is_volume}
 use Rattle.dr_model.specs.Laws.{Sound}
 use Rattle.dr_model.specs.Entries.{is_running}
-use Rattle.dr_model.specs.WriteEntries.{landing, says_written, part_after}
+use Rattle.dr_model.specs.WriteEntries.{landing, says_written, after_write}
 use Rattle.dr_ids.specs.declared.refusal.Refusal.TheVariants.{Stopped}
 use Rattle.dr_model.specs.Plans.{Plan, unless, same, track_refusal, issue_refusal, show_done, show_plan, with_pending, issue_done, write_done, apply_done, apply_on, apply_plan}
 use Rattle.dr_model.specs.Moves as moves
@@ -220,14 +220,14 @@ module _ (s : PlantState) (t : Table) (h h' : Tables) (ev mid : List Event) (x :
 
   -- it is carried out
   pub issued-lands : ReadsPass s → (line : ℕ) (u : World) (result : Result Said Refusal) (p : Pending) → find (has_number n) h'.host.pending ≡ Some p
-      → EndsFollowed (armed_in s) (here s t h' mid) (landing (here s t h' mid).control p.w.0 p.volume.0 p.track) (part_after p.volume.0) u (refusal_of result) → IfOk result (λ a. a ≡ says_written (here s t h' mid).control p.w.0 p.volume.0 p.track)
+      → EndsFollowed (armed_in s) (here s t h' mid) (landing (here s t h' mid).control p.w.0 p.volume.0 p.track) (after_write (here s t h' mid).control p.volume.0 p.track) u (refusal_of result) → IfOk result (λ a. a ≡ says_written (here s t h' mid).control p.w.0 p.volume.0 p.track)
       → after_plan w' line (unless (issue_refusal w'.control v x.track) (write_done w'.control v x.track x.offset x.len x.bytes)) ≡ said u line (answered_by result)
   issued-lands pass line u result p found ended says =
       let is : p ≡ written (h.host.issued + 1) v x.track x.offset bytes = sym (is-written p found) ∙ ap (λ m. written m v x.track x.offset bytes) issued.number in
       plan-free w' _ line (write_done w'.control v x.track x.offset x.len x.bytes) (issue_refusal w'.control v x.track) (issued.free s)
       (followed-leads s pass w' u line (write_done w'.control v x.track x.offset x.len x.bytes) result (λ k. refl)
-      (subst (λ (y : World). EndsFollowed (armed_in s) y (landing w'.control (h.host.issued + 1) v x.track) (part_after v) u (refusal_of result)) (sym issued-begun)
-      (subst (λ (p : Pending). EndsFollowed (armed_in s) (here s t h' mid) (landing w'.control p.w.0 p.volume.0 p.track) (part_after p.volume.0) u (refusal_of result)) is ended))
+      (subst (λ (y : World). EndsFollowed (armed_in s) y (landing w'.control (h.host.issued + 1) v x.track) (after_write w'.control v x.track) u (refusal_of result)) (sym issued-begun)
+      (subst (λ (p : Pending). EndsFollowed (armed_in s) (here s t h' mid) (landing w'.control p.w.0 p.volume.0 p.track) (after_write w'.control p.volume.0 p.track) u (refusal_of result)) is ended))
       (λ k. subst (λ (p : Pending). IfOk result (λ a. a ≡ says_written w'.control p.w.0 p.volume.0 p.track)) is says))
 
 -- the write that is applied
@@ -253,12 +253,12 @@ module _ (s : PlantState) (t : Table) (h : Tables) (ev : List Event) (line n : �
       ∙ ap (λ b. cond b None (Some (unknown OfTrack))) (lt_true p.track (volume_seen s t p.volume.0).tracks waits.low)
 
   pub applied-lands : ReadsPass s → (u : World) (result : Result Said Refusal) (p : Pending) → find (has_number n) h.host.pending ≡ Some p
-      → EndsFollowed (armed_in s) w'' (landing w''.control p.w.0 p.volume.0 p.track) (part_after p.volume.0) u (refusal_of result) → IfOk result (λ a. a ≡ says_written w''.control p.w.0 p.volume.0 p.track)
+      → EndsFollowed (armed_in s) w'' (landing w''.control p.w.0 p.volume.0 p.track) (after_write w''.control p.volume.0 p.track) u (refusal_of result) → IfOk result (λ a. a ≡ says_written w''.control p.w.0 p.volume.0 p.track)
       → after_plan w'' line (apply_plan w''.control n) ≡ said u line (answered_by result)
   applied-lands pass u result p is ended says =
       ap (λ o. after_plan w'' line (apply_on w''.control o)) (found-by (Some p) is)
       ∙ followed-leads s pass w'' u line (apply_done w''.control (seen p)) result (λ k. refl)
-      (subst (λ es. EndsFollowed (armed_in s) (record w'' { events = es }) (landing w''.control p.w.0 p.volume.0 p.track) (part_after p.volume.0) u (refusal_of result)) (sym (append-nil ev)) ended)
+      (subst (λ es. EndsFollowed (armed_in s) (record w'' { events = es }) (landing w''.control p.w.0 p.volume.0 p.track) (after_write w''.control p.volume.0 p.track) u (refusal_of result)) (sym (append-nil ev)) ended)
       (λ k. says)
 
 -- a track that isn't there stops no server

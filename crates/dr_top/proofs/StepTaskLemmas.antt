@@ -16,13 +16,13 @@ use Rattle.dr_model.specs.declared.said.Said.{Said}
 use Rattle.dr_model.specs.declared.said.Said.TheVariants.{Done, Held, Refused}
 use Rattle.dr_model.specs.declared.step.Name.{Name}
 use Rattle.dr_model.specs.declared.step.Step.{Step}
-use Rattle.dr_model.specs.declared.step.Step.TheVariants.{Server, Volume, Link, Stop, StopAfter, Start, Issue, Write, Apply, Show, MakeFlash, RemoveFlash, ResyncFlash, ReverseFlash, Copy, MakePath, RemovePath, MakePair, RemovePair, PausePair, ResumePair, Drain, Expire, Freeze, Unfreeze}
+use Rattle.dr_model.specs.declared.step.Step.TheVariants.{Server, Volume, Link, Stop, StopAfter, Start, Issue, Write, Apply, Show, MakeFlash, RemoveFlash, ResyncFlash, ReverseFlash, Copy, MakePath, RemovePath, MakePair, RemovePair, PausePair, ResumePair, Drain, Expire, Freeze, Unfreeze, MakeSession, RemoveSession, AddMember, RemoveMember, MakeMirror, PauseMirror, ResumeMirror, RemoveMirror, Abort, Exchange}
 use Rattle.dr_model.specs.declared.step.TornWord.{TornWord}
 use Rattle.dr_model.specs.declared.step.Devs.{Devs}
-use Rattle.dr_top.specs.Forms.{is_plain, is_relation}
+use Rattle.dr_top.specs.Forms.{is_plain, is_relation, is_session}
 use Rattle.dr_model.specs.Answers.{answer}
 use Rattle.dr_model.specs.Control.{World}
-use Rattle.dr_model.specs.Plans.{refuses, plan_of, is_built, has_room}
+use Rattle.dr_model.specs.Plans.{refuses, plan_of, is_built, is_later, has_room}
 use Rattle.dr_model.specs.Runs.{Task, after_plan, after_task, masters_lost, said}
 use Rattle.dr_model.proofs.CarryLemmas.{plan-refuses}
 use Rattle.dr_laws.proofs.Journal.{EndsAnswered, after_task-ends, is_answer, Silent}
@@ -69,6 +69,31 @@ none-plain (Freeze d l m) server volume link issue write apply show stop arm sta
 none-plain (Unfreeze d l m) server volume link issue write apply show stop arm start path unpath expire freeze thaw = absurd (thaw d l m refl)
 none-plain _ server volume link issue write apply show stop arm start path unpath expire freeze thaw = refl
 
+-- or none of those on sessions
+pub none-session : (step : Step)
+    → ((d : Devs) (l x : ℕ) → step ≡ MakeSession d l x → ⊥)
+    → ((d : Devs) (l x : ℕ) → step ≡ RemoveSession d l x → ⊥)
+    → ((d : Devs) (l a x : ℕ) → step ≡ AddMember d l a x → ⊥)
+    → ((d : Devs) (l a x : ℕ) → step ≡ RemoveMember d l a x → ⊥)
+    → ((d : Devs) (l x : ℕ) (i c t : Option ℕ) → step ≡ MakeMirror d l x i c t → ⊥)
+    → ((d : Devs) (l x : ℕ) → step ≡ PauseMirror d l x → ⊥)
+    → ((d : Devs) (l x : ℕ) (i c t : Option ℕ) → step ≡ ResumeMirror d l x i c t → ⊥)
+    → ((d : Devs) (l x : ℕ) → step ≡ RemoveMirror d l x → ⊥)
+    → ((x : ℕ) → step ≡ Abort x → ⊥)
+    → ((x : ℕ) (n : Name) (r : Bool) → step ≡ Exchange x n r → ⊥)
+    → is_session step ≡ false
+none-session (MakeSession d l x) make remove add expel mirror pause resume unmirror abort exchange = absurd (make d l x refl)
+none-session (RemoveSession d l x) make remove add expel mirror pause resume unmirror abort exchange = absurd (remove d l x refl)
+none-session (AddMember d l a x) make remove add expel mirror pause resume unmirror abort exchange = absurd (add d l a x refl)
+none-session (RemoveMember d l a x) make remove add expel mirror pause resume unmirror abort exchange = absurd (expel d l a x refl)
+none-session (MakeMirror d l x i c t) make remove add expel mirror pause resume unmirror abort exchange = absurd (mirror d l x i c t refl)
+none-session (PauseMirror d l x) make remove add expel mirror pause resume unmirror abort exchange = absurd (pause d l x refl)
+none-session (ResumeMirror d l x i c t) make remove add expel mirror pause resume unmirror abort exchange = absurd (resume d l x i c t refl)
+none-session (RemoveMirror d l x) make remove add expel mirror pause resume unmirror abort exchange = absurd (unmirror d l x refl)
+none-session (Abort x) make remove add expel mirror pause resume unmirror abort exchange = absurd (abort x refl)
+none-session (Exchange x n r) make remove add expel mirror pause resume unmirror abort exchange = absurd (exchange x n r refl)
+none-session _ make remove add expel mirror pause resume unmirror abort exchange = refl
+
 -- or none of those on relationships
 pub none-relation : (step : Step)
     → ((d : Devs) (s t : ℕ) (a b c e : Bool) (n : Option ℕ) → step ≡ MakeFlash d s t a b c e n → ⊥)
@@ -85,39 +110,49 @@ none-relation (Copy t most) make remove resync reverse copy = absurd (copy t mos
 none-relation _ make remove resync reverse copy = refl
 
 -- a step that is built, and none of those, is one on a pair
-pub none-else : {P : Type 0} (step : Step) → is_plain step ≡ false → is_relation step ≡ false → is_built step ≡ true
+pub none-else : {P : Type 0} (step : Step) → is_plain step ≡ false → is_session step ≡ false → is_relation step ≡ false → is_built step ≡ true
     → ((d : Devs) (a b k : ℕ) (f : Bool) → step ≡ MakePair d a b k f → ⊥)
     → ((d : Devs) (a b : ℕ) (s : Bool) → step ≡ RemovePair d a b s → ⊥)
     → ((d : Devs) (a b : ℕ) → step ≡ PausePair d a b → ⊥)
     → ((d : Devs) (a b k : ℕ) → step ≡ ResumePair d a b k → ⊥)
     → ((a : ℕ) (most : Option ℕ) → step ≡ Drain a most → ⊥)
     → P
-none-else (Server n) plain relation built make end pause resume drain = absurd cc
-none-else (Volume v n t) plain relation built make end pause resume drain = absurd cc
-none-else (Link a b up) plain relation built make end pause resume drain = absurd cc
-none-else (Issue v t o l b) plain relation built make end pause resume drain = absurd cc
-none-else (Write v t o l b) plain relation built make end pause resume drain = absurd cc
-none-else (Apply n) plain relation built make end pause resume drain = absurd cc
-none-else (Show v t) plain relation built make end pause resume drain = absurd cc
-none-else (Stop n) plain relation built make end pause resume drain = absurd cc
-none-else (StopAfter n x torn) plain relation built make end pause resume drain = absurd cc
-none-else (Start n) plain relation built make end pause resume drain = absurd cc
-none-else (MakePath d s t g) plain relation built make end pause resume drain = absurd cc
-none-else (RemovePath d s t f) plain relation built make end pause resume drain = absurd cc
-none-else (Expire n) plain relation built make end pause resume drain = absurd cc
-none-else (Freeze d l m) plain relation built make end pause resume drain = absurd cc
-none-else (Unfreeze d l m) plain relation built make end pause resume drain = absurd cc
-none-else (MakeFlash d s t a b c e n) plain relation built make end pause resume drain = absurd cc
-none-else (RemoveFlash d s t n) plain relation built make end pause resume drain = absurd cc
-none-else (ResyncFlash d s t a b c e n) plain relation built make end pause resume drain = absurd cc
-none-else (ReverseFlash d s t p n) plain relation built make end pause resume drain = absurd cc
-none-else (Copy t most) plain relation built make end pause resume drain = absurd cc
-none-else (MakePair d a b k f) plain relation built make end pause resume drain = absurd (make d a b k f refl)
-none-else (RemovePair d a b s) plain relation built make end pause resume drain = absurd (end d a b s refl)
-none-else (PausePair d a b) plain relation built make end pause resume drain = absurd (pause d a b refl)
-none-else (ResumePair d a b k) plain relation built make end pause resume drain = absurd (resume d a b k refl)
-none-else (Drain a most) plain relation built make end pause resume drain = absurd (drain a most refl)
-none-else _ plain relation built make end pause resume drain = absurd cc
+none-else (Server n) plain session relation built make end pause resume drain = absurd cc
+none-else (Volume v n t) plain session relation built make end pause resume drain = absurd cc
+none-else (Link a b up) plain session relation built make end pause resume drain = absurd cc
+none-else (Issue v t o l b) plain session relation built make end pause resume drain = absurd cc
+none-else (Write v t o l b) plain session relation built make end pause resume drain = absurd cc
+none-else (Apply n) plain session relation built make end pause resume drain = absurd cc
+none-else (Show v t) plain session relation built make end pause resume drain = absurd cc
+none-else (Stop n) plain session relation built make end pause resume drain = absurd cc
+none-else (StopAfter n x torn) plain session relation built make end pause resume drain = absurd cc
+none-else (Start n) plain session relation built make end pause resume drain = absurd cc
+none-else (MakePath d s t g) plain session relation built make end pause resume drain = absurd cc
+none-else (RemovePath d s t f) plain session relation built make end pause resume drain = absurd cc
+none-else (Expire n) plain session relation built make end pause resume drain = absurd cc
+none-else (Freeze d l m) plain session relation built make end pause resume drain = absurd cc
+none-else (Unfreeze d l m) plain session relation built make end pause resume drain = absurd cc
+none-else (MakeFlash d s t a b c e n) plain session relation built make end pause resume drain = absurd cc
+none-else (RemoveFlash d s t n) plain session relation built make end pause resume drain = absurd cc
+none-else (ResyncFlash d s t a b c e n) plain session relation built make end pause resume drain = absurd cc
+none-else (ReverseFlash d s t p n) plain session relation built make end pause resume drain = absurd cc
+none-else (Copy t most) plain session relation built make end pause resume drain = absurd cc
+none-else (MakeSession d l x) plain session relation built make end pause resume drain = absurd cc
+none-else (RemoveSession d l x) plain session relation built make end pause resume drain = absurd cc
+none-else (AddMember d l a x) plain session relation built make end pause resume drain = absurd cc
+none-else (RemoveMember d l a x) plain session relation built make end pause resume drain = absurd cc
+none-else (MakeMirror d l x i c t) plain session relation built make end pause resume drain = absurd cc
+none-else (PauseMirror d l x) plain session relation built make end pause resume drain = absurd cc
+none-else (ResumeMirror d l x i c t) plain session relation built make end pause resume drain = absurd cc
+none-else (RemoveMirror d l x) plain session relation built make end pause resume drain = absurd cc
+none-else (Abort x) plain session relation built make end pause resume drain = absurd cc
+none-else (Exchange x n r) plain session relation built make end pause resume drain = absurd cc
+none-else (MakePair d a b k f) plain session relation built make end pause resume drain = absurd (make d a b k f refl)
+none-else (RemovePair d a b s) plain session relation built make end pause resume drain = absurd (end d a b s refl)
+none-else (PausePair d a b) plain session relation built make end pause resume drain = absurd (pause d a b refl)
+none-else (ResumePair d a b k) plain session relation built make end pause resume drain = absurd (resume d a b k refl)
+none-else (Drain a most) plain session relation built make end pause resume drain = absurd (drain a most refl)
+none-else _ plain session relation built make end pause resume drain = absurd cc
 
 -- the room that is left, counted either way
 pub room-left : (n : ℕ) → nat_le n 995904 ≡ nat_le (n + 4096) 1000000
@@ -175,22 +210,26 @@ module _ (w : World) (number : ℕ) (step : Step) where
   abbrev task : Task
   task = record { line = number; asked = Ok step }
 
-  by-tests : (built room : Bool) → is_built step ≡ built → has_room w.events ≡ room
-      → after_task w task ≡ masters_lost w (after_plan w number (cond (not built) (refuses NotBuilt) (cond room (plan_of w.control w.events number step) (refuses JournalFull))))
-  by-tests built room is left = λ i. masters_lost w (after_plan w number (cond (not (is i)) (refuses NotBuilt) (cond (left i) (plan_of w.control w.events number step) (refuses JournalFull))))
+  by-tests : (built later room : Bool) → is_built step ≡ built → is_later w.control step ≡ later → has_room w.events ≡ room
+      → after_task w task ≡ masters_lost w (after_plan w number (cond (not built) (refuses NotBuilt) (cond later (refuses NotBuilt) (cond room (plan_of w.control w.events number step) (refuses JournalFull)))))
+  by-tests built later room is far left =
+      λ i. masters_lost w (after_plan w number (cond (not (is i)) (refuses NotBuilt) (cond (far i) (refuses NotBuilt) (cond (left i) (plan_of w.control w.events number step) (refuses JournalFull)))))
 
   -- a step that is refused before it begins
   refused-first : (r : Refusal) → masters_lost w (after_plan w number (refuses r)) ≡ said w number (Refused r)
   refused-first r = ap (masters_lost w) (plan-refuses w number r) ∙ masters-stay w (said w number (Refused r)) refl
 
   pub task-unbuilt : is_built step ≡ false → after_task w task ≡ said w number (Refused NotBuilt)
-  task-unbuilt is = by-tests false (has_room w.events) is refl ∙ refused-first NotBuilt
+  task-unbuilt is = by-tests false (is_later w.control step) (has_room w.events) is refl refl ∙ refused-first NotBuilt
 
-  pub task-full : is_built step ≡ true → has_room w.events ≡ false → after_task w task ≡ said w number (Refused JournalFull)
-  task-full is full = by-tests true false is full ∙ refused-first JournalFull
+  pub task-later : is_built step ≡ true → is_later w.control step ≡ true → after_task w task ≡ said w number (Refused NotBuilt)
+  task-later is far = by-tests true true (has_room w.events) is far refl ∙ refused-first NotBuilt
 
-  pub task-built : (u : World) → is_built step ≡ true → has_room w.events ≡ true → after_plan w number (plan_of w.control w.events number step) ≡ u → after_task w task ≡ masters_lost w u
-  task-built u is room leads = by-tests true true is room ∙ ap (masters_lost w) leads
+  pub task-full : is_built step ≡ true → is_later w.control step ≡ false → has_room w.events ≡ false → after_task w task ≡ said w number (Refused JournalFull)
+  task-full is near full = by-tests true false false is near full ∙ refused-first JournalFull
+
+  pub task-built : (u : World) → is_built step ≡ true → is_later w.control step ≡ false → has_room w.events ≡ true → after_plan w number (plan_of w.control w.events number step) ≡ u → after_task w task ≡ masters_lost w u
+  task-built u is near room leads = by-tests true false true is near room ∙ ap (masters_lost w) leads
 
   -- the journal before the answer tells no answer more
   ends : EndsAnswered w number (after_task w task)

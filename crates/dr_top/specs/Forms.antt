@@ -2,7 +2,7 @@
 use Rattle.std.specs.Prelude.{Bool, true, false}
 use Rattle.dr_model.specs.Layout.{is_part, part_of}
 use Rattle.dr_model.specs.declared.step.Step.{Step}
-use Rattle.dr_model.specs.declared.step.Step.TheVariants.{Server, Volume, Link, Stop, StopAfter, Start, Issue, Write, Apply, Show, MakePath, RemovePath, Expire, Freeze, Unfreeze, MakeFlash, RemoveFlash, ResyncFlash, ReverseFlash, Copy, MakePair, RemovePair, PausePair, ResumePair, Drain}
+use Rattle.dr_model.specs.declared.step.Step.TheVariants.{Server, Volume, Link, Stop, StopAfter, Start, Issue, Write, Apply, Show, MakePath, RemovePath, Expire, Freeze, Unfreeze, MakeFlash, RemoveFlash, ResyncFlash, ReverseFlash, Copy, MakePair, RemovePair, PausePair, ResumePair, Drain, MakeSession, RemoveSession, AddMember, RemoveMember, MakeMirror, PauseMirror, ResumeMirror, RemoveMirror, Abort, Exchange}
 
 -- those on servers, volumes, paths and host writes, and freezes and thaws
 abbrev pub is_plain : Step → Bool
@@ -40,3 +40,17 @@ is_pair (PausePair devs a b) = true
 is_pair (ResumePair devs a b kind) = is_part (part_of kind)
 is_pair (Drain a most) = true
 is_pair _ = false
+
+-- those on sessions, their members and their masters
+abbrev pub is_session : Step → Bool
+is_session (MakeSession devs l s) = true
+is_session (RemoveSession devs l s) = true
+is_session (AddMember devs l a s) = true
+is_session (RemoveMember devs l a s) = true
+is_session (MakeMirror devs l s cginterval coordinate drain) = true
+is_session (PauseMirror devs l s) = true
+is_session (ResumeMirror devs l s cginterval coordinate drain) = true
+is_session (RemoveMirror devs l s) = true
+is_session (Abort s) = true
+is_session (Exchange s name reply) = true
+is_session _ = false

@@ -48,6 +48,11 @@ abbrev pub widened : Result Addition Refusal → Result Said Fault
 widened (Ok added) = Ok (Done added)
 widened (Err r) = Err (FaultRefused r)
 
+-- the same of a call among those that may want memory
+abbrev pub refused : Result Addition Refusal → Result Addition Fault
+refused (Ok added) = Ok added
+refused (Err r) = Err (FaultRefused r)
+
 abbrev pub answer_widened : Result Said Refusal → Result Said Fault
 answer_widened (Ok a) = Ok a
 answer_widened (Err r) = Err (FaultRefused r)

@@ -11,3 +11,4 @@ pub mod Starting
 pub mod Located
 pub mod Waiting
 pub mod WellFormed
+pub mod Found

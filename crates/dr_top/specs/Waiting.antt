@@ -8,7 +8,7 @@ use Rattle.dr_plant.specs.State.{PlantState}
 use Rattle.dr_config.specs.Table.{Table, place_of}
 use Rattle.dr_model.specs.declared.event.Event.TheVariants.{Issue}
 use Rattle.dr_model.specs.Plans.{track_refusal, issue_refusal}
-use Rattle.dr_model.specs.Pairs.{is_metro}
+use Rattle.dr_model.specs.Layout.{is_part}
 use Rattle.dr_model.specs.declared.said.Addition.TheVariants.{Wrote}
 use Rattle.dr_model.specs.declared.said.Said.{Said}
 use Rattle.dr_model.specs.declared.said.Said.TheVariants.{Done, Held as SaidHeld}
@@ -32,8 +32,8 @@ abbrev pub written_as : ℕ → WriteEnd → Said
 written_as n Landed = Done (Wrote n)
 written_as n Held = SaidHeld n
 
--- the secondary of each Metro Mirror primary is defined, on another server and of the same size
+-- the secondary of each primary is defined, on another server and of the same size
 pub record PartnersFit (s : PlantState) (t : Table) : Type 0 where
-  pub defined : (v : ℕ) → is_metro (volume_seen s t v).fields.primary ≡ true → IsSome (place_of t (volume_seen s t v).fields.primary_partner)
-  pub apart : (v : ℕ) → is_metro (volume_seen s t v).fields.primary ≡ true → (volume_seen s t v).server ≢ (volume_seen s t (volume_seen s t v).fields.primary_partner).server
-  pub same_tracks : (v : ℕ) → is_metro (volume_seen s t v).fields.primary ≡ true → (volume_seen s t (volume_seen s t v).fields.primary_partner).tracks ≡ (volume_seen s t v).tracks
+  pub defined : (v : ℕ) → is_part (volume_seen s t v).fields.primary ≡ true → IsSome (place_of t (volume_seen s t v).fields.primary_partner)
+  pub apart : (v : ℕ) → is_part (volume_seen s t v).fields.primary ≡ true → (volume_seen s t v).server ≢ (volume_seen s t (volume_seen s t v).fields.primary_partner).server
+  pub same_tracks : (v : ℕ) → is_part (volume_seen s t v).fields.primary ≡ true → (volume_seen s t (volume_seen s t v).fields.primary_partner).tracks ≡ (volume_seen s t v).tracks

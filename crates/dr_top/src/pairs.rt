@@ -1,12 +1,13 @@
 //! The steps on pairs of volumes.
 
-ghost use Rattle.std.specs.Prelude.{◌≡◌, ℕ, ◌+◌, ◌≤◌, ◌&&◌, true, false, IsSome, List, length};
+ghost use Rattle.std.specs.Prelude.{◌≡◌, ℕ, ◌+◌, ◌≤◌, ◌&&◌, ◌++◌, ◌∷◌, [], true, false, IsSome, List, length};
 ghost use Rattle.dr_plant.specs.State.{PlantState};
-ghost use Rattle.dr_config.specs.Table.{place_of};
+ghost use Rattle.dr_config.specs.Table.{Table, place_of};
 ghost use Rattle.dr_top.specs.declared.tables.Tables.{Tables};
 ghost use Rattle.dr_model.specs.declared.event.Event.{Event};
 ghost use Rattle.dr_model.specs.Laws.{Sound};
 ghost use Rattle.dr_model.specs.Layout as part;
+ghost use Rattle.dr_model.specs.PairEntries.{refuse_if};
 ghost use Rattle.dr_model.specs.Pairs as pairs;
 ghost use Rattle.dr_model.specs.Plans as plans;
 ghost use Rattle.dr_model.specs.Runs.{after_plan, said};
@@ -45,6 +46,40 @@ fn found_volumes(config: &Config, devs: &Devs, a: VolumeId, b: VolumeId) -> Opti
         return Some(unknown_server());
     }
     None
+}
+
+/// One of two volumes is the primary of a member, whose session is named.
+fn member_refusal(tables: &Tables, a: VolumeId, b: VolumeId) -> Option<Refusal>
+    ensures refusal { (x : PlantState) (t : Table) (events : List Event) → result ≡ plans.member_refusal a.0 b.0 (here x t tables.now events).control }
+    ensures calm { is_stop result ≡ false }
+{
+    if let Some(session) = tables.sessions.session_of(a) {
+        return Some(Refusal::InSession { session });
+    }
+    match tables.sessions.session_of(b) {
+        Some(session) => Some(Refusal::InSession { session }),
+        None => None,
+    }
+}
+
+/// Why a line that ends a pair doesn't find its volumes, or may not end it: one of them is the primary of a member.
+fn found_free(
+    config: &Config,
+    tables: &Tables,
+    devs: &Devs,
+    a: VolumeId,
+    b: VolumeId,
+) -> Option<Refusal>
+    requires { FitsDevs devs.now }
+    ensures checked { (x : PlantState) (events : List Event) → Checked (here x config.now tables.now events) (plans.found_volumes devs.now a.0 b.0 ++ refuse_if (plans.member_refusal a.0 b.0) ∷ []) result }
+    ensures calm { is_stop result ≡ false }
+    ensures first { OnNone result (IsSome (place_of config.now a.0)) }
+    ensures second { OnNone result (IsSome (place_of config.now b.0)) }
+{
+    if let Some(why) = found_volumes(config, devs, a, b) {
+        return Some(why);
+    }
+    member_refusal(tables, a, b)
 }
 
 /// The number of Metro Mirror in a step.
@@ -95,7 +130,7 @@ pub fn make_copy<P: Plant>(
     }
 }
 
-/// Ends a pair, or the part of its primary alone.
+/// Ends a pair, or the part of its primary alone. Refused where one of the volumes is the primary of a member of a session.
 pub fn end_copy<P: Plant>(
     plant: &mut P,
     config: &Config,
@@ -117,7 +152,7 @@ pub fn end_copy<P: Plant>(
     ensures ready { IsReady (P.state plant.new) config.now tables.now journal.new.events }
     ensures room { 1 ≤ journal.new.spare }
 {
-    if let Some(why) = found_volumes(config, devs, a, b) {
+    if let Some(why) = found_free(config, tables, devs, a, b) {
         return Err(why);
     }
     match remove_pair(plant, config, journal, a, b, source_only) {

@@ -10,7 +10,7 @@ ghost use Rattle.dr_host.specs.Writes.{has_number};
 ghost use Rattle.dr_model.specs.declared.step.Step.{Step};
 ghost use Rattle.dr_model.specs.Laws.{Sound};
 ghost use Rattle.dr_model.specs.Plans.{track_refusal, issue_refusal};
-ghost use Rattle.dr_model.specs.WriteEntries.{landing, says_written, part_after};
+ghost use Rattle.dr_model.specs.WriteEntries.{landing, says_written, after_write};
 ghost use Rattle.dr_volume.specs.View.{volume_seen};
 ghost use Rattle.dr_flash.specs.Fit.{RelationsFit};
 ghost use Rattle.dr_flash.specs.Here.{refusal_of, armed_in};
@@ -300,7 +300,7 @@ fn carry_write<P: Plant>(
     requires room { length config.now.volumes + (length config.now.volumes + 5) ≤ journal.old.spare }
     ensures carried { EndsFollowed (armed_in (P.state plant.old)) (here (P.state plant.old) config.now tables.old journal.old.events)
         (landing (here (P.state plant.old) config.now tables.old journal.old.events).control write.now.w.0 write.now.volume.0 write.now.track)
-        (part_after write.now.volume.0) (here (P.state plant.new) config.now tables.new journal.new.events) (refusal_of result) }
+        (after_write (here (P.state plant.old) config.now tables.old journal.old.events).control write.now.volume.0 write.now.track) (here (P.state plant.new) config.now tables.new journal.new.events) (refusal_of result) }
     ensures says { IfOk result (λ a. a ≡ says_written (here (P.state plant.old) config.now tables.old journal.old.events).control write.now.w.0 write.now.volume.0 write.now.track) }
     ensures ready { IsReady (P.state plant.new) config.now tables.new journal.new.events }
     ensures faults { Counts (answered_by result) (P.state plant.old) (P.state plant.new) }

@@ -4,32 +4,37 @@ ghost use Rattle.std.specs.Prelude.{◌≡◌, ℕ, ◌+◌, ◌<◌, ◌≤◌,
 ghost use Rattle.dr_ids.specs.declared.refusal.Refusal.{Refusal};
 ghost use Rattle.dr_model.specs.Answers.{answer};
 ghost use Rattle.dr_model.specs.Laws.{Sound};
-ghost use Rattle.dr_model.specs.Layout.{is_part, part_of};
 ghost use Rattle.dr_model.specs.Limits.{most_events};
 ghost use Rattle.dr_model.specs.LineText.{IsWritten};
-ghost use Rattle.dr_model.specs.Plans.{is_built, has_room, plan_of};
+ghost use Rattle.dr_model.specs.Plans.{is_built, is_later, has_room, plan_of};
 ghost use Rattle.dr_model.specs.Runs.{after_plan, after_task};
 ghost use Rattle.dr_model.specs.declared.said.Said.TheVariants.{Refused};
 ghost use Rattle.dr_model.specs.declared.step.Step.{Step};
 ghost use Rattle.dr_top.specs.Faults.{Counted, Counts, told_stop};
-ghost use Rattle.dr_top.specs.Forms.{is_plain, is_relation, is_pair};
-ghost use Rattle.dr_top.specs.Here.{here, said_of, widened, answer_widened, all_done, OnSaid, OnNoMemory, Leads, IsReady};
+ghost use Rattle.dr_top.specs.Forms.{is_plain, is_relation, is_session};
+ghost use Rattle.dr_top.specs.Here.{here, said_of, widened, refused, answer_widened, all_done, OnAnswer, OnSaid, OnNoMemory, Leads, IsReady};
 ghost use Rattle.dr_top.specs.WellFormed.{IsWellFormed};
 
 use crate::background::copy;
 use crate::define::{define_server, define_volume, set_link};
+use crate::exchanges::exchange;
 use crate::expiry::expire;
 use crate::flash::{make_flash, remove_flash, resync_flash, reverse_flash};
+use crate::forms::{is_built, is_later};
 use crate::freezing::{freeze_pairs, thaw_pairs};
 use crate::masters::{lose_masters, servers_on};
+use crate::members::{add_member, remove_member};
 use crate::pairs::{drain_copy, end_copy, make_copy, pause_copy, resume_copy};
 use crate::paths::{make_path, remove_path};
+use crate::sessions::{
+    abort_attempt, join_session, leave_session, make_mirror, pause_mirror, remove_mirror,
+};
 use crate::steps::{HostWrite, apply, issue, show, write};
 use crate::stops::{arm, start, stop};
 use crate::tables::Tables;
 use dr_config::Config;
 use dr_flash::Options;
-use dr_ids::{Fault, Lss, Refusal, VolumeId};
+use dr_ids::{Fault, Lss, Refusal, SessionId, VolumeId};
 use dr_model::{Addition, Journal, Said, Step};
 use dr_plant::Plant;
 use std::alloc::AllocError;
@@ -39,62 +44,6 @@ pub const MOST_EVENTS: usize = 1_000_000;
 
 /// The room that a step needs in the journal before it begins.
 const STEP_EVENTS: usize = 4096;
-
-/// The numbers of the kinds of pairs in a step.
-const METRO_MIRROR: u8 = 1;
-
-const GLOBAL_COPY: u8 = 2;
-
-/// Whether pairs of that kind are built.
-fn is_copied(kind: u8) -> bool
-    ensures { result ≡ is_part (part_of kind) }
-{
-    kind == METRO_MIRROR || kind == GLOBAL_COPY
-}
-
-/// Whether a step is one on servers, volumes, paths or host writes, or a freeze or a thaw.
-fn is_plain(step: &Step) -> bool
-    ensures { result ≡ is_plain step.now }
-{
-    match step {
-        Step::Server { .. } | Step::Volume { .. } | Step::Link { .. } => true,
-        Step::Stop { .. } | Step::StopAfter { .. } | Step::Start { .. } => true,
-        Step::Issue { .. } | Step::Write { .. } | Step::Apply { .. } => true,
-        Step::Show { .. } | Step::Expire { .. } => true,
-        Step::MakePath { .. } | Step::RemovePath { .. } => true,
-        Step::Freeze { .. } | Step::Unfreeze { .. } => true,
-        _ => false,
-    }
-}
-
-/// Whether a step is one on a FlashCopy relationship whose form is built.
-fn is_relation(step: &Step) -> bool
-    ensures { result ≡ is_relation step.now }
-{
-    match step {
-        Step::MakeFlash { .. } | Step::RemoveFlash { .. } | Step::Copy { .. } => true,
-        Step::ResyncFlash { .. } | Step::ReverseFlash { .. } => true,
-        _ => false,
-    }
-}
-
-/// Whether a step is one on a pair whose form is built.
-fn is_pair(step: &Step) -> bool
-    ensures { result ≡ is_pair step.now }
-{
-    match step {
-        Step::RemovePair { .. } | Step::PausePair { .. } | Step::Drain { .. } => true,
-        Step::MakePair { kind, .. } | Step::ResumePair { kind, .. } => is_copied(*kind),
-        _ => false,
-    }
-}
-
-/// Whether the form of a step is built.
-fn is_built(step: &Step) -> bool
-    ensures { result ≡ is_built step.now }
-{
-    is_plain(step) || is_relation(step) || is_pair(step)
-}
 
 /// Whether the journal has room for what a step may tell.
 fn has_room(journal: &Journal) -> bool
@@ -139,6 +88,16 @@ fn widened(carried: Result<Addition, Refusal>) -> Result<Said, Fault>
     }
 }
 
+/// The same of a call among those that may want memory.
+fn refused(carried: Result<Addition, Refusal>) -> Result<Addition, Fault>
+    ensures { result ≡ refused carried }
+{
+    match carried {
+        Ok(added) => Ok(added),
+        Err(refusal) => Err(Fault::Refused(refusal)),
+    }
+}
+
 /// The same of a call that may be answered in other ways than done.
 fn answer_widened(carried: Result<Said, Refusal>) -> Result<Said, Fault>
     ensures { result ≡ answer_widened carried }
@@ -173,6 +132,7 @@ fn carry_relation<P: Plant>(
     requires few { length config.now.volumes ≤ 64 }
     requires room { 4096 ≤ journal.old.spare }
     requires form { is_plain step.now ≡ false }
+    requires session { is_session step.now ≡ false }
     requires built { is_built step.now ≡ true }
     ensures step { (line : ℕ) → Leads (here (P.state plant.old) config.now tables.now journal.old.events) line step.now
         (here (P.state plant.new) config.now tables.now journal.new.events) (said_of result) }
@@ -270,6 +230,7 @@ fn carry_pair<P: Plant>(
     requires few { length config.now.volumes ≤ 64 }
     requires room { 4096 ≤ journal.old.spare }
     requires form { is_plain step.now ≡ false }
+    requires session { is_session step.now ≡ false }
     requires other { is_relation step.now ≡ false }
     requires built { is_built step.now ≡ true }
     ensures step { (line : ℕ) → Leads (here (P.state plant.old) config.now tables.now journal.old.events) line step.now
@@ -337,6 +298,152 @@ fn carry_pair<P: Plant>(
     }
 }
 
+/// Carries out a step on a session, its members or its master. Where there is no memory nothing has changed.
+fn carry_session<P: Plant>(
+    plant: &mut P,
+    config: &Config,
+    tables: &mut Tables,
+    journal: &mut Journal,
+    step: &Step,
+) -> Result<Addition, Fault>
+    requires ready { IsReady (P.state plant.old) config.now tables.old journal.old.events }
+    requires sound { Sound (here (P.state plant.old) config.now tables.old journal.old.events) }
+    requires fits { IsWellFormed step.now }
+    requires few { length config.now.volumes ≤ 64 }
+    requires room { 4096 ≤ journal.old.spare }
+    requires form { is_plain step.now ≡ false }
+    requires built { is_built step.now ≡ true }
+    requires near { is_later (here (P.state plant.old) config.now tables.old journal.old.events).control step.now ≡ false }
+    ensures step { OnAnswer result (λ a. (line : ℕ) → Leads (here (P.state plant.old) config.now tables.old journal.old.events) line step.now
+        (here (P.state plant.new) config.now tables.new journal.new.events) a) }
+    ensures faults { OnAnswer result (λ a. Counts a (P.state plant.old) (P.state plant.new)) }
+    ensures same { OnNoMemory result (here (P.state plant.new) config.now tables.new journal.new.events ≡ here (P.state plant.old) config.now tables.old journal.old.events) }
+    ensures same_plant { OnNoMemory result (P.state plant.new ≡ P.state plant.old) }
+    ensures ready { IsReady (P.state plant.new) config.now tables.new journal.new.events }
+    ensures host { tables.new.host ≡ tables.old.host }
+    ensures room { 1 ≤ journal.new.spare }
+{
+    match *step {
+        Step::MakeSession { devs, lss, session } => join_session(
+            plant,
+            config,
+            tables,
+            journal,
+            &devs,
+            Lss(lss),
+            SessionId(session),
+        ),
+        Step::RemoveSession { devs, lss, session } => refused(leave_session(
+            plant,
+            config,
+            tables,
+            journal,
+            &devs,
+            Lss(lss),
+            SessionId(session),
+        )),
+        Step::AddMember {
+            devs,
+            lss,
+            volume,
+            session,
+        } => add_member(
+            plant,
+            config,
+            tables,
+            journal,
+            &devs,
+            Lss(lss),
+            VolumeId(volume),
+            SessionId(session),
+        ),
+        Step::RemoveMember {
+            devs,
+            lss,
+            volume,
+            session,
+        } => refused(remove_member(
+            plant,
+            config,
+            tables,
+            journal,
+            &devs,
+            Lss(lss),
+            VolumeId(volume),
+            SessionId(session),
+        )),
+        Step::MakeMirror {
+            devs,
+            lss,
+            session,
+            ..
+        } => refused(make_mirror(
+            plant,
+            config,
+            tables,
+            journal,
+            &devs,
+            Lss(lss),
+            SessionId(session),
+        )),
+        Step::PauseMirror { devs, lss, session } => refused(pause_mirror(
+            plant,
+            config,
+            tables,
+            journal,
+            &devs,
+            Lss(lss),
+            SessionId(session),
+            true,
+        )),
+        Step::ResumeMirror {
+            devs,
+            lss,
+            session,
+            ..
+        } => refused(pause_mirror(
+            plant,
+            config,
+            tables,
+            journal,
+            &devs,
+            Lss(lss),
+            SessionId(session),
+            false,
+        )),
+        Step::RemoveMirror { devs, lss, session } => refused(remove_mirror(
+            plant,
+            config,
+            tables,
+            journal,
+            &devs,
+            Lss(lss),
+            SessionId(session),
+        )),
+        Step::Abort { session } => refused(abort_attempt(
+            plant,
+            config,
+            tables,
+            journal,
+            SessionId(session),
+        )),
+        Step::Exchange {
+            session,
+            server,
+            reply,
+        } => refused(exchange(
+            plant,
+            config,
+            tables,
+            journal,
+            SessionId(session),
+            &server,
+            reply,
+        )),
+        _ => refused(carry_relation(plant, config, tables, journal, step)),
+    }
+}
+
 /// Carries out a step whose form is built. Where there is no memory nothing has changed.
 fn carry_out<P: Plant>(
     plant: &mut P,
@@ -353,6 +460,7 @@ fn carry_out<P: Plant>(
     requires room { 4096 ≤ journal.old.spare }
     requires count { tables.old.host.issued + 1 < 2 ^ 32 }
     requires built { is_built step.now ≡ true }
+    requires near { is_later (here (P.state plant.old) config.old tables.old journal.old.events).control step.now ≡ false }
     ensures step { OnSaid result (λ a. Leads (here (P.state plant.old) config.old tables.old journal.old.events) line step.now
         (here (P.state plant.new) config.new tables.new journal.new.events) a) }
     ensures faults { OnSaid result (λ a. Counts a (P.state plant.old) (P.state plant.new)) }
@@ -464,7 +572,7 @@ fn carry_out<P: Plant>(
             Lss(l),
             Lss(m),
         )),
-        _ => widened(carry_relation(plant, config, tables, journal, step)),
+        _ => all_done(carry_session(plant, config, tables, journal, step)),
     }
 }
 
@@ -498,6 +606,7 @@ fn carry_answered<P: Plant>(
     requires room { 4096 ≤ journal.old.spare }
     requires count { tables.old.host.issued + 1 < 2 ^ 32 }
     requires built { is_built step.now ≡ true }
+    requires near { is_later (here (P.state plant.old) config.old tables.old journal.old.events).control step.now ≡ false }
     requires has_room { has_room journal.old.events ≡ true }
     ensures plan { OnOk result (after_plan (here (P.state plant.old) config.old tables.old journal.old.events) number
         (plan_of (here (P.state plant.old) config.old tables.old journal.old.events).control journal.old.events number step.now)
@@ -537,6 +646,7 @@ fn carry_built<P: Plant>(
     requires room { 4096 ≤ journal.old.spare }
     requires count { tables.old.host.issued + 1 < 2 ^ 32 }
     requires built { is_built step.now ≡ true }
+    requires near { is_later (here (P.state plant.old) config.old tables.old journal.old.events).control step.now ≡ false }
     requires has_room { has_room journal.old.events ≡ true }
     ensures task { OnOk result (after_task (here (P.state plant.old) config.old tables.old journal.old.events) (record { line = number; asked = Ok step.now })
         ≡ here (P.state plant.new) config.new tables.new journal.new.events) }
@@ -555,7 +665,8 @@ fn carry_built<P: Plant>(
     }
 }
 
-/// Carries out a step, and answers it: a form that isn't built is refused, then a step for which the journal has no room.
+/// Carries out a step, and answers it: a form that isn't built is refused, an exchange whose orders aren't, and then a step
+/// for which the journal has no room.
 /// Where there is no memory nothing has changed.
 pub fn carry_task<P: Plant>(
     plant: &mut P,
@@ -579,6 +690,9 @@ pub fn carry_task<P: Plant>(
     ensures issued { tables.new.host.issued ≤ tables.old.host.issued + 1 }
 {
     if !is_built(step) {
+        return refuse(journal, number, Refusal::NotBuilt);
+    }
+    if is_later(tables, step) {
         return refuse(journal, number, Refusal::NotBuilt);
     }
     if !has_room(journal) {

@@ -42,4 +42,4 @@ returns-in-Drain-clause-step g c line =
     ∙ c.drain_copy.ensures.step line
 
 pub returns-in_default : goal.returns-in_default
-returns-in_default g c = none-else c.args.step.now c.requires.form c.requires.other c.requires.built c.in_default.not-MakePair c.in_default.not-RemovePair c.in_default.not-PausePair c.in_default.not-ResumePair c.in_default.not-Drain
+returns-in_default g c = none-else c.args.step.now c.requires.form c.requires.session c.requires.other c.requires.built c.in_default.not-MakePair c.in_default.not-RemovePair c.in_default.not-PausePair c.in_default.not-ResumePair c.in_default.not-Drain

@@ -1,0 +1,8 @@
+use Rattle.std.proofs.Common.{ℕ, subst, sym}
+use Rattle.dr_top.specs.Here.{here, said_of, OnAnswer, Leads}
+use Rattle.dr_top.proofs.StepTaskLemmas.{none-session}
+use Rattle.dr_top.proofs.task.carry_session.Goals as goal
+
+pub carry_relation-requires-clause-session : goal.carry_relation-requires-clause-session
+carry_relation-requires-clause-session g c =
+    none-session c.args.step.now c.in_default.not-MakeSession c.in_default.not-RemoveSession c.in_default.not-AddMember c.in_default.not-RemoveMember c.in_default.not-MakeMirror c.in_default.not-PauseMirror c.in_default.not-ResumeMirror c.in_default.not-RemoveMirror c.in_default.not-Abort c.in_default.not-Exchange
