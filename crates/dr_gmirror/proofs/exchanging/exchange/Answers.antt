@@ -69,9 +69,13 @@ pub returns-in-Some-exchange_refusal-clause-refused : goal.returns-in-Some-excha
 returns-in-Some-exchange_refusal-clause-refused g c r why is =
     let o = mirror_in (session_in c.args.ss.now.sessions c.args.s.0) in
     let l = look-some c.in-Some.x o c.args.server.0 c.in-Some.ensures in
-    let near = if-some (IsNear (length c.args.c.now.names)) o l.0 l.1 c.requires.near in
-    (c.in-Some-exchange_refusal.ensures.refusal (with_sessions c.args.ss.now.sessions r) c.args.j.now.events l.0 l.2 near.built
-    ∙ sym (ap (λ (o : Option Mirror). refusal_in (seen (g.P.Plant.state c.args.p.now) c.args.c.now (with_sessions c.args.ss.now.sessions r) c.args.j.now.events).control o c.args.server.0 (members_in (session_in c.args.ss.now.sessions c.args.s.0))) l.1) ∙ is, refl, refl, refl)
+    let near = if-some (IsNear (length c.args.c.now.names)) o l.0 l.1 c.requires.near in (
+      c.in-Some-exchange_refusal.ensures.refusal (with_sessions c.args.ss.now.sessions r) c.args.j.now.events l.0 l.2 near.built
+          ∙ sym (ap (λ (o : Option Mirror). refusal_in (seen (g.P.Plant.state c.args.p.now) c.args.c.now (with_sessions c.args.ss.now.sessions r) c.args.j.now.events).control o c.args.server.0 (members_in (session_in c.args.ss.now.sessions c.args.s.0))) l.1) ∙ is,
+      refl,
+      refl,
+      refl,
+    )
 
 pub returns-in_default-order_of-clause-refused : goal.returns-in_default-order_of-clause-refused
 returns-in_default-order_of-clause-refused g c r why is =
