@@ -174,62 +174,69 @@ module _ (s : PlantState) (t : Table) (h : Tables) (ev : List Event) (line : ℕ
 abbrev pub members_plan : List Entry → (List Session → List Session) → Plan
 members_plan entries f = record { first = same; told = []; entries = entries; follows = none_follow; last = with_sessions f; says = always (Done Alone) }
 
-module _ (s u : PlantState) (t : Table) (h : Tables) (ev mid : List Event) (ys : kept.Table) (entries : List Entry) (f : List Session → List Session) (o : Option Refusal) (pass : ReadsPass s) where
+module _ (s u : PlantState) (t : Table) (h : Tables) (ev mid : List Event) (entries : List Entry) (pass : ReadsPass s) where
   abbrev before : World
   before = here s t h ev
 
   abbrev after : World
   after = here u t h mid
 
-  abbrev left : World
-  left = here u t (record h { sessions = ys }) mid
+  -- a stop of a server ends the moves, and another refusal leaves all as it was
+  abbrev StopEnds : Option Refusal → Type 0
+  StopEnds r = is_stop r ≡ true → Ends (armed_in s) after r before entries
 
-  abbrev plan : Plan
-  plan = members_plan entries f
+  abbrev CalmStays : Option Refusal → Type 0
+  CalmStays r = is_stop r ≡ false → (u ≡ s) × (mid ≡ ev)
+
+  abbrev why : Fault → Option Refusal
+  why e = kept.refusal_of {T = Unit {0}} (Err e)
+
+  -- no write was issued
+  module _ (told : IsTold h ev) where
+    pub call-told : Ends (armed_in s) after None before entries → IsTold h mid
+    call-told ends = told-through h before after entries None (exact s after None before entries pass ends) told
+
+    pub refused-told : (r : Refusal) → StopEnds (Some r) → CalmStays (Some r) → IsTold h mid
+    refused-told (Stopped server) stop calm = told-through h before after entries (Some (Stopped server)) (exact s after (Some (Stopped server)) before entries pass (stop refl)) told
+    refused-told _ stop calm = subst (IsTold h) (sym (calm refl).1) told
+
+    pub failed-told : (e : Fault) → StopEnds (why e) → CalmStays (why e) → IsTold h mid
+    failed-told NoMemory stop calm = subst (IsTold h) (sym (calm refl).1) told
+    failed-told (FaultRefused r) stop calm = refused-told r stop calm
 
   carried : (r : Option Refusal) → Ends (armed_in s) after r before entries → carry (record before { events = ev ++ [] }) entries ≡ (after, r)
   carried r ends = ap (λ es. carry (record before { events = es }) entries) (append-nil ev) ∙ exact s after r before entries pass ends
 
-  pub call-done : None ≡ o → Ends (armed_in s) after None before entries → ys.sessions ≡ f h.sessions.sessions → (line : ℕ) → after_plan before line (unless o plan) ≡ said left line (Done Alone)
-  call-done free ends is line =
-      plan-free before _ line plan o (sym free)
-      (plan-ends before line plan (after, None) (carried None ends)
-      ∙ (λ i. said (record after { control = record after.control { sessions = sym is i } }) line (Done Alone)))
+  module _ (ys : kept.Table) (f : List Session → List Session) (o : Option Refusal) where
+    abbrev left : World
+    left = here u t (record h { sessions = ys }) mid
 
-  -- a stop of a server leaves what was done by then, and another refusal leaves all as it was
-  module _ (still : ys.sessions ≡ h.sessions.sessions) where
-    stops : (r : Refusal) → None ≡ o → Ends (armed_in s) after (Some r) before entries → (line : ℕ) → after_plan before line (unless o plan) ≡ said left line (Refused r)
-    stops r free ends line =
+    abbrev plan : Plan
+    plan = members_plan entries f
+
+    pub call-done : None ≡ o → Ends (armed_in s) after None before entries → ys.sessions ≡ f h.sessions.sessions → (line : ℕ) → after_plan before line (unless o plan) ≡ said left line (Done Alone)
+    call-done free ends is line =
         plan-free before _ line plan o (sym free)
-        (plan-fails before after line plan r (λ server. refl) (carried (Some r) ends)
-        ∙ (λ i. said (record after { control = record after.control { sessions = sym still i } }) line (Refused r)))
+        (plan-ends before line plan (after, None) (carried None ends)
+        ∙ (λ i. said (record after { control = record after.control { sessions = sym is i } }) line (Done Alone)))
 
-    refuses-all : (r : Refusal) → Some r ≡ o → u ≡ s → mid ≡ ev → (line : ℕ) → after_plan before line (unless o plan) ≡ said left line (Refused r)
-    refuses-all r why nothing quiet line =
-        plan-unless before line plan o r (sym why)
-        ∙ (λ i. said (record (here (sym nothing i) t h (sym quiet i)) { control = record (here (sym nothing i) t h (sym quiet i)).control { sessions = sym still i } }) line (Refused r))
+    module _ (still : ys.sessions ≡ h.sessions.sessions) where
+      stops : (r : Refusal) → None ≡ o → Ends (armed_in s) after (Some r) before entries → (line : ℕ) → after_plan before line (unless o plan) ≡ said left line (Refused r)
+      stops r free ends line =
+          plan-free before _ line plan o (sym free)
+          (plan-fails before after line plan r (λ server. refl) (carried (Some r) ends)
+          ∙ (λ i. said (record after { control = record after.control { sessions = sym still i } }) line (Refused r)))
 
-    pub call-refused : (r : Refusal) → unless_stop (Some r) ≡ o → (is_stop (Some r) ≡ true → Ends (armed_in s) after (Some r) before entries) → (is_stop (Some r) ≡ false → (u ≡ s) × (mid ≡ ev)) → (line : ℕ) → after_plan before line (unless o plan) ≡ said left line (Refused r)
-    call-refused (Stopped server) is stop calm = stops (Stopped server) is (stop refl)
-    call-refused _ is stop calm = refuses-all _ is (calm refl).0 (calm refl).1
+      refuses-all : (r : Refusal) → Some r ≡ o → u ≡ s → mid ≡ ev → (line : ℕ) → after_plan before line (unless o plan) ≡ said left line (Refused r)
+      refuses-all r is nothing quiet line =
+          plan-unless before line plan o r (sym is)
+          ∙ (λ i. said (record (here (sym nothing i) t h (sym quiet i)) { control = record (here (sym nothing i) t h (sym quiet i)).control { sessions = sym still i } }) line (Refused r))
 
-    pub call-failed : (e : Fault) (q : Plan) → ((line : ℕ) → after_plan before line q ≡ after_plan before line (unless o plan))
-        → unless_stop (kept.refusal_of {T = Unit {0}} (Err e)) ≡ o
-        → (is_stop (kept.refusal_of {T = Unit {0}} (Err e)) ≡ true → Ends (armed_in s) after (kept.refusal_of {T = Unit {0}} (Err e)) before entries)
-        → (is_stop (kept.refusal_of {T = Unit {0}} (Err e)) ≡ false → (u ≡ s) × (mid ≡ ev))
-        → OnAnswer (Err e) (λ a. (line : ℕ) → after_plan before line q ≡ said left line a)
-    call-failed NoMemory q goes is stop calm = tt
-    call-failed (FaultRefused r) q goes is stop calm = λ line. goes line ∙ call-refused r is stop calm line
+      pub call-refused : (r : Refusal) → unless_stop (Some r) ≡ o → StopEnds (Some r) → CalmStays (Some r) → (line : ℕ) → after_plan before line (unless o plan) ≡ said left line (Refused r)
+      call-refused (Stopped server) is stop calm = stops (Stopped server) is (stop refl)
+      call-refused _ is stop calm = refuses-all _ is (calm refl).0 (calm refl).1
 
-  pub call-told : IsTold h ev → Ends (armed_in s) after None before entries → IsTold h mid
-  call-told told ends = told-through h before after entries None (exact s after None before entries pass ends) told
-
-  pub refused-told : IsTold h ev → (r : Refusal) → (is_stop (Some r) ≡ true → Ends (armed_in s) after (Some r) before entries) → (is_stop (Some r) ≡ false → (u ≡ s) × (mid ≡ ev)) → IsTold h mid
-  refused-told told (Stopped server) stop calm = told-through h before after entries (Some (Stopped server)) (exact s after (Some (Stopped server)) before entries pass (stop refl)) told
-  refused-told told _ stop calm = subst (IsTold h) (sym (calm refl).1) told
-
-  pub failed-told : IsTold h ev → (e : Fault)
-      → (is_stop (kept.refusal_of {T = Unit {0}} (Err e)) ≡ true → Ends (armed_in s) after (kept.refusal_of {T = Unit {0}} (Err e)) before entries)
-      → (is_stop (kept.refusal_of {T = Unit {0}} (Err e)) ≡ false → (u ≡ s) × (mid ≡ ev)) → IsTold h mid
-  failed-told told NoMemory stop calm = subst (IsTold h) (sym (calm refl).1) told
-  failed-told told (FaultRefused r) stop calm = refused-told told r stop calm
+      pub call-failed : (e : Fault) (q : Plan) → ((line : ℕ) → after_plan before line q ≡ after_plan before line (unless o plan)) → unless_stop (why e) ≡ o → StopEnds (why e) → CalmStays (why e)
+          → OnAnswer (Err e) (λ a. (line : ℕ) → after_plan before line q ≡ said left line a)
+      call-failed NoMemory q goes is stop calm = tt
+      call-failed (FaultRefused r) q goes is stop calm = λ line. goes line ∙ call-refused r is stop calm line
