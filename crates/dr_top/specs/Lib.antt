@@ -12,3 +12,4 @@ pub mod Located
 pub mod Waiting
 pub mod WellFormed
 pub mod Found
+pub mod Members
