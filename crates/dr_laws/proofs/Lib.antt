@@ -29,6 +29,7 @@ pub mod FitsHolds
 pub mod FitsSessions
 pub mod FitsMembers
 pub mod FitsOrders
+pub mod Awaits
 pub mod Issues
 pub mod Defines
 pub mod Starts
