@@ -1,6 +1,7 @@
 //! A session's master and a server exchange an order and the reply.
 
 ghost use Rattle.std.specs.Prelude.{◌≡◌, ℕ, ◌<◌, ◌≤◌, ◌+◌, true, false, length, None, Some, IfSome, List, OnOk, OnErr, option_map, if◌then◌else◌};
+ghost use Rattle.dr_ids.specs.declared.refusal.Refusal.{Refusal};
 ghost use Rattle.dr_model.specs.declared.event.Event.{Event};
 ghost use Rattle.dr_model.specs.Phases as phases;
 ghost use Rattle.dr_model.specs.SessionEntries.{members_on};
@@ -15,7 +16,7 @@ ghost use Rattle.dr_flash.specs.Faults.{Counted};
 ghost use Rattle.dr_flash.specs.Fit.{RelationsFit};
 ghost use Rattle.dr_flash.specs.Here.{seen, refusal_of, armed_in, IsAtRest};
 ghost use Rattle.dr_gmirror.specs.Orders.{with_sessions, AreReady};
-ghost use Rattle.dr_gmirror.specs.Exchange.{PlanEnds, answer_of, order_in, is_built, Looks, IsNear, MayExchange};
+ghost use Rattle.dr_gmirror.specs.Exchange.{PlanEnds, answer_of, refusal_in, order_in, is_built, Looks, IsNear, MayExchange};
 
 use crate::looks::{Look, apart_refusal, has_member_on, idle_refusal, is_idle, off_refusal};
 use crate::orders::carry_out;
@@ -163,6 +164,8 @@ pub fn exchange<P: Plant>(
     ensures carried { (r : Rest) → PlanEnds (armed_in (P.state p.old)) (seen (P.state p.old) c.now (with_sessions ss.old.sessions r) j.old.events)
         (plans.exchange_on (seen (P.state p.old) c.now (with_sessions ss.old.sessions r) j.old.events).control s.0 (model.mirror_in (model.session_in ss.old.sessions s.0)) server.0 reply (model.members_in (model.session_in ss.old.sessions s.0)))
         (seen (P.state p.new) c.now (with_sessions ss.new.sessions r) j.new.events) (answer_of result s.0 (seen (P.state p.new) c.now (with_sessions ss.new.sessions r) j.new.events).control) }
+    ensures refused { (r : Rest) (why : Refusal) → refusal_in (seen (P.state p.old) c.now (with_sessions ss.old.sessions r) j.old.events).control (model.mirror_in (model.session_in ss.old.sessions s.0)) server.0 (model.members_in (model.session_in ss.old.sessions s.0)) ≡ Some why
+        → (refusal_of result ≡ Some why) × (P.state p.new ≡ P.state p.old) × (j.new ≡ j.old) × (ss.new ≡ ss.old) }
     ensures rest { IsAtRest (P.state p.new) c.now }
     ensures fit { RelationsFit (P.state p.new) c.now }
     ensures unarmed { (q : ℕ) → (P.state p.old).read_fuse q ≡ None → (P.state p.new).read_fuse q ≡ None }

@@ -1,4 +1,4 @@
-use Rattle.std.proofs.Common.{length, ap, sym, subst, ◌∙◌, None, Some}
+use Rattle.std.proofs.Common.{◌≡◌, refl, length, ap, sym, subst, ◌∙◌, None, Some}
 use Rattle.dr_ids.specs.declared.refusal.PhaseName.TheVariants as phase
 use Rattle.dr_ids.specs.declared.refusal.Refusal.TheVariants.{OutOfOrder}
 use Rattle.dr_master.specs.Seen.{order_of}
@@ -8,7 +8,7 @@ use Rattle.dr_model.specs.Sessions.{Mirror, session_in, members_in, mirror_in}
 use Rattle.std.specs.Prelude.{Option}
 use Rattle.dr_flash.specs.Here.{seen, armed_in}
 use Rattle.dr_gmirror.specs.Orders.{with_sessions}
-use Rattle.dr_gmirror.specs.Exchange.{PlanEnds, order_in, answer_of, IsNear}
+use Rattle.dr_gmirror.specs.Exchange.{PlanEnds, order_in, refusal_in, answer_of, IsNear}
 use Rattle.dr_gmirror.proofs.ExchangeLemmas.{refused-plan, look-none, look-some, if-some, plan-none, plan-refused, plan-order}
 use Rattle.dr_gmirror.proofs.exchanging.exchange.Goals as goal
 
@@ -59,3 +59,32 @@ returns-clause-carried g c r =
     subst (λ (p : Plan). PlanEnds (armed_in s) w p u (answer_of c.exchange_order.result c.args.s.0 u.control)) (sym (plan-order w.control c.args.s.0 c.args.server.0 c.args.reply (members_in (session_in c.args.ss.now.sessions c.args.s.0)) o l.0 (Some (order_of c.in-Some-order_of.order)) l.1
     (c.in_default-exchange_refusal.ensures.refusal (with_sessions c.args.ss.now.sessions r) c.args.j.now.events l.0 l.2 near.built) (c.in-Some-order_of.ensures l.0 c.args.server.0 l.2)))
     (c.exchange_order.ensures.carried r)
+
+pub returns-in_default-clause-refused : goal.returns-in_default-clause-refused
+returns-in_default-clause-refused g c r why is =
+    let o = mirror_in (session_in c.args.ss.now.sessions c.args.s.0) in
+    (sym (ap (λ (o : Option Mirror). refusal_in (seen (g.P.Plant.state c.args.p.now) c.args.c.now (with_sessions c.args.ss.now.sessions r) c.args.j.now.events).control o c.args.server.0 (members_in (session_in c.args.ss.now.sessions c.args.s.0))) (look-none o c.args.server.0 c.in_default.ensures)) ∙ is, refl, refl, refl)
+
+pub returns-in-Some-exchange_refusal-clause-refused : goal.returns-in-Some-exchange_refusal-clause-refused
+returns-in-Some-exchange_refusal-clause-refused g c r why is =
+    let o = mirror_in (session_in c.args.ss.now.sessions c.args.s.0) in
+    let l = look-some c.in-Some.x o c.args.server.0 c.in-Some.ensures in
+    let near = if-some (IsNear (length c.args.c.now.names)) o l.0 l.1 c.requires.near in
+    (c.in-Some-exchange_refusal.ensures.refusal (with_sessions c.args.ss.now.sessions r) c.args.j.now.events l.0 l.2 near.built
+    ∙ sym (ap (λ (o : Option Mirror). refusal_in (seen (g.P.Plant.state c.args.p.now) c.args.c.now (with_sessions c.args.ss.now.sessions r) c.args.j.now.events).control o c.args.server.0 (members_in (session_in c.args.ss.now.sessions c.args.s.0))) l.1) ∙ is, refl, refl, refl)
+
+pub returns-in_default-order_of-clause-refused : goal.returns-in_default-order_of-clause-refused
+returns-in_default-order_of-clause-refused g c r why is =
+    let o = mirror_in (session_in c.args.ss.now.sessions c.args.s.0) in
+    let l = look-some c.in-Some.x o c.args.server.0 c.in-Some.ensures in
+    let near = if-some (IsNear (length c.args.c.now.names)) o l.0 l.1 c.requires.near in
+    absurd (let no : None ≡ Some why = c.in_default-exchange_refusal.ensures.refusal (with_sessions c.args.ss.now.sessions r) c.args.j.now.events l.0 l.2 near.built
+    ∙ sym (ap (λ (o : Option Mirror). refusal_in (seen (g.P.Plant.state c.args.p.now) c.args.c.now (with_sessions c.args.ss.now.sessions r) c.args.j.now.events).control o c.args.server.0 (members_in (session_in c.args.ss.now.sessions c.args.s.0))) l.1) ∙ is in cc)
+
+pub returns-clause-refused : goal.returns-clause-refused
+returns-clause-refused g c r why is =
+    let o = mirror_in (session_in c.args.ss.now.sessions c.args.s.0) in
+    let l = look-some c.in-Some.x o c.args.server.0 c.in-Some.ensures in
+    let near = if-some (IsNear (length c.args.c.now.names)) o l.0 l.1 c.requires.near in
+    absurd (let no : None ≡ Some why = c.in_default-exchange_refusal.ensures.refusal (with_sessions c.args.ss.now.sessions r) c.args.j.now.events l.0 l.2 near.built
+    ∙ sym (ap (λ (o : Option Mirror). refusal_in (seen (g.P.Plant.state c.args.p.now) c.args.c.now (with_sessions c.args.ss.now.sessions r) c.args.j.now.events).control o c.args.server.0 (members_in (session_in c.args.ss.now.sessions c.args.s.0))) l.1) ∙ is in cc)
