@@ -26,3 +26,4 @@ pub mod PathLemmas
 pub mod DrainLemmas
 pub mod FreezeLemmas
 pub mod SessionLemmas
+pub mod ExchangeLemmas
