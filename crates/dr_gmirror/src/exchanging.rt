@@ -115,7 +115,7 @@ fn exchange_order<P: Plant>(
     requires members { AreReady (P.state p.old) c.now (model.members_in (model.session_in ss.old.sessions s.0)) }
     requires running { (P.state p.old).on server.0 ≡ true }
     requires low { server.0 < 8 }
-    requires may { (r : Rest) → MayExchange (seen (P.state p.old) c.now (with_sessions ss.old.sessions r) j.old.events) s.0 server.0 (master.order_of order) }
+    requires may { (r : Rest) × MayExchange (seen (P.state p.old) c.now (with_sessions ss.old.sessions r) j.old.events) s.0 server.0 (master.order_of order) }
     requires room { length (model.members_in (model.session_in ss.old.sessions s.0)) + 2 ≤ j.old.spare }
     ensures carried { (r : Rest) → PlanEnds (armed_in (P.state p.old)) (seen (P.state p.old) c.now (with_sessions ss.old.sessions r) j.old.events)
         (plans.exchange_done s.0 server.0 reply (members_on server.0 (model.members_in (model.session_in ss.old.sessions s.0))) (Some (master.order_of order)))
@@ -159,7 +159,9 @@ pub fn exchange<P: Plant>(
     requires low { server.0 < 8 }
     requires known { server.0 < length c.now.names }
     requires near { IfSome (model.mirror_in (model.session_in ss.old.sessions s.0)) (IsNear (length c.now.names)) }
-    requires may { (r : Rest) (o : phases.Order) → order_in (model.mirror_in (model.session_in ss.old.sessions s.0)) server.0 ≡ Some o → MayExchange (seen (P.state p.old) c.now (with_sessions ss.old.sessions r) j.old.events) s.0 server.0 o }
+    requires may { (r : Rest) × ((o : phases.Order)
+        → refusal_in (seen (P.state p.old) c.now (with_sessions ss.old.sessions r) j.old.events).control (model.mirror_in (model.session_in ss.old.sessions s.0)) server.0 (model.members_in (model.session_in ss.old.sessions s.0)) ≡ None
+        → order_in (model.mirror_in (model.session_in ss.old.sessions s.0)) server.0 ≡ Some o → MayExchange (seen (P.state p.old) c.now (with_sessions ss.old.sessions r) j.old.events) s.0 server.0 o) }
     requires room { length (model.members_in (model.session_in ss.old.sessions s.0)) + 2 ≤ j.old.spare }
     ensures carried { (r : Rest) → PlanEnds (armed_in (P.state p.old)) (seen (P.state p.old) c.now (with_sessions ss.old.sessions r) j.old.events)
         (plans.exchange_on (seen (P.state p.old) c.now (with_sessions ss.old.sessions r) j.old.events).control s.0 (model.mirror_in (model.session_in ss.old.sessions s.0)) server.0 reply (model.members_in (model.session_in ss.old.sessions s.0)))

@@ -7,7 +7,7 @@ use Rattle.dr_model.specs.Tables.{Once}
 use Rattle.dr_model.specs.Control.{Control}
 use Rattle.dr_model.specs.Entries.{fields_at}
 use Rattle.dr_model.specs.Sessions.{Session, Mirror}
-use Rattle.dr_model.specs.Groups.{In, MemberStands, SessionFits, Lone, IsRecorder, Groups}
+use Rattle.dr_model.specs.Groups.{In, MemberStands, MasterStands, SessionFits, Lone, IsRecorder, Groups}
 use Rattle.dr_groups.specs.Frames.{Grows, Quieter, Quiet}
 use Rattle.dr_groups.proofs.Lists.{false_true}
 use Rattle.dr_groups.proofs.Changes.{numbers}
@@ -26,6 +26,9 @@ stands-grows k j m grows stands = record {
   target_tracks = grows.tracks m.c.0 stands.c ∙ (stands.target_tracks ∙ sym (grows.tracks m.b.0 stands.b));
 }
 
+pub master-grows : (k j : Control) (r : Mirror) → Grows k j → MasterStands k r → MasterStands j r
+master-grows k j r grows stands = record { volume = stands.volume; defined = grows.defined stands.volume stands.defined; server = grows.server stands.volume stands.defined ∙ stands.server; in_phase = stands.in_phase }
+
 pub silent-quieter : (k j : Control) (v : ℕ) → Quieter k j → (fields_at k v).recording ≡ false → (fields_at j v).recording ≡ false
 silent-quieter k j v quieter silent = by (cases_Bool (fields_at j v).recording)
   where
@@ -38,6 +41,7 @@ fits-grows k j x grows quieter fits = record {
   sound = fits.sound;
   once = fits.once;
   stands = λ m here. stands-grows k j m grows (fits.stands m here);
+  runs = λ r has. master-grows k j r grows (fits.runs r has);
   finished = λ r has ends m here out. silent-quieter k j m.a.0 quieter (fits.finished r has ends m here out);
 }
 

@@ -11,17 +11,18 @@ use Rattle.dr_model.specs.Phases as phases
 use Rattle.dr_model.specs.Control.{Control}
 use Rattle.dr_model.specs.Entries.{fields_at}
 use Rattle.dr_model.specs.Sessions.{Session, Mirror, servers_of, with_mirror, with_master, paused, mirror_lost_since}
-use Rattle.dr_model.specs.Groups.{In, Finished, SessionFits}
+use Rattle.dr_model.specs.Groups.{In, Finished, MasterStands, SessionFits}
 use Rattle.dr_groups.specs.Frames.{ServerSilent}
 use Rattle.dr_groups.proofs.Lists.{false_true}
 use Rattle.dr_groups.proofs.AtLemmas.{Told}
 use Rattle.dr_groups.proofs.Frames.{Turns}
-use Rattle.dr_groups.proofs.Sound.{among-servers, among-without, mapped}
+use Rattle.dr_groups.proofs.Sound.{among-servers, among-without, mapped, master-with}
 
 -- what a master becomes, and the laws of its session stay
 pub record MirrorTurns (k : Control) (x : Session) (r q : Mirror) : Type 0 where
   pub servers : q.master.servers ≡ r.master.servers
   pub number : q.master.number ≡ r.master.number
+  pub runs : MasterStands k q
   pub finished : q.master.phase ≡ phase.Finishing → (m : Member) → In m x.members → Finished k q m
   pub busy : r.master.phase ≢ phase.Idle → (m : Member) → In m x.members → (fields_at k m.a.0).recording ≡ true → q.master.phase ≢ phase.Idle
 
@@ -36,6 +37,7 @@ turn-mirror k x g fits turns = record {
     };
     once = fits.once;
     stands = fits.stands;
+    runs = λ r h. let p = mapped g x.mirror r h in subst (MasterStands k) (sym p.is) (turns p.from p.was).runs;
     finished = λ r h ends m here.
         let p = mapped g x.mirror r h in
         subst (λ q. Finished k q m) (sym p.is) ((turns p.from p.was).finished (sym (ap (λ (q : Mirror). q.master.phase) p.is) ∙ ends) m here);
@@ -51,10 +53,11 @@ turn-mirror k x g fits turns = record {
 }
 
 -- the phase stays, and who is owed its order
-pub turn-still : (k : Control) (x : Session) (r q : Mirror) → SessionFits k x → x.mirror ≡ Some r → q.master ≡ r.master → MirrorTurns k x r q
-turn-still k x r q fits has same = record {
+pub turn-still : (k : Control) (x : Session) (r q : Mirror) → SessionFits k x → x.mirror ≡ Some r → q.master ≡ r.master → q.server ≡ r.server → MirrorTurns k x r q
+turn-still k x r q fits has same at = record {
   servers = ap (λ (m : phases.Master). m.servers) same;
   number = ap (λ (m : phases.Master). m.number) same;
+  runs = let s = fits.runs r has in record { volume = s.volume; defined = s.defined; server = s.server ∙ sym at; in_phase = λ e. s.in_phase (sym (ap (λ (m : phases.Master). m.phase) same) ∙ e) };
   finished = λ ends m here out. fits.finished r has (sym (ap (λ (m : phases.Master). m.phase) same) ∙ ends) m here (sym (ap (λ (n : phases.Master). phases.is_among m.server.0 n.owed) same) ∙ out);
   busy = λ busy m here records idle. busy (sym (ap (λ (m : phases.Master). m.phase) same) ∙ idle);
 }
@@ -67,20 +70,25 @@ pub begins-finished : (k : Control) (x : Session) (r : Mirror) (p : PhaseName) (
 begins-finished k x r p m fits has ends here out =
     false_true out (ap (phases.is_among m.server.0) (owed-all p r.master.servers ends ∙ fits.sound.servers r has) ∙ among-servers x m fits.sound here)
 
-pub turn-begins : (k : Control) (x : Session) (r : Mirror) (p : PhaseName) → SessionFits k x → x.mirror ≡ Some r
+pub turn-begins : (k : Control) (x : Session) (r : Mirror) (p : PhaseName) → SessionFits k x → x.mirror ≡ Some r → p ≢ phase.None
     → (r.master.phase ≢ phase.Idle → (m : Member) → In m x.members → (fields_at k m.a.0).recording ≡ true → p ≢ phase.Idle)
     → MirrorTurns k x r (record r { master = phases.enters p r.master })
-turn-begins k x r p fits has busy = record {
+turn-begins k x r p fits has some busy = record {
   servers = refl;
   number = refl;
+  runs = master-with k r (phases.enters p r.master) (fits.runs r has) some;
   finished = λ ends m here. begins-finished k x r p m fits has ends here;
   busy = busy;
 }
 
 -- ---- the master is lost
 
+lost-some : (servers : List ℕ) → phases.phase_lost servers ≢ phase.None
+lost-some [] e = absurd cc
+lost-some (s ∷ servers) e = absurd cc
+
 pub turn-lost : (k : Control) (x : Session) (r : Mirror) → SessionFits k x → x.mirror ≡ Some r → MirrorTurns k x r (record r { master = phases.lost r.master })
-turn-lost k x r fits has = turn-begins k x r (phases.phase_lost r.master.servers) fits has (λ busy m here records. some-servers m here r.master.servers (fits.sound.servers r has))
+turn-lost k x r fits has = turn-begins k x r (phases.phase_lost r.master.servers) fits has (lost-some r.master.servers) (λ busy m here records. some-servers m here r.master.servers (fits.sound.servers r has))
   where
     some-servers : (m : Member) → In m x.members → (servers : List ℕ) → servers ≡ servers_of x.members → phases.phase_lost servers ≢ phase.Idle
     some-servers m here [] is idle = let among : false ≡ true = ap (phases.is_among m.server.0) is ∙ among-servers x m fits.sound here in absurd cc
@@ -88,7 +96,7 @@ turn-lost k x r fits has = turn-begins k x r (phases.phase_lost r.master.servers
 
 pub turn-lost_if : (k : Control) (x : Session) (r : Mirror) (b : Bool) → SessionFits k x → x.mirror ≡ Some r → MirrorTurns k x r (cond b (record r { master = phases.lost r.master }) r)
 turn-lost_if k x r true fits has = turn-lost k x r fits has
-turn-lost_if k x r false fits has = turn-still k x r r fits has refl
+turn-lost_if k x r false fits has = turn-still k x r r fits has refl refl
 
 -- ---- an attempt is aborted
 
@@ -100,9 +108,17 @@ aborts-busy phase.Flashing q is idle = absurd cc
 aborts-busy phase.Committing q is idle = absurd cc
 aborts-busy p q is idle = absurd cc
 
+aborts-some : (p q : PhaseName) → phases.aborted_phase p ≡ Some q → q ≢ phase.None
+aborts-some phase.Coordinating q is e = absurd cc
+aborts-some phase.Releasing q is e = absurd cc
+aborts-some phase.Draining q is e = absurd cc
+aborts-some phase.Flashing q is e = absurd cc
+aborts-some phase.Committing q is e = absurd cc
+aborts-some p q is e = absurd cc
+
 turn-enters_some : (k : Control) (x : Session) (r : Mirror) (o : Option PhaseName) → SessionFits k x → x.mirror ≡ Some r → phases.aborted_phase r.master.phase ≡ o → MirrorTurns k x r (record r { master = phases.enters_some o r.master })
-turn-enters_some k x r None fits has is = turn-still k x r (record r { master = r.master }) fits has refl
-turn-enters_some k x r (Some p) fits has is = turn-begins k x r p fits has (λ busy m here records. aborts-busy r.master.phase p is)
+turn-enters_some k x r None fits has is = turn-still k x r (record r { master = r.master }) fits has refl refl
+turn-enters_some k x r (Some p) fits has is = turn-begins k x r p fits has (aborts-some r.master.phase p is) (λ busy m here records. aborts-busy r.master.phase p is)
 
 pub turn-aborted : (k : Control) (x : Session) (r : Mirror) → SessionFits k x → x.mirror ≡ Some r → MirrorTurns k x r (record r { master = phases.aborted r.master })
 turn-aborted k x r fits has = turn-enters_some k x r (phases.aborted_phase r.master.phase) fits has refl
@@ -113,6 +129,10 @@ idle-after : (p : PhaseName) → phases.next_phase p ≡ phase.Idle → (p ≡ p
 idle-after phase.Finishing h = inl refl
 idle-after phase.Idle h = inr refl
 idle-after p h = absurd cc
+
+next-some : (p : PhaseName) → p ≢ phase.None → phases.next_phase p ≢ phase.None
+next-some phase.None some e = some refl
+next-some p some e = absurd cc
 
 -- a member of a session that finishes doesn't record, where its server replies, or has replied
 pub replied-silent : (k : Control) (x : Session) (r : Mirror) (server : ℕ) (m : Member) → SessionFits k x → x.mirror ≡ Some r → r.master.phase ≡ phase.Finishing → ServerSilent k x server → In m x.members
@@ -125,7 +145,7 @@ replied-silent k x r server m fits has ends silent here out = by (eqb_tells m.se
 
 turn-left : (k : Control) (x : Session) (r : Mirror) (server : ℕ) (rest : List ℕ) → SessionFits k x → x.mirror ≡ Some r → (r.master.phase ≡ phase.Finishing → ServerSilent k x server)
     → phases.without server r.master.owed ≡ rest → MirrorTurns k x r (record r { master = phases.left_with r.master rest })
-turn-left k x r server [] fits has silent is = turn-begins k x r (phases.next_phase r.master.phase) fits has (λ busy m here records idle. by busy m here records (idle-after r.master.phase idle))
+turn-left k x r server [] fits has silent is = turn-begins k x r (phases.next_phase r.master.phase) fits has (next-some r.master.phase (fits.runs r has).in_phase) (λ busy m here records idle. by busy m here records (idle-after r.master.phase idle))
   where
     by : r.master.phase ≢ phase.Idle → (m : Member) → In m x.members → (fields_at k m.a.0).recording ≡ true → (r.master.phase ≡ phase.Finishing) ⊎ (r.master.phase ≡ phase.Idle) → ⊥
     by busy m here records (inl ends) = false_true (replied-silent k x r server m fits has ends (silent ends) here (ap (phases.is_among m.server.0) is)) records
@@ -133,6 +153,7 @@ turn-left k x r server [] fits has silent is = turn-begins k x r (phases.next_ph
 turn-left k x r server (s ∷ rest) fits has silent is = record {
   servers = refl;
   number = refl;
+  runs = master-with k r (phases.left_with r.master (s ∷ rest)) (fits.runs r has) (fits.runs r has).in_phase;
   finished = λ ends m here out. replied-silent k x r server m fits has ends (silent ends) here (ap (phases.is_among m.server.0) is ∙ out);
   busy = λ busy m here records. busy;
 }
@@ -144,10 +165,11 @@ turn-done k x r server fits has silent = turn-left k x r server (phases.without 
 lost-unfinished : (p : PhaseName) → p ≡ phase.Lost → p ≢ phase.Finishing
 lost-unfinished p is ends = absurd cc
 
-pub turn-reported : (k : Control) (x : Session) (r : Mirror) (server : ℕ) (xs : List Shown) → r.master.phase ≡ phase.Lost → MirrorTurns k x r (record r { master = phases.replied r.master server (phases.Reported xs) })
-turn-reported k x r server xs is = record {
+pub turn-reported : (k : Control) (x : Session) (r : Mirror) (server : ℕ) (xs : List Shown) → SessionFits k x → x.mirror ≡ Some r → r.master.phase ≡ phase.Lost → MirrorTurns k x r (record r { master = phases.replied r.master server (phases.Reported xs) })
+turn-reported k x r server xs fits has is = record {
   servers = refl;
   number = refl;
+  runs = master-with k r (phases.replied r.master server (phases.Reported xs)) (fits.runs r has) (fits.runs r has).in_phase;
   finished = λ ends m here out. absurd (lost-unfinished r.master.phase is ends);
   busy = λ busy m here records. busy;
 }
@@ -156,13 +178,17 @@ settled-busy : (d : Decision) → phases.phase_by d ≢ phase.Idle
 settled-busy (CommitRest n) idle = absurd cc
 settled-busy d idle = absurd cc
 
+settled-some : (d : Decision) → phases.phase_by d ≢ phase.None
+settled-some (CommitRest n) e = absurd cc
+settled-some d e = absurd cc
+
 pub turn-settled : (k : Control) (x : Session) (r : Mirror) → SessionFits k x → x.mirror ≡ Some r → MirrorTurns k x r (record r { master = phases.settled r.master })
-turn-settled k x r fits has = turn-begins k x r (phases.phase_by (decision r.master.reports)) fits has (λ busy m here records. settled-busy (decision r.master.reports))
+turn-settled k x r fits has = turn-begins k x r (phases.phase_by (decision r.master.reports)) fits has (settled-some (decision r.master.reports)) (λ busy m here records. settled-busy (decision r.master.reports))
 
 -- ---- whole sessions
 
 pub turn-paused : (k : Control) (x : Session) (on : Bool) → SessionFits k x → Turns k x (paused on x)
-turn-paused k x on fits = turn-mirror k x (λ r. record r { paused = on }) fits (λ r has. turn-still k x r (record r { paused = on }) fits has refl)
+turn-paused k x on fits = turn-mirror k x (λ r. record r { paused = on }) fits (λ r has. turn-still k x r (record r { paused = on }) fits has refl refl)
 
 pub session-aborted : (k : Control) (x : Session) → SessionFits k x → Turns k x (with_master phases.aborted x)
 session-aborted k x fits = turn-mirror k x (λ r. record r { master = phases.aborted r.master }) fits (λ r has. turn-aborted k x r fits has)
@@ -174,10 +200,10 @@ pub session-done : (k : Control) (x : Session) (server : ℕ) → SessionFits k 
 session-done k x server fits silent = turn-mirror k x (λ r. record r { master = phases.replied r.master server phases.Done }) fits (λ r has. turn-done k x r server fits has (silent r has))
 
 pub session-waits : (k : Control) (x : Session) (server : ℕ) → SessionFits k x → Turns k x (with_master (λ m. phases.replied m server phases.NotYet) x)
-session-waits k x server fits = turn-mirror k x (λ r. record r { master = phases.replied r.master server phases.NotYet }) fits (λ r has. turn-still k x r (record r { master = r.master }) fits has refl)
+session-waits k x server fits = turn-mirror k x (λ r. record r { master = phases.replied r.master server phases.NotYet }) fits (λ r has. turn-still k x r (record r { master = r.master }) fits has refl refl)
 
 pub session-reported : (k : Control) (x : Session) (server : ℕ) (xs : List Shown) → SessionFits k x → ((r : Mirror) → x.mirror ≡ Some r → r.master.phase ≡ phase.Lost) → Turns k x (with_master (λ m. phases.replied m server (phases.Reported xs)) x)
-session-reported k x server xs fits is = turn-mirror k x (λ r. record r { master = phases.replied r.master server (phases.Reported xs) }) fits (λ r has. turn-reported k x r server xs (is r has))
+session-reported k x server xs fits is = turn-mirror k x (λ r. record r { master = phases.replied r.master server (phases.Reported xs) }) fits (λ r has. turn-reported k x r server xs fits has (is r has))
 
 pub session-settled : (k : Control) (x : Session) → SessionFits k x → Turns k x (with_master phases.settled x)
 session-settled k x fits = turn-mirror k x (λ r. record r { master = phases.settled r.master }) fits (λ r has. turn-settled k x r fits has)

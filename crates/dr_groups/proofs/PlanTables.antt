@@ -1,5 +1,5 @@
 -- What plans of lines on sessions make of the tables keeps the laws of sessions.
-use Rattle.std.proofs.Common.{ℕ, ◌≡◌, refl, ap, ◌∙◌, Bool, true, false, cond, nat_lt, List, Option, None, Some}
+use Rattle.std.proofs.Common.{ℕ, ◌≡◌, refl, ap, ◌∙◌, Bool, nat_eq, option_map, true, false, cond, nat_lt, List, Option, None, Some}
 use Rattle.std.specs.List.{find}
 use Rattle.std.specs.Option.{option_or}
 use Rattle.dr_ids.specs.declared.names.Member.{Member}
@@ -9,13 +9,16 @@ use Rattle.dr_ids.specs.declared.refusal.Refusal.TheVariants.{Duplicate}
 use Rattle.dr_ids.specs.declared.refusal.Kind.TheVariants.{Volume as OfVolume}
 use Rattle.dr_model.specs.declared.step.Name.{Name}
 use Rattle.dr_model.specs.Phases as phases
-use Rattle.dr_model.specs.Control.{Control}
+use Rattle.dr_model.specs.Control.{Control, is_volume}
 use Rattle.dr_model.specs.PlanParts.{Plan, unless, on_owner, on_session, owner_of}
 use Rattle.dr_model.specs.SessionEntries.{first_number}
 use Rattle.dr_model.specs.Sessions.{Session, Mirror, session_in, is_member, has_place_of, changed, in_session, busy, leave_refusal, make_refusal, drop_refusal, abort_refusal, join_refusal, joined, paused, with_master}
 use Rattle.dr_model.specs.SessionPlans.{table_plan, says_phase, name_refusal, off_refusal, outside_refusal, master_refusal, join_plan, leave_plan, mirror_plan, pause_mirror_plan, unmirror_plan, abort_plan, taken_refusal, add_done, expel_done, exchange_done}
 use Rattle.dr_model.specs.Groups.{MemberStands, PlacesDiffer, Groups}
+use Rattle.dr_model.specs.Entries.{subsystem, first_of}
 use Rattle.dr_groups.specs.Frames.{ServerSilent}
+use Rattle.std.proofs.lemmas.Bool.{eq-eqb}
+use Rattle.dr_groups.proofs.Lists.{found, any-some, some_is}
 use Rattle.dr_groups.proofs.Tables.{groups-joined, groups-left, groups-mirrored, groups-paused, groups-unmirrored, groups-aborted, groups-answered}
 use Rattle.dr_groups.proofs.Members.{groups-added, groups-removed}
 
@@ -36,6 +39,23 @@ owner-first : (k : Control) (o : Option ℕ) (plan : ℕ → Plan) → Groups k 
 owner-first k None plan groups go = groups
 owner-first k (Some s) plan groups go = go s
 
+owner-found : (k : Control) (o : Option ℕ) (plan : ℕ → Plan) → Groups k → ((s : ℕ) → o ≡ Some s → Groups ((plan s).first k)) → Groups ((on_owner o plan).first k)
+owner-found k None plan groups go = groups
+owner-found k (Some s) plan groups go = go s refl
+
+-- the server of a logical subsystem has a volume
+pub record OwnedVolume (k : Control) (owner : ℕ) : Type 0 where
+  pub volume : ℕ
+  pub defined : is_volume k volume ≡ true
+  pub server : (k.volume volume).server ≡ owner
+
+pub owned-volume : (k : Control) (l owner : ℕ) → owner_of k l ≡ Some owner → OwnedVolume k owner
+owned-volume k l owner is = by (first_of k l) refl is
+  where
+    by : (o : Option ℕ) → first_of k l ≡ o → option_map (λ v. (k.volume v).server) o ≡ Some owner → OwnedVolume k owner
+    by None none e = absurd cc
+    by (Some v) some e = record { volume = v; defined = any-some (nat_eq v) k.volumes v (found (λ v. nat_eq (subsystem v) l) k.volumes v some).0 (eq-eqb v v refl); server = some_is e }
+
 session-first : (k : Control) (o : Option Session) (plan : Session → Plan) → Groups k → ((x : Session) → o ≡ Some x → Groups ((plan x).first k)) → Groups ((on_session o plan).first k)
 session-first k None plan groups go = groups
 session-first k (Some x) plan groups go = go x refl
@@ -49,16 +69,17 @@ leaves-first k dev l s groups = owner-first k (owner_of k l) _ groups (λ owner.
     groups-left k s l x groups found (neither (name_refusal k dev owner) (leave_refusal (Some x) s l) none).1)))
 
 pub mirrors-first : (k : Control) (dev : Option Name) (l s : ℕ) → Groups k → Groups ((mirror_plan k dev l s).first k)
-mirrors-first k dev l s groups = owner-first k (owner_of k l) _ groups (λ owner. session-first k (session_in k.sessions s) _ groups (λ x found. unless-first k _ _ groups (λ none.
+mirrors-first k dev l s groups = owner-found k (owner_of k l) _ groups (λ owner owned. session-first k (session_in k.sessions s) _ groups (λ x found. unless-first k _ _ groups (λ none.
+    let at = owned-volume k l owner owned in
     groups-mirrored k s owner x groups found (no-maker x.mirror
-    (neither (off_refusal k owner) (make_refusal x.mirror) (neither (outside_refusal x l) _ (neither (name_refusal k dev owner) _ none).1).1).1))))
+    (neither (off_refusal k owner) (make_refusal x.mirror) (neither (outside_refusal x l) _ (neither (name_refusal k dev owner) _ none).1).1).1) at.volume at.defined at.server)))
 
 pub pauses-first : (k : Control) (dev : Option Name) (l s : ℕ) (on : Bool) → Groups k → Groups ((pause_mirror_plan k dev l s on).first k)
 pauses-first k dev l s on groups = owner-first k (owner_of k l) _ groups (λ owner. session-first k (session_in k.sessions s) _ groups (λ x found.
     unless-first k (option_or (name_refusal k dev owner) (option_or (outside_refusal x l) (master_refusal k x.mirror))) (table_plan (changed s (paused on))) groups (λ none. groups-paused k s on groups)))
 
 pub unmirrors-first : (k : Control) (dev : Option Name) (l s : ℕ) → Groups k → Groups ((unmirror_plan k dev l s).first k)
-unmirrors-first k dev l s groups = owner-first k (owner_of k l) _ groups (λ owner. session-first k (session_in k.sessions s) _ groups (λ x found. unless-first k _ _ groups (λ none.
+unmirrors-first k dev l s groups = owner-found k (owner_of k l) _ groups (λ owner owned. session-first k (session_in k.sessions s) _ groups (λ x found. unless-first k _ _ groups (λ none.
     groups-unmirrored k s x groups found
     (neither (master_refusal k x.mirror) (drop_refusal x.mirror) (neither (outside_refusal x l) _ (neither (name_refusal k dev owner) _ none).1).1).1)))
 

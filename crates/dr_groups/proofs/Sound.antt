@@ -1,5 +1,5 @@
 -- What stays true of a session by itself, and of its master.
-use Rattle.std.proofs.Common.{ℕ, zero, suc, ◌≡◌, ◌≢◌, ◌<◌, ◌⊎◌, inl, inr, refl, ap, sym, ◌∙◌, max, ◌+◌, Bool, true, cond, not, ◌||◌, nat_eq, nat_lt, List, [], ◌∷◌, ◌++◌, map, filter, Option, None, Some, option_map, arith, ◌==◌}
+use Rattle.std.proofs.Common.{ℕ, zero, suc, ◌≡◌, ◌≢◌, ◌<◌, ◌⊎◌, inl, inr, refl, ap, sym, ◌∙◌, subst, max, ◌+◌, Bool, true, cond, not, ◌||◌, nat_eq, nat_lt, List, [], ◌∷◌, ◌++◌, map, filter, Option, None, Some, option_map, arith, ◌==◌}
 use Rattle.std.specs.List.{list_any, range_with_len}
 use Rattle.std.proofs.lemmas.Bool.{ltb-true, eq-eqb, ne_eqb}
 use Rattle.std.proofs.lemmas.Bool.Decides.{eqb_tells}
@@ -11,7 +11,7 @@ use Rattle.dr_model.specs.Phases as phases
 use Rattle.dr_model.specs.Tables.{Once}
 use Rattle.dr_model.specs.Control.{Control}
 use Rattle.dr_model.specs.Sessions.{Session, Mirror, IsSound, servers_of, all_low, with_mirror, with_members, raised, begun, mirrored_by, unmirrored, busy, unless_idle, drop_refusal, new_session}
-use Rattle.dr_model.specs.Groups.{In, MemberStands, SessionFits}
+use Rattle.dr_model.specs.Groups.{In, MemberStands, MasterStands, SessionFits}
 use Rattle.dr_groups.specs.Frames.{Quiet}
 use Rattle.dr_groups.proofs.Lists.{in-joined, from-filter, to-filter, any-some, all-each, each-all, some_is, none_some}
 use Rattle.dr_groups.proofs.AtLemmas.{Told}
@@ -61,6 +61,13 @@ pub record Mapped (g : Mirror → Mirror) (o : Option Mirror) (r : Mirror) : Typ
 pub mapped : (g : Mirror → Mirror) (o : Option Mirror) (r : Mirror) → option_map g o ≡ Some r → Mapped g o r
 mapped g None r h = absurd cc
 mapped g (Some q) r h = record { from = q; was = refl; is = sym (some_is h) }
+
+-- a master that stays on its server, in a phase
+pub master-turns : (k : Control) (g : Mirror → Mirror) (o : Option Mirror) → ((r : Mirror) → o ≡ Some r → MasterStands k (g r)) → (r : Mirror) → option_map g o ≡ Some r → MasterStands k r
+master-turns k g o each r h = let p = mapped g o r h in subst (MasterStands k) (sym p.is) (each p.from p.was)
+
+pub master-with : (k : Control) (r : Mirror) (m : phases.Master) → MasterStands k r → m.phase ≢ phase.None → MasterStands k (record r { master = m })
+master-with k r m stands some = record { volume = stands.volume; defined = stands.defined; server = stands.server; in_phase = some }
 
 -- a master that isn't changed in its servers and its number
 pub sound-mirror : (g : Mirror → Mirror) (x : Session) → ((r : Mirror) → ((g r).master.servers ≡ r.master.servers) × ((g r).master.number ≡ r.master.number)) → IsSound x → IsSound (with_mirror g x)
@@ -149,11 +156,11 @@ abbrev pub primaries : List Member → List ℕ
 primaries ms = map (λ (m : Member). m.a.0) ms
 
 -- where the master isn't Finishing, a session fits by itself and its members
-pub fits-calm : (k : Control) (x : Session) → IsSound x → Once (primaries x.members) → ((m : Member) → In m x.members → MemberStands k m) → ((r : Mirror) → x.mirror ≡ Some r → r.master.phase ≢ phase.Finishing) → SessionFits k x
-fits-calm k x sound once stands calm = record { sound = sound; once = once; stands = stands; finished = λ r has ends m here out. absurd (calm r has ends) }
+pub fits-calm : (k : Control) (x : Session) → IsSound x → Once (primaries x.members) → ((m : Member) → In m x.members → MemberStands k m) → ((r : Mirror) → x.mirror ≡ Some r → MasterStands k r) → ((r : Mirror) → x.mirror ≡ Some r → r.master.phase ≢ phase.Finishing) → SessionFits k x
+fits-calm k x sound once stands runs calm = record { sound = sound; once = once; stands = stands; runs = runs; finished = λ r has ends m here out. absurd (calm r has ends) }
 
 idle-calm : (p : PhaseName) → p ≡ phase.Idle → p ≢ phase.Finishing
 idle-calm p idle ends = absurd cc
 
-pub fits-quiet : (k : Control) (x : Session) → IsSound x → Once (primaries x.members) → ((m : Member) → In m x.members → MemberStands k m) → Quiet x → SessionFits k x
-fits-quiet k x sound once stands quiet = fits-calm k x sound once stands (λ r has. idle-calm r.master.phase (quiet r has))
+pub fits-quiet : (k : Control) (x : Session) → IsSound x → Once (primaries x.members) → ((m : Member) → In m x.members → MemberStands k m) → ((r : Mirror) → x.mirror ≡ Some r → MasterStands k r) → Quiet x → SessionFits k x
+fits-quiet k x sound once stands runs quiet = fits-calm k x sound once stands runs (λ r has. idle-calm r.master.phase (quiet r has))

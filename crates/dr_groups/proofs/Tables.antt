@@ -8,11 +8,11 @@ use Rattle.dr_ids.specs.declared.refusal.PhaseName.TheVariants as phase
 use Rattle.dr_model.specs.Decisions.{Shown}
 use Rattle.dr_model.specs.Phases as phases
 use Rattle.dr_model.specs.Tables.{Once}
-use Rattle.dr_model.specs.Control.{Control}
+use Rattle.dr_model.specs.Control.{Control, is_volume}
 use Rattle.dr_model.specs.SessionEntries.{is_drained, reply_after}
 use Rattle.dr_model.specs.SessionPlans.{answered_by}
 use Rattle.dr_model.specs.Sessions.{Session, Mirror, session_in, has_subsystem, has_member_in, is_only, with_mirror, with_master, mirrored_by, unmirrored, paused, mirror_lost_since, lost_since, joined_by, left_by, new_session, changed, without_session, joins, joined, leaves, left, last_refusal, leave_refusal, not_in_session, in_session, drop_refusal}
-use Rattle.dr_model.specs.Groups.{In, SessionFits, Groups}
+use Rattle.dr_model.specs.Groups.{In, MasterStands, SessionFits, Groups}
 use Rattle.dr_groups.specs.Frames.{Became, Grows, Quieter, Quiet, ServerSilent}
 use Rattle.dr_groups.proofs.Lists.{some_is, in-first, in-joined, from-map, to-map, once-more}
 use Rattle.dr_groups.proofs.AtLemmas.{Told}
@@ -59,12 +59,14 @@ session-fits k s x groups found = groups.each x (session-found k.sessions s x fo
 table-one : (k : Control) (s : ℕ) (f : Session → Session) (x : Session) → Groups k → session_in k.sessions s ≡ Some x → ((x : Session) → (f x).number ≡ x.number) → Turns k x (f x) → Groups (record k { sessions = changed s f k.sessions })
 table-one k s f x groups found same turns = with-table k (changed s f k.sessions) (fit-changed k s f groups same (one-turns k s f x groups found turns))
 
-pub groups-mirrored : (k : Control) (s server : ℕ) (x : Session) → Groups k → session_in k.sessions s ≡ Some x → x.mirror ≡ None → Groups (record k { sessions = changed s (mirrored_by server) k.sessions })
-groups-mirrored k s server x groups found none =
+pub groups-mirrored : (k : Control) (s server : ℕ) (x : Session) → Groups k → session_in k.sessions s ≡ Some x → x.mirror ≡ None → (v : ℕ) → is_volume k v ≡ true → (k.volume v).server ≡ server
+    → Groups (record k { sessions = changed s (mirrored_by server) k.sessions })
+groups-mirrored k s server x groups found none v defined at =
     let fits = session-fits k s x groups found in
     table-one k s (mirrored_by server) x groups found (λ x. refl)
     (turn-quiet k x (mirrored_by server x) (quiet-none x none) refl
-    (fits-quiet k (mirrored_by server x) (sound-mirrored server x fits.sound) fits.once fits.stands (λ r h. ap (λ (q : Mirror). q.master.phase) (sym (some_is h))))
+    (fits-quiet k (mirrored_by server x) (sound-mirrored server x fits.sound) fits.once fits.stands
+    (λ r h. subst (MasterStands k) (some_is h) (record { volume = v; defined = defined; server = at; in_phase = λ e. absurd cc })) (λ r h. ap (λ (q : Mirror). q.master.phase) (sym (some_is h))))
     (λ m here. here))
 
 pub groups-unmirrored : (k : Control) (s : ℕ) (x : Session) → Groups k → session_in k.sessions s ≡ Some x → drop_refusal x.mirror ≡ None → Groups (record k { sessions = changed s unmirrored k.sessions })
@@ -72,7 +74,7 @@ groups-unmirrored k s x groups found idle =
     let fits = session-fits k s x groups found in
     table-one k s unmirrored x groups found (λ x. refl)
     (turn-quiet k x (unmirrored x) (quiet-drop x idle) refl
-    (fits-quiet k (unmirrored x) (sound-unmirrored x fits.sound) fits.once fits.stands (quiet-none (unmirrored x) refl))
+    (fits-quiet k (unmirrored x) (sound-unmirrored x fits.sound) fits.once fits.stands (λ r h. absurd cc) (quiet-none (unmirrored x) refl))
     (λ m here. here))
 
 -- these hold of whichever session has the number
@@ -142,13 +144,13 @@ turn-subsystems k x y number members last mirror old fits = record {
 }
 
 joined-fits : (k : Control) (l : ℕ) (x : Session) → SessionFits k x → SessionFits k (joined_by l x)
-joined-fits k l x fits = record { sound = record { low = fits.sound.low; servers = fits.sound.servers; number = fits.sound.number }; once = fits.once; stands = fits.stands; finished = fits.finished }
+joined-fits k l x fits = record { sound = record { low = fits.sound.low; servers = fits.sound.servers; number = fits.sound.number }; once = fits.once; stands = fits.stands; runs = fits.runs; finished = fits.finished }
 
 left-fits : (k : Control) (l : ℕ) (x : Session) → SessionFits k x → SessionFits k (left_by l x)
-left-fits k l x fits = record { sound = record { low = fits.sound.low; servers = fits.sound.servers; number = fits.sound.number }; once = fits.once; stands = fits.stands; finished = fits.finished }
+left-fits k l x fits = record { sound = record { low = fits.sound.low; servers = fits.sound.servers; number = fits.sound.number }; once = fits.once; stands = fits.stands; runs = fits.runs; finished = fits.finished }
 
 new-fits : (k : Control) (s l : ℕ) → SessionFits k (new_session s l)
-new-fits k s l = record { sound = sound-new s l; once = tt; stands = λ m here. absurd here; finished = λ r has ends m here. absurd here }
+new-fits k s l = record { sound = sound-new s l; once = tt; stands = λ m here. absurd here; runs = λ r has. absurd cc; finished = λ r has ends m here. absurd here }
 
 -- a new session behind the others, which has no member
 fit-new : (k : Control) (s l : ℕ) → Groups k → session_in k.sessions s ≡ None → Fit k (k.sessions ++ new_session s l ∷ [])

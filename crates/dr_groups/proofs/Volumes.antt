@@ -16,8 +16,8 @@ use Rattle.dr_groups.specs.Frames.{Grows, Quieter, Framed, Recorded, RecordedOr,
 use Rattle.dr_groups.proofs.Lists.{false_true, some_is}
 use Rattle.dr_groups.proofs.AtLemmas.{at_cases}
 use Rattle.dr_groups.proofs.Changes.{same-session, changed-becomes}
-use Rattle.dr_groups.proofs.Frames.{Fit, fit-of, groups-fit, recorder-is, groups-of, stands-grows, Turns, turn-quiet}
-use Rattle.dr_groups.proofs.Sound.{mapped, sound-begun, fits-calm}
+use Rattle.dr_groups.proofs.Frames.{Fit, fit-of, groups-fit, recorder-is, groups-of, stands-grows, master-grows, Turns, turn-quiet}
+use Rattle.dr_groups.proofs.Sound.{mapped, master-turns, master-with, sound-begun, fits-calm}
 use Rattle.dr_groups.proofs.Tables.{with-table, fit-changed}
 
 pub groups-none : Groups no_control
@@ -134,6 +134,7 @@ module _ (j k : Control) (ss : List Session) (v n : ℕ) (grows : Grows j k) (st
       sound = (fit.each y i).sound;
       once = (fit.each y i).once;
       stands = λ m here. stands-grows j k m grows ((fit.each y i).stands m here);
+      runs = λ r has. master-grows j k r grows ((fit.each y i).runs r has);
       finished = finished y i;
     };
     lone = fit.lone;
@@ -151,7 +152,9 @@ groups-held j k v s n frame stays holds old =
 turn-begun : (k : Control) (x : Session) → Quiet x → SessionFits k x → Turns k x (begun x)
 turn-begun k x quiet fits =
     turn-quiet k x (begun x) quiet refl
-    (fits-calm k (begun x) (sound-begun x fits.sound) fits.once fits.stands (λ r has. let p = mapped (λ r. record r { master = phases.begun r.master }) x.mirror r has in begins (sym (ap (λ (q : Mirror). q.master.phase) p.is))))
+    (fits-calm k (begun x) (sound-begun x fits.sound) fits.once fits.stands
+    (master-turns k (λ r. record r { master = phases.begun r.master }) x.mirror (λ r has. master-with k r (phases.begun r.master) (fits.runs r has) (λ e. absurd cc)))
+    (λ r has. let p = mapped (λ r. record r { master = phases.begun r.master }) x.mirror r has in begins (sym (ap (λ (q : Mirror). q.master.phase) p.is))))
     (λ m here. here)
   where
     begins : {p : PhaseName} → phase.Coordinating ≡ p → p ≢ phase.Finishing

@@ -45,9 +45,9 @@ pub fn joining_and_leaving_keep_the_laws_of_sessions()
     ensures left { (k : Control) (s l : ℕ) (x : Session) → Groups k → session_in k.sessions s ≡ Some x → leave_refusal (Some x) s l ≡ None → Groups (record k { sessions = left s l k.sessions }) }
 {}
 
-/// They stay where a master is appointed, dismissed, paused, aborted or lost.
+/// They stay where a master is appointed on the server of a volume, dismissed, paused, aborted or lost.
 pub fn masters_keep_the_laws_of_sessions()
-    ensures mirrored { (k : Control) (s server : ℕ) (x : Session) → Groups k → session_in k.sessions s ≡ Some x → x.mirror ≡ None → Groups (record k { sessions = changed s (mirrored_by server) k.sessions }) }
+    ensures mirrored { (k : Control) (s server : ℕ) (x : Session) → Groups k → session_in k.sessions s ≡ Some x → x.mirror ≡ None → (v : ℕ) → is_volume k v ≡ true → (k.volume v).server ≡ server → Groups (record k { sessions = changed s (mirrored_by server) k.sessions }) }
     ensures unmirrored { (k : Control) (s : ℕ) (x : Session) → Groups k → session_in k.sessions s ≡ Some x → drop_refusal x.mirror ≡ None → Groups (record k { sessions = changed s unmirrored k.sessions }) }
     ensures paused { (k : Control) (s : ℕ) (on : Bool) → Groups k → Groups (record k { sessions = changed s (paused on) k.sessions }) }
     ensures aborted { (k : Control) (s : ℕ) → Groups k → Groups (record k { sessions = changed s (with_master phases.aborted) k.sessions }) }

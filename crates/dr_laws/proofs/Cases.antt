@@ -118,7 +118,7 @@ pub data Case (k : Control) (events : List Event) (line : ℕ) : Plan → Type 0
   Thaws : (l m : ℕ) → Case k events line (thaw_done k l m)
   JoinsSession : (l s : ℕ) → join_refusal (session_in k.sessions s) l k.sessions ≡ None → Case k events line (table_plan (joined s l))
   LeavesSession : (l s : ℕ) → (x : Session) → session_in k.sessions s ≡ Some x → leave_refusal (Some x) s l ≡ None → Case k events line (table_plan (left s l))
-  Mirrors : (owner s : ℕ) → (x : Session) → session_in k.sessions s ≡ Some x → make_refusal x.mirror ≡ None → Case k events line (table_plan (changed s (mirrored_by owner)))
+  Mirrors : (owner s : ℕ) → (x : Session) → session_in k.sessions s ≡ Some x → make_refusal x.mirror ≡ None → (l : ℕ) → owner_of k l ≡ Some owner → Case k events line (table_plan (changed s (mirrored_by owner)))
   PausesMirror : (s : ℕ) → (on : Bool) → Case k events line (table_plan (changed s (paused on)))
   Unmirrors : (s : ℕ) → (x : Session) → session_in k.sessions s ≡ Some x → drop_refusal x.mirror ≡ None → Case k events line (table_plan (changed s unmirrored))
   Aborts : (s : ℕ) → (x : Session) → session_in k.sessions s ≡ Some x → abort_refusal x.mirror ≡ None → Case k events line (aborted s)
@@ -167,6 +167,10 @@ module _ (k : Control) (events : List Event) (line : ℕ) where
   where-owned None p go = Says (Refused (unknown OfLss))
   where-owned (Some s) p go = go s
 
+  where-owner : (o : Option ℕ) (p : ℕ → Plan) → ((s : ℕ) → o ≡ Some s → Is (p s)) → Is (on_owner o p)
+  where-owner None p go = Says (Refused (unknown OfLss))
+  where-owner (Some s) p go = go s refl
+
   apply-case : (n : ℕ) (o : Option Pending) → find (is_write n) k.pending ≡ o → Is (apply_on k o)
   apply-case n None e = Says (Refused (unknown OfWrite))
   apply-case n (Some p) e = Applies n p e
@@ -201,10 +205,10 @@ module _ (k : Control) (events : List Event) (line : ℕ) where
       where-none (option_or (name_refusal k dev owner) (leave_refusal (Some x) s l)) (table_plan (left s l)) (λ free. LeavesSession l s x is (or-passed (name_refusal k dev owner) _ free).1)))
 
   mirror-case : (dev : Option Name) (l s : ℕ) → Is (mirror_plan k dev l s)
-  mirror-case dev l s = where-owned (owner_of k l) _ (λ owner. where-session (session_in k.sessions s) _ (λ x is.
+  mirror-case dev l s = where-owner (owner_of k l) _ (λ owner owned. where-session (session_in k.sessions s) _ (λ x is.
       let why : Option Refusal = option_or (name_refusal k dev owner) (option_or (outside_refusal x l) (option_or (off_refusal k owner) (make_refusal x.mirror))) in
       where-none why (table_plan (changed s (mirrored_by owner)))
-      (λ free. Mirrors owner s x is (or-passed (off_refusal k owner) _ (or-passed (outside_refusal x l) _ (or-passed (name_refusal k dev owner) _ free).1).1).1)))
+      (λ free. Mirrors owner s x is (or-passed (off_refusal k owner) _ (or-passed (outside_refusal x l) _ (or-passed (name_refusal k dev owner) _ free).1).1).1 l owned)))
 
   pause-case : (dev : Option Name) (l s : ℕ) (on : Bool) → Is (pause_mirror_plan k dev l s on)
   pause-case dev l s on = where-owned (owner_of k l) _ (λ owner. where-session (session_in k.sessions s) _ (λ x is.

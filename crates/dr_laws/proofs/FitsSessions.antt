@@ -5,11 +5,11 @@ use Rattle.dr_model.specs.Phases as phases
 use Rattle.dr_model.specs.Sessions.{Session, session_in, joined, left, changed, mirrored_by, paused, unmirrored, with_master, join_refusal, leave_refusal, make_refusal, drop_refusal, abort_refusal}
 use Rattle.dr_model.specs.Control.{Control, World}
 use Rattle.dr_model.specs.Groups.{Groups}
-use Rattle.dr_model.specs.Plans.{Plan}
+use Rattle.dr_model.specs.Plans.{Plan, owner_of}
 use Rattle.dr_model.specs.SessionPlans.{with_sessions, table_plan}
 use Rattle.dr_model.specs.Runs.{begun, masters_lost}
 use Rattle.dr_model.specs.Laws.{Sound}
-use Rattle.dr_groups.proofs.PlanTables.{no-maker}
+use Rattle.dr_groups.proofs.PlanTables.{no-maker, owned-volume}
 use Rattle.dr_groups.proofs.Tables.{groups-lost, groups-joined, groups-left, groups-mirrored, groups-paused, groups-unmirrored, groups-aborted}
 use Rattle.dr_laws.proofs.Cases.{aborted}
 use Rattle.dr_laws.proofs.FitsFlash.{as_begun, sound-begun}
@@ -44,8 +44,10 @@ module _ (w : World) (s : Sound w) where
   pub holds-left : (l i : ℕ) (x : Session) → session_in w.control.sessions i ≡ Some x → leave_refusal (Some x) i l ≡ None → StepHolds w (table_plan (left i l))
   holds-left l i x found free = holds-sessions (left i l) (table_plan (left i l)).says (groups-left w.control i l x s.groups found free)
 
-  pub holds-mirrored : (owner i : ℕ) (x : Session) → session_in w.control.sessions i ≡ Some x → make_refusal x.mirror ≡ None → StepHolds w (table_plan (changed i (mirrored_by owner)))
-  holds-mirrored owner i x found free = holds-sessions (changed i (mirrored_by owner)) (table_plan (changed i (mirrored_by owner))).says (groups-mirrored w.control i owner x s.groups found (no-maker x.mirror free))
+  pub holds-mirrored : (owner i : ℕ) (x : Session) → session_in w.control.sessions i ≡ Some x → make_refusal x.mirror ≡ None → (l : ℕ) → owner_of w.control l ≡ Some owner → StepHolds w (table_plan (changed i (mirrored_by owner)))
+  holds-mirrored owner i x found free l owned =
+      let at = owned-volume w.control l owner owned in
+      holds-sessions (changed i (mirrored_by owner)) (table_plan (changed i (mirrored_by owner))).says (groups-mirrored w.control i owner x s.groups found (no-maker x.mirror free) at.volume at.defined at.server)
 
   pub holds-paused : (i : ℕ) (on : Bool) → StepHolds w (table_plan (changed i (paused on)))
   holds-paused i on = holds-sessions (changed i (paused on)) (table_plan (changed i (paused on))).says (groups-paused w.control i on s.groups)

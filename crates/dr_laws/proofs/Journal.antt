@@ -347,7 +347,7 @@ module _ (k : Control) where
   case-modest events line _ (Thaws l m) = entries-modest _ _
   case-modest events line _ (JoinsSession l s free) = quiet (table_plan (joined s l)).first [] [] (always (Done Alone)) refl unmoved refl
   case-modest events line _ (LeavesSession l s x found free) = quiet (table_plan (left s l)).first [] [] (always (Done Alone)) refl unmoved refl
-  case-modest events line _ (Mirrors owner s x found free) = quiet (table_plan (changed s (mirrored_by owner))).first [] [] (always (Done Alone)) refl unmoved refl
+  case-modest events line _ (Mirrors owner s x found free l owned) = quiet (table_plan (changed s (mirrored_by owner))).first [] [] (always (Done Alone)) refl unmoved refl
   case-modest events line _ (PausesMirror s on) = quiet (table_plan (changed s (paused on))).first [] [] (always (Done Alone)) refl unmoved refl
   case-modest events line _ (Unmirrors s x found free) = quiet (table_plan (changed s unmirrored)).first [] [] (always (Done Alone)) refl unmoved refl
   case-modest events line _ (Aborts s x found free) = quiet (aborted s).first [] [] (says_phase s) refl unmoved refl

@@ -170,7 +170,7 @@ module _ (K : World → Type 0) (rider : Rider K) where
     case-rides _ (Thaws l m) = entries _ _ (thaws l m w.control.volumes (as_begun w) (sound-begun w s))
     case-rides _ (JoinsSession l i free) = sessions _ _
     case-rides _ (LeavesSession l i x found free) = sessions _ _
-    case-rides _ (Mirrors owner i x found free) = sessions _ _
+    case-rides _ (Mirrors owner i x found free l owned) = sessions _ _
     case-rides _ (PausesMirror i on) = sessions _ _
     case-rides _ (Unmirrors i x found free) = sessions _ _
     case-rides _ (Aborts i x found free) = sessions _ _

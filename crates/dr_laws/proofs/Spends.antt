@@ -202,7 +202,7 @@ module _ (w : World) (x : Sound w) (h : IsWithin w.control) where
   case-spends line _ (Thaws l m) = entries-spends _ _ 65 (brief-costs 65 _ (brief-thaw most_volumes w.control.volumes h.volumes l m) _) (omega arith)
   case-spends line _ (JoinsSession l s free) = tables-spends _ _ _ (omega arith)
   case-spends line _ (LeavesSession l s y found free) = tables-spends _ _ _ (omega arith)
-  case-spends line _ (Mirrors owner s y found free) = tables-spends _ _ _ (omega arith)
+  case-spends line _ (Mirrors owner s y found free l owned) = tables-spends _ _ _ (omega arith)
   case-spends line _ (PausesMirror s on) = tables-spends _ _ _ (omega arith)
   case-spends line _ (Unmirrors s y found free) = tables-spends _ _ _ (omega arith)
   case-spends line _ (Aborts s y found free) = record { spends = 0; costs = costs-nil 0 _; after = 0; follows = none-adds; few = omega arith }

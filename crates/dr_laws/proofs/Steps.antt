@@ -136,7 +136,7 @@ module _ (w : World) (s : Sound w) (line : ℕ) where
   case-holds _ (Thaws l m) = holds-thaw l m w s
   case-holds _ (JoinsSession l i free) = holds-joined w s l i free
   case-holds _ (LeavesSession l i x found free) = holds-left w s l i x found free
-  case-holds _ (Mirrors owner i x found free) = holds-mirrored w s owner i x found free
+  case-holds _ (Mirrors owner i x found free l owned) = holds-mirrored w s owner i x found free l owned
   case-holds _ (PausesMirror i on) = holds-paused w s i on
   case-holds _ (Unmirrors i x found free) = holds-unmirrored w s i x found free
   case-holds _ (Aborts i x found free) = holds-aborted w s i x found free

@@ -29,11 +29,19 @@ pub record MemberStands (k : Control) (m : Member) : Type 0 where
 abbrev pub Finished : Control → Mirror → Member → Type 0
 Finished k r m = phases.is_among m.server.0 r.master.owed ≡ false → (fields_at k m.a.0).recording ≡ false
 
--- a session is sound, no primary is that of two of its members, and they stand
+-- a master runs on the server of a volume, and is in a phase
+pub record MasterStands (k : Control) (r : Mirror) : Type 0 where
+  pub volume : ℕ
+  pub defined : is_volume k volume ≡ true
+  pub server : (k.volume volume).server ≡ r.server
+  pub in_phase : r.master.phase ≢ phase.None
+
+-- a session is sound, no primary is that of two of its members, and they and its master stand
 pub record SessionFits (k : Control) (x : Session) : Type 0 where
   pub sound : IsSound x
   pub once : Once (map (λ (m : Member). m.a.0) x.members)
   pub stands : (m : Member) → In m x.members → MemberStands k m
+  pub runs : (r : Mirror) → x.mirror ≡ Some r → MasterStands k r
   pub finished : (r : Mirror) → x.mirror ≡ Some r → r.master.phase ≡ phase.Finishing → (m : Member) → In m x.members → Finished k r m
 
 -- a volume has one place in one member of one session

@@ -27,3 +27,4 @@ pub mod DrainLemmas
 pub mod FreezeLemmas
 pub mod SessionLemmas
 pub mod MemberLemmas
+pub mod ExchangeLemmas

@@ -1,20 +1,33 @@
 //! The step in which a server carries out what the master of a session asks of it.
 
-ghost use Rattle.std.specs.Prelude.{◌≡◌, ℕ, ◌≤◌, false, length};
+ghost use Rattle.std.specs.Prelude.{◌≡◌, ℕ, ◌≤◌, false, length, IfSome};
 ghost use Rattle.dr_model.specs.Laws.{Sound};
 ghost use Rattle.dr_model.specs.Runs.{after_plan, said};
 ghost use Rattle.dr_model.specs.SessionPlans as plans;
+ghost use Rattle.dr_model.specs.Sessions as model;
 ghost use Rattle.dr_top.specs.Faults.{Counts};
 ghost use Rattle.dr_top.specs.Here.{here, said_of, IsReady};
 
+use crate::define::{bytes_of, unknown_server};
+use crate::sessions::{phase_of, unknown_session};
 use crate::tables::Tables;
 use dr_config::Config;
+use dr_gmirror::exchange as exchange_order;
 use dr_ids::{Refusal, SessionId};
 use dr_model::{Addition, Journal, Name};
 use dr_plant::Plant;
+use dr_session::Sessions;
+
+/// The reports to the session's master speak of at most 64 members. Does nothing but state it.
+fn tell_few(sessions: &Sessions, s: SessionId)
+    ensures { IfSome (model.mirror_in (model.session_in sessions.now.sessions s.0)) (λ r. length r.master.reports ≤ 64) }
+{
+    let _ = sessions.master(s);
+}
 
 /// A server carries out the order that it is owed over its members, and the master may learn of it; the answer says the phase
-/// that the master is in then.
+/// that the master is in then. Refused where the session isn't defined, where no server has the name, or where the master and
+/// the server have no exchange.
 pub fn exchange<P: Plant>(
     plant: &mut P,
     config: &Config,
@@ -24,7 +37,6 @@ pub fn exchange<P: Plant>(
     name: &Name,
     reply: bool,
 ) -> Result<Addition, Refusal>
-    requires stub { ⊥ }
     requires ready { IsReady (P.state plant.old) config.now tables.old journal.old.events }
     requires sound { Sound (here (P.state plant.old) config.now tables.old journal.old.events) }
     requires short { name.now.len ≤ 24 }
@@ -39,5 +51,15 @@ pub fn exchange<P: Plant>(
     ensures host { tables.new.host ≡ tables.old.host }
     ensures room { 1 ≤ journal.new.spare }
 {
-    Err(Refusal::NotBuilt)
+    if !tables.sessions.is_defined(s) {
+        return Err(unknown_session());
+    }
+    let Some(server) = config.server_named(bytes_of(name)) else {
+        return Err(unknown_server());
+    };
+    tell_few(&tables.sessions, s);
+    match exchange_order(plant, config, journal, &mut tables.sessions, s, server, reply) {
+        Ok(()) => Ok(phase_of(&tables.sessions, s)),
+        Err(refusal) => Err(refusal),
+    }
 }

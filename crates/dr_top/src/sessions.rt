@@ -134,7 +134,7 @@ fn abort_refusal(sessions: &Sessions, s: SessionId) -> Option<Refusal>
 }
 
 /// The phase of the session's master with its number; no phase where there is none.
-fn phase_of(sessions: &Sessions, s: SessionId) -> Addition
+pub fn phase_of(sessions: &Sessions, s: SessionId) -> Addition
     ensures { Done result ≡ plans.session_phase (model.session_in sessions.now.sessions s.0) }
 {
     match sessions.master(s) {

@@ -1,27 +1,24 @@
-use Rattle.std.proofs.Common.{refl, [], None, Some}
+use Rattle.std.proofs.Common.{refl, None, Some}
 use Rattle.dr_master.specs.Seen.{reply_of, work_of}
 use Rattle.dr_model.specs.Sessions.{session_in, members_in, mirror_in}
 use Rattle.dr_model.specs.SessionEntries.{members_on, order_entries, reply_after}
-use Rattle.dr_volume.specs.View.{Rest}
 use Rattle.dr_flash.specs.Here.{seen, armed_in}
 use Rattle.dr_gmirror.specs.Orders.{with_sessions}
 use Rattle.dr_gmirror.proofs.ExchangeLemmas.{silent-ends, follow-nothing, last-world, expected-by}
 use Rattle.dr_gmirror.proofs.exchanging.exchange_order.Goals as goal
 
 pub carry_out-requires-clause-begins : goal.carry_out-requires-clause-begins
-carry_out-requires-clause-begins g c =
-    let r : Rest = record { issued = 0; pending = []; sessions = []; events = [] } in
-    (c.requires.may r).may
+carry_out-requires-clause-begins g c = c.requires.may.1.may
 
 pub reply_if-requires-clause-expected : goal.reply_if-requires-clause-expected
 reply_if-requires-clause-expected g c on =
-    let r : Rest = record { issued = 0; pending = []; sessions = []; events = [] } in
+    let r = c.requires.may.0 in
     let u = g.P.Plant.state c.carry_out.new.p in
     let t = c.args.c.now in
     let v = seen u t (with_sessions c.carry_out.new.ss.sessions r) c.carry_out.new.j.events in
     let ms = members_on c.args.server.0 (members_in (session_in c.args.ss.now.sessions c.args.s.0)) in
     expected-by (mirror_in (session_in c.carry_out.new.ss.sessions c.args.s.0)) c.args.server.0 c.in-Ok.y (reply_after (work_of c.args.order.kind) ms v.control)
-    (c.in-Ok.ensures.reply (with_sessions c.carry_out.new.ss.sessions r) c.carry_out.new.j.events) c.in-Ok.ensures.count ((c.requires.may r).awaited v (c.in-Ok.ensures.leads r))
+    (c.in-Ok.ensures.reply (with_sessions c.carry_out.new.ss.sessions r) c.carry_out.new.j.events) c.in-Ok.ensures.count (c.requires.may.1.awaited v (c.in-Ok.ensures.leads r))
 
 pub returns-in-Ok-clause-carried : goal.returns-in-Ok-clause-carried
 returns-in-Ok-clause-carried g c r =
