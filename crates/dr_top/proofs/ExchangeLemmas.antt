@@ -205,17 +205,16 @@ module _ (s : PlantState) (t : Table) (h : Tables) (ev : List Event) (sound : So
           omega (arith, few, all, volumes)
 
   -- the master runs on a server that is defined, in a phase in which an exchange is built
-  pub master-near : is_ahead (here s t h ev).control n ≡ false → ((x : Session) (r : Mirror) → session_in ss n ≡ Some x → x.mirror ≡ Some r → (r.server < length t.names) × (r.master.phase ≢ phase.None))
-      → IfSome (mirror_in (session_in ss n)) (IsNear (length t.names))
-  master-near near runs = by (session_in ss n) refl
+  pub master-near : is_ahead (here s t h ev).control n ≡ false → IfSome (mirror_in (session_in ss n)) (IsNear (length t.names))
+  master-near near = by (session_in ss n) refl
     where
       of : (x : Session) → session_in ss n ≡ Some x → (m : Option Mirror) → x.mirror ≡ m → IfSome m (IsNear (length t.names))
       of x there None none = tt
       of x there (Some r) is =
-          let r' = runs x r there is in
+          let runs = (fits x there).runs r is in
           let few : length t.names ≤ 8 = sound.housed.0 in
-          let known : r.server < length t.names = r'.0 in
-          record { low = omega (arith, few, known); known = known; built = built r.master.phase (not-far (here s t h ev).control n x r there is near) r'.1 }
+          let known : r.server < length t.names = subst (λ q. q < length t.names) runs.server (sound.housed.1 runs.volume runs.defined) in
+          record { low = omega (arith, few, known); known = known; built = built r.master.phase (not-far (here s t h ev).control n x r there is near) runs.in_phase }
 
       by : (o : Option Session) → session_in ss n ≡ o → IfSome (mirror_in o) (IsNear (length t.names))
       by None none = tt
