@@ -1,7 +1,6 @@
 -- What a line that exchanges an order and its reply comes to.
-use Rattle.std.proofs.Common.{ℕ, zero, suc, ◌≡◌, ◌≢◌, ◌<◌, ◌≤◌, ◌+◌, inl, inr, List, [], ◌∷◌, ◌++◌, map, length, slice_get, refl, sym, ◌∙◌, ap, arith, subst, Bool, true, false, nat_eq, nat_le, nat_lt, Option, Some, None, IfSome, Result, Ok, Err}
+use Rattle.std.proofs.Common.{ℕ, zero, suc, ◌≡◌, ◌≢◌, ◌<◌, ◌≤◌, ◌+◌, inl, inr, List, [], ◌∷◌, ◌++◌, length, slice_get, refl, sym, ◌∙◌, ap, arith, subst, Bool, true, false, nat_le, Option, Some, None, IfSome}
 use Rattle.std.specs.Prelude.{IsSome, IsTrue, ◌↔◌, option_map, unwrap_or}
-use Rattle.std.specs.List.{list_any}
 use Rattle.std.proofs.lemmas.Bool.{and_from}
 use Rattle.std.proofs.lemmas.Bool.Decides.{nat_tests}
 use Rattle.std.proofs.lemmas.List.{append-nil, length-map}
@@ -25,7 +24,7 @@ use Rattle.dr_model.specs.PlanParts.{Plan, unless, none_follow, name_bytes, on_s
 use Rattle.dr_model.specs.Refusals.{unknown}
 use Rattle.dr_model.specs.Runs.{after_plan, begun, finish, answered, said}
 use Rattle.dr_model.specs.SessionEntries.{members_on, order_entries, reply_after}
-use Rattle.dr_model.specs.SessionPlans.{exchange_plan, exchange_on, exchange_done, exchange_refusal, is_ahead, is_far, mirror_ahead, session_ahead, order_of}
+use Rattle.dr_model.specs.SessionPlans.{exchange_plan, exchange_on, exchange_done, exchange_refusal, is_ahead, is_far, order_of}
 use Rattle.dr_model.specs.Sessions.{Session, Mirror, session_in, mirror_in, members_in}
 use Rattle.dr_model.proofs.CarryLemmas.{plan-ends, plan-refuses}
 use Rattle.dr_groups.proofs.Changes.{session-found}
