@@ -1,7 +1,6 @@
 -- What a line that exchanges an order and its reply comes to.
-use Rattle.std.proofs.Common.{ℕ, zero, suc, ◌≡◌, ◌≢◌, ◌<◌, ◌≤◌, ◌+◌, inl, inr, List, [], ◌∷◌, ◌++◌, map, length, slice_get, refl, sym, ◌∙◌, ap, arith, subst, Bool, true, false, nat_eq, nat_le, nat_lt, Option, Some, None, IfSome, Result, Ok, Err}
+use Rattle.std.proofs.Common.{ℕ, zero, suc, ◌≡◌, ◌≢◌, ◌<◌, ◌≤◌, ◌+◌, inl, inr, List, [], ◌∷◌, ◌++◌, length, slice_get, refl, sym, ◌∙◌, ap, arith, subst, Bool, true, false, nat_le, Option, Some, None, IfSome}
 use Rattle.std.specs.Prelude.{IsSome, IsTrue, ◌↔◌, option_map, unwrap_or}
-use Rattle.std.specs.List.{list_any}
 use Rattle.std.proofs.lemmas.Bool.{and_from}
 use Rattle.std.proofs.lemmas.Bool.Decides.{nat_tests}
 use Rattle.std.proofs.lemmas.List.{append-nil, length-map}
@@ -25,7 +24,7 @@ use Rattle.dr_model.specs.PlanParts.{Plan, unless, none_follow, name_bytes, on_s
 use Rattle.dr_model.specs.Refusals.{unknown}
 use Rattle.dr_model.specs.Runs.{after_plan, begun, finish, answered, said}
 use Rattle.dr_model.specs.SessionEntries.{members_on, order_entries, reply_after}
-use Rattle.dr_model.specs.SessionPlans.{exchange_plan, exchange_on, exchange_done, exchange_refusal, is_ahead, is_far, mirror_ahead, session_ahead, order_of}
+use Rattle.dr_model.specs.SessionPlans.{exchange_plan, exchange_on, exchange_done, exchange_refusal, is_ahead, is_far, order_of}
 use Rattle.dr_model.specs.Sessions.{Session, Mirror, session_in, mirror_in, members_in}
 use Rattle.dr_model.proofs.CarryLemmas.{plan-ends, plan-refuses}
 use Rattle.dr_groups.proofs.Changes.{session-found}
@@ -205,17 +204,16 @@ module _ (s : PlantState) (t : Table) (h : Tables) (ev : List Event) (sound : So
           omega (arith, few, all, volumes)
 
   -- the master runs on a server that is defined, in a phase in which an exchange is built
-  pub master-near : is_ahead (here s t h ev).control n ≡ false → ((x : Session) (r : Mirror) → session_in ss n ≡ Some x → x.mirror ≡ Some r → (r.server < length t.names) × (r.master.phase ≢ phase.None))
-      → IfSome (mirror_in (session_in ss n)) (IsNear (length t.names))
-  master-near near runs = by (session_in ss n) refl
+  pub master-near : is_ahead (here s t h ev).control n ≡ false → IfSome (mirror_in (session_in ss n)) (IsNear (length t.names))
+  master-near near = by (session_in ss n) refl
     where
       of : (x : Session) → session_in ss n ≡ Some x → (m : Option Mirror) → x.mirror ≡ m → IfSome m (IsNear (length t.names))
       of x there None none = tt
       of x there (Some r) is =
-          let r' = runs x r there is in
+          let runs = (fits x there).runs r is in
           let few : length t.names ≤ 8 = sound.housed.0 in
-          let known : r.server < length t.names = r'.0 in
-          record { low = omega (arith, few, known); known = known; built = built r.master.phase (not-far (here s t h ev).control n x r there is near) r'.1 }
+          let known : r.server < length t.names = subst (λ q. q < length t.names) runs.server (sound.housed.1 runs.volume runs.defined) in
+          record { low = omega (arith, few, known); known = known; built = built r.master.phase (not-far (here s t h ev).control n x r there is near) runs.in_phase }
 
       by : (o : Option Session) → session_in ss n ≡ o → IfSome (mirror_in o) (IsNear (length t.names))
       by None none = tt

@@ -58,7 +58,15 @@ pub fn exchange<P: Plant>(
         return Err(unknown_server());
     };
     tell_few(&tables.sessions, s);
-    match exchange_order(plant, config, journal, &mut tables.sessions, s, server, reply) {
+    match exchange_order(
+        plant,
+        config,
+        journal,
+        &mut tables.sessions,
+        s,
+        server,
+        reply,
+    ) {
         Ok(()) => Ok(phase_of(&tables.sessions, s)),
         Err(refusal) => Err(refusal),
     }

@@ -48,11 +48,13 @@ exchange_order-requires-clause-may g c =
     let r = c.requires.may.0 in
     let l = look-some c.in-Some.x o c.args.server.0 c.in-Some.ensures in
     let near = if-some (IsNear (length c.args.c.now.names)) o l.0 l.1 c.requires.near in
-    let k = (seen (g.P.Plant.state c.args.p.now) c.args.c.now (with_sessions c.args.ss.now.sessions r) c.args.j.now.events).control in
-    (r, c.requires.may.1 (order_of c.in-Some-order_of.order)
-    (ap (λ (o : Option Mirror). refusal_in k o c.args.server.0 (members_in (session_in c.args.ss.now.sessions c.args.s.0))) l.1
-    ∙ sym (c.in_default-exchange_refusal.ensures.refusal (with_sessions c.args.ss.now.sessions r) c.args.j.now.events l.0 l.2 near.built))
-    (ap (λ (o : Option Mirror). order_in o c.args.server.0) l.1 ∙ sym (c.in-Some-order_of.ensures l.0 c.args.server.0 l.2)))
+    let k = (seen (g.P.Plant.state c.args.p.now) c.args.c.now (with_sessions c.args.ss.now.sessions r) c.args.j.now.events).control in (
+      r,
+      c.requires.may.1 (order_of c.in-Some-order_of.order)
+          (ap (λ (o : Option Mirror). refusal_in k o c.args.server.0 (members_in (session_in c.args.ss.now.sessions c.args.s.0))) l.1
+          ∙ sym (c.in_default-exchange_refusal.ensures.refusal (with_sessions c.args.ss.now.sessions r) c.args.j.now.events l.0 l.2 near.built))
+          (ap (λ (o : Option Mirror). order_in o c.args.server.0) l.1 ∙ sym (c.in-Some-order_of.ensures l.0 c.args.server.0 l.2)),
+    )
 
 pub returns-clause-carried : goal.returns-clause-carried
 returns-clause-carried g c r =
