@@ -1,11 +1,10 @@
 -- Sessions and members in their lists: what is found, and what is found after one session's last number was raised.
-use Rattle.std.proofs.Common.{ℕ, zero, suc, ◌≡◌, ◌+◌, ◌≤◌, Bool, true, false, cond, ◌||◌, List, [], ◌∷◌, length, drop, slice_get, refl, sym, ◌∙◌, ap, Option, Some, None, ◌==◌}
+use Rattle.std.proofs.Common.{ℕ, zero, suc, ◌≡◌, ◌+◌, ◌≤◌, Bool, true, false, cond, ◌||◌, List, [], ◌∷◌, drop, slice_get, refl, sym, ◌∙◌, ap, Option, Some, None, ◌==◌}
 use Rattle.std.specs.Prelude.{is_some, option_map, if◌then◌else◌}
 use Rattle.std.specs.List.{find, list_any}
 use Rattle.std.specs.Option.{option_or}
 use Rattle.std.proofs.Math.Numerals.{suc-eq-add-one}
 use Rattle.std.proofs.lemmas.Bool.{eqb-true}
-use Rattle.std.proofs.lemmas.List.{drop_all}
 use Rattle.dr_ids.specs.declared.names.Member.{Member}
 use Rattle.dr_ids.specs.declared.names.SessionId.{SessionId}
 use Rattle.dr_ids.specs.declared.refusal.PhaseName.{PhaseName}
@@ -67,9 +66,6 @@ found-later a i ms m at is = found-at a i ms m at ∙ ap (λ b. cond b (Some m) 
 
 pub found-past : (a i : ℕ) (ms : List Member) → slice_get ms i ≡ None → found_from a i ms ≡ None
 found-past a i ms none = ap (find (λ (m : Member). m.a.0 == a)) (past-end ms i none)
-
-pub found-none : (a i : ℕ) (ms : List Member) → length ms ≤ i → found_from a i ms ≡ None
-found-none a i ms all = ap (find (λ (m : Member). m.a.0 == a)) (drop_all i ms all)
 
 -- a member by its primary is there where the session has one
 pub found-any : (a : ℕ) (ms : List Member) → is_some (find (λ (m : Member). m.a.0 == a) ms) ≡ list_any (λ (m : Member). m.a.0 == a) ms

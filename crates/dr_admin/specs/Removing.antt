@@ -1,5 +1,5 @@
 -- Removing a member, as the step table says it, by cases.
-use Rattle.std.specs.Prelude.{◌≡◌, ℕ, ◌==◌, ◌≤◌, true, List, [], length, Option, Some, None, is_some}
+use Rattle.std.specs.Prelude.{◌≡◌, ℕ, ◌==◌, true, List, [], Option, Some, None, is_some}
 use Rattle.std.specs.List.{find}
 use Rattle.std.specs.Option.{option_or}
 use Rattle.dr_ids.specs.declared.names.Member.{Member}
@@ -17,10 +17,6 @@ use Rattle.dr_model.specs.SessionPlans.{off_refusal, with_sessions, expel_found}
 -- the member of a session whose primary is a
 abbrev pub member_in : ℕ → Option Session → Option Member
 member_in a x = find (λ (m : Member). m.a.0 == a) (members_in x)
-
--- its members can be counted by a number of the program
-abbrev pub Countable : Option Session → Type 0
-Countable x = length (members_in x) ≤ 18446744073709551615
 
 -- its target is in the configuration
 abbrev pub TargetDefined : Table → Option Member → Type 0

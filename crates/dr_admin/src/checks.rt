@@ -13,7 +13,6 @@ ghost use Rattle.dr_flash.specs.Checks.{is_stop};
 ghost use Rattle.dr_flash.specs.Fit.{RelationsFit};
 ghost use Rattle.dr_flash.specs.Here.{seen, refusal_of, IsAtRest};
 ghost use Rattle.dr_admin.specs.Adding.{outside_of, taken_in, member_planned, placed_in, enrol_refusal};
-ghost use Rattle.dr_admin.specs.Removing.{Countable};
 ghost use Rattle.dr_admin.specs.Targets.{IsReady};
 
 use crate::members::member_of;
@@ -62,7 +61,6 @@ fn other_refusal(ss: &Sessions, s: SessionId, a: VolumeId) -> Option<Refusal>
 /// one, or the session's master isn't Idle.
 fn taken_refusal(ss: &Sessions, s: SessionId, a: VolumeId) -> Option<Refusal>
     requires session { IsSome (model.session_in ss.now.sessions s.0) }
-    requires few { Countable (model.session_in ss.now.sessions s.0) }
     ensures refusal { result ≡ taken_in ss.now.sessions (model.session_in ss.now.sessions s.0) a.0 }
     ensures calm { is_stop result ≡ false }
 {
@@ -75,7 +73,6 @@ fn taken_refusal(ss: &Sessions, s: SessionId, a: VolumeId) -> Option<Refusal>
 /// Both of these reasons.
 fn session_refusal(ss: &Sessions, s: SessionId, l: Lss, a: VolumeId) -> Option<Refusal>
     requires session { IsSome (model.session_in ss.now.sessions s.0) }
-    requires few { Countable (model.session_in ss.now.sessions s.0) }
     ensures refusal { result ≡ option_or (outside_of (model.session_in ss.now.sessions s.0) l.0) (taken_in ss.now.sessions (model.session_in ss.now.sessions s.0) a.0) }
     ensures calm { is_stop result ≡ false }
 {
@@ -110,7 +107,6 @@ pub(crate) fn new_member<P: Plant>(
     requires defined { IsSome (place_of c.now a.0) }
     requires partner { is_part (volume_seen (P.state p.now) c.now a.0).fields.primary ≡ true → IsSome (place_of c.now (volume_seen (P.state p.now) c.now a.0).fields.primary_partner) }
     requires session { IsSome (model.session_in ss.now.sessions s.0) }
-    requires few { Countable (model.session_in ss.now.sessions s.0) }
     ensures refused { (r : Rest) (events : List Event) → r.sessions ≡ ss.now.sessions → result_err result ≡ enrol_refusal (seen (P.state p.now) c.now r events).control (model.session_in ss.now.sessions s.0) l.0 a.0 }
     ensures member { IfOk result (λ m. (r : Rest) (events : List Event) → member_planned (seen (P.state p.now) c.now r events).control a.0 ≡ Some m) }
     ensures ready { IfOk result (λ m. IsReady (P.state p.now) c.now m) }

@@ -14,7 +14,6 @@ ghost use Rattle.dr_flash.specs.Here as flash;
 ghost use Rattle.dr_flash.specs.Here.{seen, armed_in, IsAtRest};
 ghost use Rattle.dr_session.specs.Kept.{refusal_of};
 ghost use Rattle.dr_admin.specs.Adding.{member_planned, enrol_refusal, entries_planned, sessions_planned, unless_stop, AddsSo};
-ghost use Rattle.dr_admin.specs.Removing.{Countable};
 ghost use Rattle.dr_admin.specs.Targets.{IsReady};
 
 use crate::checks::new_member;
@@ -81,7 +80,6 @@ pub fn enrol<P: Plant>(
     requires defined { IsSome (place_of c.now a.0) }
     requires partner { is_part (volume_seen (P.state p.old) c.now a.0).fields.primary ≡ true → IsSome (place_of c.now (volume_seen (P.state p.old) c.now a.0).fields.primary_partner) }
     requires session { IsSome (model.session_in ss.old.sessions s.0) }
-    requires few { Countable (model.session_in ss.old.sessions s.0) }
     requires room { 1 ≤ j.old.spare }
     ensures plan { (r : Rest) → AddsSo (seen (P.state p.old) c.now r j.old.events).control s.0 (model.session_in ss.old.sessions s.0) l.0 a.0 }
     ensures refused { (r : Rest) → r.sessions ≡ ss.old.sessions → unless_stop (refusal_of result) ≡ enrol_refusal (seen (P.state p.old) c.now r j.old.events).control (model.session_in ss.old.sessions s.0) l.0 a.0 }

@@ -11,7 +11,7 @@ ghost use Rattle.dr_flash.specs.Faults.{Counted};
 ghost use Rattle.dr_flash.specs.Fit.{RelationsFit};
 ghost use Rattle.dr_flash.specs.Here.{seen, refusal_of, armed_in, IsAtRest};
 ghost use Rattle.dr_admin.specs.Adding.{unless_stop};
-ghost use Rattle.dr_admin.specs.Removing.{member_in, Countable, TargetDefined, expel_refusal, entries_without, sessions_without, ExpelsSo};
+ghost use Rattle.dr_admin.specs.Removing.{member_in, TargetDefined, expel_refusal, entries_without, sessions_without, ExpelsSo};
 
 use crate::members::member_of;
 use dr_config::Config;
@@ -31,7 +31,6 @@ fn leaving_member<P: Plant>(
     a: VolumeId,
     s: SessionId,
 ) -> Result<Member, Refusal>
-    requires few { Countable (model.session_in ss.now.sessions s.0) }
     requires target { TargetDefined c.now (member_in a.0 (model.session_in ss.now.sessions s.0)) }
     ensures refused { (r : Rest) (events : List Event) → result_err result ≡ expel_refusal (seen (P.state p.now) c.now r events).control s.0 (model.session_in ss.now.sessions s.0) (member_in a.0 (model.session_in ss.now.sessions s.0)) }
     ensures member { IfOk result (λ m. member_in a.0 (model.session_in ss.now.sessions s.0) ≡ Some m) }
@@ -76,7 +75,6 @@ pub fn expel<P: Plant>(
 ) -> Result<(), Refusal>
     requires rest { IsAtRest (P.state p.old) c.now }
     requires fit { RelationsFit (P.state p.old) c.now }
-    requires few { Countable (model.session_in ss.old.sessions s.0) }
     requires target { TargetDefined c.now (member_in a.0 (model.session_in ss.old.sessions s.0)) }
     requires room { 2 ≤ j.old.spare }
     ensures plan { (r : Rest) → ExpelsSo (seen (P.state p.old) c.now r j.old.events).control s.0 (model.session_in ss.old.sessions s.0) a.0 }

@@ -2,17 +2,16 @@
 
 ghost use Rattle.std.specs.Prelude.{◌≡◌, ◌<◌, None, IsSome, IsTrue, IfSome};
 ghost use Rattle.dr_model.specs.Sessions as model;
-ghost use Rattle.dr_admin.specs.Removing.{member_in, Countable};
+ghost use Rattle.dr_admin.specs.Removing.{member_in};
 
 use dr_ids::{Member, SessionId, VolumeId};
 use dr_session::Sessions;
 
 /// The member of the session whose primary is a, if there is one.
 pub(crate) fn member_of(ss: &Sessions, s: SessionId, a: VolumeId) -> Option<Member>
-    requires few { Countable (model.session_in ss.now.sessions s.0) }
     ensures { result ≡ member_in a.0 (model.session_in ss.now.sessions s.0) }
 {
-    for place in 0..usize::MAX {
+    for place in 0..ss.member_count(s) {
         let Some(m) = ss.member_at(s, place) else {
             return None;
         };

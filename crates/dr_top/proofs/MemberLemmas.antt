@@ -1,7 +1,7 @@
 -- What a line on a member of a session comes to.
-use Rattle.std.proofs.Common.{ℕ, ◌≡◌, ◌≤◌, List, [], ◌++◌, length, refl, sym, ◌∙◌, ap, subst, arith, Bool, true, false, not, nat_eq, Option, Some, None}
+use Rattle.std.proofs.Common.{ℕ, ◌≡◌, List, [], ◌++◌, refl, sym, ◌∙◌, ap, subst, Bool, true, false, not, nat_eq, Option, Some, None}
 use Rattle.std.specs.Prelude.{is_some, IsSome, Err, if◌then◌else◌}
-use Rattle.std.proofs.lemmas.List.{append-nil, length-map}
+use Rattle.std.proofs.lemmas.List.{append-nil}
 use Rattle.dr_ids.specs.declared.names.Member.{Member}
 use Rattle.dr_ids.specs.declared.refusal.Fault.{Fault}
 use Rattle.dr_ids.specs.declared.refusal.Fault.TheVariants.{NoMemory, Refused as FaultRefused}
@@ -10,7 +10,6 @@ use Rattle.dr_ids.specs.declared.refusal.Refusal.TheVariants.{Stopped}
 use Rattle.dr_ids.specs.declared.refusal.Kind.TheVariants.{Server as OfServer, Lss as OfLss, Volume as OfVolume, Session as OfSession}
 use Rattle.dr_plant.specs.State.{PlantState}
 use Rattle.dr_config.specs.Table.{Table, lss_owner, entry_of, place_of, IsSound}
-use Rattle.dr_config.specs.declared.entries.VolumeEntry.{VolumeEntry}
 use Rattle.dr_config.proofs.Lookups.{place-of-entry}
 use Rattle.dr_session.specs.Kept as kept
 use Rattle.dr_model.specs.declared.event.Event.{Event}
@@ -28,16 +27,15 @@ use Rattle.dr_model.specs.Runs.{after_plan, said}
 use Rattle.dr_model.specs.SessionPlans.{with_sessions, on_volume, name_refusal, place_refusal, add_to, add_plan, expel_found, expel_plan}
 use Rattle.dr_model.specs.Sessions.{Session, session_in}
 use Rattle.dr_model.proofs.CarryLemmas.{plan-refuses, plan-ends, plan-fails}
-use Rattle.dr_groups.proofs.Members.{members-few}
 use Rattle.dr_groups.proofs.Tables.{session-fits}
 use Rattle.dr_groups.proofs.Silent.{member-found}
-use Rattle.dr_volume.specs.View.{ReadsPass, ids_of}
+use Rattle.dr_volume.specs.View.{ReadsPass}
 use Rattle.dr_flash.specs.Checks.{is_stop}
 use Rattle.dr_flash.specs.Here.{armed_in}
 use Rattle.dr_admin.specs.Adding as adding
 use Rattle.dr_admin.specs.Adding.{unless_stop, enrol_refusal, member_planned, entries_planned, sessions_planned, AddsSo}
 use Rattle.dr_admin.specs.Removing as removing
-use Rattle.dr_admin.specs.Removing.{member_in, Countable, TargetDefined, expel_refusal, entries_without, sessions_without, ExpelsSo}
+use Rattle.dr_admin.specs.Removing.{member_in, TargetDefined, expel_refusal, entries_without, sessions_without, ExpelsSo}
 use Rattle.dr_top.specs.Here.{here, OnAnswer, IsTold}
 use Rattle.dr_top.specs.Members.{AreThere, member_plan}
 use Rattle.dr_top.specs.declared.tables.Tables.{Tables}
@@ -73,17 +71,6 @@ placed t a there = let e = some_entry _ there in ap is_some (place-of-entry t a 
 module _ (s : PlantState) (t : Table) (h : Tables) (ev : List Event) (sound : Sound (here s t h ev)) (n : ℕ) where
   abbrev its : Option Session
   its = session_in h.sessions.sessions n
-
-  -- they are no more than volumes
-  pub countable : length t.volumes ≤ 64 → Countable its
-  countable few = by its refl
-    where
-      by : (o : Option Session) → its ≡ o → Countable o
-      by None is = omega arith
-      by (Some x) is =
-          let less : length x.members ≤ length (ids_of t.volumes) = members-few (here s t h ev).control n x sound.groups is in
-          let same : length (ids_of t.volumes) ≡ length t.volumes = length-map t.volumes (λ (e : VolumeEntry). e.id) in
-          omega (arith, less, same, few)
 
   -- their targets lie on devices
   pub target-defined : (a : ℕ) → TargetDefined t (member_in a its)

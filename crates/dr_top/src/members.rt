@@ -1,6 +1,6 @@
 //! The steps on the members of a session.
 
-ghost use Rattle.std.specs.Prelude.{◌≡◌, ℕ, ◌≤◌, length, nat_eq, false, List, Option, Some, IfOk, IfErr};
+ghost use Rattle.std.specs.Prelude.{◌≡◌, ℕ, ◌≤◌, nat_eq, false, List, Option, Some, IfOk, IfErr};
 ghost use Rattle.dr_plant.specs.State.{PlantState};
 ghost use Rattle.dr_model.specs.declared.event.Event.{Event};
 ghost use Rattle.dr_model.specs.declared.said.Said.TheVariants.{Refused};
@@ -109,7 +109,6 @@ pub fn add_member<P: Plant>(
     requires ready { IsReady (P.state plant.old) config.now tables.old journal.old.events }
     requires sound { Sound (here (P.state plant.old) config.now tables.old journal.old.events) }
     requires short { FitsOwner devs.now.dev }
-    requires few { length config.now.volumes ≤ 64 }
     requires room { 4096 ≤ journal.old.spare }
     ensures step { OnAnswer result (λ x. (line : ℕ) → after_plan (here (P.state plant.old) config.now tables.old journal.old.events) line
         (plans.add_plan (here (P.state plant.old) config.now tables.old journal.old.events).control devs.now.dev l.0 a.0 s.0)
@@ -150,7 +149,6 @@ pub fn remove_member<P: Plant>(
     requires ready { IsReady (P.state plant.old) config.now tables.old journal.old.events }
     requires sound { Sound (here (P.state plant.old) config.now tables.old journal.old.events) }
     requires short { FitsOwner devs.now.dev }
-    requires few { length config.now.volumes ≤ 64 }
     requires room { 4096 ≤ journal.old.spare }
     ensures step { (line : ℕ) → after_plan (here (P.state plant.old) config.now tables.old journal.old.events) line
         (plans.expel_plan (here (P.state plant.old) config.now tables.old journal.old.events).control devs.now.dev l.0 a.0 s.0)

@@ -6,7 +6,7 @@ use Rattle.dr_admin.specs.Adding.{member_planned, entries_planned, sessions_plan
 use Rattle.dr_top.specs.Here.{here, rest_of}
 use Rattle.dr_top.proofs.LandLemmas.{ready-after}
 use Rattle.dr_top.proofs.RelationLemmas.{relations-fit, partners-fit}
-use Rattle.dr_top.proofs.MemberLemmas.{placed, countable, add-misplaced, add-goes, call-done, call-failed, call-told, failed-told}
+use Rattle.dr_top.proofs.MemberLemmas.{placed, add-misplaced, add-goes, call-done, call-failed, call-told, failed-told}
 use Rattle.dr_top.proofs.members.add_member.Goals as goal
 
 pub returns-in-Err-clause-step : goal.returns-in-Err-clause-step
@@ -28,9 +28,6 @@ enrol-requires-clause-defined g c = placed c.args.config.now c.args.a.0 c.in-Ok.
 
 pub enrol-requires-clause-partner : goal.enrol-requires-clause-partner
 enrol-requires-clause-partner g c = (partners-fit (g.P.Plant.state c.args.plant.now) c.args.config.now c.args.tables.now c.args.journal.now.events c.requires.sound).defined c.args.a.0
-
-pub enrol-requires-clause-few : goal.enrol-requires-clause-few
-enrol-requires-clause-few g c = countable (g.P.Plant.state c.args.plant.now) c.args.config.now c.args.tables.now c.args.journal.now.events c.requires.sound c.args.s.0 c.requires.few
 
 pub returns-in-Ok-enrol-clause-step : goal.returns-in-Ok-enrol-clause-step
 returns-in-Ok-enrol-clause-step g c line =

@@ -6,7 +6,7 @@ use Rattle.dr_admin.specs.Removing.{member_in, entries_without, sessions_without
 use Rattle.dr_top.specs.Here.{here, rest_of}
 use Rattle.dr_top.proofs.LandLemmas.{ready-after}
 use Rattle.dr_top.proofs.RelationLemmas.{relations-fit}
-use Rattle.dr_top.proofs.MemberLemmas.{countable, target-defined, expel-foreign, expel-goes, call-done, call-refused, call-told, refused-told}
+use Rattle.dr_top.proofs.MemberLemmas.{target-defined, expel-foreign, expel-goes, call-done, call-refused, call-told, refused-told}
 use Rattle.dr_top.proofs.members.remove_member.Goals as goal
 
 pub returns-in-Err-clause-step : goal.returns-in-Err-clause-step
@@ -22,9 +22,6 @@ returns-in-Some-clause-step g c line =
 
 pub expel-requires-clause-fit : goal.expel-requires-clause-fit
 expel-requires-clause-fit g c = relations-fit (g.P.Plant.state c.args.plant.now) c.args.config.now c.args.tables.now c.args.journal.now.events c.requires.sound
-
-pub expel-requires-clause-few : goal.expel-requires-clause-few
-expel-requires-clause-few g c = countable (g.P.Plant.state c.args.plant.now) c.args.config.now c.args.tables.now c.args.journal.now.events c.requires.sound c.args.s.0 c.requires.few
 
 pub expel-requires-clause-target : goal.expel-requires-clause-target
 expel-requires-clause-target g c = target-defined (g.P.Plant.state c.args.plant.now) c.args.config.now c.args.tables.now c.args.journal.now.events c.requires.sound c.args.s.0 c.args.a.0
