@@ -1,5 +1,5 @@
 -- Sessions and members in their lists: what is found, and what is found after one session's last number was raised.
-use Rattle.std.proofs.Common.{ℕ, zero, suc, ◌≡◌, ◌+◌, ◌≤◌, Bool, true, false, cond, ◌||◌, List, [], ◌∷◌, drop, slice_get, refl, sym, ◌∙◌, ap, Option, Some, None, ◌==◌}
+use Rattle.std.proofs.Common.{ℕ, zero, suc, ◌≡◌, ◌+◌, Bool, true, false, cond, ◌||◌, List, [], ◌∷◌, drop, slice_get, refl, sym, ◌∙◌, ap, Option, Some, None, ◌==◌}
 use Rattle.std.specs.Prelude.{is_some, option_map, if◌then◌else◌}
 use Rattle.std.specs.List.{find, list_any}
 use Rattle.std.specs.Option.{option_or}

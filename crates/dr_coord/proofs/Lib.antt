@@ -2,3 +2,4 @@ pub mod HoldLemmas
 pub mod ChangeLemmas
 pub mod ActLemmas
 pub mod RaiseLemmas
+pub mod AsideLemmas

@@ -11,6 +11,7 @@ ghost use Rattle.dr_flash.specs.Faults.{Counted};
 ghost use Rattle.dr_flash.specs.Fit.{RelationsFit};
 ghost use Rattle.dr_flash.specs.Here.{seen, refusal_of, armed_in, IsAtRest};
 ghost use Rattle.dr_flash.specs.Turns.{Advances, Halts};
+ghost use Rattle.dr_coord.specs.Aside.{AsideFits};
 ghost use Rattle.dr_coord.specs.Changes.{void_on};
 
 use crate::changes::{Change, make_change};
@@ -42,6 +43,7 @@ pub fn finish<P: Plant>(
     ensures refused { OnErr result (refusal_of result ≡ Some (stopped (volume_seen (P.state p.old) c.now m.now.a.0).server)) }
     ensures rest { IsAtRest (P.state p.new) c.now }
     ensures fit { RelationsFit (P.state p.new) c.now }
+    ensures aside { AsideFits (P.state p.old) c.now → AsideFits (P.state p.new) c.now }
     ensures unarmed { (q : ℕ) → (P.state p.old).read_fuse q ≡ None → (P.state p.new).read_fuse q ≡ None }
     ensures faults { Counted (is_err result) (P.state p.old).faults (P.state p.new).faults }
     ensures others { OthersStay (P.state p.old) (P.state p.new) c.now m.now.a.0 }

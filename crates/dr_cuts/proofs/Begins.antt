@@ -8,7 +8,7 @@ use Rattle.dr_model.specs.Moves.{Move, Hold, target}
 use Rattle.dr_model.specs.Table.{Row, Table}
 use Rattle.dr_model.specs.Rows.{after, next_row}
 use Rattle.dr_model.specs.Laws.{SoundRows, its_primary, its_secondary}
-use Rattle.dr_model.specs.Cuts.{Cuts, CutLaws, OneKind, SealedGlobal, RowCuts, UnsentAsAtCut, SentAsAtCut, SealedAsAtCut, no_cuts, next_cuts}
+use Rattle.dr_model.specs.Cuts.{Cuts, CutLaws, RowCuts, UnsentAsAtCut, SentAsAtCut, SealedAsAtCut, no_cuts, next_cuts}
 use Rattle.dr_cuts.specs.Sound.{CutsDefined, HeldDefined}
 use Rattle.dr_cuts.proofs.AtLemmas.{at_cases, each-at, linked-at, at2_cases}
 use Rattle.dr_cuts.proofs.Sets.{false_true, from_source}
@@ -25,8 +25,6 @@ silent r bare h = false_true (ap (λ (f : Fields). f.recording) bare) h
 
 pub laws-start : (write : ℕ → Write) (T : Table) → ((v : ℕ) → (T v).volume.fields ≡ no_fields) → CutLaws write no_cuts T
 laws-start write T bare = record {
-  kinds = λ v u h. no-second (T v) u (bare v) h;
-  sealed_global = λ v nz. absurd (nz (ap (λ (f : Fields). f.seal) (bare v)));
   cut = λ v. record { recorder = λ h. silent (T v) (bare v) h; positive = λ n h. absurd cc; low = λ n h. absurd cc };
   unsent = λ v rec. silent (T v) (bare v) rec;
   sent = λ v u h rec. silent (T v) (bare v) rec;
@@ -46,8 +44,6 @@ module _ (write : ℕ → Write) (c : Cuts) (T : Table) (rows : SoundRows T) (st
 
   pub laws-defined : CutLaws write c T → CutLaws write c (at T v y)
   laws-defined old = record {
-    kinds = linked-at T v y its_primary OneKind (λ u ne h. no-second y u bare h) (λ h. no-second y v bare h) (λ u ne h. no-secondary-yet u h) (λ u ne x out. old.kinds u x);
-    sealed_global = each-at T v y (λ v r. SealedGlobal r) (λ nz. absurd (nz (ap (λ (f : Fields). f.seal) bare))) (λ u ne. old.sealed_global u);
     cut = each-at T v y (RowCuts c) (record { recorder = λ h. silent y bare h; positive = λ n h. never n h; low = λ n h. never n h }) (λ u ne. old.cut u);
     unsent = each-at T v y (UnsentAsAtCut write c) (λ rec. silent y bare rec) (λ u ne. old.unsent u);
     sent = linked-at T v y its_secondary (SentAsAtCut write c) (λ u ne h. no-first y u bare h) (λ h. no-first y v bare h) (λ u ne h. no-primary-yet u h) (λ u ne x out. old.sent u x);

@@ -6,7 +6,7 @@ use Rattle.dr_model.specs.Tables.{at, at2}
 use Rattle.dr_model.specs.Layout.{Tracks, is_part}
 use Rattle.dr_model.specs.Histories.{Lists, Write}
 use Rattle.dr_model.specs.Contents.{image}
-use Rattle.dr_model.specs.Moves.{Move, Land, Overwrite, Relate, Withdraw, Resync, Reverse, Restore, Release, Store, Strike, Suspend, MakePrimary, DropPrimary, TakeOver, Unsync, Mirror, LandBoth, Lift, Restart, Hold, Finish, RaiseAttempt, target}
+use Rattle.dr_model.specs.Moves.{Move, Land, Overwrite, Relate, Withdraw, Resync, Reverse, Restore, Release, Flash, Revert, Store, Strike, Suspend, MakePrimary, DropPrimary, TakeOver, Unsync, Mirror, LandBoth, Lift, Restart, Hold, Finish, RaiseAttempt, target}
 use Rattle.dr_model.specs.Table.{Row, Table}
 use Rattle.dr_model.specs.Rows.{after, next_row}
 use Rattle.dr_model.specs.Laws.{Each, SoundRows, fields}
@@ -92,11 +92,13 @@ module _ (write : ℕ → Write) (T : Table) (rows : SoundRows T) (c : Cuts) (no
     kept-unsent (Relate v s choices) a calm = unsent (Relate v s choices) (λ rec. false_true a.no_primary (first T rows v rec))
     kept-unsent (Withdraw v) a calm = unsent (Withdraw v) (λ rec. target-still T rows v a.from a.related rec)
     kept-unsent (Resync v sequence) a calm = unsent (Resync v sequence) (λ rec. target-still T rows v a.from a.related rec)
-    kept-unsent (Reverse v) a calm = unsent (Reverse v) (λ rec. target-still T rows v a.resync.from a.resync.related rec)
+    kept-unsent (Reverse v left) a calm = unsent (Reverse v left) (λ rec. target-still T rows v a.resync.from a.resync.related rec)
     kept-unsent (Release v t) a calm = unsent (Release v t) (λ rec. target-still T rows v a.from a.related rec)
     kept-unsent (Restore v t u) a calm = unsent (Restore v t u) (λ rec. false_true a.idle rec)
     kept-unsent (Store v t u last) a calm = unsent (Store v t u last) (λ rec. second-still T rows v u a.takes rec)
     kept-unsent (Mirror v t u w) a calm = unsent (Mirror v t u w) (λ rec. second-still T rows v u a.takes rec)
+    kept-unsent (Flash v u p s n) a calm = unsent (Flash v u p s n) (λ rec. target-still T rows v a.resync.from a.resync.related rec)
+    kept-unsent (Revert v p s n) a calm = unsent (Revert v p s n) (λ rec. target-still T rows v a.from a.related rec)
     kept-unsent (Strike v t last) a calm = unsent (Strike v t last) (λ rec q lt i. old v rec q lt (remove_from _ t q i))
     kept-unsent (Suspend v busy) a calm = unsent (Suspend v busy) (λ rec. absurd cc)
     kept-unsent (MakePrimary v u kind state full) a calm = unsent (MakePrimary v u kind state full) (λ rec. absurd cc)

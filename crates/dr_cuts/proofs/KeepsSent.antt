@@ -10,7 +10,7 @@ use Rattle.dr_model.specs.Histories.{Lists, Write}
 use Rattle.dr_model.specs.Contents.{image}
 use Rattle.dr_model.specs.Pairs.{is_kind}
 use Rattle.dr_model.specs.declared.state.Part.TheVariants.{Global}
-use Rattle.dr_model.specs.Moves.{Move, Land, Overwrite, Relate, Withdraw, Resync, Reverse, Restore, Release, Store, Strike, Suspend, MakeSecondary, MakePrimary, DropPrimary, DropSecondary, TakeOver, Unsync, Mirror, LandBoth, Lift, Restart, Hold, Seal, Finish, RaiseAttempt, target}
+use Rattle.dr_model.specs.Moves.{Move, Land, Overwrite, Relate, Withdraw, Resync, Reverse, Restore, Release, Flash, Revert, Store, Strike, Suspend, MakeSecondary, MakePrimary, DropPrimary, DropSecondary, TakeOver, Unsync, Mirror, LandBoth, Lift, Restart, Hold, Seal, Finish, RaiseAttempt, target}
 use Rattle.dr_model.specs.Table.{Row, Table}
 use Rattle.dr_model.specs.Rows.{after, next_row}
 use Rattle.dr_model.specs.Laws.{Linked, SoundRows, its_primary, its_secondary, fields}
@@ -72,8 +72,10 @@ module _ (write : ℕ → Write) (T : Table) (rows : SoundRows T) (c : Cuts) (no
   kept-sent (Relate v s choices) a calm = sent (Relate v s choices) a (old.sent v) (λ u h rec k. false_true a.no_secondary (from_source _ _ u k).0)
   kept-sent (Withdraw v) a calm = sent (Withdraw v) a (old.sent v) (λ u h rec k. target-second T rows v a.from u a.related k)
   kept-sent (Resync v sequence) a calm = sent (Resync v sequence) a (old.sent v) (λ u h rec k. target-second T rows v a.from u a.related k)
-  kept-sent (Reverse v) a calm = sent (Reverse v) a (old.sent v) (λ u h rec k. target-second T rows v a.resync.from u a.resync.related k)
+  kept-sent (Reverse v left) a calm = sent (Reverse v left) a (old.sent v) (λ u h rec k. target-second T rows v a.resync.from u a.resync.related k)
   kept-sent (Release v t) a calm = sent (Release v t) a (old.sent v) (λ u h rec k. target-second T rows v a.from u a.related k)
+  kept-sent (Flash v u p s n) a calm = sent (Flash v u p s n) a (old.sent v) (λ u h rec k. target-second T rows v a.resync.from u a.resync.related k)
+  kept-sent (Revert v p s n) a calm = sent (Revert v p s n) a (old.sent v) (λ u h rec k. target-second T rows v a.from u a.related k)
   kept-sent (Restore v t u) a calm = sent (Restore v t u) a (λ x h rec. false_true a.idle rec) (λ x h rec k. false_true (rows.parts.free u v a.related a.reversing) (from_source _ _ x k).0)
   kept-sent (Store v t u last) a calm = sent (Store v t u last) a (old.sent v) (λ x h rec k. stored-there v t u _ a.takes a.out x h rec k)
   kept-sent (Mirror v t u w) a calm = sent (Mirror v t u w) a (old.sent v) (λ x h rec k. stored-there v t u _ a.takes a.out x h rec k)
@@ -138,11 +140,13 @@ module _ (write : ℕ → Write) (T : Table) (rows : SoundRows T) (c : Cuts) (no
   kept-sealed (Relate v s choices) a = sealed (Relate v s choices) a (λ u h nz. false_true a.no_secondary (from_source _ _ u h).0)
   kept-sealed (Withdraw v) a = sealed (Withdraw v) a (λ u h nz. target-second T rows v a.from u a.related h)
   kept-sealed (Resync v sequence) a = sealed (Resync v sequence) a (λ u h nz. target-second T rows v a.from u a.related h)
-  kept-sealed (Reverse v) a = sealed (Reverse v) a (λ u h nz. target-second T rows v a.resync.from u a.resync.related h)
+  kept-sealed (Reverse v left) a = sealed (Reverse v left) a (λ u h nz. target-second T rows v a.resync.from u a.resync.related h)
   kept-sealed (Release v t) a = sealed (Release v t) a (λ u h nz. target-second T rows v a.from u a.related h)
+  kept-sealed (Flash v u p s n) a = sealed (Flash v u p s n) a (λ u h nz. target-second T rows v a.resync.from u a.resync.related h)
+  kept-sealed (Revert v p s n) a = sealed (Revert v p s n) a (λ u h nz. target-second T rows v a.from u a.related h)
   kept-sealed (Restore v t u) a = sealed (Restore v t u) a (λ x h nz. false_true (rows.parts.free u v a.related a.reversing) (from_source _ _ x h).0)
   kept-sealed (Store v t u last) a = sealed (Store v t u last) a (λ x h nz. absurd (nz refl))
-  kept-sealed (Mirror v t u w) a = sealed (Mirror v t u w) a (λ x h nz. global_metro _ (ap (λ k. is_kind Global k) (sym (old.kinds v u a.takes a.sends)) ∙ old.sealed_global v nz) a.metro)
+  kept-sealed (Mirror v t u w) a = sealed (Mirror v t u w) a (λ x h nz. global_metro _ (ap (λ k. is_kind Global k) (sym (rows.seals.kinds v u a.takes a.sends)) ∙ rows.seals.global v nz) a.metro)
   kept-sealed (MakeSecondary v u kind state) a = sealed (MakeSecondary v u kind state) a (λ x h nz. absurd (nz refl))
   kept-sealed (DropSecondary v) a = sealed (DropSecondary v) a (λ x h. absurd cc)
   kept-sealed (TakeOver v) a = sealed (TakeOver v) a (λ x h. absurd cc)

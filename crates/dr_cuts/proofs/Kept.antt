@@ -7,14 +7,11 @@ use Rattle.dr_model.specs.Laws.{SoundRows}
 use Rattle.dr_model.specs.Allowed.{Allowed}
 use Rattle.dr_model.specs.Cuts.{Cuts, CutLaws, IsCalm, next_cuts}
 use Rattle.std.proofs.Common.{ℕ}
-use Rattle.dr_cuts.proofs.KeepsKinds.{kept-kinds, kept-global}
 use Rattle.dr_cuts.proofs.KeepsCut.{kept-cut, kept-unsent}
 use Rattle.dr_cuts.proofs.KeepsSent.{kept-sent, kept-sealed}
 
 pub kept-cuts : (write : ℕ → Write) (T : Table) (c : Cuts) (now : Lists) (m : Move) → CutLaws write c T → SoundRows T → Allowed write T m → IsCalm write now T m → CutLaws write (next_cuts now m c) (after write T m)
 kept-cuts write T c now m old rows a calm = record {
-  kinds = kept-kinds write T rows old.kinds m a;
-  sealed_global = kept-global write T rows old.kinds old.sealed_global m a;
   cut = kept-cut write T rows c now old.cut m a;
   unsent = kept-unsent write T rows c now old.unsent m a calm;
   sent = kept-sent write T rows c now old m a calm;

@@ -1,7 +1,6 @@
 pub mod AtLemmas
 pub mod Sets
 pub mod Still
-pub mod KeepsKinds
 pub mod KeepsCut
 pub mod KeepsSent
 pub mod Kept
@@ -13,3 +12,5 @@ pub mod Writes
 pub mod Begins
 pub mod Worlds
 pub mod Mays
+pub mod Sent
+pub mod SealEnds

@@ -20,10 +20,10 @@ snoc-from P step (x ∷ xs) done p = subst P (append_assoc done (x ∷ []) xs) (
 snoc : {X : Type 0} (P : List X → Type 0) → P [] → ((xs : List X) (x : X) → P xs → P (xs ++ x ∷ [])) → (xs : List X) → P xs
 snoc P none step xs = snoc-from P step xs [] none
 
-head-same : (x y : Event) (xs ys : List Event) → x ∷ xs ≡ y ∷ ys → x ≡ y
+pub head-same : (x y : Event) (xs ys : List Event) → x ∷ xs ≡ y ∷ ys → x ≡ y
 head-same x y xs ys h = cc
 
-tail-same : (x y : Event) (xs ys : List Event) → x ∷ xs ≡ y ∷ ys → xs ≡ ys
+pub tail-same : (x y : Event) (xs ys : List Event) → x ∷ xs ≡ y ∷ ys → xs ≡ ys
 tail-same x y xs ys h = cc
 
 module _ (n a : ℕ) where
@@ -60,7 +60,7 @@ pub cut-once : (events : List Event) → CutOnce events → (n a s z : ℕ) (pla
 cut-once events once n a s z place other = one-place n a no_past s z place.before place.behind other.before other.behind (subst (AllNew no_past) place.is once) (sym place.is ∙ other.is)
 
 -- a place in a list that has one event more
-nowhere : (before behind : List Event) (c : Event) → [] ≡ before ++ c ∷ behind → ⊥
+pub nowhere : (before behind : List Event) (c : Event) → [] ≡ before ++ c ∷ behind → ⊥
 nowhere [] behind c h = absurd cc
 nowhere (x ∷ xs) behind c h = absurd cc
 

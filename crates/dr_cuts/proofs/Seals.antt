@@ -11,11 +11,11 @@ use Rattle.dr_cuts.specs.Once.{CutOnce}
 use Rattle.dr_cuts.proofs.Still.{plain-second}
 use Rattle.dr_cuts.proofs.Places.{cut-found, cut-once}
 
-record Is (o : Option ℕ) : Type 0 where
-  value : ℕ
-  is : o ≡ Some value
+pub record Is (o : Option ℕ) : Type 0 where
+  pub value : ℕ
+  pub is : o ≡ Some value
 
-is-of : (o : Option ℕ) → is_some o ≡ true → Is o
+pub is-of : (o : Option ℕ) → is_some o ≡ true → Is o
 is-of None h = absurd cc
 is-of (Some s) h = record { value = s; is = refl }
 

@@ -1,14 +1,17 @@
 -- Sets of tracks, and choices.
-use Rattle.std.proofs.Common.{ℕ, ◌≡◌, ◌≢◌, refl, ap, Bool, true, false, cond, not, ◌&&◌, rules, Option, Some, None}
+use Rattle.std.proofs.Common.{ℕ, ◌≡◌, ◌≢◌, ◌∙◌, refl, ap, Bool, true, false, cond, not, ◌&&◌, rules, Option, Some, None}
 use Rattle.std.proofs.lemmas.Bool.Decides.{nat_tests}
+use Rattle.std.proofs.lemmas.Bool.{eqb-true}
 use Rattle.std.specs.Prelude.{is_some}
+use Rattle.std.specs.Ordering.{nat_cmp}
 use Rattle.std.specs.Cmp.{unsigned_tied}
-use Rattle.std.specs.FinSet.{contains, remove, members}
+use Rattle.std.specs.FinSet.{contains, empty, empty_of_len, remove, members}
 use Rattle.dr_model.specs.Layout.{Tracks}
 use Rattle.dr_model.specs.declared.state.Part.{Part}
 use Rattle.dr_model.specs.declared.state.Part.TheVariants.{Absent, Metro, Global}
 use Rattle.dr_model.specs.Layout.{is_part}
 use Rattle.dr_model.specs.Pairs.{is_kind, is_metro}
+use Rattle.dr_model.specs.Relations.{is_bare}
 
 pub false_true : {P : Type 0} {b : Bool} → b ≡ false → b ≡ true → P
 false_true n h = absurd cc
@@ -29,6 +32,9 @@ none_by (Some s) h = absurd (h refl)
 pub from_source : (related : Bool) (s u : ℕ) → cond related (Some s) None ≡ Some u → (related ≡ true) × (s ≡ u)
 from_source true s u h = (refl, (let e : Some s ≡ Some u = h in cc))
 from_source false s u h = absurd cc
+
+pub has_source : (related : Bool) (s : ℕ) → related ≡ true → cond related (Some s) None ≡ Some s
+has_source related s h = ap (λ b. cond b (Some s) None) h
 
 pub source_none : (related : Bool) (s : ℕ) → related ≡ false → cond related (Some s) None ≡ None
 source_none related s h = ap (λ b. cond b (Some s) None) h
@@ -61,3 +67,10 @@ landed_out true false s t h = absurd cc
 pub lifted_out : (held rec : Bool) (s t : Tracks) → cond held false rec ≡ true → (rec ≡ true) × (cond held s t ≡ t)
 lifted_out true rec s t h = absurd cc
 lifted_out false rec s t h = (h, refl)
+
+-- a set without tracks has none
+empty_has : (q : ℕ) → contains {R = nat_cmp} empty q ≡ false
+empty_has q = grind (members, rules)
+
+pub bare-has : (s : Tracks) (t : ℕ) → is_bare s ≡ true → contains s t ≡ false
+bare-has s t h = ap (λ s. contains s t) (empty_of_len s (eqb-true _ 0 h)) ∙ empty_has t

@@ -1,12 +1,12 @@
 -- What each kind of move tells the journal makes of the cuts: a hold alone cuts.
-use Rattle.std.proofs.Common.{ℕ, ◌≡◌, ap, sym, ◌∙◌, subst, true, false, List, [], ◌∷◌, ◌++◌}
+use Rattle.std.proofs.Common.{ℕ, ◌≡◌, ap, sym, ◌∙◌, subst, true, false, List, [], ◌∷◌, ◌++◌, None, Some}
 use Rattle.std.proofs.lemmas.List.{append_assoc}
 use Rattle.dr_model.specs.declared.event.Event.{Event}
 use Rattle.dr_model.specs.declared.event.Event.TheVariants.{Begin, Cut}
 use Rattle.dr_model.specs.Histories.{Histories, Write, lists}
 use Rattle.dr_model.specs.Relations.{rest, in_order, turned, given_up}
 use Rattle.dr_model.specs.Control.{Volume}
-use Rattle.dr_model.specs.Moves.{Move, Land, Overwrite, Keep, Relate, Withdraw, Fetch, Resync, Reverse, Restore, Release, Store, Suspend, TakeOver, Mirror, LandBoth, Hold, Seal, Leave, told, told_in_stop}
+use Rattle.dr_model.specs.Moves.{Move, Land, Overwrite, Keep, Relate, Withdraw, Fetch, Resync, Reverse, Restore, Release, Store, Suspend, TakeOver, Mirror, LandBoth, Hold, Seal, Leave, Flash, Commit, Revert, told, told_in_stop}
 use Rattle.dr_model.specs.Table.{Table}
 use Rattle.dr_model.specs.Laws.{Each, SoundRows}
 use Rattle.dr_model.specs.Allowed.{Allowed}
@@ -28,7 +28,8 @@ told-quiet (Relate v s choices) u no-hold = (tt, tt)
 told-quiet (Withdraw v) u no-hold = blank-quiet v (in_order u.tracks (rest u.tracks u.fields.own))
 told-quiet (Fetch v t) u no-hold = (tt, tt)
 told-quiet (Resync v sequence) u no-hold = (tt, tt)
-told-quiet (Reverse v) u no-hold = restored-quiet v u.fields.source u.tracks (turned u.fields).own _
+told-quiet (Reverse v None) u no-hold = restored-quiet v u.fields.source u.tracks (turned u.fields).own _
+told-quiet (Reverse v (Some p)) u no-hold = (tt, restored-quiet v u.fields.source u.tracks (turned u.fields).own _)
 told-quiet (Restore v t from) u no-hold = (tt, tt)
 told-quiet (Release v t) u no-hold = restored-quiet v u.fields.source u.tracks (given_up u.fields t).own _
 told-quiet (Store v t from last) u no-hold = (tt, tt)
@@ -38,6 +39,9 @@ told-quiet (Mirror v t from n) u no-hold = (tt, tt)
 told-quiet (LandBoth n v t) u no-hold = (tt, tt)
 told-quiet (Seal v a s n) u no-hold = (tt, tt)
 told-quiet (Leave v a s) u no-hold = (tt, tt)
+told-quiet (Flash v from a s n) u no-hold = (tt, tt)
+told-quiet (Commit v a s n) u no-hold = (tt, tt)
+told-quiet (Revert v a s n) u no-hold = (tt, tt)
 told-quiet m u no-hold = tt
 
 pub stop-quiet : (m : Move) (u : Volume) → IsNoHold m → NoCuts (told_in_stop m u)
@@ -55,7 +59,7 @@ module _ (events : List Event) where
   cuts-told (Hold v s n true) u = begun-cut s n v
   cuts-told (Hold v s n false) u = cut-pushed events s n v
   cuts-told (Withdraw v) u = cuts-quiet events _ (told-quiet (Withdraw v) u tt)
-  cuts-told (Reverse v) u = cuts-quiet events _ (told-quiet (Reverse v) u tt)
+  cuts-told (Reverse v left) u = cuts-quiet events _ (told-quiet (Reverse v left) u tt)
   cuts-told (Release v t) u = cuts-quiet events _ (told-quiet (Release v t) u tt)
   cuts-told (Suspend v busy) u = cuts-quiet events _ (told-quiet (Suspend v busy) u tt)
   cuts-told m u = cuts-append events (told m u)

@@ -15,7 +15,8 @@ use Rattle.dr_model.specs.Moves.{Move, Hold, told, told_in_stop}
 use Rattle.dr_model.specs.Table.{Row, Table, table, waiting}
 use Rattle.dr_model.specs.Groups.{Groups, IsMember}
 use Rattle.dr_model.specs.Laws.{SoundRows, Numbered, AllPending, servers}
-use Rattle.dr_model.specs.Allowed.{Allowed, Ready, InGroup}
+use Rattle.dr_model.specs.Allowed.{Allowed, Ready}
+use Rattle.dr_model.specs.Attempts.{InAttempt}
 use Rattle.dr_model.specs.Cuts.{CutLaws, IsCalm, past, cuts, next_cuts}
 use Rattle.dr_cuts.specs.Once.{CutOnce, NoCuts, HoldsNew}
 use Rattle.dr_cuts.specs.Sound.{CutsBelow, CutsDefined, SoundCuts, HeldDefined, MovedTo, SameRow}
@@ -44,8 +45,8 @@ calm-ready w m ready = tt
 pub member-defined : (w : World) (v s : ℕ) → Groups w.control → IsMember w.control v s → (table w v).defined ≡ true
 member-defined w v s groups m = subst (λ j. is_volume w.control j ≡ true) m.is ((groups.each m.session m.listed).stands m.member m.here).a
 
-pub held-defined : (w : World) (m : Move) → Groups w.control → InGroup w.control m → HeldDefined (table w) m
-held-defined w (Hold v s n first) groups g = member-defined w v s groups g.place
+pub held-defined : (w : World) (m : Move) → Groups w.control → InAttempt w.control m → HeldDefined (table w) m
+held-defined w (Hold v s n first) groups g = member-defined w v s groups g.0.place
 held-defined w m groups g = tt
 
 -- before the first step

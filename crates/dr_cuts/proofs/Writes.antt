@@ -25,8 +25,6 @@ below-next n c now m lists low = low
 -- other writes, of which those of the lists are as they were
 pub laws-write : (write more : ℕ → Write) (c : Cuts) (T : Table) → ((k v t : ℕ) → image more (c.held k v t) ≡ image write (c.held k v t)) → CutLaws write c T → CutLaws more c T
 laws-write write more c T same old = record {
-  kinds = old.kinds;
-  sealed_global = old.sealed_global;
   cut = old.cut;
   unsent = λ v rec t lt i. old.unsent v rec t lt i ∙ sym (same _ v t);
   sent = λ v u h rec k t lt i. old.sent v u h rec k t lt i ∙ sym (same _ v t);
@@ -45,10 +43,9 @@ laws-rows write c T U same old =
       volume = record (U v).volume { fields = sym (same v).fields i; tracks = sym (same v).tracks i };
       bytes = (U v).bytes;
       due = λ t. sym ((same v).due t) i;
+      aside = (U v).aside;
     })
     (record {
-      kinds = old.kinds;
-      sealed_global = old.sealed_global;
       cut = old.cut;
       unsent = old.unsent;
       sent = old.sent;

@@ -2,7 +2,8 @@
 //! secondary holds once it is sealed. Its functions do nothing: each names a law by its contract.
 #![tactic(auto)]
 
-ghost use Rattle.std.specs.Prelude.{◌≡◌, ◌+◌, ◌++◌, ℕ, List, [], ◌∷◌, Option, Some, true, false};
+ghost use Rattle.std.specs.Prelude.{◌≡◌, ◌+◌, ◌++◌, ℕ, Bool, List, [], ◌∷◌, Option, Some, None, true, false};
+ghost use Rattle.dr_ids.specs.declared.refusal.Refusal.{Refusal};
 ghost use Rattle.dr_model.specs.declared.event.Event.{Event};
 ghost use Rattle.dr_model.specs.declared.event.Event.TheVariants.{Issue};
 ghost use Rattle.dr_model.specs.Tables.{at};
@@ -11,11 +12,14 @@ ghost use Rattle.dr_model.specs.Histories.{Lists, Write, histories, lists};
 ghost use Rattle.dr_model.specs.Control.{Volume, World, nothing};
 ghost use Rattle.dr_model.specs.Moves.{Move, Hold, told, told_in_stop};
 ghost use Rattle.dr_model.specs.Table.{Row, Table, table};
+ghost use Rattle.dr_model.specs.ReadStops.{Ends};
 ghost use Rattle.dr_model.specs.Rows.{after};
+ghost use Rattle.dr_model.specs.SessionEntries.{is_drained, seal_entries};
 ghost use Rattle.dr_model.specs.Laws.{SoundRows, SoundBut, Below};
 ghost use Rattle.dr_model.specs.Allowed.{Allowed, May, MayOpen};
 ghost use Rattle.dr_model.specs.Cuts.{Cuts, CutLaws, IsCalm, CutAt, SealsHold, no_cuts, past, cuts, next_cuts};
 ghost use Rattle.dr_cuts.specs.Once.{CutOnce, NoCuts, HoldsNew, Found};
+ghost use Rattle.dr_cuts.specs.Sent.{SendsTo, CutsHold, SealedFor};
 ghost use Rattle.dr_cuts.specs.Sound.{CutsBelow, CutsDefined, SoundCuts, HeldDefined, MovedTo, SameRow};
 
 /// Each kind of move keeps the laws on cuts, where it is allowed: a primary that records was cut for its attempt and for none
@@ -49,6 +53,15 @@ pub fn cuts_have_one_place()
 /// at the one cut of that number.
 pub fn seals_hold()
     ensures { (w : World) → SoundRows (table w) → SoundCuts w → SealsHold w }
+{}
+
+/// In a world whose cuts are sound, each secondary contains of the cut of its primary what was sent of it while the primary
+/// records, and all of it where it is sealed. A seal keeps that so, however its entries end, also where servers stop in it; and
+/// where nothing was left to send and it isn't refused, the secondary is sealed for the attempt and holds its cut.
+pub fn seals_leave_the_cut()
+    ensures sound { (w : World) → SoundRows (table w) → SoundCuts w → CutsHold w }
+    ensures kept { (w u : World) (s a b n : ℕ) (armed : ℕ → Bool) (r : Option Refusal) → CutsHold w → SendsTo w a b → Ends armed u r w (seal_entries s a b n) → CutsHold u }
+    ensures sealed { (w u : World) (s a b n : ℕ) (armed : ℕ → Bool) → CutsHold w → SendsTo w a b → Ends armed u None w (seal_entries s a b n) → is_drained a w.control ≡ true → SealedFor u b a n }
 {}
 
 /// A write that is issued later changes no law on cuts: the lists that are held at cuts have only numbers of writes that were

@@ -11,6 +11,7 @@ use Rattle.dr_config.proofs.Lookups.{entry-at-place}
 use Rattle.dr_model.specs.Control.{Control, World}
 use Rattle.dr_model.specs.Carry.{Entry, check}
 use Rattle.dr_model.specs.Entries.{copies_from}
+use Rattle.dr_model.specs.PairEntries.{refuse_if, end_if}
 use Rattle.dr_model.specs.Refusals.{stopped}
 use Rattle.dr_model.specs.ReadStops.{Ends}
 use Rattle.dr_volume.specs.View.{Rest, volume_seen, volume_at, on_seen, ids_of}
@@ -18,12 +19,19 @@ use Rattle.dr_flash.specs.Checks.{is_stop}
 use Rattle.dr_flash.specs.Faults.{Counted}
 use Rattle.dr_flash.specs.Here.{refusal_of}
 use Rattle.dr_flash.specs.Standing.{targets_in}
-use Rattle.dr_flash.proofs.EndsLemmas.{ends-refused, ends-none}
+use Rattle.dr_flash.proofs.EndsLemmas.{ends-refused, ends-none, ends-skips, ends-alike}
 use Rattle.dr_flash.specs.Turns.{Advances, Halts}
 use Rattle.dr_flash.proofs.StandingLemmas.{any-count}
 
 pub refuses : (armed : ℕ → Bool) (w : World) (ok : Control → Bool) (why : Refusal) (r : Option Refusal) (ds : List Entry) → ok w.control ≡ false → r ≡ Some why → Ends armed w r w (check ok why ∷ ds)
 refuses armed w ok why r ds h is = ends-refused armed w r w ok why ds h refl is
+
+-- a reason to refuse, where there is one
+pub ends-clear : (armed : ℕ → Bool) (u : World) (r : Option Refusal) (w : World) (why : Control → Option Refusal) (ds : List Entry) → why w.control ≡ None → Ends armed u r w ds → Ends armed u r w (refuse_if why ∷ ds)
+ends-clear armed u r w why ds none more = ends-skips armed u r w (refuse_if why) ds (ap end_if none) more
+
+pub ends-why : (armed : ℕ → Bool) (w : World) (why : Control → Option Refusal) (e : Refusal) (ds : List Entry) → why w.control ≡ Some e → Ends armed w (Some e) w (refuse_if why ∷ ds)
+ends-why armed w why e ds is = ends-alike armed w (Some e) w (refuse_if why) (check (λ k. false) e) ds (ap end_if is) (ends-refused armed w (Some e) w (λ k. false) e ds refl refl refl)
 
 -- tests of numbers
 pub same-test : (a b : ℕ) → a ≡ b → nat_eq a b ≡ true

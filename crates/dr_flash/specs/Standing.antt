@@ -1,8 +1,10 @@
 -- The targets of a volume, and how it is seen.
-use Rattle.std.specs.Prelude.{ℕ, Bool, ◌&&◌, ◌||◌, List, filter, nat_lt, if◌then◌else◌}
+use Rattle.std.specs.Prelude.{ℕ, Bool, ◌&&◌, ◌||◌, List, filter, Option, Some, None, nat_lt, if◌then◌else◌}
 use Rattle.std.specs.List.{list_any}
 use Rattle.dr_ids.specs.declared.refusal.RelSeen.{RelSeen}
 use Rattle.dr_ids.specs.declared.refusal.RelSeen.TheVariants.{Revertible, Reversing, Target, Source, None as Unrelated}
+use Rattle.dr_ids.specs.declared.refusal.Refusal.{Refusal}
+use Rattle.dr_ids.specs.declared.refusal.Refusal.TheVariants.{InSession}
 use Rattle.dr_plant.specs.State.{PlantState}
 use Rattle.dr_config.specs.Table.{Table}
 use Rattle.dr_model.specs.Layout.{Fields}
@@ -26,3 +28,7 @@ relation_of f all =
     else if f.related then Target
     else if nat_lt 0 all.count then Source
     else Unrelated
+
+-- why a target with these fields can't be withdrawn or made a copy anew, if it can't: it is a member's
+abbrev pub counted_by : Fields → Option Refusal
+counted_by f = if f.member then Some (InSession (record { 0 = f.session })) else None

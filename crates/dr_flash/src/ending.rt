@@ -24,7 +24,7 @@ ghost use Rattle.dr_flash.specs.Views.{view_seen, OthersShow};
 use crate::acts::shift;
 use crate::fields::withdrawn;
 use crate::place::{server_of, tracks_of};
-use crate::standing::relation_state;
+use crate::standing::{counted_refusal, relation_state};
 use crate::told::{Telling, Told};
 use dr_config::Config;
 use dr_ids::{Refusal, VolumeId};
@@ -79,9 +79,9 @@ fn part<P: Plant>(
 }
 
 /// Ends the relationship of target t of s; the caller knows both volumes. The tracks that t doesn't hold read zeros from then
-/// on. Refused where the server of s is off, or else where t is no target of s, or one that is revertible or reversing.
-/// Fails too where the server stops in the move or goes off at a read. The journal needs room for 257 events: one for each
-/// track, and a stop.
+/// on. Refused where the server of s is off, or else where t is the target of a member of a session, which is named, or else
+/// where t is no target of s, or one that is revertible or reversing. Fails too where the server stops in the move or goes off
+/// at a read. The journal needs room for 257 events: one for each track, and a stop.
 pub fn withdraw<P: Plant>(
     p: &mut P,
     c: &Config,
@@ -113,6 +113,9 @@ pub fn withdraw<P: Plant>(
         return Err(Refusal::ServerOff { server });
     }
     let fields = peek_fields(p, c, t);
+    if let Some(why) = counted_refusal(&fields) {
+        return Err(why);
+    }
     if !is_plain_target(&fields, s) {
         return Err(relation_state(p, c, t));
     }

@@ -33,7 +33,7 @@ pub use pairs::{is_part, is_quiet, is_suspended, is_unpaired, pair_state};
 pub use place::{server_of, tracks_of};
 pub use reads::{open_told, read_told};
 pub use sets::{is_whole, lowest, rest};
-pub use standing::{is_revertible, is_settled, relation_state, write_refusal};
+pub use standing::{counted_refusal, is_revertible, is_settled, relation_state, write_refusal};
 pub use told::{Telling, Told};
 pub use views::view_of;
 pub use writing::{write_source, write_source_telling, write_target};

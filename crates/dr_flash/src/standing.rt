@@ -9,12 +9,12 @@ ghost use Rattle.dr_volume.specs.Plain.{plain};
 ghost use Rattle.dr_volume.specs.View.{Rest};
 ghost use Rattle.dr_flash.specs.Checks.{is_stop};
 ghost use Rattle.dr_flash.specs.Here.{seen};
-ghost use Rattle.dr_flash.specs.Standing.{targets_in, any_of, relation_of};
+ghost use Rattle.dr_flash.specs.Standing.{targets_in, any_of, relation_of, counted_by};
 ghost use Rattle.dr_flash.specs.HostWrites.{write_refusal};
 
 use crate::pairs::is_part;
 use dr_config::Config;
-use dr_ids::{Refusal, RelSeen, VolumeId};
+use dr_ids::{Refusal, RelSeen, SessionId, VolumeId};
 use dr_plant::Plant;
 use dr_volume::{Fields, peek_fields};
 
@@ -129,6 +129,19 @@ fn is_settled_by(f: &Fields, all: Targets) -> bool
 {
     !((f.related && f.revertible) || all.revertible)
         && !((f.related && f.reversing) || all.reversing)
+}
+
+/// Why a target can't be withdrawn or made a copy anew, however it is related: it is a member's, whose session is named.
+pub fn counted_refusal(f: &Fields) -> Option<Refusal>
+    ensures refusal { result ≡ counted_by (plain f.now) }
+    ensures calm { is_stop result ≡ false }
+{
+    if f.member {
+        return Some(Refusal::InSession {
+            session: SessionId(f.session),
+        });
+    }
+    None
 }
 
 /// Why a host write on a volume is refused for good, if it is: the volume is a secondary, an inhibited target, or target or source of a

@@ -2,7 +2,7 @@
 
 ghost use Rattle.std.specs.Prelude.{◌≡◌, ◌≤◌, ◌+◌, ◌++◌, length};
 ghost use Rattle.dr_model.specs.Moves.{told_blank, told_restored};
-ghost use Rattle.dr_flash.specs.Told.{events_of};
+ghost use Rattle.dr_flash.specs.Told.{event_of, events_of};
 ghost use Rattle.dr_flash.specs.Turns.{told_in_stop};
 
 use dr_bits::TrackSet;
@@ -23,8 +23,10 @@ pub enum Told {
         own: TrackSet,
     },
     /// A target, a volume with so many tracks, has these left to give back to its source: where there are none, the
-    /// restore has ended, and each track of the target reads zeros.
+    /// restore has ended, and each track of the target reads zeros. Where the target leaves its session by it, that is
+    /// told first.
     Returned {
+        left: Option<Event>,
         volume: u16,
         source: u16,
         tracks: u16,
@@ -74,11 +76,26 @@ pub(crate) fn tell(j: &mut Journal, told: &Told)
             own,
         } => tell_blank(j, *volume, *tracks, own),
         Told::Returned {
+            left,
             volume,
             source,
             tracks,
             own,
-        } => tell_returned(j, *volume, *source, *tracks, own),
+        } => {
+            tell_left(j, left);
+            tell_returned(j, *volume, *source, *tracks, own);
+        }
+    }
+}
+
+/// Tells that a target leaves its session, where it does.
+fn tell_left(j: &mut Journal, left: &Option<Event>)
+    requires { length (event_of left.now) ≤ j.old.spare }
+    ensures events { j.new.events ≡ j.old.events ++ event_of left.now }
+    ensures spare { j.old.spare ≡ j.new.spare + length (event_of left.now) }
+{
+    if let Some(event) = left {
+        j.push(*event);
     }
 }
 

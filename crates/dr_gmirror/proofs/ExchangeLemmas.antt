@@ -1,5 +1,5 @@
 -- The plan of an exchange, from what the calls say.
-use Rattle.std.proofs.Common.{ℕ, ◌≡◌, ◌+◌, Bool, true, false, ◌&&◌, nat_le, arith, List, [], ◌++◌, length, refl, sym, ◌∙◌, ap, subst, Option, None, Some}
+use Rattle.std.proofs.Common.{ℕ, ◌≡◌, ◌+◌, Bool, true, false, ◌&&◌, nat_le, List, [], ◌++◌, length, refl, sym, ◌∙◌, ap, subst, Option, None, Some}
 use Rattle.std.specs.Prelude.{if◌then◌else◌, IfSome}
 use Rattle.std.proofs.lemmas.List.{append-nil}
 use Rattle.dr_ids.specs.declared.names.Member.{Member}
@@ -27,7 +27,7 @@ use Rattle.dr_flash.specs.Here.{seen}
 use Rattle.dr_flash.proofs.EndsLemmas.{ends-none}
 use Rattle.dr_gmirror.specs.declared.looks.Look.{Look}
 use Rattle.dr_gmirror.specs.Orders.{with_sessions}
-use Rattle.dr_gmirror.specs.Exchange.{PlanEnds, Looks, LooksAt, is_awaited}
+use Rattle.dr_gmirror.specs.Exchange.{PlanEnds, Looks, LooksAt, members_in_reply, is_awaited}
 
 silent : (w : World) → record w { events = w.events ++ [] } ≡ w
 silent w i = record w { events = append-nil w.events i }
@@ -52,17 +52,17 @@ follow-nothing w _ = refl
 
 -- the sessions after an exchange
 pub last-world : (reply : Bool) (u : PlantState) (t : Table) (mid new : List Session) (r : Rest) (events : List Event) (s server : ℕ) (work : phases.Work) (ms : List Member) (y : phases.Reply)
-    → new ≡ (if reply then changed s (with_master (λ m. phases.replied m server y)) mid else mid) → y ≡ reply_after work ms (seen u t (with_sessions mid r) events).control
+    → new ≡ (if reply then changed s (with_master (λ m. phases.taken m server y)) mid else mid) → y ≡ reply_after s work ms (seen u t (with_sessions mid r) events).control
     → seen u t (with_sessions new r) events ≡ record (seen u t (with_sessions mid r) events) { control = (if reply then answered_by s server work ms else same) (seen u t (with_sessions mid r) events).control }
-last-world true u t mid new r events s server work ms y is says = ap (λ z. seen u t (with_sessions z r) events) (is ∙ ap (λ a. changed s (with_master (λ m. phases.replied m server a)) mid) says)
+last-world true u t mid new r events s server work ms y is says = ap (λ z. seen u t (with_sessions z r) events) (is ∙ ap (λ a. changed s (with_master (λ m. phases.taken m server a)) mid) says)
 last-world false u t mid new r events s server work ms y is says = ap (λ z. seen u t (with_sessions z r) events) is
 
 -- the reply is one that the master awaits
-pub expected-by : (o : Option Mirror) (server : ℕ) (y : Reply) (a : phases.Reply) → reply_of y ≡ a → count_in y ≡ 0 → is_awaited o server a ≡ true → expects o server y ≡ true
-expected-by None server y a is none h = h
-expected-by (Some r) server y a is none h =
-    (λ i. phases.awaits r.master server (is i) && nat_le (length r.master.reports + none i) 64)
-    ∙ ap (λ n. phases.awaits r.master server a && nat_le n 64) (let e : length r.master.reports + 0 ≡ length r.master.reports = omega arith in e)
+pub expected-by : (o : Option Mirror) (server : ℕ) (y : Reply) (a : phases.Reply) → reply_of y ≡ a → count_in y ≡ members_in_reply (reply_of y) → is_awaited o server a ≡ true → expects o server y ≡ true
+expected-by None server y a is count h = h
+expected-by (Some r) server y a is count h =
+    ap (λ n. phases.awaits r.master server (reply_of y) && nat_le (length r.master.reports + n) 64) count
+    ∙ ap (λ (q : phases.Reply). phases.awaits r.master server q && nat_le (length r.master.reports + members_in_reply q) 64) is
     ∙ h
 
 -- what was looked at

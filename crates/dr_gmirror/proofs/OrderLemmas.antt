@@ -21,7 +21,7 @@ use Rattle.dr_flash.specs.Here.{seen}
 use Rattle.dr_flash.specs.Turns.{Leads, Fails}
 use Rattle.dr_gcopy.proofs.SendLemmas.{then-leads, then-fails, fails-first, fails-wider}
 use Rattle.dr_gcopy.proofs.TwoMoves.{server-stays}
-use Rattle.dr_gmirror.specs.Orders.{IsReady, is_seal, sync_seen, must_wait, waits_in}
+use Rattle.dr_gmirror.specs.Orders.{IsReady, is_seal, is_report, sync_seen, must_wait, waits_in}
 
 -- one member, on the server or elsewhere
 pub entries-on : (work : phases.Work) (s n server : ℕ) (m : Member) → is_on server m ≡ true → order_entries work s n (members_on server (m ∷ [])) ≡ member_entries work s n m
@@ -85,19 +85,25 @@ member-there ms i o is low = ap is_some is ∙ there ms i low
 
 -- a member is ready on a later plant, too
 pub still-ready : (s u : PlantState) (t : Table) (m : Member) → IsReady s t m → IsReady u t m
-still-ready s u t m ready = record { primary = ready.primary; secondary = ready.secondary; server = server-stays s u t m.a.0 ready.primary ∙ ready.server }
+still-ready s u t m ready = record {
+  primary = ready.primary;
+  secondary = ready.secondary;
+  target = ready.target;
+  server = server-stays s u t m.a.0 ready.primary ∙ ready.server;
+  together = server-stays s u t m.c.0 ready.target ∙ ready.together ∙ sym (server-stays s u t m.b.0 ready.secondary);
+}
 
 -- what is replied
 
-pub reply-is : (work : phases.Work) (s : PlantState) (t : Table) (ms : List Member) (waits : Bool) (reply : phases.Reply) → waits ≡ waits_in work (sync_seen s t) ms → reply ≡ (if waits then phases.NotYet else phases.Done) → (r : Rest) (events : List Event) → reply ≡ reply_after work ms (seen s t r events).control
-reply-is phases.Seal s t ms waits reply is says r events = says ∙ ap (λ b. if b then phases.NotYet else phases.Done) is
-reply-is phases.Hold s t ms waits reply is says r events = says ∙ ap (λ b. if b then phases.NotYet else phases.Done) is
-reply-is phases.Release s t ms waits reply is says r events = says ∙ ap (λ b. if b then phases.NotYet else phases.Done) is
-reply-is phases.Flash s t ms waits reply is says r events = says ∙ ap (λ b. if b then phases.NotYet else phases.Done) is
-reply-is phases.Commit s t ms waits reply is says r events = says ∙ ap (λ b. if b then phases.NotYet else phases.Done) is
-reply-is phases.Revert s t ms waits reply is says r events = says ∙ ap (λ b. if b then phases.NotYet else phases.Done) is
-reply-is phases.Finish s t ms waits reply is says r events = says ∙ ap (λ b. if b then phases.NotYet else phases.Done) is
-reply-is phases.Report s t ms waits reply is says r events = says ∙ ap (λ b. if b then phases.NotYet else phases.Done) is
+pub reply-is : (k : ℕ) (work : phases.Work) (s : PlantState) (t : Table) (ms : List Member) (waits : Bool) (reply : phases.Reply) → is_report work ≡ false → waits ≡ waits_in work (sync_seen s t) ms → reply ≡ (if waits then phases.NotYet else phases.Done) → (r : Rest) (events : List Event) → reply ≡ reply_after k work ms (seen s t r events).control
+reply-is k phases.Seal s t ms waits reply other is says r events = says ∙ ap (λ b. if b then phases.NotYet else phases.Done) is
+reply-is k phases.Hold s t ms waits reply other is says r events = says ∙ ap (λ b. if b then phases.NotYet else phases.Done) is
+reply-is k phases.Release s t ms waits reply other is says r events = says ∙ ap (λ b. if b then phases.NotYet else phases.Done) is
+reply-is k phases.Flash s t ms waits reply other is says r events = says ∙ ap (λ b. if b then phases.NotYet else phases.Done) is
+reply-is k phases.Commit s t ms waits reply other is says r events = says ∙ ap (λ b. if b then phases.NotYet else phases.Done) is
+reply-is k phases.Revert s t ms waits reply other is says r events = says ∙ ap (λ b. if b then phases.NotYet else phases.Done) is
+reply-is k phases.Finish s t ms waits reply other is says r events = says ∙ ap (λ b. if b then phases.NotYet else phases.Done) is
+reply-is k phases.Report s t ms waits reply other is says r events = absurd cc
 
 -- what holds of an answer, along another fact of it
 pub if-along : {T E : Type 0} {P Q : T → Type 0} (r : Result T E) → IfOk r P → ((x : T) → P x → Q x) → IfOk r Q
@@ -145,3 +151,14 @@ any-hit p ms i m at hit =
 pub any-miss : (p : Member → Bool) (ms : List Member) (i : ℕ) (m : Member) → Some m ≡ slice_get ms i → list_any p (take i ms) ≡ false → p m ≡ false → list_any p (take (i + 1) ms) ≡ false
 any-miss p ms i m at none miss =
     ap (list_any p) (member-next ms i m at) ∙ list_any-append p (take i ms) (m ∷ []) ∙ (λ k. none k || (miss k || false))
+
+-- an order that asks what members show is a report
+pub report-only : (w : phases.Work) → true ≡ is_report w → w ≡ phases.Report
+report-only phases.Report h = refl
+report-only phases.Hold h = absurd cc
+report-only phases.Release h = absurd cc
+report-only phases.Seal h = absurd cc
+report-only phases.Flash h = absurd cc
+report-only phases.Commit h = absurd cc
+report-only phases.Revert h = absurd cc
+report-only phases.Finish h = absurd cc

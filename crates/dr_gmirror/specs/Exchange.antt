@@ -1,5 +1,5 @@
 -- Exchanges between a session's master and a server.
-use Rattle.std.specs.Prelude.{◌≡◌, ℕ, ◌<◌, Bool, true, false, ◌&&◌, List, length, nat_le, Option, Some, None, option_map, Result, Ok, Err}
+use Rattle.std.specs.Prelude.{◌≡◌, ◌≢◌, ℕ, ◌<◌, ◌+◌, Bool, true, false, ◌&&◌, List, [], ◌∷◌, length, nat_le, Option, Some, None, option_map, Result, Ok, Err}
 use Rattle.dr_ids.specs.declared.names.Member.{Member}
 use Rattle.dr_ids.specs.declared.refusal.PhaseName.{PhaseName}
 use Rattle.dr_ids.specs.declared.refusal.PhaseName.TheVariants as phase
@@ -43,15 +43,6 @@ abbrev pub order_in : Option Mirror → ℕ → Option phases.Order
 order_in None server = None
 order_in (Some r) server = order_of r server
 
--- the phases in which an exchange is built
-abbrev pub is_built : PhaseName → Bool
-is_built phase.Idle = true
-is_built phase.Coordinating = true
-is_built phase.Releasing = true
-is_built phase.Draining = true
-is_built phase.Finishing = true
-is_built p = false
-
 -- what an exchange looks at of a master
 pub record Looks (x : Look) (r : Mirror) (server : ℕ) : Type 0 where
   pub runs : x.server.0 ≡ r.server
@@ -65,19 +56,42 @@ LooksAt None None server = Unit {0}
 LooksAt (Some x) (Some r) server = Looks x r server
 LooksAt _ _ server = ⊥
 
--- whether there is a master, and it awaits this reply, and not too much was reported to it
+-- of how many members a reply speaks
+abbrev pub members_in_reply : phases.Reply → ℕ
+members_in_reply (phases.Reported xs) = length xs
+members_in_reply y = 0
+
+-- whether it says what members show
+abbrev pub says_shown : phases.Reply → Bool
+says_shown (phases.Reported xs) = true
+says_shown y = false
+
+-- whether there is a master that is Lost, and all have reported to it
+abbrev pub is_lost : PhaseName → Bool
+is_lost phase.Lost = true
+is_lost p = false
+
+abbrev pub is_none : List ℕ → Bool
+is_none [] = true
+is_none (s ∷ rest) = false
+
+abbrev pub can_settle : Option Mirror → Bool
+can_settle None = false
+can_settle (Some r) = is_lost r.master.phase && is_none r.master.owed
+
+-- whether there is a master, and it awaits this reply, and all reports to it speak of 64 members at most
 abbrev pub is_awaited : Option Mirror → ℕ → phases.Reply → Bool
 is_awaited None server y = false
-is_awaited (Some r) server y = phases.awaits r.master server y && nat_le (length r.master.reports) 64
+is_awaited (Some r) server y = phases.awaits r.master server y && nat_le (length r.master.reports + members_in_reply y) 64
 
--- The master runs on a server that is defined, and its phase is one in which an exchange is built.
+-- The master runs on a server that is defined, and is in a phase.
 pub record IsNear (names : ℕ) (r : Mirror) : Type 0 where
   pub low : r.server < 8
   pub known : r.server < names
-  pub built : is_built r.master.phase ≡ true
+  pub in_phase : r.master.phase ≢ phase.None
 
 -- The order that the server carries out may come, and where the entries lead on, the master awaits the reply.
 pub record MayExchange (w : World) (s server : ℕ) (o : phases.Order) : Type 0 where
   pub may : MayOrder o.work w.control.sessions s o.number
   pub awaited : (v : World) → Leads w (order_entries o.work s o.number (members_on server (members_in (session_in w.control.sessions s)))) v
-      → is_awaited (mirror_in (session_in v.control.sessions s)) server (reply_after o.work (members_on server (members_in (session_in w.control.sessions s))) v.control) ≡ true
+      → is_awaited (mirror_in (session_in v.control.sessions s)) server (reply_after s o.work (members_on server (members_in (session_in w.control.sessions s))) v.control) ≡ true

@@ -5,7 +5,7 @@ use Rattle.dr_ids.specs.declared.names.Member.{Member}
 use Rattle.dr_bits.specs.Tracks.{Tracks}
 use Rattle.dr_plant.specs.State.{PlantState}
 use Rattle.dr_config.specs.Table.{Table, place_of}
-use Rattle.dr_model.specs.Phases.{Work, Hold, Release, Seal, Finish}
+use Rattle.dr_model.specs.Phases.{Work, Hold, Seal, Report}
 use Rattle.dr_model.specs.Relations.{is_bare}
 use Rattle.dr_model.specs.Sessions.{Session, session_in, mirror_in, begin_refusal, changed, begun}
 use Rattle.dr_volume.specs.View.{Rest, volume_seen}
@@ -36,27 +36,25 @@ abbrev pub MayOrder : Work → List Session → ℕ → ℕ → Type 0
 MayOrder Hold ss s n = MayBegin ss s n
 MayOrder _ ss s n = Unit {0}
 
--- A member's primary and secondary are defined, and its server is that of the primary.
+-- A member's volumes are defined, its server is that of the primary, and its target is on the secondary's.
 pub record IsReady (s : PlantState) (t : Table) (m : Member) : Type 0 where
   pub primary : is_some (place_of t m.a.0) ≡ true
   pub secondary : is_some (place_of t m.b.0) ≡ true
+  pub target : is_some (place_of t m.c.0) ≡ true
   pub server : (volume_seen s t m.a.0).server ≡ m.server.0
+  pub together : (volume_seen s t m.c.0).server ≡ (volume_seen s t m.b.0).server
 
 -- so it is for each member
 abbrev pub AreReady : PlantState → Table → List Member → Type 0
 AreReady s t ms = (i : ℕ) (m : Member) → slice_get ms i ≡ Some m → IsReady s t m
 
--- orders to hold, to release, to seal and to finish
-abbrev pub is_near : Work → Bool
-is_near Hold = true
-is_near Release = true
-is_near Seal = true
-is_near Finish = true
-is_near _ = false
-
 abbrev pub is_seal : Work → Bool
 is_seal Seal = true
 is_seal _ = false
+
+abbrev pub is_report : Work → Bool
+is_report Report = true
+is_report _ = false
 
 -- the tracks of a volume that are out of sync
 abbrev pub sync_seen : PlantState → Table → ℕ → Tracks

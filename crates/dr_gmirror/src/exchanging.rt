@@ -1,6 +1,7 @@
 //! A session's master and a server exchange an order and the reply.
 
-ghost use Rattle.std.specs.Prelude.{◌≡◌, ℕ, ◌<◌, ◌≤◌, ◌+◌, true, false, length, None, Some, IfSome, List, OnOk, OnErr, option_map, if◌then◌else◌};
+ghost use Rattle.std.specs.Prelude.{◌≡◌, ◌≢◌, ℕ, ◌<◌, ◌≤◌, ◌+◌, ◌&&◌, true, false, length, None, Some, IfSome, List, OnOk, OnErr, option_map, if◌then◌else◌};
+ghost use Rattle.dr_ids.specs.declared.refusal.PhaseName.TheVariants as phase;
 ghost use Rattle.dr_ids.specs.declared.refusal.Refusal.{Refusal};
 ghost use Rattle.dr_model.specs.declared.event.Event.{Event};
 ghost use Rattle.dr_model.specs.Phases as phases;
@@ -15,8 +16,9 @@ ghost use Rattle.dr_flash.specs.Checks.{OnNone, is_stop};
 ghost use Rattle.dr_flash.specs.Faults.{Counted};
 ghost use Rattle.dr_flash.specs.Fit.{RelationsFit};
 ghost use Rattle.dr_flash.specs.Here.{seen, refusal_of, armed_in, IsAtRest};
+ghost use Rattle.dr_coord.specs.Aside.{AsideFits};
 ghost use Rattle.dr_gmirror.specs.Orders.{with_sessions, AreReady};
-ghost use Rattle.dr_gmirror.specs.Exchange.{PlanEnds, answer_of, refusal_in, order_in, is_built, Looks, IsNear, MayExchange};
+ghost use Rattle.dr_gmirror.specs.Exchange.{PlanEnds, answer_of, refusal_in, order_in, says_shown, can_settle, Looks, IsNear, MayExchange};
 
 use crate::looks::{Look, apart_refusal, has_member_on, idle_refusal, is_idle, off_refusal};
 use crate::orders::carry_out;
@@ -30,7 +32,7 @@ use dr_session::Sessions;
 /// Why the server has no exchange with the master in its phase: where no attempt goes on, none begins with it; else it isn't
 /// owed an order.
 fn phase_refusal(ss: &Sessions, s: SessionId, server: ServerId, x: &Look) -> Option<Refusal>
-    ensures refusal { (r : model.Mirror) → Looks x.now r server.0 → is_built r.master.phase ≡ true → result ≡ plans.phase_refusal r server.0 (model.members_in (model.session_in ss.now.sessions s.0)) }
+    ensures refusal { (r : model.Mirror) → Looks x.now r server.0 → r.master.phase ≢ phase.None → result ≡ plans.phase_refusal r server.0 (model.members_in (model.session_in ss.now.sessions s.0)) }
     ensures number { OnNone result (plans.is_idle x.now.phase ≡ true → x.now.number + 1 < 4294967296) }
     ensures calm { is_stop result ≡ false }
 {
@@ -57,7 +59,7 @@ fn exchange_refusal<P: Plant>(
     requires known { server.0 < length c.now.names }
     requires master_low { x.now.server.0 < 8 }
     requires master_known { x.now.server.0 < length c.now.names }
-    ensures refusal { (q : Rest) (events : List Event) (r : model.Mirror) → Looks x.now r server.0 → is_built r.master.phase ≡ true → result ≡ plans.exchange_refusal (seen (P.state p.now) c.now q events).control r server.0 (model.members_in (model.session_in ss.now.sessions s.0)) }
+    ensures refusal { (q : Rest) (events : List Event) (r : model.Mirror) → Looks x.now r server.0 → r.master.phase ≢ phase.None → result ≡ plans.exchange_refusal (seen (P.state p.now) c.now q events).control r server.0 (model.members_in (model.session_in ss.now.sessions s.0)) }
     ensures running { OnNone result ((P.state p.now).on server.0 ≡ true) }
     ensures number { OnNone result (plans.is_idle x.now.phase ≡ true → x.now.number + 1 < 4294967296) }
     ensures calm { is_stop result ≡ false }
@@ -88,14 +90,41 @@ fn order_of(x: &Look) -> Option<Order>
     x.owed
 }
 
-/// The master learns of a reply, where it does.
+/// Whether a reply says what members show.
+fn is_report(y: &Reply) -> bool
+    ensures { result ≡ says_shown (reply_of y.now) }
+{
+    matches!(y, Reply::Report(_))
+}
+
+/// A lost master to which all have reported goes on, where it is one.
+fn settle_if(ss: &mut Sessions, s: SessionId, on: bool)
+    ensures { ss.new.sessions ≡ (if on && can_settle (model.mirror_in (model.session_in ss.old.sessions s.0)) then model.changed s.0 (model.with_master phases.settled) ss.old.sessions else ss.old.sessions) }
+{
+    if on && ss.can_settle(s) {
+        ss.settle_start(s);
+    }
+}
+
+/// The master learns of a reply, and goes on after the last report.
+fn take_reply(ss: &mut Sessions, s: SessionId, server: ServerId, y: Reply)
+    requires server { server.0 < 8 }
+    requires expected { expects (model.mirror_in (model.session_in ss.old.sessions s.0)) server.0 y ≡ true }
+    ensures { ss.new.sessions ≡ model.changed s.0 (model.with_master (λ m. phases.taken m server.0 (reply_of y))) ss.old.sessions }
+{
+    let report = is_report(&y);
+    ss.reply(s, server, y);
+    settle_if(ss, s, report);
+}
+
+/// The same, where it does.
 fn reply_if(ss: &mut Sessions, s: SessionId, server: ServerId, y: Reply, on: bool)
     requires server { server.0 < 8 }
     requires expected { on ≡ true → expects (model.mirror_in (model.session_in ss.old.sessions s.0)) server.0 y ≡ true }
-    ensures { ss.new.sessions ≡ (if on then model.changed s.0 (model.with_master (λ m. phases.replied m server.0 (reply_of y))) ss.old.sessions else ss.old.sessions) }
+    ensures { ss.new.sessions ≡ (if on then model.changed s.0 (model.with_master (λ m. phases.taken m server.0 (reply_of y))) ss.old.sessions else ss.old.sessions) }
 {
     if on {
-        ss.reply(s, server, y);
+        take_reply(ss, s, server, y);
     }
 }
 
@@ -112,9 +141,11 @@ fn exchange_order<P: Plant>(
 ) -> Result<(), Refusal>
     requires rest { IsAtRest (P.state p.old) c.now }
     requires fit { RelationsFit (P.state p.old) c.now }
+    requires aside { AsideFits (P.state p.old) c.now }
     requires members { AreReady (P.state p.old) c.now (model.members_in (model.session_in ss.old.sessions s.0)) }
     requires running { (P.state p.old).on server.0 ≡ true }
     requires low { server.0 < 8 }
+    requires few { length (model.members_in (model.session_in ss.old.sessions s.0)) ≤ 64 }
     requires may { (r : Rest) × MayExchange (seen (P.state p.old) c.now (with_sessions ss.old.sessions r) j.old.events) s.0 server.0 (master.order_of order) }
     requires room { length (model.members_in (model.session_in ss.old.sessions s.0)) + 2 ≤ j.old.spare }
     ensures carried { (r : Rest) → PlanEnds (armed_in (P.state p.old)) (seen (P.state p.old) c.now (with_sessions ss.old.sessions r) j.old.events)
@@ -122,6 +153,7 @@ fn exchange_order<P: Plant>(
         (seen (P.state p.new) c.now (with_sessions ss.new.sessions r) j.new.events) (answer_of result s.0 (seen (P.state p.new) c.now (with_sessions ss.new.sessions r) j.new.events).control) }
     ensures rest { IsAtRest (P.state p.new) c.now }
     ensures fit { RelationsFit (P.state p.new) c.now }
+    ensures aside { AsideFits (P.state p.new) c.now }
     ensures unarmed { (q : ℕ) → (P.state p.old).read_fuse q ≡ None → (P.state p.new).read_fuse q ≡ None }
     ensures faults { Counted (is_stop (refusal_of result)) (P.state p.old).faults (P.state p.new).faults }
     ensures on { OnOk result ((P.state p.new).on ≡ (P.state p.old).on) }
@@ -143,7 +175,8 @@ fn exchange_order<P: Plant>(
 /// server has no members, or the next number would be 2^32, and in other phases where the server isn't owed the phase's
 /// order; or else where the server is off, or else where the link between the two servers is down. Then nothing has changed.
 /// Fails too where a member refuses, or where a server stops in a move or goes off at a read; what was done by then stays, and
-/// the master learns of nothing. The journal needs room for an event for each of the session's members and two more.
+/// the master learns of nothing. A lost master to which all have reported goes on by what they show. The journal needs room
+/// for an event for each of the session's members, which are at most 64, and two more.
 pub fn exchange<P: Plant>(
     p: &mut P,
     c: &Config,
@@ -155,9 +188,11 @@ pub fn exchange<P: Plant>(
 ) -> Result<(), Refusal>
     requires rest { IsAtRest (P.state p.old) c.now }
     requires fit { RelationsFit (P.state p.old) c.now }
+    requires aside { AsideFits (P.state p.old) c.now }
     requires members { AreReady (P.state p.old) c.now (model.members_in (model.session_in ss.old.sessions s.0)) }
     requires low { server.0 < 8 }
     requires known { server.0 < length c.now.names }
+    requires few { length (model.members_in (model.session_in ss.old.sessions s.0)) ≤ 64 }
     requires near { IfSome (model.mirror_in (model.session_in ss.old.sessions s.0)) (IsNear (length c.now.names)) }
     requires may { (r : Rest) × ((o : phases.Order)
         → refusal_in (seen (P.state p.old) c.now (with_sessions ss.old.sessions r) j.old.events).control (model.mirror_in (model.session_in ss.old.sessions s.0)) server.0 (model.members_in (model.session_in ss.old.sessions s.0)) ≡ None
@@ -170,6 +205,7 @@ pub fn exchange<P: Plant>(
         → (refusal_of result ≡ Some why) × (P.state p.new ≡ P.state p.old) × (j.new ≡ j.old) × (ss.new ≡ ss.old) }
     ensures rest { IsAtRest (P.state p.new) c.now }
     ensures fit { RelationsFit (P.state p.new) c.now }
+    ensures aside { AsideFits (P.state p.new) c.now }
     ensures unarmed { (q : ℕ) → (P.state p.old).read_fuse q ≡ None → (P.state p.new).read_fuse q ≡ None }
     ensures faults { Counted (is_stop (refusal_of result)) (P.state p.old).faults (P.state p.new).faults }
     ensures on { OnOk result ((P.state p.new).on ≡ (P.state p.old).on) }

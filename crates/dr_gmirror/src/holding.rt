@@ -11,6 +11,7 @@ ghost use Rattle.dr_flash.specs.Faults.{Counted};
 ghost use Rattle.dr_flash.specs.Fit.{RelationsFit};
 ghost use Rattle.dr_flash.specs.Here.{seen, refusal_of, armed_in, IsAtRest};
 ghost use Rattle.dr_flash.specs.Turns.{Leads, Fails};
+ghost use Rattle.dr_coord.specs.Aside.{AsideFits};
 ghost use Rattle.dr_gmirror.specs.Orders.{with_sessions, last_in, to_begin, begun_in, MayBegin, IsReady};
 
 use dr_config::Config;
@@ -70,6 +71,7 @@ pub(crate) fn hold_member<P: Plant>(
     ensures kept { nat_lt (last_in ss.old.sessions s.0) n ≡ false → ss.new.sessions ≡ ss.old.sessions }
     ensures rest { IsAtRest (P.state p.new) c.now }
     ensures fit { RelationsFit (P.state p.new) c.now }
+    ensures aside { AsideFits (P.state p.old) c.now → AsideFits (P.state p.new) c.now }
     ensures unarmed { (q : ℕ) → (P.state p.old).read_fuse q ≡ None → (P.state p.new).read_fuse q ≡ None }
     ensures faults { Counted (is_stop (refusal_of result)) (P.state p.old).faults (P.state p.new).faults }
     ensures on { OnOk result ((P.state p.new).on ≡ (P.state p.old).on) }

@@ -5,9 +5,13 @@ mod exchanging;
 mod holding;
 mod looks;
 mod orders;
+mod restores;
 mod sealing;
+mod settling;
 mod steps;
 
 pub use exchanging::exchange;
 pub use orders::carry_out;
+pub use restores::{decide_over, leaving, restore_refusal};
 pub use sealing::seal;
+pub use settling::settle;

@@ -13,29 +13,39 @@ ghost use Rattle.dr_flash.specs.Faults.{Counted};
 ghost use Rattle.dr_flash.specs.Fit.{RelationsFit};
 ghost use Rattle.dr_flash.specs.Here.{seen, refusal_of, armed_in, IsAtRest};
 ghost use Rattle.dr_flash.specs.Turns.{Leads, Fails};
-ghost use Rattle.dr_gmirror.specs.Orders.{with_sessions, MayOrder, AreReady};
+ghost use Rattle.dr_coord.specs.Aside.{AsideFits};
+ghost use Rattle.dr_gmirror.specs.Exchange.{members_in_reply};
+ghost use Rattle.dr_gmirror.specs.Orders.{with_sessions, MayOrder, AreReady, is_report};
 
+use crate::settling::settle;
 use crate::steps::order_on;
 use dr_config::Config;
 use dr_ids::{Refusal, ServerId, SessionId};
-use dr_master::{Order, Reply};
+use dr_master::{Order, OrderKind, Reply};
 use dr_model::Journal;
 use dr_plant::Plant;
 use dr_session::Sessions;
 
+/// Whether an order asks what members show.
+fn is_report(kind: OrderKind) -> bool
+    ensures { result ≡ is_report (work_of kind) }
+{
+    matches!(kind, OrderKind::Report)
+}
+
 /// What a server replies whose members are done, or one of them has to wait.
 fn reply_by(waits: bool) -> Reply
     ensures says { reply_of result ≡ (if waits then phases.NotYet else phases.Done) }
-    ensures count { count_in result ≡ 0 }
+    ensures count { count_in result ≡ members_in_reply (reply_of result) }
 {
     if waits { Reply::NotYet } else { Reply::Done }
 }
 
-/// A server, which is on, carries out an order to hold, to release, to seal or to finish on its members of a session, in the
-/// order in which they came, and replies: a seal has to wait where a member's primary has tracks left to send, else all is
-/// done. Of other orders nothing is done. The first hold of an attempt begins it for the session, also where the server stops
-/// in that hold and it counts as done. Fails where a member refuses, or where a server stops in a move or goes off at a read;
-/// what was done by then stays. The journal needs room for an event for each of the session's members and two more.
+/// A server, which is on, carries out an order on its members of a session, in the order in which they came, and replies: to a
+/// report with what its members show; a seal has to wait where a member's primary has tracks left to send; else all is done.
+/// The first hold of an attempt begins it for the session, also where the server stops in that hold and it counts as done.
+/// Fails where a member refuses, or where a server stops in a move or goes off at a read; what was done by then stays. The
+/// journal needs room for an event for each of the session's members and two more; a report speaks of at most 64 members.
 pub fn carry_out<P: Plant>(
     p: &mut P,
     c: &Config,
@@ -47,9 +57,11 @@ pub fn carry_out<P: Plant>(
 ) -> Result<Reply, Refusal>
     requires rest { IsAtRest (P.state p.old) c.now }
     requires fit { RelationsFit (P.state p.old) c.now }
+    requires aside { AsideFits (P.state p.old) c.now }
     requires members { AreReady (P.state p.old) c.now (model.members_in (model.session_in ss.old.sessions s.0)) }
     requires running { (P.state p.old).on server.0 ≡ true }
     requires begins { MayOrder (work_of order.kind) ss.old.sessions s.0 order.n }
+    requires few { is_report (work_of order.kind) ≡ true → length (model.members_in (model.session_in ss.old.sessions s.0)) ≤ 64 }
     requires room { length (model.members_in (model.session_in ss.old.sessions s.0)) + 2 ≤ j.old.spare }
     ensures carried { (r : Rest) → Ends (armed_in (P.state p.old)) (seen (P.state p.new) c.now (with_sessions ss.new.sessions r) j.new.events) (refusal_of result) (seen (P.state p.old) c.now (with_sessions ss.old.sessions r) j.old.events)
         (order_entries (work_of order.kind) s.0 order.n (members_on server.0 (model.members_in (model.session_in ss.old.sessions s.0)))) }
@@ -57,17 +69,24 @@ pub fn carry_out<P: Plant>(
         (seen (P.state p.new) c.now (with_sessions ss.new.sessions r) j.new.events)) }
     ensures fails { OnErr result ((r : Rest) → Fails (armed_in (P.state p.old)) (seen (P.state p.old) c.now (with_sessions ss.old.sessions r) j.old.events) (order_entries (work_of order.kind) s.0 order.n (members_on server.0 (model.members_in (model.session_in ss.old.sessions s.0))))
         (seen (P.state p.new) c.now (with_sessions ss.new.sessions r) j.new.events) (refusal_of result)) }
-    ensures reply { IfOk result (λ y. (r : Rest) (events : List Event) → reply_of y ≡ reply_after (work_of order.kind) (members_on server.0 (model.members_in (model.session_in ss.old.sessions s.0))) (seen (P.state p.new) c.now r events).control) }
-    ensures count { IfOk result (λ y. count_in y ≡ 0) }
+    ensures reply { IfOk result (λ y. (r : Rest) (events : List Event) → reply_of y ≡ reply_after s.0 (work_of order.kind) (members_on server.0 (model.members_in (model.session_in ss.old.sessions s.0))) (seen (P.state p.new) c.now r events).control) }
+    ensures count { IfOk result (λ y. count_in y ≡ members_in_reply (reply_of y)) }
     ensures members { model.members_in (model.session_in ss.new.sessions s.0) ≡ model.members_in (model.session_in ss.old.sessions s.0) }
     ensures rest { IsAtRest (P.state p.new) c.now }
     ensures fit { RelationsFit (P.state p.new) c.now }
+    ensures aside { AsideFits (P.state p.new) c.now }
     ensures unarmed { (q : ℕ) → (P.state p.old).read_fuse q ≡ None → (P.state p.new).read_fuse q ≡ None }
     ensures faults { Counted (is_stop (refusal_of result)) (P.state p.old).faults (P.state p.new).faults }
     ensures on { OnOk result ((P.state p.new).on ≡ (P.state p.old).on) }
     ensures room { j.old.spare ≤ j.new.spare + (length (model.members_in (model.session_in ss.old.sessions s.0)) + 2) }
     ensures spare { length j.new.events + j.new.spare ≡ length j.old.events + j.old.spare }
 {
+    if is_report(order.kind) {
+        return match settle(p, c, ss, s, server) {
+            Ok(y) => Ok(Reply::Report(y)),
+            Err(why) => Err(why),
+        };
+    }
     let mut waits = false;
     for at in 0..ss.member_count(s) {
         let m = ss.member_at(s, at).unwrap();

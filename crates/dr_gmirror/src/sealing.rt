@@ -7,6 +7,7 @@ ghost use Rattle.dr_model.specs.ReadStops.{Ends};
 ghost use Rattle.dr_model.specs.Relations.{is_bare};
 ghost use Rattle.dr_model.specs.SessionEntries.{seal_refusal, seal_on, seal_entries};
 ghost use Rattle.dr_model.specs.PairEntries.{refuse_if};
+ghost use Rattle.dr_cuts.specs.Sent.{CutsHold, SendsTo, SealedFor};
 ghost use Rattle.dr_volume.specs.Plain.{plain};
 ghost use Rattle.dr_volume.specs.Update.{OthersStay};
 ghost use Rattle.dr_volume.specs.View.{Rest, volume_seen};
@@ -15,6 +16,7 @@ ghost use Rattle.dr_flash.specs.Faults.{Counted};
 ghost use Rattle.dr_flash.specs.Fit.{RelationsFit};
 ghost use Rattle.dr_flash.specs.Here.{seen, refusal_of, armed_in, IsAtRest};
 ghost use Rattle.dr_flash.specs.Turns.{Leads, Fails};
+ghost use Rattle.dr_coord.specs.Aside.{AsideFits};
 ghost use Rattle.dr_gmirror.specs.Orders.{sync_seen};
 
 use dr_config::Config;
@@ -52,6 +54,7 @@ fn seal_drained<P: Plant>(
     ensures unchanged { is_stop (refusal_of result) ≡ false → OnErr result ((P.state p.new ≡ P.state p.old) × (j.new ≡ j.old)) }
     ensures rest { IsAtRest (P.state p.new) c.now }
     ensures fit { RelationsFit (P.state p.new) c.now }
+    ensures aside { AsideFits (P.state p.old) c.now → AsideFits (P.state p.new) c.now }
     ensures unarmed { (q : ℕ) → (P.state p.old).read_fuse q ≡ None → (P.state p.new).read_fuse q ≡ None }
     ensures faults { Counted (is_stop (refusal_of result)) (P.state p.old).faults (P.state p.new).faults }
     ensures kept { OnOk result ((q : ℕ) → sync_seen (P.state p.new) c.now q ≡ sync_seen (P.state p.old) c.now q) }
@@ -81,6 +84,11 @@ fn seal_drained<P: Plant>(
 /// it has nothing left to send and there is no path from its logical subsystem to that of the secondary, or the secondary's
 /// server is off, or the link between their servers is down, or the secondary isn't the primary's; then nothing has changed.
 /// Fails too where the secondary's server stops in the move or goes off at a read. The journal needs room for two events.
+///
+/// Where it is done, each track of the secondary contains what the host writes make that the primary held at its cut for
+/// attempt n, which stands once in the journal. That asks of the world before, as every run shows it, that the primary sends to
+/// this secondary, and that secondaries contain the cuts of their primaries as far as these were sent; however the seal ends,
+/// they still do.
 pub fn seal<P: Plant>(
     p: &mut P,
     c: &Config,
@@ -97,11 +105,15 @@ pub fn seal<P: Plant>(
     ensures carried { (r : Rest) → Ends (armed_in (P.state p.old)) (seen (P.state p.new) c.now r j.new.events) (refusal_of result) (seen (P.state p.old) c.now r j.old.events) (seal_entries s.0 m.now.a.0 m.now.b.0 n) }
     ensures leads { OnOk result ((r : Rest) → Leads (seen (P.state p.old) c.now r j.old.events) (seal_entries s.0 m.now.a.0 m.now.b.0 n) (seen (P.state p.new) c.now r j.new.events)) }
     ensures fails { OnErr result ((r : Rest) → Fails (armed_in (P.state p.old)) (seen (P.state p.old) c.now r j.old.events) (seal_entries s.0 m.now.a.0 m.now.b.0 n) (seen (P.state p.new) c.now r j.new.events) (refusal_of result)) }
+    ensures holds_cut { IfOk result (λ done. done ≡ true → (r : Rest) → CutsHold (seen (P.state p.old) c.now r j.old.events) → SendsTo (seen (P.state p.old) c.now r j.old.events) m.now.a.0 m.now.b.0
+        → SealedFor (seen (P.state p.new) c.now r j.new.events) m.now.b.0 m.now.a.0 n) }
+    ensures cuts { (r : Rest) → CutsHold (seen (P.state p.old) c.now r j.old.events) → SendsTo (seen (P.state p.old) c.now r j.old.events) m.now.a.0 m.now.b.0 → CutsHold (seen (P.state p.new) c.now r j.new.events) }
     ensures waits { (result ≡ Ok false) ↔ ((pairs.records n (volume_seen (P.state p.old) c.now m.now.a.0).fields ≡ true) × (is_bare (volume_seen (P.state p.old) c.now m.now.a.0).fields.out_of_sync ≡ false)) }
     ensures drained { IfOk result (λ done. done ≡ is_bare (volume_seen (P.state p.old) c.now m.now.a.0).fields.out_of_sync) }
     ensures unchanged { is_stop (refusal_of result) ≡ false → OnErr result ((P.state p.new ≡ P.state p.old) × (j.new ≡ j.old)) }
     ensures rest { IsAtRest (P.state p.new) c.now }
     ensures fit { RelationsFit (P.state p.new) c.now }
+    ensures aside { AsideFits (P.state p.old) c.now → AsideFits (P.state p.new) c.now }
     ensures unarmed { (q : ℕ) → (P.state p.old).read_fuse q ≡ None → (P.state p.new).read_fuse q ≡ None }
     ensures faults { Counted (is_stop (refusal_of result)) (P.state p.old).faults (P.state p.new).faults }
     ensures kept { OnOk result ((q : ℕ) → sync_seen (P.state p.new) c.now q ≡ sync_seen (P.state p.old) c.now q) }

@@ -10,20 +10,23 @@ ghost use Rattle.dr_flash.specs.Faults.{Counted};
 ghost use Rattle.dr_flash.specs.Fit.{RelationsFit};
 ghost use Rattle.dr_flash.specs.Here.{seen, refusal_of, armed_in, IsAtRest};
 ghost use Rattle.dr_flash.specs.Turns.{Leads, Fails};
+ghost use Rattle.dr_coord.specs.Aside.{AsideFits};
 ghost use Rattle.dr_gmirror.specs.Orders.{with_sessions, to_begin, MayOrder, IsReady, is_seal, sync_seen, must_wait, waits_in};
 
 use crate::holding::hold_member;
 use crate::sealing::seal;
 use dr_config::Config;
 use dr_coord::{finish, release};
+use dr_gcopy::reach_refusal;
 use dr_ids::{Member, Refusal, ServerId, SessionId};
 use dr_master::OrderKind;
 use dr_model::Journal;
 use dr_plant::Plant;
+use dr_revert::{commit, flash, revert};
 use dr_session::Sessions;
 
-/// Carries an order to hold, to release, to seal or to finish out on a member, and tells whether it has to wait. Of other
-/// orders nothing is done.
+/// Carries an order out on a member, and tells whether it has to wait. For a report the member's secondary is to be reached,
+/// and nothing is done.
 fn order_member<P: Plant>(
     p: &mut P,
     c: &Config,
@@ -36,6 +39,7 @@ fn order_member<P: Plant>(
 ) -> Result<bool, Refusal>
     requires rest { IsAtRest (P.state p.old) c.now }
     requires fit { RelationsFit (P.state p.old) c.now }
+    requires aside { AsideFits (P.state p.old) c.now }
     requires ready { IsReady (P.state p.old) c.now m.now }
     requires running { (P.state p.old).on m.now.server.0 ≡ true }
     requires begins { MayOrder (work_of kind) ss.old.sessions s.0 n }
@@ -48,6 +52,7 @@ fn order_member<P: Plant>(
     ensures members { model.members_in (model.session_in ss.new.sessions s.0) ≡ model.members_in (model.session_in ss.old.sessions s.0) }
     ensures rest { IsAtRest (P.state p.new) c.now }
     ensures fit { RelationsFit (P.state p.new) c.now }
+    ensures aside { AsideFits (P.state p.new) c.now }
     ensures unarmed { (q : ℕ) → (P.state p.old).read_fuse q ≡ None → (P.state p.new).read_fuse q ≡ None }
     ensures faults { Counted (is_stop (refusal_of result)) (P.state p.old).faults (P.state p.new).faults }
     ensures on { OnOk result ((P.state p.new).on ≡ (P.state p.old).on) }
@@ -68,11 +73,26 @@ fn order_member<P: Plant>(
             Ok(done) => Ok(!done),
             Err(why) => Err(why),
         },
+        OrderKind::Flash => match flash(p, c, j, s, m, n) {
+            Ok(()) => Ok(false),
+            Err(why) => Err(why),
+        },
+        OrderKind::Commit => match commit(p, c, j, s, m, n) {
+            Ok(()) => Ok(false),
+            Err(why) => Err(why),
+        },
+        OrderKind::Revert => match revert(p, c, j, s, m, n) {
+            Ok(()) => Ok(false),
+            Err(why) => Err(why),
+        },
         OrderKind::Finish => match finish(p, c, j, m, n) {
             Ok(()) => Ok(false),
             Err(why) => Err(why),
         },
-        OrderKind::Flash | OrderKind::Commit | OrderKind::Revert | OrderKind::Report => Ok(false),
+        OrderKind::Report => match reach_refusal(p, c, m.a, m.b) {
+            None => Ok(false),
+            Some(why) => Err(why),
+        },
     }
 }
 
@@ -90,6 +110,7 @@ pub(crate) fn order_on<P: Plant>(
 ) -> Result<bool, Refusal>
     requires rest { IsAtRest (P.state p.old) c.now }
     requires fit { RelationsFit (P.state p.old) c.now }
+    requires aside { AsideFits (P.state p.old) c.now }
     requires ready { IsReady (P.state p.old) c.now m.now }
     requires running { (P.state p.old).on server.0 ≡ true }
     requires begins { MayOrder (work_of kind) ss.old.sessions s.0 n }
@@ -102,6 +123,7 @@ pub(crate) fn order_on<P: Plant>(
     ensures members { model.members_in (model.session_in ss.new.sessions s.0) ≡ model.members_in (model.session_in ss.old.sessions s.0) }
     ensures rest { IsAtRest (P.state p.new) c.now }
     ensures fit { RelationsFit (P.state p.new) c.now }
+    ensures aside { AsideFits (P.state p.new) c.now }
     ensures unarmed { (q : ℕ) → (P.state p.old).read_fuse q ≡ None → (P.state p.new).read_fuse q ≡ None }
     ensures faults { Counted (is_stop (refusal_of result)) (P.state p.old).faults (P.state p.new).faults }
     ensures on { OnOk result ((P.state p.new).on ≡ (P.state p.old).on) }

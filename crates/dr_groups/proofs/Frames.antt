@@ -43,6 +43,7 @@ fits-grows k j x grows quieter fits = record {
   stands = λ m here. stands-grows k j m grows (fits.stands m here);
   runs = λ r has. master-grows k j r grows (fits.runs r has);
   finished = λ r has ends m here out. silent-quieter k j m.a.0 quieter (fits.finished r has ends m here out);
+  few = fits.few;
 }
 
 -- the laws of a list of sessions, over the volumes of k

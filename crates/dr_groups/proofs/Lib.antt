@@ -3,6 +3,7 @@ pub mod Changes
 pub mod AtLemmas
 pub mod Frames
 pub mod Sound
+pub mod Reports
 pub mod Masters
 pub mod Tables
 pub mod Members

@@ -1,5 +1,5 @@
 -- A session whose master changes.
-use Rattle.std.proofs.Common.{ℕ, ◌≡◌, ◌≢◌, ◌⊎◌, inl, inr, refl, ap, sym, ◌∙◌, subst, Bool, true, false, cond, not, ◌&&◌, List, [], ◌∷◌, Option, None, Some, option_map}
+use Rattle.std.proofs.Common.{ℕ, ◌≡◌, ◌≢◌, ◌⊎◌, inl, inr, refl, ap, sym, ◌∙◌, subst, Bool, true, false, cond, not, ◌&&◌, List, [], ◌∷◌, ◌++◌, Option, None, Some, option_map}
 use Rattle.std.proofs.lemmas.Bool.Decides.{eqb_tells}
 use Rattle.dr_ids.specs.declared.names.Member.{Member}
 use Rattle.dr_ids.specs.declared.refusal.PhaseName.{PhaseName}
@@ -11,12 +11,13 @@ use Rattle.dr_model.specs.Phases as phases
 use Rattle.dr_model.specs.Control.{Control}
 use Rattle.dr_model.specs.Entries.{fields_at}
 use Rattle.dr_model.specs.Sessions.{Session, Mirror, servers_of, with_mirror, with_master, paused, mirror_lost_since}
-use Rattle.dr_model.specs.Groups.{In, Finished, MasterStands, SessionFits}
-use Rattle.dr_groups.specs.Frames.{ServerSilent}
+use Rattle.dr_model.specs.Groups.{In, Finished, MasterStands, FewReports, SessionFits}
+use Rattle.dr_groups.specs.Frames.{ServerSilent, MayReport, OwesReport}
 use Rattle.dr_groups.proofs.Lists.{false_true}
 use Rattle.dr_groups.proofs.AtLemmas.{Told}
 use Rattle.dr_groups.proofs.Frames.{Turns}
 use Rattle.dr_groups.proofs.Sound.{among-servers, among-without, mapped, master-with}
+use Rattle.dr_groups.proofs.Reports.{few-enters, few-left, few-reported}
 
 -- what a master becomes, and the laws of its session stay
 pub record MirrorTurns (k : Control) (x : Session) (r q : Mirror) : Type 0 where
@@ -25,6 +26,7 @@ pub record MirrorTurns (k : Control) (x : Session) (r q : Mirror) : Type 0 where
   pub runs : MasterStands k q
   pub finished : q.master.phase ≡ phase.Finishing → (m : Member) → In m x.members → Finished k q m
   pub busy : r.master.phase ≢ phase.Idle → (m : Member) → In m x.members → (fields_at k m.a.0).recording ≡ true → q.master.phase ≢ phase.Idle
+  pub few : q.master.phase ≡ phase.Lost → FewReports q.master x.members
 
 pub turn-mirror : (k : Control) (x : Session) (g : Mirror → Mirror) → SessionFits k x → ((r : Mirror) → x.mirror ≡ Some r → MirrorTurns k x r (g r)) → Turns k x (with_mirror g x)
 turn-mirror k x g fits turns = record {
@@ -41,6 +43,9 @@ turn-mirror k x g fits turns = record {
     finished = λ r h ends m here.
         let p = mapped g x.mirror r h in
         subst (λ q. Finished k q m) (sym p.is) ((turns p.from p.was).finished (sym (ap (λ (q : Mirror). q.master.phase) p.is) ∙ ends) m here);
+    few = λ r h lost.
+        let p = mapped g x.mirror r h in
+        subst (λ (q : Mirror). FewReports q.master x.members) (sym p.is) ((turns p.from p.was).few (sym (ap (λ (q : Mirror). q.master.phase) p.is) ∙ lost));
   };
   within = λ m here. here;
   keeps = λ m r here has busy records. record {
@@ -60,6 +65,7 @@ turn-still k x r q fits has same at = record {
   runs = let s = fits.runs r has in record { volume = s.volume; defined = s.defined; server = s.server ∙ sym at; in_phase = λ e. s.in_phase (sym (ap (λ (m : phases.Master). m.phase) same) ∙ e) };
   finished = λ ends m here out. fits.finished r has (sym (ap (λ (m : phases.Master). m.phase) same) ∙ ends) m here (sym (ap (λ (n : phases.Master). phases.is_among m.server.0 n.owed) same) ∙ out);
   busy = λ busy m here records idle. busy (sym (ap (λ (m : phases.Master). m.phase) same) ∙ idle);
+  few = λ lost. subst (λ m. FewReports m x.members) (sym same) (fits.few r has (sym (ap (λ (m : phases.Master). m.phase) same) ∙ lost));
 }
 
 -- A phase begins that isn't Idle: each server of the session is owed its order.
@@ -79,6 +85,7 @@ turn-begins k x r p fits has some busy = record {
   runs = master-with k r (phases.enters p r.master) (fits.runs r has) some;
   finished = λ ends m here. begins-finished k x r p m fits has ends here;
   busy = busy;
+  few = λ lost. few-enters p r.master x.members;
 }
 
 -- ---- the master is lost
@@ -156,6 +163,7 @@ turn-left k x r server (s ∷ rest) fits has silent is = record {
   runs = master-with k r (phases.left_with r.master (s ∷ rest)) (fits.runs r has) (fits.runs r has).in_phase;
   finished = λ ends m here out. replied-silent k x r server m fits has ends (silent ends) here (ap (phases.is_among m.server.0) is ∙ out);
   busy = λ busy m here records. busy;
+  few = λ lost. few-left r.master x.members server (s ∷ rest) is (fits.few r has lost);
 }
 
 pub turn-done : (k : Control) (x : Session) (r : Mirror) (server : ℕ) → SessionFits k x → x.mirror ≡ Some r → (r.master.phase ≡ phase.Finishing → ServerSilent k x server) → MirrorTurns k x r (record r { master = phases.replied r.master server phases.Done })
@@ -165,13 +173,14 @@ turn-done k x r server fits has silent = turn-left k x r server (phases.without 
 lost-unfinished : (p : PhaseName) → p ≡ phase.Lost → p ≢ phase.Finishing
 lost-unfinished p is ends = absurd cc
 
-pub turn-reported : (k : Control) (x : Session) (r : Mirror) (server : ℕ) (xs : List Shown) → SessionFits k x → x.mirror ≡ Some r → r.master.phase ≡ phase.Lost → MirrorTurns k x r (record r { master = phases.replied r.master server (phases.Reported xs) })
-turn-reported k x r server xs fits has is = record {
+pub turn-reported : (k : Control) (x : Session) (r : Mirror) (server : ℕ) (xs : List Shown) → SessionFits k x → x.mirror ≡ Some r → r.master.phase ≡ phase.Lost → MayReport r.master x.members server xs → MirrorTurns k x r (record r { master = phases.replied r.master server (phases.Reported xs) })
+turn-reported k x r server xs fits has is may = record {
   servers = refl;
   number = refl;
   runs = master-with k r (phases.replied r.master server (phases.Reported xs)) (fits.runs r has) (fits.runs r has).in_phase;
   finished = λ ends m here out. absurd (lost-unfinished r.master.phase is ends);
   busy = λ busy m here records. busy;
+  few = λ lost. few-reported r.master x.members server xs may (fits.few r has is);
 }
 
 settled-busy : (d : Decision) → phases.phase_by d ≢ phase.Idle
@@ -181,6 +190,40 @@ settled-busy d idle = absurd cc
 settled-some : (d : Decision) → phases.phase_by d ≢ phase.None
 settled-some (CommitRest n) e = absurd cc
 settled-some d e = absurd cc
+
+settled-found : (d : Decision) → phases.phase_by d ≢ phase.Lost
+settled-found (CommitRest n) lost = absurd cc
+settled-found d lost = absurd cc
+
+settled-unfinished : (d : Decision) → phases.phase_by d ≢ phase.Finishing
+settled-unfinished (CommitRest n) ends = absurd cc
+settled-unfinished d ends = absurd cc
+
+-- a report is taken, and after the last one the master settles
+turn-told : (k : Control) (x : Session) (r : Mirror) (server : ℕ) (xs : List Shown) (rest : List ℕ) → SessionFits k x → x.mirror ≡ Some r → (r.master.phase ≡ phase.Finishing → ServerSilent k x server) → MayReport r.master x.members server xs
+    → phases.without server r.master.owed ≡ rest → MirrorTurns k x r (record r { master = phases.settled_where rest (phases.replied r.master server (phases.Reported xs)) })
+turn-told k x r server xs [] fits has silent may is = record {
+  servers = refl;
+  number = refl;
+  runs = master-with k r (phases.settled (phases.replied r.master server (phases.Reported xs))) (fits.runs r has) (settled-some (decision (r.master.reports ++ xs)));
+  finished = λ ends m here. absurd (settled-unfinished (decision (r.master.reports ++ xs)) ends);
+  busy = λ busy m here records. settled-busy (decision (r.master.reports ++ xs));
+  few = λ lost. absurd (settled-found (decision (r.master.reports ++ xs)) lost);
+}
+turn-told k x r server xs (s ∷ rest) fits has silent may is = record {
+  servers = refl;
+  number = refl;
+  runs = master-with k r (phases.replied r.master server (phases.Reported xs)) (fits.runs r has) (fits.runs r has).in_phase;
+  finished = λ ends m here out. replied-silent k x r server m fits has ends (silent ends) here out;
+  busy = λ busy m here records. busy;
+  few = λ lost. few-reported r.master x.members server xs may (fits.few r has lost);
+}
+
+-- a master takes any reply
+turn-taken : (k : Control) (x : Session) (r : Mirror) (server : ℕ) (reply : phases.Reply) → SessionFits k x → x.mirror ≡ Some r → (r.master.phase ≡ phase.Finishing → ServerSilent k x server) → OwesReport r.master x.members server reply → MirrorTurns k x r (record r { master = phases.taken r.master server reply })
+turn-taken k x r server phases.Done fits has silent may = turn-done k x r server fits has silent
+turn-taken k x r server phases.NotYet fits has silent may = turn-still k x r (record r { master = r.master }) fits has refl refl
+turn-taken k x r server (phases.Reported xs) fits has silent may = turn-told k x r server xs (phases.without server r.master.owed) fits has silent may refl
 
 pub turn-settled : (k : Control) (x : Session) (r : Mirror) → SessionFits k x → x.mirror ≡ Some r → MirrorTurns k x r (record r { master = phases.settled r.master })
 turn-settled k x r fits has = turn-begins k x r (phases.phase_by (decision r.master.reports)) fits has (settled-some (decision r.master.reports)) (λ busy m here records. settled-busy (decision r.master.reports))
@@ -202,8 +245,11 @@ session-done k x server fits silent = turn-mirror k x (λ r. record r { master =
 pub session-waits : (k : Control) (x : Session) (server : ℕ) → SessionFits k x → Turns k x (with_master (λ m. phases.replied m server phases.NotYet) x)
 session-waits k x server fits = turn-mirror k x (λ r. record r { master = phases.replied r.master server phases.NotYet }) fits (λ r has. turn-still k x r (record r { master = r.master }) fits has refl refl)
 
-pub session-reported : (k : Control) (x : Session) (server : ℕ) (xs : List Shown) → SessionFits k x → ((r : Mirror) → x.mirror ≡ Some r → r.master.phase ≡ phase.Lost) → Turns k x (with_master (λ m. phases.replied m server (phases.Reported xs)) x)
-session-reported k x server xs fits is = turn-mirror k x (λ r. record r { master = phases.replied r.master server (phases.Reported xs) }) fits (λ r has. turn-reported k x r server xs fits has (is r has))
+pub session-reported : (k : Control) (x : Session) (server : ℕ) (xs : List Shown) → SessionFits k x → ((r : Mirror) → x.mirror ≡ Some r → r.master.phase ≡ phase.Lost) → ((r : Mirror) → x.mirror ≡ Some r → MayReport r.master x.members server xs) → Turns k x (with_master (λ m. phases.replied m server (phases.Reported xs)) x)
+session-reported k x server xs fits is may = turn-mirror k x (λ r. record r { master = phases.replied r.master server (phases.Reported xs) }) fits (λ r has. turn-reported k x r server xs fits has (is r has) (may r has))
 
 pub session-settled : (k : Control) (x : Session) → SessionFits k x → Turns k x (with_master phases.settled x)
 session-settled k x fits = turn-mirror k x (λ r. record r { master = phases.settled r.master }) fits (λ r has. turn-settled k x r fits has)
+
+pub session-taken : (k : Control) (x : Session) (server : ℕ) (reply : phases.Reply) → SessionFits k x → ((r : Mirror) → x.mirror ≡ Some r → r.master.phase ≡ phase.Finishing → ServerSilent k x server) → ((r : Mirror) → x.mirror ≡ Some r → OwesReport r.master x.members server reply) → Turns k x (with_master (λ m. phases.taken m server reply) x)
+session-taken k x server reply fits silent may = turn-mirror k x (λ r. record r { master = phases.taken r.master server reply }) fits (λ r has. turn-taken k x r server reply fits has (silent r has) (may r has))

@@ -50,6 +50,14 @@ finishes-by p b n o ends h = absurd cc
 pub order-finishes : (r : Mirror) (server : ℕ) (o : phases.Order) → r.master.phase ≡ phase.Finishing → order_of r server ≡ Some o → (o.work ≡ phases.Finish) × (o.number ≡ r.master.number)
 order-finishes r server o ends is = finishes-by r.master.phase (phases.is_among server r.master.owed) r.master.number o ends is
 
+-- and an order of a lost master is owed it
+pub order-reports : (r : Mirror) (server : ℕ) (o : phases.Order) → r.master.phase ≡ phase.Lost → order_of r server ≡ Some o → phases.is_among server r.master.owed ≡ true
+order-reports r server o lost is = by (phases.is_among server r.master.owed) (sym (ap (λ p. cond (is_idle p) (Some (record { work = phases.Hold; number = r.master.number + 1 })) (phases.order_if (phases.is_among server r.master.owed) (phases.work_in p) r.master.number)) lost) ∙ is)
+  where
+    by : (b : Bool) → phases.order_if b (Some phases.Report) r.master.number ≡ Some o → b ≡ true
+    by true h = refl
+    by false h = absurd cc
+
 -- ---- holds, one after another
 
 pub holding-begins : (k : Control) (s server : ℕ) (x : Session) (r : Mirror) (o : phases.Order) → Groups k → session_in k.sessions s ≡ Some x → x.mirror ≡ Some r → order_of r server ≡ Some o → o.work ≡ phases.Hold → Holding k s o.number x.members

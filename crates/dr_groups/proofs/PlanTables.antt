@@ -1,5 +1,5 @@
 -- What plans of lines on sessions make of the tables keeps the laws of sessions.
-use Rattle.std.proofs.Common.{ℕ, ◌≡◌, refl, ap, ◌∙◌, Bool, nat_eq, option_map, true, false, cond, nat_lt, List, Option, None, Some}
+use Rattle.std.proofs.Common.{ℕ, ◌≡◌, refl, ap, ◌∙◌, Bool, nat_eq, option_map, true, false, cond, nat_lt, Option, None, Some}
 use Rattle.std.specs.List.{find}
 use Rattle.std.specs.Option.{option_or}
 use Rattle.dr_ids.specs.declared.names.Member.{Member}
@@ -11,7 +11,7 @@ use Rattle.dr_model.specs.declared.step.Name.{Name}
 use Rattle.dr_model.specs.Phases as phases
 use Rattle.dr_model.specs.Control.{Control, is_volume}
 use Rattle.dr_model.specs.PlanParts.{Plan, unless, on_owner, on_session, owner_of}
-use Rattle.dr_model.specs.SessionEntries.{first_number}
+use Rattle.dr_model.specs.SessionEntries.{first_number, members_on}
 use Rattle.dr_model.specs.Sessions.{Session, Mirror, session_in, is_member, has_place_of, changed, in_session, busy, leave_refusal, make_refusal, drop_refusal, abort_refusal, join_refusal, joined, paused, with_master}
 use Rattle.dr_model.specs.SessionPlans.{table_plan, says_phase, name_refusal, off_refusal, outside_refusal, master_refusal, join_plan, leave_plan, mirror_plan, pause_mirror_plan, unmirror_plan, abort_plan, taken_refusal, add_done, expel_done, exchange_done}
 use Rattle.dr_model.specs.Groups.{MemberStands, PlacesDiffer, Groups}
@@ -112,8 +112,9 @@ adds-last k j s x m same found idle low stands differ groups = unless-last j (in
 pub expels-last : (k j : Control) (s : ℕ) (x : Session) (m : Member) → j.sessions ≡ k.sessions → session_in k.sessions s ≡ Some x → busy x.mirror ≡ None → Groups j → Groups ((expel_done k s m).last j)
 expels-last k j s x m same found idle groups = unless-last j (off_refusal k (k.volume m.c.0).server) _ groups (λ none. groups-removed j s m.a.0 x groups (ap (λ ss. session_in ss s) same ∙ found) idle)
 
-pub exchanges-last : (j : Control) (s server : ℕ) (reply : Bool) (ms : List Member) (o : Option phases.Order) (x : Session) → session_in j.sessions s ≡ Some x → ((r : Mirror) → x.mirror ≡ Some r → r.master.phase ≡ phase.Finishing → ServerSilent j x server)
-    → Groups j → Groups ((exchange_done s server reply ms o).last j)
-exchanges-last j s server reply ms None x found silent groups = groups
-exchanges-last j s server true ms (Some o) x found silent groups = groups-answered j s server o.work ms x groups found silent
-exchanges-last j s server false ms (Some o) x found silent groups = groups
+pub exchanges-last : (j : Control) (s server : ℕ) (reply : Bool) (o : Option phases.Order) (x : Session) → session_in j.sessions s ≡ Some x → ((r : Mirror) → x.mirror ≡ Some r → r.master.phase ≡ phase.Finishing → ServerSilent j x server)
+    → ((q : phases.Order) → o ≡ Some q → q.work ≡ phases.Report → (r : Mirror) → x.mirror ≡ Some r → phases.is_among server r.master.owed ≡ true)
+    → Groups j → Groups ((exchange_done s server reply (members_on server x.members) o).last j)
+exchanges-last j s server reply None x found silent owes groups = groups
+exchanges-last j s server true (Some o) x found silent owes groups = groups-answered j s server o.work x groups found silent (owes o refl)
+exchanges-last j s server false (Some o) x found silent owes groups = groups

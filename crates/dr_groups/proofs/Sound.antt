@@ -155,12 +155,12 @@ quiet-mirror g x y is same quiet r h = let p = mapped g x.mirror r (sym is ∙ h
 abbrev pub primaries : List Member → List ℕ
 primaries ms = map (λ (m : Member). m.a.0) ms
 
--- where the master isn't Finishing, a session fits by itself and its members
-pub fits-calm : (k : Control) (x : Session) → IsSound x → Once (primaries x.members) → ((m : Member) → In m x.members → MemberStands k m) → ((r : Mirror) → x.mirror ≡ Some r → MasterStands k r) → ((r : Mirror) → x.mirror ≡ Some r → r.master.phase ≢ phase.Finishing) → SessionFits k x
-fits-calm k x sound once stands runs calm = record { sound = sound; once = once; stands = stands; runs = runs; finished = λ r has ends m here out. absurd (calm r has ends) }
+-- where the master is neither Finishing nor Lost, a session fits by itself and its members
+pub fits-calm : (k : Control) (x : Session) → IsSound x → Once (primaries x.members) → ((m : Member) → In m x.members → MemberStands k m) → ((r : Mirror) → x.mirror ≡ Some r → MasterStands k r) → ((r : Mirror) → x.mirror ≡ Some r → (r.master.phase ≢ phase.Finishing) × (r.master.phase ≢ phase.Lost)) → SessionFits k x
+fits-calm k x sound once stands runs calm = record { sound = sound; once = once; stands = stands; runs = runs; finished = λ r has ends m here out. absurd ((calm r has).0 ends); few = λ r has lost. absurd ((calm r has).1 lost) }
 
-idle-calm : (p : PhaseName) → p ≡ phase.Idle → p ≢ phase.Finishing
-idle-calm p idle ends = absurd cc
+idle-calm : (p : PhaseName) → p ≡ phase.Idle → (p ≢ phase.Finishing) × (p ≢ phase.Lost)
+idle-calm p idle = (λ ends. absurd cc, λ lost. absurd cc)
 
 pub fits-quiet : (k : Control) (x : Session) → IsSound x → Once (primaries x.members) → ((m : Member) → In m x.members → MemberStands k m) → ((r : Mirror) → x.mirror ≡ Some r → MasterStands k r) → Quiet x → SessionFits k x
 fits-quiet k x sound once stands runs quiet = fits-calm k x sound once stands runs (λ r has. idle-calm r.master.phase (quiet r has))

@@ -1,6 +1,5 @@
 -- The laws stay where the table of sessions changes.
 use Rattle.std.proofs.Common.{ℕ, ◌≡◌, ◌≢◌, ◌⊎◌, inl, inr, refl, ap, sym, ◌∙◌, subst, Bool, true, false, cond, not, List, [], ◌∷◌, ◌++◌, Option, None, Some}
-use Rattle.std.specs.List.{list_any}
 use Rattle.std.proofs.lemmas.Bool.{cases_Bool}
 use Rattle.std.proofs.lemmas.Bool.Decides.{eqb_tells}
 use Rattle.dr_ids.specs.declared.names.Member.{Member}
@@ -9,17 +8,19 @@ use Rattle.dr_model.specs.Decisions.{Shown}
 use Rattle.dr_model.specs.Phases as phases
 use Rattle.dr_model.specs.Tables.{Once}
 use Rattle.dr_model.specs.Control.{Control, is_volume}
-use Rattle.dr_model.specs.SessionEntries.{is_drained, reply_after}
+use Rattle.std.specs.List.{list_any}
+use Rattle.dr_model.specs.SessionEntries.{is_drained, members_on, reply_after}
 use Rattle.dr_model.specs.SessionPlans.{answered_by}
 use Rattle.dr_model.specs.Sessions.{Session, Mirror, session_in, has_subsystem, has_member_in, is_only, with_mirror, with_master, mirrored_by, unmirrored, paused, mirror_lost_since, lost_since, joined_by, left_by, new_session, changed, without_session, joins, joined, leaves, left, last_refusal, leave_refusal, not_in_session, in_session, drop_refusal}
 use Rattle.dr_model.specs.Groups.{In, MasterStands, SessionFits, Groups}
-use Rattle.dr_groups.specs.Frames.{Became, Grows, Quieter, Quiet, ServerSilent}
+use Rattle.dr_groups.specs.Frames.{Became, Grows, Quieter, Quiet, ServerSilent, MayReport, OwesReport}
 use Rattle.dr_groups.proofs.Lists.{some_is, in-first, in-joined, from-map, to-map, once-more}
 use Rattle.dr_groups.proofs.AtLemmas.{Told}
 use Rattle.dr_groups.proofs.Changes.{numbers, session-found, none-numbered, same-session, changed-in, changed-stays, changed-becomes, changed-once, without-in, without-stays, without-once}
 use Rattle.dr_groups.proofs.Frames.{Fit, fit-of, groups-of, Turns, turn-same, turn-quiet, Stem, Goes, fit-turns, Origin, lone-origin}
 use Rattle.dr_groups.proofs.Sound.{sound-mirrored, sound-unmirrored, sound-new, quiet-drop, quiet-none, fits-quiet}
-use Rattle.dr_groups.proofs.Masters.{turn-paused, session-aborted, session-lost, session-done, session-waits, session-reported, session-settled}
+use Rattle.dr_groups.proofs.Reports.{shown-few}
+use Rattle.dr_groups.proofs.Masters.{turn-paused, session-aborted, session-lost, session-done, session-waits, session-reported, session-settled, session-taken}
 
 -- the same volumes
 pub grows-same : (k : Control) (ss : List Session) → Grows k (record k { sessions = ss })
@@ -94,30 +95,36 @@ pub groups-done : (k : Control) (s server : ℕ) (x : Session) → Groups k → 
 groups-done k s server x groups found silent =
     table-one k s (with_master (λ m. phases.replied m server phases.Done)) x groups found (λ x. refl) (session-done k x server (session-fits k s x groups found) silent)
 
-pub groups-reported : (k : Control) (s server : ℕ) (xs : List Shown) (x : Session) → Groups k → session_in k.sessions s ≡ Some x → ((r : Mirror) → x.mirror ≡ Some r → r.master.phase ≡ phase.Lost)
+pub groups-reported : (k : Control) (s server : ℕ) (xs : List Shown) (x : Session) → Groups k → session_in k.sessions s ≡ Some x → ((r : Mirror) → x.mirror ≡ Some r → r.master.phase ≡ phase.Lost) → ((r : Mirror) → x.mirror ≡ Some r → MayReport r.master x.members server xs)
     → Groups (record k { sessions = changed s (with_master (λ m. phases.replied m server (phases.Reported xs))) k.sessions })
-groups-reported k s server xs x groups found is =
-    table-one k s (with_master (λ m. phases.replied m server (phases.Reported xs))) x groups found (λ x. refl) (session-reported k x server xs (session-fits k s x groups found) is)
+groups-reported k s server xs x groups found is may =
+    table-one k s (with_master (λ m. phases.replied m server (phases.Reported xs))) x groups found (λ x. refl) (session-reported k x server xs (session-fits k s x groups found) is may)
 
 pub groups-settled : (k : Control) (s : ℕ) → Groups k → Groups (record k { sessions = changed s (with_master phases.settled) k.sessions })
 groups-settled k s groups = with-table k (changed s (with_master phases.settled) k.sessions) (fit-changed k s (with_master phases.settled) groups (λ x. refl) (λ x i e. session-settled k x (groups.each x i)))
 
--- the reply that a server gives when it has done an order
-replies : (work : phases.Work) (ms : List Member) (j : Control) → (reply_after work ms j ≡ phases.Done) ⊎ (reply_after work ms j ≡ phases.NotYet)
-replies phases.Seal ms j = by (list_any (λ (m : Member). not (is_drained m.a.0 j)) ms)
-  where
-    by : (b : Bool) → (cond b phases.NotYet phases.Done ≡ phases.Done) ⊎ (cond b phases.NotYet phases.Done ≡ phases.NotYet)
-    by true = inr refl
-    by false = inl refl
-replies work ms j = inl refl
+-- a master takes any reply, and that which a server gives when it has done an order
+pub groups-taken : (k : Control) (s server : ℕ) (reply : phases.Reply) (x : Session) → Groups k → session_in k.sessions s ≡ Some x → ((r : Mirror) → x.mirror ≡ Some r → r.master.phase ≡ phase.Finishing → ServerSilent k x server)
+    → ((r : Mirror) → x.mirror ≡ Some r → OwesReport r.master x.members server reply)
+    → Groups (record k { sessions = changed s (with_master (λ m. phases.taken m server reply)) k.sessions })
+groups-taken k s server reply x groups found silent may =
+    table-one k s (with_master (λ m. phases.taken m server reply)) x groups found (λ x. refl) (session-taken k x server reply (session-fits k s x groups found) silent may)
 
-pub groups-answered : (k : Control) (s server : ℕ) (work : phases.Work) (ms : List Member) (x : Session) → Groups k → session_in k.sessions s ≡ Some x → ((r : Mirror) → x.mirror ≡ Some r → r.master.phase ≡ phase.Finishing → ServerSilent k x server)
-    → Groups (answered_by s server work ms k)
-groups-answered k s server work ms x groups found silent = by (replies work ms k)
+-- what a server answers to its order: a report is owed where it reports
+answers-owed : (k : Control) (s server : ℕ) (work : phases.Work) (x : Session) (m : phases.Master) → (work ≡ phases.Report → phases.is_among server m.owed ≡ true) → OwesReport m x.members server (reply_after s work (members_on server x.members) k)
+answers-owed k s server phases.Report x m owes = record { owes = owes refl; few = shown-few s (members_on server x.members) k }
+answers-owed k s server phases.Seal x m owes = by (list_any (λ (q : Member). not (is_drained q.a.0 k)) (members_on server x.members))
   where
-    by : (reply_after work ms k ≡ phases.Done) ⊎ (reply_after work ms k ≡ phases.NotYet) → Groups (record k { sessions = changed s (with_master (λ m. phases.replied m server (reply_after work ms k))) k.sessions })
-    by (inl done) = subst (λ a. Groups (record k { sessions = changed s (with_master (λ m. phases.replied m server a)) k.sessions })) (sym done) (groups-done k s server x groups found silent)
-    by (inr waits) = subst (λ a. Groups (record k { sessions = changed s (with_master (λ m. phases.replied m server a)) k.sessions })) (sym waits) (groups-waits k s server groups)
+    by : (b : Bool) → OwesReport m x.members server (cond b phases.NotYet phases.Done)
+    by true = tt
+    by false = tt
+answers-owed k s server work x m owes = tt
+
+pub groups-answered : (k : Control) (s server : ℕ) (work : phases.Work) (x : Session) → Groups k → session_in k.sessions s ≡ Some x → ((r : Mirror) → x.mirror ≡ Some r → r.master.phase ≡ phase.Finishing → ServerSilent k x server)
+    → (work ≡ phases.Report → (r : Mirror) → x.mirror ≡ Some r → phases.is_among server r.master.owed ≡ true)
+    → Groups (answered_by s server work (members_on server x.members) k)
+groups-answered k s server work x groups found silent owes =
+    groups-taken k s server (reply_after s work (members_on server x.members) k) x groups found silent (λ r has. answers-owed k s server work x r.master (λ e. owes e r has))
 
 -- ---- masters are lost
 
@@ -144,13 +151,13 @@ turn-subsystems k x y number members last mirror old fits = record {
 }
 
 joined-fits : (k : Control) (l : ℕ) (x : Session) → SessionFits k x → SessionFits k (joined_by l x)
-joined-fits k l x fits = record { sound = record { low = fits.sound.low; servers = fits.sound.servers; number = fits.sound.number }; once = fits.once; stands = fits.stands; runs = fits.runs; finished = fits.finished }
+joined-fits k l x fits = record { sound = record { low = fits.sound.low; servers = fits.sound.servers; number = fits.sound.number }; once = fits.once; stands = fits.stands; runs = fits.runs; finished = fits.finished; few = fits.few }
 
 left-fits : (k : Control) (l : ℕ) (x : Session) → SessionFits k x → SessionFits k (left_by l x)
-left-fits k l x fits = record { sound = record { low = fits.sound.low; servers = fits.sound.servers; number = fits.sound.number }; once = fits.once; stands = fits.stands; runs = fits.runs; finished = fits.finished }
+left-fits k l x fits = record { sound = record { low = fits.sound.low; servers = fits.sound.servers; number = fits.sound.number }; once = fits.once; stands = fits.stands; runs = fits.runs; finished = fits.finished; few = fits.few }
 
 new-fits : (k : Control) (s l : ℕ) → SessionFits k (new_session s l)
-new-fits k s l = record { sound = sound-new s l; once = tt; stands = λ m here. absurd here; runs = λ r has. absurd cc; finished = λ r has ends m here. absurd here }
+new-fits k s l = record { sound = sound-new s l; once = tt; stands = λ m here. absurd here; runs = λ r has. absurd cc; finished = λ r has ends m here. absurd here; few = λ r has. absurd cc }
 
 -- a new session behind the others, which has no member
 fit-new : (k : Control) (s l : ℕ) → Groups k → session_in k.sessions s ≡ None → Fit k (k.sessions ++ new_session s l ∷ [])

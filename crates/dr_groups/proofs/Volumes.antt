@@ -136,6 +136,7 @@ module _ (j k : Control) (ss : List Session) (v n : ℕ) (grows : Grows j k) (st
       stands = λ m here. stands-grows j k m grows ((fit.each y i).stands m here);
       runs = λ r has. master-grows j k r grows ((fit.each y i).runs r has);
       finished = finished y i;
+      few = (fit.each y i).few;
     };
     lone = fit.lone;
     recorders = λ u h. recorder u h (stays u h);
@@ -157,8 +158,8 @@ turn-begun k x quiet fits =
     (λ r has. let p = mapped (λ r. record r { master = phases.begun r.master }) x.mirror r has in begins (sym (ap (λ (q : Mirror). q.master.phase) p.is))))
     (λ m here. here)
   where
-    begins : {p : PhaseName} → phase.Coordinating ≡ p → p ≢ phase.Finishing
-    begins e ends = absurd cc
+    begins : {p : PhaseName} → phase.Coordinating ≡ p → (p ≢ phase.Finishing) × (p ≢ phase.Lost)
+    begins e = (λ ends. absurd cc, λ lost. absurd cc)
 
 pub idle-quiet : (x : Session) (q : Mirror) → x.mirror ≡ Some q → q.master.phase ≡ phase.Idle → Quiet x
 idle-quiet x q has idle r also = ap (λ (z : Mirror). z.master.phase) (some_is (sym also ∙ has)) ∙ idle

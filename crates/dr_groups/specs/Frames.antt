@@ -1,9 +1,12 @@
 -- What a control state keeps of another one.
-use Rattle.std.specs.Prelude.{◌≡◌, ◌⊎◌, ◌+◌, ℕ, true, false, List, Some}
+use Rattle.std.specs.Prelude.{◌≡◌, ◌≤◌, ◌⊎◌, ◌+◌, ℕ, true, false, List, length, Some}
 use Rattle.dr_ids.specs.declared.names.Member.{Member}
 use Rattle.dr_ids.specs.declared.refusal.PhaseName.TheVariants as phase
 use Rattle.dr_model.specs.Tables.{at}
 use Rattle.dr_model.specs.Layout.{Fields}
+use Rattle.dr_model.specs.Decisions.{Shown}
+use Rattle.dr_model.specs.Phases as phases
+use Rattle.dr_model.specs.SessionEntries.{members_on}
 use Rattle.dr_model.specs.Control.{Control, is_volume}
 use Rattle.dr_model.specs.Moves.{Move, Hold, RaiseAttempt, Carried, moved}
 use Rattle.dr_model.specs.Entries.{fields_at}
@@ -49,6 +52,16 @@ Quiet x = (r : Mirror) → x.mirror ≡ Some r → r.master.phase ≡ phase.Idle
 -- a member's server has done the last order: its primary doesn't record
 abbrev pub ServerSilent : Control → Session → ℕ → Type 0
 ServerSilent k x server = (m : Member) → In m x.members → m.server.0 ≡ server → (fields_at k m.a.0).recording ≡ false
+
+-- what a server reports that still owes it: no more than it has members
+pub record MayReport (m : phases.Master) (ms : List Member) (server : ℕ) (xs : List Shown) : Type 0 where
+  pub owes : phases.is_among server m.owed ≡ true
+  pub few : length xs ≤ length (members_on server ms)
+
+-- a reply that is a report is one of those
+abbrev pub OwesReport : phases.Master → List Member → ℕ → phases.Reply → Type 0
+OwesReport m ms server (phases.Reported xs) = MayReport m ms server xs
+OwesReport m ms server reply = Unit {0}
 
 -- no volume of a member has a place in a session
 abbrev pub NoPlace : List Session → Member → Type 0

@@ -21,7 +21,7 @@ ghost use Rattle.dr_model.specs.SessionPlans.{order_of, answered_by, join_plan, 
 ghost use Rattle.dr_model.specs.Plans.{server_plan, volume_plan};
 ghost use Rattle.dr_model.specs.Sessions.{Session, Mirror, session_in, has_place_of, changed, joined, left, lost_since, begun, raised, mirrored_by, unmirrored, paused, with_master, with_member, without_member, busy, leave_refusal, drop_refusal};
 ghost use Rattle.dr_model.specs.Groups.{In, IsAt, MemberStands, PlacesDiffer, Groups, HoldsMember, OpensAttempt, Housed};
-ghost use Rattle.dr_groups.specs.Frames.{Grows, Quieter, Framed, Recorded, RecordedOr, Moves, Suits, Quiet, ServerSilent, SilentBut, Became, Holding};
+ghost use Rattle.dr_groups.specs.Frames.{Grows, Quieter, Framed, Recorded, RecordedOr, Moves, Suits, Quiet, ServerSilent, SilentBut, MayReport, OwesReport, Became, Holding};
 
 /// The laws hold before the first step, and stay where a volume is defined.
 pub fn the_laws_of_sessions_begin()
@@ -54,13 +54,15 @@ pub fn masters_keep_the_laws_of_sessions()
     ensures lost { (k : Control) (before now : ℕ → Bool) → Groups k → Groups (record k { sessions = lost_since before now k.sessions }) }
 {}
 
-/// They stay where a master takes the reply of a server. In Finishing no member on it may record.
+/// They stay where a master takes the reply of a server. In Finishing no member on it may record; and a lost master takes a report of each
+/// server once.
 pub fn replies_keep_the_laws_of_sessions()
     ensures done { (k : Control) (s server : ℕ) (x : Session) → Groups k → session_in k.sessions s ≡ Some x → ((r : Mirror) → x.mirror ≡ Some r → r.master.phase ≡ phase.Finishing → ServerSilent k x server) → Groups (record k { sessions = changed s (with_master (λ m. phases.replied m server phases.Done)) k.sessions }) }
     ensures waits { (k : Control) (s server : ℕ) → Groups k → Groups (record k { sessions = changed s (with_master (λ m. phases.replied m server phases.NotYet)) k.sessions }) }
-    ensures reported { (k : Control) (s server : ℕ) (xs : List Shown) (x : Session) → Groups k → session_in k.sessions s ≡ Some x → ((r : Mirror) → x.mirror ≡ Some r → r.master.phase ≡ phase.Lost) → Groups (record k { sessions = changed s (with_master (λ m. phases.replied m server (phases.Reported xs))) k.sessions }) }
+    ensures reported { (k : Control) (s server : ℕ) (xs : List Shown) (x : Session) → Groups k → session_in k.sessions s ≡ Some x → ((r : Mirror) → x.mirror ≡ Some r → r.master.phase ≡ phase.Lost) → ((r : Mirror) → x.mirror ≡ Some r → MayReport r.master x.members server xs) → Groups (record k { sessions = changed s (with_master (λ m. phases.replied m server (phases.Reported xs))) k.sessions }) }
     ensures settled { (k : Control) (s : ℕ) → Groups k → Groups (record k { sessions = changed s (with_master phases.settled) k.sessions }) }
-    ensures answered { (k : Control) (s server : ℕ) (work : phases.Work) (ms : List Member) (x : Session) → Groups k → session_in k.sessions s ≡ Some x → ((r : Mirror) → x.mirror ≡ Some r → r.master.phase ≡ phase.Finishing → ServerSilent k x server) → Groups (answered_by s server work ms k) }
+    ensures taken { (k : Control) (s server : ℕ) (reply : phases.Reply) (x : Session) → Groups k → session_in k.sessions s ≡ Some x → ((r : Mirror) → x.mirror ≡ Some r → r.master.phase ≡ phase.Finishing → ServerSilent k x server) → ((r : Mirror) → x.mirror ≡ Some r → OwesReport r.master x.members server reply) → Groups (record k { sessions = changed s (with_master (λ m. phases.taken m server reply)) k.sessions }) }
+    ensures answered { (k : Control) (s server : ℕ) (work : phases.Work) (x : Session) → Groups k → session_in k.sessions s ≡ Some x → ((r : Mirror) → x.mirror ≡ Some r → r.master.phase ≡ phase.Finishing → ServerSilent k x server) → (work ≡ phases.Report → (r : Mirror) → x.mirror ≡ Some r → phases.is_among server r.master.owed ≡ true) → Groups (answered_by s server work (members_on server x.members) k) }
 {}
 
 /// They stay where a session without an attempt has its last number raised, and a member more or less; it has no more members
@@ -84,7 +86,7 @@ pub fn lines_on_sessions_keep_their_laws()
     ensures aborts { (k : Control) (s : ℕ) → Groups k → Groups ((abort_plan k s).first k) }
     ensures adds { (k j : Control) (s : ℕ) (x : Session) (m : Member) → j.sessions ≡ k.sessions → session_in k.sessions s ≡ Some x → busy x.mirror ≡ None → nat_lt m.server.0 8 ≡ true → MemberStands j m → PlacesDiffer m → Groups j → Groups ((add_done k s x m).last j) }
     ensures expels { (k j : Control) (s : ℕ) (x : Session) (m : Member) → j.sessions ≡ k.sessions → session_in k.sessions s ≡ Some x → busy x.mirror ≡ None → Groups j → Groups ((expel_done k s m).last j) }
-    ensures exchanges { (j : Control) (s server : ℕ) (reply : Bool) (ms : List Member) (o : Option phases.Order) (x : Session) → session_in j.sessions s ≡ Some x → ((r : Mirror) → x.mirror ≡ Some r → r.master.phase ≡ phase.Finishing → ServerSilent j x server) → Groups j → Groups ((exchange_done s server reply ms o).last j) }
+    ensures exchanges { (j : Control) (s server : ℕ) (reply : Bool) (o : Option phases.Order) (x : Session) → session_in j.sessions s ≡ Some x → ((r : Mirror) → x.mirror ≡ Some r → r.master.phase ≡ phase.Finishing → ServerSilent j x server) → ((q : phases.Order) → o ≡ Some q → q.work ≡ phases.Report → (r : Mirror) → x.mirror ≡ Some r → phases.is_among server r.master.owed ≡ true) → Groups j → Groups ((exchange_done s server reply (members_on server x.members) o).last j) }
 {}
 
 /// Each volume is on one of eight servers at most, wherever servers and volumes are defined; so a member whose volumes stand is.

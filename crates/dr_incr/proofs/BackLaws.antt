@@ -149,8 +149,8 @@ module _ (x y : PlantState) (c : Table) (s t : ℕ) (to : TargetOf x c s t) wher
         ]
 
     -- it begins
-    pub turn-restores : HasFitSets f → OthersStay x y c t → f.recorded ≡ true → f.reversing ≡ false → HoldsUnchanged x c t → IsMoved x y c t (restored n (turned f)) None → Restores x y c s t
-    turn-restores sets others recorded forward holds is = restores-by (turned f) to.related to.source is shared (λ q held. kept-shown q (union-held f.source_changes f.target_changes f.own sets.noted_held sets.rewritten_held q held))
+    pub turn-restores : HasFitSets f → f.revertible ≡ false → OthersStay x y c t → f.recorded ≡ true → f.reversing ≡ false → HoldsUnchanged x c t → IsMoved x y c t (restored n (turned f)) None → Restores x y c s t
+    turn-restores sets settled others recorded forward holds is = restores-by (turned f) to.related to.source is shared (λ q held. kept-shown q (union-held f.source_changes f.target_changes f.own (sets.noted_held settled) (sets.rewritten_held settled) q held))
       where
         stays : (q : ℕ) → track_seen y c s q ≡ track_seen x c s q
         stays q = ap (λ (z : ℕ → List ℕ). z q) (others s (λ same. to.apart (sym same))).tracks

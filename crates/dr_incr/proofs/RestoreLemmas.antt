@@ -13,21 +13,21 @@ use Rattle.dr_model.specs.declared.event.Event.TheVariants.{Set, Back, Blanked, 
 use Rattle.dr_model.specs.Layout.{Fields}
 use Rattle.dr_model.specs.Lawful.{Low, HasSets, IsLawful}
 use Rattle.dr_model.specs.Control.{Volume}
-use Rattle.dr_model.specs.Moves.{Resync, Reverse, Restore, Release, fields_left, told_blank, told_restored}
+use Rattle.dr_model.specs.Moves.{Resync, Reverse, Restore, Release, fields_left, told_blank, told_restored, told_left}
 use Rattle.dr_model.specs.Relations.{in_order, rest, is_bare, withdrawn_if, resynced, turned, given_up, restored}
 use Rattle.dr_model.specs.Pairs.{altered}
 use Rattle.dr_volume.specs.View.{volume_seen}
 use Rattle.dr_volume.specs.Update.{Covers}
 use Rattle.dr_flash.specs.Fit.{RelationsFit}
-use Rattle.dr_flash.specs.Told.{events_of}
+use Rattle.dr_flash.specs.Told.{event_of, events_of}
 use Rattle.dr_flash.specs.Turns.{room_of}
-use Rattle.dr_flash.specs.declared.told.Told.TheVariants.{One, Returned}
+use Rattle.dr_flash.specs.declared.told.Told.TheVariants.{One}
 use Rattle.dr_flash.specs.declared.told.Telling.{Telling}
 use Rattle.dr_flash.proofs.FitLemmas.{fit-kept}
 use Rattle.dr_flash.proofs.FieldLemmas.{low-empty, low-remove, lawful-altered, lawful-withdrawn, Apart, apart-empty, covers-all, covers-rest, covers-carried}
 use Rattle.dr_flash.proofs.TurnLemmas.{Tells}
 use Rattle.dr_flash.proofs.MoveLemmas.{MoveFits}
-use Rattle.dr_incr.specs.Steps.{HasFitSets}
+use Rattle.dr_incr.specs.Steps.{HasFitSets, left_event, returned_told}
 
 both-first : (a b : Bool) → (a && b) ≡ true → a ≡ true
 both-first true b h = refl
@@ -125,10 +125,10 @@ module _ (s : PlantState) (t : Table) (v : ℕ) (fit : RelationsFit s t) (lawful
         (lawful-held n x.fields (given_up x.fields k) related lawful refl (low-remove n k x.fields.own sets.own_low) sets.source_changes_low sets.target_changes_low)
         (λ q h. fit.apart v q (remove-held x.fields.own k q h))
 
-    pub reverse-fits : HasFitSets x.fields → MoveFits s t v (fields_left (Reverse v) x) None
-    reverse-fits fits =
+    pub reverse-fits : (left : Option ℕ) → x.fields.revertible ≡ false → HasFitSets x.fields → MoveFits s t v (fields_left (Reverse v left) x) None
+    reverse-fits left forward fits =
         let sets : HasSets n x.fields = lawful.sets in
-        let held = union-held x.fields.source_changes x.fields.target_changes x.fields.own fits.noted_held fits.rewritten_held in
+        let held = union-held x.fields.source_changes x.fields.target_changes x.fields.own (fits.noted_held forward) (fits.rewritten_held forward) in
         left-fits (turned x.fields) related refl refl
         (lawful-held n x.fields (turned x.fields) related lawful refl (λ q h. sets.own_low q (held q h)) (low-empty n) (low-empty n))
         (λ q h. fit.apart v q (held q h))
@@ -150,10 +150,16 @@ tells-resync v sequence x = record { done = refl; in_stop = refl; landed = refl;
 pub tells-restore : (v k u : ℕ) (x : Volume) → Tells (Restore v k u) x (record { done = One (Back v k u); in_stop = One (Back v k u); landed = 0 })
 tells-restore v k u x = record { done = refl; in_stop = refl; landed = refl; settles = λ ps. refl; settles_in_stop = λ ps. refl }
 
-pub tells-reverse : (v : ℕ) (x : Volume) → Tells (Reverse v) x (record { done = Returned v x.fields.source x.tracks (turned x.fields).own; in_stop = Returned v x.fields.source x.tracks (turned x.fields).own; landed = 0 })
-tells-reverse v x = record { done = refl; in_stop = refl; landed = refl; settles = λ ps. refl; settles_in_stop = λ ps. refl }
+leaves-told : (left : Option ℕ) (s : ℕ) → told_left left s ≡ event_of (left_event left s)
+leaves-told None s = refl
+leaves-told (Some u) s = refl
 
-pub tells-release : (v k : ℕ) (x : Volume) → Tells (Release v k) x (record { done = Returned v x.fields.source x.tracks (given_up x.fields k).own; in_stop = Returned v x.fields.source x.tracks (given_up x.fields k).own; landed = 0 })
+pub tells-reverse : (v : ℕ) (left : Option ℕ) (x : Volume) → Tells (Reverse v left) x (returned_told (left_event left x.fields.session) v x.fields.source x.tracks (turned x.fields).own)
+tells-reverse v left x =
+    let same = ap (λ es. es ++ told_restored v x.fields.source x.tracks (turned x.fields).own) (leaves-told left x.fields.session) in
+    record { done = same; in_stop = same; landed = refl; settles = λ ps. refl; settles_in_stop = λ ps. refl }
+
+pub tells-release : (v k : ℕ) (x : Volume) → Tells (Release v k) x (returned_told None v x.fields.source x.tracks (given_up x.fields k).own)
 tells-release v k x = record { done = refl; in_stop = refl; landed = refl; settles = λ ps. refl; settles_in_stop = λ ps. refl }
 
 -- how many events
@@ -187,21 +193,28 @@ restored-few v s n own = pick (is_bare own)
 max-few : (a b : ℕ) → a ≤ b → max a (a + 1) ≤ b + 1
 max-few a b h = grind (arith, h)
 
-pub room-few : (v s n : ℕ) (own : Tracks) (told : Telling) → told ≡ record { done = Returned v s n own; in_stop = Returned v s n own; landed = 0 } → room_of told ≤ n + 2
-room-few v s n own told is =
-    let e : room_of told ≡ max (length (told_restored v s n own)) (length (told_restored v s n own) + 1) = ap room_of is in
-    let few = max-few (length (told_restored v s n own)) (n + 1) (restored-few v s n own) in
+-- one more where a target leaves its session
+few-told : (left : Option Event) (v s n : ℕ) (own : Tracks) → length (event_of left ++ told_restored v s n own) ≤ length (event_of left) + (n + 1)
+few-told None v s n own = let few = restored-few v s n own in omega (arith, few)
+few-told (Some e) v s n own = let few = restored-few v s n own in omega (arith, few)
+
+pub room-few : (left : Option Event) (v s n : ℕ) (own : Tracks) (told : Telling) → told ≡ returned_told left v s n own → room_of told ≤ length (event_of left) + (n + 2)
+room-few left v s n own told is =
+    let es : List Event = event_of left ++ told_restored v s n own in
+    let e : room_of told ≡ max (length es) (length es + 1) = ap room_of is in
+    let few = max-few (length es) (length (event_of left) + (n + 1)) (few-told left v s n own) in
     omega (arith, e, few)
 
-pub done-few : (v s n : ℕ) (own : Tracks) (told : Telling) → told ≡ record { done = Returned v s n own; in_stop = Returned v s n own; landed = 0 } → length (events_of told.done) ≤ n + 1
-done-few v s n own told is =
-    let e : length (events_of told.done) ≡ length (told_restored v s n own) = ap (λ (y : Telling). length (events_of y.done)) is in
-    let few = restored-few v s n own in
+pub done-few : (left : Option Event) (v s n : ℕ) (own : Tracks) (told : Telling) → told ≡ returned_told left v s n own → length (events_of told.done) ≤ length (event_of left) + (n + 1)
+done-few left v s n own told is =
+    let e : length (events_of told.done) ≡ length (event_of left ++ told_restored v s n own) = ap (λ (y : Telling). length (events_of y.done)) is in
+    let few = few-told left v s n own in
     omega (arith, e, few)
 
--- what is told of a target that gives tracks back
-abbrev pub returned_told : ℕ → ℕ → ℕ → Tracks → Telling
-returned_told v s n own = record { done = Returned v s n own; in_stop = Returned v s n own; landed = 0 }
+-- at most one event says that a target leaves
+pub one-left : (left : Option Event) → length (event_of left) ≤ 1
+one-left None = omega arith
+one-left (Some e) = omega arith
 
-pub told-by : (v n : ℕ) (f f' g g' : Fields) (told : Telling) → told ≡ returned_told v f.source n g.own → f ≡ f' → g ≡ g' → told ≡ returned_told v f'.source n g'.own
-told-by v n f f' g g' told is same left = is ∙ (λ i. returned_told v (same i).source n (left i).own)
+pub told-by : (left : Option ℕ) (v n : ℕ) (f f' g g' : Fields) (told : Telling) → told ≡ returned_told (left_event left f.session) v f.source n g.own → f ≡ f' → g ≡ g' → told ≡ returned_told (left_event left f'.session) v f'.source n g'.own
+told-by left v n f f' g g' told is same own = is ∙ (λ i. returned_told (left_event left (same i).session) v (same i).source n (own i).own)

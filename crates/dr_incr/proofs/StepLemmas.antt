@@ -51,6 +51,12 @@ pub ends-by : {T : Type 0} (res : Result T Refusal) (armed : ℕ → Bool) (w u 
 ends-by (Ok x) armed w u es leads fails r = led armed (w r) (u r) (es r) (leads r)
 ends-by (Err e) armed w u es leads fails r = failed armed (w r) (u r) (Some e) (es r) (fails r)
 
+-- the same of each rest of which this holds
+pub ends-if : {T : Type 0} (res : Result T Refusal) (armed : ℕ → Bool) (A : Rest → Type 0) (w u : Rest → World) (es : Rest → List Entry)
+    → OnOk res ((r : Rest) → A r → Leads (w r) (es r) (u r)) → OnErr res ((r : Rest) → A r → Fails armed (w r) (es r) (u r) (refusal_of res)) → (r : Rest) → A r → Ends armed (u r) (refusal_of res) (w r) (es r)
+ends-if (Ok x) armed A w u es leads fails r a = led armed (w r) (u r) (es r) (leads r a)
+ends-if (Err e) armed A w u es leads fails r a = failed armed (w r) (u r) (Some e) (es r) (fails r a)
+
 -- where v holds no track, nothing comes for one
 pub none-entry : (s : PlantState) (t : Table) (r : Rest) (ev : List Event) (v : ℕ) (d : ℕ → Entry) → lowest (volume_seen s t v).tracks (volume_seen s t v).fields.own ≡ None → for_lowest v d (seen s t r ev).control ≡ Pass
 none-entry s t r ev v d none = ap (λ o. on_found o d (seen s t r ev).control) none

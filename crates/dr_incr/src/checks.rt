@@ -1,8 +1,10 @@
 //! What a resynchronization and a restore ask of the two volumes.
 
-ghost use Rattle.std.specs.Prelude.{◌≡◌, ◌&&◌, ◌||◌, not, true, false, nat_eq, IsSome, List};
+ghost use Rattle.std.specs.Prelude.{◌≡◌, ◌&&◌, ◌||◌, not, true, false, nat_eq, Option, IsSome, List};
 ghost use Rattle.std.specs.List.{list_any};
 ghost use Rattle.dr_config.specs.Table.{place_of};
+ghost use Rattle.dr_ids.specs.declared.refusal.Refusal.{Refusal};
+ghost use Rattle.dr_model.specs.Control.{Control};
 ghost use Rattle.dr_model.specs.declared.event.Event.{Event};
 ghost use Rattle.dr_model.specs.Entries.{copies_from};
 ghost use Rattle.dr_model.specs.Layout.{is_part};
@@ -12,7 +14,7 @@ ghost use Rattle.dr_volume.specs.View.{Rest, volume_seen};
 ghost use Rattle.dr_flash.specs.Checks.{Checked, OnNone, is_stop};
 ghost use Rattle.dr_flash.specs.Here.{seen, IsAtRest};
 ghost use Rattle.dr_flash.specs.Standing.{targets_in};
-ghost use Rattle.dr_incr.specs.Steps.{resync_checks, lone_checks};
+ghost use Rattle.dr_incr.specs.Steps.{target_checks, lone_checks};
 
 use dr_config::Config;
 use dr_flash::{is_part, is_quiet, pair_state, relation_state, server_of};
@@ -27,27 +29,33 @@ fn is_recorded_target(f: &Fields, s: VolumeId) -> bool
     f.related && f.source.0 == s.0 && !f.revertible && !f.reversing && f.recorded
 }
 
-/// Why t can't be made a copy of s anew or be restored onto s: the server of s is off, or t is no target of s whose changes
-/// are recorded, or is revertible or restored.
-pub(crate) fn resync_refusal<P: Plant>(
+/// Why t can't be made a copy of s anew or be restored onto s: the server of s is off, or else `first` says why, or else t is
+/// no target of s whose changes are recorded, or is revertible or restored.
+pub(crate) fn target_refusal<P: Plant>(
     p: &P,
     c: &Config,
     s: VolumeId,
     t: VolumeId,
+    first: Option<Refusal>,
 ) -> Option<Refusal>
     requires rest { IsAtRest (P.state p.now) c.now }
     requires source { IsSome (place_of c.now s.0) }
     requires target { IsSome (place_of c.now t.0) }
-    ensures checked { (r : Rest) (events : List Event) → Checked (seen (P.state p.now) c.now r events) (resync_checks (seen (P.state p.now) c.now r events).control s.0 t.0) result }
+    requires calm { is_stop first ≡ false }
+    ensures checked { (why : Control → Option Refusal) (r : Rest) (events : List Event) → why (seen (P.state p.now) c.now r events).control ≡ first → Checked (seen (P.state p.now) c.now r events) (target_checks why (seen (P.state p.now) c.now r events).control s.0 t.0) result }
     ensures running { OnNone result ((P.state p.now).on (volume_seen (P.state p.now) c.now s.0).server ≡ true) }
     ensures related { OnNone result (copies_from s.0 (volume_seen (P.state p.now) c.now t.0).fields ≡ true) }
     ensures recorded { OnNone result ((volume_seen (P.state p.now) c.now t.0).fields.recorded ≡ true) }
     ensures forward { OnNone result ((volume_seen (P.state p.now) c.now t.0).fields.reversing ≡ false) }
+    ensures not_revertible { OnNone result ((volume_seen (P.state p.now) c.now t.0).fields.revertible ≡ false) }
     ensures calm { is_stop result ≡ false }
 {
     let server = server_of(c, s);
     if !p.is_on(server.0) {
         return Some(Refusal::ServerOff { server });
+    }
+    if let Some(why) = first {
+        return Some(why);
     }
     if !is_recorded_target(&peek_fields(p, c, t), s) {
         return Some(relation_state(p, c, t));

@@ -13,9 +13,8 @@ ghost use Rattle.dr_volume.specs.View.{Rest, volume_seen, track_seen};
 ghost use Rattle.dr_flash.specs.Faults.{Counted};
 ghost use Rattle.dr_flash.specs.Fit.{RelationsFit};
 ghost use Rattle.dr_flash.specs.Here.{seen, refusal_of, armed_in, IsAtRest};
-ghost use Rattle.dr_flash.specs.declared.told.Told.TheVariants.{Returned};
 ghost use Rattle.dr_flash.specs.Turns.{Advances, Halts};
-ghost use Rattle.dr_incr.specs.Steps.{HasFitSets, IsRestoredOnto};
+ghost use Rattle.dr_incr.specs.Steps.{HasFitSets, IsRestoredOnto, number_of, left_event, returned_told};
 
 use dr_bits::TrackSet;
 use dr_config::Config;
@@ -64,35 +63,51 @@ pub(crate) fn renew<P: Plant>(
     shift(p, c, j, t, &next, None, &told)
 }
 
-/// What is told of target t, where these tracks are left to give back.
-fn told_of(c: &Config, t: VolumeId, f: &Fields, left: TrackSet) -> Telling
+/// What is told of target t with these fields, where it leaves its session as that of the member with primary `left`, and
+/// these tracks are left to give back.
+fn told_of(c: &Config, t: VolumeId, f: &Fields, left: Option<VolumeId>, own: TrackSet) -> Telling
     requires defined { IsSome (place_of c.now t.0) }
-    ensures { (x : PlantState) → result ≡ record { done = Returned t.0 f.now.source.0 (volume_seen x c.now t.0).tracks left; in_stop = Returned t.0 f.now.source.0 (volume_seen x c.now t.0).tracks left; landed = 0 } }
+    ensures { (x : PlantState) → result ≡ returned_told (left_event (number_of left) f.now.session) t.0 f.now.source.0 (volume_seen x c.now t.0).tracks own }
 {
     Telling::of(Told::Returned {
+        left: left_event(left, f.session),
         volume: t.0,
         source: f.source.0,
         tracks: tracks_of(c, t),
-        own: left,
+        own,
     })
 }
 
-/// Target t, whose changes are recorded, is to be restored onto its source. Where nothing changed, the restore has ended.
+/// What is told of a target that leaves this session as that of the member with primary `left`.
+fn left_event(left: Option<VolumeId>, session: u8) -> Option<Event>
+    ensures { result ≡ left_event (number_of left) session }
+{
+    let primary = left?;
+    Some(Event::Left {
+        session,
+        volume: primary.0,
+    })
+}
+
+/// Target t, whose changes are recorded and which isn't revertible, is to be restored onto its source. It leaves its session
+/// as the target of the member with primary `left`, where there is one. Where nothing changed, the restore has ended.
 pub(crate) fn turn_back<P: Plant>(
     p: &mut P,
     c: &Config,
     j: &mut Journal,
     t: VolumeId,
+    left: Option<VolumeId>,
 ) -> Result<(), Refusal>
     requires rest { IsAtRest (P.state p.old) c.now }
     requires fit { RelationsFit (P.state p.old) c.now }
     requires defined { IsSome (place_of c.now t.0) }
     requires running { (P.state p.old).on (volume_seen (P.state p.old) c.now t.0).server ≡ true }
     requires related { (volume_seen (P.state p.old) c.now t.0).fields.related ≡ true }
+    requires not_revertible { (volume_seen (P.state p.old) c.now t.0).fields.revertible ≡ false }
     requires sets { HasFitSets (volume_seen (P.state p.old) c.now t.0).fields }
-    requires room { (volume_seen (P.state p.old) c.now t.0).tracks + 2 ≤ j.old.spare }
-    ensures advances { OnOk result ((r : Rest) → Advances (seen (P.state p.old) c.now r j.old.events) (now (Reverse t.0)) (seen (P.state p.new) c.now r j.new.events)) }
-    ensures halts { OnErr result ((r : Rest) → Halts (armed_in (P.state p.old)) (seen (P.state p.old) c.now r j.old.events) (now (Reverse t.0)) (seen (P.state p.new) c.now r j.new.events) (refusal_of result)) }
+    requires room { (volume_seen (P.state p.old) c.now t.0).tracks + 3 ≤ j.old.spare }
+    ensures advances { OnOk result ((r : Rest) → Advances (seen (P.state p.old) c.now r j.old.events) (now (Reverse t.0 (number_of left))) (seen (P.state p.new) c.now r j.new.events)) }
+    ensures halts { OnErr result ((r : Rest) → Halts (armed_in (P.state p.old)) (seen (P.state p.old) c.now r j.old.events) (now (Reverse t.0 (number_of left))) (seen (P.state p.new) c.now r j.new.events) (refusal_of result)) }
     ensures refused { OnErr result (refusal_of result ≡ Some (stopped (volume_seen (P.state p.old) c.now t.0).server)) }
     ensures rest { IsAtRest (P.state p.new) c.now }
     ensures fit { RelationsFit (P.state p.new) c.now }
@@ -101,14 +116,14 @@ pub(crate) fn turn_back<P: Plant>(
     ensures others { OthersStay (P.state p.old) (P.state p.new) c.now t.0 }
     ensures on { OnOk result ((P.state p.new).on ≡ (P.state p.old).on) }
     ensures moved { OnOk result (IsMoved (P.state p.old) (P.state p.new) c.now t.0 (relations.restored (volume_seen (P.state p.old) c.now t.0).tracks (relations.turned (volume_seen (P.state p.old) c.now t.0).fields)) None) }
-    ensures room { j.old.spare ≤ j.new.spare + ((volume_seen (P.state p.old) c.now t.0).tracks + 2) }
-    ensures room_left { OnOk result (j.old.spare ≤ j.new.spare + ((volume_seen (P.state p.old) c.now t.0).tracks + 1)) }
+    ensures room { j.old.spare ≤ j.new.spare + ((volume_seen (P.state p.old) c.now t.0).tracks + 3) }
+    ensures room_left { OnOk result (j.old.spare ≤ j.new.spare + ((volume_seen (P.state p.old) c.now t.0).tracks + 2)) }
     ensures spare { length j.new.events + j.new.spare ≡ length j.old.events + j.old.spare }
 {
     let fields = peek_fields(p, c, t);
     let reversed = turned(&fields);
     let next = restored(tracks_of(c, t), &reversed);
-    let told = told_of(c, t, &fields, reversed.own);
+    let told = told_of(c, t, &fields, left, reversed.own);
     shift(p, c, j, t, &next, None, &told)
 }
 
@@ -224,6 +239,6 @@ pub(crate) fn give_up<P: Plant>(
     let fields = peek_fields(p, c, t);
     let less = given_up(&fields, k);
     let next = restored(tracks_of(c, t), &less);
-    let told = told_of(c, t, &fields, less.own);
+    let told = told_of(c, t, &fields, None, less.own);
     shift(p, c, j, t, &next, None, &told)
 }

@@ -16,18 +16,20 @@ ghost use Rattle.dr_flash.specs.Views.{view_seen};
 ghost use Rattle.dr_incr.specs.Copies.{HoldsUnchanged};
 ghost use Rattle.dr_incr.specs.Steps.{resync_entries};
 
-use crate::checks::resync_refusal;
+use crate::checks::target_refusal;
 use crate::moves::renew;
 use dr_config::Config;
+use dr_flash::counted_refusal;
 use dr_ids::{Refusal, VolumeId};
 use dr_model::Journal;
 use dr_plant::Plant;
+use dr_volume::peek_fields;
 
 /// Makes target t a copy of its source s anew: t shares the tracks that changed on either side with s again, and gets the
 /// sequence number where one is given; then each track of t reads as that of s, where what t held unchanged was the same.
-/// The caller knows both volumes. Refused where the server of s is off, and then where t is no target of s whose changes
-/// are recorded, or is revertible or restored. Fails too where the server stops in the move or goes off at a read. The
-/// journal needs room for two events.
+/// The caller knows both volumes. Refused where the server of s is off, then where t is the target of a member of a session,
+/// and then where t is no target of s whose changes are recorded, or is revertible or restored. Fails too where the server
+/// stops in the move or goes off at a read. The journal needs room for two events.
 pub fn resync<P: Plant>(
     p: &mut P,
     c: &Config,
@@ -58,7 +60,8 @@ pub fn resync<P: Plant>(
     ensures room_left { OnOk result (j.old.spare ≤ j.new.spare + 1) }
     ensures spare { length j.new.events + j.new.spare ≡ length j.old.events + j.old.spare }
 {
-    if let Some(why) = resync_refusal(p, c, s, t) {
+    let first = counted_refusal(&peek_fields(p, c, t));
+    if let Some(why) = target_refusal(p, c, s, t, first) {
         return Err(why);
     }
     renew(p, c, j, t, sequence)

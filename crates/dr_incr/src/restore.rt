@@ -16,9 +16,9 @@ ghost use Rattle.dr_flash.specs.Fit.{RelationsFit};
 ghost use Rattle.dr_flash.specs.Here.{seen, refusal_of, armed_in, IsAtRest};
 ghost use Rattle.dr_flash.specs.Turns.{Leads, Fails};
 ghost use Rattle.dr_incr.specs.Copies.{HoldsUnchanged, BlankAreZeros, Restores};
-ghost use Rattle.dr_incr.specs.Steps.{HasFitSets, IsRestoredOnto, reverse_entries};
+ghost use Rattle.dr_incr.specs.Steps.{HasFitSets, IsAsked, IsRestoredOnto, reverse_entries};
 
-use crate::checks::{lone_refusal, resync_refusal};
+use crate::checks::{lone_refusal, target_refusal};
 use crate::moves::{give_up, take_back, turn_back};
 use crate::others::keep_others;
 use dr_config::Config;
@@ -29,27 +29,32 @@ use dr_plant::Plant;
 use dr_volume::peek_fields;
 
 /// Begins to restore target t onto its source s: the tracks that changed on either side are to come back. Where nothing
-/// changed the restore ends at once. The caller knows both volumes. Refused where the server of s is off, then where t is
-/// no target of s whose changes are recorded, or is revertible or restored, and then where another target of s is. Fails
-/// too where the server stops in the move or goes off at a read. The journal needs room for an event for each track and
-/// two more. Where what t held unchanged was the same as its source's, t shows what it showed; where nothing changed, s has
-/// that, and t reads zeros.
+/// changed the restore ends at once. The caller knows both volumes. Where t is a member's target, the caller says what the
+/// sessions say: in `unsettled` why it can't be restored, and in `left` the primary of the member, whose session it leaves
+/// by the restore. Refused where the server of s is off, then as `unsettled` says, then where t is no target of s whose
+/// changes are recorded, or is revertible or restored, and then where another target of s is. Fails too where the server
+/// stops in the move or goes off at a read. The journal needs room for an event for each track and three more: that t leaves
+/// its session, that the restore has ended, and a stop. Where what t held unchanged was the same as its source's, t shows
+/// what it showed; where nothing changed, s has that, and t reads zeros.
 pub fn reverse_start<P: Plant>(
     p: &mut P,
     c: &Config,
     j: &mut Journal,
     s: VolumeId,
     t: VolumeId,
+    unsettled: Option<Refusal>,
+    left: Option<VolumeId>,
 ) -> Result<(), Refusal>
     requires rest { IsAtRest (P.state p.old) c.now }
     requires fit { RelationsFit (P.state p.old) c.now }
     requires source { IsSome (place_of c.now s.0) }
     requires target { IsSome (place_of c.now t.0) }
     requires sets { HasFitSets (volume_seen (P.state p.old) c.now t.0).fields }
-    requires room { (volume_seen (P.state p.old) c.now t.0).tracks + 2 ≤ j.old.spare }
-    ensures carried { (r : Rest) → Ends (armed_in (P.state p.old)) (seen (P.state p.new) c.now r j.new.events) (refusal_of result) (seen (P.state p.old) c.now r j.old.events) (reverse_entries (seen (P.state p.old) c.now r j.old.events).control s.0 t.0) }
-    ensures leads { OnOk result ((r : Rest) → Leads (seen (P.state p.old) c.now r j.old.events) (reverse_entries (seen (P.state p.old) c.now r j.old.events).control s.0 t.0) (seen (P.state p.new) c.now r j.new.events)) }
-    ensures fails { OnErr result ((r : Rest) → Fails (armed_in (P.state p.old)) (seen (P.state p.old) c.now r j.old.events) (reverse_entries (seen (P.state p.old) c.now r j.old.events).control s.0 t.0) (seen (P.state p.new) c.now r j.new.events) (refusal_of result)) }
+    requires calm { is_stop unsettled ≡ false }
+    requires room { (volume_seen (P.state p.old) c.now t.0).tracks + 3 ≤ j.old.spare }
+    ensures carried { (r : Rest) → IsAsked (seen (P.state p.old) c.now r j.old.events).control t.0 unsettled left → Ends (armed_in (P.state p.old)) (seen (P.state p.new) c.now r j.new.events) (refusal_of result) (seen (P.state p.old) c.now r j.old.events) (reverse_entries (seen (P.state p.old) c.now r j.old.events).control s.0 t.0) }
+    ensures leads { OnOk result ((r : Rest) → IsAsked (seen (P.state p.old) c.now r j.old.events).control t.0 unsettled left → Leads (seen (P.state p.old) c.now r j.old.events) (reverse_entries (seen (P.state p.old) c.now r j.old.events).control s.0 t.0) (seen (P.state p.new) c.now r j.new.events)) }
+    ensures fails { OnErr result ((r : Rest) → IsAsked (seen (P.state p.old) c.now r j.old.events).control t.0 unsettled left → Fails (armed_in (P.state p.old)) (seen (P.state p.old) c.now r j.old.events) (reverse_entries (seen (P.state p.old) c.now r j.old.events).control s.0 t.0) (seen (P.state p.new) c.now r j.new.events) (refusal_of result)) }
     ensures unchanged { is_stop (refusal_of result) ≡ false → OnErr result ((P.state p.new ≡ P.state p.old) × (j.new ≡ j.old)) }
     ensures moved { OnOk result (IsMoved (P.state p.old) (P.state p.new) c.now t.0 (relations.restored (volume_seen (P.state p.old) c.now t.0).tracks (relations.turned (volume_seen (P.state p.old) c.now t.0).fields)) None) }
     ensures restores { OnOk result (HoldsUnchanged (P.state p.old) c.now t.0 → Restores (P.state p.old) (P.state p.new) c.now s.0 t.0) }
@@ -60,17 +65,17 @@ pub fn reverse_start<P: Plant>(
     ensures faults { Counted (is_stop (refusal_of result)) (P.state p.old).faults (P.state p.new).faults }
     ensures others { OthersStay (P.state p.old) (P.state p.new) c.now t.0 }
     ensures on { OnOk result ((P.state p.new).on ≡ (P.state p.old).on) }
-    ensures room { j.old.spare ≤ j.new.spare + ((volume_seen (P.state p.old) c.now t.0).tracks + 2) }
-    ensures room_left { OnOk result (j.old.spare ≤ j.new.spare + ((volume_seen (P.state p.old) c.now t.0).tracks + 1)) }
+    ensures room { j.old.spare ≤ j.new.spare + ((volume_seen (P.state p.old) c.now t.0).tracks + 3) }
+    ensures room_left { OnOk result (j.old.spare ≤ j.new.spare + ((volume_seen (P.state p.old) c.now t.0).tracks + 2)) }
     ensures spare { length j.new.events + j.new.spare ≡ length j.old.events + j.old.spare }
 {
-    if let Some(why) = resync_refusal(p, c, s, t) {
+    if let Some(why) = target_refusal(p, c, s, t, unsettled) {
         return Err(why);
     }
     if let Some(why) = lone_refusal(p, c, s, t) {
         return Err(why);
     }
-    turn_back(p, c, j, t)
+    turn_back(p, c, j, t, left)
 }
 
 /// Target t, which is restored and whose server is on, gives up the lowest track that it holds, which its source holds by

@@ -8,6 +8,7 @@ use Rattle.dr_ids.specs.declared.refusal.PhaseName.TheVariants as phase
 use Rattle.dr_ids.specs.declared.refusal.Refusal.{Refusal}
 use Rattle.dr_ids.specs.declared.refusal.Refusal.TheVariants.{OutOfOrder}
 use Rattle.dr_model.specs.Refusals.{server_off}
+use Rattle.dr_model.specs.Decisions.{Shown}
 use Rattle.dr_model.specs.Phases as phases
 use Rattle.dr_model.specs.Sessions.{Session, Mirror, session_in, mirror_in, begin_refusal, changed, begun, servers_of}
 use Rattle.dr_model.specs.Control.{Control, World}
@@ -15,9 +16,9 @@ use Rattle.dr_model.specs.Pairs.{records}
 use Rattle.dr_model.specs.Moves.{Hold}
 use Rattle.dr_model.specs.Carry.{Act, Make, OpenAttempt, Next, Pass, Do, End, Entry, Turn, Outcome, act, continue, go, carry}
 use Rattle.dr_model.specs.Entries.{fields_at}
-use Rattle.dr_model.specs.PairEntries.{end_if, refuse_if}
-use Rattle.dr_model.specs.SessionEntries.{last_of, hold_refusal, stale_refusal, hold_on, void_refusal, free_on, is_drained, seal_refusal, seal_on, is_past, finish_on, member_entries, is_on, members_on, order_entries, reply_after}
-use Rattle.dr_model.specs.SessionPlans.{is_far, mirror_ahead, session_ahead, is_ahead, is_idle, off_refusal, phase_refusal, apart_refusal, exchange_refusal, order_of}
+use Rattle.dr_model.specs.PairEntries.{reach_refusal, send_refusal, end_if, refuse_if}
+use Rattle.dr_model.specs.SessionEntries.{last_of, hold_refusal, stale_refusal, hold_on, void_refusal, free_on, is_drained, seal_refusal, seal_on, is_past, finish_on, member_entries, is_on, members_on, order_entries, reply_after, is_flashed, is_committed, flash_refusal, flash_on, commit_refusal, commit_on, revert_on, shown_by_members}
+use Rattle.dr_model.specs.SessionPlans.{is_idle, off_refusal, phase_refusal, apart_refusal, exchange_refusal, order_of}
 use Rattle.dr_model.specs.Groups.{In, SessionFits}
 use Rattle.dr_model.specs.Laws.{Sound}
 use Rattle.dr_model.specs.Allowed.{Runs}
@@ -27,6 +28,9 @@ use Rattle.dr_groups.proofs.Changes.{session-found, changed-found}
 use Rattle.dr_groups.proofs.Sound.{among-servers}
 use Rattle.dr_groups.proofs.Silent.{quiet-silent, last-is, on-members}
 use Rattle.dr_groups.proofs.Volumes.{idle-quiet}
+use Rattle.dr_groups.proofs.Orders.{order-reports}
+use Rattle.dr_groups.proofs.Reports.{shown-few, reports-few}
+use Rattle.dr_laws.proofs.FitsOrders.{WorkPhase, IsLast, works}
 use Rattle.dr_laws.proofs.Turns.{act-cases}
 use Rattle.dr_laws.proofs.Cases.{one-passed, or-passed, met}
 
@@ -115,10 +119,16 @@ still-member phases.Seal ss i n m older =
     still-then ss (refuse_if (void_refusal m.a.0 n)) _ (λ k e. still-refuse (void_refusal m.a.0 n) k) (still-then ss (refuse_if (seal_refusal m.a.0 m.b.0)) _ (λ k e. still-refuse (seal_refusal m.a.0 m.b.0) k)
     (still-then ss (seal_on i m.a.0 m.b.0 n) [] (λ k e. still-choice (is_drained m.a.0 k && not (nat_eq (fields_at k m.b.0).seal n)) _ Pass tt tt) (still-none ss)))
 still-member phases.Finish ss i n m older = still-then ss (finish_on m.a.0 n) [] (λ k e. still-choice (is_past n (fields_at k m.a.0)) Pass _ tt tt) (still-none ss)
-still-member phases.Flash ss i n m older = still-none ss
-still-member phases.Commit ss i n m older = still-none ss
-still-member phases.Revert ss i n m older = still-none ss
-still-member phases.Report ss i n m older = still-none ss
+still-member phases.Flash ss i n m older =
+    still-then ss (refuse_if (send_refusal m.a.0 m.b.0)) _ (λ k e. still-refuse (send_refusal m.a.0 m.b.0) k) (still-then ss (refuse_if (flash_refusal m.b.0 m.c.0 n)) _ (λ k e. still-refuse (flash_refusal m.b.0 m.c.0 n) k)
+    (still-then ss (flash_on i m.a.0 m.b.0 m.c.0 n) [] (λ k e. still-choice (is_flashed n (fields_at k m.c.0)) Pass _ tt tt) (still-none ss)))
+still-member phases.Commit ss i n m older =
+    still-then ss (refuse_if (send_refusal m.a.0 m.b.0)) _ (λ k e. still-refuse (send_refusal m.a.0 m.b.0) k) (still-then ss (refuse_if (commit_refusal m.c.0 n)) _ (λ k e. still-refuse (commit_refusal m.c.0 n) k)
+    (still-then ss (commit_on i m.a.0 m.c.0 n) [] (λ k e. still-choice (is_committed n (fields_at k m.c.0)) Pass _ tt tt) (still-none ss)))
+still-member phases.Revert ss i n m older =
+    still-then ss (refuse_if (send_refusal m.a.0 m.b.0)) _ (λ k e. still-refuse (send_refusal m.a.0 m.b.0) k)
+    (still-then ss (revert_on i m.a.0 m.c.0 n) [] (λ k e. still-choice (is_flashed n (fields_at k m.c.0)) _ _ tt (still-choice (nat_lt (fields_at k m.c.0).floor n) _ Pass tt tt)) (still-none ss))
+still-member phases.Report ss i n m older = still-then ss (refuse_if (reach_refusal m.a.0 m.b.0)) [] (λ k e. still-refuse (reach_refusal m.a.0 m.b.0) k) (still-none ss)
 
 still-order : (work : phases.Work) (ss : List Session) (i n : ℕ) (ms : List Member) → nat_lt (last_in ss i) n ≡ false → AllStill ss (order_entries work i n ms)
 still-order work ss i n [] older = still-none ss
@@ -132,45 +142,55 @@ record First (p : PhaseName) (n : ℕ) (o : phases.Order) : Type 0 where
   work : o.work ≡ phases.Hold
   number : o.number ≡ n + 1
 
--- or one that is owed, to which the server's reply is one
+-- or one that is owed, to which the server's reply is one; a report has no number
 record Owed (p : PhaseName) (b : Bool) (n : ℕ) (o : phases.Order) : Type 0 where
   owed : b ≡ true
-  number : o.number ≡ n
-  replies : (ms : List Member) (k : Control) → phases.is_reply (reply_after o.work ms k) (phases.work_in p) ≡ true
+  number : o.number ≤ n
+  replies : (s : ℕ) (ms : List Member) (k : Control) → phases.is_reply (reply_after s o.work ms k) (phases.work_in p) ≡ true
 
 order-is : (b : Bool) (work : phases.Work) (n : ℕ) (o : phases.Order) → phases.order_if b (Some work) n ≡ Some o → (b ≡ true) × (o ≡ phases.numbered work n)
 order-is true work n o h = (refl, sym (some_is h))
 order-is false work n o h = absurd cc
 
-owes : (p : PhaseName) (work : phases.Work) (b : Bool) (n : ℕ) (o : phases.Order) → phases.work_in p ≡ Some work → (phases.numbered work n).work ≡ work → (phases.numbered work n).number ≡ n
-    → ((ms : List Member) (k : Control) → phases.is_reply (reply_after work ms k) (Some work) ≡ true) → phases.order_if b (Some work) n ≡ Some o → Owed p b n o
+owes : (p : PhaseName) (work : phases.Work) (b : Bool) (n : ℕ) (o : phases.Order) → phases.work_in p ≡ Some work → (phases.numbered work n).work ≡ work → (phases.numbered work n).number ≤ n
+    → ((s : ℕ) (ms : List Member) (k : Control) → phases.is_reply (reply_after s work ms k) (Some work) ≡ true) → phases.order_if b (Some work) n ≡ Some o → Owed p b n o
 owes p work b n o has same_work same_number replies h =
     let e : (b ≡ true) × (o ≡ phases.numbered work n) = order-is b work n o h in
     record {
       owed = e.0;
-      number = ap (λ (q : phases.Order). q.number) e.1 ∙ same_number;
-      replies = λ ms k.
-          ap (λ (u : phases.Work). phases.is_reply (reply_after u ms k) (phases.work_in p)) (ap (λ (q : phases.Order). q.work) e.1 ∙ same_work)
-          ∙ (ap (phases.is_reply (reply_after work ms k)) has ∙ replies ms k);
+      number = subst (λ (q : phases.Order). q.number ≤ n) (sym e.1) same_number;
+      replies = λ s ms k.
+          ap (λ (u : phases.Work). phases.is_reply (reply_after s u ms k) (phases.work_in p)) (ap (λ (q : phases.Order). q.work) e.1 ∙ same_work)
+          ∙ (ap (phases.is_reply (reply_after s work ms k)) has ∙ replies s ms k);
     }
+
+-- only a report says what members show
+not-reported : (b : Bool) (xs : List Shown) → cond b phases.NotYet phases.Done ≡ phases.Reported xs → ⊥
+not-reported true xs h = cc
+not-reported false xs h = cc
+
+reported-work : (s : ℕ) (work : phases.Work) (ms : List Member) (k : Control) (xs : List Shown) → reply_after s work ms k ≡ phases.Reported xs → (work ≡ phases.Report) × (xs ≡ shown_by_members s ms k)
+reported-work s phases.Report ms k xs h = (refl, cc)
+reported-work s phases.Seal ms k xs h = absurd (not-reported (list_any (λ m. not (is_drained m.a.0 k)) ms) xs h)
+reported-work s work ms k xs h = absurd cc
 
 -- a seal is answered either way
 seal-replies : (b : Bool) → phases.is_reply (cond b phases.NotYet phases.Done) (Some phases.Seal) ≡ true
 seal-replies true = refl
 seal-replies false = refl
 
-which : (p : PhaseName) (b : Bool) (n : ℕ) (o : phases.Order) → is_far p ≡ false → cond (is_idle p) (Some (record { work = phases.Hold; number = n + 1 })) (phases.order_if b (phases.work_in p) n) ≡ Some o → First p n o ⊎ Owed p b n o
-which phase.Idle b n o near h = inl (record { idle = refl; work = ap (λ (q : phases.Order). q.work) (sym (some_is h)); number = ap (λ (q : phases.Order). q.number) (sym (some_is h)) })
-which phase.Coordinating b n o near h = inr (owes phase.Coordinating phases.Hold b n o refl refl refl (λ ms k. refl) h)
-which phase.Releasing b n o near h = inr (owes phase.Releasing phases.Release b n o refl refl refl (λ ms k. refl) h)
-which phase.Draining b n o near h = inr (owes phase.Draining phases.Seal b n o refl refl refl (λ ms k. seal-replies (list_any (λ m. not (is_drained m.a.0 k)) ms)) h)
-which phase.Finishing b n o near h = inr (owes phase.Finishing phases.Finish b n o refl refl refl (λ ms k. refl) h)
-which phase.Flashing b n o near h = absurd cc
-which phase.Committing b n o near h = absurd cc
-which phase.Reverting b n o near h = absurd cc
-which phase.Lost b n o near h = absurd cc
-which phase.None true n o near h = absurd cc
-which phase.None false n o near h = absurd cc
+which : (p : PhaseName) (b : Bool) (n : ℕ) (o : phases.Order) → cond (is_idle p) (Some (record { work = phases.Hold; number = n + 1 })) (phases.order_if b (phases.work_in p) n) ≡ Some o → First p n o ⊎ Owed p b n o
+which phase.Idle b n o h = inl (record { idle = refl; work = ap (λ (q : phases.Order). q.work) (sym (some_is h)); number = ap (λ (q : phases.Order). q.number) (sym (some_is h)) })
+which phase.Coordinating b n o h = inr (owes phase.Coordinating phases.Hold b n o refl refl (omega arith) (λ s ms k. refl) h)
+which phase.Releasing b n o h = inr (owes phase.Releasing phases.Release b n o refl refl (omega arith) (λ s ms k. refl) h)
+which phase.Draining b n o h = inr (owes phase.Draining phases.Seal b n o refl refl (omega arith) (λ s ms k. seal-replies (list_any (λ m. not (is_drained m.a.0 k)) ms)) h)
+which phase.Flashing b n o h = inr (owes phase.Flashing phases.Flash b n o refl refl (omega arith) (λ s ms k. refl) h)
+which phase.Committing b n o h = inr (owes phase.Committing phases.Commit b n o refl refl (omega arith) (λ s ms k. refl) h)
+which phase.Reverting b n o h = inr (owes phase.Reverting phases.Revert b n o refl refl (omega arith) (λ s ms k. refl) h)
+which phase.Finishing b n o h = inr (owes phase.Finishing phases.Finish b n o refl refl (omega arith) (λ s ms k. refl) h)
+which phase.Lost b n o h = inr (owes phase.Lost phases.Report b n o refl refl (omega arith) (λ s ms k. refl) h)
+which phase.None true n o h = absurd cc
+which phase.None false n o h = absurd cc
 
 -- ---- what passed
 
@@ -201,20 +221,17 @@ some-on server (m ∷ ms) has none = by (is_on server m) (some-on server ms) has
     by true further has none = absurd cc
     by false further has none = further has none
 
--- an exchange that is built, as the step table has it
-pub not-far : (k : Control) (i : ℕ) (x : Session) (r : Mirror) → session_in k.sessions i ≡ Some x → x.mirror ≡ Some r → is_ahead k i ≡ false → is_far r.master.phase ≡ false
-not-far k i x r found mirror near = sym (ap session_ahead found ∙ ap mirror_ahead mirror) ∙ near
-
--- the master of session i in v awaits that reply of the server, with no more reports than that of r
-pub record Awaited (v : World) (i server : ℕ) (r : Mirror) (reply : phases.Reply) : Type 0 where
+-- the master of session i in v awaits that reply of the server, with no more reports than that of r, and with one more no more than there are members
+pub record Awaited (v : World) (i server : ℕ) (r : Mirror) (all : List Member) (reply : phases.Reply) : Type 0 where
   pub session : Session
   pub found : session_in v.control.sessions i ≡ Some session
   pub mirror : Mirror
   pub has_master : session.mirror ≡ Some mirror
   pub awaits : phases.awaits mirror.master server reply ≡ true
   pub reports : length mirror.master.reports ≤ length r.master.reports
+  pub room : (xs : List Shown) → reply ≡ phases.Reported xs → length mirror.master.reports + length xs ≤ length all
 
-module _ (w : World) (s : Sound w) (i server : ℕ) (x : Session) (r : Mirror) (o : phases.Order) (found : session_in w.control.sessions i ≡ Some x) (mirror : x.mirror ≡ Some r) (near : is_far r.master.phase ≡ false)
+module _ (w : World) (s : Sound w) (i server : ℕ) (x : Session) (r : Mirror) (o : phases.Order) (found : session_in w.control.sessions i ≡ Some x) (mirror : x.mirror ≡ Some r)
     (allowed : exchange_refusal w.control r server x.members ≡ None) (order : order_of r server ≡ Some o) where
   abbrev ms : List Member
   ms = members_on server x.members
@@ -226,7 +243,7 @@ module _ (w : World) (s : Sound w) (i server : ℕ) (x : Session) (r : Mirror) (
   IsOwed = Owed r.master.phase (phases.is_among server r.master.owed) r.master.number o
 
   stage : IsFirst ⊎ IsOwed
-  stage = which r.master.phase (phases.is_among server r.master.owed) r.master.number o near order
+  stage = which r.master.phase (phases.is_among server r.master.owed) r.master.number o order
 
   listed : In x w.control.sessions
   listed = (session-found w.control.sessions i x found).0
@@ -254,7 +271,7 @@ module _ (w : World) (s : Sound w) (i server : ℕ) (x : Session) (r : Mirror) (
   -- ---- the number of the order
 
   older : IsOwed → nat_lt (last_of w.control i) o.number ≡ false
-  older e = ap (λ n. nat_lt n o.number) (last-is w.control i x found ∙ (sym number ∙ sym e.number)) ∙ same-not-less o.number
+  older e = ap (λ n. nat_lt n o.number) (last-is w.control i x found) ∙ le-ltb x.last o.number (omega (arith, e.number, number))
 
   newer : IsFirst → nat_lt (last_of w.control i) o.number ≡ true
   newer f = ap (λ n. nat_lt n o.number) (last-is w.control i x found) ∙ lt-ltb x.last o.number (omega (arith, f.number, number))
@@ -275,17 +292,18 @@ module _ (w : World) (s : Sound w) (i server : ℕ) (x : Session) (r : Mirror) (
       by (inl f) = omega (arith, f.number, number)
       by (inr e) = omega (arith, e.number, number)
 
-  -- and for other work than Hold the last one
-  pub exchange-last : (o.work ≡ phases.Hold → ⊥) → o.number ≡ x.last
-  exchange-last other = by stage
-    where
-      by : IsFirst ⊎ IsOwed → o.number ≡ x.last
-      by (inl f) = absurd (other f.work)
-      by (inr e) = e.number ∙ number
-
   -- ---- where the entries lead
 
-  awaits-owed : IsOwed → (v : World) → carry w (order_entries o.work i o.number ms) ≡ (v, None) → Awaited v i server r (reply_after o.work ms v.control)
+  -- a report is asked for by a lost master alone
+  report-fits : (v : World) (xs : List Shown) → reply_after i o.work ms v.control ≡ phases.Reported xs → length r.master.reports + length xs ≤ length x.members
+  report-fits v xs is =
+      let told = reported-work i o.work ms v.control xs is in
+      let lost : r.master.phase ≡ phase.Lost = (subst (λ (work : phases.Work). WorkPhase work r.master.phase × IsLast work o.number r.master.number) told.0 (works r.master.phase (phases.is_among server r.master.owed) r.master.number o order)).0 in
+      reports-few r.master x.members server xs
+      (record { owes = order-reports r server o lost order; few = subst (λ (ys : List Shown). length ys ≤ length ms) (sym told.1) (shown-few i ms v.control) })
+      (fits.few r mirror lost)
+
+  awaits-owed : IsOwed → (v : World) → carry w (order_entries o.work i o.number ms) ≡ (v, None) → Awaited v i server r x.members (reply_after i o.work ms v.control)
   awaits-owed e v leads =
       let same = still-leads w v w.control.sessions (order_entries o.work i o.number ms) None refl (still-order o.work w.control.sessions i o.number ms (older e)) leads in
       record {
@@ -293,8 +311,9 @@ module _ (w : World) (s : Sound w) (i server : ℕ) (x : Session) (r : Mirror) (
         found = ap (λ ss. session_in ss i) same ∙ found;
         mirror = r;
         has_master = mirror;
-        awaits = and_from (phases.is_among server r.master.owed) _ e.owed (e.replies ms v.control);
+        awaits = and_from (phases.is_among server r.master.owed) _ e.owed (e.replies i ms v.control);
         reports = omega arith;
+        room = report-fits v;
       }
 
   abbrev opened : List Session
@@ -330,7 +349,7 @@ module _ (w : World) (s : Sound w) (i server : ℕ) (x : Session) (r : Mirror) (
       over : nat_lt (last_in opened i) o.number ≡ false
       over = ap (λ q. nat_lt (unwrap_or (option_map (λ (y : Session). y.last) q) 0) o.number) found-opened ∙ (ap (λ z. nat_lt z o.number) (sym (f.number ∙ (λ j. number j + 1))) ∙ same-not-less o.number)
 
-  awaits-first : IsFirst → (v : World) (us : List Member) → ms ≡ us → carry w (order_entries phases.Hold i o.number us) ≡ (v, None) → Awaited v i server r (reply_after o.work ms v.control)
+  awaits-first : IsFirst → (v : World) (us : List Member) → ms ≡ us → carry w (order_entries phases.Hold i o.number us) ≡ (v, None) → Awaited v i server r x.members (reply_after i o.work ms v.control)
   awaits-first f v [] none leads = absurd (some-on server x.members (begins f.idle).0 none)
   awaits-first f v (m ∷ rest) is leads =
       let here = on-members server x.members m (subst (In m) (sym is) (inl refl)) in
@@ -341,14 +360,15 @@ module _ (w : World) (s : Sound w) (i server : ℕ) (x : Session) (r : Mirror) (
         found = ap (λ ss. session_in ss i) same ∙ found-opened;
         mirror = record r { master = phases.begun r.master };
         has_master = ap (option_map (λ (q : Mirror). record q { master = phases.begun q.master })) mirror;
-        awaits = and_from (phases.is_among server r.master.servers) _ among (ap (λ (u : phases.Work). phases.is_reply (reply_after u ms v.control) (Some phases.Hold)) f.work);
+        awaits = and_from (phases.is_among server r.master.servers) _ among (ap (λ (u : phases.Work). phases.is_reply (reply_after i u ms v.control) (Some phases.Hold)) f.work);
         reports = omega arith;
+        room = λ xs told. absurd (let e : phases.Hold ≡ phases.Report = sym f.work ∙ (reported-work i o.work ms v.control xs told).0 in cc);
       }
 
   -- as its entries lead on, the master awaits what the server replies
-  pub exchange-awaits : (v : World) → carry w (order_entries o.work i o.number (members_on server x.members)) ≡ (v, None) → Awaited v i server r (reply_after o.work (members_on server x.members) v.control)
+  pub exchange-awaits : (v : World) → carry w (order_entries o.work i o.number (members_on server x.members)) ≡ (v, None) → Awaited v i server r x.members (reply_after i o.work (members_on server x.members) v.control)
   exchange-awaits v leads = by stage
     where
-      by : IsFirst ⊎ IsOwed → Awaited v i server r (reply_after o.work ms v.control)
+      by : IsFirst ⊎ IsOwed → Awaited v i server r x.members (reply_after i o.work ms v.control)
       by (inl f) = awaits-first f v ms refl (sym (ap (λ (u : phases.Work). carry w (order_entries u i o.number ms)) f.work) ∙ leads)
       by (inr e) = awaits-owed e v leads

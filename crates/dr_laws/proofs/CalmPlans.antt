@@ -1,11 +1,11 @@
 -- No entry of a step ends its plan with a refusal that says a stop.
-use Rattle.std.proofs.Common.{ℕ, zero, suc, ◌≡◌, ◌+◌, not, ◌&&◌, nat_eq, nat_lt, List, [], ◌∷◌, ◌++◌, refl, ap, ◌∙◌, sym, Bool, true, false, cond, map, Option, Some, None, Result}
-use Rattle.std.specs.Prelude.{is_some}
+use Rattle.std.proofs.Common.{ℕ, zero, suc, ◌≡◌, ◌+◌, not, ◌&&◌, ◌||◌, nat_eq, nat_lt, List, [], ◌∷◌, ◌++◌, refl, ap, ◌∙◌, sym, Bool, true, false, cond, map, Option, Some, None, Result}
+use Rattle.std.specs.Prelude.{is_some, option_map}
 use Rattle.std.specs.Option.{option_or}
 use Rattle.std.specs.FinSet.{contains}
 use Rattle.dr_ids.specs.declared.refusal.Refusal.{Refusal}
 use Rattle.dr_model.specs.declared.event.Event.{Event}
-use Rattle.dr_ids.specs.declared.refusal.Refusal.TheVariants.{NotIdentical, Void, Stale}
+use Rattle.dr_ids.specs.declared.refusal.Refusal.TheVariants.{NotIdentical, Void, Stale, Unsealed, InSession, Forbidden}
 use Rattle.dr_model.specs.Refusals.{server_off}
 use Rattle.dr_model.specs.declared.state.Part.{Part}
 use Rattle.dr_model.specs.declared.state.PairState.TheVariants.{Suspended as SuspendedState}
@@ -21,14 +21,15 @@ use Rattle.dr_model.specs.Carry.{Act, Make, Redo, Acknowledge, Drop, check, now,
 use Rattle.dr_model.specs.Entries.{fields_at, is_revertible, stands_in, copies_from, is_running, is_no_secondary, is_open, is_settled, relation_state, pair_state, land_on, land_alone, keep_on, keep_if, copy_first, drop_unless, check_or_drop, times, on_found, lowest_missing, lowest_held, fetch_next, for_lowest, give_back, share_server, share_size, is_no_target}
 use Rattle.dr_model.specs.PairEntries.{link_down, are_linked, has_path, reach_refusal, end_if, refuse_if, differs_at, two_servers, stands_free, may_follow, make_entries, leads_to, belongs_to, let_go, remove_both, remove_entries, may_pause, tell_paused, pause_entries, may_resume, follow_on, resume_on, resume_entries, send_refusal, suspend_where, flashed_refusal, store_on, strike_on, send_entries, sends, tracks_to_send, is_copying}
 use Rattle.dr_model.specs.WriteEntries.{sends_first, where_sent, send_first, land_collided, partner_of, is_grouped, land_mirrored, land_parted, is_parted, land_over, land_entries, landing, is_between, freeze_on, end_freeze, freeze_entries, thaw_on, end_thaw, thaw_entries, belongs, lift_on, redo_on, restart_on, start_entries}
-use Rattle.dr_model.specs.Plans.{member_refusal, Plan, plan, found_volumes, acknowledge_on, acknowledge_if, landed_on, named_pair, is_defined, is_owner, differ, is_no_source, has_few_targets, is_plain_target, is_recorded_target, is_lone_restore, has_no_pair, may_return, may_give_back, may_copy, at_most, left_to_copy}
+use Rattle.dr_ids.specs.declared.refusal.Decision.{Decision}
+use Rattle.dr_model.specs.Plans.{counted_refusal, secondary_refusal, leaves_all, forbidden_unless, decided_in, restore_refusal, left_by, member_refusal, Plan, plan, found_volumes, acknowledge_on, acknowledge_if, landed_on, named_pair, is_defined, is_owner, differ, is_no_source, has_few_targets, is_plain_target, is_recorded_target, is_lone_restore, has_no_pair, may_return, may_give_back, may_copy, at_most, left_to_copy}
 use Rattle.dr_laws.specs.Stops.{refused_stop}
 use Rattle.dr_laws.proofs.Cases.{Case, Says, Defines, Adds, Links, Issues, Writes, Applies, Shows, Stops, Arms, Starts, Flashes, Withdraws, Resyncs, Reverses, Copies, Paths, Unpaths, MakesPair, RemovesPair, Pauses, ResumesPair, Drains, Expires, Freezes, Thaws, JoinsSession, LeavesSession, Mirrors, PausesMirror, Unmirrors, Aborts, AddsMember, Expels, Exchanges, plan-case}
 use Rattle.std.specs.List.{find}
 use Rattle.dr_ids.specs.declared.names.Member.{Member}
-use Rattle.dr_model.specs.Sessions.{Session, in_session, is_member}
+use Rattle.dr_model.specs.Sessions.{Session, session_in, members_in, in_session, is_member}
 use Rattle.dr_model.specs.Phases.{Work, Hold, Release as ReleaseWork, Seal, Flash, Commit, Revert, Finish, Report}
-use Rattle.dr_model.specs.SessionEntries.{may_hold, hold_refusal, stale_refusal, hold_on, void_refusal, free_on, is_drained, seal_refusal, seal_on, is_past, finish_on, member_entries, members_on, order_entries, raise_attempt_on, raise_floor_on, add_entries}
+use Rattle.dr_model.specs.SessionEntries.{may_hold, hold_refusal, stale_refusal, hold_on, void_refusal, free_on, is_drained, seal_refusal, seal_on, is_flashed, may_flash, flash_refusal, flash_on, is_committed, commit_refusal, commit_on, revert_on, is_past, finish_on, member_entries, members_on, order_entries, raise_attempt_on, raise_floor_on, add_entries}
 use Rattle.dr_model.specs.SessionPlans.{member_with}
 use Rattle.dr_laws.proofs.StopsTold.{Calm, Unstopped, none-calm, then-calm}
 
@@ -268,6 +269,12 @@ module _ (s n : ℕ) where
   stale-mild a k =
       let f : Fields = fields_at k a in mild-choice (records n f) None _ mild-none (mild-choice (nat_lt f.attempt n) None _ mild-none (mild-some (Stale n f.attempt) refl))
 
+  flash-mild : (b c : ℕ) (k : Control) → Mild (flash_refusal b c n k)
+  flash-mild b c k =
+      mild-choice (is_flashed n (fields_at k c)) None _ mild-none (mild-choice (not (may_flash b (fields_at k c))) (Some (relation_state k c)) _ (mild-some (relation_state k c) refl)
+      (mild-choice (not (nat_lt (fields_at k c).floor n)) (Some (Stale n (fields_at k c).floor)) _ (mild-some (Stale n (fields_at k c).floor) refl)
+      (mild-choice (not (nat_eq (fields_at k b).seal n)) (Some (Unsealed (record { 0 = b }) (fields_at k b).seal)) None (mild-some (Unsealed (record { 0 = b }) (fields_at k b).seal) refl) mild-none)))
+
   member-calm : (work : Work) (m : Member) → Unstopped (member_entries work s n m)
   member-calm Hold m =
       refused-calm (hold_refusal m.a.0 m.b.0) _ (λ k. mild-choice (may_hold m.a.0 m.b.0 k) None _ mild-none (mild-some (pair_state k m.a.0) refl))
@@ -277,10 +284,16 @@ module _ (s n : ℕ) where
       refused-calm (void_refusal m.a.0 n) _ (void-mild m.a.0) (refused-calm (seal_refusal m.a.0 m.b.0) _ (λ k. mild-choice (is_drained m.a.0 k) (send_refusal m.a.0 m.b.0 k) None (send-mild m.a.0 m.b.0 k) mild-none)
       (last-calm (seal_on s m.a.0 m.b.0 n) (λ k. choice-goes (is_drained m.a.0 k && not (nat_eq (fields_at k m.b.0).seal n)) (Do (Make (SealMove m.b.0 m.a.0 s n))) Pass (do-goes _) pass-goes)))
   member-calm Finish m = last-calm (finish_on m.a.0 n) (λ k. choice-goes (is_past n (fields_at k m.a.0)) Pass _ pass-goes (do-goes _))
-  member-calm Flash m = none-calm
-  member-calm Commit m = none-calm
-  member-calm Revert m = none-calm
-  member-calm Report m = none-calm
+  member-calm Flash m =
+      refused-calm (send_refusal m.a.0 m.b.0) _ (send-mild m.a.0 m.b.0) (refused-calm (flash_refusal m.b.0 m.c.0 n) _ (flash-mild m.b.0 m.c.0)
+      (last-calm (flash_on s m.a.0 m.b.0 m.c.0 n) (λ k. choice-goes (is_flashed n (fields_at k m.c.0)) Pass _ pass-goes (do-goes _))))
+  member-calm Commit m =
+      refused-calm (send_refusal m.a.0 m.b.0) _ (send-mild m.a.0 m.b.0) (refused-calm (commit_refusal m.c.0 n) _ (λ k. mild-choice (is_committed n (fields_at k m.c.0) || is_flashed n (fields_at k m.c.0)) None _ mild-none (mild-some (relation_state k m.c.0) refl))
+      (last-calm (commit_on s m.a.0 m.c.0 n) (λ k. choice-goes (is_committed n (fields_at k m.c.0)) Pass _ pass-goes (do-goes _))))
+  member-calm Revert m =
+      refused-calm (send_refusal m.a.0 m.b.0) _ (send-mild m.a.0 m.b.0)
+      (last-calm (revert_on s m.a.0 m.c.0 n) (λ k. choice-goes (is_flashed n (fields_at k m.c.0)) _ _ (do-goes _) (choice-goes (nat_lt (fields_at k m.c.0).floor n) _ Pass (do-goes _) pass-goes)))
+  member-calm Report m = refused-calm (reach_refusal m.a.0 m.b.0) _ (reach-mild m.a.0 m.b.0) none-calm
 
   order-calm : (work : Work) (ms : List Member) → Unstopped (order_entries work s n ms)
   order-calm work [] = none-calm
@@ -290,6 +303,27 @@ add-calm : (m : Member) (n : ℕ) → Unstopped (add_entries m n)
 add-calm m n =
     then-calm (raise_attempt_on m.a.0 n) _ (goes-calm (raise_attempt_on m.a.0 n) (λ k. choice-goes (nat_lt (fields_at k m.a.0).attempt n) (Do (Make (RaiseAttempt m.a.0 n))) Pass (do-goes _) pass-goes))
     (last-calm (raise_floor_on m.c.0 n) (λ k. choice-goes (nat_lt (fields_at k m.c.0).floor n) (Do (Make (RaiseFloor m.c.0 n))) Pass (do-goes _) pass-goes))
+
+-- a member's target is kept, or its session has to be settled first
+counted-mild : (t : ℕ) (k : Control) → Mild (counted_refusal t k)
+counted-mild t k = mild-choice (fields_at k t).member (Some (InSession (record { 0 = (fields_at k t).session }))) None (mild-some (InSession (record { 0 = (fields_at k t).session })) refl) mild-none
+
+restore-mild : (t : ℕ) (k : Control) → Mild (restore_refusal t k)
+restore-mild t k = mild-choice (fields_at k t).member _ None (mild-or (secondary_refusal ms k) _ (off (find (λ m. not (is_running m.b.0 k)) ms)) (forbidden (leaves_all (decided_in s k)) (decided_in s k))) mild-none
+  where
+    s : ℕ
+    s = (fields_at k t).session
+
+    ms : List Member
+    ms = members_in (session_in k.sessions s)
+
+    off : (o : Option Member) → Mild (option_map (λ m. server_off (k.volume m.b.0).server) o)
+    off None = mild-none
+    off (Some m) = mild-some (server_off (k.volume m.b.0).server) refl
+
+    forbidden : (b : Bool) (d : Decision) → Mild (forbidden_unless b d)
+    forbidden true d = mild-none
+    forbidden false d = mild-some (Forbidden d) refl
 
 case-calm : (k : Control) (events : List Event) (line : ℕ) (p : Plan) → Case k events line p → Unstopped p.entries
 case-calm k events line _ (Writes v t offset len bytes free) = landing-calm k (k.issued + 1) v t
@@ -307,10 +341,10 @@ case-calm k events line _ (Flashes dev s t choices) = named-calm k dev s t _
     (checked-calm (differ s t) _ _ refl (checked-calm (share_server s t) _ _ refl (checked-calm (share_size s t) _ _ refl
     (checked-calm (is_no_target t) (relation_state k t) _ refl (checked-calm (is_no_source t) (relation_state k t) _ refl (checked-calm (is_no_target s) (relation_state k s) _ refl
     (checked-calm (has_no_pair t) (pair_state k t) _ refl (checked-calm (has_few_targets s) _ _ refl (now-calm (Relate t s choices))))))))))
-case-calm k events line _ (Withdraws dev s t) = named-calm k dev s t _ (checked-calm (is_plain_target s t) (relation_state k t) _ refl (now-calm (Withdraw t)))
-case-calm k events line _ (Resyncs dev s t sequence) = named-calm k dev s t _ (checked-calm (is_recorded_target s t) (relation_state k t) _ refl (now-calm (Resync t sequence)))
+case-calm k events line _ (Withdraws dev s t) = named-calm k dev s t _ (refused-calm (counted_refusal t) _ (counted-mild t) (checked-calm (is_plain_target s t) (relation_state k t) _ refl (now-calm (Withdraw t))))
+case-calm k events line _ (Resyncs dev s t sequence) = named-calm k dev s t _ (refused-calm (counted_refusal t) _ (counted-mild t) (checked-calm (is_recorded_target s t) (relation_state k t) _ refl (now-calm (Resync t sequence))))
 case-calm k events line _ (Reverses dev s t) =
-    named-calm k dev s t _ (checked-calm (is_recorded_target s t) (relation_state k t) _ refl (checked-calm (is_lone_restore s t) (relation_state k s) _ refl (checked-calm (may_return s) (pair_state k s) _ refl (now-calm (Reverse t)))))
+    named-calm k dev s t _ (refused-calm (restore_refusal t) _ (restore-mild t) (checked-calm (is_recorded_target s t) (relation_state k t) _ refl (checked-calm (is_lone_restore s t) (relation_state k s) _ refl (checked-calm (may_return s) (pair_state k s) _ refl (now-calm (Reverse t (left_by k t)))))))
 case-calm k events line _ (Copies t most) =
     checked-calm (is_defined t) _ _ refl (checked-calm (is_running t) _ _ refl (checked-calm (may_copy t) (relation_state k t) _ refl (checked-calm (may_give_back t) (pair_state k (fields_at k t).source) _ refl
     (times-calm (at_most most (left_to_copy k t)) _ (copy-calm k t (fields_at k t).reversing)))))

@@ -1,12 +1,12 @@
 -- What each step comes to, by cases: an answer, or one of the plans of the step table behind its tests.
-use Rattle.std.proofs.Common.{ℕ, ◌≡◌, ◌<◌, ◌≤◌, refl, Bool, true, false, cond, not, ◌||◌, List, [], Option, Some, None, Result, Ok, Err, nat_eq, nat_lt, nat_le, arith}
+use Rattle.std.proofs.Common.{ℕ, ◌≡◌, ◌<◌, ◌≤◌, refl, ap, ◌∙◌, Bool, true, false, cond, not, ◌||◌, List, [], Option, Some, None, Result, Ok, Err, nat_eq, nat_lt, nat_le, arith}
 use Rattle.std.specs.Prelude.{length, is_some, if◌then◌else◌, ◌==◌}
 use Rattle.std.specs.List.{find}
 use Rattle.std.specs.Option.{option_or}
 use Rattle.std.specs.Str.{bytes_eq}
 use Rattle.std.proofs.lemmas.List.Quantifiers.{position-Some}
 use Rattle.std.proofs.lemmas.Bool.Decides.{nat_tests}
-use Rattle.std.proofs.lemmas.Bool.{or_parts}
+use Rattle.std.proofs.lemmas.Bool.{or_parts, eqb-true}
 use Rattle.dr_ids.specs.declared.refusal.Refusal.{Refusal}
 use Rattle.dr_ids.specs.declared.refusal.Refusal.TheVariants.{NotBuilt, JournalFull, Syntax}
 use Rattle.dr_ids.specs.declared.refusal.Kind.TheVariants.{Server as OfServer, Volume as OfVolume, Lss as OfLss, Track as OfTrack, Write as OfWrite}
@@ -30,11 +30,11 @@ use Rattle.dr_model.specs.Moves.{is_write}
 use Rattle.dr_ids.specs.declared.names.Member.{Member}
 use Rattle.dr_ids.specs.declared.refusal.Kind.TheVariants.{Session as OfSession}
 use Rattle.dr_model.specs.Phases as phases
-use Rattle.dr_model.specs.Sessions.{Session, Mirror, session_in, has_place_of, joined, left, changed, mirrored_by, paused, unmirrored, with_master, with_member, without_member, raised, busy, in_session, leave_refusal, join_refusal, make_refusal, drop_refusal, abort_refusal}
+use Rattle.dr_model.specs.Sessions.{Session, Mirror, has_subsystem, subsystem_of, session_in, has_place_of, joined, left, changed, mirrored_by, paused, unmirrored, with_master, with_member, without_member, raised, busy, in_session, leave_refusal, join_refusal, make_refusal, drop_refusal, abort_refusal}
 use Rattle.dr_model.specs.SessionEntries.{order_entries, members_on, first_number, add_entries, expel_entries}
 use Rattle.dr_model.specs.Entries.{fields_at}
-use Rattle.dr_model.specs.SessionPlans.{with_sessions, table_plan, says_phase, name_refusal, off_refusal, outside_refusal, master_refusal, place_refusal, taken_refusal, copy_refusal, member_target, member_with, add_target, add_to, expel_done, expel_found, exchange_refusal, order_of, answered_by, exchange_done, exchange_on, is_ahead, on_volume, join_plan, leave_plan, mirror_plan, pause_mirror_plan, unmirror_plan, abort_plan, add_plan, expel_plan, exchange_plan}
-use Rattle.dr_model.specs.Plans.{Plan, plan, step_plan, plan_of, is_built, is_later, has_room, same, none_follow, always, on_session, is_defined, only_says, refuses, unless, on_named, on_server, name_bytes, server_named, server_refusal, server_done, volume_refusal, volume_done, link_between, link_done, track_refusal, issue_refusal, issue_done, write_done, apply_on, apply_done, show_refusal, show_done, is_foreign, stop_on, stop_done, arm_on, start_on, start_plan, flash_plan, withdraw_plan, resync_plan, reverse_plan, copy_plan, on_owner, owner_of, path_refusal, path_done, unpath_refusal, unpath_done, pair_plan, remove_plan, pause_plan, resume_plan, drain_plan, expire_on, expire_plan, freeze_refusal, freeze_done, thaw_refusal, thaw_done}
+use Rattle.dr_model.specs.SessionPlans.{with_sessions, table_plan, says_phase, name_refusal, off_refusal, outside_refusal, master_refusal, place_refusal, taken_refusal, copy_refusal, member_target, member_with, add_target, add_to, expel_done, expel_found, exchange_refusal, order_of, answered_by, exchange_done, exchange_on, on_volume, join_plan, leave_plan, mirror_plan, pause_mirror_plan, unmirror_plan, abort_plan, add_plan, expel_plan, exchange_plan}
+use Rattle.dr_model.specs.Plans.{Plan, plan, step_plan, plan_of, is_built, has_room, same, none_follow, always, on_session, is_defined, only_says, refuses, unless, on_named, on_server, name_bytes, server_named, server_refusal, server_done, volume_refusal, volume_done, link_between, link_done, track_refusal, issue_refusal, issue_done, write_done, apply_on, apply_done, show_refusal, show_done, is_foreign, stop_on, stop_done, arm_on, start_on, start_plan, flash_plan, withdraw_plan, resync_plan, reverse_plan, copy_plan, on_owner, owner_of, path_refusal, path_done, unpath_refusal, unpath_done, pair_plan, remove_plan, pause_plan, resume_plan, drain_plan, expire_on, expire_plan, freeze_refusal, freeze_done, thaw_refusal, thaw_done}
 use Rattle.dr_model.specs.Entries.{first_of, subsystem}
 
 -- a member is added, and removed; a master is aborted, and an order is carried out
@@ -79,12 +79,12 @@ pub record Joins (k : Control) (s a c : ℕ) (x : Session) : Type 0 where
   pub copies : copy_refusal k a ≡ None
   pub target : member_target k (fields_at k a).primary_partner ≡ Some c
   pub places : in_session (find (has_place_of (member_with k a c)) k.sessions) ≡ None
+  pub inside : has_subsystem (subsystem_of a) x ≡ true
 
 -- and why a server may be given an order
 pub record Ordered (k : Control) (s server : ℕ) (x : Session) (r : Mirror) (o : phases.Order) : Type 0 where
   pub found : session_in k.sessions s ≡ Some x
   pub mirror : x.mirror ≡ Some r
-  pub near : is_ahead k s ≡ false
   pub allowed : exchange_refusal k r server x.members ≡ None
   pub order : order_of r server ≡ Some o
 
@@ -233,8 +233,10 @@ module _ (k : Control) (events : List Event) (line : ℕ) where
   add-case dev l a s = where-owned (owner_of k l) _ (λ owner. where-volume a _ (λ there. where-session (session_in k.sessions s) _ (λ x is.
       where-none (place_refusal k dev owner l a) (add_to k s x l a) (λ named.
       where-none (option_or (outside_refusal x l) (option_or (taken_refusal k x a) (copy_refusal k a))) (add_target k s x a (fields_at k a).primary_partner (member_target k (fields_at k a).primary_partner)) (λ free.
-      let rest = or-passed (taken_refusal k x a) _ (or-passed (outside_refusal x l) _ free).1 in
-      target-case s a x (member_target k (fields_at k a).primary_partner) (λ c target places. record { found = is; there = there; free = rest.0; copies = rest.1; target = target; places = places }))))))
+      let parts = or-passed (outside_refusal x l) _ free in
+      let rest = or-passed (taken_refusal k x a) _ parts.1 in
+      let lies : subsystem a ≡ l = eqb-true (subsystem a) l (is-not (nat_eq (subsystem a) l) (one-passed (not (nat_eq (subsystem a) l)) (unknown OfVolume) _ named).0) in
+      target-case s a x (member_target k (fields_at k a).primary_partner) (λ c target places. record { found = is; there = there; free = rest.0; copies = rest.1; target = target; places = places; inside = ap (λ l. has_subsystem l x) lies ∙ met (has_subsystem l x) _ parts.0 }))))))
 
   found-case : (s a : ℕ) (x : Session) (o : Option Member) → session_in k.sessions s ≡ Some x → find (λ m. m.a.0 == a) x.members ≡ o → Is (expel_found k s x o)
   found-case s a x None is none = Says _
@@ -249,69 +251,68 @@ module _ (k : Control) (events : List Event) (line : ℕ) where
   order-case s server reply x r None go = Says _
   order-case s server reply x r (Some o) go = Exchanges s server reply x r o (go o refl)
 
-  on-case : (s server : ℕ) (reply : Bool) (x : Session) (m : Option Mirror) → session_in k.sessions s ≡ Some x → x.mirror ≡ m → is_ahead k s ≡ false → Is (exchange_on k s m server reply x.members)
-  on-case s server reply x None is none near = Says _
-  on-case s server reply x (Some r) is mirror near =
+  on-case : (s server : ℕ) (reply : Bool) (x : Session) (m : Option Mirror) → session_in k.sessions s ≡ Some x → x.mirror ≡ m → Is (exchange_on k s m server reply x.members)
+  on-case s server reply x None is none = Says _
+  on-case s server reply x (Some r) is mirror =
       where-none (exchange_refusal k r server x.members) (exchange_done s server reply (members_on server x.members) (order_of r server)) (λ free.
-      order-case s server reply x r (order_of r server) (λ o order. record { found = is; mirror = mirror; near = near; allowed = free; order = order }))
+      order-case s server reply x r (order_of r server) (λ o order. record { found = is; mirror = mirror; allowed = free; order = order }))
 
-  exchange-case : (s : ℕ) (name : Name) (reply : Bool) → is_ahead k s ≡ false → Is (exchange_plan k s name reply)
-  exchange-case s name reply near = where-session (session_in k.sessions s) _ (λ x is.
-      where-named (server_named k (name_bytes name)) (λ server. exchange_on k s x.mirror server reply x.members) (λ server. on-case s server reply x x.mirror is refl near))
+  exchange-case : (s : ℕ) (name : Name) (reply : Bool) → Is (exchange_plan k s name reply)
+  exchange-case s name reply = where-session (session_in k.sessions s) _ (λ x is.
+      where-named (server_named k (name_bytes name)) (λ server. exchange_on k s x.mirror server reply x.members) (λ server. on-case s server reply x x.mirror is refl))
 
-  of-case : (step : Step) → is_built step ≡ true → is_later k step ≡ false → Is (plan_of k events line step)
-  of-case (Server name) built now = where-none (server_refusal k (name_bytes name)) (server_done k name) (Defines name)
-  of-case (Volume v name tracks) built now =
+  of-case : (step : Step) → is_built step ≡ true → Is (plan_of k events line step)
+  of-case (Server name) built = where-none (server_refusal k (name_bytes name)) (server_done k name) (Defines name)
+  of-case (Volume v name tracks) built =
       where-placed (server_named k (name_bytes name)) (λ s. unless (volume_refusal k v s tracks) (volume_done v s tracks))
       (λ s is. where-none (volume_refusal k v s tracks) (volume_done v s tracks) (Adds v s tracks (position-Some (bytes_eq (name_bytes name)) k.servers s [] is).0))
-  of-case (Link a b up) built now = where-named (server_named k (name_bytes a)) (λ x. on_server k b (λ y. link_between x y up)) (λ x. where-named (server_named k (name_bytes b)) (λ y. link_between x y up) (λ y. link-case x y up))
-  of-case (Issue v t offset len bytes) built now = where-none (issue_refusal k v t) (issue_done k v t offset len bytes) (Issues v t offset len bytes)
-  of-case (Write v t offset len bytes) built now = where-none (issue_refusal k v t) (write_done k v t offset len bytes) (Writes v t offset len bytes)
-  of-case (Apply n) built now = apply-case n _ refl
-  of-case (Stop name) built now = where-named (server_named k (name_bytes name)) (stop_on k) stop-case
-  of-case (StopAfter name writes torn) built now = where-named (server_named k (name_bytes name)) (arm_on writes torn) (Arms writes torn)
-  of-case (Start name) built now = where-named (server_named k (name_bytes name)) (start_on k) start-case
-  of-case (Show v t) built now = where-none (show_refusal k v t) (show_done events line v t) (Shows v t)
-  of-case (MakeFlash devs s t nocopy persistent recorded inhibited sequence) built now = Flashes devs.dev s t _
-  of-case (RemoveFlash devs s t sequence) built now = Withdraws devs.dev s t
-  of-case (ResyncFlash devs s t nocopy persistent recorded inhibited sequence) built now = Resyncs devs.dev s t sequence
-  of-case (ReverseFlash devs s t tgtpprc sequence) built now = Reverses devs.dev s t
-  of-case (Copy t most) built now = Copies t most
-  of-case (MakePath devs src tgt group) built now =
+  of-case (Link a b up) built = where-named (server_named k (name_bytes a)) (λ x. on_server k b (λ y. link_between x y up)) (λ x. where-named (server_named k (name_bytes b)) (λ y. link_between x y up) (λ y. link-case x y up))
+  of-case (Issue v t offset len bytes) built = where-none (issue_refusal k v t) (issue_done k v t offset len bytes) (Issues v t offset len bytes)
+  of-case (Write v t offset len bytes) built = where-none (issue_refusal k v t) (write_done k v t offset len bytes) (Writes v t offset len bytes)
+  of-case (Apply n) built = apply-case n _ refl
+  of-case (Stop name) built = where-named (server_named k (name_bytes name)) (stop_on k) stop-case
+  of-case (StopAfter name writes torn) built = where-named (server_named k (name_bytes name)) (arm_on writes torn) (Arms writes torn)
+  of-case (Start name) built = where-named (server_named k (name_bytes name)) (start_on k) start-case
+  of-case (Show v t) built = where-none (show_refusal k v t) (show_done events line v t) (Shows v t)
+  of-case (MakeFlash devs s t nocopy persistent recorded inhibited sequence) built = Flashes devs.dev s t _
+  of-case (RemoveFlash devs s t sequence) built = Withdraws devs.dev s t
+  of-case (ResyncFlash devs s t nocopy persistent recorded inhibited sequence) built = Resyncs devs.dev s t sequence
+  of-case (ReverseFlash devs s t tgtpprc sequence) built = Reverses devs.dev s t
+  of-case (Copy t most) built = Copies t most
+  of-case (MakePath devs src tgt group) built =
       where-owned (owner_of k src) (λ s. on_owner (owner_of k tgt) (λ u. unless (path_refusal k devs s u) (path_done src tgt group)))
       (λ s. where-owned (owner_of k tgt) (λ u. unless (path_refusal k devs s u) (path_done src tgt group)) (λ u. where-none (path_refusal k devs s u) (path_done src tgt group) (λ free. Paths src tgt group)))
-  of-case (RemovePath devs src tgt force) built now =
+  of-case (RemovePath devs src tgt force) built =
       where-owned (owner_of k src) (λ s. on_owner (owner_of k tgt) (λ u. unless (unpath_refusal k devs src tgt s u force) (unpath_done src tgt)))
       (λ s. where-owned (owner_of k tgt) (λ u. unless (unpath_refusal k devs src tgt s u force) (unpath_done src tgt)) (λ u. where-none (unpath_refusal k devs src tgt s u force) (unpath_done src tgt) (λ free. Unpaths src tgt)))
-  of-case (MakePair devs a b kind full) built now = MakesPair devs a b (part_of kind) full built
-  of-case (RemovePair devs a b source_only) built now = RemovesPair devs a b source_only
-  of-case (PausePair devs a b) built now = Pauses devs a b
-  of-case (ResumePair devs a b kind) built now = ResumesPair devs a b (part_of kind)
-  of-case (Drain a most) built now = Drains a most
-  of-case (Expire name) built now = where-named (server_named k (name_bytes name)) (expire_on k) expire-case
-  of-case (Freeze devs l m) built now =
+  of-case (MakePair devs a b kind full) built = MakesPair devs a b (part_of kind) full built
+  of-case (RemovePair devs a b source_only) built = RemovesPair devs a b source_only
+  of-case (PausePair devs a b) built = Pauses devs a b
+  of-case (ResumePair devs a b kind) built = ResumesPair devs a b (part_of kind)
+  of-case (Drain a most) built = Drains a most
+  of-case (Expire name) built = where-named (server_named k (name_bytes name)) (expire_on k) expire-case
+  of-case (Freeze devs l m) built =
       where-owned (owner_of k l) (λ s. on_owner (owner_of k m) (λ u. unless (freeze_refusal k devs l m s u) (freeze_done k l m)))
       (λ s. where-owned (owner_of k m) (λ u. unless (freeze_refusal k devs l m s u) (freeze_done k l m)) (λ u. where-none (freeze_refusal k devs l m s u) (freeze_done k l m) (λ free. Freezes l m)))
-  of-case (Unfreeze devs l m) built now =
+  of-case (Unfreeze devs l m) built =
       where-owned (owner_of k l) (λ s. on_owner (owner_of k m) (λ u. unless (thaw_refusal k devs s u) (thaw_done k l m)))
       (λ s. where-owned (owner_of k m) (λ u. unless (thaw_refusal k devs s u) (thaw_done k l m)) (λ u. where-none (thaw_refusal k devs s u) (thaw_done k l m) (λ free. Thaws l m)))
-  of-case (MakeSession devs l s) built now = join-case devs.dev l s
-  of-case (RemoveSession devs l s) built now = leave-case devs.dev l s
-  of-case (AddMember devs l a s) built now = add-case devs.dev l a s
-  of-case (RemoveMember devs l a s) built now = expel-case devs.dev l a s
-  of-case (MakeMirror devs l s cginterval coordinate drain) built now = mirror-case devs.dev l s
-  of-case (PauseMirror devs l s) built now = pause-case devs.dev l s true
-  of-case (ResumeMirror devs l s cginterval coordinate drain) built now = pause-case devs.dev l s false
-  of-case (RemoveMirror devs l s) built now = unmirror-case devs.dev l s
-  of-case (Abort s) built now = abort-case s
-  of-case (Exchange s name reply) built now = exchange-case s name reply now
-  of-case _ built now = Says (Refused NotBuilt)
+  of-case (MakeSession devs l s) built = join-case devs.dev l s
+  of-case (RemoveSession devs l s) built = leave-case devs.dev l s
+  of-case (AddMember devs l a s) built = add-case devs.dev l a s
+  of-case (RemoveMember devs l a s) built = expel-case devs.dev l a s
+  of-case (MakeMirror devs l s cginterval coordinate drain) built = mirror-case devs.dev l s
+  of-case (PauseMirror devs l s) built = pause-case devs.dev l s true
+  of-case (ResumeMirror devs l s cginterval coordinate drain) built = pause-case devs.dev l s false
+  of-case (RemoveMirror devs l s) built = unmirror-case devs.dev l s
+  of-case (Abort s) built = abort-case s
+  of-case (Exchange s name reply) built = exchange-case s name reply
+  of-case _ built = Says (Refused NotBuilt)
 
   step-case : (step : Step) → Is (step_plan k events line step)
   step-case step =
-      choice (not (is_built step)) (refuses NotBuilt) (cond (is_later k step) (refuses NotBuilt) (cond (has_room events) (plan_of k events line step) (refuses JournalFull))) (λ none. Says _)
-      (λ built. choice (is_later k step) (refuses NotBuilt) (cond (has_room events) (plan_of k events line step) (refuses JournalFull)) (λ later. Says _)
-      (λ soon. choice (has_room events) (plan_of k events line step) (refuses JournalFull) (λ room. of-case step (is-not (is_built step) built) soon) (λ full. Says _)))
+      choice (not (is_built step)) (refuses NotBuilt) (cond (has_room events) (plan_of k events line step) (refuses JournalFull)) (λ none. Says _)
+      (λ built. choice (has_room events) (plan_of k events line step) (refuses JournalFull) (λ room. of-case step (is-not (is_built step) built)) (λ full. Says _))
 
   pub plan-case : (asked : Result Step ℕ) → Is (plan k events line asked)
   plan-case (Ok step) = step-case step

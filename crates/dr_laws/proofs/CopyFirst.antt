@@ -56,6 +56,7 @@ pub record Still (w v : World) : Type 0 where
   pub contents : (u : ℕ) → from w u ≡ None → v.contents u ≡ w.contents u
   pub spared : (u : ℕ) → (fields_at w.control u).reversing ≡ true → v.control.volume u ≡ w.control.volume u
   pub turned : (u s : ℕ) → from v u ≡ Some s → (fields_at v.control u).reversing ≡ true → (from w u ≡ Some s) × ((fields_at w.control u).reversing ≡ true)
+  pub flashed : (u s : ℕ) → from v u ≡ Some s → (fields_at v.control u).revertible ≡ true → (from w u ≡ Some s) × ((fields_at w.control u).revertible ≡ true)
   pub on : v.control.on ≡ w.control.on
   pub link : v.control.link ≡ w.control.link
   pub paths : v.control.paths ≡ w.control.paths
@@ -65,13 +66,13 @@ pub record Still (w v : World) : Type 0 where
   pub lists : histories v.events ≡ histories w.events
 
 pub still : (w : World) → Still w w
-still w = record { volume = λ u h. refl; contents = λ u h. refl; spared = λ u h. refl; turned = λ u s h r. (h, r); on = refl; link = refl; paths = refl; volumes = refl; issued = refl; pending = refl; lists = refl }
+still w = record { volume = λ u h. refl; contents = λ u h. refl; spared = λ u h. refl; turned = λ u s h r. (h, r); flashed = λ u s h r. (h, r); on = refl; link = refl; paths = refl; volumes = refl; issued = refl; pending = refl; lists = refl }
 
 -- a move on a target
-still-done : (w v : World) (u s : ℕ) (x : Volume) (bytes : ℕ → List ℕ) → Still w v → from v u ≡ Some s → (fields_at v.control u).reversing ≡ false → ((s : ℕ) → source_of x.fields ≡ Some s → x.fields.reversing ≡ true → ⊥)
+still-done : (w v : World) (u s : ℕ) (x : Volume) (bytes : ℕ → List ℕ) → Still w v → from v u ≡ Some s → (fields_at v.control u).reversing ≡ false → ((s : ℕ) → source_of x.fields ≡ Some s → x.fields.reversing ≡ true → ⊥) → ((s : ℕ) → source_of x.fields ≡ Some s → x.fields.revertible ≡ true → ⊥)
     → (k : World) → k.control.volume ≡ at v.control.volume u x → k.contents ≡ at v.contents u bytes → k.control.on ≡ v.control.on → k.control.link ≡ v.control.link → k.control.paths ≡ v.control.paths → k.control.volumes ≡ v.control.volumes → k.control.issued ≡ v.control.issued
     → k.control.pending ≡ v.control.pending → histories k.events ≡ histories v.events → Still w k
-still-done w v u s x bytes old is forward never k volume contents on link paths volumes issued pending lists =
+still-done w v u s x bytes old is forward never calm k volume contents on link paths volumes issued pending lists =
     let other : ((j : ℕ) → from w j ≡ None → j ≢ u) = λ j none e. none_some (ap (λ (x : Volume). source_of x.fields) (old.volume j none) ∙ none) (ap (from v) e ∙ is) in
     record {
       volume = λ j none. ap (λ (g : ℕ → Volume). g j) volume ∙ at_other v.control.volume u x j (other j none) ∙ old.volume j none;
@@ -81,6 +82,10 @@ still-done w v u s x bytes old is forward never k volume contents on link paths 
           at_cases (λ j (y : Volume). source_of y.fields ≡ Some s → y.fields.reversing ≡ true → (from w j ≡ Some s) × ((fields_at w.control j).reversing ≡ true)) v.control.volume u x
           (λ h r. absurd (never s h r)) (λ q ne h r. old.turned q s h r) j
           (ap (λ (g : ℕ → Volume). source_of (g j).fields) (sym volume) ∙ h) (ap (λ (g : ℕ → Volume). (g j).fields.reversing) (sym volume) ∙ r);
+      flashed = λ j s h r.
+          at_cases (λ j (y : Volume). source_of y.fields ≡ Some s → y.fields.revertible ≡ true → (from w j ≡ Some s) × ((fields_at w.control j).revertible ≡ true)) v.control.volume u x
+          (λ h r. absurd (calm s h r)) (λ q ne h r. old.flashed q s h r) j
+          (ap (λ (g : ℕ → Volume). source_of (g j).fields) (sym volume) ∙ h) (ap (λ (g : ℕ → Volume). (g j).fields.revertible) (sym volume) ∙ r);
       contents = λ j none. ap (λ (g : ℕ → ℕ → List ℕ). g j) contents ∙ at_other v.contents u bytes j (other j none) ∙ old.contents j none;
       on = on ∙ old.on;
       link = link ∙ old.link;
@@ -91,15 +96,21 @@ still-done w v u s x bytes old is forward never k volume contents on link paths 
       lists = lists ∙ old.lists;
     }
 
+-- what isn't so
+pub unturned : (b : Bool) → (b ≡ true → ⊥) → b ≡ false
+unturned true none = absurd (none refl)
+unturned false none = refl
+
 module _ (v t : ℕ) where
   -- what is left to do: the volumes of the list
   pub record Left (left : List ℕ) (w : World) : Type 0 where
     pub own : (u : ℕ) → list_any (nat_eq u) left ≡ false → from w u ≡ Some v → contains (fields_at w.control u).own t ≡ true
     pub noted : (u : ℕ) → list_any (nat_eq u) left ≡ false → from w u ≡ Some v → (fields_at w.control u).recorded ≡ true → (fields_at w.control u).reversing ≡ false → contains (fields_at w.control u).source_changes t ≡ true
     pub spared : (u : ℕ) → from w u ≡ Some v → (fields_at w.control u).reversing ≡ true → contains (fields_at w.control u).own t ≡ true
+    pub settled : (u : ℕ) → from w u ≡ Some v → (fields_at w.control u).revertible ≡ true → ⊥
 
   pub kept : (w : World) → Left [] w → Kept (table w) v t
-  kept w l = record { own = λ u h. l.own u refl h; noted = λ u h r f. l.noted u refl h r f }
+  kept w l = record { own = λ u h. l.own u refl h; noted = λ u h r f. l.noted u refl h r f; settled = λ u h. unturned (fields_at w.control u).revertible (l.settled u h) }
 
   -- one volume less is left, where it is as it should
   less : (x : ℕ) (left : List ℕ) (w : World) → Left (x ∷ left) w
@@ -116,17 +127,19 @@ module _ (v t : ℕ) where
       | inr not ↦ l.noted u (ap (λ b. b || list_any (nat_eq u) left) not.0 ∙ n) h r f
     ];
     spared = l.spared;
+    settled = l.settled;
   }
 
   -- or was made so, and isn't being restored
   made : (x : ℕ) (left : List ℕ) (w : World) (f : Volume) (k : World) → k.control.volume ≡ at w.control.volume x f → Left (x ∷ left) w
-      → (source_of f.fields ≡ Some v → contains f.fields.own t ≡ true) → (source_of f.fields ≡ Some v → f.fields.recorded ≡ true → contains f.fields.source_changes t ≡ true) → ((s : ℕ) → source_of f.fields ≡ Some s → f.fields.reversing ≡ true → ⊥)
+      → (source_of f.fields ≡ Some v → contains f.fields.own t ≡ true) → (source_of f.fields ≡ Some v → f.fields.recorded ≡ true → contains f.fields.source_changes t ≡ true) → ((s : ℕ) → source_of f.fields ≡ Some s → f.fields.reversing ≡ true → ⊥) → (source_of f.fields ≡ Some v → f.fields.revertible ≡ true → ⊥)
       → Left left k
-  made x left w f k volume l own noted never = subst (λ (g : ℕ → Volume). Left left (record k { control = record k.control { volume = g } })) (sym volume) (record {
+  made x left w f k volume l own noted never settled = subst (λ (g : ℕ → Volume). Left left (record k { control = record k.control { volume = g } })) (sym volume) (record {
     own = at_cases (λ u y. list_any (nat_eq u) left ≡ false → source_of y.fields ≡ Some v → contains y.fields.own t ≡ true) w.control.volume x f (λ n. own) (λ u ne n. l.own u (λ i. ne_eqb u x ne i || n i));
     noted = at_cases (λ u y. list_any (nat_eq u) left ≡ false → source_of y.fields ≡ Some v → y.fields.recorded ≡ true → y.fields.reversing ≡ false → contains y.fields.source_changes t ≡ true) w.control.volume x f
         (λ n h r rev. noted h r) (λ u ne n. l.noted u (λ i. ne_eqb u x ne i || n i));
     spared = at_cases (λ u y. source_of y.fields ≡ Some v → y.fields.reversing ≡ true → contains y.fields.own t ≡ true) w.control.volume x f (λ h r. absurd (never v h r)) (λ u ne. l.spared u);
+    settled = at_cases (λ u y. source_of y.fields ≡ Some v → y.fields.revertible ≡ true → ⊥) w.control.volume x f settled (λ u ne. l.settled u);
   })
 
   -- what a target becomes
@@ -162,17 +175,20 @@ module _ (v t : ℕ) where
         let u : Volume = w.control.volume x in
         let g : Fields = fields_left (Keep x t) u in
         let e : Bool = is_whole u.tracks (insert u.fields.own t) && not u.fields.persistent in
-        let never : ((s : ℕ) → source_of g ≡ Some s → g.reversing ≡ true → ⊥) = λ s h. not_turned e u.fields.reversing iv in (
-          record { runs = runs-at w s st x is; allowed = record { low = low-at w s st x is; from = v; related = is; new = io; forward = iv }; fits = tt; group = tt; ready = idle w x s.queue (runs-at w s st x is) },
-          λ f k. go _ k (still-done first w x v _ _ st is iv never (done w (Keep x t) f) refl refl refl refl refl refl refl refl (histories-append w.events _))
-              (made x left w _ (done w (Keep x t) f) refl l (kept-own e u.fields.related u.fields.source u.fields.own) (kept-noted e u.fields.related u.fields.recorded u.fields.source u.fields.source_changes) never),
+        let calm : u.fields.revertible ≡ false = unturned u.fields.revertible (l.settled x is) in
+        let never : ((s : ℕ) → source_of g ≡ Some s → g.reversing ≡ true → ⊥) = λ s h. not_turned e u.fields.reversing iv in
+        let final : ((s : ℕ) → source_of g ≡ Some s → g.revertible ≡ true → ⊥) = λ s h. not_turned e u.fields.revertible calm in (
+          record { runs = runs-at w s st x is; allowed = record { low = low-at w s st x is; from = v; related = is; new = io; forward = iv; settled = calm }; fits = tt; group = (s.rows.structure.flags x).persists; ready = idle w x s.queue (runs-at w s st x is) },
+          λ f k. go _ k (still-done first w x v _ _ st is iv never final (done w (Keep x t) f) refl refl refl refl refl refl refl refl (histories-append w.events _))
+              (made x left w _ (done w (Keep x t) f) refl l (kept-own e u.fields.related u.fields.source u.fields.own) (kept-noted e u.fields.related u.fields.recorded u.fields.source u.fields.source_changes) never (final v)),
         )
     act-by w x left more s st l go true false true true false ib iv io ir ic =
         let is = copies-from v (fields_at w.control x) ib in
+        let calm : (fields_at w.control x).revertible ≡ false = unturned (fields_at w.control x).revertible (l.settled x is) in
         let never : ((s : ℕ) → from w x ≡ Some s → (fields_at w.control x).reversing ≡ true → ⊥) = λ s h r. false_true iv r in (
-          record { runs = runs-at w s st x is; allowed = record { low = low-at w s st x is; from = v; related = is; held = io; forward = iv }; fits = tt; group = tt; ready = idle w x s.queue (runs-at w s st x is) },
-          λ f k. go _ k (still-done first w x v _ _ st is iv never (done w (Note x t) f) refl refl refl refl refl refl refl refl (ap histories (append-nil w.events)))
-              (made x left w _ (done w (Note x t) f) refl l (λ h. io) (λ h r. noted-has _ _ r) never),
+          record { runs = runs-at w s st x is; allowed = record { low = low-at w s st x is; from = v; related = is; held = io; forward = iv; settled = calm }; fits = tt; group = tt; ready = idle w x s.queue (runs-at w s st x is) },
+          λ f k. go _ k (still-done first w x v _ _ st is iv never (λ s h r. false_true calm r) (done w (Note x t) f) refl refl refl refl refl refl refl refl (ap histories (append-nil w.events)))
+              (made x left w _ (done w (Note x t) f) refl l (λ h. io) (λ h r. noted-has _ _ r) never (l.settled x)),
         )
     act-by w x left more s st l go true false true true true ib iv io ir ic = go w s st (less x left w l (λ h. (io, λ r f. ic)))
     act-by w x left more s st l go true false true false c ib iv io ir ic = go w s st (less x left w l (λ h. (io, λ r f. false_true ir r)))
@@ -188,11 +204,13 @@ module _ (v t : ℕ) where
     pub copy-first : (entry : ℕ → Entry) → ((w : World) (x : ℕ) → Sound w → Still first w → entry x w.control ≡ keep_on v t x w.control)
         → (more : List Entry) → ((k : World) → Sound k → Still first k → Kept (table k) v t → Along k more)
         → ((u : ℕ) → from first u ≡ Some v → (fields_at first.control u).reversing ≡ true → contains (fields_at first.control u).own t ≡ true)
+        → ((u : ℕ) → from first u ≡ Some v → (fields_at first.control u).revertible ≡ true → ⊥)
         → Sound first → Along first (map entry first.control.volumes ++ more)
-    copy-first entry comes more go spared s = along-copy entry comes more go first.control.volumes first s (still first) (record {
+    copy-first entry comes more go spared settled s = along-copy entry comes more go first.control.volumes first s (still first) (record {
       own = λ u n h. false_true n (there u h);
       noted = λ u n h r f. false_true n (there u h);
       spared = spared;
+      settled = settled;
     })
       where
         there : (u : ℕ) → from first u ≡ Some v → list_any (nat_eq u) first.control.volumes ≡ true

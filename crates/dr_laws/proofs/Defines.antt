@@ -4,14 +4,16 @@ use Rattle.std.proofs.lemmas.Bool.Decides.{eqb_tells}
 use Rattle.std.proofs.lemmas.Bool.{false_from_ne_true, and_parts, eqb-true}
 use Rattle.std.specs.List.{list_any}
 use Rattle.dr_model.specs.declared.event.Event.TheVariants.{Volume as VolumeDefined}
+use Rattle.std.specs.FinSet.{contains}
 use Rattle.dr_model.specs.Tables.{at}
 use Rattle.dr_model.specs.Contents.{image, zeros}
 use Rattle.dr_model.specs.Histories.{Write, Histories, histories, after_event}
 use Rattle.dr_model.specs.Control.{Pending, Volume, World, is_volume, new_volume}
-use Rattle.dr_model.specs.Table.{Row, table, waiting, due_by}
-use Rattle.dr_model.specs.Laws.{SoundRows, HoldsOld, RowParts, RowRecords, Partnered, OneWay, FreeSource, Alike, source, its_primary, its_secondary, Numbered, Waits, AllPending, Lone, Together, servers, sizes, Sound}
+use Rattle.dr_model.specs.Table.{Row, table, waiting, due_by, aside, aside_by}
+use Rattle.dr_model.specs.Laws.{Seals, OneKind, SealedGlobal, AllSent, NoMetro, fields, ShowsAside, SoundRows, HoldsOld, RowParts, RowRecords, Partnered, OneWay, FreeSource, Alike, source, its_primary, its_secondary, Numbered, Waits, AllPending, Lone, Together, servers, sizes, Sound}
 use Rattle.dr_model.proofs.Images.{histories-append, at_other}
-use Rattle.dr_laws.proofs.AtLemmas.{Told, each-at, linked-at}
+use Rattle.dr_phases.proofs.Volumes.{attempts-defined}
+use Rattle.dr_laws.proofs.AtLemmas.{at_cases, Told, each-at, linked-at}
 use Rattle.dr_laws.proofs.Sets.{if_false, false_true, in_none, empty_has}
 use Rattle.dr_groups.proofs.Volumes.{groups-defined}
 use Rattle.dr_groups.proofs.Housed.{housed-volume}
@@ -71,7 +73,7 @@ module _ (w : World) (s : Sound w) (v server tracks : ℕ) (here : server < leng
       ∙ none-waiting q ps all.1
 
   abbrev pub row : Row
-  row = record { defined = true; volume = new_volume server tracks; bytes = w.contents v; due = λ t. zeros }
+  row = record { defined = true; volume = new_volume server tracks; bytes = w.contents v; due = λ t. zeros; aside = aside w v }
 
   image-none : (write : ℕ → Write) → image write [] ≡ zeros
   unfolding image
@@ -84,12 +86,14 @@ module _ (w : World) (s : Sound w) (v server tracks : ℕ) (here : server < leng
         volume = cond (is.0 i) (new_volume server tracks) (w.control.volume u);
         bytes = w.contents u;
         due = λ q. (ap (λ (h : Histories). due_by h ps u q) lists) i;
+        aside = λ q. (ap (λ (h : Histories). aside_by h u q) lists) i;
       })
       ∙ (λ i. record {
         defined = (ap (λ b. list_any (nat_eq u) w.control.volumes || b) is.0 ∙ always (list_any (nat_eq u) w.control.volumes)) i;
         volume = new_volume server tracks;
         bytes = w.contents (is.1 i);
         due = λ q. (ap (λ b. image h.write ((cond b (λ t. []) (h.now u)) q ++ waiting ps u q)) is.0 ∙ ap (λ x. image h.write (waiting ps x q)) is.1 ∙ ap (image h.write) (none-waiting q ps s.queue.each) ∙ image-none h.write) i;
+        aside = aside w (is.1 i);
       })
       ∙ sym (λ i. cond (is.0 i) row (table w u))
     where
@@ -102,12 +106,14 @@ module _ (w : World) (s : Sound w) (v server tracks : ℕ) (here : server < leng
         volume = cond (not.0 i) (new_volume server tracks) (w.control.volume u);
         bytes = w.contents u;
         due = λ q. (ap (λ (h : Histories). due_by h ps u q) lists) i;
+        aside = λ q. (ap (λ (h : Histories). aside_by h u q) lists) i;
       })
       ∙ (λ i. record {
         defined = (ap (λ b. list_any (nat_eq u) w.control.volumes || b) not.0 ∙ either (list_any (nat_eq u) w.control.volumes)) i;
         volume = w.control.volume u;
         bytes = w.contents u;
         due = λ q. image h.write ((cond (not.0 i) (λ t. []) (h.now u)) q ++ waiting ps u q);
+        aside = aside w u;
       })
       ∙ sym (λ i. cond (not.0 i) row (table w u))
     where
@@ -128,12 +134,29 @@ module _ (w : World) (s : Sound w) (v server tracks : ℕ) (here : server < leng
   no-secondary-yet : {P : Type 0} (u : ℕ) → its_primary (table w u) ≡ Some v → P
   no-secondary-yet u h = false_true undefined (s.rows.parts.primary u v h).defined
 
+  -- no volume points to it, and it points to none
+  seals-defined : Seals (at (table w) v row)
+  seals-defined = record {
+    kinds = linked-at (table w) v row its_primary OneKind (λ u ne e. absurd cc) (λ e. absurd cc) (λ u ne e. no-secondary-yet u e) s.rows.seals.kinds;
+    global = each-at (table w) v row (λ v r. SealedGlobal r) (λ nz. absurd (nz refl)) s.rows.seals.global;
+    sent = linked-at (table w) v row its_secondary AllSent (λ u ne e. absurd cc) (λ e. absurd cc) (λ u ne e. no-primary-yet u e) s.rows.seals.sent;
+    no_metro = linked-at (table w) v row source NoMetro (λ u ne e. absurd cc) (λ e. absurd cc) (λ u ne e. no-source-yet u e) s.rows.seals.no_metro;
+    restored = λ x a b.
+        at_cases (λ a r. source r ≡ Some x → source (at (table w) v row b) ≡ Some x → r.volume.fields.reversing ≡ true → (at (table w) v row b).volume.fields.revertible ≡ true → ⊥) (table w) v row (λ h. absurd cc)
+        (λ a ne h. at_cases (λ b r. source r ≡ Some x → (fields (table w) a).reversing ≡ true → r.volume.fields.revertible ≡ true → ⊥) (table w) v row (λ k. absurd cc) (λ b ne k. s.rows.seals.restored x a b h k) b) a;
+    flashed = λ x u y.
+        at_cases (λ x r. its_secondary r ≡ Some u → its_primary (at (table w) v row u) ≡ Some x → source (at (table w) v row y) ≡ Some u → r.volume.fields.recording ≡ true → (at (table w) v row y).volume.fields.revertible ≡ true → (t : ℕ) → contains r.volume.fields.out_of_sync t ≡ false) (table w) v row (λ h. absurd cc)
+        (λ x ne h. at_cases (λ u r. its_secondary (table w x) ≡ Some u → its_primary r ≡ Some x → source (at (table w) v row y) ≡ Some u → (fields (table w) x).recording ≡ true → (at (table w) v row y).volume.fields.revertible ≡ true → (t : ℕ) → contains (fields (table w) x).out_of_sync t ≡ false) (table w) v row (λ h k. absurd cc)
+        (λ u ne h k. at_cases (λ y r. source r ≡ Some u → (fields (table w) x).recording ≡ true → r.volume.fields.revertible ≡ true → (t : ℕ) → contains (fields (table w) x).out_of_sync t ≡ false) (table w) v row (λ e. absurd cc) (λ y ne e. s.rows.seals.flashed x u y h k e) y) u h) x;
+  }
+
   rows-defined : SoundRows (at (table w) v row)
   rows-defined = record {
     structure = structure-at h.write (table w) s.rows.structure v row (record {
       lawful = lawful-no_fields tracks;
-      sets = record { apart = in_none _; noted_held = in_none _; rewritten_held = in_none _ };
+      sets = record { apart = in_none _; noted_held = λ e. in_none _; rewritten_held = λ e. in_none _ };
       flags = record { persists = λ e. absurd cc; records = λ e. absurd cc; unchanged = λ e. absurd cc; some = λ e. absurd cc };
+      reverts = λ e. absurd cc;
       defined = λ e. refl;
       from = λ u e. absurd cc;
       loop = λ e. cc;
@@ -156,8 +179,9 @@ module _ (w : World) (s : Sound w) (v server tracks : ℕ) (here : server < leng
       onto = λ u ne e. no-source-yet u e;
     });
     recorders = each-at (table w) v row (λ v r. RowRecords r) (record { holds = λ e. absurd cc; global = λ e. absurd cc; pending = λ e. absurd cc; none = λ e. empty_has }) s.rows.recorders;
-    final = each-at (table w) v row (λ v r. r.volume.fields.revertible ≡ false) refl s.rows.final;
+    seals = seals-defined;
     recorded = linked-at (table w) v row source HoldsOld (λ u ne e. absurd cc) (λ e. absurd cc) (λ u ne e. no-source-yet u e) s.rows.recorded;
+    asides = linked-at (table w) v row source ShowsAside (λ u ne e. absurd cc) (λ e. absurd cc) (λ u ne e. no-source-yet u e) s.rows.asides;
     pairs = linked-at (table w) v row its_secondary Alike (λ u ne e. absurd cc) (λ e. absurd cc) (λ u ne e. no-primary-yet u e) s.rows.pairs;
   }
 
@@ -185,6 +209,7 @@ module _ (w : World) (s : Sound w) (v server tracks : ℕ) (here : server < leng
     targets = few-defined w.control s.targets v server tracks undefined;
     groups = groups-defined w.control v server tracks undefined s.groups;
     housed = housed-volume w.control v server tracks here s.housed;
+    attempts = attempts-defined w.control v server tracks undefined s.groups s.attempts;
     queue = record {
       each = each-on waits-on ps s.queue.each;
       apart = s.queue.apart;

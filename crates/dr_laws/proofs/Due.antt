@@ -16,7 +16,7 @@ use Rattle.dr_model.specs.Histories.{Write, Histories, after_event}
 use Rattle.dr_model.specs.Control.{Pending}
 use Rattle.dr_model.specs.Moves.{is_write, is_other, marked, told_blank, told_restored}
 use Rattle.dr_model.specs.Rows.{emptied}
-use Rattle.dr_model.specs.Table.{waiting, due_by}
+use Rattle.dr_model.specs.Table.{aside_by, waiting, due_by}
 use Rattle.dr_model.specs.Laws.{AllPending}
 use Rattle.dr_model.specs.Allowed.{Coming}
 use Rattle.dr_model.proofs.Images.{image-push}
@@ -230,3 +230,33 @@ module _ (h : Histories) (ps : List Pending) where
       by : (b : Bool) → due_by (fold after_event h (cond b (told_blank v n own ++ Restored s v ∷ []) [])) ps u q ≡ at old v (emptied b n own (old v)) u q
       by true = ap (λ (h : Histories). due_by h ps u q) (fold-append after_event h (told_blank v n own) (Restored s v ∷ [])) ∙ due-blanked v n own calm u q
       by false = due-same v u q
+
+-- what is kept aside, by the events of moves
+module _ (h : Histories) where
+  abbrev kept : ℕ → ℕ → List ℕ
+  kept = aside_by h
+
+  pub aside-same : (v u q : ℕ) → kept u q ≡ at kept v (kept v) u q
+  aside-same v u q = sym (ap (λ f. f q) (at_id kept v u))
+
+  blanked-aside : (h : Histories) (v : ℕ) (ts : List ℕ) → (fold after_event h (map (Blanked v) ts)).aside ≡ h.aside
+  blanked-aside h v [] = refl
+  blanked-aside h v (t ∷ ts) = blanked-aside (after_event h (Blanked v t)) v ts
+
+  blanked-written : (h : Histories) (v : ℕ) (ts : List ℕ) → (fold after_event h (map (Blanked v) ts)).write ≡ h.write
+  blanked-written h v [] = refl
+  blanked-written h v (t ∷ ts) = blanked-written (after_event h (Blanked v t)) v ts
+
+  pub aside-blanked : (v n : ℕ) (own : Tracks) (u q : ℕ) → aside_by (fold after_event h (told_blank v n own)) u q ≡ at kept v (kept v) u q
+  aside-blanked v n own u q = (λ i. image (blanked-written h v (in_order n (rest n own)) i) (blanked-aside h v (in_order n (rest n own)) i u q)) ∙ aside-same v u q
+
+  pub aside-restored : (v s n : ℕ) (own : Tracks) (u q : ℕ) → aside_by (fold after_event h (told_restored v s n own)) u q ≡ at kept v (kept v) u q
+  aside-restored v s n own u q = by (is_bare own)
+    where
+      by : (b : Bool) → aside_by (fold after_event h (cond b (told_blank v n own ++ Restored s v ∷ []) [])) u q ≡ at kept v (kept v) u q
+      by true = ap (λ (h : Histories). aside_by h u q) (fold-append after_event h (told_blank v n own) (Restored s v ∷ [])) ∙ aside-blanked v n own u q
+      by false = aside-same v u q
+
+  -- other lists of one volume are kept
+  pub aside-at : (v : ℕ) (l d : ℕ → List ℕ) (u q : ℕ) → image h.write (l q) ≡ d q → image h.write (at h.aside v l u q) ≡ at kept v d u q
+  aside-at v l d u q here = at_two (λ u l d. image h.write (l q) ≡ d q) h.aside kept v l d here (λ u ne. refl) u

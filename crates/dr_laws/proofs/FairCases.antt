@@ -16,7 +16,7 @@ use Rattle.dr_model.specs.Carry.{Make, Next, Pass, Do, End, Entry, check}
 use Rattle.dr_model.specs.Moves.{Suspend, Thaw, Lift, Follow, DropPrimary, DropSecondary}
 use Rattle.dr_model.specs.PairEntries.{end_if, refuse_if, remove_both}
 use Rattle.dr_model.specs.WriteEntries.{freeze_on, end_freeze, thaw_on, end_thaw, lift_on}
-use Rattle.dr_model.specs.Plans.{Plan, entries_plan, flash_plan, withdraw_plan, resync_plan, reverse_plan, remove_plan, pause_plan, resume_plan, expire_plan, freeze_done, thaw_done}
+use Rattle.dr_model.specs.Plans.{Plan, counted_refusal, restore_refusal, entries_plan, flash_plan, withdraw_plan, resync_plan, reverse_plan, remove_plan, pause_plan, resume_plan, expire_plan, freeze_done, thaw_done}
 use Rattle.dr_model.specs.Runs.{said}
 use Rattle.dr_model.specs.Table.{table}
 use Rattle.dr_model.specs.Laws.{SoundRows}
@@ -93,16 +93,16 @@ module _ (w : World) (k : Between w) where
 
   pub fair-withdraw : (dev : Option Name) (s t : ℕ) → Fair w (withdraw_plan w.control dev s t)
   unfolding AllEasy
-  fair-withdraw dev s t = easy-plan w k _ _ (easy-check _ _, (easy-check _ _, (easy-check _ _, (easy-check _ _, (easy-check _ _, ((λ k. tt), tt)))))) (along-withdraw w k.sound dev s t)
+  fair-withdraw dev s t = easy-plan w k _ _ (easy-check _ _, (easy-check _ _, (easy-check _ _, (easy-check _ _, (easy-refuse (counted_refusal t), (easy-check _ _, ((λ k. tt), tt))))))) (along-withdraw w k.sound dev s t)
 
   pub fair-resync : (dev : Option Name) (s t : ℕ) (sequence : Option ℕ) → Fair w (resync_plan w.control dev s t sequence)
   unfolding AllEasy
-  fair-resync dev s t sequence = easy-plan w k _ _ (easy-check _ _, (easy-check _ _, (easy-check _ _, (easy-check _ _, (easy-check _ _, ((λ k. tt), tt)))))) (along-resync w k.sound dev s t sequence)
+  fair-resync dev s t sequence = easy-plan w k _ _ (easy-check _ _, (easy-check _ _, (easy-check _ _, (easy-check _ _, (easy-refuse (counted_refusal t), (easy-check _ _, ((λ k. tt), tt))))))) (along-resync w k.sound dev s t sequence)
 
   pub fair-reverse : (dev : Option Name) (s t : ℕ) → Fair w (reverse_plan w.control dev s t)
   unfolding AllEasy
   fair-reverse dev s t =
-      easy-plan w k _ _ (easy-check _ _, (easy-check _ _, (easy-check _ _, (easy-check _ _, (easy-check _ _, (easy-check _ _, (easy-check _ _, ((λ k. tt), tt)))))))) (along-reverse w k.sound dev s t)
+      easy-plan w k _ _ (easy-check _ _, (easy-check _ _, (easy-check _ _, (easy-check _ _, (easy-refuse (restore_refusal t), (easy-check _ _, (easy-check _ _, (easy-check _ _, ((λ k. tt), tt))))))))) (along-reverse w k.sound dev s t)
 
   pub fair-freeze : (l m : ℕ) → Fair w (freeze_done w.control l m)
   fair-freeze l m =

@@ -10,15 +10,16 @@ use Rattle.dr_model.specs.Control.{Control, World}
 use Rattle.dr_model.specs.Sessions.{Session}
 use Rattle.dr_model.specs.Phases.{Work, Hold, Release, Seal, Flash, Commit, Revert, Finish, Report}
 use Rattle.dr_model.specs.Carry.{Make, OpenAttempt, Next, Pass, Do, Entry, carry}
-use Rattle.dr_model.specs.SessionEntries.{last_of, is_drained, is_past, hold_refusal, stale_refusal, void_refusal, seal_refusal, member_entries, order_entries, add_entries, expel_entries}
+use Rattle.dr_model.specs.SessionEntries.{last_of, is_drained, is_past, hold_refusal, stale_refusal, void_refusal, seal_refusal, is_flashed, is_committed, flash_refusal, commit_refusal, member_entries, order_entries, add_entries, expel_entries}
 use Rattle.dr_model.specs.SessionPlans.{table_plan}
 use Rattle.dr_model.specs.Plans.{Plan, same, none_follow}
 use Rattle.dr_model.specs.Runs.{begun}
 use Rattle.dr_model.specs.Laws.{Sound, AllPending}
 use Rattle.dr_laws.proofs.Fair.{Unacked}
-use Rattle.dr_model.specs.Moves.{Hold as HoldMove, Free, Seal as SealMove, Finish as FinishMove, RaiseAttempt, RaiseFloor}
+use Rattle.dr_model.specs.Moves.{Hold as HoldMove, Free, Seal as SealMove, Finish as FinishMove, RaiseAttempt, RaiseFloor, Flash as FlashMove, Commit as CommitMove, Revert as RevertMove}
 use Rattle.dr_model.specs.Pairs.{records}
 use Rattle.dr_model.specs.Entries.{fields_at}
+use Rattle.dr_model.specs.PairEntries.{reach_refusal, send_refusal}
 use Rattle.dr_laws.proofs.KeepsSound.{StepHolds, RowsAt, MayDo, keeps-sound}
 use Rattle.dr_laws.proofs.FitsSessions.{Orders}
 use Rattle.dr_laws.proofs.Tidy.{tidy-same, fresh-told}
@@ -102,10 +103,10 @@ easy-member Hold s n m = (easy-refuse (hold_refusal m.a.0 m.b.0), (easy-refuse (
 easy-member Release s n m = (easy-refuse (void_refusal m.a.0 n), ((λ k. choose k (fields_at k m.a.0).coordination (Do (Make (Free m.a.0))) Pass tt tt), tt))
 easy-member Seal s n m = (easy-refuse (void_refusal m.a.0 n), (easy-refuse (seal_refusal m.a.0 m.b.0), ((λ k. choose k (is_drained m.a.0 k && not (nat_eq (fields_at k m.b.0).seal n)) (Do (Make (SealMove m.b.0 m.a.0 s n))) Pass tt tt), tt)))
 easy-member Finish s n m = ((λ k. choose k (is_past n (fields_at k m.a.0)) Pass (Do (Make (FinishMove m.a.0 n))) tt tt), tt)
-easy-member Flash s n m = tt
-easy-member Commit s n m = tt
-easy-member Revert s n m = tt
-easy-member Report s n m = tt
+easy-member Flash s n m = (easy-refuse (send_refusal m.a.0 m.b.0), (easy-refuse (flash_refusal m.b.0 m.c.0 n), ((λ k. choose k (is_flashed n (fields_at k m.c.0)) Pass (Do (Make (FlashMove m.c.0 m.b.0 m.a.0 s n))) tt tt), tt)))
+easy-member Commit s n m = (easy-refuse (send_refusal m.a.0 m.b.0), (easy-refuse (commit_refusal m.c.0 n), ((λ k. choose k (is_committed n (fields_at k m.c.0)) Pass (Do (Make (CommitMove m.c.0 m.a.0 s n))) tt tt), tt)))
+easy-member Revert s n m = (easy-refuse (send_refusal m.a.0 m.b.0), ((λ k. choose k (is_flashed n (fields_at k m.c.0)) (Do (Make (RevertMove m.c.0 m.a.0 s n))) _ tt (choose k (nat_lt (fields_at k m.c.0).floor n) (Do (Make (RaiseFloor m.c.0 n))) Pass tt tt)), tt))
+easy-member Report s n m = (easy-refuse (reach_refusal m.a.0 m.b.0), tt)
 
 pub easy-order : (work : Work) (s n : ℕ) (ms : List Member) → AllEasy (order_entries work s n ms)
 easy-order work s n [] = easy-nil

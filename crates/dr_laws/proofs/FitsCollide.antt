@@ -15,7 +15,7 @@ use Rattle.dr_model.specs.Views.{source_of}
 use Rattle.dr_model.specs.Control.{Fuse, Pending, Volume, World}
 use Rattle.dr_model.specs.Moves.{Move, Suspend, Store, Strike, target, is_write, tracks_after}
 use Rattle.dr_model.specs.Carry.{Make, Pass, Do, Entry}
-use Rattle.dr_model.specs.Entries.{fields_at, is_running, is_settled, targets_of, relation_state, keep_on, land_alone}
+use Rattle.dr_model.specs.Entries.{copies_from, fields_at, is_running, is_settled, relation_state, keep_on, land_alone}
 use Rattle.dr_model.specs.PairEntries.{has_path, are_linked, reach_refusal, belongs_to, send_refusal, flashed_refusal, store_on, strike_on, suspend_where}
 use Rattle.dr_model.specs.WriteEntries.{partner_of, sends_first, where_sent, land_collided}
 use Rattle.dr_model.specs.Table.{table}
@@ -30,13 +30,17 @@ use Rattle.dr_laws.proofs.KeepsStructure.{kind_part}
 use Rattle.dr_laws.proofs.KeepsParts.{unrelated, unrelated_primary}
 use Rattle.dr_laws.proofs.KeepsSound.{Along, Then, decides}
 use Rattle.dr_laws.proofs.Cases.{one-passed, or-passed, met, is-not}
-use Rattle.dr_laws.proofs.CopyFirst.{Still, from, copy-first}
-use Rattle.dr_laws.proofs.Lands.{Unrestored, unrestored, waits, plain-lands}
+use Rattle.dr_laws.proofs.CopyFirst.{Still, from, copies-from, copy-first}
+use Rattle.dr_laws.proofs.Lands.{Unrestored, unrestored, Unflashed, unflashed, waits, plain-lands}
 use Rattle.dr_laws.proofs.FitsPairs.{its-first, row, runs-done, part-same}
 
 -- a move that leaves who is restored onto whom
 pub unrestored-done : (v : ℕ) (k : World) (m : Move) (h : Option Fuse) → source_of (next_of k m) ≡ source_of (fields_at k.control (target m)) → (next_of k m).reversing ≡ (fields_at k.control (target m)).reversing → Unrestored k v → Unrestored (done k m h) v
 unrestored-done v k m h source reversing still = λ x is r. still x (sym (part-same k m h source_of source x) ∙ is) (sym (part-same k m h (λ (g : Fields). g.reversing) reversing x) ∙ r)
+
+-- or who is revertible
+pub unflashed-done : (v : ℕ) (k : World) (m : Move) (h : Option Fuse) → source_of (next_of k m) ≡ source_of (fields_at k.control (target m)) → (next_of k m).revertible ≡ (fields_at k.control (target m)).revertible → Unflashed k v → Unflashed (done k m h) v
+unflashed-done v k m h source revertible calm = λ x is r. calm x (sym (part-same k m h source_of source x) ∙ is) (sym (part-same k m h (λ (g : Fields). g.revertible) revertible x) ∙ r)
 
 -- a primary is no target
 pub plain-primary : (w : World) → Sound w → (v : ℕ) → is_part (fields_at w.control v).primary ≡ true → (fields_at w.control v).related ≡ false
@@ -46,19 +50,32 @@ plain-primary w s v first = by (fields_at w.control v).related refl
     by true is = false_true ((s.rows.parts.one v).no_primary is) first
     by false is = refl
 
--- no volume is the source of a revertible relationship
-any-none : (f : ℕ → Bool) → ((x : ℕ) → f x ≡ false) → (xs : List ℕ) → list_any f xs ≡ false
-any-none f none [] = refl
-any-none f none (x ∷ xs) = λ i. none x i || any-none f none xs i
-
 and-none : (a b : Bool) → b ≡ false → (a && b) ≡ false
 and-none true b h = h
 and-none false b h = refl
 
-pub never-flashed : (w : World) → Sound w → (v : ℕ) → flashed_refusal v w.control ≡ None
-never-flashed w s v =
-    ap (λ b. cond b (Some (relation_state w.control v)) None)
-    (λ i. and-none (fields_at w.control v).related (fields_at w.control v).revertible (s.rows.final v) i || any-none (λ u. (fields_at w.control u).revertible) s.rows.final (targets_of w.control v) i)
+-- of the targets of a volume none is so
+none-among : (g f : ℕ → Bool) → ((x : ℕ) → g x ≡ true → f x ≡ true → ⊥) → (xs : List ℕ) → list_any f (filter g xs) ≡ false
+none-among g f none [] = refl
+none-among g f none (x ∷ xs) = by (g x) refl (f x) refl (none-among g f none xs)
+  where
+    by : (p : Bool) → g x ≡ p → (q : Bool) → f x ≡ q → list_any f (filter g xs) ≡ false → list_any f (cond p (x ∷ filter g xs) (filter g xs)) ≡ false
+    by true is true so more = absurd (none x is so)
+    by true is false so more = (λ i. so i || more i)
+    by false is q so more = more
+
+-- of the secondary of a primary that still has to send none is revertible
+pub never-flashed : (w : World) → Sound w → (v u t : ℕ) → secondary_of (fields_at w.control v) ≡ Some u → primary_of (fields_at w.control u) ≡ Some v → (fields_at w.control v).recording ≡ true → contains (fields_at w.control v).out_of_sync t ≡ true → Unflashed w u
+never-flashed w s v u t to takes rec out x h r = false_true (s.rows.seals.flashed v u x to takes h rec r t) out
+
+pub never-refused : (w : World) → Sound w → (u : ℕ) → from w u ≡ None → Unflashed w u → flashed_refusal u w.control ≡ None
+never-refused w s u plain none =
+    ap (λ b. cond b (Some (relation_state w.control u)) None)
+    (λ i. (unrelated-plain (fields_at w.control u).related (fields_at w.control u).revertible _ plain i) || none-among (λ x. copies_from u (fields_at w.control x)) (λ x. (fields_at w.control x).revertible) (λ x is r. none x (copies-from u (fields_at w.control x) is) r) w.control.volumes i)
+  where
+    unrelated-plain : (b c : Bool) (o : ℕ) → cond b (Some o) None ≡ None → (b && c) ≡ false
+    unrelated-plain true c o h = absurd cc
+    unrelated-plain false c o h = refl
 
 -- v can send what track t was to its secondary u
 pub record Sends (v u t : ℕ) (k : World) : Type 0 where
@@ -67,6 +84,7 @@ pub record Sends (v u t : ℕ) (k : World) : Type 0 where
   pub on_u : Runs k u
   pub belongs : belongs_to v u k.control ≡ true
   pub hits : collides (fields_at k.control v) t ≡ true
+  pub to : secondary_of (fields_at k.control v) ≡ Some u
 
 none-refused : (p r l b : Bool) (x y z q : Refusal) → p ≡ true → r ≡ true → l ≡ true → b ≡ true
     → option_or (cond (not p) (Some x) (cond (not r) (Some y) (cond (not l) (Some z) None))) (cond b None (Some q)) ≡ None
@@ -79,11 +97,13 @@ none-refused false r l b x y z q ip ir il ib = absurd cc
 pub sends-now : (v u t : ℕ) (k : World) → Sound k → Sends v u t k → sends_first v u t k.control ≡ true
 sends-now v u t k s x =
     let none : send_refusal v u k.control ≡ None = none-refused (has_path v u k.control) (is_running u k.control) (are_linked v u k.control) (belongs_to v u k.control) _ _ _ _ x.path x.on_u x.linked x.belongs in
-    let plain : flashed_refusal u k.control ≡ None = never-flashed k s u in
+    let takes = its-first v (fields_at k.control u) x.belongs in
+    let both = and_parts (fields_at k.control v).recording _ (and_parts (is_kind Global (fields_at k.control v).primary) _ x.hits).1 in
+    let plain : flashed_refusal u k.control ≡ None = never-refused k s u (unrelated (table k) s.rows.parts u takes) (never-flashed k s v u t x.to takes both.0 both.1) in
     λ i. x.hits i && (not (is_some (none i)) && not (is_some (plain i)))
 
-sends-at : (v u t : ℕ) (k : World) → send_refusal v u k.control ≡ None → collides (fields_at k.control v) t ≡ true → Sends v u t k
-sends-at v u t k none hits =
+sends-at : (v u t : ℕ) (k : World) → send_refusal v u k.control ≡ None → collides (fields_at k.control v) t ≡ true → secondary_of (fields_at k.control v) ≡ Some u → Sends v u t k
+sends-at v u t k none hits to =
     let both = or-passed (reach_refusal v u k.control) _ none in
     let first = one-passed (not (has_path v u k.control)) _ _ both.0 in
     let second = one-passed (not (is_running u k.control)) _ _ first.1 in
@@ -94,6 +114,7 @@ sends-at v u t k none hits =
       on_u = is-not (is_running u k.control) second.0;
       belongs = met (belongs_to v u k.control) _ both.1;
       hits = hits;
+      to = to;
     }
 
 module _ (w : World) (s : Sound w) (p : Pending) (one : filter (is_write p.w) w.control.pending ≡ p ∷ []) (on : Runs w p.volume) where
@@ -116,6 +137,7 @@ module _ (w : World) (s : Sound w) (p : Pending) (one : filter (is_write p.w) w.
     plain : (fields_at k.control v).related ≡ false
     open_to : (fields_at k.control v).coordination ≡ false
     still : Unrestored k v
+    calm : Unflashed k v
     one_is : filter (is_write n) k.control.pending ≡ p ∷ []
     volumes_are : k.control.volumes ≡ w.control.volumes
 
@@ -128,26 +150,28 @@ module _ (w : World) (s : Sound w) (p : Pending) (one : filter (is_write p.w) w.
         plain = ap (λ (y : Volume). y.fields.related) here ∙ x.plain;
         open_to = ap (λ (y : Volume). y.fields.coordination) here ∙ x.open_to;
         still = λ y h r. let was = st.turned y v h r in x.still y was.0 was.1;
+        calm = λ y h r. let was = st.flashed y v h r in x.calm y was.0 was.1;
         one_is = ap (filter (is_write n)) st.pending ∙ x.one_is;
         volumes_are = st.volumes ∙ x.volumes_are;
       }
 
   lasts-done : (k : World) (m : Move) (h : Option Fuse) → is_part (next_of k m).secondary ≡ is_part (fields_at k.control (target m)).secondary → (next_of k m).related ≡ (fields_at k.control (target m)).related
-      → (next_of k m).coordination ≡ (fields_at k.control (target m)).coordination → source_of (next_of k m) ≡ source_of (fields_at k.control (target m)) → (next_of k m).reversing ≡ (fields_at k.control (target m)).reversing
+      → (next_of k m).coordination ≡ (fields_at k.control (target m)).coordination → source_of (next_of k m) ≡ source_of (fields_at k.control (target m)) → (next_of k m).reversing ≡ (fields_at k.control (target m)).reversing → (next_of k m).revertible ≡ (fields_at k.control (target m)).revertible
       → (done k m h).control.pending ≡ k.control.pending → Lasts k → Lasts (done k m h)
-  lasts-done k m h second related held source reversing pending x = record {
+  lasts-done k m h second related held source reversing revertible pending x = record {
     on_v = runs-done k m h v x.on_v;
     second = part-same k m h (λ (g : Fields). is_part g.secondary) second v ∙ x.second;
     plain = part-same k m h (λ (g : Fields). g.related) related v ∙ x.plain;
     open_to = part-same k m h (λ (g : Fields). g.coordination) held v ∙ x.open_to;
     still = unrestored-done v k m h source reversing x.still;
+    calm = unflashed-done v k m h source revertible x.calm;
     one_is = ap (filter (is_write n)) pending ∙ x.one_is;
     volumes_are = x.volumes_are;
   }
 
   -- the write lands alone
   lands-then : (k : World) → Sound k → Lasts k → ((fields_at k.control v).recording ≡ true → contains (fields_at k.control v).out_of_sync t ≡ false) → Along k (land_alone w.control.volumes n v t)
-  lands-then k y x sent = subst (λ vs. Along k (land_alone vs n v t)) x.volumes_are (plain-lands k y p x.one_is x.on_v x.second x.plain x.open_to sent x.still)
+  lands-then k y x sent = subst (λ vs. Along k (land_alone vs n v t)) x.volumes_are (plain-lands k y p x.one_is x.on_v x.second x.plain x.open_to sent x.still x.calm)
 
   module _ (u : ℕ) (to : secondary_of f ≡ Some u) where
     -- nothing is sent any more
@@ -161,7 +185,7 @@ module _ (w : World) (s : Sound w) (p : Pending) (one : filter (is_write p.w) w.
     strikes k last h x send leads ne y =
         let store : Move = Store u t v last in
         let m : World = done k store h in
-        let lasts : Lasts m = lasts-done k store h refl refl refl refl refl refl x in
+        let lasts : Lasts m = lasts-done k store h refl refl refl refl refl refl refl x in
         let server : ((j : ℕ) → (m.control.volume j).server ≡ (k.control.volume j).server) = at_part (λ (z : Volume). z.server) k.control.volume u (row k store h) refl in
         let sent : Sends v u t m = record {
           path = send.path;
@@ -169,6 +193,7 @@ module _ (w : World) (s : Sound w) (p : Pending) (one : filter (is_write p.w) w.
           on_u = runs-done k store h u send.on_u;
           belongs = part-same k store h (is_secondary_of v) refl u ∙ send.belongs;
           hits = part-same k store h (λ (g : Fields). collides g t) refl v ∙ send.hits;
+          to = part-same k store h secondary_of refl v ∙ send.to;
         } in
         let strike : Move = Strike v t (is_last (fields_at m.control v) t) in
         let bytes_u : m.contents u t ≡ k.contents v t = ap (λ (g : ℕ → List ℕ). g t) (at_same k.contents u (tracks_after (next_of k store) (carried_in k store) (k.contents u))) ∙ if_true _ _ (eq-eqb t t refl) in
@@ -181,7 +206,7 @@ module _ (w : World) (s : Sound w) (p : Pending) (one : filter (is_write p.w) w.
             group = tt;
             ready = idle m v y.queue lasts.on_v;
           },
-          λ g z. lands-then (done m strike g) z (lasts-done m strike g refl refl refl refl refl refl lasts)
+          λ g z. lands-then (done m strike g) z (lasts-done m strike g refl refl refl refl refl refl refl lasts)
               (λ r. ap (λ (z : Volume). contains z.fields.out_of_sync t) (at_same m.control.volume v (row m strike g)) ∙ not_removed (fields_at m.control v).out_of_sync t),
         )
 
@@ -212,6 +237,7 @@ module _ (w : World) (s : Sound w) (p : Pending) (one : filter (is_write p.w) w.
           on_u = (λ i. st.on i (here_u i).server) ∙ send.on_u;
           belongs = ap (λ (z : Volume). is_secondary_of v z.fields) here_u ∙ send.belongs;
           hits = ap (λ (z : Volume). collides z.fields t) here_v ∙ send.hits;
+          to = ap (λ (z : Volume). secondary_of z.fields) here_v ∙ send.to;
         } in
         copy-first u t w plain_u low_u send.on_u (λ y. where_sent v u t (keep_on u t y)) (λ k y sk st. ap (λ b. cond b (keep_on u t y k.control) Pass) (sends-now v u t k sk (later k st))) send_and_land
         (λ k sk st kept.
@@ -238,12 +264,13 @@ module _ (w : World) (s : Sound w) (p : Pending) (one : filter (is_write p.w) w.
           },
           λ h y. strikes k last h lasts sent leads ne y,
         ))
-        (λ y h r. false_true (s.rows.parts.free y u h r) (from_source (is_part (fields_at w.control u).secondary) _ v takes).0) s
+        (λ y h r. false_true (s.rows.parts.free y u h r) (from_source (is_part (fields_at w.control u).secondary) _ v takes).0)
+        (let both = and_parts f.recording _ (and_parts (is_kind Global f.primary) _ send.hits).1 in never-flashed w s v u t to takes both.0 both.1) s
 
     -- where it can be, and else the volume is suspended
     sends-or : Lasts w → is_part f.primary ≡ true → collides f t ≡ true → (o : Option Refusal) → send_refusal v u w.control ≡ o
         → Then w (cond (is_some o) (Do (Make (Suspend v false))) Pass) (λ k. Along k (map (where_sent v u t) (map (keep_on u t) w.control.volumes ++ store_on v u t ∷ strike_on v t ∷ []) ++ land_alone w.control.volumes n v t))
-    sends-or x first hits None is = subst (Along w) (sym (joins w.control.volumes)) (goes x (sends-at v u t w is hits))
+    sends-or x first hits None is = subst (Along w) (sym (joins w.control.volumes)) (goes x (sends-at v u t w is hits to))
     sends-or x first hits (Some r) is = (
       record { runs = on; allowed = first; fits = tt; group = tt; ready = idle w v s.queue on },
       λ h y.
@@ -251,7 +278,7 @@ module _ (w : World) (s : Sound w) (p : Pending) (one : filter (is_write p.w) w.
           let k : World = done w m h in
           let idle_now : (fields_at k.control v).recording ≡ false = ap (λ (z : Volume). z.fields.recording) (at_same w.control.volume v (row w m h)) in
           let misses : collides (fields_at k.control v) t ≡ false = and-none (is_kind Global (fields_at k.control v).primary) _ (ap (λ b. b && contains (fields_at k.control v).out_of_sync t) idle_now) in
-          passes _ k (ap (λ b. b && (not (is_some (send_refusal v u k.control)) && not (is_some (flashed_refusal u k.control)))) misses) _ (lands-then k y (lasts-done w m h refl refl (sym x.open_to) refl refl refl x) (λ r. false_true idle_now r)),
+          passes _ k (ap (λ b. b && (not (is_some (send_refusal v u k.control)) && not (is_some (flashed_refusal u k.control)))) misses) _ (lands-then k y (lasts-done w m h refl refl (sym x.open_to) refl refl refl refl x) (λ r. false_true idle_now r)),
     )
 
   pub collided : is_part f.secondary ≡ false → is_settled v w.control ≡ true → f.coordination ≡ false → collides f t ≡ true → Along w (land_collided w.control n v t)
@@ -260,4 +287,4 @@ module _ (w : World) (s : Sound w) (p : Pending) (one : filter (is_write p.w) w.
       let first : is_part f.primary ≡ true = kind_part Global f.primary (and_parts (is_kind Global f.primary) _ hits).0 in
       let to : secondary_of f ≡ Some u = has_source (is_part f.primary) f.primary_partner first in
       decides w (suspend_where (send_refusal v u) v) _ _ refl
-      (sends-or u to (record { on_v = on; second = second; plain = plain-primary w s v first; open_to = open_to; still = λ x h r. unrestored w s v settled x h r; one_is = one; volumes_are = refl }) first hits (send_refusal v u w.control) refl)
+      (sends-or u to (record { on_v = on; second = second; plain = plain-primary w s v first; open_to = open_to; still = λ x h r. unrestored w s v settled x h r; calm = unflashed w s v settled; one_is = one; volumes_are = refl }) first hits (send_refusal v u w.control) refl)

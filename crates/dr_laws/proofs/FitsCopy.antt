@@ -50,6 +50,7 @@ module _ (v : ℕ) where
   record Copying (w : World) : Type 0 where
     on : Runs w v
     forward : (fields_at w.control v).reversing ≡ false
+    settled : (fields_at w.control v).revertible ≡ false
 
   forward-if : (e r : Bool) → r ≡ false → cond e false r ≡ false
   forward-if true r h = refl
@@ -72,13 +73,14 @@ module _ (v : ℕ) where
             related = has_source _ _ ir;
             new = not-true _ (and_parts _ _ (sym (in_rest u.tracks u.fields.own t) ∙ missing)).1;
             forward = c.forward;
+            settled = c.settled;
           };
           fits = tt;
-          group = tt;
+          group = (s.rows.structure.flags v).persists;
           ready = idle w v s.queue c.on;
         },
         λ f k. let here : (done w (Fetch v t) f).control.volume v ≡ moved u (fields_left (Fetch v t) u) (carried_in w (Fetch v t)) = at_same w.control.volume v _ in
-            go _ k (record { on = ap (λ (x : Volume). w.control.on x.server) here ∙ c.on; forward = ap (λ (x : Volume). x.fields.reversing) here ∙ forward-if e u.fields.reversing c.forward }),
+            go _ k (record { on = ap (λ (x : Volume). w.control.on x.server) here ∙ c.on; forward = ap (λ (x : Volume). x.fields.reversing) here ∙ forward-if e u.fields.reversing c.forward; settled = ap (λ (x : Volume). x.fields.revertible) here ∙ forward-if e u.fields.revertible c.settled }),
       )
 
   fetches : (n : ℕ) (w : World) → Sound w → Copying w → Along w (times n (fetch_next v ∷ []))
@@ -179,7 +181,7 @@ module _ (volumes : List ℕ) (v s : ℕ) where
             runs = lasts.on;
             allowed = record { from = s; related = lasts.related; reversing = lasts.reversing; holds = lowest-in _ _ t is2; equal = bytes_s ∙ sym bytes_v };
             fits = tt;
-            group = tt;
+            group = lasts.reversing;
             ready = idle m v x2.queue lasts.on;
           },
           λ g x3. go _ x3 (given m g ne lasts),
@@ -208,7 +210,8 @@ module _ (volumes : List ℕ) (v s : ℕ) where
           },
           λ f x2. releases k f sk rk (stands k st) x2,
         ))
-        (λ u h q. subst (λ j. contains (fields_at w.control j).own t ≡ true) (x.rows.structure.one_restore s v u r.related h r.reversing q) held) x)
+        (λ u h q. subst (λ j. contains (fields_at w.control j).own t ≡ true) (x.rows.structure.one_restore s v u r.related h r.reversing q) held)
+        (λ u h. x.rows.seals.restored s v u r.related h r.reversing) x)
 
   -- one round, whatever is left
   round-by : (more : List Entry) → ((k : World) → Sound k → Going k → Along k more) → (w : World) → Sound w → Going w → (o : Option ℕ) → lowest_held v w.control ≡ o
@@ -229,10 +232,10 @@ module _ (w : World) (x : Sound w) (t : ℕ) where
   abbrev begins : Sound first
   begins = sound-begun w x
 
-  copies-by : (n : ℕ) → Runs first t → (fields_at w.control t).related ≡ true → (r : Bool) → (fields_at w.control t).reversing ≡ r → (not r || takes_back (fields_at w.control t).source w.control) ≡ true
+  copies-by : (n : ℕ) → Runs first t → (fields_at w.control t).related ≡ true → (fields_at w.control t).revertible ≡ false → (r : Bool) → (fields_at w.control t).reversing ≡ r → (not r || takes_back (fields_at w.control t).source w.control) ≡ true
       → Along first (times n (cond r (give_back w.control.volumes (fields_at w.control t).source t) (fetch_next t ∷ [])))
-  copies-by n on related false is back = fetches t n first begins (record { on = on; forward = is })
-  copies-by n on related true is back = rounds w.control.volumes t (fields_at w.control t).source n first begins (inl (record { on = on; related = has_source _ _ related; reversing = is; quiet = quiet-idle (table w (fields_at w.control t).source) (x.rows.recorders (fields_at w.control t).source) back; volumes_are = refl }))
+  copies-by n on related settled false is back = fetches t n first begins (record { on = on; forward = is; settled = settled })
+  copies-by n on related settled true is back = rounds w.control.volumes t (fields_at w.control t).source n first begins (inl (record { on = on; related = has_source _ _ related; reversing = is; quiet = quiet-idle (table w (fields_at w.control t).source) (x.rows.recorders (fields_at w.control t).source) back; volumes_are = refl }))
 
   pub along-copy : (most : Option ℕ) → Along first (copy_plan w.control t most).entries
   along-copy most =
@@ -240,7 +243,7 @@ module _ (w : World) (x : Sound w) (t : ℕ) where
       checked first (is_running t) _ _ begins (λ on.
       checked first (may_copy t) _ _ begins (λ may.
       checked first (may_give_back t) _ _ begins (λ back.
-      copies-by (at_most most (left_to_copy w.control t)) on (and_parts (fields_at w.control t).related _ may).0 _ refl back))))
+      copies-by (at_most most (left_to_copy w.control t)) on (and_parts (fields_at w.control t).related _ may).0 (not-true _ (and_parts (not (fields_at w.control t).revertible) _ (and_parts (fields_at w.control t).related _ may).1).0) _ refl back))))
 
   pub holds-copy : (most : Option ℕ) → StepHolds w (copy_plan w.control t most)
   holds-copy most = holds-entries w _ _ x (along-copy most)

@@ -11,7 +11,7 @@ use Rattle.dr_model.specs.Pairs.{is_metro, secondary_of, primary_of, is_last}
 use Rattle.dr_model.specs.Control.{Fuse, Volume, World}
 use Rattle.dr_model.specs.Moves.{Move, Store, Strike, Suspend, target, tracks_after}
 use Rattle.dr_model.specs.Carry.{Make, Pass, Do, Entry}
-use Rattle.dr_model.specs.Entries.{fields_at, is_running, keep_on}
+use Rattle.dr_model.specs.Entries.{is_revertible, stands_in, relation_state, fields_at, is_running, keep_on}
 use Rattle.dr_model.specs.PairEntries.{reach_refusal, refuse_if, belongs_to, send_refusal, suspend_where, flashed_refusal, store_on, strike_on, send_entries, sends, suspend_running, suspend_after, tracks_to_send, is_copying}
 use Rattle.dr_model.specs.Plans.{is_defined, drain_plan}
 use Rattle.dr_model.specs.Table.{table}
@@ -26,6 +26,7 @@ use Rattle.dr_laws.proofs.KeepsParts.{unrelated, unrelated_primary}
 use Rattle.dr_laws.proofs.KeepsSound.{Along, Then, StepHolds, holds-moves, over, decides, checked}
 use Rattle.dr_laws.proofs.Cases.{or-passed, met}
 use Rattle.dr_laws.proofs.CopyFirst.{from, copy-first}
+use Rattle.dr_laws.proofs.Lands.{Unflashed, unflashed-by}
 use Rattle.dr_laws.proofs.FitsFlash.{as_begun, sound-begun}
 use Rattle.dr_model.specs.Plans.{drain_plan}
 use Rattle.dr_model.specs.Laws.{Once}
@@ -162,8 +163,8 @@ module _ (volumes : List ℕ) (a b n : ℕ) where
         )
 
     -- the targets of b keep it first
-    stores : (w : World) → Sound w → Sending w → Out w (t ∷ ts) → Runs w b → primary_of (fields_at w.control b) ≡ Some a → Along w (map (keep_on b t) w.control.volumes ++ store_on a b t ∷ strike_on a t ∷ more)
-    stores w s x out on_b takes =
+    stores : (w : World) → Sound w → Sending w → Out w (t ∷ ts) → Runs w b → primary_of (fields_at w.control b) ≡ Some a → Unflashed w b → Along w (map (keep_on b t) w.control.volumes ++ store_on a b t ∷ strike_on a t ∷ more)
+    stores w s x out on_b takes settled =
         let fits = s.rows.parts.secondary a b x.to in
         let ne : a ≢ b = λ e. fits.apart (ap (λ j. (w.control.volume j).server) e) in
         let plain_b : from w b ≡ None = unrelated (table w) s.rows.parts b takes in
@@ -192,10 +193,14 @@ module _ (volumes : List ℕ) (a b n : ℕ) where
           },
           λ f y. strikes k last f lasts outs.1 ne y,
         ))
-        (λ u h r. false_true (s.rows.parts.free u b h r) (from_source (is_part (fields_at w.control b).secondary) _ a takes).0) s
+        (λ u h r. false_true (s.rows.parts.free u b h r) (from_source (is_part (fields_at w.control b).secondary) _ a takes).0) settled s
 
     abbrev rest : List Entry
     rest = refuse_if (send_refusal a b) ∷ refuse_if (flashed_refusal b) ∷ map (keep_on b t) volumes ++ store_on a b t ∷ strike_on a t ∷ more
+
+    flashed-not : (c : Bool) (r : Refusal) → cond c (Some r) None ≡ None → c ≡ false
+    flashed-not true r h = absurd cc
+    flashed-not false r h = refl
 
     -- where b can be reached, and is its secondary
     goes : (w : World) → Sound w → Sending w → Out w (t ∷ ts) → Along w rest
@@ -204,7 +209,7 @@ module _ (volumes : List ℕ) (a b n : ℕ) where
         refused w (flashed_refusal b) _ s (λ plain.
         let free = or-passed (reach_refusal a b w.control) _ none in
         let takes : primary_of (fields_at w.control b) ≡ Some a = its-first a (fields_at w.control b) (met (belongs_to a b w.control) _ free.1) in
-        subst (λ vs. Along w (map (keep_on b t) vs ++ store_on a b t ∷ strike_on a t ∷ more)) x.volumes_are (stores w s x out (reached w a b free.0) takes)))
+        subst (λ vs. Along w (map (keep_on b t) vs ++ store_on a b t ∷ strike_on a t ∷ more)) x.volumes_are (stores w s x out (reached w a b free.0) takes (unflashed-by w s b (flashed-not (stands_in is_revertible w.control b) (relation_state w.control b) plain)))))
 
     suspends : (w : World) → Sound w → Sending w → Out w (t ∷ ts) → (o : Option Refusal) → Then w (cond (is_some o) (Do (Make (Suspend a false))) Pass) (λ v. Along v rest)
     suspends w s x out None = goes w s x out

@@ -1,5 +1,5 @@
 -- The plans that make, end, resynchronise and reverse a relationship are allowed along.
-use Rattle.std.proofs.Common.{ℕ, ◌≡◌, inl, inr, refl, ap, sym, ◌∙◌, subst, Bool, true, false, not, ◌&&◌, ◌||◌, nat_eq, List, [], ◌++◌, length, Option, Some}
+use Rattle.std.proofs.Common.{ℕ, ◌≡◌, inl, inr, refl, ap, sym, ◌∙◌, subst, Bool, true, false, not, ◌&&◌, ◌||◌, nat_eq, List, [], ◌∷◌, ◌++◌, length, Option, Some, None}
 use Rattle.std.proofs.lemmas.List.{append-nil}
 use Rattle.std.proofs.lemmas.Bool.{and_parts, and_from, or_parts, not-true, eqb-true, eq-eqb, ltb-true, false≢true}
 use Rattle.std.proofs.lemmas.Bool.Decides.{eqb_tells}
@@ -9,8 +9,10 @@ use Rattle.dr_model.specs.Relations.{Choices}
 use Rattle.dr_model.specs.Control.{Control, World, is_volume}
 use Rattle.dr_model.specs.Moves.{Relate, Withdraw, Resync, Reverse}
 use Rattle.dr_model.specs.Carry.{Entry}
+use Rattle.dr_model.specs.PairEntries.{end_if, refuse_if}
+use Rattle.dr_ids.specs.declared.refusal.Refusal.{Refusal}
 use Rattle.dr_model.specs.Entries.{fields_at, copies_from, targets_of, stands_in, is_any, is_running, share_server, share_size, is_no_target, is_no_secondary}
-use Rattle.dr_model.specs.Plans.{entries_plan, named_pair, is_defined, is_owner, differ, is_no_source, has_few_targets, is_plain_target, is_recorded_target, is_lone_restore, has_no_pair, may_return, flash_plan, withdraw_plan, resync_plan, reverse_plan}
+use Rattle.dr_model.specs.Plans.{counted_refusal, restore_refusal, left_by, entries_plan, named_pair, is_defined, is_owner, differ, is_no_source, has_few_targets, is_plain_target, is_recorded_target, is_lone_restore, has_no_pair, may_return, flash_plan, withdraw_plan, resync_plan, reverse_plan}
 use Rattle.dr_model.specs.declared.said.Said.{Said}
 use Rattle.dr_model.specs.declared.step.Name.{Name}
 use Rattle.dr_model.specs.Table.{table}
@@ -18,8 +20,17 @@ use Rattle.dr_model.specs.Laws.{Sound}
 use Rattle.dr_model.specs.Allowed.{MayResync, Runs}
 use Rattle.dr_laws.proofs.Sets.{false_true, no_source, from_source}
 use Rattle.dr_laws.proofs.RowsAfter.{idle}
-use Rattle.dr_laws.proofs.KeepsSound.{Along, StepHolds, holds-moves, over, moves, checked}
+use Rattle.dr_laws.proofs.KeepsSound.{Along, Then, StepHolds, holds-moves, over, decides, moves, checked}
+use Rattle.dr_laws.proofs.Counting.{no-target, uncounted, may-go}
 use Rattle.dr_laws.proofs.CopyFirst.{from, copies-from, from-copies, any-has}
+
+-- an entry that ends the plan where there is a refusal
+pub refused : (w : World) (why : Control → Option Refusal) (ds : List Entry) → Sound w → (why w.control ≡ None → Along w ds) → Along w (refuse_if why ∷ ds)
+refused w why ds s go = decides w (refuse_if why) ds _ refl (by (why w.control) refl)
+  where
+    by : (o : Option Refusal) → why w.control ≡ o → Then w (end_if o) (λ v. Along v ds)
+    by None is = go is
+    by (Some r) is = s
 
 -- what a check of two tells that neither holds
 pub both-not : (a b : Bool) → (not a && not b) ≡ true → (a ≡ false) × (b ≡ false)
@@ -54,18 +65,20 @@ named w x k dev s t ds go = checked w (is_defined s) _ _ x (λ first. checked w 
 pub record PlainTarget (w : World) (s t : ℕ) : Type 0 where
   pub related : from w t ≡ Some s
   pub forward : (fields_at w.control t).reversing ≡ false
+  pub settled : (fields_at w.control t).revertible ≡ false
 
 pub plain-target : (w : World) (s t : ℕ) → is_plain_target s t w.control ≡ true → PlainTarget w s t
 plain-target w s t h =
     let f : Fields = fields_at w.control t in
     let both = and_parts (copies_from s f) _ h in
-    record { related = copies-from s f both.0; forward = not-true f.reversing (and_parts (not f.revertible) (not f.reversing) both.1).1 }
+    let flags = and_parts (not f.revertible) (not f.reversing) both.1 in
+    record { related = copies-from s f both.0; forward = not-true f.reversing flags.1; settled = not-true f.revertible flags.0 }
 
 abbrev pub may-resync : (w : World) (s t : ℕ) → is_recorded_target s t w.control ≡ true → MayResync (table w) t
 may-resync w s t h =
     let both = and_parts (is_plain_target s t w.control) (fields_at w.control t).recorded h in
     let plain = plain-target w s t both.0 in
-    record { from = s; related = plain.related; recorded = both.1; forward = plain.forward }
+    record { from = s; related = plain.related; recorded = both.1; forward = plain.forward; settled = plain.settled }
 
 module _ (w : World) (x : Sound w) where
   abbrev first : World
@@ -109,7 +122,7 @@ module _ (w : World) (x : Sound w) where
           no_secondary = no_part.1;
         };
         fits = ltb-true (length (targets_of w.control s)) most_targets few;
-        group = tt;
+        group = no-target first begins t (not-true (fields_at w.control t).related plain);
         ready = idle first t begins.queue on_t;
       }) (λ f j. over _ j))))))))))
 
@@ -119,10 +132,11 @@ module _ (w : World) (x : Sound w) where
   pub along-withdraw : (dev : Option Name) (s t : ℕ) → Along first (withdraw_plan w.control dev s t).entries
   along-withdraw dev s t =
       named first begins w.control dev s t _ (λ there here on.
+      refused first (counted_refusal t) _ begins (λ free.
       checked first (is_plain_target s t) _ _ begins (λ target.
       let plain = plain-target first s t target in
       let on_t : Runs first t = runs-target first begins t s plain.related on in
-      moves first (Withdraw t) [] (record { runs = on_t; allowed = record { from = s; related = plain.related; forward = plain.forward }; fits = tt; group = tt; ready = idle first t begins.queue on_t }) (λ f j. over _ j)))
+      moves first (Withdraw t) [] (record { runs = on_t; allowed = record { from = s; related = plain.related; forward = plain.forward; settled = plain.settled }; fits = tt; group = uncounted first begins t free plain.settled; ready = idle first t begins.queue on_t }) (λ f j. over _ j))))
 
   pub holds-withdraw : (dev : Option Name) (s t : ℕ) → StepHolds w (withdraw_plan w.control dev s t)
   holds-withdraw dev s t = holds-entries w _ _ x (along-withdraw dev s t)
@@ -130,35 +144,54 @@ module _ (w : World) (x : Sound w) where
   pub along-resync : (dev : Option Name) (s t : ℕ) (sequence : Option ℕ) → Along first (resync_plan w.control dev s t sequence).entries
   along-resync dev s t sequence =
       named first begins w.control dev s t _ (λ there here on.
+      refused first (counted_refusal t) _ begins (λ free.
       checked first (is_recorded_target s t) _ _ begins (λ target.
       let may = may-resync first s t target in
       let on_t : Runs first t = runs-target first begins t s may.related on in
-      moves first (Resync t sequence) [] (record { runs = on_t; allowed = may; fits = tt; group = tt; ready = idle first t begins.queue on_t }) (λ f j. over _ j)))
+      moves first (Resync t sequence) [] (record { runs = on_t; allowed = may; fits = tt; group = uncounted first begins t free may.settled; ready = idle first t begins.queue on_t }) (λ f j. over _ j))))
 
   pub holds-resync : (dev : Option Name) (s t : ℕ) (sequence : Option ℕ) → StepHolds w (resync_plan w.control dev s t sequence)
   holds-resync dev s t sequence = holds-entries w _ _ x (along-resync dev s t sequence)
 
   -- nothing else is restored onto the source
-  lone : (s t : ℕ) → (fields_at w.control t).reversing ≡ false → is_lone_restore s t w.control ≡ true → (u : ℕ) → from w u ≡ Some s → (fields_at w.control u).reversing ≡ true → ⊥
-  lone s t forward free u h r = elim (eqb_tells u t) [
-    | inl is ↦ false_true forward (ap (λ j. (fields_at w.control j).reversing) (sym is.1) ∙ r)
+  lone : (s t : ℕ) → (fields_at w.control t).reversing ≡ false → (fields_at w.control t).revertible ≡ false → is_lone_restore s t w.control ≡ true → (u : ℕ) → from w u ≡ Some s
+      → ((fields_at w.control u).revertible || (fields_at w.control u).reversing) ≡ true → ⊥
+  lone s t forward settled free u h r = elim (eqb_tells u t) [
+    | inl is ↦ false_true (λ i. settled i || forward i) (ap (λ j. (fields_at w.control j).revertible || (fields_at w.control j).reversing) (sym is.1) ∙ r)
     | inr ne ↦ false≢true (sym (not-true _ free) ∙ any-has (λ u. copies_from s (fields_at w.control u)) (λ u. not (nat_eq u t) && ((fields_at w.control u).revertible || (fields_at w.control u).reversing)) u w.control.volumes
-        (x.rows.structure.defined u (from_source _ _ s h).0) (from-copies s (fields_at w.control u) h) (and_from _ _ (ap not ne.0) (or-right (fields_at w.control u).revertible _ r)))
+        (x.rows.structure.defined u (from_source _ _ s h).0) (from-copies s (fields_at w.control u) h) (and_from _ _ (ap not ne.0) r))
   ]
-    where
-      or-right : (a b : Bool) → b ≡ true → (a || b) ≡ true
-      or-right true b h = refl
-      or-right false b h = h
+
+  or-left : (a b : Bool) → a ≡ true → (a || b) ≡ true
+  or-left true b h = refl
+  or-left false b h = absurd cc
+
+  or-right : (a b : Bool) → b ≡ true → (a || b) ≡ true
+  or-right true b h = refl
+  or-right false b h = h
 
   pub along-reverse : (dev : Option Name) (s t : ℕ) → Along first (reverse_plan w.control dev s t).entries
   along-reverse dev s t =
       named first begins w.control dev s t _ (λ there here on.
+      refused first (restore_refusal t) _ begins (λ settled.
       checked first (is_recorded_target s t) _ _ begins (λ target.
       checked first (is_lone_restore s t) _ _ begins (λ free.
       checked first (may_return s) _ _ begins (λ returns.
       let may = may-resync first s t target in
       let on_t : Runs first t = runs-target first begins t s may.related on in
-      moves first (Reverse t) [] (record { runs = on_t; allowed = record { resync = may; free = not-true (is_part (fields_at w.control s).secondary) (and_parts (is_no_secondary s w.control) _ returns).0; alone = lone s t may.forward free }; fits = tt; group = tt; ready = idle first t begins.queue on_t }) (λ f j. over _ j)))))
+      let alone = lone s t may.forward may.settled free in
+      moves first (Reverse t (left_by w.control t)) [] (record {
+        runs = on_t;
+        allowed = record {
+          resync = may;
+          settled = λ u h r. alone u h (or-left (fields_at w.control u).revertible _ r);
+          free = not-true (is_part (fields_at w.control s).secondary) (and_parts (is_no_secondary s w.control) _ returns).0;
+          alone = λ u h r. alone u h (or-right (fields_at w.control u).revertible _ r);
+        };
+        fits = tt;
+        group = may-go first begins t settled may.settled;
+        ready = idle first t begins.queue on_t;
+      }) (λ f j. over _ j))))))
 
   pub holds-reverse : (dev : Option Name) (s t : ℕ) → StepHolds w (reverse_plan w.control dev s t)
   holds-reverse dev s t = holds-entries w _ _ x (along-reverse dev s t)

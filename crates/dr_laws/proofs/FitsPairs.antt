@@ -19,7 +19,7 @@ use Rattle.dr_model.specs.Control.{Control, Fuse, Volume, World, is_volume}
 use Rattle.dr_model.specs.Moves.{Move, Suspend, MakeSecondary, MakePrimary, DropPrimary, DropSecondary, Follow, Resume, target, moved}
 use Rattle.dr_model.specs.Carry.{Make, Pass, Do, Entry, now}
 use Rattle.dr_model.specs.Entries.{fields_at, is_running, share_size, is_no_target, is_settled}
-use Rattle.dr_model.specs.PairEntries.{has_path, reach_refusal, end_if, refuse_if, first_differing, differs_at, two_servers, stands_free, may_follow, leads_to, belongs_to, are_linked, let_go, remove_both, may_pause, tell_paused, may_resume, follow_on, resume_on}
+use Rattle.dr_model.specs.PairEntries.{has_path, reach_refusal, first_differing, differs_at, two_servers, stands_free, may_follow, leads_to, belongs_to, are_linked, let_go, remove_both, may_pause, tell_paused, may_resume, follow_on, resume_on}
 use Rattle.dr_model.specs.Plans.{is_defined, is_owner, found_volumes, pair_plan, remove_plan, pause_plan, resume_plan, member_refusal}
 use Rattle.dr_model.specs.Laws.{Sound}
 use Rattle.dr_model.specs.Allowed.{Runs}
@@ -30,17 +30,12 @@ use Rattle.dr_laws.proofs.Turns.{done, next_of, carried_in}
 use Rattle.dr_laws.proofs.RowsAfter.{idle}
 use Rattle.dr_laws.proofs.KeepsSound.{Along, Then, StepHolds, over, decides, moves, checked}
 use Rattle.dr_laws.proofs.Cases.{one-passed, is-not}
+pub use Rattle.dr_laws.proofs.FitsFlash.{refused}
 use Rattle.dr_laws.proofs.FitsFlash.{as_begun, sound-begun, holds-entries, both-not}
-use Rattle.dr_laws.proofs.Lands.{unrestored}
+use Rattle.dr_laws.proofs.Lands.{unrestored, unflashed}
+use Rattle.dr_laws.proofs.CopyFirst.{unturned}
+use Rattle.dr_laws.proofs.Counting.{may-follow}
 use Rattle.dr_laws.proofs.Agree.{contents-image}
-
--- an entry that ends the plan where there is a refusal
-pub refused : (w : World) (why : Control → Option Refusal) (ds : List Entry) → Sound w → (why w.control ≡ None → Along w ds) → Along w (refuse_if why ∷ ds)
-refused w why ds s go = decides w (refuse_if why) ds _ refl (by (why w.control) refl)
-  where
-    by : (o : Option Refusal) → why w.control ≡ o → Then w (end_if o) (λ v. Along v ds)
-    by None is = go is
-    by (Some r) is = s
 
 -- the volumes that a command names are there
 pub found : (w : World) → Sound w → (devs : Devs) (a b : ℕ) (ds : List Entry) → (is_volume w.control a ≡ true → is_volume w.control b ≡ true → Along w ds) → Along w (found_volumes devs a b ++ ds)
@@ -175,9 +170,10 @@ module _ (w : World) (s : Sound w) where
         plain = p.plain_b;
         first = p.first_b;
         still = λ x h r. unrestored first begins b p.settled x h r;
+        settled = λ x h. unturned (fields_at w.control x).revertible (unflashed first begins b p.settled x h);
       };
       fits = tt;
-      group = tt;
+      group = may-follow first begins b (unflashed first begins b p.settled);
       ready = idle first b begins.queue p.on_b;
     }) second-half
 

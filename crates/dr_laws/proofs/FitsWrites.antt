@@ -26,10 +26,10 @@ use Rattle.dr_laws.proofs.KeepsParts.{unrelated, unrelated_primary}
 use Rattle.dr_laws.proofs.KeepsSound.{Along, Then, over, decides, moves, checked}
 use Rattle.dr_laws.proofs.Cases.{or-passed, met}
 use Rattle.dr_laws.proofs.CopyFirst.{Still, from, copy-first}
-use Rattle.dr_laws.proofs.Lands.{and-false, Unrestored, unrestored, waits, unlanded, may-ack, dropped-checked, plain-lands, lands-alone}
+use Rattle.dr_laws.proofs.Lands.{and-false, Unrestored, unrestored, Unflashed, unflashed, waits, unlanded, may-ack, dropped-checked, plain-lands, lands-alone}
 use Rattle.dr_laws.proofs.FitsPairs.{reached, its-first, row, runs-done, part-same}
 use Rattle.dr_laws.proofs.FitsDrain.{suspends-after}
-use Rattle.dr_laws.proofs.FitsCollide.{unrestored-done, plain-primary, collided}
+use Rattle.dr_laws.proofs.FitsCollide.{unrestored-done, unflashed-done, plain-primary, collided}
 use Rattle.dr_laws.proofs.KeepsStructure.{metro_part}
 use Rattle.dr_laws.proofs.KeepsRecorders.{metro-idle}
 
@@ -55,15 +55,15 @@ module _ (w : World) (s : Sound w) (p : Pending) (one : filter (is_write p.w) w.
   busy = is_grouped w.control v (partner_of w.control v)
 
   -- the volume is suspended, since it can't send; then the write waits, or lands alone
-  parted : is_part f.primary ≡ true → is_part f.secondary ≡ false → f.related ≡ false → Unrestored w v → Along w (land_parted w.control n v t)
-  parted first free plain still = moves w (Suspend v busy) _ (record { runs = on; allowed = first; fits = tt; group = tt; ready = idle w v s.queue on }) (λ h y. by h y busy)
+  parted : is_part f.primary ≡ true → is_part f.secondary ≡ false → f.related ≡ false → Unrestored w v → Unflashed w v → Along w (land_parted w.control n v t)
+  parted first free plain still calm = moves w (Suspend v busy) _ (record { runs = on; allowed = first; fits = tt; group = tt; ready = idle w v s.queue on }) (λ h y. by h y busy)
     where
       by : (h : Option Fuse) → Sound (done w (Suspend v busy) h) → (b : Bool) → Along (done w (Suspend v busy) h) (cond b [] (land_alone w.control.volumes n v t))
       by h y true = over _ y
       by h y false =
           let m : Move = Suspend v busy in
           plain-lands (done w m h) y p one (runs-done w m h v on) (part-same w m h (λ (g : Fields). is_part g.secondary) refl v ∙ free) (part-same w m h (λ (g : Fields). g.related) refl v ∙ plain)
-          (ap (λ (x : Volume). x.fields.coordination) (at_same w.control.volume v (row w m h))) (λ r. false_true (ap (λ (x : Volume). x.fields.recording) (at_same w.control.volume v (row w m h))) r) (unrestored-done v w m h refl refl still)
+          (ap (λ (x : Volume). x.fields.coordination) (at_same w.control.volume v (row w m h))) (λ r. false_true (ap (λ (x : Volume). x.fields.recording) (at_same w.control.volume v (row w m h))) r) (unrestored-done v w m h refl refl still) (unflashed-done v w m h refl refl calm)
 
   -- it sends to u
   module _ (u : ℕ) where
@@ -77,6 +77,7 @@ module _ (w : World) (s : Sound w) (p : Pending) (one : filter (is_write p.w) w.
       takes : primary_of (fields_at k.control u) ≡ Some v
       out : contains (fields_at k.control v).out_of_sync t ≡ true
       still : Unrestored k v
+      calm : Unflashed k v
       one_is : filter (is_write n) k.control.pending ≡ p ∷ []
       volumes_are : k.control.volumes ≡ w.control.volumes
 
@@ -105,6 +106,7 @@ module _ (w : World) (s : Sound w) (p : Pending) (one : filter (is_write p.w) w.
           takes = ap (λ (x : Volume). primary_of x.fields) here_u ∙ b.takes;
           out = ap (λ (x : Volume). contains x.fields.out_of_sync t) here_v ∙ b.out;
           still = λ x h r. let was = st.turned x v h r in b.still x was.0 was.1;
+          calm = λ x h r. let was = st.flashed x v h r in b.calm x was.0 was.1;
           one_is = ap (filter (is_write n)) st.pending ∙ b.one_is;
           volumes_are = st.volumes ∙ b.volumes_are;
         }
@@ -142,7 +144,7 @@ module _ (w : World) (s : Sound w) (p : Pending) (one : filter (is_write p.w) w.
     keeps-own k y b is =
         subst (λ vs. Along k (copy_first vs v t ++ now (LandBoth n v t) ∷ [])) b.volumes_are
         (copy-first v t k (plain_v k y b) (waits k y p b.one_is).low b.on_v (keep_on v t) (λ k x y st. refl) _
-        (λ j sj st kept. lands-both j sj (both-still k j y b st) (stored-still k j y b st is) kept) (λ x h r. absurd (b.still x h r)) y)
+        (λ j sj st kept. lands-both j sj (both-still k j y b st) (stored-still k j y b st is) kept) (λ x h r. absurd (b.still x h r)) b.calm y)
 
     -- u stores what the write makes of it
     mirrors : (k : World) → Sound k → Both k → Kept (table k) u t → Along k (now (Mirror u t v n) ∷ copy_first w.control.volumes v t ++ now (LandBoth n v t) ∷ [])
@@ -169,6 +171,7 @@ module _ (w : World) (s : Sound w) (p : Pending) (one : filter (is_write p.w) w.
           takes = part-same k m h primary_of refl u ∙ b.takes;
           out = part-same k m h (λ (g : Fields). contains g.out_of_sync t) refl v ∙ b.out;
           still = unrestored-done v k m h refl refl b.still;
+          calm = unflashed-done v k m h refl refl b.calm;
           one_is = b.one_is;
           volumes_are = b.volumes_are;
         }) (bytes_u ∙ sym (λ i. with_write (writes i) (bytes_v i) n)))
@@ -179,11 +182,12 @@ module _ (w : World) (s : Sound w) (p : Pending) (one : filter (is_write p.w) w.
         subst (Along k) (sym (append_assoc (copy_first w.control.volumes u t) (now (Mirror u t v n) ∷ copy_first w.control.volumes v t) (now (LandBoth n v t) ∷ [])))
         (subst (λ vs. Along k (copy_first vs u t ++ (now (Mirror u t v n) ∷ copy_first w.control.volumes v t ++ now (LandBoth n v t) ∷ []))) b.volumes_are
         (copy-first u t k (plain_u k y b) (low_u k y b) b.on_u (keep_on u t) (λ k x y st. refl) _ (λ j sj st kept. mirrors j sj (both-still k j y b st) kept)
-        (λ x h r. false_true (y.rows.parts.free x u h r) (from_source (is_part (fields_at k.control u).secondary) _ v b.takes).0) y))
+        (λ x h r. false_true (y.rows.parts.free x u h r) (from_source (is_part (fields_at k.control u).secondary) _ v b.takes).0)
+        (λ x h r. false_true (y.rows.seals.no_metro x u h r) (ap is_metro (y.rows.seals.kinds u v b.takes b.to) ∙ b.metro)) y))
 
     -- the track is out of sync until it has changed on both sides
-    goes-both : is_metro f.primary ≡ true → f.coordination ≡ false → secondary_of f ≡ Some u → primary_of (fields_at w.control u) ≡ Some v → Runs w u → Unrestored w v → Along w (land_mirrored w.control.volumes n v t u)
-    goes-both metro open_to to takes on_u still =
+    goes-both : is_metro f.primary ≡ true → f.coordination ≡ false → secondary_of f ≡ Some u → primary_of (fields_at w.control u) ≡ Some v → Runs w u → Unrestored w v → Unflashed w v → Along w (land_mirrored w.control.volumes n v t u)
+    goes-both metro open_to to takes on_u still calm =
         let m : Move = Unsync v t in
         moves w m _ (record { runs = on; allowed = record { low = (waits w s p one).low; metro = metro }; fits = tt; group = tt; ready = idle w v s.queue on }) (λ h y. stores (done w m h) y (record {
           on_v = runs-done w m h v on;
@@ -194,6 +198,7 @@ module _ (w : World) (s : Sound w) (p : Pending) (one : filter (is_write p.w) w.
           takes = part-same w m h primary_of refl u ∙ takes;
           out = ap (λ (x : Volume). contains x.fields.out_of_sync t) (at_same w.control.volume v _) ∙ in_insert f.out_of_sync t;
           still = unrestored-done v w m h refl refl still;
+          calm = unflashed-done v w m h refl refl calm;
           one_is = one;
           volumes_are = refl;
         }))
@@ -204,12 +209,12 @@ module _ (w : World) (s : Sound w) (p : Pending) (one : filter (is_write p.w) w.
     there = partner_of w.control v
 
     goes-over : is_metro f.primary ≡ true → f.coordination ≡ false → (b : Bool) → is_parted w.control v ≡ b → Along w (cond b (land_parted w.control n v t) (land_mirrored w.control.volumes n v t there))
-    goes-over metro open_to true is = parted (metro_part f.primary metro) free (plain-primary w s v (metro_part f.primary metro)) (λ x h r. unrestored w s v settled x h r)
+    goes-over metro open_to true is = parted (metro_part f.primary metro) free (plain-primary w s v (metro_part f.primary metro)) (λ x h r. unrestored w s v settled x h r) (unflashed w s v settled)
     goes-over metro open_to false is =
         let first : is_part f.primary ≡ true = metro_part f.primary metro in
         let none = or-passed (reach_refusal v there w.control) _ (none-there (send_refusal v there w.control) is) in
         let takes : primary_of (fields_at w.control there) ≡ Some v = its-first v (fields_at w.control there) (met (belongs_to v there w.control) _ none.1) in
-        goes-both there metro open_to (has_source (is_part f.primary) f.primary_partner first) takes (reached w v there none.0) (λ x h r. unrestored w s v settled x h r)
+        goes-both there metro open_to (has_source (is_part f.primary) f.primary_partner first) takes (reached w v there none.0) (λ x h r. unrestored w s v settled x h r) (unflashed w s v settled)
 
     -- a track that doesn't collide was sent, where the volume records
     was-sent : collides f t ≡ false → f.recording ≡ true → contains f.out_of_sync t ≡ false

@@ -8,7 +8,7 @@ use Rattle.dr_model.specs.Histories.{Write, Histories, histories}
 use Rattle.dr_model.specs.Control.{Pending, World, is_volume}
 use Rattle.dr_model.specs.Moves.{is_write}
 use Rattle.dr_model.specs.Plans.{with_pending}
-use Rattle.dr_model.specs.Table.{table, waiting, due, due_by}
+use Rattle.dr_model.specs.Table.{table, waiting, due, due_by, aside, aside_by}
 use Rattle.dr_model.specs.Laws.{SoundRows, Below, Numbered, Waits, AllPending, Apart, Lone, Together, servers, Sound}
 use Rattle.dr_model.proofs.Images.{histories-append, image-issue, at_same, at_other, Below-append, Below-more}
 use Rattle.dr_laws.proofs.Sets.{false_true}
@@ -57,8 +57,11 @@ module _ (w : World) (s : Sound w) (v t offset len : ℕ) (bytes : List ℕ) (de
       ∙ ap (λ ws. image (at h.write n written) (h.now u q ++ ws)) (waiting-new u q ps)
       ∙ image-issue h.write n written (h.now u q ++ waiting ps u q) (Below-append n (h.now u q) _ (s.queue.numbers.now u q) (low-waiting u q ps s.queue.each))
 
+  same-aside : (u q : ℕ) → aside issued u q ≡ aside w u q
+  same-aside u q = ap (λ h. aside_by h u q) issued-lists ∙ image-issue h.write n written (h.aside u q) (s.queue.numbers.aside u q)
+
   pub same-table : table issued ≡ table w
-  same-table = λ i u. record { defined = is_volume w.control u; volume = w.control.volume u; bytes = w.contents u; due = λ q. same-due u q i }
+  same-table = λ i u. record { defined = is_volume w.control u; volume = w.control.volume u; bytes = w.contents u; due = λ q. same-due u q i; aside = λ q. same-aside u q i }
 
   pub issued-write : (histories issued.events).write n ≡ written
   issued-write = ap (λ (h : Histories). h.write n) issued-lists ∙ at_same h.write n written
@@ -111,6 +114,7 @@ module _ (w : World) (s : Sound w) (v t offset len : ℕ) (bytes : List ℕ) (de
     targets = record { once = s.targets.once; few = s.targets.few };
     groups = groups-same w.control issued.control (record { sessions = refl; volumes = refl; server = λ v. refl; tracks = λ v. refl }) (λ v h. (h, (refl, refl))) s.groups;
     housed = s.housed;
+    attempts = s.attempts;
     queue = record {
       each = each-new ps s.queue.each;
       apart = apart-new ps s.queue.each s.queue.apart;

@@ -18,7 +18,7 @@ use Rattle.dr_model.specs.Layout.{Tracks}
 use Rattle.dr_model.specs.Tables.{at}
 use Rattle.dr_model.specs.Relations.{rest, in_order, is_bare, turned, given_up}
 use Rattle.dr_model.specs.Pairs.{is_suspended}
-use Rattle.dr_model.specs.Moves.{Move, Land, Overwrite, Keep, Note, Relate, Withdraw, Fetch, Resync, Reverse, Restore, Release, Store, Strike, Suspend, MakeSecondary, MakePrimary, DropPrimary, DropSecondary, Follow, Resume, TakeOver, Unsync, Mirror, LandBoth, Thaw, Lift, Restart, Hold, Free, Seal, Finish, RaiseAttempt, RaiseFloor, Leave, told_blank, told_restored, told, told_in_stop, landed, target, settled, settled_in_stop, is_other, marked}
+use Rattle.dr_model.specs.Moves.{Move, Land, Overwrite, Keep, Note, Relate, Withdraw, Fetch, Resync, Reverse, Restore, Release, Store, Strike, Suspend, MakeSecondary, MakePrimary, DropPrimary, DropSecondary, Follow, Resume, TakeOver, Unsync, Mirror, LandBoth, Thaw, Lift, Restart, Hold, Free, Seal, Finish, RaiseAttempt, RaiseFloor, Leave, Flash, Commit, Revert, told_blank, told_restored, told, told_in_stop, landed, target, settled, settled_in_stop, is_other, marked}
 use Rattle.dr_model.specs.Carry.{Act, Make, OpenAttempt, Redo, Acknowledge, Drop, EndFreeze, EndThaw, act, Next, Pass, Do, End, Entry, Outcome, carry, continue, go, follow}
 use Rattle.dr_model.specs.Plans.{Plan, plan, entries_plan, name_bytes, same, always, none_follow, server_done, volume_done, link_done, with_pending, issue_done, show_done, stop_done, arm_on, starting, start_plan, path_done, unpath_done}
 use Rattle.dr_model.specs.Runs.{Task, begun, finish, carried_out, answered, after_plan, after_task, after_tasks, run}
@@ -137,7 +137,8 @@ tells-silent (Relate v s choices) u = refl
 tells-silent (Withdraw v) u = blanks-silent v (in_order u.tracks (rest u.tracks u.fields.own))
 tells-silent (Fetch v t) u = refl
 tells-silent (Resync v sequence) u = refl
-tells-silent (Reverse v) u = restored-silent v u.fields.source u.tracks (turned u.fields).own
+tells-silent (Reverse v None) u = restored-silent v u.fields.source u.tracks (turned u.fields).own
+tells-silent (Reverse v (Some p)) u = restored-silent v u.fields.source u.tracks (turned u.fields).own
 tells-silent (Restore v t from) u = refl
 tells-silent (Release v t) u = restored-silent v u.fields.source u.tracks (given_up u.fields t).own
 tells-silent (Store v t from last) u = refl
@@ -163,6 +164,9 @@ tells-silent (Finish v n) u = refl
 tells-silent (RaiseAttempt v n) u = refl
 tells-silent (RaiseFloor v n) u = refl
 tells-silent (Leave v a s) u = refl
+tells-silent (Flash v from a s n) u = refl
+tells-silent (Commit v a s n) u = refl
+tells-silent (Revert v a s n) u = refl
 
 in_stop-silent : (m : Move) (u : Volume) → Silent (told_in_stop m u)
 in_stop-silent (Land n v t) u = refl

@@ -8,13 +8,16 @@ use Rattle.dr_model.specs.Moves.{Move, Suspend, MakePrimary, DropPrimary, TakeOv
 use Rattle.dr_model.specs.Entries.{fields_at}
 use Rattle.dr_model.specs.Groups.{Groups, Housed, OpensAttempt}
 use Rattle.dr_model.specs.Table.{table}
-use Rattle.dr_model.specs.Allowed.{Allowed, InGroup}
+use Rattle.dr_model.specs.Allowed.{Allowed}
+use Rattle.dr_model.specs.Attempts.{Attempts, InAttempt}
 use Rattle.dr_laws.proofs.AtLemmas.{at_cases, at_part}
 use Rattle.dr_laws.proofs.Sets.{false_true}
 use Rattle.dr_laws.proofs.Turns.{next_of, carried_in}
 use Rattle.dr_groups.specs.Frames.{Framed, RecordedOr}
 use Rattle.dr_groups.proofs.Volumes.{groups-same, groups-held, groups-opened}
 use Rattle.dr_groups.proofs.Housed.{housed-stays}
+use Rattle.dr_phases.proofs.Moves.{attempts-move}
+use Rattle.dr_phases.proofs.Tables.{attempts-opened}
 
 module _ (w : World) (write : ℕ → Write) (on : ℕ → Bool) (fuse : ℕ → Option Fuse) (ps : List Pending) where
   abbrev next : Move → Volume
@@ -47,8 +50,8 @@ module _ (w : World) (write : ℕ → Write) (on : ℕ → Bool) (fuse : ℕ →
       at_cases (λ u (x : Volume). x.fields.recording ≡ true → ((u ≡ v) × ((x.fields.attempt ≡ n) × (x.fields.primary_partner ≡ (fields_at w.control u).primary_partner))) ⊎ (((fields_at w.control u).recording ≡ true) × ((x.fields.attempt ≡ (fields_at w.control u).attempt) × (x.fields.primary_partner ≡ (fields_at w.control u).primary_partner)))) w.control.volume v (next (Hold v s n first))
       (λ h. inl (refl, (refl, refl))) (λ q ne h. inr (h, (refl, refl)))
 
-  pub groups-after : (m : Move) → Allowed write (table w) m → InGroup w.control m → Groups w.control → Groups (after m)
-  groups-after (Hold v s n first) a g old = groups-held w.control (after (Hold v s n first)) v s n (frame (Hold v s n first)) (holds v s n first) g old
+  pub groups-after : (m : Move) → Allowed write (table w) m → InAttempt w.control m → Groups w.control → Groups (after m)
+  groups-after (Hold v s n first) a g old = groups-held w.control (after (Hold v s n first)) v s n (frame (Hold v s n first)) (holds v s n first) g.0 old
   groups-after (Suspend v busy) a g old = by (Suspend v busy) (λ h. absurd cc) old
   groups-after (MakePrimary v u kind state full) a g old = by (MakePrimary v u kind state full) (λ h. absurd cc) old
   groups-after (DropPrimary v) a g old = by (DropPrimary v) (λ h. absurd cc) old
@@ -66,3 +69,10 @@ module _ (w : World) (write : ℕ → Write) (on : ℕ → Bool) (fuse : ℕ →
   -- each volume stays on its server
   pub housed-after : (m : Move) → Housed w.control → Housed (after m)
   housed-after m old = housed-stays w.control (after m) refl refl (frame m).server old
+
+  -- and what attempts say of sessions and volumes stays
+  pub attempts-after : (m : Move) → InAttempt w.control m → Groups w.control → Attempts w.control → Attempts (after m)
+  attempts-after m g groups old = attempts-move w.control (after m) m (carried_in w m) refl (record { volumes = refl; volume = refl }) g groups old
+
+  pub attempts-begun : (v s n : ℕ) → OpensAttempt w.control v s n → Groups w.control → Attempts w.control → Attempts (record (after (Hold v s n true)) { sessions = changed s begun w.control.sessions })
+  attempts-begun v s n opens groups old = attempts-opened w.control (after (Hold v s n true)) v s n (carried_in w (Hold v s n true)) refl (record { volumes = refl; volume = refl }) opens groups old

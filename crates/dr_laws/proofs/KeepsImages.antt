@@ -10,10 +10,10 @@ use Rattle.dr_model.specs.Histories.{Write}
 use Rattle.dr_model.specs.Views.{source_of, view}
 use Rattle.dr_model.specs.Relations.{rest, is_bare, is_whole, parted_if, fetched, withdrawn_if, turned, given_up}
 use Rattle.dr_model.specs.Pairs.{altered, written, received, mirrored, synced}
-use Rattle.dr_model.specs.Moves.{Move, Land, Overwrite, Keep, Relate, Withdraw, Fetch, Resync, Reverse, Restore, Release, Store, Mirror, LandBoth, Carried, target, moved}
+use Rattle.dr_model.specs.Moves.{Move, Land, Overwrite, Keep, Relate, Withdraw, Fetch, Resync, Reverse, Restore, Release, Store, Mirror, LandBoth, Flash, Revert, Carried, target, moved}
 use Rattle.dr_model.specs.Table.{Row, Table}
 use Rattle.dr_model.specs.Rows.{after, emptied, contents_of, carried_on}
-use Rattle.dr_model.specs.Laws.{Structure, Parts, Recorded, source, fields, Images, Plain, Seen}
+use Rattle.dr_model.specs.Laws.{Structure, Parts, Recorded, Asides, source, fields, Images, Plain, Seen}
 use Rattle.dr_model.specs.Allowed.{Allowed, Kept, MayKeep}
 use Rattle.dr_model.proofs.Images.{at_same, at_other}
 use Rattle.dr_laws.proofs.AtLemmas.{at_cases, at_two, each-at, linked-at}
@@ -172,11 +172,11 @@ module _ (write : ℕ → Write) (T : Table) (structure : Structure T) (parts : 
       ∙ ap (λ j. (T j).due q) (sym (from_source (fields T v).related (fields T v).source u h).1)
 
   -- or shows its unchanged tracks at its source
-  reverse-seen : (v u q : ℕ) → source (T v) ≡ Some u → (fields T v).recorded ≡ true → (fields T v).reversing ≡ false → q < (T v).volume.tracks → (c o : Bool)
+  reverse-seen : (v u q : ℕ) → source (T v) ≡ Some u → (fields T v).recorded ≡ true → (fields T v).reversing ≡ false → (fields T v).revertible ≡ false → q < (T v).volume.tracks → (c o : Bool)
       → contains (union (fields T v).source_changes (fields T v).target_changes) q ≡ c → contains (fields T v).own q ≡ o → cond c ((T v).bytes q) ((T u).bytes q) ≡ (T v).due q
-  reverse-seen v u q h rec rev lt true o is on = sym (if_true _ _ (from_union _ _ _ (structure.sets v).noted_held (structure.sets v).rewritten_held q is)) ∙ images.seen v u h q lt
-  reverse-seen v u q h rec rev lt false true is on = let none = not_in_union _ _ q is in sym (recorded v u h rec rev q on none.0 none.1) ∙ sym (if_true _ _ on) ∙ images.seen v u h q lt
-  reverse-seen v u q h rec rev lt false false is on = sym (if_false _ _ on) ∙ images.seen v u h q lt
+  reverse-seen v u q h rec rev set lt true o is on = sym (if_true _ _ (from_union _ _ _ ((structure.sets v).noted_held set) ((structure.sets v).rewritten_held set) q is)) ∙ images.seen v u h q lt
+  reverse-seen v u q h rec rev set lt false true is on = let none = not_in_union _ _ q is in sym (recorded v u h rec rev q on none.0 none.1) ∙ sym (if_true _ _ on) ∙ images.seen v u h q lt
+  reverse-seen v u q h rec rev set lt false false is on = sym (if_false _ _ on) ∙ images.seen v u h q lt
 
   release-seen : (v t u : ℕ) → source (T v) ≡ Some u → (T v).bytes t ≡ (T u).bytes t → (q : ℕ) → q < (T v).volume.tracks → cond (contains (remove (fields T v).own t) q) ((T v).bytes q) ((T u).bytes q) ≡ (T v).due q
   release-seen v t u h equal q lt = elim (eqb_tells q t) [
@@ -191,13 +191,13 @@ module _ (write : ℕ → Write) (T : Table) (structure : Structure T) (parts : 
   abbrev with : Move → Carried
   with m = carried_on write m T
 
-  pub kept-images : (m : Move) → Allowed write T m → Images (after write T m)
-  kept-images (Land w v t) a = images-at T v _ images (stored v t (written (fields T v) t) (with (Land w v t)) _ _ refl a.plain a.defined a.plain a.kept (λ lt. ap (λ b. with_write write b w) (images.plain v a.plain t lt)))
-  kept-images (Overwrite w v t) a = images-at T v _ images (taken-owes v t a.from a.related _ (at (T v).due t (with_write write ((T v).due t) w))
+  pub kept-images : Asides T → (m : Move) → Allowed write T m → Images (after write T m)
+  kept-images asides (Land w v t) a = images-at T v _ images (stored v t (written (fields T v) t) (with (Land w v t)) _ _ refl a.plain a.defined a.plain a.kept (λ lt. ap (λ b. with_write write b w) (images.plain v a.plain t lt)))
+  kept-images asides (Overwrite w v t) a = images-at T v _ images (taken-owes v t a.from a.related _ (at (T v).due t (with_write write ((T v).due t) w))
       (λ lt. ap (λ b. with_write write b w) (shows v t a.from a.related lt) ∙ sym (at_same (T v).due t _)) (λ q ne. at_other (T v).due t _ q ne) _ _ (with (Overwrite w v t)))
-  kept-images (Keep v t) a = images-at T v _ images (taken-owes v t a.from a.related _ (T v).due (old-track v t a) (λ q ne. refl) _ _ (with (Keep v t)))
-  kept-images (Fetch v t) a = images-at T v _ images (taken-owes v t a.from a.related _ (T v).due (old-track v t a) (λ q ne. refl) _ _ (with (Fetch v t)))
-  kept-images (Relate v s c) a = images-at T v _ images (record {
+  kept-images asides (Keep v t) a = images-at T v _ images (taken-owes v t a.from a.related _ (T v).due (old-track v t a) (λ q ne. refl) _ _ (with (Keep v t)))
+  kept-images asides (Fetch v t) a = images-at T v _ images (taken-owes v t a.from a.related _ (T v).due (old-track v t a) (λ q ne. refl) _ _ (with (Fetch v t)))
+  kept-images asides (Relate v s c) a = images-at T v _ images (record {
     blank = images.blank v;
     fresh = images.fresh v;
     plain = λ h. absurd cc;
@@ -206,8 +206,8 @@ module _ (write : ℕ → Write) (T : Table) (structure : Structure T) (parts : 
     loop = λ h. a.apart (from_source true s v h).1;
     onto = λ u ne h. absurd (a.no_source u h);
   })
-  kept-images (Withdraw v) a = images-at T v _ images (withdrawn-owes v a.from a.related true (fields T v) refl refl refl (images.seen v a.from a.related) (with (Withdraw v)))
-  kept-images (Resync v sequence) a = images-at T v _ images (record {
+  kept-images asides (Withdraw v) a = images-at T v _ images (withdrawn-owes v a.from a.related true (fields T v) refl refl refl (images.seen v a.from a.related) (with (Withdraw v)))
+  kept-images asides (Resync v sequence) a = images-at T v _ images (record {
     blank = images.blank v;
     fresh = images.fresh v;
     plain = λ h. none_some h a.related;
@@ -215,22 +215,38 @@ module _ (write : ℕ → Write) (T : Table) (structure : Structure T) (parts : 
     loop = no_loop write T structure v;
     onto = λ u ne h. no_targets write T structure v a.from u a.related h;
   })
-  kept-images (Reverse v) b = let a = b.resync in images-at T v _ images (withdrawn-owes v a.from a.related (is_bare (turned (fields T v)).own) (turned (fields T v)) refl refl refl
-      (λ q lt. reverse-seen v a.from q a.related a.recorded a.forward lt _ _ refl refl) (with (Reverse v)))
-  kept-images (Restore v t u) a = let f = structure.flash u v a.related in images-at T v _ images (stored v t (altered (fields T v) t) (with (Restore v t u)) _ _ refl f.plain f.defined f.plain a.kept (λ lt. sym (if_true _ _ a.holds) ∙ images.seen u v a.related t (subst (λ n. t < n) (sym f.same_tracks) lt)))
-  kept-images (Release v t) a = images-at T v _ images (withdrawn-owes v a.from a.related (is_bare (given_up (fields T v) t).own) (given_up (fields T v) t) refl refl refl (release-seen v t a.from a.related (sym a.equal)) (with (Release v t)))
-  kept-images (Store v t u last) a =
+  kept-images asides (Reverse v left) b = let a = b.resync in images-at T v _ images (withdrawn-owes v a.from a.related (is_bare (turned (fields T v)).own) (turned (fields T v)) refl refl refl
+      (λ q lt. reverse-seen v a.from q a.related a.recorded a.forward a.settled lt _ _ refl refl) (with (Reverse v left)))
+  kept-images asides (Restore v t u) a = let f = structure.flash u v a.related in images-at T v _ images (stored v t (altered (fields T v) t) (with (Restore v t u)) _ _ refl f.plain f.defined f.plain a.kept (λ lt. sym (if_true _ _ a.holds) ∙ images.seen u v a.related t (subst (λ n. t < n) (sym f.same_tracks) lt)))
+  kept-images asides (Release v t) a = images-at T v _ images (withdrawn-owes v a.from a.related (is_bare (given_up (fields T v) t).own) (given_up (fields T v) t) refl refl refl (release-seen v t a.from a.related (sym a.equal)) (with (Release v t)))
+  kept-images asides (Store v t u last) a =
       let out = parts.secondary u v a.sends in
       let none = unrelated T parts v a.takes in
       let first = unrelated_primary T parts u a.sends in
       images-at T v _ images (stored v t (received last (fields T v) t) (with (Store v t u last)) _ _ refl none out.defined none a.kept (λ lt. images.plain u first t (subst (λ n. t < n) (sym out.same_tracks) lt)))
-  kept-images (Mirror v t u w) a =
+  kept-images asides (Mirror v t u w) a =
       let out = parts.secondary u v a.sends in
       let none = unrelated T parts v a.takes in
       let first = unrelated_primary T parts u a.sends in
       images-at T v _ images (stored v t (mirrored (fields T v) t) (with (Mirror v t u w)) _ _ refl none out.defined none a.kept (λ lt. ap (λ b. with_write write b w) (images.plain u first t (subst (λ n. t < n) (sym out.same_tracks) lt))))
-  kept-images (LandBoth w v t) a = let m = a.land in images-at T v _ images (stored v t (synced (fields T v) t) (with (LandBoth w v t)) _ _ refl m.plain m.defined m.plain m.kept (λ lt. ap (λ b. with_write write b w) (images.plain v m.plain t lt)))
-  kept-images m a = let v : ℕ = target m in images-at T v _ images (record {
+  kept-images asides (LandBoth w v t) a = let m = a.land in images-at T v _ images (stored v t (synced (fields T v) t) (with (LandBoth w v t)) _ _ refl m.plain m.defined m.plain m.kept (λ lt. ap (λ b. with_write write b w) (images.plain v m.plain t lt)))
+  kept-images asides (Flash v u a s n) b = let r = b.resync in images-at T v _ images (record {
+    blank = images.blank v;
+    fresh = images.fresh v;
+    plain = λ h. none_some h r.related;
+    seen = λ x ne h q lt. resync-seen v x q h r.recorded r.forward lt ∙ ap (λ j. (T j).due q) ((from_source (fields T v).related (fields T v).source r.from r.related).1 ∙ b.from);
+    loop = no_loop write T structure v;
+    onto = λ x ne h. no_targets write T structure v r.from x r.related h;
+  })
+  kept-images asides (Revert v a s n) b = images-at T v _ images (record {
+    blank = images.blank v;
+    fresh = images.fresh v;
+    plain = λ h. none_some h b.related;
+    seen = λ u ne h q lt. asides v u h b.revertible q lt;
+    loop = no_loop write T structure v;
+    onto = λ u ne h. no_targets write T structure v b.from u b.related h;
+  })
+  kept-images asides m a = let v : ℕ = target m in images-at T v _ images (record {
     blank = images.blank v;
     fresh = images.fresh v;
     plain = images.plain v;

@@ -6,7 +6,7 @@ use Rattle.dr_model.specs.declared.state.PairState.{PairState}
 use Rattle.dr_model.specs.Layout.{Tracks, Fields, is_part}
 use Rattle.dr_model.specs.Lawful.{Low, HasSets, NoPrimary, NoSecondary, NoRelation, IsLawful}
 use Rattle.dr_model.specs.Pairs.{altered, written, held_for, freed, sealed, past_attempt, with_attempt, with_floor, no_member, is_engaged, is_torn, suspended, made_secondary, made_primary, no_primary, no_secondary, received, struck, resumed, taken_over, unsynced, mirrored, synced, thawed, lifted, restarted}
-use Rattle.dr_model.specs.Relations.{Choices, rest, parted_if, fetched, noted, rewritten, made, withdrawn_if, resynced, turned, given_up}
+use Rattle.dr_model.specs.Relations.{Choices, rest, parted_if, fetched, noted, rewritten, made, withdrawn_if, resynced, turned, given_up, flashed, committed, reverted}
 use Rattle.dr_laws.proofs.Sets.{false_true, if_false, in_cond, in_none, in_more, remove_from, rest_low, low_all, from_difference, from_union}
 
 one_either_way : {X : Type 0} (b : Bool) (x y : X) → y ≡ x → cond b x y ≡ x
@@ -296,4 +296,53 @@ module _ (n : ℕ) (f : Fields) (law : IsLawful n f) where
     primary = law.primary;
     secondary = law.secondary;
     relation = λ h. let o = law.relation h in (o.0, o.1, o.2, o.3, o.4, o.5, o.6, o.7, o.8, o.9, o.10, o.11, o.12, refl, refl);
+  }
+
+  -- a target is flashed, the flash stays, it is taken back
+  pub lawful-flashed : (s i : ℕ) → f.related ≡ true → IsLawful n (flashed s i f)
+  lawful-flashed s i is = record {
+    sets = record {
+      out_of_sync_low = old.out_of_sync_low;
+      change_recording_low = old.change_recording_low;
+      own_low = λ q h. old.own_low q (from_difference _ _ q (from_difference _ _ q h).0).0;
+      previous_own_low = old.own_low;
+      source_changes_low = old.source_changes_low;
+      target_changes_low = old.target_changes_low;
+      blank_low = old.blank_low;
+    };
+    primary = law.primary;
+    secondary = law.secondary;
+    relation = λ h. false_true h is;
+  }
+
+  pub lawful-committed : (i : ℕ) → f.related ≡ true → IsLawful n (committed i f)
+  lawful-committed i is = record {
+    sets = record {
+      out_of_sync_low = old.out_of_sync_low;
+      change_recording_low = old.change_recording_low;
+      own_low = old.own_low;
+      previous_own_low = in_none _;
+      source_changes_low = in_none _;
+      target_changes_low = in_none _;
+      blank_low = old.blank_low;
+    };
+    primary = law.primary;
+    secondary = law.secondary;
+    relation = λ h. false_true h is;
+  }
+
+  pub lawful-reverted : (i : ℕ) → f.related ≡ true → IsLawful n (reverted i f)
+  lawful-reverted i is = record {
+    sets = record {
+      out_of_sync_low = old.out_of_sync_low;
+      change_recording_low = old.change_recording_low;
+      own_low = old.previous_own_low;
+      previous_own_low = in_none _;
+      source_changes_low = old.source_changes_low;
+      target_changes_low = old.target_changes_low;
+      blank_low = old.blank_low;
+    };
+    primary = law.primary;
+    secondary = law.secondary;
+    relation = λ h. false_true h is;
   }

@@ -1,5 +1,5 @@
 -- From one moment of a freeze window to the next, the list of a primary grows by what is acknowledged on it alone.
-use Rattle.std.proofs.Common.{ℕ, ◌≡◌, ◌≢◌, inl, inr, refl, ap, sym, ◌∙◌, Bool, true, false, cond, ◌&&◌, ◌||◌, nat_eq, List, [], ◌∷◌, ◌++◌, append_assoc, map, Some}
+use Rattle.std.proofs.Common.{ℕ, ◌≡◌, ◌≢◌, inl, inr, refl, ap, sym, ◌∙◌, Bool, true, false, cond, ◌&&◌, ◌||◌, nat_eq, List, [], ◌∷◌, ◌++◌, append_assoc, map, Some, None}
 use Rattle.std.proofs.lemmas.List.{append-nil}
 use Rattle.std.proofs.lemmas.List.Folds.{list_any-append}
 use Rattle.std.proofs.lemmas.Bool.{ne_eqb, eq-eqb, or_left, or_right}
@@ -12,7 +12,7 @@ use Rattle.dr_model.specs.Layout.{Tracks, is_part}
 use Rattle.dr_model.specs.Relations.{rest, in_order, is_bare, turned, given_up}
 use Rattle.dr_model.specs.Control.{Volume, World}
 use Rattle.dr_model.specs.Pairs.{is_suspended}
-use Rattle.dr_model.specs.Moves.{Move, Land, Overwrite, Keep, Relate, Withdraw, Fetch, Resync, Reverse, Restore, Release, Store, Suspend, TakeOver, Mirror, LandBoth, Hold, Seal, Leave, told, told_in_stop, told_blank}
+use Rattle.dr_model.specs.Moves.{Move, Land, Overwrite, Keep, Relate, Withdraw, Fetch, Resync, Reverse, Restore, Release, Store, Suspend, TakeOver, Mirror, LandBoth, Hold, Seal, Leave, Flash, Commit, Revert, told, told_in_stop, told_blank}
 use Rattle.dr_model.specs.Entries.{fields_at}
 use Rattle.dr_model.specs.Table.{table}
 use Rattle.dr_model.specs.Laws.{SoundRows, source}
@@ -28,8 +28,8 @@ use Rattle.dr_laws.proofs.KeepsWindow.{first, no_second, no-target, Silent, AllS
 abbrev pub Apart : ℕ → Event → Type 0
 Apart v (VolumeDefined x server tracks) = ⊥
 Apart v (Issue n x t offset len bytes) = ⊥
-Apart v (Flashed session n a b c) = ⊥
-Apart v (Reverted session n a c) = ⊥
+Apart v (Flashed session n a b c) = v ≢ c
+Apart v (Reverted session n a c) = v ≢ c
 Apart v (Mirrored n x) = v ≢ x
 Apart v (Sent x t to) = v ≢ to
 Apart v (Set x from) = v ≢ x
@@ -66,8 +66,8 @@ elsewhere v x new old ne = ap (λ b. cond b new old) (ne_eqb v x ne)
 apart-event : (h : Histories) (e : Event) (v t : ℕ) → Apart v e → (after_event h e).now v t ≡ h.now v t ++ acked_in h.write v t e
 apart-event h (VolumeDefined x server tracks) v t a = absurd a
 apart-event h (Issue n x y offset len bytes) v t a = absurd a
-apart-event h (Flashed session n b c d) v t a = absurd a
-apart-event h (Reverted session n b c) v t a = absurd a
+apart-event h (Flashed session n b c d) v t a = ap (λ (f : ℕ → List ℕ). f t) (elsewhere v d (h.now c) (h.now v) a) ∙ sym (append-nil (h.now v t))
+apart-event h (Reverted session n b c) v t a = ap (λ (f : ℕ → List ℕ). f t) (elsewhere v c (h.aside c) (h.now v) a) ∙ sym (append-nil (h.now v t))
 apart-event h (Ack n) v t a = ack-by h n v t (eqb_tells v (h.write n).volume) (eqb_tells t (h.write n).track)
 apart-event h (Mirrored n x) v t a = elsewhere v x _ (h.now v t) a ∙ sym (append-nil (h.now v t))
 apart-event h (Sent x y to) v t a = elsewhere v to _ (h.now v t) a ∙ sym (append-nil (h.now v t))
@@ -182,7 +182,8 @@ module _ (v q : ℕ) (w : World) (rows : SoundRows (table w)) (st : Stays v q w)
   apart-told (Relate x s choices) a off u = (not-single x a.no_primary, tt)
   apart-told (Withdraw x) a off u = apart-blank v x (in_order u.tracks (rest u.tracks u.fields.own)) (not-target x a.from a.related)
   apart-told (Resync x s) a off u = (not-target x a.from a.related, tt)
-  apart-told (Reverse x) a off u = apart-restored v (is_bare (turned u.fields).own) x u.fields.source u.tracks (turned u.fields).own (not-target x a.resync.from a.resync.related)
+  apart-told (Reverse x None) a off u = apart-restored v (is_bare (turned u.fields).own) x u.fields.source u.tracks (turned u.fields).own (not-target x a.resync.from a.resync.related)
+  apart-told (Reverse x (Some p)) a off u = (tt, apart-restored v (is_bare (turned u.fields).own) x u.fields.source u.tracks (turned u.fields).own (not-target x a.resync.from a.resync.related))
   apart-told (Restore x t y) a off u = (off, tt)
   apart-told (Release x t) a off u = apart-restored v (is_bare (given_up u.fields t).own) x u.fields.source u.tracks (given_up u.fields t).own (not-target x a.from a.related)
   apart-told (Store x t y last) a off u = (not-second x (from_source _ _ y a.takes).0, tt)
@@ -197,6 +198,9 @@ module _ (v q : ℕ) (w : World) (rows : SoundRows (table w)) (st : Stays v q w)
   apart-told (Hold x s n first) a off u = apart-held v first x s n
   apart-told (Seal x y s n) a off u = (tt, tt)
   apart-told (Leave x y s) a off u = (tt, tt)
+  apart-told (Flash x y p s n) a off u = (not-target x a.resync.from a.resync.related, tt)
+  apart-told (Commit x p s n) a off u = (tt, tt)
+  apart-told (Revert x p s n) a off u = (not-target x a.from a.related, tt)
   apart-told m a off u = tt
 
   pub apart-stop : (m : Move) → Allowed (histories w.events).write (table w) m → NoRestore v m → (u : Volume) (s k : ℕ) → AllApart v (told_in_stop m u ++ Stopped s k ∷ [])

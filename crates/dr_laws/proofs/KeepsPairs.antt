@@ -155,7 +155,7 @@ module _ (write : ℕ → Write) (T : Table) (structure : Structure T) (parts : 
   kept-pairs (Keep v t) a = changed (Keep v t) a (λ u h. target_first v a.related h) (λ u h k. target_part v a.related k)
   kept-pairs (Fetch v t) a = changed (Fetch v t) a (λ u h. target_first v a.related h) (λ u h k. target_part v a.related k)
   kept-pairs (Withdraw v) a = changed (Withdraw v) a (λ u h. target_first v a.related h) (λ u h k. target_part v a.related k)
-  kept-pairs (Reverse v) a = changed (Reverse v) a (λ u h. target_first v a.resync.related h) (λ u h k. target_part v a.resync.related k)
+  kept-pairs (Reverse v left) a = changed (Reverse v left) a (λ u h. target_first v a.resync.related h) (λ u h k. target_part v a.resync.related k)
   kept-pairs (Release v t) a = changed (Release v t) a (λ u h. target_first v a.related h) (λ u h k. target_part v a.related k)
   kept-pairs (Store v t u last) a = changed (Store v t u last) a (λ x h. no_first v (from_source _ _ u a.takes).0 h) (stored-onto v t u _ a.takes (λ sent. refl))
   kept-pairs (Mirror v t u w) a = changed (Mirror v t u w) a (λ x h. no_first v (from_source _ _ u a.takes).0 h) (stored-onto v t u _ a.takes (λ sent. false_true (or_parts _ _ sent).0 a.out))

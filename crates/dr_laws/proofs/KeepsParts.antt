@@ -8,7 +8,7 @@ use Rattle.dr_model.specs.Histories.{Write}
 use Rattle.dr_model.specs.Relations.{is_bare, is_whole, turned, given_up}
 use Rattle.dr_model.specs.Moves.{Move, Overwrite, Keep, Relate, Withdraw, Fetch, Reverse, Release, MakeSecondary, MakePrimary, DropPrimary, DropSecondary, TakeOver, Carried, moved, target, next_fields}
 use Rattle.dr_model.specs.Table.{Row, Table}
-use Rattle.dr_model.specs.Rows.{after, volumes_of, carried_on, next_bytes, next_due}
+use Rattle.dr_model.specs.Rows.{after, volumes_of, carried_on, next_bytes, next_due, next_aside}
 use Rattle.dr_model.specs.Laws.{Structure, Parts, OnePart, RowParts, Partnered, OneWay, FreeSource, source, its_primary, its_secondary, fields}
 use Rattle.dr_model.specs.Allowed.{Allowed}
 use Rattle.dr_laws.proofs.AtLemmas.{each-at, linked-at}
@@ -49,11 +49,11 @@ module _ (T : Table) (old : Parts T) where
   pub no_partner : {P : Type 0} (x : ℕ) → Partnered x (T x) x (T x) → P
   no_partner x fits = absurd (fits.apart refl)
 
-  abbrev with_fields : ℕ → Fields → Carried → (ℕ → List ℕ) → (ℕ → List ℕ) → Row
-  with_fields x g c bytes due = record (T x) { volume = moved (T x).volume g c; bytes = bytes; due = due }
+  abbrev with_fields : ℕ → Fields → Carried → (ℕ → List ℕ) → (ℕ → List ℕ) → (ℕ → List ℕ) → Row
+  with_fields x g c bytes due aside = record (T x) { volume = moved (T x).volume g c; bytes = bytes; due = due; aside = aside }
 
-  pub parts-at : (x : ℕ) (g : Fields) (c : Carried) (bytes due : ℕ → List ℕ) → Shape T x g → Parts (at T x (with_fields x g c bytes due))
-  parts-at x g c bytes due s = let y : Row = with_fields x g c bytes due in record {
+  pub parts-at : (x : ℕ) (g : Fields) (c : Carried) (bytes due aside : ℕ → List ℕ) → Shape T x g → Parts (at T x (with_fields x g c bytes due aside))
+  parts-at x g c bytes due aside s = let y : Row = with_fields x g c bytes due aside in record {
     one = each-at T x y (λ v r. RowParts r) s.one old.one;
     secondary = linked-at T x y its_secondary Partnered (λ u ne. s.second u) (λ h. no_partner x (s.second x h)) (λ v ne. old.secondary v x) old.secondary;
     primary = linked-at T x y its_primary Partnered (λ u ne. s.first u) (λ h. no_partner x (s.first x h)) (λ v ne. old.primary v x) old.primary;
@@ -81,7 +81,7 @@ module _ (T : Table) (old : Parts T) where
     part-shape (Fetch v t) a = ended v (is_whole (T v).volume.tracks (insert (fields T v).own t) && not (fields T v).persistent)
     part-shape (Withdraw v) a = ended v true
     part-shape (Release v t) a = ended v (is_bare (given_up (fields T v) t).own)
-    part-shape (Reverse v) a = let f : Fields = fields T v in let e : Bool = is_bare (turned f).own in let still = ended v e in record {
+    part-shape (Reverse v left) a = let f : Fields = fields T v in let e : Bool = is_bare (turned f).own in let still = ended v e in record {
       one = still.one;
       second = still.second;
       first = still.first;
@@ -150,4 +150,4 @@ module _ (T : Table) (old : Parts T) where
     part-shape m a = ended (target m) false
 
     pub kept-parts : (m : Move) → Allowed write T m → Parts (after write T m)
-    kept-parts m a = parts-at (target m) (next_fields m (volumes_of T)) (carried_on write m T) (next_bytes write m T) (next_due write m T) (part-shape m a)
+    kept-parts m a = parts-at (target m) (next_fields m (volumes_of T)) (carried_on write m T) (next_bytes write m T) (next_due write m T) (next_aside m T) (part-shape m a)

@@ -1,5 +1,5 @@
 -- Each kind of move keeps the queue: pending writes are those of their issues, and no list holds a later number.
-use Rattle.std.proofs.Common.{ℕ, ◌≡◌, ◌<◌, ◌+◌, refl, ap, sym, ◌∙◌, Bool, true, false, cond, List, [], ◌∷◌, ◌++◌, map, filter, subst, Option}
+use Rattle.std.proofs.Common.{ℕ, ◌≡◌, ◌<◌, ◌+◌, refl, ap, sym, ◌∙◌, Bool, true, false, cond, List, [], ◌∷◌, ◌++◌, map, filter, subst, Option, None, Some}
 use Rattle.std.proofs.lemmas.Bool.{eqb-true, eq-eqb, false≢true}
 use Rattle.std.specs.List.{fold}
 use Rattle.dr_model.specs.declared.event.Event.{Event}
@@ -10,7 +10,7 @@ use Rattle.dr_model.specs.Layout.{Tracks}
 use Rattle.dr_model.specs.Relations.{is_bare}
 use Rattle.dr_model.specs.Control.{Control, Pending, Fuse, Volume, World, is_volume}
 use Rattle.dr_model.specs.Pairs.{is_suspended}
-use Rattle.dr_model.specs.Moves.{Move, Land, Overwrite, Relate, Withdraw, Resync, Reverse, Restore, Release, Keep, Note, Fetch, Store, Strike, Suspend, MakeSecondary, MakePrimary, DropPrimary, DropSecondary, Follow, Resume, TakeOver, Unsync, Mirror, LandBoth, Thaw, Lift, Restart, Hold, Free, Seal, Finish, RaiseAttempt, RaiseFloor, Leave, told_blank, told_restored, target, told, told_in_stop, settled, settled_in_stop, is_write, is_other, marked, landed}
+use Rattle.dr_model.specs.Moves.{Move, Land, Overwrite, Relate, Withdraw, Resync, Reverse, Restore, Release, Keep, Note, Fetch, Store, Strike, Suspend, MakeSecondary, MakePrimary, DropPrimary, DropSecondary, Follow, Resume, TakeOver, Unsync, Mirror, LandBoth, Thaw, Lift, Restart, Hold, Free, Seal, Finish, RaiseAttempt, RaiseFloor, Leave, Flash, Commit, Revert, told_blank, told_restored, target, told, told_in_stop, settled, settled_in_stop, is_write, is_other, marked, landed}
 use Rattle.dr_model.specs.Laws.{Lone, Together, servers, sizes, Below, Numbered, Queue, Waits, AllPending, Apart}
 use Rattle.dr_model.specs.Entries.{is_at}
 use Rattle.dr_model.specs.Allowed.{Coming, Ready}
@@ -229,10 +229,14 @@ module _ (starts : Option ℕ) (w : World) (old : Queue starts w) where
   told-quiet (Land k v t) ready = (ready.number, tt)
   told-quiet (Overwrite k v t) ready = (ready.number, tt)
   told-quiet (Withdraw v) ready = blanks-quiet v _
-  told-quiet (Reverse v) ready = restored-quiet v _ _ _
+  told-quiet (Reverse v None) ready = restored-quiet v _ _ _
+  told-quiet (Reverse v (Some p)) ready = (tt, restored-quiet v _ _ _)
   told-quiet (Release v t) ready = restored-quiet v _ _ _
   told-quiet (Keep v t) ready = (tt, tt)
   told-quiet (Note v t) ready = tt
+  told-quiet (Flash v u a s i) ready = (tt, tt)
+  told-quiet (Commit v a s i) ready = (tt, tt)
+  told-quiet (Revert v a s i) ready = (tt, tt)
   told-quiet (Relate v s c) ready = (tt, tt)
   told-quiet (Fetch v t) ready = (tt, tt)
   told-quiet (Resync v sequence) ready = (tt, tt)

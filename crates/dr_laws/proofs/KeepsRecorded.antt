@@ -5,7 +5,7 @@ use Rattle.dr_model.specs.Tables.{at}
 use Rattle.dr_model.specs.Layout.{Tracks, Fields}
 use Rattle.dr_model.specs.Histories.{Write}
 use Rattle.dr_model.specs.Relations.{is_bare, turned, given_up, is_whole}
-use Rattle.dr_model.specs.Moves.{Move, Land, Overwrite, Keep, Note, Relate, Withdraw, Fetch, Resync, Reverse, Restore, Release, Store, Mirror, LandBoth, target}
+use Rattle.dr_model.specs.Moves.{Move, Land, Overwrite, Keep, Note, Relate, Withdraw, Fetch, Resync, Reverse, Restore, Release, Store, Mirror, LandBoth, Flash, Commit, Revert, target}
 use Rattle.dr_model.specs.Table.{Row, Table}
 use Rattle.dr_model.specs.Rows.{after}
 use Rattle.dr_model.specs.Laws.{Structure, Parts, Recorded, HoldsOld, source, fields}
@@ -81,11 +81,14 @@ module _ (write : ℕ → Write) (T : Table) (structure : Structure T) (parts : 
   kept-recorded (Relate v s c) a = changed v _ (λ u h rec rev q o. absurd (not_in_empty q o)) (λ h. a.apart (from_source true s v h).1) (λ u h. absurd (a.no_source u h))
   kept-recorded (Withdraw v) a = changed v _ (λ u h. absurd cc) (λ h. cc) (λ u. targets_at v a.from u a.related)
   kept-recorded (Resync v sequence) a = changed v _ (λ u h rec rev q o n z. let both = from_difference _ _ q o in let first = from_difference _ _ q both.0 in old v u h rec rev q first.0 first.1 both.1) (loop_at v) (λ u. targets_at v a.from u a.related)
-  kept-recorded (Reverse v) a = let f : Fields = fields T v in let e : Bool = is_bare (turned f).own in
+  kept-recorded (Reverse v left) a = let f : Fields = fields T v in let e : Bool = is_bare (turned f).own in
       changed v _ (λ u h rec rev. reversed e f.related true f.source u refl h rev) (parted-loop v e) (λ u. targets_at v a.resync.from u a.resync.related)
   kept-recorded (Release v t) a = let f : Fields = fields T v in let e : Bool = is_bare (given_up f t).own in
       changed v _ (λ u h rec rev. reversed e f.related f.reversing f.source u a.reversing h rev) (parted-loop v e) (λ u. targets_at v a.from u a.related)
   kept-recorded (Store v t u last) a = let none = unrelated T parts v a.takes in changed v _ (λ u h. none_some none h) (λ h. none_some none h) (λ u h. onto-stored v t _ a.kept u h)
   kept-recorded (Mirror v t u w) a = let none = unrelated T parts v a.takes in changed v _ (λ u h. none_some none h) (λ h. none_some none h) (λ u h. onto-stored v t _ a.kept u h)
   kept-recorded (LandBoth w v t) a = let m = a.land in changed v _ (λ u h. none_some m.plain h) (λ h. none_some m.plain h) (λ u h. onto-stored v t _ m.kept u h)
+  kept-recorded (Flash v u a s n) b = changed v _ (λ x h rec rev q o n z. let both = from_difference _ _ q o in old v x h rec rev q (from_difference _ _ q both.0).0 n z) (loop_at v) (λ x. old x v)
+  kept-recorded (Commit v a s n) b = changed v _ (λ u h rec rev q o n z. let r = (structure.reverts v b.revertible).unchanged q o in old v u h rec rev q o r.0 r.1) (loop_at v) (λ u. old u v)
+  kept-recorded (Revert v a s n) b = changed v _ (λ u h rec rev q o n z. old v u h rec rev q ((structure.reverts v b.revertible).kept q o n z) n z) (loop_at v) (λ u. old u v)
   kept-recorded m a = let v : ℕ = target m in changed v _ (old v) (loop_at v) (λ u. old u v)

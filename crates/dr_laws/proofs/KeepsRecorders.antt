@@ -8,12 +8,11 @@ use Rattle.dr_model.specs.declared.state.PairState.{PairState}
 use Rattle.dr_model.specs.declared.state.PairState.TheVariants.{CopyPending, FullDuplex, Suspended}
 use Rattle.dr_model.specs.Layout.{Tracks, Fields, is_part}
 use Rattle.dr_model.specs.Histories.{Write}
-use Rattle.dr_model.specs.Relations.{is_bare, is_whole, turned, given_up}
 use Rattle.dr_model.specs.Pairs.{is_metro, is_kind, is_pending, is_suspended, is_quiet, is_engaged}
-use Rattle.dr_model.specs.Moves.{Move, Land, Overwrite, Keep, Relate, Withdraw, Fetch, Reverse, Release, Strike, Suspend, MakePrimary, DropPrimary, Resume, TakeOver, Lift, Restart, Hold, Free, Finish, target}
+use Rattle.dr_model.specs.Moves.{Move, Land, Strike, Suspend, MakePrimary, DropPrimary, Resume, TakeOver, Lift, Restart, Hold, Free, Finish, target}
 use Rattle.dr_model.specs.Table.{Row, Table}
 use Rattle.dr_model.specs.Rows.{after, next_row}
-use Rattle.dr_model.specs.Laws.{Records, RowRecords, Recorders, AllFinal, fields}
+use Rattle.dr_model.specs.Laws.{Records, RowRecords, Recorders, fields}
 use Rattle.dr_model.specs.Allowed.{Allowed}
 use Rattle.dr_laws.proofs.AtLemmas.{each-at}
 use Rattle.dr_laws.proofs.Sets.{empty_has}
@@ -105,22 +104,3 @@ module _ (T : Table) (old : Recorders T) where
     kept-recorders (Hold v s n first) a = changed (Hold v s n first) (record { holds = λ h. refl; global = λ h. a.global; pending = λ h. a.pending; none = λ h. absurd cc })
     kept-recorders (Free v) a = let o = old v in changed (Free v) (record { holds = λ h. absurd cc; global = o.global; pending = o.pending; none = o.none })
     kept-recorders m a = let o = old (target m) in changed m (record { holds = o.holds; global = o.global; pending = o.pending; none = o.none })
-
--- no relationship is revertible
-module _ (write : ℕ → Write) (T : Table) (old : AllFinal T) where
-  stays-final : (m : Move) → (next_row write m T).volume.fields.revertible ≡ false → AllFinal (after write T m)
-  stays-final m here = each-at T (target m) (next_row write m T) (λ v r. r.volume.fields.revertible ≡ false) here old
-
-  ended : (e : Bool) (v : ℕ) → cond e false (fields T v).revertible ≡ false
-  ended true v = refl
-  ended false v = old v
-
-  pub kept-final : (m : Move) → AllFinal (after write T m)
-  kept-final (Overwrite w v t) = stays-final (Overwrite w v t) (ended (is_whole (T v).volume.tracks (insert (fields T v).own t) && not (fields T v).persistent) v)
-  kept-final (Keep v t) = stays-final (Keep v t) (ended (is_whole (T v).volume.tracks (insert (fields T v).own t) && not (fields T v).persistent) v)
-  kept-final (Fetch v t) = stays-final (Fetch v t) (ended (is_whole (T v).volume.tracks (insert (fields T v).own t) && not (fields T v).persistent) v)
-  kept-final (Relate v s choices) = stays-final (Relate v s choices) refl
-  kept-final (Withdraw v) = stays-final (Withdraw v) refl
-  kept-final (Reverse v) = stays-final (Reverse v) (ended (is_bare (turned (fields T v)).own) v)
-  kept-final (Release v t) = stays-final (Release v t) (ended (is_bare (given_up (fields T v) t).own) v)
-  kept-final m = stays-final m (old (target m))

@@ -14,7 +14,7 @@ use Rattle.dr_model.specs.Plans.{Plan}
 use Rattle.dr_model.specs.Runs.{begun}
 use Rattle.dr_model.specs.ReadStops.{gone_off}
 use Rattle.dr_model.specs.Groups.{Groups, Housed}
-use Rattle.dr_model.specs.Table.{Table, table, due_by}
+use Rattle.dr_model.specs.Table.{Table, table, due_by, aside_by}
 use Rattle.dr_model.specs.Rows.{after}
 use Rattle.dr_model.specs.Laws.{SoundRows, SoundBut, Sound, Queue, AllPending, Waits, servers}
 use Rattle.dr_model.specs.Allowed.{Allowed, May, MayOpen, Runs}
@@ -25,9 +25,11 @@ use Rattle.dr_laws.proofs.KeepsStructure.{kept-structure}
 use Rattle.dr_laws.proofs.KeepsParts.{kept-parts}
 use Rattle.dr_laws.proofs.KeepsImages.{kept-images}
 use Rattle.dr_laws.proofs.KeepsRecorded.{kept-recorded}
-use Rattle.dr_laws.proofs.KeepsRecorders.{kept-recorders, kept-final}
+use Rattle.dr_laws.proofs.KeepsRecorders.{kept-recorders}
+use Rattle.dr_laws.proofs.KeepsSeals.{kept-seals}
+use Rattle.dr_laws.proofs.KeepsAsides.{kept-asides}
 use Rattle.dr_laws.proofs.KeepsPairs.{kept-pairs}
-use Rattle.dr_laws.proofs.KeepsGroups.{groups-after, groups-begun, housed-after}
+use Rattle.dr_laws.proofs.KeepsGroups.{groups-after, groups-begun, housed-after, attempts-after, attempts-begun}
 use Rattle.dr_groups.proofs.Volumes.{groups-same}
 use Rattle.dr_laws.proofs.KeepsTargets.{few-after}
 use Rattle.dr_laws.proofs.KeepsQueue.{AllQuiet, queue-done, queue-stop, queue-same, goes-off, all-filter, apart-filter, lone-filter}
@@ -38,16 +40,17 @@ pub rows-after : (write : ℕ → Write) (T : Table) (m : Move) → SoundRows T 
 rows-after write T m r a = record {
   structure = kept-structure write T r.structure m a;
   parts = kept-parts T r.parts write r.structure m a;
-  images = kept-images write T r.structure r.parts r.recorded r.images m a;
+  images = kept-images write T r.structure r.parts r.recorded r.images r.asides m a;
   recorded = kept-recorded write T r.structure r.parts r.recorded m a;
   recorders = kept-recorders T r.recorders write m a;
-  final = kept-final write T r.final m;
+  seals = kept-seals write T r.structure r.parts r.recorders r.seals m a;
   pairs = kept-pairs write T r.structure r.parts r.recorders r.pairs m a;
+  asides = kept-asides write T r.structure r.parts r.images r.asides m a;
 }
 
 -- events that no list hears of
 pub rows-told : (w : World) (es : List Event) → histories (w.events ++ es) ≡ histories w.events → SoundRows (table w) → SoundRows (table (record w { events = w.events ++ es }))
-rows-told w es same r = subst SoundRows (ap (λ (h : Histories). λ (v : ℕ). record (table w v) { due = due_by h w.control.pending v }) (sym same)) r
+rows-told w es same r = subst SoundRows (ap (λ (h : Histories). λ (v : ℕ). record (table w v) { due = due_by h w.control.pending v; aside = aside_by h v }) (sym same)) r
 
 module _ (starts : Option ℕ) where
   pub sound-done : (w : World) (m : Move) (f : Option Fuse) → SoundBut starts w → May w m → SoundBut starts (done w m f)
@@ -57,6 +60,7 @@ module _ (starts : Option ℕ) where
     queue = queue-done starts w s.queue m f may.ready;
     groups = groups-after w (histories w.events).write (done w m f).control.on (done w m f).control.fuse (done w m f).control.pending m may.allowed may.group s.groups;
     housed = housed-after w (histories w.events).write (done w m f).control.on (done w m f).control.fuse (done w m f).control.pending m s.housed;
+    attempts = attempts-after w (histories w.events).write (done w m f).control.on (done w m f).control.fuse (done w m f).control.pending m may.group s.groups s.attempts;
   }
 
   pub sound-stop : (w : World) (m : Move) (f : Option Fuse) → SoundBut starts w → May w m → SoundBut starts (done_in_stop w m f)
@@ -66,6 +70,7 @@ module _ (starts : Option ℕ) where
     queue = queue-stop starts w s.queue m f may.ready;
     groups = groups-after w (histories w.events).write (done_in_stop w m f).control.on (done_in_stop w m f).control.fuse (done_in_stop w m f).control.pending m may.allowed may.group s.groups;
     housed = housed-after w (histories w.events).write (done_in_stop w m f).control.on (done_in_stop w m f).control.fuse (done_in_stop w m f).control.pending m s.housed;
+    attempts = attempts-after w (histories w.events).write (done_in_stop w m f).control.on (done_in_stop w m f).control.fuse (done_in_stop w m f).control.pending m may.group s.groups s.attempts;
   }
 
   -- the first hold of an attempt, with which it begins
@@ -80,6 +85,7 @@ module _ (starts : Option ℕ) where
         queue = record { each = q.each; apart = q.apart; lone = q.lone; numbers = q.numbers };
         groups = groups-begun w (histories w.events).write k.on k.fuse k.pending v i n may.opens s.groups;
         housed = housed-after w (histories w.events).write k.on k.fuse k.pending m s.housed;
+        attempts = attempts-begun w (histories w.events).write k.on k.fuse k.pending v i n may.opens s.groups s.attempts;
       }
 
   pub sound-opened_stop : (w : World) (v i n : ℕ) (f : Option Fuse) → SoundBut starts w → MayOpen w v i n → SoundBut starts (opened_in_stop w v i n f)
@@ -93,6 +99,7 @@ module _ (starts : Option ℕ) where
         queue = record { each = q.each; apart = q.apart; lone = q.lone; numbers = q.numbers };
         groups = groups-begun w (histories w.events).write k.on k.fuse k.pending v i n may.opens s.groups;
         housed = housed-after w (histories w.events).write k.on k.fuse k.pending m s.housed;
+        attempts = attempts-begun w (histories w.events).write k.on k.fuse k.pending v i n may.opens s.groups s.attempts;
       }
 
   told-groups : (w : World) (servers : List (List ℕ)) (on : ℕ → Bool) (fuse : ℕ → Option Fuse) (link : ℕ → ℕ → Bool) (paths : List Path) → Groups w.control → Groups (record w.control { servers = servers; on = on; fuse = fuse; link = link; paths = paths })
@@ -107,6 +114,7 @@ module _ (starts : Option ℕ) where
     targets = record { once = s.targets.once; few = s.targets.few };
     groups = told-groups w servers on fuse link paths s.groups;
     housed = housed;
+    attempts = s.attempts;
     queue = queue-same starts w s.queue (record w.control { servers = servers; on = on; fuse = fuse; link = link; paths = paths }) es w.contents quiet refl refl refl (λ v. refl) (λ v. refl) off;
   }
 
@@ -139,6 +147,7 @@ module _ (starts : Option ℕ) where
         targets = record { once = s.targets.once; few = s.targets.few };
         groups = groups-same w.control _ (record { sessions = refl; volumes = refl; server = λ v. refl; tracks = λ v. refl }) (λ v h. (h, (refl, refl))) s.groups;
         housed = s.housed;
+        attempts = s.attempts;
         queue = record {
           each = all-filter (Waits starts w.control h.write) (is_other n) ps s.queue.each;
           apart = apart-filter n ps s.queue.apart;

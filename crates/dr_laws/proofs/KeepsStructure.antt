@@ -8,16 +8,16 @@ use Rattle.dr_model.specs.Pairs.{is_metro, is_kind}
 use Rattle.dr_model.specs.Layout.{Tracks, Fields, is_part}
 use Rattle.dr_model.specs.Histories.{Write}
 use Rattle.dr_model.specs.Relations.{rest, is_bare, is_whole, turned, given_up}
-use Rattle.dr_model.specs.Moves.{Move, Land, Overwrite, Keep, Note, Relate, Withdraw, Fetch, Resync, Reverse, Restore, Release, Store, Strike, Suspend, MakeSecondary, MakePrimary, DropPrimary, DropSecondary, Follow, Resume, TakeOver, Unsync, Mirror, LandBoth, Thaw, Lift, Restart, Hold, Free, Seal, Finish, RaiseAttempt, RaiseFloor, Leave, moved, target, next_fields}
+use Rattle.dr_model.specs.Moves.{Move, Land, Overwrite, Keep, Note, Relate, Withdraw, Fetch, Resync, Reverse, Restore, Release, Store, Strike, Suspend, MakeSecondary, MakePrimary, DropPrimary, DropSecondary, Follow, Resume, TakeOver, Unsync, Mirror, LandBoth, Thaw, Lift, Restart, Hold, Free, Seal, Finish, RaiseAttempt, RaiseFloor, Leave, Flash, Commit, Revert, moved, target, next_fields}
 use Rattle.dr_model.specs.Table.{Row, Table}
-use Rattle.dr_model.specs.Rows.{after, next_row, next_bytes, next_due, volumes_of, carried_on}
-use Rattle.dr_model.specs.Laws.{Structure, Lawful, RowSets, RowFlags, RowDefined, SetsFit, FlagsFit, Flashed, OneRestore, source, fields}
+use Rattle.dr_model.specs.Rows.{after, next_row, next_bytes, next_due, next_aside, volumes_of, carried_on}
+use Rattle.dr_model.specs.Laws.{Structure, Lawful, RowSets, RowFlags, RowDefined, SetsFit, FlagsFit, Flashed, OneRestore, RowReverts, source, fields}
 use Rattle.dr_model.specs.Allowed.{Allowed}
 use Rattle.dr_model.specs.Lawful.{IsLawful}
 use Rattle.dr_model.proofs.Images.{at_same}
 use Rattle.dr_laws.proofs.AtLemmas.{at_cases, each-at, linked-at}
-use Rattle.dr_laws.proofs.KeepsLawful.{lawful-altered, lawful-written, lawful-held, lawful-freed, lawful-sealed, lawful-past_attempt, lawful-attempt, lawful-floor, lawful-no_member, lawful-received, lawful-struck, lawful-suspended, lawful-resumed, lawful-followed, lawful-made_secondary, lawful-made_primary, lawful-no_primary, lawful-no_secondary, lawful-taken_over, lawful-unsynced, lawful-mirrored, lawful-synced, lawful-thawed, lawful-lifted, lawful-restarted, lawful-taken, low-noted, lawful-noted, lawful-made, lawful-withdrawn, lawful-resynced, lawful-turned, lawful-given_up}
-use Rattle.dr_laws.proofs.Sets.{In, in_cond, in_none, in_more, in_insert, still_in, false_true, none_some, not_turned, from_source, still_related, from_difference, from_union, remove_from, not_removed, not_removed_from, empty_has}
+use Rattle.dr_laws.proofs.KeepsLawful.{lawful-altered, lawful-written, lawful-held, lawful-freed, lawful-sealed, lawful-past_attempt, lawful-attempt, lawful-floor, lawful-no_member, lawful-received, lawful-struck, lawful-suspended, lawful-resumed, lawful-followed, lawful-made_secondary, lawful-made_primary, lawful-no_primary, lawful-no_secondary, lawful-taken_over, lawful-unsynced, lawful-mirrored, lawful-synced, lawful-thawed, lawful-lifted, lawful-restarted, lawful-taken, low-noted, lawful-noted, lawful-made, lawful-withdrawn, lawful-resynced, lawful-turned, lawful-given_up, lawful-flashed, lawful-committed, lawful-reverted}
+use Rattle.dr_laws.proofs.Sets.{In, in_cond, in_none, in_more, in_insert, still_in, false_true, none_some, not_turned, from_source, still_related, from_difference, from_union, to-difference, remove_from, not_removed, not_removed_from, empty_has}
 
 -- a part of some kind is one
 pub metro_part : (part : Part) → is_metro part ≡ true → is_part part ≡ true
@@ -36,13 +36,13 @@ kind_part kind Metro h = refl
 kind_part kind Global h = refl
 
 -- sets and flags, by their parts
-take-sets : (e : Bool) (t : ℕ) (own noted rewritten blank : Tracks) → In noted (λ q. contains (insert own t) q ≡ true) → In rewritten (λ q. contains (insert own t) q ≡ true) → In own (λ q. contains blank q ≡ false)
-    → SetsFit (cond e empty (insert own t)) (cond e empty noted) (cond e empty rewritten) (remove blank t)
-take-sets true t own noted rewritten blank first second apart = record { apart = in_none _; noted_held = in_none _; rewritten_held = in_none _ }
-take-sets false t own noted rewritten blank first second apart = record {
+take-sets : (e rev : Bool) (t : ℕ) (own noted rewritten blank : Tracks) → In noted (λ q. contains (insert own t) q ≡ true) → In rewritten (λ q. contains (insert own t) q ≡ true) → In own (λ q. contains blank q ≡ false)
+    → SetsFit (cond e false rev) (cond e empty (insert own t)) (cond e empty noted) (cond e empty rewritten) (remove blank t)
+take-sets true rev t own noted rewritten blank first second apart = record { apart = in_none _; noted_held = λ s. in_none _; rewritten_held = λ s. in_none _ }
+take-sets false rev t own noted rewritten blank first second apart = record {
   apart = in_more own t (λ q. contains (remove blank t) q ≡ false) (not_removed blank t) (λ q h. not_removed_from blank t q (apart q h));
-  noted_held = first;
-  rewritten_held = second;
+  noted_held = λ s. first;
+  rewritten_held = λ s. second;
 }
 
 held-more : (own s : Tracks) (t : ℕ) → In s (λ q. contains own q ≡ true) → In s (λ q. contains (insert own t) q ≡ true)
@@ -51,9 +51,9 @@ held-more own s t all q h = still_in own t q (all q h)
 held-noted : (r : Bool) (own s : Tracks) (t : ℕ) → In s (λ q. contains own q ≡ true) → In (cond r (insert s t) s) (λ q. contains (insert own t) q ≡ true)
 held-noted r own s t all = in_cond r (insert s t) s _ (in_more s t (λ q. contains (insert own t) q ≡ true) (in_insert own t) (held-more own s t all)) (held-more own s t all)
 
-part-sets : (e : Bool) (n : ℕ) (own noted rewritten blank : Tracks) → SetsFit own noted rewritten blank → SetsFit (cond e empty own) (cond e empty noted) (cond e empty rewritten) (cond e (rest n own) blank)
-part-sets true n own noted rewritten blank old = record { apart = in_none _; noted_held = in_none _; rewritten_held = in_none _ }
-part-sets false n own noted rewritten blank old = old
+part-sets : (e rev : Bool) (n : ℕ) (own noted rewritten blank : Tracks) → SetsFit rev own noted rewritten blank → SetsFit (cond e false rev) (cond e empty own) (cond e empty noted) (cond e empty rewritten) (cond e (rest n own) blank)
+part-sets true rev n own noted rewritten blank old = record { apart = in_none _; noted_held = λ s. in_none _; rewritten_held = λ s. in_none _ }
+part-sets false rev n own noted rewritten blank old = old
 
 take-flags : (e persistent recorded reversing : Bool) (own noted rewritten : Tracks) → (recorded ≡ true → persistent ≡ true) → reversing ≡ false
     → FlagsFit (cond e false persistent) (cond e false recorded) (cond e false reversing) own noted rewritten
@@ -73,6 +73,11 @@ part-flags : (e persistent recorded reversing : Bool) (own noted rewritten : Tra
     → FlagsFit (cond e false persistent) (cond e false recorded) (cond e false reversing) (cond e empty own) (cond e empty noted) (cond e empty rewritten)
 part-flags true persistent recorded reversing own noted rewritten is persists records unchanged = record { persists = λ h. h; records = λ h. h; unchanged = λ h t. (empty_has t, empty_has t); some = λ h. absurd cc }
 part-flags false persistent recorded reversing own noted rewritten is persists records unchanged = record { persists = persists; records = records; unchanged = unchanged; some = λ h. is }
+
+-- what is reversed isn't revertible
+pub revertible-not : (r : Bool) {b : Bool} → (r ≡ true → b ≡ false) → b ≡ true → r ≡ false
+revertible-not true forward is = false_true (forward refl) is
+revertible-not false forward is = refl
 
 -- a relationship that stands still is restored
 pub still_turned : (e related reversing : Bool) (o s : ℕ) → cond (cond e false related) (Some (cond e 0 o)) None ≡ Some s → cond e false reversing ≡ true → (cond related (Some o) None ≡ Some s) × (reversing ≡ true)
@@ -96,6 +101,7 @@ module _ (write : ℕ → Write) (T : Table) (old : Structure T) where
     pub lawful : Lawful y
     pub sets : RowSets y
     pub flags : RowFlags y
+    pub reverts : RowReverts y
     pub defined : RowDefined y
     pub from : (u : ℕ) → source y ≡ Some u → Flashed x y u (T u)
     pub loop : source y ≡ Some x → ⊥
@@ -113,6 +119,7 @@ module _ (write : ℕ → Write) (T : Table) (old : Structure T) where
     lawful = each-at T x y (λ v r. Lawful r) s.lawful old.lawful;
     sets = each-at T x y (λ v r. RowSets r) s.sets old.sets;
     flags = each-at T x y (λ v r. RowFlags r) s.flags old.flags;
+    reverts = each-at T x y (λ v r. RowReverts r) s.reverts old.reverts;
     defined = each-at T x y (λ v r. RowDefined r) s.defined old.defined;
     flash = linked-at T x y source Flashed (λ u ne. s.from u) (λ h. absurd (s.loop h)) (λ v ne. s.onto v) old.flash;
     one_restore = one-at x y s;
@@ -139,9 +146,6 @@ module _ (write : ℕ → Write) (T : Table) (old : Structure T) where
     parted-restores : (e : Bool) (s : ℕ) → cond (cond e false f.related) (Some (cond e 0 f.source)) None ≡ Some s → cond e false f.reversing ≡ true → (b : ℕ) → source (T b) ≡ Some s → (fields T b).reversing ≡ true → v ≡ b
     parted-restores e s h r b k q = let both = still_turned e f.related f.reversing f.source s h r in old.one_restore s v b both.0 k both.1 q
 
-    filled : (t q : ℕ) → contains f.own q ≡ true → contains (remove f.blank t) q ≡ false
-    filled t q h = not_removed_from f.blank t q ((old.sets v).apart q h)
-
   -- the row after a move, where it changes the parts in pairs and blank tracks alone
   abbrev paired_row : Move → Row
   paired_row m =
@@ -167,13 +171,20 @@ module _ (write : ℕ → Write) (T : Table) (old : Structure T) where
         }) (carried_on write m T);
         bytes = next_bytes write m T;
         due = next_due write m T;
+        aside = next_aside m T;
       }
 
-  paired : (m : Move) → Lawful (paired_row m) → ((q : ℕ) → contains (fields T (target m)).own q ≡ true → contains (next_fields m (volumes_of T)).blank q ≡ false) → Structure (at T (target m) (paired_row m))
-  paired m lawful apart = let v : ℕ = target m in structure-at v (paired_row m) (record {
+  -- what isn't blank doesn't become so
+  stays-full : (b c : Bool) → (b ≡ true → c ≡ true) → c ≡ false → b ≡ false
+  stays-full true c more full = false_true full (more refl)
+  stays-full false c more full = refl
+
+  paired : (m : Move) → Lawful (paired_row m) → ((q : ℕ) → contains (next_fields m (volumes_of T)).blank q ≡ true → contains (fields T (target m)).blank q ≡ true) → Structure (at T (target m) (paired_row m))
+  paired m lawful less = let v : ℕ = target m in structure-at v (paired_row m) (record {
     lawful = lawful;
-    sets = let s = old.sets v in record { apart = apart; noted_held = s.noted_held; rewritten_held = s.rewritten_held };
+    sets = let s = old.sets v in record { apart = λ q h. stays-full _ _ (less q) (s.apart q h); noted_held = s.noted_held; rewritten_held = s.rewritten_held };
     flags = old.flags v;
+    reverts = λ e. let r = old.reverts v e in record { records = r.records; forward = r.forward; apart = λ q h. stays-full _ _ (less q) (r.apart q h); noted_held = r.noted_held; rewritten_held = r.rewritten_held; unchanged = r.unchanged; kept = r.kept };
     defined = old.defined v;
     from = old.flash v;
     loop = no_loop v;
@@ -182,34 +193,35 @@ module _ (write : ℕ → Write) (T : Table) (old : Structure T) where
   })
 
   pub kept-structure : (m : Move) → Allowed write T m → Structure (after write T m)
-  kept-structure (Land w v t) a = paired (Land w v t) (lawful-written _ _ (old.lawful v) t a.low) (filled v t)
-  kept-structure (Restore v t u) a = paired (Restore v t u) (lawful-altered _ _ (old.lawful v) t a.low) (filled v t)
-  kept-structure (Store v t u last) a = paired (Store v t u last) (lawful-received _ _ (old.lawful v) last t (from_source _ _ u a.takes).0) (filled v t)
-  kept-structure (Strike v t last) a = paired (Strike v t last) (lawful-struck _ _ (old.lawful v) last t (from_source _ _ a.to a.sends).0) (old.sets v).apart
-  kept-structure (Suspend v busy) a = paired (Suspend v busy) (lawful-suspended _ _ (old.lawful v) busy a) (old.sets v).apart
-  kept-structure (MakeSecondary v u kind state) a = paired (MakeSecondary v u kind state) (lawful-made_secondary _ _ (old.lawful v) u kind state a.is_kind) (old.sets v).apart
-  kept-structure (MakePrimary v u kind state full) a = paired (MakePrimary v u kind state full) (lawful-made_primary _ _ (old.lawful v) u kind state full a.is_kind) (old.sets v).apart
-  kept-structure (DropPrimary v) a = paired (DropPrimary v) (lawful-no_primary _ _ (old.lawful v)) (old.sets v).apart
-  kept-structure (DropSecondary v) a = paired (DropSecondary v) (lawful-no_secondary _ _ (old.lawful v)) (old.sets v).apart
-  kept-structure (Follow v state) a = paired (Follow v state) (lawful-followed _ _ (old.lawful v) state a) (old.sets v).apart
-  kept-structure (Resume v state) a = paired (Resume v state) (lawful-resumed _ _ (old.lawful v) state a.first) (old.sets v).apart
-  kept-structure (TakeOver v) a = paired (TakeOver v) (lawful-taken_over _ _ (old.lawful v) a) (old.sets v).apart
-  kept-structure (Unsync v t) a = paired (Unsync v t) (lawful-unsynced _ _ (old.lawful v) t a.low (metro_part (fields T v).primary a.metro)) (old.sets v).apart
-  kept-structure (Mirror v t u w) a = paired (Mirror v t u w) (lawful-mirrored _ _ (old.lawful v) t) (filled v t)
-  kept-structure (LandBoth w v t) a = paired (LandBoth w v t) (lawful-synced _ _ (old.lawful v) t (from_source _ _ a.to a.sends).0) (filled v t)
-  kept-structure (Thaw v) a = paired (Thaw v) (lawful-thawed _ _ (old.lawful v)) (old.sets v).apart
-  kept-structure (Lift v) a = paired (Lift v) (lawful-lifted _ _ (old.lawful v)) (old.sets v).apart
-  kept-structure (Restart v) a = paired (Restart v) (lawful-restarted _ _ (old.lawful v)) (old.sets v).apart
-  kept-structure (Hold v s n first) a = paired (Hold v s n first) (lawful-held _ _ (old.lawful v) n (kind_part Global (fields T v).primary a.global)) (old.sets v).apart
-  kept-structure (Free v) a = paired (Free v) (lawful-freed _ _ (old.lawful v)) (old.sets v).apart
-  kept-structure (Seal v u s n) a = paired (Seal v u s n) (lawful-sealed _ _ (old.lawful v) n (from_source _ _ u a.takes).0) (old.sets v).apart
-  kept-structure (Finish v n) a = paired (Finish v n) (lawful-past_attempt _ _ (old.lawful v) n) (old.sets v).apart
-  kept-structure (RaiseAttempt v n) a = paired (RaiseAttempt v n) (lawful-attempt _ _ (old.lawful v) n) (old.sets v).apart
-  kept-structure (RaiseFloor v n) a = paired (RaiseFloor v n) (lawful-floor _ _ (old.lawful v) n) (old.sets v).apart
+  kept-structure (Land w v t) a = paired (Land w v t) (lawful-written _ _ (old.lawful v) t a.low) (λ q h. remove_from (fields T v).blank t q h)
+  kept-structure (Restore v t u) a = paired (Restore v t u) (lawful-altered _ _ (old.lawful v) t a.low) (λ q h. remove_from (fields T v).blank t q h)
+  kept-structure (Store v t u last) a = paired (Store v t u last) (lawful-received _ _ (old.lawful v) last t (from_source _ _ u a.takes).0) (λ q h. remove_from (fields T v).blank t q h)
+  kept-structure (Strike v t last) a = paired (Strike v t last) (lawful-struck _ _ (old.lawful v) last t (from_source _ _ a.to a.sends).0) (λ q h. h)
+  kept-structure (Suspend v busy) a = paired (Suspend v busy) (lawful-suspended _ _ (old.lawful v) busy a) (λ q h. h)
+  kept-structure (MakeSecondary v u kind state) a = paired (MakeSecondary v u kind state) (lawful-made_secondary _ _ (old.lawful v) u kind state a.is_kind) (λ q h. h)
+  kept-structure (MakePrimary v u kind state full) a = paired (MakePrimary v u kind state full) (lawful-made_primary _ _ (old.lawful v) u kind state full a.is_kind) (λ q h. h)
+  kept-structure (DropPrimary v) a = paired (DropPrimary v) (lawful-no_primary _ _ (old.lawful v)) (λ q h. h)
+  kept-structure (DropSecondary v) a = paired (DropSecondary v) (lawful-no_secondary _ _ (old.lawful v)) (λ q h. h)
+  kept-structure (Follow v state) a = paired (Follow v state) (lawful-followed _ _ (old.lawful v) state a) (λ q h. h)
+  kept-structure (Resume v state) a = paired (Resume v state) (lawful-resumed _ _ (old.lawful v) state a.first) (λ q h. h)
+  kept-structure (TakeOver v) a = paired (TakeOver v) (lawful-taken_over _ _ (old.lawful v) a) (λ q h. h)
+  kept-structure (Unsync v t) a = paired (Unsync v t) (lawful-unsynced _ _ (old.lawful v) t a.low (metro_part (fields T v).primary a.metro)) (λ q h. h)
+  kept-structure (Mirror v t u w) a = paired (Mirror v t u w) (lawful-mirrored _ _ (old.lawful v) t) (λ q h. remove_from (fields T v).blank t q h)
+  kept-structure (LandBoth w v t) a = paired (LandBoth w v t) (lawful-synced _ _ (old.lawful v) t (from_source _ _ a.to a.sends).0) (λ q h. remove_from (fields T v).blank t q h)
+  kept-structure (Thaw v) a = paired (Thaw v) (lawful-thawed _ _ (old.lawful v)) (λ q h. h)
+  kept-structure (Lift v) a = paired (Lift v) (lawful-lifted _ _ (old.lawful v)) (λ q h. h)
+  kept-structure (Restart v) a = paired (Restart v) (lawful-restarted _ _ (old.lawful v)) (λ q h. h)
+  kept-structure (Hold v s n first) a = paired (Hold v s n first) (lawful-held _ _ (old.lawful v) n (kind_part Global (fields T v).primary a.global)) (λ q h. h)
+  kept-structure (Free v) a = paired (Free v) (lawful-freed _ _ (old.lawful v)) (λ q h. h)
+  kept-structure (Seal v u s n) a = paired (Seal v u s n) (lawful-sealed _ _ (old.lawful v) n (from_source _ _ u a.takes).0) (λ q h. h)
+  kept-structure (Finish v n) a = paired (Finish v n) (lawful-past_attempt _ _ (old.lawful v) n) (λ q h. h)
+  kept-structure (RaiseAttempt v n) a = paired (RaiseAttempt v n) (lawful-attempt _ _ (old.lawful v) n) (λ q h. h)
+  kept-structure (RaiseFloor v n) a = paired (RaiseFloor v n) (lawful-floor _ _ (old.lawful v) n) (λ q h. h)
   kept-structure (Leave v u s) a = structure-at v _ (record {
     lawful = lawful-no_member _ _ (old.lawful v);
     sets = let s = old.sets v in record { apart = s.apart; noted_held = s.noted_held; rewritten_held = s.rewritten_held };
     flags = let g = old.flags v in record { persists = g.persists; records = g.records; unchanged = g.unchanged; some = g.some };
+    reverts = λ e. let r = old.reverts v e in record { records = r.records; forward = r.forward; apart = r.apart; noted_held = r.noted_held; rewritten_held = r.rewritten_held; unchanged = r.unchanged; kept = r.kept };
     defined = old.defined v;
     from = old.flash v;
     loop = no_loop v;
@@ -218,8 +230,9 @@ module _ (write : ℕ → Write) (T : Table) (old : Structure T) where
   })
   kept-structure (Overwrite w v t) a = let f : Fields = fields T v in let n : ℕ = (T v).volume.tracks in let e : Bool = is_whole n (insert f.own t) && not f.persistent in let sets = old.sets v in let flags = old.flags v in let low = (old.lawful v).sets in structure-at v _ (record {
     lawful = lawful-taken n f (old.lawful v) e t _ _ (from_source f.related f.source a.from a.related).0 a.low low.source_changes_low (low-noted n f (old.lawful v) f.target_changes t a.low low.target_changes_low);
-    sets = take-sets e t f.own _ _ f.blank (held-more f.own _ t sets.noted_held) (held-noted f.recorded f.own _ t sets.rewritten_held) sets.apart;
+    sets = take-sets e f.revertible t f.own _ _ f.blank (held-more f.own _ t (sets.noted_held a.settled)) (held-noted f.recorded f.own _ t (sets.rewritten_held a.settled)) sets.apart;
     flags = take-flags e f.persistent f.recorded f.reversing _ _ _ flags.persists a.forward;
+    reverts = λ h. not_turned e f.revertible a.settled h;
     defined = part-defined e f.related (old.defined v);
     from = parted-from v e;
     loop = parted-loop v e;
@@ -228,8 +241,9 @@ module _ (write : ℕ → Write) (T : Table) (old : Structure T) where
   })
   kept-structure (Keep v t) a = let f : Fields = fields T v in let n : ℕ = (T v).volume.tracks in let e : Bool = is_whole n (insert f.own t) && not f.persistent in let sets = old.sets v in let flags = old.flags v in let low = (old.lawful v).sets in structure-at v _ (record {
     lawful = lawful-taken n f (old.lawful v) e t _ _ (from_source f.related f.source a.from a.related).0 a.low (low-noted n f (old.lawful v) f.source_changes t a.low low.source_changes_low) low.target_changes_low;
-    sets = take-sets e t f.own _ _ f.blank (held-noted f.recorded f.own _ t sets.noted_held) (held-more f.own _ t sets.rewritten_held) sets.apart;
+    sets = take-sets e f.revertible t f.own _ _ f.blank (held-noted f.recorded f.own _ t (sets.noted_held a.settled)) (held-more f.own _ t (sets.rewritten_held a.settled)) sets.apart;
     flags = take-flags e f.persistent f.recorded f.reversing _ _ _ flags.persists a.forward;
+    reverts = λ h. not_turned e f.revertible a.settled h;
     defined = part-defined e f.related (old.defined v);
     from = parted-from v e;
     loop = parted-loop v e;
@@ -238,8 +252,9 @@ module _ (write : ℕ → Write) (T : Table) (old : Structure T) where
   })
   kept-structure (Fetch v t) a = let f : Fields = fields T v in let n : ℕ = (T v).volume.tracks in let e : Bool = is_whole n (insert f.own t) && not f.persistent in let sets = old.sets v in let flags = old.flags v in let low = (old.lawful v).sets in structure-at v _ (record {
     lawful = lawful-taken n f (old.lawful v) e t _ _ (from_source f.related f.source a.from a.related).0 a.low low.source_changes_low low.target_changes_low;
-    sets = take-sets e t f.own _ _ f.blank (held-more f.own _ t sets.noted_held) (held-more f.own _ t sets.rewritten_held) sets.apart;
+    sets = take-sets e f.revertible t f.own _ _ f.blank (held-more f.own _ t (sets.noted_held a.settled)) (held-more f.own _ t (sets.rewritten_held a.settled)) sets.apart;
     flags = take-flags e f.persistent f.recorded f.reversing _ _ _ flags.persists a.forward;
+    reverts = λ h. not_turned e f.revertible a.settled h;
     defined = part-defined e f.related (old.defined v);
     from = parted-from v e;
     loop = parted-loop v e;
@@ -248,8 +263,9 @@ module _ (write : ℕ → Write) (T : Table) (old : Structure T) where
   })
   kept-structure (Note v t) a = let f : Fields = fields T v in let n : ℕ = (T v).volume.tracks in let sets = old.sets v in let flags = old.flags v in structure-at v _ (record {
     lawful = lawful-noted n f (old.lawful v) t (from_source f.related f.source a.from a.related).0 a.low;
-    sets = record { apart = sets.apart; noted_held = in_cond f.recorded _ _ _ (in_more f.source_changes t (λ q. contains f.own q ≡ true) a.held sets.noted_held) sets.noted_held; rewritten_held = sets.rewritten_held };
+    sets = record { apart = sets.apart; noted_held = λ s. in_cond f.recorded _ _ _ (in_more f.source_changes t (λ q. contains f.own q ≡ true) a.held (sets.noted_held s)) (sets.noted_held s); rewritten_held = sets.rewritten_held };
     flags = record { persists = flags.persists; records = flags.records; unchanged = λ h. false_true a.forward h; some = flags.some };
+    reverts = λ h. false_true a.settled h;
     defined = old.defined v;
     from = old.flash v;
     loop = no_loop v;
@@ -258,8 +274,9 @@ module _ (write : ℕ → Write) (T : Table) (old : Structure T) where
   })
   kept-structure (Relate v s c) a = let f : Fields = fields T v in let n : ℕ = (T v).volume.tracks in structure-at v _ (record {
     lawful = lawful-made n f (old.lawful v) s c;
-    sets = record { apart = in_none _; noted_held = in_none _; rewritten_held = in_none _ };
+    sets = record { apart = in_none _; noted_held = λ s. in_none _; rewritten_held = λ s. in_none _ };
     flags = record { persists = either c.persistent c.recorded; records = λ h. absurd cc; unchanged = λ h. absurd cc; some = λ h. absurd cc };
+    reverts = λ h. absurd cc;
     defined = λ h. a.defined;
     from = λ u h. let same = (from_source true s u h).1 in subst (λ j. Flashed v (T v) j (T j)) same (record { defined = a.from_defined; plain = a.from_plain; same_tracks = a.tracks; same_server = a.server });
     loop = λ h. a.apart (from_source true s v h).1;
@@ -272,8 +289,9 @@ module _ (write : ℕ → Write) (T : Table) (old : Structure T) where
       either false r h = h
   kept-structure (Withdraw v) a = let f : Fields = fields T v in let n : ℕ = (T v).volume.tracks in structure-at v _ (record {
     lawful = lawful-withdrawn n f (old.lawful v) true (from_source f.related f.source a.from a.related).0;
-    sets = part-sets true n f.own _ _ f.blank (old.sets v);
+    sets = part-sets true f.revertible n f.own _ _ f.blank (old.sets v);
     flags = record { persists = λ h. absurd cc; records = λ h. absurd cc; unchanged = λ h. absurd cc; some = λ h. absurd cc };
+    reverts = λ h. absurd cc;
     defined = λ h. absurd cc;
     from = parted-from v true;
     loop = parted-loop v true;
@@ -282,23 +300,25 @@ module _ (write : ℕ → Write) (T : Table) (old : Structure T) where
   })
   kept-structure (Resync v sequence) a = let f : Fields = fields T v in let n : ℕ = (T v).volume.tracks in let sets = old.sets v in let flags = old.flags v in structure-at v _ (record {
     lawful = lawful-resynced n f (old.lawful v) sequence (from_source f.related f.source a.from a.related).0;
-    sets = record { apart = λ q h. sets.apart q (from_difference _ _ q (from_difference _ _ q h).0).0; noted_held = in_none _; rewritten_held = in_none _ };
+    sets = record { apart = λ q h. sets.apart q (from_difference _ _ q (from_difference _ _ q h).0).0; noted_held = λ s. in_none _; rewritten_held = λ s. in_none _ };
     flags = record { persists = flags.persists; records = flags.records; unchanged = λ h. false_true a.forward h; some = λ h. false_true a.forward h };
+    reverts = λ h. false_true a.settled h;
     defined = old.defined v;
     from = old.flash v;
     loop = no_loop v;
     onto = λ u. old.flash u v;
     restores = stays-restores v;
   })
-  kept-structure (Reverse v) a = let f : Fields = fields T v in let n : ℕ = (T v).volume.tracks in let sets = old.sets v in let flags = old.flags v in let e : Bool = is_bare (turned f).own in
+  kept-structure (Reverse v left) a = let f : Fields = fields T v in let n : ℕ = (T v).volume.tracks in let sets = old.sets v in let flags = old.flags v in let e : Bool = is_bare (turned f).own in
       let related = (from_source f.related f.source a.resync.from a.resync.related).0 in structure-at v _ (record {
         lawful = lawful-withdrawn n (turned f) (lawful-turned n f (old.lawful v) related) e related;
-        sets = part-sets e n (turned f).own empty empty f.blank (record {
-          apart = from_union _ _ (λ q. contains f.blank q ≡ false) (λ q h. sets.apart q (sets.noted_held q h)) (λ q h. sets.apart q (sets.rewritten_held q h));
-          noted_held = in_none _;
-          rewritten_held = in_none _;
+        sets = part-sets e f.revertible n (turned f).own empty empty f.blank (record {
+          apart = from_union _ _ (λ q. contains f.blank q ≡ false) (λ q h. sets.apart q (sets.noted_held a.resync.settled q h)) (λ q h. sets.apart q (sets.rewritten_held a.resync.settled q h));
+          noted_held = λ s. in_none _;
+          rewritten_held = λ s. in_none _;
         });
         flags = part-flags e f.persistent f.recorded true (turned f).own empty empty refl flags.persists (λ h. a.resync.recorded) (λ h t. (empty_has t, empty_has t));
+        reverts = λ h. not_turned e f.revertible a.resync.settled h;
         defined = part-defined e f.related (old.defined v);
         from = parted-from v e;
         loop = parted-loop v e;
@@ -309,18 +329,52 @@ module _ (write : ℕ → Write) (T : Table) (old : Structure T) where
   kept-structure (Release v t) a = let f : Fields = fields T v in let n : ℕ = (T v).volume.tracks in let sets = old.sets v in let flags = old.flags v in let e : Bool = is_bare (given_up f t).own in
       let related = (from_source f.related f.source a.from a.related).0 in structure-at v _ (record {
         lawful = lawful-withdrawn n (given_up f t) (lawful-given_up n f (old.lawful v) t related) e related;
-        sets = part-sets e n (given_up f t).own _ _ f.blank (record {
+        sets = part-sets e f.revertible n (given_up f t).own _ _ f.blank (record {
           apart = λ q h. sets.apart q (remove_from f.own t q h);
-          noted_held = λ q h. false_true (flags.unchanged a.reversing q).0 h;
-          rewritten_held = λ q h. false_true (flags.unchanged a.reversing q).1 h;
+          noted_held = λ s q h. false_true (flags.unchanged a.reversing q).0 h;
+          rewritten_held = λ s q h. false_true (flags.unchanged a.reversing q).1 h;
         });
         flags = part-flags e f.persistent f.recorded f.reversing (given_up f t).own _ _ refl flags.persists flags.records flags.unchanged;
+        reverts = λ h. not_turned e f.revertible (revertible-not (f.revertible) (λ i. (old.reverts v i).forward) a.reversing) h;
         defined = part-defined e f.related (old.defined v);
         from = parted-from v e;
         loop = parted-loop v e;
         onto = λ u. no_targets v a.from u a.related;
         restores = parted-restores v e;
       })
+  kept-structure (Flash v u a s n) b = let f : Fields = fields T v in let sets = old.sets v in let flags = old.flags v in let r = b.resync in structure-at v _ (record {
+    lawful = lawful-flashed _ f (old.lawful v) s n (from_source f.related f.source r.from r.related).0;
+    sets = record { apart = λ q h. sets.apart q (from_difference _ _ q (from_difference _ _ q h).0).0; noted_held = λ e. absurd cc; rewritten_held = λ e. absurd cc };
+    flags = record { persists = flags.persists; records = flags.records; unchanged = flags.unchanged; some = λ h. false_true r.forward h };
+    reverts = λ e. record { records = r.recorded; forward = r.forward; apart = sets.apart; noted_held = sets.noted_held r.settled; rewritten_held = sets.rewritten_held r.settled; unchanged = λ q h. let outer = from_difference _ _ q h in ((from_difference _ _ q outer.0).1, outer.1); kept = λ q h n w. to-difference _ _ q (to-difference _ _ q h n) w };
+    defined = old.defined v;
+    from = old.flash v;
+    loop = no_loop v;
+    onto = λ u. old.flash u v;
+    restores = stays-restores v;
+  })
+  kept-structure (Commit v a s n) b = let f : Fields = fields T v in let sets = old.sets v in let flags = old.flags v in structure-at v _ (record {
+    lawful = lawful-committed _ f (old.lawful v) n (from_source f.related f.source b.from b.related).0;
+    sets = record { apart = sets.apart; noted_held = λ s. in_none _; rewritten_held = λ s. in_none _ };
+    flags = record { persists = flags.persists; records = flags.records; unchanged = λ h t. (empty_has t, empty_has t); some = flags.some };
+    reverts = λ h. absurd cc;
+    defined = old.defined v;
+    from = old.flash v;
+    loop = no_loop v;
+    onto = λ u. old.flash u v;
+    restores = stays-restores v;
+  })
+  kept-structure (Revert v a s n) b = let f : Fields = fields T v in let flags = old.flags v in let r = old.reverts v b.revertible in structure-at v _ (record {
+    lawful = lawful-reverted _ f (old.lawful v) n (from_source f.related f.source b.from b.related).0;
+    sets = record { apart = r.apart; noted_held = λ e. r.noted_held; rewritten_held = λ e. r.rewritten_held };
+    flags = record { persists = flags.persists; records = flags.records; unchanged = flags.unchanged; some = λ h. false_true r.forward h };
+    reverts = λ h. absurd cc;
+    defined = old.defined v;
+    from = old.flash v;
+    loop = no_loop v;
+    onto = λ u. old.flash u v;
+    restores = stays-restores v;
+  })
 
   -- so the fields that a move leaves are lawful
   pub lawful-left : (m : Move) → Allowed write T m → IsLawful (T (target m)).volume.tracks (next_fields m (volumes_of T))

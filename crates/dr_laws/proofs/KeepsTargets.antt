@@ -94,7 +94,7 @@ module _ (k : Control) (old : FewTargets k) where
   few-after (Keep x t) c fits = let u : Volume = k.volume x in no-more x _ (λ v. parted-copies _ u.fields.related u.fields.source v)
   few-after (Fetch x t) c fits = let u : Volume = k.volume x in no-more x _ (λ v. parted-copies _ u.fields.related u.fields.source v)
   few-after (Withdraw x) c fits = let u : Volume = k.volume x in no-more x _ (λ v. parted-copies true u.fields.related u.fields.source v)
-  few-after (Reverse x) c fits = let u : Volume = k.volume x in no-more x _ (λ v. parted-copies (is_bare (turned u.fields).own) u.fields.related u.fields.source v)
+  few-after (Reverse x left) c fits = let u : Volume = k.volume x in no-more x _ (λ v. parted-copies (is_bare (turned u.fields).own) u.fields.related u.fields.source v)
   few-after (Release x t) c fits = let u : Volume = k.volume x in no-more x _ (λ v. parted-copies (is_bare (given_up u.fields t).own) u.fields.related u.fields.source v)
   few-after m c fits = no-more (target m) _ (λ v h. h)
 

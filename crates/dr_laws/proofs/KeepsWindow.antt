@@ -1,5 +1,5 @@
 -- A freeze window lasts in each kind of move that is fair, whether or not its server stops in it.
-use Rattle.std.proofs.Common.{ℕ, ◌≡◌, ◌≢◌, ◌⊎◌, inl, inr, refl, ap, sym, ◌∙◌, Bool, true, false, cond, ◌||◌, List, [], ◌∷◌, ◌++◌, map, Option, Some, rules}
+use Rattle.std.proofs.Common.{ℕ, ◌≡◌, ◌≢◌, ◌⊎◌, inl, inr, refl, ap, sym, ◌∙◌, Bool, true, false, cond, ◌||◌, List, [], ◌∷◌, ◌++◌, map, Option, Some, rules, None}
 use Rattle.std.proofs.lemmas.List.Folds.{list_any-append}
 use Rattle.std.proofs.lemmas.List.Sums.{fold-append}
 use Rattle.std.proofs.lemmas.Bool.{and_from, ne_eqb}
@@ -14,7 +14,7 @@ use Rattle.dr_model.specs.Layout.{Tracks, Fields, is_part}
 use Rattle.dr_model.specs.Relations.{rest, in_order, is_bare, turned, given_up}
 use Rattle.dr_model.specs.Control.{Pending, Volume, Fuse, World}
 use Rattle.dr_model.specs.Pairs.{secondary_of, is_metro, is_suspended, is_engaged}
-use Rattle.dr_model.specs.Moves.{Move, Land, Overwrite, Keep, Relate, Withdraw, Fetch, Resync, Reverse, Restore, Release, Store, Strike, Suspend, MakePrimary, DropPrimary, TakeOver, Unsync, Mirror, LandBoth, Lift, Restart, Hold, Seal, Finish, Leave, target, told, told_in_stop, told_blank, settled, settled_in_stop, moved, tracks_after}
+use Rattle.dr_model.specs.Moves.{Move, Land, Overwrite, Keep, Relate, Withdraw, Fetch, Resync, Reverse, Restore, Release, Store, Strike, Suspend, MakePrimary, DropPrimary, TakeOver, Unsync, Mirror, LandBoth, Lift, Restart, Hold, Seal, Finish, Leave, Flash, Commit, Revert, target, told, told_in_stop, told_blank, settled, settled_in_stop, moved, tracks_after}
 use Rattle.dr_model.specs.Entries.{fields_at}
 use Rattle.dr_model.specs.Table.{Table, table, waiting}
 use Rattle.dr_model.specs.Rows.{next_bytes}
@@ -112,7 +112,8 @@ silent-told (Overwrite n v t) u m = absurd m
 silent-told (Mirror v t x n) u m = absurd m
 silent-told (LandBoth n v t) u m = absurd m
 silent-told (Withdraw v) u m = silent-blank v (in_order u.tracks (rest u.tracks u.fields.own))
-silent-told (Reverse v) u m = silent-restored (is_bare (turned u.fields).own) v u.fields.source u.tracks (turned u.fields).own
+silent-told (Reverse v None) u m = silent-restored (is_bare (turned u.fields).own) v u.fields.source u.tracks (turned u.fields).own
+silent-told (Reverse v (Some p)) u m = (tt, silent-restored (is_bare (turned u.fields).own) v u.fields.source u.tracks (turned u.fields).own)
 silent-told (Release v t) u m = silent-restored (is_bare (given_up u.fields t).own) v u.fields.source u.tracks (given_up u.fields t).own
 silent-told (Suspend v busy) u m = silent-suspended (is_suspended u.fields.primary_state) v
 silent-told (Keep v t) u m = (tt, tt)
@@ -125,6 +126,9 @@ silent-told (TakeOver v) u m = (tt, tt)
 silent-told (Hold v s n first) u m = silent-held first v s n
 silent-told (Seal v x s n) u m = (tt, tt)
 silent-told (Leave v x s) u m = (tt, tt)
+silent-told (Flash v x a s n) u m = (tt, tt)
+silent-told (Commit v a s n) u m = (tt, tt)
+silent-told (Revert v a s n) u m = (tt, tt)
 silent-told m u k = tt
 
 module _ (v q : ℕ) (w : World) (rows : SoundRows (table w)) (st : Stays v q w) where
@@ -185,7 +189,7 @@ module _ (v q : ℕ) (w : World) (rows : SoundRows (table w)) (st : Stays v q w)
     own-bytes (Keep x t) a fair else ours j = no-target x a.from ours a.related
     own-bytes (Withdraw x) a fair else ours j = no-target x a.from ours a.related
     own-bytes (Fetch x t) a fair else ours j = no-target x a.from ours a.related
-    own-bytes (Reverse x) a fair else ours j = no-target x a.resync.from ours a.resync.related
+    own-bytes (Reverse x left) a fair else ours j = no-target x a.resync.from ours a.resync.related
     own-bytes (Release x t) a fair else ours j = no-target x a.from ours a.related
     own-bytes (Restore x t u) a fair else (inl e) j = absurd (else.0 e)
     own-bytes (Restore x t u) a fair else (inr e) j = absurd (else.1 e)

@@ -95,6 +95,19 @@ unrestored w s v settled u h r =
     false_true (or_parts ((fields_at w.control v).related && (fields_at w.control v).reversing) _ calm).1
     (any-has (λ u. copies_from v (fields_at w.control u)) (λ u. (fields_at w.control u).reversing) u w.control.volumes (s.rows.structure.defined u (from_source _ _ v h).0) (from-copies v (fields_at w.control u) h) r)
 
+-- no target of a volume is revertible
+abbrev pub Unflashed : World → ℕ → Type 0
+Unflashed w v = (u : ℕ) → from w u ≡ Some v → (fields_at w.control u).revertible ≡ true → ⊥
+
+-- as where none stands in the way
+pub unflashed-by : (w : World) → Sound w → (v : ℕ) → stands_in is_revertible w.control v ≡ false → Unflashed w v
+unflashed-by w s v calm u h r =
+    false_true (or_parts ((fields_at w.control v).related && (fields_at w.control v).revertible) _ calm).1
+    (any-has (λ u. copies_from v (fields_at w.control u)) (λ u. (fields_at w.control u).revertible) u w.control.volumes (s.rows.structure.defined u (from_source _ _ v h).0) (from-copies v (fields_at w.control u) h) r)
+
+pub unflashed : (w : World) → Sound w → (v : ℕ) → is_settled v w.control ≡ true → Unflashed w v
+unflashed w s v settled = unflashed-by w s v (both-not (stands_in is_revertible w.control v) (stands_in is_reversing w.control v) settled).0
+
 module _ (w : World) (s : Sound w) (p : Pending) (one : filter (is_write p.w) w.control.pending ≡ p ∷ []) where
   abbrev v : ℕ
   v = p.volume
@@ -103,8 +116,8 @@ module _ (w : World) (s : Sound w) (p : Pending) (one : filter (is_write p.w) w.
   f = fields_at w.control v
 
   -- on a volume that is no target, onto which nothing is restored, and whose targets keep the track first
-  pub plain-lands : Runs w v → is_part f.secondary ≡ false → f.related ≡ false → f.coordination ≡ false → (f.recording ≡ true → contains f.out_of_sync p.track ≡ false) → Unrestored w v → Along w (land_alone w.control.volumes p.w v p.track)
-  plain-lands on free is open_to sent still =
+  pub plain-lands : Runs w v → is_part f.secondary ≡ false → f.related ≡ false → f.coordination ≡ false → (f.recording ≡ true → contains f.out_of_sync p.track ≡ false) → Unrestored w v → Unflashed w v → Along w (land_alone w.control.volumes p.w v p.track)
+  plain-lands on free is open_to sent still settled =
       let plain : from w v ≡ None = no_source f.related f.source is in
       copy-first v p.track w plain (waits w s p one).low on (keep_on v p.track) (λ w x y st. refl) _
       (λ k sk st kept.
@@ -117,19 +130,20 @@ module _ (w : World) (s : Sound w) (p : Pending) (one : filter (is_write p.w) w.
         record { runs = on_k; allowed = record { low = waits_k.low; defined = waits_k.defined; plain = no_source _ _ is_k; first = ap (λ (x : Volume). is_part x.fields.secondary) here ∙ free; kept = kept; free = ap (λ (x : Volume). x.fields.coordination) here ∙ open_to; sent = λ r. ap (λ (x : Volume). contains x.fields.out_of_sync p.track) here ∙ sent (ap (λ (x : Volume). x.fields.recording) (sym here) ∙ r) }; fits = tt; group = tt; ready = may-ack k sk p one_k on_k },
         λ f j. over _ j,
       ))
-      (λ u h r. absurd (still u h r)) s
+      (λ u h r. absurd (still u h r)) settled s
 
   -- on a target, which isn't restored
-  target-lands : Runs w v → f.related ≡ true → f.reversing ≡ false → Along w (land_alone w.control.volumes p.w v p.track)
-  target-lands on is forward =
+  target-lands : Runs w v → f.related ≡ true → f.reversing ≡ false → f.revertible ≡ false → Along w (land_alone w.control.volumes p.w v p.track)
+  target-lands on is forward settled =
       let related : from w v ≡ Some f.source = has_source f.related f.source is in
       copy-none w v p.track _ (λ u h. none_some (s.rows.structure.flash u v h).plain related)
       (decides w (land_on p.w v p.track) [] (Do (Make (Overwrite p.w v p.track))) (ap (λ b. Do (Make (cond b (Overwrite p.w v p.track) (Land p.w v p.track)))) is) (
-        record { runs = on; allowed = record { low = (waits w s p one).low; from = f.source; related = related; forward = forward }; fits = tt; group = tt; ready = may-ack w s p one on },
+        record { runs = on; allowed = record { low = (waits w s p one).low; from = f.source; related = related; forward = forward; settled = settled }; fits = tt; group = (s.rows.structure.flags v).persists; ready = may-ack w s p one on },
         λ f j. over _ j,
       )) w.control.volumes
 
   -- on either: a volume that is settled isn't restored, nor is another onto it
   pub lands-alone : Runs w v → is_part f.secondary ≡ false → is_settled v w.control ≡ true → f.coordination ≡ false → (f.recording ≡ true → contains f.out_of_sync p.track ≡ false) → (b : Bool) → f.related ≡ b → Along w (land_alone w.control.volumes p.w v p.track)
   lands-alone on free settled open_to sent true is = target-lands on is (and-false f.related f.reversing (or_parts (f.related && f.reversing) _ (both-not (stands_in is_revertible w.control v) (stands_in is_reversing w.control v) settled).1).0 is)
-  lands-alone on free settled open_to sent false is = plain-lands on free is open_to sent (λ u h r. unrestored w s v settled u h r)
+      (and-false f.related f.revertible (or_parts (f.related && f.revertible) _ (both-not (stands_in is_revertible w.control v) (stands_in is_reversing w.control v) settled).0).0 is)
+  lands-alone on free settled open_to sent false is = plain-lands on free is open_to sent (λ u h r. unrestored w s v settled u h r) (unflashed w s v settled)

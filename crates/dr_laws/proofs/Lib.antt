@@ -13,11 +13,14 @@ pub mod KeepsRecorders
 pub mod KeepsPairs
 pub mod KeepsTargets
 pub mod KeepsQueue
-pub mod KeepsGroups
+pub mod KeepsSeals
+pub mod KeepsAsides
+mod KeepsGroups
 pub mod Along
 pub mod KeepsSound
 pub mod Views
 pub mod CopyFirst
+pub mod Counting
 pub mod Lands
 pub mod FitsFlash
 pub mod FitsCopy
@@ -74,3 +77,6 @@ pub mod Rides
 pub mod Riders
 pub mod SealsAlong
 pub mod Seals
+pub mod BothViews
+pub mod Decided
+pub mod SealsFound

@@ -10,7 +10,7 @@ use Rattle.dr_model.specs.declared.step.Step.{Step}
 use Rattle.dr_model.specs.Answers.{answer}
 use Rattle.dr_model.specs.Limits.{most_events, step_events, most_servers, most_volumes, most_tracks, most_pending}
 use Rattle.dr_model.specs.Control.{Control, World, nothing}
-use Rattle.dr_model.specs.Plans.{Plan, plan, plan_of, is_built, is_later, has_room, only_says, refuses}
+use Rattle.dr_model.specs.Plans.{Plan, plan, plan_of, is_built, has_room, only_says, refuses}
 use Rattle.dr_model.specs.Runs.{Task, said, after_plan, after_task, after_tasks, run}
 use Rattle.dr_model.proofs.CarryLemmas.{plan-says}
 use Rattle.dr_model.specs.Laws.{Sound}
@@ -41,15 +41,14 @@ pub within-run : (tasks : List Task) → IsWithin (run tasks).control
 within-run tasks = within-tasks nothing tasks (record { servers = omega arith; volumes = omega arith; pending = omega arith; tracks = λ v. omega arith })
 
 -- there is room, or a step only answers
-room-by : (k : Control) (events : List Event) (line : ℕ) (step : Step) (built later room : Bool) → has_room events ≡ room
-    → (has_room events ≡ true) ⊎ ((a : Said) × (cond (not built) (refuses NotBuilt) (cond later (refuses NotBuilt) (cond room (plan_of k events line step) (refuses JournalFull))) ≡ only_says a))
-room-by k events line step built later true is = inl is
-room-by k events line step true true false is = inr (Refused NotBuilt, refl)
-room-by k events line step true false false is = inr (Refused JournalFull, refl)
-room-by k events line step false later false is = inr (Refused NotBuilt, refl)
+room-by : (k : Control) (events : List Event) (line : ℕ) (step : Step) (built room : Bool) → has_room events ≡ room
+    → (has_room events ≡ true) ⊎ ((a : Said) × (cond (not built) (refuses NotBuilt) (cond room (plan_of k events line step) (refuses JournalFull)) ≡ only_says a))
+room-by k events line step built true is = inl is
+room-by k events line step true false is = inr (Refused JournalFull, refl)
+room-by k events line step false false is = inr (Refused NotBuilt, refl)
 
 plan-room : (k : Control) (events : List Event) (line : ℕ) (asked : Result Step ℕ) → (has_room events ≡ true) ⊎ ((a : Said) × (plan k events line asked ≡ only_says a))
-plan-room k events line (Ok step) = room-by k events line step (is_built step) (is_later k step) (has_room events) refl
+plan-room k events line (Ok step) = room-by k events line step (is_built step) (has_room events) refl
 plan-room k events line (Err column) = inr (Refused (Syntax column), refl)
 
 fits-room : (w : World) (t : Task) → Sound w → IsWithin w.control → has_room w.events ≡ true → length (after_task w t).events ≤ most_events

@@ -31,7 +31,7 @@ suspended-once false v = omega arith
 pub suspend-once : (v : ℕ) (busy : Bool) (u : Volume) → length (told (Suspend v busy) u) ≤ 1
 suspend-once v busy u = suspended-once (is_suspended u.fields.primary_state) v
 
-costs-refused : (n : ℕ) (w : World) (why : Control → Option Refusal) (ds : List Entry) → Costs n w ds → Costs n w (refuse_if why ∷ ds)
+pub costs-refused : (n : ℕ) (w : World) (why : Control → Option Refusal) (ds : List Entry) → Costs n w ds → Costs n w (refuse_if why ∷ ds)
 costs-refused n w why ds c = costs-entry n w (refuse_if why) ds _ refl (by (why w.control))
   where
     by : (o : Option Refusal) → costs_next n w (end_if o) (λ m v. Costs m v ds)

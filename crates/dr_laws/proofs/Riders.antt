@@ -15,7 +15,7 @@ use Rattle.dr_model.specs.SessionEntries.{members_on}
 use Rattle.dr_model.specs.SessionPlans.{with_sessions, answered_by}
 use Rattle.dr_model.specs.Plans.{Plan, plan, same, always, none_follow, entries_plan, write_done, apply_done, drain_plan, start_plan}
 use Rattle.dr_model.specs.Runs.{Task, begun, carried_out, answered, said, after_plan, after_task, after_tasks}
-use Rattle.dr_model.specs.Table.{table, due_by}
+use Rattle.dr_model.specs.Table.{table, due_by, aside_by}
 use Rattle.dr_model.specs.Laws.{Sound}
 use Rattle.dr_model.proofs.Images.{histories-append}
 use Rattle.dr_cuts.specs.Once.{NoCuts}
@@ -51,7 +51,7 @@ unheard w u more events quiet lists contents volume volumes pending issued = rec
   events = events;
   quiet = quiet;
   lists = ap histories events ∙ lists;
-  rows = λ i v. record { defined = list_any (nat_eq v) (volumes i); volume = volume i v; bytes = contents i v; due = λ q. due_by ((ap histories events ∙ lists) i) (pending i) v q };
+  rows = λ i v. record { defined = list_any (nat_eq v) (volumes i); volume = volume i v; bytes = contents i v; due = λ q. due_by ((ap histories events ∙ lists) i) (pending i) v q; aside = aside_by ((ap histories events ∙ lists) i) v };
   issued = issued;
 }
 

@@ -83,7 +83,7 @@ module _ (x : ℕ) where
   cuts-acknowledged w n j k may =
       subst (λ n. SoundCuts (acknowledged w n)) may.number
       (sound-told w k (acknowledged w may.waits.w) (Ack may.waits.w ∷ []) (tt, tt) refl (with-told w (Ack may.waits.w ∷ []) refl) refl
-      (λ i v. record (table w v) { due = λ q. starts.same-due x w j.sound may.waits may.first v q i }))
+      (λ i v. record (table w v) { due = λ q. starts.same-due x w j.sound may.waits may.first v q i; aside = λ q. starts.same-aside x w j.sound may.waits may.first v q i }))
 
   start-acts : Rides (starts.Inner x) SoundCuts (starts.MayStart x)
   start-acts = record { does = does; counts = counts; opens = λ w v i n f j k may. absurd may; fails = λ w a f d j k may. cuts-not w _ f k }

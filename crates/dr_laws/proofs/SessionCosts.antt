@@ -6,11 +6,11 @@ use Rattle.dr_ids.specs.declared.refusal.Refusal.{Refusal}
 use Rattle.dr_model.specs.Pairs.{records}
 use Rattle.dr_model.specs.Phases.{Work, Hold, Release, Seal, Flash, Commit, Revert, Finish, Report}
 use Rattle.dr_model.specs.Control.{Control, World}
-use Rattle.dr_model.specs.Moves.{Hold as HoldMove, Free, Seal as SealMove, Finish as FinishMove, RaiseAttempt, RaiseFloor}
+use Rattle.dr_model.specs.Moves.{Hold as HoldMove, Free, Seal as SealMove, Finish as FinishMove, RaiseAttempt, RaiseFloor, Flash as FlashMove, Commit as CommitMove, Revert as RevertMove}
 use Rattle.dr_model.specs.Carry.{Act, Make, OpenAttempt, Next, Pass, Do, End, Entry}
 use Rattle.dr_model.specs.Entries.{fields_at}
-use Rattle.dr_model.specs.PairEntries.{end_if, refuse_if}
-use Rattle.dr_model.specs.SessionEntries.{last_of, hold_refusal, stale_refusal, hold_on, void_refusal, free_on, is_drained, seal_refusal, seal_on, is_past, finish_on, member_entries, is_on, members_on, order_entries, raise_attempt_on, raise_floor_on, add_entries}
+use Rattle.dr_model.specs.PairEntries.{reach_refusal, send_refusal, end_if, refuse_if}
+use Rattle.dr_model.specs.SessionEntries.{last_of, hold_refusal, stale_refusal, hold_on, void_refusal, free_on, is_drained, seal_refusal, seal_on, is_flashed, flash_refusal, flash_on, is_committed, commit_refusal, commit_on, revert_on, is_past, finish_on, member_entries, is_on, members_on, order_entries, raise_attempt_on, raise_floor_on, add_entries}
 use Rattle.dr_laws.proofs.Turns.{after_act}
 use Rattle.dr_laws.proofs.Costs.{tells, costs_next, Costs, light-none, light-then, light-costs, small-pass, small-do, small-choice}
 
@@ -84,10 +84,18 @@ modest-member Seal s n m =
     (λ w. modest-choice w (is_drained m.a.0 w.control && not (nat_eq (fields_at w.control m.b.0).seal n)) (Do (Make (SealMove m.b.0 m.a.0 s n))) Pass (modest-do w (Make (SealMove m.b.0 m.a.0 s n)) (omega arith)) (modest-pass w)) modest-none))
 modest-member Finish s n m =
     modest-then (finish_on m.a.0 n) [] (λ w. modest-choice w (is_past n (fields_at w.control m.a.0)) Pass (Do (Make (FinishMove m.a.0 n))) (modest-pass w) (modest-do w (Make (FinishMove m.a.0 n)) (omega arith))) modest-none
-modest-member Flash s n m = modest-none
-modest-member Commit s n m = modest-none
-modest-member Revert s n m = modest-none
-modest-member Report s n m = modest-none
+modest-member Flash s n m =
+    modest-then (refuse_if (send_refusal m.a.0 m.b.0)) _ (modest-refuse (send_refusal m.a.0 m.b.0)) (modest-then (refuse_if (flash_refusal m.b.0 m.c.0 n)) _ (modest-refuse (flash_refusal m.b.0 m.c.0 n))
+    (modest-then (flash_on s m.a.0 m.b.0 m.c.0 n) [] (λ w. modest-choice w (is_flashed n (fields_at w.control m.c.0)) Pass _ (modest-pass w) (modest-do w (Make (FlashMove m.c.0 m.b.0 m.a.0 s n)) (omega arith))) modest-none))
+modest-member Commit s n m =
+    modest-then (refuse_if (send_refusal m.a.0 m.b.0)) _ (modest-refuse (send_refusal m.a.0 m.b.0)) (modest-then (refuse_if (commit_refusal m.c.0 n)) _ (modest-refuse (commit_refusal m.c.0 n))
+    (modest-then (commit_on s m.a.0 m.c.0 n) [] (λ w. modest-choice w (is_committed n (fields_at w.control m.c.0)) Pass _ (modest-pass w) (modest-do w (Make (CommitMove m.c.0 m.a.0 s n)) (omega arith))) modest-none))
+modest-member Revert s n m =
+    modest-then (refuse_if (send_refusal m.a.0 m.b.0)) _ (modest-refuse (send_refusal m.a.0 m.b.0))
+    (modest-then (revert_on s m.a.0 m.c.0 n) []
+    (λ w. modest-choice w (is_flashed n (fields_at w.control m.c.0)) _ _ (modest-do w (Make (RevertMove m.c.0 m.a.0 s n)) (omega arith))
+    (modest-choice w (nat_lt (fields_at w.control m.c.0).floor n) _ Pass (modest-do w (Make (RaiseFloor m.c.0 n)) (omega arith)) (modest-pass w))) modest-none)
+modest-member Report s n m = modest-then (refuse_if (reach_refusal m.a.0 m.b.0)) [] (modest-refuse (reach_refusal m.a.0 m.b.0)) modest-none
 
 member-short : (work : Work) (s n : ℕ) (m : Member) → length (member_entries work s n m) ≤ 3
 member-short Hold s n m = omega arith

@@ -15,11 +15,11 @@ use Rattle.dr_model.specs.Layout.{Tracks, Fields}
 use Rattle.dr_model.specs.Relations.{rest, turned}
 use Rattle.dr_model.specs.Limits.{step_events, most_volumes, most_tracks}
 use Rattle.dr_model.specs.Control.{Control, World}
-use Rattle.dr_model.specs.Moves.{Relate, Withdraw, Fetch, Resync, Reverse, Leave}
+use Rattle.dr_model.specs.Moves.{Relate, Withdraw, Fetch, Resync, Reverse, Leave, told_left}
 use Rattle.dr_model.specs.Carry.{Make, Entry, Outcome, carry, follow, now}
 use Rattle.dr_model.specs.Entries.{fields_at, is_running, times, on_found, lowest_missing, fetch_next, give_back, share_server, share_size, is_no_target}
 use Rattle.dr_model.specs.PairEntries.{tracks_to_send, is_copying}
-use Rattle.dr_model.specs.Plans.{Plan, plan, entries_plan, tables_plan, named_pair, is_defined, is_owner, differ, is_no_source, has_few_targets, is_plain_target, is_recorded_target, is_lone_restore, has_no_pair, may_return, may_give_back, may_copy, at_most, left_to_copy}
+use Rattle.dr_model.specs.Plans.{counted_refusal, restore_refusal, left_by, Plan, plan, entries_plan, tables_plan, named_pair, is_defined, is_owner, differ, is_no_source, has_few_targets, is_plain_target, is_recorded_target, is_lone_restore, has_no_pair, may_return, may_give_back, may_copy, at_most, left_to_copy}
 use Rattle.dr_model.specs.Runs.{begun, finish, after_plan}
 use Rattle.dr_model.specs.Laws.{Sound}
 use Rattle.dr_laws.specs.Limits.{IsWithin}
@@ -27,7 +27,7 @@ use Rattle.dr_laws.proofs.Cases.{Case, Says, Defines, Adds, Links, Issues, Write
 use Rattle.dr_laws.proofs.Sets.{false_true, remove_from, not_removed, empty_has, rest_low}
 use Rattle.dr_laws.proofs.Costs.{Costs, costs-nil, costs-check, costs-last, carry-adds, blanks-few, restored-few, Small, Light, AllLight, light-none, light-then, light-costs, small-pass, small-do}
 use Rattle.dr_laws.proofs.CopyCosts.{rounds}
-use Rattle.dr_laws.proofs.PairCosts.{sends-costs, sent-few, suspend_after-few, light-pair, light-remove, length-remove, light-pause, light-resume}
+use Rattle.dr_laws.proofs.PairCosts.{costs-refused, sends-costs, sent-few, suspend_after-few, light-pair, light-remove, length-remove, light-pause, light-resume}
 use Rattle.dr_model.specs.SessionPlans.{member_with}
 use Rattle.dr_groups.proofs.Members.{members-few}
 use Rattle.dr_laws.proofs.SessionCosts.{add-costs, order-costs}
@@ -109,6 +109,11 @@ fetches-length (suc n) v = let e : length (times n (fetch_next v ∷ [])) ≡ n 
 named-costs : (n : ℕ) (w : World) (k : Control) (dev : Option Name) (s t : ℕ) (ds : List Entry) → Costs n w ds → Costs n w (named_pair k dev s t ++ ds)
 named-costs n w k dev s t ds c = costs-check n w (is_defined s) _ _ (costs-check n w (is_defined t) _ _ (costs-check n w (is_owner dev s) _ _ (costs-check n w (is_running s) _ _ c)))
 
+-- a target that leaves is one event more
+one-more : (left : Option ℕ) (s : ℕ) (es : List Event) (n : ℕ) → length es ≤ n → length (told_left left s ++ es) ≤ n + 1
+one-more None s es n le = omega arith
+one-more (Some u) s es n le = omega arith
+
 -- how many tracks are copied
 copied-few : (k : Control) (t n : ℕ) (most : Option ℕ) → left_to_copy k t ≤ n → at_most most (left_to_copy k t) ≤ n
 copied-few k t n None le = le
@@ -167,13 +172,13 @@ module _ (w : World) (x : Sound w) (h : IsWithin w.control) where
       let u = w.control.volume t in
       let small : u.tracks ≤ most_tracks = h.tracks t in
       let le = blanks-few t u.tracks u.fields.own in
-      entries-spends _ _ 256 (named-costs 256 _ w.control dev s t _ (costs-check 256 _ (is_plain_target s t) _ _ (costs-last 256 _ (Withdraw t) (omega arith)))) (omega arith)
-  case-spends line _ (Resyncs dev s t sequence) = entries-spends _ _ 1 (named-costs 1 _ w.control dev s t _ (costs-check 1 _ (is_recorded_target s t) _ _ (costs-last 1 _ (Resync t sequence) (omega arith)))) (omega arith)
+      entries-spends _ _ 256 (named-costs 256 _ w.control dev s t _ (costs-refused 256 _ (counted_refusal t) _ (costs-check 256 _ (is_plain_target s t) _ _ (costs-last 256 _ (Withdraw t) (omega arith))))) (omega arith)
+  case-spends line _ (Resyncs dev s t sequence) = entries-spends _ _ 1 (named-costs 1 _ w.control dev s t _ (costs-refused 1 _ (counted_refusal t) _ (costs-check 1 _ (is_recorded_target s t) _ _ (costs-last 1 _ (Resync t sequence) (omega arith))))) (omega arith)
   case-spends line _ (Reverses dev s t) =
       let u = w.control.volume t in
       let small : u.tracks ≤ most_tracks = h.tracks t in
       let le = restored-few t u.fields.source u.tracks (turned u.fields).own in
-      entries-spends _ _ 257 (named-costs 257 _ w.control dev s t _ (costs-check 257 _ (is_recorded_target s t) _ _ (costs-check 257 _ (is_lone_restore s t) _ _ (costs-check 257 _ (may_return s) _ _ (costs-last 257 _ (Reverse t) (omega arith)))))) (omega arith)
+      entries-spends _ _ 258 (named-costs 258 _ w.control dev s t _ (costs-refused 258 _ (restore_refusal t) _ (costs-check 258 _ (is_recorded_target s t) _ _ (costs-check 258 _ (is_lone_restore s t) _ _ (costs-check 258 _ (may_return s) _ _ (costs-last 258 _ (Reverse t (left_by w.control t)) (one-more (left_by w.control t) u.fields.session _ 257 (omega arith)))))))) (omega arith)
   case-spends line _ (Copies t most) = entries-spends _ _ 3585
       (costs-check 3585 _ (is_defined t) _ _ (costs-check 3585 _ (is_running t) _ _ (costs-check 3585 _ (may_copy t) _ _ (costs-check 3585 _ (may_give_back t) _ _
       (copy-costs (at_most most (left_to_copy w.control t)) t (copied-few w.control t most_tracks most (left-few t)) _ refl))))) (omega arith)

@@ -18,7 +18,7 @@ use Rattle.dr_model.specs.WriteEntries.{belongs, redo_on, restart_on, start_entr
 use Rattle.dr_model.specs.Plans.{has_landed, acknowledge_on, acknowledge_if, start_plan, starting}
 use Rattle.dr_model.specs.Runs.{begun}
 use Rattle.dr_model.specs.Groups.{Groups}
-use Rattle.dr_model.specs.Table.{table, waiting, due, due_by}
+use Rattle.dr_model.specs.Table.{table, waiting, due, due_by, aside, aside_by}
 use Rattle.dr_model.specs.Laws.{SoundRows, Sound, SoundBut, Waits, AllPending, Apart, Lone, Together, servers, Numbered}
 use Rattle.dr_model.specs.Allowed.{Runs, May}
 use Rattle.dr_model.proofs.Images.{histories-append, at_same, at_other}
@@ -191,6 +191,7 @@ module _ (s : ℕ) where
     targets = j.targets;
     groups = j.groups;
     housed = j.housed;
+    attempts = j.attempts;
     queue = record { each = each-on (λ p waits. waits-free w.control _ p waits (inl off)) w.control.pending j.queue.each; apart = j.queue.apart; lone = j.queue.lone; numbers = j.queue.numbers };
   }
 
@@ -200,6 +201,7 @@ module _ (s : ℕ) where
     targets = j.targets;
     groups = j.groups;
     housed = j.housed;
+    attempts = j.attempts;
     queue = record { each = both-on (λ p waits free. waits-free w.control _ p waits (inr free)) w.control.pending j.queue.each free; apart = j.queue.apart; lone = j.queue.lone; numbers = j.queue.numbers };
   }
 
@@ -232,12 +234,16 @@ module _ (s : ℕ) where
         (λ q ne. ap (λ ws. image h.write (h.now p.volume q ++ ws)) (gone.else p.volume q (inr ne))) q)
         (λ u ne. ap (λ ws. image h.write (h.now u q ++ ws)) (gone.else u q (inl ne))) u
 
+    pub same-aside : (u q : ℕ) → aside (acknowledged w p.w) u q ≡ aside w u q
+    same-aside u q = ap (λ (h : Histories). aside_by h u q) told
+
     pub acknowledges : Starting (acknowledged w p.w)
     acknowledges = record {
-      rows = subst SoundRows (λ i u. record (table w u) { due = λ q. sym (same-due u q) i }) j.rows;
+      rows = subst SoundRows (λ i u. record (table w u) { due = λ q. sym (same-due u q) i; aside = λ q. sym (same-aside u q) i }) j.rows;
       targets = record { once = j.targets.once; few = j.targets.few };
       groups = same-groups w.control (acknowledged w p.w).control refl refl refl j.groups;
       housed = j.housed;
+      attempts = j.attempts;
       queue = record {
         each = subst (λ (h : Histories). AllPending (Waits (Some s) w.control h.write) (filter (is_other p.w) ps)) (sym told) (all-filter _ (is_other p.w) ps j.queue.each);
         apart = apart-filter p.w ps j.queue.apart;
@@ -264,7 +270,7 @@ module _ (s : ℕ) where
   does w (Make (Restart v)) f j may = record { sound = sound-done (Some s) w (Restart v) f j.sound (may-restart w v may); on = j.on }
   does w (Make m) f j may = absurd may
   does w (OpenAttempt v i n) f j may = absurd may
-  does w (Redo v) f j may = let x = j.sound in record { sound = record { rows = x.rows; targets = record { once = x.targets.once; few = x.targets.few }; groups = same-groups w.control (fused w (servers w.control v) f).control refl refl refl x.groups; housed = x.housed; queue = record { each = x.queue.each; apart = x.queue.apart; lone = x.queue.lone; numbers = x.queue.numbers } }; on = j.on }
+  does w (Redo v) f j may = let x = j.sound in record { sound = record { rows = x.rows; targets = record { once = x.targets.once; few = x.targets.few }; groups = same-groups w.control (fused w (servers w.control v) f).control refl refl refl x.groups; housed = x.housed; attempts = x.attempts; queue = record { each = x.queue.each; apart = x.queue.apart; lone = x.queue.lone; numbers = x.queue.numbers } }; on = j.on }
   does w (Acknowledge n) f j may = record { sound = subst (λ n. Starting (acknowledged w n)) may.number (acknowledges w j.sound may.waits may.first); on = j.on }
   does w (Drop n) f j may = absurd may
   does w (EndFreeze l m) f j may = absurd may
@@ -333,6 +339,7 @@ module _ (s : ℕ) where
           targets = record { once = x.targets.once; few = x.targets.few };
           groups = same-groups w.control (starting s w.control) refl refl refl x.groups;
           housed = x.housed;
+          attempts = x.attempts;
           queue = record {
             each = subst (λ (h : Histories). AllPending (Waits (Some s) (starting s w.control) h.write) w.control.pending) (sym same) (each-on (starts-waits w x) w.control.pending x.queue.each);
             apart = x.queue.apart;

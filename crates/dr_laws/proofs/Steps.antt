@@ -23,6 +23,7 @@ use Rattle.dr_model.specs.Laws.{SoundRows, Sound}
 use Rattle.dr_model.proofs.Images.{histories-append}
 use Rattle.dr_model.proofs.LawfulLemmas.{lawful-no_fields}
 use Rattle.dr_groups.proofs.Housed.{housed-none, housed-server}
+use Rattle.dr_phases.proofs.Volumes.{attempts-none}
 use Rattle.dr_laws.proofs.Cases.{Case, Says, Defines, Adds, Links, Issues, Writes, Applies, Shows, Stops, Arms, Starts, Flashes, Withdraws, Resyncs, Reverses, Copies, Paths, Unpaths, MakesPair, RemovesPair, Pauses, ResumesPair, Drains, Expires, Freezes, Thaws, JoinsSession, LeavesSession, Mirrors, PausesMirror, Unmirrors, Aborts, AddsMember, Expels, Exchanges, IsTrack, plan-case, servers-left, is-new, may-issue}
 use Rattle.dr_laws.proofs.KeepsQueue.{Quiet, AllQuiet, goes-off}
 use Rattle.dr_laws.proofs.KeepsSound.{StepHolds, RowsAt, MayDo, holds-moves, keeps-sound, sound-told, over}
@@ -166,7 +167,8 @@ sound-nothing = record {
   rows = record {
     structure = record {
       lawful = λ v. lawful-no_fields 0;
-      sets = λ v. record { apart = in_none _; noted_held = in_none _; rewritten_held = in_none _ };
+      sets = λ v. record { apart = in_none _; noted_held = λ h. in_none _; rewritten_held = λ h. in_none _ };
+      reverts = λ v h. absurd cc;
       flags = λ v. record { persists = λ h. absurd cc; records = λ h. absurd cc; unchanged = λ h. absurd cc; some = λ h. absurd cc };
       defined = λ v h. absurd cc;
       flash = λ v u h. absurd cc;
@@ -182,8 +184,9 @@ sound-nothing = record {
     images = record { blank = λ v t h. refl; fresh = λ v h t. refl; plain = λ v h t lt. refl; seen = λ v u h. absurd cc };
     recorded = λ v u h. absurd cc;
     recorders = λ v. record { holds = λ h. absurd cc; global = λ h. absurd cc; pending = λ h. absurd cc; none = λ h. empty_has };
-    final = λ v. refl;
+    seals = record { kinds = λ v u h. absurd cc; global = λ v nz. absurd (nz refl); sent = λ v u h. absurd cc; no_metro = λ v u h. absurd cc; restored = λ v a b h. absurd cc; flashed = λ v u x h. absurd cc };
     pairs = λ v u h. absurd cc;
+    asides = λ v u h. absurd cc;
   };
   groups = record {
     once = tt;
@@ -192,6 +195,7 @@ sound-nothing = record {
     recorders = λ v h. absurd cc;
   };
   housed = housed-none;
+  attempts = attempts-none;
   targets = record { once = tt; few = λ v. omega arith };
   queue = record { each = tt; apart = tt; lone = tt; numbers = record { now = λ v t. tt; aside = λ v t. tt } };
 }

@@ -10,7 +10,7 @@ use Rattle.dr_model.specs.Control.{Control, Fuse, Volume as VolumeRow, World}
 use Rattle.dr_model.specs.Layout.{Tracks}
 use Rattle.dr_model.specs.Relations.{is_bare, in_order, rest}
 use Rattle.dr_model.specs.Pairs.{is_suspended}
-use Rattle.dr_model.specs.Moves.{Move, Land, Overwrite, Keep, Note, Relate, Withdraw, Fetch, Resync, Reverse, Restore, Release, Store, Strike, Suspend, MakeSecondary, MakePrimary, DropPrimary, DropSecondary, Follow, Resume, TakeOver, Unsync, Mirror, LandBoth, Thaw, Lift, Restart, Hold, Free, Seal, Finish, RaiseAttempt, RaiseFloor, Leave, told_blank, told_restored, told, told_in_stop, landed, target}
+use Rattle.dr_model.specs.Moves.{Move, Land, Overwrite, Keep, Note, Relate, Withdraw, Fetch, Resync, Reverse, Restore, Release, Store, Strike, Suspend, MakeSecondary, MakePrimary, DropPrimary, DropSecondary, Follow, Resume, TakeOver, Unsync, Mirror, LandBoth, Thaw, Lift, Restart, Hold, Free, Seal, Finish, RaiseAttempt, RaiseFloor, Leave, Flash, Commit, Revert, told_blank, told_restored, told, told_in_stop, landed, target}
 use Rattle.dr_model.specs.Carry.{Act, Make, OpenAttempt, Redo, Acknowledge, Drop, EndFreeze, EndThaw, act, Turn, Next, Pass, Do, End, Entry, Outcome, carry, continue, go}
 use Rattle.dr_laws.specs.Stops.{first_stop, stop_in, refused_stop, StopsTold}
 use Rattle.dr_laws.proofs.Turns.{act-cases, Counts, after_act, server_of}
@@ -48,11 +48,15 @@ told-calm (Land n v t) u = refl
 told-calm (Overwrite n v t) u = refl
 told-calm (Keep v t) u = refl
 told-calm (Note v t) u = refl
+told-calm (Flash v from a s n) u = refl
+told-calm (Commit v a s n) u = refl
+told-calm (Revert v a s n) u = refl
 told-calm (Relate v s choices) u = refl
 told-calm (Withdraw v) u = blanks-calm v (in_order u.tracks (rest u.tracks u.fields.own))
 told-calm (Fetch v t) u = refl
 told-calm (Resync v sequence) u = refl
-told-calm (Reverse v) u = restored-calm v _ _ _
+told-calm (Reverse v None) u = restored-calm v _ _ _
+told-calm (Reverse v (Some p)) u = restored-calm v _ _ _
 told-calm (Restore v t from) u = refl
 told-calm (Release v t) u = restored-calm v _ _ _
 told-calm (Store v t from last) u = refl

@@ -35,7 +35,8 @@ held h false v s n = refl
 
 pub told-writes : (h : Histories) (m : Move) (u : Volume) → (after h (told m u)).write ≡ h.write
 told-writes h (Withdraw v) u = blanked h v (in_order u.tracks (rest u.tracks u.fields.own))
-told-writes h (Reverse v) u = restored h (is_bare (turned u.fields).own) v u.fields.source u.tracks (turned u.fields).own
+told-writes h (Reverse v None) u = restored h (is_bare (turned u.fields).own) v u.fields.source u.tracks (turned u.fields).own
+told-writes h (Reverse v (Some p)) u = restored h (is_bare (turned u.fields).own) v u.fields.source u.tracks (turned u.fields).own
 told-writes h (Release v t) u = restored h (is_bare (given_up u.fields t).own) v u.fields.source u.tracks (given_up u.fields t).own
 told-writes h (Suspend v busy) u = suspended h (is_suspended u.fields.primary_state) v
 told-writes h (Hold v s n first) u = held h first v s n

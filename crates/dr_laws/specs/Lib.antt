@@ -3,3 +3,5 @@ pub mod Stops
 pub mod Moments
 pub mod Windows
 pub mod Seals
+pub mod BothViews
+pub mod Decided

@@ -3,13 +3,14 @@
 #![tactic(auto)]
 
 ghost use Rattle.std.specs.Prelude.{◌≡◌, ◌≢◌, ◌≤◌, ◌<◌, ℕ, Bool, List, Option, take, length};
+ghost use Rattle.dr_ids.specs.declared.names.Member.{Member};
 ghost use Rattle.dr_ids.specs.declared.refusal.Refusal.{Refusal};
 ghost use Rattle.dr_model.specs.declared.step.Devs.{Devs};
 ghost use Rattle.dr_model.specs.declared.step.Step.TheVariants as step;
 ghost use Rattle.dr_model.specs.Histories.{Write};
 ghost use Rattle.dr_model.specs.Layout.{Blocks};
 ghost use Rattle.dr_model.specs.Control.{World, Fuse};
-ghost use Rattle.dr_model.specs.Moves.{Move, Keep, Note, Fetch, target};
+ghost use Rattle.dr_model.specs.Moves.{Move, Keep, Note, Fetch, Flash, Commit, Revert, target};
 ghost use Rattle.dr_model.specs.Carry.{carry};
 ghost use Rattle.dr_model.specs.Plans.{Plan, plan, step_plan};
 ghost use Rattle.dr_model.specs.Runs.{Task, begun, after_plan, after_task, after_tasks, run};
@@ -20,8 +21,13 @@ ghost use Rattle.dr_model.specs.Laws.{SoundRows, Sound, shown};
 ghost use Rattle.dr_model.specs.Allowed.{Allowed};
 ghost use Rattle.dr_model.specs.Cuts.{SealsHold};
 ghost use Rattle.dr_model.specs.Fits.{Fits};
+ghost use Rattle.dr_model.specs.Groups.{In};
 ghost use Rattle.dr_model.specs.Limits.{most_events};
+ghost use Rattle.dr_model.specs.Sessions.{Session};
+ghost use Rattle.dr_cuts.specs.Sent.{SendsTo, CutsHold};
 ghost use Rattle.dr_laws.specs.Limits.{IsWithin};
+ghost use Rattle.dr_laws.specs.BothViews.{IsRevertible, Settles, set_aside};
+ghost use Rattle.dr_laws.specs.Decided.{DecidesAfter};
 ghost use Rattle.dr_laws.specs.Stops.{StopsTold, refused_stop};
 ghost use Rattle.dr_laws.specs.Seals.{SealsHoldOn};
 ghost use Rattle.dr_laws.specs.Windows.{FreezeCut};
@@ -66,6 +72,15 @@ pub fn a_move_leaves_the_other_views()
     ensures fetch { (write : ℕ → Write) (T : Table) (v t q : ℕ) → SoundRows T → Allowed write T (Fetch v t) → q < (T v).volume.tracks → shown (after write T (Fetch v t)) v q ≡ shown T v q }
 {}
 
+/// As a target is flashed it shows what its source does, and what it showed is set aside. No move changes either while it is revertible: a
+/// commit keeps what it shows, and a revert makes what was set aside what it shows.
+pub fn a_revertible_target_keeps_both_views()
+    ensures flash { (write : ℕ → Write) (T : Table) (v u a s n t : ℕ) → SoundRows T → Allowed write T (Flash v u a s n) → t < (T v).volume.tracks → (shown (after write T (Flash v u a s n)) v t ≡ shown T u t) × (set_aside (after write T (Flash v u a s n)) v t ≡ shown T v t) }
+    ensures stay { (write : ℕ → Write) (T : Table) (m : Move) (v t : ℕ) → SoundRows T → Allowed write T m → IsRevertible T v → (Settles v m → ⊥) → t < (T v).volume.tracks → (shown (after write T m) v t ≡ shown T v t) × (set_aside (after write T m) v t ≡ set_aside T v t) }
+    ensures commit { (write : ℕ → Write) (T : Table) (v a s n t : ℕ) → SoundRows T → Allowed write T (Commit v a s n) → t < (T v).volume.tracks → shown (after write T (Commit v a s n)) v t ≡ shown T v t }
+    ensures revert { (write : ℕ → Write) (T : Table) (v a s n t : ℕ) → SoundRows T → Allowed write T (Revert v a s n) → t < (T v).volume.tracks → shown (after write T (Revert v a s n)) v t ≡ set_aside T v t }
+{}
+
 /// A step is refused because a server stopped exactly where its acts told the journal of that stop.
 pub fn stops_are_told()
     ensures { (w : World) (t : Task) →
@@ -105,4 +120,18 @@ pub fn thaws_change_no_track()
 pub fn sealed_secondaries_hold_their_cut()
     ensures hold { (tasks : List Task) → SealsHold (run tasks) }
     ensures devices { (tasks : List Task) (on : ℕ → Bool) (fuse : ℕ → Option Fuse) (device : ℕ → Blocks) → Fits (run tasks) on fuse device → SealsHoldOn tasks device }
+{}
+
+/// At the end of each run, what recovery would decide over a session is possible: by what the devices of a plant say that fits the run's
+/// world, the targets that count in the session show one number where they are revertible, and one where they aren't.
+pub fn no_session_is_impossible_to_decide()
+    ensures { (tasks : List Task) (on : ℕ → Bool) (fuse : ℕ → Option Fuse) (device : ℕ → Blocks) → Fits (run tasks) on fuse device → DecidesAfter tasks device }
+{}
+
+/// At the end of each run, and so as each step begins, each secondary contains of the cut of its primary what was sent of it
+/// while the primary records, and all of it where it is sealed; and the primary of a member that records sends to the member's
+/// secondary. These are the premises under which a seal promises that it seals the cut.
+pub fn seals_find_their_cut()
+    ensures cuts { (tasks : List Task) → CutsHold (run tasks) }
+    ensures sends { (w : World) (x : Session) (m : Member) → Sound w → In x w.control.sessions → In m x.members → SendsTo w m.a.0 m.b.0 }
 {}

@@ -84,8 +84,8 @@ impl Report {
         self.count += more.count;
     }
 
-    /// What recovery decides over the members that it speaks of.
-    pub(crate) fn decision(&self) -> Decision
+    /// What recovery decides over the members that it speaks of, 64 at most.
+    pub fn decision(&self) -> Decision
         requires { self.now.count ≤ 64 }
         ensures { result ≡ decision (shown_in self.now) }
     {

@@ -8,18 +8,20 @@ use Rattle.dr_model.specs.Control.{Pending, Control, World}
 use Rattle.dr_model.specs.declared.state.Part.{Part}
 use Rattle.dr_model.specs.declared.state.Part.TheVariants.{Global}
 use Rattle.dr_model.specs.Layout.{is_part}
-use Rattle.dr_model.specs.Moves.{Move, Land, Overwrite, Keep, Note, Relate, Withdraw, Fetch, Resync, Reverse, Restore, Release, Store, Strike, Suspend, MakeSecondary, MakePrimary, DropPrimary, DropSecondary, Follow, Resume, TakeOver, Unsync, Mirror, LandBoth, Thaw, Lift, Restart, Hold, Free, Seal, Finish, RaiseAttempt, RaiseFloor, Leave, target, is_write}
+use Rattle.dr_model.specs.Moves.{Move, Land, Overwrite, Keep, Note, Relate, Withdraw, Fetch, Resync, Reverse, Restore, Release, Store, Strike, Suspend, MakeSecondary, MakePrimary, DropPrimary, DropSecondary, Follow, Resume, TakeOver, Unsync, Mirror, LandBoth, Thaw, Lift, Restart, Hold, Free, Seal, Finish, RaiseAttempt, RaiseFloor, Leave, Flash, Commit, Revert, target, is_write}
 use Rattle.dr_model.specs.Pairs.{is_metro, is_kind, is_pending, is_suspended, records}
 use Rattle.dr_model.specs.Entries.{targets_of}
 use Rattle.dr_model.specs.Table.{Table, table}
-use Rattle.dr_model.specs.Groups.{HoldsMember, OpensAttempt}
+use Rattle.dr_model.specs.Groups.{OpensAttempt}
+use Rattle.dr_model.specs.Attempts.{InAttempt}
 use Rattle.dr_model.specs.Laws.{source, its_primary, its_secondary, fields, servers, AllPending}
 
 -- each target of v holds track t, but one that is restored onto v, which holds it too where it gives it back; and it
--- notes that the track changes, where that is recorded
+-- notes that the track changes, where that is recorded; none is revertible
 pub record Kept (T : Table) (v t : ℕ) : Type 0 where
   pub own : (u : ℕ) → source (T u) ≡ Some v → contains (fields T u).own t ≡ true
   pub noted : (u : ℕ) → source (T u) ≡ Some v → (fields T u).recorded ≡ true → (fields T u).reversing ≡ false → contains (fields T u).source_changes t ≡ true
+  pub settled : (u : ℕ) → source (T u) ≡ Some v → (fields T u).revertible ≡ false
 
 -- a host write lands on a track of a volume that is no target and no secondary, and that coordination doesn't hold; where it
 -- records, the track has been sent
@@ -32,12 +34,13 @@ pub record MayLand (T : Table) (v t : ℕ) : Type 0 where
   pub free : (fields T v).coordination ≡ false
   pub sent : (fields T v).recording ≡ true → contains (fields T v).out_of_sync t ≡ false
 
--- or of a target that isn't restored onto its source
+-- or of a target that is neither revertible nor restored onto its source
 pub record MayOverwrite (T : Table) (v t : ℕ) : Type 0 where
   pub low : t < (T v).volume.tracks
   pub from : ℕ
   pub related : source (T v) ≡ Some from
   pub forward : (fields T v).reversing ≡ false
+  pub settled : (fields T v).revertible ≡ false
 
 -- such a target takes a track that it doesn't hold
 pub record MayKeep (T : Table) (v t : ℕ) : Type 0 where
@@ -46,6 +49,7 @@ pub record MayKeep (T : Table) (v t : ℕ) : Type 0 where
   pub related : source (T v) ≡ Some from
   pub new : contains (fields T v).own t ≡ false
   pub forward : (fields T v).reversing ≡ false
+  pub settled : (fields T v).revertible ≡ false
 
 -- or notes a change of one that it holds
 pub record MayNote (T : Table) (v t : ℕ) : Type 0 where
@@ -54,6 +58,7 @@ pub record MayNote (T : Table) (v t : ℕ) : Type 0 where
   pub related : source (T v) ≡ Some from
   pub held : contains (fields T v).own t ≡ true
   pub forward : (fields T v).reversing ≡ false
+  pub settled : (fields T v).revertible ≡ false
 
 -- two volumes, which stand in no relationship as targets, and the new target not as a source and in no pair
 pub record MayRelate (T : Table) (v s : ℕ) : Type 0 where
@@ -72,6 +77,7 @@ pub record MayWithdraw (T : Table) (v : ℕ) : Type 0 where
   pub from : ℕ
   pub related : source (T v) ≡ Some from
   pub forward : (fields T v).reversing ≡ false
+  pub settled : (fields T v).revertible ≡ false
 
 -- a target whose changes are recorded
 pub record MayResync (T : Table) (v : ℕ) : Type 0 where
@@ -79,10 +85,12 @@ pub record MayResync (T : Table) (v : ℕ) : Type 0 where
   pub related : source (T v) ≡ Some from
   pub recorded : (fields T v).recorded ≡ true
   pub forward : (fields T v).reversing ≡ false
+  pub settled : (fields T v).revertible ≡ false
 
--- and no other target of its source is restored onto it, which is no secondary
+-- and no other target of its source is restored onto it or revertible, and the source is no secondary
 pub record MayReverse (T : Table) (v : ℕ) : Type 0 where
   pub resync : MayResync T v
+  pub settled : (u : ℕ) → source (T u) ≡ Some resync.from → (fields T u).revertible ≡ true → ⊥
   pub free : is_part (fields T resync.from).secondary ≡ false
   pub alone : (u : ℕ) → source (T u) ≡ Some resync.from → (fields T u).reversing ≡ true → ⊥
 
@@ -119,7 +127,7 @@ pub record MayStrike (T : Table) (v t : ℕ) (last : Bool) : Type 0 where
   pub equal : (T to).bytes t ≡ (T v).bytes t
 
 -- v becomes the secondary of u: two volumes of one size on two servers, u in no pair, v no primary and no target, and
--- no target of v is restored onto it
+-- no target of v is restored onto it or revertible
 pub record MayMakeSecondary (T : Table) (v u : ℕ) (kind : Part) : Type 0 where
   pub is_kind : is_part kind ≡ true
   pub apart : (T v).volume.server ≡ (T u).volume.server → ⊥
@@ -130,6 +138,7 @@ pub record MayMakeSecondary (T : Table) (v u : ℕ) (kind : Part) : Type 0 where
   pub plain : (fields T v).related ≡ false
   pub first : is_part (fields T v).primary ≡ false
   pub still : (x : ℕ) → source (T x) ≡ Some v → (fields T x).reversing ≡ true → ⊥
+  pub settled : (x : ℕ) → source (T x) ≡ Some v → (fields T x).revertible ≡ false
 
 -- v becomes the primary of its secondary u, which has the same bytes, where not all tracks are out of sync
 pub record MayMakePrimary (T : Table) (v u : ℕ) (kind : Part) (full : Bool) : Type 0 where
@@ -174,12 +183,15 @@ pub record MayResume (T : Table) (v : ℕ) : Type 0 where
   pub first : is_part (fields T v).primary ≡ true
   pub waits : is_suspended (fields T v).primary_state ≡ true
 
--- a Global Copy primary in Copy Pending, which doesn't record, is held for a newer attempt than all of its own
+-- a Global Copy primary in Copy Pending, which doesn't record, is held for a newer attempt than all of its own; its secondary isn't
+-- sealed for that, and has no revertible target
 pub record MayHold (T : Table) (v n : ℕ) : Type 0 where
   pub global : is_kind Global (fields T v).primary ≡ true
   pub pending : is_pending (fields T v).primary_state ≡ true
   pub idle : (fields T v).recording ≡ false
   pub newer : (fields T v).attempt < n
+  pub unsealed : (u : ℕ) → its_secondary (T v) ≡ Some u → its_primary (T u) ≡ Some v → (fields T u).seal ≢ n
+  pub unflashed : (u x : ℕ) → its_secondary (T v) ≡ Some u → its_primary (T u) ≡ Some v → source (T x) ≡ Some u → (fields T x).revertible ≡ false
 
 -- secondary v is sealed for an attempt that its primary u records, which has nothing left to send
 pub record MaySeal (T : Table) (v u n : ℕ) : Type 0 where
@@ -187,6 +199,23 @@ pub record MaySeal (T : Table) (v u n : ℕ) : Type 0 where
   pub takes : its_primary (T v) ≡ Some u
   pub records : records n (fields T u) ≡ true
   pub drained : (t : ℕ) → contains (fields T u).out_of_sync t ≡ false
+
+-- a target of u whose changes are recorded is flashed for an attempt for which u is sealed, and which is newer than all of its own; u's
+-- primary a records that one, or none
+pub record MayFlash (T : Table) (v u a n : ℕ) : Type 0 where
+  pub resync : MayResync T v
+  pub from : resync.from ≡ u
+  pub takes : its_primary (T u) ≡ Some a
+  pub sealed : (fields T u).seal ≡ n
+  pub newer : (fields T v).floor < n
+  pub last : (fields T a).recording ≡ true → (fields T a).attempt ≡ n
+
+-- a target that is revertible from attempt n
+pub record MayTurn (T : Table) (v n : ℕ) : Type 0 where
+  pub from : ℕ
+  pub related : source (T v) ≡ Some from
+  pub revertible : (fields T v).revertible ≡ true
+  pub number : (fields T v).sequence ≡ n
 
 -- a volume that doesn't record has no attempts up to n any more, which is not lower than its own
 pub record MayRaise (T : Table) (v n : ℕ) : Type 0 where
@@ -202,7 +231,7 @@ Allowed write T (Relate v s choices) = MayRelate T v s
 Allowed write T (Withdraw v) = MayWithdraw T v
 Allowed write T (Fetch v t) = MayKeep T v t
 Allowed write T (Resync v sequence) = MayResync T v
-Allowed write T (Reverse v) = MayReverse T v
+Allowed write T (Reverse v left) = MayReverse T v
 Allowed write T (Restore v t u) = MayRestore T v t u
 Allowed write T (Release v t) = MayRelease T v t
 Allowed write T (Store v t u last) = MayStore T v t u
@@ -228,6 +257,9 @@ Allowed write T (Finish v n) = Unit {0}
 Allowed write T (RaiseAttempt v n) = MayRaise T v n
 Allowed write T (RaiseFloor v n) = Unit {0}
 Allowed write T (Leave v u s) = Unit {0}
+Allowed write T (Flash v u a s n) = MayFlash T v u a n
+Allowed write T (Commit v a s n) = MayTurn T v n
+Allowed write T (Revert v a s n) = MayTurn T v n
 
 -- no write has landed on a volume of v's server
 abbrev pub Idle : World → ℕ → Type 0
@@ -271,11 +303,6 @@ abbrev pub Fits : Control → Move → Type 0
 Fits k (Relate v s choices) = length (targets_of k s) < most_targets
 Fits k m = Unit {0}
 
--- what a hold asks of the sessions
-abbrev pub InGroup : Control → Move → Type 0
-InGroup k (Hold v s n first) = HoldsMember k v s n
-InGroup k m = Unit {0}
-
 -- the server of a volume is on
 abbrev pub Runs : World → ℕ → Type 0
 Runs w v = w.control.on (w.control.volume v).server ≡ true
@@ -286,7 +313,7 @@ pub record May (w : World) (m : Move) : Type 0 where
   pub allowed : Allowed (histories w.events).write (table w) m
   pub fits : Fits w.control m
   pub ready : Ready w m
-  pub group : InGroup w.control m
+  pub group : InAttempt w.control m
 
 -- the first hold of an attempt may come in a world
 pub record MayOpen (w : World) (v s n : ℕ) : Type 0 where

@@ -3,13 +3,12 @@ use Rattle.std.specs.Prelude.{◌≡◌, ◌≢◌, ◌<◌, ◌≤◌, ℕ, Boo
 use Rattle.std.specs.List.{fold}
 use Rattle.std.specs.FinSet.{contains}
 use Rattle.dr_model.specs.Tables.{at2}
-use Rattle.dr_model.specs.declared.state.Part.TheVariants.{Global}
 use Rattle.dr_model.specs.declared.event.Event.{Event}
 use Rattle.dr_model.specs.declared.event.Event.TheVariants.{Cut}
 use Rattle.dr_model.specs.Histories.{Lists, Write, Histories, no_history, after_event, histories, lists}
 use Rattle.dr_model.specs.Contents.{image}
 use Rattle.dr_model.specs.Control.{World}
-use Rattle.dr_model.specs.Pairs.{primary_of, is_kind}
+use Rattle.dr_model.specs.Pairs.{primary_of}
 use Rattle.dr_model.specs.Moves.{Move, Hold}
 use Rattle.dr_model.specs.Table.{Row, Table, table}
 use Rattle.dr_model.specs.Laws.{Each, Linked, its_primary, its_secondary, fields}
@@ -84,16 +83,7 @@ pub record HoldsCut (write : ℕ → Write) (c : Cuts) (v : ℕ) (r : Row) (u : 
 abbrev pub SealedAsAtCut : (ℕ → Write) → Cuts → ℕ → Row → ℕ → Row → Type 0
 SealedAsAtCut write c v r u s = r.volume.fields.seal ≢ 0 → HoldsCut write c v r u
 
--- a pair is of one kind, and only a secondary of Global Copy is sealed
-abbrev pub OneKind : ℕ → Row → ℕ → Row → Type 0
-OneKind v r u s = its_secondary s ≡ Some v → r.volume.fields.secondary ≡ s.volume.fields.primary
-
-abbrev pub SealedGlobal : Row → Type 0
-SealedGlobal r = r.volume.fields.seal ≢ 0 → is_kind Global r.volume.fields.secondary ≡ true
-
 pub record CutLaws (write : ℕ → Write) (c : Cuts) (T : Table) : Type 0 where
-  pub kinds : Linked its_primary OneKind T
-  pub sealed_global : Each (λ v r. SealedGlobal r) T
   pub cut : Each (RowCuts c) T
   pub unsent : Each (UnsentAsAtCut write c) T
   pub sent : Linked its_secondary (SentAsAtCut write c) T

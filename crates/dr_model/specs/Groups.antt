@@ -1,5 +1,5 @@
 -- What the sessions and the records of volumes say together.
-use Rattle.std.specs.Prelude.{◌≡◌, ◌≢◌, ◌⊎◌, ◌<◌, ◌≤◌, ◌+◌, ℕ, true, false, List, [], ◌∷◌, length, map, Some}
+use Rattle.std.specs.Prelude.{◌≡◌, ◌≢◌, ◌⊎◌, ◌<◌, ◌≤◌, ◌+◌, ℕ, true, false, List, [], ◌∷◌, length, map, filter, Some}
 use Rattle.dr_ids.specs.declared.names.Member.{Member}
 use Rattle.dr_ids.specs.declared.refusal.PhaseName.TheVariants as phase
 use Rattle.dr_model.specs.Phases as phases
@@ -36,6 +36,10 @@ pub record MasterStands (k : Control) (r : Mirror) : Type 0 where
   pub server : (k.volume volume).server ≡ r.server
   pub in_phase : r.master.phase ≢ phase.None
 
+-- a lost master has no more reports than members whose servers owe it none any more
+abbrev pub FewReports : phases.Master → List Member → Type 0
+FewReports m ms = length m.reports + length (filter (λ (q : Member). phases.is_among q.server.0 m.owed) ms) ≤ length ms
+
 -- a session is sound, no primary is that of two of its members, and they and its master stand
 pub record SessionFits (k : Control) (x : Session) : Type 0 where
   pub sound : IsSound x
@@ -43,6 +47,7 @@ pub record SessionFits (k : Control) (x : Session) : Type 0 where
   pub stands : (m : Member) → In m x.members → MemberStands k m
   pub runs : (r : Mirror) → x.mirror ≡ Some r → MasterStands k r
   pub finished : (r : Mirror) → x.mirror ≡ Some r → r.master.phase ≡ phase.Finishing → (m : Member) → In m x.members → Finished k r m
+  pub few : (r : Mirror) → x.mirror ≡ Some r → r.master.phase ≡ phase.Lost → FewReports r.master x.members
 
 -- a volume has one place in one member of one session
 abbrev pub IsAt : ℕ → Member → Type 0

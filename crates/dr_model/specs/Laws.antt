@@ -1,5 +1,5 @@
 -- What holds of every world of a run, as parts with names.
-use Rattle.std.specs.Prelude.{◌≡◌, ◌⊎◌, ◌||◌, ℕ, ◌<◌, ◌≤◌, ◌+◌, Bool, true, false, List, [], ◌∷◌, length, Option, Some, None, if◌then◌else◌}
+use Rattle.std.specs.Prelude.{◌≡◌, ◌≢◌, ◌⊎◌, ◌||◌, ℕ, ◌<◌, ◌≤◌, ◌+◌, Bool, true, false, List, [], ◌∷◌, length, Option, Some, None, if◌then◌else◌}
 use Rattle.std.specs.FinSet.{contains}
 use Rattle.dr_model.specs.Histories.{Write, Histories, histories}
 use Rattle.dr_model.specs.Contents.{zeros}
@@ -12,11 +12,12 @@ use Rattle.dr_model.specs.Relations.{is_bare}
 use Rattle.dr_model.specs.declared.state.Part.{Part}
 use Rattle.dr_model.specs.declared.state.Part.TheVariants.{Global}
 use Rattle.dr_model.specs.declared.state.PairState.{PairState}
-use Rattle.dr_model.specs.Pairs.{primary_of, secondary_of, is_kind, is_pending}
+use Rattle.dr_model.specs.Pairs.{primary_of, secondary_of, is_metro, is_kind, is_pending}
 use Rattle.dr_model.specs.Entries.{is_at, targets_of}
 use Rattle.dr_model.specs.Table.{Row, Table, table}
 pub use Rattle.dr_model.specs.Tables.{Once}
 use Rattle.dr_model.specs.Groups.{Groups, Housed}
+use Rattle.dr_model.specs.Attempts.{Attempts}
 
 -- a law on each volume, and one on each volume and the one that it points to
 abbrev pub Each : (ℕ → Row → Type 0) → Table → Type 0
@@ -37,14 +38,30 @@ source r = source_of r.volume.fields
 abbrev pub Lawful : Row → Type 0
 Lawful r = IsLawful r.volume.tracks r.volume.fields
 
--- the sets of a target: what it holds isn't blank, and what changed it holds
-pub record SetsFit (own noted rewritten blank : Tracks) : Type 0 where
+-- the sets of a target: what it holds isn't blank, and unless it is revertible it holds what changed
+pub record SetsFit (revertible : Bool) (own noted rewritten blank : Tracks) : Type 0 where
   pub apart : (t : ℕ) → contains own t ≡ true → contains blank t ≡ false
-  pub noted_held : (t : ℕ) → contains noted t ≡ true → contains own t ≡ true
-  pub rewritten_held : (t : ℕ) → contains rewritten t ≡ true → contains own t ≡ true
+  pub noted_held : revertible ≡ false → (t : ℕ) → contains noted t ≡ true → contains own t ≡ true
+  pub rewritten_held : revertible ≡ false → (t : ℕ) → contains rewritten t ≡ true → contains own t ≡ true
 
 abbrev pub RowSets : Row → Type 0
-RowSets r = SetsFit r.volume.fields.own r.volume.fields.source_changes r.volume.fields.target_changes r.volume.fields.blank
+RowSets r = SetsFit r.volume.fields.revertible r.volume.fields.own r.volume.fields.source_changes r.volume.fields.target_changes r.volume.fields.blank
+
+-- The sets of a revertible target, whose changes are recorded: what it held before isn't blank, and of that it
+-- holds now what hasn't changed.
+pub record Reverts (recorded reversing : Bool) (own before noted rewritten blank : Tracks) : Type 0 where
+  pub records : recorded ≡ true
+  pub forward : reversing ≡ false
+  pub apart : (t : ℕ) → contains before t ≡ true → contains blank t ≡ false
+  pub noted_held : (t : ℕ) → contains noted t ≡ true → contains before t ≡ true
+  pub rewritten_held : (t : ℕ) → contains rewritten t ≡ true → contains before t ≡ true
+  pub unchanged : (t : ℕ) → contains own t ≡ true → (contains noted t ≡ false) × (contains rewritten t ≡ false)
+  pub kept : (t : ℕ) → contains before t ≡ true → contains noted t ≡ false → contains rewritten t ≡ false → contains own t ≡ true
+
+abbrev pub RowReverts : Row → Type 0
+RowReverts r =
+    r.volume.fields.revertible ≡ true
+    → Reverts r.volume.fields.recorded r.volume.fields.reversing r.volume.fields.own r.volume.fields.previous_own r.volume.fields.source_changes r.volume.fields.target_changes r.volume.fields.blank
 
 -- a relationship whose changes are recorded is persistent, and only such a one is reversed; then no change is noted, and
 -- there is a track to give back
@@ -81,6 +98,7 @@ pub record Structure (T : Table) : Type 0 where
   pub lawful : Each (λ v r. Lawful r) T
   pub sets : Each (λ v r. RowSets r) T
   pub flags : Each (λ v r. RowFlags r) T
+  pub reverts : Each (λ v r. RowReverts r) T
   pub defined : Each (λ v r. RowDefined r) T
   pub flash : Linked source Flashed T
   pub one_restore : OneRestore T
@@ -141,10 +159,6 @@ RowRecords r = Records r.volume.fields.primary r.volume.fields.primary_state r.v
 abbrev pub Recorders : Table → Type 0
 Recorders = Each (λ v r. RowRecords r)
 
--- no relationship is revertible yet
-abbrev pub AllFinal : Table → Type 0
-AllFinal = Each (λ v r. r.volume.fields.revertible ≡ false)
-
 -- The pair law. Two volumes are a pair where one is the primary of the other, which is its secondary, or where each is
 -- a primary of the other. Outside the tracks that those of them record which are primaries, both contain the same.
 abbrev pub unsent : Row → ℕ → Bool
@@ -157,6 +171,43 @@ Alike v r u s =
 
 abbrev pub PairLaw : Table → Type 0
 PairLaw = Linked its_secondary Alike
+
+-- Seals, and targets that were flashed while their sources were sealed.
+
+-- a pair is of one kind, and only a secondary of Global Copy is sealed
+abbrev pub OneKind : ℕ → Row → ℕ → Row → Type 0
+OneKind v r u s = its_secondary s ≡ Some v → r.volume.fields.secondary ≡ s.volume.fields.primary
+
+abbrev pub SealedGlobal : Row → Type 0
+SealedGlobal r = r.volume.fields.seal ≢ 0 → is_kind Global r.volume.fields.secondary ≡ true
+
+-- where its secondary is sealed for the attempt that a primary records, the primary has nothing left to send
+abbrev pub AllSent : ℕ → Row → ℕ → Row → Type 0
+AllSent v r u s =
+    its_primary s ≡ Some v → r.volume.fields.recording ≡ true → s.volume.fields.seal ≢ 0 → s.volume.fields.seal ≡ r.volume.fields.attempt
+    → (t : ℕ) → contains r.volume.fields.out_of_sync t ≡ false
+
+-- the source of a revertible target is no secondary of Metro Mirror
+abbrev pub NoMetro : ℕ → Row → ℕ → Row → Type 0
+NoMetro v r u s = r.volume.fields.revertible ≡ true → is_metro s.volume.fields.secondary ≡ false
+
+-- no target is restored onto it
+abbrev pub NoneRestored : Table → Type 0
+NoneRestored T = (v a b : ℕ) → source (T a) ≡ Some v → source (T b) ≡ Some v → (fields T a).reversing ≡ true → (fields T b).revertible ≡ true → ⊥
+
+-- and a primary that records an attempt has nothing left to send to it
+abbrev pub NothingLeft : Table → Type 0
+NothingLeft T =
+    (v u x : ℕ) → its_secondary (T v) ≡ Some u → its_primary (T u) ≡ Some v → source (T x) ≡ Some u
+    → (fields T v).recording ≡ true → (fields T x).revertible ≡ true → (t : ℕ) → contains (fields T v).out_of_sync t ≡ false
+
+pub record Seals (T : Table) : Type 0 where
+  pub kinds : Linked its_primary OneKind T
+  pub global : Each (λ v r. SealedGlobal r) T
+  pub sent : Linked its_secondary AllSent T
+  pub no_metro : Linked source NoMetro T
+  pub restored : NoneRestored T
+  pub flashed : NothingLeft T
 
 -- Images: what tracks contain, and what they show.
 
@@ -183,6 +234,15 @@ pub record Images (T : Table) : Type 0 where
   pub fresh : Fresh T
   pub plain : Each (λ v r. Plain r) T
   pub seen : Linked source (λ v r u s. Seen r s) T
+
+-- a revertible target would show, if it went back, the tracks that it held before, and else its source's
+abbrev pub ShowsAside : ℕ → Row → ℕ → Row → Type 0
+ShowsAside v r u s =
+    r.volume.fields.revertible ≡ true → (t : ℕ) → t < r.volume.tracks
+    → (if contains r.volume.fields.previous_own t then r.bytes t else s.bytes t) ≡ r.aside t
+
+abbrev pub Asides : Table → Type 0
+Asides = Linked source ShowsAside
 
 -- of a target whose changes are recorded, what it holds unchanged equals the source's
 abbrev pub HoldsOld : ℕ → Row → ℕ → Row → Type 0
@@ -254,8 +314,9 @@ pub record SoundRows (T : Table) : Type 0 where
   pub images : Images T
   pub recorded : Recorded T
   pub recorders : Recorders T
-  pub final : AllFinal T
+  pub seals : Seals T
   pub pairs : PairLaw T
+  pub asides : Asides T
 
 -- Targets: no volume is defined twice, and none has more than 12 targets.
 
@@ -270,6 +331,7 @@ pub record SoundBut (starts : Option ℕ) (w : World) : Type 0 where
   pub queue : Queue starts w
   pub groups : Groups w.control
   pub housed : Housed w.control
+  pub attempts : Attempts w.control
 
 -- what holds of a world between steps
 abbrev pub Sound : World → Type 0

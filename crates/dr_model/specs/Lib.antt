@@ -27,6 +27,7 @@ pub mod Text
 pub mod Table
 pub mod Rows
 pub mod Groups
+pub mod Attempts
 pub mod Laws
 pub mod Allowed
 pub mod Cuts

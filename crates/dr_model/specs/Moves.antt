@@ -11,9 +11,9 @@ use Rattle.dr_model.specs.declared.state.PairState.{PairState}
 use Rattle.dr_model.specs.Pairs.{altered, written, held_for, freed, sealed, past_attempt, with_attempt, with_floor, no_member, is_suspended, suspended, made_secondary, made_primary, no_primary, no_secondary, received, struck, resumed, taken_over, unsynced, mirrored, synced, thawed, lifted, restarted}
 use Rattle.dr_model.specs.Views.{view}
 use Rattle.dr_model.specs.Control.{Pending, Volume, World}
-use Rattle.dr_model.specs.Relations.{Choices, rest, in_order, is_bare, closed, fetched, noted, rewritten, made, withdrawn_if, resynced, turned, given_up, restored}
+use Rattle.dr_model.specs.Relations.{Choices, rest, in_order, is_bare, closed, fetched, noted, rewritten, made, withdrawn_if, resynced, turned, given_up, restored, flashed, committed, reverted}
 use Rattle.dr_model.specs.declared.event.Event.{Event}
-use Rattle.dr_model.specs.declared.event.Event.TheVariants.{Ack, Set, Copied, Back, Blanked, Restored, Sent, Mirrored, Suspended, TakenOver, Begin, Cut, Sealed, Left}
+use Rattle.dr_model.specs.declared.event.Event.TheVariants.{Ack, Set, Copied, Back, Blanked, Restored, Sent, Mirrored, Suspended, TakenOver, Begin, Cut, Sealed, Left, Flashed, Committed, Reverted}
 
 pub data Move : Type 0 where
   -- host write w lands on track t of volume v, which is no target; of a primary the track is out of sync from then on
@@ -32,8 +32,9 @@ pub data Move : Type 0 where
   Fetch : (v t : ℕ) → Move
   -- target v shares its changed tracks with its source again
   Resync : (v : ℕ) (sequence : Option ℕ) → Move
-  -- target v is to be restored onto its source
-  Reverse : (v : ℕ) → Move
+  -- target v is to be restored onto its source; it is no longer one of its session, where it was that of the member that u is the
+  -- primary of
+  Reverse : (v : ℕ) (left : Option ℕ) → Move
   -- source v takes track t back from its target u
   Restore : (v t u : ℕ) → Move
   -- target v gives up track t, which its source has taken back
@@ -80,6 +81,10 @@ pub data Move : Type 0 where
   RaiseFloor : (v n : ℕ) → Move
   -- target v is no longer one of session s, whose member u is the primary of
   Leave : (v u s : ℕ) → Move
+  -- target v of u is flashed for attempt n of session s, whose member a is the primary of; the flash stays; it is taken back
+  Flash : (v u a s n : ℕ) → Move
+  Commit : (v a s n : ℕ) → Move
+  Revert : (v a s n : ℕ) → Move
 
 -- the volume whose record the move updates
 abbrev pub target : Move → ℕ
@@ -91,7 +96,7 @@ target (Relate v s choices) = v
 target (Withdraw v) = v
 target (Fetch v t) = v
 target (Resync v sequence) = v
-target (Reverse v) = v
+target (Reverse v left) = v
 target (Restore v t u) = v
 target (Release v t) = v
 target (Store v t u last) = v
@@ -117,6 +122,9 @@ target (Finish v n) = v
 target (RaiseAttempt v n) = v
 target (RaiseFloor v n) = v
 target (Leave v u s) = v
+target (Flash v u a s n) = v
+target (Commit v a s n) = v
+target (Revert v a s n) = v
 
 -- the fields that the move leaves there
 abbrev pub fields_left : Move → Volume → Fields
@@ -128,7 +136,7 @@ fields_left (Relate v s choices) u = made s choices u.fields
 fields_left (Withdraw v) u = withdrawn_if true u.tracks u.fields
 fields_left (Fetch v t) u = closed u.tracks (fetched u.fields t)
 fields_left (Resync v sequence) u = resynced sequence u.fields
-fields_left (Reverse v) u = restored u.tracks (turned u.fields)
+fields_left (Reverse v left) u = restored u.tracks (turned u.fields)
 fields_left (Restore v t from) u = altered u.fields t
 fields_left (Release v t) u = restored u.tracks (given_up u.fields t)
 fields_left (Store v t from last) u = received last u.fields t
@@ -154,6 +162,9 @@ fields_left (Finish v n) u = past_attempt n u.fields
 fields_left (RaiseAttempt v n) u = with_attempt n u.fields
 fields_left (RaiseFloor v n) u = with_floor n u.fields
 fields_left (Leave v a s) u = no_member u.fields
+fields_left (Flash v from a s n) u = flashed s n u.fields
+fields_left (Commit v a s n) u = committed n u.fields
+fields_left (Revert v a s n) u = reverted n u.fields
 
 -- by the fields of all volumes before it
 abbrev pub next_fields : Move → (ℕ → Volume) → Fields
@@ -183,6 +194,11 @@ told_blank v n own = map (Blanked v) (in_order n (rest n own))
 abbrev pub told_restored : ℕ → ℕ → ℕ → Tracks → List Event
 told_restored v s n own = if is_bare own then told_blank v n own ++ Restored s v ∷ [] else []
 
+-- a target is no longer one of session s, whose member u is the primary of
+abbrev pub told_left : Option ℕ → ℕ → List Event
+told_left None s = []
+told_left (Some u) s = Left s u ∷ []
+
 -- what the journal is told when the move is done, by the volume as it was
 abbrev pub told : Move → Volume → List Event
 told (Land n v t) u = Ack n ∷ []
@@ -192,7 +208,7 @@ told (Relate v s choices) u = Set v s ∷ []
 told (Withdraw v) u = told_blank v u.tracks u.fields.own
 told (Fetch v t) u = Copied v t ∷ []
 told (Resync v sequence) u = Set v u.fields.source ∷ []
-told (Reverse v) u = told_restored v u.fields.source u.tracks (turned u.fields).own
+told (Reverse v left) u = told_left left u.fields.session ++ told_restored v u.fields.source u.tracks (turned u.fields).own
 told (Restore v t from) u = Back v t from ∷ []
 told (Release v t) u = told_restored v u.fields.source u.tracks (given_up u.fields t).own
 told (Store v t from last) u = Sent from t v ∷ []
@@ -203,6 +219,9 @@ told (LandBoth n v t) u = Ack n ∷ []
 told (Hold v s n first) u = if first then Begin s n ∷ Cut s n v ∷ [] else Cut s n v ∷ []
 told (Seal v a s n) u = Sealed s n a ∷ []
 told (Leave v a s) u = Left s a ∷ []
+told (Flash v from a s n) u = Flashed s n a from v ∷ []
+told (Commit v a s n) u = Committed s n a v ∷ []
+told (Revert v a s n) u = Reverted s n a v ∷ []
 told _ u = []
 
 -- what it is told where the server stopped in a move that counts as done: a write is acknowledged at the next start

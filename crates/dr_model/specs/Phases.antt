@@ -188,6 +188,16 @@ lost m = enters (phase_lost m.servers) m
 abbrev pub settled : Master → Master
 settled m = enters (phase_by (decision m.reports)) m
 
+-- a lost master goes on where no server is left that has to report
+abbrev pub settled_where : List ℕ → Master → Master
+settled_where [] m = settled m
+settled_where (s ∷ rest) m = m
+
+-- a master takes a server's reply; after the last report it settles what was left open
+abbrev pub taken : Master → ℕ → Reply → Master
+taken m s (Reported xs) = settled_where (without s m.owed) (replied m s (Reported xs))
+taken m s r = replied m s r
+
 -- the last number is at least n
 abbrev pub raised : Master → ℕ → Master
 raised m n = record m { number = max m.number n }

@@ -1,12 +1,15 @@
 -- The step table: what each step comes to, from the control state and the journal. No answer looks at a device's bytes.
-use Rattle.std.specs.Prelude.{ℕ, ◌+◌, Bool, true, false, ◌&&◌, ◌||◌, not, List, [], ◌∷◌, ◌++◌, length, map, min, replicate, Option, Some, None, is_some, option_map, unwrap_or, Result, Ok, Err, nat_eq, nat_lt, nat_le, if◌then◌else◌}
+use Rattle.std.specs.Prelude.{ℕ, ◌+◌, ◌==◌, Bool, true, false, ◌&&◌, ◌||◌, not, List, [], ◌∷◌, ◌++◌, length, map, min, replicate, Option, Some, None, is_some, option_map, unwrap_or, Result, Ok, Err, nat_eq, nat_lt, nat_le, if◌then◌else◌}
 use Rattle.std.specs.List.{find, list_any}
 use Rattle.std.specs.Option.{option_or}
 use Rattle.std.specs.FinSet.{len}
 use Rattle.dr_ids.specs.Links.{joins}
 use Rattle.dr_ids.specs.Paths.{path_in, with_path, without_path}
 use Rattle.dr_ids.specs.declared.refusal.Refusal.{Refusal}
-use Rattle.dr_ids.specs.declared.refusal.Refusal.TheVariants.{NotBuilt, JournalFull, Syntax}
+use Rattle.dr_ids.specs.declared.names.Member.{Member}
+use Rattle.dr_ids.specs.declared.refusal.Decision.{Decision}
+use Rattle.dr_ids.specs.declared.refusal.Decision.TheVariants.{Nothing}
+use Rattle.dr_ids.specs.declared.refusal.Refusal.TheVariants.{InSession, Forbidden, NotBuilt, JournalFull, Syntax}
 use Rattle.dr_ids.specs.declared.refusal.Kind.TheVariants.{Server as OfServer, Volume as OfVolume, Lss as OfLss, Path as OfPath, Write as OfWrite, Track as OfTrack}
 use Rattle.dr_ids.specs.declared.refusal.Which.TheVariants.{Servers, Volumes, Tracks, Pending as Writes, Targets, Size, Server as OneServer}
 use Rattle.dr_model.specs.Limits.{most_servers, most_volumes, most_tracks, most_pending, most_targets, most_events, step_events}
@@ -19,11 +22,13 @@ use Rattle.dr_model.specs.Moves.{Relate, Withdraw, Resync, Reverse, is_write}
 use Rattle.dr_model.specs.Carry.{Entry, Next, Pass, Do, Acknowledge, now, check}
 use Rattle.dr_model.specs.Pairs.{is_unpaired}
 use Rattle.dr_model.specs.Entries.{fields_at, is_running, running_check, subsystem, first_of, share_server, share_size, is_no_target, copies_from, targets_of, stands_in, is_any, relation_state, pair_state, is_no_secondary, takes_back, times, fetch_next, give_back}
-use Rattle.dr_model.specs.Sessions.{is_member, in_session}
+use Rattle.dr_model.specs.Decisions.{decision}
+use Rattle.dr_model.specs.Sessions.{session_in, members_in, is_member, in_session}
+use Rattle.dr_model.specs.SessionEntries.{shown_by_members}
 use Rattle.dr_model.specs.PairEntries.{refuse_if, make_entries, remove_entries, pause_entries, resume_entries, is_copying, tracks_to_send, sends, suspend_after, link_down, first_active, first_differing}
 use Rattle.dr_model.specs.WriteEntries.{landing, says_written, after_write, belongs, start_entries, lift_on, freeze_entries, thaw_entries}
 pub use Rattle.dr_model.specs.PlanParts.{Plan, same, none_follow, always, tables_plan, only_says, refuses, name_bytes, server_named, on_named, on_server, unless, entries_plan, is_owner, is_defined, is_named, owner_of, on_owner, on_session}
-use Rattle.dr_model.specs.SessionPlans.{join_plan, leave_plan, add_plan, expel_plan, mirror_plan, pause_mirror_plan, unmirror_plan, abort_plan, exchange_plan, is_ahead}
+use Rattle.dr_model.specs.SessionPlans.{join_plan, leave_plan, add_plan, expel_plan, mirror_plan, pause_mirror_plan, unmirror_plan, abort_plan, exchange_plan}
 use Rattle.dr_model.specs.declared.said.Addition.TheVariants.{Alone, Wrote, Acked, Counted, Showed}
 use Rattle.dr_model.specs.declared.said.Said.{Said}
 use Rattle.dr_model.specs.declared.said.Said.TheVariants.{Done}
@@ -267,16 +272,20 @@ is_plain_target s t k = copies_from s (fields_at k t) && (not (fields_at k t).re
 abbrev pub is_recorded_target : ℕ → ℕ → Control → Bool
 is_recorded_target s t k = is_plain_target s t k && (fields_at k t).recorded
 
+-- t is the target of a member, whose session is named
+abbrev pub counted_refusal : ℕ → Control → Option Refusal
+counted_refusal t k = if (fields_at k t).member then Some (InSession (record { 0 = (fields_at k t).session })) else None
+
 -- a relationship between two volumes that are there is ended
 abbrev pub withdraw_entries : Control → ℕ → ℕ → List Entry
-withdraw_entries k s t = running_check k s ∷ check (is_plain_target s t) (relation_state k t) ∷ now (Withdraw t) ∷ []
+withdraw_entries k s t = running_check k s ∷ refuse_if (counted_refusal t) ∷ check (is_plain_target s t) (relation_state k t) ∷ now (Withdraw t) ∷ []
 
 abbrev pub withdraw_plan : Control → Option Name → ℕ → ℕ → Plan
 withdraw_plan k dev s t = entries_plan (found_pair dev s t ++ withdraw_entries k s t) (Done Alone)
 
 -- a target is made a copy of its source anew
 abbrev pub resync_plan : Control → Option Name → ℕ → ℕ → Option ℕ → Plan
-resync_plan k dev s t sequence = entries_plan (named_pair k dev s t ++ check (is_recorded_target s t) (relation_state k t) ∷ now (Resync t sequence) ∷ []) (Done Alone)
+resync_plan k dev s t sequence = entries_plan (named_pair k dev s t ++ refuse_if (counted_refusal t) ∷ check (is_recorded_target s t) (relation_state k t) ∷ now (Resync t sequence) ∷ []) (Done Alone)
 
 -- no other relationship of s is revertible or reversing
 abbrev pub is_lone_restore : ℕ → ℕ → Control → Bool
@@ -286,14 +295,49 @@ is_lone_restore s t k = not (list_any (λ u. not (nat_eq u t) && ((fields_at k u
 abbrev pub may_return : ℕ → Control → Bool
 may_return s k = is_no_secondary s k && takes_back s k
 
+-- the first secondary of some members whose server is off
+abbrev pub secondary_refusal : List Member → Control → Option Refusal
+secondary_refusal ms k = option_map (λ m. server_off (k.volume m.b.0).server) (find (λ m. not (is_running m.b.0 k)) ms)
+
+-- a decision that lets nothing be done
+abbrev pub leaves_all : Decision → Bool
+leaves_all (Nothing n) = true
+leaves_all d = false
+
+abbrev pub forbidden_unless : Bool → Decision → Option Refusal
+forbidden_unless true d = None
+forbidden_unless false d = Some (Forbidden d)
+
+-- what is decided over the members of session s
+abbrev pub decided_in : ℕ → Control → Decision
+decided_in s k = decision (shown_by_members s (members_in (session_in k.sessions s)) k)
+
+-- A member's target is restored only while each secondary of its session can be looked at, and nothing is to be done with their targets.
+abbrev pub settled_refusal : ℕ → ℕ → Control → Option Refusal
+settled_refusal t s k =
+    if (fields_at k t).member then
+    option_or (secondary_refusal (members_in (session_in k.sessions s)) k) (forbidden_unless (leaves_all (decided_in s k)) (decided_in s k))
+    else None
+
+abbrev pub restore_refusal : ℕ → Control → Option Refusal
+restore_refusal t k = settled_refusal t (fields_at k t).session k
+
+-- the primary of the member that t is the target of
+abbrev pub member_at : Control → ℕ → Option Member
+member_at k t = if (fields_at k t).member then find (λ m. m.c.0 == t) (members_in (session_in k.sessions (fields_at k t).session)) else None
+
+abbrev pub left_by : Control → ℕ → Option ℕ
+left_by k t = option_map (λ m. m.a.0) (member_at k t)
+
 -- a target is to be restored onto its source
 abbrev pub reverse_plan : Control → Option Name → ℕ → ℕ → Plan
 reverse_plan k dev s t = entries_plan
     (named_pair k dev s t
-    ++ check (is_recorded_target s t) (relation_state k t)
+    ++ refuse_if (restore_refusal t)
+    ∷ check (is_recorded_target s t) (relation_state k t)
     ∷ check (is_lone_restore s t) (relation_state k s)
     ∷ check (may_return s) (pair_state k s)
-    ∷ now (Reverse t) ∷ [])
+    ∷ now (Reverse t (left_by k t)) ∷ [])
     (Done Alone)
 
 -- a target whose tracks may be copied in the background
@@ -507,16 +551,10 @@ is_built _ = false
 abbrev pub has_room : List Event → Bool
 has_room events = nat_le (length events + step_events) most_events
 
--- an exchange that would flash, commit, revert or report is none yet
-abbrev pub is_later : Control → Step → Bool
-is_later k (Exchange s name reply) = is_ahead k s
-is_later k _ = false
-
 -- a form that isn't built is refused, and then a step without room
 abbrev pub step_plan : Control → List Event → ℕ → Step → Plan
 step_plan k events line step =
     if not (is_built step) then refuses NotBuilt
-    else if is_later k step then refuses NotBuilt
     else if has_room events then plan_of k events line step
     else refuses JournalFull
 

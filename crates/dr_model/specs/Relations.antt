@@ -1,5 +1,5 @@
 -- FlashCopy relationships: what the fields of a target become.
-use Rattle.std.specs.Prelude.{ℕ, Bool, true, false, not, ◌&&◌, ◌||◌, List, filter, Option, slice_get, unwrap_or, nat_eq, if◌then◌else◌}
+use Rattle.std.specs.Prelude.{ℕ, max, Bool, true, false, not, ◌&&◌, ◌||◌, List, filter, Option, slice_get, unwrap_or, nat_eq, if◌then◌else◌}
 use Rattle.std.specs.List.{range_with_len}
 use Rattle.std.specs.FinSet.{union, contains, insert, remove, difference, empty, from_list, is_subset, len}
 use Rattle.dr_model.specs.Layout.{Tracks, Fields}
@@ -123,3 +123,38 @@ given_up f t = record f { own = remove f.own t }
 -- a restore that has no track left to give back ends
 abbrev pub restored : ℕ → Fields → Fields
 restored n f = withdrawn_if (is_bare f.own) n f
+
+-- The target is flashed for attempt n of session s: it shows its source as that is now, and what it held is kept aside.
+abbrev pub flashed : ℕ → ℕ → Fields → Fields
+flashed s n f = record f {
+  own = difference (difference f.own f.source_changes) f.target_changes;
+  previous_own = f.own;
+  sequence = n;
+  previous_sequence = f.sequence;
+  revertible = true;
+  session = s;
+}
+
+-- the flash of attempt n stays, and the target is a member's from then on
+abbrev pub committed : ℕ → Fields → Fields
+committed n f = record f {
+  previous_own = empty;
+  source_changes = empty;
+  target_changes = empty;
+  previous_sequence = 0;
+  revertible = false;
+  member = true;
+  floor = n;
+}
+
+-- it is taken back: the target shows what it showed before
+abbrev pub reverted : ℕ → Fields → Fields
+reverted n f = record f {
+  own = f.previous_own;
+  previous_own = empty;
+  sequence = f.previous_sequence;
+  previous_sequence = 0;
+  revertible = false;
+  session = if f.member then f.session else 0;
+  floor = max f.floor n;
+}

@@ -198,25 +198,6 @@ expel_plan k dev l a s = on_owner (owner_of k l) (λ owner. on_volume k a (on_se
 
 -- ---- exchanges
 
--- an exchange that flashes, commits, reverts or reports isn't built
-abbrev pub is_far : PhaseName → Bool
-is_far phase.Flashing = true
-is_far phase.Committing = true
-is_far phase.Reverting = true
-is_far phase.Lost = true
-is_far p = false
-
-abbrev pub mirror_ahead : Option Mirror → Bool
-mirror_ahead None = false
-mirror_ahead (Some r) = is_far r.master.phase
-
-abbrev pub session_ahead : Option Session → Bool
-session_ahead None = false
-session_ahead (Some x) = mirror_ahead x.mirror
-
-abbrev pub is_ahead : Control → ℕ → Bool
-is_ahead k s = session_ahead (session_in k.sessions s)
-
 abbrev pub is_idle : PhaseName → Bool
 is_idle phase.Idle = true
 is_idle p = false
@@ -246,7 +227,7 @@ order_of r server = if is_idle r.master.phase then Some (record { work = phases.
 
 -- the master takes the reply of a server that has done its order
 abbrev pub answered_by : ℕ → ℕ → phases.Work → List Member → Control → Control
-answered_by s server work ms k = with_sessions (changed s (with_master (λ m. phases.replied m server (reply_after work ms k)))) k
+answered_by s server work ms k = with_sessions (changed s (with_master (λ m. phases.taken m server (reply_after s work ms k)))) k
 
 abbrev pub exchange_done : ℕ → ℕ → Bool → List Member → Option phases.Order → Plan
 exchange_done s server reply ms None = refuses (OutOfOrder phase.None)

@@ -17,15 +17,24 @@ due_by h ps v t = image h.write (h.now v t ++ waiting ps v t)
 abbrev pub due : World → ℕ → ℕ → List ℕ
 due w = due_by (histories w.events) w.control.pending
 
--- a volume: whether it is defined, its record, what its tracks contain, and what they are due to show
+-- what a track of a target that is revertible would show if it went back
+abbrev pub aside_by : Histories → ℕ → ℕ → List ℕ
+aside_by h v t = image h.write (h.aside v t)
+
+abbrev pub aside : World → ℕ → ℕ → List ℕ
+aside w = aside_by (histories w.events)
+
+-- a volume: whether it is defined, its record, what its tracks contain, what they are due to show, and what they would show if it
+-- went back
 pub record Row : Type 0 where
   pub defined : Bool
   pub volume : Volume
   pub bytes : ℕ → List ℕ
   pub due : ℕ → List ℕ
+  pub aside : ℕ → List ℕ
 
 abbrev pub Table : Type 0
 Table = ℕ → Row
 
 abbrev pub table : World → Table
-table w v = record { defined = is_volume w.control v; volume = w.control.volume v; bytes = w.contents v; due = due w v }
+table w v = record { defined = is_volume w.control v; volume = w.control.volume v; bytes = w.contents v; due = due w v; aside = aside w v }

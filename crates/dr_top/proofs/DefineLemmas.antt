@@ -43,7 +43,7 @@ use Rattle.dr_top.specs.Here.{here, IsReady, OnAnswer}
 use Rattle.dr_flash.specs.Here.{IsAtRest}
 use Rattle.dr_metro.proofs.ToldLemmas.{told-push}
 use Rattle.dr_top.proofs.LocatedLemmas.{is_volume-here}
-use Rattle.dr_top.proofs.StartLemmas.{some_or_none}
+use Rattle.dr_admin.proofs.OwnerLemmas.{some_or_none}
 use Rattle.dr_top.proofs.StopLemmas.{known-server}
 use Rattle.dr_top.specs.declared.tables.Tables.{Tables}
 use Rattle.dr_top.proofs.ZeroDevice.{zero_blocks, volume-zeros, track-zeros}

@@ -1,13 +1,11 @@
 -- What a line that exchanges an order and its reply comes to.
-use Rattle.std.proofs.Common.{ℕ, zero, suc, ◌≡◌, ◌≢◌, ◌<◌, ◌≤◌, ◌+◌, inl, inr, List, [], ◌∷◌, ◌++◌, length, slice_get, refl, sym, ◌∙◌, ap, arith, subst, Bool, true, false, nat_le, Option, Some, None, IfSome}
+use Rattle.std.proofs.Common.{ℕ, zero, suc, ◌≡◌, ◌<◌, ◌≤◌, ◌+◌, inl, inr, List, [], ◌∷◌, ◌++◌, length, slice_get, refl, sym, ◌∙◌, ap, arith, subst, Bool, true, false, nat_le, Option, Some, None, IfSome}
 use Rattle.std.specs.Prelude.{IsSome, IsTrue, ◌↔◌, option_map, unwrap_or}
 use Rattle.std.proofs.lemmas.Bool.{and_from}
 use Rattle.std.proofs.lemmas.Bool.Decides.{nat_tests}
 use Rattle.std.proofs.lemmas.List.{append-nil, length-map}
 use Rattle.dr_ids.specs.declared.names.Member.{Member}
 use Rattle.dr_ids.specs.declared.refusal.Refusal.{Refusal}
-use Rattle.dr_ids.specs.declared.refusal.PhaseName.{PhaseName}
-use Rattle.dr_ids.specs.declared.refusal.PhaseName.TheVariants as phase
 use Rattle.dr_ids.specs.declared.refusal.Kind.TheVariants.{Server as OfServer, Session as OfSession}
 use Rattle.dr_plant.specs.State.{PlantState}
 use Rattle.dr_config.specs.Table.{Table, server_named}
@@ -23,19 +21,21 @@ use Rattle.dr_model.specs.Phases as phases
 use Rattle.dr_model.specs.PlanParts.{Plan, unless, none_follow, name_bytes, on_server, on_session}
 use Rattle.dr_model.specs.Refusals.{unknown}
 use Rattle.dr_model.specs.Runs.{after_plan, begun, finish, answered, said}
+use Rattle.dr_model.specs.Decisions.{Shown}
 use Rattle.dr_model.specs.SessionEntries.{members_on, order_entries, reply_after}
-use Rattle.dr_model.specs.SessionPlans.{exchange_plan, exchange_on, exchange_done, exchange_refusal, is_ahead, is_far, order_of}
+use Rattle.dr_model.specs.SessionPlans.{exchange_plan, exchange_on, exchange_done, exchange_refusal, order_of}
 use Rattle.dr_model.specs.Sessions.{Session, Mirror, session_in, mirror_in, members_in}
 use Rattle.dr_model.proofs.CarryLemmas.{plan-ends, plan-refuses}
 use Rattle.dr_groups.proofs.Changes.{session-found}
 use Rattle.dr_groups.proofs.Members.{members-few}
-use Rattle.dr_laws.proofs.Awaits.{not-far, exchange-begins, exchange-next, exchange-awaits}
+use Rattle.dr_laws.proofs.Awaits.{exchange-begins, exchange-next, exchange-awaits}
 use Rattle.dr_laws.proofs.ReadStops.{ends-exact}
 use Rattle.dr_volume.specs.View.{ReadsPass, ids_of}
 use Rattle.dr_flash.specs.Here.{armed_in, IsAtRest}
 use Rattle.dr_flash.specs.Turns.{Leads}
 use Rattle.dr_flash.proofs.EndsLemmas.{ends-none}
-use Rattle.dr_gmirror.specs.Exchange.{PlanEnds, refusal_in, order_in, is_built, is_awaited, IsNear, MayExchange}
+use Rattle.dr_coord.specs.Aside.{AsideFits}
+use Rattle.dr_gmirror.specs.Exchange.{PlanEnds, refusal_in, order_in, members_in_reply, is_awaited, IsNear, MayExchange}
 use Rattle.dr_gmirror.specs.Orders.{AreReady, MayBegin, MayOrder}
 use Rattle.dr_gmirror.proofs.ExchangeLemmas.{follow-nothing}
 use Rattle.dr_top.specs.Here.{here, IsReady, IsTold}
@@ -163,18 +163,11 @@ may-order phases.Revert ss n number may = tt
 may-order phases.Finish ss n number may = tt
 may-order phases.Report ss n number may = tt
 
--- a phase in which an exchange is built
-built : (p : PhaseName) → is_far p ≡ false → p ≢ phase.None → is_built p ≡ true
-built phase.Idle near some = refl
-built phase.Coordinating near some = refl
-built phase.Releasing near some = refl
-built phase.Draining near some = refl
-built phase.Finishing near some = refl
-built phase.Flashing near some = absurd cc
-built phase.Committing near some = absurd cc
-built phase.Reverting near some = absurd cc
-built phase.Lost near some = absurd cc
-built phase.None near some = absurd (some refl)
+-- what a reply reports has its place
+has-place : (reports most : ℕ) (y : phases.Reply) → ((xs : List Shown) → y ≡ phases.Reported xs → reports + length xs ≤ most) → reports ≤ 64 → most ≤ 64 → reports + members_in_reply y ≤ 64
+has-place reports most (phases.Reported xs) room few all = let fit = room xs refl in omega (arith, fit, all)
+has-place reports most phases.Done room few all = omega (arith, few)
+has-place reports most phases.NotYet room few all = omega (arith, few)
 
 module _ (s : PlantState) (t : Table) (h : Tables) (ev : List Event) (sound : Sound (here s t h ev)) (n : ℕ) where
   abbrev ss : List Session
@@ -190,7 +183,17 @@ module _ (s : PlantState) (t : Table) (h : Tables) (ev : List Event) (sound : So
       by None none i m at = absurd (got-in [] i m at)
       by (Some x) there i m at =
           let stands = (fits x there).stands m (got-in x.members i m at) in
-          record { primary = placed-here s t h ev m.a.0 stands.a; secondary = placed-here s t h ev m.b.0 stands.b; server = sym stands.server }
+          record {
+            primary = placed-here s t h ev m.a.0 stands.a;
+            secondary = placed-here s t h ev m.b.0 stands.b;
+            target = placed-here s t h ev m.c.0 stands.c;
+            server = sym stands.server;
+            together = stands.target_server;
+          }
+
+  -- what revertible targets held before isn't blank
+  pub aside-fits : AsideFits s t
+  aside-fits = record { aside = λ v is. (sound.rows.structure.reverts v is).apart }
 
   -- a session has no more members than there are volumes
   pub few-members : length t.volumes ≤ 64 → length (members_in (session_in ss n)) ≤ 64
@@ -203,9 +206,9 @@ module _ (s : PlantState) (t : Table) (h : Tables) (ev : List Event) (sound : So
           let volumes : length (ids_of t.volumes) ≡ length t.volumes = length-map t.volumes _ in
           omega (arith, few, all, volumes)
 
-  -- the master runs on a server that is defined, in a phase in which an exchange is built
-  pub master-near : is_ahead (here s t h ev).control n ≡ false → IfSome (mirror_in (session_in ss n)) (IsNear (length t.names))
-  master-near near = by (session_in ss n) refl
+  -- the master runs on a server that is defined, in a phase
+  pub master-near : IfSome (mirror_in (session_in ss n)) (IsNear (length t.names))
+  master-near = by (session_in ss n) refl
     where
       of : (x : Session) → session_in ss n ≡ Some x → (m : Option Mirror) → x.mirror ≡ m → IfSome m (IsNear (length t.names))
       of x there None none = tt
@@ -213,22 +216,19 @@ module _ (s : PlantState) (t : Table) (h : Tables) (ev : List Event) (sound : So
           let runs = (fits x there).runs r is in
           let few : length t.names ≤ 8 = sound.housed.0 in
           let known : r.server < length t.names = subst (λ q. q < length t.names) runs.server (sound.housed.1 runs.volume runs.defined) in
-          record { low = omega (arith, few, known); known = known; built = built r.master.phase (not-far (here s t h ev).control n x r there is near) runs.in_phase }
+          record { low = omega (arith, few, known); known = known; in_phase = runs.in_phase }
 
       by : (o : Option Session) → session_in ss n ≡ o → IfSome (mirror_in o) (IsNear (length t.names))
       by None none = tt
       by (Some x) there = of x there x.mirror refl
 
   -- the order may come, and the master awaits the reply
-  module _ (near : is_ahead (here s t h ev).control n ≡ false) (reports : IfSome (mirror_in (session_in ss n)) (λ r. length r.master.reports ≤ 64)) (server : ℕ) (o : phases.Order) where
+  module _ (few_volumes : length t.volumes ≤ 64) (reports : IfSome (mirror_in (session_in ss n)) (λ r. length r.master.reports ≤ 64)) (server : ℕ) (o : phases.Order) where
     abbrev ws : World
     ws = here s t h ev
 
     module _ (free : refusal_in ws.control (mirror_in (session_in ss n)) server (members_in (session_in ss n)) ≡ None) (order : order_in (mirror_in (session_in ss n)) server ≡ Some o)
         (x : Session) (there : session_in ss n ≡ Some x) (r : Mirror) (has : x.mirror ≡ Some r) where
-      far : is_far r.master.phase ≡ false
-      far = not-far ws.control n x r there has near
-
       allowed : exchange_refusal ws.control r server x.members ≡ None
       allowed = sym (ap (λ q. refusal_in ws.control (mirror_in q) server (members_in q)) there ∙ ap (λ m. refusal_in ws.control m server x.members) has) ∙ free
 
@@ -240,24 +240,25 @@ module _ (s : PlantState) (t : Table) (h : Tables) (ev : List Event) (sound : So
 
       begins : MayBegin ss n o.number
       begins = record {
-        free = exchange-begins ws sound n server x r o there has far allowed ordered;
-        next = subst (λ q. o.number ≤ unwrap_or (option_map (λ (x : Session). x.last) q) 0 + 1) (sym there) (exchange-next ws sound n server x r o there has far allowed ordered);
+        free = exchange-begins ws sound n server x r o there has allowed ordered;
+        next = subst (λ q. o.number ≤ unwrap_or (option_map (λ (x : Session). x.last) q) 0 + 1) (sym there) (exchange-next ws sound n server x r o there has allowed ordered);
       }
 
-      awaited : (v : World) → Leads ws (order_entries o.work n o.number (members_on server x.members)) v → is_awaited (mirror_in (session_in v.control.sessions n)) server (reply_after o.work (members_on server x.members) v.control) ≡ true
+      awaited : (v : World) → Leads ws (order_entries o.work n o.number (members_on server x.members)) v → is_awaited (mirror_in (session_in v.control.sessions n)) server (reply_after n o.work (members_on server x.members) v.control) ≡ true
       awaited v leads =
-          let y = reply_after o.work (members_on server x.members) v.control in
-          let a = exchange-awaits ws sound n server x r o there has far allowed ordered v (leads-carry ws v _ leads) in
+          let y = reply_after n o.work (members_on server x.members) v.control in
+          let a = exchange-awaits ws sound n server x r o there has allowed ordered v (leads-carry ws v _ leads) in
           let less : length a.mirror.master.reports ≤ length r.master.reports = a.reports in
           let most : length r.master.reports ≤ 64 = few in
-          let low : length a.mirror.master.reports ≤ 64 = omega (arith, less, most) in
+          let all : length x.members ≤ 64 = subst (λ q. length (members_in q) ≤ 64) there (few-members few_volumes) in
+          let low : length a.mirror.master.reports + members_in_reply y ≤ 64 = has-place (length a.mirror.master.reports) (length x.members) y a.room (omega (arith, less, most)) all in
           ap (λ q. is_awaited (mirror_in q) server y) a.found ∙ ap (λ m. is_awaited m server y) a.has_master
-          ∙ and_from (phases.awaits a.mirror.master server y) (nat_le (length a.mirror.master.reports) 64) a.awaits (grind (arith, nat_tests, low))
+          ∙ and_from (phases.awaits a.mirror.master server y) (nat_le (length a.mirror.master.reports + members_in_reply y) 64) a.awaits (grind (arith, nat_tests, low))
 
       exchanges : MayExchange ws n server o
       exchanges = record {
         may = may-order o.work ss n o.number begins;
-        awaited = subst (λ q. (v : World) → Leads ws (order_entries o.work n o.number (members_on server (members_in q))) v → is_awaited (mirror_in (session_in v.control.sessions n)) server (reply_after o.work (members_on server (members_in q)) v.control) ≡ true) (sym there) awaited;
+        awaited = subst (λ q. (v : World) → Leads ws (order_entries o.work n o.number (members_on server (members_in q))) v → is_awaited (mirror_in (session_in v.control.sessions n)) server (reply_after n o.work (members_on server (members_in q)) v.control) ≡ true) (sym there) awaited;
       }
 
     pub may-exchange : refusal_in ws.control (mirror_in (session_in ss n)) server (members_in (session_in ss n)) ≡ None → order_in (mirror_in (session_in ss n)) server ≡ Some o → MayExchange ws n server o

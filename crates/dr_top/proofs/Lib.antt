@@ -13,7 +13,7 @@ pub mod LossLemmas
 pub mod StepLemmas
 pub mod StopLemmas
 pub mod StartLemmas
-pub mod ExpiryLemmas
+pub mod ComeLemmas
 pub mod ZeroDevice
 pub mod DefineLemmas
 pub mod TopLemmas

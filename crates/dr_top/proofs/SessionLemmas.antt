@@ -1,7 +1,6 @@
 -- What a line on a session comes to.
-use Rattle.std.proofs.Common.{ℕ, ◌≡◌, ◌<◌, List, [], ◌∷◌, refl, sym, ◌∙◌, ap, arith, subst, Bool, true, false, not, cond, nat_eq, nat_lt, Option, Some, None}
-use Rattle.std.specs.Prelude.{IsSome, IsTrue, ◌↔◌, Err, option_map, if◌then◌else◌}
-use Rattle.std.specs.List.{find}
+use Rattle.std.proofs.Common.{ℕ, ◌≡◌, ◌<◌, ◌≤◌, List, [], ◌∷◌, length, refl, sym, ◌∙◌, ap, arith, subst, Bool, true, false, cond, nat_eq, Option, Some, None}
+use Rattle.std.specs.Prelude.{IsSome, IfSome, IsTrue, ◌↔◌, Err, option_map, if◌then◌else◌}
 use Rattle.std.specs.Option.{option_or, unwrap_or}
 use Rattle.std.proofs.lemmas.Bool.Decides.{nat_tests}
 use Rattle.std.proofs.lemmas.List.{append-nil}
@@ -19,13 +18,16 @@ use Rattle.dr_model.specs.declared.said.Addition.{Addition}
 use Rattle.dr_model.specs.declared.said.Addition.TheVariants.{Alone}
 use Rattle.dr_model.specs.declared.step.Name.{Name}
 use Rattle.dr_model.specs.Control.{Control, World}
-use Rattle.dr_model.specs.PlanParts.{Plan, unless, is_named, owner_of, on_owner, on_session}
+use Rattle.dr_model.specs.PlanParts.{Plan, unless, is_named, on_session}
+use Rattle.dr_model.specs.Laws.{Sound}
 use Rattle.dr_model.specs.Phases as phases
 use Rattle.dr_model.specs.Refusals.{unknown, server_off}
 use Rattle.dr_model.specs.Runs.{after_plan, said}
 use Rattle.dr_model.specs.SessionPlans.{with_sessions, table_plan, name_refusal, off_refusal, outside_refusal, master_refusal, join_plan, abort_plan, says_phase, session_phase}
 use Rattle.dr_model.specs.Sessions.{Session, Mirror, session_in, mirror_in, has_lss, not_in_session, join_refusal, pause_refusal, abort_refusal, joined, changed, with_master}
 use Rattle.dr_model.proofs.CarryLemmas.{plan-refuses, plan-tables, plan-ends, carry-none}
+use Rattle.dr_groups.proofs.Tables.{session-fits}
+use Rattle.dr_volume.proofs.WorldLaws.{on-seen}
 use Rattle.dr_top.specs.Found.{IsFound, found_plan}
 use Rattle.dr_top.specs.Here.{here, OnAnswer}
 use Rattle.dr_top.specs.declared.tables.Tables.{Tables}
@@ -178,6 +180,30 @@ module _ (s : PlantState) (t : Table) (h : Tables) (ev : List Event) (line : ℕ
           ∙ ap (λ es. said (record w { control = with_sessions (changed n (with_master phases.aborted)) k; events = es }) line (session_phase (session_in (changed n (with_master phases.aborted) ss) n))) (append-nil ev)
           ∙ (λ i. said (record w { control = record k { sessions = sym is i } }) line (session_phase (session_in (sym is i) n)))
           ∙ ap (λ a. said (with ys) line a) (sym says)
+
+-- a server is off for the machine where it is for the plant
+pub off-by : (s : PlantState) (t : Table) (h : Tables) (ev : List Event) (server : ℕ) (b : Bool) → server < 8 → b ≡ s.on server → (if b then None else Some (server_off server)) ≡ off_refusal (here s t h ev).control server
+off-by s t h ev server b low is = ap (λ b. if b then None else Some (server_off server)) (is ∙ sym (on-seen s server low))
+
+-- the server of a master is one of the eight, since it is that of a volume
+pub master-low : (s : PlantState) (t : Table) (h : Tables) (ev : List Event) (n : ℕ) → Sound (here s t h ev) → IfSome (mirror_in (session_in h.sessions.sessions n)) (λ r. r.server < 8)
+master-low s t h ev n sound = by (session_in h.sessions.sessions n) refl
+  where
+    of : (x : Session) → session_in h.sessions.sessions n ≡ Some x → (m : Option Mirror) → x.mirror ≡ m → IfSome m (λ r. r.server < 8)
+    of x there None none = tt
+    of x there (Some r) is =
+        let runs = (session-fits (here s t h ev).control n x sound.groups there).runs r is in
+        let few : length t.names ≤ 8 = sound.housed.0 in
+        let known : r.server < length t.names = subst (λ q. q < length t.names) runs.server (sound.housed.1 runs.volume runs.defined) in
+        omega (arith, few, known)
+
+    by : (o : Option Session) → session_in h.sessions.sessions n ≡ o → IfSome (mirror_in o) (λ r. r.server < 8)
+    by None none = tt
+    by (Some x) there = of x there x.mirror refl
+
+pub master-known : (m : Option Mirror) (server : ℕ) → Some server ≡ option_map (λ (r : Mirror). r.server) m → IfSome m (λ r. r.server < 8) → server < 8
+master-known (Some r) server is low = subst (λ (o : Option ℕ). unwrap_or o 0 < 8) (sym is) low
+master-known None server is low = absurd cc
 
 -- the master's server, if there is a master, tells whether it is off
 pub master-off : (k : Control) (m : Option Mirror) (server : ℕ) → Some server ≡ option_map (λ (r : Mirror). r.server) m → off_refusal k server ≡ master_refusal k m

@@ -22,7 +22,7 @@ use Rattle.dr_model.specs.declared.step.Devs.{Devs}
 use Rattle.dr_top.specs.Forms.{is_plain, is_relation, is_session}
 use Rattle.dr_model.specs.Answers.{answer}
 use Rattle.dr_model.specs.Control.{World}
-use Rattle.dr_model.specs.Plans.{refuses, plan_of, is_built, is_later, has_room}
+use Rattle.dr_model.specs.Plans.{refuses, plan_of, is_built, has_room}
 use Rattle.dr_model.specs.Runs.{Task, after_plan, after_task, masters_lost, said}
 use Rattle.dr_model.proofs.CarryLemmas.{plan-refuses}
 use Rattle.dr_laws.proofs.Journal.{EndsAnswered, after_task-ends, is_answer, Silent}
@@ -210,26 +210,23 @@ module _ (w : World) (number : ℕ) (step : Step) where
   abbrev task : Task
   task = record { line = number; asked = Ok step }
 
-  by-tests : (built later room : Bool) → is_built step ≡ built → is_later w.control step ≡ later → has_room w.events ≡ room
-      → after_task w task ≡ masters_lost w (after_plan w number (cond (not built) (refuses NotBuilt) (cond later (refuses NotBuilt) (cond room (plan_of w.control w.events number step) (refuses JournalFull)))))
-  by-tests built later room is far left =
-      λ i. masters_lost w (after_plan w number (cond (not (is i)) (refuses NotBuilt) (cond (far i) (refuses NotBuilt) (cond (left i) (plan_of w.control w.events number step) (refuses JournalFull)))))
+  by-tests : (built room : Bool) → is_built step ≡ built → has_room w.events ≡ room
+      → after_task w task ≡ masters_lost w (after_plan w number (cond (not built) (refuses NotBuilt) (cond room (plan_of w.control w.events number step) (refuses JournalFull))))
+  by-tests built room is left =
+      λ i. masters_lost w (after_plan w number (cond (not (is i)) (refuses NotBuilt) (cond (left i) (plan_of w.control w.events number step) (refuses JournalFull))))
 
   -- a step that is refused before it begins
   refused-first : (r : Refusal) → masters_lost w (after_plan w number (refuses r)) ≡ said w number (Refused r)
   refused-first r = ap (masters_lost w) (plan-refuses w number r) ∙ masters-stay w (said w number (Refused r)) refl
 
   pub task-unbuilt : is_built step ≡ false → after_task w task ≡ said w number (Refused NotBuilt)
-  task-unbuilt is = by-tests false (is_later w.control step) (has_room w.events) is refl refl ∙ refused-first NotBuilt
+  task-unbuilt is = by-tests false (has_room w.events) is refl ∙ refused-first NotBuilt
 
-  pub task-later : is_built step ≡ true → is_later w.control step ≡ true → after_task w task ≡ said w number (Refused NotBuilt)
-  task-later is far = by-tests true true (has_room w.events) is far refl ∙ refused-first NotBuilt
+  pub task-full : is_built step ≡ true → has_room w.events ≡ false → after_task w task ≡ said w number (Refused JournalFull)
+  task-full built full = by-tests true false built full ∙ refused-first JournalFull
 
-  pub task-full : is_built step ≡ true → is_later w.control step ≡ false → has_room w.events ≡ false → after_task w task ≡ said w number (Refused JournalFull)
-  task-full is near full = by-tests true false false is near full ∙ refused-first JournalFull
-
-  pub task-built : (u : World) → is_built step ≡ true → is_later w.control step ≡ false → has_room w.events ≡ true → after_plan w number (plan_of w.control w.events number step) ≡ u → after_task w task ≡ masters_lost w u
-  task-built u is near room leads = by-tests true false true is near room ∙ ap (masters_lost w) leads
+  pub task-built : (u : World) → is_built step ≡ true → has_room w.events ≡ true → after_plan w number (plan_of w.control w.events number step) ≡ u → after_task w task ≡ masters_lost w u
+  task-built u built room leads = by-tests true true built room ∙ ap (masters_lost w) leads
 
   -- the journal before the answer tells no answer more
   ends : EndsAnswered w number (after_task w task)

@@ -1,14 +1,14 @@
--- What stopping a server, arming its fuse and starting it come to, over what plant, configuration, writes and journal
+-- What stopping a server and arming its fuse come to, over what plant, configuration, writes and journal
 -- show.
-use Rattle.std.proofs.Common.{ℕ, ◌≡◌, ◌<◌, List, [], ◌∷◌, ◌++◌, refl, ap, ◌∙◌, sym, subst, inl, inr, true, false, cond, nat_eq, Option, Some, None}
+use Rattle.std.proofs.Common.{ℕ, ◌≡◌, ◌<◌, List, [], ◌∷◌, ◌++◌, refl, ap, ◌∙◌, sym, subst, inl, inr, true, false, cond, Some, None}
 use Rattle.std.proofs.lemmas.List.{append-nil}
-use Rattle.dr_plant.specs.State.{PlantState, off, started, started_write, passes_write}
+use Rattle.dr_plant.specs.State.{PlantState, off}
 use Rattle.dr_plant.specs.State as plant
 use Rattle.dr_plant.specs.declared.plant.WriteFuse.{WriteFuse}
 use Rattle.dr_plant.specs.declared.plant.Torn.{Torn}
 use Rattle.dr_config.specs.Table.{Table, server_named}
 use Rattle.dr_model.specs.declared.event.Event.{Event}
-use Rattle.dr_model.specs.declared.event.Event.TheVariants.{Stopped, Started}
+use Rattle.dr_model.specs.declared.event.Event.TheVariants.{Stopped}
 use Rattle.dr_ids.specs.declared.refusal.Kind.TheVariants.{Server as OfServer}
 use Rattle.dr_model.specs.Refusals.{unknown}
 use Rattle.dr_model.specs.declared.said.Said.TheVariants.{Done, Refused}
@@ -17,22 +17,17 @@ use Rattle.dr_model.specs.declared.step.Name.{Name}
 use Rattle.dr_model.specs.declared.step.TornWord.{TornWord}
 use Rattle.dr_model.specs.Tables.{at}
 use Rattle.dr_model.specs.Control.{Fuse, World}
-use Rattle.dr_model.specs.Plans.{Plan, only_says, on_server, on_named, name_bytes, stop_done, stop_on, armed, arm_on, torn_bytes, fuse_at_start, starting}
+use Rattle.dr_model.specs.Plans.{Plan, only_says, on_server, on_named, name_bytes, stop_done, stop_on, armed, arm_on, torn_bytes}
 use Rattle.dr_model.specs.Runs.{after_plan, said}
 use Rattle.dr_model.proofs.CarryLemmas.{plan-says, plan-refuses, plan-tables}
-use Rattle.dr_volume.specs.View.{fuses_seen, fuse_seen, torn_seen}
-use Rattle.dr_volume.proofs.WorldLaws.{on-at, on-seen, fuses-at, fuse-seen}
+use Rattle.dr_volume.specs.View.{torn_seen}
+use Rattle.dr_volume.proofs.WorldLaws.{on-at, on-seen, fuses-at}
 use Rattle.std.proofs.lemmas.Bool.Decides.{eqb_tells}
 use Rattle.dr_model.proofs.Images.{at_same, at_other}
 use Rattle.dr_volume.specs.View.{volume_seen, ReadsPass}
 use Rattle.dr_top.specs.Here.{here}
 use Rattle.dr_flash.specs.Here.{IsAtRest}
 use Rattle.dr_top.specs.declared.tables.Tables.{Tables}
-
--- a fuse that stands at 0 goes when its server starts
-started-fuse : (f : Option WriteFuse) → fuse_seen (started_write f) ≡ fuse_at_start (fuse_seen f)
-started-fuse None = refl
-started-fuse (Some f) = elim (nat_eq f.after 0) as (λ b. fuse_seen (cond (cond b false true) (Some f) None) ≡ cond b None (fuse_seen (Some f))) [ true ↦ refl | false ↦ refl ]
 
 module _ (s : PlantState) (t : Table) (h : Tables) (ev : List Event) (line : ℕ) where
   abbrev w : World
@@ -75,19 +70,6 @@ module _ (s : PlantState) (t : Table) (h : Tables) (ev : List Event) (line : ℕ
       ∙ ap (λ x. said (record w { control = record w.control { fuse = at w.control.fuse server (Some (let g : Fuse = record { after = writes; torn = x } in g)) } }) line (Done Alone)) (sym same)
       ∙ (λ i. said (record w { control = record w.control { fuse = sym (fuses-at s (fused f server) server (Some f) low refl) i } }) line (Done Alone))
       ∙ ap (λ x. said (here x t h ev) line (Done Alone)) (sym is)
-
-  -- the machine's state as a server starts
-  pub started-here : (server : ℕ) (mid : List Event) → server < 8 → mid ≡ ev ++ Started server ∷ []
-      → record w { control = starting server w.control; events = ev ++ Started server ∷ [] }
-      ≡ here (started s server) t h mid
-  unfolding started
-  started-here server mid low told i = record w {
-    control = record w.control {
-      on = sym (on-at s (started s server) server true low refl) i;
-      fuse = (ap (λ f. at (fuses_seen s) server (fuse_at_start f)) (fuse-seen s server low) ∙ ap (at (fuses_seen s) server) (sym (started-fuse (s.write_fuse server))) ∙ sym (fuses-at s (started s server) server (started_write (s.write_fuse server)) low refl)) i;
-    };
-    events = sym told i;
-  }
 
 off-other : (s : PlantState) (server q : ℕ) → (off s server).on q ≡ true → s.on q ≡ true
 off-other s server q on = elim (eqb_tells q server) [

@@ -1,5 +1,5 @@
 -- Lines on sessions that name a logical subsystem.
-use Rattle.std.specs.Prelude.{◌≡◌, ℕ, List, Option, Some, true, IsSome}
+use Rattle.std.specs.Prelude.{◌≡◌, ℕ, ◌<◌, List, Option, Some, true, IsSome}
 use Rattle.std.specs.Option.{option_or}
 use Rattle.dr_ids.specs.declared.refusal.Refusal.{Refusal}
 use Rattle.dr_plant.specs.State.{PlantState}
@@ -13,10 +13,11 @@ use Rattle.dr_model.specs.Sessions.{Session, session_in}
 use Rattle.dr_top.specs.Here.{here}
 use Rattle.dr_top.specs.declared.tables.Tables.{Tables}
 
--- the logical subsystem has a server, which is the one that is named, and the session is defined
+-- the logical subsystem has a server, one of the eight, which is the one that is named, and the session is defined
 pub record IsFound (t : Table) (h : Tables) (dev : Option Name) (l s owner : ℕ) : Type 0 where
   pub sound : IsSound t
   pub owned : lss_owner t l ≡ Some owner
+  pub known : owner < 8
   pub session : IsSome (session_in h.sessions.sessions s)
   pub named : (x : PlantState) (events : List Event) → is_named dev owner (here x t h events).control ≡ true
 

@@ -7,7 +7,6 @@ pub mod Carried
 pub mod Ran
 pub mod Outcome
 pub mod Statuses
-pub mod Starting
 pub mod Located
 pub mod Waiting
 pub mod WellFormed

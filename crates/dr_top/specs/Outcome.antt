@@ -18,6 +18,7 @@ use Rattle.dr_model.specs.Text.{text}
 use Rattle.dr_volume.specs.View.{fuse_seen, ReadsPass}
 use Rattle.dr_laws.specs.Windows.{EndsInCut}
 use Rattle.dr_laws.specs.Seals.{SealsOn}
+use Rattle.dr_laws.specs.Decided.{DecidesOn}
 use Rattle.dr_io.specs.Lines.{IsOpen}
 use Rattle.dr_top.specs.Cut.{IsClosed}
 use Rattle.dr_top.specs.Faults.{Counted, told_stop}
@@ -167,7 +168,8 @@ module _ {S K : Type 0} (left : S → Option (List ℕ)) (written : K → Option
       pub streams : CountsStreams status
 
     -- A run: the journal is that of the world to which the steps lead, and the plant fits it. Where a sound freeze window
-    -- ends with it, the devices of the secondaries contain the cut; each secondary that is sealed contains its own.
+    -- ends with it, the devices of the secondaries contain the cut; each secondary that is sealed contains its own; and by what
+    -- the devices say alone, it is possible to decide over each session.
     pub record IsRun (status : Status) (events : List Event) (s s' : PlantState) : Type 0 where
       pub world : World
       pub ran : Ran status world
@@ -177,5 +179,6 @@ module _ {S K : Type 0} (left : S → Option (List ℕ)) (written : K → Option
       pub fits : Fits world s'.on (λ server. fuse_seen (s'.write_fuse server)) s'.block
       pub frozen : (tasks : List Task) → run tasks ≡ world → EndsInCut tasks s'.block
       pub seals : SealsOn world s'.block
+      pub decides : DecidesOn world s'.block
       pub reads : ReadsPass s'
       pub stops : Counted (told_stop events) s.faults s'.faults

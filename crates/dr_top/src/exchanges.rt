@@ -42,7 +42,6 @@ pub fn exchange<P: Plant>(
     requires short { name.now.len ≤ 24 }
     requires few { length config.now.volumes ≤ 64 }
     requires room { 4096 ≤ journal.old.spare }
-    requires near { plans.is_ahead (here (P.state plant.old) config.now tables.old journal.old.events).control s.0 ≡ false }
     ensures step { (line : ℕ) → after_plan (here (P.state plant.old) config.now tables.old journal.old.events) line
         (plans.exchange_plan (here (P.state plant.old) config.now tables.old journal.old.events).control s.0 name.now reply)
         ≡ said (here (P.state plant.new) config.now tables.new journal.new.events) line (said_of result) }

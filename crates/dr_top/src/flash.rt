@@ -19,6 +19,7 @@ use crate::define::{bytes_of, unknown_server};
 use crate::tables::Tables;
 use dr_config::Config;
 use dr_flash::{Options, establish, withdraw};
+use dr_gmirror::{leaving, restore_refusal};
 use dr_ids::{Kind, Refusal, ServerId, VolumeId};
 use dr_incr::{resync, reverse_start};
 use dr_model::{Addition, Journal, Name};
@@ -94,7 +95,7 @@ pub fn make_flash<P: Plant>(
     }
 }
 
-/// Ends the relationship of a FlashCopy target: the tracks that it doesn't hold read zeros.
+/// Ends the relationship of a FlashCopy target, which isn't a member's: the tracks that it doesn't hold read zeros.
 pub fn remove_flash<P: Plant>(
     plant: &mut P,
     config: &Config,
@@ -124,7 +125,7 @@ pub fn remove_flash<P: Plant>(
     }
 }
 
-/// Makes a FlashCopy target a copy of its source anew.
+/// Makes a FlashCopy target, which isn't a member's, a copy of its source anew.
 pub fn resync_flash<P: Plant>(
     plant: &mut P,
     config: &Config,
@@ -155,7 +156,8 @@ pub fn resync_flash<P: Plant>(
     }
 }
 
-/// Begins to restore a FlashCopy target onto its source.
+/// Begins to restore a FlashCopy target onto its source. The target of a session's member leaves the session by it; that is refused
+/// while a secondary of the session's members is on a server that is off, or something is still to be done with their targets.
 pub fn reverse_flash<P: Plant>(
     plant: &mut P,
     config: &Config,
@@ -168,6 +170,7 @@ pub fn reverse_flash<P: Plant>(
     requires ready { IsReady (P.state plant.old) config.now tables.now journal.old.events }
     requires sound { Sound (here (P.state plant.old) config.now tables.now journal.old.events) }
     requires short { FitsOwner dev.now }
+    requires few { length config.now.volumes ≤ 64 }
     requires room { 512 ≤ journal.old.spare }
     ensures step { (line : ℕ) → after_plan (here (P.state plant.old) config.now tables.now journal.old.events) line
         (plans.reverse_plan (here (P.state plant.old) config.now tables.now journal.old.events).control dev.now s.0 t.0)
@@ -179,7 +182,9 @@ pub fn reverse_flash<P: Plant>(
     if let Some(why) = found_refusal(config, dev, s, t) {
         return Err(why);
     }
-    match reverse_start(plant, config, journal, s, t) {
+    let unsettled = restore_refusal(plant, config, &tables.sessions, t);
+    let left = leaving(plant, config, &tables.sessions, t);
+    match reverse_start(plant, config, journal, s, t, unsettled, left) {
         Ok(()) => Ok(Addition::Alone),
         Err(refusal) => Err(refusal),
     }

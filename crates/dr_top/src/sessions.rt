@@ -1,12 +1,13 @@
 //! The steps on sessions and their masters.
 
-ghost use Rattle.std.specs.Prelude.{◌≡◌, ℕ, false, List, Option, Some, IfOk, IfErr, is_some};
+ghost use Rattle.std.specs.Prelude.{◌≡◌, ℕ, ◌<◌, false, List, Option, Some, IfSome, IfOk, IfErr, is_some};
 ghost use Rattle.dr_ids.specs.declared.refusal.Kind.TheVariants.{Session as OfSession};
 ghost use Rattle.dr_ids.specs.declared.refusal.Refusal.{Refusal};
 ghost use Rattle.dr_plant.specs.State.{PlantState};
 ghost use Rattle.dr_config.specs.Table.{Table};
 ghost use Rattle.dr_model.specs.declared.event.Event.{Event};
 ghost use Rattle.dr_model.specs.declared.said.Said.TheVariants.{Done, Refused};
+ghost use Rattle.dr_model.specs.Laws.{Sound};
 ghost use Rattle.dr_model.specs.Phases.{aborted_phase};
 ghost use Rattle.dr_model.specs.Refusals.{unknown};
 ghost use Rattle.dr_model.specs.Runs.{after_plan, said};
@@ -27,9 +28,6 @@ use dr_ids::{Fault, Kind, Lss, PhaseName, Refusal, ServerId, SessionId};
 use dr_model::{Addition, Devs, Journal, Name};
 use dr_plant::Plant;
 use dr_session::Sessions;
-
-/// How many servers there are at most.
-const MOST_SERVERS: u8 = 8;
 
 /// No session has that number.
 pub fn unknown_session() -> Refusal
@@ -69,10 +67,11 @@ fn found(
 
 /// A server that is off.
 fn off_refusal<P: Plant>(plant: &P, server: ServerId) -> Option<Refusal>
+    requires known { server.0 < 8 }
     ensures refusal { (t : Table) (h : Tables) (events : List Event) → result ≡ plans.off_refusal (here (P.state plant.now) t h events).control server.0 }
     ensures calm { is_stop result ≡ false }
 {
-    if server.0 < MOST_SERVERS && !plant.is_on(server.0) {
+    if !plant.is_on(server.0) {
         return Some(Refusal::ServerOff { server });
     }
     None
@@ -91,6 +90,7 @@ fn outside_refusal(sessions: &Sessions, l: Lss, s: SessionId) -> Option<Refusal>
 
 /// The session has no master, or its master's server is off.
 fn master_refusal<P: Plant>(plant: &P, sessions: &Sessions, s: SessionId) -> Option<Refusal>
+    requires known { IfSome (model.mirror_in (model.session_in sessions.now.sessions s.0)) (λ r. r.server < 8) }
     ensures refusal { (t : Table) (h : Tables) (events : List Event) → result ≡ plans.master_refusal (here (P.state plant.now) t h events).control (model.mirror_in (model.session_in sessions.now.sessions s.0)) }
     ensures calm { is_stop result ≡ false }
 {
@@ -264,6 +264,7 @@ pub fn pause_mirror<P: Plant>(
     on: bool,
 ) -> Result<Addition, Refusal>
     requires ready { IsReady (P.state plant.now) config.now tables.old journal.now.events }
+    requires sound { Sound (here (P.state plant.now) config.now tables.old journal.now.events) }
     requires short { FitsOwner devs.now.dev }
     ensures step { (line : ℕ) → after_plan (here (P.state plant.now) config.now tables.old journal.now.events) line
         (plans.pause_mirror_plan (here (P.state plant.now) config.now tables.old journal.now.events).control devs.now.dev l.0 s.0 on)
@@ -299,6 +300,7 @@ pub fn remove_mirror<P: Plant>(
     s: SessionId,
 ) -> Result<Addition, Refusal>
     requires ready { IsReady (P.state plant.now) config.now tables.old journal.now.events }
+    requires sound { Sound (here (P.state plant.now) config.now tables.old journal.now.events) }
     requires short { FitsOwner devs.now.dev }
     ensures step { (line : ℕ) → after_plan (here (P.state plant.now) config.now tables.old journal.now.events) line
         (plans.unmirror_plan (here (P.state plant.now) config.now tables.old journal.now.events).control devs.now.dev l.0 s.0)
@@ -331,6 +333,7 @@ pub fn abort_attempt<P: Plant>(
     s: SessionId,
 ) -> Result<Addition, Refusal>
     requires ready { IsReady (P.state plant.now) config.now tables.old journal.now.events }
+    requires sound { Sound (here (P.state plant.now) config.now tables.old journal.now.events) }
     ensures step { (line : ℕ) → after_plan (here (P.state plant.now) config.now tables.old journal.now.events) line
         (plans.abort_plan (here (P.state plant.now) config.now tables.old journal.now.events).control s.0)
         ≡ said (here (P.state plant.now) config.now tables.new journal.now.events) line (said_of result) }

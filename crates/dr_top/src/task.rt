@@ -6,7 +6,7 @@ ghost use Rattle.dr_model.specs.Answers.{answer};
 ghost use Rattle.dr_model.specs.Laws.{Sound};
 ghost use Rattle.dr_model.specs.Limits.{most_events};
 ghost use Rattle.dr_model.specs.LineText.{IsWritten};
-ghost use Rattle.dr_model.specs.Plans.{is_built, is_later, has_room, plan_of};
+ghost use Rattle.dr_model.specs.Plans.{is_built, has_room, plan_of};
 ghost use Rattle.dr_model.specs.Runs.{after_plan, after_task};
 ghost use Rattle.dr_model.specs.declared.said.Said.TheVariants.{Refused};
 ghost use Rattle.dr_model.specs.declared.step.Step.{Step};
@@ -20,7 +20,7 @@ use crate::define::{define_server, define_volume, set_link};
 use crate::exchanges::exchange;
 use crate::expiry::expire;
 use crate::flash::{make_flash, remove_flash, resync_flash, reverse_flash};
-use crate::forms::{is_built, is_later};
+use crate::forms::is_built;
 use crate::freezing::{freeze_pairs, thaw_pairs};
 use crate::masters::{lose_masters, servers_on};
 use crate::members::{add_member, remove_member};
@@ -313,7 +313,6 @@ fn carry_session<P: Plant>(
     requires room { 4096 ≤ journal.old.spare }
     requires form { is_plain step.now ≡ false }
     requires built { is_built step.now ≡ true }
-    requires near { is_later (here (P.state plant.old) config.now tables.old journal.old.events).control step.now ≡ false }
     ensures step { OnAnswer result (λ a. (line : ℕ) → Leads (here (P.state plant.old) config.now tables.old journal.old.events) line step.now
         (here (P.state plant.new) config.now tables.new journal.new.events) a) }
     ensures faults { OnAnswer result (λ a. Counts a (P.state plant.old) (P.state plant.new)) }
@@ -460,7 +459,6 @@ fn carry_out<P: Plant>(
     requires room { 4096 ≤ journal.old.spare }
     requires count { tables.old.host.issued + 1 < 2 ^ 32 }
     requires built { is_built step.now ≡ true }
-    requires near { is_later (here (P.state plant.old) config.old tables.old journal.old.events).control step.now ≡ false }
     ensures step { OnSaid result (λ a. Leads (here (P.state plant.old) config.old tables.old journal.old.events) line step.now
         (here (P.state plant.new) config.new tables.new journal.new.events) a) }
     ensures faults { OnSaid result (λ a. Counts a (P.state plant.old) (P.state plant.new)) }
@@ -606,7 +604,6 @@ fn carry_answered<P: Plant>(
     requires room { 4096 ≤ journal.old.spare }
     requires count { tables.old.host.issued + 1 < 2 ^ 32 }
     requires built { is_built step.now ≡ true }
-    requires near { is_later (here (P.state plant.old) config.old tables.old journal.old.events).control step.now ≡ false }
     requires has_room { has_room journal.old.events ≡ true }
     ensures plan { OnOk result (after_plan (here (P.state plant.old) config.old tables.old journal.old.events) number
         (plan_of (here (P.state plant.old) config.old tables.old journal.old.events).control journal.old.events number step.now)
@@ -646,7 +643,6 @@ fn carry_built<P: Plant>(
     requires room { 4096 ≤ journal.old.spare }
     requires count { tables.old.host.issued + 1 < 2 ^ 32 }
     requires built { is_built step.now ≡ true }
-    requires near { is_later (here (P.state plant.old) config.old tables.old journal.old.events).control step.now ≡ false }
     requires has_room { has_room journal.old.events ≡ true }
     ensures task { OnOk result (after_task (here (P.state plant.old) config.old tables.old journal.old.events) (record { line = number; asked = Ok step.now })
         ≡ here (P.state plant.new) config.new tables.new journal.new.events) }
@@ -665,8 +661,7 @@ fn carry_built<P: Plant>(
     }
 }
 
-/// Carries out a step, and answers it: a form that isn't built is refused, an exchange whose orders aren't, and then a step
-/// for which the journal has no room.
+/// Carries out a step, and answers it: a form that isn't built is refused, and then a step for which the journal has no room.
 /// Where there is no memory nothing has changed.
 pub fn carry_task<P: Plant>(
     plant: &mut P,
@@ -690,9 +685,6 @@ pub fn carry_task<P: Plant>(
     ensures issued { tables.new.host.issued ≤ tables.old.host.issued + 1 }
 {
     if !is_built(step) {
-        return refuse(journal, number, Refusal::NotBuilt);
-    }
-    if is_later(tables, step) {
         return refuse(journal, number, Refusal::NotBuilt);
     }
     if !has_room(journal) {

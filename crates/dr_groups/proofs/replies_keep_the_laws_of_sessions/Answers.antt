@@ -1,4 +1,4 @@
-use Rattle.dr_groups.proofs.Tables.{groups-done, groups-waits, groups-answered, groups-reported, groups-settled}
+use Rattle.dr_groups.proofs.Tables.{groups-done, groups-waits, groups-answered, groups-taken, groups-reported, groups-settled}
 use Rattle.dr_groups.proofs.replies_keep_the_laws_of_sessions.Goals as goal
 
 pub returns-clause-done : goal.returns-clause-done
@@ -15,3 +15,6 @@ returns-clause-reported c = groups-reported
 
 pub returns-clause-settled : goal.returns-clause-settled
 returns-clause-settled c = groups-settled
+
+pub returns-clause-taken : goal.returns-clause-taken
+returns-clause-taken c = groups-taken

@@ -1,4 +1,4 @@
-use Rattle.std.proofs.Common.{◌≡◌, length, ◌+◌, arith, ap, subst, ◌∙◌, None, Some, inl, inr}
+use Rattle.std.proofs.Common.{◌≡◌, length, ◌+◌, arith, ap, sym, subst, ◌∙◌, None, Some, inl, inr}
 use Rattle.dr_model.specs.Layout.{Fields}
 use Rattle.dr_model.specs.Lawful.{IsLawful}
 use Rattle.dr_volume.specs.Plain.{plain}
@@ -10,7 +10,9 @@ use Rattle.dr_flash.specs.Turns.{room_of}
 use Rattle.dr_flash.specs.declared.told.Told.{Told}
 use Rattle.dr_flash.specs.declared.told.Telling.{Telling}
 use Rattle.dr_flash.proofs.TurnLemmas.{ok-along, err-along}
+use Rattle.dr_coord.specs.Aside.{KeepsAside}
 use Rattle.dr_coord.specs.Changes.{next_of, count_of}
+use Rattle.dr_coord.proofs.AsideLemmas.{change-aside, aside-after}
 use Rattle.dr_coord.proofs.ChangeLemmas.{change-fits, turn-from, count-is, room-is}
 use Rattle.dr_coord.proofs.changes.make_change.Goals as goal
 
@@ -59,6 +61,14 @@ returns-clause-failed g c =
       | inr is ↦ inr (turn-from s t c.args.v.0 c.args.x (plain c.next_of-next.result) c.of.result c.requires.running (c.next_of-next.ensures ∙ ap (next_of c.args.x) c.peek_fields.ensures.fields) (c.of.ensures ∙ ap (λ (d : Told). record { done = d; in_stop = d; landed = 0 }) c.told_of.ensures)
           r c.args.j.now.events (seen (g.P.Plant.state c.shift.new.p) t r c.shift.new.j.events, Some x.server) is)
     ])
+
+pub returns-clause-aside : goal.returns-clause-aside
+returns-clause-aside g c fit =
+    let s = g.P.Plant.state c.args.p.now in
+    let t = c.args.c.now in
+    aside-after s (g.P.Plant.state c.shift.new.p) t c.args.v.0 (plain c.next_of-next.result) fit
+    (subst KeepsAside (sym (c.next_of-next.ensures ∙ ap (next_of c.args.x) c.peek_fields.ensures.fields)) (change-aside c.args.x (volume_seen s t c.args.v.0).fields (fit.aside c.args.v.0)))
+    c.shift.ensures.old_or_new c.shift.ensures.others
 
 pub returns-clause-moved : goal.returns-clause-moved
 returns-clause-moved g c =

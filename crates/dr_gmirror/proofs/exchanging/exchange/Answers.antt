@@ -28,7 +28,7 @@ returns-in-Some-exchange_refusal-clause-carried g c r =
     let l = look-some c.in-Some.x o c.args.server.0 c.in-Some.ensures in
     let near = if-some (IsNear (length c.args.c.now.names)) o l.0 l.1 c.requires.near in
     subst (λ (p : Plan). PlanEnds (armed_in s) w p w (Refused c.in-Some-exchange_refusal.why)) (sym (plan-refused w.control c.args.s.0 c.args.server.0 c.args.reply (members_in (session_in c.args.ss.now.sessions c.args.s.0)) o l.0 c.in-Some-exchange_refusal.why l.1
-    (c.in-Some-exchange_refusal.ensures.refusal (with_sessions c.args.ss.now.sessions r) c.args.j.now.events l.0 l.2 near.built)))
+    (c.in-Some-exchange_refusal.ensures.refusal (with_sessions c.args.ss.now.sessions r) c.args.j.now.events l.0 l.2 near.in_phase)))
     (refused-plan (armed_in s) w c.in-Some-exchange_refusal.why)
 
 pub returns-in_default-order_of-clause-carried : goal.returns-in_default-order_of-clause-carried
@@ -39,7 +39,7 @@ returns-in_default-order_of-clause-carried g c r =
     let l = look-some c.in-Some.x o c.args.server.0 c.in-Some.ensures in
     let near = if-some (IsNear (length c.args.c.now.names)) o l.0 l.1 c.requires.near in
     subst (λ (p : Plan). PlanEnds (armed_in s) w p w (Refused (OutOfOrder phase.None))) (sym (plan-order w.control c.args.s.0 c.args.server.0 c.args.reply (members_in (session_in c.args.ss.now.sessions c.args.s.0)) o l.0 None l.1
-    (c.in_default-exchange_refusal.ensures.refusal (with_sessions c.args.ss.now.sessions r) c.args.j.now.events l.0 l.2 near.built) (c.in_default-order_of.ensures l.0 c.args.server.0 l.2)))
+    (c.in_default-exchange_refusal.ensures.refusal (with_sessions c.args.ss.now.sessions r) c.args.j.now.events l.0 l.2 near.in_phase) (c.in_default-order_of.ensures l.0 c.args.server.0 l.2)))
     (refused-plan (armed_in s) w (OutOfOrder phase.None))
 
 pub exchange_order-requires-clause-may : goal.exchange_order-requires-clause-may
@@ -52,7 +52,7 @@ exchange_order-requires-clause-may g c =
       r,
       c.requires.may.1 (order_of c.in-Some-order_of.order)
           (ap (λ (o : Option Mirror). refusal_in k o c.args.server.0 (members_in (session_in c.args.ss.now.sessions c.args.s.0))) l.1
-          ∙ sym (c.in_default-exchange_refusal.ensures.refusal (with_sessions c.args.ss.now.sessions r) c.args.j.now.events l.0 l.2 near.built))
+          ∙ sym (c.in_default-exchange_refusal.ensures.refusal (with_sessions c.args.ss.now.sessions r) c.args.j.now.events l.0 l.2 near.in_phase))
           (ap (λ (o : Option Mirror). order_in o c.args.server.0) l.1 ∙ sym (c.in-Some-order_of.ensures l.0 c.args.server.0 l.2)),
     )
 
@@ -65,7 +65,7 @@ returns-clause-carried g c r =
     let l = look-some c.in-Some.x o c.args.server.0 c.in-Some.ensures in
     let near = if-some (IsNear (length c.args.c.now.names)) o l.0 l.1 c.requires.near in
     subst (λ (p : Plan). PlanEnds (armed_in s) w p u (answer_of c.exchange_order.result c.args.s.0 u.control)) (sym (plan-order w.control c.args.s.0 c.args.server.0 c.args.reply (members_in (session_in c.args.ss.now.sessions c.args.s.0)) o l.0 (Some (order_of c.in-Some-order_of.order)) l.1
-    (c.in_default-exchange_refusal.ensures.refusal (with_sessions c.args.ss.now.sessions r) c.args.j.now.events l.0 l.2 near.built) (c.in-Some-order_of.ensures l.0 c.args.server.0 l.2)))
+    (c.in_default-exchange_refusal.ensures.refusal (with_sessions c.args.ss.now.sessions r) c.args.j.now.events l.0 l.2 near.in_phase) (c.in-Some-order_of.ensures l.0 c.args.server.0 l.2)))
     (c.exchange_order.ensures.carried r)
 
 pub returns-in_default-clause-refused : goal.returns-in_default-clause-refused
@@ -78,7 +78,7 @@ returns-in-Some-exchange_refusal-clause-refused g c r why is =
     let o = mirror_in (session_in c.args.ss.now.sessions c.args.s.0) in
     let l = look-some c.in-Some.x o c.args.server.0 c.in-Some.ensures in
     let near = if-some (IsNear (length c.args.c.now.names)) o l.0 l.1 c.requires.near in (
-      c.in-Some-exchange_refusal.ensures.refusal (with_sessions c.args.ss.now.sessions r) c.args.j.now.events l.0 l.2 near.built
+      c.in-Some-exchange_refusal.ensures.refusal (with_sessions c.args.ss.now.sessions r) c.args.j.now.events l.0 l.2 near.in_phase
           ∙ sym (ap (λ (o : Option Mirror). refusal_in (seen (g.P.Plant.state c.args.p.now) c.args.c.now (with_sessions c.args.ss.now.sessions r) c.args.j.now.events).control o c.args.server.0 (members_in (session_in c.args.ss.now.sessions c.args.s.0))) l.1) ∙ is,
       refl,
       refl,
@@ -90,7 +90,7 @@ returns-in_default-order_of-clause-refused g c r why is =
     let o = mirror_in (session_in c.args.ss.now.sessions c.args.s.0) in
     let l = look-some c.in-Some.x o c.args.server.0 c.in-Some.ensures in
     let near = if-some (IsNear (length c.args.c.now.names)) o l.0 l.1 c.requires.near in
-    absurd (let no : None ≡ Some why = c.in_default-exchange_refusal.ensures.refusal (with_sessions c.args.ss.now.sessions r) c.args.j.now.events l.0 l.2 near.built
+    absurd (let no : None ≡ Some why = c.in_default-exchange_refusal.ensures.refusal (with_sessions c.args.ss.now.sessions r) c.args.j.now.events l.0 l.2 near.in_phase
     ∙ sym (ap (λ (o : Option Mirror). refusal_in (seen (g.P.Plant.state c.args.p.now) c.args.c.now (with_sessions c.args.ss.now.sessions r) c.args.j.now.events).control o c.args.server.0 (members_in (session_in c.args.ss.now.sessions c.args.s.0))) l.1) ∙ is in cc)
 
 pub returns-clause-refused : goal.returns-clause-refused
@@ -98,5 +98,5 @@ returns-clause-refused g c r why is =
     let o = mirror_in (session_in c.args.ss.now.sessions c.args.s.0) in
     let l = look-some c.in-Some.x o c.args.server.0 c.in-Some.ensures in
     let near = if-some (IsNear (length c.args.c.now.names)) o l.0 l.1 c.requires.near in
-    absurd (let no : None ≡ Some why = c.in_default-exchange_refusal.ensures.refusal (with_sessions c.args.ss.now.sessions r) c.args.j.now.events l.0 l.2 near.built
+    absurd (let no : None ≡ Some why = c.in_default-exchange_refusal.ensures.refusal (with_sessions c.args.ss.now.sessions r) c.args.j.now.events l.0 l.2 near.in_phase
     ∙ sym (ap (λ (o : Option Mirror). refusal_in (seen (g.P.Plant.state c.args.p.now) c.args.c.now (with_sessions c.args.ss.now.sessions r) c.args.j.now.events).control o c.args.server.0 (members_in (session_in c.args.ss.now.sessions c.args.s.0))) l.1) ∙ is in cc)

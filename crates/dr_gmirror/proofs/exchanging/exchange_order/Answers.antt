@@ -17,7 +17,7 @@ reply_if-requires-clause-expected g c on =
     let t = c.args.c.now in
     let v = seen u t (with_sessions c.carry_out.new.ss.sessions r) c.carry_out.new.j.events in
     let ms = members_on c.args.server.0 (members_in (session_in c.args.ss.now.sessions c.args.s.0)) in
-    expected-by (mirror_in (session_in c.carry_out.new.ss.sessions c.args.s.0)) c.args.server.0 c.in-Ok.y (reply_after (work_of c.args.order.kind) ms v.control)
+    expected-by (mirror_in (session_in c.carry_out.new.ss.sessions c.args.s.0)) c.args.server.0 c.in-Ok.y (reply_after c.args.s.0 (work_of c.args.order.kind) ms v.control)
     (c.in-Ok.ensures.reply (with_sessions c.carry_out.new.ss.sessions r) c.carry_out.new.j.events) c.in-Ok.ensures.count (c.requires.may.1.awaited v (c.in-Ok.ensures.leads r))
 
 pub returns-in-Ok-clause-carried : goal.returns-in-Ok-clause-carried

@@ -2,15 +2,53 @@ use Rattle.std.proofs.Common.{List, ◌≡◌, ◌≤◌, ◌||◌, length, take
 use Rattle.dr_ids.specs.declared.names.Member.{Member}
 use Rattle.dr_model.specs.ReadStops.{Ends}
 use Rattle.dr_model.specs.Sessions.{session_in, members_in}
-use Rattle.dr_model.specs.SessionEntries.{order_entries, members_on}
+use Rattle.dr_model.specs.Phases as phases
+use Rattle.dr_model.specs.SessionEntries.{order_entries, members_on, reply_after}
 use Rattle.dr_master.specs.Seen.{work_of, reply_of}
 use Rattle.dr_flash.specs.Here.{seen, armed_in}
 use Rattle.dr_flash.specs.Turns.{Leads, Fails}
 use Rattle.dr_flash.proofs.CopyLemmas.{led, failed, wider-armed}
 use Rattle.dr_flash.proofs.TurnLemmas.{err-always, refused-by}
 use Rattle.dr_gmirror.specs.Orders.{with_sessions, sync_seen, waits_in}
-use Rattle.dr_gmirror.proofs.OrderLemmas.{waits-kept, waits-more, member-next, member-all, still-ready, reply-is, order-next, order-fails}
+use Rattle.dr_gmirror.proofs.OrderLemmas.{waits-kept, waits-more, member-next, member-there, member-all, report-only, still-ready, reply-is, order-next, order-fails}
 use Rattle.dr_gmirror.proofs.orders.carry_out.Goals as goal
+
+pub returns-in-Ok-clause-leads : goal.returns-in-Ok-clause-leads
+returns-in-Ok-clause-leads g c r =
+    let w = seen (g.P.Plant.state c.args.p.now) c.args.c.now (with_sessions c.args.ss.now.sessions r) c.args.j.now.events in
+    let ms = members_on c.args.server.0 (members_in (session_in c.args.ss.now.sessions c.args.s.0)) in
+    subst (λ work. Leads w (order_entries work c.args.s.0 c.args.order.n ms) w) (sym (report-only (work_of c.args.order.kind) c.if-is_report.ensures)) (c.in-Ok.ensures.leads c.args.order.n (with_sessions c.args.ss.now.sessions r) c.args.j.now.events)
+
+pub returns-in-Ok-clause-carried : goal.returns-in-Ok-clause-carried
+returns-in-Ok-clause-carried g c r =
+    let s = g.P.Plant.state c.args.p.now in
+    let w = seen s c.args.c.now (with_sessions c.args.ss.now.sessions r) c.args.j.now.events in
+    led (armed_in s) w w (order_entries (work_of c.args.order.kind) c.args.s.0 c.args.order.n (members_on c.args.server.0 (members_in (session_in c.args.ss.now.sessions c.args.s.0)))) (returns-in-Ok-clause-leads g c r)
+
+pub returns-in-Ok-clause-reply : goal.returns-in-Ok-clause-reply
+returns-in-Ok-clause-reply g c r events =
+    let k = (seen (g.P.Plant.state c.args.p.now) c.args.c.now r events).control in
+    let ms = members_on c.args.server.0 (members_in (session_in c.args.ss.now.sessions c.args.s.0)) in
+    ap (λ xs. phases.Reported xs) (c.in-Ok.ensures.shown r events) ∙ ap (λ work. reply_after c.args.s.0 work ms k) (sym (report-only (work_of c.args.order.kind) c.if-is_report.ensures))
+
+pub returns-in-Err-clause-fails : goal.returns-in-Err-clause-fails
+returns-in-Err-clause-fails g c r =
+    let s = g.P.Plant.state c.args.p.now in
+    let w = seen s c.args.c.now (with_sessions c.args.ss.now.sessions r) c.args.j.now.events in
+    let ms = members_on c.args.server.0 (members_in (session_in c.args.ss.now.sessions c.args.s.0)) in
+    subst (λ work. Fails (armed_in s) w (order_entries work c.args.s.0 c.args.order.n ms) w (Some c.in-Err.why)) (sym (report-only (work_of c.args.order.kind) c.if-is_report.ensures)) (c.in-Err.ensures.fails c.args.order.n (with_sessions c.args.ss.now.sessions r) c.args.j.now.events)
+
+pub returns-in-Err-clause-carried : goal.returns-in-Err-clause-carried
+returns-in-Err-clause-carried g c r =
+    let s = g.P.Plant.state c.args.p.now in
+    let w = seen s c.args.c.now (with_sessions c.args.ss.now.sessions r) c.args.j.now.events in
+    failed (armed_in s) w w (Some c.in-Err.why) (order_entries (work_of c.args.order.kind) c.args.s.0 c.args.order.n (members_on c.args.server.0 (members_in (session_in c.args.ss.now.sessions c.args.s.0)))) (returns-in-Err-clause-fails g c r)
+
+pub unwrap-m-requires : goal.unwrap-m-requires
+unwrap-m-requires g c =
+    let ms = members_in (session_in c.args.ss.now.sessions c.args.s.0) in
+    member-there ms c.loop-at.at c.member_at.result (c.member_at.ensures.value ∙ ap (λ (ms : List Member). slice_get ms c.loop-at.at) c.loop-at.invariant.members)
+    (let e = c.member_count-at-end.ensures in let f = c.loop-at-test.true in omega (arith, e, f))
 
 pub order_on-requires-clause-ready : goal.order_on-requires-clause-ready
 order_on-requires-clause-ready g c =
@@ -68,6 +106,7 @@ loop-at-preserved g c =
       may = c.in_ok-wait.ensures.may;
       rest = c.in_ok-wait.ensures.rest;
       fit = c.in_ok-wait.ensures.fit;
+      aside = c.in_ok-wait.ensures.aside;
       unarmed = λ q none. c.in_ok-wait.ensures.unarmed q (c.loop-at.invariant.unarmed q none);
       on = c.in_ok-wait.ensures.on ∙ c.loop-at.invariant.on;
       faults = c.in_ok-wait.ensures.faults ∙ c.loop-at.invariant.faults;
@@ -103,4 +142,4 @@ returns-clause-reply g c =
     let work = work_of c.args.order.kind in
     let ms = members_in (session_in c.args.ss.now.sessions c.args.s.0) in
     let all : length ms ≤ c.loop-at.at = let e = c.member_count-at-end.ensures in let f = c.loop-at-test.false in omega (arith, e, f) in
-    reply-is work u t (members_on c.args.server.0 ms) c.loop-at.waits (reply_of c.reply_by.result) (c.loop-at.invariant.waits ∙ ap (λ xs. waits_in work (sync_seen u t) (members_on c.args.server.0 xs)) (member-all ms c.loop-at.at all)) c.reply_by.ensures.says
+    reply-is c.args.s.0 work u t (members_on c.args.server.0 ms) c.loop-at.waits (reply_of c.reply_by.result) (sym c.if-is_report.ensures) (c.loop-at.invariant.waits ∙ ap (λ xs. waits_in work (sync_seen u t) (members_on c.args.server.0 xs)) (member-all ms c.loop-at.at all)) c.reply_by.ensures.says

@@ -6,6 +6,7 @@ use Rattle.dr_volume.specs.View.{Rest}
 use Rattle.dr_flash.specs.Fit.{RelationsFit}
 use Rattle.dr_flash.specs.Here.{seen, IsAtRest}
 use Rattle.dr_flash.specs.Turns.{Leads}
+use Rattle.dr_coord.specs.Aside.{AsideFits}
 use Rattle.dr_gmirror.specs.Orders.{with_sessions, to_begin, MayOrder, sync_seen, waits_in}
 use Rattle.dr_gmirror.proofs.orders.carry_out.Given as goal
 
@@ -19,6 +20,7 @@ invariant-loop-at g l = record {
   may : MayOrder (work_of l.order.kind) l.ss.sessions l.s.0 l.order.n;
   rest : IsAtRest (g.P.Plant.state l.p) l.c;
   fit : RelationsFit (g.P.Plant.state l.p) l.c;
+  aside : AsideFits (g.P.Plant.state l.p) l.c;
   unarmed : (q : ℕ) → (g.P.Plant.state l.fn.p).read_fuse q ≡ None → (g.P.Plant.state l.p).read_fuse q ≡ None;
   on : (g.P.Plant.state l.p).on ≡ (g.P.Plant.state l.fn.p).on;
   faults : (g.P.Plant.state l.p).faults ≡ (g.P.Plant.state l.fn.p).faults;

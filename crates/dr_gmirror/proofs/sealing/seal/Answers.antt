@@ -4,6 +4,7 @@ use Rattle.dr_model.specs.PairEntries.{refuse_if}
 use Rattle.dr_model.specs.Pairs.{records}
 use Rattle.dr_model.specs.Relations.{is_bare}
 use Rattle.dr_model.specs.SessionEntries.{void_refusal, seal_refusal, seal_on, seal_entries}
+use Rattle.dr_cuts.proofs.SealEnds.{seal-ends}
 use Rattle.dr_volume.specs.View.{Rest, volume_seen}
 use Rattle.dr_flash.specs.Here.{seen, armed_in}
 use Rattle.dr_flash.proofs.CopyLemmas.{led}
@@ -68,3 +69,28 @@ returns-in-Err-clause-fails g c r ds =
 pub returns-in-Err-clause-carried : goal.returns-in-Err-clause-carried
 returns-in-Err-clause-carried g c r =
     returns-in-Err-clause-fails g c r []
+
+pub returns-in-Some-clause-cuts : goal.returns-in-Some-clause-cuts
+returns-in-Some-clause-cuts g c r laws sends = laws
+
+pub returns-then-not-is_drained-clause-holds_cut : goal.returns-then-not-is_drained-clause-holds_cut
+returns-then-not-is_drained-clause-holds_cut g c done = absurd cc
+
+pub returns-then-not-is_drained-clause-cuts : goal.returns-then-not-is_drained-clause-cuts
+returns-then-not-is_drained-clause-cuts g c r laws sends = laws
+
+pub returns-in-Ok-clause-holds_cut : goal.returns-in-Ok-clause-holds_cut
+returns-in-Ok-clause-holds_cut g c done r laws sends =
+    let s = g.P.Plant.state c.args.p.now in
+    (seal-ends (seen s c.args.c.now r c.args.j.now.events) laws c.args.s.0 c.args.m.now.a.0 c.args.m.now.b.0 c.args.n sends (armed_in s) (seen (g.P.Plant.state c.seal_drained.new.p) c.args.c.now r c.seal_drained.new.j.events) None (returns-in-Ok-clause-carried g c r)).sealed_for refl
+    (ap (λ (f : Fields). is_bare f.out_of_sync) (sym c.peek_fields.ensures.fields) ∙ sym c.if-not-is_drained.ensures)
+
+pub returns-in-Ok-clause-cuts : goal.returns-in-Ok-clause-cuts
+returns-in-Ok-clause-cuts g c r laws sends =
+    let s = g.P.Plant.state c.args.p.now in
+    (seal-ends (seen s c.args.c.now r c.args.j.now.events) laws c.args.s.0 c.args.m.now.a.0 c.args.m.now.b.0 c.args.n sends (armed_in s) (seen (g.P.Plant.state c.seal_drained.new.p) c.args.c.now r c.seal_drained.new.j.events) None (returns-in-Ok-clause-carried g c r)).holds
+
+pub returns-in-Err-clause-cuts : goal.returns-in-Err-clause-cuts
+returns-in-Err-clause-cuts g c r laws sends =
+    let s = g.P.Plant.state c.args.p.now in
+    (seal-ends (seen s c.args.c.now r c.args.j.now.events) laws c.args.s.0 c.args.m.now.a.0 c.args.m.now.b.0 c.args.n sends (armed_in s) (seen (g.P.Plant.state c.seal_drained.new.p) c.args.c.now r c.seal_drained.new.j.events) (Some c.in-Err.why) (returns-in-Err-clause-carried g c r)).holds

@@ -35,19 +35,19 @@ shift-requires-clause-covers g c =
 
 pub shift-requires-clause-room : goal.shift-requires-clause-room
 shift-requires-clause-room g c =
-    let few = room-few _ _ _ _ c.told_of-told.result (c.told_of-told.ensures (g.P.Plant.state c.args.p.now)) in
+    let few = room-few None _ _ _ _ c.told_of-told.result (c.told_of-told.ensures (g.P.Plant.state c.args.p.now)) in
     let room = c.requires.room in
     omega (arith, few, room)
 
 pub returns-clause-room : goal.returns-clause-room
 returns-clause-room g c =
-    let few = room-few _ _ _ _ c.told_of-told.result (c.told_of-told.ensures (g.P.Plant.state c.args.p.now)) in
+    let few = room-few None _ _ _ _ c.told_of-told.result (c.told_of-told.ensures (g.P.Plant.state c.args.p.now)) in
     let room = c.shift.ensures.room in
     omega (arith, few, room)
 
 pub returns-clause-room_left : goal.returns-clause-room_left
 returns-clause-room_left g c =
-    let few = done-few _ _ _ _ c.told_of-told.result (c.told_of-told.ensures (g.P.Plant.state c.args.p.now)) in
+    let few = done-few None _ _ _ _ c.told_of-told.result (c.told_of-told.ensures (g.P.Plant.state c.args.p.now)) in
     ok-along c.shift.result c.shift.ensures.room_left (λ left. omega (arith, few, left))
 
 pub returns-clause-advances : goal.returns-clause-advances
@@ -57,7 +57,7 @@ returns-clause-advances g c =
     let x = volume_seen s t c.args.t.0 in
     ok-along c.shift.result c.shift.ensures.done (λ done r.
     advances (seen s t r c.args.j.now.events) (Release c.args.t.0 c.args.k) c.told_of-told.result (plain c.restored-next.result) None (on-running s x.server c.requires.running)
-    (subst (λ y. Tells (Release c.args.t.0 c.args.k) x y) (sym (told-by c.args.t.0 x.tracks _ _ _ _ c.told_of-told.result (c.told_of-told.ensures s) c.peek_fields-fields.ensures.fields (c.given_up-less.ensures ∙ ap (λ f. given_up f c.args.k) c.peek_fields-fields.ensures.fields))) (tells-release c.args.t.0 c.args.k x)) (sym (c.restored-next.ensures ∙ ap (restored c.tracks_of.result) (c.given_up-less.ensures ∙ ap (λ f. given_up f c.args.k) c.peek_fields-fields.ensures.fields) ∙ (λ i. restored (sym (c.tracks_of.ensures.seen s) i) (given_up (volume_seen s t c.args.t.0).fields c.args.k)))) (refl)
+    (subst (λ y. Tells (Release c.args.t.0 c.args.k) x y) (sym (told-by None c.args.t.0 x.tracks _ _ _ _ c.told_of-told.result (c.told_of-told.ensures s) c.peek_fields-fields.ensures.fields (c.given_up-less.ensures ∙ ap (λ f. given_up f c.args.k) c.peek_fields-fields.ensures.fields))) (tells-release c.args.t.0 c.args.k x)) (sym (c.restored-next.ensures ∙ ap (restored c.tracks_of.result) (c.given_up-less.ensures ∙ ap (λ f. given_up f c.args.k) c.peek_fields-fields.ensures.fields) ∙ (λ i. restored (sym (c.tracks_of.ensures.seen s) i) (given_up (volume_seen s t c.args.t.0).fields c.args.k)))) (refl)
     (seen (g.P.Plant.state c.shift.new.p) t r c.shift.new.j.events) (done r))
 
 pub returns-clause-halts : goal.returns-clause-halts
@@ -67,7 +67,7 @@ returns-clause-halts g c =
     let x = volume_seen s t c.args.t.0 in
     err-along c.shift.result c.shift.ensures.failed c.shift.ensures.refused (λ failed refused r.
     halts (seen s t r c.args.j.now.events) (Release c.args.t.0 c.args.k) c.told_of-told.result (plain c.restored-next.result) None (on-running s x.server c.requires.running)
-    (subst (λ y. Tells (Release c.args.t.0 c.args.k) x y) (sym (told-by c.args.t.0 x.tracks _ _ _ _ c.told_of-told.result (c.told_of-told.ensures s) c.peek_fields-fields.ensures.fields (c.given_up-less.ensures ∙ ap (λ f. given_up f c.args.k) c.peek_fields-fields.ensures.fields))) (tells-release c.args.t.0 c.args.k x)) (sym (c.restored-next.ensures ∙ ap (restored c.tracks_of.result) (c.given_up-less.ensures ∙ ap (λ f. given_up f c.args.k) c.peek_fields-fields.ensures.fields) ∙ (λ i. restored (sym (c.tracks_of.ensures.seen s) i) (given_up (volume_seen s t c.args.t.0).fields c.args.k)))) (refl)
+    (subst (λ y. Tells (Release c.args.t.0 c.args.k) x y) (sym (told-by None c.args.t.0 x.tracks _ _ _ _ c.told_of-told.result (c.told_of-told.ensures s) c.peek_fields-fields.ensures.fields (c.given_up-less.ensures ∙ ap (λ f. given_up f c.args.k) c.peek_fields-fields.ensures.fields))) (tells-release c.args.t.0 c.args.k x)) (sym (c.restored-next.ensures ∙ ap (restored c.tracks_of.result) (c.given_up-less.ensures ∙ ap (λ f. given_up f c.args.k) c.peek_fields-fields.ensures.fields) ∙ (λ i. restored (sym (c.tracks_of.ensures.seen s) i) (given_up (volume_seen s t c.args.t.0).fields c.args.k)))) (refl)
     (armed_in s) (seen (g.P.Plant.state c.shift.new.p) t r c.shift.new.j.events) (refusal_of c.shift.result) refused (failed r))
 
 pub returns-clause-moved : goal.returns-clause-moved

@@ -9,7 +9,8 @@ use Rattle.dr_flash.specs.Here.{seen, armed_in, refusal_of}
 use Rattle.dr_flash.proofs.ReadLemmas.{on-running}
 use Rattle.dr_flash.proofs.TurnLemmas.{Tells, advances, halts, ok-along, err-along}
 use Rattle.dr_flash.proofs.MoveLemmas.{MoveFits}
-use Rattle.dr_incr.proofs.RestoreLemmas.{reverse-fits, tells-reverse, told-by, room-few, done-few}
+use Rattle.dr_incr.specs.Steps.{number_of, left_event}
+use Rattle.dr_incr.proofs.RestoreLemmas.{reverse-fits, tells-reverse, told-by, one-left, room-few, done-few}
 use Rattle.dr_volume.specs.Update.{IsMoved}
 use Rattle.dr_incr.proofs.CopyLaws.{moved-by}
 use Rattle.dr_incr.proofs.moves.turn_back.Goals as goal
@@ -18,36 +19,39 @@ pub shift-requires-clause-lawful : goal.shift-requires-clause-lawful
 shift-requires-clause-lawful g c =
     let s = g.P.Plant.state c.args.p.now in
     let t = c.args.c.now in
-    (subst (λ f. MoveFits s t c.args.t.0 f None) (sym (c.restored-next.ensures ∙ ap (restored c.tracks_of.result) (c.turned-reversed.ensures ∙ ap turned c.peek_fields-fields.ensures.fields) ∙ (λ i. restored (sym (c.tracks_of.ensures.seen s) i) (turned (volume_seen s t c.args.t.0).fields)))) (reverse-fits s t c.args.t.0 c.requires.fit (subst (λ (f : Fields). IsLawful (volume_seen s t c.args.t.0).tracks f) c.peek_fields-fields.ensures.fields c.peek_fields-fields.ensures.lawful) c.requires.related c.requires.sets)).lawful
+    (subst (λ f. MoveFits s t c.args.t.0 f None) (sym (c.restored-next.ensures ∙ ap (restored c.tracks_of.result) (c.turned-reversed.ensures ∙ ap turned c.peek_fields-fields.ensures.fields) ∙ (λ i. restored (sym (c.tracks_of.ensures.seen s) i) (turned (volume_seen s t c.args.t.0).fields)))) (reverse-fits s t c.args.t.0 c.requires.fit (subst (λ (f : Fields). IsLawful (volume_seen s t c.args.t.0).tracks f) c.peek_fields-fields.ensures.fields c.peek_fields-fields.ensures.lawful) c.requires.related (number_of c.args.left) c.requires.not_revertible c.requires.sets)).lawful
 
 pub shift-requires-clause-leaves : goal.shift-requires-clause-leaves
 shift-requires-clause-leaves g c =
     let s = g.P.Plant.state c.args.p.now in
     let t = c.args.c.now in
-    (subst (λ f. MoveFits s t c.args.t.0 f None) (sym (c.restored-next.ensures ∙ ap (restored c.tracks_of.result) (c.turned-reversed.ensures ∙ ap turned c.peek_fields-fields.ensures.fields) ∙ (λ i. restored (sym (c.tracks_of.ensures.seen s) i) (turned (volume_seen s t c.args.t.0).fields)))) (reverse-fits s t c.args.t.0 c.requires.fit (subst (λ (f : Fields). IsLawful (volume_seen s t c.args.t.0).tracks f) c.peek_fields-fields.ensures.fields c.peek_fields-fields.ensures.lawful) c.requires.related c.requires.sets)).leaves
+    (subst (λ f. MoveFits s t c.args.t.0 f None) (sym (c.restored-next.ensures ∙ ap (restored c.tracks_of.result) (c.turned-reversed.ensures ∙ ap turned c.peek_fields-fields.ensures.fields) ∙ (λ i. restored (sym (c.tracks_of.ensures.seen s) i) (turned (volume_seen s t c.args.t.0).fields)))) (reverse-fits s t c.args.t.0 c.requires.fit (subst (λ (f : Fields). IsLawful (volume_seen s t c.args.t.0).tracks f) c.peek_fields-fields.ensures.fields c.peek_fields-fields.ensures.lawful) c.requires.related (number_of c.args.left) c.requires.not_revertible c.requires.sets)).leaves
 
 pub shift-requires-clause-covers : goal.shift-requires-clause-covers
 shift-requires-clause-covers g c =
     let s = g.P.Plant.state c.args.p.now in
     let t = c.args.c.now in
-    (subst (λ f. MoveFits s t c.args.t.0 f None) (sym (c.restored-next.ensures ∙ ap (restored c.tracks_of.result) (c.turned-reversed.ensures ∙ ap turned c.peek_fields-fields.ensures.fields) ∙ (λ i. restored (sym (c.tracks_of.ensures.seen s) i) (turned (volume_seen s t c.args.t.0).fields)))) (reverse-fits s t c.args.t.0 c.requires.fit (subst (λ (f : Fields). IsLawful (volume_seen s t c.args.t.0).tracks f) c.peek_fields-fields.ensures.fields c.peek_fields-fields.ensures.lawful) c.requires.related c.requires.sets)).covers
+    (subst (λ f. MoveFits s t c.args.t.0 f None) (sym (c.restored-next.ensures ∙ ap (restored c.tracks_of.result) (c.turned-reversed.ensures ∙ ap turned c.peek_fields-fields.ensures.fields) ∙ (λ i. restored (sym (c.tracks_of.ensures.seen s) i) (turned (volume_seen s t c.args.t.0).fields)))) (reverse-fits s t c.args.t.0 c.requires.fit (subst (λ (f : Fields). IsLawful (volume_seen s t c.args.t.0).tracks f) c.peek_fields-fields.ensures.fields c.peek_fields-fields.ensures.lawful) c.requires.related (number_of c.args.left) c.requires.not_revertible c.requires.sets)).covers
 
 pub shift-requires-clause-room : goal.shift-requires-clause-room
 shift-requires-clause-room g c =
-    let few = room-few _ _ _ _ c.told_of-told.result (c.told_of-told.ensures (g.P.Plant.state c.args.p.now)) in
+    let one = one-left (left_event (number_of c.args.left) c.peek_fields-fields.result.session) in
+    let few = room-few (left_event (number_of c.args.left) c.peek_fields-fields.result.session) _ _ _ _ c.told_of-told.result (c.told_of-told.ensures (g.P.Plant.state c.args.p.now)) in
     let room = c.requires.room in
-    omega (arith, few, room)
+    omega (arith, one, few, room)
 
 pub returns-clause-room : goal.returns-clause-room
 returns-clause-room g c =
-    let few = room-few _ _ _ _ c.told_of-told.result (c.told_of-told.ensures (g.P.Plant.state c.args.p.now)) in
+    let one = one-left (left_event (number_of c.args.left) c.peek_fields-fields.result.session) in
+    let few = room-few (left_event (number_of c.args.left) c.peek_fields-fields.result.session) _ _ _ _ c.told_of-told.result (c.told_of-told.ensures (g.P.Plant.state c.args.p.now)) in
     let room = c.shift.ensures.room in
-    omega (arith, few, room)
+    omega (arith, one, few, room)
 
 pub returns-clause-room_left : goal.returns-clause-room_left
 returns-clause-room_left g c =
-    let few = done-few _ _ _ _ c.told_of-told.result (c.told_of-told.ensures (g.P.Plant.state c.args.p.now)) in
-    ok-along c.shift.result c.shift.ensures.room_left (λ left. omega (arith, few, left))
+    let one = one-left (left_event (number_of c.args.left) c.peek_fields-fields.result.session) in
+    let few = done-few (left_event (number_of c.args.left) c.peek_fields-fields.result.session) _ _ _ _ c.told_of-told.result (c.told_of-told.ensures (g.P.Plant.state c.args.p.now)) in
+    ok-along c.shift.result c.shift.ensures.room_left (λ left. omega (arith, one, few, left))
 
 pub returns-clause-advances : goal.returns-clause-advances
 returns-clause-advances g c =
@@ -55,8 +59,8 @@ returns-clause-advances g c =
     let t = c.args.c.now in
     let x = volume_seen s t c.args.t.0 in
     ok-along c.shift.result c.shift.ensures.done (λ done r.
-    advances (seen s t r c.args.j.now.events) (Reverse c.args.t.0) c.told_of-told.result (plain c.restored-next.result) None (on-running s x.server c.requires.running)
-    (subst (λ y. Tells (Reverse c.args.t.0) x y) (sym (told-by c.args.t.0 x.tracks _ _ _ _ c.told_of-told.result (c.told_of-told.ensures s) c.peek_fields-fields.ensures.fields (c.turned-reversed.ensures ∙ ap turned c.peek_fields-fields.ensures.fields))) (tells-reverse c.args.t.0 x)) (sym (c.restored-next.ensures ∙ ap (restored c.tracks_of.result) (c.turned-reversed.ensures ∙ ap turned c.peek_fields-fields.ensures.fields) ∙ (λ i. restored (sym (c.tracks_of.ensures.seen s) i) (turned (volume_seen s t c.args.t.0).fields)))) (refl)
+    advances (seen s t r c.args.j.now.events) (Reverse c.args.t.0 (number_of c.args.left)) c.told_of-told.result (plain c.restored-next.result) None (on-running s x.server c.requires.running)
+    (subst (λ y. Tells (Reverse c.args.t.0 (number_of c.args.left)) x y) (sym (told-by (number_of c.args.left) c.args.t.0 x.tracks _ _ _ _ c.told_of-told.result (c.told_of-told.ensures s) c.peek_fields-fields.ensures.fields (c.turned-reversed.ensures ∙ ap turned c.peek_fields-fields.ensures.fields))) (tells-reverse c.args.t.0 (number_of c.args.left) x)) (sym (c.restored-next.ensures ∙ ap (restored c.tracks_of.result) (c.turned-reversed.ensures ∙ ap turned c.peek_fields-fields.ensures.fields) ∙ (λ i. restored (sym (c.tracks_of.ensures.seen s) i) (turned (volume_seen s t c.args.t.0).fields)))) (refl)
     (seen (g.P.Plant.state c.shift.new.p) t r c.shift.new.j.events) (done r))
 
 pub returns-clause-halts : goal.returns-clause-halts
@@ -65,8 +69,8 @@ returns-clause-halts g c =
     let t = c.args.c.now in
     let x = volume_seen s t c.args.t.0 in
     err-along c.shift.result c.shift.ensures.failed c.shift.ensures.refused (λ failed refused r.
-    halts (seen s t r c.args.j.now.events) (Reverse c.args.t.0) c.told_of-told.result (plain c.restored-next.result) None (on-running s x.server c.requires.running)
-    (subst (λ y. Tells (Reverse c.args.t.0) x y) (sym (told-by c.args.t.0 x.tracks _ _ _ _ c.told_of-told.result (c.told_of-told.ensures s) c.peek_fields-fields.ensures.fields (c.turned-reversed.ensures ∙ ap turned c.peek_fields-fields.ensures.fields))) (tells-reverse c.args.t.0 x)) (sym (c.restored-next.ensures ∙ ap (restored c.tracks_of.result) (c.turned-reversed.ensures ∙ ap turned c.peek_fields-fields.ensures.fields) ∙ (λ i. restored (sym (c.tracks_of.ensures.seen s) i) (turned (volume_seen s t c.args.t.0).fields)))) (refl)
+    halts (seen s t r c.args.j.now.events) (Reverse c.args.t.0 (number_of c.args.left)) c.told_of-told.result (plain c.restored-next.result) None (on-running s x.server c.requires.running)
+    (subst (λ y. Tells (Reverse c.args.t.0 (number_of c.args.left)) x y) (sym (told-by (number_of c.args.left) c.args.t.0 x.tracks _ _ _ _ c.told_of-told.result (c.told_of-told.ensures s) c.peek_fields-fields.ensures.fields (c.turned-reversed.ensures ∙ ap turned c.peek_fields-fields.ensures.fields))) (tells-reverse c.args.t.0 (number_of c.args.left) x)) (sym (c.restored-next.ensures ∙ ap (restored c.tracks_of.result) (c.turned-reversed.ensures ∙ ap turned c.peek_fields-fields.ensures.fields) ∙ (λ i. restored (sym (c.tracks_of.ensures.seen s) i) (turned (volume_seen s t c.args.t.0).fields)))) (refl)
     (armed_in s) (seen (g.P.Plant.state c.shift.new.p) t r c.shift.new.j.events) (refusal_of c.shift.result) refused (failed r))
 
 pub returns-clause-moved : goal.returns-clause-moved

@@ -1,3 +1,6 @@
+use Rattle.std.proofs.Common.{ap, sym, ◌∙◌}
+use Rattle.dr_model.specs.Plans.{counted_refusal}
+use Rattle.dr_flash.specs.Standing.{counted_by}
 use Rattle.dr_flash.specs.Here.{seen, armed_in, refusal_of}
 use Rattle.dr_flash.proofs.CheckLemmas.{counted-stop, only-stops}
 use Rattle.dr_flash.proofs.TurnLemmas.{ok-along, err-along}
@@ -8,21 +11,21 @@ use Rattle.dr_incr.proofs.CopyLaws.{copy-shown}
 use Rattle.dr_incr.proofs.renewal.resync.Goals as goal
 
 pub returns-in-Some-clause-carried : goal.returns-in-Some-clause-carried
-returns-in-Some-clause-carried g c r = c.in-Some.ensures.checked r c.args.j.now.events (armed_in (g.P.Plant.state c.args.p.now)) _
+returns-in-Some-clause-carried g c r = c.in-Some.ensures.checked (counted_refusal c.args.t.0) r c.args.j.now.events (ap counted_by (sym c.peek_fields.ensures.fields) ∙ sym c.counted_refusal-first.ensures.refusal) (armed_in (g.P.Plant.state c.args.p.now)) _
 
 pub returns-in-Some-clause-fails : goal.returns-in-Some-clause-fails
-returns-in-Some-clause-fails g c r ds = c.in-Some.ensures.checked r c.args.j.now.events (armed_in (g.P.Plant.state c.args.p.now)) _
+returns-in-Some-clause-fails g c r ds = c.in-Some.ensures.checked (counted_refusal c.args.t.0) r c.args.j.now.events (ap counted_by (sym c.peek_fields.ensures.fields) ∙ sym c.counted_refusal-first.ensures.refusal) (armed_in (g.P.Plant.state c.args.p.now)) _
 
 pub returns-clause-leads : goal.returns-clause-leads
 returns-clause-leads g c =
     ok-along c.renew.result c.renew.ensures.advances (λ goes r armed u r' ds more.
-    c.in_default.ensures.checked r c.args.j.now.events armed u r' _
+    c.in_default.ensures.checked (counted_refusal c.args.t.0) r c.args.j.now.events (ap counted_by (sym c.peek_fields.ensures.fields) ∙ sym c.counted_refusal-first.ensures.refusal) armed u r' _
     (goes r armed u r' ds more))
 
 pub returns-clause-fails : goal.returns-clause-fails
 returns-clause-fails g c =
     err-along c.renew.result c.renew.ensures.halts c.renew.ensures.refused (λ halts refused r ds.
-    c.in_default.ensures.checked r c.args.j.now.events (armed_in (g.P.Plant.state c.args.p.now)) (seen (g.P.Plant.state c.renew.new.p) c.args.c.now r c.renew.new.j.events) (refusal_of c.renew.result) _
+    c.in_default.ensures.checked (counted_refusal c.args.t.0) r c.args.j.now.events (ap counted_by (sym c.peek_fields.ensures.fields) ∙ sym c.counted_refusal-first.ensures.refusal) (armed_in (g.P.Plant.state c.args.p.now)) (seen (g.P.Plant.state c.renew.new.p) c.args.c.now r c.renew.new.j.events) (refusal_of c.renew.result) _
     (halts r ds))
 
 pub returns-clause-carried : goal.returns-clause-carried

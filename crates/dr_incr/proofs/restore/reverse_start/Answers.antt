@@ -1,46 +1,50 @@
-use Rattle.std.proofs.Common.{Some}
+use Rattle.std.proofs.Common.{Some, sym, subst}
+use Rattle.dr_model.specs.Carry.{now}
+use Rattle.dr_model.specs.Moves.{Reverse}
+use Rattle.dr_model.specs.Plans.{restore_refusal}
+use Rattle.dr_flash.specs.Turns.{Advances, Halts}
 use Rattle.dr_flash.specs.Here.{seen, armed_in, refusal_of}
 use Rattle.dr_flash.proofs.CheckLemmas.{counted-stop, only-stops}
 use Rattle.dr_flash.proofs.TurnLemmas.{ok-along, err-along}
-use Rattle.dr_incr.specs.Steps.{reverse_entries}
-use Rattle.dr_incr.proofs.StepLemmas.{ends-by, stop-refused}
+use Rattle.dr_incr.specs.Steps.{IsAsked, reverse_entries}
+use Rattle.dr_incr.proofs.StepLemmas.{ends-if, stop-refused}
 use Rattle.dr_incr.proofs.TargetLemmas.{target-of}
 use Rattle.dr_incr.proofs.BackLaws.{turn-restores}
 use Rattle.dr_incr.proofs.restore.reverse_start.Goals as goal
 
 pub returns-in-Some-clause-carried : goal.returns-in-Some-clause-carried
-returns-in-Some-clause-carried g c r = c.in-Some.ensures.checked r c.args.j.now.events (armed_in (g.P.Plant.state c.args.p.now)) _
+returns-in-Some-clause-carried g c r asked = c.in-Some.ensures.checked (restore_refusal c.args.t.0) r c.args.j.now.events asked.why (armed_in (g.P.Plant.state c.args.p.now)) _
 
 pub returns-in-Some-clause-fails : goal.returns-in-Some-clause-fails
-returns-in-Some-clause-fails g c r ds = c.in-Some.ensures.checked r c.args.j.now.events (armed_in (g.P.Plant.state c.args.p.now)) _
+returns-in-Some-clause-fails g c r asked ds = c.in-Some.ensures.checked (restore_refusal c.args.t.0) r c.args.j.now.events asked.why (armed_in (g.P.Plant.state c.args.p.now)) _
 
 pub returns-in-Some-lone_refusal-clause-carried : goal.returns-in-Some-lone_refusal-clause-carried
-returns-in-Some-lone_refusal-clause-carried g c r =
-    c.in_default.ensures.checked r c.args.j.now.events (armed_in (g.P.Plant.state c.args.p.now)) (seen (g.P.Plant.state c.args.p.now) c.args.c.now r c.args.j.now.events) (Some c.in-Some-lone_refusal.why) _
+returns-in-Some-lone_refusal-clause-carried g c r asked =
+    c.in_default.ensures.checked (restore_refusal c.args.t.0) r c.args.j.now.events asked.why (armed_in (g.P.Plant.state c.args.p.now)) (seen (g.P.Plant.state c.args.p.now) c.args.c.now r c.args.j.now.events) (Some c.in-Some-lone_refusal.why) _
     (c.in-Some-lone_refusal.ensures.checked r c.args.j.now.events (armed_in (g.P.Plant.state c.args.p.now)) _)
 
 pub returns-in-Some-lone_refusal-clause-fails : goal.returns-in-Some-lone_refusal-clause-fails
-returns-in-Some-lone_refusal-clause-fails g c r ds =
-    c.in_default.ensures.checked r c.args.j.now.events (armed_in (g.P.Plant.state c.args.p.now)) (seen (g.P.Plant.state c.args.p.now) c.args.c.now r c.args.j.now.events) (Some c.in-Some-lone_refusal.why) _
+returns-in-Some-lone_refusal-clause-fails g c r asked ds =
+    c.in_default.ensures.checked (restore_refusal c.args.t.0) r c.args.j.now.events asked.why (armed_in (g.P.Plant.state c.args.p.now)) (seen (g.P.Plant.state c.args.p.now) c.args.c.now r c.args.j.now.events) (Some c.in-Some-lone_refusal.why) _
     (c.in-Some-lone_refusal.ensures.checked r c.args.j.now.events (armed_in (g.P.Plant.state c.args.p.now)) _)
 
 pub returns-clause-leads : goal.returns-clause-leads
 returns-clause-leads g c =
-    ok-along c.turn_back.result c.turn_back.ensures.advances (λ goes r armed u r' ds more.
-    c.in_default.ensures.checked r c.args.j.now.events armed u r' _
+    ok-along c.turn_back.result c.turn_back.ensures.advances (λ goes r asked armed u r' ds more.
+    c.in_default.ensures.checked (restore_refusal c.args.t.0) r c.args.j.now.events asked.why armed u r' _
     (c.in_default-lone_refusal.ensures.checked r c.args.j.now.events armed u r' _
-    (goes r armed u r' ds more)))
+    (subst (λ o. Advances (seen (g.P.Plant.state c.args.p.now) c.args.c.now r c.args.j.now.events) (now (Reverse c.args.t.0 o)) (seen (g.P.Plant.state c.turn_back.new.p) c.args.c.now r c.turn_back.new.j.events)) (sym asked.leaves) (goes r) armed u r' ds more)))
 
 pub returns-clause-fails : goal.returns-clause-fails
 returns-clause-fails g c =
-    err-along c.turn_back.result c.turn_back.ensures.halts c.turn_back.ensures.refused (λ halts refused r ds.
-    c.in_default.ensures.checked r c.args.j.now.events (armed_in (g.P.Plant.state c.args.p.now)) (seen (g.P.Plant.state c.turn_back.new.p) c.args.c.now r c.turn_back.new.j.events) (refusal_of c.turn_back.result) _
+    err-along c.turn_back.result c.turn_back.ensures.halts c.turn_back.ensures.refused (λ halts refused r asked ds.
+    c.in_default.ensures.checked (restore_refusal c.args.t.0) r c.args.j.now.events asked.why (armed_in (g.P.Plant.state c.args.p.now)) (seen (g.P.Plant.state c.turn_back.new.p) c.args.c.now r c.turn_back.new.j.events) (refusal_of c.turn_back.result) _
     (c.in_default-lone_refusal.ensures.checked r c.args.j.now.events (armed_in (g.P.Plant.state c.args.p.now)) (seen (g.P.Plant.state c.turn_back.new.p) c.args.c.now r c.turn_back.new.j.events) (refusal_of c.turn_back.result) _
-    (halts r ds)))
+    (subst (λ o. Halts (armed_in (g.P.Plant.state c.args.p.now)) (seen (g.P.Plant.state c.args.p.now) c.args.c.now r c.args.j.now.events) (now (Reverse c.args.t.0 o)) (seen (g.P.Plant.state c.turn_back.new.p) c.args.c.now r c.turn_back.new.j.events) (refusal_of c.turn_back.result)) (sym asked.leaves) (halts r) ds)))
 
 pub returns-clause-carried : goal.returns-clause-carried
 returns-clause-carried g c =
-    ends-by c.turn_back.result (armed_in (g.P.Plant.state c.args.p.now)) (λ r. (seen (g.P.Plant.state c.args.p.now) c.args.c.now r c.args.j.now.events)) (λ r. (seen (g.P.Plant.state c.turn_back.new.p) c.args.c.now r c.turn_back.new.j.events)) (λ r. reverse_entries (seen (g.P.Plant.state c.args.p.now) c.args.c.now r c.args.j.now.events).control c.args.s.0 c.args.t.0) (returns-clause-leads g c) (returns-clause-fails g c)
+    ends-if c.turn_back.result (armed_in (g.P.Plant.state c.args.p.now)) (λ r. IsAsked (seen (g.P.Plant.state c.args.p.now) c.args.c.now r c.args.j.now.events).control c.args.t.0 c.args.unsettled c.args.left) (λ r. (seen (g.P.Plant.state c.args.p.now) c.args.c.now r c.args.j.now.events)) (λ r. (seen (g.P.Plant.state c.turn_back.new.p) c.args.c.now r c.turn_back.new.j.events)) (λ r. reverse_entries (seen (g.P.Plant.state c.args.p.now) c.args.c.now r c.args.j.now.events).control c.args.s.0 c.args.t.0) (returns-clause-leads g c) (returns-clause-fails g c)
 
 pub returns-clause-refused : goal.returns-clause-refused
 returns-clause-refused g c =
@@ -58,4 +62,4 @@ returns-clause-restores g c =
     let t = c.args.c.now in
     let to = target-of x t c.args.s.0 c.args.t.0 c.requires.fit c.in_default.ensures.related in
     ok-along c.turn_back.result c.turn_back.ensures.moved (λ is holds.
-    turn-restores x (g.P.Plant.state c.turn_back.new.p) t c.args.s.0 c.args.t.0 to c.requires.fit c.requires.sets c.turn_back.ensures.others c.in_default.ensures.recorded c.in_default.ensures.forward holds is)
+    turn-restores x (g.P.Plant.state c.turn_back.new.p) t c.args.s.0 c.args.t.0 to c.requires.fit c.requires.sets c.in_default.ensures.not_revertible c.turn_back.ensures.others c.in_default.ensures.recorded c.in_default.ensures.forward holds is)

@@ -5,7 +5,7 @@ use Rattle.dr_model.specs.Sessions.{session_in, mirror_in, members_in}
 use Rattle.dr_model.specs.SessionPlans.{says_phase}
 use Rattle.dr_top.specs.Here.{here, rest_of}
 use Rattle.dr_top.proofs.RelationLemmas.{relations-fit}
-use Rattle.dr_top.proofs.ExchangeLemmas.{none-defined, some-defined, exchange-nowhere, exchange-foreign, exchange-goes, exchange-ready, members-ready, few-members, master-near, may-exchange}
+use Rattle.dr_top.proofs.ExchangeLemmas.{none-defined, some-defined, exchange-nowhere, exchange-foreign, exchange-goes, exchange-ready, members-ready, aside-fits, few-members, master-near, may-exchange}
 use Rattle.dr_top.proofs.exchanges.exchange.Goals as goal
 
 pub returns-then-not-is_defined-clause-step : goal.returns-then-not-is_defined-clause-step
@@ -27,13 +27,19 @@ exchange-requires-clause-fit g c = relations-fit (g.P.Plant.state c.args.plant.n
 pub exchange-requires-clause-members : goal.exchange-requires-clause-members
 exchange-requires-clause-members g c = members-ready (g.P.Plant.state c.args.plant.now) c.args.config.now c.args.tables.now c.args.journal.now.events c.requires.sound c.args.s.0
 
+pub exchange-requires-clause-aside : goal.exchange-requires-clause-aside
+exchange-requires-clause-aside g c = aside-fits (g.P.Plant.state c.args.plant.now) c.args.config.now c.args.tables.now c.args.journal.now.events c.requires.sound c.args.s.0
+
+pub exchange-requires-clause-few : goal.exchange-requires-clause-few
+exchange-requires-clause-few g c = few-members (g.P.Plant.state c.args.plant.now) c.args.config.now c.args.tables.now c.args.journal.now.events c.requires.sound c.args.s.0 c.requires.few
+
 pub exchange-requires-clause-near : goal.exchange-requires-clause-near
-exchange-requires-clause-near g c = master-near (g.P.Plant.state c.args.plant.now) c.args.config.now c.args.tables.now c.args.journal.now.events c.requires.sound c.args.s.0 c.requires.near
+exchange-requires-clause-near g c = master-near (g.P.Plant.state c.args.plant.now) c.args.config.now c.args.tables.now c.args.journal.now.events c.requires.sound c.args.s.0
 
 pub exchange-requires-clause-may : goal.exchange-requires-clause-may
 exchange-requires-clause-may g c =
     let s = g.P.Plant.state c.args.plant.now in let t = c.args.config.now in let h = c.args.tables.now in let ev = c.args.journal.now.events in let n = c.args.s.0 in
-    (rest_of h ev, λ o free order. may-exchange s t h ev c.requires.sound n c.requires.near c.tell_few.ensures c.in-Some.server.0 o free order)
+    (rest_of h ev, λ o free order. may-exchange s t h ev c.requires.sound n c.requires.few c.tell_few.ensures c.in-Some.server.0 o free order)
 
 pub exchange-requires-clause-room : goal.exchange-requires-clause-room
 exchange-requires-clause-room g c =

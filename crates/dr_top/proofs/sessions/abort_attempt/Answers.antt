@@ -5,7 +5,7 @@ use Rattle.dr_model.specs.Runs.{said}
 use Rattle.dr_model.specs.SessionPlans.{master_refusal}
 use Rattle.dr_model.specs.Sessions.{session_in, mirror_in}
 use Rattle.dr_top.specs.Here.{here}
-use Rattle.dr_top.proofs.SessionLemmas.{is-defined, not-defined, some-session, abort-nowhere, abort-refused, abort-done}
+use Rattle.dr_top.proofs.SessionLemmas.{is-defined, not-defined, some-session, abort-nowhere, abort-refused, abort-done, master-low}
 use Rattle.dr_top.proofs.sessions.abort_attempt.Goals as goal
 
 pub returns-then-not-is_defined-clause-step : goal.returns-then-not-is_defined-clause-step
@@ -33,3 +33,7 @@ returns-in-Ok-clause-step g c line =
     let at = some-session _ (is-defined _ _ c.if-not-is_defined.false c.is_defined.ensures) in
     abort-done s t h ev line c.args.s.0 at.0 at.1 c.abort.new.self c.phase_of.result (λ i. option_or (c.in_default.ensures.refusal i) (c.in_default-master_refusal.ensures.refusal t h ev i))
     (ap (λ x. x.sessions) c.in-Ok.ensures.aborted) c.phase_of.ensures
+
+pub master_refusal-requires : goal.master_refusal-requires
+master_refusal-requires g c =
+    record { known = master-low (g.P.Plant.state c.args.plant.now) c.args.config.now c.args.tables.now c.args.journal.now.events c.args.s.0 c.requires.sound }

@@ -28,6 +28,7 @@ pub returns-clause-found : goal.returns-clause-found
 returns-clause-found c = record {
   sound = c.in-Some.ensures.sound;
   owned = sym c.in-Some.ensures.value;
+  known = c.in-Some.ensures.defined.below;
   session = is-defined _ _ c.if-not-is_defined.false c.is_defined.ensures;
   named = λ x ev. sym (c.is_named.ensures x c.args.tables.now ev) ∙ c.if-not-is_named.false;
 }

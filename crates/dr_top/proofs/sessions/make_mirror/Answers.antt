@@ -42,3 +42,6 @@ returns-in-Err-make_master-clause-step g c line =
     found-refused s t h ev line c.args.devs.now.dev c.args.l.0 c.args.s.0 (λ owner x. option_or (outside_refusal x c.args.l.0) (option_or (off_refusal k owner) (make_refusal x.mirror))) (λ owner. changed c.args.s.0 (mirrored_by owner))
     c.in-Ok.owner.0 c.in-Ok.ensures.found c.in-Err-make_master.why (λ x there i. option_or (sym (c.in_default.ensures.refusal x there) i) (option_or (sym (c.in_default-off_refusal.ensures.refusal t h ev) i) (sym (c.in-Err-make_master.ensures.refused ∙ ap (λ o. make_refusal (mirror_in o)) there) i)))
     ∙ kept-said s t h ev line c.make_master.new.self (Refused c.in-Err-make_master.why) (ap (λ x. x.sessions) c.in-Err-make_master.ensures.same)
+
+pub off_refusal-requires : goal.off_refusal-requires
+off_refusal-requires g c = record { known = c.in-Ok.ensures.found.known }

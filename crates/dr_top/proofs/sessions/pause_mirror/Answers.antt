@@ -3,7 +3,7 @@ use Rattle.std.specs.Option.{option_or}
 use Rattle.dr_model.specs.SessionPlans.{outside_refusal, master_refusal}
 use Rattle.dr_model.specs.Sessions.{changed, paused, mirror_in}
 use Rattle.dr_top.specs.Here.{here}
-use Rattle.dr_top.proofs.SessionLemmas.{found-refused, found-changes, pauses}
+use Rattle.dr_top.proofs.SessionLemmas.{found-refused, found-changes, pauses, master-low}
 use Rattle.dr_top.proofs.sessions.pause_mirror.Goals as goal
 
 pub returns-in-Err-clause-step : goal.returns-in-Err-clause-step
@@ -37,3 +37,7 @@ pub returns-in-Err-set_paused-clause-step : goal.returns-in-Err-set_paused-claus
 returns-in-Err-set_paused-clause-step g c line =
     let s = g.P.Plant.state c.args.plant.now in let t = c.args.config.now in let h = c.args.tables.now in let ev = c.args.journal.now.events in
     pauses (here s t h ev).control _ c.in-Err-set_paused.why (c.in_default-master_refusal.ensures.refusal t h ev) c.in-Err-set_paused.ensures.refused
+
+pub master_refusal-requires : goal.master_refusal-requires
+master_refusal-requires g c =
+    record { known = master-low (g.P.Plant.state c.args.plant.now) c.args.config.now c.args.tables.now c.args.journal.now.events c.args.s.0 c.requires.sound }

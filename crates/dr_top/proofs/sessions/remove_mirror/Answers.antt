@@ -4,7 +4,7 @@ use Rattle.dr_model.specs.declared.said.Said.TheVariants.{Refused}
 use Rattle.dr_model.specs.SessionPlans.{outside_refusal, master_refusal}
 use Rattle.dr_model.specs.Sessions.{drop_refusal, changed, unmirrored, mirror_in}
 use Rattle.dr_top.specs.Here.{here}
-use Rattle.dr_top.proofs.SessionLemmas.{found-refused, found-changes, kept-said}
+use Rattle.dr_top.proofs.SessionLemmas.{found-refused, found-changes, kept-said, master-low}
 use Rattle.dr_top.proofs.sessions.remove_mirror.Goals as goal
 
 pub returns-in-Err-clause-step : goal.returns-in-Err-clause-step
@@ -42,3 +42,7 @@ returns-in-Err-drop_master-clause-step g c line =
     found-refused s t h ev line c.args.devs.now.dev c.args.l.0 c.args.s.0 (λ owner x. option_or (outside_refusal x c.args.l.0) (option_or (master_refusal k x.mirror) (drop_refusal x.mirror))) (λ owner. changed c.args.s.0 unmirrored)
     c.in_default.field-0.0 c.in_default.ensures.found c.in-Err-drop_master.why (λ x there i. option_or (sym (c.in_default-outside_refusal.ensures.refusal x there) i) (option_or (sym (c.in_default-master_refusal.ensures.refusal t h ev ∙ ap (λ o. master_refusal k (mirror_in o)) there) i) (sym (c.in-Err-drop_master.ensures.refused ∙ ap (λ o. drop_refusal (mirror_in o)) there) i)))
     ∙ kept-said s t h ev line c.drop_master.new.self (Refused c.in-Err-drop_master.why) (ap (λ x. x.sessions) c.in-Err-drop_master.ensures.same)
+
+pub master_refusal-requires : goal.master_refusal-requires
+master_refusal-requires g c =
+    record { known = master-low (g.P.Plant.state c.args.plant.now) c.args.config.now c.args.tables.now c.args.journal.now.events c.args.s.0 c.requires.sound }

@@ -1,11 +1,19 @@
-use Rattle.std.proofs.Common.{sym, ap, ◌∙◌}
+use Rattle.std.proofs.Common.{sym, ap, ◌∙◌, subst}
+use Rattle.dr_model.specs.declared.said.Said.{Said}
 use Rattle.dr_model.specs.declared.said.Said.TheVariants.{Done, Refused}
-use Rattle.dr_model.specs.declared.said.Addition.TheVariants.{Alone}
 use Rattle.dr_model.specs.Plans.{start_on}
 use Rattle.dr_model.specs.Runs.{said}
-use Rattle.dr_top.specs.Here.{said_of, here}
+use Rattle.dr_flash.specs.Checks.{is_stop}
+use Rattle.dr_flash.specs.Here.{armed_in}
+use Rattle.dr_metro.specs.Here.{IsTold}
+use Rattle.dr_admin.specs.Answering.{Comes}
+use Rattle.dr_top.specs.Faults.{Counted}
+use Rattle.dr_top.specs.Here.{here, rest_of}
+use Rattle.dr_top.proofs.ComeLemmas.{plan-comes, told-comes}
+use Rattle.dr_top.proofs.LandLemmas.{ready-after}
 use Rattle.dr_top.proofs.StopLemmas.{unknown-server, known-server}
-use Rattle.dr_top.proofs.StartLemmas.{started-already}
+use Rattle.dr_top.proofs.StartLemmas.{told-start, told-acked}
+use Rattle.dr_top.proofs.FlashLemmas.{counted-refusal}
 use Rattle.dr_top.proofs.stops.start.Goals as goal
 
 pub returns-in_default-clause-step : goal.returns-in_default-clause-step
@@ -14,15 +22,44 @@ returns-in_default-clause-step g c line =
     unknown-server s t h ev line (start_on (here s t h ev).control) c.args.name.now c.bytes_of.result.now c.bytes_of.ensures (sym c.in_default.ensures.place)
     ∙ ap (λ r. said (here s t h ev) line (Refused r)) (sym c.unknown_server.ensures)
 
-pub returns-then-is_on-clause-step : goal.returns-then-is_on-clause-step
-returns-then-is_on-clause-step g c line =
+pub returns-in-Ok-clause-step : goal.returns-in-Ok-clause-step
+returns-in-Ok-clause-step g c line =
     let s = g.P.Plant.state c.args.plant.now in let t = c.args.config.now in let h = c.args.tables.now in let ev = c.args.journal.now.events in
-    known-server s t h ev line (start_on (here s t h ev).control) c.args.name.now c.bytes_of.result.now c.in-Some.server.0 (said (here s t h ev) line (Done Alone)) c.bytes_of.ensures (sym c.in-Some.ensures.place)
-    (started-already s t h ev line c.in-Some.server.0 c.in-Some.ensures.defined.below (sym c.if-is_on.ensures))
+    let k = (here s t h ev).control in
+    let u = here (g.P.Plant.state c.start.new.p) t (record h { host = c.start.new.h }) c.start.new.j.events in
+    known-server s t h ev line (start_on k) c.args.name.now c.bytes_of.result.now c.in-Some.server.0 (said u line (Done c.added.result)) c.bytes_of.ensures (sym c.in-Some.ensures.place)
+    (plan-comes s c.requires.ready.reads (here s t h ev) u (start_on k c.in-Some.server.0) (Done c.added.result)
+    (subst (λ (a : Said). Comes (armed_in s) (here s t h ev) (start_on k c.in-Some.server.0) u a) (sym c.added.ensures) (c.in-Ok.ensures.plan (rest_of h ev))) line)
 
-pub returns-clause-step : goal.returns-clause-step
-returns-clause-step g c line =
+pub returns-in-Ok-clause-ready : goal.returns-in-Ok-clause-ready
+returns-in-Ok-clause-ready g c =
     let s = g.P.Plant.state c.args.plant.now in let t = c.args.config.now in let h = c.args.tables.now in let ev = c.args.journal.now.events in
-    known-server s t h ev line (start_on (here s t h ev).control) c.args.name.now c.bytes_of.result.now c.in-Some.server.0
-    (said (here (g.P.Plant.state c.turn_on.new.plant) t c.turn_on.new.tables c.turn_on.new.journal.events) line (said_of c.turn_on.result)) c.bytes_of.ensures (sym c.in-Some.ensures.place)
-    (c.turn_on.ensures.step line)
+    let k = (here s t h ev).control in
+    let v = g.P.Plant.state c.start.new.p in let now = c.start.new.j.events in
+    ready-after t s v (record h { host = c.start.new.h }) now c.requires.ready.reads c.in-Ok.ensures.rest c.in-Ok.ensures.unarmed
+    (told-acked c.in-Ok.acked h.host c.start.new.h now c.in-Ok.ensures.host
+    (told-comes s c.requires.ready.reads (here s t h ev) (here v t (record h { host = c.start.new.h }) now) (start_on k c.in-Some.server.0) _ (c.in-Ok.ensures.plan (rest_of h ev)) h
+    (told-start h.host ev c.requires.ready.told k c.in-Some.server.0)))
+
+pub returns-in-Err-clause-step : goal.returns-in-Err-clause-step
+returns-in-Err-clause-step g c line =
+    let s = g.P.Plant.state c.args.plant.now in let t = c.args.config.now in let h = c.args.tables.now in let ev = c.args.journal.now.events in
+    let k = (here s t h ev).control in
+    let u = here (g.P.Plant.state c.start.new.p) t (record h { host = c.start.new.h }) c.start.new.j.events in
+    known-server s t h ev line (start_on k) c.args.name.now c.bytes_of.result.now c.in-Some.server.0 (said u line (Refused c.in-Err.refusal)) c.bytes_of.ensures (sym c.in-Some.ensures.place)
+    (plan-comes s c.requires.ready.reads (here s t h ev) u (start_on k c.in-Some.server.0) (Refused c.in-Err.refusal) (c.in-Err.ensures.plan (rest_of h ev)) line)
+
+pub returns-in-Err-clause-ready : goal.returns-in-Err-clause-ready
+returns-in-Err-clause-ready g c =
+    let s = g.P.Plant.state c.args.plant.now in let t = c.args.config.now in let h = c.args.tables.now in let ev = c.args.journal.now.events in
+    let k = (here s t h ev).control in
+    let v = g.P.Plant.state c.start.new.p in let now = c.start.new.j.events in
+    ready-after t s v (record h { host = c.start.new.h }) now c.requires.ready.reads c.in-Err.ensures.rest c.in-Err.ensures.unarmed
+    (subst (λ x. IsTold x now) (sym c.in-Err.ensures.same)
+    (told-comes s c.requires.ready.reads (here s t h ev) (here v t (record h { host = c.start.new.h }) now) (start_on k c.in-Some.server.0) _ (c.in-Err.ensures.plan (rest_of h ev)) h
+    (told-start h.host ev c.requires.ready.told k c.in-Some.server.0)))
+
+pub returns-in-Err-clause-faults : goal.returns-in-Err-clause-faults
+returns-in-Err-clause-faults g c =
+    let s = g.P.Plant.state c.args.plant.now in let u = g.P.Plant.state c.start.new.p in
+    counted-refusal c.in-Err.refusal s u (subst (λ b. Counted b s.faults u.faults) (sym (ap is_stop c.in-Err.ensures.stopped)) c.in-Err.ensures.faults)

@@ -1,5 +1,3 @@
-use Rattle.std.proofs.Common.{ℕ, subst, sym}
-use Rattle.dr_top.specs.Here.{here, said_of, OnAnswer, Leads}
 use Rattle.dr_top.proofs.StepTaskLemmas.{none-session}
 use Rattle.dr_top.proofs.task.carry_session.Goals as goal
 

@@ -1,0 +1,406 @@
+-- What starting a server comes to: its volumes write their staged tracks to their places and go on, and a write is
+-- acknowledged.
+use Rattle.std.proofs.Common.{ℕ, ◌≡◌, ◌≢◌, ◌<◌, ◌≤◌, ◌+◌, ◌⊎◌, inl, inr, List, [], ◌∷◌, ◌++◌, length, slice_get, refl, ap, ◌∙◌, sym, subst, arith, Bool, true, false, not, ◌&&◌, cond, nat_eq, Option, Some, None, unwrap_or}
+use Rattle.std.specs.Prelude.{is_some, option_map, Result, Ok, Err, IfOk, OnErr, if◌then◌else◌}
+use Rattle.std.proofs.lemmas.Bool.Decides.{eqb_tells}
+use Rattle.std.proofs.lemmas.List.{drop_all, append-nil, append_assoc}
+use Rattle.dr_ids.specs.declared.names.WriteId.{WriteId}
+use Rattle.dr_ids.specs.declared.refusal.Refusal.{Refusal}
+use Rattle.dr_plant.specs.State as plant
+use Rattle.dr_plant.specs.State.{PlantState, started, started_read, started_write, passes_read}
+use Rattle.dr_plant.specs.declared.plant.WriteFuse.{WriteFuse}
+use Rattle.dr_plant.proofs.StateLemmas.{at_same, at_other}
+use Rattle.dr_config.specs.Table.{Table, StandsFor, place_of}
+use Rattle.dr_config.specs.declared.entries.VolumeEntry.{VolumeEntry}
+use Rattle.dr_config.proofs.Lists.{position-within}
+use Rattle.dr_host.specs.Writes as writes
+use Rattle.dr_host.specs.Writes.{Writes, has_owner, without}
+use Rattle.dr_host.proofs.Seen.{seen-landed, seen-without}
+use Rattle.dr_model.specs.declared.event.Event.{Event}
+use Rattle.dr_model.specs.declared.event.Event.TheVariants.{Ack, Stopped, Started}
+use Rattle.dr_model.specs.declared.said.Addition.TheVariants.{Alone}
+use Rattle.dr_model.specs.declared.said.Said.TheVariants.{Done, Refused}
+use Rattle.dr_model.specs.Refusals.{stopped}
+use Rattle.dr_model.specs.Control.{World}
+use Rattle.dr_model.specs.Carry.{Ended, ended, Entry, Do, Pass, Make, Redo, Acknowledge, act, redo, acknowledged}
+use Rattle.dr_model.specs.ReadStops.{Ends, shut}
+use Rattle.dr_model.specs.Plans.{Plan, only_says, landed_on, acknowledge_if, acknowledge_on, says_acked, fuse_at_start, starting, start_plan, start_on}
+use Rattle.dr_model.specs.Entries.{fields_at}
+use Rattle.dr_model.specs.Moves.{Restart}
+use Rattle.dr_model.specs.Pairs.{must_restart}
+use Rattle.dr_model.specs.Tables.{at}
+use Rattle.dr_model.specs.WriteEntries.{redo_on, restart_on, start_entries}
+use Rattle.dr_model.proofs.CarryLemmas.{act-redo, act-acknowledge}
+use Rattle.dr_volume.specs.View.{Rest, volume_seen, volume_at, ids_of, device_of, fuses_seen, fuse_seen, IsSettled, TracksSettled}
+use Rattle.dr_volume.specs.Update.{IsAsBefore, EndsAs, after_reading}
+use Rattle.dr_volume.proofs.UnreadLaws.{armed-of}
+use Rattle.dr_volume.proofs.WorldLaws.{on-at, on-seen, fuses-at, fuse-seen}
+use Rattle.dr_flash.specs.Here.{seen, armed_in, IsAtRest}
+use Rattle.dr_flash.specs.Turns.{Advances, Halts}
+use Rattle.dr_flash.proofs.CopyLemmas.{ids-next, wider-armed}
+use Rattle.dr_flash.proofs.EndsLemmas.{ends-off, ends-none, ends-skips, ends-goes, ends-stops, ends-wider}
+use Rattle.dr_flash.proofs.ReadLemmas.{on-running, is-armed}
+use Rattle.dr_coord.specs.Standing.{StandsReady}
+use Rattle.dr_admin.specs.Answering.{Comes, number_of}
+use Rattle.dr_admin.specs.Starting.{hosted, IsLater, IsStarting, start_from, start_events, acks, without_acked}
+use Rattle.dr_admin.proofs.OwnerLemmas.{some_or_none, belongs-seen, own-server, other-server}
+
+-- the server, whose read fuse is armed, went off before any write
+record Shuts (armed : ℕ → Bool) (server : ℕ) (w u : World) (failed : Bool) : Type 0 where
+  is_armed : armed server ≡ true
+  world : u ≡ shut w server
+  answer : failed ≡ true
+
+-- an act that begins with a read ends as the machine's, or at that read
+split : (s : PlantState) (server : ℕ) (w u : World) (b : Bool) (e : Ended) → server < 8 → EndsAs u b (after_reading s server w e) → EndsAs u b e ⊎ Shuts (armed_in s) server w u b
+split s server w u b e low ends =
+    elim (passes_read (s.read_fuse server)) as (λ p. passes_read (s.read_fuse server) ≡ p → EndsAs u b (if p then e else ended (shut w server) true false) → EndsAs u b e ⊎ Shuts (armed_in s) server w u b) [
+      | true ↦ λ pass h. inl h
+      | false ↦ λ stuck h. inr (record { is_armed = is-armed s server low (armed-of (s.read_fuse server) stuck); world = h.world; answer = h.stopped })
+    ] refl ends
+
+failed-not : false ≡ true → ⊥
+failed-not e = cc
+
+-- a volume's staged track is written to its place, or the server stops in that write
+module _ (s : PlantState) (t : Table) (r : Rest) (ev : List Event) (v server : ℕ) where
+  abbrev w : World
+  w = seen s t r ev
+
+  abbrev e : Ended
+  e = redo w v
+
+  abbrev o : ℕ
+  o = (volume_seen s t v).server
+
+  -- what is looked at first is the volume
+  entry_is : (b : Bool) → has_owner t v server ≡ b → redo_on server v w.control ≡ (if b then Do (Redo v) else Pass)
+  entry_is b owned = ap (λ b. if b then Do (Redo v) else Pass) (belongs-seen s t r ev v server ∙ owned)
+
+  redo_by : (stopped : Bool) → w.control.on o ≡ true → stopped ≡ e.stopped → act w (Redo v) ≡ (if stopped then (record e.world { events = ev ++ Stopped o 0 ∷ [] }, Some o) else (e.world, None))
+  redo_by stopped on is =
+      act-redo w v
+      ∙ ap (λ b. cond (not b) (w, None) (cond e.stopped (record e.world { events = ev ++ Stopped o 0 ∷ [] }, Some o) (e.world, None))) on
+      ∙ ap (λ b. cond b (record e.world { events = ev ++ Stopped o 0 ∷ [] }, Some o) (e.world, None)) (sym is)
+
+  -- a volume of another server is passed over
+  pub others-skip : (armed : ℕ → Bool) (u : World) (q : Option Refusal) (rest : List Entry) → has_owner t v server ≡ false → Ends armed u q w rest → Ends armed u q w (redo_on server v ∷ restart_on server v ∷ rest)
+  others-skip armed u q rest other more =
+      ends-skips armed u q w (redo_on server v) (restart_on server v ∷ rest) (entry_is false other)
+      (ends-skips armed u q w (restart_on server v) rest (ap (λ b. if b && must_restart (fields_at w.control v) then Do (Make (Restart v)) else Pass) (belongs-seen s t r ev v server ∙ other)) more)
+
+  -- from the plant after the call
+  module _ (s' : PlantState) (low : server < 8) (on : s.on server ≡ true) (owned : has_owner t v server ≡ true) where
+    own : o ≡ server
+    own = own-server s t v server owned
+
+    on_own : w.control.on o ≡ true
+    on_own = ap w.control.on own ∙ on-running s server on
+
+    redone-ends : (stopped : Bool) → EndsAs (seen s' t r ev) stopped (after_reading s o w e) → EndsAs (seen s' t r ev) stopped e ⊎ Shuts (armed_in s) server w (seen s' t r ev) stopped
+    redone-ends stopped ends = elim (split s o w (seen s' t r ev) stopped e (subst (λ x. x < 8) (sym own) low) ends) [
+      | inl x ↦ inl x
+      | inr x ↦ inr (subst (λ q. Shuts (armed_in s) q w (seen s' t r ev) stopped) own x)
+    ]
+
+    pub redone-advances : EndsAs (seen s' t r ev) false (after_reading s o w e) → Advances w (redo_on server v) (seen s' t r ev)
+    redone-advances ends armed u q ds more = elim (redone-ends false ends) [
+      | inl x ↦ ends-goes armed u q w (seen s' t r ev) (redo_on server v) ds (Redo v) (entry_is true owned) (redo_by false on_own x.stopped ∙ ap (λ (y : World). (y, None)) (sym x.world)) more
+      | inr x ↦ absurd (failed-not x.answer)
+    ]
+
+    pub redone-halts : (mid : List Event) → EndsAs (seen s' t r ev) true (after_reading s o w e) → mid ≡ ev ++ Stopped server 0 ∷ [] → Halts (armed_in s) w (redo_on server v) (seen s' t r mid) (Some (stopped server))
+    redone-halts mid ends told ds = elim (redone-ends true ends) [
+      | inl x ↦
+          ends-stops (armed_in s) (seen s' t r mid) (Some (stopped server)) w (redo_on server v) ds (Redo v) server (entry_is true owned)
+          (redo_by true on_own x.stopped
+          ∙ ap (λ (y : World). (record y { events = ev ++ Stopped o 0 ∷ [] }, Some o)) (sym x.world)
+          ∙ ap (λ q. (record (seen s' t r ev) { events = ev ++ Stopped q 0 ∷ [] }, Some q)) own
+          ∙ ap (λ es. (seen s' t r es, Some server)) (sym told)) refl
+      | inr x ↦ ends-off (armed_in s) (seen s' t r mid) (Some (stopped server)) w (redo_on server v ∷ ds) (record {
+        server = server;
+        on = on-running s server on;
+        is_armed = x.is_armed;
+        world = ap (seen s' t r) told ∙ ap (λ (y : World). record y { events = ev ++ Stopped server 0 ∷ [] }) x.world;
+        refusal = refl;
+      })
+    ]
+
+-- a volume's two entries come first of what is left
+module _ (t : Table) (v server place : ℕ) (at : Some v ≡ option_map (λ (x : VolumeEntry). x.id) (slice_get t.volumes place)) (more : List Entry) where
+  abbrev behind : List Entry
+  behind = start_from t server (place + 1) ++ more
+
+  next_is : start_from t server place ++ more ≡ redo_on server v ∷ restart_on server v ∷ behind
+  next_is = ap (λ vs. start_entries server vs ++ more) (ids-next t place v at)
+
+  pub started-skip : (s : PlantState) (r : Rest) (ev : List Event) (armed : ℕ → Bool) (u : World) (q : Option Refusal) → has_owner t v server ≡ false → Ends armed u q (seen s t r ev) behind → Ends armed u q (seen s t r ev) (start_from t server place ++ more)
+  started-skip s r ev armed u q other ends = subst (Ends armed u q (seen s t r ev)) (sym next_is) (others-skip s t r ev v server armed u q behind other ends)
+
+  -- it wrote its track, and went on
+  pub started-goes : (w w1 w2 : World) → Advances w (redo_on server v) w1 → Advances w1 (restart_on server v) w2 → (armed : ℕ → Bool) (u : World) (q : Option Refusal) → Ends armed u q w2 behind → Ends armed u q w (start_from t server place ++ more)
+  started-goes w w1 w2 first second armed u q ends = subst (Ends armed u q w) (sym next_is) (first armed u q (restart_on server v ∷ behind) (second armed u q behind ends))
+
+  -- its server stopped as it wrote its track, or as it went on
+  pub started-fails : (armed : ℕ → Bool) (w u : World) (q : Option Refusal) → Halts armed w (redo_on server v) u q → Ends armed u q w (start_from t server place ++ more)
+  started-fails armed w u q ends = subst (Ends armed u q w) (sym next_is) (ends (restart_on server v ∷ behind))
+
+  pub started-stops : (s s1 : PlantState) (w w1 u : World) (q : Option Refusal) → ((n : ℕ) → s.read_fuse n ≡ None → s1.read_fuse n ≡ None) → Advances w (redo_on server v) w1 → Halts (armed_in s1) w1 (restart_on server v) u q
+      → Ends (armed_in s) u q w (start_from t server place ++ more)
+  started-stops s s1 w w1 u q unarmed first ends =
+      subst (Ends (armed_in s) u q w) (sym next_is)
+      (first (armed_in s) u q (restart_on server v ∷ behind) (ends-wider (armed_in s1) (armed_in s) (wider-armed s s1 unarmed) u q w1 (restart_on server v ∷ behind) (ends behind)))
+
+-- no volume is left
+pub started-all : (t : Table) (server place : ℕ) → length t.volumes ≤ place → start_from t server place ≡ []
+started-all t server place all = ap (λ es. start_entries server (ids_of es)) (drop_all place t.volumes all)
+
+-- ---- what is settled on the way
+
+settled-alike : (s : PlantState) (t : Table) (u v : ℕ) → place_of t u ≡ place_of t v → IsSettled s t v → IsSettled s t u
+settled-alike s t u v same h =
+    subst (λ o. s.on (volume_at s t o).server ≡ true → TracksSettled (s.block (unwrap_or o 0)) (volume_at s t o).staged) (sym same) h
+
+later-still : (s s' : PlantState) (t : Table) (server n u : ℕ) → (volume_seen s' t u).server ≡ (volume_seen s t u).server → IsLater s t server n u → IsLater s' t server n u
+later-still s s' t server n u same l = record { own = same ∙ l.own; at = l.at; stands = l.stands; later = l.later }
+
+module _ (s : PlantState) (t : Table) (v server place : ℕ) (starting : IsStarting s t server place) (at : place_of t v ≡ Some place) where
+  further : (u : ℕ) → (place_of t u ≡ place_of t v → IsLater s t server (place + 1) u) → IsLater s t server place u → IsLater s t server (place + 1) u
+  further u here l =
+      elim (eqb_tells l.at place) [
+        | inl p ↦ here (l.stands ∙ ap (λ n. Some n) p.1 ∙ sym at)
+        | inr p ↦ let ne = p.1 in let le = l.later in record { own = l.own; at = l.at; stands = l.stands; later = omega arith }
+      ]
+
+  pub starting-skip : has_owner t v server ≡ false → IsStarting s t server (place + 1)
+  starting-skip other = record {
+    stands = starting.stands;
+    on = starting.on;
+    settled = λ u. elim (starting.settled u) [
+      | inl done ↦ inl done
+      | inr l ↦ inr (further u (λ same. absurd (other-server s t v server place at other (ap (λ o. (volume_at s t o).server) (sym same) ∙ l.own))) l)
+    ];
+    sizes = starting.sizes;
+  }
+
+  -- where the volume's track stands at its place now
+  module _ (s' : PlantState) (same : (u : ℕ) → IsAsBefore s s' t u) (stands : StandsFor t s') (kept : (u : ℕ) → IsSettled s t u → IsSettled s' t u) where
+    still-later : (u n : ℕ) → IsLater s t server n u → IsLater s' t server n u
+    still-later u n l = later-still s s' t server n u (ap (λ x. x.server) (same u).volume) l
+
+    settled-next : (u : ℕ) → IsSettled s' t v → IsSettled s t u ⊎ IsLater s t server place u → IsSettled s' t u ⊎ IsLater s' t server (place + 1) u
+    settled-next u done (inl h) = inl (kept u h)
+    settled-next u done (inr l) =
+        elim (eqb_tells l.at place) [
+          | inl p ↦ inl (settled-alike s' t u v (l.stands ∙ ap (λ n. Some n) p.1 ∙ sym at) done)
+          | inr p ↦ let ne = p.1 in let le = l.later in inr (still-later u (place + 1) (record { own = l.own; at = l.at; stands = l.stands; later = omega arith }))
+        ]
+
+    pub starting-goes : s'.on ≡ s.on → TracksSettled (s'.block (device_of t v)) (volume_seen s' t v).staged → IsStarting s' t server (place + 1)
+    starting-goes on done = record {
+      stands = stands;
+      on = ap (λ f. f server) on ∙ starting.on;
+      settled = λ u. settled-next u (λ _. done) (starting.settled u);
+      sizes = λ u. subst (λ x. x ≤ 256) (sym (ap (λ x. x.tracks) (same u).volume)) (starting.sizes u);
+    }
+
+-- where no volume changed its server or its size, each is settled that was
+module _ (s s' : PlantState) (t : Table) (server place : ℕ) (starting : IsStarting s t server place) (servers : (u : ℕ) → (volume_seen s' t u).server ≡ (volume_seen s t u).server) (tracks : (u : ℕ) → (volume_seen s' t u).tracks ≡ (volume_seen s t u).tracks)
+    (stands : StandsFor t s') (kept : (u : ℕ) → IsSettled s t u → IsSettled s' t u) where
+  sizes-still : (u : ℕ) → (volume_seen s' t u).tracks ≤ 256
+  sizes-still u = subst (λ x. x ≤ 256) (sym (tracks u)) (starting.sizes u)
+
+  settled-still : (u : ℕ) → IsSettled s t u ⊎ IsLater s t server place u → IsSettled s' t u ⊎ IsLater s' t server place u
+  settled-still u (inl h) = inl (kept u h)
+  settled-still u (inr l) = inr (later-still s s' t server place u (servers u) l)
+
+  pub starting-still : s'.on ≡ s.on → IsStarting s' t server place
+  starting-still on = record {
+    stands = stands;
+    on = ap (λ f. f server) on ∙ starting.on;
+    settled = λ u. settled-still u (starting.settled u);
+    sizes = sizes-still;
+  }
+
+  settled-off : (u : ℕ) → s'.on server ≡ false → IsSettled s t u ⊎ IsLater s t server place u → IsSettled s' t u
+  settled-off u off (inl h) = kept u h
+  settled-off u off (inr l) = λ on. let e : true ≡ false = sym on ∙ ap s'.on (servers u ∙ l.own) ∙ off in absurd cc
+
+  pub rest-stopped : s'.on server ≡ false → IsAtRest s' t
+  rest-stopped off = record { stands = stands; settled = λ u. settled-off u off (starting.settled u); sizes = sizes-still }
+
+-- what holds of one volume and of all others holds of each
+pub of-each : (P : ℕ → Type 0) (v : ℕ) → P v → ((u : ℕ) → u ≢ v → P u) → (u : ℕ) → P u
+of-each P v here there u = elim (eqb_tells u v) [ inl p ↦ subst P (sym p.1) here | inr p ↦ there u p.1 ]
+
+-- a volume of the server stands ready to go on, once its track stands at its place
+pub ready-volume : (s : PlantState) (t : Table) (v server place at : ℕ) → IsStarting s t server place → IsSettled s t v → place_of t v ≡ Some at → has_owner t v server ≡ true → StandsReady s t v
+ready-volume s t v server place at starting settled is owned = record {
+  stands = starting.stands;
+  defined = ap is_some is;
+  running = ap s.on (own-server s t v server owned) ∙ starting.on;
+  settled = settled;
+  size = starting.sizes v;
+}
+
+pub rest-started : (s : PlantState) (t : Table) (server place : ℕ) → IsStarting s t server place → length t.volumes ≤ place → IsAtRest s t
+rest-started s t server place starting all = record {
+  stands = starting.stands;
+  settled = λ u. elim (starting.settled u) [
+    | inl h ↦ h
+    | inr l ↦ let within = position-within (λ (e : VolumeEntry). nat_eq e.id u) t.volumes l.at l.stands in let le = l.later in absurd (omega (arith, within, le, all))
+  ];
+  sizes = starting.sizes;
+}
+
+-- ---- a server is turned on
+
+-- its own volumes aren't settled yet
+started-other : (s : PlantState) (server q : ℕ) → q ≢ server → (started s server).on q ≡ true → s.on q ≡ true
+unfolding started
+started-other s server q ne on = sym (at_other s.on server true q ne) ∙ on
+
+undefined-settled : (s : PlantState) (t : Table) (v : ℕ) → place_of t v ≡ None → IsSettled s t v
+undefined-settled s t v none = subst (λ o. s.on (volume_at s t o).server ≡ true → TracksSettled (s.block (unwrap_or o 0)) (volume_at s t o).staged) (sym none) (λ on. tt)
+
+pub starting-first : (s : PlantState) (t : Table) (server : ℕ) → IsAtRest s t → IsStarting (started s server) t server 0
+unfolding started
+starting-first s t server ready = record {
+  stands = record { count = ready.stands.count; device = ready.stands.device };
+  on = at_same s.on server true;
+  settled = λ v. elim (some_or_none (place_of t v)) [
+    | inr none ↦ inl (undefined-settled (started s server) t v none)
+    | inl found ↦ elim (eqb_tells (volume_seen s t v).server server) [
+      | inl p ↦ inr (record { own = p.1; at = found.0; stands = found.1; later = omega arith })
+      | inr p ↦ inl (λ on. ready.settled v (started-other s server (volume_seen s t v).server p.1 on))
+    ]
+  ];
+  sizes = ready.sizes;
+}
+
+-- it arms no read fuse
+pub started-unarmed : (s u : PlantState) (server q : ℕ) → u ≡ started s server → s.read_fuse q ≡ None → u.read_fuse q ≡ None
+unfolding started
+started-unarmed s u server q is none =
+    ap (λ (x : PlantState). x.read_fuse q) is
+    ∙ elim (eqb_tells q server) [
+      | inl p ↦ ap (started s server).read_fuse p.1 ∙ at_same s.read_fuse server (started_read (s.read_fuse server)) ∙ ap started_read (ap s.read_fuse (sym p.1) ∙ none)
+      | inr p ↦ at_other s.read_fuse server (started_read (s.read_fuse server)) q p.1 ∙ none
+    ]
+
+-- it is no fault
+pub started-faults : (s u : PlantState) (server : ℕ) → u ≡ started s server → u.faults ≡ s.faults
+unfolding started
+started-faults s u server is = ap (λ (x : PlantState). x.faults) is
+
+-- and no other server is turned on
+pub started-on : (s u : PlantState) (server : ℕ) → u ≡ started s server → u.on ≡ plant.at s.on server true
+unfolding started
+started-on s u server is = ap (λ (x : PlantState). x.on) is
+
+-- a fuse that stands at 0 goes when its server starts
+started-fuse : (f : Option WriteFuse) → fuse_seen (started_write f) ≡ fuse_at_start (fuse_seen f)
+started-fuse None = refl
+started-fuse (Some f) = elim (nat_eq f.after 0) as (λ b. fuse_seen (cond (cond b false true) (Some f) None) ≡ cond b None (fuse_seen (Some f))) [ true ↦ refl | false ↦ refl ]
+
+-- the machine's state then
+started-here : (s : PlantState) (t : Table) (r : Rest) (ev mid : List Event) (server : ℕ) → server < 8 → mid ≡ ev ++ Started server ∷ []
+    → record (seen s t r ev) { control = starting server (seen s t r ev).control; events = ev ++ Started server ∷ [] } ≡ seen (started s server) t r mid
+unfolding started
+started-here s t r ev mid server low told i =
+    let w : World = seen s t r ev in
+    record w {
+      control = record w.control {
+        on = sym (on-at s (started s server) server true low refl) i;
+        fuse = (ap (λ f. at (fuses_seen s) server (fuse_at_start f)) (fuse-seen s server low) ∙ ap (at (fuses_seen s) server) (sym (started-fuse (s.write_fuse server))) ∙ sym (fuses-at s (started s server) server (started_write (s.write_fuse server)) low refl)) i;
+      };
+      events = sym told i;
+    }
+
+-- ---- the write that is acknowledged
+
+module _ (s : PlantState) (t : Table) (r : Rest) (h : Writes) (ev : List Event) (server : ℕ) where
+  abbrev x : World
+  x = hosted s t r h ev
+
+  pub landed-here : writes.landed_on t server h.pending ≡ landed_on x.control server
+  landed-here = seen-landed t x.control server h.pending refl (λ v. belongs-seen s t (record r { issued = h.issued; pending = x.control.pending }) ev v server)
+
+  pub acked-none : (armed : ℕ → Bool) → writes.landed_on t server h.pending ≡ None → Ends armed x None x (acknowledge_on server ∷ [])
+  acked-none armed none = ends-skips armed x None x (acknowledge_on server) [] (ap acknowledge_if (sym landed-here ∙ none)) (ends-none armed x None x (record { world = refl; refusal = refl }))
+
+  acked-is : (n : ℕ) (h' : Writes) (now : List Event) → h' ≡ without h n → now ≡ ev ++ Ack n ∷ [] → hosted s t r h' now ≡ acknowledged x n
+  acked-is n h' now gone told =
+      ap (λ (y : Writes). hosted s t r y now) gone
+      ∙ (λ i. record x { control = record x.control { pending = seen-without n h.pending i }; events = told i })
+
+  pub acked-one : (armed : ℕ → Bool) (n : ℕ) (h' : Writes) (now : List Event) → writes.landed_on t server h.pending ≡ Some n → h' ≡ without h n → now ≡ ev ++ Ack n ∷ []
+      → Ends armed (hosted s t r h' now) None x (acknowledge_on server ∷ [])
+  acked-one armed n h' now one gone told =
+      ends-goes armed (hosted s t r h' now) None x (acknowledged x n) (acknowledge_on server) [] (Acknowledge n) (ap acknowledge_if (sym landed-here ∙ one)) (act-acknowledge x n)
+      (ends-none armed (hosted s t r h' now) None (acknowledged x n) (record { world = acked-is n h' now gone told; refusal = refl }))
+
+  -- ---- the plan of a start
+
+  plan-off : server < 8 → s.on server ≡ false → start_on x.control server ≡ start_plan x.control server
+  plan-off low off = ap (λ b. cond b (only_says (Done Alone)) (start_plan x.control server)) (on-seen s server low ∙ off)
+
+  plan-on : server < 8 → s.on server ≡ true → start_on x.control server ≡ only_says (Done Alone)
+  plan-on low on = ap (λ b. cond b (only_says (Done Alone)) (start_plan x.control server)) (on-seen s server low ∙ on)
+
+  -- the server was on already
+  pub comes-on : (armed : ℕ → Bool) → server < 8 → s.on server ≡ true → Comes armed x (start_on x.control server) x (Done Alone)
+  comes-on armed low on = subst (λ (p : Plan). Comes armed x p x (Done Alone)) (sym (plan-on low on)) (record {
+    refusal = None;
+    carried = ends-none armed x None _ (record { world = λ i. record x { events = sym (append-nil ev) i }; refusal = refl });
+    tables = refl;
+    alone = λ q. refl;
+    answer = refl;
+  })
+
+  -- it was off, and all went so
+  module _ (low : server < 8) (off : s.on server ≡ false) (mid : List Event) (told : mid ≡ ev ++ Started server ∷ []) (u : World) where
+    abbrev entries : List Entry
+    entries = start_from t server 0 ++ acknowledge_on server ∷ []
+
+    begins : (armed : ℕ → Bool) (q : Option Refusal) → Ends armed u q (hosted (started s server) t r h mid) entries → Ends armed u q (record x { control = starting server x.control; events = ev ++ Started server ∷ [] }) entries
+    begins armed q ends = subst (λ (y : World). Ends armed u q y entries) (sym (started-here s t (record r { issued = h.issued; pending = x.control.pending }) ev mid server low told)) ends
+
+    pub comes-done : (armed : ℕ → Bool) (a : Option ℕ) → Ends armed u None (hosted (started s server) t r h mid) entries → a ≡ writes.landed_on t server h.pending → Comes armed x (start_on x.control server) u (says_acked a)
+    comes-done armed a ends is = subst (λ (p : Plan). Comes armed x p u (says_acked a)) (sym (plan-off low off)) (record {
+      refusal = None;
+      carried = begins armed None ends;
+      tables = refl;
+      alone = λ q. refl;
+      answer = ap says_acked (sym (is ∙ landed-here));
+    })
+
+    pub comes-failed : (armed : ℕ → Bool) (why : Refusal) → Ends armed u (Some why) (hosted (started s server) t r h mid) entries → Comes armed x (start_on x.control server) u (Refused why)
+    comes-failed armed why ends = subst (λ (p : Plan). Comes armed x p u (Refused why)) (sym (plan-off low off)) (record {
+      refusal = Some why;
+      carried = begins armed (Some why) ends;
+      tables = refl;
+      alone = λ q. refl;
+      answer = refl;
+    })
+
+-- ---- what is told
+
+pub told-both : (server : ℕ) (a : Option ℕ) (ev mid now : List Event) → mid ≡ ev ++ Started server ∷ [] → now ≡ mid ++ acks a → now ≡ ev ++ start_events false server a
+told-both server a ev mid now first second = second ∙ ap (λ es. es ++ acks a) first ∙ append_assoc ev (Started server ∷ []) (acks a)
+
+-- a server that was on is told of nothing
+pub told-none : (on : Bool) (server : ℕ) (ev : List Event) → on ≡ true → ev ≡ ev ++ start_events on server None
+told-none on server ev is = sym (append-nil ev) ∙ ap (λ b. ev ++ start_events b server None) (sym is)
+
+pub room-none : (on : Bool) (server n : ℕ) → on ≡ true → n ≡ n + length (start_events on server None)
+room-none on server n is = let none : n ≡ n + 0 = omega arith in none ∙ ap (λ b. n + length (start_events b server None)) (sym is)
+
+issued-without : (a : Option ℕ) (h h' : Writes) → h' ≡ without_acked a h → h'.issued ≡ h.issued
+issued-without None h h' is = ap (λ (x : Writes). x.issued) is
+issued-without (Some n) h h' is = ap (λ (x : Writes). x.issued) is
+
+-- a start issues no write
+pub issued-same : (res : Result (Option WriteId) Refusal) (h h' : Writes) → IfOk res (λ a. h' ≡ without_acked (number_of a) h) → OnErr res (h' ≡ h) → h'.issued ≡ h.issued
+issued-same (Ok a) h h' is same = issued-without (number_of a) h h' is
+issued-same (Err e) h h' is same = ap (λ (x : Writes). x.issued) same

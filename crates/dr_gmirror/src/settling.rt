@@ -1,0 +1,154 @@
+//! A server reports what its members show.
+
+ghost use Rattle.std.specs.Prelude.{◌≡◌, ℕ, ◌≤◌, ◌<◌, ◌+◌, ◌++◌, false, [], ◌∷◌, length, List, IfOk, OnOk, OnErr, if◌then◌else◌};
+ghost use Rattle.dr_config.specs.Table.{StandsFor};
+ghost use Rattle.dr_master.specs.Seen.{shown_in};
+ghost use Rattle.dr_model.specs.declared.event.Event.{Event};
+ghost use Rattle.dr_model.specs.Phases as phases;
+ghost use Rattle.dr_model.specs.ReadStops.{Ends};
+ghost use Rattle.dr_model.specs.SessionEntries.{counts_in, shown_of, shown_by_members, order_entries, members_on, report_entries};
+ghost use Rattle.dr_model.specs.Sessions as model;
+ghost use Rattle.dr_volume.specs.Plain.{plain};
+ghost use Rattle.dr_volume.specs.View.{Rest};
+ghost use Rattle.dr_flash.specs.Checks.{is_stop};
+ghost use Rattle.dr_flash.specs.Here.{seen, refusal_of, armed_in};
+ghost use Rattle.dr_flash.specs.Turns.{Leads, Fails};
+ghost use Rattle.dr_gmirror.specs.Orders.{IsReady, AreReady};
+ghost use Rattle.dr_gmirror.specs.Reports.{IsTrimmed};
+
+use dr_config::Config;
+use dr_gcopy::reach_refusal;
+use dr_ids::{Member, Refusal, ServerId, SessionId};
+use dr_master::{MOST_REPORTED, Report};
+use dr_plant::Plant;
+use dr_session::Sessions;
+use dr_volume::{Fields, peek_fields};
+
+/// A report of no member.
+pub(crate) fn no_report() -> Report
+    ensures shown { shown_in result ≡ [] }
+    ensures count { result.count ≡ 0 }
+    ensures trimmed { IsTrimmed result }
+{
+    Report {
+        count: 0,
+        seqs: [0; MOST_REPORTED],
+        revertible: [false; MOST_REPORTED],
+    }
+}
+
+/// A report that speaks of one member more.
+fn note(report: &mut Report, sequence: u32, revertible: bool)
+    requires { report.old.count < 64 }
+    ensures shown { shown_in report.new ≡ shown_in report.old ++ (record { sequence = sequence; revertible = revertible }) ∷ [] }
+    ensures count { report.new.count ≡ report.old.count + 1 }
+    ensures trimmed { IsTrimmed report.old → IsTrimmed report.new }
+{
+    let at = usize::from(report.count);
+    report.seqs[at] = sequence;
+    report.revertible[at] = revertible;
+    report.count += 1;
+}
+
+/// Whether a target with these fields counts in the session: it is a member's there, or revertible.
+fn counts_in(s: SessionId, f: &Fields) -> bool
+    ensures { result ≡ counts_in s.0 (plain f.now) }
+{
+    f.session == s.0 && (f.member || f.revertible)
+}
+
+/// A report that speaks of this target, where it counts.
+pub(crate) fn note_if(report: &mut Report, s: SessionId, f: &Fields)
+    requires { report.old.count < 64 }
+    ensures shown { shown_in report.new ≡ shown_in report.old ++ (if counts_in s.0 (plain f.now) then shown_of (plain f.now) ∷ [] else []) }
+    ensures low { report.new.count ≤ report.old.count + 1 }
+    ensures count { length (shown_in report.old) ≡ report.old.count → length (shown_in report.new) ≡ report.new.count }
+    ensures trimmed { IsTrimmed report.old → IsTrimmed report.new }
+{
+    if counts_in(s, f) {
+        note(report, f.sequence, f.revertible);
+    }
+}
+
+/// A member's secondary is to be reached, and its target is noted where it counts.
+fn settle_member<P: Plant>(
+    p: &P,
+    c: &Config,
+    s: SessionId,
+    m: &Member,
+    report: &mut Report,
+) -> Result<(), Refusal>
+    requires stands { StandsFor c.now (P.state p.now) }
+    requires ready { IsReady (P.state p.now) c.now m.now }
+    requires low { report.old.count < 64 }
+    ensures leads { OnOk result ((r : Rest) (events : List Event) → Leads (seen (P.state p.now) c.now r events) (report_entries m.now) (seen (P.state p.now) c.now r events)) }
+    ensures fails { OnErr result ((r : Rest) (events : List Event) → Fails (armed_in (P.state p.now)) (seen (P.state p.now) c.now r events) (report_entries m.now) (seen (P.state p.now) c.now r events) (refusal_of result)) }
+    ensures calm { is_stop (refusal_of result) ≡ false }
+    ensures shown { OnOk result ((r : Rest) (events : List Event) → shown_in report.new ≡ shown_in report.old ++ shown_by_members s.0 (m.now ∷ []) (seen (P.state p.now) c.now r events).control) }
+    ensures low { report.new.count ≤ report.old.count + 1 }
+    ensures count { length (shown_in report.old) ≡ report.old.count → length (shown_in report.new) ≡ report.new.count }
+    ensures trimmed { IsTrimmed report.old → IsTrimmed report.new }
+{
+    if let Some(why) = reach_refusal(p, c, m.a, m.b) {
+        return Err(why);
+    }
+    note_if(report, s, &peek_fields(p, c, m.c));
+    Ok(())
+}
+
+/// The same, where the member is on that server.
+fn settle_on<P: Plant>(
+    p: &P,
+    c: &Config,
+    s: SessionId,
+    server: ServerId,
+    m: &Member,
+    report: &mut Report,
+) -> Result<(), Refusal>
+    requires stands { StandsFor c.now (P.state p.now) }
+    requires ready { IsReady (P.state p.now) c.now m.now }
+    requires low { report.old.count < 64 }
+    ensures leads { OnOk result ((n : ℕ) (r : Rest) (events : List Event) → Leads (seen (P.state p.now) c.now r events) (order_entries phases.Report s.0 n (members_on server.0 (m.now ∷ []))) (seen (P.state p.now) c.now r events)) }
+    ensures fails { OnErr result ((n : ℕ) (r : Rest) (events : List Event) → Fails (armed_in (P.state p.now)) (seen (P.state p.now) c.now r events) (order_entries phases.Report s.0 n (members_on server.0 (m.now ∷ []))) (seen (P.state p.now) c.now r events) (refusal_of result)) }
+    ensures calm { is_stop (refusal_of result) ≡ false }
+    ensures shown { OnOk result ((r : Rest) (events : List Event) → shown_in report.new ≡ shown_in report.old ++ shown_by_members s.0 (members_on server.0 (m.now ∷ [])) (seen (P.state p.now) c.now r events).control) }
+    ensures low { report.new.count ≤ report.old.count + 1 }
+    ensures count { length (shown_in report.old) ≡ report.old.count → length (shown_in report.new) ≡ report.new.count }
+    ensures trimmed { IsTrimmed report.old → IsTrimmed report.new }
+{
+    if m.server.0 != server.0 {
+        return Ok(());
+    }
+    settle_member(p, c, s, m, report)
+}
+
+/// What the targets of a server's members of a session show, in the order in which the members came: the sequence number of
+/// each target that is a member's in the session or revertible there, and whether it is revertible. The further places of the
+/// report are zero and not set. Nothing is changed or told. Refused at the first member to whose secondary there is no path
+/// from the logical subsystem of its primary, or whose secondary's server is off, or whose two servers' link is down. It
+/// speaks of at most 64 members.
+pub fn settle<P: Plant>(
+    p: &P,
+    c: &Config,
+    ss: &Sessions,
+    s: SessionId,
+    server: ServerId,
+) -> Result<Report, Refusal>
+    requires stands { StandsFor c.now (P.state p.now) }
+    requires members { AreReady (P.state p.now) c.now (model.members_in (model.session_in ss.now.sessions s.0)) }
+    requires few { length (model.members_in (model.session_in ss.now.sessions s.0)) ≤ 64 }
+    ensures carried { (n : ℕ) (r : Rest) (events : List Event) → Ends (armed_in (P.state p.now)) (seen (P.state p.now) c.now r events) (refusal_of result) (seen (P.state p.now) c.now r events) (order_entries phases.Report s.0 n (members_on server.0 (model.members_in (model.session_in ss.now.sessions s.0)))) }
+    ensures leads { OnOk result ((n : ℕ) (r : Rest) (events : List Event) → Leads (seen (P.state p.now) c.now r events) (order_entries phases.Report s.0 n (members_on server.0 (model.members_in (model.session_in ss.now.sessions s.0)))) (seen (P.state p.now) c.now r events)) }
+    ensures fails { OnErr result ((n : ℕ) (r : Rest) (events : List Event) → Fails (armed_in (P.state p.now)) (seen (P.state p.now) c.now r events) (order_entries phases.Report s.0 n (members_on server.0 (model.members_in (model.session_in ss.now.sessions s.0)))) (seen (P.state p.now) c.now r events) (refusal_of result)) }
+    ensures calm { is_stop (refusal_of result) ≡ false }
+    ensures shown { IfOk result (λ y. (r : Rest) (events : List Event) → shown_in y ≡ shown_by_members s.0 (members_on server.0 (model.members_in (model.session_in ss.now.sessions s.0))) (seen (P.state p.now) c.now r events).control) }
+    ensures count { IfOk result (λ y. y.count ≡ length (shown_in y)) }
+    ensures trimmed { IfOk result IsTrimmed }
+{
+    let mut report = no_report();
+    for at in 0..ss.member_count(s) {
+        let m = ss.member_at(s, at).unwrap();
+        settle_on(p, c, s, server, &m, &mut report)?;
+    }
+    Ok(report)
+}

@@ -1,0 +1,133 @@
+-- Which targets count, and when a member's target may go.
+use Rattle.std.proofs.Common.{ℕ, ◌≡◌, inl, inr, refl, ap, sym, ◌∙◌, Bool, true, false, cond, not, ◌||◌, List, [], ◌∷◌, map, filter, Option, Some, None}
+use Rattle.std.specs.Prelude.{◌==◌}
+use Rattle.std.specs.List.{find}
+use Rattle.std.specs.Option.{option_or}
+use Rattle.dr_ids.specs.declared.names.Member.{Member}
+use Rattle.dr_ids.specs.declared.refusal.Refusal.{Refusal}
+use Rattle.dr_ids.specs.declared.refusal.Decision.{Decision}
+use Rattle.dr_ids.specs.declared.refusal.Decision.TheVariants.{CommitRest, RevertSome}
+use Rattle.dr_model.specs.Decisions.{Shown, Numbers, NoNumber, Same, Differ, numbers_in, first_and_other, revertibles, others, decided, decision}
+use Rattle.dr_model.specs.Control.{Control, World}
+use Rattle.dr_model.specs.Entries.{fields_at}
+use Rattle.dr_model.specs.Sessions.{Session, session_in, members_in}
+use Rattle.dr_model.specs.SessionEntries.{counts_at, shown_at, shown_by_members}
+use Rattle.dr_model.specs.Plans.{counted_refusal, secondary_refusal, leaves_all, forbidden_unless, decided_in, restore_refusal}
+use Rattle.dr_model.specs.Groups.{In, Groups}
+use Rattle.dr_model.specs.Attempts.{Seen, seen, seen_in, roles, NoneRevertible, DoesNotCount, MayGo, MayFollow}
+use Rattle.dr_model.specs.Laws.{Sound}
+use Rattle.dr_groups.proofs.Lists.{from-map, to-map, to-filter}
+use Rattle.dr_groups.proofs.Changes.{session-found, none-numbered, same-session}
+use Rattle.dr_phases.proofs.Moves.{unrelated-uncounted}
+use Rattle.dr_phases.proofs.Tables.{counts-here}
+use Rattle.dr_laws.proofs.Sets.{false_true}
+use Rattle.dr_laws.proofs.CopyFirst.{from, unturned}
+
+-- ---- decisions
+
+numbered : (ns : List ℕ) → numbers_in ns ≡ NoNumber → ns ≡ []
+numbered [] h = refl
+numbered (a ∷ ns) h = by (find (λ n. not (n == a)) ns) h
+  where
+    by : (o : Option ℕ) → first_and_other a o ≡ NoNumber → a ∷ ns ≡ []
+    by None h = absurd cc
+    by (Some b) h = absurd cc
+
+either-way : (b : Bool) (n m : ℕ) → leaves_all (cond b (CommitRest n) (RevertSome m n)) ≡ true → ⊥
+either-way true n m h = absurd cc
+either-way false n m h = absurd cc
+
+leaves : (p q : Numbers) → leaves_all (decided p q) ≡ true → p ≡ NoNumber
+unfolding decided
+leaves NoNumber q h = refl
+leaves (Same n) NoNumber h = absurd cc
+leaves (Same n) (Same m) h = absurd (either-way (n == m) n m h)
+leaves (Same n) (Differ a b) h = absurd cc
+leaves (Differ a b) NoNumber h = absurd cc
+leaves (Differ a b) (Same m) h = absurd cc
+leaves (Differ a b) (Differ c d) h = absurd cc
+
+none-among : (rs : List Shown) (r : Shown) → In r rs → r.revertible ≡ true → revertibles rs ≡ [] → ⊥
+none-among (x ∷ rs) r (inl is) rev none = by x.revertible (ap (λ (x : Shown). x.revertible) (sym is) ∙ rev) none
+  where
+    by : (b : Bool) → b ≡ true → map (λ (x : Shown). x.sequence) (cond b (x ∷ filter (λ (x : Shown). x.revertible) rs) (filter (λ (x : Shown). x.revertible) rs)) ≡ [] → ⊥
+    by true is none = absurd cc
+    by false is none = absurd cc
+none-among (x ∷ rs) r (inr there) rev none = by x.revertible none (none-among rs r there rev)
+  where
+    by : (b : Bool) → map (λ (x : Shown). x.sequence) (cond b (x ∷ filter (λ (x : Shown). x.revertible) rs) (filter (λ (x : Shown). x.revertible) rs)) ≡ [] → (revertibles rs ≡ [] → ⊥) → ⊥
+    by true none more = absurd cc
+    by false none more = more none
+none-among [] r here rev none = absurd here
+
+-- where nothing is to be done, none shows a revertible target
+leaves-none : (rs : List Shown) → leaves_all (decision rs) ≡ true → (r : Shown) → In r rs → r.revertible ≡ false
+unfolding decision
+leaves-none rs h r here = unturned r.revertible (λ rev. none-among rs r here rev (numbered (revertibles rs) (leaves (numbers_in (revertibles rs)) (numbers_in (others rs)) h)))
+
+-- ---- sessions
+
+-- the number of a listed session finds it
+pub listed-found : (k : Control) → Groups k → (x : Session) → In x k.sessions → session_in k.sessions x.number ≡ Some x
+listed-found k groups x listed = by (session_in k.sessions x.number) refl
+  where
+    by : (o : Option Session) → session_in k.sessions x.number ≡ o → o ≡ Some x
+    by None is = absurd (none-numbered k.sessions x.number x is listed refl)
+    by (Some y) is = let there = session-found k.sessions x.number y is in ap (λ y. Some y) (same-session k.sessions y x groups.once there.0 listed there.1)
+
+module _ (w : World) (s : Sound w) where
+  abbrev k : Control
+  k = w.control
+
+  pub no-target : (t : ℕ) → (fields_at k t).related ≡ false → DoesNotCount (fields_at k t)
+  no-target t none = unrelated-uncounted k s.attempts t none
+
+  counted-not : (b : Bool) (r : Refusal) → cond b (Some r) None ≡ None → b ≡ false
+  counted-not true r h = absurd cc
+  counted-not false r h = refl
+
+  pub uncounted : (t : ℕ) → counted_refusal t k ≡ None → (fields_at k t).revertible ≡ false → DoesNotCount (fields_at k t)
+  uncounted t free plain = λ i. counted-not (fields_at k t).member _ free i || plain i
+
+  or-second : (a b : Option Refusal) → option_or a b ≡ None → b ≡ None
+  or-second None b h = h
+  or-second (Some r) b h = absurd cc
+
+  met-all : (b : Bool) (d : Decision) → forbidden_unless b d ≡ None → b ≡ true
+  met-all true d h = refl
+  met-all false d h = absurd cc
+
+  -- a member's target may be restored, or leave, where none of its session is revertible
+  pub may-go : (t : ℕ) → restore_refusal t k ≡ None → (fields_at k t).revertible ≡ false → MayGo k t
+  may-go t free plain = record { plain = plain; settled = settled }
+    where
+      settled : (fields_at k t).member ≡ true → (x : Session) (m : Member) → In x k.sessions → In m x.members → m.c.0 ≡ t → NoneRevertible (seen_in k x)
+      settled member x m listed here is u seen_here =
+          let c = (s.attempts.volumes t).counted (ap (λ b. b || (fields_at k t).revertible) member) in
+          let one = s.groups.lone.one t c.session x c.member m c.listed listed c.here here (inr (inr (sym c.is))) (inr (inr (sym is))) in
+          let number : (fields_at k t).session ≡ x.number = sym c.number ∙ one.0 in
+          let asked : option_or (secondary_refusal (members_in (session_in k.sessions (fields_at k t).session)) k) (forbidden_unless (leaves_all (decided_in (fields_at k t).session k)) (decided_in (fields_at k t).session k)) ≡ None
+          = sym (ap (λ b. cond b (option_or (secondary_refusal (members_in (session_in k.sessions (fields_at k t).session)) k) (forbidden_unless (leaves_all (decided_in (fields_at k t).session k)) (decided_in (fields_at k t).session k))) None) member) ∙ free in
+          let all : leaves_all (decided_in (fields_at k t).session k) ≡ true = met-all (leaves_all (decided_in (fields_at k t).session k)) (decided_in (fields_at k t).session k) (or-second (secondary_refusal (members_in (session_in k.sessions (fields_at k t).session)) k) (forbidden_unless (leaves_all (decided_in (fields_at k t).session k)) (decided_in (fields_at k t).session k)) asked) in
+          let over : leaves_all (decision (shown_by_members x.number x.members k)) ≡ true
+          = sym (ap (λ n. leaves_all (decision (shown_by_members n (members_in (session_in k.sessions n)) k))) number ∙ ap (λ o. leaves_all (decision (shown_by_members x.number (members_in o) k))) (listed-found k s.groups x listed)) ∙ all in
+          let o = from-map (seen (roles k)) x.members u seen_here in
+          let rev : (fields_at k o.from.c.0).revertible ≡ false = unturned (fields_at k o.from.c.0).revertible (λ e. false_true
+          (leaves-none (shown_by_members x.number x.members k) over (shown_at k o.from)
+          (to-map (shown_at k) (filter (counts_at x.number k) x.members) o.from (to-filter (counts_at x.number k) x.members o.from o.here (counts-here k s.groups s.attempts x o.from listed o.here (or-right (fields_at k o.from.c.0).member (fields_at k o.from.c.0).revertible e))))) e) in
+          ap (λ (v : Seen). v.revertible) o.is ∙ rev
+        where
+          or-right : (a b : Bool) → b ≡ true → (a || b) ≡ true
+          or-right true b h = refl
+          or-right false b h = h
+
+  -- a volume without a revertible target may become a secondary
+  pub may-follow : (v : ℕ) → ((u : ℕ) → from w u ≡ Some v → (fields_at k u).revertible ≡ true → ⊥) → MayFollow k v
+  may-follow v none x m listed here is = unturned (fields_at k m.c.0).revertible (λ rev.
+      let c = (s.attempts.volumes m.c.0).counted (or-right (fields_at k m.c.0).member (fields_at k m.c.0).revertible rev) in
+      let one = s.groups.lone.one m.c.0 c.session x c.member m c.listed listed c.here here (inr (inr (sym c.is))) (inr (inr refl)) in
+      none m.c.0 (c.source ∙ ap (λ (q : Member). Some q.b.0) one.1 ∙ ap (λ b. Some b) is) rev)
+    where
+      or-right : (a b : Bool) → b ≡ true → (a || b) ≡ true
+      or-right true b h = refl
+      or-right false b h = h

@@ -1,0 +1,445 @@
+-- The attempts of sessions: what the records of members' volumes and the masters say together in all phases, and what each kind of
+-- move asks of them. Who records is said in Groups; which primary has which cut isn't said here.
+use Rattle.std.specs.Prelude.{◌≡◌, ◌≢◌, ◌⊎◌, ◌<◌, ◌≤◌, ℕ, Bool, true, false, not, ◌&&◌, ◌||◌, List, [], map, nat_eq, Option, Some, None, if◌then◌else◌}
+use Rattle.dr_ids.specs.declared.names.Member.{Member}
+use Rattle.dr_ids.specs.declared.refusal.PhaseName.{PhaseName}
+use Rattle.dr_ids.specs.declared.refusal.PhaseName.TheVariants as phase
+use Rattle.dr_model.specs.Decisions.{Shown}
+use Rattle.dr_model.specs.Phases.{is_among}
+use Rattle.dr_model.specs.Layout.{Fields}
+use Rattle.dr_model.specs.Control.{Control}
+use Rattle.dr_model.specs.Views.{source_of}
+use Rattle.dr_model.specs.Pairs.{primary_of, is_secondary_of}
+use Rattle.dr_model.specs.Moves.{Move, Overwrite, Keep, Relate, Withdraw, Fetch, Resync, Reverse, Release, MakeSecondary, Hold, Free, Seal, Finish, RaiseAttempt, RaiseFloor, Leave, Flash, Commit, Revert}
+use Rattle.dr_model.specs.Entries.{fields_at, is_at}
+use Rattle.dr_model.specs.Sessions.{Session, Mirror, has_subsystem, subsystem_of}
+use Rattle.dr_model.specs.SessionEntries.{may_flash}
+use Rattle.dr_model.specs.Groups.{In, HoldsMember}
+
+-- ---- what is seen
+
+-- what a volume's record says of attempts: its last one, which it has as a primary; the primary of a secondary, and its seal; the
+-- source of a target, its numbers and flags, and the session in which it counts
+pub record Role : Type 0 where
+  pub attempt : ℕ
+  pub primary : Option ℕ
+  pub seal : ℕ
+  pub source : Option ℕ
+  pub recorded : Bool
+  pub inhibited : Bool
+  pub reversing : Bool
+  pub sequence : ℕ
+  pub previous : ℕ
+  pub revertible : Bool
+  pub member : Bool
+  pub session : ℕ
+  pub floor : ℕ
+
+abbrev pub role_of : Fields → Role
+role_of f = record {
+  attempt = f.attempt;
+  primary = primary_of f;
+  seal = f.seal;
+  source = source_of f;
+  recorded = f.recorded;
+  inhibited = f.inhibited;
+  reversing = f.reversing;
+  sequence = f.sequence;
+  previous = f.previous_sequence;
+  revertible = f.revertible;
+  member = f.member;
+  session = f.session;
+  floor = f.floor;
+}
+
+abbrev pub Roles : Type 0
+Roles = ℕ → Role
+
+abbrev pub roles : Control → Roles
+roles k v = role_of (fields_at k v)
+
+-- A member as its session sees it: its server; of its primary the last attempt; of its secondary whether it is that primary's, and
+-- the seal; of its target the numbers and flags.
+pub record Seen : Type 0 where
+  pub server : ℕ
+  pub attempt : ℕ
+  pub paired : Bool
+  pub seal : ℕ
+  pub sequence : ℕ
+  pub previous : ℕ
+  pub revertible : Bool
+  pub member : Bool
+  pub floor : ℕ
+
+abbrev pub seen_of : ℕ → ℕ → Role → Role → Role → Seen
+seen_of server a x y z = record {
+  server = server;
+  attempt = x.attempt;
+  paired = is_at y.primary a;
+  seal = y.seal;
+  sequence = z.sequence;
+  previous = z.previous;
+  revertible = z.revertible;
+  member = z.member;
+  floor = z.floor;
+}
+
+abbrev pub seen : Roles → Member → Seen
+seen T m = seen_of m.server.0 m.a.0 (T m.a.0) (T m.b.0) (T m.c.0)
+
+abbrev pub all_seen : Roles → List Member → List Seen
+all_seen T ms = map (seen T) ms
+
+-- the members of a session
+abbrev pub seen_in : Control → Session → List Seen
+seen_in k x = all_seen (roles k) x.members
+
+-- a target counts where it is a member's, or revertible; it is committed with n; and it shows a number, which is the one before
+-- the flash as long as that can be taken back
+abbrev pub counts : Seen → Bool
+counts v = v.member || v.revertible
+
+abbrev pub committed : ℕ → Seen → Bool
+committed n v = v.member && (nat_eq v.sequence n && not v.revertible)
+
+abbrev pub number_shown : Seen → ℕ
+number_shown v = if v.revertible then v.previous else v.sequence
+
+-- ---- lists of members
+
+abbrev pub All : {X : Type 0} → (X → Type 0) → List X → Type 0
+All {X} P xs = (x : X) → In x xs → P x
+
+pub record Any {X : Type 0} (P : X → Type 0) (xs : List X) : Type 0 where
+  pub one : X
+  pub here : In one xs
+  pub is : P one
+
+abbrev pub NoneRevertible : List Seen → Type 0
+NoneRevertible = All (λ v. v.revertible ≡ false)
+
+abbrev pub NoneCommitted : ℕ → List Seen → Type 0
+NoneCommitted n = All (λ v. committed n v ≡ false)
+
+abbrev pub SomeCommitted : ℕ → List Seen → Type 0
+SomeCommitted n = Any (λ v. committed n v ≡ true)
+
+-- each target that counts has number n
+abbrev pub AllAt : ℕ → List Seen → Type 0
+AllAt n = All (λ v. counts v ≡ true → v.sequence ≡ n)
+
+-- the secondary of each that is revertible is taken: it is its primary's no more
+abbrev pub Blocked : List Seen → Type 0
+Blocked = All (λ v. v.revertible ≡ true → v.paired ≡ false)
+
+-- and no other can be flashed with n: not with its secondary taken, sealed for another number, or with a floor that isn't below n
+pub record Bars (n : ℕ) (revertible paired : Bool) (seal floor : ℕ) : Type 0 where
+  pub taken : revertible ≡ true → paired ≡ false
+  pub spent : revertible ≡ false → paired ≡ true → seal ≡ n → floor < n → ⊥
+
+abbrev pub Barred : ℕ → List Seen → Type 0
+Barred n = All (λ v. Bars n v.revertible v.paired v.seal v.floor)
+
+-- ---- numbers
+
+-- A member, where n is the last number of its session: nothing of it has gone past n. A revertible target has number n, and its
+-- floor is below; and one that is a member's shows a number that its floor has reached.
+pub record Numbered (n : ℕ) (v : Seen) : Type 0 where
+  pub attempt : v.attempt ≤ n
+  pub seal : v.seal ≤ n
+  pub floor : v.floor ≤ n
+  pub sequence : counts v ≡ true → v.sequence ≤ n
+  pub last : v.revertible ≡ true → v.sequence ≡ n
+  pub above : v.revertible ≡ true → v.floor < n
+  pub reached : v.member ≡ true → number_shown v ≤ v.floor
+
+-- those that are members' show one number, which isn't n
+pub record OneShown (n : ℕ) (vs : List Seen) : Type 0 where
+  pub number : ℕ
+  pub apart : number ≢ n
+  pub same : All (λ v. v.member ≡ true → number_shown v ≡ number) vs
+
+-- where some is committed, all that count have number n; and where none is, they show another one
+pub record Numbers (n : ℕ) (vs : List Seen) : Type 0 where
+  pub each : All (Numbered n) vs
+  pub some : NoneCommitted n vs ⊎ AllAt n vs
+  pub none : SomeCommitted n vs ⊎ OneShown n vs
+
+-- ---- phases
+
+-- the server of a member is still owed its order
+abbrev pub is_owed : List ℕ → Seen → Bool
+is_owed owed v = is_among v.server owed
+
+-- each member whose server has answered
+abbrev pub Answered : List ℕ → (Seen → Type 0) → List Seen → Type 0
+Answered owed P = All (λ v. is_owed owed v ≡ false → P v)
+
+-- before the first flash
+pub record Before (n : ℕ) (vs : List Seen) : Type 0 where
+  pub positive : 0 < n
+  pub unflashed : NoneRevertible vs
+  pub uncommitted : NoneCommitted n vs
+
+pub record InCoordinating (n : ℕ) (vs : List Seen) : Type 0 where
+  pub before : Before n vs
+  pub unsealed : All (λ v. v.seal ≢ n) vs
+
+-- those that have answered are flashed, unless none can be any more
+pub record InFlashing (n : ℕ) (owed : List ℕ) (vs : List Seen) : Type 0 where
+  pub positive : 0 < n
+  pub uncommitted : NoneCommitted n vs
+  pub done : Barred n vs ⊎ Answered owed (λ v. v.revertible ≡ true) vs
+
+-- each can be committed, or no order can commit or revert one
+pub record InCommitting (n : ℕ) (owed : List ℕ) (vs : List Seen) : Type 0 where
+  pub way : AllAt n vs ⊎ Blocked vs
+  pub done : Answered owed (λ v. v.revertible ≡ false) vs
+
+pub record InReverting (n : ℕ) (owed : List ℕ) (vs : List Seen) : Type 0 where
+  pub way : NoneCommitted n vs ⊎ NoneRevertible vs
+  pub done : Answered owed (λ v. v.revertible ≡ false) vs
+
+-- a member's number and flag have been reported
+abbrev pub IsReported : ℕ → Bool → List Shown → Type 0
+IsReported k r reports = In (record { sequence = k; revertible = r }) reports
+
+-- What was reported of targets that aren't revertible agrees: it is n, the number of all that count, and some is committed or none is
+-- revertible; or it is another number, which those show that are members'.
+pub record AgreesOnLast (n : ℕ) (reports : List Shown) (vs : List Seen) : Type 0 where
+  pub told : (k : ℕ) → IsReported k false reports → k ≡ n
+  pub all : AllAt n vs
+  pub settled : SomeCommitted n vs ⊎ NoneRevertible vs
+
+pub record AgreesOnOther (n : ℕ) (reports : List Shown) (vs : List Seen) : Type 0 where
+  pub shown : OneShown n vs
+  pub told : (k : ℕ) → IsReported k false reports → k ≡ shown.number
+
+-- what is known where one is committed: none is revertible, or one that isn't revertible was reported with n, or the server of a
+-- committed one is still to report
+abbrev pub Known : ℕ → List ℕ → List Shown → List Seen → Type 0
+Known n owed reports vs = NoneRevertible vs ⊎ (IsReported n false reports ⊎ Any (λ w. (committed n w ≡ true) × (is_owed owed w ≡ true)) vs)
+
+-- Recoveries may commit and revert members while reports come in, so what was reported needn't be what members show now. A revertible
+-- one had number n; the others agree; and those revertible now whose servers have answered were reported so.
+pub record InLost (n : ℕ) (owed : List ℕ) (reports : List Shown) (vs : List Seen) : Type 0 where
+  pub last : (k : ℕ) → IsReported k true reports → k ≡ n
+  pub agrees : AgreesOnLast n reports vs ⊎ AgreesOnOther n reports vs
+  pub known : All (λ v. committed n v ≡ true → Known n owed reports vs) vs
+  pub told : Answered owed (λ v. v.revertible ≡ true → IsReported n true reports) vs
+
+-- what holds in each phase
+abbrev pub InPhase : PhaseName → ℕ → List ℕ → List Shown → List Seen → Type 0
+InPhase phase.None n owed reports vs = NoneRevertible vs
+InPhase phase.Idle n owed reports vs = NoneRevertible vs
+InPhase phase.Coordinating n owed reports vs = InCoordinating n vs
+InPhase phase.Releasing n owed reports vs = Before n vs
+InPhase phase.Draining n owed reports vs = Before n vs
+InPhase phase.Flashing n owed reports vs = InFlashing n owed vs
+InPhase phase.Committing n owed reports vs = InCommitting n owed vs
+InPhase phase.Reverting n owed reports vs = InReverting n owed vs
+InPhase phase.Finishing n owed reports vs = NoneRevertible vs
+InPhase phase.Lost n owed reports vs = InLost n owed reports vs
+
+-- out of Idle some server is owed its order, and each that is has a member
+pub record Waits (owed : List ℕ) (vs : List Seen) : Type 0 where
+  pub some : owed ≢ []
+  pub members : (s : ℕ) → In s owed → Any (λ v. v.server ≡ s) vs
+
+abbrev pub Owes : PhaseName → List ℕ → List Seen → Type 0
+Owes phase.None owed vs = Unit {0}
+Owes phase.Idle owed vs = Unit {0}
+Owes p owed vs = Waits owed vs
+
+-- a session without a master is Idle
+abbrev pub phase_of : Option Mirror → PhaseName
+phase_of None = phase.Idle
+phase_of (Some r) = r.master.phase
+
+abbrev pub owed_of : Option Mirror → List ℕ
+owed_of None = []
+owed_of (Some r) = r.master.owed
+
+abbrev pub reports_of : Option Mirror → List Shown
+reports_of None = []
+reports_of (Some r) = r.master.reports
+
+-- a session, by its phase, its last number, who is owed, what was reported, and its members
+pub record Attempt (p : PhaseName) (n : ℕ) (owed : List ℕ) (reports : List Shown) (vs : List Seen) : Type 0 where
+  pub numbers : Numbers n vs
+  pub phase : InPhase p n owed reports vs
+  pub owes : Owes p owed vs
+
+abbrev pub AttemptOf : Roles → Session → Type 0
+AttemptOf T x = Attempt (phase_of x.mirror) x.last (owed_of x.mirror) (reports_of x.mirror) (all_seen T x.members)
+
+-- ---- volumes
+
+-- v is the target of a member of the session of that number: a recorded, inhibited target of the member's secondary, and not
+-- reversing
+pub record IsTarget (ss : List Session) (v s : ℕ) (from : Option ℕ) (recorded inhibited reversing : Bool) : Type 0 where
+  pub session : Session
+  pub listed : In session ss
+  pub number : session.number ≡ s
+  pub member : Member
+  pub here : In member session.members
+  pub is : member.c.0 ≡ v
+  pub source : from ≡ Some member.b.0
+  pub records : recorded ≡ true
+  pub inhibits : inhibited ≡ true
+  pub forward : reversing ≡ false
+
+-- a volume that counts is the target of a member of the session that it names; another one names none; and only a revertible one
+-- has a number to go back to
+pub record Claim (ss : List Session) (v : ℕ) (r : Role) : Type 0 where
+  pub counted : (r.member || r.revertible) ≡ true → IsTarget ss v r.session r.source r.recorded r.inhibited r.reversing
+  pub uncounted : (r.member || r.revertible) ≡ false → r.session ≡ 0
+  pub previous : r.revertible ≡ false → r.previous ≡ 0
+
+-- ---- the laws
+
+pub record AttemptsIn (ss : List Session) (T : Roles) : Type 0 where
+  pub sessions : (x : Session) → In x ss → AttemptOf T x
+  pub volumes : (v : ℕ) → Claim ss v (T v)
+  pub inside : (x : Session) (m : Member) → In x ss → In m x.members → has_subsystem (subsystem_of m.a.0) x ≡ true
+
+-- The numbers and flags of each session's members agree, as its phase says. Each volume that counts is the target of a member of its
+-- session. And members' primaries lie in their session's logical subsystems.
+abbrev pub Attempts : Control → Type 0
+Attempts k = AttemptsIn k.sessions (roles k)
+
+-- ---- what moves ask
+
+-- a is the primary of a member of the session of that number
+pub record MemberOf (k : Control) (s a : ℕ) : Type 0 where
+  pub session : Session
+  pub listed : In session k.sessions
+  pub number : session.number ≡ s
+  pub member : Member
+  pub here : In member session.members
+  pub is : member.a.0 ≡ a
+
+-- n isn't past the last number of a session whose member has v as its primary
+abbrev pub UpToLast : Control → ℕ → ℕ → Type 0
+UpToLast k v n = (x : Session) (m : Member) → In x k.sessions → In m x.members → m.a.0 ≡ v → n ≤ x.last
+
+-- a relationship whose changes are recorded is persistent
+abbrev pub Persists : Fields → Type 0
+Persists f = f.recorded ≡ true → f.persistent ≡ true
+
+abbrev pub DoesNotCount : Fields → Type 0
+DoesNotCount f = (f.member || f.revertible) ≡ false
+
+-- a member's target goes only where none of its session is revertible
+pub record MayGo (k : Control) (v : ℕ) : Type 0 where
+  pub plain : (fields_at k v).revertible ≡ false
+  pub settled : (fields_at k v).member ≡ true → (x : Session) (m : Member) → In x k.sessions → In m x.members → m.c.0 ≡ v → NoneRevertible (seen_in k x)
+
+-- no target of a member whose secondary v is is revertible
+abbrev pub MayFollow : Control → ℕ → Type 0
+MayFollow k v = (x : Session) (m : Member) → In x k.sessions → In m x.members → m.b.0 ≡ v → (fields_at k m.c.0).revertible ≡ false
+
+pub record MayFree (k : Control) (v : ℕ) : Type 0 where
+  pub session : ℕ
+  pub place : MemberOf k session v
+  pub phase : phase_of place.session.mirror ≡ phase.Releasing
+
+pub record SealsMember (k : Control) (v u s n : ℕ) : Type 0 where
+  pub place : MemberOf k s u
+  pub secondary : place.member.b.0 ≡ v
+  pub phase : phase_of place.session.mirror ≡ phase.Draining
+  pub last : n ≡ place.session.last
+
+-- a target is flashed that isn't revertible, and whose floor the last number is above, while its source is sealed for that
+pub record FlashesMember (k : Control) (v u a s n : ℕ) : Type 0 where
+  pub place : MemberOf k s a
+  pub secondary : place.member.b.0 ≡ u
+  pub target : place.member.c.0 ≡ v
+  pub phase : phase_of place.session.mirror ≡ phase.Flashing
+  pub last : n ≡ place.session.last
+  pub paired : is_secondary_of a (fields_at k u) ≡ true
+  pub sealed : (fields_at k u).seal ≡ n
+  pub free : may_flash u (fields_at k v) ≡ true
+  pub low : (fields_at k v).floor < n
+
+-- a revertible target is committed where all that count have its number, in Committing, or where another one is committed
+pub record CommitsMember (k : Control) (v a s n : ℕ) : Type 0 where
+  pub place : MemberOf k s a
+  pub target : place.member.c.0 ≡ v
+  pub last : n ≡ place.session.last
+  pub revertible : (fields_at k v).revertible ≡ true
+  pub all : AllAt n (seen_in k place.session)
+  pub way : (phase_of place.session.mirror ≡ phase.Committing) ⊎ SomeCommitted n (seen_in k place.session)
+
+-- one is reverted where none is committed, in Reverting while its source is its primary's secondary, or where all secondaries are
+-- taken
+pub record RevertsMember (k : Control) (v a s n : ℕ) : Type 0 where
+  pub place : MemberOf k s a
+  pub target : place.member.c.0 ≡ v
+  pub last : n ≡ place.session.last
+  pub revertible : (fields_at k v).revertible ≡ true
+  pub none : NoneCommitted n (seen_in k place.session)
+  pub way : ((phase_of place.session.mirror ≡ phase.Reverting) × (is_secondary_of a (fields_at k place.member.b.0) ≡ true)) ⊎ All (λ u. u.paired ≡ false) (seen_in k place.session)
+
+-- a floor is raised, but not past the last number of a session whose member has v as its target, and not while it is revertible
+pub record Raises (f : Fields) (n last : ℕ) : Type 0 where
+  pub plain : f.revertible ≡ false
+  pub higher : f.floor ≤ n
+  pub low : n ≤ last
+
+abbrev pub MayRaiseFloor : Control → ℕ → ℕ → Type 0
+MayRaiseFloor k v n = (x : Session) (m : Member) → In x k.sessions → In m x.members → m.c.0 ≡ v → Raises (fields_at k v) n x.last
+
+-- what each kind asks of sessions and phases, beside what its row gives
+abbrev pub InAttempt : Control → Move → Type 0
+InAttempt k (Overwrite w v t) = Persists (fields_at k v)
+InAttempt k (Keep v t) = Persists (fields_at k v)
+InAttempt k (Fetch v t) = Persists (fields_at k v)
+InAttempt k (Relate v s choices) = DoesNotCount (fields_at k v)
+InAttempt k (Withdraw v) = DoesNotCount (fields_at k v)
+InAttempt k (Resync v sequence) = DoesNotCount (fields_at k v)
+InAttempt k (Reverse v left) = MayGo k v
+InAttempt k (Release v t) = (fields_at k v).reversing ≡ true
+InAttempt k (MakeSecondary v u kind state) = MayFollow k v
+InAttempt k (Hold v s n first) = HoldsMember k v s n × ((fields_at k v).attempt < n)
+InAttempt k (Free v) = MayFree k v
+InAttempt k (Seal v u s n) = SealsMember k v u s n
+InAttempt k (Finish v n) = UpToLast k v n
+InAttempt k (RaiseAttempt v n) = UpToLast k v n
+InAttempt k (RaiseFloor v n) = MayRaiseFloor k v n
+InAttempt k (Leave v u s) = MayGo k v
+InAttempt k (Flash v u a s n) = FlashesMember k v u a s n
+InAttempt k (Commit v a s n) = CommitsMember k v a s n
+InAttempt k (Revert v a s n) = RevertsMember k v a s n
+InAttempt k m = Unit {0}
+
+-- ---- what an order has done
+
+-- a server that has done the order of a phase, member by member; in Lost it reports
+abbrev pub IsDone : PhaseName → Seen → Type 0
+IsDone phase.Flashing v = v.revertible ≡ true
+IsDone phase.Committing v = v.revertible ≡ false
+IsDone phase.Reverting v = v.revertible ≡ false
+IsDone phase.Lost v = ⊥
+IsDone p v = Unit {0}
+
+abbrev pub ServerDone : Control → Session → ℕ → Type 0
+ServerDone k x server = (m : Member) → In m x.members → m.server.0 ≡ server → IsDone (phase_of x.mirror) (seen (roles k) m)
+
+-- ---- what a recovery leaves
+
+-- an attempt from its first flash on
+abbrev pub IsLate : PhaseName → Type 0
+IsLate phase.Coordinating = ⊥
+IsLate phase.Releasing = ⊥
+IsLate phase.Draining = ⊥
+IsLate p = Unit {0}
+
+-- no member of a session can be flashed with its last number any more
+pub record Over (p : PhaseName) (n : ℕ) (vs : List Seen) : Type 0 where
+  pub late : IsLate p
+  pub positive : 0 < n
+  pub barred : Barred n vs
+
+abbrev pub OverIn : Roles → Session → Type 0
+OverIn T x = Over (phase_of x.mirror) x.last (all_seen T x.members)

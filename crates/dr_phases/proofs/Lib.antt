@@ -1,0 +1,17 @@
+pub mod AtLemmas
+pub mod Facts
+pub mod Turns
+pub mod TurnsKeep
+pub mod Places
+pub mod Moves
+pub mod Volumes
+pub mod Reports
+pub mod Stages
+pub mod Tables
+pub mod Members
+pub mod Lines
+pub mod Barred
+pub mod Orders
+pub mod Recover
+pub mod Checks
+pub mod Example

@@ -1,0 +1,3 @@
+pub mod FateLemmas
+pub mod EntryLemmas
+pub mod ViewLaws

@@ -1,0 +1,92 @@
+//! The flash of a member's target is committed.
+
+ghost use Rattle.std.specs.Prelude.{◌≡◌, ℕ, ◌≤◌, ◌+◌, false, length, None, Some, IsSome, OnOk, OnErr, if◌then◌else◌};
+ghost use Rattle.dr_config.specs.Table.{place_of};
+ghost use Rattle.dr_model.specs.ReadStops.{Ends};
+ghost use Rattle.dr_model.specs.Relations as relations;
+ghost use Rattle.dr_model.specs.SessionEntries as entries;
+ghost use Rattle.dr_volume.specs.Plain.{plain};
+ghost use Rattle.dr_volume.specs.Update.{IsMoved, OthersStay};
+ghost use Rattle.dr_volume.specs.View.{Rest, volume_seen};
+ghost use Rattle.dr_flash.specs.Checks.{is_stop};
+ghost use Rattle.dr_flash.specs.Faults.{Counted};
+ghost use Rattle.dr_flash.specs.Fit.{RelationsFit};
+ghost use Rattle.dr_flash.specs.Here.{seen, refusal_of, armed_in, IsAtRest};
+ghost use Rattle.dr_flash.specs.Turns.{Leads, Fails};
+ghost use Rattle.dr_flash.specs.Views.{view_seen};
+ghost use Rattle.dr_coord.specs.Aside.{AsideFits};
+ghost use Rattle.dr_revert.specs.declared.fates.Fate.TheVariants as fate;
+
+use crate::checks::commit_refusal;
+use crate::fates::{Fate, turn_target};
+use crate::fields::is_committed;
+use dr_config::Config;
+use dr_gcopy::send_refusal;
+use dr_ids::{Member, Refusal, SessionId};
+use dr_model::Journal;
+use dr_plant::Plant;
+use dr_volume::{Fields, peek_fields};
+
+/// What becomes of a member's target whose flash is to be committed: nothing, where it is so already.
+fn commit_fate(s: SessionId, m: &Member, n: u32, f: &Fields) -> Option<Fate>
+    ensures { result ≡ (if entries.is_committed n (plain f.now) then None else Some (fate.Commit m.now.a s n)) }
+{
+    if is_committed(n, f) {
+        return None;
+    }
+    Some(Fate::Commit {
+        primary: m.a,
+        session: s,
+        n,
+    })
+}
+
+/// Commits the flash of attempt n of a session on the target of a member, which is on the secondary's server: the target goes
+/// on to show what it shows, what was kept aside and what changed since is gone, and it is a member's from then on. The
+/// journal is told of it. Where it is a member's with that number already, nothing happens. Refused where there is no path
+/// from the primary's logical subsystem to that of the secondary, or the secondary's server is off, or the link between the
+/// servers is down, or the secondary isn't the primary's; or else where the target isn't revertible from the attempt; then
+/// nothing has changed. Fails too where the server stops in the move or goes off at a read. The journal needs room for two
+/// events.
+pub fn commit<P: Plant>(
+    p: &mut P,
+    c: &Config,
+    j: &mut Journal,
+    s: SessionId,
+    m: &Member,
+    n: u32,
+) -> Result<(), Refusal>
+    requires rest { IsAtRest (P.state p.old) c.now }
+    requires fit { RelationsFit (P.state p.old) c.now }
+    requires aside { AsideFits (P.state p.old) c.now }
+    requires primary { IsSome (place_of c.now m.now.a.0) }
+    requires secondary { IsSome (place_of c.now m.now.b.0) }
+    requires target { IsSome (place_of c.now m.now.c.0) }
+    requires together { (volume_seen (P.state p.old) c.now m.now.c.0).server ≡ (volume_seen (P.state p.old) c.now m.now.b.0).server }
+    requires room { 2 ≤ j.old.spare }
+    ensures carried { (r : Rest) → Ends (armed_in (P.state p.old)) (seen (P.state p.new) c.now r j.new.events) (refusal_of result) (seen (P.state p.old) c.now r j.old.events) (entries.commit_entries s.0 m.now n) }
+    ensures leads { OnOk result ((r : Rest) → Leads (seen (P.state p.old) c.now r j.old.events) (entries.commit_entries s.0 m.now n) (seen (P.state p.new) c.now r j.new.events)) }
+    ensures fails { OnErr result ((r : Rest) → Fails (armed_in (P.state p.old)) (seen (P.state p.old) c.now r j.old.events) (entries.commit_entries s.0 m.now n) (seen (P.state p.new) c.now r j.new.events) (refusal_of result)) }
+    ensures unchanged { is_stop (refusal_of result) ≡ false → OnErr result ((P.state p.new ≡ P.state p.old) × (j.new ≡ j.old)) }
+    ensures moved { OnOk result (entries.is_committed n (volume_seen (P.state p.old) c.now m.now.c.0).fields ≡ false → IsMoved (P.state p.old) (P.state p.new) c.now m.now.c.0 (relations.committed n (volume_seen (P.state p.old) c.now m.now.c.0).fields) None) }
+    ensures keeps_view { OnOk result ((k : ℕ) → view_seen (P.state p.new) c.now m.now.c.0 k ≡ view_seen (P.state p.old) c.now m.now.c.0 k) }
+    ensures rest { IsAtRest (P.state p.new) c.now }
+    ensures fit { RelationsFit (P.state p.new) c.now }
+    ensures aside { AsideFits (P.state p.new) c.now }
+    ensures unarmed { (q : ℕ) → (P.state p.old).read_fuse q ≡ None → (P.state p.new).read_fuse q ≡ None }
+    ensures faults { Counted (is_stop (refusal_of result)) (P.state p.old).faults (P.state p.new).faults }
+    ensures others { OthersStay (P.state p.old) (P.state p.new) c.now m.now.c.0 }
+    ensures on { OnOk result ((P.state p.new).on ≡ (P.state p.old).on) }
+    ensures room { j.old.spare ≤ j.new.spare + 2 }
+    ensures room_left { OnOk result (j.old.spare ≤ j.new.spare + 1) }
+    ensures spare { length j.new.events + j.new.spare ≡ length j.old.events + j.old.spare }
+{
+    if let Some(why) = send_refusal(p, c, m.a, m.b) {
+        return Err(why);
+    }
+    if let Some(why) = commit_refusal(p, c, m.c, n) {
+        return Err(why);
+    }
+    let fate = commit_fate(s, m, n, &peek_fields(p, c, m.c));
+    turn_target(p, c, j, m.c, fate)
+}

@@ -1,0 +1,98 @@
+//! The target of a member is flashed.
+
+ghost use Rattle.std.specs.Prelude.{◌≡◌, ℕ, ◌≤◌, ◌+◌, false, length, None, Some, IsSome, OnOk, OnErr, if◌then◌else◌};
+ghost use Rattle.dr_config.specs.Table.{place_of};
+ghost use Rattle.dr_model.specs.ReadStops.{Ends};
+ghost use Rattle.dr_model.specs.Relations as relations;
+ghost use Rattle.dr_model.specs.SessionEntries as entries;
+ghost use Rattle.dr_volume.specs.Plain.{plain};
+ghost use Rattle.dr_volume.specs.Update.{IsMoved, OthersStay};
+ghost use Rattle.dr_volume.specs.View.{Rest, volume_seen, track_seen};
+ghost use Rattle.dr_flash.specs.Checks.{is_stop};
+ghost use Rattle.dr_flash.specs.Faults.{Counted};
+ghost use Rattle.dr_flash.specs.Fit.{RelationsFit};
+ghost use Rattle.dr_flash.specs.Here.{seen, refusal_of, armed_in, IsAtRest};
+ghost use Rattle.dr_flash.specs.Turns.{Leads, Fails};
+ghost use Rattle.dr_flash.specs.Views.{view_seen};
+ghost use Rattle.dr_incr.specs.Copies.{HoldsUnchanged};
+ghost use Rattle.dr_coord.specs.Aside.{AsideFits};
+ghost use Rattle.dr_revert.specs.declared.fates.Fate.TheVariants as fate;
+ghost use Rattle.dr_revert.specs.Views.{previous_seen};
+
+use crate::checks::flash_refusal;
+use crate::fates::{Fate, turn_target};
+use crate::fields::is_flashed;
+use dr_config::Config;
+use dr_gcopy::send_refusal;
+use dr_ids::{Member, Refusal, SessionId};
+use dr_model::Journal;
+use dr_plant::Plant;
+use dr_volume::{Fields, peek_fields};
+
+/// What becomes of a member's target that is to be flashed: nothing, where it is flashed for the attempt.
+fn flash_fate(s: SessionId, m: &Member, n: u32, f: &Fields) -> Option<Fate>
+    ensures { result ≡ (if entries.is_flashed n (plain f.now) then None else Some (fate.Flash m.now.b m.now.a s n)) }
+{
+    if is_flashed(n, f) {
+        return None;
+    }
+    Some(Fate::Flash {
+        source: m.b,
+        primary: m.a,
+        session: s,
+        n,
+    })
+}
+
+/// Flashes the target of a member, which is on the secondary's server, from the secondary for attempt n of a session: then each
+/// track of the target reads as the secondary's, where what the target held unchanged was the same, and what it showed is
+/// kept aside until the flash is committed or reverted. The journal is told of it. Where the target is flashed for the attempt,
+/// nothing happens. Refused where there is no path from the primary's logical subsystem to that of the secondary, or the
+/// secondary's server is off, or the link between the servers is down, or the secondary isn't the primary's; or else where the
+/// target is none of the secondary whose changes are recorded and on which the host may not write, or is restored or revertible
+/// from another attempt; or else where it has gone on past the attempt; or else where the secondary isn't sealed for it; then
+/// nothing has changed. Fails too where the server stops in the move or goes off at a read. The journal needs room for two
+/// events.
+pub fn flash<P: Plant>(
+    p: &mut P,
+    c: &Config,
+    j: &mut Journal,
+    s: SessionId,
+    m: &Member,
+    n: u32,
+) -> Result<(), Refusal>
+    requires rest { IsAtRest (P.state p.old) c.now }
+    requires fit { RelationsFit (P.state p.old) c.now }
+    requires aside { AsideFits (P.state p.old) c.now }
+    requires primary { IsSome (place_of c.now m.now.a.0) }
+    requires secondary { IsSome (place_of c.now m.now.b.0) }
+    requires target { IsSome (place_of c.now m.now.c.0) }
+    requires together { (volume_seen (P.state p.old) c.now m.now.c.0).server ≡ (volume_seen (P.state p.old) c.now m.now.b.0).server }
+    requires room { 2 ≤ j.old.spare }
+    ensures carried { (r : Rest) → Ends (armed_in (P.state p.old)) (seen (P.state p.new) c.now r j.new.events) (refusal_of result) (seen (P.state p.old) c.now r j.old.events) (entries.flash_entries s.0 m.now n) }
+    ensures leads { OnOk result ((r : Rest) → Leads (seen (P.state p.old) c.now r j.old.events) (entries.flash_entries s.0 m.now n) (seen (P.state p.new) c.now r j.new.events)) }
+    ensures fails { OnErr result ((r : Rest) → Fails (armed_in (P.state p.old)) (seen (P.state p.old) c.now r j.old.events) (entries.flash_entries s.0 m.now n) (seen (P.state p.new) c.now r j.new.events) (refusal_of result)) }
+    ensures unchanged { is_stop (refusal_of result) ≡ false → OnErr result ((P.state p.new ≡ P.state p.old) × (j.new ≡ j.old)) }
+    ensures moved { OnOk result (entries.is_flashed n (volume_seen (P.state p.old) c.now m.now.c.0).fields ≡ false → IsMoved (P.state p.old) (P.state p.new) c.now m.now.c.0 (relations.flashed s.0 n (volume_seen (P.state p.old) c.now m.now.c.0).fields) None) }
+    ensures shows_source { OnOk result (entries.is_flashed n (volume_seen (P.state p.old) c.now m.now.c.0).fields ≡ false → HoldsUnchanged (P.state p.old) c.now m.now.c.0 → (k : ℕ) → view_seen (P.state p.new) c.now m.now.c.0 k ≡ track_seen (P.state p.new) c.now m.now.b.0 k) }
+    ensures keeps_aside { OnOk result (entries.is_flashed n (volume_seen (P.state p.old) c.now m.now.c.0).fields ≡ false → (k : ℕ) → previous_seen (P.state p.new) c.now m.now.c.0 k ≡ view_seen (P.state p.old) c.now m.now.c.0 k) }
+    ensures rest { IsAtRest (P.state p.new) c.now }
+    ensures fit { RelationsFit (P.state p.new) c.now }
+    ensures aside { AsideFits (P.state p.new) c.now }
+    ensures unarmed { (q : ℕ) → (P.state p.old).read_fuse q ≡ None → (P.state p.new).read_fuse q ≡ None }
+    ensures faults { Counted (is_stop (refusal_of result)) (P.state p.old).faults (P.state p.new).faults }
+    ensures others { OthersStay (P.state p.old) (P.state p.new) c.now m.now.c.0 }
+    ensures on { OnOk result ((P.state p.new).on ≡ (P.state p.old).on) }
+    ensures room { j.old.spare ≤ j.new.spare + 2 }
+    ensures room_left { OnOk result (j.old.spare ≤ j.new.spare + 1) }
+    ensures spare { length j.new.events + j.new.spare ≡ length j.old.events + j.old.spare }
+{
+    if let Some(why) = send_refusal(p, c, m.a, m.b) {
+        return Err(why);
+    }
+    if let Some(why) = flash_refusal(p, c, m.b, m.c, n) {
+        return Err(why);
+    }
+    let fate = flash_fate(s, m, n, &peek_fields(p, c, m.c));
+    turn_target(p, c, j, m.c, fate)
+}
