@@ -322,10 +322,11 @@ settled_refusal t s k =
 abbrev pub restore_refusal : ℕ → Control → Option Refusal
 restore_refusal t k = settled_refusal t (fields_at k t).session k
 
--- the primary of the member that t is the target of
+-- the member that t is the target of, where it is one's
 abbrev pub member_at : Control → ℕ → Option Member
 member_at k t = if (fields_at k t).member then find (λ m. m.c.0 == t) (members_in (session_in k.sessions (fields_at k t).session)) else None
 
+-- and its primary, which tells that the target leaves
 abbrev pub left_by : Control → ℕ → Option ℕ
 left_by k t = option_map (λ m. m.a.0) (member_at k t)
 
