@@ -17,7 +17,7 @@ snoc-from : {X : Type 0} (P : List X → Type 0) → ((xs : List X) (x : X) → 
 snoc-from P step [] done p = subst P (sym (append-nil done)) p
 snoc-from P step (x ∷ xs) done p = subst P (append_assoc done (x ∷ []) xs) (snoc-from P step xs (done ++ x ∷ []) (step done x p))
 
-snoc : {X : Type 0} (P : List X → Type 0) → P [] → ((xs : List X) (x : X) → P xs → P (xs ++ x ∷ [])) → (xs : List X) → P xs
+pub snoc : {X : Type 0} (P : List X → Type 0) → P [] → ((xs : List X) (x : X) → P xs → P (xs ++ x ∷ [])) → (xs : List X) → P xs
 snoc P none step xs = snoc-from P step xs [] none
 
 pub head-same : (x y : Event) (xs ys : List Event) → x ∷ xs ≡ y ∷ ys → x ≡ y
@@ -64,7 +64,7 @@ pub nowhere : (before behind : List Event) (c : Event) → [] ≡ before ++ c �
 nowhere [] behind c h = absurd cc
 nowhere (x ∷ xs) behind c h = absurd cc
 
-earlier : (s n a : ℕ) (es : List Event) (e : Event) (before behind : List Event) → es ++ e ∷ [] ≡ before ++ Cut s n a ∷ behind → (e ≡ Cut s n a) ⊎ CutAt es s n a
+pub earlier : (s n a : ℕ) (es : List Event) (e : Event) (before behind : List Event) → es ++ e ∷ [] ≡ before ++ Cut s n a ∷ behind → (e ≡ Cut s n a) ⊎ CutAt es s n a
 earlier s n a [] e [] behind same = inl (head-same e (Cut s n a) [] behind same)
 earlier s n a [] e (y ∷ ys) behind same = absurd (nowhere ys behind (Cut s n a) (tail-same e y [] (ys ++ Cut s n a ∷ behind) same))
 earlier s n a (x ∷ xs) e [] behind same = inr (record { before = []; behind = xs; is = ap (λ y. y ∷ xs) (head-same x (Cut s n a) (xs ++ e ∷ []) behind same) })

@@ -1,13 +1,14 @@
 //! One move of a volume's part in a pair each.
 
-ghost use Rattle.std.specs.Prelude.{◌≡◌, ℕ, ◌≤◌, ◌+◌, true, [], ◌∷◌, length, None, Some, IsSome, OnOk, OnErr, is_err};
+ghost use Rattle.std.specs.Prelude.{◌≡◌, ℕ, ◌≤◌, ◌+◌, ◌⊎◌, true, [], ◌∷◌, length, None, Some, IsSome, OnOk, OnErr, is_err};
 ghost use Rattle.dr_config.specs.Table.{place_of};
 ghost use Rattle.dr_model.specs.Carry.{now};
 ghost use Rattle.dr_model.specs.Layout as layout;
 ghost use Rattle.dr_model.specs.Moves.{MakeSecondary, MakePrimary, DropPrimary, DropSecondary, Follow, Resume, TakeOver};
+ghost use Rattle.dr_model.specs.Pairs as pairs;
 ghost use Rattle.dr_model.specs.ReadStops.{Ends};
 ghost use Rattle.dr_model.specs.Refusals.{stopped};
-ghost use Rattle.dr_volume.specs.Update.{OthersStay};
+ghost use Rattle.dr_volume.specs.Update.{IsAsBefore, IsMoved, OthersStay};
 ghost use Rattle.dr_volume.specs.View.{Rest, volume_seen};
 ghost use Rattle.dr_flash.specs.Faults.{Counted};
 ghost use Rattle.dr_flash.specs.Fit.{RelationsFit};
@@ -235,6 +236,8 @@ pub fn take_over<P: Plant>(
     ensures fit { RelationsFit (P.state p.new) c.now }
     ensures unarmed { (q : ℕ) → (P.state p.old).read_fuse q ≡ None → (P.state p.new).read_fuse q ≡ None }
     ensures faults { Counted (is_err result) (P.state p.old).faults (P.state p.new).faults }
+    ensures old_or_new { IsAsBefore (P.state p.old) (P.state p.new) c.now b.0 ⊎ IsMoved (P.state p.old) (P.state p.new) c.now b.0 (pairs.taken_over (volume_seen (P.state p.old) c.now b.0).fields) None }
+    ensures moved { OnOk result (IsMoved (P.state p.old) (P.state p.new) c.now b.0 (pairs.taken_over (volume_seen (P.state p.old) c.now b.0).fields) None) }
     ensures others { OthersStay (P.state p.old) (P.state p.new) c.now b.0 }
     ensures on { OnOk result ((P.state p.new).on ≡ (P.state p.old).on) }
     ensures room { j.old.spare ≤ j.new.spare + 2 }

@@ -1,6 +1,7 @@
 -- The first member that passes a test, and what all members show, one by one.
-use Rattle.std.proofs.Common.{ℕ, zero, suc, ◌≡◌, ◌+◌, Bool, true, false, cond, not, List, [], ◌∷◌, ◌++◌, map, filter, take, slice_get, refl, ◌∙◌, ap, Option, Some, None}
+use Rattle.std.proofs.Common.{ℕ, zero, suc, ◌≡◌, ◌<◌, ◌+◌, arith, inl, inr, Bool, true, false, cond, not, List, [], ◌∷◌, ◌++◌, length, map, filter, take, slice_get, refl, sym, ◌∙◌, ap, subst, Option, Some, None}
 use Rattle.std.specs.List.{find}
+use Rattle.std.proofs.lemmas.Bool.{cases_eq}
 use Rattle.std.specs.Option.{option_or}
 use Rattle.dr_ids.specs.declared.names.Member.{Member}
 use Rattle.dr_ids.specs.declared.refusal.Refusal.{Refusal}
@@ -37,6 +38,18 @@ find-append p (x ∷ xs) ys none = by (p x) (find-append p xs ys) none
 
 pub find-miss : (p : Member → Bool) (ms : List Member) (i : ℕ) (m : Member) → Some m ≡ slice_get ms i → find p (take i ms) ≡ None → p m ≡ false → find p (take (i + 1) ms) ≡ None
 find-miss p ms i m at none miss = ap (find p) (member-next ms i m at) ∙ find-append p (take i ms) (m ∷ []) none ∙ ap (λ b. cond b (Some m) None) miss
+
+-- what holds of each member so far, and of the next one
+pub one-more : (ms : List Member) (P : Member → Type 0) (n : ℕ) (m : Member) → slice_get ms n ≡ Some m → P m → ((i : ℕ) (x : Member) → i < n → slice_get ms i ≡ Some x → P x) → (i : ℕ) (x : Member) → i < n + 1 → slice_get ms i ≡ Some x → P x
+one-more ms P n m at holds before i x low is = elim (cases_eq i n) as (λ _. P x) [
+  | inl same ↦ let e : m ≡ x = (let both : Some m ≡ Some x = sym at ∙ ap (slice_get ms) (sym same) ∙ is in cc) in subst P e holds
+  | inr other ↦ before i x (omega (arith, low, other)) is
+]
+
+pub below-length : (ms : List Member) (i : ℕ) (m : Member) → slice_get ms i ≡ Some m → i < length ms
+below-length [] i m at = absurd cc
+below-length (x ∷ xs) zero m at = omega arith
+below-length (x ∷ xs) (suc i) m at = let low = below-length xs i m at in omega (arith, low)
 
 -- what all members show, and one more
 pub all-more : (s : ℕ) (k : Control) (xs ys : List Member) → shown_by_members s (xs ++ ys) k ≡ shown_by_members s xs k ++ shown_by_members s ys k

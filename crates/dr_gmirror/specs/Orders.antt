@@ -48,6 +48,10 @@ pub record IsReady (s : PlantState) (t : Table) (m : Member) : Type 0 where
 abbrev pub AreReady : PlantState → Table → List Member → Type 0
 AreReady s t ms = (i : ℕ) (m : Member) → slice_get ms i ≡ Some m → IsReady s t m
 
+-- the servers of their secondaries are on
+abbrev pub AreRunning : PlantState → Table → List Member → Type 0
+AreRunning s t ms = (i : ℕ) (m : Member) → slice_get ms i ≡ Some m → s.on (volume_seen s t m.b.0).server ≡ true
+
 abbrev pub is_seal : Work → Bool
 is_seal Seal = true
 is_seal _ = false

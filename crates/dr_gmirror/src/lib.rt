@@ -12,6 +12,6 @@ mod steps;
 
 pub use exchanging::exchange;
 pub use orders::carry_out;
-pub use restores::{decide_over, leaving, restore_refusal};
+pub use restores::{decide_over, leaving, member_with, restore_refusal, secondary_refusal};
 pub use sealing::seal;
 pub use settling::settle;

@@ -1,6 +1,6 @@
 //! What is decided over a session, and what that says of a restore of one of its members' targets.
 
-ghost use Rattle.std.specs.Prelude.{◌≡◌, ℕ, ◌≤◌, ◌==◌, false, length, List, IsSome, option_map};
+ghost use Rattle.std.specs.Prelude.{◌≡◌, ℕ, ◌≤◌, ◌==◌, false, length, List, IsSome};
 ghost use Rattle.std.specs.List.{find};
 ghost use Rattle.dr_config.specs.Table.{StandsFor, place_of};
 ghost use Rattle.dr_master.specs.Seen.{shown_in};
@@ -10,15 +10,15 @@ ghost use Rattle.dr_model.specs.Plans as plans;
 ghost use Rattle.dr_model.specs.SessionEntries.{shown_by_members};
 ghost use Rattle.dr_model.specs.Sessions as model;
 ghost use Rattle.dr_volume.specs.View.{Rest};
-ghost use Rattle.dr_flash.specs.Checks.{is_stop};
+ghost use Rattle.dr_flash.specs.Checks.{OnNone, is_stop};
 ghost use Rattle.dr_flash.specs.Here.{seen};
 ghost use Rattle.dr_incr.specs.Steps.{number_of};
-ghost use Rattle.dr_gmirror.specs.Orders.{AreReady, with_sessions};
+ghost use Rattle.dr_gmirror.specs.Orders.{AreReady, AreRunning, with_sessions};
 
 use crate::settling::{no_report, note_if};
 use dr_config::Config;
 use dr_flash::server_of;
-use dr_ids::{Decision, Refusal, SessionId, VolumeId};
+use dr_ids::{Decision, Member, Refusal, SessionId, VolumeId};
 use dr_master::Report;
 use dr_plant::Plant;
 use dr_session::Sessions;
@@ -52,9 +52,15 @@ pub fn decide_over<P: Plant>(p: &P, c: &Config, ss: &Sessions, s: SessionId) -> 
 }
 
 /// The first secondary of the session's members whose server is off, if there is one.
-fn secondary_refusal<P: Plant>(p: &P, c: &Config, ss: &Sessions, s: SessionId) -> Option<Refusal>
+pub fn secondary_refusal<P: Plant>(
+    p: &P,
+    c: &Config,
+    ss: &Sessions,
+    s: SessionId,
+) -> Option<Refusal>
     requires members { AreReady (P.state p.now) c.now (model.members_in (model.session_in ss.now.sessions s.0)) }
     ensures refusal { (r : Rest) (events : List Event) → result ≡ plans.secondary_refusal (model.members_in (model.session_in ss.now.sessions s.0)) (seen (P.state p.now) c.now r events).control }
+    ensures running { OnNone result (AreRunning (P.state p.now) c.now (model.members_in (model.session_in ss.now.sessions s.0))) }
     ensures calm { is_stop result ≡ false }
 {
     for at in 0..ss.member_count(s) {
@@ -99,14 +105,14 @@ pub fn restore_refusal<P: Plant>(p: &P, c: &Config, ss: &Sessions, t: VolumeId) 
     forbidden_unless_nothing(decide_over(p, c, ss, s))
 }
 
-/// The primary of the first of the session's members with that target.
-fn member_with(ss: &Sessions, s: SessionId, t: VolumeId) -> Option<VolumeId>
-    ensures { number_of result ≡ option_map (λ m. m.a.0) (find (λ m. m.c.0 == t.0) (model.members_in (model.session_in ss.now.sessions s.0))) }
+/// The first of the session's members with that target, if there is one.
+pub fn member_with(ss: &Sessions, s: SessionId, t: VolumeId) -> Option<Member>
+    ensures { result ≡ find (λ m. m.c.0 == t.0) (model.members_in (model.session_in ss.now.sessions s.0)) }
 {
     for at in 0..ss.member_count(s) {
         let m = ss.member_at(s, at).unwrap();
         if m.c.0 == t.0 {
-            return Some(m.a);
+            return Some(m);
         }
     }
     None
@@ -122,5 +128,6 @@ pub fn leaving<P: Plant>(p: &P, c: &Config, ss: &Sessions, t: VolumeId) -> Optio
     if !fields.member {
         return None;
     }
-    member_with(ss, SessionId(fields.session), t)
+    let m = member_with(ss, SessionId(fields.session), t)?;
+    Some(m.a)
 }

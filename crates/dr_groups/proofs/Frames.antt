@@ -44,6 +44,7 @@ fits-grows k j x grows quieter fits = record {
   runs = λ r has. master-grows k j r grows (fits.runs r has);
   finished = λ r has ends m here out. silent-quieter k j m.a.0 quieter (fits.finished r has ends m here out);
   few = fits.few;
+  owes = fits.owes;
 }
 
 -- the laws of a list of sessions, over the volumes of k

@@ -4,6 +4,7 @@ pub mod AtLemmas
 pub mod Frames
 pub mod Sound
 pub mod Reports
+pub mod Owed
 pub mod Masters
 pub mod Tables
 pub mod Members

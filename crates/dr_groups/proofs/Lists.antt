@@ -82,6 +82,14 @@ any-some p (z ∷ xs) x (inr more) e = by (p z) (any-some p xs x more e)
     by true further = refl
     by false further = further
 
+pub some-any : {X : Type 0} (p : X → Bool) (xs : List X) → list_any p xs ≡ true → (x : X) × (In x xs × (p x ≡ true))
+some-any p [] h = absurd cc
+some-any {X = X} p (z ∷ xs) h = by (some-any p xs) (cases_Bool (p z)) h
+  where
+    by : (list_any p xs ≡ true → (x : X) × (In x xs × (p x ≡ true))) → (p z ≡ true) ⊎ (p z ≡ false) → (p z || list_any p xs) ≡ true → (x : X) × (In x (z ∷ xs) × (p x ≡ true))
+    by further (inl e) k = (z, (inl refl, e))
+    by further (inr e) k = let r = further (sym (ap (λ b. b || list_any p xs) e) ∙ k) in (r.0, (inr r.1.0, r.1.1))
+
 pub any-none : {X : Type 0} (p : X → Bool) (xs : List X) (x : X) → list_any p xs ≡ false → In x xs → p x ≡ false
 any-none p xs x h i = by (cases_Bool (p x))
   where

@@ -11,13 +11,14 @@ use Rattle.dr_model.specs.Phases as phases
 use Rattle.dr_model.specs.Control.{Control}
 use Rattle.dr_model.specs.Entries.{fields_at}
 use Rattle.dr_model.specs.Sessions.{Session, Mirror, servers_of, with_mirror, with_master, paused, mirror_lost_since}
-use Rattle.dr_model.specs.Groups.{In, Finished, MasterStands, FewReports, SessionFits}
+use Rattle.dr_model.specs.Groups.{In, Finished, MasterStands, FewReports, OwesServers, SessionFits}
 use Rattle.dr_groups.specs.Frames.{ServerSilent, MayReport, OwesReport}
 use Rattle.dr_groups.proofs.Lists.{false_true}
 use Rattle.dr_groups.proofs.AtLemmas.{Told}
 use Rattle.dr_groups.proofs.Frames.{Turns}
 use Rattle.dr_groups.proofs.Sound.{among-servers, among-without, mapped, master-with}
 use Rattle.dr_groups.proofs.Reports.{few-enters, few-left, few-reported}
+use Rattle.dr_groups.proofs.Owed.{owes-enters, owes-left, owes-reported, owes-mirrors}
 
 -- what a master becomes, and the laws of its session stay
 pub record MirrorTurns (k : Control) (x : Session) (r q : Mirror) : Type 0 where
@@ -27,6 +28,7 @@ pub record MirrorTurns (k : Control) (x : Session) (r q : Mirror) : Type 0 where
   pub finished : q.master.phase ≡ phase.Finishing → (m : Member) → In m x.members → Finished k q m
   pub busy : r.master.phase ≢ phase.Idle → (m : Member) → In m x.members → (fields_at k m.a.0).recording ≡ true → q.master.phase ≢ phase.Idle
   pub few : q.master.phase ≡ phase.Lost → FewReports q.master x.members
+  pub owes : OwesServers q.master
 
 pub turn-mirror : (k : Control) (x : Session) (g : Mirror → Mirror) → SessionFits k x → ((r : Mirror) → x.mirror ≡ Some r → MirrorTurns k x r (g r)) → Turns k x (with_mirror g x)
 turn-mirror k x g fits turns = record {
@@ -46,6 +48,7 @@ turn-mirror k x g fits turns = record {
     few = λ r h lost.
         let p = mapped g x.mirror r h in
         subst (λ (q : Mirror). FewReports q.master x.members) (sym p.is) ((turns p.from p.was).few (sym (ap (λ (q : Mirror). q.master.phase) p.is) ∙ lost));
+    owes = owes-mirrors g x.mirror (λ r h. (turns r h).owes);
   };
   within = λ m here. here;
   keeps = λ m r here has busy records. record {
@@ -66,6 +69,7 @@ turn-still k x r q fits has same at = record {
   finished = λ ends m here out. fits.finished r has (sym (ap (λ (m : phases.Master). m.phase) same) ∙ ends) m here (sym (ap (λ (n : phases.Master). phases.is_among m.server.0 n.owed) same) ∙ out);
   busy = λ busy m here records idle. busy (sym (ap (λ (m : phases.Master). m.phase) same) ∙ idle);
   few = λ lost. subst (λ m. FewReports m x.members) (sym same) (fits.few r has (sym (ap (λ (m : phases.Master). m.phase) same) ∙ lost));
+  owes = subst OwesServers (sym same) (fits.owes r has);
 }
 
 -- A phase begins that isn't Idle: each server of the session is owed its order.
@@ -86,6 +90,7 @@ turn-begins k x r p fits has some busy = record {
   finished = λ ends m here. begins-finished k x r p m fits has ends here;
   busy = busy;
   few = λ lost. few-enters p r.master x.members;
+  owes = owes-enters p r.master;
 }
 
 -- ---- the master is lost
@@ -164,6 +169,7 @@ turn-left k x r server (s ∷ rest) fits has silent is = record {
   finished = λ ends m here out. replied-silent k x r server m fits has ends (silent ends) here (ap (phases.is_among m.server.0) is ∙ out);
   busy = λ busy m here records. busy;
   few = λ lost. few-left r.master x.members server (s ∷ rest) is (fits.few r has lost);
+  owes = owes-left r.master server (s ∷ rest) is (fits.owes r has);
 }
 
 pub turn-done : (k : Control) (x : Session) (r : Mirror) (server : ℕ) → SessionFits k x → x.mirror ≡ Some r → (r.master.phase ≡ phase.Finishing → ServerSilent k x server) → MirrorTurns k x r (record r { master = phases.replied r.master server phases.Done })
@@ -181,6 +187,7 @@ turn-reported k x r server xs fits has is may = record {
   finished = λ ends m here out. absurd (lost-unfinished r.master.phase is ends);
   busy = λ busy m here records. busy;
   few = λ lost. few-reported r.master x.members server xs may (fits.few r has is);
+  owes = owes-reported r.master server xs (fits.owes r has);
 }
 
 settled-busy : (d : Decision) → phases.phase_by d ≢ phase.Idle
@@ -209,6 +216,7 @@ turn-told k x r server xs [] fits has silent may is = record {
   finished = λ ends m here. absurd (settled-unfinished (decision (r.master.reports ++ xs)) ends);
   busy = λ busy m here records. settled-busy (decision (r.master.reports ++ xs));
   few = λ lost. absurd (settled-found (decision (r.master.reports ++ xs)) lost);
+  owes = owes-enters (phases.phase_by (decision (r.master.reports ++ xs))) (phases.replied r.master server (phases.Reported xs));
 }
 turn-told k x r server xs (s ∷ rest) fits has silent may is = record {
   servers = refl;
@@ -217,6 +225,7 @@ turn-told k x r server xs (s ∷ rest) fits has silent may is = record {
   finished = λ ends m here out. replied-silent k x r server m fits has ends (silent ends) here out;
   busy = λ busy m here records. busy;
   few = λ lost. few-reported r.master x.members server xs may (fits.few r has lost);
+  owes = owes-reported r.master server xs (fits.owes r has);
 }
 
 -- a master takes any reply

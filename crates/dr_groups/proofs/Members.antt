@@ -13,13 +13,14 @@ use Rattle.dr_model.specs.Tables.{Once}
 use Rattle.dr_model.specs.Control.{Control}
 use Rattle.dr_model.specs.Entries.{fields_at}
 use Rattle.dr_model.specs.Sessions.{Session, Mirror, session_in, has_place, has_place_of, servers_of, with_members, raised, with_member, without_member, changed, busy, unless_idle}
-use Rattle.dr_model.specs.Groups.{In, MemberStands, MasterStands, SessionFits, IsAt, PlacesDiffer, IsRecorder, Groups}
+use Rattle.dr_model.specs.Groups.{In, MemberStands, MasterStands, OwesServers, SessionFits, IsAt, PlacesDiffer, IsRecorder, Groups}
 use Rattle.dr_groups.specs.Frames.{Became, Quiet, NoPlace}
 use Rattle.dr_groups.proofs.Lists.{false_true, in-joined, from-filter, not-found, any-none, from-map, is-met, once-more, once-filter, once-few}
 use Rattle.dr_groups.proofs.AtLemmas.{Told}
 use Rattle.dr_groups.proofs.Changes.{numbers, session-found, same-session, changed-in, changed-stays, changed-once, changed-found}
 use Rattle.dr_groups.proofs.Frames.{Turns, turn-quiet, stands-grows}
 use Rattle.dr_groups.proofs.Sound.{sound-raised, sound-members, low-more, low-fewer, quiet-of, quiet-mirror, primaries, master-turns, master-with, fits-quiet}
+use Rattle.dr_groups.proofs.Owed.{owes-raised, owes-servers, owes-mirrors}
 use Rattle.dr_groups.proofs.Tables.{grows-same, with-table, fit-changed, one-turns, session-fits}
 
 turn-raised : (k : Control) (n : ℕ) (x : Session) → Quiet x → SessionFits k x → Turns k x (raised n x)
@@ -27,6 +28,7 @@ turn-raised k n x quiet fits =
     turn-quiet k x (raised n x) quiet refl
     (fits-quiet k (raised n x) (sound-raised n x fits.sound) fits.once fits.stands
     (master-turns k (λ r. record r { master = phases.raised r.master n }) x.mirror (λ r has. master-with k r (phases.raised r.master n) (fits.runs r has) (fits.runs r has).in_phase))
+    (owes-mirrors (λ r. record r { master = phases.raised r.master n }) x.mirror (λ r has. owes-raised r.master n (fits.owes r has)))
     (quiet-mirror (λ r. record r { master = phases.raised r.master n }) x (raised n x) refl (λ r. refl) quiet))
     (λ m here. here)
 
@@ -43,13 +45,16 @@ quiet-members ms x quiet = quiet-mirror (λ r. record r { master = phases.with_s
 master-members : (k : Control) (ms : List Member) (x : Session) → SessionFits k x → (r : Mirror) → (with_members ms x).mirror ≡ Some r → MasterStands k r
 master-members k ms x fits = master-turns k (λ r. record r { master = phases.with_servers r.master (servers_of ms) }) x.mirror (λ r has. master-with k r (phases.with_servers r.master (servers_of ms)) (fits.runs r has) (fits.runs r has).in_phase)
 
+owes-members : (k : Control) (ms : List Member) (x : Session) → Quiet x → SessionFits k x → (r : Mirror) → (with_members ms x).mirror ≡ Some r → OwesServers r.master
+owes-members k ms x quiet fits = owes-mirrors (λ r. record r { master = phases.with_servers r.master (servers_of ms) }) x.mirror (λ r has. owes-servers r.master (servers_of ms) (quiet r has) (fits.owes r has))
+
 turn-without : (k : Control) (a : ℕ) (x : Session) → Quiet x → SessionFits k x → Turns k x (without_member a x)
 turn-without k a x quiet fits =
     let ms : List Member = filter (λ (m : Member). not (m.a.0 == a)) x.members in
     turn-quiet k x (without_member a x) quiet refl
     (fits-quiet k (without_member a x) (sound-members ms x (low-fewer (λ (m : Member). not (m.a.0 == a)) x.members fits.sound.low) fits.sound)
     (once-filter (λ (m : Member). m.a.0) (λ (m : Member). not (m.a.0 == a)) x.members fits.once)
-    (λ m here. fits.stands m (from-filter (λ (m : Member). not (m.a.0 == a)) x.members m here).0) (master-members k ms x fits) (quiet-members ms x quiet))
+    (λ m here. fits.stands m (from-filter (λ (m : Member). not (m.a.0 == a)) x.members m here).0) (master-members k ms x fits) (owes-members k ms x quiet fits) (quiet-members ms x quiet))
     (λ m here. (from-filter (λ (m : Member). not (m.a.0 == a)) x.members m here).0)
 
 pub groups-removed : (k : Control) (s a : ℕ) (x : Session) → Groups k → session_in k.sessions s ≡ Some x → busy x.mirror ≡ None → Groups (record k { sessions = changed s (without_member a) k.sessions })
@@ -118,7 +123,7 @@ module _ (k : Control) (s : ℕ) (x : Session) (m : Member) (groups : Groups k) 
   with-fits =
       fits-quiet k (with_member m x) (sound-members (x.members ++ m ∷ []) x (low-more x.members m fits.sound.low low) fits.sound)
       (once-more (λ (q : Member). q.a.0) x.members m fits.once (λ q here same. none m.a.0 x q there.0 here (inl refl) (inl (sym same))))
-      (each-member (MemberStands k) fits.stands stands) (master-members k (x.members ++ m ∷ []) x fits) (quiet-members (x.members ++ m ∷ []) x (quiet-of x idle))
+      (each-member (MemberStands k) fits.stands stands) (master-members k (x.members ++ m ∷ []) x fits) (owes-members k (x.members ++ m ∷ []) x (quiet-of x idle) fits) (quiet-members (x.members ++ m ∷ []) x (quiet-of x idle))
 
   abbrev ss : List Session
   ss = changed s (with_member m) k.sessions

@@ -11,7 +11,7 @@ use Rattle.dr_model.specs.Phases as phases
 use Rattle.dr_model.specs.Tables.{Once}
 use Rattle.dr_model.specs.Control.{Control}
 use Rattle.dr_model.specs.Sessions.{Session, Mirror, IsSound, servers_of, all_low, with_mirror, with_members, raised, begun, mirrored_by, unmirrored, busy, unless_idle, drop_refusal, new_session}
-use Rattle.dr_model.specs.Groups.{In, MemberStands, MasterStands, SessionFits}
+use Rattle.dr_model.specs.Groups.{In, MemberStands, MasterStands, OwesServers, SessionFits}
 use Rattle.dr_groups.specs.Frames.{Quiet}
 use Rattle.dr_groups.proofs.Lists.{in-joined, from-filter, to-filter, any-some, all-each, each-all, some_is, none_some}
 use Rattle.dr_groups.proofs.AtLemmas.{Told}
@@ -156,11 +156,11 @@ abbrev pub primaries : List Member → List ℕ
 primaries ms = map (λ (m : Member). m.a.0) ms
 
 -- where the master is neither Finishing nor Lost, a session fits by itself and its members
-pub fits-calm : (k : Control) (x : Session) → IsSound x → Once (primaries x.members) → ((m : Member) → In m x.members → MemberStands k m) → ((r : Mirror) → x.mirror ≡ Some r → MasterStands k r) → ((r : Mirror) → x.mirror ≡ Some r → (r.master.phase ≢ phase.Finishing) × (r.master.phase ≢ phase.Lost)) → SessionFits k x
-fits-calm k x sound once stands runs calm = record { sound = sound; once = once; stands = stands; runs = runs; finished = λ r has ends m here out. absurd ((calm r has).0 ends); few = λ r has lost. absurd ((calm r has).1 lost) }
+pub fits-calm : (k : Control) (x : Session) → IsSound x → Once (primaries x.members) → ((m : Member) → In m x.members → MemberStands k m) → ((r : Mirror) → x.mirror ≡ Some r → MasterStands k r) → ((r : Mirror) → x.mirror ≡ Some r → OwesServers r.master) → ((r : Mirror) → x.mirror ≡ Some r → (r.master.phase ≢ phase.Finishing) × (r.master.phase ≢ phase.Lost)) → SessionFits k x
+fits-calm k x sound once stands runs owes calm = record { sound = sound; once = once; stands = stands; runs = runs; finished = λ r has ends m here out. absurd ((calm r has).0 ends); few = λ r has lost. absurd ((calm r has).1 lost); owes = owes }
 
 idle-calm : (p : PhaseName) → p ≡ phase.Idle → (p ≢ phase.Finishing) × (p ≢ phase.Lost)
 idle-calm p idle = (λ ends. absurd cc, λ lost. absurd cc)
 
-pub fits-quiet : (k : Control) (x : Session) → IsSound x → Once (primaries x.members) → ((m : Member) → In m x.members → MemberStands k m) → ((r : Mirror) → x.mirror ≡ Some r → MasterStands k r) → Quiet x → SessionFits k x
-fits-quiet k x sound once stands runs quiet = fits-calm k x sound once stands runs (λ r has. idle-calm r.master.phase (quiet r has))
+pub fits-quiet : (k : Control) (x : Session) → IsSound x → Once (primaries x.members) → ((m : Member) → In m x.members → MemberStands k m) → ((r : Mirror) → x.mirror ≡ Some r → MasterStands k r) → ((r : Mirror) → x.mirror ≡ Some r → OwesServers r.master) → Quiet x → SessionFits k x
+fits-quiet k x sound once stands runs owes quiet = fits-calm k x sound once stands runs owes (λ r has. idle-calm r.master.phase (quiet r has))

@@ -11,8 +11,8 @@ use Rattle.dr_model.specs.Control.{Control, is_volume}
 use Rattle.std.specs.List.{list_any}
 use Rattle.dr_model.specs.SessionEntries.{is_drained, members_on, reply_after}
 use Rattle.dr_model.specs.SessionPlans.{answered_by}
-use Rattle.dr_model.specs.Sessions.{Session, Mirror, session_in, has_subsystem, has_member_in, is_only, with_mirror, with_master, mirrored_by, unmirrored, paused, mirror_lost_since, lost_since, joined_by, left_by, new_session, changed, without_session, joins, joined, leaves, left, last_refusal, leave_refusal, not_in_session, in_session, drop_refusal}
-use Rattle.dr_model.specs.Groups.{In, MasterStands, SessionFits, Groups}
+use Rattle.dr_model.specs.Sessions.{Session, Mirror, session_in, servers_of, has_subsystem, has_member_in, is_only, with_mirror, with_master, mirrored_by, unmirrored, paused, mirror_lost_since, lost_since, joined_by, left_by, new_session, changed, without_session, joins, joined, leaves, left, last_refusal, leave_refusal, not_in_session, in_session, drop_refusal}
+use Rattle.dr_model.specs.Groups.{In, MasterStands, OwesServers, SessionFits, Groups}
 use Rattle.dr_groups.specs.Frames.{Became, Grows, Quieter, Quiet, ServerSilent, MayReport, OwesReport}
 use Rattle.dr_groups.proofs.Lists.{some_is, in-first, in-joined, from-map, to-map, once-more}
 use Rattle.dr_groups.proofs.AtLemmas.{Told}
@@ -20,6 +20,7 @@ use Rattle.dr_groups.proofs.Changes.{numbers, session-found, none-numbered, same
 use Rattle.dr_groups.proofs.Frames.{Fit, fit-of, groups-of, Turns, turn-same, turn-quiet, Stem, Goes, fit-turns, Origin, lone-origin}
 use Rattle.dr_groups.proofs.Sound.{sound-mirrored, sound-unmirrored, sound-new, quiet-drop, quiet-none, fits-quiet}
 use Rattle.dr_groups.proofs.Reports.{shown-few}
+use Rattle.dr_groups.proofs.Owed.{owes-idle}
 use Rattle.dr_groups.proofs.Masters.{turn-paused, session-aborted, session-lost, session-done, session-waits, session-reported, session-settled, session-taken}
 
 -- the same volumes
@@ -67,7 +68,8 @@ groups-mirrored k s server x groups found none v defined at =
     table-one k s (mirrored_by server) x groups found (λ x. refl)
     (turn-quiet k x (mirrored_by server x) (quiet-none x none) refl
     (fits-quiet k (mirrored_by server x) (sound-mirrored server x fits.sound) fits.once fits.stands
-    (λ r h. subst (MasterStands k) (some_is h) (record { volume = v; defined = defined; server = at; in_phase = λ e. absurd cc })) (λ r h. ap (λ (q : Mirror). q.master.phase) (sym (some_is h))))
+    (λ r h. subst (MasterStands k) (some_is h) (record { volume = v; defined = defined; server = at; in_phase = λ e. absurd cc }))
+    (λ r h. subst (λ (q : Mirror). OwesServers q.master) (some_is h) (owes-idle (servers_of x.members) x.last)) (λ r h. ap (λ (q : Mirror). q.master.phase) (sym (some_is h))))
     (λ m here. here))
 
 pub groups-unmirrored : (k : Control) (s : ℕ) (x : Session) → Groups k → session_in k.sessions s ≡ Some x → drop_refusal x.mirror ≡ None → Groups (record k { sessions = changed s unmirrored k.sessions })
@@ -75,7 +77,7 @@ groups-unmirrored k s x groups found idle =
     let fits = session-fits k s x groups found in
     table-one k s unmirrored x groups found (λ x. refl)
     (turn-quiet k x (unmirrored x) (quiet-drop x idle) refl
-    (fits-quiet k (unmirrored x) (sound-unmirrored x fits.sound) fits.once fits.stands (λ r h. absurd cc) (quiet-none (unmirrored x) refl))
+    (fits-quiet k (unmirrored x) (sound-unmirrored x fits.sound) fits.once fits.stands (λ r h. absurd cc) (λ r h. absurd cc) (quiet-none (unmirrored x) refl))
     (λ m here. here))
 
 -- these hold of whichever session has the number
@@ -151,13 +153,13 @@ turn-subsystems k x y number members last mirror old fits = record {
 }
 
 joined-fits : (k : Control) (l : ℕ) (x : Session) → SessionFits k x → SessionFits k (joined_by l x)
-joined-fits k l x fits = record { sound = record { low = fits.sound.low; servers = fits.sound.servers; number = fits.sound.number }; once = fits.once; stands = fits.stands; runs = fits.runs; finished = fits.finished; few = fits.few }
+joined-fits k l x fits = record { sound = record { low = fits.sound.low; servers = fits.sound.servers; number = fits.sound.number }; once = fits.once; stands = fits.stands; runs = fits.runs; finished = fits.finished; few = fits.few; owes = fits.owes }
 
 left-fits : (k : Control) (l : ℕ) (x : Session) → SessionFits k x → SessionFits k (left_by l x)
-left-fits k l x fits = record { sound = record { low = fits.sound.low; servers = fits.sound.servers; number = fits.sound.number }; once = fits.once; stands = fits.stands; runs = fits.runs; finished = fits.finished; few = fits.few }
+left-fits k l x fits = record { sound = record { low = fits.sound.low; servers = fits.sound.servers; number = fits.sound.number }; once = fits.once; stands = fits.stands; runs = fits.runs; finished = fits.finished; few = fits.few; owes = fits.owes }
 
 new-fits : (k : Control) (s l : ℕ) → SessionFits k (new_session s l)
-new-fits k s l = record { sound = sound-new s l; once = tt; stands = λ m here. absurd here; runs = λ r has. absurd cc; finished = λ r has ends m here. absurd here; few = λ r has. absurd cc }
+new-fits k s l = record { sound = sound-new s l; once = tt; stands = λ m here. absurd here; runs = λ r has. absurd cc; finished = λ r has ends m here. absurd here; few = λ r has. absurd cc; owes = λ r has. absurd cc }
 
 -- a new session behind the others, which has no member
 fit-new : (k : Control) (s l : ℕ) → Groups k → session_in k.sessions s ≡ None → Fit k (k.sessions ++ new_session s l ∷ [])

@@ -1,5 +1,5 @@
 -- The laws of sessions stay where volumes change: before the first step, where a volume is defined, and in a move.
-use Rattle.std.proofs.Common.{ℕ, ◌≡◌, ◌≢◌, ◌⊎◌, inl, inr, refl, ap, sym, ◌∙◌, subst, true, false, ◌||◌, nat_eq, List, [], ◌∷◌, ◌++◌, Some, option_map}
+use Rattle.std.proofs.Common.{ℕ, ◌≡◌, ◌≢◌, ◌⊎◌, inl, inr, refl, ap, sym, ◌∙◌, subst, true, false, ◌||◌, ◌+◌, nat_eq, List, [], ◌∷◌, ◌++◌, Some, option_map}
 use Rattle.std.specs.List.{list_any}
 use Rattle.std.proofs.lemmas.Bool.{cases_Bool}
 use Rattle.std.proofs.lemmas.List.Folds.{list_any-append}
@@ -18,6 +18,7 @@ use Rattle.dr_groups.proofs.AtLemmas.{at_cases}
 use Rattle.dr_groups.proofs.Changes.{same-session, changed-becomes}
 use Rattle.dr_groups.proofs.Frames.{Fit, fit-of, groups-fit, recorder-is, groups-of, stands-grows, master-grows, Turns, turn-quiet}
 use Rattle.dr_groups.proofs.Sound.{mapped, master-turns, master-with, sound-begun, fits-calm}
+use Rattle.dr_groups.proofs.Owed.{owes-enters, owes-mirrors}
 use Rattle.dr_groups.proofs.Tables.{with-table, fit-changed}
 
 pub groups-none : Groups no_control
@@ -137,6 +138,7 @@ module _ (j k : Control) (ss : List Session) (v n : ℕ) (grows : Grows j k) (st
       runs = λ r has. master-grows j k r grows ((fit.each y i).runs r has);
       finished = finished y i;
       few = (fit.each y i).few;
+      owes = (fit.each y i).owes;
     };
     lone = fit.lone;
     recorders = λ u h. recorder u h (stays u h);
@@ -155,6 +157,7 @@ turn-begun k x quiet fits =
     turn-quiet k x (begun x) quiet refl
     (fits-calm k (begun x) (sound-begun x fits.sound) fits.once fits.stands
     (master-turns k (λ r. record r { master = phases.begun r.master }) x.mirror (λ r has. master-with k r (phases.begun r.master) (fits.runs r has) (λ e. absurd cc)))
+    (owes-mirrors (λ r. record r { master = phases.begun r.master }) x.mirror (λ r has. owes-enters phase.Coordinating (record r.master { number = r.master.number + 1 })))
     (λ r has. let p = mapped (λ r. record r { master = phases.begun r.master }) x.mirror r has in begins (sym (ap (λ (q : Mirror). q.master.phase) p.is))))
     (λ m here. here)
   where

@@ -5,7 +5,7 @@ use Rattle.dr_ids.specs.declared.refusal.Refusal.{Refusal}
 use Rattle.dr_ids.specs.declared.refusal.Refusal.TheVariants.{Stopped as StoppedIn}
 use Rattle.dr_model.specs.Control.{Control, World, Fuse}
 use Rattle.dr_model.specs.Moves.{Move}
-use Rattle.dr_model.specs.Carry.{Act, Make, OpenAttempt, Redo, Acknowledge, Drop, EndFreeze, EndThaw, act, Turn, Next, Pass, Do, End, Entry, Outcome, continue, go, carry, check, now}
+use Rattle.dr_model.specs.Carry.{Act, Make, OpenAttempt, Redo, Acknowledge, Drop, EndFreeze, EndThaw, EndRecovery, act, Turn, Next, Pass, Do, End, Entry, Outcome, continue, go, carry, check, now}
 use Rattle.dr_model.specs.Plans.{Plan}
 use Rattle.dr_model.specs.Runs.{begun, finish, carried_out}
 use Rattle.dr_model.specs.Allowed.{Runs}
@@ -30,6 +30,7 @@ module _ (J I : World → Type 0) (May : World → Act → Type 0) where
   counts-by keeps w (Drop n) P j may ends = tt
   counts-by keeps w (EndFreeze l m) P j may ends = tt
   counts-by keeps w (EndThaw l m) P j may ends = tt
+  counts-by keeps w (EndRecovery s n) P j may ends = tt
 
   -- an act that may come, by how it ends
   pub act-keeps : Keeps → (w : World) (a : Act) (P : Turn → Type 0) → J w → May w a → ((f : Option Fuse) → J (after_act w a f) → P (after_act w a f, None)) → ((v : World) (s : ℕ) → I v → P (v, Some s)) → P (act w a)

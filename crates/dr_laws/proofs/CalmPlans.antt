@@ -1,5 +1,5 @@
 -- No entry of a step ends its plan with a refusal that says a stop.
-use Rattle.std.proofs.Common.{ℕ, zero, suc, ◌≡◌, ◌+◌, not, ◌&&◌, ◌||◌, nat_eq, nat_lt, List, [], ◌∷◌, ◌++◌, refl, ap, ◌∙◌, sym, Bool, true, false, cond, map, Option, Some, None, Result}
+use Rattle.std.proofs.Common.{ℕ, zero, suc, ◌≡◌, ◌+◌, not, ◌&&◌, ◌||◌, nat_eq, nat_lt, List, [], ◌∷◌, ◌++◌, refl, ap, ◌∙◌, sym, Bool, true, false, cond, map, Option, Some, None}
 use Rattle.std.specs.Prelude.{is_some, option_map}
 use Rattle.std.specs.Option.{option_or}
 use Rattle.std.specs.FinSet.{contains}
@@ -11,9 +11,8 @@ use Rattle.dr_model.specs.declared.state.Part.{Part}
 use Rattle.dr_model.specs.declared.state.PairState.TheVariants.{Suspended as SuspendedState}
 use Rattle.dr_model.specs.declared.step.Devs.{Devs}
 use Rattle.dr_model.specs.declared.step.Name.{Name}
-use Rattle.dr_model.specs.declared.step.Step.{Step}
 use Rattle.dr_model.specs.Control.{Control}
-use Rattle.dr_model.specs.Layout.{Fields}
+use Rattle.dr_model.specs.Layout.{Fields, is_part}
 use Rattle.dr_model.specs.Relations.{rest}
 use Rattle.dr_model.specs.Pairs.{first_state, held, goes_over, collides, records, must_restart}
 use Rattle.dr_model.specs.Moves.{Move, Keep, Note, Relate, Withdraw, Fetch, Resync, Reverse, Restore, Release, Suspend, MakeSecondary, MakePrimary, DropPrimary, DropSecondary, Follow, Unsync, Mirror, LandBoth, Thaw, Lift, Restart, Free, Seal as SealMove, RaiseAttempt, RaiseFloor, Leave}
@@ -22,9 +21,11 @@ use Rattle.dr_model.specs.Entries.{fields_at, is_revertible, stands_in, copies_f
 use Rattle.dr_model.specs.PairEntries.{link_down, are_linked, has_path, reach_refusal, end_if, refuse_if, differs_at, two_servers, stands_free, may_follow, make_entries, leads_to, belongs_to, let_go, remove_both, remove_entries, may_pause, tell_paused, pause_entries, may_resume, follow_on, resume_on, resume_entries, send_refusal, suspend_where, flashed_refusal, store_on, strike_on, send_entries, sends, tracks_to_send, is_copying}
 use Rattle.dr_model.specs.WriteEntries.{sends_first, where_sent, send_first, land_collided, partner_of, is_grouped, land_mirrored, land_parted, is_parted, land_over, land_entries, landing, is_between, freeze_on, end_freeze, freeze_entries, thaw_on, end_thaw, thaw_entries, belongs, lift_on, redo_on, restart_on, start_entries}
 use Rattle.dr_ids.specs.declared.refusal.Decision.{Decision}
-use Rattle.dr_model.specs.Plans.{counted_refusal, secondary_refusal, leaves_all, forbidden_unless, decided_in, restore_refusal, left_by, member_refusal, Plan, plan, found_volumes, acknowledge_on, acknowledge_if, landed_on, named_pair, is_defined, is_owner, differ, is_no_source, has_few_targets, is_plain_target, is_recorded_target, is_lone_restore, has_no_pair, may_return, may_give_back, may_copy, at_most, left_to_copy}
+use Rattle.dr_model.specs.Plans.{counted_refusal, secondary_refusal, leaves_all, forbidden_unless, decided_in, restore_refusal, left_by, member_refusal, Plan, found_volumes, acknowledge_on, acknowledge_if, landed_on, named_pair, is_defined, is_owner, differ, is_no_source, has_few_targets, is_plain_target, is_recorded_target, is_lone_restore, has_no_pair, may_return, may_give_back, may_copy, at_most, left_to_copy}
 use Rattle.dr_laws.specs.Stops.{refused_stop}
-use Rattle.dr_laws.proofs.Cases.{Case, Says, Defines, Adds, Links, Issues, Writes, Applies, Shows, Stops, Arms, Starts, Flashes, Withdraws, Resyncs, Reverses, Copies, Paths, Unpaths, MakesPair, RemovesPair, Pauses, ResumesPair, Drains, Expires, Freezes, Thaws, JoinsSession, LeavesSession, Mirrors, PausesMirror, Unmirrors, Aborts, AddsMember, Expels, Exchanges, plan-case}
+use Rattle.dr_ids.specs.declared.refusal.Decision.TheVariants.{NoMember, Nothing, RevertAll, CommitRest, RevertSome, Impossible}
+use Rattle.dr_model.specs.RecoveryPlans.{decided_in, take_over_on, settle_on, end_recovery, recover_entries}
+use Rattle.dr_laws.proofs.Cases.{Case, Says, Defines, Adds, Links, Issues, Writes, Applies, Shows, Stops, Arms, Starts, Flashes, Withdraws, Resyncs, Reverses, Copies, Paths, Unpaths, MakesPair, RemovesPair, Pauses, ResumesPair, Drains, Expires, Freezes, Thaws, JoinsSession, LeavesSession, Mirrors, PausesMirror, Unmirrors, Aborts, AddsMember, Expels, Exchanges, Recovers, Settles}
 use Rattle.std.specs.List.{find}
 use Rattle.dr_ids.specs.declared.names.Member.{Member}
 use Rattle.dr_model.specs.Sessions.{Session, session_in, members_in, in_session, is_member}
@@ -260,6 +261,24 @@ module _ (a b : ℕ) where
       (then-calm (store_on a b t) _ (goes-calm (store_on a b t) (λ k. do-goes _)) (last-calm (strike_on a t) (λ k. do-goes _)))))))
       (sends-calm volumes ts)
 
+-- recoveries
+members-calm : (each : Member → Entry) → ((m : Member) (k : Control) → Goes (each m k)) → (ms : List Member) → Unstopped (map each ms)
+members-calm each goes [] = none-calm
+members-calm each goes (m ∷ ms) = then-calm (each m) _ (goes-calm (each m) (goes m)) (members-calm each goes ms)
+
+settle-goes : (s : ℕ) (d : Decision) (m : Member) (k : Control) → Goes (settle_on s d m k)
+settle-goes s NoMember m k = pass-goes
+settle-goes s (Nothing n) m k = pass-goes
+settle-goes s (CommitRest n) m k = choice-goes (is_flashed n (fields_at k m.c.0)) (Do _) Pass (do-goes _) pass-goes
+settle-goes s (RevertAll n) m k = choice-goes (is_flashed n (fields_at k m.c.0)) (Do _) Pass (do-goes _) pass-goes
+settle-goes s (RevertSome o n) m k = choice-goes (is_flashed n (fields_at k m.c.0)) (Do _) Pass (do-goes _) pass-goes
+settle-goes s (Impossible a b) m k = pass-goes
+
+recover-calm : (s : ℕ) (d : Decision) (ms : List Member) → Unstopped (recover_entries s d ms)
+recover-calm s d ms =
+    append-calm (map take_over_on ms) _ (members-calm take_over_on (λ m k. choice-goes (is_part (fields_at k m.b.0).secondary) (Do _) Pass (do-goes _) pass-goes) ms)
+    (append-calm (map (settle_on s d) ms) _ (members-calm (settle_on s d) (settle-goes s d) ms) (last-calm (end_recovery s) (λ k. do-goes _)))
+
 -- orders, and members that come and go
 module _ (s n : ℕ) where
   void-mild : (a : ℕ) (k : Control) → Mild (void_refusal a n k)
@@ -325,7 +344,7 @@ restore-mild t k = mild-choice (fields_at k t).member _ None (mild-or (secondary
     forbidden true d = mild-none
     forbidden false d = mild-some (Forbidden d) refl
 
-case-calm : (k : Control) (events : List Event) (line : ℕ) (p : Plan) → Case k events line p → Unstopped p.entries
+pub case-calm : (k : Control) (events : List Event) (line : ℕ) (p : Plan) → Case k events line p → Unstopped p.entries
 case-calm k events line _ (Writes v t offset len bytes free) = landing-calm k (k.issued + 1) v t
 case-calm k events line _ (Applies n p found) = landing-calm k p.w p.volume p.track
 case-calm k events line _ (Starts s off) = start-calm s k.volumes
@@ -368,7 +387,6 @@ case-calm k events line _ (Unmirrors s x found free) = none-calm
 case-calm k events line _ (Aborts s x found free) = none-calm
 case-calm k events line _ (AddsMember s a c x joins) = add-calm (member_with k a c) _
 case-calm k events line _ (Expels s a x m found is idle on) = now-calm (Leave m.c.0 m.a.0 s)
+case-calm k events line _ (Recovers s x found on) = recover-calm s (decided_in s k) x.members
+case-calm k events line _ (Settles s x m found here on free) = last-calm (settle_on s (decided_in s k) m) (settle-goes s (decided_in s k) m)
 case-calm k events line _ (Exchanges s server reply x r o allowed) = order-calm s o.number o.work (members_on server x.members)
-
-pub plan-calm : (k : Control) (events : List Event) (line : ℕ) (asked : Result Step ℕ) → Unstopped (plan k events line asked).entries
-plan-calm k events line asked = case-calm k events line _ (plan-case k events line asked)

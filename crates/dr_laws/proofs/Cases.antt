@@ -1,5 +1,5 @@
 -- What each step comes to, by cases: an answer, or one of the plans of the step table behind its tests.
-use Rattle.std.proofs.Common.{ℕ, ◌≡◌, ◌<◌, ◌≤◌, refl, ap, ◌∙◌, Bool, true, false, cond, not, ◌||◌, List, [], Option, Some, None, Result, Ok, Err, nat_eq, nat_lt, nat_le, arith}
+use Rattle.std.proofs.Common.{ℕ, ◌≡◌, ◌<◌, ◌≤◌, refl, ap, ◌∙◌, Bool, true, false, cond, not, ◌||◌, List, [], ◌∷◌, Option, Some, None, Result, Ok, Err, nat_eq, nat_lt, nat_le, arith}
 use Rattle.std.specs.Prelude.{length, is_some, if◌then◌else◌, ◌==◌}
 use Rattle.std.specs.List.{find}
 use Rattle.std.specs.Option.{option_or}
@@ -20,7 +20,7 @@ use Rattle.dr_model.specs.declared.state.Part.{Part}
 use Rattle.dr_model.specs.declared.step.Devs.{Devs}
 use Rattle.dr_model.specs.declared.step.TornWord.{TornWord}
 use Rattle.dr_model.specs.declared.step.Step.{Step}
-use Rattle.dr_model.specs.declared.step.Step.TheVariants.{Server, Volume, Link, Stop, StopAfter, Start, Issue, Write, Apply, Show, MakeFlash, RemoveFlash, ResyncFlash, ReverseFlash, Copy, MakePath, RemovePath, MakePair, RemovePair, PausePair, ResumePair, Drain, Expire, Freeze, Unfreeze, MakeSession, RemoveSession, AddMember, RemoveMember, MakeMirror, PauseMirror, ResumeMirror, RemoveMirror, Abort, Exchange}
+use Rattle.dr_model.specs.declared.step.Step.TheVariants.{Server, Volume, Link, Stop, StopAfter, Start, Issue, Write, Apply, Show, MakeFlash, RemoveFlash, ResyncFlash, ReverseFlash, Copy, MakePath, RemovePath, MakePair, RemovePair, PausePair, ResumePair, Drain, Expire, Freeze, Unfreeze, MakeSession, RemoveSession, AddMember, RemoveMember, MakeMirror, PauseMirror, ResumeMirror, RemoveMirror, Abort, Exchange, Recover, CommitFlash, RevertFlash}
 use Rattle.dr_model.specs.Layout.{is_part, part_of}
 use Rattle.dr_model.specs.Limits.{most_servers, most_volumes, most_tracks, most_pending}
 use Rattle.dr_model.specs.Refusals.{server_off, unknown, duplicate, over}
@@ -30,11 +30,15 @@ use Rattle.dr_model.specs.Moves.{is_write}
 use Rattle.dr_ids.specs.declared.names.Member.{Member}
 use Rattle.dr_ids.specs.declared.refusal.Kind.TheVariants.{Session as OfSession}
 use Rattle.dr_model.specs.Phases as phases
-use Rattle.dr_model.specs.Sessions.{Session, Mirror, has_subsystem, subsystem_of, session_in, has_place_of, joined, left, changed, mirrored_by, paused, unmirrored, with_master, with_member, without_member, raised, busy, in_session, leave_refusal, join_refusal, make_refusal, drop_refusal, abort_refusal}
+use Rattle.dr_model.specs.Sessions.{Session, Mirror, has_subsystem, subsystem_of, session_in, members_in, has_place_of, joined, left, changed, mirrored_by, paused, unmirrored, with_master, with_member, without_member, raised, busy, in_session, leave_refusal, join_refusal, make_refusal, drop_refusal, abort_refusal}
 use Rattle.dr_model.specs.SessionEntries.{order_entries, members_on, first_number, add_entries, expel_entries}
 use Rattle.dr_model.specs.Entries.{fields_at}
 use Rattle.dr_model.specs.SessionPlans.{with_sessions, table_plan, says_phase, name_refusal, off_refusal, outside_refusal, master_refusal, place_refusal, taken_refusal, copy_refusal, member_target, member_with, add_target, add_to, expel_done, expel_found, exchange_refusal, order_of, answered_by, exchange_done, exchange_on, on_volume, join_plan, leave_plan, mirror_plan, pause_mirror_plan, unmirror_plan, abort_plan, add_plan, expel_plan, exchange_plan}
-use Rattle.dr_model.specs.Plans.{Plan, plan, step_plan, plan_of, is_built, has_room, same, none_follow, always, on_session, is_defined, only_says, refuses, unless, on_named, on_server, name_bytes, server_named, server_refusal, server_done, volume_refusal, volume_done, link_between, link_done, track_refusal, issue_refusal, issue_done, write_done, apply_on, apply_done, show_refusal, show_done, is_foreign, stop_on, stop_done, arm_on, start_on, start_plan, flash_plan, withdraw_plan, resync_plan, reverse_plan, copy_plan, on_owner, owner_of, path_refusal, path_done, unpath_refusal, unpath_done, pair_plan, remove_plan, pause_plan, resume_plan, drain_plan, expire_on, expire_plan, freeze_refusal, freeze_done, thaw_refusal, thaw_done}
+use Rattle.dr_ids.specs.declared.refusal.Decision.{Decision}
+use Rattle.dr_model.specs.RecoveryPlans.{decided_in, secondary_refusal, untaken_refusal, forbidden_unless, lets_commit, lets_revert, settle_on, recover_done, recover_plan, member_of_target, revertible_target, settle_refusal, settle_member, settle_target, settle_plan}
+use Rattle.dr_groups.proofs.Lists.{found}
+use Rattle.dr_model.specs.Groups.{In}
+use Rattle.dr_model.specs.Plans.{Plan, entries_plan, plan, step_plan, plan_of, is_built, has_room, same, none_follow, always, on_session, is_defined, only_says, refuses, unless, on_named, on_server, name_bytes, server_named, server_refusal, server_done, volume_refusal, volume_done, link_between, link_done, track_refusal, issue_refusal, issue_done, write_done, apply_on, apply_done, show_refusal, show_done, is_foreign, stop_on, stop_done, arm_on, start_on, start_plan, flash_plan, withdraw_plan, resync_plan, reverse_plan, copy_plan, on_owner, owner_of, path_refusal, path_done, unpath_refusal, unpath_done, pair_plan, remove_plan, pause_plan, resume_plan, drain_plan, expire_on, expire_plan, freeze_refusal, freeze_done, thaw_refusal, thaw_done}
 use Rattle.dr_model.specs.Entries.{first_of, subsystem}
 
 -- a member is added, and removed; a master is aborted, and an order is carried out
@@ -125,6 +129,8 @@ pub data Case (k : Control) (events : List Event) (line : ℕ) : Plan → Type 0
   AddsMember : (s a c : ℕ) → (x : Session) → Joins k s a c x → Case k events line (added k s x (member_with k a c))
   Expels : (s a : ℕ) → (x : Session) → (m : Member) → session_in k.sessions s ≡ Some x → find (λ m. m.a.0 == a) x.members ≡ Some m → busy x.mirror ≡ None → off_refusal k (k.volume m.c.0).server ≡ None → Case k events line (expelled s m)
   Exchanges : (s server : ℕ) → (reply : Bool) → (x : Session) → (r : Mirror) → (o : phases.Order) → Ordered k s server x r o → Case k events line (ordered s server reply (members_on server x.members) o)
+  Recovers : (s : ℕ) → (x : Session) → session_in k.sessions s ≡ Some x → secondary_refusal x.members k ≡ None → Case k events line (recover_done s (decided_in s k) x.members)
+  Settles : (s : ℕ) → (x : Session) → (m : Member) → session_in k.sessions s ≡ Some x → In m x.members → secondary_refusal x.members k ≡ None → untaken_refusal x.members k ≡ None → Case k events line (entries_plan (settle_on s (decided_in s k) m ∷ []) (Done Alone))
 
 -- what the tests that passed tell
 pub one-passed : (b : Bool) (r : Refusal) (o : Option Refusal) → cond b (Some r) o ≡ None → (b ≡ false) × (o ≡ None)
@@ -251,7 +257,7 @@ module _ (k : Control) (events : List Event) (line : ℕ) where
   order-case s server reply x r None go = Says _
   order-case s server reply x r (Some o) go = Exchanges s server reply x r o (go o refl)
 
-  on-case : (s server : ℕ) (reply : Bool) (x : Session) (m : Option Mirror) → session_in k.sessions s ≡ Some x → x.mirror ≡ m → Is (exchange_on k s m server reply x.members)
+  pub on-case : (s server : ℕ) (reply : Bool) (x : Session) (m : Option Mirror) → session_in k.sessions s ≡ Some x → x.mirror ≡ m → Is (exchange_on k s m server reply x.members)
   on-case s server reply x None is none = Says _
   on-case s server reply x (Some r) is mirror =
       where-none (exchange_refusal k r server x.members) (exchange_done s server reply (members_on server x.members) (order_of r server)) (λ free.
@@ -260,6 +266,30 @@ module _ (k : Control) (events : List Event) (line : ℕ) where
   exchange-case : (s : ℕ) (name : Name) (reply : Bool) → Is (exchange_plan k s name reply)
   exchange-case s name reply = where-session (session_in k.sessions s) _ (λ x is.
       where-named (server_named k (name_bytes name)) (λ server. exchange_on k s x.mirror server reply x.members) (λ server. on-case s server reply x x.mirror is refl))
+
+  recover-case : (s : ℕ) → Is (recover_plan k s)
+  recover-case s = where-session (session_in k.sessions s) _ (λ x is. where-none (secondary_refusal x.members k) (recover_done s (decided_in s k) x.members) (λ on. Recovers s x is on))
+
+  -- the member by whose target an attempt may be committed or reverted by hand
+  settle-in : (lets : Decision → Bool) (s : ℕ) (m : Member) (o : Option Session) → session_in k.sessions s ≡ o → In m (members_in o) → settle_refusal lets (decided_in s k) (members_in o) k ≡ None → Is (entries_plan (settle_on s (decided_in s k) m ∷ []) (Done Alone))
+  settle-in lets s m None is here free = absurd here
+  settle-in lets s m (Some x) is here free =
+      let rest = or-passed (secondary_refusal x.members k) _ free in
+      Settles s x m is here rest.0 (or-passed (untaken_refusal x.members k) (forbidden_unless (lets (decided_in s k)) (decided_in s k)) rest.1).0
+
+  settle-found : (lets : Decision → Bool) (b s t : ℕ) (o : Option Member) → find (λ m. m.c.0 == t) (members_in (session_in k.sessions s)) ≡ o → Is (settle_member k lets b s o)
+  settle-found lets b s t None is = Says _
+  settle-found lets b s t (Some m) is =
+      where-none (settle_refusal lets (decided_in s k) (members_in (session_in k.sessions s)) k) (entries_plan (settle_on s (decided_in s k) m ∷ []) (Done Alone))
+      (λ free. settle-in lets s m (session_in k.sessions s) refl (found (λ m. m.c.0 == t) (members_in (session_in k.sessions s)) m is).0 free)
+
+  settle-by : (lets : Decision → Bool) (b : ℕ) (o : Option ℕ) → Is (settle_target k lets b o)
+  settle-by lets b None = Says _
+  settle-by lets b (Some t) = settle-found lets b (fields_at k t).session t (member_of_target k t) refl
+
+  settle-case : (dev : Option Name) (lets : Decision → Bool) (b : ℕ) → Is (settle_plan k dev lets b)
+  settle-case dev lets b = where-volume b _ (λ there.
+      where-none (option_or (name_refusal k dev (k.volume b).server) (off_refusal k (k.volume b).server)) (settle_target k lets b (revertible_target k b)) (λ named. settle-by lets b (revertible_target k b)))
 
   of-case : (step : Step) → is_built step ≡ true → Is (plan_of k events line step)
   of-case (Server name) built = where-none (server_refusal k (name_bytes name)) (server_done k name) (Defines name)
@@ -307,6 +337,9 @@ module _ (k : Control) (events : List Event) (line : ℕ) where
   of-case (RemoveMirror devs l s) built = unmirror-case devs.dev l s
   of-case (Abort s) built = abort-case s
   of-case (Exchange s name reply) built = exchange-case s name reply
+  of-case (Recover s) built = recover-case s
+  of-case (CommitFlash devs source sequence) built = settle-case devs.dev lets_commit source
+  of-case (RevertFlash devs source sequence) built = settle-case devs.dev lets_revert source
   of-case _ built = Says (Refused NotBuilt)
 
   step-case : (step : Step) → Is (step_plan k events line step)

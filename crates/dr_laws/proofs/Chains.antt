@@ -4,21 +4,22 @@ use Rattle.std.proofs.lemmas.List.{append-nil}
 use Rattle.dr_ids.specs.declared.refusal.Refusal.{Refusal}
 use Rattle.dr_ids.specs.declared.refusal.Refusal.TheVariants.{Stopped as StoppedIn}
 use Rattle.dr_model.specs.declared.event.Event.{Event}
-use Rattle.dr_model.specs.declared.event.Event.TheVariants.{Stopped, Frozen, Thawed}
+use Rattle.dr_model.specs.declared.event.Event.TheVariants.{Stopped, Frozen, Thawed, Recovered}
 use Rattle.dr_model.specs.declared.said.Said.{Said}
 use Rattle.dr_model.specs.Answers.{answer}
 use Rattle.dr_model.specs.Histories.{Histories, histories, lists}
 use Rattle.dr_model.specs.Sessions.{Session}
 use Rattle.dr_model.specs.Control.{Control, Fuse, World}
 use Rattle.dr_model.specs.Moves.{Move, Hold, is_write}
-use Rattle.dr_model.specs.Carry.{Act, Make, OpenAttempt, Redo, Acknowledge, Drop, EndFreeze, EndThaw, Turn, Next, Pass, Do, End, Entry, Outcome, continue, go, carry, dropped, frozen, thawed}
-use Rattle.dr_model.specs.Plans.{Plan, plan}
-use Rattle.dr_model.specs.Runs.{Task, masters_lost, begun, finish, answered, said, after_plan, after_task}
+use Rattle.dr_model.specs.Carry.{Act, Make, OpenAttempt, Redo, Acknowledge, Drop, EndFreeze, EndThaw, EndRecovery, Turn, Next, Pass, Do, End, Entry, Outcome, continue, go, carry, dropped, frozen, thawed, recovered}
+use Rattle.dr_model.specs.Plans.{Plan, plan, only_says}
+use Rattle.dr_model.specs.Forming.{Part, Way, goes_on, after_part, part_refusal, form_said}
+use Rattle.dr_model.specs.Runs.{Task, Course, run_asked, course_of, course, answered_part, masters_lost, begun, finish, answered, said, after_plan, after_task}
 use Rattle.dr_model.specs.Table.{table, waiting}
 use Rattle.dr_model.specs.Laws.{SoundRows, AllPending}
 use Rattle.dr_model.specs.Allowed.{May, MayOpen, Runs}
 use Rattle.dr_model.proofs.Images.{histories-append}
-use Rattle.dr_laws.specs.Moments.{on_from, on_next, worlds, worlds_after, task_moments, moments_from}
+use Rattle.dr_laws.specs.Moments.{on_from, on_next, worlds, worlds_after, plan_moments, part_moments, parts_moments, task_moments, moments_from}
 use Rattle.dr_laws.proofs.Sets.{false_true}
 use Rattle.dr_laws.proofs.Turns.{done, done_in_stop, opened_in_stop, not_done, fused, place, server_of, server_at, after_act, Writes, Counts, act-cases}
 use Rattle.dr_laws.proofs.Due.{waiting-settled}
@@ -26,6 +27,8 @@ use Rattle.dr_laws.proofs.Fair.{Fair, tag_after, come, come-open}
 use Rattle.dr_laws.proofs.KeepsWindow.{AllSilent}
 use Rattle.dr_laws.proofs.KeepsStep.{Step, Does, Stops, Acks, Others, Passes, Acknowledges, Unchanged}
 use Rattle.dr_laws.proofs.Windows.{Good, Chain, Last, Then}
+use Rattle.dr_laws.proofs.Cases.{Case, Says, plan-case}
+use Rattle.dr_laws.proofs.Parts.{Comes, Ways, way-formed}
 
 -- what an act asks where it comes
 abbrev pub FairAct : Option ℕ → World → Act → Type 0
@@ -36,6 +39,7 @@ FairAct tag w (Acknowledge n) = Acknowledges w n
 FairAct tag w (Drop n) = AllPending (λ p. p.landed ≡ false) (filter (is_write n) w.control.pending)
 FairAct tag w (EndFreeze l m) = Unit {0}
 FairAct tag w (EndThaw l m) = Unit {0}
+FairAct tag w (EndRecovery s n) = Unit {0}
 
 -- the write that goes on after it
 abbrev pub act_tag : Act → Option ℕ → Option ℕ
@@ -71,6 +75,7 @@ act-step tag w (Drop n) f fair =
     Passes None (dropped w n) [] (told-unchanged w (dropped w n) [] (sym (append-nil w.events)) tt (ap histories (append-nil w.events)) refl refl refl (λ v t. waiting-settled n v t w.control.pending fair)) (λ n h. absurd cc)
 act-step tag w (EndFreeze l m) f fair = Passes None (frozen w l m) (Frozen l m ∷ []) (told-unchanged w (frozen w l m) (Frozen l m ∷ []) refl (tt, tt) (histories-append w.events (Frozen l m ∷ [])) refl refl refl (λ v t. refl)) (λ n h. absurd cc)
 act-step tag w (EndThaw l m) f fair = Passes None (thawed w l m) (Thawed l m ∷ []) (told-unchanged w (thawed w l m) (Thawed l m ∷ []) refl (tt, tt) (histories-append w.events (Thawed l m ∷ [])) refl refl refl (λ v t. refl)) (λ n h. absurd cc)
+act-step tag w (EndRecovery s n) f fair = Passes None (recovered w s n) (Recovered s n ∷ []) (told-unchanged w (recovered w s n) (Recovered s n ∷ []) refl (tt, tt) (histories-append w.events (Recovered s n ∷ [])) refl refl refl (λ v t. refl)) (λ n h. absurd cc)
 
 act-runs : (tag : Option ℕ) (w : World) (a : Act) → Writes a → FairAct tag w a → Runs w (place a)
 act-runs tag w (Make m) d fair = fair.0.runs
@@ -80,6 +85,7 @@ act-runs tag w (Acknowledge n) d fair = absurd d
 act-runs tag w (Drop n) d fair = absurd d
 act-runs tag w (EndFreeze l m) d fair = absurd d
 act-runs tag w (EndThaw l m) d fair = absurd d
+act-runs tag w (EndRecovery s n) d fair = absurd d
 
 -- what is to be shown of entries, where this holds of how they end
 module _ (Fin : Option ℕ → World → Option Refusal → Type 0) where
@@ -127,6 +133,7 @@ module _ (Fin : Option ℕ → World → Option Refusal → Type 0) where
     counts-chain tag w (Drop n) more go good fair fin = tt
     counts-chain tag w (EndFreeze l m) more go good fair fin = tt
     counts-chain tag w (EndThaw l m) more go good fair fin = tt
+    counts-chain tag w (EndRecovery s n) more go good fair fin = tt
 
     next-chain : (tag : Option ℕ) (w : World) (x : Next) (more : World → List World) (go_on : World → Outcome) (then : Option ℕ → World → Type 0)
         → ((tag : Option ℕ) (v : World) → then tag v → Chain tag v (more v ++ rest (go_on v))) → Good tag w → fairly_next tag w x then → Chain tag w (on_next w x more ++ rest (go w x go_on))
@@ -147,14 +154,26 @@ module _ (Fin : Option ℕ → World → Option Refusal → Type 0) where
 pub good-none : (w : World) → SoundRows (table w) → Good None w
 good-none w rows = record { rows = rows; low = λ n is. absurd cc; out = λ n is. absurd cc }
 
--- a step ends: its plan may have left other sessions, it is answered, and masters whose servers went off are lost
+-- a plan ends: it may have left other sessions, masters whose servers went off are lost, and its step may be answered
+abbrev pub Closes : World → (World → Option Refusal → World) → Type 0
+Closes first over = (w : World) (k : Control) (ss : List Session) (r : Option Refusal) → k ≡ record w.control { sessions = ss } → (told : List Event) × Unchanged w (over (record w { control = k }) r) told
+
+close : (w u : World) (k : Control) (ss : List Session) (told : List Event) → k ≡ record w.control { sessions = ss } → AllSilent told → histories (w.events ++ told) ≡ histories w.events
+    → u.events ≡ w.events ++ told → u.control.volume ≡ k.volume → u.contents ≡ w.contents → u.control.issued ≡ k.issued → u.control.pending ≡ k.pending → Unchanged w u told
+close w u k ss told same silent lists events volume contents issued pending =
+    told-unchanged w u told events silent lists (volume ∙ ap (λ (k : Control). k.volume) same) contents (issued ∙ ap (λ (k : Control). k.issued) same)
+    (λ v t. ap (λ ps. waiting ps v t) pending ∙ ap (λ (k : Control). waiting k.pending v t) same)
+
 abbrev pub ended : World → World → ℕ → Said → World
 ended first w line a = masters_lost first (said w line a)
 
-pub said-unchanged : (first w : World) (k : Control) (ss : List Session) (line : ℕ) (a : Said) → k ≡ record w.control { sessions = ss } → Unchanged w (ended first (record w { control = k }) line a) (answer line a ∷ [])
-said-unchanged first w k ss line a same =
-    told-unchanged w (ended first (record w { control = k }) line a) (answer line a ∷ []) refl (tt, tt) (histories-append w.events (answer line a ∷ []))
-    (ap (λ (k : Control). k.volume) same) refl (ap (λ (k : Control). k.issued) same) (λ v t. ap (λ (k : Control). waiting k.pending v t) same)
+said-closes : (first : World) (line : ℕ) (p : Plan) → Closes first (λ w r. ended first w line (answered p w.control r))
+said-closes first line p w k ss r same =
+    let a : Said = answered p k r in
+    (answer line a ∷ [], close w (ended first (record w { control = k }) line a) k ss (answer line a ∷ []) same (tt, tt) (histories-append w.events (answer line a ∷ [])) refl refl refl refl refl)
+
+lost-closes : (first : World) → Closes first (λ w r. masters_lost first w)
+lost-closes first w k ss r same = ([], close w (masters_lost first (record w { control = k })) k ss [] same tt (ap histories (append-nil w.events)) (sym (append-nil w.events)) refl refl refl refl)
 
 -- K holds between steps
 module _ (K : World → Type 0) (rows : (w : World) → K w → SoundRows (table w)) (answers : (first w : World) (line : ℕ) (a : Said) → K w → K (ended first w line a)) where
@@ -193,41 +212,110 @@ module _ (K : World → Type 0) (rows : (w : World) → K w → SoundRows (table
   good-plan p last w (Some (StoppedIn s)) a = good-fairly EndFin None w (p.follows s.0) a
   good-plan p last w (Some r) k = good-none w (rows w k)
 
-  module _ (first : World) (line : ℕ) (p : Plan) (last : Leaves p) (more : World → List World) (goes_on : (w : World) → K w → Chain None w (more w)) where
-    abbrev over : World → Option Refusal → World
-    over w r = ended first w line (answered p w.control r)
-
-    answer-chain : (tag : Option ℕ) (w : World) (k : Control) (ss : List Session) (r : Option Refusal) → k ≡ record w.control { sessions = ss } → Good tag w → K (record w { control = k }) → let u : World = record w { control = k } in Chain tag w (over u r ∷ more (over u r))
-    answer-chain tag w k ss r same good y =
+  module _ (first : World) (p : Plan) (last : Leaves p) (over : World → Option Refusal → World) (closes : Closes first over) (kept : (w : World) (r : Option Refusal) → K w → K (over w r))
+      (more : World → List World) (goes_on : (w : World) → K w → Chain None w (more w)) where
+    close-chain : (tag : Option ℕ) (w : World) (k : Control) (ss : List Session) (r : Option Refusal) → k ≡ record w.control { sessions = ss } → Good tag w → K (record w { control = k }) → let u : World = record w { control = k } in Chain tag w (over u r ∷ more (over u r))
+    close-chain tag w k ss r same good y =
         let u : World = record w { control = k } in
-        Then tag None w (over u r) (more (over u r)) good (Passes None (over u r) _ (said-unchanged first w k ss line (answered p k r) same) (λ n h. absurd cc)) (goes_on (over u r) (answers first u line (answered p k r) y))
+        let c = closes w k ss r same in
+        Then tag None w (over u r) (more (over u r)) good (Passes None (over u r) c.0 c.1 (λ n h. absurd cc)) (goes_on (over u r) (kept u r y))
 
     abbrev rest : Outcome → List World
     rest o = worlds_after o.0 o.1 p.follows ++ over (finish p o.0 o.1) o.1 ∷ more (over (finish p o.0 o.1) o.1)
 
     ends : (tag : Option ℕ) (w : World) (r : Option Refusal) → Good tag w → PlanFin p tag w r → Chain tag w (rest (w, r))
-    ends tag w None good k = answer-chain tag w (p.last w.control) (last w.control).0 None (last w.control).1 good k
+    ends tag w None good k = close-chain tag w (p.last w.control) (last w.control).0 None (last w.control).1 good k
     ends tag w (Some (StoppedIn s)) good a =
         let r : Option Refusal = Some (StoppedIn s) in
-        entries-chain EndFin (λ o. over o.0 r ∷ more (over o.0 r)) (λ tag u x good k. answer-chain tag u u.control u.control.sessions r refl good k) good-end (p.follows s.0) tag w a
-    ends tag w (Some r) good k = answer-chain tag w w.control w.control.sessions (Some r) refl good k
+        entries-chain EndFin (λ o. over o.0 r ∷ more (over o.0 r)) (λ tag u x good k. close-chain tag u u.control u.control.sessions r refl good k) good-end (p.follows s.0) tag w a
+    ends tag w (Some r) good k = close-chain tag w w.control w.control.sessions (Some r) refl good k
 
     pub plan-chain : K first → PlanFair first p → Chain None first (begun first p ∷ (worlds (begun first p) p.entries ++ rest (carry (begun first p) p.entries)))
     plan-chain k fair =
         Then None None first (begun first p) _ (good-none first (rows first k)) (Passes None (begun first p) fair.told fair.begins (λ n h. absurd cc)) (entries-chain (PlanFin p) rest ends (good-plan p last) p.entries None (begun first p) fair.entries)
 
+    -- the same as its moments are listed
+    pub moments-chain : K first → PlanFair first p → let o : Outcome = carry (begun first p) p.entries in
+        Chain None first (plan_moments first p ++ (over (finish p o.0 o.1) o.1 ∷ more (over (finish p o.0 o.1) o.1)))
+    moments-chain k fair =
+        let o : Outcome = carry (begun first p) p.entries in
+        subst (λ us. Chain None first (begun first p ∷ us)) (sym (append_assoc (worlds (begun first p) p.entries) (worlds_after o.0 o.1 p.follows) _)) (plan-chain k fair)
+
   -- a run whose plans are fair
-  module _ (each : (w : World) (t : Task) → K w → PlanFair w (plan w.control w.events t.line t.asked)) where
-    joins : (a b d : List World) (c : World) → ((a ++ b) ++ c ∷ []) ++ d ≡ a ++ (b ++ c ∷ d)
-    joins a b d c = append_assoc (a ++ b) (c ∷ []) d ∙ append_assoc a b (c ∷ d)
+  module _ (loses : (first w : World) → K w → K (masters_lost first w)) (each : (w : World) (line : ℕ) (p : Plan) → Case w.control w.events line p → K w → PlanFair w p) where
+    -- what comes after a way, by the world that it led to and the refusal that ended it
+    abbrev After : Type 0
+    After = World → Option Refusal → List World
+
+    abbrev Follows : After → Type 0
+    Follows more = (v : World) (r : Option Refusal) → K v → Chain None v (more v r)
+
+    abbrev WayChains : World → Way → Type 0
+    WayChains w x = (more : After) → Follows more → K w → Chain None w (parts_moments x.parts ++ more x.world x.refusal)
+
+    parts-append : (xs ys : List Part) → parts_moments (xs ++ ys) ≡ parts_moments xs ++ parts_moments ys
+    unfolding parts_moments
+    parts-append [] ys = refl
+    parts-append (x ∷ xs) ys =
+        ap (λ us. part_moments x ++ (after_part x.world x.plan ∷ us)) (parts-append xs ys)
+        ∙ sym (append_assoc (part_moments x) (after_part x.world x.plan ∷ parts_moments xs) (parts_moments ys))
+
+    stands-chains : (w : World) (r : Option Refusal) → WayChains w (record { parts = []; world = w; refusal = r })
+    unfolding parts_moments
+    stands-chains w r more follows k = follows w r k
+
+    one-chains : (w : World) (p : Plan) → Comes w p → WayChains w (record { parts = record { world = w; plan = p } ∷ []; world = after_part w p; refusal = part_refusal w p })
+    unfolding parts_moments
+    one-chains w p comes more follows k =
+        let fair : PlanFair w p = each w 0 p (comes.case 0) k in
+        let r : Option Refusal = part_refusal w p in
+        subst (λ us. Chain None w us) (sym (append_assoc (plan_moments w p) (after_part w p ∷ []) (more (after_part w p) r)))
+        (moments-chain w p fair.last (λ u r. masters_lost w u) (lost-closes w) (λ u r k. loses w u k) (λ v. more v r) (λ v k. follows v r k) k fair)
+
+    then-chains : (w u : World) (xs : List Part) (r : Option Refusal) (more : World → Way) → WayChains w (record { parts = xs; world = u; refusal = r }) → ((v : World) → WayChains v (more v)) → WayChains w (goes_on xs u r more)
+    then-chains w u xs r next first go more follows k = by r (first behind on k)
+      where
+        behind : After
+        behind v None = parts_moments (next v).parts ++ more (next v).world (next v).refusal
+        behind v (Some r) = more v (Some r)
+
+        on : Follows behind
+        on v None k = go v more follows k
+        on v (Some r) k = follows v (Some r) k
+
+        by : (r : Option Refusal) → Chain None w (parts_moments xs ++ behind u r) → let x : Way = goes_on xs u r next in Chain None w (parts_moments x.parts ++ more x.world x.refusal)
+        by None c =
+            let x : Way = next u in
+            subst (λ us. Chain None w us) (sym (append_assoc (parts_moments xs) (parts_moments x.parts) (more x.world x.refusal)) ∙ ap (λ us. us ++ more x.world x.refusal) (sym (parts-append xs x.parts))) c
+        by (Some r) c = c
+
+    ways : Ways WayChains
+    ways = record { stands = stands-chains; one = one-chains; then = then-chains }
+
+    -- the last plan of a step
+    last-chain : (line : ℕ) (x : Part) → Case x.world.control x.world.events line x.plan → (more : World → List World) → ((v : World) → K v → Chain None v (more v)) → K x.world
+        → Chain None x.world (part_moments x ++ (answered_part line x ∷ more (answered_part line x)))
+    unfolding after_plan
+    last-chain line x case more goes_on k =
+        let w : World = x.world in
+        let fair : PlanFair w x.plan = each w line x.plan case k in
+        moments-chain w x.plan fair.last (λ u r. ended w u line (answered x.plan u.control r)) (said-closes w line x.plan) (λ u r k. answers w u line _ k) more goes_on k fair
 
     task-chain : (w : World) (t : Task) → K w → (more : World → List World) → ((v : World) → K v → Chain None v (more v)) → Chain None w (task_moments w t ++ more (after_task w t))
-    unfolding after_plan
+    unfolding parts_moments
     task-chain w t k more goes_on =
-        let p : Plan = plan w.control w.events t.line t.asked in
-        let o : Outcome = carry (begun w p) p.entries in
-        subst (λ us. Chain None w (begun w p ∷ us)) (sym (joins (worlds (begun w p) p.entries) (worlds_after o.0 o.1 p.follows) (more (after_task w t)) (after_task w t)))
-        (plan-chain w t.line p (each w t k).last more goes_on k (each w t k))
+        let x : Part = (course w t).last in
+        subst (λ us. Chain None w us) (sym (append_assoc (parts_moments (course w t).before) (part_moments x ++ after_task w t ∷ []) (more (after_task w t)) ∙ ap (λ us. parts_moments (course w t).before ++ us) (append_assoc (part_moments x) (after_task w t ∷ []) (more (after_task w t)))))
+        (by (run_asked t.asked))
+      where
+        ended_by : Part → List World
+        ended_by x = part_moments x ++ (answered_part t.line x ∷ more (answered_part t.line x))
+
+        by : (o : Option (ℕ × ℕ)) → let c : Course = course_of w t o in Chain None w (parts_moments c.before ++ ended_by c.last)
+        by None = last-chain t.line (record { world = w; plan = plan w.control w.events t.line t.asked }) (plan-case w.control w.events t.line t.asked) more goes_on k
+        by (Some asked) =
+            way-formed WayChains ways w asked.0 asked.1 (λ v r. ended_by (record { world = v; plan = only_says (form_said asked.0 v.control r) }))
+            (λ v r k. last-chain t.line (record { world = v; plan = only_says (form_said asked.0 v.control r) }) (Says (form_said asked.0 v.control r)) more goes_on k) k
 
     pub run-chain : (tasks : List Task) (w : World) → K w → Chain None w (moments_from w tasks)
     unfolding moments_from

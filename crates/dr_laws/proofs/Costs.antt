@@ -11,7 +11,7 @@ use Rattle.dr_model.specs.Layout.{Tracks}
 use Rattle.dr_model.specs.Relations.{rest, in_order, is_bare}
 use Rattle.dr_model.specs.Control.{Control, Fuse, Volume, World}
 use Rattle.dr_model.specs.Moves.{Move, Land, Overwrite, LandBoth, Hold, target, told, told_in_stop, told_blank, told_restored, landed}
-use Rattle.dr_model.specs.Carry.{Act, Make, OpenAttempt, Redo, Acknowledge, Drop, EndFreeze, EndThaw, Next, Pass, Do, End, Entry, Outcome, carry, continue, go, check, now}
+use Rattle.dr_model.specs.Carry.{Act, Make, OpenAttempt, Redo, Acknowledge, Drop, EndFreeze, EndThaw, EndRecovery, Next, Pass, Do, End, Entry, Outcome, carry, continue, go, check, now}
 use Rattle.dr_laws.proofs.Turns.{act-cases, Counts, after_act, server_of, done}
 
 -- no more tracks stand in order than a volume has
@@ -53,6 +53,7 @@ tells w (Acknowledge n) = 1
 tells w (Drop n) = 0
 tells w (EndFreeze l m) = 1
 tells w (EndThaw l m) = 1
+tells w (EndRecovery s n) = 1
 
 -- entries that tell n events at most; an act for which the server is off is passed over
 abbrev pub costs_next : ℕ → World → Next → (ℕ → World → Type 0) → Type 0
@@ -101,6 +102,7 @@ done-adds w (Acknowledge n) f = length-append w.events _
 done-adds w (Drop n) f = omega arith
 done-adds w (EndFreeze l m) f = length-append w.events _
 done-adds w (EndThaw l m) f = length-append w.events _
+done-adds w (EndRecovery s n) f = length-append w.events _
 
 stop-adds : (n : ℕ) (w : World) (m : Move) → length (told m (w.control.volume (target m))) ≤ n → let u : Volume = w.control.volume (target m) in length (w.events ++ (told_in_stop m u ++ Stopped u.server (landed m) ∷ [])) ≤ length w.events + n + 1
 stop-adds n w m le =
@@ -119,6 +121,7 @@ counts-adds n w (Acknowledge k) next le = tt
 counts-adds n w (Drop k) next le = tt
 counts-adds n w (EndFreeze l m) next le = tt
 counts-adds n w (EndThaw l m) next le = tt
+counts-adds n w (EndRecovery s i) next le = tt
 
 go-adds : (n : ℕ) (w : World) (x : Next) (next : World → Outcome) (more : ℕ → World → Type 0) → ((m : ℕ) (v : World) → more m v → length (next v).0.events ≤ length v.events + m + 1) → costs_next n w x more
     → length (go w x next).0.events ≤ length w.events + n + 1

@@ -1,6 +1,7 @@
 -- Which targets count, and when a member's target may go.
 use Rattle.std.proofs.Common.{ℕ, ◌≡◌, inl, inr, refl, ap, sym, ◌∙◌, Bool, true, false, cond, not, ◌||◌, List, [], ◌∷◌, map, filter, Option, Some, None}
-use Rattle.std.specs.Prelude.{◌==◌}
+use Rattle.std.specs.Prelude.{◌==◌, option_map}
+use Rattle.std.proofs.lemmas.Bool.{eq-eqb, eqb-true}
 use Rattle.std.specs.List.{find}
 use Rattle.std.specs.Option.{option_or}
 use Rattle.dr_ids.specs.declared.names.Member.{Member}
@@ -12,11 +13,11 @@ use Rattle.dr_model.specs.Control.{Control, World}
 use Rattle.dr_model.specs.Entries.{fields_at}
 use Rattle.dr_model.specs.Sessions.{Session, session_in, members_in}
 use Rattle.dr_model.specs.SessionEntries.{counts_at, shown_at, shown_by_members}
-use Rattle.dr_model.specs.Plans.{counted_refusal, secondary_refusal, leaves_all, forbidden_unless, decided_in, restore_refusal}
+use Rattle.dr_model.specs.Plans.{left_by, counted_refusal, secondary_refusal, leaves_all, forbidden_unless, decided_in, restore_refusal}
 use Rattle.dr_model.specs.Groups.{In, Groups}
-use Rattle.dr_model.specs.Attempts.{Seen, seen, seen_in, roles, NoneRevertible, DoesNotCount, MayGo, MayFollow}
+use Rattle.dr_model.specs.Attempts.{Seen, seen, seen_in, roles, NoneRevertible, DoesNotCount, MayGo, GoesAs, MayFollow}
 use Rattle.dr_model.specs.Laws.{Sound}
-use Rattle.dr_groups.proofs.Lists.{from-map, to-map, to-filter}
+use Rattle.dr_groups.proofs.Lists.{from-map, to-map, to-filter, found, not-found}
 use Rattle.dr_groups.proofs.Changes.{session-found, none-numbered, same-session}
 use Rattle.dr_phases.proofs.Moves.{unrelated-uncounted}
 use Rattle.dr_phases.proofs.Tables.{counts-here}
@@ -120,6 +121,24 @@ module _ (w : World) (s : Sound w) where
           or-right : (a b : Bool) → b ≡ true → (a || b) ≡ true
           or-right true b h = refl
           or-right false b h = h
+
+  -- and is told of as that of its member
+  pub goes-as : (t : ℕ) → GoesAs k t (left_by k t) (fields_at k t).session
+  goes-as t member x m listed here is = (ap (λ b. option_map (λ (m : Member). m.a.0) (cond b (find (λ m. m.c.0 == t) (members_in (session_in k.sessions (fields_at k t).session))) None)) member ∙ (ap (option_map (λ (m : Member). m.a.0)) its), number)
+    where
+      number : (fields_at k t).session ≡ x.number
+      number =
+          let c = (s.attempts.volumes t).counted (ap (λ b. b || (fields_at k t).revertible) member) in
+          sym c.number ∙ (s.groups.lone.one t c.session x c.member m c.listed listed c.here here (inr (inr (sym c.is))) (inr (inr (sym is)))).0
+
+      by : (o : Option Member) → find (λ (m : Member). m.c.0 == t) x.members ≡ o → o ≡ Some m
+      by None none = false_true (not-found (λ (m : Member). m.c.0 == t) x.members m none here) (eq-eqb m.c.0 t is)
+      by (Some q) there =
+          let f = found (λ (m : Member). m.c.0 == t) x.members q there in
+          ap (λ q. Some q) (s.groups.lone.one t x x q m listed listed f.0 here (inr (inr (sym (eqb-true q.c.0 t f.1)))) (inr (inr (sym is)))).1
+
+      its : find (λ (m : Member). m.c.0 == t) (members_in (session_in k.sessions (fields_at k t).session)) ≡ Some m
+      its = ap (λ n. find (λ (m : Member). m.c.0 == t) (members_in (session_in k.sessions n))) number ∙ (ap (λ o. find (λ (m : Member). m.c.0 == t) (members_in o)) (listed-found k s.groups x listed) ∙ by (find (λ (m : Member). m.c.0 == t) x.members) refl)
 
   -- a volume without a revertible target may become a secondary
   pub may-follow : (v : ℕ) → ((u : ℕ) → from w u ≡ Some v → (fields_at k u).revertible ≡ true → ⊥) → MayFollow k v

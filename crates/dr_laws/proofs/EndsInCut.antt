@@ -1,13 +1,12 @@
 -- Where a sound window ends with the run, the devices contain the cut.
-use Rattle.std.proofs.Common.{ℕ, ◌≡◌, ◌<◌, refl, ap, sym, ◌∙◌, subst, true, List, [], ◌∷◌, ◌++◌, None}
+use Rattle.std.proofs.Common.{ℕ, ◌≡◌, ◌<◌, refl, ap, sym, ◌∙◌, subst, true, List, [], ◌∷◌, ◌++◌, append_assoc, None}
 use Rattle.std.proofs.lemmas.List.{append-nil}
 use Rattle.dr_model.specs.Layout.{Blocks}
 use Rattle.dr_model.specs.Control.{World, nothing, is_volume}
 use Rattle.dr_model.specs.WriteEntries.{partner_of}
 use Rattle.dr_model.specs.Fits.{on_device}
-use Rattle.dr_model.specs.Runs.{Task, after_task, after_tasks, run}
-use Rattle.dr_laws.specs.Moments.{plan_moments, moments_from, moments}
-use Rattle.dr_model.specs.Plans.{plan}
+use Rattle.dr_model.specs.Runs.{Task, course, after_task, after_tasks, run}
+use Rattle.dr_laws.specs.Moments.{part_moments, parts_moments, moments_from, moments}
 use Rattle.dr_laws.specs.Windows.{last_of, FreezeCut, EndsInCut}
 use Rattle.dr_laws.proofs.Windows.{Ends, window-ends}
 use Rattle.dr_laws.proofs.FairSteps.{chain-of}
@@ -24,7 +23,11 @@ last-step (u ∷ us) w v more = last-step us u v more
 last-from : (tasks : List Task) (w : World) → last_of w (moments_from w tasks) ≡ after_tasks w tasks
 unfolding moments_from after_tasks
 last-from [] w = refl
-last-from (t ∷ ts) w = last-step (plan_moments w (plan w.control w.events t.line t.asked)) w (after_task w t) (moments_from (after_task w t) ts) ∙ last-from ts (after_task w t)
+last-from (t ∷ ts) w =
+    let before : List World = parts_moments (course w t).before in
+    let last : List World = part_moments (course w t).last in
+    let u : World = after_task w t in
+    ap (λ us. last_of w (us ++ moments_from u ts)) (sym (append_assoc before last (u ∷ []))) ∙ last-step (before ++ last) w u (moments_from u ts) ∙ last-from ts u
 
 last-moment : (tasks : List Task) (before later : List World) (first : World) → moments tasks ≡ before ++ (first ∷ later) → last_of first later ≡ run tasks
 last-moment tasks before later first is = sym (last-behind before nothing first later) ∙ ap (last_of nothing) (sym is) ∙ last-from tasks nothing

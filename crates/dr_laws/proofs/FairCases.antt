@@ -1,5 +1,5 @@
 -- Each step's plan is fair.
-use Rattle.std.proofs.Common.{ℕ, ◌≡◌, refl, ap, Bool, true, false, cond, List, [], ◌∷◌, map, Option, Some, None}
+use Rattle.std.proofs.Common.{ℕ, ◌≡◌, refl, ap, sym, Bool, true, false, cond, List, [], ◌∷◌, map, Option, Some, None}
 use Rattle.std.proofs.lemmas.List.{append-nil}
 use Rattle.dr_ids.specs.declared.refusal.Refusal.{Refusal}
 use Rattle.dr_ids.specs.declared.refusal.Refusal.TheVariants.{Stopped as StoppedIn}
@@ -17,7 +17,7 @@ use Rattle.dr_model.specs.Moves.{Suspend, Thaw, Lift, Follow, DropPrimary, DropS
 use Rattle.dr_model.specs.PairEntries.{end_if, refuse_if, remove_both}
 use Rattle.dr_model.specs.WriteEntries.{freeze_on, end_freeze, thaw_on, end_thaw, lift_on}
 use Rattle.dr_model.specs.Plans.{Plan, counted_refusal, restore_refusal, entries_plan, flash_plan, withdraw_plan, resync_plan, reverse_plan, remove_plan, pause_plan, resume_plan, expire_plan, freeze_done, thaw_done}
-use Rattle.dr_model.specs.Runs.{said}
+use Rattle.dr_model.specs.Runs.{masters_lost, said}
 use Rattle.dr_model.specs.Table.{table}
 use Rattle.dr_model.specs.Laws.{SoundRows}
 use Rattle.dr_laws.proofs.KeepsSound.{Along}
@@ -37,6 +37,14 @@ pub answers-between : (first w : World) (line : ℕ) (a : Said) → Between w �
 answers-between first w line a k = record {
   sound = sound-lost first (said w line a) (sound-said w line a k.sound);
   tidy = tidy-same w (ended first w line a) refl refl (λ j h. h) (fresh-told w (ended first w line a) (answer line a ∷ []) refl refl k.tidy.fresh.unacked (λ n. refl) k.tidy.fresh) k.tidy;
+}
+
+pub loses-between : (first w : World) → Between w → Between (masters_lost first w)
+loses-between first w k = record {
+  sound = sound-lost first w k.sound;
+  tidy =
+      let u : World = masters_lost first w in
+      tidy-same w u refl refl (λ j h. h) (fresh-told w u [] (sym (append-nil w.events)) refl k.tidy.fresh.unacked (λ n. refl) k.tidy.fresh) k.tidy;
 }
 
 abbrev pub Fair : World → Plan → Type 0

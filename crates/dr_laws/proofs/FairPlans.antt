@@ -1,11 +1,11 @@
 -- Plans whose acts are fair wherever they come.
 use Rattle.std.proofs.Common.{ℕ, ◌≡◌, refl, sym, subst, Bool, true, false, cond, List, [], ◌∷◌, ◌++◌, map, Option, Some, None}
 use Rattle.dr_ids.specs.declared.refusal.Refusal.{Refusal}
-use Rattle.dr_model.specs.declared.event.Event.TheVariants.{Frozen, Thawed}
+use Rattle.dr_model.specs.declared.event.Event.TheVariants.{Frozen, Thawed, Recovered}
 use Rattle.dr_model.specs.Control.{Control, Fuse, World}
 use Rattle.dr_model.specs.Pairs.{next_state}
 use Rattle.dr_model.specs.Moves.{Move, Land, Restore, Store, Strike, MakePrimary, Resume, Unsync, Mirror, LandBoth, Hold, target, is_other}
-use Rattle.dr_model.specs.Carry.{Act, Make, OpenAttempt, attempt_begun, Redo, Acknowledge, Drop, EndFreeze, EndThaw, dropped, frozen, thawed, Next, Pass, Do, End, Entry, check}
+use Rattle.dr_model.specs.Carry.{Act, Make, OpenAttempt, attempt_begun, Redo, Acknowledge, Drop, EndFreeze, EndThaw, EndRecovery, dropped, frozen, thawed, recovered, Next, Pass, Do, End, Entry, check}
 use Rattle.dr_model.specs.Entries.{fields_at}
 use Rattle.dr_model.specs.Laws.{Sound}
 use Rattle.dr_laws.proofs.Turns.{done, done_in_stop, opened_in_stop, server_of, after_act}
@@ -107,6 +107,7 @@ module _ (w : World) (tidy : Tidy w) where
       tidy-same w (dropped w n) refl refl (λ j h. h) (fresh-told w (dropped w n) [] (sym (append-nil w.events)) refl (all-filter _ (is_other n) w.control.pending tidy.fresh.unacked) (λ n. refl) tidy.fresh) tidy
   act-tidy (EndFreeze l m) f may easy = tidy-same w (frozen w l m) refl refl (λ j h. h) (fresh-told w (frozen w l m) (Frozen l m ∷ []) refl refl tidy.fresh.unacked (λ n. refl) tidy.fresh) tidy
   act-tidy (EndThaw l m) f may easy = tidy-same w (thawed w l m) refl refl (λ j h. h) (fresh-told w (thawed w l m) (Thawed l m ∷ []) refl refl tidy.fresh.unacked (λ n. refl) tidy.fresh) tidy
+  act-tidy (EndRecovery s n) f may easy = tidy-same w (recovered w s n) refl refl (λ j h. h) (fresh-told w (recovered w s n) (Recovered s n ∷ []) refl refl tidy.fresh.unacked (λ n. refl) tidy.fresh) tidy
 
   act-fair : (a : Act) → MayDo w a → EasyAct w.control a → FairAct None w a
   act-fair (Make m) may easy = (may, easy-fair w m easy)
@@ -116,6 +117,7 @@ module _ (w : World) (tidy : Tidy w) where
   act-fair (Drop n) may easy = may
   act-fair (EndFreeze l m) may easy = tt
   act-fair (EndThaw l m) may easy = tt
+  act-fair (EndRecovery s n) may easy = tt
 
   act-none : (a : Act) → EasyAct w.control a → act_tag a None ≡ None
   act-none (Make m) easy = easy-tag w.control m easy
@@ -125,6 +127,7 @@ module _ (w : World) (tidy : Tidy w) where
   act-none (Drop n) easy = refl
   act-none (EndFreeze l m) easy = refl
   act-none (EndThaw l m) easy = refl
+  act-none (EndRecovery s n) easy = refl
 
 -- a sound world between steps
 pub record Between (w : World) : Type 0 where
@@ -146,6 +149,7 @@ module _ (Fin : Option ℕ → World → Option Refusal → Type 0) (fin : (w : 
   counts-fin w (Drop n) k may easy = tt
   counts-fin w (EndFreeze l m) k may easy = tt
   counts-fin w (EndThaw l m) k may easy = tt
+  counts-fin w (EndRecovery s n) k may easy = tt
 
   next-ended : (w : World) (x : Next) (more : World → Type 0) (then : Option ℕ → World → Type 0) → ((v : World) → Between v → more v → then None v) → Between w → EasyNext w.control x → Then w x more → fairly_next Fin None w x then
   next-ended w Pass more then on k easy a = on w k a

@@ -1,7 +1,9 @@
 -- Lines on sessions are fair.
-use Rattle.std.proofs.Common.{ℕ, ◌≡◌, ◌<◌, refl, ap, sym, ◌∙◌, subst, Bool, true, false, cond, not, ◌&&◌, nat_eq, nat_lt, List, [], ◌∷◌, Option, Some, None}
+use Rattle.std.proofs.Common.{ℕ, ◌≡◌, ◌<◌, refl, ap, sym, ◌∙◌, subst, Bool, true, false, cond, not, ◌&&◌, nat_eq, nat_lt, List, [], ◌∷◌, ◌++◌, map, Option, Some, None}
 use Rattle.std.proofs.lemmas.List.{append-nil}
 use Rattle.dr_ids.specs.declared.names.Member.{Member}
+use Rattle.dr_ids.specs.declared.refusal.Decision.{Decision}
+use Rattle.dr_ids.specs.declared.refusal.Decision.TheVariants.{NoMember, Nothing, RevertAll, CommitRest, RevertSome, Impossible}
 use Rattle.dr_ids.specs.declared.refusal.Refusal.{Refusal}
 use Rattle.dr_ids.specs.declared.refusal.Refusal.TheVariants.{Stopped as StoppedIn}
 use Rattle.dr_model.specs.declared.said.Said.{Said}
@@ -16,7 +18,9 @@ use Rattle.dr_model.specs.Plans.{Plan, same, none_follow}
 use Rattle.dr_model.specs.Runs.{begun}
 use Rattle.dr_model.specs.Laws.{Sound, AllPending}
 use Rattle.dr_laws.proofs.Fair.{Unacked}
-use Rattle.dr_model.specs.Moves.{Hold as HoldMove, Free, Seal as SealMove, Finish as FinishMove, RaiseAttempt, RaiseFloor, Flash as FlashMove, Commit as CommitMove, Revert as RevertMove}
+use Rattle.dr_model.specs.Moves.{Hold as HoldMove, Free, Seal as SealMove, Finish as FinishMove, RaiseAttempt, RaiseFloor, Flash as FlashMove, Commit as CommitMove, Revert as RevertMove, TakeOver}
+use Rattle.dr_model.specs.Layout.{is_part}
+use Rattle.dr_model.specs.RecoveryPlans.{take_over_on, settle_on, end_recovery, recover_entries}
 use Rattle.dr_model.specs.Pairs.{records}
 use Rattle.dr_model.specs.Entries.{fields_at}
 use Rattle.dr_model.specs.PairEntries.{reach_refusal, send_refusal}
@@ -24,7 +28,7 @@ use Rattle.dr_laws.proofs.KeepsSound.{StepHolds, RowsAt, MayDo, keeps-sound}
 use Rattle.dr_laws.proofs.FitsSessions.{Orders}
 use Rattle.dr_laws.proofs.Tidy.{tidy-same, fresh-told}
 use Rattle.dr_laws.proofs.Chains.{fairly-nil, PlanFin, EndFin, Leaves, good-none, told-unchanged}
-use Rattle.dr_laws.proofs.FairPlans.{EasyNext, AllEasy, easy-nil, easy-append, Between, easy-ended}
+use Rattle.dr_laws.proofs.FairPlans.{EasyNext, AllEasy, easy-nil, easy-cons, easy-append, Between, easy-ended}
 use Rattle.dr_laws.proofs.FairCases.{rows-between, answers-between, begun-between, easy-refuse, Fair}
 use Rattle.dr_laws.proofs.Along as along
 
@@ -122,3 +126,24 @@ easy-add m n = (
 pub easy-expel : (s : ℕ) (m : Member) → AllEasy (expel_entries s m)
 unfolding AllEasy
 easy-expel s m = ((λ k. tt), tt)
+
+-- a recovery
+easy-members : (each : Member → Entry) → ((m : Member) (k : Control) → EasyNext k (each m k)) → (ms : List Member) → AllEasy (map each ms)
+easy-members each easy [] = easy-nil
+easy-members each easy (m ∷ ms) = easy-cons (each m) (map each ms) (easy m) (easy-members each easy ms)
+
+easy-acts : (s : ℕ) (d : Decision) (m : Member) (k : Control) → EasyNext k (settle_on s d m k)
+easy-acts s NoMember m k = tt
+easy-acts s (Nothing n) m k = tt
+easy-acts s (CommitRest n) m k = choose k (is_flashed n (fields_at k m.c.0)) (Do (Make (CommitMove m.c.0 m.a.0 s n))) Pass tt tt
+easy-acts s (RevertAll n) m k = choose k (is_flashed n (fields_at k m.c.0)) (Do (Make (RevertMove m.c.0 m.a.0 s n))) Pass tt tt
+easy-acts s (RevertSome o n) m k = choose k (is_flashed n (fields_at k m.c.0)) (Do (Make (RevertMove m.c.0 m.a.0 s n))) Pass tt tt
+easy-acts s (Impossible a b) m k = tt
+
+pub easy-recover : (s : ℕ) (d : Decision) (ms : List Member) → AllEasy (recover_entries s d ms)
+easy-recover s d ms =
+    easy-append (map take_over_on ms) (map (settle_on s d) ms ++ end_recovery s ∷ []) (easy-members take_over_on (λ m k. choose k (is_part (fields_at k m.b.0).secondary) (Do (Make (TakeOver m.b.0))) Pass tt tt) ms)
+    (easy-append (map (settle_on s d) ms) (end_recovery s ∷ []) (easy-members (settle_on s d) (easy-acts s d) ms) (easy-cons (end_recovery s) [] (λ k. tt) easy-nil))
+
+pub easy-settle : (s : ℕ) (d : Decision) (m : Member) → AllEasy (settle_on s d m ∷ [])
+easy-settle s d m = easy-cons (settle_on s d m) [] (easy-acts s d m) easy-nil

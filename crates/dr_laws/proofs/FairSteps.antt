@@ -1,24 +1,36 @@
 -- Each step's plan is fair, and so the law of freeze windows holds of every run.
-use Rattle.std.proofs.Common.{ℕ, ◌≡◌, refl, Bool, true, false, cond, List, None}
+use Rattle.std.proofs.Common.{ℕ, ◌≡◌, refl, Bool, true, false, cond, List, [], ◌∷◌, None}
 use Rattle.dr_ids.specs.declared.names.Member.{Member}
 use Rattle.dr_model.specs.Phases as phases
 use Rattle.dr_model.specs.Sessions.{Session, joined, left, changed, mirrored_by, paused, unmirrored, with_master}
 use Rattle.dr_model.specs.SessionEntries.{first_number, add_entries, expel_entries, order_entries, members_on}
 use Rattle.dr_model.specs.SessionPlans.{table_plan, member_with, answered_by}
 use Rattle.dr_model.specs.Control.{Control, World, nothing}
-use Rattle.dr_model.specs.Plans.{Plan, same}
+use Rattle.dr_model.specs.Plans.{Plan, same, always}
+use Rattle.dr_model.specs.RecoveryPlans.{decided_in, settle_on, recover_entries, says_recovered}
+use Rattle.dr_model.specs.Carry.{Entry}
+use Rattle.dr_model.specs.Laws.{Sound}
+use Rattle.dr_model.specs.declared.said.Said.{Said}
+use Rattle.dr_model.specs.declared.said.Said.TheVariants.{Done}
+use Rattle.dr_model.specs.declared.said.Addition.TheVariants.{Alone}
+use Rattle.dr_ids.specs.declared.refusal.Decision.{Decision}
 use Rattle.dr_model.specs.Runs.{Task}
 use Rattle.dr_laws.specs.Moments.{moments_from}
 use Rattle.dr_laws.specs.Windows.{FreezeCut}
-use Rattle.dr_laws.proofs.Cases.{Case, Says, Defines, Adds, Links, Issues, Writes, Applies, Shows, Stops, Arms, Starts, Flashes, Withdraws, Resyncs, Reverses, Copies, Paths, Unpaths, MakesPair, RemovesPair, Pauses, ResumesPair, Drains, Expires, Freezes, Thaws, JoinsSession, LeavesSession, Mirrors, PausesMirror, Unmirrors, Aborts, AddsMember, Expels, Exchanges, added, expelled, aborted, ordered, plan-case}
+use Rattle.dr_closed.proofs.Regroups.{regroups-same}
+use Rattle.dr_laws.proofs.Cases.{Case, Says, Defines, Adds, Links, Issues, Writes, Applies, Shows, Stops, Arms, Starts, Flashes, Withdraws, Resyncs, Reverses, Copies, Paths, Unpaths, MakesPair, RemovesPair, Pauses, ResumesPair, Drains, Expires, Freezes, Thaws, JoinsSession, LeavesSession, Mirrors, PausesMirror, Unmirrors, Aborts, AddsMember, Expels, Exchanges, Recovers, Settles, added, expelled, aborted, ordered}
 use Rattle.dr_laws.proofs.Steps.{sound-nothing, case-holds}
 use Rattle.dr_laws.proofs.FitsMembers.{orders-added, orders-expelled}
 use Rattle.dr_laws.proofs.FitsOrders.{orders-ordered}
-use Rattle.dr_laws.proofs.FairSessions.{fair-sessions, fair-leaving, easy-add, easy-expel, easy-order}
+use Rattle.dr_laws.proofs.FitsRecovery.{along-recover, along-settle}
+use Rattle.dr_laws.proofs.FitsSessions.{Orders}
+use Rattle.dr_laws.proofs.FitsFlash.{as_begun, sound-begun}
+use Rattle.dr_laws.proofs.KeepsSound.{Along, over}
+use Rattle.dr_laws.proofs.FairSessions.{leaving, fair-sessions, fair-leaving, easy-add, easy-expel, easy-order, easy-recover, easy-settle}
 use Rattle.dr_laws.proofs.Windows.{Chain, freeze-cut}
 use Rattle.dr_laws.proofs.Chains.{run-chain}
 use Rattle.dr_laws.proofs.FairPlans.{Between}
-use Rattle.dr_laws.proofs.FairCases.{rows-between, answers-between, Fair, fair-flash, fair-withdraw, fair-resync, fair-reverse, fair-freeze, fair-thaw, fair-expire, fair-pause, fair-resume, fair-remove}
+use Rattle.dr_laws.proofs.FairCases.{rows-between, answers-between, loses-between, Fair, fair-flash, fair-withdraw, fair-resync, fair-reverse, fair-freeze, fair-thaw, fair-expire, fair-pause, fair-resume, fair-remove}
 use Rattle.dr_laws.proofs.FairTables.{fair-says, fair-defines, fair-links, fair-shows, fair-stops, fair-arms, fair-paths, fair-unpaths, fair-adds, fair-issues}
 use Rattle.dr_laws.proofs.FairPairs.{fair-pair}
 use Rattle.dr_laws.proofs.FairCopy.{fair-copy}
@@ -36,6 +48,10 @@ between-nothing = record {
     fresh = record { unacked = tt; later = λ n lt. refl };
   };
 }
+
+-- a plan of entries that are allowed along
+alone : (w : World) → Sound w → (entries : List Entry) (says : Control → Said) → Along (as_begun w) entries → Orders w (leaving entries same says)
+alone w s entries says a = record { ends = Sound; complete = λ v y. y; begins = sound-begun w s; entries = a; follows = λ q v y. over v y; last = λ v y. y; turns = λ v y. regroups-same v.control.sessions }
 
 fair-case : (w : World) (k : Between w) (line : ℕ) (p : Plan) → Case w.control w.events line p → Fair w p
 fair-case w k line _ (Says a) = fair-says w k line a
@@ -75,6 +91,12 @@ fair-case w k line _ (AddsMember i a c x joins) =
     let n : ℕ = first_number w.control x.last m in
     fair-leaving w k (add_entries m n) (added w.control i x m).last (added w.control i x m).says (λ k. (_, refl)) (orders-added w k.sound i a c x joins) (easy-add m n)
 fair-case w k line _ (Expels i a x m found is idle on) = fair-leaving w k (expel_entries i m) (expelled i m).last (expelled i m).says (λ k. (_, refl)) (orders-expelled w k.sound i a x m found is idle on) (easy-expel i m)
+fair-case w k line _ (Recovers i x found on) =
+    let d : Decision = decided_in i w.control in
+    fair-leaving w k (recover_entries i d x.members) same (says_recovered i d) (λ k. (k.sessions, refl)) (alone w k.sound (recover_entries i d x.members) (says_recovered i d) (along-recover w k.sound i x found on)) (easy-recover i d x.members)
+fair-case w k line _ (Settles i x m found here on free) =
+    let d : Decision = decided_in i w.control in
+    fair-leaving w k (settle_on i d m ∷ []) same (always (Done Alone)) (λ k. (k.sessions, refl)) (alone w k.sound (settle_on i d m ∷ []) (always (Done Alone)) (along-settle w k.sound i x found on free m here)) (easy-settle i d m)
 fair-case w k line _ (Exchanges i server reply x r o allowed) =
     let ms : List Member = members_on server x.members in
     fair-leaving w k (order_entries o.work i o.number ms) (ordered i server reply ms o).last (ordered i server reply ms o).says (by reply) (orders-ordered w k.sound i server x r o allowed reply) (easy-order o.work i o.number ms)
@@ -85,7 +107,7 @@ fair-case w k line _ (Exchanges i server reply x r o allowed) =
 
 -- the moments of a run
 pub chain-of : (tasks : List Task) → Chain None nothing (moments_from nothing tasks)
-chain-of tasks = run-chain Between rows-between answers-between (λ w t k. fair-case w k t.line _ (plan-case w.control w.events t.line t.asked)) tasks nothing between-nothing
+chain-of tasks = run-chain Between rows-between answers-between loses-between (λ w line p case k. fair-case w k line p case) tasks nothing between-nothing
 
 pub cut-run : (tasks : List Task) → FreezeCut tasks
 cut-run tasks = freeze-cut tasks None (chain-of tasks)

@@ -21,7 +21,7 @@ use Rattle.dr_model.specs.Allowed.{MayResync, Runs}
 use Rattle.dr_laws.proofs.Sets.{false_true, no_source, from_source}
 use Rattle.dr_laws.proofs.RowsAfter.{idle}
 use Rattle.dr_laws.proofs.KeepsSound.{Along, Then, StepHolds, holds-moves, over, decides, moves, checked}
-use Rattle.dr_laws.proofs.Counting.{no-target, uncounted, may-go}
+use Rattle.dr_laws.proofs.Counting.{no-target, uncounted, may-go, goes-as}
 use Rattle.dr_laws.proofs.CopyFirst.{from, copies-from, from-copies, any-has}
 
 -- an entry that ends the plan where there is a refusal
@@ -189,7 +189,7 @@ module _ (w : World) (x : Sound w) where
           alone = λ u h r. alone u h (or-right (fields_at w.control u).revertible _ r);
         };
         fits = tt;
-        group = may-go first begins t settled may.settled;
+        group = (may-go first begins t settled may.settled, goes-as first begins t);
         ready = idle first t begins.queue on_t;
       }) (λ f j. over _ j))))))
 

@@ -18,7 +18,7 @@ use Rattle.dr_model.specs.PairEntries.{reach_refusal, send_refusal}
 use Rattle.dr_model.specs.SessionEntries.{first_number, raise_attempt_on, raise_floor_on}
 use Rattle.dr_model.specs.SessionPlans.{off_refusal, member_with, mirrored_targets, is_mirrored_target, settled_target, the_only}
 use Rattle.dr_model.specs.Groups.{In, MemberStands}
-use Rattle.dr_model.specs.Attempts.{MayGo, NoneRevertible, seen, seen_in, roles}
+use Rattle.dr_model.specs.Attempts.{MayGo, GoesAs, NoneRevertible, seen, seen_in, roles}
 use Rattle.dr_model.specs.Laws.{FlashFits, PartnerFits, Sound}
 use Rattle.dr_model.specs.Allowed.{Runs}
 use Rattle.dr_groups.specs.Frames.{Framed, NoPlace}
@@ -39,6 +39,7 @@ use Rattle.dr_laws.proofs.Sets.{has_source, none_some}
 use Rattle.dr_laws.proofs.Turns.{done}
 use Rattle.dr_laws.proofs.RowsAfter.{idle}
 use Rattle.dr_laws.proofs.KeepsSound.{MayDo, Then, over}
+use Rattle.dr_closed.proofs.Regroups.{regroups-added, regroups-removed}
 use Rattle.dr_laws.proofs.Cases.{Joins, added, expelled, one-passed, or-passed, met, is-not}
 use Rattle.dr_laws.proofs.CopyFirst.{from, copies-from}
 use Rattle.dr_laws.proofs.FitsFlash.{as_begun, sound-begun}
@@ -219,6 +220,7 @@ module _ (w : World) (s : Sound w) where
       entries = raises;
       follows = λ q v y. over v y;
       last = joined;
+      turns = λ v e. regroups-added v.control.sessions e.kept.sound.groups.once i n x m (ap (λ ss. session_in ss i) e.kept.frame.sessions ∙ joins.found) (quiet-of x (taken-quiet w.control x a joins.free)) (ap (λ ss. find (has_place_of m) ss) e.kept.frame.sessions ∙ none);
     }
 
   -- ---- a member less
@@ -242,11 +244,14 @@ module _ (w : World) (s : Sound w) where
         plain = quiet (seen (roles w.control) m) (to-map (seen (roles w.control)) x.members m here);
         settled = λ member y q h j e. subst (λ z. NoneRevertible (seen_in w.control z)) (lone y q h j e) quiet;
       } in
+      let goes : GoesAs w.control m.c.0 (Some m.a.0) i = λ member y q h j e.
+      let one = s.groups.lone.one m.c.0 x y m q listed h here j (inr (inr refl)) (inr (inr (sym e))) in
+      (ap (λ (q : Member). Some q.a.0) one.1, sym (session-found w.control.sessions i x found).1 ∙ one.0) in
       record {
         ends = Gone m;
         complete = λ v e. e.kept.sound;
         begins = sound-begun w s;
-        entries = along.along-now Sound Sound (Gone m) MayDo first leave [] (record { runs = runs; allowed = tt; fits = tt; group = free; ready = idle first m.c.0 begins.sound.queue runs })
+        entries = along.along-now Sound Sound (Gone m) MayDo first leave [] (record { runs = runs; allowed = tt; fits = tt; group = (free, goes); ready = idle first m.c.0 begins.sound.queue runs })
             (λ f y. along.along-nil Sound Sound (Gone m) MayDo _ (record { kept = kept-done w first leave f begins y; plain = ap (λ (z : Volume). z.fields.member) (at_same w.control.volume m.c.0 (row first leave f)) }));
         follows = λ q v y. over v y;
         last = λ v e.
@@ -255,4 +260,5 @@ module _ (w : World) (s : Sound w) where
             (attempts-removed v.control i m.a.0 x e.kept.sound.groups e.kept.sound.attempts f idles (λ q h same.
             let one = e.kept.sound.groups.lone.one m.a.0 x x m q (session-found v.control.sessions i x f).0 (session-found v.control.sessions i x f).0 here h (inl refl) (inl (sym same)) in
             subst (λ (z : Member). (fields_at v.control z.c.0).member ≡ false) one.1 e.plain)) e.kept.sound;
+        turns = λ v e. regroups-removed v.control.sessions e.kept.sound.groups.once i m.a.0;
       }

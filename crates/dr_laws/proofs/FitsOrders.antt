@@ -18,7 +18,7 @@ use Rattle.dr_model.specs.Moves.{Move, Hold, Free, Seal, Flash, Commit, Revert, 
 use Rattle.dr_model.specs.Carry.{Make, OpenAttempt, Pass, Do, Entry}
 use Rattle.dr_model.specs.Entries.{fields_at, pair_state}
 use Rattle.dr_model.specs.PairEntries.{reach_refusal, send_refusal, belongs_to, end_if, refuse_if}
-use Rattle.dr_model.specs.SessionEntries.{last_of, may_hold, hold_refusal, stale_refusal, hold_on, void_refusal, free_on, is_drained, seal_refusal, seal_on, is_flashed, flash_refusal, flash_on, is_committed, commit_refusal, commit_on, revert_on, is_past, finish_on, member_entries, members_on, order_entries}
+use Rattle.dr_model.specs.SessionEntries.{last_of, may_hold, hold_refusal, stale_refusal, hold_on, void_refusal, free_on, is_drained, seal_refusal, seal_on, is_flashed, flash_refusal, flash_on, is_committed, commit_refusal, commit_on, revert_on, is_past, finish_on, member_entries, members_on, order_entries, reply_after}
 use Rattle.dr_model.specs.SessionPlans.{is_idle, off_refusal, phase_refusal, apart_refusal, answered_by}
 use Rattle.dr_model.specs.PlanParts.{same}
 use Rattle.dr_model.specs.Groups.{In, Groups, SessionFits, MemberStands, IsRecorder}
@@ -41,6 +41,8 @@ use Rattle.dr_laws.proofs.Sets.{has_source, bare-has, false_true}
 use Rattle.dr_laws.proofs.Turns.{carried_in, done, after_act}
 use Rattle.dr_laws.proofs.RowsAfter.{idle}
 use Rattle.dr_laws.proofs.KeepsSound.{MayDo, Then, over}
+use Rattle.dr_closed.specs.Regroups.{Regroups}
+use Rattle.dr_closed.proofs.Regroups.{regroups-same, regroups-taken}
 use Rattle.dr_laws.proofs.Cases.{Ordered, ordered, or-passed, met}
 use Rattle.dr_laws.proofs.FitsFlash.{as_begun, sound-begun}
 use Rattle.dr_laws.proofs.FitsPairs.{reached, its-first, its-second}
@@ -641,6 +643,10 @@ module _ (w : World) (s : Sound w) (i server : ℕ) (x : Session) (r : Mirror) (
       (subst (λ qs. Attempts (answered_by i server o.work (members_on server qs) v.control)) e.among (with-answered v.control i server o.work e.session e.sound.groups e.sound.attempts e.found e.lost e.does)) e.sound
   answers false v e = e.sound
 
+  turns : (reply : Bool) (v : World) → Answers v → Regroups v.control.sessions ((cond reply (answered_by i server o.work ms) same) v.control).sessions
+  turns true v e = regroups-taken v.control.sessions e.sound.groups.once i server (reply_after i o.work ms v.control)
+  turns false v e = regroups-same v.control.sessions
+
   pub orders-ordered : (reply : Bool) → Orders w (ordered i server reply ms o)
   orders-ordered reply = record {
     ends = Answers;
@@ -649,4 +655,5 @@ module _ (w : World) (s : Sound w) (i server : ℕ) (x : Session) (r : Mirror) (
     entries = entries-by o.work refl;
     follows = λ q v y. over v y;
     last = answers reply;
+    turns = turns reply;
   }

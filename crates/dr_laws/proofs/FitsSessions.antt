@@ -13,6 +13,7 @@ use Rattle.dr_model.specs.Laws.{Sound}
 use Rattle.dr_groups.proofs.PlanTables.{no-maker, owned-volume}
 use Rattle.dr_groups.proofs.Tables.{groups-lost, groups-joined, groups-left, groups-mirrored, groups-paused, groups-unmirrored, groups-aborted}
 use Rattle.dr_phases.proofs.Tables.{with-lost, with-joined, with-left, with-mirrored, with-paused, with-unmirrored, with-aborted}
+use Rattle.dr_closed.specs.Regroups.{Regroups}
 use Rattle.dr_laws.proofs.Cases.{aborted}
 use Rattle.dr_laws.proofs.FitsFlash.{as_begun, sound-begun}
 use Rattle.dr_laws.proofs.KeepsSound.{Along, MayDo, StepHolds, keeps-sound, holds-moves, over}
@@ -70,6 +71,7 @@ pub record Orders (w : World) (p : Plan) : Type 1 where
   pub entries : along.Along Sound Sound ends MayDo (begun w p) p.entries
   pub follows : (s : ℕ) (v : World) → Sound v → Along v (p.follows s)
   pub last : (v : World) → ends v → Sound (record v { control = p.last v.control })
+  pub turns : (v : World) → ends v → Regroups v.control.sessions (p.last v.control).sessions
 
 pub holds-orders : (w : World) (p : Plan) → Orders w p → StepHolds w p
 holds-orders w p o = record {

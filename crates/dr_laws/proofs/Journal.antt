@@ -1,16 +1,15 @@
 -- What acts and steps leave of a world: the writes issued so far, what is within limits, and the journal, which only grows.
-use Rattle.std.proofs.Common.{ℕ, ◌≡◌, ◌≤◌, ◌<◌, ◌+◌, List, [], ◌∷◌, ◌++◌, length, map, filter, refl, ap, ◌∙◌, sym, arith, Bool, true, false, ◌||◌, cond, Option, Some, None, Result, append_assoc, subst}
+use Rattle.std.proofs.Common.{ℕ, ◌≡◌, ◌≤◌, ◌<◌, ◌+◌, List, [], ◌∷◌, ◌++◌, length, map, filter, refl, ap, ◌∙◌, sym, arith, Bool, true, false, ◌||◌, cond, Option, Some, None, append_assoc, subst}
 use Rattle.std.specs.List.{list_any}
 use Rattle.std.proofs.lemmas.List.Folds.{list_any-append}
 use Rattle.std.proofs.lemmas.List.{append-nil, length-append}
 use Rattle.dr_ids.specs.declared.refusal.Refusal.{Refusal}
 use Rattle.dr_ids.specs.declared.refusal.Refusal.TheVariants.{Stopped as StoppedIn}
 use Rattle.dr_model.specs.declared.event.Event.{Event}
-use Rattle.dr_model.specs.declared.event.Event.TheVariants.{Issue, Ack, Blanked, Restored, Stopped, Suspended, Started, Frozen, Thawed, Begin, Cut, Answer}
+use Rattle.dr_model.specs.declared.event.Event.TheVariants.{Issue, Ack, Blanked, Restored, Stopped, Suspended, Started, Frozen, Thawed, Recovered, Begin, Cut, Answer}
 use Rattle.dr_model.specs.declared.said.Said.{Said}
 use Rattle.dr_model.specs.declared.said.Said.TheVariants.{Done}
 use Rattle.dr_model.specs.declared.said.Addition.TheVariants.{Alone, Wrote, Showed}
-use Rattle.dr_model.specs.declared.step.Step.{Step}
 use Rattle.dr_model.specs.Answers.{answer}
 use Rattle.dr_model.specs.Limits.{most_servers, most_volumes, most_tracks, most_pending}
 use Rattle.dr_model.specs.Control.{Control, Fuse, Pending, Volume, World, new_volume, nothing}
@@ -19,14 +18,17 @@ use Rattle.dr_model.specs.Tables.{at}
 use Rattle.dr_model.specs.Relations.{rest, in_order, is_bare, turned, given_up}
 use Rattle.dr_model.specs.Pairs.{is_suspended}
 use Rattle.dr_model.specs.Moves.{Move, Land, Overwrite, Keep, Note, Relate, Withdraw, Fetch, Resync, Reverse, Restore, Release, Store, Strike, Suspend, MakeSecondary, MakePrimary, DropPrimary, DropSecondary, Follow, Resume, TakeOver, Unsync, Mirror, LandBoth, Thaw, Lift, Restart, Hold, Free, Seal, Finish, RaiseAttempt, RaiseFloor, Leave, Flash, Commit, Revert, told_blank, told_restored, told, told_in_stop, landed, target, settled, settled_in_stop, is_other, marked}
-use Rattle.dr_model.specs.Carry.{Act, Make, OpenAttempt, Redo, Acknowledge, Drop, EndFreeze, EndThaw, act, Next, Pass, Do, End, Entry, Outcome, carry, continue, go, follow}
-use Rattle.dr_model.specs.Plans.{Plan, plan, entries_plan, name_bytes, same, always, none_follow, server_done, volume_done, link_done, with_pending, issue_done, show_done, stop_done, arm_on, starting, start_plan, path_done, unpath_done}
-use Rattle.dr_model.specs.Runs.{Task, begun, finish, carried_out, answered, after_plan, after_task, after_tasks, run}
+use Rattle.dr_model.specs.Carry.{Act, Make, OpenAttempt, Redo, Acknowledge, Drop, EndFreeze, EndThaw, EndRecovery, act, Next, Pass, Do, End, Entry, Outcome, carry, continue, go, follow}
+use Rattle.dr_model.specs.Plans.{Plan, entries_plan, name_bytes, same, always, none_follow, server_done, volume_done, link_done, with_pending, issue_done, show_done, stop_done, arm_on, starting, start_plan, path_done, unpath_done}
+use Rattle.dr_model.specs.Forming.{Part, after_part}
+use Rattle.dr_model.specs.Runs.{Task, course, begun, finish, carried_out, answered, after_plan, after_task, after_tasks, run}
 use Rattle.dr_model.specs.Sessions.{Session, joined, left, changed, mirrored_by, paused, unmirrored}
 use Rattle.dr_model.specs.SessionEntries.{members_on}
 use Rattle.dr_model.specs.SessionPlans.{with_sessions, table_plan, says_phase, answered_by}
 use Rattle.dr_laws.specs.Limits.{IsWithin}
-use Rattle.dr_laws.proofs.Cases.{Case, Says, Defines, Adds, Links, Issues, Writes, Applies, Shows, Stops, Arms, Starts, Flashes, Withdraws, Resyncs, Reverses, Copies, Paths, Unpaths, MakesPair, RemovesPair, Pauses, ResumesPair, Drains, Expires, Freezes, Thaws, JoinsSession, LeavesSession, Mirrors, PausesMirror, Unmirrors, Aborts, AddsMember, Expels, Exchanges, aborted, plan-case, servers-left, is-new, may-issue}
+use Rattle.dr_model.specs.RecoveryPlans.{decided_in, recover_done}
+use Rattle.dr_laws.proofs.Cases.{Case, Says, Defines, Adds, Links, Issues, Writes, Applies, Shows, Stops, Arms, Starts, Flashes, Withdraws, Resyncs, Reverses, Copies, Paths, Unpaths, MakesPair, RemovesPair, Pauses, ResumesPair, Drains, Expires, Freezes, Thaws, JoinsSession, LeavesSession, Mirrors, PausesMirror, Unmirrors, Aborts, AddsMember, Expels, Exchanges, Recovers, Settles, aborted, servers-left, is-new, may-issue}
+use Rattle.dr_laws.proofs.Parts.{Comes, course-case, last-plan}
 use Rattle.dr_laws.proofs.AtLemmas.{at_cases, at_part}
 use Rattle.dr_laws.proofs.Turns.{act-cases, Counts, after_act, server_of}
 
@@ -190,6 +192,7 @@ done-onward w (Acknowledge n) f = record { stays = record { servers = refl; trac
 done-onward w (Drop n) f = record { stays = record { servers = refl; tracks = λ v. refl; volumes = refl; issued = refl; pending = filter-fewer (is_other n) w.control.pending }; added = []; events = sym (append-nil w.events); silent = refl }
 done-onward w (EndFreeze l m) f = record { stays = record { servers = refl; tracks = λ v. refl; volumes = refl; issued = refl; pending = omega arith }; added = Frozen l m ∷ []; events = refl; silent = refl }
 done-onward w (EndThaw l m) f = record { stays = record { servers = refl; tracks = λ v. refl; volumes = refl; issued = refl; pending = omega arith }; added = Thawed l m ∷ []; events = refl; silent = refl }
+done-onward w (EndRecovery s n) f = record { stays = record { servers = refl; tracks = λ v. refl; volumes = refl; issued = refl; pending = omega arith }; added = Recovered s n ∷ []; events = refl; silent = refl }
 
 counts-onward : (w : World) (a : Act) → Counts w a (λ t. Onward w t.0)
 counts-onward w (Make m) = λ f.
@@ -214,6 +217,7 @@ counts-onward w (Acknowledge n) = tt
 counts-onward w (Drop n) = tt
 counts-onward w (EndFreeze l m) = tt
 counts-onward w (EndThaw l m) = tt
+counts-onward w (EndRecovery s n) = tt
 
 act-onward : (w : World) (a : Act) → Onward w (act w a).0
 act-onward w a = act-cases w a (λ t. Onward w t.0) (λ d off. onward-same w) (done-onward w a) (counts-onward w a)
@@ -357,23 +361,42 @@ module _ (k : Control) where
   case-modest events line _ (Aborts s x found free) = quiet (aborted s).first [] [] (says_phase s) refl unmoved refl
   case-modest events line _ (AddsMember s a c x joins) = record { one = omega arith; within = λ h. h; last = stays-sessions _; silent = refl }
   case-modest events line _ (Expels s a x m found is idle on) = record { one = omega arith; within = λ h. h; last = stays-sessions _; silent = refl }
+  case-modest events line _ (Recovers s x found on) = quiet same [] (recover_done s (decided_in s k) x.members).entries (recover_done s (decided_in s k) x.members).says refl unmoved refl
+  case-modest events line _ (Settles s x m found here on free) = entries-modest _ _
   case-modest events line _ (Exchanges s server reply x r o allowed) = record { one = omega arith; within = λ h. h; last = by reply; silent = refl }
     where
       by : (b : Bool) (j : Control) → Stays j (cond b (answered_by s server o.work (members_on server x.members)) same j)
       by true j = record { servers = refl; tracks = λ v. refl; volumes = refl; issued = refl; pending = omega arith }
       by false j = stays-same j
 
-pub plan-modest : (k : Control) (events : List Event) (line : ℕ) (asked : Result Step ℕ) → Modest k (plan k events line asked)
-plan-modest k events line asked = case-modest k events line _ (plan-case k events line asked)
+-- a plan before the last one of its step adds to the journal, and no answer
+pub onward-part : (w : World) (p : Plan) → Comes w p → Onward w (after_part w p)
+onward-part w p comes =
+    let goes : Onward (begun w p) (carried_out w p).0 = carried_out-onward w p (case-modest w.control w.events 0 p (comes.case 0)) in
+    record {
+      stays = subst (λ k. Stays k (after_part w p).control) (comes.first w.control) (record { servers = goes.stays.servers; tracks = goes.stays.tracks; volumes = goes.stays.volumes; issued = goes.stays.issued; pending = goes.stays.pending });
+      added = goes.added;
+      events = goes.events ∙ ap (λ es. es ++ goes.added) (ap (λ es. w.events ++ es) comes.told ∙ append-nil w.events);
+      silent = goes.silent;
+    }
 
-abbrev pub plan-in : World → Task → Plan
-plan-in w t = plan w.control w.events t.line t.asked
+pub onward-last : (w : World) (t : Task) → Onward w (course w t).last.world
+onward-last w t = last-plan (Onward w) (λ u p comes on. onward-then w u _ on (onward-part u p comes)) w t (onward-same w)
 
-pub modest-in : (w : World) (t : Task) → Modest w.control (plan-in w t)
-modest-in w t = plan-modest w.control w.events t.line t.asked
+pub modest-last : (w : World) (t : Task) → let x : Part = (course w t).last in Modest x.world.control x.plan
+modest-last w t = let x : Part = (course w t).last in case-modest x.world.control x.world.events t.line x.plan (course-case w t)
 
 pub after_task-ends : (w : World) (t : Task) → EndsAnswered w t.line (after_task w t)
-after_task-ends w t = let e = after_plan-ends w t.line (plan-in w t) (modest-in w t) in record { before = e.before; silent = e.silent; says = e.says; events = e.events }
+after_task-ends w t =
+    let x : Part = (course w t).last in
+    let o : Onward w x.world = onward-last w t in
+    let e : EndsAnswered x.world t.line (after_plan x.world t.line x.plan) = after_plan-ends x.world t.line x.plan (modest-last w t) in
+    record {
+      before = o.added ++ e.before;
+      silent = silent-append o.added e.before o.silent e.silent;
+      says = e.says;
+      events = e.events ∙ ap (λ es. es ++ answer t.line e.says ∷ []) (ap (λ es. es ++ e.before) o.events ∙ append_assoc w.events o.added e.before);
+    }
 
 pub after_task-grows : (w : World) (t : Task) → (es : List Event) × ((after_task w t).events ≡ w.events ++ es)
 after_task-grows w t =
@@ -390,8 +413,10 @@ after_tasks-grows w (t ∷ tasks) =
 
 pub issued-task : (w : World) (t : Task) → (after_task w t).control.issued ≤ w.control.issued + 1
 issued-task w t =
-    let m : Modest w.control (plan-in w t) = modest-in w t in
-    subst (λ n. n ≤ w.control.issued + 1) (sym (after_plan-stays w (plan-in w t) m t.line).issued) m.one
+    let x : Part = (course w t).last in
+    let m : Modest x.world.control x.plan = modest-last w t in
+    let few : (x.plan.first x.world.control).issued ≤ w.control.issued + 1 = subst (λ n. (x.plan.first x.world.control).issued ≤ n + 1) (onward-last w t).stays.issued m.one in
+    subst (λ n. n ≤ w.control.issued + 1) (sym (after_plan-stays x.world x.plan m t.line).issued) few
 
 pub issued-tasks : (w : World) (tasks : List Task) → (after_tasks w tasks).control.issued ≤ w.control.issued + length tasks
 unfolding after_tasks

@@ -3,13 +3,13 @@ use Rattle.std.proofs.Common.{ℕ, ◌≡◌, ◌+◌, refl, ap, sym, subst, Boo
 use Rattle.dr_ids.specs.Paths.{Path, without_path}
 use Rattle.dr_ids.specs.declared.refusal.Refusal.{Refusal}
 use Rattle.dr_model.specs.declared.event.Event.{Event}
-use Rattle.dr_model.specs.declared.event.Event.TheVariants.{Stopped, Frozen, Thawed}
+use Rattle.dr_model.specs.declared.event.Event.TheVariants.{Stopped, Frozen, Thawed, Recovered}
 use Rattle.dr_model.specs.Tables.{at}
 use Rattle.dr_model.specs.Histories.{Write, Histories, histories}
 use Rattle.dr_model.specs.Contents.{image}
 use Rattle.dr_model.specs.Control.{Pending, Control, World, Fuse}
 use Rattle.dr_model.specs.Moves.{Move, Hold, is_write, is_other}
-use Rattle.dr_model.specs.Carry.{Act, Make, OpenAttempt, Redo, Acknowledge, Drop, EndFreeze, EndThaw, dropped, frozen, thawed, Entry, Next, check, now}
+use Rattle.dr_model.specs.Carry.{Act, Make, OpenAttempt, Redo, Acknowledge, Drop, EndFreeze, EndThaw, EndRecovery, dropped, frozen, thawed, recovered, Entry, Next, check, now}
 use Rattle.dr_model.specs.Plans.{Plan}
 use Rattle.dr_model.specs.Runs.{begun}
 use Rattle.dr_model.specs.ReadStops.{gone_off}
@@ -126,7 +126,7 @@ module _ (starts : Option ℕ) where
   sound-gone w x s =
       sound-told w w.control.servers (at w.control.on x false) w.control.fuse w.control.link w.control.paths (Stopped x 0 ∷ []) (histories-append w.events (Stopped x 0 ∷ [])) (tt, tt) (goes-off starts w s.queue w.control.on x) s.housed s
 
-  -- a freeze ends, or a thaw
+  -- a freeze ends, a thaw, or a recovery
   pub sound-frozen : (w : World) (l m : ℕ) → SoundBut starts w → SoundBut starts (frozen w l m)
   sound-frozen w l m s =
       let k : Control = w.control in
@@ -136,6 +136,11 @@ module _ (starts : Option ℕ) where
   sound-thawed w l m s =
       let k : Control = w.control in
       sound-told w k.servers k.on k.fuse k.link k.paths (Thawed l m ∷ []) (histories-append w.events (Thawed l m ∷ [])) (tt, tt) (λ j h. h) s.housed s
+
+  pub sound-recovered : (w : World) (i n : ℕ) → SoundBut starts w → SoundBut starts (recovered w i n)
+  sound-recovered w i n s =
+      let k : Control = w.control in
+      sound-told w k.servers k.on k.fuse k.link k.paths (Recovered i n ∷ []) (histories-append w.events (Recovered i n ∷ [])) (tt, tt) (λ j h. h) s.housed s
 
   -- a write that hasn't landed is dropped
   pub sound-dropped : (w : World) (n : ℕ) → AllPending (λ p. p.landed ≡ false) (filter (is_write n) w.control.pending) → SoundBut starts w → SoundBut starts (dropped w n)
@@ -165,6 +170,7 @@ MayDo w (Acknowledge n) = ⊥
 MayDo w (Drop n) = AllPending (λ p. p.landed ≡ false) (filter (is_write n) w.control.pending)
 MayDo w (EndFreeze l m) = Unit {0}
 MayDo w (EndThaw l m) = Unit {0}
+MayDo w (EndRecovery s n) = Unit {0}
 
 pub keeps-sound : along.Keeps Sound Sound MayDo
 keeps-sound = record { runs = runs; does = does; counts = λ w m f s may. sound-stop None w m f s may; opens = λ w v i n f s may. sound-opened_stop None w v i n f s may; fails = λ w a f d s may. sound-not None w _ f s }
@@ -177,6 +183,7 @@ keeps-sound = record { runs = runs; does = does; counts = λ w m f s may. sound-
     runs w (Drop n) d may = absurd d
     runs w (EndFreeze l m) d may = absurd d
     runs w (EndThaw l m) d may = absurd d
+    runs w (EndRecovery s n) d may = absurd d
 
     does : (w : World) (a : Act) (f : Option Fuse) → Sound w → MayDo w a → Sound (after_act w a f)
     does w (Make m) f s may = sound-done None w m f s may
@@ -186,6 +193,7 @@ keeps-sound = record { runs = runs; does = does; counts = λ w m f s may. sound-
     does w (Drop n) f s may = sound-dropped None w n may s
     does w (EndFreeze l m) f s may = sound-frozen None w l m s
     does w (EndThaw l m) f s may = sound-thawed None w l m s
+    does w (EndRecovery s n) f sound may = sound-recovered None w s n sound
 
 abbrev pub Along : World → List Entry → Type 0
 Along = along.Along Sound Sound Sound MayDo

@@ -6,14 +6,17 @@ use Rattle.dr_model.specs.declared.event.Event.TheVariants.{Stopped}
 use Rattle.dr_model.specs.Refusals.{stopped}
 use Rattle.dr_model.specs.Control.{World}
 use Rattle.dr_model.specs.Carry.{Act, act, Turn, Next, Pass, Do, End, Entry, Outcome, carry, continue, go}
-use Rattle.dr_model.specs.Plans.{Plan, plan}
-use Rattle.dr_model.specs.Runs.{Task, begun}
+use Rattle.dr_model.specs.Plans.{Plan}
+use Rattle.dr_model.specs.Groups.{In}
+use Rattle.dr_model.specs.Forming.{Part}
+use Rattle.dr_model.specs.Runs.{Task, plans_of, begun}
 use Rattle.dr_model.specs.ReadStops.{GoesOff, IsEnd, EndsTurn, EndsNext, Ends, gone_off}
 use Rattle.dr_model.specs.Table.{table}
 use Rattle.dr_model.specs.Laws.{SoundRows, Sound}
 use Rattle.dr_model.proofs.Images.{histories-append}
 use Rattle.dr_laws.proofs.KeepsSound.{StepHolds, RowsAt, rows-told}
-use Rattle.dr_laws.proofs.Steps.{step-holds}
+use Rattle.dr_laws.proofs.Parts.{each-plan}
+use Rattle.dr_laws.proofs.Steps.{case-holds, sound-part}
 use Rattle.dr_laws.proofs.Along as along
 
 -- where no read fuse is armed, a plan ends as it is carried out
@@ -89,8 +92,9 @@ module _ (armed more_armed : ℕ → Bool) (wider : (s : ℕ) → armed s ≡ tr
 rows-gone : (w : World) (s : ℕ) → SoundRows (table w) → SoundRows (table (gone_off w s))
 rows-gone w s r = rows-told w (Stopped s 0 ∷ []) (histories-append w.events (Stopped s 0 ∷ [])) r
 
-pub rows-ends : (armed : ℕ → Bool) (w u : World) (r : Option Refusal) (t : Task) → Sound w → let p : Plan = plan w.control w.events t.line t.asked in Ends armed u r (begun w p) p.entries → SoundRows (table u)
-rows-ends armed w u r t s e =
-    let p : Plan = plan w.control w.events t.line t.asked in
-    let holds : StepHolds w p = step-holds w s t.line t.asked in
-    along.ends-weaker holds.inner Sound holds.ends RowsAt holds.may holds.within (λ v x. x.rows) holds.complete holds.keeps armed (λ v x j on is. rows-gone v x (holds.within v j)) u r (begun w p) p.entries holds.begins holds.entries e
+pub rows-ends : (armed : ℕ → Bool) (w u : World) (r : Option Refusal) (t : Task) (x : Part) → Sound w → In x (plans_of w t) → Ends armed u r (begun x.world x.plan) x.plan.entries → SoundRows (table u)
+rows-ends armed w u r t x s there e =
+    let b = each-plan Sound sound-part w t s x there in
+    let p : Plan = x.plan in
+    let holds : StepHolds x.world p = case-holds x.world b.0 t.line p b.1 in
+    along.ends-weaker holds.inner Sound holds.ends RowsAt holds.may holds.within (λ v x. x.rows) holds.complete holds.keeps armed (λ v x j on is. rows-gone v x (holds.within v j)) u r (begun x.world p) p.entries holds.begins holds.entries e

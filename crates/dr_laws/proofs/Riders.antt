@@ -1,5 +1,5 @@
 -- A law on the rows of volumes and on the journal that each act keeps rides along every step, and so along every run.
-use Rattle.std.proofs.Common.{ℕ, ◌≡◌, ◌<◌, ◌+◌, refl, ap, sym, ◌∙◌, Bool, true, false, cond, List, [], ◌∷◌, ◌++◌, length, nat_eq}
+use Rattle.std.proofs.Common.{ℕ, ◌≡◌, ◌<◌, ◌+◌, refl, ap, ◌∙◌, true, false, List, [], ◌∷◌, ◌++◌, length, nat_eq}
 use Rattle.std.proofs.lemmas.List.{append-nil}
 use Rattle.std.specs.List.{list_any}
 use Rattle.dr_model.specs.declared.event.Event.{Event}
@@ -10,16 +10,26 @@ use Rattle.dr_model.specs.Contents.{image_at}
 use Rattle.dr_model.specs.Histories.{histories}
 use Rattle.dr_model.specs.Control.{Control, World, is_volume}
 use Rattle.dr_model.specs.Carry.{Entry, carry}
-use Rattle.dr_model.specs.Sessions.{Session}
+use Rattle.dr_model.specs.Phases as phases
+use Rattle.dr_model.specs.Sessions.{Session, joined, left, changed, mirrored_by, paused, unmirrored, with_master, lost_since}
+use Rattle.dr_model.specs.Groups.{Groups}
+use Rattle.dr_model.specs.Attempts.{Attempts}
 use Rattle.dr_model.specs.SessionEntries.{members_on}
-use Rattle.dr_model.specs.SessionPlans.{with_sessions, answered_by}
-use Rattle.dr_model.specs.Plans.{Plan, plan, same, always, none_follow, entries_plan, write_done, apply_done, drain_plan, start_plan}
-use Rattle.dr_model.specs.Runs.{Task, begun, carried_out, answered, said, after_plan, after_task, after_tasks}
+use Rattle.dr_model.specs.SessionPlans.{with_sessions, member_with, answered_by}
+use Rattle.dr_model.specs.Plans.{Plan, same, always, none_follow, entries_plan, write_done, apply_done, drain_plan, start_plan}
+use Rattle.dr_model.specs.Forming.{Part, after_part}
+use Rattle.dr_model.specs.Runs.{Task, course, begun, carried_out, answered, said, after_plan, after_task, after_tasks, masters_lost}
 use Rattle.dr_model.specs.Table.{table, due_by, aside_by}
 use Rattle.dr_model.specs.Laws.{Sound}
 use Rattle.dr_model.proofs.Images.{histories-append}
 use Rattle.dr_cuts.specs.Once.{NoCuts}
-use Rattle.dr_laws.proofs.Cases.{Case, Says, Defines, Adds, Links, Issues, Writes, Applies, Shows, Stops, Arms, Starts, Flashes, Withdraws, Resyncs, Reverses, Copies, Paths, Unpaths, MakesPair, RemovesPair, Pauses, ResumesPair, Drains, Expires, Freezes, Thaws, JoinsSession, LeavesSession, Mirrors, PausesMirror, Unmirrors, Aborts, AddsMember, Expels, Exchanges, plan-case, is-new, may-issue}
+use Rattle.dr_groups.proofs.PlanTables.{no-maker, owned-volume}
+use Rattle.dr_groups.proofs.Tables.{groups-joined, groups-left, groups-mirrored, groups-paused, groups-unmirrored, groups-aborted}
+use Rattle.dr_phases.proofs.Tables.{with-joined, with-left, with-mirrored, with-paused, with-unmirrored, with-aborted}
+use Rattle.dr_closed.specs.Regroups.{Regroups}
+use Rattle.dr_closed.specs.Silent.{AllStill}
+use Rattle.dr_closed.proofs.Regroups.{regroups-same, regroups-joined, regroups-left, regroups-mirrored, regroups-paused, regroups-unmirrored, regroups-aborted, regroups-lost}
+use Rattle.dr_laws.proofs.Cases.{Case, Says, Defines, Adds, Links, Issues, Writes, Applies, Shows, Stops, Arms, Starts, Flashes, Withdraws, Resyncs, Reverses, Copies, Paths, Unpaths, MakesPair, RemovesPair, Pauses, ResumesPair, Drains, Expires, Freezes, Thaws, JoinsSession, LeavesSession, Mirrors, PausesMirror, Unmirrors, Aborts, AddsMember, Expels, Exchanges, Recovers, Settles, added, expelled, ordered, is-new, may-issue}
 use Rattle.dr_laws.proofs.KeepsSound.{Along, StepHolds, RowsAt, MayDo, keeps-sound, over}
 use Rattle.dr_laws.proofs.FitsFlash.{as_begun, sound-begun, along-flash, along-withdraw, along-resync, along-reverse}
 use Rattle.dr_laws.proofs.FitsCopy.{along-copy}
@@ -27,41 +37,57 @@ use Rattle.dr_laws.proofs.FitsPairs.{along-pair, along-remove, along-pause, alon
 use Rattle.dr_laws.proofs.FitsDrain.{along-drain, suspends-after}
 use Rattle.dr_laws.proofs.FitsWrites.{lands, writes-after}
 use Rattle.dr_laws.proofs.FitsHolds.{freezes, thaws, lifts}
-use Rattle.dr_laws.proofs.FitsSessions.{Orders}
+use Rattle.dr_laws.proofs.FitsSessions.{Orders, sound-sessions, sound-lost}
 use Rattle.dr_laws.proofs.FitsMembers.{orders-added, orders-expelled}
 use Rattle.dr_laws.proofs.FitsOrders.{orders-ordered}
+use Rattle.dr_laws.proofs.FitsRecovery.{along-recover, along-settle}
 use Rattle.dr_laws.proofs.Issues.{issued, sound-issued, one-new}
 use Rattle.dr_laws.proofs.Lands.{found-alone}
 use Rattle.dr_laws.proofs.Defines.{with_volume}
 use Rattle.dr_laws.proofs.Starts as starts
-use Rattle.dr_laws.proofs.Steps.{sound-task}
-use Rattle.dr_laws.proofs.Rides.{Rides, plan-rides}
+use Rattle.dr_laws.proofs.Parts.{Comes, course-case, last-plan}
+use Rattle.dr_laws.proofs.Steps.{case-holds, sound-carried, sound-plan, sound-part, sound-task}
+use Rattle.dr_laws.proofs.Rides.{Rides, Both, plan-rides}
 
--- From w to u these events were told, of which no list hears and which cut no volume; the rows of volumes are as they were.
+-- From w to u these events were told, of which no list hears and no group, and which cut no volume; the rows of volumes, what waits and
+-- the sessions are as they were.
 pub record Unheard (w u : World) (more : List Event) : Type 0 where
   pub events : u.events ≡ w.events ++ more
   pub quiet : NoCuts more
+  pub still : AllStill more
   pub lists : histories u.events ≡ histories w.events
   pub rows : table u ≡ table w
   pub issued : u.control.issued ≡ w.control.issued
+  pub volume : u.control.volume ≡ w.control.volume
+  pub pending : u.control.pending ≡ w.control.pending
+  pub sessions : u.control.sessions ≡ w.control.sessions
 
-pub unheard : (w u : World) (more : List Event) → u.events ≡ w.events ++ more → NoCuts more → histories (w.events ++ more) ≡ histories w.events → u.contents ≡ w.contents → u.control.volume ≡ w.control.volume → u.control.volumes ≡ w.control.volumes
-    → u.control.pending ≡ w.control.pending → u.control.issued ≡ w.control.issued → Unheard w u more
-unheard w u more events quiet lists contents volume volumes pending issued = record {
+pub unheard : (w u : World) (more : List Event) → u.events ≡ w.events ++ more → NoCuts more → AllStill more → histories (w.events ++ more) ≡ histories w.events → u.contents ≡ w.contents → u.control.volume ≡ w.control.volume → u.control.volumes ≡ w.control.volumes
+    → u.control.pending ≡ w.control.pending → u.control.issued ≡ w.control.issued → u.control.sessions ≡ w.control.sessions → Unheard w u more
+unheard w u more events quiet still lists contents volume volumes pending issued sessions = record {
   events = events;
   quiet = quiet;
+  still = still;
   lists = ap histories events ∙ lists;
   rows = λ i v. record { defined = list_any (nat_eq v) (volumes i); volume = volume i v; bytes = contents i v; due = λ q. due_by ((ap histories events ∙ lists) i) (pending i) v q; aside = aside_by ((ap histories events ∙ lists) i) v };
   issued = issued;
+  volume = volume;
+  pending = pending;
+  sessions = sessions;
 }
 
+-- other sessions
+abbrev pub with_table : World → List Session → World
+with_table w ss = record w { control = record w.control { sessions = ss } }
+
 -- What is to be shown of a law: acts that may come keep it, those of a start too; so does what no list hears of, a write that is
--- issued, and a volume that is defined.
+-- issued, a volume that is defined, and another table of sessions.
 pub record Rider (K : World → Type 0) : Type 0 where
   pub acts : Rides Sound K MayDo
   pub start_acts : (s : ℕ) → Rides (starts.Inner s) K (starts.MayStart s)
   pub unheard : (w u : World) (more : List Event) → K w → Unheard w u more → K u
   pub issues : (w : World) (s : Sound w) (v t offset len : ℕ) (bytes : List ℕ) (defined : is_volume w.control v ≡ true) (low : t < (w.control.volume v).tracks) → K w → K (issued w s v t offset len bytes defined low)
+  pub regroups : (w : World) (ss : List Session) → Sound w → Sound (with_table w ss) → Regroups w.control.sessions ss → K w → K (with_table w ss)
   pub defines : (w : World) (s : Sound w) (v server tracks : ℕ) (here : server < length w.control.servers) (undefined : is_volume w.control v ≡ false) → K w → K (with_volume w s v server tracks here undefined)
 
 -- the records by which a plan's laws are shown, open to what rides along it
@@ -86,17 +112,14 @@ module _ (K : World → Type 0) (rider : Rider K) where
   none-told : (w : World) → histories (w.events ++ []) ≡ histories w.events
   none-told w = ap histories (append-nil w.events)
 
-  -- other tables that are nothing to the volumes, and nothing told
-  silently : (w u : World) → K w → u.events ≡ w.events ++ [] → u.contents ≡ w.contents → u.control.volume ≡ w.control.volume → u.control.volumes ≡ w.control.volumes → u.control.pending ≡ w.control.pending → u.control.issued ≡ w.control.issued → K u
-  silently w u k events contents volume volumes pending issued = rider.unheard w u [] k (unheard w u [] events tt (none-told w) contents volume volumes pending issued)
-
-  others : (w : World) (ss : List Session) → K w → K (record w { control = record w.control { sessions = ss } })
-  others w ss k = silently w (record w { control = record w.control { sessions = ss } }) k (sym (append-nil w.events)) refl refl refl refl refl
+  -- other tables that are nothing to the volumes and the sessions, and nothing told
+  silently : (w u : World) → K w → u.events ≡ w.events ++ [] → u.contents ≡ w.contents → u.control.volume ≡ w.control.volume → u.control.volumes ≡ w.control.volumes → u.control.pending ≡ w.control.pending → u.control.issued ≡ w.control.issued → u.control.sessions ≡ w.control.sessions → K u
+  silently w u k events contents volume volumes pending issued sessions = rider.unheard w u [] k (unheard w u [] events tt tt (none-told w) contents volume volumes pending issued sessions)
 
   -- one event that no list hears of
-  event : (w u : World) (e : Event) → K w → u.events ≡ w.events ++ e ∷ [] → NoCuts (e ∷ []) → histories (w.events ++ e ∷ []) ≡ histories w.events → u.contents ≡ w.contents → u.control.volume ≡ w.control.volume
-      → u.control.volumes ≡ w.control.volumes → u.control.pending ≡ w.control.pending → u.control.issued ≡ w.control.issued → K u
-  event w u e k events quiet lists contents volume volumes pending issued = rider.unheard w u (e ∷ []) k (unheard w u (e ∷ []) events quiet lists contents volume volumes pending issued)
+  event : (w u : World) (e : Event) → K w → u.events ≡ w.events ++ e ∷ [] → NoCuts (e ∷ []) → AllStill (e ∷ []) → histories (w.events ++ e ∷ []) ≡ histories w.events → u.contents ≡ w.contents → u.control.volume ≡ w.control.volume
+      → u.control.volumes ≡ w.control.volumes → u.control.pending ≡ w.control.pending → u.control.issued ≡ w.control.issued → u.control.sessions ≡ w.control.sessions → K u
+  event w u e k events quiet still lists contents volume volumes pending issued sessions = rider.unheard w u (e ∷ []) k (unheard w u (e ∷ []) events quiet still lists contents volume volumes pending issued sessions)
 
   module _ (w : World) (s : Sound w) (k : K w) (line : ℕ) where
     record Carried (p : Plan) : Type 0 where
@@ -108,23 +131,26 @@ module _ (K : World → Type 0) (rider : Rider K) where
     tables first told says begun = record { holds = begun }
 
     -- one whose acts may come as they do but where a server starts
-    moves : (p : Plan) → Orders w p → K (begun w p) → ((v : World) → K v → K (record v { control = p.last v.control })) → Carried p
-    moves p o begun last = record { holds = plan-rides Sound RowsAt K MayDo w p (orders-hold w p o) rider.acts begun (λ v e k. last v k) keeps-sound rider.acts }
+    moves : (p : Plan) (o : Orders w p) → K (begun w p) → ((v : World) → o.ends v → K v → K (record v { control = p.last v.control })) → Carried p
+    moves p o begun last = record { holds = plan-rides Sound RowsAt K MayDo w p (orders-hold w p o) rider.acts begun last keeps-sound rider.acts }
 
     begins : K (as_begun w)
-    begins = silently w (as_begun w) k refl refl refl refl refl refl
+    begins = silently w (as_begun w) k refl refl refl refl refl refl refl
 
     entries : (ds : List Entry) (a : Said) → Along (as_begun w) ds → Carried (entries_plan ds a)
-    entries ds a all = moves (entries_plan ds a) (record { ends = Sound; complete = λ v i. i; begins = sound-begun w s; entries = all; follows = λ q v i. over v i; last = λ v i. i }) begins (λ v k. k)
+    entries ds a all = moves (entries_plan ds a) (record { ends = Sound; complete = λ v i. i; begins = sound-begun w s; entries = all; follows = λ q v i. over v i; last = λ v i. i; turns = λ v i. regroups-same v.control.sessions }) begins (λ v e k. k)
 
-    sessions : (f : List Session → List Session) (says : Control → Said) → Carried (record { first = with_sessions f; told = []; entries = []; follows = none_follow; last = same; says = says })
-    sessions f says = tables (with_sessions f) [] says (silently w _ k refl refl refl refl refl refl)
+    sessions : (f : List Session → List Session) (says : Control → Said) → Groups (with_sessions f w.control) → Attempts (with_sessions f w.control) → Regroups w.control.sessions (f w.control.sessions)
+        → Carried (record { first = with_sessions f; told = []; entries = []; follows = none_follow; last = same; says = says })
+    sessions f says groups attempts turn =
+        let first : World = as_begun w in
+        tables (with_sessions f) [] says (rider.regroups first (f w.control.sessions) (sound-begun w s) (sound-sessions first (f w.control.sessions) groups attempts (sound-begun w s)) turn begins)
 
     case-rides : (p : Plan) → Case w.control w.events line p → Carried p
     case-rides _ (Says a) = tables same [] (always a) begins
-    case-rides _ (Defines name free) = tables _ _ _ (event w _ (ServerDefined (length w.control.servers) name.len name.bytes) k refl (tt, tt) (histories-append w.events _) refl refl refl refl refl)
+    case-rides _ (Defines name free) = tables _ _ _ (event w _ (ServerDefined (length w.control.servers) name.len name.bytes) k refl (tt, tt) (tt, tt) (histories-append w.events _) refl refl refl refl refl refl)
     case-rides _ (Adds v x tracks here free) = tables _ _ _ (rider.defines w s v x tracks here (is-new w.control v x tracks free).undefined k)
-    case-rides _ (Links a b up) = tables _ _ _ (silently w _ k refl refl refl refl refl refl)
+    case-rides _ (Links a b up) = tables _ _ _ (silently w _ k refl refl refl refl refl refl refl)
     case-rides _ (Issues v t offset len bytes free) = let there = (may-issue w.control v t free).0 in tables _ _ _ (rider.issues w s v t offset len bytes there.defined there.low k)
     case-rides _ (Writes v t offset len bytes free) =
         let there = (may-issue w.control v t free).0 in
@@ -137,7 +163,8 @@ module _ (K : World → Type 0) (rider : Rider K) where
           entries = lands first sound (record { w = w.control.issued + 1; volume = v; track = t; landed = false }) (one-new w s v t offset len bytes there.defined there.low);
           follows = λ q u i. writes-after w.control v t q u i;
           last = λ v i. i;
-        }) (rider.issues w s v t offset len bytes there.defined there.low k) (λ v k. k)
+          turns = λ v i. regroups-same v.control.sessions;
+        }) (rider.issues w s v t offset len bytes there.defined there.low k) (λ v e k. k)
     case-rides _ (Applies n p found) =
         moves (apply_done w.control p) (record {
           ends = Sound;
@@ -146,41 +173,50 @@ module _ (K : World → Type 0) (rider : Rider K) where
           entries = lands (as_begun w) (sound-begun w s) p (found-alone n p w.control.pending found s.queue.apart);
           follows = λ q u i. writes-after w.control p.volume p.track q u i;
           last = λ v i. i;
-        }) begins (λ v k. k)
-    case-rides _ (Shows v t there) = tables _ _ _ (event w _ (Shown line v t (image_at w.events v t)) k refl (tt, tt) (histories-append w.events _) refl refl refl refl refl)
-    case-rides _ (Stops x on) = tables _ _ _ (event w _ (Stopped x 0) k refl (tt, tt) (histories-append w.events _) refl refl refl refl refl)
-    case-rides _ (Arms writes torn x) = tables _ _ _ (silently w _ k refl refl refl refl refl refl)
+          turns = λ v i. regroups-same v.control.sessions;
+        }) begins (λ v e k. k)
+    case-rides _ (Shows v t there) = tables _ _ _ (event w _ (Shown line v t (image_at w.events v t)) k refl (tt, tt) (tt, tt) (histories-append w.events _) refl refl refl refl refl refl)
+    case-rides _ (Stops x on) = tables _ _ _ (event w _ (Stopped x 0) k refl (tt, tt) (tt, tt) (histories-append w.events _) refl refl refl refl refl refl)
+    case-rides _ (Arms writes torn x) = tables _ _ _ (silently w _ k refl refl refl refl refl refl refl)
     case-rides _ (Starts x off) =
-        record { holds = plan-rides Sound RowsAt K MayDo w (start_plan w.control x) (start-hold x w s) (rider.start_acts x) (event w _ (Started x) k refl (tt, tt) (histories-append w.events _) refl refl refl refl refl) (λ v e k. k) keeps-sound rider.acts }
+        record { holds = plan-rides Sound RowsAt K MayDo w (start_plan w.control x) (start-hold x w s) (rider.start_acts x) (event w _ (Started x) k refl (tt, tt) (tt, tt) (histories-append w.events _) refl refl refl refl refl refl) (λ v e k. k) keeps-sound rider.acts }
     case-rides _ (Flashes dev v t choices) = entries _ _ (along-flash w s dev v t choices)
     case-rides _ (Withdraws dev v t) = entries _ _ (along-withdraw w s dev v t)
     case-rides _ (Resyncs dev v t sequence) = entries _ _ (along-resync w s dev v t sequence)
     case-rides _ (Reverses dev v t) = entries _ _ (along-reverse w s dev v t)
     case-rides _ (Copies t most) = entries _ _ (along-copy w s t most)
-    case-rides _ (Paths src tgt group) = tables _ _ _ (silently w _ k refl refl refl refl refl refl)
-    case-rides _ (Unpaths src tgt) = tables _ _ _ (silently w _ k refl refl refl refl refl refl)
+    case-rides _ (Paths src tgt group) = tables _ _ _ (silently w _ k refl refl refl refl refl refl refl)
+    case-rides _ (Unpaths src tgt) = tables _ _ _ (silently w _ k refl refl refl refl refl refl refl)
     case-rides _ (MakesPair devs a b kind full part) = entries _ _ (along-pair w s devs a b kind full part)
     case-rides _ (RemovesPair devs a b source_only) = entries _ _ (along-remove w s devs a b source_only)
     case-rides _ (Pauses devs a b) = entries _ _ (along-pause w s devs a b)
     case-rides _ (ResumesPair devs a b kind) = entries _ _ (along-resume w s devs a b kind)
     case-rides _ (Drains a most) =
-        moves (drain_plan w.control a most) (record { ends = Sound; complete = λ v i. i; begins = sound-begun w s; entries = along-drain w s a most; follows = λ q v i. suspends-after a q v i; last = λ v i. i }) begins (λ v k. k)
+        moves (drain_plan w.control a most) (record { ends = Sound; complete = λ v i. i; begins = sound-begun w s; entries = along-drain w s a most; follows = λ q v i. suspends-after a q v i; last = λ v i. i; turns = λ v i. regroups-same v.control.sessions }) begins (λ v e k. k)
     case-rides _ (Expires x on) = entries _ _ (lifts x w.control.volumes (as_begun w) (sound-begun w s) on)
     case-rides _ (Freezes l m) = entries _ _ (freezes l m w.control.volumes (as_begun w) (sound-begun w s))
     case-rides _ (Thaws l m) = entries _ _ (thaws l m w.control.volumes (as_begun w) (sound-begun w s))
-    case-rides _ (JoinsSession l i free) = sessions _ _
-    case-rides _ (LeavesSession l i x found free) = sessions _ _
-    case-rides _ (Mirrors owner i x found free l owned) = sessions _ _
-    case-rides _ (PausesMirror i on) = sessions _ _
-    case-rides _ (Unmirrors i x found free) = sessions _ _
-    case-rides _ (Aborts i x found free) = sessions _ _
-    case-rides _ (AddsMember i a c x joins) = moves _ (orders-added w s i a c x joins) begins (λ v k. others v _ k)
-    case-rides _ (Expels i a x m found is idle on) = moves _ (orders-expelled w s i a x m found is idle on) begins (λ v k. others v _ k)
-    case-rides _ (Exchanges i server reply x r o allowed) = moves _ (orders-ordered w s i server x r o allowed reply) begins (by reply)
-      where
-        by : (b : Bool) (v : World) → K v → K (record v { control = cond b (answered_by i server o.work (members_on server x.members)) same v.control })
-        by true v k = others v _ k
-        by false v k = k
+    case-rides _ (JoinsSession l i free) = sessions (joined i l) _ (groups-joined w.control i l s.groups) (with-joined w.control s.groups s.attempts i l) (regroups-joined w.control.sessions s.groups.once i l)
+    case-rides _ (LeavesSession l i x found free) = sessions (left i l) _ (groups-left w.control i l x s.groups found free) (with-left w.control s.groups s.attempts i l x found free) (regroups-left w.control.sessions s.groups.once i l)
+    case-rides _ (Mirrors owner i x found free l owned) =
+        let at = owned-volume w.control l owner owned in
+        sessions (changed i (mirrored_by owner)) _ (groups-mirrored w.control i owner x s.groups found (no-maker x.mirror free) at.volume at.defined at.server)
+        (with-mirrored w.control s.groups s.attempts i owner x found (no-maker x.mirror free)) (regroups-mirrored w.control.sessions s.groups.once i owner)
+    case-rides _ (PausesMirror i on) = sessions (changed i (paused on)) _ (groups-paused w.control i on s.groups) (with-paused w.control s.groups s.attempts i on) (regroups-paused w.control.sessions s.groups.once i on)
+    case-rides _ (Unmirrors i x found free) = sessions (changed i unmirrored) _ (groups-unmirrored w.control i x s.groups found free) (with-unmirrored w.control s.groups s.attempts i x found free) (regroups-unmirrored w.control.sessions s.groups.once i)
+    case-rides _ (Aborts i x found free) = sessions (changed i (with_master phases.aborted)) _ (groups-aborted w.control i s.groups) (with-aborted w.control s.groups s.attempts i) (regroups-aborted w.control.sessions s.groups.once i)
+    case-rides _ (AddsMember i a c x joins) =
+        let o = orders-added w s i a c x joins in
+        moves (added w.control i x (member_with w.control a c)) o begins (λ v e k. rider.regroups v ((added w.control i x (member_with w.control a c)).last v.control).sessions (o.complete v e) (o.last v e) (o.turns v e) k)
+    case-rides _ (Expels i a x m found is idle on) =
+        let o = orders-expelled w s i a x m found is idle on in
+        moves (expelled i m) o begins (λ v e k. rider.regroups v ((expelled i m).last v.control).sessions (o.complete v e) (o.last v e) (o.turns v e) k)
+    case-rides _ (Recovers i x found on) = moves _ (record { ends = Sound; complete = λ v y. y; begins = sound-begun w s; entries = along-recover w s i x found on; follows = λ q v y. over v y; last = λ v y. y; turns = λ v y. regroups-same v.control.sessions }) begins (λ v e k. k)
+    case-rides _ (Settles i x m found here on free) = entries _ _ (along-settle w s i x found on free m here)
+    case-rides _ (Exchanges i server true x r o allowed) =
+        let a = orders-ordered w s i server x r o allowed true in
+        moves (ordered i server true (members_on server x.members) o) a begins (λ v e k. rider.regroups v (answered_by i server o.work (members_on server x.members) v.control).sessions (a.complete v e) (a.last v e) (a.turns v e) k)
+    case-rides _ (Exchanges i server false x r o allowed) = moves (ordered i server false (members_on server x.members) o) (orders-ordered w s i server x r o allowed false) begins (λ v e k. k)
 
     -- the step, as it is answered
     rides-plan : (p : Plan) → Case w.control w.events line p → K (after_plan w line p)
@@ -188,10 +224,24 @@ module _ (K : World → Type 0) (rider : Rider K) where
     rides-plan p c =
         let u : World = (carried_out w p).0 in
         let a : Said = answered p u.control (carried_out w p).1 in
-        event u (said u line a) (answer line a) (case-rides p c).holds refl (tt, tt) (histories-append u.events (answer line a ∷ [])) refl refl refl refl refl
+        event u (said u line a) (answer line a) (case-rides p c).holds refl (tt, tt) (tt, tt) (histories-append u.events (answer line a ∷ [])) refl refl refl refl refl refl
+
+  -- masters are lost as a step ends
+  lost : (w u : World) → Sound u → K u → K (masters_lost w u)
+  lost w u sound k = rider.regroups u (lost_since w.control.on u.control.on u.control.sessions) sound (sound-lost w u sound) (regroups-lost u.control.sessions w.control.on u.control.on) k
+
+  -- a plan before the last one of its step
+  rides-part : (w : World) (p : Plan) → Comes w p → Both Sound K w → Both Sound K (after_part w p)
+  rides-part w p comes j =
+      let u : World = (carried_out w p).0 in
+      let sound : Sound u = sound-carried w p (case-holds w j.0 0 p (comes.case 0)) in
+      (sound-part w p comes j.0, lost w u sound (case-rides w j.0 j.1 0 p (comes.case 0)).holds)
 
   pub rides-task : (w : World) (t : Task) → Sound w → K w → K (after_task w t)
-  rides-task w t s k = others _ _ (rides-plan w s k t.line (plan w.control w.events t.line t.asked) (plan-case w.control w.events t.line t.asked))
+  rides-task w t s k =
+      let x : Part = (course w t).last in
+      let j : Both Sound K x.world = last-plan (Both Sound K) rides-part w t (s, k) in
+      lost x.world _ (sound-plan x.world t.line x.plan (case-holds x.world j.0 t.line x.plan (course-case w t))) (rides-plan x.world j.0 j.1 t.line x.plan (course-case w t))
 
   pub rides-tasks : (w : World) (tasks : List Task) → Sound w → K w → K (after_tasks w tasks)
   unfolding after_tasks

@@ -1,12 +1,12 @@
 -- Cuts stay sound along every step, and so along every run.
 use Rattle.std.proofs.Common.{ℕ, refl, ap, subst, true, List, [], ◌∷◌, ◌++◌, Option, Some, None}
 use Rattle.dr_model.specs.declared.event.Event.{Event}
-use Rattle.dr_model.specs.declared.event.Event.TheVariants.{Ack, Stopped, Frozen, Thawed, Volume as VolumeDefined}
+use Rattle.dr_model.specs.declared.event.Event.TheVariants.{Ack, Stopped, Frozen, Thawed, Recovered, Volume as VolumeDefined}
 use Rattle.dr_model.specs.Contents.{image}
 use Rattle.dr_model.specs.Histories.{Histories, histories}
 use Rattle.dr_model.specs.Control.{Volume, World, Fuse, nothing}
 use Rattle.dr_model.specs.Moves.{Move, Restart, Hold, target, landed}
-use Rattle.dr_model.specs.Carry.{Act, Make, OpenAttempt, Redo, Acknowledge, Drop, EndFreeze, EndThaw, acknowledged, dropped, frozen, thawed}
+use Rattle.dr_model.specs.Carry.{Act, Make, OpenAttempt, Redo, Acknowledge, Drop, EndFreeze, EndThaw, EndRecovery, acknowledged, dropped, frozen, thawed, recovered}
 use Rattle.dr_model.specs.Runs.{Task, after_task, run}
 use Rattle.dr_model.specs.Table.{table}
 use Rattle.dr_model.specs.Laws.{SoundBut, Sound}
@@ -27,7 +27,7 @@ use Rattle.dr_laws.proofs.Defines.{with_volume, row, table-defined}
 use Rattle.dr_laws.proofs.Starts as starts
 use Rattle.dr_laws.proofs.Steps as steps
 use Rattle.dr_laws.proofs.Rides.{Rides}
-use Rattle.dr_laws.proofs.Riders.{Unheard, unheard, Rider, rides-task, rides-tasks}
+use Rattle.dr_laws.proofs.Riders.{Unheard, unheard, with_table, Rider, rides-task, rides-tasks}
 
 -- what no list hears of, and what cuts no volume
 cuts-unheard : (w u : World) (more : List Event) → SoundCuts w → Unheard w u more → SoundCuts u
@@ -35,7 +35,7 @@ cuts-unheard w u more k q = sound-told w k u more q.quiet q.events (ap (λ (h : 
 
 -- a server stops, and nothing else is done
 cuts-not : (w : World) (x : ℕ) (f : Option Fuse) → SoundCuts w → SoundCuts (not_done w x f)
-cuts-not w x f k = cuts-unheard w (not_done w x f) (Stopped x 0 ∷ []) k (unheard w (not_done w x f) (Stopped x 0 ∷ []) refl (tt, tt) (histories-append w.events (Stopped x 0 ∷ [])) refl refl refl refl refl)
+cuts-not w x f k = cuts-unheard w (not_done w x f) (Stopped x 0 ∷ []) k (unheard w (not_done w x f) (Stopped x 0 ∷ []) refl (tt, tt) (tt, tt) (histories-append w.events (Stopped x 0 ∷ [])) refl refl refl refl refl refl)
 
 -- a move
 module _ (starts : Option ℕ) (w : World) (s : SoundBut starts w) (k : SoundCuts w) where
@@ -74,8 +74,9 @@ acts = record { does = does; counts = λ w m f s k may. cuts-stop None w s k m f
     does w (Drop n) f s k may =
         let h : Histories = histories w.events in
         sound-same w k (dropped w n) refl refl (λ i v. record (table w v) { due = λ q. image h.write (h.now v q ++ waiting-settled n v q w.control.pending may i) })
-    does w (EndFreeze l m) f s k may = cuts-unheard w (frozen w l m) (Frozen l m ∷ []) k (unheard w (frozen w l m) (Frozen l m ∷ []) refl (tt, tt) (histories-append w.events (Frozen l m ∷ [])) refl refl refl refl refl)
-    does w (EndThaw l m) f s k may = cuts-unheard w (thawed w l m) (Thawed l m ∷ []) k (unheard w (thawed w l m) (Thawed l m ∷ []) refl (tt, tt) (histories-append w.events (Thawed l m ∷ [])) refl refl refl refl refl)
+    does w (EndFreeze l m) f s k may = cuts-unheard w (frozen w l m) (Frozen l m ∷ []) k (unheard w (frozen w l m) (Frozen l m ∷ []) refl (tt, tt) (tt, tt) (histories-append w.events (Frozen l m ∷ [])) refl refl refl refl refl refl)
+    does w (EndThaw l m) f s k may = cuts-unheard w (thawed w l m) (Thawed l m ∷ []) k (unheard w (thawed w l m) (Thawed l m ∷ []) refl (tt, tt) (tt, tt) (histories-append w.events (Thawed l m ∷ [])) refl refl refl refl refl refl)
+    does w (EndRecovery i n) f s k may = cuts-unheard w (recovered w i n) (Recovered i n ∷ []) k (unheard w (recovered w i n) (Recovered i n ∷ []) refl (tt, tt) (tt, tt) (histories-append w.events (Recovered i n ∷ [])) refl refl refl refl refl refl)
 
 -- and those of the start of server x
 module _ (x : ℕ) where
@@ -97,6 +98,7 @@ module _ (x : ℕ) where
       does w (Drop n) f j k may = absurd may
       does w (EndFreeze l m) f j k may = absurd may
       does w (EndThaw l m) f j k may = absurd may
+      does w (EndRecovery i n) f j k may = absurd may
 
       counts : (w : World) (m : Move) (f : Option Fuse) → starts.Inner x w → SoundCuts w → starts.MayMove x w m → SoundCuts (done_in_stop w m f)
       counts w (Restart v) f j k may = cuts-stop (Some x) w j.sound k (Restart v) f (starts.may-restart x w v may)
@@ -107,6 +109,7 @@ cuts-ride = record {
   acts = acts;
   start_acts = start-acts;
   unheard = cuts-unheard;
+  regroups = λ w ss s t turn k. sound-same w k (with_table w ss) refl refl refl;
   issues = λ w s v t offset len bytes defined low k. sound-issue w k (issued w s v t offset len bytes defined low) v t offset len bytes refl refl (same-table w s v t offset len bytes defined low);
   defines = λ w s v server tracks here undefined k.
       sound-defined w s.rows k (with_volume w s v server tracks here undefined) (VolumeDefined v server tracks ∷ []) (tt, tt) refl (with-told w (VolumeDefined v server tracks ∷ []) refl) refl v (row w s v server tracks here undefined) undefined refl refl

@@ -1,18 +1,23 @@
 -- What lines on sessions tell: an order tells two events with each entry, at most.
-use Rattle.std.proofs.Common.{ℕ, zero, suc, ◌≡◌, ◌≤◌, ◌+◌, ◌*◌, List, [], ◌∷◌, ◌++◌, length, refl, subst, arith, Bool, true, false, cond, not, ◌&&◌, nat_eq, nat_lt, Option, Some, None}
+use Rattle.std.proofs.Common.{map, ℕ, zero, suc, ◌≡◌, ◌≤◌, ◌+◌, ◌*◌, List, [], ◌∷◌, ◌++◌, length, refl, subst, arith, Bool, true, false, cond, not, ◌&&◌, nat_eq, nat_lt, Option, Some, None}
 use Rattle.std.proofs.lemmas.List.{length-append}
 use Rattle.dr_ids.specs.declared.names.Member.{Member}
 use Rattle.dr_ids.specs.declared.refusal.Refusal.{Refusal}
 use Rattle.dr_model.specs.Pairs.{records}
 use Rattle.dr_model.specs.Phases.{Work, Hold, Release, Seal, Flash, Commit, Revert, Finish, Report}
 use Rattle.dr_model.specs.Control.{Control, World}
-use Rattle.dr_model.specs.Moves.{Hold as HoldMove, Free, Seal as SealMove, Finish as FinishMove, RaiseAttempt, RaiseFloor, Flash as FlashMove, Commit as CommitMove, Revert as RevertMove}
-use Rattle.dr_model.specs.Carry.{Act, Make, OpenAttempt, Next, Pass, Do, End, Entry}
+use Rattle.dr_model.specs.Moves.{Hold as HoldMove, Free, Seal as SealMove, Finish as FinishMove, RaiseAttempt, RaiseFloor, Flash as FlashMove, Commit as CommitMove, Revert as RevertMove, TakeOver}
+use Rattle.dr_model.specs.Carry.{Act, Make, OpenAttempt, EndRecovery, Next, Pass, Do, End, Entry}
 use Rattle.dr_model.specs.Entries.{fields_at}
 use Rattle.dr_model.specs.PairEntries.{reach_refusal, send_refusal, end_if, refuse_if}
 use Rattle.dr_model.specs.SessionEntries.{last_of, hold_refusal, stale_refusal, hold_on, void_refusal, free_on, is_drained, seal_refusal, seal_on, is_flashed, flash_refusal, flash_on, is_committed, commit_refusal, commit_on, revert_on, is_past, finish_on, member_entries, is_on, members_on, order_entries, raise_attempt_on, raise_floor_on, add_entries}
 use Rattle.dr_laws.proofs.Turns.{after_act}
-use Rattle.dr_laws.proofs.Costs.{tells, costs_next, Costs, light-none, light-then, light-costs, small-pass, small-do, small-choice}
+use Rattle.dr_ids.specs.declared.refusal.Decision.{Decision}
+use Rattle.dr_ids.specs.declared.refusal.Decision.TheVariants.{NoMember, Nothing, RevertAll, CommitRest, RevertSome, Impossible}
+use Rattle.dr_model.specs.Layout.{is_part}
+use Rattle.dr_model.specs.RecoveryPlans.{take_over_on, settle_on, end_recovery, recover_entries}
+use Rattle.dr_laws.proofs.Costs.{tells, costs_next, Costs, Light, light-none, light-then, light-costs, small-pass, small-do, small-choice}
+use Rattle.dr_laws.proofs.WriteCosts.{Brief, brief-costs, brief-more, brief-none, brief-then, brief-append}
 
 -- entries that tell two events each, at most
 abbrev Modest : World → Next → Type 0
@@ -132,6 +137,26 @@ order-costs work s n server ms c le b room w =
     let few : length (members_on server ms) ≤ length ms = few-on server ms in
     let short : length (order_entries work s n (members_on server ms)) ≤ length (members_on server ms) * 3 = order-short work s n (members_on server ms) in
     modest-costs (order_entries work s n (members_on server ms)) (modest-order work s n (members_on server ms)) b w (omega arith)
+
+-- a recovery tells one event with each entry, at most
+brief-members : (each : Member → Entry) → ((m : Member) → Light (each m)) → (ms : List Member) → Brief (length ms) (map each ms)
+brief-members each light [] = brief-none 0
+brief-members each light (m ∷ ms) = brief-more (length ms + 1) (length (m ∷ ms)) (map each (m ∷ ms)) (omega arith) (brief-then (length ms) (each m) (map each ms) (light m) (brief-members each light ms))
+
+pub light-settle : (s : ℕ) (d : Decision) (m : Member) → Light (settle_on s d m)
+light-settle s NoMember m w = small-pass w
+light-settle s (Nothing n) m w = small-pass w
+light-settle s (CommitRest n) m w = small-choice w (is_flashed n (fields_at w.control m.c.0)) (Do (Make (CommitMove m.c.0 m.a.0 s n))) Pass (small-do w (Make (CommitMove m.c.0 m.a.0 s n)) (omega arith)) (small-pass w)
+light-settle s (RevertAll n) m w = small-choice w (is_flashed n (fields_at w.control m.c.0)) (Do (Make (RevertMove m.c.0 m.a.0 s n))) Pass (small-do w (Make (RevertMove m.c.0 m.a.0 s n)) (omega arith)) (small-pass w)
+light-settle s (RevertSome o n) m w = small-choice w (is_flashed n (fields_at w.control m.c.0)) (Do (Make (RevertMove m.c.0 m.a.0 s n))) Pass (small-do w (Make (RevertMove m.c.0 m.a.0 s n)) (omega arith)) (small-pass w)
+light-settle s (Impossible a b) m w = small-pass w
+
+pub recover-costs : (s : ℕ) (d : Decision) (ms : List Member) (c : ℕ) → length ms ≤ c → (b : ℕ) → c * 2 + 1 ≤ b → (w : World) → Costs b w (recover_entries s d ms)
+recover-costs s d ms c le b room w =
+    let over : Brief (length ms) (map take_over_on ms) = brief-members take_over_on (λ m w. small-choice w (is_part (fields_at w.control m.b.0).secondary) (Do (Make (TakeOver m.b.0))) Pass (small-do w (Make (TakeOver m.b.0)) (omega arith)) (small-pass w)) ms in
+    let acts : Brief (length ms) (map (settle_on s d) ms) = brief-members (settle_on s d) (light-settle s d) ms in
+    let end : Brief 1 (end_recovery s ∷ []) = brief-then 0 (end_recovery s) [] (λ w. small-do w (EndRecovery s _) (omega arith)) (brief-none 0) in
+    brief-costs b (recover_entries s d ms) (brief-more (length ms + (length ms + 1)) b _ (omega arith) (brief-append (length ms) (length ms + 1) _ _ over (brief-append (length ms) 1 _ _ acts end))) w
 
 -- a member comes
 pub add-costs : (m : Member) (n : ℕ) (w : World) → Costs 2 w (add_entries m n)

@@ -1,5 +1,5 @@
 -- What each step tells: with its answer it is no more than a step has room for.
-use Rattle.std.proofs.Common.{ℕ, zero, suc, ◌≡◌, ◌≢◌, ◌≤◌, ◌<◌, ◌+◌, ◌-◌, List, [], ◌∷◌, ◌++◌, length, refl, ap, sym, ◌∙◌, arith, Bool, true, false, cond, Option, Some, None, Result}
+use Rattle.std.proofs.Common.{ℕ, zero, suc, ◌≡◌, ◌≢◌, ◌≤◌, ◌<◌, ◌+◌, ◌-◌, List, [], ◌∷◌, ◌++◌, length, refl, ap, sym, ◌∙◌, arith, Bool, true, false, cond, Option, Some, None}
 use Rattle.std.proofs.lemmas.List.{length-append}
 use Rattle.std.proofs.Math.Nat.{min-le_right}
 use Rattle.std.specs.Cmp.{nat_cmp_total}
@@ -10,7 +10,6 @@ use Rattle.dr_ids.specs.declared.refusal.Refusal.TheVariants.{Stopped as Stopped
 use Rattle.dr_model.specs.declared.event.Event.{Event}
 use Rattle.dr_model.specs.declared.said.Said.{Said}
 use Rattle.dr_model.specs.declared.step.Name.{Name}
-use Rattle.dr_model.specs.declared.step.Step.{Step}
 use Rattle.dr_model.specs.Layout.{Tracks, Fields}
 use Rattle.dr_model.specs.Relations.{rest, turned}
 use Rattle.dr_model.specs.Limits.{step_events, most_volumes, most_tracks}
@@ -19,18 +18,20 @@ use Rattle.dr_model.specs.Moves.{Relate, Withdraw, Fetch, Resync, Reverse, Leave
 use Rattle.dr_model.specs.Carry.{Make, Entry, Outcome, carry, follow, now}
 use Rattle.dr_model.specs.Entries.{fields_at, is_running, times, on_found, lowest_missing, fetch_next, give_back, share_server, share_size, is_no_target}
 use Rattle.dr_model.specs.PairEntries.{tracks_to_send, is_copying}
-use Rattle.dr_model.specs.Plans.{counted_refusal, restore_refusal, left_by, Plan, plan, entries_plan, tables_plan, named_pair, is_defined, is_owner, differ, is_no_source, has_few_targets, is_plain_target, is_recorded_target, is_lone_restore, has_no_pair, may_return, may_give_back, may_copy, at_most, left_to_copy}
+use Rattle.dr_model.specs.Plans.{counted_refusal, restore_refusal, left_by, Plan, entries_plan, tables_plan, named_pair, is_defined, is_owner, differ, is_no_source, has_few_targets, is_plain_target, is_recorded_target, is_lone_restore, has_no_pair, may_return, may_give_back, may_copy, at_most, left_to_copy}
+use Rattle.dr_model.specs.Forming.{after_part}
 use Rattle.dr_model.specs.Runs.{begun, finish, after_plan}
 use Rattle.dr_model.specs.Laws.{Sound}
 use Rattle.dr_laws.specs.Limits.{IsWithin}
-use Rattle.dr_laws.proofs.Cases.{Case, Says, Defines, Adds, Links, Issues, Writes, Applies, Shows, Stops, Arms, Starts, Flashes, Withdraws, Resyncs, Reverses, Copies, Paths, Unpaths, MakesPair, RemovesPair, Pauses, ResumesPair, Drains, Expires, Freezes, Thaws, JoinsSession, LeavesSession, Mirrors, PausesMirror, Unmirrors, Aborts, AddsMember, Expels, Exchanges, plan-case}
+use Rattle.dr_laws.proofs.Cases.{Case, Says, Defines, Adds, Links, Issues, Writes, Applies, Shows, Stops, Arms, Starts, Flashes, Withdraws, Resyncs, Reverses, Copies, Paths, Unpaths, MakesPair, RemovesPair, Pauses, ResumesPair, Drains, Expires, Freezes, Thaws, JoinsSession, LeavesSession, Mirrors, PausesMirror, Unmirrors, Aborts, AddsMember, Expels, Exchanges, Recovers, Settles}
 use Rattle.dr_laws.proofs.Sets.{false_true, remove_from, not_removed, empty_has, rest_low}
 use Rattle.dr_laws.proofs.Costs.{Costs, costs-nil, costs-check, costs-last, carry-adds, blanks-few, restored-few, Small, Light, AllLight, light-none, light-then, light-costs, small-pass, small-do}
 use Rattle.dr_laws.proofs.CopyCosts.{rounds}
 use Rattle.dr_laws.proofs.PairCosts.{costs-refused, sends-costs, sent-few, suspend_after-few, light-pair, light-remove, length-remove, light-pause, light-resume}
 use Rattle.dr_model.specs.SessionPlans.{member_with}
 use Rattle.dr_groups.proofs.Members.{members-few}
-use Rattle.dr_laws.proofs.SessionCosts.{add-costs, order-costs}
+use Rattle.dr_laws.proofs.SessionCosts.{add-costs, order-costs, light-settle, recover-costs}
+use Rattle.dr_model.specs.RecoveryPlans.{decided_in, settle_on}
 use Rattle.dr_laws.proofs.WriteCosts.{brief-costs, brief-landing, after_write-few, brief-freeze, brief-thaw, brief-expire, brief-start}
 
 -- a set of numbers below n has no more than n
@@ -89,6 +90,14 @@ after_plan-adds w line p s =
     let d : length (after_plan w line p).events ≡ length (finish p o.0 o.1).events + 1 = length-append (finish p o.0 o.1).events _ in
     let few : length p.told + n + m + 2 ≤ step_events = s.few in omega arith
 
+-- without an answer it leaves room for one
+pub after_part-adds : (w : World) (p : Plan) → Spends w p → length (after_part w p).events + 1 ≤ length w.events + step_events
+unfolding after_plan
+after_part-adds w p s =
+    let all : length (after_plan w 0 p).events ≤ length w.events + step_events = after_plan-adds w 0 p s in
+    let one : length (after_plan w 0 p).events ≡ length (after_part w p).events + 1 = length-append (after_part w p).events _ in
+    omega arith
+
 -- entries of one event each
 light-fetch : (v : ℕ) → Light (fetch_next v)
 light-fetch v w = by (lowest_missing v w.control)
@@ -146,7 +155,7 @@ module _ (w : World) (x : Sound w) (h : IsWithin w.control) where
   tables-spends : (first : Control → Control) (told : List Event) (said : Said) → length told ≤ 1 → Spends w (tables_plan first told said)
   tables-spends first told said le = record { spends = 0; costs = costs-nil 0 _; after = 0; follows = none-adds; few = omega arith }
 
-  case-spends : (line : ℕ) (p : Plan) → Case w.control w.events line p → Spends w p
+  pub case-spends : (line : ℕ) (p : Plan) → Case w.control w.events line p → Spends w p
   case-spends line _ (Says a) = tables-spends _ _ _ (omega arith)
   case-spends line _ (Defines name free) = tables-spends _ _ _ (omega arith)
   case-spends line _ (Adds v s tracks here free) = tables-spends _ _ _ (omega arith)
@@ -213,10 +222,12 @@ module _ (w : World) (x : Sound w) (h : IsWithin w.control) where
   case-spends line _ (Aborts s y found free) = record { spends = 0; costs = costs-nil 0 _; after = 0; follows = none-adds; few = omega arith }
   case-spends line _ (AddsMember s a c y joins) = record { spends = 2; costs = add-costs (member_with w.control a c) _ _; after = 0; follows = none-adds; few = omega arith }
   case-spends line _ (Expels s a y m found is idle on) = record { spends = 1; costs = costs-last 1 _ (Leave m.c.0 m.a.0 s) (omega arith); after = 0; follows = none-adds; few = omega arith }
+  case-spends line _ (Recovers s y found on) =
+      let few : length y.members ≤ length w.control.volumes = members-few w.control s y x.groups found in
+      let room : length w.control.volumes ≤ most_volumes = h.volumes in
+      record { spends = 129; costs = recover-costs s (decided_in s w.control) y.members 64 (omega arith) 129 (omega arith) _; after = 0; follows = none-adds; few = omega arith }
+  case-spends line _ (Settles s y m found here on free) = entries-spends _ _ 1 (light-costs _ (light-then (settle_on s (decided_in s w.control) m) [] (light-settle s (decided_in s w.control) m) light-none) 1 _ (omega arith)) (omega arith)
   case-spends line _ (Exchanges s server reply y r o allowed) =
       let few : length y.members ≤ length w.control.volumes = members-few w.control s y x.groups allowed.found in
       let room : length w.control.volumes ≤ most_volumes = h.volumes in
       record { spends = 384; costs = order-costs o.work s o.number server y.members 64 (omega arith) 384 (omega arith) _; after = 0; follows = none-adds; few = omega arith }
-
-  pub plan-spends : (line : ℕ) (asked : Result Step ℕ) → Spends w (plan w.control w.events line asked)
-  plan-spends line asked = case-spends line _ (plan-case w.control w.events line asked)

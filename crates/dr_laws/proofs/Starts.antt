@@ -12,7 +12,7 @@ use Rattle.dr_model.specs.Histories.{Write, Histories, histories}
 use Rattle.dr_model.specs.Control.{Control, Pending, Volume, World, Fuse, is_volume}
 use Rattle.dr_model.specs.Pairs.{must_restart}
 use Rattle.dr_model.specs.Moves.{Move, Restart, is_other}
-use Rattle.dr_model.specs.Carry.{Act, Make, OpenAttempt, Redo, Acknowledge, Drop, EndFreeze, EndThaw, Pass, Do, Entry, acknowledged}
+use Rattle.dr_model.specs.Carry.{Act, Make, OpenAttempt, Redo, Acknowledge, Drop, EndFreeze, EndThaw, EndRecovery, Pass, Do, Entry, acknowledged}
 use Rattle.dr_model.specs.Entries.{fields_at}
 use Rattle.dr_model.specs.WriteEntries.{belongs, redo_on, restart_on, start_entries}
 use Rattle.dr_model.specs.Plans.{has_landed, acknowledge_on, acknowledge_if, start_plan, starting}
@@ -53,7 +53,7 @@ found-by : (P : Pending → Type 0) (x p : Pending) (o : Option Pending) (b : Bo
 found-by P x p o true here more h = let e : x ≡ p = cc in subst P e here
 found-by P x p o false here more h = more h
 
-find-all : (P : Pending → Type 0) (f : Pending → Bool) (p : Pending) (ps : List Pending) → find f ps ≡ Some p → AllPending P ps → P p
+pub find-all : (P : Pending → Type 0) (f : Pending → Bool) (p : Pending) (ps : List Pending) → find f ps ≡ Some p → AllPending P ps → P p
 find-all P f p [] h all = absurd cc
 find-all P f p (x ∷ xs) h all = found-by P x p (find f xs) (f x) all.0 (λ h. find-all P f p xs h all.1) h
 
@@ -162,6 +162,7 @@ module _ (s : ℕ) where
   MayStart w (Drop n) = ⊥
   MayStart w (EndFreeze l m) = ⊥
   MayStart w (EndThaw l m) = ⊥
+  MayStart w (EndRecovery s n) = ⊥
 
   -- the server stays on while its acts are done
   pub record Inner (w : World) : Type 0 where
@@ -261,6 +262,7 @@ module _ (s : ℕ) where
   runs w (Drop n) d may = absurd d
   runs w (EndFreeze l m) d may = absurd d
   runs w (EndThaw l m) d may = absurd d
+  runs w (EndRecovery s n) d may = absurd d
 
   -- a volume that goes on leaves the queue as it was
   pub may-restart : (w : World) (v : ℕ) → OnServer w v → May w (Restart v)
@@ -275,6 +277,7 @@ module _ (s : ℕ) where
   does w (Drop n) f j may = absurd may
   does w (EndFreeze l m) f j may = absurd may
   does w (EndThaw l m) f j may = absurd may
+  does w (EndRecovery s n) f j may = absurd may
 
   counts : (w : World) (m : Move) (f : Option Fuse) → Inner w → MayMove w m → Sound (done_in_stop w m f)
   counts w (Restart v) f j may = sound-off (done_in_stop w (Restart v) f) (sound-stop (Some s) w (Restart v) f j.sound (may-restart w v may)) (ap (λ x. at w.control.on x false s) may.own ∙ at_same w.control.on s false)
@@ -292,6 +295,7 @@ module _ (s : ℕ) where
   fails w (Drop n) f d j may = absurd d
   fails w (EndFreeze l m) f d j may = absurd d
   fails w (EndThaw l m) f d j may = absurd d
+  fails w (EndRecovery s n) f d j may = absurd d
 
   pub keeps : along.Keeps Inner Sound MayStart
   keeps = record { runs = runs; does = does; counts = counts; opens = λ w v i n f j may. absurd may; fails = λ w a f d j may. fails w a f d j may }

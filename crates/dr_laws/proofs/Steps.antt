@@ -1,5 +1,5 @@
 -- Each step leaves a sound world, and so does each run.
-use Rattle.std.proofs.Common.{ℕ, ◌≡◌, ◌+◌, refl, ap, sym, ◌∙◌, subst, Bool, false, cond, List, [], ◌∷◌, ◌++◌, length, take, Option, Some, None, Result, arith}
+use Rattle.std.proofs.Common.{ℕ, ◌≡◌, ◌+◌, refl, ap, sym, ◌∙◌, subst, Bool, false, cond, List, [], ◌∷◌, ◌++◌, length, take, Option, Some, None, arith}
 use Rattle.std.proofs.lemmas.List.{append-nil}
 use Rattle.std.specs.List.{find}
 use Rattle.dr_ids.specs.Links.{joins}
@@ -7,7 +7,6 @@ use Rattle.dr_ids.specs.Paths.{Path, with_path, without_path}
 use Rattle.dr_model.specs.declared.event.Event.{Event}
 use Rattle.dr_model.specs.declared.event.Event.TheVariants.{Server as ServerDefined, Stopped, Shown}
 use Rattle.dr_model.specs.declared.said.Said.{Said}
-use Rattle.dr_model.specs.declared.step.Step.{Step}
 use Rattle.dr_model.specs.Tables.{at}
 use Rattle.dr_model.specs.Answers.{answer}
 use Rattle.dr_model.specs.Contents.{image, image_at}
@@ -15,21 +14,23 @@ use Rattle.dr_model.specs.Histories.{histories, after_event}
 use Rattle.dr_model.specs.Control.{Control, Pending, Fuse, World, nothing}
 use Rattle.dr_model.specs.Moves.{is_write}
 use Rattle.dr_model.specs.Carry.{carry}
-use Rattle.dr_model.specs.Plans.{Plan, plan, same, only_says, tables_plan, name_bytes, issue_done, write_done, apply_done, torn_bytes}
-use Rattle.dr_model.specs.Runs.{Task, begun, said, after_plan, after_task, after_tasks, run}
-use Rattle.dr_model.specs.Groups.{Housed}
+use Rattle.dr_model.specs.Plans.{Plan, same, only_says, tables_plan, name_bytes, issue_done, write_done, apply_done, torn_bytes}
+use Rattle.dr_model.specs.Forming.{Part, after_part}
+use Rattle.dr_model.specs.Runs.{Task, course, plans_of, begun, carried_out, said, after_plan, after_task, after_tasks, run}
+use Rattle.dr_model.specs.Groups.{In, Housed}
 use Rattle.dr_model.specs.Table.{table}
 use Rattle.dr_model.specs.Laws.{SoundRows, Sound}
 use Rattle.dr_model.proofs.Images.{histories-append}
 use Rattle.dr_model.proofs.LawfulLemmas.{lawful-no_fields}
 use Rattle.dr_groups.proofs.Housed.{housed-none, housed-server}
 use Rattle.dr_phases.proofs.Volumes.{attempts-none}
-use Rattle.dr_laws.proofs.Cases.{Case, Says, Defines, Adds, Links, Issues, Writes, Applies, Shows, Stops, Arms, Starts, Flashes, Withdraws, Resyncs, Reverses, Copies, Paths, Unpaths, MakesPair, RemovesPair, Pauses, ResumesPair, Drains, Expires, Freezes, Thaws, JoinsSession, LeavesSession, Mirrors, PausesMirror, Unmirrors, Aborts, AddsMember, Expels, Exchanges, IsTrack, plan-case, servers-left, is-new, may-issue}
+use Rattle.dr_laws.proofs.Cases.{Case, Says, Defines, Adds, Links, Issues, Writes, Applies, Shows, Stops, Arms, Starts, Flashes, Withdraws, Resyncs, Reverses, Copies, Paths, Unpaths, MakesPair, RemovesPair, Pauses, ResumesPair, Drains, Expires, Freezes, Thaws, JoinsSession, LeavesSession, Mirrors, PausesMirror, Unmirrors, Aborts, AddsMember, Expels, Exchanges, Recovers, Settles, IsTrack, servers-left, is-new, may-issue}
+use Rattle.dr_laws.proofs.Parts.{Comes, course-case, each-plan, last-plan}
 use Rattle.dr_laws.proofs.KeepsQueue.{Quiet, AllQuiet, goes-off}
 use Rattle.dr_laws.proofs.KeepsSound.{StepHolds, RowsAt, MayDo, holds-moves, keeps-sound, sound-told, over}
 use Rattle.dr_laws.proofs.Issues.{issued, sound-issued, one-new}
 use Rattle.dr_laws.proofs.Lands.{found-alone}
-use Rattle.dr_laws.proofs.FitsFlash.{holds-flash, holds-withdraw, holds-resync, holds-reverse}
+use Rattle.dr_laws.proofs.FitsFlash.{sound-begun, holds-entries, holds-flash, holds-withdraw, holds-resync, holds-reverse}
 use Rattle.dr_laws.proofs.FitsCopy.{holds-copy}
 use Rattle.dr_laws.proofs.FitsPairs.{holds-pair, holds-remove, holds-pause, holds-resume}
 use Rattle.dr_laws.proofs.FitsDrain.{holds-drain}
@@ -37,6 +38,7 @@ use Rattle.dr_laws.proofs.FitsWrites.{lands, writes-after}
 use Rattle.dr_laws.proofs.FitsSessions.{sound-lost, holds-joined, holds-left, holds-mirrored, holds-paused, holds-unmirrored, holds-aborted, holds-orders}
 use Rattle.dr_laws.proofs.FitsMembers.{orders-added, orders-expelled}
 use Rattle.dr_laws.proofs.FitsOrders.{orders-ordered}
+use Rattle.dr_laws.proofs.FitsRecovery.{along-recover, along-settle}
 use Rattle.dr_laws.proofs.FitsHolds.{holds-freeze, holds-thaw, holds-expire}
 use Rattle.dr_laws.proofs.Sets.{in_none, empty_has}
 use Rattle.dr_laws.proofs.Defines.{sound-defined}
@@ -144,16 +146,27 @@ module _ (w : World) (s : Sound w) (line : ℕ) where
   case-holds _ (AddsMember i a c x joins) = holds-orders w _ (orders-added w s i a c x joins)
   case-holds _ (Expels i a x m found is idle on) = holds-orders w _ (orders-expelled w s i a x m found is idle on)
   case-holds _ (Exchanges i server reply x r o allowed) = holds-orders w _ (orders-ordered w s i server x r o allowed reply)
+  case-holds _ (Recovers i x found on) = holds-moves w _ (sound-begun w s) (along-recover w s i x found on) (λ q v y. over v y) (λ v y. y)
+  case-holds _ (Settles i x m found here on free) = holds-entries w _ _ s (along-settle w s i x found on free m here)
 
-  pub step-holds : (asked : Result Step ℕ) → StepHolds w (plan w.control w.events line asked)
-  step-holds asked = case-holds _ (plan-case w.control w.events line asked)
+pub sound-carried : (w : World) (p : Plan) → StepHolds w p → Sound (carried_out w p).0
+sound-carried w p holds = along.plan-keeps Sound RowsAt MayDo keeps-sound (λ v s. s.rows) w p holds
 
-sound-plan : (w : World) (line : ℕ) (p : Plan) → StepHolds w p → Sound (after_plan w line p)
+pub sound-plan : (w : World) (line : ℕ) (p : Plan) → StepHolds w p → Sound (after_plan w line p)
 unfolding after_plan
-sound-plan w line p holds = sound-said _ line _ (along.plan-keeps Sound RowsAt MayDo keeps-sound (λ v s. s.rows) w p holds)
+sound-plan w line p holds = sound-said _ line _ (sound-carried w p holds)
+
+-- a plan before the last one of its step
+pub sound-part : (w : World) (p : Plan) → Comes w p → Sound w → Sound (after_part w p)
+sound-part w p comes s = sound-lost w _ (sound-carried w p (case-holds w s 0 p (comes.case 0)))
+
+pub sound-last : (w : World) (t : Task) → Sound w → Sound (course w t).last.world
+sound-last w t s = last-plan Sound sound-part w t s
 
 pub sound-task : (w : World) (t : Task) → Sound w → Sound (after_task w t)
-sound-task w t s = sound-lost w _ (sound-plan w t.line (plan w.control w.events t.line t.asked) (step-holds w s t.line t.asked))
+sound-task w t s =
+    let x : Part = (course w t).last in
+    sound-lost x.world _ (sound-plan x.world t.line x.plan (case-holds x.world (sound-last w t s) t.line x.plan (course-case w t)))
 
 pub sound-tasks : (w : World) (tasks : List Task) → Sound w → Sound (after_tasks w tasks)
 unfolding after_tasks
@@ -203,6 +216,8 @@ sound-nothing = record {
 pub sound-run : (tasks : List Task) → Sound (run tasks)
 sound-run tasks = sound-tasks nothing tasks sound-nothing
 
--- and the table of volumes is as it should be after each entry of a step
-pub rows-moment : (w : World) (t : Task) (n : ℕ) → Sound w → let p : Plan = plan w.control w.events t.line t.asked in SoundRows (table (carry (begun w p) (take n p.entries)).0)
-rows-moment w t n s = along.plan-moment Sound RowsAt MayDo keeps-sound (λ v s. s.rows) w _ n (step-holds w s t.line t.asked)
+-- and the table of volumes is as it should be after each entry of each plan of a step
+pub rows-moment : (w : World) (t : Task) (x : Part) (n : ℕ) → Sound w → In x (plans_of w t) → SoundRows (table (carry (begun x.world x.plan) (take n x.plan.entries)).0)
+rows-moment w t x n s there =
+    let b = each-plan Sound sound-part w t s x there in
+    along.plan-moment Sound RowsAt MayDo keeps-sound (λ v s. s.rows) x.world x.plan n (case-holds x.world b.0 t.line x.plan b.1)

@@ -5,13 +5,13 @@ use Rattle.std.proofs.lemmas.List.{append-nil}
 use Rattle.std.specs.Option.{option_or}
 use Rattle.dr_ids.specs.declared.refusal.Refusal.{Refusal}
 use Rattle.dr_model.specs.declared.event.Event.{Event}
-use Rattle.dr_model.specs.declared.event.Event.TheVariants.{Ack, Blanked, Restored, Stopped, Suspended, Frozen, Thawed, Begin, Cut}
+use Rattle.dr_model.specs.declared.event.Event.TheVariants.{Ack, Blanked, Restored, Stopped, Suspended, Frozen, Thawed, Recovered, Begin, Cut}
 use Rattle.dr_model.specs.Control.{Control, Fuse, Volume as VolumeRow, World}
 use Rattle.dr_model.specs.Layout.{Tracks}
 use Rattle.dr_model.specs.Relations.{is_bare, in_order, rest}
 use Rattle.dr_model.specs.Pairs.{is_suspended}
 use Rattle.dr_model.specs.Moves.{Move, Land, Overwrite, Keep, Note, Relate, Withdraw, Fetch, Resync, Reverse, Restore, Release, Store, Strike, Suspend, MakeSecondary, MakePrimary, DropPrimary, DropSecondary, Follow, Resume, TakeOver, Unsync, Mirror, LandBoth, Thaw, Lift, Restart, Hold, Free, Seal, Finish, RaiseAttempt, RaiseFloor, Leave, Flash, Commit, Revert, told_blank, told_restored, told, told_in_stop, landed, target}
-use Rattle.dr_model.specs.Carry.{Act, Make, OpenAttempt, Redo, Acknowledge, Drop, EndFreeze, EndThaw, act, Turn, Next, Pass, Do, End, Entry, Outcome, carry, continue, go}
+use Rattle.dr_model.specs.Carry.{Act, Make, OpenAttempt, Redo, Acknowledge, Drop, EndFreeze, EndThaw, EndRecovery, act, Turn, Next, Pass, Do, End, Entry, Outcome, carry, continue, go}
 use Rattle.dr_laws.specs.Stops.{first_stop, stop_in, refused_stop, StopsTold}
 use Rattle.dr_laws.proofs.Turns.{act-cases, Counts, after_act, server_of}
 
@@ -101,6 +101,7 @@ done-tells w (Acknowledge n) f = record { events = Ack n ∷ []; told = refl; te
 done-tells w (Drop n) f = record { events = []; told = sym (append-nil w.events); tells = refl }
 done-tells w (EndFreeze l m) f = record { events = Frozen l m ∷ []; told = refl; tells = refl }
 done-tells w (EndThaw l m) f = record { events = Thawed l m ∷ []; told = refl; tells = refl }
+done-tells w (EndRecovery s n) f = record { events = Recovered s n ∷ []; told = refl; tells = refl }
 
 counts-tells : (w : World) (a : Act) → Counts w a (λ t. StopsTold w t.0 t.1)
 counts-tells w (Make m) = λ f. let u : VolumeRow = w.control.volume (target m) in record { events = told_in_stop m u ++ Stopped u.server (landed m) ∷ []; told = refl; tells = stop-told m u }
@@ -110,6 +111,7 @@ counts-tells w (Acknowledge n) = tt
 counts-tells w (Drop n) = tt
 counts-tells w (EndFreeze l m) = tt
 counts-tells w (EndThaw l m) = tt
+counts-tells w (EndRecovery s n) = tt
 
 act-tells : (w : World) (a : Act) → StopsTold w (act w a).0 (act w a).1
 act-tells w a = act-cases w a (λ t. StopsTold w t.0 t.1) (λ d off. record { events = []; told = sym (append-nil w.events); tells = refl })

@@ -6,7 +6,7 @@ use Rattle.dr_model.specs.Histories.{histories}
 use Rattle.dr_model.specs.Layout.{Fields}
 use Rattle.dr_model.specs.Control.{Fuse, Volume, World}
 use Rattle.dr_model.specs.Moves.{Move, Hold, Carried, target, next_fields, carried, told, told_in_stop, landed, settled, settled_in_stop, updated, moved}
-use Rattle.dr_model.specs.Carry.{Act, Make, OpenAttempt, Redo, Acknowledge, Drop, EndFreeze, EndThaw, dropped, frozen, thawed, Turn, Ended, ended, update, turn, redo, redo_ended, redo_writes, act, acknowledged, spent, off, pass, counts_by, writes, finished, cut_short, equal, attempt_begun, opened_by}
+use Rattle.dr_model.specs.Carry.{Act, Make, OpenAttempt, Redo, Acknowledge, Drop, EndFreeze, EndThaw, EndRecovery, dropped, frozen, thawed, recovered, Turn, Ended, ended, update, turn, redo, redo_ended, redo_writes, act, acknowledged, spent, off, pass, counts_by, writes, finished, cut_short, equal, attempt_begun, opened_by}
 use Rattle.dr_model.proofs.Images.{at_same}
 
 abbrev pub server_at : World → ℕ → ℕ
@@ -119,6 +119,7 @@ place (Acknowledge n) = 0
 place (Drop n) = 0
 place (EndFreeze l m) = 0
 place (EndThaw l m) = 0
+place (EndRecovery s n) = 0
 
 abbrev pub server_of : World → Act → ℕ
 server_of w a = server_at w (place a)
@@ -132,6 +133,7 @@ after_act w (Acknowledge n) f = acknowledged w n
 after_act w (Drop n) f = dropped w n
 after_act w (EndFreeze l m) f = frozen w l m
 after_act w (EndThaw l m) f = thawed w l m
+after_act w (EndRecovery s n) f = recovered w s n
 
 -- acts that write to a device
 abbrev pub Writes : Act → Type 0
@@ -139,6 +141,7 @@ Writes (Acknowledge n) = ⊥
 Writes (Drop n) = ⊥
 Writes (EndFreeze l m) = ⊥
 Writes (EndThaw l m) = ⊥
+Writes (EndRecovery s n) = ⊥
 Writes a = Unit {0}
 
 -- a move that counts as done in a stop, and one that begins an attempt
@@ -191,3 +194,4 @@ act-cases w (Acknowledge n) P o a b c = a None
 act-cases w (Drop n) P o a b c = a None
 act-cases w (EndFreeze l m) P o a b c = a None
 act-cases w (EndThaw l m) P o a b c = a None
+act-cases w (EndRecovery s n) P o a b c = a None

@@ -3,14 +3,14 @@ use Rattle.std.proofs.Common.{ℕ, ◌≡◌, List, [], ◌∷◌, ◌++◌, map
 use Rattle.std.specs.List.{fold}
 use Rattle.std.proofs.lemmas.List.Sums.{fold-append}
 use Rattle.dr_model.specs.declared.event.Event.{Event}
-use Rattle.dr_model.specs.declared.event.Event.TheVariants.{Blanked, Restored, Stopped, Ack, Suspended, Frozen, Thawed, Begin, Cut}
+use Rattle.dr_model.specs.declared.event.Event.TheVariants.{Blanked, Restored, Stopped, Ack, Suspended, Frozen, Thawed, Recovered, Begin, Cut}
 use Rattle.dr_model.specs.Layout.{Tracks}
 use Rattle.dr_model.specs.Relations.{rest, in_order, is_bare, turned, given_up}
 use Rattle.dr_model.specs.Histories.{Histories, histories, after_event}
 use Rattle.dr_model.specs.Control.{Fuse, Volume, World}
 use Rattle.dr_model.specs.Pairs.{is_suspended}
 use Rattle.dr_model.specs.Moves.{Move, Land, Overwrite, Withdraw, Reverse, Release, Suspend, LandBoth, Hold, target, told, told_in_stop, told_blank, landed}
-use Rattle.dr_model.specs.Carry.{Act, Make, OpenAttempt, Redo, Acknowledge, Drop, EndFreeze, EndThaw, Next, Pass, Do, End, Entry, Turn, Outcome, act, carry, continue, go}
+use Rattle.dr_model.specs.Carry.{Act, Make, OpenAttempt, Redo, Acknowledge, Drop, EndFreeze, EndThaw, EndRecovery, Next, Pass, Do, End, Entry, Turn, Outcome, act, carry, continue, go}
 use Rattle.dr_model.proofs.Images.{histories-append}
 use Rattle.dr_laws.proofs.Turns.{act-cases, Counts, after_act, server_of}
 
@@ -63,6 +63,7 @@ done-writes w (Acknowledge n) f = with-told w (Ack n ∷ []) refl
 done-writes w (Drop n) f = refl
 done-writes w (EndFreeze l m) f = with-told w (Frozen l m ∷ []) refl
 done-writes w (EndThaw l m) f = with-told w (Thawed l m ∷ []) refl
+done-writes w (EndRecovery s n) f = with-told w (Recovered s n ∷ []) refl
 
 pub stopped-writes : (w : World) (m : Move) → let u : Volume = w.control.volume (target m) in (histories (w.events ++ (told_in_stop m u ++ Stopped u.server (landed m) ∷ []))).write ≡ (histories w.events).write
 stopped-writes w m =
@@ -79,6 +80,7 @@ counts-writes w (Acknowledge n) = tt
 counts-writes w (Drop n) = tt
 counts-writes w (EndFreeze l m) = tt
 counts-writes w (EndThaw l m) = tt
+counts-writes w (EndRecovery s n) = tt
 
 act-writes : (w : World) (a : Act) → Alike (act w a).0 w
 act-writes w a = act-cases w a (λ (t : Turn). Alike t.0 w) (λ d off. refl) (λ f. done-writes w a f) (counts-writes w a) (λ d f. with-told w (Stopped (server_of w a) 0 ∷ []) refl)

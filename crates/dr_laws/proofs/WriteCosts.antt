@@ -24,16 +24,16 @@ pub record Brief (n : ℕ) (ds : List Entry) : Type 0 where
 pub brief-costs : (n : ℕ) (ds : List Entry) → Brief n ds → (w : World) → Costs n w ds
 brief-costs n ds b w = light-costs ds b.light n w b.short
 
-brief-more : (n m : ℕ) (ds : List Entry) → n ≤ m → Brief n ds → Brief m ds
+pub brief-more : (n m : ℕ) (ds : List Entry) → n ≤ m → Brief n ds → Brief m ds
 brief-more n m ds le b = record { light = b.light; short = let short : length ds ≤ n = b.short in omega arith }
 
-brief-none : (n : ℕ) → Brief n []
+pub brief-none : (n : ℕ) → Brief n []
 brief-none n = record { light = light-none; short = omega arith }
 
-brief-then : (n : ℕ) (d : Entry) (ds : List Entry) → Light d → Brief n ds → Brief (n + 1) (d ∷ ds)
+pub brief-then : (n : ℕ) (d : Entry) (ds : List Entry) → Light d → Brief n ds → Brief (n + 1) (d ∷ ds)
 brief-then n d ds first b = record { light = light-then d ds first b.light; short = let short : length ds ≤ n = b.short in omega arith }
 
-brief-append : (n m : ℕ) (ds es : List Entry) → Brief n ds → Brief m es → Brief (n + m) (ds ++ es)
+pub brief-append : (n m : ℕ) (ds es : List Entry) → Brief n ds → Brief m es → Brief (n + m) (ds ++ es)
 brief-append n m ds es a b = record {
   light = light-append ds es a.light b.light;
   short = let e : length (ds ++ es) ≡ length ds + length es = length-append ds es in let first : length ds ≤ n = a.short in let second : length es ≤ m = b.short in omega arith;

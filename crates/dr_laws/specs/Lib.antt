@@ -5,3 +5,5 @@ pub mod Windows
 pub mod Seals
 pub mod BothViews
 pub mod Decided
+pub mod Example
+pub mod Recovered

@@ -4,8 +4,9 @@ use Rattle.dr_ids.specs.declared.refusal.Refusal.{Refusal}
 use Rattle.dr_ids.specs.declared.refusal.Refusal.TheVariants.{Stopped}
 use Rattle.dr_model.specs.Control.{World, nothing}
 use Rattle.dr_model.specs.Carry.{Next, Pass, Do, End, Entry, act, carry}
-use Rattle.dr_model.specs.Plans.{Plan, plan}
-use Rattle.dr_model.specs.Runs.{Task, begun, after_task}
+use Rattle.dr_model.specs.Plans.{Plan}
+use Rattle.dr_model.specs.Forming.{Part, after_part}
+use Rattle.dr_model.specs.Runs.{Task, course, begun, after_task}
 
 -- the world after an act, and those that come where no server stopped in it
 abbrev pub on_from : World → Option ℕ → (World → List World) → List World
@@ -27,15 +28,24 @@ abbrev pub worlds_after : World → Option Refusal → (ℕ → List Entry) → 
 worlds_after w (Some (Stopped s)) follows = worlds w (follows s.0)
 worlds_after w _ follows = []
 
--- a step: as it begins, after each act, and as it is answered
+-- a plan: as it begins, and after each act
 abbrev pub plan_moments : World → Plan → List World
 plan_moments w p =
     begun w p
     ∷ (worlds (begun w p) p.entries
     ++ worlds_after (carry (begun w p) p.entries).0 (carry (begun w p) p.entries).1 p.follows)
 
+abbrev pub part_moments : Part → List World
+part_moments x = plan_moments x.world x.plan
+
+-- plans that aren't the last of their step, and as each ends
+unfoldable pub parts_moments : List Part → List World
+parts_moments [] = []
+parts_moments (x ∷ xs) = part_moments x ++ (after_part x.world x.plan ∷ parts_moments xs)
+
+-- a step: its plans, and as it is answered
 abbrev pub task_moments : World → Task → List World
-task_moments w t = plan_moments w (plan w.control w.events t.line t.asked) ++ after_task w t ∷ []
+task_moments w t = parts_moments (course w t).before ++ (part_moments (course w t).last ++ after_task w t ∷ [])
 
 unfoldable pub moments_from : World → List Task → List World
 moments_from w [] = []

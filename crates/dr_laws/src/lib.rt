@@ -2,32 +2,51 @@
 //! by its contract.
 #![tactic(auto)]
 
-ghost use Rattle.std.specs.Prelude.{◌≡◌, ◌≢◌, ◌≤◌, ◌<◌, ℕ, Bool, List, Option, take, length};
+ghost use Rattle.std.specs.Prelude.{◌≡◌, ◌≢◌, ◌≤◌, ◌<◌, ◌+◌, ◌++◌, ◌∷◌, [], ℕ, Bool, false, List, Option, Some, None, take, length};
 ghost use Rattle.dr_ids.specs.declared.names.Member.{Member};
 ghost use Rattle.dr_ids.specs.declared.refusal.Refusal.{Refusal};
 ghost use Rattle.dr_model.specs.declared.step.Devs.{Devs};
+ghost use Rattle.dr_model.specs.declared.step.Name.{Name};
 ghost use Rattle.dr_model.specs.declared.step.Step.TheVariants as step;
 ghost use Rattle.dr_model.specs.Histories.{Write};
 ghost use Rattle.dr_model.specs.Layout.{Blocks};
 ghost use Rattle.dr_model.specs.Control.{World, Fuse};
 ghost use Rattle.dr_model.specs.Moves.{Move, Keep, Note, Fetch, Flash, Commit, Revert, target};
 ghost use Rattle.dr_model.specs.Carry.{carry};
-ghost use Rattle.dr_model.specs.Plans.{Plan, plan, step_plan};
-ghost use Rattle.dr_model.specs.Runs.{Task, begun, after_plan, after_task, after_tasks, run};
+ghost use Rattle.dr_model.specs.Plans.{step_plan, start_plan};
+ghost use Rattle.dr_model.specs.declared.step.Name.{Name};
+ghost use Rattle.dr_ids.specs.declared.refusal.Decision.{Decision};
+ghost use Rattle.dr_model.specs.Forming.{Part, turns, most_turns};
+ghost use Rattle.dr_model.specs.Runs.{Task, plans_of, begun, after_plan, after_task, after_tasks, run};
 ghost use Rattle.dr_model.specs.ReadStops.{Ends};
 ghost use Rattle.dr_model.specs.Table.{Table, table};
 ghost use Rattle.dr_model.specs.Rows.{after};
-ghost use Rattle.dr_model.specs.Laws.{SoundRows, Sound, shown};
+ghost use Rattle.dr_model.specs.Laws.{SoundRows, Sound, shown, sizes};
+ghost use Rattle.dr_model.specs.RecoveryPlans.{recover_plan, settle_plan, secondary_refusal, says_group, group_number, lets_commit, lets_revert};
+ghost use Rattle.dr_model.specs.PlanParts.{Plan};
+ghost use Rattle.dr_model.specs.Entries.{fields_at};
+ghost use Rattle.dr_model.specs.declared.event.Event.{Event};
+ghost use Rattle.dr_model.specs.declared.event.Event.TheVariants.{Recovered};
 ghost use Rattle.dr_model.specs.Allowed.{Allowed};
 ghost use Rattle.dr_model.specs.Cuts.{SealsHold};
+ghost use Rattle.dr_model.specs.ClosedCuts.{ClosedCuts};
 ghost use Rattle.dr_model.specs.Fits.{Fits};
 ghost use Rattle.dr_model.specs.Groups.{In};
 ghost use Rattle.dr_model.specs.Limits.{most_events};
-ghost use Rattle.dr_model.specs.Sessions.{Session};
+ghost use Rattle.dr_model.specs.Sessions.{Session, session_in};
+ghost use Rattle.dr_ids.specs.declared.refusal.Decision.TheVariants.{NoMember, Nothing, RevertAll, CommitRest};
+ghost use Rattle.dr_ids.specs.declared.refusal.PairSeen.TheVariants.{TargetCopyPending};
+ghost use Rattle.dr_ids.specs.declared.refusal.Refusal.TheVariants.{PairState, Forbidden, NoGroup};
+ghost use Rattle.dr_model.specs.declared.said.Addition.TheVariants.{Alone, InGroup};
+ghost use Rattle.dr_model.specs.declared.said.Said.TheVariants.{Done, Refused};
+ghost use Rattle.dr_model.specs.declared.event.Event.TheVariants.{TakenOver, Committed, Reverted};
+ghost use Rattle.dr_phases.specs.Example.{start, one_flashed, one_committed, over};
 ghost use Rattle.dr_cuts.specs.Sent.{SendsTo, CutsHold};
 ghost use Rattle.dr_laws.specs.Limits.{IsWithin};
 ghost use Rattle.dr_laws.specs.BothViews.{IsRevertible, Settles, set_aside};
 ghost use Rattle.dr_laws.specs.Decided.{DecidesAfter};
+ghost use Rattle.dr_laws.specs.Example.{says, tells, taken};
+ghost use Rattle.dr_laws.specs.Recovered.{decided_over, recovered_in, recovered_on, SameRecovery, KeepsRecovery, HasRecovered, TellsRecovery, HoldsTracks};
 ghost use Rattle.dr_laws.specs.Stops.{StopsTold, refused_stop};
 ghost use Rattle.dr_laws.specs.Seals.{SealsHoldOn};
 ghost use Rattle.dr_laws.specs.Windows.{FreezeCut};
@@ -46,16 +65,14 @@ pub fn every_step_keeps_soundness()
     ensures { (w : World) (tasks : List Task) → Sound w → Sound (after_tasks w tasks) }
 {}
 
-/// The table of volumes is as it should be after each entry of a step, too.
+/// The table of volumes is as it should be after each entry of each plan of a step, too.
 pub fn rows_hold_at_every_moment()
-    ensures { (w : World) (t : Task) (n : ℕ) → Sound w →
-        let p : Plan = plan w.control w.events t.line t.asked in SoundRows (table (carry (begun w p) (take n p.entries)).0) }
+    ensures { (w : World) (t : Task) (x : Part) (n : ℕ) → Sound w → In x (plans_of w t) → SoundRows (table (carry (begun x.world x.plan) (take n x.plan.entries)).0) }
 {}
 
 /// It is so as well where servers go off by themselves between the acts of a step.
 pub fn rows_hold_where_reads_fail()
-    ensures { (armed : ℕ → Bool) (w u : World) (r : Option Refusal) (t : Task) → Sound w →
-        let p : Plan = plan w.control w.events t.line t.asked in Ends armed u r (begun w p) p.entries → SoundRows (table u) }
+    ensures { (armed : ℕ → Bool) (w u : World) (r : Option Refusal) (t : Task) (x : Part) → Sound w → In x (plans_of w t) → Ends armed u r (begun x.world x.plan) x.plan.entries → SoundRows (table u) }
 {}
 
 /// The table of volumes keeps its laws in each kind of move, where it is allowed.
@@ -81,10 +98,10 @@ pub fn a_revertible_target_keeps_both_views()
     ensures revert { (write : ℕ → Write) (T : Table) (v a s n t : ℕ) → SoundRows T → Allowed write T (Revert v a s n) → t < (T v).volume.tracks → shown (after write T (Revert v a s n)) v t ≡ set_aside T v t }
 {}
 
-/// A step is refused because a server stopped exactly where its acts told the journal of that stop.
+/// A plan of a step is refused because a server stopped exactly where its acts told the journal of that stop.
 pub fn stops_are_told()
-    ensures { (w : World) (t : Task) →
-        let p : Plan = plan w.control w.events t.line t.asked in StopsTold (begun w p) (carry (begun w p) p.entries).0 (refused_stop (carry (begun w p) p.entries).1) }
+    ensures { (w : World) (t : Task) (x : Part) → In x (plans_of w t) →
+        StopsTold (begun x.world x.plan) (carry (begun x.world x.plan) x.plan.entries).0 (refused_stop (carry (begun x.world x.plan) x.plan.entries).1) }
 {}
 
 /// Every run stays within the limits of servers, volumes and pending writes, and of the tracks of a volume.
@@ -122,10 +139,35 @@ pub fn sealed_secondaries_hold_their_cut()
     ensures devices { (tasks : List Task) (on : ℕ → Bool) (fuse : ℕ → Option Fuse) (device : ℕ → Blocks) → Fits (run tasks) on fuse device → SealsHoldOn tasks device }
 {}
 
+/// At the end of each run, for each session and number, the cuts of the group that the attempt has flashed are closed. Each member that
+/// stands in the group, neither reverted nor left since its flash, was cut for that number. All these cuts are of one moment: each is
+/// what its volume held at the last cut of the attempt, on every track. So with a write a cut holds all that it depends on and that
+/// volumes of the group held at that moment, and all of it that was acknowledged before the attempt began.
+pub fn the_cuts_of_a_group_are_closed()
+    ensures { (tasks : List Task) → (s n : ℕ) → ClosedCuts (run tasks).events s n }
+{}
+
 /// At the end of each run, what recovery would decide over a session is possible: by what the devices of a plant say that fits the run's
 /// world, the targets that count in the session show one number where they are revertible, and one where they aren't.
 pub fn no_session_is_impossible_to_decide()
     ensures { (tasks : List Task) (on : ℕ → Bool) (fuse : ℕ → Option Fuse) (device : ℕ → Blocks) → Fits (run tasks) on fuse device → DecidesAfter tasks device }
+{}
+
+/// Wherever a recovery is stopped, another one makes the same of each session: the same volumes remain, with the same group, and show the
+/// same on each of their tracks. Nor is this changed where a server starts, or a target is committed or reverted by hand; so a recovery
+/// can be repeated. One that comes to its end has done it: those volumes alone count in the session, each with the group's number and
+/// showing what it was to show; it answers that group, and tells it to the journal. The devices of a plant that fits tell the same
+/// decision, volumes and group; and where their tracks contain what the world says, they tell the same recovery.
+pub fn a_recovery_keeps_its_group()
+    ensures recovers { (w : World) (r s : ℕ) → Sound w → KeepsRecovery w (recover_plan w.control r) s }
+    ensures starts { (w : World) (x s : ℕ) → Sound w → KeepsRecovery w (start_plan w.control x) s }
+    ensures hands { (w : World) (dev : Option Name) (lets : Decision → Bool) (b s : ℕ) → Sound w → KeepsRecovery w (settle_plan w.control dev lets b) s }
+    ensures ends { (w : World) (s : ℕ) (x : Session) → Sound w → session_in w.control.sessions s ≡ Some x → secondary_refusal x.members w.control ≡ None → let p : Plan = recover_plan w.control s in
+        (carry (begun w p) p.entries).1 ≡ None → HasRecovered w (carry (begun w p) p.entries).0 s }
+    ensures answers { (w : World) (s : ℕ) (x : Session) → Sound w → session_in w.control.sessions s ≡ Some x → secondary_refusal x.members w.control ≡ None → let p : Plan = recover_plan w.control s in let u : World = (carry (begun w p) p.entries).0 in
+        (carry (begun w p) p.entries).1 ≡ None → (p.says u.control ≡ says_group (decided_over (fields_at w.control) w.control.volumes s) (recovered_in w s).group) × ((es : List Event) × (u.events ≡ es ++ Recovered s (group_number (recovered_in w s).group) ∷ [])) }
+    ensures devices { (w : World) (on : ℕ → Bool) (fuse : ℕ → Option Fuse) (device : ℕ → Blocks) (s : ℕ) → Sound w → Fits w on fuse device → TellsRecovery w device s }
+    ensures tracks { (w : World) (on : ℕ → Bool) (fuse : ℕ → Option Fuse) (device : ℕ → Blocks) (s : ℕ) → Sound w → Fits w on fuse device → HoldsTracks w device → SameRecovery (sizes w.control) (recovered_in w s) (recovered_on w device s) }
 {}
 
 /// At the end of each run, and so as each step begins, each secondary contains of the cut of its primary what was sent of it
@@ -134,4 +176,25 @@ pub fn no_session_is_impossible_to_decide()
 pub fn seals_find_their_cut()
     ensures cuts { (tasks : List Task) → CutsHold (run tasks) }
     ensures sends { (w : World) (x : Session) (m : Member) → Sound w → In x w.control.sessions → In m x.members → SendsTo w m.a.0 m.b.0 }
+{}
+
+/// No bound on turns is felt by an `@run`: in each turn that isn't refused a server does the order that it owes, so the attempts that are asked for end.
+pub fn runs_of_groups_end()
+    ensures { (w : World) (s n more : ℕ) → Sound w → turns (most_turns n + more) w s n false ≡ turns (most_turns n) w s n false }
+{}
+
+/// The example of the phases, recovered: where one of two flashed targets is committed, the other is committed too; where only one was
+/// flashed, it is reverted and no group is left; where the attempt is over, or none was made, nothing is done. By hand the other is committed
+/// once both secondaries are taken over, and not before, and it can't be reverted.
+pub fn an_example_recovers()
+    ensures rest { says one_committed (recover_plan one_committed 7) ≡ Done (InGroup 1 (CommitRest 1)) }
+    ensures rest_told { tells one_committed (recover_plan one_committed 7) ≡ TakenOver 2 ∷ TakenOver 5 ∷ Committed 7 1 4 6 ∷ Recovered 7 1 ∷ [] }
+    ensures none { says one_flashed (recover_plan one_flashed 7) ≡ Refused (NoGroup (RevertAll 1)) }
+    ensures none_told { tells one_flashed (recover_plan one_flashed 7) ≡ TakenOver 2 ∷ TakenOver 5 ∷ Reverted 7 1 1 3 ∷ Recovered 7 0 ∷ [] }
+    ensures over { says over (recover_plan over 7) ≡ Done (InGroup 1 (Nothing 1)) }
+    ensures nobody { says start (recover_plan start 7) ≡ Refused (NoGroup NoMember) }
+    ensures early { says one_committed (settle_plan one_committed None lets_commit 5) ≡ Refused (PairState (record { 0 = 2 }) TargetCopyPending) }
+    ensures commits { says taken (settle_plan taken None lets_commit 5) ≡ Done Alone }
+    ensures commits_told { tells taken (settle_plan taken None lets_commit 5) ≡ Committed 7 1 4 6 ∷ [] }
+    ensures forbidden { says taken (settle_plan taken None lets_revert 5) ≡ Refused (Forbidden (CommitRest 1)) }
 {}

@@ -1,8 +1,8 @@
 -- Sets of servers as bits of a number.
-use Rattle.std.proofs.Common.{◌≡◌, ℕ, zero, suc, ◌+◌, ◌*◌, ◌%◌, ◌^◌, ◌<◌, Bool, true, false, not, ◌&&◌, ◌||◌, cond, inl, inr, List, [], ◌∷◌, filter, refl, sym, ◌∙◌, ap, arith, ◌==◌, bit_and, bit_or, w8}
-use Rattle.std.specs.Int.{bit_at, bit_not}
+use Rattle.std.proofs.Common.{◌≡◌, ◌≢◌, ℕ, zero, suc, ◌+◌, ◌*◌, ◌%◌, ◌^◌, ◌<◌, ◌≤◌, Bool, true, false, not, ◌&&◌, ◌||◌, cond, inl, inr, List, [], ◌∷◌, filter, slice_get, Some, refl, sym, ◌∙◌, ap, arith, ◌==◌, bit_and, bit_or, w8}
+use Rattle.std.specs.Int.{bit_at, bit_not, trailing_zeros}
 use Rattle.std.specs.List.{range_with_len}
-use Rattle.std.proofs.lemmas.Nat.Bits.{bit_at_set_same, bit_at_set_other, bit_at_clear_same, bit_at_clear_other, same_from_bits_below, bit_at-lt, bit_at-zero}
+use Rattle.std.proofs.lemmas.Nat.Bits.{bit_at_set_same, bit_at_set_other, bit_at_clear_same, bit_at_clear_other, bit_at-trailing_zeros, same_from_bits_below, bit_at-lt, bit_at-zero}
 use Rattle.std.proofs.lemmas.Bool.Decides.{nat_tests, eqb_tells}
 use Rattle.dr_model.specs.Phases.{servers_where, is_among, without}
 use Rattle.dr_master.specs.Seen.{servers_in}
@@ -108,3 +108,26 @@ no_bit n k none low =
 -- no server is in it only where it is 0
 pub zero-servers_in : (n : ℕ) → n < 256 → servers_in n ≡ [] → n ≡ 0
 zero-servers_in n low none = same_from_bits_below 8 n 0 (omega arith) (omega arith) (λ k below. no_bit n k none below ∙ sym (bit_at-zero k))
+
+-- the first number that passes, of those from a on
+first-passing : (p : ℕ → Bool) (t a n : ℕ) → a ≤ t → t < a + n → p t ≡ true → ((k : ℕ) → k < t → p k ≡ false) → slice_get (filter p (range_with_len a n)) 0 ≡ Some t
+first-passing p t a zero from below passes fails = absurd (omega arith)
+first-passing p t a (suc n) from below passes fails =
+    let after = filter p (range_with_len (a + 1) n) in
+    elim (eqb_tells a t) as (λ _. slice_get (cond (p a) (a ∷ after) after) 0 ≡ Some t) [
+      | inl h ↦ ap (λ b. slice_get (cond b (a ∷ after) after) 0) (ap p h.1 ∙ passes) ∙ ap Some h.1
+      | inr h ↦ ap (λ b. slice_get (cond b (a ∷ after) after) 0) (fails a (omega arith)) ∙ first-passing p t (a + 1) n (omega arith) (omega arith) passes fails
+    ]
+
+positive : (n : ℕ) → servers_in n ≢ [] → 0 < n
+positive zero some = absurd (some servers_in-none)
+positive (suc n) some = omega arith
+
+-- the lowest bit is the first server
+pub first-servers_in : (n : ℕ) → n < 256 → servers_in n ≢ [] → (slice_get (servers_in n) 0 ≡ Some (trailing_zeros w8 n)) × (trailing_zeros w8 n < 8)
+unfolding servers_where
+first-servers_in n low some =
+    let lowest = bit_at-trailing_zeros w8 n (positive n some) (omega arith) in (
+      first-passing (λ k. bit_at n k == 1) (trailing_zeros w8 n) 0 8 (omega arith) lowest.0 (ap (λ b. b == 1) lowest.1) (λ k below. ap (λ b. b == 1) (lowest.2 k below)),
+      lowest.0,
+    )

@@ -1,4 +1,4 @@
-ghost use Rattle.std.specs.Prelude.{◌≡◌, ◌+◌, ◌<◌, ◌≤◌, ◌^◌, ◌↔◌, [], length, option_map, IsTrue, OnOk, OnErr, IfOk};
+ghost use Rattle.std.specs.Prelude.{◌≡◌, ◌+◌, ◌<◌, ◌≤◌, ◌^◌, ◌↔◌, [], length, option_map, IsTrue, OnOk, OnErr, IfOk, IfSome};
 ghost use Rattle.std.specs.Result.{result_err};
 ghost use Rattle.dr_ids.specs.declared.refusal.PhaseName.TheVariants as phase;
 ghost use Rattle.dr_model.specs.Phases as model;
@@ -73,6 +73,18 @@ impl Master {
             Some(kind.numbered(self.number))
         } else {
             None
+        }
+    }
+
+    /// The first server of which something is asked: in Idle the first of all, with which the next
+    /// attempt may begin, else the first that is owed its order. Servers come in order of definition.
+    pub fn first_asked(&self) -> Option<ServerId>
+        ensures first { option_map (λ s. s.0) result ≡ model.first_asked self.now }
+        ensures low { IfSome result (λ s. s.0 < 8) }
+    {
+        match self.phase {
+            PhaseName::Idle => self.servers.first(),
+            _ => self.owed.first(),
         }
     }
 

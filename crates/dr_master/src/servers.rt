@@ -1,4 +1,4 @@
-ghost use Rattle.std.specs.Prelude.{◌≡◌, ◌<◌, ◌↔◌, ◌||◌, ◌==◌, IsTrue, []};
+ghost use Rattle.std.specs.Prelude.{◌≡◌, ◌<◌, ◌↔◌, ◌||◌, ◌==◌, IsTrue, IfSome, [], option_map, slice_get};
 ghost use Rattle.dr_model.specs.Phases.{servers_where, is_among, without};
 ghost use Rattle.dr_master.specs.Seen.{servers_in};
 
@@ -34,6 +34,18 @@ impl ServerSet {
         ensures { servers_in result.0 ≡ without s.0 (servers_in self.0) }
     {
         ServerSet(self.0 & !(1 << s.0))
+    }
+
+    /// The member that comes first in order of definition.
+    pub fn first(self) -> Option<ServerId>
+        ensures first { option_map (λ s. s.0) result ≡ slice_get (servers_in self.0) 0 }
+        ensures low { IfSome result (λ s. s.0 < 8) }
+    {
+        if self.is_empty() {
+            None
+        } else {
+            Some(ServerId(self.0.trailing_zeros() as u8))
+        }
     }
 
     /// Whether no server is a member.

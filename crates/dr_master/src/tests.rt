@@ -153,6 +153,7 @@ fn phases(rt: HostRuntime) {
 fn check_row(rt: &impl Abort, row: &Row) {
     let mut m = master_in(rt, row.phase);
     assert!(rt; place(m.phase()) == row.phase);
+    assert!(rt; m.first_asked() == Some(FIRST));
     assert!(rt; asked(m.next_order(FIRST)) == row.asked);
     assert!(rt; asked(m.next_order(SECOND)) == row.asked);
     assert!(rt; asked(m.next_order(NO_MEMBERS)) == (0, 0));
@@ -163,6 +164,7 @@ fn check_row(rt: &impl Abort, row: &Row) {
         assert!(rt; place(m.phase()) == row.phase);
         assert!(rt; asked(m.next_order(FIRST)) == (0, 0));
         assert!(rt; !m.expects(FIRST, &Reply::Done));
+        assert!(rt; m.first_asked() == Some(SECOND));
         answer(rt, &mut m, SECOND, Reply::Done);
         assert!(rt; place(m.phase()) == row.done);
     }

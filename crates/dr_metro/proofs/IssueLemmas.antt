@@ -4,14 +4,14 @@ use Rattle.std.specs.List.{fold}
 use Rattle.std.proofs.lemmas.List.Sums.{fold-append}
 use Rattle.dr_ids.specs.declared.refusal.Refusal.{Refusal}
 use Rattle.dr_model.specs.declared.event.Event.{Event}
-use Rattle.dr_model.specs.declared.event.Event.TheVariants.{Blanked, Restored, Stopped, Ack, Suspended, Frozen, Thawed, Begin, Cut}
+use Rattle.dr_model.specs.declared.event.Event.TheVariants.{Blanked, Restored, Stopped, Ack, Suspended, Frozen, Thawed, Begin, Cut, Recovered}
 use Rattle.dr_model.specs.Layout.{Tracks, Fields}
 use Rattle.dr_model.specs.Relations.{rest, in_order, is_bare, turned, given_up}
 use Rattle.dr_model.specs.Histories.{Histories, histories, after_event}
 use Rattle.dr_model.specs.Control.{Volume, World}
 use Rattle.dr_model.specs.Pairs.{is_suspended}
 use Rattle.dr_model.specs.Moves.{Move, Carried, Land, Overwrite, LandBoth, Withdraw, Reverse, Release, Suspend, Hold, target, next_fields, carried, told, told_in_stop, told_blank, landed, updated}
-use Rattle.dr_model.specs.Carry.{Act, Make, OpenAttempt, Redo, Acknowledge, Drop, EndFreeze, EndThaw, Next, Pass, Do, End, Entry, Turn, Ended, ended, update, spent, off, pass, writes, counts_by, turn, finished, cut_short, redo, redo_writes, act, equal, attempt_begun}
+use Rattle.dr_model.specs.Carry.{Act, Make, OpenAttempt, Redo, Acknowledge, Drop, EndFreeze, EndThaw, EndRecovery, Next, Pass, Do, End, Entry, Turn, Ended, ended, update, spent, off, pass, writes, counts_by, turn, finished, cut_short, redo, redo_writes, act, equal, attempt_begun}
 use Rattle.dr_model.specs.ReadStops.{GoesOff, IsEnd, EndsTurn, EndsNext, Ends}
 use Rattle.dr_model.proofs.Images.{histories-append}
 
@@ -113,6 +113,7 @@ act-writes w (Acknowledge n) = with-told w (Ack n ∷ []) refl
 act-writes w (Drop n) = refl
 act-writes w (EndFreeze l m) = with-told w (Frozen l m ∷ []) refl
 act-writes w (EndThaw l m) = with-told w (Thawed l m ∷ []) refl
+act-writes w (EndRecovery s n) = with-told w (Recovered s n ∷ []) refl
 
 module _ (armed : ℕ → Bool) (u : World) (r : Option Refusal) where
   off-writes : (w : World) → GoesOff armed u r w → Alike u w

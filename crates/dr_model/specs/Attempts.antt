@@ -335,6 +335,10 @@ pub record MayGo (k : Control) (v : ℕ) : Type 0 where
   pub plain : (fields_at k v).revertible ≡ false
   pub settled : (fields_at k v).member ≡ true → (x : Session) (m : Member) → In x k.sessions → In m x.members → m.c.0 ≡ v → NoneRevertible (seen_in k x)
 
+-- and as that of its member: what is told of it names the member's primary and session
+abbrev pub GoesAs : Control → ℕ → Option ℕ → ℕ → Type 0
+GoesAs k v a s = (fields_at k v).member ≡ true → (x : Session) (m : Member) → In x k.sessions → In m x.members → m.c.0 ≡ v → (a ≡ Some m.a.0) × (s ≡ x.number)
+
 -- no target of a member whose secondary v is is revertible
 abbrev pub MayFollow : Control → ℕ → Type 0
 MayFollow k v = (x : Session) (m : Member) → In x k.sessions → In m x.members → m.b.0 ≡ v → (fields_at k m.c.0).revertible ≡ false
@@ -398,7 +402,7 @@ InAttempt k (Fetch v t) = Persists (fields_at k v)
 InAttempt k (Relate v s choices) = DoesNotCount (fields_at k v)
 InAttempt k (Withdraw v) = DoesNotCount (fields_at k v)
 InAttempt k (Resync v sequence) = DoesNotCount (fields_at k v)
-InAttempt k (Reverse v left) = MayGo k v
+InAttempt k (Reverse v left) = MayGo k v × GoesAs k v left (fields_at k v).session
 InAttempt k (Release v t) = (fields_at k v).reversing ≡ true
 InAttempt k (MakeSecondary v u kind state) = MayFollow k v
 InAttempt k (Hold v s n first) = HoldsMember k v s n × ((fields_at k v).attempt < n)
@@ -407,7 +411,7 @@ InAttempt k (Seal v u s n) = SealsMember k v u s n
 InAttempt k (Finish v n) = UpToLast k v n
 InAttempt k (RaiseAttempt v n) = UpToLast k v n
 InAttempt k (RaiseFloor v n) = MayRaiseFloor k v n
-InAttempt k (Leave v u s) = MayGo k v
+InAttempt k (Leave v u s) = MayGo k v × GoesAs k v (Some u) s
 InAttempt k (Flash v u a s n) = FlashesMember k v u a s n
 InAttempt k (Commit v a s n) = CommitsMember k v a s n
 InAttempt k (Revert v a s n) = RevertsMember k v a s n

@@ -10,7 +10,7 @@ use Rattle.dr_model.specs.Layout.{Fields, byte, bit}
 use Rattle.dr_model.specs.Control.{Control, Fuse, Volume, World}
 use Rattle.dr_model.specs.Sessions.{changed, begun}
 use Rattle.dr_model.specs.Moves.{Move, Hold, Carried, target, next_fields, carried, told, told_in_stop, landed, settled, settled_in_stop, updated, is_other}
-use Rattle.dr_model.specs.declared.event.Event.TheVariants.{Ack, Stopped, Frozen, Thawed}
+use Rattle.dr_model.specs.declared.event.Event.TheVariants.{Ack, Stopped, Frozen, Thawed, Recovered}
 
 -- a move writes the six blocks of the slot that isn't chosen, then the gate, then the carried track's own block
 abbrev pub writes : Carried → ℕ
@@ -147,6 +147,10 @@ frozen w l m = record w {
 abbrev pub thawed : World → ℕ → ℕ → World
 thawed w l m = record w { events = w.events ++ Thawed l m ∷ [] }
 
+-- a recovery of session s ends, with this group; 0 for none
+abbrev pub recovered : World → ℕ → ℕ → World
+recovered w s n = record w { events = w.events ++ Recovered s n ∷ [] }
+
 -- the first hold of an attempt: where it counts as done, so that the volume's other slot is chosen, the session's next attempt
 -- has begun
 abbrev pub attempt_begun : World → ℕ → World
@@ -156,8 +160,8 @@ abbrev pub opened_by : World → ℕ → ℕ → Turn → Turn
 opened_by w v s t = (if equal (w.control.volume v).slot (t.0.control.volume v).slot then t.0 else attempt_begun t.0 s, t.1)
 
 -- What a step does in turn: a move; a move that begins an attempt of a session; a volume's staged track is written to its place;
--- and what takes no device write: a write that landed in a stop is acknowledged, a pending write is dropped, a freeze or a thaw
--- ends.
+-- and what takes no device write: a write that landed in a stop is acknowledged, a pending write is dropped, a freeze, a thaw or a
+-- recovery ends.
 pub data Act : Type 0 where
   Make : Move → Act
   OpenAttempt : (v s n : ℕ) → Act
@@ -166,6 +170,7 @@ pub data Act : Type 0 where
   Drop : (w : ℕ) → Act
   EndFreeze : (l m : ℕ) → Act
   EndThaw : (l m : ℕ) → Act
+  EndRecovery : (s n : ℕ) → Act
 
 unfoldable pub act : World → Act → Turn
 act w (Make m) = turn w m
@@ -175,6 +180,7 @@ act w (Acknowledge n) = (acknowledged w n, None)
 act w (Drop n) = (dropped w n, None)
 act w (EndFreeze l m) = (frozen w l m, None)
 act w (EndThaw l m) = (thawed w l m, None)
+act w (EndRecovery s n) = (recovered w s n, None)
 
 -- What an entry of a plan comes to: nothing, an act, or the plan ends with a refusal.
 pub data Next : Type 0 where

@@ -40,7 +40,14 @@ pub record MasterStands (k : Control) (r : Mirror) : Type 0 where
 abbrev pub FewReports : phases.Master → List Member → Type 0
 FewReports m ms = length m.reports + length (filter (λ (q : Member). phases.is_among q.server.0 m.owed) ms) ≤ length ms
 
--- a session is sound, no primary is that of two of its members, and they and its master stand
+-- only servers of its members are owed a master's order, and in Idle none is
+pub record OwesServers (m : phases.Master) : Type 0 where
+  pub few : length m.owed ≤ length m.servers
+  pub among : (s : ℕ) → phases.is_among s m.owed ≡ true → phases.is_among s m.servers ≡ true
+  pub idle : m.phase ≡ phase.Idle → m.owed ≡ []
+
+-- a session is sound, no primary is that of two of its members, they and its master stand, and its master owes orders only to
+-- servers of theirs
 pub record SessionFits (k : Control) (x : Session) : Type 0 where
   pub sound : IsSound x
   pub once : Once (map (λ (m : Member). m.a.0) x.members)
@@ -48,6 +55,7 @@ pub record SessionFits (k : Control) (x : Session) : Type 0 where
   pub runs : (r : Mirror) → x.mirror ≡ Some r → MasterStands k r
   pub finished : (r : Mirror) → x.mirror ≡ Some r → r.master.phase ≡ phase.Finishing → (m : Member) → In m x.members → Finished k r m
   pub few : (r : Mirror) → x.mirror ≡ Some r → r.master.phase ≡ phase.Lost → FewReports r.master x.members
+  pub owes : (r : Mirror) → x.mirror ≡ Some r → OwesServers r.master
 
 -- a volume has one place in one member of one session
 abbrev pub IsAt : ℕ → Member → Type 0

@@ -21,7 +21,10 @@ pub mod WriteEntries
 pub mod PlanParts
 pub mod SessionEntries
 pub mod SessionPlans
+pub mod RecoveryPlans
 pub mod Plans
+pub mod Carried
+pub mod Forming
 pub mod Runs
 pub mod Text
 pub mod Table
@@ -31,6 +34,7 @@ pub mod Attempts
 pub mod Laws
 pub mod Allowed
 pub mod Cuts
+pub mod ClosedCuts
 pub mod Fits
 pub mod Limits
 pub mod LineWords

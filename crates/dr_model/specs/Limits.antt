@@ -34,3 +34,7 @@ most_targets = 12
 -- the most writes that are pending at a time
 abbrev pub most_pending : ℕ
 most_pending = 64
+
+-- the most groups that one `@run` forms
+abbrev pub most_groups : ℕ
+most_groups = 10000

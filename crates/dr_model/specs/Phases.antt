@@ -1,5 +1,5 @@
 -- The phases of a session's master: what it asks of which servers, and what comes next.
-use Rattle.std.specs.Prelude.{ℕ, Bool, true, false, not, ◌&&◌, max, ◌+◌, ◌==◌, List, [], ◌∷◌, ◌++◌, filter, Option, Some, None, if◌then◌else◌}
+use Rattle.std.specs.Prelude.{ℕ, slice_get, Bool, true, false, not, ◌&&◌, max, ◌+◌, ◌==◌, List, [], ◌∷◌, ◌++◌, filter, Option, Some, None, if◌then◌else◌}
 use Rattle.std.specs.List.{list_any, range_with_len}
 use Rattle.dr_ids.specs.declared.refusal.PhaseName.{PhaseName}
 use Rattle.dr_ids.specs.declared.refusal.PhaseName.TheVariants as phase
@@ -111,6 +111,15 @@ order_if false w n = None
 -- the order that a server is owed, if it is owed one
 abbrev pub order_for : Master → ℕ → Option Order
 order_for m s = order_if (is_among s m.owed) (work_in m.phase) m.number
+
+-- the servers of which something is asked: in Idle all, since any may begin the next attempt, else those that are owed their order
+abbrev pub asked_in : PhaseName → Master → List ℕ
+asked_in phase.Idle m = m.servers
+asked_in p m = m.owed
+
+-- the first of them
+abbrev pub first_asked : Master → Option ℕ
+first_asked m = slice_get (asked_in m.phase m) 0
 
 -- whether a reply is one to such work
 abbrev pub answers : Reply → Work → Bool

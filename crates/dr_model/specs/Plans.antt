@@ -1,5 +1,5 @@
 -- The step table: what each step comes to, from the control state and the journal. No answer looks at a device's bytes.
-use Rattle.std.specs.Prelude.{ℕ, ◌+◌, ◌==◌, Bool, true, false, ◌&&◌, ◌||◌, not, List, [], ◌∷◌, ◌++◌, length, map, min, replicate, Option, Some, None, is_some, option_map, unwrap_or, Result, Ok, Err, nat_eq, nat_lt, nat_le, if◌then◌else◌}
+use Rattle.std.specs.Prelude.{ℕ, ◌+◌, Bool, true, false, ◌&&◌, ◌||◌, not, List, [], ◌∷◌, ◌++◌, length, map, min, replicate, Option, Some, None, is_some, option_map, unwrap_or, Result, Ok, Err, nat_eq, nat_lt, nat_le, if◌then◌else◌}
 use Rattle.std.specs.List.{find, list_any}
 use Rattle.std.specs.Option.{option_or}
 use Rattle.std.specs.FinSet.{len}
@@ -7,9 +7,7 @@ use Rattle.dr_ids.specs.Links.{joins}
 use Rattle.dr_ids.specs.Paths.{path_in, with_path, without_path}
 use Rattle.dr_ids.specs.declared.refusal.Refusal.{Refusal}
 use Rattle.dr_ids.specs.declared.names.Member.{Member}
-use Rattle.dr_ids.specs.declared.refusal.Decision.{Decision}
-use Rattle.dr_ids.specs.declared.refusal.Decision.TheVariants.{Nothing}
-use Rattle.dr_ids.specs.declared.refusal.Refusal.TheVariants.{InSession, Forbidden, NotBuilt, JournalFull, Syntax}
+use Rattle.dr_ids.specs.declared.refusal.Refusal.TheVariants.{InSession, NotBuilt, JournalFull, Syntax}
 use Rattle.dr_ids.specs.declared.refusal.Kind.TheVariants.{Server as OfServer, Volume as OfVolume, Lss as OfLss, Path as OfPath, Write as OfWrite, Track as OfTrack}
 use Rattle.dr_ids.specs.declared.refusal.Which.TheVariants.{Servers, Volumes, Tracks, Pending as Writes, Targets, Size, Server as OneServer}
 use Rattle.dr_model.specs.Limits.{most_servers, most_volumes, most_tracks, most_pending, most_targets, most_events, step_events}
@@ -22,12 +20,12 @@ use Rattle.dr_model.specs.Moves.{Relate, Withdraw, Resync, Reverse, is_write}
 use Rattle.dr_model.specs.Carry.{Entry, Next, Pass, Do, Acknowledge, now, check}
 use Rattle.dr_model.specs.Pairs.{is_unpaired}
 use Rattle.dr_model.specs.Entries.{fields_at, is_running, running_check, subsystem, first_of, share_server, share_size, is_no_target, copies_from, targets_of, stands_in, is_any, relation_state, pair_state, is_no_secondary, takes_back, times, fetch_next, give_back}
-use Rattle.dr_model.specs.Decisions.{decision}
 use Rattle.dr_model.specs.Sessions.{session_in, members_in, is_member, in_session}
-use Rattle.dr_model.specs.SessionEntries.{shown_by_members}
 use Rattle.dr_model.specs.PairEntries.{refuse_if, make_entries, remove_entries, pause_entries, resume_entries, is_copying, tracks_to_send, sends, suspend_after, link_down, first_active, first_differing}
 use Rattle.dr_model.specs.WriteEntries.{landing, says_written, after_write, belongs, start_entries, lift_on, freeze_entries, thaw_entries}
 pub use Rattle.dr_model.specs.PlanParts.{Plan, same, none_follow, always, tables_plan, only_says, refuses, name_bytes, server_named, on_named, on_server, unless, entries_plan, is_owner, is_defined, is_named, owner_of, on_owner, on_session}
+pub use Rattle.dr_model.specs.RecoveryPlans.{decided_in, secondary_refusal, leaves_all, forbidden_unless}
+use Rattle.dr_model.specs.RecoveryPlans.{member_of_target, lets_commit, lets_revert, recover_plan, settle_plan}
 use Rattle.dr_model.specs.SessionPlans.{join_plan, leave_plan, add_plan, expel_plan, mirror_plan, pause_mirror_plan, unmirror_plan, abort_plan, exchange_plan}
 use Rattle.dr_model.specs.declared.said.Addition.TheVariants.{Alone, Wrote, Acked, Counted, Showed}
 use Rattle.dr_model.specs.declared.said.Said.{Said}
@@ -41,7 +39,7 @@ use Rattle.dr_model.specs.declared.step.Devs.{Devs}
 use Rattle.dr_model.specs.declared.step.TornWord.{TornWord}
 use Rattle.dr_model.specs.declared.step.TornWord.TheVariants.{Same, Fill, Bytes}
 use Rattle.dr_model.specs.declared.step.Step.{Step}
-use Rattle.dr_model.specs.declared.step.Step.TheVariants.{Server, Volume, Link, Stop, StopAfter, Start, Issue as IssueWrite, Write, Apply, Show, MakeFlash, RemoveFlash, ResyncFlash, ReverseFlash, Copy, MakePath, RemovePath, MakePair, RemovePair, PausePair, ResumePair, Drain, Expire, Freeze, Unfreeze, MakeSession, RemoveSession, AddMember, RemoveMember, MakeMirror, PauseMirror, ResumeMirror, RemoveMirror, Abort, Exchange}
+use Rattle.dr_model.specs.declared.step.Step.TheVariants.{Server, Volume, Link, Stop, StopAfter, Start, Issue as IssueWrite, Write, Apply, Show, MakeFlash, RemoveFlash, ResyncFlash, ReverseFlash, Copy, MakePath, RemovePath, MakePair, RemovePair, PausePair, ResumePair, Drain, Expire, Freeze, Unfreeze, MakeSession, RemoveSession, AddMember, RemoveMember, MakeMirror, PauseMirror, ResumeMirror, RemoveMirror, Abort, Exchange, Recover, CommitFlash, RevertFlash}
 
 -- a server is defined; it is on
 abbrev pub server_done : Control → Name → Plan
@@ -295,23 +293,6 @@ is_lone_restore s t k = not (list_any (λ u. not (nat_eq u t) && ((fields_at k u
 abbrev pub may_return : ℕ → Control → Bool
 may_return s k = is_no_secondary s k && takes_back s k
 
--- the first secondary of some members whose server is off
-abbrev pub secondary_refusal : List Member → Control → Option Refusal
-secondary_refusal ms k = option_map (λ m. server_off (k.volume m.b.0).server) (find (λ m. not (is_running m.b.0 k)) ms)
-
--- a decision that lets nothing be done
-abbrev pub leaves_all : Decision → Bool
-leaves_all (Nothing n) = true
-leaves_all d = false
-
-abbrev pub forbidden_unless : Bool → Decision → Option Refusal
-forbidden_unless true d = None
-forbidden_unless false d = Some (Forbidden d)
-
--- what is decided over the members of session s
-abbrev pub decided_in : ℕ → Control → Decision
-decided_in s k = decision (shown_by_members s (members_in (session_in k.sessions s)) k)
-
 -- A member's target is restored only while each secondary of its session can be looked at, and nothing is to be done with their targets.
 abbrev pub settled_refusal : ℕ → ℕ → Control → Option Refusal
 settled_refusal t s k =
@@ -324,7 +305,7 @@ restore_refusal t k = settled_refusal t (fields_at k t).session k
 
 -- the member that t is the target of, where it is one's
 abbrev pub member_at : Control → ℕ → Option Member
-member_at k t = if (fields_at k t).member then find (λ m. m.c.0 == t) (members_in (session_in k.sessions (fields_at k t).session)) else None
+member_at k t = if (fields_at k t).member then member_of_target k t else None
 
 -- and its primary, which tells that the target leaves
 abbrev pub left_by : Control → ℕ → Option ℕ
@@ -469,7 +450,7 @@ drain_plan k a most =
       says = always (Done (Counted (length ts)));
     }
 
--- what a step comes to whose form is built, with room in the journal
+-- what a step comes to whose form is built as one plan, with room in the journal
 abbrev pub plan_of : Control → List Event → ℕ → Step → Plan
 plan_of k events line (Server name) = server_plan k name
 plan_of k events line (Volume v name tracks) = volume_plan k v name tracks
@@ -507,9 +488,12 @@ plan_of k events line (ResumeMirror devs l s cginterval coordinate drain) = paus
 plan_of k events line (RemoveMirror devs l s) = unmirror_plan k devs.dev l s
 plan_of k events line (Abort s) = abort_plan k s
 plan_of k events line (Exchange s name reply) = exchange_plan k s name reply
+plan_of k events line (Recover s) = recover_plan k s
+plan_of k events line (CommitFlash devs source sequence) = settle_plan k devs.dev lets_commit source
+plan_of k events line (RevertFlash devs source sequence) = settle_plan k devs.dev lets_revert source
 plan_of k events line _ = refuses NotBuilt
 
--- the forms that are built
+-- the forms that are built as one plan; `@run` is several (`Forming`)
 abbrev pub is_built : Step → Bool
 is_built (Server name) = true
 is_built (Volume v name tracks) = true
@@ -546,6 +530,9 @@ is_built (ResumeMirror devs l s cginterval coordinate drain) = true
 is_built (RemoveMirror devs l s) = true
 is_built (Abort s) = true
 is_built (Exchange s name reply) = true
+is_built (Recover s) = true
+is_built (CommitFlash devs source sequence) = true
+is_built (RevertFlash devs source sequence) = true
 is_built _ = false
 
 -- the journal has room for what a step may tell

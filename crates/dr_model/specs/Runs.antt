@@ -1,52 +1,52 @@
 -- Whole runs: the steps of a script in order, each ended by its answer.
-use Rattle.std.specs.Prelude.{ℕ, List, [], ◌∷◌, ◌++◌, Option, Some, None, Result}
+use Rattle.std.specs.Prelude.{ℕ, List, [], ◌∷◌, ◌++◌, Option, Some, None, Result, Ok}
 use Rattle.std.specs.List.{fold}
-use Rattle.dr_ids.specs.declared.refusal.Refusal.{Refusal}
-use Rattle.dr_model.specs.Control.{Control, World, nothing}
-use Rattle.dr_model.specs.Carry.{Outcome, carry, follow}
-use Rattle.dr_model.specs.declared.said.Said.{Said}
-use Rattle.dr_model.specs.declared.said.Said.TheVariants.{Refused}
-use Rattle.dr_model.specs.Sessions.{lost_since}
-use Rattle.dr_model.specs.Answers.{answer}
+use Rattle.dr_model.specs.Control.{World, nothing}
+use Rattle.dr_model.specs.PlanParts.{only_says}
 use Rattle.dr_model.specs.Plans.{Plan, plan}
+pub use Rattle.dr_model.specs.Carried.{begun, finish, carried_out, answered, said, masters_lost}
+unfoldable pub use Rattle.dr_model.specs.Carried.{after_plan}
+use Rattle.dr_model.specs.Forming.{Part, Way, formed, form_said}
 use Rattle.dr_model.specs.declared.step.Step.{Step}
+use Rattle.dr_model.specs.declared.step.Step.TheVariants.{Run}
 
 -- a step with the number of its line; a line outside the grammar is one too, with the column of its first fault
 pub record Task : Type 0 where
   pub line : ℕ
   pub asked : Result Step ℕ
 
--- the world as a step begins
-abbrev pub begun : World → Plan → World
-begun w p = record w { control = p.first w.control; events = w.events ++ p.told }
+-- What a step comes to: the plan that is answered, in the world in which it begins, and the plans that were carried out before it.
+pub record Course : Type 0 where
+  pub before : List Part
+  pub last : Part
 
--- where the entries ended well, the tables as the step ends; where a server stopped, what follows its stop
-abbrev pub finish : Plan → World → Option Refusal → World
-finish p w None = record w { control = p.last w.control }
-finish p w (Some r) = follow w r p.follows
+-- an `@run`: its session, and how many groups it asks for
+abbrev pub run_asked : Result Step ℕ → Option (ℕ × ℕ)
+run_asked (Ok (Run s n)) = Some (s, n)
+run_asked asked = None
 
--- a plan is carried out: the world, and the refusal, if one
-abbrev pub carried_out : World → Plan → Outcome
-carried_out w p = (finish p (carry (begun w p) p.entries).0 (carry (begun w p) p.entries).1, (carry (begun w p) p.entries).1)
+abbrev pub alone : World → Plan → Course
+alone w p = record { before = []; last = record { world = w; plan = p } }
 
--- what a step answers
-abbrev pub answered : Plan → Control → Option Refusal → Said
-answered p k None = p.says k
-answered p k (Some r) = Refused r
+-- an `@run` ends in a plan that only answers; every other step is one plan
+abbrev pub course_of : World → Task → Option (ℕ × ℕ) → Course
+course_of w t None = alone w (plan w.control w.events t.line t.asked)
+course_of w t (Some asked) =
+    let x : Way = formed w asked.0 asked.1 in
+    record { before = x.parts; last = record { world = x.world; plan = only_says (form_said asked.0 x.world.control x.refusal) } }
 
-abbrev pub said : World → ℕ → Said → World
-said w line a = record w { events = w.events ++ answer line a ∷ [] }
+abbrev pub course : World → Task → Course
+course w t = course_of w t (run_asked t.asked)
 
--- a plan carried out, and answered
-unfoldable pub after_plan : World → ℕ → Plan → World
-after_plan w line p = said (carried_out w p).0 line (answered p (carried_out w p).0.control (carried_out w p).1)
+-- all its plans, in order
+abbrev pub plans_of : World → Task → List Part
+plans_of w t = (course w t).before ++ (course w t).last ∷ []
 
--- the masters whose servers went off in a step are lost as it ends
-abbrev pub masters_lost : World → World → World
-masters_lost w u = record u { control = record u.control { sessions = lost_since w.control.on u.control.on u.control.sessions } }
+abbrev pub answered_part : ℕ → Part → World
+answered_part line x = masters_lost x.world (after_plan x.world line x.plan)
 
 abbrev pub after_task : World → Task → World
-after_task w t = masters_lost w (after_plan w t.line (plan w.control w.events t.line t.asked))
+after_task w t = answered_part t.line (course w t).last
 
 -- the world after steps in order
 unfoldable pub after_tasks : World → List Task → World

@@ -17,7 +17,7 @@ use Rattle.dr_model.specs.Layout.{Fields}
 use Rattle.dr_model.specs.Refusals.{server_off, unknown}
 use Rattle.dr_model.specs.Control.{Control}
 use Rattle.dr_model.specs.Phases as phases
-use Rattle.dr_model.specs.Sessions.{Session, Mirror, session_in, is_member, has_place_of, has_subsystem, changed, joined, left, raised, with_member, without_member, with_master, mirrored_by, unmirrored, paused, not_in_session, in_session, busy, no_master, join_refusal, leave_refusal, make_refusal, drop_refusal, abort_refusal}
+use Rattle.dr_model.specs.Sessions.{Session, Mirror, session_in, mirror_in, members_in, is_member, has_place_of, has_subsystem, changed, joined, left, raised, with_member, without_member, with_master, mirrored_by, unmirrored, paused, not_in_session, in_session, busy, no_master, join_refusal, leave_refusal, make_refusal, drop_refusal, abort_refusal}
 use Rattle.dr_model.specs.Pairs.{is_kind}
 use Rattle.dr_model.specs.Entries.{fields_at, is_running, subsystem, targets_of, relation_state, pair_state}
 use Rattle.dr_model.specs.PairEntries.{link_down, send_refusal}
@@ -244,6 +244,10 @@ abbrev pub exchange_on : Control → ℕ → Option Mirror → ℕ → Bool → 
 exchange_on k s None server reply ms = refuses (OutOfOrder phase.None)
 exchange_on k s (Some r) server reply ms =
     unless (exchange_refusal k r server ms) (exchange_done s server reply (members_on server ms) (order_of r server))
+
+-- what the master of session s asks of a server
+abbrev pub asking : Control → ℕ → ℕ → Bool → Plan
+asking k s server reply = exchange_on k s (mirror_in (session_in k.sessions s)) server reply (members_in (session_in k.sessions s))
 
 -- a server carries out what the master asks of it, and the master may learn of it
 abbrev pub exchange_plan : Control → ℕ → Name → Bool → Plan

@@ -12,10 +12,11 @@ use Rattle.dr_model.specs.Entries.{fields_at}
 use Rattle.dr_model.specs.PairEntries.{send_refusal}
 use Rattle.dr_model.specs.Sessions.{Session, Mirror, session_in, changed, begun, has_subsystem, subsystem_of}
 use Rattle.dr_model.specs.SessionEntries.{flash_refusal, commit_refusal, is_flashed, is_committed, shown_by_members}
-use Rattle.dr_model.specs.Groups.{In, IsAt, PlacesDiffer, MemberStands, MasterStands, SessionFits, Groups, HoldsMember, OpensAttempt}
+use Rattle.dr_model.specs.Groups.{In, IsAt, PlacesDiffer, MemberStands, MasterStands, OwesServers, SessionFits, Groups, HoldsMember, OpensAttempt}
 use Rattle.dr_model.specs.Attempts.{Seen, seen, all_seen, roles, committed, number_shown, Numbered, phase_of, AttemptOf, Attempts, InAttempt, ServerDone}
 use Rattle.dr_groups.specs.Frames.{Suits, ServerSilent}
 use Rattle.dr_groups.proofs.Lists.{some_is}
+use Rattle.dr_groups.proofs.Owed.{owes-idle}
 use Rattle.dr_groups.proofs.Quieting.{groups-move, moved-opened}
 use Rattle.dr_groups.proofs.Tables.{groups-taken}
 use Rattle.dr_phases.specs.Orders.{IsCalm}
@@ -71,6 +72,7 @@ start-fits = record {
   runs = λ r h. subst (MasterStands start) (some_is h) (record { volume = 1; defined = refl; server = refl; in_phase = λ e. cc });
   finished = λ r h ends m here out. absurd (idle-ends r (some_is h) ends);
   few = λ r h lost. absurd (idle-lost r (some_is h) lost);
+  owes = λ r h. subst (λ (q : Mirror). OwesServers q.master) (some_is h) (owes-idle (0 ∷ 1 ∷ []) 0);
 }
   where
     idle-ends : (r : Mirror) → record { server = 0; paused = false; master = phases.idle (0 ∷ 1 ∷ []) 0 } ≡ r → r.master.phase ≡ phase.Finishing → ⊥

@@ -285,7 +285,7 @@ module _ (k : Control) (groups : Groups k) (law : Attempts k) where
   keeps (Relate v s choices) a = gone-uncounted v (role_of (next_fields (Relate v s choices) k.volume)) a refl refl refl refl refl refl refl refl
   keeps (Withdraw v) a = gone-uncounted v (role_of (next_fields (Withdraw v) k.volume)) a refl refl refl refl refl refl refl refl
   keeps (Resync v sequence) a = resynced v (role_of (next_fields (Resync v sequence) k.volume)).sequence a
-  keeps (Reverse v left) a = reversed v a (is_bare (turned (fields_at k v)).own)
+  keeps (Reverse v left) a = reversed v a.0 (is_bare (turned (fields_at k v)).own)
   keeps (Release v t) a = closed-or v (given_up (fields_at k v) t) (is_bare (given_up (fields_at k v) t).own) refl (λ e. reversing-uncounted k law v a)
   keeps (Store v t u last) a = resealed v 0 (λ z m i here e. inl refl)
   keeps (MakeSecondary v u kind state) a = paired v (primary_of (next_fields (MakeSecondary v u kind state) k.volume)) 0 (λ z m i here e. record { sealed = inl refl; free = λ h. inr (a z m i here e) })
@@ -303,7 +303,7 @@ module _ (k : Control) (groups : Groups k) (law : Attempts k) where
       attempt-low z m i here = ((law.sessions z i).numbers.each (seen T m) (to-map (seen T) z.members m here)).attempt
   keeps (RaiseAttempt v n) a = tried v n a
   keeps (RaiseFloor v n) a = raised v n a
-  keeps (Leave v u s) a = left v a
+  keeps (Leave v u s) a = left v a.0
   keeps (Flash v u a s n) p = flashes v u a s n p
   keeps (Commit v a s n) p = commits v a s n p
   keeps (Revert v a s n) p = reverts v a s n p

@@ -24,7 +24,7 @@ use dr_volume::{Fields, peek_fields};
 
 /// What becomes of a target in an attempt.
 #[derive(Clone, Copy)]
-pub(crate) enum Fate {
+pub enum Fate {
     /// It is flashed from `source` for attempt `n` of the session: `primary` is that of the member.
     Flash {
         source: VolumeId,
@@ -105,7 +105,7 @@ fn told_of(v: VolumeId, x: Fate) -> Told
 
 /// Makes such a move of a target whose server is on, or none. Fails where the server stops in the move or goes off at a read.
 /// The journal needs room for two events.
-pub(crate) fn turn_target<P: Plant>(
+pub fn turn_target<P: Plant>(
     p: &mut P,
     c: &Config,
     j: &mut Journal,

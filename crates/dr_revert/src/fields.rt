@@ -12,7 +12,7 @@ use dr_ids::{SessionId, VolumeId};
 use dr_volume::Fields;
 
 /// Whether a target is revertible from attempt n.
-pub(crate) fn is_flashed(n: u32, f: &Fields) -> bool
+pub fn is_flashed(n: u32, f: &Fields) -> bool
     ensures { result ≡ sessions.is_flashed n (plain f.now) }
 {
     f.revertible && f.sequence == n

@@ -9,5 +9,7 @@ mod flashing;
 mod reverting;
 
 pub use committing::commit;
+pub use fates::{Fate, turn_target};
+pub use fields::is_flashed;
 pub use flashing::flash;
 pub use reverting::revert;

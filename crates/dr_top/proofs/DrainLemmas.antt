@@ -23,8 +23,6 @@ use Rattle.dr_model.specs.PairEntries.{sends, tracks_to_send, suspend_after, is_
 use Rattle.dr_model.specs.Plans.{Plan, is_defined, drain_plan}
 use Rattle.dr_model.specs.ReadStops.{Ends}
 use Rattle.dr_model.specs.Refusals.{unknown, server_off}
-use Rattle.dr_model.specs.Runs.{after_plan, said}
-use Rattle.dr_model.proofs.CarryLemmas.{plan-ends}
 use Rattle.dr_laws.proofs.Costs.{Costs, carry-adds}
 use Rattle.dr_laws.proofs.PairCosts.{sends-costs, sent-few}
 use Rattle.dr_volume.specs.View.{Rest, volume_seen, ids_of, ReadsPass}
@@ -34,7 +32,8 @@ use Rattle.dr_flash.specs.Turns.{Leads}
 use Rattle.dr_flash.proofs.CheckLemmas.{refuses}
 use Rattle.dr_flash.proofs.EndsLemmas.{ends-passed, ends-none}
 use Rattle.dr_gcopy.specs.Followed.{EndsFollowed, Follows}
-use Rattle.dr_top.specs.Here.{here, IsTold}
+use Rattle.dr_top.specs.Here.{here, IsTold, Carries}
+use Rattle.dr_top.proofs.CarriesLemmas.{carries}
 use Rattle.dr_top.proofs.LandLemmas.{exact, told-through}
 use Rattle.dr_top.proofs.LocatedLemmas.{is_volume-here}
 use Rattle.dr_top.proofs.RelationLemmas.{placed-here}
@@ -106,12 +105,10 @@ module _ (s : PlantState) (c : Table) (h : Tables) (ev : List Event) (a : ℕ) (
     refused-so why checked = exact s before (Some why) before all pass (checked (armed_in s) (sends (ids_of c.volumes) a to sent))
 
     -- a check that fails ends it, where it is no stop
-    fails-so : (why : Refusal) → Checked before checks (Some why) → follow before why (suspend_after a) ≡ before → (line : ℕ) → after_plan before line plan ≡ said before line (Refused why)
-    fails-so why checked calm line =
-        plan-ends before line plan (before, Some why) (begins ∙ refused-so why checked)
-        ∙ ap (λ v. said v line (Refused why)) calm
+    fails-so : (why : Refusal) → Checked before checks (Some why) → follow before why (suspend_after a) ≡ before → Carries before plan before (Refused why)
+    fails-so why checked calm = carries before plan (before, Some why) before (Refused why) (begins ∙ refused-so why checked) calm refl
 
-    pub drain-nowhere : (why : Refusal) → entry_of c a ≡ None → why ≡ unknown OfVolume → (line : ℕ) → after_plan before line plan ≡ said before line (Refused why)
+    pub drain-nowhere : (why : Refusal) → entry_of c a ≡ None → why ≡ unknown OfVolume → Carries before plan before (Refused why)
     drain-nowhere why none is =
         fails-so why (λ armed ds. refuses armed before (is_defined a) (unknown OfVolume) (Some why) _ (is_volume-here s c h ev a ∙ ap is_some none) (ap (λ x. Some x) is)) (ap (λ x. follow before x (suspend_after a)) is)
 
@@ -119,14 +116,14 @@ module _ (s : PlantState) (c : Table) (h : Tables) (ev : List Event) (a : ℕ) (
       there : is_defined a before.control ≡ true
       there = is_volume-here s c h ev a ∙ ap is_some found
 
-      pub drain-off : (why : Refusal) → is_running a before.control ≡ false → why ≡ server_off (before.control.volume a).server → (line : ℕ) → after_plan before line plan ≡ said before line (Refused why)
+      pub drain-off : (why : Refusal) → is_running a before.control ≡ false → why ≡ server_off (before.control.volume a).server → Carries before plan before (Refused why)
       drain-off why off is =
           fails-so why (λ armed ds. ends-passed armed before (Some why) before (is_defined a) (unknown OfVolume) _ there
           (refuses armed before (is_running a) (server_off (before.control.volume a).server) (Some why) _ off (ap (λ x. Some x) is)))
           (ap (λ x. follow before x (suspend_after a)) is)
 
       module _ (on : is_running a before.control ≡ true) where
-        pub drain-unfit : (why : Refusal) → is_copying a before.control ≡ false → why ≡ pair_state before.control a → (line : ℕ) → after_plan before line plan ≡ said before line (Refused why)
+        pub drain-unfit : (why : Refusal) → is_copying a before.control ≡ false → why ≡ pair_state before.control a → Carries before plan before (Refused why)
         drain-unfit why never is =
             fails-so why (λ armed ds. ends-passed armed before (Some why) before (is_defined a) (unknown OfVolume) _ there
             (ends-passed armed before (Some why) before (is_running a) (server_off (before.control.volume a).server) _ on
@@ -144,16 +141,12 @@ module _ (s : PlantState) (c : Table) (h : Tables) (ev : List Event) (a : ℕ) (
           carried v r ends = begins ∙ exact s v r before all pass (checked (armed_in s) v r (sends (ids_of c.volumes) a to sent) ends)
 
           -- all were sent
-          pub drain-done : (u : World) → EndsFollowed (armed_in s) before (sends (ids_of c.volumes) a to sent) (suspend_after a) u None → (line : ℕ) → after_plan before line plan ≡ said u line (Done (Counted (length sent)))
-          drain-done u ended line =
-              plan-ends before line plan (ended.middle, None) (carried ended.middle None ended.ends)
-              ∙ ap (λ v. said v line (Done (Counted (length sent)))) (sym ended.followed)
+          pub drain-done : (u : World) → EndsFollowed (armed_in s) before (sends (ids_of c.volumes) a to sent) (suspend_after a) u None → Carries before plan u (Done (Counted (length sent)))
+          drain-done u ended = carries before plan (ended.middle, None) u (Done (Counted (length sent))) (carried ended.middle None ended.ends) (sym ended.followed) refl
 
           -- or one failed
-          pub drain-failed : (u : World) (r : Refusal) → EndsFollowed (armed_in s) before (sends (ids_of c.volumes) a to sent) (suspend_after a) u (Some r) → (line : ℕ) → after_plan before line plan ≡ said u line (Refused r)
-          drain-failed u r ended line =
-              plan-ends before line plan (ended.middle, Some r) (carried ended.middle (Some r) ended.ends)
-              ∙ ap (λ v. said v line (Refused r)) (follows-to ended.middle u r ended.followed)
+          pub drain-failed : (u : World) (r : Refusal) → EndsFollowed (armed_in s) before (sends (ids_of c.volumes) a to sent) (suspend_after a) u (Some r) → Carries before plan u (Refused r)
+          drain-failed u r ended = carries before plan (ended.middle, Some r) u (Refused r) (carried ended.middle (Some r) ended.ends) (follows-to ended.middle u r ended.followed) refl
 
     -- the host's writes are those that were told
     pub drain-told : (u : World) (r : Option Refusal) → EndsFollowed (armed_in s) before (sends (ids_of c.volumes) a to sent) (suspend_after a) u r → IsTold h ev → IsTold h u.events

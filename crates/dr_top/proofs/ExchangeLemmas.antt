@@ -23,9 +23,9 @@ use Rattle.dr_model.specs.Refusals.{unknown}
 use Rattle.dr_model.specs.Runs.{after_plan, begun, finish, answered, said}
 use Rattle.dr_model.specs.Decisions.{Shown}
 use Rattle.dr_model.specs.SessionEntries.{members_on, order_entries, reply_after}
-use Rattle.dr_model.specs.SessionPlans.{exchange_plan, exchange_on, exchange_done, exchange_refusal, order_of}
+use Rattle.dr_model.specs.SessionPlans.{asking, exchange_plan, exchange_on, exchange_done, exchange_refusal, order_of}
 use Rattle.dr_model.specs.Sessions.{Session, Mirror, session_in, mirror_in, members_in}
-use Rattle.dr_model.proofs.CarryLemmas.{plan-ends, plan-refuses}
+use Rattle.dr_model.proofs.CarryLemmas.{plan-refuses}
 use Rattle.dr_groups.proofs.Changes.{session-found}
 use Rattle.dr_groups.proofs.Members.{members-few}
 use Rattle.dr_laws.proofs.Awaits.{exchange-begins, exchange-next, exchange-awaits}
@@ -38,7 +38,8 @@ use Rattle.dr_coord.specs.Aside.{AsideFits}
 use Rattle.dr_gmirror.specs.Exchange.{PlanEnds, refusal_in, order_in, members_in_reply, is_awaited, IsNear, MayExchange}
 use Rattle.dr_gmirror.specs.Orders.{AreReady, MayBegin, MayOrder}
 use Rattle.dr_gmirror.proofs.ExchangeLemmas.{follow-nothing}
-use Rattle.dr_top.specs.Here.{here, IsReady, IsTold}
+use Rattle.dr_top.specs.Here.{here, IsReady, IsTold, Carries}
+use Rattle.dr_top.proofs.CarriesLemmas.{carries, carries-plan}
 use Rattle.dr_top.specs.declared.tables.Tables.{Tables}
 use Rattle.dr_top.proofs.LandLemmas.{exact, told-through, ready-after}
 use Rattle.dr_top.proofs.RelationLemmas.{placed-here}
@@ -47,20 +48,18 @@ use Rattle.dr_top.proofs.StopLemmas.{unknown-server, known-server}
 -- ---- a plan that was carried out
 
 -- where no read fuse is armed, it ended as the machine says
-pub plan-exact : (s : PlantState) → ReadsPass s → (w u : World) (line : ℕ) (p : Plan) (a : Said) → PlanEnds (armed_in s) w p u a → after_plan w line p ≡ said u line a
-plan-exact s pass w u line p a e =
-    plan-ends w line p (e.middle, e.refusal) (exact s e.middle e.refusal (begun w p) p.entries pass e.ends)
-    ∙ (λ i. said (sym e.world i) line (answered p (sym e.world i).control e.refusal)) ∙ ap (λ x. said u line x) (sym e.answers)
+pub plan-exact : (s : PlantState) → ReadsPass s → (w u : World) (p : Plan) (a : Said) → PlanEnds (armed_in s) w p u a → Carries w p u a
+plan-exact s pass w u p a e = carries w p (e.middle, e.refusal) u a (exact s e.middle e.refusal (begun w p) p.entries pass e.ends) (sym e.world) (sym e.answers)
 
 -- nothing is told as it begins, and nothing follows a stop
-abbrev IsPlain : Plan → Type 0
+abbrev pub IsPlain : Plan → Type 0
 IsPlain p = (p.told ≡ []) × (p.follows ≡ none_follow)
 
 finish-tells : (p : Plan) (w : World) (r : Option Refusal) → IsPlain p → (finish p w r).events ≡ w.events
 finish-tells p w None plain = refl
 finish-tells p w (Some r) plain = ap (λ (v : World). v.events) (ap (follow w r) plain.1 ∙ sym (follow-nothing w r))
 
-told-by : (s : PlantState) (h : Tables) → ReadsPass s → (w u : World) (p : Plan) (a : Said) → IsPlain p → PlanEnds (armed_in s) w p u a → IsTold h w.events → IsTold h u.events
+pub told-by : (s : PlantState) (h : Tables) → ReadsPass s → (w u : World) (p : Plan) (a : Said) → IsPlain p → PlanEnds (armed_in s) w p u a → IsTold h w.events → IsTold h u.events
 told-by s h pass w u p a plain e told =
     subst (IsTold h) (sym (ap (λ (v : World). v.events) e.world ∙ finish-tells p e.middle e.refusal plain))
     (told-through h (begun w p) e.middle p.entries e.refusal (exact s e.middle e.refusal (begun w p) p.entries pass e.ends)
@@ -70,7 +69,7 @@ plain-done : (s server : ℕ) (reply : Bool) (ms : List Member) (o : Option phas
 plain-done s server reply ms None = (refl, refl)
 plain-done s server reply ms (Some o) = (refl, refl)
 
-plain-unless : (o : Option Refusal) (p : Plan) → IsPlain p → IsPlain (unless o p)
+pub plain-unless : (o : Option Refusal) (p : Plan) → IsPlain p → IsPlain (unless o p)
 plain-unless None p plain = plain
 plain-unless (Some r) p plain = (refl, refl)
 
@@ -112,12 +111,11 @@ module _ (s : PlantState) (t : Table) (h : Tables) (ev : List Event) (line n : �
     pub exchange-foreign : server_named t bytes ≡ None → after_plan w line (exchange_plan k n name reply) ≡ said w line (Refused (unknown OfServer))
     exchange-foreign none = ap (λ o. after_plan w line (on_session o line_of)) there ∙ unknown-server s t h ev line (plan_for x) name bytes named none
 
-    pub exchange-goes : ReadsPass s → (server : ℕ) (u : World) (a : Said) → server_named t bytes ≡ Some server
-        → PlanEnds (armed_in s) w (exchange_on k n (mirror_in found) server reply (members_in found)) u a → after_plan w line (exchange_plan k n name reply) ≡ said u line a
-    exchange-goes pass server u a some ends =
+    pub exchange-goes : (server : ℕ) (u : World) (a : Said) → server_named t bytes ≡ Some server → Carries w (asking k n server reply) u a → after_plan w line (exchange_plan k n name reply) ≡ said u line a
+    exchange-goes server u a some carried =
         ap (λ o. after_plan w line (on_session o line_of)) there
         ∙ known-server s t h ev line (plan_for x) name bytes server (said u line a) named some
-        (ap (λ o. after_plan w line (exchange_on k n (mirror_in o) server reply (members_in o))) (sym there) ∙ plan-exact s pass w u line _ a ends)
+        (ap (λ o. after_plan w line (exchange_on k n (mirror_in o) server reply (members_in o))) (sym there) ∙ carries-plan w (asking k n server reply) u a carried line)
 
 -- what is ready stays so
 pub exchange-ready : (s u : PlantState) (t : Table) (h h' : Tables) (ev mid : List Event) (n server : ℕ) (reply : Bool) (m : Option Mirror) (ms : List Member) (a : Said)

@@ -23,8 +23,11 @@ pub mod RelationLemmas
 pub mod FlashLemmas
 pub mod PairLemmas
 pub mod PathLemmas
+pub mod CarriesLemmas
 pub mod DrainLemmas
 pub mod FreezeLemmas
 pub mod SessionLemmas
 pub mod MemberLemmas
 pub mod ExchangeLemmas
+pub mod FormingLemmas
+pub mod RecoveringLemmas

@@ -1,5 +1,5 @@
 -- A step of a line, with its answer.
-use Rattle.std.proofs.Common.{ℕ, ◌≡◌, ◌+◌, List, [], ◌∷◌, ◌++◌, refl, ap, ◌∙◌, sym, subst, arith, Bool, true, false, ◌||◌, cond, not, nat_le, Ok, Err, Result, Option}
+use Rattle.std.proofs.Common.{ℕ, ◌≡◌, ◌+◌, List, [], ◌∷◌, ◌++◌, refl, ap, ◌∙◌, sym, subst, arith, Bool, true, false, ◌||◌, cond, not, nat_le, Ok, Err, Result, Option, None}
 use Rattle.std.specs.Prelude.{OnOk, OnErr}
 use Rattle.std.specs.List.{list_any}
 use Rattle.std.proofs.lemmas.List.{same_from_push}
@@ -16,14 +16,14 @@ use Rattle.dr_model.specs.declared.said.Said.{Said}
 use Rattle.dr_model.specs.declared.said.Said.TheVariants.{Done, Held, Refused}
 use Rattle.dr_model.specs.declared.step.Name.{Name}
 use Rattle.dr_model.specs.declared.step.Step.{Step}
-use Rattle.dr_model.specs.declared.step.Step.TheVariants.{Server, Volume, Link, Stop, StopAfter, Start, Issue, Write, Apply, Show, MakeFlash, RemoveFlash, ResyncFlash, ReverseFlash, Copy, MakePath, RemovePath, MakePair, RemovePair, PausePair, ResumePair, Drain, Expire, Freeze, Unfreeze, MakeSession, RemoveSession, AddMember, RemoveMember, MakeMirror, PauseMirror, ResumeMirror, RemoveMirror, Abort, Exchange}
+use Rattle.dr_model.specs.declared.step.Step.TheVariants.{Server, Volume, Link, Stop, StopAfter, Start, Issue, Write, Apply, Show, MakeFlash, RemoveFlash, ResyncFlash, ReverseFlash, Copy, MakePath, RemovePath, MakePair, RemovePair, PausePair, ResumePair, Drain, Expire, Freeze, Unfreeze, MakeSession, RemoveSession, AddMember, RemoveMember, MakeMirror, PauseMirror, ResumeMirror, RemoveMirror, Abort, Exchange, Run, Recover, CommitFlash, RevertFlash}
 use Rattle.dr_model.specs.declared.step.TornWord.{TornWord}
 use Rattle.dr_model.specs.declared.step.Devs.{Devs}
-use Rattle.dr_top.specs.Forms.{is_plain, is_relation, is_session}
+use Rattle.dr_top.specs.Forms.{is_plain, is_relation, is_session, is_recovery}
 use Rattle.dr_model.specs.Answers.{answer}
 use Rattle.dr_model.specs.Control.{World}
 use Rattle.dr_model.specs.Plans.{refuses, plan_of, is_built, has_room}
-use Rattle.dr_model.specs.Runs.{Task, after_plan, after_task, masters_lost, said}
+use Rattle.dr_model.specs.Runs.{Task, run_asked, course_of, answered_part, after_plan, after_task, masters_lost, said}
 use Rattle.dr_model.proofs.CarryLemmas.{plan-refuses}
 use Rattle.dr_laws.proofs.Journal.{EndsAnswered, after_task-ends, is_answer, Silent}
 use Rattle.dr_top.specs.declared.tables.Tables.{Tables}
@@ -94,6 +94,13 @@ none-session (Abort x) make remove add expel mirror pause resume unmirror abort 
 none-session (Exchange x n r) make remove add expel mirror pause resume unmirror abort exchange = absurd (exchange x n r refl)
 none-session _ make remove add expel mirror pause resume unmirror abort exchange = refl
 
+-- or no recovery, and no commit or revert by hand
+pub none-recovery : (step : Step) → ((x : ℕ) → step ≡ Recover x → ⊥) → ((d : Devs) (b : ℕ) (n : Option ℕ) → step ≡ CommitFlash d b n → ⊥) → ((d : Devs) (b : ℕ) (n : Option ℕ) → step ≡ RevertFlash d b n → ⊥) → is_recovery step ≡ false
+none-recovery (Recover x) recover commit revert = absurd (recover x refl)
+none-recovery (CommitFlash d b n) recover commit revert = absurd (commit d b n refl)
+none-recovery (RevertFlash d b n) recover commit revert = absurd (revert d b n refl)
+none-recovery _ recover commit revert = refl
+
 -- or none of those on relationships
 pub none-relation : (step : Step)
     → ((d : Devs) (s t : ℕ) (a b c e : Bool) (n : Option ℕ) → step ≡ MakeFlash d s t a b c e n → ⊥)
@@ -110,49 +117,52 @@ none-relation (Copy t most) make remove resync reverse copy = absurd (copy t mos
 none-relation _ make remove resync reverse copy = refl
 
 -- a step that is built, and none of those, is one on a pair
-pub none-else : {P : Type 0} (step : Step) → is_plain step ≡ false → is_session step ≡ false → is_relation step ≡ false → is_built step ≡ true
+pub none-else : {P : Type 0} (step : Step) → is_plain step ≡ false → is_session step ≡ false → is_relation step ≡ false → is_recovery step ≡ false → is_built step ≡ true
     → ((d : Devs) (a b k : ℕ) (f : Bool) → step ≡ MakePair d a b k f → ⊥)
     → ((d : Devs) (a b : ℕ) (s : Bool) → step ≡ RemovePair d a b s → ⊥)
     → ((d : Devs) (a b : ℕ) → step ≡ PausePair d a b → ⊥)
     → ((d : Devs) (a b k : ℕ) → step ≡ ResumePair d a b k → ⊥)
     → ((a : ℕ) (most : Option ℕ) → step ≡ Drain a most → ⊥)
     → P
-none-else (Server n) plain session relation built make end pause resume drain = absurd cc
-none-else (Volume v n t) plain session relation built make end pause resume drain = absurd cc
-none-else (Link a b up) plain session relation built make end pause resume drain = absurd cc
-none-else (Issue v t o l b) plain session relation built make end pause resume drain = absurd cc
-none-else (Write v t o l b) plain session relation built make end pause resume drain = absurd cc
-none-else (Apply n) plain session relation built make end pause resume drain = absurd cc
-none-else (Show v t) plain session relation built make end pause resume drain = absurd cc
-none-else (Stop n) plain session relation built make end pause resume drain = absurd cc
-none-else (StopAfter n x torn) plain session relation built make end pause resume drain = absurd cc
-none-else (Start n) plain session relation built make end pause resume drain = absurd cc
-none-else (MakePath d s t g) plain session relation built make end pause resume drain = absurd cc
-none-else (RemovePath d s t f) plain session relation built make end pause resume drain = absurd cc
-none-else (Expire n) plain session relation built make end pause resume drain = absurd cc
-none-else (Freeze d l m) plain session relation built make end pause resume drain = absurd cc
-none-else (Unfreeze d l m) plain session relation built make end pause resume drain = absurd cc
-none-else (MakeFlash d s t a b c e n) plain session relation built make end pause resume drain = absurd cc
-none-else (RemoveFlash d s t n) plain session relation built make end pause resume drain = absurd cc
-none-else (ResyncFlash d s t a b c e n) plain session relation built make end pause resume drain = absurd cc
-none-else (ReverseFlash d s t p n) plain session relation built make end pause resume drain = absurd cc
-none-else (Copy t most) plain session relation built make end pause resume drain = absurd cc
-none-else (MakeSession d l x) plain session relation built make end pause resume drain = absurd cc
-none-else (RemoveSession d l x) plain session relation built make end pause resume drain = absurd cc
-none-else (AddMember d l a x) plain session relation built make end pause resume drain = absurd cc
-none-else (RemoveMember d l a x) plain session relation built make end pause resume drain = absurd cc
-none-else (MakeMirror d l x i c t) plain session relation built make end pause resume drain = absurd cc
-none-else (PauseMirror d l x) plain session relation built make end pause resume drain = absurd cc
-none-else (ResumeMirror d l x i c t) plain session relation built make end pause resume drain = absurd cc
-none-else (RemoveMirror d l x) plain session relation built make end pause resume drain = absurd cc
-none-else (Abort x) plain session relation built make end pause resume drain = absurd cc
-none-else (Exchange x n r) plain session relation built make end pause resume drain = absurd cc
-none-else (MakePair d a b k f) plain session relation built make end pause resume drain = absurd (make d a b k f refl)
-none-else (RemovePair d a b s) plain session relation built make end pause resume drain = absurd (end d a b s refl)
-none-else (PausePair d a b) plain session relation built make end pause resume drain = absurd (pause d a b refl)
-none-else (ResumePair d a b k) plain session relation built make end pause resume drain = absurd (resume d a b k refl)
-none-else (Drain a most) plain session relation built make end pause resume drain = absurd (drain a most refl)
-none-else _ plain session relation built make end pause resume drain = absurd cc
+none-else (Server n) plain session relation recovery built make end pause resume drain = absurd cc
+none-else (Volume v n t) plain session relation recovery built make end pause resume drain = absurd cc
+none-else (Link a b up) plain session relation recovery built make end pause resume drain = absurd cc
+none-else (Issue v t o l b) plain session relation recovery built make end pause resume drain = absurd cc
+none-else (Write v t o l b) plain session relation recovery built make end pause resume drain = absurd cc
+none-else (Apply n) plain session relation recovery built make end pause resume drain = absurd cc
+none-else (Show v t) plain session relation recovery built make end pause resume drain = absurd cc
+none-else (Stop n) plain session relation recovery built make end pause resume drain = absurd cc
+none-else (StopAfter n x torn) plain session relation recovery built make end pause resume drain = absurd cc
+none-else (Start n) plain session relation recovery built make end pause resume drain = absurd cc
+none-else (MakePath d s t g) plain session relation recovery built make end pause resume drain = absurd cc
+none-else (RemovePath d s t f) plain session relation recovery built make end pause resume drain = absurd cc
+none-else (Expire n) plain session relation recovery built make end pause resume drain = absurd cc
+none-else (Freeze d l m) plain session relation recovery built make end pause resume drain = absurd cc
+none-else (Unfreeze d l m) plain session relation recovery built make end pause resume drain = absurd cc
+none-else (MakeFlash d s t a b c e n) plain session relation recovery built make end pause resume drain = absurd cc
+none-else (RemoveFlash d s t n) plain session relation recovery built make end pause resume drain = absurd cc
+none-else (ResyncFlash d s t a b c e n) plain session relation recovery built make end pause resume drain = absurd cc
+none-else (ReverseFlash d s t p n) plain session relation recovery built make end pause resume drain = absurd cc
+none-else (Copy t most) plain session relation recovery built make end pause resume drain = absurd cc
+none-else (MakeSession d l x) plain session relation recovery built make end pause resume drain = absurd cc
+none-else (RemoveSession d l x) plain session relation recovery built make end pause resume drain = absurd cc
+none-else (AddMember d l a x) plain session relation recovery built make end pause resume drain = absurd cc
+none-else (RemoveMember d l a x) plain session relation recovery built make end pause resume drain = absurd cc
+none-else (MakeMirror d l x i c t) plain session relation recovery built make end pause resume drain = absurd cc
+none-else (PauseMirror d l x) plain session relation recovery built make end pause resume drain = absurd cc
+none-else (ResumeMirror d l x i c t) plain session relation recovery built make end pause resume drain = absurd cc
+none-else (RemoveMirror d l x) plain session relation recovery built make end pause resume drain = absurd cc
+none-else (Abort x) plain session relation recovery built make end pause resume drain = absurd cc
+none-else (Exchange x n r) plain session relation recovery built make end pause resume drain = absurd cc
+none-else (Recover x) plain session relation recovery built make end pause resume drain = absurd cc
+none-else (CommitFlash d b n) plain session relation recovery built make end pause resume drain = absurd cc
+none-else (RevertFlash d b n) plain session relation recovery built make end pause resume drain = absurd cc
+none-else (MakePair d a b k f) plain session relation recovery built make end pause resume drain = absurd (make d a b k f refl)
+none-else (RemovePair d a b s) plain session relation recovery built make end pause resume drain = absurd (end d a b s refl)
+none-else (PausePair d a b) plain session relation recovery built make end pause resume drain = absurd (pause d a b refl)
+none-else (ResumePair d a b k) plain session relation recovery built make end pause resume drain = absurd (resume d a b k refl)
+none-else (Drain a most) plain session relation recovery built make end pause resume drain = absurd (drain a most refl)
+none-else _ plain session relation recovery built make end pause resume drain = absurd cc
 
 -- the room that is left, counted either way
 pub room-left : (n : ℕ) → nat_le n 995904 ≡ nat_le (n + 4096) 1000000
@@ -205,43 +215,53 @@ counts-more true false f x y first rest = subst (λ n. Rose f n) (sym rest) firs
 counts-more false true f x y first rest = subst (λ n. Rose n y) first rest
 counts-more false false f x y first rest = rest ∙ first
 
+-- a step that is built as one plan is no `@run`
+pub built-alone : (step : Step) → is_built step ≡ true → run_asked (Ok step) ≡ None
+built-alone (Run s n) built = absurd cc
+built-alone _ built = refl
+
+pub none-run : (step : Step) → ((s n : ℕ) → step ≡ Run s n → ⊥) → run_asked (Ok step) ≡ None
+none-run (Run s n) other = absurd (other s n refl)
+none-run _ other = refl
+
 -- what comes before the plan of a step
 module _ (w : World) (number : ℕ) (step : Step) where
   abbrev task : Task
   task = record { line = number; asked = Ok step }
 
-  by-tests : (built room : Bool) → is_built step ≡ built → has_room w.events ≡ room
+  by-tests : (built room : Bool) → run_asked (Ok step) ≡ None → is_built step ≡ built → has_room w.events ≡ room
       → after_task w task ≡ masters_lost w (after_plan w number (cond (not built) (refuses NotBuilt) (cond room (plan_of w.control w.events number step) (refuses JournalFull))))
-  by-tests built room is left =
-      λ i. masters_lost w (after_plan w number (cond (not (is i)) (refuses NotBuilt) (cond (left i) (plan_of w.control w.events number step) (refuses JournalFull))))
+  by-tests built room alone is left =
+      (λ i. answered_part number (course_of w task (alone i)).last)
+      ∙ (λ i. masters_lost w (after_plan w number (cond (not (is i)) (refuses NotBuilt) (cond (left i) (plan_of w.control w.events number step) (refuses JournalFull)))))
 
   -- a step that is refused before it begins
   refused-first : (r : Refusal) → masters_lost w (after_plan w number (refuses r)) ≡ said w number (Refused r)
   refused-first r = ap (masters_lost w) (plan-refuses w number r) ∙ masters-stay w (said w number (Refused r)) refl
 
-  pub task-unbuilt : is_built step ≡ false → after_task w task ≡ said w number (Refused NotBuilt)
-  task-unbuilt is = by-tests false (has_room w.events) is refl ∙ refused-first NotBuilt
+  pub task-unbuilt : run_asked (Ok step) ≡ None → is_built step ≡ false → after_task w task ≡ said w number (Refused NotBuilt)
+  task-unbuilt alone is = by-tests false (has_room w.events) alone is refl ∙ refused-first NotBuilt
 
   pub task-full : is_built step ≡ true → has_room w.events ≡ false → after_task w task ≡ said w number (Refused JournalFull)
-  task-full built full = by-tests true false built full ∙ refused-first JournalFull
+  task-full built full = by-tests true false (built-alone step built) built full ∙ refused-first JournalFull
 
   pub task-built : (u : World) → is_built step ≡ true → has_room w.events ≡ true → after_plan w number (plan_of w.control w.events number step) ≡ u → after_task w task ≡ masters_lost w u
-  task-built u built room leads = by-tests true true built room ∙ ap (masters_lost w) leads
+  task-built u built room leads = by-tests true true (built-alone step built) built room ∙ ap (masters_lost w) leads
 
   -- the journal before the answer tells no answer more
   ends : EndsAnswered w number (after_task w task)
   ends = after_task-ends w task
 
-  pub told-step : (u : World) (a : Said) → after_task w task ≡ masters_lost w (said u number a) → told_stop (u.events ++ answer number a ∷ []) ≡ (told_stop w.events || is_stopped a)
+  pub told-step : (u : World) (a : Said) → (after_task w task).events ≡ u.events ++ answer number a ∷ [] → told_stop (u.events ++ answer number a ∷ []) ≡ (told_stop w.events || is_stopped a)
   told-step u a is =
-      let whole : (w.events ++ ends.before) ++ answer number ends.says ∷ [] ≡ u.events ++ answer number a ∷ [] = sym ends.events ∙ ap (λ (x : World). x.events) is in
+      let whole : (w.events ++ ends.before) ++ answer number ends.says ∷ [] ≡ u.events ++ answer number a ∷ [] = sym ends.events ∙ is in
       let front : w.events ++ ends.before ≡ u.events = (same_from_push (w.events ++ ends.before) u.events (answer number ends.says) (answer number a) whole).0 in
       list_any-append is_stop u.events (answer number a ∷ [])
       ∙ ap (λ es. list_any is_stop es || list_any is_stop (answer number a ∷ [])) (sym front)
       ∙ ap (λ b. b || list_any is_stop (answer number a ∷ [])) (list_any-append is_stop w.events ends.before ∙ ap (λ b. told_stop w.events || b) (none-silent ends.before ends.silent) ∙ or_no (told_stop w.events))
       ∙ ap (λ b. told_stop w.events || b) (answer-stop number a)
 
-  pub faults-step : (u : World) (a : Said) (now : List Event) (f x y : ℕ) → after_task w task ≡ masters_lost w (said u number a) → now ≡ u.events ++ answer number a ∷ [] → Counted (is_stopped a) x y
+  pub faults-step : (u : World) (a : Said) (now : List Event) (f x y : ℕ) → (after_task w task).events ≡ u.events ++ answer number a ∷ [] → now ≡ u.events ++ answer number a ∷ [] → Counted (is_stopped a) x y
       → Counted (told_stop w.events) f x → Counted (told_stop now) f y
   faults-step u a now f x y is told counts before =
       subst (λ b. Counted b f y) (sym (ap told_stop told ∙ told-step u a is)) (counts-more (told_stop w.events) (is_stopped a) f x y before counts)

@@ -8,13 +8,13 @@ use Rattle.std.proofs.lemmas.Bool.Decides.{nat_tests}
 use Rattle.dr_model.specs.declared.step.Name.{Name}
 use Rattle.dr_model.specs.declared.step.Devs.{Devs}
 use Rattle.dr_model.specs.declared.step.Step.{Step}
-use Rattle.dr_model.specs.declared.step.Step.TheVariants.{Server, Volume, Link, Stop, StopAfter, Start, Issue, Write, MakeFlash, RemoveFlash, ResyncFlash, ReverseFlash, MakePath, RemovePath, MakePair, RemovePair, PausePair, ResumePair, Expire, Freeze, Unfreeze, MakeSession, RemoveSession, AddMember, RemoveMember, MakeMirror, PauseMirror, ResumeMirror, RemoveMirror, Exchange}
+use Rattle.dr_model.specs.declared.step.Step.TheVariants.{Server, Volume, Link, Stop, StopAfter, Start, Issue, Write, MakeFlash, RemoveFlash, ResyncFlash, ReverseFlash, MakePath, RemovePath, MakePair, RemovePair, PausePair, ResumePair, Expire, Freeze, Unfreeze, MakeSession, RemoveSession, AddMember, RemoveMember, MakeMirror, PauseMirror, ResumeMirror, RemoveMirror, Exchange, CommitFlash, RevertFlash}
 use Rattle.dr_model.specs.LineTable as table
 use Rattle.dr_model.specs.LineText as line
 use Rattle.dr_model.specs.LineText.{at_sign, for_item, for_session, said_fits, said_operands, settings_fit, operands_fit, remote_fits, IsWritten, name_fits, name_text, bytes_fit}
 use Rattle.dr_model.specs.LineSteps.{has, no_options, no_operands, no_name}
 use Rattle.dr_model.specs.declared.grammar.Saying.{Saying}
-use Rattle.dr_model.specs.declared.grammar.Command.TheVariants.{AtServer, AtVolume, AtLink, AtStop, AtStart, AtExpire, AtIssue, AtWrite, Mkflash, Rmflash, Resyncflash, Reverseflash, Mkpprcpath, Rmpprcpath, Mkpprc, Rmpprc, Pausepprc, Resumepprc, Freezepprc, Unfreezepprc, AtExchange, Mksession, Rmsession, Chsession, Mkgmir, Resumegmir, Pausegmir, Rmgmir}
+use Rattle.dr_model.specs.declared.grammar.Command.TheVariants.{AtServer, AtVolume, AtLink, AtStop, AtStart, AtExpire, AtIssue, AtWrite, Mkflash, Rmflash, Resyncflash, Reverseflash, Mkpprcpath, Rmpprcpath, Mkpprc, Rmpprc, Pausepprc, Resumepprc, Freezepprc, Unfreezepprc, AtExchange, Mksession, Rmsession, Chsession, Mkgmir, Resumegmir, Pausegmir, Rmgmir, Commitflash, Revertflash}
 use Rattle.dr_model.specs.LineWords.{is_name, is_name_byte, begins_with_letter}
 use Rattle.dr_top.specs.WellFormed.{FitsName, FitsOwner, FitsDevs, IsWellFormed}
 
@@ -100,6 +100,8 @@ written-fits (ResyncFlash devs s t nocopy persistent recorded inhibited sequence
     owner-fits devs.dev _ (settings-fit (for_item Resyncflash (record no_options { devs = devs; nocopy = nocopy; persistent = persistent; recorded = recorded; inhibited = inhibited; sequence = sequence }) s t) h)
 written-fits (ReverseFlash devs s t tgtpprc sequence) h =
     owner-fits devs.dev _ (settings-fit (for_item Reverseflash (record no_options { devs = devs; sequence = sequence; fast = true; tgtpprc = tgtpprc }) s t) h)
+written-fits (CommitFlash devs source sequence) h = owner-fits devs.dev _ (settings-fit (for_item Commitflash (record no_options { devs = devs; sequence = sequence }) source source) h)
+written-fits (RevertFlash devs source sequence) h = owner-fits devs.dev _ (settings-fit (for_item Revertflash (record no_options { devs = devs; sequence = sequence }) source source) h)
 written-fits (MakePath devs src tgt group) h = devs-fit devs _ (settings-fit (for_item Mkpprcpath (record no_options { devs = devs; src = Some src; tgt = Some tgt; group = group }) 0 0) h)
 written-fits (RemovePath devs src tgt force) h = devs-fit devs _ (settings-fit (for_item Rmpprcpath (record no_options { devs = devs; force = force }) src tgt) h)
 written-fits (MakePair devs a b kind full) h = devs-fit devs _ (settings-fit (for_item Mkpprc (record no_options { devs = devs; kind = Some kind; full = cond full None (Some false) }) a b) h)

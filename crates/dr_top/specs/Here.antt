@@ -11,8 +11,8 @@ use Rattle.dr_model.specs.declared.said.Said.{Said}
 use Rattle.dr_model.specs.declared.said.Said.TheVariants.{Done, Refused}
 use Rattle.dr_model.specs.declared.step.Step.{Step}
 use Rattle.dr_model.specs.Control.{World}
-use Rattle.dr_model.specs.Plans.{plan_of}
-use Rattle.dr_model.specs.Runs.{after_plan, said}
+use Rattle.dr_model.specs.Plans.{Plan, plan_of}
+use Rattle.dr_model.specs.Runs.{carried_out, answered, after_plan, said}
 use Rattle.dr_volume.specs.View.{Rest, world}
 use Rattle.dr_metro.specs.Here as metro
 use Rattle.dr_top.specs.declared.tables.Tables.{Tables}
@@ -86,3 +86,8 @@ OnRefused _ P = Unit {0}
 -- from a world, the machine's step of a line leads to this one, and is answered so
 abbrev pub Leads : World → ℕ → Step → World → Said → Type 0
 Leads w line step u a = after_plan w line (plan_of w.control w.events line step) ≡ said u line a
+
+-- from a world a plan is carried out to this one, and answered so
+pub record Carries (w : World) (p : Plan) (u : World) (a : Said) : Type 0 where
+  pub world : (carried_out w p).0 ≡ u
+  pub says : answered p u.control (carried_out w p).1 ≡ a

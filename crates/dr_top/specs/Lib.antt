@@ -1,6 +1,7 @@
 pub mod Here
 pub mod Cut
 pub mod Faults
+pub mod Formed
 pub mod Forms
 pub mod Followed
 pub mod Carried

@@ -9,6 +9,7 @@ use Rattle.dr_plant.specs.State.{PlantState}
 use Rattle.dr_model.specs.declared.event.Event.{Event}
 use Rattle.dr_model.specs.declared.event.Event.TheVariants.{Answer}
 use Rattle.dr_model.specs.Control.{World}
+use Rattle.dr_model.specs.ClosedCuts.{ClosedCuts}
 use Rattle.dr_model.specs.Fits.{Fits}
 use Rattle.dr_io.specs.Lines.{most_bytes, most_lines, most_piece}
 use Rattle.dr_model.specs.Limits.{most_events}
@@ -168,8 +169,8 @@ module _ {S K : Type 0} (left : S → Option (List ℕ)) (written : K → Option
       pub streams : CountsStreams status
 
     -- A run: the journal is that of the world to which the steps lead, and the plant fits it. Where a sound freeze window
-    -- ends with it, the devices of the secondaries contain the cut; each secondary that is sealed contains its own; and by what
-    -- the devices say alone, it is possible to decide over each session.
+    -- ends with it, the devices of the secondaries contain the cut; each secondary that is sealed contains its own; the cuts of the
+    -- group of each attempt are closed; and by what the devices say alone, it is possible to decide over each session.
     pub record IsRun (status : Status) (events : List Event) (s s' : PlantState) : Type 0 where
       pub world : World
       pub ran : Ran status world
@@ -179,6 +180,7 @@ module _ {S K : Type 0} (left : S → Option (List ℕ)) (written : K → Option
       pub fits : Fits world s'.on (λ server. fuse_seen (s'.write_fuse server)) s'.block
       pub frozen : (tasks : List Task) → run tasks ≡ world → EndsInCut tasks s'.block
       pub seals : SealsOn world s'.block
+      pub closed : (s n : ℕ) → ClosedCuts events s n
       pub decides : DecidesOn world s'.block
       pub reads : ReadsPass s'
       pub stops : Counted (told_stop events) s.faults s'.faults

@@ -3,7 +3,7 @@ use Rattle.std.specs.Prelude.{◌+◌, ◌≤◌, Option, Some, None}
 use Rattle.dr_model.specs.declared.step.Name.{Name}
 use Rattle.dr_model.specs.declared.step.Devs.{Devs}
 use Rattle.dr_model.specs.declared.step.Step.{Step}
-use Rattle.dr_model.specs.declared.step.Step.TheVariants.{Server, Volume, Link, Stop, StopAfter, Start, Issue, Write, MakeFlash, RemoveFlash, ResyncFlash, ReverseFlash, MakePath, RemovePath, MakePair, RemovePair, PausePair, ResumePair, Expire, Freeze, Unfreeze, MakeSession, RemoveSession, AddMember, RemoveMember, MakeMirror, PauseMirror, ResumeMirror, RemoveMirror, Exchange}
+use Rattle.dr_model.specs.declared.step.Step.TheVariants.{Server, Volume, Link, Stop, StopAfter, Start, Issue, Write, MakeFlash, RemoveFlash, ResyncFlash, ReverseFlash, MakePath, RemovePath, MakePair, RemovePair, PausePair, ResumePair, Expire, Freeze, Unfreeze, MakeSession, RemoveSession, AddMember, RemoveMember, MakeMirror, PauseMirror, ResumeMirror, RemoveMirror, Exchange, CommitFlash, RevertFlash}
 
 -- a name has 1 to 24 bytes
 abbrev pub FitsName : Name → Type 0
@@ -50,4 +50,6 @@ IsWellFormed (PauseMirror devs l s) = FitsOwner devs.dev
 IsWellFormed (ResumeMirror devs l s cginterval coordinate drain) = FitsOwner devs.dev
 IsWellFormed (RemoveMirror devs l s) = FitsOwner devs.dev
 IsWellFormed (Exchange s name reply) = FitsName name
+IsWellFormed (CommitFlash devs source sequence) = FitsOwner devs.dev
+IsWellFormed (RevertFlash devs source sequence) = FitsOwner devs.dev
 IsWellFormed _ = Unit {0}

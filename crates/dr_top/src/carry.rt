@@ -15,8 +15,9 @@ ghost use Rattle.dr_top.specs.Faults.{Counted, told_stop};
 ghost use Rattle.dr_top.specs.declared.tables.Tables.{Tables};
 ghost use Rattle.dr_top.specs.Here.{here, IsTold, IsReady};
 
+use crate::answers::{MOST_EVENTS, refuse_syntax};
 use crate::tables::Tables;
-use crate::task::{MOST_EVENTS, carry_task, refuse_syntax};
+use crate::task::carry_task;
 use dr_config::Config;
 use dr_ids::{Fault, Refusal};
 use dr_model::Journal;

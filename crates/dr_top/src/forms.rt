@@ -3,7 +3,7 @@
 ghost use Rattle.std.specs.Prelude.{◌≡◌};
 ghost use Rattle.dr_model.specs.Layout.{is_part, part_of};
 ghost use Rattle.dr_model.specs.Plans.{is_built};
-ghost use Rattle.dr_top.specs.Forms.{is_plain, is_relation, is_pair, is_session};
+ghost use Rattle.dr_top.specs.Forms.{is_plain, is_relation, is_pair, is_session, is_recovery};
 
 use dr_model::Step;
 
@@ -70,9 +70,19 @@ fn is_session(step: &Step) -> bool
     }
 }
 
+/// Whether a step is a recovery, or commits or reverts by hand.
+fn is_recovery(step: &Step) -> bool
+    ensures { result ≡ is_recovery step.now }
+{
+    match step {
+        Step::Recover { .. } | Step::CommitFlash { .. } | Step::RevertFlash { .. } => true,
+        _ => false,
+    }
+}
+
 /// Whether the form of a step is built.
 pub fn is_built(step: &Step) -> bool
     ensures { result ≡ is_built step.now }
 {
-    is_plain(step) || is_relation(step) || is_pair(step) || is_session(step)
+    is_plain(step) || is_relation(step) || is_pair(step) || is_session(step) || is_recovery(step)
 }

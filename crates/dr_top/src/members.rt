@@ -38,7 +38,7 @@ fn lies_in(a: VolumeId, l: Lss) -> bool
 }
 
 /// A server that isn't the one of that name, where a name is given.
-fn name_refusal(config: &Config, dev: &Option<Name>, owner: ServerId) -> Option<Refusal>
+pub fn name_refusal(config: &Config, dev: &Option<Name>, owner: ServerId) -> Option<Refusal>
     requires short { FitsOwner dev.now }
     ensures refusal { (x : PlantState) (h : Tables) (events : List Event) → result ≡ plans.name_refusal (here x config.now h events).control dev.now owner.0 }
     ensures calm { is_stop result ≡ false }

@@ -14,7 +14,7 @@ ghost use Rattle.dr_model.specs.Runs.{after_plan, said};
 ghost use Rattle.dr_gcopy.specs.Kinds.{part_of};
 ghost use Rattle.dr_flash.specs.Checks.{Checked, OnNone, is_stop};
 ghost use Rattle.dr_top.specs.Faults.{Counts};
-ghost use Rattle.dr_top.specs.Here.{said_of, here, IsReady};
+ghost use Rattle.dr_top.specs.Here.{said_of, here, IsReady, Carries};
 ghost use Rattle.dr_top.specs.WellFormed.{FitsDevs};
 
 use crate::define::unknown_server;
@@ -224,7 +224,7 @@ pub fn resume_copy<P: Plant>(
 }
 
 /// Whether a volume with these fields is a primary in Copy Pending.
-fn is_copying(f: &Fields) -> bool
+pub fn is_copying(f: &Fields) -> bool
     ensures { result ≡ (part.is_part f.now.primary && pairs.is_pending f.now.primary_state) }
 {
     is_part(f.primary) && is_pending(f.primary_state)
@@ -253,12 +253,13 @@ pub fn drain_copy<P: Plant>(
     requires sound { Sound (here (P.state plant.old) config.now tables.now journal.old.events) }
     requires few { length config.now.volumes ≤ 64 }
     requires room { 4096 ≤ journal.old.spare }
-    ensures step { (line : ℕ) → after_plan (here (P.state plant.old) config.now tables.now journal.old.events) line
+    ensures step { Carries (here (P.state plant.old) config.now tables.now journal.old.events)
         (plans.drain_plan (here (P.state plant.old) config.now tables.now journal.old.events).control a.0 most)
-        ≡ said (here (P.state plant.new) config.now tables.now journal.new.events) line (said_of result) }
+        (here (P.state plant.new) config.now tables.now journal.new.events) (said_of result) }
     ensures faults { Counts (said_of result) (P.state plant.old) (P.state plant.new) }
     ensures ready { IsReady (P.state plant.new) config.now tables.now journal.new.events }
     ensures room { 1 ≤ journal.new.spare }
+    ensures spare { length journal.new.events + journal.new.spare ≡ length journal.old.events + journal.old.spare }
 {
     let Some(server) = config.server_of(a) else {
         return Err(Refusal::Unknown { kind: Kind::Volume });

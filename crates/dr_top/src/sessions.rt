@@ -66,7 +66,7 @@ fn found(
 }
 
 /// A server that is off.
-fn off_refusal<P: Plant>(plant: &P, server: ServerId) -> Option<Refusal>
+pub fn off_refusal<P: Plant>(plant: &P, server: ServerId) -> Option<Refusal>
     requires known { server.0 < 8 }
     ensures refusal { (t : Table) (h : Tables) (events : List Event) → result ≡ plans.off_refusal (here (P.state plant.now) t h events).control server.0 }
     ensures calm { is_stop result ≡ false }

@@ -7,25 +7,28 @@ ghost use Rattle.dr_model.specs.Laws.{Sound};
 ghost use Rattle.dr_model.specs.Limits.{most_events};
 ghost use Rattle.dr_model.specs.LineText.{IsWritten};
 ghost use Rattle.dr_model.specs.Plans.{is_built, has_room, plan_of};
-ghost use Rattle.dr_model.specs.Runs.{after_plan, after_task};
+ghost use Rattle.dr_model.specs.Runs.{run_asked, after_plan, after_task};
 ghost use Rattle.dr_model.specs.declared.said.Said.TheVariants.{Refused};
 ghost use Rattle.dr_model.specs.declared.step.Step.{Step};
 ghost use Rattle.dr_top.specs.Faults.{Counted, Counts, told_stop};
-ghost use Rattle.dr_top.specs.Forms.{is_plain, is_relation, is_session};
+ghost use Rattle.dr_top.specs.Forms.{is_plain, is_relation, is_session, is_recovery};
 ghost use Rattle.dr_top.specs.Here.{here, said_of, widened, refused, answer_widened, all_done, OnAnswer, OnSaid, OnNoMemory, Leads, IsReady};
 ghost use Rattle.dr_top.specs.WellFormed.{IsWellFormed};
 
+use crate::answers::{STEP_EVENTS, has_room, refuse, say};
 use crate::background::copy;
 use crate::define::{define_server, define_volume, set_link};
 use crate::exchanges::exchange;
 use crate::expiry::expire;
 use crate::flash::{make_flash, remove_flash, resync_flash, reverse_flash};
+use crate::forming::carry_run;
 use crate::forms::is_built;
 use crate::freezing::{freeze_pairs, thaw_pairs};
 use crate::masters::{lose_masters, servers_on};
 use crate::members::{add_member, remove_member};
 use crate::pairs::{drain_copy, end_copy, make_copy, pause_copy, resume_copy};
 use crate::paths::{make_path, remove_path};
+use crate::recovering::{commit_flash, recover_session, revert_flash};
 use crate::sessions::{
     abort_attempt, join_session, leave_session, make_mirror, pause_mirror, remove_mirror,
 };
@@ -38,45 +41,6 @@ use dr_ids::{Fault, Lss, Refusal, SessionId, VolumeId};
 use dr_model::{Addition, Journal, Said, Step};
 use dr_plant::Plant;
 use std::alloc::AllocError;
-
-/// The most events of a journal.
-pub const MOST_EVENTS: usize = 1_000_000;
-
-/// The room that a step needs in the journal before it begins.
-const STEP_EVENTS: usize = 4096;
-
-/// Whether the journal has room for what a step may tell.
-fn has_room(journal: &Journal) -> bool
-    ensures { result ≡ has_room journal.now.events }
-{
-    journal.len() <= MOST_EVENTS - STEP_EVENTS
-}
-
-/// Keeps the answer of a line, which ends its step.
-fn say(journal: &mut Journal, line: u32, said: Said)
-    requires { 0 < journal.old.spare }
-    ensures events { journal.new.events ≡ journal.old.events ++ answer line said ∷ [] }
-{
-    journal.push(said.event(line));
-}
-
-/// Refuses a step before it begins. Where there is no memory nothing has changed.
-fn refuse(journal: &mut Journal, number: u32, refusal: Refusal) -> Result<(), AllocError>
-    ensures told { OnOk result (journal.new.events ≡ journal.old.events ++ answer number (Refused refusal) ∷ []) }
-    ensures same { OnErr result (journal.new.events ≡ journal.old.events) }
-{
-    journal.reserve(1)?;
-    say(journal, number, Said::Refused(refusal));
-    Ok(())
-}
-
-/// Answers a line outside the grammar, which is one step. Where there is no memory nothing has changed.
-pub fn refuse_syntax(journal: &mut Journal, number: u32, column: u16) -> Result<(), AllocError>
-    ensures told { OnOk result (journal.new.events ≡ journal.old.events ++ answer number (Refused (Refusal.Syntax column)) ∷ []) }
-    ensures same { OnErr result (journal.new.events ≡ journal.old.events) }
-{
-    refuse(journal, number, Refusal::Syntax { column })
-}
 
 /// A call that wants no memory, among those that may.
 fn widened(carried: Result<Addition, Refusal>) -> Result<Said, Fault>
@@ -133,6 +97,7 @@ fn carry_relation<P: Plant>(
     requires room { 4096 ≤ journal.old.spare }
     requires form { is_plain step.now ≡ false }
     requires session { is_session step.now ≡ false }
+    requires recovery { is_recovery step.now ≡ false }
     requires built { is_built step.now ≡ true }
     ensures step { (line : ℕ) → Leads (here (P.state plant.old) config.now tables.now journal.old.events) line step.now
         (here (P.state plant.new) config.now tables.now journal.new.events) (said_of result) }
@@ -231,6 +196,7 @@ fn carry_pair<P: Plant>(
     requires room { 4096 ≤ journal.old.spare }
     requires form { is_plain step.now ≡ false }
     requires session { is_session step.now ≡ false }
+    requires recovery { is_recovery step.now ≡ false }
     requires other { is_relation step.now ≡ false }
     requires built { is_built step.now ≡ true }
     ensures step { (line : ℕ) → Leads (here (P.state plant.old) config.now tables.now journal.old.events) line step.now
@@ -295,6 +261,52 @@ fn carry_pair<P: Plant>(
             drain_copy(plant, config, tables, journal, VolumeId(volume), most)
         }
         _ => Err(Refusal::NotBuilt),
+    }
+}
+
+/// Carries out a recovery, or a commit or a revert by hand.
+fn carry_recovery<P: Plant>(
+    plant: &mut P,
+    config: &Config,
+    tables: &Tables,
+    journal: &mut Journal,
+    step: &Step,
+) -> Result<Addition, Refusal>
+    requires ready { IsReady (P.state plant.old) config.now tables.now journal.old.events }
+    requires sound { Sound (here (P.state plant.old) config.now tables.now journal.old.events) }
+    requires fits { IsWellFormed step.now }
+    requires few { length config.now.volumes ≤ 64 }
+    requires room { 4096 ≤ journal.old.spare }
+    requires form { is_plain step.now ≡ false }
+    requires session { is_session step.now ≡ false }
+    requires built { is_built step.now ≡ true }
+    ensures step { (line : ℕ) → Leads (here (P.state plant.old) config.now tables.now journal.old.events) line step.now
+        (here (P.state plant.new) config.now tables.now journal.new.events) (said_of result) }
+    ensures faults { Counts (said_of result) (P.state plant.old) (P.state plant.new) }
+    ensures ready { IsReady (P.state plant.new) config.now tables.now journal.new.events }
+    ensures room { 1 ≤ journal.new.spare }
+{
+    match *step {
+        Step::Recover { session } => {
+            recover_session(plant, config, tables, journal, SessionId(session))
+        }
+        Step::CommitFlash { devs, source, .. } => commit_flash(
+            plant,
+            config,
+            tables,
+            journal,
+            &devs.dev,
+            VolumeId(source),
+        ),
+        Step::RevertFlash { devs, source, .. } => revert_flash(
+            plant,
+            config,
+            tables,
+            journal,
+            &devs.dev,
+            VolumeId(source),
+        ),
+        _ => carry_relation(plant, config, tables, journal, step),
     }
 }
 
@@ -439,7 +451,7 @@ fn carry_session<P: Plant>(
             &server,
             reply,
         )),
-        _ => refused(carry_relation(plant, config, tables, journal, step)),
+        _ => refused(carry_recovery(plant, config, tables, journal, step)),
     }
 }
 
@@ -661,7 +673,41 @@ fn carry_built<P: Plant>(
     }
 }
 
-/// Carries out a step, and answers it: a form that isn't built is refused, and then a step for which the journal has no room.
+/// Carries out a step that is one plan, and answers it: a form that isn't built is refused, and then a step for which the journal
+/// has no room. Where there is no memory nothing has changed.
+fn carry_alone<P: Plant>(
+    plant: &mut P,
+    config: &mut Config,
+    tables: &mut Tables,
+    journal: &mut Journal,
+    number: u32,
+    step: &Step,
+) -> Result<(), AllocError>
+    requires ready { IsReady (P.state plant.old) config.old tables.old journal.old.events }
+    requires sound { Sound (here (P.state plant.old) config.old tables.old journal.old.events) }
+    requires written { IsWritten step.now }
+    requires few { length config.old.volumes ≤ 64 }
+    requires count { tables.old.host.issued + 1 < 2 ^ 32 }
+    requires below { length journal.old.events < most_events }
+    requires alone { run_asked (Ok step.now) ≡ None }
+    ensures task { OnOk result (after_task (here (P.state plant.old) config.old tables.old journal.old.events) (record { line = number; asked = Ok step.now })
+        ≡ here (P.state plant.new) config.new tables.new journal.new.events) }
+    ensures same { OnErr result (here (P.state plant.new) config.new tables.new journal.new.events ≡ here (P.state plant.old) config.old tables.old journal.old.events) }
+    ensures ready { IsReady (P.state plant.new) config.new tables.new journal.new.events }
+    ensures faults { (f : ℕ) → Counted (told_stop journal.old.events) f (P.state plant.old).faults → Counted (told_stop journal.new.events) f (P.state plant.new).faults }
+    ensures issued { tables.new.host.issued ≤ tables.old.host.issued + 1 }
+{
+    if !is_built(step) {
+        return refuse(journal, number, Refusal::NotBuilt);
+    }
+    if !has_room(journal) {
+        return refuse(journal, number, Refusal::JournalFull);
+    }
+    journal.reserve(STEP_EVENTS)?;
+    carry_built(plant, config, tables, journal, number, step)
+}
+
+/// Carries out a step, and answers it. A form that isn't built is refused, and then a step for which the journal has no room.
 /// Where there is no memory nothing has changed.
 pub fn carry_task<P: Plant>(
     plant: &mut P,
@@ -684,12 +730,16 @@ pub fn carry_task<P: Plant>(
     ensures faults { (f : ℕ) → Counted (told_stop journal.old.events) f (P.state plant.old).faults → Counted (told_stop journal.new.events) f (P.state plant.new).faults }
     ensures issued { tables.new.host.issued ≤ tables.old.host.issued + 1 }
 {
-    if !is_built(step) {
-        return refuse(journal, number, Refusal::NotBuilt);
+    match *step {
+        Step::Run { session, groups } => carry_run(
+            plant,
+            config,
+            tables,
+            journal,
+            number,
+            SessionId(session),
+            groups,
+        ),
+        _ => carry_alone(plant, config, tables, journal, number, step),
     }
-    if !has_room(journal) {
-        return refuse(journal, number, Refusal::JournalFull);
-    }
-    journal.reserve(STEP_EVENTS)?;
-    carry_built(plant, config, tables, journal, number, step)
 }

@@ -1,4 +1,4 @@
-use Rattle.std.proofs.Common.{arith, length, ap, refl, sym, subst, ◌∙◌, None}
+use Rattle.std.proofs.Common.{arith, length, ap, refl, sym, subst, ◌∙◌, ◌⊎◌, None}
 use Rattle.dr_model.specs.Layout.{Fields}
 use Rattle.dr_model.specs.Lawful.{IsLawful}
 use Rattle.dr_model.specs.Moves.{TakeOver}
@@ -7,6 +7,7 @@ use Rattle.dr_model.specs.Carry.{now}
 use Rattle.dr_flash.proofs.CheckLemmas.{act-ends}
 use Rattle.dr_gcopy.proofs.PairLemmas.{pair-fits, lawful-taken, tells-take_over}
 use Rattle.dr_volume.specs.Plain.{plain}
+use Rattle.dr_volume.specs.Update.{IsAsBefore, IsMoved}
 use Rattle.dr_volume.specs.View.{volume_seen}
 use Rattle.dr_flash.specs.Here.{seen, armed_in, refusal_of}
 use Rattle.dr_flash.specs.Told.{events_of}
@@ -64,3 +65,17 @@ pub returns-clause-carried : goal.returns-clause-carried
 returns-clause-carried g c =
     let t = c.args.c.now in
     act-ends c.shift.result (armed_in (g.P.Plant.state c.args.p.now)) (λ r. seen (g.P.Plant.state c.args.p.now) t r c.args.j.now.events) (λ r. seen (g.P.Plant.state c.shift.new.p) t r c.shift.new.j.events) (now (TakeOver c.args.b.0)) (returns-clause-advances g c) (returns-clause-halts g c)
+
+pub returns-clause-moved : goal.returns-clause-moved
+returns-clause-moved g c =
+    let s = g.P.Plant.state c.args.p.now in
+    let u = g.P.Plant.state c.shift.new.p in
+    let t = c.args.c.now in
+    ok-along c.shift.result c.shift.ensures.moved (λ is. subst (λ f. IsMoved s u t c.args.b.0 f None) (c.taken_over-next.ensures ∙ ap taken_over c.peek_fields.ensures.fields) is)
+
+pub returns-clause-old_or_new : goal.returns-clause-old_or_new
+returns-clause-old_or_new g c =
+    let s = g.P.Plant.state c.args.p.now in
+    let u = g.P.Plant.state c.shift.new.p in
+    let t = c.args.c.now in
+    subst (λ f. IsAsBefore s u t c.args.b.0 ⊎ IsMoved s u t c.args.b.0 f None) (c.taken_over-next.ensures ∙ ap taken_over c.peek_fields.ensures.fields) c.shift.ensures.old_or_new

@@ -1,4 +1,4 @@
-use Rattle.std.proofs.Common.{◌≤◌, ◌==◌, length, arith, ap, sym, ◌∙◌, option_map}
+use Rattle.std.proofs.Common.{◌≤◌, ◌==◌, length, arith, ap, sym, ◌∙◌}
 use Rattle.std.specs.List.{find}
 use Rattle.dr_ids.specs.declared.names.Member.{Member}
 use Rattle.dr_model.specs.Sessions.{session_in, members_in}
@@ -9,7 +9,7 @@ use Rattle.dr_gmirror.proofs.restores.member_with.Goals as goal
 
 pub returns-then-m-t : goal.returns-then-m-t
 returns-then-m-t c =
-    sym (ap (option_map (λ (m : Member). m.a.0)) (find-hit (λ (m : Member). m.c.0 == c.args.t.0) (members_in (session_in c.args.ss.now.sessions c.args.s.0)) c.loop-at.at c.unwrap-m.result (sym (sym c.member_at.ensures.value ∙ c.unwrap-m.ensures)) c.loop-at.invariant.none (same-test c.unwrap-m.result.c.0 c.args.t.0 c.if-m-t.true)))
+    sym (find-hit (λ (m : Member). m.c.0 == c.args.t.0) (members_in (session_in c.args.ss.now.sessions c.args.s.0)) c.loop-at.at c.unwrap-m.result (sym (sym c.member_at.ensures.value ∙ c.unwrap-m.ensures)) c.loop-at.invariant.none (same-test c.unwrap-m.result.c.0 c.args.t.0 c.if-m-t.true))
 
 pub loop-at-preserved : goal.loop-at-preserved
 loop-at-preserved c = record {
@@ -20,4 +20,4 @@ pub returns : goal.returns
 returns c =
     let ms = members_in (session_in c.args.ss.now.sessions c.args.s.0) in
     let all : length ms ≤ c.loop-at.at = let e = c.member_count-at-end.ensures in let f = c.loop-at-test.false in omega (arith, e, f) in
-    sym (ap (λ xs. option_map (λ (m : Member). m.a.0) (find (λ (m : Member). m.c.0 == c.args.t.0) xs)) (sym (member-all ms c.loop-at.at all)) ∙ ap (option_map (λ (m : Member). m.a.0)) c.loop-at.invariant.none)
+    sym (ap (λ xs. find (λ (m : Member). m.c.0 == c.args.t.0) xs) (sym (member-all ms c.loop-at.at all)) ∙ c.loop-at.invariant.none)

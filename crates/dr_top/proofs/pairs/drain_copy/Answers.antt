@@ -1,15 +1,15 @@
-use Rattle.std.proofs.Common.{◌≡◌, ◌+◌, ◌≤◌, length, arith, true, refl, sym, ap, ◌∙◌, Some, None}
+use Rattle.std.proofs.Common.{◌≡◌, ◌+◌, ◌≤◌, length, arith, true, refl, sym, ap, ◌∙◌, subst, Some, None}
 use Rattle.std.specs.Prelude.{is_some}
 use Rattle.std.proofs.lemmas.Bool.{and_parts}
 use Rattle.dr_config.proofs.Lookups.{place-of-entry}
 use Rattle.dr_config.specs.declared.entries.VolumeEntry.{VolumeEntry}
 use Rattle.dr_model.specs.Refusals.{server_off}
-use Rattle.dr_model.specs.Runs.{said}
+use Rattle.dr_model.specs.Plans.{drain_plan}
 use Rattle.dr_model.specs.declared.said.Said.TheVariants.{Done}
 use Rattle.dr_model.specs.declared.said.Addition.TheVariants.{Counted}
 use Rattle.dr_volume.specs.View.{volume_seen, on_seen}
 use Rattle.dr_flash.proofs.CheckLemmas.{on-low}
-use Rattle.dr_top.specs.Here.{here, rest_of}
+use Rattle.dr_top.specs.Here.{here, rest_of, Carries}
 use Rattle.dr_top.proofs.LocatedLemmas.{mapped_none, mapped_some, seen-entry}
 use Rattle.dr_top.proofs.LandLemmas.{ready-after}
 use Rattle.dr_top.proofs.RelationLemmas.{relations-fit}
@@ -93,15 +93,16 @@ drain-requires-clause-room g c k r u leads =
     omega (arith, tell, few, room)
 
 pub returns-in-Ok-clause-step : goal.returns-in-Ok-clause-step
-returns-in-Ok-clause-step g c line =
+returns-in-Ok-clause-step g c =
     let s = g.P.Plant.state c.args.plant.now in let t = c.args.config.now in let h = c.args.tables.now in let ev = c.args.journal.now.events in
     let e = mapped_some (λ (e : VolumeEntry). e.server) _ _ c.in-Some.ensures.value in
     let owner : (volume_seen s t c.args.a.0).server ≡ c.in-Some.server.0 = (seen-entry s t c.args.a.0 e.0 e.1).0 ∙ e.2 in
     let runs : on_seen s (volume_seen s t c.args.a.0).server ≡ true = ap (on_seen s) owner ∙ on-low s c.in-Some.server.0 c.in-Some.ensures.defined.below ∙ sym c.if-not-is_on.ensures in
     let may = ap copying_by (sym c.peek_fields-fields.ensures.fields) ∙ sym c.if-not-is_copying.ensures in
     let u = here (g.P.Plant.state c.drain.new.p) t h c.drain.new.j.events in
-    drain-done s t h ev c.args.a.0 c.requires.ready.reads c.args.most e.0 e.1 runs may u (c.in-Ok.ensures.carried (rest_of h ev)) line
-    ∙ ap (λ n. said u line (Done (Counted n))) (sym c.in-Ok.ensures.count ∙ sym c.from.ensures)
+    let count = sym c.in-Ok.ensures.count ∙ sym c.from.ensures in
+    subst (λ n. Carries (here s t h ev) (drain_plan (here s t h ev).control c.args.a.0 c.args.most) u (Done (Counted n))) count
+    (drain-done s t h ev c.args.a.0 c.requires.ready.reads c.args.most e.0 e.1 runs may u (c.in-Ok.ensures.carried (rest_of h ev)))
 
 pub returns-in-Ok-clause-ready : goal.returns-in-Ok-clause-ready
 returns-in-Ok-clause-ready g c =

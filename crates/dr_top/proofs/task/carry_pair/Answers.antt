@@ -2,6 +2,7 @@ use Rattle.std.proofs.Common.{ap, sym, ◌∙◌}
 use Rattle.dr_model.specs.Plans.{plan_of, is_built}
 use Rattle.dr_model.specs.Runs.{after_plan}
 use Rattle.dr_top.specs.Here.{here}
+use Rattle.dr_top.proofs.CarriesLemmas.{carries-plan}
 use Rattle.dr_top.proofs.StepTaskLemmas.{none-else}
 use Rattle.dr_top.proofs.task.carry_pair.Goals as goal
 
@@ -39,7 +40,7 @@ pub returns-in-Drain-clause-step : goal.returns-in-Drain-clause-step
 returns-in-Drain-clause-step g c line =
     let w = here (g.P.Plant.state c.args.plant.now) c.args.config.now c.args.tables.now c.args.journal.now.events in
     ap (λ x. after_plan w line (plan_of w.control w.events line x)) c.in-Drain.is
-    ∙ c.drain_copy.ensures.step line
+    ∙ carries-plan w _ _ _ c.drain_copy.ensures.step line
 
 pub returns-in_default : goal.returns-in_default
-returns-in_default g c = none-else c.args.step.now c.requires.form c.requires.session c.requires.other c.requires.built c.in_default.not-MakePair c.in_default.not-RemovePair c.in_default.not-PausePair c.in_default.not-ResumePair c.in_default.not-Drain
+returns-in_default g c = none-else c.args.step.now c.requires.form c.requires.session c.requires.other c.requires.recovery c.requires.built c.in_default.not-MakePair c.in_default.not-RemovePair c.in_default.not-PausePair c.in_default.not-ResumePair c.in_default.not-Drain

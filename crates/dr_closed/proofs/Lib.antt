@@ -1,0 +1,15 @@
+pub mod Places
+pub mod ClosedCuts
+pub mod Told
+pub mod Fields
+pub mod Lists
+pub mod Landed
+pub mod Counts
+pub mod Keeps
+pub mod Holds
+pub mod Held
+pub mod Regroups
+pub mod Regrouped
+pub mod Quiet
+pub mod Mays
+pub mod Example

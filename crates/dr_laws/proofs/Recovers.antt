@@ -1,0 +1,505 @@
+-- Along a recovery, wherever a server stops in it, and where reads fail: another one makes the same of the session.
+use Rattle.std.proofs.Common.{ℕ, ◌≡◌, ◌≢◌, inl, inr, nat_eq, refl, ap, sym, ◌∙◌, subst, Bool, true, false, cond, ◌||◌, List, [], ◌∷◌, ◌++◌, map, filter, take, length, Option, Some, None, rules}
+use Rattle.std.specs.Prelude.{◌&&◌, ◌==◌}
+use Rattle.std.proofs.lemmas.Bool.{and_parts, eqb-true, false_from_ne_true}
+use Rattle.std.proofs.lemmas.Bool.Decides.{eqb_tells}
+use Rattle.std.proofs.Math.Seq.{take-length}
+use Rattle.dr_ids.specs.declared.names.Member.{Member}
+use Rattle.dr_ids.specs.declared.refusal.Refusal.{Refusal}
+use Rattle.dr_ids.specs.declared.refusal.Refusal.TheVariants.{Stopped as StoppedIn}
+use Rattle.dr_ids.specs.declared.refusal.Decision.{Decision}
+use Rattle.dr_ids.specs.declared.refusal.Decision.TheVariants.{NoMember, Nothing, RevertAll, CommitRest, RevertSome, Impossible}
+use Rattle.dr_ids.specs.declared.refusal.Kind.TheVariants.{Session as OfSession, Volume as OfVolume}
+use Rattle.dr_model.specs.Refusals.{unknown}
+use Rattle.dr_model.specs.declared.event.Event.{Event}
+use Rattle.dr_model.specs.Histories.{histories}
+use Rattle.dr_model.specs.Layout.{Fields, is_part}
+use Rattle.dr_model.specs.Decisions.{Shown, numbers_in, decision}
+use Rattle.dr_model.specs.Control.{Control, Fuse, Pending, Volume, World}
+use Rattle.dr_model.specs.Relations.{committed, reverted}
+use Rattle.dr_model.specs.Pairs.{taken_over}
+use Rattle.dr_model.specs.Moves.{Move, TakeOver, Commit, Revert, target, moved}
+use Rattle.dr_model.specs.Carry.{Act, Make, EndRecovery, OpenAttempt, Redo, Acknowledge, Drop, EndFreeze, EndThaw, Next, Pass, Do, End, Entry, carry}
+use Rattle.dr_model.specs.ReadStops.{Ends}
+use Rattle.dr_model.specs.Entries.{fields_at, relation_state}
+use Rattle.dr_model.specs.SessionEntries.{counts_in, shown_of, is_flashed, shown_by_members}
+use Rattle.dr_model.specs.RecoveryPlans.{lets_revert, decided_in, secondary_refusal, take_over_on, settle_on, end_recovery, recover_entries, recover_done, recover_plan, untaken_refusal, forbidden_unless, settle_refusal, settle_member, settle_target, settle_plan, member_of_target, revertible_target}
+use Rattle.dr_model.specs.declared.said.Said.TheVariants as Said
+use Rattle.dr_model.specs.declared.said.Addition.TheVariants.{Alone}
+use Rattle.dr_model.specs.declared.step.Name.{Name}
+use Rattle.dr_model.specs.SessionPlans.{name_refusal, off_refusal}
+use Rattle.std.specs.List.{find}
+use Rattle.std.specs.Option.{option_or}
+use Rattle.dr_model.specs.PlanParts.{Plan, refuses, unless, on_session, entries_plan, is_defined}
+use Rattle.dr_model.specs.Carried.{begun, finish, after_plan}
+use Rattle.dr_model.specs.Sessions.{Session, session_in, members_in}
+use Rattle.dr_model.specs.Groups.{In}
+use Rattle.dr_model.specs.Attempts.{roles, seen, seen_in, NoneCommitted, Attempts}
+use Rattle.dr_model.specs.Table.{table, due}
+use Rattle.dr_model.specs.Rows.{after, next_due}
+use Rattle.dr_model.specs.Laws.{SoundRows, Sound, sizes}
+use Rattle.dr_model.specs.Allowed.{Allowed, May}
+use Rattle.dr_groups.specs.Frames.{Moves}
+use Rattle.dr_groups.proofs.Lists.{from-filter, found as found-one}
+use Rattle.dr_groups.proofs.Changes.{session-found}
+use Rattle.dr_model.proofs.Images.{at_other}
+use Rattle.dr_phases.proofs.Facts.{rev-counts}
+use Rattle.dr_phases.proofs.Tables.{counts-here}
+use Rattle.dr_laws.proofs.Sets.{false_true}
+use Rattle.dr_laws.specs.BothViews.{IsRevertible, Settles}
+use Rattle.dr_laws.specs.Recovered.{decided_over, goes_back, remains_in, number_after, view_before, common, recovery_by, recovered_in, SameRecovery, KeepsRecovery}
+use Rattle.dr_model.specs.Views.{view}
+use Rattle.dr_laws.proofs.AtLemmas.{at_cases, at_part}
+use Rattle.dr_laws.proofs.Turns.{next_of, carried_in, done, done_in_stop, after_act}
+use Rattle.dr_laws.proofs.RowsAfter.{table-done, table-stop}
+use Rattle.dr_laws.proofs.KeepsSound.{Along, Then, MayDo, keeps-sound, sound-done, sound-stop}
+use Rattle.dr_laws.proofs.FitsFlash.{as_begun, sound-begun}
+use Rattle.dr_laws.proofs.FitsRecovery.{along-recover, along-settle}
+use Rattle.dr_laws.proofs.Cases.{or-passed}
+use Rattle.dr_laws.proofs.Rides.{Rides, Both, keeps-with, along-with}
+use Rattle.dr_laws.proofs.Recovered.{Alike, alike-refl, alike-then, alike-still, alike-away, alike-committed, alike-reverted}
+use Rattle.dr_laws.proofs.DecidedOver.{members-decide, some-commits, none-reverts, commit-some, revert-none}
+use Rattle.dr_laws.proofs.Along as along
+
+-- ---- lists
+
+pub filter-same : (p q : ℕ → Bool) (xs : List ℕ) → ((x : ℕ) → In x xs → p x ≡ q x) → filter p xs ≡ filter q xs
+filter-same p q [] same = refl
+filter-same p q (x ∷ xs) same = (λ i. cond (same x (inl refl) i) (x ∷ filter p xs) (filter p xs)) ∙ ap (λ ys. cond (q x) (x ∷ ys) ys) (filter-same p q xs (λ y h. same y (inr h)))
+
+pub map-same : {Y : Type 0} (f g : ℕ → Y) (xs : List ℕ) → ((x : ℕ) → In x xs → f x ≡ g x) → map f xs ≡ map g xs
+map-same f g [] same = refl
+map-same f g (x ∷ xs) same = λ i. same x (inl refl) i ∷ map-same f g xs (λ y h. same y (inr h)) i
+
+-- ---- what a recovery makes is a matter of who goes back
+
+-- the same of a volume that counts and is revertible, and no matter of another one
+back-same : (s : ℕ) (b c : Bool) (f : Fields) → (counts_in s f ≡ true → f.revertible ≡ true → b ≡ c) → counts_in s f ≡ true → goes_back b f ≡ goes_back c f
+back-same s b c f same counted = by f.revertible refl
+  where
+    by : (r : Bool) → f.revertible ≡ r → (b && r) ≡ (c && r)
+    by true is = ap (λ b. b && true) (same counted is)
+    by false is = grind rules
+
+remains-same : (s : ℕ) (b c : Bool) (f : Fields) → (counts_in s f ≡ true → f.revertible ≡ true → b ≡ c) → remains_in s b f ≡ remains_in s c f
+remains-same s b c f same = by (counts_in s f) refl
+  where
+    by : (n : Bool) → counts_in s f ≡ n → (n && cond (goes_back b f) f.member true) ≡ (n && cond (goes_back c f) f.member true)
+    by true is = ap (λ g. cond g f.member true) (back-same s b c f same is)
+    by false is = refl
+
+remains-counts : (s : ℕ) (b : Bool) (f : Fields) → remains_in s b f ≡ true → counts_in s f ≡ true
+remains-counts s b f h = (and_parts (counts_in s f) (cond (goes_back b f) f.member true) h).0
+
+-- by truth values that agree where a volume counts and is revertible, and records that are alike, a recovery makes the same
+recovery-same : (s : ℕ) (b c : Bool) (w u : World) → u.control.volumes ≡ w.control.volumes → ((v : ℕ) → In v u.control.volumes → counts_in s (fields_at u.control v) ≡ true → (fields_at u.control v).revertible ≡ true → b ≡ c)
+    → Alike s c (table w) (table u) → SameRecovery (sizes w.control) (recovery_by c (fields_at w.control) w.contents w.control.volumes s) (recovery_by b (fields_at u.control) u.contents u.control.volumes s)
+recovery-same s b c w u volumes agree alike = record {
+  remaining = remaining;
+  group = ap (λ ns. common (numbers_in ns)) (ap (map (λ v. number_after b (fields_at u.control v))) remaining ∙ map-same _ _ (rest w) (λ v h. number v (from-filter _ w.control.volumes v h)));
+  images = λ v t h lt. let f = from-filter _ w.control.volumes v h in
+      ap (λ g. cond g (view_before (fields_at u.control) u.contents v t) (view (fields_at u.control) u.contents v t)) (back v f.0 f.1) ∙ (alike v).image t f.1 lt;
+}
+  where
+    rest : World → List ℕ
+    rest x = filter (λ v. remains_in s c (fields_at x.control v)) w.control.volumes
+
+    there : (v : ℕ) → In v w.control.volumes → In v u.control.volumes
+    there v h = subst (In v) (sym volumes) h
+
+    remaining : filter (λ v. remains_in s b (fields_at u.control v)) u.control.volumes ≡ filter (λ v. remains_in s c (fields_at w.control v)) w.control.volumes
+    remaining = ap (filter (λ v. remains_in s b (fields_at u.control v))) volumes
+        ∙ filter-same _ _ w.control.volumes (λ v h. remains-same s b c (fields_at u.control v) (agree v (there v h)) ∙ (alike v).remains)
+
+    back : (v : ℕ) → In v w.control.volumes → remains_in s c (fields_at w.control v) ≡ true → goes_back b (fields_at u.control v) ≡ goes_back c (fields_at u.control v)
+    back v h r = back-same s b c (fields_at u.control v) (agree v (there v h)) (remains-counts s c (fields_at u.control v) ((alike v).remains ∙ r))
+
+    number : (v : ℕ) → In v w.control.volumes × (remains_in s c (fields_at w.control v) ≡ true) → number_after b (fields_at u.control v) ≡ number_after c (fields_at w.control v)
+    number v f = ap (λ g. cond g (fields_at u.control v).previous_sequence (fields_at u.control v).sequence) (back v f.0 f.1) ∙ (alike v).number f.1
+
+-- a revertible target has a source
+pub is-revertible : (u : World) → Attempts u.control → (v : ℕ) → (fields_at u.control v).revertible ≡ true → IsRevertible (table u) v
+is-revertible u law v h =
+    let t = (law.volumes v).counted (or-right (fields_at u.control v).member (fields_at u.control v).revertible h) in
+    record { from = t.member.b.0; related = t.source; revertible = h }
+  where
+    or-right : (a b : Bool) → b ≡ true → (a || b) ≡ true
+    or-right true b h = refl
+    or-right false b h = h
+
+module _ (w : World) (s : ℕ) where
+  abbrev pub reverts : World → Bool
+  reverts u = lets_revert (decided_over (fields_at u.control) u.control.volumes s)
+
+  -- Sessions and volumes are as they were, but for what a recovery does, which makes none revertible. Where there is one left to commit
+  -- or revert, what is decided lets the same be done.
+  pub record Keeps (u : World) : Type 0 where
+    pub volumes : u.control.volumes ≡ w.control.volumes
+    pub sessions : u.control.sessions ≡ w.control.sessions
+    pub plain : (v : ℕ) → (fields_at w.control v).revertible ≡ false → (fields_at u.control v).revertible ≡ false
+    pub alike : Alike s (reverts w) (table w) (table u)
+    pub decides : (v : ℕ) → In v u.control.volumes → counts_in s (fields_at u.control v) ≡ true → (fields_at u.control v).revertible ≡ true → reverts u ≡ reverts w
+
+  pub keeps-begin : Keeps w
+  keeps-begin = record { volumes = refl; sessions = refl; plain = λ v h. h; alike = alike-refl s (reverts w) (table w); decides = λ v h c r. refl }
+
+  -- so a recovery makes the same
+  pub keeps-recovery : (u : World) → Keeps u → SameRecovery (sizes w.control) (recovered_in w s) (recovered_in u s)
+  keeps-recovery u k = recovery-same s (reverts u) (reverts w) w u k.volumes k.decides k.alike
+
+  -- whatever servers are on, writes wait and the journal is told
+  pub keeps-told : (u : World) (on : ℕ → Bool) (fuse : ℕ → Option Fuse) (pending : List Pending) (events : List Event) → Keeps u → Keeps (record u { control = record u.control { on = on; fuse = fuse; pending = pending }; events = events })
+  keeps-told u on fuse pending events k = record {
+    volumes = k.volumes;
+    sessions = k.sessions;
+    plain = k.plain;
+    alike = λ v. let a = k.alike v in record { tracks_same = a.tracks_same; remains = a.remains; number = a.number; image = a.image };
+    decides = k.decides;
+  }
+
+  -- acts of a recovery, which does what was decided where it is one of the session
+  abbrev pub Fit : Act → Type 0
+  Fit (Make (TakeOver b)) = Unit {0}
+  Fit (Make (Commit c a i n)) = i ≡ s → reverts w ≡ false
+  Fit (Make (Revert c a i n)) = i ≡ s → reverts w ≡ true
+  Fit (EndRecovery i n) = Unit {0}
+  Fit a = ⊥
+
+  abbrev pub MayFit : World → Act → Type 0
+  MayFit u a = MayDo u a × Fit a
+
+  -- ---- one move
+
+  module _ (u j : World) (sessions : j.control.sessions ≡ u.control.sessions) (k : Keeps u) (m : Move) (rows : table j ≡ after (histories u.events).write (table u) m) (moves : Moves u.control j.control (target m) (next_of u m) (carried_in u m)) where
+    volumes : j.control.volumes ≡ w.control.volumes
+    volumes = moves.volumes ∙ k.volumes
+
+    plain : ((fields_at w.control (target m)).revertible ≡ false → (next_of u m).revertible ≡ false) → (v : ℕ) → (fields_at w.control v).revertible ≡ false → (fields_at j.control v).revertible ≡ false
+    plain here v = subst (λ (x : ℕ → Volume). (fields_at w.control v).revertible ≡ false → (x v).fields.revertible ≡ false) (sym moves.volume)
+        (at_cases (λ v (y : Volume). (fields_at w.control v).revertible ≡ false → y.fields.revertible ≡ false) u.control.volume (target m) (moved (u.control.volume (target m)) (next_of u m) (carried_in u m)) here (λ q ne. k.plain q) v)
+
+    alike : Alike s (reverts w) (table u) (after (histories u.events).write (table u) m) → Alike s (reverts w) (table w) (table j)
+    alike a = alike-then s (reverts w) (table w) (table u) (table j) k.alike (subst (Alike s (reverts w) (table u)) (sym rows) a)
+
+    -- a part of records that the move leaves
+    part : {Y : Type 0} (g : Fields → Y) → g (next_of u m) ≡ g (fields_at u.control (target m)) → (v : ℕ) → g (fields_at j.control v) ≡ g (fields_at u.control v)
+    part g same v = ap (λ (x : ℕ → Volume). g (x v).fields) moves.volume ∙ at_part (λ (y : Volume). g y.fields) u.control.volume (target m) (moved (u.control.volume (target m)) (next_of u m) (carried_in u m)) same v
+
+    -- a move that leaves what is read of its volume
+    pub keeps-still : SoundRows (table u) → Attempts u.control → Allowed (histories u.events).write (table u) m → counts_in s (next_of u m) ≡ counts_in s (fields_at u.control (target m)) → shown_of (next_of u m) ≡ shown_of (fields_at u.control (target m))
+        → remains_in s (reverts w) (next_of u m) ≡ remains_in s (reverts w) (fields_at u.control (target m)) → number_after (reverts w) (next_of u m) ≡ number_after (reverts w) (fields_at u.control (target m))
+        → (Settles (target m) m → ⊥) → ((t : ℕ) → next_due (histories u.events).write m (table u) t ≡ due u (target m) t) → Keeps j
+    keeps-still sound law allowed counted shows remains number none dues = record {
+      volumes = volumes;
+      sessions = sessions ∙ k.sessions;
+      plain = plain (λ h. flag ∙ k.plain (target m) h);
+      alike = alike (alike-still s (reverts w) (histories u.events).write (table u) sound (is-revertible u law) m allowed remains number (ap (λ b. reverts w && b) flag) none dues);
+      decides = λ v h c r. (λ i. lets_revert (decision (map (λ v. part shown_of shows v i) (filter (λ v. part (counts_in s) counted v i) (moves.volumes i)))))
+          ∙ k.decides v (subst (In v) moves.volumes h) (sym (part (counts_in s) counted v) ∙ c) (sym (part (λ (f : Fields). f.revertible) flag v) ∙ r);
+    }
+      where
+        flag : (next_of u m).revertible ≡ (fields_at u.control (target m)).revertible
+        flag = ap (λ (r : Shown). r.revertible) shows
+
+    -- a move of a volume that doesn't count in the session, before it or after
+    keeps-away : SoundRows (table u) → Attempts u.control → Allowed (histories u.events).write (table u) m → counts_in s (fields_at u.control (target m)) ≡ false → counts_in s (next_of u m) ≡ false → (next_of u m).revertible ≡ false → Keeps j
+    keeps-away sound law allowed before then_not flag = record {
+      volumes = volumes;
+      sessions = sessions ∙ k.sessions;
+      plain = plain (λ h. flag);
+      alike = alike (alike-away s (reverts w) (histories u.events).write (table u) sound (is-revertible u law) m allowed before then_not);
+      decides = λ v h c r. ap lets_revert decided ∙ k.decides v (subst (In v) moves.volumes h) (sym (counted v) ∙ c) (sym (ap (λ (f : Fields). f.revertible) (still v (sym (counted v) ∙ c))) ∙ r);
+    }
+      where
+        counted : (v : ℕ) → counts_in s (fields_at j.control v) ≡ counts_in s (fields_at u.control v)
+        counted = part (counts_in s) (then_not ∙ sym before)
+
+        still : (v : ℕ) → counts_in s (fields_at u.control v) ≡ true → fields_at j.control v ≡ fields_at u.control v
+        still v c = ap (λ (x : ℕ → Volume). (x v).fields) moves.volume
+            ∙ ap (λ (y : Volume). y.fields) (at_other u.control.volume (target m) (moved (u.control.volume (target m)) (next_of u m) (carried_in u m)) v (λ e. false_true (subst (λ v. counts_in s (fields_at u.control v) ≡ false) (sym e) before) c))
+
+        decided : decided_over (fields_at j.control) j.control.volumes s ≡ decided_over (fields_at u.control) u.control.volumes s
+        decided = ap decision
+            ((λ i. map (λ v. shown_of (fields_at j.control v)) (filter (λ v. counted v i) (moves.volumes i)))
+            ∙ map-same (λ v. shown_of (fields_at j.control v)) (λ v. shown_of (fields_at u.control v)) (filter (λ v. counts_in s (fields_at u.control v)) u.control.volumes) (λ v h. ap shown_of (still v (from-filter (λ v. counts_in s (fields_at u.control v)) u.control.volumes v h).1)))
+
+  module _ (u j : World) (sound : Sound u) (after_sound : Sound j) (sessions : j.control.sessions ≡ u.control.sessions) (k : Keeps u) where
+    keeps-taken : (b : ℕ) → May u (TakeOver b) → table j ≡ after (histories u.events).write (table u) (TakeOver b) → Moves u.control j.control b (taken_over (fields_at u.control b)) None → Keeps j
+    keeps-taken b may rows moves = keeps-still u j sessions k (TakeOver b) rows moves sound.rows sound.attempts may.allowed refl refl refl refl (λ n. n) (λ t. refl)
+
+    -- a member's target counts in no other session
+    elsewhere : (c i : ℕ) (q : Member) (x : Session) → In x u.control.sessions → x.number ≡ i → In q x.members → q.c.0 ≡ c → (fields_at u.control c).revertible ≡ true → i ≢ s → nat_eq (fields_at u.control c).session s ≡ false
+    elsewhere c i q x listed number here is flag ne = false_from_ne_true _ (λ e. ne (sym number ∙ (sym own ∙ eqb-true (fields_at u.control c).session s e)))
+      where
+        own : (fields_at u.control c).session ≡ x.number
+        own = subst (λ c. (fields_at u.control c).session ≡ x.number) is
+            (eqb-true (fields_at u.control q.c.0).session x.number (and_parts (nat_eq (fields_at u.control q.c.0).session x.number) ((fields_at u.control q.c.0).member || (fields_at u.control q.c.0).revertible)
+            (counts-here u.control sound.groups sound.attempts x q listed here (rev-counts (seen (roles u.control) q) (ap (λ c. (fields_at u.control c).revertible) is ∙ flag)))).0)
+
+    keeps-committed : (c a i n : ℕ) → May u (Commit c a i n) → (i ≡ s) × (reverts w ≡ false) → table j ≡ after (histories u.events).write (table u) (Commit c a i n) → Moves u.control j.control c (committed n (fields_at u.control c)) None → Keeps j
+    keeps-committed c a i n may fit rows moves =
+        let p = may.group.place in
+        let q : Member = p.member in
+        let x : Session = p.session in
+        let is : q.c.0 ≡ c = may.group.target in
+        let own : Moves u.control j.control q.c.0 (committed n (fields_at u.control q.c.0)) None = subst (λ c. Moves u.control j.control c (committed n (fields_at u.control c)) None) (sym is) moves in
+        record {
+          volumes = volumes u j sessions k (Commit c a i n) rows moves;
+          sessions = sessions ∙ k.sessions;
+          plain = plain u j sessions k (Commit c a i n) rows moves (λ h. refl);
+          alike = alike u j sessions k (Commit c a i n) rows moves (alike-committed s (reverts w) (histories u.events).write (table u) sound.rows (is-revertible u sound.attempts) c a i n may.allowed fit.1);
+          decides = λ v h counted r.
+              some-commits j.control after_sound.groups after_sound.attempts s x (subst (In x) (sym sessions) p.listed) (p.number ∙ fit.0) v h counted r
+              (commit-some u.control j.control None x q n sound.groups sound.attempts p.listed p.here (ap (λ c. (fields_at u.control c).revertible) is ∙ may.group.revertible) own)
+              ∙ sym fit.1;
+        }
+
+    keeps-reverted : (c a i n : ℕ) → May u (Revert c a i n) → (i ≡ s) × (reverts w ≡ true) → table j ≡ after (histories u.events).write (table u) (Revert c a i n) → Moves u.control j.control c (reverted n (fields_at u.control c)) None → Keeps j
+    keeps-reverted c a i n may fit rows moves =
+        let p = may.group.place in
+        let q : Member = p.member in
+        let x : Session = p.session in
+        let is : q.c.0 ≡ c = may.group.target in
+        let own : Moves u.control j.control q.c.0 (reverted n (fields_at u.control q.c.0)) None = subst (λ c. Moves u.control j.control c (reverted n (fields_at u.control c)) None) (sym is) moves in
+        record {
+          volumes = volumes u j sessions k (Revert c a i n) rows moves;
+          sessions = sessions ∙ k.sessions;
+          plain = plain u j sessions k (Revert c a i n) rows moves (λ h. refl);
+          alike = alike u j sessions k (Revert c a i n) rows moves (alike-reverted s (reverts w) (histories u.events).write (table u) sound.rows (is-revertible u sound.attempts) c a i n may.allowed fit.1);
+          decides = λ v h counted r.
+              none-reverts j.control after_sound.groups after_sound.attempts s x (subst (In x) (sym sessions) p.listed) (p.number ∙ fit.0) v h counted r
+              (revert-none u.control j.control None x q n sound.groups sound.attempts p.listed p.here (ap (λ c. (fields_at u.control c).revertible) is ∙ may.group.revertible) own
+              (subst (λ n. NoneCommitted n (seen_in u.control x)) may.group.last may.group.none))
+              ∙ sym fit.1;
+        }
+
+    left-away : (b : Bool) (i : ℕ) → nat_eq i s ≡ false → (nat_eq (cond b i 0) s && (b || false)) ≡ false
+    left-away true i none = ap (λ b. b && true) none
+    left-away false i none = grind rules
+
+    keeps-moved : (m : Move) → May u m → Fit (Make m) → table j ≡ after (histories u.events).write (table u) m → Moves u.control j.control (target m) (next_of u m) (carried_in u m) → Keeps j
+    keeps-moved (TakeOver b) may fit rows moves = keeps-taken b may rows moves
+    keeps-moved (Commit c a i n) may fit rows moves = elim (eqb_tells i s) [
+      | inl is ↦ keeps-committed c a i n may (is.1, fit is.1) rows moves
+      | inr not ↦ let p = may.group.place in
+          let none = elsewhere c i p.member p.session p.listed p.number p.here may.group.target may.group.revertible not.1 in
+          keeps-away u j sessions k (Commit c a i n) rows moves sound.rows sound.attempts may.allowed (ap (λ b. b && ((fields_at u.control c).member || (fields_at u.control c).revertible)) none) (ap (λ b. b && true) none) refl
+    ]
+    keeps-moved (Revert c a i n) may fit rows moves = elim (eqb_tells i s) [
+      | inl is ↦ keeps-reverted c a i n may (is.1, fit is.1) rows moves
+      | inr not ↦ let p = may.group.place in
+          let none = elsewhere c i p.member p.session p.listed p.number p.here may.group.target may.group.revertible not.1 in
+          keeps-away u j sessions k (Revert c a i n) rows moves sound.rows sound.attempts may.allowed (ap (λ b. b && ((fields_at u.control c).member || (fields_at u.control c).revertible)) none) (left-away (fields_at u.control c).member (fields_at u.control c).session none) refl
+    ]
+    keeps-moved m may fit rows moves = absurd fit
+
+  -- ---- the acts
+
+  acts : Rides Sound Keeps MayFit
+  acts = record { does = does; counts = counts; opens = λ u v i n f j k may. absurd may.1; fails = λ u a f d j k may. keeps-told u _ _ _ _ k }
+    where
+      does : (u : World) (a : Act) (f : Option Fuse) → Sound u → Keeps u → MayFit u a → Keeps (after_act u a f)
+      does u (Make m) f j k may = keeps-moved u (done u m f) j (sound-done None u m f j may.0) refl k m may.0 may.1 (table-done u j.rows.structure m f j.rows.images.blank may.0.allowed may.0.ready) (record { volumes = refl; volume = refl })
+      does u (OpenAttempt v i n) f j k may = absurd may.1
+      does u (Redo v) f j k may = absurd may.1
+      does u (Acknowledge n) f j k may = absurd may.1
+      does u (Drop n) f j k may = absurd may.1
+      does u (EndFreeze l m) f j k may = absurd may.1
+      does u (EndThaw l m) f j k may = absurd may.1
+      does u (EndRecovery i n) f j k may = keeps-told u _ _ _ _ k
+
+      counts : (u : World) (m : Move) (f : Option Fuse) → Sound u → Keeps u → MayFit u (Make m) → Keeps (done_in_stop u m f)
+      counts u m f j k may = keeps-moved u (done_in_stop u m f) j (sound-stop None u m f j may.0) refl k m may.0 may.1 (table-stop u j.rows.structure m f j.rows.images.blank may.0.allowed may.0.ready) (record { volumes = refl; volume = refl })
+
+  -- ---- the entries
+
+  abbrev FitNext : Next → Type 0
+  FitNext Pass = Unit {0}
+  FitNext (End r) = Unit {0}
+  FitNext (Do a) = Fit a
+
+  unfoldable AllFit : List Entry → Type 0
+  AllFit [] = Unit {0}
+  AllFit (d ∷ ds) = ((k : Control) → FitNext (d k)) × AllFit ds
+
+  fit-next : (u : World) (x : Next) (more less : World → Type 0) → ((v : World) → more v → less v) → FitNext x → Then u x more → along.along_next Sound Sound MayFit u x less
+  fit-next u Pass more less on fit a = on u a
+  fit-next u (End r) more less on fit a = a
+  fit-next u (Do x) more less on fit a = ((a.0, fit), λ f j. on _ (a.1 f j))
+
+  fit-along : (u : World) (ds : List Entry) → AllFit ds → Along u ds → along.Along Sound Sound Sound MayFit u ds
+  unfolding AllFit
+  fit-along u [] fit a = along.along-nil Sound Sound Sound MayFit u (along.along-ends Sound Sound Sound MayDo u a)
+  fit-along u (d ∷ ds) fit a =
+      along.along-entry Sound Sound Sound MayFit u d ds (d u.control) refl
+      (fit-next u (d u.control) (λ v. Along v ds) (λ v. along.Along Sound Sound Sound MayFit v ds) (λ v a. fit-along v ds fit.1 a) (fit.0 u.control) (along.along-comes Sound Sound Sound MayDo u d ds (d u.control) refl a))
+
+  fit-append : (ds es : List Entry) → AllFit ds → AllFit es → AllFit (ds ++ es)
+  unfolding AllFit
+  fit-append [] es a b = b
+  fit-append (d ∷ ds) es a b = (a.0, fit-append ds es a.1 b)
+
+  fit-members : (each : Member → Entry) → ((m : Member) (k : Control) → FitNext (each m k)) → (ms : List Member) → AllFit (map each ms)
+  unfolding AllFit
+  fit-members each fit [] = tt
+  fit-members each fit (m ∷ ms) = (fit m, fit-members each fit ms)
+
+  fit-if : (b : Bool) (a : Act) → Fit a → FitNext (cond b (Do a) Pass)
+  fit-if true a fit = fit
+  fit-if false a fit = tt
+
+  fit-settle : (r : ℕ) (d : Decision) → (r ≡ s → lets_revert d ≡ reverts w) → (m : Member) (k : Control) → FitNext (settle_on r d m k)
+  fit-settle r NoMember is m k = tt
+  fit-settle r (Nothing n) is m k = tt
+  fit-settle r (CommitRest n) is m k = fit-if (is_flashed n (fields_at k m.c.0)) (Make (Commit m.c.0 m.a.0 r n)) (λ e. sym (is e))
+  fit-settle r (RevertAll n) is m k = fit-if (is_flashed n (fields_at k m.c.0)) (Make (Revert m.c.0 m.a.0 r n)) (λ e. sym (is e))
+  fit-settle r (RevertSome o n) is m k = fit-if (is_flashed n (fields_at k m.c.0)) (Make (Revert m.c.0 m.a.0 r n)) (λ e. sym (is e))
+  fit-settle r (Impossible a b) is m k = tt
+
+  fit-end : (r : ℕ) → AllFit (end_recovery r ∷ [])
+  unfolding AllFit
+  fit-end r = ((λ k. tt), tt)
+
+  fit-recover : (r : ℕ) (d : Decision) → (r ≡ s → lets_revert d ≡ reverts w) → (ms : List Member) → AllFit (recover_entries r d ms)
+  fit-recover r d is ms =
+      fit-append (map take_over_on ms) (map (settle_on r d) ms ++ end_recovery r ∷ []) (fit-members take_over_on (λ m k. fit-if (is_part (fields_at k m.b.0).secondary) (Make (TakeOver m.b.0)) tt) ms)
+      (fit-append (map (settle_on r d) ms) (end_recovery r ∷ []) (fit-members (settle_on r d) (fit-settle r d is) ms) (fit-end r))
+
+-- ---- a recovery
+
+module _ (w : World) (sound : Sound w) (s : ℕ) where
+  abbrev pub Inner : World → Type 0
+  Inner = Both Sound (Keeps w s)
+
+  pub each-act : along.Keeps Inner Inner (MayFit w s)
+  each-act = keeps-with Sound (Keeps w s) (MayFit w s) Sound
+      (record {
+        runs = λ u a d may. keeps-sound.runs u a d may.0;
+        does = λ u a f j may. keeps-sound.does u a f j may.0;
+        counts = λ u m f j may. keeps-sound.counts u m f j may.0;
+        opens = λ u v i n f j may. keeps-sound.opens u v i n f j may.0;
+        fails = λ u a f d j may. keeps-sound.fails u a f d j may.0;
+      })
+      (acts w s)
+
+  pub begins : Inner (as_begun w)
+  begins = (sound-begun w sound, keeps-told w s w w.control.on w.control.fuse w.control.pending (w.events ++ []) (keeps-begin w s))
+
+  -- its entries do what was decided, and it leaves the tables, and what follows a stop
+  pub record Goes (p : Plan) : Type 0 where
+    pub begun_as : begun w p ≡ as_begun w
+    pub entries : along.Along Inner Inner Inner (MayFit w s) (as_begun w) p.entries
+    pub last : (k : Control) → p.last k ≡ k
+    pub follows : (q : ℕ) → p.follows q ≡ []
+
+  refused-goes : (r : Refusal) → Goes (refuses r)
+  refused-goes r = record { begun_as = refl; entries = along.along-nil Inner Inner Inner (MayFit w s) (as_begun w) begins; last = λ k. refl; follows = λ q. refl }
+
+  decided-is : (r : ℕ) (x : Session) → session_in w.control.sessions r ≡ Some x → decided_in r w.control ≡ decided_over (fields_at w.control) w.control.volumes r
+  decided-is r x found =
+      let there = session-found w.control.sessions r x found in
+      ap (λ o. decision (shown_by_members r (members_in o) w.control)) found ∙ members-decide w.control sound.groups sound.attempts r x there.0 there.1
+
+  as-decided : (r : ℕ) (x : Session) → session_in w.control.sessions r ≡ Some x → r ≡ s → lets_revert (decided_in r w.control) ≡ reverts w s w
+  as-decided r x found is = ap lets_revert (decided-is r x found ∙ ap (decided_over (fields_at w.control) w.control.volumes) is)
+
+  goes-unless : (o : Option Refusal) (p : Plan) → (o ≡ None → Goes p) → Goes (unless o p)
+  goes-unless None p go = go refl
+  goes-unless (Some r) p go = refused-goes r
+
+  -- ---- a recovery of a session, this or another
+
+  module _ (r : ℕ) where
+    abbrev told : Decision
+    told = decided_in r w.control
+
+    pub done-goes : (x : Session) → session_in w.control.sessions r ≡ Some x → secondary_refusal x.members w.control ≡ None → Goes (recover_done r told x.members)
+    done-goes x found running = record {
+      begun_as = refl;
+      entries = along-with Sound Sound Sound (Keeps w s) (MayFit w s) (as_begun w) (recover_entries r told x.members) begins.1
+          (fit-along w s (as_begun w) (recover_entries r told x.members) (fit-recover w s r told (as-decided r x found) x.members) (along-recover w sound r x found running));
+      last = λ k. refl;
+      follows = λ q. refl;
+    }
+
+    goes-session : (o : Option Session) → session_in w.control.sessions r ≡ o → Goes (on_session o (λ x. unless (secondary_refusal x.members w.control) (recover_done r told x.members)))
+    goes-session None found = refused-goes (unknown OfSession)
+    goes-session (Some x) found = goes-unless (secondary_refusal x.members w.control) (recover_done r told x.members) (done-goes x found)
+
+    goes-recover : Goes (recover_plan w.control r)
+    goes-recover = goes-session (session_in w.control.sessions r) refl
+
+    -- ---- one target by hand
+
+    abbrev hand : Member → Plan
+    hand m = entries_plan (settle_on r told m ∷ []) (Said.Done Alone)
+
+    hand-goes : (x : Session) → session_in w.control.sessions r ≡ Some x → secondary_refusal x.members w.control ≡ None → untaken_refusal x.members w.control ≡ None → (m : Member) → In m x.members → Goes (hand m)
+    hand-goes x found running free m here = record {
+      begun_as = refl;
+      entries = along-with Sound Sound Sound (Keeps w s) (MayFit w s) (as_begun w) (settle_on r told m ∷ []) begins.1
+          (fit-along w s (as_begun w) (settle_on r told m ∷ []) (fit-members w s (settle_on r told) (fit-settle w s r told (as-decided r x found)) (m ∷ [])) (along-settle w sound r x found running free m here));
+      last = λ k. refl;
+      follows = λ q. refl;
+    }
+
+    hand-in : (lets : Decision → Bool) (m : Member) (o : Option Session) → session_in w.control.sessions r ≡ o → In m (members_in o) → settle_refusal lets told (members_in o) w.control ≡ None → Goes (hand m)
+    hand-in lets m None found here free = absurd here
+    hand-in lets m (Some x) found here free =
+        let rest = or-passed (secondary_refusal x.members w.control) _ free in
+        hand-goes x found rest.0 (or-passed (untaken_refusal x.members w.control) (forbidden_unless (lets told) told) rest.1).0 m here
+
+    hand-member : (lets : Decision → Bool) (b t : ℕ) (o : Option Member) → find (λ m. m.c.0 == t) (members_in (session_in w.control.sessions r)) ≡ o → Goes (settle_member w.control lets b r o)
+    hand-member lets b t None is = refused-goes (relation_state w.control b)
+    hand-member lets b t (Some m) is =
+        goes-unless (settle_refusal lets told (members_in (session_in w.control.sessions r)) w.control) (hand m)
+        (λ free. hand-in lets m (session_in w.control.sessions r) refl (found-one (λ m. m.c.0 == t) (members_in (session_in w.control.sessions r)) m is).0 free)
+
+  hand-target : (lets : Decision → Bool) (b : ℕ) (o : Option ℕ) → Goes (settle_target w.control lets b o)
+  hand-target lets b None = refused-goes (relation_state w.control b)
+  hand-target lets b (Some t) = hand-member (fields_at w.control t).session lets b t (member_of_target w.control t) refl
+
+  goes-volume : (b : Bool) (p : Plan) → Goes p → Goes (cond b p (refuses (unknown OfVolume)))
+  goes-volume true p go = go
+  goes-volume false p go = refused-goes (unknown OfVolume)
+
+  goes-hand : (dev : Option Name) (lets : Decision → Bool) (b : ℕ) → Goes (settle_plan w.control dev lets b)
+  goes-hand dev lets b =
+      goes-volume (is_defined b w.control) _ (goes-unless (option_or (name_refusal w.control dev (w.control.volume b).server) (off_refusal w.control (w.control.volume b).server)) _
+      (λ free. hand-target lets b (revertible_target w.control b)))
+
+  -- ---- wherever such plans come to
+
+  abbrev Same : World → Type 0
+  Same u = SameRecovery (sizes w.control) (recovered_in w s) (recovered_in u s)
+
+  plan-moment : (p : Plan) → Goes p → (n : ℕ) → Same (carry (begun w p) (take n p.entries)).0
+  plan-moment p goes n =
+      subst (λ b. Same (carry b (take n p.entries)).0) (sym goes.begun_as)
+      (keeps-recovery w s _ (along.along-moment Inner Inner Inner (Keeps w s) (MayFit w s) (λ v j. j.1) (λ v j. j.1) (λ v j. j.1) each-act (as_begun w) n p.entries begins goes.entries))
+
+  -- where it ends, and as it is answered
+  ends-same : (p : Plan) → Goes p → (u : World) (r : Option Refusal) → Same u → Same (finish p u r)
+  unfolding carry
+  ends-same p goes u None same = subst (λ k. Same (record u { control = k })) (sym (goes.last u.control)) same
+  ends-same p goes u (Some (StoppedIn q)) same = subst (λ ds. Same (carry u ds).0) (sym (goes.follows q.0)) same
+  ends-same p goes u (Some r) same = same
+
+  plan-after : (p : Plan) → Goes p → (line : ℕ) → Same (after_plan w line p)
+  unfolding after_plan
+  plan-after p goes line = ends-same p goes _ _ (subst (λ ds. Same (carry (begun w p) ds).0) (take-length p.entries) (plan-moment p goes (length p.entries)))
+
+  plan-ends : (p : Plan) → Goes p → (armed : ℕ → Bool) (u : World) (r : Option Refusal) → Ends armed u r (begun w p) p.entries → Same u
+  plan-ends p goes armed u r e =
+      keeps-recovery w s u (along.ends-weaker Inner Inner Inner (Keeps w s) (MayFit w s) (λ v j. j.1) (λ v j. j.1) (λ v j. j.1) each-act armed
+      (λ v x j on is. keeps-told w s v _ _ _ _ j.1) u r (as_begun w) p.entries begins goes.entries
+      (subst (λ b. Ends armed u r b p.entries) goes.begun_as e))
+
+  plan-keeps : (p : Plan) → Goes p → KeepsRecovery w p s
+  plan-keeps p goes = record { moments = plan-moment p goes; reads = plan-ends p goes; after = plan-after p goes }
+
+  pub recover-keeps : (r : ℕ) → KeepsRecovery w (recover_plan w.control r) s
+  recover-keeps r = plan-keeps (recover_plan w.control r) (goes-recover r)
+
+  pub hand-keeps : (dev : Option Name) (lets : Decision → Bool) (b : ℕ) → KeepsRecovery w (settle_plan w.control dev lets b) s
+  hand-keeps dev lets b = plan-keeps (settle_plan w.control dev lets b) (goes-hand dev lets b)

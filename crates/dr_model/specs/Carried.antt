@@ -1,0 +1,39 @@
+-- A plan carried out: the tables as it begins, its entries, and how it ends and is answered.
+use Rattle.std.specs.Prelude.{ℕ, [], ◌∷◌, ◌++◌, Option, Some, None}
+use Rattle.dr_ids.specs.declared.refusal.Refusal.{Refusal}
+use Rattle.dr_model.specs.Control.{Control, World}
+use Rattle.dr_model.specs.Carry.{Outcome, carry, follow}
+use Rattle.dr_model.specs.declared.said.Said.{Said}
+use Rattle.dr_model.specs.declared.said.Said.TheVariants.{Refused}
+use Rattle.dr_model.specs.Sessions.{lost_since}
+use Rattle.dr_model.specs.Answers.{answer}
+use Rattle.dr_model.specs.PlanParts.{Plan}
+
+-- the world as a step begins
+abbrev pub begun : World → Plan → World
+begun w p = record w { control = p.first w.control; events = w.events ++ p.told }
+
+-- where the entries ended well, the tables as the step ends; where a server stopped, what follows its stop
+abbrev pub finish : Plan → World → Option Refusal → World
+finish p w None = record w { control = p.last w.control }
+finish p w (Some r) = follow w r p.follows
+
+-- a plan is carried out: the world, and the refusal, if one
+abbrev pub carried_out : World → Plan → Outcome
+carried_out w p = (finish p (carry (begun w p) p.entries).0 (carry (begun w p) p.entries).1, (carry (begun w p) p.entries).1)
+
+-- what a step answers
+abbrev pub answered : Plan → Control → Option Refusal → Said
+answered p k None = p.says k
+answered p k (Some r) = Refused r
+
+abbrev pub said : World → ℕ → Said → World
+said w line a = record w { events = w.events ++ answer line a ∷ [] }
+
+-- a plan carried out, and answered
+unfoldable pub after_plan : World → ℕ → Plan → World
+after_plan w line p = said (carried_out w p).0 line (answered p (carried_out w p).0.control (carried_out w p).1)
+
+-- the masters whose servers went off in a step are lost as it ends
+abbrev pub masters_lost : World → World → World
+masters_lost w u = record u { control = record u.control { sessions = lost_since w.control.on u.control.on u.control.sessions } }

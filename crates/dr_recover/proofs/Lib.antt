@@ -1,0 +1,5 @@
+pub mod EachLemmas
+pub mod MemberLemmas
+pub mod PlanLemmas
+pub mod LookLemmas
+pub mod ActLemmas

@@ -1,0 +1,99 @@
+-- The plan of a recovery, from what the calls say.
+use Rattle.std.proofs.Common.{ℕ, ◌≡◌, Bool, true, List, [], ◌∷◌, ◌++◌, map, refl, sym, ◌∙◌, ap, subst, Option, Some, None}
+use Rattle.std.specs.Prelude.{Result, Ok, Err}
+use Rattle.dr_ids.specs.declared.names.Member.{Member}
+use Rattle.dr_ids.specs.declared.refusal.Decision.{Decision}
+use Rattle.dr_ids.specs.declared.refusal.Refusal.{Refusal}
+use Rattle.dr_plant.specs.State.{PlantState}
+use Rattle.dr_config.specs.Table.{Table}
+use Rattle.dr_model.specs.declared.event.Event.{Event}
+use Rattle.dr_model.specs.declared.event.Event.TheVariants.{Recovered as RecoveredEvent}
+use Rattle.dr_model.specs.declared.said.Said.{Said}
+use Rattle.dr_model.specs.declared.said.Said.TheVariants.{Refused}
+use Rattle.dr_model.specs.Control.{World}
+use Rattle.dr_model.specs.Carry.{act, recovered, EndRecovery, Entry}
+use Rattle.dr_model.specs.PlanParts.{unless}
+use Rattle.dr_model.specs.ReadStops.{Ends}
+use Rattle.dr_model.specs.RecoveryPlans.{secondary_refusal, decided_in, take_over_on, settle_on, end_recovery, group_of, group_number, says_group, recover_entries, recover_done}
+use Rattle.dr_volume.specs.View.{Rest}
+use Rattle.dr_flash.specs.Here.{seen, refusal_of}
+use Rattle.dr_flash.specs.Turns.{Leads, Fails}
+use Rattle.dr_flash.proofs.EndsLemmas.{ends-goes, ends-none, ends-wider}
+use Rattle.dr_gmirror.specs.Exchange.{PlanEnds}
+use Rattle.dr_gmirror.proofs.ExchangeLemmas.{refused-plan, silent-ends, follow-nothing}
+use Rattle.dr_recover.specs.declared.recovery.Recovered.{Recovered}
+use Rattle.dr_recover.specs.Outcomes.{recover_behind, recovery_said}
+
+-- ---- the entries
+
+act-recovery : (w : World) (s n : ℕ) → act w (EndRecovery s n) ≡ (recovered w s n, None)
+unfolding act
+act-recovery w s n = refl
+
+-- the end, which the journal is told
+pub recovery-ends : (armed : ℕ → Bool) (p : PlantState) (t : Table) (r : Rest) (events told : List Event) (s : ℕ) (g : Option ℕ) → g ≡ group_of (decided_in s (seen p t r events).control) → told ≡ events ++ RecoveredEvent s (group_number g) ∷ []
+    → Ends armed (seen p t r told) None (seen p t r events) (end_recovery s ∷ [])
+recovery-ends armed p t r events told s g is tells =
+    let w = seen p t r events in
+    let n : ℕ = group_number (group_of (decided_in s w.control)) in
+    let so : told ≡ events ++ RecoveredEvent s n ∷ [] = tells ∙ ap (λ o. events ++ RecoveredEvent s (group_number o) ∷ []) is in
+    ends-goes armed (seen p t r told) None w (seen p t r told) (end_recovery s) [] (EndRecovery s n) refl
+    (act-recovery w s n ∙ (λ i. (seen p t r (sym so i), None)))
+    (ends-none armed (seen p t r told) None (seen p t r told) (record { world = refl; refusal = refl }))
+
+module _ (s : ℕ) (d : Decision) (ms : List Member) where
+  abbrev last : List Entry
+  last = end_recovery s ∷ []
+
+  abbrev settles : List Entry
+  settles = map (settle_on s d) ms
+
+  -- a takeover failed
+  pub takes-fail : (armed : ℕ → Bool) (w u : World) (r : Option Refusal) → Fails armed w (map take_over_on ms) u r → Ends armed u r w (recover_entries s d ms)
+  takes-fail armed w u r fails = fails (settles ++ last)
+
+  -- a commit or a revert failed, where fuses may be fewer
+  pub settles-fail : (armed more : ℕ → Bool) → ((q : ℕ) → armed q ≡ true → more q ≡ true) → (w v u : World) (r : Option Refusal) → Leads w (map take_over_on ms) v → Fails armed v (map (settle_on s d) ms) u r → Ends more u r w (recover_entries s d ms)
+  settles-fail armed more wider w v u r takes fails = takes more u r (settles ++ last) (ends-wider armed more wider u r v (settles ++ last) (fails last))
+
+  -- all was done
+  pub all-done : (armed : ℕ → Bool) (w v x u : World) (r : Option Refusal) → Leads w (map take_over_on ms) v → Leads v (map (settle_on s d) ms) x → Ends armed u r x (end_recovery s ∷ []) → Ends armed u r w (recover_entries s d ms)
+  all-done armed w v x u r takes settled ends = takes armed u r (settles ++ last) (settled armed u r last ends)
+
+  -- ---- the plan
+
+  pub plan-failed : (armed : ℕ → Bool) (w u : World) (e : Refusal) → Ends armed u (Some e) w (recover_entries s d ms) → PlanEnds armed w (recover_done s d ms) u (Refused e)
+  plan-failed armed w u e ends = record {
+    middle = u;
+    refusal = Some e;
+    ends = silent-ends armed u w (Some e) (recover_entries s d ms) ends;
+    world = follow-nothing u e;
+    answers = refl;
+  }
+
+  pub plan-done : (armed : ℕ → Bool) (w u : World) (g : Option ℕ) → g ≡ group_of (decided_in s u.control) → Ends armed u None w (recover_entries s d ms) → PlanEnds armed w (recover_done s d ms) u (says_group d g)
+  plan-done armed w u g is ends = record {
+    middle = u;
+    refusal = None;
+    ends = silent-ends armed u w None (recover_entries s d ms) ends;
+    world = refl;
+    answers = ap (says_group d) is;
+  }
+
+  pub plan-behind : (armed : ℕ → Bool) (w u : World) (a : Said) → None ≡ secondary_refusal ms w.control → d ≡ decided_in s w.control → PlanEnds armed w (recover_done s d ms) u a → PlanEnds armed w (recover_behind w.control s ms) u a
+  plan-behind armed w u a passed decided ends =
+      subst (λ o. PlanEnds armed w (unless o (recover_done s (decided_in s w.control) ms)) u a) passed
+      (subst (λ d. PlanEnds armed w (recover_done s d ms) u a) decided ends)
+
+pub plan-off : (armed : ℕ → Bool) (w : World) (s : ℕ) (ms : List Member) (why : Refusal) → Some why ≡ secondary_refusal ms w.control → PlanEnds armed w (recover_behind w.control s ms) w (Refused why)
+plan-off armed w s ms why is = subst (λ o. PlanEnds armed w (unless o (recover_done s (decided_in s w.control) ms)) w (Refused why)) is (refused-plan armed w why)
+
+-- what is answered where the call failed
+pub says-failed : (x : Result Recovered Refusal) (e : Refusal) → refusal_of x ≡ Some e → recovery_said x ≡ Refused e
+says-failed (Ok y) e is = absurd cc
+says-failed (Err z) e is = let same : z ≡ e = cc in ap (λ r. Refused r) same
+
+-- nothing was refused, and something was
+pub never : {X : Type 0} (o : Option Refusal) (why : Refusal) → None ≡ o → o ≡ Some why → X
+never None why passed is = absurd cc
+never (Some e) why passed is = absurd cc

@@ -1,0 +1,142 @@
+use Rattle.std.proofs.Common.{ap, refl, sym, subst, ◌∙◌, None, Some}
+use Rattle.dr_model.specs.declared.said.Said.TheVariants.{Refused}
+use Rattle.dr_model.specs.ReadStops.{Ends}
+use Rattle.dr_model.specs.RecoveryPlans.{decided_in, group_of, recover_entries}
+use Rattle.dr_model.specs.Sessions.{session_in, members_in}
+use Rattle.dr_flash.specs.Here.{seen, armed_in}
+use Rattle.dr_flash.proofs.CopyLemmas.{wider-armed}
+use Rattle.dr_flash.proofs.TurnLemmas.{refused-by}
+use Rattle.dr_gmirror.specs.Exchange.{PlanEnds}
+use Rattle.dr_gmirror.specs.Orders.{with_sessions}
+use Rattle.dr_recover.specs.Outcomes.{recover_behind}
+use Rattle.dr_recover.proofs.EachLemmas.{all-ready, all-running}
+use Rattle.dr_recover.proofs.PlanLemmas.{recovery-ends, takes-fail, settles-fail, all-done, plan-failed, plan-done, plan-behind, plan-off, says-failed, never}
+use Rattle.dr_recover.proofs.recovery.recover.Goals as goal
+
+pub returns-in-Some-clause-carried : goal.returns-in-Some-clause-carried
+returns-in-Some-clause-carried g c r =
+    let s0 = g.P.Plant.state c.args.p.now in
+    let q = with_sessions c.args.ss.now.sessions r in
+    plan-off (armed_in s0) (seen s0 c.args.c.now q c.args.j.now.events) c.args.s.0 (members_in (session_in c.args.ss.now.sessions c.args.s.0)) c.in-Some.why (c.in-Some.ensures.refusal q c.args.j.now.events)
+
+pub returns-in-Some-clause-refused : goal.returns-in-Some-clause-refused
+returns-in-Some-clause-refused g c r why is = (c.in-Some.ensures.refusal (with_sessions c.args.ss.now.sessions r) c.args.j.now.events ∙ is, refl, refl)
+
+pub returns-in-Some-clause-ends : goal.returns-in-Some-clause-ends
+returns-in-Some-clause-ends g c r none = never _ c.in-Some.why (sym none) (sym (c.in-Some.ensures.refusal (with_sessions c.args.ss.now.sessions r) c.args.j.now.events))
+
+pub returns-in_err-take_over_all-clause-carried : goal.returns-in_err-take_over_all-clause-carried
+returns-in_err-take_over_all-clause-carried g c r =
+    let s0 = g.P.Plant.state c.args.p.now in
+    let t = c.args.c.now in
+    let q = with_sessions c.args.ss.now.sessions r in
+    let ms = members_in (session_in c.args.ss.now.sessions c.args.s.0) in
+    let k = c.args.s.0 in
+    let w = seen s0 t q c.args.j.now.events in
+    let d = c.decide_over-decision.result in
+    let u = seen (g.P.Plant.state c.take_over_all.new.p) t q c.take_over_all.new.j.events in
+    let e = c.in_err-take_over_all.field-0.0 in
+    subst (λ a. PlanEnds (armed_in s0) w (recover_behind w.control k ms) u a) (sym (says-failed c.from_residual.result e (refused-by c.from_residual.result e c.from_residual.ensures.0 c.from_residual.ensures.1)))
+    (plan-behind k d ms (armed_in s0) w u (Refused e) (c.in_default.ensures.refusal q c.args.j.now.events) (c.decide_over-decision.ensures.decides q c.args.j.now.events)
+    (plan-failed k d ms (armed_in s0) w u e (takes-fail k d ms (armed_in s0) w u (Some e) (c.in_err-take_over_all.ensures.fails q))))
+
+pub returns-in_err-take_over_all-clause-refused : goal.returns-in_err-take_over_all-clause-refused
+returns-in_err-take_over_all-clause-refused g c r why is = never _ why (c.in_default.ensures.refusal (with_sessions c.args.ss.now.sessions r) c.args.j.now.events) is
+
+pub returns-in_err-take_over_all-clause-ends : goal.returns-in_err-take_over_all-clause-ends
+returns-in_err-take_over_all-clause-ends g c r none =
+    let s0 = g.P.Plant.state c.args.p.now in
+    let t = c.args.c.now in
+    let q = with_sessions c.args.ss.now.sessions r in
+    let ms = members_in (session_in c.args.ss.now.sessions c.args.s.0) in
+    let k = c.args.s.0 in
+    let w = seen s0 t q c.args.j.now.events in
+    let d = c.decide_over-decision.result in
+    let u = seen (g.P.Plant.state c.take_over_all.new.p) t q c.take_over_all.new.j.events in
+    let e = c.in_err-take_over_all.field-0.0 in
+    subst (λ o. Ends (armed_in s0) u o w (recover_entries k (decided_in k w.control) ms)) (sym (refused-by c.from_residual.result e c.from_residual.ensures.0 c.from_residual.ensures.1))
+    (subst (λ d. Ends (armed_in s0) u (Some e) w (recover_entries k d ms)) (c.decide_over-decision.ensures.decides q c.args.j.now.events)
+    (takes-fail k d ms (armed_in s0) w u (Some e) (c.in_err-take_over_all.ensures.fails q)))
+
+pub settle_all-requires-clause-members : goal.settle_all-requires-clause-members
+settle_all-requires-clause-members g c =
+    all-ready (g.P.Plant.state c.args.p.now) (g.P.Plant.state c.take_over_all.new.p) c.args.c.now (members_in (session_in c.args.ss.now.sessions c.args.s.0)) c.requires.members
+
+pub settle_all-requires-clause-running : goal.settle_all-requires-clause-running
+settle_all-requires-clause-running g c =
+    all-running (g.P.Plant.state c.args.p.now) (g.P.Plant.state c.take_over_all.new.p) c.args.c.now (members_in (session_in c.args.ss.now.sessions c.args.s.0)) c.in_ok-take_over_all.ensures.on c.requires.members c.in_default.ensures.running
+
+pub returns-in_err-settle_all-clause-carried : goal.returns-in_err-settle_all-clause-carried
+returns-in_err-settle_all-clause-carried g c r =
+    let s0 = g.P.Plant.state c.args.p.now in
+    let t = c.args.c.now in
+    let q = with_sessions c.args.ss.now.sessions r in
+    let ms = members_in (session_in c.args.ss.now.sessions c.args.s.0) in
+    let k = c.args.s.0 in
+    let w = seen s0 t q c.args.j.now.events in
+    let d = c.decide_over-decision.result in
+    let u = seen (g.P.Plant.state c.settle_all.new.p) t q c.settle_all.new.j.events in
+    let e = c.in_err-settle_all.field-0.0 in
+    subst (λ a. PlanEnds (armed_in s0) w (recover_behind w.control k ms) u a) (sym (says-failed c.from_residual-in_err-settle_all.result e (refused-by c.from_residual-in_err-settle_all.result e c.from_residual-in_err-settle_all.ensures.0 c.from_residual-in_err-settle_all.ensures.1)))
+    (plan-behind k d ms (armed_in s0) w u (Refused e) (c.in_default.ensures.refusal q c.args.j.now.events) (c.decide_over-decision.ensures.decides q c.args.j.now.events)
+    (plan-failed k d ms (armed_in s0) w u e (settles-fail k d ms (armed_in (g.P.Plant.state c.take_over_all.new.p)) (armed_in s0) (wider-armed s0 (g.P.Plant.state c.take_over_all.new.p) c.take_over_all.ensures.unarmed) w (seen (g.P.Plant.state c.take_over_all.new.p) t q c.take_over_all.new.j.events) u (Some e) (c.in_ok-take_over_all.ensures.leads q) (c.in_err-settle_all.ensures.fails q))))
+
+pub returns-in_err-settle_all-clause-refused : goal.returns-in_err-settle_all-clause-refused
+returns-in_err-settle_all-clause-refused g c r why is = never _ why (c.in_default.ensures.refusal (with_sessions c.args.ss.now.sessions r) c.args.j.now.events) is
+
+pub returns-in_err-settle_all-clause-ends : goal.returns-in_err-settle_all-clause-ends
+returns-in_err-settle_all-clause-ends g c r none =
+    let s0 = g.P.Plant.state c.args.p.now in
+    let t = c.args.c.now in
+    let q = with_sessions c.args.ss.now.sessions r in
+    let ms = members_in (session_in c.args.ss.now.sessions c.args.s.0) in
+    let k = c.args.s.0 in
+    let w = seen s0 t q c.args.j.now.events in
+    let d = c.decide_over-decision.result in
+    let u = seen (g.P.Plant.state c.settle_all.new.p) t q c.settle_all.new.j.events in
+    let e = c.in_err-settle_all.field-0.0 in
+    subst (λ o. Ends (armed_in s0) u o w (recover_entries k (decided_in k w.control) ms)) (sym (refused-by c.from_residual-in_err-settle_all.result e c.from_residual-in_err-settle_all.ensures.0 c.from_residual-in_err-settle_all.ensures.1))
+    (subst (λ d. Ends (armed_in s0) u (Some e) w (recover_entries k d ms)) (c.decide_over-decision.ensures.decides q c.args.j.now.events)
+    (settles-fail k d ms (armed_in (g.P.Plant.state c.take_over_all.new.p)) (armed_in s0) (wider-armed s0 (g.P.Plant.state c.take_over_all.new.p) c.take_over_all.ensures.unarmed) w (seen (g.P.Plant.state c.take_over_all.new.p) t q c.take_over_all.new.j.events) u (Some e) (c.in_ok-take_over_all.ensures.leads q) (c.in_err-settle_all.ensures.fails q)))
+
+pub decide_over-requires-clause-members : goal.decide_over-requires-clause-members
+decide_over-requires-clause-members g c =
+    all-ready (g.P.Plant.state c.args.p.now) (g.P.Plant.state c.settle_all.new.p) c.args.c.now (members_in (session_in c.args.ss.now.sessions c.args.s.0)) c.requires.members
+
+pub returns-clause-carried : goal.returns-clause-carried
+returns-clause-carried g c r =
+    let s0 = g.P.Plant.state c.args.p.now in
+    let t = c.args.c.now in
+    let q = with_sessions c.args.ss.now.sessions r in
+    let ms = members_in (session_in c.args.ss.now.sessions c.args.s.0) in
+    let k = c.args.s.0 in
+    let w = seen s0 t q c.args.j.now.events in
+    let d = c.decide_over-decision.result in
+    let u = seen (g.P.Plant.state c.settle_all.new.p) t q c.end_recovery.new.j.events in
+    plan-behind k d ms (armed_in s0) w u _ (c.in_default.ensures.refusal q c.args.j.now.events) (c.decide_over-decision.ensures.decides q c.args.j.now.events)
+    (plan-done k d ms (armed_in s0) w u c.group_of-group.result (c.group_of-group.ensures ∙ ap group_of (c.decide_over.ensures.decides q c.end_recovery.new.j.events))
+    (all-done k d ms (armed_in s0) w (seen (g.P.Plant.state c.take_over_all.new.p) t q c.take_over_all.new.j.events) (seen (g.P.Plant.state c.settle_all.new.p) t q c.settle_all.new.j.events) u None (c.in_ok-take_over_all.ensures.leads q) (c.in_ok-settle_all.ensures.leads q)
+    (recovery-ends (armed_in s0) (g.P.Plant.state c.settle_all.new.p) t q c.settle_all.new.j.events c.end_recovery.new.j.events k c.group_of-group.result (c.group_of-group.ensures ∙ ap group_of (c.decide_over.ensures.decides q c.settle_all.new.j.events)) c.end_recovery.ensures.events)))
+
+pub returns-clause-refused : goal.returns-clause-refused
+returns-clause-refused g c r why is = never _ why (c.in_default.ensures.refusal (with_sessions c.args.ss.now.sessions r) c.args.j.now.events) is
+
+pub returns-clause-ends : goal.returns-clause-ends
+returns-clause-ends g c r none =
+    let s0 = g.P.Plant.state c.args.p.now in
+    let t = c.args.c.now in
+    let q = with_sessions c.args.ss.now.sessions r in
+    let ms = members_in (session_in c.args.ss.now.sessions c.args.s.0) in
+    let k = c.args.s.0 in
+    let w = seen s0 t q c.args.j.now.events in
+    let d = c.decide_over-decision.result in
+    let u = seen (g.P.Plant.state c.settle_all.new.p) t q c.end_recovery.new.j.events in
+    subst (λ d. Ends (armed_in s0) u None w (recover_entries k d ms)) (c.decide_over-decision.ensures.decides q c.args.j.now.events)
+    (all-done k d ms (armed_in s0) w (seen (g.P.Plant.state c.take_over_all.new.p) t q c.take_over_all.new.j.events) (seen (g.P.Plant.state c.settle_all.new.p) t q c.settle_all.new.j.events) u None (c.in_ok-take_over_all.ensures.leads q) (c.in_ok-settle_all.ensures.leads q)
+    (recovery-ends (armed_in s0) (g.P.Plant.state c.settle_all.new.p) t q c.settle_all.new.j.events c.end_recovery.new.j.events k c.group_of-group.result (c.group_of-group.ensures ∙ ap group_of (c.decide_over.ensures.decides q c.settle_all.new.j.events)) c.end_recovery.ensures.events))
+
+pub returns-clause-decision : goal.returns-clause-decision
+returns-clause-decision g c r = c.decide_over-decision.ensures.decides (with_sessions c.args.ss.now.sessions r) c.args.j.now.events
+
+pub returns-clause-group : goal.returns-clause-group
+returns-clause-group g c r = c.group_of-group.ensures ∙ ap group_of (c.decide_over.ensures.decides (with_sessions c.args.ss.now.sessions r) c.end_recovery.new.j.events)

@@ -1,0 +1,74 @@
+//! One target is committed or reverted by hand.
+
+ghost use Rattle.std.specs.Prelude.{◌≡◌, ℕ, ◌≤◌, ◌+◌, false, length, None, IsSome, OnOk, OnErr};
+ghost use Rattle.dr_config.specs.Table.{place_of};
+ghost use Rattle.dr_model.specs.RecoveryPlans as plans;
+ghost use Rattle.dr_model.specs.Sessions as model;
+ghost use Rattle.dr_volume.specs.View.{Rest};
+ghost use Rattle.dr_flash.specs.Checks.{is_stop};
+ghost use Rattle.dr_flash.specs.Faults.{Counted};
+ghost use Rattle.dr_flash.specs.Fit.{RelationsFit};
+ghost use Rattle.dr_flash.specs.Here.{seen, refusal_of, armed_in, IsAtRest};
+ghost use Rattle.dr_coord.specs.Aside.{AsideFits};
+ghost use Rattle.dr_gmirror.specs.Exchange.{PlanEnds};
+ghost use Rattle.dr_gmirror.specs.Orders.{AreReady, with_sessions};
+ghost use Rattle.dr_recover.specs.Outcomes.{act_said, lets_by};
+
+use crate::checks::settle_refusal;
+use crate::looks::revertible_target;
+use crate::settling::settle_member;
+use dr_config::Config;
+use dr_flash::relation_state;
+use dr_gmirror::{decide_over, member_with};
+use dr_ids::{Refusal, SessionId, VolumeId};
+use dr_model::Journal;
+use dr_plant::Plant;
+use dr_session::Sessions;
+use dr_volume::peek_fields;
+
+/// Commits, or else reverts, the flash on the revertible target of a volume, where that is decided now over its session. Refused
+/// where the volume has no revertible target, or that is no member's; or else where the server of a secondary of the session's
+/// members is off, or else where a secondary isn't taken over; or else where something else is decided. Then nothing has
+/// changed. Fails too where the server stops in the move or goes off at a read. A session has at most 64 members. The journal
+/// needs room for two events.
+pub fn act<P: Plant>(
+    p: &mut P,
+    c: &Config,
+    j: &mut Journal,
+    ss: &Sessions,
+    source: VolumeId,
+    commit: bool,
+) -> Result<(), Refusal>
+    requires rest { IsAtRest (P.state p.old) c.now }
+    requires fit { RelationsFit (P.state p.old) c.now }
+    requires aside { AsideFits (P.state p.old) c.now }
+    requires defined { IsSome (place_of c.now source.0) }
+    requires members { (s : ℕ) → AreReady (P.state p.old) c.now (model.members_in (model.session_in ss.now.sessions s)) }
+    requires few { (s : ℕ) → length (model.members_in (model.session_in ss.now.sessions s)) ≤ 64 }
+    requires room { 2 ≤ j.old.spare }
+    ensures carried { (r : Rest) → PlanEnds (armed_in (P.state p.old)) (seen (P.state p.old) c.now (with_sessions ss.now.sessions r) j.old.events)
+        (plans.settle_target (seen (P.state p.old) c.now (with_sessions ss.now.sessions r) j.old.events).control (lets_by commit) source.0 (plans.revertible_target (seen (P.state p.old) c.now (with_sessions ss.now.sessions r) j.old.events).control source.0))
+        (seen (P.state p.new) c.now (with_sessions ss.now.sessions r) j.new.events) (act_said result) }
+    ensures unchanged { is_stop (refusal_of result) ≡ false → OnErr result ((P.state p.new ≡ P.state p.old) × (j.new ≡ j.old)) }
+    ensures rest { IsAtRest (P.state p.new) c.now }
+    ensures fit { RelationsFit (P.state p.new) c.now }
+    ensures aside { AsideFits (P.state p.new) c.now }
+    ensures unarmed { (q : ℕ) → (P.state p.old).read_fuse q ≡ None → (P.state p.new).read_fuse q ≡ None }
+    ensures faults { Counted (is_stop (refusal_of result)) (P.state p.old).faults (P.state p.new).faults }
+    ensures on { OnOk result ((P.state p.new).on ≡ (P.state p.old).on) }
+    ensures room { j.old.spare ≤ j.new.spare + 2 }
+    ensures spare { length j.new.events + j.new.spare ≡ length j.old.events + j.old.spare }
+{
+    let Some(t) = revertible_target(p, c, source) else {
+        return Err(relation_state(p, c, source));
+    };
+    let s = SessionId(peek_fields(p, c, t).session);
+    let Some(m) = member_with(ss, s, t) else {
+        return Err(relation_state(p, c, source));
+    };
+    let decided = decide_over(p, c, ss, s);
+    if let Some(why) = settle_refusal(p, c, ss, s, commit, decided) {
+        return Err(why);
+    }
+    settle_member(p, c, j, s, decided, &m)
+}

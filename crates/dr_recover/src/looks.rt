@@ -1,0 +1,66 @@
+//! What a commit or a revert by hand looks at.
+
+ghost use Rattle.std.specs.Prelude.{◌≡◌, ℕ, ◌&&◌, false, List, IsSome, IfSome};
+ghost use Rattle.dr_config.specs.Table.{StandsFor, place_of};
+ghost use Rattle.dr_model.specs.declared.event.Event.{Event};
+ghost use Rattle.dr_model.specs.Entries.{copies_from};
+ghost use Rattle.dr_model.specs.RecoveryPlans as plans;
+ghost use Rattle.dr_model.specs.Sessions as model;
+ghost use Rattle.dr_volume.specs.Plain.{plain};
+ghost use Rattle.dr_volume.specs.View.{Rest};
+ghost use Rattle.dr_flash.specs.Checks.{is_stop};
+ghost use Rattle.dr_flash.specs.Here.{seen};
+ghost use Rattle.dr_incr.specs.Steps.{number_of};
+ghost use Rattle.dr_gmirror.specs.Orders.{AreReady};
+
+use dr_config::Config;
+use dr_flash::{is_part, pair_state};
+use dr_ids::{Refusal, SessionId, VolumeId};
+use dr_plant::Plant;
+use dr_session::Sessions;
+use dr_volume::{Fields, peek_fields};
+
+/// Whether a volume with these fields is a revertible target of b.
+fn is_revertible_target(f: &Fields, b: VolumeId) -> bool
+    ensures { result ≡ (copies_from b.0 (plain f.now) && f.now.revertible) }
+{
+    f.related && f.source.0 == b.0 && f.revertible
+}
+
+/// The revertible target of a volume, if it has one: the first of them in order of definition. It is looked at whether or not its
+/// server is on.
+pub(crate) fn revertible_target<P: Plant>(p: &P, c: &Config, b: VolumeId) -> Option<VolumeId>
+    requires stands { StandsFor c.now (P.state p.now) }
+    ensures target { (r : Rest) (events : List Event) → number_of result ≡ plans.revertible_target (seen (P.state p.now) c.now r events).control b.0 }
+    ensures defined { IfSome result (λ t. IsSome (place_of c.now t.0)) }
+{
+    for place in 0..c.volumes() {
+        let u = c.volume_at(place).unwrap();
+        if is_revertible_target(&peek_fields(p, c, u), b) {
+            return Some(u);
+        }
+    }
+    None
+}
+
+/// Why a session's targets can't be committed or reverted by hand yet: the first secondary of its members that isn't taken over,
+/// with the state of its pair.
+pub(crate) fn untaken_refusal<P: Plant>(
+    p: &P,
+    c: &Config,
+    ss: &Sessions,
+    s: SessionId,
+) -> Option<Refusal>
+    requires stands { StandsFor c.now (P.state p.now) }
+    requires members { AreReady (P.state p.now) c.now (model.members_in (model.session_in ss.now.sessions s.0)) }
+    ensures refusal { (r : Rest) (events : List Event) → result ≡ plans.untaken_refusal (model.members_in (model.session_in ss.now.sessions s.0)) (seen (P.state p.now) c.now r events).control }
+    ensures calm { is_stop result ≡ false }
+{
+    for at in 0..ss.member_count(s) {
+        let m = ss.member_at(s, at).unwrap();
+        if is_part(peek_fields(p, c, m.b).secondary) {
+            return Some(pair_state(p, c, m.b));
+        }
+    }
+    None
+}

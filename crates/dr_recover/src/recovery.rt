@@ -1,0 +1,104 @@
+//! The recovery of a session.
+
+ghost use Rattle.std.specs.Prelude.{◌≡◌, ℕ, ◌≤◌, ◌+◌, ◌++◌, [], ◌∷◌, false, length, None, Some, IfOk, OnOk, OnErr};
+ghost use Rattle.dr_ids.specs.declared.refusal.Refusal.{Refusal};
+ghost use Rattle.dr_model.specs.declared.event.Event.{Event};
+ghost use Rattle.dr_model.specs.ReadStops.{Ends};
+ghost use Rattle.dr_model.specs.RecoveryPlans as plans;
+ghost use Rattle.dr_model.specs.Sessions as model;
+ghost use Rattle.dr_volume.specs.View.{Rest};
+ghost use Rattle.dr_flash.specs.Checks.{is_stop};
+ghost use Rattle.dr_flash.specs.Faults.{Counted};
+ghost use Rattle.dr_flash.specs.Fit.{RelationsFit};
+ghost use Rattle.dr_flash.specs.Here.{seen, refusal_of, armed_in, IsAtRest};
+ghost use Rattle.dr_coord.specs.Aside.{AsideFits};
+ghost use Rattle.dr_gmirror.specs.Exchange.{PlanEnds};
+ghost use Rattle.dr_gmirror.specs.Orders.{AreReady, with_sessions};
+ghost use Rattle.dr_recover.specs.Outcomes.{recover_behind, recovery_said};
+
+use crate::settling::settle_all;
+use crate::taking::take_over_all;
+use dr_config::Config;
+use dr_gmirror::{decide_over, secondary_refusal};
+use dr_ids::{Decision, Refusal, SessionId};
+use dr_model::{Event, Journal};
+use dr_plant::Plant;
+use dr_session::Sessions;
+
+/// How a recovery ended: the number that all targets show that count then, none where there is no such number, and what was
+/// decided before anything was done.
+#[derive(Clone, Copy)]
+pub struct Recovered {
+    pub group: Option<u32>,
+    pub decision: Decision,
+}
+
+/// The number that all targets show that count, where nothing is to be done with them.
+fn group_of(decided: Decision) -> Option<u32>
+    ensures { result ≡ plans.group_of decided }
+{
+    match decided {
+        Decision::Nothing(n) => Some(n),
+        _ => None,
+    }
+}
+
+/// The journal is told that the recovery of a session ended with that group, 0 for none.
+fn end_recovery(j: &mut Journal, s: SessionId, group: Option<u32>)
+    requires room { 1 ≤ j.old.spare }
+    ensures events { j.new.events ≡ j.old.events ++ Event.Recovered s.0 (plans.group_number group) ∷ [] }
+    ensures room { j.old.spare ≡ j.new.spare + 1 }
+    ensures spare { length j.new.events + j.new.spare ≡ length j.old.events + j.old.spare }
+{
+    j.push(Event::Recovered {
+        session: s.0,
+        group: group.unwrap_or(0),
+    });
+}
+
+/// Recovers a session: what is to be done with its members' targets is decided by what they show; each secondary is taken
+/// over, in order of members, and only then is each target that is revertible from the attempt that was decided on committed
+/// or reverted, in order of members. At the end the journal is told the number that all targets show that count then. Refused
+/// where the server of a secondary is off, which the first such member says; then nothing has changed. Fails too where a
+/// server stops in a move or goes off at a read; what was done by then stays, and the call may be repeated. The session has at
+/// most 64 members. The journal needs room for two events for each member and one more.
+pub fn recover<P: Plant>(
+    p: &mut P,
+    c: &Config,
+    j: &mut Journal,
+    ss: &Sessions,
+    s: SessionId,
+) -> Result<Recovered, Refusal>
+    requires rest { IsAtRest (P.state p.old) c.now }
+    requires fit { RelationsFit (P.state p.old) c.now }
+    requires aside { AsideFits (P.state p.old) c.now }
+    requires members { AreReady (P.state p.old) c.now (model.members_in (model.session_in ss.now.sessions s.0)) }
+    requires few { length (model.members_in (model.session_in ss.now.sessions s.0)) ≤ 64 }
+    requires room { length (model.members_in (model.session_in ss.now.sessions s.0)) + length (model.members_in (model.session_in ss.now.sessions s.0)) + 1 ≤ j.old.spare }
+    ensures carried { (r : Rest) → PlanEnds (armed_in (P.state p.old)) (seen (P.state p.old) c.now (with_sessions ss.now.sessions r) j.old.events)
+        (recover_behind (seen (P.state p.old) c.now (with_sessions ss.now.sessions r) j.old.events).control s.0 (model.members_in (model.session_in ss.now.sessions s.0))) (seen (P.state p.new) c.now (with_sessions ss.now.sessions r) j.new.events) (recovery_said result) }
+    ensures refused { (r : Rest) (why : Refusal) → plans.secondary_refusal (model.members_in (model.session_in ss.now.sessions s.0)) (seen (P.state p.old) c.now (with_sessions ss.now.sessions r) j.old.events).control ≡ Some why → (refusal_of result ≡ Some why) × (P.state p.new ≡ P.state p.old) × (j.new ≡ j.old) }
+    ensures ends { (r : Rest) → plans.secondary_refusal (model.members_in (model.session_in ss.now.sessions s.0)) (seen (P.state p.old) c.now (with_sessions ss.now.sessions r) j.old.events).control ≡ None
+        → Ends (armed_in (P.state p.old)) (seen (P.state p.new) c.now (with_sessions ss.now.sessions r) j.new.events) (refusal_of result) (seen (P.state p.old) c.now (with_sessions ss.now.sessions r) j.old.events) (plans.recover_entries s.0 (plans.decided_in s.0 (seen (P.state p.old) c.now (with_sessions ss.now.sessions r) j.old.events).control) (model.members_in (model.session_in ss.now.sessions s.0))) }
+    ensures decision { IfOk result (λ x. (r : Rest) → x.decision ≡ plans.decided_in s.0 (seen (P.state p.old) c.now (with_sessions ss.now.sessions r) j.old.events).control) }
+    ensures group { IfOk result (λ x. (r : Rest) → x.group ≡ plans.group_of (plans.decided_in s.0 (seen (P.state p.new) c.now (with_sessions ss.now.sessions r) j.new.events).control)) }
+    ensures unchanged { is_stop (refusal_of result) ≡ false → OnErr result ((P.state p.new ≡ P.state p.old) × (j.new ≡ j.old)) }
+    ensures rest { IsAtRest (P.state p.new) c.now }
+    ensures fit { RelationsFit (P.state p.new) c.now }
+    ensures aside { AsideFits (P.state p.new) c.now }
+    ensures unarmed { (q : ℕ) → (P.state p.old).read_fuse q ≡ None → (P.state p.new).read_fuse q ≡ None }
+    ensures faults { Counted (is_stop (refusal_of result)) (P.state p.old).faults (P.state p.new).faults }
+    ensures on { OnOk result ((P.state p.new).on ≡ (P.state p.old).on) }
+    ensures room { j.old.spare ≤ j.new.spare + (length (model.members_in (model.session_in ss.now.sessions s.0)) + length (model.members_in (model.session_in ss.now.sessions s.0)) + 1) }
+    ensures spare { length j.new.events + j.new.spare ≡ length j.old.events + j.old.spare }
+{
+    if let Some(why) = secondary_refusal(p, c, ss, s) {
+        return Err(why);
+    }
+    let decision = decide_over(p, c, ss, s);
+    take_over_all(p, c, j, ss, s)?;
+    settle_all(p, c, j, ss, s, decision)?;
+    let group = group_of(decide_over(p, c, ss, s));
+    end_recovery(j, s, group);
+    Ok(Recovered { group, decision })
+}

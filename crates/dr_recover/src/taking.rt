@@ -1,0 +1,96 @@
+//! Secondaries are taken over, member by member.
+
+ghost use Rattle.std.specs.Prelude.{◌≡◌, ℕ, ◌≤◌, ◌+◌, true, length, map, None, Some, IsSome, OnOk, OnErr, is_err};
+ghost use Rattle.dr_config.specs.Table.{place_of};
+ghost use Rattle.dr_model.specs.RecoveryPlans.{take_over_on};
+ghost use Rattle.dr_model.specs.Refusals.{stopped};
+ghost use Rattle.dr_model.specs.Sessions as model;
+ghost use Rattle.dr_volume.specs.Update.{OthersStay};
+ghost use Rattle.dr_volume.specs.View.{Rest, volume_seen};
+ghost use Rattle.dr_flash.specs.Checks.{is_stop};
+ghost use Rattle.dr_flash.specs.Faults.{Counted};
+ghost use Rattle.dr_flash.specs.Fit.{RelationsFit};
+ghost use Rattle.dr_flash.specs.Here.{seen, refusal_of, armed_in, IsAtRest};
+ghost use Rattle.dr_flash.specs.Turns.{Advances, Halts, Leads, Fails};
+ghost use Rattle.dr_coord.specs.Aside.{AsideFits};
+ghost use Rattle.dr_gmirror.specs.Orders.{AreReady, AreRunning};
+
+use dr_config::Config;
+use dr_flash::is_part;
+use dr_gcopy::take_over;
+use dr_ids::{Member, Refusal, SessionId};
+use dr_model::Journal;
+use dr_plant::Plant;
+use dr_session::Sessions;
+use dr_volume::peek_fields;
+
+/// The secondary of a member, whose server is on, becomes a Suspended primary of its primary. Where it is no secondary any
+/// more, nothing happens. Fails where the server stops in the move or goes off at a read. The journal needs room for two
+/// events.
+fn take_over_member<P: Plant>(
+    p: &mut P,
+    c: &Config,
+    j: &mut Journal,
+    m: &Member,
+) -> Result<(), Refusal>
+    requires rest { IsAtRest (P.state p.old) c.now }
+    requires fit { RelationsFit (P.state p.old) c.now }
+    requires aside { AsideFits (P.state p.old) c.now }
+    requires secondary { IsSome (place_of c.now m.now.b.0) }
+    requires running { (P.state p.old).on (volume_seen (P.state p.old) c.now m.now.b.0).server ≡ true }
+    requires room { 2 ≤ j.old.spare }
+    ensures advances { OnOk result ((r : Rest) → Advances (seen (P.state p.old) c.now r j.old.events) (take_over_on m.now) (seen (P.state p.new) c.now r j.new.events)) }
+    ensures halts { OnErr result ((r : Rest) → Halts (armed_in (P.state p.old)) (seen (P.state p.old) c.now r j.old.events) (take_over_on m.now) (seen (P.state p.new) c.now r j.new.events) (refusal_of result)) }
+    ensures refused { OnErr result (refusal_of result ≡ Some (stopped (volume_seen (P.state p.old) c.now m.now.b.0).server)) }
+    ensures rest { IsAtRest (P.state p.new) c.now }
+    ensures fit { RelationsFit (P.state p.new) c.now }
+    ensures aside { AsideFits (P.state p.new) c.now }
+    ensures unarmed { (q : ℕ) → (P.state p.old).read_fuse q ≡ None → (P.state p.new).read_fuse q ≡ None }
+    ensures faults { Counted (is_err result) (P.state p.old).faults (P.state p.new).faults }
+    ensures others { OthersStay (P.state p.old) (P.state p.new) c.now m.now.b.0 }
+    ensures on { OnOk result ((P.state p.new).on ≡ (P.state p.old).on) }
+    ensures room { j.old.spare ≤ j.new.spare + 2 }
+    ensures room_left { OnOk result (j.old.spare ≤ j.new.spare + 1) }
+    ensures spare { length j.new.events + j.new.spare ≡ length j.old.events + j.old.spare }
+{
+    if !is_part(peek_fields(p, c, m.b).secondary) {
+        return Ok(());
+    }
+    take_over(p, c, j, m.b)
+}
+
+/// The secondaries of a session's members, whose servers are on, are taken over in order of members. Fails where a server
+/// stops in a move or goes off at a read; what was done by then stays. The journal needs room for an event for each member
+/// and one more.
+pub(crate) fn take_over_all<P: Plant>(
+    p: &mut P,
+    c: &Config,
+    j: &mut Journal,
+    ss: &Sessions,
+    s: SessionId,
+) -> Result<(), Refusal>
+    requires rest { IsAtRest (P.state p.old) c.now }
+    requires fit { RelationsFit (P.state p.old) c.now }
+    requires aside { AsideFits (P.state p.old) c.now }
+    requires members { AreReady (P.state p.old) c.now (model.members_in (model.session_in ss.now.sessions s.0)) }
+    requires running { AreRunning (P.state p.old) c.now (model.members_in (model.session_in ss.now.sessions s.0)) }
+    requires room { length (model.members_in (model.session_in ss.now.sessions s.0)) + 1 ≤ j.old.spare }
+    ensures leads { OnOk result ((r : Rest) → Leads (seen (P.state p.old) c.now r j.old.events) (map take_over_on (model.members_in (model.session_in ss.now.sessions s.0))) (seen (P.state p.new) c.now r j.new.events)) }
+    ensures fails { OnErr result ((r : Rest) → Fails (armed_in (P.state p.old)) (seen (P.state p.old) c.now r j.old.events) (map take_over_on (model.members_in (model.session_in ss.now.sessions s.0))) (seen (P.state p.new) c.now r j.new.events) (refusal_of result)) }
+    ensures stops { OnErr result (is_stop (refusal_of result) ≡ true) }
+    ensures rest { IsAtRest (P.state p.new) c.now }
+    ensures fit { RelationsFit (P.state p.new) c.now }
+    ensures aside { AsideFits (P.state p.new) c.now }
+    ensures unarmed { (q : ℕ) → (P.state p.old).read_fuse q ≡ None → (P.state p.new).read_fuse q ≡ None }
+    ensures faults { Counted (is_err result) (P.state p.old).faults (P.state p.new).faults }
+    ensures on { OnOk result ((P.state p.new).on ≡ (P.state p.old).on) }
+    ensures room { j.old.spare ≤ j.new.spare + (length (model.members_in (model.session_in ss.now.sessions s.0)) + 1) }
+    ensures room_left { OnOk result (j.old.spare ≤ j.new.spare + length (model.members_in (model.session_in ss.now.sessions s.0))) }
+    ensures spare { length j.new.events + j.new.spare ≡ length j.old.events + j.old.spare }
+{
+    for at in 0..ss.member_count(s) {
+        let m = ss.member_at(s, at).unwrap();
+        take_over_member(p, c, j, &m)?;
+    }
+    Ok(())
+}
