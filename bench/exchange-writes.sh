@@ -2,10 +2,7 @@
 # Times `drsim run` on host writes on primaries of Global Copy that record, on two servers, with exchanges and drains in between. The
 # program is crates/drsim/out/drsim (`rt run` leaves it there). A round is an attempt of a session with two members, from the
 # first hold to its abort, around sixty-four writes; there are 50,000 lines, and then 100,000, the most that a script may have. It must grow linearly.
-set -e
-scratch=$(mktemp -d)
-trap 'rm -rf "$scratch"' EXIT
-cd "$(dirname "$0")/.."
+source "$(dirname "$0")/timing.sh"
 
 session() {
     printf '@server A1\n@server A2\n@server B1\n@server B2\n'
@@ -32,12 +29,6 @@ script_of() { # LINES
 
 for lines in 50000 100000; do
     script_of "$lines" > "$scratch/script"
-    least=0
-    for ((round = 0; round < 3; round++)); do
-        begin=$(date +%s%N)
-        crates/drsim/out/drsim run < "$scratch/script" > "$scratch/answers" || true
-        spent=$((($(date +%s%N) - begin) / 1000000 + 1))
-        if ((least == 0 || spent < least)); then least=$spent; fi
-    done
+    time_script || true
     echo "writes around attempts, $(wc -l < "$scratch/script") lines: $least ms, $((lines * 1000 / least)) lines a second"
 done

@@ -2,10 +2,7 @@
 # Times `drsim run` on groups that are formed one after another: a host write, and `@run 01 1` over a session of four members on two
 # servers. The program is crates/drsim/out/drsim (`rt run` leaves it there). There are 20,000 such rounds, and then 40,000. It must
 # grow linearly.
-set -e
-scratch=$(mktemp -d)
-trap 'rm -rf "$scratch"' EXIT
-cd "$(dirname "$0")/.."
+source "$(dirname "$0")/timing.sh"
 
 session() {
     printf '@server A1\n@server A2\n@server B1\n@server B2\n'
@@ -25,12 +22,6 @@ script_of() { # ROUNDS
 
 for rounds in 20000 40000; do
     script_of "$rounds" > "$scratch/script"
-    least=0
-    for ((round = 0; round < 3; round++)); do
-        begin=$(date +%s%N)
-        crates/drsim/out/drsim run < "$scratch/script" > "$scratch/answers"
-        spent=$((($(date +%s%N) - begin) / 1000000 + 1))
-        if ((least == 0 || spent < least)); then least=$spent; fi
-    done
+    time_script
     echo "groups of four members, $rounds: $least ms, $((rounds * 1000 / least)) a second"
 done

@@ -2,10 +2,7 @@
 # Times `drsim run` on host writes on a primary of Global Copy, and on drains. The program is crates/drsim/out/drsim (`rt run`
 # leaves it there). Writes: 50,000 lines, and then 100,000, the most that a script may have. Drains: a pair of so many tracks is
 # made, drained and removed 250 times. Both must grow linearly.
-set -e
-scratch=$(mktemp -d)
-trap 'rm -rf "$scratch"' EXIT
-cd "$(dirname "$0")/.."
+source "$(dirname "$0")/timing.sh"
 
 pair_of() { # TRACKS
     printf '@server P\n@server Q\n@volume 1000 P %d\n@volume 2000 Q %d\n' "$1" "$1"
@@ -27,24 +24,13 @@ drains_of() { # TRACKS
     done
 }
 
-least_of() { # the least time of three runs of the script, in milliseconds
-    local least=0
-    for ((round = 0; round < 3; round++)); do
-        begin=$(date +%s%N)
-        crates/drsim/out/drsim run < "$scratch/script" > "$scratch/answers"
-        spent=$((($(date +%s%N) - begin) / 1000000 + 1))
-        if ((least == 0 || spent < least)); then least=$spent; fi
-    done
-    echo "$least"
-}
-
 for lines in 50000 100000; do
     writes_of "$lines" > "$scratch/script"
-    least=$(least_of)
+    time_script
     echo "writes on a primary, $lines lines: $least ms, $((lines * 1000 / least)) lines a second"
 done
 for tracks in 64 128 256; do
     drains_of "$tracks" > "$scratch/script"
-    least=$(least_of)
+    time_script
     echo "250 drains of $tracks tracks: $least ms, $((250 * tracks * 1000 / least)) tracks a second"
 done

@@ -2,10 +2,7 @@
 # Times `drsim run` on recoveries of a session of sixteen members on two servers: the first takes over all secondaries and reverts what
 # was flashed, and each later one looks at all of them again. The program is crates/drsim/out/drsim (`rt run` leaves it there). There
 # are 20,000 such lines, and then 40,000. It must grow linearly.
-set -e
-scratch=$(mktemp -d)
-trap 'rm -rf "$scratch"' EXIT
-cd "$(dirname "$0")/.."
+source "$(dirname "$0")/timing.sh"
 
 session() {
     printf '@server A1\n@server A2\n@server B1\n@server B2\n'
@@ -25,13 +22,7 @@ for lines in 20000 40000; do
         session
         for ((n = 0; n < lines; n++)); do printf '@recover 01\n'; done
     } > "$scratch/script"
-    least=0
-    for ((round = 0; round < 3; round++)); do
-        begin=$(date +%s%N)
-        crates/drsim/out/drsim run < "$scratch/script" > "$scratch/answers"
-        spent=$((($(date +%s%N) - begin) / 1000000 + 1))
-        if ((least == 0 || spent < least)); then least=$spent; fi
-    done
+    time_script
     tail -1 "$scratch/answers"
     echo "recoveries of sixteen members, $lines: $least ms, $((lines * 1000 / least)) lines a second"
 done

@@ -2,10 +2,7 @@
 # Times `drsim run` on host writes on the source of FlashCopy targets: one target, and 12, that hold all tracks. The program is
 # crates/drsim/out/drsim (`rt run` leaves it there). 50,000 lines, and then 100,000, the most that a script may have: the cost
 # must grow linearly.
-set -e
-scratch=$(mktemp -d)
-trap 'rm -rf "$scratch"' EXIT
-cd "$(dirname "$0")/.."
+source "$(dirname "$0")/timing.sh"
 
 script_of() { # TARGETS LINES
     echo '@server A'
@@ -19,13 +16,7 @@ script_of() { # TARGETS LINES
 for targets in 0 1 12; do
     for lines in 50000 100000; do
         script_of "$targets" "$lines" > "$scratch/script"
-        least=0
-        for ((round = 0; round < 3; round++)); do
-            begin=$(date +%s%N)
-            crates/drsim/out/drsim run < "$scratch/script" > "$scratch/answers"
-            spent=$((($(date +%s%N) - begin) / 1000000 + 1))
-            if ((least == 0 || spent < least)); then least=$spent; fi
-        done
+        time_script
         echo "$targets targets, $lines lines: $least ms, $((lines * 1000 / least)) lines a second"
     done
 done
