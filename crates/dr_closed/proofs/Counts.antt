@@ -33,11 +33,11 @@ is-same z k x s n a e f g = ap (λ b. b && (nat_eq k n && nat_eq x a)) (eq-eqb z
 same-two : (z x s a : ℕ) → z ≡ s → x ≡ a → (nat_eq z s && nat_eq x a) ≡ true
 same-two z x s a e g = ap (λ b. b && nat_eq x a) (eq-eqb z s e) ∙ eq-eqb x a g
 
-or-second : (b c : Bool) → c ≡ true → (b || c) ≡ true
+pub or-second : (b c : Bool) → c ≡ true → (b || c) ≡ true
 or-second true c h = refl
 or-second false c h = h
 
-or-first : (b c : Bool) → b ≡ true → (b || c) ≡ true
+pub or-first : (b c : Bool) → b ≡ true → (b || c) ≡ true
 or-first true c h = refl
 or-first false c h = absurd cc
 
@@ -56,7 +56,7 @@ parted-counts false f n never c = c
 pub shown-plain : (f : Fields) → f.revertible ≡ false → number_kept f ≡ f.sequence
 shown-plain f h = ap (λ b. cond b f.previous_sequence f.sequence) h
 
-shown-before : (f : Fields) → f.revertible ≡ true → number_kept f ≡ f.previous_sequence
+pub shown-before : (f : Fields) → f.revertible ≡ true → number_kept f ≡ f.previous_sequence
 shown-before f h = ap (λ b. cond b f.previous_sequence f.sequence) h
 
 module _ (k : Control) (groups : Groups k) (law : Attempts k) where
@@ -102,7 +102,7 @@ module _ (k : Control) (groups : Groups k) (law : Attempts k) where
   counts-on (Leave v p s) a plain n c = absurd plain
   counts-on (Revert v p s j) a plain n c = absurd plain
   counts-on (Overwrite x v t) a plain n c = let f = fields_at k v in
-      parted-counts _ (rewritten (fetched f t) t) n (never-ends v n (is_whole (k.volume v).tracks (fetched f t).own) a c) c
+      parted-counts _ (rewritten (fetched f t) t) n (never-ends v n (is_whole (k.volume v).tracks (fetched f t).own) a.0 c) c
   counts-on (Keep v t) a plain n c = let f = fields_at k v in
       parted-counts _ (noted (fetched f t) t) n (never-ends v n (is_whole (k.volume v).tracks (fetched f t).own) a c) c
   counts-on (Fetch v t) a plain n c = let f = fields_at k v in
@@ -153,19 +153,19 @@ module _ (k : Control) (groups : Groups k) (law : Attempts k) where
     left-stands v p s a z n x h =
         let was = stood _ _ h in let c = old z n x was.1 in
         over (Leave v p s) a g old z n x c (λ e. absurd (gone-counts v n (fields_at k v) a.0.plain
-        (λ mem. let t = a.1 mem c.session c.member c.listed c.here e in false_true was.0 (same-two z x s p (sym c.number ∙ sym t.1) (sym c.is ∙ sym (some_is t.0))))
+        (λ mem. let t = a.1.counted mem c.session c.member c.listed c.here e in false_true was.0 (same-two z x s p (sym c.number ∙ sym t.1) (sym c.is ∙ sym (some_is t.0))))
         (subst (λ q. CountsFor n (fields_at k q)) e c.counts)))
 
     reversed-stands : (v : ℕ) (o : Option ℕ) → InAttempt k (Reverse v o) → (z n x : ℕ) → next_standing (Reverse v o) (k.volume v) g z n x ≡ true → MemberCounts k.sessions (at (fields_at k) v (fields_left (Reverse v o) (k.volume v))) z n x
     reversed-stands v None a z n x h =
         let c = old z n x h in
         over (Reverse v None) a g old z n x c (λ e. absurd (gone-counts v n (fields_at k v) a.0.plain
-        (λ mem. let t = a.1 mem c.session c.member c.listed c.here e in let none : None ≡ Some c.member.a.0 = t.0 in absurd cc)
+        (λ mem. let t = a.1.counted mem c.session c.member c.listed c.here e in let none : None ≡ Some c.member.a.0 = t.0 in absurd cc)
         (subst (λ q. CountsFor n (fields_at k q)) e c.counts)))
     reversed-stands v (Some p) a z n x h =
         let was = stood _ _ h in let c = old z n x was.1 in
         over (Reverse v (Some p)) a g old z n x c (λ e. absurd (gone-counts v n (fields_at k v) a.0.plain
-        (λ mem. let t = a.1 mem c.session c.member c.listed c.here e in let same : p ≡ c.member.a.0 = some_is t.0 in
+        (λ mem. let t = a.1.counted mem c.session c.member c.listed c.here e in let same : p ≡ c.member.a.0 = some_is t.0 in
         false_true was.0 (same-two z x (fields_at k v).session p (sym c.number ∙ sym t.1) (sym c.is ∙ sym same)))
         (subst (λ q. CountsFor n (fields_at k q)) e c.counts)))
 

@@ -42,19 +42,19 @@ module _ (events : List Event) where
 
 -- ---- who stands in groups
 
-still-append : (es fs : List Event) → AllStill es → AllStill fs → AllStill (es ++ fs)
+pub still-append : (es fs : List Event) → AllStill es → AllStill fs → AllStill (es ++ fs)
 still-append [] fs a b = b
 still-append (e ∷ es) fs a b = (a.0, still-append es fs a.1 b)
 
-still-blanked : (v : ℕ) (ts : List ℕ) → AllStill (map (Blanked v) ts)
+pub still-blanked : (v : ℕ) (ts : List ℕ) → AllStill (map (Blanked v) ts)
 still-blanked v [] = tt
 still-blanked v (t ∷ ts) = (tt, still-blanked v ts)
 
-still-restored : (v s n : ℕ) (own : Tracks) (b : Bool) → AllStill (cond b (told_blank v n own ++ Restored s v ∷ []) [])
+pub still-restored : (v s n : ℕ) (own : Tracks) (b : Bool) → AllStill (cond b (told_blank v n own ++ Restored s v ∷ []) [])
 still-restored v s n own true = still-append (told_blank v n own) (Restored s v ∷ []) (still-blanked v (in_order n (rest n own))) (tt, tt)
 still-restored v s n own false = tt
 
-still-suspended : (v : ℕ) (b : Bool) → AllStill (cond b [] (Suspended v ∷ []))
+pub still-suspended : (v : ℕ) (b : Bool) → AllStill (cond b [] (Suspended v ∷ []))
 still-suspended v true = tt
 still-suspended v false = (tt, tt)
 

@@ -1,15 +1,16 @@
 -- Events of which no group hears, and of which a volume's lists don't.
 use Rattle.std.specs.Prelude.{◌≢◌, ℕ, List, [], ◌∷◌}
 use Rattle.dr_model.specs.declared.event.Event.{Event}
-use Rattle.dr_model.specs.declared.event.Event.TheVariants.{Volume, Issue, Ack, Mirrored, Sent, Set, Back, Blanked, Flashed, Reverted, Left}
+use Rattle.dr_model.specs.declared.event.Event.TheVariants.{Volume, Issue, Ack, Mirrored, Sent, Set, Back, Blanked, Flashed, Committed, Reverted, Left}
 use Rattle.dr_model.specs.Histories.{Write}
 use Rattle.dr_cuts.specs.Once.{NoCuts}
 
--- events that put no volume into a group, nor take one out
+-- events that put no volume into a group, nor commit it, nor take one out
 abbrev pub Still : Event → Type 0
 Still (Flashed s n a b c) = ⊥
 Still (Reverted s n a c) = ⊥
 Still (Left s a) = ⊥
+Still (Committed s n a c) = ⊥
 Still e = Unit {0}
 
 abbrev pub AllStill : List Event → Type 0

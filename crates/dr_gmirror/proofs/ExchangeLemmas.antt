@@ -12,16 +12,23 @@ use Rattle.dr_master.specs.Seen.{reply_of, count_in}
 use Rattle.dr_master.specs.declared.reports.Reply.{Reply}
 use Rattle.dr_session.specs.Seen.{expects}
 use Rattle.dr_model.specs.declared.event.Event.{Event}
+use Rattle.dr_model.specs.declared.said.Said.{Said}
 use Rattle.dr_model.specs.declared.said.Said.TheVariants.{Refused}
 use Rattle.dr_model.specs.Phases as phases
-use Rattle.dr_model.specs.Sessions.{Session, Mirror, changed, with_master}
+use Rattle.dr_model.specs.Sessions.{Session, Mirror, session_in, mirror_in, members_in, changed, with_master}
 use Rattle.dr_model.specs.Control.{Control, World}
+use Rattle.dr_model.specs.Entries.{fields_at}
+use Rattle.dr_model.specs.Groups.{In}
+use Rattle.dr_model.specs.Laws.{Sound}
+use Rattle.dr_model.specs.Pairs.{is_secondary_of}
 use Rattle.dr_model.specs.Carry.{Entry, follow, Outcome}
 use Rattle.dr_model.specs.PlanParts.{same, none_follow, refuses, unless}
 use Rattle.dr_model.specs.ReadStops.{Ends}
 use Rattle.dr_model.specs.SessionEntries.{members_on, reply_after}
 use Rattle.dr_model.specs.SessionPlans.{answered_by, exchange_done, exchange_on, exchange_refusal, order_of}
 use Rattle.dr_model.proofs.CarryLemmas.{carry-none}
+use Rattle.dr_laws.specs.TakenOver.{IsLeft}
+use Rattle.dr_laws.proofs.TakenOver.{leaves-carried}
 use Rattle.dr_volume.specs.View.{Rest}
 use Rattle.dr_flash.specs.Here.{seen}
 use Rattle.dr_flash.proofs.EndsLemmas.{ends-none}
@@ -88,3 +95,8 @@ module _ (k : Control) (s server : ℕ) (reply : Bool) (ms : List Member) where
   pub plan-order : (o : Option Mirror) (r : Mirror) (order : Option phases.Order) → o ≡ Some r → None ≡ exchange_refusal k r server ms → order ≡ order_of r server → exchange_on k s o server reply ms ≡ exchange_done s server reply (members_on server ms) order
   plan-order o r order is passed ordered =
       ap (λ o. exchange_on k s o server reply ms) is ∙ ap (λ q. unless q (exchange_done s server reply (members_on server ms) (order_of r server))) (sym passed) ∙ ap (exchange_done s server reply (members_on server ms)) (sym ordered)
+
+-- the target of a member whose secondary isn't its primary's stays as it is
+pub leaves-by : (armed : ℕ → Bool) (w u : World) (s server : ℕ) (reply : Bool) (a : Said) (x : Session) (m : Member) → Sound w → In x w.control.sessions → In m x.members → is_secondary_of m.a.0 (fields_at w.control m.b.0) ≡ false
+    → PlanEnds armed w (exchange_on w.control s (mirror_in (session_in w.control.sessions s)) server reply (members_in (session_in w.control.sessions s))) u a → IsLeft w u m
+leaves-by armed w u s server reply a x m sound listed here apart e = subst (λ v. IsLeft w v m) (sym e.world) (leaves-carried w sound x m listed here apart s server reply armed e.middle e.refusal e.ends)

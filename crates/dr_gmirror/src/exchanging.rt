@@ -1,13 +1,19 @@
 //! A session's master and a server exchange an order and the reply.
 
 ghost use Rattle.std.specs.Prelude.{◌≡◌, ◌≢◌, ℕ, ◌<◌, ◌≤◌, ◌+◌, ◌&&◌, true, false, length, None, Some, IfSome, List, OnOk, OnErr, option_map, if◌then◌else◌};
+ghost use Rattle.dr_ids.specs.declared.names.Member.{Member};
 ghost use Rattle.dr_ids.specs.declared.refusal.PhaseName.TheVariants as phase;
 ghost use Rattle.dr_ids.specs.declared.refusal.Refusal.{Refusal};
 ghost use Rattle.dr_model.specs.declared.event.Event.{Event};
+ghost use Rattle.dr_model.specs.Entries.{fields_at};
+ghost use Rattle.dr_model.specs.Groups.{In};
+ghost use Rattle.dr_model.specs.Laws.{Sound};
+ghost use Rattle.dr_model.specs.Pairs.{is_secondary_of};
 ghost use Rattle.dr_model.specs.Phases as phases;
 ghost use Rattle.dr_model.specs.SessionEntries.{members_on};
 ghost use Rattle.dr_model.specs.SessionPlans as plans;
 ghost use Rattle.dr_model.specs.Sessions as model;
+ghost use Rattle.dr_model.specs.Sessions.{Session};
 ghost use Rattle.dr_master.specs.Seen as master;
 ghost use Rattle.dr_master.specs.Seen.{reply_of};
 ghost use Rattle.dr_session.specs.Seen.{expects};
@@ -17,6 +23,7 @@ ghost use Rattle.dr_flash.specs.Faults.{Counted};
 ghost use Rattle.dr_flash.specs.Fit.{RelationsFit};
 ghost use Rattle.dr_flash.specs.Here.{seen, refusal_of, armed_in, IsAtRest};
 ghost use Rattle.dr_coord.specs.Aside.{AsideFits};
+ghost use Rattle.dr_laws.specs.TakenOver.{IsLeft};
 ghost use Rattle.dr_gmirror.specs.Orders.{with_sessions, AreReady};
 ghost use Rattle.dr_gmirror.specs.Exchange.{PlanEnds, answer_of, refusal_in, order_in, says_shown, can_settle, Looks, IsNear, MayExchange};
 
@@ -175,7 +182,8 @@ fn exchange_order<P: Plant>(
 /// server has no members, or the next number would be 2^32, and in other phases where the server isn't owed the phase's
 /// order; or else where the server is off, or else where the link between the two servers is down. Then nothing has changed.
 /// Fails too where a member refuses, or where a server stops in a move or goes off at a read; what was done by then stays, and
-/// the master learns of nothing. A lost master to which all have reported goes on by what they show. The journal needs room
+/// the master learns of nothing. A lost master to which all have reported goes on by what they show. In a sound world the target
+/// of a member whose secondary isn't its primary's, as after a takeover, stays as it is. The journal needs room
 /// for an event for each of the session's members, which are at most 64, and two more.
 pub fn exchange<P: Plant>(
     p: &mut P,
@@ -203,6 +211,9 @@ pub fn exchange<P: Plant>(
         (seen (P.state p.new) c.now (with_sessions ss.new.sessions r) j.new.events) (answer_of result s.0 (seen (P.state p.new) c.now (with_sessions ss.new.sessions r) j.new.events).control) }
     ensures refused { (r : Rest) (why : Refusal) → refusal_in (seen (P.state p.old) c.now (with_sessions ss.old.sessions r) j.old.events).control (model.mirror_in (model.session_in ss.old.sessions s.0)) server.0 (model.members_in (model.session_in ss.old.sessions s.0)) ≡ Some why
         → (refusal_of result ≡ Some why) × (P.state p.new ≡ P.state p.old) × (j.new ≡ j.old) × (ss.new ≡ ss.old) }
+    ensures leaves { (r : Rest) (x : Session) (m : Member) → Sound (seen (P.state p.old) c.now (with_sessions ss.old.sessions r) j.old.events) → In x ss.old.sessions → In m x.members
+        → is_secondary_of m.a.0 (fields_at (seen (P.state p.old) c.now (with_sessions ss.old.sessions r) j.old.events).control m.b.0) ≡ false
+        → IsLeft (seen (P.state p.old) c.now (with_sessions ss.old.sessions r) j.old.events) (seen (P.state p.new) c.now (with_sessions ss.new.sessions r) j.new.events) m }
     ensures rest { IsAtRest (P.state p.new) c.now }
     ensures fit { RelationsFit (P.state p.new) c.now }
     ensures aside { AsideFits (P.state p.new) c.now }

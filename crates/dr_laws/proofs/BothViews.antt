@@ -18,7 +18,7 @@ use Rattle.dr_laws.proofs.Views.{shown-due, own-shows, others-stay}
 
 module _ (write : ℕ → Write) where
   -- what is set aside is what the table says
-  aside-is : (T : Table) → SoundRows T → (v q : ℕ) → IsRevertible T v → q < (T v).volume.tracks → set_aside T v q ≡ (T v).aside q
+  pub aside-is : (T : Table) → SoundRows T → (v q : ℕ) → IsRevertible T v → q < (T v).volume.tracks → set_aside T v q ≡ (T v).aside q
   aside-is T rows v q is lt =
       ap (λ s. cond (contains (fields T v).previous_own q) ((T v).bytes q) ((T s).bytes q)) (from_source (fields T v).related (fields T v).source is.from is.related).1
       ∙ rows.asides v is.from is.related is.revertible q lt

@@ -148,7 +148,7 @@ closing-new w s v server tracks here undefined k =
     (λ u t ne. ap (λ (h : Histories). h.now u t) (histories-append w.events (VolumeDefined v server tracks ∷ [])) ∙ ap (λ (l : ℕ → List ℕ). l t) (at_other (histories w.events).now v (λ t. []) u ne))
     (fun_ext (λ u. at_map (λ (y : Volume). y.fields) w.control.volume v (new_volume server tracks) u)) refl
 
-closes-ride : Rider Closes
+pub closes-ride : Rider Closes
 closes-ride = record {
   acts = acts;
   start_acts = start-acts;

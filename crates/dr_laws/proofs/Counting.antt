@@ -15,9 +15,9 @@ use Rattle.dr_model.specs.Sessions.{Session, session_in, members_in}
 use Rattle.dr_model.specs.SessionEntries.{counts_at, shown_at, shown_by_members}
 use Rattle.dr_model.specs.Plans.{left_by, counted_refusal, secondary_refusal, leaves_all, forbidden_unless, decided_in, restore_refusal}
 use Rattle.dr_model.specs.Groups.{In, Groups}
-use Rattle.dr_model.specs.Attempts.{Seen, seen, seen_in, roles, NoneRevertible, DoesNotCount, MayGo, GoesAs, MayFollow}
+use Rattle.dr_model.specs.Attempts.{Seen, seen, seen_in, roles, NoneRevertible, DoesNotCount, MayGo, TargetOf, GoesAs, MayFollow}
 use Rattle.dr_model.specs.Laws.{Sound}
-use Rattle.dr_groups.proofs.Lists.{from-map, to-map, to-filter, found, not-found}
+use Rattle.dr_groups.proofs.Lists.{some_is, from-map, to-map, to-filter, found, not-found}
 use Rattle.dr_groups.proofs.Changes.{session-found, none-numbered, same-session}
 use Rattle.dr_phases.proofs.Moves.{unrelated-uncounted}
 use Rattle.dr_phases.proofs.Tables.{counts-here}
@@ -123,22 +123,44 @@ module _ (w : World) (s : Sound w) where
           or-right false b h = h
 
   -- and is told of as that of its member
-  pub goes-as : (t : ℕ) → GoesAs k t (left_by k t) (fields_at k t).session
-  goes-as t member x m listed here is = (ap (λ b. option_map (λ (m : Member). m.a.0) (cond b (find (λ m. m.c.0 == t) (members_in (session_in k.sessions (fields_at k t).session))) None)) member ∙ (ap (option_map (λ (m : Member). m.a.0)) its), number)
-    where
-      number : (fields_at k t).session ≡ x.number
-      number =
-          let c = (s.attempts.volumes t).counted (ap (λ b. b || (fields_at k t).revertible) member) in
-          sym c.number ∙ (s.groups.lone.one t c.session x c.member m c.listed listed c.here here (inr (inr (sym c.is))) (inr (inr (sym is)))).0
+  module _ (t : ℕ) where
+    session-of : (x : Session) (m : Member) → In x k.sessions → In m x.members → m.c.0 ≡ t → (fields_at k t).member ≡ true → (fields_at k t).session ≡ x.number
+    session-of x m listed here is member =
+        let c = (s.attempts.volumes t).counted (ap (λ b. b || (fields_at k t).revertible) member) in
+        sym c.number ∙ (s.groups.lone.one t c.session x c.member m c.listed listed c.here here (inr (inr (sym c.is))) (inr (inr (sym is)))).0
 
-      by : (o : Option Member) → find (λ (m : Member). m.c.0 == t) x.members ≡ o → o ≡ Some m
-      by None none = false_true (not-found (λ (m : Member). m.c.0 == t) x.members m none here) (eq-eqb m.c.0 t is)
-      by (Some q) there =
-          let f = found (λ (m : Member). m.c.0 == t) x.members q there in
-          ap (λ q. Some q) (s.groups.lone.one t x x q m listed listed f.0 here (inr (inr (sym (eqb-true q.c.0 t f.1)))) (inr (inr (sym is)))).1
+    its-member : (x : Session) (m : Member) → In x k.sessions → In m x.members → m.c.0 ≡ t → (fields_at k t).member ≡ true → find (λ (m : Member). m.c.0 == t) (members_in (session_in k.sessions (fields_at k t).session)) ≡ Some m
+    its-member x m listed here is member =
+        ap (λ n. find (λ (m : Member). m.c.0 == t) (members_in (session_in k.sessions n))) (session-of x m listed here is member)
+        ∙ (ap (λ o. find (λ (m : Member). m.c.0 == t) (members_in o)) (listed-found k s.groups x listed) ∙ by (find (λ (m : Member). m.c.0 == t) x.members) refl)
+      where
+        by : (o : Option Member) → find (λ (m : Member). m.c.0 == t) x.members ≡ o → o ≡ Some m
+        by None none = false_true (not-found (λ (m : Member). m.c.0 == t) x.members m none here) (eq-eqb m.c.0 t is)
+        by (Some q) there =
+            let f = found (λ (m : Member). m.c.0 == t) x.members q there in
+            ap (λ q. Some q) (s.groups.lone.one t x x q m listed listed f.0 here (inr (inr (sym (eqb-true q.c.0 t f.1)))) (inr (inr (sym is)))).1
 
-      its : find (λ (m : Member). m.c.0 == t) (members_in (session_in k.sessions (fields_at k t).session)) ≡ Some m
-      its = ap (λ n. find (λ (m : Member). m.c.0 == t) (members_in (session_in k.sessions n))) number ∙ (ap (λ o. find (λ (m : Member). m.c.0 == t) (members_in o)) (listed-found k s.groups x listed) ∙ by (find (λ (m : Member). m.c.0 == t) x.members) refl)
+    left-is : (b : Bool) → (fields_at k t).member ≡ b → (p : ℕ) → left_by k t ≡ Some p → (fields_at k t).member ≡ true
+    left-is true is p h = is
+    left-is false is p h = let e : None ≡ Some p = sym (ap (λ b. option_map (λ (m : Member). m.a.0) (cond b (find (λ m. m.c.0 == t) (members_in (session_in k.sessions (fields_at k t).session))) None)) is) ∙ h in absurd cc
+
+    pub goes-as : GoesAs k t (left_by k t) (fields_at k t).session
+    goes-as = record { counted = counted; named = named }
+      where
+        by-flag : (fields_at k t).member ≡ true → (m : Member) → find (λ (m : Member). m.c.0 == t) (members_in (session_in k.sessions (fields_at k t).session)) ≡ Some m → left_by k t ≡ Some m.a.0
+        by-flag member m its = ap (λ b. option_map (λ (m : Member). m.a.0) (cond b (find (λ m. m.c.0 == t) (members_in (session_in k.sessions (fields_at k t).session))) None)) member ∙ ap (option_map (λ (m : Member). m.a.0)) its
+
+        counted : (fields_at k t).member ≡ true → (x : Session) (m : Member) → In x k.sessions → In m x.members → m.c.0 ≡ t → (left_by k t ≡ Some m.a.0) × ((fields_at k t).session ≡ x.number)
+        counted member x m listed here is = (by-flag member m (its-member x m listed here is member), session-of x m listed here is member)
+
+        named : (p : ℕ) → left_by k t ≡ Some p → TargetOf k t p (fields_at k t).session
+        named p h =
+            let member = left-is (fields_at k t).member refl p h in
+            let c = (s.attempts.volumes t).counted (ap (λ b. b || (fields_at k t).revertible) member) in
+            record {
+              place = record { session = c.session; listed = c.listed; number = c.number; member = c.member; here = c.here; is = some_is (sym (by-flag member c.member (its-member c.session c.member c.listed c.here c.is member)) ∙ h) };
+              target = c.is;
+            }
 
   -- a volume without a revertible target may become a secondary
   pub may-follow : (v : ℕ) → ((u : ℕ) → from w u ≡ Some v → (fields_at k u).revertible ≡ true → ⊥) → MayFollow k v

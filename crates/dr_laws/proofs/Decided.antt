@@ -85,7 +85,7 @@ module _ (w : World) (s : Sound w) (on : ℕ → Bool) (fuse : ℕ → Option Fu
         (λ q h. let c = counts-so (record { sequence = q; revertible = false }) h in c.sequence ∙ share.same c.one (among _ c) c.counted (sym c.revertible))
         e
 
-  decides-by : (o : Option Session) → session_in k.sessions n ≡ o → (a b : ℕ) → decision (shown_on w device n) ≢ Impossible a b
+  pub decides-by : (o : Option Session) → session_in k.sessions n ≡ o → (a b : ℕ) → decision (shown_on w device n) ≢ Impossible a b
   decides-by (Some x) found a b e = possible x found a b e
   decides-by None none a b e =
       never-impossible (shown_on w device n) 0 0 a b (λ q h. absurd (empty (record { sequence = q; revertible = true }) h)) (λ q h. absurd (empty (record { sequence = q; revertible = false }) h)) e

@@ -22,7 +22,7 @@ use Rattle.dr_model.specs.Attempts.{MayGo, GoesAs, NoneRevertible, seen, seen_in
 use Rattle.dr_model.specs.Laws.{FlashFits, PartnerFits, Sound}
 use Rattle.dr_model.specs.Allowed.{Runs}
 use Rattle.dr_groups.specs.Frames.{Framed, NoPlace}
-use Rattle.dr_groups.proofs.Lists.{from-filter, to-map}
+use Rattle.dr_groups.proofs.Lists.{some_is, from-filter, to-map}
 use Rattle.dr_groups.proofs.Changes.{session-found, same-session}
 use Rattle.dr_groups.proofs.Sound.{quiet-of}
 use Rattle.dr_phases.proofs.Tables.{quiet-unflashed}
@@ -244,9 +244,13 @@ module _ (w : World) (s : Sound w) where
         plain = quiet (seen (roles w.control) m) (to-map (seen (roles w.control)) x.members m here);
         settled = λ member y q h j e. subst (λ z. NoneRevertible (seen_in w.control z)) (lone y q h j e) quiet;
       } in
-      let goes : GoesAs w.control m.c.0 (Some m.a.0) i = λ member y q h j e.
-      let one = s.groups.lone.one m.c.0 x y m q listed h here j (inr (inr refl)) (inr (inr (sym e))) in
-      (ap (λ (q : Member). Some q.a.0) one.1, sym (session-found w.control.sessions i x found).1 ∙ one.0) in
+      let there : (x.number ≡ i) = (session-found w.control.sessions i x found).1 in
+      let goes : GoesAs w.control m.c.0 (Some m.a.0) i = record {
+        counted = λ member y q h j e.
+            let one = s.groups.lone.one m.c.0 x y m q listed h here j (inr (inr refl)) (inr (inr (sym e))) in
+            (ap (λ (q : Member). Some q.a.0) one.1, sym there ∙ one.0);
+        named = λ p e. record { place = record { session = x; listed = listed; number = there; member = m; here = here; is = some_is e }; target = refl };
+      } in
       record {
         ends = Gone m;
         complete = λ v e. e.kept.sound;

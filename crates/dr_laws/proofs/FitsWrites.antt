@@ -204,7 +204,7 @@ module _ (w : World) (s : Sound w) (p : Pending) (one : filter (is_write p.w) w.
         }))
 
   -- whichever it is
-  module _ (free : is_part f.secondary ≡ false) (settled : is_settled v w.control ≡ true) where
+  module _ (free : is_part f.secondary ≡ false) (writable : is_open v w.control ≡ true) (settled : is_settled v w.control ≡ true) where
     abbrev there : ℕ
     there = partner_of w.control v
 
@@ -225,7 +225,7 @@ module _ (w : World) (s : Sound w) (p : Pending) (one : filter (is_write p.w) w.
     lands-by true g c on_hold is not = over w s
     lands-by false true c on_hold is not = goes-over (and_parts (is_metro f.primary) _ is).0 (or_parts f.coordination f.long_busy on_hold).0 (is_parted w.control v) refl
     lands-by false false true on_hold is hits = collided w s p one on free settled (or_parts f.coordination f.long_busy on_hold).0 hits
-    lands-by false false false on_hold is not = lands-alone w s p one on free settled (or_parts f.coordination f.long_busy on_hold).0 (was-sent not) f.related refl
+    lands-by false false false on_hold is not = lands-alone w s p one on free writable settled (or_parts f.coordination f.long_busy on_hold).0 (was-sent not) f.related refl
 
 -- a pending write is carried out
 pub lands : (w : World) (s : Sound w) (p : Pending) → filter (is_write p.w) w.control.pending ≡ p ∷ [] → Along w (landing w.control p.w p.volume p.track)
@@ -236,7 +236,7 @@ lands w s p one =
     dropped-checked w p.w (is_no_secondary v) _ _ s (unlanded w s p one on) refl (λ free.
     dropped-checked w p.w (is_open v) _ _ s (unlanded w s p one on) refl (λ open_to.
     dropped-checked w p.w (is_settled v) _ _ s (unlanded w s p one on) refl (λ settled.
-    lands-by w s p one on (not-true (is_part f.secondary) free) settled (held f) (goes_over f p.track) (collides f p.track) refl refl refl))))
+    lands-by w s p one on (not-true (is_part f.secondary) free) open_to settled (held f) (goes_over f p.track) (collides f p.track) refl refl refl))))
 
 -- where a server stopped in it, a primary whose own server runs is suspended
 pub parts-after : (v server : ℕ) (w : World) → Sound w → Along w (part_after v server)

@@ -1,6 +1,6 @@
 -- A pending write comes to land: where its volume's server is on and the volume is a place for it, it may.
 use Rattle.std.proofs.Common.{ℕ, ◌≡◌, refl, ap, sym, ◌∙◌, subst, Bool, true, false, cond, ◌&&◌, List, [], ◌∷◌, ◌++◌, map, filter, Some, None}
-use Rattle.std.proofs.lemmas.Bool.{false_from_ne_true, eqb-true, ne_eqb, or_parts}
+use Rattle.std.proofs.lemmas.Bool.{false_from_ne_true, eqb-true, ne_eqb, not-true, or_parts}
 use Rattle.std.specs.List.{find}
 use Rattle.std.specs.FinSet.{contains}
 use Rattle.dr_ids.specs.declared.refusal.Refusal.{Refusal}
@@ -9,9 +9,10 @@ use Rattle.dr_model.specs.Histories.{histories}
 use Rattle.dr_model.specs.Control.{Control, Pending, Volume, World}
 use Rattle.dr_model.specs.Moves.{Land, Overwrite, is_write}
 use Rattle.dr_model.specs.Carry.{Make, Drop, dropped, Pass, Do, Entry, check}
-use Rattle.dr_model.specs.Entries.{fields_at, is_settled, is_revertible, is_reversing, stands_in, copies_from, keep_on, land_on, land_alone, drop_unless, check_or_drop}
+use Rattle.dr_model.specs.Entries.{fields_at, is_open, is_settled, is_revertible, is_reversing, stands_in, copies_from, keep_on, land_on, land_alone, drop_unless, check_or_drop}
 use Rattle.dr_model.specs.Laws.{Sound, Waits, AllPending, Apart}
 use Rattle.dr_model.specs.Allowed.{Coming, MayAck, Runs}
+use Rattle.dr_phases.proofs.Moves.{uncounted-by}
 use Rattle.dr_laws.proofs.Sets.{false_true, none_some, no_source, has_source, from_source}
 use Rattle.dr_laws.proofs.RowsAfter.{idle}
 use Rattle.dr_laws.proofs.KeepsQueue.{all-filter}
@@ -132,18 +133,19 @@ module _ (w : World) (s : Sound w) (p : Pending) (one : filter (is_write p.w) w.
       ))
       (λ u h r. absurd (still u h r)) settled s
 
-  -- on a target, which isn't restored
-  target-lands : Runs w v → f.related ≡ true → f.reversing ≡ false → f.revertible ≡ false → Along w (land_alone w.control.volumes p.w v p.track)
-  target-lands on is forward settled =
+  -- on a target, which isn't restored, and on which the host may write: so it doesn't count in a session
+  target-lands : Runs w v → f.related ≡ true → f.reversing ≡ false → f.revertible ≡ false → f.inhibited ≡ false → Along w (land_alone w.control.volumes p.w v p.track)
+  target-lands on is forward settled writable =
       let related : from w v ≡ Some f.source = has_source f.related f.source is in
       copy-none w v p.track _ (λ u h. none_some (s.rows.structure.flash u v h).plain related)
       (decides w (land_on p.w v p.track) [] (Do (Make (Overwrite p.w v p.track))) (ap (λ b. Do (Make (cond b (Overwrite p.w v p.track) (Land p.w v p.track)))) is) (
-        record { runs = on; allowed = record { low = (waits w s p one).low; from = f.source; related = related; forward = forward; settled = settled }; fits = tt; group = (s.rows.structure.flags v).persists; ready = may-ack w s p one on },
+        record { runs = on; allowed = record { low = (waits w s p one).low; from = f.source; related = related; forward = forward; settled = settled }; fits = tt; group = ((s.rows.structure.flags v).persists, uncounted-by w.control s.attempts v (λ t. false_true writable t.inhibits)); ready = may-ack w s p one on },
         λ f j. over _ j,
       )) w.control.volumes
 
   -- on either: a volume that is settled isn't restored, nor is another onto it
-  pub lands-alone : Runs w v → is_part f.secondary ≡ false → is_settled v w.control ≡ true → f.coordination ≡ false → (f.recording ≡ true → contains f.out_of_sync p.track ≡ false) → (b : Bool) → f.related ≡ b → Along w (land_alone w.control.volumes p.w v p.track)
-  lands-alone on free settled open_to sent true is = target-lands on is (and-false f.related f.reversing (or_parts (f.related && f.reversing) _ (both-not (stands_in is_revertible w.control v) (stands_in is_reversing w.control v) settled).1).0 is)
+  pub lands-alone : Runs w v → is_part f.secondary ≡ false → is_open v w.control ≡ true → is_settled v w.control ≡ true → f.coordination ≡ false → (f.recording ≡ true → contains f.out_of_sync p.track ≡ false) → (b : Bool) → f.related ≡ b → Along w (land_alone w.control.volumes p.w v p.track)
+  lands-alone on free writable settled open_to sent true is = target-lands on is (and-false f.related f.reversing (or_parts (f.related && f.reversing) _ (both-not (stands_in is_revertible w.control v) (stands_in is_reversing w.control v) settled).1).0 is)
       (and-false f.related f.revertible (or_parts (f.related && f.revertible) _ (both-not (stands_in is_revertible w.control v) (stands_in is_reversing w.control v) settled).0).0 is)
-  lands-alone on free settled open_to sent false is = plain-lands on free is open_to sent (λ u h r. unrestored w s v settled u h r) (unflashed w s v settled)
+      (and-false f.related f.inhibited (not-true (f.related && f.inhibited) writable) is)
+  lands-alone on free writable settled open_to sent false is = plain-lands on free is open_to sent (λ u h r. unrestored w s v settled u h r) (unflashed w s v settled)

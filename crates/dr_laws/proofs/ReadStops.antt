@@ -19,8 +19,8 @@ use Rattle.dr_laws.proofs.Parts.{each-plan}
 use Rattle.dr_laws.proofs.Steps.{case-holds, sound-part}
 use Rattle.dr_laws.proofs.Along as along
 
--- where no read fuse is armed, a plan ends as it is carried out
-module _ (armed : ℕ → Bool) (none : (s : ℕ) → armed s ≡ true → ⊥) (u : World) (r : Option Refusal) where
+-- where no server went off by itself, a plan ends as it is carried out
+module _ (armed : ℕ → Bool) (u : World) (r : Option Refusal) (none : (v : World) → GoesOff armed u r v → ⊥) where
   is-end : (w : World) (end : Option Refusal) → IsEnd armed u r w end → ◌≡◌ {A = Outcome} (w, end) (u, r)
   is-end w end is = λ i. (sym is.world i, sym is.refusal i)
 
@@ -33,12 +33,19 @@ module _ (armed : ℕ → Bool) (none : (s : ℕ) → armed s ≡ true → ⊥) 
   ends-next w (End end) more rest on e = is-end w _ e
   ends-next w (Do a) more rest on e = ends-turn (act w a) more rest on e
 
-  pub ends-exact : (w : World) (ds : List Entry) → Ends armed u r w ds → carry w ds ≡ (u, r)
+  ends-by : (w : World) (ds : List Entry) → Ends armed u r w ds → carry w ds ≡ (u, r)
   unfolding carry Ends
-  ends-exact w [] (inl off) = absurd (none off.server off.is_armed)
-  ends-exact w [] (inr is) = is-end w None is
-  ends-exact w (d ∷ ds) (inl off) = absurd (none off.server off.is_armed)
-  ends-exact w (d ∷ ds) (inr e) = ends-next w (d w.control) (λ v. Ends armed u r v ds) (λ v. carry v ds) (λ v. ends-exact v ds) e
+  ends-by w [] (inl off) = absurd (none w off)
+  ends-by w [] (inr is) = is-end w None is
+  ends-by w (d ∷ ds) (inl off) = absurd (none w off)
+  ends-by w (d ∷ ds) (inr e) = ends-next w (d w.control) (λ v. Ends armed u r v ds) (λ v. carry v ds) (λ v. ends-by v ds) e
+
+-- as where no read fuse is armed, and where it ended well
+pub ends-exact : (armed : ℕ → Bool) (none : (s : ℕ) → armed s ≡ true → ⊥) (u : World) (r : Option Refusal) (w : World) (ds : List Entry) → Ends armed u r w ds → carry w ds ≡ (u, r)
+ends-exact armed none u r = ends-by armed u r (λ v off. none off.server off.is_armed)
+
+pub ends-well : (armed : ℕ → Bool) (u w : World) (ds : List Entry) → Ends armed u None w ds → carry w ds ≡ (u, None)
+ends-well armed u = ends-by armed u None (λ v off. let e : None ≡ Some (stopped off.server) = off.refusal in absurd cc)
 
 -- where an entry is skipped, done, or stopped, and where a server goes off
 module _ (armed : ℕ → Bool) (u : World) (r : Option Refusal) where

@@ -17,7 +17,7 @@ use Rattle.dr_groups.proofs.Lists.{from-filter, any-some}
 use Rattle.dr_laws.specs.Decided.{record_on}
 use Rattle.dr_laws.specs.Recovered.{Records, decided_over, goes_back, remains_in, number_after, view_before, common, recovered_in, recovered_on, TellsRecovery, SameRecovery, HoldsTracks}
 use Rattle.dr_laws.proofs.Views.{shown-due}
-use Rattle.dr_laws.proofs.Recovers.{filter-same, map-same, is-revertible}
+use Rattle.dr_laws.proofs.RecoverySame.{filter-same, map-same, is-revertible}
 use Rattle.dr_laws.proofs.Sets.{from_source}
 
 -- by records that are the same of each volume, what is decided and what remains are the same

@@ -1,7 +1,7 @@
 -- Along a recovery, wherever a server stops in it, and where reads fail: another one makes the same of the session.
-use Rattle.std.proofs.Common.{ℕ, ◌≡◌, ◌≢◌, inl, inr, nat_eq, refl, ap, sym, ◌∙◌, subst, Bool, true, false, cond, ◌||◌, List, [], ◌∷◌, ◌++◌, map, filter, take, length, Option, Some, None, rules}
+use Rattle.std.proofs.Common.{ℕ, ◌≡◌, inl, inr, refl, ap, sym, ◌∙◌, subst, Bool, true, false, cond, ◌||◌, List, [], ◌∷◌, ◌++◌, map, take, length, Option, Some, None}
 use Rattle.std.specs.Prelude.{◌&&◌, ◌==◌}
-use Rattle.std.proofs.lemmas.Bool.{and_parts, eqb-true, false_from_ne_true}
+use Rattle.std.proofs.lemmas.Bool.{or_right}
 use Rattle.std.proofs.lemmas.Bool.Decides.{eqb_tells}
 use Rattle.std.proofs.Math.Seq.{take-length}
 use Rattle.dr_ids.specs.declared.names.Member.{Member}
@@ -14,7 +14,7 @@ use Rattle.dr_model.specs.Refusals.{unknown}
 use Rattle.dr_model.specs.declared.event.Event.{Event}
 use Rattle.dr_model.specs.Histories.{histories}
 use Rattle.dr_model.specs.Layout.{Fields, is_part}
-use Rattle.dr_model.specs.Decisions.{Shown, numbers_in, decision}
+use Rattle.dr_model.specs.Decisions.{Shown, decision}
 use Rattle.dr_model.specs.Control.{Control, Fuse, Pending, Volume, World}
 use Rattle.dr_model.specs.Relations.{committed, reverted}
 use Rattle.dr_model.specs.Pairs.{taken_over}
@@ -34,22 +34,17 @@ use Rattle.dr_model.specs.PlanParts.{Plan, refuses, unless, on_session, entries_
 use Rattle.dr_model.specs.Carried.{begun, finish, after_plan}
 use Rattle.dr_model.specs.Sessions.{Session, session_in, members_in}
 use Rattle.dr_model.specs.Groups.{In}
-use Rattle.dr_model.specs.Attempts.{roles, seen, seen_in, NoneCommitted, Attempts}
+use Rattle.dr_model.specs.Attempts.{seen_in, NoneCommitted, Attempts}
 use Rattle.dr_model.specs.Table.{table, due}
 use Rattle.dr_model.specs.Rows.{after, next_due}
 use Rattle.dr_model.specs.Laws.{SoundRows, Sound, sizes}
 use Rattle.dr_model.specs.Allowed.{Allowed, May}
 use Rattle.dr_groups.specs.Frames.{Moves}
-use Rattle.dr_groups.proofs.Lists.{from-filter, found as found-one}
+use Rattle.dr_groups.proofs.Lists.{found as found-one}
 use Rattle.dr_groups.proofs.Changes.{session-found}
-use Rattle.dr_model.proofs.Images.{at_other}
-use Rattle.dr_phases.proofs.Facts.{rev-counts}
-use Rattle.dr_phases.proofs.Tables.{counts-here}
-use Rattle.dr_laws.proofs.Sets.{false_true}
-use Rattle.dr_laws.specs.BothViews.{IsRevertible, Settles}
-use Rattle.dr_laws.specs.Recovered.{decided_over, goes_back, remains_in, number_after, view_before, common, recovery_by, recovered_in, SameRecovery, KeepsRecovery}
-use Rattle.dr_model.specs.Views.{view}
-use Rattle.dr_laws.proofs.AtLemmas.{at_cases, at_part}
+use Rattle.dr_laws.specs.BothViews.{Settles}
+use Rattle.dr_laws.specs.Recovered.{decided_over, remains_in, number_after, recovered_in, SameRecovery, KeepsRecovery}
+use Rattle.dr_laws.proofs.AtLemmas.{at_cases}
 use Rattle.dr_laws.proofs.Turns.{next_of, carried_in, done, done_in_stop, after_act}
 use Rattle.dr_laws.proofs.RowsAfter.{table-done, table-stop}
 use Rattle.dr_laws.proofs.KeepsSound.{Along, Then, MayDo, keeps-sound, sound-done, sound-stop}
@@ -59,73 +54,8 @@ use Rattle.dr_laws.proofs.Cases.{or-passed}
 use Rattle.dr_laws.proofs.Rides.{Rides, Both, keeps-with, along-with}
 use Rattle.dr_laws.proofs.Recovered.{Alike, alike-refl, alike-then, alike-still, alike-away, alike-committed, alike-reverted}
 use Rattle.dr_laws.proofs.DecidedOver.{members-decide, some-commits, none-reverts, commit-some, revert-none}
+use Rattle.dr_laws.proofs.RecoverySame.{recovery-same, is-revertible, elsewhere, left-away, part-stays, decided-still, others-count, decided-away}
 use Rattle.dr_laws.proofs.Along as along
-
--- ---- lists
-
-pub filter-same : (p q : ℕ → Bool) (xs : List ℕ) → ((x : ℕ) → In x xs → p x ≡ q x) → filter p xs ≡ filter q xs
-filter-same p q [] same = refl
-filter-same p q (x ∷ xs) same = (λ i. cond (same x (inl refl) i) (x ∷ filter p xs) (filter p xs)) ∙ ap (λ ys. cond (q x) (x ∷ ys) ys) (filter-same p q xs (λ y h. same y (inr h)))
-
-pub map-same : {Y : Type 0} (f g : ℕ → Y) (xs : List ℕ) → ((x : ℕ) → In x xs → f x ≡ g x) → map f xs ≡ map g xs
-map-same f g [] same = refl
-map-same f g (x ∷ xs) same = λ i. same x (inl refl) i ∷ map-same f g xs (λ y h. same y (inr h)) i
-
--- ---- what a recovery makes is a matter of who goes back
-
--- the same of a volume that counts and is revertible, and no matter of another one
-back-same : (s : ℕ) (b c : Bool) (f : Fields) → (counts_in s f ≡ true → f.revertible ≡ true → b ≡ c) → counts_in s f ≡ true → goes_back b f ≡ goes_back c f
-back-same s b c f same counted = by f.revertible refl
-  where
-    by : (r : Bool) → f.revertible ≡ r → (b && r) ≡ (c && r)
-    by true is = ap (λ b. b && true) (same counted is)
-    by false is = grind rules
-
-remains-same : (s : ℕ) (b c : Bool) (f : Fields) → (counts_in s f ≡ true → f.revertible ≡ true → b ≡ c) → remains_in s b f ≡ remains_in s c f
-remains-same s b c f same = by (counts_in s f) refl
-  where
-    by : (n : Bool) → counts_in s f ≡ n → (n && cond (goes_back b f) f.member true) ≡ (n && cond (goes_back c f) f.member true)
-    by true is = ap (λ g. cond g f.member true) (back-same s b c f same is)
-    by false is = refl
-
-remains-counts : (s : ℕ) (b : Bool) (f : Fields) → remains_in s b f ≡ true → counts_in s f ≡ true
-remains-counts s b f h = (and_parts (counts_in s f) (cond (goes_back b f) f.member true) h).0
-
--- by truth values that agree where a volume counts and is revertible, and records that are alike, a recovery makes the same
-recovery-same : (s : ℕ) (b c : Bool) (w u : World) → u.control.volumes ≡ w.control.volumes → ((v : ℕ) → In v u.control.volumes → counts_in s (fields_at u.control v) ≡ true → (fields_at u.control v).revertible ≡ true → b ≡ c)
-    → Alike s c (table w) (table u) → SameRecovery (sizes w.control) (recovery_by c (fields_at w.control) w.contents w.control.volumes s) (recovery_by b (fields_at u.control) u.contents u.control.volumes s)
-recovery-same s b c w u volumes agree alike = record {
-  remaining = remaining;
-  group = ap (λ ns. common (numbers_in ns)) (ap (map (λ v. number_after b (fields_at u.control v))) remaining ∙ map-same _ _ (rest w) (λ v h. number v (from-filter _ w.control.volumes v h)));
-  images = λ v t h lt. let f = from-filter _ w.control.volumes v h in
-      ap (λ g. cond g (view_before (fields_at u.control) u.contents v t) (view (fields_at u.control) u.contents v t)) (back v f.0 f.1) ∙ (alike v).image t f.1 lt;
-}
-  where
-    rest : World → List ℕ
-    rest x = filter (λ v. remains_in s c (fields_at x.control v)) w.control.volumes
-
-    there : (v : ℕ) → In v w.control.volumes → In v u.control.volumes
-    there v h = subst (In v) (sym volumes) h
-
-    remaining : filter (λ v. remains_in s b (fields_at u.control v)) u.control.volumes ≡ filter (λ v. remains_in s c (fields_at w.control v)) w.control.volumes
-    remaining = ap (filter (λ v. remains_in s b (fields_at u.control v))) volumes
-        ∙ filter-same _ _ w.control.volumes (λ v h. remains-same s b c (fields_at u.control v) (agree v (there v h)) ∙ (alike v).remains)
-
-    back : (v : ℕ) → In v w.control.volumes → remains_in s c (fields_at w.control v) ≡ true → goes_back b (fields_at u.control v) ≡ goes_back c (fields_at u.control v)
-    back v h r = back-same s b c (fields_at u.control v) (agree v (there v h)) (remains-counts s c (fields_at u.control v) ((alike v).remains ∙ r))
-
-    number : (v : ℕ) → In v w.control.volumes × (remains_in s c (fields_at w.control v) ≡ true) → number_after b (fields_at u.control v) ≡ number_after c (fields_at w.control v)
-    number v f = ap (λ g. cond g (fields_at u.control v).previous_sequence (fields_at u.control v).sequence) (back v f.0 f.1) ∙ (alike v).number f.1
-
--- a revertible target has a source
-pub is-revertible : (u : World) → Attempts u.control → (v : ℕ) → (fields_at u.control v).revertible ≡ true → IsRevertible (table u) v
-is-revertible u law v h =
-    let t = (law.volumes v).counted (or-right (fields_at u.control v).member (fields_at u.control v).revertible h) in
-    record { from = t.member.b.0; related = t.source; revertible = h }
-  where
-    or-right : (a b : Bool) → b ≡ true → (a || b) ≡ true
-    or-right true b h = refl
-    or-right false b h = h
 
 module _ (w : World) (s : ℕ) where
   abbrev pub reverts : World → Bool
@@ -181,10 +111,6 @@ module _ (w : World) (s : ℕ) where
     alike : Alike s (reverts w) (table u) (after (histories u.events).write (table u) m) → Alike s (reverts w) (table w) (table j)
     alike a = alike-then s (reverts w) (table w) (table u) (table j) k.alike (subst (Alike s (reverts w) (table u)) (sym rows) a)
 
-    -- a part of records that the move leaves
-    part : {Y : Type 0} (g : Fields → Y) → g (next_of u m) ≡ g (fields_at u.control (target m)) → (v : ℕ) → g (fields_at j.control v) ≡ g (fields_at u.control v)
-    part g same v = ap (λ (x : ℕ → Volume). g (x v).fields) moves.volume ∙ at_part (λ (y : Volume). g y.fields) u.control.volume (target m) (moved (u.control.volume (target m)) (next_of u m) (carried_in u m)) same v
-
     -- a move that leaves what is read of its volume
     pub keeps-still : SoundRows (table u) → Attempts u.control → Allowed (histories u.events).write (table u) m → counts_in s (next_of u m) ≡ counts_in s (fields_at u.control (target m)) → shown_of (next_of u m) ≡ shown_of (fields_at u.control (target m))
         → remains_in s (reverts w) (next_of u m) ≡ remains_in s (reverts w) (fields_at u.control (target m)) → number_after (reverts w) (next_of u m) ≡ number_after (reverts w) (fields_at u.control (target m))
@@ -194,8 +120,8 @@ module _ (w : World) (s : ℕ) where
       sessions = sessions ∙ k.sessions;
       plain = plain (λ h. flag ∙ k.plain (target m) h);
       alike = alike (alike-still s (reverts w) (histories u.events).write (table u) sound (is-revertible u law) m allowed remains number (ap (λ b. reverts w && b) flag) none dues);
-      decides = λ v h c r. (λ i. lets_revert (decision (map (λ v. part shown_of shows v i) (filter (λ v. part (counts_in s) counted v i) (moves.volumes i)))))
-          ∙ k.decides v (subst (In v) moves.volumes h) (sym (part (counts_in s) counted v) ∙ c) (sym (part (λ (f : Fields). f.revertible) flag v) ∙ r);
+      decides = λ v h c r. ap lets_revert (decided-still s u j m moves counted shows)
+          ∙ k.decides v (subst (In v) moves.volumes h) (sym (part-stays s u j m moves (counts_in s) counted v) ∙ c) (sym (part-stays s u j m moves (λ (f : Fields). f.revertible) flag v) ∙ r);
     }
       where
         flag : (next_of u m).revertible ≡ (fields_at u.control (target m)).revertible
@@ -208,33 +134,16 @@ module _ (w : World) (s : ℕ) where
       sessions = sessions ∙ k.sessions;
       plain = plain (λ h. flag);
       alike = alike (alike-away s (reverts w) (histories u.events).write (table u) sound (is-revertible u law) m allowed before then_not);
-      decides = λ v h c r. ap lets_revert decided ∙ k.decides v (subst (In v) moves.volumes h) (sym (counted v) ∙ c) (sym (ap (λ (f : Fields). f.revertible) (still v (sym (counted v) ∙ c))) ∙ r);
+      decides = λ v h c r. ap lets_revert (decided-away s u j m moves before then_not)
+          ∙ k.decides v (subst (In v) moves.volumes h) (sym (counted v) ∙ c) (sym (ap (λ (f : Fields). f.revertible) (others-count s u j m moves before v (sym (counted v) ∙ c))) ∙ r);
     }
       where
         counted : (v : ℕ) → counts_in s (fields_at j.control v) ≡ counts_in s (fields_at u.control v)
-        counted = part (counts_in s) (then_not ∙ sym before)
-
-        still : (v : ℕ) → counts_in s (fields_at u.control v) ≡ true → fields_at j.control v ≡ fields_at u.control v
-        still v c = ap (λ (x : ℕ → Volume). (x v).fields) moves.volume
-            ∙ ap (λ (y : Volume). y.fields) (at_other u.control.volume (target m) (moved (u.control.volume (target m)) (next_of u m) (carried_in u m)) v (λ e. false_true (subst (λ v. counts_in s (fields_at u.control v) ≡ false) (sym e) before) c))
-
-        decided : decided_over (fields_at j.control) j.control.volumes s ≡ decided_over (fields_at u.control) u.control.volumes s
-        decided = ap decision
-            ((λ i. map (λ v. shown_of (fields_at j.control v)) (filter (λ v. counted v i) (moves.volumes i)))
-            ∙ map-same (λ v. shown_of (fields_at j.control v)) (λ v. shown_of (fields_at u.control v)) (filter (λ v. counts_in s (fields_at u.control v)) u.control.volumes) (λ v h. ap shown_of (still v (from-filter (λ v. counts_in s (fields_at u.control v)) u.control.volumes v h).1)))
+        counted = part-stays s u j m moves (counts_in s) (then_not ∙ sym before)
 
   module _ (u j : World) (sound : Sound u) (after_sound : Sound j) (sessions : j.control.sessions ≡ u.control.sessions) (k : Keeps u) where
     keeps-taken : (b : ℕ) → May u (TakeOver b) → table j ≡ after (histories u.events).write (table u) (TakeOver b) → Moves u.control j.control b (taken_over (fields_at u.control b)) None → Keeps j
     keeps-taken b may rows moves = keeps-still u j sessions k (TakeOver b) rows moves sound.rows sound.attempts may.allowed refl refl refl refl (λ n. n) (λ t. refl)
-
-    -- a member's target counts in no other session
-    elsewhere : (c i : ℕ) (q : Member) (x : Session) → In x u.control.sessions → x.number ≡ i → In q x.members → q.c.0 ≡ c → (fields_at u.control c).revertible ≡ true → i ≢ s → nat_eq (fields_at u.control c).session s ≡ false
-    elsewhere c i q x listed number here is flag ne = false_from_ne_true _ (λ e. ne (sym number ∙ (sym own ∙ eqb-true (fields_at u.control c).session s e)))
-      where
-        own : (fields_at u.control c).session ≡ x.number
-        own = subst (λ c. (fields_at u.control c).session ≡ x.number) is
-            (eqb-true (fields_at u.control q.c.0).session x.number (and_parts (nat_eq (fields_at u.control q.c.0).session x.number) ((fields_at u.control q.c.0).member || (fields_at u.control q.c.0).revertible)
-            (counts-here u.control sound.groups sound.attempts x q listed here (rev-counts (seen (roles u.control) q) (ap (λ c. (fields_at u.control c).revertible) is ∙ flag)))).0)
 
     keeps-committed : (c a i n : ℕ) → May u (Commit c a i n) → (i ≡ s) × (reverts w ≡ false) → table j ≡ after (histories u.events).write (table u) (Commit c a i n) → Moves u.control j.control c (committed n (fields_at u.control c)) None → Keeps j
     keeps-committed c a i n may fit rows moves =
@@ -273,23 +182,19 @@ module _ (w : World) (s : ℕ) where
               ∙ sym fit.1;
         }
 
-    left-away : (b : Bool) (i : ℕ) → nat_eq i s ≡ false → (nat_eq (cond b i 0) s && (b || false)) ≡ false
-    left-away true i none = ap (λ b. b && true) none
-    left-away false i none = grind rules
-
     keeps-moved : (m : Move) → May u m → Fit (Make m) → table j ≡ after (histories u.events).write (table u) m → Moves u.control j.control (target m) (next_of u m) (carried_in u m) → Keeps j
     keeps-moved (TakeOver b) may fit rows moves = keeps-taken b may rows moves
     keeps-moved (Commit c a i n) may fit rows moves = elim (eqb_tells i s) [
       | inl is ↦ keeps-committed c a i n may (is.1, fit is.1) rows moves
       | inr not ↦ let p = may.group.place in
-          let none = elsewhere c i p.member p.session p.listed p.number p.here may.group.target may.group.revertible not.1 in
+          let none = elsewhere u sound s c i p.member p.session p.listed p.number p.here may.group.target (or_right (fields_at u.control c).member _ may.group.revertible) not.1 in
           keeps-away u j sessions k (Commit c a i n) rows moves sound.rows sound.attempts may.allowed (ap (λ b. b && ((fields_at u.control c).member || (fields_at u.control c).revertible)) none) (ap (λ b. b && true) none) refl
     ]
     keeps-moved (Revert c a i n) may fit rows moves = elim (eqb_tells i s) [
       | inl is ↦ keeps-reverted c a i n may (is.1, fit is.1) rows moves
       | inr not ↦ let p = may.group.place in
-          let none = elsewhere c i p.member p.session p.listed p.number p.here may.group.target may.group.revertible not.1 in
-          keeps-away u j sessions k (Revert c a i n) rows moves sound.rows sound.attempts may.allowed (ap (λ b. b && ((fields_at u.control c).member || (fields_at u.control c).revertible)) none) (left-away (fields_at u.control c).member (fields_at u.control c).session none) refl
+          let none = elsewhere u sound s c i p.member p.session p.listed p.number p.here may.group.target (or_right (fields_at u.control c).member _ may.group.revertible) not.1 in
+          keeps-away u j sessions k (Revert c a i n) rows moves sound.rows sound.attempts may.allowed (ap (λ b. b && ((fields_at u.control c).member || (fields_at u.control c).revertible)) none) (left-away s (fields_at u.control c).member (fields_at u.control c).session none) refl
     ]
     keeps-moved m may fit rows moves = absurd fit
 
@@ -395,7 +300,7 @@ module _ (w : World) (sound : Sound w) (s : ℕ) where
   refused-goes : (r : Refusal) → Goes (refuses r)
   refused-goes r = record { begun_as = refl; entries = along.along-nil Inner Inner Inner (MayFit w s) (as_begun w) begins; last = λ k. refl; follows = λ q. refl }
 
-  decided-is : (r : ℕ) (x : Session) → session_in w.control.sessions r ≡ Some x → decided_in r w.control ≡ decided_over (fields_at w.control) w.control.volumes r
+  pub decided-is : (r : ℕ) (x : Session) → session_in w.control.sessions r ≡ Some x → decided_in r w.control ≡ decided_over (fields_at w.control) w.control.volumes r
   decided-is r x found =
       let there = session-found w.control.sessions r x found in
       ap (λ o. decision (shown_by_members r (members_in o) w.control)) found ∙ members-decide w.control sound.groups sound.attempts r x there.0 there.1
@@ -500,6 +405,10 @@ module _ (w : World) (sound : Sound w) (s : ℕ) where
 
   pub recover-keeps : (r : ℕ) → KeepsRecovery w (recover_plan w.control r) s
   recover-keeps r = plan-keeps (recover_plan w.control r) (goes-recover r)
+
+  -- where it ended, with what follows, where servers may go off by themselves
+  pub recover-stays : (r : ℕ) (armed : ℕ → Bool) (u : World) (o : Option Refusal) → Ends armed u o (begun w (recover_plan w.control r)) (recover_plan w.control r).entries → Same (finish (recover_plan w.control r) u o)
+  recover-stays r armed u o e = ends-same (recover_plan w.control r) (goes-recover r) u o (plan-ends (recover_plan w.control r) (goes-recover r) armed u o e)
 
   pub hand-keeps : (dev : Option Name) (lets : Decision → Bool) (b : ℕ) → KeepsRecovery w (settle_plan w.control dev lets b) s
   hand-keeps dev lets b = plan-keeps (settle_plan w.control dev lets b) (goes-hand dev lets b)

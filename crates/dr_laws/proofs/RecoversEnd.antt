@@ -31,7 +31,8 @@ use Rattle.dr_laws.proofs.AtLemmas.{at_cases}
 use Rattle.dr_laws.proofs.Turns.{next_of, carried_in, done}
 use Rattle.dr_laws.proofs.FitsFlash.{as_begun}
 use Rattle.dr_laws.proofs.DecidedOver.{members-decide, turns, turns-last, counts-plain, counts-one, plain-group}
-use Rattle.dr_laws.proofs.Recovers.{filter-same, map-same, MayFit, Inner, each-act, begins, done-goes, reverts, keeps-recovery}
+use Rattle.dr_laws.proofs.RecoverySame.{filter-same, map-same}
+use Rattle.dr_laws.proofs.Recovers.{MayFit, Inner, each-act, begins, done-goes, reverts, keeps-recovery}
 use Rattle.dr_laws.proofs.Along as along
 
 module _ (w : World) (sound : Sound w) (s : ℕ) (x : Session) (found : session_in w.control.sessions s ≡ Some x) where
@@ -234,6 +235,9 @@ module _ (w : World) (sound : Sound w) (s : ℕ) (x : Session) (found : session_
         let u : World = (carry (begun w p) p.entries).0 in
         let e = ended none in
         ap (λ (q : Plan). q.says u.control) is ∙ (λ i. says_group (over-is i) (group-is u e.0 e.1.0 i))
+
+    pub group-ended : (carry (begun w p) p.entries).1 ≡ None → group_of (decided_in s (carry (begun w p) p.entries).0.control) ≡ (recovered_in w s).group
+    group-ended none = let e = ended none in group-is (carry (begun w p) p.entries).0 e.0 e.1.0
 
     pub has-ended : (carry (begun w p) p.entries).1 ≡ None → HasRecovered w (carry (begun w p) p.entries).0 s
     has-ended none = let e = ended none in has-recovered (carry (begun w p) p.entries).0 e.0 e.1.0

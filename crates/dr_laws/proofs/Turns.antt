@@ -48,20 +48,20 @@ abbrev pub fused : World → ℕ → Option Fuse → World
 fused w s f = record w { control = record w.control { fuse = at w.control.fuse s f } }
 
 -- a turn, by what decides it
-abbrev ended_by : World → Move → Bool → Bool → Bool → Ended
+abbrev pub ended_by : World → Move → Bool → Bool → Bool → Ended
 ended_by w m on passes counts =
     let s : ℕ = server_at w (target m) in
     cond (not on) (ended w true false)
     (cond passes (ended (spent (moved_in w m) s (writes (carried_in w m))) false true)
     (cond counts (ended (off (moved_in w m) s) true true) (ended (off w s) true false)))
 
-abbrev turn_by : World → Move → Bool → Bool → Bool → Turn
+abbrev pub turn_by : World → Move → Bool → Bool → Bool → Turn
 turn_by w m on passes counts =
     let u : Volume = w.control.volume (target m) in
     let e : Ended = ended_by w m on passes counts in
     cond (not on) (w, None) (cond e.stopped (cut_short e.world m u e.done, Some u.server) (finished e.world m u, None))
 
-turn-by : (w : World) (m : Move) → let u : Volume = w.control.volume (target m) in
+pub turn-by : (w : World) (m : Move) → let u : Volume = w.control.volume (target m) in
     turn w m ≡ turn_by w m (w.control.on u.server) (pass (w.control.fuse u.server) (writes (carried_in w m))) (counts_by (w.control.fuse u.server) (not u.slot))
 unfolding turn update
 turn-by w m = refl

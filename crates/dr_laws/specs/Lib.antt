@@ -7,3 +7,6 @@ pub mod BothViews
 pub mod Decided
 pub mod Example
 pub mod Recovered
+pub mod Headline
+pub mod TakenOver
+pub mod RecoveryAnswers

@@ -2,7 +2,7 @@
 //! by its contract.
 #![tactic(auto)]
 
-ghost use Rattle.std.specs.Prelude.{◌≡◌, ◌≢◌, ◌≤◌, ◌<◌, ◌+◌, ◌++◌, ◌∷◌, [], ℕ, Bool, false, List, Option, Some, None, take, length};
+ghost use Rattle.std.specs.Prelude.{◌≡◌, ◌≢◌, ◌≤◌, ◌<◌, ◌+◌, ◌++◌, ◌∷◌, [], ℕ, Bool, true, false, List, Option, Some, None, take, length};
 ghost use Rattle.dr_ids.specs.declared.names.Member.{Member};
 ghost use Rattle.dr_ids.specs.declared.refusal.Refusal.{Refusal};
 ghost use Rattle.dr_model.specs.declared.step.Devs.{Devs};
@@ -14,7 +14,6 @@ ghost use Rattle.dr_model.specs.Control.{World, Fuse};
 ghost use Rattle.dr_model.specs.Moves.{Move, Keep, Note, Fetch, Flash, Commit, Revert, target};
 ghost use Rattle.dr_model.specs.Carry.{carry};
 ghost use Rattle.dr_model.specs.Plans.{step_plan, start_plan};
-ghost use Rattle.dr_model.specs.declared.step.Name.{Name};
 ghost use Rattle.dr_ids.specs.declared.refusal.Decision.{Decision};
 ghost use Rattle.dr_model.specs.Forming.{Part, turns, most_turns};
 ghost use Rattle.dr_model.specs.Runs.{Task, plans_of, begun, after_plan, after_task, after_tasks, run};
@@ -24,6 +23,8 @@ ghost use Rattle.dr_model.specs.Rows.{after};
 ghost use Rattle.dr_model.specs.Laws.{SoundRows, Sound, shown, sizes};
 ghost use Rattle.dr_model.specs.RecoveryPlans.{recover_plan, settle_plan, secondary_refusal, says_group, group_number, lets_commit, lets_revert};
 ghost use Rattle.dr_model.specs.PlanParts.{Plan};
+ghost use Rattle.dr_model.specs.SessionPlans.{exchange_plan, asking};
+ghost use Rattle.dr_model.specs.Pairs.{is_secondary_of};
 ghost use Rattle.dr_model.specs.Entries.{fields_at};
 ghost use Rattle.dr_model.specs.declared.event.Event.{Event};
 ghost use Rattle.dr_model.specs.declared.event.Event.TheVariants.{Recovered};
@@ -47,6 +48,9 @@ ghost use Rattle.dr_laws.specs.BothViews.{IsRevertible, Settles, set_aside};
 ghost use Rattle.dr_laws.specs.Decided.{DecidesAfter};
 ghost use Rattle.dr_laws.specs.Example.{says, tells, taken};
 ghost use Rattle.dr_laws.specs.Recovered.{decided_over, recovered_in, recovered_on, SameRecovery, KeepsRecovery, HasRecovered, TellsRecovery, HoldsTracks};
+ghost use Rattle.dr_laws.specs.Headline.{Headline};
+ghost use Rattle.dr_laws.specs.RecoveryAnswers.{AnswersForCause};
+ghost use Rattle.dr_laws.specs.TakenOver.{LeavesTarget, AreTaken, TakesOverFirst};
 ghost use Rattle.dr_laws.specs.Stops.{StopsTold, refused_stop};
 ghost use Rattle.dr_laws.specs.Seals.{SealsHoldOn};
 ghost use Rattle.dr_laws.specs.Windows.{FreezeCut};
@@ -147,6 +151,16 @@ pub fn the_cuts_of_a_group_are_closed()
     ensures { (tasks : List Task) → (s n : ℕ) → ClosedCuts (run tasks).events s n }
 {}
 
+/// The headline. At the end of each run, what the devices of a plant that fits the run's world give back of each session, after the rules of
+/// commit and revert, is one cut of the host's acknowledged writes: that of the newest group whose commit any volume finished. Its
+/// volumes are the targets of the members that stand in that group, and each of their tracks shows what the host writes make that the
+/// member's primary held as it was cut. Each write of a cut was acknowledged, or stored by a secondary of Metro Mirror; each that was
+/// acknowledged before is in it, unless its track was given another list since, as by a restore; and the cuts are closed. Where no group
+/// was committed, none is given; and what is to be done is never impossible to decide.
+pub fn targets_hold_one_cut()
+    ensures { (tasks : List Task) (on : ℕ → Bool) (fuse : ℕ → Option Fuse) (device : ℕ → Blocks) → Fits (run tasks) on fuse device → HoldsTracks (run tasks) device → Headline (run tasks) device }
+{}
+
 /// At the end of each run, what recovery would decide over a session is possible: by what the devices of a plant say that fits the run's
 /// world, the targets that count in the session show one number where they are revertible, and one where they aren't.
 pub fn no_session_is_impossible_to_decide()
@@ -168,6 +182,26 @@ pub fn a_recovery_keeps_its_group()
         (carry (begun w p) p.entries).1 ≡ None → (p.says u.control ≡ says_group (decided_over (fields_at w.control) w.control.volumes s) (recovered_in w s).group) × ((es : List Event) × (u.events ≡ es ++ Recovered s (group_number (recovered_in w s).group) ∷ [])) }
     ensures devices { (w : World) (on : ℕ → Bool) (fuse : ℕ → Option Fuse) (device : ℕ → Blocks) (s : ℕ) → Sound w → Fits w on fuse device → TellsRecovery w device s }
     ensures tracks { (w : World) (on : ℕ → Bool) (fuse : ℕ → Option Fuse) (device : ℕ → Blocks) (s : ℕ) → Sound w → Fits w on fuse device → HoldsTracks w device → SameRecovery (sizes w.control) (recovered_in w s) (recovered_on w device s) }
+{}
+
+/// A recovery of a session that is defined is refused because the server of a member's secondary is off, the first of which it names, or
+/// because one of them stops in it, on which a fuse was armed. Else it comes to its end, and answers the group that recovery makes of
+/// the session, or that there is none: so where all are on and no fuse is armed on them, it always does.
+pub fn a_recovery_is_refused_for_its_causes()
+    ensures { (w : World) (x : Session) → Sound w → In x w.control.sessions → AnswersForCause w x }
+{}
+
+/// No exchange flashes, commits or reverts the target of a member whose secondary isn't its primary's: as it was taken over, and until the
+/// pair is made again, the target stays as it is, wherever servers stop. So while all of a session's are taken over, exchanges change
+/// nothing of what a recovery makes of the session. And a recovery commits or reverts none before it has taken over the secondary of each
+/// member of the session.
+pub fn what_is_taken_over_is_left()
+    ensures exchanges { (w : World) (s : ℕ) (name : Name) (reply : Bool) (x : Session) (m : Member) → Sound w → In x w.control.sessions → In m x.members → is_secondary_of m.a.0 (fields_at w.control m.b.0) ≡ false →
+        LeavesTarget w (exchange_plan w.control s name reply) m }
+    ensures turns { (w : World) (s server : ℕ) (x : Session) (m : Member) → Sound w → In x w.control.sessions → In m x.members → is_secondary_of m.a.0 (fields_at w.control m.b.0) ≡ false →
+        LeavesTarget w (asking w.control s server true) m }
+    ensures keeps { (w : World) (s : ℕ) (name : Name) (reply : Bool) (x : Session) → Sound w → In x w.control.sessions → AreTaken w x → KeepsRecovery w (exchange_plan w.control s name reply) x.number }
+    ensures recovers { (w : World) (s : ℕ) (x : Session) → Sound w → session_in w.control.sessions s ≡ Some x → TakesOverFirst w (recover_plan w.control s) x }
 {}
 
 /// At the end of each run, and so as each step begins, each secondary contains of the cut of its primary what was sent of it

@@ -335,9 +335,16 @@ pub record MayGo (k : Control) (v : ℕ) : Type 0 where
   pub plain : (fields_at k v).revertible ≡ false
   pub settled : (fields_at k v).member ≡ true → (x : Session) (m : Member) → In x k.sessions → In m x.members → m.c.0 ≡ v → NoneRevertible (seen_in k x)
 
--- and as that of its member: what is told of it names the member's primary and session
-abbrev pub GoesAs : Control → ℕ → Option ℕ → ℕ → Type 0
-GoesAs k v a s = (fields_at k v).member ≡ true → (x : Session) (m : Member) → In x k.sessions → In m x.members → m.c.0 ≡ v → (a ≡ Some m.a.0) × (s ≡ x.number)
+-- v is the target of the member of session s whose primary a is
+pub record TargetOf (k : Control) (v a s : ℕ) : Type 0 where
+  pub place : MemberOf k s a
+  pub target : place.member.c.0 ≡ v
+
+-- And as that of its member: where it is a member's, what is told of it names the member's primary and session; and it names no other
+-- member.
+pub record GoesAs (k : Control) (v : ℕ) (a : Option ℕ) (s : ℕ) : Type 0 where
+  pub counted : (fields_at k v).member ≡ true → (x : Session) (m : Member) → In x k.sessions → In m x.members → m.c.0 ≡ v → (a ≡ Some m.a.0) × (s ≡ x.number)
+  pub named : (p : ℕ) → a ≡ Some p → TargetOf k v p s
 
 -- no target of a member whose secondary v is is revertible
 abbrev pub MayFollow : Control → ℕ → Type 0
@@ -396,7 +403,7 @@ MayRaiseFloor k v n = (x : Session) (m : Member) → In x k.sessions → In m x.
 
 -- what each kind asks of sessions and phases, beside what its row gives
 abbrev pub InAttempt : Control → Move → Type 0
-InAttempt k (Overwrite w v t) = Persists (fields_at k v)
+InAttempt k (Overwrite w v t) = Persists (fields_at k v) × DoesNotCount (fields_at k v)
 InAttempt k (Keep v t) = Persists (fields_at k v)
 InAttempt k (Fetch v t) = Persists (fields_at k v)
 InAttempt k (Relate v s choices) = DoesNotCount (fields_at k v)

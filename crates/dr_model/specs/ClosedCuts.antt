@@ -1,7 +1,7 @@
 -- The group that an attempt of a session has flashed, and when the cuts of its members are closed: by places of the journal.
 use Rattle.std.specs.Prelude.{◌≡◌, ℕ, List, ◌∷◌, ◌++◌}
 use Rattle.dr_model.specs.declared.event.Event.{Event}
-use Rattle.dr_model.specs.declared.event.Event.TheVariants.{Ack, Begin, Cut, Flashed, Reverted, Left}
+use Rattle.dr_model.specs.declared.event.Event.TheVariants.{Ack, Begin, Flashed, Reverted, Left}
 use Rattle.dr_model.specs.Groups.{In}
 use Rattle.dr_model.specs.Histories.{lists}
 use Rattle.dr_model.specs.Dependence.{DependsOn}
@@ -32,9 +32,9 @@ pub record AckedBefore (events : List Event) (s n u : ℕ) : Type 0 where
   pub is : events ≡ before ++ Ack u ∷ (between ++ Begin s n ∷ behind)
   pub last : In (Begin s n) behind → ⊥
 
--- The cuts of attempt n of session s are closed. Each member of the group was cut. With a write, a cut holds all that it depends on
--- and that volumes of the group held at the last of the cuts, and all of that which was acknowledged before the attempt began. And
--- all cuts are of one moment: each is what its volume held at the last of them, on every track.
+-- The cuts of attempt n of session s are closed. Each member of the group was cut. Of the writes that volumes of the group held at the
+-- last of the cuts, a cut holds with a write all that it depends on, and all that were acknowledged before the attempt began. And all cuts
+-- are of one moment: each is what its volume held at the last of them, on every track; from this the other two follow.
 pub record ClosedCuts (events : List Event) (s n : ℕ) : Type 0 where
   pub cut : (a : ℕ) → InGroup events s n a → CutAt events s n a
   pub last : (a : ℕ) → InGroup events s n a → LastCut events s n

@@ -35,6 +35,8 @@ pub mod Laws
 pub mod Allowed
 pub mod Cuts
 pub mod ClosedCuts
+pub mod NewestGroup
+pub mod HeldWrites
 pub mod Fits
 pub mod Limits
 pub mod LineWords

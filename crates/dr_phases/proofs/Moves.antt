@@ -279,7 +279,7 @@ module _ (k : Control) (groups : Groups k) (law : Attempts k) where
   -- ---- all kinds
 
   pub keeps : (m : Move) → InAttempt k m → After (target m) (role_of (next_fields m k.volume))
-  keeps (Overwrite w v t) a = closed v (rewritten (fetched (fields_at k v) t) t) (is_whole (k.volume v).tracks (fetched (fields_at k v) t).own) refl a
+  keeps (Overwrite w v t) a = closed v (rewritten (fetched (fields_at k v) t) t) (is_whole (k.volume v).tracks (fetched (fields_at k v) t).own) refl a.0
   keeps (Keep v t) a = closed v (noted (fetched (fields_at k v) t) t) (is_whole (k.volume v).tracks (fetched (fields_at k v) t).own) refl a
   keeps (Fetch v t) a = closed v (fetched (fields_at k v) t) (is_whole (k.volume v).tracks (fetched (fields_at k v) t).own) refl a
   keeps (Relate v s choices) a = gone-uncounted v (role_of (next_fields (Relate v s choices) k.volume)) a refl refl refl refl refl refl refl refl

@@ -158,7 +158,10 @@ module _ (k : Control) (groups : Groups k) (law : Attempts k) (s : ℕ) (x : Ses
   pub expelled-leaves : busy x.mirror ≡ None → InAttempt k (Leave m.c.0 m.a.0 s)
   expelled-leaves idle = let plain = quiet-unflashed (roles k) x (quiet-of x idle) (law.sessions x there.0) in (
     record { plain = plain v seen-here; settled = λ h z q i there_q e. only (λ z q. NoneRevertible (seen_in k z)) m.c.0 (inr (inr refl)) plain z q i there_q (inr (inr (sym e))) },
-    λ h z q i there_q e. only (λ z q. (Some m.a.0 ≡ Some q.a.0) × (s ≡ z.number)) m.c.0 (inr (inr refl)) (refl, sym there.1) z q i there_q (inr (inr (sym e))),
+    record {
+      counted = λ h z q i there_q e. only (λ z q. (Some m.a.0 ≡ Some q.a.0) × (s ≡ z.number)) m.c.0 (inr (inr refl)) (refl, sym there.1) z q i there_q (inr (inr (sym e)));
+      named = λ p is. record { place = record { session = x; listed = there.0; number = there.1; member = m; here = here; is = some_is is }; target = refl };
+    },
   )
 
 -- the records of a member that comes are raised where none of its volumes has a place

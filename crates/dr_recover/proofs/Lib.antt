@@ -3,3 +3,4 @@ pub mod MemberLemmas
 pub mod PlanLemmas
 pub mod LookLemmas
 pub mod ActLemmas
+pub mod KeepsLemmas

@@ -5,7 +5,9 @@ ghost use Rattle.dr_ids.specs.declared.refusal.Refusal.{Refusal};
 ghost use Rattle.dr_model.specs.declared.event.Event.{Event};
 ghost use Rattle.dr_model.specs.ReadStops.{Ends};
 ghost use Rattle.dr_model.specs.RecoveryPlans as plans;
+ghost use Rattle.dr_model.specs.Laws.{Sound};
 ghost use Rattle.dr_model.specs.Sessions as model;
+ghost use Rattle.dr_model.specs.Sessions.{Session};
 ghost use Rattle.dr_volume.specs.View.{Rest};
 ghost use Rattle.dr_flash.specs.Checks.{is_stop};
 ghost use Rattle.dr_flash.specs.Faults.{Counted};
@@ -14,7 +16,7 @@ ghost use Rattle.dr_flash.specs.Here.{seen, refusal_of, armed_in, IsAtRest};
 ghost use Rattle.dr_coord.specs.Aside.{AsideFits};
 ghost use Rattle.dr_gmirror.specs.Exchange.{PlanEnds};
 ghost use Rattle.dr_gmirror.specs.Orders.{AreReady, with_sessions};
-ghost use Rattle.dr_recover.specs.Outcomes.{recover_behind, recovery_said};
+ghost use Rattle.dr_recover.specs.Outcomes.{recover_behind, recovery_said, RecoversAlike, IsRecovered};
 
 use crate::settling::settle_all;
 use crate::taking::take_over_all;
@@ -60,8 +62,8 @@ fn end_recovery(j: &mut Journal, s: SessionId, group: Option<u32>)
 /// over, in order of members, and only then is each target that is revertible from the attempt that was decided on committed
 /// or reverted, in order of members. At the end the journal is told the number that all targets show that count then. Refused
 /// where the server of a secondary is off, which the first such member says; then nothing has changed. Fails too where a
-/// server stops in a move or goes off at a read; what was done by then stays, and the call may be repeated. The session has at
-/// most 64 members. The journal needs room for two events for each member and one more.
+/// server stops in a move or goes off at a read; what was done by then stays, and the call may be repeated: in a sound world
+/// another recovery then gives each session the same group and images as this one would have. The session has at most 64 members. The journal needs room for two events for each member and one more.
 pub fn recover<P: Plant>(
     p: &mut P,
     c: &Config,
@@ -82,6 +84,10 @@ pub fn recover<P: Plant>(
         → Ends (armed_in (P.state p.old)) (seen (P.state p.new) c.now (with_sessions ss.now.sessions r) j.new.events) (refusal_of result) (seen (P.state p.old) c.now (with_sessions ss.now.sessions r) j.old.events) (plans.recover_entries s.0 (plans.decided_in s.0 (seen (P.state p.old) c.now (with_sessions ss.now.sessions r) j.old.events).control) (model.members_in (model.session_in ss.now.sessions s.0))) }
     ensures decision { IfOk result (λ x. (r : Rest) → x.decision ≡ plans.decided_in s.0 (seen (P.state p.old) c.now (with_sessions ss.now.sessions r) j.old.events).control) }
     ensures group { IfOk result (λ x. (r : Rest) → x.group ≡ plans.group_of (plans.decided_in s.0 (seen (P.state p.new) c.now (with_sessions ss.now.sessions r) j.new.events).control)) }
+    ensures keeps { (r : Rest) (x : Session) → model.session_in ss.now.sessions s.0 ≡ Some x → Sound (seen (P.state p.old) c.now (with_sessions ss.now.sessions r) j.old.events)
+        → RecoversAlike (seen (P.state p.old) c.now (with_sessions ss.now.sessions r) j.old.events) (seen (P.state p.new) c.now (with_sessions ss.now.sessions r) j.new.events) }
+    ensures recovers { IfOk result (λ y. (r : Rest) (x : Session) → model.session_in ss.now.sessions s.0 ≡ Some x → Sound (seen (P.state p.old) c.now (with_sessions ss.now.sessions r) j.old.events)
+        → IsRecovered (seen (P.state p.old) c.now (with_sessions ss.now.sessions r) j.old.events) (seen (P.state p.new) c.now (with_sessions ss.now.sessions r) j.new.events) s.0 y) }
     ensures unchanged { is_stop (refusal_of result) ≡ false → OnErr result ((P.state p.new ≡ P.state p.old) × (j.new ≡ j.old)) }
     ensures rest { IsAtRest (P.state p.new) c.now }
     ensures fit { RelationsFit (P.state p.new) c.now }

@@ -26,6 +26,7 @@ use Rattle.dr_laws.proofs.EndsInCut.{ends-in-cut}
 use Rattle.dr_laws.proofs.Seals.{seals-on}
 use Rattle.dr_laws.proofs.Decided.{decides-on}
 use Rattle.dr_laws.proofs.ClosesAlong.{closed-run}
+use Rattle.dr_laws.proofs.HeadlineAlong.{headline-run}
 use Rattle.dr_model.specs.ClosedCuts.{ClosedCuts}
 use Rattle.dr_volume.specs.View.{fuse_seen, ids_of, volume_seen, track_seen}
 use Rattle.dr_volume.proofs.VolumeLaws.{volume-placed, track-placed}
@@ -132,6 +133,7 @@ module _ {S K : Type 0} (left : S → Option (List ℕ)) (written : K → Option
     seals = seals-on reached.0 (here s t h ev) s.on (λ server. fuse_seen (s.write_fuse server)) s.block reached.1 (fits-here s t h ev sound (reached-sound (here s t h ev) reached));
     closed = λ i n. subst (λ (w : World). ClosedCuts w.events i n) reached.1 (closed-run reached.0 i n);
     decides = decides-on reached.0 (here s t h ev) s.on (λ server. fuse_seen (s.write_fuse server)) s.block reached.1 (fits-here s t h ev sound (reached-sound (here s t h ev) reached));
+    headline = headline-run reached.0 (here s t h ev) s.on (λ server. fuse_seen (s.write_fuse server)) s.block reached.1 (fits-here s t h ev sound (reached-sound (here s t h ev) reached)) (tracks-here s t h ev sound);
     reads = ready.reads;
     stops = stops;
   }

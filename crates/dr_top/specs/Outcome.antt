@@ -20,6 +20,7 @@ use Rattle.dr_volume.specs.View.{fuse_seen, ReadsPass}
 use Rattle.dr_laws.specs.Windows.{EndsInCut}
 use Rattle.dr_laws.specs.Seals.{SealsOn}
 use Rattle.dr_laws.specs.Decided.{DecidesOn}
+use Rattle.dr_laws.specs.Headline.{Headline}
 use Rattle.dr_io.specs.Lines.{IsOpen}
 use Rattle.dr_top.specs.Cut.{IsClosed}
 use Rattle.dr_top.specs.Faults.{Counted, told_stop}
@@ -170,7 +171,8 @@ module _ {S K : Type 0} (left : S → Option (List ℕ)) (written : K → Option
 
     -- A run: the journal is that of the world to which the steps lead, and the plant fits it. Where a sound freeze window
     -- ends with it, the devices of the secondaries contain the cut; each secondary that is sealed contains its own; the cuts of the
-    -- group of each attempt are closed; and by what the devices say alone, it is possible to decide over each session.
+    -- group of each attempt are closed; and by what the devices say alone, it is possible to decide over each session. And the headline:
+    -- of each session that is defined, the devices give back one cut of the host's acknowledged writes, that of its newest group.
     pub record IsRun (status : Status) (events : List Event) (s s' : PlantState) : Type 0 where
       pub world : World
       pub ran : Ran status world
@@ -182,5 +184,6 @@ module _ {S K : Type 0} (left : S → Option (List ℕ)) (written : K → Option
       pub seals : SealsOn world s'.block
       pub closed : (s n : ℕ) → ClosedCuts events s n
       pub decides : DecidesOn world s'.block
+      pub headline : Headline world s'.block
       pub reads : ReadsPass s'
       pub stops : Counted (told_stop events) s.faults s'.faults

@@ -9,7 +9,7 @@ use Rattle.std.specs.Prelude.{Option}
 use Rattle.dr_flash.specs.Here.{seen, armed_in}
 use Rattle.dr_gmirror.specs.Orders.{with_sessions}
 use Rattle.dr_gmirror.specs.Exchange.{PlanEnds, order_in, refusal_in, answer_of, IsNear}
-use Rattle.dr_gmirror.proofs.ExchangeLemmas.{refused-plan, look-none, look-some, if-some, plan-none, plan-refused, plan-order}
+use Rattle.dr_gmirror.proofs.ExchangeLemmas.{refused-plan, look-none, look-some, if-some, plan-none, plan-refused, plan-order, leaves-by}
 use Rattle.dr_gmirror.proofs.exchanging.exchange.Goals as goal
 
 pub returns-in_default-clause-carried : goal.returns-in_default-clause-carried
@@ -100,3 +100,9 @@ returns-clause-refused g c r why is =
     let near = if-some (IsNear (length c.args.c.now.names)) o l.0 l.1 c.requires.near in
     absurd (let no : None ≡ Some why = c.in_default-exchange_refusal.ensures.refusal (with_sessions c.args.ss.now.sessions r) c.args.j.now.events l.0 l.2 near.in_phase
     ∙ sym (ap (λ (o : Option Mirror). refusal_in (seen (g.P.Plant.state c.args.p.now) c.args.c.now (with_sessions c.args.ss.now.sessions r) c.args.j.now.events).control o c.args.server.0 (members_in (session_in c.args.ss.now.sessions c.args.s.0))) l.1) ∙ is in cc)
+
+pub returns-clause-leaves : goal.returns-clause-leaves
+returns-clause-leaves g c r x m sound listed here apart =
+    let s = g.P.Plant.state c.args.p.now in
+    let w = seen s c.args.c.now (with_sessions c.args.ss.now.sessions r) c.args.j.now.events in
+    leaves-by (armed_in s) w _ c.args.s.0 c.args.server.0 c.args.reply _ x m sound listed here apart (returns-clause-carried g c r)

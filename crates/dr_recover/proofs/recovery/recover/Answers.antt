@@ -11,6 +11,7 @@ use Rattle.dr_gmirror.specs.Orders.{with_sessions}
 use Rattle.dr_recover.specs.Outcomes.{recover_behind}
 use Rattle.dr_recover.proofs.EachLemmas.{all-ready, all-running}
 use Rattle.dr_recover.proofs.PlanLemmas.{recovery-ends, takes-fail, settles-fail, all-done, plan-failed, plan-done, plan-behind, plan-off, says-failed, never}
+use Rattle.dr_recover.proofs.KeepsLemmas.{alike-by, is-recovered}
 use Rattle.dr_recover.proofs.recovery.recover.Goals as goal
 
 pub returns-in-Some-clause-carried : goal.returns-in-Some-clause-carried
@@ -140,3 +141,40 @@ returns-clause-decision g c r = c.decide_over-decision.ensures.decides (with_ses
 
 pub returns-clause-group : goal.returns-clause-group
 returns-clause-group g c r = c.group_of-group.ensures ∙ ap group_of (c.decide_over.ensures.decides (with_sessions c.args.ss.now.sessions r) c.end_recovery.new.j.events)
+
+pub returns-in-Some-clause-keeps : goal.returns-in-Some-clause-keeps
+returns-in-Some-clause-keeps g c r x found sound =
+    let s0 = g.P.Plant.state c.args.p.now in
+    let t = c.args.c.now in
+    let q = with_sessions c.args.ss.now.sessions r in
+    alike-by (armed_in s0) (seen s0 t q c.args.j.now.events) (seen s0 t q c.args.j.now.events) c.args.s.0 x found sound _ (returns-in-Some-clause-carried g c r)
+
+pub returns-in_err-take_over_all-clause-keeps : goal.returns-in_err-take_over_all-clause-keeps
+returns-in_err-take_over_all-clause-keeps g c r x found sound =
+    let s0 = g.P.Plant.state c.args.p.now in
+    let t = c.args.c.now in
+    let q = with_sessions c.args.ss.now.sessions r in
+    alike-by (armed_in s0) (seen s0 t q c.args.j.now.events) (seen (g.P.Plant.state c.take_over_all.new.p) t q c.take_over_all.new.j.events) c.args.s.0 x found sound _ (returns-in_err-take_over_all-clause-carried g c r)
+
+pub returns-in_err-settle_all-clause-keeps : goal.returns-in_err-settle_all-clause-keeps
+returns-in_err-settle_all-clause-keeps g c r x found sound =
+    let s0 = g.P.Plant.state c.args.p.now in
+    let t = c.args.c.now in
+    let q = with_sessions c.args.ss.now.sessions r in
+    alike-by (armed_in s0) (seen s0 t q c.args.j.now.events) (seen (g.P.Plant.state c.settle_all.new.p) t q c.settle_all.new.j.events) c.args.s.0 x found sound _ (returns-in_err-settle_all-clause-carried g c r)
+
+pub returns-clause-keeps : goal.returns-clause-keeps
+returns-clause-keeps g c r x found sound =
+    let s0 = g.P.Plant.state c.args.p.now in
+    let t = c.args.c.now in
+    let q = with_sessions c.args.ss.now.sessions r in
+    alike-by (armed_in s0) (seen s0 t q c.args.j.now.events) (seen (g.P.Plant.state c.settle_all.new.p) t q c.end_recovery.new.j.events) c.args.s.0 x found sound _ (returns-clause-carried g c r)
+
+pub returns-clause-recovers : goal.returns-clause-recovers
+returns-clause-recovers g c r x found sound =
+    let s0 = g.P.Plant.state c.args.p.now in
+    let t = c.args.c.now in
+    let q = with_sessions c.args.ss.now.sessions r in
+    let running = sym (c.in_default.ensures.refusal q c.args.j.now.events) in
+    is-recovered (armed_in s0) (seen s0 t q c.args.j.now.events) (seen (g.P.Plant.state c.settle_all.new.p) t q c.end_recovery.new.j.events) c.args.s.0 x found sound
+    running (returns-clause-ends g c r running) _ (returns-clause-group g c r) (returns-clause-decision g c r)

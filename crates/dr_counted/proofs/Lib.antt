@@ -1,0 +1,11 @@
+pub mod Places
+pub mod Held
+pub mod Told
+pub mod Holds
+pub mod Turns
+pub mod Commits
+pub mod Keeps
+pub mod Regrouped
+pub mod Quiet
+pub mod Mays
+pub mod Example

@@ -1,0 +1,3 @@
+pub mod Committeds
+pub mod Counted
+pub mod Example
