@@ -1,6 +1,6 @@
 -- Who stands in a group is the primary of a member whose target counts for its number, after each kind of move.
-use Rattle.std.proofs.Common.{ℕ, ◌≡◌, ◌<◌, ◌≤◌, ◌⊎◌, inl, inr, refl, ap, sym, ◌∙◌, arith, Bool, true, false, cond, not, ◌&&◌, ◌||◌, nat_eq, Option, Some, None, subst}
-use Rattle.std.proofs.lemmas.Bool.{and_parts, eq-eqb, eqb-true, not-true}
+use Rattle.std.proofs.Common.{ℕ, ◌≡◌, ◌<◌, ◌≤◌, inl, inr, refl, ap, sym, ◌∙◌, arith, Bool, true, false, cond, not, ◌&&◌, ◌||◌, Option, Some, None, subst}
+use Rattle.std.proofs.lemmas.Bool.{and_parts, eqb-true, not-true}
 use Rattle.dr_ids.specs.declared.names.Member.{Member}
 use Rattle.dr_model.specs.Tables.{at}
 use Rattle.dr_model.specs.Layout.{Fields}
@@ -18,20 +18,7 @@ use Rattle.dr_cuts.proofs.Sets.{false_true}
 use Rattle.dr_closed.specs.Closing.{AllFields, number_kept, CountsFor, MemberCounts, StandsAsMember}
 use Rattle.dr_closed.specs.Moments.{Standing, is_one}
 use Rattle.dr_closed.specs.Next.{next_standing}
-
-pub stood : (b y : Bool) → cond b false y ≡ true → (b ≡ false) × (y ≡ true)
-stood true y h = absurd cc
-stood false y h = (refl, h)
-
-pub added : (b y : Bool) → cond b true y ≡ true → (b ≡ true) ⊎ (y ≡ true)
-added true y h = inl refl
-added false y h = inr h
-
-pub is-same : (z k x s n a : ℕ) → z ≡ s → k ≡ n → x ≡ a → is_one s n a z k x ≡ true
-is-same z k x s n a e f g = ap (λ b. b && (nat_eq k n && nat_eq x a)) (eq-eqb z s e) ∙ ap (λ b. b && nat_eq x a) (eq-eqb k n f) ∙ eq-eqb x a g
-
-same-two : (z x s a : ℕ) → z ≡ s → x ≡ a → (nat_eq z s && nat_eq x a) ≡ true
-same-two z x s a e g = ap (λ b. b && nat_eq x a) (eq-eqb z s e) ∙ eq-eqb x a g
+use Rattle.dr_closed.proofs.Standings.{added, stood, is-same, is-same-two}
 
 pub or-second : (b c : Bool) → c ≡ true → (b || c) ≡ true
 or-second true c h = refl
@@ -153,7 +140,7 @@ module _ (k : Control) (groups : Groups k) (law : Attempts k) where
     left-stands v p s a z n x h =
         let was = stood _ _ h in let c = old z n x was.1 in
         over (Leave v p s) a g old z n x c (λ e. absurd (gone-counts v n (fields_at k v) a.0.plain
-        (λ mem. let t = a.1.counted mem c.session c.member c.listed c.here e in false_true was.0 (same-two z x s p (sym c.number ∙ sym t.1) (sym c.is ∙ sym (some_is t.0))))
+        (λ mem. let t = a.1.counted mem c.session c.member c.listed c.here e in false_true was.0 (is-same-two z x s p (sym c.number ∙ sym t.1) (sym c.is ∙ sym (some_is t.0))))
         (subst (λ q. CountsFor n (fields_at k q)) e c.counts)))
 
     reversed-stands : (v : ℕ) (o : Option ℕ) → InAttempt k (Reverse v o) → (z n x : ℕ) → next_standing (Reverse v o) (k.volume v) g z n x ≡ true → MemberCounts k.sessions (at (fields_at k) v (fields_left (Reverse v o) (k.volume v))) z n x
@@ -166,7 +153,7 @@ module _ (k : Control) (groups : Groups k) (law : Attempts k) where
         let was = stood _ _ h in let c = old z n x was.1 in
         over (Reverse v (Some p)) a g old z n x c (λ e. absurd (gone-counts v n (fields_at k v) a.0.plain
         (λ mem. let t = a.1.counted mem c.session c.member c.listed c.here e in let same : p ≡ c.member.a.0 = some_is t.0 in
-        false_true was.0 (same-two z x (fields_at k v).session p (sym c.number ∙ sym t.1) (sym c.is ∙ sym same)))
+        false_true was.0 (is-same-two z x (fields_at k v).session p (sym c.number ∙ sym t.1) (sym c.is ∙ sym same)))
         (subst (λ q. CountsFor n (fields_at k q)) e c.counts)))
 
     reverted-counts : (v p s j : ℕ) (z n x : ℕ) → InAttempt k (Revert v p s j) → (is_one s j p z n x ≡ false) → (c : MemberCounts k.sessions (fields_at k) z n x) → c.member.c.0 ≡ v → CountsFor n (fields_at k v) → CountsFor n (fields_left (Revert v p s j) (k.volume v))

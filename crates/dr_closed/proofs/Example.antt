@@ -13,7 +13,7 @@ use Rattle.dr_closed.specs.Moments.{memory, moments, standing, is_one}
 use Rattle.dr_closed.specs.Closing.{Whole, StandsWhole}
 use Rattle.dr_closed.specs.Example.{held, torn, parted}
 use Rattle.dr_closed.proofs.Places.{group-stands}
-use Rattle.dr_closed.proofs.Counts.{added}
+use Rattle.dr_closed.proofs.Standings.{added}
 use Rattle.dr_closed.proofs.ClosedCuts.{closed-cuts}
 
 -- ---- held

@@ -6,6 +6,7 @@ use Rattle.dr_model.specs.Pairs.{primary_of}
 use Rattle.dr_model.specs.Moves.{Move, Overwrite, Keep, Relate, Withdraw, Fetch, Reverse, Release, Flash, Commit, Revert, Store, Suspend, MakeSecondary, MakePrimary, DropPrimary, DropSecondary, TakeOver, Lift, Restart, Hold, Free, Seal, Finish, RaiseAttempt, fields_left}
 use Rattle.dr_cuts.proofs.Sets.{false_true}
 use Rattle.dr_cuts.proofs.Told.{IsNoHold}
+use Rattle.dr_closed.proofs.Standings.{stood}
 
 -- what records has recorded before, for the same attempt; and what is held was held before
 pub record Goes (f g : Fields) : Type 0 where
@@ -17,17 +18,13 @@ abbrev pub Idles : Move → Fields → Type 0
 Idles (RaiseAttempt v n) f = f.recording ≡ false
 Idles m f = Unit {0}
 
-if-lifted : (b rec : Bool) → cond b false rec ≡ true → rec ≡ true
-if-lifted true rec h = absurd cc
-if-lifted false rec h = h
-
 pub goes : (m : Move) (u : Volume) → IsNoHold m → Idles m u.fields → Goes u.fields (fields_left m u)
 goes (Hold v s n first) u other idle = absurd other
 goes (Suspend v busy) u other idle = record { recorded = λ h. absurd cc; attempt = λ h. refl; held = λ h. absurd cc }
 goes (MakePrimary v a kind state full) u other idle = record { recorded = λ h. absurd cc; attempt = λ h. refl; held = λ h. absurd cc }
 goes (DropPrimary v) u other idle = record { recorded = λ h. absurd cc; attempt = λ h. refl; held = λ h. absurd cc }
 goes (TakeOver v) u other idle = record { recorded = λ h. absurd cc; attempt = λ h. refl; held = λ h. absurd cc }
-goes (Lift v) u other idle = record { recorded = λ h. if-lifted u.fields.coordination u.fields.recording h; attempt = λ h. refl; held = λ h. absurd cc }
+goes (Lift v) u other idle = record { recorded = λ h. (stood u.fields.coordination u.fields.recording h).1; attempt = λ h. refl; held = λ h. absurd cc }
 goes (Restart v) u other idle = record { recorded = λ h. absurd cc; attempt = λ h. refl; held = λ h. absurd cc }
 goes (Finish v n) u other idle = record { recorded = λ h. absurd cc; attempt = λ h. absurd cc; held = λ h. absurd cc }
 goes (RaiseAttempt v n) u other idle = record { recorded = λ h. h; attempt = λ h. false_true idle h; held = λ h. h }
@@ -39,19 +36,15 @@ abbrev pub IsNoFlash : Move → Type 0
 IsNoFlash (Flash v u a s n) = ⊥
 IsNoFlash m = Unit {0}
 
-if-parted : (b rev : Bool) → cond b false rev ≡ true → rev ≡ true
-if-parted true rev h = absurd cc
-if-parted false rev h = h
-
 pub was-revertible : (m : Move) (u : Volume) → IsNoFlash m → (fields_left m u).revertible ≡ true → u.fields.revertible ≡ true
 was-revertible (Flash v p a s n) u other h = absurd other
-was-revertible (Overwrite n v t) u other h = if-parted _ u.fields.revertible h
-was-revertible (Keep v t) u other h = if-parted _ u.fields.revertible h
-was-revertible (Fetch v t) u other h = if-parted _ u.fields.revertible h
+was-revertible (Overwrite n v t) u other h = (stood _ u.fields.revertible h).1
+was-revertible (Keep v t) u other h = (stood _ u.fields.revertible h).1
+was-revertible (Fetch v t) u other h = (stood _ u.fields.revertible h).1
 was-revertible (Relate v s choices) u other h = absurd cc
 was-revertible (Withdraw v) u other h = absurd cc
-was-revertible (Reverse v left) u other h = if-parted _ u.fields.revertible h
-was-revertible (Release v t) u other h = if-parted _ u.fields.revertible h
+was-revertible (Reverse v left) u other h = (stood _ u.fields.revertible h).1
+was-revertible (Release v t) u other h = (stood _ u.fields.revertible h).1
 was-revertible (Commit v a s n) u other h = absurd cc
 was-revertible (Revert v a s n) u other h = absurd cc
 was-revertible m u other h = h

@@ -28,7 +28,8 @@ use Rattle.dr_closed.proofs.Told.{ToldOf}
 use Rattle.dr_closed.proofs.Fields.{Goes, Idles, goes, stays-held, was-sealed, was-revertible}
 use Rattle.dr_closed.proofs.Lists.{untouched}
 use Rattle.dr_closed.proofs.Landed.{free-goes}
-use Rattle.dr_closed.proofs.Counts.{stood, added, stands-then}
+use Rattle.dr_closed.proofs.Standings.{stood, added}
+use Rattle.dr_closed.proofs.Counts.{stands-then}
 
 -- an early phase has an attempt, so its number isn't 0
 pub early-positive : (p : PhaseName) (n : ℕ) (owed : List ℕ) (reports : List Shown) (vs : List Seen) → IsEarly p → InPhase p n owed reports vs → n ≢ 0

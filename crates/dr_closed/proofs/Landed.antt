@@ -13,23 +13,8 @@ use Rattle.dr_model.specs.Allowed.{Coming, Allowed, Ready}
 use Rattle.dr_cuts.proofs.AtLemmas.{at_cases}
 use Rattle.dr_cuts.proofs.Sets.{false_true}
 use Rattle.dr_closed.specs.Closing.{AllFields, LandedFree}
+use Rattle.dr_closed.proofs.Pendings.{each-on, both-on, all-filter}
 use Rattle.dr_closed.proofs.Lists.{target-free}
-
-pub all-on : {P Q : Pending → Type 0} → ((p : Pending) → P p → Q p) → (ps : List Pending) → AllPending P ps → AllPending Q ps
-all-on to [] a = tt
-all-on to (p ∷ ps) a = (to p a.0, all-on to ps a.1)
-
-pub both-on : {P Q R : Pending → Type 0} → ((p : Pending) → P p → Q p → R p) → (ps : List Pending) → AllPending P ps → AllPending Q ps → AllPending R ps
-both-on to [] a b = tt
-both-on to (p ∷ ps) a b = (to p a.0 b.0, both-on to ps a.1 b.1)
-
-pub all-filter : (P : Pending → Type 0) (q : Pending → Bool) (ps : List Pending) → AllPending P ps → AllPending P (filter q ps)
-all-filter P q [] a = tt
-all-filter P q (p ∷ ps) a = by (q p) (all-filter P q ps a.1)
-  where
-    by : (b : Bool) → AllPending P (filter q ps) → AllPending P (cond b (p ∷ filter q ps) (filter q ps))
-    by true rest = (a.0, rest)
-    by false rest = rest
 
 free-marked : (f : AllFields) (n : ℕ) (ps : List Pending) → LandedFree f ps → AllPending (λ p. (f p.volume).coordination ≡ false) (filter (is_write n) ps) → LandedFree f (marked n ps)
 free-marked f n [] free coming = tt
@@ -49,7 +34,7 @@ still-free {b} {d} was off = by (cases_Bool d)
 
 -- other fields of one volume, which isn't held but where it was
 pub free-goes : (f : AllFields) (v : ℕ) (g : Fields) (ps : List Pending) → (g.coordination ≡ true → (f v).coordination ≡ true) → LandedFree f ps → LandedFree (at f v g) ps
-free-goes f v g ps was free = all-on (λ p old l. at_cases (λ u (y : Fields). (f u).coordination ≡ false → y.coordination ≡ false) f v g (λ off. still-free was off) (λ u ne off. off) p.volume (old l)) ps free
+free-goes f v g ps was free = each-on (λ p old l. at_cases (λ u (y : Fields). (f u).coordination ≡ false → y.coordination ≡ false) f v g (λ off. still-free was off) (λ u ne off. off) p.volume (old l)) ps free
 
 -- a volume that is held from then on, on whose server no write has landed
 pub free-held : (f : AllFields) (v : ℕ) (g : Fields) (server : ℕ → ℕ) (ps : List Pending) → AllPending (λ p. p.landed ≡ true → server p.volume ≡ server v → ⊥) ps → LandedFree f ps → LandedFree (at f v g) ps
@@ -64,7 +49,7 @@ module _ (w : World) (free : LandedFree (fields_at w.control) w.control.pending)
   settled-free m = free
 
   marks : (n v t : ℕ) → (fields_at w.control v).coordination ≡ false → AllPending (Coming v t) (filter (is_write n) w.control.pending) → LandedFree (fields_at w.control) (marked n w.control.pending)
-  marks n v t off coming = free-marked (fields_at w.control) n w.control.pending free (all-on (λ p c. subst (λ j. (fields_at w.control j).coordination ≡ false) (sym c.volume) off) _ coming)
+  marks n v t off coming = free-marked (fields_at w.control) n w.control.pending free (each-on (λ p c. subst (λ j. (fields_at w.control j).coordination ≡ false) (sym c.volume) off) _ coming)
 
   pub stopped-free : SoundRows (table w) → (m : Move) → Allowed (histories w.events).write (table w) m → Ready w m → LandedFree (fields_at w.control) (settled_in_stop m w.control.pending)
   stopped-free rows (Land n v t) a ready = marks n v t a.free ready.coming

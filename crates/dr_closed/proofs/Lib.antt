@@ -1,3 +1,5 @@
+pub mod Standings
+pub mod Pendings
 pub mod Places
 pub mod ClosedCuts
 pub mod Told

@@ -1,7 +1,6 @@
 -- Where in a journal an attempt was cut last, and who stands in its group: the tables, event by event, are those of places.
-use Rattle.std.proofs.Common.{ℕ, ◌≡◌, inl, inr, refl, ap, sym, ◌∙◌, Bool, true, false, cond, ◌&&◌, nat_eq, List, [], ◌∷◌, ◌++◌, subst}
+use Rattle.std.proofs.Common.{ℕ, ◌≡◌, inl, inr, refl, ap, sym, ◌∙◌, true, cond, ◌&&◌, nat_eq, List, [], ◌∷◌, ◌++◌, subst}
 use Rattle.std.proofs.lemmas.Bool.Decides.{eqb_tells}
-use Rattle.std.proofs.lemmas.Bool.{and_parts, eqb-true, eq-eqb}
 use Rattle.std.proofs.lemmas.List.{append_assoc}
 use Rattle.std.proofs.lemmas.List.Sums.{fold-append}
 use Rattle.std.specs.List.{fold}
@@ -14,6 +13,7 @@ use Rattle.dr_model.specs.ClosedCuts.{InGroup, LastCut}
 use Rattle.dr_cuts.proofs.AtLemmas.{Told, at2_same, at2_other}
 use Rattle.dr_cuts.proofs.Places.{snoc, head-same, tail-same, nowhere, earlier}
 use Rattle.dr_closed.specs.Moments.{Moments, Memory, Standing, no_memory, none_stands, memory, memory_event, moments_after, moments, is_one, standing, standing_event}
+use Rattle.dr_closed.proofs.Standings.{stays-with, stays-without, is-same, same-two, same-three}
 
 -- ---- event by event
 
@@ -119,34 +119,21 @@ module _ (s n : ℕ) where
 
 -- ---- who stands in a group
 
-one-same : (s n a : ℕ) → is_one s n a s n a ≡ true
-one-same s n a = ap (λ b. b && (nat_eq n n && nat_eq a a)) (eq-eqb s s refl) ∙ ap (λ b. b && nat_eq a a) (eq-eqb n n refl) ∙ eq-eqb a a refl
-
 module _ (s n a : ℕ) where
   -- events that leave it standing
   abbrev NotOut : Event → Type 0
   NotOut e = ((c : ℕ) → Reverted s n a c ≡ e → ⊥) × (Left s a ≡ e → ⊥)
 
-  joins-stays : (b y : Bool) → y ≡ true → cond b true y ≡ true
-  joins-stays true y h = refl
-  joins-stays false y h = h
-
-  out-by : (b y : Bool) → (b ≡ true → ⊥) → y ≡ true → cond b false y ≡ true
-  out-by true y not h = absurd (not refl)
-  out-by false y not h = h
-
   is-out : (z k x c : ℕ) → NotOut (Reverted z k x c) → is_one z k x s n a ≡ true → ⊥
-  is-out z k x c not h =
-      let p = and_parts _ _ h in let q = and_parts _ _ p.1 in
-      not.0 c (ap (λ j. Reverted j n a c) (eqb-true s z p.0) ∙ ap (λ j. Reverted z j a c) (eqb-true n k q.0) ∙ ap (λ j. Reverted z k j c) (eqb-true a x q.1))
+  is-out z k x c not h = let e = same-three s n a z k x h in not.0 c (ap (λ j. Reverted j n a c) e.0 ∙ ap (λ j. Reverted z j a c) e.1 ∙ ap (λ j. Reverted z k j c) e.2)
 
   has-left : (z x : ℕ) → NotOut (Left z x) → (nat_eq s z && nat_eq a x) ≡ true → ⊥
-  has-left z x not h = let p = and_parts _ _ h in not.1 (ap (λ j. Left j a) (eqb-true s z p.0) ∙ ap (λ j. Left z j) (eqb-true a x p.1))
+  has-left z x not h = let e = same-two s a z x h in not.1 (ap (λ j. Left j a) e.0 ∙ ap (λ j. Left z j) e.1)
 
   still-stands : (g : Standing) (e : Event) → NotOut e → g s n a ≡ true → standing_event g e s n a ≡ true
-  still-stands g (Flashed z k x b c) not h = joins-stays _ _ h
-  still-stands g (Reverted z k x c) not h = out-by _ _ (is-out z k x c not) h
-  still-stands g (Left z x) not h = out-by _ _ (has-left z x not) h
+  still-stands g (Flashed z k x b c) not h = stays-with _ _ h
+  still-stands g (Reverted z k x c) not h = stays-without _ _ (is-out z k x c not) h
+  still-stands g (Left z x) not h = stays-without _ _ (has-left z x not) h
   still-stands g e not h = h
 
   stands-on : (g : Standing) (es : List Event) → ((c : ℕ) → In (Reverted s n a c) es → ⊥) → (In (Left s a) es → ⊥) → g s n a ≡ true → fold standing_event g es s n a ≡ true
@@ -154,7 +141,7 @@ module _ (s n a : ℕ) where
   stands-on g (e ∷ es) stands stays h = stands-on (standing_event g e) es (λ c i. stands c (inr i)) (λ i. stays (inr i)) (still-stands g e (λ c is. stands c (inl is), λ is. stays (inl is)) h)
 
   flashed-then : (g : Standing) (b c : ℕ) → standing_event g (Flashed s n a b c) s n a ≡ true
-  flashed-then g b c = ap (λ k. cond k true (g s n a)) (one-same s n a)
+  flashed-then g b c = ap (λ k. cond k true (g s n a)) (is-same s n a s n a refl refl refl)
 
   pub group-stands : (events : List Event) → InGroup events s n a → standing events s n a ≡ true
   group-stands events p =

@@ -19,7 +19,7 @@ use Rattle.dr_closed.specs.Moments.{memory, moments, standing}
 use Rattle.dr_closed.specs.Closing.{Whole, AllFields, HeldAsCut, LandedFree, CountsFor, MemberCounts, ClosingIn, Closing}
 use Rattle.dr_closed.specs.Silent.{AllStill}
 use Rattle.dr_closed.proofs.Told.{moments-quiet, standing-still, lists-apart}
-use Rattle.dr_closed.proofs.Landed.{all-on}
+use Rattle.dr_closed.proofs.Pendings.{each-on}
 
 pub closing-nothing : Closing nothing
 unfolding past memory standing
@@ -66,7 +66,7 @@ module _ (w x : World) (old : Closing w) (more : List Event) (cut : NoCuts more)
   closing-defined v undefined groups same fields pending = with-tables (at (fields_at w.control) v no_fields) fields (record {
     held = at_cases (λ u y. HeldAsCut (lists x.events) c u y) (fields_at w.control) v no_fields (λ rec. absurd cc) (λ u ne rec held t. same u t ne ∙ old.held u rec held t);
     free = subst (λ (ps : List Pending). LandedFree (at (fields_at w.control) v no_fields) ps) (sym pending)
-        (all-on (λ p free l. at_cases (λ u (y : Fields). (fields_at w.control u).coordination ≡ false → y.coordination ≡ false) (fields_at w.control) v no_fields (λ off. refl) (λ u ne off. off) p.volume (free l)) w.control.pending old.free);
+        (each-on (λ p free l. at_cases (λ u (y : Fields). (fields_at w.control u).coordination ≡ false → y.coordination ≡ false) (fields_at w.control) v no_fields (λ off. refl) (λ u ne off. off) p.volume (free l)) w.control.pending old.free);
     forming = λ z m i here h. at_cases (λ u (y : Fields). m.a.0 ≡ u → y.recording ≡ true → y.coordination ≡ true) (fields_at w.control) v no_fields (λ e rec. absurd cc)
         (λ u ne e rec. subst (λ u. (fields_at w.control u).recording ≡ true → (fields_at w.control u).coordination ≡ true) e (old.forming z m i here h) rec) m.a.0 refl;
     records = λ z m i here. at_cases (λ u (y : Fields). m.a.0 ≡ u → y.recording ≡ true → Whole c (moments w.events) z.number z.last m.a.0) (fields_at w.control) v no_fields (λ e rec. absurd cc)

@@ -86,7 +86,7 @@ module _ (events : List Event) where
 
 -- ---- lists
 
-elsewhere : {X : Type 0} (v x : ℕ) (new old : X) → v ≢ x → cond (nat_eq v x) new old ≡ old
+pub elsewhere : {X : Type 0} (v x : ℕ) (new old : X) → v ≢ x → cond (nat_eq v x) new old ≡ old
 elsewhere v x new old ne = ap (λ b. cond b new old) (ne_eqb v x ne)
 
 apart-event : (h : Histories) (e : Event) (v t : ℕ) → Apart h.write v e → (after_event h e).now v t ≡ h.now v t

@@ -19,7 +19,8 @@ use Rattle.dr_cuts.proofs.AtLemmas.{at_cases}
 use Rattle.dr_cuts.proofs.Sets.{false_true}
 use Rattle.dr_closed.specs.Moments.{Standing, is_one}
 use Rattle.dr_closed.specs.Closing.{number_kept}
-use Rattle.dr_closed.proofs.Counts.{or-first, shown-plain, shown-before, stood, added}
+use Rattle.dr_closed.proofs.Standings.{stood, added}
+use Rattle.dr_closed.proofs.Counts.{or-first, shown-plain, shown-before}
 use Rattle.dr_counted.specs.Committeds.{next_committed}
 use Rattle.dr_counted.specs.Counted.{MemberHas, CommittedAsMember}
 use Rattle.dr_counted.proofs.Turns.{grown}

@@ -8,7 +8,7 @@ use Rattle.dr_model.specs.NewestGroup.{NewestGroup}
 use Rattle.dr_model.specs.HeldWrites.{WasAcknowledged, WasReplaced}
 use Rattle.dr_cuts.proofs.Sets.{false_true}
 use Rattle.dr_closed.specs.Moments.{is_one}
-use Rattle.dr_closed.proofs.Counts.{stood, added}
+use Rattle.dr_closed.proofs.Standings.{stood, added}
 use Rattle.dr_counted.specs.Committeds.{committeds}
 use Rattle.dr_counted.specs.Example.{finished, parted, restored}
 use Rattle.dr_counted.proofs.Places.{committed-stands}

@@ -1,6 +1,5 @@
 -- Who stands in the group of a number, and who stands committed with it: the tables, event by event, are those of places.
-use Rattle.std.proofs.Common.{ℕ, ◌≡◌, ◌⊎◌, inl, inr, refl, ap, sym, ◌∙◌, Bool, true, false, cond, ◌&&◌, nat_eq, List, [], ◌∷◌, ◌++◌, subst}
-use Rattle.std.proofs.lemmas.Bool.{and_parts, eqb-true, eq-eqb}
+use Rattle.std.proofs.Common.{ℕ, ◌≡◌, inl, inr, refl, ap, sym, ◌∙◌, true, cond, ◌&&◌, nat_eq, List, [], ◌∷◌, ◌++◌, subst}
 use Rattle.std.proofs.lemmas.List.{append_assoc}
 use Rattle.std.specs.List.{fold}
 use Rattle.dr_model.specs.declared.event.Event.{Event}
@@ -11,39 +10,10 @@ use Rattle.dr_model.specs.NewestGroup.{StandsCommitted}
 use Rattle.dr_groups.proofs.Lists.{false_true, in-joined}
 use Rattle.dr_cuts.proofs.Places.{snoc}
 use Rattle.dr_closed.specs.Moments.{Standing, is_one, standing, standing_event}
+use Rattle.dr_closed.proofs.Standings.{added, stood, stays-with, stays-without, is-same, is-same-two, same-two, same-three}
 use Rattle.dr_closed.proofs.Places.{standing-append}
 use Rattle.dr_counted.specs.Committeds.{committeds, committed_event}
 use Rattle.dr_counted.proofs.Told.{committeds-append}
-
--- ---- one entry of a table
-
--- what joins was there or is new; what stays is none of those that leave
-joined-or : (b y : Bool) → cond b true y ≡ true → (b ≡ true) ⊎ (y ≡ true)
-joined-or true y h = inl refl
-joined-or false y h = inr h
-
-stayed : (b y : Bool) → cond b false y ≡ true → (b ≡ false) × (y ≡ true)
-stayed true y h = false_true refl h
-stayed false y h = (refl, h)
-
-joins-stays : (b y : Bool) → y ≡ true → cond b true y ≡ true
-joins-stays true y h = refl
-joins-stays false y h = h
-
-out-by : (b y : Bool) → (b ≡ true → ⊥) → y ≡ true → cond b false y ≡ true
-out-by true y not h = absurd (not refl)
-out-by false y not h = h
-
-module _ (s n a z k x : ℕ) where
-  -- the test of an entry says that it is the one, and the other way round
-  one-parts : is_one z k x s n a ≡ true → (s ≡ z) × (n ≡ k) × (a ≡ x)
-  one-parts h = let p = and_parts _ _ h in let q = and_parts _ _ p.1 in (eqb-true s z p.0, eqb-true n k q.0, eqb-true a x q.1)
-
-  one-same : (s ≡ z) × (n ≡ k) × (a ≡ x) → is_one z k x s n a ≡ true
-  one-same h = ap (λ b. b && (nat_eq n k && nat_eq a x)) (eq-eqb s z h.0) ∙ ap (λ b. b && nat_eq a x) (eq-eqb n k h.1) ∙ eq-eqb a x h.2
-
-both-same : (s a z x : ℕ) → (s ≡ z) × (a ≡ x) → (nat_eq s z && nat_eq a x) ≡ true
-both-same s a z x h = ap (λ b. b && nat_eq a x) (eq-eqb s z h.0) ∙ eq-eqb a x h.1
 
 -- ---- an event more behind a place
 
@@ -97,16 +67,16 @@ module _ (s n a : ℕ) where
   }
 
   group-by : (es : List Event) (e : Event) → IsInGroup es → standing_event (standing es) e s n a ≡ true → InGroup (es ++ e ∷ []) s n a
-  group-by es (Flashed z k x b c) old h = elim (joined-or (is_one z k x s n a) (standing es s n a) h) [
-    | inl is ↦ just-flashed es z k x b c (one-parts s n a z k x is)
+  group-by es (Flashed z k x b c) old h = elim (added (is_one z k x s n a) (standing es s n a) h) [
+    | inl is ↦ just-flashed es z k x b c (same-three s n a z k x is)
     | inr was ↦ stands-longer es (Flashed z k x b c) (λ t. t) (old was)
   ]
   group-by es (Reverted z k x c) old h =
-      let p = stayed (is_one z k x s n a) (standing es s n a) h in
-      stands-longer es (Reverted z k x c) (λ t. false_true p.0 (one-same s n a z k x t)) (old p.1)
+      let p = stood (is_one z k x s n a) (standing es s n a) h in
+      stands-longer es (Reverted z k x c) (λ t. false_true p.0 (is-same s n a z k x t.0 t.1 t.2)) (old p.1)
   group-by es (Left z x) old h =
-      let p = stayed (nat_eq s z && nat_eq a x) (standing es s n a) h in
-      stands-longer es (Left z x) (λ t. false_true p.0 (both-same s a z x t)) (old p.1)
+      let p = stood (nat_eq s z && nat_eq a x) (standing es s n a) h in
+      stands-longer es (Left z x) (λ t. false_true p.0 (is-same-two s a z x t.0 t.1)) (old p.1)
   group-by es e old h = stands-longer es e (λ t. t) (old h)
 
   group-step : (es : List Event) (e : Event) → IsInGroup es → IsInGroup (es ++ e ∷ [])
@@ -148,13 +118,13 @@ module _ (s n a : ℕ) where
   }
 
   committed-by : (es : List Event) (e : Event) → IsCommitted es → committed_event (committeds es) e s n a ≡ true → StandsCommitted (es ++ e ∷ []) s n a
-  committed-by es (Committed z k x c) old h = elim (joined-or (is_one z k x s n a) (committeds es s n a) h) [
-    | inl is ↦ just-committed es z k x c (one-parts s n a z k x is)
+  committed-by es (Committed z k x c) old h = elim (added (is_one z k x s n a) (committeds es s n a) h) [
+    | inl is ↦ just-committed es z k x c (same-three s n a z k x is)
     | inr was ↦ committed-longer es (Committed z k x c) (λ t. t) (old was)
   ]
   committed-by es (Left z x) old h =
-      let p = stayed (nat_eq s z && nat_eq a x) (committeds es s n a) h in
-      committed-longer es (Left z x) (λ t. false_true p.0 (both-same s a z x t)) (old p.1)
+      let p = stood (nat_eq s z && nat_eq a x) (committeds es s n a) h in
+      committed-longer es (Left z x) (λ t. false_true p.0 (is-same-two s a z x t.0 t.1)) (old p.1)
   committed-by es e old h = committed-longer es e (λ t. t) (old h)
 
   committed-step : (es : List Event) (e : Event) → IsCommitted es → IsCommitted (es ++ e ∷ [])
@@ -165,11 +135,11 @@ module _ (s n a : ℕ) where
 
   -- and who was committed goes on to stand so until the target leaves
   has-left : (z x : ℕ) → (Left s a ≡ Left z x → ⊥) → (nat_eq s z && nat_eq a x) ≡ true → ⊥
-  has-left z x not h = let p = and_parts _ _ h in not (ap (λ j. Left j a) (eqb-true s z p.0) ∙ ap (λ j. Left z j) (eqb-true a x p.1))
+  has-left z x not h = let e = same-two s a z x h in not (ap (λ j. Left j a) e.0 ∙ ap (λ j. Left z j) e.1)
 
   still-committed : (g : Standing) (e : Event) → (Left s a ≡ e → ⊥) → g s n a ≡ true → committed_event g e s n a ≡ true
-  still-committed g (Committed z k x c) not h = joins-stays _ _ h
-  still-committed g (Left z x) not h = out-by _ _ (has-left z x not) h
+  still-committed g (Committed z k x c) not h = stays-with _ _ h
+  still-committed g (Left z x) not h = stays-without _ _ (has-left z x not) h
   still-committed g e not h = h
 
   committed-on : (g : Standing) (es : List Event) → (In (Left s a) es → ⊥) → g s n a ≡ true → fold committed_event g es s n a ≡ true
@@ -177,7 +147,7 @@ module _ (s n a : ℕ) where
   committed-on g (e ∷ es) stays h = committed-on (committed_event g e) es (λ i. stays (inr i)) (still-committed g e (λ is. stays (inl is)) h)
 
   committed-then : (g : Standing) (c : ℕ) → committed_event g (Committed s n a c) s n a ≡ true
-  committed-then g c = ap (λ k. cond k true (g s n a)) (one-same s n a s n a (refl, refl, refl))
+  committed-then g c = ap (λ k. cond k true (g s n a)) (is-same s n a s n a refl refl refl)
 
   pub committed-stands : (events : List Event) → StandsCommitted events s n a → committeds events s n a ≡ true
   committed-stands events p =

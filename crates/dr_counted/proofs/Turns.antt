@@ -23,18 +23,11 @@ use Rattle.dr_cuts.proofs.Still.{plain-second}
 use Rattle.dr_closed.specs.Moments.{Standing, is_one}
 use Rattle.dr_closed.specs.Closing.{IsEarly}
 use Rattle.dr_closed.specs.Next.{next_standing}
-use Rattle.dr_closed.proofs.Counts.{or-first, or-second, numbered, is-same}
+use Rattle.dr_closed.proofs.Standings.{stays-with, stays-without, is-same}
+use Rattle.dr_closed.proofs.Counts.{or-first, or-second, numbered}
 use Rattle.dr_closed.proofs.Keeps.{early-positive}
 use Rattle.dr_counted.specs.Committeds.{next_committed}
 use Rattle.dr_counted.proofs.Holds.{RowHolds, row-uncounted, parted}
-
-pub not-fallen : (b y : Bool) → (b ≡ true → ⊥) → y ≡ true → cond b false y ≡ true
-not-fallen true y ne h = absurd (ne refl)
-not-fallen false y ne h = h
-
-pub joined-on : (b y : Bool) → y ≡ true → cond b true y ≡ true
-joined-on true y h = refl
-joined-on false y h = h
 
 or-left : (b : Bool) → (b || false) ≡ true → b ≡ true
 or-left true h = refl
@@ -65,22 +58,22 @@ module _ (k : Control) (groups : Groups k) (law : Attempts k) where
     apart p s t e = ne (ap (λ (m : Member). m.c.0) (groups.lone.one p x t.place.session q t.place.member i t.place.listed here t.place.here (inl (sym e)) (inl (sym t.place.is))).1 ∙ t.target)
 
     leaves-on : (g : Standing) (p s j : ℕ) → TargetOf k v p s → g x.number j q.a.0 ≡ true → cond (nat_eq x.number s && nat_eq q.a.0 p) false (g x.number j q.a.0) ≡ true
-    leaves-on g p s j t h = not-fallen (nat_eq x.number s && nat_eq q.a.0 p) (g x.number j q.a.0) (λ e. apart p s t (eqb-true q.a.0 p (and_parts _ _ e).1)) h
+    leaves-on g p s j t h = stays-without (nat_eq x.number s && nat_eq q.a.0 p) (g x.number j q.a.0) (λ e. apart p s t (eqb-true q.a.0 p (and_parts _ _ e).1)) h
 
   pub other-stands : (g : Standing) (m : Move) → InAttempt k m → (x : Session) (q : Member) → In x k.sessions → In q x.members → q.c.0 ≢ target m → (j : ℕ) → g x.number j q.a.0 ≡ true → next_standing m (k.volume (target m)) g x.number j q.a.0 ≡ true
   other-stands g (Reverse v None) a x q i here ne j h = h
   other-stands g (Reverse v (Some p)) a x q i here ne j h = leaves-on x q i here v ne g p (fields_at k v).session j (a.1.named p refl) h
   other-stands g (Leave v p s) a x q i here ne j h = leaves-on x q i here v ne g p s j (a.1.named p refl) h
-  other-stands g (Flash v u p s n) a x q i here ne j h = joined-on (is_one s n p x.number j q.a.0) (g x.number j q.a.0) h
+  other-stands g (Flash v u p s n) a x q i here ne j h = stays-with (is_one s n p x.number j q.a.0) (g x.number j q.a.0) h
   other-stands g (Revert v p s n) a x q i here ne j h =
-      not-fallen (is_one s n p x.number j q.a.0) (g x.number j q.a.0) (λ e. apart x q i here v ne p s (record { place = a.place; target = a.target }) (eqb-true q.a.0 p (and_parts _ _ (and_parts _ _ e).1).1)) h
+      stays-without (is_one s n p x.number j q.a.0) (g x.number j q.a.0) (λ e. apart x q i here v ne p s (record { place = a.place; target = a.target }) (eqb-true q.a.0 p (and_parts _ _ (and_parts _ _ e).1).1)) h
   other-stands g m a x q i here ne j h = h
 
   pub other-committed : (l : Standing) (m : Move) → InAttempt k m → (x : Session) (q : Member) → In x k.sessions → In q x.members → q.c.0 ≢ target m → (j : ℕ) → l x.number j q.a.0 ≡ true → next_committed m (k.volume (target m)) l x.number j q.a.0 ≡ true
   other-committed l (Reverse v None) a x q i here ne j h = h
   other-committed l (Reverse v (Some p)) a x q i here ne j h = leaves-on x q i here v ne l p (fields_at k v).session j (a.1.named p refl) h
   other-committed l (Leave v p s) a x q i here ne j h = leaves-on x q i here v ne l p s j (a.1.named p refl) h
-  other-committed l (Commit v p s n) a x q i here ne j h = joined-on (is_one s n p x.number j q.a.0) (l x.number j q.a.0) h
+  other-committed l (Commit v p s n) a x q i here ne j h = stays-with (is_one s n p x.number j q.a.0) (l x.number j q.a.0) h
   other-committed l m a x q i here ne j h = h
 
 -- ---- the target that changes
@@ -129,7 +122,7 @@ module _ (starts : Option ℕ) (w : World) (sound : SoundBut starts w) (kept : S
           shows = λ counts t lt. flashed-shows v u p s n a b t lt ∙ ap (λ j. at_cut write c n j t) (sym one.1);
           keeps = λ rev mem. o.shows (or-first f.member f.revertible mem);
           stands = λ counts. ap (λ b. cond b true (g x.number n q.a.0)) (is-same x.number n q.a.0 s n p one.0 refl one.1);
-          stood = λ rev mem. joined-on (is_one s n p x.number f.sequence q.a.0) (g x.number f.sequence q.a.0) (o.stands (or-first f.member f.revertible mem));
+          stood = λ rev mem. stays-with (is_one s n p x.number f.sequence q.a.0) (g x.number f.sequence q.a.0) (o.stands (or-first f.member f.revertible mem));
           number = λ mem. sym (ap (λ b. l x.number (cond b f.previous_sequence f.sequence) q.a.0) (flashable u f b.free).plain) ∙ o.number mem;
         }
 
@@ -151,7 +144,7 @@ module _ (starts : Option ℕ) (w : World) (sound : SoundBut starts w) (kept : S
         record {
           shows = λ counts. o.keeps b.revertible (or-left f.member counts);
           keeps = λ rev. absurd cc;
-          stands = λ counts. not-fallen (is_one s n p x.number f.previous_sequence q.a.0) (g x.number f.previous_sequence q.a.0)
+          stands = λ counts. stays-without (is_one s n p x.number f.previous_sequence q.a.0) (g x.number f.previous_sequence q.a.0)
               (λ is. other (or-left f.member counts) (eqb-true f.previous_sequence n (and_parts _ _ (and_parts _ _ is).1).0)) (o.stood b.revertible (or-left f.member counts));
           stood = λ rev. absurd cc;
           number = λ mem. sym (ap (λ b. l x.number (cond b f.previous_sequence f.sequence) q.a.0) b.revertible) ∙ o.number mem;

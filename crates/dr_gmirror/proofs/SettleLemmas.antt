@@ -10,6 +10,7 @@ use Rattle.dr_session.specs.Seen.{expects}
 use Rattle.dr_model.specs.Decisions.{Shown}
 use Rattle.dr_model.specs.Phases as phases
 use Rattle.dr_model.specs.Sessions.{Session, Mirror, session_in, mirror_in, changed, with_master}
+use Rattle.dr_laws.proofs.TurnsLeft.{reported-lost}
 use Rattle.dr_gmirror.specs.Exchange.{says_shown, is_lost, is_none, can_settle}
 use Rattle.dr_gmirror.proofs.BeginLemmas.{session-changed}
 
@@ -66,19 +67,6 @@ so-settles (Some r) h = let x = both (is_lost r.master.phase) (is_none r.master.
 pub settle-test : (b : Bool) (o : Option Mirror) → (IsTrue b ↔ IsSomeAnd o (λ r. (r.master.phase ≡ phase.Lost) × (r.master.owed ≡ []))) → b ≡ can_settle o
 settle-test true o iff = sym (settles-so o (iff.0 refl))
 settle-test false o iff = elim (can_settle o) as (λ b. can_settle o ≡ b → false ≡ b) [ true ↦ λ is. iff.1 (so-settles o is) | false ↦ λ is. refl ] refl
-
--- the work of a phase is a report only where the master is lost
-reported-lost : (p : PhaseName) (xs : List Shown) → phases.is_reply (phases.Reported xs) (phases.work_in p) ≡ true → p ≡ phase.Lost
-reported-lost phase.Lost xs h = refl
-reported-lost phase.Idle xs h = absurd cc
-reported-lost phase.Coordinating xs h = absurd cc
-reported-lost phase.Releasing xs h = absurd cc
-reported-lost phase.Draining xs h = absurd cc
-reported-lost phase.Flashing xs h = absurd cc
-reported-lost phase.Committing xs h = absurd cc
-reported-lost phase.Reverting xs h = absurd cc
-reported-lost phase.Finishing xs h = absurd cc
-reported-lost phase.None xs h = absurd cc
 
 -- there is a master, and it awaits the reply
 abbrev pub Awaited : Option Mirror → ℕ → phases.Reply → Type 0

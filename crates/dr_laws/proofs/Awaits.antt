@@ -197,7 +197,7 @@ which phase.None false n o h = absurd cc
 same-not-less : (n : ℕ) → nat_lt n n ≡ false
 same-not-less n = le-ltb n n (omega arith)
 
-none-refused : {P : Type 0} (w v : World) (r : Refusal) → ◌≡◌ {A = Outcome} (w, Some r) (v, None) → P
+pub none-refused : {P : Type 0} (w v : World) (r : Refusal) → ◌≡◌ {A = Outcome} (w, Some r) (v, None) → P
 none-refused w v r h = none_some (ap (λ (t : Outcome). t.1) h) refl
 
 refuse-passes : (w v : World) (why : Control → Option Refusal) (ds : List Entry) → carry w (refuse_if why ∷ ds) ≡ (v, None) → carry w ds ≡ (v, None)

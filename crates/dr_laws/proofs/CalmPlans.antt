@@ -23,8 +23,8 @@ use Rattle.dr_model.specs.WriteEntries.{sends_first, where_sent, send_first, lan
 use Rattle.dr_ids.specs.declared.refusal.Decision.{Decision}
 use Rattle.dr_model.specs.Plans.{counted_refusal, secondary_refusal, leaves_all, forbidden_unless, decided_in, restore_refusal, left_by, member_refusal, Plan, found_volumes, acknowledge_on, acknowledge_if, landed_on, named_pair, is_defined, is_owner, differ, is_no_source, has_few_targets, is_plain_target, is_recorded_target, is_lone_restore, has_no_pair, may_return, may_give_back, may_copy, at_most, left_to_copy}
 use Rattle.dr_laws.specs.Stops.{refused_stop}
-use Rattle.dr_ids.specs.declared.refusal.Decision.TheVariants.{NoMember, Nothing, RevertAll, CommitRest, RevertSome, Impossible}
 use Rattle.dr_model.specs.RecoveryPlans.{decided_in, take_over_on, settle_on, end_recovery, recover_entries}
+use Rattle.dr_laws.proofs.RecoveryEntries.{settle-cases}
 use Rattle.dr_laws.proofs.Cases.{Case, Says, Defines, Adds, Links, Issues, Writes, Applies, Shows, Stops, Arms, Starts, Flashes, Withdraws, Resyncs, Reverses, Copies, Paths, Unpaths, MakesPair, RemovesPair, Pauses, ResumesPair, Drains, Expires, Freezes, Thaws, JoinsSession, LeavesSession, Mirrors, PausesMirror, Unmirrors, Aborts, AddsMember, Expels, Exchanges, Recovers, Settles}
 use Rattle.std.specs.List.{find}
 use Rattle.dr_ids.specs.declared.names.Member.{Member}
@@ -267,12 +267,7 @@ members-calm each goes [] = none-calm
 members-calm each goes (m ∷ ms) = then-calm (each m) _ (goes-calm (each m) (goes m)) (members-calm each goes ms)
 
 settle-goes : (s : ℕ) (d : Decision) (m : Member) (k : Control) → Goes (settle_on s d m k)
-settle-goes s NoMember m k = pass-goes
-settle-goes s (Nothing n) m k = pass-goes
-settle-goes s (CommitRest n) m k = choice-goes (is_flashed n (fields_at k m.c.0)) (Do _) Pass (do-goes _) pass-goes
-settle-goes s (RevertAll n) m k = choice-goes (is_flashed n (fields_at k m.c.0)) (Do _) Pass (do-goes _) pass-goes
-settle-goes s (RevertSome o n) m k = choice-goes (is_flashed n (fields_at k m.c.0)) (Do _) Pass (do-goes _) pass-goes
-settle-goes s (Impossible a b) m k = pass-goes
+settle-goes s d m k = settle-cases Goes s d m k pass-goes (λ no n. do-goes _) (λ yes n. do-goes _)
 
 recover-calm : (s : ℕ) (d : Decision) (ms : List Member) → Unstopped (recover_entries s d ms)
 recover-calm s d ms =

@@ -1,5 +1,5 @@
 -- The cuts of each group are closed along every step, and so along every run.
-use Rattle.std.proofs.Common.{ℕ, ◌≡◌, ◌<◌, ◌+◌, length, refl, ap, sym, ◌∙◌, subst, true, false, List, [], ◌∷◌, ◌++◌, Option, Some, None}
+use Rattle.std.proofs.Common.{ℕ, ◌≡◌, ◌<◌, ◌+◌, length, refl, ap, sym, ◌∙◌, subst, true, false, List, [], ◌∷◌, Option, Some, None}
 use Rattle.std.proofs.Math.Path.{fun_ext}
 use Rattle.std.proofs.lemmas.List.{append-nil}
 use Rattle.dr_model.specs.declared.event.Event.{Event}
@@ -14,7 +14,7 @@ use Rattle.dr_model.specs.Plans.{has_landed}
 use Rattle.dr_model.specs.Cuts.{cuts}
 use Rattle.dr_closed.specs.Moments.{moments, standing}
 use Rattle.dr_model.specs.Runs.{Task, after_task, run}
-use Rattle.dr_model.specs.Laws.{SoundBut, Sound, AllPending}
+use Rattle.dr_model.specs.Laws.{SoundBut, Sound}
 use Rattle.dr_model.specs.Allowed.{May, MayOpen}
 use Rattle.dr_model.specs.ClosedCuts.{ClosedCuts}
 use Rattle.dr_model.proofs.Images.{histories-append, at_other}
@@ -23,7 +23,7 @@ use Rattle.dr_cuts.specs.Sound.{SoundCuts}
 use Rattle.dr_cuts.proofs.Worlds.{sound-nothing}
 use Rattle.dr_closed.specs.Closing.{LandedFree, Closing}
 use Rattle.dr_closed.specs.Silent.{Silent}
-use Rattle.dr_closed.proofs.Landed.{all-filter}
+use Rattle.dr_closed.proofs.Pendings.{all-filter, all-more}
 use Rattle.dr_closed.proofs.Mays.{may-done, may-stop, open-done, open-stop}
 use Rattle.dr_closed.proofs.Quiet.{closing-nothing, closing-told, closing-defined, closing-acknowledged}
 use Rattle.dr_closed.proofs.Regrouped.{closing-regrouped}
@@ -130,17 +130,13 @@ module _ (x : ℕ) where
       counts w (Restart v) f j k may = closing-stop (Some x) w j.sound k (Restart v) f (starts.may-restart x w v may)
       counts w m f j k may = absurd may
 
--- one pending write more, which hasn't landed
-free-more : (P : Pending → Type 0) (ps : List Pending) (p : Pending) → AllPending P ps → P p → AllPending P (ps ++ p ∷ [])
-free-more P [] p a h = (h, tt)
-free-more P (q ∷ ps) p a h = (a.0, free-more P ps p a.1 h)
-
+-- a write is issued
 closing-issued : (w : World) (s : Sound w) (v t offset len : ℕ) (bytes : List ℕ) (defined : is_volume w.control v ≡ true) (low : t < (w.control.volume v).tracks) → Closing w → Closing (issued w s v t offset len bytes defined low)
 closing-issued w s v t offset len bytes defined low k =
     let x : World = issued w s v t offset len bytes defined low in
     closing-told w x k (Issue (w.control.issued + 1) v t offset len bytes ∷ []) (tt, tt) (tt, tt) refl refl
     (λ u rec held q. ap (λ (h : Histories). h.now u q) (histories-append w.events (Issue (w.control.issued + 1) v t offset len bytes ∷ []))) refl
-    (free-more _ w.control.pending (record { w = w.control.issued + 1; volume = v; track = t; landed = false }) k.free (λ l. absurd cc))
+    (all-more _ w.control.pending (record { w = w.control.issued + 1; volume = v; track = t; landed = false }) k.free (λ l. absurd cc))
 
 closing-new : (w : World) (s : Sound w) (v server tracks : ℕ) (here : server < length w.control.servers) (undefined : is_volume w.control v ≡ false) → Closing w → Closing (with_volume w s v server tracks here undefined)
 closing-new w s v server tracks here undefined k =

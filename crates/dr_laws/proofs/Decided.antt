@@ -21,6 +21,10 @@ use Rattle.dr_laws.specs.Decided.{record_on, shown_on, DecidesOn}
 use Rattle.dr_laws.proofs.Steps.{sound-run}
 use Rattle.std.proofs.lemmas.Bool.{eq-eqb}
 
+-- the device of a volume that is defined has its record
+pub on-record : (w : World) (on : ℕ → Bool) (fuse : ℕ → Option Fuse) (device : ℕ → Blocks) → Fits w on fuse device → (v : ℕ) → In v w.control.volumes → record_on w device v ≡ fields_at w.control v
+on-record w on fuse device fits v there = (fits.volumes v (any-some (nat_eq v) w.control.volumes v there (eq-eqb v v refl))).fields
+
 module _ (w : World) (s : Sound w) (on : ℕ → Bool) (fuse : ℕ → Option Fuse) (device : ℕ → Blocks) (fits : Fits w on fuse device) (n : ℕ) where
   abbrev k : Control
   k = w.control
@@ -36,14 +40,11 @@ module _ (w : World) (s : Sound w) (on : ℕ → Bool) (fuse : ℕ → Option Fu
     sequence : r.sequence ≡ one.sequence
     revertible : r.revertible ≡ one.revertible
 
-  on-record : (v : ℕ) → In v k.volumes → record_on w device v ≡ fields_at k v
-  on-record v there = (fits.volumes v (any-some (nat_eq v) k.volumes v there (eq-eqb v v refl))).fields
-
   counts-so : (r : Shown) → In r (shown_on w device n) → Counts r
   counts-so r h =
       let o = from-map (λ v. shown_of (record_on w device v)) (filter (λ v. counts_in n (record_on w device v)) k.volumes) r h in
       let f = from-filter (λ v. counts_in n (record_on w device v)) k.volumes o.from o.here in
-      let is : record_on w device o.from ≡ fields_at k o.from = on-record o.from f.0 in
+      let is : record_on w device o.from ≡ fields_at k o.from = on-record w on fuse device fits o.from f.0 in
       let both = and_parts (nat_eq (fields_at k o.from).session n) ((fields_at k o.from).member || (fields_at k o.from).revertible) (subst (λ (g : Fields). counts_in n g ≡ true) is f.1) in
       let t : IsTarget k.sessions o.from (fields_at k o.from).session (roles k o.from).source (fields_at k o.from).recorded (fields_at k o.from).inhibited (fields_at k o.from).reversing = (s.attempts.volumes o.from).counted both.1 in
       record {

@@ -13,12 +13,13 @@ use Rattle.dr_model.specs.Table.{Row, table, waiting, due_by, aside, aside_by}
 use Rattle.dr_model.specs.Laws.{Seals, OneKind, SealedGlobal, AllSent, NoMetro, fields, ShowsAside, SoundRows, HoldsOld, RowParts, RowRecords, Partnered, OneWay, FreeSource, Alike, source, its_primary, its_secondary, Numbered, Waits, AllPending, Lone, Together, servers, sizes, Sound}
 use Rattle.dr_model.proofs.Images.{histories-append, at_other}
 use Rattle.dr_phases.proofs.Volumes.{attempts-defined}
+use Rattle.dr_closed.proofs.Pendings.{each-on}
 use Rattle.dr_laws.proofs.AtLemmas.{at_cases, Told, each-at, linked-at}
 use Rattle.dr_laws.proofs.Sets.{if_false, false_true, in_none, empty_has}
 use Rattle.dr_groups.proofs.Volumes.{groups-defined}
 use Rattle.dr_groups.proofs.Housed.{housed-volume}
 use Rattle.dr_model.proofs.LawfulLemmas.{lawful-no_fields}
-use Rattle.dr_laws.proofs.KeepsQueue.{each-on, numbered-after}
+use Rattle.dr_laws.proofs.KeepsQueue.{numbered-after}
 use Rattle.dr_laws.proofs.KeepsStructure.{structure-at}
 use Rattle.dr_laws.proofs.KeepsImages.{images-at}
 use Rattle.dr_laws.proofs.KeepsTargets.{few-defined}

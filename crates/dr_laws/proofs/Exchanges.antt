@@ -1,10 +1,9 @@
--- Laws that hold along plans, and along every exchange: what an order's entries do to the members that they are about.
-use Rattle.std.proofs.Common.{ℕ, ◌≡◌, inl, inr, refl, sym, subst, Bool, true, false, cond, not, ◌&&◌, nat_eq, nat_lt, List, [], ◌∷◌, ◌++◌, take, length, Option, Some, None}
-use Rattle.std.proofs.Math.Seq.{take-length}
+-- Laws that hold along every exchange: what an order's entries do to the members that they are about.
+use Rattle.std.proofs.Common.{ℕ, ◌≡◌, inl, inr, refl, Bool, true, false, cond, not, ◌&&◌, nat_eq, nat_lt, List, [], ◌∷◌, ◌++◌, Option, Some, None}
 use Rattle.dr_ids.specs.declared.names.Member.{Member}
 use Rattle.dr_ids.specs.declared.refusal.PhaseName.TheVariants as phase
 use Rattle.dr_ids.specs.declared.refusal.Refusal.{Refusal}
-use Rattle.dr_ids.specs.declared.refusal.Refusal.TheVariants.{Stopped as StoppedIn, OutOfOrder}
+use Rattle.dr_ids.specs.declared.refusal.Refusal.TheVariants.{OutOfOrder}
 use Rattle.dr_ids.specs.declared.refusal.Kind.TheVariants.{Server as OfServer, Session as OfSession}
 use Rattle.dr_model.specs.declared.event.Event.{Event}
 use Rattle.dr_model.specs.declared.step.Name.{Name}
@@ -14,77 +13,25 @@ use Rattle.dr_model.specs.Phases as phases
 use Rattle.dr_model.specs.Sessions.{Session, Mirror, session_in, mirror_in, members_in}
 use Rattle.dr_model.specs.Pairs.{records}
 use Rattle.dr_model.specs.Moves.{Hold, Free, Seal, Flash, Commit, Revert, RaiseFloor, Finish}
-use Rattle.dr_model.specs.Carry.{Act, Make, OpenAttempt, Next, Pass, Do, End, Entry, carry}
+use Rattle.dr_model.specs.Carry.{Act, Make, OpenAttempt, Next, Pass, Do, End, Entry}
 use Rattle.dr_model.specs.Entries.{fields_at}
 use Rattle.dr_model.specs.PairEntries.{send_refusal, reach_refusal, end_if, refuse_if}
 use Rattle.dr_model.specs.SessionEntries.{last_of, hold_refusal, stale_refusal, hold_on, void_refusal, free_on, is_drained, seal_refusal, seal_on, is_flashed, flash_refusal, flash_on, is_committed, commit_refusal, commit_on, revert_on, is_past, finish_on, member_entries, members_on, order_entries}
 use Rattle.dr_model.specs.SessionPlans.{answered_by, exchange_refusal, order_of, exchange_done, exchange_on, asking, exchange_plan}
-use Rattle.dr_model.specs.PlanParts.{Plan, same, refuses, unless, on_session, on_named, server_named, name_bytes}
-use Rattle.dr_model.specs.Carried.{begun, finish, after_plan}
-use Rattle.dr_model.specs.ReadStops.{Ends}
+use Rattle.dr_model.specs.PlanParts.{Plan, same, refuses, on_session, on_named, server_named, name_bytes}
 use Rattle.dr_model.specs.Groups.{In}
 use Rattle.dr_model.specs.Laws.{Sound}
 use Rattle.dr_groups.proofs.Silent.{on-members}
-use Rattle.dr_laws.proofs.KeepsSound.{MayDo, keeps-sound}
+use Rattle.dr_laws.proofs.KeepsSound.{MayDo}
 use Rattle.dr_laws.proofs.FitsFlash.{as_begun, sound-begun}
 use Rattle.dr_laws.proofs.FitsSessions.{Orders}
 use Rattle.dr_laws.proofs.FitsOrders.{orders-ordered}
 use Rattle.dr_laws.proofs.Cases.{Ordered, ordered}
-use Rattle.dr_laws.proofs.Rides.{Rides, Both, keeps-with}
+use Rattle.dr_laws.proofs.Rides.{Rides, Both}
+use Rattle.dr_laws.proofs.Keeping.{MayFit, keeps-fit, Keeping, Goes, refused-goes, goes-unless}
 use Rattle.dr_laws.proofs.Along as along
 
--- ---- a plan along which a law holds
-
--- W is to hold wherever a plan comes to: a law that the acts keep gives it, and it says nothing of which servers are on, nor of the
--- journal
-pub record Keeping (w : World) (W : World → Type 0) : Type 1 where
-  pub law : World → Type 0
-  pub may : World → Act → Type 0
-  pub keeps : along.Keeps law law may
-  pub gives : (v : World) → law v → W v
-  pub told : (v : World) (on : ℕ → Bool) (es : List Event) → W v → W (record v { control = record v.control { on = on }; events = es })
-  pub begins : law (as_begun w)
-
-module _ (w : World) (W : World → Type 0) (k : Keeping w W) where
-  -- such a plan: its acts may come, its last tables keep W, and nothing follows a stop
-  pub record Goes (p : Plan) : Type 0 where
-    pub begun_as : begun w p ≡ as_begun w
-    pub entries : along.Along k.law k.law k.law k.may (as_begun w) p.entries
-    pub last : (v : World) → W v → W (record v { control = p.last v.control })
-    pub follows : (q : ℕ) → p.follows q ≡ []
-
-  pub refused-goes : (r : Refusal) → Goes (refuses r)
-  refused-goes r = record { begun_as = refl; entries = along.along-nil k.law k.law k.law k.may (as_begun w) k.begins; last = λ v h. h; follows = λ q. refl }
-
-  pub goes-unless : (o : Option Refusal) (p : Plan) → (o ≡ None → Goes p) → Goes (unless o p)
-  goes-unless None p go = go refl
-  goes-unless (Some r) p go = refused-goes r
-
-  pub goes-moment : (p : Plan) → Goes p → (n : ℕ) → W (carry (begun w p) (take n p.entries)).0
-  goes-moment p goes n =
-      subst (λ b. W (carry b (take n p.entries)).0) (sym goes.begun_as)
-      (along.along-moment k.law k.law k.law W k.may k.gives k.gives k.gives k.keeps (as_begun w) n p.entries k.begins goes.entries)
-
-  pub goes-ends : (p : Plan) → Goes p → (armed : ℕ → Bool) (u : World) (r : Option Refusal) → Ends armed u r (begun w p) p.entries → W u
-  goes-ends p goes armed u r e =
-      along.ends-weaker k.law k.law k.law W k.may k.gives k.gives k.gives k.keeps armed (λ v q i on is. k.told v _ _ (k.gives v i)) u r (as_begun w) p.entries k.begins goes.entries
-      (subst (λ b. Ends armed u r b p.entries) goes.begun_as e)
-
-  -- where it ends, and as it is answered
-  pub finish-goes : (p : Plan) → Goes p → (u : World) (r : Option Refusal) → W u → W (finish p u r)
-  unfolding carry
-  finish-goes p goes u None h = goes.last u h
-  finish-goes p goes u (Some (StoppedIn q)) h = subst (λ ds. W (carry u ds).0) (sym (goes.follows q.0)) h
-  finish-goes p goes u (Some r) h = h
-
-  pub goes-after : (p : Plan) → Goes p → (line : ℕ) → W (after_plan w line p)
-  unfolding after_plan
-  goes-after p goes line = k.told _ _ _ (finish-goes p goes _ _ (subst (λ ds. W (carry (begun w p) ds).0) (take-length p.entries) (goes-moment p goes (length p.entries))))
-
 -- ---- the acts of an exchange
-
-abbrev pub MayFit : (Act → Type 0) → World → Act → Type 0
-MayFit Fit u a = MayDo u a × Fit a
 
 -- An order's acts on a member fit: those on its primary and its secondary in any case, those on its target where its primary can send.
 pub record FitsMember (Holds : World → Type 0) (Fit : Act → Type 0) (s : ℕ) (q : Member) : Type 0 where
@@ -103,7 +50,7 @@ pub record FitsMember (Holds : World → Type 0) (Fit : Act → Type 0) (s : ℕ
 pub record Exchanging (w : World) (W : World → Type 0) : Type 1 where
   pub law : World → Type 0
   pub fit : Act → Type 0
-  pub acts : Rides Sound law (MayFit fit)
+  pub acts : Rides Sound law (MayFit (λ u. fit))
   pub begins : law (as_begun w)
   pub members : (s : ℕ) (y : Session) → session_in w.control.sessions s ≡ Some y → (q : Member) → In q y.members → FitsMember law fit s q
   pub gives : (v : World) → law v → W v
@@ -115,7 +62,7 @@ module _ (w : World) (sound : Sound w) (W : World → Type 0) (x : Exchanging w 
   I = Both Sound x.law
 
   abbrev May : World → Act → Type 0
-  May = MayFit x.fit
+  May = MayFit (λ u. x.fit)
 
   -- ---- entries whose acts fit wherever they come
 
@@ -216,15 +163,7 @@ module _ (w : World) (sound : Sound w) (W : World → Type 0) (x : Exchanging w 
   keeping = record {
     law = I;
     may = May;
-    keeps = keeps-with Sound x.law May Sound
-        (record {
-          runs = λ u a d may. keeps-sound.runs u a d may.0;
-          does = λ u a f j may. keeps-sound.does u a f j may.0;
-          counts = λ u a f j may. keeps-sound.counts u a f j may.0;
-          opens = λ u v s n f j may. keeps-sound.opens u v s n f j may.0;
-          fails = λ u a f d j may. keeps-sound.fails u a f d j may.0;
-        })
-        x.acts;
+    keeps = keeps-fit x.law (λ u. x.fit) x.acts;
     gives = λ v i. x.gives v i.1;
     told = x.told;
     begins = (sound-begun w sound, x.begins);

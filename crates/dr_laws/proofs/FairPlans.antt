@@ -8,8 +8,8 @@ use Rattle.dr_model.specs.Moves.{Move, Land, Restore, Store, Strike, MakePrimary
 use Rattle.dr_model.specs.Carry.{Act, Make, OpenAttempt, attempt_begun, Redo, Acknowledge, Drop, EndFreeze, EndThaw, EndRecovery, dropped, frozen, thawed, recovered, Next, Pass, Do, End, Entry, check}
 use Rattle.dr_model.specs.Entries.{fields_at}
 use Rattle.dr_model.specs.Laws.{Sound}
+use Rattle.dr_closed.proofs.Pendings.{all-filter}
 use Rattle.dr_laws.proofs.Turns.{done, done_in_stop, opened_in_stop, server_of, after_act}
-use Rattle.dr_laws.proofs.KeepsQueue.{all-filter}
 use Rattle.dr_laws.proofs.Along as along
 use Rattle.dr_laws.proofs.KeepsSound.{MayDo, Along, Then, keeps-sound}
 use Rattle.dr_laws.proofs.Fair.{Fair, tag_after, come, come-open}

@@ -3,7 +3,6 @@ use Rattle.std.proofs.Common.{ℕ, ◌≡◌, ◌<◌, refl, ap, sym, ◌∙◌,
 use Rattle.std.proofs.lemmas.List.{append-nil}
 use Rattle.dr_ids.specs.declared.names.Member.{Member}
 use Rattle.dr_ids.specs.declared.refusal.Decision.{Decision}
-use Rattle.dr_ids.specs.declared.refusal.Decision.TheVariants.{NoMember, Nothing, RevertAll, CommitRest, RevertSome, Impossible}
 use Rattle.dr_ids.specs.declared.refusal.Refusal.{Refusal}
 use Rattle.dr_ids.specs.declared.refusal.Refusal.TheVariants.{Stopped as StoppedIn}
 use Rattle.dr_model.specs.declared.said.Said.{Said}
@@ -24,6 +23,7 @@ use Rattle.dr_model.specs.RecoveryPlans.{take_over_on, settle_on, end_recovery, 
 use Rattle.dr_model.specs.Pairs.{records}
 use Rattle.dr_model.specs.Entries.{fields_at}
 use Rattle.dr_model.specs.PairEntries.{reach_refusal, send_refusal}
+use Rattle.dr_laws.proofs.RecoveryEntries.{settle-cases}
 use Rattle.dr_laws.proofs.KeepsSound.{StepHolds, RowsAt, MayDo, keeps-sound}
 use Rattle.dr_laws.proofs.FitsSessions.{Orders}
 use Rattle.dr_laws.proofs.Tidy.{tidy-same, fresh-told}
@@ -133,12 +133,7 @@ easy-members each easy [] = easy-nil
 easy-members each easy (m ∷ ms) = easy-cons (each m) (map each ms) (easy m) (easy-members each easy ms)
 
 easy-acts : (s : ℕ) (d : Decision) (m : Member) (k : Control) → EasyNext k (settle_on s d m k)
-easy-acts s NoMember m k = tt
-easy-acts s (Nothing n) m k = tt
-easy-acts s (CommitRest n) m k = choose k (is_flashed n (fields_at k m.c.0)) (Do (Make (CommitMove m.c.0 m.a.0 s n))) Pass tt tt
-easy-acts s (RevertAll n) m k = choose k (is_flashed n (fields_at k m.c.0)) (Do (Make (RevertMove m.c.0 m.a.0 s n))) Pass tt tt
-easy-acts s (RevertSome o n) m k = choose k (is_flashed n (fields_at k m.c.0)) (Do (Make (RevertMove m.c.0 m.a.0 s n))) Pass tt tt
-easy-acts s (Impossible a b) m k = tt
+easy-acts s d m k = settle-cases (EasyNext k) s d m k tt (λ no n. tt) (λ yes n. tt)
 
 pub easy-recover : (s : ℕ) (d : Decision) (ms : List Member) → AllEasy (recover_entries s d ms)
 easy-recover s d ms =

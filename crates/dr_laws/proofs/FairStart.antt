@@ -23,10 +23,10 @@ use Rattle.dr_model.specs.Runs.{begun}
 use Rattle.dr_model.specs.Laws.{servers}
 use Rattle.dr_model.specs.Allowed.{Runs}
 use Rattle.dr_model.proofs.Images.{at_same, at_other, histories-append}
+use Rattle.dr_closed.proofs.Pendings.{each-on}
 use Rattle.dr_laws.proofs.Sets.{bare-has}
 use Rattle.dr_laws.proofs.AtLemmas.{Told, at_cases, at_part}
 use Rattle.dr_laws.proofs.Turns.{done, done_in_stop, not_done, fused}
-use Rattle.dr_laws.proofs.KeepsQueue.{each-on}
 use Rattle.dr_laws.proofs.FitsPairs.{row}
 use Rattle.dr_laws.proofs.Starts as starts
 use Rattle.dr_laws.proofs.Fair.{Unacked, come}

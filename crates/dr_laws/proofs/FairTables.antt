@@ -17,6 +17,7 @@ use Rattle.dr_model.specs.Runs.{begun}
 use Rattle.dr_model.specs.Table.{waiting}
 use Rattle.dr_model.specs.Laws.{Sound, AllPending}
 use Rattle.dr_model.proofs.Images.{at_other, histories-append}
+use Rattle.dr_closed.proofs.Pendings.{each-on, all-more}
 use Rattle.dr_laws.specs.Windows.{is_ack}
 use Rattle.dr_laws.proofs.AtLemmas.{at_cases}
 use Rattle.dr_laws.proofs.Sets.{false_true}
@@ -24,7 +25,6 @@ use Rattle.dr_laws.proofs.Cases.{Case, Says, Defines, Adds, Links, Issues, Shows
 use Rattle.dr_laws.proofs.KeepsSound.{StepHolds, RowsAt, MayDo, keeps-sound}
 use Rattle.dr_laws.proofs.Steps.{case-holds}
 use Rattle.dr_laws.proofs.Fair.{Unacked}
-use Rattle.dr_laws.proofs.KeepsQueue.{each-on}
 use Rattle.dr_laws.proofs.KeepsWindow.{AllSilent}
 use Rattle.dr_laws.proofs.KeepsStep.{Unchanged}
 use Rattle.dr_laws.proofs.KeepsMirror.{still-unacked}
@@ -127,10 +127,6 @@ module _ (w : World) (k : Between w) where
 late-unacked : (w : World) (n : ℕ) → Fresh w → w.control.issued < n → (es : List Event) → list_any (is_ack n) es ≡ false → list_any (is_ack n) (w.events ++ es) ≡ false
 late-unacked w n fresh lt es none = still-unacked w.events es n (fresh.later n lt) none
 
-more-pending : (P : Pending → Type 0) (ps : List Pending) (p : Pending) → AllPending P ps → P p → AllPending P (ps ++ p ∷ [])
-more-pending P [] p all here = (here, tt)
-more-pending P (x ∷ xs) p all here = (all.0, more-pending P xs p all.1 here)
-
 waiting-new : (ps : List Pending) (p : Pending) (v t : ℕ) → p.landed ≡ false → waiting (ps ++ p ∷ []) v t ≡ waiting ps v t
 waiting-new [] p v t h = ap (λ b. cond (b && here) (p.w ∷ []) []) h
   where
@@ -160,7 +156,7 @@ module _ (w : World) (tidy : Tidy w) (v t offset len : ℕ) (bytes : List ℕ) w
 
   pub issued-tidy : Tidy issued
   issued-tidy = tidy-same w issued refl refl (λ j h. h) (record {
-    unacked = more-pending (λ p. Unacked issued p.w) w.control.pending _ (each-on (λ p a. still-unacked w.events (e ∷ []) p.w a refl) w.control.pending tidy.fresh.unacked) (late-unacked w (w.control.issued + 1) tidy.fresh (omega arith) (e ∷ []) refl);
+    unacked = all-more (λ p. Unacked issued p.w) w.control.pending _ (each-on (λ p a. still-unacked w.events (e ∷ []) p.w a refl) w.control.pending tidy.fresh.unacked) (late-unacked w (w.control.issued + 1) tidy.fresh (omega arith) (e ∷ []) refl);
     later = λ n lt. late-unacked w n tidy.fresh (omega arith) (e ∷ []) refl;
   }) tidy
 

@@ -23,10 +23,10 @@ use Rattle.dr_model.specs.Plans.{Plan, same, issue_refusal, write_done, apply_do
 use Rattle.dr_model.specs.Laws.{AllPending}
 use Rattle.dr_model.specs.Allowed.{May, Runs}
 use Rattle.dr_model.proofs.Images.{at_same}
+use Rattle.dr_closed.proofs.Pendings.{all-filter}
 use Rattle.dr_laws.proofs.Cases.{may-issue}
 use Rattle.dr_laws.proofs.Sets.{false_true, insert_other, not_removed, not_removed_from}
 use Rattle.dr_laws.proofs.Turns.{done, next_of}
-use Rattle.dr_laws.proofs.KeepsQueue.{all-filter}
 use Rattle.dr_laws.proofs.KeepsSound.{Along, comes}
 use Rattle.dr_laws.proofs.Issues.{issued, sound-issued, one-new}
 use Rattle.dr_laws.proofs.Lands.{found-alone, waits}

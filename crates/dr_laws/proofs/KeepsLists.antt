@@ -2,7 +2,7 @@
 use Rattle.std.proofs.Common.{ℕ, ◌≡◌, ◌≢◌, inl, inr, refl, ap, sym, ◌∙◌, Bool, true, false, cond, ◌&&◌, ◌||◌, nat_eq, List, [], ◌∷◌, ◌++◌, append_assoc, map, Some, None}
 use Rattle.std.proofs.lemmas.List.{append-nil}
 use Rattle.std.proofs.lemmas.List.Folds.{list_any-append}
-use Rattle.std.proofs.lemmas.Bool.{ne_eqb, eq-eqb, or_left, or_right}
+use Rattle.std.proofs.lemmas.Bool.{eq-eqb, or_left, or_right}
 use Rattle.std.proofs.lemmas.Bool.Decides.{eqb_tells}
 use Rattle.std.specs.List.{list_any, fold}
 use Rattle.dr_model.specs.declared.event.Event.{Event}
@@ -18,6 +18,7 @@ use Rattle.dr_model.specs.Table.{table}
 use Rattle.dr_model.specs.Laws.{SoundRows, source}
 use Rattle.dr_model.specs.Allowed.{Allowed}
 use Rattle.dr_model.proofs.Images.{histories-append}
+use Rattle.dr_closed.proofs.Told.{elsewhere}
 use Rattle.dr_laws.specs.Windows.{is_ack, acked_in, acked_on}
 use Rattle.dr_laws.proofs.AtLemmas.{Told}
 use Rattle.dr_laws.proofs.Sets.{false_true, from_source}
@@ -59,9 +60,6 @@ ack-by h n v t (inr not) told =
     let x : Write = h.write n in
     (λ i. cond (not.0 i) (cond (nat_eq t x.track) (joined h n) (h.now v t)) (h.now v t)) ∙ sym (append-nil (h.now v t))
     ∙ sym (λ i. h.now v t ++ cond (not.0 i && nat_eq t x.track) (n ∷ []) [])
-
-elsewhere : {X : Type 0} (v x : ℕ) (new old : X) → v ≢ x → cond (nat_eq v x) new old ≡ old
-elsewhere v x new old ne = ap (λ b. cond b new old) (ne_eqb v x ne)
 
 apart-event : (h : Histories) (e : Event) (v t : ℕ) → Apart v e → (after_event h e).now v t ≡ h.now v t ++ acked_in h.write v t e
 apart-event h (VolumeDefined x server tracks) v t a = absurd a

@@ -15,6 +15,7 @@ use Rattle.dr_model.specs.Laws.{Lone, Together, servers, sizes, Below, Numbered,
 use Rattle.dr_model.specs.Entries.{is_at}
 use Rattle.dr_model.specs.Allowed.{Coming, Ready}
 use Rattle.dr_model.proofs.Images.{histories-append, at_same, Below-append}
+use Rattle.dr_closed.proofs.Pendings.{each-on, all-filter}
 use Rattle.dr_laws.proofs.AtLemmas.{at_cases, at2_at}
 use Rattle.dr_laws.proofs.Turns.{done, done_in_stop}
 
@@ -68,23 +69,11 @@ quiet-append : (n : ℕ) (es fs : List Event) → AllQuiet n es → AllQuiet n f
 quiet-append n [] fs p q = q
 quiet-append n (e ∷ es) fs p q = (p.0, quiet-append n es fs p.1 q)
 
-pub each-on : {P Q : Pending → Type 0} → ((p : Pending) → P p → Q p) → (ps : List Pending) → AllPending P ps → AllPending Q ps
-each-on f [] all = tt
-each-on f (p ∷ ps) all = (f p all.0, each-on f ps all.1)
-
 pub lone-on : (server other : ℕ → ℕ) → ((v : ℕ) → other v ≡ server v) → (ps : List Pending) → Lone server ps → Lone other ps
 lone-on server other same [] all = tt
 lone-on server other same (p ∷ ps) all = (each-on (λ q apart l m e. apart l m (sym (same p.volume) ∙ e ∙ same q.volume)) ps all.0, lone-on server other same ps all.1)
 
 -- a write leaves the queue
-all-cut : (P : Pending → Type 0) (p : Pending) (b : Bool) (ps : List Pending) → P p → AllPending P ps → AllPending P (cond b (p ∷ ps) ps)
-all-cut P p true ps here all = (here, all)
-all-cut P p false ps here all = all
-
-pub all-filter : (P : Pending → Type 0) (f : Pending → Bool) (ps : List Pending) → AllPending P ps → AllPending P (filter f ps)
-all-filter P f [] all = tt
-all-filter P f (p ∷ ps) all = all-cut P p (f p) _ all.0 (all-filter P f ps all.1)
-
 apart-cut : (p : Pending) (b : Bool) (ps : List Pending) → AllPending (λ q. q.w ≡ p.w → ⊥) ps → Apart ps → Apart (cond b (p ∷ ps) ps)
 apart-cut p true ps here all = (here, all)
 apart-cut p false ps here all = all

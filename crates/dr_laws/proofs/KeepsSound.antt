@@ -19,6 +19,7 @@ use Rattle.dr_model.specs.Rows.{after}
 use Rattle.dr_model.specs.Laws.{SoundRows, SoundBut, Sound, Queue, AllPending, Waits, servers}
 use Rattle.dr_model.specs.Allowed.{Allowed, May, MayOpen, Runs}
 use Rattle.dr_model.proofs.Images.{histories-append}
+use Rattle.dr_closed.proofs.Pendings.{all-filter}
 use Rattle.dr_laws.proofs.Turns.{carried_in, done, done_in_stop, opened_in_stop, not_done, after_act, place, Writes}
 use Rattle.dr_laws.proofs.RowsAfter.{table-done, table-stop}
 use Rattle.dr_laws.proofs.KeepsStructure.{kept-structure}
@@ -32,7 +33,7 @@ use Rattle.dr_laws.proofs.KeepsPairs.{kept-pairs}
 use Rattle.dr_laws.proofs.KeepsGroups.{groups-after, groups-begun, housed-after, attempts-after, attempts-begun}
 use Rattle.dr_groups.proofs.Volumes.{groups-same}
 use Rattle.dr_laws.proofs.KeepsTargets.{few-after}
-use Rattle.dr_laws.proofs.KeepsQueue.{AllQuiet, queue-done, queue-stop, queue-same, goes-off, all-filter, apart-filter, lone-filter}
+use Rattle.dr_laws.proofs.KeepsQueue.{AllQuiet, queue-done, queue-stop, queue-same, goes-off, apart-filter, lone-filter}
 use Rattle.dr_laws.proofs.Due.{waiting-settled}
 use Rattle.dr_laws.proofs.Along as along
 

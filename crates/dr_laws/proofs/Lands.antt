@@ -13,9 +13,9 @@ use Rattle.dr_model.specs.Entries.{fields_at, is_open, is_settled, is_revertible
 use Rattle.dr_model.specs.Laws.{Sound, Waits, AllPending, Apart}
 use Rattle.dr_model.specs.Allowed.{Coming, MayAck, Runs}
 use Rattle.dr_phases.proofs.Moves.{uncounted-by}
+use Rattle.dr_closed.proofs.Pendings.{all-filter}
 use Rattle.dr_laws.proofs.Sets.{false_true, none_some, no_source, has_source, from_source}
 use Rattle.dr_laws.proofs.RowsAfter.{idle}
-use Rattle.dr_laws.proofs.KeepsQueue.{all-filter}
 use Rattle.dr_laws.proofs.KeepsSound.{Along, Then, over, decides, checked}
 use Rattle.dr_laws.proofs.FitsFlash.{both-not}
 use Rattle.dr_laws.proofs.CopyFirst.{from, from-copies, any-has, copy-first, copy-none}

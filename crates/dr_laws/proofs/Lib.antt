@@ -17,6 +17,7 @@ pub mod KeepsSeals
 pub mod KeepsAsides
 mod KeepsGroups
 pub mod Along
+pub mod RecoveryEntries
 pub mod KeepsSound
 pub mod Views
 pub mod CopyFirst
@@ -85,6 +86,7 @@ pub mod BothViews
 pub mod Decided
 pub mod Recovered
 pub mod DecidedOver
+pub mod Keeping
 pub mod RecoverySame
 pub mod Recovers
 pub mod RecoversEnd

@@ -16,6 +16,7 @@ use Rattle.dr_model.specs.Fits.{Fits, on_device}
 use Rattle.dr_groups.proofs.Lists.{from-filter, any-some}
 use Rattle.dr_laws.specs.Decided.{record_on}
 use Rattle.dr_laws.specs.Recovered.{Records, decided_over, goes_back, remains_in, number_after, view_before, common, recovered_in, recovered_on, TellsRecovery, SameRecovery, HoldsTracks}
+use Rattle.dr_laws.proofs.Decided.{on-record}
 use Rattle.dr_laws.proofs.Views.{shown-due}
 use Rattle.dr_laws.proofs.RecoverySame.{filter-same, map-same, is-revertible}
 use Rattle.dr_laws.proofs.Sets.{from_source}
@@ -42,18 +43,18 @@ module _ (w : World) (on : ℕ → Bool) (fuse : ℕ → Option Fuse) (device : 
   is-there : (v : ℕ) → In v k.volumes → is_volume k v ≡ true
   is-there v there = any-some (nat_eq v) k.volumes v there (eq-eqb v v refl)
 
-  on-record : (v : ℕ) → In v k.volumes → record_on w device v ≡ fields_at k v
-  on-record v there = (fits.volumes v (is-there v there)).fields
+  same-record : (v : ℕ) → In v k.volumes → record_on w device v ≡ fields_at k v
+  same-record = on-record w on fuse device fits
 
   decides : decided_over (record_on w device) k.volumes s ≡ decided_over (fields_at k) k.volumes s
-  decides = decided-same (record_on w device) (fields_at k) k.volumes on-record s
+  decides = decided-same (record_on w device) (fields_at k) k.volumes same-record s
 
   -- whether it is to revert
   abbrev reverts : Bool
   reverts = lets_revert (decided_over (fields_at k) k.volumes s)
 
   goes : (v : ℕ) → In v k.volumes → goes_back (lets_revert (decided_over (record_on w device) k.volumes s)) (record_on w device v) ≡ goes_back reverts (fields_at k v)
-  goes v there = λ i. goes_back (lets_revert (decides i)) (on-record v there i)
+  goes v there = λ i. goes_back (lets_revert (decides i)) (same-record v there i)
 
   -- an image, by whether the volume goes back
   chosen : (b : Bool) (v t : ℕ) (there : In v k.volumes) → goes_back reverts (fields_at k v) ≡ b
@@ -65,14 +66,14 @@ module _ (w : World) (on : ℕ → Bool) (fuse : ℕ → Option Fuse) (device : 
 
   shows : (v t : ℕ) → In v k.volumes → goes_back reverts (fields_at k v) ≡ false → t < (k.volume v).tracks → (recovered_on w device s).image v t ≡ (recovered_in w s).image v t
   shows v t there stays lt = chosen false v t there stays
-      (ap (λ (f : Fields). cond (shows_source f t) (on_device k device f.source t) (on_device k device v t)) (on-record v there)
+      (ap (λ (f : Fields). cond (shows_source f t) (on_device k device f.source t) (on_device k device v t)) (same-record v there)
       ∙ (fits.tracks v t (is-there v there) lt ∙ sym (shown-due (table w) sound.rows.images v t lt)))
 
   pub tells-recovery : TellsRecovery w device s
   tells-recovery = record {
     decides = decides;
-    remaining = remaining-same (record_on w device) (fields_at k) k.volumes on-record s _ _ (ap lets_revert decides);
-    group = group-same (record_on w device) (fields_at k) k.volumes on-record s _ _ (ap lets_revert decides);
+    remaining = remaining-same (record_on w device) (fields_at k) k.volumes same-record s _ _ (ap lets_revert decides);
+    group = group-same (record_on w device) (fields_at k) k.volumes same-record s _ _ (ap lets_revert decides);
     images = λ v t h stays lt. shows v t (from-filter _ k.volumes v h).0 stays lt;
   }
 
@@ -86,7 +87,7 @@ module _ (w : World) (on : ℕ → Bool) (fuse : ℕ → Option Fuse) (device : 
       let own = holds v t (is-there v there) lt in
       let other : on_device k device f.source t ≡ w.contents f.source t = subst (λ u. on_device k device u t ≡ w.contents u t) (sym from) (holds is.from t flash.defined (subst (λ n. t < n) flash.same_tracks lt)) in
       chosen true v t there back
-      (ap (λ (f : Fields). cond (contains f.previous_own t) (on_device k device v t) (on_device k device f.source t)) (on-record v there)
+      (ap (λ (f : Fields). cond (contains f.previous_own t) (on_device k device v t) (on_device k device f.source t)) (same-record v there)
       ∙ (λ i. cond (contains f.previous_own t) (own i) (other i)))
 
   pub same-on : HoldsTracks w device → SameRecovery (sizes w.control) (recovered_in w s) (recovered_on w device s)

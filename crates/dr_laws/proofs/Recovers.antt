@@ -1,29 +1,26 @@
 -- Along a recovery, wherever a server stops in it, and where reads fail: another one makes the same of the session.
-use Rattle.std.proofs.Common.{ℕ, ◌≡◌, inl, inr, refl, ap, sym, ◌∙◌, subst, Bool, true, false, cond, ◌||◌, List, [], ◌∷◌, ◌++◌, map, take, length, Option, Some, None}
+use Rattle.std.proofs.Common.{ℕ, ◌≡◌, inl, inr, refl, ap, sym, ◌∙◌, subst, Bool, true, false, cond, ◌||◌, List, [], ◌∷◌, ◌++◌, Option, Some, None}
 use Rattle.std.specs.Prelude.{◌&&◌, ◌==◌}
 use Rattle.std.proofs.lemmas.Bool.{or_right}
 use Rattle.std.proofs.lemmas.Bool.Decides.{eqb_tells}
-use Rattle.std.proofs.Math.Seq.{take-length}
 use Rattle.dr_ids.specs.declared.names.Member.{Member}
 use Rattle.dr_ids.specs.declared.refusal.Refusal.{Refusal}
-use Rattle.dr_ids.specs.declared.refusal.Refusal.TheVariants.{Stopped as StoppedIn}
 use Rattle.dr_ids.specs.declared.refusal.Decision.{Decision}
-use Rattle.dr_ids.specs.declared.refusal.Decision.TheVariants.{NoMember, Nothing, RevertAll, CommitRest, RevertSome, Impossible}
 use Rattle.dr_ids.specs.declared.refusal.Kind.TheVariants.{Session as OfSession, Volume as OfVolume}
 use Rattle.dr_model.specs.Refusals.{unknown}
 use Rattle.dr_model.specs.declared.event.Event.{Event}
 use Rattle.dr_model.specs.Histories.{histories}
-use Rattle.dr_model.specs.Layout.{Fields, is_part}
+use Rattle.dr_model.specs.Layout.{Fields}
 use Rattle.dr_model.specs.Decisions.{Shown, decision}
-use Rattle.dr_model.specs.Control.{Control, Fuse, Pending, Volume, World}
+use Rattle.dr_model.specs.Control.{Fuse, Pending, Volume, World}
 use Rattle.dr_model.specs.Relations.{committed, reverted}
 use Rattle.dr_model.specs.Pairs.{taken_over}
 use Rattle.dr_model.specs.Moves.{Move, TakeOver, Commit, Revert, target, moved}
-use Rattle.dr_model.specs.Carry.{Act, Make, EndRecovery, OpenAttempt, Redo, Acknowledge, Drop, EndFreeze, EndThaw, Next, Pass, Do, End, Entry, carry}
+use Rattle.dr_model.specs.Carry.{Act, Make, EndRecovery, OpenAttempt, Redo, Acknowledge, Drop, EndFreeze, EndThaw, Next, Pass, Do, End, Entry}
 use Rattle.dr_model.specs.ReadStops.{Ends}
 use Rattle.dr_model.specs.Entries.{fields_at, relation_state}
-use Rattle.dr_model.specs.SessionEntries.{counts_in, shown_of, is_flashed, shown_by_members}
-use Rattle.dr_model.specs.RecoveryPlans.{lets_revert, decided_in, secondary_refusal, take_over_on, settle_on, end_recovery, recover_entries, recover_done, recover_plan, untaken_refusal, forbidden_unless, settle_refusal, settle_member, settle_target, settle_plan, member_of_target, revertible_target}
+use Rattle.dr_model.specs.SessionEntries.{counts_in, shown_of, shown_by_members}
+use Rattle.dr_model.specs.RecoveryPlans.{lets_revert, decided_in, secondary_refusal, settle_on, recover_entries, recover_done, recover_plan, untaken_refusal, forbidden_unless, settle_refusal, settle_member, settle_target, settle_plan, member_of_target, revertible_target}
 use Rattle.dr_model.specs.declared.said.Said.TheVariants as Said
 use Rattle.dr_model.specs.declared.said.Addition.TheVariants.{Alone}
 use Rattle.dr_model.specs.declared.step.Name.{Name}
@@ -31,7 +28,7 @@ use Rattle.dr_model.specs.SessionPlans.{name_refusal, off_refusal}
 use Rattle.std.specs.List.{find}
 use Rattle.std.specs.Option.{option_or}
 use Rattle.dr_model.specs.PlanParts.{Plan, refuses, unless, on_session, entries_plan, is_defined}
-use Rattle.dr_model.specs.Carried.{begun, finish, after_plan}
+use Rattle.dr_model.specs.Carried.{begun, finish}
 use Rattle.dr_model.specs.Sessions.{Session, session_in, members_in}
 use Rattle.dr_model.specs.Groups.{In}
 use Rattle.dr_model.specs.Attempts.{seen_in, NoneCommitted, Attempts}
@@ -47,11 +44,13 @@ use Rattle.dr_laws.specs.Recovered.{decided_over, remains_in, number_after, reco
 use Rattle.dr_laws.proofs.AtLemmas.{at_cases}
 use Rattle.dr_laws.proofs.Turns.{next_of, carried_in, done, done_in_stop, after_act}
 use Rattle.dr_laws.proofs.RowsAfter.{table-done, table-stop}
-use Rattle.dr_laws.proofs.KeepsSound.{Along, Then, MayDo, keeps-sound, sound-done, sound-stop}
+use Rattle.dr_laws.proofs.KeepsSound.{Along, Then, MayDo, sound-done, sound-stop}
 use Rattle.dr_laws.proofs.FitsFlash.{as_begun, sound-begun}
 use Rattle.dr_laws.proofs.FitsRecovery.{along-recover, along-settle}
 use Rattle.dr_laws.proofs.Cases.{or-passed}
-use Rattle.dr_laws.proofs.Rides.{Rides, Both, keeps-with, along-with}
+use Rattle.dr_laws.proofs.Rides.{Rides, Both, along-with}
+use Rattle.dr_laws.proofs.Keeping.{MayFit, keeps-fit, Keeping, Goes, refused-goes, goes-unless, goes-moment, goes-ends, goes-after, finish-goes}
+use Rattle.dr_laws.proofs.RecoveryEntries.{FitNext, AllFit, FitsTargets, fit-one, fit-settle, fit-recover}
 use Rattle.dr_laws.proofs.Recovered.{Alike, alike-refl, alike-then, alike-still, alike-away, alike-committed, alike-reverted}
 use Rattle.dr_laws.proofs.DecidedOver.{members-decide, some-commits, none-reverts, commit-some, revert-none}
 use Rattle.dr_laws.proofs.RecoverySame.{recovery-same, is-revertible, elsewhere, left-away, part-stays, decided-still, others-count, decided-away}
@@ -95,8 +94,8 @@ module _ (w : World) (s : ℕ) where
   Fit (EndRecovery i n) = Unit {0}
   Fit a = ⊥
 
-  abbrev pub MayFit : World → Act → Type 0
-  MayFit u a = MayDo u a × Fit a
+  abbrev pub MayRecover : World → Act → Type 0
+  MayRecover = MayFit (λ u. Fit)
 
   -- ---- one move
 
@@ -200,10 +199,10 @@ module _ (w : World) (s : ℕ) where
 
   -- ---- the acts
 
-  acts : Rides Sound Keeps MayFit
+  acts : Rides Sound Keeps MayRecover
   acts = record { does = does; counts = counts; opens = λ u v i n f j k may. absurd may.1; fails = λ u a f d j k may. keeps-told u _ _ _ _ k }
     where
-      does : (u : World) (a : Act) (f : Option Fuse) → Sound u → Keeps u → MayFit u a → Keeps (after_act u a f)
+      does : (u : World) (a : Act) (f : Option Fuse) → Sound u → Keeps u → MayRecover u a → Keeps (after_act u a f)
       does u (Make m) f j k may = keeps-moved u (done u m f) j (sound-done None u m f j may.0) refl k m may.0 may.1 (table-done u j.rows.structure m f j.rows.images.blank may.0.allowed may.0.ready) (record { volumes = refl; volume = refl })
       does u (OpenAttempt v i n) f j k may = absurd may.1
       does u (Redo v) f j k may = absurd may.1
@@ -213,62 +212,25 @@ module _ (w : World) (s : ℕ) where
       does u (EndThaw l m) f j k may = absurd may.1
       does u (EndRecovery i n) f j k may = keeps-told u _ _ _ _ k
 
-      counts : (u : World) (m : Move) (f : Option Fuse) → Sound u → Keeps u → MayFit u (Make m) → Keeps (done_in_stop u m f)
+      counts : (u : World) (m : Move) (f : Option Fuse) → Sound u → Keeps u → MayRecover u (Make m) → Keeps (done_in_stop u m f)
       counts u m f j k may = keeps-moved u (done_in_stop u m f) j (sound-stop None u m f j may.0) refl k m may.0 may.1 (table-stop u j.rows.structure m f j.rows.images.blank may.0.allowed may.0.ready) (record { volumes = refl; volume = refl })
 
   -- ---- the entries
 
-  abbrev FitNext : Next → Type 0
-  FitNext Pass = Unit {0}
-  FitNext (End r) = Unit {0}
-  FitNext (Do a) = Fit a
-
-  unfoldable AllFit : List Entry → Type 0
-  AllFit [] = Unit {0}
-  AllFit (d ∷ ds) = ((k : Control) → FitNext (d k)) × AllFit ds
-
-  fit-next : (u : World) (x : Next) (more less : World → Type 0) → ((v : World) → more v → less v) → FitNext x → Then u x more → along.along_next Sound Sound MayFit u x less
+  fit-next : (u : World) (x : Next) (more less : World → Type 0) → ((v : World) → more v → less v) → FitNext Fit x → Then u x more → along.along_next Sound Sound MayRecover u x less
   fit-next u Pass more less on fit a = on u a
-  fit-next u (End r) more less on fit a = a
+  fit-next u (End r) more less on fit a = absurd fit
   fit-next u (Do x) more less on fit a = ((a.0, fit), λ f j. on _ (a.1 f j))
 
-  fit-along : (u : World) (ds : List Entry) → AllFit ds → Along u ds → along.Along Sound Sound Sound MayFit u ds
+  fit-along : (u : World) (ds : List Entry) → AllFit Fit ds → Along u ds → along.Along Sound Sound Sound MayRecover u ds
   unfolding AllFit
-  fit-along u [] fit a = along.along-nil Sound Sound Sound MayFit u (along.along-ends Sound Sound Sound MayDo u a)
+  fit-along u [] fit a = along.along-nil Sound Sound Sound MayRecover u (along.along-ends Sound Sound Sound MayDo u a)
   fit-along u (d ∷ ds) fit a =
-      along.along-entry Sound Sound Sound MayFit u d ds (d u.control) refl
-      (fit-next u (d u.control) (λ v. Along v ds) (λ v. along.Along Sound Sound Sound MayFit v ds) (λ v a. fit-along v ds fit.1 a) (fit.0 u.control) (along.along-comes Sound Sound Sound MayDo u d ds (d u.control) refl a))
+      along.along-entry Sound Sound Sound MayRecover u d ds (d u.control) refl
+      (fit-next u (d u.control) (λ v. Along v ds) (λ v. along.Along Sound Sound Sound MayRecover v ds) (λ v a. fit-along v ds fit.1 a) (fit.0 u.control) (along.along-comes Sound Sound Sound MayDo u d ds (d u.control) refl a))
 
-  fit-append : (ds es : List Entry) → AllFit ds → AllFit es → AllFit (ds ++ es)
-  unfolding AllFit
-  fit-append [] es a b = b
-  fit-append (d ∷ ds) es a b = (a.0, fit-append ds es a.1 b)
-
-  fit-members : (each : Member → Entry) → ((m : Member) (k : Control) → FitNext (each m k)) → (ms : List Member) → AllFit (map each ms)
-  unfolding AllFit
-  fit-members each fit [] = tt
-  fit-members each fit (m ∷ ms) = (fit m, fit-members each fit ms)
-
-  fit-if : (b : Bool) (a : Act) → Fit a → FitNext (cond b (Do a) Pass)
-  fit-if true a fit = fit
-  fit-if false a fit = tt
-
-  fit-settle : (r : ℕ) (d : Decision) → (r ≡ s → lets_revert d ≡ reverts w) → (m : Member) (k : Control) → FitNext (settle_on r d m k)
-  fit-settle r NoMember is m k = tt
-  fit-settle r (Nothing n) is m k = tt
-  fit-settle r (CommitRest n) is m k = fit-if (is_flashed n (fields_at k m.c.0)) (Make (Commit m.c.0 m.a.0 r n)) (λ e. sym (is e))
-  fit-settle r (RevertAll n) is m k = fit-if (is_flashed n (fields_at k m.c.0)) (Make (Revert m.c.0 m.a.0 r n)) (λ e. sym (is e))
-  fit-settle r (RevertSome o n) is m k = fit-if (is_flashed n (fields_at k m.c.0)) (Make (Revert m.c.0 m.a.0 r n)) (λ e. sym (is e))
-  fit-settle r (Impossible a b) is m k = tt
-
-  fit-end : (r : ℕ) → AllFit (end_recovery r ∷ [])
-  unfolding AllFit
-  fit-end r = ((λ k. tt), tt)
-
-  fit-recover : (r : ℕ) (d : Decision) → (r ≡ s → lets_revert d ≡ reverts w) → (ms : List Member) → AllFit (recover_entries r d ms)
-  fit-recover r d is ms =
-      fit-append (map take_over_on ms) (map (settle_on r d) ms ++ end_recovery r ∷ []) (fit-members take_over_on (λ m k. fit-if (is_part (fields_at k m.b.0).secondary) (Make (TakeOver m.b.0)) tt) ms)
-      (fit-append (map (settle_on r d) ms) (end_recovery r ∷ []) (fit-members (settle_on r d) (fit-settle r d is) ms) (fit-end r))
+  fits-targets : (r : ℕ) (d : Decision) → (r ≡ s → lets_revert d ≡ reverts w) → (ms : List Member) → FitsTargets Fit r d ms
+  fits-targets r d is ms = record { commits = λ no m here n e. sym (is e) ∙ no; reverts = λ yes m here n e. sym (is e) ∙ yes }
 
 -- ---- a recovery
 
@@ -276,29 +238,21 @@ module _ (w : World) (sound : Sound w) (s : ℕ) where
   abbrev pub Inner : World → Type 0
   Inner = Both Sound (Keeps w s)
 
-  pub each-act : along.Keeps Inner Inner (MayFit w s)
-  each-act = keeps-with Sound (Keeps w s) (MayFit w s) Sound
-      (record {
-        runs = λ u a d may. keeps-sound.runs u a d may.0;
-        does = λ u a f j may. keeps-sound.does u a f j may.0;
-        counts = λ u m f j may. keeps-sound.counts u m f j may.0;
-        opens = λ u v i n f j may. keeps-sound.opens u v i n f j may.0;
-        fails = λ u a f d j may. keeps-sound.fails u a f d j may.0;
-      })
-      (acts w s)
+  pub each-act : along.Keeps Inner Inner (MayRecover w s)
+  each-act = keeps-fit (Keeps w s) (λ u. Fit w s) (acts w s)
 
   pub begins : Inner (as_begun w)
   begins = (sound-begun w sound, keeps-told w s w w.control.on w.control.fuse w.control.pending (w.events ++ []) (keeps-begin w s))
 
-  -- its entries do what was decided, and it leaves the tables, and what follows a stop
-  pub record Goes (p : Plan) : Type 0 where
-    pub begun_as : begun w p ≡ as_begun w
-    pub entries : along.Along Inner Inner Inner (MayFit w s) (as_begun w) p.entries
-    pub last : (k : Control) → p.last k ≡ k
-    pub follows : (q : ℕ) → p.follows q ≡ []
+  -- wherever a plan comes to, another recovery makes the same, where its entries do what was decided
+  abbrev pub Same : World → Type 0
+  Same u = SameRecovery (sizes w.control) (recovered_in w s) (recovered_in u s)
 
-  refused-goes : (r : Refusal) → Goes (refuses r)
-  refused-goes r = record { begun_as = refl; entries = along.along-nil Inner Inner Inner (MayFit w s) (as_begun w) begins; last = λ k. refl; follows = λ q. refl }
+  abbrev keeping : Keeping w Same
+  keeping = record { law = Inner; may = MayRecover w s; keeps = each-act; gives = λ u j. keeps-recovery w s u j.1; told = λ v on es h. h; begins = begins }
+
+  abbrev pub GoesOn : Plan → Type 0
+  GoesOn = Goes w Same keeping
 
   pub decided-is : (r : ℕ) (x : Session) → session_in w.control.sessions r ≡ Some x → decided_in r w.control ≡ decided_over (fields_at w.control) w.control.volumes r
   decided-is r x found =
@@ -308,30 +262,26 @@ module _ (w : World) (sound : Sound w) (s : ℕ) where
   as-decided : (r : ℕ) (x : Session) → session_in w.control.sessions r ≡ Some x → r ≡ s → lets_revert (decided_in r w.control) ≡ reverts w s w
   as-decided r x found is = ap lets_revert (decided-is r x found ∙ ap (decided_over (fields_at w.control) w.control.volumes) is)
 
-  goes-unless : (o : Option Refusal) (p : Plan) → (o ≡ None → Goes p) → Goes (unless o p)
-  goes-unless None p go = go refl
-  goes-unless (Some r) p go = refused-goes r
-
   -- ---- a recovery of a session, this or another
 
   module _ (r : ℕ) where
     abbrev told : Decision
     told = decided_in r w.control
 
-    pub done-goes : (x : Session) → session_in w.control.sessions r ≡ Some x → secondary_refusal x.members w.control ≡ None → Goes (recover_done r told x.members)
+    pub done-goes : (x : Session) → session_in w.control.sessions r ≡ Some x → secondary_refusal x.members w.control ≡ None → GoesOn (recover_done r told x.members)
     done-goes x found running = record {
       begun_as = refl;
-      entries = along-with Sound Sound Sound (Keeps w s) (MayFit w s) (as_begun w) (recover_entries r told x.members) begins.1
-          (fit-along w s (as_begun w) (recover_entries r told x.members) (fit-recover w s r told (as-decided r x found) x.members) (along-recover w sound r x found running));
-      last = λ k. refl;
+      entries = along-with Sound Sound Sound (Keeps w s) (MayRecover w s) (as_begun w) (recover_entries r told x.members) begins.1
+          (fit-along w s (as_begun w) (recover_entries r told x.members) (fit-recover (Fit w s) r told x.members (λ m here. tt) (fits-targets w s r told (as-decided r x found) x.members) (λ n. tt)) (along-recover w sound r x found running));
+      last = λ v h. h;
       follows = λ q. refl;
     }
 
-    goes-session : (o : Option Session) → session_in w.control.sessions r ≡ o → Goes (on_session o (λ x. unless (secondary_refusal x.members w.control) (recover_done r told x.members)))
-    goes-session None found = refused-goes (unknown OfSession)
-    goes-session (Some x) found = goes-unless (secondary_refusal x.members w.control) (recover_done r told x.members) (done-goes x found)
+    goes-session : (o : Option Session) → session_in w.control.sessions r ≡ o → GoesOn (on_session o (λ x. unless (secondary_refusal x.members w.control) (recover_done r told x.members)))
+    goes-session None found = refused-goes w Same keeping (unknown OfSession)
+    goes-session (Some x) found = goes-unless w Same keeping (secondary_refusal x.members w.control) (recover_done r told x.members) (done-goes x found)
 
-    goes-recover : Goes (recover_plan w.control r)
+    goes-recover : GoesOn (recover_plan w.control r)
     goes-recover = goes-session (session_in w.control.sessions r) refl
 
     -- ---- one target by hand
@@ -339,76 +289,51 @@ module _ (w : World) (sound : Sound w) (s : ℕ) where
     abbrev hand : Member → Plan
     hand m = entries_plan (settle_on r told m ∷ []) (Said.Done Alone)
 
-    hand-goes : (x : Session) → session_in w.control.sessions r ≡ Some x → secondary_refusal x.members w.control ≡ None → untaken_refusal x.members w.control ≡ None → (m : Member) → In m x.members → Goes (hand m)
+    hand-goes : (x : Session) → session_in w.control.sessions r ≡ Some x → secondary_refusal x.members w.control ≡ None → untaken_refusal x.members w.control ≡ None → (m : Member) → In m x.members → GoesOn (hand m)
     hand-goes x found running free m here = record {
       begun_as = refl;
-      entries = along-with Sound Sound Sound (Keeps w s) (MayFit w s) (as_begun w) (settle_on r told m ∷ []) begins.1
-          (fit-along w s (as_begun w) (settle_on r told m ∷ []) (fit-members w s (settle_on r told) (fit-settle w s r told (as-decided r x found)) (m ∷ [])) (along-settle w sound r x found running free m here));
-      last = λ k. refl;
+      entries = along-with Sound Sound Sound (Keeps w s) (MayRecover w s) (as_begun w) (settle_on r told m ∷ []) begins.1
+          (fit-along w s (as_begun w) (settle_on r told m ∷ []) (fit-one (Fit w s) (settle_on r told m) (fit-settle (Fit w s) r told x.members (fits-targets w s r told (as-decided r x found) x.members) m here)) (along-settle w sound r x found running free m here));
+      last = λ v h. h;
       follows = λ q. refl;
     }
 
-    hand-in : (lets : Decision → Bool) (m : Member) (o : Option Session) → session_in w.control.sessions r ≡ o → In m (members_in o) → settle_refusal lets told (members_in o) w.control ≡ None → Goes (hand m)
+    hand-in : (lets : Decision → Bool) (m : Member) (o : Option Session) → session_in w.control.sessions r ≡ o → In m (members_in o) → settle_refusal lets told (members_in o) w.control ≡ None → GoesOn (hand m)
     hand-in lets m None found here free = absurd here
     hand-in lets m (Some x) found here free =
         let rest = or-passed (secondary_refusal x.members w.control) _ free in
         hand-goes x found rest.0 (or-passed (untaken_refusal x.members w.control) (forbidden_unless (lets told) told) rest.1).0 m here
 
-    hand-member : (lets : Decision → Bool) (b t : ℕ) (o : Option Member) → find (λ m. m.c.0 == t) (members_in (session_in w.control.sessions r)) ≡ o → Goes (settle_member w.control lets b r o)
-    hand-member lets b t None is = refused-goes (relation_state w.control b)
+    hand-member : (lets : Decision → Bool) (b t : ℕ) (o : Option Member) → find (λ m. m.c.0 == t) (members_in (session_in w.control.sessions r)) ≡ o → GoesOn (settle_member w.control lets b r o)
+    hand-member lets b t None is = refused-goes w Same keeping (relation_state w.control b)
     hand-member lets b t (Some m) is =
-        goes-unless (settle_refusal lets told (members_in (session_in w.control.sessions r)) w.control) (hand m)
+        goes-unless w Same keeping (settle_refusal lets told (members_in (session_in w.control.sessions r)) w.control) (hand m)
         (λ free. hand-in lets m (session_in w.control.sessions r) refl (found-one (λ m. m.c.0 == t) (members_in (session_in w.control.sessions r)) m is).0 free)
 
-  hand-target : (lets : Decision → Bool) (b : ℕ) (o : Option ℕ) → Goes (settle_target w.control lets b o)
-  hand-target lets b None = refused-goes (relation_state w.control b)
+  hand-target : (lets : Decision → Bool) (b : ℕ) (o : Option ℕ) → GoesOn (settle_target w.control lets b o)
+  hand-target lets b None = refused-goes w Same keeping (relation_state w.control b)
   hand-target lets b (Some t) = hand-member (fields_at w.control t).session lets b t (member_of_target w.control t) refl
 
-  goes-volume : (b : Bool) (p : Plan) → Goes p → Goes (cond b p (refuses (unknown OfVolume)))
+  goes-volume : (b : Bool) (p : Plan) → GoesOn p → GoesOn (cond b p (refuses (unknown OfVolume)))
   goes-volume true p go = go
-  goes-volume false p go = refused-goes (unknown OfVolume)
+  goes-volume false p go = refused-goes w Same keeping (unknown OfVolume)
 
-  goes-hand : (dev : Option Name) (lets : Decision → Bool) (b : ℕ) → Goes (settle_plan w.control dev lets b)
+  goes-hand : (dev : Option Name) (lets : Decision → Bool) (b : ℕ) → GoesOn (settle_plan w.control dev lets b)
   goes-hand dev lets b =
-      goes-volume (is_defined b w.control) _ (goes-unless (option_or (name_refusal w.control dev (w.control.volume b).server) (off_refusal w.control (w.control.volume b).server)) _
+      goes-volume (is_defined b w.control) _ (goes-unless w Same keeping (option_or (name_refusal w.control dev (w.control.volume b).server) (off_refusal w.control (w.control.volume b).server)) _
       (λ free. hand-target lets b (revertible_target w.control b)))
 
   -- ---- wherever such plans come to
 
-  abbrev Same : World → Type 0
-  Same u = SameRecovery (sizes w.control) (recovered_in w s) (recovered_in u s)
-
-  plan-moment : (p : Plan) → Goes p → (n : ℕ) → Same (carry (begun w p) (take n p.entries)).0
-  plan-moment p goes n =
-      subst (λ b. Same (carry b (take n p.entries)).0) (sym goes.begun_as)
-      (keeps-recovery w s _ (along.along-moment Inner Inner Inner (Keeps w s) (MayFit w s) (λ v j. j.1) (λ v j. j.1) (λ v j. j.1) each-act (as_begun w) n p.entries begins goes.entries))
-
-  -- where it ends, and as it is answered
-  ends-same : (p : Plan) → Goes p → (u : World) (r : Option Refusal) → Same u → Same (finish p u r)
-  unfolding carry
-  ends-same p goes u None same = subst (λ k. Same (record u { control = k })) (sym (goes.last u.control)) same
-  ends-same p goes u (Some (StoppedIn q)) same = subst (λ ds. Same (carry u ds).0) (sym (goes.follows q.0)) same
-  ends-same p goes u (Some r) same = same
-
-  plan-after : (p : Plan) → Goes p → (line : ℕ) → Same (after_plan w line p)
-  unfolding after_plan
-  plan-after p goes line = ends-same p goes _ _ (subst (λ ds. Same (carry (begun w p) ds).0) (take-length p.entries) (plan-moment p goes (length p.entries)))
-
-  plan-ends : (p : Plan) → Goes p → (armed : ℕ → Bool) (u : World) (r : Option Refusal) → Ends armed u r (begun w p) p.entries → Same u
-  plan-ends p goes armed u r e =
-      keeps-recovery w s u (along.ends-weaker Inner Inner Inner (Keeps w s) (MayFit w s) (λ v j. j.1) (λ v j. j.1) (λ v j. j.1) each-act armed
-      (λ v x j on is. keeps-told w s v _ _ _ _ j.1) u r (as_begun w) p.entries begins goes.entries
-      (subst (λ b. Ends armed u r b p.entries) goes.begun_as e))
-
-  plan-keeps : (p : Plan) → Goes p → KeepsRecovery w p s
-  plan-keeps p goes = record { moments = plan-moment p goes; reads = plan-ends p goes; after = plan-after p goes }
+  plan-keeps : (p : Plan) → GoesOn p → KeepsRecovery w p s
+  plan-keeps p goes = record { moments = goes-moment w Same keeping p goes; reads = goes-ends w Same keeping p goes; after = goes-after w Same keeping p goes }
 
   pub recover-keeps : (r : ℕ) → KeepsRecovery w (recover_plan w.control r) s
   recover-keeps r = plan-keeps (recover_plan w.control r) (goes-recover r)
 
   -- where it ended, with what follows, where servers may go off by themselves
   pub recover-stays : (r : ℕ) (armed : ℕ → Bool) (u : World) (o : Option Refusal) → Ends armed u o (begun w (recover_plan w.control r)) (recover_plan w.control r).entries → Same (finish (recover_plan w.control r) u o)
-  recover-stays r armed u o e = ends-same (recover_plan w.control r) (goes-recover r) u o (plan-ends (recover_plan w.control r) (goes-recover r) armed u o e)
+  recover-stays r armed u o e = let p : Plan = recover_plan w.control r in finish-goes w Same keeping p (goes-recover r) u o (goes-ends w Same keeping p (goes-recover r) armed u o e)
 
   pub hand-keeps : (dev : Option Name) (lets : Decision → Bool) (b : ℕ) → KeepsRecovery w (settle_plan w.control dev lets b) s
   hand-keeps dev lets b = plan-keeps (settle_plan w.control dev lets b) (goes-hand dev lets b)

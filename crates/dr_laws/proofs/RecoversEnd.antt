@@ -32,7 +32,7 @@ use Rattle.dr_laws.proofs.Turns.{next_of, carried_in, done}
 use Rattle.dr_laws.proofs.FitsFlash.{as_begun}
 use Rattle.dr_laws.proofs.DecidedOver.{members-decide, turns, turns-last, counts-plain, counts-one, plain-group}
 use Rattle.dr_laws.proofs.RecoverySame.{filter-same, map-same}
-use Rattle.dr_laws.proofs.Recovers.{MayFit, Inner, each-act, begins, done-goes, reverts, keeps-recovery}
+use Rattle.dr_laws.proofs.Recovers.{MayRecover, Inner, each-act, begins, done-goes, reverts, keeps-recovery}
 use Rattle.dr_laws.proofs.Along as along
 
 module _ (w : World) (sound : Sound w) (s : ℕ) (x : Session) (found : session_in w.control.sessions s ≡ Some x) where
@@ -40,7 +40,7 @@ module _ (w : World) (sound : Sound w) (s : ℕ) (x : Session) (found : session_
   I = Inner w sound s
 
   abbrev May : World → Act → Type 0
-  May = MayFit w s
+  May = MayRecover w s
 
   -- no member's target is revertible
   abbrev Settled : World → Type 0

@@ -1,19 +1,16 @@
 -- A recovery is refused since the server of a secondary is off, or stopped by one whose fuse was armed; else it comes to its end.
-use Rattle.std.proofs.Common.{ℕ, ◌≡◌, ◌⊎◌, inl, inr, refl, ap, sym, ◌∙◌, subst, Bool, true, false, cond, not, List, [], ◌∷◌, ◌++◌, map, Option, Some, None, is_some, option_map}
+use Rattle.std.proofs.Common.{ℕ, ◌≡◌, ◌⊎◌, inl, inr, refl, ap, sym, ◌∙◌, subst, Bool, true, false, cond, not, List, [], ◌∷◌, Option, Some, None, is_some, option_map}
 use Rattle.std.specs.List.{find}
 use Rattle.dr_ids.specs.declared.names.Member.{Member}
 use Rattle.dr_ids.specs.declared.refusal.Refusal.{Refusal}
 use Rattle.dr_ids.specs.declared.refusal.Decision.{Decision}
-use Rattle.dr_ids.specs.declared.refusal.Decision.TheVariants.{NoMember, Nothing, RevertAll, CommitRest, RevertSome, Impossible}
 use Rattle.dr_model.specs.Refusals.{server_off, stopped}
-use Rattle.dr_model.specs.Layout.{is_part}
 use Rattle.dr_model.specs.Control.{Control, Fuse, Volume, World}
-use Rattle.dr_model.specs.Moves.{Move, TakeOver, Commit, Revert, target, moved}
+use Rattle.dr_model.specs.Moves.{Move, target, moved}
 use Rattle.dr_model.specs.Carry.{Act, Make, OpenAttempt, Redo, Acknowledge, Drop, EndFreeze, EndThaw, EndRecovery, act, Turn, turn, Next, Pass, Do, End, Entry, Outcome, carry, continue, go, pass, writes, lower}
 use Rattle.dr_model.specs.Carried.{begun}
 use Rattle.dr_model.specs.Entries.{fields_at, is_running}
-use Rattle.dr_model.specs.SessionEntries.{is_flashed}
-use Rattle.dr_model.specs.RecoveryPlans.{decided_in, secondary_refusal, take_over_on, settle_on, end_recovery, recover_entries, recover_done, recover_plan, says_group}
+use Rattle.dr_model.specs.RecoveryPlans.{decided_in, secondary_refusal, recover_entries, recover_done, recover_plan, says_group}
 use Rattle.dr_model.specs.PlanParts.{Plan, refuses, unless, on_session}
 use Rattle.dr_model.specs.Sessions.{Session, session_in}
 use Rattle.dr_model.specs.Groups.{In}
@@ -26,6 +23,7 @@ use Rattle.dr_laws.proofs.AtLemmas.{at_part}
 use Rattle.dr_laws.proofs.Turns.{server_at, next_of, carried_in, done, done_in_stop, not_done, turn_by, turn-by}
 use Rattle.dr_laws.proofs.FitsFlash.{as_begun}
 use Rattle.dr_laws.proofs.Counting.{listed-found}
+use Rattle.dr_laws.proofs.RecoveryEntries.{FitNext, AllFit, fit-recover}
 use Rattle.dr_laws.proofs.RecoversEnd.{answers-group}
 
 -- ---- how a move ends, with its server's fuse
@@ -121,15 +119,6 @@ module _ (w : World) (x : Session) (on : (m : Member) → In m x.members → w.c
   Fit (EndRecovery s n) = Unit {0}
   Fit a = ⊥
 
-  abbrev FitNext : Next → Type 0
-  FitNext Pass = Unit {0}
-  FitNext (End r) = ⊥
-  FitNext (Do a) = Fit a
-
-  unfoldable AllFit : List Entry → Type 0
-  AllFit [] = Unit {0}
-  AllFit (d ∷ ds) = ((k : Control) → FitNext (d k)) × AllFit ds
-
   done-stays : (u : World) (m : Move) (f : Option Fuse) → Stays u → is_some f ≡ is_some (u.control.fuse (server_at u (target m))) → Stays (done u m f)
   done-stays u m f s e = record {
     servers = λ v. at_part (λ (y : Volume). y.server) u.control.volume (target m) (moved (u.control.volume (target m)) (next_of u m) (carried_in u m)) refl v ∙ s.servers v;
@@ -167,52 +156,23 @@ module _ (w : World) (x : Session) (on : (m : Member) → In m x.members → w.c
   act-ends u (EndFreeze l m) rest s fit more = absurd fit
   act-ends u (EndThaw l m) rest s fit more = absurd fit
 
-  next-ends : (u : World) (n : Next) (rest : World → Outcome) → Stays u → FitNext n → ((v : World) → Stays v → EndsFor (rest v).0 (rest v).1) → EndsFor (go u n rest).0 (go u n rest).1
+  next-ends : (u : World) (n : Next) (rest : World → Outcome) → Stays u → FitNext Fit n → ((v : World) → Stays v → EndsFor (rest v).0 (rest v).1) → EndsFor (go u n rest).0 (go u n rest).1
   next-ends u Pass rest s fit more = more u s
   next-ends u (End r) rest s fit more = absurd fit
   next-ends u (Do a) rest s fit more = act-ends u a rest s fit more
 
-  ends-for : (u : World) (ds : List Entry) → Stays u → AllFit ds → EndsFor (carry u ds).0 (carry u ds).1
+  ends-for : (u : World) (ds : List Entry) → Stays u → AllFit Fit ds → EndsFor (carry u ds).0 (carry u ds).1
   unfolding carry AllFit
   ends-for u [] s fit = inr refl
   ends-for u (d ∷ ds) s fit = next-ends u (d u.control) (λ v. carry v ds) s (fit.0 u.control) (λ v s. ends-for v ds s fit.1)
 
-  -- ---- the entries of a recovery
+  -- ---- the entries of a recovery, where targets are on the servers of their secondaries
 
-  fit-append : (ds es : List Entry) → AllFit ds → AllFit es → AllFit (ds ++ es)
-  unfolding AllFit
-  fit-append [] es a b = b
-  fit-append (d ∷ ds) es a b = (a.0, fit-append ds es a.1 b)
-
-  fit-members : (each : Member → Entry) (ms : List Member) → ((m : Member) → In m ms → (k : Control) → FitNext (each m k)) → AllFit (map each ms)
-  unfolding AllFit
-  fit-members each [] fit = tt
-  fit-members each (m ∷ ms) fit = (fit m (inl refl), fit-members each ms (λ q h. fit q (inr h)))
-
-  fit-end : (s : ℕ) → AllFit (end_recovery s ∷ [])
-  unfolding AllFit
-  fit-end s = ((λ k. tt), tt)
-
-  fit-if : (b : Bool) (a : Act) → Fit a → FitNext (cond b (Do a) Pass)
-  fit-if true a fit = fit
-  fit-if false a fit = tt
-
-  -- targets are on the servers of their secondaries
-  module _ (together : (m : Member) → In m x.members → server_at w m.c.0 ≡ secondary_server w.control m) (s : ℕ) where
-    fit-settle : (d : Decision) (m : Member) → In m x.members → (k : Control) → FitNext (settle_on s d m k)
-    fit-settle NoMember m here k = tt
-    fit-settle (Nothing n) m here k = tt
-    fit-settle (CommitRest n) m here k = fit-if (is_flashed n (fields_at k m.c.0)) (Make (Commit m.c.0 m.a.0 s n)) (record { member = m; here = here; is = together m here })
-    fit-settle (RevertAll n) m here k = fit-if (is_flashed n (fields_at k m.c.0)) (Make (Revert m.c.0 m.a.0 s n)) (record { member = m; here = here; is = together m here })
-    fit-settle (RevertSome o n) m here k = fit-if (is_flashed n (fields_at k m.c.0)) (Make (Revert m.c.0 m.a.0 s n)) (record { member = m; here = here; is = together m here })
-    fit-settle (Impossible a b) m here k = tt
-
-    recovery-ends : (d : Decision) → let e : Outcome = carry (as_begun w) (recover_entries s d x.members) in EndsFor e.0 e.1
-    recovery-ends d =
-        ends-for (as_begun w) (recover_entries s d x.members) (record { servers = λ v. refl; is_on = λ q. refl; armed = λ q. refl })
-        (fit-append (map take_over_on x.members) (map (settle_on s d) x.members ++ end_recovery s ∷ [])
-        (fit-members take_over_on x.members (λ m here k. fit-if (is_part (fields_at k m.b.0).secondary) (Make (TakeOver m.b.0)) (record { member = m; here = here; is = refl })))
-        (fit-append (map (settle_on s d) x.members) (end_recovery s ∷ []) (fit-members (settle_on s d) x.members (fit-settle d)) (fit-end s)))
+  recovery-ends : ((m : Member) → In m x.members → server_at w m.c.0 ≡ secondary_server w.control m) → (s : ℕ) (d : Decision) → let e : Outcome = carry (as_begun w) (recover_entries s d x.members) in EndsFor e.0 e.1
+  recovery-ends together s d =
+      ends-for (as_begun w) (recover_entries s d x.members) (record { servers = λ v. refl; is_on = λ q. refl; armed = λ q. refl })
+      (fit-recover Fit s d x.members (λ m here. record { member = m; here = here; is = refl })
+      (record { commits = λ no m here n. record { member = m; here = here; is = together m here }; reverts = λ yes m here n. record { member = m; here = here; is = together m here } }) (λ n. tt))
 
 -- ---- the answer
 

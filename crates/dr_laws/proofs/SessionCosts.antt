@@ -13,10 +13,10 @@ use Rattle.dr_model.specs.PairEntries.{reach_refusal, send_refusal, end_if, refu
 use Rattle.dr_model.specs.SessionEntries.{last_of, hold_refusal, stale_refusal, hold_on, void_refusal, free_on, is_drained, seal_refusal, seal_on, is_flashed, flash_refusal, flash_on, is_committed, commit_refusal, commit_on, revert_on, is_past, finish_on, member_entries, is_on, members_on, order_entries, raise_attempt_on, raise_floor_on, add_entries}
 use Rattle.dr_laws.proofs.Turns.{after_act}
 use Rattle.dr_ids.specs.declared.refusal.Decision.{Decision}
-use Rattle.dr_ids.specs.declared.refusal.Decision.TheVariants.{NoMember, Nothing, RevertAll, CommitRest, RevertSome, Impossible}
 use Rattle.dr_model.specs.Layout.{is_part}
 use Rattle.dr_model.specs.RecoveryPlans.{take_over_on, settle_on, end_recovery, recover_entries}
-use Rattle.dr_laws.proofs.Costs.{tells, costs_next, Costs, Light, light-none, light-then, light-costs, small-pass, small-do, small-choice}
+use Rattle.dr_laws.proofs.RecoveryEntries.{settle-cases}
+use Rattle.dr_laws.proofs.Costs.{tells, costs_next, Costs, Small, Light, light-none, light-then, light-costs, small-pass, small-do, small-choice}
 use Rattle.dr_laws.proofs.WriteCosts.{Brief, brief-costs, brief-more, brief-none, brief-then, brief-append}
 
 -- entries that tell two events each, at most
@@ -144,12 +144,7 @@ brief-members each light [] = brief-none 0
 brief-members each light (m ∷ ms) = brief-more (length ms + 1) (length (m ∷ ms)) (map each (m ∷ ms)) (omega arith) (brief-then (length ms) (each m) (map each ms) (light m) (brief-members each light ms))
 
 pub light-settle : (s : ℕ) (d : Decision) (m : Member) → Light (settle_on s d m)
-light-settle s NoMember m w = small-pass w
-light-settle s (Nothing n) m w = small-pass w
-light-settle s (CommitRest n) m w = small-choice w (is_flashed n (fields_at w.control m.c.0)) (Do (Make (CommitMove m.c.0 m.a.0 s n))) Pass (small-do w (Make (CommitMove m.c.0 m.a.0 s n)) (omega arith)) (small-pass w)
-light-settle s (RevertAll n) m w = small-choice w (is_flashed n (fields_at w.control m.c.0)) (Do (Make (RevertMove m.c.0 m.a.0 s n))) Pass (small-do w (Make (RevertMove m.c.0 m.a.0 s n)) (omega arith)) (small-pass w)
-light-settle s (RevertSome o n) m w = small-choice w (is_flashed n (fields_at w.control m.c.0)) (Do (Make (RevertMove m.c.0 m.a.0 s n))) Pass (small-do w (Make (RevertMove m.c.0 m.a.0 s n)) (omega arith)) (small-pass w)
-light-settle s (Impossible a b) m w = small-pass w
+light-settle s d m w = settle-cases (Small w) s d m w.control (small-pass w) (λ no n. small-do w (Make (CommitMove m.c.0 m.a.0 s n)) (omega arith)) (λ yes n. small-do w (Make (RevertMove m.c.0 m.a.0 s n)) (omega arith))
 
 pub recover-costs : (s : ℕ) (d : Decision) (ms : List Member) (c : ℕ) → length ms ≤ c → (b : ℕ) → c * 2 + 1 ≤ b → (w : World) → Costs b w (recover_entries s d ms)
 recover-costs s d ms c le b room w =

@@ -22,23 +22,20 @@ use Rattle.dr_model.specs.Table.{table, waiting, due, due_by, aside, aside_by}
 use Rattle.dr_model.specs.Laws.{SoundRows, Sound, SoundBut, Waits, AllPending, Apart, Lone, Together, servers, Numbered}
 use Rattle.dr_model.specs.Allowed.{Runs, May}
 use Rattle.dr_model.proofs.Images.{histories-append, at_same, at_other}
+use Rattle.dr_closed.proofs.Pendings.{each-on, both-on, all-filter}
 use Rattle.dr_laws.proofs.AtLemmas.{at_cases}
 use Rattle.dr_laws.proofs.Sets.{if_false, if_true}
 use Rattle.dr_laws.proofs.Turns.{after_act, fused, done_in_stop, not_done, place, server_of, Writes}
 use Rattle.dr_laws.proofs.Due.{acked_lists}
 use Rattle.dr_groups.proofs.Volumes.{groups-same}
 use Rattle.dr_laws.proofs.RowsAfter.{calm-each}
-use Rattle.dr_laws.proofs.KeepsQueue.{each-on, all-filter, apart-filter, lone-filter, numbered-after}
+use Rattle.dr_laws.proofs.KeepsQueue.{apart-filter, lone-filter, numbered-after}
 use Rattle.dr_laws.proofs.KeepsSound.{StepHolds, over, sound-done, sound-stop, sound-not, rows-told}
 use Rattle.dr_laws.proofs.Along as along
 
 -- no write has landed on the server
 abbrev pub Free : (ℕ → ℕ) → ℕ → Pending → Type 0
 Free server s p = p.landed ≡ true → server p.volume ≡ s → ⊥
-
-both-on : {P Q R : Pending → Type 0} → ((p : Pending) → P p → Q p → R p) → (ps : List Pending) → AllPending P ps → AllPending Q ps → AllPending R ps
-both-on f [] a b = tt
-both-on f (p ∷ ps) a b = (f p a.0 b.0, both-on f ps a.1 b.1)
 
 -- what the first write that landed on a server leaves when it goes
 pub record Gone (server : ℕ → ℕ) (s : ℕ) (p : Pending) (ps : List Pending) : Type 0 where

@@ -2,14 +2,12 @@
 use Rattle.std.proofs.Common.{ℕ, ◌≡◌, ◌≢◌, ◌⊎◌, inl, inr, refl, ap, sym, ◌∙◌, subst, Bool, true, false, cond, List, [], ◌∷◌, ◌++◌, map, Option, Some, None}
 use Rattle.dr_ids.specs.declared.names.Member.{Member}
 use Rattle.dr_ids.specs.declared.refusal.Decision.{Decision}
-use Rattle.dr_ids.specs.declared.refusal.Decision.TheVariants.{NoMember, Nothing, RevertAll, CommitRest, RevertSome, Impossible}
 use Rattle.dr_model.specs.Layout.{is_part}
 use Rattle.dr_model.specs.Control.{Control, Fuse, Volume, World}
 use Rattle.dr_model.specs.Sessions.{Session, session_in}
 use Rattle.dr_model.specs.Moves.{Move, TakeOver, Commit, Revert, target, moved}
 use Rattle.dr_model.specs.Carry.{Act, Make, OpenAttempt, Redo, Acknowledge, Drop, EndFreeze, EndThaw, EndRecovery, Next, Pass, Do, End, Entry}
 use Rattle.dr_model.specs.Entries.{fields_at}
-use Rattle.dr_model.specs.SessionEntries.{is_flashed}
 use Rattle.dr_model.specs.RecoveryPlans.{decided_in, secondary_refusal, take_over_on, settle_on, end_recovery, recover_done, recover_plan}
 use Rattle.dr_model.specs.PlanParts.{Plan, unless, on_session}
 use Rattle.dr_model.specs.Groups.{In, Lone}
@@ -19,11 +17,12 @@ use Rattle.dr_groups.proofs.Changes.{session-found}
 use Rattle.dr_laws.specs.TakenOver.{TakesOverFirst}
 use Rattle.dr_laws.proofs.AtLemmas.{at_cases}
 use Rattle.dr_laws.proofs.Turns.{next_of, carried_in, done, after_act}
-use Rattle.dr_laws.proofs.KeepsSound.{Along, Then, MayDo, keeps-sound}
+use Rattle.dr_laws.proofs.KeepsSound.{Along, Then, MayDo}
 use Rattle.dr_laws.proofs.FitsFlash.{as_begun, sound-begun}
 use Rattle.dr_laws.proofs.FitsRecovery.{along-recover}
-use Rattle.dr_laws.proofs.Rides.{Rides, Both, keeps-with}
-use Rattle.dr_laws.proofs.Exchanges.{Keeping, Goes, goes-unless, goes-moment, goes-ends, goes-after}
+use Rattle.dr_laws.proofs.Rides.{Rides, Both}
+use Rattle.dr_laws.proofs.Keeping.{MayFit, keeps-fit, Keeping, Goes, goes-unless, goes-moment, goes-ends, goes-after}
+use Rattle.dr_laws.proofs.RecoveryEntries.{FitNext, fit-settle}
 use Rattle.dr_laws.proofs.Along as along
 
 module _ (w : World) (sound : Sound w) (s : ℕ) (x : Session) (found : session_in w.control.sessions s ≡ Some x) where
@@ -49,8 +48,8 @@ module _ (w : World) (sound : Sound w) (s : ℕ) (x : Session) (found : session_
   Fit u (EndRecovery i n) = Unit {0}
   Fit u a = ⊥
 
-  abbrev MayFit : World → Act → Type 0
-  MayFit u a = MayDo u a × Fit u a
+  abbrev May : World → Act → Type 0
+  May = MayFit Fit
 
   -- ---- the acts
 
@@ -73,10 +72,10 @@ module _ (w : World) (sound : Sound w) (s : ℕ) (x : Session) (found : session_
   stays u (Revert c a i n) h fit = λ m q here there ne. stays-taken u (Revert c a i n) (λ e. e) fit q there
   stays u a h fit = absurd fit
 
-  acts : Rides Sound Holds MayFit
+  acts : Rides Sound Holds May
   acts = record { does = does; counts = λ u a f j h may. stays u a h may.1; opens = λ u v i n f j h may. absurd may.1; fails = λ u a f d j h may. h }
     where
-      does : (u : World) (a : Act) (f : Option Fuse) → Sound u → Holds u → MayFit u a → Holds (after_act u a f)
+      does : (u : World) (a : Act) (f : Option Fuse) → Sound u → Holds u → May u a → Holds (after_act u a f)
       does u (Make a) f j h may = stays u a h may.1
       does u (OpenAttempt v i n) f j h may = absurd may.1
       does u (Redo v) f j h may = absurd may.1
@@ -86,22 +85,11 @@ module _ (w : World) (sound : Sound w) (s : ℕ) (x : Session) (found : session_
       does u (EndThaw l m) f j h may = absurd may.1
       does u (EndRecovery i n) f j h may = h
 
-  each-act : along.Keeps I I MayFit
-  each-act = keeps-with Sound Holds MayFit Sound
-      (record {
-        runs = λ u a d may. keeps-sound.runs u a d may.0;
-        does = λ u a f j may. keeps-sound.does u a f j may.0;
-        counts = λ u a f j may. keeps-sound.counts u a f j may.0;
-        opens = λ u v i n f j may. keeps-sound.opens u v i n f j may.0;
-        fails = λ u a f d j may. keeps-sound.fails u a f d j may.0;
-      })
-      acts
-
   begins : I (as_begun w)
   begins = (sound-begun w sound, λ m q here there ne. absurd (ne refl))
 
   abbrev Fits : World → List Entry → Type 0
-  Fits = along.Along I I I MayFit
+  Fits = along.Along I I I May
 
   -- ---- secondaries are taken over
 
@@ -146,11 +134,11 @@ module _ (w : World) (sound : Sound w) (s : ℕ) (x : Session) (found : session_
       none (inl never) = absurd never
       none (inr p) = p
   taking (m ∷ ms) es here go u h left a =
-      along.along-entry I I I MayFit u (take_over_on m) (map take_over_on ms ++ es) (take_over_on m u.control) refl
+      along.along-entry I I I May u (take_over_on m) (map take_over_on ms ++ es) (take_over_on m u.control) refl
       (by (λ v h left a. taking ms es (λ q h. here q (inr h)) go v h left a) (is_part (fields_at u.control m.b.0).secondary) refl (along.along-comes Sound Sound Sound MayDo u (take_over_on m) (map take_over_on ms ++ es) (take_over_on m u.control) refl a))
     where
       by : ((v : World) → Holds v → LeftBut v ms → Along v (map take_over_on ms ++ es) → Fits v (map take_over_on ms ++ es)) → (b : Bool) → is_part (fields_at u.control m.b.0).secondary ≡ b
-          → Then u (cond b (Do (Make (TakeOver m.b.0))) Pass) (λ v. Along v (map take_over_on ms ++ es)) → along.along_next I I MayFit u (cond b (Do (Make (TakeOver m.b.0))) Pass) (λ v. Fits v (map take_over_on ms ++ es))
+          → Then u (cond b (Do (Make (TakeOver m.b.0))) Pass) (λ v. Along v (map take_over_on ms ++ es)) → along.along_next I I May u (cond b (Do (Make (TakeOver m.b.0))) Pass) (λ v. Fits v (map take_over_on ms ++ es))
       by on true is a = ((a.0, λ q there. other m q (here m (inl refl)) there), λ f j. on (done u (TakeOver m.b.0) f) j.1 (left-done u f m ms left) (a.1 f j.0))
       by on false is a = on u h (left-passes u m ms left is) a
 
@@ -163,42 +151,29 @@ module _ (w : World) (sound : Sound w) (s : ℕ) (x : Session) (found : session_
   Settles (EndRecovery i n) = Unit {0}
   Settles a = ⊥
 
-  abbrev SettlesNext : Next → Type 0
-  SettlesNext (Do a) = Settles a
-  SettlesNext d = Unit {0}
-
   act-settles : (u : World) (a : Act) → Settles a → Taken u.control → Fit u a × ((f : Option Fuse) → Taken (after_act u a f).control)
   act-settles u (Make (Commit c a i n)) is taken = (taken, λ f. stays-taken u (Commit c a i n) (λ e. e) taken)
   act-settles u (Make (Revert c a i n)) is taken = (taken, λ f. stays-taken u (Revert c a i n) (λ e. e) taken)
   act-settles u (EndRecovery i n) is taken = (tt, λ f. taken)
   act-settles u a is taken = absurd is
 
-  settle-next : (u : World) (d : Next) (es : List Entry) → ((v : World) → Holds v → Taken v.control → Along v es → Fits v es) → Holds u → Taken u.control → SettlesNext d → Then u d (λ v. Along v es) → along.along_next I I MayFit u d (λ v. Fits v es)
+  settle-next : (u : World) (d : Next) (es : List Entry) → ((v : World) → Holds v → Taken v.control → Along v es → Fits v es) → Holds u → Taken u.control → FitNext Settles d → Then u d (λ v. Along v es) → along.along_next I I May u d (λ v. Fits v es)
   settle-next u Pass es on h taken is a = on u h taken a
-  settle-next u (End r) es on h taken is a = (a, h)
+  settle-next u (End r) es on h taken is a = absurd is
   settle-next u (Do d) es on h taken is a = let by = act-settles u d is taken in ((a.0, by.0), λ f j. on _ j.1 (by.1 f) (a.1 f j.0))
 
-  settles-if : (b : Bool) (a : Act) → Settles a → SettlesNext (cond b (Do a) Pass)
-  settles-if true a is = is
-  settles-if false a is = tt
+  settles : (d : Decision) (m : Member) (k : Control) → FitNext Settles (settle_on s d m k)
+  settles d m = fit-settle Settles s d (m ∷ []) (record { commits = λ no q here n. tt; reverts = λ yes q here n. tt }) m (inl refl)
 
-  settles : (d : Decision) (m : Member) (k : Control) → SettlesNext (settle_on s d m k)
-  settles NoMember m k = tt
-  settles (Nothing n) m k = tt
-  settles (CommitRest n) m k = settles-if (is_flashed n (fields_at k m.c.0)) (Make (Commit m.c.0 m.a.0 s n)) tt
-  settles (RevertAll n) m k = settles-if (is_flashed n (fields_at k m.c.0)) (Make (Revert m.c.0 m.a.0 s n)) tt
-  settles (RevertSome o n) m k = settles-if (is_flashed n (fields_at k m.c.0)) (Make (Revert m.c.0 m.a.0 s n)) tt
-  settles (Impossible a b) m k = tt
-
-  settle-entry : (d : Entry) (es : List Entry) → ((k : Control) → SettlesNext (d k)) → ((u : World) → Holds u → Taken u.control → Along u es → Fits u es) → (u : World) → Holds u → Taken u.control → Along u (d ∷ es) → Fits u (d ∷ es)
-  settle-entry d es is go u h taken a = along.along-entry I I I MayFit u d es (d u.control) refl (settle-next u (d u.control) es go h taken (is u.control) (along.along-comes Sound Sound Sound MayDo u d es (d u.control) refl a))
+  settle-entry : (d : Entry) (es : List Entry) → ((k : Control) → FitNext Settles (d k)) → ((u : World) → Holds u → Taken u.control → Along u es → Fits u es) → (u : World) → Holds u → Taken u.control → Along u (d ∷ es) → Fits u (d ∷ es)
+  settle-entry d es is go u h taken a = along.along-entry I I I May u d es (d u.control) refl (settle-next u (d u.control) es go h taken (is u.control) (along.along-comes Sound Sound Sound MayDo u d es (d u.control) refl a))
 
   over-all : (d : Decision) (ms : List Member) (es : List Entry) → ((u : World) → Holds u → Taken u.control → Along u es → Fits u es) → (u : World) → Holds u → Taken u.control → Along u (map (settle_on s d) ms ++ es) → Fits u (map (settle_on s d) ms ++ es)
   over-all d [] es go = go
   over-all d (m ∷ ms) es go = settle-entry (settle_on s d m) (map (settle_on s d) ms ++ es) (settles d m) (over-all d ms es go)
 
   ends : (u : World) → Holds u → Taken u.control → Along u (end_recovery s ∷ []) → Fits u (end_recovery s ∷ [])
-  ends = settle-entry (end_recovery s) [] (λ k. tt) (λ u h taken a. along.along-nil I I I MayFit u (along.along-ends Sound Sound Sound MayDo u a, h))
+  ends = settle-entry (end_recovery s) [] (λ k. tt) (λ u h taken a. along.along-nil I I I May u (along.along-ends Sound Sound Sound MayDo u a, h))
 
   -- ---- the plan
 
@@ -206,7 +181,7 @@ module _ (w : World) (sound : Sound w) (s : ℕ) (x : Session) (found : session_
   told = decided_in s w.control
 
   abbrev keeping : Keeping w Holds
-  keeping = record { law = I; may = MayFit; keeps = each-act; gives = λ v i. i.1; told = λ v on es h. h; begins = begins }
+  keeping = record { law = I; may = May; keeps = keeps-fit Holds Fit acts; gives = λ v i. i.1; told = λ v on es h. h; begins = begins }
 
   abbrev GoesOn : Plan → Type 0
   GoesOn = Goes w Holds keeping

@@ -38,7 +38,8 @@ use Rattle.dr_laws.proofs.RowsAfter.{table-done, table-stop}
 use Rattle.dr_laws.proofs.Rides.{Rides}
 use Rattle.dr_laws.proofs.Recovered.{Alike, alike-refl, alike-then, alike-still, alike-away}
 use Rattle.dr_laws.proofs.RecoverySame.{recovery-same, is-revertible, elsewhere, left-away, decided-still, decided-away}
-use Rattle.dr_laws.proofs.Exchanges.{goes-moment, goes-ends, goes-after, MayFit, FitsMember, Exchanging, keeping, goes-exchange}
+use Rattle.dr_laws.proofs.Keeping.{MayFit, goes-moment, goes-ends, goes-after}
+use Rattle.dr_laws.proofs.Exchanges.{FitsMember, Exchanging, keeping, goes-exchange}
 
 module _ (w : World) (x : Session) where
   abbrev n : ℕ
@@ -157,10 +158,10 @@ module _ (w : World) (x : Session) where
   opened : (u j : World) → Sound u → Stays u → (v s i : ℕ) → MayOpen u v s i → table j ≡ after (histories u.events).write (table u) (Hold v s i true) → Moves u.control j.control v (next_of u (Hold v s i true)) None → Stays j
   opened u j sound k v s i may rows moves = stays-still u j sound k (Hold v s i true) rows moves may.allowed (λ p. refl) refl refl refl refl (λ h. h) (λ t. refl)
 
-  acts : Rides Sound Stays (MayFit Fit)
+  acts : Rides Sound Stays (MayFit (λ u. Fit))
   acts = record { does = does; counts = counts; opens = opens; fails = λ u a f d j k may. stays-told u _ _ _ k }
     where
-      does : (u : World) (a : Act) (f : Option Fuse) → Sound u → Stays u → MayFit Fit u a → Stays (after_act u a f)
+      does : (u : World) (a : Act) (f : Option Fuse) → Sound u → Stays u → MayFit (λ u. Fit) u a → Stays (after_act u a f)
       does u (Make m) f j k may = stays-moved u (done u m f) j k m may.0 may.1 (table-done u j.rows.structure m f j.rows.images.blank may.0.allowed may.0.ready) (record { volumes = refl; volume = refl })
       does u (OpenAttempt v s i) f j k may =
           opened u (after_act u (OpenAttempt v s i) f) j k v s i may.0 (table-done u j.rows.structure (Hold v s i true) f j.rows.images.blank may.0.allowed may.0.ready) (record { volumes = refl; volume = refl })
@@ -171,10 +172,10 @@ module _ (w : World) (x : Session) where
       does u (EndThaw l m) f j k may = absurd may.1
       does u (EndRecovery s i) f j k may = absurd may.1
 
-      counts : (u : World) (m : Move) (f : Option Fuse) → Sound u → Stays u → MayFit Fit u (Make m) → Stays (done_in_stop u m f)
+      counts : (u : World) (m : Move) (f : Option Fuse) → Sound u → Stays u → MayFit (λ u. Fit) u (Make m) → Stays (done_in_stop u m f)
       counts u m f j k may = stays-moved u (done_in_stop u m f) j k m may.0 may.1 (table-stop u j.rows.structure m f j.rows.images.blank may.0.allowed may.0.ready) (record { volumes = refl; volume = refl })
 
-      opens : (u : World) (v s i : ℕ) (f : Option Fuse) → Sound u → Stays u → MayFit Fit u (OpenAttempt v s i) → Stays (opened_in_stop u v s i f)
+      opens : (u : World) (v s i : ℕ) (f : Option Fuse) → Sound u → Stays u → MayFit (λ u. Fit) u (OpenAttempt v s i) → Stays (opened_in_stop u v s i f)
       opens u v s i f j k may =
           opened u (opened_in_stop u v s i f) j k v s i may.0 (table-stop u j.rows.structure (Hold v s i true) f j.rows.images.blank may.0.allowed may.0.ready) (record { volumes = refl; volume = refl })
 

@@ -24,7 +24,8 @@ use Rattle.dr_laws.proofs.Sets.{false_true}
 use Rattle.dr_laws.proofs.AtLemmas.{at_part}
 use Rattle.dr_laws.proofs.Turns.{next_of, carried_in, done, after_act}
 use Rattle.dr_laws.proofs.Rides.{Rides}
-use Rattle.dr_laws.proofs.Exchanges.{Goes, finish-goes, goes-moment, goes-ends, goes-after, MayFit, FitsMember, Exchanging, keeping, goes-asking, goes-exchange}
+use Rattle.dr_laws.proofs.Keeping.{MayFit, Goes, finish-goes, goes-moment, goes-ends, goes-after}
+use Rattle.dr_laws.proofs.Exchanges.{FitsMember, Exchanging, keeping, goes-asking, goes-exchange}
 
 module _ (w : World) (sound : Sound w) (x : Session) (m : Member) (listed : In x w.control.sessions) (here : In m x.members) (apart : is_secondary_of m.a.0 (fields_at w.control m.b.0) ≡ false) where
   -- the target is as it was
@@ -50,10 +51,10 @@ module _ (w : World) (sound : Sound w) (x : Session) (m : Member) (listed : In x
     at_part (λ (y : Volume). is_secondary_of m.a.0 y.fields) u.control.volume (target a) (moved (u.control.volume (target a)) (next_of u a) (carried_in u a)) (fit.1 u) m.b.0 ∙ h.1,
   )
 
-  acts : Rides Sound Holds (MayFit Fit)
+  acts : Rides Sound Holds (MayFit (λ u. Fit))
   acts = record { does = does; counts = λ u a f j h may. stays u a h may.1; opens = λ u v s n f j h may. stays u (Hold v s n true) h (may.1, λ u. refl); fails = λ u a f d j h may. h }
     where
-      does : (u : World) (a : Act) (f : Option Fuse) → Sound u → Holds u → MayFit Fit u a → Holds (after_act u a f)
+      does : (u : World) (a : Act) (f : Option Fuse) → Sound u → Holds u → MayFit (λ u. Fit) u a → Holds (after_act u a f)
       does u (Make a) f j h may = stays u a h may.1
       does u (OpenAttempt v s n) f j h may = stays u (Hold v s n true) h (may.1, λ u. refl)
       does u (Redo v) f j h may = absurd may.1

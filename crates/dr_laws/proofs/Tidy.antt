@@ -19,6 +19,7 @@ use Rattle.dr_model.specs.Moves.{Move, Land, Overwrite, Mirror, Restore, Strike,
 use Rattle.dr_model.specs.Entries.{fields_at}
 use Rattle.dr_model.specs.Allowed.{Runs}
 use Rattle.dr_model.specs.Laws.{AllPending}
+use Rattle.dr_closed.proofs.Pendings.{each-on}
 use Rattle.dr_laws.specs.Windows.{is_ack}
 use Rattle.dr_laws.proofs.AtLemmas.{Told, at_cases, at_part}
 use Rattle.dr_laws.proofs.Sets.{false_true, empty_has, bare-has}
@@ -26,7 +27,6 @@ use Rattle.dr_laws.proofs.Turns.{next_of, carried_in, done, done_in_stop, not_do
 use Rattle.dr_laws.proofs.RowsAfter.{changed}
 use Rattle.dr_laws.proofs.Fair.{MayCome, Unacked}
 use Rattle.dr_laws.proofs.KeepsWindow.{silent-acks, silent-told}
-use Rattle.dr_laws.proofs.KeepsQueue.{each-on}
 use Rattle.dr_laws.proofs.KeepsMirror.{still-unacked}
 use Rattle.dr_laws.proofs.KeepsRecorders.{none-written}
 use Rattle.std.specs.List.{list_any}

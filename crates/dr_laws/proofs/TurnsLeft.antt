@@ -122,7 +122,7 @@ done-works phase.Committing h = tt
 done-works phase.Reverting h = tt
 done-works phase.Finishing h = tt
 
-reported-lost : (p : PhaseName) (xs : List Shown) → phases.is_reply (phases.Reported xs) (phases.work_in p) ≡ true → p ≡ phase.Lost
+pub reported-lost : (p : PhaseName) (xs : List Shown) → phases.is_reply (phases.Reported xs) (phases.work_in p) ≡ true → p ≡ phase.Lost
 reported-lost phase.Idle xs h = absurd cc
 reported-lost phase.None xs h = absurd cc
 reported-lost phase.Lost xs h = refl

@@ -12,6 +12,7 @@ use Rattle.dr_model.specs.Carried.{finish, carried_out, answered, masters_lost}
 use Rattle.dr_model.specs.Forming.{Part, Way, ends, goes_on, refusal_said, after_part, part_refusal, part}
 use Rattle.dr_model.proofs.CarryLemmas.{onward, carry-append}
 use Rattle.dr_groups.proofs.Lists.{none_some}
+use Rattle.dr_laws.proofs.Awaits.{none-refused}
 use Rattle.dr_laws.proofs.FitsFlash.{as_begun}
 use Rattle.dr_laws.proofs.Turns.{Counts, after_act, act-cases}
 
@@ -46,9 +47,6 @@ module _ (Ok : Control → Act → Type 0) where
   fine-choice k false x y p q = q
 
   module _ (K : World → Type 0) (keeps : (w : World) (a : Act) (f : Option Fuse) → Ok w.control a → K w → K (after_act w a f)) where
-    none-refused : {P : Type 0} (w v : World) (r : Refusal) → ◌≡◌ {A = Outcome} (w, Some r) (v, None) → P
-    none-refused w v r h = none_some (ap (λ (t : Outcome). t.1) h) refl
-
     counts-refused : (w v : World) (a : Act) (rest : World → Outcome) → Counts w a (λ t. continue t.0 t.1 rest ≡ (v, None) → K v)
     counts-refused w v (Make m) rest = λ f h. none-refused _ v _ h
     counts-refused w v (OpenAttempt j s n) rest = λ f h. none-refused _ v _ h
@@ -126,7 +124,7 @@ unrefused p k None h = refl
 unrefused p k (Some r) h = absurd cc
 
 -- where no server went off, no master is lost
-lost-none : (on : ℕ → Bool) (ss : List Session) → lost_since on on ss ≡ ss
+pub lost-none : (on : ℕ → Bool) (ss : List Session) → lost_since on on ss ≡ ss
 lost-none on [] = refl
 lost-none on (x ∷ ss) = λ i. record x { mirror = mirrors x.mirror i } ∷ lost-none on ss i
   where

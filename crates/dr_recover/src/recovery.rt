@@ -63,7 +63,8 @@ fn end_recovery(j: &mut Journal, s: SessionId, group: Option<u32>)
 /// or reverted, in order of members. At the end the journal is told the number that all targets show that count then. Refused
 /// where the server of a secondary is off, which the first such member says; then nothing has changed. Fails too where a
 /// server stops in a move or goes off at a read; what was done by then stays, and the call may be repeated: in a sound world
-/// another recovery then gives each session the same group and images as this one would have. The session has at most 64 members. The journal needs room for two events for each member and one more.
+/// another recovery then gives each session the same group and images as this one would have. The session has at most 64
+/// members. The journal needs room for two events for each member and one more.
 pub fn recover<P: Plant>(
     p: &mut P,
     c: &Config,

@@ -9,6 +9,7 @@ use Rattle.dr_model.specs.Runs.{masters_lost}
 use Rattle.dr_model.specs.Sessions.{Session, Mirror, with_mirror, mirror_lost, lost_with, lost_since}
 use Rattle.dr_plant.specs.State.{PlantState}
 use Rattle.dr_volume.specs.View.{on_seen}
+use Rattle.dr_laws.proofs.Went.{lost-none as none-since}
 
 -- the masters on servers of a set are lost
 abbrev mirror_lost_on : (ℕ → Bool) → Mirror → Mirror
@@ -100,17 +101,10 @@ lost-all s u before ss was = lost-same _ _ (λ k. by k (nat_lt k 8) refl) ss
     by k false lt = refl
 
 -- a step that leaves the servers and the sessions as they were loses none
-both-ways : (b : Bool) → (b && not b) ≡ false
-both-ways true = refl
-both-ways false = refl
-
-pub none-lost : (on : ℕ → Bool) (ss : List Session) → lost_since on on ss ≡ ss
-none-lost on ss = lost-none (λ k. on k && not (on k)) (λ k. both-ways (on k)) ss
-
 pub masters-stay : (w u : World) → u.control ≡ w.control → masters_lost w u ≡ u
 masters-stay w u same =
     (λ i. masters_lost (record w { control = sym same i }) u)
-    ∙ (λ i. record u { control = record u.control { sessions = none-lost u.control.on u.control.sessions i } })
+    ∙ (λ i. record u { control = record u.control { sessions = none-since u.control.on u.control.sessions i } })
 
 -- which servers are on, one more
 pub on-next : (on : List Bool) (f : ℕ → Bool) (n : ℕ) (x : Bool) → n < length on → x ≡ f n → ((k : ℕ) → k < n → get_or on k false ≡ f k) → (k : ℕ) → k < n + 1 → get_or (set on n x) k false ≡ f k
