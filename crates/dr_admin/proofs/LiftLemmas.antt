@@ -4,7 +4,7 @@ use Rattle.std.specs.Prelude.{option_map, Result, Ok, Err, if◌then◌else◌}
 use Rattle.std.proofs.lemmas.List.{drop_all, append-nil}
 use Rattle.dr_ids.specs.declared.refusal.Refusal.{Refusal}
 use Rattle.dr_plant.specs.State.{PlantState}
-use Rattle.dr_config.specs.Table.{Table}
+use Rattle.dr_config.specs.Table.{ConfigTable}
 use Rattle.dr_config.specs.declared.entries.VolumeEntry.{VolumeEntry}
 use Rattle.dr_host.specs.Writes.{has_owner}
 use Rattle.dr_model.specs.declared.event.Event.{Event}
@@ -21,16 +21,16 @@ use Rattle.dr_model.specs.Plans.{Plan, expire_plan, expire_on, refuses}
 use Rattle.dr_model.specs.WriteEntries.{lift_on}
 use Rattle.dr_volume.specs.View.{Rest, ids_of}
 use Rattle.dr_volume.proofs.WorldLaws.{on-seen}
-use Rattle.dr_flash.specs.Here.{seen, refusal_of}
+use Rattle.dr_flash.specs.Here.{world_seen, refusal_of}
 use Rattle.dr_flash.specs.Turns.{Advances, Halts}
 use Rattle.dr_flash.proofs.CopyLemmas.{ids-next}
-use Rattle.dr_flash.proofs.EndsLemmas.{ends-skips, ends-none}
+use Rattle.dr_facts.proofs.Ends.{ends-skips, ends-none}
 use Rattle.dr_admin.specs.Answering.{Comes, lift_answer}
 use Rattle.dr_admin.specs.Starting.{lift_from}
 use Rattle.dr_admin.proofs.OwnerLemmas.{belongs-seen}
 
 -- a volume's entry comes first of what is left
-module _ (t : Table) (v server place : ℕ) (at : Some v ≡ option_map (λ (x : VolumeEntry). x.id) (slice_get t.volumes place)) where
+module _ (t : ConfigTable) (v server place : ℕ) (at : Some v ≡ option_map (λ (x : VolumeEntry). x.id) (slice_get t.volumes place)) where
   abbrev behind : List Entry
   behind = lift_from t server (place + 1)
 
@@ -38,9 +38,9 @@ module _ (t : Table) (v server place : ℕ) (at : Some v ≡ option_map (λ (x :
   next_is = ap (map (lift_on server)) (ids-next t place v at)
 
   -- a volume of another server is passed over
-  pub lifted-skip : (s : PlantState) (r : Rest) (ev : List Event) (armed : ℕ → Bool) (u : World) (q : Option Refusal) → has_owner t v server ≡ false → Ends armed u q (seen s t r ev) behind → Ends armed u q (seen s t r ev) (lift_from t server place)
+  pub lifted-skip : (s : PlantState) (r : Rest) (ev : List Event) (armed : ℕ → Bool) (u : World) (q : Option Refusal) → has_owner t v server ≡ false → Ends armed u q (world_seen s t r ev) behind → Ends armed u q (world_seen s t r ev) (lift_from t server place)
   lifted-skip s r ev armed u q other more =
-      let w : World = seen s t r ev in
+      let w : World = world_seen s t r ev in
       subst (Ends armed u q w) (sym next_is)
       (ends-skips armed u q w (lift_on server v) behind (ap (λ b. if b && held (fields_at w.control v) then Do (Make (Lift v)) else Pass) (belongs-seen s t r ev v server ∙ other)) more)
 
@@ -51,13 +51,13 @@ module _ (t : Table) (v server place : ℕ) (at : Some v ≡ option_map (λ (x :
   lifted-stops armed w u q ends = subst (Ends armed u q w) (sym next_is) (ends behind)
 
 -- no volume is left
-pub lifted-all : (armed : ℕ → Bool) (w : World) (t : Table) (server place : ℕ) → length t.volumes ≤ place → Ends armed w None w (lift_from t server place)
+pub lifted-all : (armed : ℕ → Bool) (w : World) (t : ConfigTable) (server place : ℕ) → length t.volumes ≤ place → Ends armed w None w (lift_from t server place)
 lifted-all armed w t server place all = subst (Ends armed w None w) (sym (ap (λ es. map (lift_on server) (ids_of es)) (drop_all place t.volumes all))) (ends-none armed w None w (record { world = refl; refusal = refl }))
 
 -- the plan, where the server is off, and where it is on
-module _ (s : PlantState) (t : Table) (r : Rest) (ev : List Event) (server : ℕ) (low : server < 8) where
+module _ (s : PlantState) (t : ConfigTable) (r : Rest) (ev : List Event) (server : ℕ) (low : server < 8) where
   abbrev w : World
-  w = seen s t r ev
+  w = world_seen s t r ev
 
   plan-by : (b : Bool) → s.on server ≡ b → expire_on w.control server ≡ cond b (expire_plan w.control server) (refuses (server_off server))
   plan-by b is = ap (λ b. cond b (expire_plan w.control server) (refuses (server_off server))) (on-seen s server low ∙ is)

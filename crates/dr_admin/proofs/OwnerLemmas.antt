@@ -5,56 +5,44 @@ use Rattle.std.specs.List.{list_any, find}
 use Rattle.std.specs.Option.{option_map_or}
 use Rattle.std.proofs.lemmas.Bool.Decides.{Decides-eqb, nat_tests}
 use Rattle.dr_plant.specs.State.{PlantState}
-use Rattle.dr_config.specs.Table.{Table, place_of, entry_of}
+use Rattle.dr_config.specs.Table.{ConfigTable, place_of, entry_of}
 use Rattle.dr_config.specs.declared.entries.VolumeEntry.{VolumeEntry}
-use Rattle.dr_config.proofs.Lookups.{entry-at-place, place-of-entry}
+use Rattle.dr_config.proofs.Lookups.{entry-at-place, place-of-entry, either}
 use Rattle.dr_host.specs.Writes.{has_owner}
 use Rattle.dr_model.specs.declared.event.Event.{Event}
 use Rattle.dr_model.specs.WriteEntries.{belongs}
 use Rattle.dr_volume.specs.View.{Rest, volume_seen, ids_of}
 use Rattle.dr_volume.proofs.VolumeLaws.{volume-placed}
-use Rattle.dr_flash.specs.Here.{seen}
+use Rattle.dr_flash.specs.Here.{world_seen}
+use Rattle.dr_config.proofs.KeyLaws.{eqb-turned}
+use Rattle.dr_volume.proofs.WorldLaws.{any_id}
 
-pub some_or_none : {A : Type 0} (o : Option A) → ((x : A) × (o ≡ Some x)) ⊎ (o ≡ None)
-some_or_none None = inr refl
-some_or_none (Some x) = inl (x, refl)
-
-same_id : (a b : ℕ) → nat_eq a b ≡ nat_eq b a
-same_id a b = grind (arith, nat_tests)
-
--- the machine has a volume exactly where the configuration has
-is-volume : (es : List VolumeEntry) (v : ℕ) → list_any (nat_eq v) (ids_of es) ≡ is_some (find (λ (e : VolumeEntry). e.id == v) es)
-is-volume [] v = refl
-is-volume (e ∷ es) v =
-    ap (λ b. b || list_any (nat_eq v) (ids_of es)) (same_id v e.id)
-    ∙ elim (nat_eq e.id v) as (λ b. (b || list_any (nat_eq v) (ids_of es)) ≡ is_some (cond b (Some e) (find (λ (e : VolumeEntry). e.id == v) es))) [ true ↦ refl | false ↦ is-volume es v ]
-
-server-of : (s : PlantState) (t : Table) (v : ℕ) (e : VolumeEntry) → entry_of t v ≡ Some e → (volume_seen s t v).server ≡ e.server
+server-of : (s : PlantState) (t : ConfigTable) (v : ℕ) (e : VolumeEntry) → entry_of t v ≡ Some e → (volume_seen s t v).server ≡ e.server
 server-of s t v e found = let at = place-of-entry t v e found in ap (λ x. x.server) (volume-placed s t v at.0 e at.1 at.2)
 
-owner-of : (t : Table) (v server : ℕ) (e : VolumeEntry) → entry_of t v ≡ Some e → has_owner t v server ≡ nat_eq e.server server
+owner-of : (t : ConfigTable) (v server : ℕ) (e : VolumeEntry) → entry_of t v ≡ Some e → has_owner t v server ≡ nat_eq e.server server
 owner-of t v server e found = ap (λ o. option_map_or (λ (x : VolumeEntry). nat_eq x.server server) o false) found
 
-owner-none : (t : Table) (v server : ℕ) → entry_of t v ≡ None → has_owner t v server ≡ false
+owner-none : (t : ConfigTable) (v server : ℕ) → entry_of t v ≡ None → has_owner t v server ≡ false
 owner-none t v server none = ap (λ o. option_map_or (λ (x : VolumeEntry). nat_eq x.server server) o false) none
 
 -- a volume is the server's for the machine where it is for the configuration
-pub belongs-seen : (s : PlantState) (t : Table) (r : Rest) (ev : List Event) (v server : ℕ) → belongs (seen s t r ev).control server v ≡ has_owner t v server
+pub belongs-seen : (s : PlantState) (t : ConfigTable) (r : Rest) (ev : List Event) (v server : ℕ) → belongs (world_seen s t r ev).control server v ≡ has_owner t v server
 belongs-seen s t r ev v server =
     let own : Bool = nat_eq (volume_seen s t v).server server in
-    elim (some_or_none (entry_of t v)) [
-      | inl found ↦ ap (λ b. b && own) (is-volume t.volumes v ∙ ap is_some found.1) ∙ ap (λ n. nat_eq n server) (server-of s t v found.0 found.1) ∙ sym (owner-of t v server found.0 found.1)
-      | inr none ↦ ap (λ b. b && own) (is-volume t.volumes v ∙ ap is_some none) ∙ sym (owner-none t v server none)
+    elim (either (entry_of t v)) [
+      | inl found ↦ ap (λ b. b && own) (any_id t.volumes v ∙ ap is_some found.1) ∙ ap (λ n. nat_eq n server) (server-of s t v found.0 found.1) ∙ sym (owner-of t v server found.0 found.1)
+      | inr none ↦ ap (λ b. b && own) (any_id t.volumes v ∙ ap is_some none) ∙ sym (owner-none t v server none)
     ]
 
-pub own-server : (s : PlantState) (t : Table) (v server : ℕ) → has_owner t v server ≡ true → (volume_seen s t v).server ≡ server
+pub own-server : (s : PlantState) (t : ConfigTable) (v server : ℕ) → has_owner t v server ≡ true → (volume_seen s t v).server ≡ server
 own-server s t v server h =
-    elim (some_or_none (entry_of t v)) [
+    elim (either (entry_of t v)) [
       | inl found ↦ server-of s t v found.0 found.1 ∙ (Decides-eqb found.0.server server).0 (sym (owner-of t v server found.0 found.1) ∙ h)
       | inr none ↦ let e : false ≡ true = sym (owner-none t v server none) ∙ h in absurd cc
     ]
 
-pub other-server : (s : PlantState) (t : Table) (v server d : ℕ) → place_of t v ≡ Some d → has_owner t v server ≡ false → (volume_seen s t v).server ≢ server
+pub other-server : (s : PlantState) (t : ConfigTable) (v server d : ℕ) → place_of t v ≡ Some d → has_owner t v server ≡ false → (volume_seen s t v).server ≢ server
 other-server s t v server d at h own =
     let found = entry-at-place t v d at in
     let e : nat_eq found.0.server server ≡ true = (Decides-eqb found.0.server server).1 (sym (server-of s t v found.0 found.2) ∙ own) in

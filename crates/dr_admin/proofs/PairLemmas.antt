@@ -20,11 +20,6 @@ use Rattle.dr_model.specs.SessionPlans.{copy_refusal, member_target, member_with
 use Rattle.dr_flash.specs.Checks.{is_stop}
 use Rattle.dr_flash.specs.Here.{refusal_of}
 
-pub global-part : (p : Part) → is_kind Global p ≡ true → is_part p ≡ true
-global-part Absent h = absurd cc
-global-part Metro h = absurd cc
-global-part Global h = refl
-
 module _ (k : Control) (a : ℕ) where
   pub copy-off : is_running a k ≡ false → Some (server_off (k.volume a).server) ≡ copy_refusal k a
   copy-off off = sym (ap (λ b. if not b then Some (server_off (k.volume a).server) else if not (is_kind Global (fields_at k a).primary) then Some (pair_state k a) else send_refusal a (fields_at k a).primary_partner k) off)

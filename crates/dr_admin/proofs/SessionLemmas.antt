@@ -16,15 +16,8 @@ use Rattle.dr_model.specs.Sessions.{Session, Mirror, session_in, has_lss, is_mem
 use Rattle.dr_flash.specs.Checks.{is_stop}
 use Rattle.dr_admin.specs.Adding.{outside_of, taken_in}
 use Rattle.dr_admin.specs.Removing.{member_in}
-
--- a session is found by its number
-pub number-is : (ss : List Session) (s : ℕ) (x : Session) → session_in ss s ≡ Some x → x.number ≡ s
-number-is [] s x h = absurd cc
-number-is (y ∷ ys) s x h =
-    elim (y.number == s) as (λ b. (y.number == s) ≡ b → cond b (Some y) (session_in ys s) ≡ Some x → x.number ≡ s) [
-      | true ↦ λ is got. let same : y ≡ x = cc in sym (ap (λ (z : Session). z.number) same) ∙ eqb-true y.number s is
-      | false ↦ λ is got. number-is ys s x got
-    ] refl h
+use Rattle.dr_facts.proofs.Refusals.{none-both}
+use Rattle.dr_facts.proofs.Sessions.{in-none, number-is}
 
 pub outside-is : (ss : List Session) (s l : ℕ) → is_some (session_in ss s) ≡ true → has_lss (session_in ss s) l ≡ false → Some (NotInSession (record { 0 = s })) ≡ outside_of (session_in ss s) l
 outside-is ss s l defined out =
@@ -142,17 +135,8 @@ busy-still n x = by x.mirror
     by None h = refl
     by (Some r) h = idle-still r.master.phase _ _ refl h
 
-pub none-both : (a b : Option Refusal) → option_or a b ≡ None → (a ≡ None) × (b ≡ None)
-none-both None b is = (refl, is)
-none-both (Some e) b is = absurd cc
-
 pub both-none : (a b : Option Refusal) → a ≡ None → b ≡ None → option_or a b ≡ None
 both-none a b one two = ap (λ o. option_or o b) one ∙ two
-
--- in none of the sessions
-pub in-none : (o : Option Session) → in_session o ≡ None → o ≡ None
-in-none None h = refl
-in-none (Some x) h = absurd cc
 
 -- a member that may be added may be added then
 module _ (s n : ℕ) (m : Member) (ss : List Session) where

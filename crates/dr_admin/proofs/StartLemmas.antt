@@ -4,13 +4,14 @@ use Rattle.std.proofs.Common.{ℕ, ◌≡◌, ◌≢◌, ◌<◌, ◌≤◌, ◌
 use Rattle.std.specs.Prelude.{is_some, option_map, Result, Ok, Err, IfOk, OnErr, if◌then◌else◌}
 use Rattle.std.proofs.lemmas.Bool.Decides.{eqb_tells}
 use Rattle.std.proofs.lemmas.List.{drop_all, append-nil, append_assoc}
+use Rattle.std.proofs.lemmas.Bool.{false≢true}
+use Rattle.dr_logic.specs.Tables.{at}
 use Rattle.dr_ids.specs.declared.names.WriteId.{WriteId}
 use Rattle.dr_ids.specs.declared.refusal.Refusal.{Refusal}
 use Rattle.dr_plant.specs.State as plant
 use Rattle.dr_plant.specs.State.{PlantState, started, started_read, started_write, passes_read}
 use Rattle.dr_plant.specs.declared.plant.WriteFuse.{WriteFuse}
-use Rattle.dr_plant.proofs.StateLemmas.{at_same, at_other}
-use Rattle.dr_config.specs.Table.{Table, StandsFor, place_of}
+use Rattle.dr_config.specs.Table.{ConfigTable, StandsFor, place_of}
 use Rattle.dr_config.specs.declared.entries.VolumeEntry.{VolumeEntry}
 use Rattle.dr_config.proofs.Lists.{position-within}
 use Rattle.dr_host.specs.Writes as writes
@@ -28,22 +29,23 @@ use Rattle.dr_model.specs.Plans.{Plan, only_says, landed_on, acknowledge_if, ack
 use Rattle.dr_model.specs.Entries.{fields_at}
 use Rattle.dr_model.specs.Moves.{Restart}
 use Rattle.dr_model.specs.Pairs.{must_restart}
-use Rattle.dr_model.specs.Tables.{at}
 use Rattle.dr_model.specs.WriteEntries.{redo_on, restart_on, start_entries}
 use Rattle.dr_model.proofs.CarryLemmas.{act-redo, act-acknowledge}
 use Rattle.dr_volume.specs.View.{Rest, volume_seen, volume_at, ids_of, device_of, fuses_seen, fuse_seen, IsSettled, TracksSettled}
 use Rattle.dr_volume.specs.Update.{IsAsBefore, EndsAs, after_reading}
 use Rattle.dr_volume.proofs.UnreadLaws.{armed-of}
 use Rattle.dr_volume.proofs.WorldLaws.{on-at, on-seen, fuses-at, fuse-seen}
-use Rattle.dr_flash.specs.Here.{seen, armed_in, IsAtRest}
+use Rattle.dr_flash.specs.Here.{world_seen, armed_in, IsAtRest}
 use Rattle.dr_flash.specs.Turns.{Advances, Halts}
 use Rattle.dr_flash.proofs.CopyLemmas.{ids-next, wider-armed}
-use Rattle.dr_flash.proofs.EndsLemmas.{ends-off, ends-none, ends-skips, ends-goes, ends-stops, ends-wider}
+use Rattle.dr_facts.proofs.Ends.{ends-off, ends-none, ends-skips, ends-goes, ends-stops, ends-wider}
 use Rattle.dr_flash.proofs.ReadLemmas.{on-running, is-armed}
 use Rattle.dr_coord.specs.Standing.{StandsReady}
 use Rattle.dr_admin.specs.Answering.{Comes, number_of}
 use Rattle.dr_admin.specs.Starting.{hosted, IsLater, IsStarting, start_from, start_events, acks, without_acked}
-use Rattle.dr_admin.proofs.OwnerLemmas.{some_or_none, belongs-seen, own-server, other-server}
+use Rattle.dr_admin.proofs.OwnerLemmas.{belongs-seen, own-server, other-server}
+use Rattle.dr_config.proofs.Lookups.{either}
+use Rattle.dr_logic.proofs.Tables.{at_same, at_other}
 
 -- the server, whose read fuse is armed, went off before any write
 record Shuts (armed : ℕ → Bool) (server : ℕ) (w u : World) (failed : Bool) : Type 0 where
@@ -59,13 +61,10 @@ split s server w u b e low ends =
       | false ↦ λ stuck h. inr (record { is_armed = is-armed s server low (armed-of (s.read_fuse server) stuck); world = h.world; answer = h.stopped })
     ] refl ends
 
-failed-not : false ≡ true → ⊥
-failed-not e = cc
-
 -- a volume's staged track is written to its place, or the server stops in that write
-module _ (s : PlantState) (t : Table) (r : Rest) (ev : List Event) (v server : ℕ) where
+module _ (s : PlantState) (t : ConfigTable) (r : Rest) (ev : List Event) (v server : ℕ) where
   abbrev w : World
-  w = seen s t r ev
+  w = world_seen s t r ev
 
   abbrev e : Ended
   e = redo w v
@@ -97,45 +96,45 @@ module _ (s : PlantState) (t : Table) (r : Rest) (ev : List Event) (v server : �
     on_own : w.control.on o ≡ true
     on_own = ap w.control.on own ∙ on-running s server on
 
-    redone-ends : (stopped : Bool) → EndsAs (seen s' t r ev) stopped (after_reading s o w e) → EndsAs (seen s' t r ev) stopped e ⊎ Shuts (armed_in s) server w (seen s' t r ev) stopped
-    redone-ends stopped ends = elim (split s o w (seen s' t r ev) stopped e (subst (λ x. x < 8) (sym own) low) ends) [
+    redone-ends : (stopped : Bool) → EndsAs (world_seen s' t r ev) stopped (after_reading s o w e) → EndsAs (world_seen s' t r ev) stopped e ⊎ Shuts (armed_in s) server w (world_seen s' t r ev) stopped
+    redone-ends stopped ends = elim (split s o w (world_seen s' t r ev) stopped e (subst (λ x. x < 8) (sym own) low) ends) [
       | inl x ↦ inl x
-      | inr x ↦ inr (subst (λ q. Shuts (armed_in s) q w (seen s' t r ev) stopped) own x)
+      | inr x ↦ inr (subst (λ q. Shuts (armed_in s) q w (world_seen s' t r ev) stopped) own x)
     ]
 
-    pub redone-advances : EndsAs (seen s' t r ev) false (after_reading s o w e) → Advances w (redo_on server v) (seen s' t r ev)
+    pub redone-advances : EndsAs (world_seen s' t r ev) false (after_reading s o w e) → Advances w (redo_on server v) (world_seen s' t r ev)
     redone-advances ends armed u q ds more = elim (redone-ends false ends) [
-      | inl x ↦ ends-goes armed u q w (seen s' t r ev) (redo_on server v) ds (Redo v) (entry_is true owned) (redo_by false on_own x.stopped ∙ ap (λ (y : World). (y, None)) (sym x.world)) more
-      | inr x ↦ absurd (failed-not x.answer)
+      | inl x ↦ ends-goes armed u q w (world_seen s' t r ev) (redo_on server v) ds (Redo v) (entry_is true owned) (redo_by false on_own x.stopped ∙ ap (λ (y : World). (y, None)) (sym x.world)) more
+      | inr x ↦ absurd (false≢true x.answer)
     ]
 
-    pub redone-halts : (mid : List Event) → EndsAs (seen s' t r ev) true (after_reading s o w e) → mid ≡ ev ++ Stopped server 0 ∷ [] → Halts (armed_in s) w (redo_on server v) (seen s' t r mid) (Some (stopped server))
+    pub redone-halts : (mid : List Event) → EndsAs (world_seen s' t r ev) true (after_reading s o w e) → mid ≡ ev ++ Stopped server 0 ∷ [] → Halts (armed_in s) w (redo_on server v) (world_seen s' t r mid) (Some (stopped server))
     redone-halts mid ends told ds = elim (redone-ends true ends) [
       | inl x ↦
-          ends-stops (armed_in s) (seen s' t r mid) (Some (stopped server)) w (redo_on server v) ds (Redo v) server (entry_is true owned)
+          ends-stops (armed_in s) (world_seen s' t r mid) (Some (stopped server)) w (redo_on server v) ds (Redo v) server (entry_is true owned)
           (redo_by true on_own x.stopped
           ∙ ap (λ (y : World). (record y { events = ev ++ Stopped o 0 ∷ [] }, Some o)) (sym x.world)
-          ∙ ap (λ q. (record (seen s' t r ev) { events = ev ++ Stopped q 0 ∷ [] }, Some q)) own
-          ∙ ap (λ es. (seen s' t r es, Some server)) (sym told)) refl
-      | inr x ↦ ends-off (armed_in s) (seen s' t r mid) (Some (stopped server)) w (redo_on server v ∷ ds) (record {
+          ∙ ap (λ q. (record (world_seen s' t r ev) { events = ev ++ Stopped q 0 ∷ [] }, Some q)) own
+          ∙ ap (λ es. (world_seen s' t r es, Some server)) (sym told)) refl
+      | inr x ↦ ends-off (armed_in s) (world_seen s' t r mid) (Some (stopped server)) w (redo_on server v ∷ ds) (record {
         server = server;
         on = on-running s server on;
         is_armed = x.is_armed;
-        world = ap (seen s' t r) told ∙ ap (λ (y : World). record y { events = ev ++ Stopped server 0 ∷ [] }) x.world;
+        world = ap (world_seen s' t r) told ∙ ap (λ (y : World). record y { events = ev ++ Stopped server 0 ∷ [] }) x.world;
         refusal = refl;
       })
     ]
 
 -- a volume's two entries come first of what is left
-module _ (t : Table) (v server place : ℕ) (at : Some v ≡ option_map (λ (x : VolumeEntry). x.id) (slice_get t.volumes place)) (more : List Entry) where
+module _ (t : ConfigTable) (v server place : ℕ) (at : Some v ≡ option_map (λ (x : VolumeEntry). x.id) (slice_get t.volumes place)) (more : List Entry) where
   abbrev behind : List Entry
   behind = start_from t server (place + 1) ++ more
 
   next_is : start_from t server place ++ more ≡ redo_on server v ∷ restart_on server v ∷ behind
   next_is = ap (λ vs. start_entries server vs ++ more) (ids-next t place v at)
 
-  pub started-skip : (s : PlantState) (r : Rest) (ev : List Event) (armed : ℕ → Bool) (u : World) (q : Option Refusal) → has_owner t v server ≡ false → Ends armed u q (seen s t r ev) behind → Ends armed u q (seen s t r ev) (start_from t server place ++ more)
-  started-skip s r ev armed u q other ends = subst (Ends armed u q (seen s t r ev)) (sym next_is) (others-skip s t r ev v server armed u q behind other ends)
+  pub started-skip : (s : PlantState) (r : Rest) (ev : List Event) (armed : ℕ → Bool) (u : World) (q : Option Refusal) → has_owner t v server ≡ false → Ends armed u q (world_seen s t r ev) behind → Ends armed u q (world_seen s t r ev) (start_from t server place ++ more)
+  started-skip s r ev armed u q other ends = subst (Ends armed u q (world_seen s t r ev)) (sym next_is) (others-skip s t r ev v server armed u q behind other ends)
 
   -- it wrote its track, and went on
   pub started-goes : (w w1 w2 : World) → Advances w (redo_on server v) w1 → Advances w1 (restart_on server v) w2 → (armed : ℕ → Bool) (u : World) (q : Option Refusal) → Ends armed u q w2 behind → Ends armed u q w (start_from t server place ++ more)
@@ -152,19 +151,19 @@ module _ (t : Table) (v server place : ℕ) (at : Some v ≡ option_map (λ (x :
       (first (armed_in s) u q (restart_on server v ∷ behind) (ends-wider (armed_in s1) (armed_in s) (wider-armed s s1 unarmed) u q w1 (restart_on server v ∷ behind) (ends behind)))
 
 -- no volume is left
-pub started-all : (t : Table) (server place : ℕ) → length t.volumes ≤ place → start_from t server place ≡ []
+pub started-all : (t : ConfigTable) (server place : ℕ) → length t.volumes ≤ place → start_from t server place ≡ []
 started-all t server place all = ap (λ es. start_entries server (ids_of es)) (drop_all place t.volumes all)
 
 -- ---- what is settled on the way
 
-settled-alike : (s : PlantState) (t : Table) (u v : ℕ) → place_of t u ≡ place_of t v → IsSettled s t v → IsSettled s t u
+settled-alike : (s : PlantState) (t : ConfigTable) (u v : ℕ) → place_of t u ≡ place_of t v → IsSettled s t v → IsSettled s t u
 settled-alike s t u v same h =
     subst (λ o. s.on (volume_at s t o).server ≡ true → TracksSettled (s.block (unwrap_or o 0)) (volume_at s t o).staged) (sym same) h
 
-later-still : (s s' : PlantState) (t : Table) (server n u : ℕ) → (volume_seen s' t u).server ≡ (volume_seen s t u).server → IsLater s t server n u → IsLater s' t server n u
+later-still : (s s' : PlantState) (t : ConfigTable) (server n u : ℕ) → (volume_seen s' t u).server ≡ (volume_seen s t u).server → IsLater s t server n u → IsLater s' t server n u
 later-still s s' t server n u same l = record { own = same ∙ l.own; at = l.at; stands = l.stands; later = l.later }
 
-module _ (s : PlantState) (t : Table) (v server place : ℕ) (starting : IsStarting s t server place) (at : place_of t v ≡ Some place) where
+module _ (s : PlantState) (t : ConfigTable) (v server place : ℕ) (starting : IsStarting s t server place) (at : place_of t v ≡ Some place) where
   further : (u : ℕ) → (place_of t u ≡ place_of t v → IsLater s t server (place + 1) u) → IsLater s t server place u → IsLater s t server (place + 1) u
   further u here l =
       elim (eqb_tells l.at place) [
@@ -205,7 +204,7 @@ module _ (s : PlantState) (t : Table) (v server place : ℕ) (starting : IsStart
     }
 
 -- where no volume changed its server or its size, each is settled that was
-module _ (s s' : PlantState) (t : Table) (server place : ℕ) (starting : IsStarting s t server place) (servers : (u : ℕ) → (volume_seen s' t u).server ≡ (volume_seen s t u).server) (tracks : (u : ℕ) → (volume_seen s' t u).tracks ≡ (volume_seen s t u).tracks)
+module _ (s s' : PlantState) (t : ConfigTable) (server place : ℕ) (starting : IsStarting s t server place) (servers : (u : ℕ) → (volume_seen s' t u).server ≡ (volume_seen s t u).server) (tracks : (u : ℕ) → (volume_seen s' t u).tracks ≡ (volume_seen s t u).tracks)
     (stands : StandsFor t s') (kept : (u : ℕ) → IsSettled s t u → IsSettled s' t u) where
   sizes-still : (u : ℕ) → (volume_seen s' t u).tracks ≤ 256
   sizes-still u = subst (λ x. x ≤ 256) (sym (tracks u)) (starting.sizes u)
@@ -234,7 +233,7 @@ pub of-each : (P : ℕ → Type 0) (v : ℕ) → P v → ((u : ℕ) → u ≢ v 
 of-each P v here there u = elim (eqb_tells u v) [ inl p ↦ subst P (sym p.1) here | inr p ↦ there u p.1 ]
 
 -- a volume of the server stands ready to go on, once its track stands at its place
-pub ready-volume : (s : PlantState) (t : Table) (v server place at : ℕ) → IsStarting s t server place → IsSettled s t v → place_of t v ≡ Some at → has_owner t v server ≡ true → StandsReady s t v
+pub ready-volume : (s : PlantState) (t : ConfigTable) (v server place at : ℕ) → IsStarting s t server place → IsSettled s t v → place_of t v ≡ Some at → has_owner t v server ≡ true → StandsReady s t v
 ready-volume s t v server place at starting settled is owned = record {
   stands = starting.stands;
   defined = ap is_some is;
@@ -243,7 +242,7 @@ ready-volume s t v server place at starting settled is owned = record {
   size = starting.sizes v;
 }
 
-pub rest-started : (s : PlantState) (t : Table) (server place : ℕ) → IsStarting s t server place → length t.volumes ≤ place → IsAtRest s t
+pub rest-started : (s : PlantState) (t : ConfigTable) (server place : ℕ) → IsStarting s t server place → length t.volumes ≤ place → IsAtRest s t
 rest-started s t server place starting all = record {
   stands = starting.stands;
   settled = λ u. elim (starting.settled u) [
@@ -260,15 +259,15 @@ started-other : (s : PlantState) (server q : ℕ) → q ≢ server → (started 
 unfolding started
 started-other s server q ne on = sym (at_other s.on server true q ne) ∙ on
 
-undefined-settled : (s : PlantState) (t : Table) (v : ℕ) → place_of t v ≡ None → IsSettled s t v
+undefined-settled : (s : PlantState) (t : ConfigTable) (v : ℕ) → place_of t v ≡ None → IsSettled s t v
 undefined-settled s t v none = subst (λ o. s.on (volume_at s t o).server ≡ true → TracksSettled (s.block (unwrap_or o 0)) (volume_at s t o).staged) (sym none) (λ on. tt)
 
-pub starting-first : (s : PlantState) (t : Table) (server : ℕ) → IsAtRest s t → IsStarting (started s server) t server 0
+pub starting-first : (s : PlantState) (t : ConfigTable) (server : ℕ) → IsAtRest s t → IsStarting (started s server) t server 0
 unfolding started
 starting-first s t server ready = record {
   stands = record { count = ready.stands.count; device = ready.stands.device };
   on = at_same s.on server true;
-  settled = λ v. elim (some_or_none (place_of t v)) [
+  settled = λ v. elim (either (place_of t v)) [
     | inr none ↦ inl (undefined-settled (started s server) t v none)
     | inl found ↦ elim (eqb_tells (volume_seen s t v).server server) [
       | inl p ↦ inr (record { own = p.1; at = found.0; stands = found.1; later = omega arith })
@@ -294,7 +293,7 @@ unfolding started
 started-faults s u server is = ap (λ (x : PlantState). x.faults) is
 
 -- and no other server is turned on
-pub started-on : (s u : PlantState) (server : ℕ) → u ≡ started s server → u.on ≡ plant.at s.on server true
+pub started-on : (s u : PlantState) (server : ℕ) → u ≡ started s server → u.on ≡ at s.on server true
 unfolding started
 started-on s u server is = ap (λ (x : PlantState). x.on) is
 
@@ -304,11 +303,11 @@ started-fuse None = refl
 started-fuse (Some f) = elim (nat_eq f.after 0) as (λ b. fuse_seen (cond (cond b false true) (Some f) None) ≡ cond b None (fuse_seen (Some f))) [ true ↦ refl | false ↦ refl ]
 
 -- the machine's state then
-started-here : (s : PlantState) (t : Table) (r : Rest) (ev mid : List Event) (server : ℕ) → server < 8 → mid ≡ ev ++ Started server ∷ []
-    → record (seen s t r ev) { control = starting server (seen s t r ev).control; events = ev ++ Started server ∷ [] } ≡ seen (started s server) t r mid
+started-here : (s : PlantState) (t : ConfigTable) (r : Rest) (ev mid : List Event) (server : ℕ) → server < 8 → mid ≡ ev ++ Started server ∷ []
+    → record (world_seen s t r ev) { control = starting server (world_seen s t r ev).control; events = ev ++ Started server ∷ [] } ≡ world_seen (started s server) t r mid
 unfolding started
 started-here s t r ev mid server low told i =
-    let w : World = seen s t r ev in
+    let w : World = world_seen s t r ev in
     record w {
       control = record w.control {
         on = sym (on-at s (started s server) server true low refl) i;
@@ -319,7 +318,7 @@ started-here s t r ev mid server low told i =
 
 -- ---- the write that is acknowledged
 
-module _ (s : PlantState) (t : Table) (r : Rest) (h : Writes) (ev : List Event) (server : ℕ) where
+module _ (s : PlantState) (t : ConfigTable) (r : Rest) (h : Writes) (ev : List Event) (server : ℕ) where
   abbrev x : World
   x = hosted s t r h ev
 

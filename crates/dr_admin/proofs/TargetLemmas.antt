@@ -2,10 +2,10 @@
 use Rattle.std.proofs.Common.{ℕ, ◌≡◌, ◌+◌, ◌≤◌, Bool, true, false, not, ◌&&◌, ◌||◌, cond, nat_eq, List, [], ◌∷◌, length, drop, slice_get, refl, sym, ◌∙◌, ap, Option, Some, None}
 use Rattle.std.specs.Prelude.{filter, option_map, is_some, IfSome, if◌then◌else◌}
 use Rattle.std.proofs.lemmas.List.{drop_all}
-use Rattle.std.proofs.lemmas.Bool.{eqb-true}
+use Rattle.std.proofs.lemmas.Bool.{eqb-true, and_parts}
 use Rattle.dr_ids.specs.declared.names.VolumeId.{VolumeId}
 use Rattle.dr_plant.specs.State.{PlantState}
-use Rattle.dr_config.specs.Table.{Table, place_of}
+use Rattle.dr_config.specs.Table.{ConfigTable, place_of}
 use Rattle.dr_config.specs.declared.entries.VolumeEntry.{VolumeEntry}
 use Rattle.dr_model.specs.Layout.{Fields}
 use Rattle.dr_model.specs.Control.{Control}
@@ -31,7 +31,7 @@ filter-off P Q u us is =
       | false ↦ λ p. refl
     ] is
 
-module _ (s : PlantState) (t : Table) (b place u : ℕ) (at : Some u ≡ option_map (λ (e : VolumeEntry). e.id) (slice_get t.volumes place)) where
+module _ (s : PlantState) (t : ConfigTable) (b place u : ℕ) (at : Some u ≡ option_map (λ (e : VolumeEntry). e.id) (slice_get t.volumes place)) where
   abbrev f : Fields
   f = (volume_seen s t u).fields
 
@@ -45,20 +45,12 @@ module _ (s : PlantState) (t : Table) (b place u : ℕ) (at : Some u ≡ option_
       ap (λ us. filter (λ u. is_mirrored_target (volume_seen s t u).fields) (filter (λ u. copies_from b (volume_seen s t u).fields) us)) (ids-next t place u at)
       ∙ filter-off (λ u. is_mirrored_target (volume_seen s t u).fields) (λ u. copies_from b (volume_seen s t u).fields) u (ids_of (drop (place + 1) t.volumes)) is
 
-pub mirrored-none : (s : PlantState) (t : Table) (b place : ℕ) → length t.volumes ≤ place → mirrored_from s t b place ≡ []
+pub mirrored-none : (s : PlantState) (t : ConfigTable) (b place : ℕ) → length t.volumes ≤ place → mirrored_from s t b place ≡ []
 mirrored-none s t b place all =
     ap (λ es. filter (λ u. is_mirrored_target (volume_seen s t u).fields) (filter (λ u. copies_from b (volume_seen s t u).fields) (ids_of es))) (drop_all place t.volumes all)
 
-pub first-part : (a b : Bool) → (a && b) ≡ true → a ≡ true
-first-part true b h = refl
-first-part false b h = absurd cc
-
-pub second-part : (a b : Bool) → (a && b) ≡ true → b ≡ true
-second-part true b h = h
-second-part false b h = absurd cc
-
 -- the only one of them
-module _ (s : PlantState) (t : Table) (b : ℕ) where
+module _ (s : PlantState) (t : ConfigTable) (b : ℕ) where
   pub only-none : mirrored_from s t b 0 ≡ [] → None ≡ the_only (mirrored_from s t b 0)
   only-none none = sym (ap the_only none)
 
@@ -85,14 +77,14 @@ module _ (k : Control) (u : ℕ) (o : Option ℕ) (is : Some u ≡ o) where
       flip false h = absurd cc
 
 -- a volume of the configuration is defined
-pub placed-some : (t : Table) (i : ℕ) (o : Option VolumeId) (v : VolumeId) → IfSome o (λ (v : VolumeId). place_of t v.0 ≡ Some i) → o ≡ Some v → is_some (place_of t v.0) ≡ true
+pub placed-some : (t : ConfigTable) (i : ℕ) (o : Option VolumeId) (v : VolumeId) → IfSome o (λ (v : VolumeId). place_of t v.0 ≡ Some i) → o ≡ Some v → is_some (place_of t v.0) ≡ true
 placed-some t i None v placed is = absurd cc
 placed-some t i (Some u) v placed is = let same : u ≡ v = cc in ap (λ (w : VolumeId). is_some (place_of t w.0)) (sym same) ∙ ap is_some placed
 
 -- a target is on the server of its source
-pub target-on : (s : PlantState) (t : Table) (b c : ℕ) → RelationsFit s t → copies_from b (volume_seen s t c).fields ≡ true → s.on (volume_seen s t b).server ≡ true → s.on (volume_seen s t c).server ≡ true
+pub target-on : (s : PlantState) (t : ConfigTable) (b c : ℕ) → RelationsFit s t → copies_from b (volume_seen s t c).fields ≡ true → s.on (volume_seen s t b).server ≡ true → s.on (volume_seen s t c).server ≡ true
 target-on s t b c fit is on =
     let f = (volume_seen s t c).fields in
-    let related = first-part f.related (nat_eq f.source b) is in
-    let source = eqb-true f.source b (second-part f.related (nat_eq f.source b) is) in
+    let related = (and_parts f.related (nat_eq f.source b) is).0 in
+    let source = eqb-true f.source b ((and_parts f.related (nat_eq f.source b) is).1) in
     ap s.on ((fit.source c related).same_server ∙ ap (λ v. (volume_seen s t v).server) source) ∙ on

@@ -56,6 +56,7 @@ abbrev pub entries_planned : Control → Option Session → Option Member → Li
 entries_planned k (Some x) (Some m) = add_entries m (first_number k x.last m)
 entries_planned k x m = []
 
+-- what becomes of the sessions: the last number is raised, and the member joins
 abbrev pub sessions_planned : Control → ℕ → Option Session → Option Member → List Session → List Session
 sessions_planned k s (Some x) (Some m) ss = changed s (with_member m) (changed s (raised (first_number k x.last m)) ss)
 sessions_planned k s x m ss = ss

@@ -4,7 +4,7 @@ use Rattle.std.specs.List.{find}
 use Rattle.std.specs.Option.{option_or}
 use Rattle.dr_ids.specs.declared.names.Member.{Member}
 use Rattle.dr_ids.specs.declared.refusal.Refusal.{Refusal}
-use Rattle.dr_config.specs.Table.{Table, place_of}
+use Rattle.dr_config.specs.Table.{ConfigTable, place_of}
 use Rattle.dr_model.specs.declared.said.Addition.TheVariants.{Alone}
 use Rattle.dr_model.specs.declared.said.Said.TheVariants.{Done}
 use Rattle.dr_model.specs.Control.{Control}
@@ -19,7 +19,7 @@ abbrev pub member_in : ℕ → Option Session → Option Member
 member_in a x = find (λ (m : Member). m.a.0 == a) (members_in x)
 
 -- its target is in the configuration
-abbrev pub TargetDefined : Table → Option Member → Type 0
+abbrev pub TargetDefined : ConfigTable → Option Member → Type 0
 TargetDefined t None = Unit {0}
 TargetDefined t (Some m) = is_some (place_of t m.c.0) ≡ true
 
@@ -33,6 +33,7 @@ abbrev pub entries_without : ℕ → Option Member → List Entry
 entries_without s None = []
 entries_without s (Some m) = expel_entries s m
 
+-- what becomes of the sessions: the member is gone
 abbrev pub sessions_without : ℕ → Option Member → List Session → List Session
 sessions_without s None ss = ss
 sessions_without s (Some m) ss = changed s (without_member m.a.0) ss

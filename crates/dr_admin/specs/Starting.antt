@@ -2,7 +2,7 @@
 -- end, in order of definition; and the host's pending writes among what a state shows.
 use Rattle.std.specs.Prelude.{◌≡◌, ℕ, ◌≤◌, ◌⊎◌, Bool, true, false, List, [], ◌∷◌, map, drop, Option, Some, None, if◌then◌else◌}
 use Rattle.dr_plant.specs.State.{PlantState}
-use Rattle.dr_config.specs.Table.{Table, StandsFor, place_of}
+use Rattle.dr_config.specs.Table.{ConfigTable, StandsFor, place_of}
 use Rattle.dr_host.specs.Seen as host
 use Rattle.dr_host.specs.Writes.{Writes, landed_on, without}
 use Rattle.dr_model.specs.Carry.{Entry}
@@ -11,33 +11,33 @@ use Rattle.dr_model.specs.WriteEntries.{start_entries, lift_on}
 use Rattle.dr_model.specs.declared.event.Event.{Event}
 use Rattle.dr_model.specs.declared.event.Event.TheVariants.{Started, Ack}
 use Rattle.dr_volume.specs.View.{Rest, volume_seen, ids_of, IsSettled}
-use Rattle.dr_flash.specs.Here.{seen}
+use Rattle.dr_flash.specs.Here.{world_seen}
 
 -- the rest of a state, with the host's writes in it
 abbrev pub with_writes : Rest → Writes → Rest
-with_writes r h = record r { issued = h.issued; pending = map host.seen h.pending }
+with_writes r h = record r { issued = h.issued; pending = map host.pending_seen h.pending }
 
 -- the state that plant, configuration, the rest, the host's writes and a journal show
-abbrev pub hosted : PlantState → Table → Rest → Writes → List Event → World
-hosted s t r h events = seen s t (with_writes r h) events
+abbrev pub hosted : PlantState → ConfigTable → Rest → Writes → List Event → World
+hosted s t r h events = world_seen s t (with_writes r h) events
 
 -- what is left to do, as a server starts, for the volumes from a place on
-abbrev pub start_from : Table → ℕ → ℕ → List Entry
+abbrev pub start_from : ConfigTable → ℕ → ℕ → List Entry
 start_from t server place = start_entries server (ids_of (drop place t.volumes))
 
 -- and where the holds of its volumes end
-abbrev pub lift_from : Table → ℕ → ℕ → List Entry
+abbrev pub lift_from : ConfigTable → ℕ → ℕ → List Entry
 lift_from t server place = map (lift_on server) (ids_of (drop place t.volumes))
 
 -- a volume of the server that stands at that place or behind it
-pub record IsLater (s : PlantState) (t : Table) (server place v : ℕ) : Type 0 where
+pub record IsLater (s : PlantState) (t : ConfigTable) (server place v : ℕ) : Type 0 where
   pub own : (volume_seen s t v).server ≡ server
   pub at : ℕ
   pub stands : place_of t v ≡ Some at
   pub later : place ≤ at
 
 -- The server is on, and all is ready but its volumes from a place on, whose staged tracks aren't at their places yet.
-pub record IsStarting (s : PlantState) (t : Table) (server place : ℕ) : Type 0 where
+pub record IsStarting (s : PlantState) (t : ConfigTable) (server place : ℕ) : Type 0 where
   pub stands : StandsFor t s
   pub on : s.on server ≡ true
   pub settled : (v : ℕ) → IsSettled s t v ⊎ IsLater s t server place v
@@ -45,7 +45,7 @@ pub record IsStarting (s : PlantState) (t : Table) (server place : ℕ) : Type 0
 
 -- The write that a start of the server acknowledges: none where it is on, else the first that landed on a volume of it in a
 -- stop, if there is one.
-abbrev pub acked_at : PlantState → Table → ℕ → Writes → Option ℕ
+abbrev pub acked_at : PlantState → ConfigTable → ℕ → Writes → Option ℕ
 acked_at s t server h = if s.on server then None else landed_on t server h.pending
 
 -- the host's writes without that one
@@ -53,6 +53,7 @@ abbrev pub without_acked : Option ℕ → Writes → Writes
 without_acked None h = h
 without_acked (Some n) h = without h n
 
+-- the acknowledgement of that write, if there is one
 abbrev pub acks : Option ℕ → List Event
 acks None = []
 acks (Some n) = Ack n ∷ []

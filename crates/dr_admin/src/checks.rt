@@ -11,9 +11,9 @@ ghost use Rattle.dr_model.specs.Sessions as model;
 ghost use Rattle.dr_volume.specs.View.{Rest, volume_seen};
 ghost use Rattle.dr_flash.specs.Checks.{is_stop};
 ghost use Rattle.dr_flash.specs.Fit.{RelationsFit};
-ghost use Rattle.dr_flash.specs.Here.{seen, refusal_of, IsAtRest};
+ghost use Rattle.dr_flash.specs.Here.{world_seen, refusal_of, IsAtRest};
 ghost use Rattle.dr_admin.specs.Adding.{outside_of, taken_in, member_planned, placed_in, enrol_refusal};
-ghost use Rattle.dr_admin.specs.Targets.{IsReady};
+ghost use Rattle.dr_admin.specs.Targets.{IsTargetReady};
 
 use crate::members::member_of;
 use crate::pairing::pair_member;
@@ -107,9 +107,9 @@ pub(crate) fn new_member<P: Plant>(
     requires defined { IsSome (place_of c.now a.0) }
     requires partner { is_part (volume_seen (P.state p.now) c.now a.0).fields.primary ≡ true → IsSome (place_of c.now (volume_seen (P.state p.now) c.now a.0).fields.primary_partner) }
     requires session { IsSome (model.session_in ss.now.sessions s.0) }
-    ensures refused { (r : Rest) (events : List Event) → r.sessions ≡ ss.now.sessions → result_err result ≡ enrol_refusal (seen (P.state p.now) c.now r events).control (model.session_in ss.now.sessions s.0) l.0 a.0 }
-    ensures member { IfOk result (λ m. (r : Rest) (events : List Event) → member_planned (seen (P.state p.now) c.now r events).control a.0 ≡ Some m) }
-    ensures ready { IfOk result (λ m. IsReady (P.state p.now) c.now m) }
+    ensures refused { (r : Rest) (events : List Event) → r.sessions ≡ ss.now.sessions → result_err result ≡ enrol_refusal (world_seen (P.state p.now) c.now r events).control (model.session_in ss.now.sessions s.0) l.0 a.0 }
+    ensures member { IfOk result (λ m. (r : Rest) (events : List Event) → member_planned (world_seen (P.state p.now) c.now r events).control a.0 ≡ Some m) }
+    ensures ready { IfOk result (λ m. IsTargetReady (P.state p.now) c.now m) }
     ensures free { IfOk result (λ m. model.add_refusal (model.session_in ss.now.sessions s.0) m ss.now.sessions ≡ None) }
     ensures calm { is_stop (refusal_of result) ≡ false }
 {

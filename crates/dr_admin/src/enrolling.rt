@@ -1,6 +1,7 @@
 //! A primary becomes a member of a session.
 
 ghost use Rattle.std.specs.Prelude.{◌≡◌, ℕ, ◌≤◌, ◌+◌, true, false, length, None, IsSome, OnOk, OnErr};
+ghost use Rattle.dr_logic.specs.Counts.{Counted};
 ghost use Rattle.dr_config.specs.Table.{place_of};
 ghost use Rattle.dr_model.specs.Layout.{is_part};
 ghost use Rattle.dr_model.specs.ReadStops.{Ends};
@@ -8,13 +9,12 @@ ghost use Rattle.dr_model.specs.SessionEntries.{add_entries};
 ghost use Rattle.dr_model.specs.Sessions as model;
 ghost use Rattle.dr_volume.specs.View.{Rest, volume_seen};
 ghost use Rattle.dr_flash.specs.Checks.{is_stop};
-ghost use Rattle.dr_flash.specs.Faults.{Counted};
 ghost use Rattle.dr_flash.specs.Fit.{RelationsFit};
 ghost use Rattle.dr_flash.specs.Here as flash;
-ghost use Rattle.dr_flash.specs.Here.{seen, armed_in, IsAtRest};
+ghost use Rattle.dr_flash.specs.Here.{world_seen, armed_in, IsAtRest};
 ghost use Rattle.dr_session.specs.Kept.{refusal_of};
 ghost use Rattle.dr_admin.specs.Adding.{member_planned, enrol_refusal, entries_planned, sessions_planned, unless_stop, AddsSo};
-ghost use Rattle.dr_admin.specs.Targets.{IsReady};
+ghost use Rattle.dr_admin.specs.Targets.{IsTargetReady};
 
 use crate::checks::new_member;
 use crate::members::take_in;
@@ -36,9 +36,9 @@ fn raise_both<P: Plant>(
 ) -> Result<(), Refusal>
     requires rest { IsAtRest (P.state p.old) c.now }
     requires fit { RelationsFit (P.state p.old) c.now }
-    requires ready { IsReady (P.state p.old) c.now m.now }
+    requires ready { IsTargetReady (P.state p.old) c.now m.now }
     requires room { 1 ≤ j.old.spare }
-    ensures carried { (r : Rest) → Ends (armed_in (P.state p.old)) (seen (P.state p.new) c.now r j.new.events) (flash.refusal_of result) (seen (P.state p.old) c.now r j.old.events) (add_entries m.now n) }
+    ensures carried { (r : Rest) → Ends (armed_in (P.state p.old)) (world_seen (P.state p.new) c.now r j.new.events) (flash.refusal_of result) (world_seen (P.state p.old) c.now r j.old.events) (add_entries m.now n) }
     ensures stops { OnErr result (is_stop (flash.refusal_of result) ≡ true) }
     ensures rest { IsAtRest (P.state p.new) c.now }
     ensures fit { RelationsFit (P.state p.new) c.now }
@@ -81,13 +81,13 @@ pub fn enrol<P: Plant>(
     requires partner { is_part (volume_seen (P.state p.old) c.now a.0).fields.primary ≡ true → IsSome (place_of c.now (volume_seen (P.state p.old) c.now a.0).fields.primary_partner) }
     requires session { IsSome (model.session_in ss.old.sessions s.0) }
     requires room { 1 ≤ j.old.spare }
-    ensures plan { (r : Rest) → AddsSo (seen (P.state p.old) c.now r j.old.events).control s.0 (model.session_in ss.old.sessions s.0) l.0 a.0 }
-    ensures refused { (r : Rest) → r.sessions ≡ ss.old.sessions → unless_stop (refusal_of result) ≡ enrol_refusal (seen (P.state p.old) c.now r j.old.events).control (model.session_in ss.old.sessions s.0) l.0 a.0 }
-    ensures carried { OnOk result ((r : Rest) → Ends (armed_in (P.state p.old)) (seen (P.state p.new) c.now r j.new.events) None (seen (P.state p.old) c.now r j.old.events)
-        (entries_planned (seen (P.state p.old) c.now r j.old.events).control (model.session_in ss.old.sessions s.0) (member_planned (seen (P.state p.old) c.now r j.old.events).control a.0))) }
-    ensures stopped { is_stop (refusal_of result) ≡ true → (r : Rest) → Ends (armed_in (P.state p.old)) (seen (P.state p.new) c.now r j.new.events) (refusal_of result) (seen (P.state p.old) c.now r j.old.events)
-        (entries_planned (seen (P.state p.old) c.now r j.old.events).control (model.session_in ss.old.sessions s.0) (member_planned (seen (P.state p.old) c.now r j.old.events).control a.0)) }
-    ensures added { OnOk result ((r : Rest) → ss.new.sessions ≡ sessions_planned (seen (P.state p.old) c.now r j.old.events).control s.0 (model.session_in ss.old.sessions s.0) (member_planned (seen (P.state p.old) c.now r j.old.events).control a.0) ss.old.sessions) }
+    ensures plan { (r : Rest) → AddsSo (world_seen (P.state p.old) c.now r j.old.events).control s.0 (model.session_in ss.old.sessions s.0) l.0 a.0 }
+    ensures refused { (r : Rest) → r.sessions ≡ ss.old.sessions → unless_stop (refusal_of result) ≡ enrol_refusal (world_seen (P.state p.old) c.now r j.old.events).control (model.session_in ss.old.sessions s.0) l.0 a.0 }
+    ensures carried { OnOk result ((r : Rest) → Ends (armed_in (P.state p.old)) (world_seen (P.state p.new) c.now r j.new.events) None (world_seen (P.state p.old) c.now r j.old.events)
+        (entries_planned (world_seen (P.state p.old) c.now r j.old.events).control (model.session_in ss.old.sessions s.0) (member_planned (world_seen (P.state p.old) c.now r j.old.events).control a.0))) }
+    ensures stopped { is_stop (refusal_of result) ≡ true → (r : Rest) → Ends (armed_in (P.state p.old)) (world_seen (P.state p.new) c.now r j.new.events) (refusal_of result) (world_seen (P.state p.old) c.now r j.old.events)
+        (entries_planned (world_seen (P.state p.old) c.now r j.old.events).control (model.session_in ss.old.sessions s.0) (member_planned (world_seen (P.state p.old) c.now r j.old.events).control a.0)) }
+    ensures added { OnOk result ((r : Rest) → ss.new.sessions ≡ sessions_planned (world_seen (P.state p.old) c.now r j.old.events).control s.0 (model.session_in ss.old.sessions s.0) (member_planned (world_seen (P.state p.old) c.now r j.old.events).control a.0) ss.old.sessions) }
     ensures same { OnErr result (ss.new.sessions ≡ ss.old.sessions) }
     ensures unchanged { is_stop (refusal_of result) ≡ false → OnErr result ((P.state p.new ≡ P.state p.old) × (j.new ≡ j.old)) }
     ensures rest { IsAtRest (P.state p.new) c.now }

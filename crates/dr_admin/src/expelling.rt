@@ -2,14 +2,14 @@
 
 ghost use Rattle.std.specs.Prelude.{◌≡◌, ℕ, ◌≤◌, ◌+◌, true, false, length, None, Some, List, OnOk, OnErr, IfOk};
 ghost use Rattle.std.specs.Result.{result_err};
+ghost use Rattle.dr_logic.specs.Counts.{Counted};
 ghost use Rattle.dr_model.specs.declared.event.Event.{Event};
 ghost use Rattle.dr_model.specs.ReadStops.{Ends};
 ghost use Rattle.dr_model.specs.Sessions as model;
 ghost use Rattle.dr_volume.specs.View.{Rest, volume_seen};
 ghost use Rattle.dr_flash.specs.Checks.{is_stop};
-ghost use Rattle.dr_flash.specs.Faults.{Counted};
 ghost use Rattle.dr_flash.specs.Fit.{RelationsFit};
-ghost use Rattle.dr_flash.specs.Here.{seen, refusal_of, armed_in, IsAtRest};
+ghost use Rattle.dr_flash.specs.Here.{world_seen, refusal_of, armed_in, IsAtRest};
 ghost use Rattle.dr_admin.specs.Adding.{unless_stop};
 ghost use Rattle.dr_admin.specs.Removing.{member_in, TargetDefined, expel_refusal, entries_without, sessions_without, ExpelsSo};
 
@@ -32,7 +32,7 @@ fn leaving_member<P: Plant>(
     s: SessionId,
 ) -> Result<Member, Refusal>
     requires target { TargetDefined c.now (member_in a.0 (model.session_in ss.now.sessions s.0)) }
-    ensures refused { (r : Rest) (events : List Event) → result_err result ≡ expel_refusal (seen (P.state p.now) c.now r events).control s.0 (model.session_in ss.now.sessions s.0) (member_in a.0 (model.session_in ss.now.sessions s.0)) }
+    ensures refused { (r : Rest) (events : List Event) → result_err result ≡ expel_refusal (world_seen (P.state p.now) c.now r events).control s.0 (model.session_in ss.now.sessions s.0) (member_in a.0 (model.session_in ss.now.sessions s.0)) }
     ensures member { IfOk result (λ m. member_in a.0 (model.session_in ss.now.sessions s.0) ≡ Some m) }
     ensures running { IfOk result (λ m. (P.state p.now).on (volume_seen (P.state p.now) c.now m.c.0).server ≡ true) }
     ensures free { IfOk result (λ m. model.remove_refusal (model.session_in ss.now.sessions s.0) s.0 m.a.0 ≡ None) }
@@ -77,10 +77,10 @@ pub fn expel<P: Plant>(
     requires fit { RelationsFit (P.state p.old) c.now }
     requires target { TargetDefined c.now (member_in a.0 (model.session_in ss.old.sessions s.0)) }
     requires room { 2 ≤ j.old.spare }
-    ensures plan { (r : Rest) → ExpelsSo (seen (P.state p.old) c.now r j.old.events).control s.0 (model.session_in ss.old.sessions s.0) a.0 }
-    ensures refused { (r : Rest) → unless_stop (refusal_of result) ≡ expel_refusal (seen (P.state p.old) c.now r j.old.events).control s.0 (model.session_in ss.old.sessions s.0) (member_in a.0 (model.session_in ss.old.sessions s.0)) }
-    ensures carried { OnOk result ((r : Rest) → Ends (armed_in (P.state p.old)) (seen (P.state p.new) c.now r j.new.events) None (seen (P.state p.old) c.now r j.old.events) (entries_without s.0 (member_in a.0 (model.session_in ss.old.sessions s.0)))) }
-    ensures stopped { is_stop (refusal_of result) ≡ true → (r : Rest) → Ends (armed_in (P.state p.old)) (seen (P.state p.new) c.now r j.new.events) (refusal_of result) (seen (P.state p.old) c.now r j.old.events) (entries_without s.0 (member_in a.0 (model.session_in ss.old.sessions s.0))) }
+    ensures plan { (r : Rest) → ExpelsSo (world_seen (P.state p.old) c.now r j.old.events).control s.0 (model.session_in ss.old.sessions s.0) a.0 }
+    ensures refused { (r : Rest) → unless_stop (refusal_of result) ≡ expel_refusal (world_seen (P.state p.old) c.now r j.old.events).control s.0 (model.session_in ss.old.sessions s.0) (member_in a.0 (model.session_in ss.old.sessions s.0)) }
+    ensures carried { OnOk result ((r : Rest) → Ends (armed_in (P.state p.old)) (world_seen (P.state p.new) c.now r j.new.events) None (world_seen (P.state p.old) c.now r j.old.events) (entries_without s.0 (member_in a.0 (model.session_in ss.old.sessions s.0)))) }
+    ensures stopped { is_stop (refusal_of result) ≡ true → (r : Rest) → Ends (armed_in (P.state p.old)) (world_seen (P.state p.new) c.now r j.new.events) (refusal_of result) (world_seen (P.state p.old) c.now r j.old.events) (entries_without s.0 (member_in a.0 (model.session_in ss.old.sessions s.0))) }
     ensures removed { OnOk result (ss.new.sessions ≡ sessions_without s.0 (member_in a.0 (model.session_in ss.old.sessions s.0)) ss.old.sessions) }
     ensures same { OnErr result (ss.new.sessions ≡ ss.old.sessions) }
     ensures unchanged { is_stop (refusal_of result) ≡ false → OnErr result ((P.state p.new ≡ P.state p.old) × (j.new ≡ j.old)) }

@@ -1,6 +1,7 @@
 //! The holds of a server's volumes end.
 
 ghost use Rattle.std.specs.Prelude.{◌≡◌, ℕ, ◌+◌, ◌<◌, ◌≤◌, Bool, true, false, ◌++◌, length, List, Option, Some, None, OnOk, OnErr, is_err};
+ghost use Rattle.dr_logic.specs.Counts.{Counted};
 ghost use Rattle.dr_ids.specs.declared.refusal.Refusal.{Refusal};
 ghost use Rattle.dr_model.specs.Carry.{Entry};
 ghost use Rattle.dr_model.specs.Control.{World};
@@ -9,9 +10,8 @@ ghost use Rattle.dr_model.specs.ReadStops.{Ends};
 ghost use Rattle.dr_model.specs.Refusals.{stopped, server_off};
 ghost use Rattle.dr_volume.specs.View.{Rest};
 ghost use Rattle.dr_flash.specs.Checks.{is_stop};
-ghost use Rattle.dr_flash.specs.Faults.{Counted};
 ghost use Rattle.dr_flash.specs.Fit.{RelationsFit};
-ghost use Rattle.dr_flash.specs.Here.{seen, refusal_of, armed_in, IsAtRest};
+ghost use Rattle.dr_flash.specs.Here.{world_seen, refusal_of, armed_in, IsAtRest};
 ghost use Rattle.dr_flash.specs.Turns.{Fails};
 ghost use Rattle.dr_admin.specs.Answering.{Comes, lift_answer};
 ghost use Rattle.dr_admin.specs.Starting.{lift_from};
@@ -36,9 +36,9 @@ fn lift_at<P: Plant>(
     requires on { (P.state p.old).on s.0 ≡ true }
     requires within { place < length c.now.volumes }
     requires room { 1 ≤ j.old.spare }
-    ensures goes { OnOk result ((r : Rest) (armed : ℕ → Bool) (u : World) (q : Option Refusal) → Ends armed u q (seen (P.state p.new) c.now r j.new.events) (lift_from c.now s.0 (place + 1))
-        → Ends armed u q (seen (P.state p.old) c.now r j.old.events) (lift_from c.now s.0 place)) }
-    ensures ends { OnErr result ((r : Rest) → Ends (armed_in (P.state p.old)) (seen (P.state p.new) c.now r j.new.events) (refusal_of result) (seen (P.state p.old) c.now r j.old.events) (lift_from c.now s.0 place)) }
+    ensures goes { OnOk result ((r : Rest) (armed : ℕ → Bool) (u : World) (q : Option Refusal) → Ends armed u q (world_seen (P.state p.new) c.now r j.new.events) (lift_from c.now s.0 (place + 1))
+        → Ends armed u q (world_seen (P.state p.old) c.now r j.old.events) (lift_from c.now s.0 place)) }
+    ensures ends { OnErr result ((r : Rest) → Ends (armed_in (P.state p.old)) (world_seen (P.state p.new) c.now r j.new.events) (refusal_of result) (world_seen (P.state p.old) c.now r j.old.events) (lift_from c.now s.0 place)) }
     ensures stopped { OnErr result (refusal_of result ≡ Some (stopped s.0)) }
     ensures faults { Counted (is_err result) (P.state p.old).faults (P.state p.new).faults }
     ensures rest { IsAtRest (P.state p.new) c.now }
@@ -62,7 +62,7 @@ fn lift_all<P: Plant>(p: &mut P, c: &Config, j: &mut Journal, s: ServerId) -> Re
     requires fit { RelationsFit (P.state p.old) c.now }
     requires on { (P.state p.old).on s.0 ≡ true }
     requires room { 1 ≤ j.old.spare }
-    ensures carried { (r : Rest) → Ends (armed_in (P.state p.old)) (seen (P.state p.new) c.now r j.new.events) (refusal_of result) (seen (P.state p.old) c.now r j.old.events) (lift_from c.now s.0 0) }
+    ensures carried { (r : Rest) → Ends (armed_in (P.state p.old)) (world_seen (P.state p.new) c.now r j.new.events) (refusal_of result) (world_seen (P.state p.old) c.now r j.old.events) (lift_from c.now s.0 0) }
     ensures stopped { OnErr result (refusal_of result ≡ Some (stopped s.0)) }
     ensures faults { Counted (is_err result) (P.state p.old).faults (P.state p.new).faults }
     ensures rest { IsAtRest (P.state p.new) c.now }
@@ -88,8 +88,8 @@ pub fn lift<P: Plant>(p: &mut P, c: &Config, j: &mut Journal, s: ServerId) -> Re
     requires fit { RelationsFit (P.state p.old) c.now }
     requires known { s.0 < 8 }
     requires room { 1 ≤ j.old.spare }
-    ensures plan { (r : Rest) → Comes (armed_in (P.state p.old)) (seen (P.state p.old) c.now r j.old.events) (expire_on (seen (P.state p.old) c.now r j.old.events).control s.0)
-        (seen (P.state p.new) c.now r j.new.events) (lift_answer result) }
+    ensures plan { (r : Rest) → Comes (armed_in (P.state p.old)) (world_seen (P.state p.old) c.now r j.old.events) (expire_on (world_seen (P.state p.old) c.now r j.old.events).control s.0)
+        (world_seen (P.state p.new) c.now r j.new.events) (lift_answer result) }
     ensures refused { (P.state p.old).on s.0 ≡ false → refusal_of result ≡ Some (server_off s.0) }
     ensures stopped { (P.state p.old).on s.0 ≡ true → OnErr result (refusal_of result ≡ Some (stopped s.0)) }
     ensures unchanged { (P.state p.old).on s.0 ≡ false → (P.state p.new ≡ P.state p.old) × (j.new ≡ j.old) }

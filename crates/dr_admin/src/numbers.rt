@@ -6,23 +6,23 @@ ghost use Rattle.dr_model.specs.declared.event.Event.{Event};
 ghost use Rattle.dr_model.specs.Sessions as model;
 ghost use Rattle.dr_model.specs.SessionEntries as entries;
 ghost use Rattle.dr_volume.specs.View.{Rest};
-ghost use Rattle.dr_flash.specs.Here.{seen};
+ghost use Rattle.dr_flash.specs.Here.{world_seen};
 
 use dr_config::Config;
 use dr_ids::{Member, SessionId};
 use dr_plant::Plant;
 use dr_session::Sessions;
-use dr_volume::{Fields, peek_fields};
+use dr_volume::{Head, peek_head};
 
 /// The number that is committed on a target with these fields, 0 where it is no member's.
-fn committed(f: &Fields) -> u32
+fn committed(f: &Head) -> u32
     ensures { result ≡ (if f.now.member then f.now.sequence else 0) }
 {
     if f.member { f.sequence } else { 0 }
 }
 
 /// The greatest number of those that a session and the volumes of a member have seen.
-fn greatest(last: u32, a: &Fields, b: &Fields, c: &Fields) -> u32
+fn greatest(last: u32, a: &Head, b: &Head, c: &Head) -> u32
     ensures { result ≡ max last (max a.now.attempt (max b.now.seal (max c.now.floor (if c.now.member then c.now.sequence else 0)))) }
 {
     last.max(a.attempt.max(b.seal.max(c.floor.max(committed(c)))))
@@ -42,11 +42,11 @@ pub(crate) fn first_number<P: Plant>(
     requires secondary { IsSome (place_of c.now m.now.b.0) }
     requires target { IsSome (place_of c.now m.now.c.0) }
     requires session { IsSome (model.session_in ss.now.sessions s.0) }
-    ensures { (r : Rest) (events : List Event) → Some result ≡ option_map (λ x. entries.first_number (seen (P.state p.now) c.now r events).control x.last m.now) (model.session_in ss.now.sessions s.0) }
+    ensures { (r : Rest) (events : List Event) → Some result ≡ option_map (λ x. entries.first_number (world_seen (P.state p.now) c.now r events).control x.last m.now) (model.session_in ss.now.sessions s.0) }
 {
     let last = ss.last(s).unwrap();
-    let a = peek_fields(p, c, m.a);
-    let b = peek_fields(p, c, m.b);
-    let target = peek_fields(p, c, m.c);
+    let a = peek_head(p, c, m.a);
+    let b = peek_head(p, c, m.b);
+    let target = peek_head(p, c, m.c);
     greatest(last, &a, &b, &target)
 }

@@ -4,35 +4,22 @@ ghost use Rattle.std.specs.Prelude.{◌≡◌, true, false, Some, List, IsSome, 
 ghost use Rattle.std.specs.Result.{result_err};
 ghost use Rattle.dr_config.specs.Table.{place_of};
 ghost use Rattle.dr_model.specs.declared.event.Event.{Event};
-ghost use Rattle.dr_model.specs.declared.state.Part.TheVariants.{Global};
 ghost use Rattle.dr_model.specs.Layout.{is_part};
-ghost use Rattle.dr_model.specs.Pairs as pairs;
 ghost use Rattle.dr_model.specs.SessionPlans as plans;
 ghost use Rattle.dr_volume.specs.View.{Rest, volume_seen};
 ghost use Rattle.dr_flash.specs.Checks.{OnNone, is_stop};
 ghost use Rattle.dr_flash.specs.Fit.{RelationsFit};
-ghost use Rattle.dr_flash.specs.Here.{seen, refusal_of, IsAtRest};
+ghost use Rattle.dr_flash.specs.Here.{world_seen, refusal_of, IsAtRest};
 ghost use Rattle.dr_admin.specs.Adding.{member_planned, pair_refusal};
-ghost use Rattle.dr_admin.specs.Targets.{IsReady};
+ghost use Rattle.dr_admin.specs.Targets.{IsTargetReady};
 
 use crate::targets::member_target;
 use dr_config::Config;
 use dr_flash::{pair_state, relation_state, server_of};
 use dr_gcopy::send_refusal;
 use dr_ids::{Member, Refusal, VolumeId};
-use dr_model::Part;
 use dr_plant::Plant;
-use dr_volume::peek_fields;
-
-/// Whether a part is that of a Global Copy pair.
-fn is_global(part: Part) -> bool
-    ensures { result ≡ pairs.is_kind Global part }
-{
-    match part {
-        Part::Global => true,
-        Part::Absent | Part::Metro => false,
-    }
-}
+use dr_volume::peek_head;
 
 /// Why no member can be made of a and its secondary, as far as their pair says: the server of a is off, a is no Global Copy
 /// primary, its secondary can't be reached from it, or hasn't the part for it.
@@ -40,7 +27,7 @@ fn copy_refusal<P: Plant>(p: &P, c: &Config, a: VolumeId) -> Option<Refusal>
     requires rest { IsAtRest (P.state p.now) c.now }
     requires defined { IsSome (place_of c.now a.0) }
     requires partner { is_part (volume_seen (P.state p.now) c.now a.0).fields.primary ≡ true → IsSome (place_of c.now (volume_seen (P.state p.now) c.now a.0).fields.primary_partner) }
-    ensures refusal { (r : Rest) (events : List Event) → result ≡ plans.copy_refusal (seen (P.state p.now) c.now r events).control a.0 }
+    ensures refusal { (r : Rest) (events : List Event) → result ≡ plans.copy_refusal (world_seen (P.state p.now) c.now r events).control a.0 }
     ensures running { OnNone result ((P.state p.now).on (volume_seen (P.state p.now) c.now a.0).server ≡ true) }
     ensures partner { OnNone result (IsSome (place_of c.now (volume_seen (P.state p.now) c.now a.0).fields.primary_partner)) }
     ensures reached { OnNone result ((P.state p.now).on (volume_seen (P.state p.now) c.now (volume_seen (P.state p.now) c.now a.0).fields.primary_partner).server ≡ true) }
@@ -50,8 +37,8 @@ fn copy_refusal<P: Plant>(p: &P, c: &Config, a: VolumeId) -> Option<Refusal>
     if !p.is_on(server.0) {
         return Some(Refusal::ServerOff { server });
     }
-    let f = peek_fields(p, c, a);
-    if !is_global(f.primary) {
+    let f = peek_head(p, c, a);
+    if !f.primary.is_global() {
         return Some(pair_state(p, c, a));
     }
     send_refusal(p, c, a, f.primary_partner)
@@ -65,16 +52,16 @@ pub(crate) fn pair_member<P: Plant>(p: &P, c: &Config, a: VolumeId) -> Result<Me
     requires fit { RelationsFit (P.state p.now) c.now }
     requires defined { IsSome (place_of c.now a.0) }
     requires partner { is_part (volume_seen (P.state p.now) c.now a.0).fields.primary ≡ true → IsSome (place_of c.now (volume_seen (P.state p.now) c.now a.0).fields.primary_partner) }
-    ensures refused { (r : Rest) (events : List Event) → result_err result ≡ pair_refusal (seen (P.state p.now) c.now r events).control a.0 }
-    ensures member { IfOk result (λ m. (r : Rest) (events : List Event) → member_planned (seen (P.state p.now) c.now r events).control a.0 ≡ Some m) }
-    ensures ready { IfOk result (λ m. IsReady (P.state p.now) c.now m) }
+    ensures refused { (r : Rest) (events : List Event) → result_err result ≡ pair_refusal (world_seen (P.state p.now) c.now r events).control a.0 }
+    ensures member { IfOk result (λ m. (r : Rest) (events : List Event) → member_planned (world_seen (P.state p.now) c.now r events).control a.0 ≡ Some m) }
+    ensures ready { IfOk result (λ m. IsTargetReady (P.state p.now) c.now m) }
     ensures primary { IfOk result (λ m. m.a ≡ a) }
     ensures calm { is_stop (refusal_of result) ≡ false }
 {
     if let Some(why) = copy_refusal(p, c, a) {
         return Err(why);
     }
-    let b = peek_fields(p, c, a).primary_partner;
+    let b = peek_head(p, c, a).primary_partner;
     let Some(target) = member_target(p, c, b) else {
         return Err(relation_state(p, c, b));
     };

@@ -1,8 +1,10 @@
 //! A server starts.
 
 ghost use Rattle.std.specs.Prelude.{◌≡◌, ℕ, ◌+◌, ◌<◌, ◌≤◌, Bool, true, false, [], ◌∷◌, ◌++◌, length, List, Option, Some, None, Ok, IfOk, OnOk, OnErr, is_err};
+ghost use Rattle.dr_logic.specs.Counts.{Counted};
+ghost use Rattle.dr_logic.specs.Tables.{at};
 ghost use Rattle.dr_ids.specs.declared.refusal.Refusal.{Refusal};
-ghost use Rattle.dr_plant.specs.State.{PlantState, at};
+ghost use Rattle.dr_plant.specs.State.{PlantState};
 ghost use Rattle.dr_config.specs.Table.{place_of};
 ghost use Rattle.dr_host.specs.Writes.{landed_on, has_owner};
 ghost use Rattle.dr_model.specs.Carry.{Entry};
@@ -12,8 +14,7 @@ ghost use Rattle.dr_model.specs.ReadStops.{Ends};
 ghost use Rattle.dr_model.specs.Refusals.{stopped};
 ghost use Rattle.dr_model.specs.WriteEntries.{redo_on, restart_on};
 ghost use Rattle.dr_volume.specs.View.{Rest, IsSettled};
-ghost use Rattle.dr_flash.specs.Faults.{Counted};
-ghost use Rattle.dr_flash.specs.Here.{seen, refusal_of, armed_in, IsAtRest};
+ghost use Rattle.dr_flash.specs.Here.{world_seen, refusal_of, armed_in, IsAtRest};
 ghost use Rattle.dr_flash.specs.Turns.{Advances, Halts, Leads, Fails};
 ghost use Rattle.dr_admin.specs.Answering.{Comes, number_of, start_answer};
 ghost use Rattle.dr_admin.specs.Starting.{hosted, IsStarting, start_from, acked_at, without_acked, acks, start_events};
@@ -59,8 +60,8 @@ fn redo_own<P: Plant>(
     requires at { place_of c.now v.0 ≡ Some place }
     requires owned { has_owner c.now v.0 s.0 ≡ true }
     requires room { 1 ≤ j.old.spare }
-    ensures advances { OnOk result ((r : Rest) → Advances (seen (P.state p.old) c.now r j.old.events) (redo_on s.0 v.0) (seen (P.state p.new) c.now r j.new.events)) }
-    ensures halts { OnErr result ((r : Rest) → Halts (armed_in (P.state p.old)) (seen (P.state p.old) c.now r j.old.events) (redo_on s.0 v.0) (seen (P.state p.new) c.now r j.new.events) (refusal_of result)) }
+    ensures advances { OnOk result ((r : Rest) → Advances (world_seen (P.state p.old) c.now r j.old.events) (redo_on s.0 v.0) (world_seen (P.state p.new) c.now r j.new.events)) }
+    ensures halts { OnErr result ((r : Rest) → Halts (armed_in (P.state p.old)) (world_seen (P.state p.old) c.now r j.old.events) (redo_on s.0 v.0) (world_seen (P.state p.new) c.now r j.new.events) (refusal_of result)) }
     ensures stopped { OnErr result (refusal_of result ≡ Some (stopped s.0)) }
     ensures faults { Counted (is_err result) (P.state p.old).faults (P.state p.new).faults }
     ensures starting { OnOk result (IsStarting (P.state p.new) c.now s.0 (place + 1)) }
@@ -99,8 +100,8 @@ fn restart_own<P: Plant>(
     requires at { place_of c.now v.0 ≡ Some place }
     requires owned { has_owner c.now v.0 s.0 ≡ true }
     requires room { 1 ≤ j.old.spare }
-    ensures advances { OnOk result ((r : Rest) → Advances (seen (P.state p.old) c.now r j.old.events) (restart_on s.0 v.0) (seen (P.state p.new) c.now r j.new.events)) }
-    ensures halts { OnErr result ((r : Rest) → Halts (armed_in (P.state p.old)) (seen (P.state p.old) c.now r j.old.events) (restart_on s.0 v.0) (seen (P.state p.new) c.now r j.new.events) (refusal_of result)) }
+    ensures advances { OnOk result ((r : Rest) → Advances (world_seen (P.state p.old) c.now r j.old.events) (restart_on s.0 v.0) (world_seen (P.state p.new) c.now r j.new.events)) }
+    ensures halts { OnErr result ((r : Rest) → Halts (armed_in (P.state p.old)) (world_seen (P.state p.old) c.now r j.old.events) (restart_on s.0 v.0) (world_seen (P.state p.new) c.now r j.new.events) (refusal_of result)) }
     ensures stopped { OnErr result (refusal_of result ≡ Some (stopped s.0)) }
     ensures faults { Counted (is_err result) (P.state p.old).faults (P.state p.new).faults }
     ensures starting { OnOk result (IsStarting (P.state p.new) c.now s.0 (place + 1)) }
@@ -127,9 +128,9 @@ fn go_on_at<P: Plant>(
     requires known { s.0 < 8 }
     requires within { place < length c.now.volumes }
     requires room { 1 ≤ j.old.spare }
-    ensures goes { OnOk result ((r : Rest) (armed : ℕ → Bool) (u : World) (q : Option Refusal) (ds : List Entry) → Ends armed u q (seen (P.state p.new) c.now r j.new.events) (start_from c.now s.0 (place + 1) ++ ds)
-        → Ends armed u q (seen (P.state p.old) c.now r j.old.events) (start_from c.now s.0 place ++ ds)) }
-    ensures fails { OnErr result ((r : Rest) → Fails (armed_in (P.state p.old)) (seen (P.state p.old) c.now r j.old.events) (start_from c.now s.0 place) (seen (P.state p.new) c.now r j.new.events) (refusal_of result)) }
+    ensures goes { OnOk result ((r : Rest) (armed : ℕ → Bool) (u : World) (q : Option Refusal) (ds : List Entry) → Ends armed u q (world_seen (P.state p.new) c.now r j.new.events) (start_from c.now s.0 (place + 1) ++ ds)
+        → Ends armed u q (world_seen (P.state p.old) c.now r j.old.events) (start_from c.now s.0 place ++ ds)) }
+    ensures fails { OnErr result ((r : Rest) → Fails (armed_in (P.state p.old)) (world_seen (P.state p.old) c.now r j.old.events) (start_from c.now s.0 place) (world_seen (P.state p.new) c.now r j.new.events) (refusal_of result)) }
     ensures stopped { OnErr result (refusal_of result ≡ Some (stopped s.0)) }
     ensures faults { Counted (is_err result) (P.state p.old).faults (P.state p.new).faults }
     ensures starting { OnOk result (IsStarting (P.state p.new) c.now s.0 (place + 1)) }
@@ -157,8 +158,8 @@ fn go_on_all<P: Plant>(p: &mut P, c: &Config, j: &mut Journal, s: ServerId) -> R
     requires starting { IsStarting (P.state p.old) c.now s.0 0 }
     requires known { s.0 < 8 }
     requires room { 1 ≤ j.old.spare }
-    ensures leads { OnOk result ((r : Rest) → Leads (seen (P.state p.old) c.now r j.old.events) (start_from c.now s.0 0) (seen (P.state p.new) c.now r j.new.events)) }
-    ensures fails { OnErr result ((r : Rest) → Fails (armed_in (P.state p.old)) (seen (P.state p.old) c.now r j.old.events) (start_from c.now s.0 0) (seen (P.state p.new) c.now r j.new.events) (refusal_of result)) }
+    ensures leads { OnOk result ((r : Rest) → Leads (world_seen (P.state p.old) c.now r j.old.events) (start_from c.now s.0 0) (world_seen (P.state p.new) c.now r j.new.events)) }
+    ensures fails { OnErr result ((r : Rest) → Fails (armed_in (P.state p.old)) (world_seen (P.state p.old) c.now r j.old.events) (start_from c.now s.0 0) (world_seen (P.state p.new) c.now r j.new.events) (refusal_of result)) }
     ensures stopped { OnErr result (refusal_of result ≡ Some (stopped s.0)) }
     ensures faults { Counted (is_err result) (P.state p.old).faults (P.state p.new).faults }
     ensures rest { IsAtRest (P.state p.new) c.now }

@@ -3,17 +3,16 @@
 ghost use Rattle.std.specs.Prelude.{◌≡◌, ◌&&◌, ◌||◌, not, List, IfSome, option_map};
 ghost use Rattle.dr_config.specs.Table.{StandsFor};
 ghost use Rattle.dr_model.specs.declared.event.Event.{Event};
-ghost use Rattle.dr_model.specs.Entries.{copies_from};
 ghost use Rattle.dr_model.specs.SessionPlans as plans;
-ghost use Rattle.dr_volume.specs.Plain.{plain};
 ghost use Rattle.dr_volume.specs.View.{Rest};
-ghost use Rattle.dr_flash.specs.Here.{seen};
+ghost use Rattle.dr_flash.specs.Heads.{targets_by};
+ghost use Rattle.dr_flash.specs.Here.{world_seen};
 ghost use Rattle.dr_admin.specs.Targets.{IsNext, IsTarget};
 
 use dr_config::Config;
 use dr_ids::VolumeId;
 use dr_plant::Plant;
-use dr_volume::{Fields, peek_fields};
+use dr_volume::{Head, peek_head, peek_head_at};
 
 /// A target, and its place in the configuration.
 #[derive(Clone, Copy)]
@@ -22,9 +21,9 @@ pub(crate) struct Found {
     place: usize,
 }
 
-/// Whether a volume with these fields is a target of b whose changes are recorded, and on which the host may not write.
-fn is_mirrored(f: &Fields, b: VolumeId) -> bool
-    ensures { result ≡ (copies_from b.0 (plain f.now) && plans.is_mirrored_target (plain f.now)) }
+/// Whether a volume with this head is a target of b whose changes are recorded, and on which the host may not write.
+fn is_mirrored(f: &Head, b: VolumeId) -> bool
+    ensures { result ≡ (targets_by b.0 f.now && (f.now.recorded && f.now.inhibited)) }
 {
     f.related && f.source.0 == b.0 && (f.recorded && f.inhibited)
 }
@@ -36,7 +35,7 @@ fn next_mirrored<P: Plant>(p: &P, c: &Config, b: VolumeId, from: usize) -> Optio
 {
     for place in from..c.volumes() {
         let volume = c.volume_at(place).unwrap();
-        if is_mirrored(&peek_fields(p, c, volume), b) {
+        if is_mirrored(&peek_head_at(p, c, place), b) {
             return Some(Found { volume, place });
         }
     }
@@ -46,7 +45,7 @@ fn next_mirrored<P: Plant>(p: &P, c: &Config, b: VolumeId, from: usize) -> Optio
 /// The only such target of b, if it has just one.
 fn only_mirrored<P: Plant>(p: &P, c: &Config, b: VolumeId) -> Option<VolumeId>
     requires stands { StandsFor c.now (P.state p.now) }
-    ensures target { (r : Rest) (events : List Event) → option_map (λ u. u.0) result ≡ plans.the_only (plans.mirrored_targets (seen (P.state p.now) c.now r events).control b.0) }
+    ensures target { (r : Rest) (events : List Event) → option_map (λ u. u.0) result ≡ plans.the_only (plans.mirrored_targets (world_seen (P.state p.now) c.now r events).control b.0) }
     ensures is { IfSome result (λ u. IsTarget (P.state p.now) c.now b.0 u.0) }
 {
     let Some(first) = next_mirrored(p, c, b, 0) else {
@@ -58,8 +57,8 @@ fn only_mirrored<P: Plant>(p: &P, c: &Config, b: VolumeId) -> Option<VolumeId>
     Some(first.volume)
 }
 
-/// Whether the relationship of a target with these fields is neither revertible nor reversing.
-fn is_settled(f: &Fields) -> bool
+/// Whether the relationship of a target with this head is neither revertible nor reversing.
+fn is_settled(f: &Head) -> bool
     ensures { result ≡ not (f.now.revertible || f.now.reversing) }
 {
     !(f.revertible || f.reversing)
@@ -68,13 +67,13 @@ fn is_settled(f: &Fields) -> bool
 /// The only such target of b, if it has just one, and that one is neither revertible nor reversing.
 pub(crate) fn member_target<P: Plant>(p: &P, c: &Config, b: VolumeId) -> Option<VolumeId>
     requires stands { StandsFor c.now (P.state p.now) }
-    ensures target { (r : Rest) (events : List Event) → option_map (λ u. u.0) result ≡ plans.member_target (seen (P.state p.now) c.now r events).control b.0 }
+    ensures target { (r : Rest) (events : List Event) → option_map (λ u. u.0) result ≡ plans.member_target (world_seen (P.state p.now) c.now r events).control b.0 }
     ensures is { IfSome result (λ u. IsTarget (P.state p.now) c.now b.0 u.0) }
 {
     let Some(u) = only_mirrored(p, c, b) else {
         return None;
     };
-    if is_settled(&peek_fields(p, c, u)) {
+    if is_settled(&peek_head(p, c, u)) {
         return Some(u);
     }
     None

@@ -11,6 +11,7 @@ use Rattle.std.specs.List.{range_with_len}
 use Rattle.std.proofs.lemmas.List.Elements.{filter-append}
 use Rattle.dr_bits.specs.Tracks.{Tracks, passing, of_test, NoneFrom, IsInRange, IsLowestFrom, lowest_in, lowest_from, first}
 use Rattle.dr_bits.specs.Membership.{contains-of_test, contains-of_test_past}
+use Rattle.dr_logic.proofs.Sets.{in_difference}
 
 -- two sets with the same members are one
 pub same_tracks : (a b : Tracks) → ((t : ℕ) → contains a t ≡ contains b t) → a ≡ b
@@ -24,10 +25,6 @@ same_in_range a b in_a in_b same = same_tracks a b (λ t.
       | inr p ↦ same t p.1
     ])
 
--- what each operation's set has
-pub contains-insert_same : (s : Tracks) (t : ℕ) → contains (insert s t) t ≡ true
-contains-insert_same s t = grind (members, rules, unsigned_tied, nat_tests)
-
 pub contains-insert_tracks : (s : Tracks) (t q : ℕ) → contains (insert s t) q ≡ (nat_eq q t || contains s q)
 contains-insert_tracks s t q = contains-insert nat_cmp_total s t q ∙ ap (λ b. b || contains s q) (unsigned_tied q t)
 
@@ -36,9 +33,6 @@ contains-remove_tracks s t q = contains-remove nat_cmp_total s t q ∙ ap (λ b.
 
 pub contains-union_tracks : (a b : Tracks) (q : ℕ) → contains (union a b) q ≡ (contains a q || contains b q)
 contains-union_tracks a b q = contains-union nat_cmp_total a b q
-
-pub contains-minus_tracks : (a b : Tracks) (q : ℕ) → contains (difference a b) q ≡ (contains a q && not (contains b q))
-contains-minus_tracks a b q = contains-difference nat_cmp_total a b q
 
 pub contains-keep_tracks : (a b : Tracks) (q : ℕ) → contains (intersection a b) q ≡ (contains a q && contains b q)
 contains-keep_tracks a b q = contains-intersection nat_cmp_total a b q
@@ -63,7 +57,7 @@ pub in_range-union : (a b : Tracks) → IsInRange a → IsInRange b → IsInRang
 in_range-union a b in_a in_b q high = contains-union_tracks a b q ∙ (λ i. in_a q high i || in_b q high i)
 
 pub in_range-minus : (a b : Tracks) → IsInRange a → IsInRange (difference a b)
-in_range-minus a b in_a q high = contains-minus_tracks a b q ∙ ap (λ x. x && not (contains b q)) (in_a q high)
+in_range-minus a b in_a q high = in_difference a b q ∙ ap (λ x. x && not (contains b q)) (in_a q high)
 
 pub in_range-keep : (a b : Tracks) → IsInRange a → IsInRange (intersection a b)
 in_range-keep a b in_a q high = contains-keep_tracks a b q ∙ ap (λ x. x && contains b q) (in_a q high)
@@ -118,10 +112,10 @@ or_not false false = refl
 -- what was added and is taken out again leaves the rest
 pub minus-union : (a b : Tracks) → difference (union a b) b ≡ difference a b
 minus-union a b = same_tracks _ _ (λ t.
-    contains-minus_tracks (union a b) b t
+    in_difference (union a b) b t
     ∙ ap (λ x. x && not (contains b t)) (contains-union_tracks a b t)
     ∙ or_not (contains a t) (contains b t)
-    ∙ sym (contains-minus_tracks a b t))
+    ∙ sym (in_difference a b t))
 
 put_back : (a b : Bool) → (b ≡ true → a ≡ true) → ((a && not b) || b) ≡ a
 put_back true true within = refl
@@ -133,11 +127,8 @@ put_back false false within = refl
 pub union-minus : (s part : Tracks) → ((t : ℕ) → contains part t ≡ true → contains s t ≡ true) → union (difference s part) part ≡ s
 union-minus s part within = same_tracks _ _ (λ t.
     contains-union_tracks (difference s part) part t
-    ∙ ap (λ x. x || contains part t) (contains-minus_tracks s part t)
+    ∙ ap (λ x. x || contains part t) (in_difference s part t)
     ∙ put_back (contains s t) (contains part t) (within t))
-
-pub contains-insert_other : (s : Tracks) (t q : ℕ) → contains s q ≡ true → contains (insert s t) q ≡ true
-contains-insert_other s t q member = grind (members, rules, unsigned_tied, nat_tests)
 
 -- a set with nothing from 0 on is empty
 pub none_is_empty : (s : Tracks) → NoneFrom s 0 → s ≡ empty

@@ -11,17 +11,21 @@ use Rattle.dr_lanes.proofs.Members.{contains-bits_of}
 use Rattle.dr_lanes.proofs.Lowest.{is_set-at}
 use Rattle.dr_bits.specs.Tracks.{number_of, words_of, AreFourWords}
 
+-- a truth value as a digit
 pub bit_below_two : (b : Bool) → cond b 1 0 < 2
 bit_below_two true = omega arith
 bit_below_two false = omega arith
 
+-- and back
 bit_told : (b : Bool) → nat_eq (cond b 1 0) 1 ≡ b
 bit_told true = refl
 bit_told false = refl
 
+-- the lowest bit of a number
 lowest_bit : (b m : ℕ) → b < 2 → ((b + 2 * m) / 2 ^ 0) % 2 ≡ b
 lowest_bit b m low = omega arith
 
+-- the bits above it are those of half the number
 later_bits : (b m r : ℕ) → b < 2 → (b + 2 * m) / 2 ^ suc r ≡ m / 2 ^ r
 later_bits b m r low =
     ap (λ p. (b + 2 * m) / p) (pow-succ' 2 r)
@@ -39,11 +43,13 @@ number_of-bit f t (suc n) (suc r) within =
     ap (λ q. nat_eq (q % 2) 1) (later_bits (cond (f t) 1 0) (number_of f (t + 1) n) r (bit_below_two (f t)))
     ∙ number_of-bit f (t + 1) n r (omega arith) ∙ ap f (let e : (t + 1) + r ≡ t + suc r = omega arith in e)
 
+-- n answers give a number of n bits
 pub number_of_below : (f : ℕ → Bool) (t n : ℕ) → number_of f t n < 2 ^ n
 unfolding number_of
 number_of_below f t zero = omega arith
 number_of_below f t (suc n) = omega (arith, number_of_below f (t + 1) n, pow-succ' 2 n, bit_below_two (f t))
 
+-- two digits with the same test are one
 same_digit : (a b : ℕ) → a < 2 → b < 2 → nat_eq a 1 ≡ nat_eq b 1 → a ≡ b
 same_digit a b low_a low_b same = grind (arith, nat_tests)
 

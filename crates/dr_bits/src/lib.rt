@@ -1,4 +1,8 @@
 //! Sets of the tracks of a volume.
+//!
+//! `TrackSet` is a set of numbers from 0 to 255, and each call does to the set what its name says: `empty`, `first`,
+//! `insert`, `remove`, `contains` (`found`), `union`, `minus`, `keep`, `clear`, `len`, `first_from` (`lowest`,
+//! `value`). `to_bytes` and `from_bytes` are the set as 32 bytes.
 #![tactic(auto)]
 
 ghost use Rattle.std.specs.Prelude.{◌≡◌, ℕ, nat_eq, nat_lt, ◌+◌, ◌*◌, ◌<◌, ◌≤◌, Bool, false, length, MatchOption};

@@ -2,9 +2,10 @@
 use Rattle.std.proofs.Common.{◌≡◌, ℕ, ◌+◌, ◌<◌, Bool, true, false, inl, inr, List, [], ◌∷◌, Some, refl, sym, ◌∙◌, ap, subst, arith, eqb, length-append}
 use Rattle.std.proofs.lemmas.Option.{same_Some, slice_get_within}
 use Rattle.std.proofs.lemmas.Bool.Decides.{Decides-eqb, nat_tests}
-use Rattle.dr_plant.specs.State.{PlantState, with_device, at}
+use Rattle.dr_logic.specs.Tables.{at}
+use Rattle.dr_plant.specs.State.{PlantState, with_device}
 use Rattle.dr_config.specs.declared.entries.VolumeEntry.{VolumeEntry}
-use Rattle.dr_config.specs.Table.{Table, place_of, entry_of, StandsFor}
+use Rattle.dr_config.specs.Table.{ConfigTable, place_of, entry_of, StandsFor}
 use Rattle.dr_config.specs.Rules.{with_server, with_volume, with_link, with_path_between, without_path_between}
 use Rattle.dr_config.proofs.Lists.{element-of-push}
 use Rattle.dr_config.proofs.Lookups.{entry-at-place}
@@ -24,14 +25,14 @@ pub stands-empty : (names : List (List ℕ)) (down : List (List Bool)) (s : Plan
 stands-empty names down s h = record { count = h; device = λ d e p. absurd (cc) }
 
 -- only the devices' owners and sizes matter
-pub stands-along : (t : Table) (s u : PlantState) → u.count ≡ s.count → u.owner ≡ s.owner → u.size ≡ s.size → StandsFor t s → StandsFor t u
+pub stands-along : (t : ConfigTable) (s u : PlantState) → u.count ≡ s.count → u.owner ≡ s.owner → u.size ≡ s.size → StandsFor t s → StandsFor t u
 stands-along t s u c o z h = record {
   count = c ∙ h.count;
   device = λ d e p. let m = h.device d e p in (ap (λ (f : ℕ → ℕ). f d) o ∙ m.0, ap (λ (f : ℕ → ℕ). f d) z ∙ m.1, m.2);
 }
 
 -- the device of a volume
-pub device-of-volume : (t : Table) (s : PlantState) (v d : ℕ) (e : VolumeEntry) → StandsFor t s → place_of t v ≡ Some d → entry_of t v ≡ Some e → (d < s.count) × (s.owner d ≡ e.server) × (s.size d ≡ 13 + e.tracks) × (e.server < 8)
+pub device-of-volume : (t : ConfigTable) (s : PlantState) (v d : ℕ) (e : VolumeEntry) → StandsFor t s → place_of t v ≡ Some d → entry_of t v ≡ Some e → (d < s.count) × (s.owner d ≡ e.server) × (s.size d ≡ 13 + e.tracks) × (e.server < 8)
 device-of-volume t s v d e h place entry =
     let at = entry-at-place t v d place in
     let same : at.0 ≡ e = same_Some at.0 e (sym at.2 ∙ entry) in
@@ -41,19 +42,19 @@ device-of-volume t s v d e h place entry =
     (within, m.0, m.1, m.2)
 
 -- one more server changes no device
-pub stands-with_server : (t : Table) (name : List ℕ) (s : PlantState) → StandsFor t s → StandsFor (with_server t name) s
+pub stands-with_server : (t : ConfigTable) (name : List ℕ) (s : PlantState) → StandsFor t s → StandsFor (with_server t name) s
 stands-with_server t name s h = record { count = h.count; device = h.device }
 
 -- nor does a link that is set
-pub stands-with_link : (t : Table) (a b : ℕ) (up : Bool) (s : PlantState) → StandsFor t s → StandsFor (with_link t a b up) s
+pub stands-with_link : (t : ConfigTable) (a b : ℕ) (up : Bool) (s : PlantState) → StandsFor t s → StandsFor (with_link t a b up) s
 stands-with_link t a b up s h = record { count = h.count; device = h.device }
 
 -- nor does a path that is defined
-pub stands-with_path_between : (t : Table) (src tgt : ℕ) (group : Bool) (s : PlantState) → StandsFor t s → StandsFor (with_path_between t src tgt group) s
+pub stands-with_path_between : (t : ConfigTable) (src tgt : ℕ) (group : Bool) (s : PlantState) → StandsFor t s → StandsFor (with_path_between t src tgt group) s
 stands-with_path_between t src tgt group s h = record { count = h.count; device = h.device }
 
 -- nor one that is removed
-pub stands-without_path_between : (t : Table) (src tgt : ℕ) (s : PlantState) → StandsFor t s → StandsFor (without_path_between t src tgt) s
+pub stands-without_path_between : (t : ConfigTable) (src tgt : ℕ) (s : PlantState) → StandsFor t s → StandsFor (without_path_between t src tgt) s
 stands-without_path_between t src tgt s h = record { count = h.count; device = h.device }
 
 earlier : (s : PlantState) (server blocks d : ℕ) (e : VolumeEntry) → d < s.count → Matches s d e → Matches (with_device s server blocks) d e
@@ -71,7 +72,7 @@ unfolding with_device
 counted s server blocks = refl
 
 -- one more volume, with its device
-pub stands-with_volume : (t : Table) (s : PlantState) (v server tracks : ℕ) → server < 8 → StandsFor t s → StandsFor (with_volume t v server tracks) (with_device s server (13 + tracks))
+pub stands-with_volume : (t : ConfigTable) (s : PlantState) (v server tracks : ℕ) → server < 8 → StandsFor t s → StandsFor (with_volume t v server tracks) (with_device s server (13 + tracks))
 stands-with_volume t s v server tracks low h = record {
   count = let c = counted s server (13 + tracks) in let n = h.count in let l = length-append t.volumes (record { id = v; server = server; tracks = tracks } ∷ []) in omega (arith, l);
   device = λ d e p. elim (element-of-push t.volumes (record { id = v; server = server; tracks = tracks }) d e p) [

@@ -7,7 +7,7 @@ use Rattle.std.specs.declared.alloc.Global.{Global}
 use Rattle.std.proofs.lemmas.List.{map-append}
 use Rattle.dr_config.specs.declared.entries.VolumeEntry.{VolumeEntry}
 use Rattle.dr_config.specs.Links.{set_between}
-use Rattle.dr_config.specs.Table.{IsName, IsSound}
+use Rattle.dr_config.specs.Table.{IsName, IsSoundConfig}
 use Rattle.dr_config.specs.Kept.{names_of, paths_of, table_of, IsKept}
 use Rattle.dr_config.specs.Rules.{server_refusal, volume_refusal, with_server, with_volume}
 use Rattle.dr_config.proofs.Lists.{position-map}
@@ -31,7 +31,7 @@ module _ (servers : List (Vec ℕ Global)) (es : Entries) (rows : List (List Boo
 
   pub kept-server : (copy : Vec ℕ Global) (name : List ℕ) → copy.items ≡ name → IsName name → server_refusal (table_of servers es rows ps) name ≡ None → IsKept servers es rows ps → IsKept (servers ++ copy ∷ []) es rows ps
   kept-server copy name same fits ok k = record {
-    sound = subst IsSound (sym (table-server copy name same)) (sound-with_server (table_of servers es rows ps) name fits ok k.sound);
+    sound = subst IsSoundConfig (sym (table-server copy name same)) (sound-with_server (table_of servers es rows ps) name fits ok k.sound);
     keyed = k.keyed;
   }
 
@@ -41,7 +41,7 @@ module _ (servers : List (Vec ℕ Global)) (es : Entries) (rows : List (List Boo
 
   pub kept-volume : (e : VolumeEntry) → e.server < length (names_of servers) → volume_refusal (table_of servers es rows ps) e.id e.server e.tracks ≡ None → IsKept servers es rows ps → IsKept servers (es ++ (e.id, e) ∷ []) rows ps
   kept-volume e low ok k = record {
-    sound = subst IsSound (sym (table-volume e)) (sound-with_volume (table_of servers es rows ps) e.id e.server e.tracks low ok k.sound);
+    sound = subst IsSoundConfig (sym (table-volume e)) (sound-with_volume (table_of servers es rows ps) e.id e.server e.tracks low ok k.sound);
     keyed = keyed-push es e k.keyed;
   }
 

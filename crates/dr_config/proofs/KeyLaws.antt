@@ -8,12 +8,10 @@ use Rattle.std.proofs.lemmas.Bool.Decides.{nat_tests}
 use Rattle.dr_config.specs.declared.entries.VolumeEntry.{VolumeEntry}
 use Rattle.dr_config.specs.Kept.{IsKeyed}
 use Rattle.dr_config.proofs.Lists.{position-map, none-found}
+use Rattle.dr_logic.proofs.Lists.{cons-parts}
 
 abbrev pub Entries : Type 0
 Entries = List (ℕ × VolumeEntry)
-
-cons-parts : {X : Type 0} {x y : X} {xs ys : List X} → x ∷ xs ≡ y ∷ ys → (x ≡ y) × (xs ≡ ys)
-cons-parts h = (cc, cc)
 
 -- two numbers are compared either way round
 pub eqb-turned : (m n : ℕ) → eqb m n ≡ eqb n m
@@ -57,11 +55,6 @@ none-any p xs h = let past : length xs ≤ position_or_len p xs = grind (arith, 
 pub ok-holds : {T E P : Type 0} (r : Result T E) → IsOk r → OnOk r P → P
 ok-holds (Ok x) ok h = h
 ok-holds (Err e) ok h = cc
-
--- what holds anyhow holds on Err
-pub on-err : {T E P : Type 0} (r : Result T E) → P → OnErr r P
-on-err (Ok x) h = tt
-on-err (Err e) h = h
 
 -- a volume that has no place isn't in the map
 pub absent-keyed : (v : ℕ) (es : Entries) → IsKeyed es → position (λ (e : VolumeEntry). eqb e.id v) (values_of es) ≡ None → lookup (eqb v) es ≡ None

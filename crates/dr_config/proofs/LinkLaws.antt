@@ -5,7 +5,7 @@ use Rattle.std.proofs.lemmas.Grind.{get_or-set_at}
 use Rattle.std.proofs.lemmas.Bool.Decides.{nat_tests, leb_tells}
 use Rattle.dr_ids.specs.Links.{joins}
 use Rattle.dr_config.specs.Links.{is_down, set_from, set_between, none_down, IsSquare}
-use Rattle.dr_config.specs.Table.{Table, link_up}
+use Rattle.dr_config.specs.Table.{ConfigTable, link_up}
 use Rattle.dr_config.specs.Rules.{with_link}
 
 -- the rows stay square
@@ -51,12 +51,12 @@ up-not true false old = refl
 up-not false up old = refl
 
 -- a table with a link set: that link is as it was set, seen from both ends, and each other is as it was
-pub link_up-with_link : (t : Table) (a b : ℕ) (up : Bool) → IsSquare t.down → a < 8 → b < 8 → (x y : ℕ) → link_up (with_link t a b up) x y ≡ (if joins x y a b then up else link_up t x y)
+pub link_up-with_link : (t : ConfigTable) (a b : ℕ) (up : Bool) → IsSquare t.down → a < 8 → b < 8 → (x y : ℕ) → link_up (with_link t a b up) x y ≡ (if joins x y a b then up else link_up t x y)
 link_up-with_link t a b up square la lb x y =
     ap not (between-law t.down a b (not up) square la lb x y) ∙ up-not (joins x y a b) up (is_down t.down x y)
 
 -- the rows of a table with a link set are square
-pub square-with_link : (t : Table) (a b : ℕ) (up : Bool) → a < 8 → b < 8 → IsSquare t.down → IsSquare (with_link t a b up).down
+pub square-with_link : (t : ConfigTable) (a b : ℕ) (up : Bool) → a < 8 → b < 8 → IsSquare t.down → IsSquare (with_link t a b up).down
 square-with_link t a b up la lb square = square-from (set_from t.down a b (not up)) b a (not up) lb (square-from t.down a b (not up) la square)
 
 -- the ends may change places
@@ -90,7 +90,7 @@ none-down x y = elim (leb_tells 8 x) as (λ _. get_or (get_or (replicate 8 (repl
 ]
 
 -- from and to what is no server of 0 to 7, links are up
-pub link_up-beyond : (t : Table) (x y : ℕ) → IsSquare t.down → (8 ≤ x) ⊎ (8 ≤ y) → link_up t x y ≡ true
+pub link_up-beyond : (t : ConfigTable) (x y : ℕ) → IsSquare t.down → (8 ≤ x) ⊎ (8 ≤ y) → link_up t x y ≡ true
 unfolding is_down
 link_up-beyond t x y square past =
     let size : length t.down ≡ 8 = square.servers in

@@ -4,6 +4,7 @@ use Rattle.std.specs.List.{find, IsDistinct, AllByRecursion}
 use Rattle.std.specs.Map.{keys_of, lookup, remove_entry}
 use Rattle.std.proofs.lemmas.Option.{none-some}
 use Rattle.std.proofs.lemmas.Bool.Decides.{Decides-eqb}
+use Rattle.std.proofs.lemmas.Bool.{and_parts}
 use Rattle.indexmap.specs.IndexMap.{insert_entry}
 use Rattle.dr_ids.specs.Paths.{Path, joins_lss, path_in, with_path, without_path}
 use Rattle.dr_config.specs.declared.paths.Ends.{Ends}
@@ -23,14 +24,9 @@ same_ends a b = eqb a.src b.src && eqb a.tgt b.tgt
 joined : (s t : ℕ) (e : Ends × Bool) → joins_lss s t (path_of e) ≡ same_ends (ends s t) e.0
 joined s t e = λ i. eqb-turned e.0.src s i && eqb-turned e.0.tgt t i
 
-both-parts : (a b : Bool) → (a && b) ≡ true → (a ≡ true) × (b ≡ true)
-both-parts true true h = (refl, refl)
-both-parts true false h = absurd cc
-both-parts false b h = absurd cc
-
 ends-same : (s t : ℕ) (x : Ends) → same_ends (ends s t) x ≡ true → x ≡ ends s t
 ends-same s t x h =
-    let parts = both-parts (eqb s x.src) (eqb t x.tgt) h in
+    let parts = and_parts (eqb s x.src) (eqb t x.tgt) h in
     let src : x.src ≡ s = sym ((Decides-eqb s x.src).0 parts.0) in
     let tgt : x.tgt ≡ t = sym ((Decides-eqb t x.tgt).0 parts.1) in
     λ i. record { src = src i; tgt = tgt i }

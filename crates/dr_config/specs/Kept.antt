@@ -5,7 +5,7 @@ use Rattle.std.specs.declared.alloc.Global.{Global}
 use Rattle.dr_ids.specs.Paths.{Path}
 use Rattle.dr_config.specs.declared.entries.VolumeEntry.{VolumeEntry}
 use Rattle.dr_config.specs.declared.paths.Ends.{Ends}
-use Rattle.dr_config.specs.Table.{Table, IsSound}
+use Rattle.dr_config.specs.Table.{ConfigTable, IsSoundConfig}
 
 -- The bytes of each name.
 abbrev pub names_of : List (Vec ℕ Global) → List (List ℕ)
@@ -20,7 +20,7 @@ abbrev pub paths_of : List (Ends × Bool) → List Path
 paths_of paths = map path_of paths
 
 -- The table of these servers, volumes by identifier, rows of links, and paths by their ends.
-abbrev pub table_of : List (Vec ℕ Global) → List (ℕ × VolumeEntry) → List (List Bool) → List (Ends × Bool) → Table
+abbrev pub table_of : List (Vec ℕ Global) → List (ℕ × VolumeEntry) → List (List Bool) → List (Ends × Bool) → ConfigTable
 table_of servers entries rows paths = record { names = names_of servers; volumes = values_of entries; down = rows; paths = paths_of paths }
 
 -- Each volume stands at its own identifier.
@@ -29,5 +29,5 @@ IsKeyed entries = keys_of entries ≡ map (λ (e : VolumeEntry). e.id) (values_o
 
 -- What is true of what is kept.
 pub record IsKept (servers : List (Vec ℕ Global)) (entries : List (ℕ × VolumeEntry)) (rows : List (List Bool)) (paths : List (Ends × Bool)) : Type 0 where
-  pub sound : IsSound (table_of servers entries rows paths)
+  pub sound : IsSoundConfig (table_of servers entries rows paths)
   pub keyed : IsKeyed entries

@@ -6,23 +6,23 @@ ghost use Rattle.dr_ids.specs.Paths.{path_in};
 ghost use Rattle.dr_ids.specs.declared.refusal.Fault.TheVariants as fault;
 ghost use Rattle.dr_plant.specs.State.{with_device};
 ghost use Rattle.dr_config.specs.Links.{none_down};
-ghost use Rattle.dr_config.specs.Table.{server_named, place_of, entry_of, server_of, lss_of, lss_owner, link_up, IsName, HasServer, IsSound, StandsFor};
+ghost use Rattle.dr_config.specs.Table.{server_named, place_of, entry_of, server_of, lss_of, lss_owner, link_up, IsName, HasServer, IsSoundConfig, StandsFor};
 ghost use Rattle.dr_config.specs.Rules.{is_foreign, refusal_of, server_refusal, volume_refusal, link_refusal, contact_refusal, path_refusal, reach_refusal, with_server, with_volume, with_link, with_path_between, without_path_between};
 
 use crate::entries::{
-    Names, VolumeEntry, Volumes, add_entry, add_name, entry_of_lss, entry_of_volume, lss_of,
-    place_of_name, place_of_volume,
+    Names, VolumeEntry, Volumes, add_entry, add_name, entry_of_lss, entry_of_volume, place_of_name,
+    place_of_volume,
 };
-use crate::links::{MOST_SERVERS, Rows, is_down, none_down, set_between};
+use crate::links::{Rows, is_down, none_down, set_between};
 use crate::paths::{Paths, group_of, put_path, take_path};
-use dr_ids::{Fault, Kind, Lss, MAX_TRACKS, Refusal, ServerId, VolumeId, Which, blocks_of};
+use dr_ids::{
+    Fault, Kind, Lss, MAX_TRACKS, MOST_SERVERS, MOST_VOLUMES, Refusal, ServerId, VolumeId, Which,
+    blocks_of,
+};
 use dr_plant::{DeviceId, Plant};
 use indexmap::{IndexMap, IndexSet};
 use std::alloc::{AllocError, Global};
 use std::marker::Model;
-
-/// How many volumes a configuration has at most.
-const MOST_VOLUMES: usize = 64;
 
 /// Servers and volumes in order of definition, the links between the servers, and the paths between logical
 /// subsystems. A server's number is its place, and the number of a volume's device is the volume's place.
@@ -36,10 +36,10 @@ pub struct Config {
 }
 
 impl Model for Config {
-    ghost use Rattle.dr_config.specs.Table.{Table};
+    ghost use Rattle.dr_config.specs.Table.{ConfigTable};
     ghost use Rattle.dr_config.specs.Kept.{table_of, IsKept};
 
-    ghost Value = { Table };
+    ghost Value = { ConfigTable };
 
     ghost view = { λ c. table_of c.servers.keys c.volumes.entries c.down c.paths.entries };
 
@@ -206,7 +206,7 @@ impl Config {
         requires to { IsSome (place_of self.now to.0) }
         ensures refused { result_err result ≡ reach_refusal self.now (P.state p.now).on from.0 to.0 }
     {
-        if self.path(lss_of(from), lss_of(to)).is_none() {
+        if self.path(from.lss(), to.lss()).is_none() {
             return Err(Refusal::Unknown { kind: Kind::Path });
         }
         match self.contact_refusal(p, self.host(from), self.host(to)) {
@@ -307,7 +307,7 @@ impl Config {
     fn is_foreign(&self, id: VolumeId, server: ServerId) -> bool
         ensures { result ≡ is_foreign (lss_owner self.now (lss_of id.0)) server.0 }
     {
-        match self.lss_owner(lss_of(id)) {
+        match self.lss_owner(id.lss()) {
             Some(owner) => owner.0 != server.0,
             None => false,
         }
@@ -316,7 +316,7 @@ impl Config {
     /// The number of the server of that name, if there is one.
     pub fn server_named(&self, name: &[u8]) -> Option<ServerId>
         ensures place { option_map (λ s. s.0) result ≡ server_named self.now name.now }
-        ensures sound { IsSound self.now }
+        ensures sound { IsSoundConfig self.now }
         ensures defined { IfSome result (λ s. HasServer self.now s.0) }
     {
         let place = place_of_name(&self.servers, name)?;
@@ -373,7 +373,7 @@ impl Config {
     pub fn lss_owner(&self, l: Lss) -> Option<ServerId>
         ensures value { option_map (λ s. s.0) result ≡ lss_owner self.now l.0 }
         ensures defined { IfSome result (λ s. HasServer self.now s.0) }
-        ensures sound { IsSound self.now }
+        ensures sound { IsSoundConfig self.now }
     {
         let entry = entry_of_lss(&self.volumes, l.0)?;
         Some(ServerId(entry.server))
@@ -382,7 +382,7 @@ impl Config {
     /// How many servers there are.
     pub fn servers(&self) -> usize
         ensures count { result ≡ length self.now.names }
-        ensures sound { IsSound self.now }
+        ensures sound { IsSoundConfig self.now }
     {
         self.servers.len()
     }
@@ -390,7 +390,7 @@ impl Config {
     /// How many volumes there are.
     pub fn volumes(&self) -> usize
         ensures count { result ≡ length self.now.volumes }
-        ensures sound { IsSound self.now }
+        ensures sound { IsSoundConfig self.now }
     {
         self.volumes.len()
     }

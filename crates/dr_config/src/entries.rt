@@ -7,12 +7,9 @@ ghost use Rattle.indexmap.specs.IndexMap.{values, spare};
 ghost use Rattle.dr_config.specs.Table.{lss_of};
 ghost use Rattle.dr_config.specs.Kept.{IsKeyed};
 
-use dr_ids::{Lss, VolumeId};
+use dr_ids::VolumeId;
 use indexmap::{IndexMap, IndexSet};
 use std::alloc::AllocError;
-
-/// How many identifiers share the high byte of a logical subsystem.
-const VOLUMES_OF_LSS: u16 = 256;
 
 /// A volume that is defined: its identifier, its server and its number of tracks.
 #[derive(Clone, Copy)]
@@ -71,13 +68,6 @@ pub(crate) fn add_entry(volumes: &mut Volumes, entry: VolumeEntry)
     let _inserted = volumes.insert(entry.id, entry);
 }
 
-// The logical subsystem of a volume: the high byte of its identifier.
-pub(crate) fn lss_of(id: VolumeId) -> Lss
-    ensures { result.0 ≡ lss_of id.0 }
-{
-    Lss((id.0 / VOLUMES_OF_LSS) as u8)
-}
-
 // The first entry of a volume of that logical subsystem.
 pub(crate) fn entry_of_lss(volumes: &Volumes, lss: u8) -> Option<VolumeEntry>
     ensures { result ≡ find (λ e. lss_of e.id == lss) (values volumes.now) }
@@ -85,5 +75,5 @@ pub(crate) fn entry_of_lss(volumes: &Volumes, lss: u8) -> Option<VolumeEntry>
     volumes
         .values()
         .copied()
-        .find(|e| e.id / VOLUMES_OF_LSS == u16::from(lss))
+        .find(|e| VolumeId(e.id).lss().0 == lss)
 }

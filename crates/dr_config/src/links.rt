@@ -3,8 +3,7 @@
 ghost use Rattle.std.specs.Prelude.{◌≡◌, ◌<◌};
 ghost use Rattle.dr_config.specs.Links.{is_down, set_from, set_between, none_down};
 
-/// How many servers a configuration has at most.
-pub(crate) const MOST_SERVERS: usize = 8;
+use dr_ids::MOST_SERVERS;
 
 /// For each server a row, which says for each server whether the link to it is down.
 pub(crate) type Rows = [[bool; MOST_SERVERS]; MOST_SERVERS];

@@ -2,9 +2,10 @@
 use Rattle.std.proofs.Common.{ℕ, ◌≡◌, ◌≤◌, ◌+◌, arith, ◌⊎◌, inl, inr, Bool, true, false, not, ◌&&◌, List, [], ◌∷◌, refl, sym, ◌∙◌, ap, subst, Option, None, Some}
 use Rattle.std.specs.Prelude.{nat_lt, if◌then◌else◌, Result, Ok, Err, OnOk, OnErr}
 use Rattle.std.specs.Option.{option_or}
+use Rattle.std.proofs.Math.Bool.{and-false, and-true}
 use Rattle.dr_ids.specs.declared.refusal.Refusal.{Refusal}
 use Rattle.dr_plant.specs.State.{PlantState}
-use Rattle.dr_config.specs.Table.{Table}
+use Rattle.dr_config.specs.Table.{ConfigTable}
 use Rattle.dr_model.specs.declared.event.Event.{Event}
 use Rattle.dr_model.specs.Layout.{Fields}
 use Rattle.dr_model.specs.Control.{Control, Volume, World}
@@ -19,12 +20,15 @@ use Rattle.dr_model.proofs.CarryLemmas.{act-move}
 use Rattle.dr_volume.specs.Update.{IsMoved}
 use Rattle.dr_volume.specs.View.{Rest, volume_seen}
 use Rattle.dr_flash.specs.Checks.{Checked}
-use Rattle.dr_flash.specs.Here.{seen, refusal_of}
+use Rattle.dr_flash.specs.Here.{world_seen, refusal_of}
 use Rattle.dr_flash.specs.Turns.{Advances, Halts, Leads, Fails}
 use Rattle.dr_flash.proofs.CopyLemmas.{led, failed}
-use Rattle.dr_flash.proofs.EndsLemmas.{ends-off, ends-goes, ends-stops, ends-skips}
-use Rattle.dr_gcopy.proofs.PairChecks.{ends-clear, ends-why}
+use Rattle.dr_facts.proofs.Ends.{ends-off, ends-goes, ends-stops, ends-skips}
 use Rattle.dr_coord.specs.Changes.{begins, begun_if, rest_after, void_on}
+use Rattle.dr_flash.proofs.CheckLemmas.{ends-clear, ends-why}
+use Rattle.dr_facts.proofs.Refusals.{none-both}
+use Rattle.dr_facts.proofs.Turns.{equal-same, equal-not}
+use Rattle.dr_flash.proofs.KeepLemmas.{skips}
 
 pub act-advances : (w v : World) (d : Entry) (a : Act) → d w.control ≡ Do a → act w a ≡ (v, None) → Advances w d v
 act-advances w v d a is done armed u r ds more = ends-goes armed u r w v d ds a is done more
@@ -41,26 +45,10 @@ pub move-halts : (armed : ℕ → Bool) (w u : World) (r : Option Refusal) (d : 
 move-halts armed w u r d m server is refused (inl off) = act-halts armed w u r d (Make m) server is refused (inl off)
 move-halts armed w u r d m server is refused (inr stops) = act-halts armed w u r d (Make m) server is refused (inr (act-move w m ∙ stops))
 
-pub not-true : (b : Bool) → not b ≡ true → b ≡ false
-not-true true h = absurd cc
-not-true false h = refl
-
-pub not-false : (b : Bool) → not b ≡ false → b ≡ true
-not-false true h = refl
-not-false false h = absurd cc
-
--- an entry that passes
-pub passes : (w : World) (d : Entry) → d w.control ≡ Pass → Advances w d w
-passes w d is armed u r ds more = ends-skips armed u r w d ds is more
-
 -- one reason to refuse, or two
 pub one-checked : (w : World) (why : Control → Option Refusal) (o : Option Refusal) → o ≡ why w.control → Checked w (refuse_if why ∷ []) o
 one-checked w why None is = λ armed u r ds more. ends-clear armed u r w why ds (sym is) more
 one-checked w why (Some e) is = λ armed ds. ends-why armed w why e ds (sym is)
-
-or-none : (a b : Option Refusal) → option_or a b ≡ None → (a ≡ None) × (b ≡ None)
-or-none None b is = (refl, is)
-or-none (Some e) b is = absurd cc
 
 or-some : (a b : Option Refusal) (e : Refusal) → option_or a b ≡ Some e → (a ≡ Some e) ⊎ ((a ≡ None) × (b ≡ Some e))
 or-some None b e is = inr (refl, is)
@@ -68,7 +56,7 @@ or-some (Some d) b e is = inl is
 
 pub two-checked : (w : World) (why also : Control → Option Refusal) (o : Option Refusal) → o ≡ option_or (why w.control) (also w.control) → Checked w (refuse_if why ∷ refuse_if also ∷ []) o
 two-checked w why also None is = λ armed u r ds more.
-    let none = or-none (why w.control) (also w.control) (sym is) in
+    let none = none-both (why w.control) (also w.control) (sym is) in
     ends-clear armed u r w why (refuse_if also ∷ ds) none.0 (ends-clear armed u r w also ds none.1 more)
 two-checked w why also (Some e) is = λ armed ds. elim (or-some (why w.control) (also w.control) e (sym is)) [
   | inl first ↦ ends-why armed w why e (refuse_if also ∷ ds) first
@@ -76,9 +64,9 @@ two-checked w why also (Some e) is = λ armed ds. elim (or-some (why w.control) 
 ]
 
 -- the entries of an attempt, by what the primary's fields say
-module _ (s : PlantState) (t : Table) (r : Rest) (events : List Event) (v : ℕ) where
+module _ (s : PlantState) (t : ConfigTable) (r : Rest) (events : List Event) (v : ℕ) where
   abbrev w : World
-  w = seen s t r events
+  w = world_seen s t r events
 
   pub free-skips : (volume_seen s t v).fields.coordination ≡ false → free_on v w.control ≡ Pass
   free-skips is = ap (λ b. if b then Do (Make (Free v)) else Pass) is
@@ -116,55 +104,38 @@ module _ (s : PlantState) (t : Table) (r : Rest) (events : List Event) (v : ℕ)
   opened-if u true k x = refl
   opened-if u false k x = refl
 
-  begun-if : (u : PlantState) (b : Bool) (k : ℕ) (told : List Event) → (if b then attempt_begun (seen u t r told) k else seen u t r told) ≡ seen u t (begun_if b k r) told
+  begun-if : (u : PlantState) (b : Bool) (k : ℕ) (told : List Event) → (if b then attempt_begun (world_seen u t r told) k else world_seen u t r told) ≡ world_seen u t (begun_if b k r) told
   begun-if u true k told = refl
   begun-if u false k told = refl
 
-  pub hold-act : (u : PlantState) (k n : ℕ) (first : Bool) (told : List Event) (x : Option ℕ) → turn w (Hold v k n first) ≡ (seen u t r told, x) → act w (hold_act k n first) ≡ (seen u t (rest_after first s u t v k r) told, x)
+  pub hold-act : (u : PlantState) (k n : ℕ) (first : Bool) (told : List Event) (x : Option ℕ) → turn w (Hold v k n first) ≡ (world_seen u t r told, x) → act w (hold_act k n first) ≡ (world_seen u t (rest_after first s u t v k r) told, x)
   hold-act u k n true told x is =
       act-open k n ∙ ap (opened_by w v k) is
-      ∙ opened-if (seen u t r told) (equal (volume_seen s t v).slot (volume_seen u t v).slot) k x
+      ∙ opened-if (world_seen u t r told) (equal (volume_seen s t v).slot (volume_seen u t v).slot) k x
       ∙ ap (λ (z : World). (z, x)) (begun-if u (not (equal (volume_seen s t v).slot (volume_seen u t v).slot)) k told)
   hold-act u k n false told x is = act-move w (Hold v k n false) ∙ is
 
--- where the slot is the same one, nothing has begun
-equal-same : (b : Bool) → equal b b ≡ true
-equal-same true = refl
-equal-same false = refl
-
-equal-not : (b : Bool) → equal b (not b) ≡ false
-equal-not true = refl
-equal-not false = refl
-
-and-true : (b : Bool) → (b && true) ≡ b
-and-true true = refl
-and-true false = refl
-
-and-false : (b : Bool) → (b && false) ≡ false
-and-false true = refl
-and-false false = refl
-
-pub rest-stays : (first : Bool) (s u : PlantState) (t : Table) (v k : ℕ) (r : Rest) → (volume_seen u t v).slot ≡ (volume_seen s t v).slot → rest_after first s u t v k r ≡ r
+pub rest-stays : (first : Bool) (s u : PlantState) (t : ConfigTable) (v k : ℕ) (r : Rest) → (volume_seen u t v).slot ≡ (volume_seen s t v).slot → rest_after first s u t v k r ≡ r
 rest-stays first s u t v k r same =
     ap (λ b. begun_if (first && not (equal (volume_seen s t v).slot b)) k r) same
     ∙ ap (λ b. begun_if (first && not b) k r) (equal-same (volume_seen s t v).slot)
     ∙ ap (λ b. begun_if b k r) (and-false first)
 
-pub hold-off : (armed : ℕ → Bool) (s u : PlantState) (t : Table) (r : Rest) (events told : List Event) (v k : ℕ) (first : Bool) (why : Option Refusal) → GoesOff armed (seen u t r told) why (seen s t r events) → GoesOff armed (seen u t (rest_after first s u t v k r) told) why (seen s t r events)
+pub hold-off : (armed : ℕ → Bool) (s u : PlantState) (t : ConfigTable) (r : Rest) (events told : List Event) (v k : ℕ) (first : Bool) (why : Option Refusal) → GoesOff armed (world_seen u t r told) why (world_seen s t r events) → GoesOff armed (world_seen u t (rest_after first s u t v k r) told) why (world_seen s t r events)
 hold-off armed s u t r events told v k first why off =
-    subst (λ (z : Rest). GoesOff armed (seen u t z told) why (seen s t r events)) (sym (rest-stays first s u t v k r (ap (λ (z : World). (z.control.volume v).slot) off.world))) off
+    subst (λ (z : Rest). GoesOff armed (world_seen u t z told) why (world_seen s t r events)) (sym (rest-stays first s u t v k r (ap (λ (z : World). (z.control.volume v).slot) off.world))) off
 
 -- a hold that is refused changes nothing
-pub hold-refused : (s : PlantState) (t : Table) (v b k n : ℕ) (first : Bool) (r : Rest) (events : List Event) (why : Refusal)
-    → Some why ≡ option_or (hold_refusal v b (seen s t r events).control) (stale_refusal v n (seen s t r events).control)
-    → (armed : ℕ → Bool) → Fails armed (seen s t r events) (hold_entries k v b n) (seen s t (rest_after first s s t v k r) events) (Some why)
+pub hold-refused : (s : PlantState) (t : ConfigTable) (v b k n : ℕ) (first : Bool) (r : Rest) (events : List Event) (why : Refusal)
+    → Some why ≡ option_or (hold_refusal v b (world_seen s t r events).control) (stale_refusal v n (world_seen s t r events).control)
+    → (armed : ℕ → Bool) → Fails armed (world_seen s t r events) (hold_entries k v b n) (world_seen s t (rest_after first s s t v k r) events) (Some why)
 hold-refused s t v b k n first r events why is armed ds =
-    subst (λ (z : Rest). Ends armed (seen s t z events) (Some why) (seen s t r events) (refuse_if (hold_refusal v b) ∷ refuse_if (stale_refusal v n) ∷ hold_on k v n ∷ ds)) (sym (rest-stays first s s t v k r refl))
-    (two-checked (seen s t r events) (hold_refusal v b) (stale_refusal v n) (Some why) is armed (hold_on k v n ∷ ds))
+    subst (λ (z : Rest). Ends armed (world_seen s t z events) (Some why) (world_seen s t r events) (refuse_if (hold_refusal v b) ∷ refuse_if (stale_refusal v n) ∷ hold_on k v n ∷ ds)) (sym (rest-stays first s s t v k r refl))
+    (two-checked (world_seen s t r events) (hold_refusal v b) (stale_refusal v n) (Some why) is armed (hold_on k v n ∷ ds))
 
-pub hold-passes : (s : PlantState) (t : Table) (v k n : ℕ) (first : Bool) (r : Rest) (events : List Event) → records n (volume_seen s t v).fields ≡ true → Advances (seen s t r events) (hold_on k v n) (seen s t (rest_after first s s t v k r) events)
+pub hold-passes : (s : PlantState) (t : ConfigTable) (v k n : ℕ) (first : Bool) (r : Rest) (events : List Event) → records n (volume_seen s t v).fields ≡ true → Advances (world_seen s t r events) (hold_on k v n) (world_seen s t (rest_after first s s t v k r) events)
 hold-passes s t v k n first r events is =
-    subst (λ (z : Rest). Advances (seen s t r events) (hold_on k v n) (seen s t z events)) (sym (rest-stays first s s t v k r refl)) (passes (seen s t r events) (hold_on k v n) (hold-skips s t r events v k n is))
+    subst (λ (z : Rest). Advances (world_seen s t r events) (hold_on k v n) (world_seen s t z events)) (sym (rest-stays first s s t v k r refl)) (skips (world_seen s t r events) (hold_on k v n) (hold-skips s t r events v k n is))
 
 -- the entries end as those that led on or failed say, where that is so for this rest
 pub ends-so : (res : Result (Unit {0}) Refusal) (armed : ℕ → Bool) (w u : Rest → World) (es : List Entry) (So : Rest → Type 0) → OnOk res ((r : Rest) → So r → Leads (w r) es (u r)) → OnErr res ((r : Rest) → So r → Fails armed (w r) es (u r) (refusal_of res)) → (r : Rest) → So r → Ends armed (u r) (refusal_of res) (w r) es
@@ -172,7 +143,7 @@ ends-so (Ok x) armed w u es So leads fails r so = led armed (w r) (u r) es (lead
 ends-so (Err e) armed w u es So leads fails r so = failed armed (w r) (u r) (Some e) es (fails r so)
 
 -- where the move is done, the other slot is chosen
-pub begins-moved : (first : Bool) (s u : PlantState) (t : Table) (v : ℕ) (f : Fields) → IsMoved s u t v f None → begins first s u t v ≡ first
+pub begins-moved : (first : Bool) (s u : PlantState) (t : ConfigTable) (v : ℕ) (f : Fields) → IsMoved s u t v f None → begins first s u t v ≡ first
 begins-moved first s u t v f moved =
     ap (λ (x : Volume). first && not (equal (volume_seen s t v).slot x.slot)) moved.volume
     ∙ ap (λ b. first && not b) (equal-not (volume_seen s t v).slot)
@@ -180,8 +151,3 @@ begins-moved first s u t v f moved =
 
 pub spare-left : (a b : ℕ) (first begun : Bool) → begun ≡ first → a ≡ b + (if first then 2 else 1) → a ≤ b + (if begun then 2 else 1)
 spare-left a b first begun is e = let same = ap {B = ℕ} (λ (c : Bool). if c then 2 else 1) is in omega (arith, same, e)
-
--- two facts of a result, along a third
-pub both-along : {T E : Type 0} {P Q S : Type 0} (r : Result T E) → OnOk r P → OnOk r Q → (P → Q → S) → OnOk r S
-both-along (Ok x) p q f = f p q
-both-along (Err e) p q f = p

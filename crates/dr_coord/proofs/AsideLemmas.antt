@@ -2,7 +2,7 @@
 use Rattle.std.proofs.Common.{ℕ, ◌≡◌, ◌⊎◌, inl, inr, sym, subst, None}
 use Rattle.std.proofs.lemmas.Bool.{cases_eq}
 use Rattle.dr_plant.specs.State.{PlantState}
-use Rattle.dr_config.specs.Table.{Table}
+use Rattle.dr_config.specs.Table.{ConfigTable}
 use Rattle.dr_model.specs.Layout.{Fields}
 use Rattle.dr_model.specs.Control.{Volume}
 use Rattle.dr_volume.specs.Update.{IsAsBefore, IsMoved, OthersStay}
@@ -23,7 +23,7 @@ change-aside (change.RaiseFloor m) f keeps = keeps
 change-aside (change.Leave u k) f keeps = keeps
 
 -- v is as it was, or got these fields
-module _ (s u : PlantState) (t : Table) (v : ℕ) (f : Fields) (fit : AsideFits s t) (keeps : KeepsAside f) where
+module _ (s u : PlantState) (t : ConfigTable) (v : ℕ) (f : Fields) (fit : AsideFits s t) (keeps : KeepsAside f) where
   own : IsAsBefore s u t v ⊎ IsMoved s u t v f None → KeepsAside (volume_seen u t v).fields
   own (inl same) = subst (λ (x : Volume). KeepsAside x.fields) (sym same.volume) (fit.aside v)
   own (inr is) = subst (λ (x : Volume). KeepsAside x.fields) (sym is.volume) keeps

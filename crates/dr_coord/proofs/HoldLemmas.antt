@@ -4,8 +4,8 @@ use Rattle.std.specs.Prelude.{is_some, if◌then◌else◌}
 use Rattle.std.proofs.lemmas.Bool.Decides.{Decides-eqb, nat_tests}
 use Rattle.std.proofs.lemmas.List.{append-nil}
 use Rattle.std.specs.List.{find, list_any}
-use Rattle.dr_plant.specs.State.{PlantState}
-use Rattle.dr_config.specs.Table.{Table, place_of}
+use Rattle.dr_plant.specs.State.{PlantState, passes_read}
+use Rattle.dr_config.specs.Table.{ConfigTable, place_of}
 use Rattle.dr_config.specs.declared.entries.VolumeEntry.{VolumeEntry}
 use Rattle.dr_ids.specs.declared.refusal.Refusal.{Refusal}
 use Rattle.dr_model.specs.declared.event.Event.{Event}
@@ -21,7 +21,7 @@ use Rattle.dr_model.specs.Carry.{Pass, Do, Make, Entry, Ended, ended, update, no
 use Rattle.dr_model.specs.WriteEntries.{belongs, lift_on, restart_on}
 use Rattle.dr_volume.specs.View.{Rest, volume_seen, ids_of}
 use Rattle.dr_flash.specs.Fit.{RelationsFit}
-use Rattle.dr_flash.specs.Here.{seen, armed_in}
+use Rattle.dr_flash.specs.Here.{world_seen, armed_in}
 use Rattle.dr_flash.specs.declared.told.Told.TheVariants.{Nothing}
 use Rattle.dr_flash.specs.Turns.{told_in_stop, Advances, Halts}
 use Rattle.dr_flash.specs.declared.told.Telling.{Telling}
@@ -30,16 +30,19 @@ use Rattle.dr_flash.proofs.PlaceLaws.{entry-found}
 use Rattle.dr_flash.proofs.ReadLemmas.{on-running, is-armed}
 use Rattle.dr_volume.specs.Update.{EndsAs, after_reading}
 use Rattle.dr_volume.proofs.UnreadLaws.{armed-of, lies-low}
-use Rattle.dr_plant.specs.State.{passes_read}
 use Rattle.dr_model.specs.ReadStops.{shut, Ends}
 use Rattle.dr_model.specs.Refusals.{stopped}
 use Rattle.dr_coord.specs.Standing.{StandsReady}
 use Rattle.dr_flash.proofs.FitLemmas.{fit-kept}
-use Rattle.dr_flash.proofs.FieldLemmas.{low-empty, covers-all}
+use Rattle.dr_flash.proofs.FieldLemmas.{covers-all, low-if}
 use Rattle.dr_flash.proofs.MoveLemmas.{MoveFits}
 use Rattle.dr_flash.proofs.TurnLemmas.{Tells, advances, halts, halts-gone}
-use Rattle.dr_flash.proofs.EndsLemmas.{ends-skips, ends-alike, ends-none}
-use Rattle.dr_gcopy.proofs.SendMoves.{low-if, low-union}
+use Rattle.dr_facts.proofs.Ends.{ends-skips, ends-alike, ends-none}
+use Rattle.dr_gcopy.proofs.SendMoves.{low-union}
+use Rattle.dr_config.proofs.KeyLaws.{eqb-turned}
+use Rattle.dr_model.proofs.LawfulLemmas.{low-empty}
+use Rattle.dr_volume.proofs.WorldLaws.{any_id}
+use Rattle.dr_facts.proofs.Lawful.{lawful-lifted}
 
 -- the server, whose read fuse is armed, went off before any write
 record Shuts (armed : ℕ → Bool) (server : ℕ) (w u : World) (failed : Bool) : Type 0 where
@@ -55,61 +58,13 @@ split s w u b e {server} low ends =
       | false ↦ λ stuck h. inr (record { is_armed = is-armed s server low (armed-of (s.read_fuse server) stuck); world = h.world; answer = h.stopped })
     ] refl ends
 
--- of a volume that is no primary nothing is there to end
-pub if-off : {A : Type 0} (b : Bool) (x y : A) → b ≡ false → (if b then x else y) ≡ y
-if-off b x y off = ap (λ c. if c then x else y) off
-
-lifted-lawful : (n : ℕ) (f : Fields) → IsLawful n f → IsLawful n (lifted f)
-lifted-lawful n f lawful = let sets : HasSets n f = lawful.sets in record {
-  sets = record {
-    out_of_sync_low = low-if f.coordination n _ _ (low-union n f.out_of_sync f.change_recording sets.out_of_sync_low sets.change_recording_low) sets.out_of_sync_low;
-    change_recording_low = low-if f.coordination n _ _ (low-empty n) sets.change_recording_low;
-    own_low = sets.own_low;
-    previous_own_low = sets.previous_own_low;
-    source_changes_low = sets.source_changes_low;
-    target_changes_low = sets.target_changes_low;
-    blank_low = sets.blank_low;
-  };
-  primary = λ absent.
-      let none : NoPrimary f = lawful.primary absent in
-      (none.0, none.1, refl, refl, if-off f.coordination false f.recording none.2 ∙ none.4, if-off f.coordination _ f.out_of_sync none.2 ∙ none.5, if-off f.coordination _ f.change_recording none.2 ∙ none.6);
-  secondary = lawful.secondary;
-  relation = lawful.relation;
-}
-
--- nor does it record
-pub not-engaged : (f : Fields) → NoPrimary f → is_engaged f ≡ false
-not-engaged f none = ap (λ r. r || f.coordination) none.4 ∙ none.2
-
-pub restarted-lawful : (n : ℕ) (f : Fields) → IsLawful n f → IsLawful n (restarted f)
-restarted-lawful n f lawful = let sets : HasSets n f = lawful.sets in record {
-  sets = record {
-    out_of_sync_low = low-if (is_engaged f) n _ _ (low-union n f.out_of_sync f.change_recording sets.out_of_sync_low sets.change_recording_low) sets.out_of_sync_low;
-    change_recording_low = low-if (is_engaged f) n _ _ (low-empty n) sets.change_recording_low;
-    own_low = sets.own_low;
-    previous_own_low = sets.previous_own_low;
-    source_changes_low = sets.source_changes_low;
-    target_changes_low = sets.target_changes_low;
-    blank_low = sets.blank_low;
-  };
-  primary = λ absent.
-      let none : NoPrimary f = lawful.primary absent in
-      (if-same (is_torn f) f.primary_state none.0, none.1, refl, none.3, refl, if-off (is_engaged f) _ f.out_of_sync (not-engaged f none) ∙ none.5, if-off (is_engaged f) _ f.change_recording (not-engaged f none) ∙ none.6);
-  secondary = lawful.secondary;
-  relation = lawful.relation;
-}
-  where
-    if-same : (b : Bool) (s : PairState) → s ≡ CopyPending → (if b then CopyPending else s) ≡ CopyPending
-    if-same true s is = refl
-    if-same false s is = is
-
-module _ (s : PlantState) (t : Table) (v : ℕ) (fit : RelationsFit s t) (lawful : IsLawful (volume_seen s t v).tracks (volume_seen s t v).fields) where
+module _ (s : PlantState) (t : ConfigTable) (v : ℕ) (fit : RelationsFit s t) (lawful : IsLawful (volume_seen s t v).tracks (volume_seen s t v).fields) where
   abbrev x : Volume
   x = volume_seen s t v
 
   pub lift-fits : MoveFits s t v (fields_left (Lift v) x) None
   lift-fits = record {
-    lawful = lifted-lawful x.tracks x.fields lawful;
+    lawful = lawful-lifted x.tracks x.fields lawful;
     covers = covers-all x.fields.blank None;
     leaves = fit-kept s t v (lifted x.fields) fit (λ r. (r, refl)) (fit.apart v);
   }
@@ -120,19 +75,10 @@ tells-lift v x = record { done = refl; in_stop = refl; landed = refl; settles = 
 pub tells-restart : (v : ℕ) (x : Volume) → Tells (Restart v) x (record { done = Nothing; in_stop = Nothing; landed = 0 })
 tells-restart v x = record { done = refl; in_stop = refl; landed = refl; settles = λ ps. refl; settles_in_stop = λ ps. refl }
 
-same_id : (a b : ℕ) → nat_eq a b ≡ nat_eq b a
-same_id a b = grind (arith, nat_tests)
-
-any_id : (es : List VolumeEntry) (v : ℕ) → list_any (nat_eq v) (ids_of es) ≡ is_some (find (λ (e : VolumeEntry). e.id == v) es)
-any_id [] v = refl
-any_id (e ∷ es) v =
-    ap (λ b. b || list_any (nat_eq v) (ids_of es)) (same_id v e.id)
-    ∙ elim (nat_eq e.id v) as (λ b. (b || list_any (nat_eq v) (ids_of es)) ≡ is_some (cond b (Some e) (find (λ (e : VolumeEntry). e.id == v) es))) [ true ↦ refl | false ↦ any_id es v ]
-
 -- a volume that the configuration has belongs to its server
-module _ (s : PlantState) (t : Table) (r : Rest) (events : List Event) (v : ℕ) (defined : is_some (place_of t v) ≡ true) where
+module _ (s : PlantState) (t : ConfigTable) (r : Rest) (events : List Event) (v : ℕ) (defined : is_some (place_of t v) ≡ true) where
   abbrev w : World
-  w = seen s t r events
+  w = world_seen s t r events
 
   abbrev server : ℕ
   server = (volume_seen s t v).server
@@ -163,16 +109,10 @@ module _ (s : PlantState) (t : Table) (r : Rest) (events : List Event) (v : ℕ)
 pub one-skipped : (armed : ℕ → Bool) (w : World) (d : Entry) → Advances w d w → Ends armed w None w (d ∷ [])
 one-skipped armed w d go = go armed w None [] (ends-none armed w None w (record { world = refl; refusal = refl }))
 
-pub advances-alike : (w v : World) (d e : Entry) → d w.control ≡ e w.control → Advances w e v → Advances w d v
-advances-alike w v d e same go armed u r ds more = ends-alike armed u r w d e ds same (go armed u r ds more)
-
-pub halts-alike : (armed : ℕ → Bool) (w u : World) (r : Option Refusal) (d e : Entry) → d w.control ≡ e w.control → Halts armed w e u r → Halts armed w d u r
-halts-alike armed w u r d e same end ds = ends-alike armed u r w d e ds same (end ds)
-
 -- A move that tells nothing, from the update of its volume: done, or stopped; or its server went off at a read before it.
-module _ (s s' : PlantState) (t : Table) (r : Rest) (events : List Event) (v : ℕ) (ready : StandsReady s t v) where
+module _ (s s' : PlantState) (t : ConfigTable) (r : Rest) (events : List Event) (v : ℕ) (ready : StandsReady s t v) where
   abbrev before : World
-  before = seen s t r events
+  before = world_seen s t r events
 
   abbrev y : Volume
   y = volume_seen s t v
@@ -193,22 +133,22 @@ module _ (s s' : PlantState) (t : Table) (r : Rest) (events : List Event) (v : �
   silent : (u : World) → record u { events = u.events ++ [] } ≡ u
   silent u i = record u { events = append-nil u.events i }
 
-  pub went-on : EndsAs (seen s' t r events) false (after_reading s y.server before e) → Advances before (now (Restart v)) (seen s' t r events)
-  went-on ends = elim (split s before (seen s' t r events) false e server-low ends) [
-    | inl is ↦ advances before (Restart v) quiet (restarted y.fields) None (on-running s y.server ready.running) (tells-restart v y) refl refl (seen s' t r events)
-        (made-goes (seen s' t r events) e y.server quiet events is (sym (append-nil events)))
+  pub went-on : EndsAs (world_seen s' t r events) false (after_reading s y.server before e) → Advances before (now (Restart v)) (world_seen s' t r events)
+  went-on ends = elim (split s before (world_seen s' t r events) false e server-low ends) [
+    | inl is ↦ advances before (Restart v) quiet (restarted y.fields) None (on-running s y.server ready.running) (tells-restart v y) refl refl (world_seen s' t r events)
+        (made-goes (world_seen s' t r events) e y.server quiet events is (sym (append-nil events)))
     | inr gone ↦ absurd (let no : false ≡ true = gone.answer in cc)
   ]
 
-  pub came-off : (now' : List Event) (why : Option Refusal) → EndsAs (seen s' t r events) true (after_reading s y.server before e) → now' ≡ events ++ Stopped y.server 0 ∷ [] → why ≡ Some (stopped y.server) → Halts (armed_in s) before (now (Restart v)) (seen s' t r now') why
-  came-off now' why ends told is = elim (split s before (seen s' t r events) true e server-low ends) [
-    | inl at ↦ halts before (Restart v) quiet (restarted y.fields) None (on-running s y.server ready.running) (tells-restart v y) refl refl (armed_in s) (seen s' t r now') why is
-        (inr (made-stops (seen s' t r events) e y.server quiet e.done now' at refl (told ∙ ap (λ es. events ++ es) (sym (told-stop e.done)))))
-    | inr gone ↦ halts-gone (armed_in s) before (seen s' t r now') why (now (Restart v)) (record {
+  pub came-off : (now' : List Event) (why : Option Refusal) → EndsAs (world_seen s' t r events) true (after_reading s y.server before e) → now' ≡ events ++ Stopped y.server 0 ∷ [] → why ≡ Some (stopped y.server) → Halts (armed_in s) before (now (Restart v)) (world_seen s' t r now') why
+  came-off now' why ends told is = elim (split s before (world_seen s' t r events) true e server-low ends) [
+    | inl at ↦ halts before (Restart v) quiet (restarted y.fields) None (on-running s y.server ready.running) (tells-restart v y) refl refl (armed_in s) (world_seen s' t r now') why is
+        (inr (made-stops (world_seen s' t r events) e y.server quiet e.done now' at refl (told ∙ ap (λ es. events ++ es) (sym (told-stop e.done)))))
+    | inr gone ↦ halts-gone (armed_in s) before (world_seen s' t r now') why (now (Restart v)) (record {
       server = y.server;
       on = on-running s y.server ready.running;
       is_armed = gone.is_armed;
-      world = ap (seen s' t r) told ∙ ap (λ (u : World). record u { events = events ++ Stopped y.server 0 ∷ [] }) gone.world;
+      world = ap (world_seen s' t r) told ∙ ap (λ (u : World). record u { events = events ++ Stopped y.server 0 ∷ [] }) gone.world;
       refusal = is;
     })
   ]

@@ -1,7 +1,7 @@
 -- Moves that an attempt makes of a volume: what each is to the machine, what it leaves, and what it tells.
 use Rattle.std.specs.Prelude.{ℕ, Bool, true, not, ◌&&◌, if◌then◌else◌}
 use Rattle.dr_plant.specs.State.{PlantState}
-use Rattle.dr_config.specs.Table.{Table}
+use Rattle.dr_config.specs.Table.{ConfigTable}
 use Rattle.dr_model.specs.declared.event.Event.TheVariants.{Begin, Cut, Sealed, Left}
 use Rattle.dr_model.specs.Layout.{Fields, is_part}
 use Rattle.dr_model.specs.Sessions.{changed, begun}
@@ -15,6 +15,7 @@ use Rattle.dr_flash.specs.declared.told.Told.TheVariants.{Nothing, One, Two}
 use Rattle.dr_coord.specs.declared.changes.Change.{Change}
 use Rattle.dr_coord.specs.declared.changes.Change.TheVariants as change
 
+-- the move of the machine that a change is
 abbrev pub move_of : ℕ → Change → Move
 move_of v (change.Hold s n first) = Hold v s.0 n first
 move_of v change.Free = Free v
@@ -30,6 +31,7 @@ may_change (change.Hold s n first) f = is_part f.primary
 may_change (change.Seal u s n) f = is_part f.secondary
 may_change _ f = true
 
+-- the fields that it leaves
 abbrev pub next_of : Change → Fields → Fields
 next_of (change.Hold s n first) f = held_for n f
 next_of change.Free f = freed f
@@ -39,6 +41,7 @@ next_of (change.RaiseAttempt n) f = with_attempt n f
 next_of (change.RaiseFloor n) f = with_floor n f
 next_of (change.Leave u s) f = no_member f
 
+-- what the journal is told of it
 abbrev pub told_of : ℕ → Change → Told
 told_of v (change.Hold s n first) = if first then Two (Begin s.0 n) (Cut s.0 n v) else One (Cut s.0 n v)
 told_of v change.Free = Nothing
@@ -60,13 +63,15 @@ count_of (change.Leave u s) = 1
 
 -- The sessions after a hold of v from s to u: where it was an attempt's first one and counts as done, so that the other slot of
 -- v is chosen, the session's attempt has begun.
-abbrev pub begins : Bool → PlantState → PlantState → Table → ℕ → Bool
+abbrev pub begins : Bool → PlantState → PlantState → ConfigTable → ℕ → Bool
 begins first s u t v = first && not (equal (volume_seen s t v).slot (volume_seen u t v).slot)
 
+-- a session whose attempt has begun, if it has
 abbrev pub begun_if : Bool → ℕ → Rest → Rest
 begun_if b session r = if b then record r { sessions = changed session begun r.sessions } else r
 
-abbrev pub rest_after : Bool → PlantState → PlantState → Table → ℕ → ℕ → Rest → Rest
+-- the rest of a run after a change, which may be the first hold of an attempt
+abbrev pub rest_after : Bool → PlantState → PlantState → ConfigTable → ℕ → ℕ → Rest → Rest
 rest_after first s u t v session r = begun_if (begins first s u t v) session r
 
 -- what a void of v does: where v records or is held, it does so no more, and its attempt stays

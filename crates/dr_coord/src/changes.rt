@@ -1,6 +1,7 @@
 //! Moves of a volume that an attempt makes: one function for all of them.
 
 ghost use Rattle.std.specs.Prelude.{◌≡◌, ℕ, ◌≤◌, ◌+◌, true, length, None, Some, IsSome, OnOk, OnErr, is_err, ◌⊎◌};
+ghost use Rattle.dr_logic.specs.Counts.{Counted};
 ghost use Rattle.dr_config.specs.Table.{place_of};
 ghost use Rattle.dr_model.specs.Carry as machine;
 ghost use Rattle.dr_model.specs.ReadStops.{GoesOff};
@@ -8,9 +9,8 @@ ghost use Rattle.dr_model.specs.Refusals.{stopped};
 ghost use Rattle.dr_volume.specs.Plain.{plain};
 ghost use Rattle.dr_volume.specs.Update.{IsMoved, OthersStay};
 ghost use Rattle.dr_volume.specs.View.{Rest, volume_seen};
-ghost use Rattle.dr_flash.specs.Faults.{Counted};
 ghost use Rattle.dr_flash.specs.Fit.{RelationsFit};
-ghost use Rattle.dr_flash.specs.Here.{seen, refusal_of, armed_in, IsAtRest};
+ghost use Rattle.dr_flash.specs.Here.{world_seen, refusal_of, armed_in, IsAtRest};
 ghost use Rattle.dr_coord.specs.Aside.{AsideFits};
 ghost use Rattle.dr_coord.specs.declared.changes.Change.TheVariants as change;
 ghost use Rattle.dr_coord.specs.Changes.{move_of, may_change, next_of, told_of, count_of};
@@ -135,9 +135,9 @@ pub fn make_change<P: Plant>(
     requires running { (P.state p.old).on (volume_seen (P.state p.old) c.now v.0).server ≡ true }
     requires part { may_change x (volume_seen (P.state p.old) c.now v.0).fields ≡ true }
     requires room { count_of x + 1 ≤ j.old.spare }
-    ensures done { OnOk result ((r : Rest) → machine.turn (seen (P.state p.old) c.now r j.old.events) (move_of v.0 x) ≡ (seen (P.state p.new) c.now r j.new.events, None)) }
-    ensures failed { OnErr result ((r : Rest) → GoesOff (armed_in (P.state p.old)) (seen (P.state p.new) c.now r j.new.events) (refusal_of result) (seen (P.state p.old) c.now r j.old.events)
-        ⊎ (machine.turn (seen (P.state p.old) c.now r j.old.events) (move_of v.0 x) ≡ (seen (P.state p.new) c.now r j.new.events, Some (volume_seen (P.state p.old) c.now v.0).server))) }
+    ensures done { OnOk result ((r : Rest) → machine.turn (world_seen (P.state p.old) c.now r j.old.events) (move_of v.0 x) ≡ (world_seen (P.state p.new) c.now r j.new.events, None)) }
+    ensures failed { OnErr result ((r : Rest) → GoesOff (armed_in (P.state p.old)) (world_seen (P.state p.new) c.now r j.new.events) (refusal_of result) (world_seen (P.state p.old) c.now r j.old.events)
+        ⊎ (machine.turn (world_seen (P.state p.old) c.now r j.old.events) (move_of v.0 x) ≡ (world_seen (P.state p.new) c.now r j.new.events, Some (volume_seen (P.state p.old) c.now v.0).server))) }
     ensures refused { OnErr result (refusal_of result ≡ Some (stopped (volume_seen (P.state p.old) c.now v.0).server)) }
     ensures rest { IsAtRest (P.state p.new) c.now }
     ensures fit { RelationsFit (P.state p.new) c.now }

@@ -11,7 +11,7 @@ ghost use Rattle.dr_model.specs.SessionEntries as entries;
 ghost use Rattle.dr_volume.specs.Plain.{plain};
 ghost use Rattle.dr_volume.specs.View.{Rest, volume_seen};
 ghost use Rattle.dr_flash.specs.Checks.{OnNone, is_stop};
-ghost use Rattle.dr_flash.specs.Here.{seen};
+ghost use Rattle.dr_flash.specs.Here.{world_seen};
 
 use crate::fields::{may_hold, records};
 use dr_config::Config;
@@ -24,7 +24,7 @@ use dr_volume::{Fields, peek_fields};
 fn pair_refusal<P: Plant>(p: &P, c: &Config, a: VolumeId, b: VolumeId) -> Option<Refusal>
     requires stands { StandsFor c.now (P.state p.now) }
     requires defined { IsSome (place_of c.now a.0) }
-    ensures refusal { (r : Rest) (events : List Event) → result ≡ entries.hold_refusal a.0 b.0 (seen (P.state p.now) c.now r events).control }
+    ensures refusal { (r : Rest) (events : List Event) → result ≡ entries.hold_refusal a.0 b.0 (world_seen (P.state p.now) c.now r events).control }
     ensures part { OnNone result (layout.is_part (volume_seen (P.state p.now) c.now a.0).fields.primary ≡ true) }
     ensures calm { is_stop result ≡ false }
 {
@@ -58,7 +58,7 @@ pub(crate) fn hold_refusal<P: Plant>(
 ) -> Option<Refusal>
     requires stands { StandsFor c.now (P.state p.now) }
     requires defined { IsSome (place_of c.now a.0) }
-    ensures refusal { (r : Rest) (events : List Event) → result ≡ option_or (entries.hold_refusal a.0 b.0 (seen (P.state p.now) c.now r events).control) (entries.stale_refusal a.0 n (seen (P.state p.now) c.now r events).control) }
+    ensures refusal { (r : Rest) (events : List Event) → result ≡ option_or (entries.hold_refusal a.0 b.0 (world_seen (P.state p.now) c.now r events).control) (entries.stale_refusal a.0 n (world_seen (P.state p.now) c.now r events).control) }
     ensures part { OnNone result (layout.is_part (volume_seen (P.state p.now) c.now a.0).fields.primary ≡ true) }
     ensures calm { is_stop result ≡ false }
 {
@@ -72,7 +72,7 @@ pub(crate) fn hold_refusal<P: Plant>(
 pub fn void_refusal<P: Plant>(p: &P, c: &Config, a: VolumeId, n: u32) -> Option<Refusal>
     requires stands { StandsFor c.now (P.state p.now) }
     requires defined { IsSome (place_of c.now a.0) }
-    ensures refusal { (r : Rest) (events : List Event) → result ≡ entries.void_refusal a.0 n (seen (P.state p.now) c.now r events).control }
+    ensures refusal { (r : Rest) (events : List Event) → result ≡ entries.void_refusal a.0 n (world_seen (P.state p.now) c.now r events).control }
     ensures calm { is_stop result ≡ false }
 {
     if !records(n, &peek_fields(p, c, a)) {

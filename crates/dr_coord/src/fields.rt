@@ -9,10 +9,9 @@ ghost use Rattle.dr_model.specs.declared.state.PairState.TheVariants.{CopyPendin
 ghost use Rattle.dr_volume.specs.Plain.{plain};
 
 use dr_bits::TrackSet;
-use dr_flash::is_part;
-use dr_gcopy::{is_metro, voided};
+use dr_gcopy::voided;
 use dr_ids::VolumeId;
-use dr_model::{PairState, Part};
+use dr_model::PairState;
 use dr_volume::Fields;
 
 /// The tracks that are out of sync after a coordination hold, where there was one, ended with a void.
@@ -58,21 +57,11 @@ pub(crate) fn lifted(f: &Fields) -> Fields
     }
 }
 
-/// Whether a pair is Full Duplex.
-fn is_full_duplex(state: PairState) -> bool
-    ensures { result ≡ pairs.is_full_duplex state }
-{
-    match state {
-        PairState::FullDuplex => true,
-        PairState::CopyPending | PairState::Suspended => false,
-    }
-}
-
 /// Whether a stop within a host write left a Metro Mirror pair Full Duplex with a track out of sync.
 fn is_torn(f: &Fields) -> bool
     ensures { result ≡ pairs.is_torn (plain f.now) }
 {
-    is_metro(f.primary) && (is_full_duplex(f.primary_state) && f.out_of_sync.len() != 0)
+    f.primary.is_metro() && (f.primary_state.is_full_duplex() && f.out_of_sync.len() != 0)
 }
 
 /// Whether a volume records, or is held by coordination.
@@ -110,33 +99,13 @@ pub(crate) fn restarted(f: &Fields) -> Fields
     }
 }
 
-/// Whether a part is that of a Global Copy pair.
-fn is_global(part: Part) -> bool
-    ensures { result ≡ pairs.is_kind Global part }
-{
-    match part {
-        Part::Global => true,
-        Part::Absent | Part::Metro => false,
-    }
-}
-
-/// Whether a pair is in Copy Pending.
-fn is_pending(state: PairState) -> bool
-    ensures { result ≡ pairs.is_pending state }
-{
-    match state {
-        PairState::CopyPending => true,
-        PairState::FullDuplex | PairState::Suspended => false,
-    }
-}
-
 /// Whether a volume with these fields is a Global Copy primary of `b` in Copy Pending.
 pub(crate) fn may_hold(f: &Fields, b: VolumeId) -> bool
     ensures { result ≡ (pairs.is_primary_of b.0 (plain f.now) && (pairs.is_kind Global f.now.primary && pairs.is_pending f.now.primary_state)) }
 {
-    is_part(f.primary)
+    f.primary.is_part()
         && f.primary_partner.0 == b.0
-        && (is_global(f.primary) && is_pending(f.primary_state))
+        && (f.primary.is_global() && f.primary_state.is_pending())
 }
 
 /// Whether a volume with these fields records attempt n.

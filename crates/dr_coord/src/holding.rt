@@ -1,6 +1,7 @@
 //! A primary is held for an attempt, and let go.
 
 ghost use Rattle.std.specs.Prelude.{◌≡◌, ℕ, ◌≤◌, ◌+◌, true, false, [], ◌∷◌, length, nat_lt, None, Some, IsSome, OnOk, OnErr, is_err, if◌then◌else◌};
+ghost use Rattle.dr_logic.specs.Counts.{Counted};
 ghost use Rattle.dr_config.specs.Table.{place_of};
 ghost use Rattle.dr_model.specs.Layout.{is_part};
 ghost use Rattle.dr_model.specs.ReadStops.{Ends};
@@ -10,9 +11,8 @@ ghost use Rattle.dr_model.specs.SessionEntries.{last_of, hold_on, hold_entries, 
 ghost use Rattle.dr_volume.specs.Update.{OthersStay};
 ghost use Rattle.dr_volume.specs.View.{Rest, volume_seen};
 ghost use Rattle.dr_flash.specs.Checks.{is_stop};
-ghost use Rattle.dr_flash.specs.Faults.{Counted};
 ghost use Rattle.dr_flash.specs.Fit.{RelationsFit};
-ghost use Rattle.dr_flash.specs.Here.{seen, refusal_of, armed_in, IsAtRest};
+ghost use Rattle.dr_flash.specs.Here.{world_seen, refusal_of, armed_in, IsAtRest};
 ghost use Rattle.dr_flash.specs.Turns.{Advances, Halts, Leads, Fails};
 ghost use Rattle.dr_coord.specs.Aside.{AsideFits};
 ghost use Rattle.dr_coord.specs.Changes.{begins, rest_after};
@@ -42,10 +42,10 @@ fn hold<P: Plant>(
     requires running { (P.state p.old).on (volume_seen (P.state p.old) c.now a.0).server ≡ true }
     requires part { is_part (volume_seen (P.state p.old) c.now a.0).fields.primary ≡ true }
     requires room { (if first then 3 else 2) ≤ j.old.spare }
-    ensures advances { OnOk result ((r : Rest) → nat_lt (last_of (seen (P.state p.old) c.now r j.old.events).control s.0) n ≡ first
-        → Advances (seen (P.state p.old) c.now r j.old.events) (hold_on s.0 a.0 n) (seen (P.state p.new) c.now (rest_after first (P.state p.old) (P.state p.new) c.now a.0 s.0 r) j.new.events)) }
-    ensures halts { OnErr result ((r : Rest) → nat_lt (last_of (seen (P.state p.old) c.now r j.old.events).control s.0) n ≡ first
-        → Halts (armed_in (P.state p.old)) (seen (P.state p.old) c.now r j.old.events) (hold_on s.0 a.0 n) (seen (P.state p.new) c.now (rest_after first (P.state p.old) (P.state p.new) c.now a.0 s.0 r) j.new.events) (refusal_of result)) }
+    ensures advances { OnOk result ((r : Rest) → nat_lt (last_of (world_seen (P.state p.old) c.now r j.old.events).control s.0) n ≡ first
+        → Advances (world_seen (P.state p.old) c.now r j.old.events) (hold_on s.0 a.0 n) (world_seen (P.state p.new) c.now (rest_after first (P.state p.old) (P.state p.new) c.now a.0 s.0 r) j.new.events)) }
+    ensures halts { OnErr result ((r : Rest) → nat_lt (last_of (world_seen (P.state p.old) c.now r j.old.events).control s.0) n ≡ first
+        → Halts (armed_in (P.state p.old)) (world_seen (P.state p.old) c.now r j.old.events) (hold_on s.0 a.0 n) (world_seen (P.state p.new) c.now (rest_after first (P.state p.old) (P.state p.new) c.now a.0 s.0 r) j.new.events) (refusal_of result)) }
     ensures refused { OnErr result (refusal_of result ≡ Some (stopped (volume_seen (P.state p.old) c.now a.0).server)) }
     ensures rest { IsAtRest (P.state p.new) c.now }
     ensures fit { RelationsFit (P.state p.new) c.now }
@@ -91,12 +91,12 @@ pub fn hold_and_swap<P: Plant>(
     requires defined { IsSome (place_of c.now m.now.a.0) }
     requires running { (P.state p.old).on (volume_seen (P.state p.old) c.now m.now.a.0).server ≡ true }
     requires room { (if first then 3 else 2) ≤ j.old.spare }
-    ensures carried { (r : Rest) → nat_lt (last_of (seen (P.state p.old) c.now r j.old.events).control s.0) n ≡ first
-        → Ends (armed_in (P.state p.old)) (seen (P.state p.new) c.now (rest_after first (P.state p.old) (P.state p.new) c.now m.now.a.0 s.0 r) j.new.events) (refusal_of result) (seen (P.state p.old) c.now r j.old.events) (hold_entries s.0 m.now.a.0 m.now.b.0 n) }
-    ensures leads { OnOk result ((r : Rest) → nat_lt (last_of (seen (P.state p.old) c.now r j.old.events).control s.0) n ≡ first
-        → Leads (seen (P.state p.old) c.now r j.old.events) (hold_entries s.0 m.now.a.0 m.now.b.0 n) (seen (P.state p.new) c.now (rest_after first (P.state p.old) (P.state p.new) c.now m.now.a.0 s.0 r) j.new.events)) }
-    ensures fails { OnErr result ((r : Rest) → nat_lt (last_of (seen (P.state p.old) c.now r j.old.events).control s.0) n ≡ first
-        → Fails (armed_in (P.state p.old)) (seen (P.state p.old) c.now r j.old.events) (hold_entries s.0 m.now.a.0 m.now.b.0 n) (seen (P.state p.new) c.now (rest_after first (P.state p.old) (P.state p.new) c.now m.now.a.0 s.0 r) j.new.events) (refusal_of result)) }
+    ensures carried { (r : Rest) → nat_lt (last_of (world_seen (P.state p.old) c.now r j.old.events).control s.0) n ≡ first
+        → Ends (armed_in (P.state p.old)) (world_seen (P.state p.new) c.now (rest_after first (P.state p.old) (P.state p.new) c.now m.now.a.0 s.0 r) j.new.events) (refusal_of result) (world_seen (P.state p.old) c.now r j.old.events) (hold_entries s.0 m.now.a.0 m.now.b.0 n) }
+    ensures leads { OnOk result ((r : Rest) → nat_lt (last_of (world_seen (P.state p.old) c.now r j.old.events).control s.0) n ≡ first
+        → Leads (world_seen (P.state p.old) c.now r j.old.events) (hold_entries s.0 m.now.a.0 m.now.b.0 n) (world_seen (P.state p.new) c.now (rest_after first (P.state p.old) (P.state p.new) c.now m.now.a.0 s.0 r) j.new.events)) }
+    ensures fails { OnErr result ((r : Rest) → nat_lt (last_of (world_seen (P.state p.old) c.now r j.old.events).control s.0) n ≡ first
+        → Fails (armed_in (P.state p.old)) (world_seen (P.state p.old) c.now r j.old.events) (hold_entries s.0 m.now.a.0 m.now.b.0 n) (world_seen (P.state p.new) c.now (rest_after first (P.state p.old) (P.state p.new) c.now m.now.a.0 s.0 r) j.new.events) (refusal_of result)) }
     ensures unchanged { is_stop (refusal_of result) ≡ false → OnErr result ((P.state p.new ≡ P.state p.old) × (j.new ≡ j.old)) }
     ensures rest { IsAtRest (P.state p.new) c.now }
     ensures fit { RelationsFit (P.state p.new) c.now }
@@ -123,8 +123,8 @@ fn free<P: Plant>(p: &mut P, c: &Config, j: &mut Journal, a: VolumeId) -> Result
     requires defined { IsSome (place_of c.now a.0) }
     requires running { (P.state p.old).on (volume_seen (P.state p.old) c.now a.0).server ≡ true }
     requires room { 1 ≤ j.old.spare }
-    ensures advances { OnOk result ((r : Rest) → Advances (seen (P.state p.old) c.now r j.old.events) (free_on a.0) (seen (P.state p.new) c.now r j.new.events)) }
-    ensures halts { OnErr result ((r : Rest) → Halts (armed_in (P.state p.old)) (seen (P.state p.old) c.now r j.old.events) (free_on a.0) (seen (P.state p.new) c.now r j.new.events) (refusal_of result)) }
+    ensures advances { OnOk result ((r : Rest) → Advances (world_seen (P.state p.old) c.now r j.old.events) (free_on a.0) (world_seen (P.state p.new) c.now r j.new.events)) }
+    ensures halts { OnErr result ((r : Rest) → Halts (armed_in (P.state p.old)) (world_seen (P.state p.old) c.now r j.old.events) (free_on a.0) (world_seen (P.state p.new) c.now r j.new.events) (refusal_of result)) }
     ensures refused { OnErr result (refusal_of result ≡ Some (stopped (volume_seen (P.state p.old) c.now a.0).server)) }
     ensures rest { IsAtRest (P.state p.new) c.now }
     ensures fit { RelationsFit (P.state p.new) c.now }
@@ -158,9 +158,9 @@ pub fn release<P: Plant>(
     requires defined { IsSome (place_of c.now m.now.a.0) }
     requires running { (P.state p.old).on (volume_seen (P.state p.old) c.now m.now.a.0).server ≡ true }
     requires room { 1 ≤ j.old.spare }
-    ensures carried { (r : Rest) → Ends (armed_in (P.state p.old)) (seen (P.state p.new) c.now r j.new.events) (refusal_of result) (seen (P.state p.old) c.now r j.old.events) (release_entries m.now.a.0 n) }
-    ensures leads { OnOk result ((r : Rest) → Leads (seen (P.state p.old) c.now r j.old.events) (release_entries m.now.a.0 n) (seen (P.state p.new) c.now r j.new.events)) }
-    ensures fails { OnErr result ((r : Rest) → Fails (armed_in (P.state p.old)) (seen (P.state p.old) c.now r j.old.events) (release_entries m.now.a.0 n) (seen (P.state p.new) c.now r j.new.events) (refusal_of result)) }
+    ensures carried { (r : Rest) → Ends (armed_in (P.state p.old)) (world_seen (P.state p.new) c.now r j.new.events) (refusal_of result) (world_seen (P.state p.old) c.now r j.old.events) (release_entries m.now.a.0 n) }
+    ensures leads { OnOk result ((r : Rest) → Leads (world_seen (P.state p.old) c.now r j.old.events) (release_entries m.now.a.0 n) (world_seen (P.state p.new) c.now r j.new.events)) }
+    ensures fails { OnErr result ((r : Rest) → Fails (armed_in (P.state p.old)) (world_seen (P.state p.old) c.now r j.old.events) (release_entries m.now.a.0 n) (world_seen (P.state p.new) c.now r j.new.events) (refusal_of result)) }
     ensures unchanged { is_stop (refusal_of result) ≡ false → OnErr result ((P.state p.new ≡ P.state p.old) × (j.new ≡ j.old)) }
     ensures rest { IsAtRest (P.state p.new) c.now }
     ensures fit { RelationsFit (P.state p.new) c.now }

@@ -1,6 +1,7 @@
 //! A volume goes on as its server starts.
 
 ghost use Rattle.std.specs.Prelude.{◌≡◌, ℕ, ◌≤◌, ◌+◌, false, true, length, None, Some, OnOk, OnErr, is_err};
+ghost use Rattle.dr_logic.specs.Counts.{Counted};
 ghost use Rattle.dr_config.specs.Table.{StandsFor};
 ghost use Rattle.dr_model.specs.Carry.{now};
 ghost use Rattle.dr_model.specs.Moves.{Restart};
@@ -8,8 +9,7 @@ ghost use Rattle.dr_model.specs.Refusals.{stopped};
 ghost use Rattle.dr_model.specs.WriteEntries.{restart_on};
 ghost use Rattle.dr_volume.specs.Update.{OthersStay};
 ghost use Rattle.dr_volume.specs.View.{Rest, volume_seen, IsSettled};
-ghost use Rattle.dr_flash.specs.Faults.{Counted};
-ghost use Rattle.dr_flash.specs.Here.{seen, refusal_of, armed_in};
+ghost use Rattle.dr_flash.specs.Here.{world_seen, refusal_of, armed_in};
 ghost use Rattle.dr_flash.specs.Turns.{Advances, Halts};
 ghost use Rattle.dr_coord.specs.Standing.{StandsReady};
 
@@ -25,8 +25,8 @@ use dr_volume::{peek_fields, update};
 fn go_on<P: Plant>(p: &mut P, c: &Config, j: &mut Journal, v: VolumeId) -> Result<(), Refusal>
     requires ready { StandsReady (P.state p.old) c.now v.0 }
     requires room { 1 ≤ j.old.spare }
-    ensures advances { OnOk result ((r : Rest) → Advances (seen (P.state p.old) c.now r j.old.events) (now (Restart v.0)) (seen (P.state p.new) c.now r j.new.events)) }
-    ensures halts { OnErr result ((r : Rest) → Halts (armed_in (P.state p.old)) (seen (P.state p.old) c.now r j.old.events) (now (Restart v.0)) (seen (P.state p.new) c.now r j.new.events) (refusal_of result)) }
+    ensures advances { OnOk result ((r : Rest) → Advances (world_seen (P.state p.old) c.now r j.old.events) (now (Restart v.0)) (world_seen (P.state p.new) c.now r j.new.events)) }
+    ensures halts { OnErr result ((r : Rest) → Halts (armed_in (P.state p.old)) (world_seen (P.state p.old) c.now r j.old.events) (now (Restart v.0)) (world_seen (P.state p.new) c.now r j.new.events) (refusal_of result)) }
     ensures refused { OnErr result (refusal_of result ≡ Some (stopped (volume_seen (P.state p.old) c.now v.0).server)) }
     ensures server { (volume_seen (P.state p.new) c.now v.0).server ≡ (volume_seen (P.state p.old) c.now v.0).server }
     ensures size { (volume_seen (P.state p.new) c.now v.0).tracks ≡ (volume_seen (P.state p.old) c.now v.0).tracks }
@@ -62,8 +62,8 @@ fn go_on<P: Plant>(p: &mut P, c: &Config, j: &mut Journal, v: VolumeId) -> Resul
 pub fn restart<P: Plant>(p: &mut P, c: &Config, j: &mut Journal, v: VolumeId) -> Result<(), Refusal>
     requires ready { StandsReady (P.state p.old) c.now v.0 }
     requires room { 1 ≤ j.old.spare }
-    ensures advances { OnOk result ((r : Rest) → Advances (seen (P.state p.old) c.now r j.old.events) (restart_on (volume_seen (P.state p.old) c.now v.0).server v.0) (seen (P.state p.new) c.now r j.new.events)) }
-    ensures halts { OnErr result ((r : Rest) → Halts (armed_in (P.state p.old)) (seen (P.state p.old) c.now r j.old.events) (restart_on (volume_seen (P.state p.old) c.now v.0).server v.0) (seen (P.state p.new) c.now r j.new.events) (refusal_of result)) }
+    ensures advances { OnOk result ((r : Rest) → Advances (world_seen (P.state p.old) c.now r j.old.events) (restart_on (volume_seen (P.state p.old) c.now v.0).server v.0) (world_seen (P.state p.new) c.now r j.new.events)) }
+    ensures halts { OnErr result ((r : Rest) → Halts (armed_in (P.state p.old)) (world_seen (P.state p.old) c.now r j.old.events) (restart_on (volume_seen (P.state p.old) c.now v.0).server v.0) (world_seen (P.state p.new) c.now r j.new.events) (refusal_of result)) }
     ensures refused { OnErr result (refusal_of result ≡ Some (stopped (volume_seen (P.state p.old) c.now v.0).server)) }
     ensures server { (volume_seen (P.state p.new) c.now v.0).server ≡ (volume_seen (P.state p.old) c.now v.0).server }
     ensures size { (volume_seen (P.state p.new) c.now v.0).tracks ≡ (volume_seen (P.state p.old) c.now v.0).tracks }

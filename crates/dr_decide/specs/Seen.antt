@@ -4,10 +4,11 @@ use Rattle.dr_model.specs.Decisions as known
 use Rattle.dr_decide.specs.declared.numbers.Numbers.{Numbers}
 use Rattle.dr_decide.specs.declared.numbers.Numbers.TheVariants.{NoNumber, Same, Differ}
 
-abbrev pub seen : Numbers → known.Numbers
-seen NoNumber = known.NoNumber
-seen (Same n) = known.Same n
-seen (Differ a b) = known.Differ a b
+-- the numbers of the code as the model has them
+abbrev pub numbers_seen : Numbers → known.Numbers
+numbers_seen NoNumber = known.NoNumber
+numbers_seen (Same n) = known.Same n
+numbers_seen (Differ a b) = known.Differ a b
 
 -- these numbers and one more
 abbrev pub with_number : known.Numbers → ℕ → known.Numbers

@@ -1,6 +1,6 @@
 ghost use Rattle.std.specs.Prelude.{◌≡◌, ◌≤◌, length};
 ghost use Rattle.dr_model.specs.Decisions.{decision, decided, shown_by};
-ghost use Rattle.dr_decide.specs.Seen.{seen};
+ghost use Rattle.dr_decide.specs.Seen.{numbers_seen};
 
 use crate::numbers::Numbers;
 use dr_ids::Decision;
@@ -32,7 +32,7 @@ pub fn decide(seqs: &[u32], revertible: &[bool]) -> Decision
 // The decision by the numbers of the revertible members and those of the others.
 #[tactic(auto, unfolding(dr_model::specs::Decisions::decided))]
 fn decided(revertibles: Numbers, others: Numbers) -> Decision
-    ensures { result ≡ decided (seen revertibles) (seen others) }
+    ensures { result ≡ decided (numbers_seen revertibles) (numbers_seen others) }
 {
     match (revertibles, others) {
         (_, Numbers::Differ(a, b)) => Decision::Impossible(a, b),

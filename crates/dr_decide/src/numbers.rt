@@ -1,5 +1,5 @@
 ghost use Rattle.std.specs.Prelude.{◌≡◌};
-ghost use Rattle.dr_decide.specs.Seen.{seen, with_number};
+ghost use Rattle.dr_decide.specs.Seen.{numbers_seen, with_number};
 
 /// The numbers of some members: none, all one, or the first and the first that differs from it.
 #[derive(Clone, Copy)]
@@ -12,7 +12,7 @@ pub(crate) enum Numbers {
 impl Numbers {
     /// These numbers and one more.
     pub(crate) fn with(self, n: u32) -> Numbers
-        ensures { seen result ≡ with_number (seen self) n }
+        ensures { numbers_seen result ≡ with_number (numbers_seen self) n }
     {
         match self {
             Numbers::NoNumber => Numbers::Same(n),

@@ -3,9 +3,11 @@ use Rattle.std.proofs.Common.{ℕ, zero, suc, ◌≡◌, ◌≢◌, ◌<◌, ◌
 use Rattle.std.specs.Prelude.{filter, Result, Ok, Err, OnOk, OnErr, is_err}
 use Rattle.std.specs.List.{list_any}
 use Rattle.std.proofs.lemmas.Bool.Decides.{eqb_tells, Decides-eqb, nat_tests}
+use Rattle.std.proofs.lemmas.Bool.{or_right, lt-ltb, le-ltb}
+use Rattle.dr_logic.specs.Counts.{Counted}
 use Rattle.dr_ids.specs.declared.refusal.Refusal.{Refusal}
 use Rattle.dr_plant.specs.State.{PlantState}
-use Rattle.dr_config.specs.Table.{Table, place_of}
+use Rattle.dr_config.specs.Table.{ConfigTable, place_of}
 use Rattle.dr_config.specs.declared.entries.VolumeEntry.{VolumeEntry}
 use Rattle.dr_config.proofs.Lookups.{entry-at-place}
 use Rattle.dr_model.specs.Control.{Control, World}
@@ -16,10 +18,9 @@ use Rattle.dr_model.specs.Refusals.{stopped}
 use Rattle.dr_model.specs.ReadStops.{Ends}
 use Rattle.dr_volume.specs.View.{Rest, volume_seen, volume_at, on_seen, ids_of}
 use Rattle.dr_flash.specs.Checks.{is_stop}
-use Rattle.dr_flash.specs.Faults.{Counted}
 use Rattle.dr_flash.specs.Here.{refusal_of}
 use Rattle.dr_flash.specs.Standing.{targets_in}
-use Rattle.dr_flash.proofs.EndsLemmas.{ends-refused, ends-none, ends-skips, ends-alike}
+use Rattle.dr_facts.proofs.Ends.{ends-refused, ends-none, ends-skips, ends-alike}
 use Rattle.dr_flash.specs.Turns.{Advances, Halts}
 use Rattle.dr_flash.proofs.StandingLemmas.{any-count}
 
@@ -40,27 +41,14 @@ same-test a b e = (Decides-eqb a b).1 e
 pub differ-test : (a b : ℕ) → a ≢ b → nat_eq a b ≡ false
 differ-test a b ne = elim (eqb_tells a b) as (λ _. nat_eq a b ≡ false) [ inl p ↦ absurd (ne p.1) | inr p ↦ p.0 ]
 
-pub below-test : (a b : ℕ) → a < b → nat_lt a b ≡ true
-below-test a b h = grind (arith, nat_tests, h)
-
-pub past-test : (a b : ℕ) → b ≤ a → nat_lt a b ≡ false
-past-test a b h = grind (arith, nat_tests, h)
-
-pub on-low : (s : PlantState) (server : ℕ) → server < 8 → on_seen s server ≡ s.on server
-on-low s server low = ap (λ b. cond b (s.on server) true) (below-test server 8 low)
-
-pub or-true : (a b : Bool) → b ≡ true → (a || b) ≡ true
-or-true true b h = refl
-or-true false b h = h
-
 -- a volume that has targets, and one that hasn't
 pub has-targets : (related : Bool) (n : ℕ) (xs : List ℕ) → n ≡ length xs → 0 < n → not ((related && true) || list_any (λ (u : ℕ). true) xs) ≡ false
 has-targets related n xs count some =
-    ap not (or-true (related && true) _ (sym (any-count xs) ∙ ap (nat_lt 0) (sym count) ∙ below-test 0 n some))
+    ap not (or_right (related && true) _ (sym (any-count xs) ∙ ap (nat_lt 0) (sym count) ∙ lt-ltb 0 n some))
 
 pub has-no_targets : (related : Bool) (n : ℕ) (xs : List ℕ) → related ≡ false → n ≡ length xs → n ≤ 0 → not ((related && true) || list_any (λ (u : ℕ). true) xs) ≡ true
 has-no_targets related n xs plain count none =
-    ap (λ b. not ((b && true) || list_any (λ (u : ℕ). true) xs)) plain ∙ ap not (sym (any-count xs) ∙ ap (nat_lt 0) (sym count) ∙ past-test 0 n none)
+    ap (λ b. not ((b && true) || list_any (λ (u : ℕ). true) xs)) plain ∙ ap not (sym (any-count xs) ∙ ap (nat_lt 0) (sym count) ∙ le-ltb 0 n none)
 
 -- a volume with a relation is listed
 listed : (P : ℕ → Bool) (es : List VolumeEntry) (d : ℕ) (e : VolumeEntry) → slice_get es d ≡ Some e → P e.id ≡ true → 0 < length (filter P (ids_of es))
@@ -78,7 +66,7 @@ listed P (x ∷ es) (suc d) e at h = wider (P x.id) (listed P es d e at h)
     wider true k = omega arith
     wider false k = k
 
-pub lone-by : (s : PlantState) (t : Table) (v n : ℕ) → n ≡ length (targets_in s t v) → n ≤ 0 → (u : ℕ) → (volume_seen s t u).fields.related ≡ true → (volume_seen s t u).fields.source ≢ v
+pub lone-by : (s : PlantState) (t : ConfigTable) (v n : ℕ) → n ≡ length (targets_in s t v) → n ≤ 0 → (u : ℕ) → (volume_seen s t u).fields.related ≡ true → (volume_seen s t u).fields.source ≢ v
 lone-by s t v n count none u related is =
     elim (place_of t u) as (λ o. place_of t u ≡ o → ⊥) [
       | None ↦ λ at. let e : false ≡ true = sym (ap (λ o. (volume_at s t o).fields.related) at) ∙ related in cc

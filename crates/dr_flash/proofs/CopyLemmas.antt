@@ -5,7 +5,7 @@ use Rattle.std.proofs.Math.Numerals.{suc-eq-add-one}
 use Rattle.std.proofs.lemmas.List.{drop_all, append-nil}
 use Rattle.dr_ids.specs.declared.refusal.Refusal.{Refusal}
 use Rattle.dr_plant.specs.State.{PlantState}
-use Rattle.dr_config.specs.Table.{Table}
+use Rattle.dr_config.specs.Table.{ConfigTable}
 use Rattle.dr_config.specs.declared.entries.VolumeEntry.{VolumeEntry}
 use Rattle.dr_model.specs.Control.{World}
 use Rattle.dr_model.specs.Carry.{Entry}
@@ -15,14 +15,14 @@ use Rattle.dr_volume.specs.View.{ids_of, volume_seen}
 use Rattle.dr_volume.specs.Update.{IsAsBefore}
 use Rattle.dr_flash.specs.Here.{armed_in}
 use Rattle.dr_flash.specs.Turns.{Leads, Fails}
-use Rattle.dr_flash.proofs.EndsLemmas.{ends-none}
+use Rattle.dr_facts.proofs.Ends.{ends-none}
 use Rattle.dr_flash.proofs.FitLemmas.{target-no_source}
 use Rattle.dr_flash.specs.Fit.{RelationsFit}
 use Rattle.dr_ids.specs.declared.names.VolumeId.{VolumeId}
 use Rattle.std.proofs.lemmas.Bool.Decides.{eqb_tells}
 
 -- those from a place on
-abbrev pub keeps_from : Table → ℕ → ℕ → ℕ → List Entry
+abbrev pub keeps_from : ConfigTable → ℕ → ℕ → ℕ → List Entry
 keeps_from t v k place = map (keep_on v k) (ids_of (drop place t.volumes))
 
 drop-at : (es : List VolumeEntry) (i v : ℕ) → Some v ≡ option_map (λ (e : VolumeEntry). e.id) (slice_get es i) → ids_of (drop i es) ≡ v ∷ ids_of (drop (suc i) es)
@@ -30,16 +30,16 @@ drop-at [] i v h = cc
 drop-at (e ∷ es) zero v h = let same : v ≡ e.id = cc in ap (λ x. x ∷ ids_of es) (sym same)
 drop-at (e ∷ es) (suc i) v h = drop-at es i v h
 
-pub ids-next : (t : Table) (place u : ℕ) → Some u ≡ option_map (λ (e : VolumeEntry). e.id) (slice_get t.volumes place) → ids_of (drop place t.volumes) ≡ u ∷ ids_of (drop (place + 1) t.volumes)
+pub ids-next : (t : ConfigTable) (place u : ℕ) → Some u ≡ option_map (λ (e : VolumeEntry). e.id) (slice_get t.volumes place) → ids_of (drop place t.volumes) ≡ u ∷ ids_of (drop (place + 1) t.volumes)
 ids-next t place u at = drop-at t.volumes place u at ∙ ap (λ n. u ∷ ids_of (drop n t.volumes)) (suc-eq-add-one place)
 
-pub keeps-next : (t : Table) (v k place u : ℕ) → Some u ≡ option_map (λ (e : VolumeEntry). e.id) (slice_get t.volumes place) → keeps_from t v k place ≡ keep_on v k u ∷ keeps_from t v k (place + 1)
+pub keeps-next : (t : ConfigTable) (v k place u : ℕ) → Some u ≡ option_map (λ (e : VolumeEntry). e.id) (slice_get t.volumes place) → keeps_from t v k place ≡ keep_on v k u ∷ keeps_from t v k (place + 1)
 keeps-next t v k place u at = ap (map (keep_on v k)) (ids-next t place u at)
 
-pub keeps-none : (t : Table) (v k place : ℕ) → length t.volumes ≤ place → keeps_from t v k place ≡ []
+pub keeps-none : (t : ConfigTable) (v k place : ℕ) → length t.volumes ≤ place → keeps_from t v k place ≡ []
 keeps-none t v k place all = ap (λ es. map (keep_on v k) (ids_of es)) (drop_all place t.volumes all)
 
-pub before-then : (s t u : PlantState) (c : Table) (q : ℕ) → IsAsBefore s t c q → IsAsBefore t u c q → IsAsBefore s u c q
+pub before-then : (s t u : PlantState) (c : ConfigTable) (q : ℕ) → IsAsBefore s t c q → IsAsBefore t u c q → IsAsBefore s u c q
 before-then s t u c q a b = record { volume = b.volume ∙ a.volume; tracks = b.tracks ∙ a.tracks }
 
 -- no fuse is armed later that wasn't
@@ -76,11 +76,11 @@ mapped-some f g None None e is = is
 mapped-some f g (Some a) x e is = refl
 
 -- a place below the count has a volume
-pub volume-there : (t : Table) (i : ℕ) (o : Option VolumeId) → option_map (λ (v : VolumeId). v.0) o ≡ option_map (λ (e : VolumeEntry). e.id) (slice_get t.volumes i) → i < length t.volumes → is_some o ≡ true
+pub volume-there : (t : ConfigTable) (i : ℕ) (o : Option VolumeId) → option_map (λ (v : VolumeId). v.0) o ≡ option_map (λ (e : VolumeEntry). e.id) (slice_get t.volumes i) → i < length t.volumes → is_some o ≡ true
 volume-there t i o is low = mapped-some (λ (v : VolumeId). v.0) (λ (e : VolumeEntry). e.id) o (slice_get t.volumes i) is (at-some t.volumes i low)
 
 -- no volume is its own target
-pub no-own : (s : PlantState) (t : Table) (v : ℕ) → RelationsFit s t → copies_from v (volume_seen s t v).fields ≡ false
+pub no-own : (s : PlantState) (t : ConfigTable) (v : ℕ) → RelationsFit s t → copies_from v (volume_seen s t v).fields ≡ false
 no-own s t v fit =
     let f = (volume_seen s t v).fields in
     elim f.related as (λ b. f.related ≡ b → (b && nat_eq f.source v) ≡ false) [

@@ -2,7 +2,7 @@
 use Rattle.std.proofs.Common.{ℕ, List, ◌≡◌, Bool, true, false, ◌&&◌, refl, sym, ◌∙◌, ap, Option, None, Some}
 use Rattle.std.specs.Prelude.{is_some, if◌then◌else◌}
 use Rattle.dr_plant.specs.State.{PlantState, can_read, passes_read}
-use Rattle.dr_config.specs.Table.{Table, StandsFor, place_of}
+use Rattle.dr_config.specs.Table.{ConfigTable, StandsFor, place_of}
 use Rattle.dr_model.specs.declared.event.Event.{Event}
 use Rattle.dr_model.specs.Control.{World, Volume}
 use Rattle.dr_model.specs.Moves.{Fetch}
@@ -14,21 +14,21 @@ use Rattle.dr_volume.specs.Plain.{plain}
 use Rattle.dr_volume.specs.View.{Rest, volume_seen, device_of}
 use Rattle.dr_volume.proofs.VolumeLaws.{placed, volume-placed, device-placed}
 use Rattle.dr_flash.specs.Fit.{SourceFits}
-use Rattle.dr_flash.specs.Here.{seen}
+use Rattle.dr_flash.specs.Here.{world_seen}
 
 -- a volume's device is its server's
-pub owned : (s : PlantState) (t : Table) (v : ℕ) → StandsFor t s → is_some (place_of t v) ≡ true → s.owner (device_of t v) ≡ (volume_seen s t v).server
+pub owned : (s : PlantState) (t : ConfigTable) (v : ℕ) → StandsFor t s → is_some (place_of t v) ≡ true → s.owner (device_of t v) ≡ (volume_seen s t v).server
 owned s t v stands defined =
     let x = placed t v defined in
     ap s.owner (device-placed t v x.0 x.2) ∙ (stands.device x.0 x.1 x.3).0 ∙ sym (ap (λ (w : Volume). w.server) (volume-placed s t v x.0 x.1 x.2 x.3))
 
-pub can-alike : (s : PlantState) (t : Table) (v u : ℕ) → StandsFor t s → is_some (place_of t v) ≡ true → SourceFits (is_some (place_of t u)) (volume_seen s t v) (volume_seen s t u) → can_read s (device_of t u) ≡ can_read s (device_of t v)
+pub can-alike : (s : PlantState) (t : ConfigTable) (v u : ℕ) → StandsFor t s → is_some (place_of t v) ≡ true → SourceFits (is_some (place_of t u)) (volume_seen s t v) (volume_seen s t u) → can_read s (device_of t u) ≡ can_read s (device_of t v)
 can-alike s t v u stands defined fits =
     ap (λ o. s.on o && passes_read (s.read_fuse o)) (owned s t u stands fits.defined ∙ sym fits.same_server ∙ sym (owned s t v stands defined))
 
-module _ (s : PlantState) (t : Table) (r : Rest) (events : List Event) (v n : ℕ) (f : Fields) (shows : plain f ≡ (volume_seen s t v).fields) (sized : (volume_seen s t v).tracks ≡ n) (o : Option ℕ) (found : o ≡ (if f.related then lowest n (rest n f.own) else None)) where
+module _ (s : PlantState) (t : ConfigTable) (r : Rest) (events : List Event) (v n : ℕ) (f : Fields) (shows : plain f ≡ (volume_seen s t v).fields) (sized : (volume_seen s t v).tracks ≡ n) (o : Option ℕ) (found : o ≡ (if f.related then lowest n (rest n f.own) else None)) where
   abbrev w : World
-  w = seen s t r events
+  w = world_seen s t r events
 
   pub missing-is : lowest_missing v w.control ≡ o
   missing-is = (λ i. if (sym shows i).related then lowest (sized i) (rest (sized i) (sym shows i).own) else None) ∙ sym found
@@ -38,7 +38,3 @@ module _ (s : PlantState) (t : Table) (r : Rest) (events : List Event) (v n : �
 
   pub fetch-some : (k : ℕ) → o ≡ Some k → fetch_next v w.control ≡ now (Fetch v k) w.control
   fetch-some k some = ap (λ x. on_found x (λ k. now (Fetch v k)) w.control) (missing-is ∙ some)
-
-pub first_of : (a b : Bool) → (a && b) ≡ true → a ≡ true
-first_of true b h = refl
-first_of false b h = h

@@ -13,12 +13,9 @@ use Rattle.dr_model.specs.Relations.{Choices, rest, is_whole, parted_if, closed,
 use Rattle.dr_model.specs.Pairs.{altered}
 use Rattle.dr_volume.specs.Update.{Covers}
 use Rattle.dr_flash.proofs.SetLaws.{contains-rest}
+use Rattle.dr_model.proofs.LawfulLemmas.{low-empty}
 
--- sets stay below n
-pub low-empty : (n : ℕ) → Low n empty
-low-empty n t h = absurd (let e : contains {R = nat_cmp} empty t ≡ false = contains-empty nat_cmp t in cc)
-
-low-insert : (n t : ℕ) (s : Tracks) → t < n → Low n s → Low n (insert s t)
+pub low-insert : (n t : ℕ) (s : Tracks) → t < n → Low n s → Low n (insert s t)
 low-insert n t s below low q h =
     elim (eqb_tells q t) as (λ _. q < n) [
       | inl p ↦ let e = p.1 in omega arith
@@ -31,7 +28,7 @@ low-remove n t s low q h = low q (let e = contains-remove_tracks s t q in grind 
 pub low-rest : (n : ℕ) (own : Tracks) → Low n (rest n own)
 low-rest n own q h = let e = contains-rest n own q in grind (arith, nat_tests, e, h)
 
-low-if : (b : Bool) (n : ℕ) (x y : Tracks) → Low n x → Low n y → Low n (if b then x else y)
+pub low-if : (b : Bool) (n : ℕ) (x y : Tracks) → Low n x → Low n y → Low n (if b then x else y)
 low-if true n x y h k = h
 low-if false n x y h k = k
 
@@ -45,39 +42,6 @@ lawful-fetched n t f below related law = let s : HasSets n f = law.sets in recor
     source_changes_low = s.source_changes_low;
     target_changes_low = s.target_changes_low;
     blank_low = low-remove n t f.blank s.blank_low;
-  };
-  primary = law.primary;
-  secondary = law.secondary;
-  relation = λ absent. absurd (let e : true ≡ false = sym related ∙ absent in cc);
-}
-
--- of a volume whose track has new bytes
-pub lawful-altered : (n t : ℕ) (f : Fields) → t < n → IsLawful n f → IsLawful n (altered f t)
-lawful-altered n t f below law = let s : HasSets n f = law.sets in record {
-  sets = record {
-    out_of_sync_low = low-if (is_part f.primary) n _ _ (low-insert n t f.out_of_sync below s.out_of_sync_low) s.out_of_sync_low;
-    change_recording_low = s.change_recording_low;
-    own_low = s.own_low;
-    previous_own_low = s.previous_own_low;
-    source_changes_low = s.source_changes_low;
-    target_changes_low = s.target_changes_low;
-    blank_low = low-remove n t f.blank s.blank_low;
-  };
-  primary = λ absent. let p = law.primary absent in (p.0, p.1, p.2, p.3, p.4, ap {B = Tracks} (λ b. cond b (insert f.out_of_sync t) f.out_of_sync) absent ∙ p.5, p.6);
-  secondary = law.secondary;
-  relation = law.relation;
-}
-
-pub lawful-noted : (n t : ℕ) (f : Fields) → t < n → f.related ≡ true → IsLawful n f → IsLawful n (noted f t)
-lawful-noted n t f below related law = let s : HasSets n f = law.sets in record {
-  sets = record {
-    out_of_sync_low = s.out_of_sync_low;
-    change_recording_low = s.change_recording_low;
-    own_low = s.own_low;
-    previous_own_low = s.previous_own_low;
-    source_changes_low = low-if f.recorded n _ _ (low-insert n t f.source_changes below s.source_changes_low) s.source_changes_low;
-    target_changes_low = s.target_changes_low;
-    blank_low = s.blank_low;
   };
   primary = law.primary;
   secondary = law.secondary;
@@ -119,22 +83,6 @@ lawful-parted n f true law = let s : HasSets n f = law.sets in record {
 
 pub lawful-closed : (n : ℕ) (f : Fields) → IsLawful n f → IsLawful n (closed n f)
 lawful-closed n f law = lawful-parted n f (is_whole n f.own && not f.persistent) law
-
-pub lawful-made : (n s : ℕ) (o : Choices) (f : Fields) → IsLawful n f → IsLawful n (made s o f)
-lawful-made n s o f law = let x : HasSets n f = law.sets in record {
-  sets = record {
-    out_of_sync_low = x.out_of_sync_low;
-    change_recording_low = x.change_recording_low;
-    own_low = low-empty n;
-    previous_own_low = low-empty n;
-    source_changes_low = low-empty n;
-    target_changes_low = low-empty n;
-    blank_low = x.blank_low;
-  };
-  primary = law.primary;
-  secondary = law.secondary;
-  relation = λ absent. absurd (let e : true ≡ false = absent in cc);
-}
 
 pub lawful-withdrawn : (n : ℕ) (f : Fields) → IsLawful n f → IsLawful n (withdrawn_if true n f)
 lawful-withdrawn n f law = let p = lawful-parted n f true law in let s : HasSets n (parted_if true f) = p.sets in record {

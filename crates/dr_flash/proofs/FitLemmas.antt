@@ -4,7 +4,7 @@ use Rattle.std.specs.Prelude.{is_some}
 use Rattle.std.specs.FinSet.{contains}
 use Rattle.std.proofs.lemmas.Bool.{cases_eq}
 use Rattle.dr_plant.specs.State.{PlantState}
-use Rattle.dr_config.specs.Table.{Table, place_of}
+use Rattle.dr_config.specs.Table.{ConfigTable, place_of}
 use Rattle.dr_model.specs.Layout.{Fields}
 use Rattle.dr_model.specs.Control.{Volume}
 use Rattle.dr_model.specs.Moves.{Carried, moved}
@@ -13,18 +13,18 @@ use Rattle.dr_volume.specs.Update.{IsAsBefore, IsMoved, OthersStay}
 use Rattle.dr_flash.specs.Fit.{SourceFits, RelationsFit, LeavesFit}
 
 -- the same, of a table of volumes
-abbrev Sources : Table → (ℕ → Volume) → Type 0
+abbrev Sources : ConfigTable → (ℕ → Volume) → Type 0
 Sources t f = (v : ℕ) → (f v).fields.related ≡ true → SourceFits (is_some (place_of t (f v).fields.source)) (f v) (f (f v).fields.source)
 
 abbrev Aparts : (ℕ → Volume) → Type 0
 Aparts f = (v k : ℕ) → contains (f v).fields.own k ≡ true → contains (f v).fields.blank k ≡ false
 
-pub fit-same : (s u : PlantState) (t : Table) → ((q : ℕ) → IsAsBefore s u t q) → RelationsFit s t → RelationsFit u t
+pub fit-same : (s u : PlantState) (t : ConfigTable) → ((q : ℕ) → IsAsBefore s u t q) → RelationsFit s t → RelationsFit u t
 fit-same s u t same fit =
     let is : volume_seen s t ≡ volume_seen u t = (λ i q. sym (same q).volume i) in
     record { source = subst (λ f. Sources t f) is fit.source; apart = subst (λ f. Aparts f) is fit.apart }
 
-module _ (s u : PlantState) (t : Table) (v : ℕ) (f : Fields) (m : Carried) (fit : RelationsFit s t) (leaves : LeavesFit s t v f) (here : volume_seen u t v ≡ moved (volume_seen s t v) f m) (others : OthersStay s u t v) where
+module _ (s u : PlantState) (t : ConfigTable) (v : ℕ) (f : Fields) (m : Carried) (fit : RelationsFit s t) (leaves : LeavesFit s t v f) (here : volume_seen u t v ≡ moved (volume_seen s t v) f m) (others : OthersStay s u t v) where
   other : (q : ℕ) → q ≢ v → volume_seen u t q ≡ volume_seen s t q
   other q ne = (others q ne).volume
 
@@ -67,18 +67,18 @@ module _ (s u : PlantState) (t : Table) (v : ℕ) (f : Fields) (m : Carried) (fi
   }
 
 -- where v is as it was, or moved
-pub fit-after : (s u : PlantState) (t : Table) (v : ℕ) (f : Fields) (m : Carried) → RelationsFit s t → LeavesFit s t v f → IsAsBefore s u t v ⊎ IsMoved s u t v f m → OthersStay s u t v → RelationsFit u t
+pub fit-after : (s u : PlantState) (t : ConfigTable) (v : ℕ) (f : Fields) (m : Carried) → RelationsFit s t → LeavesFit s t v f → IsAsBefore s u t v ⊎ IsMoved s u t v f m → OthersStay s u t v → RelationsFit u t
 fit-after s u t v f m fit leaves (inl same) others = fit-same s u t (λ q. elim (cases_eq q v) [ inl is ↦ subst (λ z. IsAsBefore s u t z) (sym is) same | inr ne ↦ others q ne ]) fit
 fit-after s u t v f m fit leaves (inr h) others = fit-moved s u t v f m fit leaves h.volume others
 
 -- a target is no source
-pub target-no_source : (s : PlantState) (t : Table) (v u : ℕ) → RelationsFit s t → (volume_seen s t v).fields.related ≡ true → (volume_seen s t u).fields.related ≡ true → (volume_seen s t u).fields.source ≢ v
+pub target-no_source : (s : PlantState) (t : ConfigTable) (v u : ℕ) → RelationsFit s t → (volume_seen s t v).fields.related ≡ true → (volume_seen s t u).fields.related ≡ true → (volume_seen s t u).fields.source ≢ v
 target-no_source s t v u fit here there is =
     let plain : (volume_seen s t v).fields.related ≡ false = ap (λ z. (volume_seen s t z).fields.related) (sym is) ∙ (fit.source u there).plain in
     let never : true ≡ false = sym here ∙ plain in cc
 
 -- a target keeps its source, or is a target no more
-pub fit-kept : (s : PlantState) (t : Table) (v : ℕ) (f : Fields) → RelationsFit s t → (f.related ≡ true → ((volume_seen s t v).fields.related ≡ true) × (f.source ≡ (volume_seen s t v).fields.source))
+pub fit-kept : (s : PlantState) (t : ConfigTable) (v : ℕ) (f : Fields) → RelationsFit s t → (f.related ≡ true → ((volume_seen s t v).fields.related ≡ true) × (f.source ≡ (volume_seen s t v).fields.source))
     → ((k : ℕ) → contains f.own k ≡ true → contains f.blank k ≡ false) → LeavesFit s t v f
 fit-kept s t v f fit keeps apart = record {
   source = λ related. let k = keeps related in subst (λ z. SourceFits (is_some (place_of t z)) (volume_seen s t v) (volume_seen s t z)) (sym k.1) (fit.source v k.0);

@@ -2,12 +2,13 @@
 use Rattle.std.proofs.Common.{ℕ, zero, suc, [], ◌∷◌, ◌≡◌, ◌≢◌, ◌⊎◌, inl, inr, ◌<◌, ◌≤◌, ◌+◌, arith, Bool, true, false, not, ◌&&◌, cond, List, None, Some, slice_get, length, refl, sym, ◌∙◌, ap, subst}
 use Rattle.std.specs.Prelude.{option_map}
 use Rattle.std.specs.FinSet.{contains}
-use Rattle.std.proofs.lemmas.Bool.{cases_eq}
+use Rattle.std.proofs.lemmas.Bool.{cases_eq, and_parts}
+use Rattle.std.proofs.lemmas.Option.{slice_get_within}
+use Rattle.dr_logic.specs.Bytes.{zeros}
 use Rattle.dr_plant.specs.State.{PlantState}
-use Rattle.dr_config.specs.Table.{Table, place_of}
+use Rattle.dr_config.specs.Table.{ConfigTable, place_of}
 use Rattle.dr_config.specs.declared.entries.VolumeEntry.{VolumeEntry}
 use Rattle.dr_config.proofs.Lookups.{entry-at-place}
-use Rattle.dr_model.specs.Contents.{zeros}
 use Rattle.dr_model.specs.Control.{Volume}
 use Rattle.dr_model.specs.Entries.{copies_from}
 use Rattle.dr_model.specs.Layout.{Fields}
@@ -18,20 +19,19 @@ use Rattle.dr_volume.specs.View.{volume_seen, track_seen, volume_at}
 use Rattle.dr_flash.specs.Views.{view_seen, AllShow, kept_for, shows_restored, HoldsTrack, KeepsTrack, ReadsZeros}
 use Rattle.dr_flash.proofs.CheckLemmas.{same-test, differ-test}
 use Rattle.dr_flash.proofs.CopyLemmas.{before-then}
-use Rattle.dr_flash.proofs.FetchLemmas.{first_of}
 use Rattle.dr_flash.proofs.ShowLemmas.{show-other, moved-view}
 use Rattle.dr_flash.proofs.ViewLemmas.{view-own}
 
 -- the volumes of the places so far hold it
-abbrev pub HeldBelow : PlantState → PlantState → Table → ℕ → ℕ → ℕ → Type 0
+abbrev pub HeldBelow : PlantState → PlantState → ConfigTable → ℕ → ℕ → ℕ → Type 0
 HeldBelow s u t v k n = (d : ℕ) → d < n → (e : VolumeEntry) → slice_get t.volumes d ≡ Some e → KeepsTrack s u t v k e.id
 
 -- each volume is as it was, or holds it
-abbrev pub SameOrHeld : PlantState → PlantState → Table → ℕ → Type 0
+abbrev pub SameOrHeld : PlantState → PlantState → ConfigTable → ℕ → Type 0
 SameOrHeld s u t k = (q : ℕ) → IsAsBefore s u t q ⊎ HoldsTrack u t k q
 
 -- from s to m, and then u was looked at
-module _ (s m n : PlantState) (t : Table) (v k u : ℕ) (stay : OthersStay m n t u) (held : KeepsTrack m n t v k u) (apart : (q : ℕ) → kept_for v (volume_seen m t q).fields ≡ false → IsAsBefore m n t q) where
+module _ (s m n : PlantState) (t : ConfigTable) (v k u : ℕ) (stay : OthersStay m n t u) (held : KeepsTrack m n t v k u) (apart : (q : ℕ) → kept_for v (volume_seen m t q).fields ≡ false → IsAsBefore m n t q) where
   still : (q : ℕ) → IsAsBefore m n t q → HoldsTrack m t k q → HoldsTrack n t k q
   still q same h = subst (λ (x : Volume). x.fields.related ≡ true → contains x.fields.own k ≡ true) (sym same.volume) h
 
@@ -73,19 +73,14 @@ module _ (s m n : PlantState) (t : Table) (v k u : ℕ) (stay : OthersStay m n t
     | inr p ↦ below d (omega (arith, low, p)) e is
   ])
 
-some-below : (es : List VolumeEntry) (d : ℕ) (e : VolumeEntry) → slice_get es d ≡ Some e → d < length es
-some-below [] d e h = absurd cc
-some-below (x ∷ es) zero e h = omega arith
-some-below (x ∷ es) (suc d) e h = let low = some-below es d e h in omega (arith, low)
-
 -- all places were looked at
-pub held-all : (s u : PlantState) (t : Table) (v k n : ℕ) → length t.volumes ≤ n → HeldBelow s u t v k n → (q : ℕ) → KeepsTrack s u t v k q
+pub held-all : (s u : PlantState) (t : ConfigTable) (v k n : ℕ) → length t.volumes ≤ n → HeldBelow s u t v k n → (q : ℕ) → KeepsTrack s u t v k q
 held-all s u t v k n all below q is =
     elim (place_of t q) as (λ o. place_of t q ≡ o → HoldsTrack u t k q) [
-      | None ↦ λ at. absurd (let e : false ≡ true = sym (ap (λ o. (volume_at s t o).fields.related) at) ∙ first_of _ _ (first_of _ _ is) in cc)
+      | None ↦ λ at. absurd (let e : false ≡ true = sym (ap (λ o. (volume_at s t o).fields.related) at) ∙ (and_parts _ _ ((and_parts _ _ is).0)).0 in cc)
       | Some d ↦ λ at.
           let x = entry-at-place t q d at in
-          let low = some-below t.volumes d x.0 x.1 in
+          let low = slice_get_within t.volumes d x.0 x.1 in
           subst (λ z. KeepsTrack s u t v k z) x.3 (below d (omega (arith, low, all)) x.0 x.1) is
     ] refl
 
@@ -97,14 +92,14 @@ never-related f g keeps was = elim g.related as (λ b. g.related ≡ b → b ≡
 ] refl
 
 -- a volume that is no target shows the track that it stored
-pub stored-own : (m u : PlantState) (c : Table) (v t : ℕ) (f : Fields) (bytes : List ℕ) → IsMoved m u c v f (Some (t, bytes)) → f.related ≡ false → view_seen u c v t ≡ bytes
+pub stored-own : (m u : PlantState) (c : ConfigTable) (v t : ℕ) (f : Fields) (bytes : List ℕ) → IsMoved m u c v f (Some (t, bytes)) → f.related ≡ false → view_seen u c v t ≡ bytes
 stored-own m u c v t f bytes is plain =
     moved-view m u c v f (Some (t, bytes)) is t
     ∙ ap (λ b. cond (b && not (contains f.own t)) (track_seen u c f.source t) (tracks_after f (Some (t, bytes)) (track_seen m c v) t)) plain
     ∙ ap (λ b. cond b bytes (cond (contains f.blank t) zeros (track_seen m c v t))) (same-test t t refl)
 
 -- a volume stored a track behind what its targets kept
-module _ (s m u : PlantState) (c : Table) (v t : ℕ) (f : Fields) (bytes : List ℕ) (show : AllShow s m c) (same_tracks : track_seen m c v ≡ track_seen s c v) (blank : ReadsZeros s c v f t) where
+module _ (s m u : PlantState) (c : ConfigTable) (v t : ℕ) (f : Fields) (bytes : List ℕ) (show : AllShow s m c) (same_tracks : track_seen m c v ≡ track_seen s c v) (blank : ReadsZeros s c v f t) where
   stored-other : IsMoved m u c v f (Some (t, bytes)) → (k : ℕ) → k ≢ t → track_seen u c v k ≡ track_seen m c v k
   stored-other is k ne =
       ap (λ (z : ℕ → List ℕ). z k) is.tracks
@@ -118,13 +113,13 @@ module _ (s m u : PlantState) (c : Table) (v t : ℕ) (f : Fields) (bytes : List
     -- no target shows track t of v then, but one that is restored onto v
     none-shown : (q : ℕ) → (volume_seen m c q).fields.source ≡ v → shows_source (volume_seen m c q).fields t ≡ true → shows_restored v (volume_seen s c q).fields t ≡ true
     none-shown q from shown = elim (kept_for v (volume_seen s c q).fields) as (λ b. kept_for v (volume_seen s c q).fields ≡ b → shows_restored v (volume_seen s c q).fields t ≡ true) [
-      | true ↦ λ is. absurd (let e : true ≡ false = sym shown ∙ held-hides _ _ (kept q is (first_of _ _ shown)) in cc)
+      | true ↦ λ is. absurd (let e : true ≡ false = sym shown ∙ held-hides _ _ (kept q is ((and_parts _ _ shown).0)) in cc)
       | false ↦ λ is.
           let same = apart q is in
           let now : shows_source (volume_seen s c q).fields t ≡ true = ap (λ (x : Volume). shows_source x.fields t) (sym same.volume) ∙ shown in
           let to : (volume_seen s c q).fields.source ≡ v = ap (λ (x : Volume). x.fields.source) (sym same.volume) ∙ from in
           let x : Fields = (volume_seen s c q).fields in
-          let related : x.related ≡ true = first_of x.related (not (contains x.own t)) now in
+          let related : x.related ≡ true = (and_parts x.related (not (contains x.own t)) now).0 in
           let shared : not (contains x.own t) ≡ true = second_of x.related (not (contains x.own t)) now in
           let copies : copies_from v x ≡ true = (λ i. related i && same-test x.source v to i) in
           let back : x.reversing ≡ true = reversed (copies_from v x) x.reversing copies is in

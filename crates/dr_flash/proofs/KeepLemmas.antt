@@ -2,9 +2,10 @@
 use Rattle.std.proofs.Common.{ℕ, ◌≡◌, ◌≢◌, Bool, true, false, not, ◌&&◌, cond, List, refl, sym, ◌∙◌, ap, Option}
 use Rattle.std.specs.Prelude.{if◌then◌else◌}
 use Rattle.std.specs.FinSet.{contains}
+use Rattle.std.proofs.lemmas.Bool.{and_parts}
 use Rattle.dr_ids.specs.declared.refusal.Refusal.{Refusal}
 use Rattle.dr_plant.specs.State.{PlantState}
-use Rattle.dr_config.specs.Table.{Table}
+use Rattle.dr_config.specs.Table.{ConfigTable}
 use Rattle.dr_model.specs.declared.event.Event.{Event}
 use Rattle.dr_model.specs.Control.{World}
 use Rattle.dr_model.specs.Layout as layout
@@ -14,9 +15,9 @@ use Rattle.dr_model.specs.Entries.{keep_on, keep_if, copies_from}
 use Rattle.dr_volume.specs.declared.fields.Fields.{Fields}
 use Rattle.dr_volume.specs.Plain.{plain}
 use Rattle.dr_volume.specs.View.{Rest, volume_seen}
-use Rattle.dr_flash.specs.Here.{seen}
+use Rattle.dr_flash.specs.Here.{world_seen}
 use Rattle.dr_flash.specs.Turns.{Advances, Halts}
-use Rattle.dr_flash.proofs.EndsLemmas.{ends-skips, ends-alike}
+use Rattle.dr_facts.proofs.Ends.{ends-skips, ends-alike}
 
 pub skips : (w : World) (d : Entry) → d w.control ≡ Pass → Advances w d w
 skips w d is armed u r ds more = ends-skips armed u r w d ds is more
@@ -27,15 +28,12 @@ alike-advances w v d e same goes armed u r ds more = ends-alike armed u r w d e 
 pub alike-halts : (armed : ℕ → Bool) (w u : World) (r : Option Refusal) (d e : Entry) → d w.control ≡ e w.control → Halts armed w e u r → Halts armed w d u r
 alike-halts armed w u r d e same halts ds = ends-alike armed u r w d e ds same (halts ds)
 
-module _ (s : PlantState) (t : Table) (r : Rest) (ev : List Event) (v k u : ℕ) (f : Fields) (shows : plain f ≡ (volume_seen s t u).fields) where
+module _ (s : PlantState) (t : ConfigTable) (r : Rest) (ev : List Event) (v k u : ℕ) (f : Fields) (shows : plain f ≡ (volume_seen s t u).fields) where
   abbrev w : World
-  w = seen s t r ev
+  w = world_seen s t r ev
 
   entry-is : keep_on v k u w.control ≡ (if copies_from v (plain f) && not f.reversing then keep_if (plain f) u k else Pass)
   entry-is = ap (λ (g : layout.Fields). if copies_from v g && not g.reversing then keep_if g u k else Pass) (sym shows)
-
-  pub passes-other : (copies_from v (plain f) && not f.reversing) ≡ false → keep_on v k u w.control ≡ Pass
-  passes-other other = entry-is ∙ ap (λ b. cond b (keep_if (plain f) u k) Pass) other
 
   entry-target : (copies_from v (plain f) && not f.reversing) ≡ true → keep_on v k u w.control ≡ keep_if (plain f) u k
   entry-target own = entry-is ∙ ap (λ b. cond b (keep_if (plain f) u k) Pass) own
@@ -52,16 +50,16 @@ module _ (s : PlantState) (t : Table) (r : Rest) (ev : List Event) (v k u : ℕ)
   pub passes-held : (copies_from v (plain f) && not f.reversing) ≡ true → contains f.own k ≡ true → (f.recorded && not (contains f.source_changes k)) ≡ false → keep_on v k u w.control ≡ Pass
   passes-held own held old = keeps-held own held ∙ ap (λ b. cond b (Do (Make (Note u k))) Pass) old
 
-first_of : (a b : Bool) → (a && b) ≡ true → a ≡ true
-first_of true b h = refl
-first_of false b h = h
+-- a volume that is no target of v, or is restored onto it, keeps nothing for it
+pub passes-by : (s : PlantState) (t : ConfigTable) (r : Rest) (ev : List Event) (v k u : ℕ) → (copies_from v (volume_seen s t u).fields && not (volume_seen s t u).fields.reversing) ≡ false → keep_on v k u (world_seen s t r ev).control ≡ Pass
+passes-by s t r ev v k u other = ap (λ b. cond b (keep_if (volume_seen s t u).fields u k) Pass) other
 
 -- a volume that copies from v isn't one that doesn't
-pub apart-target : (s : PlantState) (t : Table) (v u q : ℕ) (f : Fields) → plain f ≡ (volume_seen s t u).fields → (copies_from v (plain f) && not f.reversing) ≡ true → copies_from v (volume_seen s t q).fields ≡ false → q ≢ u
+pub apart-target : (s : PlantState) (t : ConfigTable) (v u q : ℕ) (f : Fields) → plain f ≡ (volume_seen s t u).fields → (copies_from v (plain f) && not f.reversing) ≡ true → copies_from v (volume_seen s t q).fields ≡ false → q ≢ u
 apart-target s t v u q f shows own other is =
-    let e : true ≡ false = sym (first_of (copies_from v (plain f)) (not f.reversing) own) ∙ ap (copies_from v) (shows ∙ ap (λ z. (volume_seen s t z).fields) (sym is)) ∙ other in cc
+    let e : true ≡ false = sym ((and_parts (copies_from v (plain f)) (not f.reversing) own).0) ∙ ap (copies_from v) (shows ∙ ap (λ z. (volume_seen s t z).fields) (sym is)) ∙ other in cc
 
 -- nor one that copies from v and is restored onto it
-pub apart-kept : (s : PlantState) (t : Table) (v u q : ℕ) (f : Fields) → plain f ≡ (volume_seen s t u).fields → (copies_from v (plain f) && not f.reversing) ≡ true → (copies_from v (volume_seen s t q).fields && not (volume_seen s t q).fields.reversing) ≡ false → q ≢ u
+pub apart-kept : (s : PlantState) (t : ConfigTable) (v u q : ℕ) (f : Fields) → plain f ≡ (volume_seen s t u).fields → (copies_from v (plain f) && not f.reversing) ≡ true → (copies_from v (volume_seen s t q).fields && not (volume_seen s t q).fields.reversing) ≡ false → q ≢ u
 apart-kept s t v u q f shows own other is =
     let e : true ≡ false = sym own ∙ ap (λ (g : layout.Fields). copies_from v g && not g.reversing) (shows ∙ ap (λ z. (volume_seen s t z).fields) (sym is)) ∙ other in cc

@@ -6,11 +6,11 @@ use Rattle.dr_model.specs.Layout.{Fields}
 use Rattle.dr_model.specs.Control.{World}
 use Rattle.dr_model.specs.Moves.{Carried, moved, updated}
 use Rattle.dr_model.specs.Carry.{update, ended, Ended, pass, writes, counts_by, spent, off}
-use Rattle.dr_model.proofs.Images.{at_same}
 use Rattle.dr_volume.specs.Update.{EndsAs}
 use Rattle.dr_flash.specs.declared.told.Telling.{Telling}
 use Rattle.dr_flash.specs.Told.{events_of}
 use Rattle.dr_flash.specs.Turns.{made_by, told_in_stop}
+use Rattle.dr_logic.proofs.Tables.{at_same}
 
 -- it was done
 pub made-goes : (u : World) (e : Ended) (s : ℕ) (told : Telling) (now : List Event) → EndsAs u false e → now ≡ u.events ++ events_of told.done → made_by e s told ≡ (record u { events = now }, None)
@@ -32,22 +32,22 @@ abbrev pub differ : Bool → Bool → Bool
 differ true b = not b
 differ false b = b
 
-differ_not : (b : Bool) → differ (not b) b ≡ true
+pub differ_not : (b : Bool) → differ (not b) b ≡ true
 differ_not true = refl
 differ_not false = refl
 
-differ_same : (b : Bool) → differ b b ≡ false
+pub differ_same : (b : Bool) → differ b b ≡ false
 differ_same true = refl
 differ_same false = refl
 
-not_beq : (a b : Bool) → not (beq a b) ≡ differ a b
+pub not_beq : (a b : Bool) → not (beq a b) ≡ differ a b
 not_beq true true = refl
 not_beq true false = refl
 not_beq false true = refl
 not_beq false false = refl
 
 -- where an update is stopped, it counts as done exactly where the slot changed
-done-by_slot : (w : World) (v : ℕ) (f : Fields) (c : Carried) → (update w v f c).stopped ≡ true → (update w v f c).done ≡ differ ((update w v f c).world.control.volume v).slot (w.control.volume v).slot
+pub done-by_slot : (w : World) (v : ℕ) (f : Fields) (c : Carried) → (update w v f c).stopped ≡ true → (update w v f c).done ≡ differ ((update w v f c).world.control.volume v).slot (w.control.volume v).slot
 unfolding update
 done-by_slot w v f c =
     let s = (w.control.volume v).server in

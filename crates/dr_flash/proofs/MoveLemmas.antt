@@ -1,25 +1,28 @@
 -- Each kind of move: its fields are lawful and leave the relationships fitting, and what it tells.
-use Rattle.std.proofs.Common.{ℕ, List, ◌≡◌, ◌≢◌, ◌<◌, Bool, true, false, not, ◌&&◌, refl, sym, ◌∙◌, subst, None, Some}
-use Rattle.std.specs.Prelude.{is_some}
-use Rattle.std.specs.FinSet.{insert, remove}
+use Rattle.std.proofs.Common.{ℕ, List, ◌≡◌, ◌≢◌, ◌<◌, Bool, true, false, not, ◌&&◌, refl, sym, ◌∙◌, subst, None, Some, ap}
+use Rattle.std.specs.Prelude.{is_some, if◌then◌else◌}
+use Rattle.std.specs.FinSet.{insert, remove, contains}
+use Rattle.dr_logic.specs.Bytes.{zeros}
 use Rattle.dr_plant.specs.State.{PlantState}
-use Rattle.dr_config.specs.Table.{Table, place_of}
+use Rattle.dr_config.specs.Table.{ConfigTable, place_of}
 use Rattle.dr_model.specs.declared.event.Event.TheVariants.{Copied, Set}
 use Rattle.dr_model.specs.Layout.{Fields}
 use Rattle.dr_model.specs.Lawful.{IsLawful, HasSets}
 use Rattle.dr_model.specs.Control.{Volume}
 use Rattle.dr_model.specs.Moves.{Carried, Keep, Note, Fetch, Relate, Withdraw, Overwrite, fields_left}
 use Rattle.dr_model.specs.Relations.{Choices, is_whole, parted_if, closed, fetched, noted, rewritten, withdrawn_if}
-use Rattle.dr_volume.specs.View.{volume_seen}
-use Rattle.dr_volume.specs.Update.{Covers}
+use Rattle.dr_volume.specs.View.{volume_seen, track_seen}
+use Rattle.dr_volume.specs.Update.{Covers, IsMoved}
 use Rattle.dr_flash.specs.Fit.{SourceFits, RelationsFit, LeavesFit}
 use Rattle.dr_flash.specs.declared.told.Told.TheVariants.{Nothing, One, Blanked}
 use Rattle.dr_flash.proofs.FitLemmas.{fit-kept}
-use Rattle.dr_flash.proofs.FieldLemmas.{lawful-fetched, lawful-noted, lawful-rewritten, lawful-closed, lawful-made, lawful-withdrawn, Apart, apart-fetched, apart-empty, apart-parted, covers-all, covers-rest, covers-carried}
+use Rattle.dr_flash.proofs.FieldLemmas.{lawful-fetched, lawful-rewritten, lawful-closed, lawful-withdrawn, Apart, apart-fetched, apart-empty, apart-parted, covers-all, covers-rest, covers-carried}
 use Rattle.dr_flash.proofs.TurnLemmas.{Tells}
+use Rattle.dr_flash.proofs.CheckLemmas.{same-test}
+use Rattle.dr_facts.proofs.Lawful.{lawful-noted, lawful-made}
 
 -- the fields and the track of a move of v may come
-pub record MoveFits (s : PlantState) (t : Table) (v : ℕ) (f : Fields) (c : Carried) : Type 0 where
+pub record MoveFits (s : PlantState) (t : ConfigTable) (v : ℕ) (f : Fields) (c : Carried) : Type 0 where
   pub lawful : IsLawful (volume_seen s t v).tracks f
   pub covers : Covers (volume_seen s t v).fields.blank f.blank c
   pub leaves : LeavesFit s t v f
@@ -28,7 +31,7 @@ parted-keeps : (b : Bool) (f : Fields) → (parted_if b f).related ≡ true → 
 parted-keeps true f related = absurd (let e : false ≡ true = related in cc)
 parted-keeps false f related = (related, refl)
 
-module _ (s : PlantState) (t : Table) (v : ℕ) (fit : RelationsFit s t) (lawful : IsLawful (volume_seen s t v).tracks (volume_seen s t v).fields) where
+module _ (s : PlantState) (t : ConfigTable) (v : ℕ) (fit : RelationsFit s t) (lawful : IsLawful (volume_seen s t v).tracks (volume_seen s t v).fields) where
   abbrev x : Volume
   x = volume_seen s t v
 
@@ -46,7 +49,7 @@ module _ (s : PlantState) (t : Table) (v : ℕ) (fit : RelationsFit s t) (lawful
     }
 
     pub keep-fits : (bytes : List ℕ) → MoveFits s t v (fields_left (Keep v k) x) (Some (k, bytes))
-    keep-fits bytes = stored (noted (fetched x.fields k) k) refl refl refl refl (lawful-noted n k (fetched x.fields k) low related (lawful-fetched n k x.fields low related lawful)) bytes
+    keep-fits bytes = stored (noted (fetched x.fields k) k) refl refl refl refl ((lawful-noted n (fetched x.fields k) (lawful-fetched n k x.fields low related lawful) k related low)) bytes
 
     pub fetch-fits : (bytes : List ℕ) → MoveFits s t v (fields_left (Fetch v k) x) (Some (k, bytes))
     fetch-fits bytes = stored (fetched x.fields k) refl refl refl refl (lawful-fetched n k x.fields low related lawful) bytes
@@ -56,7 +59,7 @@ module _ (s : PlantState) (t : Table) (v : ℕ) (fit : RelationsFit s t) (lawful
 
     pub note-fits : MoveFits s t v (fields_left (Note v k) x) None
     note-fits = record {
-      lawful = lawful-noted n k x.fields low related lawful;
+      lawful = (lawful-noted n x.fields lawful k related low);
       covers = covers-all x.fields.blank None;
       leaves = fit-kept s t v (noted x.fields k) fit (λ r. (related, refl)) (fit.apart v);
     }
@@ -73,7 +76,7 @@ module _ (s : PlantState) (t : Table) (v : ℕ) (fit : RelationsFit s t) (lawful
   pub relate-fits : (from : ℕ) (o : Choices) → SourceFits (is_some (place_of t from)) x (volume_seen s t from) → from ≢ v → ((u : ℕ) → (volume_seen s t u).fields.related ≡ true → (volume_seen s t u).fields.source ≢ v)
       → MoveFits s t v (fields_left (Relate v from o) x) None
   relate-fits from o source ne lone = record {
-    lawful = lawful-made n from o x.fields lawful;
+    lawful = (lawful-made n x.fields lawful from o);
     covers = covers-all x.fields.blank None;
     leaves = record { source = λ r. source; other = λ r. ne; lone = λ r. lone; apart = apart-empty x.fields.blank };
   }
@@ -93,3 +96,8 @@ tells-relate v s o x = record { done = refl; in_stop = refl; landed = refl; sett
 
 pub tells-withdraw : (v : ℕ) (x : Volume) → Tells (Withdraw v) x (record { done = Blanked v x.tracks x.fields.own; in_stop = Blanked v x.tracks x.fields.own; landed = 0 })
 tells-withdraw v x = record { done = refl; in_stop = refl; landed = refl; settles = λ ps. refl; settles_in_stop = λ ps. refl }
+
+-- the track that a volume stored
+pub stored-track : (s u : PlantState) (c : ConfigTable) (v k : ℕ) (f : Fields) (bytes : List ℕ) → IsMoved s u c v f (Some (k, bytes)) → track_seen u c v k ≡ bytes
+stored-track s u c v k f bytes is =
+    ap (λ (z : ℕ → List ℕ). z k) is.tracks ∙ ap (λ b. if b then bytes else if contains f.blank k then zeros else track_seen s c v k) (same-test k k refl)

@@ -3,13 +3,13 @@ use Rattle.std.proofs.Common.{ℕ, ◌≡◌, ◌≢◌, ◌⊎◌, inl, inr, sl
 use Rattle.std.specs.Prelude.{IfSome, if◌then◌else◌}
 use Rattle.std.specs.FinSet.{contains, insert, remove, contains-empty}
 use Rattle.std.specs.Ordering.{nat_cmp}
-use Rattle.std.proofs.lemmas.Bool.{cases_eq}
+use Rattle.std.proofs.lemmas.Bool.{cases_eq, and_parts}
+use Rattle.dr_logic.specs.Bytes.{zeros}
 use Rattle.dr_bits.specs.Tracks.{Tracks}
 use Rattle.dr_bits.proofs.Laws.{contains-insert_tracks, contains-remove_tracks}
 use Rattle.dr_plant.specs.State.{PlantState}
-use Rattle.dr_config.specs.Table.{Table, place_of}
+use Rattle.dr_config.specs.Table.{ConfigTable, place_of}
 use Rattle.dr_config.specs.declared.entries.VolumeEntry.{VolumeEntry}
-use Rattle.dr_model.specs.Contents.{zeros}
 use Rattle.dr_model.specs.Control.{Volume}
 use Rattle.dr_model.specs.Layout.{Blocks, Fields, physical}
 use Rattle.dr_model.specs.Moves.{Carried, tracks_after}
@@ -20,28 +20,27 @@ use Rattle.dr_volume.specs.View.{volume_seen, track_seen, volume_at, track_at, v
 use Rattle.dr_flash.specs.Fit.{RelationsFit}
 use Rattle.dr_flash.specs.Views.{view_seen, AllShow, OthersShow, HoldsTrack}
 use Rattle.dr_flash.proofs.CheckLemmas.{same-test, differ-test}
-use Rattle.dr_flash.proofs.FetchLemmas.{first_of}
 use Rattle.dr_flash.proofs.FitLemmas.{target-no_source}
 use Rattle.dr_flash.proofs.SetLaws.{contains-rest, whole-some}
 use Rattle.dr_flash.proofs.ViewLemmas.{view-source, view-own}
 
 -- past its last track a volume reads zeros
-past-on : (blocks : Blocks) (o : Option VolumeEntry) (k : ℕ) → nat_lt k (volume_on blocks o).tracks ≡ false → track_on blocks o k ≡ zeros
+pub past-on : (blocks : Blocks) (o : Option VolumeEntry) (k : ℕ) → nat_lt k (volume_on blocks o).tracks ≡ false → track_on blocks o k ≡ zeros
 past-on blocks None k h = refl
 past-on blocks (Some e) k h = ap (λ b. if b then physical e.tracks blocks k else zeros) h
 
-past-at : (s : PlantState) (t : Table) (o : Option ℕ) (k : ℕ) → nat_lt k (volume_at s t o).tracks ≡ false → track_at s t o k ≡ zeros
+pub past-at : (s : PlantState) (t : ConfigTable) (o : Option ℕ) (k : ℕ) → nat_lt k (volume_at s t o).tracks ≡ false → track_at s t o k ≡ zeros
 past-at s t None k h = refl
 past-at s t (Some d) k h = past-on (s.block d) (slice_get t.volumes d) k h
 
-past : (s : PlantState) (t : Table) (v k : ℕ) → nat_lt k (volume_seen s t v).tracks ≡ false → track_seen s t v k ≡ zeros
+past : (s : PlantState) (t : ConfigTable) (v k : ℕ) → nat_lt k (volume_seen s t v).tracks ≡ false → track_seen s t v k ≡ zeros
 past s t v k h = past-at s t (place_of t v) k h
 
 -- where nothing changed
-pub show-same : (s u : PlantState) (c : Table) → ((q : ℕ) → IsAsBefore s u c q) → AllShow s u c
+pub show-same : (s u : PlantState) (c : ConfigTable) → ((q : ℕ) → IsAsBefore s u c q) → AllShow s u c
 show-same s u c same q k i = view (λ z. ((same z).volume i).fields) (λ z. (same z).tracks i) q k
 
-module _ (s u : PlantState) (c : Table) (v : ℕ) (others : OthersStay s u c v) where
+module _ (s u : PlantState) (c : ConfigTable) (v : ℕ) (others : OthersStay s u c v) where
   -- another volume, where v has the tracks that it shows of v
   pub show-other : (q k : ℕ) → q ≢ v → (shows_source (volume_seen s c q).fields k ≡ true → (volume_seen s c q).fields.source ≡ v → track_seen u c v k ≡ track_seen s c v k)
       → view_seen u c q k ≡ view_seen s c q k
@@ -60,23 +59,23 @@ module _ (s u : PlantState) (c : Table) (v : ℕ) (others : OthersStay s u c v) 
 
   -- no volume copies from v
   pub show-lone : ((q : ℕ) → (volume_seen s c q).fields.related ≡ true → (volume_seen s c q).fields.source ≢ v) → OthersShow s u c v
-  show-lone lone q k ne = show-other q k ne (λ shown is. absurd (lone q (first_of _ _ shown) is))
+  show-lone lone q k ne = show-other q k ne (λ shown is. absurd (lone q ((and_parts _ _ shown).0) is))
 
   -- v is a target
   pub show-target : RelationsFit s c → (volume_seen s c v).fields.related ≡ true → OthersShow s u c v
   show-target fit related = show-lone (λ q there. target-no_source s c v q fit related there)
 
 -- where v is as it was, or moved
-pub show-either : (s u : PlantState) (c : Table) (v : ℕ) (f : Fields) (m : Carried) → OthersStay s u c v → IsAsBefore s u c v ⊎ IsMoved s u c v f m → (IsMoved s u c v f m → AllShow s u c) → AllShow s u c
+pub show-either : (s u : PlantState) (c : ConfigTable) (v : ℕ) (f : Fields) (m : Carried) → OthersStay s u c v → IsAsBefore s u c v ⊎ IsMoved s u c v f m → (IsMoved s u c v f m → AllShow s u c) → AllShow s u c
 show-either s u c v f m others (inr is) shows = shows is
 show-either s u c v f m others (inl same) shows = show-same s u c (λ q. elim (cases_eq q v) as (λ _. IsAsBefore s u c q) [ inl is ↦ subst (λ z. IsAsBefore s u c z) (sym is) same | inr ne ↦ others q ne ])
 
 -- what a volume shows that moved
-pub moved-view : (s u : PlantState) (c : Table) (v : ℕ) (f : Fields) (m : Carried) → IsMoved s u c v f m → (k : ℕ) → view_seen u c v k ≡ cond (shows_source f k) (track_seen u c f.source k) (tracks_after f m (track_seen s c v) k)
+pub moved-view : (s u : PlantState) (c : ConfigTable) (v : ℕ) (f : Fields) (m : Carried) → IsMoved s u c v f m → (k : ℕ) → view_seen u c v k ≡ cond (shows_source f k) (track_seen u c f.source k) (tracks_after f m (track_seen s c v) k)
 moved-view s u c v f m is k i = cond (shows_source (is.volume i).fields k) (track_seen u c (is.volume i).fields.source k) (is.tracks i k)
 
 -- a volume that became a target shows what its source shows
-pub made-shows : (s u : PlantState) (c : Table) (v from : ℕ) (o : Choices) → OthersStay s u c v → (volume_seen s c from).fields.related ≡ false → from ≢ v → IsMoved s u c v (made from o (volume_seen s c v).fields) None
+pub made-shows : (s u : PlantState) (c : ConfigTable) (v from : ℕ) (o : Choices) → OthersStay s u c v → (volume_seen s c from).fields.related ≡ false → from ≢ v → IsMoved s u c v (made from o (volume_seen s c v).fields) None
     → (k : ℕ) → view_seen u c v k ≡ view_seen s c from k
 made-shows s u c v from o others plain ne is k =
     moved-view s u c v _ None is k
@@ -85,7 +84,7 @@ made-shows s u c v from o others plain ne is k =
     ∙ sym (view-own s c from k (ap (λ b. b && not (contains (volume_seen s c from).fields.own k)) plain))
 
 -- a target that is one no more shows what it held, and zeros
-pub withdrawn-shows : (s u : PlantState) (c : Table) (v : ℕ) → IsMoved s u c v (withdrawn_if true (volume_seen s c v).tracks (volume_seen s c v).fields) None
+pub withdrawn-shows : (s u : PlantState) (c : ConfigTable) (v : ℕ) → IsMoved s u c v (withdrawn_if true (volume_seen s c v).tracks (volume_seen s c v).fields) None
     → (k : ℕ) → view_seen u c v k ≡ (if contains (volume_seen s c v).fields.own k then track_seen s c v k else zeros)
 withdrawn-shows s u c v is k =
     moved-view s u c v _ None is k
@@ -105,7 +104,7 @@ whole-past n k own whole missing = elim (nat_lt k n) as (λ b. nat_lt k n ≡ b 
 ] refl
 
 -- a target takes a track, and may end
-module _ (s u : PlantState) (c : Table) (v : ℕ) (fit : RelationsFit s c) (related : (volume_seen s c v).fields.related ≡ true) (others : OthersStay s u c v) where
+module _ (s u : PlantState) (c : ConfigTable) (v : ℕ) (fit : RelationsFit s c) (related : (volume_seen s c v).fields.related ≡ true) (others : OthersStay s u c v) where
   abbrev x : Volume
   x = volume_seen s c v
 
@@ -180,7 +179,7 @@ module _ (s u : PlantState) (c : Table) (v : ℕ) (fit : RelationsFit s c) (rela
               (λ i. cond ((is_related ∙ related) i && not ((own-as ∙ missing) i)) (track_seen u c (is_source i) k) (tracks_after f (Some (t, bytes)) (track_seen s c v) k))
               ∙ source-stays k ∙ sym (shared-view k missing)
           pick false missing true whole =
-              let high = whole-past x.tracks k f.own (first_of _ _ whole) (own-as ∙ missing) in
+              let high = whole-past x.tracks k f.own ((and_parts _ _ whole).0) (own-as ∙ missing) in
               left ∙ none (contains x.fields.blank k) (past s c v k high)
               ∙ sym (past s c from k (ap (nat_lt k) (sym (fit.source v related).same_tracks) ∙ high)) ∙ sym (shared-view k missing)
 

@@ -6,25 +6,25 @@ use Rattle.std.proofs.Math.Numerals.{suc-eq-add-one}
 use Rattle.std.proofs.lemmas.List.{drop_all}
 use Rattle.std.proofs.lemmas.Bool.Decides.{nat_tests}
 use Rattle.dr_plant.specs.State.{PlantState}
-use Rattle.dr_config.specs.Table.{Table}
+use Rattle.dr_config.specs.Table.{ConfigTable}
 use Rattle.dr_config.specs.declared.entries.VolumeEntry.{VolumeEntry}
 use Rattle.dr_model.specs.Layout.{Fields}
-use Rattle.dr_model.specs.Entries.{copies_from}
-use Rattle.dr_volume.specs.View.{volume_seen, ids_of}
+use Rattle.dr_model.specs.Entries.{copies_from, is_revertible, is_reversing, relation_seen}
+use Rattle.dr_volume.specs.View.{volume_seen, ids_of, Rest}
 use Rattle.dr_flash.proofs.CopyLemmas.{ids-next}
 use Rattle.dr_ids.specs.declared.refusal.RelSeen.TheVariants.{Revertible, Reversing, Target, Source, None as Unrelated}
 use Rattle.dr_model.specs.declared.event.Event.{Event}
-use Rattle.dr_model.specs.Entries.{is_revertible, is_reversing, relation_seen}
-use Rattle.dr_volume.specs.View.{Rest}
-use Rattle.dr_flash.specs.Here.{seen}
+use Rattle.dr_flash.specs.Here.{world_seen}
 use Rattle.dr_flash.specs.Standing.{targets_in, any_of, relation_of}
+use Rattle.dr_volume.specs.declared.head.Head.{Head}
+use Rattle.dr_volume.specs.Head.{head_of}
 use Rattle.dr_flash.specs.declared.standing.Targets.{Targets}
 
 -- those from a place on
-abbrev pub targets_from : PlantState → Table → ℕ → ℕ → List ℕ
+abbrev pub targets_from : PlantState → ConfigTable → ℕ → ℕ → List ℕ
 targets_from s t v place = filter (λ u. copies_from v (volume_seen s t u).fields) (ids_of (drop place t.volumes))
 
-module _ (s : PlantState) (t : Table) (v place u : ℕ) (at : Some u ≡ option_map (λ (e : VolumeEntry). e.id) (slice_get t.volumes place)) where
+module _ (s : PlantState) (t : ConfigTable) (v place u : ℕ) (at : Some u ≡ option_map (λ (e : VolumeEntry). e.id) (slice_get t.volumes place)) where
   next-targets : targets_from s t v place ≡ cond (copies_from v (volume_seen s t u).fields) (u ∷ targets_from s t v (place + 1)) (targets_from s t v (place + 1))
   next-targets = ap (filter (λ u. copies_from v (volume_seen s t u).fields)) (ids-next t place u at)
 
@@ -42,7 +42,7 @@ module _ (s : PlantState) (t : Table) (v place u : ℕ) (at : Some u ≡ option_
       anys true xs = refl
       anys false xs = refl
 
-pub targets-none : (s : PlantState) (t : Table) (v place : ℕ) → length t.volumes ≤ place → targets_from s t v place ≡ []
+pub targets-none : (s : PlantState) (t : ConfigTable) (v place : ℕ) → length t.volumes ≤ place → targets_from s t v place ≡ []
 targets-none s t v place all = ap (λ es. filter (λ u. copies_from v (volume_seen s t u).fields) (ids_of es)) (drop_all place t.volumes all)
 
 or-assoc : (a b x : Bool) → ((a || b) || x) ≡ (a || (b || x))
@@ -52,10 +52,6 @@ or-assoc false b x = refl
 -- one turn: what was found, with what this volume adds and what is left, is all
 pub any-turn : (a b a' x y all : Bool) → a' ≡ (a || b) → x ≡ (b || y) → (a || x) ≡ all → (a' || y) ≡ all
 any-turn a b a' x y all now is h = ap (λ z. z || y) now ∙ or-assoc a b y ∙ ap (λ z. a || z) (sym is) ∙ h
-
-pub or-none : (a b : Bool) → b ≡ false → (a || b) ≡ a
-or-none true b none = refl
-or-none false b none = none
 
 -- there is a target where the count is above 0
 pub any-count : (xs : List ℕ) → nat_lt 0 (length xs) ≡ list_any (λ (u : ℕ). true) xs
@@ -70,9 +66,9 @@ last-seen : (b n m : Bool) → n ≡ m → (if b then Target else if n then Sour
 last-seen true n m e = refl
 last-seen false n m e = ap (λ x. if x then Source else Unrelated) e
 
-module _ (s : PlantState) (t : Table) (r : Rest) (events : List Event) (v : ℕ) (f : Fields) (all : Targets) (shows : f ≡ (volume_seen s t v).fields)
+module _ (s : PlantState) (t : ConfigTable) (r : Rest) (events : List Event) (v : ℕ) (f : Head) (all : Targets) (shows : f ≡ head_of (volume_seen s t v).fields)
     (count : all.count ≡ length (targets_in s t v)) (revertible : all.revertible ≡ any_of is_revertible s t v) (reversing : all.reversing ≡ any_of is_reversing s t v) where
-  pub relation-is : relation_of f all ≡ relation_seen (seen s t r events).control v
+  pub relation-is : relation_of f all ≡ relation_seen (world_seen s t r events).control v
   relation-is =
       (λ i. if (f.related && f.revertible) || revertible i then Revertible
       else if (f.related && f.reversing) || reversing i then Reversing

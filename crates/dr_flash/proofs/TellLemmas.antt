@@ -11,6 +11,7 @@ use Rattle.dr_model.specs.Moves.{told_blank}
 use Rattle.dr_model.specs.declared.event.Event.{Event}
 use Rattle.dr_model.specs.declared.event.Event.TheVariants.{Blanked}
 use Rattle.dr_flash.proofs.SetLaws.{contains-rest}
+use Rattle.dr_facts.proofs.Costs.{blanks-few}
 
 -- those from a track on
 abbrev pub blanked_from : ℕ → ℕ → Tracks → ℕ → List Event
@@ -55,9 +56,5 @@ few-blanked f v a (suc n) = more (f a) (few-blanked f v (a + 1) n)
     more true h = omega (arith, h)
     more false h = omega (arith, h)
 
-pub few-told : (v n : ℕ) (own : Tracks) → length (told_blank v n own) ≤ n
-unfolding in_order
-few-told v n own = few-blanked (contains (rest n own)) v 0 n
-
 pub room-blanked : (v n : ℕ) (own : Tracks) → max (length (told_blank v n own)) (length (told_blank v n own) + 1) ≤ n + 1
-room-blanked v n own = let h = few-told v n own in omega (arith, h)
+room-blanked v n own = let h = blanks-few v n own in omega (arith, h)

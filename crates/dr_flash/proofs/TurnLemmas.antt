@@ -16,7 +16,7 @@ use Rattle.dr_model.proofs.CarryLemmas.{act-move}
 use Rattle.dr_flash.specs.declared.told.Telling.{Telling}
 use Rattle.dr_flash.specs.Told.{events_of}
 use Rattle.dr_flash.specs.Turns.{made_by, Advances, Halts}
-use Rattle.dr_flash.proofs.EndsLemmas.{ends-off, ends-goes, ends-stops}
+use Rattle.dr_facts.proofs.Ends.{ends-off, ends-goes, ends-stops}
 
 -- what a move of that volume tells, and it settles no pending write
 pub record Tells (m : Move) (x : Volume) (telling : Telling) : Type 0 where
@@ -71,7 +71,3 @@ refused-by (Err x) e failed is = ap (λ y. Some y) is
 -- a server that goes off before a move ends all
 pub halts-gone : (armed : ℕ → Bool) (w u : World) (r : Option Refusal) (d : Entry) → GoesOff armed u r w → Halts armed w d u r
 halts-gone armed w u r d off ds = ends-off armed u r w (d ∷ ds) off
-
-pub err-always : {T E : Type 0} {P : Type 0} (r : Result T E) → P → OnErr r P
-err-always (Ok x) p = tt
-err-always (Err e) p = p

@@ -4,7 +4,7 @@ use Rattle.std.specs.Prelude.{is_some, if◌then◌else◌}
 use Rattle.std.specs.FinSet.{contains}
 use Rattle.dr_plant.specs.State.{PlantState, after_read, can_read, passes_read}
 use Rattle.dr_plant.proofs.StateLemmas.{read_done}
-use Rattle.dr_config.specs.Table.{Table, place_of}
+use Rattle.dr_config.specs.Table.{ConfigTable, place_of}
 use Rattle.dr_model.specs.Control.{Volume}
 use Rattle.dr_volume.specs.View.{volume_seen, track_seen, device_of}
 use Rattle.dr_volume.proofs.UnreadLaws.{lies-at}
@@ -22,21 +22,21 @@ own-done s d true can = can
 own-done s d false can = refl
 
 -- a volume's device is its server's
-owner : (c : Table) (s : PlantState) (v : ℕ) → IsAtRest s c → is_some (place_of c v) ≡ true → s.owner (device_of c v) ≡ (volume_seen s c v).server
+owner : (c : ConfigTable) (s : PlantState) (v : ℕ) → IsAtRest s c → is_some (place_of c v) ≡ true → s.owner (device_of c v) ≡ (volume_seen s c v).server
 owner c s v rest defined = let x = lies-at c s v defined (rest.sizes v) rest.stands in sym (server-seen c s v (device_of c v) x.0 x.1)
 
-pub reads-with : (c : Table) (s : PlantState) (v u : ℕ) → IsAtRest s c → is_some (place_of c v) ≡ true → is_some (place_of c u) ≡ true → (volume_seen s c v).server ≡ (volume_seen s c u).server
+pub reads-with : (c : ConfigTable) (s : PlantState) (v u : ℕ) → IsAtRest s c → is_some (place_of c v) ≡ true → is_some (place_of c u) ≡ true → (volume_seen s c v).server ≡ (volume_seen s c u).server
     → can_read s (device_of c v) ≡ true → can_read s (device_of c u) ≡ true
 reads-with c s v u rest defined there same can =
     ap (λ o. s.on o && passes_read (s.read_fuse o)) (owner c s u rest there ∙ sym same ∙ sym (owner c s v rest defined)) ∙ can
 
 -- a target that doesn't hold the track shows its source's
-pub view-source : (s : PlantState) (c : Table) (v k : ℕ) (f : Volume) → volume_seen s c v ≡ f → f.fields.related ≡ true → contains f.fields.own k ≡ false → view_seen s c v k ≡ track_seen s c f.fields.source k
+pub view-source : (s : PlantState) (c : ConfigTable) (v k : ℕ) (f : Volume) → volume_seen s c v ≡ f → f.fields.related ≡ true → contains f.fields.own k ≡ false → view_seen s c v k ≡ track_seen s c f.fields.source k
 view-source s c v k f is related missing =
     (λ i. cond ((is i).fields.related && not (contains (is i).fields.own k)) (track_seen s c (is i).fields.source k) (track_seen s c v k))
     ∙ ap (λ b. cond (b && not (contains f.fields.own k)) (track_seen s c f.fields.source k) (track_seen s c v k)) related
     ∙ ap (λ b. cond (not b) (track_seen s c f.fields.source k) (track_seen s c v k)) missing
 
 -- any other volume its own
-pub view-own : (s : PlantState) (c : Table) (v k : ℕ) → ((volume_seen s c v).fields.related && not (contains (volume_seen s c v).fields.own k)) ≡ false → view_seen s c v k ≡ track_seen s c v k
+pub view-own : (s : PlantState) (c : ConfigTable) (v k : ℕ) → ((volume_seen s c v).fields.related && not (contains (volume_seen s c v).fields.own k)) ≡ false → view_seen s c v k ≡ track_seen s c v k
 view-own s c v k own = ap (λ b. cond b (track_seen s c (volume_seen s c v).fields.source k) (track_seen s c v k)) own

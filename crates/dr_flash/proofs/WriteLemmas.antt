@@ -9,7 +9,7 @@ use Rattle.dr_model.specs.ReadStops.{GoesOff}
 use Rattle.dr_volume.specs.View.{Rest}
 use Rattle.dr_flash.specs.Here.{refusal_of}
 use Rattle.dr_flash.specs.Writes.{outcome_of}
-use Rattle.dr_flash.proofs.EndsLemmas.{wider-off}
+use Rattle.dr_facts.proofs.Ends.{wider-off}
 
 pub made-from : (res : Result (Unit {0}) Refusal) (armed more : ℕ → Bool) → ((q : ℕ) → armed q ≡ true → more q ≡ true) → (w u : Rest → World) (made : Rest → Turn) (server : ℕ)
     → OnOk res ((r : Rest) → made r ≡ (u r, None)) → OnErr res ((r : Rest) → GoesOff armed (u r) (refusal_of res) (w r) ⊎ (made r ≡ (u r, Some server))) → OnErr res (refusal_of res ≡ Some (stopped server))

@@ -1,10 +1,10 @@
 pub mod Options
 pub mod Here
-pub mod Faults
 pub mod Fit
 pub mod Told
 pub mod Turns
 pub mod Views
+pub mod Heads
 pub mod Writes
 pub mod Standing
 pub mod Checks

@@ -2,5 +2,6 @@
 use Rattle.dr_model.specs.Relations.{Choices}
 use Rattle.dr_flash.specs.declared.options.Options.{Options}
 
+-- the machine's choices of an option record
 abbrev pub choices : Options → Choices
 choices o = record { nocopy = o.nocopy; persistent = o.persistent; recorded = o.recorded; inhibited = o.inhibited; sequence = o.sequence }

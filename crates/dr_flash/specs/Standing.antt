@@ -6,22 +6,23 @@ use Rattle.dr_ids.specs.declared.refusal.RelSeen.TheVariants.{Revertible, Revers
 use Rattle.dr_ids.specs.declared.refusal.Refusal.{Refusal}
 use Rattle.dr_ids.specs.declared.refusal.Refusal.TheVariants.{InSession}
 use Rattle.dr_plant.specs.State.{PlantState}
-use Rattle.dr_config.specs.Table.{Table}
+use Rattle.dr_config.specs.Table.{ConfigTable}
 use Rattle.dr_model.specs.Layout.{Fields}
 use Rattle.dr_model.specs.Entries.{copies_from}
+use Rattle.dr_volume.specs.declared.head.Head.{Head}
 use Rattle.dr_volume.specs.View.{volume_seen, ids_of}
 use Rattle.dr_flash.specs.declared.standing.Targets.{Targets}
 
 -- the targets of v, in order of definition
-abbrev pub targets_in : PlantState → Table → ℕ → List ℕ
+abbrev pub targets_in : PlantState → ConfigTable → ℕ → List ℕ
 targets_in s t v = filter (λ u. copies_from v (volume_seen s t u).fields) (ids_of t.volumes)
 
 -- one of them is so
-abbrev pub any_of : (Fields → Bool) → PlantState → Table → ℕ → Bool
+abbrev pub any_of : (Fields → Bool) → PlantState → ConfigTable → ℕ → Bool
 any_of so s t v = list_any (λ u. so (volume_seen s t u).fields) (targets_in s t v)
 
--- how a volume with these fields and targets is seen
-abbrev pub relation_of : Fields → Targets → RelSeen
+-- how a volume with this head and these targets is seen
+abbrev pub relation_of : Head → Targets → RelSeen
 relation_of f all =
     if (f.related && f.revertible) || all.revertible then Revertible
     else if (f.related && f.reversing) || all.reversing then Reversing

@@ -31,6 +31,7 @@ Halts armed w d u r = (ds : List Entry) → Ends armed u r w (d ∷ ds)
 abbrev pub Leads : World → List Entry → World → Type 0
 Leads w es v = (armed : ℕ → Bool) (u : World) (r : Option Refusal) (ds : List Entry) → Ends armed u r v ds → Ends armed u r w (es ++ ds)
 
+-- or end all of them, however the plan goes on
 abbrev pub Fails : (ℕ → Bool) → World → List Entry → World → Option Refusal → Type 0
 Fails armed w es u r = (ds : List Entry) → Ends armed u r w (es ++ ds)
 

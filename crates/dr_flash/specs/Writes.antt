@@ -12,6 +12,7 @@ use Rattle.dr_model.specs.ReadStops.{GoesOff}
 use Rattle.dr_flash.specs.declared.told.Telling.{Telling}
 use Rattle.dr_flash.specs.Turns.{made_by, Leads, Fails}
 
+-- how a plan ends that ends with this turn
 abbrev pub outcome_of : Turn → Outcome
 outcome_of (w, None) = (w, None)
 outcome_of (w, Some s) = (w, Some (stopped s))

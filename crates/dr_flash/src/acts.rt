@@ -1,82 +1,31 @@
 //! One move of a volume as one act: its record and its track are changed, and the journal is told.
 
 ghost use Rattle.std.specs.Prelude.{◌≡◌, ℕ, ◌<◌, ◌≤◌, ◌+◌, true, length, None, Some, IsSome, IfSome, OnOk, OnErr, is_err, ◌⊎◌};
+ghost use Rattle.dr_logic.specs.Counts.{Counted};
 ghost use Rattle.dr_config.specs.Table.{place_of};
 ghost use Rattle.dr_model.specs.Carry as machine;
 ghost use Rattle.dr_model.specs.Lawful.{IsLawful};
 ghost use Rattle.dr_model.specs.Refusals.{stopped};
-ghost use Rattle.dr_volume.specs.Opened.{IsOpened};
 ghost use Rattle.dr_volume.specs.Plain.{plain};
 ghost use Rattle.dr_volume.specs.Update.{Covers, IsAsBefore, IsMoved, OthersStay};
 ghost use Rattle.dr_model.specs.ReadStops.{GoesOff};
 ghost use Rattle.dr_volume.specs.View.{Rest, volume_seen};
-ghost use Rattle.dr_flash.specs.Faults.{Counted};
 ghost use Rattle.dr_flash.specs.Fit.{RelationsFit, LeavesFit};
-ghost use Rattle.dr_flash.specs.Here.{seen, refusal_of, armed_in, IsAtRest};
+ghost use Rattle.dr_flash.specs.Here.{world_seen, refusal_of, armed_in, IsAtRest};
 ghost use Rattle.dr_flash.specs.Told.{events_of};
 ghost use Rattle.dr_flash.specs.Turns.{made_by, room_of};
 
 use crate::place::server_of;
-use crate::reads::open_told;
 use crate::told::{Telling, tell, tell_stop};
 use dr_config::Config;
 use dr_ids::{Refusal, VolumeId};
 use dr_model::Journal;
 use dr_plant::{Block, Plant};
-use dr_volume::{Fields, Opened, slot};
+use dr_volume::{Fields, slot, update};
 
-/// Makes a move of a volume that was opened: other fields and, where one is given, a track. Fails where the volume's
-/// server stops in it; a stop after which the volume's other slot is chosen counts the move as done.
-pub(crate) fn make<P: Plant>(
-    p: &mut P,
-    c: &Config,
-    j: &mut Journal,
-    v: VolumeId,
-    opened: &mut Opened,
-    next: &Fields,
-    track: Option<(u16, Block)>,
-    told: &Telling,
-) -> Result<(), Refusal>
-    requires rest { IsAtRest (P.state p.old) c.now }
-    requires defined { IsSome (place_of c.now v.0) }
-    requires opened { IsOpened (P.state p.old) c.now v.0 opened.old }
-    requires lawful { IsLawful (volume_seen (P.state p.old) c.now v.0).tracks (plain next.now) }
-    requires within { IfSome track (λ t. t.0 < (volume_seen (P.state p.old) c.now v.0).tracks) }
-    requires covers { Covers (volume_seen (P.state p.old) c.now v.0).fields.blank next.now.blank track }
-    requires room { room_of told.now ≤ j.old.spare }
-    ensures done { OnOk result ((r : Rest) → made_by (machine.update (seen (P.state p.old) c.now r j.old.events) v.0 (plain next.now) track) (volume_seen (P.state p.old) c.now v.0).server told.now
-        ≡ (seen (P.state p.new) c.now r j.new.events, None)) }
-    ensures stopped { OnErr result ((r : Rest) → made_by (machine.update (seen (P.state p.old) c.now r j.old.events) v.0 (plain next.now) track) (volume_seen (P.state p.old) c.now v.0).server told.now
-        ≡ (seen (P.state p.new) c.now r j.new.events, Some (volume_seen (P.state p.old) c.now v.0).server)) }
-    ensures refused { OnErr result (refusal_of result ≡ Some (stopped (volume_seen (P.state p.old) c.now v.0).server)) }
-    ensures rest { IsAtRest (P.state p.new) c.now }
-    ensures unarmed { (q : ℕ) → (P.state p.old).read_fuse q ≡ None → (P.state p.new).read_fuse q ≡ None }
-    ensures faults { Counted (is_err result) (P.state p.old).faults (P.state p.new).faults }
-    ensures old_or_new { IsAsBefore (P.state p.old) (P.state p.new) c.now v.0 ⊎ IsMoved (P.state p.old) (P.state p.new) c.now v.0 (plain next.now) track }
-    ensures moved { OnOk result (IsMoved (P.state p.old) (P.state p.new) c.now v.0 (plain next.now) track) }
-    ensures others { OthersStay (P.state p.old) (P.state p.new) c.now v.0 }
-    ensures on { OnOk result ((P.state p.new).on ≡ (P.state p.old).on) }
-    ensures room { j.old.spare ≤ j.new.spare + room_of told.now }
-    ensures room_left { OnOk result (j.old.spare ≡ j.new.spare + length (events_of told.now.done)) }
-    ensures spare { length j.new.events + j.new.spare ≡ length j.old.events + j.old.spare }
-{
-    let before = slot(p, c, v);
-    match opened.change(p, c, v, next, track) {
-        Ok(()) => {
-            tell(j, &told.done);
-            Ok(())
-        }
-        Err(_) => {
-            let server = server_of(c, v);
-            let done = slot(p, c, v) != before;
-            tell_stop(j, told, server, done);
-            Err(Refusal::Stopped { server })
-        }
-    }
-}
-
-/// Opens a volume whose server is on, and makes a move of it that leaves the relationships fitting. Fails where the server
-/// goes off at the read or stops in the move.
+/// Makes a move of a volume whose server is on, which leaves the relationships fitting: other fields and, where one is
+/// given, a track. Fails where the server goes off at the read of the gate or stops in the move; a stop after which the
+/// volume's other slot is chosen counts the move as done.
 pub fn shift<P: Plant>(
     p: &mut P,
     c: &Config,
@@ -95,11 +44,11 @@ pub fn shift<P: Plant>(
     requires covers { Covers (volume_seen (P.state p.old) c.now v.0).fields.blank next.now.blank track }
     requires leaves { LeavesFit (P.state p.old) c.now v.0 (plain next.now) }
     requires room { room_of told.now ≤ j.old.spare }
-    ensures done { OnOk result ((r : Rest) → made_by (machine.update (seen (P.state p.old) c.now r j.old.events) v.0 (plain next.now) track) (volume_seen (P.state p.old) c.now v.0).server told.now
-        ≡ (seen (P.state p.new) c.now r j.new.events, None)) }
-    ensures failed { OnErr result ((r : Rest) → GoesOff (armed_in (P.state p.old)) (seen (P.state p.new) c.now r j.new.events) (refusal_of result) (seen (P.state p.old) c.now r j.old.events)
-        ⊎ (made_by (machine.update (seen (P.state p.old) c.now r j.old.events) v.0 (plain next.now) track) (volume_seen (P.state p.old) c.now v.0).server told.now
-        ≡ (seen (P.state p.new) c.now r j.new.events, Some (volume_seen (P.state p.old) c.now v.0).server))) }
+    ensures done { OnOk result ((r : Rest) → made_by (machine.update (world_seen (P.state p.old) c.now r j.old.events) v.0 (plain next.now) track) (volume_seen (P.state p.old) c.now v.0).server told.now
+        ≡ (world_seen (P.state p.new) c.now r j.new.events, None)) }
+    ensures failed { OnErr result ((r : Rest) → GoesOff (armed_in (P.state p.old)) (world_seen (P.state p.new) c.now r j.new.events) (refusal_of result) (world_seen (P.state p.old) c.now r j.old.events)
+        ⊎ (made_by (machine.update (world_seen (P.state p.old) c.now r j.old.events) v.0 (plain next.now) track) (volume_seen (P.state p.old) c.now v.0).server told.now
+        ≡ (world_seen (P.state p.new) c.now r j.new.events, Some (volume_seen (P.state p.old) c.now v.0).server))) }
     ensures refused { OnErr result (refusal_of result ≡ Some (stopped (volume_seen (P.state p.old) c.now v.0).server)) }
     ensures rest { IsAtRest (P.state p.new) c.now }
     ensures fit { RelationsFit (P.state p.new) c.now }
@@ -113,6 +62,17 @@ pub fn shift<P: Plant>(
     ensures room_left { OnOk result (j.old.spare ≡ j.new.spare + length (events_of told.now.done)) }
     ensures spare { length j.new.events + j.new.spare ≡ length j.old.events + j.old.spare }
 {
-    let mut opened = open_told(p, c, j, v)?;
-    make(p, c, j, v, &mut opened, next, track, told)
+    let before = slot(p, c, v);
+    match update(p, c, v, next, track) {
+        Ok(()) => {
+            tell(j, &told.done);
+            Ok(())
+        }
+        Err(_) => {
+            let server = server_of(c, v);
+            let done = slot(p, c, v) != before;
+            tell_stop(j, told, server, done);
+            Err(Refusal::Stopped { server })
+        }
+    }
 }

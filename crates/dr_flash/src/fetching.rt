@@ -2,6 +2,7 @@
 
 ghost use Rattle.std.specs.Prelude.{◌≡◌, ℕ, ◌<◌, ◌≤◌, ◌+◌, Bool, true, false, None, Some, IsSome, IfSome, IfOk, OnOk, OnErr, is_ok, is_err, is_some, if◌then◌else◌, [], ◌∷◌, length};
 ghost use Rattle.std.specs.FinSet.{contains};
+ghost use Rattle.dr_logic.specs.Counts.{Counted};
 ghost use Rattle.dr_plant.specs.State.{after_read, can_read};
 ghost use Rattle.dr_config.specs.Table.{StandsFor, place_of};
 ghost use Rattle.dr_model.specs.Carry.{now};
@@ -15,9 +16,8 @@ ghost use Rattle.dr_volume.specs.Plain.{plain};
 ghost use Rattle.dr_volume.specs.Update.{OthersStay};
 ghost use Rattle.dr_volume.specs.View.{Rest, volume_seen, track_seen, device_of};
 ghost use Rattle.dr_volume.specs.Volume.{Shows};
-ghost use Rattle.dr_flash.specs.Faults.{Counted};
 ghost use Rattle.dr_flash.specs.Fit.{RelationsFit};
-ghost use Rattle.dr_flash.specs.Here.{seen, refusal_of, armed_in, IsAtRest};
+ghost use Rattle.dr_flash.specs.Here.{world_seen, refusal_of, armed_in, IsAtRest};
 ghost use Rattle.dr_flash.specs.Turns.{Advances, Halts};
 ghost use Rattle.dr_flash.specs.Views.{AllShow};
 
@@ -86,8 +86,8 @@ fn store_fetched<P: Plant>(
     requires missing { contains f.now.own t ≡ false }
     requires bytes { bytes.now ≡ track_seen (P.state p.old) c.now f.now.source.0 t }
     requires room { 2 ≤ j.old.spare }
-    ensures advances { OnOk result ((r : Rest) → Advances (seen (P.state p.old) c.now r j.old.events) (now (Fetch u.0 t)) (seen (P.state p.new) c.now r j.new.events)) }
-    ensures halts { OnErr result ((r : Rest) → Halts (armed_in (P.state p.old)) (seen (P.state p.old) c.now r j.old.events) (now (Fetch u.0 t)) (seen (P.state p.new) c.now r j.new.events) (refusal_of result)) }
+    ensures advances { OnOk result ((r : Rest) → Advances (world_seen (P.state p.old) c.now r j.old.events) (now (Fetch u.0 t)) (world_seen (P.state p.new) c.now r j.new.events)) }
+    ensures halts { OnErr result ((r : Rest) → Halts (armed_in (P.state p.old)) (world_seen (P.state p.old) c.now r j.old.events) (now (Fetch u.0 t)) (world_seen (P.state p.new) c.now r j.new.events) (refusal_of result)) }
     ensures refused { OnErr result (refusal_of result ≡ Some (stopped (volume_seen (P.state p.old) c.now u.0).server)) }
     ensures rest { IsAtRest (P.state p.new) c.now }
     ensures fit { RelationsFit (P.state p.new) c.now }
@@ -128,8 +128,8 @@ fn fetch<P: Plant>(
     requires within { t < (volume_seen (P.state p.old) c.now u.0).tracks }
     requires missing { contains f.now.own t ≡ false }
     requires room { 2 ≤ j.old.spare }
-    ensures advances { OnOk result ((r : Rest) → Advances (seen (P.state p.old) c.now r j.old.events) (now (Fetch u.0 t)) (seen (P.state p.new) c.now r j.new.events)) }
-    ensures halts { OnErr result ((r : Rest) → Halts (armed_in (P.state p.old)) (seen (P.state p.old) c.now r j.old.events) (now (Fetch u.0 t)) (seen (P.state p.new) c.now r j.new.events) (refusal_of result)) }
+    ensures advances { OnOk result ((r : Rest) → Advances (world_seen (P.state p.old) c.now r j.old.events) (now (Fetch u.0 t)) (world_seen (P.state p.new) c.now r j.new.events)) }
+    ensures halts { OnErr result ((r : Rest) → Halts (armed_in (P.state p.old)) (world_seen (P.state p.old) c.now r j.old.events) (now (Fetch u.0 t)) (world_seen (P.state p.new) c.now r j.new.events) (refusal_of result)) }
     ensures refused { OnErr result (refusal_of result ≡ Some (stopped (volume_seen (P.state p.old) c.now u.0).server)) }
     ensures rest { IsAtRest (P.state p.new) c.now }
     ensures fit { RelationsFit (P.state p.new) c.now }
@@ -175,10 +175,10 @@ pub fn copy_step<P: Plant>(
     requires defined { IsSome (place_of c.now v.0) }
     requires running { (P.state p.old).on (volume_seen (P.state p.old) c.now v.0).server ≡ true }
     requires room { 2 ≤ j.old.spare }
-    ensures carried { (r : Rest) → Ends (armed_in (P.state p.old)) (seen (P.state p.new) c.now r j.new.events) (refusal_of result) (seen (P.state p.old) c.now r j.old.events) (fetch_next v.0 ∷ []) }
-    ensures advances { OnOk result ((r : Rest) → Advances (seen (P.state p.old) c.now r j.old.events) (fetch_next v.0) (seen (P.state p.new) c.now r j.new.events)) }
-    ensures halts { OnErr result ((r : Rest) → Halts (armed_in (P.state p.old)) (seen (P.state p.old) c.now r j.old.events) (fetch_next v.0) (seen (P.state p.new) c.now r j.new.events) (refusal_of result)) }
-    ensures left { IfOk result (λ found. (r : Rest) → found ≡ is_some (lowest_missing v.0 (seen (P.state p.old) c.now r j.old.events).control)) }
+    ensures carried { (r : Rest) → Ends (armed_in (P.state p.old)) (world_seen (P.state p.new) c.now r j.new.events) (refusal_of result) (world_seen (P.state p.old) c.now r j.old.events) (fetch_next v.0 ∷ []) }
+    ensures advances { OnOk result ((r : Rest) → Advances (world_seen (P.state p.old) c.now r j.old.events) (fetch_next v.0) (world_seen (P.state p.new) c.now r j.new.events)) }
+    ensures halts { OnErr result ((r : Rest) → Halts (armed_in (P.state p.old)) (world_seen (P.state p.old) c.now r j.old.events) (fetch_next v.0) (world_seen (P.state p.new) c.now r j.new.events) (refusal_of result)) }
+    ensures left { IfOk result (λ found. (r : Rest) → found ≡ is_some (lowest_missing v.0 (world_seen (P.state p.old) c.now r j.old.events).control)) }
     ensures refused { OnErr result (refusal_of result ≡ Some (stopped (volume_seen (P.state p.old) c.now v.0).server)) }
     ensures rest { IsAtRest (P.state p.new) c.now }
     ensures fit { RelationsFit (P.state p.new) c.now }

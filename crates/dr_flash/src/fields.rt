@@ -7,7 +7,6 @@ ghost use Rattle.dr_volume.specs.Plain.{plain};
 ghost use Rattle.dr_flash.specs.Options.{choices};
 
 use crate::options::Options;
-use crate::pairs::is_part;
 use crate::sets::{is_whole, rest};
 use dr_bits::TrackSet;
 use dr_ids::VolumeId;
@@ -56,7 +55,7 @@ fn unsent_with(f: &Fields, t: u16) -> TrackSet
     ensures { result ≡ (pairs.parted_track (plain f.now) t).out_of_sync }
 {
     let mut unsent = f.out_of_sync;
-    if is_part(f.primary) {
+    if f.primary.is_part() {
         unsent.insert(t);
     }
     unsent
@@ -82,7 +81,7 @@ fn unsent_after(f: &Fields, t: u16) -> TrackSet
     ensures { result ≡ (pairs.written (plain f.now) t).out_of_sync }
 {
     let mut unsent = f.out_of_sync;
-    if is_part(f.primary) && !f.recording {
+    if f.primary.is_part() && !f.recording {
         unsent.insert(t);
     }
     unsent
@@ -94,7 +93,7 @@ fn changed_after(f: &Fields, t: u16) -> TrackSet
     ensures { result ≡ (pairs.written (plain f.now) t).change_recording }
 {
     let mut changed = f.change_recording;
-    if is_part(f.primary) && f.recording {
+    if f.primary.is_part() && f.recording {
         changed.insert(t);
     }
     changed

@@ -2,6 +2,7 @@
 
 ghost use Rattle.std.specs.Prelude.{◌≡◌, ℕ, ◌<◌, ◌≤◌, ◌+◌, Bool, true, false, not, ◌&&◌, length, None, Some, IsSome, OnOk, OnErr, is_err};
 ghost use Rattle.std.specs.FinSet.{contains};
+ghost use Rattle.dr_logic.specs.Counts.{Counted};
 ghost use Rattle.dr_config.specs.Table.{place_of};
 ghost use Rattle.dr_model.specs.Carry.{now};
 ghost use Rattle.dr_model.specs.Entries as entries;
@@ -12,10 +13,10 @@ ghost use Rattle.dr_volume.specs.Plain.{plain};
 ghost use Rattle.dr_volume.specs.Update.{IsAsBefore, OthersStay};
 ghost use Rattle.dr_volume.specs.View.{Rest, volume_seen, track_seen};
 ghost use Rattle.dr_volume.specs.Volume.{Shows};
-ghost use Rattle.dr_flash.specs.Faults.{Counted};
 ghost use Rattle.dr_flash.specs.Fit.{RelationsFit};
-ghost use Rattle.dr_flash.specs.Here.{seen, refusal_of, armed_in, IsAtRest};
+ghost use Rattle.dr_flash.specs.Here.{world_seen, refusal_of, armed_in, IsAtRest};
 ghost use Rattle.dr_flash.specs.Turns.{Advances, Halts};
+ghost use Rattle.dr_flash.specs.Heads.{kept_by};
 ghost use Rattle.dr_flash.specs.Views.{AllShow, HoldsTrack, KeepsTrack};
 
 use crate::acts::shift;
@@ -27,7 +28,7 @@ use dr_config::Config;
 use dr_ids::{Refusal, VolumeId};
 use dr_model::{Event, Journal};
 use dr_plant::{Block, Plant};
-use dr_volume::{Fields, peek_fields};
+use dr_volume::{Fields, Head, peek_fields, peek_head_at};
 
 /// Stores at target u the bytes of track t of its source.
 fn store<P: Plant>(
@@ -49,8 +50,8 @@ fn store<P: Plant>(
     requires missing { contains f.now.own t ≡ false }
     requires bytes { bytes.now ≡ track_seen (P.state p.old) c.now f.now.source.0 t }
     requires room { 2 ≤ j.old.spare }
-    ensures advances { OnOk result ((r : Rest) → Advances (seen (P.state p.old) c.now r j.old.events) (now (Keep u.0 t)) (seen (P.state p.new) c.now r j.new.events)) }
-    ensures halts { OnErr result ((r : Rest) → Halts (armed_in (P.state p.old)) (seen (P.state p.old) c.now r j.old.events) (now (Keep u.0 t)) (seen (P.state p.new) c.now r j.new.events) (refusal_of result)) }
+    ensures advances { OnOk result ((r : Rest) → Advances (world_seen (P.state p.old) c.now r j.old.events) (now (Keep u.0 t)) (world_seen (P.state p.new) c.now r j.new.events)) }
+    ensures halts { OnErr result ((r : Rest) → Halts (armed_in (P.state p.old)) (world_seen (P.state p.old) c.now r j.old.events) (now (Keep u.0 t)) (world_seen (P.state p.new) c.now r j.new.events) (refusal_of result)) }
     ensures refused { OnErr result (refusal_of result ≡ Some (stopped (volume_seen (P.state p.old) c.now u.0).server)) }
     ensures rest { IsAtRest (P.state p.new) c.now }
     ensures fit { RelationsFit (P.state p.new) c.now }
@@ -92,8 +93,8 @@ fn keep<P: Plant>(
     requires within { t < (volume_seen (P.state p.old) c.now u.0).tracks }
     requires missing { contains f.now.own t ≡ false }
     requires room { 2 ≤ j.old.spare }
-    ensures advances { OnOk result ((r : Rest) → Advances (seen (P.state p.old) c.now r j.old.events) (now (Keep u.0 t)) (seen (P.state p.new) c.now r j.new.events)) }
-    ensures halts { OnErr result ((r : Rest) → Halts (armed_in (P.state p.old)) (seen (P.state p.old) c.now r j.old.events) (now (Keep u.0 t)) (seen (P.state p.new) c.now r j.new.events) (refusal_of result)) }
+    ensures advances { OnOk result ((r : Rest) → Advances (world_seen (P.state p.old) c.now r j.old.events) (now (Keep u.0 t)) (world_seen (P.state p.new) c.now r j.new.events)) }
+    ensures halts { OnErr result ((r : Rest) → Halts (armed_in (P.state p.old)) (world_seen (P.state p.old) c.now r j.old.events) (now (Keep u.0 t)) (world_seen (P.state p.new) c.now r j.new.events) (refusal_of result)) }
     ensures refused { OnErr result (refusal_of result ≡ Some (stopped (volume_seen (P.state p.old) c.now u.0).server)) }
     ensures rest { IsAtRest (P.state p.new) c.now }
     ensures fit { RelationsFit (P.state p.new) c.now }
@@ -129,8 +130,8 @@ fn note<P: Plant>(
     requires related { f.now.related ≡ true }
     requires within { t < (volume_seen (P.state p.old) c.now u.0).tracks }
     requires room { 2 ≤ j.old.spare }
-    ensures advances { OnOk result ((r : Rest) → Advances (seen (P.state p.old) c.now r j.old.events) (now (Note u.0 t)) (seen (P.state p.new) c.now r j.new.events)) }
-    ensures halts { OnErr result ((r : Rest) → Halts (armed_in (P.state p.old)) (seen (P.state p.old) c.now r j.old.events) (now (Note u.0 t)) (seen (P.state p.new) c.now r j.new.events) (refusal_of result)) }
+    ensures advances { OnOk result ((r : Rest) → Advances (world_seen (P.state p.old) c.now r j.old.events) (now (Note u.0 t)) (world_seen (P.state p.new) c.now r j.new.events)) }
+    ensures halts { OnErr result ((r : Rest) → Halts (armed_in (P.state p.old)) (world_seen (P.state p.old) c.now r j.old.events) (now (Note u.0 t)) (world_seen (P.state p.new) c.now r j.new.events) (refusal_of result)) }
     ensures refused { OnErr result (refusal_of result ≡ Some (stopped (volume_seen (P.state p.old) c.now u.0).server)) }
     ensures rest { IsAtRest (P.state p.new) c.now }
     ensures fit { RelationsFit (P.state p.new) c.now }
@@ -148,9 +149,9 @@ fn note<P: Plant>(
     shift(p, c, j, u, &next, None, &Telling::of(Told::Nothing))
 }
 
-/// Whether a volume with these fields is a target of v that isn't restored onto it.
-fn is_kept_for(f: &Fields, v: VolumeId) -> bool
-    ensures { result ≡ (copies_from v.0 (plain f.now) && not f.now.reversing) }
+/// Whether a volume with this head is a target of v that isn't restored onto it.
+fn is_kept_for(f: &Head, v: VolumeId) -> bool
+    ensures { result ≡ kept_by v.0 f.now }
 {
     f.related && f.source.0 == v.0 && !f.reversing
 }
@@ -162,7 +163,8 @@ fn is_news(f: &Fields, t: u16) -> bool
     f.recorded && !f.source_changes.contains(t)
 }
 
-/// Before track t of v changes, u keeps it where u is a target of v, or notes the change where u holds it.
+/// Before track t of v changes, u, which was defined after so many others, keeps it where u is a target of v, or notes the
+/// change where u holds it. Of a volume that is no such target the head alone is looked at.
 pub fn keep_on<P: Plant>(
     p: &mut P,
     c: &Config,
@@ -170,15 +172,17 @@ pub fn keep_on<P: Plant>(
     v: VolumeId,
     t: u16,
     u: VolumeId,
+    place: usize,
 ) -> Result<(), Refusal>
     requires rest { IsAtRest (P.state p.old) c.now }
     requires fit { RelationsFit (P.state p.old) c.now }
-    requires defined { IsSome (place_of c.now u.0) }
+    requires there { place < length c.now.volumes }
+    requires at { place_of c.now u.0 ≡ Some place }
     requires running { (P.state p.old).on (volume_seen (P.state p.old) c.now v.0).server ≡ true }
     requires within { t < (volume_seen (P.state p.old) c.now v.0).tracks }
     requires room { 2 ≤ j.old.spare }
-    ensures advances { OnOk result ((r : Rest) → Advances (seen (P.state p.old) c.now r j.old.events) (entries.keep_on v.0 t u.0) (seen (P.state p.new) c.now r j.new.events)) }
-    ensures halts { OnErr result ((r : Rest) → Halts (armed_in (P.state p.old)) (seen (P.state p.old) c.now r j.old.events) (entries.keep_on v.0 t u.0) (seen (P.state p.new) c.now r j.new.events) (refusal_of result)) }
+    ensures advances { OnOk result ((r : Rest) → Advances (world_seen (P.state p.old) c.now r j.old.events) (entries.keep_on v.0 t u.0) (world_seen (P.state p.new) c.now r j.new.events)) }
+    ensures halts { OnErr result ((r : Rest) → Halts (armed_in (P.state p.old)) (world_seen (P.state p.old) c.now r j.old.events) (entries.keep_on v.0 t u.0) (world_seen (P.state p.new) c.now r j.new.events) (refusal_of result)) }
     ensures refused { OnErr result (refusal_of result ≡ Some (stopped (volume_seen (P.state p.old) c.now v.0).server)) }
     ensures rest { IsAtRest (P.state p.new) c.now }
     ensures fit { RelationsFit (P.state p.new) c.now }
@@ -194,10 +198,10 @@ pub fn keep_on<P: Plant>(
     ensures room_left { OnOk result (j.old.spare ≤ j.new.spare + 1) }
     ensures spare { length j.new.events + j.new.spare ≡ length j.old.events + j.old.spare }
 {
-    let fields = peek_fields(p, c, u);
-    if !is_kept_for(&fields, v) {
+    if !is_kept_for(&peek_head_at(p, c, place), v) {
         return Ok(());
     }
+    let fields = peek_fields(p, c, u);
     if !fields.own.contains(t) {
         return keep(p, c, j, u, t, &fields);
     }

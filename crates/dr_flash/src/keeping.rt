@@ -1,6 +1,7 @@
 //! Before a track of a source changes, its targets keep it.
 
 ghost use Rattle.std.specs.Prelude.{◌≡◌, ℕ, ◌<◌, ◌≤◌, ◌+◌, true, false, length, None, IsSome, OnOk, OnErr, is_err};
+ghost use Rattle.dr_logic.specs.Counts.{Counted};
 ghost use Rattle.dr_config.specs.Table.{place_of};
 ghost use Rattle.dr_model.specs.Entries as entries;
 ghost use Rattle.dr_model.specs.Entries.{copies_from};
@@ -8,9 +9,8 @@ ghost use Rattle.dr_model.specs.ReadStops.{Ends};
 ghost use Rattle.dr_model.specs.Refusals.{stopped};
 ghost use Rattle.dr_volume.specs.Update.{IsAsBefore};
 ghost use Rattle.dr_volume.specs.View.{Rest, volume_seen, ids_of};
-ghost use Rattle.dr_flash.specs.Faults.{Counted};
 ghost use Rattle.dr_flash.specs.Fit.{RelationsFit};
-ghost use Rattle.dr_flash.specs.Here.{seen, refusal_of, armed_in, IsAtRest};
+ghost use Rattle.dr_flash.specs.Here.{world_seen, refusal_of, armed_in, IsAtRest};
 ghost use Rattle.dr_flash.specs.Turns.{Leads, Fails};
 ghost use Rattle.dr_flash.specs.Views.{AllShow, kept_for, KeepsTrack};
 
@@ -37,9 +37,9 @@ pub fn copy_first<P: Plant>(
     requires running { (P.state p.old).on (volume_seen (P.state p.old) c.now v.0).server ≡ true }
     requires within { t < (volume_seen (P.state p.old) c.now v.0).tracks }
     requires room { length c.now.volumes + 1 ≤ j.old.spare }
-    ensures carried { (r : Rest) → Ends (armed_in (P.state p.old)) (seen (P.state p.new) c.now r j.new.events) (refusal_of result) (seen (P.state p.old) c.now r j.old.events) (entries.copy_first (ids_of c.now.volumes) v.0 t) }
-    ensures leads { OnOk result ((r : Rest) → Leads (seen (P.state p.old) c.now r j.old.events) (entries.copy_first (ids_of c.now.volumes) v.0 t) (seen (P.state p.new) c.now r j.new.events)) }
-    ensures fails { OnErr result ((r : Rest) → Fails (armed_in (P.state p.old)) (seen (P.state p.old) c.now r j.old.events) (entries.copy_first (ids_of c.now.volumes) v.0 t) (seen (P.state p.new) c.now r j.new.events) (refusal_of result)) }
+    ensures carried { (r : Rest) → Ends (armed_in (P.state p.old)) (world_seen (P.state p.new) c.now r j.new.events) (refusal_of result) (world_seen (P.state p.old) c.now r j.old.events) (entries.copy_first (ids_of c.now.volumes) v.0 t) }
+    ensures leads { OnOk result ((r : Rest) → Leads (world_seen (P.state p.old) c.now r j.old.events) (entries.copy_first (ids_of c.now.volumes) v.0 t) (world_seen (P.state p.new) c.now r j.new.events)) }
+    ensures fails { OnErr result ((r : Rest) → Fails (armed_in (P.state p.old)) (world_seen (P.state p.old) c.now r j.old.events) (entries.copy_first (ids_of c.now.volumes) v.0 t) (world_seen (P.state p.new) c.now r j.new.events) (refusal_of result)) }
     ensures refused { OnErr result (refusal_of result ≡ Some (stopped (volume_seen (P.state p.old) c.now v.0).server)) }
     ensures rest { IsAtRest (P.state p.new) c.now }
     ensures fit { RelationsFit (P.state p.new) c.now }
@@ -56,7 +56,7 @@ pub fn copy_first<P: Plant>(
 {
     for place in 0..c.volumes() {
         let u = c.volume_at(place).unwrap();
-        keep_on(p, c, j, v, t, u)?;
+        keep_on(p, c, j, v, t, u, place)?;
     }
     Ok(())
 }

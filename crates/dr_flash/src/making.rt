@@ -1,6 +1,7 @@
 //! Making a relationship.
 
 ghost use Rattle.std.specs.Prelude.{◌≡◌, ◌≢◌, ℕ, ◌<◌, ◌≤◌, ◌+◌, List, true, false, None, Some, IsSome, OnOk, OnErr, is_err, is_some, length};
+ghost use Rattle.dr_logic.specs.Counts.{Counted};
 ghost use Rattle.dr_plant.specs.State.{PlantState};
 ghost use Rattle.dr_config.specs.Table.{StandsFor, place_of};
 ghost use Rattle.dr_model.specs.declared.event.Event.{Event};
@@ -12,9 +13,8 @@ ghost use Rattle.dr_model.specs.Refusals.{stopped};
 ghost use Rattle.dr_volume.specs.Update.{OthersStay};
 ghost use Rattle.dr_volume.specs.View.{Rest, volume_seen};
 ghost use Rattle.dr_flash.specs.Checks.{Checked, OnNone, is_stop};
-ghost use Rattle.dr_flash.specs.Faults.{Counted};
 ghost use Rattle.dr_flash.specs.Fit.{SourceFits, RelationsFit};
-ghost use Rattle.dr_flash.specs.Here.{seen, refusal_of, armed_in, IsAtRest};
+ghost use Rattle.dr_flash.specs.Here.{world_seen, refusal_of, armed_in, IsAtRest};
 ghost use Rattle.dr_flash.specs.Options.{choices};
 ghost use Rattle.dr_flash.specs.Turns.{Advances, Halts};
 ghost use Rattle.dr_flash.specs.Views.{view_seen, OthersShow};
@@ -39,7 +39,7 @@ const MOST_TARGETS: usize = 12;
 fn alike_refusal(c: &Config, s: VolumeId, t: VolumeId) -> Option<Refusal>
     requires source { IsSome (place_of c.now s.0) }
     requires target { IsSome (place_of c.now t.0) }
-    ensures checked { (x : PlantState) (r : Rest) (events : List Event) → Checked (seen x c.now r events) (alike_checks s.0 t.0) result }
+    ensures checked { (x : PlantState) (r : Rest) (events : List Event) → Checked (world_seen x c.now r events) (alike_checks s.0 t.0) result }
     ensures calm { is_stop result ≡ false }
     ensures apart { OnNone result (s.0 ≢ t.0) }
     ensures server { OnNone result ((x : PlantState) → (volume_seen x c.now t.0).server ≡ (volume_seen x c.now s.0).server) }
@@ -65,7 +65,7 @@ fn free_refusal<P: Plant>(p: &P, c: &Config, s: VolumeId, t: VolumeId) -> Option
     requires stands { StandsFor c.now (P.state p.now) }
     requires source { IsSome (place_of c.now s.0) }
     requires target { IsSome (place_of c.now t.0) }
-    ensures checked { (r : Rest) (events : List Event) → Checked (seen (P.state p.now) c.now r events) (free_checks (seen (P.state p.now) c.now r events).control s.0 t.0) result }
+    ensures checked { (r : Rest) (events : List Event) → Checked (world_seen (P.state p.now) c.now r events) (free_checks (world_seen (P.state p.now) c.now r events).control s.0 t.0) result }
     ensures calm { is_stop result ≡ false }
     ensures lone { OnNone result ((u : ℕ) → (volume_seen (P.state p.now) c.now u).fields.related ≡ true → (volume_seen (P.state p.now) c.now u).fields.source ≢ t.0) }
     ensures plain { OnNone result ((volume_seen (P.state p.now) c.now s.0).fields.related ≡ false) }
@@ -107,8 +107,8 @@ fn relate<P: Plant>(
     requires apart { s.0 ≢ t.0 }
     requires lone { (u : ℕ) → (volume_seen (P.state p.old) c.now u).fields.related ≡ true → (volume_seen (P.state p.old) c.now u).fields.source ≢ t.0 }
     requires room { 2 ≤ j.old.spare }
-    ensures advances { OnOk result ((r : Rest) → Advances (seen (P.state p.old) c.now r j.old.events) (now (Relate t.0 s.0 (choices o.now))) (seen (P.state p.new) c.now r j.new.events)) }
-    ensures halts { OnErr result ((r : Rest) → Halts (armed_in (P.state p.old)) (seen (P.state p.old) c.now r j.old.events) (now (Relate t.0 s.0 (choices o.now))) (seen (P.state p.new) c.now r j.new.events) (refusal_of result)) }
+    ensures advances { OnOk result ((r : Rest) → Advances (world_seen (P.state p.old) c.now r j.old.events) (now (Relate t.0 s.0 (choices o.now))) (world_seen (P.state p.new) c.now r j.new.events)) }
+    ensures halts { OnErr result ((r : Rest) → Halts (armed_in (P.state p.old)) (world_seen (P.state p.old) c.now r j.old.events) (now (Relate t.0 s.0 (choices o.now))) (world_seen (P.state p.new) c.now r j.new.events) (refusal_of result)) }
     ensures refused { OnErr result (refusal_of result ≡ Some (stopped (volume_seen (P.state p.old) c.now t.0).server)) }
     ensures rest { IsAtRest (P.state p.new) c.now }
     ensures fit { RelationsFit (P.state p.new) c.now }
@@ -146,8 +146,8 @@ pub fn establish<P: Plant>(
     requires source { IsSome (place_of c.now s.0) }
     requires target { IsSome (place_of c.now t.0) }
     requires room { 2 ≤ j.old.spare }
-    ensures carried { (r : Rest) → Ends (armed_in (P.state p.old)) (seen (P.state p.new) c.now r j.new.events) (refusal_of result) (seen (P.state p.old) c.now r j.old.events)
-        (flash_entries (seen (P.state p.old) c.now r j.old.events).control s.0 t.0 (choices o.now)) }
+    ensures carried { (r : Rest) → Ends (armed_in (P.state p.old)) (world_seen (P.state p.new) c.now r j.new.events) (refusal_of result) (world_seen (P.state p.old) c.now r j.old.events)
+        (flash_entries (world_seen (P.state p.old) c.now r j.old.events).control s.0 t.0 (choices o.now)) }
     ensures unchanged { is_stop (refusal_of result) ≡ false → OnErr result ((P.state p.new ≡ P.state p.old) × (j.new ≡ j.old)) }
     ensures rest { IsAtRest (P.state p.new) c.now }
     ensures fit { RelationsFit (P.state p.new) c.now }

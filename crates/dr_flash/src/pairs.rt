@@ -4,51 +4,30 @@ ghost use Rattle.std.specs.Prelude.{◌≡◌, not, ◌||◌, false, Some, List,
 ghost use Rattle.dr_config.specs.Table.{StandsFor, place_of};
 ghost use Rattle.dr_model.specs.declared.event.Event.{Event};
 ghost use Rattle.dr_model.specs.Entries as entries;
-ghost use Rattle.dr_model.specs.Layout as layout;
 ghost use Rattle.dr_model.specs.Pairs as pairs;
 ghost use Rattle.dr_volume.specs.Plain.{plain};
 ghost use Rattle.dr_volume.specs.View.{Rest};
 ghost use Rattle.dr_flash.specs.Checks.{is_stop};
-ghost use Rattle.dr_flash.specs.Here.{seen};
+ghost use Rattle.dr_flash.specs.Here.{world_seen};
 
 use dr_config::Config;
 use dr_ids::{PairSeen, Refusal, VolumeId};
-use dr_model::{PairState, Part};
+use dr_model::PairState;
 use dr_plant::Plant;
 use dr_volume::{Fields, peek_fields};
-
-/// Whether a volume has a part in a pair.
-pub fn is_part(part: Part) -> bool
-    ensures { result ≡ layout.is_part part }
-{
-    match part {
-        Part::Absent => false,
-        Part::Metro | Part::Global => true,
-    }
-}
-
-/// Whether a primary is Suspended.
-pub fn is_suspended(state: PairState) -> bool
-    ensures { result ≡ pairs.is_suspended state }
-{
-    match state {
-        PairState::Suspended => true,
-        PairState::CopyPending | PairState::FullDuplex => false,
-    }
-}
 
 /// Whether a volume has no part in a pair.
 pub fn is_unpaired(f: &Fields) -> bool
     ensures { result ≡ pairs.is_unpaired (plain f.now) }
 {
-    !is_part(f.primary) && !is_part(f.secondary)
+    !f.primary.is_part() && !f.secondary.is_part()
 }
 
 /// Whether a volume is no primary, or a Suspended one.
 pub fn is_quiet(f: &Fields) -> bool
     ensures { result ≡ pairs.is_quiet (plain f.now) }
 {
-    !is_part(f.primary) || is_suspended(f.primary_state)
+    !f.primary.is_part() || f.primary_state.is_suspended()
 }
 
 /// How the state of a primary is seen.
@@ -77,9 +56,9 @@ fn target_seen(state: PairState) -> PairSeen
 fn pair_seen(f: &Fields) -> PairSeen
     ensures { result ≡ pairs.pair_seen (plain f.now) }
 {
-    if is_part(f.primary) {
+    if f.primary.is_part() {
         state_seen(f.primary_state)
-    } else if is_part(f.secondary) {
+    } else if f.secondary.is_part() {
         target_seen(f.secondary_state)
     } else {
         PairSeen::None
@@ -90,7 +69,7 @@ fn pair_seen(f: &Fields) -> PairSeen
 pub fn pair_state<P: Plant>(p: &P, c: &Config, v: VolumeId) -> Refusal
     requires stands { StandsFor c.now (P.state p.now) }
     requires defined { IsSome (place_of c.now v.0) }
-    ensures refusal { (r : Rest) (events : List Event) → result ≡ entries.pair_state (seen (P.state p.now) c.now r events).control v.0 }
+    ensures refusal { (r : Rest) (events : List Event) → result ≡ entries.pair_state (world_seen (P.state p.now) c.now r events).control v.0 }
     ensures calm { is_stop (Some result) ≡ false }
 {
     let fields = peek_fields(p, c, v);

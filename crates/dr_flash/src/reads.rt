@@ -1,23 +1,22 @@
 //! Reads that a move begins with: a server that goes off at one is told to the journal.
 
 ghost use Rattle.std.specs.Prelude.{◌≡◌, ℕ, ◌<◌, ◌≤◌, ◌+◌, ◌++◌, ◌∷◌, [], true, length, None, Some, IsSome, IfOk, OnOk, OnErr, is_err};
+ghost use Rattle.dr_logic.specs.Counts.{Counted};
 ghost use Rattle.dr_plant.specs.State.{PlantState};
 ghost use Rattle.dr_config.specs.Table.{place_of};
 ghost use Rattle.dr_model.specs.declared.event.Event.{Event};
 ghost use Rattle.dr_model.specs.ReadStops.{GoesOff};
 ghost use Rattle.dr_model.specs.Refusals.{stopped};
-ghost use Rattle.dr_volume.specs.Opened.{IsOpened};
 ghost use Rattle.dr_volume.specs.Update.{IsAsBefore};
 ghost use Rattle.dr_volume.specs.View.{Rest, volume_seen, track_seen};
-ghost use Rattle.dr_flash.specs.Faults.{Counted};
-ghost use Rattle.dr_flash.specs.Here.{seen, refusal_of, armed_in, IsAtRest};
+ghost use Rattle.dr_flash.specs.Here.{world_seen, refusal_of, armed_in, IsAtRest};
 
 use crate::place::server_of;
 use dr_config::Config;
 use dr_ids::{Refusal, VolumeId};
 use dr_model::{Event, Journal};
 use dr_plant::{Block, Plant};
-use dr_volume::{Opened, open, read_track};
+use dr_volume::read_track;
 
 /// Tells that the server of a volume went off by itself.
 fn gone_off(c: &Config, j: &mut Journal, v: VolumeId) -> Refusal
@@ -34,35 +33,6 @@ fn gone_off(c: &Config, j: &mut Journal, v: VolumeId) -> Refusal
         write: 0,
     });
     Refusal::Stopped { server }
-}
-
-/// Opens a volume whose server is on. Fails where the server goes off at the read.
-pub fn open_told<P: Plant>(
-    p: &mut P,
-    c: &Config,
-    j: &mut Journal,
-    v: VolumeId,
-) -> Result<Opened, Refusal>
-    requires rest { IsAtRest (P.state p.old) c.now }
-    requires defined { IsSome (place_of c.now v.0) }
-    requires running { (P.state p.old).on (volume_seen (P.state p.old) c.now v.0).server ≡ true }
-    requires room { 1 ≤ j.old.spare }
-    ensures opened { IfOk result (λ o. IsOpened (P.state p.old) c.now v.0 o) }
-    ensures passed { OnOk result (P.state p.new ≡ P.state p.old) }
-    ensures silent { OnOk result (j.new ≡ j.old) }
-    ensures gone { OnErr result ((r : Rest) → GoesOff (armed_in (P.state p.old)) (seen (P.state p.new) c.now r j.new.events) (refusal_of result) (seen (P.state p.old) c.now r j.old.events)) }
-    ensures refused { OnErr result (refusal_of result ≡ Some (stopped (volume_seen (P.state p.old) c.now v.0).server)) }
-    ensures same { (u : ℕ) → IsAsBefore (P.state p.old) (P.state p.new) c.now u }
-    ensures rest { IsAtRest (P.state p.new) c.now }
-    ensures unarmed { (q : ℕ) → (P.state p.old).read_fuse q ≡ None → (P.state p.new).read_fuse q ≡ None }
-    ensures faults { Counted (is_err result) (P.state p.old).faults (P.state p.new).faults }
-    ensures room { j.old.spare ≤ j.new.spare + 1 }
-    ensures spare { length j.new.events + j.new.spare ≡ length j.old.events + j.old.spare }
-{
-    match open(p, c, v) {
-        Ok(opened) => Ok(opened),
-        Err(_) => Err(gone_off(c, j, v)),
-    }
 }
 
 /// Reads a track of a volume whose server is on. Fails where the server goes off at the read; then `into` is as before.
@@ -83,7 +53,7 @@ pub fn read_told<P: Plant>(
     ensures kept { OnErr result (into.new ≡ into.old) }
     ensures passed { OnOk result (P.state p.new ≡ P.state p.old) }
     ensures silent { OnOk result (j.new ≡ j.old) }
-    ensures gone { OnErr result ((r : Rest) → GoesOff (armed_in (P.state p.old)) (seen (P.state p.new) c.now r j.new.events) (refusal_of result) (seen (P.state p.old) c.now r j.old.events)) }
+    ensures gone { OnErr result ((r : Rest) → GoesOff (armed_in (P.state p.old)) (world_seen (P.state p.new) c.now r j.new.events) (refusal_of result) (world_seen (P.state p.old) c.now r j.old.events)) }
     ensures refused { OnErr result (refusal_of result ≡ Some (stopped (volume_seen (P.state p.old) c.now v.0).server)) }
     ensures same { (u : ℕ) → IsAsBefore (P.state p.old) (P.state p.new) c.now u }
     ensures rest { IsAtRest (P.state p.new) c.now }

@@ -3,20 +3,20 @@
 ghost use Rattle.std.specs.Prelude.{◌≡◌, ℕ, ◌+◌, ◌<◌, ◌≤◌, Bool, not, ◌&&◌, ◌||◌, false, Some, List, length, IsSome, if◌then◌else◌};
 ghost use Rattle.dr_config.specs.Table.{StandsFor, place_of};
 ghost use Rattle.dr_model.specs.Entries as entries;
-ghost use Rattle.dr_model.specs.Entries.{copies_from, is_revertible, is_reversing};
+ghost use Rattle.dr_model.specs.Entries.{is_revertible, is_reversing};
 ghost use Rattle.dr_model.specs.declared.event.Event.{Event};
 ghost use Rattle.dr_volume.specs.Plain.{plain};
 ghost use Rattle.dr_volume.specs.View.{Rest};
 ghost use Rattle.dr_flash.specs.Checks.{is_stop};
-ghost use Rattle.dr_flash.specs.Here.{seen};
+ghost use Rattle.dr_flash.specs.Heads.{targets_by};
+ghost use Rattle.dr_flash.specs.Here.{world_seen};
 ghost use Rattle.dr_flash.specs.Standing.{targets_in, any_of, relation_of, counted_by};
 ghost use Rattle.dr_flash.specs.HostWrites.{write_refusal};
 
-use crate::pairs::is_part;
 use dr_config::Config;
 use dr_ids::{Refusal, RelSeen, SessionId, VolumeId};
 use dr_plant::Plant;
-use dr_volume::{Fields, peek_fields};
+use dr_volume::{Fields, Head, peek_head, peek_head_at};
 
 /// The targets of a volume: how many there are, and whether one of them is revertible or reversing.
 #[derive(Clone, Copy)]
@@ -27,11 +27,11 @@ pub(crate) struct Targets {
 }
 
 /// With one volume more, which counts where it is a target of v.
-fn one_more(so_far: Targets, v: VolumeId, f: &Fields) -> Targets
+fn one_more(so_far: Targets, v: VolumeId, f: &Head) -> Targets
     requires { so_far.count < 64 }
-    ensures count { result.count ≡ so_far.count + (if copies_from v.0 (plain f.now) then 1 else 0) }
-    ensures revertible { result.revertible ≡ (so_far.revertible || (copies_from v.0 (plain f.now) && f.now.revertible)) }
-    ensures reversing { result.reversing ≡ (so_far.reversing || (copies_from v.0 (plain f.now) && f.now.reversing)) }
+    ensures count { result.count ≡ so_far.count + (if targets_by v.0 f.now then 1 else 0) }
+    ensures revertible { result.revertible ≡ (so_far.revertible || (targets_by v.0 f.now && f.now.revertible)) }
+    ensures reversing { result.reversing ≡ (so_far.reversing || (targets_by v.0 f.now && f.now.reversing)) }
 {
     if f.related && f.source.0 == v.0 {
         Targets {
@@ -44,7 +44,7 @@ fn one_more(so_far: Targets, v: VolumeId, f: &Fields) -> Targets
     }
 }
 
-/// The targets of v, looked at whether or not its server is on.
+/// The targets of v, looked at whether or not its server is on, by the heads of all volumes.
 pub(crate) fn look_at_targets<P: Plant>(p: &P, c: &Config, v: VolumeId) -> Targets
     requires stands { StandsFor c.now (P.state p.now) }
     ensures count { result.count ≡ length (targets_in (P.state p.now) c.now v.0) }
@@ -57,16 +57,14 @@ pub(crate) fn look_at_targets<P: Plant>(p: &P, c: &Config, v: VolumeId) -> Targe
         reversing: false,
     };
     for place in 0..c.volumes() {
-        let u = c.volume_at(place).unwrap();
-        let fields = peek_fields(p, c, u);
-        all = one_more(all, v, &fields);
+        all = one_more(all, v, &peek_head_at(p, c, place));
     }
     all
 }
 
-/// How a volume with these fields and targets is seen.
-fn relation_by(f: &Fields, all: Targets) -> RelSeen
-    ensures { result ≡ relation_of (plain f.now) all }
+/// How a volume with this head and these targets is seen.
+fn relation_by(f: &Head, all: Targets) -> RelSeen
+    ensures { result ≡ relation_of f.now all }
 {
     if (f.related && f.revertible) || all.revertible {
         RelSeen::Revertible
@@ -85,13 +83,13 @@ fn relation_by(f: &Fields, all: Targets) -> RelSeen
 pub fn relation_state<P: Plant>(p: &P, c: &Config, v: VolumeId) -> Refusal
     requires stands { StandsFor c.now (P.state p.now) }
     requires defined { IsSome (place_of c.now v.0) }
-    ensures refusal { (r : Rest) (events : List Event) → result ≡ entries.relation_state (seen (P.state p.now) c.now r events).control v.0 }
+    ensures refusal { (r : Rest) (events : List Event) → result ≡ entries.relation_state (world_seen (P.state p.now) c.now r events).control v.0 }
     ensures calm { is_stop (Some result) ≡ false }
 {
-    let fields = peek_fields(p, c, v);
+    let head = peek_head(p, c, v);
     Refusal::RelationState {
         volume: v,
-        found: relation_by(&fields, look_at_targets(p, c, v)),
+        found: relation_by(&head, look_at_targets(p, c, v)),
     }
 }
 
@@ -100,14 +98,14 @@ pub fn relation_state<P: Plant>(p: &P, c: &Config, v: VolumeId) -> Refusal
 pub fn is_revertible<P: Plant>(p: &P, c: &Config, v: VolumeId) -> bool
     requires stands { StandsFor c.now (P.state p.now) }
     requires defined { IsSome (place_of c.now v.0) }
-    ensures { (r : Rest) (events : List Event) → result ≡ entries.stands_in is_revertible (seen (P.state p.now) c.now r events).control v.0 }
+    ensures { (r : Rest) (events : List Event) → result ≡ entries.stands_in is_revertible (world_seen (P.state p.now) c.now r events).control v.0 }
 {
-    let f = peek_fields(p, c, v);
+    let f = peek_head(p, c, v);
     let all = look_at_targets(p, c, v);
     is_revertible_by(&f, all)
 }
 
-fn is_revertible_by(f: &Fields, all: Targets) -> bool
+fn is_revertible_by(f: &Head, all: Targets) -> bool
     ensures { result ≡ ((f.now.related && f.now.revertible) || all.revertible) }
 {
     (f.related && f.revertible) || all.revertible
@@ -117,14 +115,14 @@ fn is_revertible_by(f: &Fields, all: Targets) -> bool
 pub fn is_settled<P: Plant>(p: &P, c: &Config, v: VolumeId) -> bool
     requires stands { StandsFor c.now (P.state p.now) }
     requires defined { IsSome (place_of c.now v.0) }
-    ensures { (r : Rest) (events : List Event) → result ≡ entries.is_settled v.0 (seen (P.state p.now) c.now r events).control }
+    ensures { (r : Rest) (events : List Event) → result ≡ entries.is_settled v.0 (world_seen (P.state p.now) c.now r events).control }
 {
-    let f = peek_fields(p, c, v);
+    let f = peek_head(p, c, v);
     let all = look_at_targets(p, c, v);
     is_settled_by(&f, all)
 }
 
-fn is_settled_by(f: &Fields, all: Targets) -> bool
+fn is_settled_by(f: &Head, all: Targets) -> bool
     ensures { result ≡ (not ((f.now.related && f.now.revertible) || all.revertible) && not ((f.now.related && f.now.reversing) || all.reversing)) }
 {
     !((f.related && f.revertible) || all.revertible)
@@ -149,22 +147,22 @@ pub fn counted_refusal(f: &Fields) -> Option<Refusal>
 pub fn write_refusal<P: Plant>(p: &P, c: &Config, v: VolumeId) -> Option<Refusal>
     requires stands { StandsFor c.now (P.state p.now) }
     requires defined { IsSome (place_of c.now v.0) }
-    ensures refusal { (r : Rest) (events : List Event) → result ≡ write_refusal (seen (P.state p.now) c.now r events).control v.0 }
+    ensures refusal { (r : Rest) (events : List Event) → result ≡ write_refusal (world_seen (P.state p.now) c.now r events).control v.0 }
     ensures calm { is_stop result ≡ false }
 {
-    let fields = peek_fields(p, c, v);
-    if is_part(fields.secondary) {
+    let head = peek_head(p, c, v);
+    if head.secondary.is_part() {
         return Some(Refusal::NotPrimary { volume: v });
     }
-    if fields.related && fields.inhibited {
+    if head.related && head.inhibited {
         return Some(Refusal::Inhibited { volume: v });
     }
     let all = look_at_targets(p, c, v);
-    if is_settled_by(&fields, all) {
+    if is_settled_by(&head, all) {
         return None;
     }
     Some(Refusal::RelationState {
         volume: v,
-        found: relation_by(&fields, all),
+        found: relation_by(&head, all),
     })
 }

@@ -2,6 +2,7 @@
 
 ghost use Rattle.std.specs.Prelude.{◌≡◌, ◌≢◌, ℕ, ◌<◌, ◌≤◌, ◌+◌, Bool, true, false, length, None, Some, IsSome, OnOk, OnErr, is_err};
 ghost use Rattle.std.specs.FinSet.{contains};
+ghost use Rattle.dr_logic.specs.Counts.{Counted};
 ghost use Rattle.dr_config.specs.Table.{place_of};
 ghost use Rattle.dr_model.specs.Entries as entries;
 ghost use Rattle.dr_model.specs.Entries.{copies_from};
@@ -13,9 +14,8 @@ ghost use Rattle.dr_volume.specs.Update.{Covers, IsAsBefore, OthersStay};
 ghost use Rattle.dr_volume.specs.Volume.{Shows};
 ghost use Rattle.dr_volume.specs.View.{Rest, volume_seen, ids_of};
 ghost use Rattle.dr_flash.specs.Checks.{is_stop};
-ghost use Rattle.dr_flash.specs.Faults.{Counted};
 ghost use Rattle.dr_flash.specs.Fit.{RelationsFit};
-ghost use Rattle.dr_flash.specs.Here.{seen, refusal_of, armed_in, IsAtRest};
+ghost use Rattle.dr_flash.specs.Here.{world_seen, refusal_of, armed_in, IsAtRest};
 ghost use Rattle.dr_flash.specs.Turns.{room_of};
 ghost use Rattle.dr_flash.specs.declared.told.Told.TheVariants.{Nothing};
 ghost use Rattle.dr_flash.specs.Views.{view_seen, OthersShow, OthersShowBut, ReadsZeros};
@@ -56,8 +56,8 @@ pub fn write_source<P: Plant>(
     requires keeps { next.now.related ≡ true → ((volume_seen (P.state p.old) c.now v.0).fields.related ≡ true) × (next.now.source.0 ≡ (volume_seen (P.state p.old) c.now v.0).fields.source) }
     requires apart { (k : ℕ) → contains next.now.own k ≡ true → contains next.now.blank k ≡ false }
     requires room { length c.now.volumes + 1 ≤ j.old.spare }
-    ensures carried { (r : Rest) → EndsThen (armed_in (P.state p.old)) (seen (P.state p.old) c.now r j.old.events) (entries.copy_first (ids_of c.now.volumes) v.0 t) (seen (P.state p.new) c.now r j.new.events) (refusal_of result)
-        (λ w. MadeFrom (armed_in (P.state p.old)) w v.0 (plain next.now) (Some (t, bytes.now)) (record { done = Nothing; in_stop = Nothing; landed = 0 }) (seen (P.state p.new) c.now r j.new.events) (refusal_of result)) }
+    ensures carried { (r : Rest) → EndsThen (armed_in (P.state p.old)) (world_seen (P.state p.old) c.now r j.old.events) (entries.copy_first (ids_of c.now.volumes) v.0 t) (world_seen (P.state p.new) c.now r j.new.events) (refusal_of result)
+        (λ w. MadeFrom (armed_in (P.state p.old)) w v.0 (plain next.now) (Some (t, bytes.now)) (record { done = Nothing; in_stop = Nothing; landed = 0 }) (world_seen (P.state p.new) c.now r j.new.events) (refusal_of result)) }
     ensures refused { OnErr result (refusal_of result ≡ Some (stopped (volume_seen (P.state p.old) c.now v.0).server)) }
     ensures rest { IsAtRest (P.state p.new) c.now }
     ensures fit { RelationsFit (P.state p.new) c.now }
@@ -97,8 +97,8 @@ pub fn write_source_telling<P: Plant>(
     requires keeps { next.now.related ≡ true → ((volume_seen (P.state p.old) c.now v.0).fields.related ≡ true) × (next.now.source.0 ≡ (volume_seen (P.state p.old) c.now v.0).fields.source) }
     requires apart { (k : ℕ) → contains next.now.own k ≡ true → contains next.now.blank k ≡ false }
     requires room { length c.now.volumes + room_of told.now ≤ j.old.spare }
-    ensures carried { (r : Rest) → EndsThen (armed_in (P.state p.old)) (seen (P.state p.old) c.now r j.old.events) (entries.copy_first (ids_of c.now.volumes) v.0 t) (seen (P.state p.new) c.now r j.new.events) (refusal_of result)
-        (λ w. MadeFrom (armed_in (P.state p.old)) w v.0 (plain next.now) (Some (t, bytes.now)) told.now (seen (P.state p.new) c.now r j.new.events) (refusal_of result)) }
+    ensures carried { (r : Rest) → EndsThen (armed_in (P.state p.old)) (world_seen (P.state p.old) c.now r j.old.events) (entries.copy_first (ids_of c.now.volumes) v.0 t) (world_seen (P.state p.new) c.now r j.new.events) (refusal_of result)
+        (λ w. MadeFrom (armed_in (P.state p.old)) w v.0 (plain next.now) (Some (t, bytes.now)) told.now (world_seen (P.state p.new) c.now r j.new.events) (refusal_of result)) }
     ensures refused { OnErr result (refusal_of result ≡ Some (stopped (volume_seen (P.state p.old) c.now v.0).server)) }
     ensures rest { IsAtRest (P.state p.new) c.now }
     ensures fit { RelationsFit (P.state p.new) c.now }
@@ -137,7 +137,7 @@ fn overwrite<P: Plant>(
     requires shows { Shows (P.state p.old) c.now v.0 f.now }
     requires related { (volume_seen (P.state p.old) c.now v.0).fields.related ≡ true }
     requires room { room_of told.now ≤ j.old.spare }
-    ensures made { (r : Rest) → MadeFrom (armed_in (P.state p.old)) (seen (P.state p.old) c.now r j.old.events) v.0 (fields_left (Overwrite 0 v.0 t) (volume_seen (P.state p.old) c.now v.0)) (Some (t, bytes.now)) told.now (seen (P.state p.new) c.now r j.new.events) (refusal_of result) }
+    ensures made { (r : Rest) → MadeFrom (armed_in (P.state p.old)) (world_seen (P.state p.old) c.now r j.old.events) v.0 (fields_left (Overwrite 0 v.0 t) (volume_seen (P.state p.old) c.now v.0)) (Some (t, bytes.now)) told.now (world_seen (P.state p.new) c.now r j.new.events) (refusal_of result) }
     ensures refused { OnErr result (refusal_of result ≡ Some (stopped (volume_seen (P.state p.old) c.now v.0).server)) }
     ensures rest { IsAtRest (P.state p.new) c.now }
     ensures fit { RelationsFit (P.state p.new) c.now }
@@ -177,8 +177,8 @@ pub fn write_target<P: Plant>(
     requires within { t < (volume_seen (P.state p.old) c.now v.0).tracks }
     requires related { (volume_seen (P.state p.old) c.now v.0).fields.related ≡ true }
     requires room { room_of told.now ≤ j.old.spare }
-    ensures carried { (r : Rest) → EndsThen (armed_in (P.state p.old)) (seen (P.state p.old) c.now r j.old.events) (target_checks (seen (P.state p.old) c.now r j.old.events).control v.0) (seen (P.state p.new) c.now r j.new.events) (refusal_of result)
-        (λ w. MadeFrom (armed_in (P.state p.old)) w v.0 (fields_left (Overwrite 0 v.0 t) (w.control.volume v.0)) (Some (t, bytes.now)) told.now (seen (P.state p.new) c.now r j.new.events) (refusal_of result)) }
+    ensures carried { (r : Rest) → EndsThen (armed_in (P.state p.old)) (world_seen (P.state p.old) c.now r j.old.events) (target_checks (world_seen (P.state p.old) c.now r j.old.events).control v.0) (world_seen (P.state p.new) c.now r j.new.events) (refusal_of result)
+        (λ w. MadeFrom (armed_in (P.state p.old)) w v.0 (fields_left (Overwrite 0 v.0 t) (w.control.volume v.0)) (Some (t, bytes.now)) told.now (world_seen (P.state p.new) c.now r j.new.events) (refusal_of result)) }
     ensures unchanged { is_stop (refusal_of result) ≡ false → OnErr result ((P.state p.new ≡ P.state p.old) × (j.new ≡ j.old)) }
     ensures rest { IsAtRest (P.state p.new) c.now }
     ensures fit { RelationsFit (P.state p.new) c.now }

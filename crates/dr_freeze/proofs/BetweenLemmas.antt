@@ -2,10 +2,10 @@
 -- them what they are.
 use Rattle.std.proofs.Common.{ℕ, ◌≡◌, ◌<◌, inl, inr, Bool, true, false, true≢false, not, ◌&&◌, ◌||◌, List, refl, sym, ◌∙◌, ap, subst, Option, Some, None, nat_eq}
 use Rattle.std.specs.Prelude.{if◌then◌else◌, unwrap_or, Result, Ok, Err, OnOk}
-use Rattle.std.proofs.lemmas.Bool.{cases_eq}
+use Rattle.std.proofs.lemmas.Bool.{cases_eq, and_parts}
 use Rattle.std.proofs.lemmas.Bool.Decides.{Decides-eqb}
 use Rattle.dr_plant.specs.State.{PlantState}
-use Rattle.dr_config.specs.Table.{Table, place_of, lss_owner, lss_of, IsSound}
+use Rattle.dr_config.specs.Table.{ConfigTable, place_of, lss_owner, lss_of, IsSoundConfig}
 use Rattle.dr_config.proofs.Lookups.{entry-at-place}
 use Rattle.dr_model.specs.declared.event.Event.{Event}
 use Rattle.dr_model.specs.Layout.{Fields, is_part}
@@ -19,44 +19,28 @@ use Rattle.dr_model.specs.WriteEntries.{is_between, freeze_on, thaw_on}
 use Rattle.dr_volume.specs.View.{Rest, volume_seen, volume_at}
 use Rattle.dr_volume.specs.Update.{IsMoved, OthersStay}
 use Rattle.dr_volume.proofs.VolumeLaws.{volume-placed}
-use Rattle.dr_flash.specs.Here.{seen}
+use Rattle.dr_flash.specs.Here.{world_seen}
 use Rattle.dr_flash.specs.Turns.{Advances, Halts}
-use Rattle.dr_flash.proofs.CheckLemmas.{on-low}
-use Rattle.dr_flash.proofs.EndsLemmas.{ends-skips, ends-alike}
+use Rattle.dr_facts.proofs.Ends.{ends-skips, ends-alike}
 use Rattle.dr_freeze.specs.Between.{pairs_with, between, StillBetween}
 use Rattle.dr_freeze.specs.Changes.{IsFrozen}
 use Rattle.dr_freeze.specs.Checks.{owner_in}
-
-both-left : (a b : Bool) → (a && b) ≡ true → a ≡ true
-both-left true b h = refl
-both-left false b h = h
-
-both-right : (a b : Bool) → (a && b) ≡ true → b ≡ true
-both-right true b h = h
-both-right false b h = absurd cc
-
-pub not-true : (b : Bool) → not b ≡ true → b ≡ false
-not-true true h = absurd cc
-not-true false h = refl
-
-pub not-false : (b : Bool) → not b ≡ false → b ≡ true
-not-false true h = refl
-not-false false h = absurd cc
+use Rattle.dr_volume.proofs.WorldLaws.{on-seen}
 
 -- the server of one runs, and it is a primary
-pub running-between : (s : PlantState) (t : Table) (l m v : ℕ) → between s t l m v ≡ true → s.on (volume_seen s t v).server ≡ true
-running-between s t l m v is = both-left _ _ (both-right _ _ is)
+pub running-between : (s : PlantState) (t : ConfigTable) (l m v : ℕ) → between s t l m v ≡ true → s.on (volume_seen s t v).server ≡ true
+running-between s t l m v is = (and_parts _ _ ((and_parts _ _ is).1)).0
 
-pub primary-between : (s : PlantState) (t : Table) (l m v : ℕ) → between s t l m v ≡ true → is_part (volume_seen s t v).fields.primary ≡ true
-primary-between s t l m v is = both-left _ _ (both-right _ _ (both-right _ _ is))
+pub primary-between : (s : PlantState) (t : ConfigTable) (l m v : ℕ) → between s t l m v ≡ true → is_part (volume_seen s t v).fields.primary ≡ true
+primary-between s t l m v is = (and_parts _ _ ((and_parts _ _ ((and_parts _ _ is).1)).1)).0
 
 -- for the machine
-module _ (s : PlantState) (t : Table) (r : Rest) (events : List Event) (l m v : ℕ) (low : (volume_seen s t v).server < 8) where
+module _ (s : PlantState) (t : ConfigTable) (r : Rest) (events : List Event) (l m v : ℕ) (low : (volume_seen s t v).server < 8) where
   abbrev w : World
-  w = seen s t r events
+  w = world_seen s t r events
 
   between-seen : is_between w.control l m v ≡ between s t l m v
-  between-seen = λ i. nat_eq (subsystem v) l && (on-low s (volume_seen s t v).server low i && (is_part (volume_seen s t v).fields.primary && nat_eq (subsystem (volume_seen s t v).fields.primary_partner) m))
+  between-seen = λ i. nat_eq (subsystem v) l && (on-seen s (volume_seen s t v).server low i && (is_part (volume_seen s t v).fields.primary && nat_eq (subsystem (volume_seen s t v).fields.primary_partner) m))
 
   pub freeze-comes : between s t l m v ≡ true → freeze_on l m v w.control ≡ now (Suspend v true) w.control
   freeze-comes is = ap (λ b. if b then Do (Make (Suspend v true)) else Pass) (between-seen ∙ is)
@@ -77,7 +61,7 @@ module _ (s : PlantState) (t : Table) (r : Rest) (events : List Event) (l m v : 
   thaw-free is free armed u q ds more = ends-skips armed u q w (thaw_on l m v) ds (thaw-by true false is free) more
 
 -- a volume moved, and keeps its part and its partner
-module _ (s u : PlantState) (t : Table) (l m v : ℕ) where
+module _ (s u : PlantState) (t : ConfigTable) (l m v : ℕ) where
   abbrev by : (ℕ → Bool) → ℕ → Volume → Bool
   by on q x = nat_eq (subsystem q) l && (on x.server && (is_part x.fields.primary && nat_eq (subsystem x.fields.primary_partner) m))
 
@@ -96,21 +80,11 @@ frozen-fields f g is = record { suspended = ap (λ (x : Fields). x.primary_state
     or-yes true = refl
     or-yes false = refl
 
-pub two-along : {T E : Type 0} {P Q S : Type 0} (r : Result T E) → OnOk r P → OnOk r Q → (P → Q → S) → OnOk r S
-two-along (Ok x) p q f = f p q
-two-along (Err e) p q f = p
-
-pub advances-alike : (w v : World) (d e : Entry) → d w.control ≡ e w.control → Advances w e v → Advances w d v
-advances-alike w v d e same go armed u r ds more = ends-alike armed u r w d e ds same (go armed u r ds more)
-
-pub halts-alike : (armed : ℕ → Bool) (w u : World) (r : Option Refusal) (d e : Entry) → d w.control ≡ e w.control → Halts armed w e u r → Halts armed w d u r
-halts-alike armed w u r d e same end ds = ends-alike armed u r w d e ds same (end ds)
-
-pub still-same : (s u : PlantState) (t : Table) (l m : ℕ) → u ≡ s → StillBetween s u t l m
+pub still-same : (s u : PlantState) (t : ConfigTable) (l m : ℕ) → u ≡ s → StillBetween s u t l m
 still-same s u t l m same v = ap (λ x. between x t l m v) same
 
 -- the server of a volume in l is that of l
-server-owned : (s : PlantState) (t : Table) (l v d : ℕ) → IsSound t → place_of t v ≡ Some d → nat_eq (subsystem v) l ≡ true → (volume_seen s t v).server ≡ owner_in t l
+server-owned : (s : PlantState) (t : ConfigTable) (l v d : ℕ) → IsSoundConfig t → place_of t v ≡ Some d → nat_eq (subsystem v) l ≡ true → (volume_seen s t v).server ≡ owner_in t l
 server-owned s t l v d sound at in_l =
     let e = entry-at-place t v d at in
     let own : lss_owner t (lss_of e.0.id) ≡ Some e.0.server = (sound.volume d e.0 e.1).lss in
@@ -123,10 +97,10 @@ all-three true false p h on = absurd cc
 all-three false b p h on = absurd cc
 
 -- so where that is on, the server of each primary in l runs
-pub all-between : (s : PlantState) (t : Table) (l m : ℕ) → IsSound t → s.on (owner_in t l) ≡ true → (v : ℕ) → pairs_with l m v (volume_seen s t v).fields ≡ true → between s t l m v ≡ true
+pub all-between : (s : PlantState) (t : ConfigTable) (l m : ℕ) → IsSoundConfig t → s.on (owner_in t l) ≡ true → (v : ℕ) → pairs_with l m v (volume_seen s t v).fields ≡ true → between s t l m v ≡ true
 all-between s t l m sound on v is = elim (place_of t v) as (λ o. place_of t v ≡ o → between s t l m v ≡ true) [
   | None ↦ λ none. let e : false ≡ true = sym (ap (λ o. is_part (volume_at s t o).fields.primary) none) ∙ part in absurd (true≢false (sym e))
-  | Some d ↦ λ at. all-three in_l (s.on (volume_seen s t v).server) paired is (ap s.on (server-owned s t l v d sound at (both-left in_l paired is)) ∙ on)
+  | Some d ↦ λ at. all-three in_l (s.on (volume_seen s t v).server) paired is (ap s.on (server-owned s t l v d sound at ((and_parts in_l paired is).0)) ∙ on)
 ] refl
   where
     in_l : Bool
@@ -136,4 +110,4 @@ all-between s t l m sound on v is = elim (place_of t v) as (λ o. place_of t v �
     paired = is_part (volume_seen s t v).fields.primary && nat_eq (subsystem (volume_seen s t v).fields.primary_partner) m
 
     part : is_part (volume_seen s t v).fields.primary ≡ true
-    part = both-left (is_part (volume_seen s t v).fields.primary) (nat_eq (subsystem (volume_seen s t v).fields.primary_partner) m) (both-right in_l paired is)
+    part = (and_parts (is_part (volume_seen s t v).fields.primary) (nat_eq (subsystem (volume_seen s t v).fields.primary_partner) m) ((and_parts in_l paired is).1)).0

@@ -2,7 +2,7 @@
 use Rattle.std.specs.Prelude.{◌≡◌, ℕ, true, false, None}
 use Rattle.dr_ids.specs.Paths.{path_in}
 use Rattle.dr_plant.specs.State.{PlantState}
-use Rattle.dr_config.specs.Table.{Table}
+use Rattle.dr_config.specs.Table.{ConfigTable}
 use Rattle.dr_model.specs.declared.state.PairState.TheVariants.{Suspended}
 use Rattle.dr_model.specs.Layout.{Fields}
 use Rattle.dr_model.specs.Carry.{Entry}
@@ -28,14 +28,14 @@ IsChanged Freeze f = IsFrozen f
 IsChanged Thaw f = f.long_busy ≡ false
 
 -- Each primary that was in l, with its secondary in m, is so now.
-abbrev pub AllChanged : Change → PlantState → Table → PlantState → Table → ℕ → ℕ → Type 0
+abbrev pub AllChanged : Change → PlantState → ConfigTable → PlantState → ConfigTable → ℕ → ℕ → Type 0
 AllChanged x s t u n l m = (v : ℕ) → pairs_with l m v (volume_seen s t v).fields ≡ true → IsChanged x (volume_seen u n v).fields
 
 -- Each primary that was in l, with its secondary in m, is frozen, and no path goes from l to m.
-pub record AllFrozen (s : PlantState) (t : Table) (u : PlantState) (n : Table) (l m : ℕ) : Type 0 where
+pub record AllFrozen (s : PlantState) (t : ConfigTable) (u : PlantState) (n : ConfigTable) (l m : ℕ) : Type 0 where
   pub primaries : AllChanged Freeze s t u n l m
   pub path : path_in n.paths l m ≡ None
 
 -- Each of them is long busy no more.
-abbrev pub AllThawed : PlantState → PlantState → Table → ℕ → ℕ → Type 0
+abbrev pub AllThawed : PlantState → PlantState → ConfigTable → ℕ → ℕ → Type 0
 AllThawed s u t l m = AllChanged Thaw s t u t l m

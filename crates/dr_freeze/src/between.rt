@@ -8,10 +8,10 @@ ghost use Rattle.dr_volume.specs.View.{volume_seen};
 ghost use Rattle.dr_freeze.specs.Between.{between};
 
 use dr_config::Config;
-use dr_flash::{is_part, server_of};
+use dr_flash::server_of;
 use dr_ids::{Lss, VolumeId};
 use dr_plant::Plant;
-use dr_volume::{Fields, peek_fields};
+use dr_volume::{Head, peek_head};
 
 /// The logical subsystem of a volume.
 fn lss_of(v: VolumeId) -> Lss
@@ -20,11 +20,11 @@ fn lss_of(v: VolumeId) -> Lss
     Lss((v.0 / 256) as u8)
 }
 
-/// Whether a volume of these fields is a primary with its secondary in that logical subsystem.
-fn is_primary_to(f: &Fields, m: Lss) -> bool
+/// Whether a volume with this head is a primary with its secondary in that logical subsystem.
+fn is_primary_to(f: &Head, m: Lss) -> bool
     ensures { result ≡ (layout.is_part f.now.primary && nat_eq (subsystem f.now.primary_partner.0) m.0) }
 {
-    is_part(f.primary) && lss_of(f.primary_partner).0 == m.0
+    f.primary.is_part() && f.primary_partner.lss().0 == m.0
 }
 
 fn all(first: bool, second: bool, third: bool) -> bool
@@ -41,10 +41,6 @@ pub(crate) fn is_between<P: Plant>(p: &P, c: &Config, l: Lss, m: Lss, v: VolumeI
     ensures server { (volume_seen (P.state p.now) c.now v.0).server < 8 }
 {
     let server = server_of(c, v);
-    let fields = peek_fields(p, c, v);
-    all(
-        lss_of(v).0 == l.0,
-        p.is_on(server.0),
-        is_primary_to(&fields, m),
-    )
+    let head = peek_head(p, c, v);
+    all(v.lss().0 == l.0, p.is_on(server.0), is_primary_to(&head, m))
 }

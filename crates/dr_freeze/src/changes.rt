@@ -1,14 +1,14 @@
 //! What a freeze or a thaw does with one volume.
 
 ghost use Rattle.std.specs.Prelude.{◌≡◌, ℕ, ◌≤◌, ◌+◌, true, length, None, Some, IsSome, OnOk, OnErr, is_err};
+ghost use Rattle.dr_logic.specs.Counts.{Counted};
 ghost use Rattle.dr_config.specs.Table.{place_of};
 ghost use Rattle.dr_model.specs.Refusals.{stopped};
 ghost use Rattle.dr_model.specs.WriteEntries.{freeze_on, thaw_on};
 ghost use Rattle.dr_volume.specs.Update.{OthersStay};
 ghost use Rattle.dr_volume.specs.View.{Rest, volume_seen};
-ghost use Rattle.dr_flash.specs.Faults.{Counted};
 ghost use Rattle.dr_flash.specs.Fit.{RelationsFit};
-ghost use Rattle.dr_flash.specs.Here.{seen, refusal_of, armed_in, IsAtRest};
+ghost use Rattle.dr_flash.specs.Here.{world_seen, refusal_of, armed_in, IsAtRest};
 ghost use Rattle.dr_flash.specs.Turns.{Advances, Halts};
 ghost use Rattle.dr_freeze.specs.Between.{between, StillBetween};
 ghost use Rattle.dr_freeze.specs.Changes.{change_on, IsChanged};
@@ -21,7 +21,7 @@ use dr_gcopy::suspend;
 use dr_ids::{Lss, Refusal, VolumeId};
 use dr_model::Journal;
 use dr_plant::Plant;
-use dr_volume::peek_fields;
+use dr_volume::peek_head;
 
 /// What is done with the primaries between two logical subsystems.
 #[derive(Clone, Copy)]
@@ -44,8 +44,8 @@ fn freeze_volume<P: Plant>(
     requires fit { RelationsFit (P.state p.old) c.now }
     requires defined { IsSome (place_of c.now v.0) }
     requires room { 2 ≤ j.old.spare }
-    ensures advances { OnOk result ((r : Rest) → Advances (seen (P.state p.old) c.now r j.old.events) (freeze_on l.0 m.0 v.0) (seen (P.state p.new) c.now r j.new.events)) }
-    ensures halts { OnErr result ((r : Rest) → Halts (armed_in (P.state p.old)) (seen (P.state p.old) c.now r j.old.events) (freeze_on l.0 m.0 v.0) (seen (P.state p.new) c.now r j.new.events) (refusal_of result)) }
+    ensures advances { OnOk result ((r : Rest) → Advances (world_seen (P.state p.old) c.now r j.old.events) (freeze_on l.0 m.0 v.0) (world_seen (P.state p.new) c.now r j.new.events)) }
+    ensures halts { OnErr result ((r : Rest) → Halts (armed_in (P.state p.old)) (world_seen (P.state p.old) c.now r j.old.events) (freeze_on l.0 m.0 v.0) (world_seen (P.state p.new) c.now r j.new.events) (refusal_of result)) }
     ensures refused { OnErr result (refusal_of result ≡ Some (stopped (volume_seen (P.state p.old) c.now v.0).server)) }
     ensures rest { IsAtRest (P.state p.new) c.now }
     ensures fit { RelationsFit (P.state p.new) c.now }
@@ -78,8 +78,8 @@ fn thaw_volume<P: Plant>(
     requires fit { RelationsFit (P.state p.old) c.now }
     requires defined { IsSome (place_of c.now v.0) }
     requires room { 2 ≤ j.old.spare }
-    ensures advances { OnOk result ((r : Rest) → Advances (seen (P.state p.old) c.now r j.old.events) (thaw_on l.0 m.0 v.0) (seen (P.state p.new) c.now r j.new.events)) }
-    ensures halts { OnErr result ((r : Rest) → Halts (armed_in (P.state p.old)) (seen (P.state p.old) c.now r j.old.events) (thaw_on l.0 m.0 v.0) (seen (P.state p.new) c.now r j.new.events) (refusal_of result)) }
+    ensures advances { OnOk result ((r : Rest) → Advances (world_seen (P.state p.old) c.now r j.old.events) (thaw_on l.0 m.0 v.0) (world_seen (P.state p.new) c.now r j.new.events)) }
+    ensures halts { OnErr result ((r : Rest) → Halts (armed_in (P.state p.old)) (world_seen (P.state p.old) c.now r j.old.events) (thaw_on l.0 m.0 v.0) (world_seen (P.state p.new) c.now r j.new.events) (refusal_of result)) }
     ensures refused { OnErr result (refusal_of result ≡ Some (stopped (volume_seen (P.state p.old) c.now v.0).server)) }
     ensures rest { IsAtRest (P.state p.new) c.now }
     ensures fit { RelationsFit (P.state p.new) c.now }
@@ -96,7 +96,7 @@ fn thaw_volume<P: Plant>(
     if !is_between(p, c, l, m, v) {
         return Ok(());
     }
-    if !peek_fields(p, c, v).long_busy {
+    if !peek_head(p, c, v).long_busy {
         return Ok(());
     }
     clear_busy(p, c, j, v)
@@ -116,8 +116,8 @@ pub(crate) fn change_volume<P: Plant>(
     requires fit { RelationsFit (P.state p.old) c.now }
     requires defined { IsSome (place_of c.now v.0) }
     requires room { 2 ≤ j.old.spare }
-    ensures advances { OnOk result ((r : Rest) → Advances (seen (P.state p.old) c.now r j.old.events) (change_on x l.0 m.0 v.0) (seen (P.state p.new) c.now r j.new.events)) }
-    ensures halts { OnErr result ((r : Rest) → Halts (armed_in (P.state p.old)) (seen (P.state p.old) c.now r j.old.events) (change_on x l.0 m.0 v.0) (seen (P.state p.new) c.now r j.new.events) (refusal_of result)) }
+    ensures advances { OnOk result ((r : Rest) → Advances (world_seen (P.state p.old) c.now r j.old.events) (change_on x l.0 m.0 v.0) (world_seen (P.state p.new) c.now r j.new.events)) }
+    ensures halts { OnErr result ((r : Rest) → Halts (armed_in (P.state p.old)) (world_seen (P.state p.old) c.now r j.old.events) (change_on x l.0 m.0 v.0) (world_seen (P.state p.new) c.now r j.new.events) (refusal_of result)) }
     ensures refused { OnErr result (refusal_of result ≡ Some (stopped (volume_seen (P.state p.old) c.now v.0).server)) }
     ensures rest { IsAtRest (P.state p.new) c.now }
     ensures fit { RelationsFit (P.state p.new) c.now }

@@ -1,11 +1,11 @@
 //! Why a freeze or a thaw is refused.
 
 ghost use Rattle.std.specs.Prelude.{◌≡◌, true, false, List, IsSome};
-ghost use Rattle.dr_config.specs.Table.{lss_owner, IsSound};
+ghost use Rattle.dr_config.specs.Table.{lss_owner, IsSoundConfig};
 ghost use Rattle.dr_model.specs.declared.event.Event.{Event};
 ghost use Rattle.dr_volume.specs.View.{Rest};
 ghost use Rattle.dr_flash.specs.Checks.{Checked, OnNone, is_stop};
-ghost use Rattle.dr_flash.specs.Here.{seen};
+ghost use Rattle.dr_flash.specs.Here.{world_seen};
 ghost use Rattle.dr_freeze.specs.Checks.{owner_in, thaw_checks, freeze_checks};
 
 use dr_config::Config;
@@ -15,10 +15,10 @@ use dr_plant::Plant;
 /// Why a thaw is refused: the server of l is off.
 pub(crate) fn thaw_refusal<P: Plant>(p: &P, c: &Config, l: Lss) -> Option<Refusal>
     requires owned { IsSome (lss_owner c.now l.0) }
-    ensures checked { (r : Rest) (events : List Event) → Checked (seen (P.state p.now) c.now r events) (thaw_checks (owner_in c.now l.0)) result }
+    ensures checked { (r : Rest) (events : List Event) → Checked (world_seen (P.state p.now) c.now r events) (thaw_checks (owner_in c.now l.0)) result }
     ensures running { OnNone result ((P.state p.now).on (owner_in c.now l.0) ≡ true) }
     ensures calm { is_stop result ≡ false }
-    ensures sound { IsSound c.now }
+    ensures sound { IsSoundConfig c.now }
 {
     let server = c.lss_owner(l).unwrap();
     if !p.is_on(server.0) {
@@ -30,10 +30,10 @@ pub(crate) fn thaw_refusal<P: Plant>(p: &P, c: &Config, l: Lss) -> Option<Refusa
 /// Why a freeze is refused: no path goes from l to m, or else the server of l is off.
 pub(crate) fn freeze_refusal<P: Plant>(p: &P, c: &Config, l: Lss, m: Lss) -> Option<Refusal>
     requires owned { IsSome (lss_owner c.now l.0) }
-    ensures checked { (r : Rest) (events : List Event) → Checked (seen (P.state p.now) c.now r events) (freeze_checks (owner_in c.now l.0) l.0 m.0) result }
+    ensures checked { (r : Rest) (events : List Event) → Checked (world_seen (P.state p.now) c.now r events) (freeze_checks (owner_in c.now l.0) l.0 m.0) result }
     ensures running { OnNone result ((P.state p.now).on (owner_in c.now l.0) ≡ true) }
     ensures calm { is_stop result ≡ false }
-    ensures sound { OnNone result (IsSound c.now) }
+    ensures sound { OnNone result (IsSoundConfig c.now) }
 {
     let Some(_) = c.path(l, m) else {
         return Some(Refusal::Unknown { kind: Kind::Path });

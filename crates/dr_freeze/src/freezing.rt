@@ -1,6 +1,7 @@
 //! Freeze and thaw.
 
 ghost use Rattle.std.specs.Prelude.{◌≡◌, ℕ, ◌≤◌, ◌+◌, ◌++◌, [], ◌∷◌, false, length, None, IsSome, OnOk, OnErr};
+ghost use Rattle.dr_logic.specs.Counts.{Counted};
 ghost use Rattle.dr_config.specs.Rules.{without_path_between};
 ghost use Rattle.dr_config.specs.Table.{lss_owner};
 ghost use Rattle.dr_model.specs.declared.event.Event.{Event};
@@ -8,9 +9,8 @@ ghost use Rattle.dr_model.specs.ReadStops.{Ends};
 ghost use Rattle.dr_model.specs.WriteEntries.{freeze_entries, thaw_entries};
 ghost use Rattle.dr_volume.specs.View.{Rest, ids_of};
 ghost use Rattle.dr_flash.specs.Checks.{is_stop};
-ghost use Rattle.dr_flash.specs.Faults.{Counted};
 ghost use Rattle.dr_flash.specs.Fit.{RelationsFit};
-ghost use Rattle.dr_flash.specs.Here.{seen, refusal_of, armed_in, IsAtRest};
+ghost use Rattle.dr_flash.specs.Here.{world_seen, refusal_of, armed_in, IsAtRest};
 ghost use Rattle.dr_freeze.specs.Changes.{AllFrozen, AllThawed};
 ghost use Rattle.dr_freeze.specs.Checks.{owner_in, freeze_checks, thaw_checks};
 
@@ -60,7 +60,7 @@ pub fn freeze<P: Plant>(
     requires fit { RelationsFit (P.state p.old) c.old }
     requires owned { IsSome (lss_owner c.old l.0) }
     requires room { length c.old.volumes + 2 ≤ j.old.spare }
-    ensures carried { (r : Rest) → Ends (armed_in (P.state p.old)) (seen (P.state p.new) c.new r j.new.events) (refusal_of result) (seen (P.state p.old) c.old r j.old.events) (freeze_checks (owner_in c.old l.0) l.0 m.0 ++ freeze_entries (ids_of c.old.volumes) l.0 m.0) }
+    ensures carried { (r : Rest) → Ends (armed_in (P.state p.old)) (world_seen (P.state p.new) c.new r j.new.events) (refusal_of result) (world_seen (P.state p.old) c.old r j.old.events) (freeze_checks (owner_in c.old l.0) l.0 m.0 ++ freeze_entries (ids_of c.old.volumes) l.0 m.0) }
     ensures unchanged { is_stop (refusal_of result) ≡ false → OnErr result ((P.state p.new ≡ P.state p.old) × (j.new ≡ j.old)) }
     ensures rest { IsAtRest (P.state p.new) c.new }
     ensures fit { RelationsFit (P.state p.new) c.new }
@@ -93,7 +93,7 @@ pub fn thaw<P: Plant>(p: &mut P, c: &Config, j: &mut Journal, l: Lss, m: Lss) ->
     requires fit { RelationsFit (P.state p.old) c.now }
     requires owned { IsSome (lss_owner c.now l.0) }
     requires room { length c.now.volumes + 2 ≤ j.old.spare }
-    ensures carried { (r : Rest) → Ends (armed_in (P.state p.old)) (seen (P.state p.new) c.now r j.new.events) (refusal_of result) (seen (P.state p.old) c.now r j.old.events) (thaw_checks (owner_in c.now l.0) ++ thaw_entries (ids_of c.now.volumes) l.0 m.0) }
+    ensures carried { (r : Rest) → Ends (armed_in (P.state p.old)) (world_seen (P.state p.new) c.now r j.new.events) (refusal_of result) (world_seen (P.state p.old) c.now r j.old.events) (thaw_checks (owner_in c.now l.0) ++ thaw_entries (ids_of c.now.volumes) l.0 m.0) }
     ensures unchanged { is_stop (refusal_of result) ≡ false → OnErr result ((P.state p.new ≡ P.state p.old) × (j.new ≡ j.old)) }
     ensures rest { IsAtRest (P.state p.new) c.now }
     ensures fit { RelationsFit (P.state p.new) c.now }

@@ -9,6 +9,7 @@ use Rattle.std.specs.Str.{bytes_eq}
 use Rattle.std.proofs.lemmas.Bool.Decides.{leb_tells, nat_tests}
 use Rattle.std.proofs.lemmas.Nat.Bits.{bit_at-trailing_ones, bit_at_ones}
 use Rattle.std.proofs.lemmas.Slice.Eq.{bytes_eq-Decides}
+use Rattle.std.proofs.lemmas.Bool.{eqb-true, eq-eqb}
 use Rattle.dr_lanes.specs.Words.{bits_of, is_set}
 use Rattle.dr_lanes.specs.Blocks.{IsSameBlock}
 use Rattle.dr_lanes.proofs.Members.{contains-bits_of}
@@ -28,19 +29,13 @@ other xs ys k low alike differ = elim (bytes_eq (slice_index_or xs k []) (slice_
   | false ↦ λ e. refl
 ] refl
 
-one-is : (b : ℕ) → nat_eq b 1 ≡ true → b ≡ 1
-one-is b e = grind (arith, nat_tests)
-
-is-one : (b : ℕ) → b ≡ 1 → nat_eq b 1 ≡ true
-is-one b e = grind (arith, nat_tests)
-
 -- the first word of a mask is such a word
 pub marks-first : (xs ys : List (List ℕ)) (mask : List ℕ) → ((k : ℕ) → (contains (bits_of mask) k ≡ true) ↔ IsSameBlock xs ys k) → Marks xs ys (get_or mask 0 0)
 marks-first xs ys mask marks k low =
     let there : 64 * 0 + k ≡ k = omega arith in
     let is : contains (bits_of mask) k ≡ nat_eq (bit_at (get_or mask 0 0) k) 1 = contains-bits_of mask k ∙ sym (ap (is_set mask) there) ∙ is_set-at mask 0 k low in (
-      λ one. (marks k).0 (is ∙ is-one _ one),
-      λ same. one-is _ (sym is ∙ (marks k).1 same),
+      λ one. (marks k).0 (is ∙ (eq-eqb _ 1 one)),
+      λ same. (eqb-true _ 1 (sym is ∙ (marks k).1 same)),
     )
 
 module _ (xs ys : List (List ℕ)) (word : ℕ) (few : length xs ≤ 8) (fits : word < 2 ^ 64) (marks : Marks xs ys word) where

@@ -2,7 +2,7 @@
 use Rattle.std.proofs.Common.{ℕ, zero, suc, ◌≡◌, ◌≢◌, ◌≤◌, ◌<◌, ◌+◌, Bool, true, false, not, ◌&&◌, cond, List, [], ◌∷◌, ◌++◌, length, take, drop, filter, nat_le, arith, inl, inr, ◌⊎◌, refl, sym, ◌∙◌, ap, subst, Option, Some, None, slice_get}
 use Rattle.std.specs.List.{range_with_len}
 use Rattle.std.specs.FinSet.{contains, remove}
-use Rattle.std.proofs.lemmas.List.{append_assoc, append-nil}
+use Rattle.std.proofs.lemmas.List.{append_assoc, append-nil, take_all, length-take-le}
 use Rattle.std.proofs.lemmas.Bool.Decides.{eqb_tells, nat_tests}
 use Rattle.dr_bits.proofs.Laws.{contains-remove_tracks}
 use Rattle.dr_ids.specs.declared.refusal.Refusal.{Refusal}
@@ -16,7 +16,9 @@ use Rattle.dr_flash.specs.Turns.{Leads}
 use Rattle.dr_flash.proofs.CheckLemmas.{same-test, differ-test}
 use Rattle.dr_gcopy.specs.Followed.{FailsFollowed}
 use Rattle.dr_gcopy.specs.Sending.{enough}
-use Rattle.dr_gcopy.proofs.SendLemmas.{then-leads, then-fails, fails-first}
+use Rattle.dr_logic.proofs.Lists.{few-in}
+use Rattle.dr_facts.proofs.Costs.{in_order-short}
+use Rattle.dr_flash.proofs.LeadLemmas.{then-leads, then-fails, fails-first}
 
 -- the sends of two lists
 sends-append : (ids : List ℕ) (a b : ℕ) (xs ys : List ℕ) → sends ids a b (xs ++ ys) ≡ sends ids a b xs ++ sends ids a b ys
@@ -68,18 +70,6 @@ in_order-next n k s ys is =
     next-by (contains s) (contains (remove s k)) n 0 k ys is
     (contains-remove_tracks s k k ∙ ap (λ b. not b && contains s k) (same-test k k refl))
     (λ j ne. contains-remove_tracks s k j ∙ ap (λ b. not b && contains s j) (differ-test j k ne))
-
-few-in : (f : ℕ → Bool) (n a : ℕ) → length (filter f (range_with_len a n)) ≤ n
-few-in f zero a = omega arith
-few-in f (suc n) a = one (f a) (filter f (range_with_len (a + 1) n)) (few-in f n (a + 1))
-  where
-    one : (b : Bool) (xs : List ℕ) → length xs ≤ n → length (cond b (a ∷ xs) xs) ≤ suc n
-    one true xs h = omega (arith, h)
-    one false xs h = omega (arith, h)
-
-pub in_order-few : (n : ℕ) (s : Tracks) → length (in_order n s) ≤ n
-unfolding in_order
-in_order-few n s = few-in (contains s) n 0
 
 -- a list by its first element
 pub first-some : (xs : List ℕ) (k : ℕ) → Some k ≡ slice_get xs 0 → xs ≡ k ∷ drop 1 xs
@@ -137,17 +127,6 @@ take-past (x ∷ xs) i zero k ys h lt = absurd (omega (arith, lt))
 take-past (x ∷ xs) zero (suc m) k ys h lt = let e : x ≡ k = cc in (take m xs, ap (λ z. z ∷ take m xs) e)
 take-past (x ∷ xs) (suc i) (suc m) k ys h lt = let e = take-past xs i m k ys h (omega (arith, lt)) in (e.0, ap (λ zs. x ∷ zs) e.1)
 
-take-whole : (xs : List ℕ) (m : ℕ) → length xs ≤ m → take m xs ≡ xs
-take-whole [] zero h = refl
-take-whole [] (suc m) h = refl
-take-whole (x ∷ xs) zero h = absurd (omega (arith, h))
-take-whole (x ∷ xs) (suc m) h = ap (λ zs. x ∷ zs) (take-whole xs m (omega (arith, h)))
-
-take-count : (xs : List ℕ) (m : ℕ) → m ≤ length xs → length (take m xs) ≡ m
-take-count xs zero h = refl
-take-count [] (suc m) h = absurd (omega (arith, h))
-take-count (x ∷ xs) (suc m) h = ap suc (take-count xs m (omega (arith, h)))
-
 none-left : (xs : List ℕ) (i : ℕ) → drop i xs ≡ [] → length xs ≤ i
 none-left [] i h = omega arith
 none-left (x ∷ xs) zero h = absurd cc
@@ -177,8 +156,8 @@ module _ (n : ℕ) (s : Tracks) (i : ℕ) where
   enough-sent (Some m) within h = let e = le-of m i h in let same : i ≡ m = omega (arith, within, e) in ap (λ k. take k xs) same
 
   whole-sent : (most : Option ℕ) → Within most i → length xs ≤ i → take i xs ≡ tracks_to_send most n s
-  whole-sent None within h = take-whole xs i h
-  whole-sent (Some m) within h = take-whole xs i h ∙ sym (take-whole xs m (omega (arith, within, h)))
+  whole-sent None within h = (take_all i xs h)
+  whole-sent (Some m) within h = (take_all i xs h) ∙ sym ((take_all m xs (omega (arith, within, h))))
 
   -- all were sent
   pub all-sent : (most : Option ℕ) → Within most i → (enough most i ≡ true) ⊎ (drop i xs ≡ []) → take i xs ≡ tracks_to_send most n s
@@ -186,10 +165,10 @@ module _ (n : ℕ) (s : Tracks) (i : ℕ) where
   all-sent most within (inr h) = whole-sent most within (none-left xs i h)
 
   pub end-sent : (most : Option ℕ) → Within most i → n ≤ i → take i xs ≡ tracks_to_send most n s
-  end-sent most within h = let few = in_order-few n s in whole-sent most within (omega (arith, few, h))
+  end-sent most within h = let few = in_order-short n s in whole-sent most within (omega (arith, few, h))
 
   pub count-sent : (most : Option ℕ) → i ≤ length xs → take i xs ≡ tracks_to_send most n s → i ≡ length (tracks_to_send most n s)
-  count-sent most few is = sym (take-count xs i few) ∙ ap length is
+  count-sent most few is = sym ((length-take-le i xs few)) ∙ ap length is
 
   -- the next one
   pub next-sent : (most : Option ℕ) (k : ℕ) (ys : List ℕ) → drop i xs ≡ k ∷ ys → enough most i ≡ false → (more : List ℕ) × (tracks_to_send most n s ≡ take i xs ++ k ∷ more)

@@ -1,3 +1,14 @@
+-- Read first: `PairChecks.antt`, `TwoMoves.antt`: checks, and two moves in a row; `SendMoves.antt`, `SendLemmas.antt`: a
+-- track sent; `DrainLemmas.antt`: tracks that are left; `DifferenceLemmas.antt`, `FirstLemmas.antt`: the first
+-- difference.
+-- - **A premise over whatever entries come to** (`room` of `drain`: for each k, what the sends of k tracks lead to has
+--   room) lets a loop below the laws of every run ask for room that only the laws can count. The caller proves it by `carry-adds`
+--   (`sends-tell`); it has to hold for any `Rest`, so the lemma takes one, and facts of the control state convert.
+-- - **A loop over a set that shrinks** (`drain_to`): the invariant has the place i in the list of the begin, `drop i xs
+--   ≡ in_order n left`, and `take i xs` was sent; `next-sent`, `all-sent`, `count-sent` in `DrainLemmas.antt` of
+--   `dr_gcopy`.
+-- - **Eight tracks at a time**: one group is a function of slices (`compare_group`), the first that differs is
+--   `first_from` of `find` over a range, and ranges join by `find` over `++` (`FirstLemmas.antt`).
 pub mod PairLemmas
 pub mod ReachLemmas
 pub mod PairChecks

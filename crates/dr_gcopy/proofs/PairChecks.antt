@@ -2,28 +2,22 @@
 use Rattle.std.proofs.Common.{ℕ, ◌≡◌, ◌≢◌, Bool, true, false, ◌&&◌, List, ◌∷◌, ◌++◌, refl, sym, ◌∙◌, ap, subst, Option, Some, None}
 use Rattle.std.specs.Prelude.{Result, Ok, Err, OnErr, is_err}
 use Rattle.std.proofs.lemmas.List.{append_assoc}
+use Rattle.dr_logic.specs.Counts.{Counted}
 use Rattle.dr_ids.specs.declared.refusal.Refusal.{Refusal}
 use Rattle.dr_plant.specs.State.{PlantState}
-use Rattle.dr_config.specs.Table.{Table}
+use Rattle.dr_config.specs.Table.{ConfigTable}
 use Rattle.dr_model.specs.Control.{Control, World}
 use Rattle.dr_model.specs.Carry.{Entry, check}
 use Rattle.dr_model.specs.ReadStops.{Ends}
 use Rattle.dr_model.specs.PairEntries.{refuse_if, end_if}
 use Rattle.dr_volume.specs.View.{volume_seen}
 use Rattle.dr_flash.specs.Checks.{Checked, OnNone, is_stop}
-use Rattle.dr_flash.specs.Faults.{Counted}
 use Rattle.dr_flash.specs.Here.{refusal_of}
 use Rattle.dr_flash.specs.Turns.{Leads}
-use Rattle.dr_flash.proofs.EndsLemmas.{ends-skips, ends-alike, ends-refused}
-
-pub ends-clear : (armed : ℕ → Bool) (u : World) (r : Option Refusal) (w : World) (why : Control → Option Refusal) (ds : List Entry) → why w.control ≡ None → Ends armed u r w ds → Ends armed u r w (refuse_if why ∷ ds)
-ends-clear armed u r w why ds none more = ends-skips armed u r w (refuse_if why) ds (ap end_if none) more
+use Rattle.dr_facts.proofs.Ends.{ends-skips, ends-alike, ends-refused}
 
 abbrev never : Control → Bool
 never k = false
-
-pub ends-why : (armed : ℕ → Bool) (w : World) (why : Control → Option Refusal) (e : Refusal) (ds : List Entry) → why w.control ≡ Some e → Ends armed w (Some e) w (refuse_if why ∷ ds)
-ends-why armed w why e ds is = ends-alike armed w (Some e) w (refuse_if why) (check never e) ds (ap end_if is) (ends-refused armed w (Some e) w never e ds refl refl refl)
 
 -- checks, and more behind them
 pub then-checked : (w : World) (es fs : List Entry) (o : Option Refusal) → Leads w es w → Checked w fs o → Checked w (es ++ fs) o
@@ -43,9 +37,5 @@ pub counted-stops : (res : Result (Unit {0}) Refusal) (a b : ℕ) → OnErr res 
 counted-stops (Ok x) a b stops counted = counted
 counted-stops (Err e) a b stops counted = subst (λ s. Counted s a b) (sym stops) counted
 
-pub servers-apart : (s : PlantState) (t : Table) (a b : ℕ) → (volume_seen s t a).server ≢ (volume_seen s t b).server → a ≢ b
+pub servers-apart : (s : PlantState) (t : ConfigTable) (a b : ℕ) → (volume_seen s t a).server ≢ (volume_seen s t b).server → a ≢ b
 servers-apart s t a b ne is = ne (ap (λ v. (volume_seen s t v).server) is)
-
-pub both-first : (a b : Bool) → (a && b) ≡ true → a ≡ true
-both-first true b h = refl
-both-first false b h = h

@@ -6,7 +6,7 @@ use Rattle.dr_ids.specs.Paths.{path_in}
 use Rattle.dr_ids.specs.declared.refusal.Refusal.{Refusal}
 use Rattle.dr_ids.specs.declared.refusal.Kind.TheVariants.{Path as OfPath}
 use Rattle.dr_plant.specs.State.{PlantState}
-use Rattle.dr_config.specs.Table.{Table, StandsFor, place_of, server_of, lss_of, link_up}
+use Rattle.dr_config.specs.Table.{ConfigTable, StandsFor, place_of, server_of, lss_of, link_up}
 use Rattle.dr_config.specs.declared.entries.VolumeEntry.{VolumeEntry}
 use Rattle.dr_config.specs.Rules as config
 use Rattle.dr_model.specs.declared.event.Event.{Event}
@@ -15,20 +15,20 @@ use Rattle.dr_model.specs.PairEntries.{reach_refusal, link_down}
 use Rattle.dr_volume.specs.View.{Rest, volume_seen, on_seen}
 use Rattle.dr_volume.proofs.VolumeLaws.{placed, volume-placed}
 use Rattle.dr_flash.specs.Checks.{OnNone, is_stop}
-use Rattle.dr_flash.specs.Here.{seen}
-use Rattle.dr_flash.proofs.CheckLemmas.{on-low}
+use Rattle.dr_flash.specs.Here.{world_seen}
 use Rattle.dr_flash.proofs.PlaceLaws.{entry-found}
+use Rattle.dr_volume.proofs.WorldLaws.{on-seen}
 
-pub server-is : (s : PlantState) (t : Table) (v : ℕ) → is_some (place_of t v) ≡ true → unwrap_or (server_of t v) 0 ≡ (volume_seen s t v).server
+pub server-is : (s : PlantState) (t : ConfigTable) (v : ℕ) → is_some (place_of t v) ≡ true → unwrap_or (server_of t v) 0 ≡ (volume_seen s t v).server
 server-is s t v defined = let x = entry-found t v defined in ap (λ o. unwrap_or (option_map (λ (e : VolumeEntry). e.server) o) 0) x.1 ∙ sym (x.2 s)
 
-server-low : (s : PlantState) (t : Table) (v : ℕ) → StandsFor t s → is_some (place_of t v) ≡ true → (volume_seen s t v).server < 8
+pub server-low : (s : PlantState) (t : ConfigTable) (v : ℕ) → StandsFor t s → is_some (place_of t v) ≡ true → (volume_seen s t v).server < 8
 server-low s t v stands defined =
     let x = placed t v defined in
     subst (λ n. n < 8) (sym (ap (λ y. y.server) (volume-placed s t v x.0 x.1 x.2 x.3))) (stands.device x.0 x.1 x.3).2
 
-pub running-is : (s : PlantState) (t : Table) (v : ℕ) → StandsFor t s → is_some (place_of t v) ≡ true → on_seen s (volume_seen s t v).server ≡ s.on (volume_seen s t v).server
-running-is s t v stands defined = on-low s (volume_seen s t v).server (server-low s t v stands defined)
+pub running-is : (s : PlantState) (t : ConfigTable) (v : ℕ) → StandsFor t s → is_some (place_of t v) ≡ true → on_seen s (volume_seen s t v).server ≡ s.on (volume_seen s t v).server
+running-is s t v stands defined = on-seen s (volume_seen s t v).server (server-low s t v stands defined)
 
 -- the refusal by three tests
 abbrev reach_by : (path on link : Bool) → ℕ → ℕ → Option Refusal
@@ -50,7 +50,7 @@ on-by true false link x y = tt
 on-by true true false x y = tt
 on-by true true true x y = refl
 
-module _ (s : PlantState) (t : Table) (a b : ℕ) (stands : StandsFor t s) (from : is_some (place_of t a) ≡ true) (to : is_some (place_of t b) ≡ true) where
+module _ (s : PlantState) (t : ConfigTable) (a b : ℕ) (stands : StandsFor t s) (from : is_some (place_of t a) ≡ true) (to : is_some (place_of t b) ≡ true) where
   abbrev x : ℕ
   x = (volume_seen s t a).server
 
@@ -65,7 +65,7 @@ module _ (s : PlantState) (t : Table) (a b : ℕ) (stands : StandsFor t s) (from
       (λ i. if path then config.contact_refusal t s.on (server-is s t a from i) (server-is s t b to i) else Some (unknown OfPath))
       ∙ turned path (config.contact_refusal t s.on x y) (Some (unknown OfPath))
 
-  pub reach-is : (r : Rest) (events : List Event) → config.reach_refusal t s.on a b ≡ reach_refusal a b (seen s t r events).control
+  pub reach-is : (r : Rest) (events : List Event) → config.reach_refusal t s.on a b ≡ reach_refusal a b (world_seen s t r events).control
   reach-is r events = reach-by ∙ ap (λ on. reach_by path on (link_up t x y) x y) (sym (running-is s t b stands to))
 
   pub reach-calm : is_stop (config.reach_refusal t s.on a b) ≡ false

@@ -4,16 +4,17 @@ use Rattle.std.specs.Prelude.{Result, Ok, Err, OnOk, OnErr, is_err, is_some, if�
 use Rattle.std.specs.Option.{option_or}
 use Rattle.std.proofs.lemmas.List.{append_assoc}
 use Rattle.std.proofs.lemmas.Bool.Decides.{eqb_tells}
+use Rattle.std.proofs.lemmas.Bool.{and_right}
+use Rattle.dr_logic.specs.Counts.{Counted}
 use Rattle.dr_ids.specs.declared.refusal.Refusal.{Refusal}
 use Rattle.dr_plant.specs.State.{PlantState}
-use Rattle.dr_config.specs.Table.{Table, StandsFor, place_of}
+use Rattle.dr_config.specs.Table.{ConfigTable, StandsFor, place_of}
 use Rattle.dr_config.specs.declared.entries.VolumeEntry.{VolumeEntry}
-use Rattle.dr_model.specs.Control.{Control, World}
+use Rattle.dr_model.specs.Control.{Control, World, Volume}
 use Rattle.dr_ids.specs.Paths.{Path, path_in}
 use Rattle.dr_ids.specs.declared.refusal.Refusal.TheVariants.{PairState, Stopped}
 use Rattle.dr_ids.specs.declared.refusal.Kind.TheVariants.{Path as OfPath}
 use Rattle.dr_model.specs.Refusals.{server_off, unknown}
-use Rattle.dr_model.specs.Control.{Volume}
 use Rattle.dr_model.specs.Carry.{Entry, Pass, Do, Make, check, now}
 use Rattle.dr_model.specs.Layout.{is_part}
 use Rattle.dr_model.specs.Moves.{Suspend}
@@ -24,23 +25,13 @@ use Rattle.dr_model.specs.PairEntries.{end_if, refuse_if, link_down, has_path, a
 use Rattle.dr_volume.specs.View.{Rest, volume_seen, volume_at, volume_on, on_seen}
 use Rattle.dr_volume.proofs.VolumeLaws.{placed, volume-placed}
 use Rattle.dr_flash.specs.Checks.{OnNone, is_stop}
-use Rattle.dr_flash.specs.Faults.{Counted}
-use Rattle.dr_flash.proofs.CheckLemmas.{on-low}
 use Rattle.dr_gcopy.specs.Followed.{EndsSo, Follows, EndsFollowed, FailsFollowed}
 use Rattle.dr_flash.specs.Fit.{RelationsFit}
 use Rattle.dr_flash.specs.Here.{refusal_of}
 use Rattle.dr_flash.specs.Turns.{Advances, Halts, Leads, Fails}
 use Rattle.dr_flash.proofs.CopyLemmas.{led, failed}
-use Rattle.dr_flash.proofs.EndsLemmas.{ends-none, ends-skips, ends-refused, ends-alike, ends-wider}
-
-pub then-leads : (w v u : World) (es fs : List Entry) → Leads w es v → Leads v fs u → Leads w (es ++ fs) u
-then-leads w v u es fs first more armed x r ds e = subst (Ends armed x r w) (sym (append_assoc es fs ds)) (first armed x r (fs ++ ds) (more armed x r ds e))
-
-pub then-fails : (armed : ℕ → Bool) (w v u : World) (r : Option Refusal) (es fs : List Entry) → Leads w es v → Fails armed v fs u r → Fails armed w (es ++ fs) u r
-then-fails armed w v u r es fs first fails ds = subst (Ends armed u r w) (sym (append_assoc es fs ds)) (first armed u r (fs ++ ds) (fails ds))
-
-pub fails-first : (armed : ℕ → Bool) (w u : World) (r : Option Refusal) (es fs : List Entry) → Fails armed w es u r → Fails armed w (es ++ fs) u r
-fails-first armed w u r es fs fails ds = subst (Ends armed u r w) (sym (append_assoc es fs ds)) (fails (fs ++ ds))
+use Rattle.dr_facts.proofs.Ends.{ends-none, ends-skips, ends-refused, ends-alike, ends-wider}
+use Rattle.dr_volume.proofs.WorldLaws.{on-seen}
 
 pub fails-wider : (armed more : ℕ → Bool) → ((q : ℕ) → armed q ≡ true → more q ≡ true) → (w u : World) (r : Option Refusal) (es : List Entry) → Fails armed w es u r → Fails more w es u r
 fails-wider armed more wider w u r es fails ds = ends-wider armed more wider u r w (es ++ ds) (fails ds)
@@ -58,12 +49,8 @@ refuse-passes w why none armed u r ds more = ends-skips armed u r w (refuse_if w
 pub refuse-ends : (armed : ℕ → Bool) (w : World) (why : Control → Option Refusal) (r : Refusal) → why w.control ≡ Some r → Halts armed w (refuse_if why) w (Some r)
 refuse-ends armed w why r is ds = ends-alike armed w (Some r) w (refuse_if why) (check (λ k. false) r) ds (ap end_if is) (ends-refused armed w (Some r) w (λ k. false) r ds refl refl refl)
 
-first_of : (a b : Bool) → (a && b) ≡ true → a ≡ true
-first_of true b h = refl
-first_of false b h = h
-
 -- a volume on another server is no target
-pub other-server : (s : PlantState) (t : Table) (a b : ℕ) → RelationsFit s t → (volume_seen s t a).server ≢ (volume_seen s t b).server → copies_from b (volume_seen s t a).fields ≡ false
+pub other-server : (s : PlantState) (t : ConfigTable) (a b : ℕ) → RelationsFit s t → (volume_seen s t a).server ≢ (volume_seen s t b).server → copies_from b (volume_seen s t a).fields ≡ false
 other-server s t a b fit apart =
     let f = (volume_seen s t a).fields in
     elim f.related as (λ x. f.related ≡ x → (x && nat_eq f.source b) ≡ false) [
@@ -74,12 +61,8 @@ other-server s t a b fit apart =
       ]
     ] refl
 
--- nor is it the same volume
-pub other-volume : (s : PlantState) (t : Table) (a b : ℕ) → (volume_seen s t a).server ≢ (volume_seen s t b).server → a ≢ b
-other-volume s t a b apart is = apart (ap (λ z. (volume_seen s t z).server) is)
-
 -- a volume stays on its server, and has as many tracks as ever
-pub same-server : (s u : PlantState) (c : Table) (v : ℕ) → (volume_seen s c v).server ≡ (volume_seen u c v).server
+pub same-server : (s u : PlantState) (c : ConfigTable) (v : ℕ) → (volume_seen s c v).server ≡ (volume_seen u c v).server
 same-server s u c v = at (place_of c v)
   where
     on : (d : ℕ) (o : Option VolumeEntry) → (volume_on (s.block d) o).server ≡ (volume_on (u.block d) o).server
@@ -90,7 +73,7 @@ same-server s u c v = at (place_of c v)
     at None = refl
     at (Some d) = on d (slice_get c.volumes d)
 
-pub same-tracks : (s u : PlantState) (c : Table) (v : ℕ) → (volume_seen s c v).tracks ≡ (volume_seen u c v).tracks
+pub same-tracks : (s u : PlantState) (c : ConfigTable) (v : ℕ) → (volume_seen s c v).tracks ≡ (volume_seen u c v).tracks
 same-tracks s u c v = at (place_of c v)
   where
     on : (d : ℕ) (o : Option VolumeEntry) → (volume_on (s.block d) o).tracks ≡ (volume_on (u.block d) o).tracks
@@ -110,16 +93,12 @@ pub pick-false : {T : Type 0} (b : Bool) (x y : T) → b ≡ false → y ≡ (if
 pick-false false x y h = refl
 pick-false true x y h = absurd cc
 
-both-off : (a b : Bool) → b ≡ false → (a && b) ≡ false
-both-off true b h = h
-both-off false b h = refl
-
 -- what follows a stop, by what is known of the primary
 pub follows-absent : (a : ℕ) (k : Control) → is_part (fields_at k a).primary ≡ false → suspend_running a k ≡ Pass
 follows-absent a k absent = ap (λ b. cond (b && is_running a k) (Do (Make (Suspend a false))) Pass) absent
 
 pub follows-off : (a : ℕ) (k : Control) → is_running a k ≡ false → suspend_running a k ≡ Pass
-follows-off a k off = ap (λ b. cond b (Do (Make (Suspend a false))) Pass) (both-off (is_part (fields_at k a).primary) (is_running a k) off)
+follows-off a k off = ap (λ b. cond b (Do (Make (Suspend a false))) Pass) (and_right (is_part (fields_at k a).primary) (is_running a k) off)
 
 pub follows-on : (a : ℕ) (k : Control) → is_part (fields_at k a).primary ≡ true → is_running a k ≡ true → suspend_running a k ≡ now (Suspend a false) k
 follows-on a k part on = λ i. cond (part i && on i) (Do (Make (Suspend a false))) Pass
@@ -156,7 +135,7 @@ reached-on a b k none = by (has_path a b k) (is_running b k) (are_linked a b k) 
     by false on up x y z h = absurd cc
 
 pub on-of-seen : (s : PlantState) (server : ℕ) → server < 8 → on_seen s server ≡ true → s.on server ≡ true
-on-of-seen s server low h = sym (on-low s server low) ∙ h
+on-of-seen s server low h = sym (on-seen s server low) ∙ h
 
 -- a count that rose stays risen
 pub rose-then : (f x y : ℕ) → Counted true f x → Counted true x y → Counted true f y
@@ -165,16 +144,6 @@ rose-then f x y first more = grind (arith, first, more)
 pub rose-on : (b : Bool) (f x y : ℕ) → Counted b x y → Counted true f x → Counted true f y
 rose-on true f x y more first = rose-then f x y first more
 rose-on false f x y more first = subst (λ n. Counted true f n) (sym more) first
-
-pub none-always : (o : Option Refusal) {P : Type 0} → P → OnNone o P
-none-always None p = p
-none-always (Some why) p = tt
-
--- the server of a volume that is defined is one of the eight
-pub low-server : (s : PlantState) (t : Table) (v : ℕ) → StandsFor t s → is_some (place_of t v) ≡ true → (volume_seen s t v).server < 8
-low-server s t v stands defined =
-    let x = placed t v defined in
-    subst (λ n. n < 8) (sym (ap (λ (w : Volume). w.server) (volume-placed s t v x.0 x.1 x.2 x.3))) (stands.device x.0 x.1 x.3).2
 
 -- a call that fails only by stops
 pub counted-stops : (r : Result (Unit {0}) Refusal) (a b : ℕ) → Counted (is_err r) a b → OnErr r (is_stop (refusal_of r) ≡ true) → Counted (is_stop (refusal_of r)) a b

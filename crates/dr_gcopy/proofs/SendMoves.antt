@@ -4,7 +4,7 @@ use Rattle.std.specs.Prelude.{if◌then◌else◌, max}
 use Rattle.std.specs.FinSet.{contains, union}
 use Rattle.dr_bits.proofs.Laws.{contains-union_tracks, contains-remove_tracks}
 use Rattle.dr_plant.specs.State.{PlantState}
-use Rattle.dr_config.specs.Table.{Table}
+use Rattle.dr_config.specs.Table.{ConfigTable}
 use Rattle.dr_model.specs.declared.event.Event.{Event}
 use Rattle.dr_model.specs.declared.event.Event.TheVariants.{Sent, Suspended}
 use Rattle.dr_model.specs.declared.state.PairState.{PairState}
@@ -21,22 +21,16 @@ use Rattle.dr_flash.specs.declared.told.Telling.{Telling}
 use Rattle.dr_flash.specs.Told.{events_of}
 use Rattle.dr_flash.specs.Turns.{room_of}
 use Rattle.dr_flash.proofs.FitLemmas.{fit-kept}
-use Rattle.dr_flash.proofs.FieldLemmas.{low-empty, low-remove, covers-all, covers-carried}
+use Rattle.dr_flash.proofs.FieldLemmas.{low-remove, covers-all, covers-carried, low-if}
 use Rattle.dr_flash.proofs.MoveLemmas.{MoveFits}
 use Rattle.dr_flash.proofs.TurnLemmas.{Tells}
-
-either-low : (a b : Bool) {P : Type 0} → (a || b) ≡ true → (a ≡ true → P) → (b ≡ true → P) → P
-either-low true b h f g = f refl
-either-low false b h f g = g h
+use Rattle.dr_model.proofs.LawfulLemmas.{low-empty}
+use Rattle.dr_logic.proofs.Truth.{either-of}
 
 pub low-union : (n : ℕ) (x y : Tracks) → Low n x → Low n y → Low n (union x y)
-low-union n x y h k q member = either-low (contains x q) (contains y q) (sym (contains-union_tracks x y q) ∙ member) (h q) (k q)
+low-union n x y h k q member = either-of (contains x q) (contains y q) (sym (contains-union_tracks x y q) ∙ member) (h q) (k q)
 
-pub low-if : (b : Bool) (n : ℕ) (x y : Tracks) → Low n x → Low n y → Low n (if b then x else y)
-low-if true n x y h k = h
-low-if false n x y h k = k
-
-module _ (s : PlantState) (t : Table) (v : ℕ) (fit : RelationsFit s t) (lawful : IsLawful (volume_seen s t v).tracks (volume_seen s t v).fields) where
+module _ (s : PlantState) (t : ConfigTable) (v : ℕ) (fit : RelationsFit s t) (lawful : IsLawful (volume_seen s t v).tracks (volume_seen s t v).fields) where
   abbrev x : Volume
   x = volume_seen s t v
 

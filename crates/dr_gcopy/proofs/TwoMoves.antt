@@ -3,14 +3,14 @@ use Rattle.std.proofs.Common.{ℕ, Bool, ◌≡◌, true, List, [], ◌∷◌, s
 use Rattle.std.specs.Prelude.{is_some, Result, Ok, Err, OnOk, OnErr}
 use Rattle.dr_ids.specs.declared.refusal.Refusal.{Refusal}
 use Rattle.dr_plant.specs.State.{PlantState}
-use Rattle.dr_config.specs.Table.{Table, place_of}
+use Rattle.dr_config.specs.Table.{ConfigTable, place_of}
 use Rattle.dr_model.specs.Control.{World}
 use Rattle.dr_model.specs.Carry.{Entry}
 use Rattle.dr_model.specs.ReadStops.{Ends}
 use Rattle.dr_volume.specs.View.{Rest, volume_seen}
 use Rattle.dr_flash.specs.Here.{armed_in, refusal_of}
 use Rattle.dr_flash.specs.Turns.{Advances, Halts, Leads, Fails}
-use Rattle.dr_flash.proofs.EndsLemmas.{ends-wider}
+use Rattle.dr_facts.proofs.Ends.{ends-wider}
 use Rattle.dr_flash.proofs.CopyLemmas.{wider-armed, led, failed}
 use Rattle.dr_flash.proofs.PlaceLaws.{entry-found}
 
@@ -22,10 +22,10 @@ pub second-fails : (s m : PlantState) (w v u : World) (r : Option Refusal) (d e 
 second-fails s m w v u r d e unarmed first halts ds = first (armed_in s) u r (e ∷ ds) (ends-wider (armed_in m) (armed_in s) (wider-armed s m unarmed) u r v (e ∷ ds) (halts ds))
 
 -- a volume stays on its server
-pub server-stays : (s u : PlantState) (t : Table) (v : ℕ) → is_some (place_of t v) ≡ true → (volume_seen u t v).server ≡ (volume_seen s t v).server
+pub server-stays : (s u : PlantState) (t : ConfigTable) (v : ℕ) → is_some (place_of t v) ≡ true → (volume_seen u t v).server ≡ (volume_seen s t v).server
 server-stays s u t v defined = let x = entry-found t v defined in x.2 u ∙ sym (x.2 s)
 
-pub still-running : (s u : PlantState) (t : Table) (v : ℕ) → is_some (place_of t v) ≡ true → u.on ≡ s.on → s.on (volume_seen s t v).server ≡ true → u.on (volume_seen u t v).server ≡ true
+pub still-running : (s u : PlantState) (t : ConfigTable) (v : ℕ) → is_some (place_of t v) ≡ true → u.on ≡ s.on → s.on (volume_seen s t v).server ≡ true → u.on (volume_seen u t v).server ≡ true
 still-running s u t v defined on running = (λ i. on i (server-stays s u t v defined i)) ∙ running
 
 -- the entries end as those that led on or failed say

@@ -23,9 +23,11 @@ receive_entries volumes a b t last =
 abbrev pub refuse_entries : ℕ → ℕ → List Entry
 refuse_entries a b = suspend_where (send_refusal a b) a ∷ refuse_if (send_refusal a b) ∷ []
 
+-- the secondary stores the track, and the primary strikes it off
 abbrev pub exchange_entries : ℕ → ℕ → ℕ → List Entry
 exchange_entries a b t = store_on a b t ∷ strike_on a t ∷ []
 
+-- behind what the secondary's targets keep
 abbrev pub pass_entries : List ℕ → ℕ → ℕ → ℕ → List Entry
 pass_entries volumes a b t = copy_first volumes b t ++ exchange_entries a b t
 

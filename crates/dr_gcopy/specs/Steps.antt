@@ -2,7 +2,7 @@
 use Rattle.std.specs.Prelude.{◌≢◌, ℕ, Bool, List, [], ◌∷◌, ◌++◌, Option, None, if◌then◌else◌}
 use Rattle.dr_ids.specs.declared.refusal.Which.TheVariants.{Size, Server as OneServer}
 use Rattle.dr_plant.specs.State.{PlantState}
-use Rattle.dr_config.specs.Table.{Table}
+use Rattle.dr_config.specs.Table.{ConfigTable}
 use Rattle.dr_model.specs.declared.state.Part.{Part}
 use Rattle.dr_model.specs.declared.state.PairState.{PairState}
 use Rattle.dr_model.specs.Control.{Control}
@@ -26,14 +26,16 @@ free_checks k a b = check (stands_free a) (pair_state k a) ∷ check (may_follow
 abbrev pub flash_checks : Control → ℕ → ℕ → List Entry
 flash_checks k a b = check (is_no_target a) (relation_state k a) ∷ check (is_no_target b) (relation_state k b) ∷ check (is_settled b) (relation_state k b) ∷ []
 
+-- the checks of `mkpprc`
 abbrev pub make_checks : Control → ℕ → ℕ → List Entry
 make_checks k a b = running_check k a ∷ refuse_if (reach_refusal a b) ∷ unlike_checks a b ++ free_checks k a b ++ flash_checks k a b
 
+-- and its two moves
 abbrev pub make_moves : ℕ → ℕ → Part → PairState → Bool → List Entry
 make_moves a b kind state full = now (MakeSecondary b a kind state) ∷ now (MakePrimary a b kind state full) ∷ []
 
 -- the first track that differs, where none may
-abbrev pub difference_seen : PlantState → Table → ℕ → ℕ → Bool → Option ℕ
+abbrev pub difference_seen : PlantState → ConfigTable → ℕ → ℕ → Bool → Option ℕ
 difference_seen s t a b full = if full then None else first_differing (track_seen s t) (volume_seen s t a).tracks a b
 
 -- a is a primary of b
@@ -44,12 +46,14 @@ remove_checks k a b = running_check k a ∷ check (leads_to a b) (pair_state k a
 abbrev pub contact_checks : Control → ℕ → ℕ → List Entry
 contact_checks k a b = running_check k b ∷ check (are_linked a b) (link_down (k.volume a).server (k.volume b).server) ∷ []
 
+-- the checks of `pausepprc`
 abbrev pub pause_checks : Control → ℕ → ℕ → List Entry
 pause_checks k a b = running_check k a ∷ check (may_pause a b) (pair_state k a) ∷ []
 
+-- the checks of `resumepprc`
 abbrev pub resume_checks : Control → ℕ → ℕ → Part → List Entry
 resume_checks k a b kind = running_check k a ∷ check (may_resume a b kind) (pair_state k a) ∷ refuse_if (reach_refusal a b) ∷ check (belongs_to a b) (pair_state k b) ∷ []
 
 -- From s to u every volume but these two has what it had.
-abbrev pub BothAlone : PlantState → PlantState → Table → ℕ → ℕ → Type 0
+abbrev pub BothAlone : PlantState → PlantState → ConfigTable → ℕ → ℕ → Type 0
 BothAlone s u t a b = (q : ℕ) → q ≢ a → q ≢ b → IsAsBefore s u t q

@@ -11,7 +11,7 @@ ghost use Rattle.dr_model.specs.Layout as layout;
 ghost use Rattle.dr_model.specs.PairEntries as pairs;
 ghost use Rattle.dr_volume.specs.View.{Rest, volume_seen};
 ghost use Rattle.dr_flash.specs.Checks.{Checked, OnNone, is_stop};
-ghost use Rattle.dr_flash.specs.Here.{seen, IsAtRest};
+ghost use Rattle.dr_flash.specs.Here.{world_seen, IsAtRest};
 ghost use Rattle.dr_gcopy.specs.Steps.{unlike_checks, free_checks, flash_checks, make_checks, remove_checks, contact_checks, pause_checks, resume_checks};
 
 use crate::parts::{is_primary_of, is_secondary_of, may_follow, may_pause, may_resume};
@@ -27,7 +27,7 @@ use dr_volume::peek_fields;
 fn running_refusal<P: Plant>(p: &P, c: &Config, v: VolumeId) -> Option<Refusal>
     requires rest { IsAtRest (P.state p.now) c.now }
     requires defined { IsSome (place_of c.now v.0) }
-    ensures checked { (r : Rest) (events : List Event) → Checked (seen (P.state p.now) c.now r events) (running_check (seen (P.state p.now) c.now r events).control v.0 ∷ []) result }
+    ensures checked { (r : Rest) (events : List Event) → Checked (world_seen (P.state p.now) c.now r events) (running_check (world_seen (P.state p.now) c.now r events).control v.0 ∷ []) result }
     ensures running { OnNone result ((P.state p.now).on (volume_seen (P.state p.now) c.now v.0).server ≡ true) }
     ensures calm { is_stop result ≡ false }
 {
@@ -42,7 +42,7 @@ fn running_refusal<P: Plant>(p: &P, c: &Config, v: VolumeId) -> Option<Refusal>
 fn unlike_refusal(c: &Config, a: VolumeId, b: VolumeId) -> Option<Refusal>
     requires primary { IsSome (place_of c.now a.0) }
     requires secondary { IsSome (place_of c.now b.0) }
-    ensures checked { (x : PlantState) (r : Rest) (events : List Event) → Checked (seen x c.now r events) (unlike_checks a.0 b.0) result }
+    ensures checked { (x : PlantState) (r : Rest) (events : List Event) → Checked (world_seen x c.now r events) (unlike_checks a.0 b.0) result }
     ensures servers { OnNone result ((x : PlantState) → (volume_seen x c.now a.0).server ≢ (volume_seen x c.now b.0).server) }
     ensures size { OnNone result ((x : PlantState) → (volume_seen x c.now a.0).tracks ≡ (volume_seen x c.now b.0).tracks) }
     ensures calm { is_stop result ≡ false }
@@ -64,7 +64,7 @@ fn free_refusal<P: Plant>(p: &P, c: &Config, a: VolumeId, b: VolumeId) -> Option
     requires rest { IsAtRest (P.state p.now) c.now }
     requires primary { IsSome (place_of c.now a.0) }
     requires secondary { IsSome (place_of c.now b.0) }
-    ensures checked { (r : Rest) (events : List Event) → Checked (seen (P.state p.now) c.now r events) (free_checks (seen (P.state p.now) c.now r events).control a.0 b.0) result }
+    ensures checked { (r : Rest) (events : List Event) → Checked (world_seen (P.state p.now) c.now r events) (free_checks (world_seen (P.state p.now) c.now r events).control a.0 b.0) result }
     ensures calm { is_stop result ≡ false }
 {
     if !is_unpaired(&peek_fields(p, c, a)) {
@@ -82,7 +82,7 @@ fn flash_refusal<P: Plant>(p: &P, c: &Config, a: VolumeId, b: VolumeId) -> Optio
     requires rest { IsAtRest (P.state p.now) c.now }
     requires primary { IsSome (place_of c.now a.0) }
     requires secondary { IsSome (place_of c.now b.0) }
-    ensures checked { (r : Rest) (events : List Event) → Checked (seen (P.state p.now) c.now r events) (flash_checks (seen (P.state p.now) c.now r events).control a.0 b.0) result }
+    ensures checked { (r : Rest) (events : List Event) → Checked (world_seen (P.state p.now) c.now r events) (flash_checks (world_seen (P.state p.now) c.now r events).control a.0 b.0) result }
     ensures calm { is_stop result ≡ false }
 {
     if peek_fields(p, c, a).related {
@@ -102,7 +102,7 @@ pub(crate) fn make_refusal<P: Plant>(p: &P, c: &Config, a: VolumeId, b: VolumeId
     requires rest { IsAtRest (P.state p.now) c.now }
     requires primary { IsSome (place_of c.now a.0) }
     requires secondary { IsSome (place_of c.now b.0) }
-    ensures checked { (r : Rest) (events : List Event) → Checked (seen (P.state p.now) c.now r events) (make_checks (seen (P.state p.now) c.now r events).control a.0 b.0) result }
+    ensures checked { (r : Rest) (events : List Event) → Checked (world_seen (P.state p.now) c.now r events) (make_checks (world_seen (P.state p.now) c.now r events).control a.0 b.0) result }
     ensures running { OnNone result ((P.state p.now).on (volume_seen (P.state p.now) c.now a.0).server ≡ true) }
     ensures reached { OnNone result ((P.state p.now).on (volume_seen (P.state p.now) c.now b.0).server ≡ true) }
     ensures apart { OnNone result (a.0 ≢ b.0) }
@@ -133,7 +133,7 @@ pub(crate) fn remove_refusal<P: Plant>(
 ) -> Option<Refusal>
     requires rest { IsAtRest (P.state p.now) c.now }
     requires primary { IsSome (place_of c.now a.0) }
-    ensures checked { (r : Rest) (events : List Event) → Checked (seen (P.state p.now) c.now r events) (remove_checks (seen (P.state p.now) c.now r events).control a.0 b.0) result }
+    ensures checked { (r : Rest) (events : List Event) → Checked (world_seen (P.state p.now) c.now r events) (remove_checks (world_seen (P.state p.now) c.now r events).control a.0 b.0) result }
     ensures running { OnNone result ((P.state p.now).on (volume_seen (P.state p.now) c.now a.0).server ≡ true) }
     ensures calm { is_stop result ≡ false }
 {
@@ -156,7 +156,7 @@ pub(crate) fn contact_refusal<P: Plant>(
     requires rest { IsAtRest (P.state p.now) c.now }
     requires primary { IsSome (place_of c.now a.0) }
     requires secondary { IsSome (place_of c.now b.0) }
-    ensures checked { (r : Rest) (events : List Event) → Checked (seen (P.state p.now) c.now r events) (contact_checks (seen (P.state p.now) c.now r events).control a.0 b.0) result }
+    ensures checked { (r : Rest) (events : List Event) → Checked (world_seen (P.state p.now) c.now r events) (contact_checks (world_seen (P.state p.now) c.now r events).control a.0 b.0) result }
     ensures running { OnNone result ((P.state p.now).on (volume_seen (P.state p.now) c.now b.0).server ≡ true) }
     ensures calm { is_stop result ≡ false }
 {
@@ -180,7 +180,7 @@ pub(crate) fn pause_refusal<P: Plant>(
 ) -> Option<Refusal>
     requires rest { IsAtRest (P.state p.now) c.now }
     requires primary { IsSome (place_of c.now a.0) }
-    ensures checked { (r : Rest) (events : List Event) → Checked (seen (P.state p.now) c.now r events) (pause_checks (seen (P.state p.now) c.now r events).control a.0 b.0) result }
+    ensures checked { (r : Rest) (events : List Event) → Checked (world_seen (P.state p.now) c.now r events) (pause_checks (world_seen (P.state p.now) c.now r events).control a.0 b.0) result }
     ensures running { OnNone result ((P.state p.now).on (volume_seen (P.state p.now) c.now a.0).server ≡ true) }
     ensures primary { OnNone result (layout.is_part (volume_seen (P.state p.now) c.now a.0).fields.primary ≡ true) }
     ensures calm { is_stop result ≡ false }
@@ -205,7 +205,7 @@ fn suspended_refusal<P: Plant>(
 ) -> Option<Refusal>
     requires rest { IsAtRest (P.state p.now) c.now }
     requires primary { IsSome (place_of c.now a.0) }
-    ensures checked { (r : Rest) (events : List Event) → Checked (seen (P.state p.now) c.now r events) (running_check (seen (P.state p.now) c.now r events).control a.0 ∷ check (pairs.may_resume a.0 b.0 kind) (entries.pair_state (seen (P.state p.now) c.now r events).control a.0) ∷ []) result }
+    ensures checked { (r : Rest) (events : List Event) → Checked (world_seen (P.state p.now) c.now r events) (running_check (world_seen (P.state p.now) c.now r events).control a.0 ∷ check (pairs.may_resume a.0 b.0 kind) (entries.pair_state (world_seen (P.state p.now) c.now r events).control a.0) ∷ []) result }
     ensures running { OnNone result ((P.state p.now).on (volume_seen (P.state p.now) c.now a.0).server ≡ true) }
     ensures primary { OnNone result (layout.is_part (volume_seen (P.state p.now) c.now a.0).fields.primary ≡ true) }
     ensures calm { is_stop result ≡ false }
@@ -231,7 +231,7 @@ pub(crate) fn resume_refusal<P: Plant>(
     requires rest { IsAtRest (P.state p.now) c.now }
     requires primary { IsSome (place_of c.now a.0) }
     requires secondary { IsSome (place_of c.now b.0) }
-    ensures checked { (r : Rest) (events : List Event) → Checked (seen (P.state p.now) c.now r events) (resume_checks (seen (P.state p.now) c.now r events).control a.0 b.0 kind) result }
+    ensures checked { (r : Rest) (events : List Event) → Checked (world_seen (P.state p.now) c.now r events) (resume_checks (world_seen (P.state p.now) c.now r events).control a.0 b.0 kind) result }
     ensures running { OnNone result ((P.state p.now).on (volume_seen (P.state p.now) c.now a.0).server ≡ true) }
     ensures reached { OnNone result ((P.state p.now).on (volume_seen (P.state p.now) c.now b.0).server ≡ true) }
     ensures primary { OnNone result (layout.is_part (volume_seen (P.state p.now) c.now a.0).fields.primary ≡ true) }

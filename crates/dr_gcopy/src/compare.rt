@@ -2,14 +2,14 @@
 
 ghost use Rattle.std.specs.Prelude.{◌≡◌, ℕ, ◌<◌, ◌≤◌, ◌+◌, true, [], length, None, Some, IsSome, IfOk, OnOk, OnErr, MatchOption, is_err};
 ghost use Rattle.std.specs.List.{slice_index_or};
+ghost use Rattle.dr_logic.specs.Counts.{Counted};
 ghost use Rattle.dr_config.specs.Table.{place_of};
 ghost use Rattle.dr_model.specs.PairEntries.{first_differing};
 ghost use Rattle.dr_model.specs.ReadStops.{GoesOff};
 ghost use Rattle.dr_volume.specs.Update.{IsAsBefore};
 ghost use Rattle.dr_volume.specs.View.{Rest, volume_seen, track_seen};
 ghost use Rattle.dr_flash.specs.Checks.{is_stop};
-ghost use Rattle.dr_flash.specs.Faults.{Counted};
-ghost use Rattle.dr_flash.specs.Here.{seen, refusal_of, armed_in, IsAtRest};
+ghost use Rattle.dr_flash.specs.Here.{world_seen, refusal_of, armed_in, IsAtRest};
 ghost use Rattle.dr_gcopy.specs.Differences.{first_from, first_other, Marks};
 
 use dr_config::Config;
@@ -48,7 +48,7 @@ fn read_group<P: Plant>(
     ensures bytes { OnOk result ((k : ℕ) → k < length into.old → slice_index_or into.new k [] ≡ track_seen (P.state p.old) c.now v.0 (from + k)) }
     ensures passed { OnOk result (P.state p.new ≡ P.state p.old) }
     ensures silent { OnOk result (j.new ≡ j.old) }
-    ensures gone { OnErr result ((r : Rest) → GoesOff (armed_in (P.state p.old)) (seen (P.state p.new) c.now r j.new.events) (refusal_of result) (seen (P.state p.old) c.now r j.old.events)) }
+    ensures gone { OnErr result ((r : Rest) → GoesOff (armed_in (P.state p.old)) (world_seen (P.state p.new) c.now r j.new.events) (refusal_of result) (world_seen (P.state p.old) c.now r j.old.events)) }
     ensures stopped { OnErr result (is_stop (refusal_of result) ≡ true) }
     ensures same { (u : ℕ) → IsAsBefore (P.state p.old) (P.state p.new) c.now u }
     ensures rest { IsAtRest (P.state p.new) c.now }
@@ -109,7 +109,7 @@ fn compare_group<P: Plant>(
     ensures found { IfOk result (λ x. x ≡ first_from (track_seen (P.state p.old) c.now) a.0 b.0 from (length first.old)) }
     ensures passed { OnOk result (P.state p.new ≡ P.state p.old) }
     ensures silent { OnOk result (j.new ≡ j.old) }
-    ensures gone { OnErr result ((r : Rest) → GoesOff (armed_in (P.state p.old)) (seen (P.state p.new) c.now r j.new.events) (refusal_of result) (seen (P.state p.old) c.now r j.old.events)) }
+    ensures gone { OnErr result ((r : Rest) → GoesOff (armed_in (P.state p.old)) (world_seen (P.state p.new) c.now r j.new.events) (refusal_of result) (world_seen (P.state p.old) c.now r j.old.events)) }
     ensures stopped { OnErr result (is_stop (refusal_of result) ≡ true) }
     ensures same { (u : ℕ) → IsAsBefore (P.state p.old) (P.state p.new) c.now u }
     ensures rest { IsAtRest (P.state p.new) c.now }
@@ -149,7 +149,7 @@ fn group_difference<P: Plant>(
     ensures found { IfOk result (λ x. x ≡ first_from (track_seen (P.state p.old) c.now) a.0 b.0 from count) }
     ensures passed { OnOk result (P.state p.new ≡ P.state p.old) }
     ensures silent { OnOk result (j.new ≡ j.old) }
-    ensures gone { OnErr result ((r : Rest) → GoesOff (armed_in (P.state p.old)) (seen (P.state p.new) c.now r j.new.events) (refusal_of result) (seen (P.state p.old) c.now r j.old.events)) }
+    ensures gone { OnErr result ((r : Rest) → GoesOff (armed_in (P.state p.old)) (world_seen (P.state p.new) c.now r j.new.events) (refusal_of result) (world_seen (P.state p.old) c.now r j.old.events)) }
     ensures stopped { OnErr result (is_stop (refusal_of result) ≡ true) }
     ensures same { (u : ℕ) → IsAsBefore (P.state p.old) (P.state p.new) c.now u }
     ensures rest { IsAtRest (P.state p.new) c.now }
@@ -185,7 +185,7 @@ pub fn difference<P: Plant>(
     ensures low { IfOk result (λ x. (t : ℕ) → x ≡ Some t → t < (volume_seen (P.state p.old) c.now a.0).tracks) }
     ensures passed { OnOk result (P.state p.new ≡ P.state p.old) }
     ensures silent { OnOk result (j.new ≡ j.old) }
-    ensures gone { OnErr result ((r : Rest) → GoesOff (armed_in (P.state p.old)) (seen (P.state p.new) c.now r j.new.events) (refusal_of result) (seen (P.state p.old) c.now r j.old.events)) }
+    ensures gone { OnErr result ((r : Rest) → GoesOff (armed_in (P.state p.old)) (world_seen (P.state p.new) c.now r j.new.events) (refusal_of result) (world_seen (P.state p.old) c.now r j.old.events)) }
     ensures stopped { OnErr result (is_stop (refusal_of result) ≡ true) }
     ensures same { (u : ℕ) → IsAsBefore (P.state p.old) (P.state p.new) c.now u }
     ensures rest { IsAtRest (P.state p.new) c.now }

@@ -1,6 +1,7 @@
 //! A primary sends the tracks that are out of sync.
 
 ghost use Rattle.std.specs.Prelude.{◌≡◌, ◌≢◌, ℕ, ◌≤◌, ◌+◌, true, false, length, take, None, IsSome, IfOk, OnOk, OnErr};
+ghost use Rattle.dr_logic.specs.Counts.{Counted};
 ghost use Rattle.dr_config.specs.Table.{place_of};
 ghost use Rattle.dr_model.specs.Control.{World};
 ghost use Rattle.dr_model.specs.Layout.{is_part};
@@ -8,9 +9,8 @@ ghost use Rattle.dr_model.specs.PairEntries.{sends, suspend_after, tracks_to_sen
 ghost use Rattle.dr_model.specs.Relations.{in_order};
 ghost use Rattle.dr_volume.specs.View.{Rest, volume_seen, ids_of};
 ghost use Rattle.dr_flash.specs.Checks.{is_stop};
-ghost use Rattle.dr_flash.specs.Faults.{Counted};
 ghost use Rattle.dr_flash.specs.Fit.{RelationsFit};
-ghost use Rattle.dr_flash.specs.Here.{seen, refusal_of, armed_in, IsAtRest};
+ghost use Rattle.dr_flash.specs.Here.{world_seen, refusal_of, armed_in, IsAtRest};
 ghost use Rattle.dr_flash.specs.Turns.{Leads};
 ghost use Rattle.dr_gcopy.specs.Followed.{EndsFollowed, FailsFollowed};
 ghost use Rattle.dr_gcopy.specs.Sending.{enough};
@@ -54,10 +54,10 @@ fn drain_to<P: Plant>(
     requires two_servers { (volume_seen (P.state p.old) c.now a.0).server ≢ (volume_seen (P.state p.old) c.now b.0).server }
     requires size { (volume_seen (P.state p.old) c.now b.0).tracks ≡ (volume_seen (P.state p.old) c.now a.0).tracks }
     requires tracks { (volume_seen (P.state p.old) c.now a.0).tracks ≡ n }
-    requires room { (k : ℕ) (r : Rest) (u : World) → Leads (seen (P.state p.old) c.now r j.old.events) (sends (ids_of c.now.volumes) a.0 b.0 (take k (in_order n out_of_sync.now))) u → length u.events + (length c.now.volumes + 5) ≤ length j.old.events + j.old.spare }
-    ensures carried { (r : Rest) → EndsFollowed (armed_in (P.state p.old)) (seen (P.state p.old) c.now r j.old.events) (sends (ids_of c.now.volumes) a.0 b.0 (tracks_to_send most n out_of_sync.now)) (suspend_after a.0) (seen (P.state p.new) c.now r j.new.events) (refusal_of result) }
-    ensures leads { OnOk result ((r : Rest) → Leads (seen (P.state p.old) c.now r j.old.events) (sends (ids_of c.now.volumes) a.0 b.0 (tracks_to_send most n out_of_sync.now)) (seen (P.state p.new) c.now r j.new.events)) }
-    ensures fails { OnErr result ((r : Rest) → FailsFollowed (armed_in (P.state p.old)) (seen (P.state p.old) c.now r j.old.events) (sends (ids_of c.now.volumes) a.0 b.0 (tracks_to_send most n out_of_sync.now)) (suspend_after a.0) (seen (P.state p.new) c.now r j.new.events) (refusal_of result)) }
+    requires room { (k : ℕ) (r : Rest) (u : World) → Leads (world_seen (P.state p.old) c.now r j.old.events) (sends (ids_of c.now.volumes) a.0 b.0 (take k (in_order n out_of_sync.now))) u → length u.events + (length c.now.volumes + 5) ≤ length j.old.events + j.old.spare }
+    ensures carried { (r : Rest) → EndsFollowed (armed_in (P.state p.old)) (world_seen (P.state p.old) c.now r j.old.events) (sends (ids_of c.now.volumes) a.0 b.0 (tracks_to_send most n out_of_sync.now)) (suspend_after a.0) (world_seen (P.state p.new) c.now r j.new.events) (refusal_of result) }
+    ensures leads { OnOk result ((r : Rest) → Leads (world_seen (P.state p.old) c.now r j.old.events) (sends (ids_of c.now.volumes) a.0 b.0 (tracks_to_send most n out_of_sync.now)) (world_seen (P.state p.new) c.now r j.new.events)) }
+    ensures fails { OnErr result ((r : Rest) → FailsFollowed (armed_in (P.state p.old)) (world_seen (P.state p.old) c.now r j.old.events) (sends (ids_of c.now.volumes) a.0 b.0 (tracks_to_send most n out_of_sync.now)) (suspend_after a.0) (world_seen (P.state p.new) c.now r j.new.events) (refusal_of result)) }
     ensures count { IfOk result (λ sent. sent ≡ length (tracks_to_send most n out_of_sync.now)) }
     ensures rest { IsAtRest (P.state p.new) c.now }
     ensures fit { RelationsFit (P.state p.new) c.now }
@@ -101,10 +101,10 @@ pub fn drain<P: Plant>(
     requires primary { is_part (volume_seen (P.state p.old) c.now a.0).fields.primary ≡ true }
     requires two_servers { (volume_seen (P.state p.old) c.now a.0).server ≢ (volume_seen (P.state p.old) c.now (volume_seen (P.state p.old) c.now a.0).fields.primary_partner).server }
     requires size { (volume_seen (P.state p.old) c.now (volume_seen (P.state p.old) c.now a.0).fields.primary_partner).tracks ≡ (volume_seen (P.state p.old) c.now a.0).tracks }
-    requires room { (k : ℕ) (r : Rest) (u : World) → Leads (seen (P.state p.old) c.now r j.old.events) (sends (ids_of c.now.volumes) a.0 (volume_seen (P.state p.old) c.now a.0).fields.primary_partner (take k (in_order (volume_seen (P.state p.old) c.now a.0).tracks (volume_seen (P.state p.old) c.now a.0).fields.out_of_sync))) u → length u.events + (length c.now.volumes + 5) ≤ length j.old.events + j.old.spare }
-    ensures carried { (r : Rest) → EndsFollowed (armed_in (P.state p.old)) (seen (P.state p.old) c.now r j.old.events) (sends (ids_of c.now.volumes) a.0 (volume_seen (P.state p.old) c.now a.0).fields.primary_partner (tracks_to_send most (volume_seen (P.state p.old) c.now a.0).tracks (volume_seen (P.state p.old) c.now a.0).fields.out_of_sync)) (suspend_after a.0) (seen (P.state p.new) c.now r j.new.events) (refusal_of result) }
-    ensures leads { OnOk result ((r : Rest) → Leads (seen (P.state p.old) c.now r j.old.events) (sends (ids_of c.now.volumes) a.0 (volume_seen (P.state p.old) c.now a.0).fields.primary_partner (tracks_to_send most (volume_seen (P.state p.old) c.now a.0).tracks (volume_seen (P.state p.old) c.now a.0).fields.out_of_sync)) (seen (P.state p.new) c.now r j.new.events)) }
-    ensures fails { OnErr result ((r : Rest) → FailsFollowed (armed_in (P.state p.old)) (seen (P.state p.old) c.now r j.old.events) (sends (ids_of c.now.volumes) a.0 (volume_seen (P.state p.old) c.now a.0).fields.primary_partner (tracks_to_send most (volume_seen (P.state p.old) c.now a.0).tracks (volume_seen (P.state p.old) c.now a.0).fields.out_of_sync)) (suspend_after a.0) (seen (P.state p.new) c.now r j.new.events) (refusal_of result)) }
+    requires room { (k : ℕ) (r : Rest) (u : World) → Leads (world_seen (P.state p.old) c.now r j.old.events) (sends (ids_of c.now.volumes) a.0 (volume_seen (P.state p.old) c.now a.0).fields.primary_partner (take k (in_order (volume_seen (P.state p.old) c.now a.0).tracks (volume_seen (P.state p.old) c.now a.0).fields.out_of_sync))) u → length u.events + (length c.now.volumes + 5) ≤ length j.old.events + j.old.spare }
+    ensures carried { (r : Rest) → EndsFollowed (armed_in (P.state p.old)) (world_seen (P.state p.old) c.now r j.old.events) (sends (ids_of c.now.volumes) a.0 (volume_seen (P.state p.old) c.now a.0).fields.primary_partner (tracks_to_send most (volume_seen (P.state p.old) c.now a.0).tracks (volume_seen (P.state p.old) c.now a.0).fields.out_of_sync)) (suspend_after a.0) (world_seen (P.state p.new) c.now r j.new.events) (refusal_of result) }
+    ensures leads { OnOk result ((r : Rest) → Leads (world_seen (P.state p.old) c.now r j.old.events) (sends (ids_of c.now.volumes) a.0 (volume_seen (P.state p.old) c.now a.0).fields.primary_partner (tracks_to_send most (volume_seen (P.state p.old) c.now a.0).tracks (volume_seen (P.state p.old) c.now a.0).fields.out_of_sync)) (world_seen (P.state p.new) c.now r j.new.events)) }
+    ensures fails { OnErr result ((r : Rest) → FailsFollowed (armed_in (P.state p.old)) (world_seen (P.state p.old) c.now r j.old.events) (sends (ids_of c.now.volumes) a.0 (volume_seen (P.state p.old) c.now a.0).fields.primary_partner (tracks_to_send most (volume_seen (P.state p.old) c.now a.0).tracks (volume_seen (P.state p.old) c.now a.0).fields.out_of_sync)) (suspend_after a.0) (world_seen (P.state p.new) c.now r j.new.events) (refusal_of result)) }
     ensures count { IfOk result (λ sent. sent ≡ length (tracks_to_send most (volume_seen (P.state p.old) c.now a.0).tracks (volume_seen (P.state p.old) c.now a.0).fields.out_of_sync)) }
     ensures rest { IsAtRest (P.state p.new) c.now }
     ensures fit { RelationsFit (P.state p.new) c.now }

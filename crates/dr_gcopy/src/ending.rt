@@ -1,6 +1,7 @@
 //! Ending a pair.
 
 ghost use Rattle.std.specs.Prelude.{◌≡◌, ℕ, ◌≤◌, ◌+◌, true, false, [], ◌∷◌, length, None, Some, IsSome, OnOk, OnErr, is_err};
+ghost use Rattle.dr_logic.specs.Counts.{Counted};
 ghost use Rattle.dr_config.specs.Table.{place_of};
 ghost use Rattle.dr_model.specs.Carry.{now};
 ghost use Rattle.dr_model.specs.Moves.{DropPrimary};
@@ -10,9 +11,8 @@ ghost use Rattle.dr_model.specs.Refusals.{stopped};
 ghost use Rattle.dr_volume.specs.Update.{OthersStay};
 ghost use Rattle.dr_volume.specs.View.{Rest, volume_seen};
 ghost use Rattle.dr_flash.specs.Checks.{is_stop};
-ghost use Rattle.dr_flash.specs.Faults.{Counted};
 ghost use Rattle.dr_flash.specs.Fit.{RelationsFit};
-ghost use Rattle.dr_flash.specs.Here.{seen, refusal_of, armed_in, IsAtRest};
+ghost use Rattle.dr_flash.specs.Here.{world_seen, refusal_of, armed_in, IsAtRest};
 ghost use Rattle.dr_flash.specs.Turns.{Advances, Halts, Leads, Fails};
 ghost use Rattle.dr_gcopy.specs.Steps.{BothAlone};
 
@@ -38,8 +38,8 @@ fn let_go<P: Plant>(
     requires secondary { IsSome (place_of c.now b.0) }
     requires reached { (P.state p.old).on (volume_seen (P.state p.old) c.now b.0).server ≡ true }
     requires room { 2 ≤ j.old.spare }
-    ensures advances { OnOk result ((r : Rest) → Advances (seen (P.state p.old) c.now r j.old.events) (let_go a.0 b.0) (seen (P.state p.new) c.now r j.new.events)) }
-    ensures halts { OnErr result ((r : Rest) → Halts (armed_in (P.state p.old)) (seen (P.state p.old) c.now r j.old.events) (let_go a.0 b.0) (seen (P.state p.new) c.now r j.new.events) (refusal_of result)) }
+    ensures advances { OnOk result ((r : Rest) → Advances (world_seen (P.state p.old) c.now r j.old.events) (let_go a.0 b.0) (world_seen (P.state p.new) c.now r j.new.events)) }
+    ensures halts { OnErr result ((r : Rest) → Halts (armed_in (P.state p.old)) (world_seen (P.state p.old) c.now r j.old.events) (let_go a.0 b.0) (world_seen (P.state p.new) c.now r j.new.events) (refusal_of result)) }
     ensures refused { OnErr result (refusal_of result ≡ Some (stopped (volume_seen (P.state p.old) c.now b.0).server)) }
     ensures rest { IsAtRest (P.state p.new) c.now }
     ensures fit { RelationsFit (P.state p.new) c.now }
@@ -72,8 +72,8 @@ fn drop_both<P: Plant>(
     requires running { (P.state p.old).on (volume_seen (P.state p.old) c.now a.0).server ≡ true }
     requires reached { (P.state p.old).on (volume_seen (P.state p.old) c.now b.0).server ≡ true }
     requires room { 3 ≤ j.old.spare }
-    ensures leads { OnOk result ((r : Rest) → Leads (seen (P.state p.old) c.now r j.old.events) (now (DropPrimary a.0) ∷ let_go a.0 b.0 ∷ []) (seen (P.state p.new) c.now r j.new.events)) }
-    ensures fails { OnErr result ((r : Rest) → Fails (armed_in (P.state p.old)) (seen (P.state p.old) c.now r j.old.events) (now (DropPrimary a.0) ∷ let_go a.0 b.0 ∷ []) (seen (P.state p.new) c.now r j.new.events) (refusal_of result)) }
+    ensures leads { OnOk result ((r : Rest) → Leads (world_seen (P.state p.old) c.now r j.old.events) (now (DropPrimary a.0) ∷ let_go a.0 b.0 ∷ []) (world_seen (P.state p.new) c.now r j.new.events)) }
+    ensures fails { OnErr result ((r : Rest) → Fails (armed_in (P.state p.old)) (world_seen (P.state p.old) c.now r j.old.events) (now (DropPrimary a.0) ∷ let_go a.0 b.0 ∷ []) (world_seen (P.state p.new) c.now r j.new.events) (refusal_of result)) }
     ensures stops { OnErr result (is_stop (refusal_of result) ≡ true) }
     ensures rest { IsAtRest (P.state p.new) c.now }
     ensures fit { RelationsFit (P.state p.new) c.now }
@@ -105,8 +105,8 @@ pub fn remove_pair<P: Plant>(
     requires primary { IsSome (place_of c.now a.0) }
     requires secondary { IsSome (place_of c.now b.0) }
     requires room { 3 ≤ j.old.spare }
-    ensures carried { (r : Rest) → Ends (armed_in (P.state p.old)) (seen (P.state p.new) c.now r j.new.events) (refusal_of result) (seen (P.state p.old) c.now r j.old.events)
-        (remove_entries (seen (P.state p.old) c.now r j.old.events).control a.0 b.0 source_only) }
+    ensures carried { (r : Rest) → Ends (armed_in (P.state p.old)) (world_seen (P.state p.new) c.now r j.new.events) (refusal_of result) (world_seen (P.state p.old) c.now r j.old.events)
+        (remove_entries (world_seen (P.state p.old) c.now r j.old.events).control a.0 b.0 source_only) }
     ensures unchanged { is_stop (refusal_of result) ≡ false → OnErr result ((P.state p.new ≡ P.state p.old) × (j.new ≡ j.old)) }
     ensures rest { IsAtRest (P.state p.new) c.now }
     ensures fit { RelationsFit (P.state p.new) c.now }

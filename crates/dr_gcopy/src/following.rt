@@ -1,19 +1,19 @@
 //! What follows the stop of a server: a primary is suspended, where its own server still runs.
 
 ghost use Rattle.std.specs.Prelude.{◌≡◌, ◌≢◌, ℕ, ◌≤◌, ◌+◌, true, length, None, Some, IsSome};
+ghost use Rattle.dr_logic.specs.Counts.{Counted};
 ghost use Rattle.dr_config.specs.Table.{place_of};
 ghost use Rattle.dr_model.specs.PairEntries.{suspend_after};
 ghost use Rattle.dr_volume.specs.Update.{OthersStay};
 ghost use Rattle.dr_volume.specs.View.{Rest};
 ghost use Rattle.dr_flash.specs.Checks.{is_stop};
-ghost use Rattle.dr_flash.specs.Faults.{Counted};
 ghost use Rattle.dr_flash.specs.Fit.{RelationsFit};
-ghost use Rattle.dr_flash.specs.Here.{seen, armed_in, IsAtRest};
+ghost use Rattle.dr_flash.specs.Here.{world_seen, armed_in, IsAtRest};
 ghost use Rattle.dr_gcopy.specs.Followed.{EndsSo, Follows};
 
 use crate::suspending::suspend;
 use dr_config::Config;
-use dr_flash::{is_part, server_of};
+use dr_flash::server_of;
 use dr_ids::{Refusal, VolumeId};
 use dr_model::Journal;
 use dr_plant::Plant;
@@ -26,7 +26,7 @@ fn suspend_running<P: Plant>(p: &mut P, c: &Config, j: &mut Journal, a: VolumeId
     requires fit { RelationsFit (P.state p.old) c.now }
     requires defined { IsSome (place_of c.now a.0) }
     requires room { 2 ≤ j.old.spare }
-    ensures ends { (r : Rest) (s : ℕ) → EndsSo (armed_in (P.state p.old)) (seen (P.state p.old) c.now r j.old.events) (suspend_after a.0 s) (seen (P.state p.new) c.now r j.new.events) }
+    ensures ends { (r : Rest) (s : ℕ) → EndsSo (armed_in (P.state p.old)) (world_seen (P.state p.old) c.now r j.old.events) (suspend_after a.0 s) (world_seen (P.state p.new) c.now r j.new.events) }
     ensures rest { IsAtRest (P.state p.new) c.now }
     ensures fit { RelationsFit (P.state p.new) c.now }
     ensures unarmed { (q : ℕ) → (P.state p.old).read_fuse q ≡ None → (P.state p.new).read_fuse q ≡ None }
@@ -35,7 +35,7 @@ fn suspend_running<P: Plant>(p: &mut P, c: &Config, j: &mut Journal, a: VolumeId
     ensures room { j.old.spare ≤ j.new.spare + 2 }
     ensures spare { length j.new.events + j.new.spare ≡ length j.old.events + j.old.spare }
 {
-    if !is_part(peek_fields(p, c, a).primary) {
+    if !peek_fields(p, c, a).primary.is_part() {
         return;
     }
     if !p.is_on(server_of(c, a).0) {
@@ -50,7 +50,7 @@ pub fn follow_stop<P: Plant>(p: &mut P, c: &Config, j: &mut Journal, a: VolumeId
     requires fit { RelationsFit (P.state p.old) c.now }
     requires defined { IsSome (place_of c.now a.0) }
     requires room { 2 ≤ j.old.spare }
-    ensures follows { (r : Rest) → Follows (armed_in (P.state p.old)) (seen (P.state p.old) c.now r j.old.events) (Some why) (suspend_after a.0) (seen (P.state p.new) c.now r j.new.events) }
+    ensures follows { (r : Rest) → Follows (armed_in (P.state p.old)) (world_seen (P.state p.old) c.now r j.old.events) (Some why) (suspend_after a.0) (world_seen (P.state p.new) c.now r j.new.events) }
     ensures rest { IsAtRest (P.state p.new) c.now }
     ensures fit { RelationsFit (P.state p.new) c.now }
     ensures unarmed { (q : ℕ) → (P.state p.old).read_fuse q ≡ None → (P.state p.new).read_fuse q ≡ None }

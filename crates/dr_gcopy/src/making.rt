@@ -1,6 +1,7 @@
 //! Making a pair.
 
 ghost use Rattle.std.specs.Prelude.{◌≡◌, ℕ, ◌≤◌, ◌+◌, true, false, [], ◌∷◌, length, None, Some, IsSome, OnOk, OnErr, is_err, ◌≢◌, if◌then◌else◌};
+ghost use Rattle.dr_logic.specs.Counts.{Counted};
 ghost use Rattle.dr_config.specs.Table.{place_of};
 ghost use Rattle.dr_model.specs.Layout as layout;
 ghost use Rattle.dr_model.specs.PairEntries.{refuse_if, differs_at, first_differing, make_entries};
@@ -8,9 +9,8 @@ ghost use Rattle.dr_model.specs.ReadStops.{Ends};
 ghost use Rattle.dr_volume.specs.Update.{IsAsBefore};
 ghost use Rattle.dr_volume.specs.View.{Rest, volume_seen, track_seen};
 ghost use Rattle.dr_flash.specs.Checks.{is_stop};
-ghost use Rattle.dr_flash.specs.Faults.{Counted};
 ghost use Rattle.dr_flash.specs.Fit.{RelationsFit};
-ghost use Rattle.dr_flash.specs.Here.{seen, refusal_of, armed_in, IsAtRest};
+ghost use Rattle.dr_flash.specs.Here.{world_seen, refusal_of, armed_in, IsAtRest};
 ghost use Rattle.dr_flash.specs.Turns.{Leads, Fails};
 ghost use Rattle.dr_gcopy.specs.Kinds.{part_of};
 ghost use Rattle.dr_gcopy.specs.Steps.{make_moves, difference_seen, BothAlone};
@@ -42,8 +42,8 @@ fn compare<P: Plant>(
     requires reached { (P.state p.old).on (volume_seen (P.state p.old) c.now b.0).server ≡ true }
     requires size { (volume_seen (P.state p.old) c.now a.0).tracks ≡ (volume_seen (P.state p.old) c.now b.0).tracks }
     requires room { 1 ≤ j.old.spare }
-    ensures leads { OnOk result ((r : Rest) → Leads (seen (P.state p.old) c.now r j.old.events) (refuse_if (differs_at (difference_seen (P.state p.old) c.now a.0 b.0 full)) ∷ []) (seen (P.state p.old) c.now r j.old.events)) }
-    ensures fails { OnErr result ((r : Rest) → Fails (armed_in (P.state p.old)) (seen (P.state p.old) c.now r j.old.events) (refuse_if (differs_at (difference_seen (P.state p.old) c.now a.0 b.0 full)) ∷ []) (seen (P.state p.new) c.now r j.new.events) (refusal_of result)) }
+    ensures leads { OnOk result ((r : Rest) → Leads (world_seen (P.state p.old) c.now r j.old.events) (refuse_if (differs_at (difference_seen (P.state p.old) c.now a.0 b.0 full)) ∷ []) (world_seen (P.state p.old) c.now r j.old.events)) }
+    ensures fails { OnErr result ((r : Rest) → Fails (armed_in (P.state p.old)) (world_seen (P.state p.old) c.now r j.old.events) (refuse_if (differs_at (difference_seen (P.state p.old) c.now a.0 b.0 full)) ∷ []) (world_seen (P.state p.new) c.now r j.new.events) (refusal_of result)) }
     ensures passed { OnOk result (P.state p.new ≡ P.state p.old) }
     ensures silent { OnOk result (j.new ≡ j.old) }
     ensures unchanged { is_stop (refusal_of result) ≡ false → OnErr result ((P.state p.new ≡ P.state p.old) × (j.new ≡ j.old)) }
@@ -84,8 +84,8 @@ fn make_both<P: Plant>(
     requires apart { a.0 ≢ b.0 }
     requires kind { layout.is_part kind ≡ true }
     requires room { 3 ≤ j.old.spare }
-    ensures leads { OnOk result ((r : Rest) → Leads (seen (P.state p.old) c.now r j.old.events) (make_moves a.0 b.0 kind state full) (seen (P.state p.new) c.now r j.new.events)) }
-    ensures fails { OnErr result ((r : Rest) → Fails (armed_in (P.state p.old)) (seen (P.state p.old) c.now r j.old.events) (make_moves a.0 b.0 kind state full) (seen (P.state p.new) c.now r j.new.events) (refusal_of result)) }
+    ensures leads { OnOk result ((r : Rest) → Leads (world_seen (P.state p.old) c.now r j.old.events) (make_moves a.0 b.0 kind state full) (world_seen (P.state p.new) c.now r j.new.events)) }
+    ensures fails { OnErr result ((r : Rest) → Fails (armed_in (P.state p.old)) (world_seen (P.state p.old) c.now r j.old.events) (make_moves a.0 b.0 kind state full) (world_seen (P.state p.new) c.now r j.new.events) (refusal_of result)) }
     ensures stops { OnErr result (is_stop (refusal_of result) ≡ true) }
     ensures rest { IsAtRest (P.state p.new) c.now }
     ensures fit { RelationsFit (P.state p.new) c.now }
@@ -120,8 +120,8 @@ pub fn make_pair<P: Plant>(
     requires primary { IsSome (place_of c.now a.0) }
     requires secondary { IsSome (place_of c.now b.0) }
     requires room { 3 ≤ j.old.spare }
-    ensures carried { (r : Rest) → Ends (armed_in (P.state p.old)) (seen (P.state p.new) c.now r j.new.events) (refusal_of result) (seen (P.state p.old) c.now r j.old.events)
-        (make_entries (seen (P.state p.old) c.now r j.old.events).control a.0 b.0 (part_of kind) full (if full then None else first_differing (track_seen (P.state p.old) c.now) (volume_seen (P.state p.old) c.now a.0).tracks a.0 b.0)) }
+    ensures carried { (r : Rest) → Ends (armed_in (P.state p.old)) (world_seen (P.state p.new) c.now r j.new.events) (refusal_of result) (world_seen (P.state p.old) c.now r j.old.events)
+        (make_entries (world_seen (P.state p.old) c.now r j.old.events).control a.0 b.0 (part_of kind) full (if full then None else first_differing (track_seen (P.state p.old) c.now) (volume_seen (P.state p.old) c.now a.0).tracks a.0 b.0)) }
     ensures unchanged { is_stop (refusal_of result) ≡ false → OnErr result ((P.state p.new ≡ P.state p.old) × (j.new ≡ j.old)) }
     ensures rest { IsAtRest (P.state p.new) c.now }
     ensures fit { RelationsFit (P.state p.new) c.now }

@@ -2,14 +2,12 @@
 
 ghost use Rattle.std.specs.Prelude.{◌≡◌, ◌≤◌, ◌&&◌, ◌||◌, not, nat_eq, if◌then◌else◌};
 ghost use Rattle.std.specs.FinSet.{empty};
-ghost use Rattle.dr_model.specs.declared.state.Part.TheVariants.{Global};
 ghost use Rattle.dr_model.specs.Layout as layout;
 ghost use Rattle.dr_model.specs.Pairs as pairs;
 ghost use Rattle.dr_model.specs.Relations.{all_tracks};
 ghost use Rattle.dr_volume.specs.Plain.{plain};
 
 use dr_bits::TrackSet;
-use dr_flash::{is_part, is_suspended};
 use dr_ids::VolumeId;
 use dr_model::{PairState, Part};
 use dr_volume::Fields;
@@ -132,42 +130,11 @@ pub(crate) fn taken_over(f: &Fields) -> Fields
     }
 }
 
-/// Whether a part is that of a Metro Mirror.
-fn is_metro(part: Part) -> bool
-    ensures { result ≡ pairs.is_metro part }
-{
-    match part {
-        Part::Metro => true,
-        Part::Absent | Part::Global => false,
-    }
-}
-
-/// Whether a part is that of a Global Copy.
-fn is_global(part: Part) -> bool
-    ensures { result ≡ pairs.is_kind Global part }
-{
-    match part {
-        Part::Global => true,
-        Part::Absent | Part::Metro => false,
-    }
-}
-
-/// Whether a part is of that kind.
-fn is_kind(kind: Part, part: Part) -> bool
-    ensures { result ≡ pairs.is_kind kind part }
-{
-    match kind {
-        Part::Metro => is_metro(part),
-        Part::Global => is_global(part),
-        Part::Absent => false,
-    }
-}
-
 /// The state of a pair as it is made.
 pub(crate) fn first_state(kind: Part, full: bool) -> PairState
     ensures { result ≡ pairs.first_state kind full }
 {
-    if is_metro(kind) && !full {
+    if kind.is_metro() && !full {
         PairState::FullDuplex
     } else {
         PairState::CopyPending
@@ -178,7 +145,7 @@ pub(crate) fn first_state(kind: Part, full: bool) -> PairState
 pub(crate) fn next_state(f: &Fields) -> PairState
     ensures { result ≡ pairs.next_state (plain f.now) }
 {
-    if is_metro(f.primary) && f.out_of_sync.len() == 0 {
+    if f.primary.is_metro() && f.out_of_sync.len() == 0 {
         PairState::FullDuplex
     } else {
         PairState::CopyPending
@@ -189,33 +156,33 @@ pub(crate) fn next_state(f: &Fields) -> PairState
 pub(crate) fn is_primary_of(f: &Fields, b: VolumeId) -> bool
     ensures { result ≡ pairs.is_primary_of b.0 (plain f.now) }
 {
-    is_part(f.primary) && f.primary_partner.0 == b.0
+    f.primary.is_part() && f.primary_partner.0 == b.0
 }
 
 /// Whether a volume with these fields is the secondary of `a`.
 pub(crate) fn is_secondary_of(f: &Fields, a: VolumeId) -> bool
     ensures { result ≡ pairs.is_secondary_of a.0 (plain f.now) }
 {
-    is_part(f.secondary) && f.secondary_partner.0 == a.0
+    f.secondary.is_part() && f.secondary_partner.0 == a.0
 }
 
 /// Whether a volume with these fields may become the secondary of `a`: it is no primary, and the secondary of no other.
 pub(crate) fn may_follow(f: &Fields, a: VolumeId) -> bool
     ensures { result ≡ (not (layout.is_part f.now.primary) && (not (layout.is_part f.now.secondary) || nat_eq f.now.secondary_partner.0 a.0)) }
 {
-    !is_part(f.primary) && (!is_part(f.secondary) || f.secondary_partner.0 == a.0)
+    !f.primary.is_part() && (!f.secondary.is_part() || f.secondary_partner.0 == a.0)
 }
 
 /// Whether a volume with these fields is a primary of `b` that isn't Suspended.
 pub(crate) fn may_pause(f: &Fields, b: VolumeId) -> bool
     ensures { result ≡ (pairs.is_primary_of b.0 (plain f.now) && not (pairs.is_suspended f.now.primary_state)) }
 {
-    is_primary_of(f, b) && !is_suspended(f.primary_state)
+    is_primary_of(f, b) && !f.primary_state.is_suspended()
 }
 
 /// Whether a volume with these fields is a Suspended primary of `b`, of that kind.
 pub(crate) fn may_resume(f: &Fields, b: VolumeId, kind: Part) -> bool
     ensures { result ≡ (pairs.is_primary_of b.0 (plain f.now) && (pairs.is_kind kind f.now.primary && pairs.is_suspended f.now.primary_state)) }
 {
-    is_primary_of(f, b) && (is_kind(kind, f.primary) && is_suspended(f.primary_state))
+    is_primary_of(f, b) && (f.primary.is_kind(kind) && f.primary_state.is_suspended())
 }

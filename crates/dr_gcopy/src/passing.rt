@@ -2,6 +2,7 @@
 //! strikes it off.
 
 ghost use Rattle.std.specs.Prelude.{◌≡◌, ◌≢◌, ℕ, ◌<◌, ◌≤◌, ◌+◌, true, false, length, None, IsSome, OnOk, OnErr, is_err};
+ghost use Rattle.dr_logic.specs.Counts.{Counted};
 ghost use Rattle.dr_config.specs.Table.{place_of};
 ghost use Rattle.dr_model.specs.Entries.{copies_from};
 ghost use Rattle.dr_model.specs.Layout.{is_part};
@@ -9,9 +10,8 @@ ghost use Rattle.dr_model.specs.Pairs as pairs;
 ghost use Rattle.dr_volume.specs.Update.{IsAsBefore};
 ghost use Rattle.dr_volume.specs.View.{Rest, volume_seen, track_seen, ids_of};
 ghost use Rattle.dr_flash.specs.Checks.{is_stop};
-ghost use Rattle.dr_flash.specs.Faults.{Counted};
 ghost use Rattle.dr_flash.specs.Fit.{RelationsFit};
-ghost use Rattle.dr_flash.specs.Here.{seen, refusal_of, armed_in, IsAtRest};
+ghost use Rattle.dr_flash.specs.Here.{world_seen, refusal_of, armed_in, IsAtRest};
 ghost use Rattle.dr_flash.specs.Turns.{Leads, Fails};
 ghost use Rattle.dr_gcopy.specs.Sending.{exchange_entries, pass_entries};
 
@@ -49,8 +49,8 @@ fn exchange<P: Plant>(
     requires bytes { bytes.now ≡ track_seen (P.state p.old) c.now a.0 t }
     requires last { last ≡ pairs.is_last (volume_seen (P.state p.old) c.now a.0).fields t }
     requires room { 2 ≤ j.old.spare }
-    ensures leads { OnOk result ((r : Rest) → Leads (seen (P.state p.old) c.now r j.old.events) (exchange_entries a.0 b.0 t) (seen (P.state p.new) c.now r j.new.events)) }
-    ensures fails { OnErr result ((r : Rest) → Fails (armed_in (P.state p.old)) (seen (P.state p.old) c.now r j.old.events) (exchange_entries a.0 b.0 t) (seen (P.state p.new) c.now r j.new.events) (refusal_of result)) }
+    ensures leads { OnOk result ((r : Rest) → Leads (world_seen (P.state p.old) c.now r j.old.events) (exchange_entries a.0 b.0 t) (world_seen (P.state p.new) c.now r j.new.events)) }
+    ensures fails { OnErr result ((r : Rest) → Fails (armed_in (P.state p.old)) (world_seen (P.state p.old) c.now r j.old.events) (exchange_entries a.0 b.0 t) (world_seen (P.state p.new) c.now r j.new.events) (refusal_of result)) }
     ensures struck { OnOk result ((volume_seen (P.state p.new) c.now a.0).fields ≡ pairs.struck (pairs.is_last (volume_seen (P.state p.old) c.now a.0).fields t) (volume_seen (P.state p.old) c.now a.0).fields t) }
     ensures stops { OnErr result (is_stop (refusal_of result) ≡ true) }
     ensures rest { IsAtRest (P.state p.new) c.now }
@@ -92,8 +92,8 @@ fn hand_over<P: Plant>(
     requires bytes { bytes.now ≡ track_seen (P.state p.old) c.now a.0 t }
     requires last { last ≡ pairs.is_last (volume_seen (P.state p.old) c.now a.0).fields t }
     requires room { length c.now.volumes + 2 ≤ j.old.spare }
-    ensures leads { OnOk result ((r : Rest) → Leads (seen (P.state p.old) c.now r j.old.events) (pass_entries (ids_of c.now.volumes) a.0 b.0 t) (seen (P.state p.new) c.now r j.new.events)) }
-    ensures fails { OnErr result ((r : Rest) → Fails (armed_in (P.state p.old)) (seen (P.state p.old) c.now r j.old.events) (pass_entries (ids_of c.now.volumes) a.0 b.0 t) (seen (P.state p.new) c.now r j.new.events) (refusal_of result)) }
+    ensures leads { OnOk result ((r : Rest) → Leads (world_seen (P.state p.old) c.now r j.old.events) (pass_entries (ids_of c.now.volumes) a.0 b.0 t) (world_seen (P.state p.new) c.now r j.new.events)) }
+    ensures fails { OnErr result ((r : Rest) → Fails (armed_in (P.state p.old)) (world_seen (P.state p.old) c.now r j.old.events) (pass_entries (ids_of c.now.volumes) a.0 b.0 t) (world_seen (P.state p.new) c.now r j.new.events) (refusal_of result)) }
     ensures struck { OnOk result ((volume_seen (P.state p.new) c.now a.0).fields ≡ pairs.struck (pairs.is_last (volume_seen (P.state p.old) c.now a.0).fields t) (volume_seen (P.state p.old) c.now a.0).fields t) }
     ensures stops { OnErr result (is_stop (refusal_of result) ≡ true) }
     ensures rest { IsAtRest (P.state p.new) c.now }
@@ -133,8 +133,8 @@ pub fn pass_on<P: Plant>(
     requires within { t < (volume_seen (P.state p.old) c.now a.0).tracks }
     requires size { (volume_seen (P.state p.old) c.now b.0).tracks ≡ (volume_seen (P.state p.old) c.now a.0).tracks }
     requires room { length c.now.volumes + 2 ≤ j.old.spare }
-    ensures leads { OnOk result ((r : Rest) → Leads (seen (P.state p.old) c.now r j.old.events) (pass_entries (ids_of c.now.volumes) a.0 b.0 t) (seen (P.state p.new) c.now r j.new.events)) }
-    ensures fails { OnErr result ((r : Rest) → Fails (armed_in (P.state p.old)) (seen (P.state p.old) c.now r j.old.events) (pass_entries (ids_of c.now.volumes) a.0 b.0 t) (seen (P.state p.new) c.now r j.new.events) (refusal_of result)) }
+    ensures leads { OnOk result ((r : Rest) → Leads (world_seen (P.state p.old) c.now r j.old.events) (pass_entries (ids_of c.now.volumes) a.0 b.0 t) (world_seen (P.state p.new) c.now r j.new.events)) }
+    ensures fails { OnErr result ((r : Rest) → Fails (armed_in (P.state p.old)) (world_seen (P.state p.old) c.now r j.old.events) (pass_entries (ids_of c.now.volumes) a.0 b.0 t) (world_seen (P.state p.new) c.now r j.new.events) (refusal_of result)) }
     ensures struck { OnOk result ((volume_seen (P.state p.new) c.now a.0).fields ≡ pairs.struck (pairs.is_last (volume_seen (P.state p.old) c.now a.0).fields t) (volume_seen (P.state p.old) c.now a.0).fields t) }
     ensures stops { OnErr result (is_stop (refusal_of result) ≡ true) }
     ensures rest { IsAtRest (P.state p.new) c.now }

@@ -6,7 +6,7 @@ ghost use Rattle.dr_model.specs.declared.event.Event.{Event};
 ghost use Rattle.dr_model.specs.PairEntries as pairs;
 ghost use Rattle.dr_volume.specs.View.{Rest, volume_seen};
 ghost use Rattle.dr_flash.specs.Checks.{OnNone, is_stop};
-ghost use Rattle.dr_flash.specs.Here.{seen};
+ghost use Rattle.dr_flash.specs.Here.{world_seen};
 
 use dr_config::Config;
 use dr_ids::{Refusal, VolumeId};
@@ -18,7 +18,7 @@ pub fn reach_refusal<P: Plant>(p: &P, c: &Config, a: VolumeId, b: VolumeId) -> O
     requires stands { StandsFor c.now (P.state p.now) }
     requires from { IsSome (place_of c.now a.0) }
     requires to { IsSome (place_of c.now b.0) }
-    ensures refusal { (r : Rest) (events : List Event) → result ≡ pairs.reach_refusal a.0 b.0 (seen (P.state p.now) c.now r events).control }
+    ensures refusal { (r : Rest) (events : List Event) → result ≡ pairs.reach_refusal a.0 b.0 (world_seen (P.state p.now) c.now r events).control }
     ensures running { OnNone result ((P.state p.now).on (volume_seen (P.state p.now) c.now b.0).server ≡ true) }
     ensures calm { is_stop result ≡ false }
 {

@@ -1,6 +1,7 @@
 //! A secondary takes a track of its primary.
 
 ghost use Rattle.std.specs.Prelude.{◌≡◌, ◌≢◌, ℕ, ◌<◌, ◌≤◌, ◌+◌, Bool, true, false, ◌&&◌, nat_eq, List, [], ◌∷◌, ◌++◌, length, None, Some, IsSome, OnOk, OnErr, is_err};
+ghost use Rattle.dr_logic.specs.Counts.{Counted};
 ghost use Rattle.dr_config.specs.Table.{StandsFor, place_of};
 ghost use Rattle.dr_model.specs.declared.event.Event.{Event};
 ghost use Rattle.dr_model.specs.Carry.{now};
@@ -15,15 +16,14 @@ ghost use Rattle.dr_volume.specs.Plain.{plain};
 ghost use Rattle.dr_volume.specs.Update.{IsAsBefore};
 ghost use Rattle.dr_volume.specs.View.{Rest, volume_seen, track_seen, ids_of};
 ghost use Rattle.dr_flash.specs.Checks.{OnNone, is_stop};
-ghost use Rattle.dr_flash.specs.Faults.{Counted};
 ghost use Rattle.dr_flash.specs.Fit.{RelationsFit};
-ghost use Rattle.dr_flash.specs.Here.{seen, refusal_of, armed_in, IsAtRest};
+ghost use Rattle.dr_flash.specs.Here.{world_seen, refusal_of, armed_in, IsAtRest};
 ghost use Rattle.dr_flash.specs.Turns.{Leads, Fails};
 ghost use Rattle.dr_gcopy.specs.Sending.{stranger_refusal, receive_entries};
 
 use crate::storing::store;
 use dr_config::Config;
-use dr_flash::{copy_first, is_part, is_revertible, pair_state, relation_state};
+use dr_flash::{copy_first, is_revertible, pair_state, relation_state};
 use dr_ids::{Refusal, VolumeId};
 use dr_model::Journal;
 use dr_plant::{Block, Plant};
@@ -33,7 +33,7 @@ use dr_volume::{Fields, peek_fields};
 fn is_secondary(f: &Fields, a: VolumeId) -> bool
     ensures { result ≡ is_secondary_of a.0 (plain f.now) }
 {
-    is_part(f.secondary) && f.secondary_partner.0 == a.0
+    f.secondary.is_part() && f.secondary_partner.0 == a.0
 }
 
 /// The refusal where b isn't the secondary of a.
@@ -45,7 +45,7 @@ pub(crate) fn stranger_refusal<P: Plant>(
 ) -> Option<Refusal>
     requires stands { StandsFor c.now (P.state p.now) }
     requires defined { IsSome (place_of c.now b.0) }
-    ensures refusal { (r : Rest) (events : List Event) → result ≡ stranger_refusal a.0 b.0 (seen (P.state p.now) c.now r events).control }
+    ensures refusal { (r : Rest) (events : List Event) → result ≡ stranger_refusal a.0 b.0 (world_seen (P.state p.now) c.now r events).control }
     ensures calm { is_stop result ≡ false }
     ensures secondary { OnNone result (layout.is_part (volume_seen (P.state p.now) c.now b.0).fields.secondary ≡ true) }
 {
@@ -59,7 +59,7 @@ pub(crate) fn stranger_refusal<P: Plant>(
 pub fn flashed_refusal<P: Plant>(p: &P, c: &Config, b: VolumeId) -> Option<Refusal>
     requires stands { StandsFor c.now (P.state p.now) }
     requires defined { IsSome (place_of c.now b.0) }
-    ensures refusal { (r : Rest) (events : List Event) → result ≡ pair_entries.flashed_refusal b.0 (seen (P.state p.now) c.now r events).control }
+    ensures refusal { (r : Rest) (events : List Event) → result ≡ pair_entries.flashed_refusal b.0 (world_seen (P.state p.now) c.now r events).control }
     ensures calm { is_stop result ≡ false }
 {
     if is_revertible(p, c, b) {
@@ -92,9 +92,9 @@ pub fn receive_track<P: Plant>(
     requires within { t < (volume_seen (P.state p.old) c.now b.0).tracks }
     requires bytes { bytes.now ≡ track_seen (P.state p.old) c.now a.0 t }
     requires room { length c.now.volumes + 2 ≤ j.old.spare }
-    ensures carried { (r : Rest) → Ends (armed_in (P.state p.old)) (seen (P.state p.new) c.now r j.new.events) (refusal_of result) (seen (P.state p.old) c.now r j.old.events) (receive_entries (ids_of c.now.volumes) a.0 b.0 t last) }
-    ensures leads { OnOk result ((r : Rest) → Leads (seen (P.state p.old) c.now r j.old.events) (receive_entries (ids_of c.now.volumes) a.0 b.0 t last) (seen (P.state p.new) c.now r j.new.events)) }
-    ensures fails { OnErr result ((r : Rest) → Fails (armed_in (P.state p.old)) (seen (P.state p.old) c.now r j.old.events) (receive_entries (ids_of c.now.volumes) a.0 b.0 t last) (seen (P.state p.new) c.now r j.new.events) (refusal_of result)) }
+    ensures carried { (r : Rest) → Ends (armed_in (P.state p.old)) (world_seen (P.state p.new) c.now r j.new.events) (refusal_of result) (world_seen (P.state p.old) c.now r j.old.events) (receive_entries (ids_of c.now.volumes) a.0 b.0 t last) }
+    ensures leads { OnOk result ((r : Rest) → Leads (world_seen (P.state p.old) c.now r j.old.events) (receive_entries (ids_of c.now.volumes) a.0 b.0 t last) (world_seen (P.state p.new) c.now r j.new.events)) }
+    ensures fails { OnErr result ((r : Rest) → Fails (armed_in (P.state p.old)) (world_seen (P.state p.old) c.now r j.old.events) (receive_entries (ids_of c.now.volumes) a.0 b.0 t last) (world_seen (P.state p.new) c.now r j.new.events) (refusal_of result)) }
     ensures unchanged { is_stop (refusal_of result) ≡ false → OnErr result ((P.state p.new ≡ P.state p.old) × (j.new ≡ j.old)) }
     ensures rest { IsAtRest (P.state p.new) c.now }
     ensures fit { RelationsFit (P.state p.new) c.now }
@@ -135,8 +135,8 @@ fn keep_and_store<P: Plant>(
     requires within { t < (volume_seen (P.state p.old) c.now b.0).tracks }
     requires bytes { bytes.now ≡ track_seen (P.state p.old) c.now a.0 t }
     requires room { length c.now.volumes + 2 ≤ j.old.spare }
-    ensures leads { OnOk result ((r : Rest) → Leads (seen (P.state p.old) c.now r j.old.events) (copy_first (ids_of c.now.volumes) b.0 t ++ now (Store b.0 t a.0 last) ∷ []) (seen (P.state p.new) c.now r j.new.events)) }
-    ensures fails { OnErr result ((r : Rest) → Fails (armed_in (P.state p.old)) (seen (P.state p.old) c.now r j.old.events) (copy_first (ids_of c.now.volumes) b.0 t ++ now (Store b.0 t a.0 last) ∷ []) (seen (P.state p.new) c.now r j.new.events) (refusal_of result)) }
+    ensures leads { OnOk result ((r : Rest) → Leads (world_seen (P.state p.old) c.now r j.old.events) (copy_first (ids_of c.now.volumes) b.0 t ++ now (Store b.0 t a.0 last) ∷ []) (world_seen (P.state p.new) c.now r j.new.events)) }
+    ensures fails { OnErr result ((r : Rest) → Fails (armed_in (P.state p.old)) (world_seen (P.state p.old) c.now r j.old.events) (copy_first (ids_of c.now.volumes) b.0 t ++ now (Store b.0 t a.0 last) ∷ []) (world_seen (P.state p.new) c.now r j.new.events) (refusal_of result)) }
     ensures refused { OnErr result (refusal_of result ≡ Some (stopped (volume_seen (P.state p.old) c.now b.0).server)) }
     ensures rest { IsAtRest (P.state p.new) c.now }
     ensures fit { RelationsFit (P.state p.new) c.now }

@@ -1,6 +1,7 @@
 //! A primary sends a track to its secondary.
 
 ghost use Rattle.std.specs.Prelude.{◌≡◌, ◌≢◌, ℕ, ◌<◌, ◌≤◌, ◌+◌, true, false, List, length, None, Some, IsSome, OnOk, OnErr};
+ghost use Rattle.dr_logic.specs.Counts.{Counted};
 ghost use Rattle.dr_config.specs.Table.{StandsFor, place_of};
 ghost use Rattle.dr_model.specs.declared.event.Event.{Event};
 ghost use Rattle.dr_model.specs.Entries.{copies_from};
@@ -11,9 +12,8 @@ ghost use Rattle.dr_model.specs.Pairs as pairs;
 ghost use Rattle.dr_volume.specs.Update.{IsAsBefore, OthersStay};
 ghost use Rattle.dr_volume.specs.View.{Rest, volume_seen, ids_of};
 ghost use Rattle.dr_flash.specs.Checks.{OnNone, is_stop};
-ghost use Rattle.dr_flash.specs.Faults.{Counted};
 ghost use Rattle.dr_flash.specs.Fit.{RelationsFit};
-ghost use Rattle.dr_flash.specs.Here.{seen, refusal_of, armed_in, IsAtRest};
+ghost use Rattle.dr_flash.specs.Here.{world_seen, refusal_of, armed_in, IsAtRest};
 ghost use Rattle.dr_flash.specs.Turns.{Leads, Fails};
 ghost use Rattle.dr_gcopy.specs.Followed.{EndsFollowed, FailsFollowed};
 ghost use Rattle.dr_gcopy.specs.Sending.{refuse_entries};
@@ -34,7 +34,7 @@ pub fn send_refusal<P: Plant>(p: &P, c: &Config, a: VolumeId, b: VolumeId) -> Op
     requires stands { StandsFor c.now (P.state p.now) }
     requires from { IsSome (place_of c.now a.0) }
     requires to { IsSome (place_of c.now b.0) }
-    ensures refusal { (r : Rest) (events : List Event) → result ≡ pair_entries.send_refusal a.0 b.0 (seen (P.state p.now) c.now r events).control }
+    ensures refusal { (r : Rest) (events : List Event) → result ≡ pair_entries.send_refusal a.0 b.0 (world_seen (P.state p.now) c.now r events).control }
     ensures calm { is_stop result ≡ false }
     ensures reached { OnNone result ((P.state p.now).on (volume_seen (P.state p.now) c.now b.0).server ≡ true) }
     ensures secondary { OnNone result (is_part (volume_seen (P.state p.now) c.now b.0).fields.secondary ≡ true) }
@@ -60,10 +60,10 @@ fn refuse<P: Plant>(
     requires running { (P.state p.old).on (volume_seen (P.state p.old) c.now a.0).server ≡ true }
     requires primary { is_part (volume_seen (P.state p.old) c.now a.0).fields.primary ≡ true }
     requires apart { a.0 ≢ b.0 }
-    requires why { (r : Rest) (events : List Event) → Some why ≡ pair_entries.send_refusal a.0 b.0 (seen (P.state p.old) c.now r events).control }
+    requires why { (r : Rest) (events : List Event) → Some why ≡ pair_entries.send_refusal a.0 b.0 (world_seen (P.state p.old) c.now r events).control }
     requires calm { is_stop (Some why) ≡ false }
     requires room { 2 ≤ j.old.spare }
-    ensures fails { (r : Rest) → Fails (armed_in (P.state p.old)) (seen (P.state p.old) c.now r j.old.events) (refuse_entries a.0 b.0) (seen (P.state p.new) c.now r j.new.events) (Some result) }
+    ensures fails { (r : Rest) → Fails (armed_in (P.state p.old)) (world_seen (P.state p.old) c.now r j.old.events) (refuse_entries a.0 b.0) (world_seen (P.state p.new) c.now r j.new.events) (Some result) }
     ensures rest { IsAtRest (P.state p.new) c.now }
     ensures fit { RelationsFit (P.state p.new) c.now }
     ensures unarmed { (q : ℕ) → (P.state p.old).read_fuse q ≡ None → (P.state p.new).read_fuse q ≡ None }
@@ -97,8 +97,8 @@ fn send_on<P: Plant>(
     requires within { t < (volume_seen (P.state p.old) c.now a.0).tracks }
     requires size { (volume_seen (P.state p.old) c.now b.0).tracks ≡ (volume_seen (P.state p.old) c.now a.0).tracks }
     requires room { length c.now.volumes + 2 ≤ j.old.spare }
-    ensures leads { OnOk result ((r : Rest) → Leads (seen (P.state p.old) c.now r j.old.events) (send_entries (ids_of c.now.volumes) a.0 b.0 t) (seen (P.state p.new) c.now r j.new.events)) }
-    ensures fails { OnErr result ((r : Rest) → Fails (armed_in (P.state p.old)) (seen (P.state p.old) c.now r j.old.events) (send_entries (ids_of c.now.volumes) a.0 b.0 t) (seen (P.state p.new) c.now r j.new.events) (refusal_of result)) }
+    ensures leads { OnOk result ((r : Rest) → Leads (world_seen (P.state p.old) c.now r j.old.events) (send_entries (ids_of c.now.volumes) a.0 b.0 t) (world_seen (P.state p.new) c.now r j.new.events)) }
+    ensures fails { OnErr result ((r : Rest) → Fails (armed_in (P.state p.old)) (world_seen (P.state p.old) c.now r j.old.events) (send_entries (ids_of c.now.volumes) a.0 b.0 t) (world_seen (P.state p.new) c.now r j.new.events) (refusal_of result)) }
     ensures struck { OnOk result ((volume_seen (P.state p.new) c.now a.0).fields ≡ pairs.struck (pairs.is_last (volume_seen (P.state p.old) c.now a.0).fields t) (volume_seen (P.state p.old) c.now a.0).fields t) }
     ensures rest { IsAtRest (P.state p.new) c.now }
     ensures fit { RelationsFit (P.state p.new) c.now }
@@ -138,9 +138,9 @@ pub(crate) fn send_to<P: Plant>(
     requires within { t < (volume_seen (P.state p.old) c.now a.0).tracks }
     requires size { (volume_seen (P.state p.old) c.now b.0).tracks ≡ (volume_seen (P.state p.old) c.now a.0).tracks }
     requires room { length c.now.volumes + 4 ≤ j.old.spare }
-    ensures carried { (r : Rest) → EndsFollowed (armed_in (P.state p.old)) (seen (P.state p.old) c.now r j.old.events) (send_entries (ids_of c.now.volumes) a.0 b.0 t) (suspend_after a.0) (seen (P.state p.new) c.now r j.new.events) (refusal_of result) }
-    ensures leads { OnOk result ((r : Rest) → Leads (seen (P.state p.old) c.now r j.old.events) (send_entries (ids_of c.now.volumes) a.0 b.0 t) (seen (P.state p.new) c.now r j.new.events)) }
-    ensures fails { OnErr result ((r : Rest) → FailsFollowed (armed_in (P.state p.old)) (seen (P.state p.old) c.now r j.old.events) (send_entries (ids_of c.now.volumes) a.0 b.0 t) (suspend_after a.0) (seen (P.state p.new) c.now r j.new.events) (refusal_of result)) }
+    ensures carried { (r : Rest) → EndsFollowed (armed_in (P.state p.old)) (world_seen (P.state p.old) c.now r j.old.events) (send_entries (ids_of c.now.volumes) a.0 b.0 t) (suspend_after a.0) (world_seen (P.state p.new) c.now r j.new.events) (refusal_of result) }
+    ensures leads { OnOk result ((r : Rest) → Leads (world_seen (P.state p.old) c.now r j.old.events) (send_entries (ids_of c.now.volumes) a.0 b.0 t) (world_seen (P.state p.new) c.now r j.new.events)) }
+    ensures fails { OnErr result ((r : Rest) → FailsFollowed (armed_in (P.state p.old)) (world_seen (P.state p.old) c.now r j.old.events) (send_entries (ids_of c.now.volumes) a.0 b.0 t) (suspend_after a.0) (world_seen (P.state p.new) c.now r j.new.events) (refusal_of result)) }
     ensures struck { OnOk result ((volume_seen (P.state p.new) c.now a.0).fields ≡ pairs.struck (pairs.is_last (volume_seen (P.state p.old) c.now a.0).fields t) (volume_seen (P.state p.old) c.now a.0).fields t) }
     ensures rest { IsAtRest (P.state p.new) c.now }
     ensures fit { RelationsFit (P.state p.new) c.now }
@@ -186,9 +186,9 @@ pub fn send_track<P: Plant>(
     requires within { t < (volume_seen (P.state p.old) c.now a.0).tracks }
     requires size { (volume_seen (P.state p.old) c.now (volume_seen (P.state p.old) c.now a.0).fields.primary_partner).tracks ≡ (volume_seen (P.state p.old) c.now a.0).tracks }
     requires room { length c.now.volumes + 4 ≤ j.old.spare }
-    ensures carried { (r : Rest) → EndsFollowed (armed_in (P.state p.old)) (seen (P.state p.old) c.now r j.old.events) (send_entries (ids_of c.now.volumes) a.0 (volume_seen (P.state p.old) c.now a.0).fields.primary_partner t) (suspend_after a.0) (seen (P.state p.new) c.now r j.new.events) (refusal_of result) }
-    ensures leads { OnOk result ((r : Rest) → Leads (seen (P.state p.old) c.now r j.old.events) (send_entries (ids_of c.now.volumes) a.0 (volume_seen (P.state p.old) c.now a.0).fields.primary_partner t) (seen (P.state p.new) c.now r j.new.events)) }
-    ensures fails { OnErr result ((r : Rest) → FailsFollowed (armed_in (P.state p.old)) (seen (P.state p.old) c.now r j.old.events) (send_entries (ids_of c.now.volumes) a.0 (volume_seen (P.state p.old) c.now a.0).fields.primary_partner t) (suspend_after a.0) (seen (P.state p.new) c.now r j.new.events) (refusal_of result)) }
+    ensures carried { (r : Rest) → EndsFollowed (armed_in (P.state p.old)) (world_seen (P.state p.old) c.now r j.old.events) (send_entries (ids_of c.now.volumes) a.0 (volume_seen (P.state p.old) c.now a.0).fields.primary_partner t) (suspend_after a.0) (world_seen (P.state p.new) c.now r j.new.events) (refusal_of result) }
+    ensures leads { OnOk result ((r : Rest) → Leads (world_seen (P.state p.old) c.now r j.old.events) (send_entries (ids_of c.now.volumes) a.0 (volume_seen (P.state p.old) c.now a.0).fields.primary_partner t) (world_seen (P.state p.new) c.now r j.new.events)) }
+    ensures fails { OnErr result ((r : Rest) → FailsFollowed (armed_in (P.state p.old)) (world_seen (P.state p.old) c.now r j.old.events) (send_entries (ids_of c.now.volumes) a.0 (volume_seen (P.state p.old) c.now a.0).fields.primary_partner t) (suspend_after a.0) (world_seen (P.state p.new) c.now r j.new.events) (refusal_of result)) }
     ensures struck { OnOk result ((volume_seen (P.state p.new) c.now a.0).fields ≡ pairs.struck (pairs.is_last (volume_seen (P.state p.old) c.now a.0).fields t) (volume_seen (P.state p.old) c.now a.0).fields t) }
     ensures rest { IsAtRest (P.state p.new) c.now }
     ensures fit { RelationsFit (P.state p.new) c.now }

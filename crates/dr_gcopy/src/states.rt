@@ -7,18 +7,8 @@ ghost use Rattle.dr_model.specs.declared.state.PairState.TheVariants.{FullDuplex
 ghost use Rattle.dr_volume.specs.Plain.{plain};
 
 use dr_bits::TrackSet;
-use dr_model::{PairState, Part};
+use dr_model::PairState;
 use dr_volume::Fields;
-
-/// Whether a part is that of a Metro Mirror pair.
-pub fn is_metro(part: Part) -> bool
-    ensures { result ≡ pairs.is_metro part }
-{
-    match part {
-        Part::Metro => true,
-        Part::Absent | Part::Global => false,
-    }
-}
 
 /// Whether a primary records changes, or is held by coordination.
 fn is_engaged(f: &Fields) -> bool
@@ -108,5 +98,5 @@ pub(crate) fn is_last(f: &Fields, t: u16) -> bool
 {
     let mut left = f.out_of_sync;
     left.remove(t);
-    is_metro(f.primary) && left.len() == 0
+    f.primary.is_metro() && left.len() == 0
 }

@@ -1,6 +1,7 @@
 //! A primary is suspended.
 
 ghost use Rattle.std.specs.Prelude.{◌≡◌, ℕ, ◌≤◌, ◌+◌, true, length, [], ◌∷◌, None, Some, IsSome, OnOk, OnErr, is_err, if◌then◌else◌};
+ghost use Rattle.dr_logic.specs.Counts.{Counted};
 ghost use Rattle.dr_config.specs.Table.{place_of};
 ghost use Rattle.dr_model.specs.declared.event.Event.TheVariants.{Suspended};
 ghost use Rattle.dr_model.specs.Carry.{now};
@@ -12,14 +13,13 @@ ghost use Rattle.dr_model.specs.Refusals.{stopped};
 ghost use Rattle.dr_volume.specs.Update.{IsMoved, OthersStay};
 ghost use Rattle.dr_volume.specs.View.{Rest, volume_seen};
 ghost use Rattle.dr_flash.specs.declared.told.Told.TheVariants.{Nothing, One};
-ghost use Rattle.dr_flash.specs.Faults.{Counted};
 ghost use Rattle.dr_flash.specs.Fit.{RelationsFit};
-ghost use Rattle.dr_flash.specs.Here.{seen, refusal_of, armed_in, IsAtRest};
+ghost use Rattle.dr_flash.specs.Here.{world_seen, refusal_of, armed_in, IsAtRest};
 ghost use Rattle.dr_flash.specs.Turns.{Advances, Halts};
 
 use crate::states::suspended;
 use dr_config::Config;
-use dr_flash::{Telling, Told, is_suspended, shift};
+use dr_flash::{Telling, Told, shift};
 use dr_ids::{Refusal, VolumeId};
 use dr_model::{Event, Journal, PairState};
 use dr_plant::Plant;
@@ -29,7 +29,7 @@ use dr_volume::peek_fields;
 fn told_of(a: VolumeId, state: PairState) -> Told
     ensures { result ≡ (if pairs.is_suspended state then Nothing else One (Suspended a.0)) }
 {
-    if is_suspended(state) {
+    if state.is_suspended() {
         Told::Nothing
     } else {
         Told::One(Event::Suspended { volume: a.0 })
@@ -52,9 +52,9 @@ pub fn suspend<P: Plant>(
     requires running { (P.state p.old).on (volume_seen (P.state p.old) c.now a.0).server ≡ true }
     requires primary { is_part (volume_seen (P.state p.old) c.now a.0).fields.primary ≡ true }
     requires room { 2 ≤ j.old.spare }
-    ensures carried { (r : Rest) → Ends (armed_in (P.state p.old)) (seen (P.state p.new) c.now r j.new.events) (refusal_of result) (seen (P.state p.old) c.now r j.old.events) (now (Suspend a.0 busy) ∷ []) }
-    ensures advances { OnOk result ((r : Rest) → Advances (seen (P.state p.old) c.now r j.old.events) (now (Suspend a.0 busy)) (seen (P.state p.new) c.now r j.new.events)) }
-    ensures halts { OnErr result ((r : Rest) → Halts (armed_in (P.state p.old)) (seen (P.state p.old) c.now r j.old.events) (now (Suspend a.0 busy)) (seen (P.state p.new) c.now r j.new.events) (refusal_of result)) }
+    ensures carried { (r : Rest) → Ends (armed_in (P.state p.old)) (world_seen (P.state p.new) c.now r j.new.events) (refusal_of result) (world_seen (P.state p.old) c.now r j.old.events) (now (Suspend a.0 busy) ∷ []) }
+    ensures advances { OnOk result ((r : Rest) → Advances (world_seen (P.state p.old) c.now r j.old.events) (now (Suspend a.0 busy)) (world_seen (P.state p.new) c.now r j.new.events)) }
+    ensures halts { OnErr result ((r : Rest) → Halts (armed_in (P.state p.old)) (world_seen (P.state p.old) c.now r j.old.events) (now (Suspend a.0 busy)) (world_seen (P.state p.new) c.now r j.new.events) (refusal_of result)) }
     ensures refused { OnErr result (refusal_of result ≡ Some (stopped (volume_seen (P.state p.old) c.now a.0).server)) }
     ensures rest { IsAtRest (P.state p.new) c.now }
     ensures fit { RelationsFit (P.state p.new) c.now }

@@ -1,1 +1,2 @@
+-- Read first: `RoundLemmas.turn`: the text of the rounds that are left.
 pub mod RoundLemmas

@@ -47,6 +47,7 @@ rounds x (suc n) = round_at x ∷ rounds (after_draws x (draws_of (round_at x)))
 abbrev pub volume_word : ℕ → List ℕ
 volume_word v = if nat_eq v 0 then codes "1000" else if nat_eq v 1 then codes "1001" else if nat_eq v 2 then codes "1100" else codes "1101"
 
+-- the name of a server of a trial
 abbrev pub server_word : ℕ → List ℕ
 server_word s = if nat_eq s 0 then codes "A1" else codes "A2"
 

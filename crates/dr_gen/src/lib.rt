@@ -6,6 +6,3 @@ mod print;
 mod rounds;
 
 pub use print::script;
-
-#[cfg(test)]
-mod tests;

@@ -7,7 +7,7 @@ use Rattle.dr_ids.specs.declared.refusal.Refusal.{Refusal}
 use Rattle.dr_ids.specs.declared.refusal.Refusal.TheVariants.{Stopped as StoppedIn, OutOfOrder}
 use Rattle.dr_ids.specs.declared.refusal.PhaseName.TheVariants as phase
 use Rattle.dr_plant.specs.State.{PlantState}
-use Rattle.dr_config.specs.Table.{Table}
+use Rattle.dr_config.specs.Table.{ConfigTable}
 use Rattle.dr_master.specs.Seen.{reply_of, count_in}
 use Rattle.dr_master.specs.declared.reports.Reply.{Reply}
 use Rattle.dr_session.specs.Seen.{expects}
@@ -27,42 +27,40 @@ use Rattle.dr_model.specs.ReadStops.{Ends}
 use Rattle.dr_model.specs.SessionEntries.{members_on, reply_after}
 use Rattle.dr_model.specs.SessionPlans.{answered_by, exchange_done, exchange_on, exchange_refusal, order_of}
 use Rattle.dr_model.proofs.CarryLemmas.{carry-none}
-use Rattle.dr_laws.specs.TakenOver.{IsLeft}
-use Rattle.dr_laws.proofs.TakenOver.{leaves-carried}
+use Rattle.dr_laws_recovery.specs.TakenOver.{IsLeft}
+use Rattle.dr_laws_recovery.proofs.TakenOver.{leaves-carried}
 use Rattle.dr_volume.specs.View.{Rest}
-use Rattle.dr_flash.specs.Here.{seen}
-use Rattle.dr_flash.proofs.EndsLemmas.{ends-none}
+use Rattle.dr_flash.specs.Here.{world_seen}
+use Rattle.dr_facts.proofs.Ends.{ends-none}
 use Rattle.dr_gmirror.specs.declared.looks.Look.{Look}
 use Rattle.dr_gmirror.specs.Orders.{with_sessions}
 use Rattle.dr_gmirror.specs.Exchange.{PlanEnds, Looks, LooksAt, members_in_reply, is_awaited}
-
-silent : (w : World) → record w { events = w.events ++ [] } ≡ w
-silent w i = record w { events = append-nil w.events i }
+use Rattle.dr_laws_sound.proofs.RefusedPlans.{same-begun}
 
 -- a plan that is a refusal
 pub refused-plan : (armed : ℕ → Bool) (w : World) (why : Refusal) → PlanEnds armed w (refuses why) w (Refused why)
 refused-plan armed w why = record {
   middle = w;
   refusal = None;
-  ends = ends-none armed w None (record w { events = w.events ++ [] }) (record { world = sym (silent w); refusal = refl });
+  ends = ends-none armed w None (record w { events = w.events ++ [] }) (record { world = sym (same-begun w); refusal = refl });
   world = refl;
   answers = refl;
 }
 
 -- entries that a plan begins with
 pub silent-ends : (armed : ℕ → Bool) (u w : World) (r : Option Refusal) (es : List Entry) → Ends armed u r w es → Ends armed u r (record w { events = w.events ++ [] }) es
-silent-ends armed u w r es ends = subst (λ z. Ends armed u r z es) (sym (silent w)) ends
+silent-ends armed u w r es ends = subst (λ z. Ends armed u r z es) (sym (same-begun w)) ends
 
 pub follow-nothing : (w : World) (r : Refusal) → w ≡ follow w r none_follow
 follow-nothing w (StoppedIn s) = sym (ap (λ (o : Outcome). o.0) (carry-none w))
 follow-nothing w _ = refl
 
 -- the sessions after an exchange
-pub last-world : (reply : Bool) (u : PlantState) (t : Table) (mid new : List Session) (r : Rest) (events : List Event) (s server : ℕ) (work : phases.Work) (ms : List Member) (y : phases.Reply)
-    → new ≡ (if reply then changed s (with_master (λ m. phases.taken m server y)) mid else mid) → y ≡ reply_after s work ms (seen u t (with_sessions mid r) events).control
-    → seen u t (with_sessions new r) events ≡ record (seen u t (with_sessions mid r) events) { control = (if reply then answered_by s server work ms else same) (seen u t (with_sessions mid r) events).control }
-last-world true u t mid new r events s server work ms y is says = ap (λ z. seen u t (with_sessions z r) events) (is ∙ ap (λ a. changed s (with_master (λ m. phases.taken m server a)) mid) says)
-last-world false u t mid new r events s server work ms y is says = ap (λ z. seen u t (with_sessions z r) events) is
+pub last-world : (reply : Bool) (u : PlantState) (t : ConfigTable) (mid new : List Session) (r : Rest) (events : List Event) (s server : ℕ) (work : phases.Work) (ms : List Member) (y : phases.Reply)
+    → new ≡ (if reply then changed s (with_master (λ m. phases.taken m server y)) mid else mid) → y ≡ reply_after s work ms (world_seen u t (with_sessions mid r) events).control
+    → world_seen u t (with_sessions new r) events ≡ record (world_seen u t (with_sessions mid r) events) { control = (if reply then answered_by s server work ms else same) (world_seen u t (with_sessions mid r) events).control }
+last-world true u t mid new r events s server work ms y is says = ap (λ z. world_seen u t (with_sessions z r) events) (is ∙ ap (λ a. changed s (with_master (λ m. phases.taken m server a)) mid) says)
+last-world false u t mid new r events s server work ms y is says = ap (λ z. world_seen u t (with_sessions z r) events) is
 
 -- the reply is one that the master awaits
 pub expected-by : (o : Option Mirror) (server : ℕ) (y : Reply) (a : phases.Reply) → reply_of y ≡ a → count_in y ≡ members_in_reply (reply_of y) → is_awaited o server a ≡ true → expects o server y ≡ true
@@ -80,9 +78,6 @@ look-none (Some r) server h = absurd h
 pub look-some : (x : Look) (o : Option Mirror) (server : ℕ) → LooksAt (Some x) o server → (r : Mirror) × (o ≡ Some r) × Looks x r server
 look-some x None server h = absurd h
 look-some x (Some r) server h = (r, refl, h)
-
-pub if-some : {A : Type 0} (P : A → Type 0) (o : Option A) (a : A) → o ≡ Some a → IfSome o P → P a
-if-some P o a is h = subst (λ o. IfSome o P) is h
 
 -- the plan, by what refuses it and by its order
 module _ (k : Control) (s server : ℕ) (reply : Bool) (ms : List Member) where

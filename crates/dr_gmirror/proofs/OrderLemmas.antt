@@ -6,22 +6,24 @@ use Rattle.std.proofs.lemmas.List.{append-nil}
 use Rattle.std.proofs.lemmas.List.Elements.{filter-append}
 use Rattle.std.proofs.lemmas.List.Folds.{list_any-append}
 use Rattle.std.proofs.lemmas.Grind.{flat_map-append}
+use Rattle.std.proofs.Math.Bool.{and-false, or-false, or-true}
 use Rattle.dr_ids.specs.declared.names.Member.{Member}
 use Rattle.dr_ids.specs.declared.refusal.Refusal.{Refusal}
 use Rattle.dr_bits.specs.Tracks.{Tracks}
 use Rattle.dr_plant.specs.State.{PlantState}
-use Rattle.dr_config.specs.Table.{Table}
+use Rattle.dr_config.specs.Table.{ConfigTable}
 use Rattle.dr_model.specs.declared.event.Event.{Event}
 use Rattle.dr_model.specs.Phases as phases
 use Rattle.dr_model.specs.Control.{World}
 use Rattle.dr_model.specs.Carry.{Entry}
 use Rattle.dr_model.specs.SessionEntries.{member_entries, is_on, members_on, order_entries, reply_after}
 use Rattle.dr_volume.specs.View.{Rest}
-use Rattle.dr_flash.specs.Here.{seen}
+use Rattle.dr_flash.specs.Here.{world_seen}
 use Rattle.dr_flash.specs.Turns.{Leads, Fails}
-use Rattle.dr_gcopy.proofs.SendLemmas.{then-leads, then-fails, fails-first, fails-wider}
+use Rattle.dr_gcopy.proofs.SendLemmas.{fails-wider}
 use Rattle.dr_gcopy.proofs.TwoMoves.{server-stays}
-use Rattle.dr_gmirror.specs.Orders.{IsReady, is_seal, is_report, sync_seen, must_wait, waits_in}
+use Rattle.dr_gmirror.specs.Orders.{IsMemberReady, is_seal, is_report, sync_seen, must_wait, waits_in}
+use Rattle.dr_flash.proofs.LeadLemmas.{then-leads, then-fails, fails-first}
 
 -- one member, on the server or elsewhere
 pub entries-on : (work : phases.Work) (s n server : ℕ) (m : Member) → is_on server m ≡ true → order_entries work s n (members_on server (m ∷ [])) ≡ member_entries work s n m
@@ -30,16 +32,8 @@ entries-on work s n server m is = ap (λ b. order_entries work s n (cond b (m �
 pub entries-off : (work : phases.Work) (s n server : ℕ) (m : Member) → is_on server m ≡ false → order_entries work s n (members_on server (m ∷ [])) ≡ []
 entries-off work s n server m is = ap (λ b. order_entries work s n (cond b (m ∷ []) [])) is
 
-or-false : (b : Bool) → (b || false) ≡ b
-or-false true = refl
-or-false false = refl
-
 pub waits-on : (work : phases.Work) (sync : ℕ → Tracks) (server : ℕ) (m : Member) → is_on server m ≡ true → waits_in work sync (members_on server (m ∷ [])) ≡ (is_seal work && must_wait sync m)
 waits-on work sync server m is = ap (λ b. waits_in work sync (cond b (m ∷ []) [])) is ∙ ap (λ b. is_seal work && b) (or-false (must_wait sync m))
-
-and-false : (b : Bool) → (b && false) ≡ false
-and-false true = refl
-and-false false = refl
 
 pub waits-off : (work : phases.Work) (sync : ℕ → Tracks) (server : ℕ) (m : Member) → is_on server m ≡ false → waits_in work sync (members_on server (m ∷ [])) ≡ false
 waits-off work sync server m is = ap (λ b. waits_in work sync (cond b (m ∷ []) [])) is ∙ and-false (is_seal work)
@@ -84,7 +78,7 @@ member-there ms i o is low = ap is_some is ∙ there ms i low
     there (x ∷ xs) (suc i) low = there xs i (omega (arith, low))
 
 -- a member is ready on a later plant, too
-pub still-ready : (s u : PlantState) (t : Table) (m : Member) → IsReady s t m → IsReady u t m
+pub still-ready : (s u : PlantState) (t : ConfigTable) (m : Member) → IsMemberReady s t m → IsMemberReady u t m
 still-ready s u t m ready = record {
   primary = ready.primary;
   secondary = ready.secondary;
@@ -95,7 +89,7 @@ still-ready s u t m ready = record {
 
 -- what is replied
 
-pub reply-is : (k : ℕ) (work : phases.Work) (s : PlantState) (t : Table) (ms : List Member) (waits : Bool) (reply : phases.Reply) → is_report work ≡ false → waits ≡ waits_in work (sync_seen s t) ms → reply ≡ (if waits then phases.NotYet else phases.Done) → (r : Rest) (events : List Event) → reply ≡ reply_after k work ms (seen s t r events).control
+pub reply-is : (k : ℕ) (work : phases.Work) (s : PlantState) (t : ConfigTable) (ms : List Member) (waits : Bool) (reply : phases.Reply) → is_report work ≡ false → waits ≡ waits_in work (sync_seen s t) ms → reply ≡ (if waits then phases.NotYet else phases.Done) → (r : Rest) (events : List Event) → reply ≡ reply_after k work ms (world_seen s t r events).control
 reply-is k phases.Seal s t ms waits reply other is says r events = says ∙ ap (λ b. if b then phases.NotYet else phases.Done) is
 reply-is k phases.Hold s t ms waits reply other is says r events = says ∙ ap (λ b. if b then phases.NotYet else phases.Done) is
 reply-is k phases.Release s t ms waits reply other is says r events = says ∙ ap (λ b. if b then phases.NotYet else phases.Done) is
@@ -139,14 +133,9 @@ module _ (work : phases.Work) (s n server : ℕ) where
       (then-fails more w v u r (entries (take i ms)) (entries (m ∷ []) ++ entries (drop (suc i) ms)) first
       (fails-first more v u r (entries (m ∷ [])) (entries (drop (suc i) ms)) (fails-wider armed more wider v u r (entries (m ∷ [])) fails)))
 
--- a member that passes a test, or doesn't
-or-hit : (b : Bool) → (b || true) ≡ true
-or-hit true = refl
-or-hit false = refl
-
 pub any-hit : (p : Member → Bool) (ms : List Member) (i : ℕ) (m : Member) → Some m ≡ slice_get ms i → p m ≡ true → true ≡ list_any p ms
 any-hit p ms i m at hit =
-    sym (ap (list_any p) (member-split ms i m at) ∙ list_any-append p (take i ms) (m ∷ drop (suc i) ms) ∙ ap (λ b. list_any p (take i ms) || (b || list_any p (drop (suc i) ms))) hit ∙ or-hit (list_any p (take i ms)))
+    sym (ap (list_any p) (member-split ms i m at) ∙ list_any-append p (take i ms) (m ∷ drop (suc i) ms) ∙ ap (λ b. list_any p (take i ms) || (b || list_any p (drop (suc i) ms))) hit ∙ or-true (list_any p (take i ms)))
 
 pub any-miss : (p : Member → Bool) (ms : List Member) (i : ℕ) (m : Member) → Some m ≡ slice_get ms i → list_any p (take i ms) ≡ false → p m ≡ false → list_any p (take (i + 1) ms) ≡ false
 any-miss p ms i m at none miss =

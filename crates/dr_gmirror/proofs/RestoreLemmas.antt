@@ -61,14 +61,6 @@ pub forbidden-so : (d : Decision) → ((n : ℕ) → d ≡ Nothing n → ⊥) �
 forbidden-so (Nothing n) other = absurd (other n refl)
 forbidden-so d other = refl
 
-pub plain-by : (b : Bool) → not b ≡ true → b ≡ false
-plain-by false h = refl
-plain-by true h = absurd cc
-
-pub member-by : (b : Bool) → not b ≡ false → b ≡ true
-member-by true h = refl
-member-by false h = absurd cc
-
 -- a target that isn't a member's is left to its source
 pub settled-plain : (k : Control) (t s : ℕ) → (fields_at k t).member ≡ false → settled_refusal t s k ≡ None
 settled-plain k t s plain = ap (λ b. cond b (option_or (secondary_refusal (members_in (session_in k.sessions s)) k) (forbidden_unless (leaves_all (decided_in s k)) (decided_in s k))) None) plain

@@ -5,7 +5,7 @@ use Rattle.std.proofs.lemmas.Bool.{cases_eq}
 use Rattle.dr_ids.specs.declared.refusal.Refusal.{Refusal}
 use Rattle.dr_ids.specs.declared.refusal.Refusal.TheVariants.{Void}
 use Rattle.dr_plant.specs.State.{PlantState}
-use Rattle.dr_config.specs.Table.{Table}
+use Rattle.dr_config.specs.Table.{ConfigTable}
 use Rattle.dr_model.specs.declared.event.Event.{Event}
 use Rattle.dr_model.specs.Layout.{Fields}
 use Rattle.dr_model.specs.Control.{Volume, World}
@@ -16,12 +16,12 @@ use Rattle.dr_model.specs.PairEntries.{send_refusal}
 use Rattle.dr_model.specs.SessionEntries.{seal_refusal, seal_on}
 use Rattle.dr_volume.specs.Update.{IsMoved, OthersStay}
 use Rattle.dr_volume.specs.View.{Rest, volume_seen}
-use Rattle.dr_flash.specs.Here.{seen}
+use Rattle.dr_flash.specs.Here.{world_seen}
 use Rattle.dr_gmirror.specs.Orders.{sync_seen}
 
-module _ (s : PlantState) (t : Table) (r : Rest) (events : List Event) (a b : ℕ) where
+module _ (s : PlantState) (t : ConfigTable) (r : Rest) (events : List Event) (a b : ℕ) where
   abbrev w : World
-  w = seen s t r events
+  w = world_seen s t r events
 
   pub refusal-drained : is_bare (volume_seen s t a).fields.out_of_sync ≡ true → seal_refusal a b w.control ≡ send_refusal a b w.control
   refusal-drained is = ap (λ d. if d then send_refusal a b w.control else None) is
@@ -48,7 +48,7 @@ unrecorded-by true n why is = absurd cc
 unrecorded-by false n why is = refl
 
 -- a seal leaves what is out of sync
-pub sync-kept : (s u : PlantState) (t : Table) (v : ℕ) (f : Fields) → IsMoved s u t v f None → f.out_of_sync ≡ sync_seen s t v → OthersStay s u t v → (q : ℕ) → sync_seen u t q ≡ sync_seen s t q
+pub sync-kept : (s u : PlantState) (t : ConfigTable) (v : ℕ) (f : Fields) → IsMoved s u t v f None → f.out_of_sync ≡ sync_seen s t v → OthersStay s u t v → (q : ℕ) → sync_seen u t q ≡ sync_seen s t q
 sync-kept s u t v f moved is others q = elim (cases_eq q v) [
   | inl same ↦ subst (λ z. sync_seen u t z ≡ sync_seen s t z) (sym same) (ap (λ (x : Volume). x.fields.out_of_sync) moved.volume ∙ is)
   | inr ne ↦ ap (λ (x : Volume). x.fields.out_of_sync) (others q ne).volume

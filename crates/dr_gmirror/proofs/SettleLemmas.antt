@@ -2,6 +2,7 @@
 use Rattle.std.proofs.Common.{ℕ, ◌≡◌, Bool, true, false, cond, ◌==◌, ◌&&◌, List, [], ◌∷◌, refl, sym, ◌∙◌, ap, subst, Option, None, Some, option_map}
 use Rattle.std.specs.Prelude.{◌↔◌, IsTrue, if◌then◌else◌}
 use Rattle.std.specs.Option.{IsSomeAnd}
+use Rattle.std.proofs.lemmas.Bool.{and_parts}
 use Rattle.dr_ids.specs.declared.refusal.PhaseName.{PhaseName}
 use Rattle.dr_ids.specs.declared.refusal.PhaseName.TheVariants as phase
 use Rattle.dr_master.specs.Seen.{reply_of}
@@ -10,7 +11,7 @@ use Rattle.dr_session.specs.Seen.{expects}
 use Rattle.dr_model.specs.Decisions.{Shown}
 use Rattle.dr_model.specs.Phases as phases
 use Rattle.dr_model.specs.Sessions.{Session, Mirror, session_in, mirror_in, changed, with_master}
-use Rattle.dr_laws.proofs.TurnsLeft.{reported-lost}
+use Rattle.dr_laws_recovery.proofs.TurnsLeft.{reported-lost}
 use Rattle.dr_gmirror.specs.Exchange.{says_shown, is_lost, is_none, can_settle}
 use Rattle.dr_gmirror.proofs.BeginLemmas.{session-changed}
 
@@ -51,18 +52,13 @@ lost-by phase.Reverting h = absurd cc
 lost-by phase.Finishing h = absurd cc
 lost-by phase.None h = absurd cc
 
-both : (a b : Bool) → (a && b) ≡ true → (a ≡ true) × (b ≡ true)
-both true true h = (refl, refl)
-both true false h = absurd cc
-both false b h = absurd cc
-
 settles-so : (o : Option Mirror) → IsSomeAnd o (λ r. (r.master.phase ≡ phase.Lost) × (r.master.owed ≡ [])) → can_settle o ≡ true
 settles-so None h = absurd h
 settles-so (Some r) h = λ i. is_lost (h.0 i) && is_none (h.1 i)
 
 so-settles : (o : Option Mirror) → can_settle o ≡ true → IsSomeAnd o (λ r. (r.master.phase ≡ phase.Lost) × (r.master.owed ≡ []))
 so-settles None h = absurd cc
-so-settles (Some r) h = let x = both (is_lost r.master.phase) (is_none r.master.owed) h in (lost-by r.master.phase x.0, none-owed r.master.owed x.1)
+so-settles (Some r) h = let x = and_parts (is_lost r.master.phase) (is_none r.master.owed) h in (lost-by r.master.phase x.0, none-owed r.master.owed x.1)
 
 pub settle-test : (b : Bool) (o : Option Mirror) → (IsTrue b ↔ IsSomeAnd o (λ r. (r.master.phase ≡ phase.Lost) × (r.master.owed ≡ []))) → b ≡ can_settle o
 settle-test true o iff = sym (settles-so o (iff.0 refl))
@@ -75,7 +71,7 @@ Awaited (Some r) server y = phases.awaits r.master server y ≡ true
 
 pub awaited-by : (o : Option Mirror) (server : ℕ) (y : Reply) → expects o server y ≡ true → Awaited o server (reply_of y)
 awaited-by None server y h = absurd cc
-awaited-by (Some r) server y h = (both (phases.awaits r.master server (reply_of y)) _ h).0
+awaited-by (Some r) server y h = (and_parts (phases.awaits r.master server (reply_of y)) _ h).0
 
 same-number : (f : phases.Master → phases.Master) (x : Session) → (with_master f x).number ≡ x.number
 same-number f x = refl
@@ -116,7 +112,7 @@ module _ (s server : ℕ) (xs : List Shown) (ss : List Session) where
 
     pub report-taken : phases.awaits r.master server (phases.Reported xs) ≡ true → (if can_settle (mirror_in (session_in after s)) then changed s (with_master phases.settled) after else after) ≡ changed s (with_master (λ m. phases.taken m server (phases.Reported xs))) ss
     report-taken awaits =
-        ap (λ b. if b then changed s (with_master phases.settled) after else after) (goes (reported-lost r.master.phase xs (both _ _ awaits).1))
+        ap (λ b. if b then changed s (with_master phases.settled) after else after) (goes (reported-lost r.master.phase xs (and_parts _ _ awaits).1))
         ∙ (elim (phases.without server r.master.owed) as (λ ws. phases.without server r.master.owed ≡ ws → (if is_none ws then changed s (with_master phases.settled) after else after) ≡ changed s (with_master (λ m. phases.taken m server (phases.Reported xs))) ss) [
           | [] ↦ λ none. changed-twice s (with_master (λ m. phases.replied m server (phases.Reported xs))) (with_master phases.settled) (same-number (λ m. phases.replied m server (phases.Reported xs))) ss
               ∙ only (λ y. with_master phases.settled (with_master (λ m. phases.replied m server (phases.Reported xs)) y)) (with_master (λ m. phases.taken m server (phases.Reported xs))) (last none)

@@ -51,6 +51,7 @@ pub record Looks (x : Look) (r : Mirror) (server : ℕ) : Type 0 where
   pub number : x.number ≡ r.master.number
   pub owed : option_map order_seen x.owed ≡ phases.order_for r.master server
 
+-- of a session with a master or without one
 abbrev pub LooksAt : Option Look → Option Mirror → ℕ → Type 0
 LooksAt None None server = Unit {0}
 LooksAt (Some x) (Some r) server = Looks x r server
@@ -71,10 +72,12 @@ abbrev pub is_lost : PhaseName → Bool
 is_lost phase.Lost = true
 is_lost p = false
 
+-- nobody is left
 abbrev pub is_none : List ℕ → Bool
 is_none [] = true
 is_none (s ∷ rest) = false
 
+-- the master is lost, and all have reported to it
 abbrev pub can_settle : Option Mirror → Bool
 can_settle None = false
 can_settle (Some r) = is_lost r.master.phase && is_none r.master.owed

@@ -4,7 +4,7 @@ use Rattle.std.specs.List.{list_any}
 use Rattle.dr_ids.specs.declared.names.Member.{Member}
 use Rattle.dr_bits.specs.Tracks.{Tracks}
 use Rattle.dr_plant.specs.State.{PlantState}
-use Rattle.dr_config.specs.Table.{Table, place_of}
+use Rattle.dr_config.specs.Table.{ConfigTable, place_of}
 use Rattle.dr_model.specs.Phases.{Work, Hold, Seal, Report}
 use Rattle.dr_model.specs.Relations.{is_bare}
 use Rattle.dr_model.specs.Sessions.{Session, session_in, mirror_in, begin_refusal, changed, begun}
@@ -37,7 +37,7 @@ MayOrder Hold ss s n = MayBegin ss s n
 MayOrder _ ss s n = Unit {0}
 
 -- A member's volumes are defined, its server is that of the primary, and its target is on the secondary's.
-pub record IsReady (s : PlantState) (t : Table) (m : Member) : Type 0 where
+pub record IsMemberReady (s : PlantState) (t : ConfigTable) (m : Member) : Type 0 where
   pub primary : is_some (place_of t m.a.0) ≡ true
   pub secondary : is_some (place_of t m.b.0) ≡ true
   pub target : is_some (place_of t m.c.0) ≡ true
@@ -45,28 +45,31 @@ pub record IsReady (s : PlantState) (t : Table) (m : Member) : Type 0 where
   pub together : (volume_seen s t m.c.0).server ≡ (volume_seen s t m.b.0).server
 
 -- so it is for each member
-abbrev pub AreReady : PlantState → Table → List Member → Type 0
-AreReady s t ms = (i : ℕ) (m : Member) → slice_get ms i ≡ Some m → IsReady s t m
+abbrev pub AreReady : PlantState → ConfigTable → List Member → Type 0
+AreReady s t ms = (i : ℕ) (m : Member) → slice_get ms i ≡ Some m → IsMemberReady s t m
 
 -- the servers of their secondaries are on
-abbrev pub AreRunning : PlantState → Table → List Member → Type 0
+abbrev pub AreRunning : PlantState → ConfigTable → List Member → Type 0
 AreRunning s t ms = (i : ℕ) (m : Member) → slice_get ms i ≡ Some m → s.on (volume_seen s t m.b.0).server ≡ true
 
+-- the order is to seal
 abbrev pub is_seal : Work → Bool
 is_seal Seal = true
 is_seal _ = false
 
+-- the order is to report
 abbrev pub is_report : Work → Bool
 is_report Report = true
 is_report _ = false
 
 -- the tracks of a volume that are out of sync
-abbrev pub sync_seen : PlantState → Table → ℕ → Tracks
+abbrev pub sync_seen : PlantState → ConfigTable → ℕ → Tracks
 sync_seen s t v = (volume_seen s t v).fields.out_of_sync
 
 -- a seal has to wait where a member's primary has tracks to send
 abbrev pub must_wait : (ℕ → Tracks) → Member → Bool
 must_wait sync m = not (is_bare (sync m.a.0))
 
+-- the reply to an order is that a seal has to wait
 abbrev pub waits_in : Work → (ℕ → Tracks) → List Member → Bool
 waits_in work sync ms = is_seal work && list_any (must_wait sync) ms

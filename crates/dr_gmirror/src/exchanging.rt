@@ -1,6 +1,7 @@
 //! A session's master and a server exchange an order and the reply.
 
 ghost use Rattle.std.specs.Prelude.{◌≡◌, ◌≢◌, ℕ, ◌<◌, ◌≤◌, ◌+◌, ◌&&◌, true, false, length, None, Some, IfSome, List, OnOk, OnErr, option_map, if◌then◌else◌};
+ghost use Rattle.dr_logic.specs.Counts.{Counted};
 ghost use Rattle.dr_ids.specs.declared.names.Member.{Member};
 ghost use Rattle.dr_ids.specs.declared.refusal.PhaseName.TheVariants as phase;
 ghost use Rattle.dr_ids.specs.declared.refusal.Refusal.{Refusal};
@@ -19,11 +20,10 @@ ghost use Rattle.dr_master.specs.Seen.{reply_of};
 ghost use Rattle.dr_session.specs.Seen.{expects};
 ghost use Rattle.dr_volume.specs.View.{Rest};
 ghost use Rattle.dr_flash.specs.Checks.{OnNone, is_stop};
-ghost use Rattle.dr_flash.specs.Faults.{Counted};
 ghost use Rattle.dr_flash.specs.Fit.{RelationsFit};
-ghost use Rattle.dr_flash.specs.Here.{seen, refusal_of, armed_in, IsAtRest};
+ghost use Rattle.dr_flash.specs.Here.{world_seen, refusal_of, armed_in, IsAtRest};
 ghost use Rattle.dr_coord.specs.Aside.{AsideFits};
-ghost use Rattle.dr_laws.specs.TakenOver.{IsLeft};
+ghost use Rattle.dr_laws_recovery.specs.TakenOver.{IsLeft};
 ghost use Rattle.dr_gmirror.specs.Orders.{with_sessions, AreReady};
 ghost use Rattle.dr_gmirror.specs.Exchange.{PlanEnds, answer_of, refusal_in, order_in, says_shown, can_settle, Looks, IsNear, MayExchange};
 
@@ -66,7 +66,7 @@ fn exchange_refusal<P: Plant>(
     requires known { server.0 < length c.now.names }
     requires master_low { x.now.server.0 < 8 }
     requires master_known { x.now.server.0 < length c.now.names }
-    ensures refusal { (q : Rest) (events : List Event) (r : model.Mirror) → Looks x.now r server.0 → r.master.phase ≢ phase.None → result ≡ plans.exchange_refusal (seen (P.state p.now) c.now q events).control r server.0 (model.members_in (model.session_in ss.now.sessions s.0)) }
+    ensures refusal { (q : Rest) (events : List Event) (r : model.Mirror) → Looks x.now r server.0 → r.master.phase ≢ phase.None → result ≡ plans.exchange_refusal (world_seen (P.state p.now) c.now q events).control r server.0 (model.members_in (model.session_in ss.now.sessions s.0)) }
     ensures running { OnNone result ((P.state p.now).on server.0 ≡ true) }
     ensures number { OnNone result (plans.is_idle x.now.phase ≡ true → x.now.number + 1 < 4294967296) }
     ensures calm { is_stop result ≡ false }
@@ -153,11 +153,11 @@ fn exchange_order<P: Plant>(
     requires running { (P.state p.old).on server.0 ≡ true }
     requires low { server.0 < 8 }
     requires few { length (model.members_in (model.session_in ss.old.sessions s.0)) ≤ 64 }
-    requires may { (r : Rest) × MayExchange (seen (P.state p.old) c.now (with_sessions ss.old.sessions r) j.old.events) s.0 server.0 (master.order_of order) }
+    requires may { (r : Rest) × MayExchange (world_seen (P.state p.old) c.now (with_sessions ss.old.sessions r) j.old.events) s.0 server.0 (master.order_of order) }
     requires room { length (model.members_in (model.session_in ss.old.sessions s.0)) + 2 ≤ j.old.spare }
-    ensures carried { (r : Rest) → PlanEnds (armed_in (P.state p.old)) (seen (P.state p.old) c.now (with_sessions ss.old.sessions r) j.old.events)
+    ensures carried { (r : Rest) → PlanEnds (armed_in (P.state p.old)) (world_seen (P.state p.old) c.now (with_sessions ss.old.sessions r) j.old.events)
         (plans.exchange_done s.0 server.0 reply (members_on server.0 (model.members_in (model.session_in ss.old.sessions s.0))) (Some (master.order_of order)))
-        (seen (P.state p.new) c.now (with_sessions ss.new.sessions r) j.new.events) (answer_of result s.0 (seen (P.state p.new) c.now (with_sessions ss.new.sessions r) j.new.events).control) }
+        (world_seen (P.state p.new) c.now (with_sessions ss.new.sessions r) j.new.events) (answer_of result s.0 (world_seen (P.state p.new) c.now (with_sessions ss.new.sessions r) j.new.events).control) }
     ensures rest { IsAtRest (P.state p.new) c.now }
     ensures fit { RelationsFit (P.state p.new) c.now }
     ensures aside { AsideFits (P.state p.new) c.now }
@@ -203,17 +203,17 @@ pub fn exchange<P: Plant>(
     requires few { length (model.members_in (model.session_in ss.old.sessions s.0)) ≤ 64 }
     requires near { IfSome (model.mirror_in (model.session_in ss.old.sessions s.0)) (IsNear (length c.now.names)) }
     requires may { (r : Rest) × ((o : phases.Order)
-        → refusal_in (seen (P.state p.old) c.now (with_sessions ss.old.sessions r) j.old.events).control (model.mirror_in (model.session_in ss.old.sessions s.0)) server.0 (model.members_in (model.session_in ss.old.sessions s.0)) ≡ None
-        → order_in (model.mirror_in (model.session_in ss.old.sessions s.0)) server.0 ≡ Some o → MayExchange (seen (P.state p.old) c.now (with_sessions ss.old.sessions r) j.old.events) s.0 server.0 o) }
+        → refusal_in (world_seen (P.state p.old) c.now (with_sessions ss.old.sessions r) j.old.events).control (model.mirror_in (model.session_in ss.old.sessions s.0)) server.0 (model.members_in (model.session_in ss.old.sessions s.0)) ≡ None
+        → order_in (model.mirror_in (model.session_in ss.old.sessions s.0)) server.0 ≡ Some o → MayExchange (world_seen (P.state p.old) c.now (with_sessions ss.old.sessions r) j.old.events) s.0 server.0 o) }
     requires room { length (model.members_in (model.session_in ss.old.sessions s.0)) + 2 ≤ j.old.spare }
-    ensures carried { (r : Rest) → PlanEnds (armed_in (P.state p.old)) (seen (P.state p.old) c.now (with_sessions ss.old.sessions r) j.old.events)
-        (plans.exchange_on (seen (P.state p.old) c.now (with_sessions ss.old.sessions r) j.old.events).control s.0 (model.mirror_in (model.session_in ss.old.sessions s.0)) server.0 reply (model.members_in (model.session_in ss.old.sessions s.0)))
-        (seen (P.state p.new) c.now (with_sessions ss.new.sessions r) j.new.events) (answer_of result s.0 (seen (P.state p.new) c.now (with_sessions ss.new.sessions r) j.new.events).control) }
-    ensures refused { (r : Rest) (why : Refusal) → refusal_in (seen (P.state p.old) c.now (with_sessions ss.old.sessions r) j.old.events).control (model.mirror_in (model.session_in ss.old.sessions s.0)) server.0 (model.members_in (model.session_in ss.old.sessions s.0)) ≡ Some why
+    ensures carried { (r : Rest) → PlanEnds (armed_in (P.state p.old)) (world_seen (P.state p.old) c.now (with_sessions ss.old.sessions r) j.old.events)
+        (plans.exchange_on (world_seen (P.state p.old) c.now (with_sessions ss.old.sessions r) j.old.events).control s.0 (model.mirror_in (model.session_in ss.old.sessions s.0)) server.0 reply (model.members_in (model.session_in ss.old.sessions s.0)))
+        (world_seen (P.state p.new) c.now (with_sessions ss.new.sessions r) j.new.events) (answer_of result s.0 (world_seen (P.state p.new) c.now (with_sessions ss.new.sessions r) j.new.events).control) }
+    ensures refused { (r : Rest) (why : Refusal) → refusal_in (world_seen (P.state p.old) c.now (with_sessions ss.old.sessions r) j.old.events).control (model.mirror_in (model.session_in ss.old.sessions s.0)) server.0 (model.members_in (model.session_in ss.old.sessions s.0)) ≡ Some why
         → (refusal_of result ≡ Some why) × (P.state p.new ≡ P.state p.old) × (j.new ≡ j.old) × (ss.new ≡ ss.old) }
-    ensures leaves { (r : Rest) (x : Session) (m : Member) → Sound (seen (P.state p.old) c.now (with_sessions ss.old.sessions r) j.old.events) → In x ss.old.sessions → In m x.members
-        → is_secondary_of m.a.0 (fields_at (seen (P.state p.old) c.now (with_sessions ss.old.sessions r) j.old.events).control m.b.0) ≡ false
-        → IsLeft (seen (P.state p.old) c.now (with_sessions ss.old.sessions r) j.old.events) (seen (P.state p.new) c.now (with_sessions ss.new.sessions r) j.new.events) m }
+    ensures leaves { (r : Rest) (x : Session) (m : Member) → Sound (world_seen (P.state p.old) c.now (with_sessions ss.old.sessions r) j.old.events) → In x ss.old.sessions → In m x.members
+        → is_secondary_of m.a.0 (fields_at (world_seen (P.state p.old) c.now (with_sessions ss.old.sessions r) j.old.events).control m.b.0) ≡ false
+        → IsLeft (world_seen (P.state p.old) c.now (with_sessions ss.old.sessions r) j.old.events) (world_seen (P.state p.new) c.now (with_sessions ss.new.sessions r) j.new.events) m }
     ensures rest { IsAtRest (P.state p.new) c.now }
     ensures fit { RelationsFit (P.state p.new) c.now }
     ensures aside { AsideFits (P.state p.new) c.now }

@@ -1,18 +1,18 @@
 //! The primary of a member is held, and the session's attempt begins with the first one.
 
 ghost use Rattle.std.specs.Prelude.{◌≡◌, ℕ, ◌≤◌, ◌+◌, ◌&&◌, not, true, false, length, nat_lt, None, OnOk, OnErr};
+ghost use Rattle.dr_logic.specs.Counts.{Counted};
 ghost use Rattle.dr_model.specs.Carry.{equal};
 ghost use Rattle.dr_model.specs.Pairs.{records};
 ghost use Rattle.dr_model.specs.Sessions as model;
 ghost use Rattle.dr_model.specs.SessionEntries.{hold_entries};
 ghost use Rattle.dr_volume.specs.View.{Rest, volume_seen};
 ghost use Rattle.dr_flash.specs.Checks.{is_stop};
-ghost use Rattle.dr_flash.specs.Faults.{Counted};
 ghost use Rattle.dr_flash.specs.Fit.{RelationsFit};
-ghost use Rattle.dr_flash.specs.Here.{seen, refusal_of, armed_in, IsAtRest};
+ghost use Rattle.dr_flash.specs.Here.{world_seen, refusal_of, armed_in, IsAtRest};
 ghost use Rattle.dr_flash.specs.Turns.{Leads, Fails};
 ghost use Rattle.dr_coord.specs.Aside.{AsideFits};
-ghost use Rattle.dr_gmirror.specs.Orders.{with_sessions, last_in, to_begin, begun_in, MayBegin, IsReady};
+ghost use Rattle.dr_gmirror.specs.Orders.{with_sessions, last_in, to_begin, begun_in, MayBegin, IsMemberReady};
 
 use dr_config::Config;
 use dr_coord::hold_and_swap;
@@ -59,12 +59,12 @@ pub(crate) fn hold_member<P: Plant>(
 ) -> Result<(), Refusal>
     requires rest { IsAtRest (P.state p.old) c.now }
     requires fit { RelationsFit (P.state p.old) c.now }
-    requires ready { IsReady (P.state p.old) c.now m.now }
+    requires ready { IsMemberReady (P.state p.old) c.now m.now }
     requires running { (P.state p.old).on m.now.server.0 ≡ true }
     requires begins { MayBegin ss.old.sessions s.0 n }
     requires room { to_begin ss.old.sessions s.0 n + 2 ≤ j.old.spare }
-    ensures leads { OnOk result ((r : Rest) → Leads (seen (P.state p.old) c.now (with_sessions ss.old.sessions r) j.old.events) (hold_entries s.0 m.now.a.0 m.now.b.0 n) (seen (P.state p.new) c.now (with_sessions ss.new.sessions r) j.new.events)) }
-    ensures fails { OnErr result ((r : Rest) → Fails (armed_in (P.state p.old)) (seen (P.state p.old) c.now (with_sessions ss.old.sessions r) j.old.events) (hold_entries s.0 m.now.a.0 m.now.b.0 n) (seen (P.state p.new) c.now (with_sessions ss.new.sessions r) j.new.events) (refusal_of result)) }
+    ensures leads { OnOk result ((r : Rest) → Leads (world_seen (P.state p.old) c.now (with_sessions ss.old.sessions r) j.old.events) (hold_entries s.0 m.now.a.0 m.now.b.0 n) (world_seen (P.state p.new) c.now (with_sessions ss.new.sessions r) j.new.events)) }
+    ensures fails { OnErr result ((r : Rest) → Fails (armed_in (P.state p.old)) (world_seen (P.state p.old) c.now (with_sessions ss.old.sessions r) j.old.events) (hold_entries s.0 m.now.a.0 m.now.b.0 n) (world_seen (P.state p.new) c.now (with_sessions ss.new.sessions r) j.new.events) (refusal_of result)) }
     ensures may_begin { MayBegin ss.new.sessions s.0 n }
     ensures members { model.members_in (model.session_in ss.new.sessions s.0) ≡ model.members_in (model.session_in ss.old.sessions s.0) }
     ensures begun { OnOk result (records n (volume_seen (P.state p.old) c.now m.now.a.0).fields ≡ false → nat_lt (last_in ss.old.sessions s.0) n ≡ true → ss.new.sessions ≡ begun_in true ss.old.sessions s.0) }

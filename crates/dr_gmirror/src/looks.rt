@@ -12,7 +12,7 @@ ghost use Rattle.dr_model.specs.Sessions as model;
 ghost use Rattle.dr_master.specs.Seen.{order_of};
 ghost use Rattle.dr_volume.specs.View.{Rest};
 ghost use Rattle.dr_flash.specs.Checks.{OnNone, is_stop};
-ghost use Rattle.dr_flash.specs.Here.{seen};
+ghost use Rattle.dr_flash.specs.Here.{world_seen};
 
 use dr_config::Config;
 use dr_ids::{PhaseName, Refusal, ServerId, SessionId};
@@ -92,7 +92,7 @@ pub(crate) fn idle_refusal(paused: bool, number: u32, member: bool) -> Option<Re
 /// Why nothing can be asked of a server: it is off.
 pub(crate) fn off_refusal<P: Plant>(p: &P, c: &Config, server: ServerId) -> Option<Refusal>
     requires { server.0 < 8 }
-    ensures refusal { (r : Rest) (events : List Event) → result ≡ plans.off_refusal (seen (P.state p.now) c.now r events).control server.0 }
+    ensures refusal { (r : Rest) (events : List Event) → result ≡ plans.off_refusal (world_seen (P.state p.now) c.now r events).control server.0 }
     ensures running { OnNone result ((P.state p.now).on server.0 ≡ true) }
     ensures calm { is_stop result ≡ false }
 {

@@ -1,6 +1,7 @@
 //! A server carries out what a session's master orders.
 
 ghost use Rattle.std.specs.Prelude.{◌≡◌, ℕ, ◌≤◌, ◌+◌, true, length, None, List, IfOk, OnOk, OnErr, if◌then◌else◌};
+ghost use Rattle.dr_logic.specs.Counts.{Counted};
 ghost use Rattle.dr_model.specs.declared.event.Event.{Event};
 ghost use Rattle.dr_model.specs.Phases as phases;
 ghost use Rattle.dr_model.specs.ReadStops.{Ends};
@@ -9,9 +10,8 @@ ghost use Rattle.dr_model.specs.SessionEntries.{order_entries, members_on, reply
 ghost use Rattle.dr_master.specs.Seen.{work_of, reply_of, count_in};
 ghost use Rattle.dr_volume.specs.View.{Rest};
 ghost use Rattle.dr_flash.specs.Checks.{is_stop};
-ghost use Rattle.dr_flash.specs.Faults.{Counted};
 ghost use Rattle.dr_flash.specs.Fit.{RelationsFit};
-ghost use Rattle.dr_flash.specs.Here.{seen, refusal_of, armed_in, IsAtRest};
+ghost use Rattle.dr_flash.specs.Here.{world_seen, refusal_of, armed_in, IsAtRest};
 ghost use Rattle.dr_flash.specs.Turns.{Leads, Fails};
 ghost use Rattle.dr_coord.specs.Aside.{AsideFits};
 ghost use Rattle.dr_gmirror.specs.Exchange.{members_in_reply};
@@ -63,13 +63,13 @@ pub fn carry_out<P: Plant>(
     requires begins { MayOrder (work_of order.kind) ss.old.sessions s.0 order.n }
     requires few { is_report (work_of order.kind) ≡ true → length (model.members_in (model.session_in ss.old.sessions s.0)) ≤ 64 }
     requires room { length (model.members_in (model.session_in ss.old.sessions s.0)) + 2 ≤ j.old.spare }
-    ensures carried { (r : Rest) → Ends (armed_in (P.state p.old)) (seen (P.state p.new) c.now (with_sessions ss.new.sessions r) j.new.events) (refusal_of result) (seen (P.state p.old) c.now (with_sessions ss.old.sessions r) j.old.events)
+    ensures carried { (r : Rest) → Ends (armed_in (P.state p.old)) (world_seen (P.state p.new) c.now (with_sessions ss.new.sessions r) j.new.events) (refusal_of result) (world_seen (P.state p.old) c.now (with_sessions ss.old.sessions r) j.old.events)
         (order_entries (work_of order.kind) s.0 order.n (members_on server.0 (model.members_in (model.session_in ss.old.sessions s.0)))) }
-    ensures leads { OnOk result ((r : Rest) → Leads (seen (P.state p.old) c.now (with_sessions ss.old.sessions r) j.old.events) (order_entries (work_of order.kind) s.0 order.n (members_on server.0 (model.members_in (model.session_in ss.old.sessions s.0))))
-        (seen (P.state p.new) c.now (with_sessions ss.new.sessions r) j.new.events)) }
-    ensures fails { OnErr result ((r : Rest) → Fails (armed_in (P.state p.old)) (seen (P.state p.old) c.now (with_sessions ss.old.sessions r) j.old.events) (order_entries (work_of order.kind) s.0 order.n (members_on server.0 (model.members_in (model.session_in ss.old.sessions s.0))))
-        (seen (P.state p.new) c.now (with_sessions ss.new.sessions r) j.new.events) (refusal_of result)) }
-    ensures reply { IfOk result (λ y. (r : Rest) (events : List Event) → reply_of y ≡ reply_after s.0 (work_of order.kind) (members_on server.0 (model.members_in (model.session_in ss.old.sessions s.0))) (seen (P.state p.new) c.now r events).control) }
+    ensures leads { OnOk result ((r : Rest) → Leads (world_seen (P.state p.old) c.now (with_sessions ss.old.sessions r) j.old.events) (order_entries (work_of order.kind) s.0 order.n (members_on server.0 (model.members_in (model.session_in ss.old.sessions s.0))))
+        (world_seen (P.state p.new) c.now (with_sessions ss.new.sessions r) j.new.events)) }
+    ensures fails { OnErr result ((r : Rest) → Fails (armed_in (P.state p.old)) (world_seen (P.state p.old) c.now (with_sessions ss.old.sessions r) j.old.events) (order_entries (work_of order.kind) s.0 order.n (members_on server.0 (model.members_in (model.session_in ss.old.sessions s.0))))
+        (world_seen (P.state p.new) c.now (with_sessions ss.new.sessions r) j.new.events) (refusal_of result)) }
+    ensures reply { IfOk result (λ y. (r : Rest) (events : List Event) → reply_of y ≡ reply_after s.0 (work_of order.kind) (members_on server.0 (model.members_in (model.session_in ss.old.sessions s.0))) (world_seen (P.state p.new) c.now r events).control) }
     ensures count { IfOk result (λ y. count_in y ≡ members_in_reply (reply_of y)) }
     ensures members { model.members_in (model.session_in ss.new.sessions s.0) ≡ model.members_in (model.session_in ss.old.sessions s.0) }
     ensures rest { IsAtRest (P.state p.new) c.now }

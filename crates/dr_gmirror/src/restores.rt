@@ -11,7 +11,7 @@ ghost use Rattle.dr_model.specs.SessionEntries.{shown_by_members};
 ghost use Rattle.dr_model.specs.Sessions as model;
 ghost use Rattle.dr_volume.specs.View.{Rest};
 ghost use Rattle.dr_flash.specs.Checks.{OnNone, is_stop};
-ghost use Rattle.dr_flash.specs.Here.{seen};
+ghost use Rattle.dr_flash.specs.Here.{world_seen};
 ghost use Rattle.dr_incr.specs.Steps.{number_of};
 ghost use Rattle.dr_gmirror.specs.Orders.{AreReady, AreRunning, with_sessions};
 
@@ -29,7 +29,7 @@ fn report_all<P: Plant>(p: &P, c: &Config, ss: &Sessions, s: SessionId) -> Repor
     requires stands { StandsFor c.now (P.state p.now) }
     requires members { AreReady (P.state p.now) c.now (model.members_in (model.session_in ss.now.sessions s.0)) }
     requires few { length (model.members_in (model.session_in ss.now.sessions s.0)) ≤ 64 }
-    ensures shown { (r : Rest) (events : List Event) → shown_in result ≡ shown_by_members s.0 (model.members_in (model.session_in ss.now.sessions s.0)) (seen (P.state p.now) c.now r events).control }
+    ensures shown { (r : Rest) (events : List Event) → shown_in result ≡ shown_by_members s.0 (model.members_in (model.session_in ss.now.sessions s.0)) (world_seen (P.state p.now) c.now r events).control }
     ensures count { result.count ≤ 64 }
 {
     let mut report = no_report();
@@ -46,7 +46,7 @@ pub fn decide_over<P: Plant>(p: &P, c: &Config, ss: &Sessions, s: SessionId) -> 
     requires stands { StandsFor c.now (P.state p.now) }
     requires members { AreReady (P.state p.now) c.now (model.members_in (model.session_in ss.now.sessions s.0)) }
     requires few { length (model.members_in (model.session_in ss.now.sessions s.0)) ≤ 64 }
-    ensures decides { (r : Rest) (events : List Event) → result ≡ decision (shown_by_members s.0 (model.members_in (model.session_in ss.now.sessions s.0)) (seen (P.state p.now) c.now r events).control) }
+    ensures decides { (r : Rest) (events : List Event) → result ≡ decision (shown_by_members s.0 (model.members_in (model.session_in ss.now.sessions s.0)) (world_seen (P.state p.now) c.now r events).control) }
 {
     report_all(p, c, ss, s).decision()
 }
@@ -59,7 +59,7 @@ pub fn secondary_refusal<P: Plant>(
     s: SessionId,
 ) -> Option<Refusal>
     requires members { AreReady (P.state p.now) c.now (model.members_in (model.session_in ss.now.sessions s.0)) }
-    ensures refusal { (r : Rest) (events : List Event) → result ≡ plans.secondary_refusal (model.members_in (model.session_in ss.now.sessions s.0)) (seen (P.state p.now) c.now r events).control }
+    ensures refusal { (r : Rest) (events : List Event) → result ≡ plans.secondary_refusal (model.members_in (model.session_in ss.now.sessions s.0)) (world_seen (P.state p.now) c.now r events).control }
     ensures running { OnNone result (AreRunning (P.state p.now) c.now (model.members_in (model.session_in ss.now.sessions s.0))) }
     ensures calm { is_stop result ≡ false }
 {
@@ -91,7 +91,7 @@ pub fn restore_refusal<P: Plant>(p: &P, c: &Config, ss: &Sessions, t: VolumeId) 
     requires defined { IsSome (place_of c.now t.0) }
     requires members { (s : ℕ) → AreReady (P.state p.now) c.now (model.members_in (model.session_in ss.now.sessions s)) }
     requires few { (s : ℕ) → length (model.members_in (model.session_in ss.now.sessions s)) ≤ 64 }
-    ensures refusal { (r : Rest) (events : List Event) → plans.restore_refusal t.0 (seen (P.state p.now) c.now (with_sessions ss.now.sessions r) events).control ≡ result }
+    ensures refusal { (r : Rest) (events : List Event) → plans.restore_refusal t.0 (world_seen (P.state p.now) c.now (with_sessions ss.now.sessions r) events).control ≡ result }
     ensures calm { is_stop result ≡ false }
 {
     let fields = peek_fields(p, c, t);
@@ -122,7 +122,7 @@ pub fn member_with(ss: &Sessions, s: SessionId, t: VolumeId) -> Option<Member>
 pub fn leaving<P: Plant>(p: &P, c: &Config, ss: &Sessions, t: VolumeId) -> Option<VolumeId>
     requires stands { StandsFor c.now (P.state p.now) }
     requires defined { IsSome (place_of c.now t.0) }
-    ensures { (r : Rest) (events : List Event) → plans.left_by (seen (P.state p.now) c.now (with_sessions ss.now.sessions r) events).control t.0 ≡ number_of result }
+    ensures { (r : Rest) (events : List Event) → plans.left_by (world_seen (P.state p.now) c.now (with_sessions ss.now.sessions r) events).control t.0 ≡ number_of result }
 {
     let fields = peek_fields(p, c, t);
     if !fields.member {

@@ -1,20 +1,20 @@
 //! The secondary of a member is sealed.
 
 ghost use Rattle.std.specs.Prelude.{◌≡◌, ◌↔◌, ℕ, ◌≤◌, ◌+◌, true, false, [], ◌∷◌, length, Ok, None, Some, IsSome, IfOk, OnOk, OnErr, is_err};
+ghost use Rattle.dr_logic.specs.Counts.{Counted};
 ghost use Rattle.dr_config.specs.Table.{place_of};
 ghost use Rattle.dr_model.specs.Pairs as pairs;
 ghost use Rattle.dr_model.specs.ReadStops.{Ends};
 ghost use Rattle.dr_model.specs.Relations.{is_bare};
 ghost use Rattle.dr_model.specs.SessionEntries.{seal_refusal, seal_on, seal_entries};
 ghost use Rattle.dr_model.specs.PairEntries.{refuse_if};
-ghost use Rattle.dr_cuts.specs.Sent.{CutsHold, SendsTo, SealedFor};
+ghost use Rattle.dr_laws_cuts.specs.Sent.{CutsHold, SendsTo, SealedFor};
 ghost use Rattle.dr_volume.specs.Plain.{plain};
 ghost use Rattle.dr_volume.specs.Update.{OthersStay};
 ghost use Rattle.dr_volume.specs.View.{Rest, volume_seen};
 ghost use Rattle.dr_flash.specs.Checks.{is_stop};
-ghost use Rattle.dr_flash.specs.Faults.{Counted};
 ghost use Rattle.dr_flash.specs.Fit.{RelationsFit};
-ghost use Rattle.dr_flash.specs.Here.{seen, refusal_of, armed_in, IsAtRest};
+ghost use Rattle.dr_flash.specs.Here.{world_seen, refusal_of, armed_in, IsAtRest};
 ghost use Rattle.dr_flash.specs.Turns.{Leads, Fails};
 ghost use Rattle.dr_coord.specs.Aside.{AsideFits};
 ghost use Rattle.dr_gmirror.specs.Orders.{sync_seen};
@@ -49,8 +49,8 @@ fn seal_drained<P: Plant>(
     requires secondary { IsSome (place_of c.now m.now.b.0) }
     requires drained { is_bare (volume_seen (P.state p.old) c.now m.now.a.0).fields.out_of_sync ≡ true }
     requires room { 2 ≤ j.old.spare }
-    ensures leads { OnOk result ((r : Rest) → Leads (seen (P.state p.old) c.now r j.old.events) (refuse_if (seal_refusal m.now.a.0 m.now.b.0) ∷ seal_on s.0 m.now.a.0 m.now.b.0 n ∷ []) (seen (P.state p.new) c.now r j.new.events)) }
-    ensures fails { OnErr result ((r : Rest) → Fails (armed_in (P.state p.old)) (seen (P.state p.old) c.now r j.old.events) (refuse_if (seal_refusal m.now.a.0 m.now.b.0) ∷ seal_on s.0 m.now.a.0 m.now.b.0 n ∷ []) (seen (P.state p.new) c.now r j.new.events) (refusal_of result)) }
+    ensures leads { OnOk result ((r : Rest) → Leads (world_seen (P.state p.old) c.now r j.old.events) (refuse_if (seal_refusal m.now.a.0 m.now.b.0) ∷ seal_on s.0 m.now.a.0 m.now.b.0 n ∷ []) (world_seen (P.state p.new) c.now r j.new.events)) }
+    ensures fails { OnErr result ((r : Rest) → Fails (armed_in (P.state p.old)) (world_seen (P.state p.old) c.now r j.old.events) (refuse_if (seal_refusal m.now.a.0 m.now.b.0) ∷ seal_on s.0 m.now.a.0 m.now.b.0 n ∷ []) (world_seen (P.state p.new) c.now r j.new.events) (refusal_of result)) }
     ensures unchanged { is_stop (refusal_of result) ≡ false → OnErr result ((P.state p.new ≡ P.state p.old) × (j.new ≡ j.old)) }
     ensures rest { IsAtRest (P.state p.new) c.now }
     ensures fit { RelationsFit (P.state p.new) c.now }
@@ -102,12 +102,12 @@ pub fn seal<P: Plant>(
     requires primary { IsSome (place_of c.now m.now.a.0) }
     requires secondary { IsSome (place_of c.now m.now.b.0) }
     requires room { 2 ≤ j.old.spare }
-    ensures carried { (r : Rest) → Ends (armed_in (P.state p.old)) (seen (P.state p.new) c.now r j.new.events) (refusal_of result) (seen (P.state p.old) c.now r j.old.events) (seal_entries s.0 m.now.a.0 m.now.b.0 n) }
-    ensures leads { OnOk result ((r : Rest) → Leads (seen (P.state p.old) c.now r j.old.events) (seal_entries s.0 m.now.a.0 m.now.b.0 n) (seen (P.state p.new) c.now r j.new.events)) }
-    ensures fails { OnErr result ((r : Rest) → Fails (armed_in (P.state p.old)) (seen (P.state p.old) c.now r j.old.events) (seal_entries s.0 m.now.a.0 m.now.b.0 n) (seen (P.state p.new) c.now r j.new.events) (refusal_of result)) }
-    ensures holds_cut { IfOk result (λ done. done ≡ true → (r : Rest) → CutsHold (seen (P.state p.old) c.now r j.old.events) → SendsTo (seen (P.state p.old) c.now r j.old.events) m.now.a.0 m.now.b.0
-        → SealedFor (seen (P.state p.new) c.now r j.new.events) m.now.b.0 m.now.a.0 n) }
-    ensures cuts { (r : Rest) → CutsHold (seen (P.state p.old) c.now r j.old.events) → SendsTo (seen (P.state p.old) c.now r j.old.events) m.now.a.0 m.now.b.0 → CutsHold (seen (P.state p.new) c.now r j.new.events) }
+    ensures carried { (r : Rest) → Ends (armed_in (P.state p.old)) (world_seen (P.state p.new) c.now r j.new.events) (refusal_of result) (world_seen (P.state p.old) c.now r j.old.events) (seal_entries s.0 m.now.a.0 m.now.b.0 n) }
+    ensures leads { OnOk result ((r : Rest) → Leads (world_seen (P.state p.old) c.now r j.old.events) (seal_entries s.0 m.now.a.0 m.now.b.0 n) (world_seen (P.state p.new) c.now r j.new.events)) }
+    ensures fails { OnErr result ((r : Rest) → Fails (armed_in (P.state p.old)) (world_seen (P.state p.old) c.now r j.old.events) (seal_entries s.0 m.now.a.0 m.now.b.0 n) (world_seen (P.state p.new) c.now r j.new.events) (refusal_of result)) }
+    ensures holds_cut { IfOk result (λ done. done ≡ true → (r : Rest) → CutsHold (world_seen (P.state p.old) c.now r j.old.events) → SendsTo (world_seen (P.state p.old) c.now r j.old.events) m.now.a.0 m.now.b.0
+        → SealedFor (world_seen (P.state p.new) c.now r j.new.events) m.now.b.0 m.now.a.0 n) }
+    ensures cuts { (r : Rest) → CutsHold (world_seen (P.state p.old) c.now r j.old.events) → SendsTo (world_seen (P.state p.old) c.now r j.old.events) m.now.a.0 m.now.b.0 → CutsHold (world_seen (P.state p.new) c.now r j.new.events) }
     ensures waits { (result ≡ Ok false) ↔ ((pairs.records n (volume_seen (P.state p.old) c.now m.now.a.0).fields ≡ true) × (is_bare (volume_seen (P.state p.old) c.now m.now.a.0).fields.out_of_sync ≡ false)) }
     ensures drained { IfOk result (λ done. done ≡ is_bare (volume_seen (P.state p.old) c.now m.now.a.0).fields.out_of_sync) }
     ensures unchanged { is_stop (refusal_of result) ≡ false → OnErr result ((P.state p.new ≡ P.state p.old) × (j.new ≡ j.old)) }

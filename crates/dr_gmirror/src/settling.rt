@@ -11,9 +11,9 @@ ghost use Rattle.dr_model.specs.Sessions as model;
 ghost use Rattle.dr_volume.specs.Plain.{plain};
 ghost use Rattle.dr_volume.specs.View.{Rest};
 ghost use Rattle.dr_flash.specs.Checks.{is_stop};
-ghost use Rattle.dr_flash.specs.Here.{seen, refusal_of, armed_in};
+ghost use Rattle.dr_flash.specs.Here.{world_seen, refusal_of, armed_in};
 ghost use Rattle.dr_flash.specs.Turns.{Leads, Fails};
-ghost use Rattle.dr_gmirror.specs.Orders.{IsReady, AreReady};
+ghost use Rattle.dr_gmirror.specs.Orders.{IsMemberReady, AreReady};
 ghost use Rattle.dr_gmirror.specs.Reports.{IsTrimmed};
 
 use dr_config::Config;
@@ -79,12 +79,12 @@ fn settle_member<P: Plant>(
     report: &mut Report,
 ) -> Result<(), Refusal>
     requires stands { StandsFor c.now (P.state p.now) }
-    requires ready { IsReady (P.state p.now) c.now m.now }
+    requires ready { IsMemberReady (P.state p.now) c.now m.now }
     requires low { report.old.count < 64 }
-    ensures leads { OnOk result ((r : Rest) (events : List Event) → Leads (seen (P.state p.now) c.now r events) (report_entries m.now) (seen (P.state p.now) c.now r events)) }
-    ensures fails { OnErr result ((r : Rest) (events : List Event) → Fails (armed_in (P.state p.now)) (seen (P.state p.now) c.now r events) (report_entries m.now) (seen (P.state p.now) c.now r events) (refusal_of result)) }
+    ensures leads { OnOk result ((r : Rest) (events : List Event) → Leads (world_seen (P.state p.now) c.now r events) (report_entries m.now) (world_seen (P.state p.now) c.now r events)) }
+    ensures fails { OnErr result ((r : Rest) (events : List Event) → Fails (armed_in (P.state p.now)) (world_seen (P.state p.now) c.now r events) (report_entries m.now) (world_seen (P.state p.now) c.now r events) (refusal_of result)) }
     ensures calm { is_stop (refusal_of result) ≡ false }
-    ensures shown { OnOk result ((r : Rest) (events : List Event) → shown_in report.new ≡ shown_in report.old ++ shown_by_members s.0 (m.now ∷ []) (seen (P.state p.now) c.now r events).control) }
+    ensures shown { OnOk result ((r : Rest) (events : List Event) → shown_in report.new ≡ shown_in report.old ++ shown_by_members s.0 (m.now ∷ []) (world_seen (P.state p.now) c.now r events).control) }
     ensures low { report.new.count ≤ report.old.count + 1 }
     ensures count { length (shown_in report.old) ≡ report.old.count → length (shown_in report.new) ≡ report.new.count }
     ensures trimmed { IsTrimmed report.old → IsTrimmed report.new }
@@ -106,12 +106,12 @@ fn settle_on<P: Plant>(
     report: &mut Report,
 ) -> Result<(), Refusal>
     requires stands { StandsFor c.now (P.state p.now) }
-    requires ready { IsReady (P.state p.now) c.now m.now }
+    requires ready { IsMemberReady (P.state p.now) c.now m.now }
     requires low { report.old.count < 64 }
-    ensures leads { OnOk result ((n : ℕ) (r : Rest) (events : List Event) → Leads (seen (P.state p.now) c.now r events) (order_entries phases.Report s.0 n (members_on server.0 (m.now ∷ []))) (seen (P.state p.now) c.now r events)) }
-    ensures fails { OnErr result ((n : ℕ) (r : Rest) (events : List Event) → Fails (armed_in (P.state p.now)) (seen (P.state p.now) c.now r events) (order_entries phases.Report s.0 n (members_on server.0 (m.now ∷ []))) (seen (P.state p.now) c.now r events) (refusal_of result)) }
+    ensures leads { OnOk result ((n : ℕ) (r : Rest) (events : List Event) → Leads (world_seen (P.state p.now) c.now r events) (order_entries phases.Report s.0 n (members_on server.0 (m.now ∷ []))) (world_seen (P.state p.now) c.now r events)) }
+    ensures fails { OnErr result ((n : ℕ) (r : Rest) (events : List Event) → Fails (armed_in (P.state p.now)) (world_seen (P.state p.now) c.now r events) (order_entries phases.Report s.0 n (members_on server.0 (m.now ∷ []))) (world_seen (P.state p.now) c.now r events) (refusal_of result)) }
     ensures calm { is_stop (refusal_of result) ≡ false }
-    ensures shown { OnOk result ((r : Rest) (events : List Event) → shown_in report.new ≡ shown_in report.old ++ shown_by_members s.0 (members_on server.0 (m.now ∷ [])) (seen (P.state p.now) c.now r events).control) }
+    ensures shown { OnOk result ((r : Rest) (events : List Event) → shown_in report.new ≡ shown_in report.old ++ shown_by_members s.0 (members_on server.0 (m.now ∷ [])) (world_seen (P.state p.now) c.now r events).control) }
     ensures low { report.new.count ≤ report.old.count + 1 }
     ensures count { length (shown_in report.old) ≡ report.old.count → length (shown_in report.new) ≡ report.new.count }
     ensures trimmed { IsTrimmed report.old → IsTrimmed report.new }
@@ -137,11 +137,11 @@ pub fn settle<P: Plant>(
     requires stands { StandsFor c.now (P.state p.now) }
     requires members { AreReady (P.state p.now) c.now (model.members_in (model.session_in ss.now.sessions s.0)) }
     requires few { length (model.members_in (model.session_in ss.now.sessions s.0)) ≤ 64 }
-    ensures carried { (n : ℕ) (r : Rest) (events : List Event) → Ends (armed_in (P.state p.now)) (seen (P.state p.now) c.now r events) (refusal_of result) (seen (P.state p.now) c.now r events) (order_entries phases.Report s.0 n (members_on server.0 (model.members_in (model.session_in ss.now.sessions s.0)))) }
-    ensures leads { OnOk result ((n : ℕ) (r : Rest) (events : List Event) → Leads (seen (P.state p.now) c.now r events) (order_entries phases.Report s.0 n (members_on server.0 (model.members_in (model.session_in ss.now.sessions s.0)))) (seen (P.state p.now) c.now r events)) }
-    ensures fails { OnErr result ((n : ℕ) (r : Rest) (events : List Event) → Fails (armed_in (P.state p.now)) (seen (P.state p.now) c.now r events) (order_entries phases.Report s.0 n (members_on server.0 (model.members_in (model.session_in ss.now.sessions s.0)))) (seen (P.state p.now) c.now r events) (refusal_of result)) }
+    ensures carried { (n : ℕ) (r : Rest) (events : List Event) → Ends (armed_in (P.state p.now)) (world_seen (P.state p.now) c.now r events) (refusal_of result) (world_seen (P.state p.now) c.now r events) (order_entries phases.Report s.0 n (members_on server.0 (model.members_in (model.session_in ss.now.sessions s.0)))) }
+    ensures leads { OnOk result ((n : ℕ) (r : Rest) (events : List Event) → Leads (world_seen (P.state p.now) c.now r events) (order_entries phases.Report s.0 n (members_on server.0 (model.members_in (model.session_in ss.now.sessions s.0)))) (world_seen (P.state p.now) c.now r events)) }
+    ensures fails { OnErr result ((n : ℕ) (r : Rest) (events : List Event) → Fails (armed_in (P.state p.now)) (world_seen (P.state p.now) c.now r events) (order_entries phases.Report s.0 n (members_on server.0 (model.members_in (model.session_in ss.now.sessions s.0)))) (world_seen (P.state p.now) c.now r events) (refusal_of result)) }
     ensures calm { is_stop (refusal_of result) ≡ false }
-    ensures shown { IfOk result (λ y. (r : Rest) (events : List Event) → shown_in y ≡ shown_by_members s.0 (members_on server.0 (model.members_in (model.session_in ss.now.sessions s.0))) (seen (P.state p.now) c.now r events).control) }
+    ensures shown { IfOk result (λ y. (r : Rest) (events : List Event) → shown_in y ≡ shown_by_members s.0 (members_on server.0 (model.members_in (model.session_in ss.now.sessions s.0))) (world_seen (P.state p.now) c.now r events).control) }
     ensures count { IfOk result (λ y. y.count ≡ length (shown_in y)) }
     ensures trimmed { IfOk result IsTrimmed }
 {

@@ -1,17 +1,17 @@
 //! An order is carried out on a member.
 
 ghost use Rattle.std.specs.Prelude.{◌≡◌, ℕ, ◌≤◌, ◌+◌, ◌&&◌, true, [], ◌∷◌, length, None, IfOk, OnOk, OnErr};
+ghost use Rattle.dr_logic.specs.Counts.{Counted};
 ghost use Rattle.dr_model.specs.Sessions as model;
 ghost use Rattle.dr_model.specs.SessionEntries.{member_entries, members_on, order_entries};
 ghost use Rattle.dr_master.specs.Seen.{work_of};
 ghost use Rattle.dr_volume.specs.View.{Rest};
 ghost use Rattle.dr_flash.specs.Checks.{is_stop};
-ghost use Rattle.dr_flash.specs.Faults.{Counted};
 ghost use Rattle.dr_flash.specs.Fit.{RelationsFit};
-ghost use Rattle.dr_flash.specs.Here.{seen, refusal_of, armed_in, IsAtRest};
+ghost use Rattle.dr_flash.specs.Here.{world_seen, refusal_of, armed_in, IsAtRest};
 ghost use Rattle.dr_flash.specs.Turns.{Leads, Fails};
 ghost use Rattle.dr_coord.specs.Aside.{AsideFits};
-ghost use Rattle.dr_gmirror.specs.Orders.{with_sessions, to_begin, MayOrder, IsReady, is_seal, sync_seen, must_wait, waits_in};
+ghost use Rattle.dr_gmirror.specs.Orders.{with_sessions, to_begin, MayOrder, IsMemberReady, is_seal, sync_seen, must_wait, waits_in};
 
 use crate::holding::hold_member;
 use crate::sealing::seal;
@@ -40,12 +40,12 @@ fn order_member<P: Plant>(
     requires rest { IsAtRest (P.state p.old) c.now }
     requires fit { RelationsFit (P.state p.old) c.now }
     requires aside { AsideFits (P.state p.old) c.now }
-    requires ready { IsReady (P.state p.old) c.now m.now }
+    requires ready { IsMemberReady (P.state p.old) c.now m.now }
     requires running { (P.state p.old).on m.now.server.0 ≡ true }
     requires begins { MayOrder (work_of kind) ss.old.sessions s.0 n }
     requires room { to_begin ss.old.sessions s.0 n + 2 ≤ j.old.spare }
-    ensures leads { OnOk result ((r : Rest) → Leads (seen (P.state p.old) c.now (with_sessions ss.old.sessions r) j.old.events) (member_entries (work_of kind) s.0 n m.now) (seen (P.state p.new) c.now (with_sessions ss.new.sessions r) j.new.events)) }
-    ensures fails { OnErr result ((r : Rest) → Fails (armed_in (P.state p.old)) (seen (P.state p.old) c.now (with_sessions ss.old.sessions r) j.old.events) (member_entries (work_of kind) s.0 n m.now) (seen (P.state p.new) c.now (with_sessions ss.new.sessions r) j.new.events) (refusal_of result)) }
+    ensures leads { OnOk result ((r : Rest) → Leads (world_seen (P.state p.old) c.now (with_sessions ss.old.sessions r) j.old.events) (member_entries (work_of kind) s.0 n m.now) (world_seen (P.state p.new) c.now (with_sessions ss.new.sessions r) j.new.events)) }
+    ensures fails { OnErr result ((r : Rest) → Fails (armed_in (P.state p.old)) (world_seen (P.state p.old) c.now (with_sessions ss.old.sessions r) j.old.events) (member_entries (work_of kind) s.0 n m.now) (world_seen (P.state p.new) c.now (with_sessions ss.new.sessions r) j.new.events) (refusal_of result)) }
     ensures waits { IfOk result (λ waits. waits ≡ (is_seal (work_of kind) && must_wait (sync_seen (P.state p.new) c.now) m.now)) }
     ensures kept { OnOk result (is_seal (work_of kind) ≡ true → (q : ℕ) → sync_seen (P.state p.new) c.now q ≡ sync_seen (P.state p.old) c.now q) }
     ensures may { MayOrder (work_of kind) ss.new.sessions s.0 n }
@@ -111,12 +111,12 @@ pub(crate) fn order_on<P: Plant>(
     requires rest { IsAtRest (P.state p.old) c.now }
     requires fit { RelationsFit (P.state p.old) c.now }
     requires aside { AsideFits (P.state p.old) c.now }
-    requires ready { IsReady (P.state p.old) c.now m.now }
+    requires ready { IsMemberReady (P.state p.old) c.now m.now }
     requires running { (P.state p.old).on server.0 ≡ true }
     requires begins { MayOrder (work_of kind) ss.old.sessions s.0 n }
     requires room { to_begin ss.old.sessions s.0 n + 2 ≤ j.old.spare }
-    ensures leads { OnOk result ((r : Rest) → Leads (seen (P.state p.old) c.now (with_sessions ss.old.sessions r) j.old.events) (order_entries (work_of kind) s.0 n (members_on server.0 (m.now ∷ []))) (seen (P.state p.new) c.now (with_sessions ss.new.sessions r) j.new.events)) }
-    ensures fails { OnErr result ((r : Rest) → Fails (armed_in (P.state p.old)) (seen (P.state p.old) c.now (with_sessions ss.old.sessions r) j.old.events) (order_entries (work_of kind) s.0 n (members_on server.0 (m.now ∷ []))) (seen (P.state p.new) c.now (with_sessions ss.new.sessions r) j.new.events) (refusal_of result)) }
+    ensures leads { OnOk result ((r : Rest) → Leads (world_seen (P.state p.old) c.now (with_sessions ss.old.sessions r) j.old.events) (order_entries (work_of kind) s.0 n (members_on server.0 (m.now ∷ []))) (world_seen (P.state p.new) c.now (with_sessions ss.new.sessions r) j.new.events)) }
+    ensures fails { OnErr result ((r : Rest) → Fails (armed_in (P.state p.old)) (world_seen (P.state p.old) c.now (with_sessions ss.old.sessions r) j.old.events) (order_entries (work_of kind) s.0 n (members_on server.0 (m.now ∷ []))) (world_seen (P.state p.new) c.now (with_sessions ss.new.sessions r) j.new.events) (refusal_of result)) }
     ensures waits { IfOk result (λ waits. waits ≡ waits_in (work_of kind) (sync_seen (P.state p.new) c.now) (members_on server.0 (m.now ∷ []))) }
     ensures kept { OnOk result (is_seal (work_of kind) ≡ true → (q : ℕ) → sync_seen (P.state p.new) c.now q ≡ sync_seen (P.state p.old) c.now q) }
     ensures may { MayOrder (work_of kind) ss.new.sessions s.0 n }

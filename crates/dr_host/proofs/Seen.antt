@@ -4,7 +4,7 @@ use Rattle.std.specs.List.{find}
 use Rattle.std.proofs.lemmas.List.{map-append, length-map}
 use Rattle.std.proofs.Math.Seq.{take-append_seam}
 use Rattle.dr_ids.specs.declared.refusal.Which.TheVariants as limit
-use Rattle.dr_config.specs.Table.{Table}
+use Rattle.dr_config.specs.Table.{ConfigTable}
 use Rattle.dr_model.specs.Limits.{most_pending}
 use Rattle.dr_model.specs.Refusals.{over}
 use Rattle.dr_model.specs.Control as control
@@ -14,59 +14,59 @@ use Rattle.dr_model.specs.Plans as plans
 use Rattle.dr_model.specs.WriteEntries as writes
 use Rattle.dr_host.specs.declared.pending.Pending.{Pending}
 use Rattle.dr_host.specs.Writes.{Writes, number, has_number, is_other, bytes_of, written, marked, issue_refusal, has_owner, has_landed, landed_on}
-use Rattle.dr_host.specs.Seen.{seen}
+use Rattle.dr_host.specs.Seen.{pending_seen}
 use Rattle.dr_host.proofs.Each.{landed_is}
 
 -- one has landed
-pub seen-marked : (n : ℕ) (ps : List Pending) → map seen (marked n ps) ≡ moves.marked n (map seen ps)
+pub seen-marked : (n : ℕ) (ps : List Pending) → map pending_seen (marked n ps) ≡ moves.marked n (map pending_seen ps)
 seen-marked n [] = refl
 seen-marked n (p ∷ ps) =
-    elim (has_number n p) as (λ b. (seen (cond b (landed_is p) p) ∷ map seen (marked n ps)) ≡ cond b (record (seen p) { landed = true }) (seen p) ∷ moves.marked n (map seen ps)) [
-      | true ↦ ap (λ xs. seen (landed_is p) ∷ xs) (seen-marked n ps)
-      | false ↦ ap (λ xs. seen p ∷ xs) (seen-marked n ps)
+    elim (has_number n p) as (λ b. (pending_seen (cond b (landed_is p) p) ∷ map pending_seen (marked n ps)) ≡ cond b (record (pending_seen p) { landed = true }) (pending_seen p) ∷ moves.marked n (map pending_seen ps)) [
+      | true ↦ ap (λ xs. pending_seen (landed_is p) ∷ xs) (seen-marked n ps)
+      | false ↦ ap (λ xs. pending_seen p ∷ xs) (seen-marked n ps)
     ]
 
 -- one is acknowledged
-pub seen-without : (n : ℕ) (ps : List Pending) → map seen (filter (is_other n) ps) ≡ filter (moves.is_other n) (map seen ps)
+pub seen-without : (n : ℕ) (ps : List Pending) → map pending_seen (filter (is_other n) ps) ≡ filter (moves.is_other n) (map pending_seen ps)
 seen-without n [] = refl
 seen-without n (p ∷ ps) =
-    elim (has_number n p) as (λ b. map seen (cond (not b) (p ∷ filter (is_other n) ps) (filter (is_other n) ps)) ≡ cond (not b) (seen p ∷ filter (moves.is_other n) (map seen ps)) (filter (moves.is_other n) (map seen ps))) [
+    elim (has_number n p) as (λ b. map pending_seen (cond (not b) (p ∷ filter (is_other n) ps) (filter (is_other n) ps)) ≡ cond (not b) (pending_seen p ∷ filter (moves.is_other n) (map pending_seen ps)) (filter (moves.is_other n) (map pending_seen ps))) [
       | true ↦ seen-without n ps
-      | false ↦ ap (λ xs. seen p ∷ xs) (seen-without n ps)
+      | false ↦ ap (λ xs. pending_seen p ∷ xs) (seen-without n ps)
     ]
 
 -- one more is issued
 pub seen-push : (ps : List Pending) (n v track offset : ℕ) (bytes : List ℕ)
-    → map seen (ps ++ written n v track offset bytes ∷ []) ≡ map seen ps ++ record { w = n; volume = v; track = track; landed = false } ∷ []
-seen-push ps n v track offset bytes = map-append seen ps (written n v track offset bytes ∷ [])
+    → map pending_seen (ps ++ written n v track offset bytes ∷ []) ≡ map pending_seen ps ++ record { w = n; volume = v; track = track; landed = false } ∷ []
+seen-push ps n v track offset bytes = map-append pending_seen ps (written n v track offset bytes ∷ [])
 
-pub seen-length : (ps : List Pending) → length (map seen ps) ≡ length ps
-seen-length ps = length-map ps seen
+pub seen-length : (ps : List Pending) → length (map pending_seen ps) ≡ length ps
+seen-length ps = length-map ps pending_seen
 
 -- a write is refused where the machine refuses it
-pub seen-refusal : (h : Writes) → issue_refusal h ≡ cond (nat_le most_pending (length (map seen h.pending))) (Some (over limit.Pending)) None
+pub seen-refusal : (h : Writes) → issue_refusal h ≡ cond (nat_le most_pending (length (map pending_seen h.pending))) (Some (over limit.Pending)) None
 seen-refusal h = ap (λ n. cond (nat_le most_pending n) (Some (over limit.Pending)) None) (sym (seen-length h.pending))
 
-pub seen-found : (n : ℕ) (ps : List Pending) → option_map seen (find (has_number n) ps) ≡ find (moves.is_write n) (map seen ps)
+pub seen-found : (n : ℕ) (ps : List Pending) → option_map pending_seen (find (has_number n) ps) ≡ find (moves.is_write n) (map pending_seen ps)
 seen-found n [] = refl
 seen-found n (p ∷ ps) =
-    elim (has_number n p) as (λ b. option_map seen (cond b (Some p) (find (has_number n) ps)) ≡ cond b (Some (seen p)) (find (moves.is_write n) (map seen ps))) [
+    elim (has_number n p) as (λ b. option_map pending_seen (cond b (Some p) (find (has_number n) ps)) ≡ cond b (Some (pending_seen p)) (find (moves.is_write n) (map pending_seen ps))) [
       | true ↦ refl
       | false ↦ seen-found n ps
     ]
 
 -- the first that landed on a volume of the server, where control state and table agree on which volumes are the server's
-first-landed : (t : Table) (k : Control) (s : ℕ) (ps : List Pending) → ((v : ℕ) → writes.belongs k s v ≡ has_owner t v s)
-    → landed_on t s ps ≡ option_map (λ (p : control.Pending). p.w) (find (plans.has_landed k s) (map seen ps))
+first-landed : (t : ConfigTable) (k : Control) (s : ℕ) (ps : List Pending) → ((v : ℕ) → writes.belongs k s v ≡ has_owner t v s)
+    → landed_on t s ps ≡ option_map (λ (p : control.Pending). p.w) (find (plans.has_landed k s) (map pending_seen ps))
 first-landed t k s [] agree = refl
 first-landed t k s (p ∷ ps) agree =
-    elim (has_landed t s p) as (λ b. option_map number (cond b (Some p) (find (has_landed t s) ps)) ≡ option_map (λ (q : control.Pending). q.w) (cond b (Some (seen p)) (find (plans.has_landed k s) (map seen ps)))) [
+    elim (has_landed t s p) as (λ b. option_map number (cond b (Some p) (find (has_landed t s) ps)) ≡ option_map (λ (q : control.Pending). q.w) (cond b (Some (pending_seen p)) (find (plans.has_landed k s) (map pending_seen ps)))) [
       | true ↦ refl
       | false ↦ first-landed t k s ps agree
     ]
-    ∙ ap (λ b. option_map (λ (q : control.Pending). q.w) (cond (p.landed && b) (Some (seen p)) (find (plans.has_landed k s) (map seen ps)))) (sym (agree p.volume.0))
+    ∙ ap (λ b. option_map (λ (q : control.Pending). q.w) (cond (p.landed && b) (Some (pending_seen p)) (find (plans.has_landed k s) (map pending_seen ps)))) (sym (agree p.volume.0))
 
-pub seen-landed : (t : Table) (k : Control) (s : ℕ) (ps : List Pending) → k.pending ≡ map seen ps → ((v : ℕ) → writes.belongs k s v ≡ has_owner t v s)
+pub seen-landed : (t : ConfigTable) (k : Control) (s : ℕ) (ps : List Pending) → k.pending ≡ map pending_seen ps → ((v : ℕ) → writes.belongs k s v ≡ has_owner t v s)
     → landed_on t s ps ≡ plans.landed_on k s
 seen-landed t k s ps is agree = first-landed t k s ps agree ∙ ap (λ qs. option_map (λ (p : control.Pending). p.w) (find (plans.has_landed k s) qs)) (sym is)
 

@@ -6,7 +6,8 @@ use Rattle.std.proofs.lemmas.Bool.Decides.{nat_tests}
 use Rattle.dr_config.proofs.Lists.{none-found}
 use Rattle.dr_host.specs.declared.pending.Pending.{Pending}
 use Rattle.dr_host.proofs.Each.{landed_is, each-marked, each-filter, each-without, each-push, each-widen}
-use Rattle.dr_host.specs.Writes.{Writes, number, has_number, is_other, marked, written, with_write, with_marked, without, IsPending, Each, Ascends, IsSound}
+use Rattle.dr_host.specs.Writes.{Writes, number, has_number, is_other, marked, written, with_write, with_marked, without, IsPending, Each, Ascends, IsSoundHost}
+use Rattle.dr_logic.proofs.Lists.{filter-shorter}
 
 -- ---- the order
 
@@ -25,6 +26,10 @@ ascends-without test (p ∷ ps) h =
       | true ↦ (each-filter (λ q. number p < number q) test ps h.0, ascends-without test ps h.1)
       | false ↦ ascends-without test ps h.1
     ]
+
+pub length-marked : (n : ℕ) (ps : List Pending) → length (marked n ps) ≡ length ps
+length-marked n [] = refl
+length-marked n (p ∷ ps) = ap suc (length-marked n ps)
 
 pub ascends-push : (issued : ℕ) (ps : List Pending) (p : Pending) → Each (IsPending issued) ps → issued < number p → Ascends ps → Ascends (ps ++ p ∷ [])
 ascends-push issued [] p all above h = (tt, tt)
@@ -70,20 +75,10 @@ unmarked-place n xs ps same none = sym (marked-none n ps (none-found (has_number
 
 -- ---- what is true of every host
 
-pub length-marked : (n : ℕ) (ps : List Pending) → length (marked n ps) ≡ length ps
-length-marked n [] = refl
-length-marked n (p ∷ ps) = ap suc (length-marked n ps)
-
-shorter : (test : Pending → Bool) (ps : List Pending) → length (filter test ps) ≤ length ps
-shorter test [] = omega arith
-shorter test (p ∷ ps) =
-    let rest = shorter test ps in
-    elim (test p) as (λ b. length (cond b (p ∷ filter test ps) (filter test ps)) ≤ suc (length ps)) [ true ↦ omega arith | false ↦ omega arith ]
-
 later : (issued : ℕ) (p : Pending) → IsPending issued p → IsPending (issued + 1) p
 later issued p h = let last : number p ≤ issued = h.last in record { first = h.first; last = omega arith; some = h.some; within = h.within }
 
-pub sound-with_write : (h : Writes) (v track offset : ℕ) (bytes : List ℕ) → length h.pending < 64 → 1 ≤ length bytes → offset + length bytes ≤ 64 → IsSound h → IsSound (with_write h v track offset bytes)
+pub sound-with_write : (h : Writes) (v track offset : ℕ) (bytes : List ℕ) → length h.pending < 64 → 1 ≤ length bytes → offset + length bytes ≤ 64 → IsSoundHost h → IsSoundHost (with_write h v track offset bytes)
 sound-with_write h v track offset bytes room some within s =
     let p : Pending = written (h.issued + 1) v track offset bytes in
     let long = length-append h.pending (p ∷ []) in
@@ -95,16 +90,16 @@ sound-with_write h v track offset bytes room some within s =
       order = ascends-push h.issued h.pending p s.each above s.order;
     }
 
-pub sound-marked : (h : Writes) (n : ℕ) → IsSound h → IsSound (with_marked h n)
+pub sound-marked : (h : Writes) (n : ℕ) → IsSoundHost h → IsSoundHost (with_marked h n)
 sound-marked h n s = record {
   few = let few : length h.pending ≤ 64 = s.few in omega (arith, length-marked n h.pending);
   each = each-marked (IsPending h.issued) n h.pending (λ p q. record { first = q.first; last = q.last; some = q.some; within = q.within }) s.each;
   order = ascends-marked n h.pending s.order;
 }
 
-pub sound-without : (h : Writes) (n : ℕ) → IsSound h → IsSound (without h n)
+pub sound-without : (h : Writes) (n : ℕ) → IsSoundHost h → IsSoundHost (without h n)
 sound-without h n s = record {
-  few = let few : length h.pending ≤ 64 = s.few in omega (arith, shorter (is_other n) h.pending);
+  few = let few : length h.pending ≤ 64 = s.few in omega (arith, filter-shorter (is_other n) h.pending);
   each = each-without (IsPending h.issued) n h.pending s.each;
   order = ascends-without (is_other n) h.pending s.order;
 }

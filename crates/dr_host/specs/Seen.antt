@@ -2,5 +2,6 @@
 use Rattle.dr_model.specs.Control as control
 use Rattle.dr_host.specs.declared.pending.Pending.{Pending}
 
-abbrev pub seen : Pending → control.Pending
-seen p = record { w = p.w.0; volume = p.volume.0; track = p.track; landed = p.landed }
+-- its number, place and mark, without its bytes
+abbrev pub pending_seen : Pending → control.Pending
+pending_seen p = record { w = p.w.0; volume = p.volume.0; track = p.track; landed = p.landed }

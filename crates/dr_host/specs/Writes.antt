@@ -5,7 +5,7 @@ use Rattle.std.specs.Option.{option_map_or}
 use Rattle.dr_ids.specs.declared.refusal.Refusal.{Refusal}
 use Rattle.dr_ids.specs.declared.refusal.Refusal.TheVariants.{Limit}
 use Rattle.dr_ids.specs.declared.refusal.Which.TheVariants as limit
-use Rattle.dr_config.specs.Table.{Table, entry_of}
+use Rattle.dr_config.specs.Table.{ConfigTable, entry_of}
 use Rattle.dr_config.specs.declared.entries.VolumeEntry.{VolumeEntry}
 use Rattle.dr_host.specs.declared.pending.Pending.{Pending}
 
@@ -14,12 +14,15 @@ pub record Writes : Type 0 where
   pub issued : ℕ
   pub pending : List Pending
 
+-- the number of a pending write
 abbrev pub number : Pending → ℕ
 number p = p.w.0
 
+-- it is that of number n
 abbrev pub has_number : ℕ → Pending → Bool
 has_number n p = number p == n
 
+-- it is another one
 abbrev pub is_other : ℕ → Pending → Bool
 is_other n p = not (has_number n p)
 
@@ -59,6 +62,7 @@ abbrev pub marked : ℕ → List Pending → List Pending
 marked n [] = []
 marked n (p ∷ ps) = (if has_number n p then record p { landed = true } else p) ∷ marked n ps
 
+-- the host with the write of number n marked
 abbrev pub with_marked : Writes → ℕ → Writes
 with_marked h n = record h { pending = marked n h.pending }
 
@@ -67,15 +71,15 @@ abbrev pub without : Writes → ℕ → Writes
 without h n = record h { pending = filter (is_other n) h.pending }
 
 -- A volume that is defined, and the server's.
-abbrev pub has_owner : Table → ℕ → ℕ → Bool
+abbrev pub has_owner : ConfigTable → ℕ → ℕ → Bool
 has_owner t v server = option_map_or (λ (e : VolumeEntry). nat_eq e.server server) (entry_of t v) false
 
 -- A write that landed on a volume of the server in a stop.
-abbrev pub has_landed : Table → ℕ → Pending → Bool
+abbrev pub has_landed : ConfigTable → ℕ → Pending → Bool
 has_landed t server p = p.landed && has_owner t p.volume.0 server
 
 -- The number of the first of these.
-abbrev pub landed_on : Table → ℕ → List Pending → Option ℕ
+abbrev pub landed_on : ConfigTable → ℕ → List Pending → Option ℕ
 landed_on t server ps = option_map number (find (has_landed t server) ps)
 
 -- A pending write, where so many were issued: it has a number up to there, and its bytes lie within a track.
@@ -96,7 +100,7 @@ Ascends [] = Unit {0}
 Ascends (p ∷ ps) = Each (λ q. number p < number q) ps × Ascends ps
 
 -- What is true of every host.
-pub record IsSound (h : Writes) : Type 0 where
+pub record IsSoundHost (h : Writes) : Type 0 where
   pub few : length h.pending ≤ 64
   pub each : Each (IsPending h.issued) h.pending
   pub order : Ascends h.pending

@@ -2,7 +2,7 @@ ghost use Rattle.std.specs.Prelude.{◌≡◌, ◌+◌, ◌<◌, ◌≤◌, [], 
 ghost use Rattle.std.specs.List.{find};
 ghost use Rattle.std.specs.Option.{option_copied};
 ghost use Rattle.dr_config.specs.Rules.{refusal_of};
-ghost use Rattle.dr_host.specs.Writes.{has_number, issue_refusal, written, with_write, with_marked, without, landed_on, IsSound};
+ghost use Rattle.dr_host.specs.Writes.{has_number, issue_refusal, written, with_write, with_marked, without, landed_on, IsSoundHost};
 
 use crate::pending::{Pending, find_write, first_landed, mark, padded, take_out};
 use dr_config::Config;
@@ -21,13 +21,13 @@ pub struct Host {
 }
 
 impl Model for Host {
-    ghost use Rattle.dr_host.specs.Writes.{Writes, IsSound};
+    ghost use Rattle.dr_host.specs.Writes.{Writes, IsSoundHost};
 
     ghost Value = { Writes };
 
     ghost view = { λ h. record { issued = h.issued; pending = h.pending.items } };
 
-    ghost invariant = { λ h. IsSound (record { issued = h.issued; pending = h.pending.items }) };
+    ghost invariant = { λ h. IsSoundHost (record { issued = h.issued; pending = h.pending.items }) };
 }
 
 impl Host {
@@ -44,7 +44,7 @@ impl Host {
     /// How many writes were issued.
     pub fn issued(&self) -> u32
         ensures count { result ≡ self.now.issued }
-        ensures sound { IsSound self.now }
+        ensures sound { IsSoundHost self.now }
     {
         self.issued
     }

@@ -72,7 +72,7 @@ hex_word_below digits word n is =
     let size : length word ≡ digits = grind (arith, nat_tests, parts.0) in
     rw (← size) (spelled_below 16 word n parts.1)
 
-at_most_up_to : (most : ℕ) (o : Option ℕ) (n : ℕ) → up_to most o ≡ Some n → n ≤ most
+pub at_most_up_to : (most : ℕ) (o : Option ℕ) (n : ℕ) → up_to most o ≡ Some n → n ≤ most
 at_most_up_to most None n is = absurd (cc)
 at_most_up_to most (Some m) n is =
     let parts = chosen (nat_le m most) (Some m) n is in

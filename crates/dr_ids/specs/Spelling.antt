@@ -60,5 +60,6 @@ number_word most word =
 abbrev pub hex2 : ℕ → List ℕ
 hex2 n = upper_digit (n / 16) ∷ upper_digit (n % 16) ∷ []
 
+-- a number in four upper-case hexadecimal digits
 abbrev pub hex4 : ℕ → List ℕ
 hex4 n = hex2 (n / 256) ++ hex2 (n % 256)

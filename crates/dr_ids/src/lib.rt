@@ -1,5 +1,10 @@
 //! Identifiers, the answers of a step and the small types that every layer shares, with the readers
 //! of the words that name them.
+//!
+//! The readers of words give a value exactly for the words of their form: `read_volume`, `read_lss`, `read_session`,
+//! `read_number`. `hex_value` and `upper_hex` are the digit tables. `be16` and `be32` are the numbers that stand in
+//! bytes. `Text::append` adds its piece (`ok`) or leaves the text (`err`), and `Text::bytes` gives all of it.
+//! `blocks_of` is 13 more than the tracks.
 #![tactic(auto)]
 
 mod big_endian;
@@ -12,9 +17,6 @@ mod words;
 pub use big_endian::{be16, be32};
 pub use names::{Attempt, Lss, Member, ServerId, SessionId, VolumeId, WriteId};
 pub use refusal::{Decision, Fault, Kind, PairSeen, PhaseName, Refusal, RelSeen, Which};
-pub use sizes::{MAX_TRACKS, blocks_of};
+pub use sizes::{MAX_TRACKS, MOST_EVENTS, MOST_SERVERS, MOST_VOLUMES, VOLUMES_OF_LSS, blocks_of};
 pub use text_buffer::Text;
 pub use words::{hex_value, read_lss, read_number, read_session, read_volume, upper_hex};
-
-#[cfg(test)]
-mod tests;

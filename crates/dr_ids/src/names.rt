@@ -1,3 +1,7 @@
+ghost use Rattle.std.specs.Prelude.{◌≡◌, ◌/◌};
+
+use crate::sizes::VOLUMES_OF_LSS;
+
 /// A storage server, by its place in the order of definition (0 to 7).
 #[derive(Clone, Copy, PartialEq, Eq)]
 pub struct ServerId(pub u8);
@@ -5,6 +9,15 @@ pub struct ServerId(pub u8);
 /// A volume: the logical subsystem in the high byte, the number within it in the low byte.
 #[derive(Clone, Copy, PartialEq, Eq)]
 pub struct VolumeId(pub u16);
+
+impl VolumeId {
+    /// The logical subsystem in which the volume lies.
+    pub fn lss(self) -> Lss
+        ensures { result.0 ≡ self.0 / 256 }
+    {
+        Lss((self.0 / VOLUMES_OF_LSS) as u8)
+    }
+}
 
 /// A logical subsystem: the volumes whose identifiers share the high byte.
 #[derive(Clone, Copy, PartialEq, Eq)]

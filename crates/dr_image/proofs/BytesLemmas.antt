@@ -5,9 +5,10 @@ use Rattle.std.proofs.lemmas.Bool.Decides.{nat_tests}
 use Rattle.std.proofs.lemmas.Grind.{common_steps}
 use Rattle.std.proofs.lemmas.List.{take_more_set, drop-replicate, drop-drop, drop-set-lt}
 use Rattle.std.specs.Option.{option_map}
-use Rattle.dr_model.specs.Contents.{zeros}
+use Rattle.dr_logic.specs.Bytes.{zeros}
 use Rattle.dr_model.specs.LineWords.{◌>>=◌}
 use Rattle.dr_model.specs.PlantImage.{upper_pair, upper_bytes, ends_kept, kept_of, kept_word}
+use Rattle.dr_facts.proofs.Options.{bound}
 
 pub length-zeros : length zeros ≡ 64
 unfolding zeros
@@ -15,10 +16,6 @@ length-zeros = refl
 
 pub none_read : (word : List ℕ) → upper_bytes word ≡ (upper_bytes word >>= λ more. Some ([] ++ more))
 none_read word = elim (upper_bytes word) as (λ o. o ≡ (o >>= λ more. Some ([] ++ more))) [ None ↦ refl | Some bs ↦ refl ]
-
-pub inverse : {A B : Type 0} (o : Option A) (f : A → Option B) (y : B) → (o >>= f) ≡ Some y → (x : A) × (o ≡ Some x) × (f x ≡ Some y)
-inverse None f y e = cc
-inverse (Some x) f y e = (x, refl, e)
 
 -- the pair of digits at a place, and those behind it
 pair_at : (word : List ℕ) (n : ℕ) → n + 1 < length word
@@ -59,8 +56,8 @@ pub length-upper_bytes : (word bytes : List ℕ) → upper_bytes word ≡ Some b
 length-upper_bytes [] bytes e = let n : bytes ≡ [] = cc in ap (λ b. 2 * length b) (sym n)
 length-upper_bytes (a ∷ []) bytes e = cc
 length-upper_bytes (a ∷ b ∷ rest) bytes e =
-    let pair = inverse (upper_pair a b) _ bytes e in
-    let more = inverse (upper_bytes rest) _ bytes pair.2 in
+    let pair = bound (upper_pair a b) _ bytes e in
+    let more = bound (upper_bytes rest) _ bytes pair.2 in
     let n = length-upper_bytes rest more.0 more.1 in
     let is : pair.0 ∷ more.0 ≡ bytes = (let s = more.2 in cc) in
     let longer : length bytes ≡ suc (length more.0) = sym (ap length is) in

@@ -8,16 +8,17 @@ use Rattle.std.proofs.lemmas.List.Elements.{All-nil, All-cons, All-head, All-tai
 use Rattle.std.proofs.lemmas.List.Quantifiers.{position-Some}
 use Rattle.std.proofs.lemmas.List.Splits.{join_with_byte-slice_split}
 use Rattle.std.proofs.lemmas.Option.{get_or_from_slice_get}
+use Rattle.std.proofs.lemmas.Bool.{and_parts}
 use Rattle.dr_model.specs.PlantImage.{Kept, Volume, Stage, Start, Listing, Filling, Ended, Bad, State, IsKept, IsVolume, IsImage, agrees, can_join, place_of, can_fill, with_block, after_line, or_bad, step, begin, has_source, sourced, checked, finished, is_line_feed, reads, reading, volume_line, block_line, block_lines, image_lines, image_text, ended}
 use Rattle.dr_image.proofs.OrderLemmas.{InOrder, pairs_head, pairs_tail}
 use Rattle.dr_image.proofs.SoundLemmas.{pairs_cons, pairs_nil}
-use Rattle.dr_image.proofs.SpaceLemmas.{not_chosen}
-use Rattle.dr_image.proofs.StateLemmas.{both, all_got, can_fill-place, can_fill-index, can_fill-behind}
-use Rattle.dr_image.proofs.StepLaws.{more, all_from_test, all-with_block, length-with_block, order-push}
-use Rattle.dr_image.proofs.TextLemmas.{ended-append}
+use Rattle.dr_image.proofs.StateLemmas.{all_got, can_fill-place, can_fill-index, can_fill-behind}
+use Rattle.dr_image.proofs.StepLaws.{more, all_from_test, all-with_block, length-with_block, order-push, can_join-few}
 use Rattle.dr_image.proofs.ReadLemmas.{reads-bad, unsourced}
 use Rattle.dr_image.proofs.WordLaws.{IsBlock}
 use Rattle.dr_image.proofs.LineLaws.{IsNew, IsOpen, Came, Begun, Closed, Joined, Filled, came}
+use Rattle.dr_logic.proofs.Choices.{not_chosen}
+use Rattle.dr_facts.proofs.Texts.{ended-append}
 
 -- the lines of volumes and of their blocks
 abbrev pub lines_of : List Volume → List (List ℕ)
@@ -166,13 +167,9 @@ open_from : (stage : Stage) (place : ℕ) → IsOpen stage → from_here stage p
 open_from stage place (inl e) = let is = ap (λ g. from_here g place) e in omega arith
 open_from stage place (inr e) = let is = ap (λ g. from_here g place) e in omega arith
 
-can_join-few : (vs : List Volume) (v : Volume) → can_join vs v ≡ true → length vs < 64
-unfolding can_join
-can_join-few vs v e = let t = (both (nat_lt (length vs) 64) _ e).0 in grind (arith, nat_tests)
-
 pub can_join-apart : (vs : List Volume) (v : Volume) → can_join vs v ≡ true → All (λ x. agrees x v ≡ true) vs
 unfolding can_join
-can_join-apart vs v e = all_from_test (λ (x : Volume). agrees x v) vs (both (nat_lt (length vs) 64) _ e).1
+can_join-apart vs v e = all_from_test (λ (x : Volume). agrees x v) vs (and_parts (nat_lt (length vs) 64) _ e).1
 
 not_start : Start ≡ Listing → ⊥
 not_start e = cc

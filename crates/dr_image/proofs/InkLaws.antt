@@ -10,13 +10,13 @@ use Rattle.std.proofs.lemmas.Grind.{common_steps}
 use Rattle.std.proofs.lemmas.Fmt.{decimal_is_IsNumeral}
 use Rattle.std.proofs.lemmas.List.Elements.{All-nil, All-cons, All-append, All-weaker, All-head, All-tail}
 use Rattle.std.proofs.lemmas.List.Splits.{slice_split_at, slice_split_none}
-use Rattle.dr_ids.specs.Spelling.{upper_digit}
-use Rattle.dr_ids.specs.Spelling.{hex2, hex4}
+use Rattle.std.proofs.lemmas.Bool.{not-true}
+use Rattle.dr_ids.specs.Spelling.{upper_digit, hex2, hex4}
 use Rattle.dr_model.specs.LineText.{bytes_text, spaced}
 use Rattle.dr_model.specs.Text.{trimmed}
 use Rattle.dr_model.specs.Lines.{is_space, words}
 use Rattle.dr_model.specs.PlantImage.{Kept, Volume, IsKept, is_line_feed, volume_line, block_line, block_lines, image_lines}
-use Rattle.dr_image.specs.Sound.{IsSound, IsSoundVolume}
+use Rattle.dr_image.specs.Sound.{IsSoundImage, IsSoundVolume}
 use Rattle.dr_image.proofs.StepLaws.{all_from_test}
 use Rattle.dr_image.proofs.ReadLemmas.{NoLineFeed}
 
@@ -101,14 +101,10 @@ no_feeds-append : (a b : List (List ℕ)) → NoFeeds a → NoFeeds b → NoFeed
 no_feeds-append [] b x y = y
 no_feeds-append (l ∷ ls) b x y = (x.0, no_feeds-append ls b x.1 y)
 
-not_false : (v : Bool) → not v ≡ true → v ≡ false
-not_false true e = sym e
-not_false false e = refl
-
 literal : (w : List ℕ) → list_all (λ b. not (is_line_feed b)) w ≡ true → NoLineFeed w
-literal w e = All-weaker (λ b. not (is_line_feed b) ≡ true) (λ b. is_line_feed b ≡ false) (λ b t. not_false (is_line_feed b) t) w (all_from_test (λ b. not (is_line_feed b)) w e)
+literal w e = All-weaker (λ b. not (is_line_feed b) ≡ true) (λ b. is_line_feed b ≡ false) (λ b t. not-true (is_line_feed b) t) w (all_from_test (λ b. not (is_line_feed b)) w e)
 
-volumes_no_feeds : (vs : List Volume) → IsSound vs → NoFeeds (map volume_line vs)
+volumes_no_feeds : (vs : List Volume) → IsSoundImage vs → NoFeeds (map volume_line vs)
 volumes_no_feeds [] s = tt
 volumes_no_feeds (v ∷ vs) s = (volume_no_feed v (All-head IsSoundVolume v vs s), volumes_no_feeds vs (All-tail IsSoundVolume v vs s))
 
@@ -116,11 +112,11 @@ kept_no_feeds : (id : ℕ) (bs : List Kept) → All (IsKept 65536) bs → NoFeed
 kept_no_feeds id [] k = tt
 kept_no_feeds id (b ∷ bs) k = (block_no_feed id b (All-head (IsKept 65536) b bs k).within, kept_no_feeds id bs (All-tail (IsKept 65536) b bs k))
 
-blocks_no_feeds : (vs : List Volume) → IsSound vs → NoFeeds (flat_map block_lines vs)
+blocks_no_feeds : (vs : List Volume) → IsSoundImage vs → NoFeeds (flat_map block_lines vs)
 blocks_no_feeds [] s = tt
 blocks_no_feeds (v ∷ vs) s = no_feeds-append (block_lines v) (flat_map block_lines vs) (kept_no_feeds v.volume v.blocks (All-head IsSoundVolume v vs s).kept) (blocks_no_feeds vs (All-tail IsSoundVolume v vs s))
 
-pub image_no_feeds : (vs : List Volume) → IsSound vs → NoFeeds (image_lines vs)
+pub image_no_feeds : (vs : List Volume) → IsSoundImage vs → NoFeeds (image_lines vs)
 image_no_feeds vs s =
     no_feeds-append ((codes "image 1" ∷ map volume_line vs) ++ flat_map block_lines vs) (codes "end" ∷ [])
     (no_feeds-append (codes "image 1" ∷ map volume_line vs) (flat_map block_lines vs) (literal (codes "image 1") refl, volumes_no_feeds vs s) (blocks_no_feeds vs s))

@@ -6,9 +6,10 @@ use Rattle.std.proofs.lemmas.Bool.Decides.{nat_tests}
 use Rattle.std.proofs.lemmas.List.Elements.{All-nil, All-cons, All-append}
 use Rattle.std.proofs.lemmas.List.Quantifiers.{position-Some}
 use Rattle.std.proofs.lemmas.List.Splits.{slice_split_at, slice_split_none}
+use Rattle.std.proofs.lemmas.List.{take_all, nil_from_length}
 use Rattle.dr_model.specs.PlantImage.{Volume, Stage, Ended, Bad, State, has_source, sourced, checked, is_line_feed, by_stage, or_bad, step, reads, reading, begin, finished}
 use Rattle.dr_image.specs.Reader.{reads_on}
-use Rattle.dr_image.proofs.SpaceLemmas.{chosen, not_chosen, all_taken}
+use Rattle.dr_logic.proofs.Choices.{not_chosen, chosen}
 
 abbrev pub NoLineFeed : List ℕ → Type 0
 NoLineFeed bs = All (λ b. is_line_feed b ≡ false) bs
@@ -50,7 +51,7 @@ pub without_feed : (rest : List ℕ) → position is_line_feed rest ≡ None →
 without_feed rest e =
     let n : ℕ = position_or_len is_line_feed rest in
     let past = not_chosen (nat_lt n (length rest)) n e in
-    subst NoLineFeed (all_taken rest n (grind (arith, nat_tests, past))) (front_none is_line_feed rest)
+    subst NoLineFeed ((take_all n rest (grind (arith, nat_tests, past)))) (front_none is_line_feed rest)
 
 feed_is : (b : ℕ) → is_line_feed b ≡ true → b ≡ 10
 feed_is b e = grind (arith, nat_tests)
@@ -97,7 +98,7 @@ reads-bad s (last ∷ []) bad = ap (λ g. finished s g last) bad
 reads-bad s (line ∷ next ∷ more) bad =
     ap (λ g. reads (or_bad s (by_stage g s line)) (next ∷ more)) bad ∙ reads-bad (record s { stage = Bad }) (next ∷ more) refl
 
--- so nothing of it need be kept
+-- so nil_from_length of it need be kept
 pub skip-turn : (s : State) (partial rest later : List ℕ) → s.stage ≡ Bad → reads_on s partial later ≡ reads_on s partial (rest ++ later)
 unfolding reads_on
 skip-turn s partial rest later bad = reads-bad s (slice_split is_line_feed (partial ++ later)) bad ∙ sym (reads-bad s (slice_split is_line_feed (partial ++ (rest ++ later))) bad)
@@ -106,12 +107,8 @@ skip-turn s partial rest later bad = reads-bad s (slice_split is_line_feed (part
 abbrev pub unsourced : List Volume → Option ℕ
 unsourced vs = position (λ v. not (has_source vs v)) vs
 
-pub nothing : (bs : List ℕ) → length bs ≡ 0 → bs ≡ []
-nothing [] e = refl
-nothing (b ∷ bs) e = absurd (omega arith)
-
 -- a text that ends as it should, judged by its sources
 pub finished-is : (s : State) (stage : Stage) (partial : List ℕ) (seen : Option ℕ) → stage ≡ Ended → length partial ≡ 0 → unsourced s.volumes ≡ seen → finished s stage partial ≡ sourced s.volumes seen
 unfolding checked
 finished-is s stage partial seen ends empty is =
-    ap (λ g. finished s g partial) ends ∙ ap (finished s Ended) (nothing partial empty) ∙ ap (sourced s.volumes) is
+    ap (λ g. finished s g partial) ends ∙ ap (finished s Ended) (nil_from_length partial empty) ∙ ap (sourced s.volumes) is

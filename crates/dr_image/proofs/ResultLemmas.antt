@@ -1,10 +1,6 @@
 -- Facts on results that hold in any case.
 use Rattle.std.specs.Prelude.{Result, Ok, Err, OnOk, OnErr}
 
-pub always_err : {T E P : Type 0} (r : Result T E) → P → OnErr r P
-always_err (Ok x) p = tt
-always_err (Err e) p = p
-
 pub always_ok : {T E P : Type 0} (r : Result T E) → P → OnOk r P
 always_ok (Ok x) p = p
 always_ok (Err e) p = tt

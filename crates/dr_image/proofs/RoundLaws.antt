@@ -8,16 +8,17 @@ use Rattle.std.proofs.lemmas.Bool.Decides.{nat_tests}
 use Rattle.std.proofs.lemmas.List.{map-append, length-map}
 use Rattle.std.proofs.lemmas.List.Elements.{All-nil, All-cons, All-head, All-tail, All-weaker}
 use Rattle.std.proofs.lemmas.List.Splits.{slice_split_at}
+use Rattle.std.proofs.lemmas.Bool.{not-true, and_parts, and_from}
 use Rattle.dr_ids.specs.Spelling.{hex4}
 use Rattle.dr_model.specs.LineText.{bytes_text}
 use Rattle.dr_model.specs.LineWords.{◌>>=◌}
 use Rattle.dr_model.specs.Text.{trimmed}
 use Rattle.dr_model.specs.Lines.{words}
 use Rattle.dr_model.specs.PlantImage.{Kept, Volume, Placed, Listing, Filling, Ended, Bad, State, IsKept, IsVolume, IsLaid, IsImage, agrees, can_join, join, place_of, can_fill, fill, fill_at, with_block, plain_word, kept_word, volume_of, volume_said, block_said, is_listing, by_words, by_line, by_stage, after_line, or_bad, step, begin, has_source, sourced, checked, finished, is_line_feed, reads, reading, volume_line, block_line, block_lines, image_lines, image_text, ended}
-use Rattle.dr_image.specs.Sound.{IsSound, IsSoundVolume}
+use Rattle.dr_image.specs.Sound.{IsSoundImage, IsSoundVolume}
 use Rattle.dr_image.proofs.OrderLemmas.{InOrder, order_head, order_tail, pairs_head, pairs_tail}
 use Rattle.dr_image.proofs.SoundLemmas.{pairs_nil}
-use Rattle.dr_image.proofs.StateLemmas.{fill-at, both, and_true}
+use Rattle.dr_image.proofs.StateLemmas.{fill-at}
 use Rattle.dr_image.proofs.StepLaws.{more}
 use Rattle.dr_image.proofs.ReadLemmas.{reads-line, unsourced}
 use Rattle.dr_image.proofs.WordLaws.{IsBlock, id_word-hex4, plain_word-decimal, kept_word-text}
@@ -85,7 +86,7 @@ all_bare v (w ∷ ws) h = All-cons (λ (x : Volume). agrees x v ≡ true) w ws (
 
 test_bare : (v : Volume) (vs : List Volume) → All (λ x. agrees x v ≡ true) vs → list_all (λ x. agrees x (bare v)) (map bare vs) ≡ true
 test_bare v [] h = refl
-test_bare v (w ∷ ws) h = and_true (agrees w v) _ (All-head (λ (x : Volume). agrees x v ≡ true) w ws h) (test_bare v ws (All-tail (λ (x : Volume). agrees x v ≡ true) w ws h))
+test_bare v (w ∷ ws) h = and_from (agrees w v) _ (All-head (λ (x : Volume). agrees x v ≡ true) w ws h) (test_bare v ws (All-tail (λ (x : Volume). agrees x v ≡ true) w ws h))
 
 -- the lines of volumes
 
@@ -127,7 +128,7 @@ joins i done ws v is proper =
     let m = length-append done (v ∷ ws) in
     let f = proper.few in
     let few : length (map bare done) < 64 = omega arith in
-    and_true (nat_lt (length (map bare done)) 64) _ (grind (arith, nat_tests, few)) (test_bare v done (apart_mid done v ws (subst (λ (vs : List Volume). AllPairs (λ x y. agrees x y ≡ true) vs) is proper.apart)))
+    and_from (nat_lt (length (map bare done)) 64) _ (grind (arith, nat_tests, few)) (test_bare v done (apart_mid done v ws (subst (λ (vs : List Volume). AllPairs (λ x y. agrees x y ≡ true) vs) is proper.apart)))
 
 limits : (i done ws : List Volume) (v : Volume) → i ≡ done ++ v ∷ ws → IsLaid i → volume_limits v ≡ true
 unfolding volume_limits
@@ -136,9 +137,9 @@ limits i done ws v is proper =
     let a = ok.server in
     let b = ok.some_tracks in
     let c = ok.tracks in
-    and_true (nat_le v.server 7) _ (grind (arith, nat_tests, a)) (and_true (nat_le 1 v.tracks) _ (grind (arith, nat_tests, b)) (grind (arith, nat_tests, c)))
+    and_from (nat_le v.server 7) _ (grind (arith, nat_tests, a)) (and_from (nat_le 1 v.tracks) _ (grind (arith, nat_tests, b)) (grind (arith, nat_tests, c)))
 
-run-volumes : (i done ws : List Volume) → i ≡ done ++ ws → IsSound ws → AllPairs (λ x y. agrees x y ≡ true) done → (s : State) → s.stage ≡ Listing → s.volumes ≡ map bare done → s.place ≡ 0
+run-volumes : (i done ws : List Volume) → i ≡ done ++ ws → IsSoundImage ws → AllPairs (λ x y. agrees x y ≡ true) done → (s : State) → s.stage ≡ Listing → s.volumes ≡ map bare done → s.place ≡ 0
     → Runs i (after s (map volume_line ws)) (IsListed i (after s (map volume_line ws)))
 unfolding volume_limits join
 run-volumes i done [] is sound apart s stage volumes place =
@@ -224,12 +225,8 @@ unfolding with_block
 filled_between [] x back b = refl
 filled_between (w ∷ ws) x back b = ap (λ r. w ∷ r) (filled_between ws x back b)
 
-not_true : (b : Bool) → not b ≡ true → b ≡ false
-not_true true e = sym e
-not_true false e = refl
-
 other : (w v : Volume) → agrees w v ≡ true → nat_eq w.volume v.volume ≡ false
-other w v e = let n = not_true (nat_eq v.volume w.volume) (both (not (nat_eq v.volume w.volume)) _ e).0 in grind (arith, nat_tests, n)
+other w v e = let n = not-true (nat_eq v.volume w.volume) (and_parts (not (nat_eq v.volume w.volume)) _ e).0 in grind (arith, nat_tests, n)
 
 differs : (v : Volume) (front : List Volume) → All (λ w. agrees w v ≡ true) front → All (λ w. nat_eq w.volume v.volume ≡ false) front
 differs v front h = All-weaker (λ (w : Volume). agrees w v ≡ true) (λ (w : Volume). nat_eq w.volume v.volume ≡ false) (λ w e. other w v e) front h
@@ -244,7 +241,7 @@ order_mid : (front : List Kept) (b : Kept) (back : List Kept) → InOrder (front
 order_mid [] b back o = refl
 order_mid (c ∷ cs) b back o =
     let lt = all_mid (λ (x : Kept). c.index < x.index) cs b back (order_head c (cs ++ b ∷ back) o) in
-    and_true (nat_lt c.index b.index) _ (grind (arith, nat_tests, lt)) (order_mid cs b back (order_tail c (cs ++ b ∷ back) o))
+    and_from (nat_lt c.index b.index) _ (grind (arith, nat_tests, lt)) (order_mid cs b back (order_tail c (cs ++ b ∷ back) o))
 
 -- a volume with so many of its blocks
 abbrev pub partly : Volume → List Kept → Volume
@@ -256,8 +253,8 @@ fits_in i done ws v front b back from is blocks low proper =
     let ok : IsVolume v = all_mid IsVolume done v ws (subst (λ (vs : List Volume). All IsVolume vs) is proper.each) in
     let k : IsKept (13 + v.tracks) b = all_mid (IsKept (13 + v.tracks)) front b back (subst (λ (bs : List Kept). All (IsKept (13 + v.tracks)) bs) blocks ok.kept) in
     let w = k.within in
-    and_true (nat_le from (length done)) _ (grind (arith, nat_tests, low))
-    (and_true (nat_lt b.index (13 + v.tracks)) _ (grind (arith, nat_tests, w)) (order_mid front b back (subst InOrder blocks ok.in_order)))
+    and_from (nat_le from (length done)) _ (grind (arith, nat_tests, low))
+    (and_from (nat_lt b.index (13 + v.tracks)) _ (grind (arith, nat_tests, w)) (order_mid front b back (subst InOrder blocks ok.in_order)))
 
 run-one : (i done ws : List Volume) (v : Volume) → i ≡ done ++ v ∷ ws → IsSoundVolume v → AllPairs (λ x y. agrees x y ≡ true) i → (front back : List Kept) → v.blocks ≡ front ++ back
     → (s : State) → IsFilling i (done ++ partly v front ∷ map bare ws) (length done) s
@@ -290,7 +287,7 @@ run-one i done ws v is sound apart front (b ∷ back) blocks s f =
           subst P (sym taken) next
     ] refl
 
-run-blocks : (i done ws : List Volume) → i ≡ done ++ ws → IsSound ws → AllPairs (λ x y. agrees x y ≡ true) i → (s : State) → IsFilling i (done ++ map bare ws) (length done) s
+run-blocks : (i done ws : List Volume) → i ≡ done ++ ws → IsSoundImage ws → AllPairs (λ x y. agrees x y ≡ true) i → (s : State) → IsFilling i (done ++ map bare ws) (length done) s
     → Runs i (after s (flat_map block_lines ws)) (IsFilling i i (length i) (after s (flat_map block_lines ws)))
 run-blocks i done [] is sound apart s f =
     let all : i ≡ done = is ∙ append-nil done in
@@ -334,13 +331,13 @@ step-begin : step begin (codes "image 1") ≡ begun
 unfolding step begun
 step-begin = refl
 
-run-listed : (i : List Volume) → IsSound i → (s : State) → Runs i s (IsListed i s) → Runs i (after s (flat_map block_lines i)) (IsFilling i i (length i) (after s (flat_map block_lines i)))
+run-listed : (i : List Volume) → IsSoundImage i → (s : State) → Runs i s (IsListed i s) → Runs i (after s (flat_map block_lines i)) (IsFilling i i (length i) (after s (flat_map block_lines i)))
 run-listed i sound s (inl bad) = inl (after-bad s (flat_map block_lines i) bad.0, bad.1)
 run-listed i sound s (inr good) =
     let p = good.place in
     run-blocks i [] i refl sound good.apart s (record { stage = inl good.stage; volumes_are = good.volumes; place = omega arith })
 
-pub run-image : (i : List Volume) → IsSound i → Runs i (after begin (image_lines i)) (IsWhole i (after begin (image_lines i)))
+pub run-image : (i : List Volume) → IsSoundImage i → Runs i (after begin (image_lines i)) (IsWhole i (after begin (image_lines i)))
 unfolding begun
 run-image i sound =
     let first : List (List ℕ) = codes "image 1" ∷ map volume_line i in
@@ -353,12 +350,12 @@ run-image i sound =
     (let R : State → Type 0 = λ u. Runs i (after u (codes "end" ∷ [])) (IsWhole i (after u (codes "end" ∷ []))) in
     subst R (sym (after-append begin first blocks)) (run-end i (after (after begin first) blocks) filled))
 
-reading-written : (i : List Volume) → IsSound i → reading (image_text i) ≡ finished (after begin (image_lines i)) (after begin (image_lines i)).stage []
+reading-written : (i : List Volume) → IsSoundImage i → reading (image_text i) ≡ finished (after begin (image_lines i)) (after begin (image_lines i)).stage []
 unfolding reading image_text
 reading-written i sound = reads-lines begin (image_lines i) (image_no_feeds i sound)
 
 -- the image whose text reads as an image is that image
-pub written-reads : (i j : List Volume) → IsSound i → reading (image_text i) ≡ Ok j → j ≡ i
+pub written-reads : (i j : List Volume) → IsSoundImage i → reading (image_text i) ≡ Ok j → j ≡ i
 unfolding checked
 written-reads i j sound e =
     let t : State = after begin (image_lines i) in
@@ -398,7 +395,7 @@ proper-sound v p = record {
 pub proper-reads : (i : List Volume) → IsImage i → reading (image_text i) ≡ Ok i
 unfolding checked
 proper-reads i proper =
-    let sound : IsSound i = All-weaker IsVolume IsSoundVolume proper-sound i proper.laid.each in
+    let sound : IsSoundImage i = All-weaker IsVolume IsSoundVolume proper-sound i proper.laid.each in
     let t : State = after begin (image_lines i) in
     elim (run-image i sound) [
       | inl bad ↦ absurd (bad.1 proper.laid)

@@ -5,7 +5,7 @@ use Rattle.std.proofs.lemmas.Bool.Decides.{nat_tests}
 use Rattle.std.proofs.lemmas.List.Elements.{All-nil, All-cons, All-head, All-tail, All-append, All-weaker, All-filter, filter_passes, All-from_get_or}
 use Rattle.dr_model.specs.PlantImage.{Kept, Volume, IsKept}
 use Rattle.dr_model.specs.Text.{trimmed, before_trimmed}
-use Rattle.dr_image.specs.Sound.{IsSound, IsSoundVolume}
+use Rattle.dr_image.specs.Sound.{IsSoundImage, IsSoundVolume}
 use Rattle.dr_image.specs.Shown.{is_zero, if_kept, put, put_last}
 use Rattle.dr_image.proofs.OrderLemmas.{InOrder, order_head, order_tail, below, above}
 
@@ -102,7 +102,7 @@ put-sound k bytes v s h = record {
   in_order = put-order k bytes v.blocks s.in_order;
 }
 
-pub put_last-sound : (k : ℕ) (bytes : List ℕ) (vs : List Volume) → IsSound vs → (is_zero bytes ≡ false → IsKept 65536 (record { index = k; bytes = bytes })) → IsSound (put_last k bytes vs)
+pub put_last-sound : (k : ℕ) (bytes : List ℕ) (vs : List Volume) → IsSoundImage vs → (is_zero bytes ≡ false → IsKept 65536 (record { index = k; bytes = bytes })) → IsSoundImage (put_last k bytes vs)
 unfolding put_last
 put_last-sound k bytes [] s h = s
 put_last-sound k bytes (v ∷ []) s h = All-cons IsSoundVolume (record v { blocks = put k bytes v.blocks }) [] (put-sound k bytes v (All-head IsSoundVolume v [] s) h) (All-nil IsSoundVolume)
@@ -113,6 +113,6 @@ pub bare-sound : (v s t : ℕ) → v < 65536 → s < 256 → t < 65536 → IsSou
 bare-sound v s t a b c = record { volume = a; server = b; tracks = c; kept = All-nil (IsKept 65536); in_order = pairs_nil (λ (x : Kept) (y : Kept). x.index < y.index) }
 
 -- whether a call succeeded or not
-pub either_sound : {T E : Type 0} (r : Result T E) (new one other : List Volume) → OnOk r (new ≡ one) → OnErr r (new ≡ other) → IsSound one → IsSound other → IsSound new
-either_sound (Ok x) new one other ok err a b = subst IsSound (sym ok) a
-either_sound (Err e) new one other ok err a b = subst IsSound (sym err) b
+pub either_sound : {T E : Type 0} (r : Result T E) (new one other : List Volume) → OnOk r (new ≡ one) → OnErr r (new ≡ other) → IsSoundImage one → IsSoundImage other → IsSoundImage new
+either_sound (Ok x) new one other ok err a b = subst IsSoundImage (sym ok) a
+either_sound (Err e) new one other ok err a b = subst IsSoundImage (sym err) b

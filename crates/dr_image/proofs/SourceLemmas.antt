@@ -4,7 +4,7 @@ use Rattle.std.specs.List.{list_any}
 use Rattle.dr_model.specs.Layout.{Fields, fields}
 use Rattle.dr_model.specs.PlantImage.{Volume, device_blocks, is_source_of, has_source}
 use Rattle.dr_image.specs.Sources.{source_seen}
-use Rattle.dr_image.proofs.SpaceLemmas.{chosen}
+use Rattle.dr_logic.proofs.Choices.{chosen}
 
 -- a relationship whose source is seen
 pub has_source-some : (vs : List Volume) (v : Volume) (s : ℕ) → Some s ≡ source_seen v → has_source vs v ≡ list_any (is_source_of v s) vs

@@ -5,6 +5,7 @@ use Rattle.std.specs.Prelude.{All}
 use Rattle.std.specs.List.{slice_get, list_all}
 use Rattle.std.specs.Option.{is_some, option_map}
 use Rattle.std.proofs.lemmas.Option.{slice_get-map}
+use Rattle.std.proofs.lemmas.Bool.{and_parts}
 use Rattle.dr_model.specs.LineWords.{◌>>=◌}
 use Rattle.dr_model.specs.PlantImage.{Kept, Volume, Placed, State, place_of, can_fill, fill, fill_at, or_bad}
 use Rattle.dr_image.specs.declared.held.Held.{Held}
@@ -48,22 +49,15 @@ pub stepped : (s new : State) (o : Option State) → true ≡ is_some o → new 
 stepped s new None some is = absurd (cc)
 stepped s new (Some t) some is = ap (λ (u : State). record u { line = s.line + 1 }) is
 
-pub both : (a b : Bool) → (a && b) ≡ true → (a ≡ true) × (b ≡ true)
-both true b e = (refl, e)
-both false b e = absurd (cc)
-
-pub and_true : (a b : Bool) → a ≡ true → b ≡ true → (a && b) ≡ true
-and_true a b e f = ap (λ x. x && b) e ∙ f
-
 -- a block that can be filled in: its volume's place, its number, and the blocks before it
 pub can_fill-place : (from p : ℕ) (w : Volume) (b : Kept) → can_fill from p w b ≡ true → from ≤ p
 unfolding can_fill
-can_fill-place from p w b e = let le = (both (nat_le from p) _ e).0 in grind (arith, nat_tests, le)
+can_fill-place from p w b e = let le = (and_parts (nat_le from p) _ e).0 in grind (arith, nat_tests, le)
 
 pub can_fill-index : (from p : ℕ) (w : Volume) (b : Kept) → can_fill from p w b ≡ true → b.index < 13 + w.tracks
 unfolding can_fill
-can_fill-index from p w b e = let lt = (both (nat_lt b.index (13 + w.tracks)) _ (both (nat_le from p) _ e).1).0 in grind (arith, nat_tests, lt)
+can_fill-index from p w b e = let lt = (and_parts (nat_lt b.index (13 + w.tracks)) _ (and_parts (nat_le from p) _ e).1).0 in grind (arith, nat_tests, lt)
 
 pub can_fill-behind : (from p : ℕ) (w : Volume) (b : Kept) → can_fill from p w b ≡ true → list_all (λ c. nat_lt c.index b.index) w.blocks ≡ true
 unfolding can_fill
-can_fill-behind from p w b e = (both (nat_lt b.index (13 + w.tracks)) _ (both (nat_le from p) _ e).1).1
+can_fill-behind from p w b e = (and_parts (nat_lt b.index (13 + w.tracks)) _ (and_parts (nat_le from p) _ e).1).1

@@ -4,18 +4,19 @@ use Rattle.std.specs.Prelude.{All}
 use Rattle.std.specs.List.{list_all, slice_get}
 use Rattle.std.proofs.lemmas.Bool.Decides.{nat_tests}
 use Rattle.std.proofs.lemmas.List.Elements.{All-nil, All-cons, All-head, All-tail, All-push, All-weaker}
+use Rattle.std.proofs.lemmas.Bool.{and_parts}
 use Rattle.dr_model.specs.PlantImage.{Kept, Volume, Stage, Start, Listing, Filling, Ended, Bad, State, IsKept, can_join, can_fill, with_block, after_line, or_bad, step}
-use Rattle.dr_image.specs.Sound.{IsSound, IsSoundVolume, IsRead}
+use Rattle.dr_image.specs.Sound.{IsSoundImage, IsSoundVolume, IsRead}
 use Rattle.dr_image.specs.Reader.{IsState, kept_count, other_lines}
 use Rattle.dr_image.proofs.OrderLemmas.{InOrder, order_head, order_tail}
 use Rattle.dr_image.proofs.SoundLemmas.{order_append, pairs_cons, pairs_nil}
-use Rattle.dr_image.proofs.StateLemmas.{both, all_got, can_fill-index, can_fill-behind}
+use Rattle.dr_image.proofs.StateLemmas.{all_got, can_fill-index, can_fill-behind}
 use Rattle.dr_image.proofs.WordLaws.{IsBlock}
 use Rattle.dr_image.proofs.LineLaws.{IsNew, IsOpen, Came, Begun, Closed, Joined, Filled, came}
 
 pub all_from_test : {X : Type 0} (p : X → Bool) (xs : List X) → list_all p xs ≡ true → All (λ x. p x ≡ true) xs
 all_from_test p [] e = All-nil (λ x. p x ≡ true)
-all_from_test p (x ∷ xs) e = let h = both (p x) (list_all p xs) e in All-cons (λ y. p y ≡ true) x xs h.0 (all_from_test p xs h.1)
+all_from_test p (x ∷ xs) e = let h = and_parts (p x) (list_all p xs) e in All-cons (λ y. p y ≡ true) x xs h.0 (all_from_test p xs h.1)
 
 -- the volume that gets a block more
 abbrev pub more : Volume → Kept → Volume
@@ -95,9 +96,9 @@ read-with_block vs from p w b r at block fits =
       tracks = all-with_block (λ (v : Volume). v.tracks ≤ 256) vs p w b at few r.tracks;
     }
 
-can_join-few : (vs : List Volume) (v : Volume) → can_join vs v ≡ true → length vs < 64
+pub can_join-few : (vs : List Volume) (v : Volume) → can_join vs v ≡ true → length vs < 64
 unfolding can_join
-can_join-few vs v e = let t = (both (nat_lt (length vs) 64) _ e).0 in grind (arith, nat_tests)
+can_join-few vs v e = let t = (and_parts (nat_lt (length vs) 64) _ e).0 in grind (arith, nat_tests)
 
 came-state : (s t : State) (line : List ℕ) → IsState s → Came s line t → IsState (record t { line = s.line + 1 })
 came-state s t line i (Begun stage is t_is) =
@@ -155,7 +156,7 @@ few_kept v s =
     let h = ascends 0 65536 v.blocks s.in_order (all_low v.blocks) (All-weaker (IsKept 65536) (λ (b : Kept). b.index < 65536) (λ b k. k.within) v.blocks s.kept) (omega arith) in
     omega arith
 
-kept_count-most : (vs : List Volume) → IsSound vs → kept_count vs ≤ 65536 * length vs
+kept_count-most : (vs : List Volume) → IsSoundImage vs → kept_count vs ≤ 65536 * length vs
 kept_count-most [] s = omega arith
 kept_count-most (v ∷ vs) s = let h = few_kept v (All-head IsSoundVolume v vs s) in let i = kept_count-most vs (All-tail IsSoundVolume v vs s) in omega arith
 

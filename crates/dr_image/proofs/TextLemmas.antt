@@ -9,10 +9,7 @@ use Rattle.dr_model.specs.PlantImage.{Volume, volume_line, block_lines, ended, i
 use Rattle.dr_image.specs.declared.held.Held.{Held}
 use Rattle.dr_image.specs.Shown.{shown, all_shown}
 use Rattle.dr_model.specs.Text.{trimmed, before_trimmed}
-
-pub ended-append : (a b : List (List ℕ)) → ended (a ++ b) ≡ ended a ++ ended b
-ended-append [] b = refl
-ended-append (l ∷ ls) b = ap (λ t. l ++ 10 ∷ t) (ended-append ls b) ∙ sym (append_assoc l (10 ∷ ended ls) (ended b))
+use Rattle.dr_facts.proofs.Texts.{trimmed-zero, trimmed-kept, ended-append}
 
 left_to_right : (t command a b c : List ℕ) → (((((((t ++ command) ++ codes " ") ++ a) ++ codes " ") ++ b) ++ codes " ") ++ c) ++ 10 ∷ []
     ≡ t ++ (command ++ (codes " " ++ (a ++ (codes " " ++ (b ++ (codes " " ++ (c ++ 10 ∷ [])))))))
@@ -28,20 +25,6 @@ pub line-written : (t t1 t2 t3 t4 t5 command a b c : List ℕ) → t1 ≡ t ++ c
 line-written t t1 t2 t3 t4 t5 command a b c e1 e2 e3 e4 e5 =
     e5 ∙ ap (λ x. x ++ 10 ∷ []) (e4 ∙ ap (λ x. x ++ codes " " ++ c) (e3 ∙ ap (λ x. x ++ codes " " ++ b) (e2 ∙ ap (λ x. x ++ codes " " ++ a) e1)))
     ∙ left_to_right t command a b c ∙ ap (λ r. t ++ (command ++ r)) (sym (words_of_line a b c (10 ∷ []))) ∙ ap (λ r. t ++ r) (sym (append_assoc command (spaced (a ∷ b ∷ c ∷ [])) (10 ∷ [])))
-
--- a zero at the end is trimmed
-trimmed-zero : (bs : List ℕ) → trimmed (bs ++ 0 ∷ []) ≡ trimmed bs
-trimmed-zero [] = refl
-trimmed-zero (b ∷ bs) = ap (before_trimmed b) (trimmed-zero bs)
-
-onto-push : (x b : ℕ) (xs : List ℕ) → before_trimmed x (xs ++ b ∷ []) ≡ x ∷ xs ++ b ∷ []
-onto-push x b [] = refl
-onto-push x b (y ∷ ys) = refl
-
--- and nothing where the last byte isn't zero
-trimmed-kept : (bs : List ℕ) (b : ℕ) → nat_eq b 0 ≡ false → trimmed (bs ++ b ∷ []) ≡ bs ++ b ∷ []
-trimmed-kept [] b e = ap (λ v. if v then [] else b ∷ []) e
-trimmed-kept (x ∷ xs) b e = ap (before_trimmed x) (trimmed-kept xs b e) ∙ onto-push x b xs
 
 pub trim-one : (bs : List ℕ) (n : ℕ) → n < length bs → get_or bs n 0 ≡ 0 → trimmed (take (n + 1) bs) ≡ trimmed (take n bs)
 trim-one bs n lt z = ap trimmed (take_more bs n 0 lt ∙ ap (λ b. take n bs ++ b ∷ []) z) ∙ trimmed-zero (take n bs)

@@ -9,14 +9,15 @@ use Rattle.std.proofs.lemmas.Grind.{common_steps}
 use Rattle.std.proofs.lemmas.Fmt.{decimal_is_IsNumeral, decimal-digits_value, length-decimal-le, first_decimal, decimal_digit}
 use Rattle.std.proofs.lemmas.Str.Parse.{IsNumeralModel}
 use Rattle.std.proofs.lemmas.List.Elements.{All-nil, All-cons, All-head, All-tail, All-append, All-replicate}
-use Rattle.dr_ids.specs.Spelling.{digit_in, upper_digit, spelled, all_digits, up_to}
+use Rattle.std.proofs.lemmas.Bool.{not-true, and_parts}
+use Rattle.dr_ids.specs.Spelling.{digit_in, upper_digit, spelled, all_digits, up_to, hex2, hex4}
 use Rattle.dr_ids.proofs.Digits.{digit_in-upper_digit, digits_each, spelled_some}
-use Rattle.dr_ids.specs.Spelling.{hex2, hex4}
 use Rattle.dr_model.specs.LineText.{bytes_text}
 use Rattle.dr_model.specs.LineWords.{◌>>=◌, decimal_word}
 use Rattle.dr_model.specs.Text.{trimmed, before_trimmed}
 use Rattle.dr_model.specs.PlantImage.{upper_value, upper_pair, upper_bytes, id_word, has_leading_zero, plain_word, ends_kept, kept_of, kept_word}
-use Rattle.dr_image.proofs.BytesLemmas.{inverse, padded}
+use Rattle.dr_image.proofs.BytesLemmas.{padded}
+use Rattle.dr_facts.proofs.Options.{bound}
 
 -- a choice that gave a value
 pub passed : {X : Type 0} (test : Bool) (o : Option X) (y : X) → (if test then o else None) ≡ Some y → (test ≡ true) × (o ≡ Some y)
@@ -48,8 +49,8 @@ upper_value-digit n lt =
 -- bytes
 pub upper_pair-is : (a b n : ℕ) → upper_pair a b ≡ Some n → (a ∷ b ∷ [] ≡ hex2 n) × (n < 256)
 upper_pair-is a b n e =
-    let h = inverse (upper_value a) _ n e in
-    let l = inverse (upper_value b) _ n h.2 in
+    let h = bound (upper_value a) _ n e in
+    let l = bound (upper_value b) _ n h.2 in
     let hi = upper_value-is a h.0 h.1 in
     let lo = upper_value-is b l.0 l.1 in
     let small_h : h.0 < 16 = hi.1 in
@@ -69,8 +70,8 @@ pub upper_bytes-is : (w bs : List ℕ) → upper_bytes w ≡ Some bs → (w ≡ 
 upper_bytes-is [] bs e = let none : [] ≡ bs = cc in (ap bytes_text none, subst (λ (xs : List ℕ). All (λ b. b < 256) xs) none (All-nil (λ b. b < 256)))
 upper_bytes-is (a ∷ []) bs e = absurd (cc)
 upper_bytes-is (a ∷ b ∷ rest) bs e =
-    let first = inverse (upper_pair a b) _ bs e in
-    let more = inverse (upper_bytes rest) _ bs first.2 in
+    let first = bound (upper_pair a b) _ bs e in
+    let more = bound (upper_bytes rest) _ bs first.2 in
     let pair = upper_pair-is a b first.0 first.1 in
     let others = upper_bytes-is rest more.0 more.1 in
     let is : first.0 ∷ more.0 ≡ bs = (let s = more.2 in cc) in
@@ -90,8 +91,8 @@ id_word-is (a ∷ b ∷ []) v e = absurd (cc)
 id_word-is (a ∷ b ∷ c ∷ []) v e = absurd (cc)
 id_word-is (a ∷ b ∷ c ∷ d ∷ x ∷ xs) v e = absurd (cc)
 id_word-is (a ∷ b ∷ c ∷ d ∷ []) v e =
-    let h = inverse (upper_pair a b) _ v e in
-    let l = inverse (upper_pair c d) _ v h.2 in
+    let h = bound (upper_pair a b) _ v e in
+    let l = bound (upper_pair c d) _ v h.2 in
     let hi = upper_pair-is a b h.0 h.1 in
     let lo = upper_pair-is c d l.0 l.1 in
     let small_h : h.0 < 256 = hi.1 in
@@ -157,15 +158,6 @@ plain_word-decimal n lt =
     ∙ ap (up_to (2 ^ 32 - 1)) (spelled_some 10 (decimal n) p.0.1 ∙ ap Some p.1)
     ∙ ap (λ v. if v then Some n else None) fits
 
--- blocks
-passed_both : (a b : Bool) → (a && b) ≡ true → (a ≡ true) × (b ≡ true)
-passed_both true b e = (refl, e)
-passed_both false b e = absurd (cc)
-
-not_false : (v : Bool) → not v ≡ true → v ≡ false
-not_false true e = sym e
-not_false false e = refl
-
 all_front : (xs ys : List ℕ) → All (λ x. x < 256) (xs ++ ys) → All (λ x. x < 256) xs
 all_front [] ys all = All-nil (λ x. x < 256)
 all_front (x ∷ xs) ys all = All-cons (λ y. y < 256) x xs (All-head (λ y. y < 256) x (xs ++ ys) all) (all_front xs ys (All-tail (λ y. y < 256) x (xs ++ ys) all))
@@ -184,7 +176,7 @@ trimmed-zeros (suc n) = ap (before_trimmed 0) (trimmed-zeros n)
 pub trimmed-ends : (bs : List ℕ) (n : ℕ) → ends_kept bs ≡ true → trimmed (bs ++ replicate n 0) ≡ bs
 trimmed-ends [] n e = absurd (cc)
 trimmed-ends (b ∷ []) n e =
-    let some : nat_eq b 0 ≡ false = not_false (nat_eq b 0) e in
+    let some : nat_eq b 0 ≡ false = not-true (nat_eq b 0) e in
     ap (before_trimmed b) (trimmed-zeros n) ∙ ap (λ v. if v then [] else b ∷ []) some
 trimmed-ends (b ∷ c ∷ cs) n e = ap (before_trimmed b) (trimmed-ends (c ∷ cs) n e)
 
@@ -240,10 +232,10 @@ kept_word-text b is =
 
 pub kept_word-is : (w b : List ℕ) → kept_word w ≡ Some b → (w ≡ bytes_text (trimmed b)) × IsBlock b
 kept_word-is w b e =
-    let p = inverse (upper_bytes w) kept_of b e in
+    let p = bound (upper_bytes w) kept_of b e in
     let bs : List ℕ = p.0 in
     let q = passed (nat_le (length bs) 64 && ends_kept bs) (Some (padded bs)) b p.2 in
-    let t = passed_both (nat_le (length bs) 64) (ends_kept bs) q.0 in
+    let t = and_parts (nat_le (length bs) 64) (ends_kept bs) q.0 in
     let few : length bs ≤ 64 = (let f = t.0 in grind (arith, nat_tests)) in
     let is : padded bs ≡ b = (let s = q.1 in cc) in
     let same : trimmed b ≡ bs = ap trimmed (sym is) ∙ trimmed-ends bs (64 - length bs) t.1 in

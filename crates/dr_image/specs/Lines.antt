@@ -26,9 +26,11 @@ abbrev pub IsNext : List (List ℕ) → Option (Bor (List ℕ) × Option (Bor (L
 IsNext words None = words ≡ []
 IsNext words (Some next) = words ≡ next.0.now ∷ words_after next.1
 
+-- a block with the volume that its line names
 abbrev pub placed : Said → Placed
 placed said = record { volume = said.volume.0; block = record { index = said.index; bytes = said.bytes } }
 
+-- what kind of line came last
 abbrev pub stage_of : Seen → Stage
 stage_of SeenStart = Start
 stage_of SeenListing = Listing

@@ -19,6 +19,7 @@ abbrev pub EndsFault : Bool → Result (List Volume) ℕ → ImageFault → Type
 EndsFault failed reading NoMemory = failed ≡ true
 EndsFault failed reading (BadImage line) = (failed ≡ false) × (reading ≡ Err line)
 
+-- what a reader answers as it is finished
 abbrev pub EndsAs : Bool → Result (List Volume) ℕ → Result (List Volume) ImageFault → Type 0
 EndsAs failed reading (Ok image) = (failed ≡ false) × (reading ≡ Ok image)
 EndsAs failed reading (Err fault) = EndsFault failed reading fault

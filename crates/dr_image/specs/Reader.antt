@@ -14,6 +14,7 @@ pub record Reader : Type 0 where
 unfoldable pub reads_on : State → List ℕ → List ℕ → Result (List Volume) ℕ
 reads_on s partial rest = reads s (slice_split is_line_feed (partial ++ rest))
 
+-- by the fields of a reader
 abbrev pub will_read : Reader → List ℕ → Result (List Volume) ℕ
 will_read r rest = reads_on r.state r.partial rest
 
@@ -36,6 +37,7 @@ pub record IsState (s : State) : Type 0 where
   pub few : length s.volumes ≤ 64
   pub line : s.line ≤ other_lines s.stage + length s.volumes + kept_count s.volumes
 
+-- its lines so far fit an image, and its unfinished line has no line feed
 pub record IsReader (r : Reader) : Type 0 where
   pub state : IsState r.state
   pub partial : All (λ b. is_line_feed b ≡ false) r.partial

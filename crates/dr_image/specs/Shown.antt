@@ -1,7 +1,7 @@
 -- What the kept volumes and blocks show.
 use Rattle.std.specs.Prelude.{ℕ, Bool, false, List, [], ◌∷◌, ◌++◌, map, filter, nat_eq, nat_le, nat_lt, Option, Some, None, if◌then◌else◌}
 use Rattle.std.specs.List.{list_all, slice_get, position_or_len}
-use Rattle.dr_model.specs.Contents.{zeros}
+use Rattle.dr_logic.specs.Bytes.{zeros}
 use Rattle.dr_model.specs.PlantImage.{Kept, Volume, block_in}
 use Rattle.dr_image.specs.declared.held.ImageVolume.{ImageVolume}
 use Rattle.dr_image.specs.declared.held.KeptBlock.{KeptBlock}
@@ -11,15 +11,19 @@ use Rattle.dr_image.specs.declared.held.Held.{Held}
 abbrev pub bare : ImageVolume → Volume
 bare v = record { volume = v.volume.0; server = v.server; tracks = v.tracks; blocks = [] }
 
+-- a block of an image as the model has it
 abbrev pub kept : KeptBlock → Kept
 kept b = record { index = b.index; bytes = b.bytes }
 
+-- blocks, in order
 abbrev pub all_kept : List KeptBlock → List Kept
 all_kept bs = map kept bs
 
+-- a volume with its blocks
 abbrev pub shown : Held → Volume
 shown h = record { volume = h.volume.volume.0; server = h.volume.server; tracks = h.volume.tracks; blocks = all_kept h.blocks.items }
 
+-- volumes, in order
 abbrev pub all_shown : List Held → List Volume
 all_shown hs = map shown hs
 
@@ -50,6 +54,7 @@ abbrev pub block_of_one : Option Volume → ℕ → List ℕ
 block_of_one None k = zeros
 block_of_one (Some v) k = block_in v.blocks k
 
+-- block k of the volume at place i
 abbrev pub block_at : List Volume → ℕ → ℕ → List ℕ
 block_at vs i k = block_of_one (slice_get vs i) k
 
@@ -57,6 +62,7 @@ block_at vs i k = block_of_one (slice_get vs i) k
 abbrev pub place : ℕ → List Kept → ℕ
 place k bs = position_or_len (λ b. nat_le k b.index) bs
 
+-- the block at a place is that of number k
 abbrev pub has_number : ℕ → Option Kept → Bool
 has_number k None = false
 has_number k (Some b) = nat_eq b.index k

@@ -10,10 +10,11 @@ pub record IsSoundVolume (v : Volume) : Type 0 where
   pub kept : All (IsKept 65536) v.blocks
   pub in_order : AllPairs (λ b c. b.index < c.index) v.blocks
 
-abbrev pub IsSound : List Volume → Type 0
-IsSound vs = All IsSoundVolume vs
+-- so is each volume of an image
+abbrev pub IsSoundImage : List Volume → Type 0
+IsSoundImage vs = All IsSoundVolume vs
 
 -- the volumes of an image that is read: none has more than 256 tracks
 pub record IsRead (vs : List Volume) : Type 0 where
-  pub sound : IsSound vs
+  pub sound : IsSoundImage vs
   pub tracks : All (λ v. v.tracks ≤ 256) vs

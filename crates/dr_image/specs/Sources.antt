@@ -7,5 +7,6 @@ use Rattle.dr_model.specs.PlantImage.{Volume, device_blocks}
 abbrev pub source_in : Fields → Option ℕ
 source_in f = if f.related then Some f.source else None
 
+-- by what its blocks give
 abbrev pub source_seen : Volume → Option ℕ
 source_seen v = source_in (fields v.tracks (device_blocks v))

@@ -2,10 +2,10 @@
 
 ghost use Rattle.std.specs.Prelude.{◌≡◌, ◌<◌, ◌++◌, ◌∷◌, [], nat_le, nat_lt, ◌≤◌, suc, take, drop, vec_len, AllPairs, OnOk, OnErr};
 ghost use Rattle.std.specs.List.{list_all, position};
-ghost use Rattle.dr_model.specs.Contents.{zeros};
+ghost use Rattle.dr_logic.specs.Bytes.{zeros};
 ghost use Rattle.dr_model.specs.PlantImage.{block_in, with_block};
 ghost use Rattle.dr_image.specs.Shown.{all_kept, all_shown, bare, is_zero, if_kept, place, stands_at, put, put_last};
-ghost use Rattle.dr_image.specs.Sound.{IsSound};
+ghost use Rattle.dr_image.specs.Sound.{IsSoundImage};
 
 use dr_ids::VolumeId;
 use std::alloc::{AllocError, Global};
@@ -33,7 +33,7 @@ pub struct Held {
 }
 
 /// A block of zeros.
-#[tactic(auto, unfolding(dr_model::specs::Contents::zeros))]
+#[tactic(auto, unfolding(dr_logic::specs::Bytes::zeros))]
 pub fn zero_block() -> [u8; 64]
     ensures { result ≡ zeros }
 {
@@ -107,7 +107,7 @@ pub fn push_kept(
 /// Puts a block on the device of the last volume.
 pub fn put_last(volumes: &mut Vec<Held>, index: u16, bytes: &[u8; 64]) -> Result<(), AllocError>
     requires some { 0 < vec_len volumes.old }
-    requires sound { IsSound (all_shown volumes.old.items) }
+    requires sound { IsSoundImage (all_shown volumes.old.items) }
     ensures ok { OnOk result (all_shown volumes.new.items ≡ put_last index bytes.now (all_shown volumes.old.items)) }
     ensures err { OnErr result (all_shown volumes.new.items ≡ all_shown volumes.old.items) }
 {

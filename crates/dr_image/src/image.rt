@@ -25,11 +25,11 @@ impl Model for Image {
     ghost Value = { List Volume };
 
     ghost use Rattle.dr_image.specs.Shown.{all_shown};
-    ghost use Rattle.dr_image.specs.Sound.{IsSound};
+    ghost use Rattle.dr_image.specs.Sound.{IsSoundImage};
 
     ghost view = { λ i. all_shown i.volumes.items };
 
-    ghost invariant = { λ i. IsSound (all_shown i.volumes.items) };
+    ghost invariant = { λ i. IsSoundImage (all_shown i.volumes.items) };
 }
 
 impl Image {

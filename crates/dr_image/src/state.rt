@@ -11,7 +11,7 @@ ghost use Rattle.dr_image.specs.Lines.{placed, stage_of, state_of, Takes};
 use crate::held::{Held, ImageVolume, is_behind, push_held, push_kept};
 use crate::said::{Placed, block_said, volume_said};
 use crate::words::split_word;
-use dr_ids::VolumeId;
+use dr_ids::{MOST_VOLUMES, VolumeId};
 use std::alloc::{AllocError, Global};
 
 /// What has come: nothing, volumes, blocks, the end; or a line that can't stand.
@@ -23,9 +23,6 @@ pub enum Stage {
     Ended,
     Bad,
 }
-
-/// The most volumes of an image.
-const MOST_VOLUMES: usize = 64;
 
 /// The lines so far.
 #[derive(Drop)]

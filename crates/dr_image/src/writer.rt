@@ -7,7 +7,7 @@ ghost use Rattle.dr_ids.specs.Spelling.{hex2, hex4};
 ghost use Rattle.dr_model.specs.LineText.{bytes_text};
 ghost use Rattle.dr_model.specs.Text.{trimmed};
 ghost use Rattle.dr_model.specs.PlantImage.{volume_line, block_line, block_lines, ended, image_text, reading, Volume, IsImage};
-ghost use Rattle.dr_image.specs.Sound.{IsSound};
+ghost use Rattle.dr_image.specs.Sound.{IsSoundImage};
 ghost use Rattle.dr_image.specs.Shown.{kept, shown, all_shown};
 
 use crate::held::{Held, KeptBlock};
@@ -126,7 +126,7 @@ fn push_all_blocks(alloc: Global, text: &mut Text, volumes: &[Held]) -> Result<(
 
 fn write_whole(alloc: Global, i: &Image) -> Result<Text, AllocError>
     ensures text { IfOk result (λ text. text ≡ image_text i.now) }
-    ensures sound { IsSound i.now }
+    ensures sound { IsSoundImage i.now }
 {
     let volumes = i.volumes.as_slice();
     let mut text = Text::new(alloc);

@@ -5,12 +5,13 @@ use Rattle.std.specs.List.{range_with_len}
 use Rattle.std.specs.Cmp.{nat_cmp_total}
 use Rattle.std.specs.FinSet.{contains, insert, remove, union, len, len-insert}
 use Rattle.std.proofs.lemmas.Bool.Decides.{eqb_tells, nat_tests}
+use Rattle.std.proofs.lemmas.Bool.{or_parts}
+use Rattle.dr_logic.specs.Bytes.{zeros}
 use Rattle.dr_bits.specs.Tracks.{Tracks}
 use Rattle.dr_bits.proofs.Laws.{same_tracks, contains-insert_tracks, contains-remove_tracks, contains-union_tracks}
 use Rattle.dr_plant.specs.State.{PlantState}
-use Rattle.dr_config.specs.Table.{Table, place_of}
+use Rattle.dr_config.specs.Table.{ConfigTable, place_of}
 use Rattle.dr_config.specs.declared.entries.VolumeEntry.{VolumeEntry}
-use Rattle.dr_model.specs.Contents.{zeros}
 use Rattle.dr_model.specs.Control.{Volume}
 use Rattle.dr_model.specs.Layout.{Blocks, Fields, physical}
 use Rattle.dr_model.specs.Moves.{tracks_after}
@@ -26,66 +27,29 @@ use Rattle.dr_flash.specs.Views.{view_seen}
 use Rattle.dr_model.specs.Pairs.{altered}
 use Rattle.dr_incr.specs.Copies.{HoldsUnchanged, BlankAreZeros, Restores}
 use Rattle.dr_incr.specs.Steps.{HasFitSets}
-use Rattle.dr_incr.proofs.RestoreLemmas.{remove-held, union-held}
-use Rattle.dr_incr.proofs.TargetLemmas.{TargetOf, neither}
-
--- past its last track a volume reads zeros
-past-on : (blocks : Blocks) (o : Option VolumeEntry) (k : ℕ) → nat_lt k (volume_on blocks o).tracks ≡ false → track_on blocks o k ≡ zeros
-past-on blocks None k h = refl
-past-on blocks (Some e) k h = ap (λ b. if b then physical e.tracks blocks k else zeros) h
-
-past-at : (s : PlantState) (t : Table) (o : Option ℕ) (k : ℕ) → nat_lt k (volume_at s t o).tracks ≡ false → track_at s t o k ≡ zeros
-past-at s t None k h = refl
-past-at s t (Some d) k h = past-on (s.block d) (slice_get t.volumes d) k h
-
--- a set without tracks holds none
-contains-bare : (s : Tracks) (q : ℕ) → is_bare s ≡ true → contains s q ≡ false
-contains-bare s q bare = elim (contains s q) as (λ b. contains s q ≡ b → b ≡ false) [
-  | false ↦ λ missing. refl
-  | true ↦ λ held. absurd (more held)
-] refl
-  where
-    whole : contains s q ≡ true → insert (remove s q) q ≡ s
-    whole held = same_tracks _ _ (λ k. contains-insert_tracks (remove s q) q k ∙ ap (λ b. nat_eq k q || b) (contains-remove_tracks s q k) ∙ elim (eqb_tells k q) as (λ _. (nat_eq k q || (not (nat_eq k q) && contains s k)) ≡ contains s k) [
-      | inl p ↦ ap (λ b. b || (not b && contains s k)) p.0 ∙ sym (ap (contains s) p.1 ∙ held)
-      | inr p ↦ ap (λ b. b || (not b && contains s k)) p.0
-    ])
-
-    gone : contains (remove s q) q ≡ false
-    gone = contains-remove_tracks s q q ∙ ap (λ b. not b && contains s q) (same-test q q refl)
-
-    more : contains s q ≡ true → ⊥
-    more held =
-        let one : len (insert (remove s q) q) ≡ len (remove s q) + 1 = len-insert nat_cmp_total (remove s q) q ∙ ap (λ b. cond b (len (remove s q)) (len (remove s q) + 1)) gone in
-        let all : len (insert (remove s q) q) ≡ len s = ap len (whole held) in
-        let none : len s ≡ 0 = grind (arith, nat_tests, bare) in
-        omega (arith, one, all, none)
-
--- the lowest track of a set is one of them
-first-held : (f : ℕ → Bool) (k : ℕ) (xs : List ℕ) → slice_get (filter f xs) 0 ≡ Some k → f k ≡ true
-first-held f k [] h = absurd cc
-first-held f k (x ∷ xs) h = by (f x) refl (first-held f k xs) h
-  where
-    by : (b : Bool) → f x ≡ b → (slice_get (filter f xs) 0 ≡ Some k → f k ≡ true) → slice_get (cond b (x ∷ filter f xs) (filter f xs)) 0 ≡ Some k → f k ≡ true
-    by true is on h = let same : x ≡ k = cc in ap f (sym same) ∙ is
-    by false is on h = on h
+use Rattle.dr_incr.proofs.RestoreLemmas.{union-held}
+use Rattle.dr_incr.proofs.TargetLemmas.{TargetOf}
+use Rattle.dr_model.proofs.LawfulLemmas.{removed}
+use Rattle.dr_flash.proofs.ShowLemmas.{past-on, past-at}
+use Rattle.dr_logic.proofs.Lists.{first-held}
+use Rattle.dr_facts.proofs.Tracks.{bare-has}
 
 lowest-held : (n k : ℕ) (own : Tracks) → lowest n own ≡ Some k → contains own k ≡ true
 unfolding in_order
 lowest-held n k own h = first-held (contains own) k (range_with_len 0 n) h
 
 -- a volume that stores a track keeps the others
-pub stored-other : (x u : PlantState) (c : Table) (v k : ℕ) (bytes : List ℕ) → IsMoved x u c v (altered (volume_seen x c v).fields k) (Some (k, bytes)) → BlankAreZeros x c v
+pub stored-other : (x u : PlantState) (c : ConfigTable) (v k : ℕ) (bytes : List ℕ) → IsMoved x u c v (altered (volume_seen x c v).fields k) (Some (k, bytes)) → BlankAreZeros x c v
     → (q : ℕ) → q ≢ k → track_seen u c v q ≡ track_seen x c v q
 stored-other x u c v k bytes is blank q ne =
     ap (λ (z : ℕ → List ℕ). z q) is.tracks
     ∙ ap (λ b. if b then bytes else if contains (remove (volume_seen x c v).fields.blank k) q then zeros else track_seen x c v q) (differ-test q k ne)
     ∙ elim (contains (remove (volume_seen x c v).fields.blank k) q) as (λ b. contains (remove (volume_seen x c v).fields.blank k) q ≡ b → (if b then zeros else track_seen x c v q) ≡ track_seen x c v q) [
       | false ↦ λ plain. refl
-      | true ↦ λ held. sym (blank q (remove-held (volume_seen x c v).fields.blank k q held))
+      | true ↦ λ held. sym (blank q (removed (volume_seen x c v).fields.blank k q held))
     ] refl
 
-module _ (x y : PlantState) (c : Table) (s t : ℕ) (to : TargetOf x c s t) where
+module _ (x y : PlantState) (c : ConfigTable) (s t : ℕ) (to : TargetOf x c s t) where
   abbrev f : Fields
   f = (volume_seen x c t).fields
 
@@ -125,7 +89,7 @@ module _ (x y : PlantState) (c : Table) (s t : ℕ) (to : TargetOf x c s t) wher
       pick true bare = (
         λ on. absurd cc,
         λ over k.
-            let none = contains-bare g.own k bare in
+            let none = bare-has g.own k bare in
             (shared k none, ap (λ b. if b then zeros else track_seen x c t k) (contains-rest n g.own k) ∙ ap (λ b. if nat_lt k n && not b then zeros else track_seen x c t k) none ∙ past k (nat_lt k n) refl),
       )
       pick false some = (λ on k. shows k (contains g.own k) refl, λ over. absurd (let e : true ≡ false = sym related ∙ over in cc))
@@ -137,7 +101,7 @@ module _ (x y : PlantState) (c : Table) (s t : ℕ) (to : TargetOf x c s t) wher
     -- track k came back
     pub back-restores : (k : ℕ) → lowest n f.own ≡ Some k → IsMoved x y c t (restored n (given_up f k)) None → track_seen y c s k ≡ track_seen x c t k → ((q : ℕ) → q ≢ k → track_seen y c s q ≡ track_seen x c s q)
         → Restores x y c s t
-    back-restores k lowest is back kept = restores-by (given_up f k) to.related to.source is shared (λ q held. kept-shown q (remove-held f.own k q held))
+    back-restores k lowest is back kept = restores-by (given_up f k) to.related to.source is shared (λ q held. kept-shown q (removed f.own k q held))
       where
         other : (q : ℕ) → nat_eq q k ≡ false → contains (remove f.own k) q ≡ false → contains f.own q ≡ false
         other q apart missing = sym (contains-remove_tracks f.own k q ∙ ap (λ b. not b && contains f.own q) apart) ∙ missing
@@ -160,4 +124,4 @@ module _ (x y : PlantState) (c : Table) (s t : ℕ) (to : TargetOf x c s t) wher
         equal q true held same = ap (λ z. track_seen x c z q) (sym to.source) ∙ sym (holds to.related recorded forward q held same.0 same.1) ∙ sym (held-shown q held)
 
         shared : (q : ℕ) → contains (union f.source_changes f.target_changes) q ≡ false → track_seen y c s q ≡ view_seen x c t q
-        shared q missing = stays q ∙ equal q (contains f.own q) refl (neither (contains f.source_changes q) (contains f.target_changes q) (sym (contains-union_tracks f.source_changes f.target_changes q) ∙ missing))
+        shared q missing = stays q ∙ equal q (contains f.own q) refl (or_parts (contains f.source_changes q) (contains f.target_changes q) (sym (contains-union_tracks f.source_changes f.target_changes q) ∙ missing))

@@ -2,12 +2,12 @@
 use Rattle.std.proofs.Common.{ℕ, List, [], ◌≡◌, Bool, true, false, not, ◌&&◌, cond, refl, sym, ◌∙◌, ap, None, Some, Option}
 use Rattle.std.specs.Prelude.{if◌then◌else◌}
 use Rattle.std.specs.FinSet.{contains, difference}
+use Rattle.std.proofs.lemmas.Bool.{not-true, and_parts}
+use Rattle.dr_logic.specs.Tables.{at}
+use Rattle.dr_logic.specs.Bytes.{zeros}
 use Rattle.dr_bits.specs.Tracks.{Tracks}
-use Rattle.dr_bits.proofs.Laws.{contains-minus_tracks}
 use Rattle.dr_plant.specs.State.{PlantState}
-use Rattle.dr_config.specs.Table.{Table}
-use Rattle.dr_model.specs.Contents.{zeros}
-use Rattle.dr_model.specs.Tables.{at}
+use Rattle.dr_config.specs.Table.{ConfigTable}
 use Rattle.dr_model.specs.Layout.{Fields}
 use Rattle.dr_model.specs.Control.{Volume, World}
 use Rattle.dr_model.specs.Carry.{Ended, Turn, update, ended, pass, counts_by, writes, spent, off}
@@ -15,7 +15,6 @@ use Rattle.dr_model.specs.Moves.{Carried, moved, updated, tracks_after}
 use Rattle.dr_model.specs.Relations.{resynced}
 use Rattle.dr_model.specs.Views.{shows_source, source_of}
 use Rattle.dr_model.specs.declared.event.Event.{Event}
-use Rattle.dr_model.proofs.Images.{at_same}
 use Rattle.dr_volume.specs.View.{Rest, volume_seen, track_seen}
 use Rattle.dr_model.specs.Laws.{Structure, Blank, Recorded}
 use Rattle.dr_model.specs.Table.{table}
@@ -23,12 +22,16 @@ use Rattle.dr_flash.proofs.CheckLemmas.{same-test}
 use Rattle.dr_incr.specs.Steps.{HasFitSets}
 use Rattle.dr_volume.specs.Update.{IsAsBefore, IsMoved, OthersStay}
 use Rattle.dr_flash.specs.Fit.{RelationsFit}
-use Rattle.dr_flash.specs.Here.{seen}
+use Rattle.dr_flash.specs.Here.{world_seen}
 use Rattle.dr_flash.specs.Turns.{made_by}
 use Rattle.dr_flash.specs.declared.told.Telling.{Telling}
 use Rattle.dr_flash.specs.Views.{view_seen}
 use Rattle.dr_incr.specs.Copies.{HoldsUnchanged, BlankAreZeros}
-use Rattle.dr_incr.proofs.TargetLemmas.{TargetOf, both}
+use Rattle.dr_incr.proofs.TargetLemmas.{TargetOf}
+use Rattle.dr_flash.proofs.StructureLaws.{related-source}
+use Rattle.dr_logic.proofs.Sets.{in_difference}
+use Rattle.dr_facts.proofs.Tracks.{from_difference}
+use Rattle.dr_logic.proofs.Tables.{at_same}
 
 -- what a move that was done made of its volume
 record IsDone (w u : World) (v : ℕ) (f : Fields) (c : Carried) : Type 0 where
@@ -56,23 +59,16 @@ done-by w u v f c server told = pick (w.control.on (w.control.volume v).server) 
 nothing_else : Rest
 nothing_else = record { issued = 0; pending = []; sessions = []; events = [] }
 
-pub moved-by : (s u : PlantState) (t : Table) (v : ℕ) (f : Fields) (c : Carried) (server : ℕ) (told : Telling) (old now : List Event)
-    → ((r : Rest) → made_by (update (seen s t r old) v f c) server told ≡ (seen u t r now, None)) → IsMoved s u t v f c
+pub moved-by : (s u : PlantState) (t : ConfigTable) (v : ℕ) (f : Fields) (c : Carried) (server : ℕ) (told : Telling) (old now : List Event)
+    → ((r : Rest) → made_by (update (world_seen s t r old) v f c) server told ≡ (world_seen u t r now, None)) → IsMoved s u t v f c
 moved-by s u t v f c server told old now done =
-    let x = done-by (seen s t nothing_else old) (seen u t nothing_else now) v f c server told (done nothing_else) in
+    let x = done-by (world_seen s t nothing_else old) (world_seen u t nothing_else now) v f c server told (done nothing_else) in
     record {
       volume = ap (λ (g : ℕ → Volume). g v) x.volume ∙ at_same (volume_seen s t) v (moved (volume_seen s t v) f c);
       tracks = ap (λ (g : ℕ → ℕ → List ℕ). g v) x.contents ∙ at_same (track_seen s t) v (tracks_after f c (track_seen s t v));
     }
 
-not-so : (b : Bool) → not b ≡ true → b ≡ false
-not-so false h = refl
-not-so true h = absurd cc
-
-minus-both : (a b : Tracks) (q : ℕ) → contains (difference a b) q ≡ true → (contains a q ≡ true) × (contains b q ≡ false)
-minus-both a b q h = let x = both (contains a q) (not (contains b q)) (sym (contains-minus_tracks a b q) ∙ h) in (x.0, not-so (contains b q) x.1)
-
-pub copy-shown : (s u : PlantState) (c : Table) (v t : ℕ) (sequence : Option ℕ) → RelationsFit s c → TargetOf s c v t → IsMoved s u c t (resynced sequence (volume_seen s c t).fields) None → OthersStay s u c t
+pub copy-shown : (s u : PlantState) (c : ConfigTable) (v t : ℕ) (sequence : Option ℕ) → RelationsFit s c → TargetOf s c v t → IsMoved s u c t (resynced sequence (volume_seen s c t).fields) None → OthersStay s u c t
     → ((k : ℕ) → contains (volume_seen s c t).fields.own k ≡ true → contains (volume_seen s c t).fields.source_changes k ≡ false → contains (volume_seen s c t).fields.target_changes k ≡ false → track_seen s c t k ≡ track_seen s c (volume_seen s c t).fields.source k)
     → (k : ℕ) → view_seen u c t k ≡ track_seen u c v k
 copy-shown s u c v t sequence fit to is others holds k =
@@ -90,35 +86,27 @@ copy-shown s u c v t sequence fit to is others holds k =
 
     held : contains g.own k ≡ true → track_seen u c t k ≡ track_seen u c v k
     held own =
-        let x = minus-both (difference f.own f.source_changes) f.target_changes k own in
-        let y = minus-both f.own f.source_changes k x.0 in
+        let x = from_difference (difference f.own f.source_changes) f.target_changes k own in
+        let y = from_difference f.own f.source_changes k x.0 in
         ap (λ (z : ℕ → List ℕ). z k) is.tracks
         ∙ ap (λ b. if b then zeros else track_seen s c t k) (fit.apart t k y.0)
         ∙ holds k y.0 y.1 x.1
         ∙ ap (λ n. track_seen s c n k) to.source
         ∙ sym (ap (λ (z : ℕ → List ℕ). z k) (others v (λ same. to.apart (sym same))).tracks)
 
-related-source : (f : Fields) → f.related ≡ true → source_of f ≡ Some f.source
-related-source f related = ap (λ b. if b then Some f.source else None) related
-
 -- the machine's laws say so of each volume
-pub holds-by_laws : (s : PlantState) (c : Table) (r : Rest) (events : List Event) → Recorded (table (seen s c r events)) → (t : ℕ) → HoldsUnchanged s c t
+pub holds-by_laws : (s : PlantState) (c : ConfigTable) (r : Rest) (events : List Event) → Recorded (table (world_seen s c r events)) → (t : ℕ) → HoldsUnchanged s c t
 holds-by_laws s c r events law t related recorded forward k own noted rewritten =
     law t (volume_seen s c t).fields.source (related-source (volume_seen s c t).fields related) recorded forward k own noted rewritten
 
-pub blank-by_laws : (s : PlantState) (c : Table) (r : Rest) (events : List Event) → Blank (table (seen s c r events)) → (v : ℕ) → BlankAreZeros s c v
+pub blank-by_laws : (s : PlantState) (c : ConfigTable) (r : Rest) (events : List Event) → Blank (table (world_seen s c r events)) → (v : ℕ) → BlankAreZeros s c v
 blank-by_laws s c r events law v = law v
 
-pub sets-by_laws : (s : PlantState) (c : Table) (r : Rest) (events : List Event) → Structure (table (seen s c r events)) → (t : ℕ) → HasFitSets (volume_seen s c t).fields
+pub sets-by_laws : (s : PlantState) (c : ConfigTable) (r : Rest) (events : List Event) → Structure (table (world_seen s c r events)) → (t : ℕ) → HasFitSets (volume_seen s c t).fields
 sets-by_laws s c r events law t = law.sets t
 
--- the track that a volume stored
-pub stored-track : (s u : PlantState) (c : Table) (v k : ℕ) (f : Fields) (bytes : List ℕ) → IsMoved s u c v f (Some (k, bytes)) → track_seen u c v k ≡ bytes
-stored-track s u c v k f bytes is =
-    ap (λ (z : ℕ → List ℕ). z k) is.tracks ∙ ap (λ b. if b then bytes else if contains f.blank k then zeros else track_seen s c v k) (same-test k k refl)
-
 -- a volume that stayed, and then moved
-pub moved-after : (s v u : PlantState) (c : Table) (t : ℕ) (f : Volume → Fields) (m : Carried) → IsAsBefore s v c t → IsMoved v u c t (f (volume_seen v c t)) m → IsMoved s u c t (f (volume_seen s c t)) m
+pub moved-after : (s v u : PlantState) (c : ConfigTable) (t : ℕ) (f : Volume → Fields) (m : Carried) → IsAsBefore s v c t → IsMoved v u c t (f (volume_seen v c t)) m → IsMoved s u c t (f (volume_seen s c t)) m
 moved-after s v u c t f m same is = record {
   volume = is.volume ∙ (λ i. moved (same.volume i) (f (same.volume i)) m);
   tracks = is.tracks ∙ (λ i. tracks_after (f (same.volume i)) m (same.tracks i));

@@ -4,10 +4,11 @@ use Rattle.std.proofs.Common.{ℕ, zero, suc, List, [], ◌∷◌, ◌++◌, map
 use Rattle.std.specs.Prelude.{filter, max, if◌then◌else◌}
 use Rattle.std.specs.List.{range_with_len}
 use Rattle.std.specs.FinSet.{contains, remove, union, difference}
+use Rattle.std.proofs.lemmas.Bool.{and_parts}
 use Rattle.dr_bits.specs.Tracks.{Tracks}
-use Rattle.dr_bits.proofs.Laws.{contains-remove_tracks, contains-minus_tracks, contains-union_tracks}
+use Rattle.dr_bits.proofs.Laws.{contains-remove_tracks, contains-union_tracks}
 use Rattle.dr_plant.specs.State.{PlantState}
-use Rattle.dr_config.specs.Table.{Table}
+use Rattle.dr_config.specs.Table.{ConfigTable}
 use Rattle.dr_model.specs.declared.event.Event.{Event}
 use Rattle.dr_model.specs.declared.event.Event.TheVariants.{Set, Back, Blanked, Restored}
 use Rattle.dr_model.specs.Layout.{Fields}
@@ -24,28 +25,19 @@ use Rattle.dr_flash.specs.Turns.{room_of}
 use Rattle.dr_flash.specs.declared.told.Told.TheVariants.{One}
 use Rattle.dr_flash.specs.declared.told.Telling.{Telling}
 use Rattle.dr_flash.proofs.FitLemmas.{fit-kept}
-use Rattle.dr_flash.proofs.FieldLemmas.{low-empty, low-remove, lawful-altered, lawful-withdrawn, Apart, apart-empty, covers-all, covers-rest, covers-carried}
+use Rattle.dr_flash.proofs.FieldLemmas.{low-remove, lawful-withdrawn, Apart, apart-empty, covers-all, covers-rest, covers-carried}
 use Rattle.dr_flash.proofs.TurnLemmas.{Tells}
 use Rattle.dr_flash.proofs.MoveLemmas.{MoveFits}
 use Rattle.dr_incr.specs.Steps.{HasFitSets, left_event, returned_told}
-
-both-first : (a b : Bool) → (a && b) ≡ true → a ≡ true
-both-first true b h = refl
-both-first false b h = h
-
-both-second : (a b : Bool) → (a && b) ≡ true → b ≡ true
-both-second true b h = h
-both-second false b h = absurd cc
-
-either-of : (a b : Bool) {P : Type 0} → (a || b) ≡ true → (a ≡ true → P) → (b ≡ true → P) → P
-either-of true b h f g = f refl
-either-of false b h f g = g h
+use Rattle.dr_model.proofs.LawfulLemmas.{removed, low-empty}
+use Rattle.dr_logic.proofs.Lists.{few-in}
+use Rattle.dr_logic.proofs.Truth.{either-of}
+use Rattle.dr_logic.proofs.Sets.{in_difference}
+use Rattle.dr_facts.proofs.Costs.{blanks-few, restored-few}
+use Rattle.dr_facts.proofs.Lawful.{lawful-altered}
 
 minus-held : (a b : Tracks) (q : ℕ) → contains (difference a b) q ≡ true → contains a q ≡ true
-minus-held a b q h = both-first (contains a q) (not (contains b q)) (sym (contains-minus_tracks a b q) ∙ h)
-
-pub remove-held : (a : Tracks) (k q : ℕ) → contains (remove a k) q ≡ true → contains a q ≡ true
-remove-held a k q h = both-second _ (contains a q) (sym (contains-remove_tracks a k q) ∙ h)
+minus-held a b q h = (and_parts (contains a q) (not (contains b q)) (sym (in_difference a b q) ∙ h)).0
 
 pub union-held : (a b own : Tracks) → ((q : ℕ) → contains a q ≡ true → contains own q ≡ true) → ((q : ℕ) → contains b q ≡ true → contains own q ≡ true) → (q : ℕ) → contains (union a b) q ≡ true → contains own q ≡ true
 union-held a b own f g q h = either-of (contains a q) (contains b q) (sym (contains-union_tracks a b q) ∙ h) (f q) (g q)
@@ -84,7 +76,7 @@ restored-apart : (b : Bool) (n : ℕ) (f : Fields) → Apart f.own f.blank → A
 restored-apart false n f apart = apart
 restored-apart true n f apart = apart-empty (rest n f.own)
 
-module _ (s : PlantState) (t : Table) (v : ℕ) (fit : RelationsFit s t) (lawful : IsLawful (volume_seen s t v).tracks (volume_seen s t v).fields) where
+module _ (s : PlantState) (t : ConfigTable) (v : ℕ) (fit : RelationsFit s t) (lawful : IsLawful (volume_seen s t v).tracks (volume_seen s t v).fields) where
   abbrev x : Volume
   x = volume_seen s t v
 
@@ -94,7 +86,7 @@ module _ (s : PlantState) (t : Table) (v : ℕ) (fit : RelationsFit s t) (lawful
   -- a source stores a track
   pub restore-fits : (k u : ℕ) (bytes : List ℕ) → k < n → x.fields.related ≡ false → MoveFits s t v (fields_left (Restore v k u) x) (Some (k, bytes))
   restore-fits k u bytes low plain = record {
-    lawful = lawful-altered n k x.fields low lawful;
+    lawful = (lawful-altered n x.fields lawful k low);
     covers = covers-carried x.fields.blank k bytes;
     leaves = fit-kept s t v (altered x.fields k) fit (λ r. (r, refl)) (λ q held. kept _ (contains x.fields.blank q) _ (fit.apart v q held) (contains-remove_tracks x.fields.blank k q));
   }
@@ -123,7 +115,7 @@ module _ (s : PlantState) (t : Table) (v : ℕ) (fit : RelationsFit s t) (lawful
         let sets : HasSets n x.fields = lawful.sets in
         left-fits (given_up x.fields k) related refl refl
         (lawful-held n x.fields (given_up x.fields k) related lawful refl (low-remove n k x.fields.own sets.own_low) sets.source_changes_low sets.target_changes_low)
-        (λ q h. fit.apart v q (remove-held x.fields.own k q h))
+        (λ q h. fit.apart v q (removed x.fields.own k q h))
 
     pub reverse-fits : (left : Option ℕ) → x.fields.revertible ≡ false → HasFitSets x.fields → MoveFits s t v (fields_left (Reverse v left) x) None
     reverse-fits left forward fits =
@@ -162,33 +154,13 @@ tells-reverse v left x =
 pub tells-release : (v k : ℕ) (x : Volume) → Tells (Release v k) x (returned_told None v x.fields.source x.tracks (given_up x.fields k).own)
 tells-release v k x = record { done = refl; in_stop = refl; landed = refl; settles = λ ps. refl; settles_in_stop = λ ps. refl }
 
--- how many events
-few-in : (f : ℕ → Bool) (n a : ℕ) → length (filter f (range_with_len a n)) ≤ n
-few-in f zero a = omega arith
-few-in f (suc n) a = one (f a) (filter f (range_with_len (a + 1) n)) (few-in f n (a + 1))
-  where
-    one : (b : Bool) (xs : List ℕ) → length xs ≤ n → length (cond b (a ∷ xs) xs) ≤ suc n
-    one true xs h = omega (arith, h)
-    one false xs h = omega (arith, h)
-
 map-count : (v : ℕ) (xs : List ℕ) → length (map (Blanked v) xs) ≡ length xs
 map-count v [] = refl
 map-count v (x ∷ xs) = ap suc (map-count v xs)
 
-blank-few : (v n : ℕ) (own : Tracks) → length (told_blank v n own) ≤ n
-unfolding in_order
-blank-few v n own = let e = map-count v (filter (contains (rest n own)) (range_with_len 0 n)) in let few = few-in (contains (rest n own)) n 0 in omega (arith, e, few)
-
 one-more : (xs : List Event) (e : Event) → length (xs ++ e ∷ []) ≡ suc (length xs)
 one-more [] e = refl
 one-more (x ∷ xs) e = ap suc (one-more xs e)
-
-pub restored-few : (v s n : ℕ) (own : Tracks) → length (told_restored v s n own) ≤ n + 1
-restored-few v s n own = pick (is_bare own)
-  where
-    pick : (b : Bool) → length (if b then told_blank v n own ++ Restored s v ∷ [] else []) ≤ n + 1
-    pick true = let e = one-more (told_blank v n own) (Restored s v) in let few = blank-few v n own in omega (arith, e, few)
-    pick false = omega arith
 
 max-few : (a b : ℕ) → a ≤ b → max a (a + 1) ≤ b + 1
 max-few a b h = grind (arith, h)

@@ -1,19 +1,19 @@
 -- The targets of a source, from one volume of the configuration to the next, and what a target shares with its source.
 use Rattle.std.proofs.Common.{ℕ, zero, suc, arith, rules, ◌≡◌, ◌≢◌, ◌≤◌, ◌<◌, ◌+◌, Bool, true, false, not, ◌&&◌, ◌||◌, List, [], ◌∷◌, cond, drop, length, refl, sym, ◌∙◌, ap, subst, nat_eq, inl, inr, Some, option_map, slice_get, None}
 use Rattle.std.specs.Prelude.{filter, is_some}
-use Rattle.std.specs.List.{list_any}
+use Rattle.std.specs.List.{list_any, range_with_len}
 use Rattle.std.proofs.lemmas.List.{drop_all}
 use Rattle.std.proofs.lemmas.Bool.Decides.{eqb_tells, Decides-eqb}
-use Rattle.std.specs.List.{range_with_len}
 use Rattle.std.specs.FinSet.{contains, empty, members}
 use Rattle.std.specs.Ordering.{nat_cmp}
+use Rattle.std.proofs.lemmas.Bool.{and_parts}
 use Rattle.dr_bits.specs.Tracks.{Tracks}
 use Rattle.dr_model.specs.Control.{Volume}
 use Rattle.dr_model.specs.Relations.{in_order, lowest, is_bare, given_up, restored, withdrawn_if}
 use Rattle.dr_model.specs.Moves.{moved}
 use Rattle.dr_volume.specs.Update.{IsAsBefore}
 use Rattle.dr_plant.specs.State.{PlantState}
-use Rattle.dr_config.specs.Table.{Table, place_of}
+use Rattle.dr_config.specs.Table.{ConfigTable, place_of}
 use Rattle.dr_config.specs.declared.entries.VolumeEntry.{VolumeEntry}
 use Rattle.dr_model.specs.Layout.{Fields}
 use Rattle.dr_model.specs.Lawful.{IsLawful, NoRelation}
@@ -23,9 +23,11 @@ use Rattle.dr_volume.specs.View.{volume_seen, ids_of}
 use Rattle.dr_flash.specs.Fit.{SourceFits, RelationsFit}
 use Rattle.dr_flash.proofs.CopyLemmas.{ids-next}
 use Rattle.dr_incr.specs.Steps.{keeps_of, IsRestoredOnto}
+use Rattle.dr_logic.proofs.Lists.{filter-none}
+use Rattle.dr_facts.proofs.Tracks.{empty_has, empty-lowest}
 
 -- whether one of those from a place on passes both tests
-abbrev pub any_from : (ℕ → Bool) → (ℕ → Bool) → Table → ℕ → Bool
+abbrev pub any_from : (ℕ → Bool) → (ℕ → Bool) → ConfigTable → ℕ → Bool
 any_from f h t place = list_any f (filter h (ids_of (drop place t.volumes)))
 
 first-or : (f h : ℕ → Bool) (u : ℕ) (us : List ℕ) → list_any f (filter h (u ∷ us)) ≡ ((h u && f u) || list_any f (filter h us))
@@ -35,26 +37,21 @@ first-or f h u us = pick (h u)
     pick true = refl
     pick false = refl
 
-pub any-next : (f h : ℕ → Bool) (t : Table) (place u : ℕ) → Some u ≡ option_map (λ (e : VolumeEntry). e.id) (slice_get t.volumes place) → any_from f h t place ≡ ((h u && f u) || any_from f h t (place + 1))
+pub any-next : (f h : ℕ → Bool) (t : ConfigTable) (place u : ℕ) → Some u ≡ option_map (λ (e : VolumeEntry). e.id) (slice_get t.volumes place) → any_from f h t place ≡ ((h u && f u) || any_from f h t (place + 1))
 any-next f h t place u at = ap (λ us. list_any f (filter h us)) (ids-next t place u at) ∙ first-or f h u (ids_of (drop (place + 1) t.volumes))
 
-pub any-none : (f h : ℕ → Bool) (t : Table) (place : ℕ) → length t.volumes ≤ place → any_from f h t place ≡ false
+pub any-none : (f h : ℕ → Bool) (t : ConfigTable) (place : ℕ) → length t.volumes ≤ place → any_from f h t place ≡ false
 any-none f h t place all = ap (λ es. list_any f (filter h (ids_of es))) (drop_all place t.volumes all)
 
 -- the entries of the volumes from a place on
-abbrev pub keeps_left : Table → ℕ → ℕ → ℕ → List Entry
+abbrev pub keeps_left : ConfigTable → ℕ → ℕ → ℕ → List Entry
 keeps_left t s v place = keeps_of (ids_of (drop place t.volumes)) s v
-
-pub both : (a b : Bool) → (a && b) ≡ true → (a ≡ true) × (b ≡ true)
-both true true h = (refl, refl)
-both true false h = absurd cc
-both false b h = absurd cc
 
 same-number : (a b : ℕ) → nat_eq a b ≡ true → a ≡ b
 same-number a b h = elim (eqb_tells a b) as (λ _. a ≡ b) [ inl p ↦ p.1 | inr p ↦ absurd (let e : true ≡ false = sym h ∙ p.0 in cc) ]
 
 -- t is a target of v, which it fits
-pub record TargetOf (s : PlantState) (c : Table) (v t : ℕ) : Type 0 where
+pub record TargetOf (s : PlantState) (c : ConfigTable) (v t : ℕ) : Type 0 where
   pub related : (volume_seen s c t).fields.related ≡ true
   pub source : (volume_seen s c t).fields.source ≡ v
   pub defined : is_some (place_of c v) ≡ true
@@ -63,9 +60,9 @@ pub record TargetOf (s : PlantState) (c : Table) (v t : ℕ) : Type 0 where
   pub tracks : (volume_seen s c t).tracks ≡ (volume_seen s c v).tracks
   pub apart : t ≢ v
 
-pub target-of : (s : PlantState) (c : Table) (v t : ℕ) → RelationsFit s c → copies_from v (volume_seen s c t).fields ≡ true → TargetOf s c v t
+pub target-of : (s : PlantState) (c : ConfigTable) (v t : ℕ) → RelationsFit s c → copies_from v (volume_seen s c t).fields ≡ true → TargetOf s c v t
 target-of s c v t fit copies =
-    let x = both (volume_seen s c t).fields.related _ copies in
+    let x = and_parts (volume_seen s c t).fields.related _ copies in
     let is = same-number (volume_seen s c t).fields.source v x.1 in
     let y = subst (λ z. SourceFits (is_some (place_of c z)) (volume_seen s c t) (volume_seen s c z)) is (fit.source t x.0) in
     record {
@@ -93,10 +90,10 @@ not-kept a b h = ap (λ z. a && not z) h ∙ never a
     never true = refl
     never false = refl
 
-pub keeps_left-next : (t : Table) (s v place u : ℕ) → Some u ≡ option_map (λ (e : VolumeEntry). e.id) (slice_get t.volumes place) → keeps_left t s v place ≡ for_lowest v (λ k. keep_on s k u) ∷ keeps_left t s v (place + 1)
+pub keeps_left-next : (t : ConfigTable) (s v place u : ℕ) → Some u ≡ option_map (λ (e : VolumeEntry). e.id) (slice_get t.volumes place) → keeps_left t s v place ≡ for_lowest v (λ k. keep_on s k u) ∷ keeps_left t s v (place + 1)
 keeps_left-next t s v place u at = ap (λ us. keeps_of us s v) (ids-next t place u at)
 
-pub keeps_left-none : (t : Table) (s v place : ℕ) → length t.volumes ≤ place → keeps_left t s v place ≡ []
+pub keeps_left-none : (t : ConfigTable) (s v place : ℕ) → length t.volumes ≤ place → keeps_left t s v place ≡ []
 keeps_left-none t s v place all = ap (λ es. keeps_of (ids_of es) s v) (drop_all place t.volumes all)
 
 -- the lowest track of a set that is below n is below n
@@ -112,31 +109,12 @@ pub lowest-below : (n k : ℕ) (own : Tracks) → lowest n own ≡ Some k → k 
 unfolding in_order
 lowest-below n k own h = let low = first-below (contains own) n 0 k h in omega (arith, low)
 
-pub neither : (a b : Bool) → (a || b) ≡ false → (a ≡ false) × (b ≡ false)
-neither false b h = (refl, h)
-neither true b h = absurd cc
-
-pub differs : (a b : ℕ) → nat_eq a b ≡ false → a ≢ b
-differs a b h is = let e : true ≡ false = sym ((Decides-eqb a b).1 is) ∙ h in cc
-
 -- what copies from v isn't what doesn't
-pub other-target : (s : PlantState) (c : Table) (v t q : ℕ) → copies_from v (volume_seen s c t).fields ≡ true → copies_from v (volume_seen s c q).fields ≡ false → q ≢ t
+pub other-target : (s : PlantState) (c : ConfigTable) (v t q : ℕ) → copies_from v (volume_seen s c t).fields ≡ true → copies_from v (volume_seen s c q).fields ≡ false → q ≢ t
 other-target s c v t q copies other is = let e : true ≡ false = sym copies ∙ ap (λ z. copies_from v (volume_seen s c z).fields) (sym is) ∙ other in cc
 
-pub same-lowest : (s u : PlantState) (c : Table) (t k : ℕ) → IsAsBefore s u c t → lowest (volume_seen s c t).tracks (volume_seen s c t).fields.own ≡ Some k → lowest (volume_seen u c t).tracks (volume_seen u c t).fields.own ≡ Some k
+pub same-lowest : (s u : PlantState) (c : ConfigTable) (t k : ℕ) → IsAsBefore s u c t → lowest (volume_seen s c t).tracks (volume_seen s c t).fields.own ≡ Some k → lowest (volume_seen u c t).tracks (volume_seen u c t).fields.own ≡ Some k
 same-lowest s u c t k same held = ap (λ (x : Volume). lowest x.tracks x.fields.own) same.volume ∙ held
-
--- a set without tracks has no lowest
-none-in : (f : ℕ → Bool) (xs : List ℕ) → ((x : ℕ) → f x ≡ false) → filter f xs ≡ []
-none-in f [] none = refl
-none-in f (x ∷ xs) none = ap (λ b. cond b (x ∷ filter f xs) (filter f xs)) (none x) ∙ none-in f xs none
-
-empty-has : (q : ℕ) → contains {R = nat_cmp} empty q ≡ false
-empty-has q = grind (members, rules)
-
-empty-lowest : (n : ℕ) → lowest n empty ≡ None
-unfolding in_order
-empty-lowest n = ap (λ xs. slice_get xs 0) (none-in (contains empty) (range_with_len 0 n) empty-has)
 
 -- what holds a track is a target
 pub holder-related : (m n k : ℕ) (f g : Fields) → f ≡ g → IsLawful m f → lowest n f.own ≡ Some k → g.related ≡ true

@@ -24,6 +24,7 @@ target_checks why k s t = running_check k s ∷ refuse_if why ∷ check (is_reco
 abbrev pub resync_checks : Control → ℕ → ℕ → List Entry
 resync_checks k s t = target_checks (counted_refusal t) k s t
 
+-- a resynchronization: its checks, and its one move
 abbrev pub resync_entries : Control → ℕ → ℕ → Option ℕ → List Entry
 resync_entries k s t sequence = resync_checks k s t ++ now (Resync t sequence) ∷ []
 
@@ -35,6 +36,7 @@ lone_checks k s t = check (is_lone_restore s t) (relation_state k s) ∷ check (
 abbrev pub reverse_checks : Control → ℕ → ℕ → List Entry
 reverse_checks k s t = target_checks (restore_refusal t) k s t ++ lone_checks k s t
 
+-- a restore that begins: its checks, and its one move
 abbrev pub reverse_entries : Control → ℕ → ℕ → List Entry
 reverse_entries k s t = reverse_checks k s t ++ now (Reverse t (left_by k t)) ∷ []
 

@@ -12,19 +12,20 @@ ghost use Rattle.dr_model.specs.Pairs as pairs;
 ghost use Rattle.dr_volume.specs.Plain.{plain};
 ghost use Rattle.dr_volume.specs.View.{Rest, volume_seen};
 ghost use Rattle.dr_flash.specs.Checks.{Checked, OnNone, is_stop};
-ghost use Rattle.dr_flash.specs.Here.{seen, IsAtRest};
+ghost use Rattle.dr_flash.specs.Heads.{targets_by};
+ghost use Rattle.dr_flash.specs.Here.{world_seen, IsAtRest};
 ghost use Rattle.dr_flash.specs.Standing.{targets_in};
 ghost use Rattle.dr_incr.specs.Steps.{target_checks, lone_checks};
 
 use dr_config::Config;
-use dr_flash::{is_part, is_quiet, pair_state, relation_state, server_of};
+use dr_flash::{is_quiet, pair_state, relation_state, server_of};
 use dr_ids::{Refusal, VolumeId};
 use dr_plant::Plant;
-use dr_volume::{Fields, peek_fields};
+use dr_volume::{Fields, Head, peek_fields, peek_head, peek_head_at};
 
-/// Whether a volume with these fields is a target of s whose changes are recorded, and neither revertible nor restored.
-fn is_recorded_target(f: &Fields, s: VolumeId) -> bool
-    ensures { result ≡ (copies_from s.0 (plain f.now) && (not f.now.revertible && not f.now.reversing) && f.now.recorded) }
+/// Whether a volume with this head is a target of s whose changes are recorded, and neither revertible nor restored.
+fn is_recorded_target(f: &Head, s: VolumeId) -> bool
+    ensures { result ≡ (targets_by s.0 f.now && (not f.now.revertible && not f.now.reversing) && f.now.recorded) }
 {
     f.related && f.source.0 == s.0 && !f.revertible && !f.reversing && f.recorded
 }
@@ -42,7 +43,7 @@ pub(crate) fn target_refusal<P: Plant>(
     requires source { IsSome (place_of c.now s.0) }
     requires target { IsSome (place_of c.now t.0) }
     requires calm { is_stop first ≡ false }
-    ensures checked { (why : Control → Option Refusal) (r : Rest) (events : List Event) → why (seen (P.state p.now) c.now r events).control ≡ first → Checked (seen (P.state p.now) c.now r events) (target_checks why (seen (P.state p.now) c.now r events).control s.0 t.0) result }
+    ensures checked { (why : Control → Option Refusal) (r : Rest) (events : List Event) → why (world_seen (P.state p.now) c.now r events).control ≡ first → Checked (world_seen (P.state p.now) c.now r events) (target_checks why (world_seen (P.state p.now) c.now r events).control s.0 t.0) result }
     ensures running { OnNone result ((P.state p.now).on (volume_seen (P.state p.now) c.now s.0).server ≡ true) }
     ensures related { OnNone result (copies_from s.0 (volume_seen (P.state p.now) c.now t.0).fields ≡ true) }
     ensures recorded { OnNone result ((volume_seen (P.state p.now) c.now t.0).fields.recorded ≡ true) }
@@ -57,15 +58,15 @@ pub(crate) fn target_refusal<P: Plant>(
     if let Some(why) = first {
         return Some(why);
     }
-    if !is_recorded_target(&peek_fields(p, c, t), s) {
+    if !is_recorded_target(&peek_head(p, c, t), s) {
         return Some(relation_state(p, c, t));
     }
     None
 }
 
-/// Whether a volume u with these fields is a target of s other than t that is revertible or restored.
-fn is_other_restore(f: &Fields, s: VolumeId, t: VolumeId, u: VolumeId) -> bool
-    ensures { result ≡ (copies_from s.0 (plain f.now) && (not (nat_eq u.0 t.0) && (f.now.revertible || f.now.reversing))) }
+/// Whether a volume u with this head is a target of s other than t that is revertible or restored.
+fn is_other_restore(f: &Head, s: VolumeId, t: VolumeId, u: VolumeId) -> bool
+    ensures { result ≡ (targets_by s.0 f.now && (not (nat_eq u.0 t.0) && (f.now.revertible || f.now.reversing))) }
 {
     f.related && f.source.0 == s.0 && (u.0 != t.0 && (f.revertible || f.reversing))
 }
@@ -77,8 +78,7 @@ fn has_other_restore<P: Plant>(p: &P, c: &Config, s: VolumeId, t: VolumeId) -> b
 {
     for place in 0..c.volumes() {
         let u = c.volume_at(place).unwrap();
-        let fields = peek_fields(p, c, u);
-        if is_other_restore(&fields, s, t, u) {
+        if is_other_restore(&peek_head_at(p, c, place), s, t, u) {
             return true;
         }
     }
@@ -89,7 +89,7 @@ fn has_other_restore<P: Plant>(p: &P, c: &Config, s: VolumeId, t: VolumeId) -> b
 fn may_return(f: &Fields) -> bool
     ensures { result ≡ (not (is_part f.now.secondary) && pairs.is_quiet (plain f.now)) }
 {
-    !is_part(f.secondary) && is_quiet(f)
+    !f.secondary.is_part() && is_quiet(f)
 }
 
 /// Why t can't be restored onto s: another target of s is revertible or restored, or s is a secondary, or a primary that
@@ -97,7 +97,7 @@ fn may_return(f: &Fields) -> bool
 pub(crate) fn lone_refusal<P: Plant>(p: &P, c: &Config, s: VolumeId, t: VolumeId) -> Option<Refusal>
     requires rest { IsAtRest (P.state p.now) c.now }
     requires source { IsSome (place_of c.now s.0) }
-    ensures checked { (r : Rest) (events : List Event) → Checked (seen (P.state p.now) c.now r events) (lone_checks (seen (P.state p.now) c.now r events).control s.0 t.0) result }
+    ensures checked { (r : Rest) (events : List Event) → Checked (world_seen (P.state p.now) c.now r events) (lone_checks (world_seen (P.state p.now) c.now r events).control s.0 t.0) result }
     ensures calm { is_stop result ≡ false }
 {
     if has_other_restore(p, c, s, t) {

@@ -1,14 +1,14 @@
 //! What the other targets of a source keep before a target gives a track back.
 
 ghost use Rattle.std.specs.Prelude.{◌≡◌, ℕ, ◌<◌, ◌≤◌, ◌+◌, true, false, length, None, Some, OnOk, OnErr, is_err};
+ghost use Rattle.dr_logic.specs.Counts.{Counted};
 ghost use Rattle.dr_model.specs.Entries.{copies_from};
 ghost use Rattle.dr_model.specs.Refusals.{stopped};
 ghost use Rattle.dr_model.specs.Relations as relations;
 ghost use Rattle.dr_volume.specs.Update.{IsAsBefore};
 ghost use Rattle.dr_volume.specs.View.{Rest, volume_seen, ids_of};
-ghost use Rattle.dr_flash.specs.Faults.{Counted};
 ghost use Rattle.dr_flash.specs.Fit.{RelationsFit};
-ghost use Rattle.dr_flash.specs.Here.{seen, refusal_of, armed_in, IsAtRest};
+ghost use Rattle.dr_flash.specs.Here.{world_seen, refusal_of, armed_in, IsAtRest};
 ghost use Rattle.dr_flash.specs.Turns.{Leads, Fails};
 ghost use Rattle.dr_incr.specs.Steps.{keeps_of};
 
@@ -36,8 +36,8 @@ pub(crate) fn keep_others<P: Plant>(
     requires reversing { (volume_seen (P.state p.old) c.now t.0).fields.reversing ≡ true }
     requires held { relations.lowest (volume_seen (P.state p.old) c.now t.0).tracks (volume_seen (P.state p.old) c.now t.0).fields.own ≡ Some k }
     requires room { length c.now.volumes + 1 ≤ j.old.spare }
-    ensures leads { OnOk result ((r : Rest) → Leads (seen (P.state p.old) c.now r j.old.events) (keeps_of (ids_of c.now.volumes) s.0 t.0) (seen (P.state p.new) c.now r j.new.events)) }
-    ensures fails { OnErr result ((r : Rest) → Fails (armed_in (P.state p.old)) (seen (P.state p.old) c.now r j.old.events) (keeps_of (ids_of c.now.volumes) s.0 t.0) (seen (P.state p.new) c.now r j.new.events) (refusal_of result)) }
+    ensures leads { OnOk result ((r : Rest) → Leads (world_seen (P.state p.old) c.now r j.old.events) (keeps_of (ids_of c.now.volumes) s.0 t.0) (world_seen (P.state p.new) c.now r j.new.events)) }
+    ensures fails { OnErr result ((r : Rest) → Fails (armed_in (P.state p.old)) (world_seen (P.state p.old) c.now r j.old.events) (keeps_of (ids_of c.now.volumes) s.0 t.0) (world_seen (P.state p.new) c.now r j.new.events) (refusal_of result)) }
     ensures refused { OnErr result (refusal_of result ≡ Some (stopped (volume_seen (P.state p.old) c.now s.0).server)) }
     ensures rest { IsAtRest (P.state p.new) c.now }
     ensures fit { RelationsFit (P.state p.new) c.now }
@@ -52,7 +52,7 @@ pub(crate) fn keep_others<P: Plant>(
 {
     for place in 0..c.volumes() {
         let u = c.volume_at(place).unwrap();
-        keep_on(p, c, j, s, k, u)?;
+        keep_on(p, c, j, s, k, u, place)?;
     }
     Ok(())
 }

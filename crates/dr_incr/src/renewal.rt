@@ -1,6 +1,7 @@
 //! A target is made a copy of its source anew.
 
 ghost use Rattle.std.specs.Prelude.{◌≡◌, ℕ, ◌<◌, ◌≤◌, ◌+◌, true, false, length, None, Some, IsSome, OnOk, OnErr};
+ghost use Rattle.dr_logic.specs.Counts.{Counted};
 ghost use Rattle.dr_config.specs.Table.{place_of};
 ghost use Rattle.dr_model.specs.ReadStops.{Ends};
 ghost use Rattle.dr_model.specs.Refusals.{stopped};
@@ -8,9 +9,8 @@ ghost use Rattle.dr_model.specs.Relations as relations;
 ghost use Rattle.dr_volume.specs.Update.{IsMoved, OthersStay};
 ghost use Rattle.dr_volume.specs.View.{Rest, volume_seen, track_seen};
 ghost use Rattle.dr_flash.specs.Checks.{is_stop};
-ghost use Rattle.dr_flash.specs.Faults.{Counted};
 ghost use Rattle.dr_flash.specs.Fit.{RelationsFit};
-ghost use Rattle.dr_flash.specs.Here.{seen, refusal_of, armed_in, IsAtRest};
+ghost use Rattle.dr_flash.specs.Here.{world_seen, refusal_of, armed_in, IsAtRest};
 ghost use Rattle.dr_flash.specs.Turns.{Leads, Fails};
 ghost use Rattle.dr_flash.specs.Views.{view_seen};
 ghost use Rattle.dr_incr.specs.Copies.{HoldsUnchanged};
@@ -43,9 +43,9 @@ pub fn resync<P: Plant>(
     requires source { IsSome (place_of c.now s.0) }
     requires target { IsSome (place_of c.now t.0) }
     requires room { 2 ≤ j.old.spare }
-    ensures carried { (r : Rest) → Ends (armed_in (P.state p.old)) (seen (P.state p.new) c.now r j.new.events) (refusal_of result) (seen (P.state p.old) c.now r j.old.events) (resync_entries (seen (P.state p.old) c.now r j.old.events).control s.0 t.0 sequence) }
-    ensures leads { OnOk result ((r : Rest) → Leads (seen (P.state p.old) c.now r j.old.events) (resync_entries (seen (P.state p.old) c.now r j.old.events).control s.0 t.0 sequence) (seen (P.state p.new) c.now r j.new.events)) }
-    ensures fails { OnErr result ((r : Rest) → Fails (armed_in (P.state p.old)) (seen (P.state p.old) c.now r j.old.events) (resync_entries (seen (P.state p.old) c.now r j.old.events).control s.0 t.0 sequence) (seen (P.state p.new) c.now r j.new.events) (refusal_of result)) }
+    ensures carried { (r : Rest) → Ends (armed_in (P.state p.old)) (world_seen (P.state p.new) c.now r j.new.events) (refusal_of result) (world_seen (P.state p.old) c.now r j.old.events) (resync_entries (world_seen (P.state p.old) c.now r j.old.events).control s.0 t.0 sequence) }
+    ensures leads { OnOk result ((r : Rest) → Leads (world_seen (P.state p.old) c.now r j.old.events) (resync_entries (world_seen (P.state p.old) c.now r j.old.events).control s.0 t.0 sequence) (world_seen (P.state p.new) c.now r j.new.events)) }
+    ensures fails { OnErr result ((r : Rest) → Fails (armed_in (P.state p.old)) (world_seen (P.state p.old) c.now r j.old.events) (resync_entries (world_seen (P.state p.old) c.now r j.old.events).control s.0 t.0 sequence) (world_seen (P.state p.new) c.now r j.new.events) (refusal_of result)) }
     ensures unchanged { is_stop (refusal_of result) ≡ false → OnErr result ((P.state p.new ≡ P.state p.old) × (j.new ≡ j.old)) }
     ensures moved { OnOk result (IsMoved (P.state p.old) (P.state p.new) c.now t.0 (relations.resynced sequence (volume_seen (P.state p.old) c.now t.0).fields) None) }
     ensures same { OnOk result (HoldsUnchanged (P.state p.old) c.now t.0 → (k : ℕ) → view_seen (P.state p.new) c.now t.0 k ≡ track_seen (P.state p.new) c.now s.0 k) }

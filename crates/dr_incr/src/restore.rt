@@ -1,6 +1,7 @@
 //! A target is restored onto its source, track by track.
 
 ghost use Rattle.std.specs.Prelude.{◌≡◌, ◌≢◌, ℕ, ◌<◌, ◌≤◌, ◌+◌, true, false, ◌||◌, nat_eq, [], ◌∷◌, length, None, Some, IsSome, IfOk, OnOk, OnErr, is_err, is_some};
+ghost use Rattle.dr_logic.specs.Counts.{Counted};
 ghost use Rattle.dr_config.specs.Table.{place_of};
 ghost use Rattle.dr_model.specs.Carry.{now};
 ghost use Rattle.dr_model.specs.Entries.{copies_from, give_back, for_lowest};
@@ -11,9 +12,8 @@ ghost use Rattle.dr_model.specs.Relations as relations;
 ghost use Rattle.dr_volume.specs.Update.{IsAsBefore, IsMoved, OthersStay};
 ghost use Rattle.dr_volume.specs.View.{Rest, volume_seen, track_seen, ids_of};
 ghost use Rattle.dr_flash.specs.Checks.{is_stop};
-ghost use Rattle.dr_flash.specs.Faults.{Counted};
 ghost use Rattle.dr_flash.specs.Fit.{RelationsFit};
-ghost use Rattle.dr_flash.specs.Here.{seen, refusal_of, armed_in, IsAtRest};
+ghost use Rattle.dr_flash.specs.Here.{world_seen, refusal_of, armed_in, IsAtRest};
 ghost use Rattle.dr_flash.specs.Turns.{Leads, Fails};
 ghost use Rattle.dr_incr.specs.Copies.{HoldsUnchanged, BlankAreZeros, Restores};
 ghost use Rattle.dr_incr.specs.Steps.{HasFitSets, IsAsked, IsRestoredOnto, reverse_entries};
@@ -52,9 +52,9 @@ pub fn reverse_start<P: Plant>(
     requires sets { HasFitSets (volume_seen (P.state p.old) c.now t.0).fields }
     requires calm { is_stop unsettled ≡ false }
     requires room { (volume_seen (P.state p.old) c.now t.0).tracks + 3 ≤ j.old.spare }
-    ensures carried { (r : Rest) → IsAsked (seen (P.state p.old) c.now r j.old.events).control t.0 unsettled left → Ends (armed_in (P.state p.old)) (seen (P.state p.new) c.now r j.new.events) (refusal_of result) (seen (P.state p.old) c.now r j.old.events) (reverse_entries (seen (P.state p.old) c.now r j.old.events).control s.0 t.0) }
-    ensures leads { OnOk result ((r : Rest) → IsAsked (seen (P.state p.old) c.now r j.old.events).control t.0 unsettled left → Leads (seen (P.state p.old) c.now r j.old.events) (reverse_entries (seen (P.state p.old) c.now r j.old.events).control s.0 t.0) (seen (P.state p.new) c.now r j.new.events)) }
-    ensures fails { OnErr result ((r : Rest) → IsAsked (seen (P.state p.old) c.now r j.old.events).control t.0 unsettled left → Fails (armed_in (P.state p.old)) (seen (P.state p.old) c.now r j.old.events) (reverse_entries (seen (P.state p.old) c.now r j.old.events).control s.0 t.0) (seen (P.state p.new) c.now r j.new.events) (refusal_of result)) }
+    ensures carried { (r : Rest) → IsAsked (world_seen (P.state p.old) c.now r j.old.events).control t.0 unsettled left → Ends (armed_in (P.state p.old)) (world_seen (P.state p.new) c.now r j.new.events) (refusal_of result) (world_seen (P.state p.old) c.now r j.old.events) (reverse_entries (world_seen (P.state p.old) c.now r j.old.events).control s.0 t.0) }
+    ensures leads { OnOk result ((r : Rest) → IsAsked (world_seen (P.state p.old) c.now r j.old.events).control t.0 unsettled left → Leads (world_seen (P.state p.old) c.now r j.old.events) (reverse_entries (world_seen (P.state p.old) c.now r j.old.events).control s.0 t.0) (world_seen (P.state p.new) c.now r j.new.events)) }
+    ensures fails { OnErr result ((r : Rest) → IsAsked (world_seen (P.state p.old) c.now r j.old.events).control t.0 unsettled left → Fails (armed_in (P.state p.old)) (world_seen (P.state p.old) c.now r j.old.events) (reverse_entries (world_seen (P.state p.old) c.now r j.old.events).control s.0 t.0) (world_seen (P.state p.new) c.now r j.new.events) (refusal_of result)) }
     ensures unchanged { is_stop (refusal_of result) ≡ false → OnErr result ((P.state p.new ≡ P.state p.old) × (j.new ≡ j.old)) }
     ensures moved { OnOk result (IsMoved (P.state p.old) (P.state p.new) c.now t.0 (relations.restored (volume_seen (P.state p.old) c.now t.0).tracks (relations.turned (volume_seen (P.state p.old) c.now t.0).fields)) None) }
     ensures restores { OnOk result (HoldsUnchanged (P.state p.old) c.now t.0 → Restores (P.state p.old) (P.state p.new) c.now s.0 t.0) }
@@ -94,9 +94,9 @@ pub fn reverse_finish<P: Plant>(
     requires reversing { (volume_seen (P.state p.old) c.now t.0).fields.reversing ≡ true }
     requires held { IsSome (relations.lowest (volume_seen (P.state p.old) c.now t.0).tracks (volume_seen (P.state p.old) c.now t.0).fields.own) }
     requires room { (volume_seen (P.state p.old) c.now t.0).tracks + 2 ≤ j.old.spare }
-    ensures carried { (r : Rest) → Ends (armed_in (P.state p.old)) (seen (P.state p.new) c.now r j.new.events) (refusal_of result) (seen (P.state p.old) c.now r j.old.events) (for_lowest t.0 (λ k. now (Release t.0 k)) ∷ []) }
-    ensures leads { OnOk result ((r : Rest) → Leads (seen (P.state p.old) c.now r j.old.events) (for_lowest t.0 (λ k. now (Release t.0 k)) ∷ []) (seen (P.state p.new) c.now r j.new.events)) }
-    ensures fails { OnErr result ((r : Rest) → Fails (armed_in (P.state p.old)) (seen (P.state p.old) c.now r j.old.events) (for_lowest t.0 (λ k. now (Release t.0 k)) ∷ []) (seen (P.state p.new) c.now r j.new.events) (refusal_of result)) }
+    ensures carried { (r : Rest) → Ends (armed_in (P.state p.old)) (world_seen (P.state p.new) c.now r j.new.events) (refusal_of result) (world_seen (P.state p.old) c.now r j.old.events) (for_lowest t.0 (λ k. now (Release t.0 k)) ∷ []) }
+    ensures leads { OnOk result ((r : Rest) → Leads (world_seen (P.state p.old) c.now r j.old.events) (for_lowest t.0 (λ k. now (Release t.0 k)) ∷ []) (world_seen (P.state p.new) c.now r j.new.events)) }
+    ensures fails { OnErr result ((r : Rest) → Fails (armed_in (P.state p.old)) (world_seen (P.state p.old) c.now r j.old.events) (for_lowest t.0 (λ k. now (Release t.0 k)) ∷ []) (world_seen (P.state p.new) c.now r j.new.events) (refusal_of result)) }
     ensures moved { (k : ℕ) → relations.lowest (volume_seen (P.state p.old) c.now t.0).tracks (volume_seen (P.state p.old) c.now t.0).fields.own ≡ Some k → OnOk result (IsMoved (P.state p.old) (P.state p.new) c.now t.0 (relations.restored (volume_seen (P.state p.old) c.now t.0).tracks (relations.given_up (volume_seen (P.state p.old) c.now t.0).fields k)) None) }
     ensures refused { OnErr result (refusal_of result ≡ Some (stopped (volume_seen (P.state p.old) c.now t.0).server)) }
     ensures rest { IsAtRest (P.state p.new) c.now }
@@ -132,8 +132,8 @@ fn give_back<P: Plant>(
     requires reversing { (volume_seen (P.state p.old) c.now t.0).fields.reversing ≡ true }
     requires held { relations.lowest (volume_seen (P.state p.old) c.now t.0).tracks (volume_seen (P.state p.old) c.now t.0).fields.own ≡ Some k }
     requires room { length c.now.volumes + (volume_seen (P.state p.old) c.now t.0).tracks + 3 ≤ j.old.spare }
-    ensures leads { OnOk result ((r : Rest) → Leads (seen (P.state p.old) c.now r j.old.events) (give_back (ids_of c.now.volumes) s.0 t.0) (seen (P.state p.new) c.now r j.new.events)) }
-    ensures fails { OnErr result ((r : Rest) → Fails (armed_in (P.state p.old)) (seen (P.state p.old) c.now r j.old.events) (give_back (ids_of c.now.volumes) s.0 t.0) (seen (P.state p.new) c.now r j.new.events) (refusal_of result)) }
+    ensures leads { OnOk result ((r : Rest) → Leads (world_seen (P.state p.old) c.now r j.old.events) (give_back (ids_of c.now.volumes) s.0 t.0) (world_seen (P.state p.new) c.now r j.new.events)) }
+    ensures fails { OnErr result ((r : Rest) → Fails (armed_in (P.state p.old)) (world_seen (P.state p.old) c.now r j.old.events) (give_back (ids_of c.now.volumes) s.0 t.0) (world_seen (P.state p.new) c.now r j.new.events) (refusal_of result)) }
     ensures moved { OnOk result (IsMoved (P.state p.old) (P.state p.new) c.now t.0 (relations.restored (volume_seen (P.state p.old) c.now t.0).tracks (relations.given_up (volume_seen (P.state p.old) c.now t.0).fields k)) None) }
     ensures back { OnOk result (track_seen (P.state p.new) c.now s.0 k ≡ track_seen (P.state p.old) c.now t.0 k) }
     ensures kept { OnOk result (BlankAreZeros (P.state p.old) c.now s.0 → (q : ℕ) → q ≢ k → track_seen (P.state p.new) c.now s.0 q ≡ track_seen (P.state p.old) c.now s.0 q) }
@@ -173,9 +173,9 @@ pub fn reverse_step<P: Plant>(
     requires running { (P.state p.old).on (volume_seen (P.state p.old) c.now t.0).server ≡ true }
     requires reversing { (volume_seen (P.state p.old) c.now t.0).fields.related ≡ true → (volume_seen (P.state p.old) c.now t.0).fields.reversing ≡ true }
     requires room { length c.now.volumes + (volume_seen (P.state p.old) c.now t.0).tracks + 3 ≤ j.old.spare }
-    ensures carried { (s : ℕ) → IsRestoredOnto s (volume_seen (P.state p.old) c.now t.0).fields → (r : Rest) → Ends (armed_in (P.state p.old)) (seen (P.state p.new) c.now r j.new.events) (refusal_of result) (seen (P.state p.old) c.now r j.old.events) (give_back (ids_of c.now.volumes) s t.0) }
-    ensures leads { OnOk result ((s : ℕ) → IsRestoredOnto s (volume_seen (P.state p.old) c.now t.0).fields → (r : Rest) → Leads (seen (P.state p.old) c.now r j.old.events) (give_back (ids_of c.now.volumes) s t.0) (seen (P.state p.new) c.now r j.new.events)) }
-    ensures fails { OnErr result ((s : ℕ) → IsRestoredOnto s (volume_seen (P.state p.old) c.now t.0).fields → (r : Rest) → Fails (armed_in (P.state p.old)) (seen (P.state p.old) c.now r j.old.events) (give_back (ids_of c.now.volumes) s t.0) (seen (P.state p.new) c.now r j.new.events) (refusal_of result)) }
+    ensures carried { (s : ℕ) → IsRestoredOnto s (volume_seen (P.state p.old) c.now t.0).fields → (r : Rest) → Ends (armed_in (P.state p.old)) (world_seen (P.state p.new) c.now r j.new.events) (refusal_of result) (world_seen (P.state p.old) c.now r j.old.events) (give_back (ids_of c.now.volumes) s t.0) }
+    ensures leads { OnOk result ((s : ℕ) → IsRestoredOnto s (volume_seen (P.state p.old) c.now t.0).fields → (r : Rest) → Leads (world_seen (P.state p.old) c.now r j.old.events) (give_back (ids_of c.now.volumes) s t.0) (world_seen (P.state p.new) c.now r j.new.events)) }
+    ensures fails { OnErr result ((s : ℕ) → IsRestoredOnto s (volume_seen (P.state p.old) c.now t.0).fields → (r : Rest) → Fails (armed_in (P.state p.old)) (world_seen (P.state p.old) c.now r j.old.events) (give_back (ids_of c.now.volumes) s t.0) (world_seen (P.state p.new) c.now r j.new.events) (refusal_of result)) }
     ensures found { IfOk result (λ b. b ≡ is_some (relations.lowest (volume_seen (P.state p.old) c.now t.0).tracks (volume_seen (P.state p.old) c.now t.0).fields.own)) }
     ensures none { IfOk result (λ b. b ≡ false → (P.state p.new ≡ P.state p.old) × (j.new ≡ j.old)) }
     ensures moved { (k : ℕ) → relations.lowest (volume_seen (P.state p.old) c.now t.0).tracks (volume_seen (P.state p.old) c.now t.0).fields.own ≡ Some k → OnOk result (IsMoved (P.state p.old) (P.state p.new) c.now t.0 (relations.restored (volume_seen (P.state p.old) c.now t.0).tracks (relations.given_up (volume_seen (P.state p.old) c.now t.0).fields k)) None) }

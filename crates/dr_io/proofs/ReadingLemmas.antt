@@ -1,6 +1,6 @@
 -- A line that is read piece by piece.
 use Rattle.std.proofs.Common.{ℕ, suc, ◌≡◌, ◌≤◌, ◌⊎◌, leb, ◌<◌, ◌+◌, ◌-◌, List, ◌∷◌, ◌++◌, length, take, drop, get_or, ap, ◌∙◌, sym, refl, arith, min, Bool, true, false, not, cond, nat_lt, eqb, Some, None, inl, inr, length-append, get_or-take, take-append-drop, slice_index}
-use Rattle.std.proofs.lemmas.List.{drop-take, take-append-le}
+use Rattle.std.proofs.lemmas.List.{drop-take, take-append-le, take_all, length-take-le}
 use Rattle.std.specs.Prelude.{◌==◌}
 use Rattle.std.specs.List.{position, position_or_len}
 use Rattle.std.specs.Str.Lines.{strip_carriage_return}
@@ -12,6 +12,7 @@ use Rattle.std.proofs.lemmas.List.Quantifiers.{position-Some}
 use Rattle.std.proofs.Math.Seq.{take-append-add}
 use Rattle.dr_io.specs.Lines.{is_line_end, IsOpen, most_told}
 use Rattle.dr_io.specs.Reading.{most_kept, told_of}
+use Rattle.dr_logic.proofs.Choices.{not_chosen}
 
 dropped_twice : (bytes : List ℕ) (start n : ℕ) → drop (start + n) bytes ≡ drop n (drop start bytes)
 dropped_twice bytes start n = grind (arith, common_steps)
@@ -30,9 +31,6 @@ cut_twice bytes n m = grind (arith, common_steps)
 pub front_of_front : (bytes : List ℕ) (n m : ℕ) → m ≤ n → take m (take n bytes) ≡ take m bytes
 front_of_front bytes n m within = grind (arith, common_steps)
 
-all_of : (bytes : List ℕ) (n : ℕ) → length bytes ≤ n → take n bytes ≡ bytes
-all_of bytes n short = grind (arith, common_steps)
-
 at_most : (bytes : List ℕ) (n : ℕ) → take (min (length bytes) n) bytes ≡ take n bytes
 at_most bytes n = grind (arith, common_steps)
 
@@ -47,10 +45,6 @@ kept_more old piece most fits =
 -- what is kept of a front and more is what is kept of both
 pub kept_both : (front more : List ℕ) (most : ℕ) → take most (take most front ++ more) ≡ take most (front ++ more)
 kept_both front more most = grind (arith, common_steps)
-
-not_chosen : (b : Bool) (n : ℕ) → cond b (Some n) None ≡ None → b ≡ false
-not_chosen true n e = cc
-not_chosen false n e = refl
 
 drop_at : (xs : List ℕ) (n : ℕ) → n < length xs → drop n xs ≡ get_or xs n 0 ∷ drop (n + 1) xs
 drop_at xs n within = grind (arith, common_steps)
@@ -103,9 +97,6 @@ split_line xs n found =
 shorter : (bytes : List ℕ) (n m : ℕ) → length bytes ≤ m → length (take n bytes) ≤ m
 shorter bytes n m short = grind (arith, common_steps)
 
-pub front_length : (bytes : List ℕ) (n : ℕ) → n ≤ length bytes → length (take n bytes) ≡ n
-front_length bytes n within = grind (arith, common_steps)
-
 same_leb : (n : ℕ) → leb n n ≡ true
 same_leb n = grind (arith, nat_tests)
 
@@ -115,20 +106,20 @@ stripped_long line m long true = front_of_front line (length line - 1) m (omega 
 stripped_long line m long false = refl
 
 stripped_short : (line : List ℕ) (m : ℕ) → length line ≤ m → (b : Bool) → cond b (take (length line - 1) line) line ≡ take m (cond b (take (length line - 1) line) line)
-stripped_short line m short true = sym (all_of (take (length line - 1) line) m (shorter line (length line - 1) m short))
-stripped_short line m short false = sym (all_of line m short)
+stripped_short line m short true = sym ((take_all m (take (length line - 1) line) (shorter line (length line - 1) m short)))
+stripped_short line m short false = sym ((take_all m line short))
 
 -- what is told of the kept front is what is told of the line
 told_by : (line : List ℕ) (m : ℕ) → ((leb (suc m) (length line) ≡ true) × (suc m ≤ length line)) ⊎ ((leb (suc m) (length line) ≡ false) × (length line < suc m))
     → cond (leb (suc m) (length (take (suc m) line))) (take m (take (suc m) line)) (strip_carriage_return (take (suc m) line)) ≡ take m (strip_carriage_return line)
 told_by line m (inl at) =
-    let size = front_length line (suc m) at.1 in
+    let size = (length-take-le (suc m) line at.1) in
     ap (λ n. cond (leb (suc m) n) (take m (take (suc m) line)) (strip_carriage_return (take (suc m) line))) size
     ∙ ap (λ b. cond b (take m (take (suc m) line)) (strip_carriage_return (take (suc m) line))) (same_leb (suc m))
     ∙ front_of_front line (suc m) m (omega arith)
     ∙ sym (stripped_long line m at.1 (slice_index line (length line - 1) == 13))
 told_by line m (inr at) =
-    ap (λ l. cond (leb (suc m) (length l)) (take m l) (strip_carriage_return l)) (all_of line (suc m) (omega (arith, at.1)))
+    ap (λ l. cond (leb (suc m) (length l)) (take m l) (strip_carriage_return l)) ((take_all (suc m) line (omega (arith, at.1))))
     ∙ ap (λ b. cond b (take m line) (strip_carriage_return line)) at.0
     ∙ stripped_short line m (omega (arith, at.1)) (slice_index line (length line - 1) == 13)
 
@@ -142,9 +133,9 @@ take_within bytes m n within = grind (arith, common_steps, within)
 pub kept_at : (bytes piece copied : List ℕ) (len n most : ℕ) → length bytes ≡ most → len ≤ most → n ≡ min (length piece) (most - len)
     → take (len + length (take n piece)) copied ≡ take len bytes ++ take n piece → take (len + n) copied ≡ take most (take len bytes ++ piece)
 kept_at bytes piece copied len n most size within count same =
-    let first : length (take len bytes) ≡ len = front_length bytes len (omega (arith, size, within)) in
+    let first : length (take len bytes) ≡ len = (length-take-le len bytes (omega (arith, size, within))) in
     let few : n ≤ length piece = grind (arith, count) in
-    let more : length (take n piece) ≡ n = front_length piece n few in
+    let more : length (take n piece) ≡ n = (length-take-le n piece few) in
     ap (λ k. take (len + k) copied) (sym more) ∙ same
     ∙ ap (λ k. take len bytes ++ take k piece) (count ∙ ap (λ l. min (length piece) (most - l)) (sym first))
     ∙ kept_more (take len bytes) piece most (omega (arith, first, within))
@@ -155,8 +146,5 @@ filled into rest n within =
     let same : n - 0 ≡ n = omega arith in
     ap (λ k. take k (into ++ rest)) same ∙ take-append-le n into rest within
 
-pub shorter_take : (bytes : List ℕ) (room n : ℕ) → n ≤ length (take room bytes) → n ≤ room
-shorter_take bytes room n within = grind (arith, common_steps, within)
-
 pub room_length : (bytes : List ℕ) (room : ℕ) → length bytes ≡ 4096 → 0 < room → room ≤ 4096 → 0 < length (take room bytes)
-room_length bytes room size some fits = let same = front_length bytes room (omega (arith, size, fits)) in omega (arith, same, some)
+room_length bytes room size some fits = let same = (length-take-le room bytes (omega (arith, size, fits))) in omega (arith, same, some)

@@ -2,14 +2,15 @@
 use Rattle.std.proofs.Common.{ℕ, ◌≡◌, ◌≤◌, ◌<◌, ◌+◌, ◌-◌, List, [], ◌∷◌, ◌++◌, length, take, drop, ap, ◌∙◌, sym, refl, subst, arith, append_assoc, append-nil, length-append, length-take, take-append-drop, Option, Some, None, Ok, Err, inl, inr, true, false, nat_eq}
 use Rattle.std.proofs.lemmas.Bool.Decides.{nat_tests, leb_tells}
 use Rattle.std.proofs.lemmas.Grind.{common_steps}
-use Rattle.dr_io.specs.Faults.{Rose}
+use Rattle.std.proofs.lemmas.List.{length-take-le}
+use Rattle.dr_logic.specs.Counts.{Rose}
 use Rattle.dr_io.specs.Given.{Took, TookAll}
 use Rattle.dr_io.specs.Lines.{Progress, IsOpen, Reads, most_bytes, most_lines, most_piece, most_told}
 use Rattle.dr_io.specs.Reading.{most_kept, told_of, EndsLine, KeepsAll, Fills, Fails}
 use Rattle.dr_io.specs.declared.line_reader.Over.{Over}
 use Rattle.dr_io.specs.declared.line_reader.Over.TheVariants.{AtEnd, PastLimit, ByFault}
 use Rattle.dr_io.specs.declared.line_reader.Taken.TheVariants.{Line, End, TooLong}
-use Rattle.dr_io.proofs.ReadingLemmas.{filled, front_length, front_of_front, kept_both, open_both, open_before, split_line, told_line}
+use Rattle.dr_io.proofs.ReadingLemmas.{filled, front_of_front, kept_both, open_both, open_before, split_line, told_line}
 
 some_kept : (front : List ℕ) (most : ℕ) → 0 < length (take most front) → 0 < length front
 some_kept front most some = grind (arith, common_steps, some)
@@ -22,10 +23,6 @@ only_byte : (bytes : List ℕ) → length bytes ≡ 1 → (b : ℕ) × (bytes �
 only_byte [] one = absurd (omega (arith, one))
 only_byte (b ∷ []) one = (b, refl)
 only_byte (b ∷ c ∷ bs) one = absurd (omega (arith, one))
-
-pub no_bytes : (bytes : List ℕ) → length bytes ≡ 0 → bytes ≡ []
-no_bytes [] none = refl
-no_bytes (b ∷ bs) none = absurd (omega (arith, none))
 
 pub some_bytes : (bytes : List ℕ) → false ≡ nat_eq (length bytes) 0 → 0 < length bytes
 some_bytes bytes some = grind (arith, nat_tests, some)
@@ -76,7 +73,7 @@ pub fills : {S : Type 0} (left : S → Option (List ℕ)) (faults : S → ℕ) (
     → Fills left faults old new (take (n - 0) (drop 0 (into ++ rest))) room n
 fills left faults old new into rest room n within fits given leaves ends silent steady =
     let front = filled into rest n within in record {
-      count = ap length front ∙ front_length into n within;
+      count = ap length front ∙ (length-take-le n into within);
       fits = fits;
       took = λ told h. (
         drop n told,

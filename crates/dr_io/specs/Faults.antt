@@ -1,13 +1,5 @@
--- When a call is a fault, and when a count of faults rose.
+-- When a call is a fault.
 use Rattle.std.specs.Prelude.{ℕ, ◌+◌, ◌-◌, ◌^◌, ◌≤◌, min, Bool, true, ◌&&◌, nat_eq, nat_lt, Result, Ok, Err}
-
--- The count after one more: it stands still at the end of 64 bits.
-abbrev pub one_more : ℕ → ℕ
-one_more before = min (before + 1) (2 ^ 64 - 1)
-
--- The count now shows at least one fault more than before.
-abbrev pub Rose : ℕ → ℕ → Type 0
-Rose before now = one_more before ≤ now
 
 -- Some bytes were wanted, and none were taken.
 abbrev pub takes_none : ℕ → ℕ → Bool

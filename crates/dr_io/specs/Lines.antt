@@ -2,7 +2,7 @@
 use Rattle.std.specs.Prelude.{◌≡◌, ℕ, ◌+◌, ◌<◌, ◌≤◌, ◌⊎◌, Bool, ◌==◌, List, [], ◌∷◌, ◌++◌, take, length, Option, Some, None, Result, Ok, Err}
 use Rattle.std.specs.List.{position}
 use Rattle.std.specs.Str.Lines.{strip_carriage_return}
-use Rattle.dr_io.specs.Faults.{Rose}
+use Rattle.dr_logic.specs.Counts.{Rose}
 use Rattle.dr_io.specs.Given.{Took, TookAll}
 use Rattle.dr_io.specs.declared.streams.Failed.{Failed}
 use Rattle.dr_io.specs.declared.line_reader.Over.{Over}
@@ -26,6 +26,7 @@ most_piece = 4096
 abbrev pub most_told : ℕ
 most_told = 1025
 
+-- the byte that ends a line: a line feed
 abbrev pub is_line_end : ℕ → Bool
 is_line_end b = b == 10
 
@@ -42,6 +43,7 @@ pub record Progress : Type 0 where
   pub line : List ℕ
   pub over : Option Over
 
+-- a reading before its first call
 abbrev pub begun : Progress
 begun = record { ahead = []; taken = 0; given = 0; line = []; over = None }
 
@@ -69,6 +71,7 @@ module _ {S : Type 0} (left : S → Option (List ℕ)) (faults : S → ℕ) (old
     pub nothing_left : TookAll left new []
     pub over : after.over ≡ Some AtEnd
 
+  -- one line more, within the limits
   pub record GivesLine (before after : Progress) (all : List ℕ) : Type 0 where
     pub given : after.given ≡ before.given + 1
     pub few : after.given ≤ most_lines
@@ -100,6 +103,7 @@ module _ {S : Type 0} (left : S → Option (List ℕ)) (faults : S → ℕ) (old
     pub unended : IsOpen front
     pub bytes : after.taken ≡ most_bytes + 1
 
+  -- a limit is passed, and the reading is over
   pub record GivesTooLong (before after : Progress) (all : List ℕ) : Type 0 where
     pub given : after.given ≡ before.given
     pub kept : faults new ≡ faults old
@@ -114,6 +118,7 @@ module _ {S : Type 0} (left : S → Option (List ℕ)) (faults : S → ℕ) (old
     pub rose : Rose (faults old) (faults new)
     pub over : after.over ≡ Some ByFault
 
+  -- by what the call answers
   abbrev pub Gives : Progress → Progress → List ℕ → Result Taken Failed → Type 0
   Gives before after all (Ok Line) = GivesLine before after all
   Gives before after all (Ok End) = GivesEnd before after all
@@ -133,9 +138,11 @@ module _ {S : Type 0} (left : S → Option (List ℕ)) (faults : S → ℕ) (old
     pub reader : after ≡ before
     pub answer : result ≡ answer_of over
 
+  -- by whether the reading was over before
   abbrev pub NextBy : Option Over → Progress → Progress → Result Taken Failed → Type 0
   NextBy None before after result = Reads before after result
   NextBy (Some over) before after result = StaysOver over before after result
 
+  -- what a call gives
   abbrev pub IsNext : Progress → Progress → Result Taken Failed → Type 0
   IsNext before after result = NextBy before.over before after result

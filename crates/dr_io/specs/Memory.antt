@@ -1,7 +1,8 @@
 -- What a source and a sink in memory hold, and what a call does to them.
 use Rattle.std.specs.Prelude.{ℕ, ◌-◌, min, Bool, ◌||◌, nat_eq, if◌then◌else◌, List, ◌++◌, length, take, drop}
 use Rattle.std.specs.List.{list_any}
-use Rattle.dr_io.specs.Faults.{one_more, takes_none}
+use Rattle.dr_io.specs.Faults.{takes_none}
+use Rattle.dr_logic.specs.Counts.{risen}
 
 -- The number stands in the list.
 abbrev pub listed : List ℕ → ℕ → Bool
@@ -17,7 +18,7 @@ pub record Feed : Type 0 where
 
 -- The next call fails.
 abbrev pub take_fails : Feed → Bool
-take_fails f = listed f.fails (one_more f.calls)
+take_fails f = listed f.fails (risen f.calls)
 
 -- How many bytes the next call gives to a reader with this much room, unless it fails.
 abbrev pub given : Feed → ℕ → ℕ
@@ -27,8 +28,8 @@ given f room = min (min f.piece room) (length f.left)
 abbrev pub after_take : Feed → ℕ → Feed
 after_take f room =
     if take_fails f
-    then record f { calls = one_more f.calls; faults = one_more f.faults }
-    else record f { calls = one_more f.calls; left = drop (given f room) f.left }
+    then record f { calls = risen f.calls; faults = risen f.faults }
+    else record f { calls = risen f.calls; left = drop (given f room) f.left }
 
 -- A sink in memory.
 pub record Store : Type 0 where
@@ -41,12 +42,12 @@ pub record Store : Type 0 where
 
 -- The next call fails.
 abbrev pub put_fails : Store → Bool
-put_fails s = listed s.fails (one_more s.calls)
+put_fails s = listed s.fails (risen s.calls)
 
 -- How many bytes of a piece of this length the next call takes, unless it fails.
 abbrev pub accepted : Store → ℕ → ℕ
 accepted s wanted =
-    if listed s.stuck (one_more s.calls) then 0 else min wanted (s.room - length s.written)
+    if listed s.stuck (risen s.calls) then 0 else min wanted (s.room - length s.written)
 
 -- The next call is a fault: it fails, or takes nothing of a piece that isn't empty.
 abbrev pub put_is_fault : Store → ℕ → Bool
@@ -55,7 +56,7 @@ put_is_fault s wanted = put_fails s || takes_none wanted (accepted s wanted)
 -- The sink after a call: one call more, the bytes that were taken, and a fault more where it is one.
 abbrev pub after_put : Store → List ℕ → Store
 after_put s piece = record s {
-  calls = one_more s.calls;
+  calls = risen s.calls;
   written = if put_fails s then s.written else s.written ++ take (accepted s (length piece)) piece;
-  faults = if put_is_fault s (length piece) then one_more s.faults else s.faults;
+  faults = if put_is_fault s (length piece) then risen s.faults else s.faults;
 }

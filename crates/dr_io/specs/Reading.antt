@@ -2,7 +2,7 @@
 use Rattle.std.specs.Prelude.{◌≡◌, ℕ, ◌+◌, ◌≤◌, List, [], ◌++◌, take, drop, length, nat_lt, if◌then◌else◌, Option, Some, Bool, true, false, Result, Ok, Err}
 use Rattle.std.specs.List.{position}
 use Rattle.std.specs.Str.Lines.{strip_carriage_return}
-use Rattle.dr_io.specs.Faults.{Rose}
+use Rattle.dr_logic.specs.Counts.{Rose}
 use Rattle.dr_io.specs.Given.{Took, TookAll}
 use Rattle.dr_io.specs.Lines.{is_line_end, IsOpen, most_told}
 use Rattle.dr_io.specs.declared.streams.Failed.{Failed}
@@ -28,6 +28,7 @@ pub record KeepsAll (ahead kept ahead_after kept_after : List ℕ) : Type 0 wher
   pub rest : ahead_after ≡ []
   pub keeps : kept_after ≡ take most_kept (kept ++ ahead)
 
+-- by whether the line ended in this piece
 abbrev pub CutsLine : List ℕ → List ℕ → List ℕ → List ℕ → Bool → Type 0
 CutsLine ahead kept ahead_after kept_after true = EndsLine ahead kept ahead_after kept_after
 CutsLine ahead kept ahead_after kept_after false = KeepsAll ahead kept ahead_after kept_after
@@ -47,6 +48,7 @@ module _ {S : Type 0} (left : S → Option (List ℕ)) (faults : S → ℕ) (old
     pub took : Took left old new []
     pub rose : Rose (faults old) (faults new)
 
+  -- by what the call answers
   abbrev pub FillsBy : List ℕ → ℕ → Result ℕ Failed → Type 0
   FillsBy after room (Ok n) = Fills after room n
   FillsBy after room (Err f) = Fails after

@@ -1,4 +1,13 @@
 //! Sources of bytes and sinks for bytes. Each call may fail, and each failure is counted.
+//!
+//! `LineReader::next` gives the lines of a source one after another, however the source cuts its bytes: the next line,
+//! the end, `TooLong` exactly past the limit of bytes or lines, or the source's fault (`next`). It takes pieces of at
+//! most 4,096 bytes, and has at most that much ahead of the line that it gave (`near`). `line` is that line without its
+//! line end; of one longer than 1,024 bytes its first 1,025. Sources and sinks fail exactly where their count of faults
+//! rises (`rose`, `steady`), the count never falls, and a call that failed took nothing (`untouched`) or wrote a front
+//! of its piece (`part`). `MemSource` gives exactly its bytes (`filled`, `state`), `MemSink` keeps exactly what it took
+//! (`taken`, `state`). `StdSource` and `StdSink` count exactly the calls that failed, and those that took no byte of a
+//! piece (`counted`).
 #![tactic(auto)]
 
 mod ahead;
@@ -18,6 +27,3 @@ pub use mem_source::MemSource;
 pub use std_sink::StdSink;
 pub use std_source::StdSource;
 pub use streams::{Failed, Sink, Source};
-
-#[cfg(test)]
-mod tests;

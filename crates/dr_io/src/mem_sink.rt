@@ -1,5 +1,6 @@
 ghost use Rattle.std.specs.Prelude.{◌≡◌, false, ℕ, ◌<◌, ◌≤◌, List, [], ◌++◌, length, take, None, Some, IfOk, OnErr, is_err, min, if◌then◌else◌};
-ghost use Rattle.dr_io.specs.Faults.{Rose, takes_none};
+ghost use Rattle.dr_logic.specs.Counts.{Rose};
+ghost use Rattle.dr_io.specs.Faults.{takes_none};
 ghost use Rattle.dr_io.specs.Memory.{put_fails, accepted, after_put};
 
 use crate::copies::copy_at;

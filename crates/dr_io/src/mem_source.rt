@@ -1,5 +1,5 @@
 ghost use Rattle.std.specs.Prelude.{◌≡◌, ℕ, ◌<◌, ◌≤◌, ◌↔◌, List, [], ◌++◌, length, take, drop, None, Some, IfOk, OnErr, is_err};
-ghost use Rattle.dr_io.specs.Faults.{Rose};
+ghost use Rattle.dr_logic.specs.Counts.{Rose};
 ghost use Rattle.dr_io.specs.Memory.{take_fails, given, after_take};
 
 use crate::counts::{listed, one_fault_more};

@@ -1,7 +1,8 @@
 ghost use Rattle.std.specs.Prelude.{◌≡◌, false, ◌<◌, ◌≤◌, length, take, None, IfOk, OnErr, if◌then◌else◌};
 ghost use Rattle.std.specs.Io.KnownBytes.{Appends};
+ghost use Rattle.dr_logic.specs.Counts.{Rose, risen};
 ghost use Rattle.dr_io.specs.Given.{AppendsFront};
-ghost use Rattle.dr_io.specs.Faults.{Rose, is_fault, one_more, takes_none};
+ghost use Rattle.dr_io.specs.Faults.{is_fault, takes_none};
 
 use crate::counts::{count_if_none, one_fault_more};
 use crate::streams::{Failed, Sink};
@@ -38,7 +39,7 @@ impl<W: Write + Drop> Sink for StdSink<W> {
         ensures rose { OnErr result (Rose self.old.faults self.new.faults) }
         ensures stuck { IfOk result (λ n. n ≡ 0 → 0 < length piece.now → Rose self.old.faults self.new.faults) }
         ensures steady { IfOk result (λ n. takes_none (length piece.now) n ≡ false → self.new.faults ≡ self.old.faults) }
-        ensures counted { self.new.faults ≡ (if is_fault result (length piece.now) then one_more self.old.faults else self.old.faults) }
+        ensures counted { self.new.faults ≡ (if is_fault result (length piece.now) then risen self.old.faults else self.old.faults) }
         ensures appended { IfOk result (λ n. Appends (W.contents self.old.writer) (W.contents self.new.writer) (take n piece.now)) }
         ensures part { OnErr result (AppendsFront (W.contents self.old.writer) (W.contents self.new.writer) piece.now) }
     {

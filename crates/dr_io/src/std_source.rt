@@ -1,6 +1,6 @@
 ghost use Rattle.std.specs.Prelude.{◌≡◌, ◌<◌, ◌≤◌, length, None, IfOk, OnErr, is_err, if◌then◌else◌};
 ghost use Rattle.std.specs.Io.KnownBytes.{ReadConsumes};
-ghost use Rattle.dr_io.specs.Faults.{Rose, one_more};
+ghost use Rattle.dr_logic.specs.Counts.{Rose, risen};
 
 use crate::ahead::MOST_PIECE;
 use crate::copies::copy_at;
@@ -36,7 +36,7 @@ impl<R: Read + Drop> Source for StdSource<R> {
         ensures never_falls { self.old.faults ≤ self.new.faults }
         ensures rose { OnErr result (Rose self.old.faults self.new.faults) }
         ensures steady { IfOk result (λ n. self.new.faults ≡ self.old.faults) }
-        ensures counted { self.new.faults ≡ (if is_err result then one_more self.old.faults else self.old.faults) }
+        ensures counted { self.new.faults ≡ (if is_err result then risen self.old.faults else self.old.faults) }
         ensures untouched { OnErr result (into.new ≡ into.old) }
         ensures read { ReadConsumes (R.remaining self.old.reader) (R.remaining self.new.reader) result into.new }
     {

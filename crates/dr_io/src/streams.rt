@@ -1,5 +1,6 @@
 ghost use Rattle.std.specs.Prelude.{◌≡◌, ℕ, ◌<◌, ◌≤◌, ◌↔◌, false, List, [], ◌++◌, length, take, drop, Option, None, Some, IfOk, OnErr};
-ghost use Rattle.dr_io.specs.Faults.{Rose, takes_none};
+ghost use Rattle.dr_logic.specs.Counts.{Rose};
+ghost use Rattle.dr_io.specs.Faults.{takes_none};
 
 /// A call that failed; the stream has counted a fault.
 #[derive(Clone, Copy)]

@@ -4,7 +4,7 @@ use Rattle.std.specs.Int.{bit_at, trailing_zeros}
 use Rattle.std.proofs.lemmas.Nat.{shr-shr, shr_le, le_or_l, le_or_r}
 use Rattle.std.proofs.lemmas.Nat.Bits.{bit_at-trailing_zeros, bit_at-zero, bit_at_above}
 use Rattle.std.proofs.lemmas.Bool.Decides.{nat_tests, leb_tells, eqb_tells}
-use Rattle.std.proofs.lemmas.Bool.{cases_lt as ltb_cases}
+use Rattle.std.proofs.lemmas.Bool.{cases_lt as ltb_cases, eq-eqb}
 use Rattle.dr_lanes.specs.Words.{is_set, bits_of, HasNoneFrom, IsNextFrom}
 use Rattle.dr_lanes.proofs.Members.{contains-bits_of, past_is_clear}
 use Rattle.dr_lanes.proofs.Counts.{bit}
@@ -17,9 +17,6 @@ pub record IsLowest (w s z : ℕ) : Type 0 where
 
 bit_of_shifted : (w s i : ℕ) → bit_at (w / 2 ^ s) i ≡ bit_at w (s + i)
 bit_of_shifted w s i = ap (λ n. n % 2) (shr-shr w s i)
-
-one_is_set : (b : ℕ) → b ≡ 1 → nat_eq b 1 ≡ true
-one_is_set b e = grind (arith, nat_tests)
 
 zero_is_clear : (b : ℕ) → b ≡ 0 → nat_eq b 1 ≡ false
 zero_is_clear b e = grind (arith, nat_tests)
@@ -38,7 +35,7 @@ lowest_of w s low some =
     let one : bit_at w (s + z) ≡ 1 = sym (bit_of_shifted w s z) ∙ is.1 in
     record {
       within = in_word w (s + z) low one;
-      set = one_is_set _ one;
+      set = (eq-eqb _ 1 one);
       clear = λ i from to.
           let place : s + (i - s) ≡ i = omega arith in
           zero_is_clear _ (ap (bit_at w) (sym place) ∙ sym (bit_of_shifted w s (i - s)) ∙ is.2 (i - s) (omega arith));

@@ -76,9 +76,6 @@ set_is_below words k member = elim (leb_tells (64 * length words) k) as (λ _. k
   | inr p ↦ p.1
 ]
 
-one_is : (b : ℕ) → nat_eq b 1 ≡ true → b ≡ 1
-one_is b e = eqb-true b 1 e
-
 -- one word more of the mask
 pub mask-more : (a b : List (List ℕ)) (mask : List ℕ) (i w at blocks : ℕ) → i < length mask → at ≡ min (64 * i) (length a) → blocks ≡ min 64 (length a - at) → IsMarked a b at w blocks → ((k : ℕ) → k < 64 * i → (is_set mask k ≡ true) ↔ IsSameBlock a b k) → (k : ℕ) → k < 64 * (i + 1) → (is_set (set mask i w) k ≡ true) ↔ IsSameBlock a b k
 mask-more a b mask i w at blocks within reached some marked so_far k low = elim (leb_tells (64 * i) k) as (λ _. (is_set (set mask i w) k ≡ true) ↔ IsSameBlock a b k) [
@@ -90,7 +87,7 @@ mask-more a b mask i w at blocks within reached some marked so_far k low = elim 
       ap (is_set (set mask i w)) (sym place) ∙ is_set-at (set mask i w) i (k - 64 * i) (omega arith) ∙ ap (λ v. nat_eq (bit_at v (k - 64 * i)) 1) (get_or-set_same mask i w 0 within)
       in (
         λ yes_set.
-            let m = (marked (k - 64 * i)).0 (one_is _ (sym is ∙ yes_set)) in
+            let m = (marked (k - 64 * i)).0 ((eqb-true _ 1 (sym is ∙ yes_set))) in
             let few = m.0 in
             let here : at + (k - 64 * i) ≡ k = omega arith in
             subst (λ (j : ℕ). IsSameBlock a b j) here m.1,

@@ -1,5 +1,10 @@
 //! Kernels over words of bits and over blocks, four words or one block at a time by vectors. None
 //! of them takes memory from an allocator.
+//!
+//! Each kernel is its plain definition, for every length that it takes. `or_into` and `and_not_into`: word for word
+//! (`words`), and union and difference of the sets of bits (`bits`). `count` is how many bits are set. `next_set` gives
+//! the lowest bit from a place on that is set, and `None` exactly where there is none. `same_block_mask` sets exactly
+//! the bits whose blocks are the same in both lists, and clears all others. None of them takes memory.
 #![tactic(auto)]
 
 ghost use Rattle.std.specs.Prelude.{◌≡◌, ◌↔◌, ℕ, ◌+◌, ◌*◌, ◌/◌, ◌%◌, ◌<◌, ◌≤◌, Bool, true, length, IsTrue, MatchOption, slice_index, bit_and, bit_or};
@@ -158,6 +163,3 @@ fn same_block(a: &Block64, b: &Block64) -> bool
 {
     u8x64::from_array(*a).simd_eq(u8x64::from_array(*b)).all()
 }
-
-#[cfg(test)]
-mod tests;

@@ -3,14 +3,14 @@ use Rattle.std.proofs.Common.{ℕ, ◌≡◌, ◌<◌, ◌%◌, refl, ap, List, 
 use Rattle.std.specs.Prelude.{codes, nat_eq, if◌then◌else◌, replicate, take, drop}
 use Rattle.std.specs.Fmt.{digits}
 use Rattle.std.specs.List.{fold}
+use Rattle.dr_logic.specs.Bytes.{zeros}
 use Rattle.dr_ids.specs.Spelling.{hex2, hex4}
-use Rattle.dr_model.specs.Contents.{zeros}
 use Rattle.dr_model.specs.declared.event.Event.{Event}
 use Rattle.dr_model.specs.declared.event.Event.TheVariants.{Server, Shown, Answer}
-use Rattle.dr_model.specs.Text.{Told, said_text, untold, heard, text, text_from, volume_digits, session_digits}
+use Rattle.dr_model.specs.Text.{Heard, said_text, untold, heard, text, text_from, volume_digits, session_digits}
 
 -- two servers are defined
-abbrev defined : Told
+abbrev defined : Heard
 defined = record { names = λ s. if nat_eq s 0 then Some (codes "A") else if nat_eq s 1 then Some (codes "B") else None; shown = 65 ∷ 0 ∷ 10 ∷ 0 ∷ 0 ∷ [] }
 
 wrote : said_text untold 0 1 12 0 ≡ codes "ok w12"

@@ -6,21 +6,14 @@ use Rattle.std.specs.Prelude.{slice_get, slice_index_or, Option, Some, None}
 use Rattle.std.specs.List.{fold}
 use Rattle.dr_model.specs.declared.event.Event.{Event}
 use Rattle.dr_model.specs.declared.step.Name.{Name}
-use Rattle.dr_model.specs.Text.{Told, heard, text_from, trimmed, before_trimmed}
+use Rattle.dr_model.specs.Text.{Heard, heard, text_from, trimmed, before_trimmed}
 use Rattle.dr_list.specs.At.{heard_at, line_told}
 use Rattle.dr_list.specs.Seen.{name_of, names_of}
-
-trimmed-zero : (xs : List ℕ) → trimmed (xs ++ 0 ∷ []) ≡ trimmed xs
-trimmed-zero [] = refl
-trimmed-zero (x ∷ xs) = ap (before_trimmed x) (trimmed-zero xs)
+use Rattle.dr_facts.proofs.Texts.{trimmed-zero, trimmed-kept}
 
 trimmed-push : (x b : ℕ) (xs : List ℕ) → before_trimmed x (xs ++ b ∷ []) ≡ x ∷ (xs ++ b ∷ [])
 trimmed-push x b [] = refl
 trimmed-push x b (y ∷ ys) = refl
-
-trimmed-other : (xs : List ℕ) (b : ℕ) → nat_eq b 0 ≡ false → trimmed (xs ++ b ∷ []) ≡ xs ++ b ∷ []
-trimmed-other [] b h = ap (λ v. cond v [] (b ∷ [])) h
-trimmed-other (x ∷ xs) b h = ap (before_trimmed x) (trimmed-other xs b h) ∙ trimmed-push x b xs
 
 last_of : (xs : List ℕ) (len : ℕ) → 0 < len → len ≤ length xs → take len xs ≡ take (len - 1) xs ++ get_or xs (len - 1) 0 ∷ []
 last_of xs len some within =
@@ -35,25 +28,20 @@ trimmed-shorter xs len some within is =
 -- no zero at the end
 pub trimmed-whole : (xs : List ℕ) (len : ℕ) → 0 < len → len ≤ length xs → nat_eq (get_or xs (len - 1) 0) 0 ≡ false → take len xs ≡ trimmed (take len xs)
 trimmed-whole xs len some within is =
-    last_of xs len some within ∙ sym (ap trimmed (last_of xs len some within) ∙ trimmed-other (take (len - 1) xs) (get_or xs (len - 1) 0) is)
-
-pub some_event : (es : List Event) (i : ℕ) → i < length es → (e : Event) × (slice_get es i ≡ Some e)
-some_event [] i lt = absurd (omega arith)
-some_event (e ∷ es) zero lt = (e, refl)
-some_event (e ∷ es) (suc i) lt = some_event es i (omega arith)
+    last_of xs len some within ∙ sym (ap trimmed (last_of xs len some within) ∙ trimmed-kept (take (len - 1) xs) (get_or xs (len - 1) 0) is)
 
 -- the rest of the text from an event on
-text_next : (es : List Event) (i : ℕ) (told : Told) → text_from told (drop i es) ≡ line_told told (slice_get es i) ++ text_from (heard_at told (slice_get es i)) (drop (suc i) es)
+text_next : (es : List Event) (i : ℕ) (told : Heard) → text_from told (drop i es) ≡ line_told told (slice_get es i) ++ text_from (heard_at told (slice_get es i)) (drop (suc i) es)
 text_next [] zero told = refl
 text_next [] (suc i) told = refl
 text_next (e ∷ es) zero told = refl
 text_next (e ∷ es) (suc i) told = text_next es i told
 
-pub text-event : (es : List Event) (i : ℕ) (told : Told) → text_from told (drop i es) ≡ line_told told (slice_get es i) ++ text_from (heard_at told (slice_get es i)) (drop (i + 1) es)
+pub text-event : (es : List Event) (i : ℕ) (told : Heard) → text_from told (drop i es) ≡ line_told told (slice_get es i) ++ text_from (heard_at told (slice_get es i)) (drop (i + 1) es)
 text-event es i told = text_next es i told ∙ ap (λ n. line_told told (slice_get es i) ++ text_from (heard_at told (slice_get es i)) (drop n es)) (let e : suc i ≡ i + 1 = omega arith in e)
 
 -- what so many events tell, from an event on
-heard_next : (es : List Event) (i n : ℕ) (told : Told) → fold heard told (take (suc n) (drop i es)) ≡ fold heard (heard_at told (slice_get es i)) (take n (drop (suc i) es))
+heard_next : (es : List Event) (i n : ℕ) (told : Heard) → fold heard told (take (suc n) (drop i es)) ≡ fold heard (heard_at told (slice_get es i)) (take n (drop (suc i) es))
 heard_next [] zero zero told = refl
 heard_next [] zero (suc n) told = refl
 heard_next [] (suc i) zero told = refl
@@ -61,7 +49,7 @@ heard_next [] (suc i) (suc n) told = refl
 heard_next (e ∷ es) zero n told = refl
 heard_next (e ∷ es) (suc i) n told = heard_next es i n told
 
-pub heard-event : (es : List Event) (i to : ℕ) (told : Told) → i < to
+pub heard-event : (es : List Event) (i to : ℕ) (told : Heard) → i < to
     → fold heard told (take (to - i) (drop i es)) ≡ fold heard (heard_at told (slice_get es i)) (take (to - (i + 1)) (drop (i + 1) es))
 heard-event es i to told lt =
     ap (λ n. fold heard told (take n (drop i es))) (let e : to - i ≡ suc (to - (i + 1)) = omega arith in e)
@@ -69,7 +57,7 @@ heard-event es i to told lt =
     ∙ ap (λ n. fold heard (heard_at told (slice_get es i)) (take (to - (i + 1)) (drop n es))) (let e : suc i ≡ i + 1 = omega arith in e)
 
 -- the same of all that are left
-pub heard-last : (es : List Event) (i : ℕ) (told : Told) → i < length es
+pub heard-last : (es : List Event) (i : ℕ) (told : Heard) → i < length es
     → fold heard told (drop i es) ≡ fold heard (heard_at told (slice_get es i)) (drop (i + 1) es)
 heard-last es i told lt =
     ap (fold heard told) (sym (take_rest es i)) ∙ heard-event es i (length es) told lt ∙ ap (fold heard (heard_at told (slice_get es i))) (take_rest es (i + 1))

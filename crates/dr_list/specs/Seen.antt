@@ -1,7 +1,7 @@
 -- What a table of names and a track tell.
 use Rattle.std.specs.Prelude.{ℕ, List, take, Option, Some, None, slice_index_or}
 use Rattle.dr_model.specs.declared.step.Name.{Name}
-use Rattle.dr_model.specs.Text.{Told}
+use Rattle.dr_model.specs.Text.{Heard}
 use Rattle.dr_list.specs.declared.told.Told as table
 
 -- the name in an entry of the table
@@ -13,5 +13,6 @@ name_of (Some name) = Some (take name.len name.bytes)
 abbrev pub names_of : List (Option Name) → ℕ → Option (List ℕ)
 names_of names s = name_of (slice_index_or names s None)
 
-unfoldable pub seen : table.Told → Told
-seen told = record { names = names_of told.names; shown = told.shown }
+-- as the text refers to them
+unfoldable pub heard_seen : table.Told → Heard
+heard_seen told = record { names = names_of told.names; shown = told.shown }

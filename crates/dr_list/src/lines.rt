@@ -3,7 +3,7 @@ ghost use Rattle.std.specs.List.{fold};
 ghost use Rattle.dr_model.specs.declared.event.Event.TheVariants.{Answer};
 ghost use Rattle.dr_model.specs.Text.{untold, heard, line_text, text_from};
 ghost use Rattle.dr_list.specs.At.{line_told, heard_at};
-ghost use Rattle.dr_list.specs.Seen.{seen};
+ghost use Rattle.dr_list.specs.Seen.{heard_seen};
 
 use crate::pieces::push_number;
 use crate::said::push_said;
@@ -16,7 +16,7 @@ const USUAL_BYTES: usize = 32;
 
 /// Adds the line of an answer.
 fn push_answer(out: &mut Vec<u8>, told: &Told, line: u32, says: Numbers) -> Result<(), AllocError>
-    ensures { OnOk result (out.new.items ≡ out.old.items ++ line_text (seen told.now) (Answer line says.code says.a says.b says.c)) }
+    ensures { OnOk result (out.new.items ≡ out.old.items ++ line_text (heard_seen told.now) (Answer line says.code says.a says.b says.c)) }
 {
     push_number(out, line)?;
     out.extend_from_slice(b" ")?;
@@ -27,7 +27,7 @@ fn push_answer(out: &mut Vec<u8>, told: &Told, line: u32, says: Numbers) -> Resu
 
 /// Adds the line that an event prints; most print none.
 fn push_event(out: &mut Vec<u8>, told: &Told, event: &Event) -> Result<(), AllocError>
-    ensures { OnOk result (out.new.items ≡ out.old.items ++ line_text (seen told.now) event.now) }
+    ensures { OnOk result (out.new.items ≡ out.old.items ++ line_text (heard_seen told.now) event.now) }
 {
     match event {
         Event::Answer {
@@ -56,8 +56,8 @@ fn print_at(
     journal: &Journal,
     place: usize,
 ) -> Result<(), AllocError>
-    ensures line { OnOk result (out.new.items ≡ out.old.items ++ line_told (seen told.old) (slice_get journal.now.events place)) }
-    ensures told { seen told.new ≡ heard_at (seen told.old) (slice_get journal.now.events place) }
+    ensures line { OnOk result (out.new.items ≡ out.old.items ++ line_told (heard_seen told.old) (slice_get journal.now.events place)) }
+    ensures told { heard_seen told.new ≡ heard_at (heard_seen told.old) (slice_get journal.now.events place) }
 {
     match journal.event(place) {
         Some(event) => {
@@ -70,7 +70,7 @@ fn print_at(
 }
 
 fn hear_at(told: &mut Told, journal: &Journal, place: usize)
-    ensures { seen told.new ≡ heard_at (seen told.old) (slice_get journal.now.events place) }
+    ensures { heard_seen told.new ≡ heard_at (heard_seen told.old) (slice_get journal.now.events place) }
 {
     if let Some(event) = journal.event(place) {
         told.hear(event);
@@ -79,7 +79,7 @@ fn hear_at(told: &mut Told, journal: &Journal, place: usize)
 
 /// Hears the events of a journal from one place up to another.
 fn hear_between(told: &mut Told, journal: &Journal, from: usize, to: usize)
-    ensures { seen told.new ≡ fold heard (seen told.old) (take (to - from) (drop from journal.now.events)) }
+    ensures { heard_seen told.new ≡ fold heard (heard_seen told.old) (take (to - from) (drop from journal.now.events)) }
 {
     for i in from..to {
         hear_at(told, journal, i);
@@ -99,8 +99,8 @@ pub fn text_on(
     from: usize,
 ) -> Result<Vec<u8>, AllocError>
     requires { from ≤ length journal.now.events }
-    ensures text { IfOk result (λ out. out.items ≡ text_from (seen told.old) (drop from journal.now.events)) }
-    ensures told { seen told.new ≡ fold heard (seen told.old) (drop from journal.now.events) }
+    ensures text { IfOk result (λ out. out.items ≡ text_from (heard_seen told.old) (drop from journal.now.events)) }
+    ensures told { heard_seen told.new ≡ fold heard (heard_seen told.old) (drop from journal.now.events) }
 {
     let Ok(mut out) = Vec::with_capacity(alloc, USUAL_BYTES) else {
         hear_between(told, journal, from, journal.len());

@@ -3,7 +3,7 @@
 ghost use Rattle.std.specs.Prelude.{◌≡◌, ◌/◌, ◌++◌, OnOk, codes};
 ghost use Rattle.std.specs.Fmt.{decimal};
 ghost use Rattle.dr_model.specs.Text.{one_number, two_numbers, decision_text, group_decision, addition, link_text, refusal_words, refusal_values, said_text};
-ghost use Rattle.dr_list.specs.Seen.{seen};
+ghost use Rattle.dr_list.specs.Seen.{heard_seen};
 
 use crate::pieces::{push_count, push_number, push_session, push_track, push_volume, push_word};
 use crate::told::Told;
@@ -87,7 +87,7 @@ fn push_addition(
     a: u32,
     b: u32,
 ) -> Result<(), AllocError>
-    ensures { OnOk result (out.new.items ≡ out.old.items ++ addition (seen told.now) kind a b) }
+    ensures { OnOk result (out.new.items ≡ out.old.items ++ addition (heard_seen told.now) kind a b) }
 {
     match kind {
         1 => {
@@ -114,7 +114,7 @@ fn push_addition(
 
 /// Adds the names of two servers, the lower numbered first.
 fn push_link(out: &mut Vec<u8>, told: &Told, a: u32, b: u32) -> Result<(), AllocError>
-    ensures { OnOk result (out.new.items ≡ out.old.items ++ link_text (seen told.now) a b) }
+    ensures { OnOk result (out.new.items ≡ out.old.items ++ link_text (heard_seen told.now) a b) }
 {
     let (low, high) = (a.min(b), a.max(b));
     push_word(out, told.name(low))?;
@@ -123,7 +123,7 @@ fn push_link(out: &mut Vec<u8>, told: &Told, a: u32, b: u32) -> Result<(), Alloc
 
 /// Adds what a refusal says of its numbers.
 fn push_values(out: &mut Vec<u8>, told: &Told, of: Numbers) -> Result<(), AllocError>
-    ensures { OnOk result (out.new.items ≡ out.old.items ++ refusal_values (seen told.now) of.code of.a of.b of.c) }
+    ensures { OnOk result (out.new.items ≡ out.old.items ++ refusal_values (heard_seen told.now) of.code of.a of.b of.c) }
 {
     match of.code {
         1 | 7 | 19 => push_count(out, of.a),
@@ -164,7 +164,7 @@ fn push_values(out: &mut Vec<u8>, told: &Told, of: Numbers) -> Result<(), AllocE
 
 /// Adds what an answer says.
 pub(crate) fn push_said(out: &mut Vec<u8>, told: &Told, of: Numbers) -> Result<(), AllocError>
-    ensures { OnOk result (out.new.items ≡ out.old.items ++ said_text (seen told.now) of.code of.a of.b of.c) }
+    ensures { OnOk result (out.new.items ≡ out.old.items ++ said_text (heard_seen told.now) of.code of.a of.b of.c) }
 {
     match of.code {
         0 => {

@@ -2,9 +2,9 @@
 
 ghost use Rattle.std.specs.Prelude.{◌≡◌, ℕ, take, None};
 ghost use Rattle.std.specs.Option.{option_or, unwrap_or};
-ghost use Rattle.dr_model.specs.Contents.{zeros};
+ghost use Rattle.dr_logic.specs.Bytes.{zeros};
 ghost use Rattle.dr_model.specs.Text.{untold, heard, name_in, shown_in, told_name};
-ghost use Rattle.dr_list.specs.Seen.{seen, names_of};
+ghost use Rattle.dr_list.specs.Seen.{heard_seen, names_of};
 
 use dr_model::{Event, Name};
 
@@ -16,7 +16,7 @@ pub struct Told {
     shown: [u8; 64],
 }
 
-#[tactic(auto, unfolding(dr_model::specs::Contents::zeros))]
+#[tactic(auto, unfolding(dr_logic::specs::Bytes::zeros))]
 fn zero_track() -> [u8; 64]
     ensures { result ≡ zeros }
 {
@@ -61,9 +61,9 @@ fn keep_shown(shown: &mut [u8; 64], event: &Event)
 
 impl Told {
     /// What no event tells: no server has a name, and a track of zeros is shown.
-    #[tactic(auto, unfolding(crate::specs::Seen::seen))]
+    #[tactic(auto, unfolding(crate::specs::Seen::heard_seen))]
     pub fn new() -> Told
-        ensures { seen result ≡ untold }
+        ensures { heard_seen result ≡ untold }
     {
         Told {
             names: no_names(),
@@ -72,18 +72,18 @@ impl Told {
     }
 
     /// Hears one event more. A name that was told stays, and an answer ends what is shown.
-    #[tactic(auto, unfolding(crate::specs::Seen::seen))]
+    #[tactic(auto, unfolding(crate::specs::Seen::heard_seen))]
     pub fn hear(&mut self, event: &Event)
-        ensures { seen self.new ≡ heard (seen self.old) event.now }
+        ensures { heard_seen self.new ≡ heard (heard_seen self.old) event.now }
     {
         keep_name(&mut self.names, event);
         keep_shown(&mut self.shown, event);
     }
 
     /// The name of a server; empty where none of that number was defined. Of two names, the first.
-    #[tactic(auto, unfolding(crate::specs::Seen::seen))]
+    #[tactic(auto, unfolding(crate::specs::Seen::heard_seen))]
     pub(crate) fn name(&self, server: u32) -> &[u8]
-        ensures { result.now ≡ told_name (seen self.now) server }
+        ensures { result.now ≡ told_name (heard_seen self.now) server }
     {
         match self.names.get(server as usize) {
             Some(Some(name)) => front(&name.bytes, usize::from(name.len)),
@@ -92,9 +92,9 @@ impl Told {
     }
 
     /// The track that the step at hand has shown; zeros where it has shown none.
-    #[tactic(auto, unfolding(crate::specs::Seen::seen))]
+    #[tactic(auto, unfolding(crate::specs::Seen::heard_seen))]
     pub(crate) fn shown(&self) -> &[u8]
-        ensures { result.now ≡ (seen self.now).shown }
+        ensures { result.now ≡ (heard_seen self.now).shown }
     {
         &self.shown
     }

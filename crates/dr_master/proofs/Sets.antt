@@ -4,20 +4,13 @@ use Rattle.std.specs.Int.{bit_at, bit_not, trailing_zeros}
 use Rattle.std.specs.List.{range_with_len}
 use Rattle.std.proofs.lemmas.Nat.Bits.{bit_at_set_same, bit_at_set_other, bit_at_clear_same, bit_at_clear_other, bit_at-trailing_zeros, same_from_bits_below, bit_at-lt, bit_at-zero}
 use Rattle.std.proofs.lemmas.Bool.Decides.{nat_tests, eqb_tells}
+use Rattle.std.proofs.Math.Bool.{and-false, and-true}
 use Rattle.dr_model.specs.Phases.{servers_where, is_among, without}
 use Rattle.dr_master.specs.Seen.{servers_in}
 
 pub servers_in-none : servers_in 0 ≡ []
 unfolding servers_where
 servers_in-none = refl
-
-and-false : (b : Bool) → (b && false) ≡ false
-and-false true = refl
-and-false false = refl
-
-and-true : (b : Bool) → (b && true) ≡ b
-and-true true = refl
-and-true false = refl
 
 any-in : (p : ℕ → Bool) (s x : ℕ) (xs : List ℕ) → p x ≡ true → is_among s (filter p xs) ≡ (is_among s xs && p s) → (x == s || is_among s (filter p xs)) ≡ ((x == s || is_among s xs) && p s)
 any-in p s x xs passes rest =

@@ -18,6 +18,7 @@ servers_in bits = model.servers_where (λ k. bit_at bits k == 1)
 abbrev pub shown_in : Report → List Shown
 shown_in r = take r.count (shown_by r.seqs r.revertible)
 
+-- a reply
 abbrev pub reply_of : Reply → model.Reply
 reply_of reply.Done = model.Done
 reply_of reply.NotYet = model.NotYet
@@ -32,6 +33,7 @@ count_in r = 0
 abbrev pub is_expected : model.Master → ℕ → Reply → Bool
 is_expected m s r = model.awaits m s (reply_of r) && nat_le (length m.reports + count_in r) 64
 
+-- the kind of an order
 abbrev pub work_of : OrderKind → model.Work
 work_of kind.Hold = model.Hold
 work_of kind.Release = model.Release
@@ -42,5 +44,6 @@ work_of kind.Revert = model.Revert
 work_of kind.Finish = model.Finish
 work_of kind.Report = model.Report
 
+-- an order
 abbrev pub order_of : Order → model.Order
 order_of o = record { work = work_of o.kind; number = o.n }

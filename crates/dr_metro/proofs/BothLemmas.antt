@@ -2,7 +2,7 @@
 use Rattle.std.proofs.Common.{ℕ, ◌≡◌, ◌⊎◌, inl, inr, Bool, true, false, List, [], ◌∷◌, refl, sym, ◌∙◌, ap, cond, subst, map, Option, None, Some}
 use Rattle.dr_ids.specs.declared.refusal.Refusal.{Refusal}
 use Rattle.dr_plant.specs.State.{PlantState}
-use Rattle.dr_config.specs.Table.{Table}
+use Rattle.dr_config.specs.Table.{ConfigTable}
 use Rattle.dr_model.specs.declared.event.Event.{Event}
 use Rattle.dr_model.specs.Layout.{Fields}
 use Rattle.dr_model.specs.Control.{World}
@@ -16,20 +16,21 @@ use Rattle.dr_model.specs.Pairs.{synced}
 use Rattle.dr_model.specs.ReadStops.{GoesOff, Ends}
 use Rattle.dr_model.proofs.CarryLemmas.{act-move}
 use Rattle.dr_host.specs.Writes.{Writes, with_marked, without}
-use Rattle.dr_host.specs.Seen.{seen}
+use Rattle.dr_host.specs.Seen.{pending_seen}
 use Rattle.dr_host.proofs.Seen.{seen-without}
 use Rattle.dr_host.proofs.Each.{each-without}
 use Rattle.dr_volume.specs.View.{volume_seen, track_seen, on_seen}
 use Rattle.dr_flash.specs.Here.{armed_in}
 use Rattle.dr_flash.specs.Turns.{made_by}
-use Rattle.dr_flash.proofs.EndsLemmas.{ends-goes, ends-stops, ends-none, ends-off}
+use Rattle.dr_facts.proofs.Ends.{ends-goes, ends-stops, ends-none, ends-off}
 use Rattle.dr_metro.specs.Here.{here, IsTold}
 use Rattle.dr_metro.proofs.LandLemmas.{told-through}
 use Rattle.dr_metro.proofs.MirrorLemmas.{telling, both-goes, both-stops}
 use Rattle.dr_metro.proofs.ToldLemmas.{IsWrite, told-marked}
-use Rattle.dr_metro.proofs.TurnLemmas.{differ, differ_same, seen-landed, issued-landed}
+use Rattle.dr_metro.proofs.TurnLemmas.{differ, seen-landed, issued-landed}
+use Rattle.dr_flash.proofs.MadeLemmas.{differ_same}
 
-module _ (s u : PlantState) (t : Table) (xs : List Session) (h : Writes) (ev now_events : List Event) (n v k : ℕ) (f : Fields) (bytes : List ℕ)
+module _ (s u : PlantState) (t : ConfigTable) (xs : List Session) (h : Writes) (ev now_events : List Event) (n v k : ℕ) (f : Fields) (bytes : List ℕ)
     (on : on_seen s (volume_seen s t v).server ≡ true) (is_next : synced (volume_seen s t v).fields k ≡ f) (is_track : with_write (histories ev).write (track_seen s t v k) n ≡ bytes) where
   abbrev w : World
   w = here s t xs h ev
@@ -47,7 +48,7 @@ module _ (s u : PlantState) (t : Table) (xs : List Session) (h : Writes) (ev now
   pub both-ends : (h' : Writes) → h' ≡ without h n → made_by (update w v f (Some (k, bytes))) server (telling n) ≡ (made, None)
       → Ends (armed_in s) (here u t xs h' now_events) None w (now (LandBoth n v k) ∷ [])
   both-ends h' gone done =
-      let left = sym (seen-without n h.pending) ∙ ap (λ (x : Writes). map seen x.pending) (sym gone) in
+      let left = sym (seen-without n h.pending) ∙ ap (λ (x : Writes). map pending_seen x.pending) (sym gone) in
       let count = ap (λ (x : Writes). x.issued) (sym gone) in
       ends-goes (armed_in s) _ None w _ (now (LandBoth n v k)) [] (Make (LandBoth n v k)) refl (act-move w (LandBoth n v k) ∙ both-goes w n v k f (Some (k, bytes)) on is_next track made done)
       (ends-none (armed_in s) _ None _ (record { world = λ i. record made { control = record made.control { issued = sym count i; pending = sym left i } }; refusal = refl }))

@@ -6,11 +6,12 @@ use Rattle.std.specs.Option.{option_or}
 use Rattle.std.specs.FinSet.{contains}
 use Rattle.std.proofs.lemmas.List.{append_assoc, map-append}
 use Rattle.std.proofs.lemmas.Bool.Decides.{eqb_tells}
+use Rattle.std.proofs.lemmas.Bool.{and_parts, or_parts, or_from}
+use Rattle.dr_logic.specs.Tables.{at}
 use Rattle.dr_ids.specs.Paths.{Path, path_in}
 use Rattle.dr_ids.specs.declared.refusal.Refusal.{Refusal}
 use Rattle.dr_ids.specs.declared.refusal.Refusal.TheVariants.{PairState}
 use Rattle.dr_ids.specs.declared.refusal.Kind.TheVariants.{Path as OfPath}
-use Rattle.dr_model.specs.Tables.{at}
 use Rattle.dr_model.specs.declared.state.Part.TheVariants.{Global}
 use Rattle.dr_model.specs.Layout.{Fields}
 use Rattle.dr_model.specs.Histories.{histories}
@@ -23,14 +24,14 @@ use Rattle.dr_model.specs.PairEntries.{link_down, send_refusal, flashed_refusal,
 use Rattle.dr_model.specs.WriteEntries.{sends_first, where_sent, send_first}
 use Rattle.dr_model.specs.Pairs.{is_kind, collides, is_secondary_of, pair_seen, received, is_last}
 use Rattle.dr_model.specs.ReadStops.{EndsTurn, EndsNext, Ends}
-use Rattle.dr_model.proofs.Images.{at_same, at_other}
 use Rattle.dr_flash.specs.Turns.{Advances, Halts, Leads, Fails}
-use Rattle.dr_flash.proofs.EndsLemmas.{ends-skips}
+use Rattle.dr_facts.proofs.Ends.{ends-skips}
 use Rattle.dr_flash.proofs.KeepLemmas.{alike-advances, alike-halts}
 use Rattle.dr_gcopy.specs.Sending.{pass_entries}
 use Rattle.dr_gcopy.proofs.SendLemmas.{suspends-none}
-use Rattle.dr_metro.proofs.IssueLemmas.{updated_by}
-use Rattle.dr_metro.proofs.SyncLemmas.{nothing-active}
+use Rattle.dr_facts.proofs.Issued.{updated_by}
+use Rattle.dr_logic.proofs.Truth.{false_true}
+use Rattle.dr_logic.proofs.Tables.{at_same, at_other}
 
 -- Track t of v collides and can be sent to u, of which neither is a target.
 abbrev pub Sends : ℕ → ℕ → ℕ → Control → Type 0
@@ -120,18 +121,6 @@ none-any g f g' f' back (x ∷ xs) h =
     any-is g' f' x xs
     ∙ still-none (g x) (f x) (g' x) (f' x) (list_any f (filter g xs)) (list_any f' (filter g' xs)) (back x) first (none-any g f g' f' back xs (rest-none (g x) (f x) (list_any f (filter g xs)) first))
 
-or-left : (a b : Bool) → (a || b) ≡ false → a ≡ false
-or-left true b h = h
-or-left false b h = refl
-
-or-right : (a b : Bool) → (a || b) ≡ false → b ≡ false
-or-right true b h = absurd cc
-or-right false b h = h
-
-or-none : (a b : Bool) → a ≡ false → b ≡ false → (a || b) ≡ false
-or-none true b p q = p
-or-none false b p q = q
-
 -- what says whether a can send to b, part by part
 abbrev refusal_by : ℕ → ℕ → List Path → (ℕ → Bool) → (ℕ → ℕ → Bool) → ℕ → Volume → Option Refusal
 refusal_by a b paths on link from to = option_or
@@ -150,10 +139,10 @@ reaches-still (Some r) belongs why later h = absurd cc
 module _ (v u t : ℕ) (k : Control) (s : Sends v u t k) where
   -- a volume that is a target of u is neither v nor u
   no-v : (q : ℕ) → copies_from u (fields_at k q) ≡ true → q ≢ v
-  no-v q copies is = nothing-active (copies_from u (fields_at k q)) copies (ap (λ z. copies_from u (fields_at k z)) is ∙ s.3)
+  no-v q copies is = (false_true (ap (λ z. copies_from u (fields_at k z)) is ∙ s.3) copies)
 
   no-u : (q : ℕ) → copies_from u (fields_at k q) ≡ true → q ≢ u
-  no-u q copies is = nothing-active (copies_from u (fields_at k q)) copies (ap (λ z. copies_from u (fields_at k z)) is ∙ s.4)
+  no-u q copies is = (false_true (ap (λ z. copies_from u (fields_at k z)) is ∙ s.4) copies)
 
   -- none that copies from u is revertible, once a volume has moved whose relationship is no other than it was
   free-still : (q : ℕ) (x : Volume) → (copies_from u x.fields ≡ true → x.fields.revertible ≡ true → (copies_from u (fields_at k q) ≡ true) × ((fields_at k q).revertible ≡ true))
@@ -168,7 +157,7 @@ module _ (v u t : ℕ) (k : Control) (s : Sends v u t k) where
         | inr p ↦
             let e : at k.volume q x z ≡ k.volume z = at_other k.volume q x z p.1 in
             (ap (λ (y : Volume). copies_from u y.fields) (sym e) ∙ copies, ap (λ (y : Volume). y.fields.revertible) (sym e) ∙ rev)
-      ]) k.volumes (or-right ((fields_at k u).related && (fields_at k u).revertible) _ s.2)
+      ]) k.volumes ((or_parts ((fields_at k u).related && (fields_at k u).revertible) _ s.2).1)
 
   -- where a target of u moved
   target-sends : (q : ℕ) (x : Volume) → copies_from u (fields_at k q) ≡ true → (x.fields.revertible ≡ true → (fields_at k q).revertible ≡ true) → Sends v u t (record k { volume = at k.volume q x })
@@ -177,7 +166,7 @@ module _ (v u t : ℕ) (k : Control) (s : Sends v u t k) where
       let to : at k.volume q x u ≡ k.volume u = at_other k.volume q x u (λ e. no-u q copies (sym e)) in (
         ap (λ (y : Volume). collides y.fields t) from ∙ s.0,
         (λ i. refusal_by v u k.paths k.on k.link (from i).server (to i)) ∙ s.1,
-        or-none _ _ (ap (λ (y : Volume). y.fields.related && y.fields.revertible) to ∙ or-left ((fields_at k u).related && (fields_at k u).revertible) _ s.2) (free-still q x (λ c r. (copies, back r))),
+        or_from _ _ (ap (λ (y : Volume). y.fields.related && y.fields.revertible) to ∙ (or_parts ((fields_at k u).related && (fields_at k u).revertible) _ s.2).0) (free-still q x (λ c r. (copies, back r))),
         ap (λ (y : Volume). copies_from u y.fields) from ∙ s.3,
         ap (λ (y : Volume). copies_from u y.fields) to ∙ s.4,
       )
@@ -190,7 +179,7 @@ module _ (v u t : ℕ) (k : Control) (s : Sends v u t k) where
       let to : at k.volume u x u ≡ x = at_same k.volume u x in (
         ap (λ (y : Volume). collides y.fields t) from ∙ s.0,
         (λ i. refusal_by v u k.paths k.on k.link (from i).server (to i)) ∙ reaches-still _ (is_secondary_of v (fields_at k u)) _ _ s.1,
-        or-none _ _ (ap (λ (y : Volume). y.fields.related && y.fields.revertible) to ∙ or-left ((fields_at k u).related && (fields_at k u).revertible) _ s.2) (free-still u x (λ c r. (c, r))),
+        or_from _ _ (ap (λ (y : Volume). y.fields.related && y.fields.revertible) to ∙ (or_parts ((fields_at k u).related && (fields_at k u).revertible) _ s.2).0) (free-still u x (λ c r. (c, r))),
         ap (λ (y : Volume). copies_from u y.fields) from ∙ s.3,
         ap (λ (y : Volume). copies_from u y.fields) to ∙ s.4,
       )
@@ -199,10 +188,6 @@ module _ (v u t : ℕ) (k : Control) (s : Sends v u t k) where
 closed-reverts : (ends r : Bool) → (if ends then false else r) ≡ true → r ≡ true
 closed-reverts true r h = absurd cc
 closed-reverts false r h = h
-
-left-part : (a b : Bool) → (a && b) ≡ true → a ≡ true
-left-part true b h = refl
-left-part false b h = h
 
 -- what an entry comes to leads on to where something holds
 abbrev After : World → Next → (World → Type 0) → Type 0
@@ -223,8 +208,8 @@ module _ (v u t : ℕ) where
 
       by : (b own noted : Bool) → (copies_from u f && not f.reversing) ≡ b → After w (cond b (cond (not own) (Do (Make (Keep q t))) (cond noted (Do (Make (Note q t))) Pass)) Pass) G
       by false own noted is = on w s
-      by true false noted is = λ none. on _ (acted (In w.control) w (Keep q t) s (target-sends v u t w.control s q _ (left-part _ _ is) (closed-reverts _ f.revertible)) none)
-      by true true true is = λ none. on _ (acted (In w.control) w (Note q t) s (target-sends v u t w.control s q _ (left-part _ _ is) (λ r. r)) none)
+      by true false noted is = λ none. on _ (acted (In w.control) w (Keep q t) s (target-sends v u t w.control s q _ ((and_parts _ _ is).0) (closed-reverts _ f.revertible)) none)
+      by true true true is = λ none. on _ (acted (In w.control) w (Note q t) s (target-sends v u t w.control s q _ ((and_parts _ _ is).0) (λ r. r)) none)
       by true true false is = on w s
 
   module _ (armed : ℕ → Bool) (x : World) (r : Option Refusal) where
@@ -332,7 +317,3 @@ module _ (volumes : List ℕ) (v u t : ℕ) (w : World) where
 
   pub parted-fails : (armed : ℕ → Bool) (y : World) (r : Option Refusal) → is_some (send_refusal v u w.control) ≡ true → Halts armed w (now (Suspend v false)) y r → Fails armed w (send_first volumes v u t) y r
   parted-fails armed y r is halts ds = alike-halts armed w y r first (now (Suspend v false)) (suspends-first is) halts (map (where_sent v u t) (move_entries volumes v u t) ++ ds)
-
-pub ok-two : {T E : Type 0} {P Q S : Type 0} (r : Result T E) → OnOk r P → OnOk r Q → (P → Q → S) → OnOk r S
-ok-two (Ok x) p q f = f p q
-ok-two (Err e) p q f = p

@@ -1,10 +1,9 @@
 -- Counts of faults: what a call that succeeded or failed leaves of them.
 use Rattle.std.proofs.Common.{ℕ, ◌≡◌, ◌∙◌, sym, ap, subst, true, false, Result, Ok, Err, arith}
 use Rattle.std.specs.Prelude.{OnOk, OnErr, is_err}
-use Rattle.dr_plant.specs.State.{PlantState, risen, after_read, can_read}
+use Rattle.dr_logic.specs.Counts.{risen, Rose, Counted}
+use Rattle.dr_plant.specs.State.{PlantState, after_read, can_read}
 use Rattle.dr_plant.proofs.StateLemmas.{read_stopped}
-use Rattle.dr_flash.specs.Faults.{Rose}
-use Rattle.dr_flash.specs.Faults.{Counted}
 
 -- a count that went up by one rose
 pub rose-by : (before now : ℕ) → now ≡ risen before → Rose before now

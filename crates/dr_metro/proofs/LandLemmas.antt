@@ -4,7 +4,7 @@ use Rattle.std.specs.Prelude.{is_some, if◌then◌else◌}
 use Rattle.std.proofs.lemmas.Bool.{cases_eq}
 use Rattle.dr_ids.specs.declared.refusal.Refusal.{Refusal}
 use Rattle.dr_plant.specs.State.{PlantState, after_read, can_read, passes_read}
-use Rattle.dr_config.specs.Table.{Table, StandsFor, place_of}
+use Rattle.dr_config.specs.Table.{ConfigTable, StandsFor, place_of}
 use Rattle.dr_model.specs.Layout.{Fields}
 use Rattle.dr_model.specs.Control.{World}
 use Rattle.dr_model.specs.Moves.{Carried}
@@ -18,15 +18,15 @@ use Rattle.dr_flash.specs.Here.{IsAtRest, armed_in}
 use Rattle.dr_flash.proofs.ReadLemmas.{is-armed, left-unread}
 use Rattle.dr_metro.specs.Here.{IsTold}
 use Rattle.dr_metro.specs.Landing.{LandsAs}
-use Rattle.dr_metro.proofs.IssueLemmas.{unissued}
+use Rattle.dr_facts.proofs.Issued.{unissued}
 use Rattle.dr_metro.proofs.ToldLemmas.{IsWrite}
 
 -- where no volume's size changed, the sizes stay what they were
-sizes-same : (c : Table) (s u : PlantState) → IsAtRest s c → ((q : ℕ) → (volume_seen u c q).tracks ≡ (volume_seen s c q).tracks) → (q : ℕ) → (volume_seen u c q).tracks ≤ 256
+sizes-same : (c : ConfigTable) (s u : PlantState) → IsAtRest s c → ((q : ℕ) → (volume_seen u c q).tracks ≡ (volume_seen s c q).tracks) → (q : ℕ) → (volume_seen u c q).tracks ≤ 256
 sizes-same c s u rest same q = subst (λ n. n ≤ 256) (sym (same q)) (rest.sizes q)
 
 -- a read of the volume's device failed
-pub lands-unread : (c : Table) (s u : PlantState) (v : ℕ) (rest : IsAtRest s c) (defined : is_some (place_of c v) ≡ true) (stuck : false ≡ can_read s (device_of c v)) (is : u ≡ after_read s (device_of c v))
+pub lands-unread : (c : ConfigTable) (s u : PlantState) (v : ℕ) (rest : IsAtRest s c) (defined : is_some (place_of c v) ≡ true) (stuck : false ≡ can_read s (device_of c v)) (is : u ≡ after_read s (device_of c v))
     → s.on (volume_seen s c v).server ≡ true → (r : Rest) (e : Ended) (b : Bool) → b ≡ true → LandsAs (armed_in s) (volume_seen s c v).server (world s c r) (world u c r) b e
 lands-unread c s u v rest defined stuck is up r e b failed =
     let x = left-unread c s u v rest defined stuck is in
@@ -39,20 +39,6 @@ lands-updated s server w u b e low ends =
       | true ↦ λ pass h. inl h
       | false ↦ λ stuck h. inr (record { is_armed = is-armed s server low (armed-of (s.read_fuse server) stuck); world = h.world; answer = h.stopped })
     ] refl ends
-
-tracks-moved : (c : Table) (s u : PlantState) (v : ℕ) (f : Fields) (m : Carried) → IsAsBefore s u c v ⊎ IsMoved s u c v f m → (volume_seen u c v).tracks ≡ (volume_seen s c v).tracks
-tracks-moved c s u v f m (inl h) = ap (λ y. y.tracks) h.volume
-tracks-moved c s u v f m (inr h) = ap (λ y. y.tracks) h.volume
-
-pub updated-rest : (c : Table) (s u : PlantState) (v : ℕ) (f : Fields) (m : Carried) → IsAtRest s c → StandsFor c u → ((q : ℕ) → IsSettled s c q → IsSettled u c q) → IsAsBefore s u c v ⊎ IsMoved s u c v f m → OthersStay s u c v → IsAtRest u c
-updated-rest c s u v f m rest stands settled here there = record {
-  stands = stands;
-  settled = λ q. settled q (rest.settled q);
-  sizes = sizes-same c s u rest (λ q. elim (cases_eq q v) [
-    | inl is ↦ subst (λ x. (volume_seen u c x).tracks ≡ (volume_seen s c x).tracks) (sym is) (tracks-moved c s u v f m here)
-    | inr ne ↦ ap (λ y. y.tracks) (there q ne).volume
-  ]);
-}
 
 -- entries that ended so issued no write
 pub told-through : (armed : ℕ → Bool) (h : Writes) (w u : World) (ds : List Entry) (r : Option Refusal) → Ends armed u r w ds → IsTold h w.events → IsTold h u.events

@@ -3,7 +3,7 @@
 use Rattle.std.proofs.Common.{ℕ, ◌≡◌, ◌<◌, Bool, true, false, not, List, [], ◌∷◌, ◌++◌, refl, sym, ◌∙◌, ap, cond, filter, Option, None, Some}
 use Rattle.std.specs.Prelude.{if◌then◌else◌}
 use Rattle.dr_plant.specs.State.{PlantState}
-use Rattle.dr_config.specs.Table.{Table}
+use Rattle.dr_config.specs.Table.{ConfigTable}
 use Rattle.dr_model.specs.declared.event.Event.TheVariants.{Mirrored, Ack}
 use Rattle.dr_model.specs.Layout.{Fields, is_part}
 use Rattle.dr_model.specs.Lawful.{HasSets, IsLawful}
@@ -19,13 +19,14 @@ use Rattle.dr_flash.specs.declared.told.Told.TheVariants.{Nothing, One}
 use Rattle.dr_flash.specs.declared.told.Telling.{Telling}
 use Rattle.dr_flash.specs.Turns.{made_by, told_in_stop}
 use Rattle.dr_flash.proofs.FitLemmas.{fit-kept}
-use Rattle.dr_flash.proofs.FieldLemmas.{low-remove, covers-all, covers-carried}
+use Rattle.dr_flash.proofs.FieldLemmas.{low-remove, covers-all, covers-carried, low-insert}
 use Rattle.dr_flash.proofs.MoveLemmas.{MoveFits}
 use Rattle.dr_flash.proofs.TurnLemmas.{Tells}
-use Rattle.dr_metro.proofs.LandingLemmas.{removed_from, low-insert}
-use Rattle.dr_metro.proofs.TurnLemmas.{differ, done-by_slot}
+use Rattle.dr_metro.proofs.TurnLemmas.{differ}
+use Rattle.dr_flash.proofs.MadeLemmas.{done-by_slot}
+use Rattle.dr_facts.proofs.Tracks.{not_removed_from}
 
-module _ (s : PlantState) (t : Table) (v : ℕ) (fit : RelationsFit s t) (lawful : IsLawful (volume_seen s t v).tracks (volume_seen s t v).fields) where
+module _ (s : PlantState) (t : ConfigTable) (v : ℕ) (fit : RelationsFit s t) (lawful : IsLawful (volume_seen s t v).tracks (volume_seen s t v).fields) where
   abbrev x : Volume
   x = volume_seen s t v
 
@@ -69,7 +70,7 @@ module _ (s : PlantState) (t : Table) (v : ℕ) (fit : RelationsFit s t) (lawful
       relation = lawful.relation;
     };
     covers = covers-carried x.fields.blank k bytes;
-    leaves = fit-kept s t v (mirrored x.fields k) fit (λ r. (r, refl)) (λ q held. removed_from x.fields.blank k q (fit.apart v q held));
+    leaves = fit-kept s t v (mirrored x.fields k) fit (λ r. (r, refl)) (λ q held. not_removed_from x.fields.blank k q (fit.apart v q held));
   }
 
   pub both-fits : (w k : ℕ) (bytes : List ℕ) → is_part x.fields.primary ≡ true → MoveFits s t v (fields_left (LandBoth w v k) x) (Some (k, bytes))
@@ -89,7 +90,7 @@ module _ (s : PlantState) (t : Table) (v : ℕ) (fit : RelationsFit s t) (lawful
       relation = lawful.relation;
     };
     covers = covers-carried x.fields.blank k bytes;
-    leaves = fit-kept s t v (synced x.fields k) fit (λ r. (r, refl)) (λ q held. removed_from x.fields.blank k q (fit.apart v q held));
+    leaves = fit-kept s t v (synced x.fields k) fit (λ r. (r, refl)) (λ q held. not_removed_from x.fields.blank k q (fit.apart v q held));
   }
 
 -- what they tell

@@ -4,12 +4,13 @@ use Rattle.std.specs.Prelude.{IfSome, is_some}
 use Rattle.std.specs.FinSet.{contains}
 use Rattle.std.specs.List.{find}
 use Rattle.std.proofs.lemmas.List.{append_assoc}
+use Rattle.dr_logic.specs.Bytes.{zeros}
 use Rattle.dr_ids.specs.declared.refusal.Refusal.{Refusal}
 use Rattle.dr_plant.specs.State.{PlantState}
-use Rattle.dr_config.specs.Table.{Table}
+use Rattle.dr_config.specs.Table.{ConfigTable}
 use Rattle.dr_model.specs.declared.event.Event.{Event}
 use Rattle.dr_model.specs.Layout.{Fields}
-use Rattle.dr_model.specs.Contents.{zeros, laid, with_write}
+use Rattle.dr_model.specs.Contents.{laid, with_write}
 use Rattle.dr_model.specs.Histories.{histories, Write}
 use Rattle.dr_model.specs.ReadStops.{Ends}
 use Rattle.dr_model.specs.Carry.{Entry, now}
@@ -25,23 +26,18 @@ use Rattle.dr_volume.specs.View.{volume_seen, track_seen}
 use Rattle.dr_flash.proofs.CheckLemmas.{same-test}
 use Rattle.dr_metro.specs.Here.{here, IsTold}
 use Rattle.dr_metro.specs.Mirroring.{mirror_entries}
-use Rattle.dr_metro.proofs.IssueLemmas.{unissued}
+use Rattle.dr_facts.proofs.Issued.{unissued}
 use Rattle.dr_metro.proofs.ToldLemmas.{IsWrite}
 
--- a track that a move carried stands on its volume
-pub carried-track : (s u : PlantState) (c : Table) (v t : ℕ) (f : Fields) (bytes : List ℕ) → IsMoved s u c v f (Some (t, bytes)) → track_seen u c v t ≡ bytes
-carried-track s u c v t f bytes is =
-    ap (λ (z : ℕ → List ℕ). z t) is.tracks ∙ ap (λ b. cond b bytes (cond (contains f.blank t) zeros (track_seen s c v t))) (same-test t t refl)
-
 -- the write and the track are what they were, so the new bytes are too
-pub same-bytes : (armed : ℕ → Bool) (s u : PlantState) (c : Table) (xs : List Session) (h : Writes) (ev now : List Event) (ds : List Entry) (r : Option Refusal) (v t n : ℕ) (bytes : List ℕ)
+pub same-bytes : (armed : ℕ → Bool) (s u : PlantState) (c : ConfigTable) (xs : List Session) (h : Writes) (ev now : List Event) (ds : List Entry) (r : Option Refusal) (v t n : ℕ) (bytes : List ℕ)
     → Ends armed (here u c xs h now) r (here s c xs h ev) ds → track_seen u c v t ≡ track_seen s c v t
     → bytes ≡ with_write (histories ev).write (track_seen s c v t) n → bytes ≡ with_write (histories now).write (track_seen u c v t) n
 same-bytes armed s u c xs h ev now ds r v t n bytes ends same is =
     is ∙ sym (λ i. with_write (unissued armed (here u c xs h now) r (here s c xs h ev) ds ends i) (same i) n)
 
 -- a volume that has what it had is on its server, which is on
-pub runs-still : (s u : PlantState) (c : Table) (v : ℕ) → u.on ≡ s.on → (volume_seen u c v).server ≡ (volume_seen s c v).server → s.on (volume_seen s c v).server ≡ true → u.on (volume_seen u c v).server ≡ true
+pub runs-still : (s u : PlantState) (c : ConfigTable) (v : ℕ) → u.on ≡ s.on → (volume_seen u c v).server ≡ (volume_seen s c v).server → s.on (volume_seen s c v).server ≡ true → u.on (volume_seen u c v).server ≡ true
 runs-still s u c v on same running = (λ i. on i (same i)) ∙ running
 
 -- the journal has the write that was found

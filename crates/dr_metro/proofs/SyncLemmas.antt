@@ -3,6 +3,8 @@ use Rattle.std.proofs.Common.{ℕ, ◌≡◌, Bool, true, false, not, ◌&&◌, 
 use Rattle.std.specs.Prelude.{if◌then◌else◌, is_some, Result, Ok, Err, OnOk, OnErr, is_err}
 use Rattle.std.specs.Result.{IfOk}
 use Rattle.std.specs.FinSet.{contains, insert}
+use Rattle.std.proofs.lemmas.Bool.{and_parts, or_right, and_right}
+use Rattle.dr_logic.specs.Counts.{Counted}
 use Rattle.dr_bits.proofs.Laws.{contains-insert_tracks}
 use Rattle.dr_ids.specs.declared.refusal.Refusal.{Refusal}
 use Rattle.dr_ids.specs.declared.refusal.Refusal.TheVariants.{Stopped, NotPrimary, Inhibited}
@@ -21,25 +23,22 @@ use Rattle.dr_model.specs.WriteEntries.{partner_of, is_grouped, part_running, pa
 use Rattle.dr_model.specs.ReadStops.{Ends}
 use Rattle.dr_host.specs.Writes.{Writes}
 use Rattle.dr_flash.specs.Checks.{OnNone, is_stop}
-use Rattle.dr_flash.specs.Faults.{Counted}
 use Rattle.dr_flash.specs.Here.{refusal_of}
 use Rattle.dr_flash.specs.HostWrites.{write_refusal}
-use Rattle.dr_flash.proofs.EndsLemmas.{ends-skips, ends-goes, ends-passed, ends-refused}
+use Rattle.dr_facts.proofs.Ends.{ends-skips, ends-goes, ends-passed, ends-refused}
 use Rattle.dr_gcopy.specs.Followed.{Follows}
 use Rattle.dr_metro.specs.Here.{IsTold}
 use Rattle.dr_metro.specs.Landing.{landed}
 use Rattle.dr_metro.proofs.LandLemmas.{told-through}
+use Rattle.dr_logic.proofs.Truth.{false_true}
+use Rattle.dr_model.proofs.CarryLemmas.{act-drop}
 
 -- what follows a stop, by what is known of the primary
 pub absent-part : (v : ℕ) (k : Control) → is_part (fields_at k v).primary ≡ false → part_running v k ≡ Pass
 absent-part v k absent = ap (λ b. cond (b && is_running v k) (Do (Make (Suspend v (is_grouped k v (partner_of k v))))) Pass) absent
 
-both_off : (a b : Bool) → b ≡ false → (a && b) ≡ false
-both_off true b h = h
-both_off false b h = refl
-
 pub off-part : (v : ℕ) (k : Control) → is_running v k ≡ false → part_running v k ≡ Pass
-off-part v k off = ap (λ b. cond b (Do (Make (Suspend v (is_grouped k v (partner_of k v))))) Pass) (both_off (is_part (fields_at k v).primary) (is_running v k) off)
+off-part v k off = ap (λ b. cond b (Do (Make (Suspend v (is_grouped k v (partner_of k v))))) Pass) (and_right (is_part (fields_at k v).primary) (is_running v k) off)
 
 pub on-part : (v : ℕ) (k : Control) (busy : Bool) → is_part (fields_at k v).primary ≡ true → is_running v k ≡ true → busy ≡ is_grouped k v (partner_of k v) → part_running v k ≡ now (Suspend v busy) k
 on-part v k busy part on is = (λ i. cond (part i && on i) (Do (Make (Suspend v (sym is i)))) Pass)
@@ -62,10 +61,6 @@ state-landed n f t = by f.related
     by true = refl
     by false = refl
 
-or_right : (a b : Bool) → b ≡ true → (a || b) ≡ true
-or_right true b h = refl
-or_right false b h = h
-
 stays_in : (part : Bool) (s : Tracks) (t : ℕ) → contains s t ≡ true → contains (if part then insert s t else s) t ≡ true
 stays_in true s t h = contains-insert_tracks s t t ∙ or_right (nat_eq t t) (contains s t) h
 stays_in false s t h = h
@@ -77,45 +72,18 @@ out-landed n f t out = by f.related
     by true = out
     by false = stays_in (is_part f.primary && not f.recording) f.out_of_sync t out
 
-true-false : {P : Type 0} (b : Bool) → b ≡ true → b ≡ false → P
-true-false b is not_so = absurd (let never : true ≡ false = sym is ∙ not_so in cc)
-
 -- so a write that lands alone on a Metro Mirror primary leaves nothing that its secondary would have to have
 pub nothing-mirrored : {P : Type 0} (n : ℕ) (f g : Fields) (t : ℕ) → g ≡ landed n f t → is_metro f.primary ≡ true → goes_over f t ≡ false → contains g.out_of_sync t ≡ false → is_suspended g.primary_state ≡ false → P
 nothing-mirrored {P = P} n f g t is metro stays in_sync active =
     by (is_suspended f.primary_state) (contains f.out_of_sync t) refl refl (sym (ap (λ b. b && (not (is_suspended f.primary_state) && not (contains f.out_of_sync t))) metro) ∙ stays)
   where
     by : (s o : Bool) → is_suspended f.primary_state ≡ s → contains f.out_of_sync t ≡ o → (not s && not o) ≡ false → P
-    by true o susp out h = true-false (is_suspended g.primary_state) (ap (λ (x : Fields). is_suspended x.primary_state) is ∙ ap is_suspended (state-landed n f t) ∙ susp) active
-    by false true susp out h = true-false (contains g.out_of_sync t) (ap (λ (x : Fields). contains x.out_of_sync t) is ∙ out-landed n f t out) in_sync
+    by true o susp out h = (false_true active (ap (λ (x : Fields). is_suspended x.primary_state) is ∙ ap is_suspended (state-landed n f t) ∙ susp))
+    by false true susp out h = (false_true in_sync (ap (λ (x : Fields). contains x.out_of_sync t) is ∙ out-landed n f t out))
     by false false susp out h = absurd cc
 
-pub nothing-active : {P : Type 0} (b : Bool) → b ≡ true → b ≡ false → P
-nothing-active b is not_so = true-false b is not_so
-
--- a Metro Mirror primary is a primary, and so is one from which a write goes over
-pub metro-part : (p : Part) → is_metro p ≡ true → is_part p ≡ true
-metro-part Metro h = refl
-metro-part Absent h = absurd cc
-metro-part Global h = absurd cc
-
-pub over-metro : (a b : Bool) → (a && b) ≡ true → a ≡ true
-over-metro true b h = refl
-over-metro false b h = h
-
--- and so is one whose write collides, which is of no Metro Mirror pair
-pub global-part : (p : Part) → is_kind Global p ≡ true → is_part p ≡ true
-global-part Global h = refl
-global-part Absent h = absurd cc
-global-part Metro h = absurd cc
-
-pub global-metro : {P : Type 0} (p : Part) → is_kind Global p ≡ true → is_metro p ≡ true → P
-global-metro Global h metro = absurd cc
-global-metro Absent h metro = absurd cc
-global-metro Metro h metro = absurd cc
-
 pub collides-global : (p : Part) (rest : Bool) → (is_kind Global p && rest) ≡ true → is_kind Global p ≡ true
-collides-global p rest h = over-metro (is_kind Global p) rest h
+collides-global p rest h = (and_parts (is_kind Global p) rest h).0
 
 pub none-gives : {P : Type 0} (o : Option Refusal) → is_some o ≡ false → OnNone o P → P
 none-gives None h p = p
@@ -129,11 +97,6 @@ ok-given (Err e) p f = p
 pub counted-stops : {T : Type 0} (r : Result T Refusal) (a b : ℕ) → Counted (is_err r) a b → OnErr r (is_stop (refusal_of r) ≡ true) → Counted (is_stop (refusal_of r)) a b
 counted-stops (Ok x) a b counted stops = counted
 counted-stops (Err e) a b counted stops = subst (λ z. Counted z a b) (sym stops) counted
-
--- a check that drops the write passes, or ends all
-act-drop : (w : World) (n : ℕ) → act w (Drop n) ≡ (dropped w n, None)
-unfolding act
-act-drop w n = refl
 
 module _ (armed : ℕ → Bool) (w : World) (n v : ℕ) where
   passes : (u : World) (r : Option Refusal) (ok : Control → Bool) (why : Refusal) (ds : List Entry) → ok w.control ≡ true → Ends armed u r w ds → Ends armed u r w (check_or_drop n ok why ++ ds)

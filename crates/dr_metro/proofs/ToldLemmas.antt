@@ -8,7 +8,7 @@ use Rattle.dr_model.specs.declared.event.Event.TheVariants.{Ack}
 use Rattle.dr_model.specs.Histories.{Write, Histories, histories, after_event}
 use Rattle.dr_model.proofs.Images.{histories-push}
 use Rattle.dr_plant.specs.State.{PlantState}
-use Rattle.dr_config.specs.Table.{Table}
+use Rattle.dr_config.specs.Table.{ConfigTable}
 use Rattle.dr_metro.specs.Here.{IsTold, IsReady}
 
 -- a pending write is the one with that number
@@ -30,5 +30,5 @@ pub told-marked : (h h' : Writes) (ev : List Event) (n : ℕ) (landed : Bool) �
 told-marked h h' ev n true is told = subst (λ x. IsTold x ev) (sym is) (each-marked (IsWrite (histories ev).write) n h.pending (λ p x. x) told)
 told-marked h h' ev n false is told = subst (λ x. IsTold x ev) (sym is) told
 
-pub told-ready : (s : PlantState) (t : Table) (h : Writes) (ev now : List Event) (e : Event) → ((x : Histories) → (after_event x e).write ≡ x.write) → now ≡ ev ++ e ∷ [] → IsReady s t h ev → IsReady s t h now
+pub told-ready : (s : PlantState) (t : ConfigTable) (h : Writes) (ev now : List Event) (e : Event) → ((x : Histories) → (after_event x e).write ≡ x.write) → now ≡ ev ++ e ∷ [] → IsReady s t h ev → IsReady s t h now
 told-ready s t h ev now e calm is ready = record { rest = ready.rest; reads = ready.reads; told = told-push h ev now e calm is ready.told }

@@ -1,7 +1,7 @@
 -- One landing, from what the update of its volume left.
 use Rattle.std.proofs.Common.{ℕ, ◌≡◌, List, [], ◌∷◌, ◌++◌, refl, ap, ◌∙◌, sym, Bool, true, false, not, ◌&&◌, cond, nat_lt, map, Some, None}
 use Rattle.dr_host.specs.Writes.{Writes, with_marked}
-use Rattle.dr_host.specs.Seen.{seen}
+use Rattle.dr_host.specs.Seen.{pending_seen}
 use Rattle.dr_host.proofs.Seen.{seen-marked}
 use Rattle.std.specs.Prelude.{if◌then◌else◌}
 use mathlib.Core.Bool.{beq}
@@ -20,7 +20,8 @@ use Rattle.dr_model.specs.Moves.{Move, Land, Overwrite, Carried, marked, moved, 
 use Rattle.dr_model.specs.Carry.{turn, update, finished, cut_short, ended, Ended, turn_ended, pass, writes, counts_by, spent, off}
 use Rattle.dr_volume.specs.Update.{EndsAs}
 use Rattle.dr_metro.specs.Landing.{landing_move, landed_on}
-use Rattle.dr_model.proofs.Images.{at_same}
+use Rattle.dr_flash.proofs.MadeLemmas.{differ_not, differ_same}
+use Rattle.dr_logic.proofs.Tables.{at_same}
 
 abbrev pub Landing : World → ℕ → ℕ → ℕ → List ℕ → Ended
 Landing w v t o bytes = update w v (landed_on (w.control.volume v) t) (Some (t, laid o bytes (view (λ u. (w.control.volume u).fields) w.contents v t)))
@@ -97,37 +98,6 @@ abbrev pub differ : Bool → Bool → Bool
 differ true b = not b
 differ false b = b
 
-differ_not : (b : Bool) → differ (not b) b ≡ true
-differ_not true = refl
-differ_not false = refl
-
-pub differ_same : (b : Bool) → differ b b ≡ false
-differ_same true = refl
-differ_same false = refl
-
--- where an update is stopped, it counts as done exactly where the slot changed
-pub done-by_slot : (w : World) (v : ℕ) (f : Fields) (c : Carried) → (update w v f c).stopped ≡ true → (update w v f c).done ≡ differ ((update w v f c).world.control.volume v).slot (w.control.volume v).slot
-unfolding update
-done-by_slot w v f c =
-    let s = (w.control.volume v).server in
-    let old = (w.control.volume v).slot in
-    elim (w.control.on s) as (λ a. (cond (not a) (ended w true false) (cond (pass (w.control.fuse s) (writes c)) (ended (spent (updated w v f c) s (writes c)) false true) (cond (counts_by (w.control.fuse s) (not old)) (ended (off (updated w v f c) s) true true) (ended (off w s) true false)))).stopped ≡ true → (cond (not a) (ended w true false) (cond (pass (w.control.fuse s) (writes c)) (ended (spent (updated w v f c) s (writes c)) false true) (cond (counts_by (w.control.fuse s) (not old)) (ended (off (updated w v f c) s) true true) (ended (off w s) true false)))).done ≡ differ ((cond (not a) (ended w true false) (cond (pass (w.control.fuse s) (writes c)) (ended (spent (updated w v f c) s (writes c)) false true) (cond (counts_by (w.control.fuse s) (not old)) (ended (off (updated w v f c) s) true true) (ended (off w s) true false)))).world.control.volume v).slot old) [
-      | false ↦ λ h. sym (differ_same old)
-      | true ↦ elim (pass (w.control.fuse s) (writes c)) as (λ b. (cond b (ended (spent (updated w v f c) s (writes c)) false true) (cond (counts_by (w.control.fuse s) (not old)) (ended (off (updated w v f c) s) true true) (ended (off w s) true false))).stopped ≡ true → (cond b (ended (spent (updated w v f c) s (writes c)) false true) (cond (counts_by (w.control.fuse s) (not old)) (ended (off (updated w v f c) s) true true) (ended (off w s) true false))).done ≡ differ ((cond b (ended (spent (updated w v f c) s (writes c)) false true) (cond (counts_by (w.control.fuse s) (not old)) (ended (off (updated w v f c) s) true true) (ended (off w s) true false))).world.control.volume v).slot old) [
-        | true ↦ λ h. cc
-        | false ↦ elim (counts_by (w.control.fuse s) (not old)) as (λ b. (cond b (ended (off (updated w v f c) s) true true) (ended (off w s) true false)).stopped ≡ true → (cond b (ended (off (updated w v f c) s) true true) (ended (off w s) true false)).done ≡ differ ((cond b (ended (off (updated w v f c) s) true true) (ended (off w s) true false)).world.control.volume v).slot old) [
-          | true ↦ λ h. sym (ap (λ x. differ x.slot old) (at_same w.control.volume v (moved (w.control.volume v) f c)) ∙ differ_not old)
-          | false ↦ λ h. sym (differ_same old)
-        ]
-      ]
-    ]
-
-pub not_beq : (a b : Bool) → not (beq a b) ≡ differ a b
-not_beq true true = refl
-not_beq true false = refl
-not_beq false true = refl
-not_beq false false = refl
-
 -- what a stop leaves of the pending writes, and what the journal is told
 pub cut_short-is : (u : World) (n v t : ℕ) (x : Volume) (done : Bool)
     → cut_short u (Land n v t) x done ≡ record u { control = record u.control { pending = cond done (marked n u.control.pending) u.control.pending }; events = u.events ++ Stopped x.server (cond done n 0) ∷ [] }
@@ -135,17 +105,10 @@ cut_short-is u n v t x true = refl
 cut_short-is u n v t x false = refl
 
 -- the machine sees the write of a host that has landed
-pub seen-landed : (h h' : Writes) (n : ℕ) (landed : Bool) → h' ≡ cond landed (with_marked h n) h → cond landed (marked n (map seen h.pending)) (map seen h.pending) ≡ map seen h'.pending
-seen-landed h h' n true is = sym (seen-marked n h.pending) ∙ ap (λ (x : Writes). map seen x.pending) (sym is)
-seen-landed h h' n false is = ap (λ (x : Writes). map seen x.pending) (sym is)
+pub seen-landed : (h h' : Writes) (n : ℕ) (landed : Bool) → h' ≡ cond landed (with_marked h n) h → cond landed (marked n (map pending_seen h.pending)) (map pending_seen h.pending) ≡ map pending_seen h'.pending
+seen-landed h h' n true is = sym (seen-marked n h.pending) ∙ ap (λ (x : Writes). map pending_seen x.pending) (sym is)
+seen-landed h h' n false is = ap (λ (x : Writes). map pending_seen x.pending) (sym is)
 
 pub issued-landed : (h h' : Writes) (n : ℕ) (landed : Bool) → h' ≡ cond landed (with_marked h n) h → h'.issued ≡ h.issued
 issued-landed h h' n true is = ap (λ (x : Writes). x.issued) is
 issued-landed h h' n false is = ap (λ (x : Writes). x.issued) is
-
--- a server that is on is on for the machine too
-pub on-running : (s : PlantState) (server : ℕ) → s.on server ≡ true → on_seen s server ≡ true
-on-running s server h = elim (nat_lt server 8) as (λ b. cond b (s.on server) true ≡ true) [ true ↦ h | false ↦ refl ]
-
-pub failed-not : false ≡ true → ⊥
-failed-not e = cc

@@ -1,7 +1,7 @@
 -- The machine's state that plant, configuration, sessions, host and journal show.
 use Rattle.std.specs.Prelude.{◌≡◌, List, map}
 use Rattle.dr_plant.specs.State.{PlantState}
-use Rattle.dr_config.specs.Table.{Table}
+use Rattle.dr_config.specs.Table.{ConfigTable}
 use Rattle.dr_model.specs.declared.event.Event.{Event}
 use Rattle.dr_model.specs.Control.{World}
 use Rattle.dr_model.specs.Histories.{histories}
@@ -9,14 +9,15 @@ use Rattle.dr_model.specs.Sessions.{Session}
 use Rattle.dr_volume.specs.View.{Rest, world, ReadsPass}
 use Rattle.dr_flash.specs.Here.{IsAtRest}
 use Rattle.dr_host.specs.Writes.{Writes, Each, bytes_of}
-use Rattle.dr_host.specs.Seen.{seen}
+use Rattle.dr_host.specs.Seen.{pending_seen}
 use Rattle.dr_host.specs.declared.pending.Pending.{Pending}
 
+-- what a run knows beside plant and configuration
 abbrev pub rest_of : List Session → Writes → List Event → Rest
-rest_of xs h events = record { issued = h.issued; pending = map seen h.pending; sessions = xs; events = events }
+rest_of xs h events = record { issued = h.issued; pending = map pending_seen h.pending; sessions = xs; events = events }
 
 -- the state that plant, configuration, sessions, writes and journal show
-abbrev pub here : PlantState → Table → List Session → Writes → List Event → World
+abbrev pub here : PlantState → ConfigTable → List Session → Writes → List Event → World
 here s t xs h events = world s t (rest_of xs h events)
 
 -- each pending write is the one that the journal tells of
@@ -25,7 +26,7 @@ IsTold h events =
     Each (λ (p : Pending). (histories events).write (p.w.0) ≡ record { volume = p.volume.0; track = p.track; offset = p.offset; bytes = bytes_of p }) h.pending
 
 -- no read fuse is armed, and the host's pending writes are those of the journal
-pub record IsReady (s : PlantState) (t : Table) (h : Writes) (events : List Event) : Type 0 where
+pub record IsReady (s : PlantState) (t : ConfigTable) (h : Writes) (events : List Event) : Type 0 where
   pub rest : IsAtRest s t
   pub reads : ReadsPass s
   pub told : IsTold h events

@@ -17,6 +17,7 @@ landing_move target n v t = if target then Overwrite n v t else Land n v t
 abbrev pub landed : ℕ → Fields → ℕ → Fields
 landed n f t = if f.related then closed n (rewritten (fetched f t) t) else written f t
 
+-- by the volume as it was
 abbrev pub landed_on : Volume → ℕ → Fields
 landed_on u t = landed u.tracks u.fields t
 

@@ -2,7 +2,7 @@
 use Rattle.std.specs.Prelude.{◌≡◌, ℕ, false, List, [], ◌∷◌, ◌++◌}
 use Rattle.std.specs.FinSet.{contains}
 use Rattle.dr_plant.specs.State.{PlantState}
-use Rattle.dr_config.specs.Table.{Table}
+use Rattle.dr_config.specs.Table.{ConfigTable}
 use Rattle.dr_model.specs.Moves.{Mirror, LandBoth}
 use Rattle.dr_model.specs.Pairs.{is_suspended}
 use Rattle.dr_model.specs.Carry.{Entry, now}
@@ -22,5 +22,5 @@ abbrev pub mirror_entries : List ℕ → ℕ → ℕ → ℕ → ℕ → List En
 mirror_entries volumes n v t u = copy_first volumes u t ++ store_entries volumes n v t u
 
 -- Track t of primary v is the same on u, or v records that it isn't: it is out of sync, or the pair is Suspended.
-abbrev pub Mirrors : PlantState → Table → ℕ → ℕ → ℕ → Type 0
+abbrev pub Mirrors : PlantState → ConfigTable → ℕ → ℕ → ℕ → Type 0
 Mirrors s c v u t = contains (volume_seen s c v).fields.out_of_sync t ≡ false → is_suspended (volume_seen s c v).fields.primary_state ≡ false → track_seen s c u t ≡ track_seen s c v t

@@ -2,6 +2,7 @@
 
 ghost use Rattle.std.specs.Prelude.{◌≡◌, ◌≢◌, ℕ, ◌<◌, ◌≤◌, ◌+◌, true, length, None, Some, IsSome, IfOk, OnOk, OnErr, is_err, List};
 ghost use Rattle.std.specs.List.{find};
+ghost use Rattle.dr_logic.specs.Counts.{Counted};
 ghost use Rattle.dr_config.specs.Table.{place_of};
 ghost use Rattle.dr_host.specs.Writes.{has_number};
 ghost use Rattle.dr_model.specs.Layout.{is_part};
@@ -11,9 +12,8 @@ ghost use Rattle.dr_model.specs.Sessions.{Session};
 ghost use Rattle.dr_model.specs.WriteEntries.{send_first};
 ghost use Rattle.dr_volume.specs.View.{Rest, volume_seen, ids_of};
 ghost use Rattle.dr_flash.specs.Checks.{is_stop};
-ghost use Rattle.dr_flash.specs.Faults.{Counted};
 ghost use Rattle.dr_flash.specs.Fit.{RelationsFit};
-ghost use Rattle.dr_flash.specs.Here.{seen, refusal_of, armed_in, IsAtRest};
+ghost use Rattle.dr_flash.specs.Here.{world_seen, refusal_of, armed_in, IsAtRest};
 ghost use Rattle.dr_flash.specs.Turns.{Leads, Fails};
 ghost use Rattle.dr_metro.specs.Here.{here, IsTold};
 ghost use Rattle.dr_metro.specs.Syncing.{collided_entries};
@@ -50,8 +50,8 @@ fn send_old<P: Plant>(
     requires within { t < (volume_seen (P.state p.old) c.now v.0).tracks }
     requires size { (volume_seen (P.state p.old) c.now u.0).tracks ≡ (volume_seen (P.state p.old) c.now v.0).tracks }
     requires room { length c.now.volumes + 2 ≤ j.old.spare }
-    ensures leads { OnOk result ((r : Rest) → Leads (seen (P.state p.old) c.now r j.old.events) (send_first (ids_of c.now.volumes) v.0 u.0 t) (seen (P.state p.new) c.now r j.new.events)) }
-    ensures fails { OnErr result ((r : Rest) → Fails (armed_in (P.state p.old)) (seen (P.state p.old) c.now r j.old.events) (send_first (ids_of c.now.volumes) v.0 u.0 t) (seen (P.state p.new) c.now r j.new.events) (refusal_of result)) }
+    ensures leads { OnOk result ((r : Rest) → Leads (world_seen (P.state p.old) c.now r j.old.events) (send_first (ids_of c.now.volumes) v.0 u.0 t) (world_seen (P.state p.new) c.now r j.new.events)) }
+    ensures fails { OnErr result ((r : Rest) → Fails (armed_in (P.state p.old)) (world_seen (P.state p.old) c.now r j.old.events) (send_first (ids_of c.now.volumes) v.0 u.0 t) (world_seen (P.state p.new) c.now r j.new.events) (refusal_of result)) }
     ensures stops { OnErr result (is_stop (refusal_of result) ≡ true) }
     ensures rest { IsAtRest (P.state p.new) c.now }
     ensures fit { RelationsFit (P.state p.new) c.now }

@@ -1,6 +1,7 @@
 //! Landing a host write on a track, as one move of its volume.
 
 ghost use Rattle.std.specs.Prelude.{◌≡◌, ℕ, ◌+◌, ◌<◌, ◌≤◌, true, length, is_err, IsSome, Some, None, OnOk};
+ghost use Rattle.dr_logic.specs.Counts.{Counted};
 ghost use Rattle.dr_plant.specs.State.{can_read};
 ghost use Rattle.dr_config.specs.Table.{place_of};
 ghost use Rattle.dr_model.specs.Contents.{laid};
@@ -9,7 +10,6 @@ ghost use Rattle.dr_volume.specs.Opened.{IsOpened};
 ghost use Rattle.dr_volume.specs.Plain.{plain};
 ghost use Rattle.dr_volume.specs.Update.{EndsAs};
 ghost use Rattle.dr_volume.specs.View.{Rest, world, volume_seen, device_of};
-ghost use Rattle.dr_flash.specs.Faults.{Counted};
 ghost use Rattle.dr_flash.specs.Fit.{RelationsFit};
 ghost use Rattle.dr_flash.specs.Here.{IsAtRest, armed_in};
 ghost use Rattle.dr_flash.specs.Views.{view_seen};

@@ -1,4 +1,12 @@
 //! Host writes: how they land on a volume alone, and how they go to the secondary of a Metro Mirror pair first.
+//!
+//! Host writes on a plant. `sync_write` carries out a pending write on any volume, each refusal included, and says
+//! whether it landed or waits (`carried`, `end`); what follows where the secondary's server stops is in it.
+//! **Acknowledged on both sides**: where it landed on a Metro Mirror primary, the secondary's track is the same, or the
+//! primary has the track out of sync, or is Suspended (`mirrors`). `write_both` is the write on both sides (`carried`,
+//! `equal`), `unsync`, `mirror` and `land_both` its three moves, `land` and `land_write` the move of a host write on
+//! its volume alone, and `land_kept` that behind copy first (`carried`). Each call keeps the fields of all volumes
+//! lawful and fitting (`rest`, `fit`), also where reads may fail.
 #![tactic(auto)]
 
 mod both;

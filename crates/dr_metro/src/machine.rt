@@ -2,6 +2,7 @@
 
 ghost use Rattle.std.specs.Prelude.{◌≡◌, ℕ, ◌+◌, ◌<◌, ◌≤◌, true, [], ◌∷◌, length, is_err, IsSome, Some, None, OnOk, OnErr, if◌then◌else◌, List};
 ghost use Rattle.std.specs.List.{find};
+ghost use Rattle.dr_logic.specs.Counts.{Counted};
 ghost use Rattle.dr_config.specs.Table.{place_of};
 ghost use Rattle.dr_host.specs.Writes.{has_number, with_marked};
 ghost use Rattle.dr_model.specs.Entries.{land_on, land_alone};
@@ -10,7 +11,6 @@ ghost use Rattle.dr_model.specs.Refusals.{stopped};
 ghost use Rattle.dr_model.specs.Sessions.{Session};
 ghost use Rattle.dr_volume.specs.View.{volume_seen, ids_of};
 ghost use Rattle.dr_flash.specs.Fit.{RelationsFit};
-ghost use Rattle.dr_flash.specs.Faults.{Counted};
 ghost use Rattle.dr_metro.specs.Here.{here, IsTold};
 ghost use Rattle.dr_metro.specs.Landing.{landed_on};
 ghost use Rattle.dr_flash.specs.Here.{refusal_of, armed_in, IsAtRest};

@@ -2,6 +2,7 @@
 
 ghost use Rattle.std.specs.Prelude.{◌≡◌, ◌≢◌, ℕ, ◌<◌, ◌≤◌, ◌+◌, true, length, take, None, Some, IsSome, OnOk, OnErr, is_err, List};
 ghost use Rattle.std.specs.List.{find};
+ghost use Rattle.dr_logic.specs.Counts.{Counted};
 ghost use Rattle.dr_config.specs.Table.{place_of};
 ghost use Rattle.dr_host.specs.Writes.{has_number};
 ghost use Rattle.dr_model.specs.Contents.{with_write};
@@ -12,7 +13,6 @@ ghost use Rattle.dr_model.specs.WriteEntries.{land_mirrored};
 ghost use Rattle.dr_model.specs.Sessions.{Session};
 ghost use Rattle.dr_volume.specs.View.{volume_seen, track_seen, ids_of};
 ghost use Rattle.dr_flash.specs.Checks.{is_stop};
-ghost use Rattle.dr_flash.specs.Faults.{Counted};
 ghost use Rattle.dr_flash.specs.Fit.{RelationsFit};
 ghost use Rattle.dr_flash.specs.Here.{refusal_of, armed_in, IsAtRest};
 ghost use Rattle.dr_metro.specs.Here.{here, IsTold};

@@ -1,6 +1,7 @@
 //! A primary says that a track is about to change on both sides, and its secondary stores the new bytes.
 
 ghost use Rattle.std.specs.Prelude.{◌≡◌, ℕ, ◌<◌, ◌≤◌, ◌+◌, true, length, [], ◌∷◌, None, Some, IsSome, OnOk, OnErr, is_err};
+ghost use Rattle.dr_logic.specs.Counts.{Counted};
 ghost use Rattle.dr_config.specs.Table.{place_of};
 ghost use Rattle.dr_model.specs.Carry.{now};
 ghost use Rattle.dr_model.specs.Contents.{with_write};
@@ -12,9 +13,8 @@ ghost use Rattle.dr_model.specs.ReadStops.{Ends};
 ghost use Rattle.dr_model.specs.Refusals.{stopped};
 ghost use Rattle.dr_volume.specs.Update.{IsMoved, OthersStay};
 ghost use Rattle.dr_volume.specs.View.{Rest, volume_seen, track_seen};
-ghost use Rattle.dr_flash.specs.Faults.{Counted};
 ghost use Rattle.dr_flash.specs.Fit.{RelationsFit};
-ghost use Rattle.dr_flash.specs.Here.{seen, refusal_of, armed_in, IsAtRest};
+ghost use Rattle.dr_flash.specs.Here.{world_seen, refusal_of, armed_in, IsAtRest};
 ghost use Rattle.dr_flash.specs.Turns.{Advances, Halts};
 
 use crate::states::{mirrored, unsynced};
@@ -41,9 +41,9 @@ pub fn unsync<P: Plant>(
     requires primary { is_part (volume_seen (P.state p.old) c.now v.0).fields.primary ≡ true }
     requires within { t < (volume_seen (P.state p.old) c.now v.0).tracks }
     requires room { 1 ≤ j.old.spare }
-    ensures carried { (r : Rest) → Ends (armed_in (P.state p.old)) (seen (P.state p.new) c.now r j.new.events) (refusal_of result) (seen (P.state p.old) c.now r j.old.events) (now (Unsync v.0 t) ∷ []) }
-    ensures advances { OnOk result ((r : Rest) → Advances (seen (P.state p.old) c.now r j.old.events) (now (Unsync v.0 t)) (seen (P.state p.new) c.now r j.new.events)) }
-    ensures halts { OnErr result ((r : Rest) → Halts (armed_in (P.state p.old)) (seen (P.state p.old) c.now r j.old.events) (now (Unsync v.0 t)) (seen (P.state p.new) c.now r j.new.events) (refusal_of result)) }
+    ensures carried { (r : Rest) → Ends (armed_in (P.state p.old)) (world_seen (P.state p.new) c.now r j.new.events) (refusal_of result) (world_seen (P.state p.old) c.now r j.old.events) (now (Unsync v.0 t) ∷ []) }
+    ensures advances { OnOk result ((r : Rest) → Advances (world_seen (P.state p.old) c.now r j.old.events) (now (Unsync v.0 t)) (world_seen (P.state p.new) c.now r j.new.events)) }
+    ensures halts { OnErr result ((r : Rest) → Halts (armed_in (P.state p.old)) (world_seen (P.state p.old) c.now r j.old.events) (now (Unsync v.0 t)) (world_seen (P.state p.new) c.now r j.new.events) (refusal_of result)) }
     ensures refused { OnErr result (refusal_of result ≡ Some (stopped (volume_seen (P.state p.old) c.now v.0).server)) }
     ensures rest { IsAtRest (P.state p.new) c.now }
     ensures fit { RelationsFit (P.state p.new) c.now }
@@ -79,9 +79,9 @@ pub fn mirror<P: Plant>(
     requires within { t < (volume_seen (P.state p.old) c.now u.0).tracks }
     requires bytes { bytes.now ≡ with_write (histories j.old.events).write (track_seen (P.state p.old) c.now v.0 t) w.0 }
     requires room { 2 ≤ j.old.spare }
-    ensures carried { (r : Rest) → Ends (armed_in (P.state p.old)) (seen (P.state p.new) c.now r j.new.events) (refusal_of result) (seen (P.state p.old) c.now r j.old.events) (now (Mirror u.0 t v.0 w.0) ∷ []) }
-    ensures advances { OnOk result ((r : Rest) → Advances (seen (P.state p.old) c.now r j.old.events) (now (Mirror u.0 t v.0 w.0)) (seen (P.state p.new) c.now r j.new.events)) }
-    ensures halts { OnErr result ((r : Rest) → Halts (armed_in (P.state p.old)) (seen (P.state p.old) c.now r j.old.events) (now (Mirror u.0 t v.0 w.0)) (seen (P.state p.new) c.now r j.new.events) (refusal_of result)) }
+    ensures carried { (r : Rest) → Ends (armed_in (P.state p.old)) (world_seen (P.state p.new) c.now r j.new.events) (refusal_of result) (world_seen (P.state p.old) c.now r j.old.events) (now (Mirror u.0 t v.0 w.0) ∷ []) }
+    ensures advances { OnOk result ((r : Rest) → Advances (world_seen (P.state p.old) c.now r j.old.events) (now (Mirror u.0 t v.0 w.0)) (world_seen (P.state p.new) c.now r j.new.events)) }
+    ensures halts { OnErr result ((r : Rest) → Halts (armed_in (P.state p.old)) (world_seen (P.state p.old) c.now r j.old.events) (now (Mirror u.0 t v.0 w.0)) (world_seen (P.state p.new) c.now r j.new.events) (refusal_of result)) }
     ensures refused { OnErr result (refusal_of result ≡ Some (stopped (volume_seen (P.state p.old) c.now u.0).server)) }
     ensures rest { IsAtRest (P.state p.new) c.now }
     ensures fit { RelationsFit (P.state p.new) c.now }

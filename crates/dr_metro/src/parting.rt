@@ -2,6 +2,7 @@
 
 ghost use Rattle.std.specs.Prelude.{◌≡◌, ℕ, ◌≤◌, ◌+◌, true, false, length, None, Some, IsSome, if◌then◌else◌};
 ghost use Rattle.std.specs.Option.{unwrap_or};
+ghost use Rattle.dr_logic.specs.Counts.{Counted};
 ghost use Rattle.dr_ids.specs.Paths.{path_in};
 ghost use Rattle.dr_config.specs.Table.{place_of};
 ghost use Rattle.dr_model.specs.Entries.{subsystem};
@@ -9,31 +10,23 @@ ghost use Rattle.dr_model.specs.PairEntries.{suspend_after};
 ghost use Rattle.dr_model.specs.WriteEntries.{part_after};
 ghost use Rattle.dr_volume.specs.View.{Rest};
 ghost use Rattle.dr_flash.specs.Checks.{is_stop};
-ghost use Rattle.dr_flash.specs.Faults.{Counted};
 ghost use Rattle.dr_flash.specs.Fit.{RelationsFit};
-ghost use Rattle.dr_flash.specs.Here.{seen, armed_in, IsAtRest};
+ghost use Rattle.dr_flash.specs.Here.{world_seen, armed_in, IsAtRest};
 ghost use Rattle.dr_gcopy.specs.Followed.{EndsSo, Follows};
 
 use dr_config::Config;
-use dr_flash::{is_part, server_of};
+use dr_flash::server_of;
 use dr_gcopy::{follow_stop, suspend};
-use dr_ids::{Lss, Refusal, VolumeId};
+use dr_ids::{Refusal, VolumeId};
 use dr_model::Journal;
 use dr_plant::Plant;
 use dr_volume::peek_fields;
-
-/// The logical subsystem of a volume.
-fn lss_of(v: VolumeId) -> Lss
-    ensures { result.0 ≡ subsystem v.0 }
-{
-    Lss((v.0 / 256) as u8)
-}
 
 /// Whether the path from the logical subsystem of a to that of b has its group flag.
 pub(crate) fn is_grouped(c: &Config, a: VolumeId, b: VolumeId) -> bool
     ensures { result ≡ unwrap_or (path_in c.now.paths (subsystem a.0) (subsystem b.0)) false }
 {
-    c.path(lss_of(a), lss_of(b)).unwrap_or(false)
+    c.path(a.lss(), b.lss()).unwrap_or(false)
 }
 
 /// Suspends a volume that is a primary and whose server is on, long busy where the path to its secondary has its group
@@ -43,7 +36,7 @@ fn part_running<P: Plant>(p: &mut P, c: &Config, j: &mut Journal, v: VolumeId)
     requires fit { RelationsFit (P.state p.old) c.now }
     requires defined { IsSome (place_of c.now v.0) }
     requires room { 2 ≤ j.old.spare }
-    ensures ends { (r : Rest) (s : ℕ) → EndsSo (armed_in (P.state p.old)) (seen (P.state p.old) c.now r j.old.events) (part_after v.0 s) (seen (P.state p.new) c.now r j.new.events) }
+    ensures ends { (r : Rest) (s : ℕ) → EndsSo (armed_in (P.state p.old)) (world_seen (P.state p.old) c.now r j.old.events) (part_after v.0 s) (world_seen (P.state p.new) c.now r j.new.events) }
     ensures rest { IsAtRest (P.state p.new) c.now }
     ensures fit { RelationsFit (P.state p.new) c.now }
     ensures unarmed { (q : ℕ) → (P.state p.old).read_fuse q ≡ None → (P.state p.new).read_fuse q ≡ None }
@@ -52,7 +45,7 @@ fn part_running<P: Plant>(p: &mut P, c: &Config, j: &mut Journal, v: VolumeId)
     ensures spare { length j.new.events + j.new.spare ≡ length j.old.events + j.old.spare }
 {
     let fields = peek_fields(p, c, v);
-    if !is_part(fields.primary) {
+    if !fields.primary.is_part() {
         return;
     }
     if !p.is_on(server_of(c, v).0) {
@@ -69,7 +62,7 @@ fn follow_part<P: Plant>(p: &mut P, c: &Config, j: &mut Journal, v: VolumeId, wh
     requires fit { RelationsFit (P.state p.old) c.now }
     requires defined { IsSome (place_of c.now v.0) }
     requires room { 2 ≤ j.old.spare }
-    ensures follows { (r : Rest) → Follows (armed_in (P.state p.old)) (seen (P.state p.old) c.now r j.old.events) (Some why) (part_after v.0) (seen (P.state p.new) c.now r j.new.events) }
+    ensures follows { (r : Rest) → Follows (armed_in (P.state p.old)) (world_seen (P.state p.old) c.now r j.old.events) (Some why) (part_after v.0) (world_seen (P.state p.new) c.now r j.new.events) }
     ensures rest { IsAtRest (P.state p.new) c.now }
     ensures fit { RelationsFit (P.state p.new) c.now }
     ensures unarmed { (q : ℕ) → (P.state p.old).read_fuse q ≡ None → (P.state p.new).read_fuse q ≡ None }
@@ -98,7 +91,7 @@ pub(crate) fn follow_write<P: Plant>(
     requires fit { RelationsFit (P.state p.old) c.now }
     requires defined { IsSome (place_of c.now v.0) }
     requires room { 2 ≤ j.old.spare }
-    ensures follows { (r : Rest) → Follows (armed_in (P.state p.old)) (seen (P.state p.old) c.now r j.old.events) (Some why) (λ s. if collided then suspend_after v.0 s else part_after v.0 s) (seen (P.state p.new) c.now r j.new.events) }
+    ensures follows { (r : Rest) → Follows (armed_in (P.state p.old)) (world_seen (P.state p.old) c.now r j.old.events) (Some why) (λ s. if collided then suspend_after v.0 s else part_after v.0 s) (world_seen (P.state p.new) c.now r j.new.events) }
     ensures rest { IsAtRest (P.state p.new) c.now }
     ensures fit { RelationsFit (P.state p.new) c.now }
     ensures unarmed { (q : ℕ) → (P.state p.old).read_fuse q ≡ None → (P.state p.new).read_fuse q ≡ None }

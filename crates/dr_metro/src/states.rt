@@ -1,47 +1,24 @@
 //! What the fields of a primary and of its secondary become in a synchronous write.
 
 ghost use Rattle.std.specs.Prelude.{◌≡◌, ◌<◌};
-ghost use Rattle.dr_model.specs.declared.state.Part.TheVariants.{Global};
 ghost use Rattle.dr_model.specs.Pairs as pairs;
 ghost use Rattle.dr_volume.specs.Plain.{plain};
 
-use dr_flash::is_suspended;
-use dr_model::Part;
 use dr_volume::Fields;
-
-/// Whether a part is that of a Metro Mirror pair.
-fn is_metro(part: Part) -> bool
-    ensures { result ≡ pairs.is_metro part }
-{
-    match part {
-        Part::Metro => true,
-        Part::Absent | Part::Global => false,
-    }
-}
-
-/// Whether a part is that of a Global Copy pair.
-fn is_global(part: Part) -> bool
-    ensures { result ≡ pairs.is_kind Global part }
-{
-    match part {
-        Part::Global => true,
-        Part::Absent | Part::Metro => false,
-    }
-}
 
 /// Whether a host write on track t collides: a Global Copy primary records, and the track is still out of sync, so that
 /// its secondary hasn't what it was as the primary began to.
 pub(crate) fn collides(f: &Fields, t: u16) -> bool
     ensures { result ≡ pairs.collides (plain f.now) t }
 {
-    is_global(f.primary) && (f.recording && f.out_of_sync.contains(t))
+    f.primary.is_global() && (f.recording && f.out_of_sync.contains(t))
 }
 
 /// Whether a host write on track t goes to the secondary first.
 pub(crate) fn goes_over(f: &Fields, t: u16) -> bool
     ensures { result ≡ pairs.goes_over (plain f.now) t }
 {
-    is_metro(f.primary) && (!is_suspended(f.primary_state) && !f.out_of_sync.contains(t))
+    f.primary.is_metro() && (!f.primary_state.is_suspended() && !f.out_of_sync.contains(t))
 }
 
 /// A primary of which track t is about to change on both sides.

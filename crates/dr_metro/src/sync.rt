@@ -3,6 +3,7 @@
 
 ghost use Rattle.std.specs.Prelude.{◌≡◌, ◌≢◌, ℕ, ◌<◌, ◌≤◌, ◌+◌, true, false, ◌&&◌, length, None, Some, IsSome, IfOk, OnOk, OnErr, is_err, is_some, List};
 ghost use Rattle.std.specs.List.{find};
+ghost use Rattle.dr_logic.specs.Counts.{Counted};
 ghost use Rattle.dr_config.specs.Table.{place_of};
 ghost use Rattle.dr_host.specs.Writes.{has_number};
 ghost use Rattle.dr_model.specs.Entries.{land_alone};
@@ -15,7 +16,6 @@ ghost use Rattle.dr_model.specs.WriteEntries.{land_entries, landing, waits, afte
 ghost use Rattle.dr_model.specs.Sessions.{Session};
 ghost use Rattle.dr_volume.specs.View.{volume_seen, ids_of};
 ghost use Rattle.dr_flash.specs.Checks.{is_stop};
-ghost use Rattle.dr_flash.specs.Faults.{Counted};
 ghost use Rattle.dr_flash.specs.Fit.{RelationsFit};
 ghost use Rattle.dr_flash.specs.Here.{refusal_of, armed_in, IsAtRest};
 ghost use Rattle.dr_gcopy.specs.Followed.{EndsFollowed};

@@ -4,13 +4,14 @@ use Rattle.std.proofs.lemmas.List.{take_more}
 use Rattle.std.proofs.lemmas.Option.{get_or_from_slice_get, slice_get_within}
 use Rattle.std.specs.Prelude.{slice_get, Option, Some, None, zero, suc}
 use Rattle.std.specs.Option.{option_or}
+use Rattle.dr_logic.specs.Bytes.{zeros}
 use Rattle.dr_model.specs.declared.event.Event.{Event}
 use Rattle.dr_model.specs.declared.event.Event.TheVariants.{Volume, Issue, Ack, Mirrored, Sent, Flashed, Committed, Reverted, Set, Back, Blanked}
 use Rattle.dr_model.specs.declared.image.Question.{Question}
 use Rattle.dr_model.specs.declared.image.Earlier.{Earlier}
 use Rattle.dr_model.specs.declared.image.Issued.{Issued}
 use Rattle.dr_model.specs.Histories.{Histories, Write, histories, after_event, no_history, joined}
-use Rattle.dr_model.specs.Contents.{image, zeros}
+use Rattle.dr_model.specs.Contents.{image}
 use Rattle.dr_model.specs.Asked.{asked, asked_if, with_last, earlier_of, goes_on, ends, present, kept_aside, issue_in, issue_at, write_of, tracks_in, tracks_at, with_write_if}
 use Rattle.dr_model.proofs.Images.{image-push, histories-push}
 

@@ -9,7 +9,7 @@ use Rattle.dr_model.specs.declared.said.Said.{Said}
 use Rattle.dr_model.specs.declared.said.Said.TheVariants.{Refused}
 use Rattle.dr_model.specs.Control.{Control, World}
 use Rattle.dr_model.specs.Moves.{Move}
-use Rattle.dr_model.specs.Carry.{Act, Make, Redo, Acknowledge, Next, Pass, Do, End, Entry, Turn, Outcome, act, turn, redo, redo_ended, acknowledged, carry, go, continue, check, follow}
+use Rattle.dr_model.specs.Carry.{Act, Make, Redo, Acknowledge, Next, Pass, Do, End, Entry, Turn, Outcome, act, turn, redo, redo_ended, acknowledged, carry, go, continue, check, follow, Drop, dropped}
 use Rattle.dr_model.specs.Plans.{Plan, tables_plan, only_says, refuses, same}
 use Rattle.dr_model.specs.Runs.{begun, finish, answered, after_plan, said}
 
@@ -96,3 +96,8 @@ follow-none w _ follows none = refl
 -- a plan that a refusal ends
 pub plan-fails : (w u : World) (line : ℕ) (p : Plan) (r : Refusal) → ((s : ℕ) → p.follows s ≡ []) → carry (begun w p) p.entries ≡ (u, Some r) → after_plan w line p ≡ said u line (Refused r)
 plan-fails w u line p r none e = plan-ends w line p (u, Some r) e ∙ ap (λ v. said v line (Refused r)) (follow-none u r p.follows none)
+
+-- a check that drops the write passes, or ends all
+pub act-drop : (w : World) (n : ℕ) → act w (Drop n) ≡ (dropped w n, None)
+unfolding act
+act-drop w n = refl

@@ -3,10 +3,12 @@ use Rattle.std.proofs.Common.{ℕ, ◌≡◌, ◌≢◌, ◌<◌, ◌+◌, List,
 use Rattle.std.proofs.lemmas.Bool.Decides.{nat_tests}
 use Rattle.std.proofs.lemmas.List.Sums.{fold-append}
 use Rattle.std.specs.List.{fold}
+use Rattle.dr_logic.specs.Bytes.{zeros}
+use Rattle.dr_logic.specs.Tables.{at}
 use Rattle.dr_model.specs.declared.event.Event.{Event}
-use Rattle.dr_model.specs.Tables.{at}
 use Rattle.dr_model.specs.Histories.{Write, histories, no_history, after_event}
-use Rattle.dr_model.specs.Contents.{image, with_write, zeros}
+use Rattle.dr_model.specs.Contents.{image, with_write}
+use Rattle.dr_logic.proofs.Tables.{at_other}
 
 -- each number of the list is below n
 abbrev pub Below : ℕ → List ℕ → Type 0
@@ -29,12 +31,6 @@ Below-cond n false xs ys p q = q
 pub image-push : (write : ℕ → Write) (ws : List ℕ) (w : ℕ) → image write (ws ++ w ∷ []) ≡ with_write write (image write ws) w
 unfolding image
 image-push write ws w = fold-append (with_write write) zeros ws (w ∷ [])
-
-pub at_other : {X : Type 0} (f : ℕ → X) (k : ℕ) (x : X) (q : ℕ) → q ≢ k → at f k x q ≡ f q
-at_other f k x q ne = let h : nat_eq q k ≡ false = grind (arith, nat_tests) in ap (λ b. cond b x (f q)) h
-
-pub at_same : {X : Type 0} (f : ℕ → X) (k : ℕ) (x : X) → at f k x k ≡ x
-at_same f k x = let h : nat_eq k k ≡ true = grind (arith, nat_tests) in ap (λ b. cond b x (f k)) h
 
 -- a write that is issued later changes no image
 fold-issue : (write : ℕ → Write) (n : ℕ) (x : Write) (bytes : List ℕ) (ws : List ℕ) → Below n ws → fold (with_write (at write n x)) bytes ws ≡ fold (with_write write) bytes ws

@@ -7,7 +7,7 @@ use Rattle.std.specs.Ordering.{nat_cmp}
 use Rattle.dr_model.specs.Layout.{Tracks, Fields, no_fields}
 use Rattle.dr_model.specs.Lawful.{Low, HasSets, IsLawful}
 
-low-empty : (n : ℕ) → Low n empty
+pub low-empty : (n : ℕ) → Low n empty
 low-empty n t h = absurd (let e : contains {R = nat_cmp} empty t ≡ false = grind (members, rules) in cc)
 
 -- a volume that has nothing
@@ -27,7 +27,7 @@ lawful-no_fields n = record {
   relation = λ absent. (refl, refl, refl, refl, refl, refl, refl, refl, refl, refl, refl, refl, refl, refl, refl);
 }
 
-removed : (s : Tracks) (t q : ℕ) → contains (remove s t) q ≡ true → contains s q ≡ true
+pub removed : (s : Tracks) (t q : ℕ) → contains (remove s t) q ≡ true → contains s q ≡ true
 removed s t q h = grind (members, rules, nat_tests, unsigned_tied)
 
 -- a track that is no longer blank

@@ -1,3 +1,13 @@
+-- Read first: `CarryLemmas.antt`: a plan entry by entry; `Images.antt`, `LawfulLemmas.antt`; `Asking.antt`,
+-- `Overlay.antt` for `image_of`.
+-- - Histories one event further: `histories-push`, `histories-append`; images: `image-push`, `image-issue` (a write that
+--   is issued later changes no image) in `Images.antt`.
+-- - **A journal walked backward**: `earlier_of` has one equation for each kind of event, and its lemma is closed by
+--   `refl` for each (`Asking.antt`). The bytes of a track are built from the last write to the first by `over known
+--   bytes under`: what is known lies over what is still underneath (`over-laid`, `over-none`, `over-cleared` in
+--   `Overlay.antt`).
+-- - **A predicate on a list of entries** (`Unstopped`, `Costs`, `AllLight`) is `unfoldable`, with a lemma for each way
+--   to go on: as an `abbrev` it unfolds under a blank, and no `_` is found.
 pub mod Asking
 pub mod Images
 pub mod Overlay

@@ -6,8 +6,9 @@ use borrow.Rule.Slice.PartMut.{put_mid}
 use Rattle.std.proofs.lemmas.List.FromFn.{get_or-map-range_with_len, length-map-range_with_len, map-range_with_len_more}
 use Rattle.std.proofs.lemmas.Grind.{same_number_lists}
 use Rattle.std.specs.List.{fold, flat_map, range_with_len}
+use Rattle.dr_logic.specs.Bytes.{zeros}
 use Rattle.dr_model.specs.Histories.{Write}
-use Rattle.dr_model.specs.Contents.{byte_laid, laid, zeros, image, with_write}
+use Rattle.dr_model.specs.Contents.{byte_laid, laid, image, with_write}
 use Rattle.dr_model.specs.Asked.{byte_over, over}
 
 same_maps : (f g : ℕ → ℕ) (n : ℕ) → ((k : ℕ) → k < n → f k ≡ g k) → map f (range_with_len 0 n) ≡ map g (range_with_len 0 n)

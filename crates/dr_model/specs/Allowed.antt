@@ -73,6 +73,7 @@ pub record MayRelate (T : Table) (v s : ℕ) : Type 0 where
   pub no_primary : is_part (fields T v).primary ≡ false
   pub no_secondary : is_part (fields T v).secondary ≡ false
 
+-- v is a target that is neither restored nor revertible
 pub record MayWithdraw (T : Table) (v : ℕ) : Type 0 where
   pub from : ℕ
   pub related : source (T v) ≡ Some from
@@ -172,9 +173,11 @@ pub record MayLandBoth (write : ℕ → Write) (T : Table) (n v t : ℕ) : Type 
   pub sends : its_secondary (T v) ≡ Some to
   pub equal : (T to).bytes t ≡ with_write write ((T v).bytes t) n
 
+-- v is a primary
 abbrev pub IsPrimary : Table → ℕ → Type 0
 IsPrimary T v = is_part (fields T v).primary ≡ true
 
+-- v is a secondary
 abbrev pub IsSecondary : Table → ℕ → Type 0
 IsSecondary T v = is_part (fields T v).secondary ≡ true
 
@@ -222,6 +225,7 @@ pub record MayRaise (T : Table) (v n : ℕ) : Type 0 where
   pub idle : (fields T v).recording ≡ false
   pub higher : (fields T v).attempt ≤ n
 
+-- what each kind of move asks of the table
 abbrev pub Allowed : (ℕ → Write) → Table → Move → Type 0
 Allowed write T (Land n v t) = MayLand T v t
 Allowed write T (Overwrite n v t) = MayOverwrite T v t

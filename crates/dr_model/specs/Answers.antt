@@ -33,6 +33,7 @@ kind_place OfSession = 5
 kind_place OfTrack = 6
 kind_place OfMaster = 7
 
+-- the place of a limit in its list
 abbrev pub which_place : Which → ℕ
 which_place Servers = 0
 which_place Volumes = 1
@@ -44,6 +45,7 @@ which_place Groups = 6
 which_place Size = 7
 which_place OneServer = 8
 
+-- of a phase
 abbrev pub phase_place : PhaseName → ℕ
 phase_place NoMaster = 0
 phase_place Idle = 1
@@ -56,6 +58,7 @@ phase_place Reverting = 7
 phase_place Finishing = 8
 phase_place Lost = 9
 
+-- of a pair's state
 abbrev pub pair_place : PairSeen → ℕ
 pair_place CopyPending = 0
 pair_place FullDuplex = 1
@@ -65,6 +68,7 @@ pair_place TargetFullDuplex = 4
 pair_place TargetSuspended = 5
 pair_place NoPair = 6
 
+-- of a relationship's state
 abbrev pub relation_place : RelSeen → ℕ
 relation_place Revertible = 0
 relation_place Reversing = 1
@@ -72,6 +76,7 @@ relation_place Target = 2
 relation_place Source = 3
 relation_place NoRelation = 4
 
+-- of a decision
 abbrev pub decision_place : Decision → ℕ
 decision_place NoMember = 0
 decision_place (Nothing n) = 1
@@ -89,6 +94,7 @@ decision_first (CommitRest n) = n
 decision_first (RevertSome m n) = m
 decision_first (Impossible a b) = a
 
+-- its second number, or 0
 abbrev pub decision_second : Decision → ℕ
 decision_second (RevertSome m n) = n
 decision_second (Impossible a b) = b
@@ -100,6 +106,7 @@ decision_number (RevertSome m n) = n
 decision_number (Impossible a b) = b
 decision_number d = decision_first d
 
+-- an answer as its code and three numbers
 abbrev pub numbers_of : ℕ → ℕ → ℕ → ℕ → Numbers
 numbers_of code a b c = record { code = code; a = a; b = b; c = c }
 

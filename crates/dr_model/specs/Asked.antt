@@ -39,6 +39,7 @@ asks_aside q v = if q.aside then q.volume == v else false
 abbrev pub present : ℕ → ℕ → Question
 present v t = record { volume = v; track = t; aside = false }
 
+-- the list that is kept aside of a track
 abbrev pub kept_aside : ℕ → ℕ → Question
 kept_aside v t = record { volume = v; track = t; aside = true }
 
@@ -46,6 +47,7 @@ kept_aside v t = record { volume = v; track = t; aside = true }
 abbrev pub goes_on : Question → Earlier
 goes_on q = record { question = Some q; write = None }
 
+-- nothing is to be asked any more
 abbrev pub ends : Earlier
 ends = record { question = None; write = None }
 
@@ -76,6 +78,7 @@ abbrev pub issue_in : Event → ℕ → Option Issued
 issue_in (Issue w v t offset len bytes) n = if n == w then Some (record { volume = v; track = t; offset = offset; len = len; bytes = bytes }) else None
 issue_in _ n = None
 
+-- by the event at a place, if there is one
 abbrev pub issue_at : Option Event → ℕ → Option Issued
 issue_at None n = None
 issue_at (Some e) n = issue_in e n
@@ -85,6 +88,7 @@ abbrev pub tracks_in : Event → ℕ → Option ℕ
 tracks_in (Volume v server tracks) x = if x == v then Some tracks else None
 tracks_in _ x = None
 
+-- by the event at a place, if there is one
 abbrev pub tracks_at : Option Event → ℕ → Option ℕ
 tracks_at None x = None
 tracks_at (Some e) x = tracks_in e x

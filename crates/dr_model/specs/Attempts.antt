@@ -35,6 +35,7 @@ pub record Role : Type 0 where
   pub session : ℕ
   pub floor : ℕ
 
+-- of a volume with these fields
 abbrev pub role_of : Fields → Role
 role_of f = record {
   attempt = f.attempt;
@@ -52,9 +53,11 @@ role_of f = record {
   floor = f.floor;
 }
 
+-- the roles of all volumes
 abbrev pub Roles : Type 0
 Roles = ℕ → Role
 
+-- in a control state
 abbrev pub roles : Control → Roles
 roles k v = role_of (fields_at k v)
 
@@ -71,6 +74,7 @@ pub record Seen : Type 0 where
   pub member : Bool
   pub floor : ℕ
 
+-- by the server, and the roles of its three volumes
 abbrev pub seen_of : ℕ → ℕ → Role → Role → Role → Seen
 seen_of server a x y z = record {
   server = server;
@@ -84,9 +88,11 @@ seen_of server a x y z = record {
   floor = z.floor;
 }
 
+-- a member in a table of roles
 abbrev pub seen : Roles → Member → Seen
 seen T m = seen_of m.server.0 m.a.0 (T m.a.0) (T m.b.0) (T m.c.0)
 
+-- all members of a session
 abbrev pub all_seen : Roles → List Member → List Seen
 all_seen T ms = map (seen T) ms
 
@@ -99,28 +105,35 @@ seen_in k x = all_seen (roles k) x.members
 abbrev pub counts : Seen → Bool
 counts v = v.member || v.revertible
 
+-- its target has number n, is a member's and can't go back
 abbrev pub committed : ℕ → Seen → Bool
 committed n v = v.member && (nat_eq v.sequence n && not v.revertible)
 
+-- the number that it has, or goes back to
 abbrev pub number_shown : Seen → ℕ
 number_shown v = if v.revertible then v.previous else v.sequence
 
 -- ---- lists of members
 
+-- each of a list
 abbrev pub All : {X : Type 0} → (X → Type 0) → List X → Type 0
 All {X} P xs = (x : X) → In x xs → P x
 
+-- one of a list
 pub record Any {X : Type 0} (P : X → Type 0) (xs : List X) : Type 0 where
   pub one : X
   pub here : In one xs
   pub is : P one
 
+-- none of them can go back
 abbrev pub NoneRevertible : List Seen → Type 0
 NoneRevertible = All (λ v. v.revertible ≡ false)
 
+-- none of them is committed with n
 abbrev pub NoneCommitted : ℕ → List Seen → Type 0
 NoneCommitted n = All (λ v. committed n v ≡ false)
 
+-- one of them is committed with n
 abbrev pub SomeCommitted : ℕ → List Seen → Type 0
 SomeCommitted n = Any (λ v. committed n v ≡ true)
 
@@ -137,6 +150,7 @@ pub record Bars (n : ℕ) (revertible paired : Bool) (seal floor : ℕ) : Type 0
   pub taken : revertible ≡ true → paired ≡ false
   pub spent : revertible ≡ false → paired ≡ true → seal ≡ n → floor < n → ⊥
 
+-- no member can be flashed for number n any more
 abbrev pub Barred : ℕ → List Seen → Type 0
 Barred n = All (λ v. Bars n v.revertible v.paired v.seal v.floor)
 
@@ -181,6 +195,7 @@ pub record Before (n : ℕ) (vs : List Seen) : Type 0 where
   pub unflashed : NoneRevertible vs
   pub uncommitted : NoneCommitted n vs
 
+-- Coordinating: nothing of attempt n was sealed or flashed yet
 pub record InCoordinating (n : ℕ) (vs : List Seen) : Type 0 where
   pub before : Before n vs
   pub unsealed : All (λ v. v.seal ≢ n) vs
@@ -196,6 +211,7 @@ pub record InCommitting (n : ℕ) (owed : List ℕ) (vs : List Seen) : Type 0 wh
   pub way : AllAt n vs ⊎ Blocked vs
   pub done : Answered owed (λ v. v.revertible ≡ false) vs
 
+-- Reverting: none is committed with n, or none can go back any more; and of servers that have answered none can
 pub record InReverting (n : ℕ) (owed : List ℕ) (vs : List Seen) : Type 0 where
   pub way : NoneCommitted n vs ⊎ NoneRevertible vs
   pub done : Answered owed (λ v. v.revertible ≡ false) vs
@@ -211,6 +227,7 @@ pub record AgreesOnLast (n : ℕ) (reports : List Shown) (vs : List Seen) : Type
   pub all : AllAt n vs
   pub settled : SomeCommitted n vs ⊎ NoneRevertible vs
 
+-- all show one number that isn't n, and so do the reports of targets that can't go back
 pub record AgreesOnOther (n : ℕ) (reports : List Shown) (vs : List Seen) : Type 0 where
   pub shown : OneShown n vs
   pub told : (k : ℕ) → IsReported k false reports → k ≡ shown.number
@@ -246,6 +263,7 @@ pub record Waits (owed : List ℕ) (vs : List Seen) : Type 0 where
   pub some : owed ≢ []
   pub members : (s : ℕ) → In s owed → Any (λ v. v.server ≡ s) vs
 
+-- in each phase but Idle, and of a session with a master
 abbrev pub Owes : PhaseName → List ℕ → List Seen → Type 0
 Owes phase.None owed vs = Unit {0}
 Owes phase.Idle owed vs = Unit {0}
@@ -256,10 +274,12 @@ abbrev pub phase_of : Option Mirror → PhaseName
 phase_of None = phase.Idle
 phase_of (Some r) = r.master.phase
 
+-- the servers that are owed its order, none without a master
 abbrev pub owed_of : Option Mirror → List ℕ
 owed_of None = []
 owed_of (Some r) = r.master.owed
 
+-- what was reported to it, nothing without a master
 abbrev pub reports_of : Option Mirror → List Shown
 reports_of None = []
 reports_of (Some r) = r.master.reports
@@ -270,6 +290,7 @@ pub record Attempt (p : PhaseName) (n : ℕ) (owed : List ℕ) (reports : List S
   pub phase : InPhase p n owed reports vs
   pub owes : Owes p owed vs
 
+-- the laws of session x
 abbrev pub AttemptOf : Roles → Session → Type 0
 AttemptOf T x = Attempt (phase_of x.mirror) x.last (owed_of x.mirror) (reports_of x.mirror) (all_seen T x.members)
 
@@ -298,6 +319,7 @@ pub record Claim (ss : List Session) (v : ℕ) (r : Role) : Type 0 where
 
 -- ---- the laws
 
+-- all sessions, all volumes, and that members' primaries lie in their session's subsystems
 pub record AttemptsIn (ss : List Session) (T : Roles) : Type 0 where
   pub sessions : (x : Session) → In x ss → AttemptOf T x
   pub volumes : (v : ℕ) → Claim ss v (T v)
@@ -327,6 +349,7 @@ UpToLast k v n = (x : Session) (m : Member) → In x k.sessions → In m x.membe
 abbrev pub Persists : Fields → Type 0
 Persists f = f.recorded ≡ true → f.persistent ≡ true
 
+-- a target with these fields counts in no session
 abbrev pub DoesNotCount : Fields → Type 0
 DoesNotCount f = (f.member || f.revertible) ≡ false
 
@@ -350,11 +373,13 @@ pub record GoesAs (k : Control) (v : ℕ) (a : Option ℕ) (s : ℕ) : Type 0 wh
 abbrev pub MayFollow : Control → ℕ → Type 0
 MayFollow k v = (x : Session) (m : Member) → In x k.sessions → In m x.members → m.b.0 ≡ v → (fields_at k m.c.0).revertible ≡ false
 
+-- a member is let go while its master is Releasing
 pub record MayFree (k : Control) (v : ℕ) : Type 0 where
   pub session : ℕ
   pub place : MemberOf k session v
   pub phase : phase_of place.session.mirror ≡ phase.Releasing
 
+-- a secondary is sealed for the last number while its master is Draining
 pub record SealsMember (k : Control) (v u s n : ℕ) : Type 0 where
   pub place : MemberOf k s u
   pub secondary : place.member.b.0 ≡ v
@@ -398,6 +423,7 @@ pub record Raises (f : Fields) (n last : ℕ) : Type 0 where
   pub higher : f.floor ≤ n
   pub low : n ≤ last
 
+-- what raising a floor asks, of whichever member has the target
 abbrev pub MayRaiseFloor : Control → ℕ → ℕ → Type 0
 MayRaiseFloor k v n = (x : Session) (m : Member) → In x k.sessions → In m x.members → m.c.0 ≡ v → Raises (fields_at k v) n x.last
 
@@ -434,6 +460,7 @@ IsDone phase.Reverting v = v.revertible ≡ false
 IsDone phase.Lost v = ⊥
 IsDone p v = Unit {0}
 
+-- a server has done the phase's order with each of its members
 abbrev pub ServerDone : Control → Session → ℕ → Type 0
 ServerDone k x server = (m : Member) → In m x.members → m.server.0 ≡ server → IsDone (phase_of x.mirror) (seen (roles k) m)
 
@@ -452,5 +479,6 @@ pub record Over (p : PhaseName) (n : ℕ) (vs : List Seen) : Type 0 where
   pub positive : 0 < n
   pub barred : Barred n vs
 
+-- of session x
 abbrev pub OverIn : Roles → Session → Type 0
 OverIn T x = Over (phase_of x.mirror) x.last (all_seen T x.members)

@@ -27,6 +27,7 @@ abbrev pub answered : Plan → Control → Option Refusal → Said
 answered p k None = p.says k
 answered p k (Some r) = Refused r
 
+-- an answer is told to the journal
 abbrev pub said : World → ℕ → Said → World
 said w line a = record w { events = w.events ++ answer line a ∷ [] }
 

@@ -1,9 +1,9 @@
 -- Moves carried out on servers that may stop within any device write. No plan says what a stop leaves: this does.
 use Rattle.std.specs.Prelude.{ℕ, ◌-◌, Bool, true, false, not, List, [], ◌∷◌, ◌++◌, filter, Option, Some, None, nat_eq, nat_lt, nat_le, if◌then◌else◌}
+use Rattle.dr_logic.specs.Tables.{at}
 use Rattle.dr_ids.specs.Paths.{without_path}
 use Rattle.dr_ids.specs.declared.refusal.Refusal.{Refusal}
 use Rattle.dr_ids.specs.declared.refusal.Refusal.TheVariants.{Stopped as StoppedIn}
-use Rattle.dr_model.specs.Tables.{at}
 use Rattle.dr_model.specs.Refusals.{stopped}
 use Rattle.dr_model.specs.Histories.{histories}
 use Rattle.dr_model.specs.Layout.{Fields, byte, bit}
@@ -17,13 +17,16 @@ abbrev pub writes : Carried → ℕ
 writes None = 7
 writes (Some c) = 8
 
+-- a fuse after n more writes
 abbrev pub lowered : ℕ → Fuse → Fuse
 lowered n f = record f { after = f.after - n }
 
+-- the fuse of a server after n more of its writes, if one is armed
 abbrev pub lower : ℕ → Option Fuse → Option Fuse
 lower n None = None
 lower n (Some f) = Some (lowered n f)
 
+-- two truth values are the same
 abbrev pub equal : Bool → Bool → Bool
 equal true b = b
 equal false b = not b
@@ -53,9 +56,11 @@ abbrev pub burnt : Option Fuse → Option Fuse
 burnt None = None
 burnt (Some f) = Some (record f { after = 0 })
 
+-- server s stopped within a write: it is off, and its fuse stands at 0
 abbrev pub off : World → ℕ → World
 off w s = record w { control = record w.control { on = at w.control.on s false; fuse = at w.control.fuse s (burnt (w.control.fuse s)) } }
 
+-- n writes of server s were done
 abbrev pub spent : World → ℕ → ℕ → World
 spent w s n = record w { control = record w.control { fuse = at w.control.fuse s (lower n (w.control.fuse s)) } }
 
@@ -65,10 +70,12 @@ pub record Ended : Type 0 where
   pub stopped : Bool
   pub done : Bool
 
+-- how an update ended, by its parts
 abbrev pub ended : World → Bool → Bool → Ended
 ended w stopped done = record { world = w; stopped = stopped; done = done }
 
--- a volume is given these fields and this track, until a write is cut short
+-- A volume is given these fields and this track: nothing is done on a server that is off, all of it where the writes pass; else
+-- the server stops, and it is done or not as the write that is cut short says.
 unfoldable pub update : World → ℕ → Fields → Carried → Ended
 update w v f c =
     let s : ℕ = (w.control.volume v).server in
@@ -91,6 +98,7 @@ cut_short w m u false = record w { events = w.events ++ Stopped u.server 0 ∷ [
 abbrev pub Turn : Type 0
 Turn = World × Option ℕ
 
+-- a move by how its update ended: nothing on a server that is off, else cut short or done, with what follows in tables and journal
 abbrev pub turn_ended : World → Move → Ended → Turn
 turn_ended w m e =
     let u : Volume = w.control.volume (target m) in
@@ -108,6 +116,8 @@ abbrev pub redo_writes : Option ℕ → ℕ
 redo_writes None = 0
 redo_writes (Some t) = 1
 
+-- the staged track of volume v is written to its own place; on a server that is off nothing is done, and nothing that is read
+-- changes
 unfoldable pub redo : World → ℕ → Ended
 redo w v =
     let s : ℕ = (w.control.volume v).server in
@@ -125,7 +135,7 @@ redo_ended w v e =
     else if e.stopped then (record e.world { events = w.events ++ Stopped s 0 ∷ [] }, Some s)
     else (e.world, None)
 
--- a write that landed in a stop is acknowledged
+-- a write that landed in a stop is acknowledged: it is pending no more, and the journal is told
 abbrev pub acknowledged : World → ℕ → World
 acknowledged w n = record w {
   control = record w.control { pending = filter (is_other n) w.control.pending };
@@ -156,6 +166,7 @@ recovered w s n = record w { events = w.events ++ Recovered s n ∷ [] }
 abbrev pub attempt_begun : World → ℕ → World
 attempt_begun w s = record w { control = record w.control { sessions = changed s begun w.control.sessions } }
 
+-- a hold that begins an attempt: it has begun where the volume's slot says that the hold counts as done, also in a stop
 abbrev pub opened_by : World → ℕ → ℕ → Turn → Turn
 opened_by w v s t = (if equal (w.control.volume v).slot (t.0.control.volume v).slot then t.0 else attempt_begun t.0 s, t.1)
 
@@ -172,6 +183,7 @@ pub data Act : Type 0 where
   EndThaw : (l m : ℕ) → Act
   EndRecovery : (s n : ℕ) → Act
 
+-- one act carried out: the world, and the server that stopped, if one did
 unfoldable pub act : World → Act → Turn
 act w (Make m) = turn w m
 act w (OpenAttempt v s n) = opened_by w v s (turn w (Hold v s n true))
@@ -192,7 +204,7 @@ pub data Next : Type 0 where
 abbrev pub Entry : Type 0
 Entry = Control → Next
 
--- how a plan, or a part of it, ends: the world, and the refusal, if one
+-- how a plan, or a part of it, ends: the world, and the refusal, if one; that a server stopped is a refusal too
 abbrev pub Outcome : Type 0
 Outcome = World × Option Refusal
 
@@ -201,6 +213,7 @@ abbrev pub continue : World → Option ℕ → (World → Outcome) → Outcome
 continue w None next = next w
 continue w (Some s) next = (w, Some (stopped s))
 
+-- what an entry came to: the next one comes, the plan ends with a refusal, or an act is carried out
 abbrev pub go : World → Next → (World → Outcome) → Outcome
 go w Pass next = next w
 go w (End r) next = (w, Some r)

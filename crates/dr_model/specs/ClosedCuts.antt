@@ -1,10 +1,9 @@
 -- The group that an attempt of a session has flashed, and when the cuts of its members are closed: by places of the journal.
 use Rattle.std.specs.Prelude.{◌≡◌, ℕ, List, ◌∷◌, ◌++◌}
 use Rattle.dr_model.specs.declared.event.Event.{Event}
-use Rattle.dr_model.specs.declared.event.Event.TheVariants.{Ack, Begin, Flashed, Reverted, Left}
+use Rattle.dr_model.specs.declared.event.Event.TheVariants.{Begin, Flashed, Reverted, Left}
 use Rattle.dr_model.specs.Groups.{In}
 use Rattle.dr_model.specs.Histories.{lists}
-use Rattle.dr_model.specs.Dependence.{DependsOn}
 use Rattle.dr_model.specs.Cuts.{CutAt}
 
 -- Primary a stands in the group of attempt n of session s: the target of its member was flashed, and since then that wasn't taken
@@ -24,22 +23,14 @@ pub record LastCut (events : List Event) (s n : ℕ) : Type 0 where
   pub place : CutAt events s n volume
   pub last : (v : ℕ) → CutAt place.behind s n v → ⊥
 
--- write u was acknowledged before the last begin of attempt n of session s
-pub record AckedBefore (events : List Event) (s n u : ℕ) : Type 0 where
-  pub before : List Event
-  pub between : List Event
-  pub behind : List Event
-  pub is : events ≡ before ++ Ack u ∷ (between ++ Begin s n ∷ behind)
-  pub last : In (Begin s n) behind → ⊥
+-- each cut stands behind the begin of its attempt
+abbrev pub AllBegun : List Event → Type 0
+AllBegun events = (s n a : ℕ) → (c : CutAt events s n a) → In (Begin s n) c.before
 
--- The cuts of attempt n of session s are closed. Each member of the group was cut. Of the writes that volumes of the group held at the
--- last of the cuts, a cut holds with a write all that it depends on, and all that were acknowledged before the attempt began. And all cuts
--- are of one moment: each is what its volume held at the last of them, on every track; from this the other two follow.
+-- The cuts of attempt n of session s are closed. Each member of the group was cut, behind the begin of the attempt; and all cuts are of
+-- one moment: each is what its volume held at the last of them, on every track.
 pub record ClosedCuts (events : List Event) (s n : ℕ) : Type 0 where
   pub cut : (a : ℕ) → InGroup events s n a → CutAt events s n a
+  pub begins : (a : ℕ) → InGroup events s n a → (c : CutAt events s n a) → In (Begin s n) c.before
   pub last : (a : ℕ) → InGroup events s n a → LastCut events s n
-  pub depends : (a z : ℕ) → InGroup events s n a → InGroup events s n z → (c : CutAt events s n a) (d : CutAt events s n z) (p : LastCut events s n)
-      → (w u t q : ℕ) → In w (lists c.before a t) → In u (lists p.place.before z q) → DependsOn events w u → In u (lists d.before z q)
-  pub earlier : (z : ℕ) → InGroup events s n z → (d : CutAt events s n z) (p : LastCut events s n)
-      → (u q : ℕ) → In u (lists p.place.before z q) → AckedBefore d.before s n u → In u (lists d.before z q)
   pub moment : (a : ℕ) → InGroup events s n a → (c : CutAt events s n a) (p : LastCut events s n) → (t : ℕ) → lists c.before a t ≡ lists p.place.before a t

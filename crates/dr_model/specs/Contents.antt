@@ -2,12 +2,9 @@
 use Rattle.std.specs.Prelude.{ℕ, ◌+◌, ◌-◌, List, map, length, replicate, ◌&&◌, nat_le, nat_lt, if◌then◌else◌}
 use Rattle.std.specs.List.{fold, flat_map, range_with_len, slice_index_or}
 use Rattle.std.specs.Option.{unwrap_or}
+use Rattle.dr_logic.specs.Bytes.{zeros}
 use Rattle.dr_model.specs.declared.event.Event.{Event}
 use Rattle.dr_model.specs.Histories.{Write, histories}
-
--- a track of zeros
-unfoldable pub zeros : List ℕ
-zeros = replicate 64 0
 
 -- byte k of a track after bytes were written from an offset on
 abbrev pub byte_laid : ℕ → List ℕ → List ℕ → ℕ → ℕ

@@ -1,9 +1,9 @@
 -- The control state: everything that a run knows but the bytes of the tracks.
 use Rattle.std.specs.Prelude.{ℕ, Bool, true, false, List, [], Option, None, nat_eq}
 use Rattle.std.specs.List.{list_any}
+use Rattle.dr_logic.specs.Bytes.{zeros}
 use Rattle.dr_ids.specs.Paths.{Path}
 use Rattle.dr_model.specs.declared.event.Event.{Event}
-use Rattle.dr_model.specs.Contents.{zeros}
 use Rattle.dr_model.specs.Layout.{Fields, no_fields}
 use Rattle.dr_model.specs.Sessions.{Session}
 
@@ -46,6 +46,7 @@ pub record Control : Type 0 where
   pub pending : List Pending
   pub sessions : List Session
 
+-- nothing is defined, every server is on, no fuse is armed and every link is up
 abbrev pub no_control : Control
 no_control = record {
   servers = [];

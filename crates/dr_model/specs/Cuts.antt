@@ -2,7 +2,7 @@
 use Rattle.std.specs.Prelude.{◌≡◌, ◌≢◌, ◌<◌, ◌≤◌, ℕ, Bool, true, false, List, [], ◌∷◌, ◌++◌, Option, Some, None, is_some}
 use Rattle.std.specs.List.{fold}
 use Rattle.std.specs.FinSet.{contains}
-use Rattle.dr_model.specs.Tables.{at2}
+use Rattle.dr_logic.specs.Tables.{at2}
 use Rattle.dr_model.specs.declared.event.Event.{Event}
 use Rattle.dr_model.specs.declared.event.Event.TheVariants.{Cut}
 use Rattle.dr_model.specs.Histories.{Lists, Write, Histories, no_history, after_event, histories, lists}
@@ -18,6 +18,7 @@ pub record Cuts : Type 0 where
   pub by : ℕ → ℕ → Option ℕ
   pub held : ℕ → ℕ → ℕ → List ℕ
 
+-- before the first event nothing is cut
 abbrev pub no_cuts : Cuts
 no_cuts = record { by = λ n a. None; held = λ n a t. [] }
 
@@ -30,16 +31,20 @@ pub record Past : Type 0 where
   pub history : Histories
   pub cuts : Cuts
 
+-- what an event makes of the cuts, by the lists before it
 abbrev pub cuts_after : Past → Event → Cuts
 cuts_after p (Cut s n a) = cut_for s n a p.history.now p.cuts
 cuts_after p e = p.cuts
 
+-- after one event more
 abbrev pub past_event : Past → Event → Past
 past_event p e = record { history = after_event p.history e; cuts = cuts_after p e }
 
+-- after a journal
 unfoldable pub past : List Event → Past
 past events = fold past_event (record { history = no_history; cuts = no_cuts }) events
 
+-- the cuts that a journal gives
 abbrev pub cuts : List Event → Cuts
 cuts events = (past events).cuts
 
@@ -56,6 +61,7 @@ pub record CutsFit (by : ℕ → Option ℕ) (recording : Bool) (attempt : ℕ) 
   pub positive : (n : ℕ) → is_some (by n) ≡ true → 0 < n
   pub low : (n : ℕ) → is_some (by n) ≡ true → n ≤ attempt
 
+-- of a volume, by its record
 abbrev pub RowCuts : Cuts → ℕ → Row → Type 0
 RowCuts c v r = CutsFit (λ n. c.by n v) r.volume.fields.recording r.volume.fields.attempt
 
@@ -80,9 +86,11 @@ pub record HoldsCut (write : ℕ → Write) (c : Cuts) (v : ℕ) (r : Row) (u : 
   pub cut : is_some (c.by r.volume.fields.seal u) ≡ true
   pub tracks : (t : ℕ) → t < r.volume.tracks → r.due t ≡ at_cut write c r.volume.fields.seal u t
 
+-- so does each secondary that is sealed
 abbrev pub SealedAsAtCut : (ℕ → Write) → Cuts → ℕ → Row → ℕ → Row → Type 0
 SealedAsAtCut write c v r u s = r.volume.fields.seal ≢ 0 → HoldsCut write c v r u
 
+-- all laws of cuts
 pub record CutLaws (write : ℕ → Write) (c : Cuts) (T : Table) : Type 0 where
   pub cut : Each (RowCuts c) T
   pub unsent : Each (UnsentAsAtCut write c) T
@@ -110,5 +118,6 @@ pub record SealedCut (w : World) (v u : ℕ) : Type 0 where
   pub only : (s : ℕ) (other : CutAt w.events s (fields (table w) v).seal u) → other.before ≡ place.before
   pub tracks : (t : ℕ) → t < (table w v).volume.tracks → w.contents v t ≡ image (histories w.events).write (lists place.before u t)
 
+-- so does each secondary that is sealed
 abbrev pub SealsHold : World → Type 0
 SealsHold w = (v u : ℕ) → primary_of (fields (table w) v) ≡ Some u → (fields (table w) v).seal ≢ 0 → SealedCut w v u

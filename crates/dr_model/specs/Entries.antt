@@ -15,6 +15,7 @@ use Rattle.dr_model.specs.Moves.{Land, Overwrite, Keep, Note, Fetch, Restore, Re
 use Rattle.dr_model.specs.Refusals.{server_off}
 use Rattle.dr_model.specs.Carry.{Make, Drop, Next, Pass, Do, Entry, now, check}
 
+-- the fields of volume v
 abbrev pub fields_at : Control → ℕ → Fields
 fields_at k v = (k.volume v).fields
 
@@ -22,6 +23,7 @@ fields_at k v = (k.volume v).fields
 abbrev pub is_running : ℕ → Control → Bool
 is_running v k = k.on (k.volume v).server
 
+-- the number is the one that is given, if one is
 abbrev pub is_at : Option ℕ → ℕ → Bool
 is_at None v = false
 is_at (Some u) v = nat_eq u v
@@ -38,12 +40,15 @@ subsystem v = v / 256
 abbrev pub first_of : Control → ℕ → Option ℕ
 first_of k lss = find (λ v. nat_eq (subsystem v) lss) k.volumes
 
+-- two volumes are on one server
 abbrev pub share_server : ℕ → ℕ → Control → Bool
 share_server s t k = nat_eq (k.volume s).server (k.volume t).server
 
+-- two volumes have as many tracks
 abbrev pub share_size : ℕ → ℕ → Control → Bool
 share_size s t k = nat_eq (k.volume s).tracks (k.volume t).tracks
 
+-- v is no FlashCopy target
 abbrev pub is_no_target : ℕ → Control → Bool
 is_no_target v k = not (fields_at k v).related
 
@@ -59,12 +64,15 @@ targets_of k v = filter (λ u. copies_from v (fields_at k u)) k.volumes
 abbrev pub stands_in : (Fields → Bool) → Control → ℕ → Bool
 stands_in so k v = ((fields_at k v).related && so (fields_at k v)) || list_any (λ u. so (fields_at k u)) (targets_of k v)
 
+-- the relationship is revertible
 abbrev pub is_revertible : Fields → Bool
 is_revertible f = f.revertible
 
+-- the target is being restored onto its source
 abbrev pub is_reversing : Fields → Bool
 is_reversing f = f.reversing
 
+-- any relationship
 abbrev pub is_any : Fields → Bool
 is_any f = true
 
@@ -77,6 +85,7 @@ relation_seen k v =
     else if stands_in is_any k v then Source
     else Unrelated
 
+-- the refusal that says how a volume stands in relationships
 abbrev pub relation_state : Control → ℕ → Refusal
 relation_state k v = RelationState (record { 0 = v }) (relation_seen k v)
 
@@ -103,6 +112,7 @@ copy_first volumes v t = map (keep_on v t) volumes
 abbrev pub drop_unless : ℕ → (Control → Bool) → Entry
 drop_unless n ok k = if ok k then Pass else Do (Drop n)
 
+-- a check behind which host write n is dropped where it doesn't pass
 abbrev pub check_or_drop : ℕ → (Control → Bool) → Refusal → List Entry
 check_or_drop n ok r = drop_unless n ok ∷ check ok r ∷ []
 
@@ -149,6 +159,7 @@ on_found (Some t) d k = d t k
 abbrev pub lowest_missing : ℕ → Control → Option ℕ
 lowest_missing v k = if (fields_at k v).related then lowest (k.volume v).tracks (rest (k.volume v).tracks (fields_at k v).own) else None
 
+-- the lowest track that target v holds
 abbrev pub lowest_held : ℕ → Control → Option ℕ
 lowest_held v k = lowest (k.volume v).tracks (fields_at k v).own
 

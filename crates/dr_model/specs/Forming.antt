@@ -34,9 +34,11 @@ pub record Way : Type 0 where
   pub world : World
   pub refusal : Option Refusal
 
+-- nothing was done yet, and nothing refused
 abbrev pub stays : World → Way
 stays w = record { parts = []; world = w; refusal = None }
 
+-- a refusal before any plan
 abbrev pub ends : World → Refusal → Way
 ends w r = record { parts = []; world = w; refusal = Some r }
 
@@ -45,9 +47,11 @@ abbrev pub goes_on : List Part → World → Option Refusal → (World → Way) 
 goes_on parts w None more = record (more w) { parts = parts ++ (more w).parts }
 goes_on parts w (Some r) more = record { parts = parts; world = w; refusal = Some r }
 
+-- one way, and then the way that comes from its world
 abbrev pub and_then : Way → (World → Way) → Way
 and_then x more = goes_on x.parts x.world x.refusal more
 
+-- a way that is refused where there is a refusal
 abbrev pub unless_refused : Option Refusal → World → Way → Way
 unless_refused None w x = x
 unless_refused (Some r) w x = ends w r
@@ -61,6 +65,7 @@ refusal_said a = None
 abbrev pub after_part : World → Plan → World
 after_part w p = masters_lost w (carried_out w p).0
 
+-- the refusal that such a plan ends with, if one
 abbrev pub part_refusal : World → Plan → Option Refusal
 part_refusal w p = refusal_said (answered p (carried_out w p).0.control (carried_out w p).1)
 
@@ -75,6 +80,7 @@ unfoldable pub drains : World → List Member → Way
 drains w [] = stays w
 drains w (m ∷ ms) = if is_copying m.a.0 w.control then and_then (part w (drain_plan w.control m.a.0 None)) (λ v. drains v ms) else drains w ms
 
+-- the phase is Draining
 abbrev pub is_draining : PhaseName → Bool
 is_draining phase.Draining = true
 is_draining p = false
@@ -94,16 +100,20 @@ abbrev pub phase_of : Option Mirror → PhaseName
 phase_of None = phase.None
 phase_of (Some r) = r.master.phase
 
+-- the master of session s, if it has one
 abbrev pub master_in : Control → ℕ → Option Mirror
 master_in k s = mirror_in (session_in k.sessions s)
 
+-- the phase that it is in
 abbrev pub phase_in : Control → ℕ → PhaseName
 phase_in k s = phase_of (master_in k s)
 
+-- the phase is Committing
 abbrev pub is_committing : PhaseName → Bool
 is_committing phase.Committing = true
 is_committing p = false
 
+-- the phase is Finishing
 abbrev pub is_finishing : PhaseName → Bool
 is_finishing phase.Finishing = true
 is_finishing p = false
@@ -113,6 +123,7 @@ is_finishing p = false
 abbrev pub has_committed : Bool → PhaseName → PhaseName → Bool
 has_committed committed before after = is_finishing after && (committed || is_committing before)
 
+-- one attempt less where one that was committed in this line is over
 abbrev pub still_left : Bool → PhaseName → ℕ → ℕ
 still_left committed after left = if committed && is_idle after then left - 1 else left
 
@@ -121,6 +132,7 @@ abbrev pub turn_by : World → ℕ → PhaseName → List Member → Option ℕ 
 turn_by w s p ms None more = ends w (OutOfOrder p)
 turn_by w s p ms (Some server) more = and_then (ask w s p ms server) more
 
+-- one turn over session s as it is now
 abbrev pub turn_in : World → ℕ → (World → Way) → Way
 turn_in w s more = turn_by w s (phase_in w.control s) (members_in (session_in w.control.sessions s)) (next_asked (master_in w.control s)) more
 
@@ -139,6 +151,7 @@ most_turns n = (n + 1) * 64
 abbrev pub form_refusal : ℕ → Option Mirror → Option Refusal
 form_refusal n m = if nat_eq n 0 || nat_lt most_groups n then Some (over Groups) else if is_some m then None else no_master
 
+-- n attempts of a session that was looked up
 abbrev pub form_in : World → ℕ → ℕ → Option Session → Way
 form_in w s n None = ends w (unknown OfSession)
 form_in w s n (Some x) = unless_refused (form_refusal n x.mirror) w (turns (most_turns n) w s n false)
@@ -152,5 +165,6 @@ abbrev pub form_answer : ℕ → List Session → Option Refusal → Said
 form_answer s ss None = session_phase (session_in ss s)
 form_answer s ss (Some r) = Refused r
 
+-- what session s says as the line ends
 abbrev pub form_said : ℕ → Control → Option Refusal → Said
 form_said s k r = form_answer s k.sessions r

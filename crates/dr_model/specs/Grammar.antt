@@ -107,7 +107,7 @@ abbrev pub awaited_read : Reading → List ℕ → Option Setting → Option Rea
 awaited_read r word None = named_read r word (setting_at r.place word)
 awaited_read r word (Some setting) = value_read r setting word
 
--- what is read after one word more; none where the word can't stand there
+-- what is read after one word more: an option's value, an option, or an operand; none where the word can't stand there
 unfoldable pub read_on : Reading → List ℕ → Option Reading
 read_on r word = awaited_read r word r.place.awaited
 

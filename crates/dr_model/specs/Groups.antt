@@ -3,7 +3,7 @@ use Rattle.std.specs.Prelude.{◌≡◌, ◌≢◌, ◌⊎◌, ◌<◌, ◌≤�
 use Rattle.dr_ids.specs.declared.names.Member.{Member}
 use Rattle.dr_ids.specs.declared.refusal.PhaseName.TheVariants as phase
 use Rattle.dr_model.specs.Phases as phases
-use Rattle.dr_model.specs.Sessions.{Session, Mirror, IsSound}
+use Rattle.dr_model.specs.Sessions.{Session, Mirror, IsSoundSession}
 use Rattle.dr_model.specs.Control.{Control, is_volume}
 use Rattle.dr_model.specs.Entries.{fields_at}
 use Rattle.dr_model.specs.Tables.{Once}
@@ -49,7 +49,7 @@ pub record OwesServers (m : phases.Master) : Type 0 where
 -- a session is sound, no primary is that of two of its members, they and its master stand, and its master owes orders only to
 -- servers of theirs
 pub record SessionFits (k : Control) (x : Session) : Type 0 where
-  pub sound : IsSound x
+  pub sound : IsSoundSession x
   pub once : Once (map (λ (m : Member). m.a.0) x.members)
   pub stands : (m : Member) → In m x.members → MemberStands k m
   pub runs : (r : Mirror) → x.mirror ≡ Some r → MasterStands k r
@@ -61,11 +61,13 @@ pub record SessionFits (k : Control) (x : Session) : Type 0 where
 abbrev pub IsAt : ℕ → Member → Type 0
 IsAt v m = (v ≡ m.a.0) ⊎ ((v ≡ m.b.0) ⊎ (v ≡ m.c.0))
 
+-- a member has three volumes
 pub record PlacesDiffer (m : Member) : Type 0 where
   pub a_b : m.a.0 ≢ m.b.0
   pub a_c : m.a.0 ≢ m.c.0
   pub b_c : m.b.0 ≢ m.c.0
 
+-- a volume has one place in one member of one session
 pub record Lone (ss : List Session) : Type 0 where
   pub differ : (x : Session) (m : Member) → In x ss → In m x.members → PlacesDiffer m
   pub one : (v : ℕ) (x y : Session) (m q : Member) → In x ss → In y ss → In m x.members → In q y.members → IsAt v m → IsAt v q → (x.number ≡ y.number) × (m ≡ q)

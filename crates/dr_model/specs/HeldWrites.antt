@@ -1,18 +1,40 @@
 -- Which writes a volume's lists have, by places of the journal.
-use Rattle.std.specs.Prelude.{◌≡◌, ◌⊎◌, ℕ, List, ◌∷◌, ◌++◌}
+use Rattle.std.specs.Prelude.{◌≡◌, ◌⊎◌, ℕ, Bool, true, false, List, ◌∷◌, ◌++◌}
+use Rattle.std.specs.List.{list_any}
 use Rattle.dr_model.specs.declared.event.Event.{Event}
-use Rattle.dr_model.specs.declared.event.Event.TheVariants.{Volume, Ack, Mirrored, Sent, Flashed, Reverted, Set, Back, Blanked}
+use Rattle.dr_model.specs.declared.event.Event.TheVariants.{Volume, Ack, Mirrored, Stopped, Answer, Sent, Flashed, Reverted, Set, Back, Blanked}
 use Rattle.dr_model.specs.Histories.{Write, histories}
 use Rattle.dr_model.specs.Groups.{In}
 
 -- a secondary of Metro Mirror stored write u
-pub record WasMirrored (events : List Event) (u : ℕ) : Type 0 where
+pub record IsMirrored (events : List Event) (u : ℕ) : Type 0 where
   pub secondary : ℕ
   pub told : In (Mirrored u secondary) events
 
--- the host was told that write u is stored, or a secondary of Metro Mirror has stored it, whose primary may have stopped before that
+-- the answer of a step
+abbrev pub is_answer : Event → Bool
+is_answer (Answer line code a b c) = true
+is_answer e = false
+
+-- and behind that a server stopped, before the step was answered
+pub record WasMirrored (events : List Event) (u : ℕ) : Type 0 where
+  pub before : List Event
+  pub between : List Event
+  pub behind : List Event
+  pub secondary : ℕ
+  pub server : ℕ
+  pub landed : ℕ
+  pub is : events ≡ before ++ Mirrored u secondary ∷ (between ++ Stopped server landed ∷ behind)
+  pub unanswered : list_any is_answer between ≡ false
+
+-- the host was told that write u is stored; or a secondary of Metro Mirror has stored it, and a server stopped in that step
 abbrev pub IsStored : List Event → ℕ → Type 0
 IsStored events u = In (Ack u) events ⊎ WasMirrored events u
+
+-- so was write u, and it was issued for track t
+pub record IsStoredOn (events : List Event) (u t : ℕ) : Type 0 where
+  pub stored : IsStored events u
+  pub track : ((histories events).write u).track ≡ t
 
 -- the event gives track t of volume v another list: that of another volume, none, or the one that it had before a flash
 abbrev pub Replaces : (ℕ → Write) → ℕ → ℕ → Event → Type 0

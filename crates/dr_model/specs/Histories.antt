@@ -1,7 +1,7 @@
 -- Which host writes each track holds after a journal.
 use Rattle.std.specs.Prelude.{ℕ, List, [], ◌∷◌, ◌++◌, take, Option, None, Some}
 use Rattle.std.specs.List.{fold}
-use Rattle.dr_model.specs.Tables.{at, at2}
+use Rattle.dr_logic.specs.Tables.{at, at2}
 use Rattle.dr_model.specs.declared.event.Event.{Event}
 use Rattle.dr_model.specs.declared.event.Event.TheVariants.{Volume, Issue, Ack, Mirrored, Sent, Flashed, Committed, Reverted, Set, Back, Blanked}
 
@@ -24,6 +24,7 @@ pub record Histories : Type 0 where
   pub write : ℕ → Write
   pub tracks : ℕ → Option ℕ
 
+-- a number that was never issued: a write of no bytes
 abbrev pub no_write : Write
 no_write = record { volume = 0; track = 0; offset = 0; bytes = [] }
 
@@ -35,7 +36,8 @@ no_history = record { now = λ v t. []; aside = λ v t. []; write = λ w. no_wri
 abbrev pub joined : Histories → ℕ → List ℕ
 joined h w = h.now (h.write w).volume (h.write w).track ++ w ∷ []
 
--- what an event does to the lists
+-- what an event does to the lists: an acknowledged write joins the list of its track, and events of copies set, move, keep aside
+-- or clear lists; all other events change none
 abbrev pub after_event : Histories → Event → Histories
 after_event h (Volume v server tracks) = record h { now = at h.now v (λ t. []); tracks = at h.tracks v (Some tracks) }
 after_event h (Issue w v t offset len bytes) = record h { write = at h.write w (record { volume = v; track = t; offset = offset; bytes = take len bytes }) }

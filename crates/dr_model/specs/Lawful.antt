@@ -18,6 +18,7 @@ pub record SetsLow (n : ℕ) (out_of_sync change_recording own previous_own sour
   pub target_changes_low : Low n target_changes
   pub blank_low : Low n blank
 
+-- each set of fields has only tracks below n
 abbrev pub HasSets : ℕ → Fields → Type 0
 HasSets n f = SetsLow n f.out_of_sync f.change_recording f.own f.previous_own f.source_changes f.target_changes f.blank
 

@@ -1,8 +1,8 @@
 -- What holds of every world of a run, as parts with names.
 use Rattle.std.specs.Prelude.{◌≡◌, ◌≢◌, ◌⊎◌, ◌||◌, ℕ, ◌<◌, ◌≤◌, ◌+◌, Bool, true, false, List, [], ◌∷◌, length, Option, Some, None, if◌then◌else◌}
 use Rattle.std.specs.FinSet.{contains}
+use Rattle.dr_logic.specs.Bytes.{zeros}
 use Rattle.dr_model.specs.Histories.{Write, Histories, histories}
-use Rattle.dr_model.specs.Contents.{zeros}
 use Rattle.dr_model.specs.Layout.{Tracks, Fields, is_part}
 use Rattle.dr_model.specs.Lawful.{IsLawful}
 use Rattle.dr_model.specs.Limits.{most_targets}
@@ -23,9 +23,11 @@ use Rattle.dr_model.specs.Attempts.{Attempts}
 abbrev pub Each : (ℕ → Row → Type 0) → Table → Type 0
 Each P T = (v : ℕ) → P v (T v)
 
+-- a law on each volume and the one that it points to
 abbrev pub Linked : (Row → Option ℕ) → (ℕ → Row → ℕ → Row → Type 0) → Table → Type 0
 Linked link R T = (v u : ℕ) → link (T v) ≡ Some u → R v (T v) u (T u)
 
+-- the record of volume v
 abbrev pub fields : Table → ℕ → Fields
 fields T v = (T v).volume.fields
 
@@ -35,6 +37,7 @@ source r = source_of r.volume.fields
 
 -- Structure: what control records say together.
 
+-- a volume's record is lawful
 abbrev pub Lawful : Row → Type 0
 Lawful r = IsLawful r.volume.tracks r.volume.fields
 
@@ -44,6 +47,7 @@ pub record SetsFit (revertible : Bool) (own noted rewritten blank : Tracks) : Ty
   pub noted_held : revertible ≡ false → (t : ℕ) → contains noted t ≡ true → contains own t ≡ true
   pub rewritten_held : revertible ≡ false → (t : ℕ) → contains rewritten t ≡ true → contains own t ≡ true
 
+-- a volume's sets fit
 abbrev pub RowSets : Row → Type 0
 RowSets r = SetsFit r.volume.fields.revertible r.volume.fields.own r.volume.fields.source_changes r.volume.fields.target_changes r.volume.fields.blank
 
@@ -58,6 +62,7 @@ pub record Reverts (recorded reversing : Bool) (own before noted rewritten blank
   pub unchanged : (t : ℕ) → contains own t ≡ true → (contains noted t ≡ false) × (contains rewritten t ≡ false)
   pub kept : (t : ℕ) → contains before t ≡ true → contains noted t ≡ false → contains rewritten t ≡ false → contains own t ≡ true
 
+-- so they do where its target is revertible
 abbrev pub RowReverts : Row → Type 0
 RowReverts r =
     r.volume.fields.revertible ≡ true
@@ -71,6 +76,7 @@ pub record FlagsFit (persistent recorded reversing : Bool) (own noted rewritten 
   pub unchanged : reversing ≡ true → (t : ℕ) → (contains noted t ≡ false) × (contains rewritten t ≡ false)
   pub some : reversing ≡ true → is_bare own ≡ false
 
+-- a volume's flags fit
 abbrev pub RowFlags : Row → Type 0
 RowFlags r =
     FlagsFit r.volume.fields.persistent r.volume.fields.recorded r.volume.fields.reversing r.volume.fields.own r.volume.fields.source_changes r.volume.fields.target_changes
@@ -86,6 +92,7 @@ pub record FlashFits (is_defined : Bool) (from : Option ℕ) (server source_serv
   pub same_tracks : tracks ≡ source_tracks
   pub same_server : server ≡ source_server
 
+-- a target fits its source
 abbrev pub Flashed : ℕ → Row → ℕ → Row → Type 0
 Flashed v r u s = FlashFits s.defined (source s) r.volume.server s.volume.server r.volume.tracks s.volume.tracks
 
@@ -94,6 +101,7 @@ abbrev pub OneRestore : Table → Type 0
 OneRestore T =
     (v a b : ℕ) → source (T a) ≡ Some v → source (T b) ≡ Some v → (T a).volume.fields.reversing ≡ true → (T b).volume.fields.reversing ≡ true → a ≡ b
 
+-- all laws on the records of volumes and on targets with their sources
 pub record Structure (T : Table) : Type 0 where
   pub lawful : Each (λ v r. Lawful r) T
   pub sets : Each (λ v r. RowSets r) T
@@ -105,10 +113,11 @@ pub record Structure (T : Table) : Type 0 where
 
 -- Parts: what the records of pairs say together.
 
--- the secondary of a primary, and the primary of a secondary
+-- the secondary of a primary
 abbrev pub its_secondary : Row → Option ℕ
 its_secondary r = secondary_of r.volume.fields
 
+-- the primary of a secondary
 abbrev pub its_primary : Row → Option ℕ
 its_primary r = primary_of r.volume.fields
 
@@ -118,6 +127,7 @@ pub record OnePart (primary secondary related : Bool) : Type 0 where
   pub no_primary : related ≡ true → primary ≡ false
   pub no_secondary : related ≡ true → secondary ≡ false
 
+-- a volume has at most one part in a pair
 abbrev pub RowParts : Row → Type 0
 RowParts r = OnePart (is_part r.volume.fields.primary) (is_part r.volume.fields.secondary) r.volume.fields.related
 
@@ -127,6 +137,7 @@ pub record PartnerFits (is_defined : Bool) (server partner_server tracks partner
   pub same_tracks : tracks ≡ partner_tracks
   pub apart : server ≡ partner_server → ⊥
 
+-- a volume fits its partner
 abbrev pub Partnered : ℕ → Row → ℕ → Row → Type 0
 Partnered v r u s = PartnerFits s.defined r.volume.server s.volume.server r.volume.tracks s.volume.tracks
 
@@ -138,6 +149,7 @@ OneWay v r u s = its_primary s ≡ Some v → ⊥
 abbrev pub FreeSource : ℕ → Row → ℕ → Row → Type 0
 FreeSource v r u s = r.volume.fields.reversing ≡ true → is_part s.volume.fields.secondary ≡ false
 
+-- all laws on partners
 pub record Parts (T : Table) : Type 0 where
   pub one : Each (λ v r. RowParts r) T
   pub secondary : Linked its_secondary Partnered T
@@ -153,9 +165,11 @@ pub record Records (kind : Part) (state : PairState) (held recording : Bool) (ch
   pub pending : recording ≡ true → is_pending state ≡ true
   pub none : recording ≡ false → (t : ℕ) → contains changed t ≡ false
 
+-- a volume records only as a primary of an attempt
 abbrev pub RowRecords : Row → Type 0
 RowRecords r = Records r.volume.fields.primary r.volume.fields.primary_state r.volume.fields.coordination r.volume.fields.recording r.volume.fields.change_recording
 
+-- each volume does
 abbrev pub Recorders : Table → Type 0
 Recorders = Each (λ v r. RowRecords r)
 
@@ -164,11 +178,14 @@ Recorders = Each (λ v r. RowRecords r)
 abbrev pub unsent : Row → ℕ → Bool
 unsent r t = contains r.volume.fields.out_of_sync t || contains r.volume.fields.change_recording t
 
+-- Outside the tracks that its primary records a secondary contains the same; where each is a primary of the other, outside those
+-- of both.
 abbrev pub Alike : ℕ → Row → ℕ → Row → Type 0
 Alike v r u s =
     (its_primary s ≡ Some v) ⊎ (its_secondary s ≡ Some v)
     → (t : ℕ) → t < r.volume.tracks → unsent r t ≡ false → (its_secondary s ≡ Some v → unsent s t ≡ false) → r.bytes t ≡ s.bytes t
 
+-- the same of each primary and its secondary
 abbrev pub PairLaw : Table → Type 0
 PairLaw = Linked its_secondary Alike
 
@@ -178,6 +195,7 @@ PairLaw = Linked its_secondary Alike
 abbrev pub OneKind : ℕ → Row → ℕ → Row → Type 0
 OneKind v r u s = its_secondary s ≡ Some v → r.volume.fields.secondary ≡ s.volume.fields.primary
 
+-- a sealed secondary is one of Global Copy
 abbrev pub SealedGlobal : Row → Type 0
 SealedGlobal r = r.volume.fields.seal ≢ 0 → is_kind Global r.volume.fields.secondary ≡ true
 
@@ -201,6 +219,7 @@ NothingLeft T =
     (v u x : ℕ) → its_secondary (T v) ≡ Some u → its_primary (T u) ≡ Some v → source (T x) ≡ Some u
     → (fields T v).recording ≡ true → (fields T x).revertible ≡ true → (t : ℕ) → contains (fields T v).out_of_sync t ≡ false
 
+-- all laws on sealed secondaries and on sources of revertible targets
 pub record Seals (T : Table) : Type 0 where
   pub kinds : Linked its_primary OneKind T
   pub global : Each (λ v r. SealedGlobal r) T
@@ -215,6 +234,7 @@ pub record Seals (T : Table) : Type 0 where
 abbrev pub Blank : Table → Type 0
 Blank = Each (λ v r. (t : ℕ) → contains r.volume.fields.blank t ≡ true → r.bytes t ≡ zeros)
 
+-- the tracks of a volume that isn't defined are zeros
 abbrev pub Fresh : Table → Type 0
 Fresh = Each (λ v r. r.defined ≡ false → (t : ℕ) → r.bytes t ≡ zeros)
 
@@ -226,9 +246,11 @@ Plain r = source r ≡ None → (t : ℕ) → t < r.volume.tracks → r.bytes t 
 abbrev pub shown_with : Row → Row → ℕ → List ℕ
 shown_with r s t = if contains r.volume.fields.own t then r.bytes t else s.bytes t
 
+-- each track of a target shows what it is due to show
 abbrev pub Seen : Row → Row → Type 0
 Seen r s = (t : ℕ) → t < r.volume.tracks → shown_with r s t ≡ r.due t
 
+-- all laws on what tracks contain and show
 pub record Images (T : Table) : Type 0 where
   pub blank : Blank T
   pub fresh : Fresh T
@@ -241,6 +263,7 @@ ShowsAside v r u s =
     r.volume.fields.revertible ≡ true → (t : ℕ) → t < r.volume.tracks
     → (if contains r.volume.fields.previous_own t then r.bytes t else s.bytes t) ≡ r.aside t
 
+-- each revertible target does
 abbrev pub Asides : Table → Type 0
 Asides = Linked source ShowsAside
 
@@ -250,6 +273,7 @@ HoldsOld v r u s =
     r.volume.fields.recorded ≡ true → r.volume.fields.reversing ≡ false
     → (t : ℕ) → contains r.volume.fields.own t ≡ true → contains r.volume.fields.source_changes t ≡ false → contains r.volume.fields.target_changes t ≡ false → r.bytes t ≡ s.bytes t
 
+-- each such target does
 abbrev pub Recorded : Table → Type 0
 Recorded = Linked source HoldsOld
 
@@ -270,15 +294,19 @@ pub record WaitsFor (starts : Option ℕ) (issued : ℕ) (is_defined on : ℕ �
   pub track : (write p.w).track ≡ p.track
   pub calm : p.landed ≡ true → is_at starts (server p.volume) ≡ false → on (server p.volume) ≡ false
 
+-- the server of each volume
 abbrev pub servers : Control → ℕ → ℕ
 servers k v = (k.volume v).server
 
+-- the tracks of each volume
 abbrev pub sizes : Control → ℕ → ℕ
 sizes k v = (k.volume v).tracks
 
+-- in a control state
 abbrev pub Waits : Option ℕ → Control → (ℕ → Write) → Pending → Type 0
 Waits starts k = WaitsFor starts k.issued (is_volume k) k.on (servers k) (sizes k)
 
+-- all pending writes
 abbrev pub AllPending : (Pending → Type 0) → List Pending → Type 0
 AllPending P [] = Unit {0}
 AllPending P (p ∷ ps) = P p × AllPending P ps
@@ -292,6 +320,7 @@ Apart (p ∷ ps) = AllPending (λ q. q.w ≡ p.w → ⊥) ps × Apart ps
 abbrev pub Together : (ℕ → ℕ) → Pending → Pending → Type 0
 Together server p q = p.landed ≡ true → q.landed ≡ true → server p.volume ≡ server q.volume → ⊥
 
+-- no two landed writes are on one server
 abbrev pub Lone : (ℕ → ℕ) → List Pending → Type 0
 Lone server [] = Unit {0}
 Lone server (p ∷ ps) = AllPending (Together server p) ps × Lone server ps
@@ -301,6 +330,7 @@ pub record Numbered (n : ℕ) (h : Histories) : Type 0 where
   pub now : (v t : ℕ) → Below n (h.now v t)
   pub aside : (v t : ℕ) → Below n (h.aside v t)
 
+-- all laws on pending writes
 pub record Queue (starts : Option ℕ) (w : World) : Type 0 where
   pub each : AllPending (Waits starts w.control (histories w.events).write) w.control.pending
   pub apart : Apart w.control.pending
@@ -320,6 +350,7 @@ pub record SoundRows (T : Table) : Type 0 where
 
 -- Targets: no volume is defined twice, and none has more than 12 targets.
 
+-- no volume is defined twice, and none has more than 12 targets
 pub record FewTargets (k : Control) : Type 0 where
   pub once : Once k.volumes
   pub few : (v : ℕ) → length (targets_of k v) ≤ most_targets

@@ -4,8 +4,8 @@ use Rattle.std.specs.Prelude.{ℕ, ◌+◌, ◌/◌, ◌%◌, ◌^◌, Bool, tru
 use Rattle.std.specs.List.{slice_index_or, range_with_len}
 use Rattle.std.specs.Ordering.{nat_cmp}
 use Rattle.std.specs.FinSet.{FinSet, contains, empty, from_list}
+use Rattle.dr_logic.specs.Bytes.{zeros}
 use Rattle.dr_ids.specs.BigEndian.{be16_at, be32_at}
-use Rattle.dr_model.specs.Contents.{zeros}
 use Rattle.dr_model.specs.declared.state.Part.{Part}
 use Rattle.dr_model.specs.declared.state.Part.TheVariants.{Absent, Metro, Global}
 use Rattle.dr_model.specs.declared.state.PairState.{PairState}
@@ -15,7 +15,8 @@ use Rattle.dr_model.specs.declared.state.PairState.TheVariants.{CopyPending, Ful
 abbrev pub Tracks : Type 0
 Tracks = FinSet nat_cmp
 
--- the fields of a volume's control record, as sets and numbers
+-- the fields of a volume's control record, as sets and numbers: its part as a primary, its part as a secondary, its FlashCopy
+-- relationship as a target, and the tracks that are blank
 pub record Fields : Type 0 where
   pub primary : Part
   pub primary_state : PairState
@@ -53,6 +54,7 @@ pub record Fields : Type 0 where
 abbrev pub Blocks : Type 0
 Blocks = ℕ → List ℕ
 
+-- byte k of a block; behind its end 0
 abbrev pub byte : List ℕ → ℕ → ℕ
 byte block k = slice_index_or block k 0
 
@@ -60,14 +62,17 @@ byte block k = slice_index_or block k 0
 abbrev pub bit : ℕ → ℕ → Bool
 bit n k = nat_eq ((n / 2 ^ k) % 2) 1
 
+-- the part that a code says: 1 is Metro Mirror, 2 Global Copy, any other none
 abbrev pub part_of : ℕ → Part
 part_of n = if nat_eq n 1 then Metro else if nat_eq n 2 then Global else Absent
 
+-- there is a part
 abbrev pub is_part : Part → Bool
 is_part Absent = false
 is_part Metro = true
 is_part Global = true
 
+-- the state that a code says: 0 is Copy Pending, 1 Full Duplex, any other Suspended
 abbrev pub state_of : ℕ → PairState
 state_of n = if nat_eq n 0 then CopyPending else if nat_eq n 1 then FullDuplex else Suspended
 
@@ -79,9 +84,11 @@ stands_in bytes t = bit (byte bytes (t / 8)) (t % 8)
 unfoldable pub set_of : ℕ → List ℕ → Tracks
 set_of tracks bytes = from_list (filter (stands_in bytes) (range_with_len 0 tracks))
 
+-- a block has two sets: the first one in its first 32 bytes
 abbrev pub first_set : ℕ → List ℕ → Tracks
 first_set tracks block = set_of tracks (take 32 block)
 
+-- and the second one behind
 abbrev pub second_set : ℕ → List ℕ → Tracks
 second_set tracks block = set_of tracks (drop 32 block)
 
@@ -130,7 +137,7 @@ fields_of tracks slot =
       blank = first_set tracks (slot 4);
     }
 
--- the track that a slot stages, if any
+-- the track that a slot stages, where it says so and the volume has that track
 unfoldable pub staged_of : ℕ → Blocks → Option ℕ
 staged_of tracks slot =
     if nat_eq (byte (slot 0) 7) 1 && nat_lt (be16_at (slot 0) 14) tracks then Some (be16_at (slot 0) 14) else None
@@ -139,6 +146,7 @@ staged_of tracks slot =
 abbrev pub slot_chosen : Blocks → Bool
 slot_chosen blocks = bit (byte (blocks 0) 0) 0
 
+-- the first block of a slot
 abbrev pub slot_begin : Bool → ℕ
 slot_begin second = if second then 7 else 1
 
@@ -146,12 +154,15 @@ slot_begin second = if second then 7 else 1
 abbrev pub chosen : Blocks → Blocks
 chosen blocks k = blocks (slot_begin (slot_chosen blocks) + k)
 
+-- the fields that a device gives, by its chosen slot
 abbrev pub fields : ℕ → Blocks → Fields
 fields tracks blocks = fields_of tracks (chosen blocks)
 
+-- the track that its chosen slot stages, if any
 abbrev pub staged : ℕ → Blocks → Option ℕ
 staged tracks blocks = staged_of tracks (chosen blocks)
 
+-- track t is the one that is staged
 abbrev pub is_staged : Option ℕ → ℕ → Bool
 is_staged None t = false
 is_staged (Some s) t = nat_eq t s
@@ -162,7 +173,7 @@ physical tracks blocks t =
     if is_staged (staged tracks blocks) t then chosen blocks 5
     else if contains (fields tracks blocks).blank t then zeros else blocks (13 + t)
 
--- the fields of a volume that has no pair, no relationship and no blank track
+-- the fields of a volume that has no pair, no relationship and no blank track, as a device of zeros gives them
 abbrev pub no_fields : Fields
 no_fields = record {
   primary = Absent;

@@ -37,6 +37,7 @@ pub mod Cuts
 pub mod ClosedCuts
 pub mod NewestGroup
 pub mod HeldWrites
+pub mod TakenWrites
 pub mod Fits
 pub mod Limits
 pub mod LineWords

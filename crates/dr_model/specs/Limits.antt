@@ -1,14 +1,6 @@
 -- The limits.
 use Rattle.std.specs.Prelude.{ℕ}
 
--- the most bytes that a script may have
-abbrev pub most_bytes : ℕ
-most_bytes = 16777216
-
--- the most lines that a script may have, blank ones and comments included
-abbrev pub most_lines : ℕ
-most_lines = 100000
-
 -- the most events of a journal
 abbrev pub most_events : ℕ
 most_events = 1000000
@@ -17,9 +9,11 @@ most_events = 1000000
 abbrev pub step_events : ℕ
 step_events = 4096
 
+-- the most servers
 abbrev pub most_servers : ℕ
 most_servers = 8
 
+-- the most volumes
 abbrev pub most_volumes : ℕ
 most_volumes = 64
 

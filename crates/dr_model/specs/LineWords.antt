@@ -35,7 +35,7 @@ words_from column ((b ∷ bs) ∷ pieces) = record { column = column; bytes = b 
 unfoldable pub words_behind : ℕ → List ℕ → List Word
 words_behind at line = words_from (at + 1) (slice_split is_gap (drop at line))
 
--- the words of a line
+-- the words of a line, each with the column of its first byte, counted from 1; spaces and tabs stand between
 abbrev pub line_words : List ℕ → List Word
 line_words line = words_behind 0 line
 

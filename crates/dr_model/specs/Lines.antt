@@ -10,6 +10,7 @@ use Rattle.dr_model.specs.Runs.{Task}
 abbrev pub is_space : ℕ → Bool
 is_space b = nat_eq b 32
 
+-- the words of an image's line
 abbrev pub words : List ℕ → List (List ℕ)
 words line = slice_split is_space line
 
@@ -22,9 +23,11 @@ abbrev pub tasks_read : ℕ → Result (List Step) ℕ → List Task
 tasks_read number (Ok steps) = map (λ (s : Step). task number (Ok s)) steps
 tasks_read number (Err column) = task number (Err column) ∷ []
 
+-- the steps of a line of bytes
 abbrev pub tasks_of : ℕ → List ℕ → List Task
 tasks_of number line = tasks_read number (line_of line)
 
+-- the steps of lines one after another, of which the first has this number
 abbrev pub tasks_from : ℕ → List (List ℕ) → List Task
 tasks_from number [] = []
 tasks_from number (line ∷ rest) = tasks_of number line ++ tasks_from (number + 1) rest

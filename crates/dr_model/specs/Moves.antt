@@ -2,9 +2,10 @@
 -- and may carry one track to it. Each kind is a constructor, with a row in each of the tables below.
 use Rattle.std.specs.Prelude.{ℕ, Bool, true, false, not, List, [], ◌∷◌, ◌++◌, map, filter, Option, Some, None, nat_eq, if◌then◌else◌}
 use Rattle.std.specs.FinSet.{contains}
-use Rattle.dr_model.specs.Tables.{at}
+use Rattle.dr_logic.specs.Bytes.{zeros}
+use Rattle.dr_logic.specs.Tables.{at}
 use Rattle.dr_model.specs.Histories.{Write}
-use Rattle.dr_model.specs.Contents.{zeros, with_write}
+use Rattle.dr_model.specs.Contents.{with_write}
 use Rattle.dr_model.specs.Layout.{Tracks, Fields}
 use Rattle.dr_model.specs.declared.state.Part.{Part}
 use Rattle.dr_model.specs.declared.state.PairState.{PairState}
@@ -15,6 +16,7 @@ use Rattle.dr_model.specs.Relations.{Choices, rest, in_order, is_bare, closed, f
 use Rattle.dr_model.specs.declared.event.Event.{Event}
 use Rattle.dr_model.specs.declared.event.Event.TheVariants.{Ack, Set, Copied, Back, Blanked, Restored, Sent, Mirrored, Suspended, TakenOver, Begin, Cut, Sealed, Left, Flashed, Committed, Reverted}
 
+-- the kinds of moves, each with the volumes, tracks, writes and numbers that it is about
 pub data Move : Type 0 where
   -- host write w lands on track t of volume v, which is no target; of a primary the track is out of sync from then on
   Land : (w v t : ℕ) → Move
@@ -238,12 +240,15 @@ landed (Overwrite n v t) = n
 landed (LandBoth n v t) = n
 landed _ = 0
 
+-- the pending write is that of number n
 abbrev pub is_write : ℕ → Pending → Bool
 is_write n p = nat_eq p.w n
 
+-- it is another one
 abbrev pub is_other : ℕ → Pending → Bool
 is_other n p = not (is_write n p)
 
+-- the pending writes with that of number n marked as landed
 abbrev pub marked : ℕ → List Pending → List Pending
 marked n [] = []
 marked n (p ∷ ps) = (if is_write n p then record p { landed = true } else p) ∷ marked n ps
@@ -255,6 +260,7 @@ settled (Overwrite n v t) ps = filter (is_other n) ps
 settled (LandBoth n v t) ps = filter (is_other n) ps
 settled _ ps = ps
 
+-- where the server stopped in the move: the write that landed is marked, and stays pending
 abbrev pub settled_in_stop : Move → List Pending → List Pending
 settled_in_stop (Land n v t) ps = marked n ps
 settled_in_stop (Overwrite n v t) ps = marked n ps
@@ -266,13 +272,16 @@ abbrev pub staged_track : Carried → Option ℕ
 staged_track None = None
 staged_track (Some c) = Some c.0
 
+-- a volume after a move: its other slot is chosen, with the new fields and the carried track staged
 abbrev pub moved : Volume → Fields → Carried → Volume
 moved v f c = record v { slot = not v.slot; fields = f; staged = staged_track c }
 
+-- track t is the carried one
 abbrev pub is_carried : Carried → ℕ → Bool
 is_carried None t = false
 is_carried (Some c) t = nat_eq t c.0
 
+-- the bytes that it brings
 abbrev pub carried_bytes : Carried → List ℕ
 carried_bytes None = zeros
 carried_bytes (Some c) = c.1

@@ -27,6 +27,7 @@ link_down s u = LinkDown (record { 0 = s }) (record { 0 = u })
 abbrev pub are_linked : ℕ → ℕ → Control → Bool
 are_linked a b k = k.link (k.volume a).server (k.volume b).server
 
+-- a path goes from the logical subsystem of a to that of b
 abbrev pub has_path : ℕ → ℕ → Control → Bool
 has_path a b k = is_some (path_in k.paths (subsystem a) (subsystem b))
 
@@ -44,6 +45,7 @@ abbrev pub end_if : Option Refusal → Next
 end_if None = Pass
 end_if (Some r) = End r
 
+-- an entry that ends the plan where the state that it finds gives a refusal
 abbrev pub refuse_if : (Control → Option Refusal) → Entry
 refuse_if why k = end_if (why k)
 
@@ -51,12 +53,15 @@ refuse_if why k = end_if (why k)
 abbrev pub first_differing : (ℕ → ℕ → List ℕ) → ℕ → ℕ → ℕ → Option ℕ
 first_differing contents n a b = find (λ t. not (bytes_eq (contents a t) (contents b t))) (range_with_len 0 n)
 
+-- the refusal that names the first track that differs, if one does
 abbrev pub differs_at : Option ℕ → Control → Option Refusal
 differs_at difference k = option_map (λ t. NotIdentical t) difference
 
+-- two volumes are on two servers
 abbrev pub two_servers : ℕ → ℕ → Control → Bool
 two_servers a b k = not (share_server a b k)
 
+-- v has no part in a pair
 abbrev pub stands_free : ℕ → Control → Bool
 stands_free v k = is_unpaired (fields_at k v)
 
@@ -80,9 +85,11 @@ make_entries k a b kind full difference =
     ∷ now (MakeSecondary b a kind (first_state kind full))
     ∷ now (MakePrimary a b kind (first_state kind full) full) ∷ []
 
+-- a is a primary of b
 abbrev pub leads_to : ℕ → ℕ → Control → Bool
 leads_to a b k = is_primary_of b (fields_at k a)
 
+-- b is a secondary of a
 abbrev pub belongs_to : ℕ → ℕ → Control → Bool
 belongs_to a b k = is_secondary_of a (fields_at k b)
 
@@ -94,6 +101,7 @@ let_go a b k = if belongs_to a b k then Do (Make (DropSecondary b)) else Pass
 abbrev pub remove_both : Control → ℕ → ℕ → List Entry
 remove_both k a b = running_check k b ∷ check (are_linked a b) (link_down (k.volume a).server (k.volume b).server) ∷ now (DropPrimary a) ∷ let_go a b ∷ []
 
+-- a pair is ended: both parts, or that of the primary alone
 abbrev pub remove_entries : Control → ℕ → ℕ → Bool → List Entry
 remove_entries k a b source_only =
     running_check k a ∷ check (leads_to a b) (pair_state k a) ∷ (if source_only then now (DropPrimary a) ∷ [] else remove_both k a b)
@@ -102,9 +110,11 @@ remove_entries k a b source_only =
 abbrev pub may_pause : ℕ → ℕ → Control → Bool
 may_pause a b k = leads_to a b k && not (is_suspended (fields_at k a).primary_state)
 
+-- its secondary is Suspended too, where it can be reached and is its own
 abbrev pub tell_paused : ℕ → ℕ → Entry
 tell_paused a b k = if not (is_some (reach_refusal a b k)) && belongs_to a b k then Do (Make (Follow b Suspended)) else Pass
 
+-- a pair is suspended, the primary first
 abbrev pub pause_entries : Control → ℕ → ℕ → List Entry
 pause_entries k a b = running_check k a ∷ check (may_pause a b) (pair_state k a) ∷ now (Suspend a false) ∷ tell_paused a b ∷ []
 
@@ -112,12 +122,15 @@ pause_entries k a b = running_check k a ∷ check (may_pause a b) (pair_state k 
 abbrev pub may_resume : ℕ → ℕ → Part → Control → Bool
 may_resume a b kind k = leads_to a b k && (is_kind kind (fields_at k a).primary && is_suspended (fields_at k a).primary_state)
 
+-- the secondary takes the state in which the pair goes on
 abbrev pub follow_on : ℕ → ℕ → Entry
 follow_on a b k = Do (Make (Follow b (next_state (fields_at k a))))
 
+-- and then the primary
 abbrev pub resume_on : ℕ → Entry
 resume_on a k = Do (Make (Resume a (next_state (fields_at k a))))
 
+-- a Suspended pair of this kind goes on
 abbrev pub resume_entries : Control → ℕ → ℕ → Part → List Entry
 resume_entries k a b kind =
     running_check k a
@@ -139,9 +152,11 @@ suspend_where why a k = if is_some (why k) then Do (Make (Suspend a false)) else
 abbrev pub flashed_refusal : ℕ → Control → Option Refusal
 flashed_refusal b k = if stands_in is_revertible k b then Some (relation_state k b) else None
 
+-- secondary b stores track t of a
 abbrev pub store_on : ℕ → ℕ → ℕ → Entry
 store_on a b t k = Do (Make (Store b t a (is_last (fields_at k a) t)))
 
+-- primary a strikes track t off
 abbrev pub strike_on : ℕ → ℕ → Entry
 strike_on a t k = Do (Make (Strike a t (is_last (fields_at k a) t)))
 
@@ -164,6 +179,7 @@ sends volumes a b (t ∷ ts) = send_entries volumes a b t ++ sends volumes a b t
 abbrev pub suspend_running : ℕ → Entry
 suspend_running a k = if is_part (fields_at k a).primary && is_running a k then Do (Make (Suspend a false)) else Pass
 
+-- what follows where a server stopped in a send
 abbrev pub suspend_after : ℕ → ℕ → List Entry
 suspend_after a s = suspend_running a ∷ []
 
@@ -182,5 +198,6 @@ is_active k src tgt v =
     nat_eq (subsystem v) src
     && (is_part (fields_at k v).primary && (nat_eq (subsystem (fields_at k v).primary_partner) tgt && not (is_suspended (fields_at k v).primary_state)))
 
+-- the first such primary, in order of definition
 abbrev pub first_active : Control → ℕ → ℕ → Option ℕ
 first_active k src tgt = find (is_active k src tgt) k.volumes

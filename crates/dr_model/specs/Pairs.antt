@@ -14,6 +14,7 @@ use Rattle.dr_model.specs.Relations.{all_tracks, is_bare}
 abbrev pub secondary_of : Fields → Option ℕ
 secondary_of f = if is_part f.primary then Some f.primary_partner else None
 
+-- the primary of a secondary
 abbrev pub primary_of : Fields → Option ℕ
 primary_of f = if is_part f.secondary then Some f.secondary_partner else None
 
@@ -21,29 +22,36 @@ primary_of f = if is_part f.secondary then Some f.secondary_partner else None
 abbrev pub is_primary_of : ℕ → Fields → Bool
 is_primary_of b f = is_part f.primary && nat_eq f.primary_partner b
 
+-- a volume with these fields is a secondary of a
 abbrev pub is_secondary_of : ℕ → Fields → Bool
 is_secondary_of a f = is_part f.secondary && nat_eq f.secondary_partner a
 
+-- it has no part in a pair
 abbrev pub is_unpaired : Fields → Bool
 is_unpaired f = not (is_part f.primary) && not (is_part f.secondary)
 
+-- a part in Metro Mirror
 abbrev pub is_metro : Part → Bool
 is_metro Metro = true
 is_metro _ = false
 
+-- two parts of one kind
 abbrev pub is_kind : Part → Part → Bool
 is_kind Metro Metro = true
 is_kind Global Global = true
 is_kind _ _ = false
 
+-- the state is Copy Pending
 abbrev pub is_pending : PairState → Bool
 is_pending CopyPending = true
 is_pending _ = false
 
+-- the state is Suspended
 abbrev pub is_suspended : PairState → Bool
 is_suspended Suspended = true
 is_suspended _ = false
 
+-- the state is Full Duplex
 abbrev pub is_full_duplex : PairState → Bool
 is_full_duplex FullDuplex = true
 is_full_duplex _ = false
@@ -62,11 +70,13 @@ state_seen CopyPending = seen.CopyPending
 state_seen FullDuplex = seen.FullDuplex
 state_seen Suspended = seen.Suspended
 
+-- how the state of a secondary is seen
 abbrev pub target_seen : PairState → PairSeen
 target_seen CopyPending = seen.TargetCopyPending
 target_seen FullDuplex = seen.TargetFullDuplex
 target_seen Suspended = seen.TargetSuspended
 
+-- how a volume's pair is seen: as a primary, else as a secondary, else none
 abbrev pub pair_seen : Fields → PairSeen
 pair_seen f = if is_part f.primary then state_seen f.primary_state else if is_part f.secondary then target_seen f.secondary_state else seen.None
 
@@ -92,6 +102,7 @@ written f t = record f {
 abbrev pub is_engaged : Fields → Bool
 is_engaged f = f.recording || f.coordination
 
+-- it records no more and is held no more by coordination; what it recorded beside is out of sync too
 abbrev pub voided : Fields → Fields
 voided f = record f {
   coordination = false;
@@ -109,9 +120,11 @@ abbrev pub first_state : Part → Bool → PairState
 first_state Metro full = if full then CopyPending else FullDuplex
 first_state _ full = CopyPending
 
+-- a secondary of a, not sealed
 abbrev pub made_secondary : ℕ → Part → PairState → Fields → Fields
 made_secondary a kind state f = record f { secondary = kind; secondary_state = state; secondary_partner = a; seal = 0 }
 
+-- a primary of b with n tracks, all of them out of sync or none; its attempt stays as it was
 abbrev pub made_primary : ℕ → ℕ → Part → PairState → Bool → Fields → Fields
 made_primary n b kind state full f = record f {
   primary = kind;
@@ -137,6 +150,7 @@ no_primary f = record f {
   change_recording = empty;
 }
 
+-- a secondary no more
 abbrev pub no_secondary : Fields → Fields
 no_secondary f = record f { secondary = Absent; secondary_state = CopyPending; secondary_partner = 0; seal = 0 }
 
@@ -149,6 +163,7 @@ is_last f t = is_metro f.primary && is_bare (remove f.out_of_sync t)
 abbrev pub received : Bool → Fields → ℕ → Fields
 received last f t = record f { blank = remove f.blank t; seal = 0; secondary_state = if last then FullDuplex else f.secondary_state }
 
+-- the secondary has stored track t; with the last one of a Metro Mirror pair the primary is Full Duplex
 abbrev pub struck : Bool → Fields → ℕ → Fields
 struck last f t = record f { out_of_sync = remove f.out_of_sync t; primary_state = if last then FullDuplex else f.primary_state }
 
@@ -156,6 +171,7 @@ struck last f t = record f { out_of_sync = remove f.out_of_sync t; primary_state
 abbrev pub next_state : Fields → PairState
 next_state f = if is_metro f.primary && is_bare f.out_of_sync then FullDuplex else CopyPending
 
+-- a primary goes on in this state, and is long busy no more
 abbrev pub resumed : PairState → Fields → Fields
 resumed state f = record f { primary_state = state; long_busy = false }
 
@@ -163,9 +179,11 @@ resumed state f = record f { primary_state = state; long_busy = false }
 abbrev pub unsynced : Fields → ℕ → Fields
 unsynced f t = record f { out_of_sync = insert f.out_of_sync t }
 
+-- the secondary has stored what the host write makes of it
 abbrev pub mirrored : Fields → ℕ → Fields
 mirrored f t = record f { blank = remove f.blank t }
 
+-- the primary has it too: the track is in sync again
 abbrev pub synced : Fields → ℕ → Fields
 synced f t = record f { blank = remove f.blank t; out_of_sync = remove f.out_of_sync t }
 
@@ -195,6 +213,7 @@ is_torn f = is_metro f.primary && (is_full_duplex f.primary_state && not (is_bar
 abbrev pub must_restart : Fields → Bool
 must_restart f = is_engaged f || is_torn f
 
+-- a volume goes on: what it recorded is void, and a torn pair is in Copy Pending
 abbrev pub restarted : Fields → Fields
 restarted f = record (voided f) { primary_state = if is_torn f then CopyPending else f.primary_state }
 
@@ -211,12 +230,15 @@ records n f = f.recording && nat_eq f.attempt n
 abbrev pub held_for : ℕ → Fields → Fields
 held_for n f = record f { coordination = true; recording = true; attempt = n; change_recording = empty }
 
+-- it is held no more, and goes on recording
 abbrev pub freed : Fields → Fields
 freed f = record f { coordination = false }
 
+-- a secondary is sealed for attempt n
 abbrev pub sealed : ℕ → Fields → Fields
 sealed n f = record f { seal = n }
 
+-- attempt n is over: the two sets of tracks are one again
 abbrev pub past_attempt : ℕ → Fields → Fields
 past_attempt n f = record (voided f) { attempt = max f.attempt n }
 
@@ -224,6 +246,7 @@ past_attempt n f = record (voided f) { attempt = max f.attempt n }
 abbrev pub with_attempt : ℕ → Fields → Fields
 with_attempt n f = record f { attempt = n }
 
+-- nothing up to n is flashed on this target any more
 abbrev pub with_floor : ℕ → Fields → Fields
 with_floor n f = record f { floor = n }
 

@@ -186,6 +186,7 @@ abbrev pub enters_some : Option PhaseName → Master → Master
 enters_some None m = m
 enters_some (Some p) m = enters p m
 
+-- the master after an abort
 abbrev pub aborted : Master → Master
 aborted m = enters_some (aborted_phase m.phase) m
 

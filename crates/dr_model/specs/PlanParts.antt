@@ -45,9 +45,11 @@ tables_plan first told said = record { first = first; told = told; entries = [];
 abbrev pub only_says : Said → Plan
 only_says said = tables_plan same [] said
 
+-- a plan of nothing but a refusal
 abbrev pub refuses : Refusal → Plan
 refuses r = only_says (Refused r)
 
+-- the bytes of a name
 abbrev pub name_bytes : Name → List ℕ
 name_bytes n = take n.len n.bytes
 
@@ -78,6 +80,7 @@ abbrev pub is_owner : Option Name → ℕ → Control → Bool
 is_owner None v k = true
 is_owner (Some name) v k = is_at (server_named k (name_bytes name)) (k.volume v).server
 
+-- volume v is defined
 abbrev pub is_defined : ℕ → Control → Bool
 is_defined v k = is_volume k v
 

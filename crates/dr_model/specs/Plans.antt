@@ -3,6 +3,7 @@ use Rattle.std.specs.Prelude.{ℕ, ◌+◌, Bool, true, false, ◌&&◌, ◌||�
 use Rattle.std.specs.List.{find, list_any}
 use Rattle.std.specs.Option.{option_or}
 use Rattle.std.specs.FinSet.{len}
+use Rattle.dr_logic.specs.Tables.{at}
 use Rattle.dr_ids.specs.Links.{joins}
 use Rattle.dr_ids.specs.Paths.{path_in, with_path, without_path}
 use Rattle.dr_ids.specs.declared.refusal.Refusal.{Refusal}
@@ -11,7 +12,6 @@ use Rattle.dr_ids.specs.declared.refusal.Refusal.TheVariants.{InSession, NotBuil
 use Rattle.dr_ids.specs.declared.refusal.Kind.TheVariants.{Server as OfServer, Volume as OfVolume, Lss as OfLss, Path as OfPath, Write as OfWrite, Track as OfTrack}
 use Rattle.dr_ids.specs.declared.refusal.Which.TheVariants.{Servers, Volumes, Tracks, Pending as Writes, Targets, Size, Server as OneServer}
 use Rattle.dr_model.specs.Limits.{most_servers, most_volumes, most_tracks, most_pending, most_targets, most_events, step_events}
-use Rattle.dr_model.specs.Tables.{at}
 use Rattle.dr_model.specs.Refusals.{server_off, unknown, duplicate, over}
 use Rattle.dr_model.specs.Contents.{image_at}
 use Rattle.dr_model.specs.Control.{Control, Fuse, Pending, new_volume, is_volume}
@@ -21,7 +21,7 @@ use Rattle.dr_model.specs.Carry.{Entry, Next, Pass, Do, Acknowledge, now, check}
 use Rattle.dr_model.specs.Pairs.{is_unpaired}
 use Rattle.dr_model.specs.Entries.{fields_at, is_running, running_check, subsystem, first_of, share_server, share_size, is_no_target, copies_from, targets_of, stands_in, is_any, relation_state, pair_state, is_no_secondary, takes_back, times, fetch_next, give_back}
 use Rattle.dr_model.specs.Sessions.{session_in, members_in, is_member, in_session}
-use Rattle.dr_model.specs.PairEntries.{refuse_if, make_entries, remove_entries, pause_entries, resume_entries, is_copying, tracks_to_send, sends, suspend_after, link_down, first_active, first_differing}
+use Rattle.dr_model.specs.PairEntries.{refuse_if, make_entries, remove_entries, pause_entries, resume_entries, is_copying, tracks_to_send, sends, suspend_after, link_down, first_active, first_differing, stands_free}
 use Rattle.dr_model.specs.WriteEntries.{landing, says_written, after_write, belongs, start_entries, lift_on, freeze_entries, thaw_entries}
 pub use Rattle.dr_model.specs.PlanParts.{Plan, same, none_follow, always, tables_plan, only_says, refuses, name_bytes, server_named, on_named, on_server, unless, entries_plan, is_owner, is_defined, is_named, owner_of, on_owner, on_session}
 pub use Rattle.dr_model.specs.RecoveryPlans.{decided_in, secondary_refusal, leaves_all, forbidden_unless}
@@ -51,6 +51,7 @@ abbrev pub server_refusal : Control → List ℕ → Option Refusal
 server_refusal k name =
     if is_some (server_named k name) then Some (duplicate OfServer) else if nat_le most_servers (length k.servers) then Some (over Servers) else None
 
+-- `@server`
 abbrev pub server_plan : Control → Name → Plan
 server_plan k name = unless (server_refusal k (name_bytes name)) (server_done k name)
 
@@ -73,6 +74,7 @@ volume_refusal k v server tracks =
     else if nat_le most_volumes (length k.volumes) then Some (over Volumes)
     else None
 
+-- `@volume`
 abbrev pub volume_plan : Control → ℕ → Name → ℕ → Plan
 volume_plan k v name tracks = on_server k name (λ s. unless (volume_refusal k v s tracks) (volume_done v s tracks))
 
@@ -80,9 +82,11 @@ volume_plan k v name tracks = on_server k name (λ s. unless (volume_refusal k v
 abbrev pub link_done : ℕ → ℕ → Bool → Plan
 link_done a b up = tables_plan (λ k. record k { link = λ x y. if joins x y a b then up else k.link x y }) [] (Done Alone)
 
+-- a link has two servers
 abbrev pub link_between : ℕ → ℕ → Bool → Plan
 link_between a b up = if nat_eq a b then refuses (duplicate OfServer) else link_done a b up
 
+-- `@link`: refused where a server is unknown, the first one first, or where both are the same
 abbrev pub link_plan : Control → Name → Name → Bool → Plan
 link_plan k a b up = on_server k a (λ x. on_server k b (λ y. link_between x y up))
 
@@ -105,6 +109,7 @@ abbrev pub issue_done : Control → ℕ → ℕ → ℕ → ℕ → List ℕ →
 issue_done k v t offset len bytes =
     tables_plan (with_pending v t) (Issue (k.issued + 1) v t offset len bytes ∷ []) (Done (Wrote (k.issued + 1)))
 
+-- `@issue`
 abbrev pub issue_plan : Control → ℕ → ℕ → ℕ → ℕ → List ℕ → Plan
 issue_plan k v t offset len bytes = unless (issue_refusal k v t) (issue_done k v t offset len bytes)
 
@@ -119,6 +124,7 @@ write_done k v t offset len bytes = record {
   says = always (says_written k (k.issued + 1) v t);
 }
 
+-- `@write`
 abbrev pub write_plan : Control → ℕ → ℕ → ℕ → ℕ → List ℕ → Plan
 write_plan k v t offset len bytes = unless (issue_refusal k v t) (write_done k v t offset len bytes)
 
@@ -133,10 +139,12 @@ apply_done k p = record {
   says = always (says_written k p.w p.volume p.track);
 }
 
+-- the pending write that was looked up
 abbrev pub apply_on : Control → Option Pending → Plan
 apply_on k None = refuses (unknown OfWrite)
 apply_on k (Some p) = apply_done k p
 
+-- `@apply`
 abbrev pub apply_plan : Control → ℕ → Plan
 apply_plan k n = apply_on k (find (is_write n) k.pending)
 
@@ -148,6 +156,7 @@ show_done events line v t = tables_plan same (Shown line v t (image_at events v 
 abbrev pub show_refusal : Control → ℕ → ℕ → Option Refusal
 show_refusal k v t = option_or (track_refusal k v t) (if is_running v k then None else Some (server_off (k.volume v).server))
 
+-- `@show`
 abbrev pub show_plan : Control → List Event → ℕ → ℕ → ℕ → Plan
 show_plan k events line v t = unless (show_refusal k v t) (show_done events line v t)
 
@@ -155,6 +164,7 @@ show_plan k events line v t = unless (show_refusal k v t) (show_done events line
 abbrev pub stop_done : ℕ → Plan
 stop_done s = tables_plan (λ k. record k { on = at k.on s false }) (Stopped s 0 ∷ []) (Done Alone)
 
+-- `@stop`: of a server that is off already nothing is changed
 abbrev pub stop_on : Control → ℕ → Plan
 stop_on k s = if k.on s then stop_done s else only_says (Done Alone)
 
@@ -168,6 +178,7 @@ torn_bytes (Bytes bytes) = Some bytes
 abbrev pub armed : ℕ → TornWord → Fuse
 armed writes torn = record { after = writes; torn = torn_bytes torn }
 
+-- `@stop .. after ..`: this fuse takes the place of an earlier one, whether the server is on or off
 abbrev pub arm_on : ℕ → TornWord → ℕ → Plan
 arm_on writes torn s = tables_plan (λ k. record k { fuse = at k.fuse s (Some (armed writes torn)) }) [] (Done Alone)
 
@@ -176,6 +187,7 @@ abbrev pub fuse_at_start : Option Fuse → Option Fuse
 fuse_at_start None = None
 fuse_at_start (Some f) = if nat_eq f.after 0 then None else Some f
 
+-- the server is on, and a fuse that stood at 0 is gone
 abbrev pub starting : ℕ → Control → Control
 starting s k = record k { on = at k.on s true; fuse = at k.fuse s (fuse_at_start (k.fuse s)) }
 
@@ -183,16 +195,20 @@ starting s k = record k { on = at k.on s true; fuse = at k.fuse s (fuse_at_start
 abbrev pub has_landed : Control → ℕ → Pending → Bool
 has_landed k s p = p.landed && belongs k s p.volume
 
+-- the first pending write that landed on a volume of server s
 abbrev pub landed_on : Control → ℕ → Option ℕ
 landed_on k s = option_map (λ (p : Pending). p.w) (find (has_landed k s) k.pending)
 
+-- it is acknowledged, where there is one
 abbrev pub acknowledge_if : Option ℕ → Next
 acknowledge_if None = Pass
 acknowledge_if (Some w) = Do (Acknowledge w)
 
+-- by the pending writes when its turn comes
 abbrev pub acknowledge_on : ℕ → Entry
 acknowledge_on s k = acknowledge_if (landed_on k s)
 
+-- the answer to a start: with its number, where there is one
 abbrev pub says_acked : Option ℕ → Said
 says_acked None = Done Alone
 says_acked (Some w) = Done (Acked w)
@@ -209,6 +225,7 @@ start_plan k s = record {
   says = always (says_acked (landed_on k s));
 }
 
+-- `@start`: of a server that is on nothing is changed
 abbrev pub start_on : Control → ℕ → Plan
 start_on k s = if k.on s then only_says (Done Alone) else start_plan k s
 
@@ -216,6 +233,7 @@ start_on k s = if k.on s then only_says (Done Alone) else start_plan k s
 abbrev pub expire_plan : Control → ℕ → Plan
 expire_plan k s = entries_plan (map (lift_on s) k.volumes) (Done Alone)
 
+-- `@expire`
 abbrev pub expire_on : Control → ℕ → Plan
 expire_on k s = if k.on s then expire_plan k s else refuses (server_off s)
 
@@ -230,12 +248,15 @@ found_pair dev s t =
 abbrev pub named_pair : Control → Option Name → ℕ → ℕ → List Entry
 named_pair k dev s t = found_pair dev s t ++ running_check k s ∷ []
 
+-- two volumes are not one
 abbrev pub differ : ℕ → ℕ → Control → Bool
 differ s t k = not (nat_eq s t)
 
+-- v is the source of no relationship
 abbrev pub is_no_source : ℕ → Control → Bool
 is_no_source v k = not (stands_in is_any k v)
 
+-- source s has room for one more target
 abbrev pub has_few_targets : ℕ → Control → Bool
 has_few_targets s k = nat_lt (length (targets_of k s)) most_targets
 
@@ -243,24 +264,22 @@ has_few_targets s k = nat_lt (length (targets_of k s)) most_targets
 abbrev pub alike_checks : ℕ → ℕ → List Entry
 alike_checks s t = check (differ s t) (duplicate OfVolume) ∷ check (share_server s t) (over OneServer) ∷ check (share_size s t) (over Size) ∷ []
 
-abbrev pub has_no_pair : ℕ → Control → Bool
-has_no_pair v k = is_unpaired (fields_at k v)
-
 -- t stands in no relationship and in no pair, and s may have one target more
 abbrev pub free_checks : Control → ℕ → ℕ → List Entry
 free_checks k s t =
     check (is_no_target t) (relation_state k t)
     ∷ check (is_no_source t) (relation_state k t)
     ∷ check (is_no_target s) (relation_state k s)
-    ∷ check (has_no_pair t) (pair_state k t)
+    ∷ check (stands_free t) (pair_state k t)
     ∷ check (has_few_targets s) (over Targets) ∷ []
 
 -- a relationship between two volumes that are there is made
 abbrev pub flash_entries : Control → ℕ → ℕ → Choices → List Entry
 flash_entries k s t choices = running_check k s ∷ alike_checks s t ++ free_checks k s t ++ now (Relate t s choices) ∷ []
 
-abbrev pub flash_plan : Control → Option Name → ℕ → ℕ → Choices → Plan
-flash_plan k dev s t choices = entries_plan (found_pair dev s t ++ flash_entries k s t choices) (Done Alone)
+-- `mkflash`
+abbrev pub make_flash_plan : Control → Option Name → ℕ → ℕ → Choices → Plan
+make_flash_plan k dev s t choices = entries_plan (found_pair dev s t ++ flash_entries k s t choices) (Done Alone)
 
 -- t is a target of s, and neither revertible nor reversing
 abbrev pub is_plain_target : ℕ → ℕ → Control → Bool
@@ -278,12 +297,13 @@ counted_refusal t k = if (fields_at k t).member then Some (InSession (record { 0
 abbrev pub withdraw_entries : Control → ℕ → ℕ → List Entry
 withdraw_entries k s t = running_check k s ∷ refuse_if (counted_refusal t) ∷ check (is_plain_target s t) (relation_state k t) ∷ now (Withdraw t) ∷ []
 
-abbrev pub withdraw_plan : Control → Option Name → ℕ → ℕ → Plan
-withdraw_plan k dev s t = entries_plan (found_pair dev s t ++ withdraw_entries k s t) (Done Alone)
+-- `rmflash`
+abbrev pub remove_flash_plan : Control → Option Name → ℕ → ℕ → Plan
+remove_flash_plan k dev s t = entries_plan (found_pair dev s t ++ withdraw_entries k s t) (Done Alone)
 
 -- a target is made a copy of its source anew
-abbrev pub resync_plan : Control → Option Name → ℕ → ℕ → Option ℕ → Plan
-resync_plan k dev s t sequence = entries_plan (named_pair k dev s t ++ refuse_if (counted_refusal t) ∷ check (is_recorded_target s t) (relation_state k t) ∷ now (Resync t sequence) ∷ []) (Done Alone)
+abbrev pub resync_flash_plan : Control → Option Name → ℕ → ℕ → Option ℕ → Plan
+resync_flash_plan k dev s t sequence = entries_plan (named_pair k dev s t ++ refuse_if (counted_refusal t) ∷ check (is_recorded_target s t) (relation_state k t) ∷ now (Resync t sequence) ∷ []) (Done Alone)
 
 -- no other relationship of s is revertible or reversing
 abbrev pub is_lone_restore : ℕ → ℕ → Control → Bool
@@ -300,6 +320,7 @@ settled_refusal t s k =
     option_or (secondary_refusal (members_in (session_in k.sessions s)) k) (forbidden_unless (leaves_all (decided_in s k)) (decided_in s k))
     else None
 
+-- what the session of target t says of its restore
 abbrev pub restore_refusal : ℕ → Control → Option Refusal
 restore_refusal t k = settled_refusal t (fields_at k t).session k
 
@@ -312,8 +333,8 @@ abbrev pub left_by : Control → ℕ → Option ℕ
 left_by k t = option_map (λ m. m.a.0) (member_at k t)
 
 -- a target is to be restored onto its source
-abbrev pub reverse_plan : Control → Option Name → ℕ → ℕ → Plan
-reverse_plan k dev s t = entries_plan
+abbrev pub reverse_flash_plan : Control → Option Name → ℕ → ℕ → Plan
+reverse_flash_plan k dev s t = entries_plan
     (named_pair k dev s t
     ++ refuse_if (restore_refusal t)
     ∷ check (is_recorded_target s t) (relation_state k t)
@@ -334,6 +355,7 @@ may_give_back t k = not (fields_at k t).reversing || takes_back (fields_at k t).
 abbrev pub left_to_copy : Control → ℕ → ℕ
 left_to_copy k t = if (fields_at k t).reversing then len (fields_at k t).own else len (rest (k.volume t).tracks (fields_at k t).own)
 
+-- at most so many, where a number is given
 abbrev pub at_most : Option ℕ → ℕ → ℕ
 at_most None n = n
 at_most (Some most) n = min most n
@@ -342,6 +364,7 @@ at_most (Some most) n = min most n
 abbrev pub copy_one : Control → ℕ → List Entry
 copy_one k t = if (fields_at k t).reversing then give_back k.volumes (fields_at k t).source t else fetch_next t ∷ []
 
+-- `@copy`: the lowest tracks that are left, copied or restored
 abbrev pub copy_plan : Control → ℕ → Option ℕ → Plan
 copy_plan k t most =
     let count : ℕ = at_most most (left_to_copy k t) in
@@ -354,8 +377,8 @@ copy_plan k t most =
     (Done (Counted count))
 
 -- a path is defined, or gets another flag
-abbrev pub path_done : ℕ → ℕ → Bool → Plan
-path_done src tgt group = tables_plan (λ k. record k { paths = with_path k.paths src tgt group }) [] (Done Alone)
+abbrev pub make_path_done : ℕ → ℕ → Bool → Plan
+make_path_done src tgt group = tables_plan (λ k. record k { paths = with_path k.paths src tgt group }) [] (Done Alone)
 
 -- the servers aren't those that are named, or are one, or one is off, or their link is down
 abbrev pub path_refusal : Control → Devs → ℕ → ℕ → Option Refusal
@@ -367,12 +390,13 @@ path_refusal k devs s u =
     else if not (k.link s u) then Some (link_down s u)
     else None
 
+-- `mkpprcpath`
 abbrev pub path_plan : Control → Devs → ℕ → ℕ → Bool → Plan
-path_plan k devs src tgt group = on_owner (owner_of k src) (λ s. on_owner (owner_of k tgt) (λ u. unless (path_refusal k devs s u) (path_done src tgt group)))
+path_plan k devs src tgt group = on_owner (owner_of k src) (λ s. on_owner (owner_of k tgt) (λ u. unless (path_refusal k devs s u) (make_path_done src tgt group)))
 
 -- a path is removed
-abbrev pub unpath_done : ℕ → ℕ → Plan
-unpath_done src tgt = tables_plan (λ k. record k { paths = without_path k.paths src tgt }) [] (Done Alone)
+abbrev pub remove_path_done : ℕ → ℕ → Plan
+remove_path_done src tgt = tables_plan (λ k. record k { paths = without_path k.paths src tgt }) [] (Done Alone)
 
 -- there is no such path, the servers aren't those that are named, that of the source is off, or a primary still copies over it
 abbrev pub unpath_refusal : Control → Devs → ℕ → ℕ → ℕ → ℕ → Bool → Option Refusal
@@ -383,9 +407,10 @@ unpath_refusal k devs src tgt s u force =
     else if force then None
     else option_map (pair_state k) (first_active k src tgt)
 
+-- `rmpprcpath`
 abbrev pub unpath_plan : Control → Devs → ℕ → ℕ → Bool → Plan
 unpath_plan k devs src tgt force =
-    on_owner (owner_of k src) (λ s. on_owner (owner_of k tgt) (λ u. unless (unpath_refusal k devs src tgt s u force) (unpath_done src tgt)))
+    on_owner (owner_of k src) (λ s. on_owner (owner_of k tgt) (λ u. unless (unpath_refusal k devs src tgt s u force) (remove_path_done src tgt)))
 
 -- a freeze between two logical subsystems: there is no such path, the servers aren't those that are named, or that of the
 -- source is off
@@ -396,9 +421,11 @@ freeze_refusal k devs l m s u =
     else if not (k.on s) then Some (server_off s)
     else None
 
+-- a freeze, behind what refuses it
 abbrev pub freeze_done : Control → ℕ → ℕ → Plan
 freeze_done k l m = entries_plan (freeze_entries k.volumes l m) (Done Alone)
 
+-- `freezepprc`
 abbrev pub freeze_plan : Control → Devs → ℕ → ℕ → Plan
 freeze_plan k devs l m = on_owner (owner_of k l) (λ s. on_owner (owner_of k m) (λ u. unless (freeze_refusal k devs l m s u) (freeze_done k l m)))
 
@@ -409,33 +436,38 @@ thaw_refusal k devs s u =
     else if not (k.on s) then Some (server_off s)
     else None
 
-abbrev pub thaw_done : Control → ℕ → ℕ → Plan
-thaw_done k l m = entries_plan (thaw_entries k.volumes l m) (Done Alone)
+-- a thaw, behind what refuses it
+abbrev pub unfreeze_done : Control → ℕ → ℕ → Plan
+unfreeze_done k l m = entries_plan (thaw_entries k.volumes l m) (Done Alone)
 
+-- `unfreezepprc`
 abbrev pub thaw_plan : Control → Devs → ℕ → ℕ → Plan
-thaw_plan k devs l m = on_owner (owner_of k l) (λ s. on_owner (owner_of k m) (λ u. unless (thaw_refusal k devs s u) (thaw_done k l m)))
+thaw_plan k devs l m = on_owner (owner_of k l) (λ s. on_owner (owner_of k m) (λ u. unless (thaw_refusal k devs s u) (unfreeze_done k l m)))
 
 -- the two volumes of a pair are there, each on the server that may be named
 abbrev pub found_volumes : Devs → ℕ → ℕ → List Entry
 found_volumes devs a b = found_pair devs.dev a b ++ check (is_owner devs.remotedev b) (unknown OfServer) ∷ []
 
 -- a pair is made; where nothing is to be copied, the host writes of the journal must have made both volumes the same
-abbrev pub pair_plan : Control → List Event → Devs → ℕ → ℕ → Part → Bool → Plan
-pair_plan k events devs a b kind full =
+abbrev pub make_pair_plan : Control → List Event → Devs → ℕ → ℕ → Part → Bool → Plan
+make_pair_plan k events devs a b kind full =
     entries_plan (found_volumes devs a b ++ make_entries k a b kind full (if full then None else first_differing (image_at events) (k.volume a).tracks a b)) (Done Alone)
 
 -- one of two volumes is the primary of a member; its session is named
 abbrev pub member_refusal : ℕ → ℕ → Control → Option Refusal
 member_refusal a b k = option_or (in_session (find (is_member a) k.sessions)) (in_session (find (is_member b) k.sessions))
 
-abbrev pub remove_plan : Control → Devs → ℕ → ℕ → Bool → Plan
-remove_plan k devs a b source_only = entries_plan (found_volumes devs a b ++ refuse_if (member_refusal a b) ∷ remove_entries k a b source_only) (Done Alone)
+-- `rmpprc`
+abbrev pub remove_pair_plan : Control → Devs → ℕ → ℕ → Bool → Plan
+remove_pair_plan k devs a b source_only = entries_plan (found_volumes devs a b ++ refuse_if (member_refusal a b) ∷ remove_entries k a b source_only) (Done Alone)
 
-abbrev pub pause_plan : Control → Devs → ℕ → ℕ → Plan
-pause_plan k devs a b = entries_plan (found_volumes devs a b ++ pause_entries k a b) (Done Alone)
+-- `pausepprc`
+abbrev pub pause_pair_plan : Control → Devs → ℕ → ℕ → Plan
+pause_pair_plan k devs a b = entries_plan (found_volumes devs a b ++ pause_entries k a b) (Done Alone)
 
-abbrev pub resume_plan : Control → Devs → ℕ → ℕ → Part → Plan
-resume_plan k devs a b kind = entries_plan (found_volumes devs a b ++ resume_entries k a b kind) (Done Alone)
+-- `resumepprc`
+abbrev pub resume_pair_plan : Control → Devs → ℕ → ℕ → Part → Plan
+resume_pair_plan k devs a b kind = entries_plan (found_volumes devs a b ++ resume_entries k a b kind) (Done Alone)
 
 -- Tracks that are out of sync are sent, lowest first. Where the secondary's server stops, the primary is suspended.
 abbrev pub drain_plan : Control → ℕ → Option ℕ → Plan
@@ -463,17 +495,17 @@ plan_of k events line (StopAfter name writes torn) = on_server k name (arm_on wr
 plan_of k events line (Start name) = on_server k name (start_on k)
 plan_of k events line (Show v t) = show_plan k events line v t
 plan_of k events line (MakeFlash devs s t nocopy persistent recorded inhibited sequence) =
-    flash_plan k devs.dev s t (record { nocopy = nocopy; persistent = persistent; recorded = recorded; inhibited = inhibited; sequence = unwrap_or sequence 0 })
-plan_of k events line (RemoveFlash devs s t sequence) = withdraw_plan k devs.dev s t
-plan_of k events line (ResyncFlash devs s t nocopy persistent recorded inhibited sequence) = resync_plan k devs.dev s t sequence
-plan_of k events line (ReverseFlash devs s t tgtpprc sequence) = reverse_plan k devs.dev s t
+    make_flash_plan k devs.dev s t (record { nocopy = nocopy; persistent = persistent; recorded = recorded; inhibited = inhibited; sequence = unwrap_or sequence 0 })
+plan_of k events line (RemoveFlash devs s t sequence) = remove_flash_plan k devs.dev s t
+plan_of k events line (ResyncFlash devs s t nocopy persistent recorded inhibited sequence) = resync_flash_plan k devs.dev s t sequence
+plan_of k events line (ReverseFlash devs s t tgtpprc sequence) = reverse_flash_plan k devs.dev s t
 plan_of k events line (Copy t most) = copy_plan k t most
 plan_of k events line (MakePath devs src tgt group) = path_plan k devs src tgt group
 plan_of k events line (RemovePath devs src tgt force) = unpath_plan k devs src tgt force
-plan_of k events line (MakePair devs a b kind full) = pair_plan k events devs a b (part_of kind) full
-plan_of k events line (RemovePair devs a b source_only) = remove_plan k devs a b source_only
-plan_of k events line (PausePair devs a b) = pause_plan k devs a b
-plan_of k events line (ResumePair devs a b kind) = resume_plan k devs a b (part_of kind)
+plan_of k events line (MakePair devs a b kind full) = make_pair_plan k events devs a b (part_of kind) full
+plan_of k events line (RemovePair devs a b source_only) = remove_pair_plan k devs a b source_only
+plan_of k events line (PausePair devs a b) = pause_pair_plan k devs a b
+plan_of k events line (ResumePair devs a b kind) = resume_pair_plan k devs a b (part_of kind)
 plan_of k events line (Drain a most) = drain_plan k a most
 plan_of k events line (Expire name) = on_server k name (expire_on k)
 plan_of k events line (Freeze devs l m) = freeze_plan k devs l m

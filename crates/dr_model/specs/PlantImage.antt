@@ -1,12 +1,13 @@
--- A plant's devices as a text: the text of an image, and what a text reads as.
+-- A plant's devices as a text: the text of an image, and what a text reads as. Read first `image_text`, `IsImage` and `IsFirstBad`. How a
+-- text is read comes before them, and laws tie it to these: a text reads as an image exactly where it is the text of that image and the
+-- image is proper, and else the line that it is bad at is its first bad line.
 use Rattle.std.specs.Prelude.{◌≡◌, ◌≢◌, ℕ, suc, zero, ◌+◌, ◌-◌, ◌*◌, ◌/◌, ◌<◌, ◌≤◌, ◌⊎◌, Bool, true, false, ◌&&◌, ◌||◌, not, List, [], ◌∷◌, ◌++◌, length, map, take, replicate, nat_eq, nat_le, nat_lt, Option, Some, None, Result, Ok, Err, All, AllPairs, codes, if◌then◌else◌}
 use Rattle.std.specs.Fmt.{decimal}
 use Rattle.std.specs.List.{flat_map, list_all, list_any, position, slice_get, slice_split}
 use Rattle.std.specs.Str.{bytes_eq}
-use Rattle.dr_ids.specs.Spelling.{digit_in}
-use Rattle.dr_model.specs.Contents.{zeros}
+use Rattle.dr_logic.specs.Bytes.{zeros}
+use Rattle.dr_ids.specs.Spelling.{digit_in, hex4}
 use Rattle.dr_model.specs.Layout.{Blocks, Fields, fields}
-use Rattle.dr_ids.specs.Spelling.{hex4}
 use Rattle.dr_model.specs.Lines.{words}
 use Rattle.dr_model.specs.LineText.{bytes_text, spaced}
 use Rattle.dr_model.specs.LineWords.{◌>>=◌, decimal_word}
@@ -43,6 +44,7 @@ volume_line v = codes "volume" ++ spaced (hex4 v.volume ∷ decimal v.server ∷
 unfoldable pub block_line : ℕ → Kept → List ℕ
 block_line volume b = codes "block" ++ spaced (hex4 volume ∷ decimal b.index ∷ bytes_text (trimmed b.bytes) ∷ [])
 
+-- the lines of a volume's blocks
 abbrev pub block_lines : Volume → List (List ℕ)
 block_lines v = map (block_line v.volume) v.blocks
 
@@ -55,6 +57,7 @@ abbrev pub ended : List (List ℕ) → List ℕ
 ended [] = []
 ended (line ∷ lines) = line ++ 10 ∷ ended lines
 
+-- the text of an image
 unfoldable pub image_text : List Volume → List ℕ
 image_text vs = ended (image_lines vs)
 
@@ -98,6 +101,7 @@ ends_kept (b ∷ c ∷ cs) = ends_kept (c ∷ cs)
 abbrev pub kept_of : List ℕ → Option (List ℕ)
 kept_of bytes = if nat_le (length bytes) 64 && ends_kept bytes then Some (bytes ++ replicate (64 - length bytes) 0) else None
 
+-- the bytes of a block that isn't all zero
 abbrev pub kept_word : List ℕ → Option (List ℕ)
 kept_word word = upper_bytes word >>= kept_of
 
@@ -138,6 +142,7 @@ pub record State : Type 0 where
   pub volumes : List Volume
   pub place : ℕ
 
+-- before the first line
 abbrev pub begin : State
 begin = record { stage = Start; line = 1; volumes = []; place = 0 }
 
@@ -149,6 +154,7 @@ agrees v w = not (nat_eq w.volume v.volume) && (not (nat_eq (w.volume / 256) (v.
 unfoldable pub can_join : List Volume → Volume → Bool
 can_join vs v = nat_lt (length vs) 64 && list_all (λ w. agrees w v) vs
 
+-- a volume joins the others, where it agrees with them
 unfoldable pub join : State → Volume → Option State
 join s v = if can_join s.volumes v then Some (record s { volumes = s.volumes ++ v ∷ [] }) else None
 
@@ -166,12 +172,15 @@ with_block [] p b = []
 with_block (v ∷ vs) zero b = record v { blocks = v.blocks ++ b ∷ [] } ∷ vs
 with_block (v ∷ vs) (suc p) b = v ∷ with_block vs p b
 
+-- a block comes to the volume at place p
 abbrev pub fill_at : State → Kept → ℕ → Volume → Option State
 fill_at s b p w = if can_fill s.place p w b then Some (record s { stage = Filling; volumes = with_block s.volumes p b; place = p }) else None
 
+-- a block comes to the volume that its line names
 unfoldable pub fill : State → Placed → Option State
 fill s said = place_of s.volumes said.volume >>= λ p. slice_get s.volumes p >>= λ w. fill_at s said.block p w
 
+-- only volumes came so far
 abbrev pub is_listing : Stage → Bool
 is_listing Listing = true
 is_listing _ = false
@@ -184,9 +193,11 @@ by_words s (word ∷ rest) =
     else if bytes_eq word (codes "block") then block_said rest >>= fill s
     else None
 
+-- behind the first line: the end, a volume, or a block
 abbrev pub by_line : State → List ℕ → Option State
 by_line s line = if bytes_eq line (codes "end") then Some (record s { stage = Ended }) else by_words s (words line)
 
+-- by which kind of line came last
 abbrev pub by_stage : Stage → State → List ℕ → Option State
 by_stage Start s line = if bytes_eq line (codes "image 1") then Some (record s { stage = Listing }) else None
 by_stage Listing s line = by_line s line
@@ -202,6 +213,7 @@ abbrev pub or_bad : State → Option State → State
 or_bad s None = record s { stage = Bad }
 or_bad s (Some t) = record t { line = s.line + 1 }
 
+-- with one line more; where it can't stand, the text is bad there
 unfoldable pub step : State → List ℕ → State
 step s line = or_bad s (after_line s line)
 
@@ -222,6 +234,7 @@ abbrev pub sourced : List Volume → Option ℕ → Result (List Volume) ℕ
 sourced vs None = Ok vs
 sourced vs (Some p) = Err (p + 2)
 
+-- the volumes, or the line of the first one whose relationship has no source
 unfoldable pub checked : List Volume → Result (List Volume) ℕ
 checked vs = sourced vs (position (λ v. not (has_source vs v)) vs)
 
@@ -236,6 +249,7 @@ reads s [] = Err s.line
 reads s (last ∷ []) = finished s s.stage last
 reads s (line ∷ next ∷ more) = reads (step s line) (next ∷ more)
 
+-- the byte that ends a line
 abbrev pub is_line_feed : ℕ → Bool
 is_line_feed b = nat_eq b 10
 
@@ -252,6 +266,7 @@ pub record IsKept (blocks : ℕ) (b : Kept) : Type 0 where
   pub bytes : All (λ x. x < 256) b.bytes
   pub some : trimmed b.bytes ≢ []
 
+-- a volume of a proper image
 pub record IsVolume (v : Volume) : Type 0 where
   pub volume : v.volume < 65536
   pub server : v.server ≤ 7
@@ -266,6 +281,7 @@ pub record IsLaid (vs : List Volume) : Type 0 where
   pub each : All IsVolume vs
   pub apart : AllPairs (λ v w. agrees v w ≡ true) vs
 
+-- a proper image: its blocks are laid out, and each relationship has its source
 pub record IsImage (vs : List Volume) : Type 0 where
   pub laid : IsLaid vs
   pub sources : All (λ v. has_source vs v ≡ true) vs

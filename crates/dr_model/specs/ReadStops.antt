@@ -1,9 +1,9 @@
 -- A plan carried out where reads may fail: a server whose read fuse is armed may go off between two acts, before the
 -- first or after the last. Where none is armed, it is what `carry` says.
 use Rattle.std.specs.Prelude.{◌≡◌, ℕ, ◌⊎◌, Bool, true, false, List, [], ◌∷◌, ◌++◌, Option, Some, None}
+use Rattle.dr_logic.specs.Tables.{at}
 use Rattle.dr_ids.specs.declared.refusal.Refusal.{Refusal}
 use Rattle.dr_model.specs.declared.event.Event.TheVariants.{Stopped}
-use Rattle.dr_model.specs.Tables.{at}
 use Rattle.dr_model.specs.Refusals.{stopped}
 use Rattle.dr_model.specs.Control.{World}
 use Rattle.dr_model.specs.Carry.{Next, Pass, Do, End, Entry, act}
@@ -30,10 +30,12 @@ module _ (armed : ℕ → Bool) (u : World) (r : Option Refusal) where
     pub world : u ≡ w
     pub refusal : r ≡ end
 
+  -- behind a move: the plan goes on, or its server has stopped
   abbrev pub EndsTurn : World → Option ℕ → (World → Type 0) → Type 0
   EndsTurn w None more = more w
   EndsTurn w (Some s) more = IsEnd w (Some (stopped s))
 
+  -- behind what an entry came to
   abbrev pub EndsNext : World → Next → (World → Type 0) → Type 0
   EndsNext w Pass more = more w
   EndsNext w (End end) more = IsEnd w (Some end)

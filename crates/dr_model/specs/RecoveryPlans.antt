@@ -41,11 +41,13 @@ abbrev pub lets_commit : Decision → Bool
 lets_commit (CommitRest n) = true
 lets_commit d = false
 
+-- one that lets revertible targets be reverted
 abbrev pub lets_revert : Decision → Bool
 lets_revert (RevertAll n) = true
 lets_revert (RevertSome m n) = true
 lets_revert d = false
 
+-- the refusal that names a decision, where it doesn't let something be done
 abbrev pub forbidden_unless : Bool → Decision → Option Refusal
 forbidden_unless true d = None
 forbidden_unless false d = Some (Forbidden d)
@@ -60,9 +62,11 @@ take_over_on m k = if is_part (fields_at k m.b.0).secondary then Do (Make (TakeO
 abbrev pub commit_flashed : ℕ → Member → ℕ → Entry
 commit_flashed s m n k = if is_flashed n (fields_at k m.c.0) then Do (Make (Commit m.c.0 m.a.0 s n)) else Pass
 
+-- it is reverted
 abbrev pub revert_flashed : ℕ → Member → ℕ → Entry
 revert_flashed s m n k = if is_flashed n (fields_at k m.c.0) then Do (Make (Revert m.c.0 m.a.0 s n)) else Pass
 
+-- nothing is done with it
 abbrev pub pass_on : Entry
 pass_on k = Pass
 
@@ -80,6 +84,7 @@ abbrev pub group_of : Decision → Option ℕ
 group_of (Nothing n) = Some n
 group_of d = None
 
+-- the group as the journal is told it: 0 for none
 abbrev pub group_number : Option ℕ → ℕ
 group_number None = 0
 group_number (Some n) = n
@@ -93,6 +98,7 @@ abbrev pub says_group : Decision → Option ℕ → Said
 says_group d None = Refused (NoGroup d)
 says_group d (Some n) = Done (InGroup n d)
 
+-- what is said as the recovery of session s ends, with what was decided as it began
 abbrev pub says_recovered : ℕ → Decision → Control → Said
 says_recovered s d k = says_group d (group_of (decided_in s k))
 
@@ -101,6 +107,7 @@ says_recovered s d k = says_group d (group_of (decided_in s k))
 abbrev pub recover_entries : ℕ → Decision → List Member → List Entry
 recover_entries s d ms = map take_over_on ms ++ (map (settle_on s d) ms ++ end_recovery s ∷ [])
 
+-- a recovery, behind what refuses it
 abbrev pub recover_done : ℕ → Decision → List Member → Plan
 recover_done s d ms = record {
   first = same;
@@ -111,6 +118,7 @@ recover_done s d ms = record {
   says = says_recovered s d;
 }
 
+-- `@recover`
 abbrev pub recover_plan : Control → ℕ → Plan
 recover_plan k s = on_session (session_in k.sessions s) (λ x. unless (secondary_refusal x.members k) (recover_done s (decided_in s k) x.members))
 
@@ -132,14 +140,17 @@ revertible_target k b = find (λ u. is_revertible (fields_at k u)) (targets_of k
 abbrev pub settle_refusal : (Decision → Bool) → Decision → List Member → Control → Option Refusal
 settle_refusal lets d ms k = option_or (secondary_refusal ms k) (option_or (untaken_refusal ms k) (forbidden_unless (lets d) d))
 
+-- a target by hand: what was decided is done with it, where it is a member's and that lets it be done
 abbrev pub settle_member : Control → (Decision → Bool) → ℕ → ℕ → Option Member → Plan
 settle_member k lets b s None = refuses (relation_state k b)
 settle_member k lets b s (Some m) =
     unless (settle_refusal lets (decided_in s k) (members_in (session_in k.sessions s)) k) (entries_plan (settle_on s (decided_in s k) m ∷ []) (Done Alone))
 
+-- the revertible target that was looked up
 abbrev pub settle_target : Control → (Decision → Bool) → ℕ → Option ℕ → Plan
 settle_target k lets b None = refuses (relation_state k b)
 settle_target k lets b (Some t) = settle_member k lets b (fields_at k t).session (member_of_target k t)
 
+-- `commitflash` and `revertflash`, by the decisions that let a target be committed, or reverted
 abbrev pub settle_plan : Control → Option Name → (Decision → Bool) → ℕ → Plan
 settle_plan k dev lets b = on_volume k b (unless (option_or (name_refusal k dev (k.volume b).server) (off_refusal k (k.volume b).server)) (settle_target k lets b (revertible_target k b)))

@@ -28,6 +28,7 @@ rest n own = difference (all_tracks n) own
 unfoldable pub in_order : ℕ → Tracks → List ℕ
 in_order n s = filter (contains s) (range_with_len 0 n)
 
+-- the lowest track of a set
 abbrev pub lowest : ℕ → Tracks → Option ℕ
 lowest n s = slice_get (in_order n s) 0
 
@@ -68,6 +69,7 @@ fetched f t = record f { own = insert f.own t; blank = remove f.blank t }
 abbrev pub noted : Fields → ℕ → Fields
 noted f t = record f { source_changes = if f.recorded then insert f.source_changes t else f.source_changes }
 
+-- where changes are recorded, a track of the target has changed
 abbrev pub rewritten : Fields → ℕ → Fields
 rewritten f t = record f { target_changes = if f.recorded then insert f.target_changes t else f.target_changes }
 

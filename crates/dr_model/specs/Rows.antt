@@ -1,9 +1,10 @@
 -- What a move does to the table of volumes.
 use Rattle.std.specs.Prelude.{ℕ, Bool, true, ◌&&◌, List, if◌then◌else◌}
 use Rattle.std.specs.FinSet.{contains}
-use Rattle.dr_model.specs.Tables.{at}
+use Rattle.dr_logic.specs.Bytes.{zeros}
+use Rattle.dr_logic.specs.Tables.{at}
 use Rattle.dr_model.specs.Histories.{Write}
-use Rattle.dr_model.specs.Contents.{zeros, with_write}
+use Rattle.dr_model.specs.Contents.{with_write}
 use Rattle.dr_model.specs.Layout.{Tracks, Fields}
 use Rattle.dr_model.specs.Control.{Volume}
 use Rattle.dr_model.specs.Views.{view}
@@ -11,12 +12,15 @@ use Rattle.dr_model.specs.Relations.{rest, is_bare, turned, given_up}
 use Rattle.dr_model.specs.Moves.{Move, Land, Overwrite, Keep, Relate, Withdraw, Fetch, Resync, Reverse, Restore, Release, Store, Mirror, LandBoth, Flash, Commit, Revert, Carried, target, next_fields, carried, moved}
 use Rattle.dr_model.specs.Table.{Row, Table}
 
+-- the volumes of a table
 abbrev pub volumes_of : Table → ℕ → Volume
 volumes_of T v = (T v).volume
 
+-- what its tracks contain
 abbrev pub contents_of : Table → ℕ → ℕ → List ℕ
 contents_of T v = (T v).bytes
 
+-- the row of a target's source
 abbrev pub source_row : Table → ℕ → Row
 source_row T v = T (T v).volume.fields.source
 
@@ -24,6 +28,7 @@ source_row T v = T (T v).volume.fields.source
 abbrev pub emptied : Bool → ℕ → Tracks → (ℕ → List ℕ) → ℕ → List ℕ
 emptied ends n own old t = if ends && contains (rest n own) t then zeros else old t
 
+-- where a target holds nothing any more, its tracks are empty
 abbrev pub emptied_if_bare : ℕ → Fields → (ℕ → List ℕ) → ℕ → List ℕ
 emptied_if_bare n f old = emptied (is_bare f.own) n f.own old
 
@@ -65,9 +70,11 @@ next_bytes write (LandBoth n v t) T = at (T v).bytes t (with_write write ((T v).
 next_bytes write (Release v t) T = emptied_if_bare (T v).volume.tracks (given_up (T v).volume.fields t) (T v).bytes
 next_bytes write m T = (T (target m)).bytes
 
+-- the track that a move carries, by the table
 abbrev pub carried_on : (ℕ → Write) → Move → Table → Carried
 carried_on write m T = carried m (volumes_of T) (contents_of T) write
 
+-- the row of the move's volume after it
 abbrev pub next_row : (ℕ → Write) → Move → Table → Row
 next_row write m T =
     let r : Row = T (target m) in

@@ -25,6 +25,7 @@ abbrev pub run_asked : Result Step ℕ → Option (ℕ × ℕ)
 run_asked (Ok (Run s n)) = Some (s, n)
 run_asked asked = None
 
+-- one plan, answered
 abbrev pub alone : World → Plan → Course
 alone w p = record { before = []; last = record { world = w; plan = p } }
 
@@ -35,6 +36,7 @@ course_of w t (Some asked) =
     let x : Way = formed w asked.0 asked.1 in
     record { before = x.parts; last = record { world = x.world; plan = only_says (form_said asked.0 x.world.control x.refusal) } }
 
+-- the plans of a task, in the world in which it begins
 abbrev pub course : World → Task → Course
 course w t = course_of w t (run_asked t.asked)
 
@@ -42,9 +44,11 @@ course w t = course_of w t (run_asked t.asked)
 abbrev pub plans_of : World → Task → List Part
 plans_of w t = (course w t).before ++ (course w t).last ∷ []
 
+-- the world after the last plan of a task, with its answer; the masters whose servers went off are lost
 abbrev pub answered_part : ℕ → Part → World
 answered_part line x = masters_lost x.world (after_plan x.world line x.plan)
 
+-- the world after a task
 abbrev pub after_task : World → Task → World
 after_task w t = answered_part t.line (course w t).last
 

@@ -36,6 +36,7 @@ table_plan f = tables_plan (with_sessions f) [] (Done Alone)
 abbrev pub name_refusal : Control → Option Name → ℕ → Option Refusal
 name_refusal k dev owner = if is_named dev owner k then None else Some (unknown OfServer)
 
+-- server s is off
 abbrev pub off_refusal : Control → ℕ → Option Refusal
 off_refusal k s = if k.on s then None else Some (server_off s)
 
@@ -90,10 +91,12 @@ abbrev pub mirror_phase : Option Mirror → Said
 mirror_phase None = Done (InPhase phase.None 0)
 mirror_phase (Some r) = Done (InPhase r.master.phase r.master.number)
 
+-- of a session that was looked up
 abbrev pub session_phase : Option Session → Said
 session_phase None = Done (InPhase phase.None 0)
 session_phase (Some x) = mirror_phase x.mirror
 
+-- of session s, as it is when the step ends
 abbrev pub says_phase : ℕ → Control → Said
 says_phase s k = session_phase (session_in k.sessions s)
 
@@ -109,6 +112,7 @@ abort_plan k s = on_session (session_in k.sessions s) (λ x.
 abbrev pub is_mirrored_target : Fields → Bool
 is_mirrored_target f = f.recorded && f.inhibited
 
+-- all of them, in order of definition
 abbrev pub mirrored_targets : Control → ℕ → List ℕ
 mirrored_targets k b = filter (λ u. is_mirrored_target (fields_at k u)) (targets_of k b)
 
@@ -159,10 +163,12 @@ add_done k s x m = unless (in_session (find (has_place_of m) k.sessions)) (recor
   says = always (Done Alone);
 })
 
+-- primary a becomes a member with the target that was looked up
 abbrev pub add_target : Control → ℕ → Session → ℕ → ℕ → Option ℕ → Plan
 add_target k s x a b None = refuses (relation_state k b)
 add_target k s x a b (Some c) = add_done k s x (member_with k a c)
 
+-- primary a is added to session x: first what refuses it
 abbrev pub add_to : Control → ℕ → Session → ℕ → ℕ → Plan
 add_to k s x l a =
     unless (option_or (outside_refusal x l) (option_or (taken_refusal k x a) (copy_refusal k a)))
@@ -188,16 +194,19 @@ expel_done k s m = unless (off_refusal k (k.volume m.c.0).server) (record {
   says = always (Done Alone);
 })
 
+-- the member that was looked up is removed
 abbrev pub expel_found : Control → ℕ → Session → Option Member → Plan
 expel_found k s x None = unless (not_in_session s) (table_plan (λ ss. ss))
 expel_found k s x (Some m) = unless (busy x.mirror) (expel_done k s m)
 
+-- `chsession -action remove`
 abbrev pub expel_plan : Control → Option Name → ℕ → ℕ → ℕ → Plan
 expel_plan k dev l a s = on_owner (owner_of k l) (λ owner. on_volume k a (on_session (session_in k.sessions s) (λ x.
     unless (name_refusal k dev owner) (expel_found k s x (find (λ m. m.a.0 == a) x.members)))))
 
 -- ---- exchanges
 
+-- the phase is Idle
 abbrev pub is_idle : PhaseName → Bool
 is_idle phase.Idle = true
 is_idle p = false
@@ -217,6 +226,7 @@ phase_refusal r server ms =
 abbrev pub apart_refusal : Control → ℕ → ℕ → Option Refusal
 apart_refusal k s u = if nat_eq s u || k.link s u then None else Some (link_down s u)
 
+-- why an exchange is refused, the first of these
 abbrev pub exchange_refusal : Control → Mirror → ℕ → List Member → Option Refusal
 exchange_refusal k r server ms =
     option_or (off_refusal k r.server) (option_or (phase_refusal r server ms) (option_or (off_refusal k server) (apart_refusal k r.server server)))
@@ -229,6 +239,7 @@ order_of r server = if is_idle r.master.phase then Some (record { work = phases.
 abbrev pub answered_by : ℕ → ℕ → phases.Work → List Member → Control → Control
 answered_by s server work ms k = with_sessions (changed s (with_master (λ m. phases.taken m server (reply_after s work ms k)))) k
 
+-- the order that is owed, over the members on the server; as it ends, the master takes the reply, unless it isn't to learn of it
 abbrev pub exchange_done : ℕ → ℕ → Bool → List Member → Option phases.Order → Plan
 exchange_done s server reply ms None = refuses (OutOfOrder phase.None)
 exchange_done s server reply ms (Some o) = record {
@@ -240,6 +251,7 @@ exchange_done s server reply ms (Some o) = record {
   says = says_phase s;
 }
 
+-- by the session's master, refused where there is none
 abbrev pub exchange_on : Control → ℕ → Option Mirror → ℕ → Bool → List Member → Plan
 exchange_on k s None server reply ms = refuses (OutOfOrder phase.None)
 exchange_on k s (Some r) server reply ms =

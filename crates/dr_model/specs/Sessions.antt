@@ -82,7 +82,7 @@ all_low ms = list_all (λ m. nat_lt m.server.0 8) ms
 
 -- what is true of every session: its members are on servers 0 to 7, and its master has their servers and the session's last
 -- number
-pub record IsSound (x : Session) : Type 0 where
+pub record IsSoundSession (x : Session) : Type 0 where
   pub low : IsTrue (all_low x.members)
   pub servers : (r : Mirror) → x.mirror ≡ Some r → r.master.servers ≡ servers_of x.members
   pub number : (r : Mirror) → x.mirror ≡ Some r → r.master.number ≡ x.last
@@ -146,6 +146,7 @@ lost_with server x = with_mirror (mirror_lost server) x
 abbrev pub mirror_lost_since : (ℕ → Bool) → (ℕ → Bool) → Mirror → Mirror
 mirror_lost_since before now r = if before r.server && not (now r.server) then record r { master = master.lost r.master } else r
 
+-- all sessions as servers went off: a master on one of them is lost
 abbrev pub lost_since : (ℕ → Bool) → (ℕ → Bool) → List Session → List Session
 lost_since before now ss = map (with_mirror (mirror_lost_since before now)) ss
 
@@ -153,6 +154,7 @@ lost_since before now ss = map (with_mirror (mirror_lost_since before now)) ss
 abbrev pub joined_by : ℕ → Session → Session
 joined_by l x = record x { subsystems = x.subsystems ++ (record { 0 = l }) ∷ [] }
 
+-- subsystem l is its no more
 abbrev pub left_by : ℕ → Session → Session
 left_by l x = record x { subsystems = filter (λ k. not (k.0 == l)) x.subsystems }
 
@@ -160,6 +162,7 @@ left_by l x = record x { subsystems = filter (λ k. not (k.0 == l)) x.subsystems
 abbrev pub with_member : Member → Session → Session
 with_member m x = with_members (x.members ++ m ∷ []) x
 
+-- the member of primary a is its no more
 abbrev pub without_member : ℕ → Session → Session
 without_member a x = with_members (filter (λ m. not (m.a.0 == a)) x.members) x
 
@@ -279,6 +282,7 @@ abbrev pub begin_refusal : Option Mirror → Option Refusal
 begin_refusal None = no_master
 begin_refusal (Some r) = master.begin_refusal r.master.phase r.master.number
 
+-- an abort is refused without a master, and by its phase
 abbrev pub abort_refusal : Option Mirror → Option Refusal
 abort_refusal None = no_master
 abort_refusal (Some r) = master.abort_refusal r.master.phase

@@ -14,6 +14,7 @@ waiting (p ∷ ps) v t =
 abbrev pub due_by : Histories → List Pending → ℕ → ℕ → List ℕ
 due_by h ps v t = image h.write (h.now v t ++ waiting ps v t)
 
+-- in a world
 abbrev pub due : World → ℕ → ℕ → List ℕ
 due w = due_by (histories w.events) w.control.pending
 
@@ -21,6 +22,7 @@ due w = due_by (histories w.events) w.control.pending
 abbrev pub aside_by : Histories → ℕ → ℕ → List ℕ
 aside_by h v t = image h.write (h.aside v t)
 
+-- in a world
 abbrev pub aside : World → ℕ → ℕ → List ℕ
 aside w = aside_by (histories w.events)
 
@@ -33,8 +35,10 @@ pub record Row : Type 0 where
   pub due : ℕ → List ℕ
   pub aside : ℕ → List ℕ
 
+-- the rows of all volumes, by number
 abbrev pub Table : Type 0
 Table = ℕ → Row
 
+-- the table of a world
 abbrev pub table : World → Table
 table w v = record { defined = is_volume w.control v; volume = w.control.volume v; bytes = w.contents v; due = due w v; aside = aside w v }

@@ -2,14 +2,6 @@
 use Rattle.std.specs.Prelude.{◌≡◌, ℕ, false, List, [], ◌∷◌, nat_eq, if◌then◌else◌, ◌==◌}
 use Rattle.std.specs.List.{list_any}
 
--- the table with another value at k
-abbrev pub at : {X : Type 0} → (ℕ → X) → ℕ → X → ℕ → X
-at f k x q = if q == k then x else f q
-
--- the table of tables with another value at j, k
-abbrev pub at2 : {X : Type 0} → (ℕ → ℕ → X) → ℕ → ℕ → X → ℕ → ℕ → X
-at2 f j k x p q = if p == j then (if q == k then x else f p q) else f p q
-
 -- no number comes twice
 abbrev pub Once : List ℕ → Type 0
 Once [] = Unit {0}

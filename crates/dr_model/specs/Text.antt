@@ -3,18 +3,19 @@ use Rattle.std.specs.Prelude.{ℕ, ◌/◌, ◌%◌, List, [], ◌∷◌, ◌++�
 use Rattle.std.specs.List.{flat_map}
 use Rattle.std.specs.Fmt.{decimal}
 use Rattle.std.specs.Option.{option_or, unwrap_or}
+use Rattle.dr_logic.specs.Bytes.{zeros}
 use Rattle.dr_ids.specs.Spelling.{hex2, hex4}
-use Rattle.dr_model.specs.Contents.{zeros}
 use Rattle.dr_model.specs.declared.event.Event.{Event}
 use Rattle.dr_model.specs.declared.event.Event.TheVariants.{Server, Shown, Answer}
 
 -- what a line's text refers to: the names of the servers that are defined, and the track that
 -- the step at hand has shown
-pub record Told : Type 0 where
+pub record Heard : Type 0 where
   pub names : ℕ → Option (List ℕ)
   pub shown : List ℕ
 
-abbrev pub untold : Told
+-- what it refers to before the first event
+abbrev pub untold : Heard
 untold = record { names = λ s. None; shown = zeros }
 
 -- the name that an event gives a server
@@ -29,11 +30,11 @@ shown_in (Answer line code a b c) = Some zeros
 shown_in _ = None
 
 -- a name, once given, stays
-abbrev pub heard : Told → Event → Told
+abbrev pub heard : Heard → Event → Heard
 heard told e = record { names = λ s. option_or (told.names s) (name_in e s); shown = unwrap_or (shown_in e) told.shown }
 
 -- the name that a server was given
-abbrev pub told_name : Told → ℕ → List ℕ
+abbrev pub told_name : Heard → ℕ → List ℕ
 told_name told s = unwrap_or (told.names s) []
 
 -- bytes without the zeros at their end
@@ -41,10 +42,12 @@ abbrev pub before_trimmed : ℕ → List ℕ → List ℕ
 before_trimmed b [] = if nat_eq b 0 then [] else b ∷ []
 before_trimmed b (c ∷ cs) = b ∷ c ∷ cs
 
+-- bytes without the zeros at their end
 abbrev pub trimmed : List ℕ → List ℕ
 trimmed [] = []
 trimmed (b ∷ bs) = before_trimmed b (trimmed bs)
 
+-- a dash in place of no bytes
 abbrev pub or_dash : List ℕ → List ℕ
 or_dash [] = codes "-"
 or_dash (b ∷ bs) = b ∷ bs
@@ -60,12 +63,14 @@ kind_word n =
     else if nat_eq n 3 then codes "path" else if nat_eq n 4 then codes "write" else if nat_eq n 5 then codes "session"
     else if nat_eq n 6 then codes "track" else if nat_eq n 7 then codes "master" else []
 
+-- the word of a limit
 abbrev pub limit_word : ℕ → List ℕ
 limit_word n =
     if nat_eq n 0 then codes "servers" else if nat_eq n 1 then codes "volumes" else if nat_eq n 2 then codes "tracks"
     else if nat_eq n 3 then codes "sessions" else if nat_eq n 4 then codes "pending" else if nat_eq n 5 then codes "targets"
     else if nat_eq n 6 then codes "groups" else if nat_eq n 7 then codes "size" else if nat_eq n 8 then codes "server" else []
 
+-- of a phase
 abbrev pub phase_word : ℕ → List ℕ
 phase_word n =
     if nat_eq n 0 then codes "none" else if nat_eq n 1 then codes "Idle" else if nat_eq n 2 then codes "Coordinating"
@@ -73,12 +78,14 @@ phase_word n =
     else if nat_eq n 6 then codes "Committing" else if nat_eq n 7 then codes "Reverting" else if nat_eq n 8 then codes "Finishing"
     else if nat_eq n 9 then codes "Lost" else []
 
+-- of a pair's state
 abbrev pub pair_words : ℕ → List ℕ
 pair_words n =
     if nat_eq n 0 then codes "Copy Pending" else if nat_eq n 1 then codes "Full Duplex" else if nat_eq n 2 then codes "Suspended"
     else if nat_eq n 3 then codes "Target Copy Pending" else if nat_eq n 4 then codes "Target Full Duplex"
     else if nat_eq n 5 then codes "Target Suspended" else if nat_eq n 6 then codes "none" else []
 
+-- of a relationship's state
 abbrev pub relation_word : ℕ → List ℕ
 relation_word n =
     if nat_eq n 0 then codes "revertible" else if nat_eq n 1 then codes "reversing" else if nat_eq n 2 then codes "target"
@@ -88,9 +95,11 @@ relation_word n =
 abbrev pub one_number : ℕ → List ℕ
 one_number a = codes "(" ++ decimal a ++ codes ")"
 
+-- two numbers in parentheses
 abbrev pub two_numbers : ℕ → ℕ → List ℕ
 two_numbers a b = codes "(" ++ decimal a ++ codes "," ++ decimal b ++ codes ")"
 
+-- a decision by its place, with its numbers
 abbrev pub decision_text : ℕ → ℕ → ℕ → List ℕ
 decision_text n a b =
     if nat_eq n 0 then codes "NoMember"
@@ -105,8 +114,9 @@ decision_text n a b =
 abbrev pub group_decision : ℕ → ℕ → ℕ → List ℕ
 group_decision n group number = if nat_eq n 4 then decision_text n group number else decision_text n number 0
 
--- what an ok adds
-abbrev pub addition : Told → ℕ → ℕ → ℕ → List ℕ
+-- what an ok adds: nothing, a write's number, a write that is acknowledged late, a count of tracks, a phase, a group, or the track
+-- that was shown
+abbrev pub addition : Heard → ℕ → ℕ → ℕ → List ℕ
 addition told kind a b =
     if nat_eq kind 1 then codes " w" ++ decimal a
     else if nat_eq kind 2 then codes " acked w" ++ decimal a
@@ -132,15 +142,16 @@ refusal_words code =
 abbrev pub volume_digits : ℕ → List ℕ
 volume_digits n = hex4 (n % 65536)
 
+-- a session in two digits
 abbrev pub session_digits : ℕ → List ℕ
 session_digits n = hex2 (n % 256)
 
 -- of two servers, the lower numbered first
-abbrev pub link_text : Told → ℕ → ℕ → List ℕ
+abbrev pub link_text : Heard → ℕ → ℕ → List ℕ
 link_text told a b = codes " " ++ told_name told (min a b) ++ codes " " ++ told_name told (max a b)
 
 -- what it says of its numbers
-abbrev pub refusal_values : Told → ℕ → ℕ → ℕ → ℕ → List ℕ
+abbrev pub refusal_values : Heard → ℕ → ℕ → ℕ → ℕ → List ℕ
 refusal_values told code a b c =
     if nat_eq code 1 then codes " " ++ decimal a
     else if nat_eq code 2 then codes " " ++ kind_word a
@@ -166,19 +177,19 @@ refusal_values told code a b c =
     else []
 
 -- what an answer says
-abbrev pub said_text : Told → ℕ → ℕ → ℕ → ℕ → List ℕ
+abbrev pub said_text : Heard → ℕ → ℕ → ℕ → ℕ → List ℕ
 said_text told code a b c =
     if nat_eq code 0 then codes "ok" ++ addition told a b c
     else if nat_eq code 100 then codes "held w" ++ decimal a
     else refusal_words code ++ refusal_values told code a b c
 
 -- the line that an event prints; most print none
-abbrev pub line_text : Told → Event → List ℕ
+abbrev pub line_text : Heard → Event → List ℕ
 line_text told (Answer line code a b c) = decimal line ++ codes " " ++ said_text told code a b c ++ 10 ∷ []
 line_text told _ = []
 
 -- what is printed for events, after others that told something
-abbrev pub text_from : Told → List Event → List ℕ
+abbrev pub text_from : Heard → List Event → List ℕ
 text_from told [] = []
 text_from told (e ∷ es) = line_text told e ++ text_from (heard told e) es
 

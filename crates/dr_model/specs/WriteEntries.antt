@@ -34,9 +34,11 @@ land_mirrored volumes n v t u =
 abbrev pub land_parted : Control → ℕ → ℕ → ℕ → List Entry
 land_parted k n v t = now (Suspend v (is_grouped k v (partner_of k v))) ∷ (if is_grouped k v (partner_of k v) then [] else land_alone k.volumes n v t)
 
+-- primary v can't send to its secondary
 abbrev pub is_parted : Control → ℕ → Bool
 is_parted k v = is_some (send_refusal v (partner_of k v) k)
 
+-- a write that goes to the secondary first, where that can be reached
 abbrev pub land_over : Control → ℕ → ℕ → ℕ → List Entry
 land_over k n v t = if is_parted k v then land_parted k n v t else land_mirrored k.volumes n v t (partner_of k v)
 
@@ -45,6 +47,7 @@ land_over k n v t = if is_parted k v then land_parted k n v t else land_mirrored
 abbrev pub sends_first : ℕ → ℕ → ℕ → Control → Bool
 sends_first v u t k = collides (fields_at k v) t && (not (is_some (send_refusal v u k)) && not (is_some (flashed_refusal u k)))
 
+-- an entry that comes only as long as the track can be sent
 abbrev pub where_sent : ℕ → ℕ → ℕ → Entry → Entry
 where_sent v u t d k = if sends_first v u t k then d k else Pass
 
@@ -55,10 +58,12 @@ send_first volumes v u t =
     suspend_where (send_refusal v u) v
     ∷ map (where_sent v u t) (copy_first volumes u t ++ store_on v u t ∷ strike_on v t ∷ [])
 
+-- what the track was is sent first, and then the write lands on the primary alone
 abbrev pub land_collided : Control → ℕ → ℕ → ℕ → List Entry
 land_collided k n v t = send_first k.volumes v (partner_of k v) t ++ land_alone k.volumes n v t
 
--- a host write on a volume where the host may write
+-- A host write on a volume where the host may write: on a held one it waits; one that goes over does so; one that collides is sent
+-- for first; any other lands alone.
 abbrev pub land_entries : Control → ℕ → ℕ → ℕ → List Entry
 land_entries k n v t =
     if held (fields_at k v) then []
@@ -74,6 +79,7 @@ landing k n v t = write_checks k n v ++ land_entries k n v t
 abbrev pub waits : Control → ℕ → ℕ → Bool
 waits k v t = held (fields_at k v) || (goes_over (fields_at k v) t && (is_parted k v && is_grouped k v (partner_of k v)))
 
+-- the answer of a host write: it waits, or it has landed
 abbrev pub says_written : Control → ℕ → ℕ → ℕ → Said
 says_written k n v t = if waits k v t then Held n else Done (Wrote n)
 
@@ -82,6 +88,7 @@ says_written k n v t = if waits k v t then Held n else Done (Wrote n)
 abbrev pub part_running : ℕ → Entry
 part_running v k = if is_part (fields_at k v).primary && is_running v k then Do (Make (Suspend v (is_grouped k v (partner_of k v)))) else Pass
 
+-- what follows where a server stopped in a host write
 abbrev pub part_after : ℕ → ℕ → List Entry
 part_after v s = part_running v ∷ []
 
@@ -97,9 +104,11 @@ is_between k l m v = nat_eq (subsystem v) l && (is_running v k && (is_part (fiel
 abbrev pub freeze_on : ℕ → ℕ → ℕ → Entry
 freeze_on l m v k = if is_between k l m v then Do (Make (Suspend v true)) else Pass
 
+-- the freeze ends
 abbrev pub end_freeze : ℕ → ℕ → Entry
 end_freeze l m k = Do (EndFreeze l m)
 
+-- a freeze: volume by volume, and then its end
 abbrev pub freeze_entries : List ℕ → ℕ → ℕ → List Entry
 freeze_entries volumes l m = map (freeze_on l m) volumes ++ end_freeze l m ∷ []
 
@@ -107,9 +116,11 @@ freeze_entries volumes l m = map (freeze_on l m) volumes ++ end_freeze l m ∷ [
 abbrev pub thaw_on : ℕ → ℕ → ℕ → Entry
 thaw_on l m v k = if is_between k l m v && (fields_at k v).long_busy then Do (Make (Thaw v)) else Pass
 
+-- the thaw ends
 abbrev pub end_thaw : ℕ → ℕ → Entry
 end_thaw l m k = Do (EndThaw l m)
 
+-- a thaw: volume by volume, and then its end
 abbrev pub thaw_entries : List ℕ → ℕ → ℕ → List Entry
 thaw_entries volumes l m = map (thaw_on l m) volumes ++ end_thaw l m ∷ []
 
@@ -125,9 +136,11 @@ lift_on s v k = if belongs k s v && held (fields_at k v) then Do (Make (Lift v))
 abbrev pub redo_on : ℕ → ℕ → Entry
 redo_on s v k = if belongs k s v then Do (Redo v) else Pass
 
+-- volume v of server s goes on, where a stop left it so that it must
 abbrev pub restart_on : ℕ → ℕ → Entry
 restart_on s v k = if belongs k s v && must_restart (fields_at k v) then Do (Make (Restart v)) else Pass
 
+-- what a start of server s does with volume v
 abbrev pub start_on_volume : ℕ → ℕ → List Entry
 start_on_volume s v = redo_on s v ∷ restart_on s v ∷ []
 

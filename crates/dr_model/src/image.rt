@@ -1,7 +1,8 @@
 ghost use Rattle.std.specs.Prelude.{◌≡◌, ℕ, ◌+◌, ◌-◌, ◌*◌, ◌<◌, ◌≤◌, ◌↔◌, List, None, take, length, slice_get, IsTrue, IsFalse, IsSome, nat_le, if◌then◌else◌};
 ghost use Rattle.std.specs.Option.{unwrap_or};
+ghost use Rattle.dr_logic.specs.Bytes.{zeros};
 ghost use Rattle.dr_model.specs.Histories.{histories};
-ghost use Rattle.dr_model.specs.Contents.{image, image_at, laid, zeros, volume_image};
+ghost use Rattle.dr_model.specs.Contents.{image, image_at, laid, volume_image};
 ghost use Rattle.dr_model.specs.Asked.{asked, asked_if, asks_volume, asks_track, asks_aside, present, kept_aside, goes_on, ends, stored, earlier_of, issue_in, issue_at, tracks_in, tracks_at, over, with_write_if};
 
 use crate::event::Event;

@@ -2,13 +2,11 @@ ghost use Rattle.std.specs.Prelude.{◌≡◌, ℕ, ◌+◌, ◌<◌, ◌≤◌,
 ghost use Rattle.std.specs.Option.{option_copied};
 
 use crate::event::Event;
+use dr_ids::MOST_EVENTS;
 use std::alloc::{AllocError, Global};
 use std::marker::Model;
 
 const _: () = prove!(size_of::<Event>() <= 96);
-
-/// The most events that a run may leave. Up to it the memory doubles, and no further.
-const MOST_EVENTS: usize = 1_000_000;
 
 /// The events of a run, in order, and how many more fit without asking for memory.
 #[derive(Drop)]
@@ -40,7 +38,7 @@ impl Journal {
         }
     }
 
-    /// Makes room for `room` more events. Fails for want of memory alone, and then changes nothing.
+    /// Makes room for `room` more events: the memory doubles up to the most events of a run, and no further. Fails for want of memory alone, and then changes nothing.
     pub fn reserve(&mut self, room: usize) -> Result<(), AllocError>
         ensures events { self.new.events ≡ self.old.events }
         ensures room { OnOk result (self.new.spare ≡ max self.old.spare room) }

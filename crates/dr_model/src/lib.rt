@@ -1,4 +1,9 @@
 //! The journal, the steps of a script, and the definitions that every contract cites.
+//!
+//! `Journal::push` adds one event and can't fail where room was reserved (`events`, `spare`); `reserve` changes no
+//! event (`events`, `room`, `err`); `event` and `len` read it. `Said::event` is the answer's event, for every refusal
+//! and every addition. `image_of` writes what a volume's tracks contain by the host's writes among the first events of
+//! a journal (`when`, `image`, `same`). The definitions of the machine stand here.
 #![tactic(auto)]
 
 mod event;

@@ -1,23 +1,14 @@
 use Rattle.std.proofs.Common.{ℕ, ◌≡◌, ◌≢◌, ◌≤◌, ◌-◌, ◌^◌, Bool, true, false, List, refl, ap, sym, ◌∙◌, cond, ◌&&◌, arith, nat_eq}
 use Rattle.std.proofs.lemmas.Bool.Decides.{nat_tests}
-use Rattle.dr_plant.specs.State.{PlantState, FaultsStand, started, with_device, after_write, after_read, written, torn, off, faulted, can_write, can_read, passes_write, risen, at, at2, torn_block}
+use Rattle.std.proofs.lemmas.Bool.{and_parts}
+use Rattle.dr_logic.specs.Tables.{at, at2}
+use Rattle.dr_logic.specs.Counts.{risen}
+use Rattle.dr_plant.specs.State.{PlantState, FaultsStand, started, with_device, after_write, after_read, written, torn, off, faulted, can_write, can_read, passes_write, torn_block}
+use Rattle.dr_logic.proofs.Tables.{at_same, at_other, at2_same}
 
 -- two states are the same where each part is
 pub same_state : (s t : PlantState) → s.count ≡ t.count → s.owner ≡ t.owner → s.size ≡ t.size → s.block ≡ t.block → s.on ≡ t.on → s.write_fuse ≡ t.write_fuse → s.read_fuse ≡ t.read_fuse → s.faults ≡ t.faults → s ≡ t
 same_state s t a b c d e f g h i = record { count = a i; owner = b i; size = c i; block = d i; on = e i; write_fuse = f i; read_fuse = g i; faults = h i }
-
--- a function changed at k, at k and elsewhere
-pub at_same : {X : Type 0} (f : ℕ → X) (k : ℕ) (x : X) → at f k x k ≡ x
-at_same f k x = let e : nat_eq k k ≡ true = grind (arith, nat_tests) in ap (λ v. cond v x (f k)) e
-
-pub at_other : {X : Type 0} (f : ℕ → X) (k : ℕ) (x : X) (q : ℕ) → q ≢ k → at f k x q ≡ f q
-at_other f k x q h = let e : nat_eq q k ≡ false = grind (arith, nat_tests) in ap (λ v. cond v x (f q)) e
-
--- a table changed at j, k, there and elsewhere
-pub at2_same : {X : Type 0} (f : ℕ → ℕ → X) (j k : ℕ) (x : X) → at2 f j k x j k ≡ x
-at2_same f j k x =
-    let e : nat_eq j j ≡ true = grind (arith, nat_tests) in
-    ap (λ v. cond v (at (f j) k x k) (f j k)) e ∙ at_same (f j) k x
 
 pub at2_other : {X : Type 0} (f : ℕ → ℕ → X) (j k : ℕ) (x : X) (p q : ℕ) → q ≢ k → at2 f j k x p q ≡ f p q
 at2_other f j k x p q h =
@@ -41,15 +32,9 @@ pub write_done : (s : PlantState) (dev b : ℕ) (bytes : List ℕ) → s.on (s.o
 unfolding after_write
 write_done s dev b bytes h k = ap (λ x. cond x (cond (passes_write (s.write_fuse (s.owner dev))) (written s dev b bytes) (torn s dev b)) (faulted s)) h ∙ ap (λ x. cond x (written s dev b bytes) (torn s dev b)) k
 
--- the same, by the test that the plant answers with
-both : (a b : Bool) → (a && b) ≡ true → (a ≡ true) × (b ≡ true)
-both true true h = (refl, refl)
-both true false h = (refl, h)
-both false b h = absurd (let e : false ≡ true = h in cc)
-
 pub write_can : (s : PlantState) (dev b : ℕ) (bytes : List ℕ) → can_write s dev ≡ true → after_write s dev b bytes ≡ written s dev b bytes
 write_can s dev b bytes h =
-    let e = both (s.on (s.owner dev)) (passes_write (s.write_fuse (s.owner dev))) h in write_done s dev b bytes e.0 e.1
+    let e = and_parts (s.on (s.owner dev)) (passes_write (s.write_fuse (s.owner dev))) h in write_done s dev b bytes e.0 e.1
 
 -- a read that can be done changes nothing
 pub read_done : (s : PlantState) (dev : ℕ) → can_read s dev ≡ true → after_read s dev ≡ s

@@ -2,7 +2,8 @@ use Rattle.std.proofs.Common.{ℕ, zero, suc, ◌≡◌, ◌<◌, Bool, true, fa
 use Rattle.std.specs.Prelude.{slice_get, Option, Some, None}
 use Rattle.std.proofs.lemmas.Grind.{common_steps}
 use Rattle.std.proofs.lemmas.Bool.Decides.{nat_tests}
-use Rattle.dr_plant.specs.State.{at, zeros}
+use Rattle.dr_logic.specs.Bytes.{zeros}
+use Rattle.dr_logic.specs.Tables.{at}
 use Rattle.dr_plant.specs.Model.{each, contents, device_block}
 use Rattle.dr_plant.specs.declared.device.Device.{Device}
 

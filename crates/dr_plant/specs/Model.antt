@@ -1,7 +1,8 @@
 -- The state of a plant in memory.
 use Rattle.std.specs.Prelude.{ℕ, List, Option, Some, None, slice_get, length, false}
 use Rattle.std.specs.List.{slice_index_or}
-use Rattle.dr_plant.specs.State.{PlantState, zeros}
+use Rattle.dr_logic.specs.Bytes.{zeros}
+use Rattle.dr_plant.specs.State.{PlantState}
 use Rattle.dr_plant.specs.declared.device.Device.{Device}
 use Rattle.dr_plant.specs.declared.model.ModelPlant.{ModelPlant}
 

@@ -1,5 +1,8 @@
 -- What a plant is at one moment, and what each call makes of it.
 use Rattle.std.specs.Prelude.{◌≡◌, ℕ, ◌<◌, ◌≤◌, ◌+◌, ◌-◌, ◌^◌, min, Bool, true, false, ◌&&◌, ◌==◌, if◌then◌else◌, List, replicate, Option, Some, None}
+use Rattle.dr_logic.specs.Counts.{risen}
+use Rattle.dr_logic.specs.Bytes.{zeros}
+use Rattle.dr_logic.specs.Tables.{at, at2}
 use Rattle.dr_plant.specs.declared.plant.WriteFuse.{WriteFuse}
 use Rattle.dr_plant.specs.declared.plant.Torn.{Torn}
 use Rattle.dr_plant.specs.declared.plant.Torn.TheVariants.{Untouched, Bytes}
@@ -15,18 +18,6 @@ pub record PlantState : Type 0 where
   pub read_fuse : ℕ → Option ℕ  -- of each server, after how many writes its reads stop
   pub faults : ℕ  -- how many reads and writes could not be done
 
--- f, but x at k
-abbrev pub at : {X : Type 0} → (ℕ → X) → ℕ → X → ℕ → X
-at f k x q = if q == k then x else f q
-
--- f, but x at j, k
-abbrev pub at2 : {X : Type 0} → (ℕ → ℕ → X) → ℕ → ℕ → X → ℕ → ℕ → X
-at2 f j k x p q = if p == j then (if q == k then x else f p q) else f p q
-
--- a block of zeros
-unfoldable pub zeros : List ℕ
-zeros = replicate 64 0
-
 -- The device and its block exist.
 pub record HasBlock (s : PlantState) (dev b : ℕ) : Type 0 where
   pub device : dev < s.count
@@ -38,10 +29,6 @@ pub record IsFresh (s : PlantState) : Type 0 where
   pub all_on : (server : ℕ) → server < 8 → s.on server ≡ true
   pub no_write_fuse : (server : ℕ) → server < 8 → s.write_fuse server ≡ None
   pub no_read_fuse : (server : ℕ) → server < 8 → s.read_fuse server ≡ None
-
--- The count of faults after one more: it stands still at the end of 64 bits.
-abbrev pub risen : ℕ → ℕ
-risen n = min (n + 1) (2 ^ 64 - 1)
 
 -- From s to t no fault was lost, as far as 64 bits count them.
 pub record FaultsStand (s t : PlantState) : Type 0 where

@@ -1,8 +1,9 @@
 //! The devices of a plant in memory: small steps on nested vectors.
 
 ghost use Rattle.std.specs.Prelude.{◌≡◌, ◌<◌, ◌+◌, vec_len, OnOk, OnErr, IfOk, length, replicate};
+ghost use Rattle.dr_logic.specs.Bytes.{zeros};
+ghost use Rattle.dr_logic.specs.Tables.{at, at2};
 ghost use Rattle.dr_plant.specs.Model.{owners, sizes, contents};
-ghost use Rattle.dr_plant.specs.State.{at, at2, zeros};
 
 use crate::device::Device;
 use crate::plant::Block;

@@ -4,6 +4,7 @@ ghost use Rattle.std.specs.Prelude.{◌≡◌, ◌<◌};
 ghost use Rattle.dr_plant.specs.Model.{state_of};
 ghost use Rattle.dr_plant.specs.State.{IsFresh};
 ghost use Rattle.dr_plant.specs.State as state;
+ghost use Rattle.dr_logic.specs.Counts.{risen};
 
 use crate::device::Device;
 use crate::devices;
@@ -46,7 +47,7 @@ impl ModelPlant {
 
 /// The count of faults after one more. At its end it stands still.
 fn risen(faults: u64) -> u64
-    ensures { result ≡ state.risen faults }
+    ensures { result ≡ risen faults }
 {
     faults.saturating_add(1)
 }

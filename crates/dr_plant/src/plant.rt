@@ -1,7 +1,8 @@
 //! What a plant promises to those who read and write its devices.
 
 ghost use Rattle.std.specs.Prelude.{◌≡◌, ℕ, ◌<◌, ◌≤◌, ◌+◌, ◌↔◌, Some, is_ok, IfOk, OnOk, OnErr, IsErrOf};
-ghost use Rattle.dr_plant.specs.State.{PlantState, HasBlock, after_write, after_read, can_write, can_read, started, off, with_device, at};
+ghost use Rattle.dr_logic.specs.Tables.{at};
+ghost use Rattle.dr_plant.specs.State.{PlantState, HasBlock, after_write, after_read, can_write, can_read, started, off, with_device};
 
 /// The bytes of one block.
 pub type Block = [u8; 64];

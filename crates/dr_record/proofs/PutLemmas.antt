@@ -2,9 +2,10 @@ use Rattle.std.proofs.Common.{ℕ, ◌≡◌, ◌≢◌, ◌<◌, ◌≤◌, ◌
 use Rattle.std.specs.Prelude.{Some, None, ◌↔◌}
 use Rattle.std.proofs.lemmas.Bool.{cases_order}
 use Rattle.std.proofs.lemmas.Bool.Decides.{nat_tests}
+use Rattle.dr_logic.specs.Tables.{at2}
 use Rattle.dr_plant.specs.declared.plant.WriteFuse.{WriteFuse}
-use Rattle.dr_plant.specs.State.{PlantState, after_write, can_write, torn_by, at2}
-use Rattle.dr_plant.proofs.StateLemmas.{at2_same, at2_other, other-after_write, same-after_write}
+use Rattle.dr_plant.specs.State.{PlantState, after_write, can_write, torn_by}
+use Rattle.dr_plant.proofs.StateLemmas.{at2_other, other-after_write, same-after_write}
 use Rattle.dr_record.specs.Taken.{taken_from}
 use Rattle.dr_record.specs.Writes.{Write, write, after_writes, all_put, Passes, torn_after, SameShape}
 use Rattle.dr_record.specs.Slots.{choice, slot_of, gate_of, start_of, stored, Chooses, IsOldOrNew, block_writes, record_writes, torn_choice, slot_when_stopped, IsCutShort, SameElsewhere}
@@ -12,6 +13,7 @@ use Rattle.dr_record.proofs.TakenLemmas.{taken_same}
 use Rattle.dr_record.proofs.WritesLemmas.{goes, stops, ends, append-goes, append-stops, shape-after_writes, apart-after_writes, off-after_writes, faults-after_writes}
 use Rattle.dr_record.proofs.BlocksLemmas.{outside-block_writes, done-block_writes, length-block_writes}
 use Rattle.dr_record.proofs.WriteLists.{writes_pass, writes_torn, writes_torn_at, writes_off}
+use Rattle.dr_logic.proofs.Tables.{at2_same}
 
 -- How the writes of a record went: stopped in its blocks, or those are all done and the gate is written.
 record InBlocks (s t : PlantState) (dev : ℕ) (blocks : List Write) (b : Bool) : Type 0 where

@@ -3,11 +3,13 @@ use Rattle.std.specs.Prelude.{Option, Some, None}
 use Rattle.std.proofs.lemmas.Bool.{cases_eq}
 use Rattle.std.proofs.lemmas.Bool.Decides.{nat_tests}
 use Rattle.std.proofs.lemmas.Grind.{common_steps}
+use Rattle.dr_logic.specs.Tables.{at, at2}
 use Rattle.dr_plant.specs.declared.plant.WriteFuse.{WriteFuse}
-use Rattle.dr_plant.specs.State.{PlantState, can_write, written, torn, faulted, passes_write, lowered_write, lowered_read, at, at2, torn_block}
-use Rattle.dr_plant.proofs.StateLemmas.{same_state, at_same, at_other, at2_apart, write_off, write_torn, write_can}
+use Rattle.dr_plant.specs.State.{PlantState, can_write, written, torn, faulted, passes_write, lowered_write, lowered_read, torn_block}
+use Rattle.dr_plant.proofs.StateLemmas.{same_state, at2_apart, write_off, write_torn, write_can}
 use Rattle.dr_record.specs.Writes.{Write, after_writes, all_put, Passes, write_fuse_after, read_fuse_after, all_written, torn_after}
 use Rattle.dr_record.proofs.WritesLemmas.{goes, stops, ends}
+use Rattle.dr_logic.proofs.Tables.{at_same, at_other}
 
 -- a function changed to what it is
 kept_at : {X : Type 0} (f : ℕ → X) (k : ℕ) (x : X) → x ≡ f k → (q : ℕ) → at f k x q ≡ f q

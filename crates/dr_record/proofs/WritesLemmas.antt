@@ -1,6 +1,7 @@
 use Rattle.std.proofs.Common.{ℕ, ◌≡◌, ◌≢◌, Bool, true, false, List, [], ◌∷◌, ◌++◌, refl, ap, ◌∙◌, cond, sym, subst}
 use Rattle.std.specs.Prelude.{Result, Ok, Err, is_err, is_ok, IsErr}
-use Rattle.dr_plant.specs.State.{PlantState, after_write, can_write, risen}
+use Rattle.dr_logic.specs.Counts.{risen}
+use Rattle.dr_plant.specs.State.{PlantState, after_write, can_write}
 use Rattle.dr_plant.proofs.StateLemmas.{count-after_write, size-after_write, owner-after_write, apart-after_write, off-after_write, faults-after_write}
 use Rattle.dr_record.specs.Writes.{Write, write, after_writes, IsDevice, SameShape}
 

@@ -1,7 +1,8 @@
 -- A record of n blocks in two slots of a device, and the gate that chooses one of them.
 use Rattle.std.specs.Prelude.{◌≡◌, ◌≢◌, ℕ, zero, suc, ◌+◌, ◌%◌, ◌≤◌, ◌⊎◌, Bool, false, not, nat_eq, List, [], ◌∷◌, ◌++◌, if◌then◌else◌, Option, Some, None, replicate}
 use Rattle.std.specs.List.{slice_index_or}
-use Rattle.dr_plant.specs.State.{PlantState, torn_by, risen}
+use Rattle.dr_logic.specs.Counts.{risen}
+use Rattle.dr_plant.specs.State.{PlantState, torn_by}
 use Rattle.dr_plant.specs.declared.plant.WriteFuse.{WriteFuse}
 use Rattle.dr_record.specs.Taken.{taken_from}
 use Rattle.dr_record.specs.Writes.{Write, write, SameShape}

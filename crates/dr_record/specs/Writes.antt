@@ -1,6 +1,8 @@
 -- Writes to one device, one after another, until one is stopped.
 use Rattle.std.specs.Prelude.{◌≡◌, ℕ, ◌-◌, ◌≤◌, ◌<◌, Bool, true, false, List, [], ◌∷◌, if◌then◌else◌, length, Option, Some, None}
-use Rattle.dr_plant.specs.State.{PlantState, after_write, can_write, at, at2, torn_by, risen}
+use Rattle.dr_logic.specs.Counts.{risen}
+use Rattle.dr_logic.specs.Tables.{at, at2}
+use Rattle.dr_plant.specs.State.{PlantState, after_write, can_write, torn_by}
 use Rattle.dr_plant.specs.declared.plant.WriteFuse.{WriteFuse}
 
 -- A block of a device, and the bytes to write to it.
@@ -8,6 +10,7 @@ pub record Write : Type 0 where
   pub block : ℕ
   pub bytes : List ℕ
 
+-- a write of these bytes to a block
 abbrev pub write : ℕ → List ℕ → Write
 write block bytes = record { block = block; bytes = bytes }
 

@@ -10,10 +10,10 @@ use Rattle.dr_model.specs.ReadStops.{Ends}
 use Rattle.dr_model.specs.RecoveryPlans.{secondary_refusal, decided_in, group_of, recover_entries, recover_done, recover_plan}
 use Rattle.dr_model.specs.Sessions.{Session, session_in, members_in}
 use Rattle.dr_model.specs.Laws.{Sound, sizes}
-use Rattle.dr_laws.specs.Recovered.{SameRecovery, HasRecovered, recovered_in}
-use Rattle.dr_laws.proofs.ReadStops.{ends-well}
-use Rattle.dr_laws.proofs.Recovers.{decided-is, recover-stays}
-use Rattle.dr_laws.proofs.RecoversEnd.{group-ended, has-ended}
+use Rattle.dr_laws_recovery.specs.Recovered.{SameRecovery, HasRecovered, recovered_in}
+use Rattle.dr_laws_sound.proofs.ReadStops.{ends-well}
+use Rattle.dr_laws_recovery.proofs.Recovers.{decided-is, recover-stays}
+use Rattle.dr_laws_recovery.proofs.RecoversEnd.{group-ended, has-ended}
 use Rattle.dr_gmirror.specs.Exchange.{PlanEnds}
 use Rattle.dr_gmirror.proofs.ExchangeLemmas.{silent-ends}
 use Rattle.dr_recover.specs.declared.recovery.Recovered.{Recovered}

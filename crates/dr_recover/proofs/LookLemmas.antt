@@ -3,18 +3,18 @@ use Rattle.std.proofs.Common.{ℕ, zero, suc, ◌≡◌, ◌≤◌, ◌+◌, Boo
 use Rattle.std.specs.Prelude.{option_map}
 use Rattle.std.specs.List.{find}
 use Rattle.std.proofs.lemmas.List.{drop_all}
-use Rattle.dr_config.specs.Table.{Table}
+use Rattle.dr_config.specs.Table.{ConfigTable}
 use Rattle.dr_config.specs.declared.entries.VolumeEntry.{VolumeEntry}
 use Rattle.dr_ids.specs.declared.names.Member.{Member}
 use Rattle.dr_volume.specs.View.{ids_of}
 use Rattle.dr_flash.proofs.CopyLemmas.{ids-next}
 
 -- the first of those that pass h, from a place of the table on
-abbrev pub found_from : (ℕ → Bool) → (ℕ → Bool) → Table → ℕ → Option ℕ
+abbrev pub found_from : (ℕ → Bool) → (ℕ → Bool) → ConfigTable → ℕ → Option ℕ
 found_from f h t place = find f (filter h (ids_of (drop place t.volumes)))
 
 -- it is this one, or one of those behind it
-pub found-next : (f h : ℕ → Bool) (t : Table) (place u : ℕ) → Some u ≡ option_map (λ (e : VolumeEntry). e.id) (slice_get t.volumes place) → found_from f h t place ≡ cond (h u && f u) (Some u) (found_from f h t (place + 1))
+pub found-next : (f h : ℕ → Bool) (t : ConfigTable) (place u : ℕ) → Some u ≡ option_map (λ (e : VolumeEntry). e.id) (slice_get t.volumes place) → found_from f h t place ≡ cond (h u && f u) (Some u) (found_from f h t (place + 1))
 found-next f h t place u at =
     ap (λ ids. find f (filter h ids)) (ids-next t place u at) ∙ by (h u) (filter h (ids_of (drop (place + 1) t.volumes)))
   where
@@ -22,7 +22,7 @@ found-next f h t place u at =
     by true rest = refl
     by false rest = refl
 
-pub found-none : (f h : ℕ → Bool) (t : Table) (place : ℕ) → length t.volumes ≤ place → found_from f h t place ≡ None
+pub found-none : (f h : ℕ → Bool) (t : ConfigTable) (place : ℕ) → length t.volumes ≤ place → found_from f h t place ≡ None
 found-none f h t place all = ap (λ es. find f (filter h (ids_of es))) (drop_all place t.volumes all)
 
 -- the first member that passes is at a place of the list

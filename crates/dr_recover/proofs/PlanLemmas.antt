@@ -5,7 +5,7 @@ use Rattle.dr_ids.specs.declared.names.Member.{Member}
 use Rattle.dr_ids.specs.declared.refusal.Decision.{Decision}
 use Rattle.dr_ids.specs.declared.refusal.Refusal.{Refusal}
 use Rattle.dr_plant.specs.State.{PlantState}
-use Rattle.dr_config.specs.Table.{Table}
+use Rattle.dr_config.specs.Table.{ConfigTable}
 use Rattle.dr_model.specs.declared.event.Event.{Event}
 use Rattle.dr_model.specs.declared.event.Event.TheVariants.{Recovered as RecoveredEvent}
 use Rattle.dr_model.specs.declared.said.Said.{Said}
@@ -16,9 +16,9 @@ use Rattle.dr_model.specs.PlanParts.{unless}
 use Rattle.dr_model.specs.ReadStops.{Ends}
 use Rattle.dr_model.specs.RecoveryPlans.{secondary_refusal, decided_in, take_over_on, settle_on, end_recovery, group_of, group_number, says_group, recover_entries, recover_done}
 use Rattle.dr_volume.specs.View.{Rest}
-use Rattle.dr_flash.specs.Here.{seen, refusal_of}
+use Rattle.dr_flash.specs.Here.{world_seen, refusal_of}
 use Rattle.dr_flash.specs.Turns.{Leads, Fails}
-use Rattle.dr_flash.proofs.EndsLemmas.{ends-goes, ends-none, ends-wider}
+use Rattle.dr_facts.proofs.Ends.{ends-goes, ends-none, ends-wider}
 use Rattle.dr_gmirror.specs.Exchange.{PlanEnds}
 use Rattle.dr_gmirror.proofs.ExchangeLemmas.{refused-plan, silent-ends, follow-nothing}
 use Rattle.dr_recover.specs.declared.recovery.Recovered.{Recovered}
@@ -31,15 +31,15 @@ unfolding act
 act-recovery w s n = refl
 
 -- the end, which the journal is told
-pub recovery-ends : (armed : ℕ → Bool) (p : PlantState) (t : Table) (r : Rest) (events told : List Event) (s : ℕ) (g : Option ℕ) → g ≡ group_of (decided_in s (seen p t r events).control) → told ≡ events ++ RecoveredEvent s (group_number g) ∷ []
-    → Ends armed (seen p t r told) None (seen p t r events) (end_recovery s ∷ [])
+pub recovery-ends : (armed : ℕ → Bool) (p : PlantState) (t : ConfigTable) (r : Rest) (events told : List Event) (s : ℕ) (g : Option ℕ) → g ≡ group_of (decided_in s (world_seen p t r events).control) → told ≡ events ++ RecoveredEvent s (group_number g) ∷ []
+    → Ends armed (world_seen p t r told) None (world_seen p t r events) (end_recovery s ∷ [])
 recovery-ends armed p t r events told s g is tells =
-    let w = seen p t r events in
+    let w = world_seen p t r events in
     let n : ℕ = group_number (group_of (decided_in s w.control)) in
     let so : told ≡ events ++ RecoveredEvent s n ∷ [] = tells ∙ ap (λ o. events ++ RecoveredEvent s (group_number o) ∷ []) is in
-    ends-goes armed (seen p t r told) None w (seen p t r told) (end_recovery s) [] (EndRecovery s n) refl
-    (act-recovery w s n ∙ (λ i. (seen p t r (sym so i), None)))
-    (ends-none armed (seen p t r told) None (seen p t r told) (record { world = refl; refusal = refl }))
+    ends-goes armed (world_seen p t r told) None w (world_seen p t r told) (end_recovery s) [] (EndRecovery s n) refl
+    (act-recovery w s n ∙ (λ i. (world_seen p t r (sym so i), None)))
+    (ends-none armed (world_seen p t r told) None (world_seen p t r told) (record { world = refl; refusal = refl }))
 
 module _ (s : ℕ) (d : Decision) (ms : List Member) where
   abbrev last : List Entry

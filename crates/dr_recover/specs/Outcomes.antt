@@ -11,7 +11,7 @@ use Rattle.dr_model.specs.Entries.{fields_at}
 use Rattle.dr_model.specs.Laws.{sizes}
 use Rattle.dr_model.specs.PlanParts.{Plan, unless}
 use Rattle.dr_model.specs.RecoveryPlans.{secondary_refusal, decided_in, recover_done, says_group, lets_commit, lets_revert}
-use Rattle.dr_laws.specs.Recovered.{decided_over, recovered_in, SameRecovery, HasRecovered}
+use Rattle.dr_laws_recovery.specs.Recovered.{decided_over, recovered_in, SameRecovery, HasRecovered}
 use Rattle.dr_recover.specs.declared.recovery.Recovered.{Recovered}
 
 -- the plan of a recovery of a session with these members, behind its refusal
@@ -23,6 +23,7 @@ abbrev pub recovery_said : Result Recovered Refusal → Said
 recovery_said (Ok x) = says_group x.decision x.group
 recovery_said (Err why) = Refused why
 
+-- what a commit or revert by hand answers
 abbrev pub act_said : Result (Unit {0}) Refusal → Said
 act_said (Ok x) = Done Alone
 act_said (Err why) = Refused why

@@ -1,14 +1,14 @@
 //! One target is committed or reverted by hand.
 
 ghost use Rattle.std.specs.Prelude.{◌≡◌, ℕ, ◌≤◌, ◌+◌, false, length, None, IsSome, OnOk, OnErr};
+ghost use Rattle.dr_logic.specs.Counts.{Counted};
 ghost use Rattle.dr_config.specs.Table.{place_of};
 ghost use Rattle.dr_model.specs.RecoveryPlans as plans;
 ghost use Rattle.dr_model.specs.Sessions as model;
 ghost use Rattle.dr_volume.specs.View.{Rest};
 ghost use Rattle.dr_flash.specs.Checks.{is_stop};
-ghost use Rattle.dr_flash.specs.Faults.{Counted};
 ghost use Rattle.dr_flash.specs.Fit.{RelationsFit};
-ghost use Rattle.dr_flash.specs.Here.{seen, refusal_of, armed_in, IsAtRest};
+ghost use Rattle.dr_flash.specs.Here.{world_seen, refusal_of, armed_in, IsAtRest};
 ghost use Rattle.dr_coord.specs.Aside.{AsideFits};
 ghost use Rattle.dr_gmirror.specs.Exchange.{PlanEnds};
 ghost use Rattle.dr_gmirror.specs.Orders.{AreReady, with_sessions};
@@ -24,7 +24,7 @@ use dr_ids::{Refusal, SessionId, VolumeId};
 use dr_model::Journal;
 use dr_plant::Plant;
 use dr_session::Sessions;
-use dr_volume::peek_fields;
+use dr_volume::peek_head;
 
 /// Commits, or else reverts, the flash on the revertible target of a volume, where that is decided now over its session. Refused
 /// where the volume has no revertible target, or that is no member's; or else where the server of a secondary of the session's
@@ -46,9 +46,9 @@ pub fn act<P: Plant>(
     requires members { (s : ℕ) → AreReady (P.state p.old) c.now (model.members_in (model.session_in ss.now.sessions s)) }
     requires few { (s : ℕ) → length (model.members_in (model.session_in ss.now.sessions s)) ≤ 64 }
     requires room { 2 ≤ j.old.spare }
-    ensures carried { (r : Rest) → PlanEnds (armed_in (P.state p.old)) (seen (P.state p.old) c.now (with_sessions ss.now.sessions r) j.old.events)
-        (plans.settle_target (seen (P.state p.old) c.now (with_sessions ss.now.sessions r) j.old.events).control (lets_by commit) source.0 (plans.revertible_target (seen (P.state p.old) c.now (with_sessions ss.now.sessions r) j.old.events).control source.0))
-        (seen (P.state p.new) c.now (with_sessions ss.now.sessions r) j.new.events) (act_said result) }
+    ensures carried { (r : Rest) → PlanEnds (armed_in (P.state p.old)) (world_seen (P.state p.old) c.now (with_sessions ss.now.sessions r) j.old.events)
+        (plans.settle_target (world_seen (P.state p.old) c.now (with_sessions ss.now.sessions r) j.old.events).control (lets_by commit) source.0 (plans.revertible_target (world_seen (P.state p.old) c.now (with_sessions ss.now.sessions r) j.old.events).control source.0))
+        (world_seen (P.state p.new) c.now (with_sessions ss.now.sessions r) j.new.events) (act_said result) }
     ensures unchanged { is_stop (refusal_of result) ≡ false → OnErr result ((P.state p.new ≡ P.state p.old) × (j.new ≡ j.old)) }
     ensures rest { IsAtRest (P.state p.new) c.now }
     ensures fit { RelationsFit (P.state p.new) c.now }
@@ -62,7 +62,7 @@ pub fn act<P: Plant>(
     let Some(t) = revertible_target(p, c, source) else {
         return Err(relation_state(p, c, source));
     };
-    let s = SessionId(peek_fields(p, c, t).session);
+    let s = SessionId(peek_head(p, c, t).session);
     let Some(m) = member_with(ss, s, t) else {
         return Err(relation_state(p, c, source));
     };

@@ -7,7 +7,7 @@ ghost use Rattle.dr_model.specs.RecoveryPlans as plans;
 ghost use Rattle.dr_model.specs.Sessions as model;
 ghost use Rattle.dr_volume.specs.View.{Rest};
 ghost use Rattle.dr_flash.specs.Checks.{OnNone, is_stop};
-ghost use Rattle.dr_flash.specs.Here.{seen};
+ghost use Rattle.dr_flash.specs.Here.{world_seen};
 ghost use Rattle.dr_gmirror.specs.Orders.{AreReady, AreRunning};
 ghost use Rattle.dr_recover.specs.Outcomes.{lets_by};
 
@@ -73,7 +73,7 @@ pub(crate) fn settle_refusal<P: Plant>(
 ) -> Option<Refusal>
     requires stands { StandsFor c.now (P.state p.now) }
     requires members { AreReady (P.state p.now) c.now (model.members_in (model.session_in ss.now.sessions s.0)) }
-    ensures refusal { (r : Rest) (events : List Event) → result ≡ plans.settle_refusal (lets_by commit) decided (model.members_in (model.session_in ss.now.sessions s.0)) (seen (P.state p.now) c.now r events).control }
+    ensures refusal { (r : Rest) (events : List Event) → result ≡ plans.settle_refusal (lets_by commit) decided (model.members_in (model.session_in ss.now.sessions s.0)) (world_seen (P.state p.now) c.now r events).control }
     ensures running { OnNone result (AreRunning (P.state p.now) c.now (model.members_in (model.session_in ss.now.sessions s.0))) }
     ensures calm { is_stop result ≡ false }
 {

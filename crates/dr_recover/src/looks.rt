@@ -3,26 +3,25 @@
 ghost use Rattle.std.specs.Prelude.{◌≡◌, ℕ, ◌&&◌, false, List, IsSome, IfSome};
 ghost use Rattle.dr_config.specs.Table.{StandsFor, place_of};
 ghost use Rattle.dr_model.specs.declared.event.Event.{Event};
-ghost use Rattle.dr_model.specs.Entries.{copies_from};
 ghost use Rattle.dr_model.specs.RecoveryPlans as plans;
 ghost use Rattle.dr_model.specs.Sessions as model;
-ghost use Rattle.dr_volume.specs.Plain.{plain};
 ghost use Rattle.dr_volume.specs.View.{Rest};
 ghost use Rattle.dr_flash.specs.Checks.{is_stop};
-ghost use Rattle.dr_flash.specs.Here.{seen};
+ghost use Rattle.dr_flash.specs.Heads.{targets_by};
+ghost use Rattle.dr_flash.specs.Here.{world_seen};
 ghost use Rattle.dr_incr.specs.Steps.{number_of};
 ghost use Rattle.dr_gmirror.specs.Orders.{AreReady};
 
 use dr_config::Config;
-use dr_flash::{is_part, pair_state};
+use dr_flash::pair_state;
 use dr_ids::{Refusal, SessionId, VolumeId};
 use dr_plant::Plant;
 use dr_session::Sessions;
-use dr_volume::{Fields, peek_fields};
+use dr_volume::{Head, peek_head, peek_head_at};
 
-/// Whether a volume with these fields is a revertible target of b.
-fn is_revertible_target(f: &Fields, b: VolumeId) -> bool
-    ensures { result ≡ (copies_from b.0 (plain f.now) && f.now.revertible) }
+/// Whether a volume with this head is a revertible target of b.
+fn is_revertible_target(f: &Head, b: VolumeId) -> bool
+    ensures { result ≡ (targets_by b.0 f.now && f.now.revertible) }
 {
     f.related && f.source.0 == b.0 && f.revertible
 }
@@ -31,12 +30,12 @@ fn is_revertible_target(f: &Fields, b: VolumeId) -> bool
 /// server is on.
 pub(crate) fn revertible_target<P: Plant>(p: &P, c: &Config, b: VolumeId) -> Option<VolumeId>
     requires stands { StandsFor c.now (P.state p.now) }
-    ensures target { (r : Rest) (events : List Event) → number_of result ≡ plans.revertible_target (seen (P.state p.now) c.now r events).control b.0 }
+    ensures target { (r : Rest) (events : List Event) → number_of result ≡ plans.revertible_target (world_seen (P.state p.now) c.now r events).control b.0 }
     ensures defined { IfSome result (λ t. IsSome (place_of c.now t.0)) }
 {
     for place in 0..c.volumes() {
         let u = c.volume_at(place).unwrap();
-        if is_revertible_target(&peek_fields(p, c, u), b) {
+        if is_revertible_target(&peek_head_at(p, c, place), b) {
             return Some(u);
         }
     }
@@ -53,12 +52,12 @@ pub(crate) fn untaken_refusal<P: Plant>(
 ) -> Option<Refusal>
     requires stands { StandsFor c.now (P.state p.now) }
     requires members { AreReady (P.state p.now) c.now (model.members_in (model.session_in ss.now.sessions s.0)) }
-    ensures refusal { (r : Rest) (events : List Event) → result ≡ plans.untaken_refusal (model.members_in (model.session_in ss.now.sessions s.0)) (seen (P.state p.now) c.now r events).control }
+    ensures refusal { (r : Rest) (events : List Event) → result ≡ plans.untaken_refusal (model.members_in (model.session_in ss.now.sessions s.0)) (world_seen (P.state p.now) c.now r events).control }
     ensures calm { is_stop result ≡ false }
 {
     for at in 0..ss.member_count(s) {
         let m = ss.member_at(s, at).unwrap();
-        if is_part(peek_fields(p, c, m.b).secondary) {
+        if peek_head(p, c, m.b).secondary.is_part() {
             return Some(pair_state(p, c, m.b));
         }
     }

@@ -1,6 +1,7 @@
 //! The recovery of a session.
 
 ghost use Rattle.std.specs.Prelude.{◌≡◌, ℕ, ◌≤◌, ◌+◌, ◌++◌, [], ◌∷◌, false, length, None, Some, IfOk, OnOk, OnErr};
+ghost use Rattle.dr_logic.specs.Counts.{Counted};
 ghost use Rattle.dr_ids.specs.declared.refusal.Refusal.{Refusal};
 ghost use Rattle.dr_model.specs.declared.event.Event.{Event};
 ghost use Rattle.dr_model.specs.ReadStops.{Ends};
@@ -10,9 +11,8 @@ ghost use Rattle.dr_model.specs.Sessions as model;
 ghost use Rattle.dr_model.specs.Sessions.{Session};
 ghost use Rattle.dr_volume.specs.View.{Rest};
 ghost use Rattle.dr_flash.specs.Checks.{is_stop};
-ghost use Rattle.dr_flash.specs.Faults.{Counted};
 ghost use Rattle.dr_flash.specs.Fit.{RelationsFit};
-ghost use Rattle.dr_flash.specs.Here.{seen, refusal_of, armed_in, IsAtRest};
+ghost use Rattle.dr_flash.specs.Here.{world_seen, refusal_of, armed_in, IsAtRest};
 ghost use Rattle.dr_coord.specs.Aside.{AsideFits};
 ghost use Rattle.dr_gmirror.specs.Exchange.{PlanEnds};
 ghost use Rattle.dr_gmirror.specs.Orders.{AreReady, with_sessions};
@@ -78,17 +78,17 @@ pub fn recover<P: Plant>(
     requires members { AreReady (P.state p.old) c.now (model.members_in (model.session_in ss.now.sessions s.0)) }
     requires few { length (model.members_in (model.session_in ss.now.sessions s.0)) ≤ 64 }
     requires room { length (model.members_in (model.session_in ss.now.sessions s.0)) + length (model.members_in (model.session_in ss.now.sessions s.0)) + 1 ≤ j.old.spare }
-    ensures carried { (r : Rest) → PlanEnds (armed_in (P.state p.old)) (seen (P.state p.old) c.now (with_sessions ss.now.sessions r) j.old.events)
-        (recover_behind (seen (P.state p.old) c.now (with_sessions ss.now.sessions r) j.old.events).control s.0 (model.members_in (model.session_in ss.now.sessions s.0))) (seen (P.state p.new) c.now (with_sessions ss.now.sessions r) j.new.events) (recovery_said result) }
-    ensures refused { (r : Rest) (why : Refusal) → plans.secondary_refusal (model.members_in (model.session_in ss.now.sessions s.0)) (seen (P.state p.old) c.now (with_sessions ss.now.sessions r) j.old.events).control ≡ Some why → (refusal_of result ≡ Some why) × (P.state p.new ≡ P.state p.old) × (j.new ≡ j.old) }
-    ensures ends { (r : Rest) → plans.secondary_refusal (model.members_in (model.session_in ss.now.sessions s.0)) (seen (P.state p.old) c.now (with_sessions ss.now.sessions r) j.old.events).control ≡ None
-        → Ends (armed_in (P.state p.old)) (seen (P.state p.new) c.now (with_sessions ss.now.sessions r) j.new.events) (refusal_of result) (seen (P.state p.old) c.now (with_sessions ss.now.sessions r) j.old.events) (plans.recover_entries s.0 (plans.decided_in s.0 (seen (P.state p.old) c.now (with_sessions ss.now.sessions r) j.old.events).control) (model.members_in (model.session_in ss.now.sessions s.0))) }
-    ensures decision { IfOk result (λ x. (r : Rest) → x.decision ≡ plans.decided_in s.0 (seen (P.state p.old) c.now (with_sessions ss.now.sessions r) j.old.events).control) }
-    ensures group { IfOk result (λ x. (r : Rest) → x.group ≡ plans.group_of (plans.decided_in s.0 (seen (P.state p.new) c.now (with_sessions ss.now.sessions r) j.new.events).control)) }
-    ensures keeps { (r : Rest) (x : Session) → model.session_in ss.now.sessions s.0 ≡ Some x → Sound (seen (P.state p.old) c.now (with_sessions ss.now.sessions r) j.old.events)
-        → RecoversAlike (seen (P.state p.old) c.now (with_sessions ss.now.sessions r) j.old.events) (seen (P.state p.new) c.now (with_sessions ss.now.sessions r) j.new.events) }
-    ensures recovers { IfOk result (λ y. (r : Rest) (x : Session) → model.session_in ss.now.sessions s.0 ≡ Some x → Sound (seen (P.state p.old) c.now (with_sessions ss.now.sessions r) j.old.events)
-        → IsRecovered (seen (P.state p.old) c.now (with_sessions ss.now.sessions r) j.old.events) (seen (P.state p.new) c.now (with_sessions ss.now.sessions r) j.new.events) s.0 y) }
+    ensures carried { (r : Rest) → PlanEnds (armed_in (P.state p.old)) (world_seen (P.state p.old) c.now (with_sessions ss.now.sessions r) j.old.events)
+        (recover_behind (world_seen (P.state p.old) c.now (with_sessions ss.now.sessions r) j.old.events).control s.0 (model.members_in (model.session_in ss.now.sessions s.0))) (world_seen (P.state p.new) c.now (with_sessions ss.now.sessions r) j.new.events) (recovery_said result) }
+    ensures refused { (r : Rest) (why : Refusal) → plans.secondary_refusal (model.members_in (model.session_in ss.now.sessions s.0)) (world_seen (P.state p.old) c.now (with_sessions ss.now.sessions r) j.old.events).control ≡ Some why → (refusal_of result ≡ Some why) × (P.state p.new ≡ P.state p.old) × (j.new ≡ j.old) }
+    ensures ends { (r : Rest) → plans.secondary_refusal (model.members_in (model.session_in ss.now.sessions s.0)) (world_seen (P.state p.old) c.now (with_sessions ss.now.sessions r) j.old.events).control ≡ None
+        → Ends (armed_in (P.state p.old)) (world_seen (P.state p.new) c.now (with_sessions ss.now.sessions r) j.new.events) (refusal_of result) (world_seen (P.state p.old) c.now (with_sessions ss.now.sessions r) j.old.events) (plans.recover_entries s.0 (plans.decided_in s.0 (world_seen (P.state p.old) c.now (with_sessions ss.now.sessions r) j.old.events).control) (model.members_in (model.session_in ss.now.sessions s.0))) }
+    ensures decision { IfOk result (λ x. (r : Rest) → x.decision ≡ plans.decided_in s.0 (world_seen (P.state p.old) c.now (with_sessions ss.now.sessions r) j.old.events).control) }
+    ensures group { IfOk result (λ x. (r : Rest) → x.group ≡ plans.group_of (plans.decided_in s.0 (world_seen (P.state p.new) c.now (with_sessions ss.now.sessions r) j.new.events).control)) }
+    ensures keeps { (r : Rest) (x : Session) → model.session_in ss.now.sessions s.0 ≡ Some x → Sound (world_seen (P.state p.old) c.now (with_sessions ss.now.sessions r) j.old.events)
+        → RecoversAlike (world_seen (P.state p.old) c.now (with_sessions ss.now.sessions r) j.old.events) (world_seen (P.state p.new) c.now (with_sessions ss.now.sessions r) j.new.events) }
+    ensures recovers { IfOk result (λ y. (r : Rest) (x : Session) → model.session_in ss.now.sessions s.0 ≡ Some x → Sound (world_seen (P.state p.old) c.now (with_sessions ss.now.sessions r) j.old.events)
+        → IsRecovered (world_seen (P.state p.old) c.now (with_sessions ss.now.sessions r) j.old.events) (world_seen (P.state p.new) c.now (with_sessions ss.now.sessions r) j.new.events) s.0 y) }
     ensures unchanged { is_stop (refusal_of result) ≡ false → OnErr result ((P.state p.new ≡ P.state p.old) × (j.new ≡ j.old)) }
     ensures rest { IsAtRest (P.state p.new) c.now }
     ensures fit { RelationsFit (P.state p.new) c.now }

@@ -1,6 +1,7 @@
 //! Targets are committed or reverted as was decided, member by member.
 
 ghost use Rattle.std.specs.Prelude.{◌≡◌, ℕ, ◌≤◌, ◌+◌, true, length, map, None, Some, IsSome, OnOk, OnErr, is_err, if◌then◌else◌};
+ghost use Rattle.dr_logic.specs.Counts.{Counted};
 ghost use Rattle.dr_config.specs.Table.{place_of};
 ghost use Rattle.dr_model.specs.RecoveryPlans.{settle_on};
 ghost use Rattle.dr_model.specs.Refusals.{stopped};
@@ -10,9 +11,8 @@ ghost use Rattle.dr_volume.specs.Plain.{plain};
 ghost use Rattle.dr_volume.specs.Update.{OthersStay};
 ghost use Rattle.dr_volume.specs.View.{Rest, volume_seen};
 ghost use Rattle.dr_flash.specs.Checks.{is_stop};
-ghost use Rattle.dr_flash.specs.Faults.{Counted};
 ghost use Rattle.dr_flash.specs.Fit.{RelationsFit};
-ghost use Rattle.dr_flash.specs.Here.{seen, refusal_of, armed_in, IsAtRest};
+ghost use Rattle.dr_flash.specs.Here.{world_seen, refusal_of, armed_in, IsAtRest};
 ghost use Rattle.dr_flash.specs.Turns.{Advances, Halts, Leads, Fails};
 ghost use Rattle.dr_coord.specs.Aside.{AsideFits};
 ghost use Rattle.dr_gmirror.specs.Orders.{AreReady, AreRunning};
@@ -86,8 +86,8 @@ pub(crate) fn settle_member<P: Plant>(
     requires target { IsSome (place_of c.now m.now.c.0) }
     requires running { (P.state p.old).on (volume_seen (P.state p.old) c.now m.now.c.0).server ≡ true }
     requires room { 2 ≤ j.old.spare }
-    ensures advances { OnOk result ((r : Rest) → Advances (seen (P.state p.old) c.now r j.old.events) (settle_on s.0 decided m.now) (seen (P.state p.new) c.now r j.new.events)) }
-    ensures halts { OnErr result ((r : Rest) → Halts (armed_in (P.state p.old)) (seen (P.state p.old) c.now r j.old.events) (settle_on s.0 decided m.now) (seen (P.state p.new) c.now r j.new.events) (refusal_of result)) }
+    ensures advances { OnOk result ((r : Rest) → Advances (world_seen (P.state p.old) c.now r j.old.events) (settle_on s.0 decided m.now) (world_seen (P.state p.new) c.now r j.new.events)) }
+    ensures halts { OnErr result ((r : Rest) → Halts (armed_in (P.state p.old)) (world_seen (P.state p.old) c.now r j.old.events) (settle_on s.0 decided m.now) (world_seen (P.state p.new) c.now r j.new.events) (refusal_of result)) }
     ensures refused { OnErr result (refusal_of result ≡ Some (stopped (volume_seen (P.state p.old) c.now m.now.c.0).server)) }
     ensures rest { IsAtRest (P.state p.new) c.now }
     ensures fit { RelationsFit (P.state p.new) c.now }
@@ -121,8 +121,8 @@ pub(crate) fn settle_all<P: Plant>(
     requires members { AreReady (P.state p.old) c.now (model.members_in (model.session_in ss.now.sessions s.0)) }
     requires running { AreRunning (P.state p.old) c.now (model.members_in (model.session_in ss.now.sessions s.0)) }
     requires room { length (model.members_in (model.session_in ss.now.sessions s.0)) + 1 ≤ j.old.spare }
-    ensures leads { OnOk result ((r : Rest) → Leads (seen (P.state p.old) c.now r j.old.events) (map (settle_on s.0 decided) (model.members_in (model.session_in ss.now.sessions s.0))) (seen (P.state p.new) c.now r j.new.events)) }
-    ensures fails { OnErr result ((r : Rest) → Fails (armed_in (P.state p.old)) (seen (P.state p.old) c.now r j.old.events) (map (settle_on s.0 decided) (model.members_in (model.session_in ss.now.sessions s.0))) (seen (P.state p.new) c.now r j.new.events) (refusal_of result)) }
+    ensures leads { OnOk result ((r : Rest) → Leads (world_seen (P.state p.old) c.now r j.old.events) (map (settle_on s.0 decided) (model.members_in (model.session_in ss.now.sessions s.0))) (world_seen (P.state p.new) c.now r j.new.events)) }
+    ensures fails { OnErr result ((r : Rest) → Fails (armed_in (P.state p.old)) (world_seen (P.state p.old) c.now r j.old.events) (map (settle_on s.0 decided) (model.members_in (model.session_in ss.now.sessions s.0))) (world_seen (P.state p.new) c.now r j.new.events) (refusal_of result)) }
     ensures stops { OnErr result (is_stop (refusal_of result) ≡ true) }
     ensures rest { IsAtRest (P.state p.new) c.now }
     ensures fit { RelationsFit (P.state p.new) c.now }

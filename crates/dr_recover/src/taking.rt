@@ -1,6 +1,7 @@
 //! Secondaries are taken over, member by member.
 
 ghost use Rattle.std.specs.Prelude.{◌≡◌, ℕ, ◌≤◌, ◌+◌, true, length, map, None, Some, IsSome, OnOk, OnErr, is_err};
+ghost use Rattle.dr_logic.specs.Counts.{Counted};
 ghost use Rattle.dr_config.specs.Table.{place_of};
 ghost use Rattle.dr_model.specs.RecoveryPlans.{take_over_on};
 ghost use Rattle.dr_model.specs.Refusals.{stopped};
@@ -8,21 +9,19 @@ ghost use Rattle.dr_model.specs.Sessions as model;
 ghost use Rattle.dr_volume.specs.Update.{OthersStay};
 ghost use Rattle.dr_volume.specs.View.{Rest, volume_seen};
 ghost use Rattle.dr_flash.specs.Checks.{is_stop};
-ghost use Rattle.dr_flash.specs.Faults.{Counted};
 ghost use Rattle.dr_flash.specs.Fit.{RelationsFit};
-ghost use Rattle.dr_flash.specs.Here.{seen, refusal_of, armed_in, IsAtRest};
+ghost use Rattle.dr_flash.specs.Here.{world_seen, refusal_of, armed_in, IsAtRest};
 ghost use Rattle.dr_flash.specs.Turns.{Advances, Halts, Leads, Fails};
 ghost use Rattle.dr_coord.specs.Aside.{AsideFits};
 ghost use Rattle.dr_gmirror.specs.Orders.{AreReady, AreRunning};
 
 use dr_config::Config;
-use dr_flash::is_part;
 use dr_gcopy::take_over;
 use dr_ids::{Member, Refusal, SessionId};
 use dr_model::Journal;
 use dr_plant::Plant;
 use dr_session::Sessions;
-use dr_volume::peek_fields;
+use dr_volume::peek_head;
 
 /// The secondary of a member, whose server is on, becomes a Suspended primary of its primary. Where it is no secondary any
 /// more, nothing happens. Fails where the server stops in the move or goes off at a read. The journal needs room for two
@@ -39,8 +38,8 @@ fn take_over_member<P: Plant>(
     requires secondary { IsSome (place_of c.now m.now.b.0) }
     requires running { (P.state p.old).on (volume_seen (P.state p.old) c.now m.now.b.0).server ≡ true }
     requires room { 2 ≤ j.old.spare }
-    ensures advances { OnOk result ((r : Rest) → Advances (seen (P.state p.old) c.now r j.old.events) (take_over_on m.now) (seen (P.state p.new) c.now r j.new.events)) }
-    ensures halts { OnErr result ((r : Rest) → Halts (armed_in (P.state p.old)) (seen (P.state p.old) c.now r j.old.events) (take_over_on m.now) (seen (P.state p.new) c.now r j.new.events) (refusal_of result)) }
+    ensures advances { OnOk result ((r : Rest) → Advances (world_seen (P.state p.old) c.now r j.old.events) (take_over_on m.now) (world_seen (P.state p.new) c.now r j.new.events)) }
+    ensures halts { OnErr result ((r : Rest) → Halts (armed_in (P.state p.old)) (world_seen (P.state p.old) c.now r j.old.events) (take_over_on m.now) (world_seen (P.state p.new) c.now r j.new.events) (refusal_of result)) }
     ensures refused { OnErr result (refusal_of result ≡ Some (stopped (volume_seen (P.state p.old) c.now m.now.b.0).server)) }
     ensures rest { IsAtRest (P.state p.new) c.now }
     ensures fit { RelationsFit (P.state p.new) c.now }
@@ -53,7 +52,7 @@ fn take_over_member<P: Plant>(
     ensures room_left { OnOk result (j.old.spare ≤ j.new.spare + 1) }
     ensures spare { length j.new.events + j.new.spare ≡ length j.old.events + j.old.spare }
 {
-    if !is_part(peek_fields(p, c, m.b).secondary) {
+    if !peek_head(p, c, m.b).secondary.is_part() {
         return Ok(());
     }
     take_over(p, c, j, m.b)
@@ -75,8 +74,8 @@ pub(crate) fn take_over_all<P: Plant>(
     requires members { AreReady (P.state p.old) c.now (model.members_in (model.session_in ss.now.sessions s.0)) }
     requires running { AreRunning (P.state p.old) c.now (model.members_in (model.session_in ss.now.sessions s.0)) }
     requires room { length (model.members_in (model.session_in ss.now.sessions s.0)) + 1 ≤ j.old.spare }
-    ensures leads { OnOk result ((r : Rest) → Leads (seen (P.state p.old) c.now r j.old.events) (map take_over_on (model.members_in (model.session_in ss.now.sessions s.0))) (seen (P.state p.new) c.now r j.new.events)) }
-    ensures fails { OnErr result ((r : Rest) → Fails (armed_in (P.state p.old)) (seen (P.state p.old) c.now r j.old.events) (map take_over_on (model.members_in (model.session_in ss.now.sessions s.0))) (seen (P.state p.new) c.now r j.new.events) (refusal_of result)) }
+    ensures leads { OnOk result ((r : Rest) → Leads (world_seen (P.state p.old) c.now r j.old.events) (map take_over_on (model.members_in (model.session_in ss.now.sessions s.0))) (world_seen (P.state p.new) c.now r j.new.events)) }
+    ensures fails { OnErr result ((r : Rest) → Fails (armed_in (P.state p.old)) (world_seen (P.state p.old) c.now r j.old.events) (map take_over_on (model.members_in (model.session_in ss.now.sessions s.0))) (world_seen (P.state p.new) c.now r j.new.events) (refusal_of result)) }
     ensures stops { OnErr result (is_stop (refusal_of result) ≡ true) }
     ensures rest { IsAtRest (P.state p.new) c.now }
     ensures fit { RelationsFit (P.state p.new) c.now }

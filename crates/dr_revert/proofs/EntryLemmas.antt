@@ -5,7 +5,7 @@ use Rattle.dr_ids.specs.declared.names.Member.{Member}
 use Rattle.dr_ids.specs.declared.names.SessionId.{SessionId}
 use Rattle.dr_ids.specs.declared.refusal.Refusal.{Refusal}
 use Rattle.dr_plant.specs.State.{PlantState}
-use Rattle.dr_config.specs.Table.{Table}
+use Rattle.dr_config.specs.Table.{ConfigTable}
 use Rattle.dr_model.specs.declared.event.Event.{Event}
 use Rattle.dr_model.specs.Layout.{Fields}
 use Rattle.dr_model.specs.SessionEntries.{is_flashed, is_committed, flash_on, commit_on, revert_on}
@@ -13,7 +13,7 @@ use Rattle.dr_model.specs.Control.{Control, World}
 use Rattle.dr_model.specs.Carry.{Make, Pass, Do, Entry}
 use Rattle.dr_model.specs.PairEntries.{refuse_if}
 use Rattle.dr_volume.specs.View.{Rest, volume_seen}
-use Rattle.dr_flash.specs.Here.{seen}
+use Rattle.dr_flash.specs.Here.{world_seen}
 use Rattle.dr_flash.specs.Turns.{Advances, Halts, Leads, Fails}
 use Rattle.dr_coord.proofs.ActLemmas.{one-checked}
 use Rattle.dr_revert.specs.declared.fates.Fate.{Fate}
@@ -55,9 +55,6 @@ unless-some P false x off h = h
 pub none-unless : (b : Bool) (x : Fate) → b ≡ true → ◌≡◌ {A = Option Fate} (if b then None else Some x) None
 none-unless b x is = ap {B = Option Fate} (λ (c : Bool). if c then None else Some x) is
 
-pub if-some : {A : Type 0} (P : A → Type 0) (o : Option A) (a : A) → o ≡ Some a → IfSome o P → P a
-if-some P o a is h = subst (λ o. IfSome o P) is h
-
 -- one of two, or nothing
 pub next-either : (v : ℕ) (b d : Bool) (x y : Fate) → (if b then Do (Make (move_of v x)) else if d then Do (Make (move_of v y)) else Pass) ≡ next_for v (if b then Some x else if d then Some y else None)
 next-either v true d x y = refl
@@ -77,23 +74,19 @@ pub or-left : (a b : Bool) → (a || b) ≡ true → a ≡ false → b ≡ true
 or-left true b h off = absurd cc
 or-left false b h off = h
 
-pub and-first : (a b : Bool) → (a && b) ≡ true → a ≡ true
-and-first true b h = refl
-and-first false b h = h
-
 -- the entries of a member's target, from what it becomes
-module _ (s : PlantState) (t : Table) (r : Rest) (events : List Event) (m : Member) (k : SessionId) (n : ℕ) (o : Option Fate) (f : Fields) (is : f ≡ (volume_seen s t m.c.0).fields) where
-  pub flash-next : o ≡ (if is_flashed n f then None else Some (fate.Flash m.b m.a k n)) → flash_on k.0 m.a.0 m.b.0 m.c.0 n (seen s t r events).control ≡ next_for m.c.0 o
+module _ (s : PlantState) (t : ConfigTable) (r : Rest) (events : List Event) (m : Member) (k : SessionId) (n : ℕ) (o : Option Fate) (f : Fields) (is : f ≡ (volume_seen s t m.c.0).fields) where
+  pub flash-next : o ≡ (if is_flashed n f then None else Some (fate.Flash m.b m.a k n)) → flash_on k.0 m.a.0 m.b.0 m.c.0 n (world_seen s t r events).control ≡ next_for m.c.0 o
   flash-next so =
       next-unless m.c.0 (is_flashed n (volume_seen s t m.c.0).fields) (fate.Flash m.b m.a k n)
       ∙ ap (next_for m.c.0) (sym (so ∙ ap (λ f. if is_flashed n f then None else Some (fate.Flash m.b m.a k n)) is))
 
-  pub commit-next : o ≡ (if is_committed n f then None else Some (fate.Commit m.a k n)) → commit_on k.0 m.a.0 m.c.0 n (seen s t r events).control ≡ next_for m.c.0 o
+  pub commit-next : o ≡ (if is_committed n f then None else Some (fate.Commit m.a k n)) → commit_on k.0 m.a.0 m.c.0 n (world_seen s t r events).control ≡ next_for m.c.0 o
   commit-next so =
       next-unless m.c.0 (is_committed n (volume_seen s t m.c.0).fields) (fate.Commit m.a k n)
       ∙ ap (next_for m.c.0) (sym (so ∙ ap (λ f. if is_committed n f then None else Some (fate.Commit m.a k n)) is))
 
-  pub revert-next : o ≡ (if is_flashed n f then Some (fate.Revert m.a k n) else if nat_lt f.floor n then Some (fate.Raise n) else None) → revert_on k.0 m.a.0 m.c.0 n (seen s t r events).control ≡ next_for m.c.0 o
+  pub revert-next : o ≡ (if is_flashed n f then Some (fate.Revert m.a k n) else if nat_lt f.floor n then Some (fate.Raise n) else None) → revert_on k.0 m.a.0 m.c.0 n (world_seen s t r events).control ≡ next_for m.c.0 o
   revert-next so =
       next-either m.c.0 (is_flashed n (volume_seen s t m.c.0).fields) (nat_lt (volume_seen s t m.c.0).fields.floor n) (fate.Revert m.a k n) (fate.Raise n)
       ∙ ap (next_for m.c.0) (sym (so ∙ ap (λ (f : Fields). if is_flashed n f then Some (fate.Revert m.a k n) else if nat_lt f.floor n then Some (fate.Raise n) else None) is))

@@ -2,10 +2,10 @@
 use Rattle.std.proofs.Common.{ℕ, ◌≡◌, ◌≤◌, ◌+◌, Bool, true, false, not, ◌&&◌, arith, List, length, refl, sym, ◌∙◌, ap, subst, None}
 use Rattle.std.specs.Prelude.{max}
 use Rattle.std.specs.FinSet.{contains, difference}
+use Rattle.std.proofs.lemmas.Bool.{not-true, and_parts, true_from_ne_false}
 use Rattle.dr_bits.specs.Tracks.{Tracks}
-use Rattle.dr_bits.proofs.Laws.{contains-minus_tracks}
 use Rattle.dr_plant.specs.State.{PlantState}
-use Rattle.dr_config.specs.Table.{Table}
+use Rattle.dr_config.specs.Table.{ConfigTable}
 use Rattle.dr_model.specs.declared.event.Event.{Event}
 use Rattle.dr_model.specs.Layout.{Fields}
 use Rattle.dr_model.specs.Lawful.{Low, HasSets, IsLawful, NoRelation}
@@ -15,11 +15,11 @@ use Rattle.dr_model.specs.Moves.{Flash, Commit, Revert, RaiseFloor}
 use Rattle.dr_model.specs.Carry.{Turn, turn, update}
 use Rattle.dr_volume.specs.View.{Rest, volume_seen}
 use Rattle.dr_flash.specs.Fit.{RelationsFit}
-use Rattle.dr_flash.specs.Here.{seen}
+use Rattle.dr_flash.specs.Here.{world_seen}
 use Rattle.dr_flash.specs.Told.{events_of}
 use Rattle.dr_flash.specs.Turns.{made_by, room_of}
 use Rattle.dr_flash.specs.declared.told.Telling.{Telling}
-use Rattle.dr_flash.proofs.FieldLemmas.{Apart, low-empty, covers-all}
+use Rattle.dr_flash.proofs.FieldLemmas.{Apart, covers-all}
 use Rattle.dr_flash.proofs.FitLemmas.{fit-kept}
 use Rattle.dr_flash.proofs.MoveLemmas.{MoveFits}
 use Rattle.dr_flash.proofs.ReadLemmas.{on-running}
@@ -28,79 +28,32 @@ use Rattle.dr_coord.specs.Aside.{KeepsAside, AsideFits}
 use Rattle.dr_revert.specs.declared.fates.Fate.{Fate}
 use Rattle.dr_revert.specs.declared.fates.Fate.TheVariants as fate
 use Rattle.dr_revert.specs.Fates.{move_of, may_become, fields_after, told_of}
+use Rattle.dr_coord.proofs.ChangeLemmas.{max-next}
+use Rattle.dr_model.proofs.LawfulLemmas.{low-empty}
+use Rattle.dr_logic.proofs.Sets.{in_difference}
+use Rattle.dr_facts.proofs.Tracks.{from_difference}
+use Rattle.dr_facts.proofs.Lawful.{lawful-flashed, lawful-committed, lawful-reverted, lawful-floor}
 
 abbrev pub telling_of : ℕ → Fate → Telling
 telling_of v x = record { done = told_of v x; in_stop = told_of v x; landed = 0 }
 
-both : (a b : Bool) → (a && b) ≡ true → (a ≡ true) × (b ≡ true)
-both true true h = (refl, refl)
-both true false h = absurd cc
-both false b h = absurd cc
-
-off-by : (b : Bool) → not b ≡ true → b ≡ false
-off-by true h = absurd cc
-off-by false h = refl
-
--- what is in a difference
-pub minus-both : (a b : Tracks) (q : ℕ) → contains (difference a b) q ≡ true → (contains a q ≡ true) × (contains b q ≡ false)
-minus-both a b q h = let x = both (contains a q) (not (contains b q)) (sym (contains-minus_tracks a b q) ∙ h) in (x.0, off-by (contains b q) x.1)
-
-low-minus : (n : ℕ) (a b : Tracks) → Low n a → Low n (difference a b)
-low-minus n a b low t h = low t (minus-both a b t h).0
-
 -- what is revertible is a target
-never-none : (f : Fields) → f.revertible ≡ true → NoRelation f → ⊥
-never-none f is none = let e : true ≡ false = sym is ∙ none.11 in cc
+is-target : {n : ℕ} (f : Fields) → f.revertible ≡ true → IsLawful n f → f.related ≡ true
+is-target f is law = true_from_ne_false f.related (λ absent. never-none f is (law.relation absent))
+  where
+    never-none : (f : Fields) → f.revertible ≡ true → NoRelation f → ⊥
+    never-none f is none = let e : true ≡ false = sym is ∙ none.11 in cc
 
 -- the fields are lawful
 fate-lawful : (n : ℕ) (x : Fate) (f : Fields) → may_become x f ≡ true → IsLawful n f → IsLawful n (fields_after x f)
-fate-lawful n (fate.Flash u a k m) f may lawful = let sets : HasSets n f = lawful.sets in record {
-  sets = record {
-    out_of_sync_low = sets.out_of_sync_low;
-    change_recording_low = sets.change_recording_low;
-    own_low = low-minus n (difference f.own f.source_changes) f.target_changes (low-minus n f.own f.source_changes sets.own_low);
-    previous_own_low = sets.own_low;
-    source_changes_low = sets.source_changes_low;
-    target_changes_low = sets.target_changes_low;
-    blank_low = sets.blank_low;
-  };
-  primary = lawful.primary;
-  secondary = lawful.secondary;
-  relation = λ absent. absurd (let e : true ≡ false = sym may ∙ absent in cc);
-}
-fate-lawful n (fate.Commit a k m) f may lawful = let sets : HasSets n f = lawful.sets in record {
-  sets = record {
-    out_of_sync_low = sets.out_of_sync_low;
-    change_recording_low = sets.change_recording_low;
-    own_low = sets.own_low;
-    previous_own_low = low-empty n;
-    source_changes_low = low-empty n;
-    target_changes_low = low-empty n;
-    blank_low = sets.blank_low;
-  };
-  primary = lawful.primary;
-  secondary = lawful.secondary;
-  relation = λ absent. absurd (never-none f may (lawful.relation absent));
-}
-fate-lawful n (fate.Revert a k m) f may lawful = let sets : HasSets n f = lawful.sets in record {
-  sets = record {
-    out_of_sync_low = sets.out_of_sync_low;
-    change_recording_low = sets.change_recording_low;
-    own_low = sets.previous_own_low;
-    previous_own_low = low-empty n;
-    source_changes_low = sets.source_changes_low;
-    target_changes_low = sets.target_changes_low;
-    blank_low = sets.blank_low;
-  };
-  primary = lawful.primary;
-  secondary = lawful.secondary;
-  relation = λ absent. absurd (never-none f may (lawful.relation absent));
-}
-fate-lawful n (fate.Raise m) f may lawful = record { sets = lawful.sets; primary = lawful.primary; secondary = lawful.secondary; relation = lawful.relation }
+fate-lawful n (fate.Flash u a k m) f may lawful = lawful-flashed n f lawful k.0 m may
+fate-lawful n (fate.Commit a k m) f may lawful = lawful-committed n f lawful m (is-target f may lawful)
+fate-lawful n (fate.Revert a k m) f may lawful = lawful-reverted n f lawful m (is-target f may lawful)
+fate-lawful n (fate.Raise m) f may lawful = lawful-floor n f lawful m
 
 -- what a target holds isn't blank, and so with what it keeps aside
 fate-apart : (x : Fate) (f : Fields) → may_become x f ≡ true → Apart f.own f.blank → KeepsAside f → Apart (fields_after x f).own (fields_after x f).blank
-fate-apart (fate.Flash u a k m) f may apart keeps t h = apart t (minus-both f.own f.source_changes t (minus-both (difference f.own f.source_changes) f.target_changes t h).0).0
+fate-apart (fate.Flash u a k m) f may apart keeps t h = apart t (from_difference f.own f.source_changes t (from_difference (difference f.own f.source_changes) f.target_changes t h).0).0
 fate-apart (fate.Commit a k m) f may apart keeps t h = apart t h
 fate-apart (fate.Revert a k m) f may apart keeps t h = keeps may t h
 fate-apart (fate.Raise m) f may apart keeps t h = apart t h
@@ -112,7 +65,7 @@ fate-aside (fate.Revert a k m) f apart keeps = λ is. absurd (let e : false ≡ 
 fate-aside (fate.Raise m) f apart keeps = keeps
 
 -- and the relationships are as they were
-module _ (s : PlantState) (t : Table) (v : ℕ) (fit : RelationsFit s t) (aside : AsideFits s t) where
+module _ (s : PlantState) (t : ConfigTable) (v : ℕ) (fit : RelationsFit s t) (aside : AsideFits s t) where
   pub fate-fits : (x : Fate) (f : Fields) → f ≡ fields_after x (volume_seen s t v).fields → may_become x (volume_seen s t v).fields ≡ true → IsLawful (volume_seen s t v).tracks (volume_seen s t v).fields → MoveFits s t v f None
   fate-fits x f is may lawful = subst (λ f. MoveFits s t v f None) (sym is) (fits x may lawful)
     where
@@ -139,26 +92,26 @@ module _ (s : PlantState) (t : Table) (v : ℕ) (fit : RelationsFit s t) (aside 
       }
 
 -- the turn of the machine
-turn-fates : (s : PlantState) (t : Table) (r : Rest) (events : List Event) (v : ℕ) (x : Fate) → s.on (volume_seen s t v).server ≡ true
-    → turn (seen s t r events) (move_of v x) ≡ made_by (update (seen s t r events) v (fields_after x (volume_seen s t v).fields) None) (volume_seen s t v).server (telling_of v x)
+turn-fates : (s : PlantState) (t : ConfigTable) (r : Rest) (events : List Event) (v : ℕ) (x : Fate) → s.on (volume_seen s t v).server ≡ true
+    → turn (world_seen s t r events) (move_of v x) ≡ made_by (update (world_seen s t r events) v (fields_after x (volume_seen s t v).fields) None) (volume_seen s t v).server (telling_of v x)
 turn-fates s t r events v (fate.Flash u a k n) on =
-    turn-made (seen s t r events) (Flash v u.0 a.0 k.0 n) (telling_of v (fate.Flash u a k n)) (flashed k.0 n (volume_seen s t v).fields) None (on-running s (volume_seen s t v).server on)
+    turn-made (world_seen s t r events) (Flash v u.0 a.0 k.0 n) (telling_of v (fate.Flash u a k n)) (flashed k.0 n (volume_seen s t v).fields) None (on-running s (volume_seen s t v).server on)
     (record { done = refl; in_stop = refl; landed = refl; settles = λ ps. refl; settles_in_stop = λ ps. refl }) refl refl
 turn-fates s t r events v (fate.Commit a k n) on =
-    turn-made (seen s t r events) (Commit v a.0 k.0 n) (telling_of v (fate.Commit a k n)) (committed n (volume_seen s t v).fields) None (on-running s (volume_seen s t v).server on)
+    turn-made (world_seen s t r events) (Commit v a.0 k.0 n) (telling_of v (fate.Commit a k n)) (committed n (volume_seen s t v).fields) None (on-running s (volume_seen s t v).server on)
     (record { done = refl; in_stop = refl; landed = refl; settles = λ ps. refl; settles_in_stop = λ ps. refl }) refl refl
 turn-fates s t r events v (fate.Revert a k n) on =
-    turn-made (seen s t r events) (Revert v a.0 k.0 n) (telling_of v (fate.Revert a k n)) (reverted n (volume_seen s t v).fields) None (on-running s (volume_seen s t v).server on)
+    turn-made (world_seen s t r events) (Revert v a.0 k.0 n) (telling_of v (fate.Revert a k n)) (reverted n (volume_seen s t v).fields) None (on-running s (volume_seen s t v).server on)
     (record { done = refl; in_stop = refl; landed = refl; settles = λ ps. refl; settles_in_stop = λ ps. refl }) refl refl
 turn-fates s t r events v (fate.Raise n) on =
-    turn-made (seen s t r events) (RaiseFloor v n) (telling_of v (fate.Raise n)) (with_floor n (volume_seen s t v).fields) None (on-running s (volume_seen s t v).server on)
+    turn-made (world_seen s t r events) (RaiseFloor v n) (telling_of v (fate.Raise n)) (with_floor n (volume_seen s t v).fields) None (on-running s (volume_seen s t v).server on)
     (record { done = refl; in_stop = refl; landed = refl; settles = λ ps. refl; settles_in_stop = λ ps. refl }) refl refl
 
 -- from what the call says of the update
-pub turn-from : (s : PlantState) (t : Table) (v : ℕ) (x : Fate) (f : Fields) (told : Telling) → s.on (volume_seen s t v).server ≡ true → f ≡ fields_after x (volume_seen s t v).fields → told ≡ telling_of v x
-    → (r : Rest) (events : List Event) (is : Turn) → made_by (update (seen s t r events) v f None) (volume_seen s t v).server told ≡ is → turn (seen s t r events) (move_of v x) ≡ is
+pub turn-from : (s : PlantState) (t : ConfigTable) (v : ℕ) (x : Fate) (f : Fields) (told : Telling) → s.on (volume_seen s t v).server ≡ true → f ≡ fields_after x (volume_seen s t v).fields → told ≡ telling_of v x
+    → (r : Rest) (events : List Event) (is : Turn) → made_by (update (world_seen s t r events) v f None) (volume_seen s t v).server told ≡ is → turn (world_seen s t r events) (move_of v x) ≡ is
 turn-from s t v x f told on next tells r events is made =
-    turn-fates s t r events v x on ∙ (λ i. made_by (update (seen s t r events) v (sym next i) None) (volume_seen s t v).server (sym tells i)) ∙ made
+    turn-fates s t r events v x on ∙ (λ i. made_by (update (world_seen s t r events) v (sym next i) None) (volume_seen s t v).server (sym tells i)) ∙ made
 
 -- how much is told
 abbrev pub count_of : Fate → ℕ
@@ -178,9 +131,6 @@ count-low (fate.Flash u a k n) = omega arith
 count-low (fate.Commit a k n) = omega arith
 count-low (fate.Revert a k n) = omega arith
 count-low (fate.Raise n) = omega arith
-
-max-next : (a : ℕ) → max a (a + 1) ≡ a + 1
-max-next a = grind (arith)
 
 pub room-is : (v : ℕ) (x : Fate) → room_of (telling_of v x) ≡ count_of x + 1
 room-is v x = max-next (length (events_of (told_of v x))) ∙ ap (λ n. n + 1) (count-is v x)

@@ -2,10 +2,11 @@
 use Rattle.std.proofs.Common.{ℕ, List, ◌≡◌, ◌≢◌, Bool, true, false, not, ◌&&◌, refl, sym, ◌∙◌, ap, None}
 use Rattle.std.specs.Prelude.{if◌then◌else◌}
 use Rattle.std.specs.FinSet.{contains, difference}
+use Rattle.std.proofs.lemmas.Bool.{and_parts}
+use Rattle.dr_logic.specs.Bytes.{zeros}
 use Rattle.dr_bits.specs.Tracks.{Tracks}
 use Rattle.dr_plant.specs.State.{PlantState}
-use Rattle.dr_config.specs.Table.{Table}
-use Rattle.dr_model.specs.Contents.{zeros}
+use Rattle.dr_config.specs.Table.{ConfigTable}
 use Rattle.dr_model.specs.Layout.{Fields}
 use Rattle.dr_model.specs.Lawful.{IsLawful, NoRelation}
 use Rattle.dr_model.specs.Control.{Volume}
@@ -18,21 +19,21 @@ use Rattle.dr_volume.specs.View.{volume_seen, track_seen}
 use Rattle.dr_flash.specs.Fit.{RelationsFit}
 use Rattle.dr_flash.specs.Views.{view_seen}
 use Rattle.dr_incr.specs.Copies.{HoldsUnchanged}
-use Rattle.dr_incr.proofs.TargetLemmas.{TargetOf, target-of, both}
+use Rattle.dr_incr.proofs.TargetLemmas.{TargetOf, target-of}
 use Rattle.dr_coord.specs.Aside.{KeepsAside}
 use Rattle.dr_revert.specs.Views.{previous_seen, set_back}
-use Rattle.dr_revert.proofs.FateLemmas.{minus-both}
+use Rattle.dr_facts.proofs.Tracks.{from_difference}
 
 -- what a target with that source reads as, where it holds these tracks
-abbrev track_with : PlantState → Table → ℕ → Bool → ℕ → Tracks → ℕ → List ℕ
+abbrev track_with : PlantState → ConfigTable → ℕ → Bool → ℕ → Tracks → ℕ → List ℕ
 track_with s c t related source own k = if related && not (contains own k) then track_seen s c source k else track_seen s c t k
 
 -- a target is none of its own, nor is its source a target
-pub source-apart : (s : PlantState) (c : Table) (t : ℕ) → RelationsFit s c → (volume_seen s c t).fields.related ≡ true → (volume_seen s c t).fields.source ≢ t
+pub source-apart : (s : PlantState) (c : ConfigTable) (t : ℕ) → RelationsFit s c → (volume_seen s c t).fields.related ≡ true → (volume_seen s c t).fields.source ≢ t
 source-apart s c t fit related is =
     let e : true ≡ false = sym related ∙ ap (λ z. (volume_seen s c z).fields.related) (sym is) ∙ (fit.source t related).plain in cc
 
-module _ (s u : PlantState) (c : Table) (t : ℕ) (g : Fields) (is : IsMoved s u c t g None) (others : OthersStay s u c t) (fit : RelationsFit s c) (related : (volume_seen s c t).fields.related ≡ true) where
+module _ (s u : PlantState) (c : ConfigTable) (t : ℕ) (g : Fields) (is : IsMoved s u c t g None) (others : OthersStay s u c t) (fit : RelationsFit s c) (related : (volume_seen s c t).fields.related ≡ true) where
   abbrev f : Fields
   f = (volume_seen s c t).fields
 
@@ -50,7 +51,7 @@ module _ (s u : PlantState) (c : Table) (t : ℕ) (g : Fields) (is : IsMoved s u
         ∙ sym (ap (λ b. if b && false then track_seen s c f.source k else track_seen s c t k) related)
   ] refl
 
-module _ (s u : PlantState) (c : Table) (t : ℕ) (fit : RelationsFit s c) (related : (volume_seen s c t).fields.related ≡ true) (others : OthersStay s u c t) where
+module _ (s u : PlantState) (c : ConfigTable) (t : ℕ) (fit : RelationsFit s c) (related : (volume_seen s c t).fields.related ≡ true) (others : OthersStay s u c t) where
   abbrev old : Fields
   old = (volume_seen s c t).fields
 
@@ -78,22 +79,22 @@ module _ (s u : PlantState) (c : Table) (t : ℕ) (fit : RelationsFit s c) (rela
       own = difference (difference old.own old.source_changes) old.target_changes
 
       to : TargetOf s c v t
-      to = target-of s c v t fit (both (copies_from v old) _ may).0
+      to = target-of s c v t fit (and_parts (copies_from v old) _ may).0
 
       recorded : old.recorded ≡ true
-      recorded = (both old.recorded _ (both (copies_from v old) _ may).1).0
+      recorded = (and_parts old.recorded _ (and_parts (copies_from v old) _ may).1).0
 
       not-true : (b : Bool) → not b ≡ true → b ≡ false
       not-true true h = absurd cc
       not-true false h = refl
 
       forward : old.reversing ≡ false
-      forward = not-true old.reversing (both (not old.reversing) _ (both old.inhibited _ (both old.recorded _ (both (copies_from v old) _ may).1).1).1).0
+      forward = not-true old.reversing (and_parts (not old.reversing) _ (and_parts old.inhibited _ (and_parts old.recorded _ (and_parts (copies_from v old) _ may).1).1).1).0
 
       held : contains own q ≡ true → (contains old.own q ≡ true) × (contains old.source_changes q ≡ false) × (contains old.target_changes q ≡ false)
       held h =
-          let x = minus-both (difference old.own old.source_changes) old.target_changes q h in
-          let y = minus-both old.own old.source_changes q x.0 in
+          let x = from_difference (difference old.own old.source_changes) old.target_changes q h in
+          let y = from_difference old.own old.source_changes q x.0 in
           (y.0, y.1, x.1)
 
   -- a commit changes nothing of what it shows
@@ -116,5 +117,5 @@ revertible-related n f lawful is = elim f.related as (λ b. f.related ≡ b → 
 ] refl
 
 -- where nothing happened, all is shown as it was
-pub same-view : (s u : PlantState) (c : Table) (t : ℕ) → u ≡ s → (q : ℕ) → view_seen u c t q ≡ view_seen s c t q
+pub same-view : (s u : PlantState) (c : ConfigTable) (t : ℕ) → u ≡ s → (q : ℕ) → view_seen u c t q ≡ view_seen s c t q
 same-view s u c t is q = ap (λ (x : PlantState). view_seen x c t q) is

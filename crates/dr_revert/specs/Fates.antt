@@ -11,6 +11,7 @@ use Rattle.dr_flash.specs.declared.told.Told.TheVariants.{Nothing, One}
 use Rattle.dr_revert.specs.declared.fates.Fate.{Fate}
 use Rattle.dr_revert.specs.declared.fates.Fate.TheVariants as fate
 
+-- the move of the machine that a fate is
 abbrev pub move_of : ℕ → Fate → Move
 move_of v (fate.Flash u a s n) = Flash v u.0 a.0 s.0 n
 move_of v (fate.Commit a s n) = Commit v a.0 s.0 n
@@ -29,12 +30,14 @@ may_become (fate.Commit a s n) f = f.revertible
 may_become (fate.Revert a s n) f = f.revertible
 may_become (fate.Raise n) f = true
 
+-- the fields that it leaves
 abbrev pub fields_after : Fate → Fields → Fields
 fields_after (fate.Flash u a s n) f = flashed s.0 n f
 fields_after (fate.Commit a s n) f = committed n f
 fields_after (fate.Revert a s n) f = reverted n f
 fields_after (fate.Raise n) f = with_floor n f
 
+-- what the journal is told of it
 abbrev pub told_of : ℕ → Fate → Told
 told_of v (fate.Flash u a s n) = One (Flashed s.0 n a.0 u.0 v)
 told_of v (fate.Commit a s n) = One (Committed s.0 n a.0 v)

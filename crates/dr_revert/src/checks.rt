@@ -7,7 +7,7 @@ ghost use Rattle.dr_model.specs.declared.event.Event.{Event};
 ghost use Rattle.dr_model.specs.SessionEntries as entries;
 ghost use Rattle.dr_volume.specs.View.{Rest, volume_seen};
 ghost use Rattle.dr_flash.specs.Checks.{OnNone, is_stop};
-ghost use Rattle.dr_flash.specs.Here.{seen};
+ghost use Rattle.dr_flash.specs.Here.{world_seen};
 
 use crate::fields::{is_committed, is_flashed, may_flash};
 use dr_config::Config;
@@ -44,7 +44,7 @@ pub(crate) fn flash_refusal<P: Plant>(
     requires stands { StandsFor c.now (P.state p.now) }
     requires source { IsSome (place_of c.now b.0) }
     requires target { IsSome (place_of c.now t.0) }
-    ensures refusal { (r : Rest) (events : List Event) → result ≡ entries.flash_refusal b.0 t.0 n (seen (P.state p.now) c.now r events).control }
+    ensures refusal { (r : Rest) (events : List Event) → result ≡ entries.flash_refusal b.0 t.0 n (world_seen (P.state p.now) c.now r events).control }
     ensures may { OnNone result (entries.is_flashed n (volume_seen (P.state p.now) c.now t.0).fields ≡ false → entries.may_flash b.0 (volume_seen (P.state p.now) c.now t.0).fields ≡ true) }
     ensures calm { is_stop result ≡ false }
 {
@@ -62,7 +62,7 @@ pub(crate) fn flash_refusal<P: Plant>(
 pub(crate) fn commit_refusal<P: Plant>(p: &P, c: &Config, t: VolumeId, n: u32) -> Option<Refusal>
     requires stands { StandsFor c.now (P.state p.now) }
     requires target { IsSome (place_of c.now t.0) }
-    ensures refusal { (r : Rest) (events : List Event) → result ≡ entries.commit_refusal t.0 n (seen (P.state p.now) c.now r events).control }
+    ensures refusal { (r : Rest) (events : List Event) → result ≡ entries.commit_refusal t.0 n (world_seen (P.state p.now) c.now r events).control }
     ensures may { OnNone result ((entries.is_committed n (volume_seen (P.state p.now) c.now t.0).fields || entries.is_flashed n (volume_seen (P.state p.now) c.now t.0).fields) ≡ true) }
     ensures calm { is_stop result ≡ false }
 {

@@ -1,15 +1,15 @@
 //! Moves of a target that an attempt makes: one function for all of them.
 
 ghost use Rattle.std.specs.Prelude.{◌≡◌, ℕ, ◌≤◌, ◌+◌, true, length, None, Some, IsSome, IfSome, OnOk, OnErr, is_err};
+ghost use Rattle.dr_logic.specs.Counts.{Counted};
 ghost use Rattle.dr_config.specs.Table.{place_of};
 ghost use Rattle.dr_model.specs.Carry.{Entry};
 ghost use Rattle.dr_model.specs.Refusals.{stopped};
 ghost use Rattle.dr_volume.specs.Plain.{plain};
 ghost use Rattle.dr_volume.specs.Update.{IsMoved, OthersStay};
 ghost use Rattle.dr_volume.specs.View.{Rest, volume_seen};
-ghost use Rattle.dr_flash.specs.Faults.{Counted};
 ghost use Rattle.dr_flash.specs.Fit.{RelationsFit};
-ghost use Rattle.dr_flash.specs.Here.{seen, refusal_of, armed_in, IsAtRest};
+ghost use Rattle.dr_flash.specs.Here.{world_seen, refusal_of, armed_in, IsAtRest};
 ghost use Rattle.dr_flash.specs.Turns.{Advances, Halts};
 ghost use Rattle.dr_coord.specs.Aside.{AsideFits};
 ghost use Rattle.dr_revert.specs.Fates.{next_for, may_become, fields_after, told_of};
@@ -119,8 +119,8 @@ pub fn turn_target<P: Plant>(
     requires running { (P.state p.old).on (volume_seen (P.state p.old) c.now v.0).server ≡ true }
     requires may { IfSome x (λ y. may_become y (volume_seen (P.state p.old) c.now v.0).fields ≡ true) }
     requires room { 2 ≤ j.old.spare }
-    ensures advances { OnOk result ((r : Rest) (d : Entry) → d (seen (P.state p.old) c.now r j.old.events).control ≡ next_for v.0 x → Advances (seen (P.state p.old) c.now r j.old.events) d (seen (P.state p.new) c.now r j.new.events)) }
-    ensures halts { OnErr result ((r : Rest) (d : Entry) → d (seen (P.state p.old) c.now r j.old.events).control ≡ next_for v.0 x → Halts (armed_in (P.state p.old)) (seen (P.state p.old) c.now r j.old.events) d (seen (P.state p.new) c.now r j.new.events) (refusal_of result)) }
+    ensures advances { OnOk result ((r : Rest) (d : Entry) → d (world_seen (P.state p.old) c.now r j.old.events).control ≡ next_for v.0 x → Advances (world_seen (P.state p.old) c.now r j.old.events) d (world_seen (P.state p.new) c.now r j.new.events)) }
+    ensures halts { OnErr result ((r : Rest) (d : Entry) → d (world_seen (P.state p.old) c.now r j.old.events).control ≡ next_for v.0 x → Halts (armed_in (P.state p.old)) (world_seen (P.state p.old) c.now r j.old.events) d (world_seen (P.state p.new) c.now r j.new.events) (refusal_of result)) }
     ensures refused { OnErr result (refusal_of result ≡ Some (stopped (volume_seen (P.state p.old) c.now v.0).server)) }
     ensures same { x ≡ None → P.state p.new ≡ P.state p.old }
     ensures moved { OnOk result (IfSome x (λ y. IsMoved (P.state p.old) (P.state p.new) c.now v.0 (fields_after y (volume_seen (P.state p.old) c.now v.0).fields) None)) }

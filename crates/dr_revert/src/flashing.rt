@@ -1,6 +1,7 @@
 //! The target of a member is flashed.
 
 ghost use Rattle.std.specs.Prelude.{◌≡◌, ℕ, ◌≤◌, ◌+◌, false, length, None, Some, IsSome, OnOk, OnErr, if◌then◌else◌};
+ghost use Rattle.dr_logic.specs.Counts.{Counted};
 ghost use Rattle.dr_config.specs.Table.{place_of};
 ghost use Rattle.dr_model.specs.ReadStops.{Ends};
 ghost use Rattle.dr_model.specs.Relations as relations;
@@ -9,9 +10,8 @@ ghost use Rattle.dr_volume.specs.Plain.{plain};
 ghost use Rattle.dr_volume.specs.Update.{IsMoved, OthersStay};
 ghost use Rattle.dr_volume.specs.View.{Rest, volume_seen, track_seen};
 ghost use Rattle.dr_flash.specs.Checks.{is_stop};
-ghost use Rattle.dr_flash.specs.Faults.{Counted};
 ghost use Rattle.dr_flash.specs.Fit.{RelationsFit};
-ghost use Rattle.dr_flash.specs.Here.{seen, refusal_of, armed_in, IsAtRest};
+ghost use Rattle.dr_flash.specs.Here.{world_seen, refusal_of, armed_in, IsAtRest};
 ghost use Rattle.dr_flash.specs.Turns.{Leads, Fails};
 ghost use Rattle.dr_flash.specs.Views.{view_seen};
 ghost use Rattle.dr_incr.specs.Copies.{HoldsUnchanged};
@@ -69,9 +69,9 @@ pub fn flash<P: Plant>(
     requires target { IsSome (place_of c.now m.now.c.0) }
     requires together { (volume_seen (P.state p.old) c.now m.now.c.0).server ≡ (volume_seen (P.state p.old) c.now m.now.b.0).server }
     requires room { 2 ≤ j.old.spare }
-    ensures carried { (r : Rest) → Ends (armed_in (P.state p.old)) (seen (P.state p.new) c.now r j.new.events) (refusal_of result) (seen (P.state p.old) c.now r j.old.events) (entries.flash_entries s.0 m.now n) }
-    ensures leads { OnOk result ((r : Rest) → Leads (seen (P.state p.old) c.now r j.old.events) (entries.flash_entries s.0 m.now n) (seen (P.state p.new) c.now r j.new.events)) }
-    ensures fails { OnErr result ((r : Rest) → Fails (armed_in (P.state p.old)) (seen (P.state p.old) c.now r j.old.events) (entries.flash_entries s.0 m.now n) (seen (P.state p.new) c.now r j.new.events) (refusal_of result)) }
+    ensures carried { (r : Rest) → Ends (armed_in (P.state p.old)) (world_seen (P.state p.new) c.now r j.new.events) (refusal_of result) (world_seen (P.state p.old) c.now r j.old.events) (entries.flash_entries s.0 m.now n) }
+    ensures leads { OnOk result ((r : Rest) → Leads (world_seen (P.state p.old) c.now r j.old.events) (entries.flash_entries s.0 m.now n) (world_seen (P.state p.new) c.now r j.new.events)) }
+    ensures fails { OnErr result ((r : Rest) → Fails (armed_in (P.state p.old)) (world_seen (P.state p.old) c.now r j.old.events) (entries.flash_entries s.0 m.now n) (world_seen (P.state p.new) c.now r j.new.events) (refusal_of result)) }
     ensures unchanged { is_stop (refusal_of result) ≡ false → OnErr result ((P.state p.new ≡ P.state p.old) × (j.new ≡ j.old)) }
     ensures moved { OnOk result (entries.is_flashed n (volume_seen (P.state p.old) c.now m.now.c.0).fields ≡ false → IsMoved (P.state p.old) (P.state p.new) c.now m.now.c.0 (relations.flashed s.0 n (volume_seen (P.state p.old) c.now m.now.c.0).fields) None) }
     ensures shows_source { OnOk result (entries.is_flashed n (volume_seen (P.state p.old) c.now m.now.c.0).fields ≡ false → HoldsUnchanged (P.state p.old) c.now m.now.c.0 → (k : ℕ) → view_seen (P.state p.new) c.now m.now.c.0 k ≡ track_seen (P.state p.new) c.now m.now.b.0 k) }

@@ -1,12 +1,12 @@
 -- Words that are written with single spaces read as these words.
 use Rattle.std.proofs.Common.{ℕ, suc, ◌≡◌, ◌≤◌, ◌+◌, List, [], ◌∷◌, ◌++◌, length, refl, ap, ◌∙◌, sym, arith, Bool, true, false, not, ◌&&◌, cond, Option, Some, None, append_assoc, nat_lt}
-use Rattle.std.specs.Prelude.{Result, Ok, Err}
+use Rattle.std.specs.Prelude.{Result, Ok, Err, All}
 use Rattle.std.specs.List.{list_all, slice_split}
 use Rattle.std.proofs.lemmas.Bool.Decides.{nat_tests}
 use Rattle.std.proofs.lemmas.Grind.{common_steps}
 use Rattle.std.proofs.lemmas.List.Splits.{slice_split_at, slice_split_none}
-use Rattle.std.specs.Prelude.{All}
 use Rattle.std.proofs.lemmas.List.Elements.{All-cons, All-nil}
+use Rattle.std.proofs.lemmas.Bool.{not-true, and_parts, and_from}
 use Rattle.dr_model.specs.declared.step.Step.{Step}
 use Rattle.dr_model.specs.declared.grammar.Command.{Command}
 use Rattle.dr_model.specs.LineWords.{is_gap, words_from, words_behind, ◌>>=◌}
@@ -28,24 +28,13 @@ abbrev pub all_inked : List (List ℕ) → Bool
 all_inked [] = true
 all_inked (w ∷ ws) = is_inked w && all_inked ws
 
-pub both : (a b : Bool) → (a && b) ≡ true → (a ≡ true) × (b ≡ true)
-both true b e = (refl, e)
-both false b e = absurd (cc)
-
-pub and_true : (a b : Bool) → a ≡ true → b ≡ true → (a && b) ≡ true
-and_true a b e f = ap (λ x. x && b) e ∙ f
-
 pub inked-append : (a b : List (List ℕ)) → all_inked a ≡ true → all_inked b ≡ true → all_inked (a ++ b) ≡ true
 inked-append [] b e f = f
-inked-append (w ∷ ws) b e f = let p = both (is_inked w) (all_inked ws) e in and_true (is_inked w) (all_inked (ws ++ b)) p.0 (inked-append ws b p.1 f)
-
-not_not : (b : Bool) → not b ≡ true → b ≡ false
-not_not true e = sym e
-not_not false e = refl
+inked-append (w ∷ ws) b e f = let p = and_parts (is_inked w) (all_inked ws) e in and_from (is_inked w) (all_inked (ws ++ b)) p.0 (inked-append ws b p.1 f)
 
 no_gaps : (bs : List ℕ) → list_all is_ink bs ≡ true → All (λ b. is_gap b ≡ false) bs
 no_gaps [] e = All-nil (λ b. is_gap b ≡ false)
-no_gaps (b ∷ bs) e = let p = both (is_ink b) (list_all is_ink bs) e in All-cons (λ x. is_gap x ≡ false) b bs (not_not (is_gap b) p.0) (no_gaps bs p.1)
+no_gaps (b ∷ bs) e = let p = and_parts (is_ink b) (list_all is_ink bs) e in All-cons (λ x. is_gap x ≡ false) b bs (not-true (is_gap b) p.0) (no_gaps bs p.1)
 
 no_gap : (w : List ℕ) → is_inked w ≡ true → All (λ b. is_gap b ≡ false) w
 no_gap [] e = All-nil (λ b. is_gap b ≡ false)
@@ -55,7 +44,7 @@ no_gap (b ∷ bs) e = no_gaps (b ∷ bs) e
 pub pieces : (w : List ℕ) (ws : List (List ℕ)) → is_inked w ≡ true → all_inked ws ≡ true → slice_split is_gap (w ++ spaced ws) ≡ w ∷ ws
 pieces w [] e f = ap (slice_split is_gap) (let n : w ++ [] ≡ w = grind (arith, common_steps) in n) ∙ slice_split_none is_gap w (no_gap w e)
 pieces w (v ∷ ws) e f =
-    let p = both (is_inked v) (all_inked ws) f in
+    let p = and_parts (is_inked v) (all_inked ws) f in
     slice_split_at is_gap w 32 (v ++ spaced ws) (no_gap w e) refl ∙ ap (λ xs. w ∷ xs) (pieces v ws p.0 p.1)
 
 -- what is read after several words
@@ -79,7 +68,7 @@ unfolding read_words words_from finish
 read_run past c r last [] e h = let s : r ≡ last = cc in ap (λ x. cond (may_end x.place) (Ok (steps_of x)) (Err past)) s
 read_run past c r last ([] ∷ ws) e h = absurd (cc)
 read_run past c r last ((b ∷ bs) ∷ ws) e h =
-    let p = both (is_inked (b ∷ bs)) (all_inked ws) e in
+    let p = and_parts (is_inked (b ∷ bs)) (all_inked ws) e in
     let n = inverse (read_on r (b ∷ bs)) (λ next. run next ws) last h in
     ap (λ o. elim o as (λ _. Result (List Step) ℕ) [ None ↦ Err c | Some next ↦ read_words past next (words_from (c + length bs + 2) ws) ]) n.1
     ∙ read_run past (c + length bs + 2) n.0 last ws p.1 n.2

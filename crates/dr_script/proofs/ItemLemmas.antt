@@ -7,9 +7,10 @@ use Rattle.std.proofs.lemmas.List.Splits.{slice_split_first, slice_split-cons_no
 use Rattle.std.specs.List.{position_or_len, slice_split, onto_first}
 use Rattle.dr_model.specs.declared.grammar.Item.{Item}
 use Rattle.dr_model.specs.declared.grammar.Span.{Span}
-use Rattle.dr_model.specs.LineWords.{◌>>=◌, items_from, paired, span_len, range_items, ranges_items, list_items, is_comma, mark_at}
-use Rattle.dr_model.specs.LineWords.{onto}
+use Rattle.dr_model.specs.LineWords.{◌>>=◌, items_from, paired, span_len, range_items, ranges_items, list_items, is_comma, mark_at, onto}
 use Rattle.dr_script.specs.Pieces.{kept}
+use Rattle.dr_logic.proofs.Choices.{not_chosen, chosen}
+use Rattle.dr_logic.proofs.Lists.{uncut}
 
 item : ℕ → ℕ → Item
 item x y = record { first = x; second = y }
@@ -33,22 +34,6 @@ pub all_items : (items old : List Item) (a b : Span) (k : ℕ) → span_len a �
 unfolding paired
 all_items items old a b k le so_far =
     sym (ap (λ xs. items ++ xs) (ap (items_from (a.low + k) (b.low + k)) (let e : span_len a - k ≡ 0 = omega arith in e)) ∙ (let n : items ++ [] ≡ items = grind (arith, common_steps) in n)) ∙ so_far
-
-chosen : (b : Bool) (n : ℕ) (i : ℕ) → cond b (Some n) None ≡ Some i → (b ≡ true) × (n ≡ i)
-chosen true n i e = (refl, cc)
-chosen false n i e = cc
-
-not_chosen : (b : Bool) (n : ℕ) → cond b (Some n) None ≡ None → b ≡ false
-not_chosen true n e = cc
-not_chosen false n e = refl
-
-uncut : (p : ℕ → Bool) (xs : List ℕ) → length xs ≤ position_or_len p xs → slice_split p xs ≡ xs ∷ []
-uncut p [] h = refl
-uncut p (x ∷ xs) h =
-    elim (p x) as (λ b. p x ≡ b → suc (length xs) ≤ cond (not b) (1 + position_or_len p xs) 0 → slice_split p (x ∷ xs) ≡ (x ∷ xs) ∷ []) [
-      | true ↦ λ e le. absurd (omega arith)
-      | false ↦ λ e le. slice_split-cons_no p x xs e ∙ ap (onto_first x) (uncut p xs (omega arith))
-    ] refl h
 
 -- a list is cut at its first comma
 pub list_cut : (word : List ℕ) (i : ℕ) → mark_at 44 word ≡ Some i → list_items word ≡ (range_items (take i word) >>= λ items. list_items (drop (i + 1) word) >>= λ more. Some (items ++ more))

@@ -2,12 +2,11 @@
 use Rattle.std.proofs.Common.{ℕ, ◌≡◌, ◌<◌, List, [], ◌∷◌, ◌++◌, ap, ◌∙◌, arith, true, cond, Option, Some, None, nat_eq}
 use Rattle.std.specs.Option.{option_map}
 use Rattle.std.proofs.lemmas.Bool.Decides.{nat_tests}
-use Rattle.dr_ids.specs.Spelling.{lss_word}
+use Rattle.dr_ids.specs.Spelling.{lss_word, hex2, hex4}
 use Rattle.dr_ids.specs.declared.names.Lss.{Lss}
 use Rattle.dr_model.specs.declared.grammar.Item.{Item}
 use Rattle.dr_model.specs.declared.grammar.Span.{Span}
 use Rattle.dr_model.specs.LineWords.{◌>>=◌, span_word, span_cut, one_volume, span_len, spans_paired, paired, items_from, range_items, list_items, pair_items, pair_cut, lss_pair_items, lss_pair_cut}
-use Rattle.dr_ids.specs.Spelling.{hex2, hex4}
 use Rattle.dr_script.proofs.ItemLemmas.{list_uncut}
 use Rattle.dr_script.proofs.TextLemmas.{lss_reads, volume_reads, mark_found, mark_missing, hex2_colon, hex4_free, hex4_colon}
 

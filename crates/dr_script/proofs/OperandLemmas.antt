@@ -11,7 +11,8 @@ use Rattle.std.specs.Option.{option_map}
 use Rattle.std.proofs.lemmas.Bool.Decides.{nat_tests}
 use Rattle.std.proofs.lemmas.Grind.{common_steps}
 use Rattle.std.proofs.lemmas.Fmt.{length-decimal-le, decimal_is_IsNumeral}
-use Rattle.dr_ids.specs.Spelling.{hex_word, all_digits}
+use Rattle.std.proofs.lemmas.Bool.{and_parts, and_from}
+use Rattle.dr_ids.specs.Spelling.{hex_word, all_digits, hex2, hex4}
 use Rattle.dr_ids.specs.declared.names.Lss.{Lss}
 use Rattle.dr_ids.specs.declared.names.SessionId.{SessionId}
 use Rattle.dr_ids.specs.declared.names.VolumeId.{VolumeId}
@@ -23,12 +24,12 @@ use Rattle.dr_model.specs.declared.grammar.Operands.{Operands}
 use Rattle.dr_model.specs.declared.grammar.Item.{Item}
 use Rattle.dr_model.specs.LineWords.{spelled_bytes, is_hex, torn_word, torn_bytes_word, most_word, decimal_word, either_word}
 use Rattle.dr_model.specs.LineSteps.{operand_value, operand_items, lss_in}
-use Rattle.dr_ids.specs.Spelling.{hex2, hex4}
 use Rattle.dr_model.specs.LineText.{torn_text, most_text, bytes_text, operand_text, operand_fits, torn_fits, most_fits, bytes_fit}
-use Rattle.dr_script.proofs.CutLemmas.{is_inked, both, and_true}
-use Rattle.dr_script.proofs.TextLemmas.{lss_reads, byte_reads, session_reads, volume_reads, decimal_reads, name_reads, decimal_inked, hex2_inked, hex4_inked, same_bytes, bytes_read}
+use Rattle.dr_script.proofs.CutLemmas.{is_inked}
+use Rattle.dr_script.proofs.TextLemmas.{lss_reads, byte_reads, session_reads, volume_reads, decimal_reads, name_reads, decimal_inked, hex2_inked, hex4_inked, bytes_read}
 use Rattle.dr_script.proofs.ItemTextLemmas.{range_reads, list_reads, pair_reads, lss_pair_reads}
 use Rattle.dr_script.proofs.OptionLemmas.{either_text, item_is}
+use Rattle.dr_logic.proofs.Lists.{same_bytes}
 
 -- the operands with one operand as it is in others
 unfoldable pub absorb_operand : Operand → Operands → Operands → Operands
@@ -79,8 +80,8 @@ take_whole bs e = take_all 64 bs e
 
 bytes_sized : (len : ℕ) (bytes : List ℕ) → bytes_fit len bytes ≡ true → length bytes ≡ 64
 bytes_sized len bytes fits =
-    let outer = both (nat_eq (length bytes) 64 && list_all (λ b. nat_lt b 256) (take len bytes)) _ fits in
-    let inner = both (nat_eq (length bytes) 64) _ outer.0 in
+    let outer = and_parts (nat_eq (length bytes) 64 && list_all (λ b. nat_lt b 256) (take len bytes)) _ fits in
+    let inner = and_parts (nat_eq (length bytes) 64) _ outer.0 in
     grind (arith, nat_tests, inner.0)
 
 record TornReads (t : TornWord) : Type 0 where
@@ -148,7 +149,7 @@ lss_is i a b = (λ j. Some (record { first = (let n : lss_in i.first ≡ i.first
 
 ink-append : (xs ys : List ℕ) → list_all is_ink xs ≡ true → list_all is_ink ys ≡ true → list_all is_ink (xs ++ ys) ≡ true
 ink-append [] ys e f = f
-ink-append (x ∷ xs) ys e f = let p = both (is_ink x) (list_all is_ink xs) e in and_true (is_ink x) _ p.0 (ink-append xs ys p.1 f)
+ink-append (x ∷ xs) ys e f = let p = and_parts (is_ink x) (list_all is_ink xs) e in and_from (is_ink x) _ p.0 (ink-append xs ys p.1 f)
 
 hex4_pair_inked : (a b : ℕ) → is_inked (hex4 a ++ 58 ∷ hex4 b) ≡ true
 hex4_pair_inked a b = ink-append (hex4 a) (58 ∷ hex4 b) (hex4_inked a) (hex4_inked b)
@@ -196,8 +197,8 @@ operand_reads Offset p cur i e s =
     let lt : p.offset < 2 ^ 32 = omega arith in
     record { reads = ap (option_map (λ n. record cur { offset = n })) (decimal_reads 63 p.offset le lt); items = refl; inked = decimal_inked p.offset lt; few = decimal_few p.offset lt }
 operand_reads WriteBytes p cur i e s =
-    let outer = both (nat_le 1 p.len && nat_le (p.offset + p.len) 64) _ e in
-    let inner = both (nat_le 1 p.len) _ outer.0 in
+    let outer = and_parts (nat_le 1 p.len && nat_le (p.offset + p.len) 64) _ e in
+    let inner = and_parts (nat_le 1 p.len) _ outer.0 in
     let some : 1 ≤ p.len = grind (arith, nat_tests, inner.0) in
     let within : p.offset + p.len ≤ 64 = grind (arith, nat_tests, inner.1) in
     let r = bytes_read p.len p.bytes some (omega arith) outer.1 in
@@ -206,7 +207,7 @@ operand_reads WriteBytes p cur i e s =
     let half : length t / 2 ≡ p.len = omega arith in
     let lies : nat_le (cur.offset + length t / 2) 64 ≡ true = (let z : cur.offset + length t / 2 ≤ 64 = omega (arith, s, half) in grind (arith, nat_tests, z)) in
     record {
-      reads = ap (λ b. cond b (Some (record cur { len = length t / 2; bytes = spelled_bytes t })) None) (and_true (is_hex t) _ r.hex lies)
+      reads = ap (λ b. cond b (Some (record cur { len = length t / 2; bytes = spelled_bytes t })) None) (and_from (is_hex t) _ r.hex lies)
           ∙ (λ j. Some (record cur { len = half j; bytes = r.block j }));
       items = refl;
       inked = r.inked;
@@ -216,7 +217,7 @@ operand_reads CountOrAll p cur i e s =
     let m = most_reads p.most e in
     record { reads = ap (option_map (λ x. record cur { most = x })) m.reads; items = refl; inked = m.inked; few = m.few }
 operand_reads SessionNumber p cur i e s =
-    let q = both (nat_le 1 p.session) _ e in
+    let q = and_parts (nat_le 1 p.session) _ e in
     let some : 1 ≤ p.session = grind (arith, nat_tests, q.0) in
     let lt : p.session < 256 = grind (arith, nat_tests, q.1) in
     record { reads = ap (option_map (λ (x : SessionId). record cur { session = x.0 })) (session_reads p.session some lt); items = refl; inked = hex2_inked p.session; few = omega arith }
@@ -226,20 +227,20 @@ operand_reads LssNumber p cur i e s =
     let lt : p.lss < 256 = grind (arith, nat_tests, e) in
     record { reads = ap (option_map (λ (x : Lss). record cur { lss = x.0 })) (lss_reads p.lss lt); items = refl; inked = hex2_inked p.lss; few = omega arith }
 operand_reads VolumeRange p cur i e s =
-    let q = both (nat_lt i.first 65536) _ e in
+    let q = and_parts (nat_lt i.first 65536) _ e in
     let lt : i.first < 65536 = grind (arith, nat_tests, q.0) in
     record { reads = refl; items = range_reads i.first lt ∙ item_is i q.1; inked = hex4_inked i.first; few = omega arith }
 operand_reads VolumeList p cur i e s =
-    let q = both (nat_lt i.first 65536) _ e in
+    let q = and_parts (nat_lt i.first 65536) _ e in
     let lt : i.first < 65536 = grind (arith, nat_tests, q.0) in
     record { reads = refl; items = list_reads i.first lt ∙ item_is i q.1; inked = hex4_inked i.first; few = omega arith }
 operand_reads VolumePair p cur i e s =
-    let q = both (nat_lt i.first 65536) _ e in
+    let q = and_parts (nat_lt i.first 65536) _ e in
     let a : i.first < 65536 = grind (arith, nat_tests, q.0) in
     let b : i.second < 65536 = grind (arith, nat_tests, q.1) in
     record { reads = refl; items = pair_reads i.first i.second a b; inked = hex4_pair_inked i.first i.second; few = omega arith }
 operand_reads LssPair p cur i e s =
-    let q = both (nat_lt i.first 256) _ e in
+    let q = and_parts (nat_lt i.first 256) _ e in
     let a : i.first < 256 = grind (arith, nat_tests, q.0) in
     let b : i.second < 256 = grind (arith, nat_tests, q.1) in
     record { reads = refl; items = lss_pair_reads (lss_in i.first) (lss_in i.second) (omega arith) (omega arith) ∙ lss_is i a b; inked = hex2_pair_inked (lss_in i.first) (lss_in i.second); few = omega arith }

@@ -4,6 +4,7 @@ use Rattle.std.specs.Prelude.{codes}
 use Rattle.std.specs.Option.{option_map, unwrap_or, is_some}
 use Rattle.std.proofs.lemmas.Bool.Decides.{nat_tests}
 use Rattle.std.proofs.lemmas.Fmt.{length-decimal-le}
+use Rattle.std.proofs.lemmas.Bool.{and_parts}
 use Rattle.dr_ids.specs.declared.names.Lss.{Lss}
 use Rattle.dr_ids.specs.declared.names.SessionId.{SessionId}
 use Rattle.dr_model.specs.declared.grammar.Setting.{Setting}
@@ -13,9 +14,10 @@ use Rattle.dr_model.specs.declared.grammar.Item.{Item}
 use Rattle.dr_model.specs.LineWords.{name_word, kind_word, sequence_word}
 use Rattle.dr_model.specs.LineSteps.{has, is_flag, flagged, valued, setting_items, or_zero, no_name}
 use Rattle.dr_model.specs.LineText.{kind_text, setting_text, setting_fits}
-use Rattle.dr_script.proofs.CutLemmas.{is_inked, both}
+use Rattle.dr_script.proofs.CutLemmas.{is_inked}
 use Rattle.dr_script.proofs.TextLemmas.{lss_reads, session_reads, decimal_reads, sequence_reads, sequence_inked, name_reads, decimal_inked, hex2_inked, hex4_inked}
 use Rattle.dr_script.proofs.ItemTextLemmas.{list_reads}
+use Rattle.dr_logic.proofs.Options.{none_there}
 
 -- the options with one option as it is in others
 unfoldable pub absorb : Setting → Options → Options → Options
@@ -51,10 +53,6 @@ abbrev pub added : Setting → Item → List Item
 added Members i = i ∷ []
 added _ i = []
 
-missing : {A : Type 0} (x : Option A) → is_some x ≡ false → x ≡ None
-missing None e = refl
-missing (Some y) e = absurd (cc)
-
 there : (x : Option ℕ) → is_some x ≡ true → Some (or_zero x) ≡ x
 there None e = absurd (cc)
 there (Some n) e = refl
@@ -66,32 +64,32 @@ there_or d (Some n) e = refl
 -- an option that neither has
 pub absent : (s : Setting) (o cur : Options) → has s o ≡ false → has s cur ≡ false → absorb s o cur ≡ cur
 unfolding absorb has
-absent Dev o cur e f = ap (λ d. record cur { devs = record cur.devs { dev = d } }) (missing o.devs.dev e ∙ sym (missing cur.devs.dev f))
-absent RemoteDev o cur e f = ap (λ d. record cur { devs = record cur.devs { remotedev = d } }) (missing o.devs.remotedev e ∙ sym (missing cur.devs.remotedev f))
+absent Dev o cur e f = ap (λ d. record cur { devs = record cur.devs { dev = d } }) (none_there o.devs.dev e ∙ sym (none_there cur.devs.dev f))
+absent RemoteDev o cur e f = ap (λ d. record cur { devs = record cur.devs { remotedev = d } }) (none_there o.devs.remotedev e ∙ sym (none_there cur.devs.remotedev f))
 absent Quiet o cur e f = ap (λ x. record cur { quiet = x }) (e ∙ sym f)
 absent RemotePort o cur e f = ap (λ x. record cur { remote_port = x }) (e ∙ sym f)
-absent SourceLss o cur e f = ap (λ x. record cur { src = x }) (missing o.src e ∙ sym (missing cur.src f))
-absent TargetLss o cur e f = ap (λ x. record cur { tgt = x }) (missing o.tgt e ∙ sym (missing cur.tgt f))
+absent SourceLss o cur e f = ap (λ x. record cur { src = x }) (none_there o.src e ∙ sym (none_there cur.src f))
+absent TargetLss o cur e f = ap (λ x. record cur { tgt = x }) (none_there o.tgt e ∙ sym (none_there cur.tgt f))
 absent ConsistencyGroup o cur e f = ap (λ x. record cur { group = x }) (e ∙ sym f)
 absent Force o cur e f = ap (λ x. record cur { force = x }) (e ∙ sym f)
-absent PairType o cur e f = ap (λ x. record cur { kind = x }) (missing o.kind e ∙ sym (missing cur.kind f))
-absent Mode o cur e f = ap (λ x. record cur { full = x }) (missing o.full e ∙ sym (missing cur.full f))
+absent PairType o cur e f = ap (λ x. record cur { kind = x }) (none_there o.kind e ∙ sym (none_there cur.kind f))
+absent Mode o cur e f = ap (λ x. record cur { full = x }) (none_there o.full e ∙ sym (none_there cur.full f))
 absent Unconditional o cur e f = ap (λ x. record cur { unconditional = x }) (e ∙ sym f)
 absent AtSource o cur e f = ap (λ x. record cur { at_source = x }) (e ∙ sym f)
 absent NoCopy o cur e f = ap (λ x. record cur { nocopy = x }) (e ∙ sym f)
 absent Persist o cur e f = ap (λ x. record cur { persistent = x }) (e ∙ sym f)
 absent Recording o cur e f = ap (λ x. record cur { recorded = x }) (e ∙ sym f)
 absent Inhibit o cur e f = ap (λ x. record cur { inhibited = x }) (e ∙ sym f)
-absent Sequence o cur e f = ap (λ x. record cur { sequence = x }) (missing o.sequence e ∙ sym (missing cur.sequence f))
+absent Sequence o cur e f = ap (λ x. record cur { sequence = x }) (none_there o.sequence e ∙ sym (none_there cur.sequence f))
 absent Fast o cur e f = ap (λ x. record cur { fast = x }) (e ∙ sym f)
 absent TargetPprc o cur e f = ap (λ x. record cur { tgtpprc = x }) (e ∙ sym f)
-absent OfLss o cur e f = ap (λ x. record cur { lss = x }) (missing o.lss e ∙ sym (missing cur.lss f))
+absent OfLss o cur e f = ap (λ x. record cur { lss = x }) (none_there o.lss e ∙ sym (none_there cur.lss f))
 absent Members o cur e f = ap (λ x. record cur { members = x }) (e ∙ sym f)
-absent Action o cur e f = ap (λ x. record cur { adds = x }) (missing o.adds e ∙ sym (missing cur.adds f))
-absent OfSession o cur e f = ap (λ x. record cur { session = x }) (missing o.session e ∙ sym (missing cur.session f))
-absent Interval o cur e f = ap (λ x. record cur { cginterval = x }) (missing o.cginterval e ∙ sym (missing cur.cginterval f))
-absent Coordination o cur e f = ap (λ x. record cur { coordinate = x }) (missing o.coordinate e ∙ sym (missing cur.coordinate f))
-absent DrainTime o cur e f = ap (λ x. record cur { drain = x }) (missing o.drain e ∙ sym (missing cur.drain f))
+absent Action o cur e f = ap (λ x. record cur { adds = x }) (none_there o.adds e ∙ sym (none_there cur.adds f))
+absent OfSession o cur e f = ap (λ x. record cur { session = x }) (none_there o.session e ∙ sym (none_there cur.session f))
+absent Interval o cur e f = ap (λ x. record cur { cginterval = x }) (none_there o.cginterval e ∙ sym (none_there cur.cginterval f))
+absent Coordination o cur e f = ap (λ x. record cur { coordinate = x }) (none_there o.coordinate e ∙ sym (none_there cur.coordinate f))
+absent DrainTime o cur e f = ap (λ x. record cur { drain = x }) (none_there o.drain e ∙ sym (none_there cur.drain f))
 
 -- a flag that is given
 pub flag_reads : (s : Setting) (o cur : Options) → is_flag s ≡ true → has s o ≡ true → flagged s cur ≡ absorb s o cur
@@ -232,7 +230,7 @@ value_reads OfLss o cur i e f g =
       few = omega arith;
     }
 value_reads Members o cur i e f g =
-    let p = both (nat_lt i.first 65536) _ g in
+    let p = and_parts (nat_lt i.first 65536) _ g in
     let lt : i.first < 65536 = grind (arith, nat_tests, p.0) in
     record {
       reads = ap (λ x. Some (record cur { members = x })) (sym f);
@@ -244,7 +242,7 @@ value_reads Action o cur i e f g =
     let t = either_text (unwrap_or o.adds true) (codes "add") (codes "remove") refl refl (omega arith) (omega arith) in
     record { reads = adds_reads o.adds cur f; items = refl; inked = t.0; few = t.1 }
 value_reads OfSession o cur i e f g =
-    let p = both (nat_le 1 (or_zero o.session)) _ g in
+    let p = and_parts (nat_le 1 (or_zero o.session)) _ g in
     let some : 1 ≤ or_zero o.session = grind (arith, nat_tests, p.0) in
     let lt : or_zero o.session < 256 = grind (arith, nat_tests, p.1) in
     record {

@@ -2,6 +2,7 @@
 use Rattle.std.proofs.Common.{ℕ, suc, ◌≡◌, ◌≤◌, ◌+◌, ◌*◌, List, [], ◌∷◌, ◌++◌, length, refl, ap, ◌∙◌, sym, arith, Bool, true, false, not, ◌||◌, cond, if◌then◌else◌, Option, Some, None, append_assoc}
 use Rattle.std.proofs.lemmas.Bool.Decides.{nat_tests}
 use Rattle.std.proofs.lemmas.Grind.{common_steps}
+use Rattle.std.proofs.lemmas.Bool.{and_parts, and_from}
 use Rattle.dr_model.specs.declared.grammar.Command.{Command}
 use Rattle.dr_model.specs.declared.grammar.Setting.{Setting}
 use Rattle.dr_model.specs.declared.grammar.Setting.TheVariants.{Quiet, Dev, RemoteDev, RemotePort, SourceLss, TargetLss, ConsistencyGroup, Force, PairType, Mode, Unconditional, AtSource, NoCopy, Persist, Recording, Inhibit, Sequence, Fast, TargetPprc, OfLss, Members, Action, OfSession, Interval, Coordination, DrainTime}
@@ -15,7 +16,7 @@ use Rattle.dr_model.specs.LineTable.{setting_word, settings, own_steps}
 use Rattle.dr_model.specs.LineSteps.{has, is_flag, flagged, valued, setting_items, operand_value, operand_items, no_options, no_operands}
 use Rattle.dr_model.specs.LineText.{setting_text, setting_words, settings_words, setting_fits, settings_fit, operand_text, operand_words, operand_fits, operands_fit, spaced}
 use Rattle.dr_model.specs.Grammar.{Reading, read_on, setting_at, setting_named, named_read, next_read, operand_read, next_operand, filled_after, is_ready, is_within, with_items, grown}
-use Rattle.dr_script.proofs.CutLemmas.{is_inked, all_inked, both, and_true, inked-append, run, run_on, spaced-append}
+use Rattle.dr_script.proofs.CutLemmas.{is_inked, all_inked, inked-append, run, run_on, spaced-append}
 use Rattle.dr_script.proofs.OptionLemmas.{absorb, added, absent, flag_reads, value_reads}
 use Rattle.dr_script.proofs.OperandLemmas.{absorb_operand, added_by, StandsBehind, operand_reads}
 
@@ -252,7 +253,7 @@ option_run c s o cur i items rest known fresh fits few =
                   ran = ap (λ ws. run (at_options c None cur items) (ws ++ rest)) one
                       ∙ run_on (at_options c None cur items) (at_options c None (flagged s cur) items) (setting_word s) rest (named c s cur items true known fresh flag)
                       ∙ (λ j. run (at_options c None (flag_reads s o cur flag given j) (sym same j)) rest);
-                  inked = ap all_inked one ∙ and_true (is_inked (setting_word s)) true w.0 refl;
+                  inked = ap all_inked one ∙ and_from (is_inked (setting_word s)) true w.0 refl;
                   few = rw one (let size : length (setting_word s ++ []) ≡ length (setting_word s) = grind (arith, common_steps) in omega arith);
                   more = rw same (omega arith);
                 }
@@ -268,7 +269,7 @@ option_run c s o cur i items rest known fresh fits few =
                       ∙ run_on (at_options c (Some s) cur items) (at_options c None (absorb s o cur) (items ++ added s i)) (setting_text s o i) rest
                       (value_taken c s (absorb s o cur) cur items (added s i) (setting_text s o i) v.reads v.items (within_more c items (added s i) few single))
                       ∙ ap (λ xs. run (at_options c None (absorb s o cur) (items ++ xs)) rest) (sym some);
-                  inked = ap all_inked two ∙ and_true (is_inked (setting_word s)) _ w.0 (and_true (is_inked (setting_text s o i)) true v.inked refl);
+                  inked = ap all_inked two ∙ and_from (is_inked (setting_word s)) _ w.0 (and_from (is_inked (setting_text s o i)) true v.inked refl);
                   few = rw two (two_words (setting_word s) (setting_text s o i) short len);
                   more = rw some (let size : length (items ++ added s i) ≡ length items + length (added s i) = grind (arith, common_steps) in omega arith);
                 }
@@ -286,7 +287,7 @@ pub options_run : (c : Command) (ss : List Setting) (o cur : Options) (i : Item)
     → OptionsRun c ss o cur i items rest
 options_run c [] o cur i items rest ready fit few = record { ran = refl; inked = refl; few = omega arith; more = omega arith }
 options_run c (s ∷ ss) o cur i items rest ready fit few =
-    let p = both (not (has s o) || setting_fits s o i) _ fit in
+    let p = and_parts (not (has s o) || setting_fits s o i) _ fit in
     let first = option_run c s o cur i items (settings_words ss o i ++ rest) ready.0 ready.1.0 p.0 (omega arith) in
     let more = first.more in
     let later = options_run c ss o (absorb s o cur) i (items ++ given_items s o i) rest ready.1.1 p.1 (omega arith) in
@@ -369,7 +370,7 @@ pub operands_run : (c : Command) (o : Options) (p cur : Operands) (i : Item) (op
     → operands_fit ops p i ≡ true → own_steps c + length items + length ops ≤ 1024 → OperandsRun c o p cur i ops filled items
 operands_run c o p cur i [] filled items stand ready fit few = record { ran = refl; inked = refl; few = omega arith }
 operands_run c o p cur i (op ∷ ops) filled items stand ready fit few =
-    let q = both (operand_fits op p i) (operands_fit ops p i) fit in
+    let q = and_parts (operand_fits op p i) (operands_fit ops p i) fit in
     let v = operand_reads op p cur i q.0 stand.1.1.0 in
     let one = added_by_few op i in
     let n = filled_after (at_operands c o filled cur []).place in
@@ -382,6 +383,6 @@ operands_run c o p cur i (op ∷ ops) filled items stand ready fit few =
       ran = run_on (at_operands c o filled cur items) (at_operands c o n (absorb_operand op p cur) (items ++ added_by op i)) (operand_text op p i) (operand_words ops p i)
           (operand_taken c o cur (absorb_operand op p cur) filled items (added_by op i) op (operand_text op p i) stand.1.0 stand.0 ready v.reads v.items (within_more c items (added_by op i) (omega arith) one))
           ∙ later.ran;
-      inked = and_true (is_inked (operand_text op p i)) _ v.inked later.inked;
+      inked = and_from (is_inked (operand_text op p i)) _ v.inked later.inked;
       few = omega (arith, whole, long, others);
     }

@@ -5,8 +5,9 @@ use Rattle.dr_model.specs.declared.grammar.Operand.TheVariants.{LssPair}
 use Rattle.std.specs.Prelude.{Ok}
 use Rattle.std.specs.Str.{bytes_eq}
 use Rattle.std.proofs.lemmas.Grind.{common_steps}
-use Rattle.dr_ids.specs.Spelling.{upper_digit}
+use Rattle.dr_ids.specs.Spelling.{upper_digit, hex2, hex4}
 use Rattle.std.specs.Option.{is_none}
+use Rattle.std.proofs.lemmas.Bool.{and_parts}
 use Rattle.dr_model.specs.declared.step.Name.{Name}
 use Rattle.dr_model.specs.declared.step.Devs.{Devs}
 use Rattle.dr_model.specs.declared.step.Step.{Step}
@@ -19,10 +20,9 @@ use Rattle.dr_model.specs.declared.grammar.Options.{Options}
 use Rattle.dr_model.specs.declared.grammar.Saying.{Saying}
 use Rattle.dr_model.specs.LineTable.{command_word, commands, setting_word, settings, needed, operands, may_end_with, own_steps}
 use Rattle.dr_model.specs.LineSteps.{has, no_options, no_operands, step_of, lss_in}
-use Rattle.dr_ids.specs.Spelling.{hex2, hex4}
 use Rattle.dr_model.specs.LineText.{settings_words, settings_fit, operand_text, operand_words, operand_fits, operands_fit, spaced, said_count, said_operands, said_text, said_fits, given, at_sign, for_item, for_session, for_lss, at_saying, pair_saying, flash_saying, session_saying, step_text, is_written}
 use Rattle.dr_model.specs.Grammar.{Reading, command_named, setting_named, is_ready, begins_comment, may_end, steps_of, line_of}
-use Rattle.dr_script.proofs.CutLemmas.{is_inked, both, inked-append, spaced-append, run, line_read}
+use Rattle.dr_script.proofs.CutLemmas.{is_inked, inked-append, spaced-append, run, line_read}
 use Rattle.dr_script.proofs.TextLemmas.{upper_not}
 use Rattle.dr_script.proofs.OptionLemmas.{absorb}
 use Rattle.dr_script.proofs.OperandLemmas.{absorb_operand}
@@ -147,8 +147,8 @@ told : (said : Saying) (step : Step) → absorb_all (settings said.command) said
 told said step same goes stand fit ends makes =
     let c = said.command in
     let f = command_facts c in
-    let fits = both (settings_fit (settings c) said.options said.item && operands_fit (said_operands said) said.operands said.item) _ fit in
-    let q = both (settings_fit (settings c) said.options said.item) _ fits.0 in
+    let fits = and_parts (settings_fit (settings c) said.options said.item && operands_fit (said_operands said) said.operands said.item) _ fit in
+    let q = and_parts (settings_fit (settings c) said.options said.item) _ fits.0 in
     let opts = settings_words (settings c) said.options said.item in
     let ops = operand_words (said_operands said) said.operands said.item in
     let few_options = f.options in
@@ -219,10 +219,10 @@ hex4_no ss n rest = digit_first ss (n / 256 / 16) (upper_digit (n / 256 % 16) �
 below : (first second : ℕ) (b t : Bool) → ((b && (operand_fits LssPair no_operands (record { first = first; second = second }) && true)) && t) ≡ true → (lss_in first ≡ first) × (lss_in second ≡ second)
 unfolding operand_fits
 below first second b t e =
-    let p = both (b && (operand_fits LssPair no_operands (record { first = first; second = second }) && true)) t e in
-    let q = both b _ p.0 in
-    let r = both (operand_fits LssPair no_operands (record { first = first; second = second })) true q.1 in
-    let s = both (nat_lt first 256) _ r.0 in
+    let p = and_parts (b && (operand_fits LssPair no_operands (record { first = first; second = second }) && true)) t e in
+    let q = and_parts b _ p.0 in
+    let r = and_parts (operand_fits LssPair no_operands (record { first = first; second = second })) true q.1 in
+    let s = and_parts (nat_lt first 256) _ r.0 in
     let x : first < 256 = grind (arith, nat_tests, s.0) in
     let y : second < 256 = grind (arith, nat_tests, s.1) in
     ((omega arith), (omega arith))
@@ -233,7 +233,7 @@ absent_name (Some n) e = absurd (cc)
 
 -- no second server is named where the command takes none
 no_remote : (devs : Devs) (b : Bool) → (b && (false || is_none devs.remotedev)) ≡ true → None ≡ devs.remotedev
-no_remote devs b e = let p = both b _ e in sym (absent_name devs.remotedev p.1)
+no_remote devs b e = let p = and_parts b _ e in sym (absent_name devs.remotedev p.1)
 
 -- the line that says a step reads as just that step
 pub reads : (step : Step) → is_written step ≡ true → line_of (step_text step) ≡ Ok (step ∷ [])

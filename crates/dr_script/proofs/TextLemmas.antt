@@ -9,14 +9,15 @@ use Rattle.std.specs.Str.Parse.{AllDigits, digits_value}
 use Rattle.std.proofs.lemmas.Bool.Decides.{nat_tests}
 use Rattle.std.proofs.lemmas.Grind.{common_steps}
 use Rattle.std.proofs.lemmas.Fmt.{decimal_is_IsNumeral, length-decimal-le}
-use Rattle.dr_ids.specs.Spelling.{upper_digit, hex_word, spelled, all_digits, but_zero, up_to, lss_word, volume_word, session_word, number_word}
+use Rattle.std.proofs.lemmas.Bool.{and_parts, and_from}
+use Rattle.dr_ids.specs.Spelling.{upper_digit, hex_word, spelled, all_digits, but_zero, up_to, lss_word, volume_word, session_word, number_word, hex2, hex4}
 use Rattle.dr_ids.proofs.Digits.{spelled_some, digits_all}
 use Rattle.dr_model.specs.declared.step.Name.{Name}
 use Rattle.dr_model.specs.LineWords.{mark_at, begins_with_letter, is_hex, spelled_bytes, is_name, is_name_byte, name_of, name_word, sequence_word}
-use Rattle.dr_ids.specs.Spelling.{hex2, hex4}
 use Rattle.dr_model.specs.LineText.{hex8, unpadded, sequence_text, name_text, name_fits, bytes_text, bytes_fit}
 use Rattle.dr_script.specs.Pieces.{is_ink}
-use Rattle.dr_script.proofs.CutLemmas.{is_inked, both, and_true}
+use Rattle.dr_script.proofs.CutLemmas.{is_inked}
+use Rattle.dr_logic.proofs.Lists.{same_bytes}
 
 -- an upper-case digit is a digit, with its value, and no gap or mark
 pub upper_is : (n : ℕ) → n < 16 → (is_digit (upper_digit n) 16 ≡ true) × (digit_value (upper_digit n) ≡ n)
@@ -95,7 +96,7 @@ digit_ink c lt = grind (arith, common_steps, nat_tests)
 
 pub digits_ink : (radix : ℕ) (ds : List ℕ) → radix ≤ 16 → AllDigits radix ds → list_all is_ink ds ≡ true
 digits_ink radix [] small all = refl
-digits_ink radix (d ∷ ds) small all = and_true (is_ink d) (list_all is_ink ds) (digit_ink d (let p = all.0 in omega arith)) (digits_ink radix ds small all.1)
+digits_ink radix (d ∷ ds) small all = and_from (is_ink d) (list_all is_ink ds) (digit_ink d (let p = all.0 in omega arith)) (digits_ink radix ds small all.1)
 
 pub inked_if : (w : List ℕ) → 0 < length w → list_all is_ink w ≡ true → is_inked w ≡ true
 inked_if [] some all = absurd (omega arith)
@@ -105,12 +106,12 @@ pub decimal_inked : (n : ℕ) → n < 2 ^ 32 → is_inked (decimal n) ≡ true
 decimal_inked n lt = let p = decimal_is_IsNumeral n (omega arith) in inked_if (decimal n) p.0.0 (digits_ink 10 (decimal n) (omega arith) p.0.1)
 
 pub hex2_inked : (n : ℕ) → is_inked (hex2 n) ≡ true
-hex2_inked n = and_true (is_ink (upper_digit (n / 16))) _ (upper_ink (n / 16)) (and_true (is_ink (upper_digit (n % 16))) true (upper_ink (n % 16)) refl)
+hex2_inked n = and_from (is_ink (upper_digit (n / 16))) _ (upper_ink (n / 16)) (and_from (is_ink (upper_digit (n % 16))) true (upper_ink (n % 16)) refl)
 
 pub hex4_inked : (n : ℕ) → is_inked (hex4 n) ≡ true
 hex4_inked n =
-    and_true (is_ink (upper_digit (n / 256 / 16))) _ (upper_ink (n / 256 / 16)) (and_true (is_ink (upper_digit (n / 256 % 16))) _ (upper_ink (n / 256 % 16))
-    (and_true (is_ink (upper_digit (n % 256 / 16))) _ (upper_ink (n % 256 / 16)) (and_true (is_ink (upper_digit (n % 256 % 16))) true (upper_ink (n % 256 % 16)) refl)))
+    and_from (is_ink (upper_digit (n / 256 / 16))) _ (upper_ink (n / 256 / 16)) (and_from (is_ink (upper_digit (n / 256 % 16))) _ (upper_ink (n / 256 % 16))
+    (and_from (is_ink (upper_digit (n % 256 / 16))) _ (upper_ink (n % 256 / 16)) (and_from (is_ink (upper_digit (n % 256 % 16))) true (upper_ink (n % 256 % 16)) refl)))
 
 -- a sequence number reads as it is written
 pub record Unpadded (ds : List ℕ) : Type 0 where
@@ -170,20 +171,11 @@ name_byte_ink b is = grind (arith, common_steps, nat_tests)
 
 name_bytes_ink : (bs : List ℕ) → list_all is_name_byte bs ≡ true → list_all is_ink bs ≡ true
 name_bytes_ink [] is = refl
-name_bytes_ink (b ∷ bs) is = let p = both (is_name_byte b) (list_all is_name_byte bs) is in and_true (is_ink b) (list_all is_ink bs) (name_byte_ink b p.0) (name_bytes_ink bs p.1)
+name_bytes_ink (b ∷ bs) is = let p = and_parts (is_name_byte b) (list_all is_name_byte bs) is in and_from (is_ink b) (list_all is_ink bs) (name_byte_ink b p.0) (name_bytes_ink bs p.1)
 
 begun : (w : List ℕ) → begins_with_letter w ≡ true → 0 < length w
 begun [] is = absurd (cc)
 begun (b ∷ bs) is = omega arith
-
-pub same_bytes : (xs ys : List ℕ) → bytes_eq xs ys ≡ true → xs ≡ ys
-same_bytes [] [] e = refl
-same_bytes [] (y ∷ ys) e = absurd (cc)
-same_bytes (x ∷ xs) [] e = absurd (cc)
-same_bytes (x ∷ xs) (y ∷ ys) e =
-    let p = both (nat_eq x y) (bytes_eq xs ys) e in
-    let h : x ≡ y = grind (arith, nat_tests, p.0) in
-    (λ i. h i ∷ same_bytes xs ys p.1 i)
 
 pub record NameReads (name : Name) : Type 0 where
   pub reads : name_word (name_text name) ≡ Some name
@@ -193,12 +185,12 @@ pub record NameReads (name : Name) : Type 0 where
 pub name_reads : (name : Name) → name_fits name ≡ true → NameReads name
 name_reads name fits =
     let t = name_text name in
-    let outer = both (is_name t && nat_eq (length t) name.len) _ fits in
-    let inner = both (is_name t) _ outer.0 in
+    let outer = and_parts (is_name t && nat_eq (length t) name.len) _ fits in
+    let inner = and_parts (is_name t) _ outer.0 in
     let size : length t ≡ name.len = grind (arith, nat_tests, inner.1) in
     let bytes : name.bytes ≡ t ++ replicate (24 - length t) 0 = same_bytes name.bytes (t ++ replicate (24 - length t) 0) outer.1 in
-    let named = both (nat_le (length t) 24 && begins_with_letter t) _ inner.0 in
-    let parts = both (nat_le (length t) 24) _ named.0 in
+    let named = and_parts (nat_le (length t) 24 && begins_with_letter t) _ inner.0 in
+    let parts = and_parts (nat_le (length t) 24) _ named.0 in
     record {
       reads = ap (λ b. cond b (Some (name_of t)) None) inner.0 ∙ (λ i. Some (record { len = size i; bytes = sym bytes i }));
       inked = inked_if t (begun t parts.1) (name_bytes_ink t named.1);
@@ -213,14 +205,14 @@ marked : (mark : ℕ) (w rest : List ℕ) → free_of mark w ≡ true → positi
 unfolding free_of
 marked mark [] rest free = ap (λ b. cond (not b) (1 + position_or_len (λ x. nat_eq x mark) rest) 0) (let e : nat_eq mark mark ≡ true = grind (arith, nat_tests) in e)
 marked mark (b ∷ bs) rest free =
-    let p = both (not (nat_eq b mark)) (free_of mark bs) free in
+    let p = and_parts (not (nat_eq b mark)) (free_of mark bs) free in
     ap (λ v. cond v (1 + position_or_len (λ x. nat_eq x mark) (bs ++ mark ∷ rest)) 0) p.0 ∙ (let m = marked mark bs rest p.1 in omega (arith, m))
 
 unmarked : (mark : ℕ) (w : List ℕ) → free_of mark w ≡ true → position_or_len (λ b. nat_eq b mark) w ≡ length w
 unfolding free_of
 unmarked mark [] free = refl
 unmarked mark (b ∷ bs) free =
-    let p = both (not (nat_eq b mark)) (free_of mark bs) free in
+    let p = and_parts (not (nat_eq b mark)) (free_of mark bs) free in
     ap (λ v. cond v (1 + position_or_len (λ x. nat_eq x mark) bs) 0) p.0 ∙ (let m = unmarked mark bs p.1 in omega (arith, m))
 
 pub mark_found : (mark : ℕ) (w rest : List ℕ) → free_of mark w ≡ true → mark_at mark (w ++ mark ∷ rest) ≡ Some (length w)
@@ -242,16 +234,16 @@ not_true false e = refl
 
 pub hex2_free : (n mark : ℕ) → mark < 48 → free_of mark (hex2 n) ≡ true
 unfolding free_of
-hex2_free n mark lt = and_true (not (nat_eq (upper_digit (n / 16)) mark)) _ (not_true _ (upper_not (n / 16) mark lt)) (and_true (not (nat_eq (upper_digit (n % 16)) mark)) true (not_true _ (upper_not (n % 16) mark lt)) refl)
+hex2_free n mark lt = and_from (not (nat_eq (upper_digit (n / 16)) mark)) _ (not_true _ (upper_not (n / 16) mark lt)) (and_from (not (nat_eq (upper_digit (n % 16)) mark)) true (not_true _ (upper_not (n % 16) mark lt)) refl)
 
 pub hex2_colon : (n : ℕ) → n < 256 → free_of 58 (hex2 n) ≡ true
 unfolding free_of
-hex2_colon n lt = and_true (not (nat_eq (upper_digit (n / 16)) 58)) _ (not_true _ (upper_not_colon (n / 16) (high n lt))) (and_true (not (nat_eq (upper_digit (n % 16)) 58)) true (not_true _ (upper_not_colon (n % 16) (low n))) refl)
+hex2_colon n lt = and_from (not (nat_eq (upper_digit (n / 16)) 58)) _ (not_true _ (upper_not_colon (n / 16) (high n lt))) (and_from (not (nat_eq (upper_digit (n % 16)) 58)) true (not_true _ (upper_not_colon (n % 16) (low n))) refl)
 
 free-append : (mark : ℕ) (a b : List ℕ) → free_of mark a ≡ true → free_of mark b ≡ true → free_of mark (a ++ b) ≡ true
 unfolding free_of
 free-append mark [] b e f = f
-free-append mark (x ∷ xs) b e f = let p = both (not (nat_eq x mark)) (free_of mark xs) e in and_true (not (nat_eq x mark)) _ p.0 (free-append mark xs b p.1 f)
+free-append mark (x ∷ xs) b e f = let p = and_parts (not (nat_eq x mark)) (free_of mark xs) e in and_from (not (nat_eq x mark)) _ p.0 (free-append mark xs b p.1 f)
 
 pub hex4_free : (n mark : ℕ) → mark < 48 → free_of mark (hex4 n) ≡ true
 hex4_free n mark lt = free-append mark (hex2 (n / 256)) (hex2 (n % 256)) (hex2_free (n / 256) mark lt) (hex2_free (n % 256) mark lt)
@@ -263,7 +255,7 @@ hex4_colon n lt = free-append 58 (hex2 (n / 256)) (hex2 (n % 256)) (hex2_colon (
 bytes_digits : (bs : List ℕ) → list_all (λ b. nat_lt b 256) bs ≡ true → AllDigits 16 (bytes_text bs) × (length (bytes_text bs) ≡ 2 * length bs)
 bytes_digits [] e = (tt, refl)
 bytes_digits (b ∷ bs) e =
-    let p = both (nat_lt b 256) (list_all (λ x. nat_lt x 256) bs) e in
+    let p = and_parts (nat_lt b 256) (list_all (λ x. nat_lt x 256) bs) e in
     let lt : b < 256 = grind (arith, nat_tests, p.0) in
     let rest = bytes_digits bs p.1 in
     let digits = hex2_all b lt in
@@ -280,8 +272,8 @@ pub record BytesRead (len : ℕ) (bytes : List ℕ) : Type 0 where
 pub bytes_read : (len : ℕ) (bytes : List ℕ) → 1 ≤ len → len ≤ 64 → bytes_fit len bytes ≡ true → BytesRead len bytes
 bytes_read len bytes some few fits =
     let t = bytes_text (take len bytes) in
-    let outer = both (nat_eq (length bytes) 64 && list_all (λ b. nat_lt b 256) (take len bytes)) _ fits in
-    let inner = both (nat_eq (length bytes) 64) _ outer.0 in
+    let outer = and_parts (nat_eq (length bytes) 64 && list_all (λ b. nat_lt b 256) (take len bytes)) _ fits in
+    let inner = and_parts (nat_eq (length bytes) 64) _ outer.0 in
     let sixty_four : length bytes ≡ 64 = grind (arith, nat_tests, inner.0) in
     let taken : length (take len bytes) ≡ len = grind (arith, common_steps, sixty_four, few) in
     let d = bytes_digits (take len bytes) inner.1 in
@@ -292,7 +284,7 @@ bytes_read len bytes some few fits =
     let at_least : nat_le 2 (length t) ≡ true = (let z : 2 ≤ length t = omega arith in grind (arith, nat_tests, z)) in
     let at_most : nat_le (length t) 128 ≡ true = (let z : length t ≤ 128 = omega arith in grind (arith, nat_tests, z)) in
     record {
-      hex = and_true _ _ (and_true _ _ (and_true _ _ at_least at_most) even) all;
+      hex = and_from _ _ (and_from _ _ (and_from _ _ at_least at_most) even) all;
       digits = all;
       size = size;
       block = sym (same_bytes bytes (spelled_bytes t) outer.1);

@@ -6,7 +6,7 @@ use Rattle.std.proofs.lemmas.Bool.Decides.{nat_tests}
 use Rattle.std.proofs.lemmas.List.{append-nil, take_more_set, drop-drop, drop-replicate, drop-set-lt}
 use Rattle.std.proofs.lemmas.List.FromFn.{map-range_with_len_more}
 use Rattle.std.specs.List.{range_with_len}
-use Rattle.dr_model.specs.Contents.{zeros}
+use Rattle.dr_logic.specs.Bytes.{zeros}
 use Rattle.dr_model.specs.LineWords.{byte_at, digit_or_zero, spelled_bytes}
 use Rattle.dr_script.specs.Pieces.{empty_name}
 

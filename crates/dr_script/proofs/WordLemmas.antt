@@ -6,8 +6,10 @@ use Rattle.std.proofs.lemmas.List.Splits.{slice_split-cons_yes, slice_split-cons
 use Rattle.std.proofs.lemmas.Bool.Decides.{nat_tests}
 use Rattle.std.specs.Option.{unwrap_or}
 use Rattle.std.specs.List.{position, position_or_len, slice_split, onto_first}
+use Rattle.std.proofs.lemmas.Bool.{not-true}
 use Rattle.dr_model.specs.LineWords.{Word, is_gap, words_from, words_behind}
 use Rattle.dr_script.specs.Pieces.{is_ink}
+use Rattle.dr_logic.proofs.Lists.{to_the_end}
 
 moved : (c n : ℕ) (pieces : List (List ℕ)) → c ≡ n → words_from c pieces ≡ words_from n pieces
 moved c n pieces e = ap (λ m. words_from m pieces) e
@@ -85,9 +87,6 @@ nonempty (b ∷ bs) c lt e =
           ∙ ap (λ k. word c (take k (b ∷ bs)) ∷ words_from (c + k) (slice_split is_gap (drop k (b ∷ bs)))) (sym len'),
     )
 
-whole : (xs : List ℕ) (at : ℕ) → take (length xs - at) (drop at xs) ≡ drop at xs
-whole xs at = grind (arith, common_steps)
-
 none_here : (c : ℕ) → words_from c (slice_split is_gap []) ≡ []
 unfolding words_from
 none_here c = refl
@@ -111,7 +110,7 @@ unfolding words_behind
 nothing_behind line at le = ap (λ xs. words_from (at + 1) (slice_split is_gap xs)) (let d : drop at line ≡ [] = grind (arith, common_steps) in d) ∙ none_here (at + 1)
 
 pub none_found : (line : List ℕ) (at gap : ℕ) → at ≤ length line → gap ≡ position_or_len is_ink (take (length line - at) (drop at line)) → at + gap ≡ length line → words_behind at line ≡ []
-none_found line at gap le e all = skipped line at gap (e ∙ ap (position_or_len is_ink) (whole line at)) ∙ nothing_behind line (at + gap) (omega arith)
+none_found line at gap le e all = skipped line at gap (e ∙ ap (position_or_len is_ink) (to_the_end line at)) ∙ nothing_behind line (at + gap) (omega arith)
 
 word_behind : (line : List ℕ) (start len : ℕ) → start < length line → is_gap (get_or line start 0) ≡ false → len ≡ position_or_len is_gap (drop start line)
     → (0 < len) × (words_behind start line ≡ record { column = start + 1; bytes = take len (drop start line) } ∷ words_behind (start + len) line)
@@ -125,21 +124,17 @@ word_behind line start len lt ink e =
           ∙ ap (λ xs. words_from (start + len + 1) (slice_split is_gap xs)) (let d : drop len (drop start line) ≡ drop (start + len) line = grind (arith, common_steps) in d)),
     )
 
-ink_is_no_gap : (b : Bool) → not b ≡ true → b ≡ false
-ink_is_no_gap true e = sym e
-ink_is_no_gap false e = refl
-
 pub found : (line : List ℕ) (at gap len : ℕ) → at ≤ length line → gap ≡ position_or_len is_ink (take (length line - at) (drop at line)) → (at + gap ≡ length line → ⊥)
     → len ≡ position_or_len is_gap (take (length line - (at + gap)) (drop (at + gap) line)) → Found line at gap len
 found line at gap len le e some l =
-    let e' : gap ≡ position_or_len is_ink (drop at line) = e ∙ ap (position_or_len is_ink) (whole line at) in
-    let l' : len ≡ position_or_len is_gap (drop (at + gap) line) = l ∙ ap (position_or_len is_gap) (whole line (at + gap)) in
+    let e' : gap ≡ position_or_len is_ink (drop at line) = e ∙ ap (position_or_len is_ink) (to_the_end line at) in
+    let l' : len ≡ position_or_len is_gap (drop (at + gap) line) = l ∙ ap (position_or_len is_gap) (to_the_end line (at + gap)) in
     let short = prefix_len-le-length (λ x. not (is_ink x)) (drop at line) in
     let size : length (drop at line) ≡ length line - at = grind (arith, common_steps) in
     let lt : at + gap < length line = omega arith in
     let ink : is_ink (get_or (drop at line) (position_or_len is_ink (drop at line)) 0) ≡ true = passes_at_first is_ink (drop at line) 0 (omega arith) in
     let there : get_or (drop at line) gap 0 ≡ get_or line (at + gap) 0 = grind (arith, common_steps) in
-    let no : is_gap (get_or line (at + gap) 0) ≡ false = ink_is_no_gap (is_gap (get_or line (at + gap) 0)) (ap is_ink (sym there ∙ ap (λ n. get_or (drop at line) n 0) e') ∙ ink) in
+    let no : is_gap (get_or line (at + gap) 0) ≡ false = not-true (is_gap (get_or line (at + gap) 0)) (ap is_ink (sym there ∙ ap (λ n. get_or (drop at line) n 0) e') ∙ ink) in
     let w = word_behind line (at + gap) len lt no l' in
     let short' = prefix_len-le-length (λ x. not (is_gap x)) (drop (at + gap) line) in
     let size' : length (drop (at + gap) line) ≡ length line - (at + gap) = grind (arith, common_steps) in

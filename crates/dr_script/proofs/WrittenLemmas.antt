@@ -5,6 +5,7 @@ use Rattle.std.specs.List.{list_all}
 use Rattle.std.specs.Option.{unwrap_or, is_some, is_none}
 use Rattle.std.proofs.lemmas.Bool.Decides.{nat_tests}
 use Rattle.std.proofs.lemmas.List.Elements.{All-cons, All-nil, All-append}
+use Rattle.std.proofs.lemmas.Bool.{and_parts, or_right, lt-ltb, and_from, eq-eqb}
 use Rattle.dr_ids.specs.declared.refusal.Fault.{Fault}
 use Rattle.dr_model.specs.declared.step.Name.{Name}
 use Rattle.dr_model.specs.declared.step.TornWord.{TornWord}
@@ -24,9 +25,8 @@ use Rattle.dr_model.specs.LineSteps.{has, no_options, no_operands, or_zero, lss_
 use Rattle.dr_model.specs.LineText.{name_fits, torn_fits, setting_fits, settings_fit, operand_fits, operands_fit, takes_remote, remote_fits, said_count, said_operands, said_fits, given, for_item, for_session, for_lss, at_saying, pair_saying, flash_saying, session_saying, is_written, IsWritten}
 use Rattle.dr_model.specs.Grammar.{Reading, command_named, is_ready, read_on, may_end, item_command, no_item, own_step, item_steps, steps_of, read_words, start_of, command_read, words_read, begins_comment, line_of}
 use Rattle.dr_script.specs.Readings.{ReadsAs}
-use Rattle.dr_script.proofs.CutLemmas.{both, and_true}
 use Rattle.dr_script.proofs.WrittenWordLemmas.{carry, Smalls}
-use Rattle.dr_script.proofs.WrittenReadLemmas.{or_right, or_given, below, OptionsSound, OperandsSound, Known, nothing_known, learned, IsFitting, start_fits, read_on_fits}
+use Rattle.dr_script.proofs.WrittenReadLemmas.{or_given, OptionsSound, OperandsSound, Known, nothing_known, learned, IsFitting, start_fits, read_on_fits}
 
 -- the operands that must have been read are known
 abbrev Enough : Command → Known → Type 0
@@ -184,12 +184,12 @@ all_given AtCompare o e = tt
 all_given AtImage o e = tt
 all_given Mkpprcpath o e = tt
 all_given Rmpprcpath o e = tt
-all_given Mkpprc o e = (both (is_some o.kind) true e).0
+all_given Mkpprc o e = (and_parts (is_some o.kind) true e).0
 all_given Rmpprc o e = tt
 all_given Pausepprc o e = tt
-all_given Resumepprc o e = (both (is_some o.kind) true e).0
-all_given Failoverpprc o e = (both (is_some o.kind) true e).0
-all_given Failbackpprc o e = (both (is_some o.kind) true e).0
+all_given Resumepprc o e = (and_parts (is_some o.kind) true e).0
+all_given Failoverpprc o e = (and_parts (is_some o.kind) true e).0
+all_given Failbackpprc o e = (and_parts (is_some o.kind) true e).0
 all_given Freezepprc o e = tt
 all_given Unfreezepprc o e = tt
 all_given Lspprc o e = tt
@@ -205,10 +205,10 @@ all_given Chsession o e = tt
 all_given Rmsession o e = tt
 all_given Lssession o e = tt
 all_given Showgmir o e = tt
-all_given Mkgmir o e = (both (is_some o.session) true (both (is_some o.lss) _ e).1).0
-all_given Resumegmir o e = (both (is_some o.session) true (both (is_some o.lss) _ e).1).0
-all_given Pausegmir o e = (both (is_some o.session) true (both (is_some o.lss) _ e).1).0
-all_given Rmgmir o e = (both (is_some o.session) true (both (is_some o.lss) _ e).1).0
+all_given Mkgmir o e = (and_parts (is_some o.session) true (and_parts (is_some o.lss) _ e).1).0
+all_given Resumegmir o e = (and_parts (is_some o.session) true (and_parts (is_some o.lss) _ e).1).0
+all_given Pausegmir o e = (and_parts (is_some o.session) true (and_parts (is_some o.lss) _ e).1).0
+all_given Rmgmir o e = (and_parts (is_some o.session) true (and_parts (is_some o.lss) _ e).1).0
 
 record Sound (c : Command) (o : Options) (p : Operands) : Type 0 where
   known : Known
@@ -303,24 +303,21 @@ setting_sound DrainTime o i h = or_right _ _ h.sound.drain
 
 settings_sound : (ss : List Setting) (o : Options) (i : Item) → SaidSound o i → settings_fit ss o i ≡ true
 settings_sound [] o i h = refl
-settings_sound (s ∷ ss) o i h = and_true (not (has s o) || setting_fits s o i) (settings_fit ss o i) (setting_sound s o i h) (settings_sound ss o i h)
+settings_sound (s ∷ ss) o i h = and_from (not (has s o) || setting_fits s o i) (settings_fit ss o i) (setting_sound s o i h) (settings_sound ss o i h)
 
 said_sound : (said : Saying) → SaidSound said.options said.item → operands_fit (said_operands said) said.operands said.item ≡ true → remote_fits (settings said.command) said.options ≡ true → said_fits said ≡ true
 said_sound said o p r =
-    and_true (settings_fit (settings said.command) said.options said.item && operands_fit (said_operands said) said.operands said.item) _
-    (and_true (settings_fit (settings said.command) said.options said.item) _ (settings_sound (settings said.command) said.options said.item o) p) r
-
-same : (n : ℕ) → nat_eq n n ≡ true
-same n = grind (arith, nat_tests)
+    and_from (settings_fit (settings said.command) said.options said.item && operands_fit (said_operands said) said.operands said.item) _
+    (and_from (settings_fit (settings said.command) said.options said.item) _ (settings_sound (settings said.command) said.options said.item o) p) r
 
 lss_low : (n : ℕ) → nat_lt (lss_in n) 256 ≡ true
-lss_low n = let z : lss_in n < 256 = omega arith in below _ 256 z
+lss_low n = let z : lss_in n < 256 = omega arith in lt-ltb _ 256 z
 
 one : (a : Bool) → a ≡ true → (a && true) ≡ true
-one a e = and_true a true e refl
+one a e = and_from a true e refl
 
 two : (a b : Bool) → a ≡ true → b ≡ true → (a && (b && true)) ≡ true
-two a b e f = and_true a (b && true) e (one b f)
+two a b e f = and_from a (b && true) e (one b f)
 
 at_sound : (c : Command) (p : Operands) (i : Item) → settings c ≡ [] → operands_fit (take (said_count c p) (operands c)) p i ≡ true → said_fits (record { command = c; options = no_options; operands = p; item = i }) ≡ true
 unfolding no_options
@@ -329,7 +326,7 @@ at_sound c p i plain e =
 
 stop_written : (server : Name) (after : Bool) (count : ℕ) (torn : TornWord) → name_fits server ≡ true → nat_lt count (2 ^ 32) ≡ true → torn_fits torn ≡ true → is_written (cond after (StopAfter server count torn) (Stop server)) ≡ true
 unfolding is_written at_saying pair_saying flash_saying session_saying settings operands said_count may_end_with operand_fits no_operands
-stop_written server true count torn n c t = at_sound AtStop (record no_operands { server = server; after = true; torn = torn; count = count }) no_item refl (and_true _ _ n (and_true _ _ c (one _ t)))
+stop_written server true count torn n c t = at_sound AtStop (record no_operands { server = server; after = true; torn = torn; count = count }) no_item refl (and_from _ _ n (and_from _ _ c (one _ t)))
 stop_written server false count torn n c t = at_sound AtStop (record no_operands { server = server }) no_item refl (one _ n)
 
 exchange_written : (session : ℕ) (server : Name) (reply : Bool) → (nat_le 1 session && nat_lt session 256) ≡ true → name_fits server ≡ true → is_written (Exchange session server reply) ≡ true
@@ -340,19 +337,19 @@ exchange_written session server false s n = at_sound AtExchange (record no_opera
 member_written : (adds : Bool) (o : Options) (session volume : ℕ) → OptionsSound false o → (nat_le 1 session && nat_lt session 256) ≡ true → volume < 65536
     → is_written (cond adds (AddMember o.devs (or_zero o.lss) volume session) (RemoveMember o.devs (or_zero o.lss) volume session)) ≡ true
 unfolding is_written at_saying pair_saying flash_saying session_saying settings operands said_count may_end_with operand_fits no_operands no_options
-member_written true o session volume h s v = said_sound (for_session Chsession (record no_options { devs = o.devs; lss = Some (or_zero o.lss); members = true; adds = Some true }) session volume) (record { quiet = refl; port = refl; members = and_true _ _ (below _ 65536 v) (same volume); sound = record { remote_ok = refl; dev = h.dev; remote = h.remote; src = refl; tgt = refl; kind = refl; sequence = refl; lss = h.lss; session = refl; cginterval = refl; coordinate = refl; drain = refl } }) (one _ s) h.remote_ok
-member_written false o session volume h s v = said_sound (for_session Chsession (record no_options { devs = o.devs; lss = Some (or_zero o.lss); members = true; adds = Some false }) session volume) (record { quiet = refl; port = refl; members = and_true _ _ (below _ 65536 v) (same volume); sound = record { remote_ok = refl; dev = h.dev; remote = h.remote; src = refl; tgt = refl; kind = refl; sequence = refl; lss = h.lss; session = refl; cginterval = refl; coordinate = refl; drain = refl } }) (one _ s) h.remote_ok
+member_written true o session volume h s v = said_sound (for_session Chsession (record no_options { devs = o.devs; lss = Some (or_zero o.lss); members = true; adds = Some true }) session volume) (record { quiet = refl; port = refl; members = and_from _ _ (lt-ltb _ 65536 v) ((eq-eqb volume volume refl)); sound = record { remote_ok = refl; dev = h.dev; remote = h.remote; src = refl; tgt = refl; kind = refl; sequence = refl; lss = h.lss; session = refl; cginterval = refl; coordinate = refl; drain = refl } }) (one _ s) h.remote_ok
+member_written false o session volume h s v = said_sound (for_session Chsession (record no_options { devs = o.devs; lss = Some (or_zero o.lss); members = true; adds = Some false }) session volume) (record { quiet = refl; port = refl; members = and_from _ _ (lt-ltb _ 65536 v) ((eq-eqb volume volume refl)); sound = record { remote_ok = refl; dev = h.dev; remote = h.remote; src = refl; tgt = refl; kind = refl; sequence = refl; lss = h.lss; session = refl; cginterval = refl; coordinate = refl; drain = refl } }) (one _ s) h.remote_ok
 
 step_written : (c : Command) (o : Options) (p : Operands) (i : Item) → Sound c o p → (i.first < 65536) × (i.second < 65536) → is_written (step_of c o p i) ≡ true
 unfolding is_written step_of at_saying pair_saying flash_saying session_saying settings operands said_count may_end_with operand_fits no_operands no_options
 step_written AtServer o p i h s = at_sound AtServer (record no_operands { server = p.server }) (no_item) refl (one _ (h.operands.server h.enough))
-step_written AtVolume o p i h s = at_sound AtVolume (record no_operands { server = p.server; count = p.count }) (record { first = i.first; second = i.first }) refl (and_true _ _ (and_true _ _ (below _ 65536 s.0) (same i.first)) (two _ _ (h.operands.server h.enough) h.operands.count))
+step_written AtVolume o p i h s = at_sound AtVolume (record no_operands { server = p.server; count = p.count }) (record { first = i.first; second = i.first }) refl (and_from _ _ (and_from _ _ (lt-ltb _ 65536 s.0) ((eq-eqb i.first i.first refl))) (two _ _ (h.operands.server h.enough) h.operands.count))
 step_written AtLink o p i h s = at_sound AtLink (record no_operands { server = p.server; other = p.other; up = p.up }) (no_item) refl (two _ _ (h.operands.server h.enough.0) (h.operands.other h.enough.1))
 step_written AtStop o p i h s = stop_written p.server p.after p.count p.torn (h.operands.server h.enough) h.operands.count h.operands.torn
 step_written AtStart o p i h s = at_sound AtStart (record no_operands { server = p.server }) (no_item) refl (one _ (h.operands.server h.enough))
 step_written AtExpire o p i h s = at_sound AtExpire (record no_operands { server = p.server }) (no_item) refl (one _ (h.operands.server h.enough))
-step_written AtIssue o p i h s = at_sound AtIssue (record no_operands { volume = p.volume; track = p.track; offset = p.offset; len = p.len; bytes = p.bytes }) (no_item) refl (and_true _ _ h.operands.volume (and_true _ _ h.operands.track (two _ _ h.operands.offset (h.operands.bytes h.enough))))
-step_written AtWrite o p i h s = at_sound AtWrite (record no_operands { volume = p.volume; track = p.track; offset = p.offset; len = p.len; bytes = p.bytes }) (no_item) refl (and_true _ _ h.operands.volume (and_true _ _ h.operands.track (two _ _ h.operands.offset (h.operands.bytes h.enough))))
+step_written AtIssue o p i h s = at_sound AtIssue (record no_operands { volume = p.volume; track = p.track; offset = p.offset; len = p.len; bytes = p.bytes }) (no_item) refl (and_from _ _ h.operands.volume (and_from _ _ h.operands.track (two _ _ h.operands.offset (h.operands.bytes h.enough))))
+step_written AtWrite o p i h s = at_sound AtWrite (record no_operands { volume = p.volume; track = p.track; offset = p.offset; len = p.len; bytes = p.bytes }) (no_item) refl (and_from _ _ h.operands.volume (and_from _ _ h.operands.track (two _ _ h.operands.offset (h.operands.bytes h.enough))))
 step_written AtApply o p i h s = at_sound AtApply (record no_operands { count = p.count }) (no_item) refl (one _ h.operands.count)
 step_written AtDrain o p i h s = at_sound AtDrain (record no_operands { volume = p.volume; most = p.most }) (no_item) refl (two _ _ h.operands.volume h.operands.most)
 step_written AtCopy o p i h s = at_sound AtCopy (record no_operands { volume = p.volume; most = p.most }) (no_item) refl (two _ _ h.operands.volume h.operands.most)
@@ -364,23 +361,23 @@ step_written AtShow o p i h s = at_sound AtShow (record no_operands { volume = p
 step_written AtCompare o p i h s = at_sound AtCompare (record no_operands { volume = p.volume; with = p.with }) (no_item) refl (two _ _ h.operands.volume h.operands.with)
 step_written AtImage o p i h s = at_sound AtImage (no_operands) (no_item) refl (refl)
 step_written Mkpprcpath o p i h s = said_sound (for_item Mkpprcpath (record no_options { devs = o.devs; src = Some (or_zero o.src); tgt = Some (or_zero o.tgt); group = o.group }) 0 0) (record { quiet = refl; port = refl; members = refl; sound = record { remote_ok = refl; dev = h.options.dev; remote = h.options.remote; src = h.options.src; tgt = h.options.tgt; kind = refl; sequence = refl; lss = refl; session = refl; cginterval = refl; coordinate = refl; drain = refl } }) (refl) (refl)
-step_written Rmpprcpath o p i h s = said_sound (for_item Rmpprcpath (record no_options { devs = o.devs; force = o.force }) (lss_in i.first) (lss_in i.second)) (record { quiet = refl; port = refl; members = refl; sound = record { remote_ok = refl; dev = h.options.dev; remote = h.options.remote; src = refl; tgt = refl; kind = refl; sequence = refl; lss = refl; session = refl; cginterval = refl; coordinate = refl; drain = refl } }) (one _ (and_true _ _ (lss_low i.first) (lss_low i.second))) (refl)
-step_written Mkpprc o p i h s = said_sound (for_item Mkpprc (record no_options { devs = o.devs; kind = Some (or_zero o.kind); full = cond (unwrap_or o.full true) None (Some false) }) i.first i.second) (record { quiet = refl; port = refl; members = refl; sound = record { remote_ok = refl; dev = h.options.dev; remote = h.options.remote; src = refl; tgt = refl; kind = or_given _ _ h.given h.options.kind; sequence = refl; lss = refl; session = refl; cginterval = refl; coordinate = refl; drain = refl } }) (one _ (and_true _ _ (below _ 65536 s.0) (below _ 65536 s.1))) (refl)
-step_written Rmpprc o p i h s = said_sound (for_item Rmpprc (record no_options { devs = o.devs; unconditional = o.unconditional; at_source = o.unconditional }) i.first i.second) (record { quiet = refl; port = refl; members = refl; sound = record { remote_ok = refl; dev = h.options.dev; remote = h.options.remote; src = refl; tgt = refl; kind = refl; sequence = refl; lss = refl; session = refl; cginterval = refl; coordinate = refl; drain = refl } }) (one _ (and_true _ _ (below _ 65536 s.0) (below _ 65536 s.1))) (refl)
-step_written Pausepprc o p i h s = said_sound (for_item Pausepprc (given o.devs) i.first i.second) (record { quiet = refl; port = refl; members = refl; sound = record { remote_ok = refl; dev = h.options.dev; remote = h.options.remote; src = refl; tgt = refl; kind = refl; sequence = refl; lss = refl; session = refl; cginterval = refl; coordinate = refl; drain = refl } }) (one _ (and_true _ _ (below _ 65536 s.0) (below _ 65536 s.1))) (refl)
-step_written Resumepprc o p i h s = said_sound (for_item Resumepprc (record no_options { devs = o.devs; kind = Some (or_zero o.kind) }) i.first i.second) (record { quiet = refl; port = refl; members = refl; sound = record { remote_ok = refl; dev = h.options.dev; remote = h.options.remote; src = refl; tgt = refl; kind = or_given _ _ h.given h.options.kind; sequence = refl; lss = refl; session = refl; cginterval = refl; coordinate = refl; drain = refl } }) (one _ (and_true _ _ (below _ 65536 s.0) (below _ 65536 s.1))) (refl)
-step_written Failoverpprc o p i h s = said_sound (for_item Failoverpprc (record no_options { devs = o.devs; kind = Some (or_zero o.kind) }) i.first i.second) (record { quiet = refl; port = refl; members = refl; sound = record { remote_ok = refl; dev = h.options.dev; remote = h.options.remote; src = refl; tgt = refl; kind = or_given _ _ h.given h.options.kind; sequence = refl; lss = refl; session = refl; cginterval = refl; coordinate = refl; drain = refl } }) (one _ (and_true _ _ (below _ 65536 s.0) (below _ 65536 s.1))) (refl)
-step_written Failbackpprc o p i h s = said_sound (for_item Failbackpprc (record no_options { devs = o.devs; kind = Some (or_zero o.kind) }) i.first i.second) (record { quiet = refl; port = refl; members = refl; sound = record { remote_ok = refl; dev = h.options.dev; remote = h.options.remote; src = refl; tgt = refl; kind = or_given _ _ h.given h.options.kind; sequence = refl; lss = refl; session = refl; cginterval = refl; coordinate = refl; drain = refl } }) (one _ (and_true _ _ (below _ 65536 s.0) (below _ 65536 s.1))) (refl)
-step_written Freezepprc o p i h s = said_sound (for_item Freezepprc (given o.devs) (lss_in i.first) (lss_in i.second)) (record { quiet = refl; port = refl; members = refl; sound = record { remote_ok = refl; dev = h.options.dev; remote = h.options.remote; src = refl; tgt = refl; kind = refl; sequence = refl; lss = refl; session = refl; cginterval = refl; coordinate = refl; drain = refl } }) (one _ (and_true _ _ (lss_low i.first) (lss_low i.second))) (refl)
-step_written Unfreezepprc o p i h s = said_sound (for_item Unfreezepprc (given o.devs) (lss_in i.first) (lss_in i.second)) (record { quiet = refl; port = refl; members = refl; sound = record { remote_ok = refl; dev = h.options.dev; remote = h.options.remote; src = refl; tgt = refl; kind = refl; sequence = refl; lss = refl; session = refl; cginterval = refl; coordinate = refl; drain = refl } }) (one _ (and_true _ _ (lss_low i.first) (lss_low i.second))) (refl)
-step_written Lspprc o p i h s = said_sound (for_item Lspprc (given o.devs) i.first i.first) (record { quiet = refl; port = refl; members = refl; sound = record { remote_ok = refl; dev = h.options.dev; remote = h.options.remote; src = refl; tgt = refl; kind = refl; sequence = refl; lss = refl; session = refl; cginterval = refl; coordinate = refl; drain = refl } }) (one _ (and_true _ _ (below _ 65536 s.0) (same i.first))) (refl)
-step_written Lsflash o p i h s = said_sound (for_item Lsflash (given o.devs) i.first i.first) (record { quiet = refl; port = refl; members = refl; sound = record { remote_ok = refl; dev = h.options.dev; remote = h.options.remote; src = refl; tgt = refl; kind = refl; sequence = refl; lss = refl; session = refl; cginterval = refl; coordinate = refl; drain = refl } }) (one _ (and_true _ _ (below _ 65536 s.0) (same i.first))) (h.options.remote_ok)
-step_written Mkflash o p i h s = said_sound (for_item Mkflash (record no_options { devs = o.devs; nocopy = o.nocopy; persistent = o.persistent; recorded = o.recorded; inhibited = o.inhibited; sequence = o.sequence }) i.first i.second) (record { quiet = refl; port = refl; members = refl; sound = record { remote_ok = refl; dev = h.options.dev; remote = h.options.remote; src = refl; tgt = refl; kind = refl; sequence = h.options.sequence; lss = refl; session = refl; cginterval = refl; coordinate = refl; drain = refl } }) (one _ (and_true _ _ (below _ 65536 s.0) (below _ 65536 s.1))) (h.options.remote_ok)
-step_written Resyncflash o p i h s = said_sound (for_item Resyncflash (record no_options { devs = o.devs; nocopy = o.nocopy; persistent = o.persistent; recorded = o.recorded; inhibited = o.inhibited; sequence = o.sequence }) i.first i.second) (record { quiet = refl; port = refl; members = refl; sound = record { remote_ok = refl; dev = h.options.dev; remote = h.options.remote; src = refl; tgt = refl; kind = refl; sequence = h.options.sequence; lss = refl; session = refl; cginterval = refl; coordinate = refl; drain = refl } }) (one _ (and_true _ _ (below _ 65536 s.0) (below _ 65536 s.1))) (h.options.remote_ok)
-step_written Rmflash o p i h s = said_sound (for_item Rmflash (record no_options { devs = o.devs; sequence = o.sequence }) i.first i.second) (record { quiet = refl; port = refl; members = refl; sound = record { remote_ok = refl; dev = h.options.dev; remote = h.options.remote; src = refl; tgt = refl; kind = refl; sequence = h.options.sequence; lss = refl; session = refl; cginterval = refl; coordinate = refl; drain = refl } }) (one _ (and_true _ _ (below _ 65536 s.0) (below _ 65536 s.1))) (h.options.remote_ok)
-step_written Reverseflash o p i h s = said_sound (for_item Reverseflash (record no_options { devs = o.devs; sequence = o.sequence; fast = true; tgtpprc = o.tgtpprc }) i.first i.second) (record { quiet = refl; port = refl; members = refl; sound = record { remote_ok = refl; dev = h.options.dev; remote = h.options.remote; src = refl; tgt = refl; kind = refl; sequence = h.options.sequence; lss = refl; session = refl; cginterval = refl; coordinate = refl; drain = refl } }) (one _ (and_true _ _ (below _ 65536 s.0) (below _ 65536 s.1))) (h.options.remote_ok)
-step_written Commitflash o p i h s = said_sound (for_item Commitflash (record no_options { devs = o.devs; sequence = o.sequence }) i.first i.first) (record { quiet = refl; port = refl; members = refl; sound = record { remote_ok = refl; dev = h.options.dev; remote = h.options.remote; src = refl; tgt = refl; kind = refl; sequence = h.options.sequence; lss = refl; session = refl; cginterval = refl; coordinate = refl; drain = refl } }) (one _ (and_true _ _ (below _ 65536 s.0) (same i.first))) (h.options.remote_ok)
-step_written Revertflash o p i h s = said_sound (for_item Revertflash (record no_options { devs = o.devs; sequence = o.sequence }) i.first i.first) (record { quiet = refl; port = refl; members = refl; sound = record { remote_ok = refl; dev = h.options.dev; remote = h.options.remote; src = refl; tgt = refl; kind = refl; sequence = h.options.sequence; lss = refl; session = refl; cginterval = refl; coordinate = refl; drain = refl } }) (one _ (and_true _ _ (below _ 65536 s.0) (same i.first))) (h.options.remote_ok)
+step_written Rmpprcpath o p i h s = said_sound (for_item Rmpprcpath (record no_options { devs = o.devs; force = o.force }) (lss_in i.first) (lss_in i.second)) (record { quiet = refl; port = refl; members = refl; sound = record { remote_ok = refl; dev = h.options.dev; remote = h.options.remote; src = refl; tgt = refl; kind = refl; sequence = refl; lss = refl; session = refl; cginterval = refl; coordinate = refl; drain = refl } }) (one _ (and_from _ _ (lss_low i.first) (lss_low i.second))) (refl)
+step_written Mkpprc o p i h s = said_sound (for_item Mkpprc (record no_options { devs = o.devs; kind = Some (or_zero o.kind); full = cond (unwrap_or o.full true) None (Some false) }) i.first i.second) (record { quiet = refl; port = refl; members = refl; sound = record { remote_ok = refl; dev = h.options.dev; remote = h.options.remote; src = refl; tgt = refl; kind = or_given _ _ h.given h.options.kind; sequence = refl; lss = refl; session = refl; cginterval = refl; coordinate = refl; drain = refl } }) (one _ (and_from _ _ (lt-ltb _ 65536 s.0) (lt-ltb _ 65536 s.1))) (refl)
+step_written Rmpprc o p i h s = said_sound (for_item Rmpprc (record no_options { devs = o.devs; unconditional = o.unconditional; at_source = o.unconditional }) i.first i.second) (record { quiet = refl; port = refl; members = refl; sound = record { remote_ok = refl; dev = h.options.dev; remote = h.options.remote; src = refl; tgt = refl; kind = refl; sequence = refl; lss = refl; session = refl; cginterval = refl; coordinate = refl; drain = refl } }) (one _ (and_from _ _ (lt-ltb _ 65536 s.0) (lt-ltb _ 65536 s.1))) (refl)
+step_written Pausepprc o p i h s = said_sound (for_item Pausepprc (given o.devs) i.first i.second) (record { quiet = refl; port = refl; members = refl; sound = record { remote_ok = refl; dev = h.options.dev; remote = h.options.remote; src = refl; tgt = refl; kind = refl; sequence = refl; lss = refl; session = refl; cginterval = refl; coordinate = refl; drain = refl } }) (one _ (and_from _ _ (lt-ltb _ 65536 s.0) (lt-ltb _ 65536 s.1))) (refl)
+step_written Resumepprc o p i h s = said_sound (for_item Resumepprc (record no_options { devs = o.devs; kind = Some (or_zero o.kind) }) i.first i.second) (record { quiet = refl; port = refl; members = refl; sound = record { remote_ok = refl; dev = h.options.dev; remote = h.options.remote; src = refl; tgt = refl; kind = or_given _ _ h.given h.options.kind; sequence = refl; lss = refl; session = refl; cginterval = refl; coordinate = refl; drain = refl } }) (one _ (and_from _ _ (lt-ltb _ 65536 s.0) (lt-ltb _ 65536 s.1))) (refl)
+step_written Failoverpprc o p i h s = said_sound (for_item Failoverpprc (record no_options { devs = o.devs; kind = Some (or_zero o.kind) }) i.first i.second) (record { quiet = refl; port = refl; members = refl; sound = record { remote_ok = refl; dev = h.options.dev; remote = h.options.remote; src = refl; tgt = refl; kind = or_given _ _ h.given h.options.kind; sequence = refl; lss = refl; session = refl; cginterval = refl; coordinate = refl; drain = refl } }) (one _ (and_from _ _ (lt-ltb _ 65536 s.0) (lt-ltb _ 65536 s.1))) (refl)
+step_written Failbackpprc o p i h s = said_sound (for_item Failbackpprc (record no_options { devs = o.devs; kind = Some (or_zero o.kind) }) i.first i.second) (record { quiet = refl; port = refl; members = refl; sound = record { remote_ok = refl; dev = h.options.dev; remote = h.options.remote; src = refl; tgt = refl; kind = or_given _ _ h.given h.options.kind; sequence = refl; lss = refl; session = refl; cginterval = refl; coordinate = refl; drain = refl } }) (one _ (and_from _ _ (lt-ltb _ 65536 s.0) (lt-ltb _ 65536 s.1))) (refl)
+step_written Freezepprc o p i h s = said_sound (for_item Freezepprc (given o.devs) (lss_in i.first) (lss_in i.second)) (record { quiet = refl; port = refl; members = refl; sound = record { remote_ok = refl; dev = h.options.dev; remote = h.options.remote; src = refl; tgt = refl; kind = refl; sequence = refl; lss = refl; session = refl; cginterval = refl; coordinate = refl; drain = refl } }) (one _ (and_from _ _ (lss_low i.first) (lss_low i.second))) (refl)
+step_written Unfreezepprc o p i h s = said_sound (for_item Unfreezepprc (given o.devs) (lss_in i.first) (lss_in i.second)) (record { quiet = refl; port = refl; members = refl; sound = record { remote_ok = refl; dev = h.options.dev; remote = h.options.remote; src = refl; tgt = refl; kind = refl; sequence = refl; lss = refl; session = refl; cginterval = refl; coordinate = refl; drain = refl } }) (one _ (and_from _ _ (lss_low i.first) (lss_low i.second))) (refl)
+step_written Lspprc o p i h s = said_sound (for_item Lspprc (given o.devs) i.first i.first) (record { quiet = refl; port = refl; members = refl; sound = record { remote_ok = refl; dev = h.options.dev; remote = h.options.remote; src = refl; tgt = refl; kind = refl; sequence = refl; lss = refl; session = refl; cginterval = refl; coordinate = refl; drain = refl } }) (one _ (and_from _ _ (lt-ltb _ 65536 s.0) ((eq-eqb i.first i.first refl)))) (refl)
+step_written Lsflash o p i h s = said_sound (for_item Lsflash (given o.devs) i.first i.first) (record { quiet = refl; port = refl; members = refl; sound = record { remote_ok = refl; dev = h.options.dev; remote = h.options.remote; src = refl; tgt = refl; kind = refl; sequence = refl; lss = refl; session = refl; cginterval = refl; coordinate = refl; drain = refl } }) (one _ (and_from _ _ (lt-ltb _ 65536 s.0) ((eq-eqb i.first i.first refl)))) (h.options.remote_ok)
+step_written Mkflash o p i h s = said_sound (for_item Mkflash (record no_options { devs = o.devs; nocopy = o.nocopy; persistent = o.persistent; recorded = o.recorded; inhibited = o.inhibited; sequence = o.sequence }) i.first i.second) (record { quiet = refl; port = refl; members = refl; sound = record { remote_ok = refl; dev = h.options.dev; remote = h.options.remote; src = refl; tgt = refl; kind = refl; sequence = h.options.sequence; lss = refl; session = refl; cginterval = refl; coordinate = refl; drain = refl } }) (one _ (and_from _ _ (lt-ltb _ 65536 s.0) (lt-ltb _ 65536 s.1))) (h.options.remote_ok)
+step_written Resyncflash o p i h s = said_sound (for_item Resyncflash (record no_options { devs = o.devs; nocopy = o.nocopy; persistent = o.persistent; recorded = o.recorded; inhibited = o.inhibited; sequence = o.sequence }) i.first i.second) (record { quiet = refl; port = refl; members = refl; sound = record { remote_ok = refl; dev = h.options.dev; remote = h.options.remote; src = refl; tgt = refl; kind = refl; sequence = h.options.sequence; lss = refl; session = refl; cginterval = refl; coordinate = refl; drain = refl } }) (one _ (and_from _ _ (lt-ltb _ 65536 s.0) (lt-ltb _ 65536 s.1))) (h.options.remote_ok)
+step_written Rmflash o p i h s = said_sound (for_item Rmflash (record no_options { devs = o.devs; sequence = o.sequence }) i.first i.second) (record { quiet = refl; port = refl; members = refl; sound = record { remote_ok = refl; dev = h.options.dev; remote = h.options.remote; src = refl; tgt = refl; kind = refl; sequence = h.options.sequence; lss = refl; session = refl; cginterval = refl; coordinate = refl; drain = refl } }) (one _ (and_from _ _ (lt-ltb _ 65536 s.0) (lt-ltb _ 65536 s.1))) (h.options.remote_ok)
+step_written Reverseflash o p i h s = said_sound (for_item Reverseflash (record no_options { devs = o.devs; sequence = o.sequence; fast = true; tgtpprc = o.tgtpprc }) i.first i.second) (record { quiet = refl; port = refl; members = refl; sound = record { remote_ok = refl; dev = h.options.dev; remote = h.options.remote; src = refl; tgt = refl; kind = refl; sequence = h.options.sequence; lss = refl; session = refl; cginterval = refl; coordinate = refl; drain = refl } }) (one _ (and_from _ _ (lt-ltb _ 65536 s.0) (lt-ltb _ 65536 s.1))) (h.options.remote_ok)
+step_written Commitflash o p i h s = said_sound (for_item Commitflash (record no_options { devs = o.devs; sequence = o.sequence }) i.first i.first) (record { quiet = refl; port = refl; members = refl; sound = record { remote_ok = refl; dev = h.options.dev; remote = h.options.remote; src = refl; tgt = refl; kind = refl; sequence = h.options.sequence; lss = refl; session = refl; cginterval = refl; coordinate = refl; drain = refl } }) (one _ (and_from _ _ (lt-ltb _ 65536 s.0) ((eq-eqb i.first i.first refl)))) (h.options.remote_ok)
+step_written Revertflash o p i h s = said_sound (for_item Revertflash (record no_options { devs = o.devs; sequence = o.sequence }) i.first i.first) (record { quiet = refl; port = refl; members = refl; sound = record { remote_ok = refl; dev = h.options.dev; remote = h.options.remote; src = refl; tgt = refl; kind = refl; sequence = h.options.sequence; lss = refl; session = refl; cginterval = refl; coordinate = refl; drain = refl } }) (one _ (and_from _ _ (lt-ltb _ 65536 s.0) ((eq-eqb i.first i.first refl)))) (h.options.remote_ok)
 step_written Mksession o p i h s = said_sound (for_session Mksession (record no_options { devs = o.devs; lss = Some (or_zero o.lss) }) p.session 0) (record { quiet = refl; port = refl; members = refl; sound = record { remote_ok = refl; dev = h.options.dev; remote = h.options.remote; src = refl; tgt = refl; kind = refl; sequence = refl; lss = h.options.lss; session = refl; cginterval = refl; coordinate = refl; drain = refl } }) (one _ (h.operands.session h.enough)) (h.options.remote_ok)
 step_written Rmsession o p i h s = said_sound (for_session Rmsession (record no_options { devs = o.devs; lss = Some (or_zero o.lss) }) p.session 0) (record { quiet = refl; port = refl; members = refl; sound = record { remote_ok = refl; dev = h.options.dev; remote = h.options.remote; src = refl; tgt = refl; kind = refl; sequence = refl; lss = h.options.lss; session = refl; cginterval = refl; coordinate = refl; drain = refl } }) (one _ (h.operands.session h.enough)) (h.options.remote_ok)
 step_written Chsession o p i h s = member_written (unwrap_or o.adds true) o p.session i.first h.options (h.operands.session h.enough) s.0
@@ -403,9 +400,9 @@ ended_written : (r : Reading) → IsFitting r → may_end r.place ≡ true → A
 unfolding may_end steps_of
 ended_written r h e =
     let place = r.place in
-    let a = both (is_none place.awaited && is_ready place) _ e in
-    let b = both (is_none place.awaited) _ a.0 in
-    let c = both (list_all (λ setting. has setting place.options) (needed place.command)) _ b.1 in
+    let a = and_parts (is_none place.awaited && is_ready place) _ e in
+    let b = and_parts (is_none place.awaited) _ a.0 in
+    let c = and_parts (list_all (λ setting. has setting place.options) (needed place.command)) _ b.1 in
     let s : Sound place.command place.options place.operands = record { known = learned nothing_known (take place.filled (operands place.command)); options = h.options; operands = h.operands; enough = enough place.command place.filled a.1; given = all_given place.command place.options c.0 } in
     All-append IsWritten (own_step place) (item_steps place r.items)
     (own_written place.command place.options place.operands (nat_eq (own_steps place.command) 0) s)

@@ -4,6 +4,8 @@ use Rattle.std.specs.Prelude.{slice_get, codes}
 use Rattle.std.specs.Option.{unwrap_or, is_some, is_none}
 use Rattle.std.specs.Str.{bytes_eq}
 use Rattle.std.proofs.lemmas.Bool.Decides.{nat_tests}
+use Rattle.std.proofs.lemmas.Bool.{or_right, lt-ltb, and_from}
+use Rattle.std.proofs.lemmas.Option.{same_Some}
 use Rattle.dr_ids.specs.Spelling.{lss_word, session_word, volume_word, number_word}
 use Rattle.dr_ids.specs.declared.names.Lss.{Lss}
 use Rattle.dr_ids.specs.declared.names.SessionId.{SessionId}
@@ -22,19 +24,13 @@ use Rattle.dr_model.specs.LineTable.{setting_word, settings, operands, repeats}
 use Rattle.dr_model.specs.LineSteps.{is_flag, has, flagged, valued, setting_items, setting_number, operand_value, operand_items, no_options, no_operands, no_name, or_zero}
 use Rattle.dr_model.specs.LineText.{name_fits, torn_fits, most_fits, bytes_fit, takes_remote}
 use Rattle.dr_model.specs.Grammar.{Reading, setting_named, setting_at, is_ready, again, or_again, next_operand, filled_after, is_within, grown, value_read, setting_read, with_items, operand_read, next_read, named_read, awaited_read, read_on, start_of}
-use Rattle.dr_script.proofs.CutLemmas.{and_true}
-use Rattle.dr_script.proofs.WrittenWordLemmas.{passed, mapped, bound, some_is, carry, volume_below, lss_below, session_within, number_within, decimal_below, sequence_below, most_said, kind_said, name_said, torn_said, write_said, Smalls, smalls-append, range_small, list_small, pair_small, lss_pair_small}
-
-pub or_right : (a b : Bool) → b ≡ true → (a || b) ≡ true
-or_right true b e = refl
-or_right false b e = e
+use Rattle.dr_script.proofs.WrittenWordLemmas.{passed, mapped, carry, volume_below, lss_below, session_within, decimal_below, sequence_below, most_said, kind_said, name_said, torn_said, write_said, Smalls, smalls-append, range_small, list_small, pair_small, lss_pair_small}
+use Rattle.dr_ids.proofs.Digits.{number_word_at_most}
+use Rattle.dr_facts.proofs.Options.{bound}
 
 pub or_given : (a b : Bool) → a ≡ true → (not a || b) ≡ true → b ≡ true
 or_given true b e f = f
 or_given false b e f = cc
-
-pub below : (n m : ℕ) → n < m → nat_lt n m ≡ true
-below n m lt = grind (arith, nat_tests, lt)
 
 pub within : (n m : ℕ) → n ≤ m → nat_le n m ≡ true
 within n m le = grind (arith, nat_tests, le)
@@ -97,13 +93,13 @@ valued_sound RemoteDev word t o new allowed e h =
     carry (OptionsSound t) _ new m.2 (record { remote_ok = ap (λ b. b || false) (allowed refl); dev = h.dev; remote = name_said word m.0 m.1; src = h.src; tgt = h.tgt; kind = h.kind; sequence = h.sequence; lss = h.lss; session = h.session; cginterval = h.cginterval; coordinate = h.coordinate; drain = h.drain })
 valued_sound RemotePort word t o new allowed e h =
     let p = passed (is_hex word) (Some (record o { remote_port = true })) new e in
-    carry (OptionsSound t) _ new (some_is _ _ p.1) (record { remote_ok = h.remote_ok; dev = h.dev; remote = h.remote; src = h.src; tgt = h.tgt; kind = h.kind; sequence = h.sequence; lss = h.lss; session = h.session; cginterval = h.cginterval; coordinate = h.coordinate; drain = h.drain })
+    carry (OptionsSound t) _ new (same_Some _ _ p.1) (record { remote_ok = h.remote_ok; dev = h.dev; remote = h.remote; src = h.src; tgt = h.tgt; kind = h.kind; sequence = h.sequence; lss = h.lss; session = h.session; cginterval = h.cginterval; coordinate = h.coordinate; drain = h.drain })
 valued_sound SourceLss word t o new allowed e h =
     let m = mapped (λ (l : Lss). record o { src = Some l.0 }) (lss_word word) new e in
-    carry (OptionsSound t) _ new m.2 (record { remote_ok = h.remote_ok; dev = h.dev; remote = h.remote; src = below _ 256 (lss_below word m.0 m.1); tgt = h.tgt; kind = h.kind; sequence = h.sequence; lss = h.lss; session = h.session; cginterval = h.cginterval; coordinate = h.coordinate; drain = h.drain })
+    carry (OptionsSound t) _ new m.2 (record { remote_ok = h.remote_ok; dev = h.dev; remote = h.remote; src = lt-ltb _ 256 (lss_below word m.0 m.1); tgt = h.tgt; kind = h.kind; sequence = h.sequence; lss = h.lss; session = h.session; cginterval = h.cginterval; coordinate = h.coordinate; drain = h.drain })
 valued_sound TargetLss word t o new allowed e h =
     let m = mapped (λ (l : Lss). record o { tgt = Some l.0 }) (lss_word word) new e in
-    carry (OptionsSound t) _ new m.2 (record { remote_ok = h.remote_ok; dev = h.dev; remote = h.remote; src = h.src; tgt = below _ 256 (lss_below word m.0 m.1); kind = h.kind; sequence = h.sequence; lss = h.lss; session = h.session; cginterval = h.cginterval; coordinate = h.coordinate; drain = h.drain })
+    carry (OptionsSound t) _ new m.2 (record { remote_ok = h.remote_ok; dev = h.dev; remote = h.remote; src = h.src; tgt = lt-ltb _ 256 (lss_below word m.0 m.1); kind = h.kind; sequence = h.sequence; lss = h.lss; session = h.session; cginterval = h.cginterval; coordinate = h.coordinate; drain = h.drain })
 valued_sound PairType word t o new allowed e h =
     let m = mapped (λ k. record o { kind = Some k }) (kind_word word) new e in
     carry (OptionsSound t) _ new m.2 (record { remote_ok = h.remote_ok; dev = h.dev; remote = h.remote; src = h.src; tgt = h.tgt; kind = kind_said word m.0 m.1; sequence = h.sequence; lss = h.lss; session = h.session; cginterval = h.cginterval; coordinate = h.coordinate; drain = h.drain })
@@ -112,31 +108,31 @@ valued_sound Mode word t o new allowed e h =
     carry (OptionsSound t) _ new m.2 (record { remote_ok = h.remote_ok; dev = h.dev; remote = h.remote; src = h.src; tgt = h.tgt; kind = h.kind; sequence = h.sequence; lss = h.lss; session = h.session; cginterval = h.cginterval; coordinate = h.coordinate; drain = h.drain })
 valued_sound AtSource word t o new allowed e h =
     let p = passed (bytes_eq word (codes "src")) (Some (record o { at_source = true })) new e in
-    carry (OptionsSound t) _ new (some_is _ _ p.1) (record { remote_ok = h.remote_ok; dev = h.dev; remote = h.remote; src = h.src; tgt = h.tgt; kind = h.kind; sequence = h.sequence; lss = h.lss; session = h.session; cginterval = h.cginterval; coordinate = h.coordinate; drain = h.drain })
+    carry (OptionsSound t) _ new (same_Some _ _ p.1) (record { remote_ok = h.remote_ok; dev = h.dev; remote = h.remote; src = h.src; tgt = h.tgt; kind = h.kind; sequence = h.sequence; lss = h.lss; session = h.session; cginterval = h.cginterval; coordinate = h.coordinate; drain = h.drain })
 valued_sound Sequence word t o new allowed e h =
     let m = mapped (λ n. record o { sequence = Some n }) (sequence_word word) new e in
-    carry (OptionsSound t) _ new m.2 (record { remote_ok = h.remote_ok; dev = h.dev; remote = h.remote; src = h.src; tgt = h.tgt; kind = h.kind; sequence = below _ (2 ^ 32) (sequence_below word m.0 m.1); lss = h.lss; session = h.session; cginterval = h.cginterval; coordinate = h.coordinate; drain = h.drain })
+    carry (OptionsSound t) _ new m.2 (record { remote_ok = h.remote_ok; dev = h.dev; remote = h.remote; src = h.src; tgt = h.tgt; kind = h.kind; sequence = lt-ltb _ (2 ^ 32) (sequence_below word m.0 m.1); lss = h.lss; session = h.session; cginterval = h.cginterval; coordinate = h.coordinate; drain = h.drain })
 valued_sound OfLss word t o new allowed e h =
     let m = mapped (λ (l : Lss). record o { lss = Some l.0 }) (lss_word word) new e in
-    carry (OptionsSound t) _ new m.2 (record { remote_ok = h.remote_ok; dev = h.dev; remote = h.remote; src = h.src; tgt = h.tgt; kind = h.kind; sequence = h.sequence; lss = below _ 256 (lss_below word m.0 m.1); session = h.session; cginterval = h.cginterval; coordinate = h.coordinate; drain = h.drain })
+    carry (OptionsSound t) _ new m.2 (record { remote_ok = h.remote_ok; dev = h.dev; remote = h.remote; src = h.src; tgt = h.tgt; kind = h.kind; sequence = h.sequence; lss = lt-ltb _ 256 (lss_below word m.0 m.1); session = h.session; cginterval = h.cginterval; coordinate = h.coordinate; drain = h.drain })
 valued_sound Members word t o new allowed e h =
-    carry (OptionsSound t) _ new (some_is _ _ e) (record { remote_ok = h.remote_ok; dev = h.dev; remote = h.remote; src = h.src; tgt = h.tgt; kind = h.kind; sequence = h.sequence; lss = h.lss; session = h.session; cginterval = h.cginterval; coordinate = h.coordinate; drain = h.drain })
+    carry (OptionsSound t) _ new (same_Some _ _ e) (record { remote_ok = h.remote_ok; dev = h.dev; remote = h.remote; src = h.src; tgt = h.tgt; kind = h.kind; sequence = h.sequence; lss = h.lss; session = h.session; cginterval = h.cginterval; coordinate = h.coordinate; drain = h.drain })
 valued_sound Action word t o new allowed e h =
     let m = mapped (λ a. record o { adds = Some a }) (either_word (codes "add") (codes "remove") word) new e in
     carry (OptionsSound t) _ new m.2 (record { remote_ok = h.remote_ok; dev = h.dev; remote = h.remote; src = h.src; tgt = h.tgt; kind = h.kind; sequence = h.sequence; lss = h.lss; session = h.session; cginterval = h.cginterval; coordinate = h.coordinate; drain = h.drain })
 valued_sound OfSession word t o new allowed e h =
     let m = mapped (λ (s : SessionId). record o { session = Some s.0 }) (session_word word) new e in
     let z = session_within word m.0 m.1 in
-    carry (OptionsSound t) _ new m.2 (record { remote_ok = h.remote_ok; dev = h.dev; remote = h.remote; src = h.src; tgt = h.tgt; kind = h.kind; sequence = h.sequence; lss = h.lss; session = and_true _ _ (within 1 _ z.0) (below _ 256 z.1); cginterval = h.cginterval; coordinate = h.coordinate; drain = h.drain })
+    carry (OptionsSound t) _ new m.2 (record { remote_ok = h.remote_ok; dev = h.dev; remote = h.remote; src = h.src; tgt = h.tgt; kind = h.kind; sequence = h.sequence; lss = h.lss; session = and_from _ _ (within 1 _ z.0) (lt-ltb _ 256 z.1); cginterval = h.cginterval; coordinate = h.coordinate; drain = h.drain })
 valued_sound Interval word t o new allowed e h =
     let m = mapped (λ n. record o { cginterval = Some n }) (setting_number word) new e in
-    carry (OptionsSound t) _ new m.2 (record { remote_ok = h.remote_ok; dev = h.dev; remote = h.remote; src = h.src; tgt = h.tgt; kind = h.kind; sequence = h.sequence; lss = h.lss; session = h.session; cginterval = within _ 65535 (number_within 65535 word m.0 m.1); coordinate = h.coordinate; drain = h.drain })
+    carry (OptionsSound t) _ new m.2 (record { remote_ok = h.remote_ok; dev = h.dev; remote = h.remote; src = h.src; tgt = h.tgt; kind = h.kind; sequence = h.sequence; lss = h.lss; session = h.session; cginterval = within _ 65535 (number_word_at_most 65535 word m.0 m.1); coordinate = h.coordinate; drain = h.drain })
 valued_sound Coordination word t o new allowed e h =
     let m = mapped (λ n. record o { coordinate = Some n }) (setting_number word) new e in
-    carry (OptionsSound t) _ new m.2 (record { remote_ok = h.remote_ok; dev = h.dev; remote = h.remote; src = h.src; tgt = h.tgt; kind = h.kind; sequence = h.sequence; lss = h.lss; session = h.session; cginterval = h.cginterval; coordinate = within _ 65535 (number_within 65535 word m.0 m.1); drain = h.drain })
+    carry (OptionsSound t) _ new m.2 (record { remote_ok = h.remote_ok; dev = h.dev; remote = h.remote; src = h.src; tgt = h.tgt; kind = h.kind; sequence = h.sequence; lss = h.lss; session = h.session; cginterval = h.cginterval; coordinate = within _ 65535 (number_word_at_most 65535 word m.0 m.1); drain = h.drain })
 valued_sound DrainTime word t o new allowed e h =
     let m = mapped (λ n. record o { drain = Some n }) (setting_number word) new e in
-    carry (OptionsSound t) _ new m.2 (record { remote_ok = h.remote_ok; dev = h.dev; remote = h.remote; src = h.src; tgt = h.tgt; kind = h.kind; sequence = h.sequence; lss = h.lss; session = h.session; cginterval = h.cginterval; coordinate = h.coordinate; drain = within _ 65535 (number_within 65535 word m.0 m.1) })
+    carry (OptionsSound t) _ new m.2 (record { remote_ok = h.remote_ok; dev = h.dev; remote = h.remote; src = h.src; tgt = h.tgt; kind = h.kind; sequence = h.sequence; lss = h.lss; session = h.session; cginterval = h.cginterval; coordinate = h.coordinate; drain = within _ 65535 (number_word_at_most 65535 word m.0 m.1) })
 valued_sound Quiet word t o new allowed e h = cc
 valued_sound ConsistencyGroup word t o new allowed e h = cc
 valued_sound Force word t o new allowed e h = cc
@@ -150,32 +146,32 @@ valued_sound TargetPprc word t o new allowed e h = cc
 
 setting_items_small : (s : Setting) (word : List ℕ) (items : List Item) → setting_items s word ≡ Some items → Smalls items
 unfolding setting_items
-setting_items_small Quiet word items e = carry Smalls [] items (some_is _ _ e) tt
-setting_items_small Dev word items e = carry Smalls [] items (some_is _ _ e) tt
-setting_items_small RemoteDev word items e = carry Smalls [] items (some_is _ _ e) tt
-setting_items_small RemotePort word items e = carry Smalls [] items (some_is _ _ e) tt
-setting_items_small SourceLss word items e = carry Smalls [] items (some_is _ _ e) tt
-setting_items_small TargetLss word items e = carry Smalls [] items (some_is _ _ e) tt
-setting_items_small ConsistencyGroup word items e = carry Smalls [] items (some_is _ _ e) tt
-setting_items_small Force word items e = carry Smalls [] items (some_is _ _ e) tt
-setting_items_small PairType word items e = carry Smalls [] items (some_is _ _ e) tt
-setting_items_small Mode word items e = carry Smalls [] items (some_is _ _ e) tt
-setting_items_small Unconditional word items e = carry Smalls [] items (some_is _ _ e) tt
-setting_items_small AtSource word items e = carry Smalls [] items (some_is _ _ e) tt
-setting_items_small NoCopy word items e = carry Smalls [] items (some_is _ _ e) tt
-setting_items_small Persist word items e = carry Smalls [] items (some_is _ _ e) tt
-setting_items_small Recording word items e = carry Smalls [] items (some_is _ _ e) tt
-setting_items_small Inhibit word items e = carry Smalls [] items (some_is _ _ e) tt
-setting_items_small Sequence word items e = carry Smalls [] items (some_is _ _ e) tt
-setting_items_small Fast word items e = carry Smalls [] items (some_is _ _ e) tt
-setting_items_small TargetPprc word items e = carry Smalls [] items (some_is _ _ e) tt
-setting_items_small OfLss word items e = carry Smalls [] items (some_is _ _ e) tt
+setting_items_small Quiet word items e = carry Smalls [] items (same_Some _ _ e) tt
+setting_items_small Dev word items e = carry Smalls [] items (same_Some _ _ e) tt
+setting_items_small RemoteDev word items e = carry Smalls [] items (same_Some _ _ e) tt
+setting_items_small RemotePort word items e = carry Smalls [] items (same_Some _ _ e) tt
+setting_items_small SourceLss word items e = carry Smalls [] items (same_Some _ _ e) tt
+setting_items_small TargetLss word items e = carry Smalls [] items (same_Some _ _ e) tt
+setting_items_small ConsistencyGroup word items e = carry Smalls [] items (same_Some _ _ e) tt
+setting_items_small Force word items e = carry Smalls [] items (same_Some _ _ e) tt
+setting_items_small PairType word items e = carry Smalls [] items (same_Some _ _ e) tt
+setting_items_small Mode word items e = carry Smalls [] items (same_Some _ _ e) tt
+setting_items_small Unconditional word items e = carry Smalls [] items (same_Some _ _ e) tt
+setting_items_small AtSource word items e = carry Smalls [] items (same_Some _ _ e) tt
+setting_items_small NoCopy word items e = carry Smalls [] items (same_Some _ _ e) tt
+setting_items_small Persist word items e = carry Smalls [] items (same_Some _ _ e) tt
+setting_items_small Recording word items e = carry Smalls [] items (same_Some _ _ e) tt
+setting_items_small Inhibit word items e = carry Smalls [] items (same_Some _ _ e) tt
+setting_items_small Sequence word items e = carry Smalls [] items (same_Some _ _ e) tt
+setting_items_small Fast word items e = carry Smalls [] items (same_Some _ _ e) tt
+setting_items_small TargetPprc word items e = carry Smalls [] items (same_Some _ _ e) tt
+setting_items_small OfLss word items e = carry Smalls [] items (same_Some _ _ e) tt
 setting_items_small Members word items e = list_small word items e
-setting_items_small Action word items e = carry Smalls [] items (some_is _ _ e) tt
-setting_items_small OfSession word items e = carry Smalls [] items (some_is _ _ e) tt
-setting_items_small Interval word items e = carry Smalls [] items (some_is _ _ e) tt
-setting_items_small Coordination word items e = carry Smalls [] items (some_is _ _ e) tt
-setting_items_small DrainTime word items e = carry Smalls [] items (some_is _ _ e) tt
+setting_items_small Action word items e = carry Smalls [] items (same_Some _ _ e) tt
+setting_items_small OfSession word items e = carry Smalls [] items (same_Some _ _ e) tt
+setting_items_small Interval word items e = carry Smalls [] items (same_Some _ _ e) tt
+setting_items_small Coordination word items e = carry Smalls [] items (same_Some _ _ e) tt
+setting_items_small DrainTime word items e = carry Smalls [] items (same_Some _ _ e) tt
 
 -- which operands were read
 pub record Known : Type 0 where
@@ -231,83 +227,83 @@ operand_sound UpOrDown word k p new e h =
     carry (OperandsSound (learn UpOrDown k)) _ new m.2 (record { server = h.server; other = h.other; torn = h.torn; volume = h.volume; with = h.with; count = h.count; track = h.track; offset = h.offset; most = h.most; lss = h.lss; session = h.session; bytes = h.bytes })
 operand_sound AfterWord word k p new e h =
     let q = passed (bytes_eq word (codes "after")) (Some (record p { after = true })) new e in
-    carry (OperandsSound (learn AfterWord k)) _ new (some_is _ _ q.1) (record { server = h.server; other = h.other; torn = h.torn; volume = h.volume; with = h.with; count = h.count; track = h.track; offset = h.offset; most = h.most; lss = h.lss; session = h.session; bytes = h.bytes })
+    carry (OperandsSound (learn AfterWord k)) _ new (same_Some _ _ q.1) (record { server = h.server; other = h.other; torn = h.torn; volume = h.volume; with = h.with; count = h.count; track = h.track; offset = h.offset; most = h.most; lss = h.lss; session = h.session; bytes = h.bytes })
 operand_sound TornMark word k p new e h =
     let q = passed (bytes_eq word (codes "torn")) (Some p) new e in
-    carry (OperandsSound (learn TornMark k)) _ new (some_is _ _ q.1) (h)
+    carry (OperandsSound (learn TornMark k)) _ new (same_Some _ _ q.1) (h)
 operand_sound TornBytes word k p new e h =
     let m = mapped (λ x. record p { torn = x }) (torn_word word) new e in
     carry (OperandsSound (learn TornBytes k)) _ new m.2 (record { server = h.server; other = h.other; torn = torn_said word m.0 m.1; volume = h.volume; with = h.with; count = h.count; track = h.track; offset = h.offset; most = h.most; lss = h.lss; session = h.session; bytes = h.bytes })
 operand_sound OneVolume word k p new e h =
     let m = mapped (λ (v : VolumeId). record p { volume = v.0 }) (volume_word word) new e in
-    carry (OperandsSound (learn OneVolume k)) _ new m.2 (record { server = h.server; other = h.other; torn = h.torn; volume = below _ 65536 (volume_below word m.0 m.1); with = h.with; count = h.count; track = h.track; offset = h.offset; most = h.most; lss = h.lss; session = h.session; bytes = h.bytes })
+    carry (OperandsSound (learn OneVolume k)) _ new m.2 (record { server = h.server; other = h.other; torn = h.torn; volume = lt-ltb _ 65536 (volume_below word m.0 m.1); with = h.with; count = h.count; track = h.track; offset = h.offset; most = h.most; lss = h.lss; session = h.session; bytes = h.bytes })
 operand_sound OtherVolume word k p new e h =
     let m = mapped (λ (v : VolumeId). record p { with = v.0 }) (volume_word word) new e in
-    carry (OperandsSound (learn OtherVolume k)) _ new m.2 (record { server = h.server; other = h.other; torn = h.torn; volume = h.volume; with = below _ 65536 (volume_below word m.0 m.1); count = h.count; track = h.track; offset = h.offset; most = h.most; lss = h.lss; session = h.session; bytes = h.bytes })
+    carry (OperandsSound (learn OtherVolume k)) _ new m.2 (record { server = h.server; other = h.other; torn = h.torn; volume = h.volume; with = lt-ltb _ 65536 (volume_below word m.0 m.1); count = h.count; track = h.track; offset = h.offset; most = h.most; lss = h.lss; session = h.session; bytes = h.bytes })
 operand_sound Count word k p new e h =
     let m = mapped (λ n. record p { count = n }) (decimal_word word) new e in
-    carry (OperandsSound (learn Count k)) _ new m.2 (record { server = h.server; other = h.other; torn = h.torn; volume = h.volume; with = h.with; count = below _ (2 ^ 32) (decimal_below word m.0 m.1); track = h.track; offset = h.offset; most = h.most; lss = h.lss; session = h.session; bytes = h.bytes })
+    carry (OperandsSound (learn Count k)) _ new m.2 (record { server = h.server; other = h.other; torn = h.torn; volume = h.volume; with = h.with; count = lt-ltb _ (2 ^ 32) (decimal_below word m.0 m.1); track = h.track; offset = h.offset; most = h.most; lss = h.lss; session = h.session; bytes = h.bytes })
 operand_sound TrackNumber word k p new e h =
     let m = mapped (λ n. record p { track = n }) (decimal_word word) new e in
-    carry (OperandsSound (learn TrackNumber k)) _ new m.2 (record { server = h.server; other = h.other; torn = h.torn; volume = h.volume; with = h.with; count = h.count; track = below _ (2 ^ 32) (decimal_below word m.0 m.1); offset = h.offset; most = h.most; lss = h.lss; session = h.session; bytes = h.bytes })
+    carry (OperandsSound (learn TrackNumber k)) _ new m.2 (record { server = h.server; other = h.other; torn = h.torn; volume = h.volume; with = h.with; count = h.count; track = lt-ltb _ (2 ^ 32) (decimal_below word m.0 m.1); offset = h.offset; most = h.most; lss = h.lss; session = h.session; bytes = h.bytes })
 operand_sound Offset word k p new e h =
     let m = mapped (λ n. record p { offset = n }) (number_word 63 word) new e in
-    carry (OperandsSound (learn Offset k)) _ new m.2 (record { server = h.server; other = h.other; torn = h.torn; volume = h.volume; with = h.with; count = h.count; track = h.track; offset = within _ 63 (number_within 63 word m.0 m.1); most = h.most; lss = h.lss; session = h.session; bytes = λ y. cc })
+    carry (OperandsSound (learn Offset k)) _ new m.2 (record { server = h.server; other = h.other; torn = h.torn; volume = h.volume; with = h.with; count = h.count; track = h.track; offset = within _ 63 (number_word_at_most 63 word m.0 m.1); most = h.most; lss = h.lss; session = h.session; bytes = λ y. cc })
 operand_sound WriteBytes word k p new e h =
     let q = passed (is_hex word && nat_le (p.offset + length word / 2) 64) (Some (record p { len = length word / 2; bytes = spelled_bytes word })) new e in
-    carry (OperandsSound (learn WriteBytes k)) _ new (some_is _ _ q.1) (record { server = h.server; other = h.other; torn = h.torn; volume = h.volume; with = h.with; count = h.count; track = h.track; offset = h.offset; most = h.most; lss = h.lss; session = h.session; bytes = λ y. write_said word p.offset q.0 })
+    carry (OperandsSound (learn WriteBytes k)) _ new (same_Some _ _ q.1) (record { server = h.server; other = h.other; torn = h.torn; volume = h.volume; with = h.with; count = h.count; track = h.track; offset = h.offset; most = h.most; lss = h.lss; session = h.session; bytes = λ y. write_said word p.offset q.0 })
 operand_sound CountOrAll word k p new e h =
     let m = mapped (λ x. record p { most = x }) (most_word word) new e in
     carry (OperandsSound (learn CountOrAll k)) _ new m.2 (record { server = h.server; other = h.other; torn = h.torn; volume = h.volume; with = h.with; count = h.count; track = h.track; offset = h.offset; most = most_said word m.0 m.1; lss = h.lss; session = h.session; bytes = h.bytes })
 operand_sound SessionNumber word k p new e h =
     let m = mapped (λ (s : SessionId). record p { session = s.0 }) (session_word word) new e in
     let z = session_within word m.0 m.1 in
-    carry (OperandsSound (learn SessionNumber k)) _ new m.2 (record { server = h.server; other = h.other; torn = h.torn; volume = h.volume; with = h.with; count = h.count; track = h.track; offset = h.offset; most = h.most; lss = h.lss; session = λ y. and_true _ _ (within 1 _ z.0) (below _ 256 z.1); bytes = h.bytes })
+    carry (OperandsSound (learn SessionNumber k)) _ new m.2 (record { server = h.server; other = h.other; torn = h.torn; volume = h.volume; with = h.with; count = h.count; track = h.track; offset = h.offset; most = h.most; lss = h.lss; session = λ y. and_from _ _ (within 1 _ z.0) (lt-ltb _ 256 z.1); bytes = h.bytes })
 operand_sound NoReply word k p new e h =
     let q = passed (bytes_eq word (codes "noreply")) (Some (record p { reply = false })) new e in
-    carry (OperandsSound (learn NoReply k)) _ new (some_is _ _ q.1) (record { server = h.server; other = h.other; torn = h.torn; volume = h.volume; with = h.with; count = h.count; track = h.track; offset = h.offset; most = h.most; lss = h.lss; session = h.session; bytes = h.bytes })
+    carry (OperandsSound (learn NoReply k)) _ new (same_Some _ _ q.1) (record { server = h.server; other = h.other; torn = h.torn; volume = h.volume; with = h.with; count = h.count; track = h.track; offset = h.offset; most = h.most; lss = h.lss; session = h.session; bytes = h.bytes })
 operand_sound LssNumber word k p new e h =
     let m = mapped (λ (l : Lss). record p { lss = l.0 }) (lss_word word) new e in
-    carry (OperandsSound (learn LssNumber k)) _ new m.2 (record { server = h.server; other = h.other; torn = h.torn; volume = h.volume; with = h.with; count = h.count; track = h.track; offset = h.offset; most = h.most; lss = below _ 256 (lss_below word m.0 m.1); session = h.session; bytes = h.bytes })
+    carry (OperandsSound (learn LssNumber k)) _ new m.2 (record { server = h.server; other = h.other; torn = h.torn; volume = h.volume; with = h.with; count = h.count; track = h.track; offset = h.offset; most = h.most; lss = lt-ltb _ 256 (lss_below word m.0 m.1); session = h.session; bytes = h.bytes })
 operand_sound VolumeRange word k p new e h =
-    carry (OperandsSound (learn VolumeRange k)) _ new (some_is _ _ e) (h)
+    carry (OperandsSound (learn VolumeRange k)) _ new (same_Some _ _ e) (h)
 operand_sound VolumeList word k p new e h =
-    carry (OperandsSound (learn VolumeList k)) _ new (some_is _ _ e) (h)
+    carry (OperandsSound (learn VolumeList k)) _ new (same_Some _ _ e) (h)
 operand_sound VolumePair word k p new e h =
-    carry (OperandsSound (learn VolumePair k)) _ new (some_is _ _ e) (h)
+    carry (OperandsSound (learn VolumePair k)) _ new (same_Some _ _ e) (h)
 operand_sound LssPair word k p new e h =
-    carry (OperandsSound (learn LssPair k)) _ new (some_is _ _ e) (h)
+    carry (OperandsSound (learn LssPair k)) _ new (same_Some _ _ e) (h)
 operand_sound Ports word k p new e h =
     let q = passed (are_ports word) (Some p) new e in
-    carry (OperandsSound (learn Ports k)) _ new (some_is _ _ q.1) (h)
+    carry (OperandsSound (learn Ports k)) _ new (same_Some _ _ q.1) (h)
 operand_sound ControlPath word k p new e h =
     let q = passed (is_control_path word) (Some p) new e in
-    carry (OperandsSound (learn ControlPath k)) _ new (some_is _ _ q.1) (h)
+    carry (OperandsSound (learn ControlPath k)) _ new (same_Some _ _ q.1) (h)
 
 operand_items_small : (op : Operand) (word : List ℕ) (items : List Item) → operand_items op word ≡ Some items → Smalls items
 unfolding operand_items
-operand_items_small ServerName word items e = carry Smalls [] items (some_is _ _ e) tt
-operand_items_small OtherName word items e = carry Smalls [] items (some_is _ _ e) tt
-operand_items_small UpOrDown word items e = carry Smalls [] items (some_is _ _ e) tt
-operand_items_small AfterWord word items e = carry Smalls [] items (some_is _ _ e) tt
-operand_items_small TornMark word items e = carry Smalls [] items (some_is _ _ e) tt
-operand_items_small TornBytes word items e = carry Smalls [] items (some_is _ _ e) tt
-operand_items_small OneVolume word items e = carry Smalls [] items (some_is _ _ e) tt
-operand_items_small OtherVolume word items e = carry Smalls [] items (some_is _ _ e) tt
-operand_items_small Count word items e = carry Smalls [] items (some_is _ _ e) tt
-operand_items_small TrackNumber word items e = carry Smalls [] items (some_is _ _ e) tt
-operand_items_small Offset word items e = carry Smalls [] items (some_is _ _ e) tt
-operand_items_small WriteBytes word items e = carry Smalls [] items (some_is _ _ e) tt
-operand_items_small CountOrAll word items e = carry Smalls [] items (some_is _ _ e) tt
-operand_items_small SessionNumber word items e = carry Smalls [] items (some_is _ _ e) tt
-operand_items_small NoReply word items e = carry Smalls [] items (some_is _ _ e) tt
-operand_items_small LssNumber word items e = carry Smalls [] items (some_is _ _ e) tt
+operand_items_small ServerName word items e = carry Smalls [] items (same_Some _ _ e) tt
+operand_items_small OtherName word items e = carry Smalls [] items (same_Some _ _ e) tt
+operand_items_small UpOrDown word items e = carry Smalls [] items (same_Some _ _ e) tt
+operand_items_small AfterWord word items e = carry Smalls [] items (same_Some _ _ e) tt
+operand_items_small TornMark word items e = carry Smalls [] items (same_Some _ _ e) tt
+operand_items_small TornBytes word items e = carry Smalls [] items (same_Some _ _ e) tt
+operand_items_small OneVolume word items e = carry Smalls [] items (same_Some _ _ e) tt
+operand_items_small OtherVolume word items e = carry Smalls [] items (same_Some _ _ e) tt
+operand_items_small Count word items e = carry Smalls [] items (same_Some _ _ e) tt
+operand_items_small TrackNumber word items e = carry Smalls [] items (same_Some _ _ e) tt
+operand_items_small Offset word items e = carry Smalls [] items (same_Some _ _ e) tt
+operand_items_small WriteBytes word items e = carry Smalls [] items (same_Some _ _ e) tt
+operand_items_small CountOrAll word items e = carry Smalls [] items (same_Some _ _ e) tt
+operand_items_small SessionNumber word items e = carry Smalls [] items (same_Some _ _ e) tt
+operand_items_small NoReply word items e = carry Smalls [] items (same_Some _ _ e) tt
+operand_items_small LssNumber word items e = carry Smalls [] items (same_Some _ _ e) tt
 operand_items_small VolumeRange word items e = range_small word items e
 operand_items_small VolumeList word items e = list_small word items e
 operand_items_small VolumePair word items e = pair_small word items e
 operand_items_small LssPair word items e = lss_pair_small word items e
-operand_items_small Ports word items e = carry Smalls [] items (some_is _ _ e) tt
-operand_items_small ControlPath word items e = carry Smalls [] items (some_is _ _ e) tt
+operand_items_small Ports word items e = carry Smalls [] items (same_Some _ _ e) tt
+operand_items_small ControlPath word items e = carry Smalls [] items (same_Some _ _ e) tt
 
 repeat_learns : (op : Operand) (k : Known) → repeats op ≡ true → k ≡ learn op k
 repeat_learns ServerName k e = cc
@@ -335,7 +331,7 @@ repeat_learns ControlPath k e = refl
 
 learned_more : (k : Known) (ops : List Operand) (n : ℕ) (op : Operand) → slice_get ops n ≡ Some op → learned k (take (n + 1) ops) ≡ learn op (learned k (take n ops))
 learned_more k [] n op e = cc
-learned_more k (x ∷ xs) zero op e = ap (λ y. learn y k) (some_is x op e)
+learned_more k (x ∷ xs) zero op e = ap (λ y. learn y k) (same_Some x op e)
 learned_more k (x ∷ xs) (suc n) op e = ap (λ m. learned k (take m (x ∷ xs))) (let s : suc n + 1 ≡ suc (n + 1) = omega arith in s) ∙ learned_more (learn x k) xs n op e
 
 get_within : (ops : List Operand) (n : ℕ) (op : Operand) → slice_get ops n ≡ Some op → n < length ops
@@ -391,7 +387,7 @@ unfolding setting_named
 named_remote [] word e = cc
 named_remote (s ∷ ss) word e =
     elim (bytes_eq word (setting_word s)) as (λ b. cond b (Some s) (setting_named ss word) ≡ Some RemoteDev → takes_remote (s ∷ ss) ≡ true) [
-      | true ↦ λ h. carry (λ x. takes_remote (x ∷ ss) ≡ true) RemoteDev s (sym (some_is s RemoteDev h)) refl
+      | true ↦ λ h. carry (λ x. takes_remote (x ∷ ss) ≡ true) RemoteDev s (sym (same_Some s RemoteDev h)) refl
       | false ↦ λ h. takes_more s ss (named_remote ss word h)
     ] e
 
@@ -401,14 +397,14 @@ onto_small old more all s each e =
     carry Smalls _ all m.2 (smalls-append old m.0 s (each m.0 m.1))
 
 grown_small : (c : Command) (all items : List Item) → Smalls all → grown c all ≡ Some items → Smalls items
-grown_small c all items s e = let p = passed (is_within c all) (Some all) items e in carry Smalls all items (some_is _ _ p.1) s
+grown_small c all items s e = let p = passed (is_within c all) (Some all) items e in carry Smalls all items (same_Some _ _ p.1) s
 
 value_fits : (r next : Reading) (s : Setting) (word : List ℕ) → r.place.awaited ≡ Some s → IsFitting r → value_read r s word ≡ Some next → IsFitting next
 value_fits r next s word waits h e =
     let a = bound (valued s word r.place.options) (λ o. onto r.items (setting_items s word) >>= λ all. grown r.place.command all >>= λ items. Some (record { place = record r.place { awaited = None; options = o }; items = items })) next e in
     let b = bound (onto r.items (setting_items s word)) (λ all. grown r.place.command all >>= λ items. Some (record { place = record r.place { awaited = None; options = a.0 }; items = items })) next a.2 in
     let c = bound (grown r.place.command b.0) (λ items. Some (record { place = record r.place { awaited = None; options = a.0 }; items = items })) next b.2 in
-    carry IsFitting _ next (some_is _ _ c.2) (record {
+    carry IsFitting _ next (same_Some _ _ c.2) (record {
       options = valued_sound s word (takes_remote (settings r.place.command)) r.place.options a.0 (λ is. h.awaited (waits ∙ ap (λ x. Some x) is)) a.1 h.options;
       awaited = λ y. cc;
       operands = h.operands;
@@ -421,7 +417,7 @@ operand_fits_next r next op word more h e =
     let a = bound (operand_value op word r.place.operands) (λ p. onto r.items (operand_items op word) >>= λ all. grown r.place.command all >>= λ items. Some (record { place = record r.place { filled = filled_after r.place; operands = p }; items = items })) next e in
     let b = bound (onto r.items (operand_items op word)) (λ all. grown r.place.command all >>= λ items. Some (record { place = record r.place { filled = filled_after r.place; operands = a.0 }; items = items })) next a.2 in
     let c = bound (grown r.place.command b.0) (λ items. Some (record { place = record r.place { filled = filled_after r.place; operands = a.0 }; items = items })) next b.2 in
-    carry IsFitting _ next (some_is _ _ c.2) (record {
+    carry IsFitting _ next (same_Some _ _ c.2) (record {
       options = h.options;
       awaited = h.awaited;
       operands = carry (λ k. OperandsSound k a.0) _ _ (sym more) (operand_sound op word _ r.place.operands a.0 a.1 h.operands);
@@ -430,7 +426,7 @@ operand_fits_next r next op word more h e =
 
 repeated : (first : Option Operand) (op : Operand) → again first ≡ Some op → repeats op ≡ true
 repeated None op e = cc
-repeated (Some x) op e = let p = passed (repeats x) (Some x) op e in carry (λ y. repeats y ≡ true) x op (some_is _ _ p.1) p.0
+repeated (Some x) op e = let p = passed (repeats x) (Some x) op e in carry (λ y. repeats y ≡ true) x op (same_Some _ _ p.1) p.0
 
 filled_more : (place : Place) (op : Operand) (at : Option Operand) → slice_get (operands place.command) place.filled ≡ at → or_again at (slice_get (operands place.command) 0) ≡ Some op
     → learned nothing_known (take (filled_after place) (operands place.command)) ≡ learn op (learned nothing_known (take place.filled (operands place.command)))
@@ -438,7 +434,7 @@ filled_more place op (Some x) is e =
     let ops = operands place.command in
     let here : slice_get ops place.filled ≡ Some op = is ∙ e in
     let lt = get_within ops place.filled op here in
-    ap (λ b. learned nothing_known (take (cond b (place.filled + 1) place.filled) ops)) (below place.filled (length ops) lt) ∙ learned_more nothing_known ops place.filled op here
+    ap (λ b. learned nothing_known (take (cond b (place.filled + 1) place.filled) ops)) (lt-ltb place.filled (length ops) lt) ∙ learned_more nothing_known ops place.filled op here
 filled_more place op None is e =
     let ops = operands place.command in
     let past = get_past ops place.filled is in
@@ -458,10 +454,10 @@ setting_read_fits r next s allowed h e =
     elim (has s r.place.options) as (λ b. cond b None (cond (is_flag s) (Some (record r.place { options = flagged s r.place.options })) (Some (record r.place { awaited = Some s }))) ≡ Some m.0 → IsFitting next) [
       | true ↦ λ q. cc
       | false ↦ λ q. elim (is_flag s) as (λ b. cond b (Some (record r.place { options = flagged s r.place.options })) (Some (record r.place { awaited = Some s })) ≡ Some m.0 → IsFitting next) [
-        | true ↦ λ z. carry IsFitting _ next (ap (λ p. record { place = p; items = r.items }) (some_is _ _ z) ∙ m.2)
+        | true ↦ λ z. carry IsFitting _ next (ap (λ p. record { place = p; items = r.items }) (same_Some _ _ z) ∙ m.2)
             (record { options = flagged_sound s (takes_remote (settings r.place.command)) r.place.options h.options; awaited = h.awaited; operands = h.operands; items = h.items })
-        | false ↦ λ z. carry IsFitting _ next (ap (λ p. record { place = p; items = r.items }) (some_is _ _ z) ∙ m.2)
-            (record { options = h.options; awaited = λ is. allowed (some_is _ _ is); operands = h.operands; items = h.items })
+        | false ↦ λ z. carry IsFitting _ next (ap (λ p. record { place = p; items = r.items }) (same_Some _ _ z) ∙ m.2)
+            (record { options = h.options; awaited = λ is. allowed (same_Some _ _ is); operands = h.operands; items = h.items })
       ] q
     ] m.1
 

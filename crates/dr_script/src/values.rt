@@ -4,9 +4,9 @@ ghost use Rattle.std.specs.Prelude.{◌≡◌, ◌<◌, ◌≤◌, ◌+◌, ◌*
 ghost use Rattle.std.specs.List.{list_all, position};
 ghost use Rattle.std.specs.Char.{is_digit};
 ghost use Rattle.std.specs.Str.{bytes_eq};
+ghost use Rattle.dr_logic.specs.Bytes.{zeros};
 ghost use Rattle.dr_ids.specs.Spelling.{all_digits, hex_word, spelled};
 ghost use Rattle.dr_model.specs.LineWords.{mark_at, before, behind, is_letter, is_name_byte, is_name, name_of, name_word, decimal_word, most_word, sequence_word, is_hex, digit_or_zero, byte_at, spelled_bytes, torn_bytes_word, torn_word, is_port, are_ports, is_lss, is_path_end, is_control_path, either_word, kind_word};
-ghost use Rattle.dr_model.specs.Contents.{zeros};
 ghost use Rattle.dr_script.specs.Pieces.{empty_name};
 
 use dr_ids::{hex_value, read_lss, read_number};
@@ -81,7 +81,7 @@ pub(crate) fn empty_name() -> [u8; 24]
 }
 
 /// A block of zeros.
-#[tactic(auto, unfolding(dr_model::specs::Contents::zeros))]
+#[tactic(auto, unfolding(dr_logic::specs::Bytes::zeros))]
 pub(crate) fn zero_block() -> [u8; 64]
     ensures { result ≡ zeros }
 {

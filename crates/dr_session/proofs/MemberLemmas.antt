@@ -2,7 +2,7 @@
 use Rattle.std.proofs.Common.{◌≡◌, ℕ, Bool, true, false, cond, ◌&&◌, ◌||◌, nat_lt, List, [], ◌∷◌, ◌++◌, filter, refl, sym, ◌∙◌, ap, ◌==◌}
 use Rattle.std.specs.List.{list_any}
 use Rattle.std.proofs.lemmas.List.Folds.{list_any-append}
-use Rattle.std.proofs.lemmas.Bool.{false≢true}
+use Rattle.std.proofs.lemmas.Bool.{false≢true, and_parts}
 use Rattle.dr_ids.specs.declared.names.Member.{Member}
 use Rattle.dr_model.specs.Phases.{servers_where, is_among}
 use Rattle.dr_master.specs.Seen.{servers_in}
@@ -23,17 +23,3 @@ servers_of-push ms m before after known is =
     ap (λ xs. k == m.server.0 || is_among k xs) known
     ∙ (ap (λ b. k == m.server.0 || b) (is_among-servers_where (λ k. list_any (λ q. k == q.server.0) ms) k low)
     ∙ (sym (or-comm (list_any (λ q. k == q.server.0) ms) (k == m.server.0)) ∙ sym (list_any-append (λ q. k == q.server.0) ms (m ∷ [])))))
-
-pub and-both : (a b : Bool) → (a && b) ≡ true → (a ≡ true) × (b ≡ true)
-and-both true b h = (refl, h)
-and-both false b h = absurd (false≢true h)
-
--- what is left of low members is low
-pub all_low-filter : (p : Member → Bool) (ms : List Member) → all_low ms ≡ true → all_low (filter p ms) ≡ true
-all_low-filter p [] low = refl
-all_low-filter p (m ∷ ms) low =
-    let parts = and-both (nat_lt m.server.0 8) (all_low ms) low in
-    elim (p m) as (λ b. all_low (cond b (m ∷ filter p ms) (filter p ms)) ≡ true) [
-      | true ↦ λ i. parts.0 i && all_low-filter p ms parts.1 i
-      | false ↦ all_low-filter p ms parts.1
-    ]

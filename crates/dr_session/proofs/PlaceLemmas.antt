@@ -5,15 +5,16 @@ use Rattle.std.specs.Option.{is_some, option_copied}
 use Rattle.std.proofs.lemmas.List.{map-append, length-map}
 use Rattle.std.proofs.lemmas.Grind.{common_steps}
 use Rattle.std.proofs.lemmas.List.Quantifiers.{position-Some}
-use Rattle.std.proofs.lemmas.Bool.{false≢true, eqb-true, eq-eqb}
+use Rattle.std.proofs.lemmas.Bool.{false≢true, eqb-true, eq-eqb, and_parts}
 use Rattle.std.proofs.lemmas.Bool.Decides.{nat_tests}
 use Rattle.std.specs.declared.alloc.AllocError.{AllocError}
 use Rattle.std.specs.Map.{lookup}
+use Rattle.std.proofs.lemmas.Option.{same_Some}
 use Rattle.indexmap.specs.IndexMap.{set_value_at}
 use Rattle.dr_model.specs.Sessions.{Session, session_in, changed, without_session, is_only, left, leaves, left_by, joined, joins, joined_by}
-use Rattle.dr_session.specs.Kept.{Kept, Table}
+use Rattle.dr_session.specs.Kept.{Kept, SessionTable}
 use Rattle.dr_session.specs.Places.{sessions_in, has_room, table_of, is_keyed, IsPlace}
-use Rattle.dr_session.proofs.MemberLemmas.{and-both}
+use Rattle.dr_logic.proofs.Lists.{cons-parts}
 
 abbrev pub Entries : Type 0
 Entries = List (ℕ × Kept)
@@ -27,17 +28,11 @@ values_of es = map (λ (e : ℕ × Kept). e.1) es
 cons-nil : {X : Type 0} {x : X} {xs : List X} → x ∷ xs ≡ [] → ⊥
 cons-nil h = cc
 
-cons-parts : {X : Type 0} {x y : X} {xs ys : List X} → x ∷ xs ≡ y ∷ ys → (x ≡ y) × (xs ≡ ys)
-cons-parts h = (cc, cc)
-
 take_all : {X : Type 0} (xs : List X) (n : ℕ) → length xs ≡ n → take n xs ≡ xs
 take_all xs n long = grind (arith, common_steps)
 
 none-some : {X : Type 0} {x : X} → None ≡ Some x → ⊥
 none-some h = cc
-
-some-is : {X : Type 0} (x y : X) → Some x ≡ Some y → x ≡ y
-some-is x y h = cc
 
 -- a key that is the number's
 same_number : (n k s : ℕ) → (n == k) ≡ true → eqb s k ≡ true → (n == s) ≡ true
@@ -48,9 +43,9 @@ other_number n k s keyed fails = let e : n ≡ k = eqb-true n k keyed in grind (
 
 place-by_tests : (s i : ℕ) (es : Entries) → is_keyed es ≡ true → ((k : ℕ) → k < i → eqb s (get_or (keys_of es) k 0) ≡ false) → i < length (keys_of es) → eqb s (get_or (keys_of es) i 0) ≡ true → IsPlace s i es
 place-by_tests s i [] keyed before within here = absurd (omega arith)
-place-by_tests s zero (e ∷ es) keyed before within here = same_number e.1.session.number e.0 s (and-both (e.1.session.number == e.0) (is_keyed es) keyed).0 here
+place-by_tests s zero (e ∷ es) keyed before within here = same_number e.1.session.number e.0 s (and_parts (e.1.session.number == e.0) (is_keyed es) keyed).0 here
 place-by_tests s (suc i) (e ∷ es) keyed before within here =
-    let parts = and-both (e.1.session.number == e.0) (is_keyed es) keyed in (
+    let parts = and_parts (e.1.session.number == e.0) (is_keyed es) keyed in (
       other_number e.1.session.number e.0 s parts.0 (before 0 (omega arith)),
       place-by_tests s i es parts.1 (λ k low. before (suc k) (omega arith)) (omega arith) here,
     )
@@ -64,7 +59,7 @@ place-from_position s es (Some i) keyed is =
 absent : (s : ℕ) (es : Entries) → is_keyed es ≡ true → is_some (lookup (eqb s) es) ≡ false → session_in (sessions_in es) s ≡ None
 absent s [] keyed none = refl
 absent s (e ∷ es) keyed none =
-    let parts = and-both (e.1.session.number == e.0) (is_keyed es) keyed in
+    let parts = and_parts (e.1.session.number == e.0) (is_keyed es) keyed in
     elim (eqb s e.0) as (λ b. eqb s e.0 ≡ b → is_some (cond b (Some e.1) (lookup (eqb s) es)) ≡ false → session_in (sessions_in (e ∷ es)) s ≡ None) [
       | true ↦ λ passes out. absurd (false≢true (sym out))
       | false ↦ λ fails out.
@@ -80,7 +75,7 @@ absent-from_lookup s es (Some i) keyed is = tt
 pub found-at : (s i : ℕ) (es : Entries) (v : Kept) → IsPlace s i es → slice_get (values_of es) i ≡ Some v → session_in (sessions_in es) s ≡ Some v.session
 found-at s i [] v place at = absurd place
 found-at s zero (e ∷ es) v place at =
-    ap (λ b. cond b (Some e.1.session) (session_in (sessions_in es) s)) place ∙ ap (λ (k : Kept). Some k.session) (some-is e.1 v at)
+    ap (λ b. cond b (Some e.1.session) (session_in (sessions_in es) s)) place ∙ ap (λ (k : Kept). Some k.session) (same_Some e.1 v at)
 found-at s (suc i) (e ∷ es) v place at =
     ap (λ b. cond b (Some e.1.session) (session_in (sessions_in es) s)) place.0 ∙ found-at s i es v place.1 at
 
@@ -89,7 +84,7 @@ pub changed-at : (s i : ℕ) (es : Entries) (v w : Kept) (f : Session → Sessio
 unfolding changed
 changed-at s i [] v w f place at is = absurd place
 changed-at s zero (e ∷ es) v w f place at is =
-    ap (λ x. x ∷ sessions_in es) (is ∙ ap (λ (k : Kept). f k.session) (sym (some-is e.1 v at)))
+    ap (λ x. x ∷ sessions_in es) (is ∙ ap (λ (k : Kept). f k.session) (sym (same_Some e.1 v at)))
     ∙ sym (ap (λ b. cond b (f e.1.session ∷ sessions_in es) (e.1.session ∷ changed s f (sessions_in es))) place)
 changed-at s (suc i) (e ∷ es) v w f place at is =
     ap (λ xs. e.1.session ∷ xs) (changed-at s i es v w f place.1 at is)
@@ -97,38 +92,38 @@ changed-at s (suc i) (e ∷ es) v w f place at is =
 
 pub room-at : (i : ℕ) (es : Entries) (v w : Kept) → slice_get (values_of es) i ≡ Some v → w.room ≡ v.room → has_room (set_value_at es i w) ≡ has_room es
 room-at i [] v w at is = refl
-room-at zero (e ∷ es) v w at is = ap (λ b. b && has_room es) (is ∙ ap (λ (k : Kept). k.room) (sym (some-is e.1 v at)))
+room-at zero (e ∷ es) v w at is = ap (λ b. b && has_room es) (is ∙ ap (λ (k : Kept). k.room) (sym (same_Some e.1 v at)))
 room-at (suc i) (e ∷ es) v w at is = ap (λ b. e.1.room && b) (room-at i es v w at is)
 
 pub keyed-at : (i : ℕ) (es : Entries) (v w : Kept) → slice_get (values_of es) i ≡ Some v → w.session.number ≡ v.session.number → is_keyed (set_value_at es i w) ≡ is_keyed es
 keyed-at i [] v w at is = refl
-keyed-at zero (e ∷ es) v w at is = ap (λ n. (n == e.0) && is_keyed es) (is ∙ ap (λ (k : Kept). k.session.number) (sym (some-is e.1 v at)))
+keyed-at zero (e ∷ es) v w at is = ap (λ n. (n == e.0) && is_keyed es) (is ∙ ap (λ (k : Kept). k.session.number) (sym (same_Some e.1 v at)))
 keyed-at (suc i) (e ∷ es) v w at is = ap (λ b. (e.1.session.number == e.0) && b) (keyed-at i es v w at is)
 
 pub same-at : (i : ℕ) (es : Entries) (v : Kept) → slice_get (values_of es) i ≡ Some v → set_value_at es i v ≡ es
 same-at i [] v at = refl
-same-at zero (e ∷ es) v at = ap (λ (k : Kept). (e.0, k) ∷ es) (sym (some-is e.1 v at))
+same-at zero (e ∷ es) v at = ap (λ (k : Kept). (e.0, k) ∷ es) (sym (same_Some e.1 v at))
 same-at (suc i) (e ∷ es) v at = ap (λ xs. e ∷ xs) (same-at i es v at)
 
 -- ---- the same for the table that contracts see
 
-pub found-in : (es : Entries) (t : Table) (s i : ℕ) (v : Kept) → table_of es ≡ t → IsPlace s i es → slice_get (values_of es) i ≡ Some v → session_in t.sessions s ≡ Some v.session
-found-in es t s i v view place at = sym (ap (λ (u : Table). session_in u.sessions s) view) ∙ found-at s i es v place at
+pub found-in : (es : Entries) (t : SessionTable) (s i : ℕ) (v : Kept) → table_of es ≡ t → IsPlace s i es → slice_get (values_of es) i ≡ Some v → session_in t.sessions s ≡ Some v.session
+found-in es t s i v view place at = sym (ap (λ (u : SessionTable). session_in u.sessions s) view) ∙ found-at s i es v place at
 
-pub none-in : (es : Entries) (t : Table) (s : ℕ) → table_of es ≡ t → session_in (sessions_in es) s ≡ None → session_in t.sessions s ≡ None
-none-in es t s view none = sym (ap (λ (u : Table). session_in u.sessions s) view) ∙ none
+pub none-in : (es : Entries) (t : SessionTable) (s : ℕ) → table_of es ≡ t → session_in (sessions_in es) s ≡ None → session_in t.sessions s ≡ None
+none-in es t s view none = sym (ap (λ (u : SessionTable). session_in u.sessions s) view) ∙ none
 
-pub changed-sessions : (es : Entries) (t : Table) (s i : ℕ) (v w : Kept) (f : Session → Session) → table_of es ≡ t → IsPlace s i es → slice_get (values_of es) i ≡ Some v → w.session ≡ f v.session → sessions_in (set_value_at es i w) ≡ changed s f t.sessions
-changed-sessions es t s i v w f view place at is = changed-at s i es v w f place at is ∙ ap (λ (u : Table). changed s f u.sessions) view
+pub changed-sessions : (es : Entries) (t : SessionTable) (s i : ℕ) (v w : Kept) (f : Session → Session) → table_of es ≡ t → IsPlace s i es → slice_get (values_of es) i ≡ Some v → w.session ≡ f v.session → sessions_in (set_value_at es i w) ≡ changed s f t.sessions
+changed-sessions es t s i v w f view place at is = changed-at s i es v w f place at is ∙ ap (λ (u : SessionTable). changed s f u.sessions) view
 
-pub changed-table : (es : Entries) (t : Table) (s i : ℕ) (v w : Kept) (f : Session → Session) → table_of es ≡ t → IsPlace s i es → slice_get (values_of es) i ≡ Some v → w ≡ record v { session = f v.session } → table_of (set_value_at es i w) ≡ record t { sessions = changed s f t.sessions }
+pub changed-table : (es : Entries) (t : SessionTable) (s i : ℕ) (v w : Kept) (f : Session → Session) → table_of es ≡ t → IsPlace s i es → slice_get (values_of es) i ≡ Some v → w ≡ record v { session = f v.session } → table_of (set_value_at es i w) ≡ record t { sessions = changed s f t.sessions }
 changed-table es t s i v w f view place at is =
     let sessions = changed-sessions es t s i v w f view place at (ap (λ (k : Kept). k.session) is) in
-    let room : has_room (set_value_at es i w) ≡ t.room = room-at i es v w at (ap (λ (k : Kept). k.room) is) ∙ ap (λ (u : Table). u.room) view in
+    let room : has_room (set_value_at es i w) ≡ t.room = room-at i es v w at (ap (λ (k : Kept). k.room) is) ∙ ap (λ (u : SessionTable). u.room) view in
     λ j. record { sessions = sessions j; room = room j }
 
 -- where the value is as it was, so is the table
-pub same-table : (es : Entries) (t : Table) (i : ℕ) (v w : Kept) → table_of es ≡ t → slice_get (values_of es) i ≡ Some v → w ≡ v → table_of (set_value_at es i w) ≡ t
+pub same-table : (es : Entries) (t : SessionTable) (i : ℕ) (v w : Kept) → table_of es ≡ t → slice_get (values_of es) i ≡ Some v → w ≡ v → table_of (set_value_at es i w) ≡ t
 same-table es t i v w view at is = ap (λ k. table_of (set_value_at es i k)) is ∙ (ap table_of (same-at i es v at) ∙ view)
 
 pub stays-keyed : (es : Entries) (i : ℕ) (v w : Kept) → is_keyed es ≡ true → slice_get (values_of es) i ≡ Some v → w.session.number ≡ v.session.number → is_keyed (set_value_at es i w) ≡ true
@@ -145,10 +140,10 @@ changed-absent s f (x ∷ xs) none =
       | false ↦ λ out. ap (λ ys. x ∷ ys) (changed-absent s f xs out)
     ] none
 
-pub absent-table : (es : Entries) (t : Table) (s : ℕ) (f : Session → Session) → table_of es ≡ t → session_in (sessions_in es) s ≡ None → t ≡ record t { sessions = changed s f t.sessions }
+pub absent-table : (es : Entries) (t : SessionTable) (s : ℕ) (f : Session → Session) → table_of es ≡ t → session_in (sessions_in es) s ≡ None → t ≡ record t { sessions = changed s f t.sessions }
 absent-table es t s f view none = λ i. record t { sessions = sym (changed-absent s f t.sessions (none-in es t s view none)) i }
 
-pub absent-sessions : (t : Table) (s : ℕ) (f : Session → Session) → session_in t.sessions s ≡ None → t.sessions ≡ changed s f t.sessions
+pub absent-sessions : (t : SessionTable) (s : ℕ) (f : Session → Session) → session_in t.sessions s ≡ None → t.sessions ≡ changed s f t.sessions
 absent-sessions t s f none = sym (changed-absent s f t.sessions none)
 
 -- ---- clauses from one result to another
@@ -170,7 +165,7 @@ if-ok P Q (Err e) f h = h
 lookup-session : (s : ℕ) (es : Entries) → is_keyed es ≡ true → option_map (λ (k : Kept). k.session) (lookup (eqb s) es) ≡ session_in (sessions_in es) s
 lookup-session s [] keyed = refl
 lookup-session s (e ∷ es) keyed =
-    let parts = and-both (e.1.session.number == e.0) (is_keyed es) keyed in
+    let parts = and_parts (e.1.session.number == e.0) (is_keyed es) keyed in
     elim (eqb s e.0) as (λ b. eqb s e.0 ≡ b → option_map (λ (k : Kept). k.session) (cond b (Some e.1) (lookup (eqb s) es)) ≡ session_in (sessions_in (e ∷ es)) s) [
       | true ↦ λ passes. sym (ap (λ b. cond b (Some e.1.session) (session_in (sessions_in es) s)) (same_number e.1.session.number e.0 s parts.0 passes))
       | false ↦ λ fails.
@@ -178,9 +173,9 @@ lookup-session s (e ∷ es) keyed =
           ∙ sym (ap (λ b. cond b (Some e.1.session) (session_in (sessions_in es) s)) (other_number e.1.session.number e.0 s parts.0 fails))
     ] refl
 
-pub session-from_lookup : (s : ℕ) (es : Entries) (t : Table) (r : Option (Bor Kept)) → is_keyed es ≡ true → table_of es ≡ t → option_copied r ≡ lookup (eqb s) es → option_map (λ (x : Bor Kept). x.now.session) r ≡ session_in t.sessions s
+pub session-from_lookup : (s : ℕ) (es : Entries) (t : SessionTable) (r : Option (Bor Kept)) → is_keyed es ≡ true → table_of es ≡ t → option_copied r ≡ lookup (eqb s) es → option_map (λ (x : Bor Kept). x.now.session) r ≡ session_in t.sessions s
 session-from_lookup s es t r keyed view is =
-    copied r ∙ (ap (λ o. option_map (λ (k : Kept). k.session) o) is ∙ (lookup-session s es keyed ∙ ap (λ (u : Table). session_in u.sessions s) view))
+    copied r ∙ (ap (λ o. option_map (λ (k : Kept). k.session) o) is ∙ (lookup-session s es keyed ∙ ap (λ (u : SessionTable). session_in u.sessions s) view))
   where
     copied : (r : Option (Bor Kept)) → option_map (λ (x : Bor Kept). x.now.session) r ≡ option_map (λ (k : Kept). k.session) (option_copied r)
     copied None = refl
@@ -190,9 +185,9 @@ none-of_map : {X Y : Type 0} (f : X → Y) (r : Option X) → option_map f r ≡
 none-of_map f None h = refl
 none-of_map f (Some x) h = absurd cc
 
-pub lookup-absent : (s : ℕ) (es : Entries) (t : Table) → is_keyed es ≡ true → table_of es ≡ t → session_in t.sessions s ≡ None → lookup (eqb s) es ≡ None
+pub lookup-absent : (s : ℕ) (es : Entries) (t : SessionTable) → is_keyed es ≡ true → table_of es ≡ t → session_in t.sessions s ≡ None → lookup (eqb s) es ≡ None
 lookup-absent s es t keyed view none =
-    none-of_map (λ (k : Kept). k.session) (lookup (eqb s) es) (lookup-session s es keyed ∙ (ap (λ (u : Table). session_in u.sessions s) view ∙ none))
+    none-of_map (λ (k : Kept). k.session) (lookup (eqb s) es) (lookup-session s es keyed ∙ (ap (λ (u : SessionTable). session_in u.sessions s) view ∙ none))
 
 -- ---- a session more, a session less
 
@@ -202,7 +197,7 @@ sessions-push es k v = map-append (λ (e : ℕ × Kept). e.1.session) es ((k, v)
 pub keyed-push : (es : Entries) (k : ℕ) (v : Kept) → is_keyed es ≡ true → v.session.number ≡ k → is_keyed (es ++ (k, v) ∷ []) ≡ true
 keyed-push [] k v keyed named = ap (λ b. b && true) (eq-eqb v.session.number k named)
 keyed-push (e ∷ es) k v keyed named =
-    let parts = and-both (e.1.session.number == e.0) (is_keyed es) keyed in λ i. parts.0 i && keyed-push es k v parts.1 named i
+    let parts = and_parts (e.1.session.number == e.0) (is_keyed es) keyed in λ i. parts.0 i && keyed-push es k v parts.1 named i
 
 gone-at : (s i : ℕ) (es : Entries) → IsPlace s i es → sessions_in (remove es i) ≡ without_session s (sessions_in es)
 unfolding without_session
@@ -211,33 +206,33 @@ gone-at s zero (e ∷ es) place = sym (ap (λ b. cond b (sessions_in es) (e.1.se
 gone-at s (suc i) (e ∷ es) place =
     ap (λ xs. e.1.session ∷ xs) (gone-at s i es place.1) ∙ sym (ap (λ b. cond b (sessions_in es) (e.1.session ∷ without_session s (sessions_in es))) place.0)
 
-pub gone-sessions : (es : Entries) (t : Table) (s i : ℕ) → table_of es ≡ t → IsPlace s i es → sessions_in (remove es i) ≡ without_session s t.sessions
-gone-sessions es t s i view place = gone-at s i es place ∙ ap (λ (u : Table). without_session s u.sessions) view
+pub gone-sessions : (es : Entries) (t : SessionTable) (s i : ℕ) → table_of es ≡ t → IsPlace s i es → sessions_in (remove es i) ≡ without_session s t.sessions
+gone-sessions es t s i view place = gone-at s i es place ∙ ap (λ (u : SessionTable). without_session s u.sessions) view
 
 pub keyed-remove : (i : ℕ) (es : Entries) → is_keyed es ≡ true → is_keyed (remove es i) ≡ true
 keyed-remove zero [] keyed = refl
 keyed-remove (suc i) [] keyed = refl
-keyed-remove zero (e ∷ es) keyed = (and-both (e.1.session.number == e.0) (is_keyed es) keyed).1
+keyed-remove zero (e ∷ es) keyed = (and_parts (e.1.session.number == e.0) (is_keyed es) keyed).1
 keyed-remove (suc i) (e ∷ es) keyed =
-    let parts = and-both (e.1.session.number == e.0) (is_keyed es) keyed in λ j. parts.0 j && keyed-remove i es parts.1 j
+    let parts = and_parts (e.1.session.number == e.0) (is_keyed es) keyed in λ j. parts.0 j && keyed-remove i es parts.1 j
 
 -- ---- an unchanged session, and room
 
 pub sessions-same : (i : ℕ) (es : Entries) (v w : Kept) → slice_get (values_of es) i ≡ Some v → w.session ≡ v.session → sessions_in (set_value_at es i w) ≡ sessions_in es
 sessions-same i [] v w at is = refl
-sessions-same zero (e ∷ es) v w at is = ap (λ x. x ∷ sessions_in es) (is ∙ ap (λ (k : Kept). k.session) (sym (some-is e.1 v at)))
+sessions-same zero (e ∷ es) v w at is = ap (λ x. x ∷ sessions_in es) (is ∙ ap (λ (k : Kept). k.session) (sym (same_Some e.1 v at)))
 sessions-same (suc i) (e ∷ es) v w at is = ap (λ xs. e.1.session ∷ xs) (sessions-same i es v w at is)
 
-pub same-sessions : (es : Entries) (t : Table) (i : ℕ) (v w : Kept) → table_of es ≡ t → slice_get (values_of es) i ≡ Some v → w.session ≡ v.session → sessions_in (set_value_at es i w) ≡ t.sessions
-same-sessions es t i v w view at is = sessions-same i es v w at is ∙ ap (λ (u : Table). u.sessions) view
+pub same-sessions : (es : Entries) (t : SessionTable) (i : ℕ) (v w : Kept) → table_of es ≡ t → slice_get (values_of es) i ≡ Some v → w.session ≡ v.session → sessions_in (set_value_at es i w) ≡ t.sessions
+same-sessions es t i v w view at is = sessions-same i es v w at is ∙ ap (λ (u : SessionTable). u.sessions) view
 
 room-of : (i : ℕ) (es : Entries) (v : Kept) → slice_get (values_of es) i ≡ Some v → has_room es ≡ true → v.room ≡ true
 room-of i [] v at room = absurd (none-some at)
-room-of zero (e ∷ es) v at room = ap (λ (k : Kept). k.room) (sym (some-is e.1 v at)) ∙ (and-both e.1.room (has_room es) room).0
-room-of (suc i) (e ∷ es) v at room = room-of i es v at (and-both e.1.room (has_room es) room).1
+room-of zero (e ∷ es) v at room = ap (λ (k : Kept). k.room) (sym (same_Some e.1 v at)) ∙ (and_parts e.1.room (has_room es) room).0
+room-of (suc i) (e ∷ es) v at room = room-of i es v at (and_parts e.1.room (has_room es) room).1
 
-pub room-in : (es : Entries) (t : Table) (i : ℕ) (v : Kept) → table_of es ≡ t → slice_get (values_of es) i ≡ Some v → t.room ≡ true → v.room ≡ true
-room-in es t i v view at room = room-of i es v at (ap (λ (u : Table). u.room) view ∙ room)
+pub room-in : (es : Entries) (t : SessionTable) (i : ℕ) (v : Kept) → table_of es ≡ t → slice_get (values_of es) i ≡ Some v → t.room ≡ true → v.room ≡ true
+room-in es t i v view at room = room-of i es v at (ap (λ (u : SessionTable). u.room) view ∙ room)
 
 -- ---- the calls that ask which session there is
 
@@ -262,7 +257,7 @@ keyed-after es fs k v (Err e) added same keyed named = ap is_keyed same ∙ keye
 
 find-from_suc : (p : Session → Bool) (i : ℕ) (es : Entries) (v : Kept) → slice_get (values_of es) i ≡ Some v → find p (sessions_in (drop i es)) ≡ cond (p v.session) (Some v.session) (find p (sessions_in (drop (suc i) es)))
 find-from_suc p i [] v at = absurd (none-some at)
-find-from_suc p zero (e ∷ es) v at = ap (λ (k : Kept). cond (p k.session) (Some k.session) (find p (sessions_in es))) (some-is e.1 v at)
+find-from_suc p zero (e ∷ es) v at = ap (λ (k : Kept). cond (p k.session) (Some k.session) (find p (sessions_in es))) (same_Some e.1 v at)
 find-from_suc p (suc i) (e ∷ es) v at = find-from_suc p i es v at
 
 pub find-from : (p : Session → Bool) (i : ℕ) (es : Entries) (v : Kept) → slice_get (values_of es) i ≡ Some v → find p (sessions_in (drop i es)) ≡ cond (p v.session) (Some v.session) (find p (sessions_in (drop (i + 1) es)))
@@ -289,7 +284,7 @@ first_by-suc f i [] xs v w so_far at is = absurd (none-some at)
 first_by-suc f zero (e ∷ es) [] v w so_far at is = absurd (cons-nil so_far)
 first_by-suc f zero (e ∷ es) (x ∷ xs) v w so_far at is =
     let h = cons-parts so_far in
-    λ i. (is ∙ (ap (λ (k : Kept). f k.session) (sym (some-is e.1 v at)) ∙ ap f h.0)) i ∷ h.1 i
+    λ i. (is ∙ (ap (λ (k : Kept). f k.session) (sym (same_Some e.1 v at)) ∙ ap f h.0)) i ∷ h.1 i
 first_by-suc f (suc i) (e ∷ es) [] v w so_far at is = absurd (cons-nil so_far)
 first_by-suc f (suc i) (e ∷ es) (x ∷ xs) v w so_far at is =
     let h = cons-parts so_far in
@@ -303,7 +298,7 @@ room-suc : (i : ℕ) (es : Entries) (v w : Kept) → slice_get (values_of es) i 
 room-suc i [] v w at so_far is = absurd (none-some at)
 room-suc zero (e ∷ es) v w at so_far is = ap (λ b. b && true) is
 room-suc (suc i) (e ∷ es) v w at so_far is =
-    let h = and-both e.1.room (has_room (take i es)) so_far in
+    let h = and_parts e.1.room (has_room (take i es)) so_far in
     λ j. h.0 j && room-suc i es v w at h.1 is j
 
 pub room-more : (i : ℕ) (es : Entries) (v w : Kept) → slice_get (values_of es) i ≡ Some v → has_room (take i es) ≡ true → w.room ≡ true → has_room (take (i + 1) (set_value_at es i w)) ≡ true

@@ -11,7 +11,7 @@ pub record Kept : Type 0 where
   pub room : Bool
 
 -- the sessions in order of definition, and whether one more member takes no memory, whichever session it joins
-pub record Table : Type 0 where
+pub record SessionTable : Type 0 where
   pub sessions : List Session
   pub room : Bool
 

@@ -2,8 +2,9 @@
 use Rattle.std.specs.Prelude.{◌≡◌, ℕ, zero, suc, Bool, true, false, ◌==◌, List, [], ◌∷◌, map}
 use Rattle.std.specs.List.{list_all}
 use Rattle.dr_model.specs.Sessions.{Session}
-use Rattle.dr_session.specs.Kept.{Kept, Table}
+use Rattle.dr_session.specs.Kept.{Kept, SessionTable}
 
+-- the sessions, in the map's order
 abbrev pub sessions_in : List (ℕ × Kept) → List Session
 sessions_in es = map (λ (e : ℕ × Kept). e.1.session) es
 
@@ -11,7 +12,8 @@ sessions_in es = map (λ (e : ℕ × Kept). e.1.session) es
 abbrev pub has_room : List (ℕ × Kept) → Bool
 has_room es = list_all (λ (e : ℕ × Kept). e.1.room) es
 
-abbrev pub table_of : List (ℕ × Kept) → Table
+-- the table that the entries make
+abbrev pub table_of : List (ℕ × Kept) → SessionTable
 table_of es = record { sessions = sessions_in es; room = has_room es }
 
 -- each entry's key is its session's number

@@ -8,9 +8,11 @@ use Rattle.dr_session.specs.declared.session.Session.TheInside as session
 use Rattle.dr_model.specs.Sessions as model
 use Rattle.dr_session.specs.Kept.{Kept}
 
+-- a session's master, with its server
 abbrev pub mirror_of : Mirror → model.Mirror
 mirror_of r = record { server = r.server.0; paused = r.paused; master = r.master }
 
+-- a session
 abbrev pub session_of : session.Inside → model.Session
 session_of x = record {
   number = x.number.0;
@@ -20,6 +22,7 @@ session_of x = record {
   mirror = option_map mirror_of x.mirror;
 }
 
+-- with whether one more member takes no memory
 abbrev pub kept_of : session.Inside → Kept
 kept_of x = record { session = session_of x; room = nat_lt (vec_len x.members) (vec_capacity x.members) }
 

@@ -11,9 +11,6 @@ use dr_master::{Master, Reply};
 use std::alloc::{AllocError, Global};
 use std::marker::Model;
 
-/// How many volumes a logical subsystem has room for.
-const VOLUMES_OF_LSS: u16 = 256;
-
 /// What a call on a master is refused with where there is none.
 pub(crate) const NO_MASTER: Refusal = Refusal::OutOfOrder {
     phase: PhaseName::None,
@@ -43,11 +40,11 @@ impl Model for Session {
     ghost Value = { Kept };
 
     ghost use Rattle.dr_session.specs.Seen.{kept_of, session_of};
-    ghost use Rattle.dr_model.specs.Sessions.{IsSound};
+    ghost use Rattle.dr_model.specs.Sessions.{IsSoundSession};
 
     ghost view = { kept_of };
 
-    ghost invariant = { λ x. IsSound (session_of x) };
+    ghost invariant = { λ x. IsSoundSession (session_of x) };
 }
 
 impl Session {
@@ -162,9 +159,7 @@ impl Session {
     pub(crate) fn has_member_in(&self, l: Lss) -> bool
         ensures { result ≡ model.has_member_in l.0 self.now.session }
     {
-        self.members
-            .iter()
-            .any(|m| m.a.0 / VOLUMES_OF_LSS == u16::from(l.0))
+        self.members.iter().any(|m| m.a.lss().0 == l.0)
     }
 
     /// Whether one of the member's volumes has a place in a member of this session.

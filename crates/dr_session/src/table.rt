@@ -29,10 +29,10 @@ pub struct Sessions {
 
 impl Model for Sessions {
     ghost use Rattle.std.specs.Prelude.{◌≡◌, true};
-    ghost use Rattle.dr_session.specs.Kept.{Table};
+    ghost use Rattle.dr_session.specs.Kept.{SessionTable};
     ghost use Rattle.dr_session.specs.Places.{table_of, is_keyed};
 
-    ghost Value = { Table };
+    ghost Value = { SessionTable };
 
     ghost view = { λ t. table_of t.table.entries };
 

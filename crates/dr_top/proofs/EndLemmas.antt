@@ -1,11 +1,11 @@
 -- How a run goes on from line to line, and how it ends.
-use Rattle.std.proofs.Common.{ℕ, ◌≡◌, ◌≤◌, ◌+◌, List, [], ◌∷◌, ◌++◌, take, refl, ap, ◌∙◌, sym, subst, append_assoc, inl, inr, Bool, true, false, Option, Some, Result, Ok, Err}
+use Rattle.std.proofs.Common.{ℕ, ◌≡◌, ◌≤◌, ◌+◌, List, [], ◌∷◌, ◌++◌, length, take, refl, ap, ◌∙◌, sym, subst, append_assoc, inl, inr, Bool, true, false, Option, Some, Result, Ok, Err}
 use Rattle.std.proofs.lemmas.List.{append-nil}
 use Rattle.std.proofs.Math.Seq.{take-length}
 use Rattle.std.specs.Str.Lines.{lines}
-use Rattle.dr_io.specs.Faults.{Rose}
+use Rattle.dr_logic.specs.Counts.{Rose, Counted}
 use Rattle.dr_io.specs.Given.{Took, Gave}
-use Rattle.dr_io.specs.Lines.{Progress, begun, most_bytes}
+use Rattle.dr_io.specs.Lines.{Progress, begun, most_bytes, most_lines}
 use Rattle.dr_io.specs.declared.streams.Failed.{Failed}
 use Rattle.dr_io.specs.declared.line_reader.Taken.{Taken}
 use Rattle.dr_io.specs.declared.line_reader.Taken.TheVariants.{End, TooLong as PastLimit}
@@ -14,7 +14,6 @@ use Rattle.dr_model.specs.Lines.{tasks, tasks_of}
 use Rattle.dr_model.specs.Runs.{Task, after_tasks, run}
 use Rattle.dr_model.specs.Text.{text}
 use Rattle.dr_top.specs.Carried.{Reached}
-use Rattle.dr_top.specs.Faults.{Counted}
 use Rattle.dr_top.specs.Followed.{IsHalted}
 use Rattle.dr_top.specs.Outcome.{Ran, Ends, CountsStreams, IsUpTo, has_refusal}
 use Rattle.dr_top.specs.Ran.{RanLine, is_on_sink}
@@ -85,6 +84,8 @@ module _ {S K : Type 0} (left : S → Option (List ℕ)) (faults : S → ℕ) (w
       closed = t.closed;
       one = t.one;
       near = t.stands.near;
+      few = subst (λ n. n ≤ most_lines) t.stands.given t.stands.few;
+      bytes = subst (λ n. n ≤ most_bytes) (t.stands.count ∙ ap (λ xs. length xs) (append_assoc g.before t.line p'.ahead)) t.stands.bytes;
       start = w;
       begins = g.leads;
       tasks = ts;

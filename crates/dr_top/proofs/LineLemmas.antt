@@ -8,6 +8,7 @@ use Rattle.std.specs.List.{position_or_len, slice_split, onto_first}
 use Rattle.std.specs.Str.Lines.{lines, lines_of_parts, strip_carriage_return}
 use Rattle.dr_io.specs.Lines.{is_line_end, IsOpen}
 use Rattle.dr_top.specs.Cut.{IsClosed}
+use Rattle.dr_logic.proofs.Choices.{not_chosen}
 
 -- bytes none of which ends a line are one part
 one-part : (xs : List ℕ) → length xs ≤ position_or_len is_line_end xs → slice_split is_line_end xs ≡ xs ∷ []
@@ -17,10 +18,6 @@ one-part (x ∷ xs) h =
       | true ↦ λ e le. absurd (omega arith)
       | false ↦ λ e le. slice_split-cons_no is_line_end x xs e ∙ ap (onto_first x) (one-part xs (omega arith))
     ] refl h
-
-not_chosen : (b : Bool) (n : ℕ) → cond b (Some n) None ≡ None → b ≡ false
-not_chosen true n e = cc
-not_chosen false n e = refl
 
 past-end : (xs : List ℕ) → IsOpen xs → length xs ≤ position_or_len is_line_end xs
 past-end xs h = let past = not_chosen (nat_lt (position_or_len is_line_end xs) (length xs)) (position_or_len is_line_end xs) h in grind (arith, nat_tests, past)

@@ -3,22 +3,14 @@ use Rattle.std.proofs.Common.{ℕ, ◌≡◌, ◌≤◌, ◌<◌, ◌+◌, ◌-�
 use Rattle.std.proofs.lemmas.Bool.Decides.{nat_tests}
 use Rattle.std.proofs.lemmas.Grind.{common_steps}
 use Rattle.std.proofs.Math.Seq.{take-add}
+use Rattle.dr_io.proofs.Pieces.{pieces_written}
 
 pub all_taken : {X : Type 0} (xs : List X) (n : ℕ) → length xs ≤ n → take n xs ≡ xs
 all_taken xs n h = grind (arith, common_steps)
 
-pub whole_rest : (piece : List ℕ) (done : ℕ) → take (length piece - done) (drop done piece) ≡ drop done piece
-whole_rest piece done = all_taken (drop done piece) (length piece - done) (grind (arith, common_steps))
-
--- what was given so far and what a call took more
-pub given_more : (out piece : List ℕ) (done taken : ℕ) → (out ++ take done piece) ++ take taken (take (length piece - done) (drop done piece)) ≡ out ++ take (done + taken) piece
-given_more out piece done taken =
-    ap (λ r. (out ++ take done piece) ++ take taken r) (whole_rest piece done)
-    ∙ append_assoc out (take done piece) (take taken (drop done piece)) ∙ ap (λ t. out ++ t) (sym (take-add done taken piece))
-
 -- a call that took nothing
 pub given_none : (out piece : List ℕ) (done taken : ℕ) → taken ≡ 0 → (out ++ take done piece) ++ take taken (take (length piece - done) (drop done piece)) ≡ out ++ take done piece
-given_none out piece done taken none = given_more out piece done taken ∙ ap (λ n. out ++ take n piece) (let e : done + taken ≡ done = omega arith in e)
+given_none out piece done taken none = pieces_written out piece done taken ∙ ap (λ n. out ++ take n piece) (let e : done + taken ≡ done = omega arith in e)
 
 -- a call that took something
 pub some-taken : (wanted taken : ℕ) → taken ≢ 0 → (nat_lt 0 wanted && nat_eq taken 0) ≡ false

@@ -20,35 +20,30 @@ use Rattle.dr_model.specs.Runs.{Task, after_task, after_tasks, masters_lost, sai
 use Rattle.dr_model.specs.Laws.{Sound}
 use Rattle.dr_model.specs.LineText.{IsWritten}
 use Rattle.dr_model.specs.Limits.{most_events}
-use Rattle.dr_laws.proofs.Steps.{sound-run}
-use Rattle.dr_laws.proofs.Journal.{issued-task, after_task-longer}
-use Rattle.dr_laws.specs.Limits.{IsWithin}
-use Rattle.dr_laws.proofs.Limits.{within-run, journal-fits}
+use Rattle.dr_laws_sound.proofs.Steps.{sound-run}
+use Rattle.dr_laws_sound.proofs.Journal.{issued-task, after_task-longer}
+use Rattle.dr_laws_sound.specs.Limits.{IsWithin}
+use Rattle.dr_laws_sound.proofs.Limits.{within-run, journal-fits}
 use Rattle.dr_top.specs.Carried.{Reached, EndsBy, GoesTo}
-use Rattle.dr_top.specs.Faults.{is_stop, told_stop}
+use Rattle.dr_steps.specs.Faults.{is_stop, told_stop}
 use Rattle.dr_top.specs.declared.carry.Bar.{Bar}
 use Rattle.dr_host.specs.Writes.{Each, bytes_of}
-use Rattle.dr_top.specs.declared.tables.Tables.{Tables}
+use Rattle.dr_steps.specs.declared.tables.Tables.{Tables}
 use Rattle.dr_host.specs.declared.pending.Pending.{Pending}
 use Rattle.dr_model.specs.Histories.{Histories, histories}
 use Rattle.dr_model.proofs.Images.{histories-push}
 use Rattle.dr_model.specs.declared.said.Said.{Said}
 use Rattle.dr_plant.specs.State.{PlantState}
-use Rattle.dr_config.specs.Table.{Table}
+use Rattle.dr_config.specs.Table.{ConfigTable}
 use Rattle.dr_config.specs.declared.entries.VolumeEntry.{VolumeEntry}
 use Rattle.dr_volume.specs.View.{ids_of}
-use Rattle.dr_top.specs.Here.{here, IsTold}
-use Rattle.dr_top.proofs.LossLemmas.{masters-stay}
+use Rattle.dr_steps.specs.Here.{here, IsTold}
+use Rattle.dr_steps.proofs.LossLemmas.{masters-stay}
 use Rattle.dr_top.proofs.TaskLemmas.{tasks-then, tasks-one, tasks-none}
+use Rattle.dr_config.proofs.Lists.{element-at}
 
 pub reached-more : (w u : World) (ts : List Task) → Reached w → after_tasks w ts ≡ u → Reached u
 reached-more w u ts r is = (r.0 ++ ts, tasks-then nothing r.0 ts ∙ ap (λ x. after_tasks x ts) r.1 ∙ is)
-
--- a list has something at each of its places
-pub some_at : {X : Type 0} (xs : List X) (i : ℕ) → i < length xs → (x : X) × (slice_get xs i ≡ Some x)
-some_at [] i lt = absurd (omega arith)
-some_at (x ∷ xs) zero lt = (x, refl)
-some_at (x ∷ xs) (suc i) lt = some_at xs i (omega arith)
 
 -- one more of a list
 pub take-next : {X : Type 0} (xs : List X) (i : ℕ) (x : X) → i < length xs → slice_get xs i ≡ Some x → take (i + 1) xs ≡ take i xs ++ x ∷ []
@@ -86,7 +81,7 @@ reached-room w t r below = journal-fits w t (reached-sound w r) (subst (λ (x : 
 -- a step at a place
 pub some-step : (steps : List Step) (i : ℕ) (o : Option (Bor Step)) → i < length steps → option_copied o ≡ slice_get steps i → IsSome o
 some-step steps i (Some b) lt is = refl
-some-step steps i None lt is = let at = some_at steps i lt in absurd (let e : None ≡ Some at.0 = is ∙ at.1 in cc)
+some-step steps i None lt is = let at = element-at steps i lt in absurd (let e : None ≡ Some at.0 = is ∙ at.1 in cc)
 
 pub step-at : (steps : List Step) (i : ℕ) (s : Step) → i < length steps → Some s ≡ slice_get steps i → All IsWritten steps → IsWritten s
 step-at steps i s lt at all = subst IsWritten (get_or_from_slice_get steps i s s (sym at)) (all i s lt)
@@ -132,14 +127,8 @@ read-ok number line steps is = ap (tasks_read number) is
 pub read-fault : (number : ℕ) (line : List ℕ) (column : ℕ) → line_of line ≡ Err column → tasks_of number line ≡ tasks_read number (Err column)
 read-fault number line column is = ap (tasks_read number) is
 
--- an answer tells of no write
-pub told-answer : (h : Tables) (events now : List Event) (line : ℕ) (a : Said) → now ≡ events ++ answer line a ∷ [] → IsTold h events → IsTold h now
-told-answer h events now line a told is =
-    subst (λ (x : Histories). Each (λ (p : Pending). x.write (p.w.0) ≡ record { volume = p.volume.0; track = p.track; offset = p.offset; bytes = bytes_of p }) h.host.pending)
-    (sym (ap histories told ∙ histories-push events (answer line a))) is
-
 -- a configuration that was reached has few volumes
-pub reached-few : (s : PlantState) (t : Table) (h : Tables) (ev : List Event) → Reached (here s t h ev) → length t.volumes ≤ 64
+pub reached-few : (s : PlantState) (t : ConfigTable) (h : Tables) (ev : List Event) → Reached (here s t h ev) → length t.volumes ≤ 64
 reached-few s t h ev reached =
     let within = subst (λ (w : World). IsWithin w.control) reached.1 (within-run reached.0) in
     let few : length (ids_of t.volumes) ≤ 64 = within.volumes in

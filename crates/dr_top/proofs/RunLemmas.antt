@@ -10,8 +10,8 @@ use Rattle.dr_model.specs.declared.event.Event.{Event}
 use Rattle.dr_model.specs.Control.{World}
 use Rattle.dr_model.specs.Runs.{Task, after_tasks}
 use Rattle.dr_model.specs.Text.{text, text_from, heard, untold}
-use Rattle.dr_laws.proofs.Texts.{text-append}
-use Rattle.dr_laws.proofs.Journal.{after_tasks-grows}
+use Rattle.dr_laws_sound.proofs.Texts.{text-append}
+use Rattle.dr_laws_sound.proofs.Journal.{after_tasks-grows}
 use Rattle.dr_top.specs.Carried.{GoesTo}
 use Rattle.dr_top.specs.Followed.{text_since, GavePrefix, IsFull}
 use Rattle.dr_io.specs.Given.{Gave, GavePart}

@@ -14,15 +14,9 @@ use Rattle.dr_top.specs.Cut.{IsClosed, IsEnded}
 use Rattle.dr_top.specs.Followed.{IsLast}
 use Rattle.dr_top.proofs.LineLemmas.{lines-one, lines-last, append_end}
 use Rattle.dr_top.proofs.TaskLemmas.{line_tasks, ended-tasks, last-tasks, closed-more, one-more}
+use Rattle.dr_io.proofs.ReadingSteps.{took_more}
 
 module _ {S : Type 0} (left : S → Option (List ℕ)) where
-  -- what was taken at first, and then
-  took-then : (s0 s s' : S) (first bytes : List ℕ) → Took left s0 s first → Took left s s' bytes → Took left s0 s' (first ++ bytes)
-  took-then s0 s s' first bytes t u told h =
-      let a = t told h in
-      let b = u a.0 a.1 in
-      (b.0, b.1, a.2 ∙ ap (λ r. first ++ r) b.2 ∙ sym (append_assoc first bytes b.0))
-
   -- nothing is left, so all was taken
   took-all : (s0 s : S) (bytes : List ℕ) → Took left s0 s bytes → TookAll left s [] → TookAll left s0 bytes
   took-all s0 s bytes t none told h = let a = t told h in a.2 ∙ ap (λ r. bytes ++ r) (none a.0 a.1) ∙ append-nil bytes
@@ -72,7 +66,7 @@ module _ {S : Type 0} (left : S → Option (List ℕ)) where
     module _ (s s' : S) (p p' : Progress) (before : List ℕ) (st : Stands s p before) where
       -- what was taken with a call that goes on
       took-both : (result : Result Taken Failed) (r : Reads left faults s s' p p' result) → Took left s0 s' (before ++ (p.ahead ++ r.bytes))
-      took-both result r = subst (Took left s0 s') (append_assoc before p.ahead r.bytes) (took-then s0 s s' (before ++ p.ahead) r.bytes st.took r.took)
+      took-both result r = subst (Took left s0 s') (append_assoc before p.ahead r.bytes) (took_more left s0 s s' (before ++ p.ahead) r.bytes st.took r.took)
 
       count-both : (result : Result Taken Failed) (r : Reads left faults s s' p p' result) → p'.taken ≡ length (before ++ (p.ahead ++ r.bytes))
       count-both result r =

@@ -4,6 +4,7 @@ use Rattle.std.proofs.lemmas.Bool.Decides.{nat_tests}
 use Rattle.std.proofs.lemmas.List.{append-nil, length-append, length-take-le}
 use Rattle.std.proofs.lemmas.List.Sums.{fold-append}
 use Rattle.std.specs.Str.Lines.{lines, strip_carriage_return}
+use Rattle.std.proofs.lemmas.Bool.{lt-ltb, ltb-true}
 use Rattle.dr_model.specs.Control.{World, nothing}
 use Rattle.dr_model.specs.Grammar.{line_of, begins_comment, words_read}
 use Rattle.dr_model.specs.LineWords.{line_words}
@@ -14,12 +15,6 @@ use Rattle.dr_top.specs.Cut.{IsClosed}
 use Rattle.dr_top.proofs.PutLemmas.{all_taken}
 use Rattle.dr_top.proofs.LineLemmas.{lines-closed, lines-one, lines-last}
 
-longer : (n m : ℕ) → n < m → nat_lt n m ≡ true
-longer n m h = grind (arith, nat_tests, h)
-
-is_longer : (n m : ℕ) → nat_lt n m ≡ true → n < m
-is_longer n m h = grind (arith, nat_tests, h)
-
 not_longer : (n m : ℕ) → nat_lt n m ≡ false → m ≤ n
 not_longer n m h = grind (arith, nat_tests, h)
 
@@ -27,7 +22,7 @@ not_longer n m h = grind (arith, nat_tests, h)
 line_by : (line : List ℕ) → begins_comment (take 1025 line) ≡ begins_comment line → 1024 < length line → line_of (take 1025 line) ≡ line_of line
 unfolding line_of
 line_by line same long =
-    let lt = longer 1024 (length line) long in
+    let lt = lt-ltb 1024 (length line) long in
     let cut : nat_lt 1024 (length (take 1025 line)) ≡ true = ap (nat_lt 1024) (length-take-le 1025 line long) in
     ap (λ b. cond b (Ok []) (cond (nat_lt 1024 (length (take 1025 line))) (Err 1025) (words_read (length (take 1025 line) + 1) (line_words (take 1025 line))))) same
     ∙ ap (λ b. cond (begins_comment line) (Ok []) (cond b (Err 1025) (words_read (length (take 1025 line) + 1) (line_words (take 1025 line))))) cut
@@ -38,7 +33,7 @@ comment-cut [] = refl
 comment-cut (b ∷ bs) = refl
 
 by_length : (line : List ℕ) (b : Bool) → nat_lt 1024 (length line) ≡ b → line_of (take 1025 line) ≡ line_of line
-by_length line true h = line_by line (comment-cut line) (is_longer 1024 (length line) h)
+by_length line true h = line_by line (comment-cut line) (ltb-true 1024 (length line) h)
 by_length line false h = ap line_of (all_taken line 1025 (let le = not_longer 1024 (length line) h in omega (arith, le)))
 
 pub line-cut : (number : ℕ) (line : List ℕ) → tasks_of number (take 1025 line) ≡ tasks_of number line

@@ -5,9 +5,11 @@ use Rattle.std.specs.Option.{option_map}
 use Rattle.std.proofs.lemmas.Bool.Decides.{nat_tests}
 use Rattle.std.proofs.lemmas.List.{length-map}
 use Rattle.std.proofs.lemmas.Option.{slice_get-map}
+use Rattle.dr_logic.specs.Counts.{Counted}
+use Rattle.dr_logic.specs.Bytes.{zeros}
 use Rattle.dr_plant.specs.State.{PlantState, IsFresh}
 use Rattle.dr_config.specs.Links.{none_down}
-use Rattle.dr_config.specs.Table.{Table, IsSound, StandsFor, place_of, entry_of}
+use Rattle.dr_config.specs.Table.{ConfigTable, IsSoundConfig, StandsFor, place_of, entry_of}
 use Rattle.dr_config.specs.declared.entries.VolumeEntry.{VolumeEntry}
 use Rattle.dr_config.proofs.LinkLaws.{none-down}
 use Rattle.dr_config.proofs.Devices.{stands-empty}
@@ -17,33 +19,38 @@ use Rattle.dr_model.specs.Control.{Volume, World, nothing, is_volume}
 use Rattle.dr_model.specs.Fits.{Fits, SaysVolume, device_of, on_device}
 use Rattle.dr_model.specs.Runs.{Task, run}
 use Rattle.dr_model.specs.Layout.{physical}
-use Rattle.dr_model.specs.Contents.{zeros}
 use Rattle.dr_model.specs.Laws.{Sound}
-use Rattle.dr_laws.proofs.Agree.{fits-sound}
-use Rattle.dr_laws.specs.Windows.{EndsInCut}
-use Rattle.dr_laws.proofs.FairSteps.{cut-run}
-use Rattle.dr_laws.proofs.EndsInCut.{ends-in-cut}
-use Rattle.dr_laws.proofs.Seals.{seals-on}
-use Rattle.dr_laws.proofs.Decided.{decides-on}
-use Rattle.dr_laws.proofs.ClosesAlong.{closed-run}
-use Rattle.dr_laws.proofs.HeadlineAlong.{headline-run}
+use Rattle.dr_laws_sound.proofs.Agree.{fits-sound}
+use Rattle.dr_laws_sound.proofs.Acknowledged.{acked-run}
+use Rattle.dr_laws_sound.proofs.RefusedRuns.{refused-run}
+use Rattle.dr_laws_freezes.specs.Windows.{EndsInCut}
+use Rattle.dr_laws_freezes.proofs.FairSteps.{cut-run}
+use Rattle.dr_laws_freezes.proofs.EndsInCut.{ends-in-cut}
+use Rattle.dr_laws_recovery.proofs.Seals.{seals-on}
+use Rattle.dr_laws_recovery.proofs.Decided.{decides-on}
+use Rattle.dr_laws_recovery.proofs.ClosesAlong.{closed-run}
+use Rattle.dr_laws_recovery.proofs.HeadlineAlong.{headline-run}
+use Rattle.dr_laws_recovery.proofs.KeepsWrites.{keeps-run}
+use Rattle.dr_laws_recovery.proofs.TakenAt.{holds-run}
+use Rattle.dr_laws_recovery.proofs.GroupsFound.{found-run}
+use Rattle.dr_laws_recovery.proofs.RunsFormed.{formed-run}
 use Rattle.dr_model.specs.ClosedCuts.{ClosedCuts}
 use Rattle.dr_volume.specs.View.{fuse_seen, ids_of, volume_seen, track_seen}
 use Rattle.dr_volume.proofs.VolumeLaws.{volume-placed, track-placed}
-use Rattle.dr_top.specs.Here.{here, IsReady}
+use Rattle.dr_steps.specs.Here.{here, IsReady}
 use Rattle.dr_model.specs.Limits.{most_events}
 use Rattle.dr_top.specs.Carried.{Reached}
-use Rattle.dr_top.specs.Faults.{Counted, told_stop}
+use Rattle.dr_steps.specs.Faults.{told_stop}
 use Rattle.dr_top.specs.Outcome.{HasDevices, IsRun, Ran}
 use Rattle.dr_top.proofs.ReachLemmas.{reached-sound}
 use Rattle.dr_top.specs.declared.status.Status.{Status}
-use Rattle.dr_top.proofs.LocatedLemmas.{is_volume-here, device-here, some_entry}
-use Rattle.dr_top.proofs.StepLemmas.{on-known}
-use Rattle.dr_top.specs.declared.tables.Tables.{Tables}
+use Rattle.dr_steps.proofs.LocatedLemmas.{is_volume-here, device-here, some_entry}
+use Rattle.dr_steps.specs.declared.tables.Tables.{Tables}
+use Rattle.dr_volume.proofs.WorldLaws.{on-seen}
 
 -- before the first step
 module _ (s : PlantState) (fresh : IsFresh s) where
-  abbrev pub empty_table : Table
+  abbrev pub empty_table : ConfigTable
   empty_table = record { names = []; volumes = []; down = none_down; paths = [] }
 
   abbrev pub idle : Tables
@@ -68,7 +75,7 @@ module _ (s : PlantState) (fresh : IsFresh s) where
   }
 
 -- the plant fits the machine's state that it shows
-module _ (s : PlantState) (t : Table) (h : Tables) (ev : List Event) (sound : IsSound t) where
+module _ (s : PlantState) (t : ConfigTable) (h : Tables) (ev : List Event) (sound : IsSoundConfig t) where
   mapped : (o : Option VolumeEntry) (v : ℕ) → option_map (λ (e : VolumeEntry). e.id) o ≡ Some v → (e : VolumeEntry) × (o ≡ Some e) × (e.id ≡ v)
   mapped None v h = cc
   mapped (Some e) v h = (e, refl, cc)
@@ -102,14 +109,14 @@ module _ (s : PlantState) (t : Table) (h : Tables) (ev : List Event) (sound : Is
 
   pub fits-here : Sound (here s t h ev) → Fits (here s t h ev) s.on (λ server. fuse_seen (s.write_fuse server)) s.block
   fits-here is = fits-sound (here s t h ev) s.on (λ server. fuse_seen (s.write_fuse server)) s.block is
-      (λ k lt. sym (on-known s k lt))
+      (λ k lt. sym (on-seen s k lt))
       (λ k lt. ap (λ b. cond b (fuse_seen (s.write_fuse k)) None) (let e : true ≡ nat_lt k 8 = grind (arith, nat_tests) in e))
       (λ v there. let l = lies v there in
       subst (λ d. SaysVolume (s.block d) (volume_seen s t v)) (sym l.4)
       (subst (λ x. SaysVolume (s.block l.0) x) (sym (volume-placed s t v l.0 l.1 l.2 l.3)) (record { slot = refl; fields = refl; staged = refl })))
       tracks-here
 
-module _ (s : PlantState) (t : Table) (h : Tables) (ev : List Event) (sound : IsSound t) (stands : StandsFor t s) where
+module _ (s : PlantState) (t : ConfigTable) (h : Tables) (ev : List Event) (sound : IsSoundConfig t) (stands : StandsFor t s) where
   pub devices-here : HasDevices (here s t h ev) s
   devices-here = record {
     count = stands.count ∙ sym (length-map t.volumes (λ (e : VolumeEntry). e.id));
@@ -119,7 +126,7 @@ module _ (s : PlantState) (t : Table) (h : Tables) (ev : List Event) (sound : Is
 
 -- a run that led to what the plant shows
 module _ {S K : Type 0} (left : S → Option (List ℕ)) (written : K → Option (List ℕ)) (source source' : S) (sink sink' : K) (read_faults : S → ℕ) (write_faults : K → ℕ) where
-  pub is-run : (status : Status) (s0 s : PlantState) (t : Table) (h : Tables) (ev : List Event) → IsSound t → IsReady s t h ev → Reached (here s t h ev) → length ev ≤ most_events
+  pub is-run : (status : Status) (s0 s : PlantState) (t : ConfigTable) (h : Tables) (ev : List Event) → IsSoundConfig t → IsReady s t h ev → Reached (here s t h ev) → length ev ≤ most_events
       → Counted (told_stop ev) s0.faults s.faults → Ran left written source source' sink sink' read_faults write_faults status (here s t h ev)
       → IsRun left written source source' sink sink' read_faults write_faults status ev s0 s
   is-run status s0 s t h ev sound ready reached room stops ran = record {
@@ -129,11 +136,18 @@ module _ {S K : Type 0} (left : S → Option (List ℕ)) (written : K → Option
     room = room;
     devices = devices-here s t h ev sound ready.rest.stands;
     fits = fits-here s t h ev sound (reached-sound (here s t h ev) reached);
+    holds = tracks-here s t h ev sound;
     frozen = frozen-here s t h ev sound;
     seals = seals-on reached.0 (here s t h ev) s.on (λ server. fuse_seen (s.write_fuse server)) s.block reached.1 (fits-here s t h ev sound (reached-sound (here s t h ev) reached));
     closed = λ i n. subst (λ (w : World). ClosedCuts w.events i n) reached.1 (closed-run reached.0 i n);
+    held = λ tasks leads i n. holds-run tasks (here s t h ev) leads i n;
     decides = decides-on reached.0 (here s t h ev) s.on (λ server. fuse_seen (s.write_fuse server)) s.block reached.1 (fits-here s t h ev sound (reached-sound (here s t h ev) reached));
-    headline = headline-run reached.0 (here s t h ev) s.on (λ server. fuse_seen (s.write_fuse server)) s.block reached.1 (fits-here s t h ev sound (reached-sound (here s t h ev) reached)) (tracks-here s t h ev sound);
+    headline = λ tasks leads. headline-run tasks (here s t h ev) s.on (λ server. fuse_seen (s.write_fuse server)) s.block leads (fits-here s t h ev sound (reached-sound (here s t h ev) reached)) (tracks-here s t h ev sound);
+    keeps = λ tasks leads. keeps-run tasks;
+    acknowledged = λ tasks leads. acked-run tasks;
+    formed = λ tasks leads. formed-run tasks;
+    found = λ tasks leads. found-run tasks;
+    refused = λ tasks leads. refused-run tasks;
     reads = ready.reads;
     stops = stops;
   }

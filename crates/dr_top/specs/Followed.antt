@@ -8,7 +8,7 @@ use Rattle.dr_model.specs.Limits.{most_events}
 use Rattle.dr_model.specs.Lines.{tasks, tasks_from}
 use Rattle.dr_model.specs.Runs.{Task, after_tasks, run}
 use Rattle.dr_model.specs.Text.{text, text_from, heard, untold}
-use Rattle.dr_io.specs.Lines.{IsOpen, most_piece}
+use Rattle.dr_io.specs.Lines.{IsOpen, most_bytes, most_lines, most_piece}
 use Rattle.dr_top.specs.Cut.{IsClosed, IsEnded}
 use Rattle.dr_io.specs.Given.{Gave, TookAll}
 
@@ -25,7 +25,7 @@ module _ {S : Type 0} (left : S → Option (List ℕ)) (source : S) where
     pub all : TookAll left source taken
 
   -- A run that stands in a line: so many of its steps were carried out, after all lines before it. At most one piece was
-  -- taken behind it.
+  -- taken behind it. What was taken is within the limits of bytes, and its lines up to this one within that of lines.
   pub record IsHalted (taken : List ℕ) (w : World) : Type 0 where
     pub before : List ℕ
     pub line : List ℕ
@@ -34,6 +34,8 @@ module _ {S : Type 0} (left : S → Option (List ℕ)) (source : S) where
     pub closed : IsClosed before
     pub one : IsEnded line ⊎ IsLast taken line ahead
     pub near : length ahead ≤ most_piece
+    pub few : length (lines (before ++ line)) ≤ most_lines
+    pub bytes : length taken ≤ most_bytes
     pub start : World
     pub begins : run (tasks before) ≡ start
     pub tasks : List Task

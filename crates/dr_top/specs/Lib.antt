@@ -1,15 +1,6 @@
-pub mod Here
 pub mod Cut
-pub mod Faults
-pub mod Formed
-pub mod Forms
 pub mod Followed
 pub mod Carried
 pub mod Ran
 pub mod Outcome
 pub mod Statuses
-pub mod Located
-pub mod Waiting
-pub mod WellFormed
-pub mod Found
-pub mod Members

@@ -5,27 +5,32 @@ use Rattle.std.specs.Str.{bytes_eq}
 use Rattle.std.specs.Str.Lines.{lines}
 use Rattle.std.specs.String.{string_bytes}
 use Rattle.std.specs.declared.alloc.Global.{Global}
+use Rattle.dr_logic.specs.Counts.{Counted, Rose}
 use Rattle.dr_plant.specs.State.{PlantState}
 use Rattle.dr_model.specs.declared.event.Event.{Event}
 use Rattle.dr_model.specs.declared.event.Event.TheVariants.{Answer}
 use Rattle.dr_model.specs.Control.{World}
 use Rattle.dr_model.specs.ClosedCuts.{ClosedCuts}
 use Rattle.dr_model.specs.Fits.{Fits}
-use Rattle.dr_io.specs.Lines.{most_bytes, most_lines, most_piece}
+use Rattle.dr_model.specs.TakenWrites.{KeepsWrites}
+use Rattle.dr_io.specs.Lines.{most_bytes, most_lines, most_piece, IsOpen}
 use Rattle.dr_model.specs.Limits.{most_events}
 use Rattle.dr_model.specs.Lines.{tasks}
 use Rattle.dr_model.specs.Runs.{Task, run}
 use Rattle.dr_model.specs.Text.{text}
 use Rattle.dr_volume.specs.View.{fuse_seen, ReadsPass}
-use Rattle.dr_laws.specs.Windows.{EndsInCut}
-use Rattle.dr_laws.specs.Seals.{SealsOn}
-use Rattle.dr_laws.specs.Decided.{DecidesOn}
-use Rattle.dr_laws.specs.Headline.{Headline}
-use Rattle.dr_io.specs.Lines.{IsOpen}
+use Rattle.dr_laws_sound.specs.Acknowledged.{AcknowledgedIsAnswered}
+use Rattle.dr_laws_sound.specs.RefusedSteps.{RefusedStay}
+use Rattle.dr_laws_freezes.specs.Windows.{EndsInCut}
+use Rattle.dr_laws_recovery.specs.Seals.{SealsOn}
+use Rattle.dr_laws_recovery.specs.Decided.{DecidesOn}
+use Rattle.dr_laws_recovery.specs.Headline.{Headline}
+use Rattle.dr_laws_recovery.specs.Formed.{FormedIsFound, GroupsAreFound}
+use Rattle.dr_laws_recovery.specs.Held.{HoldsAll}
+use Rattle.dr_laws_recovery.specs.Recovered.{HoldsTracks}
 use Rattle.dr_top.specs.Cut.{IsClosed}
-use Rattle.dr_top.specs.Faults.{Counted, told_stop}
+use Rattle.dr_steps.specs.Faults.{told_stop}
 use Rattle.dr_top.specs.Followed.{IsHalted, IsThrough, IsFull, GavePrefix}
-use Rattle.dr_io.specs.Faults.{Rose}
 use Rattle.dr_io.specs.Given.{Gave, GavePart, Took, TookAll}
 use Rattle.dr_top.specs.declared.status.Status.{Status}
 use Rattle.dr_top.specs.declared.status.Status.TheVariants.{Done, DoneRefused, Usage, ReadFault, WriteFault, NoMemory, TooLong}
@@ -35,6 +40,7 @@ abbrev pub is_run : List (String Global) → Bool
 is_run (word ∷ []) = bytes_eq (string_bytes word) (codes "run")
 is_run _ = false
 
+-- the usage line, with its line feed
 abbrev pub usage_line : List ℕ
 usage_line = codes "usage: drsim run | recover SS | trial N | convert" ++ 10 ∷ []
 
@@ -43,6 +49,7 @@ abbrev pub is_refusal : Event → Bool
 is_refusal (Answer line code a b c) = not (nat_eq code 0 || nat_eq code 100)
 is_refusal _ = false
 
+-- a journal has one
 abbrev pub has_refusal : List Event → Bool
 has_refusal events = list_any is_refusal events
 
@@ -61,6 +68,7 @@ abbrev pub is_read_fault : Status → Bool
 is_read_fault ReadFault = true
 is_read_fault _ = false
 
+-- the status of a fault of the sink
 abbrev pub is_write_fault : Status → Bool
 is_write_fault WriteFault = true
 is_write_fault _ = false
@@ -169,10 +177,13 @@ module _ {S K : Type 0} (left : S → Option (List ℕ)) (written : K → Option
       pub ends : Ends status taken world
       pub streams : CountsStreams status
 
-    -- A run: the journal is that of the world to which the steps lead, and the plant fits it. Where a sound freeze window
-    -- ends with it, the devices of the secondaries contain the cut; each secondary that is sealed contains its own; the cuts of the
-    -- group of each attempt are closed; and by what the devices say alone, it is possible to decide over each session. And the headline:
-    -- of each session that is defined, the devices give back one cut of the host's acknowledged writes, that of its newest group.
+    -- A run: the journal is that of the world to which the steps lead, and the plant fits it: each track of each volume contains on its
+    -- device what it contains in that world, and reads as the host writes say. Where a sound freeze window ends with it, the devices of the
+    -- secondaries contain the cut; each secondary that is sealed contains its own; the cuts of the group of each attempt are closed, and hold
+    -- all that they should; and by what the devices say alone, it is possible to decide over each session. And the headline: of each session
+    -- that is defined, the devices give back one cut of the host's acknowledged writes, that of its newest group. Of the steps it says which may
+    -- take a write away, that what is acknowledged is what was answered, that what is formed is what recovery finds, and that a refused step
+    -- changes nothing but what is named.
     pub record IsRun (status : Status) (events : List Event) (s s' : PlantState) : Type 0 where
       pub world : World
       pub ran : Ran status world
@@ -180,10 +191,17 @@ module _ {S K : Type 0} (left : S → Option (List ℕ)) (written : K → Option
       pub room : length events ≤ most_events
       pub devices : HasDevices world s'
       pub fits : Fits world s'.on (λ server. fuse_seen (s'.write_fuse server)) s'.block
+      pub holds : HoldsTracks world s'.block
       pub frozen : (tasks : List Task) → run tasks ≡ world → EndsInCut tasks s'.block
       pub seals : SealsOn world s'.block
       pub closed : (s n : ℕ) → ClosedCuts events s n
+      pub held : (tasks : List Task) → run tasks ≡ world → (s n : ℕ) → HoldsAll tasks events s n
       pub decides : DecidesOn world s'.block
-      pub headline : Headline world s'.block
+      pub headline : (tasks : List Task) → run tasks ≡ world → Headline tasks s'.block
+      pub keeps : (tasks : List Task) → run tasks ≡ world → KeepsWrites tasks
+      pub acknowledged : (tasks : List Task) → run tasks ≡ world → AcknowledgedIsAnswered tasks
+      pub formed : (tasks : List Task) → run tasks ≡ world → FormedIsFound tasks
+      pub found : (tasks : List Task) → run tasks ≡ world → GroupsAreFound tasks
+      pub refused : (tasks : List Task) → run tasks ≡ world → RefusedStay tasks
       pub reads : ReadsPass s'
       pub stops : Counted (told_stop events) s.faults s'.faults

@@ -21,6 +21,7 @@ module _ {K : Type 0} (written : K → Option (List ℕ)) (sink sink' : K) where
   LineEnds done tasks u piece (Err NoMemory) = GavePart written sink sink' piece
   LineEnds done tasks u piece (Err Full) = IsFull done tasks u × Gave written sink sink' piece
 
+  -- so many of a line's steps were carried out, and their text was printed, or a front of it
   pub record RanLine (w : World) (tasks : List Task) (u : World) (result : Result (Unit {0}) Halt) : Type 0 where
     pub done : ℕ
     pub within : done ≤ length tasks

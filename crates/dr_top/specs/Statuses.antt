@@ -16,6 +16,7 @@ refusal_at events place = option_map_or is_refusal (slice_get events place) fals
 abbrev pub whole_status : Bool → Status
 whole_status refused = if refused then DoneRefused else Done
 
+-- the status of a run that was halted
 abbrev pub halt_status : Halt → Status
 halt_status OnSink = WriteFault
 halt_status OnMemory = NoMemory

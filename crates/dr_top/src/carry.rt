@@ -1,6 +1,7 @@
 //! Carries out the steps of one line of a script.
 
 ghost use Rattle.std.specs.Prelude.{◌≡◌, ℕ, ◌+◌, ◌<◌, ◌≤◌, ◌++◌, ◌^◌, [], ◌∷◌, length, nat_le, Ok, Err, OnOk, OnErr, All};
+ghost use Rattle.dr_logic.specs.Counts.{Counted};
 ghost use Rattle.dr_model.specs.Answers.{answer};
 ghost use Rattle.dr_model.specs.Control.{World};
 ghost use Rattle.dr_model.specs.declared.said.Said.TheVariants.{Refused};
@@ -11,18 +12,16 @@ ghost use Rattle.dr_model.specs.Lines.{tasks_of, tasks_read};
 ghost use Rattle.dr_model.specs.LineText.{IsWritten};
 ghost use Rattle.dr_model.specs.Runs.{after_task};
 ghost use Rattle.dr_top.specs.Carried.{Reached, GoesTo};
-ghost use Rattle.dr_top.specs.Faults.{Counted, told_stop};
-ghost use Rattle.dr_top.specs.declared.tables.Tables.{Tables};
-ghost use Rattle.dr_top.specs.Here.{here, IsTold, IsReady};
+ghost use Rattle.dr_steps.specs.Faults.{told_stop};
+ghost use Rattle.dr_steps.specs.declared.tables.Tables.{Tables};
+ghost use Rattle.dr_steps.specs.Here.{here, IsTold, IsReady};
 
-use crate::answers::{MOST_EVENTS, refuse_syntax};
-use crate::tables::Tables;
-use crate::task::carry_task;
 use dr_config::Config;
-use dr_ids::{Fault, Refusal};
+use dr_ids::{Fault, MOST_EVENTS, Refusal};
 use dr_model::Journal;
 use dr_plant::Plant;
 use dr_script::{Line, read_line};
+use dr_steps::{Tables, carry_task, refuse_syntax};
 use std::alloc::Global;
 
 /// Why the steps of a line end before its last one.

@@ -1,30 +1,15 @@
 //! The top call: reads a script from a source, carries it out on a plant and prints the answers to a sink.
+//!
+//! `drsim` is the top call; `docs/CLAIMS.md` says what its clauses promise. Below it, in private modules: `run_lines`
+//! takes the lines and `run_line` carries out one and prints its answers (`ran`). `carry_line` carries out its steps in
+//! order, until one finds the journal full or memory wanting (`goes`). `put_all` puts a whole piece or a front of it
+//! (`whole`, `part`).
 #![tactic(auto)]
 
-mod answers;
-mod background;
 mod carry;
-mod define;
-mod exchanges;
-mod expiry;
-mod flash;
-mod forming;
-mod forms;
-mod freezing;
-mod locate;
-mod masters;
-mod members;
-mod pairs;
-mod paths;
 mod put;
-mod recovering;
 mod run;
-mod sessions;
 mod status;
-mod steps;
-mod stops;
-mod tables;
-mod task;
 mod top;
 
 pub use status::Status;

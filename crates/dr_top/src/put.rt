@@ -1,5 +1,5 @@
 ghost use Rattle.std.specs.Prelude.{◌≡◌, ℕ, ◌≤◌, ◌++◌, List, Some, OnOk, OnErr, is_err};
-ghost use Rattle.dr_top.specs.Faults.{Counted};
+ghost use Rattle.dr_logic.specs.Counts.{Counted};
 ghost use Rattle.dr_io.specs.Given.{Gave, GavePart};
 
 use dr_io::{Failed, Sink};

@@ -5,13 +5,14 @@ ghost use Rattle.dr_model.specs.Control.{nothing};
 ghost use Rattle.dr_model.specs.Limits.{most_events};
 ghost use Rattle.dr_model.specs.Lines.{tasks_of};
 ghost use Rattle.dr_model.specs.Text.{heard, untold};
-ghost use Rattle.dr_list.specs.Seen.{seen};
+ghost use Rattle.dr_list.specs.Seen.{heard_seen};
 ghost use Rattle.std.specs.List.{fold};
+ghost use Rattle.dr_logic.specs.Counts.{Counted};
 ghost use Rattle.dr_top.specs.Carried.{Reached};
-ghost use Rattle.dr_top.specs.Faults.{Counted, told_stop};
+ghost use Rattle.dr_steps.specs.Faults.{told_stop};
 ghost use Rattle.dr_top.specs.Followed.{text_since};
 ghost use Rattle.dr_io.specs.Given.{Gave, GavePart};
-ghost use Rattle.dr_top.specs.Here.{here, IsReady};
+ghost use Rattle.dr_steps.specs.Here.{here, IsReady};
 ghost use Rattle.dr_top.specs.Outcome.{Ran};
 ghost use Rattle.dr_top.specs.Ran.{is_on_sink, RanLine};
 ghost use Rattle.dr_top.specs.Statuses.{halt_status};
@@ -19,12 +20,12 @@ ghost use Rattle.dr_top.specs.Statuses.{halt_status};
 use crate::carry::{Bar, carry_line};
 use crate::put::put_all;
 use crate::status::{Status, whole_status};
-use crate::tables::Tables;
 use dr_config::Config;
 use dr_io::{LineReader, Sink, Source, Taken};
 use dr_list::{Told, text_on};
 use dr_model::Journal;
 use dr_plant::Plant;
+use dr_steps::Tables;
 use std::alloc::Global;
 
 /// Why a run ends before its script.
@@ -60,8 +61,8 @@ fn print_from<K: Sink>(
     sink: &mut K,
 ) -> Result<(), Halt>
     requires within { from ≤ length journal.now.events }
-    requires heard { seen told.old ≡ fold heard untold (take from journal.now.events) }
-    ensures heard { seen told.new ≡ fold heard untold journal.now.events }
+    requires heard { heard_seen told.old ≡ fold heard untold (take from journal.now.events) }
+    ensures heard { heard_seen told.new ≡ fold heard untold journal.now.events }
     ensures whole { OnOk result (Gave K.written sink.old sink.new (text_since journal.now.events from)) }
     ensures part { OnErr result (GavePart K.written sink.old sink.new (text_since journal.now.events from)) }
     ensures full { IfErr result (λ h. h ≡ Halt.Full → ⊥) }
@@ -91,8 +92,8 @@ fn run_line<P: Plant, K: Sink>(
     requires ready { IsReady (P.state plant.old) config.old tables.old journal.old.events }
     requires reached { Reached (here (P.state plant.old) config.old tables.old journal.old.events) }
     requires room { length journal.old.events ≤ most_events }
-    requires heard { seen told.old ≡ fold heard untold journal.old.events }
-    ensures heard { OnOk result (seen told.new ≡ fold heard untold journal.new.events) }
+    requires heard { heard_seen told.old ≡ fold heard untold journal.old.events }
+    ensures heard { OnOk result (heard_seen told.new ≡ fold heard untold journal.new.events) }
     ensures ran { RanLine K.written sink.old sink.new (here (P.state plant.old) config.old tables.old journal.old.events) (tasks_of number line.now)
         (here (P.state plant.new) config.new tables.new journal.new.events) result }
     ensures faults { Counted (is_on_sink result) (K.faults sink.old) (K.faults sink.new) }

@@ -7,11 +7,11 @@ ghost use Rattle.dr_top.specs.Outcome.{is_run, IsRun, EndsUsage, IsUsage};
 use crate::put::put_all;
 use crate::run::run_lines;
 use crate::status::Status;
-use crate::tables::Tables;
 use dr_config::Config;
 use dr_io::{Sink, Source};
 use dr_model::Journal;
 use dr_plant::Plant;
+use dr_steps::Tables;
 use std::alloc::Global;
 
 const USAGE: &[u8] = b"usage: drsim run | recover SS | trial N | convert\n";

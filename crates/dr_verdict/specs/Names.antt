@@ -13,9 +13,11 @@ name_before file ending = if ends_with nat_eq file ending then Some (take (lengt
 abbrev pub script_names : List (List ℕ) → List (List ℕ)
 script_names files = filter_map (λ file. name_before file (codes ".dscli")) files
 
+-- the name is one of these
 abbrev pub is_known : List ℕ → List (Bor (List ℕ)) → Bool
 is_known name names = list_any (λ known. bytes_eq known.now name) names
 
+-- a name that was found is none of these
 abbrev pub lacks : Option (List ℕ) → List (Bor (List ℕ)) → Bool
 lacks None names = false
 lacks (Some name) names = not (is_known name names)

@@ -10,6 +10,7 @@ IsVerdict wanted found Agrees = (found.printed.items ≡ wanted.printed.items) �
 IsVerdict wanted found (LineDiffers line) = (found.printed.items ≢ wanted.printed.items) × (line ≡ differing_line wanted.printed.items found.printed.items)
 IsVerdict wanted found (StatusDiffers w f) = (found.printed.items ≡ wanted.printed.items) × (f ≢ w) × (w ≡ wanted.status) × (f ≡ found.status)
 
+-- nothing differs
 abbrev pub is_agreement : Verdict → Bool
 is_agreement Agrees = true
 is_agreement (LineDiffers line) = false

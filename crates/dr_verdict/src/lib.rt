@@ -1,5 +1,12 @@
 //! What a run of a scenario is worth: the names of a folder's scenarios, where printed and stored text differ, and the lines
 //! that say so.
+//!
+//! `judge` says that a scenario agrees exactly where output and status are as stored; else it gives the first line that
+//! differs or, where the output is as stored, the status (`IsVerdict`). `differing_line` gives none exactly where both
+//! texts are the same (`none`, `line`). `script_names` gives the name of every script among a folder's files, and
+//! `is_stray` tells a file without its script; `status_of` is the number in a text. `Tally::of` counts (`agree`,
+//! `all`), and `Tally::code` is 0 exactly where nothing differs. `difference` and `counts` are the bytes of the printed
+//! lines.
 #![tactic(auto)]
 
 mod names;

@@ -4,10 +4,10 @@ use Rattle.std.specs.Prelude.{is_some, if◌then◌else◌, IfSome}
 use Rattle.std.specs.FinSet.{contains, empty, contains-empty}
 use Rattle.std.specs.Ordering.{nat_cmp}
 use Rattle.std.proofs.lemmas.Bool.Decides.{leb_tells}
+use Rattle.dr_logic.specs.Bytes.{zeros}
 use Rattle.dr_bits.specs.Tracks.{Tracks, first}
 use Rattle.dr_bits.specs.Membership.{contains-of_test, lt_true, lt_false}
 use Rattle.dr_bits.proofs.Laws.{same_tracks, contains-keep_tracks}
-use Rattle.dr_model.specs.Contents.{zeros}
 use Rattle.dr_model.specs.Layout.{is_part, only_if}
 use Rattle.dr_model.specs.Lawful.{Low, HasSets, NoPrimary, NoSecondary, NoRelation, IsLawful}
 use Rattle.dr_model.specs.declared.state.PairState.TheVariants.{CopyPending}

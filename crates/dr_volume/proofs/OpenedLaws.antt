@@ -1,13 +1,11 @@
 -- What was read of a volume, once a move was made.
-use Rattle.std.proofs.Common.{ℕ, ◌≡◌, ◌≢◌, ◌+◌, true, false, not, List, refl, sym, ◌∙◌, ap, subst, None, Some}
+use Rattle.std.proofs.Common.{ℕ, ◌≡◌, ◌≢◌, true, false, not, List, refl, sym, ◌∙◌, ap, subst, None, Some}
 use Rattle.std.specs.Prelude.{is_some, unwrap_or}
+use Rattle.dr_logic.specs.Bytes.{zeros}
 use Rattle.dr_plant.specs.State.{PlantState}
-use Rattle.dr_record.specs.Taken.{taken_from}
-use Rattle.dr_record.specs.Slots.{slot_of, start_of, choice, Chooses}
-use Rattle.dr_record.specs.declared.cell.Cell.{Cell}
-use Rattle.dr_config.specs.Table.{Table, place_of}
+use Rattle.dr_record.specs.Slots.{slot_of, choice}
+use Rattle.dr_config.specs.Table.{ConfigTable, place_of}
 use Rattle.dr_config.specs.declared.entries.VolumeEntry.{VolumeEntry}
-use Rattle.dr_model.specs.Contents.{zeros}
 use Rattle.dr_model.specs.Layout.{chosen, only_if}
 use Rattle.dr_model.specs.Lawful.{IsLawful}
 use Rattle.dr_model.specs.Control.{Volume}
@@ -15,12 +13,11 @@ use Rattle.dr_model.specs.Moves.{Carried, carried_bytes, staged_track}
 use Rattle.dr_volume.specs.declared.fields.Fields.{Fields}
 use Rattle.dr_volume.specs.declared.opened.Opened.{Opened}
 use Rattle.dr_volume.specs.Plain.{plain}
-use Rattle.dr_volume.specs.Record.{with_block, no_record}
 use Rattle.dr_volume.specs.View.{device_of}
 use Rattle.dr_volume.specs.Volume.{Shows}
 use Rattle.dr_volume.specs.Update.{staging, IsAsBefore, IsMoved, OthersStay}
 use Rattle.dr_volume.specs.Opened.{IsOpened, OthersOpened}
-use Rattle.dr_volume.proofs.VolumeLaws.{device-placed, chosen_slot, chooses-raw}
+use Rattle.dr_volume.proofs.VolumeLaws.{device-placed, chosen_slot}
 use Rattle.dr_volume.proofs.ReadingLaws.{ReadsNext, bytes-next, plain-staging, staged-staging, bytes-staging}
 use Rattle.dr_volume.proofs.SeenLaws.{Lies, seen, apart_devices}
 use Rattle.dr_volume.proofs.UpdateLaws.{Task, Run, outcome, update-done}
@@ -30,15 +27,13 @@ only_some : (m : Carried) → carried_bytes m ≡ only_if (is_some (staged_track
 only_some None = refl
 only_some (Some t) = refl
 
-pub opened-next : (c : Table) (s t : PlantState) (v d : ℕ) (e : VolumeEntry) (f : Fields) (m : Carried) (o x : Opened) → Task c s v d e f m → Run s t d f m false → IsOpened s c v o → x.cell ≡ record o.cell { slot = not o.cell.slot; value = staging m f } → x.fields ≡ staging m f → IsOpened t c v x
-opened-next c s t v d e f m o x k run opened cell fields =
+pub opened-next : (c : ConfigTable) (s t : PlantState) (v d : ℕ) (e : VolumeEntry) (f : Fields) (m : Carried) (o x : Opened) → Task c s v d e f m → Run s t d f m false → IsOpened s c v o → x.device.0 ≡ o.device.0 → x.slot ≡ not o.slot → x.fields ≡ staging m f → IsOpened t c v x
+opened-next c s t v d e f m o x k run opened device turned fields =
     let next : ReadsNext (s.block d) (t.block d) f m = (outcome c s t v d e f m false k run).done refl in
     let moved : IsMoved s t c v (plain f) m = update-done c s t v d e f m k run in
     let at : device_of c v ≡ d = device-placed c v d k.lies.place in
-    let slot : slot_of t d ≡ not o.cell.slot =
-    chosen_slot t d ∙ next.slot ∙ ap (λ b. not b) (sym (chosen_slot s d) ∙ ap (λ q. slot_of s q) (sym at) ∙ opened.chosen.gate) in
-    let chosen_next : Chooses with_block 6 no_record t (device_of c v) (not o.cell.slot) (staging m f) =
-    subst (λ q. Chooses with_block 6 no_record t q (not o.cell.slot) (staging m f)) (sym at) (chooses-raw t d (not o.cell.slot) (staging m f) slot next.record_next) in
+    let slot : slot_of t d ≡ not o.slot =
+    chosen_slot t d ∙ next.slot ∙ ap (λ b. not b) (sym (chosen_slot s d) ∙ ap (λ q. slot_of s q) (sym at) ∙ opened.slot) in
     let shows : Shows t c v (staging m f) = record {
       fields = plain-staging m f ∙ sym (ap (λ (w : Volume). w.fields) moved.volume);
       staged = staged-staging m f ∙ sym (ap (λ (w : Volume). w.staged) moved.volume);
@@ -52,19 +47,16 @@ opened-next c s t v d e f m o x k run opened cell fields =
           (subst (λ g. IsLawful e.tracks g) (sym (plain-staging m f)) k.lawful));
     } in
     record {
-      device = ap (λ (y : Cell Fields). y.dev.0) cell ∙ opened.device;
-      chosen = subst (λ (y : Cell Fields). Chooses with_block 6 no_record t (device_of c v) y.slot y.value) (sym cell) chosen_next;
+      device = device ∙ opened.device;
+      slot = ap (λ q. slot_of t q) at ∙ slot ∙ sym turned;
       shows = subst (λ g. Shows t c v g) (sym fields) shows;
     }
 
 -- where a volume's device and what is seen of it are as before, so is what was opened
-opened-along : (c : Table) (s t : PlantState) (u : ℕ) (o : Opened) → t.block (device_of c u) ≡ s.block (device_of c u) → IsAsBefore s t c u → IsOpened s c u o → IsOpened t c u o
+opened-along : (c : ConfigTable) (s t : PlantState) (u : ℕ) (o : Opened) → t.block (device_of c u) ≡ s.block (device_of c u) → IsAsBefore s t c u → IsOpened s c u o → IsOpened t c u o
 opened-along c s t u o same before h = record {
   device = h.device;
-  chosen = record {
-    gate = ap (λ (b : ℕ → List ℕ). choice (b 0)) same ∙ h.chosen.gate;
-    value = ap (λ (b : ℕ → List ℕ). taken_from with_block 0 6 (λ i. b (start_of 6 o.cell.slot + i)) no_record) same ∙ h.chosen.value;
-  };
+  slot = ap (λ (b : ℕ → List ℕ). choice (b 0)) same ∙ h.slot;
   shows = record {
     fields = h.shows.fields ∙ sym (ap (λ (w : Volume). w.fields) before.volume);
     staged = h.shows.staged ∙ sym (ap (λ (w : Volume). w.staged) before.volume);
@@ -73,7 +65,7 @@ opened-along c s t u o same before h = record {
   };
 }
 
-pub others-opened : (c : Table) (s t : PlantState) (v d : ℕ) (e : VolumeEntry) → Lies c s v d e → ((j b : ℕ) → j ≢ d → t.block j b ≡ s.block j b) → OthersStay s t c v → OthersOpened s t c v
+pub others-opened : (c : ConfigTable) (s t : PlantState) (v d : ℕ) (e : VolumeEntry) → Lies c s v d e → ((j b : ℕ) → j ≢ d → t.block j b ≡ s.block j b) → OthersStay s t c v → OthersOpened s t c v
 others-opened c s t v d e lies apart others u o ne defined h =
     opened-along c s t u o
     (elim (place_of c u) as (λ p. place_of c u ≡ p → is_some p ≡ true → t.block (unwrap_or p 0) ≡ s.block (unwrap_or p 0)) [

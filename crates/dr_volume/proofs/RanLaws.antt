@@ -2,13 +2,16 @@
 use Rattle.std.proofs.Common.{ℕ, ◌≡◌, ◌≢◌, Bool, true, false, List, [], ◌∷◌, refl, sym, ◌∙◌, ap, subst, cond, inl, inr}
 use Rattle.std.specs.Prelude.{Option, None, Result, Ok, Err, is_err, OnOk, OnErr}
 use Rattle.std.proofs.lemmas.Bool.{cases_eq}
-use Rattle.dr_plant.specs.State.{PlantState, after_read, after_write, can_read, at, risen, lowered_read, lowered_write, can_write}
-use Rattle.dr_plant.proofs.StateLemmas.{at_same, at_other, write_cases, read_cases, count-after_read, size-after_read, owner-after_read, block-after_read, off-after_read, faults-after_read, owner-after_write, write_can}
+use Rattle.dr_logic.specs.Counts.{risen}
+use Rattle.dr_logic.specs.Tables.{at}
+use Rattle.dr_plant.specs.State.{PlantState, after_read, after_write, can_read, lowered_read, lowered_write, can_write}
+use Rattle.dr_plant.proofs.StateLemmas.{write_cases, read_cases, count-after_read, size-after_read, owner-after_read, block-after_read, off-after_read, faults-after_read, owner-after_write, write_can}
 use Rattle.dr_record.specs.Writes.{Write, after_writes, SameShape}
 use Rattle.dr_record.proofs.WritesLemmas.{goes, stops, ends, along, shape-after_writes, apart-after_writes, off-after_writes, faults-after_writes, same_faults-after_writes}
-use Rattle.dr_config.specs.Table.{Table, StandsFor}
+use Rattle.dr_config.specs.Table.{ConfigTable, StandsFor}
 use Rattle.dr_config.proofs.Devices.{stands-along}
 use Rattle.dr_volume.specs.Update.{read_and_write, ServerStays}
+use Rattle.dr_logic.proofs.Tables.{at_same, at_other, off_later}
 
 -- a device that can't be read is not written
 pub read-stops : (s : PlantState) (dev : ℕ) (ws : List Write) → can_read s dev ≡ false → read_and_write s dev ws ≡ (after_read s dev, true)
@@ -32,12 +35,6 @@ pub record Ran (s t : PlantState) (dev : ℕ) (stopped : Bool) : Type 0 where
   pub on : stopped ≡ false → t.on ≡ s.on
   pub off : stopped ≡ true → t.on (s.owner dev) ≡ false
   pub faults : t.faults ≡ cond stopped (risen s.faults) s.faults
-
-off_later : (f : ℕ → Bool) (k q : ℕ) → at f k false q ≡ true → f q ≡ true
-off_later f k q h = elim (cases_eq q k) [
-  | inl e ↦ (let never : true ≡ false = sym h ∙ ap (at f k false) e ∙ at_same f k false in absurd (cc))
-  | inr ne ↦ sym (at_other f k false q ne) ∙ h
-]
 
 none_later : (f : ℕ → Option ℕ) (k q : ℕ) → f q ≡ None → at f k (lowered_read (f k)) q ≡ None
 none_later f k q h = elim (cases_eq q k) [
@@ -132,7 +129,7 @@ ran s t dev ws b h =
     ] refl
 
 -- the table goes on standing for the plant
-pub ran-stands : (c : Table) (s t : PlantState) (dev : ℕ) (b : Bool) → Ran s t dev b → StandsFor c s → StandsFor c t
+pub ran-stands : (c : ConfigTable) (s t : PlantState) (dev : ℕ) (b : Bool) → Ran s t dev b → StandsFor c s → StandsFor c t
 ran-stands c s t dev b r h = stands-along c s t r.shape.count r.shape.owner r.shape.size h
 
 -- what holds where a call succeeded, and where it failed
@@ -143,7 +140,3 @@ on_ok (Err x) h = tt
 pub on_err : {T E P : Type 0} (r : Result T E) → (is_err r ≡ true → P) → OnErr r P
 on_err (Ok x) h = tt
 on_err (Err x) h = h refl
-
-pub on_ok-along : {T E P Q : Type 0} (r : Result T E) → OnOk r P → (is_err r ≡ false → P → Q) → OnOk r Q
-on_ok-along (Ok x) p h = h refl p
-on_ok-along (Err x) p h = tt

@@ -1,15 +1,15 @@
 -- The laws of what is read of a record: it is what the layout says, and what was written.
-use Rattle.std.proofs.Common.{ℕ, ◌+◌, ◌≡◌, ◌≤◌, Bool, true, false, ◌&&◌, List, take, drop, sym, ◌∙◌, ap, refl, subst, add-one, nat_lt, nat_eq, Option, None, Some}
+use Rattle.std.proofs.Common.{ℕ, ◌≡◌, ◌≤◌, Bool, true, false, ◌&&◌, List, take, drop, sym, ◌∙◌, ap, refl, subst, nat_lt, nat_eq, Option, None, Some}
 use Rattle.std.specs.Prelude.{is_some, if◌then◌else◌}
 use Rattle.std.specs.FinSet.{empty}
+use Rattle.dr_logic.specs.Bytes.{zeros}
 use Rattle.dr_bits.specs.Tracks.{Tracks}
 use Rattle.dr_ids.specs.BigEndian.{be16_at}
-use Rattle.dr_model.specs.Contents.{zeros}
 use Rattle.dr_model.specs.Layout as layout
 use Rattle.dr_model.specs.Layout.{Blocks, byte, part_of, is_part, only_if, bit}
 use Rattle.dr_volume.specs.declared.fields.Fields.{Fields}
 use Rattle.dr_volume.specs.Plain.{plain, cut, normal, staged_below, IsNormal}
-use Rattle.dr_volume.specs.Record.{IsWhole, record_block, with_head, with_block, no_record, raw_of, after_blocks}
+use Rattle.dr_volume.specs.Record.{IsWhole, record_block, with_head, no_record, raw_of}
 use Rattle.dr_volume.specs.ReadsBack.{raw_of-record_block}
 use Rattle.dr_volume.proofs.Sets.{cut-of_bytes, cut-cut, in_range-cut, in_range-only_if}
 
@@ -131,19 +131,3 @@ staged-record_block n f few law =
     sym (staged-normal n (record_block f))
     ∙ ap (λ g. (normal n g).staged) (raw_of-record_block f (whole-of_normal n f few law))
     ∙ ap (λ g. g.staged) law
-
-pub after_blocks-none : (b : Blocks) → after_blocks b 0 ≡ no_record
-unfolding after_blocks
-after_blocks-none b = refl
-
-pub after_blocks-more : (b : Blocks) (n : ℕ) → after_blocks b (n + 1) ≡ with_block (after_blocks b n) n (b n)
-unfolding after_blocks
-after_blocks-more b n = rw add-one refl
-
-pub after_blocks-all : (b : Blocks) → after_blocks b 6 ≡ raw_of b
-unfolding after_blocks
-after_blocks-all b = refl
-
--- all six blocks of the slot that is chosen
-pub after_blocks-chosen : (b : Blocks) (begin i : ℕ) (raw : Fields) → begin ≡ layout.slot_begin (layout.slot_chosen b) → i ≡ 6 → raw ≡ after_blocks (λ k. b (begin + k)) i → raw ≡ raw_of (layout.chosen b)
-after_blocks-chosen b begin i raw begins all is = is ∙ (λ j. after_blocks (λ k. b (begins j + k)) (all j)) ∙ after_blocks-all (layout.chosen b)

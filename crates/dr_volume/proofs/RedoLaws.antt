@@ -3,13 +3,14 @@ use Rattle.std.proofs.Common.{ℕ, ◌≡◌, ◌≢◌, ◌≤◌, ◌<◌, ◌
 use Rattle.std.specs.Prelude.{is_some, IfSome, if◌then◌else◌}
 use Rattle.std.proofs.lemmas.Bool.{cases_eq}
 use Rattle.std.proofs.lemmas.Bool.Decides.{Decides-eqb, nat_tests}
-use Rattle.dr_plant.specs.State.{PlantState, after_read, can_read, passes_read, risen}
+use Rattle.dr_logic.specs.Bytes.{zeros}
+use Rattle.dr_logic.specs.Counts.{risen}
+use Rattle.dr_plant.specs.State.{PlantState, after_read, can_read, passes_read}
 use Rattle.dr_plant.specs.declared.plant.WriteFuse.{WriteFuse}
 use Rattle.dr_record.specs.Writes.{after_writes}
-use Rattle.dr_config.specs.Table.{Table, StandsFor}
+use Rattle.dr_config.specs.Table.{ConfigTable, StandsFor}
 use Rattle.dr_config.specs.declared.entries.VolumeEntry.{VolumeEntry}
 use Rattle.dr_ids.specs.BigEndian.{be16_at}
-use Rattle.dr_model.specs.Contents.{zeros}
 use Rattle.dr_model.specs.Layout as layout
 use Rattle.dr_model.specs.Layout.{Blocks, chosen, is_staged, only_if}
 use Rattle.dr_model.specs.Control.{Volume, World}
@@ -88,7 +89,7 @@ length-staged None bytes = refl
 length-staged (Some t) bytes = refl
 
 -- What the work again on a staged track leaves.
-pub record Redone (c : Table) (s t : PlantState) (v : ℕ) (b : Bool) : Type 0 where
+pub record Redone (c : ConfigTable) (s t : PlantState) (v : ℕ) (b : Bool) : Type 0 where
   pub written : read_and_write s (device_of c v) (track_writes (staged_seen s c v)) ≡ (t, b)
   pub exact : (r : Rest) → EndsAs (world t c r) b (after_reading s (volume_seen s c v).server (world s c r) (machine.redo (world s c r) v))
   pub same : (u : ℕ) → IsAsBefore s t c u
@@ -101,10 +102,10 @@ pub record Redone (c : Table) (s t : PlantState) (v : ℕ) (b : Bool) : Type 0 w
   pub off : b ≡ true → t.on (volume_seen s c v).server ≡ false
   pub faults : t.faults ≡ cond b (risen s.faults) s.faults
 
-pub same-all : (c : Table) (s t : PlantState) (v : ℕ) → IsAsBefore s t c v → OthersStay s t c v → (u : ℕ) → IsAsBefore s t c u
+pub same-all : (c : ConfigTable) (s t : PlantState) (v : ℕ) → IsAsBefore s t c v → OthersStay s t c v → (u : ℕ) → IsAsBefore s t c u
 same-all c s t v here there u = elim (cases_eq u v) [ inl is ↦ subst (λ w. IsAsBefore s t c w) (sym is) here | inr ne ↦ there u ne ]
 
-settled-all : (c : Table) (s t : PlantState) (v d : ℕ) (e : VolumeEntry) (b : Bool) → Lies c s v d e → Ran s t d b → (b ≡ false → TracksSettled (t.block (device_of c v)) (volume_seen t c v).staged) → (u : ℕ) → IsSettled s c u → IsSettled t c u
+settled-all : (c : ConfigTable) (s t : PlantState) (v d : ℕ) (e : VolumeEntry) (b : Bool) → Lies c s v d e → Ran s t d b → (b ≡ false → TracksSettled (t.block (device_of c v)) (volume_seen t c v).staged) → (u : ℕ) → IsSettled s c u → IsSettled t c u
 settled-all c s t v d e b lies r done u h =
     elim (cases_eq u v) [
       | inl is ↦ subst (λ w. IsSettled t c w) (sym is)
@@ -112,7 +113,7 @@ settled-all c s t v d e b lies r done u h =
       | inr ne ↦ others-settled c s t v d e lies r.apart r.was_on u ne h
     ]
 
-redo-here : (c : Table) (s t : PlantState) (v d : ℕ) (e : VolumeEntry) (b : Bool) → Lies c s v d e → Run s t d e.tracks b → IsAsBefore s t c v
+redo-here : (c : ConfigTable) (s t : PlantState) (v d : ℕ) (e : VolumeEntry) (b : Bool) → Lies c s v d e → Run s t d e.tracks b → IsAsBefore s t c v
 redo-here c s t v d e b lies run =
     let ws = track_writes (staged_on e.tracks (s.block d)) in
     elim (can_read s d) as (λ w. can_read s d ≡ w → IsAsBefore s t c v) [
@@ -120,7 +121,7 @@ redo-here c s t v d e b lies run =
       | false ↦ λ stuck. subst (λ u. IsAsBefore s u c v) (ap (λ (x : PlantState × Bool). x.0) (sym (read-stops s d ws stuck) ∙ run)) (idle c s v d e lies)
     ] refl
 
-redo-done : (c : Table) (s t : PlantState) (v d : ℕ) (e : VolumeEntry) → Lies c s v d e → Run s t d e.tracks false → TracksSettled (t.block (device_of c v)) (volume_seen t c v).staged
+redo-done : (c : ConfigTable) (s t : PlantState) (v d : ℕ) (e : VolumeEntry) → Lies c s v d e → Run s t d e.tracks false → TracksSettled (t.block (device_of c v)) (volume_seen t c v).staged
 redo-done c s t v d e lies run =
     let ws = track_writes (staged_on e.tracks (s.block d)) in
     elim (can_read s d) as (λ w. can_read s d ≡ w → TracksSettled (t.block (device_of c v)) (volume_seen t c v).staged) [
@@ -128,7 +129,7 @@ redo-done c s t v d e lies run =
       | false ↦ λ stuck. absurd (let never : true ≡ false = ap (λ (x : PlantState × Bool). x.1) (sym (read-stops s d ws stuck) ∙ run) in cc)
     ] refl
 
-world-idle : (c : Table) (s t : PlantState) (v d : ℕ) (e : VolumeEntry) (b : Bool) (r : Rest) → Lies c s v d e → OthersStay s t c v → Run s t d e.tracks b → s.on (s.owner d) ≡ false → EndsAs (world t c r) b (machine.redo (world s c r) v)
+world-idle : (c : ConfigTable) (s t : PlantState) (v d : ℕ) (e : VolumeEntry) (b : Bool) (r : Rest) → Lies c s v d e → OthersStay s t c v → Run s t d e.tracks b → s.on (s.owner d) ≡ false → EndsAs (world t c r) b (machine.redo (world s c r) v)
 world-idle c s t v d e b r lies others run off =
     let ws = track_writes (staged_on e.tracks (s.block d)) in
     let is : ◌≡◌ {A = PlantState × Bool} (after_read s d, true) (t, b) = sym (read-stops s d ws (read-off s d off)) ∙ run in
@@ -139,7 +140,7 @@ world-idle c s t v d e b r lies others run off =
       stopped = sym (ap (λ (x : PlantState × Bool). x.1) is);
     })
 
-world-on : (c : Table) (s t : PlantState) (v d : ℕ) (e : VolumeEntry) (b : Bool) (r : Rest) → Lies c s v d e → IsAsBefore s t c v → OthersStay s t c v → s.on (s.owner d) ≡ true → after_writes s d (track_writes (staged_on e.tracks (s.block d))) ≡ (t, b) → EndsAs (world t c r) b (machine.redo (world s c r) v)
+world-on : (c : ConfigTable) (s t : PlantState) (v d : ℕ) (e : VolumeEntry) (b : Bool) (r : Rest) → Lies c s v d e → IsAsBefore s t c v → OthersStay s t c v → s.on (s.owner d) ≡ true → after_writes s d (track_writes (staged_on e.tracks (s.block d))) ≡ (t, b) → EndsAs (world t c r) b (machine.redo (world s c r) v)
 world-on c s t v d e b r lies here there up h =
     let o = s.owner d in
     let w : World = world s c r in
@@ -160,14 +161,14 @@ world-on c s t v d e b r lies here there up h =
           (record { world = world-off s t c r o g lies.low cut.on cut.fuse low.1 ∙ ap (λ x. machine.off x o) before; stopped = cut.cut })
     ] refl
 
-redo-world : (c : Table) (s t : PlantState) (v d : ℕ) (e : VolumeEntry) (b : Bool) (r : Rest) → Lies c s v d e → IsAsBefore s t c v → OthersStay s t c v → Run s t d e.tracks b → passes_read (s.read_fuse (s.owner d)) ≡ true → EndsAs (world t c r) b (machine.redo (world s c r) v)
+redo-world : (c : ConfigTable) (s t : PlantState) (v d : ℕ) (e : VolumeEntry) (b : Bool) (r : Rest) → Lies c s v d e → IsAsBefore s t c v → OthersStay s t c v → Run s t d e.tracks b → passes_read (s.read_fuse (s.owner d)) ≡ true → EndsAs (world t c r) b (machine.redo (world s c r) v)
 redo-world c s t v d e b r lies here there run pass =
     elim (s.on (s.owner d)) as (λ w. s.on (s.owner d) ≡ w → EndsAs (world t c r) b (machine.redo (world s c r) v)) [
       | true ↦ λ up. world-on c s t v d e b r lies here there up (sym (read-goes s d (track_writes (staged_on e.tracks (s.block d))) (read-on s d pass up)) ∙ run)
       | false ↦ λ off. world-idle c s t v d e b r lies there run off
     ] refl
 
-redone-on : (c : Table) (s t : PlantState) (v d : ℕ) (e : VolumeEntry) (b : Bool) → Lies c s v d e → StandsFor c s → Run s t d e.tracks b → Redone c s t v b
+redone-on : (c : ConfigTable) (s t : PlantState) (v d : ℕ) (e : VolumeEntry) (b : Bool) → Lies c s v d e → StandsFor c s → Run s t d e.tracks b → Redone c s t v b
 redone-on c s t v d e b lies stands run =
     let r = ran s t d (track_writes (staged_on e.tracks (s.block d))) b run in
     let here = redo-here c s t v d e b lies run in
@@ -192,7 +193,7 @@ redone-on c s t v d e b lies stands run =
     }
 
 -- the work again where the device could not be read
-pub redone-unread : (c : Table) (s t : PlantState) (v d n : ℕ) → LiesOn c v d n → StandsFor c s → can_read s d ≡ false → t ≡ after_read s d → Redone c s t v true
+pub redone-unread : (c : ConfigTable) (s t : PlantState) (v d n : ℕ) → LiesOn c v d n → StandsFor c s → can_read s d ≡ false → t ≡ after_read s d → Redone c s t v true
 redone-unread c s t v d n on stands stuck is =
     let x = lies-of c s v d n on stands in
     redone-on c s t v d x.0 true x.1 stands (read-stops s d (track_writes (staged_on x.0.tracks (s.block d))) stuck ∙ (λ i. (sym is i, true)))
@@ -203,7 +204,7 @@ shown_staged None f bytes chosen_bytes is h = ap (λ x. track_with x bytes) is
 shown_staged (Some t) f bytes chosen_bytes is h = (λ i. track_with (is i) (h i))
 
 -- the work again where it could
-pub redone-read : (c : Table) (s t : PlantState) (v d n : ℕ) (f : Fields) (b : Bool) → LiesOn c v d n → StandsFor c s → can_read s d ≡ true → Shows s c v f → after_writes s d (track_writes (track_with f.staged f.staged_bytes)) ≡ (t, b) → Redone c s t v b
+pub redone-read : (c : ConfigTable) (s t : PlantState) (v d n : ℕ) (f : Fields) (b : Bool) → LiesOn c v d n → StandsFor c s → can_read s d ≡ true → Shows s c v f → after_writes s d (track_writes (track_with f.staged f.staged_bytes)) ≡ (t, b) → Redone c s t v b
 redone-read c s t v d n f b on stands can shows h =
     let x = lies-of c s v d n on stands in
     let is = seen c s v d x.0 x.1 s in
@@ -232,7 +233,7 @@ fits n d s None bytes few size low = tt
 fits n d s (Some t) bytes few size low = ((omega arith), (omega arith))
 
 -- so its block is on the device
-pub staged-fits : (c : Table) (s s1 : PlantState) (v d n : ℕ) (f : Fields) (m : Carried) → LiesOn c v d n → StandsFor c s → s1 ≡ s → Shows s c v f → m ≡ track_with f.staged f.staged_bytes → (d < s1.count) × IfSome m (λ t. (t.0 < 256) × (13 + t.0 < s1.size d))
+pub staged-fits : (c : ConfigTable) (s s1 : PlantState) (v d n : ℕ) (f : Fields) (m : Carried) → LiesOn c v d n → StandsFor c s → s1 ≡ s → Shows s c v f → m ≡ track_with f.staged f.staged_bytes → (d < s1.count) × IfSome m (λ t. (t.0 < 256) × (13 + t.0 < s1.size d))
 staged-fits c s s1 v d n f m on stands same shows is =
     let x = lies-of c s v d n on stands in
     let device = device-stands s c v d x.0 x.1.place x.1.entry stands in

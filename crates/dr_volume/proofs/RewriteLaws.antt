@@ -17,12 +17,8 @@ use Rattle.dr_volume.specs.Update.{staging, track_writes, update_writes}
 use Rattle.dr_volume.proofs.VolumeLaws.{chosen_value, chosen_slot}
 use Rattle.dr_volume.proofs.ReadingLaws.{ReadsAs, ReadsNext}
 
--- the record's writes, to the slot that the device doesn't choose
-pub record-written : (s s1 t : PlantState) (dev d : ℕ) (slot b : Bool) (bytes : ℕ → List ℕ) → s1 ≡ s → d ≡ dev → slot_of s dev ≡ slot → after_writes s1 d (record_writes 6 (not slot) bytes) ≡ (t, b) → after_writes s dev (record_writes 6 (not (slot_of s dev)) bytes) ≡ (t, b)
-record-written s s1 t dev d slot b bytes same is gate h = (λ i. after_writes (sym same i) (sym is i) (record_writes 6 (not (gate i)) bytes)) ∙ h
-
 -- the same six blocks give the same record
-raw-same : (x y : Blocks) → ((k : ℕ) → k < 6 → x k ≡ y k) → raw_of x ≡ raw_of y
+pub raw-same : (x y : Blocks) → ((k : ℕ) → k < 6 → x k ≡ y k) → raw_of x ≡ raw_of y
 raw-same x y h i =
     with_block (with_block (with_block (with_block (with_block (with_block no_record 0 (h 0 (omega arith) i)) 1 (h 1 (omega arith) i)) 2 (h 2 (omega arith) i)) 3 (h 3 (omega arith) i)) 4 (h 4 (omega arith) i)) 5 (h 5 (omega arith) i)
 

@@ -2,7 +2,7 @@
 use Rattle.std.proofs.Common.{ℕ, ◌≡◌, ◌≢◌, ◌≤◌, ◌<◌, true, false, List, refl, sym, ◌∙◌, ap, subst, arith, Option, None, Some}
 use Rattle.std.specs.Prelude.{slice_get, unwrap_or}
 use Rattle.dr_plant.specs.State.{PlantState}
-use Rattle.dr_config.specs.Table.{Table, place_of, StandsFor}
+use Rattle.dr_config.specs.Table.{ConfigTable, place_of, StandsFor}
 use Rattle.dr_config.specs.declared.entries.VolumeEntry.{VolumeEntry}
 use Rattle.dr_config.proofs.Lookups.{entry-at-place}
 use Rattle.dr_model.specs.Control.{Volume}
@@ -18,14 +18,14 @@ use Rattle.dr_volume.proofs.VolumeLaws.{entry, volume-placed, track-placed, devi
 use Rattle.dr_volume.proofs.ReadingLaws.{ReadsAs, ReadsNext, Fitting, volume-same, track-same, volume-next, track-next}
 
 -- The volume v lies on the device d of its server, and e is what is defined of it.
-pub record Lies (c : Table) (s : PlantState) (v d : ℕ) (e : VolumeEntry) : Type 0 where
+pub record Lies (c : ConfigTable) (s : PlantState) (v d : ℕ) (e : VolumeEntry) : Type 0 where
   pub place : place_of c v ≡ Some d
   pub entry : slice_get c.volumes d ≡ Some e
   pub owner : s.owner d ≡ e.server
   pub low : s.owner d < 8
   pub few : e.tracks ≤ 256
 
-pub lies-of : (c : Table) (s : PlantState) (v d n : ℕ) → LiesOn c v d n → StandsFor c s → (e : VolumeEntry) × Lies c s v d e
+pub lies-of : (c : ConfigTable) (s : PlantState) (v d n : ℕ) → LiesOn c v d n → StandsFor c s → (e : VolumeEntry) × Lies c s v d e
 lies-of c s v d n lies stands =
     let x = entry c v d n lies in
     let device = stands.device d x.0 x.1 in
@@ -35,19 +35,19 @@ lies-of c s v d n lies stands =
     let few : n ≤ 256 = lies.few in
     (x.0, record { place = lies.place; entry = x.1; owner = owner; low = omega arith; few = omega arith })
 
-pub seen : (c : Table) (s : PlantState) (v d : ℕ) (e : VolumeEntry) → Lies c s v d e → (t : PlantState) → volume_seen t c v ≡ volume_on (t.block d) (Some e)
+pub seen : (c : ConfigTable) (s : PlantState) (v d : ℕ) (e : VolumeEntry) → Lies c s v d e → (t : PlantState) → volume_seen t c v ≡ volume_on (t.block d) (Some e)
 seen c s v d e lies t = volume-placed t c v d e lies.place lies.entry
 
-pub track-seen : (c : Table) (s : PlantState) (v d : ℕ) (e : VolumeEntry) → Lies c s v d e → (t : PlantState) (k : ℕ) → track_seen t c v k ≡ track_on (t.block d) (Some e) k
+pub track-seen : (c : ConfigTable) (s : PlantState) (v d : ℕ) (e : VolumeEntry) → Lies c s v d e → (t : PlantState) (k : ℕ) → track_seen t c v k ≡ track_on (t.block d) (Some e) k
 track-seen c s v d e lies t k = track-placed t c v d k e lies.place lies.entry
 
-pub is-before : (c : Table) (s t : PlantState) (v d : ℕ) (e : VolumeEntry) → Lies c s v d e → ReadsAs e.tracks (s.block d) (t.block d) → IsAsBefore s t c v
+pub is-before : (c : ConfigTable) (s t : PlantState) (v d : ℕ) (e : VolumeEntry) → Lies c s v d e → ReadsAs e.tracks (s.block d) (t.block d) → IsAsBefore s t c v
 is-before c s t v d e lies h = record {
   volume = seen c s v d e lies t ∙ volume-same (s.block d) (t.block d) e lies.few h ∙ sym (seen c s v d e lies s);
   tracks = λ i k. (track-seen c s v d e lies t k ∙ track-same (s.block d) (t.block d) e k lies.few h ∙ sym (track-seen c s v d e lies s k)) i;
 }
 
-pub is-moved : (c : Table) (s t : PlantState) (v d : ℕ) (e : VolumeEntry) (f : Fields) (m : Carried) → Lies c s v d e → Fitting e.tracks (s.block d) f m → ReadsNext (s.block d) (t.block d) f m → IsMoved s t c v (plain f) m
+pub is-moved : (c : ConfigTable) (s t : PlantState) (v d : ℕ) (e : VolumeEntry) (f : Fields) (m : Carried) → Lies c s v d e → Fitting e.tracks (s.block d) f m → ReadsNext (s.block d) (t.block d) f m → IsMoved s t c v (plain f) m
 is-moved c s t v d e f m lies fit h =
     let before : track_on (s.block d) (Some e) ≡ track_seen s c v = (λ i k. sym (track-seen c s v d e lies s k) i) in
     record {
@@ -56,7 +56,7 @@ is-moved c s t v d e f m lies fit h =
     }
 
 -- another volume lies on another device
-pub apart_devices : (c : Table) (s : PlantState) (v u d j : ℕ) (e : VolumeEntry) → Lies c s v d e → u ≢ v → place_of c u ≡ Some j → j ≢ d
+pub apart_devices : (c : ConfigTable) (s : PlantState) (v u d j : ℕ) (e : VolumeEntry) → Lies c s v d e → u ≢ v → place_of c u ≡ Some j → j ≢ d
 apart_devices c s v u d j e lies ne place same =
     let x = entry-at-place c u j place in
     let y = entry-at-place c v d lies.place in
@@ -65,7 +65,7 @@ apart_devices c s v u d j e lies ne place same =
     ne (sym x.3 ∙ ids ∙ y.3)
 
 -- and it is as it was where only the one device's blocks changed
-pub others-stay : (c : Table) (s t : PlantState) (v d : ℕ) (e : VolumeEntry) → Lies c s v d e → ((j b : ℕ) → j ≢ d → t.block j b ≡ s.block j b) → OthersStay s t c v
+pub others-stay : (c : ConfigTable) (s t : PlantState) (v d : ℕ) (e : VolumeEntry) → Lies c s v d e → ((j b : ℕ) → j ≢ d → t.block j b ≡ s.block j b) → OthersStay s t c v
 others-stay c s t v d e lies apart u ne = record {
   volume = elim (place_of c u) as (λ o. place_of c u ≡ o → volume_at t c o ≡ volume_at s c o) [
     | None ↦ λ is. refl
@@ -82,7 +82,7 @@ server_on b b2 None = refl
 server_on b b2 (Some e) = refl
 
 -- it stays settled too
-pub others-settled : (c : Table) (s t : PlantState) (v d : ℕ) (e : VolumeEntry) → Lies c s v d e → ((j b : ℕ) → j ≢ d → t.block j b ≡ s.block j b) → ((q : ℕ) → t.on q ≡ true → s.on q ≡ true) → (u : ℕ) → u ≢ v → IsSettled s c u → IsSettled t c u
+pub others-settled : (c : ConfigTable) (s t : PlantState) (v d : ℕ) (e : VolumeEntry) → Lies c s v d e → ((j b : ℕ) → j ≢ d → t.block j b ≡ s.block j b) → ((q : ℕ) → t.on q ≡ true → s.on q ≡ true) → (u : ℕ) → u ≢ v → IsSettled s c u → IsSettled t c u
 others-settled c s t v d e lies apart was_on u ne =
     elim (place_of c u) as (λ o. place_of c u ≡ o → (s.on (volume_at s c o).server ≡ true → TracksSettled (s.block (unwrap_or o 0)) (volume_at s c o).staged) → t.on (volume_at t c o).server ≡ true → TracksSettled (t.block (unwrap_or o 0)) (volume_at t c o).staged) [
       | None ↦ λ is h on. tt
@@ -93,12 +93,12 @@ others-settled c s t v d e lies apart was_on u ne =
     ] refl
 
 -- the volume itself is settled where its staged track stands in its own block
-pub settled-on : (c : Table) (s t : PlantState) (v d : ℕ) (e : VolumeEntry) → Lies c s v d e → TracksSettled (t.block d) (layout.staged e.tracks (t.block d)) → TracksSettled (t.block (device_of c v)) (volume_seen t c v).staged
+pub settled-on : (c : ConfigTable) (s t : PlantState) (v d : ℕ) (e : VolumeEntry) → Lies c s v d e → TracksSettled (t.block d) (layout.staged e.tracks (t.block d)) → TracksSettled (t.block (device_of c v)) (volume_seen t c v).staged
 settled-on c s t v d e lies h =
     subst (λ (w : Volume). TracksSettled (t.block (device_of c v)) w.staged) (sym (seen c s v d e lies t))
     (subst (λ q. TracksSettled (t.block q) (layout.staged e.tracks (t.block d))) (sym (device-placed c v d lies.place)) h)
 
 -- a volume whose server is off is settled
-pub settled-off : (c : Table) (s t : PlantState) (v d : ℕ) (e : VolumeEntry) → Lies c s v d e → t.on (s.owner d) ≡ false → IsSettled t c v
+pub settled-off : (c : ConfigTable) (s t : PlantState) (v d : ℕ) (e : VolumeEntry) → Lies c s v d e → t.on (s.owner d) ≡ false → IsSettled t c v
 settled-off c s t v d e lies off on =
     absurd (let never : true ≡ false = sym on ∙ ap t.on (ap (λ (w : Volume). w.server) (seen c s v d e lies t) ∙ sym lies.owner) ∙ off in cc)

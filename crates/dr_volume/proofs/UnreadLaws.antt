@@ -3,7 +3,7 @@ use Rattle.std.proofs.Common.{ℕ, ◌≡◌, ◌≤◌, ◌<◌, Bool, true, fa
 use Rattle.std.specs.Prelude.{is_some}
 use Rattle.dr_plant.specs.State.{PlantState, after_read, can_read, passes_read}
 use Rattle.dr_plant.proofs.StateLemmas.{block-after_read}
-use Rattle.dr_config.specs.Table.{Table, StandsFor, place_of}
+use Rattle.dr_config.specs.Table.{ConfigTable, StandsFor, place_of}
 use Rattle.dr_config.specs.declared.entries.VolumeEntry.{VolumeEntry}
 use Rattle.dr_model.specs.Control.{Volume}
 use Rattle.dr_model.specs.ReadStops.{shut}
@@ -15,8 +15,9 @@ use Rattle.dr_volume.proofs.SeenLaws.{Lies, others-stay}
 use Rattle.dr_volume.proofs.UpdateLaws.{idle, burnt-world, server-seen}
 use Rattle.dr_volume.proofs.RedoLaws.{same-all}
 use Rattle.dr_volume.proofs.SettledLaws.{settled-along}
+use Rattle.dr_logic.proofs.Truth.{and-second-false}
 
-pub record Unread (c : Table) (s t : PlantState) (v : ℕ) : Type 0 where
+pub record Unread (c : ConfigTable) (s t : PlantState) (v : ℕ) : Type 0 where
   pub shuts : (r : Rest) → world t c r ≡ shut (world s c r) (volume_seen s c v).server
   pub same : (u : ℕ) → IsAsBefore s t c u
   pub stands : StandsFor c t
@@ -31,7 +32,7 @@ armed-of None h = absurd (cc)
 armed-of (Some n) h = refl
 
 -- where a volume lies
-pub lies-at : (c : Table) (s : PlantState) (v : ℕ) → is_some (place_of c v) ≡ true → (volume_seen s c v).tracks ≤ 256 → StandsFor c s → (e : VolumeEntry) × Lies c s v (device_of c v) e
+pub lies-at : (c : ConfigTable) (s : PlantState) (v : ℕ) → is_some (place_of c v) ≡ true → (volume_seen s c v).tracks ≤ 256 → StandsFor c s → (e : VolumeEntry) × Lies c s v (device_of c v) e
 lies-at c s v defined few stands =
     let at = placed c v defined in
     let place : place_of c v ≡ Some (device_of c v) = at.2 ∙ ap (λ d. Some d) (sym (device-placed c v at.0 at.2)) in
@@ -42,11 +43,7 @@ lies-at c s v defined few stands =
     let tracks = ap (λ (w : Volume). w.tracks) (volume-placed s c v at.0 at.1 at.2 at.3) in
     (at.1, subst (λ x. Lies c s v x at.1) d (record { place = at.2; entry = at.3; owner = owner; low = omega arith; few = subst (λ n. n ≤ 256) tracks few }))
 
-passes-not : (on pass : Bool) → (on && pass) ≡ false → on ≡ true → pass ≡ false
-passes-not true pass h on = h
-passes-not false pass h on = absurd (cc)
-
-pub unread : (c : Table) (s t : PlantState) (v : ℕ) → is_some (place_of c v) ≡ true → (volume_seen s c v).tracks ≤ 256 → StandsFor c s → can_read s (device_of c v) ≡ false → t ≡ after_read s (device_of c v) → Unread c s t v
+pub unread : (c : ConfigTable) (s t : PlantState) (v : ℕ) → is_some (place_of c v) ≡ true → (volume_seen s c v).tracks ≤ 256 → StandsFor c s → can_read s (device_of c v) ≡ false → t ≡ after_read s (device_of c v) → Unread c s t v
 unread c s t v defined few stands stuck is =
     let d = device_of c v in
     let x = lies-at c s v defined few stands in
@@ -60,11 +57,11 @@ unread c s t v defined few stands stuck is =
       settled = settled-along c s t (ap (λ (u : PlantState). u.block) is ∙ block-after_read s d) r.was_on;
       unarmed = r.unarmed;
       low = subst (λ o. o < 8) (sym server) x.1.low;
-      armed = λ up. subst (λ o. s.on o ≡ true → is_some (s.read_fuse o) ≡ true) (sym server) (λ on. armed-of (s.read_fuse (s.owner d)) (passes-not (s.on (s.owner d)) _ stuck on)) up;
+      armed = λ up. subst (λ o. s.on o ≡ true → is_some (s.read_fuse o) ≡ true) (sym server) (λ on. armed-of (s.read_fuse (s.owner d)) (and-second-false (s.on (s.owner d)) _ stuck on)) up;
     }
 
 -- a volume's server is one of the plant's
-pub lies-low : (c : Table) (s : PlantState) (v : ℕ) → is_some (place_of c v) ≡ true → (volume_seen s c v).tracks ≤ 256 → StandsFor c s → (volume_seen s c v).server < 8
+pub lies-low : (c : ConfigTable) (s : PlantState) (v : ℕ) → is_some (place_of c v) ≡ true → (volume_seen s c v).tracks ≤ 256 → StandsFor c s → (volume_seen s c v).server < 8
 lies-low c s v defined few stands =
     let x = lies-at c s v defined few stands in
     subst (λ o. o < 8) (sym (server-seen c s v (device_of c v) x.0 x.1)) x.1.low

@@ -3,13 +3,16 @@ use Rattle.std.proofs.Common.{ℕ, ◌≡◌, ◌<◌, ◌+◌, ◌⊎◌, inl, 
 use Rattle.std.specs.Prelude.{IfSome, if◌then◌else◌, ◌≢◌}
 use Rattle.std.proofs.lemmas.Bool.{cases_eq}
 use Rattle.std.proofs.lemmas.Bool.Decides.{Decides-eqb}
-use Rattle.dr_plant.specs.State.{PlantState, after_read, can_read, passes_read, at, faulted, risen}
+use Rattle.std.proofs.Math.Bool.{and-false}
+use Rattle.dr_logic.specs.Counts.{risen}
+use Rattle.dr_logic.specs.Tables.{at}
+use Rattle.dr_plant.specs.State.{PlantState, after_read, can_read, passes_read, faulted}
 use Rattle.dr_plant.specs.declared.plant.WriteFuse.{WriteFuse}
-use Rattle.dr_plant.proofs.StateLemmas.{read_stopped, block-after_read, write_fuse-after_read, at_same, at_other}
+use Rattle.dr_plant.proofs.StateLemmas.{read_stopped, block-after_read, write_fuse-after_read}
 use Rattle.dr_record.specs.Writes.{after_writes}
 use Rattle.dr_record.specs.Slots.{slot_of}
 use Rattle.dr_record.proofs.WriteLists.{writes_off}
-use Rattle.dr_config.specs.Table.{Table, StandsFor}
+use Rattle.dr_config.specs.Table.{ConfigTable, StandsFor}
 use Rattle.dr_config.specs.declared.entries.VolumeEntry.{VolumeEntry}
 use Rattle.dr_model.specs.Layout as layout
 use Rattle.dr_model.specs.Layout.{chosen, only_if}
@@ -34,16 +37,17 @@ use Rattle.dr_volume.proofs.RewriteLaws.{Outcome, writes-end, stays-as, stays-sa
 use Rattle.dr_volume.proofs.FuseLaws.{Passed, Cut, CutEnds, writes-passed, below_number, writes-cut, length-update, update-cut}
 use Rattle.dr_volume.proofs.WorldLaws.{shown, world-still, world-spent, world-off, on-at, fuses-same, shown-before, shown-moved, fuse-seen, on-seen, update-off, update-passed, update-cut_short}
 use Rattle.dr_volume.proofs.SeenLaws.{Lies, lies-of, seen, is-before, is-moved, others-stay, others-settled, settled-on, settled-off}
+use Rattle.dr_logic.proofs.Tables.{at_same, at_other}
 
 -- What is asked of an update, as it lies on the device.
-pub record Task (c : Table) (s : PlantState) (v d : ℕ) (e : VolumeEntry) (f : Fields) (m : Carried) : Type 0 where
+pub record Task (c : ConfigTable) (s : PlantState) (v d : ℕ) (e : VolumeEntry) (f : Fields) (m : Carried) : Type 0 where
   pub lies : Lies c s v d e
   pub lawful : IsLawful e.tracks (plain f)
   pub within : IfSome m (λ t. t.0 < e.tracks)
   pub covers : Covers (layout.fields e.tracks (s.block d)).blank f.blank m
   pub settled : s.on (s.owner d) ≡ true → TracksSettled (s.block d) (layout.staged e.tracks (s.block d))
 
-pub task : (c : Table) (s : PlantState) (v d n : ℕ) (f : Fields) (m : Carried) → LiesOn c v d n → StandsFor c s → IsLawful (volume_seen s c v).tracks (plain f) → IfSome m (λ t. t.0 < (volume_seen s c v).tracks) → Covers (volume_seen s c v).fields.blank f.blank m → IsSettled s c v → (e : VolumeEntry) × Task c s v d e f m
+pub task : (c : ConfigTable) (s : PlantState) (v d n : ℕ) (f : Fields) (m : Carried) → LiesOn c v d n → StandsFor c s → IsLawful (volume_seen s c v).tracks (plain f) → IfSome m (λ t. t.0 < (volume_seen s c v).tracks) → Covers (volume_seen s c v).fields.blank f.blank m → IsSettled s c v → (e : VolumeEntry) × Task c s v d e f m
 task c s v d n f m on stands lawful within covers settled =
     let x = lies-of c s v d n on stands in
     let is = seen c s v d x.0 x.1 s in
@@ -58,17 +62,17 @@ task c s v d n f m on stands lawful within covers settled =
       },
     )
 
-fitting : (c : Table) (s : PlantState) (v d : ℕ) (e : VolumeEntry) (f : Fields) (m : Carried) → Task c s v d e f m → s.on (s.owner d) ≡ true → Fitting e.tracks (s.block d) f m
+fitting : (c : ConfigTable) (s : PlantState) (v d : ℕ) (e : VolumeEntry) (f : Fields) (m : Carried) → Task c s v d e f m → s.on (s.owner d) ≡ true → Fitting e.tracks (s.block d) f m
 fitting c s v d e f m k up = record { few = k.lies.few; lawful = k.lawful; within = k.within; covers = k.covers; settled = k.settled up }
 
-whole : (c : Table) (s : PlantState) (v d : ℕ) (e : VolumeEntry) (f : Fields) (m : Carried) → Task c s v d e f m → IsWhole (staging m f)
+whole : (c : ConfigTable) (s : PlantState) (v d : ℕ) (e : VolumeEntry) (f : Fields) (m : Carried) → Task c s v d e f m → IsWhole (staging m f)
 whole c s v d e f m k = whole-of_normal e.tracks (staging m f) k.lies.few (normal-staging e.tracks f m k.lies.few k.lawful k.within)
 
 -- the update was carried out
 abbrev pub Run : PlantState → PlantState → ℕ → Fields → Carried → Bool → Type 0
 Run s t d f m b = after_writes s d (update_writes (not (slot_of s d)) (staging m f) m) ≡ (t, b)
 
-pub outcome : (c : Table) (s t : PlantState) (v d : ℕ) (e : VolumeEntry) (f : Fields) (m : Carried) (b : Bool) → Task c s v d e f m → Run s t d f m b → Outcome s t d f m b
+pub outcome : (c : ConfigTable) (s t : PlantState) (v d : ℕ) (e : VolumeEntry) (f : Fields) (m : Carried) (b : Bool) → Task c s v d e f m → Run s t d f m b → Outcome s t d f m b
 outcome c s t v d e f m b k run = writes-end s t d f m b (whole c s v d e f m k) run
 
 -- the owner of a device that can't be read
@@ -78,16 +82,12 @@ read-off s d off = ap (λ b. b && passes_read (s.read_fuse (s.owner d))) off
 pub read-on : (s : PlantState) (d : ℕ) → passes_read (s.read_fuse (s.owner d)) ≡ true → s.on (s.owner d) ≡ true → can_read s d ≡ true
 read-on s d pass up = (λ i. up i && pass i)
 
-either_off : (on : Bool) → (on && false) ≡ false
-either_off true = refl
-either_off false = refl
-
 -- one whose read fuse lets no read pass
 pub read-burnt : (s : PlantState) (d : ℕ) → passes_read (s.read_fuse (s.owner d)) ≡ false → can_read s d ≡ false
-read-burnt s d stuck = ap (λ b. s.on (s.owner d) && b) stuck ∙ either_off (s.on (s.owner d))
+read-burnt s d stuck = ap (λ b. s.on (s.owner d) && b) stuck ∙ and-false (s.on (s.owner d))
 
 -- on a server that is off nothing is done but that a fault is counted
-pub idle : (c : Table) (s : PlantState) (v d : ℕ) (e : VolumeEntry) → Lies c s v d e → IsAsBefore s (after_read s d) c v
+pub idle : (c : ConfigTable) (s : PlantState) (v d : ℕ) (e : VolumeEntry) → Lies c s v d e → IsAsBefore s (after_read s d) c v
 idle c s v d e lies =
     is-before c s (after_read s d) v d e lies (stays-as e.tracks (s.block d) ((after_read s d).block d) (stays-same (s.block d) ((after_read s d).block d) (ap (λ (g : ℕ → ℕ → List ℕ). g d) (block-after_read s d))))
 
@@ -103,7 +103,7 @@ still s t d f m b off run =
     some None = omega arith
     some (Some t) = omega arith
 
-pub update-ending : (c : Table) (s t : PlantState) (v d : ℕ) (e : VolumeEntry) (f : Fields) (m : Carried) (b : Bool) → Task c s v d e f m → Run s t d f m b → IsAsBefore s t c v ⊎ IsMoved s t c v (plain f) m
+pub update-ending : (c : ConfigTable) (s t : PlantState) (v d : ℕ) (e : VolumeEntry) (f : Fields) (m : Carried) (b : Bool) → Task c s v d e f m → Run s t d f m b → IsAsBefore s t c v ⊎ IsMoved s t c v (plain f) m
 update-ending c s t v d e f m b k run =
     elim (s.on (s.owner d)) as (λ w. s.on (s.owner d) ≡ w → IsAsBefore s t c v ⊎ IsMoved s t c v (plain f) m) [
       | true ↦ λ up. elim (outcome c s t v d e f m b k run).ends [
@@ -121,7 +121,7 @@ done-on s t d f m run =
       | false ↦ λ off. (still s t d f m false off run).1
     ] refl
 
-pub update-done : (c : Table) (s t : PlantState) (v d : ℕ) (e : VolumeEntry) (f : Fields) (m : Carried) → Task c s v d e f m → Run s t d f m false → IsMoved s t c v (plain f) m
+pub update-done : (c : ConfigTable) (s t : PlantState) (v d : ℕ) (e : VolumeEntry) (f : Fields) (m : Carried) → Task c s v d e f m → Run s t d f m false → IsMoved s t c v (plain f) m
 update-done c s t v d e f m k run =
     is-moved c s t v d e f m k.lies (fitting c s v d e f m k (done-on s t d f m run)) ((outcome c s t v d e f m false k run).done refl)
 
@@ -130,7 +130,7 @@ carried_settled : (b : ℕ → List ℕ) (m : Carried) → chosen b 5 ≡ carrie
 carried_settled b None bytes own = tt
 carried_settled b (Some t) bytes own = own t.0 ((Decides-eqb t.0 t.0).1 refl) ∙ sym bytes
 
-pub update-settled : (c : Table) (s t : PlantState) (v d : ℕ) (e : VolumeEntry) (f : Fields) (m : Carried) → Task c s v d e f m → Run s t d f m false → TracksSettled (t.block (device_of c v)) (volume_seen t c v).staged
+pub update-settled : (c : ConfigTable) (s t : PlantState) (v d : ℕ) (e : VolumeEntry) (f : Fields) (m : Carried) → Task c s v d e f m → Run s t d f m false → TracksSettled (t.block (device_of c v)) (volume_seen t c v).staged
 update-settled c s t v d e f m k run =
     let end = outcome c s t v d e f m false k run in
     let next : ReadsNext (s.block d) (t.block d) f m = end.done refl in
@@ -139,7 +139,7 @@ update-settled c s t v d e f m k run =
     (subst (λ o. TracksSettled (t.block d) o) (sym (staged-next e.tracks (s.block d) (t.block d) f m fit next))
     (carried_settled (t.block d) m (bytes-next (s.block d) (t.block d) f m next) (end.track refl)))
 
-pub update-keeps_settled : (c : Table) (s t : PlantState) (v d : ℕ) (e : VolumeEntry) (f : Fields) (m : Carried) (b : Bool) → Task c s v d e f m → Run s t d f m b → (u : ℕ) → IsSettled s c u → IsSettled t c u
+pub update-keeps_settled : (c : ConfigTable) (s t : PlantState) (v d : ℕ) (e : VolumeEntry) (f : Fields) (m : Carried) (b : Bool) → Task c s v d e f m → Run s t d f m b → (u : ℕ) → IsSettled s c u → IsSettled t c u
 update-keeps_settled c s t v d e f m b k run u h =
     let r = ran-written s t d (update_writes (not (slot_of s d)) (staging m f) m) b run in
     elim (cases_eq u v) [
@@ -158,13 +158,13 @@ at_kept : (f : ℕ → Bool) (o : ℕ) → f o ≡ false → at f o false ≡ f
 at_kept f o h i q = (elim (cases_eq q o) as (λ w. at f o false q ≡ f q) [ inl e ↦ ap (at f o false) e ∙ at_same f o false ∙ sym (ap f e ∙ h) | inr ne ↦ at_other f o false q ne ]) i
 
 -- the world where the server was off
-pub idle-world : (c : Table) (s : PlantState) (v d : ℕ) (e : VolumeEntry) (r : Rest) → Lies c s v d e → OthersStay s (after_read s d) c v → s.on (s.owner d) ≡ false → world (after_read s d) c r ≡ world s c r
+pub idle-world : (c : ConfigTable) (s : PlantState) (v d : ℕ) (e : VolumeEntry) (r : Rest) → Lies c s v d e → OthersStay s (after_read s d) c v → s.on (s.owner d) ≡ false → world (after_read s d) c r ≡ world s c r
 idle-world c s v d e r lies others off =
     let on = ap (λ (t : PlantState). t.on) (read_stopped s d (read-off s d off)) ∙ at_kept s.on (s.owner d) off in
     world-still s (after_read s d) c r on (write_fuse-after_read s d) ∙ shown-before s (after_read s d) c r v (idle c s v d e lies) others
 
 -- and where a server's read fuse let no read pass, it is off
-pub burnt-world : (c : Table) (s : PlantState) (v d : ℕ) (e : VolumeEntry) (r : Rest) → Lies c s v d e → OthersStay s (after_read s d) c v → can_read s d ≡ false → world (after_read s d) c r ≡ shut (world s c r) (s.owner d)
+pub burnt-world : (c : ConfigTable) (s : PlantState) (v d : ℕ) (e : VolumeEntry) (r : Rest) → Lies c s v d e → OthersStay s (after_read s d) c v → can_read s d ≡ false → world (after_read s d) c r ≡ shut (world s c r) (s.owner d)
 burnt-world c s v d e r lies others stuck =
     let on = on-at s (after_read s d) (s.owner d) false lies.low (ap (λ (t : PlantState). t.on) (read_stopped s d stuck)) in
     let fuses = fuses-same s (after_read s d) (write_fuse-after_read s d) in
@@ -173,20 +173,20 @@ burnt-world c s v d e r lies others stuck =
     ∙ ap (λ w. shut w (s.owner d)) before
 
 -- the server as the machine sees it
-pub server-seen : (c : Table) (s : PlantState) (v d : ℕ) (e : VolumeEntry) → Lies c s v d e → (volume_seen s c v).server ≡ s.owner d
+pub server-seen : (c : ConfigTable) (s : PlantState) (v d : ℕ) (e : VolumeEntry) → Lies c s v d e → (volume_seen s c v).server ≡ s.owner d
 server-seen c s v d e lies = ap (λ (w : Volume). w.server) (seen c s v d e lies s) ∙ sym lies.owner
 
 -- the slot that the machine sees
-pub slot-seen : (c : Table) (s : PlantState) (v d : ℕ) (e : VolumeEntry) → Lies c s v d e → (volume_seen s c v).slot ≡ slot_of s d
+pub slot-seen : (c : ConfigTable) (s : PlantState) (v d : ℕ) (e : VolumeEntry) → Lies c s v d e → (volume_seen s c v).slot ≡ slot_of s d
 slot-seen c s v d e lies = ap (λ (w : Volume). w.slot) (seen c s v d e lies s) ∙ sym (chosen_slot s d)
 
-world-idle : (c : Table) (s t : PlantState) (v d : ℕ) (e : VolumeEntry) (f : Fields) (m : Carried) (b : Bool) (r : Rest) → Task c s v d e f m → Run s t d f m b → s.on (s.owner d) ≡ false → EndsAs (world t c r) b (machine.update (world s c r) v (plain f) m)
+world-idle : (c : ConfigTable) (s t : PlantState) (v d : ℕ) (e : VolumeEntry) (f : Fields) (m : Carried) (b : Bool) (r : Rest) → Task c s v d e f m → Run s t d f m b → s.on (s.owner d) ≡ false → EndsAs (world t c r) b (machine.update (world s c r) v (plain f) m)
 world-idle c s t v d e f m b r k run off =
     let x = still s t d f m b off run in
     ends_as (world t c r) b _ _ (update-off (world s c r) v (plain f) m (s.owner d) (server-seen c s v d e k.lies) (on-seen s (s.owner d) k.lies.low ∙ off))
     (record { world = ap (λ u. world u c r) x.0; stopped = x.1 })
 
-world-passed : (c : Table) (s t : PlantState) (v d : ℕ) (e : VolumeEntry) (f : Fields) (m : Carried) (b : Bool) (r : Rest) → Task c s v d e f m → Run s t d f m b → s.on (s.owner d) ≡ true → machine.pass (fuse_seen (s.write_fuse (s.owner d))) (machine.writes m) ≡ true → EndsAs (world t c r) b (machine.update (world s c r) v (plain f) m)
+world-passed : (c : ConfigTable) (s t : PlantState) (v d : ℕ) (e : VolumeEntry) (f : Fields) (m : Carried) (b : Bool) (r : Rest) → Task c s v d e f m → Run s t d f m b → s.on (s.owner d) ≡ true → machine.pass (fuse_seen (s.write_fuse (s.owner d))) (machine.writes m) ≡ true → EndsAs (world t c r) b (machine.update (world s c r) v (plain f) m)
 world-passed c s t v d e f m b r k run up pass =
     let o = s.owner d in
     let ws = update_writes (not (slot_of s d)) (staging m f) m in
@@ -199,7 +199,7 @@ world-passed c s t v d e f m b r k run up pass =
       stopped = p.done;
     })
 
-cut_end : (c : Table) (s t : PlantState) (v d : ℕ) (e : VolumeEntry) (f : Fields) (m : Carried) (g : WriteFuse) (b : Bool) (r : Rest) (done : Bool) → Task c s v d e f m → OthersStay s t c v → s.on (s.owner d) ≡ true → s.write_fuse (s.owner d) ≡ Some g → Cut s t d g b → CutEnds s t d f m done → EndsAs (world t c r) b (if done then machine.ended (machine.off (updated (world s c r) v (plain f) m) (s.owner d)) true true else machine.ended (machine.off (world s c r) (s.owner d)) true false)
+cut_end : (c : ConfigTable) (s t : PlantState) (v d : ℕ) (e : VolumeEntry) (f : Fields) (m : Carried) (g : WriteFuse) (b : Bool) (r : Rest) (done : Bool) → Task c s v d e f m → OthersStay s t c v → s.on (s.owner d) ≡ true → s.write_fuse (s.owner d) ≡ Some g → Cut s t d g b → CutEnds s t d f m done → EndsAs (world t c r) b (if done then machine.ended (machine.off (updated (world s c r) v (plain f) m) (s.owner d)) true true else machine.ended (machine.off (world s c r) (s.owner d)) true false)
 cut_end c s t v d e f m g b r true k others up fuse cut ends = record {
   world =
       world-off s t c r (s.owner d) g k.lies.low cut.on cut.fuse fuse
@@ -213,7 +213,7 @@ cut_end c s t v d e f m g b r false k others up fuse cut ends = record {
   stopped = cut.cut;
 }
 
-world-cut : (c : Table) (s t : PlantState) (v d : ℕ) (e : VolumeEntry) (f : Fields) (m : Carried) (b : Bool) (r : Rest) → Task c s v d e f m → Run s t d f m b → s.on (s.owner d) ≡ true → machine.pass (fuse_seen (s.write_fuse (s.owner d))) (machine.writes m) ≡ false → EndsAs (world t c r) b (machine.update (world s c r) v (plain f) m)
+world-cut : (c : ConfigTable) (s t : PlantState) (v d : ℕ) (e : VolumeEntry) (f : Fields) (m : Carried) (b : Bool) (r : Rest) → Task c s v d e f m → Run s t d f m b → s.on (s.owner d) ≡ true → machine.pass (fuse_seen (s.write_fuse (s.owner d))) (machine.writes m) ≡ false → EndsAs (world t c r) b (machine.update (world s c r) v (plain f) m)
 world-cut c s t v d e f m b r k run up stuck =
     let o = s.owner d in
     let ws = update_writes (not (slot_of s d)) (staging m f) m in
@@ -231,7 +231,7 @@ world-cut c s t v d e f m b r k run up stuck =
     (cut_end c s t v d e f m g b r done k others up low.1 cut ends)
 
 -- the world follows the machine
-pub update-world : (c : Table) (s t : PlantState) (v d : ℕ) (e : VolumeEntry) (f : Fields) (m : Carried) (b : Bool) (r : Rest) → Task c s v d e f m → Run s t d f m b → EndsAs (world t c r) b (machine.update (world s c r) v (plain f) m)
+pub update-world : (c : ConfigTable) (s t : PlantState) (v d : ℕ) (e : VolumeEntry) (f : Fields) (m : Carried) (b : Bool) (r : Rest) → Task c s v d e f m → Run s t d f m b → EndsAs (world t c r) b (machine.update (world s c r) v (plain f) m)
 update-world c s t v d e f m b r k run =
     let o = s.owner d in
     elim (s.on o) as (λ w. s.on o ≡ w → EndsAs (world t c r) b (machine.update (world s c r) v (plain f) m)) [
@@ -243,7 +243,7 @@ update-world c s t v d e f m b r k run =
     ] refl
 
 -- an act that begins with a read, by whether that passes
-pub read-first : (c : Table) (s t : PlantState) (v d : ℕ) (e : VolumeEntry) (w : World) (b : Bool) (r : Rest) (end : Ended) → Lies c s v d e → OthersStay s t c v → (can_read s d ≡ false → (t ≡ after_read s d) × (b ≡ true)) → (passes_read (s.read_fuse (s.owner d)) ≡ true → EndsAs (world t c r) b end) → w ≡ world s c r → EndsAs (world t c r) b (after_reading s (volume_seen s c v).server w end)
+pub read-first : (c : ConfigTable) (s t : PlantState) (v d : ℕ) (e : VolumeEntry) (w : World) (b : Bool) (r : Rest) (end : Ended) → Lies c s v d e → OthersStay s t c v → (can_read s d ≡ false → (t ≡ after_read s d) × (b ≡ true)) → (passes_read (s.read_fuse (s.owner d)) ≡ true → EndsAs (world t c r) b end) → w ≡ world s c r → EndsAs (world t c r) b (after_reading s (volume_seen s c v).server w end)
 read-first c s t v d e w b r end lies others unread passed is =
     elim (passes_read (s.read_fuse (s.owner d))) as (λ p. passes_read (s.read_fuse (s.owner d)) ≡ p → EndsAs (world t c r) b (after_reading s (volume_seen s c v).server w end)) [
       | true ↦ λ pass. ends_as (world t c r) b _ _ (ap (λ o. after_reading s o w end) (server-seen c s v d e lies) ∙ ap (λ p. if p then end else ended (shut w (s.owner d)) true false) pass) (passed pass)
@@ -256,12 +256,12 @@ read-first c s t v d e w b r end lies others unread passed is =
           })
     ] refl
 
-pub update-written : (c : Table) (s t : PlantState) (v d : ℕ) (e : VolumeEntry) (f : Fields) (m : Carried) (b : Bool) → Task c s v d e f m → Run s t d f m b → after_writes s (device_of c v) (update_writes (not (volume_seen s c v).slot) (staging m f) m) ≡ (t, b)
+pub update-written : (c : ConfigTable) (s t : PlantState) (v d : ℕ) (e : VolumeEntry) (f : Fields) (m : Carried) (b : Bool) → Task c s v d e f m → Run s t d f m b → after_writes s (device_of c v) (update_writes (not (volume_seen s c v).slot) (staging m f) m) ≡ (t, b)
 update-written c s t v d e f m b k run =
     (λ i. after_writes s (device-placed c v d k.lies.place i) (update_writes (not (slot-seen c s v d e k.lies i)) (staging m f) m)) ∙ run
 
 -- What an update of a volume that was read leaves.
-pub record Changed (c : Table) (s t : PlantState) (v : ℕ) (f : Fields) (m : Carried) (b : Bool) : Type 0 where
+pub record Changed (c : ConfigTable) (s t : PlantState) (v : ℕ) (f : Fields) (m : Carried) (b : Bool) : Type 0 where
   pub written : after_writes s (device_of c v) (update_writes (not (volume_seen s c v).slot) (staging m f) m) ≡ (t, b)
   pub exact : (r : Rest) → EndsAs (world t c r) b (machine.update (world s c r) v (plain f) m)
   pub done : b ≡ false → IsMoved s t c v (plain f) m
@@ -275,7 +275,7 @@ pub record Changed (c : Table) (s t : PlantState) (v : ℕ) (f : Fields) (m : Ca
   pub off : b ≡ true → t.on (volume_seen s c v).server ≡ false
   pub faults : t.faults ≡ cond b (risen s.faults) s.faults
 
-pub changed : (c : Table) (s t : PlantState) (v d : ℕ) (e : VolumeEntry) (f : Fields) (m : Carried) (b : Bool) → StandsFor c s → Task c s v d e f m → Run s t d f m b → Changed c s t v f m b
+pub changed : (c : ConfigTable) (s t : PlantState) (v d : ℕ) (e : VolumeEntry) (f : Fields) (m : Carried) (b : Bool) → StandsFor c s → Task c s v d e f m → Run s t d f m b → Changed c s t v f m b
 changed c s t v d e f m b stands k run =
     let server = server-seen c s v d e k.lies in
     let r = ran-written s t d (update_writes (not (slot_of s d)) (staging m f) m) b run in
@@ -299,7 +299,7 @@ on_or_stuck : (on pass : Bool) → (on && pass) ≡ false → pass ≡ true → 
 on_or_stuck false pass h p = refl
 on_or_stuck true pass h p = absurd (let never : true ≡ false = sym p ∙ h in cc)
 
-pub update-unread : (c : Table) (s t : PlantState) (v d : ℕ) (e : VolumeEntry) (f : Fields) (m : Carried) (b : Bool) (r : Rest) → Lies c s v d e → OthersStay s t c v → can_read s d ≡ false → t ≡ after_read s d → b ≡ true → EndsAs (world t c r) b (after_reading s (volume_seen s c v).server (world s c r) (machine.update (world s c r) v (plain f) m))
+pub update-unread : (c : ConfigTable) (s t : PlantState) (v d : ℕ) (e : VolumeEntry) (f : Fields) (m : Carried) (b : Bool) (r : Rest) → Lies c s v d e → OthersStay s t c v → can_read s d ≡ false → t ≡ after_read s d → b ≡ true → EndsAs (world t c r) b (after_reading s (volume_seen s c v).server (world s c r) (machine.update (world s c r) v (plain f) m))
 update-unread c s t v d e f m b r lies others stuck is stopped =
     read-first c s t v d e (world s c r) b r _ lies others (λ h. (is, stopped))
     (λ pass.

@@ -1,21 +1,25 @@
 -- How the machine's world follows the state of a plant.
-use Rattle.std.proofs.Common.{ℕ, ◌≡◌, ◌≢◌, ◌<◌, Bool, true, false, not, refl, sym, ◌∙◌, ap, nat_eq, nat_lt, inl, inr, Option, None, Some}
-use Rattle.std.specs.Prelude.{if◌then◌else◌}
+use Rattle.std.proofs.Common.{ℕ, ◌≡◌, ◌≢◌, ◌<◌, Bool, true, false, not, refl, sym, ◌∙◌, ap, nat_eq, nat_lt, inl, inr, Option, None, Some, ◌||◌, cond, ◌==◌, List, [], ◌∷◌}
+use Rattle.std.specs.Prelude.{if◌then◌else◌, is_some}
 use Rattle.std.proofs.lemmas.Bool.{cases_eq}
 use Rattle.std.proofs.lemmas.Bool.Decides.{Decides-eqb}
+use Rattle.std.specs.List.{find, list_any}
+use Rattle.dr_logic.specs.Tables.{at}
 use Rattle.dr_bits.specs.Membership.{lt_true}
-use Rattle.dr_plant.specs.State.{PlantState, at}
+use Rattle.dr_plant.specs.State.{PlantState}
 use Rattle.dr_plant.specs.declared.plant.WriteFuse.{WriteFuse}
-use Rattle.dr_plant.proofs.StateLemmas.{at_same, at_other}
 use Rattle.dr_record.specs.Writes.{write_fuse_after}
-use Rattle.dr_config.specs.Table.{Table}
+use Rattle.dr_config.specs.Table.{ConfigTable}
 use Rattle.dr_model.specs.Control.{World, Volume}
 use Rattle.dr_model.specs.Layout as layout
 use Rattle.dr_model.specs.Moves.{Carried, moved, tracks_after, updated}
 use Rattle.dr_model.specs.Carry as machine
 use Rattle.dr_model.specs.Carry.{Ended, ended}
-use Rattle.dr_volume.specs.View.{Rest, world, on_seen, fuses_seen, fuse_seen, volume_seen, track_seen}
+use Rattle.dr_volume.specs.View.{Rest, world, on_seen, fuses_seen, fuse_seen, volume_seen, track_seen, ids_of}
 use Rattle.dr_volume.specs.Update.{IsAsBefore, IsMoved, OthersStay}
+use Rattle.dr_config.specs.declared.entries.VolumeEntry.{VolumeEntry}
+use Rattle.dr_config.proofs.KeyLaws.{eqb-turned}
+use Rattle.dr_logic.proofs.Tables.{at_same, at_other}
 
 -- a table that differs from another at k alone
 pub table_at : {X : Type 0} (f g : ℕ → X) (k : ℕ) (x : X) → g k ≡ x → ((q : ℕ) → q ≢ k → g q ≡ f q) → g ≡ at f k x
@@ -64,37 +68,37 @@ lower-seen n None = refl
 lower-seen n (Some f) = refl
 
 -- the world of s with the volumes and the tracks of t
-abbrev pub shown : PlantState → PlantState → Table → Rest → World
+abbrev pub shown : PlantState → PlantState → ConfigTable → Rest → World
 shown s t c r = record (world s c r) {
   control = record (world s c r).control { volume = volume_seen t c };
   contents = track_seen t c;
 }
 
-pub world-still : (s t : PlantState) (c : Table) (r : Rest) → t.on ≡ s.on → t.write_fuse ≡ s.write_fuse → world t c r ≡ shown s t c r
+pub world-still : (s t : PlantState) (c : ConfigTable) (r : Rest) → t.on ≡ s.on → t.write_fuse ≡ s.write_fuse → world t c r ≡ shown s t c r
 world-still s t c r on fuse i = record (shown s t c r) {
   control = record (shown s t c r).control { on = on-same s t on i; fuse = fuses-same s t fuse i };
 }
 
-pub world-spent : (s t : PlantState) (c : Table) (r : Rest) (o n : ℕ) → o < 8 → t.on ≡ s.on → t.write_fuse ≡ at s.write_fuse o (write_fuse_after n (s.write_fuse o)) → world t c r ≡ machine.spent (shown s t c r) o n
+pub world-spent : (s t : PlantState) (c : ConfigTable) (r : Rest) (o n : ℕ) → o < 8 → t.on ≡ s.on → t.write_fuse ≡ at s.write_fuse o (write_fuse_after n (s.write_fuse o)) → world t c r ≡ machine.spent (shown s t c r) o n
 world-spent s t c r o n low on fuse =
     let lower = lower-seen n (s.write_fuse o) ∙ ap (machine.lower n) (sym (fuse-seen s o low)) in
     let fuses = fuses-at s t o _ low fuse ∙ ap (at (fuses_seen s) o) lower in
     λ i. record (shown s t c r) { control = record (shown s t c r).control { on = on-same s t on i; fuse = fuses i } }
 
-pub world-off : (s t : PlantState) (c : Table) (r : Rest) (o : ℕ) (g : WriteFuse) → o < 8 → t.on ≡ at s.on o false → t.write_fuse ≡ at s.write_fuse o (Some (record g { after = 0 })) → s.write_fuse o ≡ Some g → world t c r ≡ machine.off (shown s t c r) o
+pub world-off : (s t : PlantState) (c : ConfigTable) (r : Rest) (o : ℕ) (g : WriteFuse) → o < 8 → t.on ≡ at s.on o false → t.write_fuse ≡ at s.write_fuse o (Some (record g { after = 0 })) → s.write_fuse o ≡ Some g → world t c r ≡ machine.off (shown s t c r) o
 world-off s t c r o g low on fuse armed =
     let burnt : fuse_seen (Some (record g { after = 0 })) ≡ machine.burnt (fuses_seen s o) = sym (ap (λ f. machine.burnt f) (fuse-seen s o low ∙ ap fuse_seen armed)) in
     let fuses = fuses-at s t o _ low fuse ∙ ap (at (fuses_seen s) o) burnt in
     λ i. record (shown s t c r) { control = record (shown s t c r).control { on = on-at s t o false low on i; fuse = fuses i } }
 
 -- where the volumes and the tracks are as before, and where one volume moved
-pub shown-before : (s t : PlantState) (c : Table) (r : Rest) (v : ℕ) → IsAsBefore s t c v → OthersStay s t c v → shown s t c r ≡ world s c r
+pub shown-before : (s t : PlantState) (c : ConfigTable) (r : Rest) (v : ℕ) → IsAsBefore s t c v → OthersStay s t c v → shown s t c r ≡ world s c r
 shown-before s t c r v here there =
     let volumes = table_same (volume_seen s c) (volume_seen t c) v here.volume (λ q ne. (there q ne).volume) in
     let tracks = table_same (track_seen s c) (track_seen t c) v here.tracks (λ q ne. (there q ne).tracks) in
     λ i. record (world s c r) { control = record (world s c r).control { volume = volumes i }; contents = tracks i }
 
-pub shown-moved : (s t : PlantState) (c : Table) (r : Rest) (v : ℕ) (f : layout.Fields) (m : Carried) → IsMoved s t c v f m → OthersStay s t c v → shown s t c r ≡ updated (world s c r) v f m
+pub shown-moved : (s t : PlantState) (c : ConfigTable) (r : Rest) (v : ℕ) (f : layout.Fields) (m : Carried) → IsMoved s t c v f m → OthersStay s t c v → shown s t c r ≡ updated (world s c r) v f m
 shown-moved s t c r v f m here there =
     let volumes = table_at (volume_seen s c) (volume_seen t c) v (moved (volume_seen s c v) f m) here.volume (λ q ne. (there q ne).volume) in
     let tracks = table_at (track_seen s c) (track_seen t c) v (tracks_after f m (track_seen s c v)) here.tracks (λ q ne. (there q ne).tracks) in
@@ -153,3 +157,9 @@ done-slot w v f m =
                 else ended (machine.off w o) true false) in (e.world.control.volume v).slot ≡ (if e.done then not (w.control.volume v).slot else (w.control.volume v).slot))) [ true ↦ moved_slot | false ↦ refl ]
           ]
     ]
+
+pub any_id : (es : List VolumeEntry) (v : ℕ) → list_any (nat_eq v) (ids_of es) ≡ is_some (find (λ (e : VolumeEntry). e.id == v) es)
+any_id [] v = refl
+any_id (e ∷ es) v =
+    ap (λ b. b || list_any (nat_eq v) (ids_of es)) (eqb-turned v e.id)
+    ∙ elim (nat_eq e.id v) as (λ b. (b || list_any (nat_eq v) (ids_of es)) ≡ is_some (cond b (Some e) (find (λ (e : VolumeEntry). e.id == v) es))) [ true ↦ refl | false ↦ any_id es v ]

@@ -13,6 +13,7 @@ code_of_part Absent = 0
 code_of_part Metro = 1
 code_of_part Global = 2
 
+-- the code of a state
 abbrev pub code_of_state : PairState → ℕ
 code_of_state CopyPending = 0
 code_of_state FullDuplex = 1
@@ -22,6 +23,7 @@ code_of_state Suspended = 2
 abbrev pub two_bytes : ℕ → List ℕ
 two_bytes n = n / 256 ∷ n % 256 ∷ []
 
+-- a number in four bytes, the highest first
 abbrev pub four_bytes : ℕ → List ℕ
 four_bytes n = n / 16777216 ∷ n / 65536 % 256 ∷ n / 256 % 256 ∷ n % 256 ∷ []
 

@@ -3,6 +3,7 @@ pub mod Plain
 pub mod Record
 pub mod ReadsBack
 pub mod View
+pub mod Head
 pub mod Volume
 pub mod Update
 pub mod Opened

@@ -2,24 +2,23 @@
 use Rattle.std.specs.Prelude.{◌≡◌, ◌≢◌, ℕ, Bool, true, not, ◌&&◌, is_some}
 use Rattle.std.specs.FinSet.{contains}
 use Rattle.dr_plant.specs.State.{PlantState}
-use Rattle.dr_record.specs.Slots.{Chooses}
-use Rattle.dr_config.specs.Table.{Table, place_of}
+use Rattle.dr_record.specs.Slots.{slot_of}
+use Rattle.dr_config.specs.Table.{ConfigTable, place_of}
 use Rattle.dr_model.specs.Layout.{is_staged}
 use Rattle.dr_model.specs.Control.{Volume}
 use Rattle.dr_volume.specs.declared.opened.Opened.{Opened}
-use Rattle.dr_volume.specs.Record.{with_block, no_record}
 use Rattle.dr_volume.specs.View.{device_of}
 use Rattle.dr_volume.specs.Volume.{Shows}
 
--- What was read of the volume v is what the plant has: the record is the one that v's device chooses, in the slot that
--- it chooses, and the fields are those that the device gives.
-pub record IsOpened (s : PlantState) (t : Table) (v : ℕ) (o : Opened) : Type 0 where
-  pub device : o.cell.dev.0 ≡ device_of t v
-  pub chosen : Chooses with_block 6 no_record s (device_of t v) o.cell.slot o.cell.value
+-- What was read of the volume v is what the plant has: its device, the slot that this chooses, and the fields that it
+-- gives.
+pub record IsOpened (s : PlantState) (t : ConfigTable) (v : ℕ) (o : Opened) : Type 0 where
+  pub device : o.device.0 ≡ device_of t v
+  pub slot : slot_of s (device_of t v) ≡ o.slot
   pub shows : Shows s t v o.fields
 
 -- From s to t, what was read of any volume but v is still what the plant has.
-abbrev pub OthersOpened : PlantState → PlantState → Table → ℕ → Type 0
+abbrev pub OthersOpened : PlantState → PlantState → ConfigTable → ℕ → Type 0
 OthersOpened s t c v = (u : ℕ) (o : Opened) → u ≢ v → is_some (place_of c u) ≡ true → IsOpened s c u o → IsOpened t c u o
 
 -- the track stands in its own block: it is neither staged nor blank

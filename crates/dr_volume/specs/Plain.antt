@@ -1,8 +1,8 @@
 -- What the fields of a volume mean: the machine's fields, and the normal form that reading gives.
 use Rattle.std.specs.Prelude.{◌≡◌, ℕ, Bool, ◌&&◌, nat_lt, is_some, Option, None, Some, if◌then◌else◌}
 use Rattle.std.specs.FinSet.{empty, intersection}
+use Rattle.dr_logic.specs.Bytes.{zeros}
 use Rattle.dr_bits.specs.Tracks.{Tracks, first}
-use Rattle.dr_model.specs.Contents.{zeros}
 use Rattle.dr_model.specs.Layout as layout
 use Rattle.dr_model.specs.Layout.{is_part, only_if}
 use Rattle.dr_model.specs.declared.state.PairState.TheVariants.{CopyPending}

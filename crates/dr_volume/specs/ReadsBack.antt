@@ -15,35 +15,44 @@ use Rattle.dr_volume.specs.declared.fields.Fields.{Fields}
 use Rattle.dr_volume.specs.Codes.{code_of_part, code_of_state, flags_byte}
 use Rattle.dr_volume.specs.Record.{IsWhole, record_block, head_of, with_block, with_head, no_record, raw_of}
 
+-- of parts
 part_back : (p : Part) → part_of (code_of_part p) ≡ p
 part_back Absent = refl
 part_back Metro = refl
 part_back Global = refl
 
+-- of states
 state_back : (s : PairState) → state_of (code_of_state s) ≡ s
 state_back CopyPending = refl
 state_back FullDuplex = refl
 state_back Suspended = refl
 
+-- of two bytes
 back16 : (n : ℕ) → n / 256 * 256 + n % 256 ≡ n
 back16 n = omega arith
 
+-- of four bytes
 back32 : (n : ℕ) → (n / 16777216 * 256 + n / 65536 % 256) * 65536 + (n / 256 % 256 * 256 + n % 256) ≡ n
 back32 n = omega arith
 
+-- of flags
 flag_back : (flags : List Bool) (k : ℕ) → k < 8 → bit (flags_byte flags) k ≡ get_or flags (0 + k) false
 flag_back flags k low = number_of-bit (λ t. get_or flags t false) 0 8 k low
 
+-- of the staged track
 staged_back : (o : Option ℕ) → (if nat_eq (cond (is_some o) 1 0) 1 then Some (unwrap_or o 0 / 256 * 256 + unwrap_or o 0 % 256) else None) ≡ o
 staged_back None = refl
 staged_back (Some t) = ap (λ n. Some n) (back16 t)
 
+-- of the first of two sets
 first_back : (s t : Tracks) → IsInRange s → of_bytes (take 32 (bytes_of s ++ bytes_of t)) ≡ s
 first_back s t in_s = ap (λ bytes. of_bytes bytes) (take_at (bytes_of s) (bytes_of t) 32 (length-bytes_of s)) ∙ of_bytes-bytes_of s in_s
 
+-- and of the second
 second_back : (s t : Tracks) → IsInRange t → of_bytes (drop 32 (bytes_of s ++ bytes_of t)) ≡ t
 second_back s t in_t = ap (λ bytes. of_bytes bytes) (drop_at (bytes_of s) (bytes_of t) 32 (length-bytes_of s)) ∙ of_bytes-bytes_of t in_t
 
+-- of all fields of a record
 pub raw_of-record_block : (f : Fields) → IsWhole f → raw_of (record_block f) ≡ f
 unfolding head_of with_head no_record
 raw_of-record_block f whole =

@@ -1,12 +1,12 @@
 -- What an update of a volume writes to its device, and what it leaves of the volume and of the machine's world.
 use Rattle.std.specs.Prelude.{◌≡◌, ℕ, ◌+◌, Bool, true, false, ◌||◌, List, [], ◌∷◌, ◌++◌, Option, Some, None, if◌then◌else◌, ◌≢◌}
 use Rattle.std.specs.FinSet.{contains}
+use Rattle.dr_logic.specs.Bytes.{zeros}
 use Rattle.dr_bits.specs.Tracks.{Tracks}
 use Rattle.dr_plant.specs.State.{PlantState, after_read, can_read, passes_read}
 use Rattle.dr_record.specs.Writes.{Write, write, after_writes}
 use Rattle.dr_record.specs.Slots.{record_writes}
-use Rattle.dr_config.specs.Table.{Table}
-use Rattle.dr_model.specs.Contents.{zeros}
+use Rattle.dr_config.specs.Table.{ConfigTable}
 use Rattle.dr_model.specs.Layout as layout
 use Rattle.dr_model.specs.Layout.{chosen}
 use Rattle.dr_model.specs.Control.{World}
@@ -46,17 +46,17 @@ abbrev pub Covers : Tracks → Tracks → Carried → Type 0
 Covers old new c = (t : ℕ) → contains old t ≡ true → (contains new t || is_carried c t) ≡ true
 
 -- From s to t the volume has what it had.
-pub record IsAsBefore (s t : PlantState) (c : Table) (v : ℕ) : Type 0 where
+pub record IsAsBefore (s t : PlantState) (c : ConfigTable) (v : ℕ) : Type 0 where
   pub volume : volume_seen t c v ≡ volume_seen s c v
   pub tracks : track_seen t c v ≡ track_seen s c v
 
 -- From s to t the volume got these fields in its other slot, and this track.
-pub record IsMoved (s t : PlantState) (c : Table) (v : ℕ) (f : layout.Fields) (m : Carried) : Type 0 where
+pub record IsMoved (s t : PlantState) (c : ConfigTable) (v : ℕ) (f : layout.Fields) (m : Carried) : Type 0 where
   pub volume : volume_seen t c v ≡ moved (volume_seen s c v) f m
   pub tracks : track_seen t c v ≡ tracks_after f m (track_seen s c v)
 
 -- From s to t every volume but v has what it had.
-abbrev pub OthersStay : PlantState → PlantState → Table → ℕ → Type 0
+abbrev pub OthersStay : PlantState → PlantState → ConfigTable → ℕ → Type 0
 OthersStay s t c v = (u : ℕ) → u ≢ v → IsAsBefore s t c u
 
 -- A world, and whether an act was stopped, are those in which an act of the machine ended.
@@ -70,7 +70,7 @@ abbrev pub after_reading : PlantState → ℕ → World → Ended → Ended
 after_reading s server w e = if passes_read (s.read_fuse server) then e else ended (shut w server) true false
 
 -- a volume's staged track, with its bytes
-abbrev pub staged_seen : PlantState → Table → ℕ → Carried
+abbrev pub staged_seen : PlantState → ConfigTable → ℕ → Carried
 staged_seen s c v = track_with (volume_seen s c v).staged (chosen (s.block (device_of c v)) 5)
 
 -- From s to t the server is on or off as it was, with the same fuses.

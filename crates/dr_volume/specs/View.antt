@@ -1,13 +1,13 @@
 -- The state of the machine that a plant and its configuration show.
 use Rattle.std.specs.Prelude.{◌≡◌, ℕ, ◌+◌, ◌<◌, Bool, true, List, Option, Some, None, slice_get, nat_lt, unwrap_or, map, if◌then◌else◌}
+use Rattle.dr_logic.specs.Bytes.{zeros}
 use Rattle.dr_plant.specs.State.{PlantState}
 use Rattle.dr_plant.specs.declared.plant.WriteFuse.{WriteFuse}
 use Rattle.dr_plant.specs.declared.plant.Torn.{Torn}
 use Rattle.dr_plant.specs.declared.plant.Torn.TheVariants.{Untouched, Bytes}
-use Rattle.dr_config.specs.Table.{Table, place_of, link_up}
+use Rattle.dr_config.specs.Table.{ConfigTable, place_of, link_up}
 use Rattle.dr_config.specs.declared.entries.VolumeEntry.{VolumeEntry}
 use Rattle.dr_model.specs.declared.event.Event.{Event}
-use Rattle.dr_model.specs.Contents.{zeros}
 use Rattle.dr_model.specs.Sessions.{Session}
 use Rattle.dr_model.specs.Layout.{Blocks, slot_chosen, fields, staged, physical, chosen}
 use Rattle.dr_model.specs.Control.{Control, Fuse, Pending, Volume, World, new_volume}
@@ -19,10 +19,12 @@ pub record Rest : Type 0 where
   pub sessions : List Session
   pub events : List Event
 
+-- what a write that is cut short leaves in its block: None for what stood there
 abbrev pub torn_seen : Torn → Option (List ℕ)
 torn_seen Untouched = None
 torn_seen (Bytes b) = Some b
 
+-- a fuse of the plant as the machine has it
 abbrev pub fuse_seen : Option WriteFuse → Option Fuse
 fuse_seen None = None
 fuse_seen (Some f) = Some (record { after = f.after; torn = torn_seen f.torn })
@@ -31,6 +33,7 @@ fuse_seen (Some f) = Some (record { after = f.after; torn = torn_seen f.torn })
 abbrev pub on_seen : PlantState → ℕ → Bool
 on_seen s server = if nat_lt server 8 then s.on server else true
 
+-- the fuses of the plant's servers; any other has none
 abbrev pub fuses_seen : PlantState → ℕ → Option Fuse
 fuses_seen s server = if nat_lt server 8 then fuse_seen (s.write_fuse server) else None
 
@@ -45,30 +48,35 @@ volume_on blocks (Some e) = record {
   staged = staged e.tracks blocks;
 }
 
+-- a track of the volume at a place, if one is there
 abbrev pub track_on : Blocks → Option VolumeEntry → ℕ → List ℕ
 track_on blocks None t = zeros
 track_on blocks (Some e) t = if nat_lt t e.tracks then physical e.tracks blocks t else zeros
 
 -- where a volume lies: its device's number and its entry
-abbrev pub volume_at : PlantState → Table → Option ℕ → Volume
+abbrev pub volume_at : PlantState → ConfigTable → Option ℕ → Volume
 volume_at s t None = new_volume 0 0
 volume_at s t (Some d) = volume_on (s.block d) (slice_get t.volumes d)
 
-abbrev pub track_at : PlantState → Table → Option ℕ → ℕ → List ℕ
+-- a track on a device, if there is one
+abbrev pub track_at : PlantState → ConfigTable → Option ℕ → ℕ → List ℕ
 track_at s t None k = zeros
 track_at s t (Some d) k = track_on (s.block d) (slice_get t.volumes d) k
 
-abbrev pub volume_seen : PlantState → Table → ℕ → Volume
+-- volume v as its device shows it
+abbrev pub volume_seen : PlantState → ConfigTable → ℕ → Volume
 volume_seen s t v = volume_at s t (place_of t v)
 
-abbrev pub track_seen : PlantState → Table → ℕ → ℕ → List ℕ
+-- track k of volume v as its device shows it
+abbrev pub track_seen : PlantState → ConfigTable → ℕ → ℕ → List ℕ
 track_seen s t v k = track_at s t (place_of t v) k
 
+-- the volumes, in order of definition
 abbrev pub ids_of : List VolumeEntry → List ℕ
 ids_of es = map (λ (e : VolumeEntry). e.id) es
 
 -- the machine's state
-abbrev pub control_seen : PlantState → Table → Rest → Control
+abbrev pub control_seen : PlantState → ConfigTable → Rest → Control
 control_seen s t r = record {
   servers = t.names;
   on = on_seen s;
@@ -82,11 +90,12 @@ control_seen s t r = record {
   sessions = r.sessions;
 }
 
-abbrev pub world : PlantState → Table → Rest → World
+-- the world that plant, configuration and the rest of a run show
+abbrev pub world : PlantState → ConfigTable → Rest → World
 world s t r = record { control = control_seen s t r; contents = track_seen s t; events = r.events }
 
 -- the number of a volume's device, 0 where it isn't defined
-abbrev pub device_of : Table → ℕ → ℕ
+abbrev pub device_of : ConfigTable → ℕ → ℕ
 device_of t v = unwrap_or (place_of t v) 0
 
 -- a device's staged bytes stand at their track's own place too
@@ -95,7 +104,7 @@ TracksSettled blocks None = Unit {0}
 TracksSettled blocks (Some t) = blocks (13 + t) ≡ chosen blocks 5
 
 -- Where a volume's server is on, its staged track stands at its own place, so that the next move may stage another.
-abbrev pub IsSettled : PlantState → Table → ℕ → Type 0
+abbrev pub IsSettled : PlantState → ConfigTable → ℕ → Type 0
 IsSettled s t v = s.on (volume_seen s t v).server ≡ true → TracksSettled (s.block (device_of t v)) (volume_seen s t v).staged
 
 -- no read fuse is armed

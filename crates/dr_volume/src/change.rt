@@ -1,7 +1,7 @@
 //! Changing a volume: one move writes its record and a track, done or not done as a whole.
 
 ghost use Rattle.std.specs.Prelude.{◌≡◌, ◌≢◌, ℕ, ◌<◌, not, false, None, IsSome, IfSome, OnOk, OnErr, is_err, ◌⊎◌};
-ghost use Rattle.dr_plant.specs.State.{risen};
+ghost use Rattle.dr_logic.specs.Counts.{risen};
 ghost use Rattle.dr_config.specs.Table.{StandsFor, place_of};
 ghost use Rattle.dr_model.specs.Carry as machine;
 ghost use Rattle.dr_model.specs.Lawful.{IsLawful};
@@ -10,17 +10,18 @@ ghost use Rattle.dr_volume.specs.View.{Rest, world, volume_seen, device_of, IsSe
 ghost use Rattle.dr_volume.specs.Update.{staging, track_with, track_writes, update_writes, read_and_write, staged_seen, Covers, IsAsBefore, IsMoved, OthersStay, EndsAs, after_reading, ServerStays};
 
 use crate::fields::Fields;
-use crate::opened::{open, write_track};
-use crate::place::find;
+use crate::opened::{rewrite, with_staged, write_track};
+use crate::place::{device_of, find};
 use crate::volume::load;
 use dr_config::Config;
 use dr_ids::VolumeId;
 use dr_plant::{Block, Plant, Stopped};
+use dr_record::read_choice;
 
 /// Gives a volume other fields and, where one is given, a track with its bytes: one move, done or
-/// not done as a whole. What the next fields say of a staged track is not looked at. The record is
-/// written in six blocks to the slot that the device doesn't choose, then the gate, then the track
-/// in its own block. Fails where the volume's server is off or stops within the move; then the
+/// not done as a whole. What the next fields say of a staged track is not looked at. The gate alone is
+/// read; then the record is written in six blocks to the slot that the device doesn't choose, then the
+/// gate, then the track in its own block. Fails where the volume's server is off or stops within the move; then the
 /// server is off, and the move counts as done where the device chooses the new fields.
 pub fn update<P: Plant>(
     p: &mut P,
@@ -49,8 +50,9 @@ pub fn update<P: Plant>(
     ensures fault { OnErr result ((P.state p.new).faults ≡ risen (P.state p.old).faults) }
     ensures no_fault { OnOk result ((P.state p.new).faults ≡ (P.state p.old).faults) }
 {
-    let mut opened = open(p, c, v)?;
-    opened.change(p, c, v, next, staged)
+    let device = device_of(c, v);
+    let slot = read_choice(p, device)?;
+    rewrite(p, device, slot, &with_staged(next, staged), staged)
 }
 
 /// Writes a volume's staged track, where one is staged, to its own place, so that the next move may

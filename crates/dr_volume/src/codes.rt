@@ -1,8 +1,8 @@
 //! How parts, states, numbers and pairs of sets are written in bytes, and read from them.
 
-ghost use Rattle.std.specs.Prelude.{◌≡◌, ◌<◌, ◌≤◌, ◌+◌, ◌++◌, take, drop};
+ghost use Rattle.std.specs.Prelude.{◌≡◌, ◌<◌, ◌≤◌, ◌+◌, ◌++◌, ◌&&◌, take, drop};
+ghost use Rattle.dr_logic.specs.Bytes.{zeros};
 ghost use Rattle.dr_bits.specs.Tracks.{bytes_of, of_bytes};
-ghost use Rattle.dr_model.specs.Contents.{zeros};
 ghost use Rattle.dr_model.specs.Layout as layout;
 ghost use Rattle.dr_volume.specs.Codes as codes;
 
@@ -104,8 +104,23 @@ pub fn second_set(block: &Block) -> TrackSet
     TrackSet::from_bytes(&bytes)
 }
 
+/// What is there, or zero.
+pub fn only_if<T: Copy>(there: bool, x: T, zero: T) -> T
+    ensures { result ≡ layout.only_if there x zero }
+{
+    if there { x } else { zero }
+}
+
+/// Bit `k` of a byte of flags, where what they belong to is there.
+pub fn flag_if(there: bool, byte: u8, k: u8) -> bool
+    requires { k < 8 }
+    ensures { result ≡ (there && layout.bit byte k) }
+{
+    there && bit(byte, k)
+}
+
 /// A block of zeros.
-#[tactic(auto, unfolding(dr_model::specs::Contents::zeros))]
+#[tactic(auto, unfolding(dr_logic::specs::Bytes::zeros))]
 pub fn zero_block() -> Block
     ensures { result ≡ zeros }
 {

@@ -7,6 +7,7 @@ use crate::codes::{
     bit, code_of_part, code_of_state, first_set, four_bytes, part_of, second_set, state_of,
     two_bytes, two_sets, zero_block,
 };
+use crate::decode::staged_in;
 use crate::fields::Fields;
 use dr_bits::{TrackSet, byte_at};
 use dr_ids::{VolumeId, be16, be32};
@@ -170,16 +171,6 @@ fn head(f: &Fields) -> Block
     head[28..32].copy_from_slice(&four_bytes(f.previous_sequence));
     head[32..36].copy_from_slice(&four_bytes(f.floor));
     head
-}
-
-fn staged_in(head: &Block) -> Option<u16>
-    ensures { result ≡ lies.staged_in head.now }
-{
-    if head[7] == 1 {
-        Some(be16(head, 14))
-    } else {
-        None
-    }
 }
 
 #[tactic(auto, unfolding(crate::specs::Record::with_head))]

@@ -1,12 +1,24 @@
 //! The control record of a volume: its fields, and how they lie on the volume's device.
+//!
+//! `update` writes the record, byte for byte as the format says, into the slot that isn't chosen, then the gate, then
+//! the track, until a write is stopped (`written`), and that is one move of the machine (`exact`): also where the
+//! server's read fuse takes the read before it. So it is done wholly or not at all (`done`, `old_or_new`), and touches
+//! no other volume (`others`) and no other server (`servers`). `open` reads a volume for the moves that follow
+//! (`opened`), and `change` is the move on what was read, its device writes alone (`written`, `exact`); what it leaves
+//! is open for the next (`opened`, `others_opened`). `redo` writes a staged track to its own place (`written`, `exact`)
+//! and changes nothing that is read (`same`). `load`, `peek_fields` and `from_blocks` give the fields of the layout
+//! (`shows`, `fields`), and they are lawful (`lawful`); `peek_head` and `peek_head_at` give their head, which is all but
+//! the sets of tracks; `slot` gives the chosen slot, `read_track` the track's bytes (`bytes`); where it fails, what they
+//! were to go into is as before (`same`).
 #![tactic(auto)]
 
 mod blocks;
 mod change;
 mod codes;
+mod decode;
 mod fields;
 mod form;
-mod normal;
+mod head;
 mod opened;
 mod place;
 mod volume;
@@ -15,5 +27,6 @@ pub use blocks::from_blocks;
 pub use change::{redo, update};
 pub use dr_model::{PairState, Part};
 pub use fields::{Fields, is_held};
+pub use head::{Head, peek_head, peek_head_at};
 pub use opened::{Opened, open};
 pub use volume::{load, peek_fields, read_track, slot};

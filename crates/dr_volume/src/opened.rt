@@ -2,37 +2,39 @@
 //! is made by what was read.
 
 ghost use Rattle.std.specs.Prelude.{◌≡◌, ◌≢◌, ℕ, ◌<◌, ◌+◌, not, true, false, None, IsSome, IfSome, IfOk, OnOk, OnErr, is_ok, is_err, ◌⊎◌, if◌then◌else◌};
-ghost use Rattle.dr_plant.specs.State.{after_read, can_read, risen};
+ghost use Rattle.dr_logic.specs.Counts.{risen};
+ghost use Rattle.dr_plant.specs.State.{after_read, can_read};
 ghost use Rattle.dr_record.specs.Writes.{IsDevice, after_writes};
-ghost use Rattle.dr_record.specs.Slots.{slot_of, Chooses};
+ghost use Rattle.dr_record.specs.Slots.{slot_of};
 ghost use Rattle.dr_config.specs.Table.{StandsFor, place_of};
 ghost use Rattle.dr_model.specs.Carry as machine;
 ghost use Rattle.dr_model.specs.Lawful.{IsLawful};
 ghost use Rattle.dr_model.specs.Layout as layout;
 ghost use Rattle.dr_volume.specs.Plain.{plain};
-ghost use Rattle.dr_volume.specs.Record.{with_block, no_record};
 ghost use Rattle.dr_volume.specs.View.{Rest, world, volume_seen, track_seen, device_of, IsSettled};
 ghost use Rattle.dr_volume.specs.Volume.{LiesOn};
 ghost use Rattle.dr_volume.specs.Update.{staging, track_writes, update_writes, Covers, IsAsBefore, IsMoved, OthersStay, EndsAs, ServerStays};
 ghost use Rattle.dr_volume.specs.Opened.{IsOpened, OthersOpened, in_own_block};
 
 use crate::codes::zero_block;
+use crate::decode::fields_on;
 use crate::fields::Fields;
-use crate::place::{FIRST_TRACK, find};
+use crate::place::{FIRST_TRACK, find, tell_sound};
 use dr_config::Config;
 use dr_ids::VolumeId;
 use dr_plant::{Block, DeviceId, Plant, Stopped};
-use dr_record::Cell;
+use dr_record::{put, read_choice};
 
-/// A volume as it was read for a move: its record as it lies on the device, and its fields.
+/// A volume as it was read for a move: its device, the slot that it chooses, and its fields.
 #[derive(Drop)]
 pub struct Opened {
-    cell: Cell<Fields>,
+    device: DeviceId,
+    slot: bool,
     fields: Fields,
 }
 
-/// Reads the record of a volume, for a move that follows. Fails where the plant can't read its
-/// device.
+/// Reads the record of a volume, for a move that follows: its gate by a read, and the rest by looks. Fails where the
+/// plant can't read its device.
 pub fn open<P: Plant>(p: &mut P, c: &Config, v: VolumeId) -> Result<Opened, Stopped>
     requires defined { IsSome (place_of c.now v.0) }
     requires stands { StandsFor c.now (P.state p.old) }
@@ -43,9 +45,13 @@ pub fn open<P: Plant>(p: &mut P, c: &Config, v: VolumeId) -> Result<Opened, Stop
     ensures lies { LiesOn c.now v.0 (device_of c.now v.0) (volume_seen (P.state p.old) c.now v.0).tracks }
 {
     let place = find(c, v);
-    let cell: Cell<Fields> = Cell::load(p, place.device)?;
-    let fields = cell.get().normal(place.tracks);
-    Ok(Opened { cell, fields })
+    let slot = read_choice(p, place.device)?;
+    let fields = fields_on(p, place);
+    Ok(Opened {
+        device: place.device,
+        slot,
+        fields,
+    })
 }
 
 impl Opened {
@@ -76,6 +82,7 @@ impl Opened {
         ensures bytes { OnOk result (into.new ≡ track_seen (P.state p.old) c.now v.0 t) }
         ensures same { OnErr result (into.new ≡ into.old) }
     {
+        tell_sound(c);
         if is_staged(self.fields.staged, t) {
             *into = self.fields.staged_bytes;
             return Ok(());
@@ -84,7 +91,7 @@ impl Opened {
             *into = zero_block();
             return Ok(());
         }
-        p.read(find(c, v).device, FIRST_TRACK + t, into)
+        p.read(self.device, FIRST_TRACK + t, into)
     }
 
     /// Gives the volume other fields and, where one is given, a track with its bytes: the move of
@@ -122,13 +129,15 @@ impl Opened {
         ensures fault { OnErr result ((P.state p.new).faults ≡ risen (P.state p.old).faults) }
         ensures no_fault { OnOk result ((P.state p.new).faults ≡ (P.state p.old).faults) }
     {
+        tell_sound(c);
+        let slot = self.slot;
         self.fields = with_staged(next, staged);
-        let device = find(c, v).device;
-        rewrite(p, &mut self.cell, device, &self.fields, staged)
+        self.slot = !slot;
+        rewrite(p, self.device, slot, &self.fields, staged)
     }
 }
 
-fn is_staged(staged: Option<u16>, t: u16) -> bool
+pub(crate) fn is_staged(staged: Option<u16>, t: u16) -> bool
     ensures { result ≡ layout.is_staged staged t }
 {
     match staged {
@@ -138,7 +147,7 @@ fn is_staged(staged: Option<u16>, t: u16) -> bool
 }
 
 // The fields with the carried track staged in place of what they stage.
-fn with_staged(next: &Fields, carried: Option<(u16, Block)>) -> Fields
+pub(crate) fn with_staged(next: &Fields, carried: Option<(u16, Block)>) -> Fields
     ensures { result ≡ staging carried next.now }
 {
     match &carried {
@@ -158,22 +167,20 @@ fn with_staged(next: &Fields, carried: Option<(u16, Block)>) -> Fields
     }
 }
 
-// Writes the next fields over those that the device doesn't choose, then the gate, then the track.
-fn rewrite<P: Plant>(
+// Writes the next fields to the slot that isn't `slot`, which the device chooses, then the gate, then the track.
+pub(crate) fn rewrite<P: Plant>(
     p: &mut P,
-    cell: &mut Cell<Fields>,
     device: DeviceId,
+    slot: bool,
     next: &Fields,
     carried: Option<(u16, Block)>,
 ) -> Result<(), Stopped>
     requires device { IsDevice (P.state p.old) device.0 13 }
-    requires cell { cell.old.dev.0 ≡ device.0 }
-    requires chosen { Chooses with_block 6 no_record (P.state p.old) device.0 cell.old.slot cell.old.value }
+    requires chosen { slot_of (P.state p.old) device.0 ≡ slot }
     requires track { IfSome carried (λ t. (t.0 < 256) × (13 + t.0 < (P.state p.old).size device.0)) }
-    ensures written { after_writes (P.state p.old) device.0 (update_writes (not (slot_of (P.state p.old) device.0)) next.now carried) ≡ (P.state p.new, is_err result) }
-    ensures cell { OnOk result (cell.new ≡ record cell.old { slot = not cell.old.slot; value = next.now }) }
+    ensures { after_writes (P.state p.old) device.0 (update_writes (not (slot_of (P.state p.old) device.0)) next.now carried) ≡ (P.state p.new, is_err result) }
 {
-    cell.put(p, next)?;
+    put(p, device, slot, next)?;
     write_track(p, device, carried)
 }
 

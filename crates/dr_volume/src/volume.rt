@@ -6,14 +6,16 @@ ghost use Rattle.dr_config.specs.Table.{StandsFor, place_of};
 ghost use Rattle.dr_volume.specs.View.{volume_seen, track_seen, device_of};
 ghost use Rattle.dr_volume.specs.Volume.{Shows};
 
-use crate::blocks::slot_begin;
+use crate::blocks::begin_of;
+use crate::codes::{first_set, zero_block};
+use crate::decode::{fields_on, staged_in};
 use crate::fields::Fields;
-use crate::opened::open;
-use crate::place::find;
+use crate::opened::{is_staged, open};
+use crate::place::{FIRST_TRACK, device_of, find};
 use dr_config::Config;
 use dr_ids::VolumeId;
 use dr_plant::{Block, Plant, Stopped};
-use dr_record::{Cell, Form};
+use dr_record::{peek_choice, read_choice};
 
 /// Reads the fields of a volume. Fails where the plant can't read its device.
 pub fn load<P: Plant>(p: &mut P, c: &Config, v: VolumeId) -> Result<Fields, Stopped>
@@ -33,8 +35,7 @@ pub fn slot<P: Plant>(p: &P, c: &Config, v: VolumeId) -> bool
     requires stands { StandsFor c.now (P.state p.now) }
     ensures { result ≡ (volume_seen (P.state p.now) c.now v.0).slot }
 {
-    let place = find(c, v);
-    Cell::<Fields>::slot(p, place.device)
+    peek_choice(p, device_of(c, v))
 }
 
 /// The fields of a volume, whether or not its server is on.
@@ -43,17 +44,12 @@ pub fn peek_fields<P: Plant>(p: &P, c: &Config, v: VolumeId) -> Fields
     requires stands { StandsFor c.now (P.state p.now) }
     ensures { Shows (P.state p.now) c.now v.0 result }
 {
-    let place = find(c, v);
-    let begin = slot_begin(&p.peek(place.device, 0));
-    let mut raw = Fields::blank();
-    for i in 0..Fields::BLOCKS {
-        raw.take_block(i, &p.peek(place.device, begin + i));
-    }
-    raw.normal(place.tracks)
+    fields_on(p, find(c, v))
 }
 
 /// Reads a track of a volume: the bytes that are staged for it, zeros where it is blank, or else
-/// what stands in its own block. Fails where the plant can't read the device; then `into` is as before.
+/// what stands in its own block. Besides that block the gate, the head, the staged bytes and the blank set's block alone are
+/// looked at. Fails where the plant can't read the device; then `into` is as before.
 pub fn read_track<P: Plant>(
     p: &mut P,
     c: &Config,
@@ -69,6 +65,15 @@ pub fn read_track<P: Plant>(
     ensures bytes { OnOk result (into.new ≡ track_seen (P.state p.old) c.now v.0 t) }
     ensures same { OnErr result (into.new ≡ into.old) }
 {
-    let opened = open(p, c, v)?;
-    opened.read_track(p, c, v, t, into)
+    let device = device_of(c, v);
+    let begin = begin_of(read_choice(p, device)?);
+    if is_staged(staged_in(&p.peek(device, begin)), t) {
+        *into = p.peek(device, begin + 5);
+        return Ok(());
+    }
+    if first_set(&p.peek(device, begin + 4)).contains(t) {
+        *into = zero_block();
+        return Ok(());
+    }
+    p.read(device, FIRST_TRACK + t, into)
 }

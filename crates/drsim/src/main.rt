@@ -1,4 +1,7 @@
 //! The program: it hands its words, standard input, an empty plant and standard output to the top call.
+//!
+//! `main` collects the words, sets up an empty `ModelPlant`, an empty journal and the two standard streams, makes the
+//! top call and ends with its status. It has no clause of its own.
 #![tactic(auto)]
 
 use dr_io::{StdSink, StdSource};

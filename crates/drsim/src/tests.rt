@@ -1,8 +1,17 @@
-use dr_io::{MemSink, MemSource};
+ghost use Rattle.std.specs.Prelude.{◌<◌};
+
+use dr_gen::script as trial_script;
+use dr_ids::{Text, VolumeId};
+use dr_image::{Image, ImageFault, ImageReader, ImageVolume, read_image, write_image};
+use dr_io::{MemSink, MemSource, Sink, StdSink};
 use dr_model::{Event, Journal, image_of};
 use dr_plant::ModelPlant;
+use dr_script::{print_step, read_line};
 use dr_top::drsim;
 use std::alloc::{AllocError, Global};
+use std::cell::Cell;
+use std::io;
+use std::io::Write;
 use std::process::Abort;
 
 /// What a call left.
@@ -48,26 +57,7 @@ fn run(alloc: Global, words: &str, script: Vec<u8>) -> Result<Left, AllocError> 
     call(alloc, words, source, sink)
 }
 
-const FIRST: &str = "@server A\n@volume 1000 A 2\n@write 1000 0 0 41\n@show 1000 0\n";
-
-/// A source that is cut into pieces of any size gives the same output.
-#[test]
-fn pieces(rt: HostRuntime) -> Result<(), AllocError> {
-    let alloc = rt.alloc();
-    let printed = b"1 ok\n2 ok\n3 ok w1\n4 ok 41\n";
-    for piece in [1, 7, 4096] {
-        let script = Vec::from_slice(alloc, FIRST.as_bytes())?;
-        let source = MemSource::new(script, piece, Vec::new(alloc));
-        let sink = MemSink::new(alloc, 4096, Vec::new(alloc), Vec::new(alloc))?;
-        let left = call(alloc, "run", source, sink)?;
-        assert!(rt;
-            left.sink.bytes() == printed.as_slice(),
-            "in pieces of {piece}"
-        );
-        assert_eq!(rt; left.status, 0, "in pieces of {piece}");
-    }
-    Ok(())
-}
+const FIRST: &str = "@server A\r\n@volume 1000 A 2\n@write 1000 0 0 41\n@show 1000 0\n";
 
 #[test]
 fn other_words(rt: HostRuntime) -> Result<(), AllocError> {
@@ -132,55 +122,60 @@ fn faulty(
 }
 
 #[test]
-fn read_faults(rt: HostRuntime) -> Result<(), AllocError> {
-    let alloc = rt.alloc();
-    let read = |call| Faults {
-        read: call,
-        ..SOUND
-    };
-    faulty(&rt, alloc, "run", read(1), "", 3, 0)?;
-    faulty(&rt, alloc, "run", read(2), "1 ok\n", 3, 2)?;
-    faulty(&rt, alloc, "run", read(3), "1 ok\n", 3, 2)?;
-    faulty(&rt, alloc, "run", read(4), "1 ok\n2 ok\n", 3, 4)?;
-    Ok(())
-}
-
-#[test]
-fn write_faults(rt: HostRuntime) -> Result<(), AllocError> {
-    let alloc = rt.alloc();
-    let fail = |call| Faults {
-        fail: call,
-        ..SOUND
-    };
+fn reads_and_writes_that_fail(rt: HostRuntime) -> Result<(), AllocError> {
     let narrow = Faults { room: 3, ..SOUND };
-    faulty(&rt, alloc, "run", fail(1), "", 4, 2)?;
-    faulty(&rt, alloc, "run", fail(2), "1 ok\n", 4, 4)?;
-    faulty(&rt, alloc, "run", Faults { stuck: 1, ..SOUND }, "", 4, 2)?;
-    faulty(&rt, alloc, "run", narrow, "1 o", 4, 2)?;
-    faulty(&rt, alloc, "run", Faults { read: 2, ..fail(1) }, "", 4, 2)?;
-    faulty(&rt, alloc, "help", fail(1), "", 4, 0)?;
-    faulty(&rt, alloc, "help", narrow, "usa", 4, 0)?;
+    let stuck = Faults { stuck: 1, ..SOUND };
+    let both = Faults {
+        read: 2,
+        fail: 1,
+        ..SOUND
+    };
+    let cases = [
+        ("run", Faults { read: 1, ..SOUND }, "", 3, 0),
+        ("run", Faults { read: 2, ..SOUND }, "1 ok\n", 3, 2),
+        ("run", Faults { read: 3, ..SOUND }, "1 ok\n", 3, 2),
+        ("run", Faults { read: 4, ..SOUND }, "1 ok\n2 ok\n", 3, 4),
+        ("run", Faults { fail: 1, ..SOUND }, "", 4, 2),
+        ("run", Faults { fail: 2, ..SOUND }, "1 ok\n", 4, 4),
+        ("run", stuck, "", 4, 2),
+        ("run", narrow, "1 o", 4, 2),
+        ("run", both, "", 4, 2),
+        ("help", Faults { fail: 1, ..SOUND }, "", 4, 0),
+        ("help", narrow, "usa", 4, 0),
+    ];
+    for (words, faults, printed, status, events) in cases {
+        faulty(&rt, rt.alloc(), words, faults, printed, status, events)?;
+    }
     Ok(())
 }
 
-/// So many times one byte, and behind them a last line.
+/// Scripts of so many times one byte, and behind them last lines, which the source gives in pieces of so many bytes.
 #[test]
-fn limits(rt: HostRuntime) -> Result<(), AllocError> {
+fn scripts_in_pieces(rt: HostRuntime) -> Result<(), AllocError> {
+    let alloc = rt.alloc();
+    let printed = "2 ok\n3 ok\n4 ok w1\n5 ok 41\n";
     let cases = [
-        (b'\n', 99_999, "@server A", "100000 ok\n", 0),
-        (b'\n', 100_000, "", "", 0),
-        (b'\n', 100_001, "", "", 6),
-        (b'\n', 100_000, "@server A", "", 6),
-        (b' ', 1_024, "", "", 0),
-        (b' ', 1_025, "", "1 E01 syntax 1025\n", 1),
+        (b'\n', 1, FIRST, 1, printed, 0),
+        (b'\n', 1, FIRST, 7, printed, 0),
+        (b'\n', 1, FIRST, 4096, printed, 0),
+        (b'\n', 99_999, "@server A", 4096, "100000 ok\n", 0),
+        (b'\n', 100_000, "", 4096, "", 0),
+        (b'\n', 100_001, "", 4096, "", 6),
+        (b'\n', 100_000, "@server A", 4096, "", 6),
+        (b' ', 1_024, "", 7, "", 0),
+        (b' ', 1_024, "\r\n", 1, "", 0),
+        (b' ', 1_024, "\r", 1, "1 E01 syntax 1025\n", 1),
+        (b' ', 1_025, "", 7, "1 E01 syntax 1025\n", 1),
     ];
-    for (byte, count, last, printed, status) in cases {
-        let mut script = vec![in rt.alloc(); byte; count]?;
+    for (byte, count, last, piece, printed, status) in cases {
+        let mut script = vec![in alloc; byte; count]?;
         script.extend_from_slice(last.as_bytes())?;
-        let left = run(rt.alloc(), "run", script)?;
+        let source = MemSource::new(script, piece, Vec::new(alloc));
+        let sink = MemSink::new(alloc, 4096, Vec::new(alloc), Vec::new(alloc))?;
+        let left = call(alloc, "run", source, sink)?;
         assert!(rt;
             left.sink.bytes() == printed.as_bytes(),
-            "printed of {count} times {byte}"
+            "printed of {count} times {byte} in pieces of {piece}"
         );
         assert_eq!(rt; left.status, status, "status of {count} times {byte}");
     }
@@ -206,5 +201,168 @@ fn journals(rt: HostRuntime) -> Result<(), AllocError> {
     assert_eq!(rt; journal.len(), 1);
     assert!(rt; matches!(journal.event(0), Some(Event::Ack { w: 7 })));
     assert!(rt; journal.event(1).is_none());
+    Ok(())
+}
+
+/// A writer that counts its flushes, which may fail.
+#[derive(Drop)]
+struct Flushed<'a> {
+    bytes: Vec<u8>,
+    flushes: &'a Cell<u32>,
+    fails: bool,
+}
+
+impl<'a> io::Write for Flushed<'a> {
+    fn write(&mut self, buf: &[u8]) -> io::Result<usize> {
+        self.bytes.write(buf)
+    }
+
+    fn flush(&mut self) -> io::Result<()> {
+        self.flushes.set(self.flushes.get().saturating_add(1));
+        if self.fails {
+            return Err(io::Error::from(AllocError));
+        }
+        Ok(())
+    }
+}
+
+/// Each piece is flushed, which no contract can say.
+#[test]
+fn flushes(rt: HostRuntime) {
+    for (fails, wanted) in [(false, Some(2)), (true, None)] {
+        let flushes = Cell::new(0);
+        let bytes = Vec::new(rt.alloc());
+        let mut sink = StdSink::new(Flushed {
+            bytes,
+            flushes: &flushes,
+            fails,
+        });
+        for count in [1, 2] {
+            let taken = sink.put(&[7, 8]).ok();
+            assert_eq!(rt; taken, wanted);
+            assert_eq!(rt; flushes.get(), count);
+        }
+    }
+}
+
+/// Lines, and what is printed of their first steps.
+#[test]
+fn printed_steps(rt: HostRuntime) -> Result<(), AllocError> {
+    let lines = [
+        (
+            b"mkpprc -mode nocp -type gcp 1000:200a 1001:200b".as_slice(),
+            b"mkpprc -type gcp -mode nocp 1000:200A".as_slice(),
+        ),
+        (
+            b"chsession -volume 1000 -action add -lss 10 01",
+            b"chsession -lss 10 -action add -volume 1000 01",
+        ),
+        (
+            b"mkpprcpath -tgtlss 20 -srclss 10 I0010:I0140",
+            b"mkpprcpath -srclss 10 -tgtlss 20 I0000:I0000",
+        ),
+    ];
+    for (line, wanted) in lines {
+        let Ok(read) = read_line(rt.alloc(), line) else {
+            assert!(rt; false);
+            continue;
+        };
+        let Some(step) = read.step(0) else {
+            assert!(rt; false);
+            continue;
+        };
+        assert!(rt; print_step(rt.alloc(), step)?.bytes() == wanted);
+    }
+    Ok(())
+}
+
+/// Some lines of trials, and how long their scripts are: the lengths are those of another program's scripts.
+#[test]
+fn trials(rt: HostRuntime) -> Result<(), AllocError> {
+    for (trial, length) in [(0, 44698), (4294967295, 45083)] {
+        assert_eq!(rt; trial_script(rt.alloc(), trial)?.bytes().len(), length);
+    }
+    let text = trial_script(rt.alloc(), 0)?;
+    let lines = [
+        (1, b"@server A1".as_slice()),
+        (26, b"@write 1000 0 57 52"),
+        (27, b"@write 1100 1 61 F0"),
+    ];
+    for (number, line) in lines {
+        assert!(rt; text.bytes().split(|b| *b == b'\n').nth(number - 1) == Some(line));
+    }
+    Ok(())
+}
+
+/// 0 where the text reads as an image whose text it is, else the first bad line.
+fn bad_line(alloc: Global, text: &[u8], size: usize) -> Result<u32, AllocError>
+    requires { 0 < size }
+{
+    let mut reader = ImageReader::new(alloc);
+    for piece in text.chunks(size) {
+        reader.feed(piece)?;
+    }
+    match reader.finish() {
+        Ok(image) => {
+            let written = write_image(alloc, &image)?;
+            Ok(if written.bytes() == text { 0 } else { u32::MAX })
+        }
+        Err(ImageFault::NoMemory) => Err(AllocError),
+        Err(ImageFault::BadImage { line }) => Ok(line),
+    }
+}
+
+/// The text of an image of one volume, made block by block, the last one twice.
+fn image_text(alloc: Global, first: &mut [u8; 64]) -> Result<Text, AllocError> {
+    let mut image = Image::new(alloc);
+    image.push_volume(ImageVolume {
+        volume: VolumeId(0x10AB),
+        server: 3,
+        tracks: 4,
+    })?;
+    for (index, byte) in [(0, 1), (13, 0x41), (13, 0x43)] {
+        first[0] = byte;
+        if !image.is_empty() {
+            image.push_block(index, first)?;
+        }
+    }
+    write_image(alloc, &image)
+}
+
+/// Texts of images with their first bad line, 0 where there is none.
+#[test]
+fn images(rt: HostRuntime) -> Result<(), AllocError> {
+    let texts = [
+        (
+            b"image 1\nvolume 2000 0 1\nvolume 3000 0 1\nblock 2000 13 41\n\
+            block 3000 1 00000000009F01000000000020000000000000000000000000000001\nend\n"
+                .as_slice(),
+            0,
+        ),
+        (b"image 1\nend\n", 0),
+        (b"", 1),
+        (b"image 1\nend", 2),
+        (b"image 1\r\nend\n", 1),
+        (b"image 1\nvolume 10aB 0 1\nend\n", 2),
+        (b"image 1\nvolume 1000 0 257\nend\n", 2),
+        (b"image 1\nvolume 1000 0 1\nblock 1000 14 41\nend\n", 3),
+        (
+            b"image 1\nvolume 3000 0 1\nblock 3000 1 00000000000100000000000030\nend\n",
+            2,
+        ),
+    ];
+    let written = image_text(rt.alloc(), &mut [0; 64])?;
+    let text = b"image 1\nvolume 10AB 3 4\nblock 10AB 0 01\nblock 10AB 13 43\nend\n";
+    assert!(rt; written.bytes() == text.as_slice());
+    assert!(rt; matches!(read_image(rt.alloc(), text), Ok(image) if image.len() == 1));
+    for (text, line) in texts {
+        for size in [1, 7, 4096] {
+            assert_eq!(rt;
+                bad_line(rt.alloc(), text, size)?,
+                line,
+                "in pieces of {size}"
+            );
+        }
+    }
     Ok(())
 }

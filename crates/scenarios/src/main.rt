@@ -1,5 +1,8 @@
 //! Runs a folder of scenarios: each script through the top call, in memory, with what it prints and how it ends compared
 //! with what is stored beside it.
+//!
+//! `main` reads the folder, makes the top call on each script over a plant and streams in memory, and prints what
+//! `dr_verdict` says. No function of it has a clause.
 #![tactic(auto)]
 
 mod folder;

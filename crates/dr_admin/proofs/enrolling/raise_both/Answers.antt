@@ -1,12 +1,12 @@
 use Rattle.std.proofs.Common.{[], ◌∷◌, subst}
+use Rattle.dr_logic.specs.Counts.{Counted}
 use Rattle.dr_model.specs.SessionEntries.{raise_floor_on}
 use Rattle.dr_volume.specs.View.{volume_seen}
 use Rattle.dr_flash.specs.Checks.{is_stop}
-use Rattle.dr_flash.specs.Faults.{Counted}
-use Rattle.dr_flash.specs.Here.{seen, armed_in, refusal_of}
+use Rattle.dr_flash.specs.Here.{world_seen, armed_in, refusal_of}
 use Rattle.dr_flash.proofs.CheckLemmas.{counted-stop}
 use Rattle.dr_flash.proofs.CopyLemmas.{wider-armed}
-use Rattle.dr_flash.proofs.EndsLemmas.{ends-wider}
+use Rattle.dr_facts.proofs.Ends.{ends-wider}
 use Rattle.dr_gcopy.proofs.TwoMoves.{still-running}
 use Rattle.dr_admin.proofs.PairLemmas.{stops-by}
 use Rattle.dr_admin.proofs.enrolling.raise_both.Goals as goal
@@ -20,10 +20,10 @@ returns-in-Ok-clause-carried g c r =
     let s = g.P.Plant.state c.args.p.now in
     let u = g.P.Plant.state c.raise_attempt.new.p in
     let t = c.args.c.now in
-    let last = seen (g.P.Plant.state c.raise_floor.new.p) t r c.raise_floor.new.j.events in
+    let last = world_seen (g.P.Plant.state c.raise_floor.new.p) t r c.raise_floor.new.j.events in
     let ds = raise_floor_on c.args.m.now.c.0 c.args.n ∷ [] in
     c.in-Ok.ensures.advances r (armed_in s) last (refusal_of c.raise_floor.result) ds
-    (ends-wider (armed_in u) (armed_in s) (wider-armed s u c.in-Ok.ensures.unarmed) last (refusal_of c.raise_floor.result) (seen u t r c.raise_attempt.new.j.events) ds (c.raise_floor.ensures.carried r))
+    (ends-wider (armed_in u) (armed_in s) (wider-armed s u c.in-Ok.ensures.unarmed) last (refusal_of c.raise_floor.result) (world_seen u t r c.raise_attempt.new.j.events) ds (c.raise_floor.ensures.carried r))
 
 pub returns-in-Ok-clause-stops : goal.returns-in-Ok-clause-stops
 returns-in-Ok-clause-stops g c = stops-by c.raise_floor.result (volume_seen (g.P.Plant.state c.raise_attempt.new.p) c.args.c.now c.args.m.now.c.0).server c.raise_floor.ensures.refused

@@ -1,5 +1,5 @@
 use Rattle.std.proofs.Common.{◌≡◌, ◌∙◌, sym, true, false}
-use Rattle.dr_flash.specs.Here.{seen, armed_in}
+use Rattle.dr_flash.specs.Here.{world_seen, armed_in}
 use Rattle.dr_flash.proofs.CheckLemmas.{counted-stop}
 use Rattle.dr_admin.proofs.LiftLemmas.{comes-off, comes-lifted}
 use Rattle.dr_admin.proofs.lifting.lift.Goals as goal
@@ -15,7 +15,7 @@ returns-then-not-is_on-clause-stopped g c on = let e : false ≡ true = c.if-not
 pub returns-clause-plan : goal.returns-clause-plan
 returns-clause-plan g c r =
     let s = g.P.Plant.state c.args.p.now in
-    comes-lifted s c.args.c.now r c.args.j.now.events c.args.s.0 c.requires.known (armed_in s) (seen (g.P.Plant.state c.lift_all.new.p) c.args.c.now r c.lift_all.new.j.events) (sym c.if-not-is_on.ensures) c.lift_all.result (c.lift_all.ensures.carried r)
+    comes-lifted s c.args.c.now r c.args.j.now.events c.args.s.0 c.requires.known (armed_in s) (world_seen (g.P.Plant.state c.lift_all.new.p) c.args.c.now r c.lift_all.new.j.events) (sym c.if-not-is_on.ensures) c.lift_all.result (c.lift_all.ensures.carried r)
 
 pub returns-clause-refused : goal.returns-clause-refused
 returns-clause-refused g c off = let e : true ≡ false = c.if-not-is_on.ensures ∙ off in absurd cc

@@ -1,9 +1,9 @@
 use Rattle.std.proofs.Common.{arith, sym, ap, subst, ◌∙◌, ◌≤◌, length, Some, None}
+use Rattle.dr_logic.specs.Counts.{Counted, Rose}
 use Rattle.dr_model.specs.ReadStops.{Ends}
-use Rattle.dr_flash.specs.Faults.{Counted, Rose}
-use Rattle.dr_flash.specs.Here.{seen, armed_in}
+use Rattle.dr_flash.specs.Here.{world_seen, armed_in}
 use Rattle.dr_flash.proofs.CopyLemmas.{wider-armed}
-use Rattle.dr_flash.proofs.EndsLemmas.{ends-wider}
+use Rattle.dr_facts.proofs.Ends.{ends-wider}
 use Rattle.dr_flash.proofs.TurnLemmas.{refused-by}
 use Rattle.dr_admin.specs.Starting.{lift_from}
 use Rattle.dr_admin.proofs.LiftLemmas.{lifted-all}
@@ -29,9 +29,9 @@ returns-in_err-lift_at-clause-carried g c r =
     let s0 = g.P.Plant.state c.args.p.now in
     let s = g.P.Plant.state c.loop-place.p in
     let t = c.args.c.now in
-    let u = seen (g.P.Plant.state c.lift_at.new.p) t r c.lift_at.new.j.events in
+    let u = world_seen (g.P.Plant.state c.lift_at.new.p) t r c.lift_at.new.j.events in
     let e = c.in_err-lift_at.field-0.0 in
-    subst (λ q. Ends (armed_in s0) u q (seen s0 t r c.args.j.now.events) (lift_from t c.args.s.0 0)) (sym (refused-by c.from_residual.result e c.from_residual.ensures.0 c.from_residual.ensures.1))
+    subst (λ q. Ends (armed_in s0) u q (world_seen s0 t r c.args.j.now.events) (lift_from t c.args.s.0 0)) (sym (refused-by c.from_residual.result e c.from_residual.ensures.0 c.from_residual.ensures.1))
     (c.loop-place.invariant.left r u (Some e)
     (ends-wider (armed_in s) (armed_in s0) (wider-armed s0 s c.loop-place.invariant.unarmed) u (Some e) _ _ (c.in_err-lift_at.ensures.ends r)))
 
@@ -47,8 +47,8 @@ pub returns-clause-carried : goal.returns-clause-carried
 returns-clause-carried g c r =
     let s = g.P.Plant.state c.loop-place.p in
     let all : length c.args.c.now.volumes ≤ c.loop-place.place = (let e = c.volumes-place-end.ensures.count in let f = c.loop-place-test.false in omega arith) in
-    c.loop-place.invariant.left r (seen s c.args.c.now r c.loop-place.j.events) None
-    (lifted-all (armed_in (g.P.Plant.state c.args.p.now)) (seen s c.args.c.now r c.loop-place.j.events) c.args.c.now c.args.s.0 c.loop-place.place all)
+    c.loop-place.invariant.left r (world_seen s c.args.c.now r c.loop-place.j.events) None
+    (lifted-all (armed_in (g.P.Plant.state c.args.p.now)) (world_seen s c.args.c.now r c.loop-place.j.events) c.args.c.now c.args.s.0 c.loop-place.place all)
 
 pub returns-clause-unarmed : goal.returns-clause-unarmed
 returns-clause-unarmed g c q none = c.loop-place.invariant.unarmed q none

@@ -4,7 +4,7 @@ use Rattle.dr_ids.specs.declared.names.VolumeId.{VolumeId}
 use Rattle.dr_config.specs.Table.{place_of}
 use Rattle.dr_model.specs.Refusals.{stopped}
 use Rattle.dr_model.specs.WriteEntries.{lift_on}
-use Rattle.dr_flash.specs.Here.{seen, armed_in, refusal_of}
+use Rattle.dr_flash.specs.Here.{world_seen, armed_in, refusal_of}
 use Rattle.dr_flash.specs.Turns.{Advances, Halts}
 use Rattle.dr_flash.proofs.TurnLemmas.{ok-along, err-along}
 use Rattle.dr_admin.proofs.OwnerLemmas.{own-server}
@@ -29,16 +29,16 @@ returns-clause-goes g c =
     let s = g.P.Plant.state c.args.p.now in let s' = g.P.Plant.state c.expire.new.p in let t = c.args.c.now in let ev = c.args.j.now.events in
     ok-along c.expire.result c.expire.ensures.advances (λ go r armed u q.
     lifted-goes t c.unwrap-v.result.0 c.args.s.0 c.args.place (sym (ap (option_map (λ (v : VolumeId). v.0)) c.unwrap-v.ensures) ∙ c.volume_at.ensures.value)
-    (seen s t r ev) (seen s' t r c.expire.new.j.events)
-    (subst (λ n. Advances (seen s t r ev) (lift_on n c.unwrap-v.result.0) (seen s' t r c.expire.new.j.events)) (own-server s t c.unwrap-v.result.0 c.args.s.0 (sym c.if-not-belongs.ensures)) (go r)) armed u q)
+    (world_seen s t r ev) (world_seen s' t r c.expire.new.j.events)
+    (subst (λ n. Advances (world_seen s t r ev) (lift_on n c.unwrap-v.result.0) (world_seen s' t r c.expire.new.j.events)) (own-server s t c.unwrap-v.result.0 c.args.s.0 (sym c.if-not-belongs.ensures)) (go r)) armed u q)
 
 pub returns-clause-ends : goal.returns-clause-ends
 returns-clause-ends g c =
     let s = g.P.Plant.state c.args.p.now in let s' = g.P.Plant.state c.expire.new.p in let t = c.args.c.now in let ev = c.args.j.now.events in
     err-along c.expire.result c.expire.ensures.halts c.expire.ensures.halts (λ end _ r.
     lifted-stops t c.unwrap-v.result.0 c.args.s.0 c.args.place (sym (ap (option_map (λ (v : VolumeId). v.0)) c.unwrap-v.ensures) ∙ c.volume_at.ensures.value)
-    (armed_in s) (seen s t r ev) (seen s' t r c.expire.new.j.events) (refusal_of c.expire.result)
-    (subst (λ n. Halts (armed_in s) (seen s t r ev) (lift_on n c.unwrap-v.result.0) (seen s' t r c.expire.new.j.events) (refusal_of c.expire.result)) (own-server s t c.unwrap-v.result.0 c.args.s.0 (sym c.if-not-belongs.ensures)) (end r)))
+    (armed_in s) (world_seen s t r ev) (world_seen s' t r c.expire.new.j.events) (refusal_of c.expire.result)
+    (subst (λ n. Halts (armed_in s) (world_seen s t r ev) (lift_on n c.unwrap-v.result.0) (world_seen s' t r c.expire.new.j.events) (refusal_of c.expire.result)) (own-server s t c.unwrap-v.result.0 c.args.s.0 (sym c.if-not-belongs.ensures)) (end r)))
 
 pub returns-clause-stopped : goal.returns-clause-stopped
 returns-clause-stopped g c =

@@ -1,13 +1,14 @@
 use Rattle.std.proofs.Common.{arith, sym, subst, ◌∙◌, ◌≤◌, ◌++◌, length, Some}
+use Rattle.dr_logic.specs.Counts.{Counted, Rose}
 use Rattle.dr_model.specs.ReadStops.{Ends}
-use Rattle.dr_flash.specs.Faults.{Counted, Rose}
-use Rattle.dr_flash.specs.Here.{seen, armed_in}
+use Rattle.dr_flash.specs.Here.{world_seen, armed_in}
 use Rattle.dr_flash.proofs.CopyLemmas.{wider-armed}
-use Rattle.dr_flash.proofs.EndsLemmas.{ends-wider}
-use Rattle.dr_flash.proofs.TurnLemmas.{err-always, refused-by}
+use Rattle.dr_facts.proofs.Ends.{ends-wider}
+use Rattle.dr_flash.proofs.TurnLemmas.{refused-by}
 use Rattle.dr_admin.specs.Starting.{start_from}
 use Rattle.dr_admin.proofs.StartLemmas.{rest-started, started-all}
 use Rattle.dr_admin.proofs.starting.go_on_all.Goals as goal
+use Rattle.dr_logic.proofs.Results.{err-always}
 
 pub loop-place-preserved : goal.loop-place-preserved
 loop-place-preserved g c = record {
@@ -26,8 +27,8 @@ returns-in_err-go_on_at-clause-fails g c =
     let t = c.args.c.now in
     let e = c.in_err-go_on_at.field-0.0 in
     err-always c.from_residual.result (λ r ds.
-    let u = seen (g.P.Plant.state c.go_on_at.new.p) t r c.go_on_at.new.j.events in
-    subst (λ q. Ends (armed_in s0) u q (seen s0 t r c.args.j.now.events) (start_from t c.args.s.0 0 ++ ds)) (sym (refused-by c.from_residual.result e c.from_residual.ensures.0 c.from_residual.ensures.1))
+    let u = world_seen (g.P.Plant.state c.go_on_at.new.p) t r c.go_on_at.new.j.events in
+    subst (λ q. Ends (armed_in s0) u q (world_seen s0 t r c.args.j.now.events) (start_from t c.args.s.0 0 ++ ds)) (sym (refused-by c.from_residual.result e c.from_residual.ensures.0 c.from_residual.ensures.1))
     (c.loop-place.invariant.left r (armed_in s0) u (Some e) ds
     (ends-wider (armed_in s) (armed_in s0) (wider-armed s0 s c.loop-place.invariant.unarmed) u (Some e) _ _ (c.in_err-go_on_at.ensures.fails r ds))))
 
@@ -43,7 +44,7 @@ pub returns-clause-leads : goal.returns-clause-leads
 returns-clause-leads g c r armed u q ds more =
     let s = g.P.Plant.state c.loop-place.p in
     let all : length c.args.c.now.volumes ≤ c.loop-place.place = (let e = c.volumes-place-end.ensures.count in let f = c.loop-place-test.false in omega arith) in
-    c.loop-place.invariant.left r armed u q ds (subst (λ es. Ends armed u q (seen s c.args.c.now r c.loop-place.j.events) (es ++ ds)) (sym (started-all c.args.c.now c.args.s.0 c.loop-place.place all)) more)
+    c.loop-place.invariant.left r armed u q ds (subst (λ es. Ends armed u q (world_seen s c.args.c.now r c.loop-place.j.events) (es ++ ds)) (sym (started-all c.args.c.now c.args.s.0 c.loop-place.place all)) more)
 
 pub returns-clause-rest : goal.returns-clause-rest
 returns-clause-rest g c =

@@ -2,7 +2,7 @@ use Rattle.std.proofs.Common.{◌≡◌, sym, ap, ◌∙◌, subst, Some, option
 use Rattle.std.specs.Prelude.{IfSome}
 use Rattle.dr_ids.specs.declared.names.VolumeId.{VolumeId}
 use Rattle.dr_config.specs.Table.{place_of}
-use Rattle.dr_flash.specs.Here.{seen, refusal_of}
+use Rattle.dr_flash.specs.Here.{world_seen, refusal_of}
 use Rattle.dr_flash.proofs.TurnLemmas.{ok-along, err-along}
 use Rattle.dr_admin.proofs.StartLemmas.{started-skip, started-goes, started-fails, started-stops, starting-skip}
 use Rattle.dr_admin.proofs.starting.go_on_at.Goals as goal
@@ -28,17 +28,17 @@ returns-in-Ok-clause-goes g c =
     let s = g.P.Plant.state c.args.p.now in let s1 = g.P.Plant.state c.redo_own.new.p in let s2 = g.P.Plant.state c.restart_own.new.p in let t = c.args.c.now in
     ok-along c.restart_own.result c.restart_own.ensures.advances (λ go r armed u q ds.
     started-goes t c.unwrap-v.result.0 c.args.s.0 c.args.place (sym (ap (option_map (λ (v : VolumeId). v.0)) c.unwrap-v.ensures) ∙ c.volume_at.ensures.value) ds
-    (seen s t r c.args.j.now.events) (seen s1 t r c.redo_own.new.j.events) (seen s2 t r c.restart_own.new.j.events) (c.in-Ok.ensures.advances r) (go r) armed u q)
+    (world_seen s t r c.args.j.now.events) (world_seen s1 t r c.redo_own.new.j.events) (world_seen s2 t r c.restart_own.new.j.events) (c.in-Ok.ensures.advances r) (go r) armed u q)
 
 pub returns-in-Ok-clause-fails : goal.returns-in-Ok-clause-fails
 returns-in-Ok-clause-fails g c =
     let s = g.P.Plant.state c.args.p.now in let s1 = g.P.Plant.state c.redo_own.new.p in let s2 = g.P.Plant.state c.restart_own.new.p in let t = c.args.c.now in
     err-along c.restart_own.result c.restart_own.ensures.halts c.restart_own.ensures.halts (λ end _ r ds.
     started-stops t c.unwrap-v.result.0 c.args.s.0 c.args.place (sym (ap (option_map (λ (v : VolumeId). v.0)) c.unwrap-v.ensures) ∙ c.volume_at.ensures.value) ds
-    s s1 (seen s t r c.args.j.now.events) (seen s1 t r c.redo_own.new.j.events) (seen s2 t r c.restart_own.new.j.events) (refusal_of c.restart_own.result) c.in-Ok.ensures.unarmed (c.in-Ok.ensures.advances r) (end r))
+    s s1 (world_seen s t r c.args.j.now.events) (world_seen s1 t r c.redo_own.new.j.events) (world_seen s2 t r c.restart_own.new.j.events) (refusal_of c.restart_own.result) c.in-Ok.ensures.unarmed (c.in-Ok.ensures.advances r) (end r))
 
 pub returns-in-Err-clause-fails : goal.returns-in-Err-clause-fails
 returns-in-Err-clause-fails g c r ds =
     let s = g.P.Plant.state c.args.p.now in let s1 = g.P.Plant.state c.redo_own.new.p in let t = c.args.c.now in
     started-fails t c.unwrap-v.result.0 c.args.s.0 c.args.place (sym (ap (option_map (λ (v : VolumeId). v.0)) c.unwrap-v.ensures) ∙ c.volume_at.ensures.value) ds
-    _ (seen s t r c.args.j.now.events) (seen s1 t r c.redo_own.new.j.events) (Some c.in-Err.why) (c.in-Err.ensures.halts r)
+    _ (world_seen s t r c.args.j.now.events) (world_seen s1 t r c.redo_own.new.j.events) (Some c.in-Err.why) (c.in-Err.ensures.halts r)

@@ -2,7 +2,7 @@ use Rattle.std.proofs.Common.{◌≡◌, sym, ap, ◌∙◌, subst, Some}
 use Rattle.dr_model.specs.WriteEntries.{restart_on}
 use Rattle.dr_model.specs.Refusals.{stopped}
 use Rattle.dr_volume.specs.View.{volume_seen}
-use Rattle.dr_flash.specs.Here.{seen, armed_in, refusal_of}
+use Rattle.dr_flash.specs.Here.{world_seen, armed_in, refusal_of}
 use Rattle.dr_flash.specs.Turns.{Advances, Halts}
 use Rattle.dr_flash.proofs.TurnLemmas.{ok-along, err-along}
 use Rattle.dr_admin.proofs.OwnerLemmas.{own-server}
@@ -17,13 +17,13 @@ pub returns-clause-advances : goal.returns-clause-advances
 returns-clause-advances g c =
     let s = g.P.Plant.state c.args.p.now in let s' = g.P.Plant.state c.restart.new.p in let t = c.args.c.now in
     ok-along c.restart.result c.restart.ensures.advances (λ go r.
-    subst (λ q. Advances (seen s t r c.args.j.now.events) (restart_on q c.args.v.0) (seen s' t r c.restart.new.j.events)) (own-server s t c.args.v.0 c.args.s.0 c.requires.owned) (go r))
+    subst (λ q. Advances (world_seen s t r c.args.j.now.events) (restart_on q c.args.v.0) (world_seen s' t r c.restart.new.j.events)) (own-server s t c.args.v.0 c.args.s.0 c.requires.owned) (go r))
 
 pub returns-clause-halts : goal.returns-clause-halts
 returns-clause-halts g c =
     let s = g.P.Plant.state c.args.p.now in let s' = g.P.Plant.state c.restart.new.p in let t = c.args.c.now in
     err-along c.restart.result c.restart.ensures.halts c.restart.ensures.halts (λ end _ r.
-    subst (λ q. Halts (armed_in s) (seen s t r c.args.j.now.events) (restart_on q c.args.v.0) (seen s' t r c.restart.new.j.events) (refusal_of c.restart.result)) (own-server s t c.args.v.0 c.args.s.0 c.requires.owned)
+    subst (λ q. Halts (armed_in s) (world_seen s t r c.args.j.now.events) (restart_on q c.args.v.0) (world_seen s' t r c.restart.new.j.events) (refusal_of c.restart.result)) (own-server s t c.args.v.0 c.args.s.0 c.requires.owned)
     (end r))
 
 pub returns-clause-stopped : goal.returns-clause-stopped

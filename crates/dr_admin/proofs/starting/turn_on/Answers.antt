@@ -1,11 +1,11 @@
 use Rattle.std.proofs.Common.{sym, ap, ◌∙◌, subst, [], ◌∷◌, ◌++◌, Some, None}
+use Rattle.dr_logic.specs.Counts.{Rose}
 use Rattle.dr_plant.specs.State.{PlantState}
 use Rattle.dr_model.specs.Plans.{acknowledge_on}
 use Rattle.dr_model.specs.ReadStops.{Ends}
-use Rattle.dr_flash.specs.Faults.{Rose}
 use Rattle.dr_flash.specs.Here.{armed_in}
 use Rattle.dr_flash.proofs.CopyLemmas.{wider-armed}
-use Rattle.dr_flash.proofs.EndsLemmas.{ends-wider}
+use Rattle.dr_facts.proofs.Ends.{ends-wider}
 use Rattle.dr_admin.specs.Answering.{number_of}
 use Rattle.dr_admin.specs.Starting.{hosted, with_writes, IsStarting, start_from, acks}
 use Rattle.dr_admin.proofs.StartLemmas.{starting-first, started-unarmed, started-faults, started-on, comes-done, comes-failed, told-both}

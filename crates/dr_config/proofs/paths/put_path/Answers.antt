@@ -4,9 +4,9 @@ use Rattle.std.specs.Map.{keys_of, lookup}
 use Rattle.indexmap.specs.IndexMap.{insert_entry}
 use Rattle.dr_config.specs.declared.paths.Ends.{Ends}
 use Rattle.dr_config.specs.Kept.{paths_of}
-use Rattle.dr_config.proofs.KeyLaws.{on-err}
 use Rattle.dr_config.proofs.PathLaws.{PathEntries, same_ends, lookup-path, path-put}
 use Rattle.dr_config.proofs.paths.put_path.Goals as goal
+use Rattle.dr_logic.proofs.Results.{err-always}
 
 pub returns-clause-put : goal.returns-clause-put
 returns-clause-put c =
@@ -19,4 +19,4 @@ pub returns-in_err-insert-clause-absent : goal.returns-in_err-insert-clause-abse
 returns-in_err-insert-clause-absent c =
     let es = c.args.paths.now.entries in
     let key = ap (λ (k : Ends). lookup (same_ends k) es) (sym c.ends_of.ensures) in
-    on-err c.from_residual.result (sym (lookup-path c.args.src.0 c.args.tgt.0 es) ∙ (key ∙ c.in_err-insert.ensures.absent))
+    err-always c.from_residual.result (sym (lookup-path c.args.src.0 c.args.tgt.0 es) ∙ (key ∙ c.in_err-insert.ensures.absent))

@@ -4,7 +4,7 @@ use Rattle.dr_model.specs.Lawful.{IsLawful}
 use Rattle.dr_volume.specs.Plain.{plain}
 use Rattle.dr_volume.specs.Update.{IsMoved}
 use Rattle.dr_volume.specs.View.{volume_seen}
-use Rattle.dr_flash.specs.Here.{seen}
+use Rattle.dr_flash.specs.Here.{world_seen}
 use Rattle.dr_flash.specs.Told.{events_of}
 use Rattle.dr_flash.specs.Turns.{room_of}
 use Rattle.dr_flash.specs.declared.told.Told.{Told}
@@ -49,7 +49,7 @@ returns-clause-done g c =
     let t = c.args.c.now in
     ok-along c.shift.result c.shift.ensures.done (λ done r.
     turn-from s t c.args.v.0 c.args.x (plain c.next_of-next.result) c.of.result c.requires.running (c.next_of-next.ensures ∙ ap (next_of c.args.x) c.peek_fields.ensures.fields) (c.of.ensures ∙ ap (λ (d : Told). record { done = d; in_stop = d; landed = 0 }) c.told_of.ensures)
-    r c.args.j.now.events (seen (g.P.Plant.state c.shift.new.p) t r c.shift.new.j.events, None) (done r))
+    r c.args.j.now.events (world_seen (g.P.Plant.state c.shift.new.p) t r c.shift.new.j.events, None) (done r))
 
 pub returns-clause-failed : goal.returns-clause-failed
 returns-clause-failed g c =
@@ -59,7 +59,7 @@ returns-clause-failed g c =
     err-along c.shift.result c.shift.ensures.failed c.shift.ensures.refused (λ failed _ r. elim (failed r) [
       | inl off ↦ inl off
       | inr is ↦ inr (turn-from s t c.args.v.0 c.args.x (plain c.next_of-next.result) c.of.result c.requires.running (c.next_of-next.ensures ∙ ap (next_of c.args.x) c.peek_fields.ensures.fields) (c.of.ensures ∙ ap (λ (d : Told). record { done = d; in_stop = d; landed = 0 }) c.told_of.ensures)
-          r c.args.j.now.events (seen (g.P.Plant.state c.shift.new.p) t r c.shift.new.j.events, Some x.server) is)
+          r c.args.j.now.events (world_seen (g.P.Plant.state c.shift.new.p) t r c.shift.new.j.events, Some x.server) is)
     ])
 
 pub returns-clause-aside : goal.returns-clause-aside

@@ -4,11 +4,12 @@ use Rattle.dr_model.specs.Moves.{Lift}
 use Rattle.dr_model.specs.Pairs.{held}
 use Rattle.dr_model.specs.WriteEntries.{lift_on}
 use Rattle.dr_volume.specs.View.{volume_seen}
-use Rattle.dr_flash.specs.Here.{seen, armed_in, refusal_of}
+use Rattle.dr_flash.specs.Here.{world_seen, armed_in, refusal_of}
 use Rattle.dr_flash.proofs.CheckLemmas.{act-ends}
 use Rattle.dr_flash.proofs.TurnLemmas.{ok-along, err-along}
-use Rattle.dr_coord.proofs.HoldLemmas.{lift-skips, lift-comes, advances-alike, halts-alike, one-skipped}
+use Rattle.dr_coord.proofs.HoldLemmas.{lift-skips, lift-comes, one-skipped}
 use Rattle.dr_coord.proofs.expiring.expire.Goals as goal
+use Rattle.dr_flash.proofs.KeepLemmas.{alike-advances, alike-halts}
 
 pub returns-then-not-is_held-clause-advances : goal.returns-then-not-is_held-clause-advances
 returns-then-not-is_held-clause-advances g c r =
@@ -17,7 +18,7 @@ returns-then-not-is_held-clause-advances g c r =
 
 pub returns-then-not-is_held-clause-carried : goal.returns-then-not-is_held-clause-carried
 returns-then-not-is_held-clause-carried g c r =
-    let w = seen (g.P.Plant.state c.args.p.now) c.args.c.now r c.args.j.now.events in
+    let w = world_seen (g.P.Plant.state c.args.p.now) c.args.c.now r c.args.j.now.events in
     one-skipped (armed_in (g.P.Plant.state c.args.p.now)) w (lift_on (volume_seen (g.P.Plant.state c.args.p.now) c.args.c.now c.args.v.0).server c.args.v.0) (returns-then-not-is_held-clause-advances g c r)
 
 pub returns-clause-advances : goal.returns-clause-advances
@@ -25,7 +26,7 @@ returns-clause-advances g c =
     let s = g.P.Plant.state c.args.p.now in
     let t = c.args.c.now in
     ok-along c.lift.result c.lift.ensures.advances (λ go r.
-    advances-alike (seen s t r c.args.j.now.events) (seen (g.P.Plant.state c.lift.new.p) t r c.lift.new.j.events) (lift_on (volume_seen s t c.args.v.0).server c.args.v.0) (now (Lift c.args.v.0))
+    alike-advances (world_seen s t r c.args.j.now.events) (world_seen (g.P.Plant.state c.lift.new.p) t r c.lift.new.j.events) (lift_on (volume_seen s t c.args.v.0).server c.args.v.0) (now (Lift c.args.v.0))
     (lift-comes s t r c.args.j.now.events c.args.v.0 c.requires.defined (ap held (sym c.peek_fields.ensures.fields) ∙ sym c.if-not-is_held.ensures)) (go r))
 
 pub returns-clause-halts : goal.returns-clause-halts
@@ -33,11 +34,11 @@ returns-clause-halts g c =
     let s = g.P.Plant.state c.args.p.now in
     let t = c.args.c.now in
     err-along c.lift.result c.lift.ensures.halts c.lift.ensures.halts (λ end _ r.
-    halts-alike (armed_in s) (seen s t r c.args.j.now.events) (seen (g.P.Plant.state c.lift.new.p) t r c.lift.new.j.events) (refusal_of c.lift.result) (lift_on (volume_seen s t c.args.v.0).server c.args.v.0) (now (Lift c.args.v.0))
+    alike-halts (armed_in s) (world_seen s t r c.args.j.now.events) (world_seen (g.P.Plant.state c.lift.new.p) t r c.lift.new.j.events) (refusal_of c.lift.result) (lift_on (volume_seen s t c.args.v.0).server c.args.v.0) (now (Lift c.args.v.0))
     (lift-comes s t r c.args.j.now.events c.args.v.0 c.requires.defined (ap held (sym c.peek_fields.ensures.fields) ∙ sym c.if-not-is_held.ensures)) (end r))
 
 pub returns-clause-carried : goal.returns-clause-carried
 returns-clause-carried g c =
     let s = g.P.Plant.state c.args.p.now in
     let t = c.args.c.now in
-    act-ends c.lift.result (armed_in s) (λ r. seen s t r c.args.j.now.events) (λ r. seen (g.P.Plant.state c.lift.new.p) t r c.lift.new.j.events) (lift_on (volume_seen s t c.args.v.0).server c.args.v.0) (returns-clause-advances g c) (returns-clause-halts g c)
+    act-ends c.lift.result (armed_in s) (λ r. world_seen s t r c.args.j.now.events) (λ r. world_seen (g.P.Plant.state c.lift.new.p) t r c.lift.new.j.events) (lift_on (volume_seen s t c.args.v.0).server c.args.v.0) (returns-clause-advances g c) (returns-clause-halts g c)

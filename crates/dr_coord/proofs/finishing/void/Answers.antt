@@ -3,28 +3,29 @@ use Rattle.dr_model.specs.Moves.{Finish}
 use Rattle.dr_model.specs.Pairs.{is_engaged}
 use Rattle.dr_coord.specs.Changes.{void_on}
 use Rattle.dr_volume.specs.View.{volume_seen}
-use Rattle.dr_flash.specs.Here.{seen, armed_in, refusal_of}
+use Rattle.dr_flash.specs.Here.{world_seen, armed_in, refusal_of}
 use Rattle.dr_flash.proofs.CheckLemmas.{act-ends}
 use Rattle.dr_flash.proofs.TurnLemmas.{ok-along, err-along}
-use Rattle.dr_coord.proofs.ActLemmas.{passes, move-advances, move-halts, void-skips, void-comes}
+use Rattle.dr_coord.proofs.ActLemmas.{move-advances, move-halts, void-skips, void-comes}
 use Rattle.dr_coord.proofs.HoldLemmas.{one-skipped}
 use Rattle.dr_coord.proofs.finishing.void.Goals as goal
+use Rattle.dr_flash.proofs.KeepLemmas.{skips}
 
 pub returns-then-not-is_engaged-clause-advances : goal.returns-then-not-is_engaged-clause-advances
 returns-then-not-is_engaged-clause-advances g c r =
-    passes (seen (g.P.Plant.state c.args.p.now) c.args.c.now r c.args.j.now.events) (void_on c.args.v.0)
+    skips (world_seen (g.P.Plant.state c.args.p.now) c.args.c.now r c.args.j.now.events) (void_on c.args.v.0)
     (void-skips (g.P.Plant.state c.args.p.now) c.args.c.now r c.args.j.now.events c.args.v.0 (ap (is_engaged) (sym c.peek_fields.ensures.fields) ∙ sym c.if-not-is_engaged.ensures))
 
 pub returns-then-not-is_engaged-clause-carried : goal.returns-then-not-is_engaged-clause-carried
 returns-then-not-is_engaged-clause-carried g c r =
-    one-skipped (armed_in (g.P.Plant.state c.args.p.now)) (seen (g.P.Plant.state c.args.p.now) c.args.c.now r c.args.j.now.events) (void_on c.args.v.0) (returns-then-not-is_engaged-clause-advances g c r)
+    one-skipped (armed_in (g.P.Plant.state c.args.p.now)) (world_seen (g.P.Plant.state c.args.p.now) c.args.c.now r c.args.j.now.events) (void_on c.args.v.0) (returns-then-not-is_engaged-clause-advances g c r)
 
 pub returns-clause-advances : goal.returns-clause-advances
 returns-clause-advances g c =
     let s = g.P.Plant.state c.args.p.now in
     let t = c.args.c.now in
     ok-along c.make_change.result c.make_change.ensures.done (λ done r.
-    move-advances (seen s t r c.args.j.now.events) (seen (g.P.Plant.state c.make_change.new.p) t r c.make_change.new.j.events) (void_on c.args.v.0) (Finish c.args.v.0 0)
+    move-advances (world_seen s t r c.args.j.now.events) (world_seen (g.P.Plant.state c.make_change.new.p) t r c.make_change.new.j.events) (void_on c.args.v.0) (Finish c.args.v.0 0)
     (void-comes s t r c.args.j.now.events c.args.v.0 (ap (is_engaged) (sym c.peek_fields.ensures.fields) ∙ sym c.if-not-is_engaged.ensures)) (done r))
 
 pub returns-clause-halts : goal.returns-clause-halts
@@ -32,14 +33,14 @@ returns-clause-halts g c =
     let s = g.P.Plant.state c.args.p.now in
     let t = c.args.c.now in
     err-along c.make_change.result c.make_change.ensures.failed c.make_change.ensures.refused (λ failed refused r.
-    move-halts (armed_in s) (seen s t r c.args.j.now.events) (seen (g.P.Plant.state c.make_change.new.p) t r c.make_change.new.j.events) (refusal_of c.make_change.result) (void_on c.args.v.0) (Finish c.args.v.0 0) (volume_seen s t c.args.v.0).server
+    move-halts (armed_in s) (world_seen s t r c.args.j.now.events) (world_seen (g.P.Plant.state c.make_change.new.p) t r c.make_change.new.j.events) (refusal_of c.make_change.result) (void_on c.args.v.0) (Finish c.args.v.0 0) (volume_seen s t c.args.v.0).server
     (void-comes s t r c.args.j.now.events c.args.v.0 (ap (is_engaged) (sym c.peek_fields.ensures.fields) ∙ sym c.if-not-is_engaged.ensures)) refused (failed r))
 
 pub returns-clause-carried : goal.returns-clause-carried
 returns-clause-carried g c =
     let s = g.P.Plant.state c.args.p.now in
     let t = c.args.c.now in
-    act-ends c.make_change.result (armed_in s) (λ r. seen s t r c.args.j.now.events) (λ r. seen (g.P.Plant.state c.make_change.new.p) t r c.make_change.new.j.events) (void_on c.args.v.0) (returns-clause-advances g c) (returns-clause-halts g c)
+    act-ends c.make_change.result (armed_in s) (λ r. world_seen s t r c.args.j.now.events) (λ r. world_seen (g.P.Plant.state c.make_change.new.p) t r c.make_change.new.j.events) (void_on c.args.v.0) (returns-clause-advances g c) (returns-clause-halts g c)
 
 pub returns-clause-room_left : goal.returns-clause-room_left
 returns-clause-room_left g c =

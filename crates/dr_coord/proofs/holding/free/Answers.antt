@@ -1,16 +1,18 @@
 use Rattle.std.proofs.Common.{arith, ap, sym, ◌∙◌}
+use Rattle.std.proofs.lemmas.Bool.{not-true, not-false}
 use Rattle.dr_model.specs.Layout.{Fields}
 use Rattle.dr_model.specs.Moves.{Free}
 use Rattle.dr_model.specs.SessionEntries.{free_on}
 use Rattle.dr_volume.specs.View.{volume_seen}
-use Rattle.dr_flash.specs.Here.{seen, armed_in, refusal_of}
+use Rattle.dr_flash.specs.Here.{world_seen, armed_in, refusal_of}
 use Rattle.dr_flash.proofs.TurnLemmas.{ok-along, err-along}
-use Rattle.dr_coord.proofs.ActLemmas.{passes, move-advances, move-halts, free-skips, free-comes, not-true, not-false}
+use Rattle.dr_coord.proofs.ActLemmas.{move-advances, move-halts, free-skips, free-comes}
 use Rattle.dr_coord.proofs.holding.free.Goals as goal
+use Rattle.dr_flash.proofs.KeepLemmas.{skips}
 
 pub returns-then-not-peek_fields-clause-advances : goal.returns-then-not-peek_fields-clause-advances
 returns-then-not-peek_fields-clause-advances g c r =
-    passes (seen (g.P.Plant.state c.args.p.now) c.args.c.now r c.args.j.now.events) (free_on c.args.a.0)
+    skips (world_seen (g.P.Plant.state c.args.p.now) c.args.c.now r c.args.j.now.events) (free_on c.args.a.0)
     (free-skips (g.P.Plant.state c.args.p.now) c.args.c.now r c.args.j.now.events c.args.a.0 (ap (λ (f : Fields). f.coordination) (sym c.peek_fields.ensures.fields) ∙ not-true c.peek_fields.result.coordination c.if-not-peek_fields.true))
 
 pub returns-clause-advances : goal.returns-clause-advances
@@ -18,7 +20,7 @@ returns-clause-advances g c =
     let s = g.P.Plant.state c.args.p.now in
     let t = c.args.c.now in
     ok-along c.make_change.result c.make_change.ensures.done (λ done r.
-    move-advances (seen s t r c.args.j.now.events) (seen (g.P.Plant.state c.make_change.new.p) t r c.make_change.new.j.events) (free_on c.args.a.0) (Free c.args.a.0)
+    move-advances (world_seen s t r c.args.j.now.events) (world_seen (g.P.Plant.state c.make_change.new.p) t r c.make_change.new.j.events) (free_on c.args.a.0) (Free c.args.a.0)
     (free-comes s t r c.args.j.now.events c.args.a.0 (ap (λ (f : Fields). f.coordination) (sym c.peek_fields.ensures.fields) ∙ not-false c.peek_fields.result.coordination c.if-not-peek_fields.false)) (done r))
 
 pub returns-clause-halts : goal.returns-clause-halts
@@ -26,7 +28,7 @@ returns-clause-halts g c =
     let s = g.P.Plant.state c.args.p.now in
     let t = c.args.c.now in
     err-along c.make_change.result c.make_change.ensures.failed c.make_change.ensures.refused (λ failed refused r.
-    move-halts (armed_in s) (seen s t r c.args.j.now.events) (seen (g.P.Plant.state c.make_change.new.p) t r c.make_change.new.j.events) (refusal_of c.make_change.result) (free_on c.args.a.0) (Free c.args.a.0) (volume_seen s t c.args.a.0).server
+    move-halts (armed_in s) (world_seen s t r c.args.j.now.events) (world_seen (g.P.Plant.state c.make_change.new.p) t r c.make_change.new.j.events) (refusal_of c.make_change.result) (free_on c.args.a.0) (Free c.args.a.0) (volume_seen s t c.args.a.0).server
     (free-comes s t r c.args.j.now.events c.args.a.0 (ap (λ (f : Fields). f.coordination) (sym c.peek_fields.ensures.fields) ∙ not-false c.peek_fields.result.coordination c.if-not-peek_fields.false)) refused (failed r))
 
 pub returns-clause-room_left : goal.returns-clause-room_left

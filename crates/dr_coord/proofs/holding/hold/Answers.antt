@@ -2,11 +2,12 @@ use Rattle.std.proofs.Common.{◌≡◌, true, false, ap, sym, ◌∙◌, None, 
 use Rattle.dr_model.specs.Pairs.{records}
 use Rattle.dr_model.specs.SessionEntries.{hold_on}
 use Rattle.dr_volume.specs.View.{volume_seen}
-use Rattle.dr_flash.specs.Here.{seen, armed_in, refusal_of}
+use Rattle.dr_flash.specs.Here.{world_seen, armed_in, refusal_of}
 use Rattle.dr_flash.proofs.TurnLemmas.{ok-along, err-along}
 use Rattle.dr_coord.specs.Changes.{begins, rest_after}
-use Rattle.dr_coord.proofs.ActLemmas.{act-advances, act-halts, hold_act, hold-comes, hold-act, hold-off, hold-passes, begins-moved, spare-left, both-along}
+use Rattle.dr_coord.proofs.ActLemmas.{act-advances, act-halts, hold_act, hold-comes, hold-act, hold-off, hold-passes, begins-moved, spare-left}
 use Rattle.dr_coord.proofs.holding.hold.Goals as goal
+use Rattle.dr_logic.proofs.Results.{ok-two}
 
 pub returns-then-records-clause-advances : goal.returns-then-records-clause-advances
 returns-then-records-clause-advances g c r so =
@@ -19,7 +20,7 @@ returns-clause-advances g c =
     let u = g.P.Plant.state c.make_change.new.p in
     let t = c.args.c.now in
     ok-along c.make_change.result c.make_change.ensures.done (λ done r so.
-    act-advances (seen s t r c.args.j.now.events) (seen u t (rest_after c.args.first s u t c.args.a.0 c.args.s.0 r) c.make_change.new.j.events) (hold_on c.args.s.0 c.args.a.0 c.args.n) (hold_act s t r c.args.j.now.events c.args.a.0 c.args.s.0 c.args.n c.args.first)
+    act-advances (world_seen s t r c.args.j.now.events) (world_seen u t (rest_after c.args.first s u t c.args.a.0 c.args.s.0 r) c.make_change.new.j.events) (hold_on c.args.s.0 c.args.a.0 c.args.n) (hold_act s t r c.args.j.now.events c.args.a.0 c.args.s.0 c.args.n c.args.first)
     (hold-comes s t r c.args.j.now.events c.args.a.0 c.args.s.0 c.args.n c.args.first (ap (records c.args.n) (sym c.peek_fields.ensures.fields) ∙ sym c.if-records.ensures) so)
     (hold-act s t r c.args.j.now.events c.args.a.0 u c.args.s.0 c.args.n c.args.first c.make_change.new.j.events None (done r)))
 
@@ -30,7 +31,7 @@ returns-clause-halts g c =
     let t = c.args.c.now in
     let server = (volume_seen s t c.args.a.0).server in
     err-along c.make_change.result c.make_change.ensures.failed c.make_change.ensures.refused (λ failed refused r so.
-    act-halts (armed_in s) (seen s t r c.args.j.now.events) (seen u t (rest_after c.args.first s u t c.args.a.0 c.args.s.0 r) c.make_change.new.j.events) (refusal_of c.make_change.result) (hold_on c.args.s.0 c.args.a.0 c.args.n) (hold_act s t r c.args.j.now.events c.args.a.0 c.args.s.0 c.args.n c.args.first) server
+    act-halts (armed_in s) (world_seen s t r c.args.j.now.events) (world_seen u t (rest_after c.args.first s u t c.args.a.0 c.args.s.0 r) c.make_change.new.j.events) (refusal_of c.make_change.result) (hold_on c.args.s.0 c.args.a.0 c.args.n) (hold_act s t r c.args.j.now.events c.args.a.0 c.args.s.0 c.args.n c.args.first) server
     (hold-comes s t r c.args.j.now.events c.args.a.0 c.args.s.0 c.args.n c.args.first (ap (records c.args.n) (sym c.peek_fields.ensures.fields) ∙ sym c.if-records.ensures) so)
     refused
     (elim (failed r) [
@@ -49,6 +50,6 @@ returns-clause-begins g c =
 
 pub returns-clause-room_left : goal.returns-clause-room_left
 returns-clause-room_left g c =
-    both-along c.make_change.result c.make_change.ensures.moved c.make_change.ensures.room_left (λ moved left.
+    ok-two c.make_change.result c.make_change.ensures.moved c.make_change.ensures.room_left (λ moved left.
     spare-left c.args.j.now.spare c.make_change.new.j.spare c.args.first (begins c.args.first (g.P.Plant.state c.args.p.now) (g.P.Plant.state c.make_change.new.p) c.args.c.now c.args.a.0)
     (begins-moved c.args.first (g.P.Plant.state c.args.p.now) (g.P.Plant.state c.make_change.new.p) c.args.c.now c.args.a.0 _ moved) left)

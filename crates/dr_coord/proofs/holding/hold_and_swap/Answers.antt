@@ -1,7 +1,7 @@
 use Rattle.std.proofs.Common.{◌≡◌, nat_lt, [], ◌∷◌, None}
 use Rattle.dr_model.specs.SessionEntries.{last_of, hold_refusal, stale_refusal, hold_on, hold_entries}
 use Rattle.dr_volume.specs.View.{volume_seen}
-use Rattle.dr_flash.specs.Here.{seen, armed_in, refusal_of}
+use Rattle.dr_flash.specs.Here.{world_seen, armed_in, refusal_of}
 use Rattle.dr_flash.proofs.CheckLemmas.{counted-stop, only-stops}
 use Rattle.dr_flash.proofs.TurnLemmas.{ok-along, err-along}
 use Rattle.dr_coord.specs.Changes.{rest_after}
@@ -20,7 +20,7 @@ returns-clause-leads g c =
     let s = g.P.Plant.state c.args.p.now in
     let t = c.args.c.now in
     ok-along c.hold.result c.hold.ensures.advances (λ goes r so armed u r' ds more.
-    two-checked (seen s t r c.args.j.now.events) (hold_refusal c.args.m.now.a.0 c.args.m.now.b.0) (stale_refusal c.args.m.now.a.0 c.args.n) None (c.in_default.ensures.refusal r c.args.j.now.events) armed u r' (hold_on c.args.s.0 c.args.m.now.a.0 c.args.n ∷ ds)
+    two-checked (world_seen s t r c.args.j.now.events) (hold_refusal c.args.m.now.a.0 c.args.m.now.b.0) (stale_refusal c.args.m.now.a.0 c.args.n) None (c.in_default.ensures.refusal r c.args.j.now.events) armed u r' (hold_on c.args.s.0 c.args.m.now.a.0 c.args.n ∷ ds)
     (goes r so armed u r' ds more))
 
 pub returns-clause-fails : goal.returns-clause-fails
@@ -29,8 +29,8 @@ returns-clause-fails g c =
     let n = g.P.Plant.state c.hold.new.p in
     let t = c.args.c.now in
     err-along c.hold.result c.hold.ensures.halts c.hold.ensures.halts (λ ends _ r so ds.
-    two-checked (seen s t r c.args.j.now.events) (hold_refusal c.args.m.now.a.0 c.args.m.now.b.0) (stale_refusal c.args.m.now.a.0 c.args.n) None (c.in_default.ensures.refusal r c.args.j.now.events) (armed_in s)
-    (seen n t (rest_after c.args.first s n t c.args.m.now.a.0 c.args.s.0 r) c.hold.new.j.events) (refusal_of c.hold.result) (hold_on c.args.s.0 c.args.m.now.a.0 c.args.n ∷ ds)
+    two-checked (world_seen s t r c.args.j.now.events) (hold_refusal c.args.m.now.a.0 c.args.m.now.b.0) (stale_refusal c.args.m.now.a.0 c.args.n) None (c.in_default.ensures.refusal r c.args.j.now.events) (armed_in s)
+    (world_seen n t (rest_after c.args.first s n t c.args.m.now.a.0 c.args.s.0 r) c.hold.new.j.events) (refusal_of c.hold.result) (hold_on c.args.s.0 c.args.m.now.a.0 c.args.n ∷ ds)
     (ends r so ds))
 
 pub returns-clause-carried : goal.returns-clause-carried
@@ -38,8 +38,8 @@ returns-clause-carried g c =
     let s = g.P.Plant.state c.args.p.now in
     let n = g.P.Plant.state c.hold.new.p in
     let t = c.args.c.now in
-    ends-so c.hold.result (armed_in s) (λ r. seen s t r c.args.j.now.events) (λ r. seen n t (rest_after c.args.first s n t c.args.m.now.a.0 c.args.s.0 r) c.hold.new.j.events) (hold_entries c.args.s.0 c.args.m.now.a.0 c.args.m.now.b.0 c.args.n)
-    (λ r. nat_lt (last_of (seen s t r c.args.j.now.events).control c.args.s.0) c.args.n ≡ c.args.first) (returns-clause-leads g c) (returns-clause-fails g c)
+    ends-so c.hold.result (armed_in s) (λ r. world_seen s t r c.args.j.now.events) (λ r. world_seen n t (rest_after c.args.first s n t c.args.m.now.a.0 c.args.s.0 r) c.hold.new.j.events) (hold_entries c.args.s.0 c.args.m.now.a.0 c.args.m.now.b.0 c.args.n)
+    (λ r. nat_lt (last_of (world_seen s t r c.args.j.now.events).control c.args.s.0) c.args.n ≡ c.args.first) (returns-clause-leads g c) (returns-clause-fails g c)
 
 pub returns-clause-unchanged : goal.returns-clause-unchanged
 returns-clause-unchanged g c calm =

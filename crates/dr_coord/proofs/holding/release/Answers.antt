@@ -1,7 +1,7 @@
 use Rattle.std.proofs.Common.{[], ◌∷◌, None, Some}
 use Rattle.dr_model.specs.SessionEntries.{void_refusal, free_on, release_entries}
 use Rattle.dr_volume.specs.View.{volume_seen}
-use Rattle.dr_flash.specs.Here.{seen, armed_in, refusal_of}
+use Rattle.dr_flash.specs.Here.{world_seen, armed_in, refusal_of}
 use Rattle.dr_flash.proofs.CheckLemmas.{counted-stop, only-stops}
 use Rattle.dr_flash.proofs.TurnLemmas.{ok-along, err-along}
 use Rattle.dr_gcopy.proofs.TwoMoves.{ends-by}
@@ -11,7 +11,7 @@ use Rattle.dr_coord.proofs.holding.release.Goals as goal
 pub returns-in-Some-clause-fails : goal.returns-in-Some-clause-fails
 returns-in-Some-clause-fails g c r ds =
     let s = g.P.Plant.state c.args.p.now in
-    one-checked (seen s c.args.c.now r c.args.j.now.events) (void_refusal c.args.m.now.a.0 c.args.n) (Some c.in-Some.why) (c.in-Some.ensures.refusal r c.args.j.now.events) (armed_in s) (free_on c.args.m.now.a.0 ∷ ds)
+    one-checked (world_seen s c.args.c.now r c.args.j.now.events) (void_refusal c.args.m.now.a.0 c.args.n) (Some c.in-Some.why) (c.in-Some.ensures.refusal r c.args.j.now.events) (armed_in s) (free_on c.args.m.now.a.0 ∷ ds)
 
 pub returns-in-Some-clause-carried : goal.returns-in-Some-clause-carried
 returns-in-Some-clause-carried g c r = returns-in-Some-clause-fails g c r []
@@ -20,19 +20,19 @@ pub returns-clause-leads : goal.returns-clause-leads
 returns-clause-leads g c =
     let s = g.P.Plant.state c.args.p.now in
     ok-along c.free.result c.free.ensures.advances (λ goes r armed u r' ds more.
-    one-checked (seen s c.args.c.now r c.args.j.now.events) (void_refusal c.args.m.now.a.0 c.args.n) None (c.in_default.ensures.refusal r c.args.j.now.events) armed u r' (free_on c.args.m.now.a.0 ∷ ds) (goes r armed u r' ds more))
+    one-checked (world_seen s c.args.c.now r c.args.j.now.events) (void_refusal c.args.m.now.a.0 c.args.n) None (c.in_default.ensures.refusal r c.args.j.now.events) armed u r' (free_on c.args.m.now.a.0 ∷ ds) (goes r armed u r' ds more))
 
 pub returns-clause-fails : goal.returns-clause-fails
 returns-clause-fails g c =
     let s = g.P.Plant.state c.args.p.now in
     err-along c.free.result c.free.ensures.halts c.free.ensures.halts (λ ends _ r ds.
-    one-checked (seen s c.args.c.now r c.args.j.now.events) (void_refusal c.args.m.now.a.0 c.args.n) None (c.in_default.ensures.refusal r c.args.j.now.events) (armed_in s)
-    (seen (g.P.Plant.state c.free.new.p) c.args.c.now r c.free.new.j.events) (refusal_of c.free.result) (free_on c.args.m.now.a.0 ∷ ds) (ends r ds))
+    one-checked (world_seen s c.args.c.now r c.args.j.now.events) (void_refusal c.args.m.now.a.0 c.args.n) None (c.in_default.ensures.refusal r c.args.j.now.events) (armed_in s)
+    (world_seen (g.P.Plant.state c.free.new.p) c.args.c.now r c.free.new.j.events) (refusal_of c.free.result) (free_on c.args.m.now.a.0 ∷ ds) (ends r ds))
 
 pub returns-clause-carried : goal.returns-clause-carried
 returns-clause-carried g c =
     let s = g.P.Plant.state c.args.p.now in
-    ends-by c.free.result (armed_in s) (λ r. seen s c.args.c.now r c.args.j.now.events) (λ r. seen (g.P.Plant.state c.free.new.p) c.args.c.now r c.free.new.j.events) (release_entries c.args.m.now.a.0 c.args.n) (returns-clause-leads g c) (returns-clause-fails g c)
+    ends-by c.free.result (armed_in s) (λ r. world_seen s c.args.c.now r c.args.j.now.events) (λ r. world_seen (g.P.Plant.state c.free.new.p) c.args.c.now r c.free.new.j.events) (release_entries c.args.m.now.a.0 c.args.n) (returns-clause-leads g c) (returns-clause-fails g c)
 
 pub returns-clause-unchanged : goal.returns-clause-unchanged
 returns-clause-unchanged g c calm =

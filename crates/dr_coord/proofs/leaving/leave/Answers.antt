@@ -2,7 +2,7 @@ use Rattle.std.proofs.Common.{refl}
 use Rattle.dr_model.specs.Carry.{now}
 use Rattle.dr_model.specs.Moves.{Leave}
 use Rattle.dr_volume.specs.View.{volume_seen}
-use Rattle.dr_flash.specs.Here.{seen, armed_in, refusal_of}
+use Rattle.dr_flash.specs.Here.{world_seen, armed_in, refusal_of}
 use Rattle.dr_flash.proofs.CheckLemmas.{act-ends}
 use Rattle.dr_flash.proofs.TurnLemmas.{ok-along, err-along}
 use Rattle.dr_coord.proofs.ActLemmas.{move-advances, move-halts}
@@ -13,17 +13,17 @@ returns-clause-advances g c =
     let s = g.P.Plant.state c.args.p.now in
     let t = c.args.c.now in
     ok-along c.make_change.result c.make_change.ensures.done (λ done r.
-    move-advances (seen s t r c.args.j.now.events) (seen (g.P.Plant.state c.make_change.new.p) t r c.make_change.new.j.events) (now (Leave c.args.v.0 c.args.a.0 c.args.s.0)) (Leave c.args.v.0 c.args.a.0 c.args.s.0) refl (done r))
+    move-advances (world_seen s t r c.args.j.now.events) (world_seen (g.P.Plant.state c.make_change.new.p) t r c.make_change.new.j.events) (now (Leave c.args.v.0 c.args.a.0 c.args.s.0)) (Leave c.args.v.0 c.args.a.0 c.args.s.0) refl (done r))
 
 pub returns-clause-halts : goal.returns-clause-halts
 returns-clause-halts g c =
     let s = g.P.Plant.state c.args.p.now in
     let t = c.args.c.now in
     err-along c.make_change.result c.make_change.ensures.failed c.make_change.ensures.refused (λ failed refused r.
-    move-halts (armed_in s) (seen s t r c.args.j.now.events) (seen (g.P.Plant.state c.make_change.new.p) t r c.make_change.new.j.events) (refusal_of c.make_change.result) (now (Leave c.args.v.0 c.args.a.0 c.args.s.0)) (Leave c.args.v.0 c.args.a.0 c.args.s.0) (volume_seen s t c.args.v.0).server refl refused (failed r))
+    move-halts (armed_in s) (world_seen s t r c.args.j.now.events) (world_seen (g.P.Plant.state c.make_change.new.p) t r c.make_change.new.j.events) (refusal_of c.make_change.result) (now (Leave c.args.v.0 c.args.a.0 c.args.s.0)) (Leave c.args.v.0 c.args.a.0 c.args.s.0) (volume_seen s t c.args.v.0).server refl refused (failed r))
 
 pub returns-clause-carried : goal.returns-clause-carried
 returns-clause-carried g c r =
     let s = g.P.Plant.state c.args.p.now in
     let t = c.args.c.now in
-    act-ends c.make_change.result (armed_in s) (λ r. seen s t r c.args.j.now.events) (λ r. seen (g.P.Plant.state c.make_change.new.p) t r c.make_change.new.j.events) (now (Leave c.args.v.0 c.args.a.0 c.args.s.0)) (returns-clause-advances g c) (returns-clause-halts g c) r
+    act-ends c.make_change.result (armed_in s) (λ r. world_seen s t r c.args.j.now.events) (λ r. world_seen (g.P.Plant.state c.make_change.new.p) t r c.make_change.new.j.events) (now (Leave c.args.v.0 c.args.a.0 c.args.s.0)) (returns-clause-advances g c) (returns-clause-halts g c) r

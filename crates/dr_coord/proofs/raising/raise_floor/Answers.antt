@@ -3,29 +3,30 @@ use Rattle.dr_model.specs.Layout.{Fields}
 use Rattle.dr_model.specs.Moves.{RaiseFloor}
 use Rattle.dr_model.specs.SessionEntries.{raise_floor_on}
 use Rattle.dr_volume.specs.View.{volume_seen}
-use Rattle.dr_flash.specs.Here.{seen, armed_in, refusal_of}
+use Rattle.dr_flash.specs.Here.{world_seen, armed_in, refusal_of}
 use Rattle.dr_flash.proofs.CheckLemmas.{act-ends}
 use Rattle.dr_flash.proofs.TurnLemmas.{ok-along, err-along}
-use Rattle.dr_coord.proofs.ActLemmas.{passes, move-advances, move-halts}
+use Rattle.dr_coord.proofs.ActLemmas.{move-advances, move-halts}
 use Rattle.dr_coord.proofs.HoldLemmas.{one-skipped}
 use Rattle.dr_coord.proofs.RaiseLemmas.{floor-skips, floor-comes}
 use Rattle.dr_coord.proofs.raising.raise_floor.Goals as goal
+use Rattle.dr_flash.proofs.KeepLemmas.{skips}
 
 pub returns-then-n-peek_fields-clause-advances : goal.returns-then-n-peek_fields-clause-advances
 returns-then-n-peek_fields-clause-advances g c r =
-    passes (seen (g.P.Plant.state c.args.p.now) c.args.c.now r c.args.j.now.events) (raise_floor_on c.args.v.0 c.args.n)
+    skips (world_seen (g.P.Plant.state c.args.p.now) c.args.c.now r c.args.j.now.events) (raise_floor_on c.args.v.0 c.args.n)
     (floor-skips (g.P.Plant.state c.args.p.now) c.args.c.now r c.args.j.now.events c.args.v.0 c.args.n (subst (λ (f : Fields). c.args.n ≤ f.floor) c.peek_fields.ensures.fields c.if-n-peek_fields.true))
 
 pub returns-then-n-peek_fields-clause-carried : goal.returns-then-n-peek_fields-clause-carried
 returns-then-n-peek_fields-clause-carried g c r =
-    one-skipped (armed_in (g.P.Plant.state c.args.p.now)) (seen (g.P.Plant.state c.args.p.now) c.args.c.now r c.args.j.now.events) (raise_floor_on c.args.v.0 c.args.n) (returns-then-n-peek_fields-clause-advances g c r)
+    one-skipped (armed_in (g.P.Plant.state c.args.p.now)) (world_seen (g.P.Plant.state c.args.p.now) c.args.c.now r c.args.j.now.events) (raise_floor_on c.args.v.0 c.args.n) (returns-then-n-peek_fields-clause-advances g c r)
 
 pub returns-clause-advances : goal.returns-clause-advances
 returns-clause-advances g c =
     let s = g.P.Plant.state c.args.p.now in
     let t = c.args.c.now in
     ok-along c.make_change.result c.make_change.ensures.done (λ done r.
-    move-advances (seen s t r c.args.j.now.events) (seen (g.P.Plant.state c.make_change.new.p) t r c.make_change.new.j.events) (raise_floor_on c.args.v.0 c.args.n) (RaiseFloor c.args.v.0 c.args.n)
+    move-advances (world_seen s t r c.args.j.now.events) (world_seen (g.P.Plant.state c.make_change.new.p) t r c.make_change.new.j.events) (raise_floor_on c.args.v.0 c.args.n) (RaiseFloor c.args.v.0 c.args.n)
     (floor-comes s t r c.args.j.now.events c.args.v.0 c.args.n (subst (λ (f : Fields). f.floor < c.args.n) c.peek_fields.ensures.fields c.if-n-peek_fields.false)) (done r))
 
 pub returns-clause-halts : goal.returns-clause-halts
@@ -33,14 +34,14 @@ returns-clause-halts g c =
     let s = g.P.Plant.state c.args.p.now in
     let t = c.args.c.now in
     err-along c.make_change.result c.make_change.ensures.failed c.make_change.ensures.refused (λ failed refused r.
-    move-halts (armed_in s) (seen s t r c.args.j.now.events) (seen (g.P.Plant.state c.make_change.new.p) t r c.make_change.new.j.events) (refusal_of c.make_change.result) (raise_floor_on c.args.v.0 c.args.n) (RaiseFloor c.args.v.0 c.args.n) (volume_seen s t c.args.v.0).server
+    move-halts (armed_in s) (world_seen s t r c.args.j.now.events) (world_seen (g.P.Plant.state c.make_change.new.p) t r c.make_change.new.j.events) (refusal_of c.make_change.result) (raise_floor_on c.args.v.0 c.args.n) (RaiseFloor c.args.v.0 c.args.n) (volume_seen s t c.args.v.0).server
     (floor-comes s t r c.args.j.now.events c.args.v.0 c.args.n (subst (λ (f : Fields). f.floor < c.args.n) c.peek_fields.ensures.fields c.if-n-peek_fields.false)) refused (failed r))
 
 pub returns-clause-carried : goal.returns-clause-carried
 returns-clause-carried g c r =
     let s = g.P.Plant.state c.args.p.now in
     let t = c.args.c.now in
-    act-ends c.make_change.result (armed_in s) (λ r. seen s t r c.args.j.now.events) (λ r. seen (g.P.Plant.state c.make_change.new.p) t r c.make_change.new.j.events) (raise_floor_on c.args.v.0 c.args.n) (returns-clause-advances g c) (returns-clause-halts g c) r
+    act-ends c.make_change.result (armed_in s) (λ r. world_seen s t r c.args.j.now.events) (λ r. world_seen (g.P.Plant.state c.make_change.new.p) t r c.make_change.new.j.events) (raise_floor_on c.args.v.0 c.args.n) (returns-clause-advances g c) (returns-clause-halts g c) r
 
 pub returns-clause-room_left : goal.returns-clause-room_left
 returns-clause-room_left g c =

@@ -4,10 +4,11 @@ use Rattle.dr_model.specs.Moves.{Restart}
 use Rattle.dr_model.specs.Pairs.{must_restart}
 use Rattle.dr_model.specs.WriteEntries.{restart_on}
 use Rattle.dr_volume.specs.View.{volume_seen}
-use Rattle.dr_flash.specs.Here.{seen, armed_in, refusal_of}
+use Rattle.dr_flash.specs.Here.{world_seen, armed_in, refusal_of}
 use Rattle.dr_flash.proofs.TurnLemmas.{ok-along, err-along}
-use Rattle.dr_coord.proofs.HoldLemmas.{restart-skips, restart-comes, advances-alike, halts-alike}
+use Rattle.dr_coord.proofs.HoldLemmas.{restart-skips, restart-comes}
 use Rattle.dr_coord.proofs.restarting.restart.Goals as goal
+use Rattle.dr_flash.proofs.KeepLemmas.{alike-advances, alike-halts}
 
 pub returns-then-not-must_restart-clause-advances : goal.returns-then-not-must_restart-clause-advances
 returns-then-not-must_restart-clause-advances g c r =
@@ -19,7 +20,7 @@ returns-clause-advances g c =
     let s = g.P.Plant.state c.args.p.now in
     let t = c.args.c.now in
     ok-along c.go_on.result c.go_on.ensures.advances (λ go r.
-    advances-alike (seen s t r c.args.j.now.events) (seen (g.P.Plant.state c.go_on.new.p) t r c.go_on.new.j.events) (restart_on (volume_seen s t c.args.v.0).server c.args.v.0) (now (Restart c.args.v.0))
+    alike-advances (world_seen s t r c.args.j.now.events) (world_seen (g.P.Plant.state c.go_on.new.p) t r c.go_on.new.j.events) (restart_on (volume_seen s t c.args.v.0).server c.args.v.0) (now (Restart c.args.v.0))
     (restart-comes s t r c.args.j.now.events c.args.v.0 c.requires.ready.defined (ap must_restart (sym c.peek_fields.ensures.fields) ∙ sym c.if-not-must_restart.ensures)) (go r))
 
 pub returns-clause-halts : goal.returns-clause-halts
@@ -27,5 +28,5 @@ returns-clause-halts g c =
     let s = g.P.Plant.state c.args.p.now in
     let t = c.args.c.now in
     err-along c.go_on.result c.go_on.ensures.halts c.go_on.ensures.halts (λ end _ r.
-    halts-alike (armed_in s) (seen s t r c.args.j.now.events) (seen (g.P.Plant.state c.go_on.new.p) t r c.go_on.new.j.events) (refusal_of c.go_on.result) (restart_on (volume_seen s t c.args.v.0).server c.args.v.0) (now (Restart c.args.v.0))
+    alike-halts (armed_in s) (world_seen s t r c.args.j.now.events) (world_seen (g.P.Plant.state c.go_on.new.p) t r c.go_on.new.j.events) (refusal_of c.go_on.result) (restart_on (volume_seen s t c.args.v.0).server c.args.v.0) (now (Restart c.args.v.0))
     (restart-comes s t r c.args.j.now.events c.args.v.0 c.requires.ready.defined (ap must_restart (sym c.peek_fields.ensures.fields) ∙ sym c.if-not-must_restart.ensures)) (end r))

@@ -1,37 +1,48 @@
-use Rattle.std.proofs.Common.{inl, ◌⊎◌, subst, sym}
-use Rattle.std.specs.Prelude.{OnOk}
-use Rattle.dr_plant.specs.State.{PlantState}
+use Rattle.std.proofs.Common.{ap, sym, subst, not, ◌⊎◌, ◌≡◌, ◌++◌, Some, ◌∙◌}
+use mathlib.Core.Bool.{beq}
+use Rattle.dr_ids.specs.declared.names.ServerId.{ServerId}
+use Rattle.dr_ids.specs.declared.refusal.Refusal.TheVariants.{Stopped}
+use Rattle.dr_model.specs.Carry as machine
+use Rattle.dr_model.specs.ReadStops.{GoesOff}
 use Rattle.dr_volume.specs.Plain.{plain}
-use Rattle.dr_volume.specs.Update.{IsAsBefore, IsMoved, OthersStay}
-use Rattle.dr_flash.specs.Fit.{LeavesFit}
-use Rattle.dr_flash.proofs.FitLemmas.{fit-same, fit-after}
+use Rattle.dr_volume.specs.View.{world, volume_seen}
+use Rattle.dr_flash.specs.Here.{world_seen, armed_in}
+use Rattle.dr_flash.specs.Turns.{made_by, told_in_stop}
+use Rattle.dr_flash.proofs.FitLemmas.{fit-after}
+use Rattle.dr_flash.proofs.MadeLemmas.{made-goes}
+use Rattle.dr_flash.proofs.ShiftLemmas.{read-passed, stopped-by, rest-after}
 use Rattle.dr_flash.proofs.acts.shift.Goals as goal
 
-pub returns-in_err-opened-clause-others : goal.returns-in_err-opened-clause-others
-returns-in_err-opened-clause-others g c u ne = c.in_err-opened.ensures.same u
-
-pub returns-clause-fit : goal.returns-clause-fit
-returns-clause-fit g c =
+pub returns-in-Ok-clause-done : goal.returns-in-Ok-clause-done
+returns-in-Ok-clause-done g c r =
     let s = g.P.Plant.state c.args.p.now in
-    let s1 = g.P.Plant.state c.open_told.new.p in
     let t = c.args.c.now in
-    let same = c.in_ok-opened.ensures.passed in
-    fit-after s1 (g.P.Plant.state c.make.new.p) t c.args.v.0 (plain c.args.next.now) c.args.track
-    (fit-same s s1 t c.in_ok-opened.ensures.same c.requires.fit)
-    (subst (λ (x : PlantState). LeavesFit x t c.args.v.0 (plain c.args.next.now)) (sym same) c.requires.leaves)
-    c.make.ensures.old_or_new c.make.ensures.others
+    let w = world_seen s t r c.args.j.now.events in
+    let u = world (g.P.Plant.state c.update.new.p) t (record r { events = c.args.j.now.events }) in
+    made-goes u (machine.update w c.args.v.0 (plain c.args.next.now) c.args.track) (volume_seen s t c.args.v.0).server c.args.told.now c.tell.new.j.events
+    (read-passed s (volume_seen s t c.args.v.0).server w u _ (c.in-Ok.ensures.exact (record r { events = c.args.j.now.events }))) c.tell.ensures.events
 
-pub returns-clause-others : goal.returns-clause-others
-returns-clause-others g c =
-    subst (λ (x : PlantState). OthersStay x (g.P.Plant.state c.make.new.p) c.args.c.now c.args.v.0) c.in_ok-opened.ensures.passed c.make.ensures.others
+pub returns-in-Err-clause-failed : goal.returns-in-Err-clause-failed
+returns-in-Err-clause-failed g c r =
+    let s = g.P.Plant.state c.args.p.now in
+    let t = c.args.c.now in
+    let v = c.args.v.0 in
+    subst (λ (x : ServerId). GoesOff (armed_in s) (world_seen (g.P.Plant.state c.update.new.p) t r c.tell_stop.new.j.events) (Some (Stopped x)) (world_seen s t r c.args.j.now.events)
+    ⊎ (made_by (machine.update (world_seen s t r c.args.j.now.events) v (plain c.args.next.now) c.args.track) (volume_seen s t v).server c.args.told.now ≡ (world_seen (g.P.Plant.state c.update.new.p) t r c.tell_stop.new.j.events, Some (volume_seen s t v).server)))
+    (λ i. record { 0 = c.server_of-server.ensures.seen s i })
+    (stopped-by t s (g.P.Plant.state c.update.new.p) v (plain c.args.next.now) c.args.track c.requires.rest c.requires.defined c.requires.running c.args.told.now r c.args.j.now.events c.tell_stop.new.j.events
+    c.slot-before.result c.slot.result c.slot-before.ensures c.slot.ensures
+    (c.tell_stop.ensures.events ∙ ap (λ o. c.args.j.now.events ++ told_in_stop (not (beq c.slot.result c.slot-before.result)) c.args.told.now o) (sym (c.server_of-server.ensures.seen s)))
+    (c.in-Err.ensures.exact (record r { events = c.args.j.now.events })))
 
-pub returns-in_err-opened-clause-old_or_new : goal.returns-in_err-opened-clause-old_or_new
-returns-in_err-opened-clause-old_or_new g c = inl (c.in_err-opened.ensures.same c.args.v.0)
+pub returns-in-Ok-clause-fit : goal.returns-in-Ok-clause-fit
+returns-in-Ok-clause-fit g c = fit-after _ _ c.args.c.now c.args.v.0 (plain c.args.next.now) c.args.track c.requires.fit c.requires.leaves c.update.ensures.old_or_new c.update.ensures.others
 
-pub returns-clause-old_or_new : goal.returns-clause-old_or_new
-returns-clause-old_or_new g c =
-    subst (λ (x : PlantState). IsAsBefore x (g.P.Plant.state c.make.new.p) c.args.c.now c.args.v.0 ⊎ IsMoved x (g.P.Plant.state c.make.new.p) c.args.c.now c.args.v.0 (plain c.args.next.now) c.args.track) c.in_ok-opened.ensures.passed c.make.ensures.old_or_new
+pub returns-in-Err-clause-fit : goal.returns-in-Err-clause-fit
+returns-in-Err-clause-fit g c = fit-after _ _ c.args.c.now c.args.v.0 (plain c.args.next.now) c.args.track c.requires.fit c.requires.leaves c.update.ensures.old_or_new c.update.ensures.others
 
-pub returns-clause-moved : goal.returns-clause-moved
-returns-clause-moved g c =
-    subst (λ (x : PlantState). OnOk c.make.result (IsMoved x (g.P.Plant.state c.make.new.p) c.args.c.now c.args.v.0 (plain c.args.next.now) c.args.track)) c.in_ok-opened.ensures.passed c.make.ensures.moved
+pub returns-in-Ok-clause-rest : goal.returns-in-Ok-clause-rest
+returns-in-Ok-clause-rest g c = rest-after c.args.c.now _ _ c.args.v.0 (plain c.args.next.now) c.args.track c.requires.rest c.update.ensures.stands c.update.ensures.settled c.update.ensures.old_or_new c.update.ensures.others
+
+pub returns-in-Err-clause-rest : goal.returns-in-Err-clause-rest
+returns-in-Err-clause-rest g c = rest-after c.args.c.now _ _ c.args.v.0 (plain c.args.next.now) c.args.track c.requires.rest c.update.ensures.stands c.update.ensures.settled c.update.ensures.old_or_new c.update.ensures.others

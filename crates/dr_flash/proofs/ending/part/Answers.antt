@@ -1,15 +1,14 @@
 use Rattle.dr_flash.specs.Turns.{room_of}
 use Rattle.dr_flash.proofs.TellLemmas.{room-blanked}
-use Rattle.std.proofs.Common.{arith, ap, refl, sym, subst, ◌∙◌, None}
+use Rattle.std.proofs.Common.{arith, ap, refl, sym, subst, ◌∙◌, None, true}
 use Rattle.dr_model.specs.Layout.{Fields}
 use Rattle.dr_model.specs.Lawful.{IsLawful}
 use Rattle.dr_model.specs.Moves.{Withdraw}
 use Rattle.dr_volume.specs.Plain.{plain}
 use Rattle.dr_volume.specs.View.{volume_seen}
-use Rattle.dr_flash.specs.Here.{seen, armed_in, refusal_of}
+use Rattle.dr_flash.specs.Here.{world_seen, armed_in, refusal_of}
 use Rattle.dr_flash.proofs.ReadLemmas.{on-running}
 use Rattle.dr_flash.proofs.TurnLemmas.{Tells, advances, halts, ok-along, err-along}
-use Rattle.std.proofs.Common.{true}
 use Rattle.dr_model.specs.Relations.{withdrawn_if}
 use Rattle.dr_flash.specs.declared.told.Told.TheVariants.{Blanked}
 use Rattle.dr_flash.proofs.MoveLemmas.{MoveFits, withdraw-fits, tells-withdraw}
@@ -32,8 +31,8 @@ returns-clause-advances g c =
     let t = c.args.c.now in
     let x = volume_seen s t c.args.t.0 in
     ok-along c.shift.result c.shift.ensures.done (λ done r.
-    advances (seen s t r c.args.j.now.events) (Withdraw c.args.t.0) c.of-told.result (plain c.withdrawn-next.result) None (on-running s x.server c.requires.running)
-    (subst (λ y. Tells (Withdraw c.args.t.0) x y) (sym (c.of-told.ensures ∙ (λ i. record { done = Blanked c.args.t.0 (sym (c.tracks_of-tracks.ensures.seen (g.P.Plant.state c.args.p.now)) i) (c.requires.shows.fields i).own; in_stop = Blanked c.args.t.0 (sym (c.tracks_of-tracks.ensures.seen (g.P.Plant.state c.args.p.now)) i) (c.requires.shows.fields i).own; landed = 0 }))) (tells-withdraw c.args.t.0 x)) (sym (c.withdrawn-next.ensures ∙ (λ i. withdrawn_if true (sym (c.tracks_of-tracks.ensures.seen (g.P.Plant.state c.args.p.now)) i) (c.requires.shows.fields i)))) refl (seen (g.P.Plant.state c.shift.new.p) t r c.shift.new.j.events) (done r))
+    advances (world_seen s t r c.args.j.now.events) (Withdraw c.args.t.0) c.of-told.result (plain c.withdrawn-next.result) None (on-running s x.server c.requires.running)
+    (subst (λ y. Tells (Withdraw c.args.t.0) x y) (sym (c.of-told.ensures ∙ (λ i. record { done = Blanked c.args.t.0 (sym (c.tracks_of-tracks.ensures.seen (g.P.Plant.state c.args.p.now)) i) (c.requires.shows.fields i).own; in_stop = Blanked c.args.t.0 (sym (c.tracks_of-tracks.ensures.seen (g.P.Plant.state c.args.p.now)) i) (c.requires.shows.fields i).own; landed = 0 }))) (tells-withdraw c.args.t.0 x)) (sym (c.withdrawn-next.ensures ∙ (λ i. withdrawn_if true (sym (c.tracks_of-tracks.ensures.seen (g.P.Plant.state c.args.p.now)) i) (c.requires.shows.fields i)))) refl (world_seen (g.P.Plant.state c.shift.new.p) t r c.shift.new.j.events) (done r))
 
 pub returns-clause-halts : goal.returns-clause-halts
 returns-clause-halts g c =
@@ -41,8 +40,8 @@ returns-clause-halts g c =
     let t = c.args.c.now in
     let x = volume_seen s t c.args.t.0 in
     err-along c.shift.result c.shift.ensures.failed c.shift.ensures.refused (λ failed refused r.
-    halts (seen s t r c.args.j.now.events) (Withdraw c.args.t.0) c.of-told.result (plain c.withdrawn-next.result) None (on-running s x.server c.requires.running)
-    (subst (λ y. Tells (Withdraw c.args.t.0) x y) (sym (c.of-told.ensures ∙ (λ i. record { done = Blanked c.args.t.0 (sym (c.tracks_of-tracks.ensures.seen (g.P.Plant.state c.args.p.now)) i) (c.requires.shows.fields i).own; in_stop = Blanked c.args.t.0 (sym (c.tracks_of-tracks.ensures.seen (g.P.Plant.state c.args.p.now)) i) (c.requires.shows.fields i).own; landed = 0 }))) (tells-withdraw c.args.t.0 x)) (sym (c.withdrawn-next.ensures ∙ (λ i. withdrawn_if true (sym (c.tracks_of-tracks.ensures.seen (g.P.Plant.state c.args.p.now)) i) (c.requires.shows.fields i)))) refl (armed_in s) (seen (g.P.Plant.state c.shift.new.p) t r c.shift.new.j.events) (refusal_of c.shift.result) refused (failed r))
+    halts (world_seen s t r c.args.j.now.events) (Withdraw c.args.t.0) c.of-told.result (plain c.withdrawn-next.result) None (on-running s x.server c.requires.running)
+    (subst (λ y. Tells (Withdraw c.args.t.0) x y) (sym (c.of-told.ensures ∙ (λ i. record { done = Blanked c.args.t.0 (sym (c.tracks_of-tracks.ensures.seen (g.P.Plant.state c.args.p.now)) i) (c.requires.shows.fields i).own; in_stop = Blanked c.args.t.0 (sym (c.tracks_of-tracks.ensures.seen (g.P.Plant.state c.args.p.now)) i) (c.requires.shows.fields i).own; landed = 0 }))) (tells-withdraw c.args.t.0 x)) (sym (c.withdrawn-next.ensures ∙ (λ i. withdrawn_if true (sym (c.tracks_of-tracks.ensures.seen (g.P.Plant.state c.args.p.now)) i) (c.requires.shows.fields i)))) refl (armed_in s) (world_seen (g.P.Plant.state c.shift.new.p) t r c.shift.new.j.events) (refusal_of c.shift.result) refused (failed r))
 
 pub shift-requires-clause-room : goal.shift-requires-clause-room
 shift-requires-clause-room g c =

@@ -7,20 +7,21 @@ use Rattle.dr_model.specs.Moves.{Keep}
 use Rattle.dr_model.specs.ReadStops.{GoesOff}
 use Rattle.dr_volume.specs.Update.{OthersStay}
 use Rattle.dr_volume.specs.View.{Rest}
-use Rattle.dr_flash.specs.Here.{seen, armed_in, refusal_of}
+use Rattle.dr_flash.specs.Here.{world_seen, armed_in, refusal_of}
 use Rattle.dr_flash.specs.Turns.{Advances, Halts}
 use Rattle.dr_flash.proofs.FitLemmas.{fit-same}
-use Rattle.dr_flash.proofs.TurnLemmas.{err-always, refused-by, halts-gone}
+use Rattle.dr_flash.proofs.TurnLemmas.{refused-by, halts-gone}
 use Rattle.dr_flash.specs.Views.{AllShow}
 use Rattle.dr_flash.proofs.ShowLemmas.{show-same}
 use Rattle.dr_flash.proofs.keep.keep.Goals as goal
+use Rattle.dr_logic.proofs.Results.{err-always}
 
 pub returns-in_err-read_told-clause-halts : goal.returns-in_err-read_told-clause-halts
 returns-in_err-read_told-clause-halts g c =
     let s = g.P.Plant.state c.args.p.now in
     let t = c.args.c.now in
-    err-always c.from_residual.result (λ r. halts-gone (armed_in s) (seen s t r c.args.j.now.events) (seen (g.P.Plant.state c.read_told.new.p) t r c.read_told.new.j.events) (refusal_of c.from_residual.result) (now (Keep c.args.u.0 c.args.t))
-    (subst (λ e. GoesOff (armed_in s) (seen (g.P.Plant.state c.read_told.new.p) t r c.read_told.new.j.events) e (seen s t r c.args.j.now.events)) (sym (refused-by c.from_residual.result c.in_err-read_told.field-0.0 c.from_residual.ensures.0 c.from_residual.ensures.1))
+    err-always c.from_residual.result (λ r. halts-gone (armed_in s) (world_seen s t r c.args.j.now.events) (world_seen (g.P.Plant.state c.read_told.new.p) t r c.read_told.new.j.events) (refusal_of c.from_residual.result) (now (Keep c.args.u.0 c.args.t))
+    (subst (λ e. GoesOff (armed_in s) (world_seen (g.P.Plant.state c.read_told.new.p) t r c.read_told.new.j.events) e (world_seen s t r c.args.j.now.events)) (sym (refused-by c.from_residual.result c.in_err-read_told.field-0.0 c.from_residual.ensures.0 c.from_residual.ensures.1))
     (c.in_err-read_told.ensures.gone r)))
 
 pub returns-in_err-read_told-clause-fit : goal.returns-in_err-read_told-clause-fit
@@ -32,15 +33,15 @@ returns-in_err-read_told-clause-others g c u ne = c.in_err-read_told.ensures.sam
 pub returns-clause-advances : goal.returns-clause-advances
 returns-clause-advances g c =
     let t = c.args.c.now in
-    subst (λ (x : PlantState). OnOk c.store.result ((r : Rest) → Advances (seen x t r c.args.j.now.events) (now (Keep c.args.u.0 c.args.t)) (seen (g.P.Plant.state c.store.new.p) t r c.store.new.j.events))) c.in_ok-read_told.ensures.passed
-    (subst (λ (l : Log). OnOk c.store.result ((r : Rest) → Advances (seen (g.P.Plant.state c.read_told.new.p) t r l.events) (now (Keep c.args.u.0 c.args.t)) (seen (g.P.Plant.state c.store.new.p) t r c.store.new.j.events))) c.in_ok-read_told.ensures.silent
+    subst (λ (x : PlantState). OnOk c.store.result ((r : Rest) → Advances (world_seen x t r c.args.j.now.events) (now (Keep c.args.u.0 c.args.t)) (world_seen (g.P.Plant.state c.store.new.p) t r c.store.new.j.events))) c.in_ok-read_told.ensures.passed
+    (subst (λ (l : Log). OnOk c.store.result ((r : Rest) → Advances (world_seen (g.P.Plant.state c.read_told.new.p) t r l.events) (now (Keep c.args.u.0 c.args.t)) (world_seen (g.P.Plant.state c.store.new.p) t r c.store.new.j.events))) c.in_ok-read_told.ensures.silent
     c.store.ensures.advances)
 
 pub returns-clause-halts : goal.returns-clause-halts
 returns-clause-halts g c =
     let t = c.args.c.now in
-    subst (λ (x : PlantState). OnErr c.store.result ((r : Rest) → Halts (armed_in x) (seen x t r c.args.j.now.events) (now (Keep c.args.u.0 c.args.t)) (seen (g.P.Plant.state c.store.new.p) t r c.store.new.j.events) (refusal_of c.store.result))) c.in_ok-read_told.ensures.passed
-    (subst (λ (l : Log). OnErr c.store.result ((r : Rest) → Halts (armed_in (g.P.Plant.state c.read_told.new.p)) (seen (g.P.Plant.state c.read_told.new.p) t r l.events) (now (Keep c.args.u.0 c.args.t)) (seen (g.P.Plant.state c.store.new.p) t r c.store.new.j.events) (refusal_of c.store.result))) c.in_ok-read_told.ensures.silent
+    subst (λ (x : PlantState). OnErr c.store.result ((r : Rest) → Halts (armed_in x) (world_seen x t r c.args.j.now.events) (now (Keep c.args.u.0 c.args.t)) (world_seen (g.P.Plant.state c.store.new.p) t r c.store.new.j.events) (refusal_of c.store.result))) c.in_ok-read_told.ensures.passed
+    (subst (λ (l : Log). OnErr c.store.result ((r : Rest) → Halts (armed_in (g.P.Plant.state c.read_told.new.p)) (world_seen (g.P.Plant.state c.read_told.new.p) t r l.events) (now (Keep c.args.u.0 c.args.t)) (world_seen (g.P.Plant.state c.store.new.p) t r c.store.new.j.events) (refusal_of c.store.result))) c.in_ok-read_told.ensures.silent
     c.store.ensures.halts)
 
 pub returns-clause-unarmed : goal.returns-clause-unarmed

@@ -5,7 +5,7 @@ use Rattle.dr_model.specs.Lawful.{IsLawful}
 use Rattle.dr_model.specs.Moves.{Note}
 use Rattle.dr_volume.specs.Plain.{plain}
 use Rattle.dr_volume.specs.View.{volume_seen}
-use Rattle.dr_flash.specs.Here.{seen, armed_in, refusal_of}
+use Rattle.dr_flash.specs.Here.{world_seen, armed_in, refusal_of}
 use Rattle.dr_flash.specs.declared.told.Telling.{Telling}
 use Rattle.dr_flash.proofs.ReadLemmas.{on-running}
 use Rattle.dr_flash.proofs.TurnLemmas.{Tells, advances, halts, ok-along, err-along}
@@ -29,8 +29,8 @@ returns-clause-advances g c =
     let t = c.args.c.now in
     let x = volume_seen s t c.args.u.0 in
     ok-along c.shift.result c.shift.ensures.done (λ done r.
-    advances (seen s t r c.args.j.now.events) (Note c.args.u.0 c.args.t) c.of.result (plain c.noted-next.result) None (on-running s x.server c.requires.running)
-    (subst (λ y. Tells (Note c.args.u.0 c.args.t) x y) (sym c.of.ensures) (tells-note c.args.u.0 c.args.t x)) (sym (c.noted-next.ensures ∙ ap (λ f. noted f c.args.t) c.requires.shows.fields)) refl (seen (g.P.Plant.state c.shift.new.p) t r c.shift.new.j.events) (done r))
+    advances (world_seen s t r c.args.j.now.events) (Note c.args.u.0 c.args.t) c.of.result (plain c.noted-next.result) None (on-running s x.server c.requires.running)
+    (subst (λ y. Tells (Note c.args.u.0 c.args.t) x y) (sym c.of.ensures) (tells-note c.args.u.0 c.args.t x)) (sym (c.noted-next.ensures ∙ ap (λ f. noted f c.args.t) c.requires.shows.fields)) refl (world_seen (g.P.Plant.state c.shift.new.p) t r c.shift.new.j.events) (done r))
 
 pub returns-clause-halts : goal.returns-clause-halts
 returns-clause-halts g c =
@@ -38,8 +38,8 @@ returns-clause-halts g c =
     let t = c.args.c.now in
     let x = volume_seen s t c.args.u.0 in
     err-along c.shift.result c.shift.ensures.failed c.shift.ensures.refused (λ failed refused r.
-    halts (seen s t r c.args.j.now.events) (Note c.args.u.0 c.args.t) c.of.result (plain c.noted-next.result) None (on-running s x.server c.requires.running)
-    (subst (λ y. Tells (Note c.args.u.0 c.args.t) x y) (sym c.of.ensures) (tells-note c.args.u.0 c.args.t x)) (sym (c.noted-next.ensures ∙ ap (λ f. noted f c.args.t) c.requires.shows.fields)) refl (armed_in s) (seen (g.P.Plant.state c.shift.new.p) t r c.shift.new.j.events) (refusal_of c.shift.result) refused (failed r))
+    halts (world_seen s t r c.args.j.now.events) (Note c.args.u.0 c.args.t) c.of.result (plain c.noted-next.result) None (on-running s x.server c.requires.running)
+    (subst (λ y. Tells (Note c.args.u.0 c.args.t) x y) (sym c.of.ensures) (tells-note c.args.u.0 c.args.t x)) (sym (c.noted-next.ensures ∙ ap (λ f. noted f c.args.t) c.requires.shows.fields)) refl (armed_in s) (world_seen (g.P.Plant.state c.shift.new.p) t r c.shift.new.j.events) (refusal_of c.shift.result) refused (failed r))
 
 pub returns-clause-room_left : goal.returns-clause-room_left
 returns-clause-room_left g c =

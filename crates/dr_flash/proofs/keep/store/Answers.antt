@@ -4,7 +4,7 @@ use Rattle.dr_model.specs.Lawful.{IsLawful}
 use Rattle.dr_model.specs.Moves.{Keep}
 use Rattle.dr_volume.specs.Plain.{plain}
 use Rattle.dr_volume.specs.View.{volume_seen, track_seen}
-use Rattle.dr_flash.specs.Here.{seen, armed_in, refusal_of}
+use Rattle.dr_flash.specs.Here.{world_seen, armed_in, refusal_of}
 use Rattle.dr_flash.proofs.ReadLemmas.{on-running}
 use Rattle.dr_flash.proofs.TurnLemmas.{Tells, advances, halts, ok-along, err-along}
 use Rattle.dr_model.specs.Relations.{closed, fetched, noted}
@@ -35,10 +35,10 @@ returns-clause-advances g c =
     let t = c.args.c.now in
     let x = volume_seen s t c.args.u.0 in
     ok-along c.shift.result c.shift.ensures.done (λ done r.
-    advances (seen s t r c.args.j.now.events) (Keep c.args.u.0 c.args.t) c.of-told.result (plain c.closed-next.result) (Some (c.args.t, c.args.bytes.now)) (on-running s x.server c.requires.running)
+    advances (world_seen s t r c.args.j.now.events) (Keep c.args.u.0 c.args.t) c.of-told.result (plain c.closed-next.result) (Some (c.args.t, c.args.bytes.now)) (on-running s x.server c.requires.running)
     (subst (λ y. Tells (Keep c.args.u.0 c.args.t) x y) (sym c.of-told.ensures) (tells-keep c.args.u.0 c.args.t x)) (sym (
     c.closed-next.ensures ∙ ap (closed c.tracks_of-tracks.result) (c.noted.ensures ∙ ap (λ f. noted f c.args.t) c.fetched.ensures)
-    ∙ (λ i. closed (sym (c.tracks_of-tracks.ensures.seen (g.P.Plant.state c.args.p.now)) i) (noted (fetched (c.requires.shows.fields i) c.args.t) c.args.t)))) (ap (λ (b : List ℕ). Some (c.args.t, b)) (sym (c.requires.bytes ∙ ap (λ (f : Fields). track_seen s t f.source c.args.t) c.requires.shows.fields))) (seen (g.P.Plant.state c.shift.new.p) t r c.shift.new.j.events) (done r))
+    ∙ (λ i. closed (sym (c.tracks_of-tracks.ensures.seen (g.P.Plant.state c.args.p.now)) i) (noted (fetched (c.requires.shows.fields i) c.args.t) c.args.t)))) (ap (λ (b : List ℕ). Some (c.args.t, b)) (sym (c.requires.bytes ∙ ap (λ (f : Fields). track_seen s t f.source c.args.t) c.requires.shows.fields))) (world_seen (g.P.Plant.state c.shift.new.p) t r c.shift.new.j.events) (done r))
 
 pub returns-clause-halts : goal.returns-clause-halts
 returns-clause-halts g c =
@@ -46,10 +46,10 @@ returns-clause-halts g c =
     let t = c.args.c.now in
     let x = volume_seen s t c.args.u.0 in
     err-along c.shift.result c.shift.ensures.failed c.shift.ensures.refused (λ failed refused r.
-    halts (seen s t r c.args.j.now.events) (Keep c.args.u.0 c.args.t) c.of-told.result (plain c.closed-next.result) (Some (c.args.t, c.args.bytes.now)) (on-running s x.server c.requires.running)
+    halts (world_seen s t r c.args.j.now.events) (Keep c.args.u.0 c.args.t) c.of-told.result (plain c.closed-next.result) (Some (c.args.t, c.args.bytes.now)) (on-running s x.server c.requires.running)
     (subst (λ y. Tells (Keep c.args.u.0 c.args.t) x y) (sym c.of-told.ensures) (tells-keep c.args.u.0 c.args.t x)) (sym (
     c.closed-next.ensures ∙ ap (closed c.tracks_of-tracks.result) (c.noted.ensures ∙ ap (λ f. noted f c.args.t) c.fetched.ensures)
-    ∙ (λ i. closed (sym (c.tracks_of-tracks.ensures.seen (g.P.Plant.state c.args.p.now)) i) (noted (fetched (c.requires.shows.fields i) c.args.t) c.args.t)))) (ap (λ (b : List ℕ). Some (c.args.t, b)) (sym (c.requires.bytes ∙ ap (λ (f : Fields). track_seen s t f.source c.args.t) c.requires.shows.fields))) (armed_in s) (seen (g.P.Plant.state c.shift.new.p) t r c.shift.new.j.events) (refusal_of c.shift.result) refused (failed r))
+    ∙ (λ i. closed (sym (c.tracks_of-tracks.ensures.seen (g.P.Plant.state c.args.p.now)) i) (noted (fetched (c.requires.shows.fields i) c.args.t) c.args.t)))) (ap (λ (b : List ℕ). Some (c.args.t, b)) (sym (c.requires.bytes ∙ ap (λ (f : Fields). track_seen s t f.source c.args.t) c.requires.shows.fields))) (armed_in s) (world_seen (g.P.Plant.state c.shift.new.p) t r c.shift.new.j.events) (refusal_of c.shift.result) refused (failed r))
 
 pub returns-clause-show : goal.returns-clause-show
 returns-clause-show g c =

@@ -5,13 +5,14 @@ use Rattle.dr_model.specs.Entries.{copies_from, copy_first}
 use Rattle.dr_model.specs.ReadStops.{Ends}
 use Rattle.dr_model.specs.Refusals.{stopped}
 use Rattle.dr_volume.specs.View.{volume_seen, ids_of}
-use Rattle.dr_flash.specs.Here.{seen, armed_in, refusal_of}
+use Rattle.dr_flash.specs.Here.{world_seen, armed_in, refusal_of}
 use Rattle.dr_flash.proofs.CopyLemmas.{keeps_from, keeps-next, keeps-none, before-then, wider-armed, led, failed, volume-there, no-own}
 use Rattle.dr_flash.specs.Views.{kept_for}
 use Rattle.dr_flash.proofs.HeldLemmas.{held-below, same-or-held, held-all}
-use Rattle.dr_flash.proofs.EndsLemmas.{ends-wider}
-use Rattle.dr_flash.proofs.TurnLemmas.{err-always, refused-by}
+use Rattle.dr_facts.proofs.Ends.{ends-wider}
+use Rattle.dr_flash.proofs.TurnLemmas.{refused-by}
 use Rattle.dr_flash.proofs.keeping.copy_first.Goals as goal
+use Rattle.dr_logic.proofs.Results.{err-always}
 
 pub unwrap-u-requires : goal.unwrap-u-requires
 unwrap-u-requires g c = volume-there c.args.c.now c.loop-place.place c.volume_at.result c.volume_at.ensures.value (let e = c.volumes-place-end.ensures.count in let f = c.loop-place-test.true in omega (arith, e, f))
@@ -38,11 +39,11 @@ returns-in_err-keep_on-clause-fails g c =
     let k = c.args.t in
     let v = c.args.v.0 in
     err-always c.from_residual.result (λ r ds.
-    let u = seen (g.P.Plant.state c.keep_on.new.p) t r c.keep_on.new.j.events in
+    let u = world_seen (g.P.Plant.state c.keep_on.new.p) t r c.keep_on.new.j.events in
     let e = c.in_err-keep_on.field-0.0 in
-    subst (λ q. Ends (armed_in s0) u q (seen s0 t r c.args.j.now.events) (copy_first (ids_of t.volumes) v k ++ ds)) (sym (refused-by c.from_residual.result e c.from_residual.ensures.0 c.from_residual.ensures.1))
+    subst (λ q. Ends (armed_in s0) u q (world_seen s0 t r c.args.j.now.events) (copy_first (ids_of t.volumes) v k ++ ds)) (sym (refused-by c.from_residual.result e c.from_residual.ensures.0 c.from_residual.ensures.1))
     (c.loop-place.invariant.left r (armed_in s0) u (Some e) ds
-    (subst (λ es. Ends (armed_in s0) u (Some e) (seen s t r c.loop-place.j.events) (es ++ ds)) (sym (keeps-next t v k c.loop-place.place c.unwrap-u.result.0 (sym (ap (option_map (λ (v : VolumeId). v.0)) c.unwrap-u.ensures) ∙ c.volume_at.ensures.value)))
+    (subst (λ es. Ends (armed_in s0) u (Some e) (world_seen s t r c.loop-place.j.events) (es ++ ds)) (sym (keeps-next t v k c.loop-place.place c.unwrap-u.result.0 (sym (ap (option_map (λ (v : VolumeId). v.0)) c.unwrap-u.ensures) ∙ c.volume_at.ensures.value)))
     (ends-wider (armed_in s) (armed_in s0) (wider-armed s0 s c.loop-place.invariant.unarmed) u (Some e) _ _ (c.in_err-keep_on.ensures.halts r (keeps_from t v k (c.loop-place.place + 1) ++ ds))))))
 
 pub returns-in_err-keep_on-clause-refused : goal.returns-in_err-keep_on-clause-refused
@@ -64,7 +65,7 @@ returns-in_err-keep_on-clause-others g c q other =
 pub loop-place-preserved : goal.loop-place-preserved
 loop-place-preserved g c = record {
   left = λ r armed u r' ds more. c.loop-place.invariant.left r armed u r' ds
-      (subst (λ es. Ends armed u r' (seen (g.P.Plant.state c.loop-place.p) c.args.c.now r c.loop-place.j.events) (es ++ ds)) (sym (keeps-next c.args.c.now c.args.v.0 c.args.t c.loop-place.place c.unwrap-u.result.0 (sym (ap (option_map (λ (v : VolumeId). v.0)) c.unwrap-u.ensures) ∙ c.volume_at.ensures.value)))
+      (subst (λ es. Ends armed u r' (world_seen (g.P.Plant.state c.loop-place.p) c.args.c.now r c.loop-place.j.events) (es ++ ds)) (sym (keeps-next c.args.c.now c.args.v.0 c.args.t c.loop-place.place c.unwrap-u.result.0 (sym (ap (option_map (λ (v : VolumeId). v.0)) c.unwrap-u.ensures) ∙ c.volume_at.ensures.value)))
       (c.in_ok-keep_on.ensures.advances r armed u r' (keeps_from c.args.c.now c.args.v.0 c.args.t (c.loop-place.place + 1) ++ ds) more));
   rest = c.in_ok-keep_on.ensures.rest;
   fit = c.in_ok-keep_on.ensures.fit;
@@ -90,12 +91,12 @@ loop-place-preserved g c = record {
 pub returns-clause-leads : goal.returns-clause-leads
 returns-clause-leads g c r armed u r' ds more =
     c.loop-place.invariant.left r armed u r' ds
-    (subst (λ es. Ends armed u r' (seen (g.P.Plant.state c.loop-place.p) c.args.c.now r c.loop-place.j.events) (es ++ ds))
+    (subst (λ es. Ends armed u r' (world_seen (g.P.Plant.state c.loop-place.p) c.args.c.now r c.loop-place.j.events) (es ++ ds))
     (sym (keeps-none c.args.c.now c.args.v.0 c.args.t c.loop-place.place (let e = c.volumes-place-end.ensures.count in let f = c.loop-place-test.false in omega (arith, e, f)))) more)
 
 pub returns-clause-carried : goal.returns-clause-carried
 returns-clause-carried g c r =
-    led (armed_in (g.P.Plant.state c.args.p.now)) (seen (g.P.Plant.state c.args.p.now) c.args.c.now r c.args.j.now.events) (seen (g.P.Plant.state c.loop-place.p) c.args.c.now r c.loop-place.j.events) (copy_first (ids_of c.args.c.now.volumes) c.args.v.0 c.args.t)
+    led (armed_in (g.P.Plant.state c.args.p.now)) (world_seen (g.P.Plant.state c.args.p.now) c.args.c.now r c.args.j.now.events) (world_seen (g.P.Plant.state c.loop-place.p) c.args.c.now r c.loop-place.j.events) (copy_first (ids_of c.args.c.now.volumes) c.args.v.0 c.args.t)
     (returns-clause-leads g c r)
 
 pub returns-in_err-keep_on-clause-carried : goal.returns-in_err-keep_on-clause-carried
@@ -105,12 +106,12 @@ returns-in_err-keep_on-clause-carried g c r =
     let t = c.args.c.now in
     let k = c.args.t in
     let v = c.args.v.0 in
-    let u = seen (g.P.Plant.state c.keep_on.new.p) t r c.keep_on.new.j.events in
+    let u = world_seen (g.P.Plant.state c.keep_on.new.p) t r c.keep_on.new.j.events in
     let e = c.in_err-keep_on.field-0.0 in
-    failed (armed_in s0) (seen s0 t r c.args.j.now.events) u (refusal_of c.from_residual.result) (copy_first (ids_of t.volumes) v k) (λ ds.
-    subst (λ q. Ends (armed_in s0) u q (seen s0 t r c.args.j.now.events) (copy_first (ids_of t.volumes) v k ++ ds)) (sym (refused-by c.from_residual.result e c.from_residual.ensures.0 c.from_residual.ensures.1))
+    failed (armed_in s0) (world_seen s0 t r c.args.j.now.events) u (refusal_of c.from_residual.result) (copy_first (ids_of t.volumes) v k) (λ ds.
+    subst (λ q. Ends (armed_in s0) u q (world_seen s0 t r c.args.j.now.events) (copy_first (ids_of t.volumes) v k ++ ds)) (sym (refused-by c.from_residual.result e c.from_residual.ensures.0 c.from_residual.ensures.1))
     (c.loop-place.invariant.left r (armed_in s0) u (Some e) ds
-    (subst (λ es. Ends (armed_in s0) u (Some e) (seen s t r c.loop-place.j.events) (es ++ ds)) (sym (keeps-next t v k c.loop-place.place c.unwrap-u.result.0 (sym (ap (option_map (λ (v : VolumeId). v.0)) c.unwrap-u.ensures) ∙ c.volume_at.ensures.value)))
+    (subst (λ es. Ends (armed_in s0) u (Some e) (world_seen s t r c.loop-place.j.events) (es ++ ds)) (sym (keeps-next t v k c.loop-place.place c.unwrap-u.result.0 (sym (ap (option_map (λ (v : VolumeId). v.0)) c.unwrap-u.ensures) ∙ c.volume_at.ensures.value)))
     (ends-wider (armed_in s) (armed_in s0) (wider-armed s0 s c.loop-place.invariant.unarmed) u (Some e) _ _ (c.in_err-keep_on.ensures.halts r (keeps_from t v k (c.loop-place.place + 1) ++ ds))))))
 
 pub returns-in_err-keep_on-clause-show : goal.returns-in_err-keep_on-clause-show

@@ -4,7 +4,7 @@ use Rattle.dr_model.specs.Lawful.{IsLawful}
 use Rattle.dr_model.specs.Moves.{Relate}
 use Rattle.dr_volume.specs.Plain.{plain}
 use Rattle.dr_volume.specs.View.{volume_seen}
-use Rattle.dr_flash.specs.Here.{seen, armed_in, refusal_of}
+use Rattle.dr_flash.specs.Here.{world_seen, armed_in, refusal_of}
 use Rattle.dr_flash.proofs.ReadLemmas.{on-running}
 use Rattle.dr_flash.proofs.TurnLemmas.{Tells, advances, halts, ok-along, err-along}
 use Rattle.dr_model.specs.Relations.{made}
@@ -29,8 +29,8 @@ returns-clause-advances g c =
     let t = c.args.c.now in
     let x = volume_seen s t c.args.t.0 in
     ok-along c.shift.result c.shift.ensures.done (λ done r.
-    advances (seen s t r c.args.j.now.events) (Relate c.args.t.0 c.args.s.0 (choices c.args.o.now)) c.of-told.result (plain c.made-next.result) None (on-running s x.server c.requires.running)
-    (subst (λ y. Tells (Relate c.args.t.0 c.args.s.0 (choices c.args.o.now)) x y) (sym c.of-told.ensures) (tells-relate c.args.t.0 c.args.s.0 (choices c.args.o.now) x)) (sym (c.made-next.ensures ∙ ap (made c.args.s.0 (choices c.args.o.now)) c.peek_fields-fields.ensures.fields)) refl (seen (g.P.Plant.state c.shift.new.p) t r c.shift.new.j.events) (done r))
+    advances (world_seen s t r c.args.j.now.events) (Relate c.args.t.0 c.args.s.0 (choices c.args.o.now)) c.of-told.result (plain c.made-next.result) None (on-running s x.server c.requires.running)
+    (subst (λ y. Tells (Relate c.args.t.0 c.args.s.0 (choices c.args.o.now)) x y) (sym c.of-told.ensures) (tells-relate c.args.t.0 c.args.s.0 (choices c.args.o.now) x)) (sym (c.made-next.ensures ∙ ap (made c.args.s.0 (choices c.args.o.now)) c.peek_fields-fields.ensures.fields)) refl (world_seen (g.P.Plant.state c.shift.new.p) t r c.shift.new.j.events) (done r))
 
 pub returns-clause-halts : goal.returns-clause-halts
 returns-clause-halts g c =
@@ -38,8 +38,8 @@ returns-clause-halts g c =
     let t = c.args.c.now in
     let x = volume_seen s t c.args.t.0 in
     err-along c.shift.result c.shift.ensures.failed c.shift.ensures.refused (λ failed refused r.
-    halts (seen s t r c.args.j.now.events) (Relate c.args.t.0 c.args.s.0 (choices c.args.o.now)) c.of-told.result (plain c.made-next.result) None (on-running s x.server c.requires.running)
-    (subst (λ y. Tells (Relate c.args.t.0 c.args.s.0 (choices c.args.o.now)) x y) (sym c.of-told.ensures) (tells-relate c.args.t.0 c.args.s.0 (choices c.args.o.now) x)) (sym (c.made-next.ensures ∙ ap (made c.args.s.0 (choices c.args.o.now)) c.peek_fields-fields.ensures.fields)) refl (armed_in s) (seen (g.P.Plant.state c.shift.new.p) t r c.shift.new.j.events) (refusal_of c.shift.result) refused (failed r))
+    halts (world_seen s t r c.args.j.now.events) (Relate c.args.t.0 c.args.s.0 (choices c.args.o.now)) c.of-told.result (plain c.made-next.result) None (on-running s x.server c.requires.running)
+    (subst (λ y. Tells (Relate c.args.t.0 c.args.s.0 (choices c.args.o.now)) x y) (sym c.of-told.ensures) (tells-relate c.args.t.0 c.args.s.0 (choices c.args.o.now) x)) (sym (c.made-next.ensures ∙ ap (made c.args.s.0 (choices c.args.o.now)) c.peek_fields-fields.ensures.fields)) refl (armed_in s) (world_seen (g.P.Plant.state c.shift.new.p) t r c.shift.new.j.events) (refusal_of c.shift.result) refused (failed r))
 
 pub returns-clause-shows : goal.returns-clause-shows
 returns-clause-shows g c =

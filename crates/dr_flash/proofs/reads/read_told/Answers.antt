@@ -2,7 +2,7 @@ use Rattle.std.proofs.Common.{ap, sym, ◌∙◌, subst, Some}
 use Rattle.dr_plant.specs.State.{PlantState}
 use Rattle.dr_plant.proofs.StateLemmas.{read_done}
 use Rattle.dr_model.specs.ReadStops.{GoesOff}
-use Rattle.dr_flash.specs.Here.{seen, armed_in, IsAtRest}
+use Rattle.dr_flash.specs.Here.{world_seen, armed_in, IsAtRest}
 use Rattle.dr_flash.proofs.ReadLemmas.{left-unread, unread-rest, unread-gone, unread-rose, before-same}
 use Rattle.dr_flash.proofs.reads.read_told.Goals as goal
 
@@ -24,7 +24,7 @@ returns-in-Ok-clause-faults g c = ap (λ (s : PlantState). s.faults) (c.in-Ok.en
 pub returns-in-Err-clause-gone : goal.returns-in-Err-clause-gone
 returns-in-Err-clause-gone g c r =
     let s = g.P.Plant.state c.args.p.now in
-    subst (λ e. GoesOff (armed_in s) (seen (g.P.Plant.state c.read_track.new.p) c.args.c.now r c.gone_off.new.j.events) (Some e) (seen s c.args.c.now r c.args.j.now.events)) (sym (c.gone_off.ensures.refusal s))
+    subst (λ e. GoesOff (armed_in s) (world_seen (g.P.Plant.state c.read_track.new.p) c.args.c.now r c.gone_off.new.j.events) (Some e) (world_seen s c.args.c.now r c.args.j.now.events)) (sym (c.gone_off.ensures.refusal s))
     (unread-gone c.args.c.now (g.P.Plant.state c.args.p.now) (g.P.Plant.state c.read_track.new.p) c.args.v.0 c.requires.rest c.requires.defined c.in-Err.ensures.done c.in-Err.ensures.state c.requires.running r c.args.j.now.events c.gone_off.new.j.events (c.gone_off.ensures.events s))
 
 pub returns-in-Err-clause-same : goal.returns-in-Err-clause-same

@@ -1,16 +1,15 @@
-use Rattle.std.proofs.Common.{ap, sym, subst, ◌∙◌, Some}
+use Rattle.std.proofs.Common.{ap, sym, subst, ◌∙◌, Some, refl}
 use Rattle.dr_model.specs.Layout.{Fields}
 use Rattle.dr_model.specs.Lawful.{IsLawful}
 use Rattle.dr_volume.specs.Plain.{plain}
 use Rattle.dr_volume.specs.View.{volume_seen}
-use Rattle.dr_flash.specs.Here.{seen, armed_in, refusal_of}
+use Rattle.dr_flash.specs.Here.{world_seen, armed_in, refusal_of}
 use Rattle.dr_model.specs.Carry.{update}
 use Rattle.dr_model.specs.Relations.{closed, fetched, rewritten}
 use Rattle.dr_flash.specs.Turns.{made_by}
 use Rattle.dr_flash.specs.Writes.{MadeFrom}
 use Rattle.dr_flash.proofs.WriteLemmas.{made-from}
 use Rattle.dr_flash.proofs.MoveLemmas.{MoveFits, overwrite-fits}
-use Rattle.std.proofs.Common.{refl}
 use Rattle.dr_volume.specs.Update.{IsMoved}
 use Rattle.dr_flash.proofs.TurnLemmas.{ok-along}
 use Rattle.dr_flash.proofs.ShowLemmas.{show-target, taken-track, taken-other}
@@ -30,9 +29,9 @@ shift-requires-clause-covers g c = (let s = g.P.Plant.state c.args.p.now in let 
 
 pub returns-clause-made : goal.returns-clause-made
 returns-clause-made g c r =
-    subst (λ f. MadeFrom (armed_in (g.P.Plant.state c.args.p.now)) (seen (g.P.Plant.state c.args.p.now) c.args.c.now r c.args.j.now.events) c.args.v.0 f (Some (c.args.t, c.args.bytes.now)) c.args.told.now (seen (g.P.Plant.state c.shift.new.p) c.args.c.now r c.shift.new.j.events) (refusal_of c.shift.result)) (c.closed-next.ensures ∙ ap (closed c.tracks_of-tracks.result) (c.rewritten.ensures ∙ ap (λ f. rewritten f c.args.t) c.fetched.ensures)
+    subst (λ f. MadeFrom (armed_in (g.P.Plant.state c.args.p.now)) (world_seen (g.P.Plant.state c.args.p.now) c.args.c.now r c.args.j.now.events) c.args.v.0 f (Some (c.args.t, c.args.bytes.now)) c.args.told.now (world_seen (g.P.Plant.state c.shift.new.p) c.args.c.now r c.shift.new.j.events) (refusal_of c.shift.result)) (c.closed-next.ensures ∙ ap (closed c.tracks_of-tracks.result) (c.rewritten.ensures ∙ ap (λ f. rewritten f c.args.t) c.fetched.ensures)
     ∙ (λ i. closed (sym (c.tracks_of-tracks.ensures.seen (g.P.Plant.state c.args.p.now)) i) (rewritten (fetched (c.requires.shows.fields i) c.args.t) c.args.t)))
-    (made-from c.shift.result (armed_in (g.P.Plant.state c.args.p.now)) (armed_in (g.P.Plant.state c.args.p.now)) (λ q h. h) (λ r. (seen (g.P.Plant.state c.args.p.now) c.args.c.now r c.args.j.now.events)) (λ r. (seen (g.P.Plant.state c.shift.new.p) c.args.c.now r c.shift.new.j.events)) (λ r. made_by (update (seen (g.P.Plant.state c.args.p.now) c.args.c.now r c.args.j.now.events) c.args.v.0 (plain c.closed-next.result) (Some (c.args.t, c.args.bytes.now))) (volume_seen (g.P.Plant.state c.args.p.now) c.args.c.now c.args.v.0).server c.args.told.now) (volume_seen (g.P.Plant.state c.args.p.now) c.args.c.now c.args.v.0).server
+    (made-from c.shift.result (armed_in (g.P.Plant.state c.args.p.now)) (armed_in (g.P.Plant.state c.args.p.now)) (λ q h. h) (λ r. (world_seen (g.P.Plant.state c.args.p.now) c.args.c.now r c.args.j.now.events)) (λ r. (world_seen (g.P.Plant.state c.shift.new.p) c.args.c.now r c.shift.new.j.events)) (λ r. made_by (update (world_seen (g.P.Plant.state c.args.p.now) c.args.c.now r c.args.j.now.events) c.args.v.0 (plain c.closed-next.result) (Some (c.args.t, c.args.bytes.now))) (volume_seen (g.P.Plant.state c.args.p.now) c.args.c.now c.args.v.0).server c.args.told.now) (volume_seen (g.P.Plant.state c.args.p.now) c.args.c.now c.args.v.0).server
     c.shift.ensures.done c.shift.ensures.failed c.shift.ensures.refused r)
 
 pub returns-clause-written : goal.returns-clause-written

@@ -8,19 +8,18 @@ use Rattle.dr_model.specs.Refusals.{stopped}
 use Rattle.dr_volume.specs.Plain.{plain}
 use Rattle.dr_volume.specs.Update.{Covers}
 use Rattle.dr_volume.specs.View.{volume_seen, ids_of}
-use Rattle.dr_flash.specs.Here.{seen, armed_in, refusal_of}
+use Rattle.dr_flash.specs.Here.{world_seen, armed_in, refusal_of}
 use Rattle.dr_flash.specs.Turns.{made_by, Fails}
 use Rattle.dr_flash.proofs.CopyLemmas.{no-own, before-then, wider-armed}
 use Rattle.dr_flash.proofs.FitLemmas.{fit-kept}
-use Rattle.dr_flash.proofs.TurnLemmas.{refused-by}
+use Rattle.dr_flash.proofs.TurnLemmas.{refused-by, ok-along}
 use Rattle.dr_flash.proofs.WriteLemmas.{made-from}
-use Rattle.dr_flash.proofs.TurnLemmas.{ok-along}
 use Rattle.dr_flash.proofs.HeldLemmas.{never-related, stored-others, stored-own, stored-rest}
 use Rattle.dr_flash.proofs.writing.write_source_telling.Goals as goal
 
 pub returns-in_err-copy_first-clause-carried : goal.returns-in_err-copy_first-clause-carried
 returns-in_err-copy_first-clause-carried g c r =
-    inl (subst (λ e. Fails (armed_in (g.P.Plant.state c.args.p.now)) (seen (g.P.Plant.state c.args.p.now) c.args.c.now r c.args.j.now.events) (copy_first (ids_of c.args.c.now.volumes) c.args.v.0 c.args.t) (seen (g.P.Plant.state c.copy_first.new.p) c.args.c.now r c.copy_first.new.j.events) e) (sym (refused-by c.from_residual.result c.in_err-copy_first.field-0.0 c.from_residual.ensures.0 c.from_residual.ensures.1)) (c.in_err-copy_first.ensures.fails r))
+    inl (subst (λ e. Fails (armed_in (g.P.Plant.state c.args.p.now)) (world_seen (g.P.Plant.state c.args.p.now) c.args.c.now r c.args.j.now.events) (copy_first (ids_of c.args.c.now.volumes) c.args.v.0 c.args.t) (world_seen (g.P.Plant.state c.copy_first.new.p) c.args.c.now r c.copy_first.new.j.events) e) (sym (refused-by c.from_residual.result c.in_err-copy_first.field-0.0 c.from_residual.ensures.0 c.from_residual.ensures.1)) (c.in_err-copy_first.ensures.fails r))
 
 pub shift-requires-clause-running : goal.shift-requires-clause-running
 shift-requires-clause-running g c = (λ i. c.in_ok-copy_first.ensures.on i ((c.in_ok-copy_first.ensures.others c.args.v.0 (no-own (g.P.Plant.state c.args.p.now) c.args.c.now c.args.v.0 c.requires.fit)).volume i).server) ∙ c.requires.running
@@ -42,9 +41,9 @@ shift-requires-clause-leaves g c =
 pub returns-clause-carried : goal.returns-clause-carried
 returns-clause-carried g c r =
     inr (
-      (seen (g.P.Plant.state c.copy_first.new.p) c.args.c.now r c.copy_first.new.j.events),
+      (world_seen (g.P.Plant.state c.copy_first.new.p) c.args.c.now r c.copy_first.new.j.events),
       c.in_ok-copy_first.ensures.leads r,
-      made-from c.shift.result (armed_in (g.P.Plant.state c.copy_first.new.p)) (armed_in (g.P.Plant.state c.args.p.now)) (wider-armed (g.P.Plant.state c.args.p.now) (g.P.Plant.state c.copy_first.new.p) c.in_ok-copy_first.ensures.unarmed) (λ r. (seen (g.P.Plant.state c.copy_first.new.p) c.args.c.now r c.copy_first.new.j.events)) (λ r. (seen (g.P.Plant.state c.shift.new.p) c.args.c.now r c.shift.new.j.events)) (λ r. made_by (update (seen (g.P.Plant.state c.copy_first.new.p) c.args.c.now r c.copy_first.new.j.events) c.args.v.0 (plain c.args.next.now) (Some (c.args.t, c.args.bytes.now))) (volume_seen (g.P.Plant.state c.copy_first.new.p) c.args.c.now c.args.v.0).server c.args.told.now) (volume_seen (g.P.Plant.state c.copy_first.new.p) c.args.c.now c.args.v.0).server
+      made-from c.shift.result (armed_in (g.P.Plant.state c.copy_first.new.p)) (armed_in (g.P.Plant.state c.args.p.now)) (wider-armed (g.P.Plant.state c.args.p.now) (g.P.Plant.state c.copy_first.new.p) c.in_ok-copy_first.ensures.unarmed) (λ r. (world_seen (g.P.Plant.state c.copy_first.new.p) c.args.c.now r c.copy_first.new.j.events)) (λ r. (world_seen (g.P.Plant.state c.shift.new.p) c.args.c.now r c.shift.new.j.events)) (λ r. made_by (update (world_seen (g.P.Plant.state c.copy_first.new.p) c.args.c.now r c.copy_first.new.j.events) c.args.v.0 (plain c.args.next.now) (Some (c.args.t, c.args.bytes.now))) (volume_seen (g.P.Plant.state c.copy_first.new.p) c.args.c.now c.args.v.0).server c.args.told.now) (volume_seen (g.P.Plant.state c.copy_first.new.p) c.args.c.now c.args.v.0).server
           c.shift.ensures.done c.shift.ensures.failed c.shift.ensures.refused r,
     )
 

@@ -5,10 +5,12 @@ use Rattle.dr_model.specs.Pairs.{suspended}
 use Rattle.dr_model.specs.Control.{Volume}
 use Rattle.dr_model.specs.WriteEntries.{freeze_on}
 use Rattle.dr_volume.specs.View.{volume_seen}
-use Rattle.dr_flash.specs.Here.{seen, armed_in, refusal_of}
+use Rattle.dr_flash.specs.Here.{world_seen, armed_in, refusal_of}
 use Rattle.dr_flash.proofs.TurnLemmas.{ok-along, err-along}
-use Rattle.dr_freeze.proofs.BetweenLemmas.{running-between, primary-between, freeze-comes, freeze-skips, still-moved, two-along, frozen-fields, advances-alike, halts-alike}
+use Rattle.dr_freeze.proofs.BetweenLemmas.{running-between, primary-between, freeze-comes, freeze-skips, still-moved, frozen-fields}
 use Rattle.dr_freeze.proofs.changes.freeze_volume.Goals as goal
+use Rattle.dr_flash.proofs.KeepLemmas.{alike-advances, alike-halts}
+use Rattle.dr_logic.proofs.Results.{ok-two}
 
 pub suspend-requires-clause-running : goal.suspend-requires-clause-running
 suspend-requires-clause-running g c = running-between (g.P.Plant.state c.args.p.now) c.args.c.now c.args.l.0 c.args.m.0 c.args.v.0 (sym c.is_between.ensures.test ∙ c.if-not-is_between.false)
@@ -29,7 +31,7 @@ returns-clause-advances g c =
     let s = g.P.Plant.state c.args.p.now in
     let t = c.args.c.now in
     ok-along c.suspend.result c.suspend.ensures.advances (λ go r.
-    advances-alike (seen s t r c.args.j.now.events) (seen (g.P.Plant.state c.suspend.new.p) t r c.suspend.new.j.events) (freeze_on c.args.l.0 c.args.m.0 c.args.v.0) (now (Suspend c.args.v.0 true))
+    alike-advances (world_seen s t r c.args.j.now.events) (world_seen (g.P.Plant.state c.suspend.new.p) t r c.suspend.new.j.events) (freeze_on c.args.l.0 c.args.m.0 c.args.v.0) (now (Suspend c.args.v.0 true))
     (freeze-comes s t r c.args.j.now.events c.args.l.0 c.args.m.0 c.args.v.0 c.is_between.ensures.server (sym c.is_between.ensures.test ∙ c.if-not-is_between.false)) (go r))
 
 pub returns-clause-halts : goal.returns-clause-halts
@@ -37,7 +39,7 @@ returns-clause-halts g c =
     let s = g.P.Plant.state c.args.p.now in
     let t = c.args.c.now in
     err-along c.suspend.result c.suspend.ensures.halts c.suspend.ensures.halts (λ end _ r.
-    halts-alike (armed_in s) (seen s t r c.args.j.now.events) (seen (g.P.Plant.state c.suspend.new.p) t r c.suspend.new.j.events) (refusal_of c.suspend.result) (freeze_on c.args.l.0 c.args.m.0 c.args.v.0) (now (Suspend c.args.v.0 true))
+    alike-halts (armed_in s) (world_seen s t r c.args.j.now.events) (world_seen (g.P.Plant.state c.suspend.new.p) t r c.suspend.new.j.events) (refusal_of c.suspend.result) (freeze_on c.args.l.0 c.args.m.0 c.args.v.0) (now (Suspend c.args.v.0 true))
     (freeze-comes s t r c.args.j.now.events c.args.l.0 c.args.m.0 c.args.v.0 c.is_between.ensures.server (sym c.is_between.ensures.test ∙ c.if-not-is_between.false)) (end r))
 
 pub returns-clause-changed : goal.returns-clause-changed
@@ -49,5 +51,5 @@ returns-clause-still g c =
     let s = g.P.Plant.state c.args.p.now in
     let t = c.args.c.now in
     let u = g.P.Plant.state c.suspend.new.p in
-    two-along c.suspend.result c.suspend.ensures.moved c.suspend.ensures.on (λ moved on.
+    ok-two c.suspend.result c.suspend.ensures.moved c.suspend.ensures.on (λ moved on.
     still-moved s u t c.args.l.0 c.args.m.0 c.args.v.0 (suspended true (volume_seen s t c.args.v.0).fields) on refl refl moved c.suspend.ensures.others)

@@ -1,8 +1,8 @@
 use Rattle.std.proofs.Common.{◌≡◌, [], ◌∷◌, sym, subst, ◌∙◌, Some, None, true, false}
+use Rattle.dr_logic.specs.Counts.{Counted}
 use Rattle.dr_model.specs.WriteEntries.{freeze_entries, end_freeze}
 use Rattle.dr_volume.specs.View.{ids_of}
-use Rattle.dr_flash.specs.Faults.{Counted}
-use Rattle.dr_flash.specs.Here.{seen, armed_in}
+use Rattle.dr_flash.specs.Here.{world_seen, armed_in}
 use Rattle.dr_freeze.proofs.EndLemmas.{freeze-ends, rest-without, fit-without, all-frozen}
 use Rattle.dr_freeze.proofs.freezing.freeze.Goals as goal
 
@@ -15,7 +15,7 @@ returns-in-Ok-clause-carried g c r =
     let s = g.P.Plant.state c.args.p.now in
     let u = g.P.Plant.state c.change_all.new.p in
     let t = c.args.c.now in
-    let last = seen u c.end_freeze.new.c r c.end_freeze.new.j.events in
+    let last = world_seen u c.end_freeze.new.c r c.end_freeze.new.j.events in
     c.in_default.ensures.checked r c.args.j.now.events (armed_in s) last None (freeze_entries (ids_of t.volumes) c.args.l.0 c.args.m.0)
     (c.in-Ok.ensures.leads r (armed_in s) last None (end_freeze c.args.l.0 c.args.m.0 ∷ [])
     (freeze-ends (armed_in s) u t c.end_freeze.new.c r c.change_all.new.j.events c.end_freeze.new.j.events c.args.l.0 c.args.m.0 c.end_freeze.ensures.removed c.end_freeze.ensures.events))
@@ -25,7 +25,7 @@ returns-in-Err-clause-carried g c r =
     let s = g.P.Plant.state c.args.p.now in
     let u = g.P.Plant.state c.change_all.new.p in
     let t = c.args.c.now in
-    let last = seen u t r c.change_all.new.j.events in
+    let last = world_seen u t r c.change_all.new.j.events in
     c.in_default.ensures.checked r c.args.j.now.events (armed_in s) last (Some c.in-Err.why) (freeze_entries (ids_of t.volumes) c.args.l.0 c.args.m.0)
     (c.in-Err.ensures.fails r (end_freeze c.args.l.0 c.args.m.0 ∷ []))
 

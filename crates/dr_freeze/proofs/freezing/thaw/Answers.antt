@@ -1,8 +1,8 @@
 use Rattle.std.proofs.Common.{◌≡◌, [], ◌∷◌, sym, subst, ◌∙◌, Some, None, true, false}
+use Rattle.dr_logic.specs.Counts.{Counted}
 use Rattle.dr_model.specs.WriteEntries.{thaw_entries, end_thaw}
 use Rattle.dr_volume.specs.View.{ids_of}
-use Rattle.dr_flash.specs.Faults.{Counted}
-use Rattle.dr_flash.specs.Here.{seen, armed_in}
+use Rattle.dr_flash.specs.Here.{world_seen, armed_in}
 use Rattle.dr_freeze.proofs.EndLemmas.{thaw-ends, all-thawed}
 use Rattle.dr_freeze.proofs.freezing.thaw.Goals as goal
 
@@ -15,7 +15,7 @@ returns-in-Ok-clause-carried g c r =
     let s = g.P.Plant.state c.args.p.now in
     let u = g.P.Plant.state c.change_all.new.p in
     let t = c.args.c.now in
-    let last = seen u t r c.end_thaw.new.j.events in
+    let last = world_seen u t r c.end_thaw.new.j.events in
     c.in_default.ensures.checked r c.args.j.now.events (armed_in s) last None (thaw_entries (ids_of t.volumes) c.args.l.0 c.args.m.0)
     (c.in-Ok.ensures.leads r (armed_in s) last None (end_thaw c.args.l.0 c.args.m.0 ∷ [])
     (thaw-ends (armed_in s) u t r c.change_all.new.j.events c.end_thaw.new.j.events c.args.l.0 c.args.m.0 c.end_thaw.ensures.events))
@@ -25,7 +25,7 @@ returns-in-Err-clause-carried g c r =
     let s = g.P.Plant.state c.args.p.now in
     let u = g.P.Plant.state c.change_all.new.p in
     let t = c.args.c.now in
-    let last = seen u t r c.change_all.new.j.events in
+    let last = world_seen u t r c.change_all.new.j.events in
     c.in_default.ensures.checked r c.args.j.now.events (armed_in s) last (Some c.in-Err.why) (thaw_entries (ids_of t.volumes) c.args.l.0 c.args.m.0)
     (c.in-Err.ensures.fails r (end_thaw c.args.l.0 c.args.m.0 ∷ []))
 

@@ -5,7 +5,7 @@ use Rattle.dr_model.specs.Carry.{Entry}
 use Rattle.dr_model.specs.ReadStops.{Ends}
 use Rattle.dr_volume.specs.View.{Rest, ids_of}
 use Rattle.dr_flash.specs.Fit.{RelationsFit}
-use Rattle.dr_flash.specs.Here.{seen, IsAtRest}
+use Rattle.dr_flash.specs.Here.{world_seen, IsAtRest}
 use Rattle.dr_freeze.specs.Between.{StillBetween}
 use Rattle.dr_freeze.specs.Changes.{change_on}
 use Rattle.dr_freeze.proofs.PassLemmas.{changes_from, ChangedBelow}
@@ -14,8 +14,8 @@ use Rattle.dr_freeze.proofs.passing.change_all.Given as goal
 abbrev pub invariant-loop-place : goal.invariant-loop-place
 invariant-loop-place g l = record {
   -- what ends those that are left ends all
-  left : (r : Rest) (armed : ℕ → Bool) (u : World) (r' : Option Refusal) (ds : List Entry) → Ends armed u r' (seen (g.P.Plant.state l.p) l.c r l.j.events) (changes_from l.c l.x l.l.0 l.m.0 l.place ++ ds)
-      → Ends armed u r' (seen (g.P.Plant.state l.fn.p) l.c r l.fn.j.events) (map (change_on l.x l.l.0 l.m.0) (ids_of l.c.volumes) ++ ds);
+  left : (r : Rest) (armed : ℕ → Bool) (u : World) (r' : Option Refusal) (ds : List Entry) → Ends armed u r' (world_seen (g.P.Plant.state l.p) l.c r l.j.events) (changes_from l.c l.x l.l.0 l.m.0 l.place ++ ds)
+      → Ends armed u r' (world_seen (g.P.Plant.state l.fn.p) l.c r l.fn.j.events) (map (change_on l.x l.l.0 l.m.0) (ids_of l.c.volumes) ++ ds);
   rest : IsAtRest (g.P.Plant.state l.p) l.c;
   fit : RelationsFit (g.P.Plant.state l.p) l.c;
   unarmed : (q : ℕ) → (g.P.Plant.state l.fn.p).read_fuse q ≡ None → (g.P.Plant.state l.p).read_fuse q ≡ None;

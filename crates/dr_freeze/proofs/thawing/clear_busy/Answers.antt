@@ -7,7 +7,7 @@ use Rattle.dr_model.specs.Moves.{Thaw}
 use Rattle.dr_model.specs.Pairs.{thawed}
 use Rattle.dr_volume.specs.Plain.{plain}
 use Rattle.dr_volume.specs.View.{volume_seen}
-use Rattle.dr_flash.specs.Here.{seen, armed_in, refusal_of}
+use Rattle.dr_flash.specs.Here.{world_seen, armed_in, refusal_of}
 use Rattle.dr_flash.specs.declared.told.Telling.{Telling}
 use Rattle.dr_flash.specs.Told.{events_of}
 use Rattle.dr_flash.proofs.ReadLemmas.{on-running}
@@ -36,9 +36,9 @@ returns-clause-advances g c =
     let t = c.args.c.now in
     let x = volume_seen s t c.args.v.0 in
     ok-along c.shift.result c.shift.ensures.done (λ done r.
-    advances (seen s t r c.args.j.now.events) (Thaw c.args.v.0) c.of.result (plain c.thawed-next.result) None (on-running s x.server c.requires.running)
+    advances (world_seen s t r c.args.j.now.events) (Thaw c.args.v.0) c.of.result (plain c.thawed-next.result) None (on-running s x.server c.requires.running)
     (subst (λ y. Tells (Thaw c.args.v.0) x y) (sym c.of.ensures) (tells-thaw c.args.v.0 x)) (sym (c.thawed-next.ensures ∙ ap thawed c.peek_fields.ensures.fields)) refl
-    (seen (g.P.Plant.state c.shift.new.p) t r c.shift.new.j.events) (done r))
+    (world_seen (g.P.Plant.state c.shift.new.p) t r c.shift.new.j.events) (done r))
 
 pub returns-clause-halts : goal.returns-clause-halts
 returns-clause-halts g c =
@@ -46,9 +46,9 @@ returns-clause-halts g c =
     let t = c.args.c.now in
     let x = volume_seen s t c.args.v.0 in
     err-along c.shift.result c.shift.ensures.failed c.shift.ensures.refused (λ failed refused r.
-    halts (seen s t r c.args.j.now.events) (Thaw c.args.v.0) c.of.result (plain c.thawed-next.result) None (on-running s x.server c.requires.running)
+    halts (world_seen s t r c.args.j.now.events) (Thaw c.args.v.0) c.of.result (plain c.thawed-next.result) None (on-running s x.server c.requires.running)
     (subst (λ y. Tells (Thaw c.args.v.0) x y) (sym c.of.ensures) (tells-thaw c.args.v.0 x)) (sym (c.thawed-next.ensures ∙ ap thawed c.peek_fields.ensures.fields)) refl
-    (armed_in s) (seen (g.P.Plant.state c.shift.new.p) t r c.shift.new.j.events) (refusal_of c.shift.result) refused (failed r))
+    (armed_in s) (world_seen (g.P.Plant.state c.shift.new.p) t r c.shift.new.j.events) (refusal_of c.shift.result) refused (failed r))
 
 pub returns-clause-room_left : goal.returns-clause-room_left
 returns-clause-room_left g c =

@@ -1,10 +1,11 @@
 use Rattle.std.proofs.Common.{sym, Some, ◌∷◌, ◌++◌}
 use Rattle.dr_model.specs.Entries.{running_check}
 use Rattle.dr_model.specs.PairEntries.{refuse_if, reach_refusal}
-use Rattle.dr_flash.specs.Here.{seen}
+use Rattle.dr_flash.specs.Here.{world_seen}
 use Rattle.dr_gcopy.specs.Steps.{unlike_checks, free_checks, flash_checks}
-use Rattle.dr_gcopy.proofs.PairChecks.{ends-clear, ends-why, then-checked, on-none, servers-apart}
+use Rattle.dr_gcopy.proofs.PairChecks.{then-checked, on-none, servers-apart}
 use Rattle.dr_gcopy.proofs.checks.make_refusal.Goals as goal
+use Rattle.dr_flash.proofs.CheckLemmas.{ends-clear, ends-why}
 
 pub returns-in-Some-clause-checked : goal.returns-in-Some-clause-checked
 returns-in-Some-clause-checked g c r events armed ds =
@@ -12,27 +13,27 @@ returns-in-Some-clause-checked g c r events armed ds =
 
 pub returns-in-Some-reach_refusal-clause-checked : goal.returns-in-Some-reach_refusal-clause-checked
 returns-in-Some-reach_refusal-clause-checked g c r events armed ds =
-    c.in_default.ensures.checked r events armed (seen (g.P.Plant.state c.args.p.now) c.args.c.now r events) (Some c.in-Some-reach_refusal.why) _
-    (ends-why armed (seen (g.P.Plant.state c.args.p.now) c.args.c.now r events) (reach_refusal c.args.a.0 c.args.b.0) c.in-Some-reach_refusal.why _ (sym (c.in-Some-reach_refusal.ensures.refusal r events)))
+    c.in_default.ensures.checked r events armed (world_seen (g.P.Plant.state c.args.p.now) c.args.c.now r events) (Some c.in-Some-reach_refusal.why) _
+    (ends-why armed (world_seen (g.P.Plant.state c.args.p.now) c.args.c.now r events) (reach_refusal c.args.a.0 c.args.b.0) c.in-Some-reach_refusal.why _ (sym (c.in-Some-reach_refusal.ensures.refusal r events)))
 
 pub returns-in-Some-unlike_refusal-clause-checked : goal.returns-in-Some-unlike_refusal-clause-checked
 returns-in-Some-unlike_refusal-clause-checked g c r events armed ds =
-    c.in_default.ensures.checked r events armed (seen (g.P.Plant.state c.args.p.now) c.args.c.now r events) (Some c.in-Some-unlike_refusal.why) _
-    (ends-clear armed (seen (g.P.Plant.state c.args.p.now) c.args.c.now r events) (Some c.in-Some-unlike_refusal.why) (seen (g.P.Plant.state c.args.p.now) c.args.c.now r events) (reach_refusal c.args.a.0 c.args.b.0) _ (sym (c.in_default-reach_refusal.ensures.refusal r events))
+    c.in_default.ensures.checked r events armed (world_seen (g.P.Plant.state c.args.p.now) c.args.c.now r events) (Some c.in-Some-unlike_refusal.why) _
+    (ends-clear armed (world_seen (g.P.Plant.state c.args.p.now) c.args.c.now r events) (Some c.in-Some-unlike_refusal.why) (world_seen (g.P.Plant.state c.args.p.now) c.args.c.now r events) (reach_refusal c.args.a.0 c.args.b.0) _ (sym (c.in_default-reach_refusal.ensures.refusal r events))
     (c.in-Some-unlike_refusal.ensures.checked (g.P.Plant.state c.args.p.now) r events armed _))
 
 pub returns-in-Some-free_refusal-clause-checked : goal.returns-in-Some-free_refusal-clause-checked
 returns-in-Some-free_refusal-clause-checked g c r events armed ds =
-    c.in_default.ensures.checked r events armed (seen (g.P.Plant.state c.args.p.now) c.args.c.now r events) (Some c.in-Some-free_refusal.why) _
-    (ends-clear armed (seen (g.P.Plant.state c.args.p.now) c.args.c.now r events) (Some c.in-Some-free_refusal.why) (seen (g.P.Plant.state c.args.p.now) c.args.c.now r events) (reach_refusal c.args.a.0 c.args.b.0) _ (sym (c.in_default-reach_refusal.ensures.refusal r events))
-    (c.in_default-unlike_refusal.ensures.checked (g.P.Plant.state c.args.p.now) r events armed (seen (g.P.Plant.state c.args.p.now) c.args.c.now r events) (Some c.in-Some-free_refusal.why) _
+    c.in_default.ensures.checked r events armed (world_seen (g.P.Plant.state c.args.p.now) c.args.c.now r events) (Some c.in-Some-free_refusal.why) _
+    (ends-clear armed (world_seen (g.P.Plant.state c.args.p.now) c.args.c.now r events) (Some c.in-Some-free_refusal.why) (world_seen (g.P.Plant.state c.args.p.now) c.args.c.now r events) (reach_refusal c.args.a.0 c.args.b.0) _ (sym (c.in_default-reach_refusal.ensures.refusal r events))
+    (c.in_default-unlike_refusal.ensures.checked (g.P.Plant.state c.args.p.now) r events armed (world_seen (g.P.Plant.state c.args.p.now) c.args.c.now r events) (Some c.in-Some-free_refusal.why) _
     (c.in-Some-free_refusal.ensures.checked r events armed _)))
 
 pub returns-clause-checked : goal.returns-clause-checked
 returns-clause-checked g c r events =
-    then-checked (seen (g.P.Plant.state c.args.p.now) c.args.c.now r events) (running_check (seen (g.P.Plant.state c.args.p.now) c.args.c.now r events).control c.args.a.0 ∷ refuse_if (reach_refusal c.args.a.0 c.args.b.0) ∷ unlike_checks c.args.a.0 c.args.b.0 ++ free_checks (seen (g.P.Plant.state c.args.p.now) c.args.c.now r events).control c.args.a.0 c.args.b.0) (flash_checks (seen (g.P.Plant.state c.args.p.now) c.args.c.now r events).control c.args.a.0 c.args.b.0) c.flash_refusal.result
+    then-checked (world_seen (g.P.Plant.state c.args.p.now) c.args.c.now r events) (running_check (world_seen (g.P.Plant.state c.args.p.now) c.args.c.now r events).control c.args.a.0 ∷ refuse_if (reach_refusal c.args.a.0 c.args.b.0) ∷ unlike_checks c.args.a.0 c.args.b.0 ++ free_checks (world_seen (g.P.Plant.state c.args.p.now) c.args.c.now r events).control c.args.a.0 c.args.b.0) (flash_checks (world_seen (g.P.Plant.state c.args.p.now) c.args.c.now r events).control c.args.a.0 c.args.b.0) c.flash_refusal.result
     (λ armed u r' ds more. c.in_default.ensures.checked r events armed u r' _
-    (ends-clear armed u r' (seen (g.P.Plant.state c.args.p.now) c.args.c.now r events) (reach_refusal c.args.a.0 c.args.b.0) _ (sym (c.in_default-reach_refusal.ensures.refusal r events))
+    (ends-clear armed u r' (world_seen (g.P.Plant.state c.args.p.now) c.args.c.now r events) (reach_refusal c.args.a.0 c.args.b.0) _ (sym (c.in_default-reach_refusal.ensures.refusal r events))
     (c.in_default-unlike_refusal.ensures.checked (g.P.Plant.state c.args.p.now) r events armed u r' _
     (c.in_default-free_refusal.ensures.checked r events armed u r' _
     (more)))))

@@ -1,13 +1,13 @@
 use Rattle.std.proofs.Common.{ap, sym, ◌∙◌, not, ◌&&◌, Some}
+use Rattle.std.proofs.lemmas.Bool.{and_parts}
 use Rattle.dr_ids.specs.declared.refusal.Refusal.{Refusal}
 use Rattle.dr_model.specs.Layout.{Fields}
 use Rattle.dr_model.specs.Entries.{pair_state}
 use Rattle.dr_model.specs.PairEntries.{may_pause}
 use Rattle.dr_model.specs.Pairs.{is_primary_of, is_suspended}
-use Rattle.dr_flash.specs.Here.{seen}
-use Rattle.dr_flash.proofs.EndsLemmas.{ends-passed}
+use Rattle.dr_flash.specs.Here.{world_seen}
+use Rattle.dr_facts.proofs.Ends.{ends-passed}
 use Rattle.dr_flash.proofs.CheckLemmas.{refuses}
-use Rattle.dr_gcopy.proofs.PairChecks.{both-first}
 use Rattle.dr_gcopy.proofs.checks.pause_refusal.Goals as goal
 
 pub returns-in-Some-clause-checked : goal.returns-in-Some-clause-checked
@@ -16,15 +16,15 @@ returns-in-Some-clause-checked g c r events armed ds =
 
 pub returns-then-not-may_pause-clause-checked : goal.returns-then-not-may_pause-clause-checked
 returns-then-not-may_pause-clause-checked g c r events armed ds =
-    c.in_default.ensures.checked r events armed (seen (g.P.Plant.state c.args.p.now) c.args.c.now r events) (Some c.pair_state.result) _
-    (refuses armed (seen (g.P.Plant.state c.args.p.now) c.args.c.now r events) (may_pause c.args.a.0 c.args.b.0) (pair_state (seen (g.P.Plant.state c.args.p.now) c.args.c.now r events).control c.args.a.0) (Some c.pair_state.result) _ (ap (λ (f : Fields). is_primary_of c.args.b.0 f && not (is_suspended f.primary_state)) (sym c.peek_fields.ensures.fields) ∙ sym c.may_pause.ensures ∙ c.if-not-may_pause.true) (ap (λ (x : Refusal). Some x) (c.pair_state.ensures.refusal r events)))
+    c.in_default.ensures.checked r events armed (world_seen (g.P.Plant.state c.args.p.now) c.args.c.now r events) (Some c.pair_state.result) _
+    (refuses armed (world_seen (g.P.Plant.state c.args.p.now) c.args.c.now r events) (may_pause c.args.a.0 c.args.b.0) (pair_state (world_seen (g.P.Plant.state c.args.p.now) c.args.c.now r events).control c.args.a.0) (Some c.pair_state.result) _ (ap (λ (f : Fields). is_primary_of c.args.b.0 f && not (is_suspended f.primary_state)) (sym c.peek_fields.ensures.fields) ∙ sym c.may_pause.ensures ∙ c.if-not-may_pause.true) (ap (λ (x : Refusal). Some x) (c.pair_state.ensures.refusal r events)))
 
 pub returns-clause-checked : goal.returns-clause-checked
 returns-clause-checked g c r events armed u r' ds more =
     c.in_default.ensures.checked r events armed u r' _
-    (ends-passed armed u r' (seen (g.P.Plant.state c.args.p.now) c.args.c.now r events) (may_pause c.args.a.0 c.args.b.0) (pair_state (seen (g.P.Plant.state c.args.p.now) c.args.c.now r events).control c.args.a.0) _ (ap (λ (f : Fields). is_primary_of c.args.b.0 f && not (is_suspended f.primary_state)) (sym c.peek_fields.ensures.fields) ∙ sym c.may_pause.ensures ∙ c.if-not-may_pause.false)
+    (ends-passed armed u r' (world_seen (g.P.Plant.state c.args.p.now) c.args.c.now r events) (may_pause c.args.a.0 c.args.b.0) (pair_state (world_seen (g.P.Plant.state c.args.p.now) c.args.c.now r events).control c.args.a.0) _ (ap (λ (f : Fields). is_primary_of c.args.b.0 f && not (is_suspended f.primary_state)) (sym c.peek_fields.ensures.fields) ∙ sym c.may_pause.ensures ∙ c.if-not-may_pause.false)
     (more))
 
 pub returns-clause-primary : goal.returns-clause-primary
 returns-clause-primary g c =
-    both-first _ _ (both-first _ _ (ap (λ (f : Fields). is_primary_of c.args.b.0 f && not (is_suspended f.primary_state)) (sym c.peek_fields.ensures.fields) ∙ sym c.may_pause.ensures ∙ c.if-not-may_pause.false))
+    (and_parts _ _ ((and_parts _ _ (ap (λ (f : Fields). is_primary_of c.args.b.0 f && not (is_suspended f.primary_state)) (sym c.peek_fields.ensures.fields) ∙ sym c.may_pause.ensures ∙ c.if-not-may_pause.false)).0)).0

@@ -4,14 +4,14 @@ use Rattle.dr_model.specs.PairEntries.{sends}
 use Rattle.dr_model.specs.Relations.{in_order}
 use Rattle.dr_volume.specs.View.{Rest, volume_seen, ids_of}
 use Rattle.dr_flash.specs.Fit.{RelationsFit}
-use Rattle.dr_flash.specs.Here.{seen, IsAtRest}
+use Rattle.dr_flash.specs.Here.{world_seen, IsAtRest}
 use Rattle.dr_flash.specs.Turns.{Leads}
 use Rattle.dr_gcopy.proofs.DrainLemmas.{Within}
 use Rattle.dr_gcopy.proofs.draining.drain_to.Given as goal
 
 abbrev pub invariant-loop-sent : goal.invariant-loop-sent
 invariant-loop-sent g l = record {
-  led : (r : Rest) → Leads (seen (g.P.Plant.state l.fn.p) l.c r l.fn.j.events) (sends (ids_of l.c.volumes) l.a.0 l.b.0 (take l.sent (in_order l.n l.out_of_sync))) (seen (g.P.Plant.state l.p) l.c r l.j.events);
+  led : (r : Rest) → Leads (world_seen (g.P.Plant.state l.fn.p) l.c r l.fn.j.events) (sends (ids_of l.c.volumes) l.a.0 l.b.0 (take l.sent (in_order l.n l.out_of_sync))) (world_seen (g.P.Plant.state l.p) l.c r l.j.events);
   left : drop l.sent (in_order l.n l.out_of_sync) ≡ in_order l.n l.left;
   few : l.sent ≤ length (in_order l.n l.out_of_sync);
   within : Within l.most l.sent;

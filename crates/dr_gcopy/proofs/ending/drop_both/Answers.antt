@@ -1,21 +1,22 @@
 use Rattle.std.proofs.Common.{ap, sym, subst, ◌∙◌, ◌∷◌}
 use Rattle.std.specs.Prelude.{is_err}
+use Rattle.dr_logic.specs.Counts.{Counted}
 use Rattle.dr_model.specs.Carry.{now}
 use Rattle.dr_model.specs.Moves.{DropPrimary}
 use Rattle.dr_model.specs.PairEntries.{let_go}
 use Rattle.dr_model.specs.ReadStops.{Ends}
 use Rattle.dr_flash.specs.Checks.{is_stop}
-use Rattle.dr_flash.specs.Faults.{Counted}
-use Rattle.dr_flash.specs.Here.{seen, armed_in, refusal_of}
+use Rattle.dr_flash.specs.Here.{world_seen, armed_in, refusal_of}
 use Rattle.dr_flash.proofs.CopyLemmas.{before-then}
-use Rattle.dr_flash.proofs.TurnLemmas.{err-always, refused-by, ok-along, err-along}
+use Rattle.dr_flash.proofs.TurnLemmas.{refused-by, ok-along, err-along}
 use Rattle.dr_gcopy.proofs.TwoMoves.{two-lead, second-fails, still-running}
 use Rattle.dr_gcopy.proofs.ending.drop_both.Goals as goal
+use Rattle.dr_logic.proofs.Results.{err-always}
 
 pub returns-in_err-drop_primary-clause-fails : goal.returns-in_err-drop_primary-clause-fails
 returns-in_err-drop_primary-clause-fails g c =
     err-always c.from_residual.result (λ r ds.
-    subst (λ q. Ends (armed_in (g.P.Plant.state c.args.p.now)) (seen (g.P.Plant.state c.drop_primary.new.p) c.args.c.now r c.drop_primary.new.j.events) q (seen (g.P.Plant.state c.args.p.now) c.args.c.now r c.args.j.now.events) ((now (DropPrimary c.args.a.0)) ∷ (let_go c.args.a.0 c.args.b.0) ∷ ds)) (sym (refused-by c.from_residual.result c.in_err-drop_primary.field-0.0 c.from_residual.ensures.0 c.from_residual.ensures.1))
+    subst (λ q. Ends (armed_in (g.P.Plant.state c.args.p.now)) (world_seen (g.P.Plant.state c.drop_primary.new.p) c.args.c.now r c.drop_primary.new.j.events) q (world_seen (g.P.Plant.state c.args.p.now) c.args.c.now r c.args.j.now.events) ((now (DropPrimary c.args.a.0)) ∷ (let_go c.args.a.0 c.args.b.0) ∷ ds)) (sym (refused-by c.from_residual.result c.in_err-drop_primary.field-0.0 c.from_residual.ensures.0 c.from_residual.ensures.1))
     (c.in_err-drop_primary.ensures.halts r ((let_go c.args.a.0 c.args.b.0) ∷ ds)))
 
 pub returns-in_err-drop_primary-clause-stops : goal.returns-in_err-drop_primary-clause-stops
@@ -29,12 +30,12 @@ let_go-requires-clause-reached g c = still-running (g.P.Plant.state c.args.p.now
 
 pub returns-clause-leads : goal.returns-clause-leads
 returns-clause-leads g c =
-    ok-along c.let_go.result c.let_go.ensures.advances (λ goes r. two-lead (seen (g.P.Plant.state c.args.p.now) c.args.c.now r c.args.j.now.events) (seen (g.P.Plant.state c.drop_primary.new.p) c.args.c.now r c.drop_primary.new.j.events) (seen (g.P.Plant.state c.let_go.new.p) c.args.c.now r c.let_go.new.j.events) (now (DropPrimary c.args.a.0)) (let_go c.args.a.0 c.args.b.0) (c.in_ok-drop_primary.ensures.advances r) (goes r))
+    ok-along c.let_go.result c.let_go.ensures.advances (λ goes r. two-lead (world_seen (g.P.Plant.state c.args.p.now) c.args.c.now r c.args.j.now.events) (world_seen (g.P.Plant.state c.drop_primary.new.p) c.args.c.now r c.drop_primary.new.j.events) (world_seen (g.P.Plant.state c.let_go.new.p) c.args.c.now r c.let_go.new.j.events) (now (DropPrimary c.args.a.0)) (let_go c.args.a.0 c.args.b.0) (c.in_ok-drop_primary.ensures.advances r) (goes r))
 
 pub returns-clause-fails : goal.returns-clause-fails
 returns-clause-fails g c =
     err-along c.let_go.result c.let_go.ensures.halts c.let_go.ensures.refused (λ halts refused r.
-    second-fails (g.P.Plant.state c.args.p.now) (g.P.Plant.state c.drop_primary.new.p) (seen (g.P.Plant.state c.args.p.now) c.args.c.now r c.args.j.now.events) (seen (g.P.Plant.state c.drop_primary.new.p) c.args.c.now r c.drop_primary.new.j.events) (seen (g.P.Plant.state c.let_go.new.p) c.args.c.now r c.let_go.new.j.events) (refusal_of c.let_go.result) (now (DropPrimary c.args.a.0)) (let_go c.args.a.0 c.args.b.0) c.in_ok-drop_primary.ensures.unarmed (c.in_ok-drop_primary.ensures.advances r) (halts r))
+    second-fails (g.P.Plant.state c.args.p.now) (g.P.Plant.state c.drop_primary.new.p) (world_seen (g.P.Plant.state c.args.p.now) c.args.c.now r c.args.j.now.events) (world_seen (g.P.Plant.state c.drop_primary.new.p) c.args.c.now r c.drop_primary.new.j.events) (world_seen (g.P.Plant.state c.let_go.new.p) c.args.c.now r c.let_go.new.j.events) (refusal_of c.let_go.result) (now (DropPrimary c.args.a.0)) (let_go c.args.a.0 c.args.b.0) c.in_ok-drop_primary.ensures.unarmed (c.in_ok-drop_primary.ensures.advances r) (halts r))
 
 pub returns-clause-stops : goal.returns-clause-stops
 returns-clause-stops g c = err-along c.let_go.result c.let_go.ensures.refused c.let_go.ensures.refused (λ refused again. ap is_stop refused)

@@ -1,15 +1,15 @@
 use Rattle.std.proofs.Common.{sym, subst, Some}
+use Rattle.dr_logic.specs.Counts.{Counted}
 use Rattle.dr_ids.specs.declared.refusal.Refusal.{Refusal}
 use Rattle.dr_model.specs.PairEntries.{suspend_after}
 use Rattle.dr_flash.specs.Checks.{is_stop}
-use Rattle.dr_flash.specs.Faults.{Counted}
-use Rattle.dr_flash.specs.Here.{seen, armed_in}
+use Rattle.dr_flash.specs.Here.{world_seen, armed_in}
 use Rattle.dr_gcopy.specs.Followed.{Follows}
 use Rattle.dr_gcopy.proofs.following.follow_stop.Goals as goal
 
 pub returns-in-Stopped-clause-follows : goal.returns-in-Stopped-clause-follows
 returns-in-Stopped-clause-follows g c r =
-    subst (λ (e : Refusal). Follows (armed_in (g.P.Plant.state c.args.p.now)) (seen (g.P.Plant.state c.args.p.now) c.args.c.now r c.args.j.now.events) (Some e) (suspend_after c.args.a.0) (seen (g.P.Plant.state c.suspend_running.new.p) c.args.c.now r c.suspend_running.new.j.events)) (sym c.in-Stopped.is) (c.suspend_running.ensures.ends r c.in-Stopped.server.0)
+    subst (λ (e : Refusal). Follows (armed_in (g.P.Plant.state c.args.p.now)) (world_seen (g.P.Plant.state c.args.p.now) c.args.c.now r c.args.j.now.events) (Some e) (suspend_after c.args.a.0) (world_seen (g.P.Plant.state c.suspend_running.new.p) c.args.c.now r c.suspend_running.new.j.events)) (sym c.in-Stopped.is) (c.suspend_running.ensures.ends r c.in-Stopped.server.0)
 
 pub returns-in-Stopped-clause-faults : goal.returns-in-Stopped-clause-faults
 returns-in-Stopped-clause-faults g c f =

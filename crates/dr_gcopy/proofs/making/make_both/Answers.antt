@@ -1,20 +1,21 @@
 use Rattle.std.proofs.Common.{ap, sym, subst, ◌∙◌, ◌∷◌}
 use Rattle.std.specs.Prelude.{is_err}
+use Rattle.dr_logic.specs.Counts.{Counted}
 use Rattle.dr_model.specs.Carry.{now}
 use Rattle.dr_model.specs.Moves.{MakeSecondary, MakePrimary}
 use Rattle.dr_model.specs.ReadStops.{Ends}
 use Rattle.dr_flash.specs.Checks.{is_stop}
-use Rattle.dr_flash.specs.Faults.{Counted}
-use Rattle.dr_flash.specs.Here.{seen, armed_in, refusal_of}
+use Rattle.dr_flash.specs.Here.{world_seen, armed_in, refusal_of}
 use Rattle.dr_flash.proofs.CopyLemmas.{before-then}
-use Rattle.dr_flash.proofs.TurnLemmas.{err-always, refused-by, ok-along, err-along}
+use Rattle.dr_flash.proofs.TurnLemmas.{refused-by, ok-along, err-along}
 use Rattle.dr_gcopy.proofs.TwoMoves.{two-lead, second-fails, still-running}
 use Rattle.dr_gcopy.proofs.making.make_both.Goals as goal
+use Rattle.dr_logic.proofs.Results.{err-always}
 
 pub returns-in_err-make_secondary-clause-fails : goal.returns-in_err-make_secondary-clause-fails
 returns-in_err-make_secondary-clause-fails g c =
     err-always c.from_residual.result (λ r ds.
-    subst (λ q. Ends (armed_in (g.P.Plant.state c.args.p.now)) (seen (g.P.Plant.state c.make_secondary.new.p) c.args.c.now r c.make_secondary.new.j.events) q (seen (g.P.Plant.state c.args.p.now) c.args.c.now r c.args.j.now.events) ((now (MakeSecondary c.args.b.0 c.args.a.0 c.args.kind c.args.state)) ∷ (now (MakePrimary c.args.a.0 c.args.b.0 c.args.kind c.args.state c.args.full)) ∷ ds)) (sym (refused-by c.from_residual.result c.in_err-make_secondary.field-0.0 c.from_residual.ensures.0 c.from_residual.ensures.1))
+    subst (λ q. Ends (armed_in (g.P.Plant.state c.args.p.now)) (world_seen (g.P.Plant.state c.make_secondary.new.p) c.args.c.now r c.make_secondary.new.j.events) q (world_seen (g.P.Plant.state c.args.p.now) c.args.c.now r c.args.j.now.events) ((now (MakeSecondary c.args.b.0 c.args.a.0 c.args.kind c.args.state)) ∷ (now (MakePrimary c.args.a.0 c.args.b.0 c.args.kind c.args.state c.args.full)) ∷ ds)) (sym (refused-by c.from_residual.result c.in_err-make_secondary.field-0.0 c.from_residual.ensures.0 c.from_residual.ensures.1))
     (c.in_err-make_secondary.ensures.halts r ((now (MakePrimary c.args.a.0 c.args.b.0 c.args.kind c.args.state c.args.full)) ∷ ds)))
 
 pub returns-in_err-make_secondary-clause-stops : goal.returns-in_err-make_secondary-clause-stops
@@ -28,12 +29,12 @@ make_primary-requires-clause-running g c = still-running (g.P.Plant.state c.args
 
 pub returns-clause-leads : goal.returns-clause-leads
 returns-clause-leads g c =
-    ok-along c.make_primary.result c.make_primary.ensures.advances (λ goes r. two-lead (seen (g.P.Plant.state c.args.p.now) c.args.c.now r c.args.j.now.events) (seen (g.P.Plant.state c.make_secondary.new.p) c.args.c.now r c.make_secondary.new.j.events) (seen (g.P.Plant.state c.make_primary.new.p) c.args.c.now r c.make_primary.new.j.events) (now (MakeSecondary c.args.b.0 c.args.a.0 c.args.kind c.args.state)) (now (MakePrimary c.args.a.0 c.args.b.0 c.args.kind c.args.state c.args.full)) (c.in_ok-make_secondary.ensures.advances r) (goes r))
+    ok-along c.make_primary.result c.make_primary.ensures.advances (λ goes r. two-lead (world_seen (g.P.Plant.state c.args.p.now) c.args.c.now r c.args.j.now.events) (world_seen (g.P.Plant.state c.make_secondary.new.p) c.args.c.now r c.make_secondary.new.j.events) (world_seen (g.P.Plant.state c.make_primary.new.p) c.args.c.now r c.make_primary.new.j.events) (now (MakeSecondary c.args.b.0 c.args.a.0 c.args.kind c.args.state)) (now (MakePrimary c.args.a.0 c.args.b.0 c.args.kind c.args.state c.args.full)) (c.in_ok-make_secondary.ensures.advances r) (goes r))
 
 pub returns-clause-fails : goal.returns-clause-fails
 returns-clause-fails g c =
     err-along c.make_primary.result c.make_primary.ensures.halts c.make_primary.ensures.refused (λ halts refused r.
-    second-fails (g.P.Plant.state c.args.p.now) (g.P.Plant.state c.make_secondary.new.p) (seen (g.P.Plant.state c.args.p.now) c.args.c.now r c.args.j.now.events) (seen (g.P.Plant.state c.make_secondary.new.p) c.args.c.now r c.make_secondary.new.j.events) (seen (g.P.Plant.state c.make_primary.new.p) c.args.c.now r c.make_primary.new.j.events) (refusal_of c.make_primary.result) (now (MakeSecondary c.args.b.0 c.args.a.0 c.args.kind c.args.state)) (now (MakePrimary c.args.a.0 c.args.b.0 c.args.kind c.args.state c.args.full)) c.in_ok-make_secondary.ensures.unarmed (c.in_ok-make_secondary.ensures.advances r) (halts r))
+    second-fails (g.P.Plant.state c.args.p.now) (g.P.Plant.state c.make_secondary.new.p) (world_seen (g.P.Plant.state c.args.p.now) c.args.c.now r c.args.j.now.events) (world_seen (g.P.Plant.state c.make_secondary.new.p) c.args.c.now r c.make_secondary.new.j.events) (world_seen (g.P.Plant.state c.make_primary.new.p) c.args.c.now r c.make_primary.new.j.events) (refusal_of c.make_primary.result) (now (MakeSecondary c.args.b.0 c.args.a.0 c.args.kind c.args.state)) (now (MakePrimary c.args.a.0 c.args.b.0 c.args.kind c.args.state c.args.full)) c.in_ok-make_secondary.ensures.unarmed (c.in_ok-make_secondary.ensures.advances r) (halts r))
 
 pub returns-clause-stops : goal.returns-clause-stops
 returns-clause-stops g c = err-along c.make_primary.result c.make_primary.ensures.refused c.make_primary.ensures.refused (λ refused again. ap is_stop refused)

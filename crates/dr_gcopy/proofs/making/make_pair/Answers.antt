@@ -1,4 +1,5 @@
 use Rattle.std.proofs.Common.{ap, sym, subst, ◌∙◌, ◌∷◌}
+use Rattle.dr_logic.specs.Counts.{Counted}
 use Rattle.dr_plant.specs.State.{PlantState}
 use Rattle.dr_model.specs.Log.{Log}
 use Rattle.dr_model.specs.PairEntries.{refuse_if, differs_at}
@@ -6,22 +7,22 @@ use Rattle.dr_model.specs.Pairs.{first_state}
 use Rattle.dr_model.specs.ReadStops.{Ends}
 use Rattle.dr_volume.specs.Update.{IsAsBefore}
 use Rattle.dr_flash.specs.Checks.{is_stop}
-use Rattle.dr_flash.specs.Faults.{Counted}
-use Rattle.dr_flash.specs.Here.{seen, armed_in, refusal_of}
-use Rattle.dr_flash.proofs.TurnLemmas.{err-always, refused-by}
+use Rattle.dr_flash.specs.Here.{world_seen, armed_in, refusal_of}
+use Rattle.dr_flash.proofs.TurnLemmas.{refused-by}
 use Rattle.dr_gcopy.specs.Kinds.{part_of}
 use Rattle.dr_gcopy.specs.Steps.{make_moves, difference_seen}
 use Rattle.dr_gcopy.proofs.PairChecks.{unless-stopped, counted-stops}
 use Rattle.dr_gcopy.proofs.TwoMoves.{ends-by}
 use Rattle.dr_gcopy.proofs.making.make_pair.Goals as goal
+use Rattle.dr_logic.proofs.Results.{err-always}
 
 pub returns-in-Some-clause-carried : goal.returns-in-Some-clause-carried
 returns-in-Some-clause-carried g c r = c.in-Some.ensures.checked r c.args.j.now.events (armed_in (g.P.Plant.state c.args.p.now)) _
 
 pub returns-in_err-compare-clause-carried : goal.returns-in_err-compare-clause-carried
 returns-in_err-compare-clause-carried g c r =
-    c.in_default.ensures.checked r c.args.j.now.events (armed_in (g.P.Plant.state c.args.p.now)) (seen (g.P.Plant.state c.compare.new.p) c.args.c.now r c.compare.new.j.events) (refusal_of c.from_residual.result) _
-    (subst (λ q. Ends (armed_in (g.P.Plant.state c.args.p.now)) (seen (g.P.Plant.state c.compare.new.p) c.args.c.now r c.compare.new.j.events) q (seen (g.P.Plant.state c.args.p.now) c.args.c.now r c.args.j.now.events) (refuse_if (differs_at (difference_seen (g.P.Plant.state c.args.p.now) c.args.c.now c.args.a.0 c.args.b.0 c.args.full)) ∷ (make_moves c.args.a.0 c.args.b.0 (part_of c.args.kind) (first_state (part_of c.args.kind) c.args.full) c.args.full))) (sym (refused-by c.from_residual.result c.in_err-compare.field-0.0 c.from_residual.ensures.0 c.from_residual.ensures.1))
+    c.in_default.ensures.checked r c.args.j.now.events (armed_in (g.P.Plant.state c.args.p.now)) (world_seen (g.P.Plant.state c.compare.new.p) c.args.c.now r c.compare.new.j.events) (refusal_of c.from_residual.result) _
+    (subst (λ q. Ends (armed_in (g.P.Plant.state c.args.p.now)) (world_seen (g.P.Plant.state c.compare.new.p) c.args.c.now r c.compare.new.j.events) q (world_seen (g.P.Plant.state c.args.p.now) c.args.c.now r c.args.j.now.events) (refuse_if (differs_at (difference_seen (g.P.Plant.state c.args.p.now) c.args.c.now c.args.a.0 c.args.b.0 c.args.full)) ∷ (make_moves c.args.a.0 c.args.b.0 (part_of c.args.kind) (first_state (part_of c.args.kind) c.args.full) c.args.full))) (sym (refused-by c.from_residual.result c.in_err-compare.field-0.0 c.from_residual.ensures.0 c.from_residual.ensures.1))
     (c.in_err-compare.ensures.fails r (make_moves c.args.a.0 c.args.b.0 (part_of c.args.kind) (first_state (part_of c.args.kind) c.args.full) c.args.full)))
 
 pub returns-in_err-compare-clause-unchanged : goal.returns-in_err-compare-clause-unchanged
@@ -34,12 +35,12 @@ pub returns-clause-carried : goal.returns-clause-carried
 returns-clause-carried g c r =
     let kinds = ap (λ z. make_moves c.args.a.0 c.args.b.0 c.part_of-part.result z c.args.full) c.first_state.ensures
     ∙ ap (λ k. make_moves c.args.a.0 c.args.b.0 k (first_state k c.args.full) c.args.full) c.part_of-part.ensures.part in
-    c.in_default.ensures.checked r c.args.j.now.events (armed_in (g.P.Plant.state c.args.p.now)) (seen (g.P.Plant.state c.make_both.new.p) c.args.c.now r c.make_both.new.j.events) (refusal_of c.make_both.result) _
-    (c.in_ok-compare.ensures.leads r (armed_in (g.P.Plant.state c.args.p.now)) (seen (g.P.Plant.state c.make_both.new.p) c.args.c.now r c.make_both.new.j.events) (refusal_of c.make_both.result) _
-    (subst (λ es. Ends (armed_in (g.P.Plant.state c.args.p.now)) (seen (g.P.Plant.state c.make_both.new.p) c.args.c.now r c.make_both.new.j.events) (refusal_of c.make_both.result) (seen (g.P.Plant.state c.args.p.now) c.args.c.now r c.args.j.now.events) es) kinds
-    (subst (λ (x : PlantState). Ends (armed_in x) (seen (g.P.Plant.state c.make_both.new.p) c.args.c.now r c.make_both.new.j.events) (refusal_of c.make_both.result) (seen x c.args.c.now r c.args.j.now.events) (make_moves c.args.a.0 c.args.b.0 c.part_of-part.result c.first_state.result c.args.full)) c.in_ok-compare.ensures.passed
-    (subst (λ (l : Log). Ends (armed_in (g.P.Plant.state c.compare.new.p)) (seen (g.P.Plant.state c.make_both.new.p) c.args.c.now r c.make_both.new.j.events) (refusal_of c.make_both.result) (seen (g.P.Plant.state c.compare.new.p) c.args.c.now r l.events) (make_moves c.args.a.0 c.args.b.0 c.part_of-part.result c.first_state.result c.args.full)) c.in_ok-compare.ensures.silent
-    (ends-by c.make_both.result (armed_in (g.P.Plant.state c.compare.new.p)) (λ r. (seen (g.P.Plant.state c.compare.new.p) c.args.c.now r c.compare.new.j.events)) (λ r. (seen (g.P.Plant.state c.make_both.new.p) c.args.c.now r c.make_both.new.j.events)) (make_moves c.args.a.0 c.args.b.0 c.part_of-part.result c.first_state.result c.args.full) c.make_both.ensures.leads c.make_both.ensures.fails r)))))
+    c.in_default.ensures.checked r c.args.j.now.events (armed_in (g.P.Plant.state c.args.p.now)) (world_seen (g.P.Plant.state c.make_both.new.p) c.args.c.now r c.make_both.new.j.events) (refusal_of c.make_both.result) _
+    (c.in_ok-compare.ensures.leads r (armed_in (g.P.Plant.state c.args.p.now)) (world_seen (g.P.Plant.state c.make_both.new.p) c.args.c.now r c.make_both.new.j.events) (refusal_of c.make_both.result) _
+    (subst (λ es. Ends (armed_in (g.P.Plant.state c.args.p.now)) (world_seen (g.P.Plant.state c.make_both.new.p) c.args.c.now r c.make_both.new.j.events) (refusal_of c.make_both.result) (world_seen (g.P.Plant.state c.args.p.now) c.args.c.now r c.args.j.now.events) es) kinds
+    (subst (λ (x : PlantState). Ends (armed_in x) (world_seen (g.P.Plant.state c.make_both.new.p) c.args.c.now r c.make_both.new.j.events) (refusal_of c.make_both.result) (world_seen x c.args.c.now r c.args.j.now.events) (make_moves c.args.a.0 c.args.b.0 c.part_of-part.result c.first_state.result c.args.full)) c.in_ok-compare.ensures.passed
+    (subst (λ (l : Log). Ends (armed_in (g.P.Plant.state c.compare.new.p)) (world_seen (g.P.Plant.state c.make_both.new.p) c.args.c.now r c.make_both.new.j.events) (refusal_of c.make_both.result) (world_seen (g.P.Plant.state c.compare.new.p) c.args.c.now r l.events) (make_moves c.args.a.0 c.args.b.0 c.part_of-part.result c.first_state.result c.args.full)) c.in_ok-compare.ensures.silent
+    (ends-by c.make_both.result (armed_in (g.P.Plant.state c.compare.new.p)) (λ r. (world_seen (g.P.Plant.state c.compare.new.p) c.args.c.now r c.compare.new.j.events)) (λ r. (world_seen (g.P.Plant.state c.make_both.new.p) c.args.c.now r c.make_both.new.j.events)) (make_moves c.args.a.0 c.args.b.0 c.part_of-part.result c.first_state.result c.args.full) c.make_both.ensures.leads c.make_both.ensures.fails r)))))
 
 pub returns-clause-unchanged : goal.returns-clause-unchanged
 returns-clause-unchanged g c calm = unless-stopped _ c.make_both.result c.make_both.ensures.stops calm

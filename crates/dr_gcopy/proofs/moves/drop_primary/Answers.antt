@@ -3,16 +3,17 @@ use Rattle.dr_model.specs.Layout.{Fields}
 use Rattle.dr_model.specs.Lawful.{IsLawful}
 use Rattle.dr_model.specs.Moves.{DropPrimary}
 use Rattle.dr_model.specs.Pairs.{no_primary}
-use Rattle.dr_gcopy.proofs.PairLemmas.{pair-fits, lawful-no_primary, tells-drop_primary}
+use Rattle.dr_gcopy.proofs.PairLemmas.{pair-fits, tells-drop_primary}
 use Rattle.dr_volume.specs.Plain.{plain}
 use Rattle.dr_volume.specs.View.{volume_seen}
-use Rattle.dr_flash.specs.Here.{seen, armed_in, refusal_of}
+use Rattle.dr_flash.specs.Here.{world_seen, armed_in, refusal_of}
 use Rattle.dr_flash.specs.Told.{events_of}
 use Rattle.dr_flash.specs.declared.told.Telling.{Telling}
 use Rattle.dr_flash.proofs.ReadLemmas.{on-running}
 use Rattle.dr_flash.proofs.TurnLemmas.{Tells, advances, halts, ok-along, err-along}
 use Rattle.dr_flash.proofs.MoveLemmas.{MoveFits}
 use Rattle.dr_gcopy.proofs.moves.drop_primary.Goals as goal
+use Rattle.dr_facts.proofs.Lawful.{lawful-no_primary}
 
 pub shift-requires-clause-lawful : goal.shift-requires-clause-lawful
 shift-requires-clause-lawful g c =
@@ -41,8 +42,8 @@ returns-clause-advances g c =
     let t = c.args.c.now in
     let x = volume_seen s t c.args.a.0 in
     ok-along c.shift.result c.shift.ensures.done (λ done r.
-    advances (seen s t r c.args.j.now.events) (DropPrimary c.args.a.0) c.of.result (plain c.no_primary-next.result) None (on-running s x.server c.requires.running)
-    (subst (λ y. Tells (DropPrimary c.args.a.0) x y) (sym c.of.ensures) (tells-drop_primary c.args.a.0 x)) (sym (c.no_primary-next.ensures ∙ ap no_primary c.peek_fields.ensures.fields)) refl (seen (g.P.Plant.state c.shift.new.p) t r c.shift.new.j.events) (done r))
+    advances (world_seen s t r c.args.j.now.events) (DropPrimary c.args.a.0) c.of.result (plain c.no_primary-next.result) None (on-running s x.server c.requires.running)
+    (subst (λ y. Tells (DropPrimary c.args.a.0) x y) (sym c.of.ensures) (tells-drop_primary c.args.a.0 x)) (sym (c.no_primary-next.ensures ∙ ap no_primary c.peek_fields.ensures.fields)) refl (world_seen (g.P.Plant.state c.shift.new.p) t r c.shift.new.j.events) (done r))
 
 pub returns-clause-halts : goal.returns-clause-halts
 returns-clause-halts g c =
@@ -50,8 +51,8 @@ returns-clause-halts g c =
     let t = c.args.c.now in
     let x = volume_seen s t c.args.a.0 in
     err-along c.shift.result c.shift.ensures.failed c.shift.ensures.refused (λ failed refused r.
-    halts (seen s t r c.args.j.now.events) (DropPrimary c.args.a.0) c.of.result (plain c.no_primary-next.result) None (on-running s x.server c.requires.running)
-    (subst (λ y. Tells (DropPrimary c.args.a.0) x y) (sym c.of.ensures) (tells-drop_primary c.args.a.0 x)) (sym (c.no_primary-next.ensures ∙ ap no_primary c.peek_fields.ensures.fields)) refl (armed_in s) (seen (g.P.Plant.state c.shift.new.p) t r c.shift.new.j.events) (refusal_of c.shift.result) refused (failed r))
+    halts (world_seen s t r c.args.j.now.events) (DropPrimary c.args.a.0) c.of.result (plain c.no_primary-next.result) None (on-running s x.server c.requires.running)
+    (subst (λ y. Tells (DropPrimary c.args.a.0) x y) (sym c.of.ensures) (tells-drop_primary c.args.a.0 x)) (sym (c.no_primary-next.ensures ∙ ap no_primary c.peek_fields.ensures.fields)) refl (armed_in s) (world_seen (g.P.Plant.state c.shift.new.p) t r c.shift.new.j.events) (refusal_of c.shift.result) refused (failed r))
 
 pub returns-clause-room_left : goal.returns-clause-room_left
 returns-clause-room_left g c =

@@ -3,37 +3,38 @@ use Rattle.dr_model.specs.Layout.{Fields}
 use Rattle.dr_model.specs.Lawful.{IsLawful}
 use Rattle.dr_model.specs.Moves.{MakeSecondary}
 use Rattle.dr_model.specs.Pairs.{made_secondary}
-use Rattle.dr_gcopy.proofs.PairLemmas.{pair-fits, lawful-secondary, tells-make_secondary}
+use Rattle.dr_gcopy.proofs.PairLemmas.{pair-fits, tells-make_secondary}
 use Rattle.dr_volume.specs.Plain.{plain}
 use Rattle.dr_volume.specs.View.{volume_seen}
-use Rattle.dr_flash.specs.Here.{seen, armed_in, refusal_of}
+use Rattle.dr_flash.specs.Here.{world_seen, armed_in, refusal_of}
 use Rattle.dr_flash.specs.Told.{events_of}
 use Rattle.dr_flash.specs.declared.told.Telling.{Telling}
 use Rattle.dr_flash.proofs.ReadLemmas.{on-running}
 use Rattle.dr_flash.proofs.TurnLemmas.{Tells, advances, halts, ok-along, err-along}
 use Rattle.dr_flash.proofs.MoveLemmas.{MoveFits}
 use Rattle.dr_gcopy.proofs.moves.make_secondary.Goals as goal
+use Rattle.dr_facts.proofs.Lawful.{lawful-made_secondary}
 
 pub shift-requires-clause-lawful : goal.shift-requires-clause-lawful
 shift-requires-clause-lawful g c =
     let s = g.P.Plant.state c.args.p.now in
     let t = c.args.c.now in
     let law = subst (λ (f : Fields). IsLawful (volume_seen s t c.args.b.0).tracks f) c.peek_fields.ensures.fields c.peek_fields.ensures.lawful in
-    (subst (λ f. MoveFits s t c.args.b.0 f None) (sym (c.made_secondary-next.ensures ∙ ap (made_secondary c.args.a.0 c.args.kind c.args.state) c.peek_fields.ensures.fields)) (pair-fits s t c.args.b.0 (made_secondary c.args.a.0 c.args.kind c.args.state (volume_seen s t c.args.b.0).fields) c.requires.fit (lawful-secondary (volume_seen s t c.args.b.0).tracks c.args.a.0 c.args.kind c.args.state (volume_seen s t c.args.b.0).fields c.requires.kind law) refl refl refl refl)).lawful
+    (subst (λ f. MoveFits s t c.args.b.0 f None) (sym (c.made_secondary-next.ensures ∙ ap (made_secondary c.args.a.0 c.args.kind c.args.state) c.peek_fields.ensures.fields)) (pair-fits s t c.args.b.0 (made_secondary c.args.a.0 c.args.kind c.args.state (volume_seen s t c.args.b.0).fields) c.requires.fit ((lawful-made_secondary (volume_seen s t c.args.b.0).tracks (volume_seen s t c.args.b.0).fields law c.args.a.0 c.args.kind c.args.state c.requires.kind)) refl refl refl refl)).lawful
 
 pub shift-requires-clause-leaves : goal.shift-requires-clause-leaves
 shift-requires-clause-leaves g c =
     let s = g.P.Plant.state c.args.p.now in
     let t = c.args.c.now in
     let law = subst (λ (f : Fields). IsLawful (volume_seen s t c.args.b.0).tracks f) c.peek_fields.ensures.fields c.peek_fields.ensures.lawful in
-    (subst (λ f. MoveFits s t c.args.b.0 f None) (sym (c.made_secondary-next.ensures ∙ ap (made_secondary c.args.a.0 c.args.kind c.args.state) c.peek_fields.ensures.fields)) (pair-fits s t c.args.b.0 (made_secondary c.args.a.0 c.args.kind c.args.state (volume_seen s t c.args.b.0).fields) c.requires.fit (lawful-secondary (volume_seen s t c.args.b.0).tracks c.args.a.0 c.args.kind c.args.state (volume_seen s t c.args.b.0).fields c.requires.kind law) refl refl refl refl)).leaves
+    (subst (λ f. MoveFits s t c.args.b.0 f None) (sym (c.made_secondary-next.ensures ∙ ap (made_secondary c.args.a.0 c.args.kind c.args.state) c.peek_fields.ensures.fields)) (pair-fits s t c.args.b.0 (made_secondary c.args.a.0 c.args.kind c.args.state (volume_seen s t c.args.b.0).fields) c.requires.fit ((lawful-made_secondary (volume_seen s t c.args.b.0).tracks (volume_seen s t c.args.b.0).fields law c.args.a.0 c.args.kind c.args.state c.requires.kind)) refl refl refl refl)).leaves
 
 pub shift-requires-clause-covers : goal.shift-requires-clause-covers
 shift-requires-clause-covers g c =
     let s = g.P.Plant.state c.args.p.now in
     let t = c.args.c.now in
     let law = subst (λ (f : Fields). IsLawful (volume_seen s t c.args.b.0).tracks f) c.peek_fields.ensures.fields c.peek_fields.ensures.lawful in
-    (subst (λ f. MoveFits s t c.args.b.0 f None) (sym (c.made_secondary-next.ensures ∙ ap (made_secondary c.args.a.0 c.args.kind c.args.state) c.peek_fields.ensures.fields)) (pair-fits s t c.args.b.0 (made_secondary c.args.a.0 c.args.kind c.args.state (volume_seen s t c.args.b.0).fields) c.requires.fit (lawful-secondary (volume_seen s t c.args.b.0).tracks c.args.a.0 c.args.kind c.args.state (volume_seen s t c.args.b.0).fields c.requires.kind law) refl refl refl refl)).covers
+    (subst (λ f. MoveFits s t c.args.b.0 f None) (sym (c.made_secondary-next.ensures ∙ ap (made_secondary c.args.a.0 c.args.kind c.args.state) c.peek_fields.ensures.fields)) (pair-fits s t c.args.b.0 (made_secondary c.args.a.0 c.args.kind c.args.state (volume_seen s t c.args.b.0).fields) c.requires.fit ((lawful-made_secondary (volume_seen s t c.args.b.0).tracks (volume_seen s t c.args.b.0).fields law c.args.a.0 c.args.kind c.args.state c.requires.kind)) refl refl refl refl)).covers
 
 pub returns-clause-advances : goal.returns-clause-advances
 returns-clause-advances g c =
@@ -41,8 +42,8 @@ returns-clause-advances g c =
     let t = c.args.c.now in
     let x = volume_seen s t c.args.b.0 in
     ok-along c.shift.result c.shift.ensures.done (λ done r.
-    advances (seen s t r c.args.j.now.events) (MakeSecondary c.args.b.0 c.args.a.0 c.args.kind c.args.state) c.of.result (plain c.made_secondary-next.result) None (on-running s x.server c.requires.running)
-    (subst (λ y. Tells (MakeSecondary c.args.b.0 c.args.a.0 c.args.kind c.args.state) x y) (sym c.of.ensures) (tells-make_secondary c.args.b.0 c.args.a.0 c.args.kind c.args.state x)) (sym (c.made_secondary-next.ensures ∙ ap (made_secondary c.args.a.0 c.args.kind c.args.state) c.peek_fields.ensures.fields)) refl (seen (g.P.Plant.state c.shift.new.p) t r c.shift.new.j.events) (done r))
+    advances (world_seen s t r c.args.j.now.events) (MakeSecondary c.args.b.0 c.args.a.0 c.args.kind c.args.state) c.of.result (plain c.made_secondary-next.result) None (on-running s x.server c.requires.running)
+    (subst (λ y. Tells (MakeSecondary c.args.b.0 c.args.a.0 c.args.kind c.args.state) x y) (sym c.of.ensures) (tells-make_secondary c.args.b.0 c.args.a.0 c.args.kind c.args.state x)) (sym (c.made_secondary-next.ensures ∙ ap (made_secondary c.args.a.0 c.args.kind c.args.state) c.peek_fields.ensures.fields)) refl (world_seen (g.P.Plant.state c.shift.new.p) t r c.shift.new.j.events) (done r))
 
 pub returns-clause-halts : goal.returns-clause-halts
 returns-clause-halts g c =
@@ -50,8 +51,8 @@ returns-clause-halts g c =
     let t = c.args.c.now in
     let x = volume_seen s t c.args.b.0 in
     err-along c.shift.result c.shift.ensures.failed c.shift.ensures.refused (λ failed refused r.
-    halts (seen s t r c.args.j.now.events) (MakeSecondary c.args.b.0 c.args.a.0 c.args.kind c.args.state) c.of.result (plain c.made_secondary-next.result) None (on-running s x.server c.requires.running)
-    (subst (λ y. Tells (MakeSecondary c.args.b.0 c.args.a.0 c.args.kind c.args.state) x y) (sym c.of.ensures) (tells-make_secondary c.args.b.0 c.args.a.0 c.args.kind c.args.state x)) (sym (c.made_secondary-next.ensures ∙ ap (made_secondary c.args.a.0 c.args.kind c.args.state) c.peek_fields.ensures.fields)) refl (armed_in s) (seen (g.P.Plant.state c.shift.new.p) t r c.shift.new.j.events) (refusal_of c.shift.result) refused (failed r))
+    halts (world_seen s t r c.args.j.now.events) (MakeSecondary c.args.b.0 c.args.a.0 c.args.kind c.args.state) c.of.result (plain c.made_secondary-next.result) None (on-running s x.server c.requires.running)
+    (subst (λ y. Tells (MakeSecondary c.args.b.0 c.args.a.0 c.args.kind c.args.state) x y) (sym c.of.ensures) (tells-make_secondary c.args.b.0 c.args.a.0 c.args.kind c.args.state x)) (sym (c.made_secondary-next.ensures ∙ ap (made_secondary c.args.a.0 c.args.kind c.args.state) c.peek_fields.ensures.fields)) refl (armed_in s) (world_seen (g.P.Plant.state c.shift.new.p) t r c.shift.new.j.events) (refusal_of c.shift.result) refused (failed r))
 
 pub returns-clause-room_left : goal.returns-clause-room_left
 returns-clause-room_left g c =

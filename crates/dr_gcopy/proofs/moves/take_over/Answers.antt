@@ -5,38 +5,39 @@ use Rattle.dr_model.specs.Moves.{TakeOver}
 use Rattle.dr_model.specs.Pairs.{taken_over}
 use Rattle.dr_model.specs.Carry.{now}
 use Rattle.dr_flash.proofs.CheckLemmas.{act-ends}
-use Rattle.dr_gcopy.proofs.PairLemmas.{pair-fits, lawful-taken, tells-take_over}
+use Rattle.dr_gcopy.proofs.PairLemmas.{pair-fits, tells-take_over}
 use Rattle.dr_volume.specs.Plain.{plain}
 use Rattle.dr_volume.specs.Update.{IsAsBefore, IsMoved}
 use Rattle.dr_volume.specs.View.{volume_seen}
-use Rattle.dr_flash.specs.Here.{seen, armed_in, refusal_of}
+use Rattle.dr_flash.specs.Here.{world_seen, armed_in, refusal_of}
 use Rattle.dr_flash.specs.Told.{events_of}
 use Rattle.dr_flash.specs.declared.told.Telling.{Telling}
 use Rattle.dr_flash.proofs.ReadLemmas.{on-running}
 use Rattle.dr_flash.proofs.TurnLemmas.{Tells, advances, halts, ok-along, err-along}
 use Rattle.dr_flash.proofs.MoveLemmas.{MoveFits}
 use Rattle.dr_gcopy.proofs.moves.take_over.Goals as goal
+use Rattle.dr_facts.proofs.Lawful.{lawful-taken_over}
 
 pub shift-requires-clause-lawful : goal.shift-requires-clause-lawful
 shift-requires-clause-lawful g c =
     let s = g.P.Plant.state c.args.p.now in
     let t = c.args.c.now in
     let law = subst (λ (f : Fields). IsLawful (volume_seen s t c.args.b.0).tracks f) c.peek_fields.ensures.fields c.peek_fields.ensures.lawful in
-    (subst (λ f. MoveFits s t c.args.b.0 f None) (sym (c.taken_over-next.ensures ∙ ap taken_over c.peek_fields.ensures.fields)) (pair-fits s t c.args.b.0 (taken_over (volume_seen s t c.args.b.0).fields) c.requires.fit (lawful-taken (volume_seen s t c.args.b.0).tracks (volume_seen s t c.args.b.0).fields c.requires.secondary law) refl refl refl refl)).lawful
+    (subst (λ f. MoveFits s t c.args.b.0 f None) (sym (c.taken_over-next.ensures ∙ ap taken_over c.peek_fields.ensures.fields)) (pair-fits s t c.args.b.0 (taken_over (volume_seen s t c.args.b.0).fields) c.requires.fit ((lawful-taken_over (volume_seen s t c.args.b.0).tracks (volume_seen s t c.args.b.0).fields law c.requires.secondary)) refl refl refl refl)).lawful
 
 pub shift-requires-clause-leaves : goal.shift-requires-clause-leaves
 shift-requires-clause-leaves g c =
     let s = g.P.Plant.state c.args.p.now in
     let t = c.args.c.now in
     let law = subst (λ (f : Fields). IsLawful (volume_seen s t c.args.b.0).tracks f) c.peek_fields.ensures.fields c.peek_fields.ensures.lawful in
-    (subst (λ f. MoveFits s t c.args.b.0 f None) (sym (c.taken_over-next.ensures ∙ ap taken_over c.peek_fields.ensures.fields)) (pair-fits s t c.args.b.0 (taken_over (volume_seen s t c.args.b.0).fields) c.requires.fit (lawful-taken (volume_seen s t c.args.b.0).tracks (volume_seen s t c.args.b.0).fields c.requires.secondary law) refl refl refl refl)).leaves
+    (subst (λ f. MoveFits s t c.args.b.0 f None) (sym (c.taken_over-next.ensures ∙ ap taken_over c.peek_fields.ensures.fields)) (pair-fits s t c.args.b.0 (taken_over (volume_seen s t c.args.b.0).fields) c.requires.fit ((lawful-taken_over (volume_seen s t c.args.b.0).tracks (volume_seen s t c.args.b.0).fields law c.requires.secondary)) refl refl refl refl)).leaves
 
 pub shift-requires-clause-covers : goal.shift-requires-clause-covers
 shift-requires-clause-covers g c =
     let s = g.P.Plant.state c.args.p.now in
     let t = c.args.c.now in
     let law = subst (λ (f : Fields). IsLawful (volume_seen s t c.args.b.0).tracks f) c.peek_fields.ensures.fields c.peek_fields.ensures.lawful in
-    (subst (λ f. MoveFits s t c.args.b.0 f None) (sym (c.taken_over-next.ensures ∙ ap taken_over c.peek_fields.ensures.fields)) (pair-fits s t c.args.b.0 (taken_over (volume_seen s t c.args.b.0).fields) c.requires.fit (lawful-taken (volume_seen s t c.args.b.0).tracks (volume_seen s t c.args.b.0).fields c.requires.secondary law) refl refl refl refl)).covers
+    (subst (λ f. MoveFits s t c.args.b.0 f None) (sym (c.taken_over-next.ensures ∙ ap taken_over c.peek_fields.ensures.fields)) (pair-fits s t c.args.b.0 (taken_over (volume_seen s t c.args.b.0).fields) c.requires.fit ((lawful-taken_over (volume_seen s t c.args.b.0).tracks (volume_seen s t c.args.b.0).fields law c.requires.secondary)) refl refl refl refl)).covers
 
 pub returns-clause-advances : goal.returns-clause-advances
 returns-clause-advances g c =
@@ -44,8 +45,8 @@ returns-clause-advances g c =
     let t = c.args.c.now in
     let x = volume_seen s t c.args.b.0 in
     ok-along c.shift.result c.shift.ensures.done (λ done r.
-    advances (seen s t r c.args.j.now.events) (TakeOver c.args.b.0) c.of-told.result (plain c.taken_over-next.result) None (on-running s x.server c.requires.running)
-    (subst (λ y. Tells (TakeOver c.args.b.0) x y) (sym c.of-told.ensures) (tells-take_over c.args.b.0 x)) (sym (c.taken_over-next.ensures ∙ ap taken_over c.peek_fields.ensures.fields)) refl (seen (g.P.Plant.state c.shift.new.p) t r c.shift.new.j.events) (done r))
+    advances (world_seen s t r c.args.j.now.events) (TakeOver c.args.b.0) c.of-told.result (plain c.taken_over-next.result) None (on-running s x.server c.requires.running)
+    (subst (λ y. Tells (TakeOver c.args.b.0) x y) (sym c.of-told.ensures) (tells-take_over c.args.b.0 x)) (sym (c.taken_over-next.ensures ∙ ap taken_over c.peek_fields.ensures.fields)) refl (world_seen (g.P.Plant.state c.shift.new.p) t r c.shift.new.j.events) (done r))
 
 pub returns-clause-halts : goal.returns-clause-halts
 returns-clause-halts g c =
@@ -53,8 +54,8 @@ returns-clause-halts g c =
     let t = c.args.c.now in
     let x = volume_seen s t c.args.b.0 in
     err-along c.shift.result c.shift.ensures.failed c.shift.ensures.refused (λ failed refused r.
-    halts (seen s t r c.args.j.now.events) (TakeOver c.args.b.0) c.of-told.result (plain c.taken_over-next.result) None (on-running s x.server c.requires.running)
-    (subst (λ y. Tells (TakeOver c.args.b.0) x y) (sym c.of-told.ensures) (tells-take_over c.args.b.0 x)) (sym (c.taken_over-next.ensures ∙ ap taken_over c.peek_fields.ensures.fields)) refl (armed_in s) (seen (g.P.Plant.state c.shift.new.p) t r c.shift.new.j.events) (refusal_of c.shift.result) refused (failed r))
+    halts (world_seen s t r c.args.j.now.events) (TakeOver c.args.b.0) c.of-told.result (plain c.taken_over-next.result) None (on-running s x.server c.requires.running)
+    (subst (λ y. Tells (TakeOver c.args.b.0) x y) (sym c.of-told.ensures) (tells-take_over c.args.b.0 x)) (sym (c.taken_over-next.ensures ∙ ap taken_over c.peek_fields.ensures.fields)) refl (armed_in s) (world_seen (g.P.Plant.state c.shift.new.p) t r c.shift.new.j.events) (refusal_of c.shift.result) refused (failed r))
 
 pub returns-clause-room_left : goal.returns-clause-room_left
 returns-clause-room_left g c =
@@ -64,7 +65,7 @@ returns-clause-room_left g c =
 pub returns-clause-carried : goal.returns-clause-carried
 returns-clause-carried g c =
     let t = c.args.c.now in
-    act-ends c.shift.result (armed_in (g.P.Plant.state c.args.p.now)) (λ r. seen (g.P.Plant.state c.args.p.now) t r c.args.j.now.events) (λ r. seen (g.P.Plant.state c.shift.new.p) t r c.shift.new.j.events) (now (TakeOver c.args.b.0)) (returns-clause-advances g c) (returns-clause-halts g c)
+    act-ends c.shift.result (armed_in (g.P.Plant.state c.args.p.now)) (λ r. world_seen (g.P.Plant.state c.args.p.now) t r c.args.j.now.events) (λ r. world_seen (g.P.Plant.state c.shift.new.p) t r c.shift.new.j.events) (now (TakeOver c.args.b.0)) (returns-clause-advances g c) (returns-clause-halts g c)
 
 pub returns-clause-moved : goal.returns-clause-moved
 returns-clause-moved g c =

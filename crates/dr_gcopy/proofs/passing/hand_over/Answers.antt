@@ -5,13 +5,16 @@ use Rattle.dr_model.specs.Layout.{is_part}
 use Rattle.dr_model.specs.Pairs.{is_last, struck}
 use Rattle.dr_volume.specs.View.{ids_of}
 use Rattle.dr_flash.specs.Checks.{is_stop}
-use Rattle.dr_flash.specs.Here.{seen, armed_in, refusal_of}
+use Rattle.dr_flash.specs.Here.{world_seen, armed_in, refusal_of}
 use Rattle.dr_flash.specs.Turns.{Fails}
 use Rattle.dr_flash.proofs.CopyLemmas.{no-own, before-then, wider-armed}
-use Rattle.dr_flash.proofs.TurnLemmas.{err-always, refused-by, ok-along, err-along}
+use Rattle.dr_flash.proofs.TurnLemmas.{refused-by, ok-along, err-along}
 use Rattle.dr_gcopy.specs.Sending.{exchange_entries, pass_entries}
-use Rattle.dr_gcopy.proofs.SendLemmas.{then-leads, then-fails, fails-first, fails-wider, other-server, other-volume}
+use Rattle.dr_gcopy.proofs.SendLemmas.{fails-wider, other-server}
 use Rattle.dr_gcopy.proofs.passing.hand_over.Goals as goal
+use Rattle.dr_gcopy.proofs.PairChecks.{servers-apart}
+use Rattle.dr_logic.proofs.Results.{err-always}
+use Rattle.dr_flash.proofs.LeadLemmas.{then-leads, then-fails, fails-first}
 
 pub copy_first-requires-clause-within : goal.copy_first-requires-clause-within
 copy_first-requires-clause-within g c =
@@ -20,8 +23,8 @@ copy_first-requires-clause-within g c =
 pub returns-in_err-copy_first-clause-fails : goal.returns-in_err-copy_first-clause-fails
 returns-in_err-copy_first-clause-fails g c =
     err-always c.from_residual.result (λ r.
-    subst (λ e. Fails (armed_in (g.P.Plant.state c.args.p.now)) (seen (g.P.Plant.state c.args.p.now) c.args.c.now r c.args.j.now.events) (pass_entries (ids_of c.args.c.now.volumes) c.args.a.0 c.args.b.0 c.args.t) (seen (g.P.Plant.state c.copy_first.new.p) c.args.c.now r c.copy_first.new.j.events) e) (sym (refused-by c.from_residual.result c.in_err-copy_first.field-0.0 c.from_residual.ensures.0 c.from_residual.ensures.1))
-    (fails-first (armed_in (g.P.Plant.state c.args.p.now)) (seen (g.P.Plant.state c.args.p.now) c.args.c.now r c.args.j.now.events) (seen (g.P.Plant.state c.copy_first.new.p) c.args.c.now r c.copy_first.new.j.events) (Some c.in_err-copy_first.field-0.0) (copy_first (ids_of c.args.c.now.volumes) c.args.b.0 c.args.t) (exchange_entries c.args.a.0 c.args.b.0 c.args.t) (c.in_err-copy_first.ensures.fails r)))
+    subst (λ e. Fails (armed_in (g.P.Plant.state c.args.p.now)) (world_seen (g.P.Plant.state c.args.p.now) c.args.c.now r c.args.j.now.events) (pass_entries (ids_of c.args.c.now.volumes) c.args.a.0 c.args.b.0 c.args.t) (world_seen (g.P.Plant.state c.copy_first.new.p) c.args.c.now r c.copy_first.new.j.events) e) (sym (refused-by c.from_residual.result c.in_err-copy_first.field-0.0 c.from_residual.ensures.0 c.from_residual.ensures.1))
+    (fails-first (armed_in (g.P.Plant.state c.args.p.now)) (world_seen (g.P.Plant.state c.args.p.now) c.args.c.now r c.args.j.now.events) (world_seen (g.P.Plant.state c.copy_first.new.p) c.args.c.now r c.copy_first.new.j.events) (Some c.in_err-copy_first.field-0.0) (copy_first (ids_of c.args.c.now.volumes) c.args.b.0 c.args.t) (exchange_entries c.args.a.0 c.args.b.0 c.args.t) (c.in_err-copy_first.ensures.fails r)))
 
 pub returns-in_err-copy_first-clause-stops : goal.returns-in_err-copy_first-clause-stops
 returns-in_err-copy_first-clause-stops g c =
@@ -49,7 +52,7 @@ exchange-requires-clause-secondary g c =
 
 pub exchange-requires-clause-apart : goal.exchange-requires-clause-apart
 exchange-requires-clause-apart g c =
-    other-volume (g.P.Plant.state c.args.p.now) c.args.c.now c.args.a.0 c.args.b.0 c.requires.two_servers
+    servers-apart (g.P.Plant.state c.args.p.now) c.args.c.now c.args.a.0 c.args.b.0 c.requires.two_servers
 
 pub exchange-requires-clause-within : goal.exchange-requires-clause-within
 exchange-requires-clause-within g c =
@@ -70,13 +73,13 @@ exchange-requires-clause-last g c =
 pub returns-clause-leads : goal.returns-clause-leads
 returns-clause-leads g c =
     ok-along c.exchange.result c.exchange.ensures.leads (λ leads r.
-    then-leads (seen (g.P.Plant.state c.args.p.now) c.args.c.now r c.args.j.now.events) (seen (g.P.Plant.state c.copy_first.new.p) c.args.c.now r c.copy_first.new.j.events) (seen (g.P.Plant.state c.exchange.new.p) c.args.c.now r c.exchange.new.j.events) (copy_first (ids_of c.args.c.now.volumes) c.args.b.0 c.args.t) (exchange_entries c.args.a.0 c.args.b.0 c.args.t) (c.in_ok-copy_first.ensures.leads r) (leads r))
+    then-leads (world_seen (g.P.Plant.state c.args.p.now) c.args.c.now r c.args.j.now.events) (world_seen (g.P.Plant.state c.copy_first.new.p) c.args.c.now r c.copy_first.new.j.events) (world_seen (g.P.Plant.state c.exchange.new.p) c.args.c.now r c.exchange.new.j.events) (copy_first (ids_of c.args.c.now.volumes) c.args.b.0 c.args.t) (exchange_entries c.args.a.0 c.args.b.0 c.args.t) (c.in_ok-copy_first.ensures.leads r) (leads r))
 
 pub returns-clause-fails : goal.returns-clause-fails
 returns-clause-fails g c =
     err-along c.exchange.result c.exchange.ensures.fails c.exchange.ensures.stops (λ fails stops r.
-    then-fails (armed_in (g.P.Plant.state c.args.p.now)) (seen (g.P.Plant.state c.args.p.now) c.args.c.now r c.args.j.now.events) (seen (g.P.Plant.state c.copy_first.new.p) c.args.c.now r c.copy_first.new.j.events) (seen (g.P.Plant.state c.exchange.new.p) c.args.c.now r c.exchange.new.j.events) (refusal_of c.exchange.result) (copy_first (ids_of c.args.c.now.volumes) c.args.b.0 c.args.t) (exchange_entries c.args.a.0 c.args.b.0 c.args.t) (c.in_ok-copy_first.ensures.leads r)
-    (fails-wider (armed_in (g.P.Plant.state c.copy_first.new.p)) (armed_in (g.P.Plant.state c.args.p.now)) (wider-armed (g.P.Plant.state c.args.p.now) (g.P.Plant.state c.copy_first.new.p) c.in_ok-copy_first.ensures.unarmed) (seen (g.P.Plant.state c.copy_first.new.p) c.args.c.now r c.copy_first.new.j.events) (seen (g.P.Plant.state c.exchange.new.p) c.args.c.now r c.exchange.new.j.events) (refusal_of c.exchange.result) (exchange_entries c.args.a.0 c.args.b.0 c.args.t) (fails r)))
+    then-fails (armed_in (g.P.Plant.state c.args.p.now)) (world_seen (g.P.Plant.state c.args.p.now) c.args.c.now r c.args.j.now.events) (world_seen (g.P.Plant.state c.copy_first.new.p) c.args.c.now r c.copy_first.new.j.events) (world_seen (g.P.Plant.state c.exchange.new.p) c.args.c.now r c.exchange.new.j.events) (refusal_of c.exchange.result) (copy_first (ids_of c.args.c.now.volumes) c.args.b.0 c.args.t) (exchange_entries c.args.a.0 c.args.b.0 c.args.t) (c.in_ok-copy_first.ensures.leads r)
+    (fails-wider (armed_in (g.P.Plant.state c.copy_first.new.p)) (armed_in (g.P.Plant.state c.args.p.now)) (wider-armed (g.P.Plant.state c.args.p.now) (g.P.Plant.state c.copy_first.new.p) c.in_ok-copy_first.ensures.unarmed) (world_seen (g.P.Plant.state c.copy_first.new.p) c.args.c.now r c.copy_first.new.j.events) (world_seen (g.P.Plant.state c.exchange.new.p) c.args.c.now r c.exchange.new.j.events) (refusal_of c.exchange.result) (exchange_entries c.args.a.0 c.args.b.0 c.args.t) (fails r)))
 
 pub returns-clause-struck : goal.returns-clause-struck
 returns-clause-struck g c =

@@ -6,18 +6,19 @@ use Rattle.dr_model.specs.Entries.{copies_from}
 use Rattle.dr_model.specs.ReadStops.{GoesOff}
 use Rattle.dr_volume.specs.Update.{IsAsBefore}
 use Rattle.dr_volume.specs.View.{Rest, volume_seen, ids_of}
-use Rattle.dr_flash.specs.Here.{seen, armed_in, refusal_of}
+use Rattle.dr_flash.specs.Here.{world_seen, armed_in, refusal_of}
 use Rattle.dr_flash.specs.Turns.{Leads, Fails}
-use Rattle.dr_flash.proofs.EndsLemmas.{ends-off}
+use Rattle.dr_facts.proofs.Ends.{ends-off}
 use Rattle.dr_flash.proofs.FitLemmas.{fit-same}
-use Rattle.dr_flash.proofs.TurnLemmas.{err-always, refused-by}
+use Rattle.dr_flash.proofs.TurnLemmas.{refused-by}
 use Rattle.dr_gcopy.specs.Sending.{pass_entries}
 use Rattle.dr_gcopy.proofs.passing.pass_on.Goals as goal
+use Rattle.dr_logic.proofs.Results.{err-always}
 
 pub returns-in_err-read_told-clause-fails : goal.returns-in_err-read_told-clause-fails
 returns-in_err-read_told-clause-fails g c =
-    err-always c.from_residual.result (λ r ds. ends-off (armed_in (g.P.Plant.state c.args.p.now)) (seen (g.P.Plant.state c.read_told.new.p) c.args.c.now r c.read_told.new.j.events) (refusal_of c.from_residual.result) (seen (g.P.Plant.state c.args.p.now) c.args.c.now r c.args.j.now.events) ((pass_entries (ids_of c.args.c.now.volumes) c.args.a.0 c.args.b.0 c.args.t) ++ ds)
-    (subst (λ e. GoesOff (armed_in (g.P.Plant.state c.args.p.now)) (seen (g.P.Plant.state c.read_told.new.p) c.args.c.now r c.read_told.new.j.events) e (seen (g.P.Plant.state c.args.p.now) c.args.c.now r c.args.j.now.events)) (sym (refused-by c.from_residual.result c.in_err-read_told.field-0.0 c.from_residual.ensures.0 c.from_residual.ensures.1)) (c.in_err-read_told.ensures.gone r)))
+    err-always c.from_residual.result (λ r ds. ends-off (armed_in (g.P.Plant.state c.args.p.now)) (world_seen (g.P.Plant.state c.read_told.new.p) c.args.c.now r c.read_told.new.j.events) (refusal_of c.from_residual.result) (world_seen (g.P.Plant.state c.args.p.now) c.args.c.now r c.args.j.now.events) ((pass_entries (ids_of c.args.c.now.volumes) c.args.a.0 c.args.b.0 c.args.t) ++ ds)
+    (subst (λ e. GoesOff (armed_in (g.P.Plant.state c.args.p.now)) (world_seen (g.P.Plant.state c.read_told.new.p) c.args.c.now r c.read_told.new.j.events) e (world_seen (g.P.Plant.state c.args.p.now) c.args.c.now r c.args.j.now.events)) (sym (refused-by c.from_residual.result c.in_err-read_told.field-0.0 c.from_residual.ensures.0 c.from_residual.ensures.1)) (c.in_err-read_told.ensures.gone r)))
 
 pub returns-in_err-read_told-clause-fit : goal.returns-in_err-read_told-clause-fit
 returns-in_err-read_told-clause-fit g c =
@@ -25,13 +26,13 @@ returns-in_err-read_told-clause-fit g c =
 
 pub returns-clause-leads : goal.returns-clause-leads
 returns-clause-leads g c =
-    subst (λ (x : PlantState). OnOk c.hand_over.result ((r : Rest) → Leads (seen x c.args.c.now r c.args.j.now.events) (pass_entries (ids_of c.args.c.now.volumes) c.args.a.0 c.args.b.0 c.args.t) (seen (g.P.Plant.state c.hand_over.new.p) c.args.c.now r c.hand_over.new.j.events))) c.in_ok-read_told.ensures.passed
-    (subst (λ (l : Log). OnOk c.hand_over.result ((r : Rest) → Leads (seen (g.P.Plant.state c.read_told.new.p) c.args.c.now r l.events) (pass_entries (ids_of c.args.c.now.volumes) c.args.a.0 c.args.b.0 c.args.t) (seen (g.P.Plant.state c.hand_over.new.p) c.args.c.now r c.hand_over.new.j.events))) c.in_ok-read_told.ensures.silent c.hand_over.ensures.leads)
+    subst (λ (x : PlantState). OnOk c.hand_over.result ((r : Rest) → Leads (world_seen x c.args.c.now r c.args.j.now.events) (pass_entries (ids_of c.args.c.now.volumes) c.args.a.0 c.args.b.0 c.args.t) (world_seen (g.P.Plant.state c.hand_over.new.p) c.args.c.now r c.hand_over.new.j.events))) c.in_ok-read_told.ensures.passed
+    (subst (λ (l : Log). OnOk c.hand_over.result ((r : Rest) → Leads (world_seen (g.P.Plant.state c.read_told.new.p) c.args.c.now r l.events) (pass_entries (ids_of c.args.c.now.volumes) c.args.a.0 c.args.b.0 c.args.t) (world_seen (g.P.Plant.state c.hand_over.new.p) c.args.c.now r c.hand_over.new.j.events))) c.in_ok-read_told.ensures.silent c.hand_over.ensures.leads)
 
 pub returns-clause-fails : goal.returns-clause-fails
 returns-clause-fails g c =
-    subst (λ (x : PlantState). OnErr c.hand_over.result ((r : Rest) → Fails (armed_in x) (seen x c.args.c.now r c.args.j.now.events) (pass_entries (ids_of c.args.c.now.volumes) c.args.a.0 c.args.b.0 c.args.t) (seen (g.P.Plant.state c.hand_over.new.p) c.args.c.now r c.hand_over.new.j.events) (refusal_of c.hand_over.result))) c.in_ok-read_told.ensures.passed
-    (subst (λ (l : Log). OnErr c.hand_over.result ((r : Rest) → Fails (armed_in (g.P.Plant.state c.read_told.new.p)) (seen (g.P.Plant.state c.read_told.new.p) c.args.c.now r l.events) (pass_entries (ids_of c.args.c.now.volumes) c.args.a.0 c.args.b.0 c.args.t) (seen (g.P.Plant.state c.hand_over.new.p) c.args.c.now r c.hand_over.new.j.events) (refusal_of c.hand_over.result))) c.in_ok-read_told.ensures.silent c.hand_over.ensures.fails)
+    subst (λ (x : PlantState). OnErr c.hand_over.result ((r : Rest) → Fails (armed_in x) (world_seen x c.args.c.now r c.args.j.now.events) (pass_entries (ids_of c.args.c.now.volumes) c.args.a.0 c.args.b.0 c.args.t) (world_seen (g.P.Plant.state c.hand_over.new.p) c.args.c.now r c.hand_over.new.j.events) (refusal_of c.hand_over.result))) c.in_ok-read_told.ensures.passed
+    (subst (λ (l : Log). OnErr c.hand_over.result ((r : Rest) → Fails (armed_in (g.P.Plant.state c.read_told.new.p)) (world_seen (g.P.Plant.state c.read_told.new.p) c.args.c.now r l.events) (pass_entries (ids_of c.args.c.now.volumes) c.args.a.0 c.args.b.0 c.args.t) (world_seen (g.P.Plant.state c.hand_over.new.p) c.args.c.now r c.hand_over.new.j.events) (refusal_of c.hand_over.result))) c.in_ok-read_told.ensures.silent c.hand_over.ensures.fails)
 
 pub returns-clause-unarmed : goal.returns-clause-unarmed
 returns-clause-unarmed g c q none =

@@ -2,15 +2,15 @@ use Rattle.std.proofs.Common.{false, [], ◌∷◌}
 use Rattle.dr_model.specs.Carry.{now}
 use Rattle.dr_model.specs.Moves.{Suspend}
 use Rattle.dr_model.specs.PairEntries.{tell_paused}
-use Rattle.dr_flash.specs.Here.{seen, armed_in, refusal_of}
+use Rattle.dr_flash.specs.Here.{world_seen, armed_in, refusal_of}
 use Rattle.dr_gcopy.proofs.PairChecks.{unless-stopped, counted-stops}
 use Rattle.dr_gcopy.proofs.TwoMoves.{ends-by}
 use Rattle.dr_gcopy.proofs.pausing.pause.Goals as goal
 
 pub returns-clause-carried : goal.returns-clause-carried
 returns-clause-carried g c r =
-    c.in_default.ensures.checked r c.args.j.now.events (armed_in (g.P.Plant.state c.args.p.now)) (seen (g.P.Plant.state c.pause_both.new.p) c.args.c.now r c.pause_both.new.j.events) (refusal_of c.pause_both.result) _
-    (ends-by c.pause_both.result (armed_in (g.P.Plant.state c.args.p.now)) (λ r. (seen (g.P.Plant.state c.args.p.now) c.args.c.now r c.args.j.now.events)) (λ r. (seen (g.P.Plant.state c.pause_both.new.p) c.args.c.now r c.pause_both.new.j.events)) (now (Suspend c.args.a.0 false) ∷ tell_paused c.args.a.0 c.args.b.0 ∷ []) c.pause_both.ensures.leads c.pause_both.ensures.fails r)
+    c.in_default.ensures.checked r c.args.j.now.events (armed_in (g.P.Plant.state c.args.p.now)) (world_seen (g.P.Plant.state c.pause_both.new.p) c.args.c.now r c.pause_both.new.j.events) (refusal_of c.pause_both.result) _
+    (ends-by c.pause_both.result (armed_in (g.P.Plant.state c.args.p.now)) (λ r. (world_seen (g.P.Plant.state c.args.p.now) c.args.c.now r c.args.j.now.events)) (λ r. (world_seen (g.P.Plant.state c.pause_both.new.p) c.args.c.now r c.pause_both.new.j.events)) (now (Suspend c.args.a.0 false) ∷ tell_paused c.args.a.0 c.args.b.0 ∷ []) c.pause_both.ensures.leads c.pause_both.ensures.fails r)
 
 pub returns-clause-unchanged : goal.returns-clause-unchanged
 returns-clause-unchanged g c calm =

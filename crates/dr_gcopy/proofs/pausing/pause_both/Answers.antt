@@ -1,22 +1,22 @@
-use Rattle.std.proofs.Common.{ap, sym, subst, ◌∙◌, ◌∷◌}
+use Rattle.std.proofs.Common.{ap, sym, subst, ◌∙◌, ◌∷◌, false}
 use Rattle.std.specs.Prelude.{is_err}
+use Rattle.dr_logic.specs.Counts.{Counted}
 use Rattle.dr_model.specs.Carry.{now}
-use Rattle.std.proofs.Common.{false}
 use Rattle.dr_model.specs.Moves.{Suspend}
 use Rattle.dr_model.specs.PairEntries.{tell_paused}
 use Rattle.dr_model.specs.ReadStops.{Ends}
 use Rattle.dr_flash.specs.Checks.{is_stop}
-use Rattle.dr_flash.specs.Faults.{Counted}
-use Rattle.dr_flash.specs.Here.{seen, armed_in, refusal_of}
+use Rattle.dr_flash.specs.Here.{world_seen, armed_in, refusal_of}
 use Rattle.dr_flash.proofs.CopyLemmas.{before-then}
-use Rattle.dr_flash.proofs.TurnLemmas.{err-always, refused-by, ok-along, err-along}
+use Rattle.dr_flash.proofs.TurnLemmas.{refused-by, ok-along, err-along}
 use Rattle.dr_gcopy.proofs.TwoMoves.{two-lead, second-fails}
 use Rattle.dr_gcopy.proofs.pausing.pause_both.Goals as goal
+use Rattle.dr_logic.proofs.Results.{err-always}
 
 pub returns-in_err-suspend-clause-fails : goal.returns-in_err-suspend-clause-fails
 returns-in_err-suspend-clause-fails g c =
     err-always c.from_residual.result (λ r ds.
-    subst (λ q. Ends (armed_in (g.P.Plant.state c.args.p.now)) (seen (g.P.Plant.state c.suspend.new.p) c.args.c.now r c.suspend.new.j.events) q (seen (g.P.Plant.state c.args.p.now) c.args.c.now r c.args.j.now.events) ((now (Suspend c.args.a.0 false)) ∷ (tell_paused c.args.a.0 c.args.b.0) ∷ ds)) (sym (refused-by c.from_residual.result c.in_err-suspend.field-0.0 c.from_residual.ensures.0 c.from_residual.ensures.1))
+    subst (λ q. Ends (armed_in (g.P.Plant.state c.args.p.now)) (world_seen (g.P.Plant.state c.suspend.new.p) c.args.c.now r c.suspend.new.j.events) q (world_seen (g.P.Plant.state c.args.p.now) c.args.c.now r c.args.j.now.events) ((now (Suspend c.args.a.0 false)) ∷ (tell_paused c.args.a.0 c.args.b.0) ∷ ds)) (sym (refused-by c.from_residual.result c.in_err-suspend.field-0.0 c.from_residual.ensures.0 c.from_residual.ensures.1))
     (c.in_err-suspend.ensures.halts r ((tell_paused c.args.a.0 c.args.b.0) ∷ ds)))
 
 pub returns-in_err-suspend-clause-stops : goal.returns-in_err-suspend-clause-stops
@@ -27,12 +27,12 @@ returns-in_err-suspend-clause-others g c q na nb = c.in_err-suspend.ensures.othe
 
 pub returns-clause-leads : goal.returns-clause-leads
 returns-clause-leads g c =
-    ok-along c.tell_paused.result c.tell_paused.ensures.advances (λ goes r. two-lead (seen (g.P.Plant.state c.args.p.now) c.args.c.now r c.args.j.now.events) (seen (g.P.Plant.state c.suspend.new.p) c.args.c.now r c.suspend.new.j.events) (seen (g.P.Plant.state c.tell_paused.new.p) c.args.c.now r c.tell_paused.new.j.events) (now (Suspend c.args.a.0 false)) (tell_paused c.args.a.0 c.args.b.0) (c.in_ok-suspend.ensures.advances r) (goes r))
+    ok-along c.tell_paused.result c.tell_paused.ensures.advances (λ goes r. two-lead (world_seen (g.P.Plant.state c.args.p.now) c.args.c.now r c.args.j.now.events) (world_seen (g.P.Plant.state c.suspend.new.p) c.args.c.now r c.suspend.new.j.events) (world_seen (g.P.Plant.state c.tell_paused.new.p) c.args.c.now r c.tell_paused.new.j.events) (now (Suspend c.args.a.0 false)) (tell_paused c.args.a.0 c.args.b.0) (c.in_ok-suspend.ensures.advances r) (goes r))
 
 pub returns-clause-fails : goal.returns-clause-fails
 returns-clause-fails g c =
     err-along c.tell_paused.result c.tell_paused.ensures.halts c.tell_paused.ensures.refused (λ halts refused r.
-    second-fails (g.P.Plant.state c.args.p.now) (g.P.Plant.state c.suspend.new.p) (seen (g.P.Plant.state c.args.p.now) c.args.c.now r c.args.j.now.events) (seen (g.P.Plant.state c.suspend.new.p) c.args.c.now r c.suspend.new.j.events) (seen (g.P.Plant.state c.tell_paused.new.p) c.args.c.now r c.tell_paused.new.j.events) (refusal_of c.tell_paused.result) (now (Suspend c.args.a.0 false)) (tell_paused c.args.a.0 c.args.b.0) c.in_ok-suspend.ensures.unarmed (c.in_ok-suspend.ensures.advances r) (halts r))
+    second-fails (g.P.Plant.state c.args.p.now) (g.P.Plant.state c.suspend.new.p) (world_seen (g.P.Plant.state c.args.p.now) c.args.c.now r c.args.j.now.events) (world_seen (g.P.Plant.state c.suspend.new.p) c.args.c.now r c.suspend.new.j.events) (world_seen (g.P.Plant.state c.tell_paused.new.p) c.args.c.now r c.tell_paused.new.j.events) (refusal_of c.tell_paused.result) (now (Suspend c.args.a.0 false)) (tell_paused c.args.a.0 c.args.b.0) c.in_ok-suspend.ensures.unarmed (c.in_ok-suspend.ensures.advances r) (halts r))
 
 pub returns-clause-stops : goal.returns-clause-stops
 returns-clause-stops g c = err-along c.tell_paused.result c.tell_paused.ensures.refused c.tell_paused.ensures.refused (λ refused again. ap is_stop refused)

@@ -2,21 +2,21 @@ use Rattle.std.proofs.Common.{subst, Some, [], ◌∷◌}
 use Rattle.dr_model.specs.declared.state.Part.{Part}
 use Rattle.dr_model.specs.PairEntries.{follow_on, resume_on, resume_entries}
 use Rattle.dr_model.specs.ReadStops.{Ends}
-use Rattle.dr_flash.specs.Here.{seen, armed_in, refusal_of}
+use Rattle.dr_flash.specs.Here.{world_seen, armed_in, refusal_of}
 use Rattle.dr_gcopy.proofs.PairChecks.{unless-stopped, counted-stops}
 use Rattle.dr_gcopy.proofs.TwoMoves.{ends-by}
 use Rattle.dr_gcopy.proofs.pausing.resume.Goals as goal
 
 pub returns-in-Some-clause-carried : goal.returns-in-Some-clause-carried
 returns-in-Some-clause-carried g c r =
-    subst (λ (k : Part). Ends (armed_in (g.P.Plant.state c.args.p.now)) (seen (g.P.Plant.state c.args.p.now) c.args.c.now r c.args.j.now.events) (Some c.in-Some.why) (seen (g.P.Plant.state c.args.p.now) c.args.c.now r c.args.j.now.events) (resume_entries (seen (g.P.Plant.state c.args.p.now) c.args.c.now r c.args.j.now.events).control c.args.a.0 c.args.b.0 k)) c.part_of.ensures.part
+    subst (λ (k : Part). Ends (armed_in (g.P.Plant.state c.args.p.now)) (world_seen (g.P.Plant.state c.args.p.now) c.args.c.now r c.args.j.now.events) (Some c.in-Some.why) (world_seen (g.P.Plant.state c.args.p.now) c.args.c.now r c.args.j.now.events) (resume_entries (world_seen (g.P.Plant.state c.args.p.now) c.args.c.now r c.args.j.now.events).control c.args.a.0 c.args.b.0 k)) c.part_of.ensures.part
     (c.in-Some.ensures.checked r c.args.j.now.events (armed_in (g.P.Plant.state c.args.p.now)) _)
 
 pub returns-clause-carried : goal.returns-clause-carried
 returns-clause-carried g c r =
-    subst (λ (k : Part). Ends (armed_in (g.P.Plant.state c.args.p.now)) (seen (g.P.Plant.state c.resume_both.new.p) c.args.c.now r c.resume_both.new.j.events) (refusal_of c.resume_both.result) (seen (g.P.Plant.state c.args.p.now) c.args.c.now r c.args.j.now.events) (resume_entries (seen (g.P.Plant.state c.args.p.now) c.args.c.now r c.args.j.now.events).control c.args.a.0 c.args.b.0 k)) c.part_of.ensures.part
-    (c.in_default.ensures.checked r c.args.j.now.events (armed_in (g.P.Plant.state c.args.p.now)) (seen (g.P.Plant.state c.resume_both.new.p) c.args.c.now r c.resume_both.new.j.events) (refusal_of c.resume_both.result) _
-    (ends-by c.resume_both.result (armed_in (g.P.Plant.state c.args.p.now)) (λ r. (seen (g.P.Plant.state c.args.p.now) c.args.c.now r c.args.j.now.events)) (λ r. (seen (g.P.Plant.state c.resume_both.new.p) c.args.c.now r c.resume_both.new.j.events)) (follow_on c.args.a.0 c.args.b.0 ∷ resume_on c.args.a.0 ∷ []) c.resume_both.ensures.leads c.resume_both.ensures.fails r))
+    subst (λ (k : Part). Ends (armed_in (g.P.Plant.state c.args.p.now)) (world_seen (g.P.Plant.state c.resume_both.new.p) c.args.c.now r c.resume_both.new.j.events) (refusal_of c.resume_both.result) (world_seen (g.P.Plant.state c.args.p.now) c.args.c.now r c.args.j.now.events) (resume_entries (world_seen (g.P.Plant.state c.args.p.now) c.args.c.now r c.args.j.now.events).control c.args.a.0 c.args.b.0 k)) c.part_of.ensures.part
+    (c.in_default.ensures.checked r c.args.j.now.events (armed_in (g.P.Plant.state c.args.p.now)) (world_seen (g.P.Plant.state c.resume_both.new.p) c.args.c.now r c.resume_both.new.j.events) (refusal_of c.resume_both.result) _
+    (ends-by c.resume_both.result (armed_in (g.P.Plant.state c.args.p.now)) (λ r. (world_seen (g.P.Plant.state c.args.p.now) c.args.c.now r c.args.j.now.events)) (λ r. (world_seen (g.P.Plant.state c.resume_both.new.p) c.args.c.now r c.resume_both.new.j.events)) (follow_on c.args.a.0 c.args.b.0 ∷ resume_on c.args.a.0 ∷ []) c.resume_both.ensures.leads c.resume_both.ensures.fails r))
 
 pub returns-clause-unchanged : goal.returns-clause-unchanged
 returns-clause-unchanged g c calm =

@@ -7,18 +7,20 @@ use Rattle.dr_model.specs.Layout.{is_part}
 use Rattle.dr_model.specs.Moves.{Store}
 use Rattle.dr_model.specs.Refusals.{stopped}
 use Rattle.dr_volume.specs.View.{ids_of}
-use Rattle.dr_flash.specs.Here.{seen, armed_in, refusal_of}
+use Rattle.dr_flash.specs.Here.{world_seen, armed_in, refusal_of}
 use Rattle.dr_flash.specs.Turns.{Fails}
 use Rattle.dr_flash.proofs.CopyLemmas.{no-own, before-then, wider-armed}
-use Rattle.dr_flash.proofs.TurnLemmas.{err-always, refused-by, ok-along, err-along}
-use Rattle.dr_gcopy.proofs.SendLemmas.{then-leads, then-fails, fails-first, fails-wider, other-server}
+use Rattle.dr_flash.proofs.TurnLemmas.{refused-by, ok-along, err-along}
+use Rattle.dr_gcopy.proofs.SendLemmas.{fails-wider, other-server}
 use Rattle.dr_gcopy.proofs.receiving.keep_and_store.Goals as goal
+use Rattle.dr_logic.proofs.Results.{err-always}
+use Rattle.dr_flash.proofs.LeadLemmas.{then-leads, then-fails, fails-first}
 
 pub returns-in_err-copy_first-clause-fails : goal.returns-in_err-copy_first-clause-fails
 returns-in_err-copy_first-clause-fails g c =
     err-always c.from_residual.result (λ r.
-    subst (λ e. Fails (armed_in (g.P.Plant.state c.args.p.now)) (seen (g.P.Plant.state c.args.p.now) c.args.c.now r c.args.j.now.events) ((copy_first (ids_of c.args.c.now.volumes) c.args.b.0 c.args.t) ++ (now (Store c.args.b.0 c.args.t c.args.a.0 c.args.last)) ∷ []) (seen (g.P.Plant.state c.copy_first.new.p) c.args.c.now r c.copy_first.new.j.events) e) (sym (refused-by c.from_residual.result c.in_err-copy_first.field-0.0 c.from_residual.ensures.0 c.from_residual.ensures.1))
-    (fails-first (armed_in (g.P.Plant.state c.args.p.now)) (seen (g.P.Plant.state c.args.p.now) c.args.c.now r c.args.j.now.events) (seen (g.P.Plant.state c.copy_first.new.p) c.args.c.now r c.copy_first.new.j.events) (Some c.in_err-copy_first.field-0.0) (copy_first (ids_of c.args.c.now.volumes) c.args.b.0 c.args.t) ((now (Store c.args.b.0 c.args.t c.args.a.0 c.args.last)) ∷ []) (c.in_err-copy_first.ensures.fails r)))
+    subst (λ e. Fails (armed_in (g.P.Plant.state c.args.p.now)) (world_seen (g.P.Plant.state c.args.p.now) c.args.c.now r c.args.j.now.events) ((copy_first (ids_of c.args.c.now.volumes) c.args.b.0 c.args.t) ++ (now (Store c.args.b.0 c.args.t c.args.a.0 c.args.last)) ∷ []) (world_seen (g.P.Plant.state c.copy_first.new.p) c.args.c.now r c.copy_first.new.j.events) e) (sym (refused-by c.from_residual.result c.in_err-copy_first.field-0.0 c.from_residual.ensures.0 c.from_residual.ensures.1))
+    (fails-first (armed_in (g.P.Plant.state c.args.p.now)) (world_seen (g.P.Plant.state c.args.p.now) c.args.c.now r c.args.j.now.events) (world_seen (g.P.Plant.state c.copy_first.new.p) c.args.c.now r c.copy_first.new.j.events) (Some c.in_err-copy_first.field-0.0) (copy_first (ids_of c.args.c.now.volumes) c.args.b.0 c.args.t) ((now (Store c.args.b.0 c.args.t c.args.a.0 c.args.last)) ∷ []) (c.in_err-copy_first.ensures.fails r)))
 
 pub store-requires-clause-running : goal.store-requires-clause-running
 store-requires-clause-running g c =
@@ -39,13 +41,13 @@ store-requires-clause-bytes g c =
 pub returns-clause-leads : goal.returns-clause-leads
 returns-clause-leads g c =
     ok-along c.store.result c.store.ensures.advances (λ goes r.
-    then-leads (seen (g.P.Plant.state c.args.p.now) c.args.c.now r c.args.j.now.events) (seen (g.P.Plant.state c.copy_first.new.p) c.args.c.now r c.copy_first.new.j.events) (seen (g.P.Plant.state c.store.new.p) c.args.c.now r c.store.new.j.events) (copy_first (ids_of c.args.c.now.volumes) c.args.b.0 c.args.t) ((now (Store c.args.b.0 c.args.t c.args.a.0 c.args.last)) ∷ []) (c.in_ok-copy_first.ensures.leads r) (goes r))
+    then-leads (world_seen (g.P.Plant.state c.args.p.now) c.args.c.now r c.args.j.now.events) (world_seen (g.P.Plant.state c.copy_first.new.p) c.args.c.now r c.copy_first.new.j.events) (world_seen (g.P.Plant.state c.store.new.p) c.args.c.now r c.store.new.j.events) (copy_first (ids_of c.args.c.now.volumes) c.args.b.0 c.args.t) ((now (Store c.args.b.0 c.args.t c.args.a.0 c.args.last)) ∷ []) (c.in_ok-copy_first.ensures.leads r) (goes r))
 
 pub returns-clause-fails : goal.returns-clause-fails
 returns-clause-fails g c =
     err-along c.store.result c.store.ensures.halts c.store.ensures.refused (λ halts refused r.
-    then-fails (armed_in (g.P.Plant.state c.args.p.now)) (seen (g.P.Plant.state c.args.p.now) c.args.c.now r c.args.j.now.events) (seen (g.P.Plant.state c.copy_first.new.p) c.args.c.now r c.copy_first.new.j.events) (seen (g.P.Plant.state c.store.new.p) c.args.c.now r c.store.new.j.events) (refusal_of c.store.result) (copy_first (ids_of c.args.c.now.volumes) c.args.b.0 c.args.t) ((now (Store c.args.b.0 c.args.t c.args.a.0 c.args.last)) ∷ []) (c.in_ok-copy_first.ensures.leads r)
-    (fails-wider (armed_in (g.P.Plant.state c.copy_first.new.p)) (armed_in (g.P.Plant.state c.args.p.now)) (wider-armed (g.P.Plant.state c.args.p.now) (g.P.Plant.state c.copy_first.new.p) c.in_ok-copy_first.ensures.unarmed) (seen (g.P.Plant.state c.copy_first.new.p) c.args.c.now r c.copy_first.new.j.events) (seen (g.P.Plant.state c.store.new.p) c.args.c.now r c.store.new.j.events) (refusal_of c.store.result) ((now (Store c.args.b.0 c.args.t c.args.a.0 c.args.last)) ∷ []) (halts r)))
+    then-fails (armed_in (g.P.Plant.state c.args.p.now)) (world_seen (g.P.Plant.state c.args.p.now) c.args.c.now r c.args.j.now.events) (world_seen (g.P.Plant.state c.copy_first.new.p) c.args.c.now r c.copy_first.new.j.events) (world_seen (g.P.Plant.state c.store.new.p) c.args.c.now r c.store.new.j.events) (refusal_of c.store.result) (copy_first (ids_of c.args.c.now.volumes) c.args.b.0 c.args.t) ((now (Store c.args.b.0 c.args.t c.args.a.0 c.args.last)) ∷ []) (c.in_ok-copy_first.ensures.leads r)
+    (fails-wider (armed_in (g.P.Plant.state c.copy_first.new.p)) (armed_in (g.P.Plant.state c.args.p.now)) (wider-armed (g.P.Plant.state c.args.p.now) (g.P.Plant.state c.copy_first.new.p) c.in_ok-copy_first.ensures.unarmed) (world_seen (g.P.Plant.state c.copy_first.new.p) c.args.c.now r c.copy_first.new.j.events) (world_seen (g.P.Plant.state c.store.new.p) c.args.c.now r c.store.new.j.events) (refusal_of c.store.result) ((now (Store c.args.b.0 c.args.t c.args.a.0 c.args.last)) ∷ []) (halts r)))
 
 pub returns-clause-refused : goal.returns-clause-refused
 returns-clause-refused g c =

@@ -3,17 +3,17 @@ use Rattle.std.specs.Prelude.{if◌then◌else◌}
 use Rattle.dr_model.specs.Carry.{now}
 use Rattle.dr_model.specs.Moves.{Suspend}
 use Rattle.dr_model.specs.PairEntries.{send_refusal, suspend_where, refuse_if}
-use Rattle.dr_flash.specs.Here.{seen, armed_in}
+use Rattle.dr_flash.specs.Here.{world_seen, armed_in}
 use Rattle.dr_flash.proofs.KeepLemmas.{alike-advances, alike-halts}
 use Rattle.dr_gcopy.proofs.SendLemmas.{suspends, refuse-ends, same-refusal, same-server}
 use Rattle.dr_gcopy.proofs.sending.refuse.Goals as goal
 
 pub returns-in-Ok-clause-fails : goal.returns-in-Ok-clause-fails
 returns-in-Ok-clause-fails g c r ds =
-    alike-advances (seen (g.P.Plant.state c.args.p.now) c.args.c.now r c.args.j.now.events) (seen (g.P.Plant.state c.suspend.new.p) c.args.c.now r c.suspend.new.j.events) (suspend_where (send_refusal c.args.a.0 c.args.b.0) c.args.a.0) (now (Suspend c.args.a.0 false)) (suspends (seen (g.P.Plant.state c.args.p.now) c.args.c.now r c.args.j.now.events) (send_refusal c.args.a.0 c.args.b.0) c.args.a.0 c.args.why (sym (c.requires.why r c.args.j.now.events))) (c.in-Ok.ensures.advances r) (armed_in (g.P.Plant.state c.args.p.now)) (seen (g.P.Plant.state c.suspend.new.p) c.args.c.now r c.suspend.new.j.events) (Some c.args.why) (refuse_if (send_refusal c.args.a.0 c.args.b.0) ∷ ds)
-    (refuse-ends (armed_in (g.P.Plant.state c.args.p.now)) (seen (g.P.Plant.state c.suspend.new.p) c.args.c.now r c.suspend.new.j.events) (send_refusal c.args.a.0 c.args.b.0) c.args.why
-    (same-refusal c.args.a.0 c.args.b.0 (seen (g.P.Plant.state c.args.p.now) c.args.c.now r c.args.j.now.events).control (seen (g.P.Plant.state c.suspend.new.p) c.args.c.now r c.suspend.new.j.events).control refl (λ i server. if nat_lt server 8 then c.in-Ok.ensures.on i server else true) refl (same-server (g.P.Plant.state c.suspend.new.p) (g.P.Plant.state c.args.p.now) c.args.c.now c.args.a.0) (c.in-Ok.ensures.others c.args.b.0 (λ e. c.requires.apart (sym e))).volume ∙ sym (c.requires.why r c.args.j.now.events)) ds)
+    alike-advances (world_seen (g.P.Plant.state c.args.p.now) c.args.c.now r c.args.j.now.events) (world_seen (g.P.Plant.state c.suspend.new.p) c.args.c.now r c.suspend.new.j.events) (suspend_where (send_refusal c.args.a.0 c.args.b.0) c.args.a.0) (now (Suspend c.args.a.0 false)) (suspends (world_seen (g.P.Plant.state c.args.p.now) c.args.c.now r c.args.j.now.events) (send_refusal c.args.a.0 c.args.b.0) c.args.a.0 c.args.why (sym (c.requires.why r c.args.j.now.events))) (c.in-Ok.ensures.advances r) (armed_in (g.P.Plant.state c.args.p.now)) (world_seen (g.P.Plant.state c.suspend.new.p) c.args.c.now r c.suspend.new.j.events) (Some c.args.why) (refuse_if (send_refusal c.args.a.0 c.args.b.0) ∷ ds)
+    (refuse-ends (armed_in (g.P.Plant.state c.args.p.now)) (world_seen (g.P.Plant.state c.suspend.new.p) c.args.c.now r c.suspend.new.j.events) (send_refusal c.args.a.0 c.args.b.0) c.args.why
+    (same-refusal c.args.a.0 c.args.b.0 (world_seen (g.P.Plant.state c.args.p.now) c.args.c.now r c.args.j.now.events).control (world_seen (g.P.Plant.state c.suspend.new.p) c.args.c.now r c.suspend.new.j.events).control refl (λ i server. if nat_lt server 8 then c.in-Ok.ensures.on i server else true) refl (same-server (g.P.Plant.state c.suspend.new.p) (g.P.Plant.state c.args.p.now) c.args.c.now c.args.a.0) (c.in-Ok.ensures.others c.args.b.0 (λ e. c.requires.apart (sym e))).volume ∙ sym (c.requires.why r c.args.j.now.events)) ds)
 
 pub returns-in-Err-clause-fails : goal.returns-in-Err-clause-fails
 returns-in-Err-clause-fails g c r ds =
-    alike-halts (armed_in (g.P.Plant.state c.args.p.now)) (seen (g.P.Plant.state c.args.p.now) c.args.c.now r c.args.j.now.events) (seen (g.P.Plant.state c.suspend.new.p) c.args.c.now r c.suspend.new.j.events) (Some c.in-Err.stop) (suspend_where (send_refusal c.args.a.0 c.args.b.0) c.args.a.0) (now (Suspend c.args.a.0 false)) (suspends (seen (g.P.Plant.state c.args.p.now) c.args.c.now r c.args.j.now.events) (send_refusal c.args.a.0 c.args.b.0) c.args.a.0 c.args.why (sym (c.requires.why r c.args.j.now.events))) (c.in-Err.ensures.halts r) (refuse_if (send_refusal c.args.a.0 c.args.b.0) ∷ ds)
+    alike-halts (armed_in (g.P.Plant.state c.args.p.now)) (world_seen (g.P.Plant.state c.args.p.now) c.args.c.now r c.args.j.now.events) (world_seen (g.P.Plant.state c.suspend.new.p) c.args.c.now r c.suspend.new.j.events) (Some c.in-Err.stop) (suspend_where (send_refusal c.args.a.0 c.args.b.0) c.args.a.0) (now (Suspend c.args.a.0 false)) (suspends (world_seen (g.P.Plant.state c.args.p.now) c.args.c.now r c.args.j.now.events) (send_refusal c.args.a.0 c.args.b.0) c.args.a.0 c.args.why (sym (c.requires.why r c.args.j.now.events))) (c.in-Err.ensures.halts r) (refuse_if (send_refusal c.args.a.0 c.args.b.0) ∷ ds)

@@ -1,8 +1,8 @@
 use Rattle.std.proofs.Common.{◌∷◌, ◌++◌, sym, Some}
 use Rattle.dr_model.specs.PairEntries.{send_refusal, suspend_where, refuse_if, flashed_refusal}
 use Rattle.dr_volume.specs.View.{ids_of}
-use Rattle.dr_flash.specs.Here.{seen, armed_in, refusal_of}
-use Rattle.dr_flash.proofs.EndsLemmas.{ends-skips}
+use Rattle.dr_flash.specs.Here.{world_seen, armed_in, refusal_of}
+use Rattle.dr_facts.proofs.Ends.{ends-skips}
 use Rattle.dr_flash.proofs.TurnLemmas.{ok-along, err-along}
 use Rattle.dr_gcopy.specs.Sending.{pass_entries}
 use Rattle.dr_gcopy.proofs.SendLemmas.{suspends-none, refuse-passes, refuse-ends, counted-stops}
@@ -14,23 +14,23 @@ returns-in-Some-clause-fails g c r ds =
 
 pub returns-in-Some-flashed_refusal-clause-fails : goal.returns-in-Some-flashed_refusal-clause-fails
 returns-in-Some-flashed_refusal-clause-fails g c r ds =
-    ends-skips (armed_in (g.P.Plant.state c.args.p.now)) (seen (g.P.Plant.state c.args.p.now) c.args.c.now r c.args.j.now.events) (Some c.in-Some-flashed_refusal.why) (seen (g.P.Plant.state c.args.p.now) c.args.c.now r c.args.j.now.events) (suspend_where (send_refusal c.args.a.0 c.args.b.0) c.args.a.0) _ (suspends-none (seen (g.P.Plant.state c.args.p.now) c.args.c.now r c.args.j.now.events) (send_refusal c.args.a.0 c.args.b.0) c.args.a.0 (sym (c.in_default.ensures.refusal r c.args.j.now.events)))
-    (refuse-passes (seen (g.P.Plant.state c.args.p.now) c.args.c.now r c.args.j.now.events) (send_refusal c.args.a.0 c.args.b.0) (sym (c.in_default.ensures.refusal r c.args.j.now.events)) (armed_in (g.P.Plant.state c.args.p.now)) (seen (g.P.Plant.state c.args.p.now) c.args.c.now r c.args.j.now.events) (Some c.in-Some-flashed_refusal.why) _
-    (refuse-ends (armed_in (g.P.Plant.state c.args.p.now)) (seen (g.P.Plant.state c.args.p.now) c.args.c.now r c.args.j.now.events) (flashed_refusal c.args.b.0) c.in-Some-flashed_refusal.why (sym (c.in-Some-flashed_refusal.ensures.refusal r c.args.j.now.events)) _))
+    ends-skips (armed_in (g.P.Plant.state c.args.p.now)) (world_seen (g.P.Plant.state c.args.p.now) c.args.c.now r c.args.j.now.events) (Some c.in-Some-flashed_refusal.why) (world_seen (g.P.Plant.state c.args.p.now) c.args.c.now r c.args.j.now.events) (suspend_where (send_refusal c.args.a.0 c.args.b.0) c.args.a.0) _ (suspends-none (world_seen (g.P.Plant.state c.args.p.now) c.args.c.now r c.args.j.now.events) (send_refusal c.args.a.0 c.args.b.0) c.args.a.0 (sym (c.in_default.ensures.refusal r c.args.j.now.events)))
+    (refuse-passes (world_seen (g.P.Plant.state c.args.p.now) c.args.c.now r c.args.j.now.events) (send_refusal c.args.a.0 c.args.b.0) (sym (c.in_default.ensures.refusal r c.args.j.now.events)) (armed_in (g.P.Plant.state c.args.p.now)) (world_seen (g.P.Plant.state c.args.p.now) c.args.c.now r c.args.j.now.events) (Some c.in-Some-flashed_refusal.why) _
+    (refuse-ends (armed_in (g.P.Plant.state c.args.p.now)) (world_seen (g.P.Plant.state c.args.p.now) c.args.c.now r c.args.j.now.events) (flashed_refusal c.args.b.0) c.in-Some-flashed_refusal.why (sym (c.in-Some-flashed_refusal.ensures.refusal r c.args.j.now.events)) _))
 
 pub returns-clause-leads : goal.returns-clause-leads
 returns-clause-leads g c =
     ok-along c.pass_on.result c.pass_on.ensures.leads (λ leads r armed u q ds more.
-    ends-skips armed u q (seen (g.P.Plant.state c.args.p.now) c.args.c.now r c.args.j.now.events) (suspend_where (send_refusal c.args.a.0 c.args.b.0) c.args.a.0) _ (suspends-none (seen (g.P.Plant.state c.args.p.now) c.args.c.now r c.args.j.now.events) (send_refusal c.args.a.0 c.args.b.0) c.args.a.0 (sym (c.in_default.ensures.refusal r c.args.j.now.events)))
-    (refuse-passes (seen (g.P.Plant.state c.args.p.now) c.args.c.now r c.args.j.now.events) (send_refusal c.args.a.0 c.args.b.0) (sym (c.in_default.ensures.refusal r c.args.j.now.events)) armed u q _
-    (refuse-passes (seen (g.P.Plant.state c.args.p.now) c.args.c.now r c.args.j.now.events) (flashed_refusal c.args.b.0) (sym (c.in_default-flashed_refusal.ensures.refusal r c.args.j.now.events)) armed u q _ (leads r armed u q ds more))))
+    ends-skips armed u q (world_seen (g.P.Plant.state c.args.p.now) c.args.c.now r c.args.j.now.events) (suspend_where (send_refusal c.args.a.0 c.args.b.0) c.args.a.0) _ (suspends-none (world_seen (g.P.Plant.state c.args.p.now) c.args.c.now r c.args.j.now.events) (send_refusal c.args.a.0 c.args.b.0) c.args.a.0 (sym (c.in_default.ensures.refusal r c.args.j.now.events)))
+    (refuse-passes (world_seen (g.P.Plant.state c.args.p.now) c.args.c.now r c.args.j.now.events) (send_refusal c.args.a.0 c.args.b.0) (sym (c.in_default.ensures.refusal r c.args.j.now.events)) armed u q _
+    (refuse-passes (world_seen (g.P.Plant.state c.args.p.now) c.args.c.now r c.args.j.now.events) (flashed_refusal c.args.b.0) (sym (c.in_default-flashed_refusal.ensures.refusal r c.args.j.now.events)) armed u q _ (leads r armed u q ds more))))
 
 pub returns-clause-fails : goal.returns-clause-fails
 returns-clause-fails g c =
     err-along c.pass_on.result c.pass_on.ensures.fails c.pass_on.ensures.stops (λ fails stops r ds.
-    ends-skips (armed_in (g.P.Plant.state c.args.p.now)) (seen (g.P.Plant.state c.pass_on.new.p) c.args.c.now r c.pass_on.new.j.events) (refusal_of c.pass_on.result) (seen (g.P.Plant.state c.args.p.now) c.args.c.now r c.args.j.now.events) (suspend_where (send_refusal c.args.a.0 c.args.b.0) c.args.a.0) _ (suspends-none (seen (g.P.Plant.state c.args.p.now) c.args.c.now r c.args.j.now.events) (send_refusal c.args.a.0 c.args.b.0) c.args.a.0 (sym (c.in_default.ensures.refusal r c.args.j.now.events)))
-    (refuse-passes (seen (g.P.Plant.state c.args.p.now) c.args.c.now r c.args.j.now.events) (send_refusal c.args.a.0 c.args.b.0) (sym (c.in_default.ensures.refusal r c.args.j.now.events)) (armed_in (g.P.Plant.state c.args.p.now)) (seen (g.P.Plant.state c.pass_on.new.p) c.args.c.now r c.pass_on.new.j.events) (refusal_of c.pass_on.result) _
-    (refuse-passes (seen (g.P.Plant.state c.args.p.now) c.args.c.now r c.args.j.now.events) (flashed_refusal c.args.b.0) (sym (c.in_default-flashed_refusal.ensures.refusal r c.args.j.now.events)) (armed_in (g.P.Plant.state c.args.p.now)) (seen (g.P.Plant.state c.pass_on.new.p) c.args.c.now r c.pass_on.new.j.events) (refusal_of c.pass_on.result) _ (fails r ds))))
+    ends-skips (armed_in (g.P.Plant.state c.args.p.now)) (world_seen (g.P.Plant.state c.pass_on.new.p) c.args.c.now r c.pass_on.new.j.events) (refusal_of c.pass_on.result) (world_seen (g.P.Plant.state c.args.p.now) c.args.c.now r c.args.j.now.events) (suspend_where (send_refusal c.args.a.0 c.args.b.0) c.args.a.0) _ (suspends-none (world_seen (g.P.Plant.state c.args.p.now) c.args.c.now r c.args.j.now.events) (send_refusal c.args.a.0 c.args.b.0) c.args.a.0 (sym (c.in_default.ensures.refusal r c.args.j.now.events)))
+    (refuse-passes (world_seen (g.P.Plant.state c.args.p.now) c.args.c.now r c.args.j.now.events) (send_refusal c.args.a.0 c.args.b.0) (sym (c.in_default.ensures.refusal r c.args.j.now.events)) (armed_in (g.P.Plant.state c.args.p.now)) (world_seen (g.P.Plant.state c.pass_on.new.p) c.args.c.now r c.pass_on.new.j.events) (refusal_of c.pass_on.result) _
+    (refuse-passes (world_seen (g.P.Plant.state c.args.p.now) c.args.c.now r c.args.j.now.events) (flashed_refusal c.args.b.0) (sym (c.in_default-flashed_refusal.ensures.refusal r c.args.j.now.events)) (armed_in (g.P.Plant.state c.args.p.now)) (world_seen (g.P.Plant.state c.pass_on.new.p) c.args.c.now r c.pass_on.new.j.events) (refusal_of c.pass_on.result) _ (fails r ds))))
 
 pub returns-clause-faults : goal.returns-clause-faults
 returns-clause-faults g c =

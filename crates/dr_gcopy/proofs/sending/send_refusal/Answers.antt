@@ -2,20 +2,22 @@ use Rattle.std.proofs.Common.{[], Option, ap, sym, ◌∙◌}
 use Rattle.std.specs.Option.{option_or}
 use Rattle.dr_ids.specs.declared.refusal.Refusal.{Refusal}
 use Rattle.dr_volume.specs.View.{Rest, volume_seen}
-use Rattle.dr_flash.specs.Here.{seen}
+use Rattle.dr_flash.specs.Here.{world_seen}
 use Rattle.dr_gcopy.specs.Sending.{stranger_refusal}
-use Rattle.dr_gcopy.proofs.SendLemmas.{none-always, low-server, on-of-seen, reached-on}
+use Rattle.dr_gcopy.proofs.SendLemmas.{on-of-seen, reached-on}
 use Rattle.dr_gcopy.proofs.sending.send_refusal.Goals as goal
+use Rattle.dr_gcopy.proofs.ReachLemmas.{server-low}
+use Rattle.dr_gcopy.proofs.PairChecks.{on-none}
 
 pub returns-in-Some-clause-refusal : goal.returns-in-Some-clause-refusal
 returns-in-Some-clause-refusal g c r events =
-    ap (λ (o : Option Refusal). option_or o (stranger_refusal c.args.a.0 c.args.b.0 (seen (g.P.Plant.state c.args.p.now) c.args.c.now r events).control)) (c.in-Some.ensures.refusal r events)
+    ap (λ (o : Option Refusal). option_or o (stranger_refusal c.args.a.0 c.args.b.0 (world_seen (g.P.Plant.state c.args.p.now) c.args.c.now r events).control)) (c.in-Some.ensures.refusal r events)
 
 pub returns-clause-refusal : goal.returns-clause-refusal
 returns-clause-refusal g c r events =
-    c.stranger_refusal.ensures.refusal r events ∙ ap (λ (o : Option Refusal). option_or o (stranger_refusal c.args.a.0 c.args.b.0 (seen (g.P.Plant.state c.args.p.now) c.args.c.now r events).control)) (c.in_default.ensures.refusal r events)
+    c.stranger_refusal.ensures.refusal r events ∙ ap (λ (o : Option Refusal). option_or o (stranger_refusal c.args.a.0 c.args.b.0 (world_seen (g.P.Plant.state c.args.p.now) c.args.c.now r events).control)) (c.in_default.ensures.refusal r events)
 
 pub returns-clause-reached : goal.returns-clause-reached
 returns-clause-reached g c =
     let r : Rest = record { issued = 0; pending = []; sessions = []; events = [] } in
-    none-always c.stranger_refusal.result (on-of-seen (g.P.Plant.state c.args.p.now) (volume_seen (g.P.Plant.state c.args.p.now) c.args.c.now c.args.b.0).server (low-server (g.P.Plant.state c.args.p.now) c.args.c.now c.args.b.0 c.requires.stands c.requires.to) (reached-on c.args.a.0 c.args.b.0 (seen (g.P.Plant.state c.args.p.now) c.args.c.now r []).control (sym (c.in_default.ensures.refusal r []))))
+    (on-none c.stranger_refusal.result _ (on-of-seen (g.P.Plant.state c.args.p.now) (volume_seen (g.P.Plant.state c.args.p.now) c.args.c.now c.args.b.0).server (server-low (g.P.Plant.state c.args.p.now) c.args.c.now c.args.b.0 c.requires.stands c.requires.to) (reached-on c.args.a.0 c.args.b.0 (world_seen (g.P.Plant.state c.args.p.now) c.args.c.now r []).control (sym (c.in_default.ensures.refusal r [])))))

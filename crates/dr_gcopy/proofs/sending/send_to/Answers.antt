@@ -1,29 +1,29 @@
 use Rattle.std.proofs.Common.{refl, Some}
 use Rattle.dr_model.specs.PairEntries.{send_entries, suspend_after}
 use Rattle.dr_volume.specs.View.{ids_of}
-use Rattle.dr_flash.specs.Here.{seen, armed_in}
+use Rattle.dr_flash.specs.Here.{world_seen, armed_in}
 use Rattle.dr_flash.proofs.CopyLemmas.{led, failed, before-then, wider-armed}
 use Rattle.dr_gcopy.proofs.SendLemmas.{follows-wider}
 use Rattle.dr_gcopy.proofs.sending.send_to.Goals as goal
 
 pub returns-in-Ok-clause-carried : goal.returns-in-Ok-clause-carried
 returns-in-Ok-clause-carried g c r =
-    record { middle = (seen (g.P.Plant.state c.send_on.new.p) c.args.c.now r c.send_on.new.j.events); ends = led (armed_in (g.P.Plant.state c.args.p.now)) (seen (g.P.Plant.state c.args.p.now) c.args.c.now r c.args.j.now.events) (seen (g.P.Plant.state c.send_on.new.p) c.args.c.now r c.send_on.new.j.events) (send_entries (ids_of c.args.c.now.volumes) c.args.a.0 c.args.b.0 c.args.t) (c.in-Ok.ensures.leads r); followed = refl }
+    record { middle = (world_seen (g.P.Plant.state c.send_on.new.p) c.args.c.now r c.send_on.new.j.events); ends = led (armed_in (g.P.Plant.state c.args.p.now)) (world_seen (g.P.Plant.state c.args.p.now) c.args.c.now r c.args.j.now.events) (world_seen (g.P.Plant.state c.send_on.new.p) c.args.c.now r c.send_on.new.j.events) (send_entries (ids_of c.args.c.now.volumes) c.args.a.0 c.args.b.0 c.args.t) (c.in-Ok.ensures.leads r); followed = refl }
 
 pub returns-in-Err-clause-carried : goal.returns-in-Err-clause-carried
 returns-in-Err-clause-carried g c r =
     record {
-      middle = (seen (g.P.Plant.state c.send_on.new.p) c.args.c.now r c.send_on.new.j.events);
-      ends = failed (armed_in (g.P.Plant.state c.args.p.now)) (seen (g.P.Plant.state c.args.p.now) c.args.c.now r c.args.j.now.events) (seen (g.P.Plant.state c.send_on.new.p) c.args.c.now r c.send_on.new.j.events) (Some c.in-Err.why) (send_entries (ids_of c.args.c.now.volumes) c.args.a.0 c.args.b.0 c.args.t) (c.in-Err.ensures.fails r);
-      followed = follows-wider (armed_in (g.P.Plant.state c.send_on.new.p)) (armed_in (g.P.Plant.state c.args.p.now)) (wider-armed (g.P.Plant.state c.args.p.now) (g.P.Plant.state c.send_on.new.p) c.in-Err.ensures.unarmed) (seen (g.P.Plant.state c.send_on.new.p) c.args.c.now r c.send_on.new.j.events) (Some c.in-Err.why) (suspend_after c.args.a.0) (seen (g.P.Plant.state c.follow_stop.new.p) c.args.c.now r c.follow_stop.new.j.events) (c.follow_stop.ensures.follows r);
+      middle = (world_seen (g.P.Plant.state c.send_on.new.p) c.args.c.now r c.send_on.new.j.events);
+      ends = failed (armed_in (g.P.Plant.state c.args.p.now)) (world_seen (g.P.Plant.state c.args.p.now) c.args.c.now r c.args.j.now.events) (world_seen (g.P.Plant.state c.send_on.new.p) c.args.c.now r c.send_on.new.j.events) (Some c.in-Err.why) (send_entries (ids_of c.args.c.now.volumes) c.args.a.0 c.args.b.0 c.args.t) (c.in-Err.ensures.fails r);
+      followed = follows-wider (armed_in (g.P.Plant.state c.send_on.new.p)) (armed_in (g.P.Plant.state c.args.p.now)) (wider-armed (g.P.Plant.state c.args.p.now) (g.P.Plant.state c.send_on.new.p) c.in-Err.ensures.unarmed) (world_seen (g.P.Plant.state c.send_on.new.p) c.args.c.now r c.send_on.new.j.events) (Some c.in-Err.why) (suspend_after c.args.a.0) (world_seen (g.P.Plant.state c.follow_stop.new.p) c.args.c.now r c.follow_stop.new.j.events) (c.follow_stop.ensures.follows r);
     }
 
 pub returns-in-Err-clause-fails : goal.returns-in-Err-clause-fails
 returns-in-Err-clause-fails g c r =
     record {
-      middle = (seen (g.P.Plant.state c.send_on.new.p) c.args.c.now r c.send_on.new.j.events);
+      middle = (world_seen (g.P.Plant.state c.send_on.new.p) c.args.c.now r c.send_on.new.j.events);
       fails = c.in-Err.ensures.fails r;
-      followed = follows-wider (armed_in (g.P.Plant.state c.send_on.new.p)) (armed_in (g.P.Plant.state c.args.p.now)) (wider-armed (g.P.Plant.state c.args.p.now) (g.P.Plant.state c.send_on.new.p) c.in-Err.ensures.unarmed) (seen (g.P.Plant.state c.send_on.new.p) c.args.c.now r c.send_on.new.j.events) (Some c.in-Err.why) (suspend_after c.args.a.0) (seen (g.P.Plant.state c.follow_stop.new.p) c.args.c.now r c.follow_stop.new.j.events) (c.follow_stop.ensures.follows r);
+      followed = follows-wider (armed_in (g.P.Plant.state c.send_on.new.p)) (armed_in (g.P.Plant.state c.args.p.now)) (wider-armed (g.P.Plant.state c.args.p.now) (g.P.Plant.state c.send_on.new.p) c.in-Err.ensures.unarmed) (world_seen (g.P.Plant.state c.send_on.new.p) c.args.c.now r c.send_on.new.j.events) (Some c.in-Err.why) (suspend_after c.args.a.0) (world_seen (g.P.Plant.state c.follow_stop.new.p) c.args.c.now r c.follow_stop.new.j.events) (c.follow_stop.ensures.follows r);
     }
 
 pub returns-in-Err-clause-unarmed : goal.returns-in-Err-clause-unarmed

@@ -6,7 +6,7 @@ use Rattle.dr_model.specs.Moves.{Store}
 use Rattle.dr_model.specs.Pairs.{received}
 use Rattle.dr_volume.specs.Plain.{plain}
 use Rattle.dr_volume.specs.View.{volume_seen}
-use Rattle.dr_flash.specs.Here.{seen, armed_in, refusal_of}
+use Rattle.dr_flash.specs.Here.{world_seen, armed_in, refusal_of}
 use Rattle.dr_flash.proofs.CheckLemmas.{act-ends}
 use Rattle.dr_flash.proofs.ReadLemmas.{on-running}
 use Rattle.dr_flash.proofs.TurnLemmas.{Tells, advances, halts, ok-along, err-along}
@@ -41,9 +41,9 @@ returns-clause-advances g c =
     let t = c.args.c.now in
     let x = volume_seen s t c.args.b.0 in
     ok-along c.shift.result c.shift.ensures.done (λ done r.
-    advances (seen s t r c.args.j.now.events) (Store c.args.b.0 c.args.t c.args.a.0 c.args.last) c.of-told.result (plain c.received-next.result) (Some (c.args.t, c.args.bytes.now)) (on-running s x.server c.requires.running)
+    advances (world_seen s t r c.args.j.now.events) (Store c.args.b.0 c.args.t c.args.a.0 c.args.last) c.of-told.result (plain c.received-next.result) (Some (c.args.t, c.args.bytes.now)) (on-running s x.server c.requires.running)
     (subst (λ y. Tells (Store c.args.b.0 c.args.t c.args.a.0 c.args.last) x y) (sym (c.of-told.ensures)) (tells-store c.args.b.0 c.args.t c.args.a.0 c.args.last x)) (sym (c.received-next.ensures ∙ ap (λ (f : Fields). received c.args.last f c.args.t) c.peek_fields.ensures.fields)) (ap (λ (b : List ℕ). Some (c.args.t, b)) (sym c.requires.bytes))
-    (seen (g.P.Plant.state c.shift.new.p) t r c.shift.new.j.events) (done r))
+    (world_seen (g.P.Plant.state c.shift.new.p) t r c.shift.new.j.events) (done r))
 
 pub returns-clause-halts : goal.returns-clause-halts
 returns-clause-halts g c =
@@ -51,21 +51,21 @@ returns-clause-halts g c =
     let t = c.args.c.now in
     let x = volume_seen s t c.args.b.0 in
     err-along c.shift.result c.shift.ensures.failed c.shift.ensures.refused (λ failed refused r.
-    halts (seen s t r c.args.j.now.events) (Store c.args.b.0 c.args.t c.args.a.0 c.args.last) c.of-told.result (plain c.received-next.result) (Some (c.args.t, c.args.bytes.now)) (on-running s x.server c.requires.running)
+    halts (world_seen s t r c.args.j.now.events) (Store c.args.b.0 c.args.t c.args.a.0 c.args.last) c.of-told.result (plain c.received-next.result) (Some (c.args.t, c.args.bytes.now)) (on-running s x.server c.requires.running)
     (subst (λ y. Tells (Store c.args.b.0 c.args.t c.args.a.0 c.args.last) x y) (sym (c.of-told.ensures)) (tells-store c.args.b.0 c.args.t c.args.a.0 c.args.last x)) (sym (c.received-next.ensures ∙ ap (λ (f : Fields). received c.args.last f c.args.t) c.peek_fields.ensures.fields)) (ap (λ (b : List ℕ). Some (c.args.t, b)) (sym c.requires.bytes))
-    (armed_in s) (seen (g.P.Plant.state c.shift.new.p) t r c.shift.new.j.events) (refusal_of c.shift.result) refused (failed r))
+    (armed_in s) (world_seen (g.P.Plant.state c.shift.new.p) t r c.shift.new.j.events) (refusal_of c.shift.result) refused (failed r))
 
 pub returns-clause-carried : goal.returns-clause-carried
 returns-clause-carried g c =
     let s = g.P.Plant.state c.args.p.now in
     let t = c.args.c.now in
     let x = volume_seen s t c.args.b.0 in
-    act-ends c.shift.result (armed_in s) (λ r. seen s t r c.args.j.now.events) (λ r. seen (g.P.Plant.state c.shift.new.p) t r c.shift.new.j.events) (now (Store c.args.b.0 c.args.t c.args.a.0 c.args.last))
+    act-ends c.shift.result (armed_in s) (λ r. world_seen s t r c.args.j.now.events) (λ r. world_seen (g.P.Plant.state c.shift.new.p) t r c.shift.new.j.events) (now (Store c.args.b.0 c.args.t c.args.a.0 c.args.last))
     (ok-along c.shift.result c.shift.ensures.done (λ done r.
-    advances (seen s t r c.args.j.now.events) (Store c.args.b.0 c.args.t c.args.a.0 c.args.last) c.of-told.result (plain c.received-next.result) (Some (c.args.t, c.args.bytes.now)) (on-running s x.server c.requires.running)
+    advances (world_seen s t r c.args.j.now.events) (Store c.args.b.0 c.args.t c.args.a.0 c.args.last) c.of-told.result (plain c.received-next.result) (Some (c.args.t, c.args.bytes.now)) (on-running s x.server c.requires.running)
     (subst (λ y. Tells (Store c.args.b.0 c.args.t c.args.a.0 c.args.last) x y) (sym (c.of-told.ensures)) (tells-store c.args.b.0 c.args.t c.args.a.0 c.args.last x)) (sym (c.received-next.ensures ∙ ap (λ (f : Fields). received c.args.last f c.args.t) c.peek_fields.ensures.fields)) (ap (λ (b : List ℕ). Some (c.args.t, b)) (sym c.requires.bytes))
-    (seen (g.P.Plant.state c.shift.new.p) t r c.shift.new.j.events) (done r)))
+    (world_seen (g.P.Plant.state c.shift.new.p) t r c.shift.new.j.events) (done r)))
     (err-along c.shift.result c.shift.ensures.failed c.shift.ensures.refused (λ failed refused r.
-    halts (seen s t r c.args.j.now.events) (Store c.args.b.0 c.args.t c.args.a.0 c.args.last) c.of-told.result (plain c.received-next.result) (Some (c.args.t, c.args.bytes.now)) (on-running s x.server c.requires.running)
+    halts (world_seen s t r c.args.j.now.events) (Store c.args.b.0 c.args.t c.args.a.0 c.args.last) c.of-told.result (plain c.received-next.result) (Some (c.args.t, c.args.bytes.now)) (on-running s x.server c.requires.running)
     (subst (λ y. Tells (Store c.args.b.0 c.args.t c.args.a.0 c.args.last) x y) (sym (c.of-told.ensures)) (tells-store c.args.b.0 c.args.t c.args.a.0 c.args.last x)) (sym (c.received-next.ensures ∙ ap (λ (f : Fields). received c.args.last f c.args.t) c.peek_fields.ensures.fields)) (ap (λ (b : List ℕ). Some (c.args.t, b)) (sym c.requires.bytes))
-    (armed_in s) (seen (g.P.Plant.state c.shift.new.p) t r c.shift.new.j.events) (refusal_of c.shift.result) refused (failed r)))
+    (armed_in s) (world_seen (g.P.Plant.state c.shift.new.p) t r c.shift.new.j.events) (refusal_of c.shift.result) refused (failed r)))

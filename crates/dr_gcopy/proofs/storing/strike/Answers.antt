@@ -1,4 +1,4 @@
-use Rattle.std.proofs.Common.{◌≡◌, arith, ap, refl, sym, subst, ◌∙◌, None}
+use Rattle.std.proofs.Common.{◌≡◌, arith, ap, refl, sym, subst, ◌∙◌, None, length}
 use Rattle.dr_model.specs.Layout.{Fields}
 use Rattle.dr_model.specs.Lawful.{IsLawful}
 use Rattle.dr_model.specs.Carry.{now}
@@ -6,13 +6,12 @@ use Rattle.dr_model.specs.Moves.{Strike}
 use Rattle.dr_model.specs.Pairs.{struck}
 use Rattle.dr_volume.specs.Plain.{plain}
 use Rattle.dr_volume.specs.View.{volume_seen}
-use Rattle.dr_flash.specs.Here.{seen, armed_in, refusal_of}
+use Rattle.dr_flash.specs.Here.{world_seen, armed_in, refusal_of}
 use Rattle.dr_flash.proofs.CheckLemmas.{act-ends}
 use Rattle.dr_flash.proofs.ReadLemmas.{on-running}
 use Rattle.dr_flash.proofs.TurnLemmas.{Tells, advances, halts, ok-along, err-along}
 use Rattle.dr_flash.proofs.MoveLemmas.{MoveFits}
 use Rattle.dr_gcopy.proofs.SendMoves.{strike-fits, tells-strike}
-use Rattle.std.proofs.Common.{length}
 use Rattle.dr_flash.specs.declared.told.Telling.{Telling}
 use Rattle.dr_flash.specs.Told.{events_of}
 use Rattle.dr_gcopy.proofs.storing.strike.Goals as goal
@@ -37,9 +36,9 @@ returns-clause-advances g c =
     let t = c.args.c.now in
     let x = volume_seen s t c.args.a.0 in
     ok-along c.shift.result c.shift.ensures.done (λ done r.
-    advances (seen s t r c.args.j.now.events) (Strike c.args.a.0 c.args.t c.args.last) c.of.result (plain c.struck-next.result) None (on-running s x.server c.requires.running)
+    advances (world_seen s t r c.args.j.now.events) (Strike c.args.a.0 c.args.t c.args.last) c.of.result (plain c.struck-next.result) None (on-running s x.server c.requires.running)
     (subst (λ y. Tells (Strike c.args.a.0 c.args.t c.args.last) x y) (sym (c.of.ensures)) (tells-strike c.args.a.0 c.args.t c.args.last x)) (sym (c.struck-next.ensures ∙ ap (λ (f : Fields). struck c.args.last f c.args.t) c.peek_fields.ensures.fields)) (refl)
-    (seen (g.P.Plant.state c.shift.new.p) t r c.shift.new.j.events) (done r))
+    (world_seen (g.P.Plant.state c.shift.new.p) t r c.shift.new.j.events) (done r))
 
 pub returns-clause-halts : goal.returns-clause-halts
 returns-clause-halts g c =
@@ -47,24 +46,24 @@ returns-clause-halts g c =
     let t = c.args.c.now in
     let x = volume_seen s t c.args.a.0 in
     err-along c.shift.result c.shift.ensures.failed c.shift.ensures.refused (λ failed refused r.
-    halts (seen s t r c.args.j.now.events) (Strike c.args.a.0 c.args.t c.args.last) c.of.result (plain c.struck-next.result) None (on-running s x.server c.requires.running)
+    halts (world_seen s t r c.args.j.now.events) (Strike c.args.a.0 c.args.t c.args.last) c.of.result (plain c.struck-next.result) None (on-running s x.server c.requires.running)
     (subst (λ y. Tells (Strike c.args.a.0 c.args.t c.args.last) x y) (sym (c.of.ensures)) (tells-strike c.args.a.0 c.args.t c.args.last x)) (sym (c.struck-next.ensures ∙ ap (λ (f : Fields). struck c.args.last f c.args.t) c.peek_fields.ensures.fields)) (refl)
-    (armed_in s) (seen (g.P.Plant.state c.shift.new.p) t r c.shift.new.j.events) (refusal_of c.shift.result) refused (failed r))
+    (armed_in s) (world_seen (g.P.Plant.state c.shift.new.p) t r c.shift.new.j.events) (refusal_of c.shift.result) refused (failed r))
 
 pub returns-clause-carried : goal.returns-clause-carried
 returns-clause-carried g c =
     let s = g.P.Plant.state c.args.p.now in
     let t = c.args.c.now in
     let x = volume_seen s t c.args.a.0 in
-    act-ends c.shift.result (armed_in s) (λ r. seen s t r c.args.j.now.events) (λ r. seen (g.P.Plant.state c.shift.new.p) t r c.shift.new.j.events) (now (Strike c.args.a.0 c.args.t c.args.last))
+    act-ends c.shift.result (armed_in s) (λ r. world_seen s t r c.args.j.now.events) (λ r. world_seen (g.P.Plant.state c.shift.new.p) t r c.shift.new.j.events) (now (Strike c.args.a.0 c.args.t c.args.last))
     (ok-along c.shift.result c.shift.ensures.done (λ done r.
-    advances (seen s t r c.args.j.now.events) (Strike c.args.a.0 c.args.t c.args.last) c.of.result (plain c.struck-next.result) None (on-running s x.server c.requires.running)
+    advances (world_seen s t r c.args.j.now.events) (Strike c.args.a.0 c.args.t c.args.last) c.of.result (plain c.struck-next.result) None (on-running s x.server c.requires.running)
     (subst (λ y. Tells (Strike c.args.a.0 c.args.t c.args.last) x y) (sym (c.of.ensures)) (tells-strike c.args.a.0 c.args.t c.args.last x)) (sym (c.struck-next.ensures ∙ ap (λ (f : Fields). struck c.args.last f c.args.t) c.peek_fields.ensures.fields)) (refl)
-    (seen (g.P.Plant.state c.shift.new.p) t r c.shift.new.j.events) (done r)))
+    (world_seen (g.P.Plant.state c.shift.new.p) t r c.shift.new.j.events) (done r)))
     (err-along c.shift.result c.shift.ensures.failed c.shift.ensures.refused (λ failed refused r.
-    halts (seen s t r c.args.j.now.events) (Strike c.args.a.0 c.args.t c.args.last) c.of.result (plain c.struck-next.result) None (on-running s x.server c.requires.running)
+    halts (world_seen s t r c.args.j.now.events) (Strike c.args.a.0 c.args.t c.args.last) c.of.result (plain c.struck-next.result) None (on-running s x.server c.requires.running)
     (subst (λ y. Tells (Strike c.args.a.0 c.args.t c.args.last) x y) (sym (c.of.ensures)) (tells-strike c.args.a.0 c.args.t c.args.last x)) (sym (c.struck-next.ensures ∙ ap (λ (f : Fields). struck c.args.last f c.args.t) c.peek_fields.ensures.fields)) (refl)
-    (armed_in s) (seen (g.P.Plant.state c.shift.new.p) t r c.shift.new.j.events) (refusal_of c.shift.result) refused (failed r)))
+    (armed_in s) (world_seen (g.P.Plant.state c.shift.new.p) t r c.shift.new.j.events) (refusal_of c.shift.result) refused (failed r)))
 
 pub returns-clause-room_left : goal.returns-clause-room_left
 returns-clause-room_left g c =

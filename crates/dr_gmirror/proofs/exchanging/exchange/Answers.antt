@@ -6,16 +6,17 @@ use Rattle.dr_model.specs.declared.said.Said.TheVariants.{Refused}
 use Rattle.dr_model.specs.PlanParts.{Plan}
 use Rattle.dr_model.specs.Sessions.{Mirror, session_in, members_in, mirror_in}
 use Rattle.std.specs.Prelude.{Option}
-use Rattle.dr_flash.specs.Here.{seen, armed_in}
+use Rattle.dr_flash.specs.Here.{world_seen, armed_in}
 use Rattle.dr_gmirror.specs.Orders.{with_sessions}
 use Rattle.dr_gmirror.specs.Exchange.{PlanEnds, order_in, refusal_in, answer_of, IsNear}
-use Rattle.dr_gmirror.proofs.ExchangeLemmas.{refused-plan, look-none, look-some, if-some, plan-none, plan-refused, plan-order, leaves-by}
+use Rattle.dr_gmirror.proofs.ExchangeLemmas.{refused-plan, look-none, look-some, plan-none, plan-refused, plan-order, leaves-by}
 use Rattle.dr_gmirror.proofs.exchanging.exchange.Goals as goal
+use Rattle.dr_logic.proofs.Options.{if-some}
 
 pub returns-in_default-clause-carried : goal.returns-in_default-clause-carried
 returns-in_default-clause-carried g c r =
     let s = g.P.Plant.state c.args.p.now in
-    let w = seen s c.args.c.now (with_sessions c.args.ss.now.sessions r) c.args.j.now.events in
+    let w = world_seen s c.args.c.now (with_sessions c.args.ss.now.sessions r) c.args.j.now.events in
     let o = mirror_in (session_in c.args.ss.now.sessions c.args.s.0) in
     subst (λ (p : Plan). PlanEnds (armed_in s) w p w (Refused (OutOfOrder phase.None))) (sym (plan-none w.control c.args.s.0 c.args.server.0 c.args.reply (members_in (session_in c.args.ss.now.sessions c.args.s.0)) o (look-none o c.args.server.0 c.in_default.ensures)))
     (refused-plan (armed_in s) w (OutOfOrder phase.None))
@@ -23,7 +24,7 @@ returns-in_default-clause-carried g c r =
 pub returns-in-Some-exchange_refusal-clause-carried : goal.returns-in-Some-exchange_refusal-clause-carried
 returns-in-Some-exchange_refusal-clause-carried g c r =
     let s = g.P.Plant.state c.args.p.now in
-    let w = seen s c.args.c.now (with_sessions c.args.ss.now.sessions r) c.args.j.now.events in
+    let w = world_seen s c.args.c.now (with_sessions c.args.ss.now.sessions r) c.args.j.now.events in
     let o = mirror_in (session_in c.args.ss.now.sessions c.args.s.0) in
     let l = look-some c.in-Some.x o c.args.server.0 c.in-Some.ensures in
     let near = if-some (IsNear (length c.args.c.now.names)) o l.0 l.1 c.requires.near in
@@ -34,7 +35,7 @@ returns-in-Some-exchange_refusal-clause-carried g c r =
 pub returns-in_default-order_of-clause-carried : goal.returns-in_default-order_of-clause-carried
 returns-in_default-order_of-clause-carried g c r =
     let s = g.P.Plant.state c.args.p.now in
-    let w = seen s c.args.c.now (with_sessions c.args.ss.now.sessions r) c.args.j.now.events in
+    let w = world_seen s c.args.c.now (with_sessions c.args.ss.now.sessions r) c.args.j.now.events in
     let o = mirror_in (session_in c.args.ss.now.sessions c.args.s.0) in
     let l = look-some c.in-Some.x o c.args.server.0 c.in-Some.ensures in
     let near = if-some (IsNear (length c.args.c.now.names)) o l.0 l.1 c.requires.near in
@@ -48,7 +49,7 @@ exchange_order-requires-clause-may g c =
     let r = c.requires.may.0 in
     let l = look-some c.in-Some.x o c.args.server.0 c.in-Some.ensures in
     let near = if-some (IsNear (length c.args.c.now.names)) o l.0 l.1 c.requires.near in
-    let k = (seen (g.P.Plant.state c.args.p.now) c.args.c.now (with_sessions c.args.ss.now.sessions r) c.args.j.now.events).control in (
+    let k = (world_seen (g.P.Plant.state c.args.p.now) c.args.c.now (with_sessions c.args.ss.now.sessions r) c.args.j.now.events).control in (
       r,
       c.requires.may.1 (order_of c.in-Some-order_of.order)
           (ap (λ (o : Option Mirror). refusal_in k o c.args.server.0 (members_in (session_in c.args.ss.now.sessions c.args.s.0))) l.1
@@ -59,8 +60,8 @@ exchange_order-requires-clause-may g c =
 pub returns-clause-carried : goal.returns-clause-carried
 returns-clause-carried g c r =
     let s = g.P.Plant.state c.args.p.now in
-    let w = seen s c.args.c.now (with_sessions c.args.ss.now.sessions r) c.args.j.now.events in
-    let u = seen (g.P.Plant.state c.exchange_order.new.p) c.args.c.now (with_sessions c.exchange_order.new.ss.sessions r) c.exchange_order.new.j.events in
+    let w = world_seen s c.args.c.now (with_sessions c.args.ss.now.sessions r) c.args.j.now.events in
+    let u = world_seen (g.P.Plant.state c.exchange_order.new.p) c.args.c.now (with_sessions c.exchange_order.new.ss.sessions r) c.exchange_order.new.j.events in
     let o = mirror_in (session_in c.args.ss.now.sessions c.args.s.0) in
     let l = look-some c.in-Some.x o c.args.server.0 c.in-Some.ensures in
     let near = if-some (IsNear (length c.args.c.now.names)) o l.0 l.1 c.requires.near in
@@ -71,7 +72,7 @@ returns-clause-carried g c r =
 pub returns-in_default-clause-refused : goal.returns-in_default-clause-refused
 returns-in_default-clause-refused g c r why is =
     let o = mirror_in (session_in c.args.ss.now.sessions c.args.s.0) in
-    (sym (ap (λ (o : Option Mirror). refusal_in (seen (g.P.Plant.state c.args.p.now) c.args.c.now (with_sessions c.args.ss.now.sessions r) c.args.j.now.events).control o c.args.server.0 (members_in (session_in c.args.ss.now.sessions c.args.s.0))) (look-none o c.args.server.0 c.in_default.ensures)) ∙ is, refl, refl, refl)
+    (sym (ap (λ (o : Option Mirror). refusal_in (world_seen (g.P.Plant.state c.args.p.now) c.args.c.now (with_sessions c.args.ss.now.sessions r) c.args.j.now.events).control o c.args.server.0 (members_in (session_in c.args.ss.now.sessions c.args.s.0))) (look-none o c.args.server.0 c.in_default.ensures)) ∙ is, refl, refl, refl)
 
 pub returns-in-Some-exchange_refusal-clause-refused : goal.returns-in-Some-exchange_refusal-clause-refused
 returns-in-Some-exchange_refusal-clause-refused g c r why is =
@@ -79,7 +80,7 @@ returns-in-Some-exchange_refusal-clause-refused g c r why is =
     let l = look-some c.in-Some.x o c.args.server.0 c.in-Some.ensures in
     let near = if-some (IsNear (length c.args.c.now.names)) o l.0 l.1 c.requires.near in (
       c.in-Some-exchange_refusal.ensures.refusal (with_sessions c.args.ss.now.sessions r) c.args.j.now.events l.0 l.2 near.in_phase
-          ∙ sym (ap (λ (o : Option Mirror). refusal_in (seen (g.P.Plant.state c.args.p.now) c.args.c.now (with_sessions c.args.ss.now.sessions r) c.args.j.now.events).control o c.args.server.0 (members_in (session_in c.args.ss.now.sessions c.args.s.0))) l.1) ∙ is,
+          ∙ sym (ap (λ (o : Option Mirror). refusal_in (world_seen (g.P.Plant.state c.args.p.now) c.args.c.now (with_sessions c.args.ss.now.sessions r) c.args.j.now.events).control o c.args.server.0 (members_in (session_in c.args.ss.now.sessions c.args.s.0))) l.1) ∙ is,
       refl,
       refl,
       refl,
@@ -91,7 +92,7 @@ returns-in_default-order_of-clause-refused g c r why is =
     let l = look-some c.in-Some.x o c.args.server.0 c.in-Some.ensures in
     let near = if-some (IsNear (length c.args.c.now.names)) o l.0 l.1 c.requires.near in
     absurd (let no : None ≡ Some why = c.in_default-exchange_refusal.ensures.refusal (with_sessions c.args.ss.now.sessions r) c.args.j.now.events l.0 l.2 near.in_phase
-    ∙ sym (ap (λ (o : Option Mirror). refusal_in (seen (g.P.Plant.state c.args.p.now) c.args.c.now (with_sessions c.args.ss.now.sessions r) c.args.j.now.events).control o c.args.server.0 (members_in (session_in c.args.ss.now.sessions c.args.s.0))) l.1) ∙ is in cc)
+    ∙ sym (ap (λ (o : Option Mirror). refusal_in (world_seen (g.P.Plant.state c.args.p.now) c.args.c.now (with_sessions c.args.ss.now.sessions r) c.args.j.now.events).control o c.args.server.0 (members_in (session_in c.args.ss.now.sessions c.args.s.0))) l.1) ∙ is in cc)
 
 pub returns-clause-refused : goal.returns-clause-refused
 returns-clause-refused g c r why is =
@@ -99,10 +100,10 @@ returns-clause-refused g c r why is =
     let l = look-some c.in-Some.x o c.args.server.0 c.in-Some.ensures in
     let near = if-some (IsNear (length c.args.c.now.names)) o l.0 l.1 c.requires.near in
     absurd (let no : None ≡ Some why = c.in_default-exchange_refusal.ensures.refusal (with_sessions c.args.ss.now.sessions r) c.args.j.now.events l.0 l.2 near.in_phase
-    ∙ sym (ap (λ (o : Option Mirror). refusal_in (seen (g.P.Plant.state c.args.p.now) c.args.c.now (with_sessions c.args.ss.now.sessions r) c.args.j.now.events).control o c.args.server.0 (members_in (session_in c.args.ss.now.sessions c.args.s.0))) l.1) ∙ is in cc)
+    ∙ sym (ap (λ (o : Option Mirror). refusal_in (world_seen (g.P.Plant.state c.args.p.now) c.args.c.now (with_sessions c.args.ss.now.sessions r) c.args.j.now.events).control o c.args.server.0 (members_in (session_in c.args.ss.now.sessions c.args.s.0))) l.1) ∙ is in cc)
 
 pub returns-clause-leaves : goal.returns-clause-leaves
 returns-clause-leaves g c r x m sound listed here apart =
     let s = g.P.Plant.state c.args.p.now in
-    let w = seen s c.args.c.now (with_sessions c.args.ss.now.sessions r) c.args.j.now.events in
+    let w = world_seen s c.args.c.now (with_sessions c.args.ss.now.sessions r) c.args.j.now.events in
     leaves-by (armed_in s) w _ c.args.s.0 c.args.server.0 c.args.reply _ x m sound listed here apart (returns-clause-carried g c r)

@@ -1,7 +1,7 @@
 use Rattle.std.proofs.Common.{◌≡◌, ◌&&◌, ap, ◌∙◌}
 use Rattle.std.specs.Prelude.{if◌then◌else◌}
 use Rattle.dr_master.specs.Seen.{reply_of}
-use Rattle.dr_session.specs.Kept.{Table}
+use Rattle.dr_session.specs.Kept.{SessionTable}
 use Rattle.dr_model.specs.Phases as phases
 use Rattle.dr_model.specs.Sessions.{session_in, mirror_in, changed, with_master}
 use Rattle.dr_gmirror.specs.Exchange.{can_settle}
@@ -13,7 +13,7 @@ returns c =
     let s = c.args.s.0 in
     let ss = c.args.ss.now.sessions in
     let y = reply_of c.args.y in
-    let next : c.reply.new.self.sessions ≡ changed s (with_master (λ m. phases.replied m c.args.server.0 y)) ss = ap (λ (t : Table). t.sessions) c.reply.ensures in
+    let next : c.reply.new.self.sessions ≡ changed s (with_master (λ m. phases.replied m c.args.server.0 y)) ss = ap (λ (t : SessionTable). t.sessions) c.reply.ensures in
     c.settle_if.ensures
     ∙ (λ i. if c.is_report-report.ensures i && can_settle (mirror_in (session_in (next i) s)) then changed s (with_master phases.settled) (next i) else next i)
     ∙ reply-taken s c.args.server.0 y ss (awaited-by (mirror_in (session_in ss s)) c.args.server.0 c.args.y c.requires.expected)

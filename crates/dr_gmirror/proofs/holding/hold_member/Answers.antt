@@ -2,12 +2,12 @@ use Rattle.std.proofs.Common.{◌≡◌, ◌≤◌, ◌+◌, ◌&&◌, not, arit
 use Rattle.dr_model.specs.Carry.{equal}
 use Rattle.dr_model.specs.SessionEntries.{hold_entries}
 use Rattle.dr_volume.specs.View.{Rest}
-use Rattle.dr_flash.specs.Here.{seen, armed_in, refusal_of}
+use Rattle.dr_flash.specs.Here.{world_seen, armed_in, refusal_of}
 use Rattle.dr_flash.specs.Turns.{Leads, Fails}
 use Rattle.dr_flash.proofs.TurnLemmas.{ok-along, err-along}
-use Rattle.dr_gcopy.proofs.PairChecks.{both-first}
 use Rattle.dr_coord.specs.Changes.{begins, begun_if}
 use Rattle.std.specs.Prelude.{if◌then◌else◌}
+use Rattle.std.proofs.lemmas.Bool.{and_parts}
 use Rattle.dr_model.specs.Sessions.{members_in, session_in}
 use Rattle.dr_gmirror.specs.Orders.{with_sessions, begun_in, to_begin, MayBegin}
 use Rattle.dr_gmirror.proofs.BeginLemmas.{members-begun, may-begun, left-begun, room-first, begun-rest}
@@ -15,7 +15,7 @@ use Rattle.dr_gmirror.proofs.holding.hold_member.Goals as goal
 
 pub begin_if-requires : goal.begin_if-requires
 begin_if-requires g c = record {
-  free = λ is. c.requires.begins.free (sym c.is_first-first.ensures ∙ both-first c.is_first-first.result _ (sym c.has_begun.ensures ∙ is));
+  free = λ is. c.requires.begins.free (sym c.is_first-first.ensures ∙ (and_parts c.is_first-first.result _ (sym c.has_begun.ensures ∙ is)).0);
 }
 
 pub returns-clause-leads : goal.returns-clause-leads
@@ -26,7 +26,7 @@ returns-clause-leads g c =
     let ss = c.args.ss.now.sessions in
     let b : c.has_begun.result ≡ begins c.is_first-first.result s u t c.args.m.now.a.0 = c.has_begun.ensures ∙ (λ i. c.is_first-first.result && not (equal (c.slot-before.ensures i) (c.slot-after.ensures i))) in
     ok-along c.hold_and_swap-result.result c.hold_and_swap-result.ensures.leads (λ goes r.
-    subst (λ (z : Rest). Leads (seen s t (with_sessions ss r) c.args.j.now.events) (hold_entries c.args.s.0 c.args.m.now.a.0 c.args.m.now.b.0 c.args.n) (seen u t z c.hold_and_swap-result.new.j.events))
+    subst (λ (z : Rest). Leads (world_seen s t (with_sessions ss r) c.args.j.now.events) (hold_entries c.args.s.0 c.args.m.now.a.0 c.args.m.now.b.0 c.args.n) (world_seen u t z c.hold_and_swap-result.new.j.events))
     (ap (λ b. begun_if b c.args.s.0 (with_sessions ss r)) (sym b) ∙ begun-rest c.has_begun.result ss c.args.s.0 r ∙ ap (λ z. with_sessions z r) (sym c.begin_if.ensures))
     (goes (with_sessions ss r) (sym c.is_first-first.ensures)))
 
@@ -38,14 +38,14 @@ returns-clause-fails g c =
     let ss = c.args.ss.now.sessions in
     let b : c.has_begun.result ≡ begins c.is_first-first.result s u t c.args.m.now.a.0 = c.has_begun.ensures ∙ (λ i. c.is_first-first.result && not (equal (c.slot-before.ensures i) (c.slot-after.ensures i))) in
     err-along c.hold_and_swap-result.result c.hold_and_swap-result.ensures.fails c.hold_and_swap-result.ensures.fails (λ ends _ r.
-    subst (λ (z : Rest). Fails (armed_in s) (seen s t (with_sessions ss r) c.args.j.now.events) (hold_entries c.args.s.0 c.args.m.now.a.0 c.args.m.now.b.0 c.args.n) (seen u t z c.hold_and_swap-result.new.j.events) (refusal_of c.hold_and_swap-result.result))
+    subst (λ (z : Rest). Fails (armed_in s) (world_seen s t (with_sessions ss r) c.args.j.now.events) (hold_entries c.args.s.0 c.args.m.now.a.0 c.args.m.now.b.0 c.args.n) (world_seen u t z c.hold_and_swap-result.new.j.events) (refusal_of c.hold_and_swap-result.result))
     (ap (λ b. begun_if b c.args.s.0 (with_sessions ss r)) (sym b) ∙ begun-rest c.has_begun.result ss c.args.s.0 r ∙ ap (λ z. with_sessions z r) (sym c.begin_if.ensures))
     (ends (with_sessions ss r) (sym c.is_first-first.ensures)))
 
 pub returns-clause-may_begin : goal.returns-clause-may_begin
 returns-clause-may_begin g c =
     subst (λ z. MayBegin z c.args.s.0 c.args.n) (sym c.begin_if.ensures)
-    (may-begun c.has_begun.result c.args.ss.now.sessions c.args.s.0 c.args.n c.requires.begins (λ is. sym c.is_first-first.ensures ∙ both-first c.is_first-first.result _ (sym c.has_begun.ensures ∙ is)))
+    (may-begun c.has_begun.result c.args.ss.now.sessions c.args.s.0 c.args.n c.requires.begins (λ is. sym c.is_first-first.ensures ∙ (and_parts c.is_first-first.result _ (sym c.has_begun.ensures ∙ is)).0))
 
 pub returns-clause-members : goal.returns-clause-members
 returns-clause-members g c =
@@ -79,5 +79,5 @@ returns-clause-room_left g c =
     ok-along c.hold_and_swap-result.result c.hold_and_swap-result.ensures.room_left (λ left.
     subst (λ z. c.args.j.now.spare + to_begin z c.args.s.0 c.args.n ≤ c.hold_and_swap-result.new.j.spare + (1 + to_begin c.args.ss.now.sessions c.args.s.0 c.args.n)) (sym c.begin_if.ensures)
     (left-begun c.args.j.now.spare c.hold_and_swap-result.new.j.spare c.has_begun.result c.args.ss.now.sessions c.args.s.0 c.args.n c.requires.begins
-    (λ is. sym c.is_first-first.ensures ∙ both-first c.is_first-first.result _ (sym c.has_begun.ensures ∙ is))
+    (λ is. sym c.is_first-first.ensures ∙ (and_parts c.is_first-first.result _ (sym c.has_begun.ensures ∙ is)).0)
     (subst (λ z. c.args.j.now.spare ≤ c.hold_and_swap-result.new.j.spare + (if z then 2 else 1)) (sym b) left)))

@@ -4,7 +4,7 @@ use Rattle.dr_model.specs.Sessions.{session_in, members_in}
 use Rattle.dr_model.specs.SessionEntries.{order_entries, members_on}
 use Rattle.dr_volume.specs.View.{Rest}
 use Rattle.dr_flash.specs.Fit.{RelationsFit}
-use Rattle.dr_flash.specs.Here.{seen, IsAtRest}
+use Rattle.dr_flash.specs.Here.{world_seen, IsAtRest}
 use Rattle.dr_flash.specs.Turns.{Leads}
 use Rattle.dr_coord.specs.Aside.{AsideFits}
 use Rattle.dr_gmirror.specs.Orders.{with_sessions, to_begin, MayOrder, sync_seen, waits_in}
@@ -13,8 +13,8 @@ use Rattle.dr_gmirror.proofs.orders.carry_out.Given as goal
 abbrev pub invariant-loop-at : goal.invariant-loop-at
 invariant-loop-at g l = record {
   -- the members so far have led here
-  led : (r : Rest) → Leads (seen (g.P.Plant.state l.fn.p) l.c (with_sessions l.fn.ss.sessions r) l.fn.j.events) (order_entries (work_of l.order.kind) l.s.0 l.order.n (members_on l.server.0 (take l.at (members_in (session_in l.fn.ss.sessions l.s.0)))))
-      (seen (g.P.Plant.state l.p) l.c (with_sessions l.ss.sessions r) l.j.events);
+  led : (r : Rest) → Leads (world_seen (g.P.Plant.state l.fn.p) l.c (with_sessions l.fn.ss.sessions r) l.fn.j.events) (order_entries (work_of l.order.kind) l.s.0 l.order.n (members_on l.server.0 (take l.at (members_in (session_in l.fn.ss.sessions l.s.0)))))
+      (world_seen (g.P.Plant.state l.p) l.c (with_sessions l.ss.sessions r) l.j.events);
   members : members_in (session_in l.ss.sessions l.s.0) ≡ members_in (session_in l.fn.ss.sessions l.s.0);
   waits : l.waits ≡ waits_in (work_of l.order.kind) (sync_seen (g.P.Plant.state l.p) l.c) (members_on l.server.0 (take l.at (members_in (session_in l.fn.ss.sessions l.s.0))));
   may : MayOrder (work_of l.order.kind) l.ss.sessions l.s.0 l.order.n;

@@ -3,12 +3,13 @@ use Rattle.dr_model.specs.Layout.{Fields}
 use Rattle.dr_model.specs.Moves.{Seal}
 use Rattle.dr_model.specs.SessionEntries.{seal_refusal, seal_on}
 use Rattle.dr_volume.specs.View.{volume_seen}
-use Rattle.dr_flash.specs.Here.{seen, armed_in, refusal_of}
+use Rattle.dr_flash.specs.Here.{world_seen, armed_in, refusal_of}
 use Rattle.dr_flash.proofs.CheckLemmas.{counted-stop, only-stops, same-test, differ-test}
 use Rattle.dr_flash.proofs.TurnLemmas.{ok-along, err-along}
-use Rattle.dr_coord.proofs.ActLemmas.{passes, move-advances, move-halts, one-checked}
+use Rattle.dr_coord.proofs.ActLemmas.{move-advances, move-halts, one-checked}
 use Rattle.dr_gmirror.proofs.SealLemmas.{refusal-drained, seal-skips, seal-comes, sync-kept}
 use Rattle.dr_gmirror.proofs.sealing.seal_drained.Goals as goal
+use Rattle.dr_flash.proofs.KeepLemmas.{skips}
 
 pub returns-in-Some-clause-fails : goal.returns-in-Some-clause-fails
 returns-in-Some-clause-fails g c r ds =
@@ -16,7 +17,7 @@ returns-in-Some-clause-fails g c r ds =
     let t = c.args.c.now in
     let a = c.args.m.now.a.0 in
     let b = c.args.m.now.b.0 in
-    one-checked (seen s t r c.args.j.now.events) (seal_refusal a b) (Some c.in-Some.why) (c.in-Some.ensures.refusal r c.args.j.now.events ∙ sym (refusal-drained s t r c.args.j.now.events a b c.requires.drained)) (armed_in s) (seal_on c.args.s.0 a b c.args.n ∷ ds)
+    one-checked (world_seen s t r c.args.j.now.events) (seal_refusal a b) (Some c.in-Some.why) (c.in-Some.ensures.refusal r c.args.j.now.events ∙ sym (refusal-drained s t r c.args.j.now.events a b c.requires.drained)) (armed_in s) (seal_on c.args.s.0 a b c.args.n ∷ ds)
 
 pub returns-then-peek_fields-n-clause-leads : goal.returns-then-peek_fields-n-clause-leads
 returns-then-peek_fields-n-clause-leads g c r armed u r' ds more =
@@ -24,8 +25,8 @@ returns-then-peek_fields-n-clause-leads g c r armed u r' ds more =
     let t = c.args.c.now in
     let a = c.args.m.now.a.0 in
     let b = c.args.m.now.b.0 in
-    one-checked (seen s t r c.args.j.now.events) (seal_refusal a b) None (c.in_default.ensures.refusal r c.args.j.now.events ∙ sym (refusal-drained s t r c.args.j.now.events a b c.requires.drained)) armed u r' (seal_on c.args.s.0 a b c.args.n ∷ ds)
-    (passes (seen s t r c.args.j.now.events) (seal_on c.args.s.0 a b c.args.n) (seal-skips s t r c.args.j.now.events a b c.args.s.0 c.args.n c.requires.drained (ap (λ (f : Fields). nat_eq f.seal c.args.n) (sym c.peek_fields.ensures.fields) ∙ same-test c.peek_fields.result.seal c.args.n c.if-peek_fields-n.true)) armed u r' ds more)
+    one-checked (world_seen s t r c.args.j.now.events) (seal_refusal a b) None (c.in_default.ensures.refusal r c.args.j.now.events ∙ sym (refusal-drained s t r c.args.j.now.events a b c.requires.drained)) armed u r' (seal_on c.args.s.0 a b c.args.n ∷ ds)
+    (skips (world_seen s t r c.args.j.now.events) (seal_on c.args.s.0 a b c.args.n) (seal-skips s t r c.args.j.now.events a b c.args.s.0 c.args.n c.requires.drained (ap (λ (f : Fields). nat_eq f.seal c.args.n) (sym c.peek_fields.ensures.fields) ∙ same-test c.peek_fields.result.seal c.args.n c.if-peek_fields-n.true)) armed u r' ds more)
 
 pub returns-clause-leads : goal.returns-clause-leads
 returns-clause-leads g c =
@@ -34,8 +35,8 @@ returns-clause-leads g c =
     let a = c.args.m.now.a.0 in
     let b = c.args.m.now.b.0 in
     ok-along c.make_change.result c.make_change.ensures.done (λ done r armed u r' ds more.
-    one-checked (seen s t r c.args.j.now.events) (seal_refusal a b) None (c.in_default.ensures.refusal r c.args.j.now.events ∙ sym (refusal-drained s t r c.args.j.now.events a b c.requires.drained)) armed u r' (seal_on c.args.s.0 a b c.args.n ∷ ds)
-    (move-advances (seen s t r c.args.j.now.events) (seen (g.P.Plant.state c.make_change.new.p) t r c.make_change.new.j.events) (seal_on c.args.s.0 a b c.args.n) (Seal b a c.args.s.0 c.args.n)
+    one-checked (world_seen s t r c.args.j.now.events) (seal_refusal a b) None (c.in_default.ensures.refusal r c.args.j.now.events ∙ sym (refusal-drained s t r c.args.j.now.events a b c.requires.drained)) armed u r' (seal_on c.args.s.0 a b c.args.n ∷ ds)
+    (move-advances (world_seen s t r c.args.j.now.events) (world_seen (g.P.Plant.state c.make_change.new.p) t r c.make_change.new.j.events) (seal_on c.args.s.0 a b c.args.n) (Seal b a c.args.s.0 c.args.n)
     (seal-comes s t r c.args.j.now.events a b c.args.s.0 c.args.n c.requires.drained (ap (λ (f : Fields). nat_eq f.seal c.args.n) (sym c.peek_fields.ensures.fields) ∙ differ-test c.peek_fields.result.seal c.args.n c.if-peek_fields-n.false)) (done r) armed u r' ds more))
 
 pub returns-clause-fails : goal.returns-clause-fails
@@ -45,9 +46,9 @@ returns-clause-fails g c =
     let a = c.args.m.now.a.0 in
     let b = c.args.m.now.b.0 in
     err-along c.make_change.result c.make_change.ensures.failed c.make_change.ensures.refused (λ failed refused r ds.
-    one-checked (seen s t r c.args.j.now.events) (seal_refusal a b) None (c.in_default.ensures.refusal r c.args.j.now.events ∙ sym (refusal-drained s t r c.args.j.now.events a b c.requires.drained)) (armed_in s)
-    (seen (g.P.Plant.state c.make_change.new.p) t r c.make_change.new.j.events) (refusal_of c.make_change.result) (seal_on c.args.s.0 a b c.args.n ∷ ds)
-    (move-halts (armed_in s) (seen s t r c.args.j.now.events) (seen (g.P.Plant.state c.make_change.new.p) t r c.make_change.new.j.events) (refusal_of c.make_change.result) (seal_on c.args.s.0 a b c.args.n) (Seal b a c.args.s.0 c.args.n) (volume_seen s t b).server
+    one-checked (world_seen s t r c.args.j.now.events) (seal_refusal a b) None (c.in_default.ensures.refusal r c.args.j.now.events ∙ sym (refusal-drained s t r c.args.j.now.events a b c.requires.drained)) (armed_in s)
+    (world_seen (g.P.Plant.state c.make_change.new.p) t r c.make_change.new.j.events) (refusal_of c.make_change.result) (seal_on c.args.s.0 a b c.args.n ∷ ds)
+    (move-halts (armed_in s) (world_seen s t r c.args.j.now.events) (world_seen (g.P.Plant.state c.make_change.new.p) t r c.make_change.new.j.events) (refusal_of c.make_change.result) (seal_on c.args.s.0 a b c.args.n) (Seal b a c.args.s.0 c.args.n) (volume_seen s t b).server
     (seal-comes s t r c.args.j.now.events a b c.args.s.0 c.args.n c.requires.drained (ap (λ (f : Fields). nat_eq f.seal c.args.n) (sym c.peek_fields.ensures.fields) ∙ differ-test c.peek_fields.result.seal c.args.n c.if-peek_fields-n.false)) refused (failed r) ds))
 
 pub returns-clause-unchanged : goal.returns-clause-unchanged

@@ -5,7 +5,7 @@ use Rattle.dr_model.specs.Phases as phases
 use Rattle.dr_model.specs.Sessions.{session_in, members_in}
 use Rattle.dr_model.specs.SessionEntries.{order_entries, members_on, shown_by_members}
 use Rattle.dr_volume.specs.View.{Rest}
-use Rattle.dr_flash.specs.Here.{seen}
+use Rattle.dr_flash.specs.Here.{world_seen}
 use Rattle.dr_flash.specs.Turns.{Leads}
 use Rattle.dr_gmirror.specs.Reports.{IsTrimmed}
 use Rattle.dr_gmirror.proofs.settling.settle.Given as goal
@@ -13,8 +13,8 @@ use Rattle.dr_gmirror.proofs.settling.settle.Given as goal
 abbrev pub invariant-loop-at : goal.invariant-loop-at
 invariant-loop-at g l = record {
   -- the members so far are reached, and reported
-  led : (n : ℕ) (r : Rest) (events : List Event) → Leads (seen (g.P.Plant.state l.p) l.c r events) (order_entries phases.Report l.s.0 n (members_on l.server.0 (take l.at (members_in (session_in l.ss.sessions l.s.0))))) (seen (g.P.Plant.state l.p) l.c r events);
-  shown : (r : Rest) (events : List Event) → shown_in l.report ≡ shown_by_members l.s.0 (members_on l.server.0 (take l.at (members_in (session_in l.ss.sessions l.s.0)))) (seen (g.P.Plant.state l.p) l.c r events).control;
+  led : (n : ℕ) (r : Rest) (events : List Event) → Leads (world_seen (g.P.Plant.state l.p) l.c r events) (order_entries phases.Report l.s.0 n (members_on l.server.0 (take l.at (members_in (session_in l.ss.sessions l.s.0))))) (world_seen (g.P.Plant.state l.p) l.c r events);
+  shown : (r : Rest) (events : List Event) → shown_in l.report ≡ shown_by_members l.s.0 (members_on l.server.0 (take l.at (members_in (session_in l.ss.sessions l.s.0)))) (world_seen (g.P.Plant.state l.p) l.c r events).control;
   low : l.report.count ≤ l.at;
   count : length (shown_in l.report) ≡ l.report.count;
   trimmed : IsTrimmed l.report;

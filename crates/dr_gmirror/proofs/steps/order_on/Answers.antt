@@ -1,6 +1,6 @@
 use Rattle.std.proofs.Common.{sym, subst, ◌∙◌}
 use Rattle.dr_master.specs.Seen.{work_of}
-use Rattle.dr_flash.specs.Here.{seen, armed_in, refusal_of}
+use Rattle.dr_flash.specs.Here.{world_seen, armed_in, refusal_of}
 use Rattle.dr_flash.specs.Turns.{Leads, Fails}
 use Rattle.dr_flash.proofs.TurnLemmas.{ok-along, err-along}
 use Rattle.dr_gmirror.specs.Orders.{with_sessions, sync_seen}
@@ -11,13 +11,13 @@ use Rattle.dr_gmirror.proofs.steps.order_on.Goals as goal
 pub returns-clause-leads : goal.returns-clause-leads
 returns-clause-leads g c =
     ok-along c.order_member.result c.order_member.ensures.leads (λ leads r.
-    subst (λ es. Leads (seen (g.P.Plant.state c.args.p.now) c.args.c.now (with_sessions c.args.ss.now.sessions r) c.args.j.now.events) es (seen (g.P.Plant.state c.order_member.new.p) c.args.c.now (with_sessions c.order_member.new.ss.sessions r) c.order_member.new.j.events))
+    subst (λ es. Leads (world_seen (g.P.Plant.state c.args.p.now) c.args.c.now (with_sessions c.args.ss.now.sessions r) c.args.j.now.events) es (world_seen (g.P.Plant.state c.order_member.new.p) c.args.c.now (with_sessions c.order_member.new.ss.sessions r) c.order_member.new.j.events))
     (sym (entries-on (work_of c.args.kind) c.args.s.0 c.args.n c.args.server.0 c.args.m.now (same-test c.args.m.now.server.0 c.args.server.0 c.if-m-server.false))) (leads r))
 
 pub returns-clause-fails : goal.returns-clause-fails
 returns-clause-fails g c =
     err-along c.order_member.result c.order_member.ensures.fails c.order_member.ensures.fails (λ fails _ r.
-    subst (λ es. Fails (armed_in (g.P.Plant.state c.args.p.now)) (seen (g.P.Plant.state c.args.p.now) c.args.c.now (with_sessions c.args.ss.now.sessions r) c.args.j.now.events) es (seen (g.P.Plant.state c.order_member.new.p) c.args.c.now (with_sessions c.order_member.new.ss.sessions r) c.order_member.new.j.events) (refusal_of c.order_member.result))
+    subst (λ es. Fails (armed_in (g.P.Plant.state c.args.p.now)) (world_seen (g.P.Plant.state c.args.p.now) c.args.c.now (with_sessions c.args.ss.now.sessions r) c.args.j.now.events) es (world_seen (g.P.Plant.state c.order_member.new.p) c.args.c.now (with_sessions c.order_member.new.ss.sessions r) c.order_member.new.j.events) (refusal_of c.order_member.result))
     (sym (entries-on (work_of c.args.kind) c.args.s.0 c.args.n c.args.server.0 c.args.m.now (same-test c.args.m.now.server.0 c.args.server.0 c.if-m-server.false))) (fails r))
 
 pub returns-clause-waits : goal.returns-clause-waits

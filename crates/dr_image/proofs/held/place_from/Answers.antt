@@ -5,9 +5,9 @@ use Rattle.std.proofs.lemmas.List.Sums.{prefix_len-le-length}
 use Rattle.dr_image.specs.declared.held.KeptBlock.{KeptBlock}
 use Rattle.dr_image.specs.Shown.{kept, place, all_kept}
 use Rattle.dr_model.specs.PlantImage.{Kept}
-use Rattle.dr_image.proofs.SpaceLemmas.{chosen, not_chosen}
 use Rattle.dr_image.proofs.HeldLemmas.{position_or_len-map}
 use Rattle.dr_image.proofs.held.place_from.Goals as goal
+use Rattle.dr_logic.proofs.Choices.{not_chosen, chosen}
 
 same_place : (k : ℕ) (bs : List KeptBlock) → position_or_len (λ (b : KeptBlock). nat_le k b.index) bs ≡ place k (all_kept bs)
 same_place k bs = sym (position_or_len-map (λ (b : Kept). nat_le k b.index) kept bs)

@@ -2,8 +2,8 @@ use Rattle.std.proofs.Common.{refl, arith}
 use Rattle.dr_image.specs.declared.held.Held.{Held}
 use Rattle.dr_image.specs.declared.held.KeptBlock.{KeptBlock}
 use Rattle.dr_image.proofs.HeldLemmas.{pushed, unpushed}
-use Rattle.dr_image.proofs.ResultLemmas.{always_err}
 use Rattle.dr_image.proofs.held.push_kept.Goals as goal
+use Rattle.dr_logic.proofs.Results.{err-always}
 
 pub returns-clause-ok : goal.returns-clause-ok
 returns-clause-ok c =
@@ -16,4 +16,4 @@ pub returns-in_err-push-clause-err : goal.returns-in_err-push-clause-err
 returns-in_err-push-clause-err c =
     let old : Held = c.index_mut-held.result.now in
     let new : Held = record { volume = old.volume; blocks = c.push.new.self } in
-    always_err c.from_residual.result (unpushed c.args.volumes.now.items c.args.place old new (omega arith) c.index_mut-held.ensures.value refl c.in_err-push.ensures.items)
+    err-always c.from_residual.result (unpushed c.args.volumes.now.items c.args.place old new (omega arith) c.index_mut-held.ensures.value refl c.in_err-push.ensures.items)

@@ -1,5 +1,5 @@
 use Rattle.std.proofs.Common.{ap, ◌∙◌, sym, arith, length, length-set}
-use Rattle.dr_model.specs.Contents.{zeros}
+use Rattle.dr_logic.specs.Bytes.{zeros}
 use Rattle.dr_image.proofs.BytesLemmas.{length-zeros, none_read, pair-read, zeros-behind}
 use Rattle.dr_image.proofs.words.read_pairs.Goals as goal
 

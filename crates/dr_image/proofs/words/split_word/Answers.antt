@@ -1,7 +1,8 @@
 use Rattle.std.proofs.Common.{sym, ◌∙◌, ap, ◌∷◌, ◌+◌, take}
 use Rattle.dr_model.specs.Lines.{is_space, words}
-use Rattle.dr_image.proofs.SpaceLemmas.{parts-at, parts-none, to_the_end}
+use Rattle.dr_image.proofs.SpaceLemmas.{parts-at, parts-none}
 use Rattle.dr_image.proofs.words.split_word.Goals as goal
+use Rattle.dr_logic.proofs.Lists.{to_the_end}
 
 pub returns-in-Some : goal.returns-in-Some
 returns-in-Some c =

@@ -7,7 +7,7 @@ use Rattle.dr_model.specs.Moves.{Resync}
 use Rattle.dr_model.specs.Relations.{resynced}
 use Rattle.dr_volume.specs.Plain.{plain}
 use Rattle.dr_volume.specs.View.{volume_seen}
-use Rattle.dr_flash.specs.Here.{seen, armed_in, refusal_of}
+use Rattle.dr_flash.specs.Here.{world_seen, armed_in, refusal_of}
 use Rattle.dr_flash.proofs.ReadLemmas.{on-running}
 use Rattle.dr_flash.proofs.TurnLemmas.{Tells, advances, halts, ok-along, err-along}
 use Rattle.dr_flash.proofs.MoveLemmas.{MoveFits}
@@ -40,9 +40,9 @@ returns-clause-advances g c =
     let t = c.args.c.now in
     let x = volume_seen s t c.args.t.0 in
     ok-along c.shift.result c.shift.ensures.done (λ done r.
-    advances (seen s t r c.args.j.now.events) (Resync c.args.t.0 c.args.sequence) c.of-told.result (plain c.resynced-next.result) None (on-running s x.server c.requires.running)
+    advances (world_seen s t r c.args.j.now.events) (Resync c.args.t.0 c.args.sequence) c.of-told.result (plain c.resynced-next.result) None (on-running s x.server c.requires.running)
     (subst (λ y. Tells (Resync c.args.t.0 c.args.sequence) x y) (sym (c.of-told.ensures ∙ ap (λ (f : Fields). record { done = One (Set c.args.t.0 f.source); in_stop = One (Set c.args.t.0 f.source); landed = 0 }) c.peek_fields-fields.ensures.fields)) (tells-resync c.args.t.0 c.args.sequence x)) (sym (c.resynced-next.ensures ∙ ap (resynced c.args.sequence) c.peek_fields-fields.ensures.fields)) (refl)
-    (seen (g.P.Plant.state c.shift.new.p) t r c.shift.new.j.events) (done r))
+    (world_seen (g.P.Plant.state c.shift.new.p) t r c.shift.new.j.events) (done r))
 
 pub returns-clause-halts : goal.returns-clause-halts
 returns-clause-halts g c =
@@ -50,9 +50,9 @@ returns-clause-halts g c =
     let t = c.args.c.now in
     let x = volume_seen s t c.args.t.0 in
     err-along c.shift.result c.shift.ensures.failed c.shift.ensures.refused (λ failed refused r.
-    halts (seen s t r c.args.j.now.events) (Resync c.args.t.0 c.args.sequence) c.of-told.result (plain c.resynced-next.result) None (on-running s x.server c.requires.running)
+    halts (world_seen s t r c.args.j.now.events) (Resync c.args.t.0 c.args.sequence) c.of-told.result (plain c.resynced-next.result) None (on-running s x.server c.requires.running)
     (subst (λ y. Tells (Resync c.args.t.0 c.args.sequence) x y) (sym (c.of-told.ensures ∙ ap (λ (f : Fields). record { done = One (Set c.args.t.0 f.source); in_stop = One (Set c.args.t.0 f.source); landed = 0 }) c.peek_fields-fields.ensures.fields)) (tells-resync c.args.t.0 c.args.sequence x)) (sym (c.resynced-next.ensures ∙ ap (resynced c.args.sequence) c.peek_fields-fields.ensures.fields)) (refl)
-    (armed_in s) (seen (g.P.Plant.state c.shift.new.p) t r c.shift.new.j.events) (refusal_of c.shift.result) refused (failed r))
+    (armed_in s) (world_seen (g.P.Plant.state c.shift.new.p) t r c.shift.new.j.events) (refusal_of c.shift.result) refused (failed r))
 
 pub returns-clause-moved : goal.returns-clause-moved
 returns-clause-moved g c =

@@ -5,7 +5,7 @@ use Rattle.dr_model.specs.Lawful.{IsLawful}
 use Rattle.dr_model.specs.Moves.{Restore}
 use Rattle.dr_volume.specs.Plain.{plain}
 use Rattle.dr_volume.specs.View.{volume_seen}
-use Rattle.dr_flash.specs.Here.{seen, armed_in, refusal_of}
+use Rattle.dr_flash.specs.Here.{world_seen, armed_in, refusal_of}
 use Rattle.dr_flash.proofs.ReadLemmas.{on-running}
 use Rattle.dr_flash.proofs.TurnLemmas.{Tells, advances, halts, ok-along, err-along}
 use Rattle.dr_flash.proofs.MoveLemmas.{MoveFits}
@@ -38,9 +38,9 @@ returns-clause-advances g c =
     let t = c.args.c.now in
     let x = volume_seen s t c.args.s.0 in
     ok-along c.shift.result c.shift.ensures.done (λ done r.
-    advances (seen s t r c.args.j.now.events) (Restore c.args.s.0 c.args.k c.args.t.0) c.of-told.result (plain c.altered-next.result) (Some (c.args.k, c.args.bytes.now)) (on-running s x.server c.requires.running)
+    advances (world_seen s t r c.args.j.now.events) (Restore c.args.s.0 c.args.k c.args.t.0) c.of-told.result (plain c.altered-next.result) (Some (c.args.k, c.args.bytes.now)) (on-running s x.server c.requires.running)
     (subst (λ y. Tells (Restore c.args.s.0 c.args.k c.args.t.0) x y) (sym (c.of-told.ensures)) (tells-restore c.args.s.0 c.args.k c.args.t.0 x)) (sym (c.altered-next.ensures ∙ ap (λ (f : Fields). altered f c.args.k) c.peek_fields.ensures.fields)) (ap (λ (b : List ℕ). Some (c.args.k, b)) (sym c.requires.bytes))
-    (seen (g.P.Plant.state c.shift.new.p) t r c.shift.new.j.events) (done r))
+    (world_seen (g.P.Plant.state c.shift.new.p) t r c.shift.new.j.events) (done r))
 
 pub returns-clause-halts : goal.returns-clause-halts
 returns-clause-halts g c =
@@ -48,9 +48,9 @@ returns-clause-halts g c =
     let t = c.args.c.now in
     let x = volume_seen s t c.args.s.0 in
     err-along c.shift.result c.shift.ensures.failed c.shift.ensures.refused (λ failed refused r.
-    halts (seen s t r c.args.j.now.events) (Restore c.args.s.0 c.args.k c.args.t.0) c.of-told.result (plain c.altered-next.result) (Some (c.args.k, c.args.bytes.now)) (on-running s x.server c.requires.running)
+    halts (world_seen s t r c.args.j.now.events) (Restore c.args.s.0 c.args.k c.args.t.0) c.of-told.result (plain c.altered-next.result) (Some (c.args.k, c.args.bytes.now)) (on-running s x.server c.requires.running)
     (subst (λ y. Tells (Restore c.args.s.0 c.args.k c.args.t.0) x y) (sym (c.of-told.ensures)) (tells-restore c.args.s.0 c.args.k c.args.t.0 x)) (sym (c.altered-next.ensures ∙ ap (λ (f : Fields). altered f c.args.k) c.peek_fields.ensures.fields)) (ap (λ (b : List ℕ). Some (c.args.k, b)) (sym c.requires.bytes))
-    (armed_in s) (seen (g.P.Plant.state c.shift.new.p) t r c.shift.new.j.events) (refusal_of c.shift.result) refused (failed r))
+    (armed_in s) (world_seen (g.P.Plant.state c.shift.new.p) t r c.shift.new.j.events) (refusal_of c.shift.result) refused (failed r))
 
 pub returns-clause-moved : goal.returns-clause-moved
 returns-clause-moved g c =

@@ -1,30 +1,27 @@
-use Rattle.std.proofs.Common.{ap, sym, subst, ◌∙◌}
+use Rattle.std.proofs.Common.{ap, sym, subst, ◌∙◌, ℕ, List, Some}
 use Rattle.std.specs.Prelude.{OnOk, OnErr}
 use Rattle.dr_plant.specs.State.{PlantState}
 use Rattle.dr_model.specs.Log.{Log}
 use Rattle.dr_model.specs.Carry.{now}
 use Rattle.dr_model.specs.Moves.{Restore}
 use Rattle.dr_model.specs.ReadStops.{GoesOff}
-use Rattle.dr_volume.specs.Update.{OthersStay}
-use Rattle.dr_volume.specs.View.{Rest}
-use Rattle.dr_flash.specs.Here.{seen, armed_in, refusal_of}
+use Rattle.dr_volume.specs.Update.{OthersStay, IsMoved}
+use Rattle.dr_volume.specs.View.{Rest, volume_seen}
+use Rattle.dr_flash.specs.Here.{world_seen, armed_in, refusal_of}
 use Rattle.dr_flash.specs.Turns.{Advances, Halts}
 use Rattle.dr_flash.proofs.FitLemmas.{fit-same}
-use Rattle.dr_flash.proofs.TurnLemmas.{err-always, refused-by, halts-gone}
-use Rattle.std.proofs.Common.{ℕ, List, Some}
+use Rattle.dr_flash.proofs.TurnLemmas.{refused-by, halts-gone, ok-along}
 use Rattle.dr_model.specs.Pairs.{altered}
 use Rattle.dr_model.specs.Layout.{Fields}
-use Rattle.dr_volume.specs.Update.{IsMoved}
-use Rattle.dr_volume.specs.View.{volume_seen}
-use Rattle.dr_flash.proofs.TurnLemmas.{ok-along}
 use Rattle.dr_incr.proofs.moves.take_back.Goals as goal
+use Rattle.dr_logic.proofs.Results.{err-always}
 
 pub returns-in_err-read_told-clause-halts : goal.returns-in_err-read_told-clause-halts
 returns-in_err-read_told-clause-halts g c =
     let s = g.P.Plant.state c.args.p.now in
     let t = c.args.c.now in
-    err-always c.from_residual.result (λ r. halts-gone (armed_in s) (seen s t r c.args.j.now.events) (seen (g.P.Plant.state c.read_told.new.p) t r c.read_told.new.j.events) (refusal_of c.from_residual.result) (now (Restore c.args.s.0 c.args.k c.args.t.0))
-    (subst (λ e. GoesOff (armed_in s) (seen (g.P.Plant.state c.read_told.new.p) t r c.read_told.new.j.events) e (seen s t r c.args.j.now.events)) (sym (refused-by c.from_residual.result c.in_err-read_told.field-0.0 c.from_residual.ensures.0 c.from_residual.ensures.1))
+    err-always c.from_residual.result (λ r. halts-gone (armed_in s) (world_seen s t r c.args.j.now.events) (world_seen (g.P.Plant.state c.read_told.new.p) t r c.read_told.new.j.events) (refusal_of c.from_residual.result) (now (Restore c.args.s.0 c.args.k c.args.t.0))
+    (subst (λ e. GoesOff (armed_in s) (world_seen (g.P.Plant.state c.read_told.new.p) t r c.read_told.new.j.events) e (world_seen s t r c.args.j.now.events)) (sym (refused-by c.from_residual.result c.in_err-read_told.field-0.0 c.from_residual.ensures.0 c.from_residual.ensures.1))
     (c.in_err-read_told.ensures.gone r)))
 
 pub returns-in_err-read_told-clause-fit : goal.returns-in_err-read_told-clause-fit
@@ -36,15 +33,15 @@ returns-in_err-read_told-clause-others g c u ne = c.in_err-read_told.ensures.sam
 pub returns-clause-advances : goal.returns-clause-advances
 returns-clause-advances g c =
     let t = c.args.c.now in
-    subst (λ (x : PlantState). OnOk c.store_back.result ((r : Rest) → Advances (seen x t r c.args.j.now.events) (now (Restore c.args.s.0 c.args.k c.args.t.0)) (seen (g.P.Plant.state c.store_back.new.p) t r c.store_back.new.j.events))) c.in_ok-read_told.ensures.passed
-    (subst (λ (l : Log). OnOk c.store_back.result ((r : Rest) → Advances (seen (g.P.Plant.state c.read_told.new.p) t r l.events) (now (Restore c.args.s.0 c.args.k c.args.t.0)) (seen (g.P.Plant.state c.store_back.new.p) t r c.store_back.new.j.events))) c.in_ok-read_told.ensures.silent
+    subst (λ (x : PlantState). OnOk c.store_back.result ((r : Rest) → Advances (world_seen x t r c.args.j.now.events) (now (Restore c.args.s.0 c.args.k c.args.t.0)) (world_seen (g.P.Plant.state c.store_back.new.p) t r c.store_back.new.j.events))) c.in_ok-read_told.ensures.passed
+    (subst (λ (l : Log). OnOk c.store_back.result ((r : Rest) → Advances (world_seen (g.P.Plant.state c.read_told.new.p) t r l.events) (now (Restore c.args.s.0 c.args.k c.args.t.0)) (world_seen (g.P.Plant.state c.store_back.new.p) t r c.store_back.new.j.events))) c.in_ok-read_told.ensures.silent
     c.store_back.ensures.advances)
 
 pub returns-clause-halts : goal.returns-clause-halts
 returns-clause-halts g c =
     let t = c.args.c.now in
-    subst (λ (x : PlantState). OnErr c.store_back.result ((r : Rest) → Halts (armed_in x) (seen x t r c.args.j.now.events) (now (Restore c.args.s.0 c.args.k c.args.t.0)) (seen (g.P.Plant.state c.store_back.new.p) t r c.store_back.new.j.events) (refusal_of c.store_back.result))) c.in_ok-read_told.ensures.passed
-    (subst (λ (l : Log). OnErr c.store_back.result ((r : Rest) → Halts (armed_in (g.P.Plant.state c.read_told.new.p)) (seen (g.P.Plant.state c.read_told.new.p) t r l.events) (now (Restore c.args.s.0 c.args.k c.args.t.0)) (seen (g.P.Plant.state c.store_back.new.p) t r c.store_back.new.j.events) (refusal_of c.store_back.result))) c.in_ok-read_told.ensures.silent
+    subst (λ (x : PlantState). OnErr c.store_back.result ((r : Rest) → Halts (armed_in x) (world_seen x t r c.args.j.now.events) (now (Restore c.args.s.0 c.args.k c.args.t.0)) (world_seen (g.P.Plant.state c.store_back.new.p) t r c.store_back.new.j.events) (refusal_of c.store_back.result))) c.in_ok-read_told.ensures.passed
+    (subst (λ (l : Log). OnErr c.store_back.result ((r : Rest) → Halts (armed_in (g.P.Plant.state c.read_told.new.p)) (world_seen (g.P.Plant.state c.read_told.new.p) t r l.events) (now (Restore c.args.s.0 c.args.k c.args.t.0)) (world_seen (g.P.Plant.state c.store_back.new.p) t r c.store_back.new.j.events) (refusal_of c.store_back.result))) c.in_ok-read_told.ensures.silent
     c.store_back.ensures.halts)
 
 pub returns-clause-unarmed : goal.returns-clause-unarmed

@@ -5,7 +5,7 @@ use Rattle.dr_model.specs.Moves.{Reverse}
 use Rattle.dr_model.specs.Relations.{restored, turned}
 use Rattle.dr_volume.specs.Plain.{plain}
 use Rattle.dr_volume.specs.View.{volume_seen}
-use Rattle.dr_flash.specs.Here.{seen, armed_in, refusal_of}
+use Rattle.dr_flash.specs.Here.{world_seen, armed_in, refusal_of}
 use Rattle.dr_flash.proofs.ReadLemmas.{on-running}
 use Rattle.dr_flash.proofs.TurnLemmas.{Tells, advances, halts, ok-along, err-along}
 use Rattle.dr_flash.proofs.MoveLemmas.{MoveFits}
@@ -59,9 +59,9 @@ returns-clause-advances g c =
     let t = c.args.c.now in
     let x = volume_seen s t c.args.t.0 in
     ok-along c.shift.result c.shift.ensures.done (λ done r.
-    advances (seen s t r c.args.j.now.events) (Reverse c.args.t.0 (number_of c.args.left)) c.told_of-told.result (plain c.restored-next.result) None (on-running s x.server c.requires.running)
+    advances (world_seen s t r c.args.j.now.events) (Reverse c.args.t.0 (number_of c.args.left)) c.told_of-told.result (plain c.restored-next.result) None (on-running s x.server c.requires.running)
     (subst (λ y. Tells (Reverse c.args.t.0 (number_of c.args.left)) x y) (sym (told-by (number_of c.args.left) c.args.t.0 x.tracks _ _ _ _ c.told_of-told.result (c.told_of-told.ensures s) c.peek_fields-fields.ensures.fields (c.turned-reversed.ensures ∙ ap turned c.peek_fields-fields.ensures.fields))) (tells-reverse c.args.t.0 (number_of c.args.left) x)) (sym (c.restored-next.ensures ∙ ap (restored c.tracks_of.result) (c.turned-reversed.ensures ∙ ap turned c.peek_fields-fields.ensures.fields) ∙ (λ i. restored (sym (c.tracks_of.ensures.seen s) i) (turned (volume_seen s t c.args.t.0).fields)))) (refl)
-    (seen (g.P.Plant.state c.shift.new.p) t r c.shift.new.j.events) (done r))
+    (world_seen (g.P.Plant.state c.shift.new.p) t r c.shift.new.j.events) (done r))
 
 pub returns-clause-halts : goal.returns-clause-halts
 returns-clause-halts g c =
@@ -69,9 +69,9 @@ returns-clause-halts g c =
     let t = c.args.c.now in
     let x = volume_seen s t c.args.t.0 in
     err-along c.shift.result c.shift.ensures.failed c.shift.ensures.refused (λ failed refused r.
-    halts (seen s t r c.args.j.now.events) (Reverse c.args.t.0 (number_of c.args.left)) c.told_of-told.result (plain c.restored-next.result) None (on-running s x.server c.requires.running)
+    halts (world_seen s t r c.args.j.now.events) (Reverse c.args.t.0 (number_of c.args.left)) c.told_of-told.result (plain c.restored-next.result) None (on-running s x.server c.requires.running)
     (subst (λ y. Tells (Reverse c.args.t.0 (number_of c.args.left)) x y) (sym (told-by (number_of c.args.left) c.args.t.0 x.tracks _ _ _ _ c.told_of-told.result (c.told_of-told.ensures s) c.peek_fields-fields.ensures.fields (c.turned-reversed.ensures ∙ ap turned c.peek_fields-fields.ensures.fields))) (tells-reverse c.args.t.0 (number_of c.args.left) x)) (sym (c.restored-next.ensures ∙ ap (restored c.tracks_of.result) (c.turned-reversed.ensures ∙ ap turned c.peek_fields-fields.ensures.fields) ∙ (λ i. restored (sym (c.tracks_of.ensures.seen s) i) (turned (volume_seen s t c.args.t.0).fields)))) (refl)
-    (armed_in s) (seen (g.P.Plant.state c.shift.new.p) t r c.shift.new.j.events) (refusal_of c.shift.result) refused (failed r))
+    (armed_in s) (world_seen (g.P.Plant.state c.shift.new.p) t r c.shift.new.j.events) (refusal_of c.shift.result) refused (failed r))
 
 pub returns-clause-moved : goal.returns-clause-moved
 returns-clause-moved g c =

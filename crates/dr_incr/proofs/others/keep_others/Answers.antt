@@ -6,14 +6,15 @@ use Rattle.dr_model.specs.Entries.{copies_from, keep_on, for_lowest}
 use Rattle.dr_model.specs.ReadStops.{Ends}
 use Rattle.dr_model.specs.Refusals.{stopped}
 use Rattle.dr_volume.specs.View.{volume_seen, ids_of}
-use Rattle.dr_flash.specs.Here.{seen, armed_in}
+use Rattle.dr_flash.specs.Here.{world_seen, armed_in}
 use Rattle.dr_flash.proofs.CopyLemmas.{before-then, wider-armed, volume-there, no-own}
-use Rattle.dr_flash.proofs.EndsLemmas.{ends-wider, ends-alike}
-use Rattle.dr_flash.proofs.TurnLemmas.{err-always, refused-by}
+use Rattle.dr_facts.proofs.Ends.{ends-wider, ends-alike}
+use Rattle.dr_flash.proofs.TurnLemmas.{refused-by}
 use Rattle.dr_incr.specs.Steps.{keeps_of}
 use Rattle.dr_incr.proofs.StepLemmas.{lowest-entry}
 use Rattle.dr_incr.proofs.TargetLemmas.{keeps_left, keeps_left-next, keeps_left-none, not-kept}
 use Rattle.dr_incr.proofs.others.keep_others.Goals as goal
+use Rattle.dr_logic.proofs.Results.{err-always}
 
 pub unwrap-u-requires : goal.unwrap-u-requires
 unwrap-u-requires g c = volume-there c.args.c.now c.loop-place.place c.volume_at.result c.volume_at.ensures.value (let e = c.volumes-place-end.ensures.count in let f = c.loop-place-test.true in omega (arith, e, f))
@@ -41,12 +42,12 @@ returns-in_err-keep_on-clause-fails g c =
     let v = c.args.s.0 in
     let z = c.args.t.0 in
     err-always c.from_residual.result (λ r ds.
-    let u = seen (g.P.Plant.state c.keep_on.new.p) t r c.keep_on.new.j.events in
+    let u = world_seen (g.P.Plant.state c.keep_on.new.p) t r c.keep_on.new.j.events in
     let e = c.in_err-keep_on.field-0.0 in
-    subst (λ q. Ends (armed_in s0) u q (seen s0 t r c.args.j.now.events) (keeps_of (ids_of t.volumes) v z ++ ds)) (sym (refused-by c.from_residual.result e c.from_residual.ensures.0 c.from_residual.ensures.1))
+    subst (λ q. Ends (armed_in s0) u q (world_seen s0 t r c.args.j.now.events) (keeps_of (ids_of t.volumes) v z ++ ds)) (sym (refused-by c.from_residual.result e c.from_residual.ensures.0 c.from_residual.ensures.1))
     (c.loop-place.invariant.left r (armed_in s0) u (Some e) ds
-    (subst (λ es. Ends (armed_in s0) u (Some e) (seen s t r c.loop-place.j.events) (es ++ ds)) (sym (keeps_left-next t v z c.loop-place.place c.unwrap-u.result.0 (sym (ap (option_map (λ (v : VolumeId). v.0)) c.unwrap-u.ensures) ∙ c.volume_at.ensures.value)))
-    (ends-alike (armed_in s0) u (Some e) (seen (g.P.Plant.state c.loop-place.p) c.args.c.now r c.loop-place.j.events) (for_lowest c.args.t.0 (λ k. keep_on c.args.s.0 k c.unwrap-u.result.0)) (keep_on c.args.s.0 c.args.k c.unwrap-u.result.0) (keeps_left t v z (c.loop-place.place + 1) ++ ds) (lowest-entry (g.P.Plant.state c.loop-place.p) c.args.c.now r c.loop-place.j.events c.args.t.0 c.args.k (λ k. keep_on c.args.s.0 k c.unwrap-u.result.0) ((λ i. lowest (c.loop-place.invariant.aside.volume i).tracks (c.loop-place.invariant.aside.volume i).fields.own) ∙ c.requires.held))
+    (subst (λ es. Ends (armed_in s0) u (Some e) (world_seen s t r c.loop-place.j.events) (es ++ ds)) (sym (keeps_left-next t v z c.loop-place.place c.unwrap-u.result.0 (sym (ap (option_map (λ (v : VolumeId). v.0)) c.unwrap-u.ensures) ∙ c.volume_at.ensures.value)))
+    (ends-alike (armed_in s0) u (Some e) (world_seen (g.P.Plant.state c.loop-place.p) c.args.c.now r c.loop-place.j.events) (for_lowest c.args.t.0 (λ k. keep_on c.args.s.0 k c.unwrap-u.result.0)) (keep_on c.args.s.0 c.args.k c.unwrap-u.result.0) (keeps_left t v z (c.loop-place.place + 1) ++ ds) (lowest-entry (g.P.Plant.state c.loop-place.p) c.args.c.now r c.loop-place.j.events c.args.t.0 c.args.k (λ k. keep_on c.args.s.0 k c.unwrap-u.result.0) ((λ i. lowest (c.loop-place.invariant.aside.volume i).tracks (c.loop-place.invariant.aside.volume i).fields.own) ∙ c.requires.held))
     (ends-wider (armed_in s) (armed_in s0) (wider-armed s0 s c.loop-place.invariant.unarmed) u (Some e) _ _ (c.in_err-keep_on.ensures.halts r (keeps_left t v z (c.loop-place.place + 1) ++ ds)))))))
 
 pub returns-in_err-keep_on-clause-refused : goal.returns-in_err-keep_on-clause-refused
@@ -68,8 +69,8 @@ returns-in_err-keep_on-clause-others g c q other =
 pub loop-place-preserved : goal.loop-place-preserved
 loop-place-preserved g c = record {
   left = λ r armed u r' ds more. c.loop-place.invariant.left r armed u r' ds
-      (subst (λ es. Ends armed u r' (seen (g.P.Plant.state c.loop-place.p) c.args.c.now r c.loop-place.j.events) (es ++ ds)) (sym (keeps_left-next c.args.c.now c.args.s.0 c.args.t.0 c.loop-place.place c.unwrap-u.result.0 (sym (ap (option_map (λ (v : VolumeId). v.0)) c.unwrap-u.ensures) ∙ c.volume_at.ensures.value)))
-      (ends-alike armed u r' (seen (g.P.Plant.state c.loop-place.p) c.args.c.now r c.loop-place.j.events) (for_lowest c.args.t.0 (λ k. keep_on c.args.s.0 k c.unwrap-u.result.0)) (keep_on c.args.s.0 c.args.k c.unwrap-u.result.0) (keeps_left c.args.c.now c.args.s.0 c.args.t.0 (c.loop-place.place + 1) ++ ds) (lowest-entry (g.P.Plant.state c.loop-place.p) c.args.c.now r c.loop-place.j.events c.args.t.0 c.args.k (λ k. keep_on c.args.s.0 k c.unwrap-u.result.0) ((λ i. lowest (c.loop-place.invariant.aside.volume i).tracks (c.loop-place.invariant.aside.volume i).fields.own) ∙ c.requires.held))
+      (subst (λ es. Ends armed u r' (world_seen (g.P.Plant.state c.loop-place.p) c.args.c.now r c.loop-place.j.events) (es ++ ds)) (sym (keeps_left-next c.args.c.now c.args.s.0 c.args.t.0 c.loop-place.place c.unwrap-u.result.0 (sym (ap (option_map (λ (v : VolumeId). v.0)) c.unwrap-u.ensures) ∙ c.volume_at.ensures.value)))
+      (ends-alike armed u r' (world_seen (g.P.Plant.state c.loop-place.p) c.args.c.now r c.loop-place.j.events) (for_lowest c.args.t.0 (λ k. keep_on c.args.s.0 k c.unwrap-u.result.0)) (keep_on c.args.s.0 c.args.k c.unwrap-u.result.0) (keeps_left c.args.c.now c.args.s.0 c.args.t.0 (c.loop-place.place + 1) ++ ds) (lowest-entry (g.P.Plant.state c.loop-place.p) c.args.c.now r c.loop-place.j.events c.args.t.0 c.args.k (λ k. keep_on c.args.s.0 k c.unwrap-u.result.0) ((λ i. lowest (c.loop-place.invariant.aside.volume i).tracks (c.loop-place.invariant.aside.volume i).fields.own) ∙ c.requires.held))
       (c.in_ok-keep_on.ensures.advances r armed u r' (keeps_left c.args.c.now c.args.s.0 c.args.t.0 (c.loop-place.place + 1) ++ ds) more)));
   rest = c.in_ok-keep_on.ensures.rest;
   fit = c.in_ok-keep_on.ensures.fit;
@@ -89,7 +90,7 @@ loop-place-preserved g c = record {
 pub returns-clause-leads : goal.returns-clause-leads
 returns-clause-leads g c r armed u r' ds more =
     c.loop-place.invariant.left r armed u r' ds
-    (subst (λ es. Ends armed u r' (seen (g.P.Plant.state c.loop-place.p) c.args.c.now r c.loop-place.j.events) (es ++ ds))
+    (subst (λ es. Ends armed u r' (world_seen (g.P.Plant.state c.loop-place.p) c.args.c.now r c.loop-place.j.events) (es ++ ds))
     (sym (keeps_left-none c.args.c.now c.args.s.0 c.args.t.0 c.loop-place.place (let e = c.volumes-place-end.ensures.count in let f = c.loop-place-test.false in omega (arith, e, f)))) more)
 
 pub returns-in_err-keep_on-clause-aside : goal.returns-in_err-keep_on-clause-aside

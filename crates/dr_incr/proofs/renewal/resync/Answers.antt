@@ -1,7 +1,7 @@
 use Rattle.std.proofs.Common.{ap, sym, ◌∙◌}
 use Rattle.dr_model.specs.Plans.{counted_refusal}
 use Rattle.dr_flash.specs.Standing.{counted_by}
-use Rattle.dr_flash.specs.Here.{seen, armed_in, refusal_of}
+use Rattle.dr_flash.specs.Here.{world_seen, armed_in, refusal_of}
 use Rattle.dr_flash.proofs.CheckLemmas.{counted-stop, only-stops}
 use Rattle.dr_flash.proofs.TurnLemmas.{ok-along, err-along}
 use Rattle.dr_incr.specs.Steps.{resync_entries}
@@ -25,12 +25,12 @@ returns-clause-leads g c =
 pub returns-clause-fails : goal.returns-clause-fails
 returns-clause-fails g c =
     err-along c.renew.result c.renew.ensures.halts c.renew.ensures.refused (λ halts refused r ds.
-    c.in_default.ensures.checked (counted_refusal c.args.t.0) r c.args.j.now.events (ap counted_by (sym c.peek_fields.ensures.fields) ∙ sym c.counted_refusal-first.ensures.refusal) (armed_in (g.P.Plant.state c.args.p.now)) (seen (g.P.Plant.state c.renew.new.p) c.args.c.now r c.renew.new.j.events) (refusal_of c.renew.result) _
+    c.in_default.ensures.checked (counted_refusal c.args.t.0) r c.args.j.now.events (ap counted_by (sym c.peek_fields.ensures.fields) ∙ sym c.counted_refusal-first.ensures.refusal) (armed_in (g.P.Plant.state c.args.p.now)) (world_seen (g.P.Plant.state c.renew.new.p) c.args.c.now r c.renew.new.j.events) (refusal_of c.renew.result) _
     (halts r ds))
 
 pub returns-clause-carried : goal.returns-clause-carried
 returns-clause-carried g c =
-    ends-by c.renew.result (armed_in (g.P.Plant.state c.args.p.now)) (λ r. (seen (g.P.Plant.state c.args.p.now) c.args.c.now r c.args.j.now.events)) (λ r. (seen (g.P.Plant.state c.renew.new.p) c.args.c.now r c.renew.new.j.events)) (λ r. resync_entries (seen (g.P.Plant.state c.args.p.now) c.args.c.now r c.args.j.now.events).control c.args.s.0 c.args.t.0 c.args.sequence) (returns-clause-leads g c) (returns-clause-fails g c)
+    ends-by c.renew.result (armed_in (g.P.Plant.state c.args.p.now)) (λ r. (world_seen (g.P.Plant.state c.args.p.now) c.args.c.now r c.args.j.now.events)) (λ r. (world_seen (g.P.Plant.state c.renew.new.p) c.args.c.now r c.renew.new.j.events)) (λ r. resync_entries (world_seen (g.P.Plant.state c.args.p.now) c.args.c.now r c.args.j.now.events).control c.args.s.0 c.args.t.0 c.args.sequence) (returns-clause-leads g c) (returns-clause-fails g c)
 
 pub returns-clause-refused : goal.returns-clause-refused
 returns-clause-refused g c =

@@ -1,25 +1,29 @@
 use Rattle.std.proofs.Common.{ℕ, List, None, ◌<◌, nat_eq, [], ◌∷◌, arith, ap, sym, subst, ◌∙◌, Some}
 use Rattle.std.specs.Prelude.{is_some}
+use Rattle.std.proofs.lemmas.Bool.{or_parts, eqb-false}
 use Rattle.dr_model.specs.Carry.{now}
 use Rattle.dr_model.specs.Control.{Volume}
 use Rattle.dr_model.specs.Moves.{Restore, Release}
 use Rattle.dr_model.specs.Refusals.{stopped}
 use Rattle.dr_model.specs.Entries.{copies_from, give_back, for_lowest}
 use Rattle.dr_volume.specs.View.{volume_seen, ids_of}
-use Rattle.dr_flash.specs.Here.{seen, armed_in, refusal_of}
+use Rattle.dr_flash.specs.Here.{world_seen, armed_in, refusal_of}
 use Rattle.dr_flash.specs.Turns.{Fails}
 use Rattle.dr_flash.proofs.CopyLemmas.{before-then, wider-armed, no-own}
-use Rattle.dr_flash.proofs.EndsLemmas.{ends-wider}
+use Rattle.dr_facts.proofs.Ends.{ends-wider}
 use Rattle.dr_flash.proofs.KeepLemmas.{alike-advances, alike-halts}
-use Rattle.dr_flash.proofs.TurnLemmas.{err-always, refused-by, ok-along, err-along}
+use Rattle.dr_flash.proofs.TurnLemmas.{refused-by, ok-along, err-along}
 use Rattle.dr_incr.specs.Steps.{keeps_of, IsRestoredOnto}
-use Rattle.dr_incr.proofs.StepLemmas.{then-leads, then-fails, fails-first, lowest-entry}
-use Rattle.dr_incr.proofs.TargetLemmas.{target-of, lowest-below, neither, differs, other-target, same-lowest}
+use Rattle.dr_incr.proofs.StepLemmas.{lowest-entry}
+use Rattle.dr_incr.proofs.TargetLemmas.{target-of, lowest-below, other-target, same-lowest}
 use Rattle.dr_model.specs.Relations.{restored, given_up}
-use Rattle.dr_incr.proofs.CopyLaws.{moved-after, stored-track}
+use Rattle.dr_incr.proofs.CopyLaws.{moved-after}
 use Rattle.dr_model.specs.Pairs.{altered}
 use Rattle.dr_incr.proofs.BackLaws.{stored-other}
 use Rattle.dr_incr.proofs.restore.give_back.Goals as goal
+use Rattle.dr_logic.proofs.Results.{err-always}
+use Rattle.dr_flash.proofs.LeadLemmas.{then-leads, then-fails, fails-first}
+use Rattle.dr_flash.proofs.MoveLemmas.{stored-track}
 
 pub keep_others-requires-clause-within : goal.keep_others-requires-clause-within
 keep_others-requires-clause-within g c = subst (λ n. c.args.k < n) (target-of (g.P.Plant.state c.args.p.now) c.args.c.now c.args.s.0 c.args.t.0 c.requires.fit c.requires.copies).tracks (lowest-below _ c.args.k _ c.requires.held)
@@ -27,15 +31,15 @@ keep_others-requires-clause-within g c = subst (λ n. c.args.k < n) (target-of (
 pub returns-in_err-keep_others-clause-fails : goal.returns-in_err-keep_others-clause-fails
 returns-in_err-keep_others-clause-fails g c =
     err-always c.from_residual.result (λ r.
-    subst (λ q. Fails (armed_in (g.P.Plant.state c.args.p.now)) (seen (g.P.Plant.state c.args.p.now) c.args.c.now r c.args.j.now.events) (give_back (ids_of c.args.c.now.volumes) c.args.s.0 c.args.t.0) (seen (g.P.Plant.state c.keep_others.new.p) c.args.c.now r c.keep_others.new.j.events) q) (sym (refused-by c.from_residual.result c.in_err-keep_others.field-0.0 c.from_residual.ensures.0 c.from_residual.ensures.1))
-    (fails-first (armed_in (g.P.Plant.state c.args.p.now)) (seen (g.P.Plant.state c.args.p.now) c.args.c.now r c.args.j.now.events) (seen (g.P.Plant.state c.keep_others.new.p) c.args.c.now r c.keep_others.new.j.events) (Some c.in_err-keep_others.field-0.0) (keeps_of (ids_of c.args.c.now.volumes) c.args.s.0 c.args.t.0) ((for_lowest c.args.t.0 (λ k. now (Restore c.args.s.0 k c.args.t.0))) ∷ (for_lowest c.args.t.0 (λ k. now (Release c.args.t.0 k))) ∷ []) (c.in_err-keep_others.ensures.fails r)))
+    subst (λ q. Fails (armed_in (g.P.Plant.state c.args.p.now)) (world_seen (g.P.Plant.state c.args.p.now) c.args.c.now r c.args.j.now.events) (give_back (ids_of c.args.c.now.volumes) c.args.s.0 c.args.t.0) (world_seen (g.P.Plant.state c.keep_others.new.p) c.args.c.now r c.keep_others.new.j.events) q) (sym (refused-by c.from_residual.result c.in_err-keep_others.field-0.0 c.from_residual.ensures.0 c.from_residual.ensures.1))
+    (fails-first (armed_in (g.P.Plant.state c.args.p.now)) (world_seen (g.P.Plant.state c.args.p.now) c.args.c.now r c.args.j.now.events) (world_seen (g.P.Plant.state c.keep_others.new.p) c.args.c.now r c.keep_others.new.j.events) (Some c.in_err-keep_others.field-0.0) (keeps_of (ids_of c.args.c.now.volumes) c.args.s.0 c.args.t.0) ((for_lowest c.args.t.0 (λ k. now (Restore c.args.s.0 k c.args.t.0))) ∷ (for_lowest c.args.t.0 (λ k. now (Release c.args.t.0 k))) ∷ []) (c.in_err-keep_others.ensures.fails r)))
 
 pub returns-in_err-keep_others-clause-refused : goal.returns-in_err-keep_others-clause-refused
 returns-in_err-keep_others-clause-refused g c =
     err-always c.from_residual.result ((refused-by c.from_residual.result c.in_err-keep_others.field-0.0 c.from_residual.ensures.0 c.from_residual.ensures.1) ∙ c.in_err-keep_others.ensures.refused ∙ ap (λ n. Some (stopped n)) (sym (target-of (g.P.Plant.state c.args.p.now) c.args.c.now c.args.s.0 c.args.t.0 c.requires.fit c.requires.copies).server))
 
 pub returns-in_err-keep_others-clause-others : goal.returns-in_err-keep_others-clause-others
-returns-in_err-keep_others-clause-others g c q other = c.in_err-keep_others.ensures.others q (neither (copies_from c.args.s.0 (volume_seen (g.P.Plant.state c.args.p.now) c.args.c.now q).fields) (nat_eq q c.args.s.0) other).0
+returns-in_err-keep_others-clause-others g c q other = c.in_err-keep_others.ensures.others q (or_parts (copies_from c.args.s.0 (volume_seen (g.P.Plant.state c.args.p.now) c.args.c.now q).fields) (nat_eq q c.args.s.0) other).0
 
 pub take_back-requires-clause-defined : goal.take_back-requires-clause-defined
 take_back-requires-clause-defined g c = (target-of (g.P.Plant.state c.args.p.now) c.args.c.now c.args.s.0 c.args.t.0 c.requires.fit c.requires.copies).defined
@@ -58,10 +62,10 @@ take_back-requires-clause-within g c = subst (λ n. c.args.k < n) ((target-of (g
 pub returns-in_err-take_back-clause-fails : goal.returns-in_err-take_back-clause-fails
 returns-in_err-take_back-clause-fails g c =
     err-always c.from_residual-in_err-take_back.result (λ r.
-    subst (λ q. Fails (armed_in (g.P.Plant.state c.args.p.now)) (seen (g.P.Plant.state c.args.p.now) c.args.c.now r c.args.j.now.events) (give_back (ids_of c.args.c.now.volumes) c.args.s.0 c.args.t.0) (seen (g.P.Plant.state c.take_back.new.p) c.args.c.now r c.take_back.new.j.events) q) (sym (refused-by c.from_residual-in_err-take_back.result c.in_err-take_back.field-0.0 c.from_residual-in_err-take_back.ensures.0 c.from_residual-in_err-take_back.ensures.1))
-    (then-fails (armed_in (g.P.Plant.state c.args.p.now)) (seen (g.P.Plant.state c.args.p.now) c.args.c.now r c.args.j.now.events) (seen (g.P.Plant.state c.keep_others.new.p) c.args.c.now r c.keep_others.new.j.events) (seen (g.P.Plant.state c.take_back.new.p) c.args.c.now r c.take_back.new.j.events) (Some c.in_err-take_back.field-0.0) (keeps_of (ids_of c.args.c.now.volumes) c.args.s.0 c.args.t.0) ((for_lowest c.args.t.0 (λ k. now (Restore c.args.s.0 k c.args.t.0))) ∷ (for_lowest c.args.t.0 (λ k. now (Release c.args.t.0 k))) ∷ []) (c.in_ok-keep_others.ensures.leads r)
-    (λ ds. ends-wider (armed_in (g.P.Plant.state c.keep_others.new.p)) (armed_in (g.P.Plant.state c.args.p.now)) (wider-armed (g.P.Plant.state c.args.p.now) (g.P.Plant.state c.keep_others.new.p) c.in_ok-keep_others.ensures.unarmed) (seen (g.P.Plant.state c.take_back.new.p) c.args.c.now r c.take_back.new.j.events) (Some c.in_err-take_back.field-0.0) _ _
-    (alike-halts (armed_in (g.P.Plant.state c.keep_others.new.p)) (seen (g.P.Plant.state c.keep_others.new.p) c.args.c.now r c.keep_others.new.j.events) (seen (g.P.Plant.state c.take_back.new.p) c.args.c.now r c.take_back.new.j.events) (Some c.in_err-take_back.field-0.0) (for_lowest c.args.t.0 (λ k. now (Restore c.args.s.0 k c.args.t.0))) (now (Restore c.args.s.0 c.args.k c.args.t.0)) (lowest-entry (g.P.Plant.state c.keep_others.new.p) c.args.c.now r c.keep_others.new.j.events c.args.t.0 c.args.k (λ k. now (Restore c.args.s.0 k c.args.t.0)) (same-lowest (g.P.Plant.state c.args.p.now) (g.P.Plant.state c.keep_others.new.p) c.args.c.now c.args.t.0 c.args.k c.in_ok-keep_others.ensures.aside c.requires.held)) (c.in_err-take_back.ensures.halts r) ((for_lowest c.args.t.0 (λ k. now (Release c.args.t.0 k))) ∷ ds)))))
+    subst (λ q. Fails (armed_in (g.P.Plant.state c.args.p.now)) (world_seen (g.P.Plant.state c.args.p.now) c.args.c.now r c.args.j.now.events) (give_back (ids_of c.args.c.now.volumes) c.args.s.0 c.args.t.0) (world_seen (g.P.Plant.state c.take_back.new.p) c.args.c.now r c.take_back.new.j.events) q) (sym (refused-by c.from_residual-in_err-take_back.result c.in_err-take_back.field-0.0 c.from_residual-in_err-take_back.ensures.0 c.from_residual-in_err-take_back.ensures.1))
+    (then-fails (armed_in (g.P.Plant.state c.args.p.now)) (world_seen (g.P.Plant.state c.args.p.now) c.args.c.now r c.args.j.now.events) (world_seen (g.P.Plant.state c.keep_others.new.p) c.args.c.now r c.keep_others.new.j.events) (world_seen (g.P.Plant.state c.take_back.new.p) c.args.c.now r c.take_back.new.j.events) (Some c.in_err-take_back.field-0.0) (keeps_of (ids_of c.args.c.now.volumes) c.args.s.0 c.args.t.0) ((for_lowest c.args.t.0 (λ k. now (Restore c.args.s.0 k c.args.t.0))) ∷ (for_lowest c.args.t.0 (λ k. now (Release c.args.t.0 k))) ∷ []) (c.in_ok-keep_others.ensures.leads r)
+    (λ ds. ends-wider (armed_in (g.P.Plant.state c.keep_others.new.p)) (armed_in (g.P.Plant.state c.args.p.now)) (wider-armed (g.P.Plant.state c.args.p.now) (g.P.Plant.state c.keep_others.new.p) c.in_ok-keep_others.ensures.unarmed) (world_seen (g.P.Plant.state c.take_back.new.p) c.args.c.now r c.take_back.new.j.events) (Some c.in_err-take_back.field-0.0) _ _
+    (alike-halts (armed_in (g.P.Plant.state c.keep_others.new.p)) (world_seen (g.P.Plant.state c.keep_others.new.p) c.args.c.now r c.keep_others.new.j.events) (world_seen (g.P.Plant.state c.take_back.new.p) c.args.c.now r c.take_back.new.j.events) (Some c.in_err-take_back.field-0.0) (for_lowest c.args.t.0 (λ k. now (Restore c.args.s.0 k c.args.t.0))) (now (Restore c.args.s.0 c.args.k c.args.t.0)) (lowest-entry (g.P.Plant.state c.keep_others.new.p) c.args.c.now r c.keep_others.new.j.events c.args.t.0 c.args.k (λ k. now (Restore c.args.s.0 k c.args.t.0)) (same-lowest (g.P.Plant.state c.args.p.now) (g.P.Plant.state c.keep_others.new.p) c.args.c.now c.args.t.0 c.args.k c.in_ok-keep_others.ensures.aside c.requires.held)) (c.in_err-take_back.ensures.halts r) ((for_lowest c.args.t.0 (λ k. now (Release c.args.t.0 k))) ∷ ds)))))
 
 pub returns-in_err-take_back-clause-refused : goal.returns-in_err-take_back-clause-refused
 returns-in_err-take_back-clause-refused g c =
@@ -72,8 +76,8 @@ returns-in_err-take_back-clause-unarmed g c q none = c.in_err-take_back.ensures.
 
 pub returns-in_err-take_back-clause-others : goal.returns-in_err-take_back-clause-others
 returns-in_err-take_back-clause-others g c q other =
-    let x = neither (copies_from c.args.s.0 (volume_seen (g.P.Plant.state c.args.p.now) c.args.c.now q).fields) (nat_eq q c.args.s.0) other in
-    before-then (g.P.Plant.state c.args.p.now) (g.P.Plant.state c.keep_others.new.p) (g.P.Plant.state c.take_back.new.p) c.args.c.now q (c.in_ok-keep_others.ensures.others q x.0) (c.in_err-take_back.ensures.others q (differs q c.args.s.0 x.1))
+    let x = or_parts (copies_from c.args.s.0 (volume_seen (g.P.Plant.state c.args.p.now) c.args.c.now q).fields) (nat_eq q c.args.s.0) other in
+    before-then (g.P.Plant.state c.args.p.now) (g.P.Plant.state c.keep_others.new.p) (g.P.Plant.state c.take_back.new.p) c.args.c.now q (c.in_ok-keep_others.ensures.others q x.0) (c.in_err-take_back.ensures.others q (eqb-false q c.args.s.0 x.1))
 
 pub reverse_finish-requires-clause-running : goal.reverse_finish-requires-clause-running
 reverse_finish-requires-clause-running g c = (λ i. (c.in_ok-take_back.ensures.on ∙ c.in_ok-keep_others.ensures.on) i ((before-then (g.P.Plant.state c.args.p.now) (g.P.Plant.state c.keep_others.new.p) (g.P.Plant.state c.take_back.new.p) c.args.c.now c.args.t.0 c.in_ok-keep_others.ensures.aside (c.in_ok-take_back.ensures.others c.args.t.0 (target-of (g.P.Plant.state c.args.p.now) c.args.c.now c.args.s.0 c.args.t.0 c.requires.fit c.requires.copies).apart)).volume i).server) ∙ c.requires.running
@@ -95,15 +99,15 @@ reverse_finish-requires-clause-room g c =
 pub returns-clause-leads : goal.returns-clause-leads
 returns-clause-leads g c =
     ok-along c.reverse_finish.result c.reverse_finish.ensures.leads (λ leads r.
-    then-leads (seen (g.P.Plant.state c.args.p.now) c.args.c.now r c.args.j.now.events) (seen (g.P.Plant.state c.keep_others.new.p) c.args.c.now r c.keep_others.new.j.events) (seen (g.P.Plant.state c.reverse_finish.new.p) c.args.c.now r c.reverse_finish.new.j.events) (keeps_of (ids_of c.args.c.now.volumes) c.args.s.0 c.args.t.0) ((for_lowest c.args.t.0 (λ k. now (Restore c.args.s.0 k c.args.t.0))) ∷ (for_lowest c.args.t.0 (λ k. now (Release c.args.t.0 k))) ∷ []) (c.in_ok-keep_others.ensures.leads r) (λ armed u r' ds more.
-    alike-advances (seen (g.P.Plant.state c.keep_others.new.p) c.args.c.now r c.keep_others.new.j.events) (seen (g.P.Plant.state c.take_back.new.p) c.args.c.now r c.take_back.new.j.events) (for_lowest c.args.t.0 (λ k. now (Restore c.args.s.0 k c.args.t.0))) (now (Restore c.args.s.0 c.args.k c.args.t.0)) (lowest-entry (g.P.Plant.state c.keep_others.new.p) c.args.c.now r c.keep_others.new.j.events c.args.t.0 c.args.k (λ k. now (Restore c.args.s.0 k c.args.t.0)) (same-lowest (g.P.Plant.state c.args.p.now) (g.P.Plant.state c.keep_others.new.p) c.args.c.now c.args.t.0 c.args.k c.in_ok-keep_others.ensures.aside c.requires.held)) (c.in_ok-take_back.ensures.advances r) armed u r' ((for_lowest c.args.t.0 (λ k. now (Release c.args.t.0 k))) ∷ ds) (leads r armed u r' ds more)))
+    then-leads (world_seen (g.P.Plant.state c.args.p.now) c.args.c.now r c.args.j.now.events) (world_seen (g.P.Plant.state c.keep_others.new.p) c.args.c.now r c.keep_others.new.j.events) (world_seen (g.P.Plant.state c.reverse_finish.new.p) c.args.c.now r c.reverse_finish.new.j.events) (keeps_of (ids_of c.args.c.now.volumes) c.args.s.0 c.args.t.0) ((for_lowest c.args.t.0 (λ k. now (Restore c.args.s.0 k c.args.t.0))) ∷ (for_lowest c.args.t.0 (λ k. now (Release c.args.t.0 k))) ∷ []) (c.in_ok-keep_others.ensures.leads r) (λ armed u r' ds more.
+    alike-advances (world_seen (g.P.Plant.state c.keep_others.new.p) c.args.c.now r c.keep_others.new.j.events) (world_seen (g.P.Plant.state c.take_back.new.p) c.args.c.now r c.take_back.new.j.events) (for_lowest c.args.t.0 (λ k. now (Restore c.args.s.0 k c.args.t.0))) (now (Restore c.args.s.0 c.args.k c.args.t.0)) (lowest-entry (g.P.Plant.state c.keep_others.new.p) c.args.c.now r c.keep_others.new.j.events c.args.t.0 c.args.k (λ k. now (Restore c.args.s.0 k c.args.t.0)) (same-lowest (g.P.Plant.state c.args.p.now) (g.P.Plant.state c.keep_others.new.p) c.args.c.now c.args.t.0 c.args.k c.in_ok-keep_others.ensures.aside c.requires.held)) (c.in_ok-take_back.ensures.advances r) armed u r' ((for_lowest c.args.t.0 (λ k. now (Release c.args.t.0 k))) ∷ ds) (leads r armed u r' ds more)))
 
 pub returns-clause-fails : goal.returns-clause-fails
 returns-clause-fails g c =
     err-along c.reverse_finish.result c.reverse_finish.ensures.fails c.reverse_finish.ensures.refused (λ fails refused r.
-    then-fails (armed_in (g.P.Plant.state c.args.p.now)) (seen (g.P.Plant.state c.args.p.now) c.args.c.now r c.args.j.now.events) (seen (g.P.Plant.state c.keep_others.new.p) c.args.c.now r c.keep_others.new.j.events) (seen (g.P.Plant.state c.reverse_finish.new.p) c.args.c.now r c.reverse_finish.new.j.events) (refusal_of c.reverse_finish.result) (keeps_of (ids_of c.args.c.now.volumes) c.args.s.0 c.args.t.0) ((for_lowest c.args.t.0 (λ k. now (Restore c.args.s.0 k c.args.t.0))) ∷ (for_lowest c.args.t.0 (λ k. now (Release c.args.t.0 k))) ∷ []) (c.in_ok-keep_others.ensures.leads r) (λ ds.
-    alike-advances (seen (g.P.Plant.state c.keep_others.new.p) c.args.c.now r c.keep_others.new.j.events) (seen (g.P.Plant.state c.take_back.new.p) c.args.c.now r c.take_back.new.j.events) (for_lowest c.args.t.0 (λ k. now (Restore c.args.s.0 k c.args.t.0))) (now (Restore c.args.s.0 c.args.k c.args.t.0)) (lowest-entry (g.P.Plant.state c.keep_others.new.p) c.args.c.now r c.keep_others.new.j.events c.args.t.0 c.args.k (λ k. now (Restore c.args.s.0 k c.args.t.0)) (same-lowest (g.P.Plant.state c.args.p.now) (g.P.Plant.state c.keep_others.new.p) c.args.c.now c.args.t.0 c.args.k c.in_ok-keep_others.ensures.aside c.requires.held)) (c.in_ok-take_back.ensures.advances r) (armed_in (g.P.Plant.state c.args.p.now)) (seen (g.P.Plant.state c.reverse_finish.new.p) c.args.c.now r c.reverse_finish.new.j.events) (refusal_of c.reverse_finish.result) ((for_lowest c.args.t.0 (λ k. now (Release c.args.t.0 k))) ∷ ds)
-    (ends-wider (armed_in (g.P.Plant.state c.take_back.new.p)) (armed_in (g.P.Plant.state c.args.p.now)) (wider-armed (g.P.Plant.state c.args.p.now) (g.P.Plant.state c.take_back.new.p) (λ q none. c.in_ok-take_back.ensures.unarmed q (c.in_ok-keep_others.ensures.unarmed q none))) (seen (g.P.Plant.state c.reverse_finish.new.p) c.args.c.now r c.reverse_finish.new.j.events) (refusal_of c.reverse_finish.result) _ _ (fails r ds))))
+    then-fails (armed_in (g.P.Plant.state c.args.p.now)) (world_seen (g.P.Plant.state c.args.p.now) c.args.c.now r c.args.j.now.events) (world_seen (g.P.Plant.state c.keep_others.new.p) c.args.c.now r c.keep_others.new.j.events) (world_seen (g.P.Plant.state c.reverse_finish.new.p) c.args.c.now r c.reverse_finish.new.j.events) (refusal_of c.reverse_finish.result) (keeps_of (ids_of c.args.c.now.volumes) c.args.s.0 c.args.t.0) ((for_lowest c.args.t.0 (λ k. now (Restore c.args.s.0 k c.args.t.0))) ∷ (for_lowest c.args.t.0 (λ k. now (Release c.args.t.0 k))) ∷ []) (c.in_ok-keep_others.ensures.leads r) (λ ds.
+    alike-advances (world_seen (g.P.Plant.state c.keep_others.new.p) c.args.c.now r c.keep_others.new.j.events) (world_seen (g.P.Plant.state c.take_back.new.p) c.args.c.now r c.take_back.new.j.events) (for_lowest c.args.t.0 (λ k. now (Restore c.args.s.0 k c.args.t.0))) (now (Restore c.args.s.0 c.args.k c.args.t.0)) (lowest-entry (g.P.Plant.state c.keep_others.new.p) c.args.c.now r c.keep_others.new.j.events c.args.t.0 c.args.k (λ k. now (Restore c.args.s.0 k c.args.t.0)) (same-lowest (g.P.Plant.state c.args.p.now) (g.P.Plant.state c.keep_others.new.p) c.args.c.now c.args.t.0 c.args.k c.in_ok-keep_others.ensures.aside c.requires.held)) (c.in_ok-take_back.ensures.advances r) (armed_in (g.P.Plant.state c.args.p.now)) (world_seen (g.P.Plant.state c.reverse_finish.new.p) c.args.c.now r c.reverse_finish.new.j.events) (refusal_of c.reverse_finish.result) ((for_lowest c.args.t.0 (λ k. now (Release c.args.t.0 k))) ∷ ds)
+    (ends-wider (armed_in (g.P.Plant.state c.take_back.new.p)) (armed_in (g.P.Plant.state c.args.p.now)) (wider-armed (g.P.Plant.state c.args.p.now) (g.P.Plant.state c.take_back.new.p) (λ q none. c.in_ok-take_back.ensures.unarmed q (c.in_ok-keep_others.ensures.unarmed q none))) (world_seen (g.P.Plant.state c.reverse_finish.new.p) c.args.c.now r c.reverse_finish.new.j.events) (refusal_of c.reverse_finish.result) _ _ (fails r ds))))
 
 pub returns-clause-refused : goal.returns-clause-refused
 returns-clause-refused g c = err-along c.reverse_finish.result c.reverse_finish.ensures.refused c.reverse_finish.ensures.refused (λ a b. a ∙ ap (λ (x : Volume). Some (stopped x.server)) (before-then (g.P.Plant.state c.args.p.now) (g.P.Plant.state c.keep_others.new.p) (g.P.Plant.state c.take_back.new.p) c.args.c.now c.args.t.0 c.in_ok-keep_others.ensures.aside (c.in_ok-take_back.ensures.others c.args.t.0 (target-of (g.P.Plant.state c.args.p.now) c.args.c.now c.args.s.0 c.args.t.0 c.requires.fit c.requires.copies).apart)).volume)
@@ -113,8 +117,8 @@ returns-clause-unarmed g c q none = c.reverse_finish.ensures.unarmed q (c.in_ok-
 
 pub returns-clause-others : goal.returns-clause-others
 returns-clause-others g c q other =
-    let x = neither (copies_from c.args.s.0 (volume_seen (g.P.Plant.state c.args.p.now) c.args.c.now q).fields) (nat_eq q c.args.s.0) other in
-    before-then (g.P.Plant.state c.args.p.now) (g.P.Plant.state c.take_back.new.p) (g.P.Plant.state c.reverse_finish.new.p) c.args.c.now q (before-then (g.P.Plant.state c.args.p.now) (g.P.Plant.state c.keep_others.new.p) (g.P.Plant.state c.take_back.new.p) c.args.c.now q (c.in_ok-keep_others.ensures.others q x.0) (c.in_ok-take_back.ensures.others q (differs q c.args.s.0 x.1)))
+    let x = or_parts (copies_from c.args.s.0 (volume_seen (g.P.Plant.state c.args.p.now) c.args.c.now q).fields) (nat_eq q c.args.s.0) other in
+    before-then (g.P.Plant.state c.args.p.now) (g.P.Plant.state c.take_back.new.p) (g.P.Plant.state c.reverse_finish.new.p) c.args.c.now q (before-then (g.P.Plant.state c.args.p.now) (g.P.Plant.state c.keep_others.new.p) (g.P.Plant.state c.take_back.new.p) c.args.c.now q (c.in_ok-keep_others.ensures.others q x.0) (c.in_ok-take_back.ensures.others q (eqb-false q c.args.s.0 x.1)))
     (c.reverse_finish.ensures.others q (other-target (g.P.Plant.state c.args.p.now) c.args.c.now c.args.s.0 c.args.t.0 q c.requires.copies x.0))
 
 pub returns-clause-room : goal.returns-clause-room

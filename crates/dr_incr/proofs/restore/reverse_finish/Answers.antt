@@ -3,7 +3,7 @@ use Rattle.dr_model.specs.Relations.{lowest}
 use Rattle.dr_model.specs.Carry.{now}
 use Rattle.dr_model.specs.Moves.{Release}
 use Rattle.dr_model.specs.Entries.{for_lowest}
-use Rattle.dr_flash.specs.Here.{seen, armed_in, refusal_of}
+use Rattle.dr_flash.specs.Here.{world_seen, armed_in, refusal_of}
 use Rattle.dr_flash.proofs.KeepLemmas.{alike-advances, alike-halts}
 use Rattle.dr_flash.proofs.TurnLemmas.{ok-along, err-along}
 use Rattle.dr_incr.proofs.StepLemmas.{ends-by, lowest-entry}
@@ -12,13 +12,13 @@ use Rattle.dr_incr.proofs.restore.reverse_finish.Goals as goal
 pub returns-clause-leads : goal.returns-clause-leads
 returns-clause-leads g c =
     ok-along c.give_up.result c.give_up.ensures.advances (λ goes r.
-    alike-advances (seen (g.P.Plant.state c.args.p.now) c.args.c.now r c.args.j.now.events) (seen (g.P.Plant.state c.give_up.new.p) c.args.c.now r c.give_up.new.j.events) (for_lowest c.args.t.0 (λ k. now (Release c.args.t.0 k))) (now (Release c.args.t.0 c.unwrap-k.result)) (lowest-entry (g.P.Plant.state c.args.p.now) c.args.c.now r c.args.j.now.events c.args.t.0 c.unwrap-k.result (λ k. now (Release c.args.t.0 k)) ((λ i. lowest (c.tracks_of.ensures.seen (g.P.Plant.state c.args.p.now) i) (sym c.peek_fields-fields.ensures.fields i).own) ∙ sym c.lowest.ensures.lowest ∙ c.unwrap-k.ensures)) (goes r))
+    alike-advances (world_seen (g.P.Plant.state c.args.p.now) c.args.c.now r c.args.j.now.events) (world_seen (g.P.Plant.state c.give_up.new.p) c.args.c.now r c.give_up.new.j.events) (for_lowest c.args.t.0 (λ k. now (Release c.args.t.0 k))) (now (Release c.args.t.0 c.unwrap-k.result)) (lowest-entry (g.P.Plant.state c.args.p.now) c.args.c.now r c.args.j.now.events c.args.t.0 c.unwrap-k.result (λ k. now (Release c.args.t.0 k)) ((λ i. lowest (c.tracks_of.ensures.seen (g.P.Plant.state c.args.p.now) i) (sym c.peek_fields-fields.ensures.fields i).own) ∙ sym c.lowest.ensures.lowest ∙ c.unwrap-k.ensures)) (goes r))
 
 pub returns-clause-fails : goal.returns-clause-fails
 returns-clause-fails g c =
     err-along c.give_up.result c.give_up.ensures.halts c.give_up.ensures.refused (λ halts refused r.
-    alike-halts (armed_in (g.P.Plant.state c.args.p.now)) (seen (g.P.Plant.state c.args.p.now) c.args.c.now r c.args.j.now.events) (seen (g.P.Plant.state c.give_up.new.p) c.args.c.now r c.give_up.new.j.events) (refusal_of c.give_up.result) (for_lowest c.args.t.0 (λ k. now (Release c.args.t.0 k))) (now (Release c.args.t.0 c.unwrap-k.result)) (lowest-entry (g.P.Plant.state c.args.p.now) c.args.c.now r c.args.j.now.events c.args.t.0 c.unwrap-k.result (λ k. now (Release c.args.t.0 k)) ((λ i. lowest (c.tracks_of.ensures.seen (g.P.Plant.state c.args.p.now) i) (sym c.peek_fields-fields.ensures.fields i).own) ∙ sym c.lowest.ensures.lowest ∙ c.unwrap-k.ensures)) (halts r))
+    alike-halts (armed_in (g.P.Plant.state c.args.p.now)) (world_seen (g.P.Plant.state c.args.p.now) c.args.c.now r c.args.j.now.events) (world_seen (g.P.Plant.state c.give_up.new.p) c.args.c.now r c.give_up.new.j.events) (refusal_of c.give_up.result) (for_lowest c.args.t.0 (λ k. now (Release c.args.t.0 k))) (now (Release c.args.t.0 c.unwrap-k.result)) (lowest-entry (g.P.Plant.state c.args.p.now) c.args.c.now r c.args.j.now.events c.args.t.0 c.unwrap-k.result (λ k. now (Release c.args.t.0 k)) ((λ i. lowest (c.tracks_of.ensures.seen (g.P.Plant.state c.args.p.now) i) (sym c.peek_fields-fields.ensures.fields i).own) ∙ sym c.lowest.ensures.lowest ∙ c.unwrap-k.ensures)) (halts r))
 
 pub returns-clause-carried : goal.returns-clause-carried
 returns-clause-carried g c =
-    ends-by c.give_up.result (armed_in (g.P.Plant.state c.args.p.now)) (λ r. (seen (g.P.Plant.state c.args.p.now) c.args.c.now r c.args.j.now.events)) (λ r. (seen (g.P.Plant.state c.give_up.new.p) c.args.c.now r c.give_up.new.j.events)) (λ r. for_lowest c.args.t.0 (λ k. now (Release c.args.t.0 k)) ∷ []) (returns-clause-leads g c) (returns-clause-fails g c)
+    ends-by c.give_up.result (armed_in (g.P.Plant.state c.args.p.now)) (λ r. (world_seen (g.P.Plant.state c.args.p.now) c.args.c.now r c.args.j.now.events)) (λ r. (world_seen (g.P.Plant.state c.give_up.new.p) c.args.c.now r c.give_up.new.j.events)) (λ r. for_lowest c.args.t.0 (λ k. now (Release c.args.t.0 k)) ∷ []) (returns-clause-leads g c) (returns-clause-fails g c)

@@ -3,7 +3,7 @@ use Rattle.dr_model.specs.Carry.{now}
 use Rattle.dr_model.specs.Moves.{Reverse}
 use Rattle.dr_model.specs.Plans.{restore_refusal}
 use Rattle.dr_flash.specs.Turns.{Advances, Halts}
-use Rattle.dr_flash.specs.Here.{seen, armed_in, refusal_of}
+use Rattle.dr_flash.specs.Here.{world_seen, armed_in, refusal_of}
 use Rattle.dr_flash.proofs.CheckLemmas.{counted-stop, only-stops}
 use Rattle.dr_flash.proofs.TurnLemmas.{ok-along, err-along}
 use Rattle.dr_incr.specs.Steps.{IsAsked, reverse_entries}
@@ -20,12 +20,12 @@ returns-in-Some-clause-fails g c r asked ds = c.in-Some.ensures.checked (restore
 
 pub returns-in-Some-lone_refusal-clause-carried : goal.returns-in-Some-lone_refusal-clause-carried
 returns-in-Some-lone_refusal-clause-carried g c r asked =
-    c.in_default.ensures.checked (restore_refusal c.args.t.0) r c.args.j.now.events asked.why (armed_in (g.P.Plant.state c.args.p.now)) (seen (g.P.Plant.state c.args.p.now) c.args.c.now r c.args.j.now.events) (Some c.in-Some-lone_refusal.why) _
+    c.in_default.ensures.checked (restore_refusal c.args.t.0) r c.args.j.now.events asked.why (armed_in (g.P.Plant.state c.args.p.now)) (world_seen (g.P.Plant.state c.args.p.now) c.args.c.now r c.args.j.now.events) (Some c.in-Some-lone_refusal.why) _
     (c.in-Some-lone_refusal.ensures.checked r c.args.j.now.events (armed_in (g.P.Plant.state c.args.p.now)) _)
 
 pub returns-in-Some-lone_refusal-clause-fails : goal.returns-in-Some-lone_refusal-clause-fails
 returns-in-Some-lone_refusal-clause-fails g c r asked ds =
-    c.in_default.ensures.checked (restore_refusal c.args.t.0) r c.args.j.now.events asked.why (armed_in (g.P.Plant.state c.args.p.now)) (seen (g.P.Plant.state c.args.p.now) c.args.c.now r c.args.j.now.events) (Some c.in-Some-lone_refusal.why) _
+    c.in_default.ensures.checked (restore_refusal c.args.t.0) r c.args.j.now.events asked.why (armed_in (g.P.Plant.state c.args.p.now)) (world_seen (g.P.Plant.state c.args.p.now) c.args.c.now r c.args.j.now.events) (Some c.in-Some-lone_refusal.why) _
     (c.in-Some-lone_refusal.ensures.checked r c.args.j.now.events (armed_in (g.P.Plant.state c.args.p.now)) _)
 
 pub returns-clause-leads : goal.returns-clause-leads
@@ -33,18 +33,18 @@ returns-clause-leads g c =
     ok-along c.turn_back.result c.turn_back.ensures.advances (λ goes r asked armed u r' ds more.
     c.in_default.ensures.checked (restore_refusal c.args.t.0) r c.args.j.now.events asked.why armed u r' _
     (c.in_default-lone_refusal.ensures.checked r c.args.j.now.events armed u r' _
-    (subst (λ o. Advances (seen (g.P.Plant.state c.args.p.now) c.args.c.now r c.args.j.now.events) (now (Reverse c.args.t.0 o)) (seen (g.P.Plant.state c.turn_back.new.p) c.args.c.now r c.turn_back.new.j.events)) (sym asked.leaves) (goes r) armed u r' ds more)))
+    (subst (λ o. Advances (world_seen (g.P.Plant.state c.args.p.now) c.args.c.now r c.args.j.now.events) (now (Reverse c.args.t.0 o)) (world_seen (g.P.Plant.state c.turn_back.new.p) c.args.c.now r c.turn_back.new.j.events)) (sym asked.leaves) (goes r) armed u r' ds more)))
 
 pub returns-clause-fails : goal.returns-clause-fails
 returns-clause-fails g c =
     err-along c.turn_back.result c.turn_back.ensures.halts c.turn_back.ensures.refused (λ halts refused r asked ds.
-    c.in_default.ensures.checked (restore_refusal c.args.t.0) r c.args.j.now.events asked.why (armed_in (g.P.Plant.state c.args.p.now)) (seen (g.P.Plant.state c.turn_back.new.p) c.args.c.now r c.turn_back.new.j.events) (refusal_of c.turn_back.result) _
-    (c.in_default-lone_refusal.ensures.checked r c.args.j.now.events (armed_in (g.P.Plant.state c.args.p.now)) (seen (g.P.Plant.state c.turn_back.new.p) c.args.c.now r c.turn_back.new.j.events) (refusal_of c.turn_back.result) _
-    (subst (λ o. Halts (armed_in (g.P.Plant.state c.args.p.now)) (seen (g.P.Plant.state c.args.p.now) c.args.c.now r c.args.j.now.events) (now (Reverse c.args.t.0 o)) (seen (g.P.Plant.state c.turn_back.new.p) c.args.c.now r c.turn_back.new.j.events) (refusal_of c.turn_back.result)) (sym asked.leaves) (halts r) ds)))
+    c.in_default.ensures.checked (restore_refusal c.args.t.0) r c.args.j.now.events asked.why (armed_in (g.P.Plant.state c.args.p.now)) (world_seen (g.P.Plant.state c.turn_back.new.p) c.args.c.now r c.turn_back.new.j.events) (refusal_of c.turn_back.result) _
+    (c.in_default-lone_refusal.ensures.checked r c.args.j.now.events (armed_in (g.P.Plant.state c.args.p.now)) (world_seen (g.P.Plant.state c.turn_back.new.p) c.args.c.now r c.turn_back.new.j.events) (refusal_of c.turn_back.result) _
+    (subst (λ o. Halts (armed_in (g.P.Plant.state c.args.p.now)) (world_seen (g.P.Plant.state c.args.p.now) c.args.c.now r c.args.j.now.events) (now (Reverse c.args.t.0 o)) (world_seen (g.P.Plant.state c.turn_back.new.p) c.args.c.now r c.turn_back.new.j.events) (refusal_of c.turn_back.result)) (sym asked.leaves) (halts r) ds)))
 
 pub returns-clause-carried : goal.returns-clause-carried
 returns-clause-carried g c =
-    ends-if c.turn_back.result (armed_in (g.P.Plant.state c.args.p.now)) (λ r. IsAsked (seen (g.P.Plant.state c.args.p.now) c.args.c.now r c.args.j.now.events).control c.args.t.0 c.args.unsettled c.args.left) (λ r. (seen (g.P.Plant.state c.args.p.now) c.args.c.now r c.args.j.now.events)) (λ r. (seen (g.P.Plant.state c.turn_back.new.p) c.args.c.now r c.turn_back.new.j.events)) (λ r. reverse_entries (seen (g.P.Plant.state c.args.p.now) c.args.c.now r c.args.j.now.events).control c.args.s.0 c.args.t.0) (returns-clause-leads g c) (returns-clause-fails g c)
+    ends-if c.turn_back.result (armed_in (g.P.Plant.state c.args.p.now)) (λ r. IsAsked (world_seen (g.P.Plant.state c.args.p.now) c.args.c.now r c.args.j.now.events).control c.args.t.0 c.args.unsettled c.args.left) (λ r. (world_seen (g.P.Plant.state c.args.p.now) c.args.c.now r c.args.j.now.events)) (λ r. (world_seen (g.P.Plant.state c.turn_back.new.p) c.args.c.now r c.turn_back.new.j.events)) (λ r. reverse_entries (world_seen (g.P.Plant.state c.args.p.now) c.args.c.now r c.args.j.now.events).control c.args.s.0 c.args.t.0) (returns-clause-leads g c) (returns-clause-fails g c)
 
 pub returns-clause-refused : goal.returns-clause-refused
 returns-clause-refused g c =

@@ -1,21 +1,19 @@
 use Rattle.std.proofs.Common.{ℕ, Option, None, refl, true, false, ◌≢◌, ◌≡◌, sym, subst, ap, ◌∙◌, Some}
 use Rattle.dr_model.specs.Layout.{Fields}
-use Rattle.dr_model.specs.Relations.{lowest}
+use Rattle.dr_model.specs.Relations.{lowest, restored, given_up}
 use Rattle.dr_model.specs.Entries.{give_back}
-use Rattle.dr_volume.specs.View.{volume_seen, ids_of}
-use Rattle.dr_flash.specs.Here.{seen, armed_in, refusal_of}
+use Rattle.dr_volume.specs.View.{volume_seen, ids_of, track_seen}
+use Rattle.dr_flash.specs.Here.{world_seen, armed_in, refusal_of}
 use Rattle.dr_flash.specs.Turns.{Leads, Fails}
 use Rattle.dr_flash.proofs.CopyLemmas.{led, failed}
-use Rattle.dr_flash.proofs.TurnLemmas.{err-always, refused-by}
+use Rattle.dr_flash.proofs.TurnLemmas.{refused-by}
 use Rattle.dr_incr.proofs.StepLemmas.{none-back}
-use Rattle.dr_incr.proofs.TargetLemmas.{holder-related, copies-source}
-use Rattle.dr_model.specs.Relations.{restored, given_up}
-use Rattle.dr_volume.specs.View.{track_seen}
+use Rattle.dr_incr.proofs.TargetLemmas.{holder-related, copies-source, target-of}
 use Rattle.dr_volume.specs.Update.{IsMoved}
-use Rattle.dr_incr.proofs.TargetLemmas.{target-of}
 use Rattle.dr_incr.specs.Copies.{BlankAreZeros}
 use Rattle.dr_incr.proofs.BackLaws.{back-restores}
 use Rattle.dr_incr.proofs.restore.reverse_step.Goals as goal
+use Rattle.dr_logic.proofs.Results.{err-always}
 
 pub returns-in_default-clause-leads : goal.returns-in_default-clause-leads
 returns-in_default-clause-leads g c s is r =
@@ -25,7 +23,7 @@ returns-in_default-clause-leads g c s is r =
 pub returns-in_default-clause-carried : goal.returns-in_default-clause-carried
 returns-in_default-clause-carried g c s is r =
     let x = g.P.Plant.state c.args.p.now in
-    let w = seen x c.args.c.now r c.args.j.now.events in
+    let w = world_seen x c.args.c.now r c.args.j.now.events in
     led (armed_in x) w w (give_back (ids_of c.args.c.now.volumes) s c.args.t.0) (returns-in_default-clause-leads g c s is r)
 
 pub give_back-requires-clause-reversing : goal.give_back-requires-clause-reversing
@@ -42,27 +40,27 @@ returns-in_err-give_back-clause-fails g c =
     let x = g.P.Plant.state c.args.p.now in let y = g.P.Plant.state c.give_back.new.p in let t = c.args.c.now in let us = ids_of t.volumes in
     let related = holder-related _ c.tracks_of.result c.in-Some.k _ _ c.peek_fields-fields.ensures.fields c.peek_fields-fields.ensures.lawful (sym c.lowest.ensures.lowest ∙ c.in-Some.is) in
     err-always c.from_residual.result (λ s is r.
-    subst (λ q. Fails (armed_in x) (seen x t r c.args.j.now.events) (give_back us s c.args.t.0) (seen y t r c.give_back.new.j.events) q) (sym (refused-by c.from_residual.result c.in_err-give_back.field-0.0 c.from_residual.ensures.0 c.from_residual.ensures.1))
-    (subst (λ n. Fails (armed_in x) (seen x t r c.args.j.now.events) (give_back us n c.args.t.0) (seen y t r c.give_back.new.j.events) (Some c.in_err-give_back.field-0.0)) (ap (λ (f : Fields). f.source) c.peek_fields-fields.ensures.fields ∙ (is related).1) (c.in_err-give_back.ensures.fails r)))
+    subst (λ q. Fails (armed_in x) (world_seen x t r c.args.j.now.events) (give_back us s c.args.t.0) (world_seen y t r c.give_back.new.j.events) q) (sym (refused-by c.from_residual.result c.in_err-give_back.field-0.0 c.from_residual.ensures.0 c.from_residual.ensures.1))
+    (subst (λ n. Fails (armed_in x) (world_seen x t r c.args.j.now.events) (give_back us n c.args.t.0) (world_seen y t r c.give_back.new.j.events) (Some c.in_err-give_back.field-0.0)) (ap (λ (f : Fields). f.source) c.peek_fields-fields.ensures.fields ∙ (is related).1) (c.in_err-give_back.ensures.fails r)))
 
 pub returns-in_err-give_back-clause-carried : goal.returns-in_err-give_back-clause-carried
 returns-in_err-give_back-clause-carried g c s is r =
     let x = g.P.Plant.state c.args.p.now in let y = g.P.Plant.state c.give_back.new.p in let t = c.args.c.now in let us = ids_of t.volumes in
     let related = holder-related _ c.tracks_of.result c.in-Some.k _ _ c.peek_fields-fields.ensures.fields c.peek_fields-fields.ensures.lawful (sym c.lowest.ensures.lowest ∙ c.in-Some.is) in
-    failed (armed_in x) (seen x t r c.args.j.now.events) (seen y t r c.give_back.new.j.events) (refusal_of c.from_residual.result) (give_back us s c.args.t.0)
-    (subst (λ q. Fails (armed_in x) (seen x t r c.args.j.now.events) (give_back us s c.args.t.0) (seen y t r c.give_back.new.j.events) q) (sym (refused-by c.from_residual.result c.in_err-give_back.field-0.0 c.from_residual.ensures.0 c.from_residual.ensures.1))
-    (subst (λ n. Fails (armed_in x) (seen x t r c.args.j.now.events) (give_back us n c.args.t.0) (seen y t r c.give_back.new.j.events) (Some c.in_err-give_back.field-0.0)) (ap (λ (f : Fields). f.source) c.peek_fields-fields.ensures.fields ∙ (is related).1) (c.in_err-give_back.ensures.fails r)))
+    failed (armed_in x) (world_seen x t r c.args.j.now.events) (world_seen y t r c.give_back.new.j.events) (refusal_of c.from_residual.result) (give_back us s c.args.t.0)
+    (subst (λ q. Fails (armed_in x) (world_seen x t r c.args.j.now.events) (give_back us s c.args.t.0) (world_seen y t r c.give_back.new.j.events) q) (sym (refused-by c.from_residual.result c.in_err-give_back.field-0.0 c.from_residual.ensures.0 c.from_residual.ensures.1))
+    (subst (λ n. Fails (armed_in x) (world_seen x t r c.args.j.now.events) (give_back us n c.args.t.0) (world_seen y t r c.give_back.new.j.events) (Some c.in_err-give_back.field-0.0)) (ap (λ (f : Fields). f.source) c.peek_fields-fields.ensures.fields ∙ (is related).1) (c.in_err-give_back.ensures.fails r)))
 
 pub returns-clause-leads : goal.returns-clause-leads
 returns-clause-leads g c s is r =
     let x = g.P.Plant.state c.args.p.now in let y = g.P.Plant.state c.give_back.new.p in let t = c.args.c.now in let us = ids_of t.volumes in
     let related = holder-related _ c.tracks_of.result c.in-Some.k _ _ c.peek_fields-fields.ensures.fields c.peek_fields-fields.ensures.lawful (sym c.lowest.ensures.lowest ∙ c.in-Some.is) in
-    subst (λ n. Leads (seen x t r c.args.j.now.events) (give_back us n c.args.t.0) (seen y t r c.give_back.new.j.events)) (ap (λ (f : Fields). f.source) c.peek_fields-fields.ensures.fields ∙ (is related).1) (c.in_ok-give_back.ensures.leads r)
+    subst (λ n. Leads (world_seen x t r c.args.j.now.events) (give_back us n c.args.t.0) (world_seen y t r c.give_back.new.j.events)) (ap (λ (f : Fields). f.source) c.peek_fields-fields.ensures.fields ∙ (is related).1) (c.in_ok-give_back.ensures.leads r)
 
 pub returns-clause-carried : goal.returns-clause-carried
 returns-clause-carried g c s is r =
     let x = g.P.Plant.state c.args.p.now in let y = g.P.Plant.state c.give_back.new.p in let t = c.args.c.now in
-    led (armed_in x) (seen x t r c.args.j.now.events) (seen y t r c.give_back.new.j.events) (give_back (ids_of t.volumes) s c.args.t.0) (returns-clause-leads g c s is r)
+    led (armed_in x) (world_seen x t r c.args.j.now.events) (world_seen y t r c.give_back.new.j.events) (give_back (ids_of t.volumes) s c.args.t.0) (returns-clause-leads g c s is r)
 
 one-of : (k n : ℕ) {o : Option ℕ} → o ≡ Some k → o ≡ Some n → k ≡ n
 one-of k n a b = let e = sym a ∙ b in cc

@@ -4,7 +4,7 @@ use Rattle.std.specs.Prelude.{slice_get}
 use Rattle.std.specs.List.{fold}
 use Rattle.dr_model.specs.Text.{heard, text_from}
 use Rattle.dr_list.specs.At.{line_told, heard_at}
-use Rattle.dr_list.specs.Seen.{seen}
+use Rattle.dr_list.specs.Seen.{heard_seen}
 use Rattle.dr_list.proofs.TextLemmas.{text-event, heard-last}
 use Rattle.dr_list.proofs.lines.text_on.Goals as goal
 
@@ -12,7 +12,7 @@ pub loop-i-preserved : goal.loop-i-preserved
 loop-i-preserved c =
     let es = c.args.journal.now.events in
     let i = c.loop-i.i in
-    let told = seen c.loop-i.told in
+    let told = heard_seen c.loop-i.told in
     let line = line_told told (slice_get es i) in
     let rest = text_from (heard_at told (slice_get es i)) (drop (i + 1) es) in
     record {
@@ -25,18 +25,18 @@ pub returns-in_default-print_at-clause-told : goal.returns-in_default-print_at-c
 returns-in_default-print_at-clause-told c =
     let es = c.args.journal.now.events in
     let i = c.loop-i.i in
-    let after = seen c.print_at.new.told in
+    let after = heard_seen c.print_at.new.told in
     c.hear_between-in_default-print_at.ensures
     ∙ ap (λ n. fold heard after (take (n - (i + 1)) (drop (i + 1) es))) c.len-in_default-print_at.ensures
     ∙ ap (fold heard after) (take_rest es (i + 1))
     ∙ ap (λ t. fold heard t (drop (i + 1) es)) c.print_at.ensures.told
-    ∙ sym (heard-last es i (seen c.loop-i.told) (omega arith))
+    ∙ sym (heard-last es i (heard_seen c.loop-i.told) (omega arith))
     ∙ c.loop-i.invariant.told
 
 pub returns-in_default-clause-told : goal.returns-in_default-clause-told
 returns-in_default-clause-told c =
     let es = c.args.journal.now.events in
-    let before = seen c.args.told.now in
+    let before = heard_seen c.args.told.now in
     c.hear_between.ensures
     ∙ ap (λ n. fold heard before (take (n - c.args.from) (drop c.args.from es))) c.len.ensures
     ∙ ap (fold heard before) (take_rest es c.args.from)

@@ -15,8 +15,9 @@ use Rattle.dr_flash.proofs.MoveLemmas.{MoveFits}
 use Rattle.dr_metro.specs.Here.{here, rest_of}
 use Rattle.dr_metro.proofs.BothLemmas.{both-ends, both-told, both-fails, fails-told}
 use Rattle.dr_metro.proofs.MirrorLemmas.{both-fits}
-use Rattle.dr_metro.proofs.TurnLemmas.{differ, not_beq}
+use Rattle.dr_metro.proofs.TurnLemmas.{differ}
 use Rattle.dr_metro.proofs.both.land_both.Goals as goal
+use Rattle.dr_flash.proofs.MadeLemmas.{not_beq}
 
 pub shift-requires-clause-lawful : goal.shift-requires-clause-lawful
 shift-requires-clause-lawful g c =

@@ -3,12 +3,14 @@ use Rattle.std.specs.Prelude.{is_some}
 use Rattle.dr_model.specs.Control.{Volume}
 use Rattle.dr_model.specs.PairEntries.{send_refusal, flashed_refusal}
 use Rattle.dr_volume.specs.View.{ids_of}
-use Rattle.dr_flash.specs.Here.{seen, armed_in, refusal_of}
+use Rattle.dr_flash.specs.Here.{world_seen, armed_in, refusal_of}
 use Rattle.dr_flash.proofs.CopyLemmas.{no-own}
 use Rattle.dr_flash.proofs.TurnLemmas.{ok-along, err-along}
-use Rattle.dr_gcopy.proofs.SendLemmas.{other-server, other-volume}
-use Rattle.dr_metro.proofs.CollideLemmas.{ok-two, sends-by, sent-leads, sent-fails, flashed-leads, parted-leads, parted-fails}
+use Rattle.dr_gcopy.proofs.SendLemmas.{other-server}
+use Rattle.dr_metro.proofs.CollideLemmas.{sends-by, sent-leads, sent-fails, flashed-leads, parted-leads, parted-fails}
 use Rattle.dr_metro.proofs.colliding.send_old.Goals as goal
+use Rattle.dr_gcopy.proofs.PairChecks.{servers-apart}
+use Rattle.dr_logic.proofs.Results.{ok-two}
 
 pub returns-then-is_some-clause-leads : goal.returns-then-is_some-clause-leads
 returns-then-is_some-clause-leads g c =
@@ -16,9 +18,9 @@ returns-then-is_some-clause-leads g c =
     let t = c.args.c.now in
     let m = g.P.Plant.state c.suspend.new.p in
     ok-two c.suspend.result c.suspend.ensures.advances c.suspend.ensures.moved (λ advances moved r.
-    let w = seen s t r c.args.j.now.events in
+    let w = world_seen s t r c.args.j.now.events in
     let parted : is_some (send_refusal c.args.v.0 c.args.u.0 w.control) ≡ true = ap is_some (sym (c.send_refusal.ensures.refusal r c.args.j.now.events)) ∙ sym c.is_some.ensures ∙ c.if-is_some.true in
-    parted-leads (ids_of t.volumes) c.args.v.0 c.args.u.0 c.args.t w (seen m t r c.suspend.new.j.events) parted (ap (λ (x : Volume). x.fields.recording) moved.volume) (advances r))
+    parted-leads (ids_of t.volumes) c.args.v.0 c.args.u.0 c.args.t w (world_seen m t r c.suspend.new.j.events) parted (ap (λ (x : Volume). x.fields.recording) moved.volume) (advances r))
 
 pub returns-then-is_some-clause-fails : goal.returns-then-is_some-clause-fails
 returns-then-is_some-clause-fails g c =
@@ -26,15 +28,15 @@ returns-then-is_some-clause-fails g c =
     let t = c.args.c.now in
     let m = g.P.Plant.state c.suspend.new.p in
     err-along c.suspend.result c.suspend.ensures.halts c.suspend.ensures.refused (λ halts refused r.
-    let w = seen s t r c.args.j.now.events in
+    let w = world_seen s t r c.args.j.now.events in
     let parted : is_some (send_refusal c.args.v.0 c.args.u.0 w.control) ≡ true = ap is_some (sym (c.send_refusal.ensures.refusal r c.args.j.now.events)) ∙ sym c.is_some.ensures ∙ c.if-is_some.true in
-    parted-fails (ids_of t.volumes) c.args.v.0 c.args.u.0 c.args.t w (armed_in s) (seen m t r c.suspend.new.j.events) (refusal_of c.suspend.result) parted (halts r))
+    parted-fails (ids_of t.volumes) c.args.v.0 c.args.u.0 c.args.t w (armed_in s) (world_seen m t r c.suspend.new.j.events) (refusal_of c.suspend.result) parted (halts r))
 
 pub returns-then-is_some-2-clause-leads : goal.returns-then-is_some-2-clause-leads
 returns-then-is_some-2-clause-leads g c r =
     let s = g.P.Plant.state c.args.p.now in
     let t = c.args.c.now in
-    let w = seen s t r c.args.j.now.events in
+    let w = world_seen s t r c.args.j.now.events in
     let reach : is_some (send_refusal c.args.v.0 c.args.u.0 w.control) ≡ false = ap is_some (sym (c.send_refusal.ensures.refusal r c.args.j.now.events)) ∙ sym c.is_some.ensures ∙ c.if-is_some.false in
     let flashed : is_some (flashed_refusal c.args.u.0 w.control) ≡ true = ap is_some (sym (c.flashed_refusal.ensures.refusal r c.args.j.now.events)) ∙ sym c.is_some-2.ensures ∙ c.if-is_some-2.true in
     flashed-leads (ids_of t.volumes) c.args.v.0 c.args.u.0 c.args.t w reach flashed
@@ -45,10 +47,10 @@ returns-clause-leads g c =
     let t = c.args.c.now in
     let m = g.P.Plant.state c.pass_on.new.p in
     ok-along c.pass_on.result c.pass_on.ensures.leads (λ leads r.
-    let w = seen s t r c.args.j.now.events in
+    let w = world_seen s t r c.args.j.now.events in
     let reach : is_some (send_refusal c.args.v.0 c.args.u.0 w.control) ≡ false = ap is_some (sym (c.send_refusal.ensures.refusal r c.args.j.now.events)) ∙ sym c.is_some.ensures ∙ c.if-is_some.false in
     let free : is_some (flashed_refusal c.args.u.0 w.control) ≡ false = ap is_some (sym (c.flashed_refusal.ensures.refusal r c.args.j.now.events)) ∙ sym c.is_some-2.ensures ∙ c.if-is_some-2.false in
-    sent-leads (ids_of t.volumes) c.args.v.0 c.args.u.0 c.args.t w (seen m t r c.pass_on.new.j.events) (other-volume s t c.args.v.0 c.args.u.0 c.requires.two_servers)
+    sent-leads (ids_of t.volumes) c.args.v.0 c.args.u.0 c.args.t w (world_seen m t r c.pass_on.new.j.events) (servers-apart s t c.args.v.0 c.args.u.0 c.requires.two_servers)
     (sends-by c.args.v.0 c.args.u.0 c.args.t w.control c.requires.collides reach free (other-server s t c.args.v.0 c.args.u.0 c.requires.fit c.requires.two_servers) (no-own s t c.args.u.0 c.requires.fit)) (leads r))
 
 pub returns-clause-fails : goal.returns-clause-fails
@@ -57,8 +59,8 @@ returns-clause-fails g c =
     let t = c.args.c.now in
     let m = g.P.Plant.state c.pass_on.new.p in
     err-along c.pass_on.result c.pass_on.ensures.fails c.pass_on.ensures.stops (λ fails stops r.
-    let w = seen s t r c.args.j.now.events in
+    let w = world_seen s t r c.args.j.now.events in
     let reach : is_some (send_refusal c.args.v.0 c.args.u.0 w.control) ≡ false = ap is_some (sym (c.send_refusal.ensures.refusal r c.args.j.now.events)) ∙ sym c.is_some.ensures ∙ c.if-is_some.false in
     let free : is_some (flashed_refusal c.args.u.0 w.control) ≡ false = ap is_some (sym (c.flashed_refusal.ensures.refusal r c.args.j.now.events)) ∙ sym c.is_some-2.ensures ∙ c.if-is_some-2.false in
-    sent-fails (ids_of t.volumes) c.args.v.0 c.args.u.0 c.args.t w (armed_in s) (seen m t r c.pass_on.new.j.events) (refusal_of c.pass_on.result) (other-volume s t c.args.v.0 c.args.u.0 c.requires.two_servers)
+    sent-fails (ids_of t.volumes) c.args.v.0 c.args.u.0 c.args.t w (armed_in s) (world_seen m t r c.pass_on.new.j.events) (refusal_of c.pass_on.result) (servers-apart s t c.args.v.0 c.args.u.0 c.requires.two_servers)
     (sends-by c.args.v.0 c.args.u.0 c.args.t w.control c.requires.collides reach free (other-server s t c.args.v.0 c.args.u.0 c.requires.fit c.requires.two_servers) (no-own s t c.args.u.0 c.requires.fit)) (fails r))

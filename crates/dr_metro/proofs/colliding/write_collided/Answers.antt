@@ -5,7 +5,7 @@ use Rattle.dr_model.specs.WriteEntries.{send_first}
 use Rattle.dr_volume.specs.View.{ids_of}
 use Rattle.dr_flash.specs.Here.{armed_in, refusal_of}
 use Rattle.dr_flash.proofs.CopyLemmas.{wider-armed, led, failed}
-use Rattle.dr_flash.proofs.EndsLemmas.{ends-wider}
+use Rattle.dr_facts.proofs.Ends.{ends-wider}
 use Rattle.dr_flash.proofs.TurnLemmas.{refused-by}
 use Rattle.dr_gcopy.proofs.SendLemmas.{same-server, same-tracks}
 use Rattle.dr_metro.specs.Here.{here, rest_of}

@@ -1,5 +1,6 @@
 use Rattle.std.proofs.Common.{◌≡◌, ◌<◌, ap, sym, subst, ◌∙◌, true, inl, Some}
 use Rattle.std.specs.Prelude.{is_err, OnOk}
+use Rattle.dr_logic.specs.Counts.{Counted}
 use Rattle.dr_plant.specs.State.{PlantState, can_read}
 use Rattle.dr_model.specs.Contents.{laid}
 use Rattle.dr_model.specs.Carry as carry
@@ -11,7 +12,6 @@ use Rattle.dr_flash.specs.Here.{IsAtRest}
 use Rattle.dr_flash.specs.Views.{view_seen}
 use Rattle.dr_flash.proofs.ReadLemmas.{left-unread, unread-rest}
 use Rattle.dr_flash.proofs.FitLemmas.{fit-same}
-use Rattle.dr_flash.specs.Faults.{Counted}
 use Rattle.dr_metro.specs.Landing.{landed_on}
 use Rattle.dr_metro.proofs.LandLemmas.{lands-unread}
 use Rattle.dr_metro.proofs.FaultLemmas.{counted-unread}

@@ -18,9 +18,9 @@ use Rattle.dr_flash.proofs.FitLemmas.{fit-after}
 use Rattle.dr_flash.proofs.MoveLemmas.{MoveFits}
 use Rattle.dr_metro.specs.Landing.{landed, landed_on}
 use Rattle.dr_metro.proofs.LandingLemmas.{lands-fit}
-use Rattle.dr_metro.proofs.LandLemmas.{updated-rest}
 use Rattle.dr_metro.proofs.FaultLemmas.{counted-by}
 use Rattle.dr_metro.proofs.landing.land_opened.Goals as goal
+use Rattle.dr_flash.proofs.ShiftLemmas.{rest-after}
 
 pub landed-next-requires : goal.landed-next-requires
 landed-next-requires g c =
@@ -69,7 +69,7 @@ returns g c =
           (subst (λ f. EndsAs (world u t r) (is_err c.change.result) (carry.update (world x t r) v f (Some (c.args.t, laid c.args.offset c.args.bytes.now (view_seen s t v c.args.t))))) given
           (subst (λ b. EndsAs (world u t r) (is_err c.change.result) (carry.update (world x t r) v (plain c.landed-next.result) (Some (c.args.t, b)))) track (c.change.ensures.exact r)));
       left = ok-along c.change.result c.change.ensures.done (λ is. ap (λ (y : Volume). y.fields) is.volume ∙ given);
-      rest = updated-rest t x u v _ _ (subst (λ y. IsAtRest y t) (sym same) c.requires.rest) c.change.ensures.stands c.change.ensures.settled c.change.ensures.old_or_new c.change.ensures.others;
+      rest = rest-after t x u v _ _ (subst (λ y. IsAtRest y t) (sym same) c.requires.rest) c.change.ensures.stands c.change.ensures.settled c.change.ensures.old_or_new c.change.ensures.others;
       fit = fit-after x u t v (plain c.landed-next.result) _ (subst (λ y. RelationsFit y t) (sym same) c.requires.fit)
           (subst (λ y. LeavesFit y t v (plain c.landed-next.result)) (sym same) (subst (λ f. LeavesFit s t v f) (sym given) fits.leaves)) c.change.ensures.old_or_new c.change.ensures.others;
       faults = counted-by c.change.result s.faults x.faults u.faults (ap (λ (y : PlantState). y.faults) same) c.change.ensures.fault c.change.ensures.no_fault;

@@ -1,4 +1,5 @@
 use Rattle.std.proofs.Common.{◌≡◌, ◌∷◌, [], ◌++◌, ◌∙◌, sym, ap, refl, inl, inr, not, cond, false, map, Some, None}
+use Rattle.std.proofs.lemmas.Bool.{false≢true}
 use mathlib.Core.Bool.{beq}
 use Rattle.dr_model.specs.declared.event.Event.TheVariants.{Stopped}
 use Rattle.dr_model.specs.Refusals.{stopped}
@@ -9,16 +10,18 @@ use Rattle.dr_model.specs.Entries.{land_on}
 use Rattle.dr_metro.specs.Landing.{landing_move}
 use Rattle.dr_model.specs.ReadStops.{shut}
 use Rattle.dr_model.proofs.CarryLemmas.{act-move}
-use Rattle.dr_flash.proofs.EndsLemmas.{ends-goes, ends-stops, ends-none, ends-off}
+use Rattle.dr_facts.proofs.Ends.{ends-goes, ends-stops, ends-none, ends-off}
 use Rattle.dr_volume.specs.View.{world, control_seen, volume_seen, on_seen}
 use Rattle.dr_host.specs.Writes.{Writes, with_marked}
-use Rattle.dr_host.specs.Seen.{seen}
+use Rattle.dr_host.specs.Seen.{pending_seen}
 use Rattle.dr_host.proofs.Seen.{seen-without}
 use Rattle.dr_metro.specs.Here.{here, rest_of}
 use Rattle.dr_flash.specs.Here.{armed_in}
-use Rattle.dr_metro.proofs.TurnLemmas.{turn-goes, turn-stops, done-by_slot, cut_short-is, seen-landed, issued-landed, differ, differ_same, not_beq, on-running, failed-not}
+use Rattle.dr_metro.proofs.TurnLemmas.{turn-goes, turn-stops, cut_short-is, seen-landed, issued-landed, differ}
 use Rattle.dr_metro.proofs.ToldLemmas.{told-push, told-acked, told-marked}
 use Rattle.dr_metro.proofs.machine.land_write.Goals as goal
+use Rattle.dr_flash.proofs.MadeLemmas.{differ_same, not_beq, done-by_slot}
+use Rattle.dr_flash.proofs.ReadLemmas.{on-running}
 
 pub land-requires-clause-running : goal.land-requires-clause-running
 land-requires-clause-running g c = ap (g.P.Plant.state c.args.plant.now).on c.requires.server ∙ c.requires.running
@@ -34,14 +37,14 @@ returns-in-Ok-clause-carried g c xs =
     let s1 = g.P.Plant.state c.land.new.p in
     let w0 = here s0 t xs host c.args.journal.now.events in
     let on = ap (on_seen s0) c.requires.server ∙ on-running s0 at.server.0 c.requires.running in
-    let left = sym (seen-without w host.pending) ∙ ap (λ (x : Writes). map seen x.pending) (sym c.finish.ensures) in
+    let left = sym (seen-without w host.pending) ∙ ap (λ (x : Writes). map pending_seen x.pending) (sym c.finish.ensures) in
     let count = ap (λ (x : Writes). x.issued) (sym c.finish.ensures) in
     elim (c.in-Ok.ensures.exact r) [
       | inl ends ↦
           ends-goes (armed_in s0) _ None w0 _ (land_on w at.volume.0 at.track) [] (Make (landing_move (volume_seen s0 t at.volume.0).fields.related w at.volume.0 at.track)) refl
           (act-move w0 (landing_move (volume_seen s0 t at.volume.0).fields.related w at.volume.0 at.track) ∙ turn-goes w0 w at.volume.0 at.track at.offset c.args.bytes.now c.requires.pending.issue on (world s1 t r) ends)
           (ends-none (armed_in s0) _ None _ (record { world = λ i. record (world s1 t r) { control = record (control_seen s1 t r) { issued = sym count i; pending = sym left i }; events = c.push.ensures.events i }; refusal = refl }))
-      | inr off ↦ absurd (failed-not off.answer)
+      | inr off ↦ absurd (false≢true off.answer)
     ]
 
 pub returns-in-Err-clause-carried : goal.returns-in-Err-clause-carried
@@ -73,7 +76,7 @@ returns-in-Err-clause-carried g c xs =
           (act-move w0 m
           ∙ turn-stops w0 n at.volume.0 at.track at.offset c.args.bytes.now c.requires.pending.issue on (world s1 t r) landed (done-by_slot w0 at.volume.0 _ _ (sym ends.stopped) ∙ by_slot _ ends.world) ends
           ∙ ap (λ (x : World). (x, Some (volume_seen s0 t at.volume.0).server)) (cut_short-is (world s1 t r) n at.volume.0 at.track (volume_seen s0 t at.volume.0) landed)
-          ∙ ap (λ s. (record (world s1 t r) { control = record (control_seen s1 t r) { pending = cond landed (marked n (map seen host.pending)) (map seen host.pending) }; events = events ++ Stopped s (cond landed n 0) ∷ [] }, Some s)) c.requires.server
+          ∙ ap (λ s. (record (world s1 t r) { control = record (control_seen s1 t r) { pending = cond landed (marked n (map pending_seen host.pending)) (map pending_seen host.pending) }; events = events ++ Stopped s (cond landed n 0) ∷ [] }, Some s)) c.requires.server
           ∙ (λ i. (record (world s1 t r) { control = record (control_seen s1 t r) { issued = count i; pending = marks i }; events = told i }, Some at.server.0)))
           refl
       | inr off ↦

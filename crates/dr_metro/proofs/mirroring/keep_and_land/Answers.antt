@@ -10,14 +10,17 @@ use Rattle.dr_volume.specs.View.{ids_of, volume_seen}
 use Rattle.dr_flash.specs.Checks.{is_stop}
 use Rattle.dr_flash.specs.Here.{armed_in, refusal_of}
 use Rattle.dr_flash.proofs.CopyLemmas.{no-own, wider-armed}
-use Rattle.dr_flash.proofs.EndsLemmas.{ends-wider}
-use Rattle.dr_flash.proofs.TurnLemmas.{err-always, refused-by, ok-along, err-along}
-use Rattle.dr_gcopy.proofs.SendLemmas.{other-server, other-volume}
+use Rattle.dr_facts.proofs.Ends.{ends-wider}
+use Rattle.dr_flash.proofs.TurnLemmas.{refused-by, ok-along, err-along}
+use Rattle.dr_gcopy.proofs.SendLemmas.{other-server}
 use Rattle.dr_metro.specs.Here.{here, rest_of}
 use Rattle.dr_metro.specs.Mirroring.{settle_entries}
 use Rattle.dr_metro.proofs.LandLemmas.{told-through}
-use Rattle.dr_metro.proofs.RouteLemmas.{carried-track, same-bytes, runs-still}
+use Rattle.dr_metro.proofs.RouteLemmas.{same-bytes, runs-still}
 use Rattle.dr_metro.proofs.mirroring.keep_and_land.Goals as goal
+use Rattle.dr_gcopy.proofs.PairChecks.{servers-apart}
+use Rattle.dr_logic.proofs.Results.{err-always}
+use Rattle.dr_flash.proofs.MoveLemmas.{stored-track}
 
 pub returns-in_err-copy_first-clause-carried : goal.returns-in_err-copy_first-clause-carried
 returns-in_err-copy_first-clause-carried g c xs =
@@ -142,7 +145,7 @@ returns-clause-equal g c =
     let mid = c.copy_first.new.j.events in
     let u = g.P.Plant.state c.land_both.new.p in
     ok-along c.land_both.result c.land_both.ensures.moved (λ is.
-    ap (λ (z : ℕ → List ℕ). z c.args.m.track) (c.land_both.ensures.others c.args.m.to.0 (λ e. other-volume s t c.args.m.from.0 c.args.m.to.0 c.requires.two_servers (sym e))).tracks
+    ap (λ (z : ℕ → List ℕ). z c.args.m.track) (c.land_both.ensures.others c.args.m.to.0 (λ e. servers-apart s t c.args.m.from.0 c.args.m.to.0 c.requires.two_servers (sym e))).tracks
     ∙ ap (λ (z : ℕ → List ℕ). z c.args.m.track) (c.in_ok-copy_first.ensures.others c.args.m.to.0 (other-server s t c.args.m.to.0 c.args.m.from.0 c.requires.fit (λ e. c.requires.two_servers (sym e)))).tracks
     ∙ c.requires.stored
-    ∙ sym (carried-track m u t c.args.m.from.0 c.args.m.track (synced (volume_seen m t c.args.m.from.0).fields c.args.m.track) c.args.bytes.now is))
+    ∙ sym (stored-track m u t c.args.m.from.0 c.args.m.track (synced (volume_seen m t c.args.m.from.0).fields c.args.m.track) c.args.bytes.now is))

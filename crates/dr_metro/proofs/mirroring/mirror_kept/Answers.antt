@@ -7,14 +7,15 @@ use Rattle.dr_volume.specs.View.{ids_of}
 use Rattle.dr_flash.specs.Checks.{is_stop}
 use Rattle.dr_flash.specs.Here.{armed_in, refusal_of}
 use Rattle.dr_flash.proofs.CopyLemmas.{no-own, wider-armed}
-use Rattle.dr_flash.proofs.EndsLemmas.{ends-wider}
-use Rattle.dr_flash.proofs.TurnLemmas.{err-always, refused-by}
+use Rattle.dr_facts.proofs.Ends.{ends-wider}
+use Rattle.dr_flash.proofs.TurnLemmas.{refused-by}
 use Rattle.dr_gcopy.proofs.SendLemmas.{other-server, same-server}
 use Rattle.dr_metro.specs.Here.{here, rest_of}
 use Rattle.dr_metro.specs.Mirroring.{store_entries, mirror_entries}
 use Rattle.dr_metro.proofs.LandLemmas.{told-through}
 use Rattle.dr_metro.proofs.RouteLemmas.{same-bytes, runs-still}
 use Rattle.dr_metro.proofs.mirroring.mirror_kept.Goals as goal
+use Rattle.dr_logic.proofs.Results.{err-always}
 
 pub returns-in_err-copy_first-clause-carried : goal.returns-in_err-copy_first-clause-carried
 returns-in_err-copy_first-clause-carried g c xs =

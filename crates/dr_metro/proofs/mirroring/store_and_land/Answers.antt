@@ -9,14 +9,17 @@ use Rattle.dr_volume.specs.View.{ids_of, volume_seen}
 use Rattle.dr_flash.specs.Checks.{is_stop}
 use Rattle.dr_flash.specs.Here.{armed_in, refusal_of}
 use Rattle.dr_flash.proofs.CopyLemmas.{wider-armed}
-use Rattle.dr_flash.proofs.EndsLemmas.{ends-wider}
-use Rattle.dr_flash.proofs.TurnLemmas.{err-always, refused-by}
-use Rattle.dr_gcopy.proofs.SendLemmas.{other-volume, same-server}
+use Rattle.dr_facts.proofs.Ends.{ends-wider}
+use Rattle.dr_flash.proofs.TurnLemmas.{refused-by}
+use Rattle.dr_gcopy.proofs.SendLemmas.{same-server}
 use Rattle.dr_metro.specs.Here.{here, rest_of}
 use Rattle.dr_metro.specs.Mirroring.{settle_entries, store_entries}
 use Rattle.dr_metro.proofs.LandLemmas.{told-through}
-use Rattle.dr_metro.proofs.RouteLemmas.{carried-track, same-bytes, runs-still}
+use Rattle.dr_metro.proofs.RouteLemmas.{same-bytes, runs-still}
 use Rattle.dr_metro.proofs.mirroring.store_and_land.Goals as goal
+use Rattle.dr_gcopy.proofs.PairChecks.{servers-apart}
+use Rattle.dr_logic.proofs.Results.{err-always}
+use Rattle.dr_flash.proofs.MoveLemmas.{stored-track}
 
 pub returns-in_err-mirror-clause-carried : goal.returns-in_err-mirror-clause-carried
 returns-in_err-mirror-clause-carried g c xs =
@@ -67,7 +70,7 @@ keep_and_land-requires-clause-running g c =
     let ev = c.args.j.now.events in
     let m = g.P.Plant.state c.mirror.new.p in
     let mid = c.mirror.new.j.events in
-    runs-still s m t c.args.m.from.0 c.in_ok-mirror.ensures.on (ap (λ (x : Volume). x.server) (c.in_ok-mirror.ensures.others c.args.m.from.0 (other-volume s t c.args.m.from.0 c.args.m.to.0 c.requires.two_servers)).volume) c.requires.running
+    runs-still s m t c.args.m.from.0 c.in_ok-mirror.ensures.on (ap (λ (x : Volume). x.server) (c.in_ok-mirror.ensures.others c.args.m.from.0 (servers-apart s t c.args.m.from.0 c.args.m.to.0 c.requires.two_servers)).volume) c.requires.running
 
 pub keep_and_land-requires-clause-primary : goal.keep_and_land-requires-clause-primary
 keep_and_land-requires-clause-primary g c =
@@ -77,7 +80,7 @@ keep_and_land-requires-clause-primary g c =
     let ev = c.args.j.now.events in
     let m = g.P.Plant.state c.mirror.new.p in
     let mid = c.mirror.new.j.events in
-    ap (λ (x : Volume). is_part x.fields.primary) (c.in_ok-mirror.ensures.others c.args.m.from.0 (other-volume s t c.args.m.from.0 c.args.m.to.0 c.requires.two_servers)).volume ∙ c.requires.primary
+    ap (λ (x : Volume). is_part x.fields.primary) (c.in_ok-mirror.ensures.others c.args.m.from.0 (servers-apart s t c.args.m.from.0 c.args.m.to.0 c.requires.two_servers)).volume ∙ c.requires.primary
 
 pub keep_and_land-requires-clause-within : goal.keep_and_land-requires-clause-within
 keep_and_land-requires-clause-within g c =
@@ -87,7 +90,7 @@ keep_and_land-requires-clause-within g c =
     let ev = c.args.j.now.events in
     let m = g.P.Plant.state c.mirror.new.p in
     let mid = c.mirror.new.j.events in
-    subst (λ (x : Volume). c.args.m.track < x.tracks) (sym (c.in_ok-mirror.ensures.others c.args.m.from.0 (other-volume s t c.args.m.from.0 c.args.m.to.0 c.requires.two_servers)).volume) c.requires.within
+    subst (λ (x : Volume). c.args.m.track < x.tracks) (sym (c.in_ok-mirror.ensures.others c.args.m.from.0 (servers-apart s t c.args.m.from.0 c.args.m.to.0 c.requires.two_servers)).volume) c.requires.within
 
 pub keep_and_land-requires-clause-bytes : goal.keep_and_land-requires-clause-bytes
 keep_and_land-requires-clause-bytes g c =
@@ -97,7 +100,7 @@ keep_and_land-requires-clause-bytes g c =
     let ev = c.args.j.now.events in
     let m = g.P.Plant.state c.mirror.new.p in
     let mid = c.mirror.new.j.events in
-    same-bytes (armed_in s) s m t [] h ev mid (now (Mirror c.args.m.to.0 c.args.m.track c.args.m.from.0 c.args.m.write.0) ∷ []) None c.args.m.from.0 c.args.m.track c.args.m.write.0 c.args.bytes.now (c.in_ok-mirror.ensures.carried (rest_of [] h ev)) (ap (λ (z : ℕ → List ℕ). z c.args.m.track) (c.in_ok-mirror.ensures.others c.args.m.from.0 (other-volume s t c.args.m.from.0 c.args.m.to.0 c.requires.two_servers)).tracks) c.requires.bytes
+    same-bytes (armed_in s) s m t [] h ev mid (now (Mirror c.args.m.to.0 c.args.m.track c.args.m.from.0 c.args.m.write.0) ∷ []) None c.args.m.from.0 c.args.m.track c.args.m.write.0 c.args.bytes.now (c.in_ok-mirror.ensures.carried (rest_of [] h ev)) (ap (λ (z : ℕ → List ℕ). z c.args.m.track) (c.in_ok-mirror.ensures.others c.args.m.from.0 (servers-apart s t c.args.m.from.0 c.args.m.to.0 c.requires.two_servers)).tracks) c.requires.bytes
 
 pub returns-clause-carried : goal.returns-clause-carried
 returns-clause-carried g c xs =
@@ -142,4 +145,4 @@ keep_and_land-requires-clause-stored g c =
     let ev = c.args.j.now.events in
     let m = g.P.Plant.state c.mirror.new.p in
     let mid = c.mirror.new.j.events in
-    carried-track s m t c.args.m.to.0 c.args.m.track (mirrored (volume_seen s t c.args.m.to.0).fields c.args.m.track) c.args.bytes.now c.in_ok-mirror.ensures.moved
+    stored-track s m t c.args.m.to.0 c.args.m.track (mirrored (volume_seen s t c.args.m.to.0).fields c.args.m.track) c.args.bytes.now c.in_ok-mirror.ensures.moved

@@ -7,14 +7,15 @@ use Rattle.dr_model.specs.WriteEntries.{land_mirrored}
 use Rattle.dr_volume.specs.View.{ids_of}
 use Rattle.dr_flash.specs.Here.{armed_in, refusal_of}
 use Rattle.dr_flash.proofs.CopyLemmas.{wider-armed}
-use Rattle.dr_flash.proofs.EndsLemmas.{ends-wider}
+use Rattle.dr_facts.proofs.Ends.{ends-wider}
 use Rattle.dr_flash.proofs.TurnLemmas.{refused-by}
-use Rattle.dr_gcopy.proofs.SendLemmas.{other-volume, same-server, same-tracks}
+use Rattle.dr_gcopy.proofs.SendLemmas.{same-server, same-tracks}
 use Rattle.dr_metro.specs.Here.{here, rest_of}
 use Rattle.dr_metro.specs.Mirroring.{mirror_entries}
 use Rattle.dr_metro.proofs.LandLemmas.{told-through}
 use Rattle.dr_metro.proofs.RouteLemmas.{runs-still, mirrored-is}
 use Rattle.dr_metro.proofs.mirroring.write_both.Goals as goal
+use Rattle.dr_gcopy.proofs.PairChecks.{servers-apart}
 
 pub returns-in_err-unsync-clause-carried : goal.returns-in_err-unsync-clause-carried
 returns-in_err-unsync-clause-carried g c xs =
@@ -55,7 +56,7 @@ read_and_mirror-requires-clause-reached g c =
     let ev = c.args.j.now.events in
     let m = g.P.Plant.state c.unsync.new.p in
     let mid = c.unsync.new.j.events in
-    runs-still s m t c.args.u.0 c.in_ok-unsync.ensures.on (ap (λ (x : Volume). x.server) (c.in_ok-unsync.ensures.others c.args.u.0 (λ e. other-volume s t c.args.w.now.volume.0 c.args.u.0 c.requires.two_servers (sym e))).volume) c.requires.reached
+    runs-still s m t c.args.u.0 c.in_ok-unsync.ensures.on (ap (λ (x : Volume). x.server) (c.in_ok-unsync.ensures.others c.args.u.0 (λ e. servers-apart s t c.args.w.now.volume.0 c.args.u.0 c.requires.two_servers (sym e))).volume) c.requires.reached
 
 pub read_and_mirror-requires-clause-two_servers : goal.read_and_mirror-requires-clause-two_servers
 read_and_mirror-requires-clause-two_servers g c =

@@ -2,7 +2,7 @@ use Rattle.std.proofs.Common.{sym, subst, Some}
 use Rattle.std.specs.Prelude.{if◌then◌else◌}
 use Rattle.dr_model.specs.PairEntries.{suspend_after}
 use Rattle.dr_model.specs.WriteEntries.{part_after}
-use Rattle.dr_flash.specs.Here.{seen, armed_in}
+use Rattle.dr_flash.specs.Here.{world_seen, armed_in}
 use Rattle.dr_gcopy.specs.Followed.{Follows}
 use Rattle.dr_metro.proofs.parting.follow_write.Goals as goal
 
@@ -11,11 +11,11 @@ returns-then-collided-clause-follows g c r =
     let s = g.P.Plant.state c.args.p.now in
     let t = c.args.c.now in
     let u = g.P.Plant.state c.follow_stop.new.p in
-    subst (λ b. Follows (armed_in s) (seen s t r c.args.j.now.events) (Some c.args.why) (λ q. if b then suspend_after c.args.v.0 q else part_after c.args.v.0 q) (seen u t r c.follow_stop.new.j.events)) (sym c.if-collided.true) (c.follow_stop.ensures.follows r)
+    subst (λ b. Follows (armed_in s) (world_seen s t r c.args.j.now.events) (Some c.args.why) (λ q. if b then suspend_after c.args.v.0 q else part_after c.args.v.0 q) (world_seen u t r c.follow_stop.new.j.events)) (sym c.if-collided.true) (c.follow_stop.ensures.follows r)
 
 pub returns-clause-follows : goal.returns-clause-follows
 returns-clause-follows g c r =
     let s = g.P.Plant.state c.args.p.now in
     let t = c.args.c.now in
     let u = g.P.Plant.state c.follow_part.new.p in
-    subst (λ b. Follows (armed_in s) (seen s t r c.args.j.now.events) (Some c.args.why) (λ q. if b then suspend_after c.args.v.0 q else part_after c.args.v.0 q) (seen u t r c.follow_part.new.j.events)) (sym c.if-collided.false) (c.follow_part.ensures.follows r)
+    subst (λ b. Follows (armed_in s) (world_seen s t r c.args.j.now.events) (Some c.args.why) (λ q. if b then suspend_after c.args.v.0 q else part_after c.args.v.0 q) (world_seen u t r c.follow_part.new.j.events)) (sym c.if-collided.false) (c.follow_part.ensures.follows r)

@@ -1,21 +1,21 @@
 use Rattle.std.proofs.Common.{ap, sym, subst, refl, ◌∙◌, Some, map}
+use Rattle.dr_logic.specs.Counts.{Counted}
 use Rattle.dr_model.specs.Refusals.{server_off}
 use Rattle.dr_model.specs.Histories.{histories}
 use Rattle.dr_model.specs.ReadStops.{Ends}
 use Rattle.dr_model.specs.WriteEntries.{land_entries, landing}
 use Rattle.dr_host.specs.Writes.{Writes}
-use Rattle.dr_host.specs.Seen.{seen}
+use Rattle.dr_host.specs.Seen.{pending_seen}
 use Rattle.dr_host.proofs.Seen.{seen-without}
 use Rattle.dr_host.proofs.Each.{each-without}
 use Rattle.dr_volume.specs.View.{on_seen}
-use Rattle.dr_flash.specs.Faults.{Counted}
 use Rattle.dr_flash.specs.Here.{armed_in, refusal_of}
-use Rattle.dr_flash.proofs.CheckLemmas.{on-low}
 use Rattle.dr_metro.specs.Here.{here, rest_of, IsTold}
 use Rattle.dr_metro.proofs.RouteLemmas.{some-found}
 use Rattle.dr_metro.proofs.SyncLemmas.{counted-stops, write-off, write-passes, write-drops}
 use Rattle.dr_metro.proofs.ToldLemmas.{IsWrite}
 use Rattle.dr_metro.proofs.sync.carry_write.Goals as goal
+use Rattle.dr_volume.proofs.WorldLaws.{on-seen}
 
 pub returns-then-not-is_on-clause-carried : goal.returns-then-not-is_on-clause-carried
 returns-then-not-is_on-clause-carried g c xs =
@@ -26,7 +26,7 @@ returns-then-not-is_on-clause-carried g c xs =
     let w = c.args.w.now in
     let v = w.volume.0 in
     let k = (here s t xs h ev).control in
-    let on = ap (on_seen s) (c.server_of-server.ensures.seen s) ∙ on-low s c.server_of-server.result.0 c.server_of-server.ensures.known ∙ sym c.is_on.ensures in
+    let on = ap (on_seen s) (c.server_of-server.ensures.seen s) ∙ on-seen s c.server_of-server.result.0 c.server_of-server.ensures.known ∙ sym c.is_on.ensures in
     subst (λ n. Ends (armed_in s) (here s t xs h ev) (Some (server_off n)) (here s t xs h ev) (landing k w.w.0 v w.track)) (c.server_of-server.ensures.seen s)
     (write-off (armed_in s) (here s t xs h ev) w.w.0 v (land_entries k w.w.0 v w.track) (on ∙ c.if-not-is_on.true))
 
@@ -39,11 +39,11 @@ returns-in-Some-clause-carried g c xs =
     let w = c.args.w.now in
     let v = w.volume.0 in
     let k = (here s t xs h ev).control in
-    let on = ap (on_seen s) (c.server_of-server.ensures.seen s) ∙ on-low s c.server_of-server.result.0 c.server_of-server.ensures.known ∙ sym c.is_on.ensures in
+    let on = ap (on_seen s) (c.server_of-server.ensures.seen s) ∙ on-seen s c.server_of-server.result.0 c.server_of-server.ensures.known ∙ sym c.is_on.ensures in
     let why = c.in-Some.why in
     let gone = c.finish.ensures in
     subst (λ x. Ends (armed_in s) x (Some why) (here s t xs h ev) (landing k w.w.0 v w.track))
-    (λ i. record (here s t xs h ev) { control = record k { issued = (sym (ap (λ (x : Writes). x.issued) gone) i); pending = (sym (seen-without w.w.0 h.pending) ∙ ap (λ (x : Writes). map seen x.pending) (sym gone)) i } })
+    (λ i. record (here s t xs h ev) { control = record k { issued = (sym (ap (λ (x : Writes). x.issued) gone) i); pending = (sym (seen-without w.w.0 h.pending) ∙ ap (λ (x : Writes). map pending_seen x.pending) (sym gone)) i } })
     (write-drops (armed_in s) (here s t xs h ev) w.w.0 v why (land_entries k w.w.0 v w.track) (on ∙ c.if-not-is_on.false) (sym (c.in-Some.ensures.refusal (rest_of xs h ev) ev)))
 
 pub returns-in-Some-clause-told : goal.returns-in-Some-clause-told
@@ -95,7 +95,7 @@ returns-clause-carried g c xs =
     let w = c.args.w.now in
     let v = w.volume.0 in
     let k = (here s t xs h ev).control in
-    let on = ap (on_seen s) (c.server_of-server.ensures.seen s) ∙ on-low s c.server_of-server.result.0 c.server_of-server.ensures.known ∙ sym c.is_on.ensures in
+    let on = ap (on_seen s) (c.server_of-server.ensures.seen s) ∙ on-seen s c.server_of-server.result.0 c.server_of-server.ensures.known ∙ sym c.is_on.ensures in
     let x = here (g.P.Plant.state c.place_write.new.p) t xs c.place_write.new.h c.place_write.new.j.events in
     write-passes (armed_in s) (here s t xs h ev) w.w.0 v x (refusal_of c.place_write.result) (land_entries k w.w.0 v w.track) (on ∙ c.if-not-is_on.false) (sym (c.in_default.ensures.refusal (rest_of xs h ev) ev)) (c.place_write.ensures.carried xs)
 

@@ -1,7 +1,7 @@
 use Rattle.std.proofs.Common.{◌≡◌, ◌≢◌, true, false, ◌&&◌, ◌||◌, [], ap, sym, subst, refl, ◌∙◌, None}
-use Rattle.std.specs.Prelude.{is_some, OnOk, IsSome}
+use Rattle.std.specs.Prelude.{is_some, OnOk, IsSome, if◌then◌else◌}
 use Rattle.std.specs.Result.{IfOk}
-use Rattle.std.specs.Prelude.{if◌then◌else◌}
+use Rattle.std.proofs.lemmas.Bool.{and_parts}
 use Rattle.dr_config.specs.Table.{place_of}
 use Rattle.dr_model.specs.Layout.{Fields}
 use Rattle.dr_model.specs.Entries.{land_alone}
@@ -11,13 +11,14 @@ use Rattle.dr_model.specs.ReadStops.{Ends}
 use Rattle.dr_model.specs.WriteEntries.{is_grouped, is_parted, land_parted, land_mirrored}
 use Rattle.dr_volume.specs.View.{ids_of, volume_seen}
 use Rattle.dr_flash.specs.Here.{armed_in, refusal_of}
-use Rattle.dr_flash.proofs.EndsLemmas.{ends-none}
+use Rattle.dr_facts.proofs.Ends.{ends-none}
 use Rattle.dr_metro.specs.declared.sync.WriteEnd.{WriteEnd}
 use Rattle.dr_metro.specs.Here.{here}
 use Rattle.dr_metro.specs.Mirroring.{Mirrors}
 use Rattle.dr_metro.specs.Syncing.{over_entries, collided_entries, end_of}
-use Rattle.dr_metro.proofs.SyncLemmas.{nothing-mirrored, metro-part, over-metro, global-part, global-metro, collides-global, ok-given}
+use Rattle.dr_metro.proofs.SyncLemmas.{nothing-mirrored, collides-global, ok-given}
 use Rattle.dr_metro.proofs.sync.place_write.Goals as goal
+use Rattle.dr_facts.proofs.Parts.{global-part, metro-part, global_metro}
 
 pub returns-then-is_held-clause-carried : goal.returns-then-is_held-clause-carried
 returns-then-is_held-clause-carried g c xs =
@@ -86,7 +87,7 @@ write_over-requires-clause-primary g c =
     let collided = collided_entries ids w.w.0 v w.track f.primary_partner in
     let late = (if collides f w.track then collided else alone) in
     let goes : goes_over f w.track ≡ true = ap (λ (x : Fields). goes_over x w.track) (sym shows) ∙ sym c.goes_over.ensures ∙ c.if-goes_over.true in
-    let metro : is_metro f.primary ≡ true = over-metro (is_metro f.primary) _ goes in
+    let metro : is_metro f.primary ≡ true = (and_parts (is_metro f.primary) _ goes).0 in
     let to = ap (λ (x : Fields). x.primary_partner) shows in
     metro-part f.primary metro
 
@@ -107,7 +108,7 @@ write_over-requires-clause-to g c =
     let collided = collided_entries ids w.w.0 v w.track f.primary_partner in
     let late = (if collides f w.track then collided else alone) in
     let goes : goes_over f w.track ≡ true = ap (λ (x : Fields). goes_over x w.track) (sym shows) ∙ sym c.goes_over.ensures ∙ c.if-goes_over.true in
-    let metro : is_metro f.primary ≡ true = over-metro (is_metro f.primary) _ goes in
+    let metro : is_metro f.primary ≡ true = (and_parts (is_metro f.primary) _ goes).0 in
     let to = ap (λ (x : Fields). x.primary_partner) shows in
     subst (λ q. IsSome (place_of t q)) (sym to) (c.requires.to (metro-part f.primary metro))
 
@@ -128,7 +129,7 @@ write_over-requires-clause-two_servers g c =
     let collided = collided_entries ids w.w.0 v w.track f.primary_partner in
     let late = (if collides f w.track then collided else alone) in
     let goes : goes_over f w.track ≡ true = ap (λ (x : Fields). goes_over x w.track) (sym shows) ∙ sym c.goes_over.ensures ∙ c.if-goes_over.true in
-    let metro : is_metro f.primary ≡ true = over-metro (is_metro f.primary) _ goes in
+    let metro : is_metro f.primary ≡ true = (and_parts (is_metro f.primary) _ goes).0 in
     let to = ap (λ (x : Fields). x.primary_partner) shows in
     subst (λ q. (volume_seen s t v).server ≢ (volume_seen s t q).server) (sym to) (c.requires.two_servers (metro-part f.primary metro))
 
@@ -149,7 +150,7 @@ write_over-requires-clause-size g c =
     let collided = collided_entries ids w.w.0 v w.track f.primary_partner in
     let late = (if collides f w.track then collided else alone) in
     let goes : goes_over f w.track ≡ true = ap (λ (x : Fields). goes_over x w.track) (sym shows) ∙ sym c.goes_over.ensures ∙ c.if-goes_over.true in
-    let metro : is_metro f.primary ≡ true = over-metro (is_metro f.primary) _ goes in
+    let metro : is_metro f.primary ≡ true = (and_parts (is_metro f.primary) _ goes).0 in
     let to = ap (λ (x : Fields). x.primary_partner) shows in
     subst (λ q. (volume_seen s t q).tracks ≡ (volume_seen s t v).tracks) (sym to) (c.requires.size (metro-part f.primary metro))
 
@@ -332,7 +333,7 @@ returns-then-collides-clause-mirrors g c =
     let f = (volume_seen s t v).fields in
     let shows = c.peek_fields-fields.ensures.fields in
     let meets : collides f w.track ≡ true = ap (λ (x : Fields). collides x w.track) (sym shows) ∙ sym c.collides.ensures ∙ c.if-collides.true in
-    λ metro. global-metro f.primary (collides-global f.primary _ meets) metro
+    λ metro. global_metro f.primary (collides-global f.primary _ meets) metro
 
 pub returns-clause-carried : goal.returns-clause-carried
 returns-clause-carried g c xs =

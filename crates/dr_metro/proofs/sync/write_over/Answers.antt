@@ -10,8 +10,9 @@ use Rattle.dr_flash.proofs.TurnLemmas.{ok-along}
 use Rattle.dr_metro.specs.declared.sync.WriteEnd.{WriteEnd}
 use Rattle.dr_metro.specs.Here.{here, rest_of}
 use Rattle.dr_metro.specs.Syncing.{parted_entries, over_entries, end_of}
-use Rattle.dr_metro.proofs.SyncLemmas.{nothing-active, none-gives}
+use Rattle.dr_metro.proofs.SyncLemmas.{none-gives}
 use Rattle.dr_metro.proofs.sync.write_over.Goals as goal
+use Rattle.dr_logic.proofs.Truth.{false_true}
 
 pub returns-then-is_some-clause-carried : goal.returns-then-is_some-clause-carried
 returns-then-is_some-clause-carried g c xs =
@@ -52,7 +53,7 @@ returns-then-is_some-clause-mirrors g c =
     let ev = c.args.j.now.events in
     let w = c.args.w.now in
     let v = w.volume.0 in
-    ok-along c.write_parted.result c.write_parted.ensures.suspended (λ is in_sync active. nothing-active _ is active)
+    ok-along c.write_parted.result c.write_parted.ensures.suspended (λ is in_sync active. (false_true active is))
 
 pub write_both-requires-clause-reached : goal.write_both-requires-clause-reached
 write_both-requires-clause-reached g c =

@@ -11,7 +11,7 @@ use Rattle.dr_volume.specs.View.{ids_of, volume_seen}
 use Rattle.dr_flash.specs.Checks.{is_stop}
 use Rattle.dr_flash.specs.Here.{armed_in, refusal_of}
 use Rattle.dr_flash.proofs.CopyLemmas.{wider-armed}
-use Rattle.dr_flash.proofs.EndsLemmas.{ends-none, ends-wider}
+use Rattle.dr_facts.proofs.Ends.{ends-none, ends-wider}
 use Rattle.dr_flash.proofs.TurnLemmas.{ok-along}
 use Rattle.dr_metro.specs.declared.sync.WriteEnd.{WriteEnd}
 use Rattle.dr_metro.specs.Here.{here, rest_of}

@@ -1,5 +1,4 @@
-use Rattle.std.proofs.Common.{◌≡◌, ◌-◌, ◌+◌, ◌<◌, ap, sym, ◌∙◌, arith}
-use Rattle.std.proofs.Common.{length}
+use Rattle.std.proofs.Common.{◌≡◌, ◌-◌, ◌+◌, ◌<◌, ap, sym, ◌∙◌, arith, length}
 use Rattle.dr_model.specs.Histories.{Histories}
 use Rattle.dr_model.proofs.Asking.{tracks-back, histories-none}
 use Rattle.dr_model.proofs.image.tracks_before.Goals as goal

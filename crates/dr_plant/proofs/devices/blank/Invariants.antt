@@ -1,5 +1,5 @@
 use Rattle.std.proofs.Common.{◌≡◌, replicate}
-use Rattle.dr_plant.specs.State.{zeros}
+use Rattle.dr_logic.specs.Bytes.{zeros}
 use Rattle.dr_plant.proofs.devices.blank.Given as goal
 
 abbrev pub invariant-loop-i : goal.invariant-loop-i

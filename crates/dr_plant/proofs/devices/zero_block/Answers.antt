@@ -1,5 +1,5 @@
 use Rattle.std.proofs.Common.{refl}
-use Rattle.dr_plant.specs.State.{zeros}
+use Rattle.dr_logic.specs.Bytes.{zeros}
 use Rattle.dr_plant.proofs.devices.zero_block.Goals as goal
 
 pub returns : goal.returns

@@ -1,10 +1,10 @@
 use Rattle.std.proofs.Common.{ap, sym, None, Some, ◌==◌}
 use Rattle.dr_ids.specs.declared.names.Member.{Member}
-use Rattle.dr_model.specs.Layout.{Fields}
+use Rattle.dr_volume.specs.declared.head.Head.{Head}
 use Rattle.dr_model.specs.RecoveryPlans.{settle_on}
 use Rattle.dr_model.specs.Sessions.{session_in, members_in}
 use Rattle.dr_volume.specs.View.{volume_seen}
-use Rattle.dr_flash.specs.Here.{seen, armed_in}
+use Rattle.dr_flash.specs.Here.{world_seen, armed_in}
 use Rattle.dr_flash.proofs.CheckLemmas.{counted-stop, only-stops, act-ends}
 use Rattle.dr_gmirror.specs.Orders.{with_sessions}
 use Rattle.dr_recover.specs.Outcomes.{lets_by}
@@ -18,7 +18,7 @@ returns-in_default-clause-carried g c r =
     let s0 = g.P.Plant.state c.args.p.now in
     let t = c.args.c.now in
     let q = with_sessions c.args.ss.now.sessions r in
-    let w = seen s0 t q c.args.j.now.events in
+    let w = world_seen s0 t q c.args.j.now.events in
     act-none (armed_in s0) w (lets_by c.args.commit) c.args.source.0 c.relation_state.result (c.in_default.ensures.target q c.args.j.now.events) (c.relation_state.ensures.refusal q c.args.j.now.events)
 
 pub returns-in_default-member_with-clause-carried : goal.returns-in_default-member_with-clause-carried
@@ -26,47 +26,47 @@ returns-in_default-member_with-clause-carried g c r =
     let s0 = g.P.Plant.state c.args.p.now in
     let t = c.args.c.now in
     let q = with_sessions c.args.ss.now.sessions r in
-    let w = seen s0 t q c.args.j.now.events in
+    let w = world_seen s0 t q c.args.j.now.events in
     let why = c.relation_state-in_default-member_with.result in
-    act-by (armed_in s0) w (lets_by c.args.commit) c.args.source.0 c.in-Some.t.0 c.peek_fields.result.session None w _ (c.in-Some.ensures.target q c.args.j.now.events) (ap (λ (f : Fields). f.session) c.peek_fields.ensures.fields) c.in_default-member_with.ensures
+    act-by (armed_in s0) w (lets_by c.args.commit) c.args.source.0 c.in-Some.t.0 c.peek_head.result.session None w _ (c.in-Some.ensures.target q c.args.j.now.events) (ap (λ (f : Head). f.session) c.peek_head.ensures) c.in_default-member_with.ensures
     (stands-so (armed_in s0) w (lets_by c.args.commit) c.args.source.0 why (c.relation_state-in_default-member_with.ensures.refusal q c.args.j.now.events))
 
 pub decide_over-decided-requires-clause-members : goal.decide_over-decided-requires-clause-members
-decide_over-decided-requires-clause-members g c = c.requires.members c.peek_fields.result.session
+decide_over-decided-requires-clause-members g c = c.requires.members c.peek_head.result.session
 
 pub settle_refusal-requires-clause-members : goal.settle_refusal-requires-clause-members
-settle_refusal-requires-clause-members g c = c.requires.members c.peek_fields.result.session
+settle_refusal-requires-clause-members g c = c.requires.members c.peek_head.result.session
 
 pub returns-in-Some-settle_refusal-clause-carried : goal.returns-in-Some-settle_refusal-clause-carried
 returns-in-Some-settle_refusal-clause-carried g c r =
     let s0 = g.P.Plant.state c.args.p.now in
     let t = c.args.c.now in
     let q = with_sessions c.args.ss.now.sessions r in
-    let w = seen s0 t q c.args.j.now.events in
-    act-by (armed_in s0) w (lets_by c.args.commit) c.args.source.0 c.in-Some.t.0 c.peek_fields.result.session (Some c.in-Some-member_with.m) w _ (c.in-Some.ensures.target q c.args.j.now.events) (ap (λ (f : Fields). f.session) c.peek_fields.ensures.fields) c.in-Some-member_with.ensures
-    (act-refused (armed_in s0) w (lets_by c.args.commit) c.args.source.0 c.peek_fields.result.session c.in-Some-member_with.m c.decide_over-decided.result (c.decide_over-decided.ensures.decides q c.args.j.now.events) c.in-Some-settle_refusal.why (c.in-Some-settle_refusal.ensures.refusal q c.args.j.now.events))
+    let w = world_seen s0 t q c.args.j.now.events in
+    act-by (armed_in s0) w (lets_by c.args.commit) c.args.source.0 c.in-Some.t.0 c.peek_head.result.session (Some c.in-Some-member_with.m) w _ (c.in-Some.ensures.target q c.args.j.now.events) (ap (λ (f : Head). f.session) c.peek_head.ensures) c.in-Some-member_with.ensures
+    (act-refused (armed_in s0) w (lets_by c.args.commit) c.args.source.0 c.peek_head.result.session c.in-Some-member_with.m c.decide_over-decided.result (c.decide_over-decided.ensures.decides q c.args.j.now.events) c.in-Some-settle_refusal.why (c.in-Some-settle_refusal.ensures.refusal q c.args.j.now.events))
 
 pub settle_member-requires-clause-target : goal.settle_member-requires-clause-target
 settle_member-requires-clause-target g c =
-    let at = found-at (λ (m : Member). m.c.0 == c.in-Some.t.0) (members_in (session_in c.args.ss.now.sessions c.peek_fields.result.session)) c.in-Some-member_with.m (sym c.in-Some-member_with.ensures) in
-    (c.requires.members c.peek_fields.result.session at.0 c.in-Some-member_with.m at.1).target
+    let at = found-at (λ (m : Member). m.c.0 == c.in-Some.t.0) (members_in (session_in c.args.ss.now.sessions c.peek_head.result.session)) c.in-Some-member_with.m (sym c.in-Some-member_with.ensures) in
+    (c.requires.members c.peek_head.result.session at.0 c.in-Some-member_with.m at.1).target
 
 pub settle_member-requires-clause-running : goal.settle_member-requires-clause-running
 settle_member-requires-clause-running g c =
-    let ms = members_in (session_in c.args.ss.now.sessions c.peek_fields.result.session) in
+    let ms = members_in (session_in c.args.ss.now.sessions c.peek_head.result.session) in
     let at = found-at (λ (m : Member). m.c.0 == c.in-Some.t.0) ms c.in-Some-member_with.m (sym c.in-Some-member_with.ensures) in
-    target-running (g.P.Plant.state c.args.p.now) c.args.c.now ms (c.requires.members c.peek_fields.result.session) c.in_default-settle_refusal.ensures.running at.0 c.in-Some-member_with.m at.1
+    target-running (g.P.Plant.state c.args.p.now) c.args.c.now ms (c.requires.members c.peek_head.result.session) c.in_default-settle_refusal.ensures.running at.0 c.in-Some-member_with.m at.1
 
 pub returns-clause-carried : goal.returns-clause-carried
 returns-clause-carried g c r =
     let s0 = g.P.Plant.state c.args.p.now in
     let t = c.args.c.now in
     let q = with_sessions c.args.ss.now.sessions r in
-    let w = seen s0 t q c.args.j.now.events in
-    let u = seen (g.P.Plant.state c.settle_member.new.p) t q c.settle_member.new.j.events in
-    act-by (armed_in s0) w (lets_by c.args.commit) c.args.source.0 c.in-Some.t.0 c.peek_fields.result.session (Some c.in-Some-member_with.m) u _ (c.in-Some.ensures.target q c.args.j.now.events) (ap (λ (f : Fields). f.session) c.peek_fields.ensures.fields) c.in-Some-member_with.ensures
-    (act-done (armed_in s0) w (lets_by c.args.commit) c.args.source.0 c.peek_fields.result.session c.in-Some-member_with.m c.decide_over-decided.result (c.decide_over-decided.ensures.decides q c.args.j.now.events) u c.settle_member.result (c.in_default-settle_refusal.ensures.refusal q c.args.j.now.events)
-    (act-ends c.settle_member.result (armed_in s0) (λ r. seen s0 t r c.args.j.now.events) (λ r. seen (g.P.Plant.state c.settle_member.new.p) t r c.settle_member.new.j.events) (settle_on c.peek_fields.result.session c.decide_over-decided.result c.in-Some-member_with.m) c.settle_member.ensures.advances c.settle_member.ensures.halts q))
+    let w = world_seen s0 t q c.args.j.now.events in
+    let u = world_seen (g.P.Plant.state c.settle_member.new.p) t q c.settle_member.new.j.events in
+    act-by (armed_in s0) w (lets_by c.args.commit) c.args.source.0 c.in-Some.t.0 c.peek_head.result.session (Some c.in-Some-member_with.m) u _ (c.in-Some.ensures.target q c.args.j.now.events) (ap (λ (f : Head). f.session) c.peek_head.ensures) c.in-Some-member_with.ensures
+    (act-done (armed_in s0) w (lets_by c.args.commit) c.args.source.0 c.peek_head.result.session c.in-Some-member_with.m c.decide_over-decided.result (c.decide_over-decided.ensures.decides q c.args.j.now.events) u c.settle_member.result (c.in_default-settle_refusal.ensures.refusal q c.args.j.now.events)
+    (act-ends c.settle_member.result (armed_in s0) (λ r. world_seen s0 t r c.args.j.now.events) (λ r. world_seen (g.P.Plant.state c.settle_member.new.p) t r c.settle_member.new.j.events) (settle_on c.peek_head.result.session c.decide_over-decided.result c.in-Some-member_with.m) c.settle_member.ensures.advances c.settle_member.ensures.halts q))
 
 pub returns-clause-unchanged : goal.returns-clause-unchanged
 returns-clause-unchanged g c calm =

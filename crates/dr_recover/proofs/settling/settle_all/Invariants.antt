@@ -3,7 +3,7 @@ use Rattle.dr_model.specs.RecoveryPlans.{settle_on}
 use Rattle.dr_model.specs.Sessions.{session_in, members_in}
 use Rattle.dr_volume.specs.View.{Rest}
 use Rattle.dr_flash.specs.Fit.{RelationsFit}
-use Rattle.dr_flash.specs.Here.{seen, IsAtRest}
+use Rattle.dr_flash.specs.Here.{world_seen, IsAtRest}
 use Rattle.dr_flash.specs.Turns.{Leads}
 use Rattle.dr_coord.specs.Aside.{AsideFits}
 use Rattle.dr_recover.proofs.settling.settle_all.Given as goal
@@ -11,7 +11,7 @@ use Rattle.dr_recover.proofs.settling.settle_all.Given as goal
 abbrev pub invariant-loop-at : goal.invariant-loop-at
 invariant-loop-at g l = record {
   -- the members so far have led here
-  led : (r : Rest) → Leads (seen (g.P.Plant.state l.fn.p) l.c r l.fn.j.events) (map (settle_on l.s.0 l.decided) (take l.at (members_in (session_in l.ss.sessions l.s.0)))) (seen (g.P.Plant.state l.p) l.c r l.j.events);
+  led : (r : Rest) → Leads (world_seen (g.P.Plant.state l.fn.p) l.c r l.fn.j.events) (map (settle_on l.s.0 l.decided) (take l.at (members_in (session_in l.ss.sessions l.s.0)))) (world_seen (g.P.Plant.state l.p) l.c r l.j.events);
   rest : IsAtRest (g.P.Plant.state l.p) l.c;
   fit : RelationsFit (g.P.Plant.state l.p) l.c;
   aside : AsideFits (g.P.Plant.state l.p) l.c;

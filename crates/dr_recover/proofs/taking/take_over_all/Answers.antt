@@ -2,13 +2,14 @@ use Rattle.std.proofs.Common.{◌≤◌, length, map, arith, ap, sym, subst, ◌
 use Rattle.dr_model.specs.RecoveryPlans.{take_over_on}
 use Rattle.dr_model.specs.Sessions.{session_in, members_in}
 use Rattle.dr_flash.specs.Checks.{is_stop}
-use Rattle.dr_flash.specs.Here.{seen, armed_in}
+use Rattle.dr_flash.specs.Here.{world_seen, armed_in}
 use Rattle.dr_flash.specs.Turns.{Leads, Fails}
 use Rattle.dr_flash.proofs.CopyLemmas.{wider-armed}
-use Rattle.dr_flash.proofs.TurnLemmas.{err-always, refused-by}
+use Rattle.dr_flash.proofs.TurnLemmas.{refused-by}
 use Rattle.dr_gmirror.proofs.OrderLemmas.{member-all}
 use Rattle.dr_recover.proofs.EachLemmas.{each-next, each-fails, all-running}
 use Rattle.dr_recover.proofs.taking.take_over_all.Goals as goal
+use Rattle.dr_logic.proofs.Results.{err-always}
 
 pub take_over_member-requires-clause-secondary : goal.take_over_member-requires-clause-secondary
 take_over_member-requires-clause-secondary g c = (c.requires.members c.loop-at.at c.unwrap-m.result (sym c.member_at.ensures.value ∙ c.unwrap-m.ensures)).secondary
@@ -36,10 +37,10 @@ returns-in_err-take_over_member-clause-fails g c =
     let ms = members_in (session_in c.args.ss.now.sessions c.args.s.0) in
     let e = c.in_err-take_over_member.field-0.0 in
     err-always c.from_residual.result (λ r.
-    let w = seen s0 t r c.args.j.now.events in
-    let u = seen (g.P.Plant.state c.take_over_member.new.p) t r c.take_over_member.new.j.events in
+    let w = world_seen s0 t r c.args.j.now.events in
+    let u = world_seen (g.P.Plant.state c.take_over_member.new.p) t r c.take_over_member.new.j.events in
     subst (λ q. Fails (armed_in s0) w (map take_over_on ms) u q) (sym (refused-by c.from_residual.result e c.from_residual.ensures.0 c.from_residual.ensures.1))
-    (each-fails take_over_on (armed_in s) (armed_in s0) (wider-armed s0 s c.loop-at.invariant.unarmed) w (seen s t r c.loop-at.j.events) u (Some e) ms c.loop-at.at c.unwrap-m.result
+    (each-fails take_over_on (armed_in s) (armed_in s0) (wider-armed s0 s c.loop-at.invariant.unarmed) w (world_seen s t r c.loop-at.j.events) u (Some e) ms c.loop-at.at c.unwrap-m.result
     (sym (sym c.member_at.ensures.value ∙ c.unwrap-m.ensures)) (c.loop-at.invariant.led r) (c.in_err-take_over_member.ensures.halts r)))
 
 pub returns-in_err-take_over_member-clause-stops : goal.returns-in_err-take_over_member-clause-stops
@@ -58,7 +59,7 @@ loop-at-preserved g c =
     let t = c.args.c.now in
     let ms = members_in (session_in c.args.ss.now.sessions c.args.s.0) in
     record {
-      led = λ r. each-next take_over_on (seen s0 t r c.args.j.now.events) (seen s t r c.loop-at.j.events) (seen u t r c.take_over_member.new.j.events)
+      led = λ r. each-next take_over_on (world_seen s0 t r c.args.j.now.events) (world_seen s t r c.loop-at.j.events) (world_seen u t r c.take_over_member.new.j.events)
           ms c.loop-at.at c.unwrap-m.result (sym (sym c.member_at.ensures.value ∙ c.unwrap-m.ensures)) (c.loop-at.invariant.led r) (c.in_ok-take_over_member.ensures.advances r);
       rest = c.in_ok-take_over_member.ensures.rest;
       fit = c.in_ok-take_over_member.ensures.fit;
@@ -75,4 +76,4 @@ returns-clause-leads g c r =
     let t = c.args.c.now in
     let ms = members_in (session_in c.args.ss.now.sessions c.args.s.0) in
     let all : length ms ≤ c.loop-at.at = let e = c.member_count-at-end.ensures in let f = c.loop-at-test.false in omega (arith, e, f) in
-    subst (λ xs. Leads (seen (g.P.Plant.state c.args.p.now) t r c.args.j.now.events) (map take_over_on xs) (seen (g.P.Plant.state c.loop-at.p) t r c.loop-at.j.events)) (member-all ms c.loop-at.at all) (c.loop-at.invariant.led r)
+    subst (λ xs. Leads (world_seen (g.P.Plant.state c.args.p.now) t r c.args.j.now.events) (map take_over_on xs) (world_seen (g.P.Plant.state c.loop-at.p) t r c.loop-at.j.events)) (member-all ms c.loop-at.at all) (c.loop-at.invariant.led r)

@@ -1,40 +1,40 @@
 use Rattle.std.proofs.Common.{ap, sym, ◌∙◌}
 use Rattle.dr_model.specs.Carry.{now}
-use Rattle.dr_model.specs.Layout.{Fields, is_part}
+use Rattle.dr_model.specs.Layout.{is_part}
+use Rattle.dr_volume.specs.declared.head.Head.{Head}
 use Rattle.dr_model.specs.Moves.{TakeOver}
 use Rattle.dr_model.specs.Pairs.{taken_over}
 use Rattle.dr_model.specs.RecoveryPlans.{take_over_on}
 use Rattle.dr_volume.specs.View.{volume_seen}
-use Rattle.dr_flash.specs.Here.{seen, armed_in, refusal_of}
+use Rattle.dr_flash.specs.Here.{world_seen, armed_in, refusal_of}
 use Rattle.dr_flash.proofs.TurnLemmas.{ok-along, err-along}
-use Rattle.dr_coord.proofs.ActLemmas.{passes}
 use Rattle.dr_coord.proofs.AsideLemmas.{aside-after}
-use Rattle.dr_coord.proofs.HoldLemmas.{advances-alike, halts-alike}
 use Rattle.dr_recover.proofs.MemberLemmas.{take-skips, take-comes, taken-aside}
 use Rattle.dr_recover.proofs.taking.take_over_member.Goals as goal
+use Rattle.dr_flash.proofs.KeepLemmas.{alike-advances, alike-halts, skips}
 
 pub returns-then-not-is_part-clause-advances : goal.returns-then-not-is_part-clause-advances
 returns-then-not-is_part-clause-advances g c r =
     let s = g.P.Plant.state c.args.p.now in
     let t = c.args.c.now in
-    passes (seen s t r c.args.j.now.events) (take_over_on c.args.m.now) (take-skips s t r c.args.j.now.events c.args.m.now
-    (sym (c.is_part.ensures ∙ ap (λ (f : Fields). is_part f.secondary) c.peek_fields.ensures.fields) ∙ c.if-not-is_part.true))
+    skips (world_seen s t r c.args.j.now.events) (take_over_on c.args.m.now) (take-skips s t r c.args.j.now.events c.args.m.now
+    (sym (c.is_part.ensures ∙ ap (λ (f : Head). is_part f.secondary) c.peek_head.ensures) ∙ c.if-not-is_part.true))
 
 pub returns-clause-advances : goal.returns-clause-advances
 returns-clause-advances g c =
     let s = g.P.Plant.state c.args.p.now in
     let t = c.args.c.now in
     ok-along c.take_over.result c.take_over.ensures.advances (λ goes r.
-    advances-alike (seen s t r c.args.j.now.events) (seen (g.P.Plant.state c.take_over.new.p) t r c.take_over.new.j.events) (take_over_on c.args.m.now) (now (TakeOver c.args.m.now.b.0))
-    (take-comes s t r c.args.j.now.events c.args.m.now (sym (c.is_part.ensures ∙ ap (λ (f : Fields). is_part f.secondary) c.peek_fields.ensures.fields) ∙ c.if-not-is_part.false)) (goes r))
+    alike-advances (world_seen s t r c.args.j.now.events) (world_seen (g.P.Plant.state c.take_over.new.p) t r c.take_over.new.j.events) (take_over_on c.args.m.now) (now (TakeOver c.args.m.now.b.0))
+    (take-comes s t r c.args.j.now.events c.args.m.now (sym (c.is_part.ensures ∙ ap (λ (f : Head). is_part f.secondary) c.peek_head.ensures) ∙ c.if-not-is_part.false)) (goes r))
 
 pub returns-clause-halts : goal.returns-clause-halts
 returns-clause-halts g c =
     let s = g.P.Plant.state c.args.p.now in
     let t = c.args.c.now in
     err-along c.take_over.result c.take_over.ensures.halts c.take_over.ensures.halts (λ ends _ r.
-    halts-alike (armed_in s) (seen s t r c.args.j.now.events) (seen (g.P.Plant.state c.take_over.new.p) t r c.take_over.new.j.events) (refusal_of c.take_over.result) (take_over_on c.args.m.now) (now (TakeOver c.args.m.now.b.0))
-    (take-comes s t r c.args.j.now.events c.args.m.now (sym (c.is_part.ensures ∙ ap (λ (f : Fields). is_part f.secondary) c.peek_fields.ensures.fields) ∙ c.if-not-is_part.false)) (ends r))
+    alike-halts (armed_in s) (world_seen s t r c.args.j.now.events) (world_seen (g.P.Plant.state c.take_over.new.p) t r c.take_over.new.j.events) (refusal_of c.take_over.result) (take_over_on c.args.m.now) (now (TakeOver c.args.m.now.b.0))
+    (take-comes s t r c.args.j.now.events c.args.m.now (sym (c.is_part.ensures ∙ ap (λ (f : Head). is_part f.secondary) c.peek_head.ensures) ∙ c.if-not-is_part.false)) (ends r))
 
 pub returns-clause-aside : goal.returns-clause-aside
 returns-clause-aside g c =

@@ -4,14 +4,14 @@ use Rattle.dr_ids.specs.declared.refusal.Refusal.{Refusal}
 use Rattle.dr_model.specs.Entries.{relation_state}
 use Rattle.dr_model.specs.SessionEntries.{is_flashed, is_committed}
 use Rattle.dr_volume.specs.View.{volume_seen}
-use Rattle.dr_flash.specs.Here.{seen}
+use Rattle.dr_flash.specs.Here.{world_seen}
 use Rattle.dr_revert.proofs.checks.commit_refusal.Goals as goal
 
 pub returns-clause-refusal : goal.returns-clause-refusal
 returns-clause-refusal g c r events =
     let s = g.P.Plant.state c.args.p.now in
     let f = (volume_seen s c.args.c.now c.args.t.0).fields in
-    let k = (seen s c.args.c.now r events).control in
+    let k = (world_seen s c.args.c.now r events).control in
     let committed : is_committed c.args.n f ≡ false = ap (is_committed c.args.n) (sym c.peek_fields-f.ensures.fields) ∙ sym c.if-is_committed.ensures in
     let flashed : is_flashed c.args.n f ≡ false = ap (is_flashed c.args.n) (sym c.peek_fields-f.ensures.fields) ∙ sym c.if-is_flashed.ensures in
     ap (λ (e : Refusal). Some e) (c.relation_state.ensures.refusal r events)

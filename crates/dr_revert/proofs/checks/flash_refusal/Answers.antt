@@ -5,7 +5,7 @@ use Rattle.dr_ids.specs.declared.refusal.Refusal.TheVariants.{Stale, Unsealed}
 use Rattle.dr_model.specs.Entries.{relation_state}
 use Rattle.dr_model.specs.SessionEntries.{is_flashed, may_flash}
 use Rattle.dr_volume.specs.View.{volume_seen}
-use Rattle.dr_flash.specs.Here.{seen}
+use Rattle.dr_flash.specs.Here.{world_seen}
 use Rattle.dr_revert.proofs.checks.flash_refusal.Goals as goal
 
 pub returns-then-not-may_flash-clause-refusal : goal.returns-then-not-may_flash-clause-refusal
@@ -13,7 +13,7 @@ returns-then-not-may_flash-clause-refusal g c r events =
     let s = g.P.Plant.state c.args.p.now in
     let f = (volume_seen s c.args.c.now c.args.t.0).fields in
     let b = (volume_seen s c.args.c.now c.args.b.0).fields in
-    let k = (seen s c.args.c.now r events).control in
+    let k = (world_seen s c.args.c.now r events).control in
     let flashed : is_flashed c.args.n f ≡ false = ap (is_flashed c.args.n) (sym c.peek_fields-f.ensures.fields) ∙ sym c.if-is_flashed.ensures in
     let may : may_flash c.args.b.0 f ≡ false = ap (may_flash c.args.b.0) (sym c.peek_fields-f.ensures.fields) ∙ sym c.if-not-may_flash.ensures in
     ap (λ (e : Refusal). Some e) (c.relation_state.ensures.refusal r events)

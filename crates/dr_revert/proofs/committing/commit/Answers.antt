@@ -1,5 +1,6 @@
 use Rattle.std.proofs.Common.{ℕ, ◌≡◌, true, false, refl, ap, sym, subst, ◌∙◌, [], ◌∷◌, None, Some}
 use Rattle.std.specs.Prelude.{if◌then◌else◌, IfSome}
+use Rattle.std.proofs.lemmas.Bool.{and_parts}
 use Rattle.dr_model.specs.Layout.{Fields}
 use Rattle.dr_model.specs.Lawful.{IsLawful}
 use Rattle.dr_model.specs.PairEntries.{refuse_if, send_refusal}
@@ -7,7 +8,7 @@ use Rattle.dr_model.specs.SessionEntries.{is_committed, commit_refusal, commit_o
 use Rattle.dr_volume.specs.Plain.{plain}
 use Rattle.dr_volume.specs.Update.{IsMoved}
 use Rattle.dr_volume.specs.View.{volume_seen}
-use Rattle.dr_flash.specs.Here.{seen, armed_in, refusal_of}
+use Rattle.dr_flash.specs.Here.{world_seen, armed_in, refusal_of}
 use Rattle.dr_flash.specs.Views.{view_seen}
 use Rattle.dr_flash.proofs.CheckLemmas.{counted-stop, only-stops}
 use Rattle.dr_flash.proofs.TurnLemmas.{ok-along, err-along}
@@ -15,7 +16,7 @@ use Rattle.dr_gcopy.proofs.TwoMoves.{ends-by}
 use Rattle.dr_revert.specs.declared.fates.Fate.{Fate}
 use Rattle.dr_revert.specs.declared.fates.Fate.TheVariants as fate
 use Rattle.dr_revert.specs.Fates.{may_become, fields_after}
-use Rattle.dr_revert.proofs.EntryLemmas.{check-refuses, check-leads, check-fails, alone-leads, alone-fails, unless-some, some-unless, none-unless, commit-next, and-first, or-left}
+use Rattle.dr_revert.proofs.EntryLemmas.{check-refuses, check-leads, check-fails, alone-leads, alone-fails, unless-some, some-unless, none-unless, commit-next, or-left}
 use Rattle.dr_revert.proofs.ViewLaws.{commit-keeps, revertible-related, same-view}
 use Rattle.dr_revert.proofs.committing.commit.Goals as goal
 
@@ -23,7 +24,7 @@ pub returns-in-Some-clause-fails : goal.returns-in-Some-clause-fails
 returns-in-Some-clause-fails g c r =
     let s = g.P.Plant.state c.args.p.now in
     let t = c.args.c.now in
-    check-refuses (seen s t r c.args.j.now.events) (send_refusal c.args.m.now.a.0 c.args.m.now.b.0) (refuse_if (commit_refusal c.args.m.now.c.0 c.args.n) ∷ (commit_on c.args.s.0 c.args.m.now.a.0 c.args.m.now.c.0 c.args.n) ∷ []) c.in-Some.why (c.in-Some.ensures.refusal r c.args.j.now.events) (armed_in s)
+    check-refuses (world_seen s t r c.args.j.now.events) (send_refusal c.args.m.now.a.0 c.args.m.now.b.0) (refuse_if (commit_refusal c.args.m.now.c.0 c.args.n) ∷ (commit_on c.args.s.0 c.args.m.now.a.0 c.args.m.now.c.0 c.args.n) ∷ []) c.in-Some.why (c.in-Some.ensures.refusal r c.args.j.now.events) (armed_in s)
 
 pub returns-in-Some-clause-carried : goal.returns-in-Some-clause-carried
 returns-in-Some-clause-carried g c r = returns-in-Some-clause-fails g c r []
@@ -32,8 +33,8 @@ pub returns-in-Some-commit_refusal-clause-fails : goal.returns-in-Some-commit_re
 returns-in-Some-commit_refusal-clause-fails g c r =
     let s = g.P.Plant.state c.args.p.now in
     let t = c.args.c.now in
-    check-fails (seen s t r c.args.j.now.events) (send_refusal c.args.m.now.a.0 c.args.m.now.b.0) (refuse_if (commit_refusal c.args.m.now.c.0 c.args.n) ∷ (commit_on c.args.s.0 c.args.m.now.a.0 c.args.m.now.c.0 c.args.n) ∷ []) (c.in_default.ensures.refusal r c.args.j.now.events) (armed_in s) (seen s t r c.args.j.now.events) (Some c.in-Some-commit_refusal.why)
-    (check-refuses (seen s t r c.args.j.now.events) (commit_refusal c.args.m.now.c.0 c.args.n) ((commit_on c.args.s.0 c.args.m.now.a.0 c.args.m.now.c.0 c.args.n) ∷ []) c.in-Some-commit_refusal.why (c.in-Some-commit_refusal.ensures.refusal r c.args.j.now.events) (armed_in s))
+    check-fails (world_seen s t r c.args.j.now.events) (send_refusal c.args.m.now.a.0 c.args.m.now.b.0) (refuse_if (commit_refusal c.args.m.now.c.0 c.args.n) ∷ (commit_on c.args.s.0 c.args.m.now.a.0 c.args.m.now.c.0 c.args.n) ∷ []) (c.in_default.ensures.refusal r c.args.j.now.events) (armed_in s) (world_seen s t r c.args.j.now.events) (Some c.in-Some-commit_refusal.why)
+    (check-refuses (world_seen s t r c.args.j.now.events) (commit_refusal c.args.m.now.c.0 c.args.n) ((commit_on c.args.s.0 c.args.m.now.a.0 c.args.m.now.c.0 c.args.n) ∷ []) c.in-Some-commit_refusal.why (c.in-Some-commit_refusal.ensures.refusal r c.args.j.now.events) (armed_in s))
 
 pub returns-in-Some-commit_refusal-clause-carried : goal.returns-in-Some-commit_refusal-clause-carried
 returns-in-Some-commit_refusal-clause-carried g c r = returns-in-Some-commit_refusal-clause-fails g c r []
@@ -43,24 +44,24 @@ returns-clause-leads g c =
     let s = g.P.Plant.state c.args.p.now in
     let t = c.args.c.now in
     ok-along c.turn_target.result c.turn_target.ensures.advances (λ goes r.
-    check-leads (seen s t r c.args.j.now.events) (send_refusal c.args.m.now.a.0 c.args.m.now.b.0) (refuse_if (commit_refusal c.args.m.now.c.0 c.args.n) ∷ (commit_on c.args.s.0 c.args.m.now.a.0 c.args.m.now.c.0 c.args.n) ∷ []) (c.in_default.ensures.refusal r c.args.j.now.events) (seen (g.P.Plant.state c.turn_target.new.p) t r c.turn_target.new.j.events)
-    (check-leads (seen s t r c.args.j.now.events) (commit_refusal c.args.m.now.c.0 c.args.n) ((commit_on c.args.s.0 c.args.m.now.a.0 c.args.m.now.c.0 c.args.n) ∷ []) (c.in_default-commit_refusal.ensures.refusal r c.args.j.now.events) (seen (g.P.Plant.state c.turn_target.new.p) t r c.turn_target.new.j.events)
-    (alone-leads (seen s t r c.args.j.now.events) (seen (g.P.Plant.state c.turn_target.new.p) t r c.turn_target.new.j.events) (commit_on c.args.s.0 c.args.m.now.a.0 c.args.m.now.c.0 c.args.n) (goes r (commit_on c.args.s.0 c.args.m.now.a.0 c.args.m.now.c.0 c.args.n) (commit-next s t r c.args.j.now.events c.args.m.now c.args.s c.args.n c.commit_fate-fate.result (plain c.peek_fields.result) c.peek_fields.ensures.fields c.commit_fate-fate.ensures)))))
+    check-leads (world_seen s t r c.args.j.now.events) (send_refusal c.args.m.now.a.0 c.args.m.now.b.0) (refuse_if (commit_refusal c.args.m.now.c.0 c.args.n) ∷ (commit_on c.args.s.0 c.args.m.now.a.0 c.args.m.now.c.0 c.args.n) ∷ []) (c.in_default.ensures.refusal r c.args.j.now.events) (world_seen (g.P.Plant.state c.turn_target.new.p) t r c.turn_target.new.j.events)
+    (check-leads (world_seen s t r c.args.j.now.events) (commit_refusal c.args.m.now.c.0 c.args.n) ((commit_on c.args.s.0 c.args.m.now.a.0 c.args.m.now.c.0 c.args.n) ∷ []) (c.in_default-commit_refusal.ensures.refusal r c.args.j.now.events) (world_seen (g.P.Plant.state c.turn_target.new.p) t r c.turn_target.new.j.events)
+    (alone-leads (world_seen s t r c.args.j.now.events) (world_seen (g.P.Plant.state c.turn_target.new.p) t r c.turn_target.new.j.events) (commit_on c.args.s.0 c.args.m.now.a.0 c.args.m.now.c.0 c.args.n) (goes r (commit_on c.args.s.0 c.args.m.now.a.0 c.args.m.now.c.0 c.args.n) (commit-next s t r c.args.j.now.events c.args.m.now c.args.s c.args.n c.commit_fate-fate.result (plain c.peek_fields.result) c.peek_fields.ensures.fields c.commit_fate-fate.ensures)))))
 
 pub returns-clause-fails : goal.returns-clause-fails
 returns-clause-fails g c =
     let s = g.P.Plant.state c.args.p.now in
     let t = c.args.c.now in
     err-along c.turn_target.result c.turn_target.ensures.halts c.turn_target.ensures.halts (λ ends _ r.
-    check-fails (seen s t r c.args.j.now.events) (send_refusal c.args.m.now.a.0 c.args.m.now.b.0) (refuse_if (commit_refusal c.args.m.now.c.0 c.args.n) ∷ (commit_on c.args.s.0 c.args.m.now.a.0 c.args.m.now.c.0 c.args.n) ∷ []) (c.in_default.ensures.refusal r c.args.j.now.events) (armed_in s) (seen (g.P.Plant.state c.turn_target.new.p) t r c.turn_target.new.j.events) (refusal_of c.turn_target.result)
-    (check-fails (seen s t r c.args.j.now.events) (commit_refusal c.args.m.now.c.0 c.args.n) ((commit_on c.args.s.0 c.args.m.now.a.0 c.args.m.now.c.0 c.args.n) ∷ []) (c.in_default-commit_refusal.ensures.refusal r c.args.j.now.events) (armed_in s) (seen (g.P.Plant.state c.turn_target.new.p) t r c.turn_target.new.j.events) (refusal_of c.turn_target.result)
-    (alone-fails (armed_in s) (seen s t r c.args.j.now.events) (seen (g.P.Plant.state c.turn_target.new.p) t r c.turn_target.new.j.events) (refusal_of c.turn_target.result) (commit_on c.args.s.0 c.args.m.now.a.0 c.args.m.now.c.0 c.args.n) (ends r (commit_on c.args.s.0 c.args.m.now.a.0 c.args.m.now.c.0 c.args.n) (commit-next s t r c.args.j.now.events c.args.m.now c.args.s c.args.n c.commit_fate-fate.result (plain c.peek_fields.result) c.peek_fields.ensures.fields c.commit_fate-fate.ensures)))))
+    check-fails (world_seen s t r c.args.j.now.events) (send_refusal c.args.m.now.a.0 c.args.m.now.b.0) (refuse_if (commit_refusal c.args.m.now.c.0 c.args.n) ∷ (commit_on c.args.s.0 c.args.m.now.a.0 c.args.m.now.c.0 c.args.n) ∷ []) (c.in_default.ensures.refusal r c.args.j.now.events) (armed_in s) (world_seen (g.P.Plant.state c.turn_target.new.p) t r c.turn_target.new.j.events) (refusal_of c.turn_target.result)
+    (check-fails (world_seen s t r c.args.j.now.events) (commit_refusal c.args.m.now.c.0 c.args.n) ((commit_on c.args.s.0 c.args.m.now.a.0 c.args.m.now.c.0 c.args.n) ∷ []) (c.in_default-commit_refusal.ensures.refusal r c.args.j.now.events) (armed_in s) (world_seen (g.P.Plant.state c.turn_target.new.p) t r c.turn_target.new.j.events) (refusal_of c.turn_target.result)
+    (alone-fails (armed_in s) (world_seen s t r c.args.j.now.events) (world_seen (g.P.Plant.state c.turn_target.new.p) t r c.turn_target.new.j.events) (refusal_of c.turn_target.result) (commit_on c.args.s.0 c.args.m.now.a.0 c.args.m.now.c.0 c.args.n) (ends r (commit_on c.args.s.0 c.args.m.now.a.0 c.args.m.now.c.0 c.args.n) (commit-next s t r c.args.j.now.events c.args.m.now c.args.s c.args.n c.commit_fate-fate.result (plain c.peek_fields.result) c.peek_fields.ensures.fields c.commit_fate-fate.ensures)))))
 
 pub returns-clause-carried : goal.returns-clause-carried
 returns-clause-carried g c =
     let s = g.P.Plant.state c.args.p.now in
     let t = c.args.c.now in
-    ends-by c.turn_target.result (armed_in s) (λ r. (seen s t r c.args.j.now.events)) (λ r. (seen (g.P.Plant.state c.turn_target.new.p) t r c.turn_target.new.j.events)) (commit_entries c.args.s.0 c.args.m.now c.args.n) (returns-clause-leads g c) (returns-clause-fails g c)
+    ends-by c.turn_target.result (armed_in s) (λ r. (world_seen s t r c.args.j.now.events)) (λ r. (world_seen (g.P.Plant.state c.turn_target.new.p) t r c.turn_target.new.j.events)) (commit_entries c.args.s.0 c.args.m.now c.args.n) (returns-clause-leads g c) (returns-clause-fails g c)
 
 pub returns-clause-unchanged : goal.returns-clause-unchanged
 returns-clause-unchanged g c calm =
@@ -95,7 +96,7 @@ returns-clause-keeps_view g c =
     ok-along c.turn_target.result c.turn_target.ensures.moved (λ moved. elim (is_committed c.args.n f) as (λ b. is_committed c.args.n f ≡ b → (k : ℕ) → view_seen u t v k ≡ view_seen s t v k) [
       | true ↦ λ is. same-view s u t v (c.turn_target.ensures.same (c.commit_fate-fate.ensures ∙ ap (λ (f : Fields). if is_committed c.args.n f then None else Some (fate.Commit c.args.m.now.a c.args.s c.args.n)) c.peek_fields.ensures.fields ∙ none-unless (is_committed c.args.n f) (fate.Commit c.args.m.now.a c.args.s c.args.n) is))
       | false ↦ λ off.
-          let revertible = and-first f.revertible _ (or-left (is_committed c.args.n f) _ c.in_default-commit_refusal.ensures.may off) in
+          let revertible = (and_parts f.revertible _ (or-left (is_committed c.args.n f) _ c.in_default-commit_refusal.ensures.may off)).0 in
           let lawful = subst (λ (f : Fields). IsLawful (volume_seen s t v).tracks f) c.peek_fields.ensures.fields c.peek_fields.ensures.lawful in
           commit-keeps s u t v c.requires.fit (revertible-related (volume_seen s t v).tracks f lawful revertible) c.turn_target.ensures.others c.args.n
           (unless-some (λ (y : Fate). IsMoved s u t v (fields_after y f) None) (is_committed c.args.n f) (fate.Commit c.args.m.now.a c.args.s c.args.n) off
@@ -108,4 +109,4 @@ turn_target-requires-clause-may g c =
     let t = c.args.c.now in
     let f = (volume_seen s t c.args.m.now.c.0).fields in
     subst (λ o. IfSome o (λ (y : Fate). may_become y f ≡ true)) (sym (c.commit_fate-fate.ensures ∙ ap (λ (f : Fields). if is_committed c.args.n f then None else Some (fate.Commit c.args.m.now.a c.args.s c.args.n)) c.peek_fields.ensures.fields))
-    (some-unless (λ (y : Fate). may_become y f ≡ true) (is_committed c.args.n f) (fate.Commit c.args.m.now.a c.args.s c.args.n) (λ off. and-first f.revertible _ (or-left (is_committed c.args.n f) _ c.in_default-commit_refusal.ensures.may off)))
+    (some-unless (λ (y : Fate). may_become y f ≡ true) (is_committed c.args.n f) (fate.Commit c.args.m.now.a c.args.s c.args.n) (λ off. (and_parts f.revertible _ (or-left (is_committed c.args.n f) _ c.in_default-commit_refusal.ensures.may off)).0))

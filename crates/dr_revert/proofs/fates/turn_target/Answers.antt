@@ -3,24 +3,25 @@ use Rattle.dr_model.specs.Layout.{Fields}
 use Rattle.dr_model.specs.Lawful.{IsLawful}
 use Rattle.dr_volume.specs.Plain.{plain}
 use Rattle.dr_volume.specs.View.{volume_seen}
-use Rattle.dr_flash.specs.Here.{seen, refusal_of, armed_in}
+use Rattle.dr_flash.specs.Here.{world_seen, refusal_of, armed_in}
 use Rattle.dr_flash.specs.Told.{events_of}
 use Rattle.dr_flash.specs.Turns.{room_of}
 use Rattle.dr_flash.specs.declared.told.Told.{Told}
 use Rattle.dr_flash.specs.declared.told.Telling.{Telling}
 use Rattle.dr_flash.proofs.TurnLemmas.{ok-along, err-along}
 use Rattle.dr_coord.specs.Aside.{KeepsAside}
-use Rattle.dr_coord.proofs.ActLemmas.{passes, move-advances, move-halts}
+use Rattle.dr_coord.proofs.ActLemmas.{move-advances, move-halts}
 use Rattle.dr_coord.proofs.AsideLemmas.{aside-after}
 use Rattle.dr_revert.specs.declared.fates.Fate.{Fate}
 use Rattle.dr_revert.specs.Fates.{next_for, may_become, fields_after, move_of}
-use Rattle.dr_revert.proofs.EntryLemmas.{if-some}
 use Rattle.dr_revert.proofs.FateLemmas.{count_of, fate-aside, fate-fits, turn-from, count-is, count-low, room-is}
 use Rattle.dr_revert.proofs.fates.turn_target.Goals as goal
+use Rattle.dr_logic.proofs.Options.{if-some}
+use Rattle.dr_flash.proofs.KeepLemmas.{skips}
 
 pub returns-in_default-clause-advances : goal.returns-in_default-clause-advances
 returns-in_default-clause-advances g c r d is =
-    passes (seen (g.P.Plant.state c.args.p.now) c.args.c.now r c.args.j.now.events) d (is ∙ ap (next_for c.args.v.0) c.in_default.is)
+    skips (world_seen (g.P.Plant.state c.args.p.now) c.args.c.now r c.args.j.now.events) d (is ∙ ap (next_for c.args.v.0) c.in_default.is)
 
 pub shift-requires-clause-lawful : goal.shift-requires-clause-lawful
 shift-requires-clause-lawful g c =
@@ -43,9 +44,9 @@ returns-clause-advances g c =
     let s = g.P.Plant.state c.args.p.now in
     let t = c.args.c.now in
     ok-along c.shift.result c.shift.ensures.done (λ done r d is.
-    move-advances (seen s t r c.args.j.now.events) (seen (g.P.Plant.state c.shift.new.p) t r c.shift.new.j.events) d (move_of c.args.v.0 c.in-Some.y) (is ∙ ap (next_for c.args.v.0) c.in-Some.is)
+    move-advances (world_seen s t r c.args.j.now.events) (world_seen (g.P.Plant.state c.shift.new.p) t r c.shift.new.j.events) d (move_of c.args.v.0 c.in-Some.y) (is ∙ ap (next_for c.args.v.0) c.in-Some.is)
     (turn-from s t c.args.v.0 c.in-Some.y (plain c.fields_after-next.result) c.of.result c.requires.running (c.fields_after-next.ensures ∙ ap (fields_after c.in-Some.y) c.peek_fields.ensures.fields) (c.of.ensures ∙ ap (λ (d : Told). record { done = d; in_stop = d; landed = 0 }) c.told_of.ensures)
-    r c.args.j.now.events (seen (g.P.Plant.state c.shift.new.p) t r c.shift.new.j.events, None) (done r)))
+    r c.args.j.now.events (world_seen (g.P.Plant.state c.shift.new.p) t r c.shift.new.j.events, None) (done r)))
 
 pub returns-clause-halts : goal.returns-clause-halts
 returns-clause-halts g c =
@@ -53,11 +54,11 @@ returns-clause-halts g c =
     let t = c.args.c.now in
     let x = volume_seen s t c.args.v.0 in
     err-along c.shift.result c.shift.ensures.failed c.shift.ensures.refused (λ failed refused r d is.
-    move-halts (armed_in s) (seen s t r c.args.j.now.events) (seen (g.P.Plant.state c.shift.new.p) t r c.shift.new.j.events) (refusal_of c.shift.result) d (move_of c.args.v.0 c.in-Some.y) x.server (is ∙ ap (next_for c.args.v.0) c.in-Some.is) refused
+    move-halts (armed_in s) (world_seen s t r c.args.j.now.events) (world_seen (g.P.Plant.state c.shift.new.p) t r c.shift.new.j.events) (refusal_of c.shift.result) d (move_of c.args.v.0 c.in-Some.y) x.server (is ∙ ap (next_for c.args.v.0) c.in-Some.is) refused
     (elim (failed r) [
       | inl off ↦ inl off
       | inr made ↦ inr (turn-from s t c.args.v.0 c.in-Some.y (plain c.fields_after-next.result) c.of.result c.requires.running (c.fields_after-next.ensures ∙ ap (fields_after c.in-Some.y) c.peek_fields.ensures.fields) (c.of.ensures ∙ ap (λ (d : Told). record { done = d; in_stop = d; landed = 0 }) c.told_of.ensures)
-          r c.args.j.now.events (seen (g.P.Plant.state c.shift.new.p) t r c.shift.new.j.events, Some x.server) made)
+          r c.args.j.now.events (world_seen (g.P.Plant.state c.shift.new.p) t r c.shift.new.j.events, Some x.server) made)
     ]))
 
 pub returns-clause-aside : goal.returns-clause-aside

@@ -1,5 +1,6 @@
 use Rattle.std.proofs.Common.{ap, subst, ◌∙◌, [], ◌∷◌, None, Some}
 use Rattle.std.specs.Prelude.{if◌then◌else◌, IfSome}
+use Rattle.std.proofs.lemmas.Bool.{and_parts}
 use Rattle.dr_model.specs.Layout.{Fields}
 use Rattle.dr_model.specs.Entries.{copies_from}
 use Rattle.dr_model.specs.PairEntries.{refuse_if, send_refusal}
@@ -7,14 +8,14 @@ use Rattle.dr_model.specs.SessionEntries.{is_flashed, flash_refusal, flash_on, f
 use Rattle.dr_volume.specs.Plain.{plain}
 use Rattle.dr_volume.specs.Update.{IsMoved}
 use Rattle.dr_volume.specs.View.{volume_seen}
-use Rattle.dr_flash.specs.Here.{seen, armed_in, refusal_of}
+use Rattle.dr_flash.specs.Here.{world_seen, armed_in, refusal_of}
 use Rattle.dr_flash.proofs.CheckLemmas.{counted-stop, only-stops}
 use Rattle.dr_flash.proofs.TurnLemmas.{ok-along, err-along}
 use Rattle.dr_gcopy.proofs.TwoMoves.{ends-by}
 use Rattle.dr_revert.specs.declared.fates.Fate.{Fate}
 use Rattle.dr_revert.specs.declared.fates.Fate.TheVariants as fate
 use Rattle.dr_revert.specs.Fates.{fields_after}
-use Rattle.dr_revert.proofs.EntryLemmas.{check-refuses, check-leads, check-fails, alone-leads, alone-fails, unless-some, flash-next, and-first}
+use Rattle.dr_revert.proofs.EntryLemmas.{check-refuses, check-leads, check-fails, alone-leads, alone-fails, unless-some, flash-next}
 use Rattle.dr_revert.proofs.ViewLaws.{flash-keeps, flash-shows}
 use Rattle.dr_revert.proofs.flashing.flash.Goals as goal
 
@@ -22,7 +23,7 @@ pub returns-in-Some-clause-fails : goal.returns-in-Some-clause-fails
 returns-in-Some-clause-fails g c r =
     let s = g.P.Plant.state c.args.p.now in
     let t = c.args.c.now in
-    check-refuses (seen s t r c.args.j.now.events) (send_refusal c.args.m.now.a.0 c.args.m.now.b.0) (refuse_if (flash_refusal c.args.m.now.b.0 c.args.m.now.c.0 c.args.n) ∷ (flash_on c.args.s.0 c.args.m.now.a.0 c.args.m.now.b.0 c.args.m.now.c.0 c.args.n) ∷ []) c.in-Some.why (c.in-Some.ensures.refusal r c.args.j.now.events) (armed_in s)
+    check-refuses (world_seen s t r c.args.j.now.events) (send_refusal c.args.m.now.a.0 c.args.m.now.b.0) (refuse_if (flash_refusal c.args.m.now.b.0 c.args.m.now.c.0 c.args.n) ∷ (flash_on c.args.s.0 c.args.m.now.a.0 c.args.m.now.b.0 c.args.m.now.c.0 c.args.n) ∷ []) c.in-Some.why (c.in-Some.ensures.refusal r c.args.j.now.events) (armed_in s)
 
 pub returns-in-Some-clause-carried : goal.returns-in-Some-clause-carried
 returns-in-Some-clause-carried g c r = returns-in-Some-clause-fails g c r []
@@ -31,8 +32,8 @@ pub returns-in-Some-flash_refusal-clause-fails : goal.returns-in-Some-flash_refu
 returns-in-Some-flash_refusal-clause-fails g c r =
     let s = g.P.Plant.state c.args.p.now in
     let t = c.args.c.now in
-    check-fails (seen s t r c.args.j.now.events) (send_refusal c.args.m.now.a.0 c.args.m.now.b.0) (refuse_if (flash_refusal c.args.m.now.b.0 c.args.m.now.c.0 c.args.n) ∷ (flash_on c.args.s.0 c.args.m.now.a.0 c.args.m.now.b.0 c.args.m.now.c.0 c.args.n) ∷ []) (c.in_default.ensures.refusal r c.args.j.now.events) (armed_in s) (seen s t r c.args.j.now.events) (Some c.in-Some-flash_refusal.why)
-    (check-refuses (seen s t r c.args.j.now.events) (flash_refusal c.args.m.now.b.0 c.args.m.now.c.0 c.args.n) ((flash_on c.args.s.0 c.args.m.now.a.0 c.args.m.now.b.0 c.args.m.now.c.0 c.args.n) ∷ []) c.in-Some-flash_refusal.why (c.in-Some-flash_refusal.ensures.refusal r c.args.j.now.events) (armed_in s))
+    check-fails (world_seen s t r c.args.j.now.events) (send_refusal c.args.m.now.a.0 c.args.m.now.b.0) (refuse_if (flash_refusal c.args.m.now.b.0 c.args.m.now.c.0 c.args.n) ∷ (flash_on c.args.s.0 c.args.m.now.a.0 c.args.m.now.b.0 c.args.m.now.c.0 c.args.n) ∷ []) (c.in_default.ensures.refusal r c.args.j.now.events) (armed_in s) (world_seen s t r c.args.j.now.events) (Some c.in-Some-flash_refusal.why)
+    (check-refuses (world_seen s t r c.args.j.now.events) (flash_refusal c.args.m.now.b.0 c.args.m.now.c.0 c.args.n) ((flash_on c.args.s.0 c.args.m.now.a.0 c.args.m.now.b.0 c.args.m.now.c.0 c.args.n) ∷ []) c.in-Some-flash_refusal.why (c.in-Some-flash_refusal.ensures.refusal r c.args.j.now.events) (armed_in s))
 
 pub returns-in-Some-flash_refusal-clause-carried : goal.returns-in-Some-flash_refusal-clause-carried
 returns-in-Some-flash_refusal-clause-carried g c r = returns-in-Some-flash_refusal-clause-fails g c r []
@@ -42,24 +43,24 @@ returns-clause-leads g c =
     let s = g.P.Plant.state c.args.p.now in
     let t = c.args.c.now in
     ok-along c.turn_target.result c.turn_target.ensures.advances (λ goes r.
-    check-leads (seen s t r c.args.j.now.events) (send_refusal c.args.m.now.a.0 c.args.m.now.b.0) (refuse_if (flash_refusal c.args.m.now.b.0 c.args.m.now.c.0 c.args.n) ∷ (flash_on c.args.s.0 c.args.m.now.a.0 c.args.m.now.b.0 c.args.m.now.c.0 c.args.n) ∷ []) (c.in_default.ensures.refusal r c.args.j.now.events) (seen (g.P.Plant.state c.turn_target.new.p) t r c.turn_target.new.j.events)
-    (check-leads (seen s t r c.args.j.now.events) (flash_refusal c.args.m.now.b.0 c.args.m.now.c.0 c.args.n) ((flash_on c.args.s.0 c.args.m.now.a.0 c.args.m.now.b.0 c.args.m.now.c.0 c.args.n) ∷ []) (c.in_default-flash_refusal.ensures.refusal r c.args.j.now.events) (seen (g.P.Plant.state c.turn_target.new.p) t r c.turn_target.new.j.events)
-    (alone-leads (seen s t r c.args.j.now.events) (seen (g.P.Plant.state c.turn_target.new.p) t r c.turn_target.new.j.events) (flash_on c.args.s.0 c.args.m.now.a.0 c.args.m.now.b.0 c.args.m.now.c.0 c.args.n) (goes r (flash_on c.args.s.0 c.args.m.now.a.0 c.args.m.now.b.0 c.args.m.now.c.0 c.args.n) (flash-next s t r c.args.j.now.events c.args.m.now c.args.s c.args.n c.flash_fate-fate.result (plain c.peek_fields.result) c.peek_fields.ensures.fields c.flash_fate-fate.ensures)))))
+    check-leads (world_seen s t r c.args.j.now.events) (send_refusal c.args.m.now.a.0 c.args.m.now.b.0) (refuse_if (flash_refusal c.args.m.now.b.0 c.args.m.now.c.0 c.args.n) ∷ (flash_on c.args.s.0 c.args.m.now.a.0 c.args.m.now.b.0 c.args.m.now.c.0 c.args.n) ∷ []) (c.in_default.ensures.refusal r c.args.j.now.events) (world_seen (g.P.Plant.state c.turn_target.new.p) t r c.turn_target.new.j.events)
+    (check-leads (world_seen s t r c.args.j.now.events) (flash_refusal c.args.m.now.b.0 c.args.m.now.c.0 c.args.n) ((flash_on c.args.s.0 c.args.m.now.a.0 c.args.m.now.b.0 c.args.m.now.c.0 c.args.n) ∷ []) (c.in_default-flash_refusal.ensures.refusal r c.args.j.now.events) (world_seen (g.P.Plant.state c.turn_target.new.p) t r c.turn_target.new.j.events)
+    (alone-leads (world_seen s t r c.args.j.now.events) (world_seen (g.P.Plant.state c.turn_target.new.p) t r c.turn_target.new.j.events) (flash_on c.args.s.0 c.args.m.now.a.0 c.args.m.now.b.0 c.args.m.now.c.0 c.args.n) (goes r (flash_on c.args.s.0 c.args.m.now.a.0 c.args.m.now.b.0 c.args.m.now.c.0 c.args.n) (flash-next s t r c.args.j.now.events c.args.m.now c.args.s c.args.n c.flash_fate-fate.result (plain c.peek_fields.result) c.peek_fields.ensures.fields c.flash_fate-fate.ensures)))))
 
 pub returns-clause-fails : goal.returns-clause-fails
 returns-clause-fails g c =
     let s = g.P.Plant.state c.args.p.now in
     let t = c.args.c.now in
     err-along c.turn_target.result c.turn_target.ensures.halts c.turn_target.ensures.halts (λ ends _ r.
-    check-fails (seen s t r c.args.j.now.events) (send_refusal c.args.m.now.a.0 c.args.m.now.b.0) (refuse_if (flash_refusal c.args.m.now.b.0 c.args.m.now.c.0 c.args.n) ∷ (flash_on c.args.s.0 c.args.m.now.a.0 c.args.m.now.b.0 c.args.m.now.c.0 c.args.n) ∷ []) (c.in_default.ensures.refusal r c.args.j.now.events) (armed_in s) (seen (g.P.Plant.state c.turn_target.new.p) t r c.turn_target.new.j.events) (refusal_of c.turn_target.result)
-    (check-fails (seen s t r c.args.j.now.events) (flash_refusal c.args.m.now.b.0 c.args.m.now.c.0 c.args.n) ((flash_on c.args.s.0 c.args.m.now.a.0 c.args.m.now.b.0 c.args.m.now.c.0 c.args.n) ∷ []) (c.in_default-flash_refusal.ensures.refusal r c.args.j.now.events) (armed_in s) (seen (g.P.Plant.state c.turn_target.new.p) t r c.turn_target.new.j.events) (refusal_of c.turn_target.result)
-    (alone-fails (armed_in s) (seen s t r c.args.j.now.events) (seen (g.P.Plant.state c.turn_target.new.p) t r c.turn_target.new.j.events) (refusal_of c.turn_target.result) (flash_on c.args.s.0 c.args.m.now.a.0 c.args.m.now.b.0 c.args.m.now.c.0 c.args.n) (ends r (flash_on c.args.s.0 c.args.m.now.a.0 c.args.m.now.b.0 c.args.m.now.c.0 c.args.n) (flash-next s t r c.args.j.now.events c.args.m.now c.args.s c.args.n c.flash_fate-fate.result (plain c.peek_fields.result) c.peek_fields.ensures.fields c.flash_fate-fate.ensures)))))
+    check-fails (world_seen s t r c.args.j.now.events) (send_refusal c.args.m.now.a.0 c.args.m.now.b.0) (refuse_if (flash_refusal c.args.m.now.b.0 c.args.m.now.c.0 c.args.n) ∷ (flash_on c.args.s.0 c.args.m.now.a.0 c.args.m.now.b.0 c.args.m.now.c.0 c.args.n) ∷ []) (c.in_default.ensures.refusal r c.args.j.now.events) (armed_in s) (world_seen (g.P.Plant.state c.turn_target.new.p) t r c.turn_target.new.j.events) (refusal_of c.turn_target.result)
+    (check-fails (world_seen s t r c.args.j.now.events) (flash_refusal c.args.m.now.b.0 c.args.m.now.c.0 c.args.n) ((flash_on c.args.s.0 c.args.m.now.a.0 c.args.m.now.b.0 c.args.m.now.c.0 c.args.n) ∷ []) (c.in_default-flash_refusal.ensures.refusal r c.args.j.now.events) (armed_in s) (world_seen (g.P.Plant.state c.turn_target.new.p) t r c.turn_target.new.j.events) (refusal_of c.turn_target.result)
+    (alone-fails (armed_in s) (world_seen s t r c.args.j.now.events) (world_seen (g.P.Plant.state c.turn_target.new.p) t r c.turn_target.new.j.events) (refusal_of c.turn_target.result) (flash_on c.args.s.0 c.args.m.now.a.0 c.args.m.now.b.0 c.args.m.now.c.0 c.args.n) (ends r (flash_on c.args.s.0 c.args.m.now.a.0 c.args.m.now.b.0 c.args.m.now.c.0 c.args.n) (flash-next s t r c.args.j.now.events c.args.m.now c.args.s c.args.n c.flash_fate-fate.result (plain c.peek_fields.result) c.peek_fields.ensures.fields c.flash_fate-fate.ensures)))))
 
 pub returns-clause-carried : goal.returns-clause-carried
 returns-clause-carried g c =
     let s = g.P.Plant.state c.args.p.now in
     let t = c.args.c.now in
-    ends-by c.turn_target.result (armed_in s) (λ r. (seen s t r c.args.j.now.events)) (λ r. (seen (g.P.Plant.state c.turn_target.new.p) t r c.turn_target.new.j.events)) (flash_entries c.args.s.0 c.args.m.now c.args.n) (returns-clause-leads g c) (returns-clause-fails g c)
+    ends-by c.turn_target.result (armed_in s) (λ r. (world_seen s t r c.args.j.now.events)) (λ r. (world_seen (g.P.Plant.state c.turn_target.new.p) t r c.turn_target.new.j.events)) (flash_entries c.args.s.0 c.args.m.now c.args.n) (returns-clause-leads g c) (returns-clause-fails g c)
 
 pub returns-clause-unchanged : goal.returns-clause-unchanged
 returns-clause-unchanged g c calm =
@@ -93,7 +94,7 @@ returns-clause-shows_source g c =
     let f = (volume_seen s t v).fields in
     ok-along c.turn_target.result c.turn_target.ensures.moved (λ moved off holds k.
     let may = c.in_default-flash_refusal.ensures.may off in
-    flash-shows s u t v c.requires.fit (and-first f.related _ (and-first (copies_from c.args.m.now.b.0 f) _ may)) c.turn_target.ensures.others c.args.m.now.b.0 c.args.s.0 c.args.n
+    flash-shows s u t v c.requires.fit ((and_parts f.related _ ((and_parts (copies_from c.args.m.now.b.0 f) _ may).0)).0) c.turn_target.ensures.others c.args.m.now.b.0 c.args.s.0 c.args.n
     (unless-some (λ (y : Fate). IsMoved s u t v (fields_after y f) None) (is_flashed c.args.n f) (fate.Flash c.args.m.now.b c.args.m.now.a c.args.s c.args.n) off
     (subst (λ o. IfSome o (λ (y : Fate). IsMoved s u t v (fields_after y f) None)) (c.flash_fate-fate.ensures ∙ ap (λ (f : Fields). if is_flashed c.args.n f then None else Some (fate.Flash c.args.m.now.b c.args.m.now.a c.args.s c.args.n)) c.peek_fields.ensures.fields) moved))
     may holds k)
@@ -107,7 +108,7 @@ returns-clause-keeps_aside g c =
     let f = (volume_seen s t v).fields in
     ok-along c.turn_target.result c.turn_target.ensures.moved (λ moved off k.
     let may = c.in_default-flash_refusal.ensures.may off in
-    flash-keeps s u t v c.requires.fit (and-first f.related _ (and-first (copies_from c.args.m.now.b.0 f) _ may)) c.turn_target.ensures.others c.args.s.0 c.args.n
+    flash-keeps s u t v c.requires.fit ((and_parts f.related _ ((and_parts (copies_from c.args.m.now.b.0 f) _ may).0)).0) c.turn_target.ensures.others c.args.s.0 c.args.n
     (unless-some (λ (y : Fate). IsMoved s u t v (fields_after y f) None) (is_flashed c.args.n f) (fate.Flash c.args.m.now.b c.args.m.now.a c.args.s c.args.n) off
     (subst (λ o. IfSome o (λ (y : Fate). IsMoved s u t v (fields_after y f) None)) (c.flash_fate-fate.ensures ∙ ap (λ (f : Fields). if is_flashed c.args.n f then None else Some (fate.Flash c.args.m.now.b c.args.m.now.a c.args.s c.args.n)) c.peek_fields.ensures.fields) moved))
     k)

@@ -1,5 +1,6 @@
 use Rattle.std.proofs.Common.{◌≡◌, true, refl, ap, sym, subst, ◌∙◌, [], ◌∷◌, None, Some}
 use Rattle.std.specs.Prelude.{if◌then◌else◌, IfSome, nat_lt}
+use Rattle.std.proofs.lemmas.Bool.{and_parts}
 use Rattle.dr_model.specs.Layout.{Fields}
 use Rattle.dr_model.specs.Lawful.{IsLawful}
 use Rattle.dr_model.specs.PairEntries.{send_refusal}
@@ -7,14 +8,14 @@ use Rattle.dr_model.specs.SessionEntries.{is_flashed, revert_on, revert_entries}
 use Rattle.dr_volume.specs.Plain.{plain}
 use Rattle.dr_volume.specs.Update.{IsMoved}
 use Rattle.dr_volume.specs.View.{volume_seen}
-use Rattle.dr_flash.specs.Here.{seen, armed_in, refusal_of}
+use Rattle.dr_flash.specs.Here.{world_seen, armed_in, refusal_of}
 use Rattle.dr_flash.proofs.CheckLemmas.{counted-stop, only-stops}
 use Rattle.dr_flash.proofs.TurnLemmas.{ok-along, err-along}
 use Rattle.dr_gcopy.proofs.TwoMoves.{ends-by}
 use Rattle.dr_revert.specs.declared.fates.Fate.{Fate}
 use Rattle.dr_revert.specs.declared.fates.Fate.TheVariants as fate
 use Rattle.dr_revert.specs.Fates.{may_become, fields_after}
-use Rattle.dr_revert.proofs.EntryLemmas.{check-refuses, check-leads, check-fails, alone-leads, alone-fails, some-either, either-first, revert-next, and-first}
+use Rattle.dr_revert.proofs.EntryLemmas.{check-refuses, check-leads, check-fails, alone-leads, alone-fails, some-either, either-first, revert-next}
 use Rattle.dr_revert.proofs.ViewLaws.{revert-shows, revertible-related}
 use Rattle.dr_revert.proofs.reverting.revert.Goals as goal
 
@@ -22,7 +23,7 @@ pub returns-in-Some-clause-fails : goal.returns-in-Some-clause-fails
 returns-in-Some-clause-fails g c r =
     let s = g.P.Plant.state c.args.p.now in
     let t = c.args.c.now in
-    check-refuses (seen s t r c.args.j.now.events) (send_refusal c.args.m.now.a.0 c.args.m.now.b.0) ((revert_on c.args.s.0 c.args.m.now.a.0 c.args.m.now.c.0 c.args.n) ∷ []) c.in-Some.why (c.in-Some.ensures.refusal r c.args.j.now.events) (armed_in s)
+    check-refuses (world_seen s t r c.args.j.now.events) (send_refusal c.args.m.now.a.0 c.args.m.now.b.0) ((revert_on c.args.s.0 c.args.m.now.a.0 c.args.m.now.c.0 c.args.n) ∷ []) c.in-Some.why (c.in-Some.ensures.refusal r c.args.j.now.events) (armed_in s)
 
 pub returns-in-Some-clause-carried : goal.returns-in-Some-clause-carried
 returns-in-Some-clause-carried g c r = returns-in-Some-clause-fails g c r []
@@ -32,22 +33,22 @@ returns-clause-leads g c =
     let s = g.P.Plant.state c.args.p.now in
     let t = c.args.c.now in
     ok-along c.turn_target.result c.turn_target.ensures.advances (λ goes r.
-    check-leads (seen s t r c.args.j.now.events) (send_refusal c.args.m.now.a.0 c.args.m.now.b.0) ((revert_on c.args.s.0 c.args.m.now.a.0 c.args.m.now.c.0 c.args.n) ∷ []) (c.in_default.ensures.refusal r c.args.j.now.events) (seen (g.P.Plant.state c.turn_target.new.p) t r c.turn_target.new.j.events)
-    (alone-leads (seen s t r c.args.j.now.events) (seen (g.P.Plant.state c.turn_target.new.p) t r c.turn_target.new.j.events) (revert_on c.args.s.0 c.args.m.now.a.0 c.args.m.now.c.0 c.args.n) (goes r (revert_on c.args.s.0 c.args.m.now.a.0 c.args.m.now.c.0 c.args.n) (revert-next s t r c.args.j.now.events c.args.m.now c.args.s c.args.n c.revert_fate-fate.result (plain c.peek_fields.result) c.peek_fields.ensures.fields c.revert_fate-fate.ensures))))
+    check-leads (world_seen s t r c.args.j.now.events) (send_refusal c.args.m.now.a.0 c.args.m.now.b.0) ((revert_on c.args.s.0 c.args.m.now.a.0 c.args.m.now.c.0 c.args.n) ∷ []) (c.in_default.ensures.refusal r c.args.j.now.events) (world_seen (g.P.Plant.state c.turn_target.new.p) t r c.turn_target.new.j.events)
+    (alone-leads (world_seen s t r c.args.j.now.events) (world_seen (g.P.Plant.state c.turn_target.new.p) t r c.turn_target.new.j.events) (revert_on c.args.s.0 c.args.m.now.a.0 c.args.m.now.c.0 c.args.n) (goes r (revert_on c.args.s.0 c.args.m.now.a.0 c.args.m.now.c.0 c.args.n) (revert-next s t r c.args.j.now.events c.args.m.now c.args.s c.args.n c.revert_fate-fate.result (plain c.peek_fields.result) c.peek_fields.ensures.fields c.revert_fate-fate.ensures))))
 
 pub returns-clause-fails : goal.returns-clause-fails
 returns-clause-fails g c =
     let s = g.P.Plant.state c.args.p.now in
     let t = c.args.c.now in
     err-along c.turn_target.result c.turn_target.ensures.halts c.turn_target.ensures.halts (λ ends _ r.
-    check-fails (seen s t r c.args.j.now.events) (send_refusal c.args.m.now.a.0 c.args.m.now.b.0) ((revert_on c.args.s.0 c.args.m.now.a.0 c.args.m.now.c.0 c.args.n) ∷ []) (c.in_default.ensures.refusal r c.args.j.now.events) (armed_in s) (seen (g.P.Plant.state c.turn_target.new.p) t r c.turn_target.new.j.events) (refusal_of c.turn_target.result)
-    (alone-fails (armed_in s) (seen s t r c.args.j.now.events) (seen (g.P.Plant.state c.turn_target.new.p) t r c.turn_target.new.j.events) (refusal_of c.turn_target.result) (revert_on c.args.s.0 c.args.m.now.a.0 c.args.m.now.c.0 c.args.n) (ends r (revert_on c.args.s.0 c.args.m.now.a.0 c.args.m.now.c.0 c.args.n) (revert-next s t r c.args.j.now.events c.args.m.now c.args.s c.args.n c.revert_fate-fate.result (plain c.peek_fields.result) c.peek_fields.ensures.fields c.revert_fate-fate.ensures))))
+    check-fails (world_seen s t r c.args.j.now.events) (send_refusal c.args.m.now.a.0 c.args.m.now.b.0) ((revert_on c.args.s.0 c.args.m.now.a.0 c.args.m.now.c.0 c.args.n) ∷ []) (c.in_default.ensures.refusal r c.args.j.now.events) (armed_in s) (world_seen (g.P.Plant.state c.turn_target.new.p) t r c.turn_target.new.j.events) (refusal_of c.turn_target.result)
+    (alone-fails (armed_in s) (world_seen s t r c.args.j.now.events) (world_seen (g.P.Plant.state c.turn_target.new.p) t r c.turn_target.new.j.events) (refusal_of c.turn_target.result) (revert_on c.args.s.0 c.args.m.now.a.0 c.args.m.now.c.0 c.args.n) (ends r (revert_on c.args.s.0 c.args.m.now.a.0 c.args.m.now.c.0 c.args.n) (revert-next s t r c.args.j.now.events c.args.m.now c.args.s c.args.n c.revert_fate-fate.result (plain c.peek_fields.result) c.peek_fields.ensures.fields c.revert_fate-fate.ensures))))
 
 pub returns-clause-carried : goal.returns-clause-carried
 returns-clause-carried g c =
     let s = g.P.Plant.state c.args.p.now in
     let t = c.args.c.now in
-    ends-by c.turn_target.result (armed_in s) (λ r. (seen s t r c.args.j.now.events)) (λ r. (seen (g.P.Plant.state c.turn_target.new.p) t r c.turn_target.new.j.events)) (revert_entries c.args.s.0 c.args.m.now c.args.n) (returns-clause-leads g c) (returns-clause-fails g c)
+    ends-by c.turn_target.result (armed_in s) (λ r. (world_seen s t r c.args.j.now.events)) (λ r. (world_seen (g.P.Plant.state c.turn_target.new.p) t r c.turn_target.new.j.events)) (revert_entries c.args.s.0 c.args.m.now c.args.n) (returns-clause-leads g c) (returns-clause-fails g c)
 
 pub returns-clause-unchanged : goal.returns-clause-unchanged
 returns-clause-unchanged g c calm =
@@ -80,7 +81,7 @@ returns-clause-shows_aside g c =
     let v = c.args.m.now.c.0 in
     let f = (volume_seen s t v).fields in
     ok-along c.turn_target.result c.turn_target.ensures.moved (λ moved is.
-    let revertible = and-first f.revertible _ is in
+    let revertible = (and_parts f.revertible _ is).0 in
     let lawful = subst (λ (f : Fields). IsLawful (volume_seen s t v).tracks f) c.peek_fields.ensures.fields c.peek_fields.ensures.lawful in
     revert-shows s u t v c.requires.fit (revertible-related (volume_seen s t v).tracks f lawful revertible) c.turn_target.ensures.others c.args.n (c.requires.aside.aside v) revertible
     (either-first (λ (y : Fate). IsMoved s u t v (fields_after y f) None) (is_flashed c.args.n f) (nat_lt f.floor c.args.n) (fate.Revert c.args.m.now.a c.args.s c.args.n) (fate.Raise c.args.n) is
@@ -92,4 +93,4 @@ turn_target-requires-clause-may g c =
     let t = c.args.c.now in
     let f = (volume_seen s t c.args.m.now.c.0).fields in
     subst (λ o. IfSome o (λ (y : Fate). may_become y f ≡ true)) (sym (c.revert_fate-fate.ensures ∙ ap (λ (f : Fields). if is_flashed c.args.n f then Some (fate.Revert c.args.m.now.a c.args.s c.args.n) else if nat_lt f.floor c.args.n then Some (fate.Raise c.args.n) else None) c.peek_fields.ensures.fields))
-    (some-either (λ (y : Fate). may_become y f ≡ true) (is_flashed c.args.n f) (nat_lt f.floor c.args.n) (fate.Revert c.args.m.now.a c.args.s c.args.n) (fate.Raise c.args.n) (λ is. and-first f.revertible _ is) (λ low. refl))
+    (some-either (λ (y : Fate). may_become y f ≡ true) (is_flashed c.args.n f) (nat_lt f.floor c.args.n) (fate.Revert c.args.m.now.a c.args.s c.args.n) (fate.Raise c.args.n) (λ is. (and_parts f.revertible _ is).0) (λ low. refl))

@@ -1,7 +1,6 @@
 use Rattle.std.proofs.Common.{◌≡◌, ap, sym, ◌∙◌}
 use Rattle.std.proofs.lemmas.Result.{IfOk-weaker}
-use Rattle.dr_model.specs.LineWords.{list_items, range_items}
-use Rattle.dr_model.specs.LineWords.{onto}
+use Rattle.dr_model.specs.LineWords.{list_items, range_items, onto}
 use Rattle.dr_script.specs.Pieces.{kept}
 use Rattle.dr_script.proofs.ItemLemmas.{list_refused, list_goes_on, list_ends}
 use Rattle.dr_script.proofs.items.push_list.Goals as goal

@@ -1,6 +1,5 @@
 use Rattle.std.proofs.Common.{◌≡◌, length}
-use Rattle.dr_model.specs.LineWords.{list_items}
-use Rattle.dr_model.specs.LineWords.{onto}
+use Rattle.dr_model.specs.LineWords.{list_items, onto}
 use Rattle.dr_script.proofs.items.push_list.Given as goal
 
 abbrev pub invariant-loop-comma : goal.invariant-loop-comma

@@ -2,7 +2,8 @@ use Rattle.std.proofs.Common.{◌∙◌, sym, ap, arith, ◌++◌, [], ◌∷◌
 use Rattle.dr_ids.specs.declared.refusal.Refusal.TheVariants.{Syntax}
 use Rattle.dr_model.specs.declared.said.Said.TheVariants.{Refused}
 use Rattle.dr_model.specs.Answers.{answer}
-use Rattle.dr_top.proofs.ReachLemmas.{fault-none, fault-said, at-full, told-answer}
+use Rattle.dr_steps.proofs.StepTaskLemmas.{told-answer}
+use Rattle.dr_top.proofs.ReachLemmas.{fault-none, fault-said, at-full}
 use Rattle.dr_top.proofs.carry.carry_fault.Goals as goal
 
 pub returns-then-is_full-clause-goes : goal.returns-then-is_full-clause-goes

@@ -1,5 +1,5 @@
 use Rattle.std.proofs.Common.{arith}
-use Rattle.dr_top.specs.Here.{here}
+use Rattle.dr_steps.specs.Here.{here}
 use Rattle.dr_top.proofs.TaskLemmas.{tasks-none}
 use Rattle.dr_top.proofs.carry.carry_line.Goals as goal
 

@@ -3,7 +3,7 @@ use Rattle.std.specs.Option.{option_copied}
 use Rattle.dr_model.specs.Limits.{most_events}
 use Rattle.dr_model.specs.Lines.{task, tasks_read}
 use Rattle.dr_model.specs.Control.{World}
-use Rattle.dr_top.specs.Here.{here}
+use Rattle.dr_steps.specs.Here.{here}
 use Rattle.dr_top.proofs.ReachLemmas.{reached-more, reached-sound, reached-issued, reached-room, reached-few, steps-next, tasks-count, step-at, some-step, below-full, at-full}
 use Rattle.dr_top.proofs.TaskLemmas.{tasks-none}
 use Rattle.dr_top.proofs.carry.carry_steps.Goals as goal

@@ -1,9 +1,10 @@
 use Rattle.std.proofs.Common.{◌≡◌, ℕ, ◌≤◌, take, length, Ok}
+use Rattle.dr_logic.specs.Counts.{Counted}
 use Rattle.dr_model.specs.Limits.{most_events}
 use Rattle.dr_model.specs.Lines.{tasks_read}
 use Rattle.dr_model.specs.Runs.{after_tasks}
-use Rattle.dr_top.specs.Faults.{Counted, told_stop}
-use Rattle.dr_top.specs.Here.{here, IsReady}
+use Rattle.dr_steps.specs.Faults.{told_stop}
+use Rattle.dr_steps.specs.Here.{here, IsReady}
 use Rattle.dr_top.proofs.carry.carry_steps.Given as goal
 
 abbrev pub invariant-loop-i : goal.invariant-loop-i

@@ -1,9 +1,9 @@
 use Rattle.std.proofs.Common.{◌∙◌, Some, ap, arith, sym, subst}
-use Rattle.dr_io.specs.Faults.{Rose}
-use Rattle.dr_top.specs.Faults.{Counted}
 use Rattle.std.proofs.lemmas.Grind.{common_steps}
-use Rattle.dr_top.proofs.PutLemmas.{given_more, given_none, some-taken, some-left}
+use Rattle.dr_logic.specs.Counts.{Rose, Counted}
+use Rattle.dr_top.proofs.PutLemmas.{given_none, some-taken, some-left}
 use Rattle.dr_top.proofs.put.put_all.Goals as goal
+use Rattle.dr_io.proofs.Pieces.{pieces_written}
 
 pub returns-then-taken-eq0-clause-part : goal.returns-then-taken-eq0-clause-part
 returns-then-taken-eq0-clause-part g c = (
@@ -16,7 +16,7 @@ returns-then-taken-eq0-clause-part g c = (
 pub loop-done-preserved : goal.loop-done-preserved
 loop-done-preserved g c = record {
   within = (let fits = c.in_ok-taken.ensures.count in grind (arith, common_steps, fits));
-  gave = λ out h. c.in_ok-taken.ensures.taken _ (c.loop-done.invariant.gave out h) ∙ ap Some (given_more out c.args.piece.now c.loop-done.done c.in_ok-taken.taken);
+  gave = λ out h. c.in_ok-taken.ensures.taken _ (c.loop-done.invariant.gave out h) ∙ ap Some (pieces_written out c.args.piece.now c.loop-done.done c.in_ok-taken.taken);
   count = c.in_ok-taken.ensures.steady (some-taken _ _ c.if-taken-eq0.false) ∙ c.loop-done.invariant.count;
 }
 

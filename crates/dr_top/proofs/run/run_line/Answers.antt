@@ -6,7 +6,7 @@ use Rattle.dr_model.specs.Lines.{tasks_of}
 use Rattle.dr_top.specs.Carried.{GoesTo}
 use Rattle.dr_top.specs.Followed.{text_since}
 use Rattle.dr_io.specs.Given.{Gave, GavePart}
-use Rattle.dr_top.specs.Here.{here}
+use Rattle.dr_steps.specs.Here.{here}
 use Rattle.dr_top.specs.declared.carry.Bar.TheVariants.{Full as BarFull}
 use Rattle.dr_top.specs.declared.run.Halt.TheVariants.{NoMemory, Full}
 use Rattle.dr_top.proofs.RunLemmas.{carried-longer, carried-before, ran-line, gave-none, ends-whole, ends-failed}

@@ -1,13 +1,14 @@
 use Rattle.std.proofs.Common.{◌≤◌, ◌+◌, ◌∙◌, sym, ap, subst, arith, length, List, Ok, Err, refl}
 use Rattle.std.specs.List.{fold}
+use Rattle.dr_logic.specs.Counts.{Counted}
 use Rattle.dr_model.specs.Text.{heard, untold}
 use Rattle.dr_io.specs.Lines.{Progress, IsNext}
 use Rattle.dr_io.specs.declared.line_reader.Taken.TheVariants.{TooLong as PastLimit}
 use Rattle.dr_model.specs.declared.event.Event.{Event}
 use Rattle.dr_model.specs.Control.{World}
 use Rattle.dr_model.specs.Lines.{tasks_of}
-use Rattle.dr_top.specs.Faults.{Counted, told_stop}
-use Rattle.dr_top.specs.Here.{here}
+use Rattle.dr_steps.specs.Faults.{told_stop}
+use Rattle.dr_steps.specs.Here.{here}
 use Rattle.dr_top.specs.Outcome.{Ran, has_refusal}
 use Rattle.dr_top.specs.Ran.{RanLine}
 use Rattle.dr_top.specs.declared.status.Status.{Status}

@@ -1,25 +1,23 @@
-use Rattle.std.proofs.Common.{◌≡◌, ◌+◌, arith, sym, ◌∙◌, ap, subst}
+use Rattle.std.proofs.Common.{◌≡◌, ◌+◌, [], get_or, arith, sym, ◌∙◌, ap, subst}
+use Rattle.std.specs.List.{between}
+use Rattle.std.proofs.lemmas.List.Edits.{get_or-between}
 use Rattle.dr_model.specs.Layout as layout
 use Rattle.dr_model.specs.Lawful.{IsLawful}
 use Rattle.dr_volume.specs.Plain.{plain, normal}
-use Rattle.dr_volume.specs.Record.{with_block, listed, raw_of}
+use Rattle.dr_volume.specs.Record.{listed, raw_of}
 use Rattle.dr_volume.proofs.LawfulLaws.{lawful-normal}
-use Rattle.dr_volume.proofs.RecordLaws.{after_blocks-none, after_blocks-more, after_blocks-chosen, plain-normal, staged-normal, staged_bytes-normal}
+use Rattle.dr_volume.proofs.RecordLaws.{plain-normal, staged-normal, staged_bytes-normal}
+use Rattle.dr_volume.proofs.RewriteLaws.{raw-same}
 use Rattle.dr_volume.proofs.blocks.from_blocks.Goals as goal
-
-pub loop-i-init : goal.loop-i-init
-loop-i-init c = c.blank-raw.ensures ∙ sym (after_blocks-none _)
-
-pub loop-i-preserved : goal.loop-i-preserved
-loop-i-preserved c =
-    c.take_block.ensures
-    ∙ ap (λ f. with_block f c.loop-i.i (listed c.args.blocks.now (c.slot_begin-begin.result + c.loop-i.i))) c.loop-i.invariant
-    ∙ sym (after_blocks-more _ _)
 
 pub returns : goal.returns
 returns c =
-    let raw = after_blocks-chosen (listed c.args.blocks.now) c.slot_begin-begin.result c.loop-i.i c.loop-i.raw c.slot_begin-begin.ensures (omega arith) c.loop-i.invariant in
-    let is : c.normal.result ≡ normal c.args.tracks (raw_of (layout.chosen (listed c.args.blocks.now))) = c.normal.ensures ∙ ap (λ f. normal c.args.tracks f) raw in
+    let blocks = c.args.blocks.now in
+    let begin = c.slot_begin-begin.result in
+    let same : raw_of (listed (between begin (begin + 6) blocks)) ≡ raw_of (layout.chosen (listed blocks)) =
+    raw-same (listed (between begin (begin + 6) blocks)) (layout.chosen (listed blocks)) (λ k low.
+    get_or-between blocks begin (begin + 6) k [] (omega arith) ∙ ap (λ q. get_or blocks (q + k) []) c.slot_begin-begin.ensures) in
+    let is : c.fields_in.result ≡ normal c.args.tracks (raw_of (layout.chosen (listed c.args.blocks.now))) = c.fields_in.ensures ∙ ap (λ f. normal c.args.tracks f) same in
     record {
       fields = ap (λ f. plain f) is ∙ plain-normal c.args.tracks (layout.chosen (listed c.args.blocks.now)) c.requires.few;
       staged = ap (λ f. f.staged) is ∙ staged-normal c.args.tracks (layout.chosen (listed c.args.blocks.now));

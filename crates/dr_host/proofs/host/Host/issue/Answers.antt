@@ -1,6 +1,6 @@
 use Rattle.std.proofs.Common.{◌≡◌, ◌+◌, ◌<◌, ◌++◌, ◌∷◌, [], List, length, ap, ◌∙◌, sym, subst, rules, arith}
 use Rattle.dr_host.specs.declared.pending.Pending.{Pending}
-use Rattle.dr_host.specs.Writes.{Writes, IsSound, written, number, has_number}
+use Rattle.dr_host.specs.Writes.{Writes, IsSoundHost, written, number, has_number}
 use Rattle.dr_host.proofs.Sound.{sound-with_write}
 use Rattle.std.specs.List.{find}
 use Rattle.dr_host.proofs.Each.{found-push}
@@ -12,7 +12,7 @@ invariant_of-self-2 c =
     let bytes = c.args.bytes.now in
     let grown : c.push.new.self.items ≡ h.pending ++ written (h.issued + 1) c.args.v.0 c.args.track c.args.offset bytes ∷ [] = search rules in
     let room : length h.pending < 64 = omega arith in
-    let Sound : List Pending → Type 0 = λ ps. IsSound (record { issued = h.issued + 1; pending = ps }) in
+    let Sound : List Pending → Type 0 = λ ps. IsSoundHost (record { issued = h.issued + 1; pending = ps }) in
     subst Sound (sym grown) (sound-with_write h c.args.v.0 c.args.track c.args.offset bytes room c.requires.some c.requires.within c.self.invariant)
 
 pub returns-clause-found : goal.returns-clause-found

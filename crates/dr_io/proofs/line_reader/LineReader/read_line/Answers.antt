@@ -1,6 +1,7 @@
 use Rattle.std.proofs.Common.{◌+◌, ap, ◌∙◌, arith}
+use Rattle.std.proofs.lemmas.List.{nil_from_length}
 use Rattle.dr_io.specs.Lines.{Progress, most_bytes}
-use Rattle.dr_io.proofs.ReadingSteps.{along-begin, along-keeps, along-fills, reads-line, reads-last, reads-past, reads-fault, no_bytes, some_bytes, one_past}
+use Rattle.dr_io.proofs.ReadingSteps.{along-begin, along-keeps, along-fills, reads-line, reads-last, reads-past, reads-fault, some_bytes, one_past}
 use Rattle.dr_io.proofs.line_reader.LineReader.read_line.Goals as goal
 
 pub loop-self-init : goal.loop-self-init
@@ -24,7 +25,7 @@ returns-in_default-clause-reads g c =
 pub returns-then-n-eq0-clause-reads : goal.returns-then-n-eq0-clause-reads
 returns-then-n-eq0-clause-reads g c =
     let i = c.loop-self.invariant in
-    let none = no_bytes c.fill.new.self (c.in-Ok.ensures.count ∙ c.if-n-eq0.true) in
+    let none = nil_from_length c.fill.new.self (c.in-Ok.ensures.count ∙ c.if-n-eq0.true) in
     let n = c.if-n-eq0.true in
     let within = c.loop-self.invariant.within in
     reads-last g.S.Source.left g.S.Source.faults c.args.source.now c.fill.new.source c.args.self.now c.fill.new.self c.cut_line.new.kept c.cut.new.self

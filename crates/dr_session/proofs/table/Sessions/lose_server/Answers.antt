@@ -1,6 +1,6 @@
 use Rattle.std.proofs.Common.{◌≡◌, length, sym, ◌∙◌, ap, arith}
 use Rattle.dr_model.specs.Sessions as model
-use Rattle.dr_session.specs.Kept.{Kept, Table}
+use Rattle.dr_session.specs.Kept.{Kept, SessionTable}
 use Rattle.dr_session.proofs.PlaceLemmas.{first_by, first_by-none, first_by-more, first_by-all, length-sessions, length-set_value_at, room-at, stays-keyed}
 use Rattle.dr_session.proofs.table.Sessions.lose_server.Goals as goal
 
@@ -10,7 +10,7 @@ loop-i-init c =
     let t = c.args.self.now in
     record {
       long = sym c.len-i-end.ensures.len;
-      all = sym (ap (λ (u : Table). length u.sessions) c.self.view_is) ∙ (length-sessions es ∙ sym c.len-i-end.ensures.len);
+      all = sym (ap (λ (u : SessionTable). length u.sessions) c.self.view_is) ∙ (length-sessions es ∙ sym c.len-i-end.ensures.len);
       keyed = c.self.invariant;
       table = c.self.view_is ∙ λ i. record t { sessions = sym (first_by-none (model.lost_with c.args.server.0) t.sessions) i };
     }
@@ -23,8 +23,8 @@ loop-i-preserved c =
     let v = c.index_mut.result.now in
     let w = c.lose.new.self in
     let so_far = c.loop-i.invariant in
-    let sessions = first_by-more f c.loop-i.i es t.sessions v w (ap (λ (u : Table). u.sessions) so_far.table) c.index_mut.ensures.value (ap (λ (k : Kept). k.session) c.lose.ensures) in
-    let room = room-at c.loop-i.i es v w c.index_mut.ensures.value (ap (λ (k : Kept). k.room) c.lose.ensures) ∙ ap (λ (u : Table). u.room) so_far.table in
+    let sessions = first_by-more f c.loop-i.i es t.sessions v w (ap (λ (u : SessionTable). u.sessions) so_far.table) c.index_mut.ensures.value (ap (λ (k : Kept). k.session) c.lose.ensures) in
+    let room = room-at c.loop-i.i es v w c.index_mut.ensures.value (ap (λ (k : Kept). k.room) c.lose.ensures) ∙ ap (λ (u : SessionTable). u.room) so_far.table in
     record {
       long = length-set_value_at es c.loop-i.i w ∙ so_far.long;
       all = so_far.all;

@@ -1,7 +1,7 @@
-use Rattle.std.proofs.Common.{◌≡◌, ◌+◌, ◌∙◌, sym, subst, false}
+use Rattle.std.proofs.Common.{◌≡◌, ◌<◌, ◌+◌, ◌∙◌, ap, sym, subst, false, arith}
 use Rattle.std.specs.Prelude.{OnOk}
 use Rattle.dr_volume.specs.View.{track_seen}
-use Rattle.dr_volume.proofs.VolumeLaws.{track-staged, track-blank, track-not_staged, entry}
+use Rattle.dr_volume.proofs.VolumeLaws.{placed, device-placed, track-staged, track-blank, track-not_staged, own-block, track-few}
 use Rattle.dr_volume.proofs.opened.Opened.read_track.Goals as goal
 
 pub returns-then-is_staged-clause-bytes : goal.returns-then-is_staged-clause-bytes
@@ -15,12 +15,21 @@ returns-then-contains-clause-bytes g c =
     (sym c.is_staged.ensures ∙ c.if-is_staged.false)
     (sym c.contains.ensures.found ∙ c.if-contains.true)
 
+pub overflow_add-t : goal.overflow_add-t
+overflow_add-t g c =
+    let low : c.args.t < 256 = track-few (g.P.Plant.state c.args.p.now) c.args.c.now c.args.v.0 c.args.t c.tell_sound.ensures c.requires.defined c.requires.within in
+    omega arith
+
+pub read-requires : goal.read-requires
+read-requires g c = own-block (g.P.Plant.state c.args.p.now) c.args.c.now c.args.v.0 c.args.self.now.device.0 c.args.t c.requires.defined c.requires.stands c.requires.opened.device c.requires.within
+
 pub returns-clause-bytes : goal.returns-clause-bytes
 returns-clause-bytes g c =
     let s = g.P.Plant.state c.args.p.now in
-    let e = entry c.args.c.now c.args.v.0 c.find.result.device.0 c.find.result.tracks c.find.ensures in
-    let own : s.block c.find.result.device.0 (13 + c.args.t) ≡ track_seen s c.args.c.now c.args.v.0 c.args.t =
-    track-not_staged s c.args.c.now c.args.v.0 c.find.result.device.0 c.args.t e.0 c.args.self.now.fields false c.find.ensures.place e.1 c.requires.within c.requires.opened.shows
+    let at = placed c.args.c.now c.args.v.0 c.requires.defined in
+    let own : s.block c.args.self.now.device.0 (13 + c.args.t) ≡ track_seen s c.args.c.now c.args.v.0 c.args.t =
+    ap (λ d. s.block d (13 + c.args.t)) (c.requires.opened.device ∙ device-placed c.args.c.now c.args.v.0 at.0 at.2)
+    ∙ track-not_staged s c.args.c.now c.args.v.0 at.0 c.args.t at.1 c.args.self.now.fields false at.2 at.3 c.requires.within c.requires.opened.shows
     (sym c.is_staged.ensures ∙ c.if-is_staged.false)
     (sym c.contains.ensures.found ∙ c.if-contains.false) in
     subst (λ x. OnOk c.read.result (c.read.new.into ≡ x)) own c.read.ensures.bytes

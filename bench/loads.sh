@@ -1,0 +1,121 @@
+#!/bin/bash
+# Runs `drsim run` on seven loads: host writes on one volume, where it is the only one and where 64 are defined; host writes on a source
+# with 12 targets; drains; host writes on 32 pairs of Metro Mirror; groups of 16 members with 64 writes between; recoveries.
+#
+#   bench/loads.sh OLD NEW   two programs in turn on each load, five times each: the least time of each, and their ratio. What they
+#                            print must be the same
+#   bench/loads.sh PROGRAM   the instructions of each load for each of its lines (a drain: for each of its tracks), by callgrind: those
+#                            of a load, less those of a load with half of the lines
+programs=()
+for program in "$@"; do programs+=("$(realpath "$program")"); done
+source "$(dirname "$0")/timing.sh"
+
+writes_on() { # VOLUMES TARGETS LINES: on the first volume, the source of so many targets that hold all tracks
+    local i
+    printf '@server A\n@volume 1000-%04X A 256\n' $((0xFFF + $1))
+    for ((i = 1; i <= $2; i++)); do printf 'mkflash -persist 1000:%04X\n@copy %04X all\n' $((0x1000 + i)) $((0x1000 + i)); done
+    for ((i = 0; i < $3; i++)); do echo "@write 1000 $((i % 256)) $((i % 60)) 41424344"; done
+}
+
+drains() { # LINES: a pair of 256 tracks is made, drained and removed
+    local i
+    printf '@server P\n@server Q\n@volume 1000 P 256\n@volume 2000 Q 256\nmkpprcpath -srclss 10 -tgtlss 20 I0000:I0100\n'
+    for ((i = 0; i < $1 / 3; i++)); do printf 'mkpprc -type gcp 1000:2000\n@drain 1000 all\nrmpprc 1000:2000\n'; done
+}
+
+mirrored() { # LINES: on 32 primaries of Metro Mirror in turn
+    local i
+    printf '@server P\n@server Q\n@volume 1000-101F P 256\n@volume 2000-201F Q 256\nmkpprcpath -srclss 10 -tgtlss 20 I0000:I0100\n'
+    echo 'mkpprc -type mmir -mode nocp 1000-101F:2000-201F'
+    for ((i = 0; i < $1; i++)); do printf '@write %04X %d %d 41424344\n' $((0x1000 + i % 32)) $((i % 256)) $((i % 60)); done
+}
+
+session() { # a session of 16 members on two servers
+    printf '@server A1\n@server A2\n@server B1\n@server B2\n'
+    printf '@volume 1000-1007 A1 16\n@volume 1100-1107 A2 16\n@volume 2000-2007 B1 16\n@volume 2100-2107 B2 16\n@volume 3000-3007 B1 16\n@volume 3100-3107 B2 16\n'
+    printf 'mkpprcpath -srclss 10 -tgtlss 20 I0000:I0100\nmkpprcpath -srclss 11 -tgtlss 21 I0000:I0100\n'
+    printf 'mkpprc -type gcp -mode nocp 1000-1007:2000-2007 1100-1107:2100-2107\n'
+    printf 'mkflash -tgtinhibit -record -nocp 2000-2007:3000-3007 2100-2107:3100-3107\n'
+    printf 'mksession -lss 10 -volume 1000-1007 01\nmksession -lss 11 -volume 1100-1107 01\nmkgmir -lss 10 -session 01\n'
+}
+
+grouped() { # LINES: 64 writes and a group, again and again
+    local i
+    session
+    for ((i = 0; i < $1; i++)); do
+        if ((i % 65 == 64)); then
+            echo '@run 01 1'
+        else
+            printf '@write 1%d0%d %d 0 %02X\n' $((i % 2)) $((i / 2 % 8)) $((i / 16 % 16)) $((i % 256))
+        fi
+    done
+}
+
+recovered() { # LINES: the first recovery takes over all secondaries, and each later one looks at them again
+    local i
+    session
+    printf '@write 1000 0 0 41\n@write 1100 0 0 42\n@run 01 1\n@stop A1\n@stop A2\n'
+    for ((i = 0; i < $1; i++)); do echo '@recover 01'; done
+}
+
+# The name of a load, how many of what it counts, and its script of so many lines.
+load() { # NUMBER LINES
+    case $1 in
+        0) name='writes, one volume' parts=$2 && writes_on 1 0 "$2" ;;
+        1) name='writes, 64 volumes' parts=$2 && writes_on 64 0 "$2" ;;
+        2) name='writes, 12 targets' parts=$2 && writes_on 13 12 "$2" ;;
+        3) name='drained tracks' parts=$(($2 / 3 * 256)) && drains "$2" ;;
+        4) name='writes, 32 Metro Mirror pairs' parts=$2 && mirrored "$2" ;;
+        5) name='groups of 16 and 64 writes each' parts=$(($2 / 65)) && grouped "$2" ;;
+        6) name='recoveries of 16 members' parts=$2 && recovered "$2" ;;
+    esac > "$scratch/script"
+}
+
+lines_of=(99900 99900 99900 1500 99900 97500 40000)
+
+microseconds_of() { # PROGRAM ANSWERS
+    local begin
+    begin=$(date +%s%N)
+    "$1" run < "$scratch/script" > "$2"
+    echo $((($(date +%s%N) - begin) / 1000 + 1))
+}
+
+instructions_of() { # PROGRAM
+    valgrind --tool=callgrind --callgrind-out-file="$scratch/profile" "$1" run < "$scratch/script" 2>&1 > "$scratch/answers" | sed -n 's/.*Collected : //p'
+}
+
+compare() { # OLD NEW
+    local at round spent old new
+    for at in 0 1 2 3 4 5 6; do
+        load $at "${lines_of[at]}"
+        old=0
+        new=0
+        for ((round = 0; round < 5; round++)); do
+            spent=$(microseconds_of "$1" "$scratch/old")
+            if ((old == 0 || spent < old)); then old=$spent; fi
+            spent=$(microseconds_of "$2" "$scratch/new")
+            if ((new == 0 || spent < new)); then new=$spent; fi
+        done
+        cmp "$scratch/old" "$scratch/new"
+        echo "$name: before $((old / 1000)) ms, now $((new / 1000)) ms, $((old / new)).$((old * 10 / new % 10))$((old * 100 / new % 10)) times as fast"
+    done
+}
+
+count() { # PROGRAM
+    local at some all half
+    for at in 0 1 2 3 4 5 6; do
+        half=$((lines_of[at] / 780 * 39))
+        load $at $half
+        some=$(instructions_of "$1")
+        half=$parts
+        load $at $((lines_of[at] / 780 * 78))
+        all=$(instructions_of "$1")
+        echo "$name: $(((all - some) / (parts - half))) instructions each"
+    done
+}
+
+case $# in
+    2) compare "${programs[@]}" ;;
+    1) count "${programs[@]}" ;;
+    *) echo 'bench/loads.sh OLD NEW, or bench/loads.sh PROGRAM' && exit 1 ;;
+esac

@@ -1,0 +1,16 @@
+pub mod Costs
+pub mod Ends
+pub mod Issued
+pub mod Lists
+pub mod Options
+pub mod Parts
+pub mod Refusals
+pub mod Relations
+pub mod Sessions
+pub mod Tables
+pub mod Texts
+pub mod Tracks
+pub mod Turns
+pub mod Sets
+pub mod Lawful
+pub mod Joined

@@ -1,5 +1,0 @@
-use Rattle.dr_laws.proofs.KeepsSound.{rows-after}
-use Rattle.dr_laws.proofs.each_kind_of_move_keeps_the_rows.Goals as goal
-
-pub returns : goal.returns
-returns c = rows-after

@@ -1,5 +1,0 @@
-use Rattle.dr_laws.proofs.Steps.{sound-tasks}
-use Rattle.dr_laws.proofs.every_step_keeps_soundness.Goals as goal
-
-pub returns : goal.returns
-returns c = sound-tasks

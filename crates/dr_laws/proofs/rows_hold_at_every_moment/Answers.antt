@@ -1,5 +1,0 @@
-use Rattle.dr_laws.proofs.Steps.{rows-moment}
-use Rattle.dr_laws.proofs.rows_hold_at_every_moment.Goals as goal
-
-pub returns : goal.returns
-returns c = rows-moment

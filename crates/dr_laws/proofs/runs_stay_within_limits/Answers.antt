@@ -1,5 +1,0 @@
-use Rattle.dr_laws.proofs.Limits.{within-run}
-use Rattle.dr_laws.proofs.runs_stay_within_limits.Goals as goal
-
-pub returns : goal.returns
-returns c = within-run

@@ -1,7 +1,0 @@
-use Rattle.dr_laws.proofs.Parts.{each-plan}
-use Rattle.dr_laws.proofs.StopsTold.{carry-tells}
-use Rattle.dr_laws.proofs.CalmPlans.{case-calm}
-use Rattle.dr_laws.proofs.stops_are_told.Goals as goal
-
-pub returns : goal.returns
-returns c = λ w t x there. carry-tells _ _ (case-calm x.world.control x.world.events t.line x.plan (each-plan (λ v. Unit {0}) (λ v p comes k. tt) w t tt x there).1)

@@ -1,7 +1,0 @@
-use Rattle.std.proofs.Common.{refl}
-use Rattle.dr_model.specs.Runs.{run}
-use Rattle.dr_laws.proofs.HeadlineAlong.{headline-run}
-use Rattle.dr_laws.proofs.targets_hold_one_cut.Goals as goal
-
-pub returns : goal.returns
-returns c = λ tasks on fuse device fits holds. headline-run tasks (run tasks) on fuse device refl fits holds

@@ -1,0 +1,291 @@
+-- Each kind of move keeps the laws of attempts.
+use Rattle.std.proofs.Common.{ℕ, ◌≡◌, ◌≤◌, ◌<◌, ◌⊎◌, inl, inr, refl, ap, sym, ◌∙◌, max, Bool, true, false, cond, not, ◌&&◌, ◌||◌, nat_eq, arith, List, subst, Option, Some, None}
+use Rattle.std.proofs.Math.Path.{fun_ext}
+use Rattle.std.proofs.lemmas.Bool.{and_parts, eqb-true, not-true, or_parts, or_from}
+use Rattle.std.proofs.Math.Bool.{or-true}
+use Rattle.dr_logic.specs.Tables.{at}
+use Rattle.dr_ids.specs.declared.names.Member.{Member}
+use Rattle.dr_ids.specs.declared.refusal.PhaseName.TheVariants as phase
+use Rattle.dr_model.specs.Layout.{Fields, is_part}
+use Rattle.dr_model.specs.Control.{Control, Volume}
+use Rattle.dr_model.specs.Views.{source_of}
+use Rattle.dr_model.specs.Relations.{is_whole, is_bare, parted_if, turned, given_up, fetched, noted, rewritten}
+use Rattle.dr_model.specs.Pairs.{primary_of, is_secondary_of}
+use Rattle.dr_model.specs.Moves.{Move, Overwrite, Keep, Relate, Withdraw, Fetch, Resync, Reverse, Release, Store, MakeSecondary, DropSecondary, TakeOver, Hold, Seal, Finish, RaiseAttempt, RaiseFloor, Leave, Flash, Commit, Revert, Carried, moved, target, next_fields}
+use Rattle.dr_model.specs.Entries.{fields_at, is_at, copies_from}
+use Rattle.dr_model.specs.SessionEntries.{may_flash}
+use Rattle.dr_model.specs.Sessions.{Session}
+use Rattle.dr_model.specs.Groups.{In, IsAt, Groups, IsMember}
+use Rattle.dr_model.specs.Attempts.{Role, Roles, role_of, roles, seen_of, seen, all_seen, counts, All, NoneRevertible, NoneCommitted, SomeCommitted, phase_of, IsTarget, AttemptsIn, Attempts, Persists, DoesNotCount, MayGo, SealsMember, FlashesMember, CommitsMember, RevertsMember, InAttempt}
+use Rattle.dr_laws_sessions.specs.Frames.{Moves}
+use Rattle.dr_facts.proofs.Lists.{to-map}
+use Rattle.dr_laws_sessions.proofs.Changes.{same-session}
+use Rattle.dr_laws_attempts.proofs.Facts.{bool_cases}
+use Rattle.dr_laws_attempts.proofs.Turns.{Kind, Raise, Go, MayTurn, MayPair}
+use Rattle.dr_laws_attempts.proofs.Turns as turn
+use Rattle.dr_laws_attempts.proofs.Places.{Stays, Steps, steps-keep, TurnsTo, tries, pairs, targets}
+use Rattle.dr_facts.proofs.Tables.{at_id}
+use Rattle.dr_facts.proofs.Relations.{copies-from}
+use Rattle.dr_logic.proofs.Truth.{false_true}
+
+-- ---- what the control state says of attempts after a move
+
+pub at_map : {X Y : Type 0} (g : X → Y) (f : ℕ → X) (k : ℕ) (x : X) (q : ℕ) → g (at f k x q) ≡ at (λ q. g (f q)) k (g x) q
+at_map g f k x q = by (nat_eq q k)
+  where
+    by : (b : Bool) → g (cond b x (f q)) ≡ cond b (g x) (g (f q))
+    by true = refl
+    by false = refl
+
+pub roles-moved : (k j : Control) (v : ℕ) (f : Fields) (c : Carried) → Moves k j v f c → roles j ≡ at (roles k) v (role_of f)
+roles-moved k j v f c moves = fun_ext (λ u. ap (λ (w : ℕ → Volume). role_of (w u).fields) moves.volume ∙ at_map (λ (y : Volume). role_of y.fields) k.volume v (moved (k.volume v) f c) u)
+
+pub attempts-moved : (k j : Control) (v : ℕ) (f : Fields) (c : Carried) → j.sessions ≡ k.sessions → Moves k j v f c → AttemptsIn k.sessions (at (roles k) v (role_of f)) → Attempts j
+attempts-moved k j v f c same moves law = subst (λ T. AttemptsIn j.sessions T) (sym (roles-moved k j v f c moves)) (subst (λ ss. AttemptsIn ss (at (roles k) v (role_of f))) (sym same) law)
+
+pub or-first : (a : Bool) → (a || false) ≡ true → a ≡ true
+or-first true h = refl
+or-first false h = absurd cc
+
+-- whose secondary a volume is, as a test and as its record says
+pub is-secondary : (a : ℕ) (f : Fields) → is_secondary_of a f ≡ is_at (primary_of f) a
+is-secondary a f = by (is_part f.secondary)
+  where
+    by : (b : Bool) → (b && nat_eq f.secondary_partner a) ≡ is_at (cond b (Some f.secondary_partner) None) a
+    by true = refl
+    by false = refl
+
+pub record Flashable (b : ℕ) (f : Fields) : Type 0 where
+  pub source : source_of f ≡ Some b
+  pub records : f.recorded ≡ true
+  pub inhibits : f.inhibited ≡ true
+  pub forward : f.reversing ≡ false
+  pub plain : f.revertible ≡ false
+
+pub flashable : (b : ℕ) (f : Fields) → may_flash b f ≡ true → Flashable b f
+flashable b f h =
+    let p = and_parts (copies_from b f) (f.recorded && (f.inhibited && (not f.reversing && not f.revertible))) h in
+    let q = and_parts f.recorded (f.inhibited && (not f.reversing && not f.revertible)) p.1 in
+    let r = and_parts f.inhibited (not f.reversing && not f.revertible) q.1 in
+    let t = and_parts (not f.reversing) (not f.revertible) r.1 in
+    record { source = copies-from b f p.0; records = q.0; inhibits = r.0; forward = not-true f.reversing t.0; plain = not-true f.revertible t.1 }
+
+-- what is no target, or is reversing, doesn't count
+module _ (k : Control) (law : Attempts k) where
+  pub uncounted-by : (v : ℕ) → (IsTarget k.sessions v (roles k v).session (roles k v).source (roles k v).recorded (roles k v).inhibited (roles k v).reversing → ⊥) → ((roles k v).member || (roles k v).revertible) ≡ false
+  uncounted-by v never = by (bool_cases ((roles k v).member || (roles k v).revertible))
+    where
+      by : (((roles k v).member || (roles k v).revertible) ≡ true) ⊎ (((roles k v).member || (roles k v).revertible) ≡ false) → ((roles k v).member || (roles k v).revertible) ≡ false
+      by (inl h) = absurd (never ((law.volumes v).counted h))
+      by (inr h) = h
+
+  pub reversing-uncounted : (v : ℕ) → (fields_at k v).reversing ≡ true → DoesNotCount (fields_at k v)
+  reversing-uncounted v h = uncounted-by v (λ t. false_true t.forward h)
+
+  pub unrelated-uncounted : (v : ℕ) → (fields_at k v).related ≡ false → DoesNotCount (fields_at k v)
+  unrelated-uncounted v h = uncounted-by v (λ t. let e = sym (ap (λ b. cond b (Some (fields_at k v).source) None) h) ∙ t.source in absurd cc)
+
+module _ (k : Control) (groups : Groups k) (law : Attempts k) where
+  abbrev ss : List Session
+  ss = k.sessions
+
+  abbrev T : Roles
+  T = roles k
+
+  abbrev After : ℕ → Role → Type 0
+  After v y = Steps ss T (at T v y)
+
+  same : (v : ℕ) → After v (T v)
+  same v = subst (λ S. Steps ss T S) (sym (fun_ext (λ u. at_id T v u))) (record { turns = λ z i. Stays refl; claims = law.volumes })
+
+  -- what is so of a member at a place is so of each member at that place
+  pub at-place : (P : Session → Member → Type 0) (v : ℕ) (x : Session) (q : Member) → In x ss → In q x.members → IsAt v q → P x q → (z : Session) (m : Member) → In z ss → In m z.members → IsAt v m → P z m
+  at-place P v x q j there at_q here z m i is at_m =
+      let one = groups.lone.one v x z q m j i there is at_q at_m in
+      subst (λ m. P z m) one.1 (subst (λ z. P z q) (same-session ss x z groups.once j i one.0) here)
+
+  tried : (v q : ℕ) → ((z : Session) (m : Member) → In z ss → In m z.members → m.a.0 ≡ v → q ≤ z.last) → After v (record (T v) { attempt = q })
+  tried v q low = tries ss groups.lone T law v q low
+
+  paired : (v : ℕ) (primary : Option ℕ) (q : ℕ) → ((z : Session) (m : Member) → In z ss → In m z.members → m.b.0 ≡ v → MayPair (phase_of z.mirror) z.last (seen T m) (is_at primary m.a.0) q) → After v (record (T v) { primary = primary; seal = q })
+  paired v primary q may = pairs ss groups.lone T law v primary q may
+
+  -- a secondary without a seal, which is whose it was
+  resealed : (v q : ℕ) → ((z : Session) (m : Member) → In z ss → In m z.members → m.b.0 ≡ v → (q ≡ 0) ⊎ ((q ≡ z.last) × (phase_of z.mirror ≡ phase.Draining))) → After v (record (T v) { seal = q })
+  resealed v q sealed = paired v (T v).primary q (λ z m i here e. record { sealed = sealed z m i here e; free = λ h. inl (ap (λ u. is_at (T u).primary m.a.0) e ∙ h) })
+
+  -- one that is nobody's any more
+  freed : (v : ℕ) → After v (record (T v) { primary = None; seal = 0 })
+  freed v = paired v None 0 (λ z m i here e. record { sealed = inl refl; free = λ h. absurd cc })
+
+  -- ---- targets
+
+  -- a target that doesn't count from then on
+  gone : (v : ℕ) (y : Role) → y.attempt ≡ (T v).attempt → y.primary ≡ (T v).primary → y.seal ≡ (T v).seal → y.floor ≡ (T v).floor → y.member ≡ false → y.revertible ≡ false → y.session ≡ 0 → y.previous ≡ 0
+      → ((z : Session) (m : Member) → In z ss → In m z.members → m.c.0 ≡ v → (counts (seen T m) ≡ false) ⊎ NoneRevertible (all_seen T z.members)) → After v y
+  gone v y attempt primary seal floor member revertible session previous may = targets ss groups.lone T law v y attempt primary seal (λ z m i here e. record {
+    kind = Go y.sequence y.previous;
+    may = may z m i here e;
+    is = λ i. record (seen T m) { sequence = y.sequence; previous = y.previous; revertible = revertible i; member = member i; floor = (floor ∙ ap (λ u. (T u).floor) (sym e)) i };
+  }) (record { counted = λ h. false_true (or_from y.member y.revertible member revertible) h; uncounted = λ h. session; previous = λ h. previous })
+
+  -- one that didn't count
+  gone-uncounted : (v : ℕ) (y : Role) → ((T v).member || (T v).revertible) ≡ false → y.attempt ≡ (T v).attempt → y.primary ≡ (T v).primary → y.seal ≡ (T v).seal → y.floor ≡ (T v).floor → y.member ≡ false → y.revertible ≡ false → y.session ≡ 0 → y.previous ≡ 0 → After v y
+  gone-uncounted v y none attempt primary seal floor member revertible session previous = gone v y attempt primary seal floor member revertible session previous (λ z m i here e. inl (ap (λ u. (T u).member || (T u).revertible) e ∙ none))
+
+  going : (v : ℕ) → MayGo k v → (z : Session) (m : Member) → In z ss → In m z.members → m.c.0 ≡ v → (counts (seen T m) ≡ false) ⊎ NoneRevertible (all_seen T z.members)
+  going v a z m i here e = by (bool_cases (T v).member)
+    where
+      by : ((T v).member ≡ true) ⊎ ((T v).member ≡ false) → (counts (seen T m) ≡ false) ⊎ NoneRevertible (all_seen T z.members)
+      by (inl h) = inr (a.settled h z m i here e)
+      by (inr h) = inl (ap (λ u. (T u).member || (T u).revertible) e ∙ or_from (T v).member (T v).revertible h a.plain)
+
+  -- a relationship that may end, and whose target then didn't count
+  closed-or : (v : ℕ) (f : Fields) (b : Bool) → role_of f ≡ T v → (b ≡ true → DoesNotCount (fields_at k v)) → After v (role_of (parted_if b f))
+  closed-or v f false is none = subst (After v) (sym is) (same v)
+  closed-or v f true is none = gone-uncounted v (role_of (parted_if true f)) (none refl) (ap (λ r. r.attempt) is) (ap (λ r. r.primary) is) (ap (λ r. r.seal) is) (ap (λ r. r.floor) is) refl refl refl refl
+
+  unpersistent : (v : ℕ) → Persists (fields_at k v) → (fields_at k v).persistent ≡ false → DoesNotCount (fields_at k v)
+  unpersistent v keeps h = uncounted-by k law v (λ t. false_true h (keeps t.records))
+
+  closed : (v : ℕ) (f : Fields) (whole : Bool) → role_of f ≡ T v → Persists (fields_at k v) → After v (role_of (parted_if (whole && not (fields_at k v).persistent) f))
+  closed v f whole is keeps = closed-or v f (whole && not (fields_at k v).persistent) is (λ e. unpersistent v keeps (not-true (fields_at k v).persistent (and_parts whole (not (fields_at k v).persistent) e).1))
+
+  -- a target that is to be restored onto its source, and may be at once
+  reversed : (v : ℕ) → MayGo k v → (b : Bool) → After v (role_of (parted_if b (turned (fields_at k v))))
+  reversed v a true = gone v (role_of (parted_if true (turned (fields_at k v)))) refl refl refl refl refl refl refl refl (going v a)
+  reversed v a false = gone v (role_of (turned (fields_at k v))) refl refl refl refl refl a.plain refl ((law.volumes v).previous a.plain) (going v a)
+
+  left : (v : ℕ) → MayGo k v → After v (record (T v) { member = false; session = 0 })
+  left v a = gone v (record (T v) { member = false; session = 0 }) refl refl refl refl refl a.plain refl ((law.volumes v).previous a.plain) (going v a)
+
+  resynced : (v q : ℕ) → DoesNotCount (fields_at k v) → After v (record (T v) { sequence = q })
+  resynced v q none =
+      let p = or_parts (T v).member (T v).revertible none in
+      gone-uncounted v (record (T v) { sequence = q }) none refl refl refl refl p.0 p.1 ((law.volumes v).uncounted none) ((law.volumes v).previous p.1)
+
+  raised : (v q : ℕ) → InAttempt k (RaiseFloor v q) → After v (record (T v) { floor = q })
+  raised v q a = targets ss groups.lone T law v (record (T v) { floor = q }) refl refl refl (λ z m i here e. let r = a z m i here e in record {
+    kind = Raise q;
+    may = record { plain = ap (λ u. (T u).revertible) e ∙ r.plain; higher = subst (λ x. x ≤ q) (ap (λ u. (T u).floor) (sym e)) r.higher; low = r.low };
+    is = ap (λ u. seen_of m.server.0 m.a.0 (T m.a.0) (T m.b.0) (record (T u) { floor = q })) (sym e);
+  }) (record { counted = (law.volumes v).counted; uncounted = (law.volumes v).uncounted; previous = (law.volumes v).previous })
+
+  -- ---- sealed, flashed, committed, reverted
+
+  seals : (v u s n : ℕ) → SealsMember k v u s n → After v (record (T v) { seal = n })
+  seals v u s n a = resealed v n (λ z m i here e. at-place (λ z m. (n ≡ 0) ⊎ ((n ≡ z.last) × (phase_of z.mirror ≡ phase.Draining))) v a.place.session a.place.member a.place.listed a.place.here (inr (inl (sym a.secondary))) (inr (a.last, a.phase)) z m i here (inr (inl (sym e))))
+
+  abbrev flashed_role : ℕ → ℕ → Role → Role
+  flashed_role s n r = record r { sequence = n; previous = r.sequence; revertible = true; session = s }
+
+  abbrev To : Role → ℕ → Session → Member → Type 0
+  To y v z m = m.c.0 ≡ v → TurnsTo ss groups.lone T law z m y
+
+  flashes : (v u a s n : ℕ) → FlashesMember k v u a s n → After v (flashed_role s n (T v))
+  flashes v u a s n p =
+      let f = flashable u (fields_at k v) p.free in
+      targets ss groups.lone T law v (flashed_role s n (T v)) refl refl refl
+      (λ z m i here e. at-place (To (flashed_role s n (T v)) v) v p.place.session p.place.member p.place.listed p.place.here (inr (inr (sym p.target))) (λ e. record {
+        kind = turn.Flash;
+        may = record {
+          flashes = p.phase;
+          paired = ap (λ b. is_at (T b).primary p.place.member.a.0) p.secondary ∙ (ap (λ a. is_at (T u).primary a) p.place.is ∙ (sym (is-secondary a (fields_at k u)) ∙ p.paired));
+          sealed = ap (λ b. (T b).seal) p.secondary ∙ (p.sealed ∙ p.last);
+          plain = ap (λ c. (T c).revertible) e ∙ f.plain;
+          low = subst (λ c. (T c).floor < p.place.session.last) (sym e) (subst (λ n. (T v).floor < n) p.last p.low);
+        };
+        is = ap (λ c. seen_of p.place.member.server.0 p.place.member.a.0 (T p.place.member.a.0) (T p.place.member.b.0) (flashed_role s n (T c))) (sym e) ∙ ap (λ q. record (seen T p.place.member) { previous = (seen T p.place.member).sequence; sequence = q; revertible = true }) p.last;
+      }) z m i here (inr (inr (sym e))) e)
+      (record {
+        counted = λ h. record { session = p.place.session; listed = p.place.listed; number = p.place.number; member = p.place.member; here = p.place.here; is = p.target; source = f.source ∙ ap Some (sym p.secondary); records = f.records; inhibits = f.inhibits; forward = f.forward };
+        uncounted = λ h. false_true h (or-true (T v).member);
+        previous = λ h. absurd cc;
+      })
+
+  abbrev committed_role : ℕ → Role → Role
+  committed_role n r = record r { previous = 0; revertible = false; member = true; floor = n }
+
+  commits : (v a s n : ℕ) → CommitsMember k v a s n → After v (committed_role n (T v))
+  commits v a s n p =
+      targets ss groups.lone T law v (committed_role n (T v)) refl refl refl
+      (λ z m i here e. at-place (To (committed_role n (T v)) v) v p.place.session p.place.member p.place.listed p.place.here (inr (inr (sym p.target))) (λ e. record {
+        kind = turn.Commit;
+        may = record {
+          revertible = ap (λ c. (T c).revertible) e ∙ p.revertible;
+          all = λ u h c. p.all u h c ∙ p.last;
+          way = by p.way;
+        };
+        is = ap (λ c. seen_of p.place.member.server.0 p.place.member.a.0 (T p.place.member.a.0) (T p.place.member.b.0) (committed_role n (T c))) (sym e) ∙ ap (λ q. record (seen T p.place.member) { previous = 0; revertible = false; member = true; floor = q }) p.last;
+      }) z m i here (inr (inr (sym e))) e)
+      (record { counted = λ h. (law.volumes v).counted (ap (λ b. (T v).member || b) p.revertible ∙ or-true (T v).member); uncounted = λ h. absurd cc; previous = λ h. refl })
+    where
+      by : (phase_of p.place.session.mirror ≡ phase.Committing) ⊎ SomeCommitted n (all_seen T p.place.session.members) → (phase_of p.place.session.mirror ≡ phase.Committing) ⊎ SomeCommitted p.place.session.last (all_seen T p.place.session.members)
+      by (inl e) = inl e
+      by (inr had) = inr (subst (λ q. SomeCommitted q (all_seen T p.place.session.members)) p.last had)
+
+  abbrev reverted_role : ℕ → Role → Role
+  reverted_role n r = record r { sequence = r.previous; previous = 0; revertible = false; session = cond r.member r.session 0; floor = max r.floor n }
+
+  reverts : (v a s n : ℕ) → RevertsMember k v a s n → After v (reverted_role n (T v))
+  reverts v a s n p =
+      targets ss groups.lone T law v (reverted_role n (T v)) refl refl refl
+      (λ z m i here e. at-place (To (reverted_role n (T v)) v) v p.place.session p.place.member p.place.listed p.place.here (inr (inr (sym p.target))) (λ e. record {
+        kind = turn.Revert;
+        may = record {
+          revertible = ap (λ c. (T c).revertible) e ∙ p.revertible;
+          none = subst (λ q. NoneCommitted q (all_seen T p.place.session.members)) p.last p.none;
+          way = by p.way;
+        };
+        is = ap (λ c. seen_of p.place.member.server.0 p.place.member.a.0 (T p.place.member.a.0) (T p.place.member.b.0) (reverted_role n (T c))) (sym e) ∙ ap (λ q. record (seen T p.place.member) { sequence = (seen T p.place.member).previous; previous = 0; revertible = false; floor = max (seen T p.place.member).floor q }) p.last;
+      }) z m i here (inr (inr (sym e))) e)
+      (record { counted = λ h. still (T v).member refl h; uncounted = λ h. over (T v).member h; previous = λ h. refl })
+    where
+      by : ((phase_of p.place.session.mirror ≡ phase.Reverting) × (is_secondary_of a (fields_at k p.place.member.b.0) ≡ true)) ⊎ All (λ u. u.paired ≡ false) (all_seen T p.place.session.members)
+          → ((phase_of p.place.session.mirror ≡ phase.Reverting) × (is_at (T p.place.member.b.0).primary p.place.member.a.0 ≡ true)) ⊎ All (λ u. u.paired ≡ false) (all_seen T p.place.session.members)
+      by (inl e) = inl (e.0, ap (λ a. is_at (T p.place.member.b.0).primary a) p.place.is ∙ (sym (is-secondary a (fields_at k p.place.member.b.0)) ∙ e.1))
+      by (inr all) = inr all
+
+      still : (b : Bool) → (T v).member ≡ b → (b || false) ≡ true → IsTarget ss v (cond b (T v).session 0) (T v).source (T v).recorded (T v).inhibited (T v).reversing
+      still true e h = (law.volumes v).counted (ap (λ b. b || (T v).revertible) e)
+      still false e h = absurd cc
+
+      over : (b : Bool) → (b || false) ≡ false → cond b (T v).session 0 ≡ 0
+      over true h = absurd cc
+      over false h = refl
+
+  -- ---- all kinds
+
+  pub keeps : (m : Move) → InAttempt k m → After (target m) (role_of (next_fields m k.volume))
+  keeps (Overwrite w v t) a = closed v (rewritten (fetched (fields_at k v) t) t) (is_whole (k.volume v).tracks (fetched (fields_at k v) t).own) refl a.0
+  keeps (Keep v t) a = closed v (noted (fetched (fields_at k v) t) t) (is_whole (k.volume v).tracks (fetched (fields_at k v) t).own) refl a
+  keeps (Fetch v t) a = closed v (fetched (fields_at k v) t) (is_whole (k.volume v).tracks (fetched (fields_at k v) t).own) refl a
+  keeps (Relate v s choices) a = gone-uncounted v (role_of (next_fields (Relate v s choices) k.volume)) a refl refl refl refl refl refl refl refl
+  keeps (Withdraw v) a = gone-uncounted v (role_of (next_fields (Withdraw v) k.volume)) a refl refl refl refl refl refl refl refl
+  keeps (Resync v sequence) a = resynced v (role_of (next_fields (Resync v sequence) k.volume)).sequence a
+  keeps (Reverse v left) a = reversed v a.0 (is_bare (turned (fields_at k v)).own)
+  keeps (Release v t) a = closed-or v (given_up (fields_at k v) t) (is_bare (given_up (fields_at k v) t).own) refl (λ e. reversing-uncounted k law v a)
+  keeps (Store v t u last) a = resealed v 0 (λ z m i here e. inl refl)
+  keeps (MakeSecondary v u kind state) a = paired v (primary_of (next_fields (MakeSecondary v u kind state) k.volume)) 0 (λ z m i here e. record { sealed = inl refl; free = λ h. inr (a z m i here e) })
+  keeps (DropSecondary v) a = freed v
+  keeps (TakeOver v) a = freed v
+  keeps (Hold v s n first) a = let p : IsMember k v s = a.0.place in
+      tried v n (λ z m i here e. at-place (λ z m. n ≤ z.last) v p.session p.member p.listed p.here (inl (sym p.is)) (let is : n ≡ p.session.last = a.0.last in omega arith) z m i here (inl (sym e)))
+  keeps (Seal v u s n) a = seals v u s n a
+  keeps (Finish v n) a = tried v (max (T v).attempt n) (λ z m i here e.
+      let low : n ≤ z.last = a z m i here e in
+      let own : (T v).attempt ≤ z.last = subst (λ u. (T u).attempt ≤ z.last) e (attempt-low z m i here) in
+      omega arith)
+    where
+      attempt-low : (z : Session) (m : Member) → In z ss → In m z.members → (T m.a.0).attempt ≤ z.last
+      attempt-low z m i here = ((law.sessions z i).numbers.each (seen T m) (to-map (seen T) z.members m here)).attempt
+  keeps (RaiseAttempt v n) a = tried v n a
+  keeps (RaiseFloor v n) a = raised v n a
+  keeps (Leave v u s) a = left v a.0
+  keeps (Flash v u a s n) p = flashes v u a s n p
+  keeps (Commit v a s n) p = commits v a s n p
+  keeps (Revert v a s n) p = reverts v a s n p
+  keeps m a = same (target m)
+
+pub attempts-move : (k j : Control) (m : Move) (c : Carried) → j.sessions ≡ k.sessions → Moves k j (target m) (next_fields m k.volume) c → InAttempt k m → Groups k → Attempts k → Attempts j
+attempts-move k j m c still moves a groups law = attempts-moved k j (target m) (next_fields m k.volume) c still moves (steps-keep k.sessions (roles k) (at (roles k) (target m) (role_of (next_fields m k.volume))) law (keeps k groups law m a))

@@ -1,0 +1,201 @@
+-- What a move tells makes of moments, of who stands in groups, and of lists.
+use Rattle.std.proofs.Common.{ℕ, ◌≡◌, ◌≢◌, refl, ap, sym, ◌∙◌, Bool, true, false, cond, nat_eq, List, [], ◌∷◌, ◌++◌, map, Some, None, subst}
+use Rattle.std.specs.List.{fold}
+use Rattle.std.proofs.lemmas.Bool.{ne_eqb}
+use Rattle.std.proofs.lemmas.List.{append_assoc}
+use Rattle.dr_model.specs.declared.event.Event.{Event}
+use Rattle.dr_model.specs.declared.event.Event.TheVariants.{Volume as VolumeDefined, Issue, Ack, Mirrored, Sent, Set, Back, Blanked, Restored, Suspended, Begin, Cut, Flashed, Reverted, Left}
+use Rattle.dr_model.specs.Layout.{Tracks}
+use Rattle.dr_model.specs.Histories.{Histories, Write, histories, after_event, lists}
+use Rattle.dr_model.specs.Relations.{rest, in_order, is_bare, turned, given_up}
+use Rattle.dr_model.specs.Control.{Volume}
+use Rattle.dr_model.specs.Pairs.{is_suspended}
+use Rattle.dr_model.specs.Moves.{Move, Land, Overwrite, Relate, Withdraw, Resync, Reverse, Restore, Release, Store, Suspend, Mirror, LandBoth, Hold, Leave, Flash, Revert, Keep, Fetch, TakeOver, Seal, Commit, told, told_in_stop, told_blank}
+use Rattle.dr_model.proofs.Images.{histories-append}
+use Rattle.dr_laws_cuts.specs.Once.{NoCut, NoCuts}
+use Rattle.dr_model.specs.Cuts.{cuts, next_cuts}
+use Rattle.dr_laws_cuts.proofs.Journal.{cuts-quiet}
+use Rattle.dr_laws_cuts.proofs.Told.{told-quiet, cuts-told}
+use Rattle.dr_laws_closed.specs.Moments.{Memory, Standing, memory, memory_event, moments_after, moments, standing, standing_event}
+use Rattle.dr_laws_closed.specs.Silent.{Still, AllStill, Apart, AllApart, Silent}
+use Rattle.dr_laws_closed.specs.Next.{next_moments, next_standing, Untouched}
+use Rattle.dr_laws_closed.proofs.Places.{memory-history, moments-append, standing-append}
+
+-- ---- moments
+
+no-moment : (p : Memory) (e : Event) → NoCut e → moments_after p e ≡ p.moments
+no-moment p (Cut s n a) quiet = absurd quiet
+no-moment p e quiet = refl
+
+quiet-moments : (p : Memory) (es : List Event) → NoCuts es → (fold memory_event p es).moments ≡ p.moments
+quiet-moments p [] quiet = refl
+quiet-moments p (e ∷ es) quiet = quiet-moments (memory_event p e) es quiet.1 ∙ no-moment p e quiet.0
+
+pub moments-quiet : (events more : List Event) → NoCuts more → moments (events ++ more) ≡ moments events
+moments-quiet events more quiet = moments-append events more ∙ quiet-moments (memory events) more quiet
+
+module _ (events : List Event) where
+  pub moments-told : (m : Move) (u : Volume) → moments (events ++ told m u) ≡ next_moments (lists events) m (moments events)
+  moments-told (Hold v s n true) u = moments-append events (Begin s n ∷ Cut s n v ∷ []) ∙ ap (λ (h : Histories). next_moments h.now (Hold v s n true) (moments events)) (memory-history events)
+  moments-told (Hold v s n false) u = moments-append events (Cut s n v ∷ []) ∙ ap (λ (h : Histories). next_moments h.now (Hold v s n false) (moments events)) (memory-history events)
+  moments-told m u = moments-quiet events (told m u) (told-quiet m u tt)
+
+-- ---- who stands in groups
+
+pub still-append : (es fs : List Event) → AllStill es → AllStill fs → AllStill (es ++ fs)
+still-append [] fs a b = b
+still-append (e ∷ es) fs a b = (a.0, still-append es fs a.1 b)
+
+pub still-blanked : (v : ℕ) (ts : List ℕ) → AllStill (map (Blanked v) ts)
+still-blanked v [] = tt
+still-blanked v (t ∷ ts) = (tt, still-blanked v ts)
+
+pub still-restored : (v s n : ℕ) (own : Tracks) (b : Bool) → AllStill (cond b (told_blank v n own ++ Restored s v ∷ []) [])
+still-restored v s n own true = still-append (told_blank v n own) (Restored s v ∷ []) (still-blanked v (in_order n (rest n own))) (tt, tt)
+still-restored v s n own false = tt
+
+pub still-suspended : (v : ℕ) (b : Bool) → AllStill (cond b [] (Suspended v ∷ []))
+still-suspended v true = tt
+still-suspended v false = (tt, tt)
+
+no-change : (g : Standing) (e : Event) → Still e → standing_event g e ≡ g
+no-change g (Flashed s n a b c) quiet = absurd quiet
+no-change g (Reverted s n a c) quiet = absurd quiet
+no-change g (Left s a) quiet = absurd quiet
+no-change g e quiet = refl
+
+fold-still : (g : Standing) (es : List Event) → AllStill es → fold standing_event g es ≡ g
+fold-still g [] quiet = refl
+fold-still g (e ∷ es) quiet = fold-still (standing_event g e) es quiet.1 ∙ no-change g e quiet.0
+
+pub standing-still : (events more : List Event) → AllStill more → standing (events ++ more) ≡ standing events
+standing-still events more quiet = standing-append events more ∙ fold-still (standing events) more quiet
+
+module _ (events : List Event) where
+  pub standing-told : (m : Move) (u : Volume) → standing (events ++ told m u) ≡ next_standing m u (standing events)
+  standing-told (Withdraw v) u = standing-still events _ (still-blanked v (in_order u.tracks (rest u.tracks u.fields.own)))
+  standing-told (Reverse v None) u = standing-still events _ (still-restored v u.fields.source u.tracks (turned u.fields).own (is_bare (turned u.fields).own))
+  standing-told (Reverse v (Some a)) u =
+      standing-append events (told (Reverse v (Some a)) u)
+      ∙ fold-still (standing_event (standing events) (Left u.fields.session a)) _ (still-restored v u.fields.source u.tracks (turned u.fields).own (is_bare (turned u.fields).own))
+  standing-told (Release v t) u = standing-still events _ (still-restored v u.fields.source u.tracks (given_up u.fields t).own (is_bare (given_up u.fields t).own))
+  standing-told (Suspend v busy) u = standing-still events _ (still-suspended v (is_suspended u.fields.primary_state))
+  standing-told (Hold v s n true) u = standing-append events (Begin s n ∷ Cut s n v ∷ [])
+  standing-told (Hold v s n false) u = standing-append events (Cut s n v ∷ [])
+  standing-told m u = standing-append events (told m u)
+
+-- ---- lists
+
+pub elsewhere : {X : Type 0} (v x : ℕ) (new old : X) → v ≢ x → cond (nat_eq v x) new old ≡ old
+elsewhere v x new old ne = ap (λ b. cond b new old) (ne_eqb v x ne)
+
+apart-event : (h : Histories) (e : Event) (v t : ℕ) → Apart h.write v e → (after_event h e).now v t ≡ h.now v t
+apart-event h (VolumeDefined x server tracks) v t a = ap (λ (f : ℕ → List ℕ). f t) (elsewhere v x _ (h.now v) a)
+apart-event h (Issue n x q offset len bytes) v t a = refl
+apart-event h (Ack n) v t a = elsewhere v (h.write n).volume _ (h.now v t) a
+apart-event h (Mirrored n x) v t a = elsewhere v x _ (h.now v t) a
+apart-event h (Sent x q to) v t a = elsewhere v to _ (h.now v t) a
+apart-event h (Flashed s n b c d) v t a = ap (λ (f : ℕ → List ℕ). f t) (elsewhere v d (h.now c) (h.now v) a)
+apart-event h (Reverted s n b c) v t a = ap (λ (f : ℕ → List ℕ). f t) (elsewhere v c (h.aside c) (h.now v) a)
+apart-event h (Set x from) v t a = ap (λ (f : ℕ → List ℕ). f t) (elsewhere v x (h.now from) (h.now v) a)
+apart-event h (Back x q from) v t a = elsewhere v x _ (h.now v t) a
+apart-event h (Blanked x q) v t a = elsewhere v x _ (h.now v t) a
+apart-event h e v t a = refl
+
+apart-write : (h : Histories) (e : Event) (v : ℕ) → Apart h.write v e → (after_event h e).write ≡ h.write
+apart-write h (Issue n x q offset len bytes) v a = absurd a
+apart-write h e v a = refl
+
+apart-fold : (h : Histories) (es : List Event) (v t : ℕ) → AllApart h.write v es → (fold after_event h es).now v t ≡ h.now v t
+apart-fold h [] v t a = refl
+apart-fold h (e ∷ es) v t a = apart-fold (after_event h e) es v t (subst (λ (f : ℕ → Write). AllApart f v es) (sym (apart-write h e v a.0)) a.1) ∙ apart-event h e v t a.0
+
+apart-append : (write : ℕ → Write) (v : ℕ) (es fs : List Event) → AllApart write v es → AllApart write v fs → AllApart write v (es ++ fs)
+apart-append write v [] fs a b = b
+apart-append write v (e ∷ es) fs a b = (a.0, apart-append write v es fs a.1 b)
+
+apart-blanked : (write : ℕ → Write) (v x : ℕ) (ts : List ℕ) → v ≢ x → AllApart write v (map (Blanked x) ts)
+apart-blanked write v x [] ne = tt
+apart-blanked write v x (t ∷ ts) ne = (ne, apart-blanked write v x ts ne)
+
+apart-restored : (write : ℕ → Write) (v x s n : ℕ) (own : Tracks) (b : Bool) → v ≢ x → AllApart write v (cond b (told_blank x n own ++ Restored s x ∷ []) [])
+apart-restored write v x s n own true ne = apart-append write v (told_blank x n own) (Restored s x ∷ []) (apart-blanked write v x (in_order n (rest n own)) ne) (tt, tt)
+apart-restored write v x s n own false ne = tt
+
+apart-suspended : (write : ℕ → Write) (v x : ℕ) (b : Bool) → AllApart write v (cond b [] (Suspended x ∷ []))
+apart-suspended write v x true = tt
+apart-suspended write v x false = (tt, tt)
+
+apart-held : (write : ℕ → Write) (v x s n : ℕ) (first : Bool) → AllApart write v (cond first (Begin s n ∷ Cut s n x ∷ []) (Cut s n x ∷ []))
+apart-held write v x s n true = (tt, (tt, tt))
+apart-held write v x s n false = (tt, tt)
+
+told-apart : (write : ℕ → Write) (m : Move) (u : Volume) (v : ℕ) → Untouched write m v → AllApart write v (told m u)
+told-apart write (Land n x t) u v ne = (ne, tt)
+told-apart write (Overwrite n x t) u v ne = (ne, tt)
+told-apart write (LandBoth n x t) u v ne = (ne, tt)
+told-apart write (Keep x t) u v ne = (tt, tt)
+told-apart write (Fetch x t) u v ne = (tt, tt)
+told-apart write (Relate x s choices) u v ne = (ne, tt)
+told-apart write (Withdraw x) u v ne = apart-blanked write v x (in_order u.tracks (rest u.tracks u.fields.own)) ne
+told-apart write (Resync x sequence) u v ne = (ne, tt)
+told-apart write (Reverse x None) u v ne = apart-restored write v x u.fields.source u.tracks (turned u.fields).own _ ne
+told-apart write (Reverse x (Some p)) u v ne = (tt, apart-restored write v x u.fields.source u.tracks (turned u.fields).own _ ne)
+told-apart write (Restore x t from) u v ne = (ne, tt)
+told-apart write (Release x t) u v ne = apart-restored write v x u.fields.source u.tracks (given_up u.fields t).own _ ne
+told-apart write (Store x t from last) u v ne = (ne, tt)
+told-apart write (Suspend x busy) u v ne = apart-suspended write v x _
+told-apart write (TakeOver x) u v ne = (tt, tt)
+told-apart write (Mirror x t from n) u v ne = (ne, tt)
+told-apart write (Hold x s n first) u v ne = apart-held write v x s n first
+told-apart write (Seal x a s n) u v ne = (tt, tt)
+told-apart write (Leave x a s) u v ne = (tt, tt)
+told-apart write (Flash x from a s n) u v ne = (ne, tt)
+told-apart write (Commit x a s n) u v ne = (tt, tt)
+told-apart write (Revert x a s n) u v ne = (ne, tt)
+told-apart write m u v ne = tt
+
+pub lists-apart : (events more : List Event) (v t : ℕ) → AllApart (histories events).write v more → lists (events ++ more) v t ≡ lists events v t
+lists-apart events more v t a = ap (λ (h : Histories). h.now v t) (histories-append events more) ∙ apart-fold (histories events) more v t a
+
+-- ---- a move that is done, and one that counts as done in a stop
+
+-- what was told of a move
+pub record ToldOf (before after : List Event) (m : Move) (u : Volume) : Type 0 where
+  pub cut : cuts after ≡ next_cuts (lists before) m (cuts before)
+  pub moment : moments after ≡ next_moments (lists before) m (moments before)
+  pub stand : standing after ≡ next_standing m u (standing before)
+  pub list : (v t : ℕ) → Untouched (histories before).write m v → lists after v t ≡ lists before v t
+
+pub told-of : (before after : List Event) (m : Move) (u : Volume) → after ≡ before ++ told m u → ToldOf before after m u
+told-of before after m u is = record {
+  cut = ap cuts is ∙ cuts-told before m u;
+  moment = ap moments is ∙ moments-told before m u;
+  stand = ap standing is ∙ standing-told before m u;
+  list = λ v t ne. ap (λ es. lists es v t) is ∙ lists-apart before (told m u) v t (told-apart (histories before).write m u v ne);
+}
+
+quiet-of : (before more : List Event) (m : Move) (u : Volume) → next_cuts (lists before) m (cuts before) ≡ cuts before → next_moments (lists before) m (moments before) ≡ moments before → next_standing m u (standing before) ≡ standing before → Silent more → ToldOf before (before ++ more) m u
+quiet-of before more m u cut moment stand s = record {
+  cut = cuts-quiet before more s.cut ∙ sym cut;
+  moment = moments-quiet before more s.cut ∙ sym moment;
+  stand = standing-still before more s.stand ∙ sym stand;
+  list = λ v t ne. lists-apart before more v t (s.list (histories before).write v);
+}
+
+followed : (before middle more : List Event) (m : Move) (u : Volume) → Silent more → ToldOf before middle m u → ToldOf before (middle ++ more) m u
+followed before middle more m u s t = record {
+  cut = cuts-quiet middle more s.cut ∙ t.cut;
+  moment = moments-quiet middle more s.cut ∙ t.moment;
+  stand = standing-still middle more s.stand ∙ t.stand;
+  list = λ v q ne. lists-apart middle more v q (s.list (histories middle).write v) ∙ t.list v q ne;
+}
+
+stopped-by : (before more : List Event) (m : Move) (u : Volume) → Silent more → ToldOf before (before ++ (told_in_stop m u ++ more)) m u
+stopped-by before more (Land n v t) u s = quiet-of before more (Land n v t) u refl refl refl s
+stopped-by before more (Overwrite n v t) u s = quiet-of before more (Overwrite n v t) u refl refl refl s
+stopped-by before more (LandBoth n v t) u s = quiet-of before more (LandBoth n v t) u refl refl refl s
+stopped-by before more m u s = subst (λ es. ToldOf before es m u) (append_assoc before (told m u) more) (followed before (before ++ told m u) more m u s (told-of before (before ++ told m u) m u refl))
+
+pub stopped-of : (before after more : List Event) (m : Move) (u : Volume) → Silent more → after ≡ before ++ (told_in_stop m u ++ more) → ToldOf before after m u
+stopped-of before after more m u s is = subst (λ es. ToldOf before es m u) (sym is) (stopped-by before more m u s)

@@ -1,0 +1,323 @@
+-- The moments of a run come one after the other as they may, where the acts of its plans are fair.
+use Rattle.std.proofs.Common.{ℕ, ◌≡◌, ◌<◌, ◌+◌, refl, ap, sym, ◌∙◌, subst, true, false, List, [], ◌∷◌, ◌++◌, append_assoc, filter, Option, Some, None}
+use Rattle.std.proofs.lemmas.List.{append-nil}
+use Rattle.dr_ids.specs.declared.refusal.Refusal.{Refusal}
+use Rattle.dr_ids.specs.declared.refusal.Refusal.TheVariants.{Stopped as StoppedIn}
+use Rattle.dr_model.specs.declared.event.Event.{Event}
+use Rattle.dr_model.specs.declared.event.Event.TheVariants.{Stopped, Frozen, Thawed, Recovered}
+use Rattle.dr_model.specs.declared.said.Said.{Said}
+use Rattle.dr_model.specs.Answers.{answer}
+use Rattle.dr_model.specs.Histories.{Histories, histories, lists}
+use Rattle.dr_model.specs.Sessions.{Session}
+use Rattle.dr_model.specs.Control.{Control, Fuse, World}
+use Rattle.dr_model.specs.Moves.{Move, Hold, is_write}
+use Rattle.dr_model.specs.Carry.{Act, Make, OpenAttempt, Redo, Acknowledge, Drop, EndFreeze, EndThaw, EndRecovery, Turn, Next, Pass, Do, End, Entry, Outcome, continue, go, carry, dropped, frozen, thawed, recovered}
+use Rattle.dr_model.specs.Plans.{Plan, plan, only_says}
+use Rattle.dr_model.specs.Forming.{Part, Way, goes_on, after_part, part_refusal, form_said}
+use Rattle.dr_model.specs.Runs.{Task, Course, run_asked, course_of, course, answered_part, masters_lost, begun, finish, answered, said, after_plan, after_task}
+use Rattle.dr_model.specs.Table.{table, waiting}
+use Rattle.dr_model.specs.Laws.{SoundRows, AllPending}
+use Rattle.dr_model.specs.Allowed.{May, MayOpen, Runs}
+use Rattle.dr_model.proofs.Images.{histories-append}
+use Rattle.dr_laws_freezes.specs.Moments.{on_from, on_next, worlds, worlds_after, plan_moments, part_moments, parts_moments, task_moments, moments_from}
+use Rattle.dr_laws_sound.proofs.Turns.{done, done_in_stop, opened_in_stop, not_done, fused, place, server_of, server_at, after_act, Writes, Counts, act-cases}
+use Rattle.dr_laws_sound.proofs.Due.{waiting-settled}
+use Rattle.dr_laws_freezes.proofs.Fair.{Fair, tag_after, come, come-open}
+use Rattle.dr_laws_freezes.proofs.KeepsWindow.{AllSilent}
+use Rattle.dr_laws_freezes.proofs.KeepsStep.{Step, Does, Stops, Acks, Others, Passes, Acknowledges, Unchanged}
+use Rattle.dr_laws_freezes.proofs.Windows.{Good, Chain, Last, Then}
+use Rattle.dr_laws_sound.proofs.Cases.{Case, Says, plan-case}
+use Rattle.dr_laws_sound.proofs.Parts.{Comes, Ways, way-formed}
+use Rattle.dr_logic.proofs.Truth.{false_true}
+
+-- what an act asks where it comes
+abbrev pub FairAct : Option ℕ → World → Act → Type 0
+FairAct tag w (Make m) = May w m × Fair tag w m
+FairAct tag w (OpenAttempt v s n) = MayOpen w v s n
+FairAct tag w (Redo v) = Runs w v
+FairAct tag w (Acknowledge n) = Acknowledges w n
+FairAct tag w (Drop n) = AllPending (λ p. p.landed ≡ false) (filter (is_write n) w.control.pending)
+FairAct tag w (EndFreeze l m) = Unit {0}
+FairAct tag w (EndThaw l m) = Unit {0}
+FairAct tag w (EndRecovery s n) = Unit {0}
+
+-- the write that goes on after it
+abbrev pub act_tag : Act → Option ℕ → Option ℕ
+act_tag (Make m) tag = tag_after m tag
+act_tag (OpenAttempt v s n) tag = tag
+act_tag a tag = None
+
+-- events that no list hears of
+pub told-unchanged : (w u : World) (es : List Event) → u.events ≡ w.events ++ es → AllSilent es → histories (w.events ++ es) ≡ histories w.events → u.control.volume ≡ w.control.volume → u.contents ≡ w.contents → u.control.issued ≡ w.control.issued
+    → ((v t : ℕ) → waiting u.control.pending v t ≡ waiting w.control.pending v t) → Unchanged w u es
+told-unchanged w u es events silent same volume contents issued waits = record {
+  events = events;
+  silent = silent;
+  writes = λ n lt. ap (λ es. (histories es).write n) events ∙ ap (λ (h : Histories). h.write n) same;
+  issued = λ n lt. subst (λ i. n < i + 1) (sym issued) lt;
+  waits = waits;
+  volume = λ v there. λ i. volume i v;
+  contents = λ v there t. λ i. contents i v t;
+  lists = λ v there t. ap (λ es. lists es v t) events ∙ ap (λ (h : Histories). h.now v t) same;
+  acked = λ n h. ap (λ es. (histories es).write n) events ∙ ap (λ (h : Histories). h.write n) same;
+}
+
+pub not-unchanged : (w : World) (s : ℕ) (f : Option Fuse) → Unchanged w (not_done w s f) (Stopped s 0 ∷ [])
+not-unchanged w s f = told-unchanged w (not_done w s f) (Stopped s 0 ∷ []) refl (tt, tt) (histories-append w.events (Stopped s 0 ∷ [])) refl refl refl (λ v t. refl)
+
+-- an act that is done
+act-step : (tag : Option ℕ) (w : World) (a : Act) (f : Option Fuse) → FairAct tag w a → Step tag w (act_tag a tag) (after_act w a f)
+act-step tag w (Make m) f fair = Does m f (come w m fair.0) fair.1
+act-step tag w (OpenAttempt v s n) f fair = let m : Move = Hold v s n true in Others tag (done w m f) _ (Does m f (come-open w v s n fair) tt)
+act-step tag w (Redo v) f fair = Passes None (fused w (server_at w v) f) [] (told-unchanged w (fused w (server_at w v) f) [] (sym (append-nil w.events)) tt (ap histories (append-nil w.events)) refl refl refl (λ v t. refl)) (λ n h. absurd cc)
+act-step tag w (Acknowledge n) f fair = Acks n fair
+act-step tag w (Drop n) f fair =
+    Passes None (dropped w n) [] (told-unchanged w (dropped w n) [] (sym (append-nil w.events)) tt (ap histories (append-nil w.events)) refl refl refl (λ v t. waiting-settled n v t w.control.pending fair)) (λ n h. absurd cc)
+act-step tag w (EndFreeze l m) f fair = Passes None (frozen w l m) (Frozen l m ∷ []) (told-unchanged w (frozen w l m) (Frozen l m ∷ []) refl (tt, tt) (histories-append w.events (Frozen l m ∷ [])) refl refl refl (λ v t. refl)) (λ n h. absurd cc)
+act-step tag w (EndThaw l m) f fair = Passes None (thawed w l m) (Thawed l m ∷ []) (told-unchanged w (thawed w l m) (Thawed l m ∷ []) refl (tt, tt) (histories-append w.events (Thawed l m ∷ [])) refl refl refl (λ v t. refl)) (λ n h. absurd cc)
+act-step tag w (EndRecovery s n) f fair = Passes None (recovered w s n) (Recovered s n ∷ []) (told-unchanged w (recovered w s n) (Recovered s n ∷ []) refl (tt, tt) (histories-append w.events (Recovered s n ∷ [])) refl refl refl (λ v t. refl)) (λ n h. absurd cc)
+
+act-runs : (tag : Option ℕ) (w : World) (a : Act) → Writes a → FairAct tag w a → Runs w (place a)
+act-runs tag w (Make m) d fair = fair.0.runs
+act-runs tag w (OpenAttempt v s n) d fair = fair.runs
+act-runs tag w (Redo v) d fair = fair
+act-runs tag w (Acknowledge n) d fair = absurd d
+act-runs tag w (Drop n) d fair = absurd d
+act-runs tag w (EndFreeze l m) d fair = absurd d
+act-runs tag w (EndThaw l m) d fair = absurd d
+act-runs tag w (EndRecovery s n) d fair = absurd d
+
+-- what is to be shown of entries, where this holds of how they end
+module _ (Fin : Option ℕ → World → Option Refusal → Type 0) where
+  -- where the server of an act stops in it
+  abbrev pub StopFin : World → ℕ → World → Type 0
+  StopFin w s u = Fin None u (Some (StoppedIn (record { 0 = s })))
+
+  abbrev pub CountsFin : World → Act → Type 0
+  CountsFin w (Make m) = (f : Option Fuse) → StopFin w (server_at w (place (Make m))) (done_in_stop w m f)
+  CountsFin w (OpenAttempt v s n) = (f : Option Fuse) → StopFin w (server_at w v) (opened_in_stop w v s n f)
+  CountsFin w a = Unit {0}
+
+  abbrev pub fairly_next : Option ℕ → World → Next → (Option ℕ → World → Type 0) → Type 0
+  fairly_next tag w Pass more = more tag w
+  fairly_next tag w (End r) more = Fin tag w (Some r)
+  fairly_next tag w (Do a) more =
+      FairAct tag w a × ((f : Option Fuse) → more (act_tag a tag) (after_act w a f)) × (CountsFin w a × (Writes a → (f : Option Fuse) → StopFin w (server_of w a) (not_done w (server_of w a) f)))
+
+  -- each act is fair where it comes, and each moment good
+  unfoldable pub Fairly : Option ℕ → World → List Entry → Type 0
+  Fairly tag w [] = Good tag w × Fin tag w None
+  Fairly tag w (d ∷ ds) = Good tag w × fairly_next tag w (d w.control) (λ tag v. Fairly tag v ds)
+
+  pub fairly-entry : (tag : Option ℕ) (w : World) (d : Entry) (ds : List Entry) (x : Next) → d w.control ≡ x → Good tag w → fairly_next tag w x (λ tag v. Fairly tag v ds) → Fairly tag w (d ∷ ds)
+  unfolding Fairly
+  fairly-entry tag w d ds x is good a = (good, subst (λ x. fairly_next tag w x (λ tag v. Fairly tag v ds)) (sym is) a)
+
+  pub fairly-nil : (tag : Option ℕ) (w : World) → Good tag w → Fin tag w None → Fairly tag w []
+  unfolding Fairly
+  fairly-nil tag w good fin = (good, fin)
+
+  -- then their moments come one after the other, and those behind them
+  module _ (rest : Outcome → List World) (ends : (tag : Option ℕ) (w : World) (r : Option Refusal) → Good tag w → Fin tag w r → Chain tag w (rest (w, r)))
+      (good_fin : (w : World) (r : Option Refusal) → Fin None w r → Good None w) where
+    abbrev Turned : Option ℕ → World → (World → List World) → (World → Outcome) → Turn → Type 0
+    Turned tag w more go t = Chain tag w (on_from t.0 t.1 more ++ rest (continue t.0 t.1 go))
+
+    counts-chain : (tag : Option ℕ) (w : World) (a : Act) (more : World → List World) (go : World → Outcome) → Good tag w → FairAct tag w a → CountsFin w a → Counts w a (Turned tag w more go)
+    counts-chain tag w (Make m) more go good fair fin =
+        λ f. let c = fin f in Then tag None w (done_in_stop w m f) _ good (Stops m f (come w m fair.0) fair.1) (ends None _ _ (good_fin _ _ c) c)
+    counts-chain tag w (OpenAttempt v s n) more go good fair fin =
+        λ f. let c = fin f in let m : Move = Hold v s n true in Then tag None w (opened_in_stop w v s n f) _ good (Others None (done_in_stop w m f) _ (Stops m f (come-open w v s n fair) tt)) (ends None _ _ (good_fin _ _ c) c)
+    counts-chain tag w (Redo v) more go good fair fin = tt
+    counts-chain tag w (Acknowledge n) more go good fair fin = tt
+    counts-chain tag w (Drop n) more go good fair fin = tt
+    counts-chain tag w (EndFreeze l m) more go good fair fin = tt
+    counts-chain tag w (EndThaw l m) more go good fair fin = tt
+    counts-chain tag w (EndRecovery s n) more go good fair fin = tt
+
+    next-chain : (tag : Option ℕ) (w : World) (x : Next) (more : World → List World) (go_on : World → Outcome) (then : Option ℕ → World → Type 0)
+        → ((tag : Option ℕ) (v : World) → then tag v → Chain tag v (more v ++ rest (go_on v))) → Good tag w → fairly_next tag w x then → Chain tag w (on_next w x more ++ rest (go w x go_on))
+    next-chain tag w Pass more go_on then on good a = on tag w a
+    next-chain tag w (End r) more go_on then on good a = ends tag w (Some r) good a
+    next-chain tag w (Do x) more go_on then on good a =
+        act-cases w x (Turned tag w more go_on)
+        (λ d off. absurd (false_true off (act-runs tag w x d a.0)))
+        (λ f. Then tag (act_tag x tag) w (after_act w x f) _ good (act-step tag w x f a.0) (on (act_tag x tag) (after_act w x f) (a.1 f)))
+        (counts-chain tag w x more go_on good a.0 a.2.0)
+        (λ d f. let c = a.2.1 d f in Then tag None w (not_done w (server_of w x) f) _ good (Passes None _ _ (not-unchanged w (server_of w x) f) (λ n h. absurd cc)) (ends None _ _ (good_fin _ _ c) c))
+
+    pub entries-chain : (ds : List Entry) (tag : Option ℕ) (w : World) → Fairly tag w ds → Chain tag w (worlds w ds ++ rest (carry w ds))
+    unfolding Fairly worlds carry
+    entries-chain [] tag w a = ends tag w None a.0 a.1
+    entries-chain (d ∷ ds) tag w a = next-chain tag w (d w.control) (λ v. worlds v ds) (λ v. carry v ds) (λ tag v. Fairly tag v ds) (λ tag v b. entries-chain ds tag v b) a.0 a.1
+
+pub good-none : (w : World) → SoundRows (table w) → Good None w
+good-none w rows = record { rows = rows; low = λ n is. absurd cc; out = λ n is. absurd cc }
+
+-- a plan ends: it may have left other sessions, masters whose servers went off are lost, and its step may be answered
+abbrev pub Closes : World → (World → Option Refusal → World) → Type 0
+Closes first over = (w : World) (k : Control) (ss : List Session) (r : Option Refusal) → k ≡ record w.control { sessions = ss } → (told : List Event) × Unchanged w (over (record w { control = k }) r) told
+
+close : (w u : World) (k : Control) (ss : List Session) (told : List Event) → k ≡ record w.control { sessions = ss } → AllSilent told → histories (w.events ++ told) ≡ histories w.events
+    → u.events ≡ w.events ++ told → u.control.volume ≡ k.volume → u.contents ≡ w.contents → u.control.issued ≡ k.issued → u.control.pending ≡ k.pending → Unchanged w u told
+close w u k ss told same silent lists events volume contents issued pending =
+    told-unchanged w u told events silent lists (volume ∙ ap (λ (k : Control). k.volume) same) contents (issued ∙ ap (λ (k : Control). k.issued) same)
+    (λ v t. ap (λ ps. waiting ps v t) pending ∙ ap (λ (k : Control). waiting k.pending v t) same)
+
+abbrev pub ended : World → World → ℕ → Said → World
+ended first w line a = masters_lost first (said w line a)
+
+said-closes : (first : World) (line : ℕ) (p : Plan) → Closes first (λ w r. ended first w line (answered p w.control r))
+said-closes first line p w k ss r same =
+    let a : Said = answered p k r in
+    (answer line a ∷ [], close w (ended first (record w { control = k }) line a) k ss (answer line a ∷ []) same (tt, tt) (histories-append w.events (answer line a ∷ [])) refl refl refl refl refl)
+
+lost-closes : (first : World) → Closes first (λ w r. masters_lost first w)
+lost-closes first w k ss r same = ([], close w (masters_lost first (record w { control = k })) k ss [] same tt (ap histories (append-nil w.events)) (sym (append-nil w.events)) refl refl refl refl)
+
+-- K holds between steps
+module _ (K : World → Type 0) (rows : (w : World) → K w → SoundRows (table w)) (answers : (first w : World) (line : ℕ) (a : Said) → K w → K (ended first w line a)) where
+  -- how what follows a stop ends, and how a plan's entries end
+  abbrev pub EndFin : Option ℕ → World → Option Refusal → Type 0
+  EndFin tag w r = K w
+
+  abbrev pub PlanFin : Plan → Option ℕ → World → Option Refusal → Type 0
+  PlanFin p tag w None = K (record w { control = p.last w.control })
+  PlanFin p tag w (Some (StoppedIn s)) = Fairly EndFin tag w (p.follows s.0)
+  PlanFin p tag w (Some r) = K w
+
+  -- the tables as a plan ends differ in the sessions alone
+  abbrev pub Leaves : Plan → Type 0
+  Leaves p = (k : Control) → (ss : List Session) × (p.last k ≡ record k { sessions = ss })
+
+  -- what is to be shown of a plan
+  pub record PlanFair (w : World) (p : Plan) : Type 0 where
+    pub told : List Event
+    pub begins : Unchanged w (begun w p) told
+    pub entries : Fairly (PlanFin p) None (begun w p) p.entries
+    pub last : Leaves p
+
+  good-end : (w : World) (r : Option Refusal) → EndFin None w r → Good None w
+  good-end w r k = good-none w (rows w k)
+
+  good-fairly : (Fin : Option ℕ → World → Option Refusal → Type 0) (tag : Option ℕ) (w : World) (ds : List Entry) → Fairly Fin tag w ds → Good tag w
+  unfolding Fairly
+  good-fairly Fin tag w [] a = a.0
+  good-fairly Fin tag w (d ∷ ds) a = a.0
+
+  good-plan : (p : Plan) → Leaves p → (w : World) (r : Option Refusal) → PlanFin p None w r → Good None w
+  good-plan p last w None k =
+      let same : table (record w { control = p.last w.control }) ≡ table w = ap (λ (k : Control). table (record w { control = k })) (last w.control).1 in
+      good-none w (subst SoundRows same (rows (record w { control = p.last w.control }) k))
+  good-plan p last w (Some (StoppedIn s)) a = good-fairly EndFin None w (p.follows s.0) a
+  good-plan p last w (Some r) k = good-none w (rows w k)
+
+  module _ (first : World) (p : Plan) (last : Leaves p) (over : World → Option Refusal → World) (closes : Closes first over) (kept : (w : World) (r : Option Refusal) → K w → K (over w r))
+      (more : World → List World) (goes_on : (w : World) → K w → Chain None w (more w)) where
+    close-chain : (tag : Option ℕ) (w : World) (k : Control) (ss : List Session) (r : Option Refusal) → k ≡ record w.control { sessions = ss } → Good tag w → K (record w { control = k }) → let u : World = record w { control = k } in Chain tag w (over u r ∷ more (over u r))
+    close-chain tag w k ss r same good y =
+        let u : World = record w { control = k } in
+        let c = closes w k ss r same in
+        Then tag None w (over u r) (more (over u r)) good (Passes None (over u r) c.0 c.1 (λ n h. absurd cc)) (goes_on (over u r) (kept u r y))
+
+    abbrev rest : Outcome → List World
+    rest o = worlds_after o.0 o.1 p.follows ++ over (finish p o.0 o.1) o.1 ∷ more (over (finish p o.0 o.1) o.1)
+
+    ends : (tag : Option ℕ) (w : World) (r : Option Refusal) → Good tag w → PlanFin p tag w r → Chain tag w (rest (w, r))
+    ends tag w None good k = close-chain tag w (p.last w.control) (last w.control).0 None (last w.control).1 good k
+    ends tag w (Some (StoppedIn s)) good a =
+        let r : Option Refusal = Some (StoppedIn s) in
+        entries-chain EndFin (λ o. over o.0 r ∷ more (over o.0 r)) (λ tag u x good k. close-chain tag u u.control u.control.sessions r refl good k) good-end (p.follows s.0) tag w a
+    ends tag w (Some r) good k = close-chain tag w w.control w.control.sessions (Some r) refl good k
+
+    pub plan-chain : K first → PlanFair first p → Chain None first (begun first p ∷ (worlds (begun first p) p.entries ++ rest (carry (begun first p) p.entries)))
+    plan-chain k fair =
+        Then None None first (begun first p) _ (good-none first (rows first k)) (Passes None (begun first p) fair.told fair.begins (λ n h. absurd cc)) (entries-chain (PlanFin p) rest ends (good-plan p last) p.entries None (begun first p) fair.entries)
+
+    -- the same as its moments are listed
+    pub moments-chain : K first → PlanFair first p → let o : Outcome = carry (begun first p) p.entries in
+        Chain None first (plan_moments first p ++ (over (finish p o.0 o.1) o.1 ∷ more (over (finish p o.0 o.1) o.1)))
+    moments-chain k fair =
+        let o : Outcome = carry (begun first p) p.entries in
+        subst (λ us. Chain None first (begun first p ∷ us)) (sym (append_assoc (worlds (begun first p) p.entries) (worlds_after o.0 o.1 p.follows) _)) (plan-chain k fair)
+
+  -- a run whose plans are fair
+  module _ (loses : (first w : World) → K w → K (masters_lost first w)) (each : (w : World) (line : ℕ) (p : Plan) → Case w.control w.events line p → K w → PlanFair w p) where
+    -- what comes after a way, by the world that it led to and the refusal that ended it
+    abbrev After : Type 0
+    After = World → Option Refusal → List World
+
+    abbrev Follows : After → Type 0
+    Follows more = (v : World) (r : Option Refusal) → K v → Chain None v (more v r)
+
+    abbrev WayChains : World → Way → Type 0
+    WayChains w x = (more : After) → Follows more → K w → Chain None w (parts_moments x.parts ++ more x.world x.refusal)
+
+    parts-append : (xs ys : List Part) → parts_moments (xs ++ ys) ≡ parts_moments xs ++ parts_moments ys
+    unfolding parts_moments
+    parts-append [] ys = refl
+    parts-append (x ∷ xs) ys =
+        ap (λ us. part_moments x ++ (after_part x.world x.plan ∷ us)) (parts-append xs ys)
+        ∙ sym (append_assoc (part_moments x) (after_part x.world x.plan ∷ parts_moments xs) (parts_moments ys))
+
+    stands-chains : (w : World) (r : Option Refusal) → WayChains w (record { parts = []; world = w; refusal = r })
+    unfolding parts_moments
+    stands-chains w r more follows k = follows w r k
+
+    one-chains : (w : World) (p : Plan) → Comes w p → WayChains w (record { parts = record { world = w; plan = p } ∷ []; world = after_part w p; refusal = part_refusal w p })
+    unfolding parts_moments
+    one-chains w p comes more follows k =
+        let fair : PlanFair w p = each w 0 p (comes.case 0) k in
+        let r : Option Refusal = part_refusal w p in
+        subst (λ us. Chain None w us) (sym (append_assoc (plan_moments w p) (after_part w p ∷ []) (more (after_part w p) r)))
+        (moments-chain w p fair.last (λ u r. masters_lost w u) (lost-closes w) (λ u r k. loses w u k) (λ v. more v r) (λ v k. follows v r k) k fair)
+
+    then-chains : (w u : World) (xs : List Part) (r : Option Refusal) (more : World → Way) → WayChains w (record { parts = xs; world = u; refusal = r }) → ((v : World) → WayChains v (more v)) → WayChains w (goes_on xs u r more)
+    then-chains w u xs r next first go more follows k = by r (first behind on k)
+      where
+        behind : After
+        behind v None = parts_moments (next v).parts ++ more (next v).world (next v).refusal
+        behind v (Some r) = more v (Some r)
+
+        on : Follows behind
+        on v None k = go v more follows k
+        on v (Some r) k = follows v (Some r) k
+
+        by : (r : Option Refusal) → Chain None w (parts_moments xs ++ behind u r) → let x : Way = goes_on xs u r next in Chain None w (parts_moments x.parts ++ more x.world x.refusal)
+        by None c =
+            let x : Way = next u in
+            subst (λ us. Chain None w us) (sym (append_assoc (parts_moments xs) (parts_moments x.parts) (more x.world x.refusal)) ∙ ap (λ us. us ++ more x.world x.refusal) (sym (parts-append xs x.parts))) c
+        by (Some r) c = c
+
+    ways : Ways WayChains
+    ways = record { stands = stands-chains; one = one-chains; then = then-chains }
+
+    -- the last plan of a step
+    last-chain : (line : ℕ) (x : Part) → Case x.world.control x.world.events line x.plan → (more : World → List World) → ((v : World) → K v → Chain None v (more v)) → K x.world
+        → Chain None x.world (part_moments x ++ (answered_part line x ∷ more (answered_part line x)))
+    unfolding after_plan
+    last-chain line x case more goes_on k =
+        let w : World = x.world in
+        let fair : PlanFair w x.plan = each w line x.plan case k in
+        moments-chain w x.plan fair.last (λ u r. ended w u line (answered x.plan u.control r)) (said-closes w line x.plan) (λ u r k. answers w u line _ k) more goes_on k fair
+
+    task-chain : (w : World) (t : Task) → K w → (more : World → List World) → ((v : World) → K v → Chain None v (more v)) → Chain None w (task_moments w t ++ more (after_task w t))
+    unfolding parts_moments
+    task-chain w t k more goes_on =
+        let x : Part = (course w t).last in
+        subst (λ us. Chain None w us) (sym (append_assoc (parts_moments (course w t).before) (part_moments x ++ after_task w t ∷ []) (more (after_task w t)) ∙ ap (λ us. parts_moments (course w t).before ++ us) (append_assoc (part_moments x) (after_task w t ∷ []) (more (after_task w t)))))
+        (by (run_asked t.asked))
+      where
+        ended_by : Part → List World
+        ended_by x = part_moments x ++ (answered_part t.line x ∷ more (answered_part t.line x))
+
+        by : (o : Option (ℕ × ℕ)) → let c : Course = course_of w t o in Chain None w (parts_moments c.before ++ ended_by c.last)
+        by None = last-chain t.line (record { world = w; plan = plan w.control w.events t.line t.asked }) (plan-case w.control w.events t.line t.asked) more goes_on k
+        by (Some asked) =
+            way-formed WayChains ways w asked.0 asked.1 (λ v r. ended_by (record { world = v; plan = only_says (form_said asked.0 v.control r) }))
+            (λ v r k. last-chain t.line (record { world = v; plan = only_says (form_said asked.0 v.control r) }) (Says (form_said asked.0 v.control r)) more goes_on k) k
+
+    pub run-chain : (tasks : List Task) (w : World) → K w → Chain None w (moments_from w tasks)
+    unfolding moments_from
+    run-chain [] w k = Last None w (good-none w (rows w k))
+    run-chain (t ∷ ts) w k = task-chain w t k (λ v. moments_from v ts) (λ v k. run-chain ts v k)

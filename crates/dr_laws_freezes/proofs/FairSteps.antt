@@ -1,0 +1,113 @@
+-- Each step's plan is fair, and so the law of freeze windows holds of every run.
+use Rattle.std.proofs.Common.{ℕ, ◌≡◌, refl, Bool, true, false, cond, List, [], ◌∷◌, None}
+use Rattle.dr_ids.specs.declared.names.Member.{Member}
+use Rattle.dr_model.specs.Phases as phases
+use Rattle.dr_model.specs.Sessions.{Session, joined, left, changed, mirrored_by, paused, unmirrored, with_master}
+use Rattle.dr_model.specs.SessionEntries.{first_number, add_entries, expel_entries, order_entries, members_on}
+use Rattle.dr_model.specs.SessionPlans.{table_plan, member_with, answered_by}
+use Rattle.dr_model.specs.Control.{Control, World, nothing}
+use Rattle.dr_model.specs.Plans.{Plan, same, always}
+use Rattle.dr_model.specs.RecoveryPlans.{decided_in, settle_on, recover_entries, says_recovered}
+use Rattle.dr_model.specs.Carry.{Entry}
+use Rattle.dr_model.specs.Laws.{Sound}
+use Rattle.dr_model.specs.declared.said.Said.{Said}
+use Rattle.dr_model.specs.declared.said.Said.TheVariants.{Done}
+use Rattle.dr_model.specs.declared.said.Addition.TheVariants.{Alone}
+use Rattle.dr_ids.specs.declared.refusal.Decision.{Decision}
+use Rattle.dr_model.specs.Runs.{Task}
+use Rattle.dr_laws_freezes.specs.Moments.{moments_from}
+use Rattle.dr_laws_freezes.specs.Windows.{FreezeCut}
+use Rattle.dr_laws_closed.proofs.Regroups.{regroups-same}
+use Rattle.dr_laws_sound.proofs.Cases.{Case, Says, DefinesServer, DefinesVolume, SetsLink, Issues, Writes, Applies, Shows, Stops, Arms, Starts, MakesFlash, RemovesFlash, ResyncsFlash, ReversesFlash, Copies, MakesPath, RemovesPath, MakesPair, RemovesPair, PausesPair, ResumesPair, Drains, Expires, Freezes, Unfreezes, MakesSession, RemovesSession, MakesMirror, PausesMirror, RemovesMirror, Aborts, AddsMember, RemovesMember, Exchanges, Recovers, Settles, added, expelled, aborted, ordered}
+use Rattle.dr_laws_sound.proofs.Steps.{sound-nothing, case-holds}
+use Rattle.dr_laws_sound.proofs.FitsMembers.{orders-added, orders-expelled}
+use Rattle.dr_laws_sound.proofs.FitsOrders.{orders-ordered}
+use Rattle.dr_laws_sound.proofs.FitsRecovery.{along-recover, along-settle}
+use Rattle.dr_laws_sound.proofs.FitsSessions.{Orders}
+use Rattle.dr_laws_sound.proofs.FitsFlash.{as_begun, sound-begun}
+use Rattle.dr_laws_sound.proofs.KeepsSound.{Along, over}
+use Rattle.dr_laws_freezes.proofs.FairSessions.{leaving, fair-sessions, fair-leaving, easy-add, easy-expel, easy-order, easy-recover, easy-settle}
+use Rattle.dr_laws_freezes.proofs.Windows.{Chain, freeze-cut}
+use Rattle.dr_laws_freezes.proofs.Chains.{run-chain}
+use Rattle.dr_laws_freezes.proofs.FairPlans.{Between}
+use Rattle.dr_laws_freezes.proofs.FairCases.{rows-between, answers-between, loses-between, Fair, fair-flash, fair-withdraw, fair-resync, fair-reverse, fair-freeze, fair-thaw, fair-expire, fair-pause, fair-resume, fair-remove}
+use Rattle.dr_laws_freezes.proofs.FairTables.{fair-says, fair-defines, fair-links, fair-shows, fair-stops, fair-arms, fair-paths, fair-unpaths, fair-adds, fair-issues}
+use Rattle.dr_laws_freezes.proofs.FairPairs.{fair-pair}
+use Rattle.dr_laws_freezes.proofs.FairCopy.{fair-copy}
+use Rattle.dr_laws_freezes.proofs.FairDrain.{fair-drain}
+use Rattle.dr_laws_freezes.proofs.FairStart.{fair-start}
+use Rattle.dr_laws_freezes.proofs.FairWrites.{fair-writes, fair-applies}
+
+-- before the first step
+between-nothing : Between nothing
+between-nothing = record {
+  sound = sound-nothing;
+  tidy = record {
+    clean = λ v there runs h t. absurd cc;
+    free = λ v. record { coordination = λ h. refl; recording = λ h. refl; changes = λ h t. absurd cc };
+    fresh = record { unacked = tt; later = λ n lt. refl };
+  };
+}
+
+-- a plan of entries that are allowed along
+alone : (w : World) → Sound w → (entries : List Entry) (says : Control → Said) → Along (as_begun w) entries → Orders w (leaving entries same says)
+alone w s entries says a = record { ends = Sound; complete = λ v y. y; begins = sound-begun w s; entries = a; follows = λ q v y. over v y; last = λ v y. y; turns = λ v y. regroups-same v.control.sessions }
+
+fair-case : (w : World) (k : Between w) (line : ℕ) (p : Plan) → Case w.control w.events line p → Fair w p
+fair-case w k line _ (Says a) = fair-says w k line a
+fair-case w k line _ (DefinesServer name free) = fair-defines w k line name free
+fair-case w k line _ (DefinesVolume v s tracks here free) = fair-adds w k line v s tracks here free
+fair-case w k line _ (SetsLink a b up) = fair-links w k line a b up
+fair-case w k line _ (Issues v t offset len bytes free) = fair-issues w k line v t offset len bytes free
+fair-case w k line _ (Writes v t offset len bytes free) = fair-writes w k v t offset len bytes free
+fair-case w k line _ (Applies n p found) = fair-applies w k n p found
+fair-case w k line _ (Shows v t there) = fair-shows w k line v t there
+fair-case w k line _ (Stops x on) = fair-stops w k line x on
+fair-case w k line _ (Arms writes torn x) = fair-arms w k line writes torn x
+fair-case w k line _ (Starts x off) = fair-start x w k
+fair-case w k line _ (MakesFlash dev v t choices) = fair-flash w k dev v t choices
+fair-case w k line _ (RemovesFlash dev v t) = fair-withdraw w k dev v t
+fair-case w k line _ (ResyncsFlash dev v t sequence) = fair-resync w k dev v t sequence
+fair-case w k line _ (ReversesFlash dev v t) = fair-reverse w k dev v t
+fair-case w k line _ (Copies t most) = fair-copy w k t most
+fair-case w k line _ (MakesPath src tgt group) = fair-paths w k line src tgt group
+fair-case w k line _ (RemovesPath src tgt) = fair-unpaths w k line src tgt
+fair-case w k line _ (MakesPair devs a b kind full part) = fair-pair w k devs a b kind full part
+fair-case w k line _ (RemovesPair devs a b source_only) = fair-remove w k devs a b source_only
+fair-case w k line _ (PausesPair devs a b) = fair-pause w k devs a b
+fair-case w k line _ (ResumesPair devs a b kind) = fair-resume w k devs a b kind
+fair-case w k line _ (Drains a most) = fair-drain w k a most
+fair-case w k line _ (Expires x on) = fair-expire w k x on
+fair-case w k line _ (Freezes l m) = fair-freeze w k l m
+fair-case w k line _ (Unfreezes l m) = fair-thaw w k l m
+fair-case w k line _ (MakesSession l i free) = fair-sessions w k (joined i l) (table_plan (joined i l)).says (case-holds w k.sound line _ (MakesSession l i free))
+fair-case w k line _ (RemovesSession l i x found free) = fair-sessions w k (left i l) (table_plan (left i l)).says (case-holds w k.sound line _ (RemovesSession l i x found free))
+fair-case w k line _ (MakesMirror owner i x found free l owned) = fair-sessions w k (changed i (mirrored_by owner)) (table_plan (changed i (mirrored_by owner))).says (case-holds w k.sound line _ (MakesMirror owner i x found free l owned))
+fair-case w k line _ (PausesMirror i on) = fair-sessions w k (changed i (paused on)) (table_plan (changed i (paused on))).says (case-holds w k.sound line _ (PausesMirror i on))
+fair-case w k line _ (RemovesMirror i x found free) = fair-sessions w k (changed i unmirrored) (table_plan (changed i unmirrored)).says (case-holds w k.sound line _ (RemovesMirror i x found free))
+fair-case w k line _ (Aborts i x found free) = fair-sessions w k (changed i (with_master phases.aborted)) (aborted i).says (case-holds w k.sound line _ (Aborts i x found free))
+fair-case w k line _ (AddsMember i a c x joins) =
+    let m : Member = member_with w.control a c in
+    let n : ℕ = first_number w.control x.last m in
+    fair-leaving w k (add_entries m n) (added w.control i x m).last (added w.control i x m).says (λ k. (_, refl)) (orders-added w k.sound i a c x joins) (easy-add m n)
+fair-case w k line _ (RemovesMember i a x m found is idle on) = fair-leaving w k (expel_entries i m) (expelled i m).last (expelled i m).says (λ k. (_, refl)) (orders-expelled w k.sound i a x m found is idle on) (easy-expel i m)
+fair-case w k line _ (Recovers i x found on) =
+    let d : Decision = decided_in i w.control in
+    fair-leaving w k (recover_entries i d x.members) same (says_recovered i d) (λ k. (k.sessions, refl)) (alone w k.sound (recover_entries i d x.members) (says_recovered i d) (along-recover w k.sound i x found on)) (easy-recover i d x.members)
+fair-case w k line _ (Settles i x m found here on free) =
+    let d : Decision = decided_in i w.control in
+    fair-leaving w k (settle_on i d m ∷ []) same (always (Done Alone)) (λ k. (k.sessions, refl)) (alone w k.sound (settle_on i d m ∷ []) (always (Done Alone)) (along-settle w k.sound i x found on free m here)) (easy-settle i d m)
+fair-case w k line _ (Exchanges i server reply x r o allowed) =
+    let ms : List Member = members_on server x.members in
+    fair-leaving w k (order_entries o.work i o.number ms) (ordered i server reply ms o).last (ordered i server reply ms o).says (by reply) (orders-ordered w k.sound i server x r o allowed reply) (easy-order o.work i o.number ms)
+  where
+    by : (b : Bool) (k : Control) → (ss : List Session) × (cond b (answered_by i server o.work (members_on server x.members)) same k ≡ record k { sessions = ss })
+    by true k = (_, refl)
+    by false k = (_, refl)
+
+-- the moments of a run
+pub chain-of : (tasks : List Task) → Chain None nothing (moments_from nothing tasks)
+chain-of tasks = run-chain Between rows-between answers-between loses-between (λ w line p case k. fair-case w k line p case) tasks nothing between-nothing
+
+pub cut-run : (tasks : List Task) → FreezeCut tasks
+cut-run tasks = freeze-cut tasks None (chain-of tasks)

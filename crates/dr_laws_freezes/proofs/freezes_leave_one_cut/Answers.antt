@@ -1,0 +1,5 @@
+use Rattle.dr_laws_freezes.proofs.FairSteps.{cut-run}
+use Rattle.dr_laws_freezes.proofs.freezes_leave_one_cut.Goals as goal
+
+pub returns : goal.returns
+returns c = cut-run

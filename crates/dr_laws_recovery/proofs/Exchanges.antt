@@ -1,0 +1,222 @@
+-- Laws that hold along every exchange: what an order's entries do to the members that they are about.
+use Rattle.std.proofs.Common.{ℕ, ◌≡◌, inl, inr, refl, Bool, true, false, cond, not, ◌&&◌, nat_eq, nat_lt, List, [], ◌∷◌, ◌++◌, Option, Some, None}
+use Rattle.dr_ids.specs.declared.names.Member.{Member}
+use Rattle.dr_ids.specs.declared.refusal.PhaseName.TheVariants as phase
+use Rattle.dr_ids.specs.declared.refusal.Refusal.{Refusal}
+use Rattle.dr_ids.specs.declared.refusal.Refusal.TheVariants.{OutOfOrder}
+use Rattle.dr_ids.specs.declared.refusal.Kind.TheVariants.{Server as OfServer, Session as OfSession}
+use Rattle.dr_model.specs.declared.event.Event.{Event}
+use Rattle.dr_model.specs.declared.step.Name.{Name}
+use Rattle.dr_model.specs.Refusals.{unknown}
+use Rattle.dr_model.specs.Control.{Control, World}
+use Rattle.dr_model.specs.Phases as phases
+use Rattle.dr_model.specs.Sessions.{Session, Mirror, session_in, mirror_in, members_in}
+use Rattle.dr_model.specs.Pairs.{records}
+use Rattle.dr_model.specs.Moves.{Hold, Free, Seal, Flash, Commit, Revert, RaiseFloor, Finish}
+use Rattle.dr_model.specs.Carry.{Act, Make, OpenAttempt, Next, Pass, Do, End, Entry}
+use Rattle.dr_model.specs.Entries.{fields_at}
+use Rattle.dr_model.specs.PairEntries.{send_refusal, reach_refusal, end_if, refuse_if}
+use Rattle.dr_model.specs.SessionEntries.{last_of, hold_refusal, stale_refusal, hold_on, void_refusal, free_on, is_drained, seal_refusal, seal_on, is_flashed, flash_refusal, flash_on, is_committed, commit_refusal, commit_on, revert_on, is_past, finish_on, member_entries, members_on, order_entries}
+use Rattle.dr_model.specs.SessionPlans.{answered_by, exchange_refusal, order_of, exchange_done, exchange_on, asking, exchange_plan}
+use Rattle.dr_model.specs.PlanParts.{Plan, same, refuses, on_session, on_named, server_named, name_bytes}
+use Rattle.dr_model.specs.Groups.{In}
+use Rattle.dr_model.specs.Laws.{Sound}
+use Rattle.dr_laws_sessions.proofs.Silent.{on-members}
+use Rattle.dr_laws_sound.proofs.KeepsSound.{MayDo}
+use Rattle.dr_laws_sound.proofs.FitsFlash.{as_begun, sound-begun}
+use Rattle.dr_laws_sound.proofs.FitsSessions.{Orders}
+use Rattle.dr_laws_sound.proofs.FitsOrders.{orders-ordered}
+use Rattle.dr_laws_sound.proofs.Cases.{Ordered, ordered}
+use Rattle.dr_laws_sound.proofs.Rides.{Rides, Both}
+use Rattle.dr_laws_recovery.proofs.Keeping.{MayFit, keeps-fit, Keeping, Goes, refused-goes, goes-unless}
+use Rattle.dr_laws_sound.proofs.Along as along
+
+-- ---- the acts of an exchange
+
+-- An order's acts on a member fit: those on its primary and its secondary in any case, those on its target where its primary can send.
+pub record FitsMember (Holds : World → Type 0) (Fit : Act → Type 0) (s : ℕ) (q : Member) : Type 0 where
+  pub opens : (n : ℕ) → Fit (OpenAttempt q.a.0 s n)
+  pub holds : (n : ℕ) → Fit (Make (Hold q.a.0 s n false))
+  pub frees : Fit (Make (Free q.a.0))
+  pub seals : (n : ℕ) → Fit (Make (Seal q.b.0 q.a.0 s n))
+  pub finishes : (n : ℕ) → Fit (Make (Finish q.a.0 n))
+  pub flashes : (u : World) → Holds u → send_refusal q.a.0 q.b.0 u.control ≡ None → (n : ℕ) → Fit (Make (Flash q.c.0 q.b.0 q.a.0 s n))
+  pub commits : (u : World) → Holds u → send_refusal q.a.0 q.b.0 u.control ≡ None → (n : ℕ) → Fit (Make (Commit q.c.0 q.a.0 s n))
+  pub reverts : (u : World) → Holds u → send_refusal q.a.0 q.b.0 u.control ≡ None → (n : ℕ) → Fit (Make (Revert q.c.0 q.a.0 s n))
+  pub raises : (u : World) → Holds u → send_refusal q.a.0 q.b.0 u.control ≡ None → (n : ℕ) → Fit (Make (RaiseFloor q.c.0 n))
+
+-- What is to be shown of a law, so that it holds along each exchange: acts that fit keep it, and it says nothing of the table of
+-- sessions where W is read off it.
+pub record Exchanging (w : World) (W : World → Type 0) : Type 1 where
+  pub law : World → Type 0
+  pub fit : Act → Type 0
+  pub acts : Rides Sound law (MayFit (λ u. fit))
+  pub begins : law (as_begun w)
+  pub members : (s : ℕ) (y : Session) → session_in w.control.sessions s ≡ Some y → (q : Member) → In q y.members → FitsMember law fit s q
+  pub gives : (v : World) → law v → W v
+  pub told : (v : World) (on : ℕ → Bool) (es : List Event) → W v → W (record v { control = record v.control { on = on }; events = es })
+  pub regroups : (v : World) (ss : List Session) → W v → W (record v { control = record v.control { sessions = ss } })
+
+module _ (w : World) (sound : Sound w) (W : World → Type 0) (x : Exchanging w W) where
+  abbrev I : World → Type 0
+  I = Both Sound x.law
+
+  abbrev May : World → Act → Type 0
+  May = MayFit (λ u. x.fit)
+
+  -- ---- entries whose acts fit wherever they come
+
+  abbrev FitNext : Next → Type 0 → Type 0
+  FitNext Pass more = more
+  FitNext (End r) more = Unit {0}
+  FitNext (Do a) more = x.fit a × more
+
+  unfoldable AllFit : List Entry → Type 0
+  AllFit [] = Unit {0}
+  AllFit (d ∷ ds) = (u : World) → x.law u → FitNext (d u.control) (AllFit ds)
+
+  fits : (d : Entry) (ds : List Entry) → ((u : World) → x.law u → FitNext (d u.control) (AllFit ds)) → AllFit (d ∷ ds)
+  unfolding AllFit
+  fits d ds go = go
+
+  -- a check: what follows comes only where it passes
+  refused : (why : Control → Option Refusal) (ds : List Entry) → ((u : World) → x.law u → why u.control ≡ None → AllFit ds) → AllFit (refuse_if why ∷ ds)
+  refused why ds go = fits (refuse_if why) ds (λ u h. by (why u.control) (go u h))
+    where
+      by : (o : Option Refusal) → (o ≡ None → AllFit ds) → FitNext (end_if o) (AllFit ds)
+      by None go = go refl
+      by (Some r) go = tt
+
+  does-if : (b : Bool) (a : Act) (more : Type 0) → x.fit a → more → FitNext (cond b (Do a) Pass) more
+  does-if true a more fit go = (fit, go)
+  does-if false a more fit go = go
+
+  does-else : (b : Bool) (a : Act) (more : Type 0) → x.fit a → more → FitNext (cond b Pass (Do a)) more
+  does-else true a more fit go = go
+  does-else false a more fit go = (fit, go)
+
+  module _ (E : World → Type 0) (complete : (v : World) → E v → Sound v) where
+    abbrev To : World → List Entry → Type 0
+    To = along.Along Sound Sound E MayDo
+
+    abbrev Fits : World → List Entry → Type 0
+    Fits = along.Along I I I May
+
+    fit-next : (u : World) (d : Next) (ds : List Entry) (all : Type 0) → (all → (v : World) → x.law v → To v ds → Fits v ds) → x.law u → FitNext d all → along.along_next Sound Sound MayDo u d (λ v. To v ds) → along.along_next I I May u d (λ v. Fits v ds)
+    fit-next u Pass ds all on h fit a = on fit u h a
+    fit-next u (End r) ds all on h fit a = (a, h)
+    fit-next u (Do b) ds all on h fit a = ((a.0, fit.0), λ f j. on fit.1 _ j.1 (a.1 f j.0))
+
+    fit-along : (ds : List Entry) → AllFit ds → (u : World) → x.law u → To u ds → Fits u ds
+    unfolding AllFit
+    fit-along [] fit u h a = along.along-nil I I I May u (complete u (along.along-ends Sound Sound E MayDo u a), h)
+    fit-along (d ∷ ds) fit u h a =
+        along.along-entry I I I May u d ds (d u.control) refl
+        (fit-next u (d u.control) ds (AllFit ds) (λ all v k a. fit-along ds all v k a) h (fit u h) (along.along-comes Sound Sound E MayDo u d ds (d u.control) refl a))
+
+  -- ---- the entries of an order
+
+  fit-member : (work : phases.Work) (s n : ℕ) (q : Member) → FitsMember x.law x.fit s q → (ds : List Entry) → AllFit ds → AllFit (member_entries work s n q ++ ds)
+  fit-member phases.Hold s n q m ds go =
+      refused (hold_refusal q.a.0 q.b.0) (refuse_if (stale_refusal q.a.0 n) ∷ hold_on s q.a.0 n ∷ ds) (λ u h free.
+      refused (stale_refusal q.a.0 n) (hold_on s q.a.0 n ∷ ds) (λ u h stale.
+      fits (hold_on s q.a.0 n) ds (λ u h. does-else (records n (fields_at u.control q.a.0)) _ (AllFit ds) (by (nat_lt (last_of u.control s) n)) go)))
+    where
+      by : (b : Bool) → x.fit (cond b (OpenAttempt q.a.0 s n) (Make (Hold q.a.0 s n false)))
+      by true = m.opens n
+      by false = m.holds n
+  fit-member phases.Release s n q m ds go =
+      refused (void_refusal q.a.0 n) (free_on q.a.0 ∷ ds) (λ u h void.
+      fits (free_on q.a.0) ds (λ u h. does-if (fields_at u.control q.a.0).coordination (Make (Free q.a.0)) (AllFit ds) m.frees go))
+  fit-member phases.Seal s n q m ds go =
+      refused (void_refusal q.a.0 n) (refuse_if (seal_refusal q.a.0 q.b.0) ∷ seal_on s q.a.0 q.b.0 n ∷ ds) (λ u h void.
+      refused (seal_refusal q.a.0 q.b.0) (seal_on s q.a.0 q.b.0 n ∷ ds) (λ u h free.
+      fits (seal_on s q.a.0 q.b.0 n) ds (λ u h. does-if (is_drained q.a.0 u.control && not (nat_eq (fields_at u.control q.b.0).seal n)) (Make (Seal q.b.0 q.a.0 s n)) (AllFit ds) (m.seals n) go)))
+  fit-member phases.Flash s n q m ds go =
+      refused (send_refusal q.a.0 q.b.0) (refuse_if (flash_refusal q.b.0 q.c.0 n) ∷ flash_on s q.a.0 q.b.0 q.c.0 n ∷ ds) (λ u h sends.
+      refused (flash_refusal q.b.0 q.c.0 n) (flash_on s q.a.0 q.b.0 q.c.0 n ∷ ds) (λ v k free.
+      fits (flash_on s q.a.0 q.b.0 q.c.0 n) ds (λ v k. does-else (is_flashed n (fields_at v.control q.c.0)) (Make (Flash q.c.0 q.b.0 q.a.0 s n)) (AllFit ds) (m.flashes u h sends n) go)))
+  fit-member phases.Commit s n q m ds go =
+      refused (send_refusal q.a.0 q.b.0) (refuse_if (commit_refusal q.c.0 n) ∷ commit_on s q.a.0 q.c.0 n ∷ ds) (λ u h sends.
+      refused (commit_refusal q.c.0 n) (commit_on s q.a.0 q.c.0 n ∷ ds) (λ v k free.
+      fits (commit_on s q.a.0 q.c.0 n) ds (λ v k. does-else (is_committed n (fields_at v.control q.c.0)) (Make (Commit q.c.0 q.a.0 s n)) (AllFit ds) (m.commits u h sends n) go)))
+  fit-member phases.Revert s n q m ds go =
+      refused (send_refusal q.a.0 q.b.0) (revert_on s q.a.0 q.c.0 n ∷ ds) (λ u h sends.
+      fits (revert_on s q.a.0 q.c.0 n) ds (λ v k. by (m.reverts u h sends n) (m.raises u h sends n) (is_flashed n (fields_at v.control q.c.0)) (nat_lt (fields_at v.control q.c.0).floor n)))
+    where
+      by : x.fit (Make (Revert q.c.0 q.a.0 s n)) → x.fit (Make (RaiseFloor q.c.0 n)) → (b low : Bool) → FitNext (cond b (Do (Make (Revert q.c.0 q.a.0 s n))) (cond low (Do (Make (RaiseFloor q.c.0 n))) Pass)) (AllFit ds)
+      by back raise true low = (back, go)
+      by back raise false true = (raise, go)
+      by back raise false false = go
+  fit-member phases.Finish s n q m ds go =
+      fits (finish_on q.a.0 n) ds (λ u h. does-else (is_past n (fields_at u.control q.a.0)) (Make (Finish q.a.0 n)) (AllFit ds) (m.finishes n) go)
+  fit-member phases.Report s n q m ds go = refused (reach_refusal q.a.0 q.b.0) ds (λ u h near. go)
+
+  fit-order : (work : phases.Work) (s n : ℕ) (qs : List Member) → ((q : Member) → In q qs → FitsMember x.law x.fit s q) → AllFit (order_entries work s n qs)
+  unfolding AllFit
+  fit-order work s n [] each = tt
+  fit-order work s n (q ∷ qs) each = fit-member work s n q (each q (inl refl)) (order_entries work s n qs) (fit-order work s n qs (λ p h. each p (inr h)))
+
+  -- ---- the plans
+
+  abbrev pub keeping : Keeping w W
+  keeping = record {
+    law = I;
+    may = May;
+    keeps = keeps-fit x.law (λ u. x.fit) x.acts;
+    gives = λ v i. x.gives v i.1;
+    told = x.told;
+    begins = (sound-begun w sound, x.begins);
+  }
+
+  abbrev GoesOn : Plan → Type 0
+  GoesOn = Goes w W keeping
+
+  refuse : (r : Refusal) → GoesOn (refuses r)
+  refuse = refused-goes w W keeping
+
+  reply-last : (reply : Bool) (s server : ℕ) (work : phases.Work) (ms : List Member) (v : World) → W v → W (record v { control = (cond reply (answered_by s server work ms) same) v.control })
+  reply-last true s server work ms v h = x.regroups v _ h
+  reply-last false s server work ms v h = h
+
+  module _ (s server : ℕ) (reply : Bool) (y : Session) (found : session_in w.control.sessions s ≡ Some y) where
+    ordered-goes : (r : Mirror) (o : phases.Order) → Ordered w.control s server y r o → GoesOn (ordered s server reply (members_on server y.members) o)
+    ordered-goes r o allowed =
+        let h : Orders w (ordered s server reply (members_on server y.members) o) = orders-ordered w sound s server y r o allowed reply in
+        record {
+          begun_as = refl;
+          entries = fit-along h.ends h.complete (order_entries o.work s o.number (members_on server y.members))
+              (fit-order o.work s o.number (members_on server y.members) (λ q h. x.members s y found q (on-members server y.members q h).0)) (as_begun w) x.begins h.entries;
+          last = reply-last reply s server o.work (members_on server y.members);
+          follows = λ q. refl;
+        }
+
+    done-goes : (r : Mirror) (o : Option phases.Order) → ((p : phases.Order) → o ≡ Some p → Ordered w.control s server y r p) → GoesOn (exchange_done s server reply (members_on server y.members) o)
+    done-goes r None allowed = refuse (OutOfOrder phase.None)
+    done-goes r (Some o) allowed = ordered-goes r o (allowed o refl)
+
+    on-goes : (r : Option Mirror) → y.mirror ≡ r → GoesOn (exchange_on w.control s r server reply y.members)
+    on-goes None is = refuse (OutOfOrder phase.None)
+    on-goes (Some r) is =
+        goes-unless w W keeping (exchange_refusal w.control r server y.members) (exchange_done s server reply (members_on server y.members) (order_of r server))
+        (λ free. done-goes r (order_of r server) (λ o order. record { found = found; mirror = is; allowed = free; order = order }))
+
+  asking-by : (s server : ℕ) (reply : Bool) → (o : Option Session) → session_in w.control.sessions s ≡ o → GoesOn (exchange_on w.control s (mirror_in o) server reply (members_in o))
+  asking-by s server reply None found = refuse (OutOfOrder phase.None)
+  asking-by s server reply (Some y) found = on-goes s server reply y found y.mirror refl
+
+  pub goes-asking : (s server : ℕ) (reply : Bool) → Goes w W keeping (asking w.control s server reply)
+  goes-asking s server reply = asking-by s server reply (session_in w.control.sessions s) refl
+
+  goes-named : (o : Option ℕ) (p : ℕ → Plan) → ((server : ℕ) → GoesOn (p server)) → GoesOn (on_named o p)
+  goes-named None p go = refuse (unknown OfServer)
+  goes-named (Some server) p go = go server
+
+  goes-session : (o : Option Session) (p : Session → Plan) → ((y : Session) → o ≡ Some y → GoesOn (p y)) → GoesOn (on_session o p)
+  goes-session None p go = refuse (unknown OfSession)
+  goes-session (Some y) p go = go y refl
+
+  pub goes-exchange : (s : ℕ) (name : Name) (reply : Bool) → Goes w W keeping (exchange_plan w.control s name reply)
+  goes-exchange s name reply =
+      goes-session (session_in w.control.sessions s) _ (λ y found.
+      goes-named (server_named w.control (name_bytes name)) (λ server. exchange_on w.control s y.mirror server reply y.members) (λ server. on-goes s server reply y found y.mirror refl))

@@ -1,0 +1,78 @@
+-- A law that holds along a plan: wherever the plan comes to, where servers go off by themselves in it, and as it is answered.
+use Rattle.std.proofs.Common.{ℕ, ◌≡◌, refl, sym, subst, Bool, List, [], take, length, Option, Some, None}
+use Rattle.std.proofs.Math.Seq.{take-length}
+use Rattle.dr_ids.specs.declared.refusal.Refusal.{Refusal}
+use Rattle.dr_ids.specs.declared.refusal.Refusal.TheVariants.{Stopped as StoppedIn}
+use Rattle.dr_model.specs.declared.event.Event.{Event}
+use Rattle.dr_model.specs.Control.{World}
+use Rattle.dr_model.specs.Carry.{Act, carry}
+use Rattle.dr_model.specs.PlanParts.{Plan, refuses, unless}
+use Rattle.dr_model.specs.Carried.{begun, finish, after_plan}
+use Rattle.dr_model.specs.ReadStops.{Ends}
+use Rattle.dr_model.specs.Laws.{Sound}
+use Rattle.dr_laws_sound.proofs.KeepsSound.{MayDo, keeps-sound}
+use Rattle.dr_laws_sound.proofs.FitsFlash.{as_begun}
+use Rattle.dr_laws_sound.proofs.Rides.{Rides, Both, keeps-with}
+use Rattle.dr_laws_sound.proofs.Along as along
+
+-- acts that may come, and fit
+abbrev pub MayFit : (World → Act → Type 0) → World → Act → Type 0
+MayFit Fit u a = MayDo u a × Fit u a
+
+-- The laws hold along such acts, and so does a law that they keep.
+pub keeps-fit : (K : World → Type 0) (Fit : World → Act → Type 0) → Rides Sound K (MayFit Fit) → along.Keeps (Both Sound K) (Both Sound K) (MayFit Fit)
+keeps-fit K Fit acts = keeps-with Sound K (MayFit Fit) Sound
+    (record {
+      runs = λ u a d may. keeps-sound.runs u a d may.0;
+      does = λ u a f j may. keeps-sound.does u a f j may.0;
+      counts = λ u m f j may. keeps-sound.counts u m f j may.0;
+      opens = λ u v s n f j may. keeps-sound.opens u v s n f j may.0;
+      fails = λ u a f d j may. keeps-sound.fails u a f d j may.0;
+    })
+    acts
+
+-- W is to hold wherever a plan comes to: a law that the acts keep gives it, and it says nothing of which servers are on, nor of the
+-- journal
+pub record Keeping (w : World) (W : World → Type 0) : Type 1 where
+  pub law : World → Type 0
+  pub may : World → Act → Type 0
+  pub keeps : along.Keeps law law may
+  pub gives : (v : World) → law v → W v
+  pub told : (v : World) (on : ℕ → Bool) (es : List Event) → W v → W (record v { control = record v.control { on = on }; events = es })
+  pub begins : law (as_begun w)
+
+module _ (w : World) (W : World → Type 0) (k : Keeping w W) where
+  -- such a plan: its acts may come, its last tables keep W, and nothing follows a stop
+  pub record Goes (p : Plan) : Type 0 where
+    pub begun_as : begun w p ≡ as_begun w
+    pub entries : along.Along k.law k.law k.law k.may (as_begun w) p.entries
+    pub last : (v : World) → W v → W (record v { control = p.last v.control })
+    pub follows : (q : ℕ) → p.follows q ≡ []
+
+  pub refused-goes : (r : Refusal) → Goes (refuses r)
+  refused-goes r = record { begun_as = refl; entries = along.along-nil k.law k.law k.law k.may (as_begun w) k.begins; last = λ v h. h; follows = λ q. refl }
+
+  pub goes-unless : (o : Option Refusal) (p : Plan) → (o ≡ None → Goes p) → Goes (unless o p)
+  goes-unless None p go = go refl
+  goes-unless (Some r) p go = refused-goes r
+
+  pub goes-moment : (p : Plan) → Goes p → (n : ℕ) → W (carry (begun w p) (take n p.entries)).0
+  goes-moment p goes n =
+      subst (λ b. W (carry b (take n p.entries)).0) (sym goes.begun_as)
+      (along.along-moment k.law k.law k.law W k.may k.gives k.gives k.gives k.keeps (as_begun w) n p.entries k.begins goes.entries)
+
+  pub goes-ends : (p : Plan) → Goes p → (armed : ℕ → Bool) (u : World) (r : Option Refusal) → Ends armed u r (begun w p) p.entries → W u
+  goes-ends p goes armed u r e =
+      along.ends-weaker k.law k.law k.law W k.may k.gives k.gives k.gives k.keeps armed (λ v q i on is. k.told v _ _ (k.gives v i)) u r (as_begun w) p.entries k.begins goes.entries
+      (subst (λ b. Ends armed u r b p.entries) goes.begun_as e)
+
+  -- where it ends, and as it is answered
+  pub finish-goes : (p : Plan) → Goes p → (u : World) (r : Option Refusal) → W u → W (finish p u r)
+  unfolding carry
+  finish-goes p goes u None h = goes.last u h
+  finish-goes p goes u (Some (StoppedIn q)) h = subst (λ ds. W (carry u ds).0) (sym (goes.follows q.0)) h
+  finish-goes p goes u (Some r) h = h
+
+  pub goes-after : (p : Plan) → Goes p → (line : ℕ) → W (after_plan w line p)
+  unfolding after_plan
+  goes-after p goes line = k.told _ _ _ (finish-goes p goes _ _ (subst (λ ds. W (carry (begun w p) ds).0) (take-length p.entries) (goes-moment p goes (length p.entries))))

@@ -1,0 +1,217 @@
+-- Each write of a list was issued for the track whose list it is, at every place of a run's journal.
+use Rattle.std.proofs.Common.{ℕ, ◌≡◌, ◌≢◌, ◌<◌, ◌+◌, ◌⊎◌, inl, inr, refl, ap, sym, ◌∙◌, subst, append_assoc, arith, Bool, true, false, cond, ◌||◌, List, [], ◌∷◌, ◌++◌, map, Option, Some, None}
+use Rattle.std.specs.List.{list_any}
+use Rattle.std.proofs.lemmas.List.{append-nil}
+use Rattle.std.proofs.lemmas.Bool.{or_parts}
+use Rattle.std.proofs.lemmas.List.Folds.{list_any-append}
+use Rattle.dr_logic.specs.Tables.{at, at2}
+use Rattle.dr_model.specs.declared.event.Event.{Event}
+use Rattle.dr_model.specs.declared.event.Event.TheVariants.{Volume as VolumeDefined, Issue, Ack, Mirrored, Sent, Flashed, Committed, Reverted, Set, Back, Blanked, Restored, Stopped, Suspended, Frozen, Thawed, Recovered, Begin, Cut}
+use Rattle.dr_model.specs.Histories.{Write, Lists, Histories, joined, after_event, histories}
+use Rattle.dr_model.specs.Layout.{Tracks}
+use Rattle.dr_model.specs.Relations.{is_bare, in_order, rest, turned, given_up}
+use Rattle.dr_model.specs.Pairs.{is_suspended}
+use Rattle.dr_model.specs.Control.{Fuse, Volume, World, nothing}
+use Rattle.dr_model.specs.Moves.{Move, Land, Overwrite, Withdraw, Reverse, Release, Suspend, LandBoth, Hold, target, told, told_in_stop, told_blank, told_restored, landed}
+use Rattle.dr_model.specs.Carry.{Act, Make, OpenAttempt, Redo, Acknowledge, Drop, EndFreeze, EndThaw, EndRecovery}
+use Rattle.dr_model.specs.Groups.{In}
+use Rattle.dr_model.specs.Laws.{Below, Sound}
+use Rattle.dr_model.specs.Runs.{Task, run}
+use Rattle.dr_model.proofs.Images.{histories-push}
+use Rattle.dr_logic.proofs.Tables.{at_other}
+use Rattle.dr_facts.proofs.Lists.{in-joined}
+use Rattle.dr_facts.proofs.Tables.{at_cases, at2_cases}
+use Rattle.dr_laws_sound.proofs.Turns.{after_act, server_at}
+use Rattle.dr_laws_sound.proofs.KeepsSound.{MayDo}
+use Rattle.dr_laws_sound.proofs.Starts as starts
+use Rattle.dr_laws_sound.proofs.Steps as steps
+use Rattle.dr_laws_sound.proofs.Rides.{Rides}
+use Rattle.dr_laws_sound.proofs.Riders.{Rider, rides-tasks}
+use Rattle.dr_laws_cuts.specs.Once.{NoCuts}
+use Rattle.dr_laws_recovery.proofs.Stored.{places}
+
+-- ---- one event
+
+module _ (write : ℕ → Write) where
+  abbrev On : Lists → Type 0
+  On l = (v t u : ℕ) → In u (l v t) → (write u).track ≡ t
+
+  volume-at : (l : Lists) (x : ℕ) (new : ℕ → List ℕ) → On l → ((t u : ℕ) → In u (new t) → (write u).track ≡ t) → On (at l x new)
+  volume-at l x new old here = at_cases (λ v (f : ℕ → List ℕ). (t u : ℕ) → In u (f t) → (write u).track ≡ t) l x new here (λ v ne. old v)
+
+  track-at : (l : Lists) (x q : ℕ) (new : List ℕ) → On l → ((u : ℕ) → In u new → (write u).track ≡ q) → On (at2 l x q new)
+  track-at l x q new old here = at2_cases (λ v t ws. (u : ℕ) → In u ws → (write u).track ≡ t) l x q new here (λ v t ne. old v t)
+
+-- of the lists of volumes, and of those that are kept aside
+abbrev pub OnTracks : Histories → Type 0
+OnTracks h = On h.write h.now × On h.write h.aside
+
+abbrev is_issue : Event → Bool
+is_issue (Issue n v t offset len bytes) = true
+is_issue e = false
+
+joined-on : (h : Histories) (n : ℕ) → OnTracks h → (u : ℕ) → In u (joined h n) → (h.write u).track ≡ (h.write n).track
+joined-on h n old u i = by (in-joined (h.now (h.write n).volume (h.write n).track) (n ∷ []) u i)
+  where
+    by : In u (h.now (h.write n).volume (h.write n).track) ⊎ In u (n ∷ []) → (h.write u).track ≡ (h.write n).track
+    by (inl was) = old.0 (h.write n).volume (h.write n).track u was
+    by (inr (inl is)) = ap (λ u. (h.write u).track) is
+    by (inr (inr none)) = absurd none
+
+event-on : (h : Histories) (e : Event) → is_issue e ≡ false → OnTracks h → OnTracks (after_event h e)
+event-on h (Issue n v t offset len bytes) new old = absurd cc
+event-on h (VolumeDefined x server tracks) new old = (volume-at h.write h.now x (λ t. []) old.0 (λ t u i. absurd i), old.1)
+event-on h (Ack n) new old = (track-at h.write h.now (h.write n).volume (h.write n).track (joined h n) old.0 (joined-on h n old), old.1)
+event-on h (Mirrored n x) new old = (track-at h.write h.now x (h.write n).track (joined h n) old.0 (joined-on h n old), old.1)
+event-on h (Sent x q to) new old = (track-at h.write h.now to q (h.now x q) old.0 (old.0 x q), old.1)
+event-on h (Flashed s n a b c) new old = (volume-at h.write h.now c (h.now b) old.0 (old.0 b), volume-at h.write h.aside c (h.now c) old.1 (old.0 c))
+event-on h (Committed s n a c) new old = (old.0, volume-at h.write h.aside c (λ t. []) old.1 (λ t u i. absurd i))
+event-on h (Reverted s n a c) new old = (volume-at h.write h.now c (h.aside c) old.0 (old.1 c), old.1)
+event-on h (Set x from) new old = (volume-at h.write h.now x (h.now from) old.0 (old.0 from), old.1)
+event-on h (Back x q from) new old = (track-at h.write h.now x q (h.now from q) old.0 (old.0 from q), old.1)
+event-on h (Blanked x q) new old = (track-at h.write h.now x q [] old.0 (λ u i. absurd i), old.1)
+event-on h e new old = old
+
+-- ---- after a journal, and wherever it tells that a volume was cut
+
+pub record TrackedAt (events : List Event) : Type 0 where
+  pub now : OnTracks (histories events)
+  pub cut : (before behind : List Event) (s n v : ℕ) → events ≡ before ++ Cut s n v ∷ behind → OnTracks (histories before)
+
+one-more : (es : List Event) (e : Event) → TrackedAt es → OnTracks (histories (es ++ e ∷ [])) → TrackedAt (es ++ e ∷ [])
+one-more es e k new = record {
+  now = new;
+  cut = λ before behind s n v is. elim (places es (e ∷ []) (Cut s n v) before behind is) [
+    | inl a ↦ k.cut before a.behind s n v a.is
+    | inr a ↦ subst (λ es. OnTracks (histories es)) (sym (a.whole ∙ ap (λ fs. es ++ fs) (first (Cut s n v) a.front a.behind a.is) ∙ append-nil es)) k.now
+  ];
+}
+  where
+    first : (c : Event) (front behind : List Event) → e ∷ [] ≡ front ++ c ∷ behind → front ≡ []
+    first c [] behind is = refl
+    first c (x ∷ []) behind is = absurd cc
+    first c (x ∷ y ∷ front) behind is = absurd cc
+
+more-on : (es more : List Event) → list_any is_issue more ≡ false → TrackedAt es → TrackedAt (es ++ more)
+more-on es [] none k = subst TrackedAt (sym (append-nil es)) k
+more-on es (e ∷ more) none k =
+    let both = or_parts (is_issue e) (list_any is_issue more) none in
+    subst TrackedAt (append_assoc es (e ∷ []) more) (more-on (es ++ e ∷ []) more both.1 (one-more es e k (subst OnTracks (sym (histories-push es e)) (event-on (histories es) e both.0 k.now))))
+
+no-cut : {P : Type 0} (front behind : List Event) (s n v : ℕ) → NoCuts (front ++ Cut s n v ∷ behind) → P
+no-cut [] behind s n v h = absurd h.0
+no-cut (e ∷ front) behind s n v h = no-cut front behind s n v h.1
+
+-- what no list hears of, and which cuts no volume
+unheard-on : (es fs more : List Event) → TrackedAt es → fs ≡ es ++ more → NoCuts more → histories fs ≡ histories es → TrackedAt fs
+unheard-on es fs more k is quiet same = record {
+  now = subst OnTracks (sym same) k.now;
+  cut = λ before behind s n v e. elim (places es more (Cut s n v) before behind (sym is ∙ e)) [
+    | inl a ↦ k.cut before a.behind s n v a.is
+    | inr a ↦ no-cut a.front a.behind s n v (subst NoCuts a.is quiet)
+  ];
+}
+
+-- ---- what acts tell
+
+none-then : (es fs : List Event) → list_any is_issue es ≡ false → list_any is_issue fs ≡ false → list_any is_issue (es ++ fs) ≡ false
+none-then es fs first last = list_any-append is_issue es fs ∙ ap (λ b. b || list_any is_issue fs) first ∙ last
+
+blanks-none : (v : ℕ) (ts : List ℕ) → list_any is_issue (map (Blanked v) ts) ≡ false
+blanks-none v [] = refl
+blanks-none v (t ∷ ts) = blanks-none v ts
+
+restored-none : (v s n : ℕ) (own : Tracks) → list_any is_issue (told_restored v s n own) ≡ false
+restored-none v s n own = by (is_bare own)
+  where
+    by : (b : Bool) → list_any is_issue (cond b (told_blank v n own ++ Restored s v ∷ []) []) ≡ false
+    by true = none-then (told_blank v n own) (Restored s v ∷ []) (blanks-none v (in_order n (rest n own))) refl
+    by false = refl
+
+suspended-none : (none : Bool) (v : ℕ) → list_any is_issue (cond none [] (Suspended v ∷ [])) ≡ false
+suspended-none true v = refl
+suspended-none false v = refl
+
+held-none : (first : Bool) (v s n : ℕ) → list_any is_issue (cond first (Begin s n ∷ Cut s n v ∷ []) (Cut s n v ∷ [])) ≡ false
+held-none true v s n = refl
+held-none false v s n = refl
+
+told-none : (m : Move) (u : Volume) → list_any is_issue (told m u) ≡ false
+told-none (Withdraw v) u = blanks-none v (in_order u.tracks (rest u.tracks u.fields.own))
+told-none (Reverse v None) u = restored-none v u.fields.source u.tracks (turned u.fields).own
+told-none (Reverse v (Some p)) u = restored-none v u.fields.source u.tracks (turned u.fields).own
+told-none (Release v t) u = restored-none v u.fields.source u.tracks (given_up u.fields t).own
+told-none (Suspend v busy) u = suspended-none (is_suspended u.fields.primary_state) v
+told-none (Hold v s n first) u = held-none first v s n
+told-none m u = refl
+
+stop-none : (m : Move) (u : Volume) → list_any is_issue (told_in_stop m u) ≡ false
+stop-none (Land n v t) u = refl
+stop-none (Overwrite n v t) u = refl
+stop-none (LandBoth n v t) u = refl
+stop-none m u = told-none m u
+
+-- ---- it rides along every step
+
+abbrev pub Tracked : World → Type 0
+Tracked w = TrackedAt w.events
+
+does : (w : World) (a : Act) (f : Option Fuse) → Tracked w → Tracked (after_act w a f)
+does w (Make m) f k = more-on w.events (told m (w.control.volume (target m))) (told-none m (w.control.volume (target m))) k
+does w (OpenAttempt v s n) f k = more-on w.events (told (Hold v s n true) (w.control.volume v)) refl k
+does w (Redo v) f k = k
+does w (Acknowledge n) f k = more-on w.events (Ack n ∷ []) refl k
+does w (Drop n) f k = k
+does w (EndFreeze l m) f k = more-on w.events (Frozen l m ∷ []) refl k
+does w (EndThaw l m) f k = more-on w.events (Thawed l m ∷ []) refl k
+does w (EndRecovery s n) f k = more-on w.events (Recovered s n ∷ []) refl k
+
+stops : (w : World) (m : Move) → Tracked w → TrackedAt (w.events ++ (told_in_stop m (w.control.volume (target m)) ++ Stopped (server_at w (target m)) (landed m) ∷ []))
+stops w m k = more-on w.events _ (none-then (told_in_stop m (w.control.volume (target m))) (Stopped (server_at w (target m)) (landed m) ∷ []) (stop-none m (w.control.volume (target m))) refl) k
+
+rides : (J : World → Type 0) (May : World → Act → Type 0) → Rides J Tracked May
+rides J May = record {
+  does = λ w a f j k may. does w a f k;
+  counts = λ w m f j k may. stops w m k;
+  opens = λ w v s n f j k may. stops w (Hold v s n true) k;
+  fails = λ w a f d j k may. more-on w.events _ refl k;
+}
+
+-- a write that is issued is in no list yet
+below-in : (n : ℕ) (ws : List ℕ) (u : ℕ) → Below n ws → In u ws → u < n
+below-in n [] u low i = absurd i
+below-in n (w ∷ ws) u low (inl is) = subst (λ x. x < n) (sym is) low.0
+below-in n (w ∷ ws) u low (inr more) = below-in n ws u low.1 more
+
+pub tracked-ride : Rider Tracked
+tracked-ride = record {
+  acts = rides Sound MayDo;
+  start_acts = λ s. rides (starts.Inner s) (starts.MayStart s);
+  unheard = λ w u more k q. unheard-on w.events u.events more k q.events q.quiet q.lists;
+  issues = λ w s v t offset len bytes defined low k. issues w s v t offset len bytes k;
+  regroups = λ w ss s t turn k. k;
+  defines = λ w s v server tracks here undefined k. more-on w.events _ refl k;
+}
+  where
+    issues : (w : World) (s : Sound w) (v t offset len : ℕ) (bytes : List ℕ) → Tracked w → TrackedAt (w.events ++ Issue (w.control.issued + 1) v t offset len bytes ∷ [])
+    issues w s v t offset len bytes k =
+        let n : ℕ = w.control.issued + 1 in
+        let h : Histories = histories w.events in
+        one-more w.events (Issue n v t offset len bytes) k (subst OnTracks (sym (histories-push w.events (Issue n v t offset len bytes))) (
+          λ x q u i. ap (λ (y : Write). y.track) (at_other h.write n _ u (apart u n (below-in n (h.now x q) u (s.queue.numbers.now x q) i))) ∙ k.now.0 x q u i,
+          λ x q u i. ap (λ (y : Write). y.track) (at_other h.write n _ u (apart u n (below-in n (h.aside x q) u (s.queue.numbers.aside x q) i))) ∙ k.now.1 x q u i,
+        ))
+      where
+        apart : (u n : ℕ) → u < n → u ≢ n
+        apart u n lt e = omega (arith, lt, e)
+
+none-before : (e : Event) (before behind : List Event) → [] ≡ before ++ e ∷ behind → OnTracks (histories before)
+none-before e [] behind is = absurd cc
+none-before e (y ∷ before) behind is = absurd cc
+
+nothing-tracked : Tracked nothing
+unfolding histories
+nothing-tracked = record { now = (λ v t u i. absurd i, λ v t u i. absurd i); cut = λ before behind s n v is. none-before (Cut s n v) before behind is }
+
+pub tracked-run : (tasks : List Task) → TrackedAt (run tasks).events
+tracked-run tasks = rides-tasks Tracked tracked-ride nothing tasks steps.sound-nothing nothing-tracked

@@ -1,0 +1,11 @@
+pub mod Seals
+pub mod BothViews
+pub mod Decided
+pub mod Example
+pub mod Recovered
+pub mod Headline
+pub mod TakenOver
+pub mod RecoveryAnswers
+pub mod Held
+pub mod Formed
+pub mod Stored

@@ -1,0 +1,380 @@
+-- What each step comes to, by cases: an answer, or one of the plans of the step table behind its tests.
+use Rattle.std.proofs.Common.{ℕ, ◌≡◌, ◌<◌, ◌≤◌, refl, ap, ◌∙◌, Bool, true, false, cond, not, ◌||◌, List, [], ◌∷◌, Option, Some, None, Result, Ok, Err, nat_eq, nat_lt, nat_le, arith}
+use Rattle.std.specs.Prelude.{length, is_some, if◌then◌else◌, ◌==◌}
+use Rattle.std.specs.List.{find}
+use Rattle.std.specs.Option.{option_or}
+use Rattle.std.specs.Str.{bytes_eq}
+use Rattle.std.proofs.lemmas.List.Quantifiers.{position-Some}
+use Rattle.std.proofs.lemmas.Bool.Decides.{nat_tests}
+use Rattle.std.proofs.lemmas.Bool.{or_parts, eqb-true, ltb-true, not-false}
+use Rattle.dr_ids.specs.declared.refusal.Refusal.{Refusal}
+use Rattle.dr_ids.specs.declared.refusal.Refusal.TheVariants.{NotBuilt, JournalFull, Syntax}
+use Rattle.dr_ids.specs.declared.refusal.Kind.TheVariants.{Server as OfServer, Volume as OfVolume, Lss as OfLss, Track as OfTrack, Write as OfWrite, Session as OfSession}
+use Rattle.dr_ids.specs.declared.refusal.Which.TheVariants.{Servers, Volumes, Tracks, Pending as PendingWrites}
+use Rattle.dr_model.specs.declared.event.Event.{Event}
+use Rattle.dr_model.specs.declared.said.Addition.TheVariants.{Alone}
+use Rattle.dr_model.specs.declared.said.Said.{Said}
+use Rattle.dr_model.specs.declared.said.Said.TheVariants.{Done, Refused}
+use Rattle.dr_model.specs.declared.step.Name.{Name}
+use Rattle.dr_model.specs.declared.state.Part.{Part}
+use Rattle.dr_model.specs.declared.step.Devs.{Devs}
+use Rattle.dr_model.specs.declared.step.TornWord.{TornWord}
+use Rattle.dr_model.specs.declared.step.Step.{Step}
+use Rattle.dr_model.specs.declared.step.Step.TheVariants.{Server, Volume, Link, Stop, StopAfter, Start, Issue, Write, Apply, Show, MakeFlash, RemoveFlash, ResyncFlash, ReverseFlash, Copy, MakePath, RemovePath, MakePair, RemovePair, PausePair, ResumePair, Drain, Expire, Freeze, Unfreeze, MakeSession, RemoveSession, AddMember, RemoveMember, MakeMirror, PauseMirror, ResumeMirror, RemoveMirror, Abort, Exchange, Recover, CommitFlash, RevertFlash}
+use Rattle.dr_model.specs.Layout.{is_part, part_of}
+use Rattle.dr_model.specs.Limits.{most_servers, most_volumes, most_tracks, most_pending}
+use Rattle.dr_model.specs.Refusals.{server_off, unknown, duplicate, over}
+use Rattle.dr_model.specs.Control.{Control, Pending, is_volume}
+use Rattle.dr_model.specs.Relations.{Choices}
+use Rattle.dr_model.specs.Moves.{is_write}
+use Rattle.dr_ids.specs.declared.names.Member.{Member}
+use Rattle.dr_model.specs.Phases as phases
+use Rattle.dr_model.specs.Sessions.{Session, Mirror, has_subsystem, subsystem_of, session_in, members_in, has_place_of, joined, left, changed, mirrored_by, paused, unmirrored, with_master, with_member, without_member, raised, busy, in_session, leave_refusal, join_refusal, make_refusal, drop_refusal, abort_refusal}
+use Rattle.dr_model.specs.SessionEntries.{order_entries, members_on, first_number, add_entries, expel_entries}
+use Rattle.dr_model.specs.Entries.{fields_at, first_of, subsystem}
+use Rattle.dr_model.specs.SessionPlans.{with_sessions, table_plan, says_phase, name_refusal, off_refusal, outside_refusal, master_refusal, place_refusal, taken_refusal, copy_refusal, member_target, member_with, add_target, add_to, expel_done, expel_found, exchange_refusal, order_of, answered_by, exchange_done, exchange_on, on_volume, join_plan, leave_plan, mirror_plan, pause_mirror_plan, unmirror_plan, abort_plan, add_plan, expel_plan, exchange_plan}
+use Rattle.dr_ids.specs.declared.refusal.Decision.{Decision}
+use Rattle.dr_model.specs.RecoveryPlans.{decided_in, secondary_refusal, untaken_refusal, forbidden_unless, lets_commit, lets_revert, settle_on, recover_done, recover_plan, member_of_target, revertible_target, settle_refusal, settle_member, settle_target, settle_plan}
+use Rattle.dr_facts.proofs.Lists.{found}
+use Rattle.dr_model.specs.Groups.{In}
+use Rattle.dr_model.specs.Plans.{Plan, entries_plan, plan, step_plan, plan_of, is_built, has_room, same, none_follow, always, on_session, is_defined, only_says, refuses, unless, on_named, on_server, name_bytes, server_named, server_refusal, server_done, volume_refusal, volume_done, link_between, link_done, track_refusal, issue_refusal, issue_done, write_done, apply_on, apply_done, show_refusal, show_done, is_foreign, stop_on, stop_done, arm_on, start_on, start_plan, make_flash_plan, remove_flash_plan, resync_flash_plan, reverse_flash_plan, copy_plan, on_owner, owner_of, path_refusal, make_path_done, unpath_refusal, remove_path_done, make_pair_plan, remove_pair_plan, pause_pair_plan, resume_pair_plan, drain_plan, expire_on, expire_plan, freeze_refusal, freeze_done, thaw_refusal, unfreeze_done}
+use Rattle.dr_facts.proofs.Refusals.{none-both, met}
+
+-- a member is added, and removed; a master is aborted, and an order is carried out
+abbrev pub added : Control → ℕ → Session → Member → Plan
+added k s x m = record {
+  first = same;
+  told = [];
+  entries = add_entries m (first_number k x.last m);
+  follows = none_follow;
+  last = with_sessions (λ ss. changed s (with_member m) (changed s (raised (first_number k x.last m)) ss));
+  says = always (Done Alone);
+}
+
+abbrev pub expelled : ℕ → Member → Plan
+expelled s m = record {
+  first = same;
+  told = [];
+  entries = expel_entries s m;
+  follows = none_follow;
+  last = with_sessions (changed s (without_member m.a.0));
+  says = always (Done Alone);
+}
+
+abbrev pub aborted : ℕ → Plan
+aborted s = record (table_plan (changed s (with_master phases.aborted))) { says = says_phase s }
+
+abbrev pub ordered : ℕ → ℕ → Bool → List Member → phases.Order → Plan
+ordered s server reply ms o = record {
+  first = same;
+  told = [];
+  entries = order_entries o.work s o.number ms;
+  follows = none_follow;
+  last = if reply then answered_by s server o.work ms else same;
+  says = says_phase s;
+}
+
+-- why a volume may become a member, with c as its target
+pub record Joins (k : Control) (s a c : ℕ) (x : Session) : Type 0 where
+  pub found : session_in k.sessions s ≡ Some x
+  pub there : is_volume k a ≡ true
+  pub free : taken_refusal k x a ≡ None
+  pub copies : copy_refusal k a ≡ None
+  pub target : member_target k (fields_at k a).primary_partner ≡ Some c
+  pub places : in_session (find (has_place_of (member_with k a c)) k.sessions) ≡ None
+  pub inside : has_subsystem (subsystem_of a) x ≡ true
+
+-- and why a server may be given an order
+pub record Ordered (k : Control) (s server : ℕ) (x : Session) (r : Mirror) (o : phases.Order) : Type 0 where
+  pub found : session_in k.sessions s ≡ Some x
+  pub mirror : x.mirror ≡ Some r
+  pub allowed : exchange_refusal k r server x.members ≡ None
+  pub order : order_of r server ≡ Some o
+
+-- what a step comes to, with what was seen before
+pub data Case (k : Control) (events : List Event) (line : ℕ) : Plan → Type 0 where
+  Says : (a : Said) → Case k events line (only_says a)
+  DefinesServer : (name : Name) → server_refusal k (name_bytes name) ≡ None → Case k events line (server_done k name)
+  DefinesVolume : (v s tracks : ℕ) → s < length k.servers → volume_refusal k v s tracks ≡ None → Case k events line (volume_done v s tracks)
+  SetsLink : (a b : ℕ) → (up : Bool) → Case k events line (link_done a b up)
+  Issues : (v t offset len : ℕ) → (bytes : List ℕ) → issue_refusal k v t ≡ None → Case k events line (issue_done k v t offset len bytes)
+  Writes : (v t offset len : ℕ) → (bytes : List ℕ) → issue_refusal k v t ≡ None → Case k events line (write_done k v t offset len bytes)
+  Applies : (n : ℕ) → (p : Pending) → find (is_write n) k.pending ≡ Some p → Case k events line (apply_done k p)
+  Shows : (v t : ℕ) → show_refusal k v t ≡ None → Case k events line (show_done events line v t)
+  Stops : (s : ℕ) → k.on s ≡ true → Case k events line (stop_done s)
+  Arms : (writes : ℕ) → (torn : TornWord) → (s : ℕ) → Case k events line (arm_on writes torn s)
+  Starts : (s : ℕ) → k.on s ≡ false → Case k events line (start_plan k s)
+  MakesFlash : (dev : Option Name) → (s t : ℕ) → (choices : Choices) → Case k events line (make_flash_plan k dev s t choices)
+  RemovesFlash : (dev : Option Name) → (s t : ℕ) → Case k events line (remove_flash_plan k dev s t)
+  ResyncsFlash : (dev : Option Name) → (s t : ℕ) → (sequence : Option ℕ) → Case k events line (resync_flash_plan k dev s t sequence)
+  ReversesFlash : (dev : Option Name) → (s t : ℕ) → Case k events line (reverse_flash_plan k dev s t)
+  Copies : (t : ℕ) → (most : Option ℕ) → Case k events line (copy_plan k t most)
+  MakesPath : (src tgt : ℕ) → (group : Bool) → Case k events line (make_path_done src tgt group)
+  RemovesPath : (src tgt : ℕ) → Case k events line (remove_path_done src tgt)
+  MakesPair : (devs : Devs) → (a b : ℕ) → (kind : Part) → (full : Bool) → is_part kind ≡ true → Case k events line (make_pair_plan k events devs a b kind full)
+  RemovesPair : (devs : Devs) → (a b : ℕ) → (source_only : Bool) → Case k events line (remove_pair_plan k devs a b source_only)
+  PausesPair : (devs : Devs) → (a b : ℕ) → Case k events line (pause_pair_plan k devs a b)
+  ResumesPair : (devs : Devs) → (a b : ℕ) → (kind : Part) → Case k events line (resume_pair_plan k devs a b kind)
+  Drains : (a : ℕ) → (most : Option ℕ) → Case k events line (drain_plan k a most)
+  Expires : (s : ℕ) → k.on s ≡ true → Case k events line (expire_plan k s)
+  Freezes : (l m : ℕ) → Case k events line (freeze_done k l m)
+  Unfreezes : (l m : ℕ) → Case k events line (unfreeze_done k l m)
+  MakesSession : (l s : ℕ) → join_refusal (session_in k.sessions s) l k.sessions ≡ None → Case k events line (table_plan (joined s l))
+  RemovesSession : (l s : ℕ) → (x : Session) → session_in k.sessions s ≡ Some x → leave_refusal (Some x) s l ≡ None → Case k events line (table_plan (left s l))
+  MakesMirror : (owner s : ℕ) → (x : Session) → session_in k.sessions s ≡ Some x → make_refusal x.mirror ≡ None → (l : ℕ) → owner_of k l ≡ Some owner → Case k events line (table_plan (changed s (mirrored_by owner)))
+  PausesMirror : (s : ℕ) → (on : Bool) → Case k events line (table_plan (changed s (paused on)))
+  RemovesMirror : (s : ℕ) → (x : Session) → session_in k.sessions s ≡ Some x → drop_refusal x.mirror ≡ None → Case k events line (table_plan (changed s unmirrored))
+  Aborts : (s : ℕ) → (x : Session) → session_in k.sessions s ≡ Some x → abort_refusal x.mirror ≡ None → Case k events line (aborted s)
+  AddsMember : (s a c : ℕ) → (x : Session) → Joins k s a c x → Case k events line (added k s x (member_with k a c))
+  RemovesMember : (s a : ℕ) → (x : Session) → (m : Member) → session_in k.sessions s ≡ Some x → find (λ m. m.a.0 == a) x.members ≡ Some m → busy x.mirror ≡ None → off_refusal k (k.volume m.c.0).server ≡ None → Case k events line (expelled s m)
+  Exchanges : (s server : ℕ) → (reply : Bool) → (x : Session) → (r : Mirror) → (o : phases.Order) → Ordered k s server x r o → Case k events line (ordered s server reply (members_on server x.members) o)
+  Recovers : (s : ℕ) → (x : Session) → session_in k.sessions s ≡ Some x → secondary_refusal x.members k ≡ None → Case k events line (recover_done s (decided_in s k) x.members)
+  Settles : (s : ℕ) → (x : Session) → (m : Member) → session_in k.sessions s ≡ Some x → In m x.members → secondary_refusal x.members k ≡ None → untaken_refusal x.members k ≡ None → Case k events line (entries_plan (settle_on s (decided_in s k) m ∷ []) (Done Alone))
+
+-- what the tests that passed tell
+pub one-passed : (b : Bool) (r : Refusal) (o : Option Refusal) → cond b (Some r) o ≡ None → (b ≡ false) × (o ≡ None)
+one-passed true r o h = absurd cc
+one-passed false r o h = (refl, h)
+
+module _ (k : Control) (events : List Event) (line : ℕ) where
+  abbrev Is : Plan → Type 0
+  Is = Case k events line
+
+  choice : (b : Bool) (p q : Plan) → (b ≡ true → Is p) → (b ≡ false → Is q) → Is (cond b p q)
+  choice true p q yea nay = yea refl
+  choice false p q yea nay = nay refl
+
+  where-none : (r : Option Refusal) (p : Plan) → (r ≡ None → Is p) → Is (unless r p)
+  where-none None p go = go refl
+  where-none (Some r) p go = Says (Refused r)
+
+  where-named : (o : Option ℕ) (p : ℕ → Plan) → ((s : ℕ) → Is (p s)) → Is (on_named o p)
+  where-named None p go = Says (Refused (unknown OfServer))
+  where-named (Some s) p go = go s
+
+  where-placed : (o : Option ℕ) (p : ℕ → Plan) → ((s : ℕ) → o ≡ Some s → Is (p s)) → Is (on_named o p)
+  where-placed None p go = Says (Refused (unknown OfServer))
+  where-placed (Some s) p go = go s refl
+
+  where-owned : (o : Option ℕ) (p : ℕ → Plan) → ((s : ℕ) → Is (p s)) → Is (on_owner o p)
+  where-owned None p go = Says (Refused (unknown OfLss))
+  where-owned (Some s) p go = go s
+
+  where-owner : (o : Option ℕ) (p : ℕ → Plan) → ((s : ℕ) → o ≡ Some s → Is (p s)) → Is (on_owner o p)
+  where-owner None p go = Says (Refused (unknown OfLss))
+  where-owner (Some s) p go = go s refl
+
+  apply-case : (n : ℕ) (o : Option Pending) → find (is_write n) k.pending ≡ o → Is (apply_on k o)
+  apply-case n None e = Says (Refused (unknown OfWrite))
+  apply-case n (Some p) e = Applies n p e
+
+  link-case : (a b : ℕ) (up : Bool) → Is (link_between a b up)
+  link-case a b up = choice (nat_eq a b) (refuses (duplicate OfServer)) (link_done a b up) (λ e. Says _) (λ e. SetsLink a b up)
+
+  stop-case : (s : ℕ) → Is (stop_on k s)
+  stop-case s = choice (k.on s) (stop_done s) (only_says (Done Alone)) (Stops s) (λ off. Says _)
+
+  start-case : (s : ℕ) → Is (start_on k s)
+  start-case s = choice (k.on s) (only_says (Done Alone)) (start_plan k s) (λ on. Says _) (Starts s)
+
+  expire-case : (s : ℕ) → Is (expire_on k s)
+  expire-case s = choice (k.on s) (expire_plan k s) (refuses (server_off s)) (Expires s) (λ off. Says _)
+
+  -- lines on sessions
+  where-session : (o : Option Session) (p : Session → Plan) → ((x : Session) → o ≡ Some x → Is (p x)) → Is (on_session o p)
+  where-session None p go = Says (Refused (unknown OfSession))
+  where-session (Some x) p go = go x refl
+
+  where-volume : (v : ℕ) (p : Plan) → (is_volume k v ≡ true → Is p) → Is (on_volume k v p)
+  where-volume v p go = choice (is_defined v k) p (refuses (unknown OfVolume)) go (λ none. Says _)
+
+  join-case : (dev : Option Name) (l s : ℕ) → Is (join_plan k dev l s)
+  join-case dev l s = where-owned (owner_of k l) _ (λ owner.
+      let why : Option Refusal = option_or (name_refusal k dev owner) (option_or (off_refusal k owner) (join_refusal (session_in k.sessions s) l k.sessions)) in
+      where-none why (table_plan (joined s l)) (λ free. MakesSession l s (none-both (off_refusal k owner) _ (none-both (name_refusal k dev owner) _ free).1).1))
+
+  leave-case : (dev : Option Name) (l s : ℕ) → Is (leave_plan k dev l s)
+  leave-case dev l s = where-owned (owner_of k l) _ (λ owner. where-session (session_in k.sessions s) _ (λ x is.
+      where-none (option_or (name_refusal k dev owner) (leave_refusal (Some x) s l)) (table_plan (left s l)) (λ free. RemovesSession l s x is (none-both (name_refusal k dev owner) _ free).1)))
+
+  mirror-case : (dev : Option Name) (l s : ℕ) → Is (mirror_plan k dev l s)
+  mirror-case dev l s = where-owner (owner_of k l) _ (λ owner owned. where-session (session_in k.sessions s) _ (λ x is.
+      let why : Option Refusal = option_or (name_refusal k dev owner) (option_or (outside_refusal x l) (option_or (off_refusal k owner) (make_refusal x.mirror))) in
+      where-none why (table_plan (changed s (mirrored_by owner)))
+      (λ free. MakesMirror owner s x is (none-both (off_refusal k owner) _ (none-both (outside_refusal x l) _ (none-both (name_refusal k dev owner) _ free).1).1).1 l owned)))
+
+  pause-case : (dev : Option Name) (l s : ℕ) (on : Bool) → Is (pause_mirror_plan k dev l s on)
+  pause-case dev l s on = where-owned (owner_of k l) _ (λ owner. where-session (session_in k.sessions s) _ (λ x is.
+      where-none (option_or (name_refusal k dev owner) (option_or (outside_refusal x l) (master_refusal k x.mirror))) (table_plan (changed s (paused on))) (λ free. PausesMirror s on)))
+
+  unmirror-case : (dev : Option Name) (l s : ℕ) → Is (unmirror_plan k dev l s)
+  unmirror-case dev l s = where-owned (owner_of k l) _ (λ owner. where-session (session_in k.sessions s) _ (λ x is.
+      let why : Option Refusal = option_or (name_refusal k dev owner) (option_or (outside_refusal x l) (option_or (master_refusal k x.mirror) (drop_refusal x.mirror))) in
+      where-none why (table_plan (changed s unmirrored))
+      (λ free. RemovesMirror s x is (none-both (master_refusal k x.mirror) _ (none-both (outside_refusal x l) _ (none-both (name_refusal k dev owner) _ free).1).1).1)))
+
+  abort-case : (s : ℕ) → Is (abort_plan k s)
+  abort-case s = where-session (session_in k.sessions s) _ (λ x is.
+      where-none (option_or (abort_refusal x.mirror) (master_refusal k x.mirror)) (aborted s) (λ free. Aborts s x is (none-both (abort_refusal x.mirror) _ free).0))
+
+  target-case : (s a : ℕ) (x : Session) (o : Option ℕ) → ((c : ℕ) → o ≡ Some c → in_session (find (has_place_of (member_with k a c)) k.sessions) ≡ None → Joins k s a c x) → Is (add_target k s x a (fields_at k a).primary_partner o)
+  target-case s a x None go = Says _
+  target-case s a x (Some c) go =
+      where-none (in_session (find (has_place_of (member_with k a c)) k.sessions)) (added k s x (member_with k a c)) (λ free. AddsMember s a c x (go c refl free))
+
+  add-case : (dev : Option Name) (l a s : ℕ) → Is (add_plan k dev l a s)
+  add-case dev l a s = where-owned (owner_of k l) _ (λ owner. where-volume a _ (λ there. where-session (session_in k.sessions s) _ (λ x is.
+      where-none (place_refusal k dev owner l a) (add_to k s x l a) (λ named.
+      where-none (option_or (outside_refusal x l) (option_or (taken_refusal k x a) (copy_refusal k a))) (add_target k s x a (fields_at k a).primary_partner (member_target k (fields_at k a).primary_partner)) (λ free.
+      let parts = none-both (outside_refusal x l) _ free in
+      let rest = none-both (taken_refusal k x a) _ parts.1 in
+      let lies : subsystem a ≡ l = eqb-true (subsystem a) l (not-false (nat_eq (subsystem a) l) (one-passed (not (nat_eq (subsystem a) l)) (unknown OfVolume) _ named).0) in
+      target-case s a x (member_target k (fields_at k a).primary_partner) (λ c target places. record { found = is; there = there; free = rest.0; copies = rest.1; target = target; places = places; inside = ap (λ l. has_subsystem l x) lies ∙ met (has_subsystem l x) _ parts.0 }))))))
+
+  found-case : (s a : ℕ) (x : Session) (o : Option Member) → session_in k.sessions s ≡ Some x → find (λ m. m.a.0 == a) x.members ≡ o → Is (expel_found k s x o)
+  found-case s a x None is none = Says _
+  found-case s a x (Some m) is found =
+      where-none (busy x.mirror) (expel_done k s m) (λ idle. where-none (off_refusal k (k.volume m.c.0).server) (expelled s m) (λ on. RemovesMember s a x m is found idle on))
+
+  expel-case : (dev : Option Name) (l a s : ℕ) → Is (expel_plan k dev l a s)
+  expel-case dev l a s = where-owned (owner_of k l) _ (λ owner. where-volume a _ (λ there. where-session (session_in k.sessions s) _ (λ x is.
+      where-none (name_refusal k dev owner) (expel_found k s x (find (λ m. m.a.0 == a) x.members)) (λ named. found-case s a x _ is refl))))
+
+  order-case : (s server : ℕ) (reply : Bool) (x : Session) (r : Mirror) (o : Option phases.Order) → ((p : phases.Order) → o ≡ Some p → Ordered k s server x r p) → Is (exchange_done s server reply (members_on server x.members) o)
+  order-case s server reply x r None go = Says _
+  order-case s server reply x r (Some o) go = Exchanges s server reply x r o (go o refl)
+
+  pub on-case : (s server : ℕ) (reply : Bool) (x : Session) (m : Option Mirror) → session_in k.sessions s ≡ Some x → x.mirror ≡ m → Is (exchange_on k s m server reply x.members)
+  on-case s server reply x None is none = Says _
+  on-case s server reply x (Some r) is mirror =
+      where-none (exchange_refusal k r server x.members) (exchange_done s server reply (members_on server x.members) (order_of r server)) (λ free.
+      order-case s server reply x r (order_of r server) (λ o order. record { found = is; mirror = mirror; allowed = free; order = order }))
+
+  exchange-case : (s : ℕ) (name : Name) (reply : Bool) → Is (exchange_plan k s name reply)
+  exchange-case s name reply = where-session (session_in k.sessions s) _ (λ x is.
+      where-named (server_named k (name_bytes name)) (λ server. exchange_on k s x.mirror server reply x.members) (λ server. on-case s server reply x x.mirror is refl))
+
+  recover-case : (s : ℕ) → Is (recover_plan k s)
+  recover-case s = where-session (session_in k.sessions s) _ (λ x is. where-none (secondary_refusal x.members k) (recover_done s (decided_in s k) x.members) (λ on. Recovers s x is on))
+
+  -- the member by whose target an attempt may be committed or reverted by hand
+  settle-in : (lets : Decision → Bool) (s : ℕ) (m : Member) (o : Option Session) → session_in k.sessions s ≡ o → In m (members_in o) → settle_refusal lets (decided_in s k) (members_in o) k ≡ None → Is (entries_plan (settle_on s (decided_in s k) m ∷ []) (Done Alone))
+  settle-in lets s m None is here free = absurd here
+  settle-in lets s m (Some x) is here free =
+      let rest = none-both (secondary_refusal x.members k) _ free in
+      Settles s x m is here rest.0 (none-both (untaken_refusal x.members k) (forbidden_unless (lets (decided_in s k)) (decided_in s k)) rest.1).0
+
+  settle-found : (lets : Decision → Bool) (b s t : ℕ) (o : Option Member) → find (λ m. m.c.0 == t) (members_in (session_in k.sessions s)) ≡ o → Is (settle_member k lets b s o)
+  settle-found lets b s t None is = Says _
+  settle-found lets b s t (Some m) is =
+      where-none (settle_refusal lets (decided_in s k) (members_in (session_in k.sessions s)) k) (entries_plan (settle_on s (decided_in s k) m ∷ []) (Done Alone))
+      (λ free. settle-in lets s m (session_in k.sessions s) refl (found (λ m. m.c.0 == t) (members_in (session_in k.sessions s)) m is).0 free)
+
+  settle-by : (lets : Decision → Bool) (b : ℕ) (o : Option ℕ) → Is (settle_target k lets b o)
+  settle-by lets b None = Says _
+  settle-by lets b (Some t) = settle-found lets b (fields_at k t).session t (member_of_target k t) refl
+
+  settle-case : (dev : Option Name) (lets : Decision → Bool) (b : ℕ) → Is (settle_plan k dev lets b)
+  settle-case dev lets b = where-volume b _ (λ there.
+      where-none (option_or (name_refusal k dev (k.volume b).server) (off_refusal k (k.volume b).server)) (settle_target k lets b (revertible_target k b)) (λ named. settle-by lets b (revertible_target k b)))
+
+  of-case : (step : Step) → is_built step ≡ true → Is (plan_of k events line step)
+  of-case (Server name) built = where-none (server_refusal k (name_bytes name)) (server_done k name) (DefinesServer name)
+  of-case (Volume v name tracks) built =
+      where-placed (server_named k (name_bytes name)) (λ s. unless (volume_refusal k v s tracks) (volume_done v s tracks))
+      (λ s is. where-none (volume_refusal k v s tracks) (volume_done v s tracks) (DefinesVolume v s tracks (position-Some (bytes_eq (name_bytes name)) k.servers s [] is).0))
+  of-case (Link a b up) built = where-named (server_named k (name_bytes a)) (λ x. on_server k b (λ y. link_between x y up)) (λ x. where-named (server_named k (name_bytes b)) (λ y. link_between x y up) (λ y. link-case x y up))
+  of-case (Issue v t offset len bytes) built = where-none (issue_refusal k v t) (issue_done k v t offset len bytes) (Issues v t offset len bytes)
+  of-case (Write v t offset len bytes) built = where-none (issue_refusal k v t) (write_done k v t offset len bytes) (Writes v t offset len bytes)
+  of-case (Apply n) built = apply-case n _ refl
+  of-case (Stop name) built = where-named (server_named k (name_bytes name)) (stop_on k) stop-case
+  of-case (StopAfter name writes torn) built = where-named (server_named k (name_bytes name)) (arm_on writes torn) (Arms writes torn)
+  of-case (Start name) built = where-named (server_named k (name_bytes name)) (start_on k) start-case
+  of-case (Show v t) built = where-none (show_refusal k v t) (show_done events line v t) (Shows v t)
+  of-case (MakeFlash devs s t nocopy persistent recorded inhibited sequence) built = MakesFlash devs.dev s t _
+  of-case (RemoveFlash devs s t sequence) built = RemovesFlash devs.dev s t
+  of-case (ResyncFlash devs s t nocopy persistent recorded inhibited sequence) built = ResyncsFlash devs.dev s t sequence
+  of-case (ReverseFlash devs s t tgtpprc sequence) built = ReversesFlash devs.dev s t
+  of-case (Copy t most) built = Copies t most
+  of-case (MakePath devs src tgt group) built =
+      where-owned (owner_of k src) (λ s. on_owner (owner_of k tgt) (λ u. unless (path_refusal k devs s u) (make_path_done src tgt group)))
+      (λ s. where-owned (owner_of k tgt) (λ u. unless (path_refusal k devs s u) (make_path_done src tgt group)) (λ u. where-none (path_refusal k devs s u) (make_path_done src tgt group) (λ free. MakesPath src tgt group)))
+  of-case (RemovePath devs src tgt force) built =
+      where-owned (owner_of k src) (λ s. on_owner (owner_of k tgt) (λ u. unless (unpath_refusal k devs src tgt s u force) (remove_path_done src tgt)))
+      (λ s. where-owned (owner_of k tgt) (λ u. unless (unpath_refusal k devs src tgt s u force) (remove_path_done src tgt)) (λ u. where-none (unpath_refusal k devs src tgt s u force) (remove_path_done src tgt) (λ free. RemovesPath src tgt)))
+  of-case (MakePair devs a b kind full) built = MakesPair devs a b (part_of kind) full built
+  of-case (RemovePair devs a b source_only) built = RemovesPair devs a b source_only
+  of-case (PausePair devs a b) built = PausesPair devs a b
+  of-case (ResumePair devs a b kind) built = ResumesPair devs a b (part_of kind)
+  of-case (Drain a most) built = Drains a most
+  of-case (Expire name) built = where-named (server_named k (name_bytes name)) (expire_on k) expire-case
+  of-case (Freeze devs l m) built =
+      where-owned (owner_of k l) (λ s. on_owner (owner_of k m) (λ u. unless (freeze_refusal k devs l m s u) (freeze_done k l m)))
+      (λ s. where-owned (owner_of k m) (λ u. unless (freeze_refusal k devs l m s u) (freeze_done k l m)) (λ u. where-none (freeze_refusal k devs l m s u) (freeze_done k l m) (λ free. Freezes l m)))
+  of-case (Unfreeze devs l m) built =
+      where-owned (owner_of k l) (λ s. on_owner (owner_of k m) (λ u. unless (thaw_refusal k devs s u) (unfreeze_done k l m)))
+      (λ s. where-owned (owner_of k m) (λ u. unless (thaw_refusal k devs s u) (unfreeze_done k l m)) (λ u. where-none (thaw_refusal k devs s u) (unfreeze_done k l m) (λ free. Unfreezes l m)))
+  of-case (MakeSession devs l s) built = join-case devs.dev l s
+  of-case (RemoveSession devs l s) built = leave-case devs.dev l s
+  of-case (AddMember devs l a s) built = add-case devs.dev l a s
+  of-case (RemoveMember devs l a s) built = expel-case devs.dev l a s
+  of-case (MakeMirror devs l s cginterval coordinate drain) built = mirror-case devs.dev l s
+  of-case (PauseMirror devs l s) built = pause-case devs.dev l s true
+  of-case (ResumeMirror devs l s cginterval coordinate drain) built = pause-case devs.dev l s false
+  of-case (RemoveMirror devs l s) built = unmirror-case devs.dev l s
+  of-case (Abort s) built = abort-case s
+  of-case (Exchange s name reply) built = exchange-case s name reply
+  of-case (Recover s) built = recover-case s
+  of-case (CommitFlash devs source sequence) built = settle-case devs.dev lets_commit source
+  of-case (RevertFlash devs source sequence) built = settle-case devs.dev lets_revert source
+  of-case _ built = Says (Refused NotBuilt)
+
+  step-case : (step : Step) → Is (step_plan k events line step)
+  step-case step =
+      choice (not (is_built step)) (refuses NotBuilt) (cond (has_room events) (plan_of k events line step) (refuses JournalFull)) (λ none. Says _)
+      (λ built. choice (has_room events) (plan_of k events line step) (refuses JournalFull) (λ room. of-case step (not-false (is_built step) built)) (λ full. Says _))
+
+  pub plan-case : (asked : Result Step ℕ) → Is (plan k events line asked)
+  plan-case (Ok step) = step-case step
+  plan-case (Err column) = Says (Refused (Syntax column))
+
+below : (n m : ℕ) → nat_le m n ≡ false → n < m
+below n m h = grind (arith, nat_tests, h)
+
+above : (n m : ℕ) → nat_lt m n ≡ false → n ≤ m
+above n m h = grind (arith, nat_tests, h)
+
+pub servers-left : (k : Control) (name : List ℕ) → server_refusal k name ≡ None → length k.servers < most_servers
+servers-left k name h = below _ _ (one-passed (nat_le most_servers (length k.servers)) (over Servers) None (one-passed (is_some (server_named k name)) (duplicate OfServer) _ h).1).0
+
+not_over : (tracks : ℕ) → (nat_eq tracks 0 || nat_lt most_tracks tracks) ≡ false → tracks ≤ most_tracks
+not_over tracks h = let e : nat_lt most_tracks tracks ≡ false = (or_parts (nat_eq tracks 0) _ h).1 in above tracks most_tracks e
+
+-- a volume that is new and not too large, and there is room for it
+pub record IsNew (k : Control) (v tracks : ℕ) : Type 0 where
+  pub undefined : is_volume k v ≡ false
+  pub left : length k.volumes < most_volumes
+  pub small : tracks ≤ most_tracks
+
+pub is-new : (k : Control) (v s tracks : ℕ) → volume_refusal k v s tracks ≡ None → IsNew k v tracks
+is-new k v s tracks h =
+    let a = one-passed (is_volume k v) (duplicate OfVolume) _ h in
+    let b = one-passed (is_foreign k (first_of k (subsystem v)) s) (duplicate OfLss) _ a.1 in
+    let c = one-passed (nat_eq tracks 0 || nat_lt most_tracks tracks) (over Tracks) _ b.1 in
+    record { undefined = a.0; left = below _ _ (one-passed (nat_le most_volumes (length k.volumes)) (over Volumes) None c.1).0; small = not_over tracks c.0 }
+
+-- a track that is there
+pub record IsTrack (k : Control) (v t : ℕ) : Type 0 where
+  pub defined : is_volume k v ≡ true
+  pub low : t < (k.volume v).tracks
+
+is-track : (k : Control) (v t : ℕ) → track_refusal k v t ≡ None → IsTrack k v t
+is-track k v t h =
+    let a = one-passed (not (is_volume k v)) (unknown OfVolume) _ h in
+    record { defined = not-false (is_volume k v) a.0; low = ltb-true _ _ (met (nat_lt t (k.volume v).tracks) (unknown OfTrack) a.1) }
+
+-- and room for one write more
+pub may-issue : (k : Control) (v t : ℕ) → issue_refusal k v t ≡ None → IsTrack k v t × (length k.pending < most_pending)
+may-issue k v t h =
+    let both = none-both (track_refusal k v t) _ h in
+    (is-track k v t both.0, below _ _ (one-passed (nat_le most_pending (length k.pending)) (over PendingWrites) None both.1).0)

@@ -1,0 +1,429 @@
+-- What acts and steps leave of a world: the writes issued so far, what is within limits, and the journal, which only grows.
+use Rattle.std.proofs.Common.{ℕ, ◌≡◌, ◌≤◌, ◌<◌, ◌+◌, List, [], ◌∷◌, ◌++◌, length, map, refl, ap, ◌∙◌, sym, arith, Bool, true, false, ◌||◌, cond, Option, Some, None, append_assoc, subst}
+use Rattle.std.specs.List.{list_any}
+use Rattle.std.proofs.lemmas.List.Folds.{list_any-append}
+use Rattle.std.proofs.lemmas.List.{append-nil, length-append}
+use Rattle.dr_logic.specs.Tables.{at}
+use Rattle.dr_ids.specs.declared.refusal.Refusal.{Refusal}
+use Rattle.dr_ids.specs.declared.refusal.Refusal.TheVariants.{Stopped as StoppedIn}
+use Rattle.dr_model.specs.declared.event.Event.{Event}
+use Rattle.dr_model.specs.declared.event.Event.TheVariants.{Issue, Ack, Blanked, Restored, Stopped, Suspended, Started, Frozen, Thawed, Recovered, Begin, Cut}
+use Rattle.dr_model.specs.declared.said.Said.{Said}
+use Rattle.dr_model.specs.declared.said.Said.TheVariants.{Done}
+use Rattle.dr_model.specs.declared.said.Addition.TheVariants.{Alone, Wrote, Showed}
+use Rattle.dr_model.specs.Answers.{answer}
+pub use Rattle.dr_model.specs.HeldWrites.{is_answer}
+use Rattle.dr_model.specs.Limits.{most_servers, most_volumes, most_tracks, most_pending}
+use Rattle.dr_model.specs.Control.{Control, Fuse, Pending, Volume, World, new_volume, nothing}
+use Rattle.dr_model.specs.Layout.{Tracks}
+use Rattle.dr_model.specs.Relations.{rest, in_order, is_bare, turned, given_up}
+use Rattle.dr_model.specs.Pairs.{is_suspended}
+use Rattle.dr_model.specs.Moves.{Move, Land, Overwrite, Keep, Note, Relate, Withdraw, Fetch, Resync, Reverse, Restore, Release, Store, Strike, Suspend, MakeSecondary, MakePrimary, DropPrimary, DropSecondary, Follow, Resume, TakeOver, Unsync, Mirror, LandBoth, Thaw, Lift, Restart, Hold, Free, Seal, Finish, RaiseAttempt, RaiseFloor, Leave, Flash, Commit, Revert, told_blank, told_restored, told, told_in_stop, landed, target, settled, settled_in_stop, is_other, marked}
+use Rattle.dr_model.specs.Carry.{Act, Make, OpenAttempt, Redo, Acknowledge, Drop, EndFreeze, EndThaw, EndRecovery, act, Next, Pass, Do, End, Entry, Outcome, carry, continue, go, follow}
+use Rattle.dr_model.specs.Plans.{Plan, entries_plan, name_bytes, same, always, none_follow, server_done, volume_done, link_done, with_pending, issue_done, show_done, stop_done, arm_on, starting, start_plan, make_path_done, remove_path_done}
+use Rattle.dr_model.specs.Forming.{Part, after_part}
+use Rattle.dr_model.specs.Runs.{Task, course, begun, finish, carried_out, answered, after_plan, after_task, after_tasks, run}
+use Rattle.dr_model.specs.Sessions.{Session, joined, left, changed, mirrored_by, paused, unmirrored}
+use Rattle.dr_model.specs.SessionEntries.{members_on}
+use Rattle.dr_model.specs.SessionPlans.{with_sessions, table_plan, says_phase, answered_by}
+use Rattle.dr_laws_sound.specs.Limits.{IsWithin}
+use Rattle.dr_model.specs.RecoveryPlans.{decided_in, recover_done}
+use Rattle.dr_laws_sound.proofs.Cases.{Case, Says, DefinesServer, DefinesVolume, SetsLink, Issues, Writes, Applies, Shows, Stops, Arms, Starts, MakesFlash, RemovesFlash, ResyncsFlash, ReversesFlash, Copies, MakesPath, RemovesPath, MakesPair, RemovesPair, PausesPair, ResumesPair, Drains, Expires, Freezes, Unfreezes, MakesSession, RemovesSession, MakesMirror, PausesMirror, RemovesMirror, Aborts, AddsMember, RemovesMember, Exchanges, Recovers, Settles, aborted, servers-left, is-new, may-issue}
+use Rattle.dr_laws_sound.proofs.Parts.{Comes, course-case, last-plan}
+use Rattle.dr_facts.proofs.Tables.{at_cases, at_part}
+use Rattle.dr_laws_sound.proofs.Turns.{act-cases, Counts, after_act, server_of}
+use Rattle.dr_logic.proofs.Lists.{filter-shorter}
+
+-- what acts leave of the tables: the names, the volumes, their sizes and how many writes were issued; and no more of them
+-- are pending
+pub record Stays (j k : Control) : Type 0 where
+  pub servers : k.servers ≡ j.servers
+  pub tracks : (v : ℕ) → (k.volume v).tracks ≡ (j.volume v).tracks
+  pub volumes : k.volumes ≡ j.volumes
+  pub issued : k.issued ≡ j.issued
+  pub pending : length k.pending ≤ length j.pending
+
+-- no answer is among them
+abbrev pub Silent : List Event → Type 0
+Silent events = list_any is_answer events ≡ false
+
+silent-append : (es fs : List Event) → Silent es → Silent fs → Silent (es ++ fs)
+silent-append es fs first rest = list_any-append is_answer es fs ∙ ap (λ b. b || list_any is_answer fs) first ∙ rest
+
+-- acts add events to the journal, and no answer
+pub record Onward (w u : World) : Type 0 where
+  pub stays : Stays w.control u.control
+  pub added : List Event
+  pub events : u.events ≡ w.events ++ added
+  pub silent : Silent added
+
+stays-same : (k : Control) → Stays k k
+stays-same k = record { servers = refl; tracks = λ v. refl; volumes = refl; issued = refl; pending = omega arith }
+
+stays-sessions : (f : List Session → List Session) (k : Control) → Stays k (with_sessions f k)
+stays-sessions f k = record { servers = refl; tracks = λ v. refl; volumes = refl; issued = refl; pending = omega arith }
+
+stays-then : (i j k : Control) → Stays i j → Stays j k → Stays i k
+stays-then i j k p q = record {
+  servers = q.servers ∙ p.servers;
+  tracks = λ v. q.tracks v ∙ p.tracks v;
+  volumes = q.volumes ∙ p.volumes;
+  issued = q.issued ∙ p.issued;
+  pending = let a : length j.pending ≤ length i.pending = p.pending in let b : length k.pending ≤ length j.pending = q.pending in omega arith;
+}
+
+onward-same : (w : World) → Onward w w
+onward-same w = record { stays = stays-same w.control; added = []; events = sym (append-nil w.events); silent = refl }
+
+onward-then : (w u v : World) → Onward w u → Onward u v → Onward w v
+onward-then w u v p q = record {
+  stays = stays-then w.control u.control v.control p.stays q.stays;
+  added = p.added ++ q.added;
+  events = q.events ∙ ap (λ es. es ++ q.added) p.events ∙ append_assoc w.events p.added q.added;
+  silent = silent-append p.added q.added p.silent q.silent;
+}
+
+-- the queue gets no longer
+length-marked : (n : ℕ) (ps : List Pending) → length (marked n ps) ≡ length ps
+length-marked n [] = refl
+length-marked n (p ∷ ps) = let e : length (marked n ps) ≡ length ps = length-marked n ps in omega arith
+
+-- what a move makes of it, and that it tells no answer
+settled-fewer : (m : Move) (ps : List Pending) → length (settled m ps) ≤ length ps
+settled-fewer (Land n v t) ps = filter-shorter (is_other n) ps
+settled-fewer (Overwrite n v t) ps = filter-shorter (is_other n) ps
+settled-fewer (LandBoth n v t) ps = filter-shorter (is_other n) ps
+settled-fewer m ps = omega arith
+
+stop-fewer : (m : Move) (ps : List Pending) → length (settled_in_stop m ps) ≤ length ps
+stop-fewer (Land n v t) ps = let e : length (marked n ps) ≡ length ps = length-marked n ps in omega arith
+stop-fewer (Overwrite n v t) ps = let e : length (marked n ps) ≡ length ps = length-marked n ps in omega arith
+stop-fewer (LandBoth n v t) ps = let e : length (marked n ps) ≡ length ps = length-marked n ps in omega arith
+stop-fewer m ps = omega arith
+
+blanks-silent : (v : ℕ) (ts : List ℕ) → Silent (map (Blanked v) ts)
+blanks-silent v [] = refl
+blanks-silent v (t ∷ ts) = blanks-silent v ts
+
+restored-silent : (v s n : ℕ) (own : Tracks) → Silent (told_restored v s n own)
+restored-silent v s n own = by (is_bare own)
+  where
+    by : (b : Bool) → Silent (cond b (told_blank v n own ++ Restored s v ∷ []) [])
+    by true = silent-append (told_blank v n own) (Restored s v ∷ []) (blanks-silent v (in_order n (rest n own))) refl
+    by false = refl
+
+suspended-silent : (none : Bool) (v : ℕ) → Silent (cond none [] (Suspended v ∷ []))
+suspended-silent true v = refl
+suspended-silent false v = refl
+
+held-silent : (first : Bool) (v s n : ℕ) → Silent (cond first (Begin s n ∷ Cut s n v ∷ []) (Cut s n v ∷ []))
+held-silent true v s n = refl
+held-silent false v s n = refl
+
+tells-silent : (m : Move) (u : Volume) → Silent (told m u)
+tells-silent (Land n v t) u = refl
+tells-silent (Overwrite n v t) u = refl
+tells-silent (Keep v t) u = refl
+tells-silent (Note v t) u = refl
+tells-silent (Relate v s choices) u = refl
+tells-silent (Withdraw v) u = blanks-silent v (in_order u.tracks (rest u.tracks u.fields.own))
+tells-silent (Fetch v t) u = refl
+tells-silent (Resync v sequence) u = refl
+tells-silent (Reverse v None) u = restored-silent v u.fields.source u.tracks (turned u.fields).own
+tells-silent (Reverse v (Some p)) u = restored-silent v u.fields.source u.tracks (turned u.fields).own
+tells-silent (Restore v t from) u = refl
+tells-silent (Release v t) u = restored-silent v u.fields.source u.tracks (given_up u.fields t).own
+tells-silent (Store v t from last) u = refl
+tells-silent (Strike v t last) u = refl
+tells-silent (Suspend v busy) u = suspended-silent (is_suspended u.fields.primary_state) v
+tells-silent (MakeSecondary v a kind state) u = refl
+tells-silent (MakePrimary v b kind state full) u = refl
+tells-silent (DropPrimary v) u = refl
+tells-silent (DropSecondary v) u = refl
+tells-silent (Follow v state) u = refl
+tells-silent (Resume v state) u = refl
+tells-silent (TakeOver v) u = refl
+tells-silent (Unsync v t) u = refl
+tells-silent (Mirror v t from n) u = refl
+tells-silent (LandBoth n v t) u = refl
+tells-silent (Thaw v) u = refl
+tells-silent (Lift v) u = refl
+tells-silent (Restart v) u = refl
+tells-silent (Hold v s n first) u = held-silent first v s n
+tells-silent (Free v) u = refl
+tells-silent (Seal v a s n) u = refl
+tells-silent (Finish v n) u = refl
+tells-silent (RaiseAttempt v n) u = refl
+tells-silent (RaiseFloor v n) u = refl
+tells-silent (Leave v a s) u = refl
+tells-silent (Flash v from a s n) u = refl
+tells-silent (Commit v a s n) u = refl
+tells-silent (Revert v a s n) u = refl
+
+in_stop-silent : (m : Move) (u : Volume) → Silent (told_in_stop m u)
+in_stop-silent (Land n v t) u = refl
+in_stop-silent (Overwrite n v t) u = refl
+in_stop-silent (LandBoth n v t) u = refl
+in_stop-silent m u = tells-silent m u
+
+-- a move leaves each volume its size
+move-tracks : (w : World) (m : Move) (y : Volume) → y.tracks ≡ (w.control.volume (target m)).tracks → (v : ℕ) → (at w.control.volume (target m) y v).tracks ≡ (w.control.volume v).tracks
+move-tracks w m y e v = at_part (λ (x : Volume). x.tracks) w.control.volume (target m) y e v
+
+done-onward : (w : World) (a : Act) (f : Option Fuse) → Onward w (after_act w a f)
+done-onward w (Make m) f =
+    let u : Volume = w.control.volume (target m) in
+    record { stays = record { servers = refl; tracks = move-tracks w m _ refl; volumes = refl; issued = refl; pending = settled-fewer m w.control.pending }; added = told m u; events = refl; silent = tells-silent m u }
+done-onward w (OpenAttempt v s n) f =
+    let m : Move = Hold v s n true in
+    let u : Volume = w.control.volume v in record { stays = record { servers = refl; tracks = move-tracks w m _ refl; volumes = refl; issued = refl; pending = omega arith }; added = told m u; events = refl; silent = tells-silent m u }
+done-onward w (Redo v) f = record { stays = record { servers = refl; tracks = λ v. refl; volumes = refl; issued = refl; pending = omega arith }; added = []; events = sym (append-nil w.events); silent = refl }
+done-onward w (Acknowledge n) f = record { stays = record { servers = refl; tracks = λ v. refl; volumes = refl; issued = refl; pending = filter-shorter (is_other n) w.control.pending }; added = Ack n ∷ []; events = refl; silent = refl }
+done-onward w (Drop n) f = record { stays = record { servers = refl; tracks = λ v. refl; volumes = refl; issued = refl; pending = filter-shorter (is_other n) w.control.pending }; added = []; events = sym (append-nil w.events); silent = refl }
+done-onward w (EndFreeze l m) f = record { stays = record { servers = refl; tracks = λ v. refl; volumes = refl; issued = refl; pending = omega arith }; added = Frozen l m ∷ []; events = refl; silent = refl }
+done-onward w (EndThaw l m) f = record { stays = record { servers = refl; tracks = λ v. refl; volumes = refl; issued = refl; pending = omega arith }; added = Thawed l m ∷ []; events = refl; silent = refl }
+done-onward w (EndRecovery s n) f = record { stays = record { servers = refl; tracks = λ v. refl; volumes = refl; issued = refl; pending = omega arith }; added = Recovered s n ∷ []; events = refl; silent = refl }
+
+counts-onward : (w : World) (a : Act) → Counts w a (λ t. Onward w t.0)
+counts-onward w (Make m) = λ f.
+    let u : Volume = w.control.volume (target m) in
+    record {
+      stays = record { servers = refl; tracks = move-tracks w m _ refl; volumes = refl; issued = refl; pending = stop-fewer m w.control.pending };
+      added = told_in_stop m u ++ Stopped u.server (landed m) ∷ [];
+      events = refl;
+      silent = silent-append (told_in_stop m u) (Stopped u.server (landed m) ∷ []) (in_stop-silent m u) refl;
+    }
+counts-onward w (OpenAttempt v s n) = λ f.
+    let m : Move = Hold v s n true in
+    let u : Volume = w.control.volume v in
+    record {
+      stays = record { servers = refl; tracks = move-tracks w m _ refl; volumes = refl; issued = refl; pending = omega arith };
+      added = told_in_stop m u ++ Stopped u.server 0 ∷ [];
+      events = refl;
+      silent = silent-append (told_in_stop m u) (Stopped u.server 0 ∷ []) (in_stop-silent m u) refl;
+    }
+counts-onward w (Redo v) = tt
+counts-onward w (Acknowledge n) = tt
+counts-onward w (Drop n) = tt
+counts-onward w (EndFreeze l m) = tt
+counts-onward w (EndThaw l m) = tt
+counts-onward w (EndRecovery s n) = tt
+
+act-onward : (w : World) (a : Act) → Onward w (act w a).0
+act-onward w a = act-cases w a (λ t. Onward w t.0) (λ d off. onward-same w) (done-onward w a) (counts-onward w a)
+    (λ d f. record { stays = record { servers = refl; tracks = λ v. refl; volumes = refl; issued = refl; pending = omega arith }; added = Stopped (server_of w a) 0 ∷ []; events = refl; silent = refl })
+
+continue-onward : (w u : World) (server : Option ℕ) (next : World → Outcome) → ((v : World) → Onward v (next v).0) → Onward w u → Onward w (continue u server next).0
+continue-onward w u None next each on = onward-then w u _ on (each u)
+continue-onward w u (Some s) next each on = on
+
+go-onward : (w : World) (x : Next) (next : World → Outcome) → ((v : World) → Onward v (next v).0) → Onward w (go w x next).0
+go-onward w Pass next each = each w
+go-onward w (End r) next each = onward-same w
+go-onward w (Do a) next each = continue-onward w (act w a).0 (act w a).1 next each (act-onward w a)
+
+pub carry-onward : (w : World) (entries : List Entry) → Onward w (carry w entries).0
+unfolding carry
+carry-onward w [] = onward-same w
+carry-onward w (d ∷ ds) = go-onward w (d w.control) (λ v. carry v ds) (λ v. carry-onward v ds)
+
+-- What a step may do: issue one write, and stay within the limits; and what it tells is no answer.
+pub record Modest (k : Control) (p : Plan) : Type 0 where
+  pub one : (p.first k).issued ≤ k.issued + 1
+  pub within : IsWithin k → IsWithin (p.first k)
+  pub last : (j : Control) → Stays j (p.last j)
+  pub silent : Silent p.told
+
+follow-onward : (w : World) (r : Refusal) (follows : ℕ → List Entry) → Onward w (follow w r follows)
+follow-onward w (StoppedIn s) follows = carry-onward w (follows s.0)
+follow-onward w r follows = onward-same w
+
+finish-onward : (k : Control) (p : Plan) → (m : Modest k p) → (w : World) (r : Option Refusal) → Onward w (finish p w r)
+finish-onward k p m w None = record { stays = m.last w.control; added = []; events = sym (append-nil w.events); silent = refl }
+finish-onward k p m w (Some r) = follow-onward w r p.follows
+
+module _ (w : World) (p : Plan) (m : Modest w.control p) where
+  carried_out-onward : Onward (begun w p) (carried_out w p).0
+  carried_out-onward =
+      let o : Outcome = carry (begun w p) p.entries in
+      onward-then (begun w p) o.0 _ (carry-onward (begun w p) p.entries) (finish-onward w.control p m o.0 o.1)
+
+  pub after_plan-stays : (line : ℕ) → Stays (p.first w.control) (after_plan w line p).control
+  unfolding after_plan
+  after_plan-stays line = carried_out-onward.stays
+
+-- a step adds to the journal, and last its answer
+pub record EndsAnswered (w : World) (line : ℕ) (u : World) : Type 0 where
+  pub before : List Event
+  pub silent : Silent before
+  pub says : Said
+  pub events : u.events ≡ (w.events ++ before) ++ answer line says ∷ []
+
+pub after_plan-ends : (w : World) (line : ℕ) (p : Plan) → Modest w.control p → EndsAnswered w line (after_plan w line p)
+unfolding after_plan
+after_plan-ends w line p m =
+    let goes : Onward (begun w p) (carried_out w p).0 = carried_out-onward w p m in
+    record {
+      before = p.told ++ goes.added;
+      silent = silent-append p.told goes.added m.silent goes.silent;
+      says = answered p (carried_out w p).0.control (carried_out w p).1;
+      events = ap (λ es. es ++ answer line (answered p (carried_out w p).0.control (carried_out w p).1) ∷ []) (goes.events ∙ append_assoc w.events p.told goes.added);
+    }
+
+-- every plan of a step is such
+module _ (k : Control) where
+  modest : (first : Control → Control) (told : List Event) (entries : List Entry) (says : Control → Said) → (first k).issued ≤ k.issued + 1 → (IsWithin k → IsWithin (first k)) → Silent told
+      → Modest k (record { first = first; told = told; entries = entries; follows = none_follow; last = same; says = says })
+  modest first told entries says one within hush = record { one = one; within = within; last = stays-same; silent = hush }
+
+  abbrev Unmoved : Control → Type 0
+  Unmoved j = (length j.servers ≡ length k.servers) × ((length j.volumes ≡ length k.volumes) × ((length j.pending ≡ length k.pending) × ((v : ℕ) → (j.volume v).tracks ≡ (k.volume v).tracks)))
+
+  -- the tables with limits stay
+  quiet : (first : Control → Control) (told : List Event) (entries : List Entry) (says : Control → Said) → (first k).issued ≡ k.issued → Unmoved (first k) → Silent told
+      → Modest k (record { first = first; told = told; entries = entries; follows = none_follow; last = same; says = says })
+  quiet first told entries says issued stays hush = modest first told entries says (omega arith) within hush
+    where
+      within : IsWithin k → IsWithin (first k)
+      within h = record {
+        servers = subst (λ n. n ≤ most_servers) (sym stays.0) h.servers;
+        volumes = subst (λ n. n ≤ most_volumes) (sym stays.1.0) h.volumes;
+        pending = subst (λ n. n ≤ most_pending) (sym stays.1.1.0) h.pending;
+        tracks = λ v. subst (λ n. n ≤ most_tracks) (sym (stays.1.1.1 v)) (h.tracks v);
+      }
+
+  unmoved : Unmoved k
+  unmoved = (refl, (refl, (refl, λ v. refl)))
+
+  entries-modest : (entries : List Entry) (said : Said) → Modest k (entries_plan entries said)
+  entries-modest entries said = quiet same [] entries (always said) refl unmoved refl
+
+  room-more : {X : Type 0} (xs : List X) (x : X) (n : ℕ) → length xs < n → length (xs ++ x ∷ []) ≤ n
+  room-more xs x n lt = let e : length (xs ++ x ∷ []) ≡ length xs + 1 = length-append xs (x ∷ []) in omega arith
+
+  issue-modest : (v t offset len : ℕ) (bytes : List ℕ) → length k.pending < most_pending → Modest k (issue_done k v t offset len bytes)
+  issue-modest v t offset len bytes left =
+      modest (with_pending v t) (Issue (k.issued + 1) v t offset len bytes ∷ []) [] (always (Done (Wrote (k.issued + 1)))) (omega arith)
+      (λ h. record { servers = h.servers; volumes = h.volumes; pending = room-more k.pending (record { w = k.issued + 1; volume = v; track = t; landed = false }) most_pending left; tracks = h.tracks }) refl
+
+  -- a volume is defined, which isn't too large
+  sizes-within : (v s tracks : ℕ) → tracks ≤ most_tracks → IsWithin k → (u : ℕ) → (at k.volume v (new_volume s tracks) u).tracks ≤ most_tracks
+  sizes-within v s tracks small h = at_cases (λ u (x : Volume). x.tracks ≤ most_tracks) k.volume v (new_volume s tracks) small (λ q ne. h.tracks q)
+
+  case-modest : (events : List Event) (line : ℕ) (p : Plan) → Case k events line p → Modest k p
+  case-modest events line _ (Says a) = quiet same [] [] (always a) refl unmoved refl
+  case-modest events line _ (DefinesServer name free) =
+      modest (server_done k name).first (server_done k name).told [] (always (Done Alone)) (omega arith)
+      (λ h. record { servers = room-more k.servers (name_bytes name) most_servers (servers-left k (name_bytes name) free); volumes = h.volumes; pending = h.pending; tracks = h.tracks }) refl
+  case-modest events line _ (DefinesVolume v s tracks here free) =
+      let new = is-new k v s tracks free in
+      modest (volume_done v s tracks).first (volume_done v s tracks).told [] (always (Done Alone)) (omega arith)
+      (λ h. record { servers = h.servers; volumes = room-more k.volumes v most_volumes new.left; pending = h.pending; tracks = sizes-within v s tracks new.small h }) refl
+  case-modest events line _ (SetsLink a b up) = quiet (link_done a b up).first [] [] (always (Done Alone)) refl unmoved refl
+  case-modest events line _ (Issues v t offset len bytes free) = issue-modest v t offset len bytes (may-issue k v t free).1
+  case-modest events line _ (Writes v t offset len bytes free) =
+      let issues : Modest k (issue_done k v t offset len bytes) = issue-modest v t offset len bytes (may-issue k v t free).1 in record { one = issues.one; within = issues.within; last = issues.last; silent = issues.silent }
+  case-modest events line _ (Applies n p found) = record { one = omega arith; within = λ h. h; last = stays-same; silent = refl }
+  case-modest events line _ (Shows v t there) = quiet same (show_done events line v t).told [] (always (Done Showed)) refl unmoved refl
+  case-modest events line _ (Stops s on) = quiet (stop_done s).first (Stopped s 0 ∷ []) [] (always (Done Alone)) refl unmoved refl
+  case-modest events line _ (Arms writes torn s) = quiet (arm_on writes torn s).first [] [] (always (Done Alone)) refl unmoved refl
+  case-modest events line _ (Starts s off) = quiet (starting s) (Started s ∷ []) (start_plan k s).entries (start_plan k s).says refl unmoved refl
+  case-modest events line _ (MakesFlash dev s t choices) = entries-modest _ _
+  case-modest events line _ (RemovesFlash dev s t) = entries-modest _ _
+  case-modest events line _ (ResyncsFlash dev s t sequence) = entries-modest _ _
+  case-modest events line _ (ReversesFlash dev s t) = entries-modest _ _
+  case-modest events line _ (Copies t most) = entries-modest _ _
+  case-modest events line _ (MakesPath src tgt group) = quiet (make_path_done src tgt group).first [] [] (always (Done Alone)) refl unmoved refl
+  case-modest events line _ (RemovesPath src tgt) = quiet (remove_path_done src tgt).first [] [] (always (Done Alone)) refl unmoved refl
+  case-modest events line _ (MakesPair devs a b kind full part) = entries-modest _ _
+  case-modest events line _ (RemovesPair devs a b source_only) = entries-modest _ _
+  case-modest events line _ (PausesPair devs a b) = entries-modest _ _
+  case-modest events line _ (ResumesPair devs a b kind) = entries-modest _ _
+  case-modest events line _ (Drains a most) = record { one = omega arith; within = λ h. h; last = stays-same; silent = refl }
+  case-modest events line _ (Expires s on) = entries-modest _ _
+  case-modest events line _ (Freezes l m) = entries-modest _ _
+  case-modest events line _ (Unfreezes l m) = entries-modest _ _
+  case-modest events line _ (MakesSession l s free) = quiet (table_plan (joined s l)).first [] [] (always (Done Alone)) refl unmoved refl
+  case-modest events line _ (RemovesSession l s x found free) = quiet (table_plan (left s l)).first [] [] (always (Done Alone)) refl unmoved refl
+  case-modest events line _ (MakesMirror owner s x found free l owned) = quiet (table_plan (changed s (mirrored_by owner))).first [] [] (always (Done Alone)) refl unmoved refl
+  case-modest events line _ (PausesMirror s on) = quiet (table_plan (changed s (paused on))).first [] [] (always (Done Alone)) refl unmoved refl
+  case-modest events line _ (RemovesMirror s x found free) = quiet (table_plan (changed s unmirrored)).first [] [] (always (Done Alone)) refl unmoved refl
+  case-modest events line _ (Aborts s x found free) = quiet (aborted s).first [] [] (says_phase s) refl unmoved refl
+  case-modest events line _ (AddsMember s a c x joins) = record { one = omega arith; within = λ h. h; last = stays-sessions _; silent = refl }
+  case-modest events line _ (RemovesMember s a x m found is idle on) = record { one = omega arith; within = λ h. h; last = stays-sessions _; silent = refl }
+  case-modest events line _ (Recovers s x found on) = quiet same [] (recover_done s (decided_in s k) x.members).entries (recover_done s (decided_in s k) x.members).says refl unmoved refl
+  case-modest events line _ (Settles s x m found here on free) = entries-modest _ _
+  case-modest events line _ (Exchanges s server reply x r o allowed) = record { one = omega arith; within = λ h. h; last = by reply; silent = refl }
+    where
+      by : (b : Bool) (j : Control) → Stays j (cond b (answered_by s server o.work (members_on server x.members)) same j)
+      by true j = record { servers = refl; tracks = λ v. refl; volumes = refl; issued = refl; pending = omega arith }
+      by false j = stays-same j
+
+-- a plan before the last one of its step adds to the journal, and no answer
+pub onward-part : (w : World) (p : Plan) → Comes w p → Onward w (after_part w p)
+onward-part w p comes =
+    let goes : Onward (begun w p) (carried_out w p).0 = carried_out-onward w p (case-modest w.control w.events 0 p (comes.case 0)) in
+    record {
+      stays = subst (λ k. Stays k (after_part w p).control) (comes.first w.control) (record { servers = goes.stays.servers; tracks = goes.stays.tracks; volumes = goes.stays.volumes; issued = goes.stays.issued; pending = goes.stays.pending });
+      added = goes.added;
+      events = goes.events ∙ ap (λ es. es ++ goes.added) (ap (λ es. w.events ++ es) comes.told ∙ append-nil w.events);
+      silent = goes.silent;
+    }
+
+pub onward-last : (w : World) (t : Task) → Onward w (course w t).last.world
+onward-last w t = last-plan (Onward w) (λ u p comes on. onward-then w u _ on (onward-part u p comes)) w t (onward-same w)
+
+pub modest-last : (w : World) (t : Task) → let x : Part = (course w t).last in Modest x.world.control x.plan
+modest-last w t = let x : Part = (course w t).last in case-modest x.world.control x.world.events t.line x.plan (course-case w t)
+
+pub after_task-ends : (w : World) (t : Task) → EndsAnswered w t.line (after_task w t)
+after_task-ends w t =
+    let x : Part = (course w t).last in
+    let o : Onward w x.world = onward-last w t in
+    let e : EndsAnswered x.world t.line (after_plan x.world t.line x.plan) = after_plan-ends x.world t.line x.plan (modest-last w t) in
+    record {
+      before = o.added ++ e.before;
+      silent = silent-append o.added e.before o.silent e.silent;
+      says = e.says;
+      events = e.events ∙ ap (λ es. es ++ answer t.line e.says ∷ []) (ap (λ es. es ++ e.before) o.events ∙ append_assoc w.events o.added e.before);
+    }
+
+pub after_task-grows : (w : World) (t : Task) → (es : List Event) × ((after_task w t).events ≡ w.events ++ es)
+after_task-grows w t =
+    let ends : EndsAnswered w t.line (after_task w t) = after_task-ends w t in
+    (ends.before ++ answer t.line ends.says ∷ [], ends.events ∙ append_assoc w.events ends.before (answer t.line ends.says ∷ []))
+
+pub after_tasks-grows : (w : World) (tasks : List Task) → (es : List Event) × ((after_tasks w tasks).events ≡ w.events ++ es)
+unfolding after_tasks
+after_tasks-grows w [] = ([], sym (append-nil w.events))
+after_tasks-grows w (t ∷ tasks) =
+    let first : (es : List Event) × ((after_task w t).events ≡ w.events ++ es) = after_task-grows w t in
+    let rest : (es : List Event) × ((after_tasks (after_task w t) tasks).events ≡ (after_task w t).events ++ es) = after_tasks-grows (after_task w t) tasks in
+    (first.0 ++ rest.0, rest.1 ∙ ap (λ es. es ++ rest.0) first.1 ∙ append_assoc w.events first.0 rest.0)
+
+pub issued-task : (w : World) (t : Task) → (after_task w t).control.issued ≤ w.control.issued + 1
+issued-task w t =
+    let x : Part = (course w t).last in
+    let m : Modest x.world.control x.plan = modest-last w t in
+    let few : (x.plan.first x.world.control).issued ≤ w.control.issued + 1 = subst (λ n. (x.plan.first x.world.control).issued ≤ n + 1) (onward-last w t).stays.issued m.one in
+    subst (λ n. n ≤ w.control.issued + 1) (sym (after_plan-stays x.world x.plan m t.line).issued) few
+
+pub issued-tasks : (w : World) (tasks : List Task) → (after_tasks w tasks).control.issued ≤ w.control.issued + length tasks
+unfolding after_tasks
+issued-tasks w [] = omega arith
+issued-tasks w (t ∷ tasks) =
+    let one : (after_task w t).control.issued ≤ w.control.issued + 1 = issued-task w t in
+    let rest : (after_tasks (after_task w t) tasks).control.issued ≤ (after_task w t).control.issued + length tasks = issued-tasks (after_task w t) tasks in
+    omega arith
+
+pub issued-run : (tasks : List Task) → (run tasks).control.issued ≤ length tasks
+issued-run tasks = let h : (run tasks).control.issued ≤ 0 + length tasks = issued-tasks nothing tasks in omega arith
+
+-- the journal is longer after a step
+pub after_task-longer : (w : World) (t : Task) → length w.events < length (after_task w t).events
+after_task-longer w t =
+    let ends : EndsAnswered w t.line (after_task w t) = after_task-ends w t in
+    let last : List Event = answer t.line ends.says ∷ [] in
+    let is : length (after_task w t).events ≡ length w.events + length ends.before + 1 =
+    ap length ends.events ∙ length-append (w.events ++ ends.before) last ∙ ap (λ n. n + 1) (length-append w.events ends.before) in
+    omega arith

@@ -1,0 +1,249 @@
+-- A law on the rows of volumes and on the journal that each act keeps rides along every step, and so along every run.
+use Rattle.std.proofs.Common.{ℕ, ◌≡◌, ◌<◌, ◌+◌, refl, ap, ◌∙◌, true, false, List, [], ◌∷◌, ◌++◌, length, nat_eq}
+use Rattle.std.proofs.lemmas.List.{append-nil}
+use Rattle.std.specs.List.{list_any}
+use Rattle.dr_model.specs.declared.event.Event.{Event}
+use Rattle.dr_model.specs.declared.event.Event.TheVariants.{Server as ServerDefined, Started, Stopped, Shown}
+use Rattle.dr_model.specs.declared.said.Said.{Said}
+use Rattle.dr_model.specs.Answers.{answer}
+use Rattle.dr_model.specs.Contents.{image_at}
+use Rattle.dr_model.specs.Histories.{histories}
+use Rattle.dr_model.specs.Control.{Control, World, is_volume}
+use Rattle.dr_model.specs.Carry.{Entry, carry}
+use Rattle.dr_model.specs.Phases as phases
+use Rattle.dr_model.specs.Sessions.{Session, joined, left, changed, mirrored_by, paused, unmirrored, with_master, lost_since}
+use Rattle.dr_model.specs.Groups.{Groups}
+use Rattle.dr_model.specs.Attempts.{Attempts}
+use Rattle.dr_model.specs.SessionEntries.{members_on}
+use Rattle.dr_model.specs.SessionPlans.{with_sessions, member_with, answered_by}
+use Rattle.dr_model.specs.Plans.{Plan, same, always, none_follow, entries_plan, write_done, apply_done, drain_plan, start_plan}
+use Rattle.dr_model.specs.Forming.{Part, after_part}
+use Rattle.dr_model.specs.Runs.{Task, course, begun, carried_out, answered, said, after_plan, after_task, after_tasks, masters_lost}
+use Rattle.dr_model.specs.Table.{table, due_by, aside_by}
+use Rattle.dr_model.specs.Laws.{Sound}
+use Rattle.dr_model.proofs.Images.{histories-append}
+use Rattle.dr_laws_cuts.specs.Once.{NoCuts}
+use Rattle.dr_laws_sessions.proofs.PlanTables.{no-maker, owned-volume}
+use Rattle.dr_laws_sessions.proofs.Tables.{groups-joined, groups-left, groups-mirrored, groups-paused, groups-unmirrored, groups-aborted}
+use Rattle.dr_laws_attempts.proofs.Tables.{with-joined, with-left, with-mirrored, with-paused, with-unmirrored, with-aborted}
+use Rattle.dr_laws_closed.specs.Regroups.{Regroups}
+use Rattle.dr_laws_closed.specs.Silent.{AllStill}
+use Rattle.dr_laws_closed.proofs.Regroups.{regroups-same, regroups-joined, regroups-left, regroups-mirrored, regroups-paused, regroups-unmirrored, regroups-aborted, regroups-lost}
+use Rattle.dr_laws_sound.proofs.Cases.{Case, Says, DefinesServer, DefinesVolume, SetsLink, Issues, Writes, Applies, Shows, Stops, Arms, Starts, MakesFlash, RemovesFlash, ResyncsFlash, ReversesFlash, Copies, MakesPath, RemovesPath, MakesPair, RemovesPair, PausesPair, ResumesPair, Drains, Expires, Freezes, Unfreezes, MakesSession, RemovesSession, MakesMirror, PausesMirror, RemovesMirror, Aborts, AddsMember, RemovesMember, Exchanges, Recovers, Settles, added, expelled, ordered, is-new, may-issue}
+use Rattle.dr_laws_sound.proofs.KeepsSound.{Along, StepHolds, RowsAt, MayDo, keeps-sound, over}
+use Rattle.dr_laws_sound.proofs.FitsFlash.{as_begun, sound-begun, along-flash, along-withdraw, along-resync, along-reverse}
+use Rattle.dr_laws_sound.proofs.FitsCopy.{along-copy}
+use Rattle.dr_laws_sound.proofs.FitsPairs.{along-pair, along-remove, along-pause, along-resume}
+use Rattle.dr_laws_sound.proofs.FitsDrain.{along-drain, suspends-after}
+use Rattle.dr_laws_sound.proofs.FitsWrites.{lands, writes-after}
+use Rattle.dr_laws_sound.proofs.FitsHolds.{freezes, thaws, lifts}
+use Rattle.dr_laws_sound.proofs.FitsSessions.{Orders, sound-sessions, sound-lost}
+use Rattle.dr_laws_sound.proofs.FitsMembers.{orders-added, orders-expelled}
+use Rattle.dr_laws_sound.proofs.FitsOrders.{orders-ordered}
+use Rattle.dr_laws_sound.proofs.FitsRecovery.{along-recover, along-settle}
+use Rattle.dr_laws_sound.proofs.Issues.{issued, sound-issued, one-new}
+use Rattle.dr_laws_sound.proofs.Lands.{found-alone}
+use Rattle.dr_laws_sound.proofs.Defines.{with_volume}
+use Rattle.dr_laws_sound.proofs.Starts as starts
+use Rattle.dr_laws_sound.proofs.Parts.{Comes, course-case, last-plan}
+use Rattle.dr_laws_sound.proofs.Steps.{case-holds, sound-carried, sound-plan, sound-part, sound-task}
+use Rattle.dr_laws_sound.proofs.Rides.{Rides, Both, plan-rides}
+
+-- From w to u these events were told, of which no list hears and no group, and which cut no volume; the rows of volumes, what waits and
+-- the sessions are as they were.
+pub record Unheard (w u : World) (more : List Event) : Type 0 where
+  pub events : u.events ≡ w.events ++ more
+  pub quiet : NoCuts more
+  pub still : AllStill more
+  pub lists : histories u.events ≡ histories w.events
+  pub rows : table u ≡ table w
+  pub issued : u.control.issued ≡ w.control.issued
+  pub volume : u.control.volume ≡ w.control.volume
+  pub pending : u.control.pending ≡ w.control.pending
+  pub sessions : u.control.sessions ≡ w.control.sessions
+
+pub unheard : (w u : World) (more : List Event) → u.events ≡ w.events ++ more → NoCuts more → AllStill more → histories (w.events ++ more) ≡ histories w.events → u.contents ≡ w.contents → u.control.volume ≡ w.control.volume → u.control.volumes ≡ w.control.volumes
+    → u.control.pending ≡ w.control.pending → u.control.issued ≡ w.control.issued → u.control.sessions ≡ w.control.sessions → Unheard w u more
+unheard w u more events quiet still lists contents volume volumes pending issued sessions = record {
+  events = events;
+  quiet = quiet;
+  still = still;
+  lists = ap histories events ∙ lists;
+  rows = λ i v. record { defined = list_any (nat_eq v) (volumes i); volume = volume i v; bytes = contents i v; due = λ q. due_by ((ap histories events ∙ lists) i) (pending i) v q; aside = aside_by ((ap histories events ∙ lists) i) v };
+  issued = issued;
+  volume = volume;
+  pending = pending;
+  sessions = sessions;
+}
+
+-- other sessions
+abbrev pub with_table : World → List Session → World
+with_table w ss = record w { control = record w.control { sessions = ss } }
+
+-- What is to be shown of a law: acts that may come keep it, those of a start too; so does what no list hears of, a write that is
+-- issued, a volume that is defined, and another table of sessions.
+pub record Rider (K : World → Type 0) : Type 0 where
+  pub acts : Rides Sound K MayDo
+  pub start_acts : (s : ℕ) → Rides (starts.Inner s) K (starts.MayStart s)
+  pub unheard : (w u : World) (more : List Event) → K w → Unheard w u more → K u
+  pub issues : (w : World) (s : Sound w) (v t offset len : ℕ) (bytes : List ℕ) (defined : is_volume w.control v ≡ true) (low : t < (w.control.volume v).tracks) → K w → K (issued w s v t offset len bytes defined low)
+  pub regroups : (w : World) (ss : List Session) → Sound w → Sound (with_table w ss) → Regroups w.control.sessions ss → K w → K (with_table w ss)
+  pub defines : (w : World) (s : Sound w) (v server tracks : ℕ) (here : server < length w.control.servers) (undefined : is_volume w.control v ≡ false) → K w → K (with_volume w s v server tracks here undefined)
+
+-- the records by which a plan's laws are shown, open to what rides along it
+abbrev orders-hold : (w : World) (p : Plan) → Orders w p → StepHolds w p
+orders-hold w p o = record { inner = Sound; ends = o.ends; may = MayDo; keeps = keeps-sound; within = λ v s. s.rows; complete = λ v e. (o.complete v e).rows; begins = o.begins; entries = o.entries; follows = o.follows; last = o.last }
+
+abbrev start-hold : (x : ℕ) (w : World) → Sound w → StepHolds w (start_plan w.control x)
+start-hold x w s = record {
+  inner = starts.Inner x;
+  ends = Sound;
+  may = starts.MayStart x;
+  keeps = starts.keeps x;
+  within = λ v j. j.sound.rows;
+  complete = λ v i. i.rows;
+  begins = starts.begins x w s;
+  entries = starts.volumes-start x w.control.volumes (begun w (start_plan w.control x)) (starts.begins x w s);
+  follows = λ q v i. over v i;
+  last = λ v i. i;
+}
+
+module _ (K : World → Type 0) (rider : Rider K) where
+  none-told : (w : World) → histories (w.events ++ []) ≡ histories w.events
+  none-told w = ap histories (append-nil w.events)
+
+  -- other tables that are nothing to the volumes and the sessions, and nothing told
+  silently : (w u : World) → K w → u.events ≡ w.events ++ [] → u.contents ≡ w.contents → u.control.volume ≡ w.control.volume → u.control.volumes ≡ w.control.volumes → u.control.pending ≡ w.control.pending → u.control.issued ≡ w.control.issued → u.control.sessions ≡ w.control.sessions → K u
+  silently w u k events contents volume volumes pending issued sessions = rider.unheard w u [] k (unheard w u [] events tt tt (none-told w) contents volume volumes pending issued sessions)
+
+  -- one event that no list hears of
+  event : (w u : World) (e : Event) → K w → u.events ≡ w.events ++ e ∷ [] → NoCuts (e ∷ []) → AllStill (e ∷ []) → histories (w.events ++ e ∷ []) ≡ histories w.events → u.contents ≡ w.contents → u.control.volume ≡ w.control.volume
+      → u.control.volumes ≡ w.control.volumes → u.control.pending ≡ w.control.pending → u.control.issued ≡ w.control.issued → u.control.sessions ≡ w.control.sessions → K u
+  event w u e k events quiet still lists contents volume volumes pending issued sessions = rider.unheard w u (e ∷ []) k (unheard w u (e ∷ []) events quiet still lists contents volume volumes pending issued sessions)
+
+  module _ (w : World) (s : Sound w) (k : K w) (line : ℕ) where
+    record Carried (p : Plan) : Type 0 where
+      holds : K (carried_out w p).0
+
+    -- a plan without entries
+    tables : (first : Control → Control) (told : List Event) (says : Control → Said) → let p : Plan = record { first = first; told = told; entries = []; follows = none_follow; last = same; says = says } in K (begun w p) → Carried p
+    unfolding carry
+    tables first told says begun = record { holds = begun }
+
+    -- one whose acts may come as they do but where a server starts
+    moves : (p : Plan) (o : Orders w p) → K (begun w p) → ((v : World) → o.ends v → K v → K (record v { control = p.last v.control })) → Carried p
+    moves p o begun last = record { holds = plan-rides Sound RowsAt K MayDo w p (orders-hold w p o) rider.acts begun last keeps-sound rider.acts }
+
+    begins : K (as_begun w)
+    begins = silently w (as_begun w) k refl refl refl refl refl refl refl
+
+    entries : (ds : List Entry) (a : Said) → Along (as_begun w) ds → Carried (entries_plan ds a)
+    entries ds a all = moves (entries_plan ds a) (record { ends = Sound; complete = λ v i. i; begins = sound-begun w s; entries = all; follows = λ q v i. over v i; last = λ v i. i; turns = λ v i. regroups-same v.control.sessions }) begins (λ v e k. k)
+
+    sessions : (f : List Session → List Session) (says : Control → Said) → Groups (with_sessions f w.control) → Attempts (with_sessions f w.control) → Regroups w.control.sessions (f w.control.sessions)
+        → Carried (record { first = with_sessions f; told = []; entries = []; follows = none_follow; last = same; says = says })
+    sessions f says groups attempts turn =
+        let first : World = as_begun w in
+        tables (with_sessions f) [] says (rider.regroups first (f w.control.sessions) (sound-begun w s) (sound-sessions first (f w.control.sessions) groups attempts (sound-begun w s)) turn begins)
+
+    case-rides : (p : Plan) → Case w.control w.events line p → Carried p
+    case-rides _ (Says a) = tables same [] (always a) begins
+    case-rides _ (DefinesServer name free) = tables _ _ _ (event w _ (ServerDefined (length w.control.servers) name.len name.bytes) k refl (tt, tt) (tt, tt) (histories-append w.events _) refl refl refl refl refl refl)
+    case-rides _ (DefinesVolume v x tracks here free) = tables _ _ _ (rider.defines w s v x tracks here (is-new w.control v x tracks free).undefined k)
+    case-rides _ (SetsLink a b up) = tables _ _ _ (silently w _ k refl refl refl refl refl refl refl)
+    case-rides _ (Issues v t offset len bytes free) = let there = (may-issue w.control v t free).0 in tables _ _ _ (rider.issues w s v t offset len bytes there.defined there.low k)
+    case-rides _ (Writes v t offset len bytes free) =
+        let there = (may-issue w.control v t free).0 in
+        let first : World = issued w s v t offset len bytes there.defined there.low in
+        let sound : Sound first = sound-issued w s v t offset len bytes there.defined there.low in
+        moves (write_done w.control v t offset len bytes) (record {
+          ends = Sound;
+          complete = λ v i. i;
+          begins = sound;
+          entries = lands first sound (record { w = w.control.issued + 1; volume = v; track = t; landed = false }) (one-new w s v t offset len bytes there.defined there.low);
+          follows = λ q u i. writes-after w.control v t q u i;
+          last = λ v i. i;
+          turns = λ v i. regroups-same v.control.sessions;
+        }) (rider.issues w s v t offset len bytes there.defined there.low k) (λ v e k. k)
+    case-rides _ (Applies n p found) =
+        moves (apply_done w.control p) (record {
+          ends = Sound;
+          complete = λ v i. i;
+          begins = sound-begun w s;
+          entries = lands (as_begun w) (sound-begun w s) p (found-alone n p w.control.pending found s.queue.apart);
+          follows = λ q u i. writes-after w.control p.volume p.track q u i;
+          last = λ v i. i;
+          turns = λ v i. regroups-same v.control.sessions;
+        }) begins (λ v e k. k)
+    case-rides _ (Shows v t there) = tables _ _ _ (event w _ (Shown line v t (image_at w.events v t)) k refl (tt, tt) (tt, tt) (histories-append w.events _) refl refl refl refl refl refl)
+    case-rides _ (Stops x on) = tables _ _ _ (event w _ (Stopped x 0) k refl (tt, tt) (tt, tt) (histories-append w.events _) refl refl refl refl refl refl)
+    case-rides _ (Arms writes torn x) = tables _ _ _ (silently w _ k refl refl refl refl refl refl refl)
+    case-rides _ (Starts x off) =
+        record { holds = plan-rides Sound RowsAt K MayDo w (start_plan w.control x) (start-hold x w s) (rider.start_acts x) (event w _ (Started x) k refl (tt, tt) (tt, tt) (histories-append w.events _) refl refl refl refl refl refl) (λ v e k. k) keeps-sound rider.acts }
+    case-rides _ (MakesFlash dev v t choices) = entries _ _ (along-flash w s dev v t choices)
+    case-rides _ (RemovesFlash dev v t) = entries _ _ (along-withdraw w s dev v t)
+    case-rides _ (ResyncsFlash dev v t sequence) = entries _ _ (along-resync w s dev v t sequence)
+    case-rides _ (ReversesFlash dev v t) = entries _ _ (along-reverse w s dev v t)
+    case-rides _ (Copies t most) = entries _ _ (along-copy w s t most)
+    case-rides _ (MakesPath src tgt group) = tables _ _ _ (silently w _ k refl refl refl refl refl refl refl)
+    case-rides _ (RemovesPath src tgt) = tables _ _ _ (silently w _ k refl refl refl refl refl refl refl)
+    case-rides _ (MakesPair devs a b kind full part) = entries _ _ (along-pair w s devs a b kind full part)
+    case-rides _ (RemovesPair devs a b source_only) = entries _ _ (along-remove w s devs a b source_only)
+    case-rides _ (PausesPair devs a b) = entries _ _ (along-pause w s devs a b)
+    case-rides _ (ResumesPair devs a b kind) = entries _ _ (along-resume w s devs a b kind)
+    case-rides _ (Drains a most) =
+        moves (drain_plan w.control a most) (record { ends = Sound; complete = λ v i. i; begins = sound-begun w s; entries = along-drain w s a most; follows = λ q v i. suspends-after a q v i; last = λ v i. i; turns = λ v i. regroups-same v.control.sessions }) begins (λ v e k. k)
+    case-rides _ (Expires x on) = entries _ _ (lifts x w.control.volumes (as_begun w) (sound-begun w s) on)
+    case-rides _ (Freezes l m) = entries _ _ (freezes l m w.control.volumes (as_begun w) (sound-begun w s))
+    case-rides _ (Unfreezes l m) = entries _ _ (thaws l m w.control.volumes (as_begun w) (sound-begun w s))
+    case-rides _ (MakesSession l i free) = sessions (joined i l) _ (groups-joined w.control i l s.groups) (with-joined w.control s.groups s.attempts i l) (regroups-joined w.control.sessions s.groups.once i l)
+    case-rides _ (RemovesSession l i x found free) = sessions (left i l) _ (groups-left w.control i l x s.groups found free) (with-left w.control s.groups s.attempts i l x found free) (regroups-left w.control.sessions s.groups.once i l)
+    case-rides _ (MakesMirror owner i x found free l owned) =
+        let at = owned-volume w.control l owner owned in
+        sessions (changed i (mirrored_by owner)) _ (groups-mirrored w.control i owner x s.groups found (no-maker x.mirror free) at.volume at.defined at.server)
+        (with-mirrored w.control s.groups s.attempts i owner x found (no-maker x.mirror free)) (regroups-mirrored w.control.sessions s.groups.once i owner)
+    case-rides _ (PausesMirror i on) = sessions (changed i (paused on)) _ (groups-paused w.control i on s.groups) (with-paused w.control s.groups s.attempts i on) (regroups-paused w.control.sessions s.groups.once i on)
+    case-rides _ (RemovesMirror i x found free) = sessions (changed i unmirrored) _ (groups-unmirrored w.control i x s.groups found free) (with-unmirrored w.control s.groups s.attempts i x found free) (regroups-unmirrored w.control.sessions s.groups.once i)
+    case-rides _ (Aborts i x found free) = sessions (changed i (with_master phases.aborted)) _ (groups-aborted w.control i s.groups) (with-aborted w.control s.groups s.attempts i) (regroups-aborted w.control.sessions s.groups.once i)
+    case-rides _ (AddsMember i a c x joins) =
+        let o = orders-added w s i a c x joins in
+        moves (added w.control i x (member_with w.control a c)) o begins (λ v e k. rider.regroups v ((added w.control i x (member_with w.control a c)).last v.control).sessions (o.complete v e) (o.last v e) (o.turns v e) k)
+    case-rides _ (RemovesMember i a x m found is idle on) =
+        let o = orders-expelled w s i a x m found is idle on in
+        moves (expelled i m) o begins (λ v e k. rider.regroups v ((expelled i m).last v.control).sessions (o.complete v e) (o.last v e) (o.turns v e) k)
+    case-rides _ (Recovers i x found on) = moves _ (record { ends = Sound; complete = λ v y. y; begins = sound-begun w s; entries = along-recover w s i x found on; follows = λ q v y. over v y; last = λ v y. y; turns = λ v y. regroups-same v.control.sessions }) begins (λ v e k. k)
+    case-rides _ (Settles i x m found here on free) = entries _ _ (along-settle w s i x found on free m here)
+    case-rides _ (Exchanges i server true x r o allowed) =
+        let a = orders-ordered w s i server x r o allowed true in
+        moves (ordered i server true (members_on server x.members) o) a begins (λ v e k. rider.regroups v (answered_by i server o.work (members_on server x.members) v.control).sessions (a.complete v e) (a.last v e) (a.turns v e) k)
+    case-rides _ (Exchanges i server false x r o allowed) = moves (ordered i server false (members_on server x.members) o) (orders-ordered w s i server x r o allowed false) begins (λ v e k. k)
+
+    -- the step, as it is answered
+    rides-plan : (p : Plan) → Case w.control w.events line p → K (after_plan w line p)
+    unfolding after_plan
+    rides-plan p c =
+        let u : World = (carried_out w p).0 in
+        let a : Said = answered p u.control (carried_out w p).1 in
+        event u (said u line a) (answer line a) (case-rides p c).holds refl (tt, tt) (tt, tt) (histories-append u.events (answer line a ∷ [])) refl refl refl refl refl refl
+
+  -- masters are lost as a step ends
+  lost : (w u : World) → Sound u → K u → K (masters_lost w u)
+  lost w u sound k = rider.regroups u (lost_since w.control.on u.control.on u.control.sessions) sound (sound-lost w u sound) (regroups-lost u.control.sessions w.control.on u.control.on) k
+
+  -- a plan before the last one of its step
+  rides-part : (w : World) (p : Plan) → Comes w p → Both Sound K w → Both Sound K (after_part w p)
+  rides-part w p comes j =
+      let u : World = (carried_out w p).0 in
+      let sound : Sound u = sound-carried w p (case-holds w j.0 0 p (comes.case 0)) in
+      (sound-part w p comes j.0, lost w u sound (case-rides w j.0 j.1 0 p (comes.case 0)).holds)
+
+  pub rides-task : (w : World) (t : Task) → Sound w → K w → K (after_task w t)
+  rides-task w t s k =
+      let x : Part = (course w t).last in
+      let j : Both Sound K x.world = last-plan (Both Sound K) rides-part w t (s, k) in
+      lost x.world _ (sound-plan x.world t.line x.plan (case-holds x.world j.0 t.line x.plan (course-case w t))) (rides-plan x.world j.0 j.1 t.line x.plan (course-case w t))
+
+  pub rides-tasks : (w : World) (tasks : List Task) → Sound w → K w → K (after_tasks w tasks)
+  unfolding after_tasks
+  rides-tasks w [] s k = k
+  rides-tasks w (t ∷ tasks) s k = rides-tasks (after_task w t) tasks (sound-task w t s) (rides-task w t s k)

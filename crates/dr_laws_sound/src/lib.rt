@@ -1,0 +1,112 @@
+//! Soundness: laws over every script and every stop, about the machine of `dr_model`. Its functions do nothing: each names a law
+//! by its contract.
+#![tactic(auto)]
+
+ghost use Rattle.std.specs.Prelude.{◌≡◌, ◌≢◌, ◌≤◌, ◌<◌, ℕ, Bool, List, [], ◌∷◌, Option, take, length};
+ghost use Rattle.dr_ids.specs.declared.refusal.Refusal.{Refusal};
+ghost use Rattle.dr_ids.specs.declared.refusal.Refusal.TheVariants as refusal;
+ghost use Rattle.dr_ids.specs.declared.refusal.Kind.TheVariants as kind;
+ghost use Rattle.dr_ids.specs.declared.refusal.Decision.TheVariants as decision;
+ghost use Rattle.dr_model.specs.Refusals.{server_off};
+ghost use Rattle.dr_model.specs.declared.step.Step.TheVariants as step;
+ghost use Rattle.dr_model.specs.Histories.{Write};
+ghost use Rattle.dr_model.specs.Control.{World};
+ghost use Rattle.dr_model.specs.Moves.{Move, Keep, Note, Fetch, target};
+ghost use Rattle.dr_model.specs.Carry.{carry};
+ghost use Rattle.dr_model.specs.Forming.{Part};
+ghost use Rattle.dr_model.specs.Runs.{Task, plans_of, begun, after_task, after_tasks, run, said};
+ghost use Rattle.dr_model.specs.ReadStops.{Ends};
+ghost use Rattle.dr_model.specs.Table.{Table, table};
+ghost use Rattle.dr_model.specs.Rows.{after};
+ghost use Rattle.dr_model.specs.Laws.{SoundRows, Sound, shown};
+ghost use Rattle.dr_model.specs.Allowed.{Allowed};
+ghost use Rattle.dr_model.specs.Groups.{In};
+ghost use Rattle.dr_model.specs.Limits.{most_events};
+ghost use Rattle.dr_laws_sound.specs.Limits.{IsWithin};
+ghost use Rattle.dr_model.specs.declared.event.Event.TheVariants as event;
+ghost use Rattle.dr_model.specs.declared.said.Said.TheVariants as answer;
+ghost use Rattle.dr_laws_sound.specs.RefusedSteps.{StaysRefused, RefusedStay, issued};
+ghost use Rattle.dr_laws_sound.specs.RefusedExamples.{stopped, inhibited, writes, copies, recovers};
+ghost use Rattle.dr_laws_sound.specs.Acknowledged.{AcknowledgesAnswered, AcknowledgedIsAnswered};
+ghost use Rattle.dr_laws_sound.specs.Stops.{StopsTold, refused_stop};
+
+/// Every run leaves a sound world: its volumes' records fit each other, each track shows what the host writes say, and
+/// each pending write is the one that was issued. A volume has at most one part in a pair, as its primary or as its
+/// secondary, and is then no FlashCopy target; its partner is a volume of the same size on another server. A primary and its
+/// secondary contain the same, but on tracks that the primary records as out of sync or as changed since; so do two volumes
+/// that are primaries of each other, but on tracks that either records.
+pub fn every_run_is_sound()
+    ensures { (tasks : List Task) → Sound (run tasks) }
+{}
+
+/// Steps leave a sound world sound, wherever servers stop in them.
+pub fn every_step_keeps_soundness()
+    ensures { (w : World) (tasks : List Task) → Sound w → Sound (after_tasks w tasks) }
+{}
+
+/// The table of volumes is as it should be after each entry of each plan of a step, too.
+pub fn rows_hold_at_every_moment()
+    ensures { (w : World) (t : Task) (x : Part) (n : ℕ) → Sound w → In x (plans_of w t) → SoundRows (table (carry (begun x.world x.plan) (take n x.plan.entries)).0) }
+{}
+
+/// It is so as well where servers go off by themselves between the acts of a step.
+pub fn rows_hold_where_reads_fail()
+    ensures { (armed : ℕ → Bool) (w u : World) (r : Option Refusal) (t : Task) (x : Part) → Sound w → In x (plans_of w t) → Ends armed u r (begun x.world x.plan) x.plan.entries → SoundRows (table u) }
+{}
+
+/// The table of volumes keeps its laws in each kind of move, where it is allowed.
+pub fn each_kind_of_move_keeps_the_rows()
+    ensures { (write : ℕ → Write) (T : Table) (m : Move) → SoundRows T → Allowed write T m → SoundRows (after write T m) }
+{}
+
+/// A move changes what no other volume shows; and a target that takes a track of its source, or notes that one changes,
+/// shows what it showed.
+pub fn a_move_leaves_the_other_views()
+    ensures others { (write : ℕ → Write) (T : Table) (m : Move) (v t : ℕ) → SoundRows T → Allowed write T m → v ≢ target m → t < (T v).volume.tracks → shown (after write T m) v t ≡ shown T v t }
+    ensures keep { (write : ℕ → Write) (T : Table) (v t q : ℕ) → SoundRows T → Allowed write T (Keep v t) → q < (T v).volume.tracks → shown (after write T (Keep v t)) v q ≡ shown T v q }
+    ensures note { (write : ℕ → Write) (T : Table) (v t q : ℕ) → SoundRows T → Allowed write T (Note v t) → q < (T v).volume.tracks → shown (after write T (Note v t)) v q ≡ shown T v q }
+    ensures fetch { (write : ℕ → Write) (T : Table) (v t q : ℕ) → SoundRows T → Allowed write T (Fetch v t) → q < (T v).volume.tracks → shown (after write T (Fetch v t)) v q ≡ shown T v q }
+{}
+
+/// A plan of a step is refused because a server stopped exactly where its acts told the journal of that stop.
+pub fn stops_are_told()
+    ensures { (w : World) (t : Task) (x : Part) → In x (plans_of w t) →
+        StopsTold (begun x.world x.plan) (carry (begun x.world x.plan) x.plan.entries).0 (refused_stop (carry (begun x.world x.plan) x.plan.entries).1) }
+{}
+
+/// A step that is refused, but by the stop of a server, leaves the world as it was, with its answer, but for what `Leaves` names by step and
+/// refusal. So does each step of a run.
+pub fn refused_steps_change_nothing()
+    ensures step { (w : World) (t : Task) → StaysRefused w t }
+    ensures run { (tasks : List Task) → RefusedStay tasks }
+{}
+
+/// Examples: a write whose server is off has its number, and waits; one on an inhibited target has its number, and doesn't wait; a copy of a
+/// volume that isn't defined changes nothing; and a recovery that finds no group has told so.
+pub fn examples_are_refused()
+    ensures waits { after_task stopped writes ≡ said (issued stopped 5 0 0 1 (7 ∷ [])) 9 (answer.Refused (server_off 0)) }
+    ensures dropped { after_task inhibited writes ≡ said (record inhibited { control = record inhibited.control { issued = 1 }; events = event.Issue 1 5 0 0 1 (7 ∷ []) ∷ [] }) 9 (answer.Refused (refusal.Inhibited (record { 0 = 5 }))) }
+    ensures unknown { after_task inhibited copies ≡ said inhibited 9 (answer.Refused (refusal.Unknown kind.Volume)) }
+    ensures none { after_task inhibited recovers ≡ said (record inhibited { events = event.Recovered 1 0 ∷ [] }) 9 (answer.Refused (refusal.NoGroup decision.NoMember)) }
+{}
+
+/// The acknowledgements that a step tells are exactly those that its answer says, in both directions: that of the write which a write or an
+/// apply carried out, where it answers `ok wN`; that of the write that had landed in a stop, where a start answers `ok acked wN`; and no
+/// other step tells one, nor does one that is refused. They stand between the events of the steps before and the answer. A step that answers
+/// `held wN` leaves that write pending.
+pub fn what_is_acknowledged_is_answered()
+    ensures steps { (w : World) (t : Task) → AcknowledgesAnswered w t }
+    ensures runs { (tasks : List Task) → AcknowledgedIsAnswered tasks }
+{}
+
+/// Every run stays within the limits of servers, volumes and pending writes, and of the tracks of a volume.
+pub fn runs_stay_within_limits()
+    ensures { (tasks : List Task) → IsWithin (run tasks).control }
+{}
+
+/// A step adds to the journal, its answer at least, and in a sound world within the limits a journal that has fewer events
+/// than its limit stays within it.
+pub fn journals_fit()
+    ensures grows { (w : World) (t : Task) → length w.events < length (after_task w t).events }
+    ensures fits { (w : World) (t : Task) → Sound w → IsWithin w.control → length w.events < most_events → length (after_task w t).events ≤ most_events }
+{}

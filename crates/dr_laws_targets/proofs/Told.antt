@@ -1,0 +1,58 @@
+-- What events make of who stands committed: those of which no group hears, those of a move, and those of one in a stop.
+use Rattle.std.proofs.Common.{◌≡◌, refl, ap, sym, ◌∙◌, true, false, List, [], ◌∷◌, ◌++◌, Some, None}
+use Rattle.std.specs.List.{fold}
+use Rattle.std.proofs.lemmas.List.{append_assoc}
+use Rattle.std.proofs.lemmas.List.Sums.{fold-append}
+use Rattle.dr_model.specs.declared.event.Event.{Event}
+use Rattle.dr_model.specs.declared.event.Event.TheVariants.{Begin, Cut, Committed, Left}
+use Rattle.dr_model.specs.Relations.{rest, in_order, is_bare, turned, given_up}
+use Rattle.dr_model.specs.Control.{Volume}
+use Rattle.dr_model.specs.Pairs.{is_suspended}
+use Rattle.dr_model.specs.Moves.{Move, Land, Overwrite, Withdraw, Reverse, Release, Suspend, LandBoth, Hold, told, told_in_stop}
+use Rattle.dr_laws_closed.specs.Moments.{Standing, none_stands}
+use Rattle.dr_laws_closed.specs.Silent.{Still, AllStill, Silent}
+use Rattle.dr_laws_closed.proofs.Told.{still-blanked, still-restored, still-suspended}
+use Rattle.dr_laws_targets.specs.Committeds.{committeds, committed_event, next_committed}
+
+pub committeds-append : (events more : List Event) → committeds (events ++ more) ≡ fold committed_event (committeds events) more
+unfolding committeds
+committeds-append events more = fold-append committed_event none_stands events more
+
+-- ---- events of which no group hears
+
+no-change : (g : Standing) (e : Event) → Still e → committed_event g e ≡ g
+no-change g (Committed s n a c) quiet = absurd quiet
+no-change g (Left s a) quiet = absurd quiet
+no-change g e quiet = refl
+
+fold-still : (g : Standing) (es : List Event) → AllStill es → fold committed_event g es ≡ g
+fold-still g [] quiet = refl
+fold-still g (e ∷ es) quiet = fold-still (committed_event g e) es quiet.1 ∙ no-change g e quiet.0
+
+pub committeds-still : (events more : List Event) → AllStill more → committeds (events ++ more) ≡ committeds events
+committeds-still events more quiet = committeds-append events more ∙ fold-still (committeds events) more quiet
+
+-- ---- a move that is done, and one that counts as done in a stop
+
+module _ (events : List Event) where
+  pub committeds-told : (m : Move) (u : Volume) → committeds (events ++ told m u) ≡ next_committed m u (committeds events)
+  committeds-told (Withdraw v) u = committeds-still events _ (still-blanked v (in_order u.tracks (rest u.tracks u.fields.own)))
+  committeds-told (Reverse v None) u = committeds-still events _ (still-restored v u.fields.source u.tracks (turned u.fields).own (is_bare (turned u.fields).own))
+  committeds-told (Reverse v (Some a)) u =
+      committeds-append events (told (Reverse v (Some a)) u)
+      ∙ fold-still (committed_event (committeds events) (Left u.fields.session a)) _ (still-restored v u.fields.source u.tracks (turned u.fields).own (is_bare (turned u.fields).own))
+  committeds-told (Release v t) u = committeds-still events _ (still-restored v u.fields.source u.tracks (given_up u.fields t).own (is_bare (given_up u.fields t).own))
+  committeds-told (Suspend v busy) u = committeds-still events _ (still-suspended v (is_suspended u.fields.primary_state))
+  committeds-told (Hold v s n true) u = committeds-append events (Begin s n ∷ Cut s n v ∷ [])
+  committeds-told (Hold v s n false) u = committeds-append events (Cut s n v ∷ [])
+  committeds-told m u = committeds-append events (told m u)
+
+  told-stopping : (m : Move) (u : Volume) → committeds (events ++ told_in_stop m u) ≡ next_committed m u (committeds events)
+  told-stopping (Land n v t) u = committeds-append events []
+  told-stopping (Overwrite n v t) u = committeds-append events []
+  told-stopping (LandBoth n v t) u = committeds-append events []
+  told-stopping m u = committeds-told m u
+
+pub committeds-stopped : (events more : List Event) (m : Move) (u : Volume) → Silent more → committeds (events ++ (told_in_stop m u ++ more)) ≡ next_committed m u (committeds events)
+committeds-stopped events more m u silent =
+    ap committeds (sym (append_assoc events (told_in_stop m u) more)) ∙ (committeds-still (events ++ told_in_stop m u) more silent.stand ∙ told-stopping events m u)

@@ -1,0 +1,57 @@
+use Rattle.std.proofs.Common.{Some, None, arith}
+use Rattle.dr_model.specs.declared.said.Said.TheVariants.{Done}
+use Rattle.dr_model.specs.declared.said.Addition.TheVariants.{Alone}
+use Rattle.dr_model.specs.Plans.{found_pair}
+use Rattle.dr_incr.specs.Steps.{reverse_entries}
+use Rattle.dr_steps.specs.Here.{here, rest_of}
+use Rattle.dr_steps.proofs.RelationLemmas.{relations-fit}
+use Rattle.dr_steps.proofs.ExchangeLemmas.{members-ready, few-members}
+use Rattle.dr_steps.proofs.FlashLemmas.{step-nowhere, step-done, step-refused, step-ready}
+use Rattle.dr_steps.proofs.flash.reverse_flash.Goals as goal
+
+pub returns-in-Some-clause-step : goal.returns-in-Some-clause-step
+returns-in-Some-clause-step g c =
+    let s = g.P.Plant.state c.args.plant.now in let t = c.args.config.now in let h = c.args.tables.now in let ev = c.args.journal.now.events in
+    step-nowhere t s s h ev ev (found_pair c.args.dev.now c.args.s.0 c.args.t.0) (reverse_entries (here s t h ev).control c.args.s.0 c.args.t.0) (Done Alone) c.requires.ready.reads c.in-Some.why (c.in-Some.ensures.checked s h ev)
+
+pub reverse_start-requires-clause-fit : goal.reverse_start-requires-clause-fit
+reverse_start-requires-clause-fit g c = relations-fit (g.P.Plant.state c.args.plant.now) c.args.config.now c.args.tables.now c.args.journal.now.events c.requires.sound
+
+pub returns-in-Ok-clause-step : goal.returns-in-Ok-clause-step
+returns-in-Ok-clause-step g c =
+    let s = g.P.Plant.state c.args.plant.now in let t = c.args.config.now in let h = c.args.tables.now in let ev = c.args.journal.now.events in
+    step-done t s (g.P.Plant.state c.reverse_start.new.p) h ev c.reverse_start.new.j.events (found_pair c.args.dev.now c.args.s.0 c.args.t.0) (reverse_entries (here s t h ev).control c.args.s.0 c.args.t.0) (Done Alone) c.requires.ready.reads
+    (c.in_default.ensures.checked s h ev) (c.in-Ok.ensures.carried (rest_of h ev) (record { why = c.restore_refusal-unsettled.ensures.refusal (rest_of h ev) ev; leaves = c.leaving-left.ensures (rest_of h ev) ev }))
+
+pub returns-in-Ok-clause-ready : goal.returns-in-Ok-clause-ready
+returns-in-Ok-clause-ready g c =
+    let s = g.P.Plant.state c.args.plant.now in let t = c.args.config.now in let h = c.args.tables.now in let ev = c.args.journal.now.events in
+    step-ready t s (g.P.Plant.state c.reverse_start.new.p) h ev c.reverse_start.new.j.events (found_pair c.args.dev.now c.args.s.0 c.args.t.0) (reverse_entries (here s t h ev).control c.args.s.0 c.args.t.0) (Done Alone) c.requires.ready.reads
+    None (c.in_default.ensures.checked s h ev) (c.in-Ok.ensures.carried (rest_of h ev) (record { why = c.restore_refusal-unsettled.ensures.refusal (rest_of h ev) ev; leaves = c.leaving-left.ensures (rest_of h ev) ev })) c.in-Ok.ensures.rest c.in-Ok.ensures.unarmed c.requires.ready.told
+
+pub returns-in-Err-clause-step : goal.returns-in-Err-clause-step
+returns-in-Err-clause-step g c =
+    let s = g.P.Plant.state c.args.plant.now in let t = c.args.config.now in let h = c.args.tables.now in let ev = c.args.journal.now.events in
+    step-refused t s (g.P.Plant.state c.reverse_start.new.p) h ev c.reverse_start.new.j.events (found_pair c.args.dev.now c.args.s.0 c.args.t.0) (reverse_entries (here s t h ev).control c.args.s.0 c.args.t.0) (Done Alone) c.requires.ready.reads
+    c.in-Err.refusal (c.in_default.ensures.checked s h ev) (c.in-Err.ensures.carried (rest_of h ev) (record { why = c.restore_refusal-unsettled.ensures.refusal (rest_of h ev) ev; leaves = c.leaving-left.ensures (rest_of h ev) ev }))
+
+pub returns-in-Err-clause-ready : goal.returns-in-Err-clause-ready
+returns-in-Err-clause-ready g c =
+    let s = g.P.Plant.state c.args.plant.now in let t = c.args.config.now in let h = c.args.tables.now in let ev = c.args.journal.now.events in
+    step-ready t s (g.P.Plant.state c.reverse_start.new.p) h ev c.reverse_start.new.j.events (found_pair c.args.dev.now c.args.s.0 c.args.t.0) (reverse_entries (here s t h ev).control c.args.s.0 c.args.t.0) (Done Alone) c.requires.ready.reads
+    (Some c.in-Err.refusal) (c.in_default.ensures.checked s h ev) (c.in-Err.ensures.carried (rest_of h ev) (record { why = c.restore_refusal-unsettled.ensures.refusal (rest_of h ev) ev; leaves = c.leaving-left.ensures (rest_of h ev) ev })) c.in-Err.ensures.rest c.in-Err.ensures.unarmed c.requires.ready.told
+
+pub reverse_start-requires-clause-sets : goal.reverse_start-requires-clause-sets
+reverse_start-requires-clause-sets g c = c.requires.sound.rows.structure.sets c.args.t.0
+
+pub reverse_start-requires-clause-room : goal.reverse_start-requires-clause-room
+reverse_start-requires-clause-room g c =
+    let size = c.requires.ready.rest.sizes c.args.t.0 in
+    let room = c.requires.room in
+    omega (arith, size, room)
+
+pub restore_refusal-unsettled-requires-clause-members : goal.restore_refusal-unsettled-requires-clause-members
+restore_refusal-unsettled-requires-clause-members g c n = members-ready (g.P.Plant.state c.args.plant.now) c.args.config.now c.args.tables.now c.args.journal.now.events c.requires.sound n
+
+pub restore_refusal-unsettled-requires-clause-few : goal.restore_refusal-unsettled-requires-clause-few
+restore_refusal-unsettled-requires-clause-few g c n = few-members (g.P.Plant.state c.args.plant.now) c.args.config.now c.args.tables.now c.args.journal.now.events c.requires.sound n c.requires.few

@@ -1,0 +1,9 @@
+pub mod Here
+pub mod Faults
+pub mod Formed
+pub mod Forms
+pub mod Located
+pub mod Waiting
+pub mod WellFormed
+pub mod Found
+pub mod Members

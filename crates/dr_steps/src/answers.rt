@@ -1,0 +1,47 @@
+//! Answers of lines, and the room that the journal has for them.
+
+ghost use Rattle.std.specs.Prelude.{◌≡◌, ◌<◌, ◌++◌, [], ◌∷◌, OnOk, OnErr};
+ghost use Rattle.dr_ids.specs.declared.refusal.Refusal.{Refusal};
+ghost use Rattle.dr_model.specs.Answers.{answer};
+ghost use Rattle.dr_model.specs.Plans.{has_room};
+ghost use Rattle.dr_model.specs.declared.said.Said.TheVariants.{Refused};
+
+use dr_ids::{MOST_EVENTS, Refusal};
+use dr_model::{Journal, Said};
+use std::alloc::AllocError;
+
+/// The room that a step needs in the journal before it begins.
+pub const STEP_EVENTS: usize = 4096;
+
+/// Whether the journal has room for what a step may tell.
+pub fn has_room(journal: &Journal) -> bool
+    ensures { result ≡ has_room journal.now.events }
+{
+    journal.len() <= MOST_EVENTS - STEP_EVENTS
+}
+
+/// Keeps the answer of a line, which ends its step.
+pub fn say(journal: &mut Journal, line: u32, said: Said)
+    requires { 0 < journal.old.spare }
+    ensures events { journal.new.events ≡ journal.old.events ++ answer line said ∷ [] }
+{
+    journal.push(said.event(line));
+}
+
+/// Refuses a step before it begins. Where there is no memory nothing has changed.
+pub fn refuse(journal: &mut Journal, number: u32, refusal: Refusal) -> Result<(), AllocError>
+    ensures told { OnOk result (journal.new.events ≡ journal.old.events ++ answer number (Refused refusal) ∷ []) }
+    ensures same { OnErr result (journal.new.events ≡ journal.old.events) }
+{
+    journal.reserve(1)?;
+    say(journal, number, Said::Refused(refusal));
+    Ok(())
+}
+
+/// Answers a line outside the grammar, which is one step. Where there is no memory nothing has changed.
+pub fn refuse_syntax(journal: &mut Journal, number: u32, column: u16) -> Result<(), AllocError>
+    ensures told { OnOk result (journal.new.events ≡ journal.old.events ++ answer number (Refused (Refusal.Syntax column)) ∷ []) }
+    ensures same { OnErr result (journal.new.events ≡ journal.old.events) }
+{
+    refuse(journal, number, Refusal::Syntax { column })
+}

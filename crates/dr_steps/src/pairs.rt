@@ -1,0 +1,248 @@
+//! The steps on pairs of volumes.
+
+ghost use Rattle.std.specs.Prelude.{◌≡◌, ℕ, ◌+◌, ◌≤◌, ◌&&◌, ◌++◌, ◌∷◌, [], true, false, IsSome, List, length};
+ghost use Rattle.dr_plant.specs.State.{PlantState};
+ghost use Rattle.dr_config.specs.Table.{ConfigTable, place_of};
+ghost use Rattle.dr_model.specs.declared.event.Event.{Event};
+ghost use Rattle.dr_model.specs.Laws.{Sound};
+ghost use Rattle.dr_model.specs.Layout as part;
+ghost use Rattle.dr_model.specs.PairEntries.{refuse_if};
+ghost use Rattle.dr_model.specs.Pairs as pairs;
+ghost use Rattle.dr_model.specs.Plans as plans;
+ghost use Rattle.dr_model.specs.Runs.{after_plan, said};
+ghost use Rattle.dr_gcopy.specs.Kinds.{part_of};
+ghost use Rattle.dr_flash.specs.Checks.{Checked, OnNone, is_stop};
+ghost use Rattle.dr_steps.specs.Faults.{Counts};
+ghost use Rattle.dr_steps.specs.Here.{said_of, here, IsReady, Carries};
+ghost use Rattle.dr_steps.specs.WellFormed.{FitsDevs};
+
+use crate::forms::METRO_MIRROR;
+use crate::locate::found_volumes;
+use crate::tables::Tables;
+use dr_config::Config;
+use dr_flash::{pair_state, server_of};
+use dr_gcopy::{CopyKind, pause, resume};
+use dr_host::Host;
+use dr_ids::{Kind, Refusal, VolumeId};
+use dr_model::{Addition, Devs, Journal};
+use dr_plant::Plant;
+use dr_volume::{Fields, peek_fields};
+
+/// One of two volumes is the primary of a member, whose session is named.
+fn member_refusal(tables: &Tables, a: VolumeId, b: VolumeId) -> Option<Refusal>
+    ensures refusal { (x : PlantState) (t : ConfigTable) (events : List Event) → result ≡ plans.member_refusal a.0 b.0 (here x t tables.now events).control }
+    ensures calm { is_stop result ≡ false }
+{
+    if let Some(session) = tables.sessions.session_of(a) {
+        return Some(Refusal::InSession { session });
+    }
+    match tables.sessions.session_of(b) {
+        Some(session) => Some(Refusal::InSession { session }),
+        None => None,
+    }
+}
+
+/// Why a line that ends a pair doesn't find its volumes, or may not end it: one of them is the primary of a member.
+fn found_free(
+    config: &Config,
+    tables: &Tables,
+    devs: &Devs,
+    a: VolumeId,
+    b: VolumeId,
+) -> Option<Refusal>
+    requires { FitsDevs devs.now }
+    ensures checked { (x : PlantState) (events : List Event) → Checked (here x config.now tables.now events) (plans.found_volumes devs.now a.0 b.0 ++ refuse_if (plans.member_refusal a.0 b.0) ∷ []) result }
+    ensures calm { is_stop result ≡ false }
+    ensures first { OnNone result (IsSome (place_of config.now a.0)) }
+    ensures second { OnNone result (IsSome (place_of config.now b.0)) }
+{
+    if let Some(why) = found_volumes(config, devs, a, b) {
+        return Some(why);
+    }
+    member_refusal(tables, a, b)
+}
+
+/// The kind of pair that a step names.
+fn kind_of(kind: u8) -> CopyKind
+    requires { part.is_part (part.part_of kind) ≡ true }
+    ensures { part_of result ≡ part.part_of kind }
+{
+    if kind == METRO_MIRROR {
+        CopyKind::Metro
+    } else {
+        CopyKind::Global
+    }
+}
+
+/// Makes a pair of two volumes on two servers.
+pub fn make_pair<P: Plant>(
+    plant: &mut P,
+    config: &Config,
+    tables: &Tables,
+    journal: &mut Journal,
+    devs: &Devs,
+    a: VolumeId,
+    b: VolumeId,
+    kind: u8,
+    full: bool,
+) -> Result<Addition, Refusal>
+    requires ready { IsReady (P.state plant.old) config.now tables.now journal.old.events }
+    requires sound { Sound (here (P.state plant.old) config.now tables.now journal.old.events) }
+    requires short { FitsDevs devs.now }
+    requires kind { part.is_part (part.part_of kind) ≡ true }
+    requires room { 512 ≤ journal.old.spare }
+    ensures step { (line : ℕ) → after_plan (here (P.state plant.old) config.now tables.now journal.old.events) line
+        (plans.make_pair_plan (here (P.state plant.old) config.now tables.now journal.old.events).control journal.old.events devs.now a.0 b.0 (part.part_of kind) full)
+        ≡ said (here (P.state plant.new) config.now tables.now journal.new.events) line (said_of result) }
+    ensures faults { Counts (said_of result) (P.state plant.old) (P.state plant.new) }
+    ensures ready { IsReady (P.state plant.new) config.now tables.now journal.new.events }
+    ensures room { 1 ≤ journal.new.spare }
+{
+    if let Some(why) = found_volumes(config, devs, a, b) {
+        return Err(why);
+    }
+    match dr_gcopy::make_pair(plant, config, journal, a, b, kind_of(kind), full) {
+        Ok(()) => Ok(Addition::Alone),
+        Err(refusal) => Err(refusal),
+    }
+}
+
+/// Ends a pair, or the part of its primary alone. Refused where one of the volumes is the primary of a member of a session.
+pub fn remove_pair<P: Plant>(
+    plant: &mut P,
+    config: &Config,
+    tables: &Tables,
+    journal: &mut Journal,
+    devs: &Devs,
+    a: VolumeId,
+    b: VolumeId,
+    source_only: bool,
+) -> Result<Addition, Refusal>
+    requires ready { IsReady (P.state plant.old) config.now tables.now journal.old.events }
+    requires sound { Sound (here (P.state plant.old) config.now tables.now journal.old.events) }
+    requires short { FitsDevs devs.now }
+    requires room { 512 ≤ journal.old.spare }
+    ensures step { (line : ℕ) → after_plan (here (P.state plant.old) config.now tables.now journal.old.events) line
+        (plans.remove_pair_plan (here (P.state plant.old) config.now tables.now journal.old.events).control devs.now a.0 b.0 source_only)
+        ≡ said (here (P.state plant.new) config.now tables.now journal.new.events) line (said_of result) }
+    ensures faults { Counts (said_of result) (P.state plant.old) (P.state plant.new) }
+    ensures ready { IsReady (P.state plant.new) config.now tables.now journal.new.events }
+    ensures room { 1 ≤ journal.new.spare }
+{
+    if let Some(why) = found_free(config, tables, devs, a, b) {
+        return Err(why);
+    }
+    match dr_gcopy::remove_pair(plant, config, journal, a, b, source_only) {
+        Ok(()) => Ok(Addition::Alone),
+        Err(refusal) => Err(refusal),
+    }
+}
+
+/// Suspends a pair.
+pub fn pause_pair<P: Plant>(
+    plant: &mut P,
+    config: &Config,
+    tables: &Tables,
+    journal: &mut Journal,
+    devs: &Devs,
+    a: VolumeId,
+    b: VolumeId,
+) -> Result<Addition, Refusal>
+    requires ready { IsReady (P.state plant.old) config.now tables.now journal.old.events }
+    requires sound { Sound (here (P.state plant.old) config.now tables.now journal.old.events) }
+    requires short { FitsDevs devs.now }
+    requires room { 512 ≤ journal.old.spare }
+    ensures step { (line : ℕ) → after_plan (here (P.state plant.old) config.now tables.now journal.old.events) line
+        (plans.pause_pair_plan (here (P.state plant.old) config.now tables.now journal.old.events).control devs.now a.0 b.0)
+        ≡ said (here (P.state plant.new) config.now tables.now journal.new.events) line (said_of result) }
+    ensures faults { Counts (said_of result) (P.state plant.old) (P.state plant.new) }
+    ensures ready { IsReady (P.state plant.new) config.now tables.now journal.new.events }
+    ensures room { 1 ≤ journal.new.spare }
+{
+    if let Some(why) = found_volumes(config, devs, a, b) {
+        return Err(why);
+    }
+    match pause(plant, config, journal, a, b) {
+        Ok(()) => Ok(Addition::Alone),
+        Err(refusal) => Err(refusal),
+    }
+}
+
+/// Resumes a Suspended pair.
+pub fn resume_pair<P: Plant>(
+    plant: &mut P,
+    config: &Config,
+    tables: &Tables,
+    journal: &mut Journal,
+    devs: &Devs,
+    a: VolumeId,
+    b: VolumeId,
+    kind: u8,
+) -> Result<Addition, Refusal>
+    requires ready { IsReady (P.state plant.old) config.now tables.now journal.old.events }
+    requires sound { Sound (here (P.state plant.old) config.now tables.now journal.old.events) }
+    requires short { FitsDevs devs.now }
+    requires kind { part.is_part (part.part_of kind) ≡ true }
+    requires room { 512 ≤ journal.old.spare }
+    ensures step { (line : ℕ) → after_plan (here (P.state plant.old) config.now tables.now journal.old.events) line
+        (plans.resume_pair_plan (here (P.state plant.old) config.now tables.now journal.old.events).control devs.now a.0 b.0 (part.part_of kind))
+        ≡ said (here (P.state plant.new) config.now tables.now journal.new.events) line (said_of result) }
+    ensures faults { Counts (said_of result) (P.state plant.old) (P.state plant.new) }
+    ensures ready { IsReady (P.state plant.new) config.now tables.now journal.new.events }
+    ensures room { 1 ≤ journal.new.spare }
+{
+    if let Some(why) = found_volumes(config, devs, a, b) {
+        return Err(why);
+    }
+    match resume(plant, config, journal, a, b, kind_of(kind)) {
+        Ok(()) => Ok(Addition::Alone),
+        Err(refusal) => Err(refusal),
+    }
+}
+
+/// Whether a volume with these fields is a primary in Copy Pending.
+pub fn is_copying(f: &Fields) -> bool
+    ensures { result ≡ (part.is_part f.now.primary && pairs.is_pending f.now.primary_state) }
+{
+    f.primary.is_part() && f.primary_state.is_pending()
+}
+
+/// Sends the tracks of a primary in Copy Pending that are out of sync, lowest first, or as many of them as a line asks for.
+/// Where the server of its secondary stops in that, the primary is suspended.
+pub fn drain<P: Plant>(
+    plant: &mut P,
+    config: &Config,
+    tables: &Tables,
+    journal: &mut Journal,
+    a: VolumeId,
+    most: Option<u32>,
+) -> Result<Addition, Refusal>
+    requires ready { IsReady (P.state plant.old) config.now tables.now journal.old.events }
+    requires sound { Sound (here (P.state plant.old) config.now tables.now journal.old.events) }
+    requires few { length config.now.volumes ≤ 64 }
+    requires room { 4096 ≤ journal.old.spare }
+    ensures step { Carries (here (P.state plant.old) config.now tables.now journal.old.events)
+        (plans.drain_plan (here (P.state plant.old) config.now tables.now journal.old.events).control a.0 most)
+        (here (P.state plant.new) config.now tables.now journal.new.events) (said_of result) }
+    ensures faults { Counts (said_of result) (P.state plant.old) (P.state plant.new) }
+    ensures ready { IsReady (P.state plant.new) config.now tables.now journal.new.events }
+    ensures room { 1 ≤ journal.new.spare }
+    ensures spare { length journal.new.events + journal.new.spare ≡ length journal.old.events + journal.old.spare }
+{
+    let Some(server) = config.server_of(a) else {
+        return Err(Refusal::Unknown { kind: Kind::Volume });
+    };
+    if !plant.is_on(server.0) {
+        return Err(Refusal::ServerOff { server });
+    }
+    let fields = peek_fields(plant, config, a);
+    if !is_copying(&fields) {
+        return Err(pair_state(plant, config, a));
+    }
+    match dr_gcopy::drain(plant, config, journal, a, most) {
+        Ok(sent) => Ok(Addition::Counted {
+            tracks: u32::from(sent),
+        }),
+        Err(refusal) => Err(refusal),
+    }
+}

@@ -1,0 +1,314 @@
+//! The steps on a track of a volume: it is shown, and host writes are issued and carried out.
+
+ghost use Rattle.std.specs.Prelude.{◌≡◌, ℕ, ◌+◌, ◌<◌, ◌≤◌, ◌^◌, true, length, take, is_some, IsSome, IfOk, OnErr, Some, None};
+ghost use Rattle.std.specs.List.{find};
+ghost use Rattle.dr_ids.specs.declared.refusal.Refusal.{Refusal};
+ghost use Rattle.dr_plant.specs.State.{PlantState};
+ghost use Rattle.dr_config.specs.Table.{place_of};
+ghost use Rattle.dr_host.specs.declared.pending.Pending.{Pending};
+ghost use Rattle.dr_host.specs.Writes.{has_number};
+ghost use Rattle.dr_model.specs.declared.step.Step.{Step};
+ghost use Rattle.dr_model.specs.Laws.{Sound};
+ghost use Rattle.dr_model.specs.Plans.{track_refusal, issue_refusal};
+ghost use Rattle.dr_model.specs.WriteEntries.{landing, says_written, after_write};
+ghost use Rattle.dr_volume.specs.View.{volume_seen};
+ghost use Rattle.dr_flash.specs.Fit.{RelationsFit};
+ghost use Rattle.dr_flash.specs.Here.{refusal_of, armed_in};
+ghost use Rattle.dr_flash.specs.Views.{view_seen};
+ghost use Rattle.dr_gcopy.specs.Followed.{EndsFollowed};
+ghost use Rattle.dr_steps.specs.Faults.{Counts};
+ghost use Rattle.dr_steps.specs.Here.{here, said_of, answered_by, OnAnswer, OnSaid, OnNoMemory, OnRefused, StepLeads, IsReady, IsTold};
+ghost use Rattle.dr_steps.specs.Waiting.{IsIssued, PartnersFit, written_as};
+
+use crate::locate::locate;
+use crate::tables::Tables;
+use dr_config::Config;
+use dr_flash::read_target;
+use dr_host::{Host, Pending};
+use dr_ids::{Fault, Kind, Refusal, VolumeId, WriteId};
+use dr_metro::{WriteEnd, sync_write};
+use dr_model::{Addition, Event, Journal, Said};
+use dr_plant::{Block, Plant};
+
+/// What a track of a volume whose server is on reads as, where reads pass.
+fn read_running<P: Plant>(
+    p: &mut P,
+    c: &Config,
+    tables: &Tables,
+    journal: &Journal,
+    v: VolumeId,
+    t: u16,
+) -> Block
+    requires ready { IsReady (P.state p.old) c.now tables.now journal.now.events }
+    requires defined { IsSome (place_of c.now v.0) }
+    requires running { (P.state p.old).on (volume_seen (P.state p.old) c.now v.0).server ≡ true }
+    requires known { (volume_seen (P.state p.old) c.now v.0).server < 8 }
+    requires fit { RelationsFit (P.state p.old) c.now }
+    requires within { t < (volume_seen (P.state p.old) c.now v.0).tracks }
+    ensures same { P.state p.new ≡ P.state p.old }
+    ensures bytes { result ≡ view_seen (P.state p.old) c.now v.0 t }
+{
+    let mut bytes = [0; 64];
+    match read_target(p, c, v, t, &mut bytes) {
+        Ok(()) => bytes,
+        Err(_) => unreachable!(),
+    }
+}
+
+/// Shows a track of a volume whose server is on: the bytes of its device, or of a target's source, which are those that the
+/// host writes of the journal give.
+pub fn show<P: Plant>(
+    plant: &mut P,
+    config: &Config,
+    tables: &Tables,
+    journal: &mut Journal,
+    line: u32,
+    volume: VolumeId,
+    track: u32,
+) -> Result<Addition, Refusal>
+    requires ready { IsReady (P.state plant.old) config.now tables.now journal.old.events }
+    requires sound { Sound (here (P.state plant.old) config.now tables.now journal.old.events) }
+    requires room { 2 ≤ journal.old.spare }
+    ensures same { P.state plant.new ≡ P.state plant.old }
+    ensures step { StepLeads (here (P.state plant.old) config.now tables.now journal.old.events) line (Step.Show volume.0 track)
+        (here (P.state plant.new) config.now tables.now journal.new.events) (said_of result) }
+    ensures ready { IsReady (P.state plant.new) config.now tables.now journal.new.events }
+    ensures faults { Counts (said_of result) (P.state plant.old) (P.state plant.new) }
+    ensures room { 1 ≤ journal.new.spare }
+{
+    let place = match locate(config, volume, track) {
+        Ok(place) => place,
+        Err(refusal) => return Err(refusal),
+    };
+    if !plant.is_on(place.server.0) {
+        return Err(Refusal::ServerOff {
+            server: place.server,
+        });
+    }
+    let bytes = read_running(plant, config, tables, journal, volume, place.track);
+    journal.push(Event::Shown {
+        line,
+        volume: volume.0,
+        track: place.track,
+        bytes,
+    });
+    Ok(Addition::Showed)
+}
+
+/// A host write as a line gives it: where it goes, and its bytes, the first `len` of them.
+#[derive(Clone, Copy)]
+pub struct HostWrite {
+    pub volume: VolumeId,
+    pub track: u32,
+    pub offset: u8,
+    pub len: u8,
+    pub bytes: Block,
+}
+
+/// The first `len` bytes of a block.
+fn front(bytes: &Block, len: u8) -> &[u8]
+    requires { len ≤ 64 }
+    ensures { result.now ≡ take len bytes.now }
+{
+    &bytes[..len as usize]
+}
+
+/// Issues a host write on a track that is there, which is pending from then on, and gives its number. Where it is
+/// refused or there is no memory, nothing has changed.
+fn issue_write(
+    config: &Config,
+    tables: &mut Tables,
+    journal: &mut Journal,
+    write: &HostWrite,
+) -> Result<WriteId, Fault>
+    requires some { 1 ≤ write.now.len }
+    requires fits { write.now.offset + write.now.len ≤ 64 }
+    requires count { tables.old.host.issued + 1 < 2 ^ 32 }
+    requires room { 0 < journal.old.spare }
+    ensures refused { OnRefused result (λ r. (s : PlantState) → issue_refusal (here s config.now tables.old journal.old.events).control write.now.volume.0 write.now.track ≡ Some r) }
+    ensures done { IfOk result (λ w. IsIssued config.now tables.old journal.old.events tables.new journal.new.events write.now w.0) }
+    ensures same { OnErr result (tables.new ≡ tables.old) }
+    ensures untold { OnErr result (journal.new.events ≡ journal.old.events) }
+    ensures told { IsTold tables.old journal.old.events → IsTold tables.new journal.new.events }
+    ensures issued { tables.new.host.issued ≤ tables.old.host.issued + 1 }
+    ensures room { journal.old.spare ≤ journal.new.spare + 1 }
+{
+    let place = match locate(config, write.volume, write.track) {
+        Ok(place) => place,
+        Err(refusal) => return Err(Fault::Refused(refusal)),
+    };
+    let bytes = write.bytes;
+    let _issued = tables.host.issued();
+    match tables.host.issue(
+        write.volume,
+        place.track,
+        write.offset,
+        front(&bytes, write.len),
+    ) {
+        Ok(w) => {
+            journal.push(Event::Issue {
+                w: w.0,
+                volume: write.volume.0,
+                track: place.track,
+                offset: write.offset,
+                len: write.len,
+                bytes,
+            });
+            Ok(w)
+        }
+        Err(fault) => Err(fault),
+    }
+}
+
+/// Issues a host write, which stays pending. Where there is no memory nothing has changed.
+pub fn issue<P: Plant>(
+    plant: &P,
+    config: &Config,
+    tables: &mut Tables,
+    journal: &mut Journal,
+    write: &HostWrite,
+) -> Result<Addition, Fault>
+    requires ready { IsReady (P.state plant.now) config.now tables.old journal.old.events }
+    requires some { 1 ≤ write.now.len }
+    requires fits { write.now.offset + write.now.len ≤ 64 }
+    requires count { tables.old.host.issued + 1 < 2 ^ 32 }
+    requires room { 2 ≤ journal.old.spare }
+    ensures step { OnAnswer result (λ a. (line : ℕ) → StepLeads (here (P.state plant.now) config.now tables.old journal.old.events) line
+        (Step.Issue write.now.volume.0 write.now.track write.now.offset write.now.len write.now.bytes)
+        (here (P.state plant.now) config.now tables.new journal.new.events) a) }
+    ensures same { OnNoMemory result (tables.new ≡ tables.old) }
+    ensures untold { OnNoMemory result (journal.new.events ≡ journal.old.events) }
+    ensures ready { IsReady (P.state plant.now) config.now tables.new journal.new.events }
+    ensures faults { OnAnswer result (λ a. Counts a (P.state plant.now) (P.state plant.now)) }
+    ensures issued { tables.new.host.issued ≤ tables.old.host.issued + 1 }
+    ensures room { 1 ≤ journal.new.spare }
+{
+    match issue_write(config, tables, journal, write) {
+        Ok(w) => Ok(Addition::Wrote { w: w.0 }),
+        Err(fault) => Err(fault),
+    }
+}
+
+/// Issues a host write and carries it out, where its volume's server is on; else it stays pending. Where there is no memory
+/// nothing has changed.
+pub fn write<P: Plant>(
+    plant: &mut P,
+    config: &Config,
+    tables: &mut Tables,
+    journal: &mut Journal,
+    write: &HostWrite,
+) -> Result<Said, Fault>
+    requires ready { IsReady (P.state plant.old) config.now tables.old journal.old.events }
+    requires sound { Sound (here (P.state plant.old) config.now tables.old journal.old.events) }
+    requires some { 1 ≤ write.now.len }
+    requires fits { write.now.offset + write.now.len ≤ 64 }
+    requires count { tables.old.host.issued + 1 < 2 ^ 32 }
+    requires room { length config.now.volumes + (length config.now.volumes + 6) ≤ journal.old.spare }
+    ensures step { OnSaid result (λ a. (line : ℕ) → StepLeads (here (P.state plant.old) config.now tables.old journal.old.events) line
+        (Step.Write write.now.volume.0 write.now.track write.now.offset write.now.len write.now.bytes)
+        (here (P.state plant.new) config.now tables.new journal.new.events) a) }
+    ensures same { OnNoMemory result (tables.new ≡ tables.old) }
+    ensures same_plant { OnNoMemory result (P.state plant.new ≡ P.state plant.old) }
+    ensures untold { OnNoMemory result (journal.new.events ≡ journal.old.events) }
+    ensures ready { IsReady (P.state plant.new) config.now tables.new journal.new.events }
+    ensures faults { OnSaid result (λ a. Counts a (P.state plant.old) (P.state plant.new)) }
+    ensures issued { tables.new.host.issued ≤ tables.old.host.issued + 1 }
+    ensures room { 1 ≤ journal.new.spare }
+{
+    match issue_write(config, tables, journal, write) {
+        Ok(w) => {
+            let issued = pending_write(&tables.host, w);
+            match carry_write(plant, config, tables, journal, &issued) {
+                Ok(answer) => Ok(answer),
+                Err(refusal) => Err(Fault::Refused(refusal)),
+            }
+        }
+        Err(fault) => Err(fault),
+    }
+}
+
+/// Carries out a pending write, where its volume's server is on; else it stays pending.
+pub fn apply<P: Plant>(
+    plant: &mut P,
+    config: &Config,
+    tables: &mut Tables,
+    journal: &mut Journal,
+    w: u32,
+) -> Result<Said, Refusal>
+    requires ready { IsReady (P.state plant.old) config.now tables.old journal.old.events }
+    requires sound { Sound (here (P.state plant.old) config.now tables.old journal.old.events) }
+    requires room { length config.now.volumes + (length config.now.volumes + 5) ≤ journal.old.spare }
+    ensures step { (line : ℕ) → StepLeads (here (P.state plant.old) config.now tables.old journal.old.events) line (Step.Apply w)
+        (here (P.state plant.new) config.now tables.new journal.new.events) (answered_by result) }
+    ensures ready { IsReady (P.state plant.new) config.now tables.new journal.new.events }
+    ensures faults { Counts (answered_by result) (P.state plant.old) (P.state plant.new) }
+    ensures issued { tables.new.host.issued ≡ tables.old.host.issued }
+    ensures room { 1 ≤ journal.new.spare }
+{
+    if !is_pending(&tables.host, WriteId(w)) {
+        return Err(Refusal::Unknown { kind: Kind::Write });
+    }
+    let write = pending_write(&tables.host, WriteId(w));
+    carry_write(plant, config, tables, journal, &write)
+}
+
+/// Whether the write of that number is pending.
+fn is_pending(host: &Host, w: WriteId) -> bool
+    ensures { result ≡ is_some (find (has_number w.0) host.now.pending) }
+{
+    host.pending(w).is_some()
+}
+
+/// The pending write of that number.
+fn pending_write(host: &Host, w: WriteId) -> Pending
+    requires waits { IsSome (find (has_number w.0) host.now.pending) }
+    ensures found { find (has_number w.0) host.now.pending ≡ Some result }
+    ensures named { result.w.0 ≡ w.0 }
+    ensures fits { result.offset + result.len ≤ 64 }
+{
+    match host.pending(w) {
+        Some(write) => *write,
+        None => unreachable!(),
+    }
+}
+
+/// The answer where write w was carried out.
+fn answer(w: WriteId, end: WriteEnd) -> Said
+    ensures { result ≡ written_as w.0 end }
+{
+    match end {
+        WriteEnd::Landed => Said::Done(Addition::Wrote { w: w.0 }),
+        WriteEnd::Held => Said::Held { w: w.0 },
+    }
+}
+
+/// Carries out a pending write on its track, which is there, where its volume's server is on; else it stays pending. Where
+/// the host may not write on the volume, the write is dropped.
+fn carry_write<P: Plant>(
+    plant: &mut P,
+    config: &Config,
+    tables: &mut Tables,
+    journal: &mut Journal,
+    write: &Pending,
+) -> Result<Said, Refusal>
+    requires ready { IsReady (P.state plant.old) config.now tables.old journal.old.events }
+    requires found { find (has_number write.now.w.0) tables.old.host.pending ≡ Some write.now }
+    requires fits { write.now.offset + write.now.len ≤ 64 }
+    requires there { track_refusal (here (P.state plant.old) config.now tables.old journal.old.events).control write.now.volume.0 write.now.track ≡ None }
+    requires fit { RelationsFit (P.state plant.old) config.now }
+    requires partners { PartnersFit (P.state plant.old) config.now }
+    requires room { length config.now.volumes + (length config.now.volumes + 5) ≤ journal.old.spare }
+    ensures carried { EndsFollowed (armed_in (P.state plant.old)) (here (P.state plant.old) config.now tables.old journal.old.events)
+        (landing (here (P.state plant.old) config.now tables.old journal.old.events).control write.now.w.0 write.now.volume.0 write.now.track)
+        (after_write (here (P.state plant.old) config.now tables.old journal.old.events).control write.now.volume.0 write.now.track) (here (P.state plant.new) config.now tables.new journal.new.events) (refusal_of result) }
+    ensures says { IfOk result (λ a. a ≡ says_written (here (P.state plant.old) config.now tables.old journal.old.events).control write.now.w.0 write.now.volume.0 write.now.track) }
+    ensures ready { IsReady (P.state plant.new) config.now tables.new journal.new.events }
+    ensures faults { Counts (answered_by result) (P.state plant.old) (P.state plant.new) }
+    ensures issued { tables.new.host.issued ≡ tables.old.host.issued }
+    ensures room { 1 ≤ journal.new.spare }
+{
+    match sync_write(plant, config, journal, &mut tables.host, write) {
+        Ok(end) => Ok(answer(write.w, end)),
+        Err(refusal) => Err(refusal),
+    }
+}

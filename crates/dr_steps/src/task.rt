@@ -1,0 +1,746 @@
+//! One step of a line: whether it may be carried out, what it comes to, and its answer.
+
+ghost use Rattle.std.specs.Prelude.{◌≡◌, ℕ, ◌+◌, ◌<◌, ◌≤◌, ◌++◌, ◌^◌, true, false, [], ◌∷◌, length, Ok, OnOk, OnErr};
+ghost use Rattle.dr_logic.specs.Counts.{Counted};
+ghost use Rattle.dr_ids.specs.declared.refusal.Refusal.{Refusal};
+ghost use Rattle.dr_model.specs.Answers.{answer};
+ghost use Rattle.dr_model.specs.Laws.{Sound};
+ghost use Rattle.dr_model.specs.Limits.{most_events};
+ghost use Rattle.dr_model.specs.LineText.{IsWritten};
+ghost use Rattle.dr_model.specs.Plans.{is_built, has_room, plan_of};
+ghost use Rattle.dr_model.specs.Runs.{run_asked, after_plan, after_task};
+ghost use Rattle.dr_model.specs.declared.said.Said.TheVariants.{Refused};
+ghost use Rattle.dr_model.specs.declared.step.Step.{Step};
+ghost use Rattle.dr_steps.specs.Faults.{Counts, told_stop};
+ghost use Rattle.dr_steps.specs.Forms.{is_plain, is_relation, is_session, is_recovery};
+ghost use Rattle.dr_steps.specs.Here.{here, said_of, widened, refused, answer_widened, all_done, OnAnswer, OnSaid, OnNoMemory, StepLeads, IsReady};
+ghost use Rattle.dr_steps.specs.WellFormed.{IsWellFormed};
+
+use crate::answers::{STEP_EVENTS, has_room, refuse, say};
+use crate::background::copy;
+use crate::define::{define_server, define_volume, set_link};
+use crate::exchanges::exchange;
+use crate::expiry::expire;
+use crate::flash::{make_flash, remove_flash, resync_flash, reverse_flash};
+use crate::forming::carry_run;
+use crate::forms::is_built;
+use crate::freezing::{freeze, unfreeze};
+use crate::masters::{lose_masters, servers_on};
+use crate::members::{add_member, remove_member};
+use crate::pairs::{drain, make_pair, pause_pair, remove_pair, resume_pair};
+use crate::paths::{make_path, remove_path};
+use crate::recovering::{commit_flash, recover_session, revert_flash};
+use crate::sessions::{
+    abort_attempt, make_mirror, make_session, pause_mirror, remove_mirror, remove_session,
+};
+use crate::steps::{HostWrite, apply, issue, show, write};
+use crate::stops::{arm, start, stop};
+use crate::tables::Tables;
+use dr_config::Config;
+use dr_flash::Options;
+use dr_ids::{Fault, Lss, Refusal, SessionId, VolumeId};
+use dr_model::{Addition, Journal, Said, Step};
+use dr_plant::Plant;
+use std::alloc::AllocError;
+
+/// A call that wants no memory, among those that may.
+fn widened(carried: Result<Addition, Refusal>) -> Result<Said, Fault>
+    ensures { result ≡ widened carried }
+{
+    match carried {
+        Ok(added) => Ok(Said::Done(added)),
+        Err(refusal) => Err(Fault::Refused(refusal)),
+    }
+}
+
+/// The same of a call among those that may want memory.
+fn refused(carried: Result<Addition, Refusal>) -> Result<Addition, Fault>
+    ensures { result ≡ refused carried }
+{
+    match carried {
+        Ok(added) => Ok(added),
+        Err(refusal) => Err(Fault::Refused(refusal)),
+    }
+}
+
+/// The same of a call that may be answered in other ways than done.
+fn answer_widened(carried: Result<Said, Refusal>) -> Result<Said, Fault>
+    ensures { result ≡ answer_widened carried }
+{
+    match carried {
+        Ok(answer) => Ok(answer),
+        Err(refusal) => Err(Fault::Refused(refusal)),
+    }
+}
+
+/// A call that is done where it isn't refused, among those that may be answered in other ways.
+fn all_done(carried: Result<Addition, Fault>) -> Result<Said, Fault>
+    ensures { result ≡ all_done carried }
+{
+    match carried {
+        Ok(added) => Ok(Said::Done(added)),
+        Err(fault) => Err(fault),
+    }
+}
+
+/// Carries out a step on a FlashCopy relationship.
+fn carry_relation<P: Plant>(
+    plant: &mut P,
+    config: &Config,
+    tables: &Tables,
+    journal: &mut Journal,
+    step: &Step,
+) -> Result<Addition, Refusal>
+    requires ready { IsReady (P.state plant.old) config.now tables.now journal.old.events }
+    requires sound { Sound (here (P.state plant.old) config.now tables.now journal.old.events) }
+    requires fits { IsWellFormed step.now }
+    requires few { length config.now.volumes ≤ 64 }
+    requires room { 4096 ≤ journal.old.spare }
+    requires form { is_plain step.now ≡ false }
+    requires session { is_session step.now ≡ false }
+    requires recovery { is_recovery step.now ≡ false }
+    requires built { is_built step.now ≡ true }
+    ensures step { (line : ℕ) → StepLeads (here (P.state plant.old) config.now tables.now journal.old.events) line step.now
+        (here (P.state plant.new) config.now tables.now journal.new.events) (said_of result) }
+    ensures faults { Counts (said_of result) (P.state plant.old) (P.state plant.new) }
+    ensures ready { IsReady (P.state plant.new) config.now tables.now journal.new.events }
+    ensures room { 1 ≤ journal.new.spare }
+{
+    match *step {
+        Step::MakeFlash {
+            devs,
+            s,
+            t,
+            nocopy,
+            persistent,
+            recorded,
+            inhibited,
+            sequence,
+        } => {
+            let options = Options {
+                nocopy,
+                persistent,
+                recorded,
+                inhibited,
+                sequence: sequence.unwrap_or(0),
+            };
+            make_flash(
+                plant,
+                config,
+                tables,
+                journal,
+                &devs.dev,
+                VolumeId(s),
+                VolumeId(t),
+                &options,
+            )
+        }
+        Step::RemoveFlash { devs, s, t, .. } => {
+            remove_flash(
+                plant,
+                config,
+                tables,
+                journal,
+                &devs.dev,
+                VolumeId(s),
+                VolumeId(t),
+            )
+        }
+        Step::ResyncFlash {
+            devs,
+            s,
+            t,
+            sequence,
+            ..
+        } => {
+            resync_flash(
+                plant,
+                config,
+                tables,
+                journal,
+                &devs.dev,
+                VolumeId(s),
+                VolumeId(t),
+                sequence,
+            )
+        }
+        Step::ReverseFlash { devs, s, t, .. } => {
+            reverse_flash(
+                plant,
+                config,
+                tables,
+                journal,
+                &devs.dev,
+                VolumeId(s),
+                VolumeId(t),
+            )
+        }
+        Step::Copy { volume, most } => {
+            copy(plant, config, tables, journal, VolumeId(volume), most)
+        }
+        _ => carry_pair(plant, config, tables, journal, step),
+    }
+}
+
+/// Carries out a step on a pair whose form is built.
+fn carry_pair<P: Plant>(
+    plant: &mut P,
+    config: &Config,
+    tables: &Tables,
+    journal: &mut Journal,
+    step: &Step,
+) -> Result<Addition, Refusal>
+    requires ready { IsReady (P.state plant.old) config.now tables.now journal.old.events }
+    requires sound { Sound (here (P.state plant.old) config.now tables.now journal.old.events) }
+    requires fits { IsWellFormed step.now }
+    requires few { length config.now.volumes ≤ 64 }
+    requires room { 4096 ≤ journal.old.spare }
+    requires form { is_plain step.now ≡ false }
+    requires session { is_session step.now ≡ false }
+    requires recovery { is_recovery step.now ≡ false }
+    requires other { is_relation step.now ≡ false }
+    requires built { is_built step.now ≡ true }
+    ensures step { (line : ℕ) → StepLeads (here (P.state plant.old) config.now tables.now journal.old.events) line step.now
+        (here (P.state plant.new) config.now tables.now journal.new.events) (said_of result) }
+    ensures faults { Counts (said_of result) (P.state plant.old) (P.state plant.new) }
+    ensures ready { IsReady (P.state plant.new) config.now tables.now journal.new.events }
+    ensures room { 1 ≤ journal.new.spare }
+{
+    match *step {
+        Step::MakePair {
+            devs,
+            a,
+            b,
+            kind,
+            full,
+        } => make_pair(
+            plant,
+            config,
+            tables,
+            journal,
+            &devs,
+            VolumeId(a),
+            VolumeId(b),
+            kind,
+            full,
+        ),
+        Step::RemovePair {
+            devs,
+            a,
+            b,
+            source_only,
+        } => remove_pair(
+            plant,
+            config,
+            tables,
+            journal,
+            &devs,
+            VolumeId(a),
+            VolumeId(b),
+            source_only,
+        ),
+        Step::PausePair { devs, a, b } => pause_pair(
+            plant,
+            config,
+            tables,
+            journal,
+            &devs,
+            VolumeId(a),
+            VolumeId(b),
+        ),
+        Step::ResumePair { devs, a, b, kind } => resume_pair(
+            plant,
+            config,
+            tables,
+            journal,
+            &devs,
+            VolumeId(a),
+            VolumeId(b),
+            kind,
+        ),
+        Step::Drain { volume, most } => {
+            drain(plant, config, tables, journal, VolumeId(volume), most)
+        }
+        _ => Err(Refusal::NotBuilt),
+    }
+}
+
+/// Carries out a recovery, or a commit or a revert by hand.
+fn carry_recovery<P: Plant>(
+    plant: &mut P,
+    config: &Config,
+    tables: &Tables,
+    journal: &mut Journal,
+    step: &Step,
+) -> Result<Addition, Refusal>
+    requires ready { IsReady (P.state plant.old) config.now tables.now journal.old.events }
+    requires sound { Sound (here (P.state plant.old) config.now tables.now journal.old.events) }
+    requires fits { IsWellFormed step.now }
+    requires few { length config.now.volumes ≤ 64 }
+    requires room { 4096 ≤ journal.old.spare }
+    requires form { is_plain step.now ≡ false }
+    requires session { is_session step.now ≡ false }
+    requires built { is_built step.now ≡ true }
+    ensures step { (line : ℕ) → StepLeads (here (P.state plant.old) config.now tables.now journal.old.events) line step.now
+        (here (P.state plant.new) config.now tables.now journal.new.events) (said_of result) }
+    ensures faults { Counts (said_of result) (P.state plant.old) (P.state plant.new) }
+    ensures ready { IsReady (P.state plant.new) config.now tables.now journal.new.events }
+    ensures room { 1 ≤ journal.new.spare }
+{
+    match *step {
+        Step::Recover { session } => {
+            recover_session(plant, config, tables, journal, SessionId(session))
+        }
+        Step::CommitFlash { devs, source, .. } => commit_flash(
+            plant,
+            config,
+            tables,
+            journal,
+            &devs.dev,
+            VolumeId(source),
+        ),
+        Step::RevertFlash { devs, source, .. } => revert_flash(
+            plant,
+            config,
+            tables,
+            journal,
+            &devs.dev,
+            VolumeId(source),
+        ),
+        _ => carry_relation(plant, config, tables, journal, step),
+    }
+}
+
+/// Carries out a step on a session, its members or its master. Where there is no memory nothing has changed.
+fn carry_session<P: Plant>(
+    plant: &mut P,
+    config: &Config,
+    tables: &mut Tables,
+    journal: &mut Journal,
+    step: &Step,
+) -> Result<Addition, Fault>
+    requires ready { IsReady (P.state plant.old) config.now tables.old journal.old.events }
+    requires sound { Sound (here (P.state plant.old) config.now tables.old journal.old.events) }
+    requires fits { IsWellFormed step.now }
+    requires few { length config.now.volumes ≤ 64 }
+    requires room { 4096 ≤ journal.old.spare }
+    requires form { is_plain step.now ≡ false }
+    requires built { is_built step.now ≡ true }
+    ensures step { OnAnswer result (λ a. (line : ℕ) → StepLeads (here (P.state plant.old) config.now tables.old journal.old.events) line step.now
+        (here (P.state plant.new) config.now tables.new journal.new.events) a) }
+    ensures faults { OnAnswer result (λ a. Counts a (P.state plant.old) (P.state plant.new)) }
+    ensures same { OnNoMemory result (here (P.state plant.new) config.now tables.new journal.new.events ≡ here (P.state plant.old) config.now tables.old journal.old.events) }
+    ensures same_plant { OnNoMemory result (P.state plant.new ≡ P.state plant.old) }
+    ensures ready { IsReady (P.state plant.new) config.now tables.new journal.new.events }
+    ensures host { tables.new.host ≡ tables.old.host }
+    ensures room { 1 ≤ journal.new.spare }
+{
+    match *step {
+        Step::MakeSession { devs, lss, session } => make_session(
+            plant,
+            config,
+            tables,
+            journal,
+            &devs,
+            Lss(lss),
+            SessionId(session),
+        ),
+        Step::RemoveSession { devs, lss, session } => refused(remove_session(
+            plant,
+            config,
+            tables,
+            journal,
+            &devs,
+            Lss(lss),
+            SessionId(session),
+        )),
+        Step::AddMember {
+            devs,
+            lss,
+            volume,
+            session,
+        } => add_member(
+            plant,
+            config,
+            tables,
+            journal,
+            &devs,
+            Lss(lss),
+            VolumeId(volume),
+            SessionId(session),
+        ),
+        Step::RemoveMember {
+            devs,
+            lss,
+            volume,
+            session,
+        } => refused(remove_member(
+            plant,
+            config,
+            tables,
+            journal,
+            &devs,
+            Lss(lss),
+            VolumeId(volume),
+            SessionId(session),
+        )),
+        Step::MakeMirror {
+            devs,
+            lss,
+            session,
+            ..
+        } => refused(make_mirror(
+            plant,
+            config,
+            tables,
+            journal,
+            &devs,
+            Lss(lss),
+            SessionId(session),
+        )),
+        Step::PauseMirror { devs, lss, session } => refused(pause_mirror(
+            plant,
+            config,
+            tables,
+            journal,
+            &devs,
+            Lss(lss),
+            SessionId(session),
+            true,
+        )),
+        Step::ResumeMirror {
+            devs,
+            lss,
+            session,
+            ..
+        } => refused(pause_mirror(
+            plant,
+            config,
+            tables,
+            journal,
+            &devs,
+            Lss(lss),
+            SessionId(session),
+            false,
+        )),
+        Step::RemoveMirror { devs, lss, session } => refused(remove_mirror(
+            plant,
+            config,
+            tables,
+            journal,
+            &devs,
+            Lss(lss),
+            SessionId(session),
+        )),
+        Step::Abort { session } => refused(abort_attempt(
+            plant,
+            config,
+            tables,
+            journal,
+            SessionId(session),
+        )),
+        Step::Exchange {
+            session,
+            server,
+            reply,
+        } => refused(exchange(
+            plant,
+            config,
+            tables,
+            journal,
+            SessionId(session),
+            &server,
+            reply,
+        )),
+        _ => refused(carry_recovery(plant, config, tables, journal, step)),
+    }
+}
+
+/// Carries out a step whose form is built. Where there is no memory nothing has changed.
+fn carry_out<P: Plant>(
+    plant: &mut P,
+    config: &mut Config,
+    tables: &mut Tables,
+    journal: &mut Journal,
+    line: u32,
+    step: &Step,
+) -> Result<Said, Fault>
+    requires ready { IsReady (P.state plant.old) config.old tables.old journal.old.events }
+    requires sound { Sound (here (P.state plant.old) config.old tables.old journal.old.events) }
+    requires fits { IsWellFormed step.now }
+    requires few { length config.old.volumes ≤ 64 }
+    requires room { 4096 ≤ journal.old.spare }
+    requires count { tables.old.host.issued + 1 < 2 ^ 32 }
+    requires built { is_built step.now ≡ true }
+    ensures step { OnSaid result (λ a. StepLeads (here (P.state plant.old) config.old tables.old journal.old.events) line step.now
+        (here (P.state plant.new) config.new tables.new journal.new.events) a) }
+    ensures faults { OnSaid result (λ a. Counts a (P.state plant.old) (P.state plant.new)) }
+    ensures same { OnNoMemory result (here (P.state plant.new) config.new tables.new journal.new.events ≡ here (P.state plant.old) config.old tables.old journal.old.events) }
+    ensures same_plant { OnNoMemory result (P.state plant.new ≡ P.state plant.old) }
+    ensures ready { IsReady (P.state plant.new) config.new tables.new journal.new.events }
+    ensures issued { tables.new.host.issued ≤ tables.old.host.issued + 1 }
+    ensures room { 1 ≤ journal.new.spare }
+{
+    match *step {
+        Step::Server { name } => all_done(define_server(plant, config, tables, journal, &name)),
+        Step::Volume {
+            volume,
+            server,
+            tracks,
+        } => all_done(define_volume(
+            plant,
+            config,
+            tables,
+            journal,
+            VolumeId(volume),
+            &server,
+            tracks,
+        )),
+        Step::MakePath {
+            devs,
+            src,
+            tgt,
+            group,
+        } => all_done(make_path(
+            plant,
+            config,
+            tables,
+            journal,
+            &devs,
+            Lss(src),
+            Lss(tgt),
+            group,
+        )),
+        Step::RemovePath {
+            devs,
+            src,
+            tgt,
+            force,
+        } => widened(remove_path(
+            plant,
+            config,
+            tables,
+            journal,
+            &devs,
+            Lss(src),
+            Lss(tgt),
+            force,
+        )),
+        Step::Link { a, b, up } => widened(set_link(plant, config, tables, journal, &a, &b, up)),
+        Step::Issue {
+            volume,
+            track,
+            offset,
+            len,
+            bytes,
+        } => {
+            let asked = asked(volume, track, offset, len, bytes);
+            all_done(issue(plant, config, tables, journal, &asked))
+        }
+        Step::Write {
+            volume,
+            track,
+            offset,
+            len,
+            bytes,
+        } => {
+            let asked = asked(volume, track, offset, len, bytes);
+            write(plant, config, tables, journal, &asked)
+        }
+        Step::Apply { w } => answer_widened(apply(plant, config, tables, journal, w)),
+        Step::Show { volume, track } => widened(show(
+            plant,
+            config,
+            tables,
+            journal,
+            line,
+            VolumeId(volume),
+            track,
+        )),
+        Step::Stop { server } => widened(stop(plant, config, tables, journal, &server)),
+        Step::StopAfter {
+            server,
+            writes,
+            torn,
+        } => widened(arm(plant, config, tables, journal, &server, writes, torn)),
+        Step::Start { server } => widened(start(plant, config, tables, journal, &server)),
+        Step::Expire { server } => widened(expire(plant, config, tables, journal, &server)),
+        Step::Freeze { devs, l, m } => widened(freeze(
+            plant,
+            config,
+            tables,
+            journal,
+            &devs,
+            Lss(l),
+            Lss(m),
+        )),
+        Step::Unfreeze { devs, l, m } => widened(unfreeze(
+            plant,
+            config,
+            tables,
+            journal,
+            &devs,
+            Lss(l),
+            Lss(m),
+        )),
+        _ => all_done(carry_session(plant, config, tables, journal, step)),
+    }
+}
+
+/// A host write as a step asks for it.
+fn asked(volume: u16, track: u32, offset: u8, len: u8, bytes: [u8; 64]) -> HostWrite
+    ensures { result ≡ record { volume = record { 0 = volume }; track = track; offset = offset; len = len; bytes = bytes } }
+{
+    HostWrite {
+        volume: VolumeId(volume),
+        track,
+        offset,
+        len,
+        bytes,
+    }
+}
+
+/// Carries out a step whose form is built, for which the journal has room, and answers it. What its end makes of the
+/// masters is still to come. Where there is no memory nothing has changed.
+fn carry_answered<P: Plant>(
+    plant: &mut P,
+    config: &mut Config,
+    tables: &mut Tables,
+    journal: &mut Journal,
+    number: u32,
+    step: &Step,
+) -> Result<(), AllocError>
+    requires ready { IsReady (P.state plant.old) config.old tables.old journal.old.events }
+    requires sound { Sound (here (P.state plant.old) config.old tables.old journal.old.events) }
+    requires fits { IsWellFormed step.now }
+    requires few { length config.old.volumes ≤ 64 }
+    requires room { 4096 ≤ journal.old.spare }
+    requires count { tables.old.host.issued + 1 < 2 ^ 32 }
+    requires built { is_built step.now ≡ true }
+    requires has_room { has_room journal.old.events ≡ true }
+    ensures plan { OnOk result (after_plan (here (P.state plant.old) config.old tables.old journal.old.events) number
+        (plan_of (here (P.state plant.old) config.old tables.old journal.old.events).control journal.old.events number step.now)
+        ≡ here (P.state plant.new) config.new tables.new journal.new.events) }
+    ensures same { OnErr result (here (P.state plant.new) config.new tables.new journal.new.events ≡ here (P.state plant.old) config.old tables.old journal.old.events) }
+    ensures ready { IsReady (P.state plant.new) config.new tables.new journal.new.events }
+    ensures faults { (f : ℕ) → Counted (told_stop journal.old.events) f (P.state plant.old).faults → Counted (told_stop journal.new.events) f (P.state plant.new).faults }
+    ensures issued { tables.new.host.issued ≤ tables.old.host.issued + 1 }
+{
+    match carry_out(plant, config, tables, journal, number, step) {
+        Ok(answer) => {
+            say(journal, number, answer);
+            Ok(())
+        }
+        Err(Fault::Refused(refusal)) => {
+            say(journal, number, Said::Refused(refusal));
+            Ok(())
+        }
+        Err(Fault::NoMemory) => Err(AllocError),
+    }
+}
+
+/// Carries out a step whose form is built, for which the journal has room, and answers it: each master whose
+/// server stopped in it is lost as it ends. Where there is no memory nothing has changed.
+fn carry_built<P: Plant>(
+    plant: &mut P,
+    config: &mut Config,
+    tables: &mut Tables,
+    journal: &mut Journal,
+    number: u32,
+    step: &Step,
+) -> Result<(), AllocError>
+    requires ready { IsReady (P.state plant.old) config.old tables.old journal.old.events }
+    requires sound { Sound (here (P.state plant.old) config.old tables.old journal.old.events) }
+    requires fits { IsWellFormed step.now }
+    requires few { length config.old.volumes ≤ 64 }
+    requires room { 4096 ≤ journal.old.spare }
+    requires count { tables.old.host.issued + 1 < 2 ^ 32 }
+    requires built { is_built step.now ≡ true }
+    requires has_room { has_room journal.old.events ≡ true }
+    ensures task { OnOk result (after_task (here (P.state plant.old) config.old tables.old journal.old.events) (record { line = number; asked = Ok step.now })
+        ≡ here (P.state plant.new) config.new tables.new journal.new.events) }
+    ensures same { OnErr result (here (P.state plant.new) config.new tables.new journal.new.events ≡ here (P.state plant.old) config.old tables.old journal.old.events) }
+    ensures ready { IsReady (P.state plant.new) config.new tables.new journal.new.events }
+    ensures faults { (f : ℕ) → Counted (told_stop journal.old.events) f (P.state plant.old).faults → Counted (told_stop journal.new.events) f (P.state plant.new).faults }
+    ensures issued { tables.new.host.issued ≤ tables.old.host.issued + 1 }
+{
+    let before = servers_on(plant);
+    match carry_answered(plant, config, tables, journal, number, step) {
+        Ok(()) => {
+            lose_masters(plant, &before, &mut tables.sessions);
+            Ok(())
+        }
+        Err(AllocError) => Err(AllocError),
+    }
+}
+
+/// Carries out a step that is one plan, and answers it: a form that isn't built is refused, and then a step for which the journal
+/// has no room. Where there is no memory nothing has changed.
+fn carry_alone<P: Plant>(
+    plant: &mut P,
+    config: &mut Config,
+    tables: &mut Tables,
+    journal: &mut Journal,
+    number: u32,
+    step: &Step,
+) -> Result<(), AllocError>
+    requires ready { IsReady (P.state plant.old) config.old tables.old journal.old.events }
+    requires sound { Sound (here (P.state plant.old) config.old tables.old journal.old.events) }
+    requires written { IsWritten step.now }
+    requires few { length config.old.volumes ≤ 64 }
+    requires count { tables.old.host.issued + 1 < 2 ^ 32 }
+    requires below { length journal.old.events < most_events }
+    requires alone { run_asked (Ok step.now) ≡ None }
+    ensures task { OnOk result (after_task (here (P.state plant.old) config.old tables.old journal.old.events) (record { line = number; asked = Ok step.now })
+        ≡ here (P.state plant.new) config.new tables.new journal.new.events) }
+    ensures same { OnErr result (here (P.state plant.new) config.new tables.new journal.new.events ≡ here (P.state plant.old) config.old tables.old journal.old.events) }
+    ensures ready { IsReady (P.state plant.new) config.new tables.new journal.new.events }
+    ensures faults { (f : ℕ) → Counted (told_stop journal.old.events) f (P.state plant.old).faults → Counted (told_stop journal.new.events) f (P.state plant.new).faults }
+    ensures issued { tables.new.host.issued ≤ tables.old.host.issued + 1 }
+{
+    if !is_built(step) {
+        return refuse(journal, number, Refusal::NotBuilt);
+    }
+    if !has_room(journal) {
+        return refuse(journal, number, Refusal::JournalFull);
+    }
+    journal.reserve(STEP_EVENTS)?;
+    carry_built(plant, config, tables, journal, number, step)
+}
+
+/// Carries out a step, and answers it. A form that isn't built is refused, and then a step for which the journal has no room.
+/// Where there is no memory nothing has changed.
+pub fn carry_task<P: Plant>(
+    plant: &mut P,
+    config: &mut Config,
+    tables: &mut Tables,
+    journal: &mut Journal,
+    number: u32,
+    step: &Step,
+) -> Result<(), AllocError>
+    requires ready { IsReady (P.state plant.old) config.old tables.old journal.old.events }
+    requires sound { Sound (here (P.state plant.old) config.old tables.old journal.old.events) }
+    requires written { IsWritten step.now }
+    requires few { length config.old.volumes ≤ 64 }
+    requires count { tables.old.host.issued + 1 < 2 ^ 32 }
+    requires below { length journal.old.events < most_events }
+    ensures task { OnOk result (after_task (here (P.state plant.old) config.old tables.old journal.old.events) (record { line = number; asked = Ok step.now })
+        ≡ here (P.state plant.new) config.new tables.new journal.new.events) }
+    ensures same { OnErr result (here (P.state plant.new) config.new tables.new journal.new.events ≡ here (P.state plant.old) config.old tables.old journal.old.events) }
+    ensures ready { IsReady (P.state plant.new) config.new tables.new journal.new.events }
+    ensures faults { (f : ℕ) → Counted (told_stop journal.old.events) f (P.state plant.old).faults → Counted (told_stop journal.new.events) f (P.state plant.new).faults }
+    ensures issued { tables.new.host.issued ≤ tables.old.host.issued + 1 }
+{
+    match *step {
+        Step::Run { session, groups } => carry_run(
+            plant,
+            config,
+            tables,
+            journal,
+            number,
+            SessionId(session),
+            groups,
+        ),
+        _ => carry_alone(plant, config, tables, journal, number, step),
+    }
+}

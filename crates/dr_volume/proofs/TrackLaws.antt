@@ -1,0 +1,86 @@
+-- A track by three blocks of the chosen slot: the head, the blank set's and the staged bytes.
+use Rattle.std.proofs.Common.{ℕ, ◌≡◌, ◌≤◌, ◌<◌, ◌+◌, Bool, true, false, ◌&&◌, take, arith, sym, ◌∙◌, ap, refl, subst, nat_eq, nat_lt, Option, None, Some}
+use Rattle.std.specs.Prelude.{is_some, if◌then◌else◌}
+use Rattle.std.specs.FinSet.{contains}
+use Rattle.std.proofs.lemmas.Bool.Decides.{nat_tests}
+use Rattle.dr_bits.specs.Tracks.{Tracks, of_bytes}
+use Rattle.dr_bits.specs.Membership.{lt_true}
+use Rattle.dr_plant.specs.State.{PlantState}
+use Rattle.dr_record.specs.Slots.{slot_of}
+use Rattle.dr_config.specs.Table.{ConfigTable, place_of}
+use Rattle.dr_logic.specs.Bytes.{zeros}
+use Rattle.dr_model.specs.Control.{Volume}
+use Rattle.dr_model.specs.Layout.{Blocks, chosen, is_staged, only_if, slot_begin}
+use Rattle.dr_volume.specs.Plain.{cut, normal, staged_below}
+use Rattle.dr_volume.specs.Record.{with_head, no_record, raw_of, staged_in}
+use Rattle.dr_volume.specs.View.{volume_seen, track_seen}
+use Rattle.dr_volume.specs.Volume.{LiesOn, Shows}
+use Rattle.dr_volume.proofs.Sets.{contains-cut}
+use Rattle.dr_volume.proofs.VolumeLaws.{entry, volume-placed, shows-normal, track-staged, track-not_staged, some_of_staged, chosen_slot}
+
+-- of the tracks below n, those are staged and blank that the blocks say
+staged_below-is : (n k : ℕ) (o : Option ℕ) → k < n → is_staged (staged_below n o) k ≡ is_staged o k
+staged_below-is n k None low = refl
+staged_below-is n k (Some t) low = elim (nat_lt t n) as (λ b. nat_lt t n ≡ b → is_staged (if b then Some t else None) k ≡ nat_eq k t) [
+  | true ↦ λ is. refl
+  | false ↦ λ is. grind (arith, nat_tests, is)
+] refl
+
+and_true : (b : Bool) → (b && true) ≡ b
+and_true true = refl
+and_true false = refl
+
+blank_below-is : (n k : ℕ) (s : Tracks) → n ≤ 256 → k < n → contains (cut n s) k ≡ contains s k
+blank_below-is n k s few low = contains-cut n s k few ∙ ap (λ b. contains s k && b) (lt_true k n low) ∙ and_true (contains s k)
+
+normal-staged : (n : ℕ) (b : Blocks) → (normal n (raw_of b)).staged ≡ staged_below n (staged_in (b 0))
+unfolding normal with_head no_record
+normal-staged n b = refl
+
+normal-bytes : (n : ℕ) (b : Blocks) → (normal n (raw_of b)).staged_bytes ≡ only_if (is_some (staged_below n (staged_in (b 0)))) (b 5) zeros
+unfolding normal with_head no_record
+normal-bytes n b = refl
+
+normal-blank : (n : ℕ) (b : Blocks) → (normal n (raw_of b)).blank ≡ cut n (of_bytes (take 32 (b 4)))
+unfolding normal with_head no_record
+normal-blank n b = refl
+
+module _ (s : PlantState) (t : ConfigTable) (v d n k : ℕ) (lies : LiesOn t v d n) (within : k < (volume_seen s t v).tracks) where
+  low : k < n
+  low =
+      let e = entry t v d n lies in
+      subst (λ m. k < m) (ap (λ (w : Volume). w.tracks) (volume-placed s t v d e.0 lies.place e.1) ∙ e.2) within
+
+  shows : Shows s t v (normal n (raw_of (chosen (s.block d))))
+  shows = shows-normal s t v d n (normal n (raw_of (chosen (s.block d)))) lies refl
+
+  defined : is_some (place_of t v) ≡ true
+  defined = ap is_some lies.place
+
+  staged-is : is_staged (normal n (raw_of (chosen (s.block d)))).staged k ≡ is_staged (staged_in (chosen (s.block d) 0)) k
+  staged-is = ap (λ o. is_staged o k) (normal-staged n (chosen (s.block d))) ∙ staged_below-is n k (staged_in (chosen (s.block d) 0)) low
+
+  pub staged-there : is_staged (staged_in (chosen (s.block d) 0)) k ≡ true → chosen (s.block d) 5 ≡ track_seen s t v k
+  staged-there is =
+      let there = staged_below-is n k (staged_in (chosen (s.block d) 0)) low ∙ is in
+      sym (normal-bytes n (chosen (s.block d)) ∙ ap (λ b. only_if b (chosen (s.block d) 5) zeros) (some_of_staged (staged_below n (staged_in (chosen (s.block d) 0))) k there))
+      ∙ track-staged s t v k (normal n (raw_of (chosen (s.block d)))) defined within shows (staged-is ∙ is)
+
+  not_staged : (blank : Bool) → is_staged (staged_in (chosen (s.block d) 0)) k ≡ false → contains (of_bytes (take 32 (chosen (s.block d) 4))) k ≡ blank → (if blank then zeros else s.block d (13 + k)) ≡ track_seen s t v k
+  not_staged blank is set =
+      let e = entry t v d n lies in
+      track-not_staged s t v d k e.0 (normal n (raw_of (chosen (s.block d)))) blank lies.place e.1 within shows (staged-is ∙ is)
+      (ap (λ x. contains x k) (normal-blank n (chosen (s.block d))) ∙ blank_below-is n k (of_bytes (take 32 (chosen (s.block d) 4))) lies.few low ∙ set)
+
+  pub blank-there : is_staged (staged_in (chosen (s.block d) 0)) k ≡ false → contains (of_bytes (take 32 (chosen (s.block d) 4))) k ≡ true → zeros ≡ track_seen s t v k
+  blank-there is set = not_staged true is set
+
+  pub own-there : is_staged (staged_in (chosen (s.block d) 0)) k ≡ false → contains (of_bytes (take 32 (chosen (s.block d) 4))) k ≡ false → s.block d (13 + k) ≡ track_seen s t v k
+  own-there is set = not_staged false is set
+
+-- a look at a block of the slot that was found chosen
+pub looked : (s s1 : PlantState) (d k begin : ℕ) (second : Bool) → s1 ≡ s → begin ≡ slot_begin second → second ≡ slot_of s d → s1.block d (begin + k) ≡ chosen (s.block d) k
+looked s s1 d k begin second same begins is = (λ i. (same i).block d (begins i + k)) ∙ ap (λ b. s.block d (slot_begin b + k)) (is ∙ chosen_slot s d)
+
+pub looked-head : (s s1 : PlantState) (d begin : ℕ) (second : Bool) → s1 ≡ s → begin ≡ slot_begin second → second ≡ slot_of s d → s1.block d begin ≡ chosen (s.block d) 0
+looked-head s s1 d begin second same begins is = ap (s1.block d) (let e : begin ≡ begin + 0 = omega arith in e) ∙ looked s s1 d 0 begin second same begins is

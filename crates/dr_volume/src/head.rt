@@ -1,0 +1,111 @@
+//! The head of a record: its first block, which says everything of a volume but its sets of tracks and what is staged.
+
+ghost use Rattle.std.specs.Prelude.{◌≡◌, ◌<◌, length, IsSome, Some};
+ghost use Rattle.dr_config.specs.Table.{StandsFor, place_of};
+ghost use Rattle.dr_model.specs.Layout as layout;
+ghost use Rattle.dr_record.specs.Writes.{IsDevice};
+ghost use Rattle.dr_volume.specs.Head.{head_of, head_said};
+ghost use Rattle.dr_volume.specs.View.{volume_at, volume_seen};
+
+use crate::blocks::slot_begin;
+use crate::codes::{bit, flag_if, only_if, part_of, state_of};
+use crate::place::{device_at, device_of};
+use dr_config::Config;
+use dr_ids::{VolumeId, be16, be32};
+use dr_model::{PairState, Part};
+use dr_plant::{Block, DeviceId, Plant};
+
+/// What the first block of a volume's record says: its fields but the sets of tracks. What belongs to an absent part or
+/// relationship is zero or false, as in `Fields`.
+#[derive(Clone, Copy)]
+pub struct Head {
+    pub primary: Part,
+    pub primary_state: PairState,
+    pub primary_partner: VolumeId,
+    pub coordination: bool,
+    pub long_busy: bool,
+    pub recording: bool,
+    pub attempt: u32,
+    pub secondary: Part,
+    pub secondary_state: PairState,
+    pub secondary_partner: VolumeId,
+    pub seal: u32,
+    pub related: bool,
+    pub source: VolumeId,
+    pub nocopy: bool,
+    pub persistent: bool,
+    pub recorded: bool,
+    pub inhibited: bool,
+    pub sequence: u32,
+    pub previous_sequence: u32,
+    pub revertible: bool,
+    pub reversing: bool,
+    pub member: bool,
+    pub session: u8,
+    pub floor: u32,
+}
+
+/// The head of a volume, whether or not its server is on. Two blocks are looked at, and no set of tracks.
+pub fn peek_head<P: Plant>(p: &P, c: &Config, v: VolumeId) -> Head
+    requires defined { IsSome (place_of c.now v.0) }
+    requires stands { StandsFor c.now (P.state p.now) }
+    ensures { result ≡ head_of (volume_seen (P.state p.now) c.now v.0).fields }
+{
+    head_on(p, device_of(c, v))
+}
+
+/// The head of the volume that was defined after so many others, whether or not its server is on. No volume is looked up.
+pub fn peek_head_at<P: Plant>(p: &P, c: &Config, place: usize) -> Head
+    requires there { place < length c.now.volumes }
+    requires stands { StandsFor c.now (P.state p.now) }
+    ensures { result ≡ head_of (volume_at (P.state p.now) c.now (Some place)).fields }
+{
+    head_on(p, device_at(c, place))
+}
+
+// The head of the record that a device chooses.
+fn head_on<P: Plant>(p: &P, device: DeviceId) -> Head
+    requires { IsDevice (P.state p.now) device.0 13 }
+    ensures { result ≡ head_said (layout.chosen ((P.state p.now).block device.0) 0) }
+{
+    let begin = slot_begin(&p.peek(device, 0));
+    head_in(&p.peek(device, begin))
+}
+
+/// What a first block says.
+#[tactic(auto, unfolding(dr_model::specs::Layout::fields_of))]
+pub(crate) fn head_in(block: &Block) -> Head
+    ensures { result ≡ head_said block.now }
+{
+    let primary = part_of(block[0]);
+    let first = primary.is_part();
+    let secondary = part_of(block[3]);
+    let second = secondary.is_part();
+    let related = bit(block[5], 0);
+    Head {
+        primary,
+        primary_state: only_if(first, state_of(block[1]), PairState::CopyPending),
+        primary_partner: VolumeId(only_if(first, be16(block, 8), 0)),
+        coordination: flag_if(first, block[2], 0),
+        long_busy: flag_if(first, block[2], 1),
+        recording: flag_if(first, block[2], 2),
+        attempt: be32(block, 16),
+        secondary,
+        secondary_state: only_if(second, state_of(block[4]), PairState::CopyPending),
+        secondary_partner: VolumeId(only_if(second, be16(block, 10), 0)),
+        seal: only_if(second, be32(block, 20), 0),
+        related,
+        source: VolumeId(only_if(related, be16(block, 12), 0)),
+        nocopy: flag_if(related, block[5], 1),
+        persistent: flag_if(related, block[5], 2),
+        recorded: flag_if(related, block[5], 3),
+        inhibited: flag_if(related, block[5], 4),
+        sequence: only_if(related, be32(block, 24), 0),
+        previous_sequence: only_if(related, be32(block, 28), 0),
+        revertible: flag_if(related, block[5], 5),
+        reversing: flag_if(related, block[5], 6),
+        member: flag_if(related, block[5], 7),
+        session: only_if(related, block[6], 0),
+        floor: be32(block, 32),
+    }
+}

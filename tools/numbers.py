@@ -1,0 +1,88 @@
+#!/usr/bin/env python3
+"""Writes what README.md counts and shows: the numbers, and the script of the first screen beside its answers.
+
+    tools/numbers.py            writes both between their markers
+    tools/numbers.py --check    compares them with the sources, and ends with 1 where one differs
+"""
+import re
+import sys
+from pathlib import Path
+
+ROOT = Path(__file__).resolve().parent.parent
+PAGE = ROOT / "README.md"
+SCREEN = ROOT / "examples" / "first-group"
+
+
+def lines_of(pattern):
+    """The lines of the files that a pattern names, in thousands."""
+    count = sum(len(path.read_text(encoding="utf-8").splitlines()) for path in ROOT.glob(pattern))
+    return f"{round(count, -3):,}"
+
+
+def count_of(pattern):
+    return sum(1 for _ in ROOT.glob(pattern))
+
+
+def found_in(path, pattern):
+    """What the groups of a pattern are in a file; None where there is no such file or line."""
+    path = ROOT / path
+    match = path.exists() and re.search(pattern, path.read_text(encoding="utf-8"), re.M)
+    return match.groups() if match else None
+
+
+def numbers():
+    crates = sum(1 for line in (ROOT / "crates.txt").read_text().splitlines() if line.strip() and line[0] != "#")
+    rows = [f"| code | about {lines_of('crates/*/src/**/*.rt')} lines in {crates} crates |"]
+    book = found_in("docs/BOOK.md", r"^(\d+) definitions, (\d+) lines$")
+    if book:
+        definitions, lines = (f"{int(n):,}" for n in book)
+        rows.append(f"| to believe: what the two contracts of the top call reach | {definitions} definitions, {lines} lines |")
+    rows.append(f"| proofs | about {lines_of('crates/*/proofs/**/*.antt')} lines |")
+    rows.append(f"| wrong bodies that the prover must refuse | {count_of('crates/*/must-fail/*.edit')} |")
+    scenarios, examples = count_of("crates/scenarios/data/*.dscli"), count_of("examples/*.dscli")
+    rows.append(f"| scenarios and examples, byte by byte | {scenarios} and {examples} |")
+    gate = found_in("docs/GATE.md", r"^\| the whole gate.*?\| (\d+) minutes")
+    if gate:
+        rows.append(f"| the whole gate, everything from nothing | {gate[0]} minutes on four processors |")
+    return ["| | |", "|---|---|"] + rows
+
+
+def screen():
+    """Each line of the script, without comments and empty ones, beside the answers of its steps."""
+    answers = {}
+    for line in SCREEN.with_suffix(".out").read_text().splitlines():
+        answers.setdefault(int(line.partition(" ")[0]), []).append(line)
+    script = [(n, line) for n, line in enumerate(SCREEN.with_suffix(".dscli").read_text().splitlines(), 1)
+              if line.strip() and line[0] != "#"]
+    width = max(len(line) for _, line in script)
+    return ["```"] + [f"{line:{width}}   {', '.join(answers.get(n, []))}".rstrip() for n, line in script] + ["```"]
+
+
+def between(text, name, lines):
+    """The text with these lines between the two markers of a name."""
+    begin, end = f"<!-- {name} -->\n", f"<!-- end of {name} -->\n"
+    if text.count(begin) != 1 or text.count(end) != 1:
+        sys.exit(f"README.md:1: lacks the markers of its {name}")
+    before, _, rest = text.partition(begin)
+    return before + begin + "\n".join(lines) + "\n" + end + rest.partition(end)[2]
+
+
+def main(words):
+    text = PAGE.read_text(encoding="utf-8")
+    parts = {"screen": screen(), "numbers": numbers()}
+    if words == ["--check"]:
+        stale = [name for name, lines in parts.items() if between(text, name, lines) != text]
+        for name in stale:
+            print(f"README.md:1: its {name} isn't what tools/numbers.py writes")
+        return 1 if stale else 0
+    if words:
+        print(__doc__)
+        return 2
+    for name, lines in parts.items():
+        text = between(text, name, lines)
+    PAGE.write_text(text, encoding="utf-8")
+    return 0
+
+
+if __name__ == "__main__":
+    sys.exit(main(sys.argv[1:]))

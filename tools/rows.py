@@ -1,0 +1,68 @@
+#!/usr/bin/env python3
+"""Checks that what docs/COMMANDS.md and docs/ANSWERS.md show is what scenarios and examples print; exit status 1 where it isn't.
+
+Each example of COMMANDS.md is a line of the scenario each-command-once, with its answers. Each row of ANSWERS.md names a scenario or
+an example (in its last column) whose output has the answer that the row begins with; rows without one say so there.
+"""
+import re
+import sys
+from pathlib import Path
+
+ROOT = Path(__file__).resolve().parent.parent
+SCRIPTS = [ROOT / "crates" / "scenarios" / "data", ROOT / "examples"]
+VALUES = {"VOL": r"[0-9A-F]{4}", "NAME": r"[A-Za-z][\w.-]*", "SS": r"[0-9A-F]{2}", "BYTES": r"(?:[0-9A-F]{2})+", "wN": r"w\d+",
+          "PHASE": r"[A-Z][a-z]+", "STATE": r"(?:Copy Pending|Full Duplex|Suspended)"}
+
+
+def answers_of(name):
+    """The answers of a script by its lines; none where there is no such script."""
+    for folder in SCRIPTS:
+        path = folder / f"{name}.out"
+        if path.exists():
+            answers = {}
+            for line in path.read_text().splitlines():
+                number, _, answer = line.partition(" ")
+                answers.setdefault(int(number), []).append(answer)
+            return answers, (folder / f"{name}.dscli").read_text().split("\n")
+    return None, None
+
+
+def faults_in_commands(path):
+    answers, script = answers_of("each-command-once")
+    shown = {(line, ", ".join(answers.get(n, []))) for n, line in enumerate(script, 1)}
+    inside = False
+    for number, line in enumerate(path.read_text(encoding="utf-8").split("\n"), 1):
+        inside ^= line.startswith("```")
+        command, gap, answer = line.partition("  ")
+        if inside and gap and not line.startswith("```") and (command, answer.strip()) not in shown:
+            yield f"{path.relative_to(ROOT)}:{number}: no line of each-command-once with these answers"
+
+
+def pattern_of(answer):
+    """What an answer with words in the place of values stands for."""
+    words = [VALUES.get(word) or re.sub(r"\b[A-Zmn]\b", r"\\d+", re.escape(word)) for word in answer.split(" ")]
+    return re.compile(" ".join(words))
+
+
+def faults_in_answers(path):
+    for number, line in enumerate(path.read_text(encoding="utf-8").split("\n"), 1):
+        row = re.match(r"\| `((?:ok|held|E\d\d)\b[^`]*)`.*\| ([^|]*) \|$", line)
+        if row:
+            names = re.findall(r"`([\w-]+)`", row[2])
+            if not names and not row[2].startswith("none"):
+                yield f"{path.relative_to(ROOT)}:{number}: names no script, and doesn't say none"
+            for name in names:
+                answers, _ = answers_of(name)
+                told = [a for here in (answers or {}).values() for a in here]
+                if not any(pattern_of(row[1]).fullmatch(a) for a in told):
+                    yield f"{path.relative_to(ROOT)}:{number}: {name} doesn't print `{row[1]}`"
+
+
+def main():
+    faults = [*faults_in_commands(ROOT / "docs" / "COMMANDS.md"), *faults_in_answers(ROOT / "docs" / "ANSWERS.md")]
+    print("\n".join(faults), end="\n" if faults else "")
+    return 1 if faults else 0
+
+
+if __name__ == "__main__":
+    sys.exit(main())
