@@ -4,8 +4,9 @@
 gate_table.py [--date DATE] [--processors N] [--minutes N] TIMES..
 
 The date, the processors and the minutes of the clock are those that the files tell, where they aren't given. What a later file
-tells of a check goes before what an earlier one does. Where no file tells of a check, the gate had kept it, and its place has
-a dash. Edits that take more than 30 seconds of a processor are named on standard error.
+tells of a check goes before what an earlier one does. Where no file tells of a check, the gate had kept it, or it was too
+short to be seen, and its place has a dash; the table tells of the whole gate where one run did all proofs. Edits that take more
+than 30 seconds of a processor are named on standard error.
 """
 import argparse
 import re
@@ -68,17 +69,18 @@ def edit_row(crate, times):
     return f"| `{crate}` | {', '.join(f'{name} {seconds([taken])}' for name, taken in told)} |"
 
 
-def head(times, date, processors, minutes):
+def head(times, date, processors, minutes, runs):
     sum_of = lambda kinds: sum(taken for (_, kind), taken in times.items() if kind.startswith(kinds)) / 60
     every = crates()
     edits, tests = sum(len(edits_of(it)) for it in every), sum(tests_of(it) for it in every)
     told = sum((crate, f"edit {it}") in times for crate in every for it in edits_of(crate))
+    is_whole = runs == 1 and all((it, "proof") in times or (it, "build") in times for it in every)
     return [
         "| | |",
         "|---|---|",
         f"| date | {date} |",
         f"| processors | {processors} |",
-        f"| the whole gate | {minutes:.0f} minutes of the clock, {sum_of(''):.0f} of a processor |",
+        f"| {'the whole gate' if is_whole else 'all that was seen'} | {minutes:.0f} minutes of the clock, {sum_of(''):.0f} of a processor |",
         f"| of these the proofs and builds of {len(every)} crates | {sum_of(('proof', 'build')):.0f} minutes of a processor |",
         f"| {tests} tests | {sum_of('tests'):.0f} minutes of a processor for their proof |",
         f"| what the edits begin with: a check of each crate that has some | {sum_of('base'):.0f} minutes of a processor |",
@@ -86,8 +88,8 @@ def head(times, date, processors, minutes):
     ]
 
 
-def table(times, date, processors, minutes):
-    rows = [*head(times, date, processors, minutes), "", "Seconds of a processor:", ""]
+def table(times, date, processors, minutes, runs):
+    rows = [*head(times, date, processors, minutes, runs), "", "Seconds of a processor:", ""]
     rows += ["| crate | edits | tests | its proof | with its tests | before its edits | its edits |", "|---|---|---|---|---|---|---|"]
     rows += [crate_row(it, times) for it in crates()]
     rows += ["", "Each edit, in seconds of a processor:", "", "| crate | edits |", "|---|---|"]
@@ -111,7 +113,7 @@ def main():
     if page.count(BEGIN) != 1 or page.count(END) != 1:
         sys.exit(f"{PAGE} has no place for the table, between a line {BEGIN} and a line {END}")
     before, after = page.split(BEGIN)[0], page.split(END)[1]
-    text = table(times, given.date or date, given.processors or processors, given.minutes or clock / 60)
+    text = table(times, given.date or date, given.processors or processors, given.minutes or clock / 60, len(given.times))
     PAGE.write_text(f"{before}{BEGIN}\n{text}\n{END}{after}", encoding="utf-8")
     for (crate, kind), taken in sorted(times.items(), key=lambda it: -it[1]):
         if kind.startswith("edit ") and LONG < taken:
