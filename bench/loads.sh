@@ -73,31 +73,15 @@ load() { # NUMBER LINES
 
 lines_of=(99900 99900 99900 1500 99900 97500 40000)
 
-microseconds_of() { # PROGRAM ANSWERS
-    local begin
-    begin=$(date +%s%N)
-    "$1" run < "$scratch/script" > "$2"
-    echo $((($(date +%s%N) - begin) / 1000 + 1))
-}
-
 instructions_of() { # PROGRAM
     valgrind --tool=callgrind --callgrind-out-file="$scratch/profile" "$1" run < "$scratch/script" 2>&1 > "$scratch/answers" | sed -n 's/.*Collected : //p'
 }
 
 compare() { # OLD NEW
-    local at round spent old new
+    local at
     for at in 0 1 2 3 4 5 6; do
         load $at "${lines_of[at]}"
-        old=0
-        new=0
-        for ((round = 0; round < 5; round++)); do
-            spent=$(microseconds_of "$1" "$scratch/old")
-            if ((old == 0 || spent < old)); then old=$spent; fi
-            spent=$(microseconds_of "$2" "$scratch/new")
-            if ((new == 0 || spent < new)); then new=$spent; fi
-        done
-        cmp "$scratch/old" "$scratch/new"
-        echo "$name: before $((old / 1000)) ms, now $((new / 1000)) ms, $((old / new)).$((old * 10 / new % 10))$((old * 100 / new % 10)) times as fast"
+        compare_programs "$1" "$2" 5 "$name"
     done
 }
 
