@@ -7,7 +7,7 @@ cd "$(dirname "$0")/.."
 scratch=$(mktemp -d)
 trap 'rm -rf "$scratch"' EXIT
 mkdir -p "$scratch/crates/read_lines/src"
-for crate in dr_ids dr_model dr_script; do
+for crate in dr_logic dr_ids dr_model dr_facts dr_script; do
     cp -r "crates/$crate" "$scratch/crates/$crate"
 done
 cat > "$scratch/crates/read_lines/src/main.rt" << 'END'
@@ -15,23 +15,24 @@ cat > "$scratch/crates/read_lines/src/main.rt" << 'END'
 //! took, input included.
 #![tactic(auto)]
 
-use dr_script::read_line;
+use dr_script::{Line, read_line};
 use std::io;
 use std::time::Instant;
 
 fn main(rt: HostRuntime) -> io::Result<()> {
     let begin = Instant::now(&rt)?;
     let mut steps: u64 = 0;
+    let mut read = Line::new(rt.alloc());
     for line in rt.lines(rt.alloc()) {
-        if let Ok(line) = read_line(rt.alloc(), line?.as_bytes()) {
-            steps = steps.saturating_add(line.len() as u64);
+        if let Ok(()) = read_line(rt.alloc(), line?.as_bytes(), &mut read) {
+            steps = steps.saturating_add(read.len() as u64);
         }
     }
     let spent = begin.elapsed(&rt)?.as_millis();
     println!(rt; "{steps} steps: {spent} ms")
 }
 END
-printf 'dr_ids:\ndr_model: dr_ids\ndr_script: dr_ids dr_model\nread_lines: dr_ids dr_model dr_script\n' > "$scratch/crates.txt"
+printf 'dr_logic:\ndr_ids:\ndr_model: dr_logic dr_ids\ndr_facts: dr_logic dr_ids dr_model\ndr_script: dr_logic dr_ids dr_model dr_facts\nread_lines: dr_ids dr_model dr_script\n' > "$scratch/crates.txt"
 git init -q "$scratch"
 for lines in 50000 100000; do
     for ((i = 0; i < lines; i += 5)); do

@@ -19,6 +19,7 @@ CHAPTERS = [
     ("What a run is", "Outcome Cut Followed Lines Faults Given Limits Runs Carried Fits View"),
     ("The headline", "Headline NewestGroup ClosedCuts Cuts Dependence HeldWrites Groups Recovered Decided Decisions"
                      " Seals Windows Moments Table Laws"),
+    ("Both sites", "Sites Compared Returned"),
     ("Devices", "State Layout BigEndian Control Paths Links Views"),
     ("Journal and lists", "Histories Contents Tables Answers Refusals"),
     ("Moves", "Moves Carry Relations Pairs"),

@@ -41,7 +41,7 @@ use Rattle.dr_flash.proofs.CopyLemmas.{ids-next, wider-armed}
 use Rattle.dr_facts.proofs.Ends.{ends-off, ends-none, ends-skips, ends-goes, ends-stops, ends-wider}
 use Rattle.dr_flash.proofs.ReadLemmas.{on-running, is-armed}
 use Rattle.dr_coord.specs.Standing.{StandsReady}
-use Rattle.dr_admin.specs.Answering.{Comes, number_of}
+use Rattle.dr_admin.specs.Answering.{Comes, write_number}
 use Rattle.dr_admin.specs.Starting.{hosted, IsLater, IsStarting, start_from, start_events, acks, without_acked}
 use Rattle.dr_admin.proofs.OwnerLemmas.{belongs-seen, own-server, other-server}
 use Rattle.dr_config.proofs.Lookups.{either}
@@ -400,6 +400,6 @@ issued-without None h h' is = ap (λ (x : Writes). x.issued) is
 issued-without (Some n) h h' is = ap (λ (x : Writes). x.issued) is
 
 -- a start issues no write
-pub issued-same : (res : Result (Option WriteId) Refusal) (h h' : Writes) → IfOk res (λ a. h' ≡ without_acked (number_of a) h) → OnErr res (h' ≡ h) → h'.issued ≡ h.issued
-issued-same (Ok a) h h' is same = issued-without (number_of a) h h' is
+pub issued-same : (res : Result (Option WriteId) Refusal) (h h' : Writes) → IfOk res (λ a. h' ≡ without_acked (write_number a) h) → OnErr res (h' ≡ h) → h'.issued ≡ h.issued
+issued-same (Ok a) h h' is same = issued-without (write_number a) h h' is
 issued-same (Err e) h h' is same = ap (λ (x : Writes). x.issued) same

@@ -20,12 +20,12 @@ pub record Comes (armed : ℕ → Bool) (w : World) (p : Plan) (u : World) (a : 
   pub answer : answered p u.control refusal ≡ a
 
 -- the number of a write, if there is one
-abbrev pub number_of : Option WriteId → Option ℕ
-number_of a = option_map (λ (w : WriteId). w.0) a
+abbrev pub write_number : Option WriteId → Option ℕ
+write_number a = option_map (λ (w : WriteId). w.0) a
 
 -- what a start answers by the end of its call
 abbrev pub start_answer : Result (Option WriteId) Refusal → Said
-start_answer (Ok a) = says_acked (number_of a)
+start_answer (Ok a) = says_acked (write_number a)
 start_answer (Err r) = Refused r
 
 -- what the end of the holds answers

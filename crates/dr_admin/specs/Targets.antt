@@ -14,20 +14,20 @@ mirrored_from s t b place =
     filter (λ u. is_mirrored_target (volume_seen s t u).fields) (filter (λ u. copies_from b (volume_seen s t u).fields) (ids_of (drop place t.volumes)))
 
 -- a target of b that the configuration has
-pub record IsTarget (s : PlantState) (t : ConfigTable) (b u : ℕ) : Type 0 where
+pub record IsDefinedTarget (s : PlantState) (t : ConfigTable) (b u : ℕ) : Type 0 where
   pub defined : is_some (place_of t u) ≡ true
   pub target : copies_from b (volume_seen s t u).fields ≡ true
 
 -- such a target is the first of them, and the others stand behind its place; or there is none
 pub record IsFirst (s : PlantState) (t : ConfigTable) (b from : ℕ) (f : Found) : Type 0 where
   pub first : mirrored_from s t b from ≡ f.volume.0 ∷ mirrored_from s t b (f.place + 1)
-  pub is : IsTarget s t b f.volume.0
+  pub is : IsDefinedTarget s t b f.volume.0
   pub low : f.place < 64
 
 -- none from this place on, or the first of them with whether another follows
-abbrev pub IsNext : PlantState → ConfigTable → ℕ → ℕ → Option Found → Type 0
-IsNext s t b from None = mirrored_from s t b from ≡ []
-IsNext s t b from (Some f) = IsFirst s t b from f
+abbrev pub IsNextTarget : PlantState → ConfigTable → ℕ → ℕ → Option Found → Type 0
+IsNextTarget s t b from None = mirrored_from s t b from ≡ []
+IsNextTarget s t b from (Some f) = IsFirst s t b from f
 
 -- the volumes of a member are there, and their servers are on
 pub record IsTargetReady (s : PlantState) (t : ConfigTable) (m : Member) : Type 0 where

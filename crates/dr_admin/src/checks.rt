@@ -95,28 +95,28 @@ fn place_refusal(ss: &Sessions, m: &Member) -> Option<Refusal>
 
 /// The member that a would be of a session. Refused for all reasons for which it can't become one, in order.
 pub(crate) fn new_member<P: Plant>(
-    p: &P,
-    c: &Config,
+    plant: &P,
+    config: &Config,
     ss: &Sessions,
     l: Lss,
     a: VolumeId,
     s: SessionId,
 ) -> Result<Member, Refusal>
-    requires rest { IsAtRest (P.state p.now) c.now }
-    requires fit { RelationsFit (P.state p.now) c.now }
-    requires defined { IsSome (place_of c.now a.0) }
-    requires partner { is_part (volume_seen (P.state p.now) c.now a.0).fields.primary ≡ true → IsSome (place_of c.now (volume_seen (P.state p.now) c.now a.0).fields.primary_partner) }
+    requires rest { IsAtRest (P.state plant.now) config.now }
+    requires fit { RelationsFit (P.state plant.now) config.now }
+    requires defined { IsSome (place_of config.now a.0) }
+    requires partner { is_part (volume_seen (P.state plant.now) config.now a.0).fields.primary ≡ true → IsSome (place_of config.now (volume_seen (P.state plant.now) config.now a.0).fields.primary_partner) }
     requires session { IsSome (model.session_in ss.now.sessions s.0) }
-    ensures refused { (r : Rest) (events : List Event) → r.sessions ≡ ss.now.sessions → result_err result ≡ enrol_refusal (world_seen (P.state p.now) c.now r events).control (model.session_in ss.now.sessions s.0) l.0 a.0 }
-    ensures member { IfOk result (λ m. (r : Rest) (events : List Event) → member_planned (world_seen (P.state p.now) c.now r events).control a.0 ≡ Some m) }
-    ensures ready { IfOk result (λ m. IsTargetReady (P.state p.now) c.now m) }
+    ensures refused { (r : Rest) (events : List Event) → r.sessions ≡ ss.now.sessions → result_err result ≡ enrol_refusal (world_seen (P.state plant.now) config.now r events).control (model.session_in ss.now.sessions s.0) l.0 a.0 }
+    ensures member { IfOk result (λ m. (r : Rest) (events : List Event) → member_planned (world_seen (P.state plant.now) config.now r events).control a.0 ≡ Some m) }
+    ensures ready { IfOk result (λ m. IsTargetReady (P.state plant.now) config.now m) }
     ensures free { IfOk result (λ m. model.add_refusal (model.session_in ss.now.sessions s.0) m ss.now.sessions ≡ None) }
     ensures calm { is_stop (refusal_of result) ≡ false }
 {
     if let Some(why) = session_refusal(ss, s, l, a) {
         return Err(why);
     }
-    match pair_member(p, c, a) {
+    match pair_member(plant, config, a) {
         Ok(m) => match place_refusal(ss, &m) {
             Some(why) => Err(why),
             None => Ok(m),

@@ -28,29 +28,29 @@ use dr_session::Sessions;
 
 /// The attempt of the primary and the floor of the target of a member are raised to n, where they are lower.
 fn raise_both<P: Plant>(
-    p: &mut P,
-    c: &Config,
-    j: &mut Journal,
+    plant: &mut P,
+    config: &Config,
+    journal: &mut Journal,
     m: &Member,
     n: u32,
 ) -> Result<(), Refusal>
-    requires rest { IsAtRest (P.state p.old) c.now }
-    requires fit { RelationsFit (P.state p.old) c.now }
-    requires ready { IsTargetReady (P.state p.old) c.now m.now }
-    requires room { 1 ≤ j.old.spare }
-    ensures carried { (r : Rest) → Ends (armed_in (P.state p.old)) (world_seen (P.state p.new) c.now r j.new.events) (flash.refusal_of result) (world_seen (P.state p.old) c.now r j.old.events) (add_entries m.now n) }
+    requires rest { IsAtRest (P.state plant.old) config.now }
+    requires fit { RelationsFit (P.state plant.old) config.now }
+    requires ready { IsTargetReady (P.state plant.old) config.now m.now }
+    requires room { 1 ≤ journal.old.spare }
+    ensures carried { (r : Rest) → Ends (armed_in (P.state plant.old)) (world_seen (P.state plant.new) config.now r journal.new.events) (flash.refusal_of result) (world_seen (P.state plant.old) config.now r journal.old.events) (add_entries m.now n) }
     ensures stops { OnErr result (is_stop (flash.refusal_of result) ≡ true) }
-    ensures rest { IsAtRest (P.state p.new) c.now }
-    ensures fit { RelationsFit (P.state p.new) c.now }
-    ensures unarmed { (q : ℕ) → (P.state p.old).read_fuse q ≡ None → (P.state p.new).read_fuse q ≡ None }
-    ensures faults { Counted (is_stop (flash.refusal_of result)) (P.state p.old).faults (P.state p.new).faults }
-    ensures on { OnOk result ((P.state p.new).on ≡ (P.state p.old).on) }
-    ensures room { j.old.spare ≤ j.new.spare + 1 }
-    ensures room_left { OnOk result (j.old.spare ≡ j.new.spare) }
-    ensures spare { length j.new.events + j.new.spare ≡ length j.old.events + j.old.spare }
+    ensures rest { IsAtRest (P.state plant.new) config.now }
+    ensures fit { RelationsFit (P.state plant.new) config.now }
+    ensures unarmed { (q : ℕ) → (P.state plant.old).read_fuse q ≡ None → (P.state plant.new).read_fuse q ≡ None }
+    ensures faults { Counted (is_stop (flash.refusal_of result)) (P.state plant.old).faults (P.state plant.new).faults }
+    ensures on { OnOk result ((P.state plant.new).on ≡ (P.state plant.old).on) }
+    ensures room { journal.old.spare ≤ journal.new.spare + 1 }
+    ensures room_left { OnOk result (journal.old.spare ≡ journal.new.spare) }
+    ensures spare { length journal.new.events + journal.new.spare ≡ length journal.old.events + journal.old.spare }
 {
-    match raise_attempt(p, c, j, m.a, n) {
-        Ok(()) => raise_floor(p, c, j, m.c, n),
+    match raise_attempt(plant, config, journal, m.a, n) {
+        Ok(()) => raise_floor(plant, config, journal, m.c, n),
         Err(why) => Err(why),
     }
 }
@@ -67,47 +67,47 @@ fn raise_both<P: Plant>(
 /// read; what was done by then stays, and the sessions are as they were. Nothing is told but a stop. The journal needs room for
 /// an event.
 pub fn enrol<P: Plant>(
-    p: &mut P,
-    c: &Config,
-    j: &mut Journal,
+    plant: &mut P,
+    config: &Config,
+    journal: &mut Journal,
     ss: &mut Sessions,
     l: Lss,
     a: VolumeId,
     s: SessionId,
 ) -> Result<(), Fault>
-    requires rest { IsAtRest (P.state p.old) c.now }
-    requires fit { RelationsFit (P.state p.old) c.now }
-    requires defined { IsSome (place_of c.now a.0) }
-    requires partner { is_part (volume_seen (P.state p.old) c.now a.0).fields.primary ≡ true → IsSome (place_of c.now (volume_seen (P.state p.old) c.now a.0).fields.primary_partner) }
+    requires rest { IsAtRest (P.state plant.old) config.now }
+    requires fit { RelationsFit (P.state plant.old) config.now }
+    requires defined { IsSome (place_of config.now a.0) }
+    requires partner { is_part (volume_seen (P.state plant.old) config.now a.0).fields.primary ≡ true → IsSome (place_of config.now (volume_seen (P.state plant.old) config.now a.0).fields.primary_partner) }
     requires session { IsSome (model.session_in ss.old.sessions s.0) }
-    requires room { 1 ≤ j.old.spare }
-    ensures plan { (r : Rest) → AddsSo (world_seen (P.state p.old) c.now r j.old.events).control s.0 (model.session_in ss.old.sessions s.0) l.0 a.0 }
-    ensures refused { (r : Rest) → r.sessions ≡ ss.old.sessions → unless_stop (refusal_of result) ≡ enrol_refusal (world_seen (P.state p.old) c.now r j.old.events).control (model.session_in ss.old.sessions s.0) l.0 a.0 }
-    ensures carried { OnOk result ((r : Rest) → Ends (armed_in (P.state p.old)) (world_seen (P.state p.new) c.now r j.new.events) None (world_seen (P.state p.old) c.now r j.old.events)
-        (entries_planned (world_seen (P.state p.old) c.now r j.old.events).control (model.session_in ss.old.sessions s.0) (member_planned (world_seen (P.state p.old) c.now r j.old.events).control a.0))) }
-    ensures stopped { is_stop (refusal_of result) ≡ true → (r : Rest) → Ends (armed_in (P.state p.old)) (world_seen (P.state p.new) c.now r j.new.events) (refusal_of result) (world_seen (P.state p.old) c.now r j.old.events)
-        (entries_planned (world_seen (P.state p.old) c.now r j.old.events).control (model.session_in ss.old.sessions s.0) (member_planned (world_seen (P.state p.old) c.now r j.old.events).control a.0)) }
-    ensures added { OnOk result ((r : Rest) → ss.new.sessions ≡ sessions_planned (world_seen (P.state p.old) c.now r j.old.events).control s.0 (model.session_in ss.old.sessions s.0) (member_planned (world_seen (P.state p.old) c.now r j.old.events).control a.0) ss.old.sessions) }
+    requires room { 1 ≤ journal.old.spare }
+    ensures plan { (r : Rest) → AddsSo (world_seen (P.state plant.old) config.now r journal.old.events).control s.0 (model.session_in ss.old.sessions s.0) l.0 a.0 }
+    ensures refused { (r : Rest) → r.sessions ≡ ss.old.sessions → unless_stop (refusal_of result) ≡ enrol_refusal (world_seen (P.state plant.old) config.now r journal.old.events).control (model.session_in ss.old.sessions s.0) l.0 a.0 }
+    ensures carried { OnOk result ((r : Rest) → Ends (armed_in (P.state plant.old)) (world_seen (P.state plant.new) config.now r journal.new.events) None (world_seen (P.state plant.old) config.now r journal.old.events)
+        (entries_planned (world_seen (P.state plant.old) config.now r journal.old.events).control (model.session_in ss.old.sessions s.0) (member_planned (world_seen (P.state plant.old) config.now r journal.old.events).control a.0))) }
+    ensures stopped { is_stop (refusal_of result) ≡ true → (r : Rest) → Ends (armed_in (P.state plant.old)) (world_seen (P.state plant.new) config.now r journal.new.events) (refusal_of result) (world_seen (P.state plant.old) config.now r journal.old.events)
+        (entries_planned (world_seen (P.state plant.old) config.now r journal.old.events).control (model.session_in ss.old.sessions s.0) (member_planned (world_seen (P.state plant.old) config.now r journal.old.events).control a.0)) }
+    ensures added { OnOk result ((r : Rest) → ss.new.sessions ≡ sessions_planned (world_seen (P.state plant.old) config.now r journal.old.events).control s.0 (model.session_in ss.old.sessions s.0) (member_planned (world_seen (P.state plant.old) config.now r journal.old.events).control a.0) ss.old.sessions) }
     ensures same { OnErr result (ss.new.sessions ≡ ss.old.sessions) }
-    ensures unchanged { is_stop (refusal_of result) ≡ false → OnErr result ((P.state p.new ≡ P.state p.old) × (j.new ≡ j.old)) }
-    ensures rest { IsAtRest (P.state p.new) c.now }
-    ensures fit { RelationsFit (P.state p.new) c.now }
-    ensures unarmed { (q : ℕ) → (P.state p.old).read_fuse q ≡ None → (P.state p.new).read_fuse q ≡ None }
-    ensures faults { Counted (is_stop (refusal_of result)) (P.state p.old).faults (P.state p.new).faults }
-    ensures on { OnOk result ((P.state p.new).on ≡ (P.state p.old).on) }
-    ensures room { j.old.spare ≤ j.new.spare + 1 }
-    ensures room_left { OnOk result (j.old.spare ≡ j.new.spare) }
-    ensures spare { length j.new.events + j.new.spare ≡ length j.old.events + j.old.spare }
+    ensures unchanged { is_stop (refusal_of result) ≡ false → OnErr result ((P.state plant.new ≡ P.state plant.old) × (journal.new ≡ journal.old)) }
+    ensures rest { IsAtRest (P.state plant.new) config.now }
+    ensures fit { RelationsFit (P.state plant.new) config.now }
+    ensures unarmed { (q : ℕ) → (P.state plant.old).read_fuse q ≡ None → (P.state plant.new).read_fuse q ≡ None }
+    ensures faults { Counted (is_stop (refusal_of result)) (P.state plant.old).faults (P.state plant.new).faults }
+    ensures on { OnOk result ((P.state plant.new).on ≡ (P.state plant.old).on) }
+    ensures room { journal.old.spare ≤ journal.new.spare + 1 }
+    ensures room_left { OnOk result (journal.old.spare ≡ journal.new.spare) }
+    ensures spare { length journal.new.events + journal.new.spare ≡ length journal.old.events + journal.old.spare }
 {
-    let m = match new_member(p, c, ss, l, a, s) {
+    let m = match new_member(plant, config, ss, l, a, s) {
         Ok(m) => m,
         Err(why) => return Err(Fault::Refused(why)),
     };
     if ss.reserve().is_err() {
         return Err(Fault::NoMemory);
     }
-    let n = first_number(p, c, ss, s, &m);
-    match raise_both(p, c, j, &m, n) {
+    let n = first_number(plant, config, ss, s, &m);
+    match raise_both(plant, config, journal, &m, n) {
         Ok(()) => {
             take_in(ss, s, m, n);
             Ok(())

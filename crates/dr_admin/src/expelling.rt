@@ -25,16 +25,16 @@ use dr_session::Sessions;
 /// The member that leaves. Refused where a is no member of the session, where its master isn't Idle, and where the server of
 /// the member's target is off.
 fn leaving_member<P: Plant>(
-    p: &P,
-    c: &Config,
+    plant: &P,
+    config: &Config,
     ss: &Sessions,
     a: VolumeId,
     s: SessionId,
 ) -> Result<Member, Refusal>
-    requires target { TargetDefined c.now (member_in a.0 (model.session_in ss.now.sessions s.0)) }
-    ensures refused { (r : Rest) (events : List Event) → result_err result ≡ expel_refusal (world_seen (P.state p.now) c.now r events).control s.0 (model.session_in ss.now.sessions s.0) (member_in a.0 (model.session_in ss.now.sessions s.0)) }
+    requires target { TargetDefined config.now (member_in a.0 (model.session_in ss.now.sessions s.0)) }
+    ensures refused { (r : Rest) (events : List Event) → result_err result ≡ expel_refusal (world_seen (P.state plant.now) config.now r events).control s.0 (model.session_in ss.now.sessions s.0) (member_in a.0 (model.session_in ss.now.sessions s.0)) }
     ensures member { IfOk result (λ m. member_in a.0 (model.session_in ss.now.sessions s.0) ≡ Some m) }
-    ensures running { IfOk result (λ m. (P.state p.now).on (volume_seen (P.state p.now) c.now m.c.0).server ≡ true) }
+    ensures running { IfOk result (λ m. (P.state plant.now).on (volume_seen (P.state plant.now) config.now m.c.0).server ≡ true) }
     ensures free { IfOk result (λ m. model.remove_refusal (model.session_in ss.now.sessions s.0) s.0 m.a.0 ≡ None) }
     ensures calm { is_stop (refusal_of result) ≡ false }
 {
@@ -44,8 +44,8 @@ fn leaving_member<P: Plant>(
     if let Some(why) = ss.busy(s) {
         return Err(why);
     }
-    let server = server_of(c, m.c);
-    if !p.is_on(server.0) {
+    let server = server_of(config, m.c);
+    if !plant.is_on(server.0) {
         return Err(Refusal::ServerOff { server });
     }
     Ok(m)
@@ -66,38 +66,38 @@ fn take_out(ss: &mut Sessions, s: SessionId, a: VolumeId)
 /// master isn't Idle; and where the server of the member's target is off. Then nothing has changed. Fails too where that server
 /// stops in the move or goes off at a read; then the sessions are as they were. The journal needs room for two events.
 pub fn expel<P: Plant>(
-    p: &mut P,
-    c: &Config,
-    j: &mut Journal,
+    plant: &mut P,
+    config: &Config,
+    journal: &mut Journal,
     ss: &mut Sessions,
     a: VolumeId,
     s: SessionId,
 ) -> Result<(), Refusal>
-    requires rest { IsAtRest (P.state p.old) c.now }
-    requires fit { RelationsFit (P.state p.old) c.now }
-    requires target { TargetDefined c.now (member_in a.0 (model.session_in ss.old.sessions s.0)) }
-    requires room { 2 ≤ j.old.spare }
-    ensures plan { (r : Rest) → ExpelsSo (world_seen (P.state p.old) c.now r j.old.events).control s.0 (model.session_in ss.old.sessions s.0) a.0 }
-    ensures refused { (r : Rest) → unless_stop (refusal_of result) ≡ expel_refusal (world_seen (P.state p.old) c.now r j.old.events).control s.0 (model.session_in ss.old.sessions s.0) (member_in a.0 (model.session_in ss.old.sessions s.0)) }
-    ensures carried { OnOk result ((r : Rest) → Ends (armed_in (P.state p.old)) (world_seen (P.state p.new) c.now r j.new.events) None (world_seen (P.state p.old) c.now r j.old.events) (entries_without s.0 (member_in a.0 (model.session_in ss.old.sessions s.0)))) }
-    ensures stopped { is_stop (refusal_of result) ≡ true → (r : Rest) → Ends (armed_in (P.state p.old)) (world_seen (P.state p.new) c.now r j.new.events) (refusal_of result) (world_seen (P.state p.old) c.now r j.old.events) (entries_without s.0 (member_in a.0 (model.session_in ss.old.sessions s.0))) }
+    requires rest { IsAtRest (P.state plant.old) config.now }
+    requires fit { RelationsFit (P.state plant.old) config.now }
+    requires target { TargetDefined config.now (member_in a.0 (model.session_in ss.old.sessions s.0)) }
+    requires room { 2 ≤ journal.old.spare }
+    ensures plan { (r : Rest) → ExpelsSo (world_seen (P.state plant.old) config.now r journal.old.events).control s.0 (model.session_in ss.old.sessions s.0) a.0 }
+    ensures refused { (r : Rest) → unless_stop (refusal_of result) ≡ expel_refusal (world_seen (P.state plant.old) config.now r journal.old.events).control s.0 (model.session_in ss.old.sessions s.0) (member_in a.0 (model.session_in ss.old.sessions s.0)) }
+    ensures carried { OnOk result ((r : Rest) → Ends (armed_in (P.state plant.old)) (world_seen (P.state plant.new) config.now r journal.new.events) None (world_seen (P.state plant.old) config.now r journal.old.events) (entries_without s.0 (member_in a.0 (model.session_in ss.old.sessions s.0)))) }
+    ensures stopped { is_stop (refusal_of result) ≡ true → (r : Rest) → Ends (armed_in (P.state plant.old)) (world_seen (P.state plant.new) config.now r journal.new.events) (refusal_of result) (world_seen (P.state plant.old) config.now r journal.old.events) (entries_without s.0 (member_in a.0 (model.session_in ss.old.sessions s.0))) }
     ensures removed { OnOk result (ss.new.sessions ≡ sessions_without s.0 (member_in a.0 (model.session_in ss.old.sessions s.0)) ss.old.sessions) }
     ensures same { OnErr result (ss.new.sessions ≡ ss.old.sessions) }
-    ensures unchanged { is_stop (refusal_of result) ≡ false → OnErr result ((P.state p.new ≡ P.state p.old) × (j.new ≡ j.old)) }
-    ensures rest { IsAtRest (P.state p.new) c.now }
-    ensures fit { RelationsFit (P.state p.new) c.now }
-    ensures unarmed { (q : ℕ) → (P.state p.old).read_fuse q ≡ None → (P.state p.new).read_fuse q ≡ None }
-    ensures faults { Counted (is_stop (refusal_of result)) (P.state p.old).faults (P.state p.new).faults }
-    ensures on { OnOk result ((P.state p.new).on ≡ (P.state p.old).on) }
-    ensures room { j.old.spare ≤ j.new.spare + 2 }
-    ensures room_left { OnOk result (j.old.spare ≡ j.new.spare + 1) }
-    ensures spare { length j.new.events + j.new.spare ≡ length j.old.events + j.old.spare }
+    ensures unchanged { is_stop (refusal_of result) ≡ false → OnErr result ((P.state plant.new ≡ P.state plant.old) × (journal.new ≡ journal.old)) }
+    ensures rest { IsAtRest (P.state plant.new) config.now }
+    ensures fit { RelationsFit (P.state plant.new) config.now }
+    ensures unarmed { (q : ℕ) → (P.state plant.old).read_fuse q ≡ None → (P.state plant.new).read_fuse q ≡ None }
+    ensures faults { Counted (is_stop (refusal_of result)) (P.state plant.old).faults (P.state plant.new).faults }
+    ensures on { OnOk result ((P.state plant.new).on ≡ (P.state plant.old).on) }
+    ensures room { journal.old.spare ≤ journal.new.spare + 2 }
+    ensures room_left { OnOk result (journal.old.spare ≡ journal.new.spare + 1) }
+    ensures spare { length journal.new.events + journal.new.spare ≡ length journal.old.events + journal.old.spare }
 {
-    let m = match leaving_member(p, c, ss, a, s) {
+    let m = match leaving_member(plant, config, ss, a, s) {
         Ok(m) => m,
         Err(why) => return Err(why),
     };
-    match leave(p, c, j, m.c, m.a, s) {
+    match leave(plant, config, journal, m.c, m.a, s) {
         Ok(()) => {
             take_out(ss, s, m.a);
             Ok(())

@@ -31,22 +31,22 @@ fn greatest(last: u32, a: &Head, b: &Head, c: &Head) -> u32
 /// The number from which attempts with member m of the session count: neither the session nor one of the three volumes has
 /// seen a greater one.
 pub(crate) fn first_number<P: Plant>(
-    p: &P,
-    c: &Config,
+    plant: &P,
+    config: &Config,
     ss: &Sessions,
     s: SessionId,
     m: &Member,
 ) -> u32
-    requires stands { StandsFor c.now (P.state p.now) }
-    requires primary { IsSome (place_of c.now m.now.a.0) }
-    requires secondary { IsSome (place_of c.now m.now.b.0) }
-    requires target { IsSome (place_of c.now m.now.c.0) }
+    requires stands { StandsFor config.now (P.state plant.now) }
+    requires primary { IsSome (place_of config.now m.now.a.0) }
+    requires secondary { IsSome (place_of config.now m.now.b.0) }
+    requires target { IsSome (place_of config.now m.now.c.0) }
     requires session { IsSome (model.session_in ss.now.sessions s.0) }
-    ensures { (r : Rest) (events : List Event) → Some result ≡ option_map (λ x. entries.first_number (world_seen (P.state p.now) c.now r events).control x.last m.now) (model.session_in ss.now.sessions s.0) }
+    ensures { (r : Rest) (events : List Event) → Some result ≡ option_map (λ x. entries.first_number (world_seen (P.state plant.now) config.now r events).control x.last m.now) (model.session_in ss.now.sessions s.0) }
 {
     let last = ss.last(s).unwrap();
-    let a = peek_head(p, c, m.a);
-    let b = peek_head(p, c, m.b);
-    let target = peek_head(p, c, m.c);
+    let a = peek_head(plant, config, m.a);
+    let b = peek_head(plant, config, m.b);
+    let target = peek_head(plant, config, m.c);
     greatest(last, &a, &b, &target)
 }

@@ -7,10 +7,10 @@ use dr_config::Config;
 use dr_ids::{ServerId, VolumeId};
 
 /// Whether a volume is defined, and the server's.
-pub(crate) fn belongs(c: &Config, v: VolumeId, s: ServerId) -> bool
-    ensures { result ≡ has_owner c.now v.0 s.0 }
+pub(crate) fn belongs(config: &Config, v: VolumeId, s: ServerId) -> bool
+    ensures { result ≡ has_owner config.now v.0 s.0 }
 {
-    match c.server_of(v) {
+    match config.server_of(v) {
         Some(owner) => owner.0 == s.0,
         None => false,
     }

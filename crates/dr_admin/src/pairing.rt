@@ -23,49 +23,53 @@ use dr_volume::peek_head;
 
 /// Why no member can be made of a and its secondary, as far as their pair says: the server of a is off, a is no Global Copy
 /// primary, its secondary can't be reached from it, or hasn't the part for it.
-fn copy_refusal<P: Plant>(p: &P, c: &Config, a: VolumeId) -> Option<Refusal>
-    requires rest { IsAtRest (P.state p.now) c.now }
-    requires defined { IsSome (place_of c.now a.0) }
-    requires partner { is_part (volume_seen (P.state p.now) c.now a.0).fields.primary ≡ true → IsSome (place_of c.now (volume_seen (P.state p.now) c.now a.0).fields.primary_partner) }
-    ensures refusal { (r : Rest) (events : List Event) → result ≡ plans.copy_refusal (world_seen (P.state p.now) c.now r events).control a.0 }
-    ensures running { OnNone result ((P.state p.now).on (volume_seen (P.state p.now) c.now a.0).server ≡ true) }
-    ensures partner { OnNone result (IsSome (place_of c.now (volume_seen (P.state p.now) c.now a.0).fields.primary_partner)) }
-    ensures reached { OnNone result ((P.state p.now).on (volume_seen (P.state p.now) c.now (volume_seen (P.state p.now) c.now a.0).fields.primary_partner).server ≡ true) }
+fn copy_refusal<P: Plant>(plant: &P, config: &Config, a: VolumeId) -> Option<Refusal>
+    requires rest { IsAtRest (P.state plant.now) config.now }
+    requires defined { IsSome (place_of config.now a.0) }
+    requires partner { is_part (volume_seen (P.state plant.now) config.now a.0).fields.primary ≡ true → IsSome (place_of config.now (volume_seen (P.state plant.now) config.now a.0).fields.primary_partner) }
+    ensures refusal { (r : Rest) (events : List Event) → result ≡ plans.copy_refusal (world_seen (P.state plant.now) config.now r events).control a.0 }
+    ensures running { OnNone result ((P.state plant.now).on (volume_seen (P.state plant.now) config.now a.0).server ≡ true) }
+    ensures partner { OnNone result (IsSome (place_of config.now (volume_seen (P.state plant.now) config.now a.0).fields.primary_partner)) }
+    ensures reached { OnNone result ((P.state plant.now).on (volume_seen (P.state plant.now) config.now (volume_seen (P.state plant.now) config.now a.0).fields.primary_partner).server ≡ true) }
     ensures calm { is_stop result ≡ false }
 {
-    let server = server_of(c, a);
-    if !p.is_on(server.0) {
+    let server = server_of(config, a);
+    if !plant.is_on(server.0) {
         return Some(Refusal::ServerOff { server });
     }
-    let f = peek_head(p, c, a);
+    let f = peek_head(plant, config, a);
     if !f.primary.is_global() {
-        return Some(pair_state(p, c, a));
+        return Some(pair_state(plant, config, a));
     }
-    send_refusal(p, c, a, f.primary_partner)
+    send_refusal(plant, config, a, f.primary_partner)
 }
 
 /// The member that primary a makes with its secondary and the target of that. Refused where the server of a is off, where a is
 /// no Global Copy primary, where its secondary can't be reached from it or hasn't the part for it, and where not just one
 /// relationship of the secondary is recorded and inhibited, or that one is revertible or reversing.
-pub(crate) fn pair_member<P: Plant>(p: &P, c: &Config, a: VolumeId) -> Result<Member, Refusal>
-    requires rest { IsAtRest (P.state p.now) c.now }
-    requires fit { RelationsFit (P.state p.now) c.now }
-    requires defined { IsSome (place_of c.now a.0) }
-    requires partner { is_part (volume_seen (P.state p.now) c.now a.0).fields.primary ≡ true → IsSome (place_of c.now (volume_seen (P.state p.now) c.now a.0).fields.primary_partner) }
-    ensures refused { (r : Rest) (events : List Event) → result_err result ≡ pair_refusal (world_seen (P.state p.now) c.now r events).control a.0 }
-    ensures member { IfOk result (λ m. (r : Rest) (events : List Event) → member_planned (world_seen (P.state p.now) c.now r events).control a.0 ≡ Some m) }
-    ensures ready { IfOk result (λ m. IsTargetReady (P.state p.now) c.now m) }
+pub(crate) fn pair_member<P: Plant>(
+    plant: &P,
+    config: &Config,
+    a: VolumeId,
+) -> Result<Member, Refusal>
+    requires rest { IsAtRest (P.state plant.now) config.now }
+    requires fit { RelationsFit (P.state plant.now) config.now }
+    requires defined { IsSome (place_of config.now a.0) }
+    requires partner { is_part (volume_seen (P.state plant.now) config.now a.0).fields.primary ≡ true → IsSome (place_of config.now (volume_seen (P.state plant.now) config.now a.0).fields.primary_partner) }
+    ensures refused { (r : Rest) (events : List Event) → result_err result ≡ pair_refusal (world_seen (P.state plant.now) config.now r events).control a.0 }
+    ensures member { IfOk result (λ m. (r : Rest) (events : List Event) → member_planned (world_seen (P.state plant.now) config.now r events).control a.0 ≡ Some m) }
+    ensures ready { IfOk result (λ m. IsTargetReady (P.state plant.now) config.now m) }
     ensures primary { IfOk result (λ m. m.a ≡ a) }
     ensures calm { is_stop (refusal_of result) ≡ false }
 {
-    if let Some(why) = copy_refusal(p, c, a) {
+    if let Some(why) = copy_refusal(plant, config, a) {
         return Err(why);
     }
-    let b = peek_head(p, c, a).primary_partner;
-    let Some(target) = member_target(p, c, b) else {
-        return Err(relation_state(p, c, b));
+    let b = peek_head(plant, config, a).primary_partner;
+    let Some(target) = member_target(plant, config, b) else {
+        return Err(relation_state(plant, config, b));
     };
-    let server = server_of(c, a);
+    let server = server_of(config, a);
     Ok(Member {
         a,
         b,

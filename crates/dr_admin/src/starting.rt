@@ -16,7 +16,7 @@ ghost use Rattle.dr_model.specs.WriteEntries.{redo_on, restart_on};
 ghost use Rattle.dr_volume.specs.View.{Rest, IsSettled};
 ghost use Rattle.dr_flash.specs.Here.{world_seen, refusal_of, armed_in, IsAtRest};
 ghost use Rattle.dr_flash.specs.Turns.{Advances, Halts, Leads, Fails};
-ghost use Rattle.dr_admin.specs.Answering.{Comes, number_of, start_answer};
+ghost use Rattle.dr_admin.specs.Answering.{Comes, write_number, start_answer};
 ghost use Rattle.dr_admin.specs.Starting.{hosted, IsStarting, start_from, acked_at, without_acked, acks, start_events};
 
 use crate::owners::belongs;
@@ -30,54 +30,54 @@ use dr_volume::redo;
 
 /// Acknowledges the write that had landed on a volume of the server in a stop, where there is one, and gives its number. The
 /// journal needs room for an event.
-fn acknowledge(c: &Config, j: &mut Journal, h: &mut Host, s: ServerId) -> Option<WriteId>
-    requires room { 1 ≤ j.old.spare }
-    ensures number { number_of result ≡ landed_on c.now s.0 h.old.pending }
-    ensures carried { (x : PlantState) (r : Rest) (armed : ℕ → Bool) → Ends armed (hosted x c.now r h.new j.new.events) None (hosted x c.now r h.old j.old.events) (acknowledge_on s.0 ∷ []) }
-    ensures host { h.new ≡ without_acked (number_of result) h.old }
-    ensures told { j.new.events ≡ j.old.events ++ acks (number_of result) }
-    ensures room { j.old.spare ≡ j.new.spare + length (acks (number_of result)) }
+fn acknowledge(config: &Config, journal: &mut Journal, h: &mut Host, s: ServerId) -> Option<WriteId>
+    requires room { 1 ≤ journal.old.spare }
+    ensures number { write_number result ≡ landed_on config.now s.0 h.old.pending }
+    ensures carried { (x : PlantState) (r : Rest) (armed : ℕ → Bool) → Ends armed (hosted x config.now r h.new journal.new.events) None (hosted x config.now r h.old journal.old.events) (acknowledge_on s.0 ∷ []) }
+    ensures host { h.new ≡ without_acked (write_number result) h.old }
+    ensures told { journal.new.events ≡ journal.old.events ++ acks (write_number result) }
+    ensures room { journal.old.spare ≡ journal.new.spare + length (acks (write_number result)) }
 {
-    let Some(w) = h.landed_on(c, s) else {
+    let Some(w) = h.landed_on(config, s) else {
         return None;
     };
     h.finish(w);
-    j.push(Event::Ack { w: w.0 });
+    journal.push(Event::Ack { w: w.0 });
     Some(w)
 }
 
 /// Writes the staged track of the server's volume at a place to its own place.
 fn redo_own<P: Plant>(
-    p: &mut P,
-    c: &Config,
-    j: &mut Journal,
+    plant: &mut P,
+    config: &Config,
+    journal: &mut Journal,
     s: ServerId,
     v: VolumeId,
     place: usize,
 ) -> Result<(), Refusal>
-    requires starting { IsStarting (P.state p.old) c.now s.0 place }
+    requires starting { IsStarting (P.state plant.old) config.now s.0 place }
     requires known { s.0 < 8 }
-    requires at { place_of c.now v.0 ≡ Some place }
-    requires owned { has_owner c.now v.0 s.0 ≡ true }
-    requires room { 1 ≤ j.old.spare }
-    ensures advances { OnOk result ((r : Rest) → Advances (world_seen (P.state p.old) c.now r j.old.events) (redo_on s.0 v.0) (world_seen (P.state p.new) c.now r j.new.events)) }
-    ensures halts { OnErr result ((r : Rest) → Halts (armed_in (P.state p.old)) (world_seen (P.state p.old) c.now r j.old.events) (redo_on s.0 v.0) (world_seen (P.state p.new) c.now r j.new.events) (refusal_of result)) }
+    requires at { place_of config.now v.0 ≡ Some place }
+    requires owned { has_owner config.now v.0 s.0 ≡ true }
+    requires room { 1 ≤ journal.old.spare }
+    ensures advances { OnOk result ((r : Rest) → Advances (world_seen (P.state plant.old) config.now r journal.old.events) (redo_on s.0 v.0) (world_seen (P.state plant.new) config.now r journal.new.events)) }
+    ensures halts { OnErr result ((r : Rest) → Halts (armed_in (P.state plant.old)) (world_seen (P.state plant.old) config.now r journal.old.events) (redo_on s.0 v.0) (world_seen (P.state plant.new) config.now r journal.new.events) (refusal_of result)) }
     ensures stopped { OnErr result (refusal_of result ≡ Some (stopped s.0)) }
-    ensures faults { Counted (is_err result) (P.state p.old).faults (P.state p.new).faults }
-    ensures starting { OnOk result (IsStarting (P.state p.new) c.now s.0 (place + 1)) }
-    ensures settled { OnOk result (IsSettled (P.state p.new) c.now v.0) }
-    ensures rest { OnErr result (IsAtRest (P.state p.new) c.now) }
-    ensures unarmed { (q : ℕ) → (P.state p.old).read_fuse q ≡ None → (P.state p.new).read_fuse q ≡ None }
-    ensures on { OnOk result ((P.state p.new).on ≡ (P.state p.old).on) }
-    ensures off { OnErr result ((P.state p.new).on s.0 ≡ false) }
-    ensures told { OnOk result (j.new ≡ j.old) }
-    ensures room { j.old.spare ≤ j.new.spare + 1 }
-    ensures spare { length j.new.events + j.new.spare ≡ length j.old.events + j.old.spare }
+    ensures faults { Counted (is_err result) (P.state plant.old).faults (P.state plant.new).faults }
+    ensures starting { OnOk result (IsStarting (P.state plant.new) config.now s.0 (place + 1)) }
+    ensures settled { OnOk result (IsSettled (P.state plant.new) config.now v.0) }
+    ensures rest { OnErr result (IsAtRest (P.state plant.new) config.now) }
+    ensures unarmed { (q : ℕ) → (P.state plant.old).read_fuse q ≡ None → (P.state plant.new).read_fuse q ≡ None }
+    ensures on { OnOk result ((P.state plant.new).on ≡ (P.state plant.old).on) }
+    ensures off { OnErr result ((P.state plant.new).on s.0 ≡ false) }
+    ensures told { OnOk result (journal.new ≡ journal.old) }
+    ensures room { journal.old.spare ≤ journal.new.spare + 1 }
+    ensures spare { length journal.new.events + journal.new.spare ≡ length journal.old.events + journal.old.spare }
 {
-    match redo(p, c, v) {
+    match redo(plant, config, v) {
         Ok(()) => Ok(()),
         Err(_) => {
-            j.push(Event::Stopped {
+            journal.push(Event::Stopped {
                 server: s.0,
                 write: 0,
             });
@@ -88,126 +88,131 @@ fn redo_own<P: Plant>(
 
 /// Lets the server's volume before a place go on, whose staged track stands at its place.
 fn restart_own<P: Plant>(
-    p: &mut P,
-    c: &Config,
-    j: &mut Journal,
+    plant: &mut P,
+    config: &Config,
+    journal: &mut Journal,
     s: ServerId,
     v: VolumeId,
     place: usize,
 ) -> Result<(), Refusal>
-    requires starting { IsStarting (P.state p.old) c.now s.0 (place + 1) }
-    requires settled { IsSettled (P.state p.old) c.now v.0 }
-    requires at { place_of c.now v.0 ≡ Some place }
-    requires owned { has_owner c.now v.0 s.0 ≡ true }
-    requires room { 1 ≤ j.old.spare }
-    ensures advances { OnOk result ((r : Rest) → Advances (world_seen (P.state p.old) c.now r j.old.events) (restart_on s.0 v.0) (world_seen (P.state p.new) c.now r j.new.events)) }
-    ensures halts { OnErr result ((r : Rest) → Halts (armed_in (P.state p.old)) (world_seen (P.state p.old) c.now r j.old.events) (restart_on s.0 v.0) (world_seen (P.state p.new) c.now r j.new.events) (refusal_of result)) }
+    requires starting { IsStarting (P.state plant.old) config.now s.0 (place + 1) }
+    requires settled { IsSettled (P.state plant.old) config.now v.0 }
+    requires at { place_of config.now v.0 ≡ Some place }
+    requires owned { has_owner config.now v.0 s.0 ≡ true }
+    requires room { 1 ≤ journal.old.spare }
+    ensures advances { OnOk result ((r : Rest) → Advances (world_seen (P.state plant.old) config.now r journal.old.events) (restart_on s.0 v.0) (world_seen (P.state plant.new) config.now r journal.new.events)) }
+    ensures halts { OnErr result ((r : Rest) → Halts (armed_in (P.state plant.old)) (world_seen (P.state plant.old) config.now r journal.old.events) (restart_on s.0 v.0) (world_seen (P.state plant.new) config.now r journal.new.events) (refusal_of result)) }
     ensures stopped { OnErr result (refusal_of result ≡ Some (stopped s.0)) }
-    ensures faults { Counted (is_err result) (P.state p.old).faults (P.state p.new).faults }
-    ensures starting { OnOk result (IsStarting (P.state p.new) c.now s.0 (place + 1)) }
-    ensures rest { OnErr result (IsAtRest (P.state p.new) c.now) }
-    ensures unarmed { (q : ℕ) → (P.state p.old).read_fuse q ≡ None → (P.state p.new).read_fuse q ≡ None }
-    ensures on { OnOk result ((P.state p.new).on ≡ (P.state p.old).on) }
-    ensures off { OnErr result ((P.state p.new).on s.0 ≡ false) }
-    ensures told { OnOk result (j.new ≡ j.old) }
-    ensures room { j.old.spare ≤ j.new.spare + 1 }
-    ensures spare { length j.new.events + j.new.spare ≡ length j.old.events + j.old.spare }
+    ensures faults { Counted (is_err result) (P.state plant.old).faults (P.state plant.new).faults }
+    ensures starting { OnOk result (IsStarting (P.state plant.new) config.now s.0 (place + 1)) }
+    ensures rest { OnErr result (IsAtRest (P.state plant.new) config.now) }
+    ensures unarmed { (q : ℕ) → (P.state plant.old).read_fuse q ≡ None → (P.state plant.new).read_fuse q ≡ None }
+    ensures on { OnOk result ((P.state plant.new).on ≡ (P.state plant.old).on) }
+    ensures off { OnErr result ((P.state plant.new).on s.0 ≡ false) }
+    ensures told { OnOk result (journal.new ≡ journal.old) }
+    ensures room { journal.old.spare ≤ journal.new.spare + 1 }
+    ensures spare { length journal.new.events + journal.new.spare ≡ length journal.old.events + journal.old.spare }
 {
-    restart(p, c, j, v)
+    restart(plant, config, journal, v)
 }
 
 /// Lets the volume at a place write its staged track to its own place and go on, where the volume is the server's.
 fn go_on_at<P: Plant>(
-    p: &mut P,
-    c: &Config,
-    j: &mut Journal,
+    plant: &mut P,
+    config: &Config,
+    journal: &mut Journal,
     s: ServerId,
     place: usize,
 ) -> Result<(), Refusal>
-    requires starting { IsStarting (P.state p.old) c.now s.0 place }
+    requires starting { IsStarting (P.state plant.old) config.now s.0 place }
     requires known { s.0 < 8 }
-    requires within { place < length c.now.volumes }
-    requires room { 1 ≤ j.old.spare }
-    ensures goes { OnOk result ((r : Rest) (armed : ℕ → Bool) (u : World) (q : Option Refusal) (ds : List Entry) → Ends armed u q (world_seen (P.state p.new) c.now r j.new.events) (start_from c.now s.0 (place + 1) ++ ds)
-        → Ends armed u q (world_seen (P.state p.old) c.now r j.old.events) (start_from c.now s.0 place ++ ds)) }
-    ensures fails { OnErr result ((r : Rest) → Fails (armed_in (P.state p.old)) (world_seen (P.state p.old) c.now r j.old.events) (start_from c.now s.0 place) (world_seen (P.state p.new) c.now r j.new.events) (refusal_of result)) }
+    requires within { place < length config.now.volumes }
+    requires room { 1 ≤ journal.old.spare }
+    ensures goes { OnOk result ((r : Rest) (armed : ℕ → Bool) (u : World) (q : Option Refusal) (ds : List Entry) → Ends armed u q (world_seen (P.state plant.new) config.now r journal.new.events) (start_from config.now s.0 (place + 1) ++ ds)
+        → Ends armed u q (world_seen (P.state plant.old) config.now r journal.old.events) (start_from config.now s.0 place ++ ds)) }
+    ensures fails { OnErr result ((r : Rest) → Fails (armed_in (P.state plant.old)) (world_seen (P.state plant.old) config.now r journal.old.events) (start_from config.now s.0 place) (world_seen (P.state plant.new) config.now r journal.new.events) (refusal_of result)) }
     ensures stopped { OnErr result (refusal_of result ≡ Some (stopped s.0)) }
-    ensures faults { Counted (is_err result) (P.state p.old).faults (P.state p.new).faults }
-    ensures starting { OnOk result (IsStarting (P.state p.new) c.now s.0 (place + 1)) }
-    ensures rest { OnErr result (IsAtRest (P.state p.new) c.now) }
-    ensures unarmed { (q : ℕ) → (P.state p.old).read_fuse q ≡ None → (P.state p.new).read_fuse q ≡ None }
-    ensures on { OnOk result ((P.state p.new).on ≡ (P.state p.old).on) }
-    ensures off { OnErr result ((P.state p.new).on s.0 ≡ false) }
-    ensures told { OnOk result (j.new ≡ j.old) }
-    ensures room { j.old.spare ≤ j.new.spare + 1 }
-    ensures spare { length j.new.events + j.new.spare ≡ length j.old.events + j.old.spare }
+    ensures faults { Counted (is_err result) (P.state plant.old).faults (P.state plant.new).faults }
+    ensures starting { OnOk result (IsStarting (P.state plant.new) config.now s.0 (place + 1)) }
+    ensures rest { OnErr result (IsAtRest (P.state plant.new) config.now) }
+    ensures unarmed { (q : ℕ) → (P.state plant.old).read_fuse q ≡ None → (P.state plant.new).read_fuse q ≡ None }
+    ensures on { OnOk result ((P.state plant.new).on ≡ (P.state plant.old).on) }
+    ensures off { OnErr result ((P.state plant.new).on s.0 ≡ false) }
+    ensures told { OnOk result (journal.new ≡ journal.old) }
+    ensures room { journal.old.spare ≤ journal.new.spare + 1 }
+    ensures spare { length journal.new.events + journal.new.spare ≡ length journal.old.events + journal.old.spare }
 {
-    let v = c.volume_at(place).unwrap();
-    if !belongs(c, v, s) {
+    let v = config.volume_at(place).unwrap();
+    if !belongs(config, v, s) {
         return Ok(());
     }
-    match redo_own(p, c, j, s, v, place) {
-        Ok(()) => restart_own(p, c, j, s, v, place),
+    match redo_own(plant, config, journal, s, v, place) {
+        Ok(()) => restart_own(plant, config, journal, s, v, place),
         Err(why) => Err(why),
     }
 }
 
 /// Lets a server's volumes write their staged tracks to their places and go on, volume by volume, in order of definition,
 /// until the server stops.
-fn go_on_all<P: Plant>(p: &mut P, c: &Config, j: &mut Journal, s: ServerId) -> Result<(), Refusal>
-    requires starting { IsStarting (P.state p.old) c.now s.0 0 }
+fn go_on_all<P: Plant>(
+    plant: &mut P,
+    config: &Config,
+    journal: &mut Journal,
+    s: ServerId,
+) -> Result<(), Refusal>
+    requires starting { IsStarting (P.state plant.old) config.now s.0 0 }
     requires known { s.0 < 8 }
-    requires room { 1 ≤ j.old.spare }
-    ensures leads { OnOk result ((r : Rest) → Leads (world_seen (P.state p.old) c.now r j.old.events) (start_from c.now s.0 0) (world_seen (P.state p.new) c.now r j.new.events)) }
-    ensures fails { OnErr result ((r : Rest) → Fails (armed_in (P.state p.old)) (world_seen (P.state p.old) c.now r j.old.events) (start_from c.now s.0 0) (world_seen (P.state p.new) c.now r j.new.events) (refusal_of result)) }
+    requires room { 1 ≤ journal.old.spare }
+    ensures leads { OnOk result ((r : Rest) → Leads (world_seen (P.state plant.old) config.now r journal.old.events) (start_from config.now s.0 0) (world_seen (P.state plant.new) config.now r journal.new.events)) }
+    ensures fails { OnErr result ((r : Rest) → Fails (armed_in (P.state plant.old)) (world_seen (P.state plant.old) config.now r journal.old.events) (start_from config.now s.0 0) (world_seen (P.state plant.new) config.now r journal.new.events) (refusal_of result)) }
     ensures stopped { OnErr result (refusal_of result ≡ Some (stopped s.0)) }
-    ensures faults { Counted (is_err result) (P.state p.old).faults (P.state p.new).faults }
-    ensures rest { IsAtRest (P.state p.new) c.now }
-    ensures unarmed { (q : ℕ) → (P.state p.old).read_fuse q ≡ None → (P.state p.new).read_fuse q ≡ None }
-    ensures on { OnOk result ((P.state p.new).on ≡ (P.state p.old).on) }
-    ensures off { OnErr result ((P.state p.new).on s.0 ≡ false) }
-    ensures told { OnOk result (j.new ≡ j.old) }
-    ensures room { j.old.spare ≤ j.new.spare + 1 }
-    ensures spare { length j.new.events + j.new.spare ≡ length j.old.events + j.old.spare }
+    ensures faults { Counted (is_err result) (P.state plant.old).faults (P.state plant.new).faults }
+    ensures rest { IsAtRest (P.state plant.new) config.now }
+    ensures unarmed { (q : ℕ) → (P.state plant.old).read_fuse q ≡ None → (P.state plant.new).read_fuse q ≡ None }
+    ensures on { OnOk result ((P.state plant.new).on ≡ (P.state plant.old).on) }
+    ensures off { OnErr result ((P.state plant.new).on s.0 ≡ false) }
+    ensures told { OnOk result (journal.new ≡ journal.old) }
+    ensures room { journal.old.spare ≤ journal.new.spare + 1 }
+    ensures spare { length journal.new.events + journal.new.spare ≡ length journal.old.events + journal.old.spare }
 {
-    for place in 0..c.volumes() {
-        go_on_at(p, c, j, s, place)?;
+    for place in 0..config.volumes() {
+        go_on_at(plant, config, journal, s, place)?;
     }
     Ok(())
 }
 
 /// Turns on a server that is off.
 fn turn_on<P: Plant>(
-    p: &mut P,
-    c: &Config,
-    j: &mut Journal,
+    plant: &mut P,
+    config: &Config,
+    journal: &mut Journal,
     h: &mut Host,
     s: ServerId,
 ) -> Result<Option<WriteId>, Refusal>
-    requires rest { IsAtRest (P.state p.old) c.now }
+    requires rest { IsAtRest (P.state plant.old) config.now }
     requires known { s.0 < 8 }
-    requires off { (P.state p.old).on s.0 ≡ false }
-    requires room { 2 ≤ j.old.spare }
-    ensures plan { (r : Rest) → Comes (armed_in (P.state p.old)) (hosted (P.state p.old) c.now r h.old j.old.events) (start_on (hosted (P.state p.old) c.now r h.old j.old.events).control s.0)
-        (hosted (P.state p.new) c.now r h.new j.new.events) (start_answer result) }
+    requires off { (P.state plant.old).on s.0 ≡ false }
+    requires room { 2 ≤ journal.old.spare }
+    ensures plan { (r : Rest) → Comes (armed_in (P.state plant.old)) (hosted (P.state plant.old) config.now r h.old journal.old.events) (start_on (hosted (P.state plant.old) config.now r h.old journal.old.events).control s.0)
+        (hosted (P.state plant.new) config.now r h.new journal.new.events) (start_answer result) }
     ensures stopped { OnErr result (refusal_of result ≡ Some (stopped s.0)) }
-    ensures acked { IfOk result (λ a. number_of a ≡ landed_on c.now s.0 h.old.pending) }
-    ensures host { IfOk result (λ a. h.new ≡ without_acked (number_of a) h.old) }
-    ensures told { IfOk result (λ a. j.new.events ≡ j.old.events ++ start_events false s.0 (number_of a)) }
+    ensures acked { IfOk result (λ a. write_number a ≡ landed_on config.now s.0 h.old.pending) }
+    ensures host { IfOk result (λ a. h.new ≡ without_acked (write_number a) h.old) }
+    ensures told { IfOk result (λ a. journal.new.events ≡ journal.old.events ++ start_events false s.0 (write_number a)) }
     ensures same { OnErr result (h.new ≡ h.old) }
-    ensures rest { IsAtRest (P.state p.new) c.now }
-    ensures unarmed { (q : ℕ) → (P.state p.old).read_fuse q ≡ None → (P.state p.new).read_fuse q ≡ None }
-    ensures faults { Counted (is_err result) (P.state p.old).faults (P.state p.new).faults }
-    ensures on { OnOk result ((P.state p.new).on ≡ at (P.state p.old).on s.0 true) }
-    ensures off { OnErr result ((P.state p.new).on s.0 ≡ false) }
-    ensures room { j.old.spare ≤ j.new.spare + 2 }
-    ensures room_left { IfOk result (λ a. j.old.spare ≡ j.new.spare + length (start_events false s.0 (number_of a))) }
-    ensures spare { length j.new.events + j.new.spare ≡ length j.old.events + j.old.spare }
+    ensures rest { IsAtRest (P.state plant.new) config.now }
+    ensures unarmed { (q : ℕ) → (P.state plant.old).read_fuse q ≡ None → (P.state plant.new).read_fuse q ≡ None }
+    ensures faults { Counted (is_err result) (P.state plant.old).faults (P.state plant.new).faults }
+    ensures on { OnOk result ((P.state plant.new).on ≡ at (P.state plant.old).on s.0 true) }
+    ensures off { OnErr result ((P.state plant.new).on s.0 ≡ false) }
+    ensures room { journal.old.spare ≤ journal.new.spare + 2 }
+    ensures room_left { IfOk result (λ a. journal.old.spare ≡ journal.new.spare + length (start_events false s.0 (write_number a))) }
+    ensures spare { length journal.new.events + journal.new.spare ≡ length journal.old.events + journal.old.spare }
 {
-    p.start(s.0);
-    j.push(Event::Started { server: s.0 });
-    match go_on_all(p, c, j, s) {
-        Ok(()) => Ok(acknowledge(c, j, h, s)),
+    plant.start(s.0);
+    journal.push(Event::Started { server: s.0 });
+    match go_on_all(plant, config, journal, s) {
+        Ok(()) => Ok(acknowledge(config, journal, h, s)),
         Err(why) => Err(why),
     }
 }
@@ -220,35 +225,35 @@ fn turn_on<P: Plant>(
 /// where the server stops in a write or goes off at a read; then what was done stays, no write is acknowledged, and the host's
 /// writes are as they were. Its fuses that stand at 0 are taken away first. The journal needs room for two events.
 pub fn start<P: Plant>(
-    p: &mut P,
-    c: &Config,
-    j: &mut Journal,
+    plant: &mut P,
+    config: &Config,
+    journal: &mut Journal,
     h: &mut Host,
     s: ServerId,
 ) -> Result<Option<WriteId>, Refusal>
-    requires rest { IsAtRest (P.state p.old) c.now }
+    requires rest { IsAtRest (P.state plant.old) config.now }
     requires known { s.0 < 8 }
-    requires room { 2 ≤ j.old.spare }
-    ensures plan { (r : Rest) → Comes (armed_in (P.state p.old)) (hosted (P.state p.old) c.now r h.old j.old.events) (start_on (hosted (P.state p.old) c.now r h.old j.old.events).control s.0)
-        (hosted (P.state p.new) c.now r h.new j.new.events) (start_answer result) }
+    requires room { 2 ≤ journal.old.spare }
+    ensures plan { (r : Rest) → Comes (armed_in (P.state plant.old)) (hosted (P.state plant.old) config.now r h.old journal.old.events) (start_on (hosted (P.state plant.old) config.now r h.old journal.old.events).control s.0)
+        (hosted (P.state plant.new) config.now r h.new journal.new.events) (start_answer result) }
     ensures stopped { OnErr result (refusal_of result ≡ Some (stopped s.0)) }
-    ensures acked { IfOk result (λ a. number_of a ≡ acked_at (P.state p.old) c.now s.0 h.old) }
-    ensures host { IfOk result (λ a. h.new ≡ without_acked (number_of a) h.old) }
-    ensures told { IfOk result (λ a. j.new.events ≡ j.old.events ++ start_events ((P.state p.old).on s.0) s.0 (number_of a)) }
+    ensures acked { IfOk result (λ a. write_number a ≡ acked_at (P.state plant.old) config.now s.0 h.old) }
+    ensures host { IfOk result (λ a. h.new ≡ without_acked (write_number a) h.old) }
+    ensures told { IfOk result (λ a. journal.new.events ≡ journal.old.events ++ start_events ((P.state plant.old).on s.0) s.0 (write_number a)) }
     ensures same { OnErr result (h.new ≡ h.old) }
-    ensures unchanged { (P.state p.old).on s.0 ≡ true → (result ≡ Ok None) × (P.state p.new ≡ P.state p.old) × (j.new ≡ j.old) × (h.new ≡ h.old) }
-    ensures rest { IsAtRest (P.state p.new) c.now }
-    ensures unarmed { (q : ℕ) → (P.state p.old).read_fuse q ≡ None → (P.state p.new).read_fuse q ≡ None }
-    ensures faults { Counted (is_err result) (P.state p.old).faults (P.state p.new).faults }
-    ensures on { OnOk result ((P.state p.old).on s.0 ≡ false → (P.state p.new).on ≡ at (P.state p.old).on s.0 true) }
-    ensures off { OnErr result ((P.state p.new).on s.0 ≡ false) }
+    ensures unchanged { (P.state plant.old).on s.0 ≡ true → (result ≡ Ok None) × (P.state plant.new ≡ P.state plant.old) × (journal.new ≡ journal.old) × (h.new ≡ h.old) }
+    ensures rest { IsAtRest (P.state plant.new) config.now }
+    ensures unarmed { (q : ℕ) → (P.state plant.old).read_fuse q ≡ None → (P.state plant.new).read_fuse q ≡ None }
+    ensures faults { Counted (is_err result) (P.state plant.old).faults (P.state plant.new).faults }
+    ensures on { OnOk result ((P.state plant.old).on s.0 ≡ false → (P.state plant.new).on ≡ at (P.state plant.old).on s.0 true) }
+    ensures off { OnErr result ((P.state plant.new).on s.0 ≡ false) }
     ensures issued { h.new.issued ≡ h.old.issued }
-    ensures room { j.old.spare ≤ j.new.spare + 2 }
-    ensures room_left { IfOk result (λ a. j.old.spare ≡ j.new.spare + length (start_events ((P.state p.old).on s.0) s.0 (number_of a))) }
-    ensures spare { length j.new.events + j.new.spare ≡ length j.old.events + j.old.spare }
+    ensures room { journal.old.spare ≤ journal.new.spare + 2 }
+    ensures room_left { IfOk result (λ a. journal.old.spare ≡ journal.new.spare + length (start_events ((P.state plant.old).on s.0) s.0 (write_number a))) }
+    ensures spare { length journal.new.events + journal.new.spare ≡ length journal.old.events + journal.old.spare }
 {
-    if p.is_on(s.0) {
+    if plant.is_on(s.0) {
         return Ok(None);
     }
-    turn_on(p, c, j, h, s)
+    turn_on(plant, config, journal, h, s)
 }

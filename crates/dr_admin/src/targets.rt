@@ -7,7 +7,7 @@ ghost use Rattle.dr_model.specs.SessionPlans as plans;
 ghost use Rattle.dr_volume.specs.View.{Rest};
 ghost use Rattle.dr_flash.specs.Heads.{targets_by};
 ghost use Rattle.dr_flash.specs.Here.{world_seen};
-ghost use Rattle.dr_admin.specs.Targets.{IsNext, IsTarget};
+ghost use Rattle.dr_admin.specs.Targets.{IsNextTarget, IsDefinedTarget};
 
 use dr_config::Config;
 use dr_ids::VolumeId;
@@ -29,13 +29,13 @@ fn is_mirrored(f: &Head, b: VolumeId) -> bool
 }
 
 /// The first such target of b from a place on, if there is one.
-fn next_mirrored<P: Plant>(p: &P, c: &Config, b: VolumeId, from: usize) -> Option<Found>
-    requires stands { StandsFor c.now (P.state p.now) }
-    ensures { IsNext (P.state p.now) c.now b.0 from result }
+fn next_mirrored<P: Plant>(plant: &P, config: &Config, b: VolumeId, from: usize) -> Option<Found>
+    requires stands { StandsFor config.now (P.state plant.now) }
+    ensures { IsNextTarget (P.state plant.now) config.now b.0 from result }
 {
-    for place in from..c.volumes() {
-        let volume = c.volume_at(place).unwrap();
-        if is_mirrored(&peek_head_at(p, c, place), b) {
+    for place in from..config.volumes() {
+        let volume = config.volume_at(place).unwrap();
+        if is_mirrored(&peek_head_at(plant, config, place), b) {
             return Some(Found { volume, place });
         }
     }
@@ -43,15 +43,15 @@ fn next_mirrored<P: Plant>(p: &P, c: &Config, b: VolumeId, from: usize) -> Optio
 }
 
 /// The only such target of b, if it has just one.
-fn only_mirrored<P: Plant>(p: &P, c: &Config, b: VolumeId) -> Option<VolumeId>
-    requires stands { StandsFor c.now (P.state p.now) }
-    ensures target { (r : Rest) (events : List Event) → option_map (λ u. u.0) result ≡ plans.the_only (plans.mirrored_targets (world_seen (P.state p.now) c.now r events).control b.0) }
-    ensures is { IfSome result (λ u. IsTarget (P.state p.now) c.now b.0 u.0) }
+fn only_mirrored<P: Plant>(plant: &P, config: &Config, b: VolumeId) -> Option<VolumeId>
+    requires stands { StandsFor config.now (P.state plant.now) }
+    ensures target { (r : Rest) (events : List Event) → option_map (λ u. u.0) result ≡ plans.the_only (plans.mirrored_targets (world_seen (P.state plant.now) config.now r events).control b.0) }
+    ensures is { IfSome result (λ u. IsDefinedTarget (P.state plant.now) config.now b.0 u.0) }
 {
-    let Some(first) = next_mirrored(p, c, b, 0) else {
+    let Some(first) = next_mirrored(plant, config, b, 0) else {
         return None;
     };
-    if let Some(_) = next_mirrored(p, c, b, first.place + 1) {
+    if let Some(_) = next_mirrored(plant, config, b, first.place + 1) {
         return None;
     }
     Some(first.volume)
@@ -65,15 +65,15 @@ fn is_settled(f: &Head) -> bool
 }
 
 /// The only such target of b, if it has just one, and that one is neither revertible nor reversing.
-pub(crate) fn member_target<P: Plant>(p: &P, c: &Config, b: VolumeId) -> Option<VolumeId>
-    requires stands { StandsFor c.now (P.state p.now) }
-    ensures target { (r : Rest) (events : List Event) → option_map (λ u. u.0) result ≡ plans.member_target (world_seen (P.state p.now) c.now r events).control b.0 }
-    ensures is { IfSome result (λ u. IsTarget (P.state p.now) c.now b.0 u.0) }
+pub(crate) fn member_target<P: Plant>(plant: &P, config: &Config, b: VolumeId) -> Option<VolumeId>
+    requires stands { StandsFor config.now (P.state plant.now) }
+    ensures target { (r : Rest) (events : List Event) → option_map (λ u. u.0) result ≡ plans.member_target (world_seen (P.state plant.now) config.now r events).control b.0 }
+    ensures is { IfSome result (λ u. IsDefinedTarget (P.state plant.now) config.now b.0 u.0) }
 {
-    let Some(u) = only_mirrored(p, c, b) else {
+    let Some(u) = only_mirrored(plant, config, b) else {
         return None;
     };
-    if is_settled(&peek_head(p, c, u)) {
+    if is_settled(&peek_head(plant, config, u)) {
         return Some(u);
     }
     None

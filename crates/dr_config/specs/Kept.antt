@@ -28,6 +28,6 @@ abbrev pub IsKeyed : List (ℕ × VolumeEntry) → Type 0
 IsKeyed entries = keys_of entries ≡ map (λ (e : VolumeEntry). e.id) (values_of entries)
 
 -- What is true of what is kept.
-pub record IsKept (servers : List (Vec ℕ Global)) (entries : List (ℕ × VolumeEntry)) (rows : List (List Bool)) (paths : List (Ends × Bool)) : Type 0 where
+pub record IsKeptTable (servers : List (Vec ℕ Global)) (entries : List (ℕ × VolumeEntry)) (rows : List (List Bool)) (paths : List (Ends × Bool)) : Type 0 where
   pub sound : IsSoundConfig (table_of servers entries rows paths)
   pub keyed : IsKeyed entries

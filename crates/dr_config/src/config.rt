@@ -37,13 +37,13 @@ pub struct Config {
 
 impl Model for Config {
     ghost use Rattle.dr_config.specs.Table.{ConfigTable};
-    ghost use Rattle.dr_config.specs.Kept.{table_of, IsKept};
+    ghost use Rattle.dr_config.specs.Kept.{table_of, IsKeptTable};
 
     ghost Value = { ConfigTable };
 
     ghost view = { λ c. table_of c.servers.keys c.volumes.entries c.down c.paths.entries };
 
-    ghost invariant = { λ c. IsKept c.servers.keys c.volumes.entries c.down c.paths.entries };
+    ghost invariant = { λ c. IsKeptTable c.servers.keys c.volumes.entries c.down c.paths.entries };
 }
 
 impl Config {
@@ -91,20 +91,20 @@ impl Config {
     /// volumes; fails too where there is no memory. Then nothing has changed, here or in the plant.
     pub fn add_volume<P: Plant>(
         &mut self,
-        p: &mut P,
+        plant: &mut P,
         id: VolumeId,
         server: ServerId,
         tracks: u16,
     ) -> Result<DeviceId, Fault>
         requires defined { server.0 < length self.old.names }
-        requires stands { StandsFor self.old (P.state p.old) }
+        requires stands { StandsFor self.old (P.state plant.old) }
         ensures refused { refusal_of result ≡ volume_refusal self.old id.0 server.0 tracks }
         ensures number { IfOk result (λ d. d.0 ≡ length self.old.volumes) }
         ensures added { OnOk result (self.new ≡ with_volume self.old id.0 server.0 tracks) }
-        ensures device { OnOk result (P.state p.new ≡ with_device (P.state p.old) server.0 (13 + tracks)) }
+        ensures device { OnOk result (P.state plant.new ≡ with_device (P.state plant.old) server.0 (13 + tracks)) }
         ensures same { OnErr result (self.new ≡ self.old) }
-        ensures same_plant { OnErr result (P.state p.new ≡ P.state p.old) }
-        ensures stands { StandsFor self.new (P.state p.new) }
+        ensures same_plant { OnErr result (P.state plant.new ≡ P.state plant.old) }
+        ensures stands { StandsFor self.new (P.state plant.new) }
     {
         if let Some(why) = self.volume_refusal(id, server, tracks) {
             return Err(Fault::Refused(why));
@@ -116,7 +116,7 @@ impl Config {
         };
 
         // The plant has one device for each volume, so it isn't full.
-        let Ok(device) = p.add_device(server.0, blocks_of(tracks)) else {
+        let Ok(device) = plant.add_device(server.0, blocks_of(tracks)) else {
             return Err(Fault::NoMemory);
         };
         let entry = VolumeEntry {
@@ -161,19 +161,19 @@ impl Config {
     /// changed.
     pub fn add_path<P: Plant>(
         &mut self,
-        p: &P,
+        plant: &P,
         src: Lss,
         tgt: Lss,
         group: bool,
     ) -> Result<(), Fault>
         requires src { IsSome (lss_owner self.old src.0) }
         requires tgt { IsSome (lss_owner self.old tgt.0) }
-        ensures refused { refusal_of result ≡ path_refusal self.old (P.state p.now).on src.0 tgt.0 }
+        ensures refused { refusal_of result ≡ path_refusal self.old (P.state plant.now).on src.0 tgt.0 }
         ensures added { OnOk result (self.new ≡ with_path_between self.old src.0 tgt.0 group) }
         ensures same { OnErr result (self.new ≡ self.old) }
         ensures room { IsSome (path_in self.old.paths src.0 tgt.0) → result ≢ Err fault.NoMemory }
     {
-        if let Some(why) = self.path_refusal(p, src, tgt) {
+        if let Some(why) = self.path_refusal(plant, src, tgt) {
             return Err(Fault::Refused(why));
         }
         match put_path(&mut self.paths, src, tgt, group) {
@@ -201,25 +201,25 @@ impl Config {
     /// Whether one volume can reach another. Refused where no path goes from the logical subsystem of the
     /// first to that of the second, or else where the second's server is off, or else where the link between
     /// their servers is down.
-    pub fn reach<P: Plant>(&self, p: &P, from: VolumeId, to: VolumeId) -> Result<(), Refusal>
+    pub fn reach<P: Plant>(&self, plant: &P, from: VolumeId, to: VolumeId) -> Result<(), Refusal>
         requires from { IsSome (place_of self.now from.0) }
         requires to { IsSome (place_of self.now to.0) }
-        ensures refused { result_err result ≡ reach_refusal self.now (P.state p.now).on from.0 to.0 }
+        ensures refused { result_err result ≡ reach_refusal self.now (P.state plant.now).on from.0 to.0 }
     {
         if self.path(from.lss(), to.lss()).is_none() {
             return Err(Refusal::Unknown { kind: Kind::Path });
         }
-        match self.contact_refusal(p, self.host(from), self.host(to)) {
+        match self.contact_refusal(plant, self.host(from), self.host(to)) {
             Some(why) => Err(why),
             None => Ok(()),
         }
     }
 
     // Why a path from one logical subsystem to another is refused, if it is.
-    fn path_refusal<P: Plant>(&self, p: &P, src: Lss, tgt: Lss) -> Option<Refusal>
+    fn path_refusal<P: Plant>(&self, plant: &P, src: Lss, tgt: Lss) -> Option<Refusal>
         requires src { IsSome (lss_owner self.now src.0) }
         requires tgt { IsSome (lss_owner self.now tgt.0) }
-        ensures { result ≡ path_refusal self.now (P.state p.now).on src.0 tgt.0 }
+        ensures { result ≡ path_refusal self.now (P.state plant.now).on src.0 tgt.0 }
     {
         let a = self.owner(src);
         let b = self.owner(tgt);
@@ -227,20 +227,20 @@ impl Config {
             Some(Refusal::Limit {
                 which: Which::Server,
             })
-        } else if !p.is_on(a.0) {
+        } else if !plant.is_on(a.0) {
             Some(Refusal::ServerOff { server: a })
         } else {
-            self.contact_refusal(p, a, b)
+            self.contact_refusal(plant, a, b)
         }
     }
 
     // Why server b can't be reached from server a, if it can't.
-    fn contact_refusal<P: Plant>(&self, p: &P, a: ServerId, b: ServerId) -> Option<Refusal>
+    fn contact_refusal<P: Plant>(&self, plant: &P, a: ServerId, b: ServerId) -> Option<Refusal>
         requires first { HasServer self.now a.0 }
         requires second { HasServer self.now b.0 }
-        ensures { result ≡ contact_refusal self.now (P.state p.now).on a.0 b.0 }
+        ensures { result ≡ contact_refusal self.now (P.state plant.now).on a.0 b.0 }
     {
-        if !p.is_on(b.0) {
+        if !plant.is_on(b.0) {
             Some(Refusal::ServerOff { server: b })
         } else if !self.link_up(a, b) {
             Some(Refusal::LinkDown { a, b })

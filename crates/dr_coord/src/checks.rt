@@ -21,15 +21,15 @@ use dr_plant::Plant;
 use dr_volume::{Fields, peek_fields};
 
 /// Why a volume isn't to be held, as far as its pair says: it is no Global Copy primary of b in Copy Pending.
-fn pair_refusal<P: Plant>(p: &P, c: &Config, a: VolumeId, b: VolumeId) -> Option<Refusal>
-    requires stands { StandsFor c.now (P.state p.now) }
-    requires defined { IsSome (place_of c.now a.0) }
-    ensures refusal { (r : Rest) (events : List Event) → result ≡ entries.hold_refusal a.0 b.0 (world_seen (P.state p.now) c.now r events).control }
-    ensures part { OnNone result (layout.is_part (volume_seen (P.state p.now) c.now a.0).fields.primary ≡ true) }
+fn pair_refusal<P: Plant>(plant: &P, config: &Config, a: VolumeId, b: VolumeId) -> Option<Refusal>
+    requires stands { StandsFor config.now (P.state plant.now) }
+    requires defined { IsSome (place_of config.now a.0) }
+    ensures refusal { (r : Rest) (events : List Event) → result ≡ entries.hold_refusal a.0 b.0 (world_seen (P.state plant.now) config.now r events).control }
+    ensures part { OnNone result (layout.is_part (volume_seen (P.state plant.now) config.now a.0).fields.primary ≡ true) }
     ensures calm { is_stop result ≡ false }
 {
-    if !may_hold(&peek_fields(p, c, a), b) {
-        return Some(pair_state(p, c, a));
+    if !may_hold(&peek_fields(plant, config, a), b) {
+        return Some(pair_state(plant, config, a));
     }
     None
 }
@@ -50,32 +50,32 @@ fn stale_if(n: u32, f: &Fields) -> Option<Refusal>
 
 /// Why primary a can't be held for attempt n: it is no Global Copy primary of b in Copy Pending, or else the attempt is stale.
 pub(crate) fn hold_refusal<P: Plant>(
-    p: &P,
-    c: &Config,
+    plant: &P,
+    config: &Config,
     a: VolumeId,
     b: VolumeId,
     n: u32,
 ) -> Option<Refusal>
-    requires stands { StandsFor c.now (P.state p.now) }
-    requires defined { IsSome (place_of c.now a.0) }
-    ensures refusal { (r : Rest) (events : List Event) → result ≡ option_or (entries.hold_refusal a.0 b.0 (world_seen (P.state p.now) c.now r events).control) (entries.stale_refusal a.0 n (world_seen (P.state p.now) c.now r events).control) }
-    ensures part { OnNone result (layout.is_part (volume_seen (P.state p.now) c.now a.0).fields.primary ≡ true) }
+    requires stands { StandsFor config.now (P.state plant.now) }
+    requires defined { IsSome (place_of config.now a.0) }
+    ensures refusal { (r : Rest) (events : List Event) → result ≡ option_or (entries.hold_refusal a.0 b.0 (world_seen (P.state plant.now) config.now r events).control) (entries.stale_refusal a.0 n (world_seen (P.state plant.now) config.now r events).control) }
+    ensures part { OnNone result (layout.is_part (volume_seen (P.state plant.now) config.now a.0).fields.primary ≡ true) }
     ensures calm { is_stop result ≡ false }
 {
-    if let Some(why) = pair_refusal(p, c, a, b) {
+    if let Some(why) = pair_refusal(plant, config, a, b) {
         return Some(why);
     }
-    stale_if(n, &peek_fields(p, c, a))
+    stale_if(n, &peek_fields(plant, config, a))
 }
 
 /// Why nothing is to be done for attempt n with a primary: it doesn't record it.
-pub fn void_refusal<P: Plant>(p: &P, c: &Config, a: VolumeId, n: u32) -> Option<Refusal>
-    requires stands { StandsFor c.now (P.state p.now) }
-    requires defined { IsSome (place_of c.now a.0) }
-    ensures refusal { (r : Rest) (events : List Event) → result ≡ entries.void_refusal a.0 n (world_seen (P.state p.now) c.now r events).control }
+pub fn void_refusal<P: Plant>(plant: &P, config: &Config, a: VolumeId, n: u32) -> Option<Refusal>
+    requires stands { StandsFor config.now (P.state plant.now) }
+    requires defined { IsSome (place_of config.now a.0) }
+    ensures refusal { (r : Rest) (events : List Event) → result ≡ entries.void_refusal a.0 n (world_seen (P.state plant.now) config.now r events).control }
     ensures calm { is_stop result ≡ false }
 {
-    if !records(n, &peek_fields(p, c, a)) {
+    if !records(n, &peek_fields(plant, config, a)) {
         return Some(Refusal::Void { n });
     }
     None

@@ -28,38 +28,38 @@ use dr_volume::peek_fields;
 
 /// Primary a is held for attempt n of a session, unless it records it, maybe as the first of the session's members.
 fn hold<P: Plant>(
-    p: &mut P,
-    c: &Config,
-    j: &mut Journal,
+    plant: &mut P,
+    config: &Config,
+    journal: &mut Journal,
     a: VolumeId,
     s: SessionId,
     n: u32,
     first: bool,
 ) -> Result<(), Refusal>
-    requires rest { IsAtRest (P.state p.old) c.now }
-    requires fit { RelationsFit (P.state p.old) c.now }
-    requires defined { IsSome (place_of c.now a.0) }
-    requires running { (P.state p.old).on (volume_seen (P.state p.old) c.now a.0).server ≡ true }
-    requires part { is_part (volume_seen (P.state p.old) c.now a.0).fields.primary ≡ true }
-    requires room { (if first then 3 else 2) ≤ j.old.spare }
-    ensures advances { OnOk result ((r : Rest) → nat_lt (last_of (world_seen (P.state p.old) c.now r j.old.events).control s.0) n ≡ first
-        → Advances (world_seen (P.state p.old) c.now r j.old.events) (hold_on s.0 a.0 n) (world_seen (P.state p.new) c.now (rest_after first (P.state p.old) (P.state p.new) c.now a.0 s.0 r) j.new.events)) }
-    ensures halts { OnErr result ((r : Rest) → nat_lt (last_of (world_seen (P.state p.old) c.now r j.old.events).control s.0) n ≡ first
-        → Halts (armed_in (P.state p.old)) (world_seen (P.state p.old) c.now r j.old.events) (hold_on s.0 a.0 n) (world_seen (P.state p.new) c.now (rest_after first (P.state p.old) (P.state p.new) c.now a.0 s.0 r) j.new.events) (refusal_of result)) }
-    ensures refused { OnErr result (refusal_of result ≡ Some (stopped (volume_seen (P.state p.old) c.now a.0).server)) }
-    ensures rest { IsAtRest (P.state p.new) c.now }
-    ensures fit { RelationsFit (P.state p.new) c.now }
-    ensures aside { AsideFits (P.state p.old) c.now → AsideFits (P.state p.new) c.now }
-    ensures unarmed { (q : ℕ) → (P.state p.old).read_fuse q ≡ None → (P.state p.new).read_fuse q ≡ None }
-    ensures faults { Counted (is_err result) (P.state p.old).faults (P.state p.new).faults }
-    ensures others { OthersStay (P.state p.old) (P.state p.new) c.now a.0 }
-    ensures on { OnOk result ((P.state p.new).on ≡ (P.state p.old).on) }
-    ensures room { j.old.spare ≤ j.new.spare + (if first then 3 else 2) }
-    ensures begins { OnOk result (records n (volume_seen (P.state p.old) c.now a.0).fields ≡ false → begins first (P.state p.old) (P.state p.new) c.now a.0 ≡ first) }
-    ensures room_left { OnOk result (j.old.spare ≤ j.new.spare + (if begins first (P.state p.old) (P.state p.new) c.now a.0 then 2 else 1)) }
-    ensures spare { length j.new.events + j.new.spare ≡ length j.old.events + j.old.spare }
+    requires rest { IsAtRest (P.state plant.old) config.now }
+    requires fit { RelationsFit (P.state plant.old) config.now }
+    requires defined { IsSome (place_of config.now a.0) }
+    requires running { (P.state plant.old).on (volume_seen (P.state plant.old) config.now a.0).server ≡ true }
+    requires part { is_part (volume_seen (P.state plant.old) config.now a.0).fields.primary ≡ true }
+    requires room { (if first then 3 else 2) ≤ journal.old.spare }
+    ensures advances { OnOk result ((r : Rest) → nat_lt (last_of (world_seen (P.state plant.old) config.now r journal.old.events).control s.0) n ≡ first
+        → Advances (world_seen (P.state plant.old) config.now r journal.old.events) (hold_on s.0 a.0 n) (world_seen (P.state plant.new) config.now (rest_after first (P.state plant.old) (P.state plant.new) config.now a.0 s.0 r) journal.new.events)) }
+    ensures halts { OnErr result ((r : Rest) → nat_lt (last_of (world_seen (P.state plant.old) config.now r journal.old.events).control s.0) n ≡ first
+        → Halts (armed_in (P.state plant.old)) (world_seen (P.state plant.old) config.now r journal.old.events) (hold_on s.0 a.0 n) (world_seen (P.state plant.new) config.now (rest_after first (P.state plant.old) (P.state plant.new) config.now a.0 s.0 r) journal.new.events) (refusal_of result)) }
+    ensures refused { OnErr result (refusal_of result ≡ Some (stopped (volume_seen (P.state plant.old) config.now a.0).server)) }
+    ensures rest { IsAtRest (P.state plant.new) config.now }
+    ensures fit { RelationsFit (P.state plant.new) config.now }
+    ensures aside { AsideFits (P.state plant.old) config.now → AsideFits (P.state plant.new) config.now }
+    ensures unarmed { (q : ℕ) → (P.state plant.old).read_fuse q ≡ None → (P.state plant.new).read_fuse q ≡ None }
+    ensures faults { Counted (is_err result) (P.state plant.old).faults (P.state plant.new).faults }
+    ensures others { OthersStay (P.state plant.old) (P.state plant.new) config.now a.0 }
+    ensures on { OnOk result ((P.state plant.new).on ≡ (P.state plant.old).on) }
+    ensures room { journal.old.spare ≤ journal.new.spare + (if first then 3 else 2) }
+    ensures begins { OnOk result (records n (volume_seen (P.state plant.old) config.now a.0).fields ≡ false → begins first (P.state plant.old) (P.state plant.new) config.now a.0 ≡ first) }
+    ensures room_left { OnOk result (journal.old.spare ≤ journal.new.spare + (if begins first (P.state plant.old) (P.state plant.new) config.now a.0 then 2 else 1)) }
+    ensures spare { length journal.new.events + journal.new.spare ≡ length journal.old.events + journal.old.spare }
 {
-    if records(n, &peek_fields(p, c, a)) {
+    if records(n, &peek_fields(plant, config, a)) {
         return Ok(());
     }
     let hold = Change::Hold {
@@ -67,7 +67,7 @@ fn hold<P: Plant>(
         n,
         first,
     };
-    make_change(p, c, j, a, hold)
+    make_change(plant, config, journal, a, hold)
 }
 
 /// Holds the primary of a member for attempt n of a session, where its server is on: host writes on it wait, and what is out
@@ -78,103 +78,108 @@ fn hold<P: Plant>(
 /// this is the first hold and the volume's other slot is chosen after it. The journal needs room for two events,
 /// and for one more where this is the first hold.
 pub fn hold_and_swap<P: Plant>(
-    p: &mut P,
-    c: &Config,
-    j: &mut Journal,
+    plant: &mut P,
+    config: &Config,
+    journal: &mut Journal,
     s: SessionId,
     m: &Member,
     n: u32,
     first: bool,
 ) -> Result<(), Refusal>
-    requires rest { IsAtRest (P.state p.old) c.now }
-    requires fit { RelationsFit (P.state p.old) c.now }
-    requires defined { IsSome (place_of c.now m.now.a.0) }
-    requires running { (P.state p.old).on (volume_seen (P.state p.old) c.now m.now.a.0).server ≡ true }
-    requires room { (if first then 3 else 2) ≤ j.old.spare }
-    ensures carried { (r : Rest) → nat_lt (last_of (world_seen (P.state p.old) c.now r j.old.events).control s.0) n ≡ first
-        → Ends (armed_in (P.state p.old)) (world_seen (P.state p.new) c.now (rest_after first (P.state p.old) (P.state p.new) c.now m.now.a.0 s.0 r) j.new.events) (refusal_of result) (world_seen (P.state p.old) c.now r j.old.events) (hold_entries s.0 m.now.a.0 m.now.b.0 n) }
-    ensures leads { OnOk result ((r : Rest) → nat_lt (last_of (world_seen (P.state p.old) c.now r j.old.events).control s.0) n ≡ first
-        → Leads (world_seen (P.state p.old) c.now r j.old.events) (hold_entries s.0 m.now.a.0 m.now.b.0 n) (world_seen (P.state p.new) c.now (rest_after first (P.state p.old) (P.state p.new) c.now m.now.a.0 s.0 r) j.new.events)) }
-    ensures fails { OnErr result ((r : Rest) → nat_lt (last_of (world_seen (P.state p.old) c.now r j.old.events).control s.0) n ≡ first
-        → Fails (armed_in (P.state p.old)) (world_seen (P.state p.old) c.now r j.old.events) (hold_entries s.0 m.now.a.0 m.now.b.0 n) (world_seen (P.state p.new) c.now (rest_after first (P.state p.old) (P.state p.new) c.now m.now.a.0 s.0 r) j.new.events) (refusal_of result)) }
-    ensures unchanged { is_stop (refusal_of result) ≡ false → OnErr result ((P.state p.new ≡ P.state p.old) × (j.new ≡ j.old)) }
-    ensures rest { IsAtRest (P.state p.new) c.now }
-    ensures fit { RelationsFit (P.state p.new) c.now }
-    ensures aside { AsideFits (P.state p.old) c.now → AsideFits (P.state p.new) c.now }
-    ensures unarmed { (q : ℕ) → (P.state p.old).read_fuse q ≡ None → (P.state p.new).read_fuse q ≡ None }
-    ensures faults { Counted (is_stop (refusal_of result)) (P.state p.old).faults (P.state p.new).faults }
-    ensures others { OthersStay (P.state p.old) (P.state p.new) c.now m.now.a.0 }
-    ensures on { OnOk result ((P.state p.new).on ≡ (P.state p.old).on) }
-    ensures room { j.old.spare ≤ j.new.spare + (if first then 3 else 2) }
-    ensures begins { OnOk result (records n (volume_seen (P.state p.old) c.now m.now.a.0).fields ≡ false → begins first (P.state p.old) (P.state p.new) c.now m.now.a.0 ≡ first) }
-    ensures room_left { OnOk result (j.old.spare ≤ j.new.spare + (if begins first (P.state p.old) (P.state p.new) c.now m.now.a.0 then 2 else 1)) }
-    ensures spare { length j.new.events + j.new.spare ≡ length j.old.events + j.old.spare }
+    requires rest { IsAtRest (P.state plant.old) config.now }
+    requires fit { RelationsFit (P.state plant.old) config.now }
+    requires defined { IsSome (place_of config.now m.now.a.0) }
+    requires running { (P.state plant.old).on (volume_seen (P.state plant.old) config.now m.now.a.0).server ≡ true }
+    requires room { (if first then 3 else 2) ≤ journal.old.spare }
+    ensures carried { (r : Rest) → nat_lt (last_of (world_seen (P.state plant.old) config.now r journal.old.events).control s.0) n ≡ first
+        → Ends (armed_in (P.state plant.old)) (world_seen (P.state plant.new) config.now (rest_after first (P.state plant.old) (P.state plant.new) config.now m.now.a.0 s.0 r) journal.new.events) (refusal_of result) (world_seen (P.state plant.old) config.now r journal.old.events) (hold_entries s.0 m.now.a.0 m.now.b.0 n) }
+    ensures leads { OnOk result ((r : Rest) → nat_lt (last_of (world_seen (P.state plant.old) config.now r journal.old.events).control s.0) n ≡ first
+        → Leads (world_seen (P.state plant.old) config.now r journal.old.events) (hold_entries s.0 m.now.a.0 m.now.b.0 n) (world_seen (P.state plant.new) config.now (rest_after first (P.state plant.old) (P.state plant.new) config.now m.now.a.0 s.0 r) journal.new.events)) }
+    ensures fails { OnErr result ((r : Rest) → nat_lt (last_of (world_seen (P.state plant.old) config.now r journal.old.events).control s.0) n ≡ first
+        → Fails (armed_in (P.state plant.old)) (world_seen (P.state plant.old) config.now r journal.old.events) (hold_entries s.0 m.now.a.0 m.now.b.0 n) (world_seen (P.state plant.new) config.now (rest_after first (P.state plant.old) (P.state plant.new) config.now m.now.a.0 s.0 r) journal.new.events) (refusal_of result)) }
+    ensures unchanged { is_stop (refusal_of result) ≡ false → OnErr result ((P.state plant.new ≡ P.state plant.old) × (journal.new ≡ journal.old)) }
+    ensures rest { IsAtRest (P.state plant.new) config.now }
+    ensures fit { RelationsFit (P.state plant.new) config.now }
+    ensures aside { AsideFits (P.state plant.old) config.now → AsideFits (P.state plant.new) config.now }
+    ensures unarmed { (q : ℕ) → (P.state plant.old).read_fuse q ≡ None → (P.state plant.new).read_fuse q ≡ None }
+    ensures faults { Counted (is_stop (refusal_of result)) (P.state plant.old).faults (P.state plant.new).faults }
+    ensures others { OthersStay (P.state plant.old) (P.state plant.new) config.now m.now.a.0 }
+    ensures on { OnOk result ((P.state plant.new).on ≡ (P.state plant.old).on) }
+    ensures room { journal.old.spare ≤ journal.new.spare + (if first then 3 else 2) }
+    ensures begins { OnOk result (records n (volume_seen (P.state plant.old) config.now m.now.a.0).fields ≡ false → begins first (P.state plant.old) (P.state plant.new) config.now m.now.a.0 ≡ first) }
+    ensures room_left { OnOk result (journal.old.spare ≤ journal.new.spare + (if begins first (P.state plant.old) (P.state plant.new) config.now m.now.a.0 then 2 else 1)) }
+    ensures spare { length journal.new.events + journal.new.spare ≡ length journal.old.events + journal.old.spare }
 {
-    if let Some(why) = hold_refusal(p, c, m.a, m.b, n) {
+    if let Some(why) = hold_refusal(plant, config, m.a, m.b, n) {
         return Err(why);
     }
-    hold(p, c, j, m.a, s, n, first)
+    hold(plant, config, journal, m.a, s, n, first)
 }
 
 /// Primary a is let go, where it is held.
-fn free<P: Plant>(p: &mut P, c: &Config, j: &mut Journal, a: VolumeId) -> Result<(), Refusal>
-    requires rest { IsAtRest (P.state p.old) c.now }
-    requires fit { RelationsFit (P.state p.old) c.now }
-    requires defined { IsSome (place_of c.now a.0) }
-    requires running { (P.state p.old).on (volume_seen (P.state p.old) c.now a.0).server ≡ true }
-    requires room { 1 ≤ j.old.spare }
-    ensures advances { OnOk result ((r : Rest) → Advances (world_seen (P.state p.old) c.now r j.old.events) (free_on a.0) (world_seen (P.state p.new) c.now r j.new.events)) }
-    ensures halts { OnErr result ((r : Rest) → Halts (armed_in (P.state p.old)) (world_seen (P.state p.old) c.now r j.old.events) (free_on a.0) (world_seen (P.state p.new) c.now r j.new.events) (refusal_of result)) }
-    ensures refused { OnErr result (refusal_of result ≡ Some (stopped (volume_seen (P.state p.old) c.now a.0).server)) }
-    ensures rest { IsAtRest (P.state p.new) c.now }
-    ensures fit { RelationsFit (P.state p.new) c.now }
-    ensures aside { AsideFits (P.state p.old) c.now → AsideFits (P.state p.new) c.now }
-    ensures unarmed { (q : ℕ) → (P.state p.old).read_fuse q ≡ None → (P.state p.new).read_fuse q ≡ None }
-    ensures faults { Counted (is_err result) (P.state p.old).faults (P.state p.new).faults }
-    ensures others { OthersStay (P.state p.old) (P.state p.new) c.now a.0 }
-    ensures on { OnOk result ((P.state p.new).on ≡ (P.state p.old).on) }
-    ensures room { j.old.spare ≤ j.new.spare + 1 }
-    ensures room_left { OnOk result (j.old.spare ≡ j.new.spare) }
-    ensures spare { length j.new.events + j.new.spare ≡ length j.old.events + j.old.spare }
+fn free<P: Plant>(
+    plant: &mut P,
+    config: &Config,
+    journal: &mut Journal,
+    a: VolumeId,
+) -> Result<(), Refusal>
+    requires rest { IsAtRest (P.state plant.old) config.now }
+    requires fit { RelationsFit (P.state plant.old) config.now }
+    requires defined { IsSome (place_of config.now a.0) }
+    requires running { (P.state plant.old).on (volume_seen (P.state plant.old) config.now a.0).server ≡ true }
+    requires room { 1 ≤ journal.old.spare }
+    ensures advances { OnOk result ((r : Rest) → Advances (world_seen (P.state plant.old) config.now r journal.old.events) (free_on a.0) (world_seen (P.state plant.new) config.now r journal.new.events)) }
+    ensures halts { OnErr result ((r : Rest) → Halts (armed_in (P.state plant.old)) (world_seen (P.state plant.old) config.now r journal.old.events) (free_on a.0) (world_seen (P.state plant.new) config.now r journal.new.events) (refusal_of result)) }
+    ensures refused { OnErr result (refusal_of result ≡ Some (stopped (volume_seen (P.state plant.old) config.now a.0).server)) }
+    ensures rest { IsAtRest (P.state plant.new) config.now }
+    ensures fit { RelationsFit (P.state plant.new) config.now }
+    ensures aside { AsideFits (P.state plant.old) config.now → AsideFits (P.state plant.new) config.now }
+    ensures unarmed { (q : ℕ) → (P.state plant.old).read_fuse q ≡ None → (P.state plant.new).read_fuse q ≡ None }
+    ensures faults { Counted (is_err result) (P.state plant.old).faults (P.state plant.new).faults }
+    ensures others { OthersStay (P.state plant.old) (P.state plant.new) config.now a.0 }
+    ensures on { OnOk result ((P.state plant.new).on ≡ (P.state plant.old).on) }
+    ensures room { journal.old.spare ≤ journal.new.spare + 1 }
+    ensures room_left { OnOk result (journal.old.spare ≡ journal.new.spare) }
+    ensures spare { length journal.new.events + journal.new.spare ≡ length journal.old.events + journal.old.spare }
 {
-    if !peek_fields(p, c, a).coordination {
+    if !peek_fields(plant, config, a).coordination {
         return Ok(());
     }
-    make_change(p, c, j, a, Change::Free)
+    make_change(plant, config, journal, a, Change::Free)
 }
 
 /// Lets the primary of a member go, where its server is on and it is held: host writes on it wait no more, and it goes on to
 /// record attempt n. Nothing is told. Refused where it doesn't record the attempt; then nothing has changed. Fails too where
 /// the server stops in the move or goes off at a read. The journal needs room for an event.
 pub fn release<P: Plant>(
-    p: &mut P,
-    c: &Config,
-    j: &mut Journal,
+    plant: &mut P,
+    config: &Config,
+    journal: &mut Journal,
     m: &Member,
     n: u32,
 ) -> Result<(), Refusal>
-    requires rest { IsAtRest (P.state p.old) c.now }
-    requires fit { RelationsFit (P.state p.old) c.now }
-    requires defined { IsSome (place_of c.now m.now.a.0) }
-    requires running { (P.state p.old).on (volume_seen (P.state p.old) c.now m.now.a.0).server ≡ true }
-    requires room { 1 ≤ j.old.spare }
-    ensures carried { (r : Rest) → Ends (armed_in (P.state p.old)) (world_seen (P.state p.new) c.now r j.new.events) (refusal_of result) (world_seen (P.state p.old) c.now r j.old.events) (release_entries m.now.a.0 n) }
-    ensures leads { OnOk result ((r : Rest) → Leads (world_seen (P.state p.old) c.now r j.old.events) (release_entries m.now.a.0 n) (world_seen (P.state p.new) c.now r j.new.events)) }
-    ensures fails { OnErr result ((r : Rest) → Fails (armed_in (P.state p.old)) (world_seen (P.state p.old) c.now r j.old.events) (release_entries m.now.a.0 n) (world_seen (P.state p.new) c.now r j.new.events) (refusal_of result)) }
-    ensures unchanged { is_stop (refusal_of result) ≡ false → OnErr result ((P.state p.new ≡ P.state p.old) × (j.new ≡ j.old)) }
-    ensures rest { IsAtRest (P.state p.new) c.now }
-    ensures fit { RelationsFit (P.state p.new) c.now }
-    ensures aside { AsideFits (P.state p.old) c.now → AsideFits (P.state p.new) c.now }
-    ensures unarmed { (q : ℕ) → (P.state p.old).read_fuse q ≡ None → (P.state p.new).read_fuse q ≡ None }
-    ensures faults { Counted (is_stop (refusal_of result)) (P.state p.old).faults (P.state p.new).faults }
-    ensures others { OthersStay (P.state p.old) (P.state p.new) c.now m.now.a.0 }
-    ensures on { OnOk result ((P.state p.new).on ≡ (P.state p.old).on) }
-    ensures room { j.old.spare ≤ j.new.spare + 1 }
-    ensures room_left { OnOk result (j.old.spare ≡ j.new.spare) }
-    ensures spare { length j.new.events + j.new.spare ≡ length j.old.events + j.old.spare }
+    requires rest { IsAtRest (P.state plant.old) config.now }
+    requires fit { RelationsFit (P.state plant.old) config.now }
+    requires defined { IsSome (place_of config.now m.now.a.0) }
+    requires running { (P.state plant.old).on (volume_seen (P.state plant.old) config.now m.now.a.0).server ≡ true }
+    requires room { 1 ≤ journal.old.spare }
+    ensures carried { (r : Rest) → Ends (armed_in (P.state plant.old)) (world_seen (P.state plant.new) config.now r journal.new.events) (refusal_of result) (world_seen (P.state plant.old) config.now r journal.old.events) (release_entries m.now.a.0 n) }
+    ensures leads { OnOk result ((r : Rest) → Leads (world_seen (P.state plant.old) config.now r journal.old.events) (release_entries m.now.a.0 n) (world_seen (P.state plant.new) config.now r journal.new.events)) }
+    ensures fails { OnErr result ((r : Rest) → Fails (armed_in (P.state plant.old)) (world_seen (P.state plant.old) config.now r journal.old.events) (release_entries m.now.a.0 n) (world_seen (P.state plant.new) config.now r journal.new.events) (refusal_of result)) }
+    ensures unchanged { is_stop (refusal_of result) ≡ false → OnErr result ((P.state plant.new ≡ P.state plant.old) × (journal.new ≡ journal.old)) }
+    ensures rest { IsAtRest (P.state plant.new) config.now }
+    ensures fit { RelationsFit (P.state plant.new) config.now }
+    ensures aside { AsideFits (P.state plant.old) config.now → AsideFits (P.state plant.new) config.now }
+    ensures unarmed { (q : ℕ) → (P.state plant.old).read_fuse q ≡ None → (P.state plant.new).read_fuse q ≡ None }
+    ensures faults { Counted (is_stop (refusal_of result)) (P.state plant.old).faults (P.state plant.new).faults }
+    ensures others { OthersStay (P.state plant.old) (P.state plant.new) config.now m.now.a.0 }
+    ensures on { OnOk result ((P.state plant.new).on ≡ (P.state plant.old).on) }
+    ensures room { journal.old.spare ≤ journal.new.spare + 1 }
+    ensures room_left { OnOk result (journal.old.spare ≡ journal.new.spare) }
+    ensures spare { length journal.new.events + journal.new.spare ≡ length journal.old.events + journal.old.spare }
 {
-    if let Some(why) = void_refusal(p, c, m.a, n) {
+    if let Some(why) = void_refusal(plant, config, m.a, n) {
         return Err(why);
     }
-    free(p, c, j, m.a)
+    free(plant, config, journal, m.a)
 }

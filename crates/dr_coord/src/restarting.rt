@@ -22,31 +22,36 @@ use dr_plant::Plant;
 use dr_volume::{peek_fields, update};
 
 /// Lets a volume go on, in any case.
-fn go_on<P: Plant>(p: &mut P, c: &Config, j: &mut Journal, v: VolumeId) -> Result<(), Refusal>
-    requires ready { StandsReady (P.state p.old) c.now v.0 }
-    requires room { 1 ≤ j.old.spare }
-    ensures advances { OnOk result ((r : Rest) → Advances (world_seen (P.state p.old) c.now r j.old.events) (now (Restart v.0)) (world_seen (P.state p.new) c.now r j.new.events)) }
-    ensures halts { OnErr result ((r : Rest) → Halts (armed_in (P.state p.old)) (world_seen (P.state p.old) c.now r j.old.events) (now (Restart v.0)) (world_seen (P.state p.new) c.now r j.new.events) (refusal_of result)) }
-    ensures refused { OnErr result (refusal_of result ≡ Some (stopped (volume_seen (P.state p.old) c.now v.0).server)) }
-    ensures server { (volume_seen (P.state p.new) c.now v.0).server ≡ (volume_seen (P.state p.old) c.now v.0).server }
-    ensures size { (volume_seen (P.state p.new) c.now v.0).tracks ≡ (volume_seen (P.state p.old) c.now v.0).tracks }
-    ensures others { OthersStay (P.state p.old) (P.state p.new) c.now v.0 }
-    ensures stands { StandsFor c.now (P.state p.new) }
-    ensures settled { (u : ℕ) → IsSettled (P.state p.old) c.now u → IsSettled (P.state p.new) c.now u }
-    ensures unarmed { (q : ℕ) → (P.state p.old).read_fuse q ≡ None → (P.state p.new).read_fuse q ≡ None }
-    ensures faults { Counted (is_err result) (P.state p.old).faults (P.state p.new).faults }
-    ensures on { OnOk result ((P.state p.new).on ≡ (P.state p.old).on) }
-    ensures off { OnErr result ((P.state p.new).on (volume_seen (P.state p.old) c.now v.0).server ≡ false) }
-    ensures room { j.old.spare ≤ j.new.spare + 1 }
-    ensures told { OnOk result (j.new ≡ j.old) }
-    ensures spare { length j.new.events + j.new.spare ≡ length j.old.events + j.old.spare }
+fn go_on<P: Plant>(
+    plant: &mut P,
+    config: &Config,
+    journal: &mut Journal,
+    v: VolumeId,
+) -> Result<(), Refusal>
+    requires ready { StandsReady (P.state plant.old) config.now v.0 }
+    requires room { 1 ≤ journal.old.spare }
+    ensures advances { OnOk result ((r : Rest) → Advances (world_seen (P.state plant.old) config.now r journal.old.events) (now (Restart v.0)) (world_seen (P.state plant.new) config.now r journal.new.events)) }
+    ensures halts { OnErr result ((r : Rest) → Halts (armed_in (P.state plant.old)) (world_seen (P.state plant.old) config.now r journal.old.events) (now (Restart v.0)) (world_seen (P.state plant.new) config.now r journal.new.events) (refusal_of result)) }
+    ensures refused { OnErr result (refusal_of result ≡ Some (stopped (volume_seen (P.state plant.old) config.now v.0).server)) }
+    ensures server { (volume_seen (P.state plant.new) config.now v.0).server ≡ (volume_seen (P.state plant.old) config.now v.0).server }
+    ensures size { (volume_seen (P.state plant.new) config.now v.0).tracks ≡ (volume_seen (P.state plant.old) config.now v.0).tracks }
+    ensures others { OthersStay (P.state plant.old) (P.state plant.new) config.now v.0 }
+    ensures stands { StandsFor config.now (P.state plant.new) }
+    ensures settled { (u : ℕ) → IsSettled (P.state plant.old) config.now u → IsSettled (P.state plant.new) config.now u }
+    ensures unarmed { (q : ℕ) → (P.state plant.old).read_fuse q ≡ None → (P.state plant.new).read_fuse q ≡ None }
+    ensures faults { Counted (is_err result) (P.state plant.old).faults (P.state plant.new).faults }
+    ensures on { OnOk result ((P.state plant.new).on ≡ (P.state plant.old).on) }
+    ensures off { OnErr result ((P.state plant.new).on (volume_seen (P.state plant.old) config.now v.0).server ≡ false) }
+    ensures room { journal.old.spare ≤ journal.new.spare + 1 }
+    ensures told { OnOk result (journal.new ≡ journal.old) }
+    ensures spare { length journal.new.events + journal.new.spare ≡ length journal.old.events + journal.old.spare }
 {
-    let next = restarted(&peek_fields(p, c, v));
-    match update(p, c, v, &next, None) {
+    let next = restarted(&peek_fields(plant, config, v));
+    match update(plant, config, v, &next, None) {
         Ok(()) => Ok(()),
         Err(_) => {
-            let server = server_of(c, v);
-            j.push(Event::Stopped {
+            let server = server_of(config, v);
+            journal.push(Event::Stopped {
                 server: server.0,
                 write: 0,
             });
@@ -59,27 +64,32 @@ fn go_on<P: Plant>(p: &mut P, c: &Config, j: &mut Journal, v: VolumeId) -> Resul
 /// Metro Mirror pair that a stop left Full Duplex with a track out of sync is in Copy Pending. Its staged track stands at
 /// its place. Nothing is told. Fails where the server stops in the move or goes off at a read. The journal needs room for
 /// an event.
-pub fn restart<P: Plant>(p: &mut P, c: &Config, j: &mut Journal, v: VolumeId) -> Result<(), Refusal>
-    requires ready { StandsReady (P.state p.old) c.now v.0 }
-    requires room { 1 ≤ j.old.spare }
-    ensures advances { OnOk result ((r : Rest) → Advances (world_seen (P.state p.old) c.now r j.old.events) (restart_on (volume_seen (P.state p.old) c.now v.0).server v.0) (world_seen (P.state p.new) c.now r j.new.events)) }
-    ensures halts { OnErr result ((r : Rest) → Halts (armed_in (P.state p.old)) (world_seen (P.state p.old) c.now r j.old.events) (restart_on (volume_seen (P.state p.old) c.now v.0).server v.0) (world_seen (P.state p.new) c.now r j.new.events) (refusal_of result)) }
-    ensures refused { OnErr result (refusal_of result ≡ Some (stopped (volume_seen (P.state p.old) c.now v.0).server)) }
-    ensures server { (volume_seen (P.state p.new) c.now v.0).server ≡ (volume_seen (P.state p.old) c.now v.0).server }
-    ensures size { (volume_seen (P.state p.new) c.now v.0).tracks ≡ (volume_seen (P.state p.old) c.now v.0).tracks }
-    ensures others { OthersStay (P.state p.old) (P.state p.new) c.now v.0 }
-    ensures stands { StandsFor c.now (P.state p.new) }
-    ensures settled { (u : ℕ) → IsSettled (P.state p.old) c.now u → IsSettled (P.state p.new) c.now u }
-    ensures unarmed { (q : ℕ) → (P.state p.old).read_fuse q ≡ None → (P.state p.new).read_fuse q ≡ None }
-    ensures faults { Counted (is_err result) (P.state p.old).faults (P.state p.new).faults }
-    ensures on { OnOk result ((P.state p.new).on ≡ (P.state p.old).on) }
-    ensures off { OnErr result ((P.state p.new).on (volume_seen (P.state p.old) c.now v.0).server ≡ false) }
-    ensures room { j.old.spare ≤ j.new.spare + 1 }
-    ensures told { OnOk result (j.new ≡ j.old) }
-    ensures spare { length j.new.events + j.new.spare ≡ length j.old.events + j.old.spare }
+pub fn restart<P: Plant>(
+    plant: &mut P,
+    config: &Config,
+    journal: &mut Journal,
+    v: VolumeId,
+) -> Result<(), Refusal>
+    requires ready { StandsReady (P.state plant.old) config.now v.0 }
+    requires room { 1 ≤ journal.old.spare }
+    ensures advances { OnOk result ((r : Rest) → Advances (world_seen (P.state plant.old) config.now r journal.old.events) (restart_on (volume_seen (P.state plant.old) config.now v.0).server v.0) (world_seen (P.state plant.new) config.now r journal.new.events)) }
+    ensures halts { OnErr result ((r : Rest) → Halts (armed_in (P.state plant.old)) (world_seen (P.state plant.old) config.now r journal.old.events) (restart_on (volume_seen (P.state plant.old) config.now v.0).server v.0) (world_seen (P.state plant.new) config.now r journal.new.events) (refusal_of result)) }
+    ensures refused { OnErr result (refusal_of result ≡ Some (stopped (volume_seen (P.state plant.old) config.now v.0).server)) }
+    ensures server { (volume_seen (P.state plant.new) config.now v.0).server ≡ (volume_seen (P.state plant.old) config.now v.0).server }
+    ensures size { (volume_seen (P.state plant.new) config.now v.0).tracks ≡ (volume_seen (P.state plant.old) config.now v.0).tracks }
+    ensures others { OthersStay (P.state plant.old) (P.state plant.new) config.now v.0 }
+    ensures stands { StandsFor config.now (P.state plant.new) }
+    ensures settled { (u : ℕ) → IsSettled (P.state plant.old) config.now u → IsSettled (P.state plant.new) config.now u }
+    ensures unarmed { (q : ℕ) → (P.state plant.old).read_fuse q ≡ None → (P.state plant.new).read_fuse q ≡ None }
+    ensures faults { Counted (is_err result) (P.state plant.old).faults (P.state plant.new).faults }
+    ensures on { OnOk result ((P.state plant.new).on ≡ (P.state plant.old).on) }
+    ensures off { OnErr result ((P.state plant.new).on (volume_seen (P.state plant.old) config.now v.0).server ≡ false) }
+    ensures room { journal.old.spare ≤ journal.new.spare + 1 }
+    ensures told { OnOk result (journal.new ≡ journal.old) }
+    ensures spare { length journal.new.events + journal.new.spare ≡ length journal.old.events + journal.old.spare }
 {
-    if !must_restart(&peek_fields(p, c, v)) {
+    if !must_restart(&peek_fields(plant, config, v)) {
         return Ok(());
     }
-    go_on(p, c, j, v)
+    go_on(plant, config, journal, v)
 }

@@ -5,7 +5,7 @@ use Rattle.dr_model.specs.declared.state.Part.{Part}
 use Rattle.dr_model.specs.declared.state.PairState.{PairState}
 use Rattle.dr_model.specs.Layout.{Tracks, Fields, is_part}
 use Rattle.dr_model.specs.Lawful.{Low, HasSets, NoPrimary, NoSecondary, NoRelation, IsLawful}
-use Rattle.dr_model.specs.Pairs.{altered, written, held_for, freed, sealed, past_attempt, with_attempt, with_floor, no_member, is_engaged, is_torn, suspended, made_secondary, made_primary, no_primary, no_secondary, received, struck, resumed, taken_over, unsynced, mirrored, synced, thawed, lifted, restarted}
+use Rattle.dr_model.specs.Pairs.{altered, written, held_for, freed, sealed, past_attempt, with_attempt, with_floor, no_member, is_engaged, is_torn, suspended, made_secondary, made_primary, no_primary, no_secondary, received, struck, resumed, taken_over, unsynced, mirrored, synced, thawed, lifted, restarted, fallen_back, yielded}
 use Rattle.dr_model.specs.Relations.{Choices, rest, parted_if, fetched, noted, rewritten, made, withdrawn_if, resynced, turned, given_up, flashed, committed, reverted}
 use Rattle.dr_facts.proofs.Sets.{if_false, in_cond, in_none, in_more, rest_low, low_all, from_union}
 use Rattle.dr_model.proofs.LawfulLemmas.{removed}
@@ -235,6 +235,13 @@ module _ (n : ℕ) (f : Fields) (law : IsLawful n f) where
 
   pub lawful-taken_over : is_part f.secondary ≡ true → IsLawful n (taken_over f)
   lawful-taken_over is = lawful-paired (taken_over f) (in_none _) (in_none _) old.blank_low (λ h. false_true h is) (λ h. (refl, refl, refl))
+
+  -- a primary is one with more tracks out of sync, and another one its secondary
+  pub lawful-fallen_back : (more : Tracks) (state : PairState) → is_part f.primary ≡ true → Low n more → IsLawful n (fallen_back more state f)
+  lawful-fallen_back more state is low = lawful-paired (fallen_back more state f) (from_union _ _ (λ q. q < n) (low-voided (is_engaged f)) low) (low-if (is_engaged f) _ old.change_recording_low) old.blank_low (λ h. false_true h is) law.secondary
+
+  pub lawful-yielded : (u : ℕ) (kind : Part) (state : PairState) → is_part kind ≡ true → IsLawful n (yielded u kind state f)
+  lawful-yielded u kind state is = lawful-paired (yielded u kind state f) (in_none _) (in_none _) old.blank_low (λ h. (refl, refl, refl, refl, refl, refl, refl)) (λ h. false_true h is)
 
   -- a track changes on both sides: it is out of sync, the secondary stores it, it is out of sync no more
   pub lawful-unsynced : (t : ℕ) → t < n → is_part f.primary ≡ true → IsLawful n (unsynced f t)

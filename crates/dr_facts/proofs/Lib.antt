@@ -14,3 +14,4 @@ pub mod Turns
 pub mod Sets
 pub mod Lawful
 pub mod Joined
+pub mod Heard

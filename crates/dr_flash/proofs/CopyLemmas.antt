@@ -1,11 +1,11 @@
 -- What the targets of a source keep, from one volume of the configuration to the next.
 use Rattle.std.proofs.Common.{ℕ, ◌≡◌, ◌≤◌, ◌<◌, ◌+◌, suc, zero, arith, inl, inr, nat_eq, Bool, true, false, List, [], ◌∷◌, drop, length, map, slice_get, refl, sym, ◌∙◌, ap, subst, Option, Some, None, nat_lt}
-use Rattle.std.specs.Prelude.{option_map, is_some, ◌&&◌}
+use Rattle.std.specs.Prelude.{option_map, unwrap_or, is_some, ◌&&◌}
 use Rattle.std.proofs.Math.Numerals.{suc-eq-add-one}
 use Rattle.std.proofs.lemmas.List.{drop_all, append-nil}
 use Rattle.dr_ids.specs.declared.refusal.Refusal.{Refusal}
 use Rattle.dr_plant.specs.State.{PlantState}
-use Rattle.dr_config.specs.Table.{ConfigTable}
+use Rattle.dr_config.specs.Table.{ConfigTable, place_of, IsSoundConfig}
 use Rattle.dr_config.specs.declared.entries.VolumeEntry.{VolumeEntry}
 use Rattle.dr_model.specs.Control.{World}
 use Rattle.dr_model.specs.Carry.{Entry}
@@ -13,6 +13,8 @@ use Rattle.dr_model.specs.ReadStops.{Ends}
 use Rattle.dr_model.specs.Entries.{keep_on, copies_from}
 use Rattle.dr_volume.specs.View.{ids_of, volume_seen}
 use Rattle.dr_volume.specs.Update.{IsAsBefore}
+use Rattle.dr_volume.proofs.HeadLaws.{entry-there}
+use Rattle.dr_flash.specs.Heads.{id_at}
 use Rattle.dr_flash.specs.Here.{armed_in}
 use Rattle.dr_flash.specs.Turns.{Leads, Fails}
 use Rattle.dr_facts.proofs.Ends.{ends-none}
@@ -90,3 +92,14 @@ no-own s t v fit =
         | inr p ↦ p.0
       ]
     ] refl
+
+-- the volume at a place below the count
+pub id-there : (t : ConfigTable) (i : ℕ) → i < length t.volumes → Some (id_at t i) ≡ option_map (λ (e : VolumeEntry). e.id) (slice_get t.volumes i)
+id-there t i low =
+    let e = entry-there t i low in
+    subst (λ o. Some (unwrap_or (option_map (λ (e : VolumeEntry). e.id) o) 0) ≡ option_map (λ (e : VolumeEntry). e.id) o) (sym e.1) refl
+
+pub place-there : (t : ConfigTable) (i : ℕ) → IsSoundConfig t → i < length t.volumes → place_of t (id_at t i) ≡ Some i
+place-there t i sound low =
+    let e = entry-there t i low in
+    subst (λ o. place_of t (unwrap_or (option_map (λ (e : VolumeEntry). e.id) o) 0) ≡ Some i) (sym e.1) (sound.volume i e.0 e.1).own

@@ -1,5 +1,5 @@
 -- What a target does before a track of its source changes.
-use Rattle.std.proofs.Common.{ℕ, ◌≡◌, ◌≢◌, Bool, true, false, not, ◌&&◌, cond, List, refl, sym, ◌∙◌, ap, Option}
+use Rattle.std.proofs.Common.{ℕ, ◌≡◌, ◌≢◌, Bool, true, false, not, ◌&&◌, cond, List, [], ◌∷◌, ◌++◌, map, refl, sym, ◌∙◌, ap, Option}
 use Rattle.std.specs.Prelude.{if◌then◌else◌}
 use Rattle.std.specs.FinSet.{contains}
 use Rattle.std.proofs.lemmas.Bool.{and_parts}
@@ -16,7 +16,8 @@ use Rattle.dr_volume.specs.declared.fields.Fields.{Fields}
 use Rattle.dr_volume.specs.Plain.{plain}
 use Rattle.dr_volume.specs.View.{Rest, volume_seen}
 use Rattle.dr_flash.specs.Here.{world_seen}
-use Rattle.dr_flash.specs.Turns.{Advances, Halts}
+use Rattle.dr_flash.specs.Standing.{HasNoTarget}
+use Rattle.dr_flash.specs.Turns.{Advances, Halts, Leads}
 use Rattle.dr_facts.proofs.Ends.{ends-skips, ends-alike}
 
 pub skips : (w : World) (d : Entry) → d w.control ≡ Pass → Advances w d w
@@ -53,6 +54,13 @@ module _ (s : PlantState) (t : ConfigTable) (r : Rest) (ev : List Event) (v k u 
 -- a volume that is no target of v, or is restored onto it, keeps nothing for it
 pub passes-by : (s : PlantState) (t : ConfigTable) (r : Rest) (ev : List Event) (v k u : ℕ) → (copies_from v (volume_seen s t u).fields && not (volume_seen s t u).fields.reversing) ≡ false → keep_on v k u (world_seen s t r ev).control ≡ Pass
 passes-by s t r ev v k u other = ap (λ b. cond b (keep_if (volume_seen s t u).fields u k) Pass) other
+
+-- where v has no target, none of these volumes keeps anything for it
+pub passes-all : (s : PlantState) (t : ConfigTable) (r : Rest) (ev : List Event) (v k : ℕ) (us : List ℕ) → HasNoTarget s t v → Leads (world_seen s t r ev) (map (keep_on v k) us) (world_seen s t r ev)
+passes-all s t r ev v k [] none armed w r' ds more = more
+passes-all s t r ev v k (u ∷ us) none armed w r' ds more =
+    skips (world_seen s t r ev) (keep_on v k u) (passes-by s t r ev v k u (ap (λ b. b && not (volume_seen s t u).fields.reversing) (none u))) armed w r' (map (keep_on v k) us ++ ds)
+    (passes-all s t r ev v k us none armed w r' ds more)
 
 -- a volume that copies from v isn't one that doesn't
 pub apart-target : (s : PlantState) (t : ConfigTable) (v u q : ℕ) (f : Fields) → plain f ≡ (volume_seen s t u).fields → (copies_from v (plain f) && not f.reversing) ≡ true → copies_from v (volume_seen s t q).fields ≡ false → q ≢ u

@@ -1,21 +1,22 @@
 -- The targets of a volume, from one volume of the configuration to the next.
-use Rattle.std.proofs.Common.{ℕ, suc, ◌≡◌, ◌≤◌, ◌+◌, Bool, true, false, ◌&&◌, ◌||◌, cond, List, [], ◌∷◌, drop, length, slice_get, nat_lt, arith, refl, sym, ◌∙◌, ap, Some}
+use Rattle.std.proofs.Common.{ℕ, zero, suc, ◌≡◌, ◌≤◌, ◌+◌, Bool, true, false, ◌&&◌, ◌||◌, cond, List, [], ◌∷◌, drop, length, slice_get, nat_lt, arith, refl, sym, ◌∙◌, ap, Some, None}
 use Rattle.std.specs.Prelude.{option_map, filter, if◌then◌else◌}
 use Rattle.std.specs.List.{list_any}
 use Rattle.std.proofs.Math.Numerals.{suc-eq-add-one}
 use Rattle.std.proofs.lemmas.List.{drop_all}
 use Rattle.std.proofs.lemmas.Bool.Decides.{nat_tests}
 use Rattle.dr_plant.specs.State.{PlantState}
-use Rattle.dr_config.specs.Table.{ConfigTable}
+use Rattle.dr_config.specs.Table.{ConfigTable, place_of}
 use Rattle.dr_config.specs.declared.entries.VolumeEntry.{VolumeEntry}
+use Rattle.dr_config.proofs.Lookups.{entry-at-place}
 use Rattle.dr_model.specs.Layout.{Fields}
 use Rattle.dr_model.specs.Entries.{copies_from, is_revertible, is_reversing, relation_seen}
-use Rattle.dr_volume.specs.View.{volume_seen, ids_of, Rest}
+use Rattle.dr_volume.specs.View.{volume_seen, volume_at, ids_of, Rest}
 use Rattle.dr_flash.proofs.CopyLemmas.{ids-next}
 use Rattle.dr_ids.specs.declared.refusal.RelSeen.TheVariants.{Revertible, Reversing, Target, Source, None as Unrelated}
 use Rattle.dr_model.specs.declared.event.Event.{Event}
 use Rattle.dr_flash.specs.Here.{world_seen}
-use Rattle.dr_flash.specs.Standing.{targets_in, any_of, relation_of}
+use Rattle.dr_flash.specs.Standing.{targets_in, any_of, relation_of, HasNoTarget}
 use Rattle.dr_volume.specs.declared.head.Head.{Head}
 use Rattle.dr_volume.specs.Head.{head_of}
 use Rattle.dr_flash.specs.declared.standing.Targets.{Targets}
@@ -78,3 +79,27 @@ module _ (s : PlantState) (t : ConfigTable) (r : Rest) (events : List Event) (v 
       else if (shows i).related then Target
       else if ((shows i).related && true) || list_any (λ u. true) (targets_in s t v) then Source
       else Unrelated)
+
+none-first : (b : Bool) (x : ℕ) (xs : List ℕ) → length (cond b (x ∷ xs) xs) ≡ 0 → b ≡ false
+none-first true x xs h = absurd (cc h)
+none-first false x xs h = refl
+
+none-behind : (b : Bool) (x : ℕ) (xs : List ℕ) → length (cond b (x ∷ xs) xs) ≡ 0 → length xs ≡ 0
+none-behind true x xs h = absurd (cc h)
+none-behind false x xs h = h
+
+none-listed : (so : ℕ → Bool) (es : List VolumeEntry) (d : ℕ) (e : VolumeEntry) → slice_get es d ≡ Some e → length (filter so (ids_of es)) ≡ 0 → so e.id ≡ false
+none-listed so [] d e is h = absurd (cc is)
+none-listed so (x ∷ es) zero e is h = let same : x ≡ e = cc in ap (λ (z : VolumeEntry). so z.id) (sym same) ∙ none-first (so x.id) x.id (filter so (ids_of es)) h
+none-listed so (x ∷ es) (suc d) e is h = none-listed so es d e is (none-behind (so x.id) x.id (filter so (ids_of es)) h)
+
+-- a count of none says that no volume is a target
+pub no-target : (s : PlantState) (t : ConfigTable) (v n : ℕ) → n ≡ length (targets_in s t v) → nat_lt 0 n ≡ false → HasNoTarget s t v
+no-target s t v n count none q =
+    let zero : n ≡ 0 = grind (arith, nat_tests) in
+    elim (place_of t q) as (λ o. place_of t q ≡ o → copies_from v (volume_seen s t q).fields ≡ false) [
+      | None ↦ λ at. ap (λ o. copies_from v (volume_at s t o).fields) at
+      | Some d ↦ λ at.
+          let x = entry-at-place t q d at in
+          ap (λ z. copies_from v (volume_seen s t z).fields) (sym x.3) ∙ none-listed (λ u. copies_from v (volume_seen s t u).fields) t.volumes d x.0 x.1 (sym count ∙ zero)
+    ] refl

@@ -1,5 +1,5 @@
 -- The targets of a volume, and how it is seen.
-use Rattle.std.specs.Prelude.{ℕ, Bool, ◌&&◌, ◌||◌, List, filter, Option, Some, None, nat_lt, if◌then◌else◌}
+use Rattle.std.specs.Prelude.{◌≡◌, ℕ, Bool, false, ◌&&◌, ◌||◌, List, filter, Option, Some, None, nat_lt, if◌then◌else◌}
 use Rattle.std.specs.List.{list_any}
 use Rattle.dr_ids.specs.declared.refusal.RelSeen.{RelSeen}
 use Rattle.dr_ids.specs.declared.refusal.RelSeen.TheVariants.{Revertible, Reversing, Target, Source, None as Unrelated}
@@ -16,6 +16,10 @@ use Rattle.dr_flash.specs.declared.standing.Targets.{Targets}
 -- the targets of v, in order of definition
 abbrev pub targets_in : PlantState → ConfigTable → ℕ → List ℕ
 targets_in s t v = filter (λ u. copies_from v (volume_seen s t u).fields) (ids_of t.volumes)
+
+-- no volume is one
+abbrev pub HasNoTarget : PlantState → ConfigTable → ℕ → Type 0
+HasNoTarget s t v = (q : ℕ) → copies_from v (volume_seen s t q).fields ≡ false
 
 -- one of them is so
 abbrev pub any_of : (Fields → Bool) → PlantState → ConfigTable → ℕ → Bool

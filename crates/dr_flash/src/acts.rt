@@ -27,51 +27,51 @@ use dr_volume::{Fields, slot, update};
 /// given, a track. Fails where the server goes off at the read of the gate or stops in the move; a stop after which the
 /// volume's other slot is chosen counts the move as done.
 pub fn shift<P: Plant>(
-    p: &mut P,
-    c: &Config,
-    j: &mut Journal,
+    plant: &mut P,
+    config: &Config,
+    journal: &mut Journal,
     v: VolumeId,
     next: &Fields,
     track: Option<(u16, Block)>,
     told: &Telling,
 ) -> Result<(), Refusal>
-    requires rest { IsAtRest (P.state p.old) c.now }
-    requires fit { RelationsFit (P.state p.old) c.now }
-    requires defined { IsSome (place_of c.now v.0) }
-    requires running { (P.state p.old).on (volume_seen (P.state p.old) c.now v.0).server ≡ true }
-    requires lawful { IsLawful (volume_seen (P.state p.old) c.now v.0).tracks (plain next.now) }
-    requires within { IfSome track (λ t. t.0 < (volume_seen (P.state p.old) c.now v.0).tracks) }
-    requires covers { Covers (volume_seen (P.state p.old) c.now v.0).fields.blank next.now.blank track }
-    requires leaves { LeavesFit (P.state p.old) c.now v.0 (plain next.now) }
-    requires room { room_of told.now ≤ j.old.spare }
-    ensures done { OnOk result ((r : Rest) → made_by (machine.update (world_seen (P.state p.old) c.now r j.old.events) v.0 (plain next.now) track) (volume_seen (P.state p.old) c.now v.0).server told.now
-        ≡ (world_seen (P.state p.new) c.now r j.new.events, None)) }
-    ensures failed { OnErr result ((r : Rest) → GoesOff (armed_in (P.state p.old)) (world_seen (P.state p.new) c.now r j.new.events) (refusal_of result) (world_seen (P.state p.old) c.now r j.old.events)
-        ⊎ (made_by (machine.update (world_seen (P.state p.old) c.now r j.old.events) v.0 (plain next.now) track) (volume_seen (P.state p.old) c.now v.0).server told.now
-        ≡ (world_seen (P.state p.new) c.now r j.new.events, Some (volume_seen (P.state p.old) c.now v.0).server))) }
-    ensures refused { OnErr result (refusal_of result ≡ Some (stopped (volume_seen (P.state p.old) c.now v.0).server)) }
-    ensures rest { IsAtRest (P.state p.new) c.now }
-    ensures fit { RelationsFit (P.state p.new) c.now }
-    ensures unarmed { (q : ℕ) → (P.state p.old).read_fuse q ≡ None → (P.state p.new).read_fuse q ≡ None }
-    ensures faults { Counted (is_err result) (P.state p.old).faults (P.state p.new).faults }
-    ensures old_or_new { IsAsBefore (P.state p.old) (P.state p.new) c.now v.0 ⊎ IsMoved (P.state p.old) (P.state p.new) c.now v.0 (plain next.now) track }
-    ensures moved { OnOk result (IsMoved (P.state p.old) (P.state p.new) c.now v.0 (plain next.now) track) }
-    ensures others { OthersStay (P.state p.old) (P.state p.new) c.now v.0 }
-    ensures on { OnOk result ((P.state p.new).on ≡ (P.state p.old).on) }
-    ensures room { j.old.spare ≤ j.new.spare + room_of told.now }
-    ensures room_left { OnOk result (j.old.spare ≡ j.new.spare + length (events_of told.now.done)) }
-    ensures spare { length j.new.events + j.new.spare ≡ length j.old.events + j.old.spare }
+    requires rest { IsAtRest (P.state plant.old) config.now }
+    requires fit { RelationsFit (P.state plant.old) config.now }
+    requires defined { IsSome (place_of config.now v.0) }
+    requires running { (P.state plant.old).on (volume_seen (P.state plant.old) config.now v.0).server ≡ true }
+    requires lawful { IsLawful (volume_seen (P.state plant.old) config.now v.0).tracks (plain next.now) }
+    requires within { IfSome track (λ t. t.0 < (volume_seen (P.state plant.old) config.now v.0).tracks) }
+    requires covers { Covers (volume_seen (P.state plant.old) config.now v.0).fields.blank next.now.blank track }
+    requires leaves { LeavesFit (P.state plant.old) config.now v.0 (plain next.now) }
+    requires room { room_of told.now ≤ journal.old.spare }
+    ensures done { OnOk result ((r : Rest) → made_by (machine.update (world_seen (P.state plant.old) config.now r journal.old.events) v.0 (plain next.now) track) (volume_seen (P.state plant.old) config.now v.0).server told.now
+        ≡ (world_seen (P.state plant.new) config.now r journal.new.events, None)) }
+    ensures failed { OnErr result ((r : Rest) → GoesOff (armed_in (P.state plant.old)) (world_seen (P.state plant.new) config.now r journal.new.events) (refusal_of result) (world_seen (P.state plant.old) config.now r journal.old.events)
+        ⊎ (made_by (machine.update (world_seen (P.state plant.old) config.now r journal.old.events) v.0 (plain next.now) track) (volume_seen (P.state plant.old) config.now v.0).server told.now
+        ≡ (world_seen (P.state plant.new) config.now r journal.new.events, Some (volume_seen (P.state plant.old) config.now v.0).server))) }
+    ensures refused { OnErr result (refusal_of result ≡ Some (stopped (volume_seen (P.state plant.old) config.now v.0).server)) }
+    ensures rest { IsAtRest (P.state plant.new) config.now }
+    ensures fit { RelationsFit (P.state plant.new) config.now }
+    ensures unarmed { (q : ℕ) → (P.state plant.old).read_fuse q ≡ None → (P.state plant.new).read_fuse q ≡ None }
+    ensures faults { Counted (is_err result) (P.state plant.old).faults (P.state plant.new).faults }
+    ensures old_or_new { IsAsBefore (P.state plant.old) (P.state plant.new) config.now v.0 ⊎ IsMoved (P.state plant.old) (P.state plant.new) config.now v.0 (plain next.now) track }
+    ensures moved { OnOk result (IsMoved (P.state plant.old) (P.state plant.new) config.now v.0 (plain next.now) track) }
+    ensures others { OthersStay (P.state plant.old) (P.state plant.new) config.now v.0 }
+    ensures on { OnOk result ((P.state plant.new).on ≡ (P.state plant.old).on) }
+    ensures room { journal.old.spare ≤ journal.new.spare + room_of told.now }
+    ensures room_left { OnOk result (journal.old.spare ≡ journal.new.spare + length (events_of told.now.done)) }
+    ensures spare { length journal.new.events + journal.new.spare ≡ length journal.old.events + journal.old.spare }
 {
-    let before = slot(p, c, v);
-    match update(p, c, v, next, track) {
+    let before = slot(plant, config, v);
+    match update(plant, config, v, next, track) {
         Ok(()) => {
-            tell(j, &told.done);
+            tell(journal, &told.done);
             Ok(())
         }
         Err(_) => {
-            let server = server_of(c, v);
-            let done = slot(p, c, v) != before;
-            tell_stop(j, told, server, done);
+            let server = server_of(config, v);
+            let done = slot(plant, config, v) != before;
+            tell_stop(journal, told, server, done);
             Err(Refusal::Stopped { server })
         }
     }

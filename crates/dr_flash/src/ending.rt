@@ -41,41 +41,41 @@ fn is_plain_target(f: &Fields, s: VolumeId) -> bool
 
 /// Ends the relationship of a target: the tracks that it doesn't hold read zeros.
 fn part<P: Plant>(
-    p: &mut P,
-    c: &Config,
-    j: &mut Journal,
+    plant: &mut P,
+    config: &Config,
+    journal: &mut Journal,
     t: VolumeId,
     f: &Fields,
 ) -> Result<(), Refusal>
-    requires rest { IsAtRest (P.state p.old) c.now }
-    requires fit { RelationsFit (P.state p.old) c.now }
-    requires defined { IsSome (place_of c.now t.0) }
-    requires running { (P.state p.old).on (volume_seen (P.state p.old) c.now t.0).server ≡ true }
-    requires shows { Shows (P.state p.old) c.now t.0 f.now }
+    requires rest { IsAtRest (P.state plant.old) config.now }
+    requires fit { RelationsFit (P.state plant.old) config.now }
+    requires defined { IsSome (place_of config.now t.0) }
+    requires running { (P.state plant.old).on (volume_seen (P.state plant.old) config.now t.0).server ≡ true }
+    requires shows { Shows (P.state plant.old) config.now t.0 f.now }
     requires related { f.now.related ≡ true }
-    requires room { 257 ≤ j.old.spare }
-    ensures advances { OnOk result ((r : Rest) → Advances (world_seen (P.state p.old) c.now r j.old.events) (now (Withdraw t.0)) (world_seen (P.state p.new) c.now r j.new.events)) }
-    ensures halts { OnErr result ((r : Rest) → Halts (armed_in (P.state p.old)) (world_seen (P.state p.old) c.now r j.old.events) (now (Withdraw t.0)) (world_seen (P.state p.new) c.now r j.new.events) (refusal_of result)) }
-    ensures refused { OnErr result (refusal_of result ≡ Some (stopped (volume_seen (P.state p.old) c.now t.0).server)) }
-    ensures rest { IsAtRest (P.state p.new) c.now }
-    ensures fit { RelationsFit (P.state p.new) c.now }
-    ensures unarmed { (q : ℕ) → (P.state p.old).read_fuse q ≡ None → (P.state p.new).read_fuse q ≡ None }
-    ensures faults { Counted (is_err result) (P.state p.old).faults (P.state p.new).faults }
-    ensures others { OthersStay (P.state p.old) (P.state p.new) c.now t.0 }
-    ensures shows { OnOk result ((k : ℕ) → view_seen (P.state p.new) c.now t.0 k ≡ (if contains (volume_seen (P.state p.old) c.now t.0).fields.own k then track_seen (P.state p.old) c.now t.0 k else zeros)) }
-    ensures others_show { OthersShow (P.state p.old) (P.state p.new) c.now t.0 }
-    ensures on { OnOk result ((P.state p.new).on ≡ (P.state p.old).on) }
-    ensures room { j.old.spare ≤ j.new.spare + 257 }
-    ensures spare { length j.new.events + j.new.spare ≡ length j.old.events + j.old.spare }
+    requires room { 257 ≤ journal.old.spare }
+    ensures advances { OnOk result ((r : Rest) → Advances (world_seen (P.state plant.old) config.now r journal.old.events) (now (Withdraw t.0)) (world_seen (P.state plant.new) config.now r journal.new.events)) }
+    ensures halts { OnErr result ((r : Rest) → Halts (armed_in (P.state plant.old)) (world_seen (P.state plant.old) config.now r journal.old.events) (now (Withdraw t.0)) (world_seen (P.state plant.new) config.now r journal.new.events) (refusal_of result)) }
+    ensures refused { OnErr result (refusal_of result ≡ Some (stopped (volume_seen (P.state plant.old) config.now t.0).server)) }
+    ensures rest { IsAtRest (P.state plant.new) config.now }
+    ensures fit { RelationsFit (P.state plant.new) config.now }
+    ensures unarmed { (q : ℕ) → (P.state plant.old).read_fuse q ≡ None → (P.state plant.new).read_fuse q ≡ None }
+    ensures faults { Counted (is_err result) (P.state plant.old).faults (P.state plant.new).faults }
+    ensures others { OthersStay (P.state plant.old) (P.state plant.new) config.now t.0 }
+    ensures shows { OnOk result ((k : ℕ) → view_seen (P.state plant.new) config.now t.0 k ≡ (if contains (volume_seen (P.state plant.old) config.now t.0).fields.own k then track_seen (P.state plant.old) config.now t.0 k else zeros)) }
+    ensures others_show { OthersShow (P.state plant.old) (P.state plant.new) config.now t.0 }
+    ensures on { OnOk result ((P.state plant.new).on ≡ (P.state plant.old).on) }
+    ensures room { journal.old.spare ≤ journal.new.spare + 257 }
+    ensures spare { length journal.new.events + journal.new.spare ≡ length journal.old.events + journal.old.spare }
 {
-    let tracks = tracks_of(c, t);
+    let tracks = tracks_of(config, t);
     let next = withdrawn(tracks, f);
     let told = Telling::of(Told::Blanked {
         volume: t.0,
         tracks,
         own: f.own,
     });
-    shift(p, c, j, t, &next, None, &told)
+    shift(plant, config, journal, t, &next, None, &told)
 }
 
 /// Ends the relationship of target t of s; the caller knows both volumes. The tracks that t doesn't hold read zeros from then
@@ -83,41 +83,41 @@ fn part<P: Plant>(
 /// where t is no target of s, or one that is revertible or reversing. Fails too where the server stops in the move or goes off
 /// at a read. The journal needs room for 257 events: one for each track, and a stop.
 pub fn withdraw<P: Plant>(
-    p: &mut P,
-    c: &Config,
-    j: &mut Journal,
+    plant: &mut P,
+    config: &Config,
+    journal: &mut Journal,
     s: VolumeId,
     t: VolumeId,
 ) -> Result<(), Refusal>
-    requires rest { IsAtRest (P.state p.old) c.now }
-    requires fit { RelationsFit (P.state p.old) c.now }
-    requires source { IsSome (place_of c.now s.0) }
-    requires target { IsSome (place_of c.now t.0) }
-    requires room { 257 ≤ j.old.spare }
-    ensures carried { (r : Rest) → Ends (armed_in (P.state p.old)) (world_seen (P.state p.new) c.now r j.new.events) (refusal_of result) (world_seen (P.state p.old) c.now r j.old.events)
-        (withdraw_entries (world_seen (P.state p.old) c.now r j.old.events).control s.0 t.0) }
-    ensures unchanged { is_stop (refusal_of result) ≡ false → OnErr result ((P.state p.new ≡ P.state p.old) × (j.new ≡ j.old)) }
-    ensures rest { IsAtRest (P.state p.new) c.now }
-    ensures fit { RelationsFit (P.state p.new) c.now }
-    ensures unarmed { (q : ℕ) → (P.state p.old).read_fuse q ≡ None → (P.state p.new).read_fuse q ≡ None }
-    ensures faults { Counted (is_stop (refusal_of result)) (P.state p.old).faults (P.state p.new).faults }
-    ensures others { OthersStay (P.state p.old) (P.state p.new) c.now t.0 }
-    ensures shows { OnOk result ((k : ℕ) → view_seen (P.state p.new) c.now t.0 k ≡ (if contains (volume_seen (P.state p.old) c.now t.0).fields.own k then track_seen (P.state p.old) c.now t.0 k else zeros)) }
-    ensures others_show { OthersShow (P.state p.old) (P.state p.new) c.now t.0 }
-    ensures on { OnOk result ((P.state p.new).on ≡ (P.state p.old).on) }
-    ensures room { j.old.spare ≤ j.new.spare + 257 }
-    ensures spare { length j.new.events + j.new.spare ≡ length j.old.events + j.old.spare }
+    requires rest { IsAtRest (P.state plant.old) config.now }
+    requires fit { RelationsFit (P.state plant.old) config.now }
+    requires source { IsSome (place_of config.now s.0) }
+    requires target { IsSome (place_of config.now t.0) }
+    requires room { 257 ≤ journal.old.spare }
+    ensures carried { (r : Rest) → Ends (armed_in (P.state plant.old)) (world_seen (P.state plant.new) config.now r journal.new.events) (refusal_of result) (world_seen (P.state plant.old) config.now r journal.old.events)
+        (withdraw_entries (world_seen (P.state plant.old) config.now r journal.old.events).control s.0 t.0) }
+    ensures unchanged { is_stop (refusal_of result) ≡ false → OnErr result ((P.state plant.new ≡ P.state plant.old) × (journal.new ≡ journal.old)) }
+    ensures rest { IsAtRest (P.state plant.new) config.now }
+    ensures fit { RelationsFit (P.state plant.new) config.now }
+    ensures unarmed { (q : ℕ) → (P.state plant.old).read_fuse q ≡ None → (P.state plant.new).read_fuse q ≡ None }
+    ensures faults { Counted (is_stop (refusal_of result)) (P.state plant.old).faults (P.state plant.new).faults }
+    ensures others { OthersStay (P.state plant.old) (P.state plant.new) config.now t.0 }
+    ensures shows { OnOk result ((k : ℕ) → view_seen (P.state plant.new) config.now t.0 k ≡ (if contains (volume_seen (P.state plant.old) config.now t.0).fields.own k then track_seen (P.state plant.old) config.now t.0 k else zeros)) }
+    ensures others_show { OthersShow (P.state plant.old) (P.state plant.new) config.now t.0 }
+    ensures on { OnOk result ((P.state plant.new).on ≡ (P.state plant.old).on) }
+    ensures room { journal.old.spare ≤ journal.new.spare + 257 }
+    ensures spare { length journal.new.events + journal.new.spare ≡ length journal.old.events + journal.old.spare }
 {
-    let server = server_of(c, s);
-    if !p.is_on(server.0) {
+    let server = server_of(config, s);
+    if !plant.is_on(server.0) {
         return Err(Refusal::ServerOff { server });
     }
-    let fields = peek_fields(p, c, t);
+    let fields = peek_fields(plant, config, t);
     if let Some(why) = counted_refusal(&fields) {
         return Err(why);
     }
     if !is_plain_target(&fields, s) {
-        return Err(relation_state(p, c, t));
+        return Err(relation_state(plant, config, t));
     }
-    part(p, c, j, t, &fields)
+    part(plant, config, journal, t, &fields)
 }

@@ -43,108 +43,108 @@ fn is_shown_by_source(f: &Fields, t: u16) -> bool
 /// Reads what a track of a volume shows: its own bytes where it is no target or holds the track, else its source's. Fails
 /// where the plant can't read its device; then `into` is as before.
 pub fn read_target<P: Plant>(
-    p: &mut P,
-    c: &Config,
+    plant: &mut P,
+    config: &Config,
     v: VolumeId,
     t: u16,
     into: &mut Block,
 ) -> Result<(), Stopped>
-    requires defined { IsSome (place_of c.now v.0) }
-    requires stands { StandsFor c.now (P.state p.old) }
-    requires fit { RelationsFit (P.state p.old) c.now }
-    requires within { t < (volume_seen (P.state p.old) c.now v.0).tracks }
-    ensures state { P.state p.new ≡ after_read (P.state p.old) (device_of c.now v.0) }
-    ensures done { is_ok result ≡ can_read (P.state p.old) (device_of c.now v.0) }
-    ensures bytes { OnOk result (into.new ≡ view (λ u. (volume_seen (P.state p.old) c.now u).fields) (track_seen (P.state p.old) c.now) v.0 t) }
+    requires defined { IsSome (place_of config.now v.0) }
+    requires stands { StandsFor config.now (P.state plant.old) }
+    requires fit { RelationsFit (P.state plant.old) config.now }
+    requires within { t < (volume_seen (P.state plant.old) config.now v.0).tracks }
+    ensures state { P.state plant.new ≡ after_read (P.state plant.old) (device_of config.now v.0) }
+    ensures done { is_ok result ≡ can_read (P.state plant.old) (device_of config.now v.0) }
+    ensures bytes { OnOk result (into.new ≡ view (λ u. (volume_seen (P.state plant.old) config.now u).fields) (track_seen (P.state plant.old) config.now) v.0 t) }
     ensures same { OnErr result (into.new ≡ into.old) }
 {
-    let opened = open(p, c, v)?;
+    let opened = open(plant, config, v)?;
     if is_shown_by_source(opened.fields(), t) {
         let source = opened.fields().source;
-        return read_track(p, c, source, t, into);
+        return read_track(plant, config, source, t, into);
     }
-    opened.read_track(p, c, v, t, into)
+    opened.read_track(plant, config, v, t, into)
 }
 
 /// Stores at target u the bytes of track t of its source, as the background copy does.
 fn store_fetched<P: Plant>(
-    p: &mut P,
-    c: &Config,
-    j: &mut Journal,
+    plant: &mut P,
+    config: &Config,
+    journal: &mut Journal,
     u: VolumeId,
     t: u16,
     f: &Fields,
     bytes: &Block,
 ) -> Result<(), Refusal>
-    requires rest { IsAtRest (P.state p.old) c.now }
-    requires fit { RelationsFit (P.state p.old) c.now }
-    requires defined { IsSome (place_of c.now u.0) }
-    requires running { (P.state p.old).on (volume_seen (P.state p.old) c.now u.0).server ≡ true }
-    requires shows { Shows (P.state p.old) c.now u.0 f.now }
+    requires rest { IsAtRest (P.state plant.old) config.now }
+    requires fit { RelationsFit (P.state plant.old) config.now }
+    requires defined { IsSome (place_of config.now u.0) }
+    requires running { (P.state plant.old).on (volume_seen (P.state plant.old) config.now u.0).server ≡ true }
+    requires shows { Shows (P.state plant.old) config.now u.0 f.now }
     requires related { f.now.related ≡ true }
-    requires within { t < (volume_seen (P.state p.old) c.now u.0).tracks }
+    requires within { t < (volume_seen (P.state plant.old) config.now u.0).tracks }
     requires missing { contains f.now.own t ≡ false }
-    requires bytes { bytes.now ≡ track_seen (P.state p.old) c.now f.now.source.0 t }
-    requires room { 2 ≤ j.old.spare }
-    ensures advances { OnOk result ((r : Rest) → Advances (world_seen (P.state p.old) c.now r j.old.events) (now (Fetch u.0 t)) (world_seen (P.state p.new) c.now r j.new.events)) }
-    ensures halts { OnErr result ((r : Rest) → Halts (armed_in (P.state p.old)) (world_seen (P.state p.old) c.now r j.old.events) (now (Fetch u.0 t)) (world_seen (P.state p.new) c.now r j.new.events) (refusal_of result)) }
-    ensures refused { OnErr result (refusal_of result ≡ Some (stopped (volume_seen (P.state p.old) c.now u.0).server)) }
-    ensures rest { IsAtRest (P.state p.new) c.now }
-    ensures fit { RelationsFit (P.state p.new) c.now }
-    ensures unarmed { (q : ℕ) → (P.state p.old).read_fuse q ≡ None → (P.state p.new).read_fuse q ≡ None }
-    ensures faults { Counted (is_err result) (P.state p.old).faults (P.state p.new).faults }
-    ensures others { OthersStay (P.state p.old) (P.state p.new) c.now u.0 }
-    ensures show { AllShow (P.state p.old) (P.state p.new) c.now }
-    ensures on { OnOk result ((P.state p.new).on ≡ (P.state p.old).on) }
-    ensures room { j.old.spare ≤ j.new.spare + 2 }
-    ensures room_left { OnOk result (j.old.spare ≤ j.new.spare + 1) }
-    ensures spare { length j.new.events + j.new.spare ≡ length j.old.events + j.old.spare }
+    requires bytes { bytes.now ≡ track_seen (P.state plant.old) config.now f.now.source.0 t }
+    requires room { 2 ≤ journal.old.spare }
+    ensures advances { OnOk result ((r : Rest) → Advances (world_seen (P.state plant.old) config.now r journal.old.events) (now (Fetch u.0 t)) (world_seen (P.state plant.new) config.now r journal.new.events)) }
+    ensures halts { OnErr result ((r : Rest) → Halts (armed_in (P.state plant.old)) (world_seen (P.state plant.old) config.now r journal.old.events) (now (Fetch u.0 t)) (world_seen (P.state plant.new) config.now r journal.new.events) (refusal_of result)) }
+    ensures refused { OnErr result (refusal_of result ≡ Some (stopped (volume_seen (P.state plant.old) config.now u.0).server)) }
+    ensures rest { IsAtRest (P.state plant.new) config.now }
+    ensures fit { RelationsFit (P.state plant.new) config.now }
+    ensures unarmed { (q : ℕ) → (P.state plant.old).read_fuse q ≡ None → (P.state plant.new).read_fuse q ≡ None }
+    ensures faults { Counted (is_err result) (P.state plant.old).faults (P.state plant.new).faults }
+    ensures others { OthersStay (P.state plant.old) (P.state plant.new) config.now u.0 }
+    ensures show { AllShow (P.state plant.old) (P.state plant.new) config.now }
+    ensures on { OnOk result ((P.state plant.new).on ≡ (P.state plant.old).on) }
+    ensures room { journal.old.spare ≤ journal.new.spare + 2 }
+    ensures room_left { OnOk result (journal.old.spare ≤ journal.new.spare + 1) }
+    ensures spare { length journal.new.events + journal.new.spare ≡ length journal.old.events + journal.old.spare }
 {
-    let tracks = tracks_of(c, u);
+    let tracks = tracks_of(config, u);
     let track = *bytes;
     let next = closed(tracks, &fetched(f, t));
     let told = Telling::of(Told::One(Event::Copied {
         volume: u.0,
         track: t,
     }));
-    shift(p, c, j, u, &next, Some((t, track)), &told)
+    shift(plant, config, journal, u, &next, Some((t, track)), &told)
 }
 
 /// Target u takes track t of its source, as the background copy does.
 fn fetch<P: Plant>(
-    p: &mut P,
-    c: &Config,
-    j: &mut Journal,
+    plant: &mut P,
+    config: &Config,
+    journal: &mut Journal,
     u: VolumeId,
     t: u16,
     f: &Fields,
 ) -> Result<(), Refusal>
-    requires rest { IsAtRest (P.state p.old) c.now }
-    requires fit { RelationsFit (P.state p.old) c.now }
-    requires defined { IsSome (place_of c.now u.0) }
-    requires running { (P.state p.old).on (volume_seen (P.state p.old) c.now u.0).server ≡ true }
-    requires shows { Shows (P.state p.old) c.now u.0 f.now }
+    requires rest { IsAtRest (P.state plant.old) config.now }
+    requires fit { RelationsFit (P.state plant.old) config.now }
+    requires defined { IsSome (place_of config.now u.0) }
+    requires running { (P.state plant.old).on (volume_seen (P.state plant.old) config.now u.0).server ≡ true }
+    requires shows { Shows (P.state plant.old) config.now u.0 f.now }
     requires related { f.now.related ≡ true }
-    requires within { t < (volume_seen (P.state p.old) c.now u.0).tracks }
+    requires within { t < (volume_seen (P.state plant.old) config.now u.0).tracks }
     requires missing { contains f.now.own t ≡ false }
-    requires room { 2 ≤ j.old.spare }
-    ensures advances { OnOk result ((r : Rest) → Advances (world_seen (P.state p.old) c.now r j.old.events) (now (Fetch u.0 t)) (world_seen (P.state p.new) c.now r j.new.events)) }
-    ensures halts { OnErr result ((r : Rest) → Halts (armed_in (P.state p.old)) (world_seen (P.state p.old) c.now r j.old.events) (now (Fetch u.0 t)) (world_seen (P.state p.new) c.now r j.new.events) (refusal_of result)) }
-    ensures refused { OnErr result (refusal_of result ≡ Some (stopped (volume_seen (P.state p.old) c.now u.0).server)) }
-    ensures rest { IsAtRest (P.state p.new) c.now }
-    ensures fit { RelationsFit (P.state p.new) c.now }
-    ensures unarmed { (q : ℕ) → (P.state p.old).read_fuse q ≡ None → (P.state p.new).read_fuse q ≡ None }
-    ensures faults { Counted (is_err result) (P.state p.old).faults (P.state p.new).faults }
-    ensures others { OthersStay (P.state p.old) (P.state p.new) c.now u.0 }
-    ensures show { AllShow (P.state p.old) (P.state p.new) c.now }
-    ensures on { OnOk result ((P.state p.new).on ≡ (P.state p.old).on) }
-    ensures room { j.old.spare ≤ j.new.spare + 2 }
-    ensures room_left { OnOk result (j.old.spare ≤ j.new.spare + 1) }
-    ensures spare { length j.new.events + j.new.spare ≡ length j.old.events + j.old.spare }
+    requires room { 2 ≤ journal.old.spare }
+    ensures advances { OnOk result ((r : Rest) → Advances (world_seen (P.state plant.old) config.now r journal.old.events) (now (Fetch u.0 t)) (world_seen (P.state plant.new) config.now r journal.new.events)) }
+    ensures halts { OnErr result ((r : Rest) → Halts (armed_in (P.state plant.old)) (world_seen (P.state plant.old) config.now r journal.old.events) (now (Fetch u.0 t)) (world_seen (P.state plant.new) config.now r journal.new.events) (refusal_of result)) }
+    ensures refused { OnErr result (refusal_of result ≡ Some (stopped (volume_seen (P.state plant.old) config.now u.0).server)) }
+    ensures rest { IsAtRest (P.state plant.new) config.now }
+    ensures fit { RelationsFit (P.state plant.new) config.now }
+    ensures unarmed { (q : ℕ) → (P.state plant.old).read_fuse q ≡ None → (P.state plant.new).read_fuse q ≡ None }
+    ensures faults { Counted (is_err result) (P.state plant.old).faults (P.state plant.new).faults }
+    ensures others { OthersStay (P.state plant.old) (P.state plant.new) config.now u.0 }
+    ensures show { AllShow (P.state plant.old) (P.state plant.new) config.now }
+    ensures on { OnOk result ((P.state plant.new).on ≡ (P.state plant.old).on) }
+    ensures room { journal.old.spare ≤ journal.new.spare + 2 }
+    ensures room_left { OnOk result (journal.old.spare ≤ journal.new.spare + 1) }
+    ensures spare { length journal.new.events + journal.new.spare ≡ length journal.old.events + journal.old.spare }
 {
     let mut bytes = [0; 64];
-    read_told(p, c, j, f.source, t, &mut bytes)?;
-    store_fetched(p, c, j, u, t, f, &bytes)
+    read_told(plant, config, journal, f.source, t, &mut bytes)?;
+    store_fetched(plant, config, journal, u, t, f, &bytes)
 }
 
 /// The lowest track that a target of n tracks doesn't hold; none where the volume is no target.
@@ -165,37 +165,37 @@ fn next_missing(n: u16, f: &Fields) -> Option<u16>
 /// Copies one track of a volume whose server is on: the lowest that it doesn't hold yet, where it is a target. Says whether
 /// there was one. Fails where the server stops in the move or goes off at a read. The journal needs room for two events.
 pub fn copy_step<P: Plant>(
-    p: &mut P,
-    c: &Config,
-    j: &mut Journal,
+    plant: &mut P,
+    config: &Config,
+    journal: &mut Journal,
     v: VolumeId,
 ) -> Result<bool, Refusal>
-    requires rest { IsAtRest (P.state p.old) c.now }
-    requires fit { RelationsFit (P.state p.old) c.now }
-    requires defined { IsSome (place_of c.now v.0) }
-    requires running { (P.state p.old).on (volume_seen (P.state p.old) c.now v.0).server ≡ true }
-    requires room { 2 ≤ j.old.spare }
-    ensures carried { (r : Rest) → Ends (armed_in (P.state p.old)) (world_seen (P.state p.new) c.now r j.new.events) (refusal_of result) (world_seen (P.state p.old) c.now r j.old.events) (fetch_next v.0 ∷ []) }
-    ensures advances { OnOk result ((r : Rest) → Advances (world_seen (P.state p.old) c.now r j.old.events) (fetch_next v.0) (world_seen (P.state p.new) c.now r j.new.events)) }
-    ensures halts { OnErr result ((r : Rest) → Halts (armed_in (P.state p.old)) (world_seen (P.state p.old) c.now r j.old.events) (fetch_next v.0) (world_seen (P.state p.new) c.now r j.new.events) (refusal_of result)) }
-    ensures left { IfOk result (λ found. (r : Rest) → found ≡ is_some (lowest_missing v.0 (world_seen (P.state p.old) c.now r j.old.events).control)) }
-    ensures refused { OnErr result (refusal_of result ≡ Some (stopped (volume_seen (P.state p.old) c.now v.0).server)) }
-    ensures rest { IsAtRest (P.state p.new) c.now }
-    ensures fit { RelationsFit (P.state p.new) c.now }
-    ensures unarmed { (q : ℕ) → (P.state p.old).read_fuse q ≡ None → (P.state p.new).read_fuse q ≡ None }
-    ensures faults { Counted (is_err result) (P.state p.old).faults (P.state p.new).faults }
-    ensures others { OthersStay (P.state p.old) (P.state p.new) c.now v.0 }
-    ensures show { AllShow (P.state p.old) (P.state p.new) c.now }
-    ensures on { OnOk result ((P.state p.new).on ≡ (P.state p.old).on) }
-    ensures room { j.old.spare ≤ j.new.spare + 2 }
-    ensures room_left { OnOk result (j.old.spare ≤ j.new.spare + 1) }
-    ensures spare { length j.new.events + j.new.spare ≡ length j.old.events + j.old.spare }
+    requires rest { IsAtRest (P.state plant.old) config.now }
+    requires fit { RelationsFit (P.state plant.old) config.now }
+    requires defined { IsSome (place_of config.now v.0) }
+    requires running { (P.state plant.old).on (volume_seen (P.state plant.old) config.now v.0).server ≡ true }
+    requires room { 2 ≤ journal.old.spare }
+    ensures carried { (r : Rest) → Ends (armed_in (P.state plant.old)) (world_seen (P.state plant.new) config.now r journal.new.events) (refusal_of result) (world_seen (P.state plant.old) config.now r journal.old.events) (fetch_next v.0 ∷ []) }
+    ensures advances { OnOk result ((r : Rest) → Advances (world_seen (P.state plant.old) config.now r journal.old.events) (fetch_next v.0) (world_seen (P.state plant.new) config.now r journal.new.events)) }
+    ensures halts { OnErr result ((r : Rest) → Halts (armed_in (P.state plant.old)) (world_seen (P.state plant.old) config.now r journal.old.events) (fetch_next v.0) (world_seen (P.state plant.new) config.now r journal.new.events) (refusal_of result)) }
+    ensures left { IfOk result (λ found. (r : Rest) → found ≡ is_some (lowest_missing v.0 (world_seen (P.state plant.old) config.now r journal.old.events).control)) }
+    ensures refused { OnErr result (refusal_of result ≡ Some (stopped (volume_seen (P.state plant.old) config.now v.0).server)) }
+    ensures rest { IsAtRest (P.state plant.new) config.now }
+    ensures fit { RelationsFit (P.state plant.new) config.now }
+    ensures unarmed { (q : ℕ) → (P.state plant.old).read_fuse q ≡ None → (P.state plant.new).read_fuse q ≡ None }
+    ensures faults { Counted (is_err result) (P.state plant.old).faults (P.state plant.new).faults }
+    ensures others { OthersStay (P.state plant.old) (P.state plant.new) config.now v.0 }
+    ensures show { AllShow (P.state plant.old) (P.state plant.new) config.now }
+    ensures on { OnOk result ((P.state plant.new).on ≡ (P.state plant.old).on) }
+    ensures room { journal.old.spare ≤ journal.new.spare + 2 }
+    ensures room_left { OnOk result (journal.old.spare ≤ journal.new.spare + 1) }
+    ensures spare { length journal.new.events + journal.new.spare ≡ length journal.old.events + journal.old.spare }
 {
-    let fields = peek_fields(p, c, v);
-    let tracks = tracks_of(c, v);
+    let fields = peek_fields(plant, config, v);
+    let tracks = tracks_of(config, v);
     let Some(t) = next_missing(tracks, &fields) else {
         return Ok(false);
     };
-    fetch(p, c, j, v, t, &fields)?;
+    fetch(plant, config, journal, v, t, &fields)?;
     Ok(true)
 }

@@ -6,7 +6,7 @@ ghost use Rattle.dr_model.specs.Relations as relations;
 ghost use Rattle.dr_volume.specs.Plain.{plain};
 ghost use Rattle.dr_flash.specs.Options.{choices};
 
-use crate::options::Options;
+use crate::options::FlashOptions;
 use crate::sets::{is_whole, rest};
 use dr_bits::TrackSet;
 use dr_ids::VolumeId;
@@ -153,7 +153,7 @@ pub fn rewritten(f: &Fields, t: u16) -> Fields
 }
 
 /// A target of `s`, as its relationship is made.
-pub fn made(s: VolumeId, o: &Options, f: &Fields) -> Fields
+pub fn made(s: VolumeId, o: &FlashOptions, f: &Fields) -> Fields
     ensures { plain result ≡ relations.made s.0 (choices o.now) (plain f.now) }
 {
     Fields {

@@ -14,7 +14,7 @@ ghost use Rattle.dr_flash.specs.Here.{world_seen, refusal_of, armed_in, IsAtRest
 ghost use Rattle.dr_flash.specs.Turns.{Leads, Fails};
 ghost use Rattle.dr_flash.specs.Views.{AllShow, kept_for, KeepsTrack};
 
-use crate::keep::keep_on;
+use crate::keep::keep_at;
 use dr_config::Config;
 use dr_ids::{Refusal, VolumeId};
 use dr_model::Journal;
@@ -25,38 +25,37 @@ use dr_plant::Plant;
 /// move or goes off at a read; what was kept by then stays. The journal needs room for an event for each volume and one
 /// more.
 pub fn copy_first<P: Plant>(
-    p: &mut P,
-    c: &Config,
-    j: &mut Journal,
+    plant: &mut P,
+    config: &Config,
+    journal: &mut Journal,
     v: VolumeId,
     t: u16,
 ) -> Result<(), Refusal>
-    requires rest { IsAtRest (P.state p.old) c.now }
-    requires fit { RelationsFit (P.state p.old) c.now }
-    requires defined { IsSome (place_of c.now v.0) }
-    requires running { (P.state p.old).on (volume_seen (P.state p.old) c.now v.0).server ≡ true }
-    requires within { t < (volume_seen (P.state p.old) c.now v.0).tracks }
-    requires room { length c.now.volumes + 1 ≤ j.old.spare }
-    ensures carried { (r : Rest) → Ends (armed_in (P.state p.old)) (world_seen (P.state p.new) c.now r j.new.events) (refusal_of result) (world_seen (P.state p.old) c.now r j.old.events) (entries.copy_first (ids_of c.now.volumes) v.0 t) }
-    ensures leads { OnOk result ((r : Rest) → Leads (world_seen (P.state p.old) c.now r j.old.events) (entries.copy_first (ids_of c.now.volumes) v.0 t) (world_seen (P.state p.new) c.now r j.new.events)) }
-    ensures fails { OnErr result ((r : Rest) → Fails (armed_in (P.state p.old)) (world_seen (P.state p.old) c.now r j.old.events) (entries.copy_first (ids_of c.now.volumes) v.0 t) (world_seen (P.state p.new) c.now r j.new.events) (refusal_of result)) }
-    ensures refused { OnErr result (refusal_of result ≡ Some (stopped (volume_seen (P.state p.old) c.now v.0).server)) }
-    ensures rest { IsAtRest (P.state p.new) c.now }
-    ensures fit { RelationsFit (P.state p.new) c.now }
-    ensures unarmed { (q : ℕ) → (P.state p.old).read_fuse q ≡ None → (P.state p.new).read_fuse q ≡ None }
-    ensures faults { Counted (is_err result) (P.state p.old).faults (P.state p.new).faults }
-    ensures others { (q : ℕ) → copies_from v.0 (volume_seen (P.state p.old) c.now q).fields ≡ false → IsAsBefore (P.state p.old) (P.state p.new) c.now q }
-    ensures show { AllShow (P.state p.old) (P.state p.new) c.now }
-    ensures held { OnOk result ((q : ℕ) → KeepsTrack (P.state p.old) (P.state p.new) c.now v.0 t q) }
-    ensures apart { (q : ℕ) → kept_for v.0 (volume_seen (P.state p.old) c.now q).fields ≡ false → IsAsBefore (P.state p.old) (P.state p.new) c.now q }
-    ensures on { OnOk result ((P.state p.new).on ≡ (P.state p.old).on) }
-    ensures room { j.old.spare ≤ j.new.spare + (length c.now.volumes + 1) }
-    ensures room_left { OnOk result (j.old.spare ≤ j.new.spare + length c.now.volumes) }
-    ensures spare { length j.new.events + j.new.spare ≡ length j.old.events + j.old.spare }
+    requires rest { IsAtRest (P.state plant.old) config.now }
+    requires fit { RelationsFit (P.state plant.old) config.now }
+    requires defined { IsSome (place_of config.now v.0) }
+    requires running { (P.state plant.old).on (volume_seen (P.state plant.old) config.now v.0).server ≡ true }
+    requires within { t < (volume_seen (P.state plant.old) config.now v.0).tracks }
+    requires room { length config.now.volumes + 1 ≤ journal.old.spare }
+    ensures carried { (r : Rest) → Ends (armed_in (P.state plant.old)) (world_seen (P.state plant.new) config.now r journal.new.events) (refusal_of result) (world_seen (P.state plant.old) config.now r journal.old.events) (entries.copy_first (ids_of config.now.volumes) v.0 t) }
+    ensures leads { OnOk result ((r : Rest) → Leads (world_seen (P.state plant.old) config.now r journal.old.events) (entries.copy_first (ids_of config.now.volumes) v.0 t) (world_seen (P.state plant.new) config.now r journal.new.events)) }
+    ensures fails { OnErr result ((r : Rest) → Fails (armed_in (P.state plant.old)) (world_seen (P.state plant.old) config.now r journal.old.events) (entries.copy_first (ids_of config.now.volumes) v.0 t) (world_seen (P.state plant.new) config.now r journal.new.events) (refusal_of result)) }
+    ensures refused { OnErr result (refusal_of result ≡ Some (stopped (volume_seen (P.state plant.old) config.now v.0).server)) }
+    ensures rest { IsAtRest (P.state plant.new) config.now }
+    ensures fit { RelationsFit (P.state plant.new) config.now }
+    ensures unarmed { (q : ℕ) → (P.state plant.old).read_fuse q ≡ None → (P.state plant.new).read_fuse q ≡ None }
+    ensures faults { Counted (is_err result) (P.state plant.old).faults (P.state plant.new).faults }
+    ensures others { (q : ℕ) → copies_from v.0 (volume_seen (P.state plant.old) config.now q).fields ≡ false → IsAsBefore (P.state plant.old) (P.state plant.new) config.now q }
+    ensures show { AllShow (P.state plant.old) (P.state plant.new) config.now }
+    ensures held { OnOk result ((q : ℕ) → KeepsTrack (P.state plant.old) (P.state plant.new) config.now v.0 t q) }
+    ensures apart { (q : ℕ) → kept_for v.0 (volume_seen (P.state plant.old) config.now q).fields ≡ false → IsAsBefore (P.state plant.old) (P.state plant.new) config.now q }
+    ensures on { OnOk result ((P.state plant.new).on ≡ (P.state plant.old).on) }
+    ensures room { journal.old.spare ≤ journal.new.spare + (length config.now.volumes + 1) }
+    ensures room_left { OnOk result (journal.old.spare ≤ journal.new.spare + length config.now.volumes) }
+    ensures spare { length journal.new.events + journal.new.spare ≡ length journal.old.events + journal.old.spare }
 {
-    for place in 0..c.volumes() {
-        let u = c.volume_at(place).unwrap();
-        keep_on(p, c, j, v, t, u, place)?;
+    for place in 0..config.volumes() {
+        keep_at(plant, config, journal, v, t, place)?;
     }
     Ok(())
 }

@@ -44,12 +44,14 @@ pub use fields::{
 pub use keep::keep_on;
 pub use keeping::copy_first;
 pub use making::establish;
-pub use options::Options;
+pub use options::FlashOptions;
 pub use pairs::{is_quiet, is_unpaired, pair_state};
 pub use place::{server_of, tracks_of};
 pub use reads::read_told;
 pub use sets::{is_whole, lowest, rest};
-pub use standing::{counted_refusal, is_revertible, is_settled, relation_state, write_refusal};
+pub use standing::{
+    counted_refusal, is_revertible, is_settled, relation_state, write_refusal, write_refusal_by,
+};
 pub use told::{Telling, Told};
 pub use views::view_of;
 pub use writing::{write_source, write_source_telling, write_target};

@@ -21,7 +21,7 @@ ghost use Rattle.dr_flash.specs.Views.{view_seen, OthersShow};
 
 use crate::acts::shift;
 use crate::fields::made;
-use crate::options::Options;
+use crate::options::FlashOptions;
 use crate::pairs::{is_unpaired, pair_state};
 use crate::place::{server_of, tracks_of};
 use crate::standing::{look_at_targets, relation_state};
@@ -36,24 +36,24 @@ use dr_volume::peek_fields;
 const MOST_TARGETS: usize = 12;
 
 /// Why two volumes can't be source and target: they are one, or their servers or sizes differ.
-fn alike_refusal(c: &Config, s: VolumeId, t: VolumeId) -> Option<Refusal>
-    requires source { IsSome (place_of c.now s.0) }
-    requires target { IsSome (place_of c.now t.0) }
-    ensures checked { (x : PlantState) (r : Rest) (events : List Event) → Checked (world_seen x c.now r events) (alike_checks s.0 t.0) result }
+fn alike_refusal(config: &Config, s: VolumeId, t: VolumeId) -> Option<Refusal>
+    requires source { IsSome (place_of config.now s.0) }
+    requires target { IsSome (place_of config.now t.0) }
+    ensures checked { (x : PlantState) (r : Rest) (events : List Event) → Checked (world_seen x config.now r events) (alike_checks s.0 t.0) result }
     ensures calm { is_stop result ≡ false }
     ensures apart { OnNone result (s.0 ≢ t.0) }
-    ensures server { OnNone result ((x : PlantState) → (volume_seen x c.now t.0).server ≡ (volume_seen x c.now s.0).server) }
-    ensures size { OnNone result ((x : PlantState) → (volume_seen x c.now t.0).tracks ≡ (volume_seen x c.now s.0).tracks) }
+    ensures server { OnNone result ((x : PlantState) → (volume_seen x config.now t.0).server ≡ (volume_seen x config.now s.0).server) }
+    ensures size { OnNone result ((x : PlantState) → (volume_seen x config.now t.0).tracks ≡ (volume_seen x config.now s.0).tracks) }
 {
     if s.0 == t.0 {
         return Some(Refusal::Duplicate { kind: Kind::Volume });
     }
-    if server_of(c, s).0 != server_of(c, t).0 {
+    if server_of(config, s).0 != server_of(config, t).0 {
         return Some(Refusal::Limit {
             which: Which::Server,
         });
     }
-    if tracks_of(c, s) != tracks_of(c, t) {
+    if tracks_of(config, s) != tracks_of(config, t) {
         return Some(Refusal::Limit { which: Which::Size });
     }
     None
@@ -61,28 +61,28 @@ fn alike_refusal(c: &Config, s: VolumeId, t: VolumeId) -> Option<Refusal>
 
 /// Why t can't become a target of s: t stands in a relationship, s is a target, t has a part in a pair, or s has 12
 /// targets.
-fn free_refusal<P: Plant>(p: &P, c: &Config, s: VolumeId, t: VolumeId) -> Option<Refusal>
-    requires stands { StandsFor c.now (P.state p.now) }
-    requires source { IsSome (place_of c.now s.0) }
-    requires target { IsSome (place_of c.now t.0) }
-    ensures checked { (r : Rest) (events : List Event) → Checked (world_seen (P.state p.now) c.now r events) (free_checks (world_seen (P.state p.now) c.now r events).control s.0 t.0) result }
+fn free_refusal<P: Plant>(plant: &P, config: &Config, s: VolumeId, t: VolumeId) -> Option<Refusal>
+    requires stands { StandsFor config.now (P.state plant.now) }
+    requires source { IsSome (place_of config.now s.0) }
+    requires target { IsSome (place_of config.now t.0) }
+    ensures checked { (r : Rest) (events : List Event) → Checked (world_seen (P.state plant.now) config.now r events) (free_checks (world_seen (P.state plant.now) config.now r events).control s.0 t.0) result }
     ensures calm { is_stop result ≡ false }
-    ensures lone { OnNone result ((u : ℕ) → (volume_seen (P.state p.now) c.now u).fields.related ≡ true → (volume_seen (P.state p.now) c.now u).fields.source ≢ t.0) }
-    ensures plain { OnNone result ((volume_seen (P.state p.now) c.now s.0).fields.related ≡ false) }
+    ensures lone { OnNone result ((u : ℕ) → (volume_seen (P.state plant.now) config.now u).fields.related ≡ true → (volume_seen (P.state plant.now) config.now u).fields.source ≢ t.0) }
+    ensures plain { OnNone result ((volume_seen (P.state plant.now) config.now s.0).fields.related ≡ false) }
 {
-    if peek_fields(p, c, t).related {
-        return Some(relation_state(p, c, t));
+    if peek_fields(plant, config, t).related {
+        return Some(relation_state(plant, config, t));
     }
-    if look_at_targets(p, c, t).count > 0 {
-        return Some(relation_state(p, c, t));
+    if look_at_targets(plant, config, t).count > 0 {
+        return Some(relation_state(plant, config, t));
     }
-    if peek_fields(p, c, s).related {
-        return Some(relation_state(p, c, s));
+    if peek_fields(plant, config, s).related {
+        return Some(relation_state(plant, config, s));
     }
-    if !is_unpaired(&peek_fields(p, c, t)) {
-        return Some(pair_state(p, c, t));
+    if !is_unpaired(&peek_fields(plant, config, t)) {
+        return Some(pair_state(plant, config, t));
     }
-    if look_at_targets(p, c, s).count >= MOST_TARGETS {
+    if look_at_targets(plant, config, s).count >= MOST_TARGETS {
         return Some(Refusal::Limit {
             which: Which::Targets,
         });
@@ -92,83 +92,83 @@ fn free_refusal<P: Plant>(p: &P, c: &Config, s: VolumeId, t: VolumeId) -> Option
 
 /// Makes t, which stands in no relationship, a target of s.
 fn relate<P: Plant>(
-    p: &mut P,
-    c: &Config,
-    j: &mut Journal,
+    plant: &mut P,
+    config: &Config,
+    journal: &mut Journal,
     s: VolumeId,
     t: VolumeId,
-    o: &Options,
+    o: &FlashOptions,
 ) -> Result<(), Refusal>
-    requires rest { IsAtRest (P.state p.old) c.now }
-    requires fit { RelationsFit (P.state p.old) c.now }
-    requires defined { IsSome (place_of c.now t.0) }
-    requires running { (P.state p.old).on (volume_seen (P.state p.old) c.now t.0).server ≡ true }
-    requires source { SourceFits (is_some (place_of c.now s.0)) (volume_seen (P.state p.old) c.now t.0) (volume_seen (P.state p.old) c.now s.0) }
+    requires rest { IsAtRest (P.state plant.old) config.now }
+    requires fit { RelationsFit (P.state plant.old) config.now }
+    requires defined { IsSome (place_of config.now t.0) }
+    requires running { (P.state plant.old).on (volume_seen (P.state plant.old) config.now t.0).server ≡ true }
+    requires source { SourceFits (is_some (place_of config.now s.0)) (volume_seen (P.state plant.old) config.now t.0) (volume_seen (P.state plant.old) config.now s.0) }
     requires apart { s.0 ≢ t.0 }
-    requires lone { (u : ℕ) → (volume_seen (P.state p.old) c.now u).fields.related ≡ true → (volume_seen (P.state p.old) c.now u).fields.source ≢ t.0 }
-    requires room { 2 ≤ j.old.spare }
-    ensures advances { OnOk result ((r : Rest) → Advances (world_seen (P.state p.old) c.now r j.old.events) (now (Relate t.0 s.0 (choices o.now))) (world_seen (P.state p.new) c.now r j.new.events)) }
-    ensures halts { OnErr result ((r : Rest) → Halts (armed_in (P.state p.old)) (world_seen (P.state p.old) c.now r j.old.events) (now (Relate t.0 s.0 (choices o.now))) (world_seen (P.state p.new) c.now r j.new.events) (refusal_of result)) }
-    ensures refused { OnErr result (refusal_of result ≡ Some (stopped (volume_seen (P.state p.old) c.now t.0).server)) }
-    ensures rest { IsAtRest (P.state p.new) c.now }
-    ensures fit { RelationsFit (P.state p.new) c.now }
-    ensures unarmed { (q : ℕ) → (P.state p.old).read_fuse q ≡ None → (P.state p.new).read_fuse q ≡ None }
-    ensures faults { Counted (is_err result) (P.state p.old).faults (P.state p.new).faults }
-    ensures others { OthersStay (P.state p.old) (P.state p.new) c.now t.0 }
-    ensures shows { OnOk result ((k : ℕ) → view_seen (P.state p.new) c.now t.0 k ≡ view_seen (P.state p.old) c.now s.0 k) }
-    ensures others_show { OthersShow (P.state p.old) (P.state p.new) c.now t.0 }
-    ensures on { OnOk result ((P.state p.new).on ≡ (P.state p.old).on) }
-    ensures room { j.old.spare ≤ j.new.spare + 2 }
-    ensures spare { length j.new.events + j.new.spare ≡ length j.old.events + j.old.spare }
+    requires lone { (u : ℕ) → (volume_seen (P.state plant.old) config.now u).fields.related ≡ true → (volume_seen (P.state plant.old) config.now u).fields.source ≢ t.0 }
+    requires room { 2 ≤ journal.old.spare }
+    ensures advances { OnOk result ((r : Rest) → Advances (world_seen (P.state plant.old) config.now r journal.old.events) (now (Relate t.0 s.0 (choices o.now))) (world_seen (P.state plant.new) config.now r journal.new.events)) }
+    ensures halts { OnErr result ((r : Rest) → Halts (armed_in (P.state plant.old)) (world_seen (P.state plant.old) config.now r journal.old.events) (now (Relate t.0 s.0 (choices o.now))) (world_seen (P.state plant.new) config.now r journal.new.events) (refusal_of result)) }
+    ensures refused { OnErr result (refusal_of result ≡ Some (stopped (volume_seen (P.state plant.old) config.now t.0).server)) }
+    ensures rest { IsAtRest (P.state plant.new) config.now }
+    ensures fit { RelationsFit (P.state plant.new) config.now }
+    ensures unarmed { (q : ℕ) → (P.state plant.old).read_fuse q ≡ None → (P.state plant.new).read_fuse q ≡ None }
+    ensures faults { Counted (is_err result) (P.state plant.old).faults (P.state plant.new).faults }
+    ensures others { OthersStay (P.state plant.old) (P.state plant.new) config.now t.0 }
+    ensures shows { OnOk result ((k : ℕ) → view_seen (P.state plant.new) config.now t.0 k ≡ view_seen (P.state plant.old) config.now s.0 k) }
+    ensures others_show { OthersShow (P.state plant.old) (P.state plant.new) config.now t.0 }
+    ensures on { OnOk result ((P.state plant.new).on ≡ (P.state plant.old).on) }
+    ensures room { journal.old.spare ≤ journal.new.spare + 2 }
+    ensures spare { length journal.new.events + journal.new.spare ≡ length journal.old.events + journal.old.spare }
 {
-    let fields = peek_fields(p, c, t);
+    let fields = peek_fields(plant, config, t);
     let next = made(s, o, &fields);
     let told = Telling::of(Told::One(Event::Set {
         volume: t.0,
         from: s.0,
     }));
-    shift(p, c, j, t, &next, None, &told)
+    shift(plant, config, journal, t, &next, None, &told)
 }
 
 /// Makes t a target of s; the caller knows both volumes. Refused, in this order, where the server of s is off, s and t are
 /// one, their servers or sizes differ, t is a target or a source, s is a target, t has a part in a pair, or s has 12 targets.
 /// Fails too where the server stops in the move or goes off at a read. The journal needs room for two events.
 pub fn establish<P: Plant>(
-    p: &mut P,
-    c: &Config,
-    j: &mut Journal,
+    plant: &mut P,
+    config: &Config,
+    journal: &mut Journal,
     s: VolumeId,
     t: VolumeId,
-    o: &Options,
+    o: &FlashOptions,
 ) -> Result<(), Refusal>
-    requires rest { IsAtRest (P.state p.old) c.now }
-    requires fit { RelationsFit (P.state p.old) c.now }
-    requires source { IsSome (place_of c.now s.0) }
-    requires target { IsSome (place_of c.now t.0) }
-    requires room { 2 ≤ j.old.spare }
-    ensures carried { (r : Rest) → Ends (armed_in (P.state p.old)) (world_seen (P.state p.new) c.now r j.new.events) (refusal_of result) (world_seen (P.state p.old) c.now r j.old.events)
-        (flash_entries (world_seen (P.state p.old) c.now r j.old.events).control s.0 t.0 (choices o.now)) }
-    ensures unchanged { is_stop (refusal_of result) ≡ false → OnErr result ((P.state p.new ≡ P.state p.old) × (j.new ≡ j.old)) }
-    ensures rest { IsAtRest (P.state p.new) c.now }
-    ensures fit { RelationsFit (P.state p.new) c.now }
-    ensures unarmed { (q : ℕ) → (P.state p.old).read_fuse q ≡ None → (P.state p.new).read_fuse q ≡ None }
-    ensures faults { Counted (is_stop (refusal_of result)) (P.state p.old).faults (P.state p.new).faults }
-    ensures others { OthersStay (P.state p.old) (P.state p.new) c.now t.0 }
-    ensures shows { OnOk result ((k : ℕ) → view_seen (P.state p.new) c.now t.0 k ≡ view_seen (P.state p.old) c.now s.0 k) }
-    ensures others_show { OthersShow (P.state p.old) (P.state p.new) c.now t.0 }
-    ensures on { OnOk result ((P.state p.new).on ≡ (P.state p.old).on) }
-    ensures room { j.old.spare ≤ j.new.spare + 2 }
-    ensures spare { length j.new.events + j.new.spare ≡ length j.old.events + j.old.spare }
+    requires rest { IsAtRest (P.state plant.old) config.now }
+    requires fit { RelationsFit (P.state plant.old) config.now }
+    requires source { IsSome (place_of config.now s.0) }
+    requires target { IsSome (place_of config.now t.0) }
+    requires room { 2 ≤ journal.old.spare }
+    ensures carried { (r : Rest) → Ends (armed_in (P.state plant.old)) (world_seen (P.state plant.new) config.now r journal.new.events) (refusal_of result) (world_seen (P.state plant.old) config.now r journal.old.events)
+        (flash_entries (world_seen (P.state plant.old) config.now r journal.old.events).control s.0 t.0 (choices o.now)) }
+    ensures unchanged { is_stop (refusal_of result) ≡ false → OnErr result ((P.state plant.new ≡ P.state plant.old) × (journal.new ≡ journal.old)) }
+    ensures rest { IsAtRest (P.state plant.new) config.now }
+    ensures fit { RelationsFit (P.state plant.new) config.now }
+    ensures unarmed { (q : ℕ) → (P.state plant.old).read_fuse q ≡ None → (P.state plant.new).read_fuse q ≡ None }
+    ensures faults { Counted (is_stop (refusal_of result)) (P.state plant.old).faults (P.state plant.new).faults }
+    ensures others { OthersStay (P.state plant.old) (P.state plant.new) config.now t.0 }
+    ensures shows { OnOk result ((k : ℕ) → view_seen (P.state plant.new) config.now t.0 k ≡ view_seen (P.state plant.old) config.now s.0 k) }
+    ensures others_show { OthersShow (P.state plant.old) (P.state plant.new) config.now t.0 }
+    ensures on { OnOk result ((P.state plant.new).on ≡ (P.state plant.old).on) }
+    ensures room { journal.old.spare ≤ journal.new.spare + 2 }
+    ensures spare { length journal.new.events + journal.new.spare ≡ length journal.old.events + journal.old.spare }
 {
-    let server = server_of(c, s);
-    if !p.is_on(server.0) {
+    let server = server_of(config, s);
+    if !plant.is_on(server.0) {
         return Err(Refusal::ServerOff { server });
     }
-    if let Some(why) = alike_refusal(c, s, t) {
+    if let Some(why) = alike_refusal(config, s, t) {
         return Err(why);
     }
-    if let Some(why) = free_refusal(p, c, s, t) {
+    if let Some(why) = free_refusal(plant, config, s, t) {
         return Err(why);
     }
-    relate(p, c, j, s, t, o)
+    relate(plant, config, journal, s, t, o)
 }

@@ -66,13 +66,13 @@ fn pair_seen(f: &Fields) -> PairSeen
 }
 
 /// The refusal that says how a volume's pair is seen, whether or not its server is on.
-pub fn pair_state<P: Plant>(p: &P, c: &Config, v: VolumeId) -> Refusal
-    requires stands { StandsFor c.now (P.state p.now) }
-    requires defined { IsSome (place_of c.now v.0) }
-    ensures refusal { (r : Rest) (events : List Event) → result ≡ entries.pair_state (world_seen (P.state p.now) c.now r events).control v.0 }
+pub fn pair_state<P: Plant>(plant: &P, config: &Config, v: VolumeId) -> Refusal
+    requires stands { StandsFor config.now (P.state plant.now) }
+    requires defined { IsSome (place_of config.now v.0) }
+    ensures refusal { (r : Rest) (events : List Event) → result ≡ entries.pair_state (world_seen (P.state plant.now) config.now r events).control v.0 }
     ensures calm { is_stop (Some result) ≡ false }
 {
-    let fields = peek_fields(p, c, v);
+    let fields = peek_fields(plant, config, v);
     Refusal::PairState {
         volume: v,
         found: pair_seen(&fields),

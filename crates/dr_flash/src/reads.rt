@@ -19,16 +19,16 @@ use dr_plant::{Block, Plant};
 use dr_volume::read_track;
 
 /// Tells that the server of a volume went off by itself.
-fn gone_off(c: &Config, j: &mut Journal, v: VolumeId) -> Refusal
-    requires defined { IsSome (place_of c.now v.0) }
-    requires room { 1 ≤ j.old.spare }
-    ensures refusal { (s : PlantState) → result ≡ stopped (volume_seen s c.now v.0).server }
-    ensures events { (s : PlantState) → j.new.events ≡ j.old.events ++ Event.Stopped (volume_seen s c.now v.0).server 0 ∷ [] }
-    ensures room { j.old.spare ≡ j.new.spare + 1 }
-    ensures spare { length j.new.events + j.new.spare ≡ length j.old.events + j.old.spare }
+fn gone_off(config: &Config, journal: &mut Journal, v: VolumeId) -> Refusal
+    requires defined { IsSome (place_of config.now v.0) }
+    requires room { 1 ≤ journal.old.spare }
+    ensures refusal { (s : PlantState) → result ≡ stopped (volume_seen s config.now v.0).server }
+    ensures events { (s : PlantState) → journal.new.events ≡ journal.old.events ++ Event.Stopped (volume_seen s config.now v.0).server 0 ∷ [] }
+    ensures room { journal.old.spare ≡ journal.new.spare + 1 }
+    ensures spare { length journal.new.events + journal.new.spare ≡ length journal.old.events + journal.old.spare }
 {
-    let server = server_of(c, v);
-    j.push(Event::Stopped {
+    let server = server_of(config, v);
+    journal.push(Event::Stopped {
         server: server.0,
         write: 0,
     });
@@ -37,33 +37,33 @@ fn gone_off(c: &Config, j: &mut Journal, v: VolumeId) -> Refusal
 
 /// Reads a track of a volume whose server is on. Fails where the server goes off at the read; then `into` is as before.
 pub fn read_told<P: Plant>(
-    p: &mut P,
-    c: &Config,
-    j: &mut Journal,
+    plant: &mut P,
+    config: &Config,
+    journal: &mut Journal,
     v: VolumeId,
     t: u16,
     into: &mut Block,
 ) -> Result<(), Refusal>
-    requires rest { IsAtRest (P.state p.old) c.now }
-    requires defined { IsSome (place_of c.now v.0) }
-    requires running { (P.state p.old).on (volume_seen (P.state p.old) c.now v.0).server ≡ true }
-    requires within { t < (volume_seen (P.state p.old) c.now v.0).tracks }
-    requires room { 1 ≤ j.old.spare }
-    ensures bytes { OnOk result (into.new ≡ track_seen (P.state p.old) c.now v.0 t) }
+    requires rest { IsAtRest (P.state plant.old) config.now }
+    requires defined { IsSome (place_of config.now v.0) }
+    requires running { (P.state plant.old).on (volume_seen (P.state plant.old) config.now v.0).server ≡ true }
+    requires within { t < (volume_seen (P.state plant.old) config.now v.0).tracks }
+    requires room { 1 ≤ journal.old.spare }
+    ensures bytes { OnOk result (into.new ≡ track_seen (P.state plant.old) config.now v.0 t) }
     ensures kept { OnErr result (into.new ≡ into.old) }
-    ensures passed { OnOk result (P.state p.new ≡ P.state p.old) }
-    ensures silent { OnOk result (j.new ≡ j.old) }
-    ensures gone { OnErr result ((r : Rest) → GoesOff (armed_in (P.state p.old)) (world_seen (P.state p.new) c.now r j.new.events) (refusal_of result) (world_seen (P.state p.old) c.now r j.old.events)) }
-    ensures refused { OnErr result (refusal_of result ≡ Some (stopped (volume_seen (P.state p.old) c.now v.0).server)) }
-    ensures same { (u : ℕ) → IsAsBefore (P.state p.old) (P.state p.new) c.now u }
-    ensures rest { IsAtRest (P.state p.new) c.now }
-    ensures unarmed { (q : ℕ) → (P.state p.old).read_fuse q ≡ None → (P.state p.new).read_fuse q ≡ None }
-    ensures faults { Counted (is_err result) (P.state p.old).faults (P.state p.new).faults }
-    ensures room { j.old.spare ≤ j.new.spare + 1 }
-    ensures spare { length j.new.events + j.new.spare ≡ length j.old.events + j.old.spare }
+    ensures passed { OnOk result (P.state plant.new ≡ P.state plant.old) }
+    ensures silent { OnOk result (journal.new ≡ journal.old) }
+    ensures gone { OnErr result ((r : Rest) → GoesOff (armed_in (P.state plant.old)) (world_seen (P.state plant.new) config.now r journal.new.events) (refusal_of result) (world_seen (P.state plant.old) config.now r journal.old.events)) }
+    ensures refused { OnErr result (refusal_of result ≡ Some (stopped (volume_seen (P.state plant.old) config.now v.0).server)) }
+    ensures same { (u : ℕ) → IsAsBefore (P.state plant.old) (P.state plant.new) config.now u }
+    ensures rest { IsAtRest (P.state plant.new) config.now }
+    ensures unarmed { (q : ℕ) → (P.state plant.old).read_fuse q ≡ None → (P.state plant.new).read_fuse q ≡ None }
+    ensures faults { Counted (is_err result) (P.state plant.old).faults (P.state plant.new).faults }
+    ensures room { journal.old.spare ≤ journal.new.spare + 1 }
+    ensures spare { length journal.new.events + journal.new.spare ≡ length journal.old.events + journal.old.spare }
 {
-    match read_track(p, c, v, t, into) {
+    match read_track(plant, config, v, t, into) {
         Ok(()) => Ok(()),
-        Err(_) => Err(gone_off(c, j, v)),
+        Err(_) => Err(gone_off(config, journal, v)),
     }
 }

@@ -58,23 +58,23 @@ impl Telling {
 }
 
 /// Tells the journal the events.
-pub(crate) fn tell(j: &mut Journal, told: &Told)
-    requires { length (events_of told.now) ≤ j.old.spare }
-    ensures events { j.new.events ≡ j.old.events ++ events_of told.now }
-    ensures spare { j.old.spare ≡ j.new.spare + length (events_of told.now) }
+pub(crate) fn tell(journal: &mut Journal, told: &Told)
+    requires { length (events_of told.now) ≤ journal.old.spare }
+    ensures events { journal.new.events ≡ journal.old.events ++ events_of told.now }
+    ensures spare { journal.old.spare ≡ journal.new.spare + length (events_of told.now) }
 {
     match told {
         Told::Nothing => {}
-        Told::One(event) => j.push(*event),
+        Told::One(event) => journal.push(*event),
         Told::Two(first, second) => {
-            j.push(*first);
-            j.push(*second);
+            journal.push(*first);
+            journal.push(*second);
         }
         Told::Blanked {
             volume,
             tracks,
             own,
-        } => tell_blank(j, *volume, *tracks, own),
+        } => tell_blank(journal, *volume, *tracks, own),
         Told::Returned {
             left,
             volume,
@@ -82,69 +82,69 @@ pub(crate) fn tell(j: &mut Journal, told: &Told)
             tracks,
             own,
         } => {
-            tell_left(j, left);
-            tell_returned(j, *volume, *source, *tracks, own);
+            tell_left(journal, left);
+            tell_returned(journal, *volume, *source, *tracks, own);
         }
     }
 }
 
 /// Tells that a target leaves its session, where it does.
-fn tell_left(j: &mut Journal, left: &Option<Event>)
-    requires { length (event_of left.now) ≤ j.old.spare }
-    ensures events { j.new.events ≡ j.old.events ++ event_of left.now }
-    ensures spare { j.old.spare ≡ j.new.spare + length (event_of left.now) }
+fn tell_left(journal: &mut Journal, left: &Option<Event>)
+    requires { length (event_of left.now) ≤ journal.old.spare }
+    ensures events { journal.new.events ≡ journal.old.events ++ event_of left.now }
+    ensures spare { journal.old.spare ≡ journal.new.spare + length (event_of left.now) }
 {
     if let Some(event) = left {
-        j.push(*event);
+        journal.push(*event);
     }
 }
 
 /// Tells that a restore has ended, where no track is left to give back.
-fn tell_returned(j: &mut Journal, volume: u16, source: u16, tracks: u16, own: &TrackSet)
-    requires { length (told_restored volume source tracks own.now) ≤ j.old.spare }
-    ensures events { j.new.events ≡ j.old.events ++ told_restored volume source tracks own.now }
-    ensures spare { j.old.spare ≡ j.new.spare + length (told_restored volume source tracks own.now) }
+fn tell_returned(journal: &mut Journal, volume: u16, source: u16, tracks: u16, own: &TrackSet)
+    requires { length (told_restored volume source tracks own.now) ≤ journal.old.spare }
+    ensures events { journal.new.events ≡ journal.old.events ++ told_restored volume source tracks own.now }
+    ensures spare { journal.old.spare ≡ journal.new.spare + length (told_restored volume source tracks own.now) }
 {
     if own.len() != 0 {
         return;
     }
-    tell_blank(j, volume, tracks, own);
-    j.push(Event::Restored {
+    tell_blank(journal, volume, tracks, own);
+    journal.push(Event::Restored {
         volume: source,
         from: volume,
     });
 }
 
 /// Tells that the tracks of a volume that has so many, but for those in `own`, read zeros.
-fn tell_blank(j: &mut Journal, volume: u16, tracks: u16, own: &TrackSet)
-    requires { length (told_blank volume tracks own.now) ≤ j.old.spare }
-    ensures events { j.new.events ≡ j.old.events ++ told_blank volume tracks own.now }
-    ensures spare { j.old.spare ≡ j.new.spare + length (told_blank volume tracks own.now) }
+fn tell_blank(journal: &mut Journal, volume: u16, tracks: u16, own: &TrackSet)
+    requires { length (told_blank volume tracks own.now) ≤ journal.old.spare }
+    ensures events { journal.new.events ≡ journal.old.events ++ told_blank volume tracks own.now }
+    ensures spare { journal.old.spare ≡ journal.new.spare + length (told_blank volume tracks own.now) }
 {
     for track in 0..tracks {
         if own.contains(track) {
             continue;
         }
-        j.push(Event::Blanked { volume, track });
+        journal.push(Event::Blanked { volume, track });
     }
 }
 
 /// Tells that a server stopped within a move that counts as done or doesn't.
-pub(crate) fn tell_stop(j: &mut Journal, told: &Telling, server: ServerId, done: bool)
-    requires { length (events_of told.now.in_stop) + 1 ≤ j.old.spare }
-    ensures events { j.new.events ≡ j.old.events ++ told_in_stop done told.now server.0 }
-    ensures spare { j.old.spare ≤ j.new.spare + (length (events_of told.now.in_stop) + 1) }
-    ensures sum { length j.new.events + j.new.spare ≡ length j.old.events + j.old.spare }
+pub(crate) fn tell_stop(journal: &mut Journal, told: &Telling, server: ServerId, done: bool)
+    requires { length (events_of told.now.in_stop) + 1 ≤ journal.old.spare }
+    ensures events { journal.new.events ≡ journal.old.events ++ told_in_stop done told.now server.0 }
+    ensures spare { journal.old.spare ≤ journal.new.spare + (length (events_of told.now.in_stop) + 1) }
+    ensures sum { length journal.new.events + journal.new.spare ≡ length journal.old.events + journal.old.spare }
 {
     if !done {
-        j.push(Event::Stopped {
+        journal.push(Event::Stopped {
             server: server.0,
             write: 0,
         });
         return;
     }
-    tell(j, &told.in_stop);
-    j.push(Event::Stopped {
+    tell(journal, &told.in_stop);
+    journal.push(Event::Stopped {
         server: server.0,
         write: told.landed,
     });

@@ -38,123 +38,132 @@ use dr_volume::{Fields, peek_fields};
 /// server stops in a move or goes off at a read; what was kept by then stays. The journal needs room for an event for each
 /// volume and one more.
 pub fn write_source<P: Plant>(
-    p: &mut P,
-    c: &Config,
-    j: &mut Journal,
+    plant: &mut P,
+    config: &Config,
+    journal: &mut Journal,
     v: VolumeId,
     t: u16,
     bytes: &Block,
     next: &Fields,
 ) -> Result<(), Refusal>
-    requires rest { IsAtRest (P.state p.old) c.now }
-    requires fit { RelationsFit (P.state p.old) c.now }
-    requires defined { IsSome (place_of c.now v.0) }
-    requires running { (P.state p.old).on (volume_seen (P.state p.old) c.now v.0).server ≡ true }
-    requires within { t < (volume_seen (P.state p.old) c.now v.0).tracks }
-    requires lawful { IsLawful (volume_seen (P.state p.old) c.now v.0).tracks (plain next.now) }
-    requires covers { Covers (volume_seen (P.state p.old) c.now v.0).fields.blank next.now.blank (Some (t, bytes.now)) }
-    requires keeps { next.now.related ≡ true → ((volume_seen (P.state p.old) c.now v.0).fields.related ≡ true) × (next.now.source.0 ≡ (volume_seen (P.state p.old) c.now v.0).fields.source) }
+    requires rest { IsAtRest (P.state plant.old) config.now }
+    requires fit { RelationsFit (P.state plant.old) config.now }
+    requires defined { IsSome (place_of config.now v.0) }
+    requires running { (P.state plant.old).on (volume_seen (P.state plant.old) config.now v.0).server ≡ true }
+    requires within { t < (volume_seen (P.state plant.old) config.now v.0).tracks }
+    requires lawful { IsLawful (volume_seen (P.state plant.old) config.now v.0).tracks (plain next.now) }
+    requires covers { Covers (volume_seen (P.state plant.old) config.now v.0).fields.blank next.now.blank (Some (t, bytes.now)) }
+    requires keeps { next.now.related ≡ true → ((volume_seen (P.state plant.old) config.now v.0).fields.related ≡ true) × (next.now.source.0 ≡ (volume_seen (P.state plant.old) config.now v.0).fields.source) }
     requires apart { (k : ℕ) → contains next.now.own k ≡ true → contains next.now.blank k ≡ false }
-    requires room { length c.now.volumes + 1 ≤ j.old.spare }
-    ensures carried { (r : Rest) → EndsThen (armed_in (P.state p.old)) (world_seen (P.state p.old) c.now r j.old.events) (entries.copy_first (ids_of c.now.volumes) v.0 t) (world_seen (P.state p.new) c.now r j.new.events) (refusal_of result)
-        (λ w. MadeFrom (armed_in (P.state p.old)) w v.0 (plain next.now) (Some (t, bytes.now)) (record { done = Nothing; in_stop = Nothing; landed = 0 }) (world_seen (P.state p.new) c.now r j.new.events) (refusal_of result)) }
-    ensures refused { OnErr result (refusal_of result ≡ Some (stopped (volume_seen (P.state p.old) c.now v.0).server)) }
-    ensures rest { IsAtRest (P.state p.new) c.now }
-    ensures fit { RelationsFit (P.state p.new) c.now }
-    ensures unarmed { (q : ℕ) → (P.state p.old).read_fuse q ≡ None → (P.state p.new).read_fuse q ≡ None }
-    ensures faults { Counted (is_err result) (P.state p.old).faults (P.state p.new).faults }
-    ensures others { (q : ℕ) → q ≢ v.0 → copies_from v.0 (volume_seen (P.state p.old) c.now q).fields ≡ false → IsAsBefore (P.state p.old) (P.state p.new) c.now q }
-    ensures written { OnOk result ((volume_seen (P.state p.old) c.now v.0).fields.related ≡ false → view_seen (P.state p.new) c.now v.0 t ≡ bytes.now) }
-    ensures other_tracks { OnOk result ((volume_seen (P.state p.old) c.now v.0).fields.related ≡ false → ReadsZeros (P.state p.old) c.now v.0 (plain next.now) t
-        → (k : ℕ) → k ≢ t → view_seen (P.state p.new) c.now v.0 k ≡ view_seen (P.state p.old) c.now v.0 k) }
-    ensures others_show { ReadsZeros (P.state p.old) c.now v.0 (plain next.now) t → OthersShowBut (P.state p.old) (P.state p.new) c.now v.0 t }
-    ensures on { OnOk result ((P.state p.new).on ≡ (P.state p.old).on) }
-    ensures room { j.old.spare ≤ j.new.spare + (length c.now.volumes + 1) }
-    ensures spare { length j.new.events + j.new.spare ≡ length j.old.events + j.old.spare }
+    requires room { length config.now.volumes + 1 ≤ journal.old.spare }
+    ensures carried { (r : Rest) → EndsThen (armed_in (P.state plant.old)) (world_seen (P.state plant.old) config.now r journal.old.events) (entries.copy_first (ids_of config.now.volumes) v.0 t) (world_seen (P.state plant.new) config.now r journal.new.events) (refusal_of result)
+        (λ w. MadeFrom (armed_in (P.state plant.old)) w v.0 (plain next.now) (Some (t, bytes.now)) (record { done = Nothing; in_stop = Nothing; landed = 0 }) (world_seen (P.state plant.new) config.now r journal.new.events) (refusal_of result)) }
+    ensures refused { OnErr result (refusal_of result ≡ Some (stopped (volume_seen (P.state plant.old) config.now v.0).server)) }
+    ensures rest { IsAtRest (P.state plant.new) config.now }
+    ensures fit { RelationsFit (P.state plant.new) config.now }
+    ensures unarmed { (q : ℕ) → (P.state plant.old).read_fuse q ≡ None → (P.state plant.new).read_fuse q ≡ None }
+    ensures faults { Counted (is_err result) (P.state plant.old).faults (P.state plant.new).faults }
+    ensures others { (q : ℕ) → q ≢ v.0 → copies_from v.0 (volume_seen (P.state plant.old) config.now q).fields ≡ false → IsAsBefore (P.state plant.old) (P.state plant.new) config.now q }
+    ensures written { OnOk result ((volume_seen (P.state plant.old) config.now v.0).fields.related ≡ false → view_seen (P.state plant.new) config.now v.0 t ≡ bytes.now) }
+    ensures other_tracks { OnOk result ((volume_seen (P.state plant.old) config.now v.0).fields.related ≡ false → ReadsZeros (P.state plant.old) config.now v.0 (plain next.now) t
+        → (k : ℕ) → k ≢ t → view_seen (P.state plant.new) config.now v.0 k ≡ view_seen (P.state plant.old) config.now v.0 k) }
+    ensures others_show { ReadsZeros (P.state plant.old) config.now v.0 (plain next.now) t → OthersShowBut (P.state plant.old) (P.state plant.new) config.now v.0 t }
+    ensures on { OnOk result ((P.state plant.new).on ≡ (P.state plant.old).on) }
+    ensures room { journal.old.spare ≤ journal.new.spare + (length config.now.volumes + 1) }
+    ensures spare { length journal.new.events + journal.new.spare ≡ length journal.old.events + journal.old.spare }
 {
-    write_source_telling(p, c, j, v, t, bytes, next, &Telling::of(Told::Nothing))
+    write_source_telling(
+        plant,
+        config,
+        journal,
+        v,
+        t,
+        bytes,
+        next,
+        &Telling::of(Told::Nothing),
+    )
 }
 
 /// The same where the last move tells the journal these events. The journal needs room for an event for each volume and for
 /// these, and one more where a stop is told behind them.
 pub fn write_source_telling<P: Plant>(
-    p: &mut P,
-    c: &Config,
-    j: &mut Journal,
+    plant: &mut P,
+    config: &Config,
+    journal: &mut Journal,
     v: VolumeId,
     t: u16,
     bytes: &Block,
     next: &Fields,
     told: &Telling,
 ) -> Result<(), Refusal>
-    requires rest { IsAtRest (P.state p.old) c.now }
-    requires fit { RelationsFit (P.state p.old) c.now }
-    requires defined { IsSome (place_of c.now v.0) }
-    requires running { (P.state p.old).on (volume_seen (P.state p.old) c.now v.0).server ≡ true }
-    requires within { t < (volume_seen (P.state p.old) c.now v.0).tracks }
-    requires lawful { IsLawful (volume_seen (P.state p.old) c.now v.0).tracks (plain next.now) }
-    requires covers { Covers (volume_seen (P.state p.old) c.now v.0).fields.blank next.now.blank (Some (t, bytes.now)) }
-    requires keeps { next.now.related ≡ true → ((volume_seen (P.state p.old) c.now v.0).fields.related ≡ true) × (next.now.source.0 ≡ (volume_seen (P.state p.old) c.now v.0).fields.source) }
+    requires rest { IsAtRest (P.state plant.old) config.now }
+    requires fit { RelationsFit (P.state plant.old) config.now }
+    requires defined { IsSome (place_of config.now v.0) }
+    requires running { (P.state plant.old).on (volume_seen (P.state plant.old) config.now v.0).server ≡ true }
+    requires within { t < (volume_seen (P.state plant.old) config.now v.0).tracks }
+    requires lawful { IsLawful (volume_seen (P.state plant.old) config.now v.0).tracks (plain next.now) }
+    requires covers { Covers (volume_seen (P.state plant.old) config.now v.0).fields.blank next.now.blank (Some (t, bytes.now)) }
+    requires keeps { next.now.related ≡ true → ((volume_seen (P.state plant.old) config.now v.0).fields.related ≡ true) × (next.now.source.0 ≡ (volume_seen (P.state plant.old) config.now v.0).fields.source) }
     requires apart { (k : ℕ) → contains next.now.own k ≡ true → contains next.now.blank k ≡ false }
-    requires room { length c.now.volumes + room_of told.now ≤ j.old.spare }
-    ensures carried { (r : Rest) → EndsThen (armed_in (P.state p.old)) (world_seen (P.state p.old) c.now r j.old.events) (entries.copy_first (ids_of c.now.volumes) v.0 t) (world_seen (P.state p.new) c.now r j.new.events) (refusal_of result)
-        (λ w. MadeFrom (armed_in (P.state p.old)) w v.0 (plain next.now) (Some (t, bytes.now)) told.now (world_seen (P.state p.new) c.now r j.new.events) (refusal_of result)) }
-    ensures refused { OnErr result (refusal_of result ≡ Some (stopped (volume_seen (P.state p.old) c.now v.0).server)) }
-    ensures rest { IsAtRest (P.state p.new) c.now }
-    ensures fit { RelationsFit (P.state p.new) c.now }
-    ensures unarmed { (q : ℕ) → (P.state p.old).read_fuse q ≡ None → (P.state p.new).read_fuse q ≡ None }
-    ensures faults { Counted (is_err result) (P.state p.old).faults (P.state p.new).faults }
-    ensures others { (q : ℕ) → q ≢ v.0 → copies_from v.0 (volume_seen (P.state p.old) c.now q).fields ≡ false → IsAsBefore (P.state p.old) (P.state p.new) c.now q }
-    ensures written { OnOk result ((volume_seen (P.state p.old) c.now v.0).fields.related ≡ false → view_seen (P.state p.new) c.now v.0 t ≡ bytes.now) }
-    ensures other_tracks { OnOk result ((volume_seen (P.state p.old) c.now v.0).fields.related ≡ false → ReadsZeros (P.state p.old) c.now v.0 (plain next.now) t
-        → (k : ℕ) → k ≢ t → view_seen (P.state p.new) c.now v.0 k ≡ view_seen (P.state p.old) c.now v.0 k) }
-    ensures others_show { ReadsZeros (P.state p.old) c.now v.0 (plain next.now) t → OthersShowBut (P.state p.old) (P.state p.new) c.now v.0 t }
-    ensures on { OnOk result ((P.state p.new).on ≡ (P.state p.old).on) }
-    ensures room { j.old.spare ≤ j.new.spare + (length c.now.volumes + room_of told.now) }
-    ensures spare { length j.new.events + j.new.spare ≡ length j.old.events + j.old.spare }
+    requires room { length config.now.volumes + room_of told.now ≤ journal.old.spare }
+    ensures carried { (r : Rest) → EndsThen (armed_in (P.state plant.old)) (world_seen (P.state plant.old) config.now r journal.old.events) (entries.copy_first (ids_of config.now.volumes) v.0 t) (world_seen (P.state plant.new) config.now r journal.new.events) (refusal_of result)
+        (λ w. MadeFrom (armed_in (P.state plant.old)) w v.0 (plain next.now) (Some (t, bytes.now)) told.now (world_seen (P.state plant.new) config.now r journal.new.events) (refusal_of result)) }
+    ensures refused { OnErr result (refusal_of result ≡ Some (stopped (volume_seen (P.state plant.old) config.now v.0).server)) }
+    ensures rest { IsAtRest (P.state plant.new) config.now }
+    ensures fit { RelationsFit (P.state plant.new) config.now }
+    ensures unarmed { (q : ℕ) → (P.state plant.old).read_fuse q ≡ None → (P.state plant.new).read_fuse q ≡ None }
+    ensures faults { Counted (is_err result) (P.state plant.old).faults (P.state plant.new).faults }
+    ensures others { (q : ℕ) → q ≢ v.0 → copies_from v.0 (volume_seen (P.state plant.old) config.now q).fields ≡ false → IsAsBefore (P.state plant.old) (P.state plant.new) config.now q }
+    ensures written { OnOk result ((volume_seen (P.state plant.old) config.now v.0).fields.related ≡ false → view_seen (P.state plant.new) config.now v.0 t ≡ bytes.now) }
+    ensures other_tracks { OnOk result ((volume_seen (P.state plant.old) config.now v.0).fields.related ≡ false → ReadsZeros (P.state plant.old) config.now v.0 (plain next.now) t
+        → (k : ℕ) → k ≢ t → view_seen (P.state plant.new) config.now v.0 k ≡ view_seen (P.state plant.old) config.now v.0 k) }
+    ensures others_show { ReadsZeros (P.state plant.old) config.now v.0 (plain next.now) t → OthersShowBut (P.state plant.old) (P.state plant.new) config.now v.0 t }
+    ensures on { OnOk result ((P.state plant.new).on ≡ (P.state plant.old).on) }
+    ensures room { journal.old.spare ≤ journal.new.spare + (length config.now.volumes + room_of told.now) }
+    ensures spare { length journal.new.events + journal.new.spare ≡ length journal.old.events + journal.old.spare }
 {
-    copy_first(p, c, j, v, t)?;
+    copy_first(plant, config, journal, v, t)?;
     let track = *bytes;
-    shift(p, c, j, v, next, Some((t, track)), told)
+    shift(plant, config, journal, v, next, Some((t, track)), told)
 }
 
 /// Stores a track of a target, as a host's write on it does.
 fn overwrite<P: Plant>(
-    p: &mut P,
-    c: &Config,
-    j: &mut Journal,
+    plant: &mut P,
+    config: &Config,
+    journal: &mut Journal,
     v: VolumeId,
     t: u16,
     f: &Fields,
     bytes: &Block,
     told: &Telling,
 ) -> Result<(), Refusal>
-    requires rest { IsAtRest (P.state p.old) c.now }
-    requires fit { RelationsFit (P.state p.old) c.now }
-    requires defined { IsSome (place_of c.now v.0) }
-    requires running { (P.state p.old).on (volume_seen (P.state p.old) c.now v.0).server ≡ true }
-    requires within { t < (volume_seen (P.state p.old) c.now v.0).tracks }
-    requires shows { Shows (P.state p.old) c.now v.0 f.now }
-    requires related { (volume_seen (P.state p.old) c.now v.0).fields.related ≡ true }
-    requires room { room_of told.now ≤ j.old.spare }
-    ensures made { (r : Rest) → MadeFrom (armed_in (P.state p.old)) (world_seen (P.state p.old) c.now r j.old.events) v.0 (fields_left (Overwrite 0 v.0 t) (volume_seen (P.state p.old) c.now v.0)) (Some (t, bytes.now)) told.now (world_seen (P.state p.new) c.now r j.new.events) (refusal_of result) }
-    ensures refused { OnErr result (refusal_of result ≡ Some (stopped (volume_seen (P.state p.old) c.now v.0).server)) }
-    ensures rest { IsAtRest (P.state p.new) c.now }
-    ensures fit { RelationsFit (P.state p.new) c.now }
-    ensures unarmed { (q : ℕ) → (P.state p.old).read_fuse q ≡ None → (P.state p.new).read_fuse q ≡ None }
-    ensures faults { Counted (is_err result) (P.state p.old).faults (P.state p.new).faults }
-    ensures others { OthersStay (P.state p.old) (P.state p.new) c.now v.0 }
-    ensures written { OnOk result (view_seen (P.state p.new) c.now v.0 t ≡ bytes.now) }
-    ensures other_tracks { OnOk result ((k : ℕ) → k ≢ t → view_seen (P.state p.new) c.now v.0 k ≡ view_seen (P.state p.old) c.now v.0 k) }
-    ensures others_show { OthersShow (P.state p.old) (P.state p.new) c.now v.0 }
-    ensures on { OnOk result ((P.state p.new).on ≡ (P.state p.old).on) }
-    ensures room { j.old.spare ≤ j.new.spare + room_of told.now }
-    ensures spare { length j.new.events + j.new.spare ≡ length j.old.events + j.old.spare }
+    requires rest { IsAtRest (P.state plant.old) config.now }
+    requires fit { RelationsFit (P.state plant.old) config.now }
+    requires defined { IsSome (place_of config.now v.0) }
+    requires running { (P.state plant.old).on (volume_seen (P.state plant.old) config.now v.0).server ≡ true }
+    requires within { t < (volume_seen (P.state plant.old) config.now v.0).tracks }
+    requires shows { Shows (P.state plant.old) config.now v.0 f.now }
+    requires related { (volume_seen (P.state plant.old) config.now v.0).fields.related ≡ true }
+    requires room { room_of told.now ≤ journal.old.spare }
+    ensures made { (r : Rest) → MadeFrom (armed_in (P.state plant.old)) (world_seen (P.state plant.old) config.now r journal.old.events) v.0 (fields_left (Overwrite 0 v.0 t) (volume_seen (P.state plant.old) config.now v.0)) (Some (t, bytes.now)) told.now (world_seen (P.state plant.new) config.now r journal.new.events) (refusal_of result) }
+    ensures refused { OnErr result (refusal_of result ≡ Some (stopped (volume_seen (P.state plant.old) config.now v.0).server)) }
+    ensures rest { IsAtRest (P.state plant.new) config.now }
+    ensures fit { RelationsFit (P.state plant.new) config.now }
+    ensures unarmed { (q : ℕ) → (P.state plant.old).read_fuse q ≡ None → (P.state plant.new).read_fuse q ≡ None }
+    ensures faults { Counted (is_err result) (P.state plant.old).faults (P.state plant.new).faults }
+    ensures others { OthersStay (P.state plant.old) (P.state plant.new) config.now v.0 }
+    ensures written { OnOk result (view_seen (P.state plant.new) config.now v.0 t ≡ bytes.now) }
+    ensures other_tracks { OnOk result ((k : ℕ) → k ≢ t → view_seen (P.state plant.new) config.now v.0 k ≡ view_seen (P.state plant.old) config.now v.0 k) }
+    ensures others_show { OthersShow (P.state plant.old) (P.state plant.new) config.now v.0 }
+    ensures on { OnOk result ((P.state plant.new).on ≡ (P.state plant.old).on) }
+    ensures room { journal.old.spare ≤ journal.new.spare + room_of told.now }
+    ensures spare { length journal.new.events + journal.new.spare ≡ length journal.old.events + journal.old.spare }
 {
-    let tracks = tracks_of(c, v);
+    let tracks = tracks_of(config, v);
     let track = *bytes;
     let next = closed(tracks, &rewritten(&fetched(f, t), t));
-    shift(p, c, j, v, &next, Some((t, track)), told)
+    shift(plant, config, journal, v, &next, Some((t, track)), told)
 }
 
 /// Stores a track of a target whose server is on, with bytes that a host wrote. Refused where the target is inhibited, or else
@@ -162,42 +171,42 @@ fn overwrite<P: Plant>(
 /// changes are recorded. The move tells the journal the events that the caller gives. Fails too where the server stops in
 /// the move or goes off at a read. The journal needs room for these events, and one more where a stop is told behind them.
 pub fn write_target<P: Plant>(
-    p: &mut P,
-    c: &Config,
-    j: &mut Journal,
+    plant: &mut P,
+    config: &Config,
+    journal: &mut Journal,
     v: VolumeId,
     t: u16,
     bytes: &Block,
     told: &Telling,
 ) -> Result<(), Refusal>
-    requires rest { IsAtRest (P.state p.old) c.now }
-    requires fit { RelationsFit (P.state p.old) c.now }
-    requires defined { IsSome (place_of c.now v.0) }
-    requires running { (P.state p.old).on (volume_seen (P.state p.old) c.now v.0).server ≡ true }
-    requires within { t < (volume_seen (P.state p.old) c.now v.0).tracks }
-    requires related { (volume_seen (P.state p.old) c.now v.0).fields.related ≡ true }
-    requires room { room_of told.now ≤ j.old.spare }
-    ensures carried { (r : Rest) → EndsThen (armed_in (P.state p.old)) (world_seen (P.state p.old) c.now r j.old.events) (target_checks (world_seen (P.state p.old) c.now r j.old.events).control v.0) (world_seen (P.state p.new) c.now r j.new.events) (refusal_of result)
-        (λ w. MadeFrom (armed_in (P.state p.old)) w v.0 (fields_left (Overwrite 0 v.0 t) (w.control.volume v.0)) (Some (t, bytes.now)) told.now (world_seen (P.state p.new) c.now r j.new.events) (refusal_of result)) }
-    ensures unchanged { is_stop (refusal_of result) ≡ false → OnErr result ((P.state p.new ≡ P.state p.old) × (j.new ≡ j.old)) }
-    ensures rest { IsAtRest (P.state p.new) c.now }
-    ensures fit { RelationsFit (P.state p.new) c.now }
-    ensures unarmed { (q : ℕ) → (P.state p.old).read_fuse q ≡ None → (P.state p.new).read_fuse q ≡ None }
-    ensures faults { Counted (is_stop (refusal_of result)) (P.state p.old).faults (P.state p.new).faults }
-    ensures others { OthersStay (P.state p.old) (P.state p.new) c.now v.0 }
-    ensures written { OnOk result (view_seen (P.state p.new) c.now v.0 t ≡ bytes.now) }
-    ensures other_tracks { OnOk result ((k : ℕ) → k ≢ t → view_seen (P.state p.new) c.now v.0 k ≡ view_seen (P.state p.old) c.now v.0 k) }
-    ensures others_show { OthersShow (P.state p.old) (P.state p.new) c.now v.0 }
-    ensures on { OnOk result ((P.state p.new).on ≡ (P.state p.old).on) }
-    ensures room { j.old.spare ≤ j.new.spare + room_of told.now }
-    ensures spare { length j.new.events + j.new.spare ≡ length j.old.events + j.old.spare }
+    requires rest { IsAtRest (P.state plant.old) config.now }
+    requires fit { RelationsFit (P.state plant.old) config.now }
+    requires defined { IsSome (place_of config.now v.0) }
+    requires running { (P.state plant.old).on (volume_seen (P.state plant.old) config.now v.0).server ≡ true }
+    requires within { t < (volume_seen (P.state plant.old) config.now v.0).tracks }
+    requires related { (volume_seen (P.state plant.old) config.now v.0).fields.related ≡ true }
+    requires room { room_of told.now ≤ journal.old.spare }
+    ensures carried { (r : Rest) → EndsThen (armed_in (P.state plant.old)) (world_seen (P.state plant.old) config.now r journal.old.events) (target_checks (world_seen (P.state plant.old) config.now r journal.old.events).control v.0) (world_seen (P.state plant.new) config.now r journal.new.events) (refusal_of result)
+        (λ w. MadeFrom (armed_in (P.state plant.old)) w v.0 (fields_left (Overwrite 0 v.0 t) (w.control.volume v.0)) (Some (t, bytes.now)) told.now (world_seen (P.state plant.new) config.now r journal.new.events) (refusal_of result)) }
+    ensures unchanged { is_stop (refusal_of result) ≡ false → OnErr result ((P.state plant.new ≡ P.state plant.old) × (journal.new ≡ journal.old)) }
+    ensures rest { IsAtRest (P.state plant.new) config.now }
+    ensures fit { RelationsFit (P.state plant.new) config.now }
+    ensures unarmed { (q : ℕ) → (P.state plant.old).read_fuse q ≡ None → (P.state plant.new).read_fuse q ≡ None }
+    ensures faults { Counted (is_stop (refusal_of result)) (P.state plant.old).faults (P.state plant.new).faults }
+    ensures others { OthersStay (P.state plant.old) (P.state plant.new) config.now v.0 }
+    ensures written { OnOk result (view_seen (P.state plant.new) config.now v.0 t ≡ bytes.now) }
+    ensures other_tracks { OnOk result ((k : ℕ) → k ≢ t → view_seen (P.state plant.new) config.now v.0 k ≡ view_seen (P.state plant.old) config.now v.0 k) }
+    ensures others_show { OthersShow (P.state plant.old) (P.state plant.new) config.now v.0 }
+    ensures on { OnOk result ((P.state plant.new).on ≡ (P.state plant.old).on) }
+    ensures room { journal.old.spare ≤ journal.new.spare + room_of told.now }
+    ensures spare { length journal.new.events + journal.new.spare ≡ length journal.old.events + journal.old.spare }
 {
-    let fields = peek_fields(p, c, v);
+    let fields = peek_fields(plant, config, v);
     if fields.inhibited {
         return Err(Refusal::Inhibited { volume: v });
     }
-    if !is_settled(p, c, v) {
-        return Err(relation_state(p, c, v));
+    if !is_settled(plant, config, v) {
+        return Err(relation_state(plant, config, v));
     }
-    overwrite(p, c, j, v, t, &fields, bytes, told)
+    overwrite(plant, config, journal, v, t, &fields, bytes, told)
 }

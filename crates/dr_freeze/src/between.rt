@@ -34,13 +34,17 @@ fn all(first: bool, second: bool, third: bool) -> bool
 }
 
 /// Whether a volume is a primary in one logical subsystem, on a server that is on, with its secondary in the other.
-pub(crate) fn is_between<P: Plant>(p: &P, c: &Config, l: Lss, m: Lss, v: VolumeId) -> bool
-    requires defined { IsSome (place_of c.now v.0) }
-    requires stands { StandsFor c.now (P.state p.now) }
-    ensures test { result ≡ between (P.state p.now) c.now l.0 m.0 v.0 }
-    ensures server { (volume_seen (P.state p.now) c.now v.0).server < 8 }
+pub(crate) fn is_between<P: Plant>(plant: &P, config: &Config, l: Lss, m: Lss, v: VolumeId) -> bool
+    requires defined { IsSome (place_of config.now v.0) }
+    requires stands { StandsFor config.now (P.state plant.now) }
+    ensures test { result ≡ between (P.state plant.now) config.now l.0 m.0 v.0 }
+    ensures server { (volume_seen (P.state plant.now) config.now v.0).server < 8 }
 {
-    let server = server_of(c, v);
-    let head = peek_head(p, c, v);
-    all(v.lss().0 == l.0, p.is_on(server.0), is_primary_to(&head, m))
+    let server = server_of(config, v);
+    let head = peek_head(plant, config, v);
+    all(
+        v.lss().0 == l.0,
+        plant.is_on(server.0),
+        is_primary_to(&head, m),
+    )
 }

@@ -33,106 +33,106 @@ pub(crate) enum Change {
 /// A primary between the two logical subsystems is suspended and long busy. Fails where its server stops in the move or
 /// goes off at a read. The journal needs room for two events.
 fn freeze_volume<P: Plant>(
-    p: &mut P,
-    c: &Config,
-    j: &mut Journal,
+    plant: &mut P,
+    config: &Config,
+    journal: &mut Journal,
     l: Lss,
     m: Lss,
     v: VolumeId,
 ) -> Result<(), Refusal>
-    requires rest { IsAtRest (P.state p.old) c.now }
-    requires fit { RelationsFit (P.state p.old) c.now }
-    requires defined { IsSome (place_of c.now v.0) }
-    requires room { 2 ≤ j.old.spare }
-    ensures advances { OnOk result ((r : Rest) → Advances (world_seen (P.state p.old) c.now r j.old.events) (freeze_on l.0 m.0 v.0) (world_seen (P.state p.new) c.now r j.new.events)) }
-    ensures halts { OnErr result ((r : Rest) → Halts (armed_in (P.state p.old)) (world_seen (P.state p.old) c.now r j.old.events) (freeze_on l.0 m.0 v.0) (world_seen (P.state p.new) c.now r j.new.events) (refusal_of result)) }
-    ensures refused { OnErr result (refusal_of result ≡ Some (stopped (volume_seen (P.state p.old) c.now v.0).server)) }
-    ensures rest { IsAtRest (P.state p.new) c.now }
-    ensures fit { RelationsFit (P.state p.new) c.now }
-    ensures unarmed { (q : ℕ) → (P.state p.old).read_fuse q ≡ None → (P.state p.new).read_fuse q ≡ None }
-    ensures faults { Counted (is_err result) (P.state p.old).faults (P.state p.new).faults }
-    ensures changed { OnOk result (between (P.state p.old) c.now l.0 m.0 v.0 ≡ true → IsChanged change.Freeze (volume_seen (P.state p.new) c.now v.0).fields) }
-    ensures still { OnOk result (StillBetween (P.state p.old) (P.state p.new) c.now l.0 m.0) }
-    ensures others { OthersStay (P.state p.old) (P.state p.new) c.now v.0 }
-    ensures on { OnOk result ((P.state p.new).on ≡ (P.state p.old).on) }
-    ensures room { j.old.spare ≤ j.new.spare + 2 }
-    ensures room_left { OnOk result (j.old.spare ≤ j.new.spare + 1) }
-    ensures spare { length j.new.events + j.new.spare ≡ length j.old.events + j.old.spare }
+    requires rest { IsAtRest (P.state plant.old) config.now }
+    requires fit { RelationsFit (P.state plant.old) config.now }
+    requires defined { IsSome (place_of config.now v.0) }
+    requires room { 2 ≤ journal.old.spare }
+    ensures advances { OnOk result ((r : Rest) → Advances (world_seen (P.state plant.old) config.now r journal.old.events) (freeze_on l.0 m.0 v.0) (world_seen (P.state plant.new) config.now r journal.new.events)) }
+    ensures halts { OnErr result ((r : Rest) → Halts (armed_in (P.state plant.old)) (world_seen (P.state plant.old) config.now r journal.old.events) (freeze_on l.0 m.0 v.0) (world_seen (P.state plant.new) config.now r journal.new.events) (refusal_of result)) }
+    ensures refused { OnErr result (refusal_of result ≡ Some (stopped (volume_seen (P.state plant.old) config.now v.0).server)) }
+    ensures rest { IsAtRest (P.state plant.new) config.now }
+    ensures fit { RelationsFit (P.state plant.new) config.now }
+    ensures unarmed { (q : ℕ) → (P.state plant.old).read_fuse q ≡ None → (P.state plant.new).read_fuse q ≡ None }
+    ensures faults { Counted (is_err result) (P.state plant.old).faults (P.state plant.new).faults }
+    ensures changed { OnOk result (between (P.state plant.old) config.now l.0 m.0 v.0 ≡ true → IsChanged change.Freeze (volume_seen (P.state plant.new) config.now v.0).fields) }
+    ensures still { OnOk result (StillBetween (P.state plant.old) (P.state plant.new) config.now l.0 m.0) }
+    ensures others { OthersStay (P.state plant.old) (P.state plant.new) config.now v.0 }
+    ensures on { OnOk result ((P.state plant.new).on ≡ (P.state plant.old).on) }
+    ensures room { journal.old.spare ≤ journal.new.spare + 2 }
+    ensures room_left { OnOk result (journal.old.spare ≤ journal.new.spare + 1) }
+    ensures spare { length journal.new.events + journal.new.spare ≡ length journal.old.events + journal.old.spare }
 {
-    if !is_between(p, c, l, m, v) {
+    if !is_between(plant, config, l, m, v) {
         return Ok(());
     }
-    suspend(p, c, j, v, true)
+    suspend(plant, config, journal, v, true)
 }
 
 /// A primary between the two logical subsystems that is long busy is so no more.
 fn thaw_volume<P: Plant>(
-    p: &mut P,
-    c: &Config,
-    j: &mut Journal,
+    plant: &mut P,
+    config: &Config,
+    journal: &mut Journal,
     l: Lss,
     m: Lss,
     v: VolumeId,
 ) -> Result<(), Refusal>
-    requires rest { IsAtRest (P.state p.old) c.now }
-    requires fit { RelationsFit (P.state p.old) c.now }
-    requires defined { IsSome (place_of c.now v.0) }
-    requires room { 2 ≤ j.old.spare }
-    ensures advances { OnOk result ((r : Rest) → Advances (world_seen (P.state p.old) c.now r j.old.events) (thaw_on l.0 m.0 v.0) (world_seen (P.state p.new) c.now r j.new.events)) }
-    ensures halts { OnErr result ((r : Rest) → Halts (armed_in (P.state p.old)) (world_seen (P.state p.old) c.now r j.old.events) (thaw_on l.0 m.0 v.0) (world_seen (P.state p.new) c.now r j.new.events) (refusal_of result)) }
-    ensures refused { OnErr result (refusal_of result ≡ Some (stopped (volume_seen (P.state p.old) c.now v.0).server)) }
-    ensures rest { IsAtRest (P.state p.new) c.now }
-    ensures fit { RelationsFit (P.state p.new) c.now }
-    ensures unarmed { (q : ℕ) → (P.state p.old).read_fuse q ≡ None → (P.state p.new).read_fuse q ≡ None }
-    ensures faults { Counted (is_err result) (P.state p.old).faults (P.state p.new).faults }
-    ensures changed { OnOk result (between (P.state p.old) c.now l.0 m.0 v.0 ≡ true → IsChanged change.Thaw (volume_seen (P.state p.new) c.now v.0).fields) }
-    ensures still { OnOk result (StillBetween (P.state p.old) (P.state p.new) c.now l.0 m.0) }
-    ensures others { OthersStay (P.state p.old) (P.state p.new) c.now v.0 }
-    ensures on { OnOk result ((P.state p.new).on ≡ (P.state p.old).on) }
-    ensures room { j.old.spare ≤ j.new.spare + 2 }
-    ensures room_left { OnOk result (j.old.spare ≤ j.new.spare + 1) }
-    ensures spare { length j.new.events + j.new.spare ≡ length j.old.events + j.old.spare }
+    requires rest { IsAtRest (P.state plant.old) config.now }
+    requires fit { RelationsFit (P.state plant.old) config.now }
+    requires defined { IsSome (place_of config.now v.0) }
+    requires room { 2 ≤ journal.old.spare }
+    ensures advances { OnOk result ((r : Rest) → Advances (world_seen (P.state plant.old) config.now r journal.old.events) (thaw_on l.0 m.0 v.0) (world_seen (P.state plant.new) config.now r journal.new.events)) }
+    ensures halts { OnErr result ((r : Rest) → Halts (armed_in (P.state plant.old)) (world_seen (P.state plant.old) config.now r journal.old.events) (thaw_on l.0 m.0 v.0) (world_seen (P.state plant.new) config.now r journal.new.events) (refusal_of result)) }
+    ensures refused { OnErr result (refusal_of result ≡ Some (stopped (volume_seen (P.state plant.old) config.now v.0).server)) }
+    ensures rest { IsAtRest (P.state plant.new) config.now }
+    ensures fit { RelationsFit (P.state plant.new) config.now }
+    ensures unarmed { (q : ℕ) → (P.state plant.old).read_fuse q ≡ None → (P.state plant.new).read_fuse q ≡ None }
+    ensures faults { Counted (is_err result) (P.state plant.old).faults (P.state plant.new).faults }
+    ensures changed { OnOk result (between (P.state plant.old) config.now l.0 m.0 v.0 ≡ true → IsChanged change.Thaw (volume_seen (P.state plant.new) config.now v.0).fields) }
+    ensures still { OnOk result (StillBetween (P.state plant.old) (P.state plant.new) config.now l.0 m.0) }
+    ensures others { OthersStay (P.state plant.old) (P.state plant.new) config.now v.0 }
+    ensures on { OnOk result ((P.state plant.new).on ≡ (P.state plant.old).on) }
+    ensures room { journal.old.spare ≤ journal.new.spare + 2 }
+    ensures room_left { OnOk result (journal.old.spare ≤ journal.new.spare + 1) }
+    ensures spare { length journal.new.events + journal.new.spare ≡ length journal.old.events + journal.old.spare }
 {
-    if !is_between(p, c, l, m, v) {
+    if !is_between(plant, config, l, m, v) {
         return Ok(());
     }
-    if !peek_head(p, c, v).long_busy {
+    if !peek_head(plant, config, v).long_busy {
         return Ok(());
     }
-    clear_busy(p, c, j, v)
+    clear_busy(plant, config, journal, v)
 }
 
 /// One of both.
 pub(crate) fn change_volume<P: Plant>(
-    p: &mut P,
-    c: &Config,
-    j: &mut Journal,
+    plant: &mut P,
+    config: &Config,
+    journal: &mut Journal,
     x: Change,
     l: Lss,
     m: Lss,
     v: VolumeId,
 ) -> Result<(), Refusal>
-    requires rest { IsAtRest (P.state p.old) c.now }
-    requires fit { RelationsFit (P.state p.old) c.now }
-    requires defined { IsSome (place_of c.now v.0) }
-    requires room { 2 ≤ j.old.spare }
-    ensures advances { OnOk result ((r : Rest) → Advances (world_seen (P.state p.old) c.now r j.old.events) (change_on x l.0 m.0 v.0) (world_seen (P.state p.new) c.now r j.new.events)) }
-    ensures halts { OnErr result ((r : Rest) → Halts (armed_in (P.state p.old)) (world_seen (P.state p.old) c.now r j.old.events) (change_on x l.0 m.0 v.0) (world_seen (P.state p.new) c.now r j.new.events) (refusal_of result)) }
-    ensures refused { OnErr result (refusal_of result ≡ Some (stopped (volume_seen (P.state p.old) c.now v.0).server)) }
-    ensures rest { IsAtRest (P.state p.new) c.now }
-    ensures fit { RelationsFit (P.state p.new) c.now }
-    ensures unarmed { (q : ℕ) → (P.state p.old).read_fuse q ≡ None → (P.state p.new).read_fuse q ≡ None }
-    ensures faults { Counted (is_err result) (P.state p.old).faults (P.state p.new).faults }
-    ensures changed { OnOk result (between (P.state p.old) c.now l.0 m.0 v.0 ≡ true → IsChanged x (volume_seen (P.state p.new) c.now v.0).fields) }
-    ensures still { OnOk result (StillBetween (P.state p.old) (P.state p.new) c.now l.0 m.0) }
-    ensures others { OthersStay (P.state p.old) (P.state p.new) c.now v.0 }
-    ensures on { OnOk result ((P.state p.new).on ≡ (P.state p.old).on) }
-    ensures room { j.old.spare ≤ j.new.spare + 2 }
-    ensures room_left { OnOk result (j.old.spare ≤ j.new.spare + 1) }
-    ensures spare { length j.new.events + j.new.spare ≡ length j.old.events + j.old.spare }
+    requires rest { IsAtRest (P.state plant.old) config.now }
+    requires fit { RelationsFit (P.state plant.old) config.now }
+    requires defined { IsSome (place_of config.now v.0) }
+    requires room { 2 ≤ journal.old.spare }
+    ensures advances { OnOk result ((r : Rest) → Advances (world_seen (P.state plant.old) config.now r journal.old.events) (change_on x l.0 m.0 v.0) (world_seen (P.state plant.new) config.now r journal.new.events)) }
+    ensures halts { OnErr result ((r : Rest) → Halts (armed_in (P.state plant.old)) (world_seen (P.state plant.old) config.now r journal.old.events) (change_on x l.0 m.0 v.0) (world_seen (P.state plant.new) config.now r journal.new.events) (refusal_of result)) }
+    ensures refused { OnErr result (refusal_of result ≡ Some (stopped (volume_seen (P.state plant.old) config.now v.0).server)) }
+    ensures rest { IsAtRest (P.state plant.new) config.now }
+    ensures fit { RelationsFit (P.state plant.new) config.now }
+    ensures unarmed { (q : ℕ) → (P.state plant.old).read_fuse q ≡ None → (P.state plant.new).read_fuse q ≡ None }
+    ensures faults { Counted (is_err result) (P.state plant.old).faults (P.state plant.new).faults }
+    ensures changed { OnOk result (between (P.state plant.old) config.now l.0 m.0 v.0 ≡ true → IsChanged x (volume_seen (P.state plant.new) config.now v.0).fields) }
+    ensures still { OnOk result (StillBetween (P.state plant.old) (P.state plant.new) config.now l.0 m.0) }
+    ensures others { OthersStay (P.state plant.old) (P.state plant.new) config.now v.0 }
+    ensures on { OnOk result ((P.state plant.new).on ≡ (P.state plant.old).on) }
+    ensures room { journal.old.spare ≤ journal.new.spare + 2 }
+    ensures room_left { OnOk result (journal.old.spare ≤ journal.new.spare + 1) }
+    ensures spare { length journal.new.events + journal.new.spare ≡ length journal.old.events + journal.old.spare }
 {
     match x {
-        Change::Freeze => freeze_volume(p, c, j, l, m, v),
-        Change::Thaw => thaw_volume(p, c, j, l, m, v),
+        Change::Freeze => freeze_volume(plant, config, journal, l, m, v),
+        Change::Thaw => thaw_volume(plant, config, journal, l, m, v),
     }
 }

@@ -13,30 +13,35 @@ use dr_ids::{Kind, Lss, Refusal};
 use dr_plant::Plant;
 
 /// Why a thaw is refused: the server of l is off.
-pub(crate) fn thaw_refusal<P: Plant>(p: &P, c: &Config, l: Lss) -> Option<Refusal>
-    requires owned { IsSome (lss_owner c.now l.0) }
-    ensures checked { (r : Rest) (events : List Event) → Checked (world_seen (P.state p.now) c.now r events) (thaw_checks (owner_in c.now l.0)) result }
-    ensures running { OnNone result ((P.state p.now).on (owner_in c.now l.0) ≡ true) }
+pub(crate) fn thaw_refusal<P: Plant>(plant: &P, config: &Config, l: Lss) -> Option<Refusal>
+    requires owned { IsSome (lss_owner config.now l.0) }
+    ensures checked { (r : Rest) (events : List Event) → Checked (world_seen (P.state plant.now) config.now r events) (thaw_checks (owner_in config.now l.0)) result }
+    ensures running { OnNone result ((P.state plant.now).on (owner_in config.now l.0) ≡ true) }
     ensures calm { is_stop result ≡ false }
-    ensures sound { IsSoundConfig c.now }
+    ensures sound { IsSoundConfig config.now }
 {
-    let server = c.lss_owner(l).unwrap();
-    if !p.is_on(server.0) {
+    let server = config.lss_owner(l).unwrap();
+    if !plant.is_on(server.0) {
         return Some(Refusal::ServerOff { server });
     }
     None
 }
 
 /// Why a freeze is refused: no path goes from l to m, or else the server of l is off.
-pub(crate) fn freeze_refusal<P: Plant>(p: &P, c: &Config, l: Lss, m: Lss) -> Option<Refusal>
-    requires owned { IsSome (lss_owner c.now l.0) }
-    ensures checked { (r : Rest) (events : List Event) → Checked (world_seen (P.state p.now) c.now r events) (freeze_checks (owner_in c.now l.0) l.0 m.0) result }
-    ensures running { OnNone result ((P.state p.now).on (owner_in c.now l.0) ≡ true) }
+pub(crate) fn freeze_refusal<P: Plant>(
+    plant: &P,
+    config: &Config,
+    l: Lss,
+    m: Lss,
+) -> Option<Refusal>
+    requires owned { IsSome (lss_owner config.now l.0) }
+    ensures checked { (r : Rest) (events : List Event) → Checked (world_seen (P.state plant.now) config.now r events) (freeze_checks (owner_in config.now l.0) l.0 m.0) result }
+    ensures running { OnNone result ((P.state plant.now).on (owner_in config.now l.0) ≡ true) }
     ensures calm { is_stop result ≡ false }
-    ensures sound { OnNone result (IsSoundConfig c.now) }
+    ensures sound { OnNone result (IsSoundConfig config.now) }
 {
-    let Some(_) = c.path(l, m) else {
+    let Some(_) = config.path(l, m) else {
         return Some(Refusal::Unknown { kind: Kind::Path });
     };
-    thaw_refusal(p, c, l)
+    thaw_refusal(plant, config, l)
 }

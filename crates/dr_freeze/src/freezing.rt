@@ -23,25 +23,25 @@ use dr_model::{Event, Journal};
 use dr_plant::Plant;
 
 /// The path is removed, and the journal is told that the freeze ended.
-fn end_freeze(c: &mut Config, j: &mut Journal, l: Lss, m: Lss)
-    requires room { 1 ≤ j.old.spare }
-    ensures removed { c.new ≡ without_path_between c.old l.0 m.0 }
-    ensures events { j.new.events ≡ j.old.events ++ Event.Frozen l.0 m.0 ∷ [] }
-    ensures room { j.old.spare ≡ j.new.spare + 1 }
-    ensures spare { length j.new.events + j.new.spare ≡ length j.old.events + j.old.spare }
+fn end_freeze(config: &mut Config, journal: &mut Journal, l: Lss, m: Lss)
+    requires room { 1 ≤ journal.old.spare }
+    ensures removed { config.new ≡ without_path_between config.old l.0 m.0 }
+    ensures events { journal.new.events ≡ journal.old.events ++ Event.Frozen l.0 m.0 ∷ [] }
+    ensures room { journal.old.spare ≡ journal.new.spare + 1 }
+    ensures spare { length journal.new.events + journal.new.spare ≡ length journal.old.events + journal.old.spare }
 {
-    c.remove_path(l, m);
-    j.push(Event::Frozen { src: l.0, tgt: m.0 });
+    config.remove_path(l, m);
+    journal.push(Event::Frozen { src: l.0, tgt: m.0 });
 }
 
 /// The journal is told that the thaw ended.
-fn end_thaw(j: &mut Journal, l: Lss, m: Lss)
-    requires room { 1 ≤ j.old.spare }
-    ensures events { j.new.events ≡ j.old.events ++ Event.Thawed l.0 m.0 ∷ [] }
-    ensures room { j.old.spare ≡ j.new.spare + 1 }
-    ensures spare { length j.new.events + j.new.spare ≡ length j.old.events + j.old.spare }
+fn end_thaw(journal: &mut Journal, l: Lss, m: Lss)
+    requires room { 1 ≤ journal.old.spare }
+    ensures events { journal.new.events ≡ journal.old.events ++ Event.Thawed l.0 m.0 ∷ [] }
+    ensures room { journal.old.spare ≡ journal.new.spare + 1 }
+    ensures spare { length journal.new.events + journal.new.spare ≡ length journal.old.events + journal.old.spare }
 {
-    j.push(Event::Thawed { src: l.0, tgt: m.0 });
+    journal.push(Event::Thawed { src: l.0, tgt: m.0 });
 }
 
 /// Freezes the pairs from logical subsystem l, which has a volume, to m: each primary in l with its secondary in m is
@@ -50,34 +50,34 @@ fn end_thaw(j: &mut Journal, l: Lss, m: Lss)
 /// off at a read; what was done by then stays, and so does the path. The journal needs room for an event for each volume and
 /// two more.
 pub fn freeze<P: Plant>(
-    p: &mut P,
-    c: &mut Config,
-    j: &mut Journal,
+    plant: &mut P,
+    config: &mut Config,
+    journal: &mut Journal,
     l: Lss,
     m: Lss,
 ) -> Result<(), Refusal>
-    requires rest { IsAtRest (P.state p.old) c.old }
-    requires fit { RelationsFit (P.state p.old) c.old }
-    requires owned { IsSome (lss_owner c.old l.0) }
-    requires room { length c.old.volumes + 2 ≤ j.old.spare }
-    ensures carried { (r : Rest) → Ends (armed_in (P.state p.old)) (world_seen (P.state p.new) c.new r j.new.events) (refusal_of result) (world_seen (P.state p.old) c.old r j.old.events) (freeze_checks (owner_in c.old l.0) l.0 m.0 ++ freeze_entries (ids_of c.old.volumes) l.0 m.0) }
-    ensures unchanged { is_stop (refusal_of result) ≡ false → OnErr result ((P.state p.new ≡ P.state p.old) × (j.new ≡ j.old)) }
-    ensures rest { IsAtRest (P.state p.new) c.new }
-    ensures fit { RelationsFit (P.state p.new) c.new }
-    ensures unarmed { (q : ℕ) → (P.state p.old).read_fuse q ≡ None → (P.state p.new).read_fuse q ≡ None }
-    ensures faults { Counted (is_stop (refusal_of result)) (P.state p.old).faults (P.state p.new).faults }
-    ensures frozen { OnOk result (AllFrozen (P.state p.old) c.old (P.state p.new) c.new l.0 m.0) }
-    ensures removed { OnOk result (c.new ≡ without_path_between c.old l.0 m.0) }
-    ensures same { OnErr result (c.new ≡ c.old) }
-    ensures room { j.old.spare ≤ j.new.spare + (length c.old.volumes + 1) }
-    ensures spare { length j.new.events + j.new.spare ≡ length j.old.events + j.old.spare }
+    requires rest { IsAtRest (P.state plant.old) config.old }
+    requires fit { RelationsFit (P.state plant.old) config.old }
+    requires owned { IsSome (lss_owner config.old l.0) }
+    requires room { length config.old.volumes + 2 ≤ journal.old.spare }
+    ensures carried { (r : Rest) → Ends (armed_in (P.state plant.old)) (world_seen (P.state plant.new) config.new r journal.new.events) (refusal_of result) (world_seen (P.state plant.old) config.old r journal.old.events) (freeze_checks (owner_in config.old l.0) l.0 m.0 ++ freeze_entries (ids_of config.old.volumes) l.0 m.0) }
+    ensures unchanged { is_stop (refusal_of result) ≡ false → OnErr result ((P.state plant.new ≡ P.state plant.old) × (journal.new ≡ journal.old)) }
+    ensures rest { IsAtRest (P.state plant.new) config.new }
+    ensures fit { RelationsFit (P.state plant.new) config.new }
+    ensures unarmed { (q : ℕ) → (P.state plant.old).read_fuse q ≡ None → (P.state plant.new).read_fuse q ≡ None }
+    ensures faults { Counted (is_stop (refusal_of result)) (P.state plant.old).faults (P.state plant.new).faults }
+    ensures frozen { OnOk result (AllFrozen (P.state plant.old) config.old (P.state plant.new) config.new l.0 m.0) }
+    ensures removed { OnOk result (config.new ≡ without_path_between config.old l.0 m.0) }
+    ensures same { OnErr result (config.new ≡ config.old) }
+    ensures room { journal.old.spare ≤ journal.new.spare + (length config.old.volumes + 1) }
+    ensures spare { length journal.new.events + journal.new.spare ≡ length journal.old.events + journal.old.spare }
 {
-    if let Some(why) = freeze_refusal(p, c, l, m) {
+    if let Some(why) = freeze_refusal(plant, config, l, m) {
         return Err(why);
     }
-    match change_all(p, c, j, Change::Freeze, l, m) {
+    match change_all(plant, config, journal, Change::Freeze, l, m) {
         Ok(()) => {
-            end_freeze(c, j, l, m);
+            end_freeze(config, journal, l, m);
             Ok(())
         }
         Err(why) => Err(why),
@@ -88,27 +88,33 @@ pub fn freeze<P: Plant>(
 /// busy is so no more, in order of definition. Refused where the server of l is off; then nothing has changed. Fails too where
 /// a server stops in a move or goes off at a read; what was done by then stays. The journal needs room for an event for each
 /// volume and two more.
-pub fn thaw<P: Plant>(p: &mut P, c: &Config, j: &mut Journal, l: Lss, m: Lss) -> Result<(), Refusal>
-    requires rest { IsAtRest (P.state p.old) c.now }
-    requires fit { RelationsFit (P.state p.old) c.now }
-    requires owned { IsSome (lss_owner c.now l.0) }
-    requires room { length c.now.volumes + 2 ≤ j.old.spare }
-    ensures carried { (r : Rest) → Ends (armed_in (P.state p.old)) (world_seen (P.state p.new) c.now r j.new.events) (refusal_of result) (world_seen (P.state p.old) c.now r j.old.events) (thaw_checks (owner_in c.now l.0) ++ thaw_entries (ids_of c.now.volumes) l.0 m.0) }
-    ensures unchanged { is_stop (refusal_of result) ≡ false → OnErr result ((P.state p.new ≡ P.state p.old) × (j.new ≡ j.old)) }
-    ensures rest { IsAtRest (P.state p.new) c.now }
-    ensures fit { RelationsFit (P.state p.new) c.now }
-    ensures unarmed { (q : ℕ) → (P.state p.old).read_fuse q ≡ None → (P.state p.new).read_fuse q ≡ None }
-    ensures faults { Counted (is_stop (refusal_of result)) (P.state p.old).faults (P.state p.new).faults }
-    ensures thawed { OnOk result (AllThawed (P.state p.old) (P.state p.new) c.now l.0 m.0) }
-    ensures room { j.old.spare ≤ j.new.spare + (length c.now.volumes + 1) }
-    ensures spare { length j.new.events + j.new.spare ≡ length j.old.events + j.old.spare }
+pub fn thaw<P: Plant>(
+    plant: &mut P,
+    config: &Config,
+    journal: &mut Journal,
+    l: Lss,
+    m: Lss,
+) -> Result<(), Refusal>
+    requires rest { IsAtRest (P.state plant.old) config.now }
+    requires fit { RelationsFit (P.state plant.old) config.now }
+    requires owned { IsSome (lss_owner config.now l.0) }
+    requires room { length config.now.volumes + 2 ≤ journal.old.spare }
+    ensures carried { (r : Rest) → Ends (armed_in (P.state plant.old)) (world_seen (P.state plant.new) config.now r journal.new.events) (refusal_of result) (world_seen (P.state plant.old) config.now r journal.old.events) (thaw_checks (owner_in config.now l.0) ++ thaw_entries (ids_of config.now.volumes) l.0 m.0) }
+    ensures unchanged { is_stop (refusal_of result) ≡ false → OnErr result ((P.state plant.new ≡ P.state plant.old) × (journal.new ≡ journal.old)) }
+    ensures rest { IsAtRest (P.state plant.new) config.now }
+    ensures fit { RelationsFit (P.state plant.new) config.now }
+    ensures unarmed { (q : ℕ) → (P.state plant.old).read_fuse q ≡ None → (P.state plant.new).read_fuse q ≡ None }
+    ensures faults { Counted (is_stop (refusal_of result)) (P.state plant.old).faults (P.state plant.new).faults }
+    ensures thawed { OnOk result (AllThawed (P.state plant.old) (P.state plant.new) config.now l.0 m.0) }
+    ensures room { journal.old.spare ≤ journal.new.spare + (length config.now.volumes + 1) }
+    ensures spare { length journal.new.events + journal.new.spare ≡ length journal.old.events + journal.old.spare }
 {
-    if let Some(why) = thaw_refusal(p, c, l) {
+    if let Some(why) = thaw_refusal(plant, config, l) {
         return Err(why);
     }
-    match change_all(p, c, j, Change::Thaw, l, m) {
+    match change_all(plant, config, journal, Change::Thaw, l, m) {
         Ok(()) => {
-            end_thaw(j, l, m);
+            end_thaw(journal, l, m);
             Ok(())
         }
         Err(why) => Err(why),

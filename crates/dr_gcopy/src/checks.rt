@@ -24,35 +24,35 @@ use dr_plant::Plant;
 use dr_volume::peek_fields;
 
 /// Why nothing can be done on a volume now: its server is off.
-fn running_refusal<P: Plant>(p: &P, c: &Config, v: VolumeId) -> Option<Refusal>
-    requires rest { IsAtRest (P.state p.now) c.now }
-    requires defined { IsSome (place_of c.now v.0) }
-    ensures checked { (r : Rest) (events : List Event) → Checked (world_seen (P.state p.now) c.now r events) (running_check (world_seen (P.state p.now) c.now r events).control v.0 ∷ []) result }
-    ensures running { OnNone result ((P.state p.now).on (volume_seen (P.state p.now) c.now v.0).server ≡ true) }
+pub fn running_refusal<P: Plant>(plant: &P, config: &Config, v: VolumeId) -> Option<Refusal>
+    requires rest { IsAtRest (P.state plant.now) config.now }
+    requires defined { IsSome (place_of config.now v.0) }
+    ensures checked { (r : Rest) (events : List Event) → Checked (world_seen (P.state plant.now) config.now r events) (running_check (world_seen (P.state plant.now) config.now r events).control v.0 ∷ []) result }
+    ensures running { OnNone result ((P.state plant.now).on (volume_seen (P.state plant.now) config.now v.0).server ≡ true) }
     ensures calm { is_stop result ≡ false }
 {
-    let server = server_of(c, v);
-    if !p.is_on(server.0) {
+    let server = server_of(config, v);
+    if !plant.is_on(server.0) {
         return Some(Refusal::ServerOff { server });
     }
     None
 }
 
 /// Why two volumes can't be a pair: they are on one server, or their sizes differ.
-fn unlike_refusal(c: &Config, a: VolumeId, b: VolumeId) -> Option<Refusal>
-    requires primary { IsSome (place_of c.now a.0) }
-    requires secondary { IsSome (place_of c.now b.0) }
-    ensures checked { (x : PlantState) (r : Rest) (events : List Event) → Checked (world_seen x c.now r events) (unlike_checks a.0 b.0) result }
-    ensures servers { OnNone result ((x : PlantState) → (volume_seen x c.now a.0).server ≢ (volume_seen x c.now b.0).server) }
-    ensures size { OnNone result ((x : PlantState) → (volume_seen x c.now a.0).tracks ≡ (volume_seen x c.now b.0).tracks) }
+fn unlike_refusal(config: &Config, a: VolumeId, b: VolumeId) -> Option<Refusal>
+    requires primary { IsSome (place_of config.now a.0) }
+    requires secondary { IsSome (place_of config.now b.0) }
+    ensures checked { (x : PlantState) (r : Rest) (events : List Event) → Checked (world_seen x config.now r events) (unlike_checks a.0 b.0) result }
+    ensures servers { OnNone result ((x : PlantState) → (volume_seen x config.now a.0).server ≢ (volume_seen x config.now b.0).server) }
+    ensures size { OnNone result ((x : PlantState) → (volume_seen x config.now a.0).tracks ≡ (volume_seen x config.now b.0).tracks) }
     ensures calm { is_stop result ≡ false }
 {
-    if server_of(c, a).0 == server_of(c, b).0 {
+    if server_of(config, a).0 == server_of(config, b).0 {
         return Some(Refusal::Limit {
             which: Which::Server,
         });
     }
-    if tracks_of(c, a) != tracks_of(c, b) {
+    if tracks_of(config, a) != tracks_of(config, b) {
         return Some(Refusal::Limit { which: Which::Size });
     }
     None
@@ -60,112 +60,117 @@ fn unlike_refusal(c: &Config, a: VolumeId, b: VolumeId) -> Option<Refusal>
 
 /// Why a pair of a and b can't be made beside those that there are: a has a part in a pair, or b is a primary or the
 /// secondary of another volume.
-fn free_refusal<P: Plant>(p: &P, c: &Config, a: VolumeId, b: VolumeId) -> Option<Refusal>
-    requires rest { IsAtRest (P.state p.now) c.now }
-    requires primary { IsSome (place_of c.now a.0) }
-    requires secondary { IsSome (place_of c.now b.0) }
-    ensures checked { (r : Rest) (events : List Event) → Checked (world_seen (P.state p.now) c.now r events) (free_checks (world_seen (P.state p.now) c.now r events).control a.0 b.0) result }
+fn free_refusal<P: Plant>(plant: &P, config: &Config, a: VolumeId, b: VolumeId) -> Option<Refusal>
+    requires rest { IsAtRest (P.state plant.now) config.now }
+    requires primary { IsSome (place_of config.now a.0) }
+    requires secondary { IsSome (place_of config.now b.0) }
+    ensures checked { (r : Rest) (events : List Event) → Checked (world_seen (P.state plant.now) config.now r events) (free_checks (world_seen (P.state plant.now) config.now r events).control a.0 b.0) result }
     ensures calm { is_stop result ≡ false }
 {
-    if !is_unpaired(&peek_fields(p, c, a)) {
-        return Some(pair_state(p, c, a));
+    if !is_unpaired(&peek_fields(plant, config, a)) {
+        return Some(pair_state(plant, config, a));
     }
-    if !may_follow(&peek_fields(p, c, b), a) {
-        return Some(pair_state(p, c, b));
+    if !may_follow(&peek_fields(plant, config, b), a) {
+        return Some(pair_state(plant, config, b));
     }
     None
 }
 
 /// Why a pair of a and b can't be made beside the FlashCopy relationships: a is a target, or b is one, or b stands in a
 /// revertible or reversing relationship.
-fn flash_refusal<P: Plant>(p: &P, c: &Config, a: VolumeId, b: VolumeId) -> Option<Refusal>
-    requires rest { IsAtRest (P.state p.now) c.now }
-    requires primary { IsSome (place_of c.now a.0) }
-    requires secondary { IsSome (place_of c.now b.0) }
-    ensures checked { (r : Rest) (events : List Event) → Checked (world_seen (P.state p.now) c.now r events) (flash_checks (world_seen (P.state p.now) c.now r events).control a.0 b.0) result }
+fn flash_refusal<P: Plant>(plant: &P, config: &Config, a: VolumeId, b: VolumeId) -> Option<Refusal>
+    requires rest { IsAtRest (P.state plant.now) config.now }
+    requires primary { IsSome (place_of config.now a.0) }
+    requires secondary { IsSome (place_of config.now b.0) }
+    ensures checked { (r : Rest) (events : List Event) → Checked (world_seen (P.state plant.now) config.now r events) (flash_checks (world_seen (P.state plant.now) config.now r events).control a.0 b.0) result }
     ensures calm { is_stop result ≡ false }
 {
-    if peek_fields(p, c, a).related {
-        return Some(relation_state(p, c, a));
+    if peek_fields(plant, config, a).related {
+        return Some(relation_state(plant, config, a));
     }
-    if peek_fields(p, c, b).related {
-        return Some(relation_state(p, c, b));
+    if peek_fields(plant, config, b).related {
+        return Some(relation_state(plant, config, b));
     }
-    if !is_settled(p, c, b) {
-        return Some(relation_state(p, c, b));
+    if !is_settled(plant, config, b) {
+        return Some(relation_state(plant, config, b));
     }
     None
 }
 
 /// Why a and b can't be made a pair, whatever their tracks have.
-pub(crate) fn make_refusal<P: Plant>(p: &P, c: &Config, a: VolumeId, b: VolumeId) -> Option<Refusal>
-    requires rest { IsAtRest (P.state p.now) c.now }
-    requires primary { IsSome (place_of c.now a.0) }
-    requires secondary { IsSome (place_of c.now b.0) }
-    ensures checked { (r : Rest) (events : List Event) → Checked (world_seen (P.state p.now) c.now r events) (make_checks (world_seen (P.state p.now) c.now r events).control a.0 b.0) result }
-    ensures running { OnNone result ((P.state p.now).on (volume_seen (P.state p.now) c.now a.0).server ≡ true) }
-    ensures reached { OnNone result ((P.state p.now).on (volume_seen (P.state p.now) c.now b.0).server ≡ true) }
+pub(crate) fn make_refusal<P: Plant>(
+    plant: &P,
+    config: &Config,
+    a: VolumeId,
+    b: VolumeId,
+) -> Option<Refusal>
+    requires rest { IsAtRest (P.state plant.now) config.now }
+    requires primary { IsSome (place_of config.now a.0) }
+    requires secondary { IsSome (place_of config.now b.0) }
+    ensures checked { (r : Rest) (events : List Event) → Checked (world_seen (P.state plant.now) config.now r events) (make_checks (world_seen (P.state plant.now) config.now r events).control a.0 b.0) result }
+    ensures running { OnNone result ((P.state plant.now).on (volume_seen (P.state plant.now) config.now a.0).server ≡ true) }
+    ensures reached { OnNone result ((P.state plant.now).on (volume_seen (P.state plant.now) config.now b.0).server ≡ true) }
     ensures apart { OnNone result (a.0 ≢ b.0) }
-    ensures size { OnNone result ((volume_seen (P.state p.now) c.now a.0).tracks ≡ (volume_seen (P.state p.now) c.now b.0).tracks) }
+    ensures size { OnNone result ((volume_seen (P.state plant.now) config.now a.0).tracks ≡ (volume_seen (P.state plant.now) config.now b.0).tracks) }
     ensures calm { is_stop result ≡ false }
 {
-    if let Some(why) = running_refusal(p, c, a) {
+    if let Some(why) = running_refusal(plant, config, a) {
         return Some(why);
     }
-    if let Some(why) = reach_refusal(p, c, a, b) {
+    if let Some(why) = reach_refusal(plant, config, a, b) {
         return Some(why);
     }
-    if let Some(why) = unlike_refusal(c, a, b) {
+    if let Some(why) = unlike_refusal(config, a, b) {
         return Some(why);
     }
-    if let Some(why) = free_refusal(p, c, a, b) {
+    if let Some(why) = free_refusal(plant, config, a, b) {
         return Some(why);
     }
-    flash_refusal(p, c, a, b)
+    flash_refusal(plant, config, a, b)
 }
 
 /// Why the pair of a and b can't be ended: the server of a is off, or a is no primary of b.
 pub(crate) fn remove_refusal<P: Plant>(
-    p: &P,
-    c: &Config,
+    plant: &P,
+    config: &Config,
     a: VolumeId,
     b: VolumeId,
 ) -> Option<Refusal>
-    requires rest { IsAtRest (P.state p.now) c.now }
-    requires primary { IsSome (place_of c.now a.0) }
-    ensures checked { (r : Rest) (events : List Event) → Checked (world_seen (P.state p.now) c.now r events) (remove_checks (world_seen (P.state p.now) c.now r events).control a.0 b.0) result }
-    ensures running { OnNone result ((P.state p.now).on (volume_seen (P.state p.now) c.now a.0).server ≡ true) }
+    requires rest { IsAtRest (P.state plant.now) config.now }
+    requires primary { IsSome (place_of config.now a.0) }
+    ensures checked { (r : Rest) (events : List Event) → Checked (world_seen (P.state plant.now) config.now r events) (remove_checks (world_seen (P.state plant.now) config.now r events).control a.0 b.0) result }
+    ensures running { OnNone result ((P.state plant.now).on (volume_seen (P.state plant.now) config.now a.0).server ≡ true) }
     ensures calm { is_stop result ≡ false }
 {
-    if let Some(why) = running_refusal(p, c, a) {
+    if let Some(why) = running_refusal(plant, config, a) {
         return Some(why);
     }
-    if !is_primary_of(&peek_fields(p, c, a), b) {
-        return Some(pair_state(p, c, a));
+    if !is_primary_of(&peek_fields(plant, config, a), b) {
+        return Some(pair_state(plant, config, a));
     }
     None
 }
 
 /// Why b can't be told by a: the server of b is off, or the link between the servers is down.
 pub(crate) fn contact_refusal<P: Plant>(
-    p: &P,
-    c: &Config,
+    plant: &P,
+    config: &Config,
     a: VolumeId,
     b: VolumeId,
 ) -> Option<Refusal>
-    requires rest { IsAtRest (P.state p.now) c.now }
-    requires primary { IsSome (place_of c.now a.0) }
-    requires secondary { IsSome (place_of c.now b.0) }
-    ensures checked { (r : Rest) (events : List Event) → Checked (world_seen (P.state p.now) c.now r events) (contact_checks (world_seen (P.state p.now) c.now r events).control a.0 b.0) result }
-    ensures running { OnNone result ((P.state p.now).on (volume_seen (P.state p.now) c.now b.0).server ≡ true) }
+    requires rest { IsAtRest (P.state plant.now) config.now }
+    requires primary { IsSome (place_of config.now a.0) }
+    requires secondary { IsSome (place_of config.now b.0) }
+    ensures checked { (r : Rest) (events : List Event) → Checked (world_seen (P.state plant.now) config.now r events) (contact_checks (world_seen (P.state plant.now) config.now r events).control a.0 b.0) result }
+    ensures running { OnNone result ((P.state plant.now).on (volume_seen (P.state plant.now) config.now b.0).server ≡ true) }
     ensures calm { is_stop result ≡ false }
 {
-    if let Some(why) = running_refusal(p, c, b) {
+    if let Some(why) = running_refusal(plant, config, b) {
         return Some(why);
     }
-    let from = server_of(c, a);
-    let to = server_of(c, b);
-    if !c.link_up(from, to) {
+    let from = server_of(config, a);
+    let to = server_of(config, b);
+    if !config.link_up(from, to) {
         return Some(Refusal::LinkDown { a: from, b: to });
     }
     None
@@ -173,23 +178,23 @@ pub(crate) fn contact_refusal<P: Plant>(
 
 /// Why the pair of a and b can't be paused: the server of a is off, or a is no primary of b, or a Suspended one.
 pub(crate) fn pause_refusal<P: Plant>(
-    p: &P,
-    c: &Config,
+    plant: &P,
+    config: &Config,
     a: VolumeId,
     b: VolumeId,
 ) -> Option<Refusal>
-    requires rest { IsAtRest (P.state p.now) c.now }
-    requires primary { IsSome (place_of c.now a.0) }
-    ensures checked { (r : Rest) (events : List Event) → Checked (world_seen (P.state p.now) c.now r events) (pause_checks (world_seen (P.state p.now) c.now r events).control a.0 b.0) result }
-    ensures running { OnNone result ((P.state p.now).on (volume_seen (P.state p.now) c.now a.0).server ≡ true) }
-    ensures primary { OnNone result (layout.is_part (volume_seen (P.state p.now) c.now a.0).fields.primary ≡ true) }
+    requires rest { IsAtRest (P.state plant.now) config.now }
+    requires primary { IsSome (place_of config.now a.0) }
+    ensures checked { (r : Rest) (events : List Event) → Checked (world_seen (P.state plant.now) config.now r events) (pause_checks (world_seen (P.state plant.now) config.now r events).control a.0 b.0) result }
+    ensures running { OnNone result ((P.state plant.now).on (volume_seen (P.state plant.now) config.now a.0).server ≡ true) }
+    ensures primary { OnNone result (layout.is_part (volume_seen (P.state plant.now) config.now a.0).fields.primary ≡ true) }
     ensures calm { is_stop result ≡ false }
 {
-    if let Some(why) = running_refusal(p, c, a) {
+    if let Some(why) = running_refusal(plant, config, a) {
         return Some(why);
     }
-    if !may_pause(&peek_fields(p, c, a), b) {
-        return Some(pair_state(p, c, a));
+    if !may_pause(&peek_fields(plant, config, a), b) {
+        return Some(pair_state(plant, config, a));
     }
     None
 }
@@ -197,24 +202,24 @@ pub(crate) fn pause_refusal<P: Plant>(
 /// Why a pair of that kind of a and b can't go on, as far as a says: its server is off, or it is no Suspended primary of b
 /// of that kind.
 fn suspended_refusal<P: Plant>(
-    p: &P,
-    c: &Config,
+    plant: &P,
+    config: &Config,
     a: VolumeId,
     b: VolumeId,
     kind: Part,
 ) -> Option<Refusal>
-    requires rest { IsAtRest (P.state p.now) c.now }
-    requires primary { IsSome (place_of c.now a.0) }
-    ensures checked { (r : Rest) (events : List Event) → Checked (world_seen (P.state p.now) c.now r events) (running_check (world_seen (P.state p.now) c.now r events).control a.0 ∷ check (pairs.may_resume a.0 b.0 kind) (entries.pair_state (world_seen (P.state p.now) c.now r events).control a.0) ∷ []) result }
-    ensures running { OnNone result ((P.state p.now).on (volume_seen (P.state p.now) c.now a.0).server ≡ true) }
-    ensures primary { OnNone result (layout.is_part (volume_seen (P.state p.now) c.now a.0).fields.primary ≡ true) }
+    requires rest { IsAtRest (P.state plant.now) config.now }
+    requires primary { IsSome (place_of config.now a.0) }
+    ensures checked { (r : Rest) (events : List Event) → Checked (world_seen (P.state plant.now) config.now r events) (running_check (world_seen (P.state plant.now) config.now r events).control a.0 ∷ check (pairs.may_resume a.0 b.0 kind) (entries.pair_state (world_seen (P.state plant.now) config.now r events).control a.0) ∷ []) result }
+    ensures running { OnNone result ((P.state plant.now).on (volume_seen (P.state plant.now) config.now a.0).server ≡ true) }
+    ensures primary { OnNone result (layout.is_part (volume_seen (P.state plant.now) config.now a.0).fields.primary ≡ true) }
     ensures calm { is_stop result ≡ false }
 {
-    if let Some(why) = running_refusal(p, c, a) {
+    if let Some(why) = running_refusal(plant, config, a) {
         return Some(why);
     }
-    if !may_resume(&peek_fields(p, c, a), b, kind) {
-        return Some(pair_state(p, c, a));
+    if !may_resume(&peek_fields(plant, config, a), b, kind) {
+        return Some(pair_state(plant, config, a));
     }
     None
 }
@@ -222,30 +227,30 @@ fn suspended_refusal<P: Plant>(
 /// Why a pair of that kind of a and b can't go on: the server of a is off, a is no Suspended primary of b of that kind, b
 /// can't be reached from a, or b isn't the secondary of a.
 pub(crate) fn resume_refusal<P: Plant>(
-    p: &P,
-    c: &Config,
+    plant: &P,
+    config: &Config,
     a: VolumeId,
     b: VolumeId,
     kind: Part,
 ) -> Option<Refusal>
-    requires rest { IsAtRest (P.state p.now) c.now }
-    requires primary { IsSome (place_of c.now a.0) }
-    requires secondary { IsSome (place_of c.now b.0) }
-    ensures checked { (r : Rest) (events : List Event) → Checked (world_seen (P.state p.now) c.now r events) (resume_checks (world_seen (P.state p.now) c.now r events).control a.0 b.0 kind) result }
-    ensures running { OnNone result ((P.state p.now).on (volume_seen (P.state p.now) c.now a.0).server ≡ true) }
-    ensures reached { OnNone result ((P.state p.now).on (volume_seen (P.state p.now) c.now b.0).server ≡ true) }
-    ensures primary { OnNone result (layout.is_part (volume_seen (P.state p.now) c.now a.0).fields.primary ≡ true) }
-    ensures secondary { OnNone result (layout.is_part (volume_seen (P.state p.now) c.now b.0).fields.secondary ≡ true) }
+    requires rest { IsAtRest (P.state plant.now) config.now }
+    requires primary { IsSome (place_of config.now a.0) }
+    requires secondary { IsSome (place_of config.now b.0) }
+    ensures checked { (r : Rest) (events : List Event) → Checked (world_seen (P.state plant.now) config.now r events) (resume_checks (world_seen (P.state plant.now) config.now r events).control a.0 b.0 kind) result }
+    ensures running { OnNone result ((P.state plant.now).on (volume_seen (P.state plant.now) config.now a.0).server ≡ true) }
+    ensures reached { OnNone result ((P.state plant.now).on (volume_seen (P.state plant.now) config.now b.0).server ≡ true) }
+    ensures primary { OnNone result (layout.is_part (volume_seen (P.state plant.now) config.now a.0).fields.primary ≡ true) }
+    ensures secondary { OnNone result (layout.is_part (volume_seen (P.state plant.now) config.now b.0).fields.secondary ≡ true) }
     ensures calm { is_stop result ≡ false }
 {
-    if let Some(why) = suspended_refusal(p, c, a, b, kind) {
+    if let Some(why) = suspended_refusal(plant, config, a, b, kind) {
         return Some(why);
     }
-    if let Some(why) = reach_refusal(p, c, a, b) {
+    if let Some(why) = reach_refusal(plant, config, a, b) {
         return Some(why);
     }
-    if !is_secondary_of(&peek_fields(p, c, b), a) {
-        return Some(pair_state(p, c, b));
+    if !is_secondary_of(&peek_fields(plant, config, b), a) {
+        return Some(pair_state(plant, config, b));
     }
     None
 }

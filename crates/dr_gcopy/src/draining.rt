@@ -36,36 +36,36 @@ fn is_enough(most: Option<u32>, sent: u16) -> bool
 
 /// Primary a, a volume of n tracks, sends these to its partner b, the lowest first, at most so many.
 fn drain_to<P: Plant>(
-    p: &mut P,
-    c: &Config,
-    j: &mut Journal,
+    plant: &mut P,
+    config: &Config,
+    journal: &mut Journal,
     a: VolumeId,
     b: VolumeId,
     n: u16,
     most: Option<u32>,
     out_of_sync: &TrackSet,
 ) -> Result<u16, Refusal>
-    requires rest { IsAtRest (P.state p.old) c.now }
-    requires fit { RelationsFit (P.state p.old) c.now }
-    requires from { IsSome (place_of c.now a.0) }
-    requires to { IsSome (place_of c.now b.0) }
-    requires running { (P.state p.old).on (volume_seen (P.state p.old) c.now a.0).server ≡ true }
-    requires primary { is_part (volume_seen (P.state p.old) c.now a.0).fields.primary ≡ true }
-    requires two_servers { (volume_seen (P.state p.old) c.now a.0).server ≢ (volume_seen (P.state p.old) c.now b.0).server }
-    requires size { (volume_seen (P.state p.old) c.now b.0).tracks ≡ (volume_seen (P.state p.old) c.now a.0).tracks }
-    requires tracks { (volume_seen (P.state p.old) c.now a.0).tracks ≡ n }
-    requires room { (k : ℕ) (r : Rest) (u : World) → Leads (world_seen (P.state p.old) c.now r j.old.events) (sends (ids_of c.now.volumes) a.0 b.0 (take k (in_order n out_of_sync.now))) u → length u.events + (length c.now.volumes + 5) ≤ length j.old.events + j.old.spare }
-    ensures carried { (r : Rest) → EndsFollowed (armed_in (P.state p.old)) (world_seen (P.state p.old) c.now r j.old.events) (sends (ids_of c.now.volumes) a.0 b.0 (tracks_to_send most n out_of_sync.now)) (suspend_after a.0) (world_seen (P.state p.new) c.now r j.new.events) (refusal_of result) }
-    ensures leads { OnOk result ((r : Rest) → Leads (world_seen (P.state p.old) c.now r j.old.events) (sends (ids_of c.now.volumes) a.0 b.0 (tracks_to_send most n out_of_sync.now)) (world_seen (P.state p.new) c.now r j.new.events)) }
-    ensures fails { OnErr result ((r : Rest) → FailsFollowed (armed_in (P.state p.old)) (world_seen (P.state p.old) c.now r j.old.events) (sends (ids_of c.now.volumes) a.0 b.0 (tracks_to_send most n out_of_sync.now)) (suspend_after a.0) (world_seen (P.state p.new) c.now r j.new.events) (refusal_of result)) }
+    requires rest { IsAtRest (P.state plant.old) config.now }
+    requires fit { RelationsFit (P.state plant.old) config.now }
+    requires from { IsSome (place_of config.now a.0) }
+    requires to { IsSome (place_of config.now b.0) }
+    requires running { (P.state plant.old).on (volume_seen (P.state plant.old) config.now a.0).server ≡ true }
+    requires primary { is_part (volume_seen (P.state plant.old) config.now a.0).fields.primary ≡ true }
+    requires two_servers { (volume_seen (P.state plant.old) config.now a.0).server ≢ (volume_seen (P.state plant.old) config.now b.0).server }
+    requires size { (volume_seen (P.state plant.old) config.now b.0).tracks ≡ (volume_seen (P.state plant.old) config.now a.0).tracks }
+    requires tracks { (volume_seen (P.state plant.old) config.now a.0).tracks ≡ n }
+    requires room { (k : ℕ) (r : Rest) (u : World) → Leads (world_seen (P.state plant.old) config.now r journal.old.events) (sends (ids_of config.now.volumes) a.0 b.0 (take k (in_order n out_of_sync.now))) u → length u.events + (length config.now.volumes + 5) ≤ length journal.old.events + journal.old.spare }
+    ensures carried { (r : Rest) → EndsFollowed (armed_in (P.state plant.old)) (world_seen (P.state plant.old) config.now r journal.old.events) (sends (ids_of config.now.volumes) a.0 b.0 (tracks_to_send most n out_of_sync.now)) (suspend_after a.0) (world_seen (P.state plant.new) config.now r journal.new.events) (refusal_of result) }
+    ensures leads { OnOk result ((r : Rest) → Leads (world_seen (P.state plant.old) config.now r journal.old.events) (sends (ids_of config.now.volumes) a.0 b.0 (tracks_to_send most n out_of_sync.now)) (world_seen (P.state plant.new) config.now r journal.new.events)) }
+    ensures fails { OnErr result ((r : Rest) → FailsFollowed (armed_in (P.state plant.old)) (world_seen (P.state plant.old) config.now r journal.old.events) (sends (ids_of config.now.volumes) a.0 b.0 (tracks_to_send most n out_of_sync.now)) (suspend_after a.0) (world_seen (P.state plant.new) config.now r journal.new.events) (refusal_of result)) }
     ensures count { IfOk result (λ sent. sent ≡ length (tracks_to_send most n out_of_sync.now)) }
-    ensures rest { IsAtRest (P.state p.new) c.now }
-    ensures fit { RelationsFit (P.state p.new) c.now }
-    ensures unarmed { (q : ℕ) → (P.state p.old).read_fuse q ≡ None → (P.state p.new).read_fuse q ≡ None }
-    ensures faults { Counted (is_stop (refusal_of result)) (P.state p.old).faults (P.state p.new).faults }
-    ensures on { OnOk result ((P.state p.new).on ≡ (P.state p.old).on) }
-    ensures room { 1 ≤ j.new.spare }
-    ensures spare { length j.new.events + j.new.spare ≡ length j.old.events + j.old.spare }
+    ensures rest { IsAtRest (P.state plant.new) config.now }
+    ensures fit { RelationsFit (P.state plant.new) config.now }
+    ensures unarmed { (q : ℕ) → (P.state plant.old).read_fuse q ≡ None → (P.state plant.new).read_fuse q ≡ None }
+    ensures faults { Counted (is_stop (refusal_of result)) (P.state plant.old).faults (P.state plant.new).faults }
+    ensures on { OnOk result ((P.state plant.new).on ≡ (P.state plant.old).on) }
+    ensures room { 1 ≤ journal.new.spare }
+    ensures spare { length journal.new.events + journal.new.spare ≡ length journal.old.events + journal.old.spare }
 {
     let mut left = *out_of_sync;
     for sent in 0..n {
@@ -75,7 +75,7 @@ fn drain_to<P: Plant>(
         let Some(t) = lowest(n, &left) else {
             return Ok(sent);
         };
-        send_to(p, c, j, a, b, t)?;
+        send_to(plant, config, journal, a, b, t)?;
         left.remove(t);
     }
     Ok(n)
@@ -87,39 +87,39 @@ fn drain_to<P: Plant>(
 /// does; what was sent by then stays. Whatever the sends of any number of tracks tell, the journal needs room for them,
 /// for an event for each volume, and five more.
 pub fn drain<P: Plant>(
-    p: &mut P,
-    c: &Config,
-    j: &mut Journal,
+    plant: &mut P,
+    config: &Config,
+    journal: &mut Journal,
     a: VolumeId,
     most: Option<u32>,
 ) -> Result<u16, Refusal>
-    requires rest { IsAtRest (P.state p.old) c.now }
-    requires fit { RelationsFit (P.state p.old) c.now }
-    requires from { IsSome (place_of c.now a.0) }
-    requires to { IsSome (place_of c.now (volume_seen (P.state p.old) c.now a.0).fields.primary_partner) }
-    requires running { (P.state p.old).on (volume_seen (P.state p.old) c.now a.0).server ≡ true }
-    requires primary { is_part (volume_seen (P.state p.old) c.now a.0).fields.primary ≡ true }
-    requires two_servers { (volume_seen (P.state p.old) c.now a.0).server ≢ (volume_seen (P.state p.old) c.now (volume_seen (P.state p.old) c.now a.0).fields.primary_partner).server }
-    requires size { (volume_seen (P.state p.old) c.now (volume_seen (P.state p.old) c.now a.0).fields.primary_partner).tracks ≡ (volume_seen (P.state p.old) c.now a.0).tracks }
-    requires room { (k : ℕ) (r : Rest) (u : World) → Leads (world_seen (P.state p.old) c.now r j.old.events) (sends (ids_of c.now.volumes) a.0 (volume_seen (P.state p.old) c.now a.0).fields.primary_partner (take k (in_order (volume_seen (P.state p.old) c.now a.0).tracks (volume_seen (P.state p.old) c.now a.0).fields.out_of_sync))) u → length u.events + (length c.now.volumes + 5) ≤ length j.old.events + j.old.spare }
-    ensures carried { (r : Rest) → EndsFollowed (armed_in (P.state p.old)) (world_seen (P.state p.old) c.now r j.old.events) (sends (ids_of c.now.volumes) a.0 (volume_seen (P.state p.old) c.now a.0).fields.primary_partner (tracks_to_send most (volume_seen (P.state p.old) c.now a.0).tracks (volume_seen (P.state p.old) c.now a.0).fields.out_of_sync)) (suspend_after a.0) (world_seen (P.state p.new) c.now r j.new.events) (refusal_of result) }
-    ensures leads { OnOk result ((r : Rest) → Leads (world_seen (P.state p.old) c.now r j.old.events) (sends (ids_of c.now.volumes) a.0 (volume_seen (P.state p.old) c.now a.0).fields.primary_partner (tracks_to_send most (volume_seen (P.state p.old) c.now a.0).tracks (volume_seen (P.state p.old) c.now a.0).fields.out_of_sync)) (world_seen (P.state p.new) c.now r j.new.events)) }
-    ensures fails { OnErr result ((r : Rest) → FailsFollowed (armed_in (P.state p.old)) (world_seen (P.state p.old) c.now r j.old.events) (sends (ids_of c.now.volumes) a.0 (volume_seen (P.state p.old) c.now a.0).fields.primary_partner (tracks_to_send most (volume_seen (P.state p.old) c.now a.0).tracks (volume_seen (P.state p.old) c.now a.0).fields.out_of_sync)) (suspend_after a.0) (world_seen (P.state p.new) c.now r j.new.events) (refusal_of result)) }
-    ensures count { IfOk result (λ sent. sent ≡ length (tracks_to_send most (volume_seen (P.state p.old) c.now a.0).tracks (volume_seen (P.state p.old) c.now a.0).fields.out_of_sync)) }
-    ensures rest { IsAtRest (P.state p.new) c.now }
-    ensures fit { RelationsFit (P.state p.new) c.now }
-    ensures unarmed { (q : ℕ) → (P.state p.old).read_fuse q ≡ None → (P.state p.new).read_fuse q ≡ None }
-    ensures faults { Counted (is_stop (refusal_of result)) (P.state p.old).faults (P.state p.new).faults }
-    ensures on { OnOk result ((P.state p.new).on ≡ (P.state p.old).on) }
-    ensures room { 1 ≤ j.new.spare }
-    ensures spare { length j.new.events + j.new.spare ≡ length j.old.events + j.old.spare }
+    requires rest { IsAtRest (P.state plant.old) config.now }
+    requires fit { RelationsFit (P.state plant.old) config.now }
+    requires from { IsSome (place_of config.now a.0) }
+    requires to { IsSome (place_of config.now (volume_seen (P.state plant.old) config.now a.0).fields.primary_partner) }
+    requires running { (P.state plant.old).on (volume_seen (P.state plant.old) config.now a.0).server ≡ true }
+    requires primary { is_part (volume_seen (P.state plant.old) config.now a.0).fields.primary ≡ true }
+    requires two_servers { (volume_seen (P.state plant.old) config.now a.0).server ≢ (volume_seen (P.state plant.old) config.now (volume_seen (P.state plant.old) config.now a.0).fields.primary_partner).server }
+    requires size { (volume_seen (P.state plant.old) config.now (volume_seen (P.state plant.old) config.now a.0).fields.primary_partner).tracks ≡ (volume_seen (P.state plant.old) config.now a.0).tracks }
+    requires room { (k : ℕ) (r : Rest) (u : World) → Leads (world_seen (P.state plant.old) config.now r journal.old.events) (sends (ids_of config.now.volumes) a.0 (volume_seen (P.state plant.old) config.now a.0).fields.primary_partner (take k (in_order (volume_seen (P.state plant.old) config.now a.0).tracks (volume_seen (P.state plant.old) config.now a.0).fields.out_of_sync))) u → length u.events + (length config.now.volumes + 5) ≤ length journal.old.events + journal.old.spare }
+    ensures carried { (r : Rest) → EndsFollowed (armed_in (P.state plant.old)) (world_seen (P.state plant.old) config.now r journal.old.events) (sends (ids_of config.now.volumes) a.0 (volume_seen (P.state plant.old) config.now a.0).fields.primary_partner (tracks_to_send most (volume_seen (P.state plant.old) config.now a.0).tracks (volume_seen (P.state plant.old) config.now a.0).fields.out_of_sync)) (suspend_after a.0) (world_seen (P.state plant.new) config.now r journal.new.events) (refusal_of result) }
+    ensures leads { OnOk result ((r : Rest) → Leads (world_seen (P.state plant.old) config.now r journal.old.events) (sends (ids_of config.now.volumes) a.0 (volume_seen (P.state plant.old) config.now a.0).fields.primary_partner (tracks_to_send most (volume_seen (P.state plant.old) config.now a.0).tracks (volume_seen (P.state plant.old) config.now a.0).fields.out_of_sync)) (world_seen (P.state plant.new) config.now r journal.new.events)) }
+    ensures fails { OnErr result ((r : Rest) → FailsFollowed (armed_in (P.state plant.old)) (world_seen (P.state plant.old) config.now r journal.old.events) (sends (ids_of config.now.volumes) a.0 (volume_seen (P.state plant.old) config.now a.0).fields.primary_partner (tracks_to_send most (volume_seen (P.state plant.old) config.now a.0).tracks (volume_seen (P.state plant.old) config.now a.0).fields.out_of_sync)) (suspend_after a.0) (world_seen (P.state plant.new) config.now r journal.new.events) (refusal_of result)) }
+    ensures count { IfOk result (λ sent. sent ≡ length (tracks_to_send most (volume_seen (P.state plant.old) config.now a.0).tracks (volume_seen (P.state plant.old) config.now a.0).fields.out_of_sync)) }
+    ensures rest { IsAtRest (P.state plant.new) config.now }
+    ensures fit { RelationsFit (P.state plant.new) config.now }
+    ensures unarmed { (q : ℕ) → (P.state plant.old).read_fuse q ≡ None → (P.state plant.new).read_fuse q ≡ None }
+    ensures faults { Counted (is_stop (refusal_of result)) (P.state plant.old).faults (P.state plant.new).faults }
+    ensures on { OnOk result ((P.state plant.new).on ≡ (P.state plant.old).on) }
+    ensures room { 1 ≤ journal.new.spare }
+    ensures spare { length journal.new.events + journal.new.spare ≡ length journal.old.events + journal.old.spare }
 {
-    let fields = peek_fields(p, c, a);
-    let n = tracks_of(c, a);
+    let fields = peek_fields(plant, config, a);
+    let n = tracks_of(config, a);
     drain_to(
-        p,
-        c,
-        j,
+        plant,
+        config,
+        journal,
         a,
         fields.primary_partner,
         n,

@@ -7,8 +7,10 @@
 //! and `take_over` are one move each, and `receive_track` is what a secondary does for a track that comes: its targets
 //! keep theirs first, then it stores (`carried`). `send_track` sends one track, and what follows where the secondary
 //! can't be reached or its server stops: the primary is suspended, and the call names the first server that stopped
-//! (`carried`, `struck`). `drain` sends the tracks that are out of sync at its begin, lowest first, as many as asked
-//! for (`carried`), and says how many (`count`). `reach_refusal` is why a volume can't be reached (`refusal`). Each
+//! (`carried`, `struck`, `stored`). `drain` sends the tracks that are out of sync at its begin, lowest first, as many as asked
+//! for (`carried`), and says how many (`count`). `reach_refusal` is why a volume can't be reached (`refusal`), `running_refusal`
+//! why nothing can be done on one now (`checked`); `is_primary_of` and `is_secondary_of` say how a volume stands, and
+//! `made_secondary`, `no_primary`, `next_state` and `voided` what its fields become. Each
 //! call keeps the fields of all volumes lawful and fitting (`rest`, `fit`), touches no other volume but the targets of
 //! a secondary (`others`; `drain` says it by its entries alone), and counts a fault exactly where a server stopped
 //! (`faults`), also where reads may fail. That a pair stays equal outside what its primary records is the machine's law
@@ -34,6 +36,7 @@ mod states;
 mod storing;
 mod suspending;
 
+pub use checks::running_refusal;
 pub use compare::difference;
 pub use draining::drain;
 pub use ending::remove_pair;
@@ -41,6 +44,7 @@ pub use following::follow_stop;
 pub use kinds::{CopyKind, part_of};
 pub use making::make_pair;
 pub use moves::take_over;
+pub use parts::{is_primary_of, is_secondary_of, made_secondary, next_state, no_primary};
 pub use passing::pass_on;
 pub use pausing::{pause, resume};
 pub use reach::reach_refusal;

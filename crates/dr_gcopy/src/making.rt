@@ -27,38 +27,38 @@ use dr_plant::Plant;
 
 /// Looks whether two volumes are the same, where they have to be: where not all tracks are to be copied.
 fn compare<P: Plant>(
-    p: &mut P,
-    c: &Config,
-    j: &mut Journal,
+    plant: &mut P,
+    config: &Config,
+    journal: &mut Journal,
     a: VolumeId,
     b: VolumeId,
     full: bool,
 ) -> Result<(), Refusal>
-    requires rest { IsAtRest (P.state p.old) c.now }
-    requires fit { RelationsFit (P.state p.old) c.now }
-    requires primary { IsSome (place_of c.now a.0) }
-    requires secondary { IsSome (place_of c.now b.0) }
-    requires running { (P.state p.old).on (volume_seen (P.state p.old) c.now a.0).server ≡ true }
-    requires reached { (P.state p.old).on (volume_seen (P.state p.old) c.now b.0).server ≡ true }
-    requires size { (volume_seen (P.state p.old) c.now a.0).tracks ≡ (volume_seen (P.state p.old) c.now b.0).tracks }
-    requires room { 1 ≤ j.old.spare }
-    ensures leads { OnOk result ((r : Rest) → Leads (world_seen (P.state p.old) c.now r j.old.events) (refuse_if (differs_at (difference_seen (P.state p.old) c.now a.0 b.0 full)) ∷ []) (world_seen (P.state p.old) c.now r j.old.events)) }
-    ensures fails { OnErr result ((r : Rest) → Fails (armed_in (P.state p.old)) (world_seen (P.state p.old) c.now r j.old.events) (refuse_if (differs_at (difference_seen (P.state p.old) c.now a.0 b.0 full)) ∷ []) (world_seen (P.state p.new) c.now r j.new.events) (refusal_of result)) }
-    ensures passed { OnOk result (P.state p.new ≡ P.state p.old) }
-    ensures silent { OnOk result (j.new ≡ j.old) }
-    ensures unchanged { is_stop (refusal_of result) ≡ false → OnErr result ((P.state p.new ≡ P.state p.old) × (j.new ≡ j.old)) }
-    ensures same { (u : ℕ) → IsAsBefore (P.state p.old) (P.state p.new) c.now u }
-    ensures rest { IsAtRest (P.state p.new) c.now }
-    ensures fit { RelationsFit (P.state p.new) c.now }
-    ensures unarmed { (q : ℕ) → (P.state p.old).read_fuse q ≡ None → (P.state p.new).read_fuse q ≡ None }
-    ensures faults { Counted (is_stop (refusal_of result)) (P.state p.old).faults (P.state p.new).faults }
-    ensures room { j.old.spare ≤ j.new.spare + 1 }
-    ensures spare { length j.new.events + j.new.spare ≡ length j.old.events + j.old.spare }
+    requires rest { IsAtRest (P.state plant.old) config.now }
+    requires fit { RelationsFit (P.state plant.old) config.now }
+    requires primary { IsSome (place_of config.now a.0) }
+    requires secondary { IsSome (place_of config.now b.0) }
+    requires running { (P.state plant.old).on (volume_seen (P.state plant.old) config.now a.0).server ≡ true }
+    requires reached { (P.state plant.old).on (volume_seen (P.state plant.old) config.now b.0).server ≡ true }
+    requires size { (volume_seen (P.state plant.old) config.now a.0).tracks ≡ (volume_seen (P.state plant.old) config.now b.0).tracks }
+    requires room { 1 ≤ journal.old.spare }
+    ensures leads { OnOk result ((r : Rest) → Leads (world_seen (P.state plant.old) config.now r journal.old.events) (refuse_if (differs_at (difference_seen (P.state plant.old) config.now a.0 b.0 full)) ∷ []) (world_seen (P.state plant.old) config.now r journal.old.events)) }
+    ensures fails { OnErr result ((r : Rest) → Fails (armed_in (P.state plant.old)) (world_seen (P.state plant.old) config.now r journal.old.events) (refuse_if (differs_at (difference_seen (P.state plant.old) config.now a.0 b.0 full)) ∷ []) (world_seen (P.state plant.new) config.now r journal.new.events) (refusal_of result)) }
+    ensures passed { OnOk result (P.state plant.new ≡ P.state plant.old) }
+    ensures silent { OnOk result (journal.new ≡ journal.old) }
+    ensures unchanged { is_stop (refusal_of result) ≡ false → OnErr result ((P.state plant.new ≡ P.state plant.old) × (journal.new ≡ journal.old)) }
+    ensures same { (u : ℕ) → IsAsBefore (P.state plant.old) (P.state plant.new) config.now u }
+    ensures rest { IsAtRest (P.state plant.new) config.now }
+    ensures fit { RelationsFit (P.state plant.new) config.now }
+    ensures unarmed { (q : ℕ) → (P.state plant.old).read_fuse q ≡ None → (P.state plant.new).read_fuse q ≡ None }
+    ensures faults { Counted (is_stop (refusal_of result)) (P.state plant.old).faults (P.state plant.new).faults }
+    ensures room { journal.old.spare ≤ journal.new.spare + 1 }
+    ensures spare { length journal.new.events + journal.new.spare ≡ length journal.old.events + journal.old.spare }
 {
     if full {
         return Ok(());
     }
-    match difference(p, c, j, a, b)? {
+    match difference(plant, config, journal, a, b)? {
         Some(track) => Err(Refusal::NotIdentical { track }),
         None => Ok(()),
     }
@@ -66,38 +66,38 @@ fn compare<P: Plant>(
 
 /// Volume b becomes the secondary of a, and then a the primary of b.
 fn make_both<P: Plant>(
-    p: &mut P,
-    c: &Config,
-    j: &mut Journal,
+    plant: &mut P,
+    config: &Config,
+    journal: &mut Journal,
     a: VolumeId,
     b: VolumeId,
     kind: Part,
     state: PairState,
     full: bool,
 ) -> Result<(), Refusal>
-    requires rest { IsAtRest (P.state p.old) c.now }
-    requires fit { RelationsFit (P.state p.old) c.now }
-    requires primary { IsSome (place_of c.now a.0) }
-    requires secondary { IsSome (place_of c.now b.0) }
-    requires running { (P.state p.old).on (volume_seen (P.state p.old) c.now a.0).server ≡ true }
-    requires reached { (P.state p.old).on (volume_seen (P.state p.old) c.now b.0).server ≡ true }
+    requires rest { IsAtRest (P.state plant.old) config.now }
+    requires fit { RelationsFit (P.state plant.old) config.now }
+    requires primary { IsSome (place_of config.now a.0) }
+    requires secondary { IsSome (place_of config.now b.0) }
+    requires running { (P.state plant.old).on (volume_seen (P.state plant.old) config.now a.0).server ≡ true }
+    requires reached { (P.state plant.old).on (volume_seen (P.state plant.old) config.now b.0).server ≡ true }
     requires apart { a.0 ≢ b.0 }
     requires kind { layout.is_part kind ≡ true }
-    requires room { 3 ≤ j.old.spare }
-    ensures leads { OnOk result ((r : Rest) → Leads (world_seen (P.state p.old) c.now r j.old.events) (make_moves a.0 b.0 kind state full) (world_seen (P.state p.new) c.now r j.new.events)) }
-    ensures fails { OnErr result ((r : Rest) → Fails (armed_in (P.state p.old)) (world_seen (P.state p.old) c.now r j.old.events) (make_moves a.0 b.0 kind state full) (world_seen (P.state p.new) c.now r j.new.events) (refusal_of result)) }
+    requires room { 3 ≤ journal.old.spare }
+    ensures leads { OnOk result ((r : Rest) → Leads (world_seen (P.state plant.old) config.now r journal.old.events) (make_moves a.0 b.0 kind state full) (world_seen (P.state plant.new) config.now r journal.new.events)) }
+    ensures fails { OnErr result ((r : Rest) → Fails (armed_in (P.state plant.old)) (world_seen (P.state plant.old) config.now r journal.old.events) (make_moves a.0 b.0 kind state full) (world_seen (P.state plant.new) config.now r journal.new.events) (refusal_of result)) }
     ensures stops { OnErr result (is_stop (refusal_of result) ≡ true) }
-    ensures rest { IsAtRest (P.state p.new) c.now }
-    ensures fit { RelationsFit (P.state p.new) c.now }
-    ensures unarmed { (q : ℕ) → (P.state p.old).read_fuse q ≡ None → (P.state p.new).read_fuse q ≡ None }
-    ensures faults { Counted (is_err result) (P.state p.old).faults (P.state p.new).faults }
-    ensures others { BothAlone (P.state p.old) (P.state p.new) c.now a.0 b.0 }
-    ensures on { OnOk result ((P.state p.new).on ≡ (P.state p.old).on) }
-    ensures room { j.old.spare ≤ j.new.spare + 3 }
-    ensures spare { length j.new.events + j.new.spare ≡ length j.old.events + j.old.spare }
+    ensures rest { IsAtRest (P.state plant.new) config.now }
+    ensures fit { RelationsFit (P.state plant.new) config.now }
+    ensures unarmed { (q : ℕ) → (P.state plant.old).read_fuse q ≡ None → (P.state plant.new).read_fuse q ≡ None }
+    ensures faults { Counted (is_err result) (P.state plant.old).faults (P.state plant.new).faults }
+    ensures others { BothAlone (P.state plant.old) (P.state plant.new) config.now a.0 b.0 }
+    ensures on { OnOk result ((P.state plant.new).on ≡ (P.state plant.old).on) }
+    ensures room { journal.old.spare ≤ journal.new.spare + 3 }
+    ensures spare { length journal.new.events + journal.new.spare ≡ length journal.old.events + journal.old.spare }
 {
-    make_secondary(p, c, j, b, a, kind, state)?;
-    make_primary(p, c, j, a, b, kind, state, full)
+    make_secondary(plant, config, journal, b, a, kind, state)?;
+    make_primary(plant, config, journal, a, b, kind, state, full)
 }
 
 /// Makes a and b a pair of that kind, with all tracks of a to be copied, or none; the caller knows both volumes. Refused, in
@@ -107,35 +107,44 @@ fn make_both<P: Plant>(
 /// copied, at the first track in which they differ. Fails too where a server stops in a move or goes off at a read; what was
 /// done by then stays. The journal needs room for three events.
 pub fn make_pair<P: Plant>(
-    p: &mut P,
-    c: &Config,
-    j: &mut Journal,
+    plant: &mut P,
+    config: &Config,
+    journal: &mut Journal,
     a: VolumeId,
     b: VolumeId,
     kind: CopyKind,
     full: bool,
 ) -> Result<(), Refusal>
-    requires rest { IsAtRest (P.state p.old) c.now }
-    requires fit { RelationsFit (P.state p.old) c.now }
-    requires primary { IsSome (place_of c.now a.0) }
-    requires secondary { IsSome (place_of c.now b.0) }
-    requires room { 3 ≤ j.old.spare }
-    ensures carried { (r : Rest) → Ends (armed_in (P.state p.old)) (world_seen (P.state p.new) c.now r j.new.events) (refusal_of result) (world_seen (P.state p.old) c.now r j.old.events)
-        (make_entries (world_seen (P.state p.old) c.now r j.old.events).control a.0 b.0 (part_of kind) full (if full then None else first_differing (track_seen (P.state p.old) c.now) (volume_seen (P.state p.old) c.now a.0).tracks a.0 b.0)) }
-    ensures unchanged { is_stop (refusal_of result) ≡ false → OnErr result ((P.state p.new ≡ P.state p.old) × (j.new ≡ j.old)) }
-    ensures rest { IsAtRest (P.state p.new) c.now }
-    ensures fit { RelationsFit (P.state p.new) c.now }
-    ensures unarmed { (q : ℕ) → (P.state p.old).read_fuse q ≡ None → (P.state p.new).read_fuse q ≡ None }
-    ensures faults { Counted (is_stop (refusal_of result)) (P.state p.old).faults (P.state p.new).faults }
-    ensures others { BothAlone (P.state p.old) (P.state p.new) c.now a.0 b.0 }
-    ensures on { OnOk result ((P.state p.new).on ≡ (P.state p.old).on) }
-    ensures room { j.old.spare ≤ j.new.spare + 3 }
-    ensures spare { length j.new.events + j.new.spare ≡ length j.old.events + j.old.spare }
+    requires rest { IsAtRest (P.state plant.old) config.now }
+    requires fit { RelationsFit (P.state plant.old) config.now }
+    requires primary { IsSome (place_of config.now a.0) }
+    requires secondary { IsSome (place_of config.now b.0) }
+    requires room { 3 ≤ journal.old.spare }
+    ensures carried { (r : Rest) → Ends (armed_in (P.state plant.old)) (world_seen (P.state plant.new) config.now r journal.new.events) (refusal_of result) (world_seen (P.state plant.old) config.now r journal.old.events)
+        (make_entries (world_seen (P.state plant.old) config.now r journal.old.events).control a.0 b.0 (part_of kind) full (if full then None else first_differing (track_seen (P.state plant.old) config.now) (volume_seen (P.state plant.old) config.now a.0).tracks a.0 b.0)) }
+    ensures unchanged { is_stop (refusal_of result) ≡ false → OnErr result ((P.state plant.new ≡ P.state plant.old) × (journal.new ≡ journal.old)) }
+    ensures rest { IsAtRest (P.state plant.new) config.now }
+    ensures fit { RelationsFit (P.state plant.new) config.now }
+    ensures unarmed { (q : ℕ) → (P.state plant.old).read_fuse q ≡ None → (P.state plant.new).read_fuse q ≡ None }
+    ensures faults { Counted (is_stop (refusal_of result)) (P.state plant.old).faults (P.state plant.new).faults }
+    ensures others { BothAlone (P.state plant.old) (P.state plant.new) config.now a.0 b.0 }
+    ensures on { OnOk result ((P.state plant.new).on ≡ (P.state plant.old).on) }
+    ensures room { journal.old.spare ≤ journal.new.spare + 3 }
+    ensures spare { length journal.new.events + journal.new.spare ≡ length journal.old.events + journal.old.spare }
 {
-    if let Some(why) = make_refusal(p, c, a, b) {
+    if let Some(why) = make_refusal(plant, config, a, b) {
         return Err(why);
     }
-    compare(p, c, j, a, b, full)?;
+    compare(plant, config, journal, a, b, full)?;
     let part = part_of(kind);
-    make_both(p, c, j, a, b, part, first_state(part, full), full)
+    make_both(
+        plant,
+        config,
+        journal,
+        a,
+        b,
+        part,
+        first_state(part, full),
+        full,
+    )
 }

@@ -13,7 +13,7 @@ use dr_model::{PairState, Part};
 use dr_volume::Fields;
 
 /// A volume that becomes the secondary of `a`.
-pub(crate) fn made_secondary(a: VolumeId, kind: Part, state: PairState, f: &Fields) -> Fields
+pub fn made_secondary(a: VolumeId, kind: Part, state: PairState, f: &Fields) -> Fields
     ensures { plain result ≡ pairs.made_secondary a.0 kind state (plain f.now) }
 {
     Fields {
@@ -63,7 +63,7 @@ pub(crate) fn made_primary(
 }
 
 /// A volume that is a primary no more. Its attempt stays.
-pub(crate) fn no_primary(f: &Fields) -> Fields
+pub fn no_primary(f: &Fields) -> Fields
     ensures { plain result ≡ pairs.no_primary (plain f.now) }
 {
     Fields {
@@ -142,7 +142,7 @@ pub(crate) fn first_state(kind: Part, full: bool) -> PairState
 }
 
 /// The state of a primary, and of its secondary, as the pair goes on.
-pub(crate) fn next_state(f: &Fields) -> PairState
+pub fn next_state(f: &Fields) -> PairState
     ensures { result ≡ pairs.next_state (plain f.now) }
 {
     if f.primary.is_metro() && f.out_of_sync.len() == 0 {
@@ -153,14 +153,14 @@ pub(crate) fn next_state(f: &Fields) -> PairState
 }
 
 /// Whether a volume with these fields is a primary of `b`.
-pub(crate) fn is_primary_of(f: &Fields, b: VolumeId) -> bool
+pub fn is_primary_of(f: &Fields, b: VolumeId) -> bool
     ensures { result ≡ pairs.is_primary_of b.0 (plain f.now) }
 {
     f.primary.is_part() && f.primary_partner.0 == b.0
 }
 
 /// Whether a volume with these fields is the secondary of `a`.
-pub(crate) fn is_secondary_of(f: &Fields, a: VolumeId) -> bool
+pub fn is_secondary_of(f: &Fields, a: VolumeId) -> bool
     ensures { result ≡ pairs.is_secondary_of a.0 (plain f.now) }
 {
     f.secondary.is_part() && f.secondary_partner.0 == a.0

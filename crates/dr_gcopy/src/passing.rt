@@ -9,6 +9,7 @@ ghost use Rattle.dr_model.specs.Layout.{is_part};
 ghost use Rattle.dr_model.specs.Pairs as pairs;
 ghost use Rattle.dr_volume.specs.Update.{IsAsBefore};
 ghost use Rattle.dr_volume.specs.View.{Rest, volume_seen, track_seen, ids_of};
+ghost use Rattle.dr_volume.specs.Volume.{Says};
 ghost use Rattle.dr_flash.specs.Checks.{is_stop};
 ghost use Rattle.dr_flash.specs.Fit.{RelationsFit};
 ghost use Rattle.dr_flash.specs.Here.{world_seen, refusal_of, armed_in, IsAtRest};
@@ -16,139 +17,147 @@ ghost use Rattle.dr_flash.specs.Turns.{Leads, Fails};
 ghost use Rattle.dr_gcopy.specs.Sending.{exchange_entries, pass_entries};
 
 use crate::states::is_last;
-use crate::storing::{store, strike};
+use crate::storing::{store, strike_by};
 use dr_config::Config;
 use dr_flash::{copy_first, read_told};
 use dr_ids::{Refusal, VolumeId};
 use dr_model::Journal;
 use dr_plant::{Block, Plant};
-use dr_volume::peek_fields;
+use dr_volume::{Fields, peek_fields};
 
 /// Secondary b stores these bytes of track t of its primary a, which then strikes the track off.
-fn exchange<P: Plant>(
-    p: &mut P,
-    c: &Config,
-    j: &mut Journal,
+fn pass_track<P: Plant>(
+    plant: &mut P,
+    config: &Config,
+    journal: &mut Journal,
     a: VolumeId,
     b: VolumeId,
     t: u16,
     bytes: &Block,
     last: bool,
+    fields: &Fields,
 ) -> Result<(), Refusal>
-    requires rest { IsAtRest (P.state p.old) c.now }
-    requires fit { RelationsFit (P.state p.old) c.now }
-    requires from { IsSome (place_of c.now a.0) }
-    requires to { IsSome (place_of c.now b.0) }
-    requires running { (P.state p.old).on (volume_seen (P.state p.old) c.now a.0).server ≡ true }
-    requires reached { (P.state p.old).on (volume_seen (P.state p.old) c.now b.0).server ≡ true }
-    requires primary { is_part (volume_seen (P.state p.old) c.now a.0).fields.primary ≡ true }
-    requires secondary { is_part (volume_seen (P.state p.old) c.now b.0).fields.secondary ≡ true }
+    requires rest { IsAtRest (P.state plant.old) config.now }
+    requires fit { RelationsFit (P.state plant.old) config.now }
+    requires from { IsSome (place_of config.now a.0) }
+    requires to { IsSome (place_of config.now b.0) }
+    requires running { (P.state plant.old).on (volume_seen (P.state plant.old) config.now a.0).server ≡ true }
+    requires reached { (P.state plant.old).on (volume_seen (P.state plant.old) config.now b.0).server ≡ true }
+    requires primary { is_part (volume_seen (P.state plant.old) config.now a.0).fields.primary ≡ true }
+    requires secondary { is_part (volume_seen (P.state plant.old) config.now b.0).fields.secondary ≡ true }
     requires apart { a.0 ≢ b.0 }
-    requires within { t < (volume_seen (P.state p.old) c.now a.0).tracks }
-    requires size { (volume_seen (P.state p.old) c.now b.0).tracks ≡ (volume_seen (P.state p.old) c.now a.0).tracks }
-    requires bytes { bytes.now ≡ track_seen (P.state p.old) c.now a.0 t }
-    requires last { last ≡ pairs.is_last (volume_seen (P.state p.old) c.now a.0).fields t }
-    requires room { 2 ≤ j.old.spare }
-    ensures leads { OnOk result ((r : Rest) → Leads (world_seen (P.state p.old) c.now r j.old.events) (exchange_entries a.0 b.0 t) (world_seen (P.state p.new) c.now r j.new.events)) }
-    ensures fails { OnErr result ((r : Rest) → Fails (armed_in (P.state p.old)) (world_seen (P.state p.old) c.now r j.old.events) (exchange_entries a.0 b.0 t) (world_seen (P.state p.new) c.now r j.new.events) (refusal_of result)) }
-    ensures struck { OnOk result ((volume_seen (P.state p.new) c.now a.0).fields ≡ pairs.struck (pairs.is_last (volume_seen (P.state p.old) c.now a.0).fields t) (volume_seen (P.state p.old) c.now a.0).fields t) }
+    requires within { t < (volume_seen (P.state plant.old) config.now a.0).tracks }
+    requires size { (volume_seen (P.state plant.old) config.now b.0).tracks ≡ (volume_seen (P.state plant.old) config.now a.0).tracks }
+    requires bytes { bytes.now ≡ track_seen (P.state plant.old) config.now a.0 t }
+    requires last { last ≡ pairs.is_last (volume_seen (P.state plant.old) config.now a.0).fields t }
+    requires says { Says (P.state plant.old) config.now a.0 fields.now }
+    requires room { 2 ≤ journal.old.spare }
+    ensures leads { OnOk result ((r : Rest) → Leads (world_seen (P.state plant.old) config.now r journal.old.events) (exchange_entries a.0 b.0 t) (world_seen (P.state plant.new) config.now r journal.new.events)) }
+    ensures fails { OnErr result ((r : Rest) → Fails (armed_in (P.state plant.old)) (world_seen (P.state plant.old) config.now r journal.old.events) (exchange_entries a.0 b.0 t) (world_seen (P.state plant.new) config.now r journal.new.events) (refusal_of result)) }
+    ensures struck { OnOk result ((volume_seen (P.state plant.new) config.now a.0).fields ≡ pairs.struck (pairs.is_last (volume_seen (P.state plant.old) config.now a.0).fields t) (volume_seen (P.state plant.old) config.now a.0).fields t) }
+    ensures stored { OnOk result ((volume_seen (P.state plant.new) config.now b.0).fields ≡ pairs.received (pairs.is_last (volume_seen (P.state plant.old) config.now a.0).fields t) (volume_seen (P.state plant.old) config.now b.0).fields t) }
     ensures stops { OnErr result (is_stop (refusal_of result) ≡ true) }
-    ensures rest { IsAtRest (P.state p.new) c.now }
-    ensures fit { RelationsFit (P.state p.new) c.now }
-    ensures unarmed { (q : ℕ) → (P.state p.old).read_fuse q ≡ None → (P.state p.new).read_fuse q ≡ None }
-    ensures faults { Counted (is_err result) (P.state p.old).faults (P.state p.new).faults }
-    ensures others { (q : ℕ) → q ≢ a.0 → q ≢ b.0 → IsAsBefore (P.state p.old) (P.state p.new) c.now q }
-    ensures on { OnOk result ((P.state p.new).on ≡ (P.state p.old).on) }
-    ensures room { j.old.spare ≤ j.new.spare + 2 }
-    ensures room_left { OnOk result (j.old.spare ≤ j.new.spare + 1) }
-    ensures spare { length j.new.events + j.new.spare ≡ length j.old.events + j.old.spare }
+    ensures rest { IsAtRest (P.state plant.new) config.now }
+    ensures fit { RelationsFit (P.state plant.new) config.now }
+    ensures unarmed { (q : ℕ) → (P.state plant.old).read_fuse q ≡ None → (P.state plant.new).read_fuse q ≡ None }
+    ensures faults { Counted (is_err result) (P.state plant.old).faults (P.state plant.new).faults }
+    ensures others { (q : ℕ) → q ≢ a.0 → q ≢ b.0 → IsAsBefore (P.state plant.old) (P.state plant.new) config.now q }
+    ensures on { OnOk result ((P.state plant.new).on ≡ (P.state plant.old).on) }
+    ensures room { journal.old.spare ≤ journal.new.spare + 2 }
+    ensures room_left { OnOk result (journal.old.spare ≤ journal.new.spare + 1) }
+    ensures spare { length journal.new.events + journal.new.spare ≡ length journal.old.events + journal.old.spare }
 {
-    store(p, c, j, b, t, a, last, bytes)?;
-    strike(p, c, j, a, t, last)
+    store(plant, config, journal, b, t, a, last, bytes)?;
+    strike_by(plant, config, journal, a, t, last, fields)
 }
 
 /// The same, behind what the targets of b keep.
 fn hand_over<P: Plant>(
-    p: &mut P,
-    c: &Config,
-    j: &mut Journal,
+    plant: &mut P,
+    config: &Config,
+    journal: &mut Journal,
     a: VolumeId,
     b: VolumeId,
     t: u16,
     bytes: &Block,
     last: bool,
+    fields: &Fields,
 ) -> Result<(), Refusal>
-    requires rest { IsAtRest (P.state p.old) c.now }
-    requires fit { RelationsFit (P.state p.old) c.now }
-    requires from { IsSome (place_of c.now a.0) }
-    requires to { IsSome (place_of c.now b.0) }
-    requires running { (P.state p.old).on (volume_seen (P.state p.old) c.now a.0).server ≡ true }
-    requires reached { (P.state p.old).on (volume_seen (P.state p.old) c.now b.0).server ≡ true }
-    requires primary { is_part (volume_seen (P.state p.old) c.now a.0).fields.primary ≡ true }
-    requires secondary { is_part (volume_seen (P.state p.old) c.now b.0).fields.secondary ≡ true }
-    requires two_servers { (volume_seen (P.state p.old) c.now a.0).server ≢ (volume_seen (P.state p.old) c.now b.0).server }
-    requires within { t < (volume_seen (P.state p.old) c.now a.0).tracks }
-    requires size { (volume_seen (P.state p.old) c.now b.0).tracks ≡ (volume_seen (P.state p.old) c.now a.0).tracks }
-    requires bytes { bytes.now ≡ track_seen (P.state p.old) c.now a.0 t }
-    requires last { last ≡ pairs.is_last (volume_seen (P.state p.old) c.now a.0).fields t }
-    requires room { length c.now.volumes + 2 ≤ j.old.spare }
-    ensures leads { OnOk result ((r : Rest) → Leads (world_seen (P.state p.old) c.now r j.old.events) (pass_entries (ids_of c.now.volumes) a.0 b.0 t) (world_seen (P.state p.new) c.now r j.new.events)) }
-    ensures fails { OnErr result ((r : Rest) → Fails (armed_in (P.state p.old)) (world_seen (P.state p.old) c.now r j.old.events) (pass_entries (ids_of c.now.volumes) a.0 b.0 t) (world_seen (P.state p.new) c.now r j.new.events) (refusal_of result)) }
-    ensures struck { OnOk result ((volume_seen (P.state p.new) c.now a.0).fields ≡ pairs.struck (pairs.is_last (volume_seen (P.state p.old) c.now a.0).fields t) (volume_seen (P.state p.old) c.now a.0).fields t) }
+    requires rest { IsAtRest (P.state plant.old) config.now }
+    requires fit { RelationsFit (P.state plant.old) config.now }
+    requires from { IsSome (place_of config.now a.0) }
+    requires to { IsSome (place_of config.now b.0) }
+    requires running { (P.state plant.old).on (volume_seen (P.state plant.old) config.now a.0).server ≡ true }
+    requires reached { (P.state plant.old).on (volume_seen (P.state plant.old) config.now b.0).server ≡ true }
+    requires primary { is_part (volume_seen (P.state plant.old) config.now a.0).fields.primary ≡ true }
+    requires secondary { is_part (volume_seen (P.state plant.old) config.now b.0).fields.secondary ≡ true }
+    requires two_servers { (volume_seen (P.state plant.old) config.now a.0).server ≢ (volume_seen (P.state plant.old) config.now b.0).server }
+    requires within { t < (volume_seen (P.state plant.old) config.now a.0).tracks }
+    requires size { (volume_seen (P.state plant.old) config.now b.0).tracks ≡ (volume_seen (P.state plant.old) config.now a.0).tracks }
+    requires bytes { bytes.now ≡ track_seen (P.state plant.old) config.now a.0 t }
+    requires last { last ≡ pairs.is_last (volume_seen (P.state plant.old) config.now a.0).fields t }
+    requires says { Says (P.state plant.old) config.now a.0 fields.now }
+    requires room { length config.now.volumes + 2 ≤ journal.old.spare }
+    ensures leads { OnOk result ((r : Rest) → Leads (world_seen (P.state plant.old) config.now r journal.old.events) (pass_entries (ids_of config.now.volumes) a.0 b.0 t) (world_seen (P.state plant.new) config.now r journal.new.events)) }
+    ensures fails { OnErr result ((r : Rest) → Fails (armed_in (P.state plant.old)) (world_seen (P.state plant.old) config.now r journal.old.events) (pass_entries (ids_of config.now.volumes) a.0 b.0 t) (world_seen (P.state plant.new) config.now r journal.new.events) (refusal_of result)) }
+    ensures struck { OnOk result ((volume_seen (P.state plant.new) config.now a.0).fields ≡ pairs.struck (pairs.is_last (volume_seen (P.state plant.old) config.now a.0).fields t) (volume_seen (P.state plant.old) config.now a.0).fields t) }
+    ensures stored { OnOk result ((volume_seen (P.state plant.new) config.now b.0).fields ≡ pairs.received (pairs.is_last (volume_seen (P.state plant.old) config.now a.0).fields t) (volume_seen (P.state plant.old) config.now b.0).fields t) }
     ensures stops { OnErr result (is_stop (refusal_of result) ≡ true) }
-    ensures rest { IsAtRest (P.state p.new) c.now }
-    ensures fit { RelationsFit (P.state p.new) c.now }
-    ensures unarmed { (q : ℕ) → (P.state p.old).read_fuse q ≡ None → (P.state p.new).read_fuse q ≡ None }
-    ensures faults { Counted (is_err result) (P.state p.old).faults (P.state p.new).faults }
-    ensures others { (q : ℕ) → q ≢ a.0 → q ≢ b.0 → copies_from b.0 (volume_seen (P.state p.old) c.now q).fields ≡ false → IsAsBefore (P.state p.old) (P.state p.new) c.now q }
-    ensures on { OnOk result ((P.state p.new).on ≡ (P.state p.old).on) }
-    ensures room { j.old.spare ≤ j.new.spare + (length c.now.volumes + 2) }
-    ensures room_left { OnOk result (j.old.spare ≤ j.new.spare + (length c.now.volumes + 1)) }
-    ensures spare { length j.new.events + j.new.spare ≡ length j.old.events + j.old.spare }
+    ensures rest { IsAtRest (P.state plant.new) config.now }
+    ensures fit { RelationsFit (P.state plant.new) config.now }
+    ensures unarmed { (q : ℕ) → (P.state plant.old).read_fuse q ≡ None → (P.state plant.new).read_fuse q ≡ None }
+    ensures faults { Counted (is_err result) (P.state plant.old).faults (P.state plant.new).faults }
+    ensures others { (q : ℕ) → q ≢ a.0 → q ≢ b.0 → copies_from b.0 (volume_seen (P.state plant.old) config.now q).fields ≡ false → IsAsBefore (P.state plant.old) (P.state plant.new) config.now q }
+    ensures on { OnOk result ((P.state plant.new).on ≡ (P.state plant.old).on) }
+    ensures room { journal.old.spare ≤ journal.new.spare + (length config.now.volumes + 2) }
+    ensures room_left { OnOk result (journal.old.spare ≤ journal.new.spare + (length config.now.volumes + 1)) }
+    ensures spare { length journal.new.events + journal.new.spare ≡ length journal.old.events + journal.old.spare }
 {
-    copy_first(p, c, j, b, t)?;
-    exchange(p, c, j, a, b, t, bytes, last)
+    copy_first(plant, config, journal, b, t)?;
+    pass_track(plant, config, journal, a, b, t, bytes, last, fields)
 }
 
 /// Primary a sends track t to its secondary b, where both servers are on: the track is read, the targets of b keep theirs
 /// first, b stores it, and a strikes it off. Fails where a server stops in a move or goes off at a read; what was done by
 /// then stays. The journal needs room for an event for each volume and two more.
 pub fn pass_on<P: Plant>(
-    p: &mut P,
-    c: &Config,
-    j: &mut Journal,
+    plant: &mut P,
+    config: &Config,
+    journal: &mut Journal,
     a: VolumeId,
     b: VolumeId,
     t: u16,
 ) -> Result<(), Refusal>
-    requires rest { IsAtRest (P.state p.old) c.now }
-    requires fit { RelationsFit (P.state p.old) c.now }
-    requires from { IsSome (place_of c.now a.0) }
-    requires to { IsSome (place_of c.now b.0) }
-    requires running { (P.state p.old).on (volume_seen (P.state p.old) c.now a.0).server ≡ true }
-    requires reached { (P.state p.old).on (volume_seen (P.state p.old) c.now b.0).server ≡ true }
-    requires primary { is_part (volume_seen (P.state p.old) c.now a.0).fields.primary ≡ true }
-    requires secondary { is_part (volume_seen (P.state p.old) c.now b.0).fields.secondary ≡ true }
-    requires two_servers { (volume_seen (P.state p.old) c.now a.0).server ≢ (volume_seen (P.state p.old) c.now b.0).server }
-    requires within { t < (volume_seen (P.state p.old) c.now a.0).tracks }
-    requires size { (volume_seen (P.state p.old) c.now b.0).tracks ≡ (volume_seen (P.state p.old) c.now a.0).tracks }
-    requires room { length c.now.volumes + 2 ≤ j.old.spare }
-    ensures leads { OnOk result ((r : Rest) → Leads (world_seen (P.state p.old) c.now r j.old.events) (pass_entries (ids_of c.now.volumes) a.0 b.0 t) (world_seen (P.state p.new) c.now r j.new.events)) }
-    ensures fails { OnErr result ((r : Rest) → Fails (armed_in (P.state p.old)) (world_seen (P.state p.old) c.now r j.old.events) (pass_entries (ids_of c.now.volumes) a.0 b.0 t) (world_seen (P.state p.new) c.now r j.new.events) (refusal_of result)) }
-    ensures struck { OnOk result ((volume_seen (P.state p.new) c.now a.0).fields ≡ pairs.struck (pairs.is_last (volume_seen (P.state p.old) c.now a.0).fields t) (volume_seen (P.state p.old) c.now a.0).fields t) }
+    requires rest { IsAtRest (P.state plant.old) config.now }
+    requires fit { RelationsFit (P.state plant.old) config.now }
+    requires from { IsSome (place_of config.now a.0) }
+    requires to { IsSome (place_of config.now b.0) }
+    requires running { (P.state plant.old).on (volume_seen (P.state plant.old) config.now a.0).server ≡ true }
+    requires reached { (P.state plant.old).on (volume_seen (P.state plant.old) config.now b.0).server ≡ true }
+    requires primary { is_part (volume_seen (P.state plant.old) config.now a.0).fields.primary ≡ true }
+    requires secondary { is_part (volume_seen (P.state plant.old) config.now b.0).fields.secondary ≡ true }
+    requires two_servers { (volume_seen (P.state plant.old) config.now a.0).server ≢ (volume_seen (P.state plant.old) config.now b.0).server }
+    requires within { t < (volume_seen (P.state plant.old) config.now a.0).tracks }
+    requires size { (volume_seen (P.state plant.old) config.now b.0).tracks ≡ (volume_seen (P.state plant.old) config.now a.0).tracks }
+    requires room { length config.now.volumes + 2 ≤ journal.old.spare }
+    ensures leads { OnOk result ((r : Rest) → Leads (world_seen (P.state plant.old) config.now r journal.old.events) (pass_entries (ids_of config.now.volumes) a.0 b.0 t) (world_seen (P.state plant.new) config.now r journal.new.events)) }
+    ensures fails { OnErr result ((r : Rest) → Fails (armed_in (P.state plant.old)) (world_seen (P.state plant.old) config.now r journal.old.events) (pass_entries (ids_of config.now.volumes) a.0 b.0 t) (world_seen (P.state plant.new) config.now r journal.new.events) (refusal_of result)) }
+    ensures struck { OnOk result ((volume_seen (P.state plant.new) config.now a.0).fields ≡ pairs.struck (pairs.is_last (volume_seen (P.state plant.old) config.now a.0).fields t) (volume_seen (P.state plant.old) config.now a.0).fields t) }
+    ensures stored { OnOk result ((volume_seen (P.state plant.new) config.now b.0).fields ≡ pairs.received (pairs.is_last (volume_seen (P.state plant.old) config.now a.0).fields t) (volume_seen (P.state plant.old) config.now b.0).fields t) }
     ensures stops { OnErr result (is_stop (refusal_of result) ≡ true) }
-    ensures rest { IsAtRest (P.state p.new) c.now }
-    ensures fit { RelationsFit (P.state p.new) c.now }
-    ensures unarmed { (q : ℕ) → (P.state p.old).read_fuse q ≡ None → (P.state p.new).read_fuse q ≡ None }
-    ensures faults { Counted (is_err result) (P.state p.old).faults (P.state p.new).faults }
-    ensures others { (q : ℕ) → q ≢ a.0 → q ≢ b.0 → copies_from b.0 (volume_seen (P.state p.old) c.now q).fields ≡ false → IsAsBefore (P.state p.old) (P.state p.new) c.now q }
-    ensures on { OnOk result ((P.state p.new).on ≡ (P.state p.old).on) }
-    ensures room { j.old.spare ≤ j.new.spare + (length c.now.volumes + 2) }
-    ensures room_left { OnOk result (j.old.spare ≤ j.new.spare + (length c.now.volumes + 1)) }
-    ensures spare { length j.new.events + j.new.spare ≡ length j.old.events + j.old.spare }
+    ensures rest { IsAtRest (P.state plant.new) config.now }
+    ensures fit { RelationsFit (P.state plant.new) config.now }
+    ensures unarmed { (q : ℕ) → (P.state plant.old).read_fuse q ≡ None → (P.state plant.new).read_fuse q ≡ None }
+    ensures faults { Counted (is_err result) (P.state plant.old).faults (P.state plant.new).faults }
+    ensures others { (q : ℕ) → q ≢ a.0 → q ≢ b.0 → copies_from b.0 (volume_seen (P.state plant.old) config.now q).fields ≡ false → IsAsBefore (P.state plant.old) (P.state plant.new) config.now q }
+    ensures on { OnOk result ((P.state plant.new).on ≡ (P.state plant.old).on) }
+    ensures room { journal.old.spare ≤ journal.new.spare + (length config.now.volumes + 2) }
+    ensures room_left { OnOk result (journal.old.spare ≤ journal.new.spare + (length config.now.volumes + 1)) }
+    ensures spare { length journal.new.events + journal.new.spare ≡ length journal.old.events + journal.old.spare }
 {
-    let last = is_last(&peek_fields(p, c, a), t);
+    let fields = peek_fields(plant, config, a);
+    let last = is_last(&fields, t);
     let mut bytes = [0; 64];
-    read_told(p, c, j, a, t, &mut bytes)?;
-    hand_over(p, c, j, a, b, t, &bytes, last)
+    read_told(plant, config, journal, a, t, &mut bytes)?;
+    hand_over(plant, config, journal, a, b, t, &bytes, last, &fields)
 }

@@ -14,13 +14,18 @@ use dr_plant::Plant;
 
 /// Why volume b can't be reached from volume a: no path goes from the logical subsystem of a to that of b, or else the
 /// server of b is off, or else the link between their servers is down.
-pub fn reach_refusal<P: Plant>(p: &P, c: &Config, a: VolumeId, b: VolumeId) -> Option<Refusal>
-    requires stands { StandsFor c.now (P.state p.now) }
-    requires from { IsSome (place_of c.now a.0) }
-    requires to { IsSome (place_of c.now b.0) }
-    ensures refusal { (r : Rest) (events : List Event) → result ≡ pairs.reach_refusal a.0 b.0 (world_seen (P.state p.now) c.now r events).control }
-    ensures running { OnNone result ((P.state p.now).on (volume_seen (P.state p.now) c.now b.0).server ≡ true) }
+pub fn reach_refusal<P: Plant>(
+    plant: &P,
+    config: &Config,
+    a: VolumeId,
+    b: VolumeId,
+) -> Option<Refusal>
+    requires stands { StandsFor config.now (P.state plant.now) }
+    requires from { IsSome (place_of config.now a.0) }
+    requires to { IsSome (place_of config.now b.0) }
+    ensures refusal { (r : Rest) (events : List Event) → result ≡ pairs.reach_refusal a.0 b.0 (world_seen (P.state plant.now) config.now r events).control }
+    ensures running { OnNone result ((P.state plant.now).on (volume_seen (P.state plant.now) config.now b.0).server ≡ true) }
     ensures calm { is_stop result ≡ false }
 {
-    c.reach(p, a, b).err()
+    config.reach(plant, a, b).err()
 }

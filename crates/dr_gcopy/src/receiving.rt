@@ -9,10 +9,8 @@ ghost use Rattle.dr_model.specs.Entries.{copies_from, copy_first};
 ghost use Rattle.dr_model.specs.Layout as layout;
 ghost use Rattle.dr_model.specs.Moves.{Store};
 ghost use Rattle.dr_model.specs.PairEntries as pair_entries;
-ghost use Rattle.dr_model.specs.Pairs.{is_secondary_of};
 ghost use Rattle.dr_model.specs.ReadStops.{Ends};
 ghost use Rattle.dr_model.specs.Refusals.{stopped};
-ghost use Rattle.dr_volume.specs.Plain.{plain};
 ghost use Rattle.dr_volume.specs.Update.{IsAsBefore};
 ghost use Rattle.dr_volume.specs.View.{Rest, volume_seen, track_seen, ids_of};
 ghost use Rattle.dr_flash.specs.Checks.{OnNone, is_stop};
@@ -27,43 +25,43 @@ use dr_flash::{copy_first, is_revertible, pair_state, relation_state};
 use dr_ids::{Refusal, VolumeId};
 use dr_model::Journal;
 use dr_plant::{Block, Plant};
-use dr_volume::{Fields, peek_fields};
+use dr_volume::{Head, peek_head};
 
-/// Whether a volume with these fields is the secondary of a.
-fn is_secondary(f: &Fields, a: VolumeId) -> bool
-    ensures { result ≡ is_secondary_of a.0 (plain f.now) }
+/// Whether a volume with this head is the secondary of a.
+fn is_secondary(f: &Head, a: VolumeId) -> bool
+    ensures { result ≡ (layout.is_part f.now.secondary && nat_eq f.now.secondary_partner.0 a.0) }
 {
     f.secondary.is_part() && f.secondary_partner.0 == a.0
 }
 
 /// The refusal where b isn't the secondary of a.
 pub(crate) fn stranger_refusal<P: Plant>(
-    p: &P,
-    c: &Config,
+    plant: &P,
+    config: &Config,
     a: VolumeId,
     b: VolumeId,
 ) -> Option<Refusal>
-    requires stands { StandsFor c.now (P.state p.now) }
-    requires defined { IsSome (place_of c.now b.0) }
-    ensures refusal { (r : Rest) (events : List Event) → result ≡ stranger_refusal a.0 b.0 (world_seen (P.state p.now) c.now r events).control }
+    requires stands { StandsFor config.now (P.state plant.now) }
+    requires defined { IsSome (place_of config.now b.0) }
+    ensures refusal { (r : Rest) (events : List Event) → result ≡ stranger_refusal a.0 b.0 (world_seen (P.state plant.now) config.now r events).control }
     ensures calm { is_stop result ≡ false }
-    ensures secondary { OnNone result (layout.is_part (volume_seen (P.state p.now) c.now b.0).fields.secondary ≡ true) }
+    ensures secondary { OnNone result (layout.is_part (volume_seen (P.state plant.now) config.now b.0).fields.secondary ≡ true) }
 {
-    if is_secondary(&peek_fields(p, c, b), a) {
+    if is_secondary(&peek_head(plant, config, b), a) {
         return None;
     }
-    Some(pair_state(p, c, b))
+    Some(pair_state(plant, config, b))
 }
 
 /// The refusal where b stands in a revertible relationship.
-pub fn flashed_refusal<P: Plant>(p: &P, c: &Config, b: VolumeId) -> Option<Refusal>
-    requires stands { StandsFor c.now (P.state p.now) }
-    requires defined { IsSome (place_of c.now b.0) }
-    ensures refusal { (r : Rest) (events : List Event) → result ≡ pair_entries.flashed_refusal b.0 (world_seen (P.state p.now) c.now r events).control }
+pub fn flashed_refusal<P: Plant>(plant: &P, config: &Config, b: VolumeId) -> Option<Refusal>
+    requires stands { StandsFor config.now (P.state plant.now) }
+    requires defined { IsSome (place_of config.now b.0) }
+    ensures refusal { (r : Rest) (events : List Event) → result ≡ pair_entries.flashed_refusal b.0 (world_seen (P.state plant.now) config.now r events).control }
     ensures calm { is_stop result ≡ false }
 {
-    if is_revertible(p, c, b) {
-        return Some(relation_state(p, c, b));
+    if is_revertible(plant, config, b) {
+        return Some(relation_state(plant, config, b));
     }
     None
 }
@@ -74,80 +72,80 @@ pub fn flashed_refusal<P: Plant>(p: &P, c: &Config, b: VolumeId) -> Option<Refus
 /// server stops in a move or goes off at a read; what was kept by then stays. The journal needs room for an event for
 /// each volume and two more.
 pub fn receive_track<P: Plant>(
-    p: &mut P,
-    c: &Config,
-    j: &mut Journal,
+    plant: &mut P,
+    config: &Config,
+    journal: &mut Journal,
     a: VolumeId,
     b: VolumeId,
     t: u16,
     bytes: &Block,
     last: bool,
 ) -> Result<(), Refusal>
-    requires rest { IsAtRest (P.state p.old) c.now }
-    requires fit { RelationsFit (P.state p.old) c.now }
-    requires primary { IsSome (place_of c.now a.0) }
-    requires secondary { IsSome (place_of c.now b.0) }
-    requires running { (P.state p.old).on (volume_seen (P.state p.old) c.now b.0).server ≡ true }
-    requires two_servers { (volume_seen (P.state p.old) c.now a.0).server ≢ (volume_seen (P.state p.old) c.now b.0).server }
-    requires within { t < (volume_seen (P.state p.old) c.now b.0).tracks }
-    requires bytes { bytes.now ≡ track_seen (P.state p.old) c.now a.0 t }
-    requires room { length c.now.volumes + 2 ≤ j.old.spare }
-    ensures carried { (r : Rest) → Ends (armed_in (P.state p.old)) (world_seen (P.state p.new) c.now r j.new.events) (refusal_of result) (world_seen (P.state p.old) c.now r j.old.events) (receive_entries (ids_of c.now.volumes) a.0 b.0 t last) }
-    ensures leads { OnOk result ((r : Rest) → Leads (world_seen (P.state p.old) c.now r j.old.events) (receive_entries (ids_of c.now.volumes) a.0 b.0 t last) (world_seen (P.state p.new) c.now r j.new.events)) }
-    ensures fails { OnErr result ((r : Rest) → Fails (armed_in (P.state p.old)) (world_seen (P.state p.old) c.now r j.old.events) (receive_entries (ids_of c.now.volumes) a.0 b.0 t last) (world_seen (P.state p.new) c.now r j.new.events) (refusal_of result)) }
-    ensures unchanged { is_stop (refusal_of result) ≡ false → OnErr result ((P.state p.new ≡ P.state p.old) × (j.new ≡ j.old)) }
-    ensures rest { IsAtRest (P.state p.new) c.now }
-    ensures fit { RelationsFit (P.state p.new) c.now }
-    ensures unarmed { (q : ℕ) → (P.state p.old).read_fuse q ≡ None → (P.state p.new).read_fuse q ≡ None }
-    ensures faults { Counted (is_stop (refusal_of result)) (P.state p.old).faults (P.state p.new).faults }
-    ensures others { (q : ℕ) → q ≢ b.0 → copies_from b.0 (volume_seen (P.state p.old) c.now q).fields ≡ false → IsAsBefore (P.state p.old) (P.state p.new) c.now q }
-    ensures on { OnOk result ((P.state p.new).on ≡ (P.state p.old).on) }
-    ensures room { j.old.spare ≤ j.new.spare + (length c.now.volumes + 2) }
-    ensures room_left { OnOk result (j.old.spare ≤ j.new.spare + (length c.now.volumes + 1)) }
-    ensures spare { length j.new.events + j.new.spare ≡ length j.old.events + j.old.spare }
+    requires rest { IsAtRest (P.state plant.old) config.now }
+    requires fit { RelationsFit (P.state plant.old) config.now }
+    requires primary { IsSome (place_of config.now a.0) }
+    requires secondary { IsSome (place_of config.now b.0) }
+    requires running { (P.state plant.old).on (volume_seen (P.state plant.old) config.now b.0).server ≡ true }
+    requires two_servers { (volume_seen (P.state plant.old) config.now a.0).server ≢ (volume_seen (P.state plant.old) config.now b.0).server }
+    requires within { t < (volume_seen (P.state plant.old) config.now b.0).tracks }
+    requires bytes { bytes.now ≡ track_seen (P.state plant.old) config.now a.0 t }
+    requires room { length config.now.volumes + 2 ≤ journal.old.spare }
+    ensures carried { (r : Rest) → Ends (armed_in (P.state plant.old)) (world_seen (P.state plant.new) config.now r journal.new.events) (refusal_of result) (world_seen (P.state plant.old) config.now r journal.old.events) (receive_entries (ids_of config.now.volumes) a.0 b.0 t last) }
+    ensures leads { OnOk result ((r : Rest) → Leads (world_seen (P.state plant.old) config.now r journal.old.events) (receive_entries (ids_of config.now.volumes) a.0 b.0 t last) (world_seen (P.state plant.new) config.now r journal.new.events)) }
+    ensures fails { OnErr result ((r : Rest) → Fails (armed_in (P.state plant.old)) (world_seen (P.state plant.old) config.now r journal.old.events) (receive_entries (ids_of config.now.volumes) a.0 b.0 t last) (world_seen (P.state plant.new) config.now r journal.new.events) (refusal_of result)) }
+    ensures unchanged { is_stop (refusal_of result) ≡ false → OnErr result ((P.state plant.new ≡ P.state plant.old) × (journal.new ≡ journal.old)) }
+    ensures rest { IsAtRest (P.state plant.new) config.now }
+    ensures fit { RelationsFit (P.state plant.new) config.now }
+    ensures unarmed { (q : ℕ) → (P.state plant.old).read_fuse q ≡ None → (P.state plant.new).read_fuse q ≡ None }
+    ensures faults { Counted (is_stop (refusal_of result)) (P.state plant.old).faults (P.state plant.new).faults }
+    ensures others { (q : ℕ) → q ≢ b.0 → copies_from b.0 (volume_seen (P.state plant.old) config.now q).fields ≡ false → IsAsBefore (P.state plant.old) (P.state plant.new) config.now q }
+    ensures on { OnOk result ((P.state plant.new).on ≡ (P.state plant.old).on) }
+    ensures room { journal.old.spare ≤ journal.new.spare + (length config.now.volumes + 2) }
+    ensures room_left { OnOk result (journal.old.spare ≤ journal.new.spare + (length config.now.volumes + 1)) }
+    ensures spare { length journal.new.events + journal.new.spare ≡ length journal.old.events + journal.old.spare }
 {
-    if let Some(why) = stranger_refusal(p, c, a, b) {
+    if let Some(why) = stranger_refusal(plant, config, a, b) {
         return Err(why);
     }
-    if let Some(why) = flashed_refusal(p, c, b) {
+    if let Some(why) = flashed_refusal(plant, config, b) {
         return Err(why);
     }
-    keep_and_store(p, c, j, a, b, t, bytes, last)
+    keep_and_store(plant, config, journal, a, b, t, bytes, last)
 }
 
 /// The targets of b keep track t, and then b stores these bytes of it, which are those of a.
 fn keep_and_store<P: Plant>(
-    p: &mut P,
-    c: &Config,
-    j: &mut Journal,
+    plant: &mut P,
+    config: &Config,
+    journal: &mut Journal,
     a: VolumeId,
     b: VolumeId,
     t: u16,
     bytes: &Block,
     last: bool,
 ) -> Result<(), Refusal>
-    requires rest { IsAtRest (P.state p.old) c.now }
-    requires fit { RelationsFit (P.state p.old) c.now }
-    requires defined { IsSome (place_of c.now b.0) }
-    requires running { (P.state p.old).on (volume_seen (P.state p.old) c.now b.0).server ≡ true }
-    requires secondary { layout.is_part (volume_seen (P.state p.old) c.now b.0).fields.secondary ≡ true }
-    requires two_servers { (volume_seen (P.state p.old) c.now a.0).server ≢ (volume_seen (P.state p.old) c.now b.0).server }
-    requires within { t < (volume_seen (P.state p.old) c.now b.0).tracks }
-    requires bytes { bytes.now ≡ track_seen (P.state p.old) c.now a.0 t }
-    requires room { length c.now.volumes + 2 ≤ j.old.spare }
-    ensures leads { OnOk result ((r : Rest) → Leads (world_seen (P.state p.old) c.now r j.old.events) (copy_first (ids_of c.now.volumes) b.0 t ++ now (Store b.0 t a.0 last) ∷ []) (world_seen (P.state p.new) c.now r j.new.events)) }
-    ensures fails { OnErr result ((r : Rest) → Fails (armed_in (P.state p.old)) (world_seen (P.state p.old) c.now r j.old.events) (copy_first (ids_of c.now.volumes) b.0 t ++ now (Store b.0 t a.0 last) ∷ []) (world_seen (P.state p.new) c.now r j.new.events) (refusal_of result)) }
-    ensures refused { OnErr result (refusal_of result ≡ Some (stopped (volume_seen (P.state p.old) c.now b.0).server)) }
-    ensures rest { IsAtRest (P.state p.new) c.now }
-    ensures fit { RelationsFit (P.state p.new) c.now }
-    ensures unarmed { (q : ℕ) → (P.state p.old).read_fuse q ≡ None → (P.state p.new).read_fuse q ≡ None }
-    ensures faults { Counted (is_err result) (P.state p.old).faults (P.state p.new).faults }
-    ensures others { (q : ℕ) → q ≢ b.0 → copies_from b.0 (volume_seen (P.state p.old) c.now q).fields ≡ false → IsAsBefore (P.state p.old) (P.state p.new) c.now q }
-    ensures on { OnOk result ((P.state p.new).on ≡ (P.state p.old).on) }
-    ensures room { j.old.spare ≤ j.new.spare + (length c.now.volumes + 2) }
-    ensures room_left { OnOk result (j.old.spare ≤ j.new.spare + (length c.now.volumes + 1)) }
-    ensures spare { length j.new.events + j.new.spare ≡ length j.old.events + j.old.spare }
+    requires rest { IsAtRest (P.state plant.old) config.now }
+    requires fit { RelationsFit (P.state plant.old) config.now }
+    requires defined { IsSome (place_of config.now b.0) }
+    requires running { (P.state plant.old).on (volume_seen (P.state plant.old) config.now b.0).server ≡ true }
+    requires secondary { layout.is_part (volume_seen (P.state plant.old) config.now b.0).fields.secondary ≡ true }
+    requires two_servers { (volume_seen (P.state plant.old) config.now a.0).server ≢ (volume_seen (P.state plant.old) config.now b.0).server }
+    requires within { t < (volume_seen (P.state plant.old) config.now b.0).tracks }
+    requires bytes { bytes.now ≡ track_seen (P.state plant.old) config.now a.0 t }
+    requires room { length config.now.volumes + 2 ≤ journal.old.spare }
+    ensures leads { OnOk result ((r : Rest) → Leads (world_seen (P.state plant.old) config.now r journal.old.events) (copy_first (ids_of config.now.volumes) b.0 t ++ now (Store b.0 t a.0 last) ∷ []) (world_seen (P.state plant.new) config.now r journal.new.events)) }
+    ensures fails { OnErr result ((r : Rest) → Fails (armed_in (P.state plant.old)) (world_seen (P.state plant.old) config.now r journal.old.events) (copy_first (ids_of config.now.volumes) b.0 t ++ now (Store b.0 t a.0 last) ∷ []) (world_seen (P.state plant.new) config.now r journal.new.events) (refusal_of result)) }
+    ensures refused { OnErr result (refusal_of result ≡ Some (stopped (volume_seen (P.state plant.old) config.now b.0).server)) }
+    ensures rest { IsAtRest (P.state plant.new) config.now }
+    ensures fit { RelationsFit (P.state plant.new) config.now }
+    ensures unarmed { (q : ℕ) → (P.state plant.old).read_fuse q ≡ None → (P.state plant.new).read_fuse q ≡ None }
+    ensures faults { Counted (is_err result) (P.state plant.old).faults (P.state plant.new).faults }
+    ensures others { (q : ℕ) → q ≢ b.0 → copies_from b.0 (volume_seen (P.state plant.old) config.now q).fields ≡ false → IsAsBefore (P.state plant.old) (P.state plant.new) config.now q }
+    ensures on { OnOk result ((P.state plant.new).on ≡ (P.state plant.old).on) }
+    ensures room { journal.old.spare ≤ journal.new.spare + (length config.now.volumes + 2) }
+    ensures room_left { OnOk result (journal.old.spare ≤ journal.new.spare + (length config.now.volumes + 1)) }
+    ensures spare { length journal.new.events + journal.new.spare ≡ length journal.old.events + journal.old.spare }
 {
-    copy_first(p, c, j, b, t)?;
-    store(p, c, j, b, t, a, last, bytes)
+    copy_first(plant, config, journal, b, t)?;
+    store(plant, config, journal, b, t, a, last, bytes)
 }

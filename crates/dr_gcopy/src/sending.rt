@@ -30,49 +30,54 @@ use dr_plant::Plant;
 use dr_volume::peek_fields;
 
 /// Why primary a can't send to b, if it can't: b can't be reached, or isn't the secondary of a.
-pub fn send_refusal<P: Plant>(p: &P, c: &Config, a: VolumeId, b: VolumeId) -> Option<Refusal>
-    requires stands { StandsFor c.now (P.state p.now) }
-    requires from { IsSome (place_of c.now a.0) }
-    requires to { IsSome (place_of c.now b.0) }
-    ensures refusal { (r : Rest) (events : List Event) → result ≡ pair_entries.send_refusal a.0 b.0 (world_seen (P.state p.now) c.now r events).control }
+pub fn send_refusal<P: Plant>(
+    plant: &P,
+    config: &Config,
+    a: VolumeId,
+    b: VolumeId,
+) -> Option<Refusal>
+    requires stands { StandsFor config.now (P.state plant.now) }
+    requires from { IsSome (place_of config.now a.0) }
+    requires to { IsSome (place_of config.now b.0) }
+    ensures refusal { (r : Rest) (events : List Event) → result ≡ pair_entries.send_refusal a.0 b.0 (world_seen (P.state plant.now) config.now r events).control }
     ensures calm { is_stop result ≡ false }
-    ensures reached { OnNone result ((P.state p.now).on (volume_seen (P.state p.now) c.now b.0).server ≡ true) }
-    ensures secondary { OnNone result (is_part (volume_seen (P.state p.now) c.now b.0).fields.secondary ≡ true) }
+    ensures reached { OnNone result ((P.state plant.now).on (volume_seen (P.state plant.now) config.now b.0).server ≡ true) }
+    ensures secondary { OnNone result (is_part (volume_seen (P.state plant.now) config.now b.0).fields.secondary ≡ true) }
 {
-    if let Some(why) = reach_refusal(p, c, a, b) {
+    if let Some(why) = reach_refusal(plant, config, a, b) {
         return Some(why);
     }
-    stranger_refusal(p, c, a, b)
+    stranger_refusal(plant, config, a, b)
 }
 
 /// Suspends primary a, which can't send to b for this reason, and gives it, or the stop of a's server in the suspension.
 fn refuse<P: Plant>(
-    p: &mut P,
-    c: &Config,
-    j: &mut Journal,
+    plant: &mut P,
+    config: &Config,
+    journal: &mut Journal,
     a: VolumeId,
     b: VolumeId,
     why: Refusal,
 ) -> Refusal
-    requires rest { IsAtRest (P.state p.old) c.now }
-    requires fit { RelationsFit (P.state p.old) c.now }
-    requires from { IsSome (place_of c.now a.0) }
-    requires running { (P.state p.old).on (volume_seen (P.state p.old) c.now a.0).server ≡ true }
-    requires primary { is_part (volume_seen (P.state p.old) c.now a.0).fields.primary ≡ true }
+    requires rest { IsAtRest (P.state plant.old) config.now }
+    requires fit { RelationsFit (P.state plant.old) config.now }
+    requires from { IsSome (place_of config.now a.0) }
+    requires running { (P.state plant.old).on (volume_seen (P.state plant.old) config.now a.0).server ≡ true }
+    requires primary { is_part (volume_seen (P.state plant.old) config.now a.0).fields.primary ≡ true }
     requires apart { a.0 ≢ b.0 }
-    requires why { (r : Rest) (events : List Event) → Some why ≡ pair_entries.send_refusal a.0 b.0 (world_seen (P.state p.old) c.now r events).control }
+    requires why { (r : Rest) (events : List Event) → Some why ≡ pair_entries.send_refusal a.0 b.0 (world_seen (P.state plant.old) config.now r events).control }
     requires calm { is_stop (Some why) ≡ false }
-    requires room { 2 ≤ j.old.spare }
-    ensures fails { (r : Rest) → Fails (armed_in (P.state p.old)) (world_seen (P.state p.old) c.now r j.old.events) (refuse_entries a.0 b.0) (world_seen (P.state p.new) c.now r j.new.events) (Some result) }
-    ensures rest { IsAtRest (P.state p.new) c.now }
-    ensures fit { RelationsFit (P.state p.new) c.now }
-    ensures unarmed { (q : ℕ) → (P.state p.old).read_fuse q ≡ None → (P.state p.new).read_fuse q ≡ None }
-    ensures faults { Counted (is_stop (Some result)) (P.state p.old).faults (P.state p.new).faults }
-    ensures others { OthersStay (P.state p.old) (P.state p.new) c.now a.0 }
-    ensures room { j.old.spare ≤ j.new.spare + 2 }
-    ensures spare { length j.new.events + j.new.spare ≡ length j.old.events + j.old.spare }
+    requires room { 2 ≤ journal.old.spare }
+    ensures fails { (r : Rest) → Fails (armed_in (P.state plant.old)) (world_seen (P.state plant.old) config.now r journal.old.events) (refuse_entries a.0 b.0) (world_seen (P.state plant.new) config.now r journal.new.events) (Some result) }
+    ensures rest { IsAtRest (P.state plant.new) config.now }
+    ensures fit { RelationsFit (P.state plant.new) config.now }
+    ensures unarmed { (q : ℕ) → (P.state plant.old).read_fuse q ≡ None → (P.state plant.new).read_fuse q ≡ None }
+    ensures faults { Counted (is_stop (Some result)) (P.state plant.old).faults (P.state plant.new).faults }
+    ensures others { OthersStay (P.state plant.old) (P.state plant.new) config.now a.0 }
+    ensures room { journal.old.spare ≤ journal.new.spare + 2 }
+    ensures spare { length journal.new.events + journal.new.spare ≡ length journal.old.events + journal.old.spare }
 {
-    match suspend(p, c, j, a, false) {
+    match suspend(plant, config, journal, a, false) {
         Ok(()) => why,
         Err(stop) => stop,
     }
@@ -80,82 +85,84 @@ fn refuse<P: Plant>(
 
 /// Primary a sends track t to b, without what follows the stop of a server.
 fn send_on<P: Plant>(
-    p: &mut P,
-    c: &Config,
-    j: &mut Journal,
+    plant: &mut P,
+    config: &Config,
+    journal: &mut Journal,
     a: VolumeId,
     b: VolumeId,
     t: u16,
 ) -> Result<(), Refusal>
-    requires rest { IsAtRest (P.state p.old) c.now }
-    requires fit { RelationsFit (P.state p.old) c.now }
-    requires from { IsSome (place_of c.now a.0) }
-    requires to { IsSome (place_of c.now b.0) }
-    requires running { (P.state p.old).on (volume_seen (P.state p.old) c.now a.0).server ≡ true }
-    requires primary { is_part (volume_seen (P.state p.old) c.now a.0).fields.primary ≡ true }
-    requires two_servers { (volume_seen (P.state p.old) c.now a.0).server ≢ (volume_seen (P.state p.old) c.now b.0).server }
-    requires within { t < (volume_seen (P.state p.old) c.now a.0).tracks }
-    requires size { (volume_seen (P.state p.old) c.now b.0).tracks ≡ (volume_seen (P.state p.old) c.now a.0).tracks }
-    requires room { length c.now.volumes + 2 ≤ j.old.spare }
-    ensures leads { OnOk result ((r : Rest) → Leads (world_seen (P.state p.old) c.now r j.old.events) (send_entries (ids_of c.now.volumes) a.0 b.0 t) (world_seen (P.state p.new) c.now r j.new.events)) }
-    ensures fails { OnErr result ((r : Rest) → Fails (armed_in (P.state p.old)) (world_seen (P.state p.old) c.now r j.old.events) (send_entries (ids_of c.now.volumes) a.0 b.0 t) (world_seen (P.state p.new) c.now r j.new.events) (refusal_of result)) }
-    ensures struck { OnOk result ((volume_seen (P.state p.new) c.now a.0).fields ≡ pairs.struck (pairs.is_last (volume_seen (P.state p.old) c.now a.0).fields t) (volume_seen (P.state p.old) c.now a.0).fields t) }
-    ensures rest { IsAtRest (P.state p.new) c.now }
-    ensures fit { RelationsFit (P.state p.new) c.now }
-    ensures unarmed { (q : ℕ) → (P.state p.old).read_fuse q ≡ None → (P.state p.new).read_fuse q ≡ None }
-    ensures faults { Counted (is_stop (refusal_of result)) (P.state p.old).faults (P.state p.new).faults }
-    ensures others { (q : ℕ) → q ≢ a.0 → q ≢ b.0 → copies_from b.0 (volume_seen (P.state p.old) c.now q).fields ≡ false → IsAsBefore (P.state p.old) (P.state p.new) c.now q }
-    ensures on { OnOk result ((P.state p.new).on ≡ (P.state p.old).on) }
-    ensures room { j.old.spare ≤ j.new.spare + (length c.now.volumes + 2) }
-    ensures room_left { OnOk result (j.old.spare ≤ j.new.spare + (length c.now.volumes + 1)) }
-    ensures spare { length j.new.events + j.new.spare ≡ length j.old.events + j.old.spare }
+    requires rest { IsAtRest (P.state plant.old) config.now }
+    requires fit { RelationsFit (P.state plant.old) config.now }
+    requires from { IsSome (place_of config.now a.0) }
+    requires to { IsSome (place_of config.now b.0) }
+    requires running { (P.state plant.old).on (volume_seen (P.state plant.old) config.now a.0).server ≡ true }
+    requires primary { is_part (volume_seen (P.state plant.old) config.now a.0).fields.primary ≡ true }
+    requires two_servers { (volume_seen (P.state plant.old) config.now a.0).server ≢ (volume_seen (P.state plant.old) config.now b.0).server }
+    requires within { t < (volume_seen (P.state plant.old) config.now a.0).tracks }
+    requires size { (volume_seen (P.state plant.old) config.now b.0).tracks ≡ (volume_seen (P.state plant.old) config.now a.0).tracks }
+    requires room { length config.now.volumes + 2 ≤ journal.old.spare }
+    ensures leads { OnOk result ((r : Rest) → Leads (world_seen (P.state plant.old) config.now r journal.old.events) (send_entries (ids_of config.now.volumes) a.0 b.0 t) (world_seen (P.state plant.new) config.now r journal.new.events)) }
+    ensures fails { OnErr result ((r : Rest) → Fails (armed_in (P.state plant.old)) (world_seen (P.state plant.old) config.now r journal.old.events) (send_entries (ids_of config.now.volumes) a.0 b.0 t) (world_seen (P.state plant.new) config.now r journal.new.events) (refusal_of result)) }
+    ensures struck { OnOk result ((volume_seen (P.state plant.new) config.now a.0).fields ≡ pairs.struck (pairs.is_last (volume_seen (P.state plant.old) config.now a.0).fields t) (volume_seen (P.state plant.old) config.now a.0).fields t) }
+    ensures stored { OnOk result ((volume_seen (P.state plant.new) config.now b.0).fields ≡ pairs.received (pairs.is_last (volume_seen (P.state plant.old) config.now a.0).fields t) (volume_seen (P.state plant.old) config.now b.0).fields t) }
+    ensures rest { IsAtRest (P.state plant.new) config.now }
+    ensures fit { RelationsFit (P.state plant.new) config.now }
+    ensures unarmed { (q : ℕ) → (P.state plant.old).read_fuse q ≡ None → (P.state plant.new).read_fuse q ≡ None }
+    ensures faults { Counted (is_stop (refusal_of result)) (P.state plant.old).faults (P.state plant.new).faults }
+    ensures others { (q : ℕ) → q ≢ a.0 → q ≢ b.0 → copies_from b.0 (volume_seen (P.state plant.old) config.now q).fields ≡ false → IsAsBefore (P.state plant.old) (P.state plant.new) config.now q }
+    ensures on { OnOk result ((P.state plant.new).on ≡ (P.state plant.old).on) }
+    ensures room { journal.old.spare ≤ journal.new.spare + (length config.now.volumes + 2) }
+    ensures room_left { OnOk result (journal.old.spare ≤ journal.new.spare + (length config.now.volumes + 1)) }
+    ensures spare { length journal.new.events + journal.new.spare ≡ length journal.old.events + journal.old.spare }
 {
-    if let Some(why) = send_refusal(p, c, a, b) {
-        return Err(refuse(p, c, j, a, b, why));
+    if let Some(why) = send_refusal(plant, config, a, b) {
+        return Err(refuse(plant, config, journal, a, b, why));
     }
-    if let Some(why) = flashed_refusal(p, c, b) {
+    if let Some(why) = flashed_refusal(plant, config, b) {
         return Err(why);
     }
-    pass_on(p, c, j, a, b, t)
+    pass_on(plant, config, journal, a, b, t)
 }
 
 /// Primary a sends track t to its partner b.
 pub(crate) fn send_to<P: Plant>(
-    p: &mut P,
-    c: &Config,
-    j: &mut Journal,
+    plant: &mut P,
+    config: &Config,
+    journal: &mut Journal,
     a: VolumeId,
     b: VolumeId,
     t: u16,
 ) -> Result<(), Refusal>
-    requires rest { IsAtRest (P.state p.old) c.now }
-    requires fit { RelationsFit (P.state p.old) c.now }
-    requires from { IsSome (place_of c.now a.0) }
-    requires to { IsSome (place_of c.now b.0) }
-    requires running { (P.state p.old).on (volume_seen (P.state p.old) c.now a.0).server ≡ true }
-    requires primary { is_part (volume_seen (P.state p.old) c.now a.0).fields.primary ≡ true }
-    requires two_servers { (volume_seen (P.state p.old) c.now a.0).server ≢ (volume_seen (P.state p.old) c.now b.0).server }
-    requires within { t < (volume_seen (P.state p.old) c.now a.0).tracks }
-    requires size { (volume_seen (P.state p.old) c.now b.0).tracks ≡ (volume_seen (P.state p.old) c.now a.0).tracks }
-    requires room { length c.now.volumes + 4 ≤ j.old.spare }
-    ensures carried { (r : Rest) → EndsFollowed (armed_in (P.state p.old)) (world_seen (P.state p.old) c.now r j.old.events) (send_entries (ids_of c.now.volumes) a.0 b.0 t) (suspend_after a.0) (world_seen (P.state p.new) c.now r j.new.events) (refusal_of result) }
-    ensures leads { OnOk result ((r : Rest) → Leads (world_seen (P.state p.old) c.now r j.old.events) (send_entries (ids_of c.now.volumes) a.0 b.0 t) (world_seen (P.state p.new) c.now r j.new.events)) }
-    ensures fails { OnErr result ((r : Rest) → FailsFollowed (armed_in (P.state p.old)) (world_seen (P.state p.old) c.now r j.old.events) (send_entries (ids_of c.now.volumes) a.0 b.0 t) (suspend_after a.0) (world_seen (P.state p.new) c.now r j.new.events) (refusal_of result)) }
-    ensures struck { OnOk result ((volume_seen (P.state p.new) c.now a.0).fields ≡ pairs.struck (pairs.is_last (volume_seen (P.state p.old) c.now a.0).fields t) (volume_seen (P.state p.old) c.now a.0).fields t) }
-    ensures rest { IsAtRest (P.state p.new) c.now }
-    ensures fit { RelationsFit (P.state p.new) c.now }
-    ensures unarmed { (q : ℕ) → (P.state p.old).read_fuse q ≡ None → (P.state p.new).read_fuse q ≡ None }
-    ensures faults { Counted (is_stop (refusal_of result)) (P.state p.old).faults (P.state p.new).faults }
-    ensures others { (q : ℕ) → q ≢ a.0 → q ≢ b.0 → copies_from b.0 (volume_seen (P.state p.old) c.now q).fields ≡ false → IsAsBefore (P.state p.old) (P.state p.new) c.now q }
-    ensures on { OnOk result ((P.state p.new).on ≡ (P.state p.old).on) }
-    ensures room { j.old.spare ≤ j.new.spare + (length c.now.volumes + 4) }
-    ensures room_left { OnOk result (j.old.spare ≤ j.new.spare + (length c.now.volumes + 1)) }
-    ensures spare { length j.new.events + j.new.spare ≡ length j.old.events + j.old.spare }
+    requires rest { IsAtRest (P.state plant.old) config.now }
+    requires fit { RelationsFit (P.state plant.old) config.now }
+    requires from { IsSome (place_of config.now a.0) }
+    requires to { IsSome (place_of config.now b.0) }
+    requires running { (P.state plant.old).on (volume_seen (P.state plant.old) config.now a.0).server ≡ true }
+    requires primary { is_part (volume_seen (P.state plant.old) config.now a.0).fields.primary ≡ true }
+    requires two_servers { (volume_seen (P.state plant.old) config.now a.0).server ≢ (volume_seen (P.state plant.old) config.now b.0).server }
+    requires within { t < (volume_seen (P.state plant.old) config.now a.0).tracks }
+    requires size { (volume_seen (P.state plant.old) config.now b.0).tracks ≡ (volume_seen (P.state plant.old) config.now a.0).tracks }
+    requires room { length config.now.volumes + 4 ≤ journal.old.spare }
+    ensures carried { (r : Rest) → EndsFollowed (armed_in (P.state plant.old)) (world_seen (P.state plant.old) config.now r journal.old.events) (send_entries (ids_of config.now.volumes) a.0 b.0 t) (suspend_after a.0) (world_seen (P.state plant.new) config.now r journal.new.events) (refusal_of result) }
+    ensures leads { OnOk result ((r : Rest) → Leads (world_seen (P.state plant.old) config.now r journal.old.events) (send_entries (ids_of config.now.volumes) a.0 b.0 t) (world_seen (P.state plant.new) config.now r journal.new.events)) }
+    ensures fails { OnErr result ((r : Rest) → FailsFollowed (armed_in (P.state plant.old)) (world_seen (P.state plant.old) config.now r journal.old.events) (send_entries (ids_of config.now.volumes) a.0 b.0 t) (suspend_after a.0) (world_seen (P.state plant.new) config.now r journal.new.events) (refusal_of result)) }
+    ensures struck { OnOk result ((volume_seen (P.state plant.new) config.now a.0).fields ≡ pairs.struck (pairs.is_last (volume_seen (P.state plant.old) config.now a.0).fields t) (volume_seen (P.state plant.old) config.now a.0).fields t) }
+    ensures stored { OnOk result ((volume_seen (P.state plant.new) config.now b.0).fields ≡ pairs.received (pairs.is_last (volume_seen (P.state plant.old) config.now a.0).fields t) (volume_seen (P.state plant.old) config.now b.0).fields t) }
+    ensures rest { IsAtRest (P.state plant.new) config.now }
+    ensures fit { RelationsFit (P.state plant.new) config.now }
+    ensures unarmed { (q : ℕ) → (P.state plant.old).read_fuse q ≡ None → (P.state plant.new).read_fuse q ≡ None }
+    ensures faults { Counted (is_stop (refusal_of result)) (P.state plant.old).faults (P.state plant.new).faults }
+    ensures others { (q : ℕ) → q ≢ a.0 → q ≢ b.0 → copies_from b.0 (volume_seen (P.state plant.old) config.now q).fields ≡ false → IsAsBefore (P.state plant.old) (P.state plant.new) config.now q }
+    ensures on { OnOk result ((P.state plant.new).on ≡ (P.state plant.old).on) }
+    ensures room { journal.old.spare ≤ journal.new.spare + (length config.now.volumes + 4) }
+    ensures room_left { OnOk result (journal.old.spare ≤ journal.new.spare + (length config.now.volumes + 1)) }
+    ensures spare { length journal.new.events + journal.new.spare ≡ length journal.old.events + journal.old.spare }
 {
-    match send_on(p, c, j, a, b, t) {
+    match send_on(plant, config, journal, a, b, t) {
         Ok(()) => Ok(()),
         Err(why) => {
-            follow_stop(p, c, j, a, why);
+            follow_stop(plant, config, journal, a, why);
             Err(why)
         }
     }
@@ -170,36 +177,37 @@ pub(crate) fn send_to<P: Plant>(
 /// was done by then stays, and a is suspended where its own server still runs. The first stop is the one that is given.
 /// The journal needs room for an event for each volume and four more.
 pub fn send_track<P: Plant>(
-    p: &mut P,
-    c: &Config,
-    j: &mut Journal,
+    plant: &mut P,
+    config: &Config,
+    journal: &mut Journal,
     a: VolumeId,
     t: u16,
 ) -> Result<(), Refusal>
-    requires rest { IsAtRest (P.state p.old) c.now }
-    requires fit { RelationsFit (P.state p.old) c.now }
-    requires from { IsSome (place_of c.now a.0) }
-    requires to { IsSome (place_of c.now (volume_seen (P.state p.old) c.now a.0).fields.primary_partner) }
-    requires running { (P.state p.old).on (volume_seen (P.state p.old) c.now a.0).server ≡ true }
-    requires primary { is_part (volume_seen (P.state p.old) c.now a.0).fields.primary ≡ true }
-    requires two_servers { (volume_seen (P.state p.old) c.now a.0).server ≢ (volume_seen (P.state p.old) c.now (volume_seen (P.state p.old) c.now a.0).fields.primary_partner).server }
-    requires within { t < (volume_seen (P.state p.old) c.now a.0).tracks }
-    requires size { (volume_seen (P.state p.old) c.now (volume_seen (P.state p.old) c.now a.0).fields.primary_partner).tracks ≡ (volume_seen (P.state p.old) c.now a.0).tracks }
-    requires room { length c.now.volumes + 4 ≤ j.old.spare }
-    ensures carried { (r : Rest) → EndsFollowed (armed_in (P.state p.old)) (world_seen (P.state p.old) c.now r j.old.events) (send_entries (ids_of c.now.volumes) a.0 (volume_seen (P.state p.old) c.now a.0).fields.primary_partner t) (suspend_after a.0) (world_seen (P.state p.new) c.now r j.new.events) (refusal_of result) }
-    ensures leads { OnOk result ((r : Rest) → Leads (world_seen (P.state p.old) c.now r j.old.events) (send_entries (ids_of c.now.volumes) a.0 (volume_seen (P.state p.old) c.now a.0).fields.primary_partner t) (world_seen (P.state p.new) c.now r j.new.events)) }
-    ensures fails { OnErr result ((r : Rest) → FailsFollowed (armed_in (P.state p.old)) (world_seen (P.state p.old) c.now r j.old.events) (send_entries (ids_of c.now.volumes) a.0 (volume_seen (P.state p.old) c.now a.0).fields.primary_partner t) (suspend_after a.0) (world_seen (P.state p.new) c.now r j.new.events) (refusal_of result)) }
-    ensures struck { OnOk result ((volume_seen (P.state p.new) c.now a.0).fields ≡ pairs.struck (pairs.is_last (volume_seen (P.state p.old) c.now a.0).fields t) (volume_seen (P.state p.old) c.now a.0).fields t) }
-    ensures rest { IsAtRest (P.state p.new) c.now }
-    ensures fit { RelationsFit (P.state p.new) c.now }
-    ensures unarmed { (q : ℕ) → (P.state p.old).read_fuse q ≡ None → (P.state p.new).read_fuse q ≡ None }
-    ensures faults { Counted (is_stop (refusal_of result)) (P.state p.old).faults (P.state p.new).faults }
-    ensures others { (q : ℕ) → q ≢ a.0 → q ≢ (volume_seen (P.state p.old) c.now a.0).fields.primary_partner → copies_from (volume_seen (P.state p.old) c.now a.0).fields.primary_partner (volume_seen (P.state p.old) c.now q).fields ≡ false → IsAsBefore (P.state p.old) (P.state p.new) c.now q }
-    ensures on { OnOk result ((P.state p.new).on ≡ (P.state p.old).on) }
-    ensures room { j.old.spare ≤ j.new.spare + (length c.now.volumes + 4) }
-    ensures room_left { OnOk result (j.old.spare ≤ j.new.spare + (length c.now.volumes + 1)) }
-    ensures spare { length j.new.events + j.new.spare ≡ length j.old.events + j.old.spare }
+    requires rest { IsAtRest (P.state plant.old) config.now }
+    requires fit { RelationsFit (P.state plant.old) config.now }
+    requires from { IsSome (place_of config.now a.0) }
+    requires to { IsSome (place_of config.now (volume_seen (P.state plant.old) config.now a.0).fields.primary_partner) }
+    requires running { (P.state plant.old).on (volume_seen (P.state plant.old) config.now a.0).server ≡ true }
+    requires primary { is_part (volume_seen (P.state plant.old) config.now a.0).fields.primary ≡ true }
+    requires two_servers { (volume_seen (P.state plant.old) config.now a.0).server ≢ (volume_seen (P.state plant.old) config.now (volume_seen (P.state plant.old) config.now a.0).fields.primary_partner).server }
+    requires within { t < (volume_seen (P.state plant.old) config.now a.0).tracks }
+    requires size { (volume_seen (P.state plant.old) config.now (volume_seen (P.state plant.old) config.now a.0).fields.primary_partner).tracks ≡ (volume_seen (P.state plant.old) config.now a.0).tracks }
+    requires room { length config.now.volumes + 4 ≤ journal.old.spare }
+    ensures carried { (r : Rest) → EndsFollowed (armed_in (P.state plant.old)) (world_seen (P.state plant.old) config.now r journal.old.events) (send_entries (ids_of config.now.volumes) a.0 (volume_seen (P.state plant.old) config.now a.0).fields.primary_partner t) (suspend_after a.0) (world_seen (P.state plant.new) config.now r journal.new.events) (refusal_of result) }
+    ensures leads { OnOk result ((r : Rest) → Leads (world_seen (P.state plant.old) config.now r journal.old.events) (send_entries (ids_of config.now.volumes) a.0 (volume_seen (P.state plant.old) config.now a.0).fields.primary_partner t) (world_seen (P.state plant.new) config.now r journal.new.events)) }
+    ensures fails { OnErr result ((r : Rest) → FailsFollowed (armed_in (P.state plant.old)) (world_seen (P.state plant.old) config.now r journal.old.events) (send_entries (ids_of config.now.volumes) a.0 (volume_seen (P.state plant.old) config.now a.0).fields.primary_partner t) (suspend_after a.0) (world_seen (P.state plant.new) config.now r journal.new.events) (refusal_of result)) }
+    ensures struck { OnOk result ((volume_seen (P.state plant.new) config.now a.0).fields ≡ pairs.struck (pairs.is_last (volume_seen (P.state plant.old) config.now a.0).fields t) (volume_seen (P.state plant.old) config.now a.0).fields t) }
+    ensures stored { OnOk result ((volume_seen (P.state plant.new) config.now (volume_seen (P.state plant.old) config.now a.0).fields.primary_partner).fields ≡ pairs.received (pairs.is_last (volume_seen (P.state plant.old) config.now a.0).fields t) (volume_seen (P.state plant.old) config.now (volume_seen (P.state plant.old) config.now a.0).fields.primary_partner).fields t) }
+    ensures rest { IsAtRest (P.state plant.new) config.now }
+    ensures fit { RelationsFit (P.state plant.new) config.now }
+    ensures unarmed { (q : ℕ) → (P.state plant.old).read_fuse q ≡ None → (P.state plant.new).read_fuse q ≡ None }
+    ensures faults { Counted (is_stop (refusal_of result)) (P.state plant.old).faults (P.state plant.new).faults }
+    ensures others { (q : ℕ) → q ≢ a.0 → q ≢ (volume_seen (P.state plant.old) config.now a.0).fields.primary_partner → copies_from (volume_seen (P.state plant.old) config.now a.0).fields.primary_partner (volume_seen (P.state plant.old) config.now q).fields ≡ false → IsAsBefore (P.state plant.old) (P.state plant.new) config.now q }
+    ensures on { OnOk result ((P.state plant.new).on ≡ (P.state plant.old).on) }
+    ensures room { journal.old.spare ≤ journal.new.spare + (length config.now.volumes + 4) }
+    ensures room_left { OnOk result (journal.old.spare ≤ journal.new.spare + (length config.now.volumes + 1)) }
+    ensures spare { length journal.new.events + journal.new.spare ≡ length journal.old.events + journal.old.spare }
 {
-    let b = peek_fields(p, c, a).primary_partner;
-    send_to(p, c, j, a, b, t)
+    let b = peek_fields(plant, config, a).primary_partner;
+    send_to(plant, config, journal, a, b, t)
 }

@@ -11,6 +11,7 @@ ghost use Rattle.dr_model.specs.ReadStops.{Ends};
 ghost use Rattle.dr_model.specs.Refusals.{stopped};
 ghost use Rattle.dr_volume.specs.Update.{IsMoved, OthersStay};
 ghost use Rattle.dr_volume.specs.View.{Rest, volume_seen, track_seen};
+ghost use Rattle.dr_volume.specs.Volume.{Says};
 ghost use Rattle.dr_flash.specs.Fit.{RelationsFit};
 ghost use Rattle.dr_flash.specs.Here.{world_seen, refusal_of, armed_in, IsAtRest};
 ghost use Rattle.dr_flash.specs.Turns.{Advances, Halts};
@@ -21,86 +22,130 @@ use dr_flash::{Telling, Told, shift};
 use dr_ids::{Refusal, VolumeId};
 use dr_model::{Event, Journal};
 use dr_plant::{Block, Plant};
-use dr_volume::peek_fields;
+use dr_volume::{Fields, peek_fields};
 
 /// Stores at secondary b, whose server is on, the bytes of track t of its primary a. With the last track of a Metro
 /// Mirror pair it is Full Duplex. Fails where the server stops in the move or goes off at a read. The journal needs room
 /// for two events.
 pub fn store<P: Plant>(
-    p: &mut P,
-    c: &Config,
-    j: &mut Journal,
+    plant: &mut P,
+    config: &Config,
+    journal: &mut Journal,
     b: VolumeId,
     t: u16,
     a: VolumeId,
     last: bool,
     bytes: &Block,
 ) -> Result<(), Refusal>
-    requires rest { IsAtRest (P.state p.old) c.now }
-    requires fit { RelationsFit (P.state p.old) c.now }
-    requires defined { IsSome (place_of c.now b.0) }
-    requires running { (P.state p.old).on (volume_seen (P.state p.old) c.now b.0).server ≡ true }
-    requires secondary { is_part (volume_seen (P.state p.old) c.now b.0).fields.secondary ≡ true }
-    requires within { t < (volume_seen (P.state p.old) c.now b.0).tracks }
-    requires bytes { bytes.now ≡ track_seen (P.state p.old) c.now a.0 t }
-    requires room { 2 ≤ j.old.spare }
-    ensures carried { (r : Rest) → Ends (armed_in (P.state p.old)) (world_seen (P.state p.new) c.now r j.new.events) (refusal_of result) (world_seen (P.state p.old) c.now r j.old.events) (now (Store b.0 t a.0 last) ∷ []) }
-    ensures advances { OnOk result ((r : Rest) → Advances (world_seen (P.state p.old) c.now r j.old.events) (now (Store b.0 t a.0 last)) (world_seen (P.state p.new) c.now r j.new.events)) }
-    ensures halts { OnErr result ((r : Rest) → Halts (armed_in (P.state p.old)) (world_seen (P.state p.old) c.now r j.old.events) (now (Store b.0 t a.0 last)) (world_seen (P.state p.new) c.now r j.new.events) (refusal_of result)) }
-    ensures refused { OnErr result (refusal_of result ≡ Some (stopped (volume_seen (P.state p.old) c.now b.0).server)) }
-    ensures rest { IsAtRest (P.state p.new) c.now }
-    ensures fit { RelationsFit (P.state p.new) c.now }
-    ensures unarmed { (q : ℕ) → (P.state p.old).read_fuse q ≡ None → (P.state p.new).read_fuse q ≡ None }
-    ensures faults { Counted (is_err result) (P.state p.old).faults (P.state p.new).faults }
-    ensures moved { OnOk result (IsMoved (P.state p.old) (P.state p.new) c.now b.0 (pairs.received last (volume_seen (P.state p.old) c.now b.0).fields t) (Some (t, bytes.now))) }
-    ensures others { OthersStay (P.state p.old) (P.state p.new) c.now b.0 }
-    ensures on { OnOk result ((P.state p.new).on ≡ (P.state p.old).on) }
-    ensures room { j.old.spare ≤ j.new.spare + 2 }
-    ensures room_left { OnOk result (j.old.spare ≤ j.new.spare + 1) }
-    ensures spare { length j.new.events + j.new.spare ≡ length j.old.events + j.old.spare }
+    requires rest { IsAtRest (P.state plant.old) config.now }
+    requires fit { RelationsFit (P.state plant.old) config.now }
+    requires defined { IsSome (place_of config.now b.0) }
+    requires running { (P.state plant.old).on (volume_seen (P.state plant.old) config.now b.0).server ≡ true }
+    requires secondary { is_part (volume_seen (P.state plant.old) config.now b.0).fields.secondary ≡ true }
+    requires within { t < (volume_seen (P.state plant.old) config.now b.0).tracks }
+    requires bytes { bytes.now ≡ track_seen (P.state plant.old) config.now a.0 t }
+    requires room { 2 ≤ journal.old.spare }
+    ensures carried { (r : Rest) → Ends (armed_in (P.state plant.old)) (world_seen (P.state plant.new) config.now r journal.new.events) (refusal_of result) (world_seen (P.state plant.old) config.now r journal.old.events) (now (Store b.0 t a.0 last) ∷ []) }
+    ensures advances { OnOk result ((r : Rest) → Advances (world_seen (P.state plant.old) config.now r journal.old.events) (now (Store b.0 t a.0 last)) (world_seen (P.state plant.new) config.now r journal.new.events)) }
+    ensures halts { OnErr result ((r : Rest) → Halts (armed_in (P.state plant.old)) (world_seen (P.state plant.old) config.now r journal.old.events) (now (Store b.0 t a.0 last)) (world_seen (P.state plant.new) config.now r journal.new.events) (refusal_of result)) }
+    ensures refused { OnErr result (refusal_of result ≡ Some (stopped (volume_seen (P.state plant.old) config.now b.0).server)) }
+    ensures rest { IsAtRest (P.state plant.new) config.now }
+    ensures fit { RelationsFit (P.state plant.new) config.now }
+    ensures unarmed { (q : ℕ) → (P.state plant.old).read_fuse q ≡ None → (P.state plant.new).read_fuse q ≡ None }
+    ensures faults { Counted (is_err result) (P.state plant.old).faults (P.state plant.new).faults }
+    ensures moved { OnOk result (IsMoved (P.state plant.old) (P.state plant.new) config.now b.0 (pairs.received last (volume_seen (P.state plant.old) config.now b.0).fields t) (Some (t, bytes.now))) }
+    ensures others { OthersStay (P.state plant.old) (P.state plant.new) config.now b.0 }
+    ensures on { OnOk result ((P.state plant.new).on ≡ (P.state plant.old).on) }
+    ensures room { journal.old.spare ≤ journal.new.spare + 2 }
+    ensures room_left { OnOk result (journal.old.spare ≤ journal.new.spare + 1) }
+    ensures spare { length journal.new.events + journal.new.spare ≡ length journal.old.events + journal.old.spare }
 {
     let track = *bytes;
-    let next = received(last, &peek_fields(p, c, b), t);
+    let next = received(last, &peek_fields(plant, config, b), t);
     let told = Telling::of(Told::One(Event::Sent {
         volume: a.0,
         track: t,
         to: b.0,
     }));
-    shift(p, c, j, b, &next, Some((t, track)), &told)
+    shift(plant, config, journal, b, &next, Some((t, track)), &told)
 }
 
 /// Primary a, whose server is on, strikes off track t, which its secondary has stored. With the last track of a Metro
 /// Mirror pair it is Full Duplex. Nothing is told. Fails where the server stops in the move or goes off at a read. The
 /// journal needs room for an event.
 pub fn strike<P: Plant>(
-    p: &mut P,
-    c: &Config,
-    j: &mut Journal,
+    plant: &mut P,
+    config: &Config,
+    journal: &mut Journal,
     a: VolumeId,
     t: u16,
     last: bool,
 ) -> Result<(), Refusal>
-    requires rest { IsAtRest (P.state p.old) c.now }
-    requires fit { RelationsFit (P.state p.old) c.now }
-    requires defined { IsSome (place_of c.now a.0) }
-    requires running { (P.state p.old).on (volume_seen (P.state p.old) c.now a.0).server ≡ true }
-    requires primary { is_part (volume_seen (P.state p.old) c.now a.0).fields.primary ≡ true }
-    requires room { 1 ≤ j.old.spare }
-    ensures carried { (r : Rest) → Ends (armed_in (P.state p.old)) (world_seen (P.state p.new) c.now r j.new.events) (refusal_of result) (world_seen (P.state p.old) c.now r j.old.events) (now (Strike a.0 t last) ∷ []) }
-    ensures advances { OnOk result ((r : Rest) → Advances (world_seen (P.state p.old) c.now r j.old.events) (now (Strike a.0 t last)) (world_seen (P.state p.new) c.now r j.new.events)) }
-    ensures halts { OnErr result ((r : Rest) → Halts (armed_in (P.state p.old)) (world_seen (P.state p.old) c.now r j.old.events) (now (Strike a.0 t last)) (world_seen (P.state p.new) c.now r j.new.events) (refusal_of result)) }
-    ensures refused { OnErr result (refusal_of result ≡ Some (stopped (volume_seen (P.state p.old) c.now a.0).server)) }
-    ensures rest { IsAtRest (P.state p.new) c.now }
-    ensures fit { RelationsFit (P.state p.new) c.now }
-    ensures unarmed { (q : ℕ) → (P.state p.old).read_fuse q ≡ None → (P.state p.new).read_fuse q ≡ None }
-    ensures faults { Counted (is_err result) (P.state p.old).faults (P.state p.new).faults }
-    ensures moved { OnOk result (IsMoved (P.state p.old) (P.state p.new) c.now a.0 (pairs.struck last (volume_seen (P.state p.old) c.now a.0).fields t) None) }
-    ensures others { OthersStay (P.state p.old) (P.state p.new) c.now a.0 }
-    ensures on { OnOk result ((P.state p.new).on ≡ (P.state p.old).on) }
-    ensures room { j.old.spare ≤ j.new.spare + 1 }
-    ensures room_left { OnOk result (j.old.spare ≡ j.new.spare) }
-    ensures spare { length j.new.events + j.new.spare ≡ length j.old.events + j.old.spare }
+    requires rest { IsAtRest (P.state plant.old) config.now }
+    requires fit { RelationsFit (P.state plant.old) config.now }
+    requires defined { IsSome (place_of config.now a.0) }
+    requires running { (P.state plant.old).on (volume_seen (P.state plant.old) config.now a.0).server ≡ true }
+    requires primary { is_part (volume_seen (P.state plant.old) config.now a.0).fields.primary ≡ true }
+    requires room { 1 ≤ journal.old.spare }
+    ensures carried { (r : Rest) → Ends (armed_in (P.state plant.old)) (world_seen (P.state plant.new) config.now r journal.new.events) (refusal_of result) (world_seen (P.state plant.old) config.now r journal.old.events) (now (Strike a.0 t last) ∷ []) }
+    ensures advances { OnOk result ((r : Rest) → Advances (world_seen (P.state plant.old) config.now r journal.old.events) (now (Strike a.0 t last)) (world_seen (P.state plant.new) config.now r journal.new.events)) }
+    ensures halts { OnErr result ((r : Rest) → Halts (armed_in (P.state plant.old)) (world_seen (P.state plant.old) config.now r journal.old.events) (now (Strike a.0 t last)) (world_seen (P.state plant.new) config.now r journal.new.events) (refusal_of result)) }
+    ensures refused { OnErr result (refusal_of result ≡ Some (stopped (volume_seen (P.state plant.old) config.now a.0).server)) }
+    ensures rest { IsAtRest (P.state plant.new) config.now }
+    ensures fit { RelationsFit (P.state plant.new) config.now }
+    ensures unarmed { (q : ℕ) → (P.state plant.old).read_fuse q ≡ None → (P.state plant.new).read_fuse q ≡ None }
+    ensures faults { Counted (is_err result) (P.state plant.old).faults (P.state plant.new).faults }
+    ensures moved { OnOk result (IsMoved (P.state plant.old) (P.state plant.new) config.now a.0 (pairs.struck last (volume_seen (P.state plant.old) config.now a.0).fields t) None) }
+    ensures others { OthersStay (P.state plant.old) (P.state plant.new) config.now a.0 }
+    ensures on { OnOk result ((P.state plant.new).on ≡ (P.state plant.old).on) }
+    ensures room { journal.old.spare ≤ journal.new.spare + 1 }
+    ensures room_left { OnOk result (journal.old.spare ≡ journal.new.spare) }
+    ensures spare { length journal.new.events + journal.new.spare ≡ length journal.old.events + journal.old.spare }
 {
-    let next = struck(last, &peek_fields(p, c, a), t);
-    shift(p, c, j, a, &next, None, &Telling::of(Told::Nothing))
+    let fields = peek_fields(plant, config, a);
+    strike_by(plant, config, journal, a, t, last, &fields)
+}
+
+/// The same by the primary's fields, which are at hand.
+pub(crate) fn strike_by<P: Plant>(
+    plant: &mut P,
+    config: &Config,
+    journal: &mut Journal,
+    a: VolumeId,
+    t: u16,
+    last: bool,
+    fields: &Fields,
+) -> Result<(), Refusal>
+    requires rest { IsAtRest (P.state plant.old) config.now }
+    requires fit { RelationsFit (P.state plant.old) config.now }
+    requires defined { IsSome (place_of config.now a.0) }
+    requires running { (P.state plant.old).on (volume_seen (P.state plant.old) config.now a.0).server ≡ true }
+    requires primary { is_part (volume_seen (P.state plant.old) config.now a.0).fields.primary ≡ true }
+    requires room { 1 ≤ journal.old.spare }
+    requires says { Says (P.state plant.old) config.now a.0 fields.now }
+    ensures carried { (r : Rest) → Ends (armed_in (P.state plant.old)) (world_seen (P.state plant.new) config.now r journal.new.events) (refusal_of result) (world_seen (P.state plant.old) config.now r journal.old.events) (now (Strike a.0 t last) ∷ []) }
+    ensures advances { OnOk result ((r : Rest) → Advances (world_seen (P.state plant.old) config.now r journal.old.events) (now (Strike a.0 t last)) (world_seen (P.state plant.new) config.now r journal.new.events)) }
+    ensures halts { OnErr result ((r : Rest) → Halts (armed_in (P.state plant.old)) (world_seen (P.state plant.old) config.now r journal.old.events) (now (Strike a.0 t last)) (world_seen (P.state plant.new) config.now r journal.new.events) (refusal_of result)) }
+    ensures refused { OnErr result (refusal_of result ≡ Some (stopped (volume_seen (P.state plant.old) config.now a.0).server)) }
+    ensures rest { IsAtRest (P.state plant.new) config.now }
+    ensures fit { RelationsFit (P.state plant.new) config.now }
+    ensures unarmed { (q : ℕ) → (P.state plant.old).read_fuse q ≡ None → (P.state plant.new).read_fuse q ≡ None }
+    ensures faults { Counted (is_err result) (P.state plant.old).faults (P.state plant.new).faults }
+    ensures moved { OnOk result (IsMoved (P.state plant.old) (P.state plant.new) config.now a.0 (pairs.struck last (volume_seen (P.state plant.old) config.now a.0).fields t) None) }
+    ensures others { OthersStay (P.state plant.old) (P.state plant.new) config.now a.0 }
+    ensures on { OnOk result ((P.state plant.new).on ≡ (P.state plant.old).on) }
+    ensures room { journal.old.spare ≤ journal.new.spare + 1 }
+    ensures room_left { OnOk result (journal.old.spare ≡ journal.new.spare) }
+    ensures spare { length journal.new.events + journal.new.spare ≡ length journal.old.events + journal.old.spare }
+{
+    let next = struck(last, fields, t);
+    shift(
+        plant,
+        config,
+        journal,
+        a,
+        &next,
+        None,
+        &Telling::of(Told::Nothing),
+    )
 }

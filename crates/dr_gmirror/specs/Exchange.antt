@@ -29,9 +29,9 @@ pub record PlanEnds (armed : ℕ → Bool) (w : World) (p : Plan) (u : World) (a
   pub answers : answer ≡ answered p u.control refusal
 
 -- what an exchange answers: its session's phase after it, or why it failed
-abbrev pub answer_of : Result (Unit {0}) Refusal → ℕ → Control → Said
-answer_of (Ok x) s k = says_phase s k
-answer_of (Err why) s k = Refused why
+abbrev pub exchange_answer : Result (Unit {0}) Refusal → ℕ → Control → Said
+exchange_answer (Ok x) s k = says_phase s k
+exchange_answer (Err why) s k = Refused why
 
 -- why there is no exchange: there is no master, or the master and the server say so
 abbrev pub refusal_in : Control → Option Mirror → ℕ → List Member → Option Refusal

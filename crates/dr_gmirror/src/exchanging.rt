@@ -25,7 +25,7 @@ ghost use Rattle.dr_flash.specs.Here.{world_seen, refusal_of, armed_in, IsAtRest
 ghost use Rattle.dr_coord.specs.Aside.{AsideFits};
 ghost use Rattle.dr_laws_recovery.specs.TakenOver.{IsLeft};
 ghost use Rattle.dr_gmirror.specs.Orders.{with_sessions, AreReady};
-ghost use Rattle.dr_gmirror.specs.Exchange.{PlanEnds, answer_of, refusal_in, order_in, says_shown, can_settle, Looks, IsNear, MayExchange};
+ghost use Rattle.dr_gmirror.specs.Exchange.{PlanEnds, exchange_answer, refusal_in, order_in, says_shown, can_settle, Looks, IsNear, MayExchange};
 
 use crate::looks::{Look, apart_refusal, has_member_on, idle_refusal, is_idle, off_refusal};
 use crate::orders::carry_out;
@@ -55,32 +55,32 @@ fn phase_refusal(ss: &Sessions, s: SessionId, server: ServerId, x: &Look) -> Opt
 /// Why the server and the master have no exchange: the master's server is off, or else the phase says so, or else the server
 /// is off, or else the link between the two servers is down.
 fn exchange_refusal<P: Plant>(
-    p: &P,
-    c: &Config,
+    plant: &P,
+    config: &Config,
     ss: &Sessions,
     s: SessionId,
     server: ServerId,
     x: &Look,
 ) -> Option<Refusal>
     requires low { server.0 < 8 }
-    requires known { server.0 < length c.now.names }
+    requires known { server.0 < length config.now.names }
     requires master_low { x.now.server.0 < 8 }
-    requires master_known { x.now.server.0 < length c.now.names }
-    ensures refusal { (q : Rest) (events : List Event) (r : model.Mirror) → Looks x.now r server.0 → r.master.phase ≢ phase.None → result ≡ plans.exchange_refusal (world_seen (P.state p.now) c.now q events).control r server.0 (model.members_in (model.session_in ss.now.sessions s.0)) }
-    ensures running { OnNone result ((P.state p.now).on server.0 ≡ true) }
+    requires master_known { x.now.server.0 < length config.now.names }
+    ensures refusal { (q : Rest) (events : List Event) (r : model.Mirror) → Looks x.now r server.0 → r.master.phase ≢ phase.None → result ≡ plans.exchange_refusal (world_seen (P.state plant.now) config.now q events).control r server.0 (model.members_in (model.session_in ss.now.sessions s.0)) }
+    ensures running { OnNone result ((P.state plant.now).on server.0 ≡ true) }
     ensures number { OnNone result (plans.is_idle x.now.phase ≡ true → x.now.number + 1 < 4294967296) }
     ensures calm { is_stop result ≡ false }
 {
-    if let Some(why) = off_refusal(p, c, x.server) {
+    if let Some(why) = off_refusal(plant, config, x.server) {
         return Some(why);
     }
     if let Some(why) = phase_refusal(ss, s, server, x) {
         return Some(why);
     }
-    if let Some(why) = off_refusal(p, c, server) {
+    if let Some(why) = off_refusal(plant, config, server) {
         return Some(why);
     }
-    apart_refusal(c, x.server, server)
+    apart_refusal(config, x.server, server)
 }
 
 /// The order that the server carries out: the one that it is owed, or where no attempt goes on the first one of the next.
@@ -137,37 +137,37 @@ fn reply_if(ss: &mut Sessions, s: SessionId, server: ServerId, y: Reply, on: boo
 
 /// The server carries out the order, and the master may learn of its reply.
 fn exchange_order<P: Plant>(
-    p: &mut P,
-    c: &Config,
-    j: &mut Journal,
+    plant: &mut P,
+    config: &Config,
+    journal: &mut Journal,
     ss: &mut Sessions,
     s: SessionId,
     server: ServerId,
     order: Order,
     reply: bool,
 ) -> Result<(), Refusal>
-    requires rest { IsAtRest (P.state p.old) c.now }
-    requires fit { RelationsFit (P.state p.old) c.now }
-    requires aside { AsideFits (P.state p.old) c.now }
-    requires members { AreReady (P.state p.old) c.now (model.members_in (model.session_in ss.old.sessions s.0)) }
-    requires running { (P.state p.old).on server.0 ≡ true }
+    requires rest { IsAtRest (P.state plant.old) config.now }
+    requires fit { RelationsFit (P.state plant.old) config.now }
+    requires aside { AsideFits (P.state plant.old) config.now }
+    requires members { AreReady (P.state plant.old) config.now (model.members_in (model.session_in ss.old.sessions s.0)) }
+    requires running { (P.state plant.old).on server.0 ≡ true }
     requires low { server.0 < 8 }
     requires few { length (model.members_in (model.session_in ss.old.sessions s.0)) ≤ 64 }
-    requires may { (r : Rest) × MayExchange (world_seen (P.state p.old) c.now (with_sessions ss.old.sessions r) j.old.events) s.0 server.0 (master.order_of order) }
-    requires room { length (model.members_in (model.session_in ss.old.sessions s.0)) + 2 ≤ j.old.spare }
-    ensures carried { (r : Rest) → PlanEnds (armed_in (P.state p.old)) (world_seen (P.state p.old) c.now (with_sessions ss.old.sessions r) j.old.events)
+    requires may { (r : Rest) × MayExchange (world_seen (P.state plant.old) config.now (with_sessions ss.old.sessions r) journal.old.events) s.0 server.0 (master.order_of order) }
+    requires room { length (model.members_in (model.session_in ss.old.sessions s.0)) + 2 ≤ journal.old.spare }
+    ensures carried { (r : Rest) → PlanEnds (armed_in (P.state plant.old)) (world_seen (P.state plant.old) config.now (with_sessions ss.old.sessions r) journal.old.events)
         (plans.exchange_done s.0 server.0 reply (members_on server.0 (model.members_in (model.session_in ss.old.sessions s.0))) (Some (master.order_of order)))
-        (world_seen (P.state p.new) c.now (with_sessions ss.new.sessions r) j.new.events) (answer_of result s.0 (world_seen (P.state p.new) c.now (with_sessions ss.new.sessions r) j.new.events).control) }
-    ensures rest { IsAtRest (P.state p.new) c.now }
-    ensures fit { RelationsFit (P.state p.new) c.now }
-    ensures aside { AsideFits (P.state p.new) c.now }
-    ensures unarmed { (q : ℕ) → (P.state p.old).read_fuse q ≡ None → (P.state p.new).read_fuse q ≡ None }
-    ensures faults { Counted (is_stop (refusal_of result)) (P.state p.old).faults (P.state p.new).faults }
-    ensures on { OnOk result ((P.state p.new).on ≡ (P.state p.old).on) }
-    ensures room { j.old.spare ≤ j.new.spare + (length (model.members_in (model.session_in ss.old.sessions s.0)) + 2) }
-    ensures spare { length j.new.events + j.new.spare ≡ length j.old.events + j.old.spare }
+        (world_seen (P.state plant.new) config.now (with_sessions ss.new.sessions r) journal.new.events) (exchange_answer result s.0 (world_seen (P.state plant.new) config.now (with_sessions ss.new.sessions r) journal.new.events).control) }
+    ensures rest { IsAtRest (P.state plant.new) config.now }
+    ensures fit { RelationsFit (P.state plant.new) config.now }
+    ensures aside { AsideFits (P.state plant.new) config.now }
+    ensures unarmed { (q : ℕ) → (P.state plant.old).read_fuse q ≡ None → (P.state plant.new).read_fuse q ≡ None }
+    ensures faults { Counted (is_stop (refusal_of result)) (P.state plant.old).faults (P.state plant.new).faults }
+    ensures on { OnOk result ((P.state plant.new).on ≡ (P.state plant.old).on) }
+    ensures room { journal.old.spare ≤ journal.new.spare + (length (model.members_in (model.session_in ss.old.sessions s.0)) + 2) }
+    ensures spare { length journal.new.events + journal.new.spare ≡ length journal.old.events + journal.old.spare }
 {
-    match carry_out(p, c, j, ss, s, server, order) {
+    match carry_out(plant, config, journal, ss, s, server, order) {
         Ok(y) => {
             reply_if(ss, s, server, y, reply);
             Ok(())
@@ -186,49 +186,49 @@ fn exchange_order<P: Plant>(
 /// of a member whose secondary isn't its primary's, as after a takeover, stays as it is. The journal needs room
 /// for an event for each of the session's members, which are at most 64, and two more.
 pub fn exchange<P: Plant>(
-    p: &mut P,
-    c: &Config,
-    j: &mut Journal,
+    plant: &mut P,
+    config: &Config,
+    journal: &mut Journal,
     ss: &mut Sessions,
     s: SessionId,
     server: ServerId,
     reply: bool,
 ) -> Result<(), Refusal>
-    requires rest { IsAtRest (P.state p.old) c.now }
-    requires fit { RelationsFit (P.state p.old) c.now }
-    requires aside { AsideFits (P.state p.old) c.now }
-    requires members { AreReady (P.state p.old) c.now (model.members_in (model.session_in ss.old.sessions s.0)) }
+    requires rest { IsAtRest (P.state plant.old) config.now }
+    requires fit { RelationsFit (P.state plant.old) config.now }
+    requires aside { AsideFits (P.state plant.old) config.now }
+    requires members { AreReady (P.state plant.old) config.now (model.members_in (model.session_in ss.old.sessions s.0)) }
     requires low { server.0 < 8 }
-    requires known { server.0 < length c.now.names }
+    requires known { server.0 < length config.now.names }
     requires few { length (model.members_in (model.session_in ss.old.sessions s.0)) ≤ 64 }
-    requires near { IfSome (model.mirror_in (model.session_in ss.old.sessions s.0)) (IsNear (length c.now.names)) }
+    requires near { IfSome (model.mirror_in (model.session_in ss.old.sessions s.0)) (IsNear (length config.now.names)) }
     requires may { (r : Rest) × ((o : phases.Order)
-        → refusal_in (world_seen (P.state p.old) c.now (with_sessions ss.old.sessions r) j.old.events).control (model.mirror_in (model.session_in ss.old.sessions s.0)) server.0 (model.members_in (model.session_in ss.old.sessions s.0)) ≡ None
-        → order_in (model.mirror_in (model.session_in ss.old.sessions s.0)) server.0 ≡ Some o → MayExchange (world_seen (P.state p.old) c.now (with_sessions ss.old.sessions r) j.old.events) s.0 server.0 o) }
-    requires room { length (model.members_in (model.session_in ss.old.sessions s.0)) + 2 ≤ j.old.spare }
-    ensures carried { (r : Rest) → PlanEnds (armed_in (P.state p.old)) (world_seen (P.state p.old) c.now (with_sessions ss.old.sessions r) j.old.events)
-        (plans.exchange_on (world_seen (P.state p.old) c.now (with_sessions ss.old.sessions r) j.old.events).control s.0 (model.mirror_in (model.session_in ss.old.sessions s.0)) server.0 reply (model.members_in (model.session_in ss.old.sessions s.0)))
-        (world_seen (P.state p.new) c.now (with_sessions ss.new.sessions r) j.new.events) (answer_of result s.0 (world_seen (P.state p.new) c.now (with_sessions ss.new.sessions r) j.new.events).control) }
-    ensures refused { (r : Rest) (why : Refusal) → refusal_in (world_seen (P.state p.old) c.now (with_sessions ss.old.sessions r) j.old.events).control (model.mirror_in (model.session_in ss.old.sessions s.0)) server.0 (model.members_in (model.session_in ss.old.sessions s.0)) ≡ Some why
-        → (refusal_of result ≡ Some why) × (P.state p.new ≡ P.state p.old) × (j.new ≡ j.old) × (ss.new ≡ ss.old) }
-    ensures leaves { (r : Rest) (x : Session) (m : Member) → Sound (world_seen (P.state p.old) c.now (with_sessions ss.old.sessions r) j.old.events) → In x ss.old.sessions → In m x.members
-        → is_secondary_of m.a.0 (fields_at (world_seen (P.state p.old) c.now (with_sessions ss.old.sessions r) j.old.events).control m.b.0) ≡ false
-        → IsLeft (world_seen (P.state p.old) c.now (with_sessions ss.old.sessions r) j.old.events) (world_seen (P.state p.new) c.now (with_sessions ss.new.sessions r) j.new.events) m }
-    ensures rest { IsAtRest (P.state p.new) c.now }
-    ensures fit { RelationsFit (P.state p.new) c.now }
-    ensures aside { AsideFits (P.state p.new) c.now }
-    ensures unarmed { (q : ℕ) → (P.state p.old).read_fuse q ≡ None → (P.state p.new).read_fuse q ≡ None }
-    ensures faults { Counted (is_stop (refusal_of result)) (P.state p.old).faults (P.state p.new).faults }
-    ensures on { OnOk result ((P.state p.new).on ≡ (P.state p.old).on) }
-    ensures room { j.old.spare ≤ j.new.spare + (length (model.members_in (model.session_in ss.old.sessions s.0)) + 2) }
-    ensures spare { length j.new.events + j.new.spare ≡ length j.old.events + j.old.spare }
+        → refusal_in (world_seen (P.state plant.old) config.now (with_sessions ss.old.sessions r) journal.old.events).control (model.mirror_in (model.session_in ss.old.sessions s.0)) server.0 (model.members_in (model.session_in ss.old.sessions s.0)) ≡ None
+        → order_in (model.mirror_in (model.session_in ss.old.sessions s.0)) server.0 ≡ Some o → MayExchange (world_seen (P.state plant.old) config.now (with_sessions ss.old.sessions r) journal.old.events) s.0 server.0 o) }
+    requires room { length (model.members_in (model.session_in ss.old.sessions s.0)) + 2 ≤ journal.old.spare }
+    ensures carried { (r : Rest) → PlanEnds (armed_in (P.state plant.old)) (world_seen (P.state plant.old) config.now (with_sessions ss.old.sessions r) journal.old.events)
+        (plans.exchange_on (world_seen (P.state plant.old) config.now (with_sessions ss.old.sessions r) journal.old.events).control s.0 (model.mirror_in (model.session_in ss.old.sessions s.0)) server.0 reply (model.members_in (model.session_in ss.old.sessions s.0)))
+        (world_seen (P.state plant.new) config.now (with_sessions ss.new.sessions r) journal.new.events) (exchange_answer result s.0 (world_seen (P.state plant.new) config.now (with_sessions ss.new.sessions r) journal.new.events).control) }
+    ensures refused { (r : Rest) (why : Refusal) → refusal_in (world_seen (P.state plant.old) config.now (with_sessions ss.old.sessions r) journal.old.events).control (model.mirror_in (model.session_in ss.old.sessions s.0)) server.0 (model.members_in (model.session_in ss.old.sessions s.0)) ≡ Some why
+        → (refusal_of result ≡ Some why) × (P.state plant.new ≡ P.state plant.old) × (journal.new ≡ journal.old) × (ss.new ≡ ss.old) }
+    ensures leaves { (r : Rest) (x : Session) (m : Member) → Sound (world_seen (P.state plant.old) config.now (with_sessions ss.old.sessions r) journal.old.events) → In x ss.old.sessions → In m x.members
+        → is_secondary_of m.a.0 (fields_at (world_seen (P.state plant.old) config.now (with_sessions ss.old.sessions r) journal.old.events).control m.b.0) ≡ false
+        → IsLeft (world_seen (P.state plant.old) config.now (with_sessions ss.old.sessions r) journal.old.events) (world_seen (P.state plant.new) config.now (with_sessions ss.new.sessions r) journal.new.events) m }
+    ensures rest { IsAtRest (P.state plant.new) config.now }
+    ensures fit { RelationsFit (P.state plant.new) config.now }
+    ensures aside { AsideFits (P.state plant.new) config.now }
+    ensures unarmed { (q : ℕ) → (P.state plant.old).read_fuse q ≡ None → (P.state plant.new).read_fuse q ≡ None }
+    ensures faults { Counted (is_stop (refusal_of result)) (P.state plant.old).faults (P.state plant.new).faults }
+    ensures on { OnOk result ((P.state plant.new).on ≡ (P.state plant.old).on) }
+    ensures room { journal.old.spare ≤ journal.new.spare + (length (model.members_in (model.session_in ss.old.sessions s.0)) + 2) }
+    ensures spare { length journal.new.events + journal.new.spare ≡ length journal.old.events + journal.old.spare }
 {
     let Some(x) = Look::at(ss, s, server) else {
         return Err(Refusal::OutOfOrder {
             phase: PhaseName::None,
         });
     };
-    if let Some(why) = exchange_refusal(p, c, ss, s, server, &x) {
+    if let Some(why) = exchange_refusal(plant, config, ss, s, server, &x) {
         return Err(why);
     }
     let Some(order) = order_of(&x) else {
@@ -236,5 +236,5 @@ pub fn exchange<P: Plant>(
             phase: PhaseName::None,
         });
     };
-    exchange_order(p, c, j, ss, s, server, order, reply)
+    exchange_order(plant, config, journal, ss, s, server, order, reply)
 }

@@ -49,40 +49,40 @@ fn begin_if(ss: &mut Sessions, s: SessionId, begins: bool)
 /// Holds the primary of a member for attempt n of a session, whose number is the session's last from the first hold on: where
 /// that hold counts as done, the session's attempt has begun.
 pub(crate) fn hold_member<P: Plant>(
-    p: &mut P,
-    c: &Config,
-    j: &mut Journal,
+    plant: &mut P,
+    config: &Config,
+    journal: &mut Journal,
     ss: &mut Sessions,
     s: SessionId,
     m: &Member,
     n: u32,
 ) -> Result<(), Refusal>
-    requires rest { IsAtRest (P.state p.old) c.now }
-    requires fit { RelationsFit (P.state p.old) c.now }
-    requires ready { IsMemberReady (P.state p.old) c.now m.now }
-    requires running { (P.state p.old).on m.now.server.0 ≡ true }
+    requires rest { IsAtRest (P.state plant.old) config.now }
+    requires fit { RelationsFit (P.state plant.old) config.now }
+    requires ready { IsMemberReady (P.state plant.old) config.now m.now }
+    requires running { (P.state plant.old).on m.now.server.0 ≡ true }
     requires begins { MayBegin ss.old.sessions s.0 n }
-    requires room { to_begin ss.old.sessions s.0 n + 2 ≤ j.old.spare }
-    ensures leads { OnOk result ((r : Rest) → Leads (world_seen (P.state p.old) c.now (with_sessions ss.old.sessions r) j.old.events) (hold_entries s.0 m.now.a.0 m.now.b.0 n) (world_seen (P.state p.new) c.now (with_sessions ss.new.sessions r) j.new.events)) }
-    ensures fails { OnErr result ((r : Rest) → Fails (armed_in (P.state p.old)) (world_seen (P.state p.old) c.now (with_sessions ss.old.sessions r) j.old.events) (hold_entries s.0 m.now.a.0 m.now.b.0 n) (world_seen (P.state p.new) c.now (with_sessions ss.new.sessions r) j.new.events) (refusal_of result)) }
+    requires room { to_begin ss.old.sessions s.0 n + 2 ≤ journal.old.spare }
+    ensures leads { OnOk result ((r : Rest) → Leads (world_seen (P.state plant.old) config.now (with_sessions ss.old.sessions r) journal.old.events) (hold_entries s.0 m.now.a.0 m.now.b.0 n) (world_seen (P.state plant.new) config.now (with_sessions ss.new.sessions r) journal.new.events)) }
+    ensures fails { OnErr result ((r : Rest) → Fails (armed_in (P.state plant.old)) (world_seen (P.state plant.old) config.now (with_sessions ss.old.sessions r) journal.old.events) (hold_entries s.0 m.now.a.0 m.now.b.0 n) (world_seen (P.state plant.new) config.now (with_sessions ss.new.sessions r) journal.new.events) (refusal_of result)) }
     ensures may_begin { MayBegin ss.new.sessions s.0 n }
     ensures members { model.members_in (model.session_in ss.new.sessions s.0) ≡ model.members_in (model.session_in ss.old.sessions s.0) }
-    ensures begun { OnOk result (records n (volume_seen (P.state p.old) c.now m.now.a.0).fields ≡ false → nat_lt (last_in ss.old.sessions s.0) n ≡ true → ss.new.sessions ≡ begun_in true ss.old.sessions s.0) }
+    ensures begun { OnOk result (records n (volume_seen (P.state plant.old) config.now m.now.a.0).fields ≡ false → nat_lt (last_in ss.old.sessions s.0) n ≡ true → ss.new.sessions ≡ begun_in true ss.old.sessions s.0) }
     ensures kept { nat_lt (last_in ss.old.sessions s.0) n ≡ false → ss.new.sessions ≡ ss.old.sessions }
-    ensures rest { IsAtRest (P.state p.new) c.now }
-    ensures fit { RelationsFit (P.state p.new) c.now }
-    ensures aside { AsideFits (P.state p.old) c.now → AsideFits (P.state p.new) c.now }
-    ensures unarmed { (q : ℕ) → (P.state p.old).read_fuse q ≡ None → (P.state p.new).read_fuse q ≡ None }
-    ensures faults { Counted (is_stop (refusal_of result)) (P.state p.old).faults (P.state p.new).faults }
-    ensures on { OnOk result ((P.state p.new).on ≡ (P.state p.old).on) }
-    ensures room { j.old.spare ≤ j.new.spare + (to_begin ss.old.sessions s.0 n + 2) }
-    ensures room_left { OnOk result (j.old.spare + to_begin ss.new.sessions s.0 n ≤ j.new.spare + (1 + to_begin ss.old.sessions s.0 n)) }
-    ensures spare { length j.new.events + j.new.spare ≡ length j.old.events + j.old.spare }
+    ensures rest { IsAtRest (P.state plant.new) config.now }
+    ensures fit { RelationsFit (P.state plant.new) config.now }
+    ensures aside { AsideFits (P.state plant.old) config.now → AsideFits (P.state plant.new) config.now }
+    ensures unarmed { (q : ℕ) → (P.state plant.old).read_fuse q ≡ None → (P.state plant.new).read_fuse q ≡ None }
+    ensures faults { Counted (is_stop (refusal_of result)) (P.state plant.old).faults (P.state plant.new).faults }
+    ensures on { OnOk result ((P.state plant.new).on ≡ (P.state plant.old).on) }
+    ensures room { journal.old.spare ≤ journal.new.spare + (to_begin ss.old.sessions s.0 n + 2) }
+    ensures room_left { OnOk result (journal.old.spare + to_begin ss.new.sessions s.0 n ≤ journal.new.spare + (1 + to_begin ss.old.sessions s.0 n)) }
+    ensures spare { length journal.new.events + journal.new.spare ≡ length journal.old.events + journal.old.spare }
 {
     let first = is_first(ss, s, n);
-    let before = slot(p, c, m.a);
-    let result = hold_and_swap(p, c, j, s, m, n, first);
-    let after = slot(p, c, m.a);
+    let before = slot(plant, config, m.a);
+    let result = hold_and_swap(plant, config, journal, s, m, n, first);
+    let after = slot(plant, config, m.a);
     begin_if(ss, s, has_begun(first, before, after));
     result
 }

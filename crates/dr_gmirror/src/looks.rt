@@ -90,26 +90,26 @@ pub(crate) fn idle_refusal(paused: bool, number: u32, member: bool) -> Option<Re
 }
 
 /// Why nothing can be asked of a server: it is off.
-pub(crate) fn off_refusal<P: Plant>(p: &P, c: &Config, server: ServerId) -> Option<Refusal>
+pub(crate) fn off_refusal<P: Plant>(plant: &P, config: &Config, server: ServerId) -> Option<Refusal>
     requires { server.0 < 8 }
-    ensures refusal { (r : Rest) (events : List Event) → result ≡ plans.off_refusal (world_seen (P.state p.now) c.now r events).control server.0 }
-    ensures running { OnNone result ((P.state p.now).on server.0 ≡ true) }
+    ensures refusal { (r : Rest) (events : List Event) → result ≡ plans.off_refusal (world_seen (P.state plant.now) config.now r events).control server.0 }
+    ensures running { OnNone result ((P.state plant.now).on server.0 ≡ true) }
     ensures calm { is_stop result ≡ false }
 {
-    if !p.is_on(server.0) {
+    if !plant.is_on(server.0) {
         return Some(Refusal::ServerOff { server });
     }
     None
 }
 
 /// Why two servers don't reach each other: the link between them is down.
-pub(crate) fn apart_refusal(c: &Config, a: ServerId, b: ServerId) -> Option<Refusal>
-    requires first { a.0 < length c.now.names }
-    requires second { b.0 < length c.now.names }
-    ensures refusal { result ≡ (if nat_eq a.0 b.0 || link_up c.now a.0 b.0 then None else Some (link_down a.0 b.0)) }
+pub(crate) fn apart_refusal(config: &Config, a: ServerId, b: ServerId) -> Option<Refusal>
+    requires first { a.0 < length config.now.names }
+    requires second { b.0 < length config.now.names }
+    ensures refusal { result ≡ (if nat_eq a.0 b.0 || link_up config.now a.0 b.0 then None else Some (link_down a.0 b.0)) }
     ensures calm { is_stop result ≡ false }
 {
-    if a.0 == b.0 || c.link_up(a, b) {
+    if a.0 == b.0 || config.link_up(a, b) {
         return None;
     }
     Some(Refusal::LinkDown { a, b })

@@ -47,42 +47,42 @@ fn reply_by(waits: bool) -> Reply
 /// Fails where a member refuses, or where a server stops in a move or goes off at a read; what was done by then stays. The
 /// journal needs room for an event for each of the session's members and two more; a report speaks of at most 64 members.
 pub fn carry_out<P: Plant>(
-    p: &mut P,
-    c: &Config,
-    j: &mut Journal,
+    plant: &mut P,
+    config: &Config,
+    journal: &mut Journal,
     ss: &mut Sessions,
     s: SessionId,
     server: ServerId,
     order: Order,
 ) -> Result<Reply, Refusal>
-    requires rest { IsAtRest (P.state p.old) c.now }
-    requires fit { RelationsFit (P.state p.old) c.now }
-    requires aside { AsideFits (P.state p.old) c.now }
-    requires members { AreReady (P.state p.old) c.now (model.members_in (model.session_in ss.old.sessions s.0)) }
-    requires running { (P.state p.old).on server.0 ≡ true }
+    requires rest { IsAtRest (P.state plant.old) config.now }
+    requires fit { RelationsFit (P.state plant.old) config.now }
+    requires aside { AsideFits (P.state plant.old) config.now }
+    requires members { AreReady (P.state plant.old) config.now (model.members_in (model.session_in ss.old.sessions s.0)) }
+    requires running { (P.state plant.old).on server.0 ≡ true }
     requires begins { MayOrder (work_of order.kind) ss.old.sessions s.0 order.n }
     requires few { is_report (work_of order.kind) ≡ true → length (model.members_in (model.session_in ss.old.sessions s.0)) ≤ 64 }
-    requires room { length (model.members_in (model.session_in ss.old.sessions s.0)) + 2 ≤ j.old.spare }
-    ensures carried { (r : Rest) → Ends (armed_in (P.state p.old)) (world_seen (P.state p.new) c.now (with_sessions ss.new.sessions r) j.new.events) (refusal_of result) (world_seen (P.state p.old) c.now (with_sessions ss.old.sessions r) j.old.events)
+    requires room { length (model.members_in (model.session_in ss.old.sessions s.0)) + 2 ≤ journal.old.spare }
+    ensures carried { (r : Rest) → Ends (armed_in (P.state plant.old)) (world_seen (P.state plant.new) config.now (with_sessions ss.new.sessions r) journal.new.events) (refusal_of result) (world_seen (P.state plant.old) config.now (with_sessions ss.old.sessions r) journal.old.events)
         (order_entries (work_of order.kind) s.0 order.n (members_on server.0 (model.members_in (model.session_in ss.old.sessions s.0)))) }
-    ensures leads { OnOk result ((r : Rest) → Leads (world_seen (P.state p.old) c.now (with_sessions ss.old.sessions r) j.old.events) (order_entries (work_of order.kind) s.0 order.n (members_on server.0 (model.members_in (model.session_in ss.old.sessions s.0))))
-        (world_seen (P.state p.new) c.now (with_sessions ss.new.sessions r) j.new.events)) }
-    ensures fails { OnErr result ((r : Rest) → Fails (armed_in (P.state p.old)) (world_seen (P.state p.old) c.now (with_sessions ss.old.sessions r) j.old.events) (order_entries (work_of order.kind) s.0 order.n (members_on server.0 (model.members_in (model.session_in ss.old.sessions s.0))))
-        (world_seen (P.state p.new) c.now (with_sessions ss.new.sessions r) j.new.events) (refusal_of result)) }
-    ensures reply { IfOk result (λ y. (r : Rest) (events : List Event) → reply_of y ≡ reply_after s.0 (work_of order.kind) (members_on server.0 (model.members_in (model.session_in ss.old.sessions s.0))) (world_seen (P.state p.new) c.now r events).control) }
+    ensures leads { OnOk result ((r : Rest) → Leads (world_seen (P.state plant.old) config.now (with_sessions ss.old.sessions r) journal.old.events) (order_entries (work_of order.kind) s.0 order.n (members_on server.0 (model.members_in (model.session_in ss.old.sessions s.0))))
+        (world_seen (P.state plant.new) config.now (with_sessions ss.new.sessions r) journal.new.events)) }
+    ensures fails { OnErr result ((r : Rest) → Fails (armed_in (P.state plant.old)) (world_seen (P.state plant.old) config.now (with_sessions ss.old.sessions r) journal.old.events) (order_entries (work_of order.kind) s.0 order.n (members_on server.0 (model.members_in (model.session_in ss.old.sessions s.0))))
+        (world_seen (P.state plant.new) config.now (with_sessions ss.new.sessions r) journal.new.events) (refusal_of result)) }
+    ensures reply { IfOk result (λ y. (r : Rest) (events : List Event) → reply_of y ≡ reply_after s.0 (work_of order.kind) (members_on server.0 (model.members_in (model.session_in ss.old.sessions s.0))) (world_seen (P.state plant.new) config.now r events).control) }
     ensures count { IfOk result (λ y. count_in y ≡ members_in_reply (reply_of y)) }
     ensures members { model.members_in (model.session_in ss.new.sessions s.0) ≡ model.members_in (model.session_in ss.old.sessions s.0) }
-    ensures rest { IsAtRest (P.state p.new) c.now }
-    ensures fit { RelationsFit (P.state p.new) c.now }
-    ensures aside { AsideFits (P.state p.new) c.now }
-    ensures unarmed { (q : ℕ) → (P.state p.old).read_fuse q ≡ None → (P.state p.new).read_fuse q ≡ None }
-    ensures faults { Counted (is_stop (refusal_of result)) (P.state p.old).faults (P.state p.new).faults }
-    ensures on { OnOk result ((P.state p.new).on ≡ (P.state p.old).on) }
-    ensures room { j.old.spare ≤ j.new.spare + (length (model.members_in (model.session_in ss.old.sessions s.0)) + 2) }
-    ensures spare { length j.new.events + j.new.spare ≡ length j.old.events + j.old.spare }
+    ensures rest { IsAtRest (P.state plant.new) config.now }
+    ensures fit { RelationsFit (P.state plant.new) config.now }
+    ensures aside { AsideFits (P.state plant.new) config.now }
+    ensures unarmed { (q : ℕ) → (P.state plant.old).read_fuse q ≡ None → (P.state plant.new).read_fuse q ≡ None }
+    ensures faults { Counted (is_stop (refusal_of result)) (P.state plant.old).faults (P.state plant.new).faults }
+    ensures on { OnOk result ((P.state plant.new).on ≡ (P.state plant.old).on) }
+    ensures room { journal.old.spare ≤ journal.new.spare + (length (model.members_in (model.session_in ss.old.sessions s.0)) + 2) }
+    ensures spare { length journal.new.events + journal.new.spare ≡ length journal.old.events + journal.old.spare }
 {
     if is_report(order.kind) {
-        return match settle(p, c, ss, s, server) {
+        return match settle(plant, config, ss, s, server) {
             Ok(y) => Ok(Reply::Report(y)),
             Err(why) => Err(why),
         };
@@ -90,7 +90,9 @@ pub fn carry_out<P: Plant>(
     let mut waits = false;
     for at in 0..ss.member_count(s) {
         let m = ss.member_at(s, at).unwrap();
-        let wait = order_on(p, c, j, ss, s, server, &m, order.kind, order.n)?;
+        let wait = order_on(
+            plant, config, journal, ss, s, server, &m, order.kind, order.n,
+        )?;
         waits |= wait;
     }
     Ok(reply_by(waits))

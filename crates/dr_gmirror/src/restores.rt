@@ -12,7 +12,7 @@ ghost use Rattle.dr_model.specs.Sessions as model;
 ghost use Rattle.dr_volume.specs.View.{Rest};
 ghost use Rattle.dr_flash.specs.Checks.{OnNone, is_stop};
 ghost use Rattle.dr_flash.specs.Here.{world_seen};
-ghost use Rattle.dr_incr.specs.Steps.{number_of};
+ghost use Rattle.dr_incr.specs.Steps.{volume_number};
 ghost use Rattle.dr_gmirror.specs.Orders.{AreReady, AreRunning, with_sessions};
 
 use crate::settling::{no_report, note_if};
@@ -25,48 +25,48 @@ use dr_session::Sessions;
 use dr_volume::peek_fields;
 
 /// What the targets of all members of a session show that count in it, in order, looked at whether or not their servers are on.
-fn report_all<P: Plant>(p: &P, c: &Config, ss: &Sessions, s: SessionId) -> Report
-    requires stands { StandsFor c.now (P.state p.now) }
-    requires members { AreReady (P.state p.now) c.now (model.members_in (model.session_in ss.now.sessions s.0)) }
+fn report_all<P: Plant>(plant: &P, config: &Config, ss: &Sessions, s: SessionId) -> Report
+    requires stands { StandsFor config.now (P.state plant.now) }
+    requires members { AreReady (P.state plant.now) config.now (model.members_in (model.session_in ss.now.sessions s.0)) }
     requires few { length (model.members_in (model.session_in ss.now.sessions s.0)) ≤ 64 }
-    ensures shown { (r : Rest) (events : List Event) → shown_in result ≡ shown_by_members s.0 (model.members_in (model.session_in ss.now.sessions s.0)) (world_seen (P.state p.now) c.now r events).control }
+    ensures shown { (r : Rest) (events : List Event) → shown_in result ≡ shown_by_members s.0 (model.members_in (model.session_in ss.now.sessions s.0)) (world_seen (P.state plant.now) config.now r events).control }
     ensures count { result.count ≤ 64 }
 {
     let mut report = no_report();
     for at in 0..ss.member_count(s) {
         let m = ss.member_at(s, at).unwrap();
-        note_if(&mut report, s, &peek_fields(p, c, m.c));
+        note_if(&mut report, s, &peek_fields(plant, config, m.c));
     }
     report
 }
 
 /// What recovery would decide over a session, by what its members' targets show. They are looked at whether or not their servers
 /// are on. A session has at most 64 members.
-pub fn decide_over<P: Plant>(p: &P, c: &Config, ss: &Sessions, s: SessionId) -> Decision
-    requires stands { StandsFor c.now (P.state p.now) }
-    requires members { AreReady (P.state p.now) c.now (model.members_in (model.session_in ss.now.sessions s.0)) }
+pub fn decide_over<P: Plant>(plant: &P, config: &Config, ss: &Sessions, s: SessionId) -> Decision
+    requires stands { StandsFor config.now (P.state plant.now) }
+    requires members { AreReady (P.state plant.now) config.now (model.members_in (model.session_in ss.now.sessions s.0)) }
     requires few { length (model.members_in (model.session_in ss.now.sessions s.0)) ≤ 64 }
-    ensures decides { (r : Rest) (events : List Event) → result ≡ decision (shown_by_members s.0 (model.members_in (model.session_in ss.now.sessions s.0)) (world_seen (P.state p.now) c.now r events).control) }
+    ensures decides { (r : Rest) (events : List Event) → result ≡ decision (shown_by_members s.0 (model.members_in (model.session_in ss.now.sessions s.0)) (world_seen (P.state plant.now) config.now r events).control) }
 {
-    report_all(p, c, ss, s).decision()
+    report_all(plant, config, ss, s).decision()
 }
 
 /// The first secondary of the session's members whose server is off, if there is one.
 pub fn secondary_refusal<P: Plant>(
-    p: &P,
-    c: &Config,
+    plant: &P,
+    config: &Config,
     ss: &Sessions,
     s: SessionId,
 ) -> Option<Refusal>
-    requires members { AreReady (P.state p.now) c.now (model.members_in (model.session_in ss.now.sessions s.0)) }
-    ensures refusal { (r : Rest) (events : List Event) → result ≡ plans.secondary_refusal (model.members_in (model.session_in ss.now.sessions s.0)) (world_seen (P.state p.now) c.now r events).control }
-    ensures running { OnNone result (AreRunning (P.state p.now) c.now (model.members_in (model.session_in ss.now.sessions s.0))) }
+    requires members { AreReady (P.state plant.now) config.now (model.members_in (model.session_in ss.now.sessions s.0)) }
+    ensures refusal { (r : Rest) (events : List Event) → result ≡ plans.secondary_refusal (model.members_in (model.session_in ss.now.sessions s.0)) (world_seen (P.state plant.now) config.now r events).control }
+    ensures running { OnNone result (AreRunning (P.state plant.now) config.now (model.members_in (model.session_in ss.now.sessions s.0))) }
     ensures calm { is_stop result ≡ false }
 {
     for at in 0..ss.member_count(s) {
         let m = ss.member_at(s, at).unwrap();
-        let server = server_of(c, m.b);
-        if !p.is_on(server.0) {
+        let server = server_of(config, m.b);
+        if !plant.is_on(server.0) {
             return Some(Refusal::ServerOff { server });
         }
     }
@@ -86,23 +86,28 @@ fn forbidden_unless_nothing(decided: Decision) -> Option<Refusal>
 
 /// Why a target can't be restored as far as sessions go: it is a member's, and a secondary of that session's members is on a server
 /// that is off, or something is still to be done with their targets. None for a volume that is no member's target.
-pub fn restore_refusal<P: Plant>(p: &P, c: &Config, ss: &Sessions, t: VolumeId) -> Option<Refusal>
-    requires stands { StandsFor c.now (P.state p.now) }
-    requires defined { IsSome (place_of c.now t.0) }
-    requires members { (s : ℕ) → AreReady (P.state p.now) c.now (model.members_in (model.session_in ss.now.sessions s)) }
+pub fn restore_refusal<P: Plant>(
+    plant: &P,
+    config: &Config,
+    ss: &Sessions,
+    t: VolumeId,
+) -> Option<Refusal>
+    requires stands { StandsFor config.now (P.state plant.now) }
+    requires defined { IsSome (place_of config.now t.0) }
+    requires members { (s : ℕ) → AreReady (P.state plant.now) config.now (model.members_in (model.session_in ss.now.sessions s)) }
     requires few { (s : ℕ) → length (model.members_in (model.session_in ss.now.sessions s)) ≤ 64 }
-    ensures refusal { (r : Rest) (events : List Event) → plans.restore_refusal t.0 (world_seen (P.state p.now) c.now (with_sessions ss.now.sessions r) events).control ≡ result }
+    ensures refusal { (r : Rest) (events : List Event) → plans.restore_refusal t.0 (world_seen (P.state plant.now) config.now (with_sessions ss.now.sessions r) events).control ≡ result }
     ensures calm { is_stop result ≡ false }
 {
-    let fields = peek_fields(p, c, t);
+    let fields = peek_fields(plant, config, t);
     if !fields.member {
         return None;
     }
     let s = SessionId(fields.session);
-    if let Some(why) = secondary_refusal(p, c, ss, s) {
+    if let Some(why) = secondary_refusal(plant, config, ss, s) {
         return Some(why);
     }
-    forbidden_unless_nothing(decide_over(p, c, ss, s))
+    forbidden_unless_nothing(decide_over(plant, config, ss, s))
 }
 
 /// The first of the session's members with that target, if there is one.
@@ -119,12 +124,12 @@ pub fn member_with(ss: &Sessions, s: SessionId, t: VolumeId) -> Option<Member>
 }
 
 /// The primary of the member that a restore of t takes out of its session's count, where t is a member's target.
-pub fn leaving<P: Plant>(p: &P, c: &Config, ss: &Sessions, t: VolumeId) -> Option<VolumeId>
-    requires stands { StandsFor c.now (P.state p.now) }
-    requires defined { IsSome (place_of c.now t.0) }
-    ensures { (r : Rest) (events : List Event) → plans.left_by (world_seen (P.state p.now) c.now (with_sessions ss.now.sessions r) events).control t.0 ≡ number_of result }
+pub fn leaving<P: Plant>(plant: &P, config: &Config, ss: &Sessions, t: VolumeId) -> Option<VolumeId>
+    requires stands { StandsFor config.now (P.state plant.now) }
+    requires defined { IsSome (place_of config.now t.0) }
+    ensures { (r : Rest) (events : List Event) → plans.left_by (world_seen (P.state plant.now) config.now (with_sessions ss.now.sessions r) events).control t.0 ≡ volume_number result }
 {
-    let fields = peek_fields(p, c, t);
+    let fields = peek_fields(plant, config, t);
     if !fields.member {
         return None;
     }

@@ -36,38 +36,38 @@ fn is_drained(f: &Fields) -> bool
 
 /// Seals the secondary of a member whose primary has nothing to send, unless it is sealed so already.
 fn seal_drained<P: Plant>(
-    p: &mut P,
-    c: &Config,
-    j: &mut Journal,
+    plant: &mut P,
+    config: &Config,
+    journal: &mut Journal,
     s: SessionId,
     m: &Member,
     n: u32,
 ) -> Result<(), Refusal>
-    requires rest { IsAtRest (P.state p.old) c.now }
-    requires fit { RelationsFit (P.state p.old) c.now }
-    requires primary { IsSome (place_of c.now m.now.a.0) }
-    requires secondary { IsSome (place_of c.now m.now.b.0) }
-    requires drained { is_bare (volume_seen (P.state p.old) c.now m.now.a.0).fields.out_of_sync ≡ true }
-    requires room { 2 ≤ j.old.spare }
-    ensures leads { OnOk result ((r : Rest) → Leads (world_seen (P.state p.old) c.now r j.old.events) (refuse_if (seal_refusal m.now.a.0 m.now.b.0) ∷ seal_on s.0 m.now.a.0 m.now.b.0 n ∷ []) (world_seen (P.state p.new) c.now r j.new.events)) }
-    ensures fails { OnErr result ((r : Rest) → Fails (armed_in (P.state p.old)) (world_seen (P.state p.old) c.now r j.old.events) (refuse_if (seal_refusal m.now.a.0 m.now.b.0) ∷ seal_on s.0 m.now.a.0 m.now.b.0 n ∷ []) (world_seen (P.state p.new) c.now r j.new.events) (refusal_of result)) }
-    ensures unchanged { is_stop (refusal_of result) ≡ false → OnErr result ((P.state p.new ≡ P.state p.old) × (j.new ≡ j.old)) }
-    ensures rest { IsAtRest (P.state p.new) c.now }
-    ensures fit { RelationsFit (P.state p.new) c.now }
-    ensures aside { AsideFits (P.state p.old) c.now → AsideFits (P.state p.new) c.now }
-    ensures unarmed { (q : ℕ) → (P.state p.old).read_fuse q ≡ None → (P.state p.new).read_fuse q ≡ None }
-    ensures faults { Counted (is_stop (refusal_of result)) (P.state p.old).faults (P.state p.new).faults }
-    ensures kept { OnOk result ((q : ℕ) → sync_seen (P.state p.new) c.now q ≡ sync_seen (P.state p.old) c.now q) }
-    ensures others { OthersStay (P.state p.old) (P.state p.new) c.now m.now.b.0 }
-    ensures on { OnOk result ((P.state p.new).on ≡ (P.state p.old).on) }
-    ensures room { j.old.spare ≤ j.new.spare + 2 }
-    ensures room_left { OnOk result (j.old.spare ≤ j.new.spare + 1) }
-    ensures spare { length j.new.events + j.new.spare ≡ length j.old.events + j.old.spare }
+    requires rest { IsAtRest (P.state plant.old) config.now }
+    requires fit { RelationsFit (P.state plant.old) config.now }
+    requires primary { IsSome (place_of config.now m.now.a.0) }
+    requires secondary { IsSome (place_of config.now m.now.b.0) }
+    requires drained { is_bare (volume_seen (P.state plant.old) config.now m.now.a.0).fields.out_of_sync ≡ true }
+    requires room { 2 ≤ journal.old.spare }
+    ensures leads { OnOk result ((r : Rest) → Leads (world_seen (P.state plant.old) config.now r journal.old.events) (refuse_if (seal_refusal m.now.a.0 m.now.b.0) ∷ seal_on s.0 m.now.a.0 m.now.b.0 n ∷ []) (world_seen (P.state plant.new) config.now r journal.new.events)) }
+    ensures fails { OnErr result ((r : Rest) → Fails (armed_in (P.state plant.old)) (world_seen (P.state plant.old) config.now r journal.old.events) (refuse_if (seal_refusal m.now.a.0 m.now.b.0) ∷ seal_on s.0 m.now.a.0 m.now.b.0 n ∷ []) (world_seen (P.state plant.new) config.now r journal.new.events) (refusal_of result)) }
+    ensures unchanged { is_stop (refusal_of result) ≡ false → OnErr result ((P.state plant.new ≡ P.state plant.old) × (journal.new ≡ journal.old)) }
+    ensures rest { IsAtRest (P.state plant.new) config.now }
+    ensures fit { RelationsFit (P.state plant.new) config.now }
+    ensures aside { AsideFits (P.state plant.old) config.now → AsideFits (P.state plant.new) config.now }
+    ensures unarmed { (q : ℕ) → (P.state plant.old).read_fuse q ≡ None → (P.state plant.new).read_fuse q ≡ None }
+    ensures faults { Counted (is_stop (refusal_of result)) (P.state plant.old).faults (P.state plant.new).faults }
+    ensures kept { OnOk result ((q : ℕ) → sync_seen (P.state plant.new) config.now q ≡ sync_seen (P.state plant.old) config.now q) }
+    ensures others { OthersStay (P.state plant.old) (P.state plant.new) config.now m.now.b.0 }
+    ensures on { OnOk result ((P.state plant.new).on ≡ (P.state plant.old).on) }
+    ensures room { journal.old.spare ≤ journal.new.spare + 2 }
+    ensures room_left { OnOk result (journal.old.spare ≤ journal.new.spare + 1) }
+    ensures spare { length journal.new.events + journal.new.spare ≡ length journal.old.events + journal.old.spare }
 {
-    if let Some(why) = send_refusal(p, c, m.a, m.b) {
+    if let Some(why) = send_refusal(plant, config, m.a, m.b) {
         return Err(why);
     }
-    if peek_fields(p, c, m.b).seal == n {
+    if peek_fields(plant, config, m.b).seal == n {
         return Ok(());
     }
     let seal = Change::Seal {
@@ -75,7 +75,7 @@ fn seal_drained<P: Plant>(
         session: s,
         n,
     };
-    make_change(p, c, j, m.b, seal)
+    make_change(plant, config, journal, m.b, seal)
 }
 
 /// Seals the secondary of a member for attempt n of a session, where the primary has nothing left to send to it, and tells
@@ -90,46 +90,46 @@ fn seal_drained<P: Plant>(
 /// this secondary, and that secondaries contain the cuts of their primaries as far as these were sent; however the seal ends,
 /// they still do.
 pub fn seal<P: Plant>(
-    p: &mut P,
-    c: &Config,
-    j: &mut Journal,
+    plant: &mut P,
+    config: &Config,
+    journal: &mut Journal,
     s: SessionId,
     m: &Member,
     n: u32,
 ) -> Result<bool, Refusal>
-    requires rest { IsAtRest (P.state p.old) c.now }
-    requires fit { RelationsFit (P.state p.old) c.now }
-    requires primary { IsSome (place_of c.now m.now.a.0) }
-    requires secondary { IsSome (place_of c.now m.now.b.0) }
-    requires room { 2 ≤ j.old.spare }
-    ensures carried { (r : Rest) → Ends (armed_in (P.state p.old)) (world_seen (P.state p.new) c.now r j.new.events) (refusal_of result) (world_seen (P.state p.old) c.now r j.old.events) (seal_entries s.0 m.now.a.0 m.now.b.0 n) }
-    ensures leads { OnOk result ((r : Rest) → Leads (world_seen (P.state p.old) c.now r j.old.events) (seal_entries s.0 m.now.a.0 m.now.b.0 n) (world_seen (P.state p.new) c.now r j.new.events)) }
-    ensures fails { OnErr result ((r : Rest) → Fails (armed_in (P.state p.old)) (world_seen (P.state p.old) c.now r j.old.events) (seal_entries s.0 m.now.a.0 m.now.b.0 n) (world_seen (P.state p.new) c.now r j.new.events) (refusal_of result)) }
-    ensures holds_cut { IfOk result (λ done. done ≡ true → (r : Rest) → CutsHold (world_seen (P.state p.old) c.now r j.old.events) → SendsTo (world_seen (P.state p.old) c.now r j.old.events) m.now.a.0 m.now.b.0
-        → SealedFor (world_seen (P.state p.new) c.now r j.new.events) m.now.b.0 m.now.a.0 n) }
-    ensures cuts { (r : Rest) → CutsHold (world_seen (P.state p.old) c.now r j.old.events) → SendsTo (world_seen (P.state p.old) c.now r j.old.events) m.now.a.0 m.now.b.0 → CutsHold (world_seen (P.state p.new) c.now r j.new.events) }
-    ensures waits { (result ≡ Ok false) ↔ ((pairs.records n (volume_seen (P.state p.old) c.now m.now.a.0).fields ≡ true) × (is_bare (volume_seen (P.state p.old) c.now m.now.a.0).fields.out_of_sync ≡ false)) }
-    ensures drained { IfOk result (λ done. done ≡ is_bare (volume_seen (P.state p.old) c.now m.now.a.0).fields.out_of_sync) }
-    ensures unchanged { is_stop (refusal_of result) ≡ false → OnErr result ((P.state p.new ≡ P.state p.old) × (j.new ≡ j.old)) }
-    ensures rest { IsAtRest (P.state p.new) c.now }
-    ensures fit { RelationsFit (P.state p.new) c.now }
-    ensures aside { AsideFits (P.state p.old) c.now → AsideFits (P.state p.new) c.now }
-    ensures unarmed { (q : ℕ) → (P.state p.old).read_fuse q ≡ None → (P.state p.new).read_fuse q ≡ None }
-    ensures faults { Counted (is_stop (refusal_of result)) (P.state p.old).faults (P.state p.new).faults }
-    ensures kept { OnOk result ((q : ℕ) → sync_seen (P.state p.new) c.now q ≡ sync_seen (P.state p.old) c.now q) }
-    ensures others { OthersStay (P.state p.old) (P.state p.new) c.now m.now.b.0 }
-    ensures on { OnOk result ((P.state p.new).on ≡ (P.state p.old).on) }
-    ensures room { j.old.spare ≤ j.new.spare + 2 }
-    ensures room_left { OnOk result (j.old.spare ≤ j.new.spare + 1) }
-    ensures spare { length j.new.events + j.new.spare ≡ length j.old.events + j.old.spare }
+    requires rest { IsAtRest (P.state plant.old) config.now }
+    requires fit { RelationsFit (P.state plant.old) config.now }
+    requires primary { IsSome (place_of config.now m.now.a.0) }
+    requires secondary { IsSome (place_of config.now m.now.b.0) }
+    requires room { 2 ≤ journal.old.spare }
+    ensures carried { (r : Rest) → Ends (armed_in (P.state plant.old)) (world_seen (P.state plant.new) config.now r journal.new.events) (refusal_of result) (world_seen (P.state plant.old) config.now r journal.old.events) (seal_entries s.0 m.now.a.0 m.now.b.0 n) }
+    ensures leads { OnOk result ((r : Rest) → Leads (world_seen (P.state plant.old) config.now r journal.old.events) (seal_entries s.0 m.now.a.0 m.now.b.0 n) (world_seen (P.state plant.new) config.now r journal.new.events)) }
+    ensures fails { OnErr result ((r : Rest) → Fails (armed_in (P.state plant.old)) (world_seen (P.state plant.old) config.now r journal.old.events) (seal_entries s.0 m.now.a.0 m.now.b.0 n) (world_seen (P.state plant.new) config.now r journal.new.events) (refusal_of result)) }
+    ensures holds_cut { IfOk result (λ done. done ≡ true → (r : Rest) → CutsHold (world_seen (P.state plant.old) config.now r journal.old.events) → SendsTo (world_seen (P.state plant.old) config.now r journal.old.events) m.now.a.0 m.now.b.0
+        → SealedFor (world_seen (P.state plant.new) config.now r journal.new.events) m.now.b.0 m.now.a.0 n) }
+    ensures cuts { (r : Rest) → CutsHold (world_seen (P.state plant.old) config.now r journal.old.events) → SendsTo (world_seen (P.state plant.old) config.now r journal.old.events) m.now.a.0 m.now.b.0 → CutsHold (world_seen (P.state plant.new) config.now r journal.new.events) }
+    ensures waits { (result ≡ Ok false) ↔ ((pairs.records n (volume_seen (P.state plant.old) config.now m.now.a.0).fields ≡ true) × (is_bare (volume_seen (P.state plant.old) config.now m.now.a.0).fields.out_of_sync ≡ false)) }
+    ensures drained { IfOk result (λ done. done ≡ is_bare (volume_seen (P.state plant.old) config.now m.now.a.0).fields.out_of_sync) }
+    ensures unchanged { is_stop (refusal_of result) ≡ false → OnErr result ((P.state plant.new ≡ P.state plant.old) × (journal.new ≡ journal.old)) }
+    ensures rest { IsAtRest (P.state plant.new) config.now }
+    ensures fit { RelationsFit (P.state plant.new) config.now }
+    ensures aside { AsideFits (P.state plant.old) config.now → AsideFits (P.state plant.new) config.now }
+    ensures unarmed { (q : ℕ) → (P.state plant.old).read_fuse q ≡ None → (P.state plant.new).read_fuse q ≡ None }
+    ensures faults { Counted (is_stop (refusal_of result)) (P.state plant.old).faults (P.state plant.new).faults }
+    ensures kept { OnOk result ((q : ℕ) → sync_seen (P.state plant.new) config.now q ≡ sync_seen (P.state plant.old) config.now q) }
+    ensures others { OthersStay (P.state plant.old) (P.state plant.new) config.now m.now.b.0 }
+    ensures on { OnOk result ((P.state plant.new).on ≡ (P.state plant.old).on) }
+    ensures room { journal.old.spare ≤ journal.new.spare + 2 }
+    ensures room_left { OnOk result (journal.old.spare ≤ journal.new.spare + 1) }
+    ensures spare { length journal.new.events + journal.new.spare ≡ length journal.old.events + journal.old.spare }
 {
-    if let Some(why) = void_refusal(p, c, m.a, n) {
+    if let Some(why) = void_refusal(plant, config, m.a, n) {
         return Err(why);
     }
-    if !is_drained(&peek_fields(p, c, m.a)) {
+    if !is_drained(&peek_fields(plant, config, m.a)) {
         return Ok(false);
     }
-    match seal_drained(p, c, j, s, m, n) {
+    match seal_drained(plant, config, journal, s, m, n) {
         Ok(()) => Ok(true),
         Err(why) => Err(why),
     }

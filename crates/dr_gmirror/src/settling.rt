@@ -72,46 +72,46 @@ pub(crate) fn note_if(report: &mut Report, s: SessionId, f: &Fields)
 
 /// A member's secondary is to be reached, and its target is noted where it counts.
 fn settle_member<P: Plant>(
-    p: &P,
-    c: &Config,
+    plant: &P,
+    config: &Config,
     s: SessionId,
     m: &Member,
     report: &mut Report,
 ) -> Result<(), Refusal>
-    requires stands { StandsFor c.now (P.state p.now) }
-    requires ready { IsMemberReady (P.state p.now) c.now m.now }
+    requires stands { StandsFor config.now (P.state plant.now) }
+    requires ready { IsMemberReady (P.state plant.now) config.now m.now }
     requires low { report.old.count < 64 }
-    ensures leads { OnOk result ((r : Rest) (events : List Event) → Leads (world_seen (P.state p.now) c.now r events) (report_entries m.now) (world_seen (P.state p.now) c.now r events)) }
-    ensures fails { OnErr result ((r : Rest) (events : List Event) → Fails (armed_in (P.state p.now)) (world_seen (P.state p.now) c.now r events) (report_entries m.now) (world_seen (P.state p.now) c.now r events) (refusal_of result)) }
+    ensures leads { OnOk result ((r : Rest) (events : List Event) → Leads (world_seen (P.state plant.now) config.now r events) (report_entries m.now) (world_seen (P.state plant.now) config.now r events)) }
+    ensures fails { OnErr result ((r : Rest) (events : List Event) → Fails (armed_in (P.state plant.now)) (world_seen (P.state plant.now) config.now r events) (report_entries m.now) (world_seen (P.state plant.now) config.now r events) (refusal_of result)) }
     ensures calm { is_stop (refusal_of result) ≡ false }
-    ensures shown { OnOk result ((r : Rest) (events : List Event) → shown_in report.new ≡ shown_in report.old ++ shown_by_members s.0 (m.now ∷ []) (world_seen (P.state p.now) c.now r events).control) }
+    ensures shown { OnOk result ((r : Rest) (events : List Event) → shown_in report.new ≡ shown_in report.old ++ shown_by_members s.0 (m.now ∷ []) (world_seen (P.state plant.now) config.now r events).control) }
     ensures low { report.new.count ≤ report.old.count + 1 }
     ensures count { length (shown_in report.old) ≡ report.old.count → length (shown_in report.new) ≡ report.new.count }
     ensures trimmed { IsTrimmed report.old → IsTrimmed report.new }
 {
-    if let Some(why) = reach_refusal(p, c, m.a, m.b) {
+    if let Some(why) = reach_refusal(plant, config, m.a, m.b) {
         return Err(why);
     }
-    note_if(report, s, &peek_fields(p, c, m.c));
+    note_if(report, s, &peek_fields(plant, config, m.c));
     Ok(())
 }
 
 /// The same, where the member is on that server.
 fn settle_on<P: Plant>(
-    p: &P,
-    c: &Config,
+    plant: &P,
+    config: &Config,
     s: SessionId,
     server: ServerId,
     m: &Member,
     report: &mut Report,
 ) -> Result<(), Refusal>
-    requires stands { StandsFor c.now (P.state p.now) }
-    requires ready { IsMemberReady (P.state p.now) c.now m.now }
+    requires stands { StandsFor config.now (P.state plant.now) }
+    requires ready { IsMemberReady (P.state plant.now) config.now m.now }
     requires low { report.old.count < 64 }
-    ensures leads { OnOk result ((n : ℕ) (r : Rest) (events : List Event) → Leads (world_seen (P.state p.now) c.now r events) (order_entries phases.Report s.0 n (members_on server.0 (m.now ∷ []))) (world_seen (P.state p.now) c.now r events)) }
-    ensures fails { OnErr result ((n : ℕ) (r : Rest) (events : List Event) → Fails (armed_in (P.state p.now)) (world_seen (P.state p.now) c.now r events) (order_entries phases.Report s.0 n (members_on server.0 (m.now ∷ []))) (world_seen (P.state p.now) c.now r events) (refusal_of result)) }
+    ensures leads { OnOk result ((n : ℕ) (r : Rest) (events : List Event) → Leads (world_seen (P.state plant.now) config.now r events) (order_entries phases.Report s.0 n (members_on server.0 (m.now ∷ []))) (world_seen (P.state plant.now) config.now r events)) }
+    ensures fails { OnErr result ((n : ℕ) (r : Rest) (events : List Event) → Fails (armed_in (P.state plant.now)) (world_seen (P.state plant.now) config.now r events) (order_entries phases.Report s.0 n (members_on server.0 (m.now ∷ []))) (world_seen (P.state plant.now) config.now r events) (refusal_of result)) }
     ensures calm { is_stop (refusal_of result) ≡ false }
-    ensures shown { OnOk result ((r : Rest) (events : List Event) → shown_in report.new ≡ shown_in report.old ++ shown_by_members s.0 (members_on server.0 (m.now ∷ [])) (world_seen (P.state p.now) c.now r events).control) }
+    ensures shown { OnOk result ((r : Rest) (events : List Event) → shown_in report.new ≡ shown_in report.old ++ shown_by_members s.0 (members_on server.0 (m.now ∷ [])) (world_seen (P.state plant.now) config.now r events).control) }
     ensures low { report.new.count ≤ report.old.count + 1 }
     ensures count { length (shown_in report.old) ≡ report.old.count → length (shown_in report.new) ≡ report.new.count }
     ensures trimmed { IsTrimmed report.old → IsTrimmed report.new }
@@ -119,7 +119,7 @@ fn settle_on<P: Plant>(
     if m.server.0 != server.0 {
         return Ok(());
     }
-    settle_member(p, c, s, m, report)
+    settle_member(plant, config, s, m, report)
 }
 
 /// What the targets of a server's members of a session show, in the order in which the members came: the sequence number of
@@ -128,27 +128,27 @@ fn settle_on<P: Plant>(
 /// from the logical subsystem of its primary, or whose secondary's server is off, or whose two servers' link is down. It
 /// speaks of at most 64 members.
 pub fn settle<P: Plant>(
-    p: &P,
-    c: &Config,
+    plant: &P,
+    config: &Config,
     ss: &Sessions,
     s: SessionId,
     server: ServerId,
 ) -> Result<Report, Refusal>
-    requires stands { StandsFor c.now (P.state p.now) }
-    requires members { AreReady (P.state p.now) c.now (model.members_in (model.session_in ss.now.sessions s.0)) }
+    requires stands { StandsFor config.now (P.state plant.now) }
+    requires members { AreReady (P.state plant.now) config.now (model.members_in (model.session_in ss.now.sessions s.0)) }
     requires few { length (model.members_in (model.session_in ss.now.sessions s.0)) ≤ 64 }
-    ensures carried { (n : ℕ) (r : Rest) (events : List Event) → Ends (armed_in (P.state p.now)) (world_seen (P.state p.now) c.now r events) (refusal_of result) (world_seen (P.state p.now) c.now r events) (order_entries phases.Report s.0 n (members_on server.0 (model.members_in (model.session_in ss.now.sessions s.0)))) }
-    ensures leads { OnOk result ((n : ℕ) (r : Rest) (events : List Event) → Leads (world_seen (P.state p.now) c.now r events) (order_entries phases.Report s.0 n (members_on server.0 (model.members_in (model.session_in ss.now.sessions s.0)))) (world_seen (P.state p.now) c.now r events)) }
-    ensures fails { OnErr result ((n : ℕ) (r : Rest) (events : List Event) → Fails (armed_in (P.state p.now)) (world_seen (P.state p.now) c.now r events) (order_entries phases.Report s.0 n (members_on server.0 (model.members_in (model.session_in ss.now.sessions s.0)))) (world_seen (P.state p.now) c.now r events) (refusal_of result)) }
+    ensures carried { (n : ℕ) (r : Rest) (events : List Event) → Ends (armed_in (P.state plant.now)) (world_seen (P.state plant.now) config.now r events) (refusal_of result) (world_seen (P.state plant.now) config.now r events) (order_entries phases.Report s.0 n (members_on server.0 (model.members_in (model.session_in ss.now.sessions s.0)))) }
+    ensures leads { OnOk result ((n : ℕ) (r : Rest) (events : List Event) → Leads (world_seen (P.state plant.now) config.now r events) (order_entries phases.Report s.0 n (members_on server.0 (model.members_in (model.session_in ss.now.sessions s.0)))) (world_seen (P.state plant.now) config.now r events)) }
+    ensures fails { OnErr result ((n : ℕ) (r : Rest) (events : List Event) → Fails (armed_in (P.state plant.now)) (world_seen (P.state plant.now) config.now r events) (order_entries phases.Report s.0 n (members_on server.0 (model.members_in (model.session_in ss.now.sessions s.0)))) (world_seen (P.state plant.now) config.now r events) (refusal_of result)) }
     ensures calm { is_stop (refusal_of result) ≡ false }
-    ensures shown { IfOk result (λ y. (r : Rest) (events : List Event) → shown_in y ≡ shown_by_members s.0 (members_on server.0 (model.members_in (model.session_in ss.now.sessions s.0))) (world_seen (P.state p.now) c.now r events).control) }
+    ensures shown { IfOk result (λ y. (r : Rest) (events : List Event) → shown_in y ≡ shown_by_members s.0 (members_on server.0 (model.members_in (model.session_in ss.now.sessions s.0))) (world_seen (P.state plant.now) config.now r events).control) }
     ensures count { IfOk result (λ y. y.count ≡ length (shown_in y)) }
     ensures trimmed { IfOk result IsTrimmed }
 {
     let mut report = no_report();
     for at in 0..ss.member_count(s) {
         let m = ss.member_at(s, at).unwrap();
-        settle_on(p, c, s, server, &m, &mut report)?;
+        settle_on(plant, config, s, server, &m, &mut report)?;
     }
     Ok(report)
 }

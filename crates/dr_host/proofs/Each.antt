@@ -4,37 +4,37 @@ use Rattle.std.specs.List.{find}
 use Rattle.std.specs.Option.{option_copied}
 use Rattle.std.proofs.lemmas.Bool.Decides.{nat_tests}
 use Rattle.dr_host.specs.declared.pending.Pending.{Pending}
-use Rattle.dr_host.specs.Writes.{number, has_number, is_other, marked, Each, IsPending}
+use Rattle.dr_host.specs.Writes.{number, has_number, is_other, marked, EachPending, IsPending}
 
 abbrev pub landed_is : Pending → Pending
 landed_is p = record p { landed = true }
 
 -- what does not look at whether a write has landed is kept where one is marked
-pub each-marked : (P : Pending → Type 0) (n : ℕ) (ps : List Pending) → ((p : Pending) → P p → P (landed_is p)) → Each P ps → Each P (marked n ps)
+pub each-marked : (P : Pending → Type 0) (n : ℕ) (ps : List Pending) → ((p : Pending) → P p → P (landed_is p)) → EachPending P ps → EachPending P (marked n ps)
 each-marked P n [] keeps all = all
 each-marked P n (p ∷ ps) keeps all =
     (elim (has_number n p) as (λ b. P (cond b (landed_is p) p)) [ true ↦ keeps p all.0 | false ↦ all.0 ], each-marked P n ps keeps all.1)
 
-pub each-filter : (P : Pending → Type 0) (test : Pending → Bool) (ps : List Pending) → Each P ps → Each P (filter test ps)
+pub each-filter : (P : Pending → Type 0) (test : Pending → Bool) (ps : List Pending) → EachPending P ps → EachPending P (filter test ps)
 each-filter P test [] all = all
-each-filter P test (p ∷ ps) all = elim (test p) as (λ b. Each P (cond b (p ∷ filter test ps) (filter test ps))) [ true ↦ (all.0, each-filter P test ps all.1) | false ↦ each-filter P test ps all.1 ]
+each-filter P test (p ∷ ps) all = elim (test p) as (λ b. EachPending P (cond b (p ∷ filter test ps) (filter test ps))) [ true ↦ (all.0, each-filter P test ps all.1) | false ↦ each-filter P test ps all.1 ]
 
 -- and where one is taken out
-pub each-without : (P : Pending → Type 0) (n : ℕ) (ps : List Pending) → Each P ps → Each P (filter (is_other n) ps)
+pub each-without : (P : Pending → Type 0) (n : ℕ) (ps : List Pending) → EachPending P ps → EachPending P (filter (is_other n) ps)
 each-without P n ps all = each-filter P (is_other n) ps all
 
 -- and by one more that it holds of
-pub each-push : (P : Pending → Type 0) (ps : List Pending) (p : Pending) → Each P ps → P p → Each P (ps ++ p ∷ [])
+pub each-push : (P : Pending → Type 0) (ps : List Pending) (p : Pending) → EachPending P ps → P p → EachPending P (ps ++ p ∷ [])
 each-push P [] p all one = (one, tt)
 each-push P (q ∷ ps) p all one = (all.0, each-push P ps p all.1 one)
 
 -- it holds of what a search finds
-pub each-found : (P : Pending → Type 0) (test : Pending → Bool) (ps : List Pending) → Each P ps → IfSome (find test ps) P
+pub each-found : (P : Pending → Type 0) (test : Pending → Bool) (ps : List Pending) → EachPending P ps → IfSome (find test ps) P
 each-found P test [] all = tt
 each-found P test (p ∷ ps) all = elim (test p) as (λ b. IfSome (cond b (Some p) (find test ps)) P) [ true ↦ all.0 | false ↦ each-found P test ps all.1 ]
 
 -- and what follows from it
-pub each-widen : (P Q : Pending → Type 0) (ps : List Pending) → ((p : Pending) → P p → Q p) → Each P ps → Each Q ps
+pub each-widen : (P Q : Pending → Type 0) (ps : List Pending) → ((p : Pending) → P p → Q p) → EachPending P ps → EachPending Q ps
 each-widen P Q [] f all = tt
 each-widen P Q (p ∷ ps) f all = (f p all.0, each-widen P Q ps f all.1)
 
@@ -79,7 +79,7 @@ found-is test ps qs p same is =
     subst (λ (xs : List Pending). IsSome (find (has_number (number p)) xs)) same there
 
 -- the write that was issued last is found
-pub found-push : (issued : ℕ) (ps : List Pending) (p : Pending) → Each (IsPending issued) ps → issued < number p → find (has_number (number p)) (ps ++ p ∷ []) ≡ Some p
+pub found-push : (issued : ℕ) (ps : List Pending) (p : Pending) → EachPending (IsPending issued) ps → issued < number p → find (has_number (number p)) (ps ++ p ∷ []) ≡ Some p
 found-push issued [] p all above = ap (λ b. cond b (Some p) None) (has-own p)
 found-push issued (q ∷ ps) p all above =
     let last : number q ≤ issued = all.0.last in

@@ -6,18 +6,18 @@ use Rattle.std.proofs.lemmas.Bool.Decides.{nat_tests}
 use Rattle.dr_config.proofs.Lists.{none-found}
 use Rattle.dr_host.specs.declared.pending.Pending.{Pending}
 use Rattle.dr_host.proofs.Each.{landed_is, each-marked, each-filter, each-without, each-push, each-widen}
-use Rattle.dr_host.specs.Writes.{Writes, number, has_number, is_other, marked, written, with_write, with_marked, without, IsPending, Each, Ascends, IsSoundHost}
+use Rattle.dr_host.specs.Writes.{Writes, number, has_number, is_other, marked, written, with_write, with_marked, without, IsPending, EachPending, Ascends, IsSoundHost}
 use Rattle.dr_logic.proofs.Lists.{filter-shorter}
 
 -- ---- the order
 
-above-marked : (k n : ℕ) (ps : List Pending) → Each (λ q. k < number q) ps → Each (λ q. k < number q) (marked n ps)
+above-marked : (k n : ℕ) (ps : List Pending) → EachPending (λ q. k < number q) ps → EachPending (λ q. k < number q) (marked n ps)
 above-marked k n ps all = each-marked (λ q. k < number q) n ps (λ p h. h) all
 
 pub ascends-marked : (n : ℕ) (ps : List Pending) → Ascends ps → Ascends (marked n ps)
 ascends-marked n [] h = tt
 ascends-marked n (p ∷ ps) h =
-    (elim (has_number n p) as (λ b. Each (λ q. number (cond b (landed_is p) p) < number q) (marked n ps)) [ true ↦ above-marked (number p) n ps h.0 | false ↦ above-marked (number p) n ps h.0 ], ascends-marked n ps h.1)
+    (elim (has_number n p) as (λ b. EachPending (λ q. number (cond b (landed_is p) p) < number q) (marked n ps)) [ true ↦ above-marked (number p) n ps h.0 | false ↦ above-marked (number p) n ps h.0 ], ascends-marked n ps h.1)
 
 pub ascends-without : (test : Pending → Bool) (ps : List Pending) → Ascends ps → Ascends (filter test ps)
 ascends-without test [] h = tt
@@ -31,7 +31,7 @@ pub length-marked : (n : ℕ) (ps : List Pending) → length (marked n ps) ≡ l
 length-marked n [] = refl
 length-marked n (p ∷ ps) = ap suc (length-marked n ps)
 
-pub ascends-push : (issued : ℕ) (ps : List Pending) (p : Pending) → Each (IsPending issued) ps → issued < number p → Ascends ps → Ascends (ps ++ p ∷ [])
+pub ascends-push : (issued : ℕ) (ps : List Pending) (p : Pending) → EachPending (IsPending issued) ps → issued < number p → Ascends ps → Ascends (ps ++ p ∷ [])
 ascends-push issued [] p all above h = (tt, tt)
 ascends-push issued (q ∷ ps) p all above h =
     let last : number q ≤ issued = all.0.last in
@@ -40,7 +40,7 @@ ascends-push issued (q ∷ ps) p all above h =
 
 -- ---- marking at the place of a number
 
-unmarked : (n k : ℕ) (ps : List Pending) → k ≡ n → Each (λ q. k < number q) ps → marked n ps ≡ ps
+unmarked : (n k : ℕ) (ps : List Pending) → k ≡ n → EachPending (λ q. k < number q) ps → marked n ps ≡ ps
 unmarked n k [] e all = refl
 unmarked n k (p ∷ ps) e all =
     let above : k < number p = all.0 in

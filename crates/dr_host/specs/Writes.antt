@@ -90,17 +90,17 @@ pub record IsPending (issued : ℕ) (p : Pending) : Type 0 where
   pub within : p.offset + p.len ≤ 64
 
 -- P holds of each pending write.
-abbrev pub Each : (Pending → Type 0) → List Pending → Type 0
-Each P [] = Unit {0}
-Each P (p ∷ ps) = P p × Each P ps
+abbrev pub EachPending : (Pending → Type 0) → List Pending → Type 0
+EachPending P [] = Unit {0}
+EachPending P (p ∷ ps) = P p × EachPending P ps
 
--- Each number is below all later ones, so no two are the same.
+-- EachPending number is below all later ones, so no two are the same.
 abbrev pub Ascends : List Pending → Type 0
 Ascends [] = Unit {0}
-Ascends (p ∷ ps) = Each (λ q. number p < number q) ps × Ascends ps
+Ascends (p ∷ ps) = EachPending (λ q. number p < number q) ps × Ascends ps
 
 -- What is true of every host.
 pub record IsSoundHost (h : Writes) : Type 0 where
   pub few : length h.pending ≤ 64
-  pub each : Each (IsPending h.issued) h.pending
+  pub each : EachPending (IsPending h.issued) h.pending
   pub order : Ascends h.pending

@@ -117,11 +117,11 @@ impl Host {
     }
 
     /// The first pending write that has landed on a volume of the server, if there is one.
-    pub fn landed_on(&self, c: &Config, s: ServerId) -> Option<WriteId>
-        ensures number { option_map (λ w. w.0) result ≡ landed_on c.now s.0 self.now.pending }
+    pub fn landed_on(&self, config: &Config, s: ServerId) -> Option<WriteId>
+        ensures number { option_map (λ w. w.0) result ≡ landed_on config.now s.0 self.now.pending }
         ensures pending { IfSome result (λ w. IsSome (find (has_number w.0) self.now.pending)) }
     {
-        let pending = first_landed(&self.pending, c, s)?;
+        let pending = first_landed(&self.pending, config, s)?;
         Some(pending.w)
     }
 }

@@ -22,9 +22,9 @@ only (word ∷ []) = Some word
 only _ = None
 
 -- the first word of a list, and those behind it; none where the list is empty
-abbrev pub IsNext : List (List ℕ) → Option (Bor (List ℕ) × Option (Bor (List ℕ))) → Type 0
-IsNext words None = words ≡ []
-IsNext words (Some next) = words ≡ next.0.now ∷ words_after next.1
+abbrev pub IsNextOf : List (List ℕ) → Option (Bor (List ℕ) × Option (Bor (List ℕ))) → Type 0
+IsNextOf words None = words ≡ []
+IsNextOf words (Some next) = words ≡ next.0.now ∷ words_after next.1
 
 -- a block with the volume that its line names
 abbrev pub placed : Said → Placed

@@ -20,9 +20,9 @@ EndsFault failed reading NoMemory = failed ≡ true
 EndsFault failed reading (BadImage line) = (failed ≡ false) × (reading ≡ Err line)
 
 -- what a reader answers as it is finished
-abbrev pub EndsAs : Bool → Result (List Volume) ℕ → Result (List Volume) ImageFault → Type 0
-EndsAs failed reading (Ok image) = (failed ≡ false) × (reading ≡ Ok image)
-EndsAs failed reading (Err fault) = EndsFault failed reading fault
+abbrev pub FinishesAs : Bool → Result (List Volume) ℕ → Result (List Volume) ImageFault → Type 0
+FinishesAs failed reading (Ok image) = (failed ≡ false) × (reading ≡ Ok image)
+FinishesAs failed reading (Err fault) = EndsFault failed reading fault
 
 -- a text with a bad line is the text of no proper image
 abbrev pub IsNoImage : List ℕ → ImageFault → Type 0

@@ -5,7 +5,7 @@ ghost use Rattle.std.specs.List.{position};
 ghost use Rattle.dr_model.specs.PlantImage.{is_line_feed, step, reading, finished, image_text, IsImage};
 ghost use Rattle.dr_image.specs.Lines.{state_of, stage_of};
 ghost use Rattle.dr_image.specs.Reader.{will_read, reads_on, IsState};
-ghost use Rattle.dr_image.specs.Outcome.{EndsAs, ReadsAs, IsNoImage, TellsFirst};
+ghost use Rattle.dr_image.specs.Outcome.{FinishesAs, ReadsAs, IsNoImage, TellsFirst};
 
 use crate::fault::ImageFault;
 use crate::image::Image;
@@ -65,7 +65,7 @@ impl ImageReader {
 
     /// The image, or the first bad line, of the text that was fed.
     pub fn finish(self) -> Result<Image, ImageFault>
-        ensures { EndsAs self.failed (will_read self []) result }
+        ensures { FinishesAs self.failed (will_read self []) result }
     {
         let ImageReader {
             failed,
@@ -144,7 +144,7 @@ fn keep(state: &State, partial: &mut Vec<u8>, piece: &[u8]) -> Result<(), AllocE
 /// Behind the last line feed nothing stands, and the end has come.
 fn finish(state: State, partial: &[u8]) -> Result<Image, ImageFault>
     requires { IsState (state_of state) }
-    ensures { EndsAs false (finished (state_of state) (stage_of state.stage) partial.now) result }
+    ensures { FinishesAs false (finished (state_of state) (stage_of state.stage) partial.now) result }
 {
     let State {
         alloc,

@@ -5,7 +5,7 @@ ghost use Rattle.std.specs.List.{position};
 ghost use Rattle.std.specs.Option.{option_copied, option_map};
 ghost use Rattle.dr_model.specs.Lines.{is_space, words};
 ghost use Rattle.dr_model.specs.PlantImage.{upper_value, upper_pair, upper_bytes, id_word, has_leading_zero, plain_word, kept_word};
-ghost use Rattle.dr_image.specs.Lines.{words_after, only, IsNext};
+ghost use Rattle.dr_image.specs.Lines.{words_after, only, IsNextOf};
 
 use crate::held::zero_block;
 use dr_ids::{VolumeId, hex_value, read_number};
@@ -29,7 +29,7 @@ pub fn split_word(line: &[u8]) -> (&[u8], Option<&[u8]>)
 
 /// The next word of what is left of a line, and what is left behind it.
 pub fn next_word(rest: Option<&[u8]>) -> Option<(&[u8], Option<&[u8]>)>
-    ensures { IsNext (words_after rest.entry) result }
+    ensures { IsNextOf (words_after rest.entry) result }
 {
     Some(split_word(rest?))
 }

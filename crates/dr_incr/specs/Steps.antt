@@ -41,14 +41,14 @@ abbrev pub reverse_entries : Control → ℕ → ℕ → List Entry
 reverse_entries k s t = reverse_checks k s t ++ now (Reverse t (left_by k t)) ∷ []
 
 -- the number of a volume, where there is one
-abbrev pub number_of : Option VolumeId → Option ℕ
-number_of v = option_map (λ (x : VolumeId). x.0) v
+abbrev pub volume_number : Option VolumeId → Option ℕ
+volume_number v = option_map (λ (x : VolumeId). x.0) v
 
 -- What the sessions say of a restore of t, which a caller has looked up: why a member's target can't be restored, and the
 -- primary of the member whose target leaves its session by it. Both are none where t is no member's target.
 pub record IsAsked (k : Control) (t : ℕ) (unsettled : Option Refusal) (left : Option VolumeId) : Type 0 where
   pub why : restore_refusal t k ≡ unsettled
-  pub leaves : left_by k t ≡ number_of left
+  pub leaves : left_by k t ≡ volume_number left
 
 -- what is told of a target that leaves this session, which has the member with that primary
 abbrev pub left_event : Option ℕ → ℕ → Option Event

@@ -33,33 +33,33 @@ fn is_recorded_target(f: &Head, s: VolumeId) -> bool
 /// Why t can't be made a copy of s anew or be restored onto s: the server of s is off, or else `first` says why, or else t is
 /// no target of s whose changes are recorded, or is revertible or restored.
 pub(crate) fn target_refusal<P: Plant>(
-    p: &P,
-    c: &Config,
+    plant: &P,
+    config: &Config,
     s: VolumeId,
     t: VolumeId,
     first: Option<Refusal>,
 ) -> Option<Refusal>
-    requires rest { IsAtRest (P.state p.now) c.now }
-    requires source { IsSome (place_of c.now s.0) }
-    requires target { IsSome (place_of c.now t.0) }
+    requires rest { IsAtRest (P.state plant.now) config.now }
+    requires source { IsSome (place_of config.now s.0) }
+    requires target { IsSome (place_of config.now t.0) }
     requires calm { is_stop first ≡ false }
-    ensures checked { (why : Control → Option Refusal) (r : Rest) (events : List Event) → why (world_seen (P.state p.now) c.now r events).control ≡ first → Checked (world_seen (P.state p.now) c.now r events) (target_checks why (world_seen (P.state p.now) c.now r events).control s.0 t.0) result }
-    ensures running { OnNone result ((P.state p.now).on (volume_seen (P.state p.now) c.now s.0).server ≡ true) }
-    ensures related { OnNone result (copies_from s.0 (volume_seen (P.state p.now) c.now t.0).fields ≡ true) }
-    ensures recorded { OnNone result ((volume_seen (P.state p.now) c.now t.0).fields.recorded ≡ true) }
-    ensures forward { OnNone result ((volume_seen (P.state p.now) c.now t.0).fields.reversing ≡ false) }
-    ensures not_revertible { OnNone result ((volume_seen (P.state p.now) c.now t.0).fields.revertible ≡ false) }
+    ensures checked { (why : Control → Option Refusal) (r : Rest) (events : List Event) → why (world_seen (P.state plant.now) config.now r events).control ≡ first → Checked (world_seen (P.state plant.now) config.now r events) (target_checks why (world_seen (P.state plant.now) config.now r events).control s.0 t.0) result }
+    ensures running { OnNone result ((P.state plant.now).on (volume_seen (P.state plant.now) config.now s.0).server ≡ true) }
+    ensures related { OnNone result (copies_from s.0 (volume_seen (P.state plant.now) config.now t.0).fields ≡ true) }
+    ensures recorded { OnNone result ((volume_seen (P.state plant.now) config.now t.0).fields.recorded ≡ true) }
+    ensures forward { OnNone result ((volume_seen (P.state plant.now) config.now t.0).fields.reversing ≡ false) }
+    ensures not_revertible { OnNone result ((volume_seen (P.state plant.now) config.now t.0).fields.revertible ≡ false) }
     ensures calm { is_stop result ≡ false }
 {
-    let server = server_of(c, s);
-    if !p.is_on(server.0) {
+    let server = server_of(config, s);
+    if !plant.is_on(server.0) {
         return Some(Refusal::ServerOff { server });
     }
     if let Some(why) = first {
         return Some(why);
     }
-    if !is_recorded_target(&peek_head(p, c, t), s) {
-        return Some(relation_state(p, c, t));
+    if !is_recorded_target(&peek_head(plant, config, t), s) {
+        return Some(relation_state(plant, config, t));
     }
     None
 }
@@ -72,13 +72,13 @@ fn is_other_restore(f: &Head, s: VolumeId, t: VolumeId, u: VolumeId) -> bool
 }
 
 /// Whether a target of s other than t is revertible or restored.
-fn has_other_restore<P: Plant>(p: &P, c: &Config, s: VolumeId, t: VolumeId) -> bool
-    requires rest { IsAtRest (P.state p.now) c.now }
-    ensures { result ≡ list_any (λ u. not (nat_eq u t.0) && ((volume_seen (P.state p.now) c.now u).fields.revertible || (volume_seen (P.state p.now) c.now u).fields.reversing)) (targets_in (P.state p.now) c.now s.0) }
+fn has_other_restore<P: Plant>(plant: &P, config: &Config, s: VolumeId, t: VolumeId) -> bool
+    requires rest { IsAtRest (P.state plant.now) config.now }
+    ensures { result ≡ list_any (λ u. not (nat_eq u t.0) && ((volume_seen (P.state plant.now) config.now u).fields.revertible || (volume_seen (P.state plant.now) config.now u).fields.reversing)) (targets_in (P.state plant.now) config.now s.0) }
 {
-    for place in 0..c.volumes() {
-        let u = c.volume_at(place).unwrap();
-        if is_other_restore(&peek_head_at(p, c, place), s, t, u) {
+    for place in 0..config.volumes() {
+        let u = config.volume_at(place).unwrap();
+        if is_other_restore(&peek_head_at(plant, config, place), s, t, u) {
             return true;
         }
     }
@@ -94,17 +94,22 @@ fn may_return(f: &Fields) -> bool
 
 /// Why t can't be restored onto s: another target of s is revertible or restored, or s is a secondary, or a primary that
 /// isn't Suspended.
-pub(crate) fn lone_refusal<P: Plant>(p: &P, c: &Config, s: VolumeId, t: VolumeId) -> Option<Refusal>
-    requires rest { IsAtRest (P.state p.now) c.now }
-    requires source { IsSome (place_of c.now s.0) }
-    ensures checked { (r : Rest) (events : List Event) → Checked (world_seen (P.state p.now) c.now r events) (lone_checks (world_seen (P.state p.now) c.now r events).control s.0 t.0) result }
+pub(crate) fn lone_refusal<P: Plant>(
+    plant: &P,
+    config: &Config,
+    s: VolumeId,
+    t: VolumeId,
+) -> Option<Refusal>
+    requires rest { IsAtRest (P.state plant.now) config.now }
+    requires source { IsSome (place_of config.now s.0) }
+    ensures checked { (r : Rest) (events : List Event) → Checked (world_seen (P.state plant.now) config.now r events) (lone_checks (world_seen (P.state plant.now) config.now r events).control s.0 t.0) result }
     ensures calm { is_stop result ≡ false }
 {
-    if has_other_restore(p, c, s, t) {
-        return Some(relation_state(p, c, s));
+    if has_other_restore(plant, config, s, t) {
+        return Some(relation_state(plant, config, s));
     }
-    if !may_return(&peek_fields(p, c, s)) {
-        return Some(pair_state(p, c, s));
+    if !may_return(&peek_fields(plant, config, s)) {
+        return Some(pair_state(plant, config, s));
     }
     None
 }

@@ -21,38 +21,38 @@ use dr_plant::Plant;
 /// Before track k of s, the lowest that its target t holds, comes back from t, which is restored, the other targets of s
 /// keep it.
 pub(crate) fn keep_others<P: Plant>(
-    p: &mut P,
-    c: &Config,
-    j: &mut Journal,
+    plant: &mut P,
+    config: &Config,
+    journal: &mut Journal,
     s: VolumeId,
     k: u16,
     t: VolumeId,
 ) -> Result<(), Refusal>
-    requires rest { IsAtRest (P.state p.old) c.now }
-    requires fit { RelationsFit (P.state p.old) c.now }
-    requires running { (P.state p.old).on (volume_seen (P.state p.old) c.now s.0).server ≡ true }
-    requires within { k < (volume_seen (P.state p.old) c.now s.0).tracks }
-    requires plain { (volume_seen (P.state p.old) c.now s.0).fields.related ≡ false }
-    requires reversing { (volume_seen (P.state p.old) c.now t.0).fields.reversing ≡ true }
-    requires held { relations.lowest (volume_seen (P.state p.old) c.now t.0).tracks (volume_seen (P.state p.old) c.now t.0).fields.own ≡ Some k }
-    requires room { length c.now.volumes + 1 ≤ j.old.spare }
-    ensures leads { OnOk result ((r : Rest) → Leads (world_seen (P.state p.old) c.now r j.old.events) (keeps_of (ids_of c.now.volumes) s.0 t.0) (world_seen (P.state p.new) c.now r j.new.events)) }
-    ensures fails { OnErr result ((r : Rest) → Fails (armed_in (P.state p.old)) (world_seen (P.state p.old) c.now r j.old.events) (keeps_of (ids_of c.now.volumes) s.0 t.0) (world_seen (P.state p.new) c.now r j.new.events) (refusal_of result)) }
-    ensures refused { OnErr result (refusal_of result ≡ Some (stopped (volume_seen (P.state p.old) c.now s.0).server)) }
-    ensures rest { IsAtRest (P.state p.new) c.now }
-    ensures fit { RelationsFit (P.state p.new) c.now }
-    ensures unarmed { (q : ℕ) → (P.state p.old).read_fuse q ≡ None → (P.state p.new).read_fuse q ≡ None }
-    ensures faults { Counted (is_err result) (P.state p.old).faults (P.state p.new).faults }
-    ensures others { (q : ℕ) → copies_from s.0 (volume_seen (P.state p.old) c.now q).fields ≡ false → IsAsBefore (P.state p.old) (P.state p.new) c.now q }
-    ensures on { OnOk result ((P.state p.new).on ≡ (P.state p.old).on) }
-    ensures aside { IsAsBefore (P.state p.old) (P.state p.new) c.now t.0 }
-    ensures room { j.old.spare ≤ j.new.spare + (length c.now.volumes + 1) }
-    ensures room_left { OnOk result (j.old.spare ≤ j.new.spare + length c.now.volumes) }
-    ensures spare { length j.new.events + j.new.spare ≡ length j.old.events + j.old.spare }
+    requires rest { IsAtRest (P.state plant.old) config.now }
+    requires fit { RelationsFit (P.state plant.old) config.now }
+    requires running { (P.state plant.old).on (volume_seen (P.state plant.old) config.now s.0).server ≡ true }
+    requires within { k < (volume_seen (P.state plant.old) config.now s.0).tracks }
+    requires plain { (volume_seen (P.state plant.old) config.now s.0).fields.related ≡ false }
+    requires reversing { (volume_seen (P.state plant.old) config.now t.0).fields.reversing ≡ true }
+    requires held { relations.lowest (volume_seen (P.state plant.old) config.now t.0).tracks (volume_seen (P.state plant.old) config.now t.0).fields.own ≡ Some k }
+    requires room { length config.now.volumes + 1 ≤ journal.old.spare }
+    ensures leads { OnOk result ((r : Rest) → Leads (world_seen (P.state plant.old) config.now r journal.old.events) (keeps_of (ids_of config.now.volumes) s.0 t.0) (world_seen (P.state plant.new) config.now r journal.new.events)) }
+    ensures fails { OnErr result ((r : Rest) → Fails (armed_in (P.state plant.old)) (world_seen (P.state plant.old) config.now r journal.old.events) (keeps_of (ids_of config.now.volumes) s.0 t.0) (world_seen (P.state plant.new) config.now r journal.new.events) (refusal_of result)) }
+    ensures refused { OnErr result (refusal_of result ≡ Some (stopped (volume_seen (P.state plant.old) config.now s.0).server)) }
+    ensures rest { IsAtRest (P.state plant.new) config.now }
+    ensures fit { RelationsFit (P.state plant.new) config.now }
+    ensures unarmed { (q : ℕ) → (P.state plant.old).read_fuse q ≡ None → (P.state plant.new).read_fuse q ≡ None }
+    ensures faults { Counted (is_err result) (P.state plant.old).faults (P.state plant.new).faults }
+    ensures others { (q : ℕ) → copies_from s.0 (volume_seen (P.state plant.old) config.now q).fields ≡ false → IsAsBefore (P.state plant.old) (P.state plant.new) config.now q }
+    ensures on { OnOk result ((P.state plant.new).on ≡ (P.state plant.old).on) }
+    ensures aside { IsAsBefore (P.state plant.old) (P.state plant.new) config.now t.0 }
+    ensures room { journal.old.spare ≤ journal.new.spare + (length config.now.volumes + 1) }
+    ensures room_left { OnOk result (journal.old.spare ≤ journal.new.spare + length config.now.volumes) }
+    ensures spare { length journal.new.events + journal.new.spare ≡ length journal.old.events + journal.old.spare }
 {
-    for place in 0..c.volumes() {
-        let u = c.volume_at(place).unwrap();
-        keep_on(p, c, j, s, k, u, place)?;
+    for place in 0..config.volumes() {
+        let u = config.volume_at(place).unwrap();
+        keep_on(plant, config, journal, s, k, u, place)?;
     }
     Ok(())
 }

@@ -37,121 +37,121 @@ use dr_volume::peek_fields;
 /// its session, that the restore has ended, and a stop. Where what t held unchanged was the same as its source's, t shows
 /// what it showed; where nothing changed, s has that, and t reads zeros.
 pub fn reverse_start<P: Plant>(
-    p: &mut P,
-    c: &Config,
-    j: &mut Journal,
+    plant: &mut P,
+    config: &Config,
+    journal: &mut Journal,
     s: VolumeId,
     t: VolumeId,
     unsettled: Option<Refusal>,
     left: Option<VolumeId>,
 ) -> Result<(), Refusal>
-    requires rest { IsAtRest (P.state p.old) c.now }
-    requires fit { RelationsFit (P.state p.old) c.now }
-    requires source { IsSome (place_of c.now s.0) }
-    requires target { IsSome (place_of c.now t.0) }
-    requires sets { HasFitSets (volume_seen (P.state p.old) c.now t.0).fields }
+    requires rest { IsAtRest (P.state plant.old) config.now }
+    requires fit { RelationsFit (P.state plant.old) config.now }
+    requires source { IsSome (place_of config.now s.0) }
+    requires target { IsSome (place_of config.now t.0) }
+    requires sets { HasFitSets (volume_seen (P.state plant.old) config.now t.0).fields }
     requires calm { is_stop unsettled ≡ false }
-    requires room { (volume_seen (P.state p.old) c.now t.0).tracks + 3 ≤ j.old.spare }
-    ensures carried { (r : Rest) → IsAsked (world_seen (P.state p.old) c.now r j.old.events).control t.0 unsettled left → Ends (armed_in (P.state p.old)) (world_seen (P.state p.new) c.now r j.new.events) (refusal_of result) (world_seen (P.state p.old) c.now r j.old.events) (reverse_entries (world_seen (P.state p.old) c.now r j.old.events).control s.0 t.0) }
-    ensures leads { OnOk result ((r : Rest) → IsAsked (world_seen (P.state p.old) c.now r j.old.events).control t.0 unsettled left → Leads (world_seen (P.state p.old) c.now r j.old.events) (reverse_entries (world_seen (P.state p.old) c.now r j.old.events).control s.0 t.0) (world_seen (P.state p.new) c.now r j.new.events)) }
-    ensures fails { OnErr result ((r : Rest) → IsAsked (world_seen (P.state p.old) c.now r j.old.events).control t.0 unsettled left → Fails (armed_in (P.state p.old)) (world_seen (P.state p.old) c.now r j.old.events) (reverse_entries (world_seen (P.state p.old) c.now r j.old.events).control s.0 t.0) (world_seen (P.state p.new) c.now r j.new.events) (refusal_of result)) }
-    ensures unchanged { is_stop (refusal_of result) ≡ false → OnErr result ((P.state p.new ≡ P.state p.old) × (j.new ≡ j.old)) }
-    ensures moved { OnOk result (IsMoved (P.state p.old) (P.state p.new) c.now t.0 (relations.restored (volume_seen (P.state p.old) c.now t.0).tracks (relations.turned (volume_seen (P.state p.old) c.now t.0).fields)) None) }
-    ensures restores { OnOk result (HoldsUnchanged (P.state p.old) c.now t.0 → Restores (P.state p.old) (P.state p.new) c.now s.0 t.0) }
-    ensures refused { is_stop (refusal_of result) ≡ true → refusal_of result ≡ Some (stopped (volume_seen (P.state p.old) c.now s.0).server) }
-    ensures rest { IsAtRest (P.state p.new) c.now }
-    ensures fit { RelationsFit (P.state p.new) c.now }
-    ensures unarmed { (q : ℕ) → (P.state p.old).read_fuse q ≡ None → (P.state p.new).read_fuse q ≡ None }
-    ensures faults { Counted (is_stop (refusal_of result)) (P.state p.old).faults (P.state p.new).faults }
-    ensures others { OthersStay (P.state p.old) (P.state p.new) c.now t.0 }
-    ensures on { OnOk result ((P.state p.new).on ≡ (P.state p.old).on) }
-    ensures room { j.old.spare ≤ j.new.spare + ((volume_seen (P.state p.old) c.now t.0).tracks + 3) }
-    ensures room_left { OnOk result (j.old.spare ≤ j.new.spare + ((volume_seen (P.state p.old) c.now t.0).tracks + 2)) }
-    ensures spare { length j.new.events + j.new.spare ≡ length j.old.events + j.old.spare }
+    requires room { (volume_seen (P.state plant.old) config.now t.0).tracks + 3 ≤ journal.old.spare }
+    ensures carried { (r : Rest) → IsAsked (world_seen (P.state plant.old) config.now r journal.old.events).control t.0 unsettled left → Ends (armed_in (P.state plant.old)) (world_seen (P.state plant.new) config.now r journal.new.events) (refusal_of result) (world_seen (P.state plant.old) config.now r journal.old.events) (reverse_entries (world_seen (P.state plant.old) config.now r journal.old.events).control s.0 t.0) }
+    ensures leads { OnOk result ((r : Rest) → IsAsked (world_seen (P.state plant.old) config.now r journal.old.events).control t.0 unsettled left → Leads (world_seen (P.state plant.old) config.now r journal.old.events) (reverse_entries (world_seen (P.state plant.old) config.now r journal.old.events).control s.0 t.0) (world_seen (P.state plant.new) config.now r journal.new.events)) }
+    ensures fails { OnErr result ((r : Rest) → IsAsked (world_seen (P.state plant.old) config.now r journal.old.events).control t.0 unsettled left → Fails (armed_in (P.state plant.old)) (world_seen (P.state plant.old) config.now r journal.old.events) (reverse_entries (world_seen (P.state plant.old) config.now r journal.old.events).control s.0 t.0) (world_seen (P.state plant.new) config.now r journal.new.events) (refusal_of result)) }
+    ensures unchanged { is_stop (refusal_of result) ≡ false → OnErr result ((P.state plant.new ≡ P.state plant.old) × (journal.new ≡ journal.old)) }
+    ensures moved { OnOk result (IsMoved (P.state plant.old) (P.state plant.new) config.now t.0 (relations.restored (volume_seen (P.state plant.old) config.now t.0).tracks (relations.turned (volume_seen (P.state plant.old) config.now t.0).fields)) None) }
+    ensures restores { OnOk result (HoldsUnchanged (P.state plant.old) config.now t.0 → Restores (P.state plant.old) (P.state plant.new) config.now s.0 t.0) }
+    ensures refused { is_stop (refusal_of result) ≡ true → refusal_of result ≡ Some (stopped (volume_seen (P.state plant.old) config.now s.0).server) }
+    ensures rest { IsAtRest (P.state plant.new) config.now }
+    ensures fit { RelationsFit (P.state plant.new) config.now }
+    ensures unarmed { (q : ℕ) → (P.state plant.old).read_fuse q ≡ None → (P.state plant.new).read_fuse q ≡ None }
+    ensures faults { Counted (is_stop (refusal_of result)) (P.state plant.old).faults (P.state plant.new).faults }
+    ensures others { OthersStay (P.state plant.old) (P.state plant.new) config.now t.0 }
+    ensures on { OnOk result ((P.state plant.new).on ≡ (P.state plant.old).on) }
+    ensures room { journal.old.spare ≤ journal.new.spare + ((volume_seen (P.state plant.old) config.now t.0).tracks + 3) }
+    ensures room_left { OnOk result (journal.old.spare ≤ journal.new.spare + ((volume_seen (P.state plant.old) config.now t.0).tracks + 2)) }
+    ensures spare { length journal.new.events + journal.new.spare ≡ length journal.old.events + journal.old.spare }
 {
-    if let Some(why) = target_refusal(p, c, s, t, unsettled) {
+    if let Some(why) = target_refusal(plant, config, s, t, unsettled) {
         return Err(why);
     }
-    if let Some(why) = lone_refusal(p, c, s, t) {
+    if let Some(why) = lone_refusal(plant, config, s, t) {
         return Err(why);
     }
-    turn_back(p, c, j, t, left)
+    turn_back(plant, config, journal, t, left)
 }
 
 /// Target t, which is restored and whose server is on, gives up the lowest track that it holds, which its source holds by
 /// now. With the last one the restore ends: each track of t then reads zeros. Fails where the server stops in the move or
 /// goes off at a read. The journal needs room for an event for each track and two more.
 pub fn reverse_finish<P: Plant>(
-    p: &mut P,
-    c: &Config,
-    j: &mut Journal,
+    plant: &mut P,
+    config: &Config,
+    journal: &mut Journal,
     t: VolumeId,
 ) -> Result<(), Refusal>
-    requires rest { IsAtRest (P.state p.old) c.now }
-    requires fit { RelationsFit (P.state p.old) c.now }
-    requires defined { IsSome (place_of c.now t.0) }
-    requires running { (P.state p.old).on (volume_seen (P.state p.old) c.now t.0).server ≡ true }
-    requires reversing { (volume_seen (P.state p.old) c.now t.0).fields.reversing ≡ true }
-    requires held { IsSome (relations.lowest (volume_seen (P.state p.old) c.now t.0).tracks (volume_seen (P.state p.old) c.now t.0).fields.own) }
-    requires room { (volume_seen (P.state p.old) c.now t.0).tracks + 2 ≤ j.old.spare }
-    ensures carried { (r : Rest) → Ends (armed_in (P.state p.old)) (world_seen (P.state p.new) c.now r j.new.events) (refusal_of result) (world_seen (P.state p.old) c.now r j.old.events) (for_lowest t.0 (λ k. now (Release t.0 k)) ∷ []) }
-    ensures leads { OnOk result ((r : Rest) → Leads (world_seen (P.state p.old) c.now r j.old.events) (for_lowest t.0 (λ k. now (Release t.0 k)) ∷ []) (world_seen (P.state p.new) c.now r j.new.events)) }
-    ensures fails { OnErr result ((r : Rest) → Fails (armed_in (P.state p.old)) (world_seen (P.state p.old) c.now r j.old.events) (for_lowest t.0 (λ k. now (Release t.0 k)) ∷ []) (world_seen (P.state p.new) c.now r j.new.events) (refusal_of result)) }
-    ensures moved { (k : ℕ) → relations.lowest (volume_seen (P.state p.old) c.now t.0).tracks (volume_seen (P.state p.old) c.now t.0).fields.own ≡ Some k → OnOk result (IsMoved (P.state p.old) (P.state p.new) c.now t.0 (relations.restored (volume_seen (P.state p.old) c.now t.0).tracks (relations.given_up (volume_seen (P.state p.old) c.now t.0).fields k)) None) }
-    ensures refused { OnErr result (refusal_of result ≡ Some (stopped (volume_seen (P.state p.old) c.now t.0).server)) }
-    ensures rest { IsAtRest (P.state p.new) c.now }
-    ensures fit { RelationsFit (P.state p.new) c.now }
-    ensures unarmed { (q : ℕ) → (P.state p.old).read_fuse q ≡ None → (P.state p.new).read_fuse q ≡ None }
-    ensures faults { Counted (is_err result) (P.state p.old).faults (P.state p.new).faults }
-    ensures others { OthersStay (P.state p.old) (P.state p.new) c.now t.0 }
-    ensures on { OnOk result ((P.state p.new).on ≡ (P.state p.old).on) }
-    ensures goes_on { OnOk result ((s : ℕ) → IsRestoredOnto s (volume_seen (P.state p.old) c.now t.0).fields → IsRestoredOnto s (volume_seen (P.state p.new) c.now t.0).fields) }
-    ensures room { j.old.spare ≤ j.new.spare + ((volume_seen (P.state p.old) c.now t.0).tracks + 2) }
-    ensures room_left { OnOk result (j.old.spare ≤ j.new.spare + ((volume_seen (P.state p.old) c.now t.0).tracks + 1)) }
-    ensures spare { length j.new.events + j.new.spare ≡ length j.old.events + j.old.spare }
+    requires rest { IsAtRest (P.state plant.old) config.now }
+    requires fit { RelationsFit (P.state plant.old) config.now }
+    requires defined { IsSome (place_of config.now t.0) }
+    requires running { (P.state plant.old).on (volume_seen (P.state plant.old) config.now t.0).server ≡ true }
+    requires reversing { (volume_seen (P.state plant.old) config.now t.0).fields.reversing ≡ true }
+    requires held { IsSome (relations.lowest (volume_seen (P.state plant.old) config.now t.0).tracks (volume_seen (P.state plant.old) config.now t.0).fields.own) }
+    requires room { (volume_seen (P.state plant.old) config.now t.0).tracks + 2 ≤ journal.old.spare }
+    ensures carried { (r : Rest) → Ends (armed_in (P.state plant.old)) (world_seen (P.state plant.new) config.now r journal.new.events) (refusal_of result) (world_seen (P.state plant.old) config.now r journal.old.events) (for_lowest t.0 (λ k. now (Release t.0 k)) ∷ []) }
+    ensures leads { OnOk result ((r : Rest) → Leads (world_seen (P.state plant.old) config.now r journal.old.events) (for_lowest t.0 (λ k. now (Release t.0 k)) ∷ []) (world_seen (P.state plant.new) config.now r journal.new.events)) }
+    ensures fails { OnErr result ((r : Rest) → Fails (armed_in (P.state plant.old)) (world_seen (P.state plant.old) config.now r journal.old.events) (for_lowest t.0 (λ k. now (Release t.0 k)) ∷ []) (world_seen (P.state plant.new) config.now r journal.new.events) (refusal_of result)) }
+    ensures moved { (k : ℕ) → relations.lowest (volume_seen (P.state plant.old) config.now t.0).tracks (volume_seen (P.state plant.old) config.now t.0).fields.own ≡ Some k → OnOk result (IsMoved (P.state plant.old) (P.state plant.new) config.now t.0 (relations.restored (volume_seen (P.state plant.old) config.now t.0).tracks (relations.given_up (volume_seen (P.state plant.old) config.now t.0).fields k)) None) }
+    ensures refused { OnErr result (refusal_of result ≡ Some (stopped (volume_seen (P.state plant.old) config.now t.0).server)) }
+    ensures rest { IsAtRest (P.state plant.new) config.now }
+    ensures fit { RelationsFit (P.state plant.new) config.now }
+    ensures unarmed { (q : ℕ) → (P.state plant.old).read_fuse q ≡ None → (P.state plant.new).read_fuse q ≡ None }
+    ensures faults { Counted (is_err result) (P.state plant.old).faults (P.state plant.new).faults }
+    ensures others { OthersStay (P.state plant.old) (P.state plant.new) config.now t.0 }
+    ensures on { OnOk result ((P.state plant.new).on ≡ (P.state plant.old).on) }
+    ensures goes_on { OnOk result ((s : ℕ) → IsRestoredOnto s (volume_seen (P.state plant.old) config.now t.0).fields → IsRestoredOnto s (volume_seen (P.state plant.new) config.now t.0).fields) }
+    ensures room { journal.old.spare ≤ journal.new.spare + ((volume_seen (P.state plant.old) config.now t.0).tracks + 2) }
+    ensures room_left { OnOk result (journal.old.spare ≤ journal.new.spare + ((volume_seen (P.state plant.old) config.now t.0).tracks + 1)) }
+    ensures spare { length journal.new.events + journal.new.spare ≡ length journal.old.events + journal.old.spare }
 {
-    let fields = peek_fields(p, c, t);
-    let k = lowest(tracks_of(c, t), &fields.own).unwrap();
-    give_up(p, c, j, t, k)
+    let fields = peek_fields(plant, config, t);
+    let k = lowest(tracks_of(config, t), &fields.own).unwrap();
+    give_up(plant, config, journal, t, k)
 }
 
 /// Track k, the lowest that t holds, comes back to s, the source of t.
 fn give_back<P: Plant>(
-    p: &mut P,
-    c: &Config,
-    j: &mut Journal,
+    plant: &mut P,
+    config: &Config,
+    journal: &mut Journal,
     s: VolumeId,
     t: VolumeId,
     k: u16,
 ) -> Result<(), Refusal>
-    requires rest { IsAtRest (P.state p.old) c.now }
-    requires fit { RelationsFit (P.state p.old) c.now }
-    requires defined { IsSome (place_of c.now t.0) }
-    requires running { (P.state p.old).on (volume_seen (P.state p.old) c.now t.0).server ≡ true }
-    requires copies { copies_from s.0 (volume_seen (P.state p.old) c.now t.0).fields ≡ true }
-    requires reversing { (volume_seen (P.state p.old) c.now t.0).fields.reversing ≡ true }
-    requires held { relations.lowest (volume_seen (P.state p.old) c.now t.0).tracks (volume_seen (P.state p.old) c.now t.0).fields.own ≡ Some k }
-    requires room { length c.now.volumes + (volume_seen (P.state p.old) c.now t.0).tracks + 3 ≤ j.old.spare }
-    ensures leads { OnOk result ((r : Rest) → Leads (world_seen (P.state p.old) c.now r j.old.events) (give_back (ids_of c.now.volumes) s.0 t.0) (world_seen (P.state p.new) c.now r j.new.events)) }
-    ensures fails { OnErr result ((r : Rest) → Fails (armed_in (P.state p.old)) (world_seen (P.state p.old) c.now r j.old.events) (give_back (ids_of c.now.volumes) s.0 t.0) (world_seen (P.state p.new) c.now r j.new.events) (refusal_of result)) }
-    ensures moved { OnOk result (IsMoved (P.state p.old) (P.state p.new) c.now t.0 (relations.restored (volume_seen (P.state p.old) c.now t.0).tracks (relations.given_up (volume_seen (P.state p.old) c.now t.0).fields k)) None) }
-    ensures back { OnOk result (track_seen (P.state p.new) c.now s.0 k ≡ track_seen (P.state p.old) c.now t.0 k) }
-    ensures kept { OnOk result (BlankAreZeros (P.state p.old) c.now s.0 → (q : ℕ) → q ≢ k → track_seen (P.state p.new) c.now s.0 q ≡ track_seen (P.state p.old) c.now s.0 q) }
-    ensures refused { OnErr result (refusal_of result ≡ Some (stopped (volume_seen (P.state p.old) c.now t.0).server)) }
-    ensures rest { IsAtRest (P.state p.new) c.now }
-    ensures fit { RelationsFit (P.state p.new) c.now }
-    ensures unarmed { (q : ℕ) → (P.state p.old).read_fuse q ≡ None → (P.state p.new).read_fuse q ≡ None }
-    ensures faults { Counted (is_err result) (P.state p.old).faults (P.state p.new).faults }
-    ensures others { (q : ℕ) → (copies_from s.0 (volume_seen (P.state p.old) c.now q).fields || nat_eq q s.0) ≡ false → IsAsBefore (P.state p.old) (P.state p.new) c.now q }
-    ensures on { OnOk result ((P.state p.new).on ≡ (P.state p.old).on) }
-    ensures goes_on { OnOk result ((s : ℕ) → IsRestoredOnto s (volume_seen (P.state p.old) c.now t.0).fields → IsRestoredOnto s (volume_seen (P.state p.new) c.now t.0).fields) }
-    ensures room { j.old.spare ≤ j.new.spare + (length c.now.volumes + (volume_seen (P.state p.old) c.now t.0).tracks + 3) }
-    ensures room_left { OnOk result (j.old.spare ≤ j.new.spare + (length c.now.volumes + (volume_seen (P.state p.old) c.now t.0).tracks + 2)) }
-    ensures spare { length j.new.events + j.new.spare ≡ length j.old.events + j.old.spare }
+    requires rest { IsAtRest (P.state plant.old) config.now }
+    requires fit { RelationsFit (P.state plant.old) config.now }
+    requires defined { IsSome (place_of config.now t.0) }
+    requires running { (P.state plant.old).on (volume_seen (P.state plant.old) config.now t.0).server ≡ true }
+    requires copies { copies_from s.0 (volume_seen (P.state plant.old) config.now t.0).fields ≡ true }
+    requires reversing { (volume_seen (P.state plant.old) config.now t.0).fields.reversing ≡ true }
+    requires held { relations.lowest (volume_seen (P.state plant.old) config.now t.0).tracks (volume_seen (P.state plant.old) config.now t.0).fields.own ≡ Some k }
+    requires room { length config.now.volumes + (volume_seen (P.state plant.old) config.now t.0).tracks + 3 ≤ journal.old.spare }
+    ensures leads { OnOk result ((r : Rest) → Leads (world_seen (P.state plant.old) config.now r journal.old.events) (give_back (ids_of config.now.volumes) s.0 t.0) (world_seen (P.state plant.new) config.now r journal.new.events)) }
+    ensures fails { OnErr result ((r : Rest) → Fails (armed_in (P.state plant.old)) (world_seen (P.state plant.old) config.now r journal.old.events) (give_back (ids_of config.now.volumes) s.0 t.0) (world_seen (P.state plant.new) config.now r journal.new.events) (refusal_of result)) }
+    ensures moved { OnOk result (IsMoved (P.state plant.old) (P.state plant.new) config.now t.0 (relations.restored (volume_seen (P.state plant.old) config.now t.0).tracks (relations.given_up (volume_seen (P.state plant.old) config.now t.0).fields k)) None) }
+    ensures back { OnOk result (track_seen (P.state plant.new) config.now s.0 k ≡ track_seen (P.state plant.old) config.now t.0 k) }
+    ensures kept { OnOk result (BlankAreZeros (P.state plant.old) config.now s.0 → (q : ℕ) → q ≢ k → track_seen (P.state plant.new) config.now s.0 q ≡ track_seen (P.state plant.old) config.now s.0 q) }
+    ensures refused { OnErr result (refusal_of result ≡ Some (stopped (volume_seen (P.state plant.old) config.now t.0).server)) }
+    ensures rest { IsAtRest (P.state plant.new) config.now }
+    ensures fit { RelationsFit (P.state plant.new) config.now }
+    ensures unarmed { (q : ℕ) → (P.state plant.old).read_fuse q ≡ None → (P.state plant.new).read_fuse q ≡ None }
+    ensures faults { Counted (is_err result) (P.state plant.old).faults (P.state plant.new).faults }
+    ensures others { (q : ℕ) → (copies_from s.0 (volume_seen (P.state plant.old) config.now q).fields || nat_eq q s.0) ≡ false → IsAsBefore (P.state plant.old) (P.state plant.new) config.now q }
+    ensures on { OnOk result ((P.state plant.new).on ≡ (P.state plant.old).on) }
+    ensures goes_on { OnOk result ((s : ℕ) → IsRestoredOnto s (volume_seen (P.state plant.old) config.now t.0).fields → IsRestoredOnto s (volume_seen (P.state plant.new) config.now t.0).fields) }
+    ensures room { journal.old.spare ≤ journal.new.spare + (length config.now.volumes + (volume_seen (P.state plant.old) config.now t.0).tracks + 3) }
+    ensures room_left { OnOk result (journal.old.spare ≤ journal.new.spare + (length config.now.volumes + (volume_seen (P.state plant.old) config.now t.0).tracks + 2)) }
+    ensures spare { length journal.new.events + journal.new.spare ≡ length journal.old.events + journal.old.spare }
 {
-    keep_others(p, c, j, s, k, t)?;
-    take_back(p, c, j, s, k, t)?;
-    reverse_finish(p, c, j, t)
+    keep_others(plant, config, journal, s, k, t)?;
+    take_back(plant, config, journal, s, k, t)?;
+    reverse_finish(plant, config, journal, t)
 }
 
 /// One track of a volume t whose server is on, and which is restored where it is a target, comes back to the source of t:
@@ -162,41 +162,41 @@ fn give_back<P: Plant>(
 /// each track of t and three more. Where the source's blank tracks are zeros, t shows what it showed; with the last track the
 /// source has that, and t reads zeros.
 pub fn reverse_step<P: Plant>(
-    p: &mut P,
-    c: &Config,
-    j: &mut Journal,
+    plant: &mut P,
+    config: &Config,
+    journal: &mut Journal,
     t: VolumeId,
 ) -> Result<bool, Refusal>
-    requires rest { IsAtRest (P.state p.old) c.now }
-    requires fit { RelationsFit (P.state p.old) c.now }
-    requires defined { IsSome (place_of c.now t.0) }
-    requires running { (P.state p.old).on (volume_seen (P.state p.old) c.now t.0).server ≡ true }
-    requires reversing { (volume_seen (P.state p.old) c.now t.0).fields.related ≡ true → (volume_seen (P.state p.old) c.now t.0).fields.reversing ≡ true }
-    requires room { length c.now.volumes + (volume_seen (P.state p.old) c.now t.0).tracks + 3 ≤ j.old.spare }
-    ensures carried { (s : ℕ) → IsRestoredOnto s (volume_seen (P.state p.old) c.now t.0).fields → (r : Rest) → Ends (armed_in (P.state p.old)) (world_seen (P.state p.new) c.now r j.new.events) (refusal_of result) (world_seen (P.state p.old) c.now r j.old.events) (give_back (ids_of c.now.volumes) s t.0) }
-    ensures leads { OnOk result ((s : ℕ) → IsRestoredOnto s (volume_seen (P.state p.old) c.now t.0).fields → (r : Rest) → Leads (world_seen (P.state p.old) c.now r j.old.events) (give_back (ids_of c.now.volumes) s t.0) (world_seen (P.state p.new) c.now r j.new.events)) }
-    ensures fails { OnErr result ((s : ℕ) → IsRestoredOnto s (volume_seen (P.state p.old) c.now t.0).fields → (r : Rest) → Fails (armed_in (P.state p.old)) (world_seen (P.state p.old) c.now r j.old.events) (give_back (ids_of c.now.volumes) s t.0) (world_seen (P.state p.new) c.now r j.new.events) (refusal_of result)) }
-    ensures found { IfOk result (λ b. b ≡ is_some (relations.lowest (volume_seen (P.state p.old) c.now t.0).tracks (volume_seen (P.state p.old) c.now t.0).fields.own)) }
-    ensures none { IfOk result (λ b. b ≡ false → (P.state p.new ≡ P.state p.old) × (j.new ≡ j.old)) }
-    ensures moved { (k : ℕ) → relations.lowest (volume_seen (P.state p.old) c.now t.0).tracks (volume_seen (P.state p.old) c.now t.0).fields.own ≡ Some k → OnOk result (IsMoved (P.state p.old) (P.state p.new) c.now t.0 (relations.restored (volume_seen (P.state p.old) c.now t.0).tracks (relations.given_up (volume_seen (P.state p.old) c.now t.0).fields k)) None) }
-    ensures back { (k : ℕ) → relations.lowest (volume_seen (P.state p.old) c.now t.0).tracks (volume_seen (P.state p.old) c.now t.0).fields.own ≡ Some k → OnOk result (track_seen (P.state p.new) c.now (volume_seen (P.state p.old) c.now t.0).fields.source k ≡ track_seen (P.state p.old) c.now t.0 k) }
-    ensures restores { OnOk result ((s : ℕ) → IsRestoredOnto s (volume_seen (P.state p.old) c.now t.0).fields → (volume_seen (P.state p.old) c.now t.0).fields.related ≡ true → BlankAreZeros (P.state p.old) c.now s → Restores (P.state p.old) (P.state p.new) c.now s t.0) }
-    ensures refused { OnErr result (refusal_of result ≡ Some (stopped (volume_seen (P.state p.old) c.now t.0).server)) }
-    ensures rest { IsAtRest (P.state p.new) c.now }
-    ensures fit { RelationsFit (P.state p.new) c.now }
-    ensures unarmed { (q : ℕ) → (P.state p.old).read_fuse q ≡ None → (P.state p.new).read_fuse q ≡ None }
-    ensures faults { Counted (is_err result) (P.state p.old).faults (P.state p.new).faults }
-    ensures others { (q : ℕ) → (copies_from (volume_seen (P.state p.old) c.now t.0).fields.source (volume_seen (P.state p.old) c.now q).fields || nat_eq q (volume_seen (P.state p.old) c.now t.0).fields.source) ≡ false → IsAsBefore (P.state p.old) (P.state p.new) c.now q }
-    ensures on { OnOk result ((P.state p.new).on ≡ (P.state p.old).on) }
-    ensures goes_on { OnOk result ((s : ℕ) → IsRestoredOnto s (volume_seen (P.state p.old) c.now t.0).fields → IsRestoredOnto s (volume_seen (P.state p.new) c.now t.0).fields) }
-    ensures room { j.old.spare ≤ j.new.spare + (length c.now.volumes + (volume_seen (P.state p.old) c.now t.0).tracks + 3) }
-    ensures room_left { OnOk result (j.old.spare ≤ j.new.spare + (length c.now.volumes + (volume_seen (P.state p.old) c.now t.0).tracks + 2)) }
-    ensures spare { length j.new.events + j.new.spare ≡ length j.old.events + j.old.spare }
+    requires rest { IsAtRest (P.state plant.old) config.now }
+    requires fit { RelationsFit (P.state plant.old) config.now }
+    requires defined { IsSome (place_of config.now t.0) }
+    requires running { (P.state plant.old).on (volume_seen (P.state plant.old) config.now t.0).server ≡ true }
+    requires reversing { (volume_seen (P.state plant.old) config.now t.0).fields.related ≡ true → (volume_seen (P.state plant.old) config.now t.0).fields.reversing ≡ true }
+    requires room { length config.now.volumes + (volume_seen (P.state plant.old) config.now t.0).tracks + 3 ≤ journal.old.spare }
+    ensures carried { (s : ℕ) → IsRestoredOnto s (volume_seen (P.state plant.old) config.now t.0).fields → (r : Rest) → Ends (armed_in (P.state plant.old)) (world_seen (P.state plant.new) config.now r journal.new.events) (refusal_of result) (world_seen (P.state plant.old) config.now r journal.old.events) (give_back (ids_of config.now.volumes) s t.0) }
+    ensures leads { OnOk result ((s : ℕ) → IsRestoredOnto s (volume_seen (P.state plant.old) config.now t.0).fields → (r : Rest) → Leads (world_seen (P.state plant.old) config.now r journal.old.events) (give_back (ids_of config.now.volumes) s t.0) (world_seen (P.state plant.new) config.now r journal.new.events)) }
+    ensures fails { OnErr result ((s : ℕ) → IsRestoredOnto s (volume_seen (P.state plant.old) config.now t.0).fields → (r : Rest) → Fails (armed_in (P.state plant.old)) (world_seen (P.state plant.old) config.now r journal.old.events) (give_back (ids_of config.now.volumes) s t.0) (world_seen (P.state plant.new) config.now r journal.new.events) (refusal_of result)) }
+    ensures found { IfOk result (λ b. b ≡ is_some (relations.lowest (volume_seen (P.state plant.old) config.now t.0).tracks (volume_seen (P.state plant.old) config.now t.0).fields.own)) }
+    ensures none { IfOk result (λ b. b ≡ false → (P.state plant.new ≡ P.state plant.old) × (journal.new ≡ journal.old)) }
+    ensures moved { (k : ℕ) → relations.lowest (volume_seen (P.state plant.old) config.now t.0).tracks (volume_seen (P.state plant.old) config.now t.0).fields.own ≡ Some k → OnOk result (IsMoved (P.state plant.old) (P.state plant.new) config.now t.0 (relations.restored (volume_seen (P.state plant.old) config.now t.0).tracks (relations.given_up (volume_seen (P.state plant.old) config.now t.0).fields k)) None) }
+    ensures back { (k : ℕ) → relations.lowest (volume_seen (P.state plant.old) config.now t.0).tracks (volume_seen (P.state plant.old) config.now t.0).fields.own ≡ Some k → OnOk result (track_seen (P.state plant.new) config.now (volume_seen (P.state plant.old) config.now t.0).fields.source k ≡ track_seen (P.state plant.old) config.now t.0 k) }
+    ensures restores { OnOk result ((s : ℕ) → IsRestoredOnto s (volume_seen (P.state plant.old) config.now t.0).fields → (volume_seen (P.state plant.old) config.now t.0).fields.related ≡ true → BlankAreZeros (P.state plant.old) config.now s → Restores (P.state plant.old) (P.state plant.new) config.now s t.0) }
+    ensures refused { OnErr result (refusal_of result ≡ Some (stopped (volume_seen (P.state plant.old) config.now t.0).server)) }
+    ensures rest { IsAtRest (P.state plant.new) config.now }
+    ensures fit { RelationsFit (P.state plant.new) config.now }
+    ensures unarmed { (q : ℕ) → (P.state plant.old).read_fuse q ≡ None → (P.state plant.new).read_fuse q ≡ None }
+    ensures faults { Counted (is_err result) (P.state plant.old).faults (P.state plant.new).faults }
+    ensures others { (q : ℕ) → (copies_from (volume_seen (P.state plant.old) config.now t.0).fields.source (volume_seen (P.state plant.old) config.now q).fields || nat_eq q (volume_seen (P.state plant.old) config.now t.0).fields.source) ≡ false → IsAsBefore (P.state plant.old) (P.state plant.new) config.now q }
+    ensures on { OnOk result ((P.state plant.new).on ≡ (P.state plant.old).on) }
+    ensures goes_on { OnOk result ((s : ℕ) → IsRestoredOnto s (volume_seen (P.state plant.old) config.now t.0).fields → IsRestoredOnto s (volume_seen (P.state plant.new) config.now t.0).fields) }
+    ensures room { journal.old.spare ≤ journal.new.spare + (length config.now.volumes + (volume_seen (P.state plant.old) config.now t.0).tracks + 3) }
+    ensures room_left { OnOk result (journal.old.spare ≤ journal.new.spare + (length config.now.volumes + (volume_seen (P.state plant.old) config.now t.0).tracks + 2)) }
+    ensures spare { length journal.new.events + journal.new.spare ≡ length journal.old.events + journal.old.spare }
 {
-    let fields = peek_fields(p, c, t);
-    let Some(k) = lowest(tracks_of(c, t), &fields.own) else {
+    let fields = peek_fields(plant, config, t);
+    let Some(k) = lowest(tracks_of(config, t), &fields.own) else {
         return Ok(false);
     };
-    give_back(p, c, j, fields.source, t, k)?;
+    give_back(plant, config, journal, fields.source, t, k)?;
     Ok(true)
 }

@@ -7,8 +7,8 @@ use Rattle.dr_logic.specs.Counts.{Rose}
 use Rattle.dr_io.specs.Given.{Took, TookAll}
 use Rattle.dr_io.specs.Lines.{Progress, IsOpen, Reads, most_bytes, most_lines, most_piece, most_told}
 use Rattle.dr_io.specs.Reading.{most_kept, told_of, EndsLine, KeepsAll, Fills, Fails}
-use Rattle.dr_io.specs.declared.line_reader.Over.{Over}
-use Rattle.dr_io.specs.declared.line_reader.Over.TheVariants.{AtEnd, PastLimit, ByFault}
+use Rattle.dr_io.specs.declared.line_reader.ReadingEnd.{ReadingEnd}
+use Rattle.dr_io.specs.declared.line_reader.ReadingEnd.TheVariants.{AtEnd, PastLimit, ByFault}
 use Rattle.dr_io.specs.declared.line_reader.Taken.TheVariants.{Line, End, TooLong}
 use Rattle.dr_io.proofs.ReadingLemmas.{filled, front_of_front, kept_both, open_both, open_before, split_line, told_line}
 
@@ -138,7 +138,7 @@ module _ {S : Type 0} (left : S → Option (List ℕ)) (faults : S → ℕ) wher
   }
 
   -- a line ended
-  pub reads-line : (old new : S) (before : Progress) (ahead kept ahead_after kept_after : List ℕ) (taken given : ℕ) (over : Option Over)
+  pub reads-line : (old new : S) (before : Progress) (ahead kept ahead_after kept_after : List ℕ) (taken given : ℕ) (over : Option ReadingEnd)
       → given ≡ before.given → over ≡ None → before.given < most_lines → taken ≤ most_bytes → Along left faults old new before ahead kept taken
       → EndsLine ahead kept ahead_after kept_after
       → Reads left faults old new before (record { ahead = ahead_after; taken = taken; given = given + 1; line = kept_after; over = over }) (Ok Line)

@@ -5,8 +5,8 @@ use Rattle.std.specs.Str.Lines.{strip_carriage_return}
 use Rattle.dr_logic.specs.Counts.{Rose}
 use Rattle.dr_io.specs.Given.{Took, TookAll}
 use Rattle.dr_io.specs.declared.streams.Failed.{Failed}
-use Rattle.dr_io.specs.declared.line_reader.Over.{Over}
-use Rattle.dr_io.specs.declared.line_reader.Over.TheVariants.{AtEnd, PastLimit, ByFault}
+use Rattle.dr_io.specs.declared.line_reader.ReadingEnd.{ReadingEnd}
+use Rattle.dr_io.specs.declared.line_reader.ReadingEnd.TheVariants.{AtEnd, PastLimit, ByFault}
 use Rattle.dr_io.specs.declared.line_reader.Taken.{Taken}
 use Rattle.dr_io.specs.declared.line_reader.Taken.TheVariants.{Line, End, TooLong}
 
@@ -41,17 +41,17 @@ pub record Progress : Type 0 where
   pub taken : ℕ
   pub given : ℕ
   pub line : List ℕ
-  pub over : Option Over
+  pub over : Option ReadingEnd
 
 -- a reading before its first call
 abbrev pub begun : Progress
 begun = record { ahead = []; taken = 0; given = 0; line = []; over = None }
 
 -- what is answered once the reading is over
-abbrev pub answer_of : Over → Result Taken Failed
-answer_of AtEnd = Ok End
-answer_of PastLimit = Ok TooLong
-answer_of ByFault = Err (record {})
+abbrev pub end_answer : ReadingEnd → Result Taken Failed
+end_answer AtEnd = Ok End
+end_answer PastLimit = Ok TooLong
+end_answer ByFault = Err (record {})
 
 -- the next line, with its end
 pub record IsEndedLine (all : List ℕ) (after : Progress) : Type 0 where
@@ -133,13 +133,13 @@ module _ {S : Type 0} (left : S → Option (List ℕ)) (faults : S → ℕ) (old
     pub gives : Gives before after (before.ahead ++ bytes) result
 
   -- once the reading is over, nothing changes
-  pub record StaysOver (over : Over) (before after : Progress) (result : Result Taken Failed) : Type 0 where
+  pub record StaysOver (over : ReadingEnd) (before after : Progress) (result : Result Taken Failed) : Type 0 where
     pub source : new ≡ old
     pub reader : after ≡ before
-    pub answer : result ≡ answer_of over
+    pub answer : result ≡ end_answer over
 
   -- by whether the reading was over before
-  abbrev pub NextBy : Option Over → Progress → Progress → Result Taken Failed → Type 0
+  abbrev pub NextBy : Option ReadingEnd → Progress → Progress → Result Taken Failed → Type 0
   NextBy None before after result = Reads before after result
   NextBy (Some over) before after result = StaysOver over before after result
 

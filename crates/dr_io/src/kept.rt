@@ -15,12 +15,12 @@ const MOST_TOLD: usize = 1025;
 
 /// The front of a line.
 #[derive(Drop)]
-pub struct Kept {
+pub struct Front {
     bytes: [u8; MOST_KEPT],
     len: usize,
 }
 
-impl Model for Kept {
+impl Model for Front {
     ghost use Rattle.std.specs.Prelude.{ℕ, List, ◌≤◌, take};
 
     ghost Value = { List ℕ };
@@ -30,12 +30,12 @@ impl Model for Kept {
     ghost invariant = { λ k. k.len ≤ 1026 };
 }
 
-impl Kept {
+impl Front {
     /// No bytes.
-    pub fn new() -> Kept
+    pub fn new() -> Front
         ensures { result ≡ [] }
     {
-        Kept {
+        Front {
             bytes: [0; MOST_KEPT],
             len: 0,
         }

@@ -21,7 +21,7 @@ mod std_sink;
 mod std_source;
 mod streams;
 
-pub use line_reader::{LineReader, Over, Taken};
+pub use line_reader::{LineReader, ReadingEnd, Taken};
 pub use mem_sink::MemSink;
 pub use mem_source::MemSource;
 pub use std_sink::StdSink;

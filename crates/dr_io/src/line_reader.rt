@@ -2,11 +2,11 @@
 
 ghost use Rattle.std.specs.Prelude.{◌≡◌, ℕ, ◌+◌, ◌<◌, ◌≤◌, None, length};
 ghost use Rattle.std.specs.List.{position};
-ghost use Rattle.dr_io.specs.Lines.{IsNext, Reads, answer_of, begun, is_line_end, most_bytes, most_lines};
+ghost use Rattle.dr_io.specs.Lines.{IsNext, Reads, end_answer, begun, is_line_end, most_bytes, most_lines};
 ghost use Rattle.dr_io.specs.Reading.{CutsLine};
 
 use crate::ahead::{Ahead, MOST_PIECE};
-use crate::kept::Kept;
+use crate::kept::Front;
 use crate::streams::{Failed, Source};
 use std::marker::Model;
 
@@ -29,7 +29,7 @@ pub enum Taken {
 
 /// How a reading ended.
 #[derive(Clone, Copy)]
-pub enum Over {
+pub enum ReadingEnd {
     AtEnd,
     PastLimit,
     ByFault,
@@ -39,10 +39,10 @@ pub enum Over {
 #[derive(Drop)]
 pub struct LineReader {
     ahead: Ahead,
-    kept: Kept,
+    kept: Front,
     taken: usize,
     given: u32,
-    over: Option<Over>,
+    over: Option<ReadingEnd>,
 }
 
 impl Model for LineReader {
@@ -63,7 +63,7 @@ impl LineReader {
     {
         LineReader {
             ahead: Ahead::new(),
-            kept: Kept::new(),
+            kept: Front::new(),
             taken: 0,
             given: 0,
             over: None,
@@ -100,19 +100,19 @@ impl LineReader {
         ensures near { length self.new.ahead ≤ 4096 }
     {
         if !self.ahead.is_empty() {
-            self.over = Some(Over::PastLimit);
+            self.over = Some(ReadingEnd::PastLimit);
             return Ok(Taken::TooLong);
         }
         let Ok(n) = self.ahead.fill(source, room_after(self.taken)) else {
-            self.over = Some(Over::ByFault);
+            self.over = Some(ReadingEnd::ByFault);
             return Err(Failed);
         };
         self.taken += n;
         if n == 0 {
-            self.over = Some(Over::AtEnd);
+            self.over = Some(ReadingEnd::AtEnd);
             return Ok(Taken::End);
         }
-        self.over = Some(Over::PastLimit);
+        self.over = Some(ReadingEnd::PastLimit);
         Ok(Taken::TooLong)
     }
 
@@ -126,12 +126,12 @@ impl LineReader {
         self.kept.clear();
         while !cut_line(&mut self.ahead, &mut self.kept) {
             let Ok(n) = self.ahead.fill(source, room_after(self.taken)) else {
-                self.over = Some(Over::ByFault);
+                self.over = Some(ReadingEnd::ByFault);
                 return Err(Failed);
             };
             self.taken += n;
             if n == 0 {
-                self.over = Some(Over::AtEnd);
+                self.over = Some(ReadingEnd::AtEnd);
                 if self.kept.is_empty() {
                     return Ok(Taken::End);
                 }
@@ -140,7 +140,7 @@ impl LineReader {
                 return Ok(Taken::Line);
             }
             if self.taken > MOST_BYTES {
-                self.over = Some(Over::PastLimit);
+                self.over = Some(ReadingEnd::PastLimit);
                 return Ok(Taken::TooLong);
             }
         }
@@ -150,13 +150,13 @@ impl LineReader {
 }
 
 /// What is answered once the reading is over.
-fn answer(over: Over) -> Result<Taken, Failed>
-    ensures { result ≡ answer_of over }
+fn answer(over: ReadingEnd) -> Result<Taken, Failed>
+    ensures { result ≡ end_answer over }
 {
     match over {
-        Over::AtEnd => Ok(Taken::End),
-        Over::PastLimit => Ok(Taken::TooLong),
-        Over::ByFault => Err(Failed),
+        ReadingEnd::AtEnd => Ok(Taken::End),
+        ReadingEnd::PastLimit => Ok(Taken::TooLong),
+        ReadingEnd::ByFault => Err(Failed),
     }
 }
 
@@ -183,7 +183,7 @@ fn line_end_at(bytes: &[u8]) -> Option<usize>
 }
 
 /// Keeps the bytes ahead up to the end of the line, which is dropped; whether there is one.
-fn cut_line(ahead: &mut Ahead, kept: &mut Kept) -> bool
+fn cut_line(ahead: &mut Ahead, kept: &mut Front) -> bool
     ensures { CutsLine ahead.old kept.old ahead.new kept.new result }
 {
     let bytes = ahead.bytes();

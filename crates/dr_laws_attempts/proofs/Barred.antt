@@ -17,7 +17,7 @@ use Rattle.dr_model.specs.Moves.{Move, Carried, target, next_fields}
 use Rattle.dr_model.specs.Entries.{fields_at, is_at}
 use Rattle.dr_model.specs.Sessions.{Session, Mirror, with_mirror, with_master, mirror_lost_since, mirrored_by, unmirrored, paused, raised, with_member, without_member, changed, begun, busy}
 use Rattle.dr_model.specs.Groups.{In, Groups, OpensAttempt}
-use Rattle.dr_model.specs.Attempts.{Role, Roles, role_of, roles, Seen, seen, all_seen, seen_in, All, Bars, Barred, Numbers, InPhase, phase_of, owed_of, reports_of, Attempt, Attempts, AttemptsIn, FlashesMember, RevertsMember, InAttempt, IsLate, Over, OverIn}
+use Rattle.dr_model.specs.Attempts.{Role, Roles, role_of, roles, Seen, seen, all_seen, seen_in, All, Bars, Barred, NumbersAgree, InPhase, phase_of, owed_of, reports_of, IsAttempt, Attempts, AttemptsIn, FlashesMember, RevertsMember, InAttempt, IsLate, IsOver, OverIn}
 use Rattle.dr_laws_sessions.specs.Frames.{Moves}
 use Rattle.dr_facts.proofs.Tables.{IsOrNot, at_cases, at_part}
 use Rattle.dr_facts.proofs.Lists.{in-joined, from-filter, from-map, to-map}
@@ -33,8 +33,8 @@ use Rattle.dr_logic.proofs.Truth.{false_true}
 
 -- ---- a session's members change
 
-over-turns : (p : PhaseName) (n : ℕ) (owed : List ℕ) (reports : List Shown) (vs us : List Seen) → Attempt p n owed reports vs → Turning p n vs us → Over p n vs → Over p n us
-over-turns p n owed reports vs us law (Stays is) over = subst (Over p n) (sym is) over
+over-turns : (p : PhaseName) (n : ℕ) (owed : List ℕ) (reports : List Shown) (vs us : List Seen) → IsAttempt p n owed reports vs → Turning p n vs us → IsOver p n vs → IsOver p n us
+over-turns p n owed reports vs us law (Stays is) over = subst (IsOver p n) (sym is) over
 over-turns p n owed reports vs us law (One v k move may) over = record {
   late = over.late;
   positive = over.positive;
@@ -192,7 +192,7 @@ over-unmirrored T x over = record { late = tt; positive = over.positive; barred 
 -- ---- members
 
 -- a later number is none of those for which they are sealed
-over-later : (n q : ℕ) (vs : List Seen) → Numbers n vs → n ≤ q → Barred n vs → Barred q vs
+over-later : (n q : ℕ) (vs : List Seen) → NumbersAgree n vs → n ≤ q → Barred n vs → Barred q vs
 over-later n q vs numbers up bar = by (eqb_tells n q)
   where
     by : IsOrNot n q → Barred q vs

@@ -19,7 +19,7 @@ use Rattle.dr_laws_sessions.specs.Frames.{Suits, ServerSilent}
 use Rattle.dr_laws_sessions.proofs.Owed.{owes-idle}
 use Rattle.dr_laws_sessions.proofs.Quieting.{groups-move, moved-opened}
 use Rattle.dr_laws_sessions.proofs.Tables.{groups-taken}
-use Rattle.dr_laws_attempts.specs.Orders.{IsCalm}
+use Rattle.dr_laws_attempts.specs.Orders.{LeavesTargetsAlone}
 use Rattle.dr_laws_attempts.specs.Example.{first, second, session, start, move, told, reply, report, now, in_phase, held, freed, sealed, flashing, one_flashed, flashed, one_committed, all_committed, over, both, lost, aborted, reported, taken_back}
 use Rattle.dr_laws_attempts.proofs.Moves.{attempts-move}
 use Rattle.dr_laws_attempts.proofs.Tables.{attempts-opened, with-done}
@@ -218,7 +218,7 @@ held-both = moves opened opened-both (Hold 4 7 1 false) (holds, omega arith) hol
 
 module _ (k : Control) (b : Both k) (found : session_in k.sessions 7 ≡ Some (now k)) where
   -- replies where targets are left alone, and where each member of the server is done
-  calmly : (server : ℕ) → IsCalm (in_phase k) → (in_phase k ≡ phase.Finishing → ⊥) → Both (reply server k)
+  calmly : (server : ℕ) → LeavesTargetsAlone (in_phase k) → (in_phase k ≡ phase.Finishing → ⊥) → Both (reply server k)
   calmly server calm ne = answers k b server (now k) found (done-calm k (now k) server calm) (λ r has ends. absurd (ne (ap phase_of has ∙ ends)))
 
   doing : (server : ℕ) → (in_phase k ≡ phase.Finishing → ⊥) → ServerDone k (now k) server → Both (reply server k)

@@ -1,7 +1,7 @@
 -- Each kind of move keeps the laws of attempts.
 use Rattle.std.proofs.Common.{ℕ, ◌≡◌, ◌≤◌, ◌<◌, ◌⊎◌, inl, inr, refl, ap, sym, ◌∙◌, max, Bool, true, false, cond, not, ◌&&◌, ◌||◌, nat_eq, arith, List, subst, Option, Some, None}
 use Rattle.std.proofs.Math.Path.{fun_ext}
-use Rattle.std.proofs.lemmas.Bool.{and_parts, eqb-true, not-true, or_parts, or_from}
+use Rattle.std.proofs.lemmas.Bool.{and_parts, not-true, or_parts, or_from}
 use Rattle.std.proofs.Math.Bool.{or-true}
 use Rattle.dr_logic.specs.Tables.{at}
 use Rattle.dr_ids.specs.declared.names.Member.{Member}
@@ -11,7 +11,7 @@ use Rattle.dr_model.specs.Control.{Control, Volume}
 use Rattle.dr_model.specs.Views.{source_of}
 use Rattle.dr_model.specs.Relations.{is_whole, is_bare, parted_if, turned, given_up, fetched, noted, rewritten}
 use Rattle.dr_model.specs.Pairs.{primary_of, is_secondary_of}
-use Rattle.dr_model.specs.Moves.{Move, Overwrite, Keep, Relate, Withdraw, Fetch, Resync, Reverse, Release, Store, MakeSecondary, DropSecondary, TakeOver, Hold, Seal, Finish, RaiseAttempt, RaiseFloor, Leave, Flash, Commit, Revert, Carried, moved, target, next_fields}
+use Rattle.dr_model.specs.Moves.{Move, Overwrite, Keep, Relate, Withdraw, Fetch, Resync, Reverse, Release, Store, MakeSecondary, Yield, DropSecondary, TakeOver, Hold, Seal, Finish, RaiseAttempt, RaiseFloor, Leave, Flash, Commit, Revert, Carried, moved, target, next_fields}
 use Rattle.dr_model.specs.Entries.{fields_at, is_at, copies_from}
 use Rattle.dr_model.specs.SessionEntries.{may_flash}
 use Rattle.dr_model.specs.Sessions.{Session}
@@ -267,6 +267,7 @@ module _ (k : Control) (groups : Groups k) (law : Attempts k) where
   keeps (Release v t) a = closed-or v (given_up (fields_at k v) t) (is_bare (given_up (fields_at k v) t).own) refl (λ e. reversing-uncounted k law v a)
   keeps (Store v t u last) a = resealed v 0 (λ z m i here e. inl refl)
   keeps (MakeSecondary v u kind state) a = paired v (primary_of (next_fields (MakeSecondary v u kind state) k.volume)) 0 (λ z m i here e. record { sealed = inl refl; free = λ h. inr (a z m i here e) })
+  keeps (Yield v u kind state) a = paired v (primary_of (next_fields (Yield v u kind state) k.volume)) 0 (λ z m i here e. record { sealed = inl refl; free = λ h. inr (a z m i here e) })
   keeps (DropSecondary v) a = freed v
   keeps (TakeOver v) a = freed v
   keeps (Hold v s n first) a = let p : IsMember k v s = a.0.place in

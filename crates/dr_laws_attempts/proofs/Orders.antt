@@ -29,7 +29,7 @@ use Rattle.dr_laws_sessions.proofs.Changes.{session-found}
 use Rattle.dr_laws_sessions.proofs.Silent.{members-there}
 use Rattle.dr_laws_sessions.proofs.Sound.{quiet-of}
 use Rattle.dr_laws_sessions.proofs.Members.{no-place}
-use Rattle.dr_laws_attempts.specs.Orders.{DoneBut, IsCalm, TakenBut}
+use Rattle.dr_laws_attempts.specs.Orders.{DoneBut, LeavesTargetsAlone, TakenBut}
 use Rattle.dr_laws_attempts.proofs.Facts.{bool_cases, Update}
 use Rattle.dr_laws_attempts.proofs.Places.{is-placed, seen-apart, seen-b, seen-c, update}
 use Rattle.dr_laws_attempts.proofs.Moves.{roles-moved, is-secondary, at-place}
@@ -184,10 +184,10 @@ done-ends k x server left m here is = by (left m here is)
     by (inl none) = absurd none
     by (inr h) = h
 
-pub done-calm : (k : Control) (x : Session) (server : ℕ) → IsCalm (phase_of x.mirror) → ServerDone k x server
+pub done-calm : (k : Control) (x : Session) (server : ℕ) → LeavesTargetsAlone (phase_of x.mirror) → ServerDone k x server
 done-calm k x server calm m here is = by (phase_of x.mirror) calm
   where
-    by : (p : PhaseName) → IsCalm p → IsDone p (seen (roles k) m)
+    by : (p : PhaseName) → LeavesTargetsAlone p → IsDone p (seen (roles k) m)
     by phase.Flashing h = absurd h
     by phase.Committing h = absurd h
     by phase.Reverting h = absurd h
@@ -196,7 +196,7 @@ done-calm k x server calm m here is = by (phase_of x.mirror) calm
 
 -- an attempt that has begun leaves targets alone
 pub done-begun : (k : Control) (x : Session) (r : Mirror) (server : ℕ) → x.mirror ≡ Some r → ServerDone k (begun x) server
-done-begun k x r server has = done-calm k (begun x) server (subst (λ o. IsCalm (phase_of (option_map (λ (r : Mirror). record r { master = phases.begun r.master }) o))) (sym has) tt)
+done-begun k x r server has = done-calm k (begun x) server (subst (λ o. LeavesTargetsAlone (phase_of (option_map (λ (r : Mirror). record r { master = phases.begun r.master }) o))) (sym has) tt)
 
 -- a volume's record changes, at a place of one member
 module _ (k j : Control) (w : ℕ) (f : Fields) (c : Carried) (x : Session) (q : Member) (moves : Moves k j w f c) (groups : Groups k) (listed : In x k.sessions) (here : In q x.members) (at_q : IsAt w q) where

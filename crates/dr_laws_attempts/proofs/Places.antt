@@ -8,7 +8,7 @@ use Rattle.dr_model.specs.Decisions.{Shown}
 use Rattle.dr_model.specs.Entries.{is_at}
 use Rattle.dr_model.specs.Sessions.{Session}
 use Rattle.dr_model.specs.Groups.{In, IsAt, PlacesDiffer, Lone}
-use Rattle.dr_model.specs.Attempts.{Role, Roles, Seen, seen_of, seen, all_seen, phase_of, owed_of, reports_of, Attempt, AttemptOf, Claim, AttemptsIn}
+use Rattle.dr_model.specs.Attempts.{Role, Roles, Seen, seen_of, seen, all_seen, phase_of, owed_of, reports_of, IsAttempt, AttemptOf, Claim, AttemptsIn}
 use Rattle.dr_facts.proofs.Lists.{Image, from-map, to-map}
 use Rattle.dr_facts.proofs.Tables.{IsOrNot, at_cases, at_is}
 use Rattle.dr_laws_attempts.proofs.Facts.{Update}
@@ -117,8 +117,8 @@ pub record Steps (ss : List Session) (T S : Roles) : Type 0 where
   pub turns : (z : Session) → In z ss → Turning (phase_of z.mirror) z.last (all_seen T z.members) (all_seen S z.members)
   pub claims : (v : ℕ) → Claim ss v (S v)
 
-turning-keeps : (p : PhaseName) (n : ℕ) (owed : List ℕ) (reports : List Shown) (vs us : List Seen) → Attempt p n owed reports vs → Turning p n vs us → Attempt p n owed reports us
-turning-keeps p n owed reports vs us law (Stays is) = subst (λ vs. Attempt p n owed reports vs) (sym is) law
+turning-keeps : (p : PhaseName) (n : ℕ) (owed : List ℕ) (reports : List Shown) (vs us : List Seen) → IsAttempt p n owed reports vs → Turning p n vs us → IsAttempt p n owed reports us
+turning-keeps p n owed reports vs us law (Stays is) = subst (λ vs. IsAttempt p n owed reports vs) (sym is) law
 turning-keeps p n owed reports vs us law (One v k move may) = kept p n owed reports vs law v us k move may
 
 pub steps-keep : (ss : List Session) (T S : Roles) → AttemptsIn ss T → Steps ss T S → AttemptsIn ss S

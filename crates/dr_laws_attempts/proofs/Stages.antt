@@ -9,7 +9,7 @@ use Rattle.dr_ids.specs.declared.refusal.Decision.TheVariants.{CommitRest}
 use Rattle.dr_model.specs.Decisions.{Shown, decision}
 use Rattle.dr_model.specs.Phases as phases
 use Rattle.dr_model.specs.Groups.{In}
-use Rattle.dr_model.specs.Attempts.{Seen, All, Any, counts, committed, number_shown, NoneRevertible, NoneCommitted, SomeCommitted, AllAt, Blocked, Barred, Numbered, OneShown, Numbers, is_owed, Answered, IsReported, AgreesOnLast, AgreesOnOther, Known, InLost, InPhase, Waits, Owes, Attempt, IsDone}
+use Rattle.dr_model.specs.Attempts.{Seen, All, Any, counts, committed, number_shown, NoneRevertible, NoneCommitted, SomeCommitted, AllAt, Blocked, Barred, Numbered, OneShown, NumbersAgree, is_owed, Answered, IsReported, AgreesOnLast, AgreesOnOther, Known, InLost, InPhase, Waits, Owes, IsAttempt, IsDone}
 use Rattle.dr_facts.proofs.Tables.{IsOrNot}
 use Rattle.dr_facts.proofs.Lists.{in-first, in-second, in-joined, from-filter, any-some}
 use Rattle.dr_laws_sessions.proofs.Sound.{among-without}
@@ -19,7 +19,7 @@ use Rattle.dr_logic.proofs.Truth.{false_true}
 
 -- a master's session, where n is its last number
 abbrev pub AttemptBy : ℕ → List Seen → phases.Master → Type 0
-AttemptBy n vs m = Attempt m.phase n m.owed m.reports vs
+AttemptBy n vs m = IsAttempt m.phase n m.owed m.reports vs
 
 -- the master's servers are those of the members
 pub record Serves (servers : List ℕ) (vs : List Seen) : Type 0 where
@@ -28,10 +28,10 @@ pub record Serves (servers : List ℕ) (vs : List Seen) : Type 0 where
 
 -- ---- Idle
 
-pub idle-none : (p : PhaseName) (n : ℕ) (owed : List ℕ) (reports : List Shown) (vs : List Seen) → p ≡ phase.Idle → Attempt p n owed reports vs → NoneRevertible vs
+pub idle-none : (p : PhaseName) (n : ℕ) (owed : List ℕ) (reports : List Shown) (vs : List Seen) → p ≡ phase.Idle → IsAttempt p n owed reports vs → NoneRevertible vs
 idle-none p n owed reports vs e law = subst (λ q. InPhase q n owed reports vs) e law.phase
 
-pub idle-attempt : (p : PhaseName) (n : ℕ) (owed : List ℕ) (reports : List Shown) (vs : List Seen) → p ≡ phase.Idle → Numbers n vs → NoneRevertible vs → Attempt p n owed reports vs
+pub idle-attempt : (p : PhaseName) (n : ℕ) (owed : List ℕ) (reports : List Shown) (vs : List Seen) → p ≡ phase.Idle → NumbersAgree n vs → NoneRevertible vs → IsAttempt p n owed reports vs
 idle-attempt p n owed reports vs e numbers none = record {
   numbers = numbers;
   phase = subst (λ q. InPhase q n owed reports vs) (sym e) none;
@@ -40,7 +40,7 @@ idle-attempt p n owed reports vs e numbers none = record {
 
 -- ---- a phase begins
 
-module _ (n : ℕ) (vs : List Seen) (numbers : Numbers n vs) (servers : List ℕ) (serves : Serves servers vs) where
+module _ (n : ℕ) (vs : List Seen) (numbers : NumbersAgree n vs) (servers : List ℕ) (serves : Serves servers vs) where
   -- of what nobody has answered
   fresh : (P : Seen → Type 0) → Answered servers P vs
   fresh P u h o = false_true o (serves.each u h)
@@ -112,7 +112,7 @@ module _ (n : ℕ) (vs : List Seen) (numbers : Numbers n vs) (servers : List ℕ
   pub loses : (m : phases.Master) → m.servers ≡ servers → AttemptBy n vs (phases.lost m)
   loses m is = by m.servers is
     where
-      by : (ks : List ℕ) → ks ≡ servers → Attempt (phases.phase_lost ks) n (phases.owed_first (phases.phase_lost ks) ks) [] vs
+      by : (ks : List ℕ) → ks ≡ servers → IsAttempt (phases.phase_lost ks) n (phases.owed_first (phases.phase_lost ks) ks) [] vs
       by [] e = record { numbers = numbers; phase = λ u h. let none : false ≡ true = subst (λ ks. is_owed ks u ≡ true) (sym e) (serves.each u h) in absurd cc; owes = tt }
       by (k ∷ ks) e = record {
         numbers = numbers;
@@ -305,7 +305,7 @@ module _ (n : ℕ) (vs : List Seen) (numbers : Numbers n vs) (servers : List ℕ
 
 -- ---- an attempt begins, the last number is raised
 
-module _ (n : ℕ) (vs : List Seen) (numbers : Numbers n vs) (plain : NoneRevertible vs) where
+module _ (n : ℕ) (vs : List Seen) (numbers : NumbersAgree n vs) (plain : NoneRevertible vs) where
   module _ (q : ℕ) (later : n < q) where
     later-each : All (Numbered q) vs
     later-each u h = let r = numbers.each u h in record {
@@ -340,17 +340,17 @@ module _ (n : ℕ) (vs : List Seen) (numbers : Numbers n vs) (plain : NoneRevert
     later-one (inl had) (inl none) = none-some n vs none had
     later-one (inl had) (inr all) = record { number = n; apart = λ e. omega arith; same = λ u h m. shown-plain u (plain u h) ∙ all u h (member-counts u m) }
 
-    pub later-numbers : Numbers q vs
+    pub later-numbers : NumbersAgree q vs
     later-numbers = record { each = later-each; some = inl later-none; none = inr (later-one numbers.none numbers.some) }
 
-  pub raised-numbers : (q : ℕ) → n ≤ q → Numbers q vs
+  pub raised-numbers : (q : ℕ) → n ≤ q → NumbersAgree q vs
   raised-numbers q up = by (eqb_tells n q)
     where
-      by : IsOrNot n q → Numbers q vs
-      by (inl is) = subst (λ q. Numbers q vs) is.1 numbers
+      by : IsOrNot n q → NumbersAgree q vs
+      by (inl is) = subst (λ q. NumbersAgree q vs) is.1 numbers
       by (inr other) = later-numbers q (let d : n ≢ q = other.1 in omega arith)
 
-  pub opens : (servers : List ℕ) → Serves servers vs → (v : Seen) → In v vs → Attempt phase.Coordinating (n + 1) servers [] vs
+  pub opens : (servers : List ℕ) → Serves servers vs → (v : Seen) → In v vs → IsAttempt phase.Coordinating (n + 1) servers [] vs
   opens servers serves v here = record {
     numbers = later-numbers (n + 1) (omega arith);
     phase = record {
@@ -368,8 +368,8 @@ pub record Comes (n : ℕ) (w : Seen) : Type 0 where
   pub seal : w.seal ≤ n
   pub floor : w.floor ≤ n
 
-module _ (n : ℕ) (vs : List Seen) (numbers : Numbers n vs) (us : List Seen) where
-  pub more-numbers : (w : Seen) → ((u : Seen) → In u us → (u ≡ w) ⊎ In u vs) → ((u : Seen) → In u vs → In u us) → Comes n w → Numbers n us
+module _ (n : ℕ) (vs : List Seen) (numbers : NumbersAgree n vs) (us : List Seen) where
+  pub more-numbers : (w : Seen) → ((u : Seen) → In u us → (u ≡ w) ⊎ In u vs) → ((u : Seen) → In u vs → In u us) → Comes n w → NumbersAgree n us
   more-numbers w back onto c = record {
     each = λ u h. all_by (Numbered n) vs w u (back u h) here numbers.each;
     some = some-by numbers.some;
@@ -387,7 +387,7 @@ module _ (n : ℕ) (vs : List Seen) (numbers : Numbers n vs) (us : List Seen) wh
       none-by (inl had) = inl (record { one = had.one; here = onto had.one had.here; is = had.is })
       none-by (inr one) = inr (record { number = one.number; apart = one.apart; same = λ u h. all_by (λ u. u.member ≡ true → number_shown u ≡ one.number) vs w u (back u h) (λ m. false_true c.plain (member-counts w m)) one.same })
 
-  pub fewer-numbers : ((u : Seen) → In u us → In u vs) → ((u : Seen) → In u vs → counts u ≡ true → In u us) → Numbers n us
+  pub fewer-numbers : ((u : Seen) → In u us → In u vs) → ((u : Seen) → In u vs → counts u ≡ true → In u us) → NumbersAgree n us
   fewer-numbers sub keep = record { each = λ u h. numbers.each u (sub u h); some = some-by numbers.some; none = none-by numbers.none }
     where
       some-by : NoneCommitted n vs ⊎ AllAt n vs → NoneCommitted n us ⊎ AllAt n us

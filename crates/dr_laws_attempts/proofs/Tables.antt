@@ -17,7 +17,7 @@ use Rattle.dr_model.specs.SessionEntries.{counts_at, shown_at, shown_by_members,
 use Rattle.dr_model.specs.SessionPlans.{answered_by}
 use Rattle.dr_model.specs.Sessions.{Session, Mirror, session_in, servers_of, has_subsystem, has_member_in, is_only, subsystem_of, with_mirror, with_master, mirrored_by, unmirrored, paused, mirror_lost_since, lost_since, joined_by, left_by, new_session, changed, without_session, joins, joined, leaves, left, begun, leave_refusal, last_refusal, not_in_session, in_session, drop_refusal}
 use Rattle.dr_model.specs.Groups.{In, SessionFits, Groups, OpensAttempt, IsMember}
-use Rattle.dr_model.specs.Attempts.{Roles, roles, Seen, seen, all_seen, All, counts, NoneRevertible, NoneCommitted, SomeCommitted, AllAt, OneShown, Numbers, is_owed, IsReported, AgreesOnLast, AgreesOnOther, InLost, InPhase, Attempt, phase_of, owed_of, reports_of, AttemptOf, AttemptsIn, Attempts, IsDone, ServerDone}
+use Rattle.dr_model.specs.Attempts.{Roles, roles, Seen, seen, all_seen, All, counts, NoneRevertible, NoneCommitted, SomeCommitted, AllAt, OneShown, NumbersAgree, is_owed, IsReported, AgreesOnLast, AgreesOnOther, InLost, InPhase, IsAttempt, phase_of, owed_of, reports_of, AttemptOf, AttemptsIn, Attempts, IsDone, ServerDone}
 use Rattle.dr_laws_sessions.specs.Frames.{Became, Moves, Quiet}
 use Rattle.dr_facts.proofs.Tables.{IsOrNot}
 use Rattle.dr_facts.proofs.Lists.{in-joined, in-first, from-filter, to-filter, from-map, to-map, any-some, all-each}
@@ -68,11 +68,11 @@ quiet-phase x quiet = by x.mirror refl
 pub quiet-unflashed : (T : Roles) (x : Session) → Quiet x → AttemptOf T x → NoneRevertible (all_seen T x.members)
 quiet-unflashed T x quiet law = idle-none (phase_of x.mirror) x.last (owed_of x.mirror) (reports_of x.mirror) (all_seen T x.members) (quiet-phase x quiet) law
 
-pub quiet-attempt : (T : Roles) (y : Session) → Quiet y → Numbers y.last (all_seen T y.members) → NoneRevertible (all_seen T y.members) → AttemptOf T y
+pub quiet-attempt : (T : Roles) (y : Session) → Quiet y → NumbersAgree y.last (all_seen T y.members) → NoneRevertible (all_seen T y.members) → AttemptOf T y
 quiet-attempt T y quiet n none = idle-attempt (phase_of y.mirror) y.last (owed_of y.mirror) (reports_of y.mirror) (all_seen T y.members) (quiet-phase y quiet) n none
 
 pub attempt-by : (T : Roles) (x : Session) (r : Mirror) → x.mirror ≡ Some r → AttemptOf T x → AttemptBy x.last (all_seen T x.members) r.master
-attempt-by T x r has law = subst (λ o. Attempt (phase_of o) x.last (owed_of o) (reports_of o) (all_seen T x.members)) has law
+attempt-by T x r has law = subst (λ o. IsAttempt (phase_of o) x.last (owed_of o) (reports_of o) (all_seen T x.members)) has law
 
 -- what a session becomes, and its laws stay
 pub record Goes (T : Roles) (x y : Session) : Type 0 where
@@ -85,7 +85,7 @@ pub goes-mirror : (T : Roles) (x : Session) (g : Mirror → Mirror) → ((m : Me
     → ((r : Mirror) → x.mirror ≡ Some r → AttemptBy x.last (all_seen T x.members) r.master → AttemptBy x.last (all_seen T x.members) (g r).master) → Goes T x (with_mirror g x)
 goes-mirror T x g inside law f = record { attempt = by x.mirror refl law; keeps = λ m here c. here; inside = inside }
   where
-    by : (o : Option Mirror) → x.mirror ≡ o → Attempt (phase_of o) x.last (owed_of o) (reports_of o) (all_seen T x.members) → Attempt (phase_of (option_map g o)) x.last (owed_of (option_map g o)) (reports_of (option_map g o)) (all_seen T x.members)
+    by : (o : Option Mirror) → x.mirror ≡ o → IsAttempt (phase_of o) x.last (owed_of o) (reports_of o) (all_seen T x.members) → IsAttempt (phase_of (option_map g o)) x.last (owed_of (option_map g o)) (reports_of (option_map g o)) (all_seen T x.members)
     by None e law = law
     by (Some r) e law = f r e law
 
@@ -214,7 +214,7 @@ module _ (k : Control) (groups : Groups k) (law : Attempts k) where
       let one = groups.lone.one m.c.0 t.session x t.member m t.listed i t.here here (inr (inr (sym t.is))) (inr (inr refl)) in
       and_from (nat_eq (fields_at k m.c.0).session x.number) ((fields_at k m.c.0).member || (fields_at k m.c.0).revertible) (eq-eqb (fields_at k m.c.0).session x.number (sym t.number ∙ one.0)) c
 
-  tells : (x : Session) (server : ℕ) (i : In x ss) (own : Numbers x.last (all_seen T x.members))
+  tells : (x : Session) (server : ℕ) (i : In x ss) (own : NumbersAgree x.last (all_seen T x.members))
       → Tells x.last (all_seen T x.members) own (servers_of x.members) (serves T k x (groups.each x i)) server (shown_by_members x.number (members_on server x.members) k)
   tells x server i own = record {
     from = λ r h.
@@ -320,8 +320,8 @@ module _ (k : Control) (groups : Groups k) (law : Attempts k) where
 
   attempt-begun : (x : Session) (r : Mirror) (m : Member) → In x ss → x.mirror ≡ Some r → r.master.phase ≡ phase.Idle → In m x.members → AttemptOf T (begun x)
   attempt-begun x r m i has idle here = let own = law.sessions x i in
-      subst (λ o. Attempt (phase_of (option_map (λ (r : Mirror). record r { master = phases.begun r.master }) o)) (x.last + 1) (owed_of (option_map (λ (r : Mirror). record r { master = phases.begun r.master }) o)) (reports_of (option_map (λ (r : Mirror). record r { master = phases.begun r.master }) o)) (all_seen T x.members)) (sym has)
-      (subst (λ ks. Attempt phase.Coordinating (x.last + 1) ks [] (all_seen T x.members)) (sym (master-servers x r i has))
+      subst (λ o. IsAttempt (phase_of (option_map (λ (r : Mirror). record r { master = phases.begun r.master }) o)) (x.last + 1) (owed_of (option_map (λ (r : Mirror). record r { master = phases.begun r.master }) o)) (reports_of (option_map (λ (r : Mirror). record r { master = phases.begun r.master }) o)) (all_seen T x.members)) (sym has)
+      (subst (λ ks. IsAttempt phase.Coordinating (x.last + 1) ks [] (all_seen T x.members)) (sym (master-servers x r i has))
       (opens x.last (all_seen T x.members) own.numbers (quiet-unflashed T x (idle-quiet x r has idle) own) (servers_of x.members) (serves T k x (groups.each x i)) (seen T m) (to-map (seen T) x.members m here)))
 
   pub with-begun : (v s n : ℕ) → OpensAttempt k v s n → With (changed s begun ss)

@@ -4,12 +4,12 @@ use Rattle.dr_ids.specs.declared.refusal.PhaseName.{PhaseName}
 use Rattle.dr_ids.specs.declared.refusal.PhaseName.TheVariants as phase
 use Rattle.dr_model.specs.Decisions.{Shown}
 use Rattle.dr_model.specs.Groups.{In}
-use Rattle.dr_model.specs.Attempts.{Seen, All, counts, committed, number_shown, NoneRevertible, NoneCommitted, SomeCommitted, AllAt, Blocked, Bars, Barred, Numbered, OneShown, Numbers, Answered, Before, InCoordinating, InFlashing, InCommitting, InReverting, IsReported, AgreesOnLast, AgreesOnOther, Known, InLost, InPhase, Waits, Owes, Attempt}
+use Rattle.dr_model.specs.Attempts.{Seen, All, counts, committed, number_shown, NoneRevertible, NoneCommitted, SomeCommitted, AllAt, Blocked, Bars, Barred, Numbered, OneShown, NumbersAgree, Answered, Before, InCoordinating, InFlashing, InCommitting, InReverting, IsReported, AgreesOnLast, AgreesOnOther, Known, InLost, InPhase, Waits, Owes, IsAttempt}
 use Rattle.dr_laws_attempts.proofs.Turns.{Kind, Try, Pair, Flash, Commit, Revert, Raise, Go, next_seen, MayTurn, MayCommit, MayRevert}
 use Rattle.dr_laws_attempts.proofs.Facts.{Update, each, some, any_all, committed-parts, is-committed, rev-not-committed, member-counts, rev-counts, uncounted-plain, shown-rev, shown-plain, none-some, apart-none}
 use Rattle.dr_logic.proofs.Truth.{false_true}
 
-module _ (p : PhaseName) (n : ℕ) (owed : List ℕ) (reports : List Shown) (vs : List Seen) (law : Attempt p n owed reports vs) (v : Seen) (us : List Seen) where
+module _ (p : PhaseName) (n : ℕ) (owed : List ℕ) (reports : List Shown) (vs : List Seen) (law : IsAttempt p n owed reports vs) (v : Seen) (us : List Seen) where
   abbrev To : Kind → Type 0
   To k = Update vs v (next_seen k n v) us
 
@@ -169,7 +169,7 @@ module _ (p : PhaseName) (n : ℕ) (owed : List ℕ) (reports : List Shown) (vs 
   kept-none k move a (inl had) = inl (some _ move (λ h. h) had)
   kept-none k move a (inr one) = inr (record { number = one.number; apart = one.apart; same = each _ move (one.same v move.here) one.same })
 
-  kept-numbers : (k : Kind) → To k → May k → Numbers n us
+  kept-numbers : (k : Kind) → To k → May k → NumbersAgree n us
   kept-numbers k move a = record { each = kept-numbered k move a; some = kept-some k move a law.numbers.some; none = kept-none k move a law.numbers.none }
 
   -- the phases
@@ -355,5 +355,5 @@ module _ (p : PhaseName) (n : ℕ) (owed : List ℕ) (reports : List Shown) (vs 
   kept-owed phase.Idle k move h = tt
   kept-owed q k move h = still-owed k move h
 
-  pub kept : (k : Kind) → To k → May k → Attempt p n owed reports us
+  pub kept : (k : Kind) → To k → May k → IsAttempt p n owed reports us
   kept k move a = record { numbers = kept-numbers k move a; phase = kept-phase p refl k move a law.phase; owes = kept-owed p k move law.owes }

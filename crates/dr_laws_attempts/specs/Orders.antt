@@ -13,12 +13,12 @@ abbrev pub DoneBut : Control → Session → ℕ → List Member → Type 0
 DoneBut k x server rest = (m : Member) → In m x.members → m.server.0 ≡ server → In m rest ⊎ IsDone (phase_of x.mirror) (seen (roles k) m)
 
 -- a phase whose order leaves targets alone
-abbrev pub IsCalm : PhaseName → Type 0
-IsCalm phase.Flashing = ⊥
-IsCalm phase.Committing = ⊥
-IsCalm phase.Reverting = ⊥
-IsCalm phase.Lost = ⊥
-IsCalm p = Unit {0}
+abbrev pub LeavesTargetsAlone : PhaseName → Type 0
+LeavesTargetsAlone phase.Flashing = ⊥
+LeavesTargetsAlone phase.Committing = ⊥
+LeavesTargetsAlone phase.Reverting = ⊥
+LeavesTargetsAlone phase.Lost = ⊥
+LeavesTargetsAlone p = Unit {0}
 
 -- each member of the session is left to do, or its secondary is taken
 abbrev pub TakenBut : Control → Session → List Member → Type 0

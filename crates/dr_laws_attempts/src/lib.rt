@@ -25,7 +25,7 @@ ghost use Rattle.dr_model.specs.Groups.{In, Groups, HoldsMember, OpensAttempt};
 ghost use Rattle.dr_model.specs.Attempts.{Roles, roles, phase_of, DoesNotCount, MayGo, MayFollow, Claim, Attempts, InAttempt, IsDone, ServerDone, Seen, seen, seen_in, All, NoneRevertible, NoneCommitted, SomeCommitted, IsReported, InLost, FlashesMember, RevertsMember, OverIn};
 ghost use Rattle.dr_laws_sessions.specs.Frames.{Moves, Quiet};
 ghost use Rattle.dr_laws_attempts.specs.Example.{first, second, start, report, now, in_phase, held, freed, flashing, one_flashed, flashed as all_flashed, one_committed, all_committed, over, both, lost, aborted, reported, taken_back};
-ghost use Rattle.dr_laws_attempts.specs.Orders.{DoneBut, IsCalm, TakenBut, RestCommits, RestReverts};
+ghost use Rattle.dr_laws_attempts.specs.Orders.{DoneBut, LeavesTargetsAlone, TakenBut, RestCommits, RestReverts};
 
 /// The laws hold before the first step, and stay where the sessions do and what volumes say of attempts, and where a volume is
 /// defined.
@@ -150,7 +150,7 @@ pub fn what_stands_free_may_change()
 /// A server does its order with one member after another, and at last it has done it.
 pub fn a_server_does_its_order()
     ensures begins { (k : Control) (x : Session) (server : ℕ) → DoneBut k x server (members_on server x.members) }
-    ensures calm { (k : Control) (x : Session) (server : ℕ) → IsCalm (phase_of x.mirror) → ServerDone k x server }
+    ensures calm { (k : Control) (x : Session) (server : ℕ) → LeavesTargetsAlone (phase_of x.mirror) → ServerDone k x server }
     ensures begun { (k : Control) (x : Session) (r : Mirror) (server : ℕ) → x.mirror ≡ Some r → ServerDone k (begun x) server }
     ensures flashed { (k : Control) (x : Session) (m : Member) (n : ℕ) → phase_of x.mirror ≡ phase.Flashing → is_flashed n (fields_at k m.c.0) ≡ true → IsDone (phase_of x.mirror) (seen (roles k) m) }
     ensures committed { (k : Control) (x : Session) (m : Member) (n : ℕ) → phase_of x.mirror ≡ phase.Committing → is_committed n (fields_at k m.c.0) ≡ true → IsDone (phase_of x.mirror) (seen (roles k) m) }

@@ -3,7 +3,7 @@ use Rattle.std.proofs.Common.{ℕ, ◌≡◌, ◌≢◌, refl, sym, Bool, true, 
 use Rattle.dr_model.specs.Layout.{Fields}
 use Rattle.dr_model.specs.Control.{Volume}
 use Rattle.dr_model.specs.Pairs.{primary_of}
-use Rattle.dr_model.specs.Moves.{Move, Overwrite, Keep, Relate, Withdraw, Fetch, Reverse, Release, Flash, Commit, Revert, Store, Suspend, MakeSecondary, MakePrimary, DropPrimary, DropSecondary, TakeOver, Lift, Restart, Hold, Free, Seal, Finish, RaiseAttempt, fields_left}
+use Rattle.dr_model.specs.Moves.{Move, Overwrite, Keep, Relate, Withdraw, Fetch, Reverse, Release, Flash, Commit, Revert, Store, Suspend, MakeSecondary, MakePrimary, DropPrimary, DropSecondary, TakeOver, FallBack, Yield, Lift, Restart, Hold, Free, Seal, Finish, RaiseAttempt, fields_left}
 use Rattle.dr_laws_cuts.proofs.Told.{IsNoHold}
 use Rattle.dr_laws_closed.proofs.Standings.{stood}
 use Rattle.dr_logic.proofs.Truth.{false_true}
@@ -24,6 +24,8 @@ goes (Suspend v busy) u other idle = record { recorded = λ h. absurd cc; attemp
 goes (MakePrimary v a kind state full) u other idle = record { recorded = λ h. absurd cc; attempt = λ h. refl; held = λ h. absurd cc }
 goes (DropPrimary v) u other idle = record { recorded = λ h. absurd cc; attempt = λ h. refl; held = λ h. absurd cc }
 goes (TakeOver v) u other idle = record { recorded = λ h. absurd cc; attempt = λ h. refl; held = λ h. absurd cc }
+goes (FallBack v more state) u other idle = record { recorded = λ h. absurd cc; attempt = λ h. refl; held = λ h. absurd cc }
+goes (Yield v a kind state) u other idle = record { recorded = λ h. absurd cc; attempt = λ h. refl; held = λ h. absurd cc }
 goes (Lift v) u other idle = record { recorded = λ h. (stood u.fields.coordination u.fields.recording h).1; attempt = λ h. refl; held = λ h. absurd cc }
 goes (Restart v) u other idle = record { recorded = λ h. absurd cc; attempt = λ h. refl; held = λ h. absurd cc }
 goes (Finish v n) u other idle = record { recorded = λ h. absurd cc; attempt = λ h. absurd cc; held = λ h. absurd cc }
@@ -65,6 +67,8 @@ stays-held (Suspend v busy) u other h held = absurd cc
 stays-held (MakePrimary v a kind state full) u other h held = absurd cc
 stays-held (DropPrimary v) u other h held = absurd cc
 stays-held (TakeOver v) u other h held = absurd cc
+stays-held (FallBack v more state) u other h held = absurd cc
+stays-held (Yield v a kind state) u other h held = absurd cc
 stays-held (Lift v) u other h held = lifted-held u.fields.coordination u.fields.recording h held
 stays-held (Restart v) u other h held = absurd cc
 stays-held (Finish v n) u other h held = absurd cc
@@ -79,6 +83,7 @@ pub was-sealed : (m : Move) (u : Volume) → IsNoSeal m → (a n : ℕ) → n �
 was-sealed (Seal v p s n) u other a k some to is = absurd other
 was-sealed (Store v t p last) u other a k some to is = absurd (some (sym is))
 was-sealed (MakeSecondary v p kind state) u other a k some to is = absurd (some (sym is))
+was-sealed (Yield v p kind state) u other a k some to is = absurd (some (sym is))
 was-sealed (DropSecondary v) u other a k some to is = absurd (some (sym is))
 was-sealed (TakeOver v) u other a k some to is = absurd (some (sym is))
 was-sealed m u other a k some to is = (to, is)

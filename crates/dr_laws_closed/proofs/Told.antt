@@ -1,10 +1,9 @@
 -- What a move tells makes of moments, of who stands in groups, and of lists.
-use Rattle.std.proofs.Common.{ℕ, ◌≡◌, ◌≢◌, refl, ap, sym, ◌∙◌, Bool, true, false, cond, nat_eq, List, [], ◌∷◌, ◌++◌, map, Some, None, subst}
+use Rattle.std.proofs.Common.{ℕ, ◌≡◌, ◌≢◌, refl, ap, sym, ◌∙◌, Bool, true, false, cond, List, [], ◌∷◌, ◌++◌, map, Some, None, subst}
 use Rattle.std.specs.List.{fold}
-use Rattle.std.proofs.lemmas.Bool.{ne_eqb}
 use Rattle.std.proofs.lemmas.List.{append_assoc}
 use Rattle.dr_model.specs.declared.event.Event.{Event}
-use Rattle.dr_model.specs.declared.event.Event.TheVariants.{Volume as VolumeDefined, Issue, Ack, Mirrored, Sent, Set, Back, Blanked, Restored, Suspended, Begin, Cut, Flashed, Reverted, Left}
+use Rattle.dr_model.specs.declared.event.Event.TheVariants.{Blanked, Restored, Suspended, Begin, Cut, Flashed, Reverted, Left}
 use Rattle.dr_model.specs.Layout.{Tracks}
 use Rattle.dr_model.specs.Histories.{Histories, Write, histories, after_event, lists}
 use Rattle.dr_model.specs.Relations.{rest, in_order, is_bare, turned, given_up}
@@ -12,12 +11,13 @@ use Rattle.dr_model.specs.Control.{Volume}
 use Rattle.dr_model.specs.Pairs.{is_suspended}
 use Rattle.dr_model.specs.Moves.{Move, Land, Overwrite, Relate, Withdraw, Resync, Reverse, Restore, Release, Store, Suspend, Mirror, LandBoth, Hold, Leave, Flash, Revert, Keep, Fetch, TakeOver, Seal, Commit, told, told_in_stop, told_blank}
 use Rattle.dr_model.proofs.Images.{histories-append}
+use Rattle.dr_facts.proofs.Heard.{elsewhere, unheard-event, unheard-write, unheard-blanked, unheard-restored, unheard-suspended, unheard-held}
 use Rattle.dr_laws_cuts.specs.Once.{NoCut, NoCuts}
 use Rattle.dr_model.specs.Cuts.{cuts, next_cuts}
 use Rattle.dr_laws_cuts.proofs.Journal.{cuts-quiet}
 use Rattle.dr_laws_cuts.proofs.Told.{told-quiet, cuts-told}
 use Rattle.dr_laws_closed.specs.Moments.{Memory, Standing, memory, memory_event, moments_after, moments, standing, standing_event}
-use Rattle.dr_laws_closed.specs.Silent.{Still, AllStill, Apart, AllApart, Silent}
+use Rattle.dr_laws_closed.specs.Silent.{Still, AllStill, HearsNothing, AllApart, Silent}
 use Rattle.dr_laws_closed.specs.Next.{next_moments, next_standing, Untouched}
 use Rattle.dr_laws_closed.proofs.Places.{memory-history, moments-append, standing-append}
 
@@ -86,49 +86,17 @@ module _ (events : List Event) where
 
 -- ---- lists
 
-pub elsewhere : {X : Type 0} (v x : ℕ) (new old : X) → v ≢ x → cond (nat_eq v x) new old ≡ old
-elsewhere v x new old ne = ap (λ b. cond b new old) (ne_eqb v x ne)
+-- nothing is asked of an acknowledgement but that its write is of another volume
+abbrev OfOther : (ℕ → Write) → ℕ → ℕ → Type 0
+OfOther write v n = v ≢ (write n).volume
 
-apart-event : (h : Histories) (e : Event) (v t : ℕ) → Apart h.write v e → (after_event h e).now v t ≡ h.now v t
-apart-event h (VolumeDefined x server tracks) v t a = ap (λ (f : ℕ → List ℕ). f t) (elsewhere v x _ (h.now v) a)
-apart-event h (Issue n x q offset len bytes) v t a = refl
-apart-event h (Ack n) v t a = elsewhere v (h.write n).volume _ (h.now v t) a
-apart-event h (Mirrored n x) v t a = elsewhere v x _ (h.now v t) a
-apart-event h (Sent x q to) v t a = elsewhere v to _ (h.now v t) a
-apart-event h (Flashed s n b c d) v t a = ap (λ (f : ℕ → List ℕ). f t) (elsewhere v d (h.now c) (h.now v) a)
-apart-event h (Reverted s n b c) v t a = ap (λ (f : ℕ → List ℕ). f t) (elsewhere v c (h.aside c) (h.now v) a)
-apart-event h (Set x from) v t a = ap (λ (f : ℕ → List ℕ). f t) (elsewhere v x (h.now from) (h.now v) a)
-apart-event h (Back x q from) v t a = elsewhere v x _ (h.now v t) a
-apart-event h (Blanked x q) v t a = elsewhere v x _ (h.now v t) a
-apart-event h e v t a = refl
-
-apart-write : (h : Histories) (e : Event) (v : ℕ) → Apart h.write v e → (after_event h e).write ≡ h.write
-apart-write h (Issue n x q offset len bytes) v a = absurd a
-apart-write h e v a = refl
+apart-event : (h : Histories) (e : Event) (v t : ℕ) → HearsNothing h.write v e → (after_event h e).now v t ≡ h.now v t
+apart-event h e v t a = unheard-event (OfOther h.write v) h e v t a (λ n is ne. ap (λ e. (after_event h e).now v t) is ∙ elsewhere v (h.write n).volume _ (h.now v t) ne)
 
 apart-fold : (h : Histories) (es : List Event) (v t : ℕ) → AllApart h.write v es → (fold after_event h es).now v t ≡ h.now v t
 apart-fold h [] v t a = refl
-apart-fold h (e ∷ es) v t a = apart-fold (after_event h e) es v t (subst (λ (f : ℕ → Write). AllApart f v es) (sym (apart-write h e v a.0)) a.1) ∙ apart-event h e v t a.0
-
-apart-append : (write : ℕ → Write) (v : ℕ) (es fs : List Event) → AllApart write v es → AllApart write v fs → AllApart write v (es ++ fs)
-apart-append write v [] fs a b = b
-apart-append write v (e ∷ es) fs a b = (a.0, apart-append write v es fs a.1 b)
-
-apart-blanked : (write : ℕ → Write) (v x : ℕ) (ts : List ℕ) → v ≢ x → AllApart write v (map (Blanked x) ts)
-apart-blanked write v x [] ne = tt
-apart-blanked write v x (t ∷ ts) ne = (ne, apart-blanked write v x ts ne)
-
-apart-restored : (write : ℕ → Write) (v x s n : ℕ) (own : Tracks) (b : Bool) → v ≢ x → AllApart write v (cond b (told_blank x n own ++ Restored s x ∷ []) [])
-apart-restored write v x s n own true ne = apart-append write v (told_blank x n own) (Restored s x ∷ []) (apart-blanked write v x (in_order n (rest n own)) ne) (tt, tt)
-apart-restored write v x s n own false ne = tt
-
-apart-suspended : (write : ℕ → Write) (v x : ℕ) (b : Bool) → AllApart write v (cond b [] (Suspended x ∷ []))
-apart-suspended write v x true = tt
-apart-suspended write v x false = (tt, tt)
-
-apart-held : (write : ℕ → Write) (v x s n : ℕ) (first : Bool) → AllApart write v (cond first (Begin s n ∷ Cut s n x ∷ []) (Cut s n x ∷ []))
-apart-held write v x s n true = (tt, (tt, tt))
-apart-held write v x s n false = (tt, tt)
+apart-fold h (e ∷ es) v t a =
+    apart-fold (after_event h e) es v t (subst (λ (f : ℕ → Write). AllApart f v es) (sym (unheard-write (OfOther h.write v) h e v a.0)) a.1) ∙ apart-event h e v t a.0
 
 told-apart : (write : ℕ → Write) (m : Move) (u : Volume) (v : ℕ) → Untouched write m v → AllApart write v (told m u)
 told-apart write (Land n x t) u v ne = (ne, tt)
@@ -137,17 +105,17 @@ told-apart write (LandBoth n x t) u v ne = (ne, tt)
 told-apart write (Keep x t) u v ne = (tt, tt)
 told-apart write (Fetch x t) u v ne = (tt, tt)
 told-apart write (Relate x s choices) u v ne = (ne, tt)
-told-apart write (Withdraw x) u v ne = apart-blanked write v x (in_order u.tracks (rest u.tracks u.fields.own)) ne
+told-apart write (Withdraw x) u v ne = unheard-blanked (OfOther write v) v x (in_order u.tracks (rest u.tracks u.fields.own)) ne
 told-apart write (Resync x sequence) u v ne = (ne, tt)
-told-apart write (Reverse x None) u v ne = apart-restored write v x u.fields.source u.tracks (turned u.fields).own _ ne
-told-apart write (Reverse x (Some p)) u v ne = (tt, apart-restored write v x u.fields.source u.tracks (turned u.fields).own _ ne)
+told-apart write (Reverse x None) u v ne = unheard-restored (OfOther write v) v x u.fields.source u.tracks (turned u.fields).own _ ne
+told-apart write (Reverse x (Some p)) u v ne = (tt, unheard-restored (OfOther write v) v x u.fields.source u.tracks (turned u.fields).own _ ne)
 told-apart write (Restore x t from) u v ne = (ne, tt)
-told-apart write (Release x t) u v ne = apart-restored write v x u.fields.source u.tracks (given_up u.fields t).own _ ne
+told-apart write (Release x t) u v ne = unheard-restored (OfOther write v) v x u.fields.source u.tracks (given_up u.fields t).own _ ne
 told-apart write (Store x t from last) u v ne = (ne, tt)
-told-apart write (Suspend x busy) u v ne = apart-suspended write v x _
+told-apart write (Suspend x busy) u v ne = unheard-suspended (OfOther write v) v x _
 told-apart write (TakeOver x) u v ne = (tt, tt)
 told-apart write (Mirror x t from n) u v ne = (ne, tt)
-told-apart write (Hold x s n first) u v ne = apart-held write v x s n first
+told-apart write (Hold x s n first) u v ne = unheard-held (OfOther write v) v x s n first
 told-apart write (Seal x a s n) u v ne = (tt, tt)
 told-apart write (Leave x a s) u v ne = (tt, tt)
 told-apart write (Flash x from a s n) u v ne = (ne, tt)

@@ -6,7 +6,7 @@ use Rattle.dr_logic.specs.Tables.{at, at2}
 use Rattle.dr_model.specs.Layout.{Tracks, is_part}
 use Rattle.dr_model.specs.Histories.{Lists, Write}
 use Rattle.dr_model.specs.Contents.{image}
-use Rattle.dr_model.specs.Moves.{Move, Land, Overwrite, Relate, Withdraw, Resync, Reverse, Restore, Release, Flash, Revert, Store, Strike, Suspend, MakePrimary, DropPrimary, TakeOver, Unsync, Mirror, LandBoth, Lift, Restart, Hold, Finish, RaiseAttempt, target}
+use Rattle.dr_model.specs.Moves.{Move, Land, Overwrite, Relate, Withdraw, Resync, Reverse, Restore, Release, Flash, Revert, Store, Strike, Suspend, MakePrimary, DropPrimary, TakeOver, FallBack, Yield, Unsync, Mirror, LandBoth, Lift, Restart, Hold, Finish, RaiseAttempt, target}
 use Rattle.dr_model.specs.Table.{Row, Table}
 use Rattle.dr_model.specs.Rows.{after, next_row}
 use Rattle.dr_model.specs.Laws.{Each, SoundRows, fields}
@@ -65,6 +65,8 @@ module _ (write : ℕ → Write) (T : Table) (rows : SoundRows T) (c : Cuts) (no
     kept-cut (MakePrimary v u kind state full) a = stands (MakePrimary v u kind state full) (silent v)
     kept-cut (DropPrimary v) a = stands (DropPrimary v) (silent v)
     kept-cut (TakeOver v) a = stands (TakeOver v) (silent v)
+    kept-cut (FallBack v more state) a = stands (FallBack v more state) (silent v)
+    kept-cut (Yield v u kind state) a = stands (Yield v u kind state) (silent v)
     kept-cut (Restart v) a = stands (Restart v) (silent v)
     kept-cut (Lift v) a = let o = old v in let f = fields T v in
         stands (Lift v) (record { recorder = λ h. o.recorder (lifted_out f.coordination f.recording f.out_of_sync f.out_of_sync h).0; positive = o.positive; low = o.low })
@@ -108,6 +110,8 @@ module _ (write : ℕ → Write) (T : Table) (rows : SoundRows T) (c : Cuts) (no
     kept-unsent (MakePrimary v u kind state full) a calm = unsent (MakePrimary v u kind state full) (λ rec. absurd cc)
     kept-unsent (DropPrimary v) a calm = unsent (DropPrimary v) (λ rec. absurd cc)
     kept-unsent (TakeOver v) a calm = unsent (TakeOver v) (λ rec. absurd cc)
+    kept-unsent (FallBack v more state) a calm = unsent (FallBack v more state) (λ rec. absurd cc)
+    kept-unsent (Yield v u kind state) a calm = unsent (Yield v u kind state) (λ rec. absurd cc)
     kept-unsent (Restart v) a calm = unsent (Restart v) (λ rec. absurd cc)
     kept-unsent (Finish v n) a calm = unsent (Finish v n) (λ rec. absurd cc)
     kept-unsent (Lift v) a calm = let f = fields T v in

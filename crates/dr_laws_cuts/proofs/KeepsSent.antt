@@ -1,6 +1,6 @@
 -- Each kind of move keeps that what a primary that records has sent its secondary is as at the cut, and that a sealed secondary
 -- holds the cut.
-use Rattle.std.proofs.Common.{ℕ, ◌≡◌, ◌<◌, ◌||◌, inl, inr, refl, ap, sym, ◌∙◌, Bool, true, false, List, Some, None, subst}
+use Rattle.std.proofs.Common.{ℕ, ◌≡◌, ◌<◌, inl, inr, refl, ap, sym, ◌∙◌, Bool, true, false, List, Some, None, subst}
 use Rattle.std.proofs.lemmas.Bool.Decides.{eqb_tells}
 use Rattle.std.specs.Prelude.{is_some}
 use Rattle.std.specs.FinSet.{contains, insert, union}
@@ -11,7 +11,7 @@ use Rattle.dr_model.specs.Histories.{Lists, Write}
 use Rattle.dr_model.specs.Contents.{image}
 use Rattle.dr_model.specs.Pairs.{is_kind}
 use Rattle.dr_model.specs.declared.state.Part.TheVariants.{Global}
-use Rattle.dr_model.specs.Moves.{Move, Land, Overwrite, Relate, Withdraw, Resync, Reverse, Restore, Release, Flash, Revert, Store, Strike, Suspend, MakeSecondary, MakePrimary, DropPrimary, DropSecondary, TakeOver, Unsync, Mirror, LandBoth, Lift, Restart, Hold, Seal, Finish, RaiseAttempt, target}
+use Rattle.dr_model.specs.Moves.{Move, Land, Overwrite, Relate, Withdraw, Resync, Reverse, Restore, Release, Flash, Revert, Store, Strike, Suspend, MakeSecondary, MakePrimary, DropPrimary, DropSecondary, TakeOver, FallBack, Yield, Unsync, Mirror, LandBoth, Lift, Restart, Hold, Seal, Finish, RaiseAttempt, target}
 use Rattle.dr_model.specs.Table.{Row, Table}
 use Rattle.dr_model.specs.Rows.{after, next_row}
 use Rattle.dr_model.specs.Laws.{Linked, SoundRows, its_primary, its_secondary, fields}
@@ -92,6 +92,9 @@ module _ (write : ℕ → Write) (T : Table) (rows : SoundRows T) (c : Cuts) (no
   kept-sent (DropPrimary v) a calm = sent (DropPrimary v) a (λ u h. absurd cc) (λ u. old.sent u v)
   kept-sent (DropSecondary v) a calm = sent (DropSecondary v) a (old.sent v) (λ u h rec k. absurd cc)
   kept-sent (TakeOver v) a calm = sent (TakeOver v) a (λ u h rec. absurd cc) (λ u h rec k. absurd cc)
+  kept-sent (FallBack v more state) a calm = sent (FallBack v more state) a (λ u h rec. absurd cc) (λ u. old.sent u v)
+  kept-sent (Yield v u kind state) a calm = sent (Yield v u kind state) a (λ x h rec. absurd cc)
+      (λ x h rec k. false_true (subst (λ j. (fields T j).recording ≡ false) (chosen (is_part kind) u x k).1 a.idle) rec)
   kept-sent (Restart v) a calm = sent (Restart v) a (λ u h rec. absurd cc) (λ u. old.sent u v)
   kept-sent (Finish v n) a calm = sent (Finish v n) a (λ u h rec. absurd cc) (λ u. old.sent u v)
   kept-sent (Lift v) a calm = let f = fields T v in sent (Lift v) a
@@ -150,5 +153,6 @@ module _ (write : ℕ → Write) (T : Table) (rows : SoundRows T) (c : Cuts) (no
   kept-sealed (MakeSecondary v u kind state) a = sealed (MakeSecondary v u kind state) a (λ x h nz. absurd (nz refl))
   kept-sealed (DropSecondary v) a = sealed (DropSecondary v) a (λ x h. absurd cc)
   kept-sealed (TakeOver v) a = sealed (TakeOver v) a (λ x h. absurd cc)
+  kept-sealed (Yield v u kind state) a = sealed (Yield v u kind state) a (λ x h nz. absurd (nz refl))
   kept-sealed (LandBoth w v t) a = sealed (LandBoth w v t) a (λ u h nz. false_true a.land.first (chosen _ _ u h).0)
   kept-sealed m a = sealed m a (λ u h nz. let o = old.sealed (target m) u h nz in record { cut = o.cut; tracks = o.tracks })

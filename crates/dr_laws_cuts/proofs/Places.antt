@@ -7,7 +7,7 @@ use Rattle.dr_model.specs.declared.event.Event.{Event}
 use Rattle.dr_model.specs.declared.event.Event.TheVariants.{Cut}
 use Rattle.dr_model.specs.Histories.{lists}
 use Rattle.dr_model.specs.Cuts.{Cuts, Past, CutAt, past, cuts, past_event, cuts_after}
-use Rattle.dr_laws_cuts.specs.Once.{no_past, AllNew, CutOnce, Found}
+use Rattle.dr_laws_cuts.specs.Once.{no_past, AllNew, CutOnce, LastCutAt}
 use Rattle.dr_facts.proofs.Tables.{IsOrNot, at2_cases, at2_other}
 use Rattle.dr_laws_cuts.proofs.Journal.{cuts-push, cut-pushed}
 use Rattle.dr_logic.proofs.Truth.{false_true}
@@ -83,7 +83,7 @@ module _ (n a : ℕ) where
   IsCutOf e = ⊥
 
   abbrev IsFound : List Event → Type 0
-  IsFound es = (s : ℕ) → (cuts es).by n a ≡ Some s → Found es s n a
+  IsFound es = (s : ℕ) → (cuts es).by n a ≡ Some s → LastCutAt es s n a
 
   found-none : IsFound []
   unfolding past
@@ -126,5 +126,5 @@ module _ (n a : ℕ) where
   found-step es (Cut z k x) old = found-by es z k x (eqb_tells n k) (eqb_tells a x) old
   found-step es e old = longer es e (λ h. h) refl refl old
 
-  pub cut-found : (events : List Event) (s : ℕ) → (cuts events).by n a ≡ Some s → Found events s n a
+  pub cut-found : (events : List Event) (s : ℕ) → (cuts events).by n a ≡ Some s → LastCutAt events s n a
   cut-found = snoc IsFound found-none found-step

@@ -4,7 +4,7 @@ use Rattle.std.proofs.lemmas.Bool.{and_parts, eqb-true}
 use Rattle.dr_model.specs.Layout.{is_part}
 use Rattle.dr_model.specs.Histories.{Write}
 use Rattle.dr_model.specs.Pairs.{is_metro}
-use Rattle.dr_model.specs.Moves.{Move, MakeSecondary, MakePrimary, DropPrimary, DropSecondary, TakeOver, target}
+use Rattle.dr_model.specs.Moves.{Move, MakeSecondary, MakePrimary, DropPrimary, DropSecondary, TakeOver, Yield, target}
 use Rattle.dr_model.specs.Table.{Table}
 use Rattle.dr_model.specs.Rows.{next_row}
 use Rattle.dr_model.specs.Laws.{SoundRows, source, its_primary, its_secondary, fields}
@@ -63,12 +63,14 @@ module _ (T : Table) (rows : SoundRows T) where
     no-first-then (MakeSecondary v u kind state) a h = absurd (a.apart (ap (λ j. (T j).volume.server) (sym (chosen (is_part kind) u v h).1)))
     no-first-then (DropSecondary v) a h = absurd cc
     no-first-then (TakeOver v) a h = absurd cc
+    no-first-then (Yield v u kind state) a h = no-second v (a.sends ∙ ap (λ j. Some j) (chosen (is_part kind) u v h).1)
     no-first-then m a h = no-first (target m) h
 
     pub no-second-then : {P : Type 0} (m : Move) → Allowed write T m → its_secondary (next_row write m T) ≡ Some (target m) → P
     no-second-then (MakePrimary v u kind state full) a h = no-first v (subst (λ j. its_primary (T j) ≡ Some v) (chosen (is_part kind) u v h).1 a.takes)
     no-second-then (DropPrimary v) a h = absurd cc
     no-second-then (TakeOver v) a h = no-first v h
+    no-second-then (Yield v u kind state) a h = absurd cc
     no-second-then m a h = no-second (target m) h
 
 -- an attempt that is recorded

@@ -35,7 +35,7 @@ NoCuts [] = Unit {0}
 NoCuts (e ∷ es) = NoCut e × NoCuts es
 
 -- the last place of a journal where volume a is cut for attempt n: it is session s's, and what is held of the cut are the lists there
-pub record Found (events : List Event) (s n a : ℕ) : Type 0 where
+pub record LastCutAt (events : List Event) (s n a : ℕ) : Type 0 where
   pub place : CutAt events s n a
   pub held : (t : ℕ) → (cuts events).held n a t ≡ lists place.before a t
   pub last : (z : ℕ) → CutAt place.behind z n a → ⊥

@@ -18,7 +18,7 @@ ghost use Rattle.dr_model.specs.SessionEntries.{is_drained, seal_entries};
 ghost use Rattle.dr_model.specs.Laws.{SoundRows, SoundBut, Below};
 ghost use Rattle.dr_model.specs.Allowed.{Allowed, May, MayOpen};
 ghost use Rattle.dr_model.specs.Cuts.{Cuts, CutLaws, IsCalm, CutAt, SealsHold, no_cuts, past, cuts, next_cuts};
-ghost use Rattle.dr_laws_cuts.specs.Once.{CutOnce, NoCuts, HoldsNew, Found};
+ghost use Rattle.dr_laws_cuts.specs.Once.{CutOnce, NoCuts, HoldsNew, LastCutAt};
 ghost use Rattle.dr_laws_cuts.specs.Sent.{SendsTo, CutsHold, SealedFor};
 ghost use Rattle.dr_laws_cuts.specs.Sound.{CutsBelow, CutsDefined, SoundCuts, HeldDefined, MovedTo, SameRow};
 
@@ -43,7 +43,7 @@ pub fn holds_alone_cut()
 /// volume is cut twice for one number, there is one such place. It stays so where each hold is the first of its volume for its
 /// number, as each hold is that is allowed.
 pub fn cuts_have_one_place()
-    ensures found { (n a : ℕ) (events : List Event) (s : ℕ) → (cuts events).by n a ≡ Some s → Found events s n a }
+    ensures found { (n a : ℕ) (events : List Event) (s : ℕ) → (cuts events).by n a ≡ Some s → LastCutAt events s n a }
     ensures one { (events : List Event) → CutOnce events → (n a s z : ℕ) (place : CutAt events s n a) (other : CutAt events z n a) → other.before ≡ place.before }
     ensures done { (events : List Event) (m : Move) (u : Volume) → CutOnce events → HoldsNew (cuts events) m → CutOnce (events ++ told m u) }
     ensures new { (write : ℕ → Write) (T : Table) (c : Cuts) (m : Move) → CutLaws write c T → SoundRows T → Allowed write T m → HoldsNew c m }

@@ -14,7 +14,7 @@ use Rattle.dr_model.specs.Moves.{Move, Hold, is_write}
 use Rattle.dr_model.specs.Carry.{Act, Make, OpenAttempt, Redo, Acknowledge, Drop, EndFreeze, EndThaw, EndRecovery, Turn, Next, Pass, Do, End, Entry, Outcome, continue, go, carry, dropped, frozen, thawed, recovered}
 use Rattle.dr_model.specs.Plans.{Plan, plan, only_says}
 use Rattle.dr_model.specs.Forming.{Part, Way, goes_on, after_part, part_refusal, form_said}
-use Rattle.dr_model.specs.Runs.{Task, Course, run_asked, course_of, course, answered_part, masters_lost, begun, finish, answered, said, after_plan, after_task}
+use Rattle.dr_model.specs.Runs.{Task, Course, run_asked, course_of, course, answered_part, masters_lost, begun, finish, answered, said, after_plan, after_task, Apart, Groups, Volumes, compared}
 use Rattle.dr_model.specs.Table.{table, waiting}
 use Rattle.dr_model.specs.Laws.{SoundRows, AllPending}
 use Rattle.dr_model.specs.Allowed.{May, MayOpen, Runs}
@@ -27,7 +27,7 @@ use Rattle.dr_laws_freezes.proofs.KeepsWindow.{AllSilent}
 use Rattle.dr_laws_freezes.proofs.KeepsStep.{Step, Does, Stops, Acks, Others, Passes, Acknowledges, Unchanged}
 use Rattle.dr_laws_freezes.proofs.Windows.{Good, Chain, Last, Then}
 use Rattle.dr_laws_sound.proofs.Cases.{Case, Says, plan-case}
-use Rattle.dr_laws_sound.proofs.Parts.{Comes, Ways, way-formed}
+use Rattle.dr_laws_sound.proofs.Parts.{Comes, Ways, way-formed, compared-case}
 use Rattle.dr_logic.proofs.Truth.{false_true}
 
 -- what an act asks where it comes
@@ -77,7 +77,7 @@ act-step tag w (EndFreeze l m) f fair = Passes None (frozen w l m) (Frozen l m �
 act-step tag w (EndThaw l m) f fair = Passes None (thawed w l m) (Thawed l m ∷ []) (told-unchanged w (thawed w l m) (Thawed l m ∷ []) refl (tt, tt) (histories-append w.events (Thawed l m ∷ [])) refl refl refl (λ v t. refl)) (λ n h. absurd cc)
 act-step tag w (EndRecovery s n) f fair = Passes None (recovered w s n) (Recovered s n ∷ []) (told-unchanged w (recovered w s n) (Recovered s n ∷ []) refl (tt, tt) (histories-append w.events (Recovered s n ∷ [])) refl refl refl (λ v t. refl)) (λ n h. absurd cc)
 
-act-runs : (tag : Option ℕ) (w : World) (a : Act) → Writes a → FairAct tag w a → Runs w (place a)
+pub act-runs : (tag : Option ℕ) (w : World) (a : Act) → Writes a → FairAct tag w a → Runs w (place a)
 act-runs tag w (Make m) d fair = fair.0.runs
 act-runs tag w (OpenAttempt v s n) d fair = fair.runs
 act-runs tag w (Redo v) d fair = fair
@@ -311,11 +311,12 @@ module _ (K : World → Type 0) (rows : (w : World) → K w → SoundRows (table
         ended_by : Part → List World
         ended_by x = part_moments x ++ (answered_part t.line x ∷ more (answered_part t.line x))
 
-        by : (o : Option (ℕ × ℕ)) → let c : Course = course_of w t o in Chain None w (parts_moments c.before ++ ended_by c.last)
+        by : (o : Option Apart) → let c : Course = course_of w t o in Chain None w (parts_moments c.before ++ ended_by c.last)
         by None = last-chain t.line (record { world = w; plan = plan w.control w.events t.line t.asked }) (plan-case w.control w.events t.line t.asked) more goes_on k
-        by (Some asked) =
-            way-formed WayChains ways w asked.0 asked.1 (λ v r. ended_by (record { world = v; plan = only_says (form_said asked.0 v.control r) }))
-            (λ v r k. last-chain t.line (record { world = v; plan = only_says (form_said asked.0 v.control r) }) (Says (form_said asked.0 v.control r)) more goes_on k) k
+        by (Some (Groups s n)) =
+            way-formed WayChains ways w s n (λ v r. ended_by (record { world = v; plan = only_says (form_said s v.control r) }))
+            (λ v r k. last-chain t.line (record { world = v; plan = only_says (form_said s v.control r) }) (Says (form_said s v.control r)) more goes_on k) k
+        by (Some (Volumes v u)) = last-chain t.line (record { world = w; plan = compared w v u }) (compared-case w t.line v u) more goes_on k
 
     pub run-chain : (tasks : List Task) (w : World) → K w → Chain None w (moments_from w tasks)
     unfolding moments_from

@@ -12,17 +12,18 @@ use Rattle.dr_model.specs.Answers.{answer}
 use Rattle.dr_model.specs.Histories.{histories}
 use Rattle.dr_model.specs.Relations.{Choices}
 use Rattle.dr_model.specs.Control.{Control, World}
-use Rattle.dr_model.specs.Carry.{Make, Next, Pass, Do, End, Entry, check}
+use Rattle.dr_model.specs.Carry.{Make, Next, Pass, Do, Entry}
 use Rattle.dr_model.specs.Moves.{Suspend, Thaw, Lift, Follow, DropPrimary, DropSecondary}
 use Rattle.dr_model.specs.PairEntries.{end_if, refuse_if, remove_both}
 use Rattle.dr_model.specs.WriteEntries.{freeze_on, end_freeze, thaw_on, end_thaw, lift_on}
-use Rattle.dr_model.specs.Plans.{Plan, counted_refusal, restore_refusal, entries_plan, make_flash_plan, remove_flash_plan, resync_flash_plan, reverse_flash_plan, remove_pair_plan, pause_pair_plan, resume_pair_plan, expire_plan, freeze_done, unfreeze_done}
+use Rattle.dr_model.specs.Plans.{Plan, counted_refusal, restore_refusal, entries_plan, make_flash_plan, remove_flash_plan, resync_flash_plan, reverse_flash_plan, remove_pair_plan, pause_pair_plan, resume_pair_plan, failover_plan, failback_plan, compare_plan, expire_plan, freeze_done, unfreeze_done}
 use Rattle.dr_model.specs.Runs.{masters_lost, said}
 use Rattle.dr_model.specs.Table.{table}
 use Rattle.dr_model.specs.Laws.{SoundRows}
 use Rattle.dr_laws_sound.proofs.KeepsSound.{Along}
 use Rattle.dr_laws_sound.proofs.FitsFlash.{as_begun, sound-begun, along-flash, along-withdraw, along-resync, along-reverse}
 use Rattle.dr_laws_sound.proofs.FitsPairs.{along-remove, along-pause, along-resume}
+use Rattle.dr_laws_sound.proofs.FitsFailover.{along-failover, along-failback, along-compare}
 use Rattle.dr_laws_sound.proofs.FitsSessions.{sound-lost}
 use Rattle.dr_laws_sound.proofs.FitsHolds.{freezes, thaws, lifts}
 use Rattle.dr_laws_sound.proofs.Steps.{sound-said}
@@ -131,6 +132,21 @@ module _ (w : World) (k : Between w) where
   unfolding AllEasy
   fair-resume devs a b kind =
       easy-plan w k _ _ (easy-check _ _, (easy-check _ _, (easy-check _ _, (easy-check _ _, (easy-check _ _, (easy-check _ _, (easy-refuse _, (easy-check _ _, ((λ k. tt), ((λ k. refl), tt)))))))))) (along-resume w k.sound devs a b kind)
+
+  pub fair-failover : (devs : Devs) (b a : ℕ) (kind : Part) → Fair w (failover_plan w.control devs b a kind)
+  unfolding AllEasy
+  fair-failover devs b a kind =
+      easy-plan w k _ _ (easy-check _ _, (easy-check _ _, (easy-check _ _, (easy-check _ _, (easy-check _ _, (easy-check _ _, ((λ k. tt), tt))))))) (along-failover w k.sound devs b a kind)
+
+  pub fair-failback : (devs : Devs) (x y : ℕ) (kind : Part) → Fair w (failback_plan w.control devs x y kind)
+  unfolding AllEasy
+  fair-failback devs x y kind =
+      easy-plan w k _ _ (easy-check _ _, (easy-check _ _, (easy-check _ _, (easy-check _ _, (easy-check _ _, (easy-refuse _, (easy-check _ _, (easy-check _ _, (easy-check _ _, (easy-check _ _, (easy-refuse _, ((λ k. refl), ((λ k. tt), tt))))))))))))) (along-failback w k.sound devs x y kind)
+
+  pub fair-compare : (contents : ℕ → ℕ → List ℕ) (v u : ℕ) → Fair w (compare_plan w.control contents v u)
+  unfolding AllEasy
+  fair-compare contents v u =
+      easy-plan w k _ _ (easy-check _ _, (easy-check _ _, (easy-check _ _, (easy-check _ _, (easy-check _ _, (easy-refuse _, tt)))))) (along-compare w k.sound contents v u)
 
   easy-removed : (a b : ℕ) (source_only : Bool) → AllEasy (cond source_only ((λ k. Do (Make (DropPrimary a))) ∷ []) (remove_both w.control a b))
   unfolding AllEasy

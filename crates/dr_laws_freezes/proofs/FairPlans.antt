@@ -3,8 +3,8 @@ use Rattle.std.proofs.Common.{ℕ, ◌≡◌, refl, sym, subst, Bool, true, fals
 use Rattle.dr_ids.specs.declared.refusal.Refusal.{Refusal}
 use Rattle.dr_model.specs.declared.event.Event.TheVariants.{Frozen, Thawed, Recovered}
 use Rattle.dr_model.specs.Control.{Control, Fuse, World}
-use Rattle.dr_model.specs.Pairs.{next_state}
-use Rattle.dr_model.specs.Moves.{Move, Land, Restore, Store, Strike, MakePrimary, Resume, Unsync, Mirror, LandBoth, Hold, target, is_other}
+use Rattle.dr_model.specs.Pairs.{next_state, state_with}
+use Rattle.dr_model.specs.Moves.{Move, Land, Restore, Store, Strike, MakePrimary, Resume, FallBack, Unsync, Mirror, LandBoth, Hold, target, is_other}
 use Rattle.dr_model.specs.Carry.{Act, Make, OpenAttempt, attempt_begun, Redo, Acknowledge, Drop, EndFreeze, EndThaw, EndRecovery, dropped, frozen, thawed, recovered, Next, Pass, Do, End, Entry, check}
 use Rattle.dr_model.specs.Entries.{fields_at}
 use Rattle.dr_model.specs.Laws.{Sound}
@@ -25,6 +25,7 @@ EasyMove k (Store v t u last) = ⊥
 EasyMove k (Strike v t last) = ⊥
 EasyMove k (MakePrimary v u kind state full) = ⊥
 EasyMove k (Resume v state) = state ≡ next_state (fields_at k v)
+EasyMove k (FallBack v more state) = state ≡ state_with more (fields_at k v)
 EasyMove k (Unsync v t) = ⊥
 EasyMove k (Mirror v t u n) = ⊥
 EasyMove k (LandBoth n v t) = ⊥
@@ -45,6 +46,7 @@ easy-gentle w (Restore v t u) e = absurd e
 easy-gentle w (Strike v t last) e = absurd e
 easy-gentle w (MakePrimary v u kind state full) e = absurd e
 easy-gentle w (Resume v state) e = e
+easy-gentle w (FallBack v more state) e = e
 easy-gentle w (Unsync v t) e = absurd e
 easy-gentle w m e = tt
 

@@ -10,7 +10,7 @@ use Rattle.dr_model.specs.Histories.{histories}
 use Rattle.dr_model.specs.Control.{Control, World}
 use Rattle.dr_model.specs.Sessions.{Session}
 use Rattle.dr_model.specs.Phases.{Work, Hold, Release, Seal, Flash, Commit, Revert, Finish, Report}
-use Rattle.dr_model.specs.Carry.{Make, OpenAttempt, Next, Pass, Do, Entry, carry}
+use Rattle.dr_model.specs.Carry.{Make, OpenAttempt, Pass, Do, Entry, carry}
 use Rattle.dr_model.specs.SessionEntries.{last_of, is_drained, is_past, hold_refusal, stale_refusal, void_refusal, seal_refusal, is_flashed, is_committed, flash_refusal, commit_refusal, member_entries, order_entries, add_entries, expel_entries}
 use Rattle.dr_model.specs.SessionPlans.{table_plan}
 use Rattle.dr_model.specs.Plans.{Plan, same, none_follow}

@@ -18,7 +18,7 @@ use Rattle.dr_model.specs.Runs.{Task}
 use Rattle.dr_laws_freezes.specs.Moments.{moments_from}
 use Rattle.dr_laws_freezes.specs.Windows.{FreezeCut}
 use Rattle.dr_laws_closed.proofs.Regroups.{regroups-same}
-use Rattle.dr_laws_sound.proofs.Cases.{Case, Says, DefinesServer, DefinesVolume, SetsLink, Issues, Writes, Applies, Shows, Stops, Arms, Starts, MakesFlash, RemovesFlash, ResyncsFlash, ReversesFlash, Copies, MakesPath, RemovesPath, MakesPair, RemovesPair, PausesPair, ResumesPair, Drains, Expires, Freezes, Unfreezes, MakesSession, RemovesSession, MakesMirror, PausesMirror, RemovesMirror, Aborts, AddsMember, RemovesMember, Exchanges, Recovers, Settles, added, expelled, aborted, ordered}
+use Rattle.dr_laws_sound.proofs.Cases.{Case, Says, DefinesServer, DefinesVolume, SetsLink, Issues, Writes, Applies, Shows, Stops, Arms, Starts, MakesFlash, RemovesFlash, ResyncsFlash, ReversesFlash, Copies, MakesPath, RemovesPath, MakesPair, RemovesPair, PausesPair, ResumesPair, FailsOver, FailsBack, Compares, Drains, Expires, Freezes, Unfreezes, MakesSession, RemovesSession, MakesMirror, PausesMirror, RemovesMirror, Aborts, AddsMember, RemovesMember, Exchanges, Recovers, Settles, added, expelled, aborted, ordered}
 use Rattle.dr_laws_sound.proofs.Steps.{sound-nothing, case-holds}
 use Rattle.dr_laws_sound.proofs.FitsMembers.{orders-added, orders-expelled}
 use Rattle.dr_laws_sound.proofs.FitsOrders.{orders-ordered}
@@ -30,7 +30,7 @@ use Rattle.dr_laws_freezes.proofs.FairSessions.{leaving, fair-sessions, fair-lea
 use Rattle.dr_laws_freezes.proofs.Windows.{Chain, freeze-cut}
 use Rattle.dr_laws_freezes.proofs.Chains.{run-chain}
 use Rattle.dr_laws_freezes.proofs.FairPlans.{Between}
-use Rattle.dr_laws_freezes.proofs.FairCases.{rows-between, answers-between, loses-between, Fair, fair-flash, fair-withdraw, fair-resync, fair-reverse, fair-freeze, fair-thaw, fair-expire, fair-pause, fair-resume, fair-remove}
+use Rattle.dr_laws_freezes.proofs.FairCases.{rows-between, answers-between, loses-between, Fair, fair-flash, fair-withdraw, fair-resync, fair-reverse, fair-freeze, fair-thaw, fair-expire, fair-pause, fair-resume, fair-failover, fair-failback, fair-compare, fair-remove}
 use Rattle.dr_laws_freezes.proofs.FairTables.{fair-says, fair-defines, fair-links, fair-shows, fair-stops, fair-arms, fair-paths, fair-unpaths, fair-adds, fair-issues}
 use Rattle.dr_laws_freezes.proofs.FairPairs.{fair-pair}
 use Rattle.dr_laws_freezes.proofs.FairCopy.{fair-copy}
@@ -39,7 +39,7 @@ use Rattle.dr_laws_freezes.proofs.FairStart.{fair-start}
 use Rattle.dr_laws_freezes.proofs.FairWrites.{fair-writes, fair-applies}
 
 -- before the first step
-between-nothing : Between nothing
+pub between-nothing : Between nothing
 between-nothing = record {
   sound = sound-nothing;
   tidy = record {
@@ -53,7 +53,7 @@ between-nothing = record {
 alone : (w : World) → Sound w → (entries : List Entry) (says : Control → Said) → Along (as_begun w) entries → Orders w (leaving entries same says)
 alone w s entries says a = record { ends = Sound; complete = λ v y. y; begins = sound-begun w s; entries = a; follows = λ q v y. over v y; last = λ v y. y; turns = λ v y. regroups-same v.control.sessions }
 
-fair-case : (w : World) (k : Between w) (line : ℕ) (p : Plan) → Case w.control w.events line p → Fair w p
+pub fair-case : (w : World) (k : Between w) (line : ℕ) (p : Plan) → Case w.control w.events line p → Fair w p
 fair-case w k line _ (Says a) = fair-says w k line a
 fair-case w k line _ (DefinesServer name free) = fair-defines w k line name free
 fair-case w k line _ (DefinesVolume v s tracks here free) = fair-adds w k line v s tracks here free
@@ -76,6 +76,9 @@ fair-case w k line _ (MakesPair devs a b kind full part) = fair-pair w k devs a 
 fair-case w k line _ (RemovesPair devs a b source_only) = fair-remove w k devs a b source_only
 fair-case w k line _ (PausesPair devs a b) = fair-pause w k devs a b
 fair-case w k line _ (ResumesPair devs a b kind) = fair-resume w k devs a b kind
+fair-case w k line _ (FailsOver devs b a kind) = fair-failover w k devs b a kind
+fair-case w k line _ (FailsBack devs x y kind) = fair-failback w k devs x y kind
+fair-case w k line _ (Compares contents v u) = fair-compare w k contents v u
 fair-case w k line _ (Drains a most) = fair-drain w k a most
 fair-case w k line _ (Expires x on) = fair-expire w k x on
 fair-case w k line _ (Freezes l m) = fair-freeze w k l m

@@ -1,51 +1,42 @@
 -- From one moment of a freeze window to the next, the list of a primary grows by what is acknowledged on it alone.
-use Rattle.std.proofs.Common.{ℕ, ◌≡◌, ◌≢◌, inl, inr, refl, ap, sym, ◌∙◌, Bool, true, false, cond, ◌&&◌, ◌||◌, nat_eq, List, [], ◌∷◌, ◌++◌, append_assoc, map, Some, None}
+use Rattle.std.proofs.Common.{ℕ, ◌≡◌, ◌≢◌, inl, inr, refl, ap, sym, ◌∙◌, Bool, true, false, cond, ◌&&◌, ◌||◌, nat_eq, List, [], ◌∷◌, ◌++◌, append_assoc, Some, None}
 use Rattle.std.proofs.lemmas.List.{append-nil}
 use Rattle.std.proofs.lemmas.List.Folds.{list_any-append}
 use Rattle.std.proofs.lemmas.Bool.{eq-eqb, or_left, or_right}
 use Rattle.std.proofs.lemmas.Bool.Decides.{eqb_tells}
 use Rattle.std.specs.List.{list_any, fold}
 use Rattle.dr_model.specs.declared.event.Event.{Event}
-use Rattle.dr_model.specs.declared.event.Event.TheVariants.{Volume as VolumeDefined, Issue, Ack, Mirrored, Sent, Flashed, Reverted, Set, Back, Blanked, Restored, Suspended, Stopped, Begin, Cut}
+use Rattle.dr_model.specs.declared.event.Event.TheVariants.{Ack, Stopped}
 use Rattle.dr_model.specs.Histories.{Write, Histories, histories, lists, joined, after_event}
-use Rattle.dr_model.specs.Layout.{Tracks, is_part}
+use Rattle.dr_model.specs.Layout.{is_part}
 use Rattle.dr_model.specs.Relations.{rest, in_order, is_bare, turned, given_up}
 use Rattle.dr_model.specs.Control.{Volume, World}
 use Rattle.dr_model.specs.Pairs.{is_suspended}
-use Rattle.dr_model.specs.Moves.{Move, Land, Overwrite, Keep, Relate, Withdraw, Fetch, Resync, Reverse, Restore, Release, Store, Suspend, TakeOver, Mirror, LandBoth, Hold, Seal, Leave, Flash, Commit, Revert, told, told_in_stop, told_blank}
+use Rattle.dr_model.specs.Moves.{Move, Land, Overwrite, Keep, Relate, Withdraw, Fetch, Resync, Reverse, Restore, Release, Store, Suspend, TakeOver, Mirror, LandBoth, Hold, Seal, Leave, Flash, Commit, Revert, told, told_in_stop}
 use Rattle.dr_model.specs.Entries.{fields_at}
 use Rattle.dr_model.specs.Table.{table}
 use Rattle.dr_model.specs.Laws.{SoundRows, source}
 use Rattle.dr_model.specs.Allowed.{Allowed}
 use Rattle.dr_model.proofs.Images.{histories-append}
-use Rattle.dr_laws_closed.proofs.Told.{elsewhere}
 use Rattle.dr_laws_freezes.specs.Windows.{is_ack, acked_in, acked_on}
+use Rattle.dr_facts.specs.Heard.{Unheard, AllUnheard}
 use Rattle.dr_facts.proofs.Tables.{IsOrNot}
+use Rattle.dr_facts.proofs.Heard.{unheard-event, unheard-write, unheard-writes, unheard-append, unheard-blanked, unheard-restored, unheard-suspended, unheard-held}
 use Rattle.dr_laws_freezes.proofs.WindowTracks.{Stays}
 use Rattle.dr_laws_freezes.proofs.KeepsWindow.{first, no_second, no-target, Silent, AllSilent}
 use Rattle.dr_logic.proofs.Choices.{chosen}
 use Rattle.dr_logic.proofs.Truth.{false_true}
 
+-- of an acknowledgement nothing is asked: it may be of a write on v
+abbrev OfAny : ℕ → Type 0
+OfAny n = Unit {0}
+
 -- events that leave the list of v as it is, but for what they acknowledge, and each write as it was issued
 abbrev pub Apart : ℕ → Event → Type 0
-Apart v (VolumeDefined x server tracks) = ⊥
-Apart v (Issue n x t offset len bytes) = ⊥
-Apart v (Flashed session n a b c) = v ≢ c
-Apart v (Reverted session n a c) = v ≢ c
-Apart v (Mirrored n x) = v ≢ x
-Apart v (Sent x t to) = v ≢ to
-Apart v (Set x from) = v ≢ x
-Apart v (Back x t from) = v ≢ x
-Apart v (Blanked x t) = v ≢ x
-Apart v e = Unit {0}
+Apart v e = Unheard OfAny v e
 
 abbrev pub AllApart : ℕ → List Event → Type 0
-AllApart v [] = Unit {0}
-AllApart v (e ∷ es) = Apart v e × AllApart v es
-
-apart-append : (v : ℕ) (es fs : List Event) → AllApart v es → AllApart v fs → AllApart v (es ++ fs)
-apart-append v [] fs a b = b
-apart-append v (e ∷ es) fs a b = (a.0, apart-append v es fs a.1 b)
+AllApart v es = AllUnheard OfAny v es
 
 -- what one event does to the list
 ack-by : (h : Histories) (n v t : ℕ) → IsOrNot v (h.write n).volume → IsOrNot t (h.write n).track → (after_event h (Ack n)).now v t ≡ h.now v t ++ acked_in h.write v t (Ack n)
@@ -63,31 +54,14 @@ ack-by h n v t (inr not) told =
     ∙ sym (λ i. h.now v t ++ cond (not.0 i && nat_eq t x.track) (n ∷ []) [])
 
 apart-event : (h : Histories) (e : Event) (v t : ℕ) → Apart v e → (after_event h e).now v t ≡ h.now v t ++ acked_in h.write v t e
-apart-event h (VolumeDefined x server tracks) v t a = absurd a
-apart-event h (Issue n x y offset len bytes) v t a = absurd a
-apart-event h (Flashed session n b c d) v t a = ap (λ (f : ℕ → List ℕ). f t) (elsewhere v d (h.now c) (h.now v) a) ∙ sym (append-nil (h.now v t))
-apart-event h (Reverted session n b c) v t a = ap (λ (f : ℕ → List ℕ). f t) (elsewhere v c (h.aside c) (h.now v) a) ∙ sym (append-nil (h.now v t))
 apart-event h (Ack n) v t a = ack-by h n v t (eqb_tells v (h.write n).volume) (eqb_tells t (h.write n).track)
-apart-event h (Mirrored n x) v t a = elsewhere v x _ (h.now v t) a ∙ sym (append-nil (h.now v t))
-apart-event h (Sent x y to) v t a = elsewhere v to _ (h.now v t) a ∙ sym (append-nil (h.now v t))
-apart-event h (Set x from) v t a = ap (λ (f : ℕ → List ℕ). f t) (elsewhere v x (h.now from) (h.now v) a) ∙ sym (append-nil (h.now v t))
-apart-event h (Back x y from) v t a = elsewhere v x _ (h.now v t) a ∙ sym (append-nil (h.now v t))
-apart-event h (Blanked x y) v t a = elsewhere v x _ (h.now v t) a ∙ sym (append-nil (h.now v t))
-apart-event h e v t a = sym (append-nil (h.now v t))
-
-apart-write : (h : Histories) (e : Event) (v : ℕ) → Apart v e → (after_event h e).write ≡ h.write
-apart-write h (Issue n x y offset len bytes) v a = absurd a
-apart-write h e v a = refl
-
-apart-writes : (es : List Event) (h : Histories) (v : ℕ) → AllApart v es → (fold after_event h es).write ≡ h.write
-apart-writes [] h v a = refl
-apart-writes (e ∷ es) h v a = apart-writes es (after_event h e) v a.1 ∙ apart-write h e v a.0
+apart-event h e v t a = unheard-event OfAny h e v t a (λ n is any. absurd cc) ∙ sym (append-nil (h.now v t))
 
 apart-lists : (es : List Event) (h : Histories) (v t : ℕ) → AllApart v es → (fold after_event h es).now v t ≡ h.now v t ++ acked_on h.write v t es
 apart-lists [] h v t a = sym (append-nil (h.now v t))
 apart-lists (e ∷ es) h v t a =
     apart-lists es (after_event h e) v t a.1
-    ∙ (λ i. apart-event h e v t a.0 i ++ acked_on (apart-write h e v a.0 i) v t es)
+    ∙ (λ i. apart-event h e v t a.0 i ++ acked_on (unheard-write OfAny h e v a.0 i) v t es)
     ∙ append_assoc (h.now v t) (acked_in h.write v t e) (acked_on h.write v t es)
 
 -- which of these events acknowledge a write on the track
@@ -125,7 +99,7 @@ grows-none v w = record { list = λ t. sym (append-nil (lists w.events v t)); wr
 pub grows-apart : (v : ℕ) (w u : World) (es : List Event) → u.events ≡ w.events ++ es → AllApart v es → ListGrows v w u es
 grows-apart v w u es is a =
     let here : histories u.events ≡ fold after_event (histories w.events) es = ap histories is ∙ histories-append w.events es in
-    let same : (histories u.events).write ≡ (histories w.events).write = ap (λ (h : Histories). h.write) here ∙ apart-writes es (histories w.events) v a in
+    let same : (histories u.events).write ≡ (histories w.events).write = ap (λ (h : Histories). h.write) here ∙ unheard-writes OfAny es (histories w.events) v a in
     record {
       list = λ t. ap (λ (h : Histories). h.now v t) here ∙ apart-lists es (histories w.events) v t a ∙ ap (λ f. lists w.events v t ++ acked_on f v t es) (sym same);
       writes = λ n h. ap (λ (f : ℕ → Write). f n) same;
@@ -146,22 +120,6 @@ grows-more v w u x es fs is a b =
       writes = λ n h. b.writes n (told n ∙ or_left (list_any (is_ack n) w.events) (list_any (is_ack n) es) h) ∙ a.writes n h;
     }
 
-apart-blank : (v x : ℕ) (ts : List ℕ) → v ≢ x → AllApart v (map (Blanked x) ts)
-apart-blank v x [] ne = tt
-apart-blank v x (t ∷ ts) ne = (ne, apart-blank v x ts ne)
-
-apart-restored : (v : ℕ) (e : Bool) (x s n : ℕ) (own : Tracks) → v ≢ x → AllApart v (cond e (told_blank x n own ++ Restored s x ∷ []) [])
-apart-restored v true x s n own ne = apart-append v (told_blank x n own) (Restored s x ∷ []) (apart-blank v x (in_order n (rest n own)) ne) (tt, tt)
-apart-restored v false x s n own ne = tt
-
-apart-suspended : (v : ℕ) (b : Bool) (x : ℕ) → AllApart v (cond b [] (Suspended x ∷ []))
-apart-suspended v true x = tt
-apart-suspended v false x = (tt, tt)
-
-apart-held : (v : ℕ) (b : Bool) (x s n : ℕ) → AllApart v (cond b (Begin s n ∷ Cut s n x ∷ []) (Cut s n x ∷ []))
-apart-held v true x s n = (tt, (tt, tt))
-apart-held v false x s n = (tt, tt)
-
 -- no restore stores a track of v
 abbrev pub NoRestore : ℕ → Move → Type 0
 NoRestore v (Restore x t u) = v ≢ x
@@ -179,14 +137,14 @@ module _ (v q : ℕ) (w : World) (rows : SoundRows (table w)) (st : Stays v q w)
 
   pub apart-told : (m : Move) → Allowed (histories w.events).write (table w) m → NoRestore v m → (u : Volume) → AllApart v (told m u)
   apart-told (Relate x s choices) a off u = (not-single x a.no_primary, tt)
-  apart-told (Withdraw x) a off u = apart-blank v x (in_order u.tracks (rest u.tracks u.fields.own)) (not-target x a.from a.related)
+  apart-told (Withdraw x) a off u = unheard-blanked OfAny v x (in_order u.tracks (rest u.tracks u.fields.own)) (not-target x a.from a.related)
   apart-told (Resync x s) a off u = (not-target x a.from a.related, tt)
-  apart-told (Reverse x None) a off u = apart-restored v (is_bare (turned u.fields).own) x u.fields.source u.tracks (turned u.fields).own (not-target x a.resync.from a.resync.related)
-  apart-told (Reverse x (Some p)) a off u = (tt, apart-restored v (is_bare (turned u.fields).own) x u.fields.source u.tracks (turned u.fields).own (not-target x a.resync.from a.resync.related))
+  apart-told (Reverse x None) a off u = unheard-restored OfAny v x u.fields.source u.tracks (turned u.fields).own (is_bare (turned u.fields).own) (not-target x a.resync.from a.resync.related)
+  apart-told (Reverse x (Some p)) a off u = (tt, unheard-restored OfAny v x u.fields.source u.tracks (turned u.fields).own (is_bare (turned u.fields).own) (not-target x a.resync.from a.resync.related))
   apart-told (Restore x t y) a off u = (off, tt)
-  apart-told (Release x t) a off u = apart-restored v (is_bare (given_up u.fields t).own) x u.fields.source u.tracks (given_up u.fields t).own (not-target x a.from a.related)
+  apart-told (Release x t) a off u = unheard-restored OfAny v x u.fields.source u.tracks (given_up u.fields t).own (is_bare (given_up u.fields t).own) (not-target x a.from a.related)
   apart-told (Store x t y last) a off u = (not-second x (chosen _ _ y a.takes).0, tt)
-  apart-told (Suspend x busy) a off u = apart-suspended v (is_suspended u.fields.primary_state) x
+  apart-told (Suspend x busy) a off u = unheard-suspended OfAny v x (is_suspended u.fields.primary_state)
   apart-told (Mirror x t y n) a off u = (not-second x (chosen _ _ y a.takes).0, tt)
   apart-told (Land n x t) a off u = (tt, tt)
   apart-told (Overwrite n x t) a off u = (tt, tt)
@@ -194,7 +152,7 @@ module _ (v q : ℕ) (w : World) (rows : SoundRows (table w)) (st : Stays v q w)
   apart-told (Keep x t) a off u = (tt, tt)
   apart-told (Fetch x t) a off u = (tt, tt)
   apart-told (TakeOver x) a off u = (tt, tt)
-  apart-told (Hold x s n first) a off u = apart-held v first x s n
+  apart-told (Hold x s n first) a off u = unheard-held OfAny v x s n first
   apart-told (Seal x y s n) a off u = (tt, tt)
   apart-told (Leave x y s) a off u = (tt, tt)
   apart-told (Flash x y p s n) a off u = (not-target x a.resync.from a.resync.related, tt)
@@ -206,4 +164,4 @@ module _ (v q : ℕ) (w : World) (rows : SoundRows (table w)) (st : Stays v q w)
   apart-stop (Land n x t) a off u s k = (tt, tt)
   apart-stop (Overwrite n x t) a off u s k = (tt, tt)
   apart-stop (LandBoth n x t) a off u s k = (tt, tt)
-  apart-stop m a off u s k = apart-append v (told m u) (Stopped s k ∷ []) (apart-told m a off u) (tt, tt)
+  apart-stop m a off u s k = unheard-append OfAny v (told m u) (Stopped s k ∷ []) (apart-told m a off u) (tt, tt)

@@ -1,5 +1,5 @@
 -- A freeze window lasts from each moment of a run to the next.
-use Rattle.std.proofs.Common.{ℕ, ◌≡◌, ◌≢◌, ◌<◌, ◌+◌, ◌⊎◌, inl, inr, refl, ap, sym, ◌∙◌, subst, Bool, true, false, cond, not, ◌||◌, nat_eq, List, [], ◌∷◌, ◌++◌, filter, Option, Some, None}
+use Rattle.std.proofs.Common.{ℕ, ◌≡◌, ◌≢◌, ◌<◌, ◌+◌, ◌⊎◌, inl, inr, refl, ap, sym, ◌∙◌, subst, Bool, true, false, cond, not, ◌||◌, List, [], ◌∷◌, ◌++◌, filter, Option, Some, None}
 use Rattle.std.proofs.lemmas.List.{append-nil}
 use Rattle.std.proofs.lemmas.List.Sums.{fold-append}
 use Rattle.std.proofs.lemmas.Bool.{ne_eqb, eq-eqb, eqb-false}
@@ -30,7 +30,6 @@ use Rattle.dr_laws_freezes.proofs.KeepsWindow.{AllSilent, locked, Deaf, deaf-sil
 use Rattle.dr_laws_freezes.proofs.KeepsLists.{ListGrows, NoRestore, silent-none, grows-apart, apart-told, apart-stop}
 use Rattle.dr_laws_freezes.proofs.KeepsMirror.{off-track, on-track, acked, acked-here, just-acked, still-unacked, window-mirrored, window-landed}
 use Rattle.dr_logic.proofs.Choices.{chosen}
-use Rattle.dr_logic.proofs.Truth.{false_true}
 
 -- a landed write that is acknowledged: no other waits on its track
 pub record Acknowledges (w : World) (n : ℕ) : Type 0 where

@@ -2,19 +2,19 @@
 use Rattle.std.proofs.Common.{ℕ, ◌≡◌, ◌≢◌, ◌⊎◌, inl, inr, refl, ap, sym, ◌∙◌, Bool, true, false, cond, ◌||◌, List, [], ◌∷◌, ◌++◌, map, Option, Some, rules, None}
 use Rattle.std.proofs.lemmas.List.Folds.{list_any-append}
 use Rattle.std.proofs.lemmas.List.Sums.{fold-append}
-use Rattle.std.proofs.lemmas.Bool.{and_from, ne_eqb}
+use Rattle.std.proofs.lemmas.Bool.{and_from, ne_eqb, or_left}
 use Rattle.std.proofs.lemmas.Bool.Decides.{nat_tests}
 use Rattle.std.specs.List.{list_any, fold}
 use Rattle.std.specs.Cmp.{unsigned_tied, nat_cmp_total}
-use Rattle.std.specs.FinSet.{contains, remove, union, members, contains-union}
+use Rattle.std.specs.FinSet.{contains, contains-union, remove, members}
 use Rattle.dr_model.specs.declared.event.Event.{Event}
 use Rattle.dr_model.specs.declared.event.Event.TheVariants.{Ack, Mirrored, Blanked, Restored, Suspended, Stopped, Begin, Cut}
 use Rattle.dr_model.specs.Histories.{Write, histories}
 use Rattle.dr_model.specs.Layout.{Tracks, Fields, is_part}
 use Rattle.dr_model.specs.Relations.{rest, in_order, is_bare, turned, given_up}
 use Rattle.dr_model.specs.Control.{Pending, Volume, Fuse, World}
-use Rattle.dr_model.specs.Pairs.{secondary_of, is_metro, is_suspended, is_engaged}
-use Rattle.dr_model.specs.Moves.{Move, Land, Overwrite, Keep, Relate, Withdraw, Fetch, Resync, Reverse, Restore, Release, Store, Strike, Suspend, MakePrimary, DropPrimary, TakeOver, Unsync, Mirror, LandBoth, Lift, Restart, Hold, Seal, Finish, Leave, Flash, Commit, Revert, target, told, told_in_stop, told_blank, settled, settled_in_stop, moved, tracks_after}
+use Rattle.dr_model.specs.Pairs.{secondary_of, is_metro, is_suspended, is_engaged, voided}
+use Rattle.dr_model.specs.Moves.{Move, Land, Overwrite, Keep, Relate, Withdraw, Fetch, Resync, Reverse, Restore, Release, Store, Strike, Suspend, MakePrimary, DropPrimary, TakeOver, FallBack, Yield, Unsync, Mirror, LandBoth, Lift, Restart, Hold, Seal, Finish, Leave, Flash, Commit, Revert, target, told, told_in_stop, told_blank, settled, settled_in_stop, moved, tracks_after}
 use Rattle.dr_model.specs.Entries.{fields_at}
 use Rattle.dr_model.specs.Table.{Table, table, waiting}
 use Rattle.dr_model.specs.Rows.{next_bytes}
@@ -215,7 +215,10 @@ module _ (v q : ℕ) (w : World) (rows : SoundRows (table w)) (st : Stays v q w)
     own-out (Finish x n) a fair else to e j h = let f : Fields = fields_at w.control x in still-out (is_engaged f) f.out_of_sync f.change_recording j h
     own-out (MakePrimary x u kind state full) a fair else to e j h = false_true fair (ap (λ j. is_part (fields_at w.control j).primary) e ∙ first)
     own-out (DropPrimary x) a fair else to e j h = none_some refl to
-    own-out (TakeOver x) a fair else to e j h = is-second x e a
+    own-out (TakeOver x) a fair else to e j h = is-second x e a.second
+    own-out (FallBack x more state) a fair else to e j h = let f : Fields = fields_at w.control x in
+        contains-union nat_cmp_total (voided f).out_of_sync more j ∙ or_left _ _ (still-out (is_engaged f) f.out_of_sync f.change_recording j h)
+    own-out (Yield x u kind state) a fair else to e j h = none_some refl to
     own-out (Unsync x t) a fair else to e j h = still_in _ t j h
     own-out (LandBoth n x t) a fair else to e j h = absurd (else e)
     own-out m a fair else to e j h = h
@@ -223,7 +226,8 @@ module _ (v q : ℕ) (w : World) (rows : SoundRows (table w)) (st : Stays v q w)
     own-metro : (m : Move) → Allowed write T m → Fair tag w m → secondary_of (next_of w m) ≡ Some q → target m ≡ v → is_metro (fields_at w.control (target m)).primary ≡ true → is_metro (next_of w m).primary ≡ true
     own-metro (MakePrimary x u kind state full) a fair to e h = false_true fair (ap (λ j. is_part (fields_at w.control j).primary) e ∙ first)
     own-metro (DropPrimary x) a fair to e h = none_some refl to
-    own-metro (TakeOver x) a fair to e h = is-second x e a
+    own-metro (TakeOver x) a fair to e h = is-second x e a.second
+    own-metro (Yield x u kind state) a fair to e h = none_some refl to
     own-metro m a fair to e h = h
 
     -- a write that lands lands elsewhere

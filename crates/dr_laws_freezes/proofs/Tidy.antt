@@ -1,10 +1,9 @@
 -- Between steps a Metro Mirror primary that is Full Duplex has no track out of sync where its server runs.
-use Rattle.std.proofs.Common.{ℕ, ◌≡◌, ◌≢◌, ◌<◌, ◌+◌, inl, inr, refl, ap, sym, ◌∙◌, subst, Bool, true, false, cond, not, ◌&&◌, ◌||◌, nat_eq, List, [], ◌∷◌, ◌++◌, filter, Option, rules, arith}
+use Rattle.std.proofs.Common.{ℕ, ◌≡◌, ◌≢◌, ◌<◌, ◌+◌, inl, inr, refl, ap, sym, ◌∙◌, subst, Bool, true, false, cond, not, ◌&&◌, ◌||◌, nat_eq, List, [], ◌∷◌, ◌++◌, filter, Option, arith}
 use Rattle.std.proofs.lemmas.Bool.{and_parts, and_from, ne_eqb}
-use Rattle.std.proofs.lemmas.Bool.Decides.{nat_tests, eqb_tells}
+use Rattle.std.proofs.lemmas.Bool.Decides.{eqb_tells}
 use Rattle.std.proofs.lemmas.List.Folds.{list_any-append}
-use Rattle.std.specs.Cmp.{unsigned_tied}
-use Rattle.std.specs.FinSet.{contains, remove, union, empty, members}
+use Rattle.std.specs.FinSet.{contains, remove, union, empty}
 use Rattle.dr_model.specs.declared.state.Part.{Part}
 use Rattle.dr_model.specs.declared.state.Part.TheVariants.{Absent, Metro, Global}
 use Rattle.dr_model.specs.declared.state.PairState.TheVariants.{CopyPending, FullDuplex}
@@ -13,8 +12,8 @@ use Rattle.dr_model.specs.Relations.{all_tracks, is_bare}
 use Rattle.dr_model.specs.declared.event.Event.{Event}
 use Rattle.dr_model.specs.declared.event.Event.TheVariants.{Stopped}
 use Rattle.dr_model.specs.Control.{Pending, Volume, Fuse, World, is_volume}
-use Rattle.dr_model.specs.Pairs.{is_metro, is_kind, is_full_duplex, is_torn, is_engaged, first_state, next_state, is_last}
-use Rattle.dr_model.specs.Moves.{Move, Land, Overwrite, Mirror, Restore, Strike, Suspend, MakePrimary, DropPrimary, Resume, TakeOver, Unsync, LandBoth, Lift, Restart, Hold, Free as FreeMove, Finish, target, told, told_in_stop, settled, settled_in_stop, landed, is_write, is_other, marked, fields_left, moved}
+use Rattle.dr_model.specs.Pairs.{is_metro, is_full_duplex, is_torn, is_engaged, first_state, next_state, with_more, state_with, is_last}
+use Rattle.dr_model.specs.Moves.{Move, Land, Overwrite, Mirror, Restore, Strike, Suspend, MakePrimary, DropPrimary, Resume, TakeOver, FallBack, Yield, Unsync, LandBoth, Lift, Restart, Hold, Free as FreeMove, Finish, target, told, told_in_stop, settled, settled_in_stop, landed, is_write, is_other, marked, fields_left, moved}
 use Rattle.dr_model.specs.Entries.{fields_at}
 use Rattle.dr_model.specs.Allowed.{Runs}
 use Rattle.dr_model.specs.Laws.{AllPending}
@@ -28,7 +27,6 @@ use Rattle.dr_laws_freezes.proofs.KeepsWindow.{silent-acks, silent-told}
 use Rattle.dr_laws_freezes.proofs.KeepsMirror.{still-unacked}
 use Rattle.dr_laws_sound.proofs.KeepsRecorders.{none-written}
 use Rattle.std.specs.List.{list_any}
-use Rattle.dr_logic.specs.Tables.{at}
 use Rattle.dr_facts.proofs.Tracks.{empty_has, bare-has, not_removed_from}
 use Rattle.dr_facts.proofs.Parts.{no-metro}
 use Rattle.dr_logic.proofs.Truth.{false_true}
@@ -54,6 +52,7 @@ Gentle f (Restore v t u) = is_synced f ≡ false
 Gentle f (Strike v t last) = last ≡ is_last f t
 Gentle f (MakePrimary v u kind state full) = state ≡ first_state kind full
 Gentle f (Resume v state) = state ≡ next_state f
+Gentle f (FallBack v more state) = state ≡ state_with more f
 Gentle f (Unsync v t) = ⊥
 Gentle f m = Unit {0}
 
@@ -95,6 +94,8 @@ free-left (Suspend v busy) u none free = record { coordination = λ h. refl; rec
 free-left (MakePrimary v b kind state full) u none free = record { coordination = λ h. refl; recording = λ h. refl; changes = λ h t. empty_has t }
 free-left (DropPrimary v) u none free = record { coordination = λ h. refl; recording = λ h. refl; changes = λ h t. empty_has t }
 free-left (TakeOver v) u none free = record { coordination = λ h. refl; recording = λ h. refl; changes = λ h t. empty_has t }
+free-left (FallBack v more state) u none free = record { coordination = λ h. refl; recording = λ h. refl; changes = λ h. none-changed (is_engaged u.fields) u.fields.change_recording (free.changes h) }
+free-left (Yield v a kind state) u none free = record { coordination = λ h. refl; recording = λ h. refl; changes = λ h t. empty_has t }
 free-left (Restart v) u none free = record { coordination = λ h. refl; recording = λ h. refl; changes = λ h. none-changed (is_engaged u.fields) u.fields.change_recording (free.changes h) }
 free-left (Lift v) u none free = record { coordination = λ h. refl; recording = λ h. by u.fields.coordination (free.recording h); changes = λ h. none-changed u.fields.coordination u.fields.change_recording (free.changes h) }
   where
@@ -124,6 +125,10 @@ clean-left (MakePrimary v b kind state full) u gentle free clean h q = first-dup
 clean-left (DropPrimary v) u gentle free clean h q = absurd cc
 clean-left (Resume v state) u gentle free clean h q = bare-has u.fields.out_of_sync q (next-duplex u.fields (ap is_full_duplex (sym gentle) ∙ (and_parts (is_metro u.fields.primary) (is_full_duplex state) h).1))
 clean-left (TakeOver v) u gentle free clean h q = let no : false ≡ true = (and_parts (is_metro u.fields.secondary) false h).1 in absurd cc
+clean-left (FallBack v more state) u gentle free clean h q =
+    let g : Fields = with_more more u.fields in
+    bare-has g.out_of_sync q (next-duplex g (ap is_full_duplex (sym gentle) ∙ (and_parts (is_metro u.fields.primary) (is_full_duplex state) h).1))
+clean-left (Yield v a kind state) u gentle free clean h q = absurd cc
 clean-left (Unsync v t) u gentle free clean h q = absurd gentle
 clean-left (LandBoth n v t) u gentle free clean h q = not_removed_from u.fields.out_of_sync t q (clean h q)
 clean-left (Lift v) u gentle free clean h q =

@@ -24,7 +24,7 @@ use Rattle.dr_model.specs.Table.{table, waiting}
 use Rattle.dr_model.specs.Laws.{SoundRows}
 use Rattle.dr_model.specs.Runs.{Task}
 use Rattle.dr_laws_freezes.specs.Moments.{moments_from, moments}
-use Rattle.dr_laws_freezes.specs.Windows.{LssPairs, is_in, IsSoundWindow, is_clean, stays_with, is_back_to, later_mirrored, last_mirrored, unacked_on, last_of, told_since, frozen, acked_on, IsKept, FreezeCut}
+use Rattle.dr_laws_freezes.specs.Windows.{LssPairs, is_in, IsSoundWindow, is_clean, stays_with, is_back_to, later_mirrored, last_mirrored, unacked_on, last_of, told_since, frozen, acked_on, HoldsWhatCame, FreezeCut}
 use Rattle.dr_laws_freezes.proofs.WindowTracks.{Stays, stays, Window, window-image}
 use Rattle.dr_laws_freezes.proofs.KeepsWindow.{no_first}
 use Rattle.dr_laws_freezes.proofs.KeepsLists.{ListGrows, grows-none, grows-more}
@@ -208,7 +208,7 @@ module _ (tasks : List Task) (tag : Option ℕ) (chain : Chain tag nothing (mome
       window-image v q end.tag _ last end.rows end.stay end.window t (subst (λ n. t < n) (sym size) lt)
       ∙ ap (λ es. image (histories last.events).write (lists last.events v t ++ unacked_on last.events t (waiting last.control.pending v t) (last_mirrored q es))) (sym (since-told end.told end.events))
 
-  pub kept : (t : ℕ) → IsKept first last v t
+  pub kept : (t : ℕ) → HoldsWhatCame first last v t
   kept t =
       let end : Ends v q None first last = window-ends in
       end.grows.list t ∙ ap (λ es. lists first.events v t ++ acked_on (histories last.events).write v t es) (sym (since-told end.told end.events))

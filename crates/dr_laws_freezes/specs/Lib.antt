@@ -1,2 +1,5 @@
 pub mod Moments
 pub mod Windows
+pub mod InSync
+pub mod Frozen
+pub mod Example

@@ -97,8 +97,8 @@ acked_on write v t [] = []
 acked_on write v t (e ∷ es) = acked_in write v t e ++ acked_on write v t es
 
 -- Track t of v holds the host writes that it held at the first of two moments, and each that was acknowledged on it since.
-abbrev pub IsKept : World → World → ℕ → ℕ → Type 0
-IsKept first last v t = lists last.events v t ≡ lists first.events v t ++ acked_on (histories last.events).write v t (told_since first last)
+abbrev pub HoldsWhatCame : World → World → ℕ → ℕ → Type 0
+HoldsWhatCame first last v t = lists last.events v t ≡ lists first.events v t ++ acked_on (histories last.events).write v t (told_since first last)
 
 -- At each moment of a sound window of a run, so also where it ends with the freeze of its last pair: each track of each
 -- secondary of the set contains what the host writes make that its primary holds, and the last one that the secondary stored
@@ -112,7 +112,7 @@ FreezeCut tasks =
     IsSoundWindow set first later (told_since first last)
     → (v t : ℕ) → is_in set first.control v ≡ true → t < (first.control.volume v).tracks
     → (last.contents (partner_of first.control v) t ≡ image (histories last.events).write (frozen last (told_since first last) (partner_of first.control v) v t))
-    × IsKept first last v t
+    × HoldsWhatCame first last v t
 
 -- Where a sound window ends with the run, the devices contain the cut: the same of each secondary's track as its device has it.
 abbrev pub EndsInCut : List Task → (ℕ → Blocks) → Type 0
@@ -123,4 +123,4 @@ EndsInCut tasks device =
     IsSoundWindow set first later (told_since first last)
     → (v t : ℕ) → is_in set first.control v ≡ true → t < (first.control.volume v).tracks
     → (on_device last.control device (partner_of first.control v) t ≡ image (histories last.events).write (frozen last (told_since first last) (partner_of first.control v) v t))
-    × IsKept first last v t
+    × HoldsWhatCame first last v t

@@ -1,8 +1,9 @@
-//! Laws on freeze windows, over every script and every stop: at each moment of a sound window the secondaries of its pairs hold one
-//! cut of the host's writes. Its functions do nothing: each names a law by its contract.
+//! Laws on freezes and on Metro Mirror pairs, over every script and every stop: at each moment of a sound freeze window the secondaries of its
+//! pairs hold one cut of the host's writes; a frozen primary takes no write; a Full Duplex one is in sync. Its functions do nothing: each
+//! names a law by its contract.
 #![tactic(auto)]
 
-ghost use Rattle.std.specs.Prelude.{◌≡◌, ℕ, List};
+ghost use Rattle.std.specs.Prelude.{◌≡◌, ℕ, List, true, false, Ok};
 ghost use Rattle.dr_model.specs.declared.step.Devs.{Devs};
 ghost use Rattle.dr_model.specs.declared.step.Step.TheVariants as step;
 ghost use Rattle.dr_model.specs.Control.{World};
@@ -10,6 +11,9 @@ ghost use Rattle.dr_model.specs.Plans.{step_plan};
 ghost use Rattle.dr_model.specs.Runs.{Task, after_plan, run};
 ghost use Rattle.dr_model.specs.Laws.{Sound};
 ghost use Rattle.dr_laws_freezes.specs.Windows.{FreezeCut};
+ghost use Rattle.dr_laws_freezes.specs.InSync.{DuplexInSync};
+ghost use Rattle.dr_laws_freezes.specs.Frozen.{FreezesHold, lets_go};
+ghost use Rattle.dr_laws_freezes.specs.Example.{frozen_pair, no_names};
 
 /// At the end of a sound freeze window of a run, the secondaries of the set hold one moment of the host's writes: each track of
 /// each contains what the writes make that its primary holds then, and the last write that it stored where that wasn't
@@ -23,4 +27,30 @@ pub fn freezes_leave_one_cut()
 /// A thaw changes no track, whatever it answers, and wherever a server stops in it.
 pub fn thaws_change_no_track()
     ensures { (w : World) (line : ℕ) (devs : Devs) (l m v t : ℕ) → Sound w → (after_plan w line (step_plan w.control w.events line (step.Unfreeze devs l m))).contents v t ≡ w.contents v t }
+{}
+
+/// After a freeze that isn't refused no host write lands on a primary between its two subsystems, acknowledged or in a stop, until a step
+/// lets that primary go: one that thaws the pairs between the two subsystems, that makes its pair go on or ends it, or that ends the holds
+/// of its server. The primary stays long busy till then, also over a stop of its server and the start behind it.
+pub fn no_write_lands_after_a_freeze()
+    ensures { (tasks : List Task) → FreezesHold tasks }
+{}
+
+/// As each step of a run begins, and at its end, a Metro Mirror primary that is Full Duplex has no track out of sync where its
+/// server runs; and no Metro Mirror primary records what changes.
+pub fn full_duplex_primaries_are_in_sync()
+    ensures { (tasks : List Task) → DuplexInSync tasks }
+{}
+
+/// An example of who lets a frozen primary go: a thaw between its two logical subsystems, but none of other ones; what makes its pair go on,
+/// but not what pauses it; what ends the pair; and no host write and no recovery.
+pub fn an_example_lets_a_primary_go()
+    ensures thaws { lets_go frozen_pair (Ok (step.Unfreeze no_names 16 32)) 4096 ≡ true }
+    ensures thaws_others { lets_go frozen_pair (Ok (step.Unfreeze no_names 16 33)) 4096 ≡ false }
+    ensures resumes_other { lets_go frozen_pair (Ok (step.ResumePair no_names 4097 8192 1)) 4096 ≡ false }
+    ensures resumes { lets_go frozen_pair (Ok (step.ResumePair no_names 4096 8192 1)) 4096 ≡ true }
+    ensures pauses { lets_go frozen_pair (Ok (step.PausePair no_names 4096 8192)) 4096 ≡ false }
+    ensures ends { lets_go frozen_pair (Ok (step.RemovePair no_names 4096 8192 true)) 4096 ≡ true }
+    ensures applies { lets_go frozen_pair (Ok (step.Apply 1)) 4096 ≡ false }
+    ensures recovers { lets_go frozen_pair (Ok (step.Recover 1)) 4096 ≡ false }
 {}

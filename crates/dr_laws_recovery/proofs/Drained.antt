@@ -35,6 +35,7 @@ use Rattle.dr_laws_sound.proofs.FitsFlash.{as_begun}
 use Rattle.dr_laws_sound.proofs.FitsPairs.{row, runs-done, part-same}
 use Rattle.dr_laws_sound.proofs.Parts.{comes-drain}
 use Rattle.dr_laws_sound.proofs.Steps.{sound-part}
+use Rattle.dr_laws_sound.proofs.Turned.{passed-check as passed}
 use Rattle.dr_laws_recovery.proofs.Went.{Fine, AllFine, fine-none, fine-then, fine-append, fine-choice, fine-wider, carry-keeps, Split, carry-split, Went, part-went, goes-onward}
 use Rattle.dr_model.proofs.LawfulLemmas.{removed}
 use Rattle.dr_facts.proofs.Parts.{global-part}
@@ -176,14 +177,6 @@ sent-all volumes a b (t ∷ ts) w v leads old =
 
 -- ---- a primary is drained
 
--- what passed
-passed : (w v : World) (ok : Control → Bool) (r : Refusal) (ds : List Entry) → carry w (check ok r ∷ ds) ≡ (v, None) → (ok w.control ≡ true) × (carry w ds ≡ (v, None))
-passed w v ok r ds leads = by (ok w.control) refl (sym (carry-first w (check ok r) ds (cond (ok w.control) Pass (End r)) refl) ∙ leads)
-  where
-    by : (b : Bool) → ok w.control ≡ b → go w (cond b Pass (End r)) (λ u. carry u ds) ≡ (v, None) → (ok w.control ≡ true) × (carry w ds ≡ (v, None))
-    by true is h = (is, h)
-    by false is h = none_some (ap (λ (o : Outcome). o.1) h) refl
-
 fine-check : (ok : Control → Bool) (r : Refusal) (k : Control) → Fine IsSend k (check ok r k)
 fine-check ok r k = fine-choice IsSend k (ok k) Pass (End r) tt tt
 
@@ -196,7 +189,7 @@ in-range (suc n) b q above below = by (eqb_tells q b) (λ ne. in-range n (b + 1)
     by (inl is) further = inl is.1
     by (inr other) further = inr (further other.1)
 
-in-in_order : (n : ℕ) (s : Tracks) (q : ℕ) → q < n → contains s q ≡ true → In q (in_order n s)
+pub in-in_order : (n : ℕ) (s : Tracks) (q : ℕ) → q < n → contains s q ≡ true → In q (in_order n s)
 unfolding in_order
 in-in_order n s q low here = to-filter (contains s) (range_with_len 0 n) q (in-range n 0 q (omega arith) (omega (arith, low))) here
 

@@ -38,11 +38,11 @@ use Rattle.dr_laws_closed.specs.Closing.{StandsWhole, number_kept, CountsFor, Me
 use Rattle.dr_laws_closed.proofs.Places.{group-stands}
 use Rattle.dr_laws_closed.proofs.ClosedCuts.{closed-cuts}
 use Rattle.dr_laws_targets.specs.Committeds.{committeds}
-use Rattle.dr_laws_targets.specs.Counted.{Counts, MemberHas, TargetsShowCuts}
+use Rattle.dr_laws_targets.specs.Counted.{CountsAsTarget, MemberHas, TargetsShowCuts}
 use Rattle.dr_laws_targets.proofs.Places.{in-group, committed-found, committed-stands}
 use Rattle.dr_laws_targets.proofs.Held.{held-stored}
 use Rattle.dr_laws_recovery.specs.Decided.{shown_on}
-use Rattle.dr_laws_recovery.specs.Recovered.{Records, Recovery, decided_over, goes_back, remains_in, number_after, view_before, common, recovered_in, recovered_on, SameRecovery, HoldsTracks}
+use Rattle.dr_laws_recovery.specs.Recovered.{VolumeRecords, Recovery, decided_over, goes_back, remains_in, number_after, view_before, common, recovered_in, recovered_on, SameRecovery, HoldsTracks}
 use Rattle.dr_laws_recovery.specs.Headline.{IsOfGroup, GivesCut, GivesNewest}
 use Rattle.dr_laws_recovery.proofs.TakenAt.{holds-all}
 use Rattle.dr_laws_recovery.specs.Stored.{MirroredIsStored, StoredAtCuts}
@@ -68,7 +68,7 @@ module _ (w : World) (sound : Sound w) (once : CutOnce w.events) (whole : Stands
   abbrev s : ℕ
   s = x.number
 
-  abbrev f : Records
+  abbrev f : VolumeRecords
   f = fields_at k
 
   abbrev reverts : Bool
@@ -85,7 +85,7 @@ module _ (w : World) (sound : Sound w) (once : CutOnce w.events) (whole : Stands
   seen-here : (m : Member) → In m x.members → In (seen (roles k) m) (seen_in k x)
   seen-here m here = to-map (seen (roles k)) x.members m here
 
-  counts-so : (m : Member) → In m x.members → Counts (f m.c.0) → In m.c.0 k.volumes × (counts_in s (f m.c.0) ≡ true)
+  counts-so : (m : Member) → In m x.members → CountsAsTarget (f m.c.0) → In m.c.0 k.volumes × (counts_in s (f m.c.0) ≡ true)
   counts-so m here c = (is-met m.c.0 k.volumes ((sound.groups.each x listed).stands m here).c, counts-here k sound.groups sound.attempts x m listed here c)
 
   same-here : (y : Session) → In y k.sessions → y.number ≡ s → y ≡ x
@@ -112,7 +112,7 @@ module _ (w : World) (sound : Sound w) (once : CutOnce w.events) (whole : Stands
       by true = plain
       by false = refl
 
-  to-remaining : (m : Member) → In m x.members → Counts (f m.c.0) → Kept (f m.c.0) → In m.c.0 r.remaining
+  to-remaining : (m : Member) → In m x.members → CountsAsTarget (f m.c.0) → Kept (f m.c.0) → In m.c.0 r.remaining
   to-remaining m here c kept =
       let so = counts-so m here c in
       to-filter (λ v. remains_in s reverts (f v)) k.volumes m.c.0 so.0 (and_from (counts_in s (f m.c.0)) (cond (goes_back reverts (f m.c.0)) (f m.c.0).member true) so.1 kept)
@@ -122,7 +122,7 @@ module _ (w : World) (sound : Sound w) (once : CutOnce w.events) (whole : Stands
     member : Member
     here : In member x.members
     is : member.c.0 ≡ v
-    counts : Counts (f member.c.0)
+    counts : CountsAsTarget (f member.c.0)
     kept : Kept (f member.c.0)
 
   from-remaining : (v : ℕ) → In v r.remaining → Remains v
@@ -135,7 +135,7 @@ module _ (w : World) (sound : Sound w) (once : CutOnce w.events) (whole : Stands
         member = t.member;
         here = subst (λ (y : Session). In t.member y.members) (same-here t.session t.listed (t.number ∙ eqb-true (f v).session s so.0)) t.here;
         is = t.is;
-        counts = subst (λ v. Counts (f v)) (sym t.is) so.1;
+        counts = subst (λ v. CountsAsTarget (f v)) (sym t.is) so.1;
         kept = subst (λ v. Kept (f v)) (sym t.is) both.1;
       }
 
@@ -170,13 +170,13 @@ module _ (w : World) (sound : Sound w) (once : CutOnce w.events) (whole : Stands
   -- number that stays its own; and where any remains, one of those has this number.
   record Number : Type 0 where
     n : ℕ
-    each : (m : Member) → In m x.members → Counts (f m.c.0) → Kept (f m.c.0) → Shows n m
-    all : (m : Member) → In m x.members → CountsFor n (f m.c.0) → Counts (f m.c.0) × Kept (f m.c.0)
+    each : (m : Member) → In m x.members → CountsAsTarget (f m.c.0) → Kept (f m.c.0) → Shows n m
+    all : (m : Member) → In m x.members → CountsFor n (f m.c.0) → CountsAsTarget (f m.c.0) × Kept (f m.c.0)
     low : (m : Member) → In m x.members → (f m.c.0).member ≡ true → number_kept (f m.c.0) ≤ n
     some : (v : ℕ) → In v r.remaining → HasNumber n
 
   -- one that stays
-  shows-stays : (n : ℕ) (m : Member) → In m x.members → Counts (f m.c.0) → goes_back reverts (f m.c.0) ≡ false → (f m.c.0).sequence ≡ n → Shows n m
+  shows-stays : (n : ℕ) (m : Member) → In m x.members → CountsAsTarget (f m.c.0) → goes_back reverts (f m.c.0) ≡ false → (f m.c.0).sequence ≡ n → Shows n m
   shows-stays n m here c stays is = record {
     number = ap (λ b. cond b (f m.c.0).previous_sequence (f m.c.0).sequence) stays ∙ is;
     stands = subst (λ n. standing w.events s n m.a.0 ≡ true) is (counted.stands x m listed here c);
@@ -206,14 +206,14 @@ module _ (w : World) (sound : Sound w) (once : CutOnce w.events) (whole : Stands
         by (inl none) = none-some x.last (seen_in k x) none had
         by (inr all) = all
 
-    stays : (m : Member) → In m x.members → Counts (f m.c.0) → goes_back reverts (f m.c.0) ≡ false
+    stays : (m : Member) → In m x.members → CountsAsTarget (f m.c.0) → goes_back reverts (f m.c.0) ≡ false
     stays m here c = by (f m.c.0).revertible refl
       where
         by : (b : Bool) → (f m.c.0).revertible ≡ b → goes_back reverts (f m.c.0) ≡ false
         by false plain = plain-stays (f m.c.0) plain
         by true is = let so = counts-so m here c in ap (λ b. b && (f m.c.0).revertible) (some-commits k sound.groups sound.attempts s x listed refl m.c.0 so.0 so.1 is had)
 
-    counts-by : (m : Member) (n : ℕ) → CountsFor n (f m.c.0) → Counts (f m.c.0)
+    counts-by : (m : Member) (n : ℕ) → CountsFor n (f m.c.0) → CountsAsTarget (f m.c.0)
     counts-by m n (inl h) = rev-counts (seen (roles k) m) h.0
     counts-by m n (inr h) = member-counts (seen (roles k) m) h.0
 
@@ -246,22 +246,22 @@ module _ (w : World) (sound : Sound w) (once : CutOnce w.events) (whole : Stands
     has : (m : Member) → In m x.members → (f m.c.0).member ≡ true → number_kept (f m.c.0) ≡ one.number
     has m here flag = one.same (seen (roles k) m) (seen-here m here) flag
 
-    goes : (m : Member) → In m x.members → Counts (f m.c.0) → (f m.c.0).revertible ≡ true → goes_back reverts (f m.c.0) ≡ true
+    goes : (m : Member) → In m x.members → CountsAsTarget (f m.c.0) → (f m.c.0).revertible ≡ true → goes_back reverts (f m.c.0) ≡ true
     goes m here c is = let so = counts-so m here c in and_from reverts (f m.c.0).revertible (none-reverts k sound.groups sound.attempts s x listed refl m.c.0 so.0 so.1 is none) is
 
     -- those that remain were members'
-    flag-by : (m : Member) → In m x.members → Counts (f m.c.0) → Kept (f m.c.0) → (b : Bool) → (f m.c.0).revertible ≡ b → (f m.c.0).member ≡ true
+    flag-by : (m : Member) → In m x.members → CountsAsTarget (f m.c.0) → Kept (f m.c.0) → (b : Bool) → (f m.c.0).revertible ≡ b → (f m.c.0).member ≡ true
     flag-by m here c kept false plain = counts-member (seen (roles k) m) c plain
     flag-by m here c kept true is = sym (ap (λ b. cond b (f m.c.0).member true) (goes m here c is)) ∙ kept
 
-    shows-one : (m : Member) → In m x.members → Counts (f m.c.0) → Kept (f m.c.0) → (b : Bool) → (f m.c.0).revertible ≡ b → Shows one.number m
+    shows-one : (m : Member) → In m x.members → CountsAsTarget (f m.c.0) → Kept (f m.c.0) → (b : Bool) → (f m.c.0).revertible ≡ b → Shows one.number m
     shows-one m here c kept false plain =
         shows-stays one.number m here c (plain-stays (f m.c.0) plain) (sym (shown-plain (seen (roles k) m) plain) ∙ has m here (flag-by m here c kept false plain))
     shows-one m here c kept true is =
         let flag = flag-by m here c kept true is in
         shows-back one.number m here is flag (goes m here c is) (sym (shown-rev (seen (roles k) m) is) ∙ has m here flag)
 
-    counts-one : (m : Member) → In m x.members → CountsFor one.number (f m.c.0) → Counts (f m.c.0) × Kept (f m.c.0)
+    counts-one : (m : Member) → In m x.members → CountsFor one.number (f m.c.0) → CountsAsTarget (f m.c.0) × Kept (f m.c.0)
     counts-one m here (inl h) = absurd (one.apart (sym h.1 ∙ (own.numbers.each (seen (roles k) m) (seen-here m here)).last h.0))
     counts-one m here (inr h) = (member-counts (seen (roles k) m) h.0, member-kept (f m.c.0) h.0)
 

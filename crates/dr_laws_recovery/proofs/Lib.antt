@@ -23,10 +23,13 @@
 -- - the premises of a seal's own clause hold in every run: `cuts-found`, `sends-found` (`SealsFound.antt`)
 -- - a revertible target keeps what it shows, and what was set aside: `both-stay`, `flash-shows`, `revert-shows`
 --   (`BothViews.antt`)
+-- - a drain of all tracks that ends well leaves nothing out of sync, and so both volumes of a pair that is in place equal:
+--   `drain-empties`, `drain-equals` (`Emptied.antt`)
 -- - by what devices say alone, each session's decision is possible: `decides-on` (`Decided.antt`)
--- - what a recovery makes of each session stays along a recovery, a start, and a commit or revert by hand; at its end it
---   is done and answered; devices tell it: `recover-keeps`, `start-keeps`, `hand-keeps`, `has-ended`, `answers-group`,
---   `tells-recovery`, `same-on` (`Recovers.antt`, `RecoversStart.antt`, `RecoversEnd.antt`, `RecoveredOn.antt`)
+-- - what a recovery makes of each session stays along a recovery, a start, a failover, a failback, and a commit or revert
+--   by hand; at its end it is done and answered; devices tell it: `recover-keeps`, `start-keeps`, `failover-keeps`,
+--   `failback-keeps`, `hand-keeps`, `has-ended`, `answers-group`, `tells-recovery`, `same-on` (`Recovers.antt`,
+--   `RecoversStart.antt`, `RecoversFailover.antt`, `RecoversEnd.antt`, `RecoveredOn.antt`)
 -- - That a bound isn't felt (`TurnsEnd.antt`): a measure of the master that each turn lessens, and two bounds above it
 --   give the same way (`turns-alike`). `Went.antt` has what an unrefused plan leaves: `carry-keeps` with `AllFine`
 --   carries any property of acts over entries.
@@ -67,6 +70,7 @@ pub mod RecoverySame
 pub mod Recovers
 pub mod RecoversEnd
 pub mod RecoversStart
+pub mod RecoversFailover
 pub mod RecoveredOn
 pub mod Exchanges
 pub mod TakenOver
@@ -77,6 +81,7 @@ pub mod SealsFound
 pub mod TurnsLeft
 pub mod Went
 pub mod Drained
+pub mod Emptied
 pub mod TurnsEnd
 pub mod Stored
 pub mod OnTracks

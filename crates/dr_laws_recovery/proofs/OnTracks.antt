@@ -4,10 +4,10 @@ use Rattle.std.specs.List.{list_any}
 use Rattle.std.proofs.lemmas.List.{append-nil}
 use Rattle.std.proofs.lemmas.Bool.{or_parts}
 use Rattle.std.proofs.lemmas.List.Folds.{list_any-append}
-use Rattle.dr_logic.specs.Tables.{at, at2}
+use Rattle.dr_logic.specs.Tables.{at}
 use Rattle.dr_model.specs.declared.event.Event.{Event}
-use Rattle.dr_model.specs.declared.event.Event.TheVariants.{Volume as VolumeDefined, Issue, Ack, Mirrored, Sent, Flashed, Committed, Reverted, Set, Back, Blanked, Restored, Stopped, Suspended, Frozen, Thawed, Recovered, Begin, Cut}
-use Rattle.dr_model.specs.Histories.{Write, Lists, Histories, joined, after_event, histories}
+use Rattle.dr_model.specs.declared.event.Event.TheVariants.{Issue, Ack, Mirrored, Blanked, Restored, Stopped, Suspended, Frozen, Thawed, Recovered, Begin, Cut}
+use Rattle.dr_model.specs.Histories.{Write, Histories, joined, after_event, histories}
 use Rattle.dr_model.specs.Layout.{Tracks}
 use Rattle.dr_model.specs.Relations.{is_bare, in_order, rest, turned, given_up}
 use Rattle.dr_model.specs.Pairs.{is_suspended}
@@ -20,7 +20,7 @@ use Rattle.dr_model.specs.Runs.{Task, run}
 use Rattle.dr_model.proofs.Images.{histories-push}
 use Rattle.dr_logic.proofs.Tables.{at_other}
 use Rattle.dr_facts.proofs.Lists.{in-joined}
-use Rattle.dr_facts.proofs.Tables.{at_cases, at2_cases}
+use Rattle.dr_facts.proofs.Heard.{OfEach, OfJoined, each-event}
 use Rattle.dr_laws_sound.proofs.Turns.{after_act, server_at}
 use Rattle.dr_laws_sound.proofs.KeepsSound.{MayDo}
 use Rattle.dr_laws_sound.proofs.Starts as starts
@@ -32,19 +32,13 @@ use Rattle.dr_laws_recovery.proofs.Stored.{places}
 
 -- ---- one event
 
-module _ (write : ℕ → Write) where
-  abbrev On : Lists → Type 0
-  On l = (v t u : ℕ) → In u (l v t) → (write u).track ≡ t
-
-  volume-at : (l : Lists) (x : ℕ) (new : ℕ → List ℕ) → On l → ((t u : ℕ) → In u (new t) → (write u).track ≡ t) → On (at l x new)
-  volume-at l x new old here = at_cases (λ v (f : ℕ → List ℕ). (t u : ℕ) → In u (f t) → (write u).track ≡ t) l x new here (λ v ne. old v)
-
-  track-at : (l : Lists) (x q : ℕ) (new : List ℕ) → On l → ((u : ℕ) → In u new → (write u).track ≡ q) → On (at2 l x q new)
-  track-at l x q new old here = at2_cases (λ v t ws. (u : ℕ) → In u ws → (write u).track ≡ t) l x q new here (λ v t ne. old v t)
+-- a list of a track has writes of that track alone
+abbrev OfTrack : (ℕ → Write) → ℕ → List ℕ → Type 0
+OfTrack write t ws = (u : ℕ) → In u ws → (write u).track ≡ t
 
 -- of the lists of volumes, and of those that are kept aside
 abbrev pub OnTracks : Histories → Type 0
-OnTracks h = On h.write h.now × On h.write h.aside
+OnTracks h = OfEach (OfTrack h.write) h
 
 abbrev is_issue : Event → Bool
 is_issue (Issue n v t offset len bytes) = true
@@ -58,19 +52,14 @@ joined-on h n old u i = by (in-joined (h.now (h.write n).volume (h.write n).trac
     by (inr (inl is)) = ap (λ u. (h.write u).track) is
     by (inr (inr none)) = absurd none
 
+joins-on : (h : Histories) (e : Event) → OnTracks h → OfJoined (OfTrack h.write) h e
+joins-on h (Ack n) old = joined-on h n old
+joins-on h (Mirrored n x) old = joined-on h n old
+joins-on h e old = tt
+
 event-on : (h : Histories) (e : Event) → is_issue e ≡ false → OnTracks h → OnTracks (after_event h e)
 event-on h (Issue n v t offset len bytes) new old = absurd cc
-event-on h (VolumeDefined x server tracks) new old = (volume-at h.write h.now x (λ t. []) old.0 (λ t u i. absurd i), old.1)
-event-on h (Ack n) new old = (track-at h.write h.now (h.write n).volume (h.write n).track (joined h n) old.0 (joined-on h n old), old.1)
-event-on h (Mirrored n x) new old = (track-at h.write h.now x (h.write n).track (joined h n) old.0 (joined-on h n old), old.1)
-event-on h (Sent x q to) new old = (track-at h.write h.now to q (h.now x q) old.0 (old.0 x q), old.1)
-event-on h (Flashed s n a b c) new old = (volume-at h.write h.now c (h.now b) old.0 (old.0 b), volume-at h.write h.aside c (h.now c) old.1 (old.0 c))
-event-on h (Committed s n a c) new old = (old.0, volume-at h.write h.aside c (λ t. []) old.1 (λ t u i. absurd i))
-event-on h (Reverted s n a c) new old = (volume-at h.write h.now c (h.aside c) old.0 (old.1 c), old.1)
-event-on h (Set x from) new old = (volume-at h.write h.now x (h.now from) old.0 (old.0 from), old.1)
-event-on h (Back x q from) new old = (track-at h.write h.now x q (h.now from q) old.0 (old.0 from q), old.1)
-event-on h (Blanked x q) new old = (track-at h.write h.now x q [] old.0 (λ u i. absurd i), old.1)
-event-on h e new old = old
+event-on h e new old = each-event (OfTrack h.write) (λ t u i. absurd i) h e (joins-on h e old) old
 
 -- ---- after a journal, and wherever it tells that a volume was cut
 

@@ -15,14 +15,14 @@ use Rattle.dr_model.specs.Laws.{Sound, sizes}
 use Rattle.dr_model.specs.Fits.{Fits, on_device}
 use Rattle.dr_facts.proofs.Lists.{from-filter, any-some}
 use Rattle.dr_laws_recovery.specs.Decided.{record_on}
-use Rattle.dr_laws_recovery.specs.Recovered.{Records, decided_over, goes_back, remains_in, number_after, view_before, common, recovered_in, recovered_on, TellsRecovery, SameRecovery, HoldsTracks}
+use Rattle.dr_laws_recovery.specs.Recovered.{VolumeRecords, decided_over, goes_back, remains_in, number_after, view_before, common, recovered_in, recovered_on, TellsRecovery, SameRecovery, HoldsTracks}
 use Rattle.dr_laws_recovery.proofs.Decided.{on-record}
 use Rattle.dr_laws_sound.proofs.Views.{shown-due}
 use Rattle.dr_laws_recovery.proofs.RecoverySame.{filter-same, map-same, is-revertible}
 use Rattle.dr_logic.proofs.Choices.{chosen}
 
 -- by records that are the same of each volume, what is decided and what remains are the same
-module _ (f g : Records) (vs : List ℕ) (same : (v : ℕ) → In v vs → f v ≡ g v) (s : ℕ) where
+module _ (f g : VolumeRecords) (vs : List ℕ) (same : (v : ℕ) → In v vs → f v ≡ g v) (s : ℕ) where
   decided-same : decided_over f vs s ≡ decided_over g vs s
   decided-same = ap decision
       (map-same (λ v. shown_of (f v)) (λ v. shown_of (g v)) (filter (λ v. counts_in s (f v)) vs) (λ v h. ap shown_of (same v (from-filter (λ v. counts_in s (f v)) vs v h).0))

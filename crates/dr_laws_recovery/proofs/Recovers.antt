@@ -15,7 +15,7 @@ use Rattle.dr_model.specs.Decisions.{Shown, decision}
 use Rattle.dr_model.specs.Control.{Fuse, Pending, Volume, World}
 use Rattle.dr_model.specs.Relations.{committed, reverted}
 use Rattle.dr_model.specs.Pairs.{taken_over}
-use Rattle.dr_model.specs.Moves.{Move, TakeOver, Commit, Revert, target, moved}
+use Rattle.dr_model.specs.Moves.{Move, TakeOver, FallBack, Yield, Commit, Revert, target, moved}
 use Rattle.dr_model.specs.Carry.{Act, Make, EndRecovery, OpenAttempt, Redo, Acknowledge, Drop, EndFreeze, EndThaw, Next, Pass, Do, End, Entry}
 use Rattle.dr_model.specs.ReadStops.{Ends}
 use Rattle.dr_model.specs.Entries.{fields_at, relation_state}
@@ -86,9 +86,11 @@ module _ (w : World) (s : ℕ) where
     decides = k.decides;
   }
 
-  -- acts of a recovery, which does what was decided where it is one of the session
+  -- acts of a recovery, which does what was decided where it is one of the session, and of a failover and a failback
   abbrev pub Fit : Act → Type 0
   Fit (Make (TakeOver b)) = Unit {0}
+  Fit (Make (FallBack v more state)) = Unit {0}
+  Fit (Make (Yield v u kind state)) = Unit {0}
   Fit (Make (Commit c a i n)) = i ≡ s → reverts w ≡ false
   Fit (Make (Revert c a i n)) = i ≡ s → reverts w ≡ true
   Fit (EndRecovery i n) = Unit {0}
@@ -183,6 +185,8 @@ module _ (w : World) (s : ℕ) where
 
     keeps-moved : (m : Move) → May u m → Fit (Make m) → table j ≡ after (histories u.events).write (table u) m → Moves u.control j.control (target m) (next_of u m) (carried_in u m) → Keeps j
     keeps-moved (TakeOver b) may fit rows moves = keeps-taken b may rows moves
+    keeps-moved (FallBack v more state) may fit rows moves = keeps-still u j sessions k (FallBack v more state) rows moves sound.rows sound.attempts may.allowed refl refl refl refl (λ n. n) (λ t. refl)
+    keeps-moved (Yield v p kind state) may fit rows moves = keeps-still u j sessions k (Yield v p kind state) rows moves sound.rows sound.attempts may.allowed refl refl refl refl (λ n. n) (λ t. refl)
     keeps-moved (Commit c a i n) may fit rows moves = elim (eqb_tells i s) [
       | inl is ↦ keeps-committed c a i n may (is.1, fit is.1) rows moves
       | inr not ↦ let p = may.group.place in
@@ -325,7 +329,7 @@ module _ (w : World) (sound : Sound w) (s : ℕ) where
 
   -- ---- wherever such plans come to
 
-  plan-keeps : (p : Plan) → GoesOn p → KeepsRecovery w p s
+  pub plan-keeps : (p : Plan) → GoesOn p → KeepsRecovery w p s
   plan-keeps p goes = record { moments = goes-moment w Same keeping p goes; reads = goes-ends w Same keeping p goes; after = goes-after w Same keeping p goes }
 
   pub recover-keeps : (r : ℕ) → KeepsRecovery w (recover_plan w.control r) s

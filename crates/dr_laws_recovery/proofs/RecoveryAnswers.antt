@@ -18,7 +18,7 @@ use Rattle.dr_model.specs.Groups.{In}
 use Rattle.dr_model.specs.Laws.{Sound}
 use Rattle.dr_facts.proofs.Lists.{not-found}
 use Rattle.dr_laws_recovery.specs.Recovered.{decided_over, recovered_in}
-use Rattle.dr_laws_recovery.specs.RecoveryAnswers.{secondary_server, FirstOff, Stops, Runs, IsRefused, AnswersForCause}
+use Rattle.dr_laws_recovery.specs.RecoveryAnswers.{secondary_server, FirstOff, Stops, IsCarriedOut, FirstServerIsOff, AnswersForCause}
 use Rattle.dr_laws_sound.proofs.Turns.{server_at, next_of, carried_in, done, done_in_stop, not_done, turn_by, turn-by}
 use Rattle.dr_laws_sound.proofs.FitsFlash.{as_begun}
 use Rattle.dr_laws_sound.proofs.Counting.{listed-found}
@@ -196,7 +196,7 @@ module _ (w : World) (x : Session) (sound : Sound w) (listed : In x w.control.se
   plan-is : (o : Option Member) → find (is_off w.control) x.members ≡ o → p ≡ unless (refusal o) goes
   plan-is o is = ap (λ o. on_session o (λ x. unless (secondary_refusal x.members w.control) (recover_done s (decided_in s w.control) x.members))) found ∙ ap (λ o. unless (refusal o) goes) is
 
-  refused : (m : Member) → find (is_off w.control) x.members ≡ Some m → IsRefused w x
+  refused : (m : Member) → find (is_off w.control) x.members ≡ Some m → FirstServerIsOff w x
   refused m is =
       let f = first-off w.control x.members m is in
       record { first = f.0; is = plan-is (Some m) is ∙ ap (λ m. refuses (server_off (secondary_server w.control m))) (sym f.1) }
@@ -207,7 +207,7 @@ module _ (w : World) (x : Session) (sound : Sound w) (listed : In x w.control.se
   abbrev e : Outcome
   e = carry (begun w p) p.entries
 
-  runs : find (is_off w.control) x.members ≡ None → Runs w x
+  runs : find (is_off w.control) x.members ≡ None → IsCarriedOut w x
   runs none = record { on = on; ends = by (subst (λ (p : Plan). let e : Outcome = carry (begun w p) p.entries in EndsFor w x on e.0 e.1) (sym (plan-is None none)) (recovery-ends w x on together s (decided_in s w.control))) }
     where
       on : (m : Member) → In m x.members → w.control.on (secondary_server w.control m) ≡ true

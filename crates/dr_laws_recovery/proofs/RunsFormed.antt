@@ -50,7 +50,8 @@ use Rattle.dr_laws_targets.specs.Counted.{MemberHas}
 use Rattle.dr_laws_targets.proofs.Places.{committed-stands}
 use Rattle.dr_model.specs.Table.{table}
 use Rattle.dr_laws_closed.specs.Closing.{number_kept}
-use Rattle.dr_laws_sound.specs.Acknowledged.{answer_of, said_in}
+use Rattle.dr_laws_sound.proofs.Turned.{passed-refuse}
+use Rattle.dr_laws_sound.specs.Acknowledged.{part_answer, said_in}
 use Rattle.dr_laws_sound.proofs.Turns.{done, after_act, act-cases}
 use Rattle.dr_laws_sound.proofs.FitsFlash.{as_begun}
 use Rattle.dr_laws_sound.proofs.Steps.{sound-run, sound-task}
@@ -72,13 +73,6 @@ record LastStands (w : World) (i : ℕ) : Type 0 where
   is : is_committed session.last (fields_at w.control member.c.0) ≡ true
 
 -- ---- what orders to commit and to finish do
-
-passed-if : (w v : World) (why : Control → Option Refusal) (ds : List Entry) → carry w (refuse_if why ∷ ds) ≡ (v, None) → (why w.control ≡ None) × (carry w ds ≡ (v, None))
-passed-if w v why ds leads = by (why w.control) refl (sym (carry-first w (refuse_if why) ds (end_if (why w.control)) refl) ∙ leads)
-  where
-    by : (o : Option Refusal) → why w.control ≡ o → go w (end_if o) (λ u. carry u ds) ≡ (v, None) → (why w.control ≡ None) × (carry w ds ≡ (v, None))
-    by None is h = (is, h)
-    by (Some r) is h = none_some (ap (λ (o : Outcome). o.1) h) refl
 
 -- moves alone: the sessions stay
 abbrev OnlyMoves : (Move → Type 0) → Control → Act → Type 0
@@ -169,8 +163,8 @@ module _ (i n : ℕ) (m : Member) (ms : List Member) (w v : World) (together : (
   first-committed : Stands n m.c.0 v
   first-committed =
       let s : Split w v (member_entries phases.Commit i n m) (order_entries phases.Commit i n ms) = carry-split w v (member_entries phases.Commit i n m) (order_entries phases.Commit i n ms) leads in
-      let sends = passed-if w s.middle (send_refusal m.a.0 m.b.0) _ s.first in
-      let may = passed-if w s.middle (commit_refusal m.c.0 n) _ sends.1 in
+      let sends = passed-refuse w s.middle (send_refusal m.a.0 m.b.0) _ s.first in
+      let may = passed-refuse w s.middle (commit_refusal m.c.0 n) _ sends.1 in
       carry-keeps (OnlyMoves IsCommit) (Stands n m.c.0) (commit-keeps n m.c.0) s.middle v (order_entries phases.Commit i n ms) (commits-fine i n ms) s.rest
       (by s.middle (reached-runs w.control m.a.0 m.b.0 sends.0) (is_committed n (fields_at w.control m.c.0)) refl may.0 (sym (carry-first w (commit_on i m.a.0 m.c.0 n) [] _ refl) ∙ may.1))
     where
@@ -454,7 +448,7 @@ newest-stands w s k i l = subst (λ i. NewestGroup w.events i x.last) there.1 (r
         let top : h.session.last ≡ x.last = ap (λ (x : Session). x.last) same in
         omega (arith, reached, floor, more, top)
 
-only-said : (w : World) (a : Said) → answer_of (record { world = w; plan = only_says a }) ≡ a
+only-said : (w : World) (a : Said) → part_answer (record { world = w; plan = only_says a }) ≡ a
 unfolding carry
 only-said w a = refl
 

@@ -16,7 +16,7 @@ use Rattle.dr_model.specs.Groups.{In}
 use Rattle.dr_model.specs.Pairs.{is_primary_of}
 use Rattle.dr_model.specs.Phases as phases
 use Rattle.dr_model.specs.Sessions.{Session, Mirror as SessionMirror, session_in, mirror_in, members_in, changed, begun as attempt_opened, with_mirror, mirror_lost_since, lost_since}
-use Rattle.dr_model.specs.Moves.{Move, Land, Overwrite, Keep, Note, Relate, Withdraw, Fetch, Resync, Reverse, Restore, Release, Store, Strike, Suspend, MakeSecondary, MakePrimary, DropPrimary, DropSecondary, Follow, Resume, TakeOver, Unsync, Mirror, LandBoth, Thaw, Lift, Restart, Hold, Free, Seal, Finish, RaiseAttempt, RaiseFloor, Leave, Flash, Commit, Revert, target, fields_left}
+use Rattle.dr_model.specs.Moves.{Move, Land, Overwrite, Keep, Note, Relate, Withdraw, Fetch, Resync, Reverse, Restore, Release, Store, Strike, Suspend, MakeSecondary, MakePrimary, DropPrimary, DropSecondary, Follow, Resume, TakeOver, FallBack, Yield, Unsync, Mirror, LandBoth, Thaw, Lift, Restart, Hold, Free, Seal, Finish, RaiseAttempt, RaiseFloor, Leave, Flash, Commit, Revert, target, fields_left}
 use Rattle.dr_model.specs.Carry.{Act, Make, OpenAttempt, Redo, Acknowledge, Drop, EndFreeze, EndThaw, EndRecovery, act, carry}
 use Rattle.dr_model.specs.Carried.{begun, carried_out}
 use Rattle.dr_model.specs.Entries.{fields_at, is_running, pair_state}
@@ -40,6 +40,7 @@ abbrev Steady : Move → Type 0
 Steady (MakePrimary v b kind state full) = ⊥
 Steady (DropPrimary v) = ⊥
 Steady (TakeOver v) = ⊥
+Steady (Yield v a kind state) = ⊥
 Steady m = Unit {0}
 
 -- what names a primary's secondary
@@ -71,6 +72,8 @@ steady-left (DropSecondary v) u is = refl
 steady-left (Follow v state) u is = refl
 steady-left (Resume v state) u is = refl
 steady-left (TakeOver v) u is = absurd is
+steady-left (FallBack v more state) u is = refl
+steady-left (Yield v a kind state) u is = absurd is
 steady-left (Unsync v t) u is = refl
 steady-left (Mirror v t from w) u is = refl
 steady-left (LandBoth n v t) u is = refl

@@ -19,7 +19,7 @@ use Rattle.dr_model.specs.declared.state.PairState.TheVariants.{Suspended as Sus
 use Rattle.dr_model.specs.declared.step.Name.{Name}
 use Rattle.dr_model.specs.declared.step.Devs.{Devs}
 use Rattle.dr_model.specs.declared.step.Step.{Step}
-use Rattle.dr_model.specs.declared.step.Step.TheVariants.{Server, Volume, Link, Stop, StopAfter, Start, Issue, Write, Apply, Show, MakeFlash, RemoveFlash, ResyncFlash, ReverseFlash, Copy, MakePath, RemovePath, MakePair, RemovePair, PausePair, ResumePair, Drain, Expire, Freeze, Unfreeze, MakeSession, RemoveSession, AddMember, RemoveMember, MakeMirror, PauseMirror, ResumeMirror, RemoveMirror, Abort, Exchange, Recover, CommitFlash, RevertFlash}
+use Rattle.dr_model.specs.declared.step.Step.TheVariants.{Server, Volume, Link, Stop, StopAfter, Start, Issue, Write, Apply, Show, MakeFlash, RemoveFlash, ResyncFlash, ReverseFlash, Copy, MakePath, RemovePath, MakePair, RemovePair, PausePair, ResumePair, Failover, Failback, Compare, Drain, Expire, Freeze, Unfreeze, MakeSession, RemoveSession, AddMember, RemoveMember, MakeMirror, PauseMirror, ResumeMirror, RemoveMirror, Abort, Exchange, Recover, CommitFlash, RevertFlash}
 use Rattle.dr_model.specs.Layout.{Fields, is_part, part_of}
 use Rattle.dr_model.specs.Control.{Control, Pending, World}
 use Rattle.dr_model.specs.Contents.{image_at}
@@ -29,7 +29,7 @@ use Rattle.dr_model.specs.Moves.{Move, Relate, Withdraw, Fetch, Resync, Reverse,
 use Rattle.dr_model.specs.Carry.{Make, Redo, Next, Pass, Do, Entry, carry, now}
 use Rattle.dr_model.specs.Carried.{begun, carried_out}
 use Rattle.dr_model.specs.Entries.{fields_at, is_at, copy_first, is_running, lowest_missing, for_lowest, lowest_held, give_back, fetch_next, keep_on, land_on, land_alone, is_no_secondary, is_open, is_settled, share_server, share_size, is_no_target, relation_state, pair_state}
-use Rattle.dr_model.specs.PairEntries.{reach_refusal, two_servers, stands_free, may_follow, differs_at, first_differing, leads_to, belongs_to, are_linked, let_go, remove_both, may_pause, tell_paused, may_resume, follow_on, resume_on, send_refusal, suspend_where, store_on, strike_on, is_copying, tracks_to_send, suspend_running, suspend_after}
+use Rattle.dr_model.specs.PairEntries.{reach_refusal, two_servers, stands_free, may_follow, differs_at, first_differing, leads_to, belongs_to, are_linked, let_go, remove_both, may_pause, tell_paused, may_resume, follow_on, resume_on, send_refusal, suspend_where, store_on, strike_on, is_copying, tracks_to_send, suspend_running, suspend_after, may_take_over, leads_as, fall_back_on, yield_on}
 use Rattle.dr_model.specs.WriteEntries.{partner_of, is_grouped, land_mirrored, land_parted, is_parted, land_over, sends_first, where_sent, send_first, land_collided, land_entries, landing, part_running, part_after, after_write, is_between, freeze_on, end_freeze, thaw_on, end_thaw, belongs, lift_on, redo_on, restart_on, start_entries}
 use Rattle.dr_model.specs.Phases as phases
 use Rattle.dr_model.specs.Sessions.{Session, Mirror as SessionMirror, session_in, members_in, has_place_of, in_session, not_in_session, busy, joined, left, changed, mirrored_by, paused, unmirrored, with_master}
@@ -40,12 +40,13 @@ use Rattle.dr_ids.specs.declared.refusal.Refusal.TheVariants.{OutOfOrder}
 use Rattle.dr_ids.specs.declared.refusal.PhaseName.TheVariants as phase
 use Rattle.dr_ids.specs.declared.refusal.Kind.TheVariants.{Server as OfServer, Volume as OfVolume, Lss as OfLss, Session as OfSession}
 use Rattle.dr_model.specs.Refusals.{unknown, duplicate, server_off}
-use Rattle.dr_model.specs.Plans.{Plan, same, none_follow, always, entries_plan, only_says, refuses, unless, on_named, on_server, name_bytes, server_named, on_owner, owner_of, on_session, server_refusal, server_done, volume_refusal, volume_done, link_between, link_done, issue_refusal, issue_done, write_done, apply_on, show_refusal, show_done, stop_on, stop_done, arm_on, start_on, start_plan, acknowledge_on, acknowledge_if, landed_on, expire_on, expire_plan, copy_plan, found_pair, found_volumes, is_defined, is_owner, differ, is_no_source, has_few_targets, is_plain_target, is_recorded_target, is_lone_restore, may_return, may_copy, may_give_back, at_most, left_to_copy, counted_refusal, restore_refusal, left_by, path_refusal, make_path_done, unpath_refusal, remove_path_done, freeze_refusal, freeze_done, thaw_refusal, unfreeze_done, make_pair_plan, remove_pair_plan, pause_pair_plan, resume_pair_plan, member_refusal, drain_plan, plan_of, step_plan, is_built, has_room}
+use Rattle.dr_model.specs.Plans.{Plan, same, none_follow, always, entries_plan, only_says, refuses, unless, on_named, on_server, name_bytes, server_named, on_owner, owner_of, on_session, server_refusal, server_done, volume_refusal, volume_done, link_between, link_done, issue_refusal, issue_done, write_done, apply_on, show_refusal, show_done, stop_on, stop_done, arm_on, start_on, start_plan, acknowledge_on, acknowledge_if, landed_on, expire_on, expire_plan, copy_plan, found_pair, found_volumes, is_defined, is_owner, differ, is_no_source, has_few_targets, is_plain_target, is_recorded_target, is_lone_restore, may_return, may_copy, may_give_back, at_most, left_to_copy, counted_refusal, restore_refusal, left_by, path_refusal, make_path_done, unpath_refusal, remove_path_done, freeze_refusal, freeze_done, thaw_refusal, unfreeze_done, make_pair_plan, remove_pair_plan, pause_pair_plan, resume_pair_plan, failover_plan, yield_refusal, failback_plan, member_refusal, drain_plan, plan_of, step_plan, is_built, has_room, compare_plan}
 use Rattle.dr_model.specs.TakenWrites.{takes_from, sends_write, sends_pending, is_target_in}
 use Rattle.dr_facts.proofs.Lists.{found, from-filter, any-some}
 use Rattle.dr_facts.proofs.Parts.{global-part, metro-part}
 use Rattle.dr_facts.proofs.Refusals.{none-both}
 use Rattle.dr_logic.proofs.Truth.{false_true}
+use Rattle.dr_model.specs.Runs.{compared}
 use Rattle.dr_laws_sound.proofs.Cases.{is-new, added as added_plan, expelled}
 use Rattle.dr_laws_recovery.proofs.Went.{fine-none, fine-then, fine-append, fine-choice}
 use Rattle.dr_laws_recovery.proofs.Spared.{OkBy, AllSpared, Told, told-more, told-none, Takes, act-told, carry-kept, finish-kept, check-kept}
@@ -334,6 +335,18 @@ module _ (w : World) (line : ℕ) where
       entries-told w Q _ _ (both-fair Q devs a b _ (fair-check (Takes Q) (is_running a) _ _ (fair-check (Takes Q) (may_resume a b kind) (pair_state j a) _ (fair-refuse (Takes Q) (reach_refusal a b) _ (fair-check (Takes Q) (belongs_to a b) (pair_state j b) _
       (fine-then (OkBy (Takes Q)) (follow_on a b) _ (λ k. tt) (fair-one (Takes Q) (resume_on a) (λ k. tt))))))))
 
+  failover-fits : (step : Step) (devs : Devs) (b a : ℕ) (kind : Part) → Fits step (failover_plan j devs b a kind)
+  failover-fits step devs b a kind =
+      let Q : ℕ → Type 0 = MayTake j step in
+      entries-told w Q _ _ (both-fair Q devs b a _ (fair-check (Takes Q) (is_running b) _ _ (fair-check (Takes Q) (may_take_over a b kind) (pair_state j b) _ (last-move Q (TakeOver b) tt))))
+
+  failback-fits : (step : Step) (devs : Devs) (x y : ℕ) (kind : Part) → Fits step (failback_plan j devs x y kind)
+  failback-fits step devs x y kind =
+      let Q : ℕ → Type 0 = MayTake j step in
+      entries-told w Q _ _ (both-fair Q devs x y _ (fair-check (Takes Q) (is_running x) _ _ (fair-refuse (Takes Q) (reach_refusal x y) _ (fair-check (Takes Q) (leads_as x y kind) (pair_state j x) _ (fair-check (Takes Q) (leads_to y x) (pair_state j y) _
+      (fair-check (Takes Q) (is_settled y) (relation_state j y) _ (fair-check (Takes Q) (is_settled x) (relation_state j x) _ (fair-refuse (Takes Q) (yield_refusal y) _
+      (fine-then (OkBy (Takes Q)) (fall_back_on x y) _ (λ k. tt) (fair-one (Takes Q) (yield_on y x) (λ k. tt)))))))))))
+
   -- members that come and go
   add-fits : (step : Step) (dev : Option Name) (l a s : ℕ) → Fits step (add_plan j dev l a s)
   add-fits step dev l a s =
@@ -478,6 +491,8 @@ module _ (w : World) (line : ℕ) where
   of-step (RemovePair devs a b source_only) = remove-fits (RemovePair devs a b source_only) devs a b source_only
   of-step (PausePair devs a b) = pause-fits (PausePair devs a b) devs a b
   of-step (ResumePair devs a b kind) = resume-fits (ResumePair devs a b kind) devs a b (part_of kind)
+  of-step (Failover devs b a kind) = failover-fits (Failover devs b a kind) devs b a (part_of kind)
+  of-step (Failback devs x y kind) = failback-fits (Failback devs x y kind) devs x y (part_of kind)
   of-step (Drain a most) = drain-told w (MayTake j (Drain a most)) a most (λ part. (and_from (is_part (fields_at j a).primary) _ part ((eq-eqb (fields_at j a).primary_partner (fields_at j a).primary_partner refl))))
   of-step (Expire name) = where-named w _ (server_named j (name_bytes name)) (expire_on j) (λ s.
       if w _ (j.on s) (expire_plan j s) (refuses (server_off s)) (λ on. entries-told w (MayTake j (Expire name)) _ _ (fair-map _ (lift_on s) (λ v k. choice _ k (belongs k s v && held (fields_at k v)) (Do (Make (Lift v))) Pass tt tt) j.volumes)) (λ off. says-told w _ _))
@@ -508,3 +523,11 @@ module _ (w : World) (line : ℕ) where
   step-told step =
       if w (MayTake j step) (not (is_built step)) (refuses NotBuilt) (cond (has_room es) (plan_of j es line step) (refuses JournalFull)) (λ none. says-told w _ (Refused NotBuilt))
       (λ built. if w (MayTake j step) (has_room es) (plan_of j es line step) (refuses JournalFull) (λ room. of-step step) (λ full. says-told w _ (Refused JournalFull)))
+
+  -- a comparison takes nothing
+  pub compared-told : (v u : ℕ) → Fits (Compare v u) (compared w v u)
+  compared-told v u =
+      let Q : ℕ → Type 0 = MayTake j (Compare v u) in
+      if w Q (has_room es) (compare_plan j w.contents v u) (refuses JournalFull) (λ room. entries-told w Q _ _ (fair-check (Takes Q) (is_defined v) _ _ (fair-check (Takes Q) (is_defined u) _ _ (fair-check (Takes Q) (is_running v) _ _ (fair-check (Takes Q) (is_running u) _ _
+      (fair-check (Takes Q) (share_size v u) _ _ (fair-refuse (Takes Q) (differs_at (first_differing w.contents (j.volume v).tracks v u)) _ (fine-none _))))))))
+      (λ full. says-told w Q (Refused JournalFull))

@@ -1,19 +1,19 @@
 -- Where a list lost a write, there is the step of the run that may have taken it.
 use Rattle.std.proofs.Common.{ℕ, ◌≡◌, ◌⊎◌, inl, inr, refl, ap, sym, ◌∙◌, subst, append_assoc, List, [], ◌∷◌, ◌++◌}
 use Rattle.std.proofs.lemmas.List.{append_cancel_left}
-use Rattle.std.proofs.lemmas.List.Sums.{fold-append}
 use Rattle.dr_model.specs.declared.event.Event.{Event}
 use Rattle.dr_model.specs.declared.event.Event.TheVariants.{Cut}
 use Rattle.dr_model.specs.Groups.{In}
 use Rattle.dr_model.specs.Histories.{histories, lists}
 use Rattle.dr_model.specs.HeldWrites.{WasAcknowledged, WasReplaced}
-use Rattle.dr_model.specs.Control.{World, nothing}
+use Rattle.dr_model.specs.Control.{World}
 use Rattle.dr_model.specs.ClosedCuts.{ClosedCuts}
 use Rattle.dr_model.specs.Runs.{Task, after_task, after_tasks, run}
 use Rattle.dr_model.specs.TakenWrites.{WasTaken}
 use Rattle.dr_facts.proofs.Joined.{InFirst, InOther, place-in}
 use Rattle.dr_laws_cuts.proofs.Places.{snoc}
 use Rattle.dr_laws_targets.proofs.Held.{acknowledged-kept}
+use Rattle.dr_laws_sound.proofs.Journal.{run-more}
 use Rattle.dr_laws_recovery.specs.Held.{HoldsAll}
 use Rattle.dr_laws_recovery.proofs.Spared.{AllSpared, spared-at, Told}
 use Rattle.dr_laws_recovery.proofs.ClosesAlong.{closed-run}
@@ -30,10 +30,6 @@ pub record StepAt (tasks : List Task) (before : List Event) (e : Event) : Type 0
   pub begun : before ≡ (run first).events ++ since
   pub later : List Event
   pub ended : (after_task (run first) step).events ≡ before ++ e ∷ later
-
-run-more : (tasks : List Task) (t : Task) → run (tasks ++ t ∷ []) ≡ after_task (run tasks) t
-unfolding after_tasks
-run-more tasks t = fold-append after_task nothing tasks (t ∷ [])
 
 abbrev HasStep : List Task → Type 0
 HasStep tasks = (before : List Event) (e : Event) (behind : List Event) → (run tasks).events ≡ before ++ e ∷ behind → StepAt tasks before e

@@ -9,3 +9,4 @@ pub mod RecoveryAnswers
 pub mod Held
 pub mod Formed
 pub mod Stored
+pub mod Emptied

@@ -22,11 +22,11 @@ use Rattle.dr_model.specs.Fits.{on_device}
 use Rattle.dr_laws_recovery.specs.Decided.{record_on}
 
 -- the records of volumes
-abbrev pub Records : Type 0
-Records = ℕ → Fields
+abbrev pub VolumeRecords : Type 0
+VolumeRecords = ℕ → Fields
 
 -- what is decided over the volumes that count in session s
-abbrev pub decided_over : Records → List ℕ → ℕ → Decision
+abbrev pub decided_over : VolumeRecords → List ℕ → ℕ → Decision
 decided_over f vs s = decision (map (λ v. shown_of (f v)) (filter (λ v. counts_in s (f v)) vs))
 
 -- Where that is to revert, those that are revertible go back. Where it is to commit, they are committed, and where it is neither, they
@@ -43,11 +43,11 @@ abbrev pub number_after : Bool → Fields → ℕ
 number_after reverts f = if goes_back reverts f then f.previous_sequence else f.sequence
 
 -- what a track of target v was before the flash: its own where v held it then, and else its source's
-abbrev pub view_before : Records → (ℕ → ℕ → List ℕ) → ℕ → ℕ → List ℕ
+abbrev pub view_before : VolumeRecords → (ℕ → ℕ → List ℕ) → ℕ → ℕ → List ℕ
 view_before f contents v t = if contains (f v).previous_own t then contents v t else contents (f v).source t
 
 -- what a track shows after it
-abbrev pub image_after : Bool → Records → (ℕ → ℕ → List ℕ) → ℕ → ℕ → List ℕ
+abbrev pub image_after : Bool → VolumeRecords → (ℕ → ℕ → List ℕ) → ℕ → ℕ → List ℕ
 image_after reverts f contents v t = if goes_back reverts (f v) then view_before f contents v t else view f contents v t
 
 -- the number that all of some have
@@ -64,7 +64,7 @@ pub record Recovery : Type 0 where
   pub image : ℕ → ℕ → List ℕ
 
 -- the recovery of session s over these volumes, by whether what is decided reverts
-abbrev pub recovery_by : Bool → Records → (ℕ → ℕ → List ℕ) → List ℕ → ℕ → Recovery
+abbrev pub recovery_by : Bool → VolumeRecords → (ℕ → ℕ → List ℕ) → List ℕ → ℕ → Recovery
 recovery_by reverts f contents vs s = record {
   remaining = filter (λ v. remains_in s reverts (f v)) vs;
   group = common (numbers_in (map (λ v. number_after reverts (f v)) (filter (λ v. remains_in s reverts (f v)) vs)));
@@ -72,7 +72,7 @@ recovery_by reverts f contents vs s = record {
 }
 
 -- the recovery of session s, by what is decided over the volumes that count in it
-abbrev pub recovered : Records → (ℕ → ℕ → List ℕ) → List ℕ → ℕ → Recovery
+abbrev pub recovered : VolumeRecords → (ℕ → ℕ → List ℕ) → List ℕ → ℕ → Recovery
 recovered f contents vs s = recovery_by (lets_revert (decided_over f vs s)) f contents vs s
 
 -- by the records of a world, and by those on devices

@@ -37,17 +37,17 @@ pub record Stops (w u : World) (x : Session) (r : Option Refusal) : Type 0 where
 
 -- Where the servers of all secondaries are on, its acts end with the stop of one of them, or they end well, and then it answers the
 -- group that recovery makes of the session, with what was decided, or that there is no group.
-pub record Runs (w : World) (x : Session) : Type 0 where
+pub record IsCarriedOut (w : World) (x : Session) : Type 0 where
   pub on : (m : Member) → In m x.members → w.control.on (secondary_server w.control m) ≡ true
   pub ends : let p : Plan = recover_plan w.control x.number in let u : World = (carry (begun w p) p.entries).0 in
       Stops w u x (carry (begun w p) p.entries).1
       ⊎ (((carry (begun w p) p.entries).1 ≡ None) × (p.says u.control ≡ says_group (decided_over (fields_at w.control) w.control.volumes x.number) (recovered_in w x.number).group))
 
 -- Or it is refused since the first server that is off is off, and does nothing.
-pub record IsRefused (w : World) (x : Session) : Type 0 where
+pub record FirstServerIsOff (w : World) (x : Session) : Type 0 where
   pub first : FirstOff w.control x.members
   pub is : recover_plan w.control x.number ≡ refuses (server_off (secondary_server w.control first.member))
 
 -- a recovery of session x is refused for a server that is off, or runs
 abbrev pub AnswersForCause : World → Session → Type 0
-AnswersForCause w x = IsRefused w x ⊎ Runs w x
+AnswersForCause w x = FirstServerIsOff w x ⊎ IsCarriedOut w x

@@ -10,7 +10,9 @@ ghost use Rattle.dr_model.specs.Layout.{Blocks};
 ghost use Rattle.dr_model.specs.Control.{World, Fuse};
 ghost use Rattle.dr_model.specs.Moves.{Move, Flash, Commit, Revert, target};
 ghost use Rattle.dr_model.specs.Carry.{carry};
-ghost use Rattle.dr_model.specs.Plans.{start_plan};
+ghost use Rattle.dr_model.specs.Plans.{drain_plan, start_plan, failover_plan, failback_plan};
+ghost use Rattle.dr_model.specs.declared.step.Devs.{Devs};
+ghost use Rattle.dr_model.specs.declared.state.Part.{Part};
 ghost use Rattle.dr_ids.specs.declared.refusal.Decision.{Decision};
 ghost use Rattle.dr_model.specs.Forming.{turns, most_turns};
 ghost use Rattle.dr_model.specs.Runs.{Task, begun, run};
@@ -40,6 +42,8 @@ ghost use Rattle.dr_model.specs.declared.said.Said.TheVariants.{Done, Refused};
 ghost use Rattle.dr_model.specs.declared.event.Event.TheVariants.{TakenOver, Committed, Reverted};
 ghost use Rattle.dr_laws_attempts.specs.Example.{start, one_flashed, one_committed, over};
 ghost use Rattle.dr_laws_cuts.specs.Sent.{SendsTo, CutsHold};
+ghost use Rattle.dr_laws_sound.specs.Turning.{Leaves};
+ghost use Rattle.dr_laws_recovery.specs.Emptied.{IsEmptied, EqualAfter};
 ghost use Rattle.dr_laws_recovery.specs.BothViews.{IsRevertible, Settles, set_aside};
 ghost use Rattle.dr_laws_recovery.specs.Decided.{DecidesAfter};
 ghost use Rattle.dr_laws_recovery.specs.Example.{says, tells, taken, restoring};
@@ -105,13 +109,15 @@ pub fn no_session_is_impossible_to_decide()
 {}
 
 /// Wherever a recovery is stopped, another one makes the same of each session: the same volumes remain, with the same group, and show the
-/// same on each of their tracks. Nor is this changed where a server starts, or a target is committed or reverted by hand; so a recovery
-/// can be repeated. One that comes to its end has done it: those volumes alone count in the session, each with the group's number and
+/// same on each of their tracks. Nor is this changed where a server starts, a secondary is taken over by a failover, a pair goes the other
+/// way by a failback, or a target is committed or reverted by hand; so a recovery can be repeated. One that comes to its end has done it: those volumes alone count in the session, each with the group's number and
 /// showing what it was to show; it answers that group, and tells it to the journal. The devices of a plant that fits tell the same
 /// decision, volumes and group; and where their tracks contain what the world says, they tell the same recovery.
 pub fn a_recovery_keeps_its_group()
     ensures recovers { (w : World) (r s : ℕ) → Sound w → KeepsRecovery w (recover_plan w.control r) s }
     ensures starts { (w : World) (x s : ℕ) → Sound w → KeepsRecovery w (start_plan w.control x) s }
+    ensures failovers { (w : World) (devs : Devs) (b a : ℕ) (kind : Part) (s : ℕ) → Sound w → KeepsRecovery w (failover_plan w.control devs b a kind) s }
+    ensures failbacks { (w : World) (devs : Devs) (x y : ℕ) (kind : Part) (s : ℕ) → Sound w → KeepsRecovery w (failback_plan w.control devs x y kind) s }
     ensures hands { (w : World) (dev : Option Name) (lets : Decision → Bool) (b s : ℕ) → Sound w → KeepsRecovery w (settle_plan w.control dev lets b) s }
     ensures ends { (w : World) (s : ℕ) (x : Session) → Sound w → session_in w.control.sessions s ≡ Some x → secondary_refusal x.members w.control ≡ None → let p : Plan = recover_plan w.control s in
         (carry (begun w p) p.entries).1 ≡ None → HasRecovered w (carry (begun w p) p.entries).0 s }
@@ -167,6 +173,14 @@ pub fn what_is_mirrored_is_acknowledged_unless_a_server_stops()
 /// No bound on turns is felt by an `@run`: in each turn that isn't refused a server does the order that it owes, so the attempts that are asked for end.
 pub fn runs_of_groups_end()
     ensures { (w : World) (s n more : ℕ) → Sound w → turns (most_turns n + more) w s n false ≡ turns (most_turns n) w s n false }
+{}
+
+/// A drain of all tracks that ends well leaves nothing out of sync, whatever its pair is. So where the primary doesn't record then, and its
+/// partner is its secondary, each track of both contains the same, whatever came before: a failback that stopped, stops of servers, or
+/// host writes at either site.
+pub fn drains_leave_nothing_out_of_sync()
+    ensures empties { (w : World) (x : ℕ) → Sound w → Leaves (λ u. IsEmptied u x) w (drain_plan w.control x None) }
+    ensures equals { (w : World) (x y : ℕ) → Sound w → Leaves (λ u. EqualAfter u x y) w (drain_plan w.control x None) }
 {}
 
 /// The example of the phases, recovered: where one of two flashed targets is committed, the other is committed too; where only one was

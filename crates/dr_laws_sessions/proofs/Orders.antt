@@ -14,7 +14,7 @@ use Rattle.dr_model.specs.SessionEntries.{is_past, last_of}
 use Rattle.dr_model.specs.SessionPlans.{is_idle, order_of}
 use Rattle.dr_model.specs.Sessions.{Session, Mirror, session_in, changed, begun}
 use Rattle.dr_model.specs.Groups.{In, HoldsMember, OpensAttempt, Groups}
-use Rattle.dr_laws_sessions.specs.Frames.{Recorded, Moves, SilentBut, BeginsOrHolds, Holding}
+use Rattle.dr_laws_sessions.specs.Frames.{RecordedBefore, Moves, SilentBut, BeginsOrHolds, Holding}
 use Rattle.dr_laws_sessions.proofs.Changes.{session-found, changed-found}
 use Rattle.dr_laws_sessions.proofs.Quieting.{moved-silent, moved-itself}
 use Rattle.dr_laws_sessions.proofs.Silent.{member-of, last-is, past-silent, silent-next}
@@ -126,14 +126,14 @@ silent-finishes k j x server n q rest c same moves left =
     silent-next k j x server q rest left (moved-silent k j q.a.0 (past_attempt n (fields_at k q.a.0)) c same moves refl)
     (moved-itself k j q.a.0 (past_attempt n (fields_at k q.a.0)) c same moves (λ f. f.recording ≡ false) refl)
 
-pub silent-recorded : (k j : Control) (v : ℕ) → ((u : ℕ) → (fields_at j u).recording ≡ true → Recorded k j u) → (fields_at k v).recording ≡ false → (fields_at j v).recording ≡ false
+pub silent-recorded : (k j : Control) (v : ℕ) → ((u : ℕ) → (fields_at j u).recording ≡ true → RecordedBefore k j u) → (fields_at k v).recording ≡ false → (fields_at j v).recording ≡ false
 silent-recorded k j v stays silent = by (fields_at j v).recording refl
   where
     by : (b : Bool) → (fields_at j v).recording ≡ b → b ≡ false
     by true h = false_true silent (stays v h).0
     by false h = refl
 
-pub silent-stays : (k j : Control) (x : Session) (server : ℕ) (rest : List Member) → SilentBut k x server rest → ((u : ℕ) → (fields_at j u).recording ≡ true → Recorded k j u) → SilentBut j x server rest
+pub silent-stays : (k j : Control) (x : Session) (server : ℕ) (rest : List Member) → SilentBut k x server rest → ((u : ℕ) → (fields_at j u).recording ≡ true → RecordedBefore k j u) → SilentBut j x server rest
 silent-stays k j x server rest left stays m here is = by (left m here is)
   where
     by : In m rest ⊎ ((fields_at k m.a.0).recording ≡ false) → In m rest ⊎ ((fields_at j m.a.0).recording ≡ false)

@@ -3,7 +3,7 @@ use Rattle.std.proofs.Common.{ℕ, ◌≡◌, ◌≢◌, ◌⊎◌, inl, inr, re
 use Rattle.dr_model.specs.Layout.{Fields}
 use Rattle.dr_model.specs.Control.{Control, Volume}
 use Rattle.dr_model.specs.Pairs.{held_for}
-use Rattle.dr_model.specs.Moves.{Move, Suspend, MakePrimary, DropPrimary, TakeOver, Lift, Restart, Hold, Finish, RaiseAttempt, Carried, moved, target, next_fields}
+use Rattle.dr_model.specs.Moves.{Move, Suspend, MakePrimary, DropPrimary, TakeOver, FallBack, Yield, Lift, Restart, Hold, Finish, RaiseAttempt, Carried, moved, target, next_fields}
 use Rattle.dr_model.specs.Entries.{fields_at}
 use Rattle.dr_model.specs.Sessions.{changed, begun}
 use Rattle.dr_model.specs.Groups.{Groups, HoldsMember, OpensAttempt}
@@ -61,6 +61,8 @@ went k (Suspend v busy) suits other h = absurd cc
 went k (MakePrimary v u kind state full) suits other h = absurd cc
 went k (DropPrimary v) suits other h = absurd cc
 went k (TakeOver v) suits other h = absurd cc
+went k (FallBack v more state) suits other h = absurd cc
+went k (Yield v u kind state) suits other h = absurd cc
 went k (Lift v) suits other h = (if-lifted (fields_at k v).coordination (fields_at k v) h, (refl, refl))
 went k (Restart v) suits other h = absurd cc
 went k (Hold v s n first) suits other h = absurd (other v s n first refl)

@@ -13,7 +13,7 @@ use Rattle.dr_model.specs.Control.{Control, Volume, new_volume, no_control, is_v
 use Rattle.dr_model.specs.Entries.{fields_at}
 use Rattle.dr_model.specs.Sessions.{Session, Mirror, changed, begun}
 use Rattle.dr_model.specs.Groups.{In, Finished, SessionFits, IsRecorder, Groups, IsMember, HoldsMember, OpensAttempt}
-use Rattle.dr_laws_sessions.specs.Frames.{Grows, Quieter, Framed, Recorded, RecordedOr, Quiet}
+use Rattle.dr_laws_sessions.specs.Frames.{Grows, Quieter, Framed, RecordedBefore, RecordedOr, Quiet}
 use Rattle.dr_facts.proofs.Tables.{at_cases}
 use Rattle.dr_laws_sessions.proofs.Changes.{same-session, changed-becomes}
 use Rattle.dr_laws_sessions.proofs.Frames.{Fit, fit-of, groups-fit, recorder-is, groups-of, stands-grows, master-grows, Turns, turn-quiet}
@@ -71,7 +71,7 @@ grows-framed j k frame = record {
   tracks = λ u d. frame.tracks u;
 }
 
-pub groups-same : (j k : Control) → Framed j k → ((v : ℕ) → (fields_at k v).recording ≡ true → Recorded j k v) → Groups j → Groups k
+pub groups-same : (j k : Control) → Framed j k → ((v : ℕ) → (fields_at k v).recording ≡ true → RecordedBefore j k v) → Groups j → Groups k
 groups-same j k frame stays old = groups-still j k frame.sessions (grows-framed j k frame) (record { recorded = λ v h. (stays v h).0; attempt = λ v h. (stays v h).1.0; partner = λ v h. (stays v h).1.1 }) old
 
 -- ---- a hold

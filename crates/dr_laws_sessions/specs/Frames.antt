@@ -33,12 +33,12 @@ pub record Framed (j k : Control) : Type 0 where
   pub tracks : (v : ℕ) → (k.volume v).tracks ≡ (j.volume v).tracks
 
 -- a volume that records now recorded before, for the same attempt and with the same partner
-abbrev pub Recorded : Control → Control → ℕ → Type 0
-Recorded j k v = ((fields_at j v).recording ≡ true) × (((fields_at k v).attempt ≡ (fields_at j v).attempt) × ((fields_at k v).primary_partner ≡ (fields_at j v).primary_partner))
+abbrev pub RecordedBefore : Control → Control → ℕ → Type 0
+RecordedBefore j k v = ((fields_at j v).recording ≡ true) × (((fields_at k v).attempt ≡ (fields_at j v).attempt) × ((fields_at k v).primary_partner ≡ (fields_at j v).primary_partner))
 
 -- or it is v, for attempt n and with its partner as before
 abbrev pub RecordedOr : Control → Control → ℕ → ℕ → ℕ → Type 0
-RecordedOr j k v n u = ((u ≡ v) × (((fields_at k u).attempt ≡ n) × ((fields_at k u).primary_partner ≡ (fields_at j u).primary_partner))) ⊎ Recorded j k u
+RecordedOr j k v n u = ((u ≡ v) × (((fields_at k u).attempt ≡ n) × ((fields_at k u).primary_partner ≡ (fields_at j u).primary_partner))) ⊎ RecordedBefore j k u
 
 -- volume v has other fields, and nothing else of a volume changed
 pub record Moves (k j : Control) (v : ℕ) (f : Fields) (c : Carried) : Type 0 where

@@ -22,7 +22,7 @@ ghost use Rattle.dr_model.specs.SessionPlans.{order_of, answered_by, join_plan, 
 ghost use Rattle.dr_model.specs.Plans.{server_plan, volume_plan};
 ghost use Rattle.dr_model.specs.Sessions.{Session, Mirror, session_in, has_place_of, changed, joined, left, lost_since, begun, raised, mirrored_by, unmirrored, paused, with_master, with_member, without_member, busy, leave_refusal, drop_refusal};
 ghost use Rattle.dr_model.specs.Groups.{In, IsAt, MemberStands, PlacesDiffer, Groups, HoldsMember, OpensAttempt, Housed};
-ghost use Rattle.dr_laws_sessions.specs.Frames.{Grows, Quieter, Framed, Recorded, RecordedOr, Moves, Suits, Quiet, ServerSilent, SilentBut, MayReport, OwesReport, Became, Holding};
+ghost use Rattle.dr_laws_sessions.specs.Frames.{Grows, Quieter, Framed, RecordedBefore, RecordedOr, Moves, Suits, Quiet, ServerSilent, SilentBut, MayReport, OwesReport, Became, Holding};
 
 /// The laws hold before the first step, and stay where a volume is defined.
 pub fn the_laws_of_sessions_begin()
@@ -34,7 +34,7 @@ pub fn the_laws_of_sessions_begin()
 /// for the same attempt and with the same partner; and in each kind of move, of which a hold is one of its session.
 pub fn each_move_keeps_the_laws_of_sessions()
     ensures still { (k j : Control) → j.sessions ≡ k.sessions → Grows k j → Quieter k j → Groups k → Groups j }
-    ensures same { (j k : Control) → Framed j k → ((v : ℕ) → (fields_at k v).recording ≡ true → Recorded j k v) → Groups j → Groups k }
+    ensures same { (j k : Control) → Framed j k → ((v : ℕ) → (fields_at k v).recording ≡ true → RecordedBefore j k v) → Groups j → Groups k }
     ensures held { (j k : Control) (v s n : ℕ) → Framed j k → ((u : ℕ) → (fields_at k u).recording ≡ true → RecordedOr j k v n u) → HoldsMember j v s n → Groups j → Groups k }
     ensures opened { (j k : Control) (v s n : ℕ) → Framed j k → ((u : ℕ) → (fields_at k u).recording ≡ true → RecordedOr j k v n u) → OpensAttempt j v s n → Groups j → Groups (record k { sessions = changed s begun k.sessions }) }
     ensures moved { (k j : Control) (m : Move) (c : Carried) → j.sessions ≡ k.sessions → Moves k j (target m) (next_fields m k.volume) c → Suits k m → Groups k → Groups j }
@@ -150,6 +150,6 @@ pub fn a_server_falls_silent()
     ensures passes { (k : Control) (x : Session) (server n : ℕ) (q : Member) (rest : List Member) → Groups k → In x k.sessions → In q x.members → x.last ≡ n → is_past n (fields_at k q.a.0) ≡ true → SilentBut k x server (q ∷ rest) → SilentBut k x server rest }
     ensures finishes { (k j : Control) (x : Session) (server n : ℕ) (q : Member) (rest : List Member) (c : Carried) → j.sessions ≡ k.sessions → Moves k j q.a.0 (past_attempt n (fields_at k q.a.0)) c → SilentBut k x server (q ∷ rest) → SilentBut j x server rest }
     ensures next { (k j : Control) (x : Session) (server : ℕ) (q : Member) (rest : List Member) → SilentBut k x server (q ∷ rest) → ((v : ℕ) → (fields_at k v).recording ≡ false → (fields_at j v).recording ≡ false) → (fields_at j q.a.0).recording ≡ false → SilentBut j x server rest }
-    ensures stays { (k j : Control) (x : Session) (server : ℕ) (rest : List Member) → SilentBut k x server rest → ((u : ℕ) → (fields_at j u).recording ≡ true → Recorded k j u) → SilentBut j x server rest }
+    ensures stays { (k j : Control) (x : Session) (server : ℕ) (rest : List Member) → SilentBut k x server rest → ((u : ℕ) → (fields_at j u).recording ≡ true → RecordedBefore k j u) → SilentBut j x server rest }
     ensures ends { (k : Control) (x : Session) (server : ℕ) → SilentBut k x server [] → ServerSilent k x server }
 {}

@@ -13,7 +13,7 @@ use Rattle.dr_model.specs.declared.said.Said.{Said}
 use Rattle.dr_model.specs.declared.said.Said.TheVariants.{Done, Held, Refused}
 use Rattle.dr_model.specs.declared.step.Name.{Name}
 use Rattle.dr_model.specs.declared.step.Step.{Step}
-use Rattle.dr_model.specs.declared.step.Step.TheVariants.{Start, Write, Apply, Run}
+use Rattle.dr_model.specs.declared.step.Step.TheVariants.{Start, Write, Apply, Run, Compare}
 use Rattle.dr_model.specs.Answers.{answer}
 use Rattle.dr_model.specs.Refusals.{unknown}
 use Rattle.dr_ids.specs.declared.refusal.Kind.TheVariants.{Write as OfWrite}
@@ -26,20 +26,20 @@ use Rattle.dr_model.specs.Entries.{fields_at, copies_from, is_running, is_no_sec
 use Rattle.dr_model.specs.PairEntries.{send_refusal, suspend_where, store_on, strike_on, suspend_after}
 use Rattle.dr_model.specs.WriteEntries.{partner_of, is_grouped, is_parted, land_mirrored, land_parted, land_entries, landing, send_first, sends_first, where_sent, waits, says_written, after_write, part_after, part_running, belongs, redo_on, restart_on, start_entries}
 use Rattle.dr_model.specs.PlanParts.{Plan, only_says, refuses, server_named, name_bytes}
-use Rattle.dr_model.specs.Plans.{plan, plan_of, is_built, has_room, issue_refusal, write_done, apply_done, apply_on, landed_on, acknowledge_if, acknowledge_on, says_acked, start_plan, start_on}
+use Rattle.dr_model.specs.Plans.{plan, plan_of, is_built, has_room, issue_refusal, write_done, apply_done, apply_on, landed_on, acknowledge_if, acknowledge_on, says_acked, start_plan, start_on, compare_plan}
 use Rattle.dr_model.specs.Forming.{Part, formed, form_said}
-use Rattle.dr_model.specs.Runs.{Task, course, begun, finish, carried_out, answered, said, after_plan, run, run_asked}
+use Rattle.dr_model.specs.Runs.{Task, course, begun, finish, carried_out, answered, said, after_plan, run, run_asked, compared}
 use Rattle.dr_model.specs.Sessions.{session_in}
 use Rattle.dr_model.specs.Groups.{In}
 use Rattle.dr_model.proofs.CarryLemmas.{carry-none, carry-first, carry-skips, carry-passed, carry-refused, carry-goes, onward, carry-append, act-drop, act-acknowledge}
 use Rattle.dr_logic.proofs.Truth.{false_true}
 use Rattle.dr_facts.proofs.Lists.{found, in-first, in-second}
 use Rattle.dr_facts.proofs.Tables.{at_part}
-use Rattle.dr_laws_sound.specs.Acknowledged.{acknowledgements, wrote, acked, acknowledged_by, said_in, IsPending, AcknowledgesAnswered, AcknowledgedIsAnswered}
+use Rattle.dr_laws_sound.specs.Acknowledged.{acknowledgements, wrote, acked, acknowledged_by, said_in, IsUnlanded, AcknowledgesAnswered, AcknowledgedIsAnswered}
 use Rattle.dr_laws_sound.proofs.Turns.{act-cases, after_act, done_in_stop, server_at, server_of}
 use Rattle.dr_laws_sound.proofs.Parts as parts
 use Rattle.dr_laws_sound.proofs.Hushed.{mirrors, cuts_any, Unheard, unheard-none, mirrors-then, uncut-then, HasStop, Mute, Turned, act-turned, none-then, Mum, mum-same, mum-then, StaysPending, pending-same, Hush, AllHush, none-hush, then-hush, Comes, carry-hushed}
-use Rattle.dr_laws_sound.proofs.HushedPlans.{HushedPlan, NotHeld, done-not, refused-not, phase-not, says-hush, choice-hush, last-hush, move-hush, keep-hush, keeps-hush, where-suspended, suspend-hush, acknowledges, step-hush, if-plan, unless-plan, named-plan}
+use Rattle.dr_laws_sound.proofs.HushedPlans.{HushedPlan, NotHeld, done-not, refused-not, phase-not, says-hush, choice-hush, last-hush, move-hush, keep-hush, keeps-hush, where-suspended, suspend-hush, acknowledges, step-hush, if-plan, unless-plan, named-plan, compare-hush}
 
 -- what is acknowledged where a plan ends well
 abbrev if_well : Option Refusal → List ℕ → List ℕ
@@ -439,7 +439,7 @@ record Answers (asked : Result Step ℕ) (w : World) (p : Plan) : Type 0 where
   told : List Event
   events : (carried_out w p).0.events ≡ w.events ++ told
   acks : acknowledgements told ≡ acknowledged_by asked (answered p (carried_out w p).0.control (carried_out w p).1)
-  held : (n : ℕ) → answered p (carried_out w p).0.control (carried_out w p).1 ≡ Held n → IsPending (carried_out w p).0.control n × (acknowledgements told ≡ [])
+  held : (n : ℕ) → answered p (carried_out w p).0.control (carried_out w p).1 ≡ Held n → IsUnlanded (carried_out w p).0.control n × (acknowledgements told ≡ [])
   way : StepWay told
 
 answered-not : (p : Plan) (k : Control) (r : Option Refusal) → ((k : Control) → NotHeld (p.says k)) → NotHeld (answered p k r)
@@ -473,13 +473,13 @@ module _ (asked : Result Step ℕ) (is : (said : Said) → acknowledged_by asked
   wrote-refused : (r : Refusal) → acknowledged_by asked (Refused r) ≡ []
   wrote-refused r = is (Refused r)
 
-  module _ (w : World) (k : Control) (n v t : ℕ) (p : Plan) (says : (j : Control) → p.says j ≡ says_written k n v t) (pending : IsPending (p.first w.control) n) where
+  module _ (w : World) (k : Control) (n v t : ℕ) (p : Plan) (says : (j : Control) → p.says j ≡ says_written k n v t) (pending : IsUnlanded (p.first w.control) n) where
     written : (o : Outcome) (b : Bool) → waits k v t ≡ b → TellsAt w p (cond b [] (n ∷ [])) o → (u : World) → u ≡ finish p o.0 o.1 →
-        let said : Said = answered p u.control o.1 in (told : List Event) × ((u.events ≡ w.events ++ told) × ((acknowledgements told ≡ wrote said) × (((i : ℕ) → said ≡ Held i → IsPending u.control i × (acknowledgements told ≡ [])) × StepWay told)))
+        let said : Said = answered p u.control o.1 in (told : List Event) × ((u.events ≡ w.events ++ told) × ((acknowledgements told ≡ wrote said) × (((i : ℕ) → said ≡ Held i → IsUnlanded u.control i × (acknowledgements told ≡ [])) × StepWay told)))
     written (x, None) true e t u is =
         let said : p.says u.control ≡ Held n = says u.control ∙ ap (λ b. cond b (Held n) (Done (Wrote n))) e in
         let stays : u.control.pending ≡ (p.first w.control).pending = ap (λ (u : World). u.control.pending) is ∙ t.kept refl refl in
-        (t.told, (ap (λ (u : World). u.events) is ∙ t.events, (t.acks ∙ sym (ap wrote said), (λ i h. (subst (IsPending u.control) (same i (sym said ∙ h)) (record { waits = pending.waits; here = subst (In pending.waits) (sym stays) pending.here; is = pending.is }), t.acks), way-of t.told t.uncut t.way))))
+        (t.told, (ap (λ (u : World). u.events) is ∙ t.events, (t.acks ∙ sym (ap wrote said), (λ i h. (subst (IsUnlanded u.control) (same i (sym said ∙ h)) (record { waits = pending.waits; here = subst (In pending.waits) (sym stays) pending.here; is = pending.is }), t.acks), way-of t.told t.uncut t.way))))
       where
         same : (i : ℕ) → Held n ≡ Held i → n ≡ i
         same i h = cc
@@ -613,6 +613,12 @@ told-task w t = by t.asked
         let m : Mum false w x.world = run-mum w run in
         let a : Answers (Ok (Run s n)) x.world (only_says said) = hushed-answers (Ok (Run s n)) (λ a. refl) x.world (only_says said) (says-hush said (form-not s x.world.control x.refusal)) in
         answers-task w run a m (inl (mirrors-then m.added a.told m.silent.plain ∙ (hushed-told x.world (only_says said) (says-hush said (form-not s x.world.control x.refusal))).silent.plain))
+    by (Ok (Compare v u)) =
+        let asked : Result Step ℕ = Ok (Compare v u) in
+        let a : Answers asked w (compared w v u) =
+        if-plan (Answers asked w) (refused-answers asked (λ r. refl) w) (has_room w.events) (compare_plan w.control w.contents v u) (refuses JournalFull)
+        (hushed-answers asked (λ a. refl) w (compare_plan w.control w.contents v u) (compare-hush w.control w.contents v u)) (refused-answers asked (λ r. refl) w JournalFull) in
+        answers-task w (record { line = t.line; asked = asked }) a (record { added = []; events = sym (append-nil w.events); silent = unheard-none false }) a.way
     by (Ok step) = let a = plan-answers w t.line step refl in answers-task w (record { line = t.line; asked = Ok step }) a (record { added = []; events = sym (append-nil w.events); silent = unheard-none false }) a.way
     by (Err column) = let a = refused-answers (Err column) (λ r. refl) w (Syntax column) in answers-task w (record { line = t.line; asked = Err column }) a (record { added = []; events = sym (append-nil w.events); silent = unheard-none false }) a.way
 

@@ -14,16 +14,16 @@ use Rattle.dr_model.specs.Control.{Control}
 use Rattle.dr_model.specs.Layout.{Fields}
 use Rattle.dr_model.specs.Relations.{rest}
 use Rattle.dr_model.specs.Pairs.{first_state, records}
-use Rattle.dr_model.specs.Moves.{Move, Relate, Withdraw, Resync, Reverse, Suspend, MakeSecondary, MakePrimary, DropPrimary, DropSecondary, Follow, Free, Seal as SealMove, Leave}
+use Rattle.dr_model.specs.Moves.{Move, Relate, Withdraw, Resync, Reverse, Suspend, MakeSecondary, MakePrimary, DropPrimary, DropSecondary, Follow, TakeOver, Free, Seal as SealMove, Leave}
 use Rattle.dr_model.specs.Carry.{Make, Drop, check, now, Pass, Do, End, Entry}
 use Rattle.dr_model.specs.Entries.{fields_at, is_revertible, stands_in, is_running, is_no_secondary, is_open, is_settled, relation_state, pair_state, keep_on, copy_first, drop_unless, check_or_drop, share_server, share_size, is_no_target}
-use Rattle.dr_model.specs.PairEntries.{link_down, are_linked, has_path, reach_refusal, end_if, refuse_if, differs_at, two_servers, stands_free, may_follow, make_entries, leads_to, belongs_to, let_go, remove_both, remove_entries, may_pause, tell_paused, pause_entries, may_resume, follow_on, resume_on, resume_entries, send_refusal, suspend_where, flashed_refusal, store_on, strike_on, send_entries, sends, tracks_to_send, is_copying}
+use Rattle.dr_model.specs.PairEntries.{link_down, are_linked, has_path, reach_refusal, end_if, refuse_if, differs_at, two_servers, stands_free, may_follow, make_entries, leads_to, belongs_to, let_go, remove_both, remove_entries, may_pause, tell_paused, pause_entries, may_resume, follow_on, resume_on, resume_entries, may_take_over, failover_entries, leads_as, fall_back_on, yield_on, failback_entries, first_differing, send_refusal, suspend_where, flashed_refusal, store_on, strike_on, send_entries, sends, tracks_to_send, is_copying}
 use Rattle.dr_model.specs.WriteEntries.{land_entries, landing}
 use Rattle.dr_ids.specs.declared.refusal.Decision.{Decision}
-use Rattle.dr_model.specs.Plans.{counted_refusal, secondary_refusal, leaves_all, forbidden_unless, decided_in, restore_refusal, left_by, member_refusal, Plan, found_volumes, named_pair, is_defined, is_owner, differ, is_no_source, has_few_targets, is_plain_target, is_recorded_target, is_lone_restore, may_return, may_give_back, may_copy, at_most, left_to_copy}
+use Rattle.dr_model.specs.Plans.{counted_refusal, secondary_refusal, leaves_all, forbidden_unless, decided_in, restore_refusal, member_from, restores_refusal, yield_refusal, compare_entries, left_by, member_refusal, Plan, found_volumes, named_pair, is_defined, is_owner, differ, is_no_source, has_few_targets, is_plain_target, is_recorded_target, is_lone_restore, may_return, may_give_back, may_copy, at_most, left_to_copy}
 use Rattle.dr_laws_sound.specs.Stops.{refused_stop}
 use Rattle.dr_model.specs.RecoveryPlans.{decided_in, settle_on}
-use Rattle.dr_laws_sound.proofs.Cases.{Case, Says, DefinesServer, DefinesVolume, SetsLink, Issues, Writes, Applies, Shows, Stops, Arms, Starts, MakesFlash, RemovesFlash, ResyncsFlash, ReversesFlash, Copies, MakesPath, RemovesPath, MakesPair, RemovesPair, PausesPair, ResumesPair, Drains, Expires, Freezes, Unfreezes, MakesSession, RemovesSession, MakesMirror, PausesMirror, RemovesMirror, Aborts, AddsMember, RemovesMember, Exchanges, Recovers, Settles}
+use Rattle.dr_laws_sound.proofs.Cases.{Case, Says, DefinesServer, DefinesVolume, SetsLink, Issues, Writes, Applies, Shows, Stops, Arms, Starts, MakesFlash, RemovesFlash, ResyncsFlash, ReversesFlash, Copies, MakesPath, RemovesPath, MakesPair, RemovesPair, PausesPair, ResumesPair, FailsOver, FailsBack, Compares, Drains, Expires, Freezes, Unfreezes, MakesSession, RemovesSession, MakesMirror, PausesMirror, RemovesMirror, Aborts, AddsMember, RemovesMember, Exchanges, Recovers, Settles}
 use Rattle.std.specs.List.{find}
 use Rattle.dr_ids.specs.declared.names.Member.{Member}
 use Rattle.dr_model.specs.Sessions.{Session, session_in, members_in, in_session, is_member}
@@ -148,6 +148,10 @@ module _ (a b : ℕ) where
       found-calm devs _ (checked-calm (is_running a) _ _ refl (checked-calm (may_resume a b kind) (pair_state k a) _ refl (refused-calm (reach_refusal a b) _ reach-mild (checked-calm (belongs_to a b) (pair_state k b) _ refl
       (then-calm (follow_on a b) _ (goes-calm (follow_on a b) (λ k. do-goes _)) (last-calm (resume_on a) (λ k. do-goes _)))))))
 
+  -- secondary a is taken over
+  failover-calm : (k : Control) (devs : Devs) (kind : Part) → Unstopped (found_volumes devs a b ++ failover_entries k a b kind)
+  failover-calm k devs kind = found-calm devs _ (checked-calm (is_running a) _ _ refl (checked-calm (may_take_over b a kind) (pair_state k a) _ refl (now-calm (TakeOver a))))
+
   sends-calm : (volumes : List ℕ) (ts : List ℕ) → Unstopped (sends volumes a b ts)
   sends-calm volumes [] = none-calm
   sends-calm volumes (t ∷ ts) =
@@ -218,6 +222,23 @@ restore-mild t k = mild-choice (fields_at k t).member _ None (mild-or (secondary
     forbidden true d = mild-none
     forbidden false d = mild-some (Forbidden d) refl
 
+-- a pair goes the other way
+restores-mild : (o : Option ℕ) (k : Control) → Mild (restores_refusal o k)
+restores-mild None k = mild-none
+restores-mild (Some t) k = restore-mild t k
+
+failback-calm : (k : Control) (devs : Devs) (x y : ℕ) (kind : Part) → Unstopped (found_volumes devs x y ++ failback_entries k (yield_refusal y) x y kind)
+failback-calm k devs x y kind =
+    found-calm x y devs _ (checked-calm (is_running x) _ _ refl (refused-calm (reach_refusal x y) _ (reach-mild x y) (checked-calm (leads_as x y kind) (pair_state k x) _ refl (checked-calm (leads_to y x) (pair_state k y) _ refl
+    (checked-calm (is_settled y) (relation_state k y) _ refl (checked-calm (is_settled x) (relation_state k x) _ refl (refused-calm (yield_refusal y) _ (λ j. restores-mild (member_from y j) j)
+    (then-calm (fall_back_on x y) _ (goes-calm (fall_back_on x y) (λ j. do-goes _)) (last-calm (yield_on y x) (λ j. do-goes _))))))))))
+
+-- two volumes are compared
+compare-calm : (k : Control) (contents : ℕ → ℕ → List ℕ) (v u : ℕ) → Unstopped (compare_entries k contents v u)
+compare-calm k contents v u =
+    checked-calm (is_defined v) _ _ refl (checked-calm (is_defined u) _ _ refl (checked-calm (is_running v) _ _ refl (checked-calm (is_running u) _ _ refl (checked-calm (share_size v u) _ _ refl
+    (refused-calm (differs_at (first_differing contents (k.volume v).tracks v u)) _ (differs-mild v u (first_differing contents (k.volume v).tracks v u)) none-calm)))))
+
 pub case-calm : (k : Control) (events : List Event) (line : ℕ) (p : Plan) → Case k events line p → Unstopped p.entries
 case-calm k events line _ (Writes v t offset len bytes free) = landing-calm k (k.issued + 1) v t
 case-calm k events line _ (Applies n p found) = landing-calm k p.w p.volume p.track
@@ -247,6 +268,9 @@ case-calm k events line _ (MakesPair devs a b kind full part) = pair-calm a b k 
 case-calm k events line _ (RemovesPair devs a b source_only) = remove-calm a b k devs source_only
 case-calm k events line _ (PausesPair devs a b) = pause-calm a b k devs
 case-calm k events line _ (ResumesPair devs a b kind) = resume-calm a b k devs kind
+case-calm k events line _ (FailsOver devs b a kind) = failover-calm b a k devs kind
+case-calm k events line _ (FailsBack devs x y kind) = failback-calm k devs x y kind
+case-calm k events line _ (Compares contents v u) = compare-calm k contents v u
 case-calm k events line _ (Drains a most) =
     checked-calm (is_defined a) _ _ refl (checked-calm (is_running a) _ _ refl (checked-calm (is_copying a) (pair_state k a) _ refl
     (sends-calm a (fields_at k a).primary_partner k.volumes (tracks_to_send most (k.volume a).tracks (fields_at k a).out_of_sync))))

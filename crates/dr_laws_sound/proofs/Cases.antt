@@ -20,7 +20,7 @@ use Rattle.dr_model.specs.declared.state.Part.{Part}
 use Rattle.dr_model.specs.declared.step.Devs.{Devs}
 use Rattle.dr_model.specs.declared.step.TornWord.{TornWord}
 use Rattle.dr_model.specs.declared.step.Step.{Step}
-use Rattle.dr_model.specs.declared.step.Step.TheVariants.{Server, Volume, Link, Stop, StopAfter, Start, Issue, Write, Apply, Show, MakeFlash, RemoveFlash, ResyncFlash, ReverseFlash, Copy, MakePath, RemovePath, MakePair, RemovePair, PausePair, ResumePair, Drain, Expire, Freeze, Unfreeze, MakeSession, RemoveSession, AddMember, RemoveMember, MakeMirror, PauseMirror, ResumeMirror, RemoveMirror, Abort, Exchange, Recover, CommitFlash, RevertFlash}
+use Rattle.dr_model.specs.declared.step.Step.TheVariants.{Server, Volume, Link, Stop, StopAfter, Start, Issue, Write, Apply, Show, MakeFlash, RemoveFlash, ResyncFlash, ReverseFlash, Copy, MakePath, RemovePath, MakePair, RemovePair, PausePair, ResumePair, Failover, Failback, Drain, Expire, Freeze, Unfreeze, MakeSession, RemoveSession, AddMember, RemoveMember, MakeMirror, PauseMirror, ResumeMirror, RemoveMirror, Abort, Exchange, Recover, CommitFlash, RevertFlash}
 use Rattle.dr_model.specs.Layout.{is_part, part_of}
 use Rattle.dr_model.specs.Limits.{most_servers, most_volumes, most_tracks, most_pending}
 use Rattle.dr_model.specs.Refusals.{server_off, unknown, duplicate, over}
@@ -37,7 +37,7 @@ use Rattle.dr_ids.specs.declared.refusal.Decision.{Decision}
 use Rattle.dr_model.specs.RecoveryPlans.{decided_in, secondary_refusal, untaken_refusal, forbidden_unless, lets_commit, lets_revert, settle_on, recover_done, recover_plan, member_of_target, revertible_target, settle_refusal, settle_member, settle_target, settle_plan}
 use Rattle.dr_facts.proofs.Lists.{found}
 use Rattle.dr_model.specs.Groups.{In}
-use Rattle.dr_model.specs.Plans.{Plan, entries_plan, plan, step_plan, plan_of, is_built, has_room, same, none_follow, always, on_session, is_defined, only_says, refuses, unless, on_named, on_server, name_bytes, server_named, server_refusal, server_done, volume_refusal, volume_done, link_between, link_done, track_refusal, issue_refusal, issue_done, write_done, apply_on, apply_done, show_refusal, show_done, is_foreign, stop_on, stop_done, arm_on, start_on, start_plan, make_flash_plan, remove_flash_plan, resync_flash_plan, reverse_flash_plan, copy_plan, on_owner, owner_of, path_refusal, make_path_done, unpath_refusal, remove_path_done, make_pair_plan, remove_pair_plan, pause_pair_plan, resume_pair_plan, drain_plan, expire_on, expire_plan, freeze_refusal, freeze_done, thaw_refusal, unfreeze_done}
+use Rattle.dr_model.specs.Plans.{Plan, entries_plan, plan, step_plan, plan_of, is_built, has_room, same, none_follow, always, on_session, is_defined, only_says, refuses, unless, on_named, on_server, name_bytes, server_named, server_refusal, server_done, volume_refusal, volume_done, link_between, link_done, track_refusal, issue_refusal, issue_done, write_done, apply_on, apply_done, show_refusal, show_done, is_foreign, stop_on, stop_done, arm_on, start_on, start_plan, make_flash_plan, remove_flash_plan, resync_flash_plan, reverse_flash_plan, copy_plan, on_owner, owner_of, path_refusal, make_path_done, unpath_refusal, remove_path_done, make_pair_plan, remove_pair_plan, pause_pair_plan, resume_pair_plan, failover_plan, failback_plan, compare_plan, drain_plan, expire_on, expire_plan, freeze_refusal, freeze_done, thaw_refusal, unfreeze_done}
 use Rattle.dr_facts.proofs.Refusals.{none-both, met}
 
 -- a member is added, and removed; a master is aborted, and an order is carried out
@@ -115,6 +115,9 @@ pub data Case (k : Control) (events : List Event) (line : ℕ) : Plan → Type 0
   RemovesPair : (devs : Devs) → (a b : ℕ) → (source_only : Bool) → Case k events line (remove_pair_plan k devs a b source_only)
   PausesPair : (devs : Devs) → (a b : ℕ) → Case k events line (pause_pair_plan k devs a b)
   ResumesPair : (devs : Devs) → (a b : ℕ) → (kind : Part) → Case k events line (resume_pair_plan k devs a b kind)
+  FailsOver : (devs : Devs) → (b a : ℕ) → (kind : Part) → Case k events line (failover_plan k devs b a kind)
+  FailsBack : (devs : Devs) → (x y : ℕ) → (kind : Part) → Case k events line (failback_plan k devs x y kind)
+  Compares : (contents : ℕ → ℕ → List ℕ) → (v u : ℕ) → Case k events line (compare_plan k contents v u)
   Drains : (a : ℕ) → (most : Option ℕ) → Case k events line (drain_plan k a most)
   Expires : (s : ℕ) → k.on s ≡ true → Case k events line (expire_plan k s)
   Freezes : (l m : ℕ) → Case k events line (freeze_done k l m)
@@ -306,6 +309,8 @@ module _ (k : Control) (events : List Event) (line : ℕ) where
   of-case (RemovePair devs a b source_only) built = RemovesPair devs a b source_only
   of-case (PausePair devs a b) built = PausesPair devs a b
   of-case (ResumePair devs a b kind) built = ResumesPair devs a b (part_of kind)
+  of-case (Failover devs b a kind) built = FailsOver devs b a (part_of kind)
+  of-case (Failback devs x y kind) built = FailsBack devs x y (part_of kind)
   of-case (Drain a most) built = Drains a most
   of-case (Expire name) built = where-named (server_named k (name_bytes name)) (expire_on k) expire-case
   of-case (Freeze devs l m) built =

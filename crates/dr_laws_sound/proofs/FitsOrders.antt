@@ -34,7 +34,7 @@ use Rattle.dr_laws_sessions.proofs.Tables.{groups-answered}
 use Rattle.dr_laws_sessions.proofs.Volumes.{idle-quiet}
 use Rattle.dr_laws_sessions.proofs.Silent.{quiet-silent, member-silent, partner-is, on-members, silent-begins, silent-ends}
 use Rattle.dr_laws_sessions.proofs.Orders.{order-finishes, order-reports, holding-begins, holding-opens, holding-holds, holding-stays, holding-begun, silent-passes, silent-finishes, some-order}
-use Rattle.dr_laws_attempts.specs.Orders.{DoneBut, IsCalm}
+use Rattle.dr_laws_attempts.specs.Orders.{DoneBut, LeavesTargetsAlone}
 use Rattle.dr_laws_attempts.proofs.Tables.{quiet-unflashed, with-answered}
 use Rattle.dr_laws_attempts.proofs.Moves.{flashable}
 use Rattle.dr_laws_attempts.proofs.Orders.{newer, order-frees, order-seals, order-flashes, order-commits, order-reverts, order-raises, order-finishes as member-finishes, unflashed-plain, done-begins, done-passes, done-ends, done-calm, done-flashes, done-commits, done-reverts, done-raises, done-flashed, done-committed, done-reverted}
@@ -198,7 +198,7 @@ module _ (w : World) (s : Sound w) (i server : ℕ) (x : Session) (r : Mirror) (
   unending p is unfinished q has ends = unfinished (sym is ∙ (ap (λ (q : Mirror). q.master.phase) ((same_Some _ _ (sym allowed.mirror ∙ has))) ∙ ends))
 
   -- an order that leaves targets alone
-  calm : (p : PhaseName) → r.master.phase ≡ p → p ≢ phase.Finishing → IsCalm p → o.work ≢ phases.Report → (v : World) → Stage v [] → Answers v
+  calm : (p : PhaseName) → r.master.phase ≡ p → p ≢ phase.Finishing → LeavesTargetsAlone p → o.work ≢ phases.Report → (v : World) → Stage v [] → Answers v
   calm p is unfinished still other v st = record {
     sound = st.sound;
     session = x;
@@ -206,7 +206,7 @@ module _ (w : World) (s : Sound w) (i server : ℕ) (x : Session) (r : Mirror) (
     silent = λ q has ends. absurd (unending p is unfinished q has ends);
     lost = λ e. absurd (other e);
     owes = λ e. absurd (other e);
-    does = λ e. done-calm v.control x server (subst IsCalm (sym (phase-is p is)) still);
+    does = λ e. done-calm v.control x server (subst LeavesTargetsAlone (sym (phase-is p is)) still);
     among = refl;
   }
 
@@ -292,7 +292,7 @@ module _ (w : World) (s : Sound w) (i server : ℕ) (x : Session) (r : Mirror) (
     silent = λ q has ends. silent-ends v.control x server (st.silent q has ends);
     lost = λ e. absurd (other e);
     owes = λ e. absurd (other e);
-    does = λ e. done-calm v.control x server (subst IsCalm (sym (phase-is phase.Finishing finishing)) tt);
+    does = λ e. done-calm v.control x server (subst LeavesTargetsAlone (sym (phase-is phase.Finishing finishing)) tt);
     among = refl;
   }
 
@@ -594,16 +594,16 @@ module _ (w : World) (s : Sound w) (i server : ℕ) (x : Session) (r : Mirror) (
     silent = λ q has ends. absurd (unfinished st.holding.mirror.master.phase stage (ap (λ (q : Mirror). q.master.phase) ((same_Some _ _ (sym st.holding.has_master ∙ has))) ∙ ends));
     lost = λ e. let no : phases.Hold ≡ phases.Report = sym work ∙ e in absurd cc;
     owes = λ e. let no : phases.Hold ≡ phases.Report = sym work ∙ e in absurd cc;
-    does = λ e. done-calm v.control st.holding.session server (subst IsCalm (sym (ap phase_of st.holding.has_master)) (calm-by st.holding.mirror.master.phase stage));
+    does = λ e. done-calm v.control st.holding.session server (subst LeavesTargetsAlone (sym (ap phase_of st.holding.has_master)) (calm-by st.holding.mirror.master.phase stage));
     among = st.holding.members;
   }
     where
       stage : (st.holding.mirror.master.phase ≡ phase.Idle) ⊎ (st.holding.mirror.master.phase ≡ phase.Coordinating)
       stage = which-stage st.holding.session st.holding.mirror n st.holding.stage
 
-      calm-by : (p : PhaseName) → (p ≡ phase.Idle) ⊎ (p ≡ phase.Coordinating) → IsCalm p
-      calm-by p (inl is) = subst IsCalm (sym is) tt
-      calm-by p (inr is) = subst IsCalm (sym is) tt
+      calm-by : (p : PhaseName) → (p ≡ phase.Idle) ⊎ (p ≡ phase.Coordinating) → LeavesTargetsAlone p
+      calm-by p (inl is) = subst LeavesTargetsAlone (sym is) tt
+      calm-by p (inr is) = subst LeavesTargetsAlone (sym is) tt
 
   -- ---- each order
 

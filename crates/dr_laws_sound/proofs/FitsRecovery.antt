@@ -28,6 +28,7 @@ use Rattle.dr_facts.proofs.Lists.{not-found, to-map}
 use Rattle.dr_laws_sessions.proofs.Changes.{session-found}
 use Rattle.dr_laws_attempts.specs.Orders.{TakenBut, RestCommits, RestReverts}
 use Rattle.dr_laws_attempts.proofs.Recover.{rest-begins, rest-commits, rest-stays, reverts-begin, rest-reverts, reverts-stay, taken-begins, taken-passes, taken-over}
+use Rattle.dr_laws_sound.proofs.KeepsStructure.{revertible-not as other-none}
 use Rattle.dr_laws_sound.proofs.Turns.{carried_in, done}
 use Rattle.dr_laws_sound.proofs.RowsAfter.{idle}
 use Rattle.dr_laws_sound.proofs.KeepsSound.{Along, Then, over, decides}
@@ -117,7 +118,13 @@ module _ (w : World) (s : Sound w) (i : ℕ) (x : Session) (found : session_in w
       by true is =
           let a : Move = TakeOver m.b.0 in
           let on : Runs v m.b.0 = st.stays.on m here in (
-            record { runs = on; allowed = is; fits = tt; group = tt; ready = idle v m.b.0 st.stays.sound.queue on },
+            record {
+              runs = on;
+              allowed = record { second = is; free = other-none _ (st.stays.sound.rows.parts.one m.b.0).one is };
+              fits = tt;
+              group = tt;
+              ready = idle v m.b.0 st.stays.sound.queue on;
+            },
             λ f y. go _ (record {
               stays = stays-done v a f st.stays y;
               same = shown-same v.control (done v a f).control i x.members (λ q there. ap (λ (z : Volume). z.fields) (at_other v.control.volume m.b.0 (row v a f) q.c.0 (other v st.stays m q here there))) ∙ st.same;

@@ -20,7 +20,7 @@ use Rattle.dr_model.specs.declared.state.PairState.TheVariants.{Suspended as Sus
 use Rattle.dr_model.specs.declared.step.Devs.{Devs}
 use Rattle.dr_model.specs.declared.step.Name.{Name}
 use Rattle.dr_model.specs.declared.step.Step.{Step}
-use Rattle.dr_model.specs.declared.step.Step.TheVariants.{Server, Volume, Link, Stop, StopAfter, Start, Issue, Write, Apply, Show, MakeFlash, RemoveFlash, ResyncFlash, ReverseFlash, Copy, MakePath, RemovePath, MakePair, RemovePair, PausePair, ResumePair, Drain, Expire, Freeze, Unfreeze, MakeSession, RemoveSession, AddMember, RemoveMember, MakeMirror, PauseMirror, ResumeMirror, RemoveMirror, Abort, Exchange, Recover, CommitFlash, RevertFlash}
+use Rattle.dr_model.specs.declared.step.Step.TheVariants.{Server, Volume, Link, Stop, StopAfter, Start, Issue, Write, Apply, Show, MakeFlash, RemoveFlash, ResyncFlash, ReverseFlash, Copy, MakePath, RemovePath, MakePair, RemovePair, PausePair, ResumePair, Failover, Failback, Drain, Expire, Freeze, Unfreeze, MakeSession, RemoveSession, AddMember, RemoveMember, MakeMirror, PauseMirror, ResumeMirror, RemoveMirror, Abort, Exchange, Recover, CommitFlash, RevertFlash}
 use Rattle.dr_model.specs.Refusals.{unknown, server_off, duplicate}
 use Rattle.dr_model.specs.Control.{Control}
 use Rattle.dr_model.specs.Layout.{Fields, is_part, part_of}
@@ -28,14 +28,14 @@ use Rattle.dr_model.specs.Pairs.{first_state, held, records}
 use Rattle.dr_model.specs.Moves.{Move, Keep, Note, Withdraw, Fetch, Resync, Reverse, Restore, Release, Suspend, MakeSecondary, MakePrimary, DropPrimary, DropSecondary, Follow, TakeOver, Thaw, Lift, Free, Seal as SealMove, RaiseAttempt, RaiseFloor, Leave, Flash as FlashMove, Commit as CommitMove, Revert as RevertMove, Finish as FinishMove, Hold as HoldMove}
 use Rattle.dr_model.specs.Carry.{Make, OpenAttempt, check, now, Next, Pass, Do, End, Entry}
 use Rattle.dr_model.specs.Entries.{fields_at, copies_from, is_running, relation_state, keep_on, keep_if, copy_first, times, on_found, lowest_missing, lowest_held, fetch_next, for_lowest, give_back, share_server, share_size, is_no_target, is_settled}
-use Rattle.dr_model.specs.PairEntries.{are_linked, reach_refusal, end_if, refuse_if, differs_at, two_servers, stands_free, may_follow, make_entries, leads_to, belongs_to, let_go, remove_both, remove_entries, may_pause, tell_paused, pause_entries, may_resume, follow_on, resume_on, resume_entries, send_refusal, suspend_where, flashed_refusal, store_on, strike_on, send_entries, sends, tracks_to_send, suspend_after, suspend_running, is_copying}
+use Rattle.dr_model.specs.PairEntries.{are_linked, reach_refusal, end_if, refuse_if, differs_at, two_servers, stands_free, may_follow, make_entries, leads_to, belongs_to, let_go, remove_both, remove_entries, may_pause, tell_paused, pause_entries, may_resume, follow_on, resume_on, resume_entries, may_take_over, failover_entries, leads_as, fall_back_on, yield_on, failback_entries, send_refusal, suspend_where, flashed_refusal, store_on, strike_on, send_entries, sends, tracks_to_send, suspend_after, suspend_running, is_copying, first_differing}
 use Rattle.dr_model.specs.WriteEntries.{is_between, freeze_on, end_freeze, freeze_entries, thaw_on, end_thaw, thaw_entries, belongs, lift_on}
 use Rattle.dr_model.specs.Phases as phases
 use Rattle.dr_model.specs.Sessions.{Session, Mirror, session_in, members_in, has_place_of, joined, left, changed, mirrored_by, paused, unmirrored, not_in_session, in_session, busy, leave_refusal, join_refusal, make_refusal, drop_refusal, abort_refusal}
 use Rattle.dr_model.specs.SessionEntries.{first_number, last_of, hold_refusal, stale_refusal, hold_on, void_refusal, free_on, is_drained, seal_refusal, seal_on, is_flashed, flash_refusal, flash_on, is_committed, commit_refusal, commit_on, revert_on, is_past, finish_on, member_entries, members_on, order_entries, raise_attempt_on, raise_floor_on, add_entries}
 use Rattle.dr_model.specs.RecoveryPlans.{decided_in, take_over_on, settle_on, end_recovery, recover_entries, recover_done, recover_plan, group_of, says_group, secondary_refusal, lets_commit, lets_revert, settle_member, settle_target, settle_plan, settle_refusal, member_of_target, revertible_target}
 use Rattle.dr_model.specs.SessionPlans.{table_plan, mirror_phase, session_phase, says_phase, name_refusal, off_refusal, on_volume, on_both, add_plan, add_to, add_target, member_target, expel_plan, expel_done, expel_found, outside_refusal, master_refusal, place_refusal, taken_refusal, copy_refusal, member_with, exchange_refusal, exchange_done, exchange_on, order_of}
-use Rattle.dr_model.specs.Plans.{Plan, plan_of, same, none_follow, always, tables_plan, entries_plan, only_says, refuses, unless, on_named, on_owner, on_session, is_defined, is_owner, server_named, name_bytes, counted_refusal, restore_refusal, left_by, member_refusal, found_volumes, found_pair, differ, is_no_source, has_few_targets, is_plain_target, is_recorded_target, is_lone_restore, may_return, may_give_back, may_copy, at_most, left_to_copy, drain_plan, stop_on, stop_done, arm_on, expire_on, link_between, link_done, on_server, owner_of, server_refusal, server_done, volume_refusal, volume_done, issue_refusal, issue_done, show_refusal, show_done, expire_plan, path_refusal, make_path_done, unpath_refusal, remove_path_done, freeze_refusal, freeze_done, thaw_refusal, unfreeze_done}
+use Rattle.dr_model.specs.Plans.{Plan, plan_of, same, none_follow, always, tables_plan, entries_plan, only_says, refuses, unless, on_named, on_owner, on_session, is_defined, is_owner, server_named, name_bytes, counted_refusal, restore_refusal, yield_refusal, left_by, member_refusal, found_volumes, found_pair, differ, is_no_source, has_few_targets, is_plain_target, is_recorded_target, is_lone_restore, may_return, may_give_back, may_copy, at_most, left_to_copy, drain_plan, stop_on, stop_done, arm_on, expire_on, link_between, link_done, on_server, owner_of, server_refusal, server_done, volume_refusal, volume_done, issue_refusal, issue_done, show_refusal, show_done, expire_plan, path_refusal, make_path_done, unpath_refusal, remove_path_done, freeze_refusal, freeze_done, thaw_refusal, unfreeze_done, compare_plan}
 use Rattle.dr_laws_sound.specs.Acknowledged.{acknowledgements}
 use Rattle.dr_laws_sound.proofs.RecoveryEntries.{settle-cases}
 use Rattle.dr_laws_sound.proofs.Cases.{added, expelled, aborted}
@@ -145,6 +145,14 @@ module _ (a b : ℕ) where
       both-hush devs _ (checked-hush (is_running a) _ _ (checked-hush (may_resume a b kind) _ _ (refused-hush (reach_refusal a b) _ (checked-hush (belongs_to a b) _ _
       (then-hush (follow_on a b) _ (λ k. tt) (last-hush (resume_on a) (λ k. tt)))))))
 
+  failover-hush : (k : Control) (devs : Devs) (kind : Part) → AllHush false (found_volumes devs a b ++ failover_entries k a b kind)
+  failover-hush k devs kind = both-hush devs _ (checked-hush (is_running a) _ _ (checked-hush (may_take_over b a kind) _ _ (now-hush (TakeOver a) tt)))
+
+  failback-hush : (k : Control) (devs : Devs) (why : Control → Option Refusal) (kind : Part) → AllHush false (found_volumes devs a b ++ failback_entries k why a b kind)
+  failback-hush k devs why kind =
+      both-hush devs _ (checked-hush (is_running a) _ _ (refused-hush (reach_refusal a b) _ (checked-hush (leads_as a b kind) _ _ (checked-hush (leads_to b a) _ _ (checked-hush (is_settled b) _ _ (checked-hush (is_settled a) _ _
+      (refused-hush why _ (then-hush (fall_back_on a b) _ (λ k. tt) (last-hush (yield_on b a) (λ k. tt))))))))))
+
   sends-hush : (volumes : List ℕ) (ts : List ℕ) → AllHush false (sends volumes a b ts)
   sends-hush volumes [] = none-hush
   sends-hush volumes (t ∷ ts) =
@@ -217,6 +225,11 @@ says-hush a not = tables-hush same same [] (always a) (unheard-none false) (λ k
 
 entries-hush : (ds : List Entry) (x : Addition) → AllHush false ds → HushedPlan (entries_plan ds (Done x))
 entries-hush ds x hush = record { told = unheard-none false; entries = hush; follows = λ s. none-hush; says = λ k. done-not x }
+
+pub compare-hush : (k : Control) (contents : ℕ → ℕ → List ℕ) (v u : ℕ) → HushedPlan (compare_plan k contents v u)
+compare-hush k contents v u =
+    entries-hush _ _ (checked-hush (is_defined v) _ _ (checked-hush (is_defined u) _ _ (checked-hush (is_running v) _ _ (checked-hush (is_running u) _ _ (checked-hush (share_size v u) _ _
+    (refused-hush (differs_at (first_differing contents (k.volume v).tracks v u)) _ none-hush))))))
 
 mirror-not : (m : Option Mirror) → NotHeld (mirror_phase m)
 mirror-not None = done-not _
@@ -380,6 +393,8 @@ module _ (k : Control) (events : List Event) (line : ℕ) where
   step-hush (RemovePair devs a b source_only) other = entries-hush _ _ (remove-hush a b k devs source_only)
   step-hush (PausePair devs a b) other = entries-hush _ _ (pause-hush a b k devs)
   step-hush (ResumePair devs a b kind) other = entries-hush _ _ (resume-hush a b k devs (part_of kind))
+  step-hush (Failover devs b a kind) other = entries-hush _ _ (failover-hush b a k devs (part_of kind))
+  step-hush (Failback devs x y kind) other = entries-hush _ _ (failback-hush x y k devs (yield_refusal y) (part_of kind))
   step-hush (Drain a most) other = drain-hush k a most
   step-hush (Expire name) other = named (server_named k (name_bytes name)) (expire_on k) expires
   step-hush (Freeze devs l m) other = owned l (λ s. on_owner (owner_of k m) (λ u. unless (freeze_refusal k devs l m s u) (freeze_done k l m)))

@@ -1,6 +1,7 @@
 -- What acts and steps leave of a world: the writes issued so far, what is within limits, and the journal, which only grows.
 use Rattle.std.proofs.Common.{ℕ, ◌≡◌, ◌≤◌, ◌<◌, ◌+◌, List, [], ◌∷◌, ◌++◌, length, map, refl, ap, ◌∙◌, sym, arith, Bool, true, false, ◌||◌, cond, Option, Some, None, append_assoc, subst}
 use Rattle.std.specs.List.{list_any}
+use Rattle.std.proofs.lemmas.List.Sums.{fold-append}
 use Rattle.std.proofs.lemmas.List.Folds.{list_any-append}
 use Rattle.std.proofs.lemmas.List.{append-nil, length-append}
 use Rattle.dr_logic.specs.Tables.{at}
@@ -18,7 +19,7 @@ use Rattle.dr_model.specs.Control.{Control, Fuse, Pending, Volume, World, new_vo
 use Rattle.dr_model.specs.Layout.{Tracks}
 use Rattle.dr_model.specs.Relations.{rest, in_order, is_bare, turned, given_up}
 use Rattle.dr_model.specs.Pairs.{is_suspended}
-use Rattle.dr_model.specs.Moves.{Move, Land, Overwrite, Keep, Note, Relate, Withdraw, Fetch, Resync, Reverse, Restore, Release, Store, Strike, Suspend, MakeSecondary, MakePrimary, DropPrimary, DropSecondary, Follow, Resume, TakeOver, Unsync, Mirror, LandBoth, Thaw, Lift, Restart, Hold, Free, Seal, Finish, RaiseAttempt, RaiseFloor, Leave, Flash, Commit, Revert, told_blank, told_restored, told, told_in_stop, landed, target, settled, settled_in_stop, is_other, marked}
+use Rattle.dr_model.specs.Moves.{Move, Land, Overwrite, Keep, Note, Relate, Withdraw, Fetch, Resync, Reverse, Restore, Release, Store, Strike, Suspend, MakeSecondary, MakePrimary, DropPrimary, DropSecondary, Follow, Resume, TakeOver, FallBack, Yield, Unsync, Mirror, LandBoth, Thaw, Lift, Restart, Hold, Free, Seal, Finish, RaiseAttempt, RaiseFloor, Leave, Flash, Commit, Revert, told_blank, told_restored, told, told_in_stop, landed, target, settled, settled_in_stop, is_other, marked}
 use Rattle.dr_model.specs.Carry.{Act, Make, OpenAttempt, Redo, Acknowledge, Drop, EndFreeze, EndThaw, EndRecovery, act, Next, Pass, Do, End, Entry, Outcome, carry, continue, go, follow}
 use Rattle.dr_model.specs.Plans.{Plan, entries_plan, name_bytes, same, always, none_follow, server_done, volume_done, link_done, with_pending, issue_done, show_done, stop_done, arm_on, starting, start_plan, make_path_done, remove_path_done}
 use Rattle.dr_model.specs.Forming.{Part, after_part}
@@ -28,7 +29,7 @@ use Rattle.dr_model.specs.SessionEntries.{members_on}
 use Rattle.dr_model.specs.SessionPlans.{with_sessions, table_plan, says_phase, answered_by}
 use Rattle.dr_laws_sound.specs.Limits.{IsWithin}
 use Rattle.dr_model.specs.RecoveryPlans.{decided_in, recover_done}
-use Rattle.dr_laws_sound.proofs.Cases.{Case, Says, DefinesServer, DefinesVolume, SetsLink, Issues, Writes, Applies, Shows, Stops, Arms, Starts, MakesFlash, RemovesFlash, ResyncsFlash, ReversesFlash, Copies, MakesPath, RemovesPath, MakesPair, RemovesPair, PausesPair, ResumesPair, Drains, Expires, Freezes, Unfreezes, MakesSession, RemovesSession, MakesMirror, PausesMirror, RemovesMirror, Aborts, AddsMember, RemovesMember, Exchanges, Recovers, Settles, aborted, servers-left, is-new, may-issue}
+use Rattle.dr_laws_sound.proofs.Cases.{Case, Says, DefinesServer, DefinesVolume, SetsLink, Issues, Writes, Applies, Shows, Stops, Arms, Starts, MakesFlash, RemovesFlash, ResyncsFlash, ReversesFlash, Copies, MakesPath, RemovesPath, MakesPair, RemovesPair, PausesPair, ResumesPair, FailsOver, FailsBack, Compares, Drains, Expires, Freezes, Unfreezes, MakesSession, RemovesSession, MakesMirror, PausesMirror, RemovesMirror, Aborts, AddsMember, RemovesMember, Exchanges, Recovers, Settles, aborted, servers-left, is-new, may-issue}
 use Rattle.dr_laws_sound.proofs.Parts.{Comes, course-case, last-plan}
 use Rattle.dr_facts.proofs.Tables.{at_cases, at_part}
 use Rattle.dr_laws_sound.proofs.Turns.{act-cases, Counts, after_act, server_of}
@@ -143,6 +144,8 @@ tells-silent (DropSecondary v) u = refl
 tells-silent (Follow v state) u = refl
 tells-silent (Resume v state) u = refl
 tells-silent (TakeOver v) u = refl
+tells-silent (FallBack v more state) u = refl
+tells-silent (Yield v a kind state) u = refl
 tells-silent (Unsync v t) u = refl
 tells-silent (Mirror v t from n) u = refl
 tells-silent (LandBoth n v t) u = refl
@@ -339,6 +342,9 @@ module _ (k : Control) where
   case-modest events line _ (RemovesPair devs a b source_only) = entries-modest _ _
   case-modest events line _ (PausesPair devs a b) = entries-modest _ _
   case-modest events line _ (ResumesPair devs a b kind) = entries-modest _ _
+  case-modest events line _ (FailsOver devs b a kind) = entries-modest _ _
+  case-modest events line _ (FailsBack devs x y kind) = entries-modest _ _
+  case-modest events line _ (Compares contents v u) = entries-modest _ _
   case-modest events line _ (Drains a most) = record { one = omega arith; within = λ h. h; last = stays-same; silent = refl }
   case-modest events line _ (Expires s on) = entries-modest _ _
   case-modest events line _ (Freezes l m) = entries-modest _ _
@@ -392,6 +398,11 @@ pub after_task-grows : (w : World) (t : Task) → (es : List Event) × ((after_t
 after_task-grows w t =
     let ends : EndsAnswered w t.line (after_task w t) = after_task-ends w t in
     (ends.before ++ answer t.line ends.says ∷ [], ends.events ∙ append_assoc w.events ends.before (answer t.line ends.says ∷ []))
+
+-- a run with one step more
+pub run-more : (tasks : List Task) (t : Task) → run (tasks ++ t ∷ []) ≡ after_task (run tasks) t
+unfolding after_tasks
+run-more tasks t = fold-append after_task nothing tasks (t ∷ [])
 
 pub after_tasks-grows : (w : World) (tasks : List Task) → (es : List Event) × ((after_tasks w tasks).events ≡ w.events ++ es)
 unfolding after_tasks

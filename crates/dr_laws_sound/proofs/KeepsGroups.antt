@@ -4,7 +4,7 @@ use Rattle.dr_logic.specs.Tables.{at}
 use Rattle.dr_model.specs.Sessions.{changed, begun}
 use Rattle.dr_model.specs.Histories.{Write}
 use Rattle.dr_model.specs.Control.{Control, Fuse, Pending, Volume, World}
-use Rattle.dr_model.specs.Moves.{Move, Suspend, MakePrimary, DropPrimary, TakeOver, Lift, Restart, Hold, Finish, RaiseAttempt, target, moved}
+use Rattle.dr_model.specs.Moves.{Move, Suspend, MakePrimary, DropPrimary, TakeOver, FallBack, Yield, Lift, Restart, Hold, Finish, RaiseAttempt, target, moved}
 use Rattle.dr_model.specs.Entries.{fields_at}
 use Rattle.dr_model.specs.Groups.{Groups, Housed, OpensAttempt}
 use Rattle.dr_model.specs.Table.{table}
@@ -56,6 +56,8 @@ module _ (w : World) (write : ℕ → Write) (on : ℕ → Bool) (fuse : ℕ →
   groups-after (MakePrimary v u kind state full) a g old = by (MakePrimary v u kind state full) (λ h. absurd cc) old
   groups-after (DropPrimary v) a g old = by (DropPrimary v) (λ h. absurd cc) old
   groups-after (TakeOver v) a g old = by (TakeOver v) (λ h. absurd cc) old
+  groups-after (FallBack v more state) a g old = by (FallBack v more state) (λ h. absurd cc) old
+  groups-after (Yield v u kind state) a g old = by (Yield v u kind state) (λ h. absurd cc) old
   groups-after (Restart v) a g old = by (Restart v) (λ h. absurd cc) old
   groups-after (Finish v n) a g old = by (Finish v n) (λ h. absurd cc) old
   groups-after (Lift v) a g old = by (Lift v) (λ h. (lifted (fields_at w.control v).coordination (fields_at w.control v).recording h, (refl, refl))) old

@@ -10,7 +10,7 @@ use Rattle.dr_model.specs.Histories.{Write}
 use Rattle.dr_model.specs.Contents.{with_write}
 use Rattle.dr_model.specs.Pairs.{is_engaged}
 use Rattle.dr_model.specs.Relations.{all_tracks}
-use Rattle.dr_model.specs.Moves.{Move, Land, Overwrite, Keep, Withdraw, Fetch, Reverse, Restore, Release, Store, Strike, Suspend, MakeSecondary, MakePrimary, DropPrimary, DropSecondary, TakeOver, Unsync, Mirror, LandBoth, Lift, Restart, Hold, Finish, target}
+use Rattle.dr_model.specs.Moves.{Move, Land, Overwrite, Keep, Withdraw, Fetch, Reverse, Restore, Release, Store, Strike, Suspend, MakeSecondary, MakePrimary, DropPrimary, DropSecondary, TakeOver, FallBack, Yield, Unsync, Mirror, LandBoth, Lift, Restart, Hold, Finish, target}
 use Rattle.dr_model.specs.Table.{Row, Table}
 use Rattle.dr_model.specs.Rows.{after, next_row}
 use Rattle.dr_model.specs.Laws.{Structure, Parts, Recorders, PairLaw, Alike, unsent, source, its_primary, its_secondary, fields}
@@ -19,7 +19,7 @@ use Rattle.dr_facts.proofs.Tables.{IsOrNot, at_cases, linked-at}
 use Rattle.dr_laws_sound.proofs.KeepsParts.{not_both, no_partner, part-shape}
 use Rattle.dr_facts.proofs.Sets.{not_inserted, remove_other, not_in_union, in_all}
 use Rattle.dr_logic.proofs.Choices.{chosen}
-use Rattle.dr_logic.proofs.Truth.{false_true}
+use Rattle.dr_logic.proofs.Truth.{contrary, false_true}
 use Rattle.dr_logic.proofs.Tables.{at_same, at_other}
 
 -- which tracks are unsent: one more, one less, and after a void
@@ -43,6 +43,12 @@ less-unsent out recording t q ne h = ap (λ b. b || contains recording q) (sym (
 void-unsent : (e : Bool) (out recording : Tracks) (q : ℕ) → (contains (cond e (union out recording) out) q || contains (cond e empty recording) q) ≡ false → (contains out q || contains recording q) ≡ false
 void-unsent true out recording q h = let not = not_in_union out recording q (or_parts _ _ h).0 in (λ i. not.0 i || not.1 i)
 void-unsent false out recording q h = h
+
+more-void-unsent : (e : Bool) (out recording more : Tracks) (q : ℕ) → (contains (union (cond e (union out recording) out) more) q || contains (cond e empty recording) q) ≡ false → (contains out q || contains recording q) ≡ false
+more-void-unsent e out recording more q h =
+    let both = or_parts _ _ h in
+    let less = (not_in_union (cond e (union out recording) out) more q both.0).0 in
+    void-unsent e out recording q (λ i. less i || both.1 i)
 
 full-unsent : {P : Type 0} (full : Bool) (n q : ℕ) (rest : Bool) → q < n → (contains (cond full (all_tracks n) empty) q || rest) ≡ false → (full ≡ false → P) → P
 full-unsent true n q rest lt h go = false_true (or_parts _ _ h).0 (in_all n q lt)
@@ -208,4 +214,16 @@ module _ (write : ℕ → Write) (T : Table) (structure : Structure T) (parts : 
       either x (inl k) = absurd cc
       either x (inr k) = no_first v a k
   kept-pairs (TakeOver v) a = changed (TakeOver v) a (λ u h k q lt sent back. over-from v u h k q lt back) (λ u h k q lt sent back. over-onto v u h k q lt sent)
+  kept-pairs (FallBack v more state) a = let f : Fields = fields T v in
+      changed (FallBack v more state) a (λ u h k q lt sent. old v u h k q lt (more-void-unsent (is_engaged f) f.out_of_sync f.change_recording more q sent))
+      (λ u h k q lt sent back. old u v h k q lt sent (λ l. more-void-unsent (is_engaged f) f.out_of_sync f.change_recording more q (back l)))
+  kept-pairs (Yield v u kind state) a = changed (Yield v u kind state) a (λ x h. absurd cc) (λ x h k. either x h k)
+    where
+      -- outside what u has out of sync nothing of v is unsent
+      either : (x : ℕ) → its_secondary (T x) ≡ Some v → (cond (is_part kind) (Some u) None ≡ Some x) ⊎ (None ≡ Some x) → (q : ℕ) → q < (T x).volume.tracks → unsent (T x) q ≡ false → (None ≡ Some x → unsent (next_row write (Yield v u kind state) T) q ≡ false) → (T x).bytes q ≡ (T v).bytes q
+      either x h (inl k) q lt sent back =
+          let same : u ≡ x = (chosen (is_part kind) u x k).1 in
+          let less : unsent (T v) q ≡ false = contrary _ _ (a.out q) (or_parts _ _ (subst (λ j. unsent (T j) q ≡ false) (sym same) sent)).0 in
+          old x v h (inr (a.sends ∙ ap (λ j. Some j) same)) q lt sent (λ l. less)
+      either x h (inr k) q lt sent back = absurd cc
   kept-pairs m a = changed m a (old (target m)) (λ u. old u (target m))

@@ -1,12 +1,12 @@
 -- Each kind of move keeps the parts: what the records of pairs say together.
-use Rattle.std.proofs.Common.{ℕ, ◌≡◌, refl, sym, ◌∙◌, subst, Bool, true, false, cond, not, ◌&&◌, List, Some, None}
+use Rattle.std.proofs.Common.{ℕ, ◌≡◌, refl, ap, sym, ◌∙◌, subst, Bool, true, false, cond, not, ◌&&◌, List, Some, None}
 use Rattle.std.specs.FinSet.{insert}
 use Rattle.dr_logic.specs.Tables.{at}
 use Rattle.dr_model.specs.declared.state.Part.{Part}
 use Rattle.dr_model.specs.Layout.{Fields, is_part}
 use Rattle.dr_model.specs.Histories.{Write}
 use Rattle.dr_model.specs.Relations.{is_bare, is_whole, turned, given_up}
-use Rattle.dr_model.specs.Moves.{Move, Overwrite, Keep, Relate, Withdraw, Fetch, Reverse, Release, MakeSecondary, MakePrimary, DropPrimary, DropSecondary, TakeOver, Carried, moved, target, next_fields}
+use Rattle.dr_model.specs.Moves.{Move, Overwrite, Keep, Relate, Withdraw, Fetch, Reverse, Release, MakeSecondary, MakePrimary, DropPrimary, DropSecondary, TakeOver, Yield, Carried, moved, target, next_fields}
 use Rattle.dr_model.specs.Table.{Row, Table}
 use Rattle.dr_model.specs.Rows.{after, volumes_of, carried_on, next_bytes, next_due, next_aside}
 use Rattle.dr_model.specs.Laws.{Structure, Parts, OnePart, RowParts, Partnered, OneWay, FreeSource, source, its_primary, its_secondary, fields}
@@ -148,6 +148,15 @@ module _ (T : Table) (old : Parts T) where
       from = old.free v;
       loop = no_loop write T structure v;
       onto = λ u h r. refl;
+    }
+    part-shape (Yield v u kind state) a = let o = old.one v in record {
+      one = record { one = λ h. absurd cc; no_primary = λ h. refl; no_secondary = λ h. false_true (o.no_primary h) (chosen _ _ u a.sends).0 };
+      second = λ x h. absurd cc;
+      first = λ x h. old.secondary v x (a.sends ∙ ap (λ j. Some j) (chosen (is_part kind) u x h).1);
+      way = λ x h k. false_true (subst (λ j. is_part (fields T j).secondary ≡ false) (chosen (is_part kind) u x h).1 a.from_free) (chosen _ _ v k).0;
+      from = old.free v;
+      loop = no_loop write T structure v;
+      onto = λ x h r. absurd (a.still x h r);
     }
     part-shape m a = ended (target m) false
 

@@ -2,21 +2,22 @@
 use Rattle.std.proofs.Common.{ℕ, ◌≡◌, ◌<◌, ◌+◌, refl, ap, sym, ◌∙◌, Bool, true, false, cond, List, [], ◌∷◌, ◌++◌, map, filter, subst, Option, None, Some}
 use Rattle.std.proofs.lemmas.Bool.{eqb-true, eq-eqb, false≢true}
 use Rattle.std.specs.List.{fold}
-use Rattle.dr_logic.specs.Tables.{at, at2}
+use Rattle.dr_logic.specs.Tables.{at}
 use Rattle.dr_model.specs.declared.event.Event.{Event}
-use Rattle.dr_model.specs.declared.event.Event.TheVariants.{Volume as VolumeDefined, Issue, Ack, Mirrored, Sent, Flashed, Committed, Reverted, Set, Back, Blanked, Restored, Stopped, Suspended, Begin, Cut}
-use Rattle.dr_model.specs.Histories.{Lists, Write, Histories, histories, after_event}
+use Rattle.dr_model.specs.declared.event.Event.TheVariants.{Issue, Ack, Mirrored, Blanked, Restored, Stopped, Suspended, Begin, Cut}
+use Rattle.dr_model.specs.Histories.{Write, Histories, histories, after_event}
 use Rattle.dr_model.specs.Layout.{Tracks}
 use Rattle.dr_model.specs.Relations.{is_bare}
 use Rattle.dr_model.specs.Control.{Control, Pending, Fuse, Volume, World, is_volume}
 use Rattle.dr_model.specs.Pairs.{is_suspended}
-use Rattle.dr_model.specs.Moves.{Move, Land, Overwrite, Relate, Withdraw, Resync, Reverse, Restore, Release, Keep, Note, Fetch, Store, Strike, Suspend, MakeSecondary, MakePrimary, DropPrimary, DropSecondary, Follow, Resume, TakeOver, Unsync, Mirror, LandBoth, Thaw, Lift, Restart, Hold, Free, Seal, Finish, RaiseAttempt, RaiseFloor, Leave, Flash, Commit, Revert, told_blank, told_restored, target, told, told_in_stop, settled, settled_in_stop, is_write, is_other, marked, landed}
+use Rattle.dr_model.specs.Moves.{Move, Land, Overwrite, Relate, Withdraw, Resync, Reverse, Restore, Release, Keep, Note, Fetch, Store, Strike, Suspend, MakeSecondary, MakePrimary, DropPrimary, DropSecondary, Follow, Resume, TakeOver, FallBack, Yield, Unsync, Mirror, LandBoth, Thaw, Lift, Restart, Hold, Free, Seal, Finish, RaiseAttempt, RaiseFloor, Leave, Flash, Commit, Revert, told_blank, told_restored, target, told, told_in_stop, settled, settled_in_stop, is_write, is_other, marked, landed}
 use Rattle.dr_model.specs.Laws.{Lone, Together, servers, sizes, Below, Numbered, Queue, Waits, AllPending, Apart}
 use Rattle.dr_model.specs.Entries.{is_at}
 use Rattle.dr_model.specs.Allowed.{Coming, Ready}
 use Rattle.dr_model.proofs.Images.{histories-append, Below-append}
 use Rattle.dr_laws_closed.proofs.Pendings.{each-on, all-filter}
-use Rattle.dr_facts.proofs.Tables.{at_cases, at2_at}
+use Rattle.dr_facts.proofs.Tables.{at_cases}
+use Rattle.dr_facts.proofs.Heard.{OfEach, OfJoined, each-event}
 use Rattle.dr_laws_sound.proofs.Turns.{done, done_in_stop}
 use Rattle.dr_logic.proofs.Tables.{at_same}
 
@@ -31,28 +32,17 @@ abbrev pub AllQuiet : ℕ → List Event → Type 0
 AllQuiet n [] = Unit {0}
 AllQuiet n (e ∷ es) = Quiet n e × AllQuiet n es
 
-abbrev Low : ℕ → Lists → Type 0
-Low n lists = (v t : ℕ) → Below n (lists v t)
-
-low-row : (n : ℕ) (lists : Lists) (v : ℕ) (l : ℕ → List ℕ) → ((t : ℕ) → Below n (l t)) → Low n lists → Low n (at lists v l)
-low-row n lists v l here low u q = at_cases (λ u l. Below n (l q)) lists v l (here q) (λ u ne. low u q) u
-
-low-place : (n : ℕ) (lists : Lists) (v t : ℕ) (l : List ℕ) → Below n l → Low n lists → Low n (at2 lists v t l)
-low-place n lists v t l here low = subst (Low n) (sym (at2_at lists v t l)) (low-row n lists v (at (lists v) t l) (at_cases (λ q l. Below n l) (lists v) t l here (λ q ne. low v q)) low)
+-- the list with the write that an event adds
+joined-low : (n : ℕ) (h : Histories) (e : Event) → Quiet n e → Numbered n h → OfJoined (λ t ws. Below n ws) h e
+joined-low n h (Issue w v t offset len bytes) quiet low = absurd quiet
+joined-low n h (Ack w) quiet low = Below-append n _ (w ∷ []) (low.now _ _) (quiet, tt)
+joined-low n h (Mirrored w v) quiet low = Below-append n _ (w ∷ []) (low.now _ _) (quiet, tt)
+joined-low n h e quiet low = tt
 
 pub numbered-after : (n : ℕ) (h : Histories) (e : Event) → Quiet n e → Numbered n h → Numbered n (after_event h e)
-numbered-after n h (VolumeDefined v server tracks) quiet low = record { now = low-row n h.now v (λ t. []) (λ t. tt) low.now; aside = low.aside }
-numbered-after n h (Issue w v t offset len bytes) quiet low = absurd quiet
-numbered-after n h (Ack w) quiet low = record { now = low-place n h.now _ _ _ (Below-append n _ (w ∷ []) (low.now _ _) (quiet, tt)) low.now; aside = low.aside }
-numbered-after n h (Mirrored w v) quiet low = record { now = low-place n h.now v _ _ (Below-append n _ (w ∷ []) (low.now _ _) (quiet, tt)) low.now; aside = low.aside }
-numbered-after n h (Sent v t to) quiet low = record { now = low-place n h.now to t _ (low.now v t) low.now; aside = low.aside }
-numbered-after n h (Flashed session k a b c) quiet low = record { now = low-row n h.now c (h.now b) (low.now b) low.now; aside = low-row n h.aside c (h.now c) (low.now c) low.aside }
-numbered-after n h (Committed session k a c) quiet low = record { now = low.now; aside = low-row n h.aside c (λ t. []) (λ t. tt) low.aside }
-numbered-after n h (Reverted session k a c) quiet low = record { now = low-row n h.now c (h.aside c) (low.aside c) low.now; aside = low.aside }
-numbered-after n h (Set v from) quiet low = record { now = low-row n h.now v (h.now from) (low.now from) low.now; aside = low.aside }
-numbered-after n h (Back v t from) quiet low = record { now = low-place n h.now v t _ (low.now from t) low.now; aside = low.aside }
-numbered-after n h (Blanked v t) quiet low = record { now = low-place n h.now v t [] tt low.now; aside = low.aside }
-numbered-after n h e quiet low = low
+numbered-after n h e quiet low =
+    let each : OfEach (λ t ws. Below n ws) (after_event h e) = each-event (λ t ws. Below n ws) (λ t. tt) h e (joined-low n h e quiet low) (low.now, low.aside) in
+    record { now = each.0; aside = each.1 }
 
 write-after : (n : ℕ) (h : Histories) (e : Event) → Quiet n e → (after_event h e).write ≡ h.write
 write-after n h (Issue w v t offset len bytes) quiet = absurd quiet
@@ -238,6 +228,8 @@ module _ (starts : Option ℕ) (w : World) (old : Queue starts w) where
       by true = tt
       by false = (tt, tt)
   told-quiet (TakeOver v) ready = (tt, tt)
+  told-quiet (FallBack v more state) ready = tt
+  told-quiet (Yield v u kind state) ready = tt
   told-quiet (Strike v t last) ready = tt
   told-quiet (MakeSecondary v u kind state) ready = tt
   told-quiet (MakePrimary v u kind state full) ready = tt

@@ -9,7 +9,7 @@ use Rattle.dr_model.specs.declared.state.PairState.TheVariants.{CopyPending, Ful
 use Rattle.dr_model.specs.Layout.{Tracks, Fields, is_part}
 use Rattle.dr_model.specs.Histories.{Write}
 use Rattle.dr_model.specs.Pairs.{is_metro, is_kind, is_pending, is_suspended, is_quiet, is_engaged}
-use Rattle.dr_model.specs.Moves.{Move, Land, Strike, Suspend, MakePrimary, DropPrimary, Resume, TakeOver, Lift, Restart, Hold, Free, Finish, target}
+use Rattle.dr_model.specs.Moves.{Move, Land, Strike, Suspend, MakePrimary, DropPrimary, Resume, TakeOver, FallBack, Yield, Lift, Restart, Hold, Free, Finish, target}
 use Rattle.dr_model.specs.Table.{Row, Table}
 use Rattle.dr_model.specs.Rows.{after, next_row}
 use Rattle.dr_model.specs.Laws.{Records, RowRecords, Recorders, fields}
@@ -100,6 +100,8 @@ module _ (T : Table) (old : Recorders T) where
     kept-recorders (MakePrimary v u kind state full) a = changed (MakePrimary v u kind state full) (idle v _ _ empty empty_has)
     kept-recorders (DropPrimary v) a = changed (DropPrimary v) (idle v _ _ empty empty_has)
     kept-recorders (TakeOver v) a = changed (TakeOver v) (idle v _ _ empty empty_has)
+    kept-recorders (FallBack v more state) a = changed (FallBack v more state) (voids v _ _)
+    kept-recorders (Yield v u kind state) a = changed (Yield v u kind state) (idle v _ _ empty empty_has)
     kept-recorders (Lift v) a = let f : Fields = fields T v in changed (Lift v) (lifts f.primary f.primary_state f.coordination f.recording f.change_recording (old v))
     kept-recorders (Hold v s n first) a = changed (Hold v s n first) (record { holds = λ h. refl; global = λ h. a.global; pending = λ h. a.pending; none = λ h. absurd cc })
     kept-recorders (Free v) a = let o = old v in changed (Free v) (record { holds = λ h. absurd cc; global = o.global; pending = o.pending; none = o.none })

@@ -1,14 +1,12 @@
 -- Each kind of move keeps what pairs, seals and flashed targets say together.
-use Rattle.std.proofs.Common.{ℕ, ◌≡◌, arith, refl, ap, sym, ◌∙◌, subst, Bool, true, false, cond, not, ◌&&◌, nat_eq, Some, None}
-use Rattle.std.proofs.lemmas.Bool.{and_parts, eqb-true}
+use Rattle.std.proofs.Common.{ℕ, ◌≡◌, arith, refl, ap, sym, ◌∙◌, subst, Bool, true, false, not, ◌&&◌, Some}
 use Rattle.std.specs.FinSet.{contains, insert, union}
-use Rattle.dr_model.specs.Layout.{Tracks, is_part}
+use Rattle.dr_model.specs.Layout.{is_part}
 use Rattle.dr_model.specs.Histories.{Write}
 use Rattle.dr_model.specs.Pairs.{is_kind, is_metro}
 use Rattle.dr_model.specs.Relations.{is_bare, is_whole, turned, given_up}
-use Rattle.dr_model.specs.declared.state.Part.{Part}
-use Rattle.dr_model.specs.declared.state.Part.TheVariants.{Absent, Metro, Global}
-use Rattle.dr_model.specs.Moves.{Move, Land, Overwrite, Keep, Relate, Withdraw, Fetch, Reverse, Restore, Release, Store, Strike, Suspend, MakeSecondary, MakePrimary, DropPrimary, DropSecondary, TakeOver, Unsync, LandBoth, Lift, Restart, Hold, Seal, Finish, RaiseAttempt, Flash, Commit, Revert, target}
+use Rattle.dr_model.specs.declared.state.Part.TheVariants.{Global}
+use Rattle.dr_model.specs.Moves.{Move, Land, Overwrite, Keep, Relate, Withdraw, Fetch, Reverse, Restore, Release, Store, Strike, Suspend, MakeSecondary, MakePrimary, DropPrimary, DropSecondary, TakeOver, FallBack, Yield, Unsync, LandBoth, Lift, Restart, Hold, Seal, Finish, RaiseAttempt, Flash, Commit, Revert, target}
 use Rattle.dr_model.specs.Table.{Row, Table}
 use Rattle.dr_model.specs.Rows.{after, next_row}
 use Rattle.dr_model.specs.Laws.{Each, Linked, Structure, Parts, RowParts, Recorders, Seals, OneKind, SealedGlobal, AllSent, NoMetro, NoneRestored, NothingLeft, source, its_primary, its_secondary, fields}
@@ -59,6 +57,8 @@ module _ (write : ℕ → Write) (T : Table) (structure : Structure T) (parts : 
   kept-kinds (DropPrimary v) a = kinds (DropPrimary v) a (old.kinds v) (λ x h k. absurd cc)
   kept-kinds (DropSecondary v) a = kinds (DropSecondary v) a (λ x h. absurd cc) (λ x. old.kinds x v)
   kept-kinds (TakeOver v) a = kinds (TakeOver v) a (λ x h. absurd cc) (λ x h k. absurd (parts.one_way v x k h))
+  kept-kinds (Yield v u kind state) a = kinds (Yield v u kind state) a
+      (λ x h k. subst (λ j. kind ≡ (fields T j).primary) (chosen (is_part kind) u x h).1 (sym a.alike)) (λ x h k. absurd cc)
   kept-kinds m a = kinds m a (old.kinds (target m)) (λ x. old.kinds x (target m))
 
   -- ---- only a secondary of Global Copy is sealed
@@ -74,6 +74,7 @@ module _ (write : ℕ → Write) (T : Table) (structure : Structure T) (parts : 
   kept-global (Store v t u last) a = sealed (Store v t u last) (λ nz. absurd (nz refl))
   kept-global (DropSecondary v) a = sealed (DropSecondary v) (λ nz. absurd (nz refl))
   kept-global (TakeOver v) a = sealed (TakeOver v) (λ nz. absurd (nz refl))
+  kept-global (Yield v u kind state) a = sealed (Yield v u kind state) (λ nz. absurd (nz refl))
   kept-global m a = sealed m (old.global (target m))
 
   -- ---- where its secondary is sealed, a primary that records has nothing left to send
@@ -93,6 +94,8 @@ module _ (write : ℕ → Write) (T : Table) (structure : Structure T) (parts : 
   kept-sent (DropPrimary v) a = sent (DropPrimary v) a (λ u h. absurd cc) (λ u. old.sent u v)
   kept-sent (DropSecondary v) a = sent (DropSecondary v) a (old.sent v) (λ u h k. absurd cc)
   kept-sent (TakeOver v) a = sent (TakeOver v) a (λ u h k rec. absurd cc) (λ u h k. absurd cc)
+  kept-sent (FallBack v more state) a = sent (FallBack v more state) a (λ u h k rec. absurd cc) (λ u. old.sent u v)
+  kept-sent (Yield v u kind state) a = sent (Yield v u kind state) a (λ x h. absurd cc) (λ x h k rec nz. absurd (nz refl))
   kept-sent (Unsync v t) a = sent (Unsync v t) a (λ u h k rec. metro-still v a.metro rec) (λ u. old.sent u v)
   kept-sent (LandBoth w v t) a = sent (LandBoth w v t) a (λ u h k rec. metro-still v a.metro rec) (λ u. old.sent u v)
   kept-sent (Lift v) a = let f = fields T v in sent (Lift v) a
@@ -124,6 +127,7 @@ module _ (write : ℕ → Write) (T : Table) (structure : Structure T) (parts : 
   kept-metro (MakeSecondary v u kind state) a = metro (MakeSecondary v u kind state) (λ x. old.no_metro v x) (no_loop write T structure v) (λ x h r. false_true (a.settled x h) r)
   kept-metro (DropSecondary v) a = metro (DropSecondary v) (λ x. old.no_metro v x) (no_loop write T structure v) (λ x h r. refl)
   kept-metro (TakeOver v) a = metro (TakeOver v) (λ x. old.no_metro v x) (no_loop write T structure v) (λ x h r. refl)
+  kept-metro (Yield v u kind state) a = metro (Yield v u kind state) (λ x. old.no_metro v x) (no_loop write T structure v) (λ x h r. false_true (a.settled x h) r)
   kept-metro (Flash v u p s n) b = metro (Flash v u p s n)
       (λ x h r. subst (λ j. is_metro (fields T j).secondary ≡ false) (sym b.from ∙ sym (chosen (fields T v).related (fields T v).source b.resync.from b.resync.related).1 ∙ (chosen (fields T v).related (fields T v).source x h).1)
       (no-metro (fields T u).secondary (old.global u (λ e. let newer = b.newer in let is = b.sealed in absurd (omega (arith, e))))))
@@ -228,6 +232,8 @@ module _ (write : ℕ → Write) (T : Table) (structure : Structure T) (parts : 
   kept-flashed (DropPrimary v) a = flashed-at (DropPrimary v) a (λ u x h. absurd cc) (λ x y h p s. old.flashed x v y h p s) (λ x y h p s. old.flashed x y v h p s) (no_loop write T structure v)
   kept-flashed (DropSecondary v) a = flashed-at (DropSecondary v) a (λ u x. old.flashed v u x) (λ x y h p. absurd cc) (λ x y h p s. old.flashed x y v h p s) (no_loop write T structure v)
   kept-flashed (TakeOver v) a = flashed-at (TakeOver v) a (λ u x h p s rec. absurd cc) (λ x y h p. absurd cc) (λ x y h p s. old.flashed x y v h p s) (no_loop write T structure v)
+  kept-flashed (FallBack v more state) a = sends-flashed (FallBack v more state) a (λ u x h p s rec. absurd cc) refl refl refl
+  kept-flashed (Yield v u kind state) a = flashed-at (Yield v u kind state) a (λ x y h. absurd cc) (λ x y h p s r e. false_true (a.settled y s) e) (λ x y h p s r e. old.flashed x y v h p s r e) (no_loop write T structure v)
   kept-flashed (Unsync v t) a = sends-flashed (Unsync v t) a (λ u x h p s rec. metro-still v a.metro rec) refl refl refl
   kept-flashed (LandBoth w v t) a = sends-flashed (LandBoth w v t) a (λ u x h p s rec. metro-still v a.metro rec) refl refl refl
   kept-flashed (Lift v) a = let f = fields T v in sends-flashed (Lift v) a

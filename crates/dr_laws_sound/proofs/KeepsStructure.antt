@@ -4,18 +4,18 @@ use Rattle.std.specs.FinSet.{contains, insert, remove, empty}
 use Rattle.dr_logic.specs.Tables.{at}
 use Rattle.dr_model.specs.declared.state.Part.{Part}
 use Rattle.dr_model.specs.declared.state.Part.TheVariants.{Absent, Metro, Global}
-use Rattle.dr_model.specs.Pairs.{is_metro, is_kind}
+use Rattle.dr_model.specs.Pairs.{is_kind}
 use Rattle.dr_model.specs.Layout.{Tracks, Fields, is_part}
 use Rattle.dr_model.specs.Histories.{Write}
 use Rattle.dr_model.specs.Relations.{rest, is_bare, is_whole, turned, given_up}
-use Rattle.dr_model.specs.Moves.{Move, Land, Overwrite, Keep, Note, Relate, Withdraw, Fetch, Resync, Reverse, Restore, Release, Store, Strike, Suspend, MakeSecondary, MakePrimary, DropPrimary, DropSecondary, Follow, Resume, TakeOver, Unsync, Mirror, LandBoth, Thaw, Lift, Restart, Hold, Free, Seal, Finish, RaiseAttempt, RaiseFloor, Leave, Flash, Commit, Revert, moved, target, next_fields}
+use Rattle.dr_model.specs.Moves.{Move, Land, Overwrite, Keep, Note, Relate, Withdraw, Fetch, Resync, Reverse, Restore, Release, Store, Strike, Suspend, MakeSecondary, MakePrimary, DropPrimary, DropSecondary, Follow, Resume, TakeOver, FallBack, Yield, Unsync, Mirror, LandBoth, Thaw, Lift, Restart, Hold, Free, Seal, Finish, RaiseAttempt, RaiseFloor, Leave, Flash, Commit, Revert, moved, target, next_fields}
 use Rattle.dr_model.specs.Table.{Row, Table}
 use Rattle.dr_model.specs.Rows.{after, next_row, next_bytes, next_due, next_aside, volumes_of, carried_on}
 use Rattle.dr_model.specs.Laws.{Structure, Lawful, RowSets, RowFlags, RowDefined, SetsFit, FlagsFit, Flashed, OneRestore, RowReverts, source, fields}
 use Rattle.dr_model.specs.Allowed.{Allowed}
 use Rattle.dr_model.specs.Lawful.{IsLawful}
 use Rattle.dr_facts.proofs.Tables.{at_cases, each-at, linked-at}
-use Rattle.dr_facts.proofs.Lawful.{lawful-altered, lawful-written, lawful-held, lawful-freed, lawful-sealed, lawful-past_attempt, lawful-attempt, lawful-floor, lawful-no_member, lawful-received, lawful-struck, lawful-suspended, lawful-resumed, lawful-followed, lawful-made_secondary, lawful-made_primary, lawful-no_primary, lawful-no_secondary, lawful-taken_over, lawful-unsynced, lawful-mirrored, lawful-synced, lawful-thawed, lawful-lifted, lawful-restarted, lawful-taken, low-noted, lawful-noted, lawful-made, lawful-withdrawn, lawful-resynced, lawful-turned, lawful-given_up, lawful-flashed, lawful-committed, lawful-reverted}
+use Rattle.dr_facts.proofs.Lawful.{lawful-altered, lawful-written, lawful-held, lawful-freed, lawful-sealed, lawful-past_attempt, lawful-attempt, lawful-floor, lawful-no_member, lawful-received, lawful-struck, lawful-suspended, lawful-resumed, lawful-followed, lawful-made_secondary, lawful-made_primary, lawful-no_primary, lawful-no_secondary, lawful-taken_over, lawful-unsynced, lawful-mirrored, lawful-synced, lawful-thawed, lawful-lifted, lawful-restarted, lawful-fallen_back, lawful-yielded, lawful-taken, low-noted, lawful-noted, lawful-made, lawful-withdrawn, lawful-resynced, lawful-turned, lawful-given_up, lawful-flashed, lawful-committed, lawful-reverted}
 use Rattle.dr_facts.proofs.Sets.{In, in_cond, in_none, in_more, not_turned, still_related, from_union, to-difference, not_removed}
 use Rattle.dr_model.proofs.LawfulLemmas.{removed}
 use Rattle.dr_logic.proofs.Choices.{chosen}
@@ -204,7 +204,9 @@ module _ (write : ℕ → Write) (T : Table) (old : Structure T) where
   kept-structure (DropSecondary v) a = paired (DropSecondary v) (lawful-no_secondary _ _ (old.lawful v)) (λ q h. h)
   kept-structure (Follow v state) a = paired (Follow v state) (lawful-followed _ _ (old.lawful v) state a) (λ q h. h)
   kept-structure (Resume v state) a = paired (Resume v state) (lawful-resumed _ _ (old.lawful v) state a.first) (λ q h. h)
-  kept-structure (TakeOver v) a = paired (TakeOver v) (lawful-taken_over _ _ (old.lawful v) a) (λ q h. h)
+  kept-structure (TakeOver v) a = paired (TakeOver v) (lawful-taken_over _ _ (old.lawful v) a.second) (λ q h. h)
+  kept-structure (FallBack v more state) a = paired (FallBack v more state) (lawful-fallen_back _ _ (old.lawful v) more state a.first a.low) (λ q h. h)
+  kept-structure (Yield v u kind state) a = paired (Yield v u kind state) (lawful-yielded _ _ (old.lawful v) u kind state (ap (λ p. is_part p) (sym a.alike) ∙ (chosen _ _ v a.back).0)) (λ q h. h)
   kept-structure (Unsync v t) a = paired (Unsync v t) (lawful-unsynced _ _ (old.lawful v) t a.low (metro-part (fields T v).primary a.metro)) (λ q h. h)
   kept-structure (Mirror v t u w) a = paired (Mirror v t u w) (lawful-mirrored _ _ (old.lawful v) t) (λ q h. removed (fields T v).blank t q h)
   kept-structure (LandBoth w v t) a = paired (LandBoth w v t) (lawful-synced _ _ (old.lawful v) t (chosen _ _ a.to a.sends).0) (λ q h. removed (fields T v).blank t q h)

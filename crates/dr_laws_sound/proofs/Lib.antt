@@ -1,6 +1,6 @@
 -- Read first: `KeepsStructure.antt`, `KeepsImages.antt`, `KeepsRecorded.antt`, `KeepsTargets.antt`, `KeepsQueue.antt`,
 -- `KeepsSound.antt`: what each kind of move keeps; `Along.antt`: over plans and runs; `CopyFirst.antt`, `Lands.antt`,
--- `FitsFlash.antt`, `FitsCopy.antt`, `FitsPairs.antt`, `FitsWrites.antt`, `FitsHolds.antt`, `Starts.antt`: plans;
+-- `FitsFlash.antt`, `FitsCopy.antt`, `FitsPairs.antt`, `FitsFailover.antt`, `FitsWrites.antt`, `FitsHolds.antt`, `Starts.antt`: plans;
 -- `Steps.antt`: each step's plan.
 -- The laws that stand:
 -- - soundness is kept by each step, wherever servers stop in it: `sound-task`, `sound-run` (`Steps.antt`)
@@ -8,9 +8,13 @@
 --   `ReadStops.antt`)
 -- - from there to the plant: a sound world fits; a track shows the image of the journal's host writes, and contains it
 --   where the volume is no target: `fits-sound`, `view-image`, `contents-image` (`Agree.antt`)
+-- - a failover and a failback that end well leave a pair that is turned round, and a pair that is in place is equal outside what
+--   its primary has unsent: `failover-leaves`, `failback-leaves`, `pair-equal` (`Turned.antt`)
+-- - a comparison changes nothing, and of volumes that are no targets it goes by the host writes of the journal:
+--   `compare-same`, `compare-image` (`Compares.antt`)
 -- - a move changes what no other volume shows: `others-stay`, `own-shows` (`Views.antt`)
 -- - parts of pairs fit, and a pair is equal outside what its primary records: fields `parts` and `pairs` of `SoundRows`,
---   by `KeepsParts.antt`, `KeepsPairs.antt`; plans on pairs by `FitsPairs.antt`, host writes by `FitsWrites.antt`,
+--   by `KeepsParts.antt`, `KeepsPairs.antt`; plans on pairs by `FitsPairs.antt` and `FitsFailover.antt`, host writes by `FitsWrites.antt`,
 --   freeze, thaw and expiry by `FitsHolds.antt` (`Steps.antt`)
 -- - a step tells no more than it has room for: `Costs n w entries` counts what acts tell where they come: `carry-adds`,
 --   `after_plan-adds` (`Costs.antt`, `CopyCosts.antt`, `PairCosts.antt`, `WriteCosts.antt` (`Brief n`: at most n entries of
@@ -79,6 +83,9 @@ pub mod Lands
 pub mod FitsFlash
 pub mod FitsCopy
 pub mod FitsPairs
+pub mod FitsFailover
+pub mod Compares
+pub mod Turned
 pub mod FitsDrain
 pub mod FitsCollide
 pub mod FitsWrites
@@ -112,10 +119,12 @@ pub mod RefusedWrites
 pub mod RefusedSteps
 pub mod RefusedRuns
 pub mod RefusedExamples
+pub mod TurnedExample
 pub mod CalmPlans
 pub mod Hushed
 pub mod HushedPlans
 pub mod Acknowledged
+pub mod Shows
 pub mod Unissued
 pub mod Rides
 pub mod Riders

@@ -10,9 +10,9 @@ use Rattle.dr_model.specs.declared.step.Step.{Step}
 use Rattle.dr_model.specs.Answers.{answer}
 use Rattle.dr_model.specs.Limits.{most_events, step_events, most_servers, most_volumes, most_tracks, most_pending}
 use Rattle.dr_model.specs.Control.{Control, World, nothing}
-use Rattle.dr_model.specs.Plans.{Plan, plan, plan_of, is_built, has_room, only_says, refuses}
+use Rattle.dr_model.specs.Plans.{Plan, plan, plan_of, is_built, has_room, only_says, refuses, compare_plan}
 use Rattle.dr_model.specs.Forming.{Part, after_part}
-use Rattle.dr_model.specs.Runs.{Task, run_asked, course_of, course, said, after_plan, after_task, after_tasks, run}
+use Rattle.dr_model.specs.Runs.{Task, run_asked, course_of, course, said, after_plan, after_task, after_tasks, run, Apart, Groups, Volumes}
 use Rattle.dr_model.proofs.CarryLemmas.{plan-says}
 use Rattle.dr_model.specs.Laws.{Sound}
 use Rattle.dr_laws_sound.specs.Limits.{IsWithin}
@@ -76,9 +76,14 @@ roomy-part w p comes (s, (h, lt)) =
 last-room : (w : World) (t : Task) → let x : Part = (course w t).last in (has_room x.world.events ≡ true) ⊎ ((a : Said) × (x.plan ≡ only_says a))
 last-room w t = by (run_asked t.asked)
   where
-    by : (o : Option (ℕ × ℕ)) → let x : Part = (course_of w t o).last in (has_room x.world.events ≡ true) ⊎ ((a : Said) × (x.plan ≡ only_says a))
+    by : (o : Option Apart) → let x : Part = (course_of w t o).last in (has_room x.world.events ≡ true) ⊎ ((a : Said) × (x.plan ≡ only_says a))
     by None = plan-room w.control w.events t.line t.asked
-    by (Some asked) = inr (_, refl)
+    by (Some (Groups s n)) = inr (_, refl)
+    by (Some (Volumes v u)) = compared-room (has_room w.events) refl
+      where
+        compared-room : (room : Bool) → has_room w.events ≡ room → (has_room w.events ≡ true) ⊎ ((a : Said) × (cond room (compare_plan w.control w.contents v u) (refuses JournalFull) ≡ only_says a))
+        compared-room true is = inl is
+        compared-room false is = inr (_, refl)
 
 fits-room : (w : World) (line : ℕ) (p : Plan) → Case w.control w.events line p → Sound w → IsWithin w.control → has_room w.events ≡ true → length (after_plan w line p).events ≤ most_events
 fits-room w line p case s h room =

@@ -13,11 +13,11 @@ use Rattle.dr_model.specs.Limits.{most_targets}
 use Rattle.dr_model.specs.Relations.{in_order, is_whole}
 use Rattle.dr_model.specs.Pairs.{is_suspended, is_last, first_state}
 use Rattle.dr_model.specs.Control.{Control, Fuse, Volume, World}
-use Rattle.dr_model.specs.Moves.{Move, Keep, Note, Store, Strike, Suspend, MakeSecondary, MakePrimary, DropPrimary, DropSecondary, Follow, target, told, fields_left}
+use Rattle.dr_model.specs.Moves.{Move, Keep, Note, Store, Strike, Suspend, MakeSecondary, MakePrimary, DropPrimary, DropSecondary, Follow, TakeOver, target, told, fields_left}
 use Rattle.dr_model.specs.Carry.{Make, Pass, Do, Entry, carry, check, now}
 use Rattle.dr_model.specs.Entries.{fields_at, copies_from, is_running, share_size, is_no_target, is_settled, keep_on}
-use Rattle.dr_model.specs.PairEntries.{reach_refusal, end_if, refuse_if, differs_at, two_servers, stands_free, may_follow, make_entries, leads_to, belongs_to, are_linked, remove_both, remove_entries, may_pause, pause_entries, may_resume, follow_on, resume_on, resume_entries, send_refusal, suspend_where, flashed_refusal, store_on, strike_on, send_entries, sends, suspend_running, suspend_after, tracks_to_send}
-use Rattle.dr_model.specs.Plans.{is_defined, is_owner, found_volumes, member_refusal}
+use Rattle.dr_model.specs.PairEntries.{reach_refusal, end_if, refuse_if, differs_at, two_servers, stands_free, may_follow, make_entries, leads_to, belongs_to, are_linked, remove_both, remove_entries, may_pause, pause_entries, may_resume, follow_on, resume_on, resume_entries, may_take_over, failover_entries, leads_as, fall_back_on, yield_on, failback_entries, first_differing, send_refusal, suspend_where, flashed_refusal, store_on, strike_on, send_entries, sends, suspend_running, suspend_after, tracks_to_send}
+use Rattle.dr_model.specs.Plans.{is_defined, is_owner, found_volumes, member_refusal, compare_entries}
 use Rattle.dr_laws_sound.proofs.Turns.{done}
 use Rattle.dr_laws_sound.proofs.KeepsTargets.{parted-copies}
 use Rattle.dr_laws_sound.proofs.Costs.{Costs, costs_next, costs-nil, costs-entry, carry-adds, Small, Light, AllLight, light-none, light-then, light-check, light-costs, small-pass, small-end, small-do, small-choice}
@@ -179,3 +179,15 @@ module _ (k : Control) (devs : Devs) (a b : ℕ) where
   light-resume kind =
       with-found devs a b _ (with-check (is_running a) _ _ (with-check (may_resume a b kind) _ _ (with-refusal (reach_refusal a b) _ (with-check (belongs_to a b) _ _
       (light-then (follow_on a b) _ (λ w. small-do w _ (omega arith)) (light-then (resume_on a) [] (λ w. small-do w _ (omega arith)) light-none))))))
+
+  pub light-failover : (kind : Part) → AllLight (found_volumes devs a b ++ failover_entries k a b kind)
+  light-failover kind = with-found devs a b _ (with-check (is_running a) _ _ (with-check (may_take_over b a kind) _ _ (with-move (TakeOver a) [] (λ u. omega arith) light-none)))
+
+  pub light-failback : (why : Control → Option Refusal) (kind : Part) → AllLight (found_volumes devs a b ++ failback_entries k why a b kind)
+  light-failback why kind =
+      with-found devs a b _ (with-check (is_running a) _ _ (with-refusal (reach_refusal a b) _ (with-check (leads_as a b kind) _ _ (with-check (leads_to b a) _ _ (with-check (is_settled b) _ _ (with-check (is_settled a) _ _ (with-refusal why _
+      (light-then (fall_back_on a b) _ (λ w. small-do w _ (omega arith)) (light-then (yield_on b a) [] (λ w. small-do w _ (omega arith)) light-none)))))))))
+
+pub light-compare : (k : Control) (contents : ℕ → ℕ → List ℕ) (a b : ℕ) → AllLight (compare_entries k contents a b)
+light-compare k contents a b =
+    with-check (is_defined a) _ _ (with-check (is_defined b) _ _ (with-check (is_running a) _ _ (with-check (is_running b) _ _ (with-check (share_size a b) _ _ (with-refusal (differs_at (first_differing contents (k.volume a).tracks a b)) _ light-none)))))

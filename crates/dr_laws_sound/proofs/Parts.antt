@@ -11,20 +11,26 @@ use Rattle.dr_model.specs.Control.{Control, World}
 use Rattle.dr_model.specs.Groups.{In}
 use Rattle.dr_model.specs.Phases as phases
 use Rattle.dr_model.specs.PairEntries.{is_copying}
-use Rattle.dr_model.specs.PlanParts.{Plan, unless}
+use Rattle.dr_model.specs.PlanParts.{Plan, unless, refuses}
 use Rattle.dr_model.specs.Refusals.{unknown}
 use Rattle.dr_model.specs.SessionEntries.{members_on}
 use Rattle.dr_model.specs.SessionPlans.{asking, exchange_on, exchange_done, exchange_refusal, order_of}
 use Rattle.dr_model.specs.Sessions.{Session, Mirror, session_in, mirror_in, members_in}
-use Rattle.dr_model.specs.Plans.{drain_plan, has_room}
+use Rattle.dr_model.specs.Plans.{drain_plan, has_room, compare_plan}
 use Rattle.dr_model.specs.Forming.{Part, Way, stays, ends, goes_on, unless_refused, after_part, part_refusal, part, drains, is_draining, ask, next_asked, master_in, phase_in, has_committed, still_left, turn_by, turns, most_turns, form_refusal, form_in, formed}
-use Rattle.dr_model.specs.Runs.{Task, run_asked, course_of, course, plans_of}
-use Rattle.dr_laws_sound.proofs.Cases.{Case, Says, Drains, on-case, plan-case}
+use Rattle.dr_model.specs.Runs.{Task, run_asked, course_of, course, plans_of, Apart, Groups, Volumes, compared}
+use Rattle.dr_laws_sound.proofs.Cases.{Case, Says, Drains, on-case, plan-case, Compares}
 use Rattle.dr_laws_sound.proofs.HushedPlans.{HushedPlan, drain-hush, exchange-hush}
+
+-- the drain of a primary, or what a master asks of a server
+pub data IsTurn : Control → Plan → Type 0 where
+  Drained : (k : Control) → (a : ℕ) → IsTurn k (drain_plan k a None)
+  Asked : (k : Control) → (s server : ℕ) → (m : Option Mirror) → (ms : List Member) → IsTurn k (exchange_on k s m server true ms)
 
 -- A plan that isn't the last one of its step: the journal has room for it, its tables change and its journal is told by its entries
 -- alone, and it acknowledges no write.
 pub record Comes (w : World) (p : Plan) : Type 0 where
+  pub turn : IsTurn w.control p
   pub room : has_room w.events ≡ true
   pub case : (line : ℕ) → Case w.control w.events line p
   pub first : (k : Control) → p.first k ≡ k
@@ -76,16 +82,16 @@ plain-exchange k s server (Some r) ms = plain-unless (exchange_refusal k r serve
 
 -- the plans of an `@run`
 pub comes-drain : (w : World) (a : ℕ) → has_room w.events ≡ true → Comes w (drain_plan w.control a None)
-comes-drain w a room = record { room = room; case = λ line. Drains a None; first = λ k. refl; told = refl; hushed = drain-hush w.control a None }
+comes-drain w a room = record { turn = Drained w.control a; room = room; case = λ line. Drains a None; first = λ k. refl; told = refl; hushed = drain-hush w.control a None }
 
 pub comes-asking : (w : World) (s server : ℕ) → has_room w.events ≡ true → Comes w (asking w.control s server true)
 comes-asking w s server room = by (session_in w.control.sessions s) refl
   where
     by : (o : Option Session) → session_in w.control.sessions s ≡ o → Comes w (exchange_on w.control s (mirror_in o) server true (members_in o))
-    by None none = record { room = room; case = λ line. Says (Refused (OutOfOrder phase.None)); first = λ k. refl; told = refl; hushed = exchange-hush w.control s server None true [] }
+    by None none = record { turn = Asked w.control s server None []; room = room; case = λ line. Says (Refused (OutOfOrder phase.None)); first = λ k. refl; told = refl; hushed = exchange-hush w.control s server None true [] }
     by (Some x) there =
         let plain : Plain (exchange_on w.control s x.mirror server true x.members) = plain-exchange w.control s server x.mirror x.members in
-        record { room = room; case = λ line. on-case w.control w.events line s server true x x.mirror there refl; first = plain.first; told = plain.told; hushed = exchange-hush w.control s server x.mirror true x.members }
+        record { turn = Asked w.control s server x.mirror x.members; room = room; case = λ line. on-case w.control w.events line s server true x x.mirror there refl; first = plain.first; told = plain.told; hushed = exchange-hush w.control s server x.mirror true x.members }
 
 -- What holds of a way that has no plan, of one that has one plan, and of one that goes on, holds of the whole line.
 pub record Ways (P : World → Way → Type 0) : Type 0 where
@@ -161,20 +167,30 @@ leads = record {
 pub course-goes : (w : World) (t : Task) → Goes w (course w t).before (course w t).last.world
 course-goes w t = by (run_asked t.asked)
   where
-    by : (o : Option (ℕ × ℕ)) → Goes w (course_of w t o).before (course_of w t o).last.world
+    by : (o : Option Apart) → Goes w (course_of w t o).before (course_of w t o).last.world
     by None = Nothing w
-    by (Some asked) = way-formed Leads leads w asked.0 asked.1
+    by (Some (Groups s n)) = way-formed Leads leads w s n
+    by (Some (Volumes v u)) = Nothing w
 
 -- what a part comes to, as a plan of a step
 abbrev pub CaseOf : ℕ → Part → Type 0
 CaseOf line x = Case x.world.control x.world.events line x.plan
 
+-- a comparison, where the journal has room
+pub compared-case : (w : World) (line v u : ℕ) → Case w.control w.events line (compared w v u)
+compared-case w line v u = by (has_room w.events)
+  where
+    by : (room : Bool) → Case w.control w.events line (cond room (compare_plan w.control w.contents v u) (refuses JournalFull))
+    by true = Compares w.contents v u
+    by false = Says _
+
 pub course-case : (w : World) (t : Task) → CaseOf t.line (course w t).last
 course-case w t = by (run_asked t.asked)
   where
-    by : (o : Option (ℕ × ℕ)) → CaseOf t.line (course_of w t o).last
+    by : (o : Option Apart) → CaseOf t.line (course_of w t o).last
     by None = plan-case w.control w.events t.line t.asked
-    by (Some asked) = Says _
+    by (Some (Groups s n)) = Says _
+    by (Some (Volumes v u)) = compared-case w t.line v u
 
 in-either : {A : Type 0} (x y : A) (xs : List A) → In x (xs ++ y ∷ []) → In x xs ⊎ (x ≡ y)
 in-either x y [] (inl is) = inr is

@@ -9,10 +9,10 @@ use Rattle.dr_model.specs.Refusals.{server_off, unknown}
 use Rattle.dr_model.specs.Decisions.{decided, decision}
 use Rattle.dr_model.specs.Carry.{act, carry}
 use Rattle.dr_model.specs.Runs.{after_plan, after_task, said}
-use Rattle.dr_laws_sound.specs.RefusedSteps.{issued}
+use Rattle.dr_laws_sound.specs.RefusedSteps.{with_issued}
 use Rattle.dr_laws_sound.specs.RefusedExamples.{stopped, inhibited, writes, copies, recovers}
 
-pub write-waits : after_task stopped writes ≡ said (issued stopped 5 0 0 1 (7 ∷ [])) 9 (Refused (server_off 0))
+pub write-waits : after_task stopped writes ≡ said (with_issued stopped 5 0 0 1 (7 ∷ [])) 9 (Refused (server_off 0))
 unfolding after_plan carry
 write-waits = refl
 

@@ -16,18 +16,18 @@ use Rattle.dr_model.specs.Control.{Control, World}
 use Rattle.dr_model.specs.Relations.{Choices}
 use Rattle.dr_model.specs.Pairs.{first_state}
 use Rattle.dr_model.specs.Sessions.{Session, Mirror}
-use Rattle.dr_model.specs.Moves.{Relate, Withdraw, Resync, Reverse, Suspend, MakeSecondary, MakePrimary, DropPrimary, DropSecondary, Follow}
+use Rattle.dr_model.specs.Moves.{Relate, Withdraw, Resync, Reverse, Suspend, MakeSecondary, MakePrimary, DropPrimary, DropSecondary, Follow, TakeOver}
 use Rattle.dr_model.specs.Carry.{Make, Pass, Do, Entry, Outcome, carry, now}
 use Rattle.dr_model.specs.Entries.{fields_at, is_running, relation_state, pair_state, share_server, share_size, is_no_target, is_settled}
-use Rattle.dr_model.specs.PairEntries.{are_linked, reach_refusal, differs_at, two_servers, stands_free, may_follow, leads_to, belongs_to, let_go, remove_both, may_pause, tell_paused, may_resume, follow_on, resume_on}
+use Rattle.dr_model.specs.PairEntries.{are_linked, reach_refusal, differs_at, two_servers, stands_free, may_follow, leads_to, belongs_to, let_go, remove_both, may_pause, tell_paused, may_resume, follow_on, resume_on, may_take_over, leads_as, fall_back_on, yield_on, first_differing}
 use Rattle.dr_model.specs.PlanParts.{Plan, only_says, tables_plan, entries_plan, unless, on_named, on_owner, on_session}
-use Rattle.dr_model.specs.Plans.{counted_refusal, restore_refusal, left_by, member_refusal, found_volumes, found_pair, named_pair, flash_entries, withdraw_entries, make_flash_plan, remove_flash_plan, resync_flash_plan, reverse_flash_plan, copy_plan, copy_one, make_pair_plan, remove_pair_plan, pause_pair_plan, resume_pair_plan, is_defined, is_owner, differ, is_no_source, has_few_targets, is_plain_target, is_recorded_target, is_lone_restore, may_return, may_give_back, may_copy, at_most, left_to_copy}
+use Rattle.dr_model.specs.Plans.{counted_refusal, restore_refusal, left_by, member_refusal, found_volumes, found_pair, named_pair, flash_entries, withdraw_entries, make_flash_plan, remove_flash_plan, resync_flash_plan, reverse_flash_plan, copy_plan, copy_one, make_pair_plan, remove_pair_plan, pause_pair_plan, resume_pair_plan, yield_refusal, failover_plan, failback_plan, compare_plan, is_defined, is_owner, differ, is_no_source, has_few_targets, is_plain_target, is_recorded_target, is_lone_restore, may_return, may_give_back, may_copy, at_most, left_to_copy}
 use Rattle.dr_model.specs.SessionPlans.{mirror_phase, session_phase}
 use Rattle.dr_model.specs.Carried.{begun, finish, carried_out, answered}
 use Rattle.dr_model.specs.Forming.{refusal_said, part_refusal}
 use Rattle.dr_model.proofs.CarryLemmas.{carry-none}
 use Rattle.dr_laws_sound.specs.Stops.{refused_stop}
-use Rattle.dr_laws_sound.proofs.Endless.{do-goes, pass-goes, choice-goes, then-endless, last-endless, now-endless, times-endless, copy-endless}
+use Rattle.dr_laws_sound.proofs.Endless.{do-goes, pass-goes, choice-goes, then-endless, last-endless, now-endless, times-endless, copy-endless, none-endless}
 use Rattle.dr_laws_sound.proofs.ChecksFirst.{ChecksFirst, first-done, first-check, first-refuse, first-leads, follow-stays}
 
 -- a plan is refused with r, which is no stop
@@ -169,3 +169,17 @@ module _ (a b : ℕ) (k : Control) (devs : Devs) where
   still-resume kind = still-entries _ _
       (first-found devs a b _ (first-check (is_running a) _ _ (first-check (may_resume a b kind) (pair_state k a) _ (first-refuse (reach_refusal a b) _ (first-check (belongs_to a b) (pair_state k b) _
       (first-done _ (then-endless (follow_on a b) _ (λ j. do-goes _) (last-endless (resume_on a) (λ j. do-goes _)))))))))
+
+  pub still-failover : (kind : Part) → Still (failover_plan k devs a b kind)
+  still-failover kind = still-entries _ _ (first-found devs a b _ (first-check (is_running a) _ _ (first-check (may_take_over b a kind) (pair_state k a) _ (first-done _ (now-endless (TakeOver a))))))
+
+  pub still-failback : (kind : Part) → Still (failback_plan k devs a b kind)
+  still-failback kind = still-entries _ _
+      (first-found devs a b _ (first-check (is_running a) _ _ (first-refuse (reach_refusal a b) _ (first-check (leads_as a b kind) (pair_state k a) _ (first-check (leads_to b a) (pair_state k b) _
+      (first-check (is_settled b) (relation_state k b) _ (first-check (is_settled a) (relation_state k a) _ (first-refuse (yield_refusal b) _
+      (first-done _ (then-endless (fall_back_on a b) _ (λ j. do-goes _) (last-endless (yield_on b a) (λ j. do-goes _))))))))))))
+
+pub still-compare : (k : Control) (contents : ℕ → ℕ → List ℕ) (a b : ℕ) → Still (compare_plan k contents a b)
+still-compare k contents a b = still-entries _ _
+    (first-check (is_defined a) _ _ (first-check (is_defined b) _ _ (first-check (is_running a) _ _ (first-check (is_running b) _ _ (first-check (share_size a b) _ _
+    (first-refuse (differs_at (first_differing contents (k.volume a).tracks a b)) _ (first-done [] none-endless)))))))

@@ -7,7 +7,7 @@ use Rattle.dr_ids.specs.declared.refusal.Refusal.TheVariants.{OutOfOrder, Journa
 use Rattle.dr_ids.specs.declared.refusal.Kind.TheVariants.{Session as OfSession}
 use Rattle.dr_model.specs.declared.said.Said.TheVariants.{Refused}
 use Rattle.dr_model.specs.declared.step.Step.{Step}
-use Rattle.dr_model.specs.declared.step.Step.TheVariants.{Run}
+use Rattle.dr_model.specs.declared.step.Step.TheVariants.{Run, Compare}
 use Rattle.dr_model.specs.Control.{World}
 use Rattle.dr_model.specs.Carry.{carry}
 use Rattle.dr_model.specs.Refusals.{unknown}
@@ -19,11 +19,11 @@ use Rattle.dr_model.specs.PlanParts.{Plan, only_says}
 use Rattle.dr_model.specs.Plans.{drain_plan, has_room, step_plan}
 use Rattle.dr_model.specs.Carried.{carried_out, said, masters_lost}
 use Rattle.dr_model.specs.Forming.{Part, Way, stays, ends, goes_on, unless_refused, after_part, part_refusal, refusal_said, part, drains, is_draining, ask, next_asked, master_in, phase_in, has_committed, still_left, turn_by, turns, most_turns, form_refusal, form_in, formed, form_said, form_answer}
-use Rattle.dr_model.specs.Runs.{Task, run}
+use Rattle.dr_model.specs.Runs.{Task, run, compared}
 use Rattle.dr_laws_sound.specs.Stops.{refused_stop}
 use Rattle.dr_laws_sound.specs.RefusedSteps.{HasFormed, Stays, Drains, Asks, DrainEnds, AskEnds, StaysRefused, RefusedStay}
 use Rattle.dr_laws_sound.proofs.ChecksFirst.{on-stays}
-use Rattle.dr_laws_sound.proofs.RefusedPlans.{Refuses, still-says, phase-accepts}
+use Rattle.dr_laws_sound.proofs.RefusedPlans.{Refuses, still-says, phase-accepts, Still, still-choice, still-compare}
 use Rattle.dr_laws_sound.proofs.RefusedWrites.{drain-left, asking-left}
 use Rattle.dr_laws_sound.proofs.RefusedSteps.{step-left, lost-stays, after-refused, one-stays}
 
@@ -134,12 +134,21 @@ run-stays w line s n r e other =
       after = after-refused x.world line p r e (ap (λ (u : World). u.control.on) same) ∙ ap (λ u. said u line (Refused r)) same;
     }
 
+-- a comparison
+compare-stays : (w : World) (line v u : ℕ) → StaysRefused w (record { line = line; asked = Ok (Compare v u) })
+compare-stays w line v u r e other =
+    let p : Plan = compared w v u in
+    let still : Still p = still-choice (has_room w.events) _ _ (still-compare w.control w.contents v u) (still-says _) in
+    let same : (carried_out w p).0 ≡ w = still w r (record { says = e; other = other }) in
+    record { left = w; leaves = refl; after = after-refused w line p r e (ap (λ (x : World). x.control.on) same) ∙ ap (λ x. said x line (Refused r)) same }
+
 -- each step
 asked-stays : (w : World) (line : ℕ) (asked : Result Step ℕ) → StaysRefused w (record { line = line; asked = asked })
 asked-stays w line (Err column) r e other =
     let x = one-stays w line (Err column) (only_says (Refused (Syntax column))) refl (still-says (Refused (Syntax column)) w) r (record { says = e; other = other }) in
     record { left = x.0; leaves = x.1.0; after = x.1.1 }
 asked-stays w line (Ok (Run s n)) r e other = run-stays w line s n r e other
+asked-stays w line (Ok (Compare v u)) r e other = compare-stays w line v u r e other
 asked-stays w line (Ok step) r e other =
     let x = one-stays w line (Ok step) (step_plan w.control w.events line step) refl (step-left w line step refl) r (record { says = e; other = other }) in
     record { left = x.0; leaves = x.1.0; after = x.1.1 }

@@ -12,7 +12,7 @@ use Rattle.dr_model.specs.declared.said.Said.TheVariants.{Refused}
 use Rattle.dr_model.specs.declared.said.Addition.TheVariants.{Alone}
 use Rattle.dr_model.specs.declared.step.Name.{Name}
 use Rattle.dr_model.specs.declared.step.Step.{Step}
-use Rattle.dr_model.specs.declared.step.Step.TheVariants.{Server, Volume, Link, Stop, StopAfter, Start, Issue, Write, Apply, Show, MakeFlash, RemoveFlash, ResyncFlash, ReverseFlash, Copy, MakePath, RemovePath, MakePair, RemovePair, PausePair, ResumePair, Drain, Expire, Freeze, Unfreeze, MakeSession, RemoveSession, AddMember, RemoveMember, MakeMirror, PauseMirror, ResumeMirror, RemoveMirror, Abort, Exchange, Recover, CommitFlash, RevertFlash, Run}
+use Rattle.dr_model.specs.declared.step.Step.TheVariants.{Server, Volume, Link, Stop, StopAfter, Start, Issue, Write, Apply, Show, MakeFlash, RemoveFlash, ResyncFlash, ReverseFlash, Copy, MakePath, RemovePath, MakePair, RemovePair, PausePair, ResumePair, Failover, Failback, Drain, Expire, Freeze, Unfreeze, MakeSession, RemoveSession, AddMember, RemoveMember, MakeMirror, PauseMirror, ResumeMirror, RemoveMirror, Abort, Exchange, Recover, CommitFlash, RevertFlash, Run}
 use Rattle.dr_model.specs.Layout.{part_of}
 use Rattle.dr_model.specs.Control.{Control, World}
 use Rattle.dr_model.specs.Sessions.{Session, session_in, lost_since, has_place_of, left, changed, paused, unmirrored, busy, in_session, not_in_session, join_refusal, make_refusal, abort_refusal}
@@ -27,10 +27,10 @@ use Rattle.dr_model.specs.Carried.{carried_out, answered, said, masters_lost, af
 use Rattle.dr_model.specs.Forming.{refusal_said, part_refusal}
 use Rattle.dr_model.specs.Runs.{run_asked}
 use Rattle.dr_facts.proofs.Sessions.{lost-none}
-use Rattle.dr_laws_sound.specs.RefusedSteps.{is_by_volume, is_off, issued, Leaves}
+use Rattle.dr_laws_sound.specs.RefusedSteps.{is_by_volume, is_off, with_issued, Leaves}
 use Rattle.dr_laws_sound.proofs.Endless.{last-endless, settle-goes, start-endless, freeze-endless, thaw-endless, expire-endless, now-endless, add-endless}
 use Rattle.dr_laws_sound.proofs.ChecksFirst.{first-done, never-leads, on-stays}
-use Rattle.dr_laws_sound.proofs.RefusedPlans.{Refuses, Still, entries-refuse, still-plan, same-begun, still-entries, still-says, still-tables, never-refused, still-choice, still-unless, still-named, still-owner, still-session, phase-accepts, still-flash, still-withdraw, still-resync, still-reverse, still-copy, still-pair, still-remove, still-pause, still-resume}
+use Rattle.dr_laws_sound.proofs.RefusedPlans.{Refuses, Still, entries-refuse, still-plan, same-begun, still-entries, still-says, still-tables, never-refused, still-choice, still-unless, still-named, still-owner, still-session, phase-accepts, still-flash, still-withdraw, still-resync, still-reverse, still-copy, still-pair, still-remove, still-pause, still-resume, still-failover, still-failback}
 use Rattle.dr_laws_sound.proofs.RefusedWrites.{says-left, write-left, applied-left, drain-left, exchange-left, recover-left}
 
 -- ---- plans that leave the world
@@ -110,6 +110,8 @@ plan-left w line (MakePair devs a b kind full) one = still-pair a b w.control de
 plan-left w line (RemovePair devs a b source_only) one = still-remove a b w.control devs source_only w
 plan-left w line (PausePair devs a b) one = still-pause a b w.control devs w
 plan-left w line (ResumePair devs a b kind) one = still-resume a b w.control devs (part_of kind) w
+plan-left w line (Failover devs b a kind) one = still-failover b a w.control devs (part_of kind) w
+plan-left w line (Failback devs x y kind) one = still-failback x y w.control devs (part_of kind) w
 plan-left w line (Drain a most) one = drain-left w a most
 plan-left w line (Expire name) one = still-named (server_named w.control (name_bytes name)) _ (λ s. still-choice (w.control.on s) _ _ (still-entries _ _ (first-done _ (expire-endless s w.control.volumes))) (still-says _)) w
 plan-left w line (Freeze devs l m) one = still-owner (owner_of w.control l) _ (λ s. still-owner (owner_of w.control m) _ (λ u. still-unless (freeze_refusal w.control devs l m s u) _ (still-entries _ _ (first-done _ (freeze-endless l m w.control.volumes))))) w
@@ -167,7 +169,7 @@ pub left-on : (w : World) (asked : Result Step ℕ) → run_asked asked ≡ None
 left-on w (Ok (Write v t offset len bytes)) one r u is = ap (λ (x : World). x.control.on) is ∙ by (is_by_volume r) (is_off r)
   where
     x : World
-    x = issued w v t offset len bytes
+    x = with_issued w v t offset len bytes
 
     by : (a b : Bool) → (cond (a || b) (cond a (dropped x (w.control.issued + 1)) x) w).control.on ≡ w.control.on
     by true b = refl

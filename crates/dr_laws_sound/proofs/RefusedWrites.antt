@@ -36,7 +36,7 @@ use Rattle.dr_model.specs.Forming.{refusal_said, part_refusal}
 use Rattle.dr_model.proofs.CarryLemmas.{onward, carry-none, carry-first, carry-skips, carry-passed, carry-refused, carry-goes, carry-append, act-drop}
 use Rattle.dr_facts.proofs.Lists.{found}
 use Rattle.dr_laws_sound.specs.Stops.{refused_stop}
-use Rattle.dr_laws_sound.specs.RefusedSteps.{is_by_volume, is_off, issued, let_go, HasSent, HasOrdered, NamedOrdered, Leaves}
+use Rattle.dr_laws_sound.specs.RefusedSteps.{is_by_volume, is_off, with_issued, let_go, HasSent, HasOrdered, NamedOrdered, Leaves}
 use Rattle.dr_laws_sound.proofs.Endless.{Endless, none-endless, pass-goes, do-goes, choice-goes, keep-goes, last-endless, then-endless, append-endless, map-endless, lands-endless, recover-endless}
 use Rattle.dr_laws_sound.proofs.ChecksFirst.{ChecksFirst, first-done, first-refuse, never-leads, blocks-leave}
 use Rattle.dr_laws_sound.proofs.RefusedPlans.{Refuses, entries-refuse, same-begun, still-says, phase-accepts}
@@ -184,13 +184,13 @@ issue-early k v t =
     (choice-early (nat_le most_pending (length k.pending)) _ None (early (over PendingWrites) refl refl) none-early)
 
 pub write-left : (w : World) (v t offset len : ℕ) (bytes : List ℕ) (r : Refusal) → Refuses w (write_plan w.control v t offset len bytes) r
-    → (carried_out w (write_plan w.control v t offset len bytes)).0 ≡ cond (is_by_volume r || is_off r) (let_go (issued w v t offset len bytes) (w.control.issued + 1) r) w
+    → (carried_out w (write_plan w.control v t offset len bytes)).0 ≡ cond (is_by_volume r || is_off r) (let_go (with_issued w v t offset len bytes) (w.control.issued + 1) r) w
 write-left w v t offset len bytes r refused =
     unless-left w (issue_refusal w.control v t) (write_done w.control v t offset len bytes) r (λ u. u ≡ cond (is_by_volume r || is_off r) (let_go x n r) w)
     (λ q e is. let early : Early r = subst Early is (issue-early w.control v t q e) in neither-chosen (let_go x n r) w (is_by_volume r) (is_off r) early.place early.on) goes refused
   where
     x : World
-    x = issued w v t offset len bytes
+    x = with_issued w v t offset len bytes
 
     n : ℕ
     n = w.control.issued + 1

@@ -29,11 +29,12 @@ use Rattle.dr_laws_attempts.proofs.Tables.{with-joined, with-left, with-mirrored
 use Rattle.dr_laws_closed.specs.Regroups.{Regroups}
 use Rattle.dr_laws_closed.specs.Silent.{AllStill}
 use Rattle.dr_laws_closed.proofs.Regroups.{regroups-same, regroups-joined, regroups-left, regroups-mirrored, regroups-paused, regroups-unmirrored, regroups-aborted, regroups-lost}
-use Rattle.dr_laws_sound.proofs.Cases.{Case, Says, DefinesServer, DefinesVolume, SetsLink, Issues, Writes, Applies, Shows, Stops, Arms, Starts, MakesFlash, RemovesFlash, ResyncsFlash, ReversesFlash, Copies, MakesPath, RemovesPath, MakesPair, RemovesPair, PausesPair, ResumesPair, Drains, Expires, Freezes, Unfreezes, MakesSession, RemovesSession, MakesMirror, PausesMirror, RemovesMirror, Aborts, AddsMember, RemovesMember, Exchanges, Recovers, Settles, added, expelled, ordered, is-new, may-issue}
+use Rattle.dr_laws_sound.proofs.Cases.{Case, Says, DefinesServer, DefinesVolume, SetsLink, Issues, Writes, Applies, Shows, Stops, Arms, Starts, MakesFlash, RemovesFlash, ResyncsFlash, ReversesFlash, Copies, MakesPath, RemovesPath, MakesPair, RemovesPair, PausesPair, ResumesPair, FailsOver, FailsBack, Compares, Drains, Expires, Freezes, Unfreezes, MakesSession, RemovesSession, MakesMirror, PausesMirror, RemovesMirror, Aborts, AddsMember, RemovesMember, Exchanges, Recovers, Settles, added, expelled, ordered, is-new, may-issue}
 use Rattle.dr_laws_sound.proofs.KeepsSound.{Along, StepHolds, RowsAt, MayDo, keeps-sound, over}
 use Rattle.dr_laws_sound.proofs.FitsFlash.{as_begun, sound-begun, along-flash, along-withdraw, along-resync, along-reverse}
 use Rattle.dr_laws_sound.proofs.FitsCopy.{along-copy}
 use Rattle.dr_laws_sound.proofs.FitsPairs.{along-pair, along-remove, along-pause, along-resume}
+use Rattle.dr_laws_sound.proofs.FitsFailover.{along-failover, along-failback, along-compare}
 use Rattle.dr_laws_sound.proofs.FitsDrain.{along-drain, suspends-after}
 use Rattle.dr_laws_sound.proofs.FitsWrites.{lands, writes-after}
 use Rattle.dr_laws_sound.proofs.FitsHolds.{freezes, thaws, lifts}
@@ -191,6 +192,9 @@ module _ (K : World → Type 0) (rider : Rider K) where
     case-rides _ (RemovesPair devs a b source_only) = entries _ _ (along-remove w s devs a b source_only)
     case-rides _ (PausesPair devs a b) = entries _ _ (along-pause w s devs a b)
     case-rides _ (ResumesPair devs a b kind) = entries _ _ (along-resume w s devs a b kind)
+    case-rides _ (FailsOver devs b a kind) = entries _ _ (along-failover w s devs b a kind)
+    case-rides _ (FailsBack devs x y kind) = entries _ _ (along-failback w s devs x y kind)
+    case-rides _ (Compares contents v u) = entries _ _ (along-compare w s contents v u)
     case-rides _ (Drains a most) =
         moves (drain_plan w.control a most) (record { ends = Sound; complete = λ v i. i; begins = sound-begun w s; entries = along-drain w s a most; follows = λ q v i. suspends-after a q v i; last = λ v i. i; turns = λ v i. regroups-same v.control.sessions }) begins (λ v e k. k)
     case-rides _ (Expires x on) = entries _ _ (lifts x w.control.volumes (as_begun w) (sound-begun w s) on)

@@ -62,7 +62,7 @@ changed w m on fuse ps es =
     }
 
 -- blank tracks are zeros already
-zeros-stay : (b : Bool) (old : List ℕ) → (b ≡ true → old ≡ zeros) → cond b zeros old ≡ old
+pub zeros-stay : (b : Bool) (old : List ℕ) → (b ≡ true → old ≡ zeros) → cond b zeros old ≡ old
 zeros-stay true old h = sym (h refl)
 zeros-stay false old h = refl
 

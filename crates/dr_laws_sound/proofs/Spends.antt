@@ -18,16 +18,16 @@ use Rattle.dr_model.specs.Moves.{Relate, Withdraw, Fetch, Resync, Reverse, Leave
 use Rattle.dr_model.specs.Carry.{Make, Entry, Outcome, carry, follow, now}
 use Rattle.dr_model.specs.Entries.{fields_at, is_running, times, on_found, lowest_missing, fetch_next, give_back, share_server, share_size, is_no_target}
 use Rattle.dr_model.specs.PairEntries.{tracks_to_send, is_copying, stands_free}
-use Rattle.dr_model.specs.Plans.{counted_refusal, restore_refusal, left_by, Plan, entries_plan, tables_plan, named_pair, is_defined, is_owner, differ, is_no_source, has_few_targets, is_plain_target, is_recorded_target, is_lone_restore, may_return, may_give_back, may_copy, at_most, left_to_copy}
+use Rattle.dr_model.specs.Plans.{counted_refusal, restore_refusal, yield_refusal, left_by, Plan, entries_plan, tables_plan, named_pair, is_defined, is_owner, differ, is_no_source, has_few_targets, is_plain_target, is_recorded_target, is_lone_restore, may_return, may_give_back, may_copy, at_most, left_to_copy}
 use Rattle.dr_model.specs.Forming.{after_part}
 use Rattle.dr_model.specs.Runs.{begun, finish, after_plan}
 use Rattle.dr_model.specs.Laws.{Sound}
 use Rattle.dr_laws_sound.specs.Limits.{IsWithin}
-use Rattle.dr_laws_sound.proofs.Cases.{Case, Says, DefinesServer, DefinesVolume, SetsLink, Issues, Writes, Applies, Shows, Stops, Arms, Starts, MakesFlash, RemovesFlash, ResyncsFlash, ReversesFlash, Copies, MakesPath, RemovesPath, MakesPair, RemovesPair, PausesPair, ResumesPair, Drains, Expires, Freezes, Unfreezes, MakesSession, RemovesSession, MakesMirror, PausesMirror, RemovesMirror, Aborts, AddsMember, RemovesMember, Exchanges, Recovers, Settles}
+use Rattle.dr_laws_sound.proofs.Cases.{Case, Says, DefinesServer, DefinesVolume, SetsLink, Issues, Writes, Applies, Shows, Stops, Arms, Starts, MakesFlash, RemovesFlash, ResyncsFlash, ReversesFlash, Copies, MakesPath, RemovesPath, MakesPair, RemovesPair, PausesPair, ResumesPair, FailsOver, FailsBack, Compares, Drains, Expires, Freezes, Unfreezes, MakesSession, RemovesSession, MakesMirror, PausesMirror, RemovesMirror, Aborts, AddsMember, RemovesMember, Exchanges, Recovers, Settles}
 use Rattle.dr_facts.proofs.Sets.{not_removed, rest_low}
 use Rattle.dr_laws_sound.proofs.Costs.{Costs, costs-nil, costs-check, costs-last, carry-adds, Small, Light, AllLight, light-none, light-then, light-costs, small-pass, small-do}
 use Rattle.dr_laws_sound.proofs.CopyCosts.{rounds}
-use Rattle.dr_laws_sound.proofs.PairCosts.{costs-refused, sends-costs, sent-few, suspend_after-few, light-pair, light-remove, length-remove, light-pause, light-resume}
+use Rattle.dr_laws_sound.proofs.PairCosts.{costs-refused, sends-costs, sent-few, suspend_after-few, light-pair, light-remove, length-remove, light-pause, light-resume, light-failover, light-failback, light-compare}
 use Rattle.dr_model.specs.SessionPlans.{member_with}
 use Rattle.dr_laws_sessions.proofs.Members.{members-few}
 use Rattle.dr_laws_sound.proofs.SessionCosts.{add-costs, order-costs, light-settle, recover-costs}
@@ -201,6 +201,9 @@ module _ (w : World) (x : Sound w) (h : IsWithin w.control) where
   case-spends line _ (RemovesPair devs a b source_only) = entries-spends _ _ 20 (light-costs _ (light-remove w.control devs a b source_only) 20 _ (length-remove w.control devs a b source_only)) (omega arith)
   case-spends line _ (PausesPair devs a b) = entries-spends _ _ 20 (light-costs _ (light-pause w.control devs a b) 20 _ (omega arith)) (omega arith)
   case-spends line _ (ResumesPair devs a b kind) = entries-spends _ _ 20 (light-costs _ (light-resume w.control devs a b kind) 20 _ (omega arith)) (omega arith)
+  case-spends line _ (FailsOver devs b a kind) = entries-spends _ _ 20 (light-costs _ (light-failover w.control devs b a kind) 20 _ (omega arith)) (omega arith)
+  case-spends line _ (FailsBack devs v u kind) = entries-spends _ _ 20 (light-costs _ (light-failback w.control devs v u (yield_refusal u) kind) 20 _ (omega arith)) (omega arith)
+  case-spends line _ (Compares contents v u) = entries-spends _ _ 20 (light-costs _ (light-compare w.control contents v u) 20 _ (omega arith)) (omega arith)
   case-spends line _ (Drains a most) =
       let f : Fields = fields_at w.control a in
       let n : ℕ = (w.control.volume a).tracks in

@@ -24,7 +24,7 @@ use Rattle.dr_model.proofs.Images.{histories-append}
 use Rattle.dr_model.proofs.LawfulLemmas.{lawful-no_fields}
 use Rattle.dr_laws_sessions.proofs.Housed.{housed-none, housed-server}
 use Rattle.dr_laws_attempts.proofs.Volumes.{attempts-none}
-use Rattle.dr_laws_sound.proofs.Cases.{Case, Says, DefinesServer, DefinesVolume, SetsLink, Issues, Writes, Applies, Shows, Stops, Arms, Starts, MakesFlash, RemovesFlash, ResyncsFlash, ReversesFlash, Copies, MakesPath, RemovesPath, MakesPair, RemovesPair, PausesPair, ResumesPair, Drains, Expires, Freezes, Unfreezes, MakesSession, RemovesSession, MakesMirror, PausesMirror, RemovesMirror, Aborts, AddsMember, RemovesMember, Exchanges, Recovers, Settles, IsTrack, servers-left, is-new, may-issue}
+use Rattle.dr_laws_sound.proofs.Cases.{Case, Says, DefinesServer, DefinesVolume, SetsLink, Issues, Writes, Applies, Shows, Stops, Arms, Starts, MakesFlash, RemovesFlash, ResyncsFlash, ReversesFlash, Copies, MakesPath, RemovesPath, MakesPair, RemovesPair, PausesPair, ResumesPair, FailsOver, FailsBack, Compares, Drains, Expires, Freezes, Unfreezes, MakesSession, RemovesSession, MakesMirror, PausesMirror, RemovesMirror, Aborts, AddsMember, RemovesMember, Exchanges, Recovers, Settles, IsTrack, servers-left, is-new, may-issue}
 use Rattle.dr_laws_sound.proofs.Parts.{Comes, course-case, each-plan, last-plan}
 use Rattle.dr_laws_sound.proofs.KeepsQueue.{Quiet, AllQuiet, goes-off}
 use Rattle.dr_laws_sound.proofs.KeepsSound.{StepHolds, RowsAt, MayDo, holds-moves, keeps-sound, sound-told, over}
@@ -33,6 +33,7 @@ use Rattle.dr_laws_sound.proofs.Lands.{found-alone}
 use Rattle.dr_laws_sound.proofs.FitsFlash.{sound-begun, holds-entries, holds-flash, holds-withdraw, holds-resync, holds-reverse}
 use Rattle.dr_laws_sound.proofs.FitsCopy.{holds-copy}
 use Rattle.dr_laws_sound.proofs.FitsPairs.{holds-pair, holds-remove, holds-pause, holds-resume}
+use Rattle.dr_laws_sound.proofs.FitsFailover.{holds-failover, holds-failback, holds-compare}
 use Rattle.dr_laws_sound.proofs.FitsDrain.{holds-drain}
 use Rattle.dr_laws_sound.proofs.FitsWrites.{lands, writes-after}
 use Rattle.dr_laws_sound.proofs.FitsSessions.{sound-lost, holds-joined, holds-left, holds-mirrored, holds-paused, holds-unmirrored, holds-aborted, holds-orders}
@@ -134,6 +135,9 @@ module _ (w : World) (s : Sound w) (line : ℕ) where
   case-holds _ (RemovesPair devs a b source_only) = holds-remove w s devs a b source_only
   case-holds _ (PausesPair devs a b) = holds-pause w s devs a b
   case-holds _ (ResumesPair devs a b kind) = holds-resume w s devs a b kind
+  case-holds _ (FailsOver devs b a kind) = holds-failover w s devs b a kind
+  case-holds _ (FailsBack devs x y kind) = holds-failback w s devs x y kind
+  case-holds _ (Compares contents v u) = holds-compare w s contents v u
   case-holds _ (Drains a most) = holds-drain w s a most
   case-holds _ (Expires x on) = holds-expire x w s on
   case-holds _ (Freezes l m) = holds-freeze l m w s

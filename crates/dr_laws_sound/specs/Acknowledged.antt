@@ -42,18 +42,18 @@ acknowledged_by (Ok (Start name)) said = acked said
 acknowledged_by asked said = []
 
 -- write n is pending
-pub record IsPending (k : Control) (n : ℕ) : Type 0 where
+pub record IsUnlanded (k : Control) (n : ℕ) : Type 0 where
   pub waits : Pending
   pub here : In waits k.pending
   pub is : waits.w ≡ n
 
 -- what a plan answers
-abbrev pub answer_of : Part → Said
-answer_of x = answered x.plan (carried_out x.world x.plan).0.control (carried_out x.world x.plan).1
+abbrev pub part_answer : Part → Said
+part_answer x = answered x.plan (carried_out x.world x.plan).0.control (carried_out x.world x.plan).1
 
 -- what a step that begins in w answers: what its last plan does
 abbrev pub said_in : World → Task → Said
-said_in w t = answer_of (course w t).last
+said_in w t = part_answer (course w t).last
 
 -- Between the events of the steps before and the answer of a step that begins in w the journal is told of exactly the acknowledgements
 -- that the answer says. A step that answers that a write waits leaves it pending, and tells none.
@@ -61,7 +61,7 @@ pub record AcknowledgesAnswered (w : World) (t : Task) : Type 0 where
   pub told : List Event
   pub events : (after_task w t).events ≡ (w.events ++ told) ++ answer t.line (said_in w t) ∷ []
   pub acknowledged : acknowledgements told ≡ acknowledged_by t.asked (said_in w t)
-  pub held : (n : ℕ) → said_in w t ≡ Held n → IsPending (after_task w t).control n × (acknowledgements told ≡ [])
+  pub held : (n : ℕ) → said_in w t ≡ Held n → IsUnlanded (after_task w t).control n × (acknowledgements told ≡ [])
 
 -- each step of a run does
 abbrev pub AcknowledgedIsAnswered : List Task → Type 0

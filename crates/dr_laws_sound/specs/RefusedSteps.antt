@@ -36,17 +36,17 @@ abbrev pub is_off : Refusal → Bool
 is_off (ServerOff s) = true
 is_off _ = false
 
--- a write was issued: it has its number, and waits
-abbrev pub issued : World → ℕ → ℕ → ℕ → ℕ → List ℕ → World
-issued w v t offset len bytes = record w { control = with_pending v t w.control; events = w.events ++ Issue (w.control.issued + 1) v t offset len bytes ∷ [] }
+-- a write was with_issued: it has its number, and waits
+abbrev pub with_issued : World → ℕ → ℕ → ℕ → ℕ → List ℕ → World
+with_issued w v t offset len bytes = record w { control = with_pending v t w.control; events = w.events ++ Issue (w.control.issued + 1) v t offset len bytes ∷ [] }
 
 -- write n waits no more where its volume refused it, and else stays as it was
 abbrev pub let_go : World → ℕ → Refusal → World
 let_go w n r = if is_by_volume r then dropped w n else w
 
 -- entries were carried out to their end
-abbrev pub Leads : World → List Entry → World → Type 0
-Leads w entries u = carry w entries ≡ (u, None)
+abbrev pub CarriesTo : World → List Entry → World → Type 0
+CarriesTo w entries u = carry w entries ≡ (u, None)
 
 -- A drain has sent so many of its tracks, and the next one is refused with r; where that is since it can't be sent, the primary is suspended.
 pub record HasSent (w : World) (a : ℕ) (most : Option ℕ) (r : Refusal) (u : World) : Type 0 where
@@ -54,7 +54,7 @@ pub record HasSent (w : World) (a : ℕ) (most : Option ℕ) (r : Refusal) (u : 
   pub leads :
       let b : ℕ = (fields_at w.control a).primary_partner in
       let ts : List ℕ = tracks_to_send most (w.control.volume a).tracks (fields_at w.control a).out_of_sync in
-      Leads w (sends w.control.volumes a b (take tracks ts) ++ suspend_where (send_refusal a b) a ∷ []) u
+      CarriesTo w (sends w.control.volumes a b (take tracks ts) ++ suspend_where (send_refusal a b) a ∷ []) u
   pub refuses :
       let b : ℕ = (fields_at w.control a).primary_partner in
       option_or (send_refusal a b u.control) (flashed_refusal b u.control) ≡ Some r
@@ -67,7 +67,7 @@ pub record HasOrdered (w : World) (s server : ℕ) (r : Refusal) (u : World) : T
   pub order : phases.Order
   pub owed : order_of master server ≡ Some order
   pub members : ℕ
-  pub leads : Leads w (order_entries order.work s order.number (take members (members_on server (members_in (session_in w.control.sessions s))))) u
+  pub leads : CarriesTo w (order_entries order.work s order.number (take members (members_on server (members_in (session_in w.control.sessions s))))) u
   pub refuses : carry u (order_entries order.work s order.number (drop members (members_on server (members_in (session_in w.control.sessions s))))) ≡ (u, Some r)
 
 -- by the server of that name
@@ -86,17 +86,17 @@ pub data HasFormed (s : ℕ) (r : Refusal) : World → World → Type 0 where
   AskEnds : (w u : World) → (server : ℕ) → HasOrdered w s server r u → HasFormed s r w u
 
 -- a recovery has taken all secondaries over, and has done with all targets what was decided
-abbrev pub HasRecovered : World → ℕ → World → Type 0
-HasRecovered w s u = Leads w (recover_entries s (decided_in s w.control) (members_in (session_in w.control.sessions s))) u
+abbrev pub HasCarriedRecovery : World → ℕ → World → Type 0
+HasCarriedRecovery w s u = CarriesTo w (recover_entries s (decided_in s w.control) (members_in (session_in w.control.sessions s))) u
 
--- What a step that is refused so leaves of a world: of a write that its number is issued, but not where it is refused before; of one that its
+-- What a step that is refused so leaves of a world: of a write that its number is with_issued, but not where it is refused before; of one that its
 -- volume refuses that it waits no more; and what a drain, an order, a recovery that finds no group, and the plans of an `@run` had done.
 abbrev pub Leaves : World → Result Step ℕ → Refusal → World → Type 0
-Leaves w (Ok (Write v t offset len bytes)) r u = u ≡ (if is_by_volume r || is_off r then let_go (issued w v t offset len bytes) (w.control.issued + 1) r else w)
+Leaves w (Ok (Write v t offset len bytes)) r u = u ≡ (if is_by_volume r || is_off r then let_go (with_issued w v t offset len bytes) (w.control.issued + 1) r else w)
 Leaves w (Ok (Apply n)) r u = u ≡ let_go w n r
 Leaves w (Ok (Drain a most)) r u = (u ≡ w) ⊎ HasSent w a most r u
 Leaves w (Ok (Exchange s name reply)) r u = (u ≡ w) ⊎ NamedOrdered w s name r u
-Leaves w (Ok (Recover s)) (NoGroup d) u = HasRecovered w s u
+Leaves w (Ok (Recover s)) (NoGroup d) u = HasCarriedRecovery w s u
 Leaves w (Ok (Run s n)) r u = (u ≡ (formed w s n).world) × HasFormed s r w u
 Leaves w asked r u = u ≡ w
 
@@ -105,14 +105,14 @@ abbrev pub refused_by : World → Task → Option Refusal
 refused_by w t = part_refusal (course w t).last.world (course w t).last.plan
 
 -- a refused step leaves what it may, with its answer, and nothing else
-pub record IsRefused (w : World) (t : Task) (r : Refusal) : Type 0 where
+pub record LeavesItsDue (w : World) (t : Task) (r : Refusal) : Type 0 where
   pub left : World
   pub leaves : Leaves w t.asked r left
   pub after : after_task w t ≡ said left t.line (Refused r)
 
 -- so does a step where it is refused, but by the stop of a server
 abbrev pub StaysRefused : World → Task → Type 0
-StaysRefused w t = (r : Refusal) → refused_by w t ≡ Some r → refused_stop (Some r) ≡ None → IsRefused w t r
+StaysRefused w t = (r : Refusal) → refused_by w t ≡ Some r → refused_stop (Some r) ≡ None → LeavesItsDue w t r
 
 -- and each step of a run
 abbrev pub RefusedStay : List Task → Type 0

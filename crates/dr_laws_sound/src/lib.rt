@@ -2,15 +2,28 @@
 //! by its contract.
 #![tactic(auto)]
 
-ghost use Rattle.std.specs.Prelude.{◌≡◌, ◌≢◌, ◌≤◌, ◌<◌, ℕ, Bool, List, [], ◌∷◌, Option, take, length};
+ghost use Rattle.std.specs.Prelude.{◌≡◌, ◌≢◌, ◌≤◌, ◌<◌, ℕ, Bool, true, List, [], ◌∷◌, Option, take, length};
 ghost use Rattle.dr_ids.specs.declared.refusal.Refusal.{Refusal};
 ghost use Rattle.dr_ids.specs.declared.refusal.Refusal.TheVariants as refusal;
 ghost use Rattle.dr_ids.specs.declared.refusal.Kind.TheVariants as kind;
 ghost use Rattle.dr_ids.specs.declared.refusal.Decision.TheVariants as decision;
-ghost use Rattle.dr_model.specs.Refusals.{server_off};
+ghost use Rattle.dr_model.specs.Refusals.{server_off, stopped as stopped_in};
+ghost use Rattle.dr_model.specs.Contents.{image_at};
+ghost use Rattle.dr_model.specs.Layout.{no_fields};
+ghost use Rattle.dr_model.specs.Entries.{fields_at, is_no_target};
+ghost use Rattle.dr_model.specs.Plans.{failover_plan, failback_plan, compare_plan};
+ghost use Rattle.dr_model.specs.Pairs.{is_primary_of, is_secondary_of};
+ghost use Rattle.dr_model.specs.declared.step.Devs.{Devs};
+ghost use Rattle.dr_model.specs.declared.state.Part.{Part as PairPart};
+ghost use Rattle.dr_ids.specs.declared.refusal.PairSeen.TheVariants as seen;
+ghost use Rattle.dr_model.specs.declared.state.Part.TheVariants.{Metro, Global};
+ghost use Rattle.dr_model.specs.declared.state.PairState.TheVariants.{CopyPending, Suspended as SuspendedState};
+ghost use Rattle.dr_model.specs.declared.said.Addition.TheVariants.{Alone, Counted};
 ghost use Rattle.dr_model.specs.declared.step.Step.TheVariants as step;
 ghost use Rattle.dr_model.specs.Histories.{Write};
-ghost use Rattle.dr_model.specs.Control.{World};
+ghost use Rattle.dr_model.specs.Layout.{Blocks};
+ghost use Rattle.dr_model.specs.Control.{World, Fuse};
+ghost use Rattle.dr_model.specs.Fits.{Fits};
 ghost use Rattle.dr_model.specs.Moves.{Move, Keep, Note, Fetch, target};
 ghost use Rattle.dr_model.specs.Carry.{carry};
 ghost use Rattle.dr_model.specs.Forming.{Part};
@@ -25,13 +38,16 @@ ghost use Rattle.dr_model.specs.Limits.{most_events};
 ghost use Rattle.dr_laws_sound.specs.Limits.{IsWithin};
 ghost use Rattle.dr_model.specs.declared.event.Event.TheVariants as event;
 ghost use Rattle.dr_model.specs.declared.said.Said.TheVariants as answer;
-ghost use Rattle.dr_laws_sound.specs.RefusedSteps.{StaysRefused, RefusedStay, issued};
+ghost use Rattle.dr_laws_sound.specs.RefusedSteps.{StaysRefused, RefusedStay, with_issued};
+ghost use Rattle.dr_laws_sound.specs.Turning.{TakesOver, IsTurned, Leaves, AreEqual};
+ghost use Rattle.dr_laws_sound.specs.TurnedExample.{leading, paired, parted, fused, midway, says, leaves, over, home, drains, compares};
 ghost use Rattle.dr_laws_sound.specs.RefusedExamples.{stopped, inhibited, writes, copies, recovers};
 ghost use Rattle.dr_laws_sound.specs.Acknowledged.{AcknowledgesAnswered, AcknowledgedIsAnswered};
+ghost use Rattle.dr_laws_sound.specs.Showing.{ShowsDevices};
 ghost use Rattle.dr_laws_sound.specs.Stops.{StopsTold, refused_stop};
 
 /// Every run leaves a sound world: its volumes' records fit each other, each track shows what the host writes say, and
-/// each pending write is the one that was issued. A volume has at most one part in a pair, as its primary or as its
+/// each pending write is the one that was with_issued. A volume has at most one part in a pair, as its primary or as its
 /// secondary, and is then no FlashCopy target; its partner is a volume of the same size on another server. A primary and its
 /// secondary contain the same, but on tracks that the primary records as out of sync or as changed since; so do two volumes
 /// that are primaries of each other, but on tracks that either records.
@@ -84,10 +100,51 @@ pub fn refused_steps_change_nothing()
 /// Examples: a write whose server is off has its number, and waits; one on an inhibited target has its number, and doesn't wait; a copy of a
 /// volume that isn't defined changes nothing; and a recovery that finds no group has told so.
 pub fn examples_are_refused()
-    ensures waits { after_task stopped writes ≡ said (issued stopped 5 0 0 1 (7 ∷ [])) 9 (answer.Refused (server_off 0)) }
+    ensures waits { after_task stopped writes ≡ said (with_issued stopped 5 0 0 1 (7 ∷ [])) 9 (answer.Refused (server_off 0)) }
     ensures dropped { after_task inhibited writes ≡ said (record inhibited { control = record inhibited.control { issued = 1 }; events = event.Issue 1 5 0 0 1 (7 ∷ []) ∷ [] }) 9 (answer.Refused (refusal.Inhibited (record { 0 = 5 }))) }
     ensures unknown { after_task inhibited copies ≡ said inhibited 9 (answer.Refused (refusal.Unknown kind.Volume)) }
     ensures none { after_task inhibited recovers ≡ said (record inhibited { events = event.Recovered 1 0 ∷ [] }) 9 (answer.Refused (refusal.NoGroup decision.NoMember)) }
+{}
+
+/// A failover that ends well leaves its volume a Suspended primary of the other, of the kind that it named, with nothing out of sync and no
+/// seal, and no other record and no track changed. A failback that ends well leaves the first volume the primary of the other, and that
+/// one its secondary, of one kind and in one state, Full Duplex where the kind is Metro Mirror and nothing is out of sync; the primary
+/// doesn't record, and each track in which the two differ is out of sync. Wherever a primary has nothing out of sync, and nothing
+/// changed since it began to record, and the other is its secondary, both contain the same.
+pub fn failovers_and_failbacks_turn_a_pair()
+    ensures over { (w : World) (devs : Devs) (b a : ℕ) (kind : PairPart) → Sound w → Leaves (λ u. TakesOver w u b a kind) w (failover_plan w.control devs b a kind) }
+    ensures home { (w : World) (devs : Devs) (x y : ℕ) (kind : PairPart) → Sound w → Leaves (λ u. IsTurned u x y kind) w (failback_plan w.control devs x y kind) }
+    ensures equal { (w : World) (x y : ℕ) → Sound w → is_primary_of y (fields_at w.control x) ≡ true → is_secondary_of x (fields_at w.control y) ≡ true → AreEqual w x y }
+{}
+
+/// The example of a pair that is turned round: the second site takes over, of its own kind of pair alone, and is then a Suspended primary
+/// of the first with nothing out of sync and no seal, which is told. With each a primary of the other the pair goes the other way: the
+/// second site is in Copy Pending, and the first one its secondary; before that it is refused. Where the first site's server stops
+/// between the two moves, its volume is still a primary. Then a drain of the second one finds nothing to send, although the first one
+/// has what the second hasn't: `ok 0` of a drain doesn't say that both are equal, and a comparison does.
+pub fn an_example_is_turned_round()
+    ensures over { says paired (over paired Global) ≡ answer.Done Alone }
+    ensures over_leaves { fields_at (leaves paired (over paired Global)).control 8192 ≡ leading 4096 SuspendedState }
+    ensures over_tells { (leaves paired (over paired Global)).events ≡ event.TakenOver 8192 ∷ [] }
+    ensures over_other { says paired (over paired Metro) ≡ answer.Refused (refusal.PairState (record { 0 = 8192 }) seen.TargetSuspended) }
+    ensures home { says parted (home parted Global) ≡ answer.Done Alone }
+    ensures home_leads { (fields_at (leaves parted (home parted Global)).control 8192).primary_state ≡ CopyPending }
+    ensures home_follows { fields_at (leaves parted (home parted Global)).control 4096 ≡ record no_fields { secondary = Global; secondary_state = CopyPending; secondary_partner = 8192 } }
+    ensures home_tells { (leaves parted (home parted Global)).events ≡ [] }
+    ensures home_other { says parted (home parted Metro) ≡ answer.Refused (refusal.PairState (record { 0 = 8192 }) seen.Suspended) }
+    ensures home_early { says paired (home paired Global) ≡ answer.Refused (refusal.PairState (record { 0 = 8192 }) seen.TargetSuspended) }
+    ensures stops { says fused (home fused Global) ≡ answer.Refused (stopped_in 0) }
+    ensures stops_leads { (fields_at (leaves fused (home fused Global)).control 8192).primary_state ≡ CopyPending }
+    ensures stops_leaves { fields_at (leaves fused (home fused Global)).control 4096 ≡ leading 8192 SuspendedState }
+    ensures drains { says midway (drains midway) ≡ answer.Done (Counted 0) }
+    ensures differs { says midway (compares midway) ≡ answer.Refused (refusal.NotIdentical 1) }
+{}
+
+/// A comparison changes nothing. Where neither volume is a target, its answer is the one that the host writes of the journal give.
+pub fn comparisons_go_by_host_writes()
+    ensures same { (w : World) (contents : ℕ → ℕ → List ℕ) (v u : ℕ) → (carry w (compare_plan w.control contents v u).entries).0 ≡ w }
+    ensures images { (w : World) (v u : ℕ) → Sound w → is_no_target v w.control ≡ true → is_no_target u w.control ≡ true →
+        carry w (compare_plan w.control w.contents v u).entries ≡ carry w (compare_plan w.control (image_at w.events) v u).entries }
 {}
 
 /// The acknowledgements that a step tells are exactly those that its answer says, in both directions: that of the write which a write or an
@@ -97,6 +154,12 @@ pub fn examples_are_refused()
 pub fn what_is_acknowledged_is_answered()
     ensures steps { (w : World) (t : Task) → AcknowledgesAnswered w t }
     ensures runs { (tasks : List Task) → AcknowledgedIsAnswered tasks }
+{}
+
+/// What is shown is on the devices: where a plant fits the world that a run leads to, and the run's last step shows a track and isn't
+/// refused, the bytes that it tells and answers with are those that the track reads as on the plant's devices.
+pub fn what_is_shown_is_on_the_devices()
+    ensures { (tasks : List Task) (on : ℕ → Bool) (fuse : ℕ → Option Fuse) (device : ℕ → Blocks) → Fits (run tasks) on fuse device → ShowsDevices tasks device }
 {}
 
 /// Every run stays within the limits of servers, volumes and pending writes, and of the tracks of a volume.

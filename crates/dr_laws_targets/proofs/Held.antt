@@ -3,13 +3,14 @@ use Rattle.std.proofs.Common.{ℕ, ◌≡◌, ◌⊎◌, inl, inr, refl, ap, sym
 use Rattle.std.proofs.lemmas.List.{append_assoc}
 use Rattle.dr_logic.specs.Tables.{at, at2}
 use Rattle.dr_model.specs.declared.event.Event.{Event}
-use Rattle.dr_model.specs.declared.event.Event.TheVariants.{Volume, Ack, Mirrored, Sent, Flashed, Committed, Reverted, Set, Back, Blanked}
+use Rattle.dr_model.specs.declared.event.Event.TheVariants.{Volume, Ack, Mirrored, Sent, Flashed, Reverted, Set, Back, Blanked}
 use Rattle.dr_model.specs.Histories.{Lists, Histories, joined, after_event, histories, lists}
 use Rattle.dr_model.specs.Groups.{In}
 use Rattle.dr_model.specs.HeldWrites.{IsMirrored, WasAcknowledged, WasReplaced, Replaces}
 use Rattle.dr_model.proofs.Images.{histories-push}
 use Rattle.dr_facts.proofs.Lists.{in-first, in-second, in-joined}
 use Rattle.dr_facts.proofs.Tables.{at_cases, at2_cases}
+use Rattle.dr_facts.proofs.Heard.{OfEach, OfJoined, each-event}
 use Rattle.dr_laws_cuts.proofs.Places.{snoc}
 use Rattle.dr_logic.proofs.Tables.{at2_same}
 
@@ -20,12 +21,9 @@ module _ (P : ℕ → Type 0) where
   abbrev Each : List ℕ → Type 0
   Each ws = (u : ℕ) → In u ws → P u
 
-  abbrev EachOf : Lists → Type 0
-  EachOf l = (v t : ℕ) → Each (l v t)
-
   -- of those that volumes hold, and of those that are kept aside
   abbrev EachHeld : Histories → Type 0
-  EachHeld h = EachOf h.now × EachOf h.aside
+  EachHeld h = OfEach (λ t ws. Each ws) h
 
   -- what the event writes is such
   abbrev Writes : Event → Type 0
@@ -43,27 +41,13 @@ module _ (P : ℕ → Type 0) where
       last-of u (inl is) = subst P (sym is) new
       last-of u (inr none) = absurd none
 
-  volume-at : (l : Lists) (x : ℕ) (new : ℕ → List ℕ) → EachOf l → ((t : ℕ) → Each (new t)) → EachOf (at l x new)
-  volume-at l x new old here = at_cases (λ v f. (t : ℕ) → Each (f t)) l x new here (λ v ne. old v)
-
-  track-at : (l : Lists) (x q : ℕ) (new : List ℕ) → EachOf l → Each new → EachOf (at2 l x q new)
-  track-at l x q new old here = at2_cases (λ v t ws. Each ws) l x q new here (λ v t ne. old v t)
-
-  joined-held : (h : Histories) (n : ℕ) → EachOf h.now → P n → Each (joined h n)
-  joined-held h n old new = one-more (h.now (h.write n).volume (h.write n).track) n (old (h.write n).volume (h.write n).track) new
+  joins : (h : Histories) (e : Event) → Writes e → EachHeld h → OfJoined (λ t ws. Each ws) h e
+  joins h (Ack n) new old = one-more (h.now (h.write n).volume (h.write n).track) n (old.0 (h.write n).volume (h.write n).track) new
+  joins h (Mirrored n x) new old = one-more (h.now (h.write n).volume (h.write n).track) n (old.0 (h.write n).volume (h.write n).track) new
+  joins h e new old = tt
 
   event-held : (h : Histories) (e : Event) → Writes e → EachHeld h → EachHeld (after_event h e)
-  event-held h (Volume x server tracks) new old = (volume-at h.now x (λ t. []) old.0 (λ t u i. absurd i), old.1)
-  event-held h (Ack n) new old = (track-at h.now (h.write n).volume (h.write n).track (joined h n) old.0 (joined-held h n old.0 new), old.1)
-  event-held h (Mirrored n x) new old = (track-at h.now x (h.write n).track (joined h n) old.0 (joined-held h n old.0 new), old.1)
-  event-held h (Sent x q to) new old = (track-at h.now to q (h.now x q) old.0 (old.0 x q), old.1)
-  event-held h (Flashed s n a b c) new old = (volume-at h.now c (h.now b) old.0 (old.0 b), volume-at h.aside c (h.now c) old.1 (old.0 c))
-  event-held h (Committed s n a c) new old = (old.0, volume-at h.aside c (λ t. []) old.1 (λ t u i. absurd i))
-  event-held h (Reverted s n a c) new old = (volume-at h.now c (h.aside c) old.0 (old.1 c), old.1)
-  event-held h (Set x from) new old = (volume-at h.now x (h.now from) old.0 (old.0 from), old.1)
-  event-held h (Back x q from) new old = (track-at h.now x q (h.now from q) old.0 (old.0 from q), old.1)
-  event-held h (Blanked x q) new old = (track-at h.now x q [] old.0 (λ u i. absurd i), old.1)
-  event-held h e new old = old
+  event-held h e new old = each-event (λ t ws. Each ws) (λ t u i. absurd i) h e (joins h e new old) old
 
 -- what was stored stays so, and what an event writes was stored by it
 abbrev IsHeard : List Event → ℕ → Type 0

@@ -20,7 +20,7 @@ use Rattle.dr_facts.proofs.Tables.{IsOrNot}
 use Rattle.dr_laws_closed.specs.Moments.{Standing}
 use Rattle.dr_laws_closed.specs.Closing.{Members}
 use Rattle.dr_laws_closed.specs.Regroups.{WasIn, Stays, Rests, Regroups}
-use Rattle.dr_laws_targets.specs.Counted.{Counts, CommittedAsMember, CountedIn}
+use Rattle.dr_laws_targets.specs.Counted.{CountsAsTarget, CommittedAsMember, CountedIn}
 use Rattle.dr_laws_targets.proofs.Holds.{Holds, RowHolds, AllHold, all-hold, counted-of}
 
 -- it is one of a session of that number
@@ -32,7 +32,7 @@ pub record IsIn (ss : List Session) (s : ℕ) (m : Member) : Type 0 where
 
 -- each member whose target counts is one of a session of the same number
 abbrev pub Among : Table → List Session → List Session → Type 0
-Among T ss us = Members ss (λ x m. Counts (fields T m.c.0) → IsIn us x.number m)
+Among T ss us = Members ss (λ x m. CountsAsTarget (fields T m.c.0) → IsIn us x.number m)
 
 if-counts : (write : ℕ → Write) (c : Cuts) (g l : Standing) (s a tracks : ℕ) (due aside : ℕ → List ℕ) (member revertible : Bool) (sequence previous : ℕ)
     → ((member || revertible) ≡ true → Holds write c g l s a tracks due aside member revertible sequence previous) → Holds write c g l s a tracks due aside member revertible sequence previous
@@ -76,8 +76,8 @@ module _ (ss : List Session) (once : Once (numbers ss)) (T : Table) (s : ℕ) wh
 -- members stay, or their session is Idle
 module _ (k : Control) (us : List Session) (T : Table) (same : (v : ℕ) → fields T v ≡ fields_at k v) (groups : Groups k) (law : Attempts k) (then_groups : Groups (record k { sessions = us })) (then_law : Attempts (record k { sessions = us }))
     (turn : Regroups k.sessions us) where
-  so-counts : (v : ℕ) → Counts (fields T v) → Counts (fields_at k v)
-  so-counts v counts = subst Counts (same v) counts
+  so-counts : (v : ℕ) → CountsAsTarget (fields T v) → CountsAsTarget (fields_at k v)
+  so-counts v counts = subst CountsAsTarget (same v) counts
 
   regrouped-back : Among T us k.sessions
   regrouped-back y m i here counts = by (turn y m i here)

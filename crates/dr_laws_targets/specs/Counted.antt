@@ -14,12 +14,12 @@ use Rattle.dr_laws_closed.specs.Closing.{Members, number_kept}
 use Rattle.dr_laws_targets.specs.Committeds.{committeds}
 
 -- a target counts
-abbrev pub Counts : Fields → Type 0
-Counts f = (f.member || f.revertible) ≡ true
+abbrev pub CountsAsTarget : Fields → Type 0
+CountsAsTarget f = (f.member || f.revertible) ≡ true
 
 -- each of its tracks is due to show the cut of its number
 abbrev pub ShowsCut : (ℕ → Write) → Cuts → Table → Session → Member → Type 0
-ShowsCut write c T x m = Counts (fields T m.c.0) → (t : ℕ) → t < (T m.c.0).volume.tracks → (T m.c.0).due t ≡ at_cut write c (fields T m.c.0).sequence m.a.0 t
+ShowsCut write c T x m = CountsAsTarget (fields T m.c.0) → (t : ℕ) → t < (T m.c.0).volume.tracks → (T m.c.0).due t ≡ at_cut write c (fields T m.c.0).sequence m.a.0 t
 
 -- and one that was a member's as it was flashed would show the cut of the number before, if it went back
 abbrev pub KeepsCut : (ℕ → Write) → Cuts → Table → Session → Member → Type 0
@@ -27,7 +27,7 @@ KeepsCut write c T x m = (fields T m.c.0).revertible ≡ true → (fields T m.c.
 
 -- it stands in the group of its number, and in that of the number before
 abbrev pub StandsInGroup : Standing → Table → Session → Member → Type 0
-StandsInGroup g T x m = Counts (fields T m.c.0) → g x.number (fields T m.c.0).sequence m.a.0 ≡ true
+StandsInGroup g T x m = CountsAsTarget (fields T m.c.0) → g x.number (fields T m.c.0).sequence m.a.0 ≡ true
 
 -- where a member's target may go back, its primary stands in the group of the number before, too
 abbrev pub StoodInGroup : Standing → Table → Session → Member → Type 0

@@ -1,8 +1,9 @@
 //! The text that a journal prints: one line for each answer, in order.
 //!
-//! `text_on` is the text of a journal's events from a place on, each byte of it: one line for each answer. It keeps in
-//! a `Told` what the events so far have told, the names of servers and the track shown, so that it doesn't search the
-//! journal. `text` is the same from the journal's events alone. Their one error says that there was no memory.
+//! `text_on` is the text of a journal's events from a place on, each byte of it, in a buffer that is used again: one
+//! line for each answer. It keeps in a `Heard` what the events so far have told, the names of servers and the track
+//! shown, so that it doesn't search the journal. `text` is the same from the journal's events alone. Their one error
+//! says that there was no memory.
 #![tactic(auto)]
 
 mod lines;
@@ -12,4 +13,4 @@ mod told;
 mod values;
 
 pub use lines::{text, text_on};
-pub use told::Told;
+pub use told::Heard;

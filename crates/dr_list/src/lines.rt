@@ -7,15 +7,17 @@ ghost use Rattle.dr_list.specs.Seen.{heard_seen};
 
 use crate::pieces::push_number;
 use crate::said::push_said;
-use crate::told::Told;
-use dr_model::{Event, Journal, Numbers};
+use crate::told::Heard;
+use dr_model::{AnswerNumbers, Event, Journal};
 use std::alloc::{AllocError, Global};
 
-/// The room that the text of a step takes as a rule; it grows where more is needed.
-const USUAL_BYTES: usize = 32;
-
 /// Adds the line of an answer.
-fn push_answer(out: &mut Vec<u8>, told: &Told, line: u32, says: Numbers) -> Result<(), AllocError>
+fn push_answer(
+    out: &mut Vec<u8>,
+    told: &Heard,
+    line: u32,
+    says: AnswerNumbers,
+) -> Result<(), AllocError>
     ensures { OnOk result (out.new.items ≡ out.old.items ++ line_text (heard_seen told.now) (Answer line says.code says.a says.b says.c)) }
 {
     push_number(out, line)?;
@@ -26,7 +28,7 @@ fn push_answer(out: &mut Vec<u8>, told: &Told, line: u32, says: Numbers) -> Resu
 }
 
 /// Adds the line that an event prints; most print none.
-fn push_event(out: &mut Vec<u8>, told: &Told, event: &Event) -> Result<(), AllocError>
+fn push_event(out: &mut Vec<u8>, told: &Heard, event: &Event) -> Result<(), AllocError>
     ensures { OnOk result (out.new.items ≡ out.old.items ++ line_text (heard_seen told.now) event.now) }
 {
     match event {
@@ -37,7 +39,7 @@ fn push_event(out: &mut Vec<u8>, told: &Told, event: &Event) -> Result<(), Alloc
             b,
             c,
         } => {
-            let says = Numbers {
+            let says = AnswerNumbers {
                 code: *code,
                 a: *a,
                 b: *b,
@@ -52,7 +54,7 @@ fn push_event(out: &mut Vec<u8>, told: &Told, event: &Event) -> Result<(), Alloc
 /// Adds the line that the event at a place prints, and hears the event.
 fn print_at(
     out: &mut Vec<u8>,
-    told: &mut Told,
+    told: &mut Heard,
     journal: &Journal,
     place: usize,
 ) -> Result<(), AllocError>
@@ -69,7 +71,7 @@ fn print_at(
     }
 }
 
-fn hear_at(told: &mut Told, journal: &Journal, place: usize)
+fn hear_at(told: &mut Heard, journal: &Journal, place: usize)
     ensures { heard_seen told.new ≡ heard_at (heard_seen told.old) (slice_get journal.now.events place) }
 {
     if let Some(event) = journal.event(place) {
@@ -78,7 +80,7 @@ fn hear_at(told: &mut Told, journal: &Journal, place: usize)
 }
 
 /// Hears the events of a journal from one place up to another.
-fn hear_between(told: &mut Told, journal: &Journal, from: usize, to: usize)
+fn hear_between(told: &mut Heard, journal: &Journal, from: usize, to: usize)
     ensures { heard_seen told.new ≡ fold heard (heard_seen told.old) (take (to - from) (drop from journal.now.events)) }
 {
     for i in from..to {
@@ -86,33 +88,30 @@ fn hear_between(told: &mut Told, journal: &Journal, from: usize, to: usize)
     }
 }
 
-/// The text of the events of a journal from a place on, where `told` is what those before it told; it
-/// looks at none of them. Fails where there is no memory. In either case `told` has heard all events
-/// then.
+/// Writes the text of the events of a journal from a place on into `out`, where `told` is what those before
+/// them told; it looks at none of those. What `out` held is gone. Fails where there is no memory. In either
+/// case `told` has heard all events then.
 ///
 /// Each answer gives one line: the decimal number of its script line, a space, what it says, and a line
 /// feed. No other event gives one.
 pub fn text_on(
-    alloc: Global,
-    told: &mut Told,
+    told: &mut Heard,
     journal: &Journal,
     from: usize,
-) -> Result<Vec<u8>, AllocError>
+    out: &mut Vec<u8>,
+) -> Result<(), AllocError>
     requires { from ≤ length journal.now.events }
-    ensures text { IfOk result (λ out. out.items ≡ text_from (heard_seen told.old) (drop from journal.now.events)) }
+    ensures text { OnOk result (out.new.items ≡ text_from (heard_seen told.old) (drop from journal.now.events)) }
     ensures told { heard_seen told.new ≡ fold heard (heard_seen told.old) (drop from journal.now.events) }
 {
-    let Ok(mut out) = Vec::with_capacity(alloc, USUAL_BYTES) else {
-        hear_between(told, journal, from, journal.len());
-        return Err(AllocError);
-    };
+    out.clear();
     for i in from..journal.len() {
-        let Ok(()) = print_at(&mut out, told, journal, i) else {
+        let Ok(()) = print_at(out, told, journal, i) else {
             hear_between(told, journal, i + 1, journal.len());
             return Err(AllocError);
         };
     }
-    Ok(out)
+    Ok(())
 }
 
 /// The text of the events of a journal from a place on, with the names and the shown track that the
@@ -122,7 +121,9 @@ pub fn text(alloc: Global, journal: &Journal, from: usize) -> Result<Vec<u8>, Al
     requires { from ≤ length journal.now.events }
     ensures { IfOk result (λ out. out.items ≡ text_from (fold heard untold (take from journal.now.events)) (drop from journal.now.events)) }
 {
-    let mut told = Told::new();
+    let mut told = Heard::new();
+    let mut out = Vec::new(alloc);
     hear_between(&mut told, journal, 0, from);
-    text_on(alloc, &mut told, journal, from)
+    text_on(&mut told, journal, from, &mut out)?;
+    Ok(out)
 }

@@ -6,9 +6,9 @@ ghost use Rattle.dr_model.specs.Text.{one_number, two_numbers, decision_text, gr
 ghost use Rattle.dr_list.specs.Seen.{heard_seen};
 
 use crate::pieces::{push_count, push_number, push_session, push_track, push_volume, push_word};
-use crate::told::Told;
+use crate::told::Heard;
 use crate::values::{kind_word, limit_word, pair_words, phase_word, refusal_words, relation_word};
-use dr_model::Numbers;
+use dr_model::AnswerNumbers;
 use std::alloc::AllocError;
 
 fn push_one(out: &mut Vec<u8>, a: u32) -> Result<(), AllocError>
@@ -82,7 +82,7 @@ fn push_group(out: &mut Vec<u8>, place: u32, group: u32, n: u32) -> Result<(), A
 /// Adds what an ok adds, by its kind and its numbers.
 fn push_addition(
     out: &mut Vec<u8>,
-    told: &Told,
+    told: &Heard,
     kind: u32,
     a: u32,
     b: u32,
@@ -113,7 +113,7 @@ fn push_addition(
 }
 
 /// Adds the names of two servers, the lower numbered first.
-fn push_link(out: &mut Vec<u8>, told: &Told, a: u32, b: u32) -> Result<(), AllocError>
+fn push_link(out: &mut Vec<u8>, told: &Heard, a: u32, b: u32) -> Result<(), AllocError>
     ensures { OnOk result (out.new.items ≡ out.old.items ++ link_text (heard_seen told.now) a b) }
 {
     let (low, high) = (a.min(b), a.max(b));
@@ -122,7 +122,7 @@ fn push_link(out: &mut Vec<u8>, told: &Told, a: u32, b: u32) -> Result<(), Alloc
 }
 
 /// Adds what a refusal says of its numbers.
-fn push_values(out: &mut Vec<u8>, told: &Told, of: Numbers) -> Result<(), AllocError>
+fn push_values(out: &mut Vec<u8>, told: &Heard, of: AnswerNumbers) -> Result<(), AllocError>
     ensures { OnOk result (out.new.items ≡ out.old.items ++ refusal_values (heard_seen told.now) of.code of.a of.b of.c) }
 {
     match of.code {
@@ -163,7 +163,11 @@ fn push_values(out: &mut Vec<u8>, told: &Told, of: Numbers) -> Result<(), AllocE
 }
 
 /// Adds what an answer says.
-pub(crate) fn push_said(out: &mut Vec<u8>, told: &Told, of: Numbers) -> Result<(), AllocError>
+pub(crate) fn push_said(
+    out: &mut Vec<u8>,
+    told: &Heard,
+    of: AnswerNumbers,
+) -> Result<(), AllocError>
     ensures { OnOk result (out.new.items ≡ out.old.items ++ said_text (heard_seen told.now) of.code of.a of.b of.c) }
 {
     match of.code {

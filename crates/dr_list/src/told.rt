@@ -11,7 +11,7 @@ use dr_model::{Event, Name};
 /// What the events of a journal told so far, as far as answers print it: the first name of each server,
 /// and the track that the step at hand has shown.
 #[derive(Drop)]
-pub struct Told {
+pub struct Heard {
     names: [Option<Name>; 256],
     shown: [u8; 64],
 }
@@ -59,13 +59,13 @@ fn keep_shown(shown: &mut [u8; 64], event: &Event)
     }
 }
 
-impl Told {
+impl Heard {
     /// What no event tells: no server has a name, and a track of zeros is shown.
     #[tactic(auto, unfolding(crate::specs::Seen::heard_seen))]
-    pub fn new() -> Told
+    pub fn new() -> Heard
         ensures { heard_seen result ≡ untold }
     {
-        Told {
+        Heard {
             names: no_names(),
             shown: zero_track(),
         }

@@ -13,7 +13,7 @@ use Rattle.dr_model.specs.ReadStops.{shut, Ends}
 use Rattle.dr_volume.specs.View.{Rest, world, volume_seen, device_of, IsSettled}
 use Rattle.dr_volume.specs.Update.{IsAsBefore, IsMoved, OthersStay, EndsAs, after_reading}
 use Rattle.dr_volume.proofs.UnreadLaws.{armed-of}
-use Rattle.dr_host.specs.Writes.{Writes, Each}
+use Rattle.dr_host.specs.Writes.{Writes, EachPending}
 use Rattle.dr_flash.specs.Here.{IsAtRest, armed_in}
 use Rattle.dr_flash.proofs.ReadLemmas.{is-armed, left-unread}
 use Rattle.dr_metro.specs.Here.{IsTold}
@@ -43,4 +43,4 @@ lands-updated s server w u b e low ends =
 -- entries that ended so issued no write
 pub told-through : (armed : ℕ → Bool) (h : Writes) (w u : World) (ds : List Entry) (r : Option Refusal) → Ends armed u r w ds → IsTold h w.events → IsTold h u.events
 told-through armed h w u ds r ends told =
-    subst (λ write. Each (IsWrite write) h.pending) (sym (unissued armed u r w ds ends)) told
+    subst (λ write. EachPending (IsWrite write) h.pending) (sym (unissued armed u r w ds ends)) told

@@ -1,6 +1,6 @@
 -- The host's pending writes are those that the journal tells of, also after more events.
 use Rattle.std.proofs.Common.{ℕ, ◌≡◌, List, [], ◌∷◌, ◌++◌, refl, ap, ◌∙◌, sym, subst, Bool, true, false, cond}
-use Rattle.dr_host.specs.Writes.{Writes, Each, bytes_of, without, with_marked}
+use Rattle.dr_host.specs.Writes.{Writes, EachPending, bytes_of, without, with_marked}
 use Rattle.dr_host.specs.declared.pending.Pending.{Pending}
 use Rattle.dr_host.proofs.Each.{each-marked, each-without}
 use Rattle.dr_model.specs.declared.event.Event.{Event}
@@ -18,7 +18,7 @@ IsWrite write p = write (p.w.0) ≡ record { volume = p.volume.0; track = p.trac
 -- an event that issues no write
 pub told-push : (h : Writes) (ev now : List Event) (e : Event) → ((x : Histories) → (after_event x e).write ≡ x.write) → now ≡ ev ++ e ∷ [] → IsTold h ev → IsTold h now
 told-push h ev now e calm told is =
-    subst (λ write. Each (IsWrite write) h.pending) (sym (ap (λ es. (histories es).write) told ∙ ap (λ (x : Histories). x.write) (histories-push ev e) ∙ calm (histories ev))) is
+    subst (λ write. EachPending (IsWrite write) h.pending) (sym (ap (λ es. (histories es).write) told ∙ ap (λ (x : Histories). x.write) (histories-push ev e) ∙ calm (histories ev))) is
 
 -- a write that is acknowledged
 pub told-acked : (h h' : Writes) (ev now : List Event) (n : ℕ) → h' ≡ without h n → now ≡ ev ++ Ack n ∷ [] → IsTold h ev → IsTold h' now

@@ -8,7 +8,7 @@ use Rattle.dr_model.specs.Histories.{histories}
 use Rattle.dr_model.specs.Sessions.{Session}
 use Rattle.dr_volume.specs.View.{Rest, world, ReadsPass}
 use Rattle.dr_flash.specs.Here.{IsAtRest}
-use Rattle.dr_host.specs.Writes.{Writes, Each, bytes_of}
+use Rattle.dr_host.specs.Writes.{Writes, EachPending, bytes_of}
 use Rattle.dr_host.specs.Seen.{pending_seen}
 use Rattle.dr_host.specs.declared.pending.Pending.{Pending}
 
@@ -23,7 +23,7 @@ here s t xs h events = world s t (rest_of xs h events)
 -- each pending write is the one that the journal tells of
 abbrev pub IsTold : Writes → List Event → Type 0
 IsTold h events =
-    Each (λ (p : Pending). (histories events).write (p.w.0) ≡ record { volume = p.volume.0; track = p.track; offset = p.offset; bytes = bytes_of p }) h.pending
+    EachPending (λ (p : Pending). (histories events).write (p.w.0) ≡ record { volume = p.volume.0; track = p.track; offset = p.offset; bytes = bytes_of p }) h.pending
 
 -- no read fuse is armed, and the host's pending writes are those of the journal
 pub record IsReady (s : PlantState) (t : ConfigTable) (h : Writes) (events : List Event) : Type 0 where

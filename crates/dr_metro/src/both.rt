@@ -16,6 +16,7 @@ ghost use Rattle.dr_model.specs.Refusals.{stopped};
 ghost use Rattle.dr_model.specs.Sessions.{Session};
 ghost use Rattle.dr_volume.specs.Update.{IsMoved, OthersStay};
 ghost use Rattle.dr_volume.specs.View.{volume_seen, track_seen};
+ghost use Rattle.dr_volume.specs.Volume.{Says};
 ghost use Rattle.dr_model.specs.declared.event.Event.TheVariants.{Ack};
 ghost use Rattle.dr_flash.specs.declared.told.Told.TheVariants.{Nothing, One};
 ghost use Rattle.dr_flash.specs.Fit.{RelationsFit};
@@ -30,7 +31,7 @@ use dr_host::Host;
 use dr_ids::{Refusal, VolumeId, WriteId};
 use dr_model::{Event, Journal};
 use dr_plant::{Block, Plant};
-use dr_volume::{peek_fields, slot};
+use dr_volume::{Fields, peek_fields, slot};
 
 /// What a write that lands tells: it is acknowledged, but not where the server stops in it.
 fn telling_of(w: WriteId) -> Telling
@@ -47,48 +48,96 @@ fn telling_of(w: WriteId) -> Telling
 /// which its secondary has stored, and is out of sync no more. Fails where the server stops in the move or goes off at a
 /// read: then the write stays pending, and it has landed where the move counts as done. The journal needs room for an event.
 pub fn land_both<P: Plant>(
-    p: &mut P,
-    c: &Config,
-    j: &mut Journal,
+    plant: &mut P,
+    config: &Config,
+    journal: &mut Journal,
     h: &mut Host,
     w: WriteId,
     v: VolumeId,
     t: u16,
     bytes: &Block,
 ) -> Result<(), Refusal>
-    requires rest { IsAtRest (P.state p.old) c.now }
-    requires fit { RelationsFit (P.state p.old) c.now }
-    requires told { IsTold h.old j.old.events }
-    requires defined { IsSome (place_of c.now v.0) }
-    requires running { (P.state p.old).on (volume_seen (P.state p.old) c.now v.0).server ≡ true }
-    requires primary { is_part (volume_seen (P.state p.old) c.now v.0).fields.primary ≡ true }
-    requires within { t < (volume_seen (P.state p.old) c.now v.0).tracks }
-    requires bytes { bytes.now ≡ with_write (histories j.old.events).write (track_seen (P.state p.old) c.now v.0 t) w.0 }
+    requires rest { IsAtRest (P.state plant.old) config.now }
+    requires fit { RelationsFit (P.state plant.old) config.now }
+    requires told { IsTold h.old journal.old.events }
+    requires defined { IsSome (place_of config.now v.0) }
+    requires running { (P.state plant.old).on (volume_seen (P.state plant.old) config.now v.0).server ≡ true }
+    requires primary { is_part (volume_seen (P.state plant.old) config.now v.0).fields.primary ≡ true }
+    requires within { t < (volume_seen (P.state plant.old) config.now v.0).tracks }
+    requires bytes { bytes.now ≡ with_write (histories journal.old.events).write (track_seen (P.state plant.old) config.now v.0 t) w.0 }
     requires waits { IsSome (find (has_number w.0) h.old.pending) }
-    requires room { 1 ≤ j.old.spare }
-    ensures carried { (xs : List Session) → Ends (armed_in (P.state p.old)) (here (P.state p.new) c.now xs h.new j.new.events) (refusal_of result) (here (P.state p.old) c.now xs h.old j.old.events) (now (LandBoth w.0 v.0 t) ∷ []) }
-    ensures refused { OnErr result (refusal_of result ≡ Some (stopped (volume_seen (P.state p.old) c.now v.0).server)) }
-    ensures rest { IsAtRest (P.state p.new) c.now }
-    ensures fit { RelationsFit (P.state p.new) c.now }
-    ensures told { IsTold h.new j.new.events }
-    ensures unarmed { (q : ℕ) → (P.state p.old).read_fuse q ≡ None → (P.state p.new).read_fuse q ≡ None }
-    ensures faults { Counted (is_err result) (P.state p.old).faults (P.state p.new).faults }
-    ensures moved { OnOk result (IsMoved (P.state p.old) (P.state p.new) c.now v.0 (pairs.synced (volume_seen (P.state p.old) c.now v.0).fields t) (Some (t, bytes.now))) }
-    ensures others { OthersStay (P.state p.old) (P.state p.new) c.now v.0 }
+    requires room { 1 ≤ journal.old.spare }
+    ensures carried { (xs : List Session) → Ends (armed_in (P.state plant.old)) (here (P.state plant.new) config.now xs h.new journal.new.events) (refusal_of result) (here (P.state plant.old) config.now xs h.old journal.old.events) (now (LandBoth w.0 v.0 t) ∷ []) }
+    ensures refused { OnErr result (refusal_of result ≡ Some (stopped (volume_seen (P.state plant.old) config.now v.0).server)) }
+    ensures rest { IsAtRest (P.state plant.new) config.now }
+    ensures fit { RelationsFit (P.state plant.new) config.now }
+    ensures told { IsTold h.new journal.new.events }
+    ensures unarmed { (q : ℕ) → (P.state plant.old).read_fuse q ≡ None → (P.state plant.new).read_fuse q ≡ None }
+    ensures faults { Counted (is_err result) (P.state plant.old).faults (P.state plant.new).faults }
+    ensures moved { OnOk result (IsMoved (P.state plant.old) (P.state plant.new) config.now v.0 (pairs.synced (volume_seen (P.state plant.old) config.now v.0).fields t) (Some (t, bytes.now))) }
+    ensures others { OthersStay (P.state plant.old) (P.state plant.new) config.now v.0 }
     ensures issued { h.new.issued ≡ h.old.issued }
-    ensures room { j.old.spare ≤ j.new.spare + 1 }
-    ensures spare { length j.new.events + j.new.spare ≡ length j.old.events + j.old.spare }
+    ensures room { journal.old.spare ≤ journal.new.spare + 1 }
+    ensures spare { length journal.new.events + journal.new.spare ≡ length journal.old.events + journal.old.spare }
 {
-    let before = slot(p, c, v);
+    let fields = peek_fields(plant, config, v);
+    land_both_by(plant, config, journal, h, w, v, t, bytes, &fields)
+}
+
+/// The same by the primary's fields, which are at hand.
+pub(crate) fn land_both_by<P: Plant>(
+    plant: &mut P,
+    config: &Config,
+    journal: &mut Journal,
+    h: &mut Host,
+    w: WriteId,
+    v: VolumeId,
+    t: u16,
+    bytes: &Block,
+    fields: &Fields,
+) -> Result<(), Refusal>
+    requires rest { IsAtRest (P.state plant.old) config.now }
+    requires fit { RelationsFit (P.state plant.old) config.now }
+    requires told { IsTold h.old journal.old.events }
+    requires defined { IsSome (place_of config.now v.0) }
+    requires running { (P.state plant.old).on (volume_seen (P.state plant.old) config.now v.0).server ≡ true }
+    requires primary { is_part (volume_seen (P.state plant.old) config.now v.0).fields.primary ≡ true }
+    requires within { t < (volume_seen (P.state plant.old) config.now v.0).tracks }
+    requires bytes { bytes.now ≡ with_write (histories journal.old.events).write (track_seen (P.state plant.old) config.now v.0 t) w.0 }
+    requires waits { IsSome (find (has_number w.0) h.old.pending) }
+    requires room { 1 ≤ journal.old.spare }
+    requires says { Says (P.state plant.old) config.now v.0 fields.now }
+    ensures carried { (xs : List Session) → Ends (armed_in (P.state plant.old)) (here (P.state plant.new) config.now xs h.new journal.new.events) (refusal_of result) (here (P.state plant.old) config.now xs h.old journal.old.events) (now (LandBoth w.0 v.0 t) ∷ []) }
+    ensures refused { OnErr result (refusal_of result ≡ Some (stopped (volume_seen (P.state plant.old) config.now v.0).server)) }
+    ensures rest { IsAtRest (P.state plant.new) config.now }
+    ensures fit { RelationsFit (P.state plant.new) config.now }
+    ensures told { IsTold h.new journal.new.events }
+    ensures unarmed { (q : ℕ) → (P.state plant.old).read_fuse q ≡ None → (P.state plant.new).read_fuse q ≡ None }
+    ensures faults { Counted (is_err result) (P.state plant.old).faults (P.state plant.new).faults }
+    ensures moved { OnOk result (IsMoved (P.state plant.old) (P.state plant.new) config.now v.0 (pairs.synced (volume_seen (P.state plant.old) config.now v.0).fields t) (Some (t, bytes.now))) }
+    ensures others { OthersStay (P.state plant.old) (P.state plant.new) config.now v.0 }
+    ensures issued { h.new.issued ≡ h.old.issued }
+    ensures room { journal.old.spare ≤ journal.new.spare + 1 }
+    ensures spare { length journal.new.events + journal.new.spare ≡ length journal.old.events + journal.old.spare }
+{
+    let before = slot(plant, config, v);
     let track = *bytes;
-    let next = synced(&peek_fields(p, c, v), t);
-    match shift(p, c, j, v, &next, Some((t, track)), &telling_of(w)) {
+    let next = synced(fields, t);
+    match shift(
+        plant,
+        config,
+        journal,
+        v,
+        &next,
+        Some((t, track)),
+        &telling_of(w),
+    ) {
         Ok(()) => {
             h.finish(w);
             Ok(())
         }
         Err(stop) => {
-            let landed = slot(p, c, v) != before;
+            let landed = slot(plant, config, v) != before;
             land_if(h, w, landed);
             Err(stop)
         }

@@ -10,20 +10,21 @@ ghost use Rattle.dr_model.specs.ReadStops.{Ends};
 ghost use Rattle.dr_model.specs.Refusals.{stopped};
 ghost use Rattle.dr_model.specs.Sessions.{Session};
 ghost use Rattle.dr_volume.specs.View.{volume_seen, ids_of};
+ghost use Rattle.dr_volume.specs.Volume.{Shows};
 ghost use Rattle.dr_flash.specs.Fit.{RelationsFit};
 ghost use Rattle.dr_metro.specs.Here.{here, IsTold};
 ghost use Rattle.dr_metro.specs.Landing.{landed_on};
 ghost use Rattle.dr_flash.specs.Here.{refusal_of, armed_in, IsAtRest};
-ghost use Rattle.dr_metro.specs.Waiting.{IsPending};
+ghost use Rattle.dr_metro.specs.Waiting.{IsIssuedAs};
 
-use crate::landing::land;
+use crate::landing::land_by;
 use dr_config::Config;
 use dr_flash::copy_first;
 use dr_host::Host;
 use dr_ids::{Refusal, ServerId, VolumeId, WriteId};
 use dr_model::{Event, Journal};
 use dr_plant::Plant;
-use dr_volume::slot;
+use dr_volume::{Fields, peek_fields, slot};
 
 /// Where a host write goes.
 #[derive(Clone, Copy)]
@@ -55,7 +56,47 @@ pub fn land_write<P: Plant>(
     requires within { target.track < (volume_seen (P.state plant.old) config.now target.volume.0).tracks }
     requires fits { target.offset + length bytes.now ≤ 64 }
     requires room { 0 < journal.old.spare }
-    requires pending { IsPending host.old journal.old.events w.0 target bytes.now }
+    requires pending { IsIssuedAs host.old journal.old.events w.0 target bytes.now }
+    ensures carried { (xs : List Session) → Ends (armed_in (P.state plant.old)) (here (P.state plant.new) config.now xs host.new journal.new.events) (refusal_of result)
+        (here (P.state plant.old) config.now xs host.old journal.old.events) (land_on w.0 target.volume.0 target.track ∷ []) }
+    ensures stopped { OnErr result (refusal_of result ≡ Some (stopped target.server.0)) }
+    ensures left { OnOk result ((volume_seen (P.state plant.new) config.now target.volume.0).fields ≡ landed_on (volume_seen (P.state plant.old) config.now target.volume.0) target.track) }
+    ensures rest { IsAtRest (P.state plant.new) config.now }
+    ensures fit { RelationsFit (P.state plant.new) config.now }
+    ensures told { IsTold host.new journal.new.events }
+    ensures unarmed { (q : ℕ) → (P.state plant.old).read_fuse q ≡ None → (P.state plant.new).read_fuse q ≡ None }
+    ensures faults { Counted (is_err result) (P.state plant.old).faults (P.state plant.new).faults }
+    ensures issued { host.new.issued ≡ host.old.issued }
+    ensures room { journal.old.spare ≡ journal.new.spare + 1 }
+    ensures spare { length journal.new.events + journal.new.spare ≡ length journal.old.events + journal.old.spare }
+{
+    let fields = peek_fields(plant, config, target.volume);
+    land_write_by(plant, config, host, journal, w, target, &fields, bytes)
+}
+
+/// The same by the volume's fields, which are at hand.
+pub(crate) fn land_write_by<P: Plant>(
+    plant: &mut P,
+    config: &Config,
+    host: &mut Host,
+    journal: &mut Journal,
+    w: WriteId,
+    target: Target,
+    fields: &Fields,
+    bytes: &[u8],
+) -> Result<(), Refusal>
+    requires rest { IsAtRest (P.state plant.old) config.now }
+    requires fit { RelationsFit (P.state plant.old) config.now }
+    requires told { IsTold host.old journal.old.events }
+    requires defined { IsSome (place_of config.now target.volume.0) }
+    requires server { (volume_seen (P.state plant.old) config.now target.volume.0).server ≡ target.server.0 }
+    requires running { (P.state plant.old).on target.server.0 ≡ true }
+    requires known { target.server.0 < 8 }
+    requires within { target.track < (volume_seen (P.state plant.old) config.now target.volume.0).tracks }
+    requires fits { target.offset + length bytes.now ≤ 64 }
+    requires room { 0 < journal.old.spare }
+    requires pending { IsIssuedAs host.old journal.old.events w.0 target bytes.now }
+    requires shows { Shows (P.state plant.old) config.now target.volume.0 fields.now }
     ensures carried { (xs : List Session) → Ends (armed_in (P.state plant.old)) (here (P.state plant.new) config.now xs host.new journal.new.events) (refusal_of result)
         (here (P.state plant.old) config.now xs host.old journal.old.events) (land_on w.0 target.volume.0 target.track ∷ []) }
     ensures stopped { OnErr result (refusal_of result ≡ Some (stopped target.server.0)) }
@@ -70,10 +111,11 @@ pub fn land_write<P: Plant>(
     ensures spare { length journal.new.events + journal.new.spare ≡ length journal.old.events + journal.old.spare }
 {
     let before = slot(plant, config, target.volume);
-    match land(
+    match land_by(
         plant,
         config,
         target.volume,
+        fields,
         target.track,
         target.offset,
         bytes,
@@ -119,7 +161,7 @@ pub fn land_kept<P: Plant>(
     requires within { target.track < (volume_seen (P.state plant.old) config.now target.volume.0).tracks }
     requires fits { target.offset + length bytes.now ≤ 64 }
     requires room { length config.now.volumes + 2 ≤ journal.old.spare }
-    requires pending { IsPending host.old journal.old.events w.0 target bytes.now }
+    requires pending { IsIssuedAs host.old journal.old.events w.0 target bytes.now }
     ensures carried { (xs : List Session) → Ends (armed_in (P.state plant.old)) (here (P.state plant.new) config.now xs host.new journal.new.events) (refusal_of result)
         (here (P.state plant.old) config.now xs host.old journal.old.events) (land_alone (ids_of config.now.volumes) w.0 target.volume.0 target.track) }
     ensures stopped { OnErr result (refusal_of result ≡ Some (stopped target.server.0)) }

@@ -12,21 +12,24 @@ ghost use Rattle.dr_model.specs.ReadStops.{Ends};
 ghost use Rattle.dr_model.specs.WriteEntries.{land_mirrored};
 ghost use Rattle.dr_model.specs.Sessions.{Session};
 ghost use Rattle.dr_volume.specs.View.{volume_seen, track_seen, ids_of};
+ghost use Rattle.dr_volume.specs.Volume.{Says};
 ghost use Rattle.dr_flash.specs.Checks.{is_stop};
 ghost use Rattle.dr_flash.specs.Fit.{RelationsFit};
 ghost use Rattle.dr_flash.specs.Here.{refusal_of, armed_in, IsAtRest};
 ghost use Rattle.dr_metro.specs.Here.{here, IsTold};
 ghost use Rattle.dr_metro.specs.Mirroring.{settle_entries, store_entries, mirror_entries};
 
-use crate::both::land_both;
+use crate::both::land_both_by;
 use crate::landing::laid;
-use crate::moves::{mirror, unsync};
+use crate::moves::{mirror, unsync_by};
+use crate::states::unsynced;
 use dr_config::Config;
 use dr_flash::{copy_first, read_told};
 use dr_host::{Host, Pending};
 use dr_ids::{Refusal, VolumeId, WriteId};
 use dr_model::Journal;
 use dr_plant::{Block, Plant};
+use dr_volume::{Fields, peek_fields};
 
 /// A host write on a track of a primary, and the secondary.
 #[derive(Clone, Copy)]
@@ -39,117 +42,127 @@ pub(crate) struct Route {
 
 /// The targets of a primary keep the track, and the write lands, which its secondary has stored.
 fn keep_and_land<P: Plant>(
-    p: &mut P,
-    c: &Config,
-    j: &mut Journal,
+    plant: &mut P,
+    config: &Config,
+    journal: &mut Journal,
     h: &mut Host,
     m: Route,
     bytes: &Block,
+    fields: &Fields,
 ) -> Result<(), Refusal>
-    requires rest { IsAtRest (P.state p.old) c.now }
-    requires fit { RelationsFit (P.state p.old) c.now }
-    requires told { IsTold h.old j.old.events }
-    requires from { IsSome (place_of c.now m.from.0) }
-    requires running { (P.state p.old).on (volume_seen (P.state p.old) c.now m.from.0).server ≡ true }
-    requires primary { is_part (volume_seen (P.state p.old) c.now m.from.0).fields.primary ≡ true }
-    requires two_servers { (volume_seen (P.state p.old) c.now m.from.0).server ≢ (volume_seen (P.state p.old) c.now m.to.0).server }
-    requires within { m.track < (volume_seen (P.state p.old) c.now m.from.0).tracks }
-    requires bytes { bytes.now ≡ with_write (histories j.old.events).write (track_seen (P.state p.old) c.now m.from.0 m.track) m.write.0 }
-    requires stored { track_seen (P.state p.old) c.now m.to.0 m.track ≡ bytes.now }
+    requires rest { IsAtRest (P.state plant.old) config.now }
+    requires fit { RelationsFit (P.state plant.old) config.now }
+    requires told { IsTold h.old journal.old.events }
+    requires from { IsSome (place_of config.now m.from.0) }
+    requires running { (P.state plant.old).on (volume_seen (P.state plant.old) config.now m.from.0).server ≡ true }
+    requires primary { is_part (volume_seen (P.state plant.old) config.now m.from.0).fields.primary ≡ true }
+    requires two_servers { (volume_seen (P.state plant.old) config.now m.from.0).server ≢ (volume_seen (P.state plant.old) config.now m.to.0).server }
+    requires within { m.track < (volume_seen (P.state plant.old) config.now m.from.0).tracks }
+    requires bytes { bytes.now ≡ with_write (histories journal.old.events).write (track_seen (P.state plant.old) config.now m.from.0 m.track) m.write.0 }
+    requires stored { track_seen (P.state plant.old) config.now m.to.0 m.track ≡ bytes.now }
     requires waits { IsSome (find (has_number m.write.0) h.old.pending) }
-    requires room { length c.now.volumes + 1 ≤ j.old.spare }
-    ensures carried { (xs : List Session) → Ends (armed_in (P.state p.old)) (here (P.state p.new) c.now xs h.new j.new.events) (refusal_of result) (here (P.state p.old) c.now xs h.old j.old.events) (settle_entries (ids_of c.now.volumes) m.write.0 m.from.0 m.track) }
+    requires room { length config.now.volumes + 1 ≤ journal.old.spare }
+    requires says { Says (P.state plant.old) config.now m.from.0 fields.now }
+    ensures carried { (xs : List Session) → Ends (armed_in (P.state plant.old)) (here (P.state plant.new) config.now xs h.new journal.new.events) (refusal_of result) (here (P.state plant.old) config.now xs h.old journal.old.events) (settle_entries (ids_of config.now.volumes) m.write.0 m.from.0 m.track) }
     ensures stops { OnErr result (is_stop (refusal_of result) ≡ true) }
-    ensures equal { OnOk result (track_seen (P.state p.new) c.now m.to.0 m.track ≡ track_seen (P.state p.new) c.now m.from.0 m.track) }
-    ensures rest { IsAtRest (P.state p.new) c.now }
-    ensures fit { RelationsFit (P.state p.new) c.now }
-    ensures told { IsTold h.new j.new.events }
-    ensures unarmed { (q : ℕ) → (P.state p.old).read_fuse q ≡ None → (P.state p.new).read_fuse q ≡ None }
-    ensures faults { Counted (is_err result) (P.state p.old).faults (P.state p.new).faults }
+    ensures equal { OnOk result (track_seen (P.state plant.new) config.now m.to.0 m.track ≡ track_seen (P.state plant.new) config.now m.from.0 m.track) }
+    ensures rest { IsAtRest (P.state plant.new) config.now }
+    ensures fit { RelationsFit (P.state plant.new) config.now }
+    ensures told { IsTold h.new journal.new.events }
+    ensures unarmed { (q : ℕ) → (P.state plant.old).read_fuse q ≡ None → (P.state plant.new).read_fuse q ≡ None }
+    ensures faults { Counted (is_err result) (P.state plant.old).faults (P.state plant.new).faults }
     ensures issued { h.new.issued ≡ h.old.issued }
-    ensures room { j.old.spare ≤ j.new.spare + (length c.now.volumes + 1) }
-    ensures spare { length j.new.events + j.new.spare ≡ length j.old.events + j.old.spare }
+    ensures room { journal.old.spare ≤ journal.new.spare + (length config.now.volumes + 1) }
+    ensures spare { length journal.new.events + journal.new.spare ≡ length journal.old.events + journal.old.spare }
 {
-    copy_first(p, c, j, m.from, m.track)?;
-    land_both(p, c, j, h, m.write, m.from, m.track, bytes)
+    copy_first(plant, config, journal, m.from, m.track)?;
+    land_both_by(
+        plant, config, journal, h, m.write, m.from, m.track, bytes, fields,
+    )
 }
 
 /// The same, behind the store of the secondary.
 fn store_and_land<P: Plant>(
-    p: &mut P,
-    c: &Config,
-    j: &mut Journal,
+    plant: &mut P,
+    config: &Config,
+    journal: &mut Journal,
     h: &mut Host,
     m: Route,
     bytes: &Block,
+    fields: &Fields,
 ) -> Result<(), Refusal>
-    requires rest { IsAtRest (P.state p.old) c.now }
-    requires fit { RelationsFit (P.state p.old) c.now }
-    requires told { IsTold h.old j.old.events }
-    requires from { IsSome (place_of c.now m.from.0) }
-    requires to { IsSome (place_of c.now m.to.0) }
-    requires running { (P.state p.old).on (volume_seen (P.state p.old) c.now m.from.0).server ≡ true }
-    requires reached { (P.state p.old).on (volume_seen (P.state p.old) c.now m.to.0).server ≡ true }
-    requires primary { is_part (volume_seen (P.state p.old) c.now m.from.0).fields.primary ≡ true }
-    requires two_servers { (volume_seen (P.state p.old) c.now m.from.0).server ≢ (volume_seen (P.state p.old) c.now m.to.0).server }
-    requires within { m.track < (volume_seen (P.state p.old) c.now m.from.0).tracks }
-    requires size { (volume_seen (P.state p.old) c.now m.to.0).tracks ≡ (volume_seen (P.state p.old) c.now m.from.0).tracks }
-    requires bytes { bytes.now ≡ with_write (histories j.old.events).write (track_seen (P.state p.old) c.now m.from.0 m.track) m.write.0 }
+    requires rest { IsAtRest (P.state plant.old) config.now }
+    requires fit { RelationsFit (P.state plant.old) config.now }
+    requires told { IsTold h.old journal.old.events }
+    requires from { IsSome (place_of config.now m.from.0) }
+    requires to { IsSome (place_of config.now m.to.0) }
+    requires running { (P.state plant.old).on (volume_seen (P.state plant.old) config.now m.from.0).server ≡ true }
+    requires reached { (P.state plant.old).on (volume_seen (P.state plant.old) config.now m.to.0).server ≡ true }
+    requires primary { is_part (volume_seen (P.state plant.old) config.now m.from.0).fields.primary ≡ true }
+    requires two_servers { (volume_seen (P.state plant.old) config.now m.from.0).server ≢ (volume_seen (P.state plant.old) config.now m.to.0).server }
+    requires within { m.track < (volume_seen (P.state plant.old) config.now m.from.0).tracks }
+    requires size { (volume_seen (P.state plant.old) config.now m.to.0).tracks ≡ (volume_seen (P.state plant.old) config.now m.from.0).tracks }
+    requires bytes { bytes.now ≡ with_write (histories journal.old.events).write (track_seen (P.state plant.old) config.now m.from.0 m.track) m.write.0 }
     requires waits { IsSome (find (has_number m.write.0) h.old.pending) }
-    requires room { length c.now.volumes + 2 ≤ j.old.spare }
-    ensures carried { (xs : List Session) → Ends (armed_in (P.state p.old)) (here (P.state p.new) c.now xs h.new j.new.events) (refusal_of result) (here (P.state p.old) c.now xs h.old j.old.events) (store_entries (ids_of c.now.volumes) m.write.0 m.from.0 m.track m.to.0) }
+    requires room { length config.now.volumes + 2 ≤ journal.old.spare }
+    requires says { Says (P.state plant.old) config.now m.from.0 fields.now }
+    ensures carried { (xs : List Session) → Ends (armed_in (P.state plant.old)) (here (P.state plant.new) config.now xs h.new journal.new.events) (refusal_of result) (here (P.state plant.old) config.now xs h.old journal.old.events) (store_entries (ids_of config.now.volumes) m.write.0 m.from.0 m.track m.to.0) }
     ensures stops { OnErr result (is_stop (refusal_of result) ≡ true) }
-    ensures equal { OnOk result (track_seen (P.state p.new) c.now m.to.0 m.track ≡ track_seen (P.state p.new) c.now m.from.0 m.track) }
-    ensures rest { IsAtRest (P.state p.new) c.now }
-    ensures fit { RelationsFit (P.state p.new) c.now }
-    ensures told { IsTold h.new j.new.events }
-    ensures unarmed { (q : ℕ) → (P.state p.old).read_fuse q ≡ None → (P.state p.new).read_fuse q ≡ None }
-    ensures faults { Counted (is_err result) (P.state p.old).faults (P.state p.new).faults }
+    ensures equal { OnOk result (track_seen (P.state plant.new) config.now m.to.0 m.track ≡ track_seen (P.state plant.new) config.now m.from.0 m.track) }
+    ensures rest { IsAtRest (P.state plant.new) config.now }
+    ensures fit { RelationsFit (P.state plant.new) config.now }
+    ensures told { IsTold h.new journal.new.events }
+    ensures unarmed { (q : ℕ) → (P.state plant.old).read_fuse q ≡ None → (P.state plant.new).read_fuse q ≡ None }
+    ensures faults { Counted (is_err result) (P.state plant.old).faults (P.state plant.new).faults }
     ensures issued { h.new.issued ≡ h.old.issued }
-    ensures room { j.old.spare ≤ j.new.spare + (length c.now.volumes + 2) }
-    ensures spare { length j.new.events + j.new.spare ≡ length j.old.events + j.old.spare }
+    ensures room { journal.old.spare ≤ journal.new.spare + (length config.now.volumes + 2) }
+    ensures spare { length journal.new.events + journal.new.spare ≡ length journal.old.events + journal.old.spare }
 {
-    mirror(p, c, j, m.to, m.track, m.from, m.write, bytes)?;
-    keep_and_land(p, c, j, h, m, bytes)
+    mirror(
+        plant, config, journal, m.to, m.track, m.from, m.write, bytes,
+    )?;
+    keep_and_land(plant, config, journal, h, m, bytes, fields)
 }
 
 /// The same, behind what the targets of the secondary keep.
 fn mirror_kept<P: Plant>(
-    p: &mut P,
-    c: &Config,
-    j: &mut Journal,
+    plant: &mut P,
+    config: &Config,
+    journal: &mut Journal,
     h: &mut Host,
     m: Route,
     bytes: &Block,
+    fields: &Fields,
 ) -> Result<(), Refusal>
-    requires rest { IsAtRest (P.state p.old) c.now }
-    requires fit { RelationsFit (P.state p.old) c.now }
-    requires told { IsTold h.old j.old.events }
-    requires from { IsSome (place_of c.now m.from.0) }
-    requires to { IsSome (place_of c.now m.to.0) }
-    requires running { (P.state p.old).on (volume_seen (P.state p.old) c.now m.from.0).server ≡ true }
-    requires reached { (P.state p.old).on (volume_seen (P.state p.old) c.now m.to.0).server ≡ true }
-    requires primary { is_part (volume_seen (P.state p.old) c.now m.from.0).fields.primary ≡ true }
-    requires two_servers { (volume_seen (P.state p.old) c.now m.from.0).server ≢ (volume_seen (P.state p.old) c.now m.to.0).server }
-    requires within { m.track < (volume_seen (P.state p.old) c.now m.from.0).tracks }
-    requires size { (volume_seen (P.state p.old) c.now m.to.0).tracks ≡ (volume_seen (P.state p.old) c.now m.from.0).tracks }
-    requires bytes { bytes.now ≡ with_write (histories j.old.events).write (track_seen (P.state p.old) c.now m.from.0 m.track) m.write.0 }
+    requires rest { IsAtRest (P.state plant.old) config.now }
+    requires fit { RelationsFit (P.state plant.old) config.now }
+    requires told { IsTold h.old journal.old.events }
+    requires from { IsSome (place_of config.now m.from.0) }
+    requires to { IsSome (place_of config.now m.to.0) }
+    requires running { (P.state plant.old).on (volume_seen (P.state plant.old) config.now m.from.0).server ≡ true }
+    requires reached { (P.state plant.old).on (volume_seen (P.state plant.old) config.now m.to.0).server ≡ true }
+    requires primary { is_part (volume_seen (P.state plant.old) config.now m.from.0).fields.primary ≡ true }
+    requires two_servers { (volume_seen (P.state plant.old) config.now m.from.0).server ≢ (volume_seen (P.state plant.old) config.now m.to.0).server }
+    requires within { m.track < (volume_seen (P.state plant.old) config.now m.from.0).tracks }
+    requires size { (volume_seen (P.state plant.old) config.now m.to.0).tracks ≡ (volume_seen (P.state plant.old) config.now m.from.0).tracks }
+    requires bytes { bytes.now ≡ with_write (histories journal.old.events).write (track_seen (P.state plant.old) config.now m.from.0 m.track) m.write.0 }
     requires waits { IsSome (find (has_number m.write.0) h.old.pending) }
-    requires room { length c.now.volumes + (length c.now.volumes + 2) ≤ j.old.spare }
-    ensures carried { (xs : List Session) → Ends (armed_in (P.state p.old)) (here (P.state p.new) c.now xs h.new j.new.events) (refusal_of result) (here (P.state p.old) c.now xs h.old j.old.events) (mirror_entries (ids_of c.now.volumes) m.write.0 m.from.0 m.track m.to.0) }
+    requires room { length config.now.volumes + (length config.now.volumes + 2) ≤ journal.old.spare }
+    requires says { Says (P.state plant.old) config.now m.from.0 fields.now }
+    ensures carried { (xs : List Session) → Ends (armed_in (P.state plant.old)) (here (P.state plant.new) config.now xs h.new journal.new.events) (refusal_of result) (here (P.state plant.old) config.now xs h.old journal.old.events) (mirror_entries (ids_of config.now.volumes) m.write.0 m.from.0 m.track m.to.0) }
     ensures stops { OnErr result (is_stop (refusal_of result) ≡ true) }
-    ensures equal { OnOk result (track_seen (P.state p.new) c.now m.to.0 m.track ≡ track_seen (P.state p.new) c.now m.from.0 m.track) }
-    ensures rest { IsAtRest (P.state p.new) c.now }
-    ensures fit { RelationsFit (P.state p.new) c.now }
-    ensures told { IsTold h.new j.new.events }
-    ensures unarmed { (q : ℕ) → (P.state p.old).read_fuse q ≡ None → (P.state p.new).read_fuse q ≡ None }
-    ensures faults { Counted (is_err result) (P.state p.old).faults (P.state p.new).faults }
+    ensures equal { OnOk result (track_seen (P.state plant.new) config.now m.to.0 m.track ≡ track_seen (P.state plant.new) config.now m.from.0 m.track) }
+    ensures rest { IsAtRest (P.state plant.new) config.now }
+    ensures fit { RelationsFit (P.state plant.new) config.now }
+    ensures told { IsTold h.new journal.new.events }
+    ensures unarmed { (q : ℕ) → (P.state plant.old).read_fuse q ≡ None → (P.state plant.new).read_fuse q ≡ None }
+    ensures faults { Counted (is_err result) (P.state plant.old).faults (P.state plant.new).faults }
     ensures issued { h.new.issued ≡ h.old.issued }
-    ensures room { j.old.spare ≤ j.new.spare + (length c.now.volumes + (length c.now.volumes + 2)) }
-    ensures spare { length j.new.events + j.new.spare ≡ length j.old.events + j.old.spare }
+    ensures room { journal.old.spare ≤ journal.new.spare + (length config.now.volumes + (length config.now.volumes + 2)) }
+    ensures spare { length journal.new.events + journal.new.spare ≡ length journal.old.events + journal.old.spare }
 {
-    copy_first(p, c, j, m.to, m.track)?;
-    store_and_land(p, c, j, h, m, bytes)
+    copy_first(plant, config, journal, m.to, m.track)?;
+    store_and_land(plant, config, journal, h, m, bytes, fields)
 }
 
 /// The first `len` bytes of a block.
@@ -162,38 +175,40 @@ pub(crate) fn front(bytes: &Block, len: u8) -> &[u8]
 
 /// The same, behind the read of the track.
 fn read_and_mirror<P: Plant>(
-    p: &mut P,
-    c: &Config,
-    j: &mut Journal,
+    plant: &mut P,
+    config: &Config,
+    journal: &mut Journal,
     h: &mut Host,
     w: &Pending,
     u: VolumeId,
+    fields: &Fields,
 ) -> Result<(), Refusal>
-    requires rest { IsAtRest (P.state p.old) c.now }
-    requires fit { RelationsFit (P.state p.old) c.now }
-    requires told { IsTold h.old j.old.events }
-    requires from { IsSome (place_of c.now w.now.volume.0) }
-    requires to { IsSome (place_of c.now u.0) }
-    requires running { (P.state p.old).on (volume_seen (P.state p.old) c.now w.now.volume.0).server ≡ true }
-    requires reached { (P.state p.old).on (volume_seen (P.state p.old) c.now u.0).server ≡ true }
-    requires primary { is_part (volume_seen (P.state p.old) c.now w.now.volume.0).fields.primary ≡ true }
-    requires two_servers { (volume_seen (P.state p.old) c.now w.now.volume.0).server ≢ (volume_seen (P.state p.old) c.now u.0).server }
-    requires within { w.now.track < (volume_seen (P.state p.old) c.now w.now.volume.0).tracks }
-    requires size { (volume_seen (P.state p.old) c.now u.0).tracks ≡ (volume_seen (P.state p.old) c.now w.now.volume.0).tracks }
+    requires rest { IsAtRest (P.state plant.old) config.now }
+    requires fit { RelationsFit (P.state plant.old) config.now }
+    requires told { IsTold h.old journal.old.events }
+    requires from { IsSome (place_of config.now w.now.volume.0) }
+    requires to { IsSome (place_of config.now u.0) }
+    requires running { (P.state plant.old).on (volume_seen (P.state plant.old) config.now w.now.volume.0).server ≡ true }
+    requires reached { (P.state plant.old).on (volume_seen (P.state plant.old) config.now u.0).server ≡ true }
+    requires primary { is_part (volume_seen (P.state plant.old) config.now w.now.volume.0).fields.primary ≡ true }
+    requires two_servers { (volume_seen (P.state plant.old) config.now w.now.volume.0).server ≢ (volume_seen (P.state plant.old) config.now u.0).server }
+    requires within { w.now.track < (volume_seen (P.state plant.old) config.now w.now.volume.0).tracks }
+    requires size { (volume_seen (P.state plant.old) config.now u.0).tracks ≡ (volume_seen (P.state plant.old) config.now w.now.volume.0).tracks }
     requires fits { w.now.offset + w.now.len ≤ 64 }
     requires found { find (has_number w.now.w.0) h.old.pending ≡ Some w.now }
-    requires room { length c.now.volumes + (length c.now.volumes + 2) ≤ j.old.spare }
-    ensures carried { (xs : List Session) → Ends (armed_in (P.state p.old)) (here (P.state p.new) c.now xs h.new j.new.events) (refusal_of result) (here (P.state p.old) c.now xs h.old j.old.events) (mirror_entries (ids_of c.now.volumes) w.now.w.0 w.now.volume.0 w.now.track u.0) }
+    requires room { length config.now.volumes + (length config.now.volumes + 2) ≤ journal.old.spare }
+    requires says { Says (P.state plant.old) config.now w.now.volume.0 fields.now }
+    ensures carried { (xs : List Session) → Ends (armed_in (P.state plant.old)) (here (P.state plant.new) config.now xs h.new journal.new.events) (refusal_of result) (here (P.state plant.old) config.now xs h.old journal.old.events) (mirror_entries (ids_of config.now.volumes) w.now.w.0 w.now.volume.0 w.now.track u.0) }
     ensures stops { OnErr result (is_stop (refusal_of result) ≡ true) }
-    ensures equal { OnOk result (track_seen (P.state p.new) c.now u.0 w.now.track ≡ track_seen (P.state p.new) c.now w.now.volume.0 w.now.track) }
-    ensures rest { IsAtRest (P.state p.new) c.now }
-    ensures fit { RelationsFit (P.state p.new) c.now }
-    ensures told { IsTold h.new j.new.events }
-    ensures unarmed { (q : ℕ) → (P.state p.old).read_fuse q ≡ None → (P.state p.new).read_fuse q ≡ None }
-    ensures faults { Counted (is_err result) (P.state p.old).faults (P.state p.new).faults }
+    ensures equal { OnOk result (track_seen (P.state plant.new) config.now u.0 w.now.track ≡ track_seen (P.state plant.new) config.now w.now.volume.0 w.now.track) }
+    ensures rest { IsAtRest (P.state plant.new) config.now }
+    ensures fit { RelationsFit (P.state plant.new) config.now }
+    ensures told { IsTold h.new journal.new.events }
+    ensures unarmed { (q : ℕ) → (P.state plant.old).read_fuse q ≡ None → (P.state plant.new).read_fuse q ≡ None }
+    ensures faults { Counted (is_err result) (P.state plant.old).faults (P.state plant.new).faults }
     ensures issued { h.new.issued ≡ h.old.issued }
-    ensures room { j.old.spare ≤ j.new.spare + (length c.now.volumes + (length c.now.volumes + 2)) }
-    ensures spare { length j.new.events + j.new.spare ≡ length j.old.events + j.old.spare }
+    ensures room { journal.old.spare ≤ journal.new.spare + (length config.now.volumes + (length config.now.volumes + 2)) }
+    ensures spare { length journal.new.events + journal.new.spare ≡ length journal.old.events + journal.old.spare }
 {
     let m = Route {
         write: w.w,
@@ -202,9 +217,9 @@ fn read_and_mirror<P: Plant>(
         track: w.track,
     };
     let mut old = [0; 64];
-    read_told(p, c, j, w.volume, w.track, &mut old)?;
+    read_told(plant, config, journal, w.volume, w.track, &mut old)?;
     let bytes = laid(&old, w.offset, front(&w.bytes, w.len));
-    mirror_kept(p, c, j, h, m, &bytes)
+    mirror_kept(plant, config, journal, h, m, &bytes, fields)
 }
 
 /// Carries out pending write w on its volume, a primary, and on the secondary u, where both servers are on: the track is
@@ -212,39 +227,81 @@ fn read_and_mirror<P: Plant>(
 /// theirs, and the write lands and is acknowledged. Fails where a server stops in a move or goes off at a read: then the
 /// write stays pending, and what was done by then stays. The journal needs room for two events for each volume and two more.
 pub fn write_both<P: Plant>(
-    p: &mut P,
-    c: &Config,
-    j: &mut Journal,
+    plant: &mut P,
+    config: &Config,
+    journal: &mut Journal,
     h: &mut Host,
     w: &Pending,
     u: VolumeId,
 ) -> Result<(), Refusal>
-    requires rest { IsAtRest (P.state p.old) c.now }
-    requires fit { RelationsFit (P.state p.old) c.now }
-    requires told { IsTold h.old j.old.events }
-    requires from { IsSome (place_of c.now w.now.volume.0) }
-    requires to { IsSome (place_of c.now u.0) }
-    requires running { (P.state p.old).on (volume_seen (P.state p.old) c.now w.now.volume.0).server ≡ true }
-    requires reached { (P.state p.old).on (volume_seen (P.state p.old) c.now u.0).server ≡ true }
-    requires primary { is_part (volume_seen (P.state p.old) c.now w.now.volume.0).fields.primary ≡ true }
-    requires two_servers { (volume_seen (P.state p.old) c.now w.now.volume.0).server ≢ (volume_seen (P.state p.old) c.now u.0).server }
-    requires within { w.now.track < (volume_seen (P.state p.old) c.now w.now.volume.0).tracks }
-    requires size { (volume_seen (P.state p.old) c.now u.0).tracks ≡ (volume_seen (P.state p.old) c.now w.now.volume.0).tracks }
+    requires rest { IsAtRest (P.state plant.old) config.now }
+    requires fit { RelationsFit (P.state plant.old) config.now }
+    requires told { IsTold h.old journal.old.events }
+    requires from { IsSome (place_of config.now w.now.volume.0) }
+    requires to { IsSome (place_of config.now u.0) }
+    requires running { (P.state plant.old).on (volume_seen (P.state plant.old) config.now w.now.volume.0).server ≡ true }
+    requires reached { (P.state plant.old).on (volume_seen (P.state plant.old) config.now u.0).server ≡ true }
+    requires primary { is_part (volume_seen (P.state plant.old) config.now w.now.volume.0).fields.primary ≡ true }
+    requires two_servers { (volume_seen (P.state plant.old) config.now w.now.volume.0).server ≢ (volume_seen (P.state plant.old) config.now u.0).server }
+    requires within { w.now.track < (volume_seen (P.state plant.old) config.now w.now.volume.0).tracks }
+    requires size { (volume_seen (P.state plant.old) config.now u.0).tracks ≡ (volume_seen (P.state plant.old) config.now w.now.volume.0).tracks }
     requires fits { w.now.offset + w.now.len ≤ 64 }
     requires found { find (has_number w.now.w.0) h.old.pending ≡ Some w.now }
-    requires room { length c.now.volumes + (length c.now.volumes + 2) ≤ j.old.spare }
-    ensures carried { (xs : List Session) → Ends (armed_in (P.state p.old)) (here (P.state p.new) c.now xs h.new j.new.events) (refusal_of result) (here (P.state p.old) c.now xs h.old j.old.events) (land_mirrored (ids_of c.now.volumes) w.now.w.0 w.now.volume.0 w.now.track u.0) }
+    requires room { length config.now.volumes + (length config.now.volumes + 2) ≤ journal.old.spare }
+    ensures carried { (xs : List Session) → Ends (armed_in (P.state plant.old)) (here (P.state plant.new) config.now xs h.new journal.new.events) (refusal_of result) (here (P.state plant.old) config.now xs h.old journal.old.events) (land_mirrored (ids_of config.now.volumes) w.now.w.0 w.now.volume.0 w.now.track u.0) }
     ensures stops { OnErr result (is_stop (refusal_of result) ≡ true) }
-    ensures equal { OnOk result (track_seen (P.state p.new) c.now u.0 w.now.track ≡ track_seen (P.state p.new) c.now w.now.volume.0 w.now.track) }
-    ensures rest { IsAtRest (P.state p.new) c.now }
-    ensures fit { RelationsFit (P.state p.new) c.now }
-    ensures told { IsTold h.new j.new.events }
-    ensures unarmed { (q : ℕ) → (P.state p.old).read_fuse q ≡ None → (P.state p.new).read_fuse q ≡ None }
-    ensures faults { Counted (is_err result) (P.state p.old).faults (P.state p.new).faults }
+    ensures equal { OnOk result (track_seen (P.state plant.new) config.now u.0 w.now.track ≡ track_seen (P.state plant.new) config.now w.now.volume.0 w.now.track) }
+    ensures rest { IsAtRest (P.state plant.new) config.now }
+    ensures fit { RelationsFit (P.state plant.new) config.now }
+    ensures told { IsTold h.new journal.new.events }
+    ensures unarmed { (q : ℕ) → (P.state plant.old).read_fuse q ≡ None → (P.state plant.new).read_fuse q ≡ None }
+    ensures faults { Counted (is_err result) (P.state plant.old).faults (P.state plant.new).faults }
     ensures issued { h.new.issued ≡ h.old.issued }
-    ensures room { j.old.spare ≤ j.new.spare + (length c.now.volumes + (length c.now.volumes + 2)) }
-    ensures spare { length j.new.events + j.new.spare ≡ length j.old.events + j.old.spare }
+    ensures room { journal.old.spare ≤ journal.new.spare + (length config.now.volumes + (length config.now.volumes + 2)) }
+    ensures spare { length journal.new.events + journal.new.spare ≡ length journal.old.events + journal.old.spare }
 {
-    unsync(p, c, j, w.volume, w.track)?;
-    read_and_mirror(p, c, j, h, w, u)
+    let fields = peek_fields(plant, config, w.volume);
+    write_both_by(plant, config, journal, h, w, u, &fields)
+}
+
+/// The same by the primary's fields, which are at hand: what the first move leaves of them is what the last one begins with.
+pub(crate) fn write_both_by<P: Plant>(
+    plant: &mut P,
+    config: &Config,
+    journal: &mut Journal,
+    h: &mut Host,
+    w: &Pending,
+    u: VolumeId,
+    fields: &Fields,
+) -> Result<(), Refusal>
+    requires rest { IsAtRest (P.state plant.old) config.now }
+    requires fit { RelationsFit (P.state plant.old) config.now }
+    requires told { IsTold h.old journal.old.events }
+    requires from { IsSome (place_of config.now w.now.volume.0) }
+    requires to { IsSome (place_of config.now u.0) }
+    requires running { (P.state plant.old).on (volume_seen (P.state plant.old) config.now w.now.volume.0).server ≡ true }
+    requires reached { (P.state plant.old).on (volume_seen (P.state plant.old) config.now u.0).server ≡ true }
+    requires primary { is_part (volume_seen (P.state plant.old) config.now w.now.volume.0).fields.primary ≡ true }
+    requires two_servers { (volume_seen (P.state plant.old) config.now w.now.volume.0).server ≢ (volume_seen (P.state plant.old) config.now u.0).server }
+    requires within { w.now.track < (volume_seen (P.state plant.old) config.now w.now.volume.0).tracks }
+    requires size { (volume_seen (P.state plant.old) config.now u.0).tracks ≡ (volume_seen (P.state plant.old) config.now w.now.volume.0).tracks }
+    requires fits { w.now.offset + w.now.len ≤ 64 }
+    requires found { find (has_number w.now.w.0) h.old.pending ≡ Some w.now }
+    requires room { length config.now.volumes + (length config.now.volumes + 2) ≤ journal.old.spare }
+    requires says { Says (P.state plant.old) config.now w.now.volume.0 fields.now }
+    ensures carried { (xs : List Session) → Ends (armed_in (P.state plant.old)) (here (P.state plant.new) config.now xs h.new journal.new.events) (refusal_of result) (here (P.state plant.old) config.now xs h.old journal.old.events) (land_mirrored (ids_of config.now.volumes) w.now.w.0 w.now.volume.0 w.now.track u.0) }
+    ensures stops { OnErr result (is_stop (refusal_of result) ≡ true) }
+    ensures equal { OnOk result (track_seen (P.state plant.new) config.now u.0 w.now.track ≡ track_seen (P.state plant.new) config.now w.now.volume.0 w.now.track) }
+    ensures rest { IsAtRest (P.state plant.new) config.now }
+    ensures fit { RelationsFit (P.state plant.new) config.now }
+    ensures told { IsTold h.new journal.new.events }
+    ensures unarmed { (q : ℕ) → (P.state plant.old).read_fuse q ≡ None → (P.state plant.new).read_fuse q ≡ None }
+    ensures faults { Counted (is_err result) (P.state plant.old).faults (P.state plant.new).faults }
+    ensures issued { h.new.issued ≡ h.old.issued }
+    ensures room { journal.old.spare ≤ journal.new.spare + (length config.now.volumes + (length config.now.volumes + 2)) }
+    ensures spare { length journal.new.events + journal.new.spare ≡ length journal.old.events + journal.old.spare }
+{
+    let next = unsynced(fields, w.track);
+    unsync_by(plant, config, journal, w.volume, w.track, &next)?;
+    read_and_mirror(plant, config, journal, h, w, u, &next)
 }

@@ -15,9 +15,11 @@ ghost use Rattle.dr_model.specs.WriteEntries as entries;
 ghost use Rattle.dr_model.specs.WriteEntries.{land_entries, landing, waits, after_write};
 ghost use Rattle.dr_model.specs.Sessions.{Session};
 ghost use Rattle.dr_volume.specs.View.{volume_seen, ids_of};
+ghost use Rattle.dr_volume.specs.Volume.{Says, Shows};
 ghost use Rattle.dr_flash.specs.Checks.{is_stop};
 ghost use Rattle.dr_flash.specs.Fit.{RelationsFit};
 ghost use Rattle.dr_flash.specs.Here.{refusal_of, armed_in, IsAtRest};
+ghost use Rattle.dr_flash.specs.Standing.{HasNoTarget};
 ghost use Rattle.dr_gcopy.specs.Followed.{EndsFollowed};
 ghost use Rattle.dr_metro.specs.Here.{here, IsTold};
 ghost use Rattle.dr_metro.specs.Landing.{landed_on};
@@ -26,18 +28,18 @@ ghost use Rattle.dr_metro.specs.declared.sync.WriteEnd.TheVariants.{Landed};
 ghost use Rattle.dr_metro.specs.Syncing.{parted_entries, over_entries, end_of};
 
 use crate::colliding::write_collided;
-use crate::machine::{Target, land_kept};
-use crate::mirroring::{front, write_both};
+use crate::machine::{Target, land_kept, land_write_by};
+use crate::mirroring::{front, write_both_by};
 use crate::parting::{follow_write, is_grouped};
 use crate::states::{collides, goes_over};
 use dr_config::Config;
-use dr_flash::{server_of, write_refusal};
+use dr_flash::{server_of, write_refusal_by};
 use dr_gcopy::{send_refusal, suspend};
 use dr_host::{Host, Pending};
-use dr_ids::{Refusal, VolumeId};
+use dr_ids::{Refusal, ServerId, VolumeId};
 use dr_model::Journal;
 use dr_plant::Plant;
-use dr_volume::{is_held, peek_fields};
+use dr_volume::{Fields, head_by, is_held, peek_fields};
 
 /// What became of a host write that was carried out.
 #[derive(Clone, Copy)]
@@ -50,84 +52,192 @@ pub enum WriteEnd {
 
 /// Lands the write on its volume alone, whose server is on.
 pub(crate) fn write_alone<P: Plant>(
-    p: &mut P,
-    c: &Config,
-    j: &mut Journal,
+    plant: &mut P,
+    config: &Config,
+    journal: &mut Journal,
     h: &mut Host,
     w: &Pending,
 ) -> Result<WriteEnd, Refusal>
-    requires rest { IsAtRest (P.state p.old) c.now }
-    requires fit { RelationsFit (P.state p.old) c.now }
-    requires told { IsTold h.old j.old.events }
-    requires defined { IsSome (place_of c.now w.now.volume.0) }
-    requires running { (P.state p.old).on (volume_seen (P.state p.old) c.now w.now.volume.0).server ≡ true }
-    requires within { w.now.track < (volume_seen (P.state p.old) c.now w.now.volume.0).tracks }
+    requires rest { IsAtRest (P.state plant.old) config.now }
+    requires fit { RelationsFit (P.state plant.old) config.now }
+    requires told { IsTold h.old journal.old.events }
+    requires defined { IsSome (place_of config.now w.now.volume.0) }
+    requires running { (P.state plant.old).on (volume_seen (P.state plant.old) config.now w.now.volume.0).server ≡ true }
+    requires within { w.now.track < (volume_seen (P.state plant.old) config.now w.now.volume.0).tracks }
     requires fits { w.now.offset + w.now.len ≤ 64 }
     requires found { find (has_number w.now.w.0) h.old.pending ≡ Some w.now }
-    requires room { length c.now.volumes + 2 ≤ j.old.spare }
-    ensures carried { (xs : List Session) → Ends (armed_in (P.state p.old)) (here (P.state p.new) c.now xs h.new j.new.events) (refusal_of result) (here (P.state p.old) c.now xs h.old j.old.events) (land_alone (ids_of c.now.volumes) w.now.w.0 w.now.volume.0 w.now.track) }
+    requires room { length config.now.volumes + 2 ≤ journal.old.spare }
+    ensures carried { (xs : List Session) → Ends (armed_in (P.state plant.old)) (here (P.state plant.new) config.now xs h.new journal.new.events) (refusal_of result) (here (P.state plant.old) config.now xs h.old journal.old.events) (land_alone (ids_of config.now.volumes) w.now.w.0 w.now.volume.0 w.now.track) }
     ensures end { IfOk result (λ e. e ≡ Landed) }
-    ensures left { OnOk result ((volume_seen (P.state p.new) c.now w.now.volume.0).fields ≡ landed_on (volume_seen (P.state p.old) c.now w.now.volume.0) w.now.track) }
+    ensures left { OnOk result ((volume_seen (P.state plant.new) config.now w.now.volume.0).fields ≡ landed_on (volume_seen (P.state plant.old) config.now w.now.volume.0) w.now.track) }
     ensures stops { OnErr result (is_stop (refusal_of result) ≡ true) }
-    ensures rest { IsAtRest (P.state p.new) c.now }
-    ensures fit { RelationsFit (P.state p.new) c.now }
-    ensures told { IsTold h.new j.new.events }
-    ensures unarmed { (q : ℕ) → (P.state p.old).read_fuse q ≡ None → (P.state p.new).read_fuse q ≡ None }
-    ensures faults { Counted (is_err result) (P.state p.old).faults (P.state p.new).faults }
+    ensures rest { IsAtRest (P.state plant.new) config.now }
+    ensures fit { RelationsFit (P.state plant.new) config.now }
+    ensures told { IsTold h.new journal.new.events }
+    ensures unarmed { (q : ℕ) → (P.state plant.old).read_fuse q ≡ None → (P.state plant.new).read_fuse q ≡ None }
+    ensures faults { Counted (is_err result) (P.state plant.old).faults (P.state plant.new).faults }
     ensures issued { h.new.issued ≡ h.old.issued }
-    ensures room { j.old.spare ≤ j.new.spare + (length c.now.volumes + 1) }
-    ensures spare { length j.new.events + j.new.spare ≡ length j.old.events + j.old.spare }
+    ensures room { journal.old.spare ≤ journal.new.spare + (length config.now.volumes + 1) }
+    ensures spare { length journal.new.events + journal.new.spare ≡ length journal.old.events + journal.old.spare }
 {
     let target = Target {
         volume: w.volume,
-        server: server_of(c, w.volume),
+        server: server_of(config, w.volume),
         track: w.track,
         offset: w.offset,
     };
-    match land_kept(p, c, h, j, w.w, target, front(&w.bytes, w.len)) {
+    match land_kept(
+        plant,
+        config,
+        h,
+        journal,
+        w.w,
+        target,
+        front(&w.bytes, w.len),
+    ) {
         Ok(()) => Ok(WriteEnd::Landed),
         Err(stop) => Err(stop),
     }
 }
 
+/// The same where no volume is its target and its fields are at hand: no volume is looked at again.
+pub(crate) fn write_by<P: Plant>(
+    plant: &mut P,
+    config: &Config,
+    journal: &mut Journal,
+    h: &mut Host,
+    w: &Pending,
+    fields: &Fields,
+    server: ServerId,
+) -> Result<WriteEnd, Refusal>
+    requires rest { IsAtRest (P.state plant.old) config.now }
+    requires fit { RelationsFit (P.state plant.old) config.now }
+    requires told { IsTold h.old journal.old.events }
+    requires defined { IsSome (place_of config.now w.now.volume.0) }
+    requires running { (P.state plant.old).on (volume_seen (P.state plant.old) config.now w.now.volume.0).server ≡ true }
+    requires within { w.now.track < (volume_seen (P.state plant.old) config.now w.now.volume.0).tracks }
+    requires fits { w.now.offset + w.now.len ≤ 64 }
+    requires found { find (has_number w.now.w.0) h.old.pending ≡ Some w.now }
+    requires room { length config.now.volumes + 2 ≤ journal.old.spare }
+    requires server { (volume_seen (P.state plant.old) config.now w.now.volume.0).server ≡ server.0 }
+    requires known { server.0 < 8 }
+    requires shows { Shows (P.state plant.old) config.now w.now.volume.0 fields.now }
+    requires alone { HasNoTarget (P.state plant.old) config.now w.now.volume.0 }
+    ensures carried { (xs : List Session) → Ends (armed_in (P.state plant.old)) (here (P.state plant.new) config.now xs h.new journal.new.events) (refusal_of result) (here (P.state plant.old) config.now xs h.old journal.old.events) (land_alone (ids_of config.now.volumes) w.now.w.0 w.now.volume.0 w.now.track) }
+    ensures end { IfOk result (λ e. e ≡ Landed) }
+    ensures left { OnOk result ((volume_seen (P.state plant.new) config.now w.now.volume.0).fields ≡ landed_on (volume_seen (P.state plant.old) config.now w.now.volume.0) w.now.track) }
+    ensures stops { OnErr result (is_stop (refusal_of result) ≡ true) }
+    ensures rest { IsAtRest (P.state plant.new) config.now }
+    ensures fit { RelationsFit (P.state plant.new) config.now }
+    ensures told { IsTold h.new journal.new.events }
+    ensures unarmed { (q : ℕ) → (P.state plant.old).read_fuse q ≡ None → (P.state plant.new).read_fuse q ≡ None }
+    ensures faults { Counted (is_err result) (P.state plant.old).faults (P.state plant.new).faults }
+    ensures issued { h.new.issued ≡ h.old.issued }
+    ensures room { journal.old.spare ≤ journal.new.spare + (length config.now.volumes + 1) }
+    ensures spare { length journal.new.events + journal.new.spare ≡ length journal.old.events + journal.old.spare }
+{
+    let target = Target {
+        volume: w.volume,
+        server,
+        track: w.track,
+        offset: w.offset,
+    };
+    match land_write_by(
+        plant,
+        config,
+        h,
+        journal,
+        w.w,
+        target,
+        fields,
+        front(&w.bytes, w.len),
+    ) {
+        Ok(()) => Ok(WriteEnd::Landed),
+        Err(stop) => Err(stop),
+    }
+}
+
+/// The same with the volume's fields at hand, and whether a volume was found that is its target.
+fn write_here<P: Plant>(
+    plant: &mut P,
+    config: &Config,
+    journal: &mut Journal,
+    h: &mut Host,
+    w: &Pending,
+    fields: &Fields,
+    server: ServerId,
+    found: bool,
+) -> Result<WriteEnd, Refusal>
+    requires rest { IsAtRest (P.state plant.old) config.now }
+    requires fit { RelationsFit (P.state plant.old) config.now }
+    requires told { IsTold h.old journal.old.events }
+    requires defined { IsSome (place_of config.now w.now.volume.0) }
+    requires running { (P.state plant.old).on (volume_seen (P.state plant.old) config.now w.now.volume.0).server ≡ true }
+    requires within { w.now.track < (volume_seen (P.state plant.old) config.now w.now.volume.0).tracks }
+    requires fits { w.now.offset + w.now.len ≤ 64 }
+    requires found { find (has_number w.now.w.0) h.old.pending ≡ Some w.now }
+    requires room { length config.now.volumes + 2 ≤ journal.old.spare }
+    requires server { (volume_seen (P.state plant.old) config.now w.now.volume.0).server ≡ server.0 }
+    requires known { server.0 < 8 }
+    requires shows { Shows (P.state plant.old) config.now w.now.volume.0 fields.now }
+    requires alone { found ≡ false → HasNoTarget (P.state plant.old) config.now w.now.volume.0 }
+    ensures carried { (xs : List Session) → Ends (armed_in (P.state plant.old)) (here (P.state plant.new) config.now xs h.new journal.new.events) (refusal_of result) (here (P.state plant.old) config.now xs h.old journal.old.events) (land_alone (ids_of config.now.volumes) w.now.w.0 w.now.volume.0 w.now.track) }
+    ensures end { IfOk result (λ e. e ≡ Landed) }
+    ensures left { OnOk result ((volume_seen (P.state plant.new) config.now w.now.volume.0).fields ≡ landed_on (volume_seen (P.state plant.old) config.now w.now.volume.0) w.now.track) }
+    ensures stops { OnErr result (is_stop (refusal_of result) ≡ true) }
+    ensures rest { IsAtRest (P.state plant.new) config.now }
+    ensures fit { RelationsFit (P.state plant.new) config.now }
+    ensures told { IsTold h.new journal.new.events }
+    ensures unarmed { (q : ℕ) → (P.state plant.old).read_fuse q ≡ None → (P.state plant.new).read_fuse q ≡ None }
+    ensures faults { Counted (is_err result) (P.state plant.old).faults (P.state plant.new).faults }
+    ensures issued { h.new.issued ≡ h.old.issued }
+    ensures room { journal.old.spare ≤ journal.new.spare + (length config.now.volumes + 1) }
+    ensures spare { length journal.new.events + journal.new.spare ≡ length journal.old.events + journal.old.spare }
+{
+    if found {
+        return write_alone(plant, config, journal, h, w);
+    }
+    write_by(plant, config, journal, h, w, fields, server)
+}
+
 /// Suspends a primary that can't send to its secondary: the write waits where it is long busy from then on, or lands alone.
 fn write_parted<P: Plant>(
-    p: &mut P,
-    c: &Config,
-    j: &mut Journal,
+    plant: &mut P,
+    config: &Config,
+    journal: &mut Journal,
     h: &mut Host,
     w: &Pending,
     busy: bool,
 ) -> Result<WriteEnd, Refusal>
-    requires rest { IsAtRest (P.state p.old) c.now }
-    requires fit { RelationsFit (P.state p.old) c.now }
-    requires told { IsTold h.old j.old.events }
-    requires defined { IsSome (place_of c.now w.now.volume.0) }
-    requires running { (P.state p.old).on (volume_seen (P.state p.old) c.now w.now.volume.0).server ≡ true }
-    requires primary { is_part (volume_seen (P.state p.old) c.now w.now.volume.0).fields.primary ≡ true }
-    requires within { w.now.track < (volume_seen (P.state p.old) c.now w.now.volume.0).tracks }
+    requires rest { IsAtRest (P.state plant.old) config.now }
+    requires fit { RelationsFit (P.state plant.old) config.now }
+    requires told { IsTold h.old journal.old.events }
+    requires defined { IsSome (place_of config.now w.now.volume.0) }
+    requires running { (P.state plant.old).on (volume_seen (P.state plant.old) config.now w.now.volume.0).server ≡ true }
+    requires primary { is_part (volume_seen (P.state plant.old) config.now w.now.volume.0).fields.primary ≡ true }
+    requires within { w.now.track < (volume_seen (P.state plant.old) config.now w.now.volume.0).tracks }
     requires fits { w.now.offset + w.now.len ≤ 64 }
     requires found { find (has_number w.now.w.0) h.old.pending ≡ Some w.now }
-    requires room { length c.now.volumes + 3 ≤ j.old.spare }
-    ensures carried { (xs : List Session) → Ends (armed_in (P.state p.old)) (here (P.state p.new) c.now xs h.new j.new.events) (refusal_of result) (here (P.state p.old) c.now xs h.old j.old.events) (parted_entries (ids_of c.now.volumes) busy w.now.w.0 w.now.volume.0 w.now.track) }
+    requires room { length config.now.volumes + 3 ≤ journal.old.spare }
+    ensures carried { (xs : List Session) → Ends (armed_in (P.state plant.old)) (here (P.state plant.new) config.now xs h.new journal.new.events) (refusal_of result) (here (P.state plant.old) config.now xs h.old journal.old.events) (parted_entries (ids_of config.now.volumes) busy w.now.w.0 w.now.volume.0 w.now.track) }
     ensures end { IfOk result (λ e. e ≡ end_of busy) }
-    ensures suspended { OnOk result (is_suspended (volume_seen (P.state p.new) c.now w.now.volume.0).fields.primary_state ≡ true) }
+    ensures suspended { OnOk result (is_suspended (volume_seen (P.state plant.new) config.now w.now.volume.0).fields.primary_state ≡ true) }
     ensures stops { OnErr result (is_stop (refusal_of result) ≡ true) }
-    ensures rest { IsAtRest (P.state p.new) c.now }
-    ensures fit { RelationsFit (P.state p.new) c.now }
-    ensures told { IsTold h.new j.new.events }
-    ensures unarmed { (q : ℕ) → (P.state p.old).read_fuse q ≡ None → (P.state p.new).read_fuse q ≡ None }
-    ensures faults { Counted (is_err result) (P.state p.old).faults (P.state p.new).faults }
+    ensures rest { IsAtRest (P.state plant.new) config.now }
+    ensures fit { RelationsFit (P.state plant.new) config.now }
+    ensures told { IsTold h.new journal.new.events }
+    ensures unarmed { (q : ℕ) → (P.state plant.old).read_fuse q ≡ None → (P.state plant.new).read_fuse q ≡ None }
+    ensures faults { Counted (is_err result) (P.state plant.old).faults (P.state plant.new).faults }
     ensures issued { h.new.issued ≡ h.old.issued }
-    ensures room { j.old.spare ≤ j.new.spare + (length c.now.volumes + 2) }
-    ensures spare { length j.new.events + j.new.spare ≡ length j.old.events + j.old.spare }
+    ensures room { journal.old.spare ≤ journal.new.spare + (length config.now.volumes + 2) }
+    ensures spare { length journal.new.events + journal.new.spare ≡ length journal.old.events + journal.old.spare }
 {
-    match suspend(p, c, j, w.volume, busy) {
+    match suspend(plant, config, journal, w.volume, busy) {
         Ok(()) => {
             if busy {
                 return Ok(WriteEnd::Held);
             }
-            write_alone(p, c, j, h, w)
+            write_alone(plant, config, journal, h, w)
         }
         Err(stop) => Err(stop),
     }
@@ -135,134 +245,154 @@ fn write_parted<P: Plant>(
 
 /// Carries out the write on the secondary u and then on its primary, or where it can't be sent there as above.
 fn write_over<P: Plant>(
-    p: &mut P,
-    c: &Config,
-    j: &mut Journal,
+    plant: &mut P,
+    config: &Config,
+    journal: &mut Journal,
     h: &mut Host,
     w: &Pending,
     u: VolumeId,
+    fields: &Fields,
 ) -> Result<WriteEnd, Refusal>
-    requires rest { IsAtRest (P.state p.old) c.now }
-    requires fit { RelationsFit (P.state p.old) c.now }
-    requires told { IsTold h.old j.old.events }
-    requires defined { IsSome (place_of c.now w.now.volume.0) }
-    requires running { (P.state p.old).on (volume_seen (P.state p.old) c.now w.now.volume.0).server ≡ true }
-    requires primary { is_part (volume_seen (P.state p.old) c.now w.now.volume.0).fields.primary ≡ true }
-    requires to { IsSome (place_of c.now u.0) }
-    requires two_servers { (volume_seen (P.state p.old) c.now w.now.volume.0).server ≢ (volume_seen (P.state p.old) c.now u.0).server }
-    requires size { (volume_seen (P.state p.old) c.now u.0).tracks ≡ (volume_seen (P.state p.old) c.now w.now.volume.0).tracks }
-    requires within { w.now.track < (volume_seen (P.state p.old) c.now w.now.volume.0).tracks }
+    requires rest { IsAtRest (P.state plant.old) config.now }
+    requires fit { RelationsFit (P.state plant.old) config.now }
+    requires told { IsTold h.old journal.old.events }
+    requires defined { IsSome (place_of config.now w.now.volume.0) }
+    requires running { (P.state plant.old).on (volume_seen (P.state plant.old) config.now w.now.volume.0).server ≡ true }
+    requires primary { is_part (volume_seen (P.state plant.old) config.now w.now.volume.0).fields.primary ≡ true }
+    requires to { IsSome (place_of config.now u.0) }
+    requires two_servers { (volume_seen (P.state plant.old) config.now w.now.volume.0).server ≢ (volume_seen (P.state plant.old) config.now u.0).server }
+    requires size { (volume_seen (P.state plant.old) config.now u.0).tracks ≡ (volume_seen (P.state plant.old) config.now w.now.volume.0).tracks }
+    requires within { w.now.track < (volume_seen (P.state plant.old) config.now w.now.volume.0).tracks }
     requires fits { w.now.offset + w.now.len ≤ 64 }
     requires found { find (has_number w.now.w.0) h.old.pending ≡ Some w.now }
-    requires room { length c.now.volumes + (length c.now.volumes + 3) ≤ j.old.spare }
-    ensures carried { (xs : List Session) → Ends (armed_in (P.state p.old)) (here (P.state p.new) c.now xs h.new j.new.events) (refusal_of result) (here (P.state p.old) c.now xs h.old j.old.events) (over_entries (ids_of c.now.volumes) (is_some (pair_entries.send_refusal w.now.volume.0 u.0 (here (P.state p.old) c.now xs h.old j.old.events).control)) (entries.is_grouped (here (P.state p.old) c.now xs h.old j.old.events).control w.now.volume.0 u.0) w.now.w.0 w.now.volume.0 w.now.track u.0) }
-    ensures end { (xs : List Session) → IfOk result (λ e. e ≡ end_of (is_some (pair_entries.send_refusal w.now.volume.0 u.0 (here (P.state p.old) c.now xs h.old j.old.events).control) && entries.is_grouped (here (P.state p.old) c.now xs h.old j.old.events).control w.now.volume.0 u.0)) }
-    ensures mirrors { OnOk result (Mirrors (P.state p.new) c.now w.now.volume.0 u.0 w.now.track) }
+    requires room { length config.now.volumes + (length config.now.volumes + 3) ≤ journal.old.spare }
+    requires says { Says (P.state plant.old) config.now w.now.volume.0 fields.now }
+    ensures carried { (xs : List Session) → Ends (armed_in (P.state plant.old)) (here (P.state plant.new) config.now xs h.new journal.new.events) (refusal_of result) (here (P.state plant.old) config.now xs h.old journal.old.events) (over_entries (ids_of config.now.volumes) (is_some (pair_entries.send_refusal w.now.volume.0 u.0 (here (P.state plant.old) config.now xs h.old journal.old.events).control)) (entries.is_grouped (here (P.state plant.old) config.now xs h.old journal.old.events).control w.now.volume.0 u.0) w.now.w.0 w.now.volume.0 w.now.track u.0) }
+    ensures end { (xs : List Session) → IfOk result (λ e. e ≡ end_of (is_some (pair_entries.send_refusal w.now.volume.0 u.0 (here (P.state plant.old) config.now xs h.old journal.old.events).control) && entries.is_grouped (here (P.state plant.old) config.now xs h.old journal.old.events).control w.now.volume.0 u.0)) }
+    ensures mirrors { OnOk result (Mirrors (P.state plant.new) config.now w.now.volume.0 u.0 w.now.track) }
     ensures stops { OnErr result (is_stop (refusal_of result) ≡ true) }
-    ensures rest { IsAtRest (P.state p.new) c.now }
-    ensures fit { RelationsFit (P.state p.new) c.now }
-    ensures told { IsTold h.new j.new.events }
-    ensures unarmed { (q : ℕ) → (P.state p.old).read_fuse q ≡ None → (P.state p.new).read_fuse q ≡ None }
-    ensures faults { Counted (is_err result) (P.state p.old).faults (P.state p.new).faults }
+    ensures rest { IsAtRest (P.state plant.new) config.now }
+    ensures fit { RelationsFit (P.state plant.new) config.now }
+    ensures told { IsTold h.new journal.new.events }
+    ensures unarmed { (q : ℕ) → (P.state plant.old).read_fuse q ≡ None → (P.state plant.new).read_fuse q ≡ None }
+    ensures faults { Counted (is_err result) (P.state plant.old).faults (P.state plant.new).faults }
     ensures issued { h.new.issued ≡ h.old.issued }
-    ensures room { j.old.spare ≤ j.new.spare + (length c.now.volumes + (length c.now.volumes + 2)) }
-    ensures spare { length j.new.events + j.new.spare ≡ length j.old.events + j.old.spare }
+    ensures room { journal.old.spare ≤ journal.new.spare + (length config.now.volumes + (length config.now.volumes + 2)) }
+    ensures spare { length journal.new.events + journal.new.spare ≡ length journal.old.events + journal.old.spare }
 {
-    if send_refusal(p, c, w.volume, u).is_some() {
-        return write_parted(p, c, j, h, w, is_grouped(c, w.volume, u));
+    if send_refusal(plant, config, w.volume, u).is_some() {
+        return write_parted(
+            plant,
+            config,
+            journal,
+            h,
+            w,
+            is_grouped(config, w.volume, u),
+        );
     }
-    match write_both(p, c, j, h, w, u) {
+    match write_both_by(plant, config, journal, h, w, u, fields) {
         Ok(()) => Ok(WriteEnd::Landed),
         Err(stop) => Err(stop),
     }
 }
 
-/// Carries out the write on a volume where the host may write.
+/// Carries out the write on a volume where the host may write; its fields are at hand, and whether a volume was found that is its
+/// target.
 fn place_write<P: Plant>(
-    p: &mut P,
-    c: &Config,
-    j: &mut Journal,
+    plant: &mut P,
+    config: &Config,
+    journal: &mut Journal,
     h: &mut Host,
     w: &Pending,
+    fields: &Fields,
+    server: ServerId,
+    found: bool,
 ) -> Result<WriteEnd, Refusal>
-    requires rest { IsAtRest (P.state p.old) c.now }
-    requires fit { RelationsFit (P.state p.old) c.now }
-    requires told { IsTold h.old j.old.events }
-    requires defined { IsSome (place_of c.now w.now.volume.0) }
-    requires running { (P.state p.old).on (volume_seen (P.state p.old) c.now w.now.volume.0).server ≡ true }
-    requires to { is_part (volume_seen (P.state p.old) c.now w.now.volume.0).fields.primary ≡ true → IsSome (place_of c.now (volume_seen (P.state p.old) c.now w.now.volume.0).fields.primary_partner) }
-    requires two_servers { is_part (volume_seen (P.state p.old) c.now w.now.volume.0).fields.primary ≡ true → (volume_seen (P.state p.old) c.now w.now.volume.0).server ≢ (volume_seen (P.state p.old) c.now (volume_seen (P.state p.old) c.now w.now.volume.0).fields.primary_partner).server }
-    requires size { is_part (volume_seen (P.state p.old) c.now w.now.volume.0).fields.primary ≡ true → (volume_seen (P.state p.old) c.now (volume_seen (P.state p.old) c.now w.now.volume.0).fields.primary_partner).tracks ≡ (volume_seen (P.state p.old) c.now w.now.volume.0).tracks }
-    requires within { w.now.track < (volume_seen (P.state p.old) c.now w.now.volume.0).tracks }
+    requires rest { IsAtRest (P.state plant.old) config.now }
+    requires fit { RelationsFit (P.state plant.old) config.now }
+    requires told { IsTold h.old journal.old.events }
+    requires defined { IsSome (place_of config.now w.now.volume.0) }
+    requires running { (P.state plant.old).on (volume_seen (P.state plant.old) config.now w.now.volume.0).server ≡ true }
+    requires to { is_part (volume_seen (P.state plant.old) config.now w.now.volume.0).fields.primary ≡ true → IsSome (place_of config.now (volume_seen (P.state plant.old) config.now w.now.volume.0).fields.primary_partner) }
+    requires two_servers { is_part (volume_seen (P.state plant.old) config.now w.now.volume.0).fields.primary ≡ true → (volume_seen (P.state plant.old) config.now w.now.volume.0).server ≢ (volume_seen (P.state plant.old) config.now (volume_seen (P.state plant.old) config.now w.now.volume.0).fields.primary_partner).server }
+    requires size { is_part (volume_seen (P.state plant.old) config.now w.now.volume.0).fields.primary ≡ true → (volume_seen (P.state plant.old) config.now (volume_seen (P.state plant.old) config.now w.now.volume.0).fields.primary_partner).tracks ≡ (volume_seen (P.state plant.old) config.now w.now.volume.0).tracks }
+    requires within { w.now.track < (volume_seen (P.state plant.old) config.now w.now.volume.0).tracks }
     requires fits { w.now.offset + w.now.len ≤ 64 }
     requires found { find (has_number w.now.w.0) h.old.pending ≡ Some w.now }
-    requires room { length c.now.volumes + (length c.now.volumes + 3) ≤ j.old.spare }
-    ensures carried { (xs : List Session) → Ends (armed_in (P.state p.old)) (here (P.state p.new) c.now xs h.new j.new.events) (refusal_of result) (here (P.state p.old) c.now xs h.old j.old.events) (land_entries (here (P.state p.old) c.now xs h.old j.old.events).control w.now.w.0 w.now.volume.0 w.now.track) }
-    ensures end { (xs : List Session) → IfOk result (λ e. e ≡ end_of (waits (here (P.state p.old) c.now xs h.old j.old.events).control w.now.volume.0 w.now.track)) }
-    ensures mirrors { is_metro (volume_seen (P.state p.old) c.now w.now.volume.0).fields.primary ≡ true → IfOk result (λ e. e ≡ Landed → Mirrors (P.state p.new) c.now w.now.volume.0 (volume_seen (P.state p.old) c.now w.now.volume.0).fields.primary_partner w.now.track) }
+    requires room { length config.now.volumes + (length config.now.volumes + 3) ≤ journal.old.spare }
+    requires server { (volume_seen (P.state plant.old) config.now w.now.volume.0).server ≡ server.0 }
+    requires known { server.0 < 8 }
+    requires shows { Shows (P.state plant.old) config.now w.now.volume.0 fields.now }
+    requires alone { found ≡ false → HasNoTarget (P.state plant.old) config.now w.now.volume.0 }
+    ensures carried { (xs : List Session) → Ends (armed_in (P.state plant.old)) (here (P.state plant.new) config.now xs h.new journal.new.events) (refusal_of result) (here (P.state plant.old) config.now xs h.old journal.old.events) (land_entries (here (P.state plant.old) config.now xs h.old journal.old.events).control w.now.w.0 w.now.volume.0 w.now.track) }
+    ensures end { (xs : List Session) → IfOk result (λ e. e ≡ end_of (waits (here (P.state plant.old) config.now xs h.old journal.old.events).control w.now.volume.0 w.now.track)) }
+    ensures mirrors { is_metro (volume_seen (P.state plant.old) config.now w.now.volume.0).fields.primary ≡ true → IfOk result (λ e. e ≡ Landed → Mirrors (P.state plant.new) config.now w.now.volume.0 (volume_seen (P.state plant.old) config.now w.now.volume.0).fields.primary_partner w.now.track) }
     ensures stops { OnErr result (is_stop (refusal_of result) ≡ true) }
-    ensures rest { IsAtRest (P.state p.new) c.now }
-    ensures fit { RelationsFit (P.state p.new) c.now }
-    ensures told { IsTold h.new j.new.events }
-    ensures unarmed { (q : ℕ) → (P.state p.old).read_fuse q ≡ None → (P.state p.new).read_fuse q ≡ None }
-    ensures faults { Counted (is_err result) (P.state p.old).faults (P.state p.new).faults }
+    ensures rest { IsAtRest (P.state plant.new) config.now }
+    ensures fit { RelationsFit (P.state plant.new) config.now }
+    ensures told { IsTold h.new journal.new.events }
+    ensures unarmed { (q : ℕ) → (P.state plant.old).read_fuse q ≡ None → (P.state plant.new).read_fuse q ≡ None }
+    ensures faults { Counted (is_err result) (P.state plant.old).faults (P.state plant.new).faults }
     ensures issued { h.new.issued ≡ h.old.issued }
-    ensures room { j.old.spare ≤ j.new.spare + (length c.now.volumes + (length c.now.volumes + 2)) }
-    ensures spare { length j.new.events + j.new.spare ≡ length j.old.events + j.old.spare }
+    ensures room { journal.old.spare ≤ journal.new.spare + (length config.now.volumes + (length config.now.volumes + 2)) }
+    ensures spare { length journal.new.events + journal.new.spare ≡ length journal.old.events + journal.old.spare }
 {
-    let fields = peek_fields(p, c, w.volume);
-    if is_held(&fields) {
+    if is_held(fields) {
         return Ok(WriteEnd::Held);
     }
-    if goes_over(&fields, w.track) {
-        return write_over(p, c, j, h, w, fields.primary_partner);
+    if goes_over(fields, w.track) {
+        return write_over(plant, config, journal, h, w, fields.primary_partner, fields);
     }
-    if collides(&fields, w.track) {
-        return write_collided(p, c, j, h, w, fields.primary_partner);
+    if collides(fields, w.track) {
+        return write_collided(plant, config, journal, h, w, fields.primary_partner);
     }
-    write_alone(p, c, j, h, w)
+    write_here(plant, config, journal, h, w, fields, server, found)
 }
 
 /// Carries out the write, without what follows the stop of a server.
 fn carry_write<P: Plant>(
-    p: &mut P,
-    c: &Config,
-    j: &mut Journal,
+    plant: &mut P,
+    config: &Config,
+    journal: &mut Journal,
     h: &mut Host,
     w: &Pending,
+    fields: &Fields,
 ) -> Result<WriteEnd, Refusal>
-    requires rest { IsAtRest (P.state p.old) c.now }
-    requires fit { RelationsFit (P.state p.old) c.now }
-    requires told { IsTold h.old j.old.events }
-    requires defined { IsSome (place_of c.now w.now.volume.0) }
-    requires to { is_part (volume_seen (P.state p.old) c.now w.now.volume.0).fields.primary ≡ true → IsSome (place_of c.now (volume_seen (P.state p.old) c.now w.now.volume.0).fields.primary_partner) }
-    requires two_servers { is_part (volume_seen (P.state p.old) c.now w.now.volume.0).fields.primary ≡ true → (volume_seen (P.state p.old) c.now w.now.volume.0).server ≢ (volume_seen (P.state p.old) c.now (volume_seen (P.state p.old) c.now w.now.volume.0).fields.primary_partner).server }
-    requires size { is_part (volume_seen (P.state p.old) c.now w.now.volume.0).fields.primary ≡ true → (volume_seen (P.state p.old) c.now (volume_seen (P.state p.old) c.now w.now.volume.0).fields.primary_partner).tracks ≡ (volume_seen (P.state p.old) c.now w.now.volume.0).tracks }
-    requires within { w.now.track < (volume_seen (P.state p.old) c.now w.now.volume.0).tracks }
+    requires rest { IsAtRest (P.state plant.old) config.now }
+    requires fit { RelationsFit (P.state plant.old) config.now }
+    requires told { IsTold h.old journal.old.events }
+    requires defined { IsSome (place_of config.now w.now.volume.0) }
+    requires to { is_part (volume_seen (P.state plant.old) config.now w.now.volume.0).fields.primary ≡ true → IsSome (place_of config.now (volume_seen (P.state plant.old) config.now w.now.volume.0).fields.primary_partner) }
+    requires two_servers { is_part (volume_seen (P.state plant.old) config.now w.now.volume.0).fields.primary ≡ true → (volume_seen (P.state plant.old) config.now w.now.volume.0).server ≢ (volume_seen (P.state plant.old) config.now (volume_seen (P.state plant.old) config.now w.now.volume.0).fields.primary_partner).server }
+    requires size { is_part (volume_seen (P.state plant.old) config.now w.now.volume.0).fields.primary ≡ true → (volume_seen (P.state plant.old) config.now (volume_seen (P.state plant.old) config.now w.now.volume.0).fields.primary_partner).tracks ≡ (volume_seen (P.state plant.old) config.now w.now.volume.0).tracks }
+    requires within { w.now.track < (volume_seen (P.state plant.old) config.now w.now.volume.0).tracks }
     requires fits { w.now.offset + w.now.len ≤ 64 }
     requires found { find (has_number w.now.w.0) h.old.pending ≡ Some w.now }
-    requires room { length c.now.volumes + (length c.now.volumes + 3) ≤ j.old.spare }
-    ensures carried { (xs : List Session) → Ends (armed_in (P.state p.old)) (here (P.state p.new) c.now xs h.new j.new.events) (refusal_of result) (here (P.state p.old) c.now xs h.old j.old.events) (landing (here (P.state p.old) c.now xs h.old j.old.events).control w.now.w.0 w.now.volume.0 w.now.track) }
-    ensures end { (xs : List Session) → IfOk result (λ e. e ≡ end_of (waits (here (P.state p.old) c.now xs h.old j.old.events).control w.now.volume.0 w.now.track)) }
-    ensures mirrors { is_metro (volume_seen (P.state p.old) c.now w.now.volume.0).fields.primary ≡ true → IfOk result (λ e. e ≡ Landed → Mirrors (P.state p.new) c.now w.now.volume.0 (volume_seen (P.state p.old) c.now w.now.volume.0).fields.primary_partner w.now.track) }
-    ensures rest { IsAtRest (P.state p.new) c.now }
-    ensures fit { RelationsFit (P.state p.new) c.now }
-    ensures told { IsTold h.new j.new.events }
-    ensures unarmed { (q : ℕ) → (P.state p.old).read_fuse q ≡ None → (P.state p.new).read_fuse q ≡ None }
-    ensures faults { Counted (is_stop (refusal_of result)) (P.state p.old).faults (P.state p.new).faults }
+    requires room { length config.now.volumes + (length config.now.volumes + 3) ≤ journal.old.spare }
+    requires shows { Shows (P.state plant.old) config.now w.now.volume.0 fields.now }
+    ensures carried { (xs : List Session) → Ends (armed_in (P.state plant.old)) (here (P.state plant.new) config.now xs h.new journal.new.events) (refusal_of result) (here (P.state plant.old) config.now xs h.old journal.old.events) (landing (here (P.state plant.old) config.now xs h.old journal.old.events).control w.now.w.0 w.now.volume.0 w.now.track) }
+    ensures end { (xs : List Session) → IfOk result (λ e. e ≡ end_of (waits (here (P.state plant.old) config.now xs h.old journal.old.events).control w.now.volume.0 w.now.track)) }
+    ensures mirrors { is_metro (volume_seen (P.state plant.old) config.now w.now.volume.0).fields.primary ≡ true → IfOk result (λ e. e ≡ Landed → Mirrors (P.state plant.new) config.now w.now.volume.0 (volume_seen (P.state plant.old) config.now w.now.volume.0).fields.primary_partner w.now.track) }
+    ensures rest { IsAtRest (P.state plant.new) config.now }
+    ensures fit { RelationsFit (P.state plant.new) config.now }
+    ensures told { IsTold h.new journal.new.events }
+    ensures unarmed { (q : ℕ) → (P.state plant.old).read_fuse q ≡ None → (P.state plant.new).read_fuse q ≡ None }
+    ensures faults { Counted (is_stop (refusal_of result)) (P.state plant.old).faults (P.state plant.new).faults }
     ensures issued { h.new.issued ≡ h.old.issued }
-    ensures room { j.old.spare ≤ j.new.spare + (length c.now.volumes + (length c.now.volumes + 2)) }
-    ensures spare { length j.new.events + j.new.spare ≡ length j.old.events + j.old.spare }
+    ensures room { journal.old.spare ≤ journal.new.spare + (length config.now.volumes + (length config.now.volumes + 2)) }
+    ensures spare { length journal.new.events + journal.new.spare ≡ length journal.old.events + journal.old.spare }
 {
-    let server = server_of(c, w.volume);
-    if !p.is_on(server.0) {
+    let server = server_of(config, w.volume);
+    if !plant.is_on(server.0) {
         return Err(Refusal::ServerOff { server });
     }
-    if let Some(why) = write_refusal(p, c, w.volume) {
-        h.finish(w.w);
-        return Err(why);
+    match write_refusal_by(plant, config, w.volume, &head_by(fields)) {
+        Ok(found) => place_write(plant, config, journal, h, w, fields, server, found),
+        Err(why) => {
+            h.finish(w.w);
+            Err(why)
+        }
     }
-    place_write(p, c, j, h, w)
 }
 
 /// Carries out pending write w. Where its volume is a primary, the secondary is defined, on another server and of the
@@ -282,40 +412,41 @@ fn carry_write<P: Plant>(
 /// the write didn't collide. The first stop is the one that is given. The journal needs room for two events for each
 /// volume and five more.
 pub fn sync_write<P: Plant>(
-    p: &mut P,
-    c: &Config,
-    j: &mut Journal,
+    plant: &mut P,
+    config: &Config,
+    journal: &mut Journal,
     h: &mut Host,
     w: &Pending,
 ) -> Result<WriteEnd, Refusal>
-    requires rest { IsAtRest (P.state p.old) c.now }
-    requires fit { RelationsFit (P.state p.old) c.now }
-    requires told { IsTold h.old j.old.events }
-    requires defined { IsSome (place_of c.now w.now.volume.0) }
-    requires to { is_part (volume_seen (P.state p.old) c.now w.now.volume.0).fields.primary ≡ true → IsSome (place_of c.now (volume_seen (P.state p.old) c.now w.now.volume.0).fields.primary_partner) }
-    requires two_servers { is_part (volume_seen (P.state p.old) c.now w.now.volume.0).fields.primary ≡ true → (volume_seen (P.state p.old) c.now w.now.volume.0).server ≢ (volume_seen (P.state p.old) c.now (volume_seen (P.state p.old) c.now w.now.volume.0).fields.primary_partner).server }
-    requires size { is_part (volume_seen (P.state p.old) c.now w.now.volume.0).fields.primary ≡ true → (volume_seen (P.state p.old) c.now (volume_seen (P.state p.old) c.now w.now.volume.0).fields.primary_partner).tracks ≡ (volume_seen (P.state p.old) c.now w.now.volume.0).tracks }
-    requires within { w.now.track < (volume_seen (P.state p.old) c.now w.now.volume.0).tracks }
+    requires rest { IsAtRest (P.state plant.old) config.now }
+    requires fit { RelationsFit (P.state plant.old) config.now }
+    requires told { IsTold h.old journal.old.events }
+    requires defined { IsSome (place_of config.now w.now.volume.0) }
+    requires to { is_part (volume_seen (P.state plant.old) config.now w.now.volume.0).fields.primary ≡ true → IsSome (place_of config.now (volume_seen (P.state plant.old) config.now w.now.volume.0).fields.primary_partner) }
+    requires two_servers { is_part (volume_seen (P.state plant.old) config.now w.now.volume.0).fields.primary ≡ true → (volume_seen (P.state plant.old) config.now w.now.volume.0).server ≢ (volume_seen (P.state plant.old) config.now (volume_seen (P.state plant.old) config.now w.now.volume.0).fields.primary_partner).server }
+    requires size { is_part (volume_seen (P.state plant.old) config.now w.now.volume.0).fields.primary ≡ true → (volume_seen (P.state plant.old) config.now (volume_seen (P.state plant.old) config.now w.now.volume.0).fields.primary_partner).tracks ≡ (volume_seen (P.state plant.old) config.now w.now.volume.0).tracks }
+    requires within { w.now.track < (volume_seen (P.state plant.old) config.now w.now.volume.0).tracks }
     requires fits { w.now.offset + w.now.len ≤ 64 }
     requires found { find (has_number w.now.w.0) h.old.pending ≡ Some w.now }
-    requires room { length c.now.volumes + (length c.now.volumes + 5) ≤ j.old.spare }
-    ensures carried { (xs : List Session) → EndsFollowed (armed_in (P.state p.old)) (here (P.state p.old) c.now xs h.old j.old.events) (landing (here (P.state p.old) c.now xs h.old j.old.events).control w.now.w.0 w.now.volume.0 w.now.track) (after_write (here (P.state p.old) c.now xs h.old j.old.events).control w.now.volume.0 w.now.track) (here (P.state p.new) c.now xs h.new j.new.events) (refusal_of result) }
-    ensures end { (xs : List Session) → IfOk result (λ e. e ≡ end_of (waits (here (P.state p.old) c.now xs h.old j.old.events).control w.now.volume.0 w.now.track)) }
-    ensures mirrors { is_metro (volume_seen (P.state p.old) c.now w.now.volume.0).fields.primary ≡ true → IfOk result (λ e. e ≡ Landed → Mirrors (P.state p.new) c.now w.now.volume.0 (volume_seen (P.state p.old) c.now w.now.volume.0).fields.primary_partner w.now.track) }
-    ensures rest { IsAtRest (P.state p.new) c.now }
-    ensures fit { RelationsFit (P.state p.new) c.now }
-    ensures told { IsTold h.new j.new.events }
-    ensures unarmed { (q : ℕ) → (P.state p.old).read_fuse q ≡ None → (P.state p.new).read_fuse q ≡ None }
-    ensures faults { Counted (is_stop (refusal_of result)) (P.state p.old).faults (P.state p.new).faults }
+    requires room { length config.now.volumes + (length config.now.volumes + 5) ≤ journal.old.spare }
+    ensures carried { (xs : List Session) → EndsFollowed (armed_in (P.state plant.old)) (here (P.state plant.old) config.now xs h.old journal.old.events) (landing (here (P.state plant.old) config.now xs h.old journal.old.events).control w.now.w.0 w.now.volume.0 w.now.track) (after_write (here (P.state plant.old) config.now xs h.old journal.old.events).control w.now.volume.0 w.now.track) (here (P.state plant.new) config.now xs h.new journal.new.events) (refusal_of result) }
+    ensures end { (xs : List Session) → IfOk result (λ e. e ≡ end_of (waits (here (P.state plant.old) config.now xs h.old journal.old.events).control w.now.volume.0 w.now.track)) }
+    ensures mirrors { is_metro (volume_seen (P.state plant.old) config.now w.now.volume.0).fields.primary ≡ true → IfOk result (λ e. e ≡ Landed → Mirrors (P.state plant.new) config.now w.now.volume.0 (volume_seen (P.state plant.old) config.now w.now.volume.0).fields.primary_partner w.now.track) }
+    ensures rest { IsAtRest (P.state plant.new) config.now }
+    ensures fit { RelationsFit (P.state plant.new) config.now }
+    ensures told { IsTold h.new journal.new.events }
+    ensures unarmed { (q : ℕ) → (P.state plant.old).read_fuse q ≡ None → (P.state plant.new).read_fuse q ≡ None }
+    ensures faults { Counted (is_stop (refusal_of result)) (P.state plant.old).faults (P.state plant.new).faults }
     ensures issued { h.new.issued ≡ h.old.issued }
-    ensures room { j.old.spare ≤ j.new.spare + (length c.now.volumes + (length c.now.volumes + 4)) }
-    ensures spare { length j.new.events + j.new.spare ≡ length j.old.events + j.old.spare }
+    ensures room { journal.old.spare ≤ journal.new.spare + (length config.now.volumes + (length config.now.volumes + 4)) }
+    ensures spare { length journal.new.events + journal.new.spare ≡ length journal.old.events + journal.old.spare }
 {
-    let collided = collides(&peek_fields(p, c, w.volume), w.track);
-    match carry_write(p, c, j, h, w) {
+    let fields = peek_fields(plant, config, w.volume);
+    let collided = collides(&fields, w.track);
+    match carry_write(plant, config, journal, h, w, &fields) {
         Ok(end) => Ok(end),
         Err(why) => {
-            follow_write(p, c, j, w.volume, collided, why);
+            follow_write(plant, config, journal, w.volume, collided, why);
             Err(why)
         }
     }

@@ -7,14 +7,14 @@ use Rattle.dr_model.specs.Contents.{with_write}
 use Rattle.dr_model.specs.Control.{Pending, Control, World}
 use Rattle.dr_model.specs.declared.state.Part.{Part}
 use Rattle.dr_model.specs.declared.state.Part.TheVariants.{Global}
-use Rattle.dr_model.specs.Layout.{is_part}
-use Rattle.dr_model.specs.Moves.{Move, Land, Overwrite, Keep, Note, Relate, Withdraw, Fetch, Resync, Reverse, Restore, Release, Store, Strike, Suspend, MakeSecondary, MakePrimary, DropPrimary, DropSecondary, Follow, Resume, TakeOver, Unsync, Mirror, LandBoth, Thaw, Lift, Restart, Hold, Free, Seal, Finish, RaiseAttempt, RaiseFloor, Leave, Flash, Commit, Revert, target, is_write}
+use Rattle.dr_model.specs.Layout.{Tracks, is_part}
+use Rattle.dr_model.specs.Moves.{Move, Land, Overwrite, Keep, Note, Relate, Withdraw, Fetch, Resync, Reverse, Restore, Release, Store, Strike, Suspend, MakeSecondary, MakePrimary, DropPrimary, DropSecondary, Follow, Resume, TakeOver, FallBack, Yield, Unsync, Mirror, LandBoth, Thaw, Lift, Restart, Hold, Free, Seal, Finish, RaiseAttempt, RaiseFloor, Leave, Flash, Commit, Revert, target, is_write}
 use Rattle.dr_model.specs.Pairs.{is_metro, is_kind, is_pending, is_suspended, records}
 use Rattle.dr_model.specs.Entries.{targets_of}
 use Rattle.dr_model.specs.Table.{Table, table}
 use Rattle.dr_model.specs.Groups.{OpensAttempt}
 use Rattle.dr_model.specs.Attempts.{InAttempt}
-use Rattle.dr_model.specs.Laws.{source, its_primary, its_secondary, fields, servers, AllPending}
+use Rattle.dr_model.specs.Laws.{source, its_primary, its_secondary, fields, servers, unsent, AllPending}
 
 -- each target of v holds track t, but one that is restored onto v, which holds it too where it gives it back; and it
 -- notes that the track changes, where that is recorded; none is revertible
@@ -186,6 +186,29 @@ pub record MayResume (T : Table) (v : ℕ) : Type 0 where
   pub first : is_part (fields T v).primary ≡ true
   pub waits : is_suspended (fields T v).primary_state ≡ true
 
+-- a secondary that is no primary is taken over
+pub record MayTakeOver (T : Table) (v : ℕ) : Type 0 where
+  pub second : is_part (fields T v).secondary ≡ true
+  pub free : is_part (fields T v).primary ≡ false
+
+-- a primary is voided, and more of its own tracks are out of sync
+pub record MayFallBack (T : Table) (v : ℕ) (more : Tracks) : Type 0 where
+  pub first : is_part (fields T v).primary ≡ true
+  pub low : (t : ℕ) → contains more t ≡ true → t < (T v).volume.tracks
+
+-- Each of two volumes is a primary of the other, and neither is a secondary. Then v becomes the secondary of u, which doesn't record,
+-- is of that kind, and has all out of sync that v hasn't sent; no target of v is restored onto it or revertible.
+pub record MayYield (T : Table) (v u : ℕ) (kind : Part) : Type 0 where
+  pub sends : its_secondary (T v) ≡ Some u
+  pub back : its_secondary (T u) ≡ Some v
+  pub free : is_part (fields T v).secondary ≡ false
+  pub from_free : is_part (fields T u).secondary ≡ false
+  pub alike : (fields T u).primary ≡ kind
+  pub idle : (fields T u).recording ≡ false
+  pub out : (t : ℕ) → unsent (T v) t ≡ true → contains (fields T u).out_of_sync t ≡ true
+  pub still : (x : ℕ) → source (T x) ≡ Some v → (fields T x).reversing ≡ true → ⊥
+  pub settled : (x : ℕ) → source (T x) ≡ Some v → (fields T x).revertible ≡ false
+
 -- a Global Copy primary in Copy Pending, which doesn't record, is held for a newer attempt than all of its own; its secondary isn't
 -- sealed for that, and has no revertible target
 pub record MayHold (T : Table) (v n : ℕ) : Type 0 where
@@ -247,7 +270,9 @@ Allowed write T (DropPrimary v) = IsPrimary T v
 Allowed write T (DropSecondary v) = IsSecondary T v
 Allowed write T (Follow v state) = IsSecondary T v
 Allowed write T (Resume v state) = MayResume T v
-Allowed write T (TakeOver v) = IsSecondary T v
+Allowed write T (TakeOver v) = MayTakeOver T v
+Allowed write T (FallBack v more state) = MayFallBack T v more
+Allowed write T (Yield v u kind state) = MayYield T v u kind
 Allowed write T (Unsync v t) = MayUnsync T v t
 Allowed write T (Mirror v t u n) = MayMirror T v t u
 Allowed write T (LandBoth n v t) = MayLandBoth write T n v t

@@ -18,7 +18,7 @@ use Rattle.dr_model.specs.declared.event.Event.{Event}
 use Rattle.dr_model.specs.declared.event.Event.TheVariants.{Answer}
 use Rattle.dr_model.specs.declared.said.Addition.{Addition}
 use Rattle.dr_model.specs.declared.said.Addition.TheVariants.{Alone, Wrote, Acked, Counted, InPhase, InGroup, Showed}
-use Rattle.dr_model.specs.declared.said.Numbers.{Numbers}
+use Rattle.dr_model.specs.declared.said.AnswerNumbers.{AnswerNumbers}
 use Rattle.dr_model.specs.declared.said.Said.{Said}
 use Rattle.dr_model.specs.declared.said.Said.TheVariants.{Done, Held, Refused}
 
@@ -107,11 +107,11 @@ decision_number (Impossible a b) = b
 decision_number d = decision_first d
 
 -- an answer as its code and three numbers
-abbrev pub numbers_of : ℕ → ℕ → ℕ → ℕ → Numbers
+abbrev pub numbers_of : ℕ → ℕ → ℕ → ℕ → AnswerNumbers
 numbers_of code a b c = record { code = code; a = a; b = b; c = c }
 
 -- code 0 is ok, and a the kind of its addition; with a group, a also has 256 times the place of its decision
-abbrev pub done_numbers : Addition → Numbers
+abbrev pub done_numbers : Addition → AnswerNumbers
 done_numbers Alone = numbers_of 0 0 0 0
 done_numbers (Wrote w) = numbers_of 0 1 w 0
 done_numbers (Acked w) = numbers_of 0 2 w 0
@@ -121,7 +121,7 @@ done_numbers (InGroup group decision) = numbers_of 0 (256 * decision_place decis
 done_numbers Showed = numbers_of 0 6 0 0
 
 -- a refusal's code is its number, and the others are its fields in order
-abbrev pub refused_numbers : Refusal → Numbers
+abbrev pub refused_numbers : Refusal → AnswerNumbers
 refused_numbers (Syntax column) = numbers_of 1 column 0 0
 refused_numbers (Unknown kind) = numbers_of 2 (kind_place kind) 0 0
 refused_numbers (Duplicate kind) = numbers_of 3 (kind_place kind) 0 0
@@ -148,7 +148,7 @@ refused_numbers JournalFull = numbers_of 23 0 0 0
 refused_numbers NotBuilt = numbers_of 24 0 0 0
 
 -- code 100 is held, and a the write that waits
-abbrev pub numbers : Said → Numbers
+abbrev pub numbers : Said → AnswerNumbers
 numbers (Done added) = done_numbers added
 numbers (Held w) = numbers_of 100 w 0 0
 numbers (Refused refusal) = refused_numbers refusal

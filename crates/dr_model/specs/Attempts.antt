@@ -10,7 +10,7 @@ use Rattle.dr_model.specs.Layout.{Fields}
 use Rattle.dr_model.specs.Control.{Control}
 use Rattle.dr_model.specs.Views.{source_of}
 use Rattle.dr_model.specs.Pairs.{primary_of, is_secondary_of}
-use Rattle.dr_model.specs.Moves.{Move, Overwrite, Keep, Relate, Withdraw, Fetch, Resync, Reverse, Release, MakeSecondary, Hold, Free, Seal, Finish, RaiseAttempt, RaiseFloor, Leave, Flash, Commit, Revert}
+use Rattle.dr_model.specs.Moves.{Move, Overwrite, Keep, Relate, Withdraw, Fetch, Resync, Reverse, Release, MakeSecondary, Yield, Hold, Free, Seal, Finish, RaiseAttempt, RaiseFloor, Leave, Flash, Commit, Revert}
 use Rattle.dr_model.specs.Entries.{fields_at, is_at}
 use Rattle.dr_model.specs.Sessions.{Session, Mirror, has_subsystem, subsystem_of}
 use Rattle.dr_model.specs.SessionEntries.{may_flash}
@@ -174,7 +174,7 @@ pub record OneShown (n : ℕ) (vs : List Seen) : Type 0 where
   pub same : All (λ v. v.member ≡ true → number_shown v ≡ number) vs
 
 -- where some is committed, all that count have number n; and where none is, they show another one
-pub record Numbers (n : ℕ) (vs : List Seen) : Type 0 where
+pub record NumbersAgree (n : ℕ) (vs : List Seen) : Type 0 where
   pub each : All (Numbered n) vs
   pub some : NoneCommitted n vs ⊎ AllAt n vs
   pub none : SomeCommitted n vs ⊎ OneShown n vs
@@ -285,14 +285,14 @@ reports_of None = []
 reports_of (Some r) = r.master.reports
 
 -- a session, by its phase, its last number, who is owed, what was reported, and its members
-pub record Attempt (p : PhaseName) (n : ℕ) (owed : List ℕ) (reports : List Shown) (vs : List Seen) : Type 0 where
-  pub numbers : Numbers n vs
+pub record IsAttempt (p : PhaseName) (n : ℕ) (owed : List ℕ) (reports : List Shown) (vs : List Seen) : Type 0 where
+  pub numbers : NumbersAgree n vs
   pub phase : InPhase p n owed reports vs
   pub owes : Owes p owed vs
 
 -- the laws of session x
 abbrev pub AttemptOf : Roles → Session → Type 0
-AttemptOf T x = Attempt (phase_of x.mirror) x.last (owed_of x.mirror) (reports_of x.mirror) (all_seen T x.members)
+AttemptOf T x = IsAttempt (phase_of x.mirror) x.last (owed_of x.mirror) (reports_of x.mirror) (all_seen T x.members)
 
 -- ---- volumes
 
@@ -438,6 +438,7 @@ InAttempt k (Resync v sequence) = DoesNotCount (fields_at k v)
 InAttempt k (Reverse v left) = MayGo k v × GoesAs k v left (fields_at k v).session
 InAttempt k (Release v t) = (fields_at k v).reversing ≡ true
 InAttempt k (MakeSecondary v u kind state) = MayFollow k v
+InAttempt k (Yield v u kind state) = MayFollow k v
 InAttempt k (Hold v s n first) = HoldsMember k v s n × ((fields_at k v).attempt < n)
 InAttempt k (Free v) = MayFree k v
 InAttempt k (Seal v u s n) = SealsMember k v u s n
@@ -474,11 +475,11 @@ IsLate phase.Draining = ⊥
 IsLate p = Unit {0}
 
 -- no member of a session can be flashed with its last number any more
-pub record Over (p : PhaseName) (n : ℕ) (vs : List Seen) : Type 0 where
+pub record IsOver (p : PhaseName) (n : ℕ) (vs : List Seen) : Type 0 where
   pub late : IsLate p
   pub positive : 0 < n
   pub barred : Barred n vs
 
 -- of session x
 abbrev pub OverIn : Roles → Session → Type 0
-OverIn T x = Over (phase_of x.mirror) x.last (all_seen T x.members)
+OverIn T x = IsOver (phase_of x.mirror) x.last (all_seen T x.members)

@@ -10,14 +10,14 @@ use Rattle.dr_model.specs.declared.grammar.Command.TheVariants.{Mksession, Chses
 use Rattle.dr_model.specs.declared.grammar.Setting.{Setting}
 use Rattle.dr_model.specs.declared.grammar.Operand.{Operand}
 use Rattle.dr_model.specs.declared.grammar.Item.{Item}
-use Rattle.dr_model.specs.declared.grammar.Place.{Place}
+use Rattle.dr_model.specs.declared.grammar.LinePlace.{LinePlace}
 use Rattle.dr_model.specs.LineWords.{Word, line_words, onto, ◌>>=◌}
 use Rattle.dr_model.specs.LineTable.{command_word, commands, setting_word, settings, needed, operands, repeats, may_end_with, own_steps}
 use Rattle.dr_model.specs.LineSteps.{is_flag, has, flagged, valued, setting_items, operand_value, operand_items, no_options, no_operands, step_of}
 
 -- what was read of a line: the place that was reached, and the items so far
 pub record Reading : Type 0 where
-  pub place : Place
+  pub place : LinePlace
   pub items : List Item
 
 -- the command of a list of which a word is the name
@@ -31,11 +31,11 @@ setting_named [] word = None
 setting_named (s ∷ ss) word = if bytes_eq word (setting_word s) then Some s else setting_named ss word
 
 -- options stand before operands
-abbrev pub setting_at : Place → List ℕ → Option Setting
+abbrev pub setting_at : LinePlace → List ℕ → Option Setting
 setting_at place word = if nat_eq place.filled 0 then setting_named (settings place.command) word else None
 
 -- no needed option is missing, and of `-unconditional` and `-at` both were given or neither
-abbrev pub is_ready : Place → Bool
+abbrev pub is_ready : LinePlace → Bool
 is_ready place =
     list_all (λ setting. has setting place.options) (needed place.command) && beq place.options.unconditional place.options.at_source
 
@@ -50,11 +50,11 @@ or_again None first = again first
 or_again (Some operand) first = Some operand
 
 -- the operand that stands next; none where none may
-abbrev pub next_operand : Place → Option Operand
+abbrev pub next_operand : LinePlace → Option Operand
 next_operand place = or_again (slice_get (operands place.command) place.filled) (slice_get (operands place.command) 0)
 
 -- one place more is filled, unless all are
-abbrev pub filled_after : Place → ℕ
+abbrev pub filled_after : LinePlace → ℕ
 filled_after place = if nat_lt place.filled (length (operands place.command)) then place.filled + 1 else place.filled
 
 -- the most steps of a line
@@ -76,14 +76,14 @@ value_read r setting word =
     Some (record { place = record r.place { awaited = None; options = o }; items = items })
 
 -- a word that names an option, which may be given once
-abbrev pub setting_read : Place → Setting → Option Place
+abbrev pub setting_read : LinePlace → Setting → Option LinePlace
 setting_read place setting =
     if has setting place.options then None
     else if is_flag setting then Some (record place { options = flagged setting place.options })
     else Some (record place { awaited = Some setting })
 
 -- a place with the items so far
-abbrev pub with_items : List Item → Option Place → Option Reading
+abbrev pub with_items : List Item → Option LinePlace → Option Reading
 with_items items place = option_map (λ p. record { place = p; items = items }) place
 
 -- a word that is an operand
@@ -116,11 +116,11 @@ abbrev pub awaits_nothing : Option Setting → Bool
 awaits_nothing setting = is_none setting
 
 -- all operands stand, or as many as the line may end with
-abbrev pub is_filled : Place → Bool
+abbrev pub is_filled : LinePlace → Bool
 is_filled place = nat_eq place.filled (length (operands place.command)) || nat_eq place.filled (may_end_with place.command)
 
 -- no value is awaited, no needed option is missing, and enough operands stand
-unfoldable pub may_end : Place → Bool
+unfoldable pub may_end : LinePlace → Bool
 may_end place = awaits_nothing place.awaited && is_ready place && is_filled place
 
 -- the command whose steps the items are: those of `mksession` are added as by `chsession`
@@ -133,11 +133,11 @@ abbrev pub no_item : Item
 no_item = record { first = 0; second = 0 }
 
 -- the command's own step, where it makes one
-abbrev pub own_step : Place → List Step
+abbrev pub own_step : LinePlace → List Step
 own_step place = if nat_eq (own_steps place.command) 0 then [] else step_of place.command place.options place.operands no_item ∷ []
 
 -- a step for each item
-abbrev pub item_steps : Place → List Item → List Step
+abbrev pub item_steps : LinePlace → List Item → List Step
 item_steps place items = map (step_of (item_command place.command) place.options place.operands) items
 
 -- the command's own step, and then one for each item

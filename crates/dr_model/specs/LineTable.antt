@@ -7,54 +7,6 @@ use Rattle.dr_model.specs.declared.grammar.Setting.TheVariants.{Quiet, Dev, Remo
 use Rattle.dr_model.specs.declared.grammar.Operand.{Operand}
 use Rattle.dr_model.specs.declared.grammar.Operand.TheVariants.{ServerName, OtherName, UpOrDown, AfterWord, TornMark, TornBytes, OneVolume, OtherVolume, Count, TrackNumber, Offset, WriteBytes, CountOrAll, SessionNumber, NoReply, LssNumber, VolumeRange, VolumeList, VolumePair, LssPair, Ports, ControlPath}
 
--- the word of a command
-unfoldable pub command_word : Command → List ℕ
-command_word AtServer = codes "@server"
-command_word AtVolume = codes "@volume"
-command_word AtLink = codes "@link"
-command_word AtStop = codes "@stop"
-command_word AtStart = codes "@start"
-command_word AtExpire = codes "@expire"
-command_word AtIssue = codes "@issue"
-command_word AtWrite = codes "@write"
-command_word AtApply = codes "@apply"
-command_word AtDrain = codes "@drain"
-command_word AtCopy = codes "@copy"
-command_word AtExchange = codes "@exchange"
-command_word AtRun = codes "@run"
-command_word AtAbort = codes "@abort"
-command_word AtRecover = codes "@recover"
-command_word AtShow = codes "@show"
-command_word AtCompare = codes "@compare"
-command_word AtImage = codes "@image"
-command_word Mkpprcpath = codes "mkpprcpath"
-command_word Rmpprcpath = codes "rmpprcpath"
-command_word Mkpprc = codes "mkpprc"
-command_word Rmpprc = codes "rmpprc"
-command_word Pausepprc = codes "pausepprc"
-command_word Resumepprc = codes "resumepprc"
-command_word Failoverpprc = codes "failoverpprc"
-command_word Failbackpprc = codes "failbackpprc"
-command_word Freezepprc = codes "freezepprc"
-command_word Unfreezepprc = codes "unfreezepprc"
-command_word Lspprc = codes "lspprc"
-command_word Lsflash = codes "lsflash"
-command_word Mkflash = codes "mkflash"
-command_word Rmflash = codes "rmflash"
-command_word Resyncflash = codes "resyncflash"
-command_word Reverseflash = codes "reverseflash"
-command_word Commitflash = codes "commitflash"
-command_word Revertflash = codes "revertflash"
-command_word Mksession = codes "mksession"
-command_word Chsession = codes "chsession"
-command_word Rmsession = codes "rmsession"
-command_word Lssession = codes "lssession"
-command_word Showgmir = codes "showgmir"
-command_word Mkgmir = codes "mkgmir"
-command_word Resumegmir = codes "resumegmir"
-command_word Pausegmir = codes "pausegmir"
-command_word Rmgmir = codes "rmgmir"
-
 -- all commands
 unfoldable pub commands : List Command
 commands = AtServer ∷ AtVolume ∷ AtLink ∷ AtStop ∷ AtStart ∷ AtExpire ∷ AtIssue ∷ AtWrite ∷ AtApply ∷ AtDrain ∷ AtCopy ∷ AtExchange ∷ AtRun ∷ AtAbort ∷ AtRecover ∷ AtShow ∷ AtCompare ∷ AtImage
@@ -99,92 +51,100 @@ with_common own = Quiet ∷ Dev ∷ own
 abbrev pub with_remote : List Setting → List Setting
 with_remote own = Quiet ∷ Dev ∷ RemoteDev ∷ own
 
--- the options of a command
+-- what a line of a command has: its word, its options and those that it can't do without, what stands behind them in order, with how
+-- many of these the line may end, and how many steps it makes beside one for each item
+pub record Form : Type 0 where
+  pub word : List ℕ
+  pub settings : List Setting
+  pub needed : List Setting
+  pub operands : List Operand
+  pub may_end_with : ℕ
+  pub own_steps : ℕ
+
+-- a line of one step, and one with a step for each item
+abbrev pub one_step : List ℕ → List Setting → List Setting → List Operand → Form
+one_step word own needed all = record { word = word; settings = own; needed = needed; operands = all; may_end_with = length all; own_steps = 1 }
+
+abbrev pub step_each : List ℕ → List Setting → List Setting → List Operand → Form
+step_each word own needed all = record (one_step word own needed all) { own_steps = 0 }
+
+-- one of hosts, servers and links
+abbrev pub host_line : List ℕ → List Operand → Form
+host_line word all = one_step word [] [] all
+
+-- one for a session's master, whose path may be left out
+abbrev pub master_line : List ℕ → List Setting → List Setting → Form
+master_line word own needed = record (one_step word own needed (ControlPath ∷ [])) { may_end_with = 0 }
+
+-- the form of each command
+unfoldable pub form : Command → Form
+form AtServer = host_line (codes "@server") (ServerName ∷ [])
+form AtVolume = record (host_line (codes "@volume") (VolumeRange ∷ ServerName ∷ Count ∷ [])) { own_steps = 0 }
+form AtLink = host_line (codes "@link") (ServerName ∷ OtherName ∷ UpOrDown ∷ [])
+form AtStop = record (host_line (codes "@stop") (ServerName ∷ AfterWord ∷ Count ∷ TornMark ∷ TornBytes ∷ [])) { may_end_with = 1 }
+form AtStart = host_line (codes "@start") (ServerName ∷ [])
+form AtExpire = host_line (codes "@expire") (ServerName ∷ [])
+form AtIssue = host_line (codes "@issue") (OneVolume ∷ TrackNumber ∷ Offset ∷ WriteBytes ∷ [])
+form AtWrite = host_line (codes "@write") (OneVolume ∷ TrackNumber ∷ Offset ∷ WriteBytes ∷ [])
+form AtApply = host_line (codes "@apply") (Count ∷ [])
+form AtDrain = host_line (codes "@drain") (OneVolume ∷ CountOrAll ∷ [])
+form AtCopy = host_line (codes "@copy") (OneVolume ∷ CountOrAll ∷ [])
+form AtExchange = record (host_line (codes "@exchange") (SessionNumber ∷ ServerName ∷ NoReply ∷ [])) { may_end_with = 2 }
+form AtRun = host_line (codes "@run") (SessionNumber ∷ Count ∷ [])
+form AtAbort = host_line (codes "@abort") (SessionNumber ∷ [])
+form AtRecover = host_line (codes "@recover") (SessionNumber ∷ [])
+form AtShow = host_line (codes "@show") (OneVolume ∷ TrackNumber ∷ [])
+form AtCompare = host_line (codes "@compare") (OneVolume ∷ OtherVolume ∷ [])
+form AtImage = host_line (codes "@image") []
+form Mkpprcpath = one_step (codes "mkpprcpath") (with_remote (RemotePort ∷ SourceLss ∷ TargetLss ∷ ConsistencyGroup ∷ [])) (SourceLss ∷ TargetLss ∷ []) (Ports ∷ [])
+form Rmpprcpath = step_each (codes "rmpprcpath") (with_remote (RemotePort ∷ Force ∷ [])) [] (LssPair ∷ [])
+form Mkpprc = step_each (codes "mkpprc") (with_remote (PairType ∷ Mode ∷ [])) (PairType ∷ []) (VolumePair ∷ [])
+form Rmpprc = step_each (codes "rmpprc") (with_remote (Unconditional ∷ AtSource ∷ [])) [] (VolumePair ∷ [])
+form Pausepprc = step_each (codes "pausepprc") (with_remote []) [] (VolumePair ∷ [])
+form Resumepprc = step_each (codes "resumepprc") (with_remote (PairType ∷ [])) (PairType ∷ []) (VolumePair ∷ [])
+form Failoverpprc = step_each (codes "failoverpprc") (with_remote (PairType ∷ [])) (PairType ∷ []) (VolumePair ∷ [])
+form Failbackpprc = step_each (codes "failbackpprc") (with_remote (PairType ∷ [])) (PairType ∷ []) (VolumePair ∷ [])
+form Freezepprc = step_each (codes "freezepprc") (with_remote []) [] (LssPair ∷ [])
+form Unfreezepprc = step_each (codes "unfreezepprc") (with_remote []) [] (LssPair ∷ [])
+form Lspprc = step_each (codes "lspprc") (with_remote []) [] (VolumeList ∷ [])
+form Lsflash = step_each (codes "lsflash") (with_common []) [] (VolumeList ∷ [])
+form Mkflash = step_each (codes "mkflash") (with_common (NoCopy ∷ Persist ∷ Recording ∷ Inhibit ∷ Sequence ∷ [])) [] (VolumePair ∷ [])
+form Rmflash = step_each (codes "rmflash") (with_common (Sequence ∷ [])) [] (VolumePair ∷ [])
+form Resyncflash = step_each (codes "resyncflash") (with_common (NoCopy ∷ Persist ∷ Recording ∷ Inhibit ∷ Sequence ∷ [])) [] (VolumePair ∷ [])
+form Reverseflash = step_each (codes "reverseflash") (with_common (Fast ∷ TargetPprc ∷ Sequence ∷ [])) (Fast ∷ []) (VolumePair ∷ [])
+form Commitflash = step_each (codes "commitflash") (with_common (Sequence ∷ [])) [] (VolumeList ∷ [])
+form Revertflash = step_each (codes "revertflash") (with_common (Sequence ∷ [])) [] (VolumeList ∷ [])
+form Mksession = one_step (codes "mksession") (with_common (OfLss ∷ Members ∷ [])) (OfLss ∷ []) (SessionNumber ∷ [])
+form Chsession = step_each (codes "chsession") (with_common (OfLss ∷ Action ∷ Members ∷ [])) (OfLss ∷ Action ∷ Members ∷ []) (SessionNumber ∷ [])
+form Rmsession = one_step (codes "rmsession") (with_common (OfLss ∷ [])) (OfLss ∷ []) (SessionNumber ∷ [])
+form Lssession = one_step (codes "lssession") (with_common []) [] (LssNumber ∷ [])
+form Showgmir = one_step (codes "showgmir") (with_common []) [] (LssNumber ∷ [])
+form Mkgmir = master_line (codes "mkgmir") (with_common (OfLss ∷ OfSession ∷ Interval ∷ Coordination ∷ DrainTime ∷ [])) (OfLss ∷ OfSession ∷ [])
+form Resumegmir = master_line (codes "resumegmir") (with_common (OfLss ∷ OfSession ∷ Interval ∷ Coordination ∷ DrainTime ∷ [])) (OfLss ∷ OfSession ∷ [])
+form Pausegmir = master_line (codes "pausegmir") (with_common (OfLss ∷ OfSession ∷ [])) (OfLss ∷ OfSession ∷ [])
+form Rmgmir = master_line (codes "rmgmir") (with_common (OfLss ∷ OfSession ∷ [])) (OfLss ∷ OfSession ∷ [])
+
+-- the word of a command
+unfoldable pub command_word : Command → List ℕ
+command_word c = (form c).word
+
+-- the options of a command, and those that it can't do without
 unfoldable pub settings : Command → List Setting
-settings Mkpprcpath = with_remote (RemotePort ∷ SourceLss ∷ TargetLss ∷ ConsistencyGroup ∷ [])
-settings Rmpprcpath = with_remote (RemotePort ∷ Force ∷ [])
-settings Mkpprc = with_remote (PairType ∷ Mode ∷ [])
-settings Rmpprc = with_remote (Unconditional ∷ AtSource ∷ [])
-settings Pausepprc = with_remote []
-settings Resumepprc = with_remote (PairType ∷ [])
-settings Failoverpprc = with_remote (PairType ∷ [])
-settings Failbackpprc = with_remote (PairType ∷ [])
-settings Freezepprc = with_remote []
-settings Unfreezepprc = with_remote []
-settings Lspprc = with_remote []
-settings Lsflash = with_common []
-settings Mkflash = with_common (NoCopy ∷ Persist ∷ Recording ∷ Inhibit ∷ Sequence ∷ [])
-settings Rmflash = with_common (Sequence ∷ [])
-settings Resyncflash = with_common (NoCopy ∷ Persist ∷ Recording ∷ Inhibit ∷ Sequence ∷ [])
-settings Reverseflash = with_common (Fast ∷ TargetPprc ∷ Sequence ∷ [])
-settings Commitflash = with_common (Sequence ∷ [])
-settings Revertflash = with_common (Sequence ∷ [])
-settings Mksession = with_common (OfLss ∷ Members ∷ [])
-settings Chsession = with_common (OfLss ∷ Action ∷ Members ∷ [])
-settings Rmsession = with_common (OfLss ∷ [])
-settings Lssession = with_common []
-settings Showgmir = with_common []
-settings Mkgmir = with_common (OfLss ∷ OfSession ∷ Interval ∷ Coordination ∷ DrainTime ∷ [])
-settings Resumegmir = with_common (OfLss ∷ OfSession ∷ Interval ∷ Coordination ∷ DrainTime ∷ [])
-settings Pausegmir = with_common (OfLss ∷ OfSession ∷ [])
-settings Rmgmir = with_common (OfLss ∷ OfSession ∷ [])
-settings _ = []
+settings c = (form c).settings
 
--- the options that a command can't do without
 unfoldable pub needed : Command → List Setting
-needed Mkpprcpath = SourceLss ∷ TargetLss ∷ []
-needed Mkpprc = PairType ∷ []
-needed Resumepprc = PairType ∷ []
-needed Failoverpprc = PairType ∷ []
-needed Failbackpprc = PairType ∷ []
-needed Reverseflash = Fast ∷ []
-needed Mksession = OfLss ∷ []
-needed Chsession = OfLss ∷ Action ∷ Members ∷ []
-needed Rmsession = OfLss ∷ []
-needed Mkgmir = OfLss ∷ OfSession ∷ []
-needed Resumegmir = OfLss ∷ OfSession ∷ []
-needed Pausegmir = OfLss ∷ OfSession ∷ []
-needed Rmgmir = OfLss ∷ OfSession ∷ []
-needed _ = []
+needed c = (form c).needed
 
--- what stands behind the options, in order
+-- what stands behind the options, in order, and with how many of these a line may end
 unfoldable pub operands : Command → List Operand
-operands AtServer = ServerName ∷ []
-operands AtVolume = VolumeRange ∷ ServerName ∷ Count ∷ []
-operands AtLink = ServerName ∷ OtherName ∷ UpOrDown ∷ []
-operands AtStop = ServerName ∷ AfterWord ∷ Count ∷ TornMark ∷ TornBytes ∷ []
-operands AtStart = ServerName ∷ []
-operands AtExpire = ServerName ∷ []
-operands AtIssue = OneVolume ∷ TrackNumber ∷ Offset ∷ WriteBytes ∷ []
-operands AtWrite = OneVolume ∷ TrackNumber ∷ Offset ∷ WriteBytes ∷ []
-operands AtApply = Count ∷ []
-operands AtDrain = OneVolume ∷ CountOrAll ∷ []
-operands AtCopy = OneVolume ∷ CountOrAll ∷ []
-operands AtExchange = SessionNumber ∷ ServerName ∷ NoReply ∷ []
-operands AtRun = SessionNumber ∷ Count ∷ []
-operands AtAbort = SessionNumber ∷ []
-operands AtRecover = SessionNumber ∷ []
-operands AtShow = OneVolume ∷ TrackNumber ∷ []
-operands AtCompare = OneVolume ∷ OtherVolume ∷ []
-operands AtImage = []
-operands Mkpprcpath = Ports ∷ []
-operands Rmpprcpath = LssPair ∷ []
-operands Freezepprc = LssPair ∷ []
-operands Unfreezepprc = LssPair ∷ []
-operands Lspprc = VolumeList ∷ []
-operands Lsflash = VolumeList ∷ []
-operands Commitflash = VolumeList ∷ []
-operands Revertflash = VolumeList ∷ []
-operands Mksession = SessionNumber ∷ []
-operands Chsession = SessionNumber ∷ []
-operands Rmsession = SessionNumber ∷ []
-operands Lssession = LssNumber ∷ []
-operands Showgmir = LssNumber ∷ []
-operands Mkgmir = ControlPath ∷ []
-operands Resumegmir = ControlPath ∷ []
-operands Pausegmir = ControlPath ∷ []
-operands Rmgmir = ControlPath ∷ []
-operands _ = VolumePair ∷ []
+operands c = (form c).operands
+
+unfoldable pub may_end_with : Command → ℕ
+may_end_with c = (form c).may_end_with
+
+-- how many steps a line makes beside one for each item
+unfoldable pub own_steps : Command → ℕ
+own_steps c = (form c).own_steps
 
 -- these operands are alone behind their commands and may be repeated
 abbrev pub repeats : Operand → Bool
@@ -194,36 +154,3 @@ repeats LssPair = true
 repeats Ports = true
 repeats ControlPath = true
 repeats _ = false
-
--- the number of operands with which a line may end before all of them stand
-unfoldable pub may_end_with : Command → ℕ
-may_end_with AtStop = 1
-may_end_with AtExchange = 2
-may_end_with Mkgmir = 0
-may_end_with Resumegmir = 0
-may_end_with Pausegmir = 0
-may_end_with Rmgmir = 0
-may_end_with command = length (operands command)
-
--- a command makes one step of its own, or one for each item; `mksession` makes both
-unfoldable pub own_steps : Command → ℕ
-own_steps AtVolume = 0
-own_steps Rmpprcpath = 0
-own_steps Mkpprc = 0
-own_steps Rmpprc = 0
-own_steps Pausepprc = 0
-own_steps Resumepprc = 0
-own_steps Failoverpprc = 0
-own_steps Failbackpprc = 0
-own_steps Freezepprc = 0
-own_steps Unfreezepprc = 0
-own_steps Lspprc = 0
-own_steps Lsflash = 0
-own_steps Mkflash = 0
-own_steps Rmflash = 0
-own_steps Resyncflash = 0
-own_steps Reverseflash = 0
-own_steps Commitflash = 0
-own_steps Revertflash = 0
-own_steps Chsession = 0
-own_steps _ = 1

@@ -9,7 +9,7 @@ use Rattle.dr_model.specs.Contents.{with_write}
 use Rattle.dr_model.specs.Layout.{Tracks, Fields}
 use Rattle.dr_model.specs.declared.state.Part.{Part}
 use Rattle.dr_model.specs.declared.state.PairState.{PairState}
-use Rattle.dr_model.specs.Pairs.{altered, written, held_for, freed, sealed, past_attempt, with_attempt, with_floor, no_member, is_suspended, suspended, made_secondary, made_primary, no_primary, no_secondary, received, struck, resumed, taken_over, unsynced, mirrored, synced, thawed, lifted, restarted}
+use Rattle.dr_model.specs.Pairs.{altered, written, held_for, freed, sealed, past_attempt, with_attempt, with_floor, no_member, is_suspended, suspended, made_secondary, made_primary, no_primary, no_secondary, received, struck, resumed, taken_over, unsynced, mirrored, synced, thawed, lifted, restarted, fallen_back, yielded}
 use Rattle.dr_model.specs.Views.{view}
 use Rattle.dr_model.specs.Control.{Pending, Volume, World}
 use Rattle.dr_model.specs.Relations.{Choices, rest, in_order, is_bare, closed, fetched, noted, rewritten, made, withdrawn_if, resynced, turned, given_up, restored, flashed, committed, reverted}
@@ -58,6 +58,10 @@ pub data Move : Type 0 where
   Resume : (v : ℕ) (state : PairState) → Move
   -- secondary v becomes a Suspended primary of its primary
   TakeOver : (v : ℕ) → Move
+  -- primary v is voided, these tracks are out of sync too, and it has this state
+  FallBack : (v : ℕ) (more : Tracks) (state : PairState) → Move
+  -- primary v of u, which is a primary of v, becomes its secondary
+  Yield : (v u : ℕ) (kind : Part) (state : PairState) → Move
   -- track t of primary v is about to change on both sides: it is out of sync until it has
   Unsync : (v t : ℕ) → Move
   -- secondary v stores what host write w makes of track t of its primary u
@@ -111,6 +115,8 @@ target (DropSecondary v) = v
 target (Follow v state) = v
 target (Resume v state) = v
 target (TakeOver v) = v
+target (FallBack v more state) = v
+target (Yield v u kind state) = v
 target (Unsync v t) = v
 target (Mirror v t u w) = v
 target (LandBoth w v t) = v
@@ -151,6 +157,8 @@ fields_left (DropSecondary v) u = no_secondary u.fields
 fields_left (Follow v state) u = record u.fields { secondary_state = state }
 fields_left (Resume v state) u = resumed state u.fields
 fields_left (TakeOver v) u = taken_over u.fields
+fields_left (FallBack v more state) u = fallen_back more state u.fields
+fields_left (Yield v a kind state) u = yielded a kind state u.fields
 fields_left (Unsync v t) u = unsynced u.fields t
 fields_left (Mirror v t from w) u = mirrored u.fields t
 fields_left (LandBoth w v t) u = synced u.fields t

@@ -3,6 +3,7 @@ use Rattle.std.specs.Prelude.{ℕ, Bool, false, ◌&&◌, ◌||◌, not, List, [
 use Rattle.std.specs.List.{find, range_with_len}
 use Rattle.std.specs.Option.{option_or}
 use Rattle.std.specs.Str.{bytes_eq}
+use Rattle.std.specs.FinSet.{union}
 use Rattle.dr_ids.specs.Paths.{path_in}
 use Rattle.dr_ids.specs.declared.refusal.Refusal.{Refusal}
 use Rattle.dr_ids.specs.declared.refusal.Refusal.TheVariants.{LinkDown, NotIdentical}
@@ -14,8 +15,8 @@ use Rattle.dr_model.specs.declared.state.PairState.TheVariants.{Suspended}
 use Rattle.dr_model.specs.Layout.{Tracks, is_part}
 use Rattle.dr_model.specs.Control.{Control}
 use Rattle.dr_model.specs.Relations.{in_order}
-use Rattle.dr_model.specs.Pairs.{is_primary_of, is_secondary_of, is_unpaired, is_kind, is_pending, is_suspended, first_state, next_state, is_last}
-use Rattle.dr_model.specs.Moves.{Store, Strike, Suspend, MakeSecondary, MakePrimary, DropPrimary, DropSecondary, Follow, Resume}
+use Rattle.dr_model.specs.Pairs.{is_primary_of, is_secondary_of, is_unpaired, is_kind, is_pending, is_suspended, first_state, next_state, state_with, is_last}
+use Rattle.dr_model.specs.Moves.{Store, Strike, Suspend, MakeSecondary, MakePrimary, DropPrimary, DropSecondary, Follow, Resume, TakeOver, FallBack, Yield}
 use Rattle.dr_model.specs.Carry.{Make, Next, Pass, Do, End, Entry, now, check}
 use Rattle.dr_model.specs.Entries.{fields_at, is_running, running_check, subsystem, share_server, share_size, is_no_target, stands_in, is_revertible, relation_state, pair_state, is_settled, copy_first}
 
@@ -201,3 +202,40 @@ is_active k src tgt v =
 -- the first such primary, in order of definition
 abbrev pub first_active : Control → ℕ → ℕ → Option ℕ
 first_active k src tgt = find (is_active k src tgt) k.volumes
+
+-- b is a secondary of a, of that kind
+abbrev pub may_take_over : ℕ → ℕ → Part → Control → Bool
+may_take_over a b kind k = belongs_to a b k && is_kind kind (fields_at k b).secondary
+
+-- Secondary b of a is taken over; a isn't asked.
+abbrev pub failover_entries : Control → ℕ → ℕ → Part → List Entry
+failover_entries k b a kind = running_check k b ∷ check (may_take_over a b kind) (pair_state k b) ∷ now (TakeOver b) ∷ []
+
+-- x is a primary of y, of that kind
+abbrev pub leads_as : ℕ → ℕ → Part → Control → Bool
+leads_as x y kind k = leads_to x y k && is_kind kind (fields_at k x).primary
+
+-- what a primary has out of sync, or has changed since it began to record
+abbrev pub unsent_by : ℕ → Control → Tracks
+unsent_by y k = union (fields_at k y).out_of_sync (fields_at k y).change_recording
+
+-- What y hasn't sent is out of sync at x too. With nothing out of sync then a Metro Mirror pair is Full Duplex.
+abbrev pub fall_back_on : ℕ → ℕ → Entry
+fall_back_on x y k = Do (Make (FallBack x (unsent_by y k) (state_with (unsent_by y k) (fields_at k x))))
+
+-- y becomes the secondary of x, with the kind and the state that x has then
+abbrev pub yield_on : ℕ → ℕ → Entry
+yield_on y x k = Do (Make (Yield y x (fields_at k x).primary (fields_at k x).primary_state))
+
+-- Of two primaries of each other x goes on as the primary and y as its secondary, where this refusal doesn't come.
+abbrev pub failback_entries : Control → (Control → Option Refusal) → ℕ → ℕ → Part → List Entry
+failback_entries k why x y kind =
+    running_check k x
+    ∷ refuse_if (reach_refusal x y)
+    ∷ check (leads_as x y kind) (pair_state k x)
+    ∷ check (leads_to y x) (pair_state k y)
+    ∷ check (is_settled y) (relation_state k y)
+    ∷ check (is_settled x) (relation_state k x)
+    ∷ refuse_if why
+    ∷ fall_back_on x y
+    ∷ yield_on y x ∷ []

@@ -7,7 +7,7 @@ use Rattle.dr_model.specs.declared.state.Part.{Part}
 use Rattle.dr_model.specs.declared.state.Part.TheVariants.{Absent, Metro, Global}
 use Rattle.dr_model.specs.declared.state.PairState.{PairState}
 use Rattle.dr_model.specs.declared.state.PairState.TheVariants.{CopyPending, FullDuplex, Suspended}
-use Rattle.dr_model.specs.Layout.{Fields, is_part}
+use Rattle.dr_model.specs.Layout.{Tracks, Fields, is_part}
 use Rattle.dr_model.specs.Relations.{all_tracks, is_bare}
 
 -- the secondary of a primary, and the primary of a secondary
@@ -266,3 +266,19 @@ taken_over f = record (no_secondary f) {
   out_of_sync = empty;
   change_recording = empty;
 }
+
+-- A primary is voided, and these tracks are out of sync too; it has this state. Its long busy state stays.
+abbrev pub with_more : Tracks → Fields → Fields
+with_more more f = record (voided f) { out_of_sync = union (voided f).out_of_sync more }
+
+-- the state in which a pair goes on as these tracks are out of sync too
+abbrev pub state_with : Tracks → Fields → PairState
+state_with more f = next_state (with_more more f)
+
+-- the primary of a pair that goes the other way round from now on
+abbrev pub fallen_back : Tracks → PairState → Fields → Fields
+fallen_back more state f = record (with_more more f) { primary_state = state }
+
+-- and its secondary, which was a primary: its attempt stays
+abbrev pub yielded : ℕ → Part → PairState → Fields → Fields
+yielded a kind state f = made_secondary a kind state (no_primary f)

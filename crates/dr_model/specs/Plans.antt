@@ -18,10 +18,9 @@ use Rattle.dr_model.specs.Control.{Control, Fuse, Pending, new_volume, is_volume
 use Rattle.dr_model.specs.Relations.{Choices, rest}
 use Rattle.dr_model.specs.Moves.{Relate, Withdraw, Resync, Reverse, is_write}
 use Rattle.dr_model.specs.Carry.{Entry, Next, Pass, Do, Acknowledge, now, check}
-use Rattle.dr_model.specs.Pairs.{is_unpaired}
 use Rattle.dr_model.specs.Entries.{fields_at, is_running, running_check, subsystem, first_of, share_server, share_size, is_no_target, copies_from, targets_of, stands_in, is_any, relation_state, pair_state, is_no_secondary, takes_back, times, fetch_next, give_back}
 use Rattle.dr_model.specs.Sessions.{session_in, members_in, is_member, in_session}
-use Rattle.dr_model.specs.PairEntries.{refuse_if, make_entries, remove_entries, pause_entries, resume_entries, is_copying, tracks_to_send, sends, suspend_after, link_down, first_active, first_differing, stands_free}
+use Rattle.dr_model.specs.PairEntries.{refuse_if, make_entries, remove_entries, pause_entries, resume_entries, failover_entries, failback_entries, is_copying, tracks_to_send, sends, suspend_after, link_down, first_active, first_differing, differs_at, stands_free}
 use Rattle.dr_model.specs.WriteEntries.{landing, says_written, after_write, belongs, start_entries, lift_on, freeze_entries, thaw_entries}
 pub use Rattle.dr_model.specs.PlanParts.{Plan, same, none_follow, always, tables_plan, only_says, refuses, name_bytes, server_named, on_named, on_server, unless, entries_plan, is_owner, is_defined, is_named, owner_of, on_owner, on_session}
 pub use Rattle.dr_model.specs.RecoveryPlans.{decided_in, secondary_refusal, leaves_all, forbidden_unless}
@@ -39,7 +38,7 @@ use Rattle.dr_model.specs.declared.step.Devs.{Devs}
 use Rattle.dr_model.specs.declared.step.TornWord.{TornWord}
 use Rattle.dr_model.specs.declared.step.TornWord.TheVariants.{Same, Fill, Bytes}
 use Rattle.dr_model.specs.declared.step.Step.{Step}
-use Rattle.dr_model.specs.declared.step.Step.TheVariants.{Server, Volume, Link, Stop, StopAfter, Start, Issue as IssueWrite, Write, Apply, Show, MakeFlash, RemoveFlash, ResyncFlash, ReverseFlash, Copy, MakePath, RemovePath, MakePair, RemovePair, PausePair, ResumePair, Drain, Expire, Freeze, Unfreeze, MakeSession, RemoveSession, AddMember, RemoveMember, MakeMirror, PauseMirror, ResumeMirror, RemoveMirror, Abort, Exchange, Recover, CommitFlash, RevertFlash}
+use Rattle.dr_model.specs.declared.step.Step.TheVariants.{Server, Volume, Link, Stop, StopAfter, Start, Issue as IssueWrite, Write, Apply, Show, MakeFlash, RemoveFlash, ResyncFlash, ReverseFlash, Copy, MakePath, RemovePath, MakePair, RemovePair, PausePair, ResumePair, Failover, Failback, Drain, Expire, Freeze, Unfreeze, MakeSession, RemoveSession, AddMember, RemoveMember, MakeMirror, PauseMirror, ResumeMirror, RemoveMirror, Abort, Exchange, Recover, CommitFlash, RevertFlash}
 
 -- a server is defined; it is on
 abbrev pub server_done : Control → Name → Plan
@@ -469,6 +468,42 @@ pause_pair_plan k devs a b = entries_plan (found_volumes devs a b ++ pause_entri
 abbrev pub resume_pair_plan : Control → Devs → ℕ → ℕ → Part → Plan
 resume_pair_plan k devs a b kind = entries_plan (found_volumes devs a b ++ resume_entries k a b kind) (Done Alone)
 
+-- `failoverpprc`
+abbrev pub failover_plan : Control → Devs → ℕ → ℕ → Part → Plan
+failover_plan k devs b a kind = entries_plan (found_volumes devs b a ++ failover_entries k b a kind) (Done Alone)
+
+-- the target of y that is a member's, if one is
+abbrev pub member_from : ℕ → Control → Option ℕ
+member_from y k = find (λ u. (fields_at k u).member) (targets_of k y)
+
+-- what the session of that target says of its restore
+abbrev pub restores_refusal : Option ℕ → Control → Option Refusal
+restores_refusal None k = None
+restores_refusal (Some t) k = restore_refusal t k
+
+-- What y contains is going to change, also where a member's target may be restored onto it: refused where that restore is.
+abbrev pub yield_refusal : ℕ → Control → Option Refusal
+yield_refusal y k = restores_refusal (member_from y k) k
+
+-- `failbackpprc`
+abbrev pub failback_plan : Control → Devs → ℕ → ℕ → Part → Plan
+failback_plan k devs x y kind = entries_plan (found_volumes devs x y ++ failback_entries k (yield_refusal y) x y kind) (Done Alone)
+
+-- Two volumes contain the same. No list says what a target has outside the tracks that it holds, so this plan alone looks at what
+-- tracks contain.
+abbrev pub compare_entries : Control → (ℕ → ℕ → List ℕ) → ℕ → ℕ → List Entry
+compare_entries k contents v u =
+    check (is_defined v) (unknown OfVolume)
+    ∷ check (is_defined u) (unknown OfVolume)
+    ∷ running_check k v
+    ∷ running_check k u
+    ∷ check (share_size v u) (over Size)
+    ∷ refuse_if (differs_at (first_differing contents (k.volume v).tracks v u)) ∷ []
+
+-- `@compare`
+abbrev pub compare_plan : Control → (ℕ → ℕ → List ℕ) → ℕ → ℕ → Plan
+compare_plan k contents v u = entries_plan (compare_entries k contents v u) (Done Alone)
+
 -- Tracks that are out of sync are sent, lowest first. Where the secondary's server stops, the primary is suspended.
 abbrev pub drain_plan : Control → ℕ → Option ℕ → Plan
 drain_plan k a most =
@@ -506,6 +541,8 @@ plan_of k events line (MakePair devs a b kind full) = make_pair_plan k events de
 plan_of k events line (RemovePair devs a b source_only) = remove_pair_plan k devs a b source_only
 plan_of k events line (PausePair devs a b) = pause_pair_plan k devs a b
 plan_of k events line (ResumePair devs a b kind) = resume_pair_plan k devs a b (part_of kind)
+plan_of k events line (Failover devs b a kind) = failover_plan k devs b a (part_of kind)
+plan_of k events line (Failback devs x y kind) = failback_plan k devs x y (part_of kind)
 plan_of k events line (Drain a most) = drain_plan k a most
 plan_of k events line (Expire name) = on_server k name (expire_on k)
 plan_of k events line (Freeze devs l m) = freeze_plan k devs l m
@@ -548,6 +585,8 @@ is_built (MakePair devs a b kind full) = is_part (part_of kind)
 is_built (RemovePair devs a b source_only) = true
 is_built (PausePair devs a b) = true
 is_built (ResumePair devs a b kind) = is_part (part_of kind)
+is_built (Failover devs b a kind) = is_part (part_of kind)
+is_built (Failback devs x y kind) = is_part (part_of kind)
 is_built (Drain a most) = true
 is_built (Expire name) = true
 is_built (Freeze devs l m) = true

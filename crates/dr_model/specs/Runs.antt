@@ -1,14 +1,15 @@
 -- Whole runs: the steps of a script in order, each ended by its answer.
-use Rattle.std.specs.Prelude.{ℕ, List, [], ◌∷◌, ◌++◌, Option, Some, None, Result, Ok}
+use Rattle.std.specs.Prelude.{ℕ, List, [], ◌∷◌, ◌++◌, Option, Some, None, Result, Ok, if◌then◌else◌}
 use Rattle.std.specs.List.{fold}
 use Rattle.dr_model.specs.Control.{World, nothing}
-use Rattle.dr_model.specs.PlanParts.{only_says}
-use Rattle.dr_model.specs.Plans.{Plan, plan}
+use Rattle.dr_ids.specs.declared.refusal.Refusal.TheVariants.{JournalFull}
+use Rattle.dr_model.specs.PlanParts.{only_says, refuses}
+use Rattle.dr_model.specs.Plans.{Plan, plan, has_room, compare_plan}
 pub use Rattle.dr_model.specs.Carried.{begun, finish, carried_out, answered, said, masters_lost}
 unfoldable pub use Rattle.dr_model.specs.Carried.{after_plan}
 use Rattle.dr_model.specs.Forming.{Part, Way, formed, form_said}
 use Rattle.dr_model.specs.declared.step.Step.{Step}
-use Rattle.dr_model.specs.declared.step.Step.TheVariants.{Run}
+use Rattle.dr_model.specs.declared.step.Step.TheVariants.{Run, Compare}
 
 -- a step with the number of its line; a line outside the grammar is one too, with the column of its first fault
 pub record Task : Type 0 where
@@ -20,21 +21,33 @@ pub record Course : Type 0 where
   pub before : List Part
   pub last : Part
 
--- an `@run`: its session, and how many groups it asks for
-abbrev pub run_asked : Result Step ℕ → Option (ℕ × ℕ)
-run_asked (Ok (Run s n)) = Some (s, n)
+-- A step that isn't one plan of its control state and journal: an `@run`, with its session and how many groups it asks for; and a
+-- comparison of two volumes, which looks at what tracks contain.
+pub data Apart : Type 0 where
+  Groups : (s n : ℕ) → Apart
+  Volumes : (v u : ℕ) → Apart
+
+-- an `@run`, or a comparison
+abbrev pub run_asked : Result Step ℕ → Option Apart
+run_asked (Ok (Run s n)) = Some (Groups s n)
+run_asked (Ok (Compare v u)) = Some (Volumes v u)
 run_asked asked = None
 
 -- one plan, answered
 abbrev pub alone : World → Plan → Course
 alone w p = record { before = []; last = record { world = w; plan = p } }
 
+-- a comparison, with room in the journal
+abbrev pub compared : World → ℕ → ℕ → Plan
+compared w v u = if has_room w.events then compare_plan w.control w.contents v u else refuses JournalFull
+
 -- an `@run` ends in a plan that only answers; every other step is one plan
-abbrev pub course_of : World → Task → Option (ℕ × ℕ) → Course
+abbrev pub course_of : World → Task → Option Apart → Course
 course_of w t None = alone w (plan w.control w.events t.line t.asked)
-course_of w t (Some asked) =
-    let x : Way = formed w asked.0 asked.1 in
-    record { before = x.parts; last = record { world = x.world; plan = only_says (form_said asked.0 x.world.control x.refusal) } }
+course_of w t (Some (Groups s n)) =
+    let x : Way = formed w s n in
+    record { before = x.parts; last = record { world = x.world; plan = only_says (form_said s x.world.control x.refusal) } }
+course_of w t (Some (Volumes v u)) = alone w (compared w v u)
 
 -- the plans of a task, in the world in which it begins
 abbrev pub course : World → Task → Course

@@ -183,7 +183,7 @@ pub struct Span {
 /// How far a line was read: its command, the option whose value comes next, how many places of the
 /// command's operands are filled, and what was given.
 #[derive(Clone, Copy)]
-pub struct Place {
+pub struct LinePlace {
     pub command: Command,
     pub awaited: Option<Setting>,
     pub filled: usize,

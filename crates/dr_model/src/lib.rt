@@ -15,9 +15,9 @@ mod state;
 mod step;
 
 pub use event::Event;
-pub use grammar::{Command, Item, Operand, Operands, Options, Place, Saying, Setting, Span};
+pub use grammar::{Command, Item, LinePlace, Operand, Operands, Options, Saying, Setting, Span};
 pub use image::image_of;
 pub use journal::Journal;
-pub use said::{Addition, Numbers, Said};
+pub use said::{Addition, AnswerNumbers, Said};
 pub use state::{PairState, Part};
 pub use step::{Devs, Name, Step, TornWord};

@@ -37,7 +37,7 @@ pub enum Said {
 
 /// An answer as the journal keeps it: code 0 is ok, 100 held, any other the number of the refusal.
 #[derive(Clone, Copy)]
-pub struct Numbers {
+pub struct AnswerNumbers {
     pub code: u8,
     pub a: u32,
     pub b: u32,
@@ -59,7 +59,7 @@ impl Said {
         }
     }
 
-    fn numbers(self) -> Numbers
+    fn numbers(self) -> AnswerNumbers
         ensures { result ≡ answers.numbers self }
     {
         match self {
@@ -71,7 +71,7 @@ impl Said {
 }
 
 impl Addition {
-    fn numbers(self) -> Numbers
+    fn numbers(self) -> AnswerNumbers
         ensures { result ≡ answers.done_numbers self }
     {
         match self {
@@ -91,13 +91,13 @@ impl Addition {
     }
 }
 
-fn numbered(code: u8, a: u32, b: u32, c: u32) -> Numbers
+fn numbered(code: u8, a: u32, b: u32, c: u32) -> AnswerNumbers
     ensures { result ≡ answers.numbers_of code a b c }
 {
-    Numbers { code, a, b, c }
+    AnswerNumbers { code, a, b, c }
 }
 
-fn refused_numbers(refusal: Refusal) -> Numbers
+fn refused_numbers(refusal: Refusal) -> AnswerNumbers
     ensures { result ≡ answers.refused_numbers refusal }
 {
     match refusal {
@@ -132,7 +132,7 @@ fn refused_numbers(refusal: Refusal) -> Numbers
     }
 }
 
-fn decided_numbers(code: u8, decision: Decision) -> Numbers
+fn decided_numbers(code: u8, decision: Decision) -> AnswerNumbers
     ensures { result ≡ answers.numbers_of code (answers.decision_place decision) (answers.decision_first decision) (answers.decision_second decision) }
 {
     numbered(

@@ -7,7 +7,7 @@ use Rattle.dr_plant.specs.declared.plant.WriteFuse.{WriteFuse}
 use Rattle.dr_plant.specs.State.{PlantState, after_write, can_write, torn_by}
 use Rattle.dr_plant.proofs.StateLemmas.{at2_other, other-after_write, same-after_write}
 use Rattle.dr_record.specs.Taken.{taken_from}
-use Rattle.dr_record.specs.Writes.{Write, write, after_writes, all_put, Passes, torn_after, SameShape}
+use Rattle.dr_record.specs.Writes.{BlockWrite, write, after_writes, all_put, Passes, torn_after, SameShape}
 use Rattle.dr_record.specs.Slots.{choice, slot_of, gate_of, start_of, stored, Chooses, IsOldOrNew, block_writes, record_writes, torn_choice, slot_when_stopped, IsCutShort, SameElsewhere}
 use Rattle.dr_record.proofs.TakenLemmas.{taken_same}
 use Rattle.dr_record.proofs.WritesLemmas.{goes, stops, ends, append-goes, append-stops, shape-after_writes, apart-after_writes, off-after_writes, faults-after_writes}
@@ -16,11 +16,11 @@ use Rattle.dr_record.proofs.WriteLists.{writes_pass, writes_torn, writes_torn_at
 use Rattle.dr_logic.proofs.Tables.{at2_same}
 
 -- How the writes of a record went: stopped in its blocks, or those are all done and the gate is written.
-record InBlocks (s t : PlantState) (dev : ℕ) (blocks : List Write) (b : Bool) : Type 0 where
+record InBlocks (s t : PlantState) (dev : ℕ) (blocks : List BlockWrite) (b : Bool) : Type 0 where
   stopped : b ≡ true
   way : after_writes s dev blocks ≡ (t, true)
 
-record AtGate (s t : PlantState) (dev : ℕ) (blocks : List Write) (gate : List ℕ) (b : Bool) : Type 0 where
+record AtGate (s t : PlantState) (dev : ℕ) (blocks : List BlockWrite) (gate : List ℕ) (b : Bool) : Type 0 where
   middle : PlantState
   way : after_writes s dev blocks ≡ (middle, false)
   last : t ≡ after_write middle dev 0 gate
@@ -37,7 +37,7 @@ one s t dev gate b h =
           (ap (λ (r : PlantState × Bool). r.0) e, c ∙ ap (λ (r : PlantState × Bool). not r.1) (sym e))
     ] refl
 
-ways : (s t : PlantState) (dev : ℕ) (blocks : List Write) (gate : List ℕ) (b : Bool) → after_writes s dev (blocks ++ write 0 gate ∷ []) ≡ (t, b) → InBlocks s t dev blocks b ⊎ AtGate s t dev blocks gate b
+ways : (s t : PlantState) (dev : ℕ) (blocks : List BlockWrite) (gate : List ℕ) (b : Bool) → after_writes s dev (blocks ++ write 0 gate ∷ []) ≡ (t, b) → InBlocks s t dev blocks b ⊎ AtGate s t dev blocks gate b
 ways s t dev blocks gate b h =
     let r = after_writes s dev blocks in
     elim r.1 as (λ v. r.1 ≡ v → InBlocks s t dev blocks b ⊎ AtGate s t dev blocks gate b) [

@@ -7,7 +7,7 @@ use Rattle.dr_logic.specs.Tables.{at, at2}
 use Rattle.dr_plant.specs.declared.plant.WriteFuse.{WriteFuse}
 use Rattle.dr_plant.specs.State.{PlantState, can_write, written, torn, faulted, passes_write, lowered_write, lowered_read, torn_block}
 use Rattle.dr_plant.proofs.StateLemmas.{same_state, at2_apart, write_off, write_torn, write_can}
-use Rattle.dr_record.specs.Writes.{Write, after_writes, all_put, Passes, write_fuse_after, read_fuse_after, all_written, torn_after}
+use Rattle.dr_record.specs.Writes.{BlockWrite, after_writes, all_put, Passes, write_fuse_after, read_fuse_after, all_written, torn_after}
 use Rattle.dr_record.proofs.WritesLemmas.{goes, stops, ends}
 use Rattle.dr_logic.proofs.Tables.{at_same, at_other}
 
@@ -64,7 +64,7 @@ can-on : (s : PlantState) (dev : ℕ) → s.on (s.owner dev) ≡ true → passes
 can-on s dev h k = ap (λ v. v && passes_write (s.write_fuse (s.owner dev))) h ∙ k
 
 -- To a server that is on, with no write fuse or one that stands at their number or more: all the writes are done.
-pub writes_pass : (s : PlantState) (dev : ℕ) (ws : List Write) → s.on (s.owner dev) ≡ true → Passes (length ws) (s.write_fuse (s.owner dev)) → after_writes s dev ws ≡ (all_written s dev ws, false)
+pub writes_pass : (s : PlantState) (dev : ℕ) (ws : List BlockWrite) → s.on (s.owner dev) ≡ true → Passes (length ws) (s.write_fuse (s.owner dev)) → after_writes s dev ws ≡ (all_written s dev ws, false)
 unfolding all_put
 writes_pass s dev [] on p =
     let o = s.owner dev in
@@ -90,7 +90,7 @@ writes_pass s dev (w ∷ ws) on p =
     ))
 
 -- To a server that is on, with a write fuse at the number of the first writes: those are done, and the next is torn.
-pub writes_torn : (s : PlantState) (dev : ℕ) (xs : List Write) (w : Write) (ys : List Write) (f : WriteFuse) → s.on (s.owner dev) ≡ true → s.write_fuse (s.owner dev) ≡ Some f → f.after ≡ length xs → after_writes s dev (xs ++ w ∷ ys) ≡ (torn_after s dev xs w.block f, true)
+pub writes_torn : (s : PlantState) (dev : ℕ) (xs : List BlockWrite) (w : BlockWrite) (ys : List BlockWrite) (f : WriteFuse) → s.on (s.owner dev) ≡ true → s.write_fuse (s.owner dev) ≡ Some f → f.after ≡ length xs → after_writes s dev (xs ++ w ∷ ys) ≡ (torn_after s dev xs w.block f, true)
 unfolding all_put
 writes_torn s dev [] w ys f on fuse k =
     let o = s.owner dev in
@@ -120,27 +120,27 @@ writes_torn s dev (x ∷ xs) w ys f on fuse k =
     ))
 
 -- The same, where the fuse stands below the number of writes: the torn one is told by its place.
-split-at : (ws : List Write) (k : ℕ) (w : Write) → k < length ws → ws ≡ take k ws ++ get_or ws k w ∷ drop (k + 1) ws
+split-at : (ws : List BlockWrite) (k : ℕ) (w : BlockWrite) → k < length ws → ws ≡ take k ws ++ get_or ws k w ∷ drop (k + 1) ws
 split-at ws k w h = grind (arith, common_steps)
 
-pub writes_torn_at : (s : PlantState) (dev : ℕ) (ws : List Write) (w : Write) (f : WriteFuse) → s.on (s.owner dev) ≡ true → s.write_fuse (s.owner dev) ≡ Some f → f.after < length ws → after_writes s dev ws ≡ (torn_after s dev (take f.after ws) (get_or ws f.after w).block f, true)
+pub writes_torn_at : (s : PlantState) (dev : ℕ) (ws : List BlockWrite) (w : BlockWrite) (f : WriteFuse) → s.on (s.owner dev) ≡ true → s.write_fuse (s.owner dev) ≡ Some f → f.after < length ws → after_writes s dev ws ≡ (torn_after s dev (take f.after ws) (get_or ws f.after w).block f, true)
 writes_torn_at s dev ws w f on fuse k =
     ap (after_writes s dev) (split-at ws f.after w k)
     ∙ writes_torn s dev (take f.after ws) (get_or ws f.after w) (drop (f.after + 1) ws) f on fuse (grind (arith, common_steps))
 
 -- To a server that is off: the first write only counts a fault, and stops them all.
-pub writes_off : (s : PlantState) (dev : ℕ) (ws : List Write) → s.on (s.owner dev) ≡ false → 0 < length ws → after_writes s dev ws ≡ (faulted s, true)
+pub writes_off : (s : PlantState) (dev : ℕ) (ws : List BlockWrite) → s.on (s.owner dev) ≡ false → 0 < length ws → after_writes s dev ws ≡ (faulted s, true)
 writes_off s dev [] off some = absurd (omega arith)
 writes_off s dev (w ∷ ws) off some =
     stops s dev w ws (ap (λ v. v && passes_write (s.write_fuse (s.owner dev))) off) ∙ (λ i. (write_off s dev w.block w.bytes off i, true))
 
 -- the blocks after writes in a row, and those of other devices
-pub all_put-append : (block : ℕ → ℕ → List ℕ) (dev : ℕ) (xs ys : List Write) → all_put block dev (xs ++ ys) ≡ all_put (all_put block dev xs) dev ys
+pub all_put-append : (block : ℕ → ℕ → List ℕ) (dev : ℕ) (xs ys : List BlockWrite) → all_put block dev (xs ++ ys) ≡ all_put (all_put block dev xs) dev ys
 unfolding all_put
 all_put-append block dev [] ys = refl
 all_put-append block dev (x ∷ xs) ys = all_put-append (at2 block dev x.block x.bytes) dev xs ys
 
-pub all_put-apart : (block : ℕ → ℕ → List ℕ) (dev : ℕ) (ws : List Write) (d b : ℕ) → d ≢ dev → all_put block dev ws d b ≡ block d b
+pub all_put-apart : (block : ℕ → ℕ → List ℕ) (dev : ℕ) (ws : List BlockWrite) (d b : ℕ) → d ≢ dev → all_put block dev ws d b ≡ block d b
 unfolding all_put
 all_put-apart block dev [] d b ne = refl
 all_put-apart block dev (w ∷ ws) d b ne = all_put-apart (at2 block dev w.block w.bytes) dev ws d b ne ∙ at2_apart block dev w.block w.bytes d b ne

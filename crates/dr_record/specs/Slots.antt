@@ -5,7 +5,7 @@ use Rattle.dr_logic.specs.Counts.{risen}
 use Rattle.dr_plant.specs.State.{PlantState, torn_by}
 use Rattle.dr_plant.specs.declared.plant.WriteFuse.{WriteFuse}
 use Rattle.dr_record.specs.Taken.{taken_from}
-use Rattle.dr_record.specs.Writes.{Write, write, SameShape}
+use Rattle.dr_record.specs.Writes.{BlockWrite, write, SameShape}
 
 -- The slot that a gate chooses: slot 1 (true) where bit 0 of its first byte is set, else slot 0 (false).
 abbrev pub choice : List ℕ → Bool
@@ -38,12 +38,12 @@ IsOldOrNew taken n fresh s dev slot old new =
     Chooses taken n fresh s dev slot old ⊎ Chooses taken n fresh s dev (not slot) new
 
 -- The writes of n blocks, from the k-th on, from the block start + k of a device on.
-unfoldable pub block_writes : ℕ → ℕ → ℕ → (ℕ → List ℕ) → List Write
+unfoldable pub block_writes : ℕ → ℕ → ℕ → (ℕ → List ℕ) → List BlockWrite
 block_writes start k zero bytes = []
 block_writes start k (suc n) bytes = write (start + k) (bytes k) ∷ block_writes start (k + 1) n bytes
 
 -- The writes that put a record of n blocks into a slot: its blocks in order, and then the gate.
-abbrev pub record_writes : ℕ → Bool → (ℕ → List ℕ) → List Write
+abbrev pub record_writes : ℕ → Bool → (ℕ → List ℕ) → List BlockWrite
 record_writes n slot bytes = block_writes (start_of n slot) 0 n bytes ++ write 0 (gate_of slot) ∷ []
 
 -- The slot that a gate chooses once a fuse stopped the writes of a record: what is left of the gate decides where

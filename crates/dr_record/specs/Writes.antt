@@ -6,16 +6,16 @@ use Rattle.dr_plant.specs.State.{PlantState, after_write, can_write, torn_by}
 use Rattle.dr_plant.specs.declared.plant.WriteFuse.{WriteFuse}
 
 -- A block of a device, and the bytes to write to it.
-pub record Write : Type 0 where
+pub record BlockWrite : Type 0 where
   pub block : ℕ
   pub bytes : List ℕ
 
 -- a write of these bytes to a block
-abbrev pub write : ℕ → List ℕ → Write
+abbrev pub write : ℕ → List ℕ → BlockWrite
 write block bytes = record { block = block; bytes = bytes }
 
 -- The writes to a device in order, until one is stopped: what they leave, and whether one was stopped.
-unfoldable pub after_writes : PlantState → ℕ → List Write → PlantState × Bool
+unfoldable pub after_writes : PlantState → ℕ → List BlockWrite → PlantState × Bool
 after_writes s dev [] = (s, false)
 after_writes s dev (w ∷ ws) =
     if can_write s dev then after_writes (after_write s dev w.block w.bytes) dev ws
@@ -33,7 +33,7 @@ pub record SameShape (s t : PlantState) : Type 0 where
   pub owner : t.owner ≡ s.owner
 
 -- Every block once these writes are done.
-unfoldable pub all_put : (ℕ → ℕ → List ℕ) → ℕ → List Write → ℕ → ℕ → List ℕ
+unfoldable pub all_put : (ℕ → ℕ → List ℕ) → ℕ → List BlockWrite → ℕ → ℕ → List ℕ
 all_put block dev [] = block
 all_put block dev (w ∷ ws) = all_put (at2 block dev w.block w.bytes) dev ws
 
@@ -53,7 +53,7 @@ read_fuse_after n None = None
 read_fuse_after n (Some after) = Some (after - n)
 
 -- All the writes are done: each block has its bytes, and each fuse of the owner is lower by their number.
-abbrev pub all_written : PlantState → ℕ → List Write → PlantState
+abbrev pub all_written : PlantState → ℕ → List BlockWrite → PlantState
 all_written s dev ws = record s {
   block = all_put s.block dev ws;
   write_fuse = at s.write_fuse (s.owner dev) (write_fuse_after (length ws) (s.write_fuse (s.owner dev)));
@@ -62,7 +62,7 @@ all_written s dev ws = record s {
 
 -- The first writes are done, and the fuse f cut short the next one, to block b: it has what the fuse leaves, the
 -- owner is off with its write fuse at 0, and a fault is counted.
-abbrev pub torn_after : PlantState → ℕ → List Write → ℕ → WriteFuse → PlantState
+abbrev pub torn_after : PlantState → ℕ → List BlockWrite → ℕ → WriteFuse → PlantState
 torn_after s dev ws b f = record s {
   block = at2 (all_put s.block dev ws) dev b (torn_by f.torn (all_put s.block dev ws dev b));
   on = at s.on (s.owner dev) false;

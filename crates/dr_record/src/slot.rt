@@ -34,19 +34,19 @@ fn start_of<F: Form>(slot: bool) -> u16
 }
 
 /// Reads the value in a slot. Fails where the plant can't read the device.
-pub fn read_slot<P: Plant, F: Form>(p: &mut P, dev: DeviceId, slot: bool) -> Result<F, Stopped>
-    requires device { IsDevice (P.state p.old) dev.0 (2 * F.BLOCKS + 1) }
+pub fn read_slot<P: Plant, F: Form>(plant: &mut P, dev: DeviceId, slot: bool) -> Result<F, Stopped>
+    requires device { IsDevice (P.state plant.old) dev.0 (2 * F.BLOCKS + 1) }
     requires fits { 2 * F.BLOCKS + 1 < 2 ^ 16 }
-    ensures same { OnOk result (P.state p.new ≡ P.state p.old) }
-    ensures stopped { OnErr result (can_read (P.state p.old) dev.0 ≡ false) }
-    ensures state { OnErr result (P.state p.new ≡ after_read (P.state p.old) dev.0) }
-    ensures value { IfOk result (λ x. x ≡ slots.stored F.taken F.BLOCKS F.fresh (P.state p.old) dev.0 slot) }
+    ensures same { OnOk result (P.state plant.new ≡ P.state plant.old) }
+    ensures stopped { OnErr result (can_read (P.state plant.old) dev.0 ≡ false) }
+    ensures state { OnErr result (P.state plant.new ≡ after_read (P.state plant.old) dev.0) }
+    ensures value { IfOk result (λ x. x ≡ slots.stored F.taken F.BLOCKS F.fresh (P.state plant.old) dev.0 slot) }
 {
     let start = start_of::<F>(slot);
     let mut value = F::blank();
     for number in 0..F::BLOCKS {
         let mut block = [0; 64];
-        p.read(dev, start + number, &mut block)?;
+        plant.read(dev, start + number, &mut block)?;
         value.take_block(number, &block);
     }
     Ok(value)
@@ -54,19 +54,19 @@ pub fn read_slot<P: Plant, F: Form>(p: &mut P, dev: DeviceId, slot: bool) -> Res
 
 /// Writes the blocks of a value to a slot. Fails at the first write that can't be done.
 pub fn write_slot<P: Plant, F: Form>(
-    p: &mut P,
+    plant: &mut P,
     dev: DeviceId,
     slot: bool,
     value: &F,
 ) -> Result<(), Stopped>
-    requires device { IsDevice (P.state p.old) dev.0 (2 * F.BLOCKS + 1) }
+    requires device { IsDevice (P.state plant.old) dev.0 (2 * F.BLOCKS + 1) }
     requires fits { 2 * F.BLOCKS + 1 < 2 ^ 16 }
-    ensures writes { after_writes (P.state p.old) dev.0 (slots.block_writes (slots.start_of F.BLOCKS slot) 0 F.BLOCKS (F.blocks value.now)) ≡ (P.state p.new, is_err result) }
-    ensures shape { SameShape (P.state p.old) (P.state p.new) }
+    ensures writes { after_writes (P.state plant.old) dev.0 (slots.block_writes (slots.start_of F.BLOCKS slot) 0 F.BLOCKS (F.blocks value.now)) ≡ (P.state plant.new, is_err result) }
+    ensures shape { SameShape (P.state plant.old) (P.state plant.new) }
 {
     let start = start_of::<F>(slot);
     for i in 0..F::BLOCKS {
-        p.write(dev, start + i, &value.block(i))?;
+        plant.write(dev, start + i, &value.block(i))?;
     }
     Ok(())
 }
@@ -74,15 +74,15 @@ pub fn write_slot<P: Plant, F: Form>(
 /// Writes a record to a slot: the blocks of the value in order, and then the gate that chooses the
 /// slot. Fails at the first write that can't be done.
 pub fn write_record<P: Plant, F: Form>(
-    p: &mut P,
+    plant: &mut P,
     dev: DeviceId,
     slot: bool,
     value: &F,
 ) -> Result<(), Stopped>
-    requires device { IsDevice (P.state p.old) dev.0 (2 * F.BLOCKS + 1) }
+    requires device { IsDevice (P.state plant.old) dev.0 (2 * F.BLOCKS + 1) }
     requires fits { 2 * F.BLOCKS + 1 < 2 ^ 16 }
-    ensures { after_writes (P.state p.old) dev.0 (slots.record_writes F.BLOCKS slot (F.blocks value.now)) ≡ (P.state p.new, is_err result) }
+    ensures { after_writes (P.state plant.old) dev.0 (slots.record_writes F.BLOCKS slot (F.blocks value.now)) ≡ (P.state plant.new, is_err result) }
 {
-    write_slot(p, dev, slot, value)?;
-    p.write(dev, 0, &gate_of(slot))
+    write_slot(plant, dev, slot, value)?;
+    plant.write(dev, 0, &gate_of(slot))
 }

@@ -32,43 +32,43 @@ use dr_volume::peek_head;
 /// changed. Fails too where the server stops in the move or goes off at a read. A session has at most 64 members. The journal
 /// needs room for two events.
 pub fn act<P: Plant>(
-    p: &mut P,
-    c: &Config,
-    j: &mut Journal,
+    plant: &mut P,
+    config: &Config,
+    journal: &mut Journal,
     ss: &Sessions,
     source: VolumeId,
     commit: bool,
 ) -> Result<(), Refusal>
-    requires rest { IsAtRest (P.state p.old) c.now }
-    requires fit { RelationsFit (P.state p.old) c.now }
-    requires aside { AsideFits (P.state p.old) c.now }
-    requires defined { IsSome (place_of c.now source.0) }
-    requires members { (s : ℕ) → AreReady (P.state p.old) c.now (model.members_in (model.session_in ss.now.sessions s)) }
+    requires rest { IsAtRest (P.state plant.old) config.now }
+    requires fit { RelationsFit (P.state plant.old) config.now }
+    requires aside { AsideFits (P.state plant.old) config.now }
+    requires defined { IsSome (place_of config.now source.0) }
+    requires members { (s : ℕ) → AreReady (P.state plant.old) config.now (model.members_in (model.session_in ss.now.sessions s)) }
     requires few { (s : ℕ) → length (model.members_in (model.session_in ss.now.sessions s)) ≤ 64 }
-    requires room { 2 ≤ j.old.spare }
-    ensures carried { (r : Rest) → PlanEnds (armed_in (P.state p.old)) (world_seen (P.state p.old) c.now (with_sessions ss.now.sessions r) j.old.events)
-        (plans.settle_target (world_seen (P.state p.old) c.now (with_sessions ss.now.sessions r) j.old.events).control (lets_by commit) source.0 (plans.revertible_target (world_seen (P.state p.old) c.now (with_sessions ss.now.sessions r) j.old.events).control source.0))
-        (world_seen (P.state p.new) c.now (with_sessions ss.now.sessions r) j.new.events) (act_said result) }
-    ensures unchanged { is_stop (refusal_of result) ≡ false → OnErr result ((P.state p.new ≡ P.state p.old) × (j.new ≡ j.old)) }
-    ensures rest { IsAtRest (P.state p.new) c.now }
-    ensures fit { RelationsFit (P.state p.new) c.now }
-    ensures aside { AsideFits (P.state p.new) c.now }
-    ensures unarmed { (q : ℕ) → (P.state p.old).read_fuse q ≡ None → (P.state p.new).read_fuse q ≡ None }
-    ensures faults { Counted (is_stop (refusal_of result)) (P.state p.old).faults (P.state p.new).faults }
-    ensures on { OnOk result ((P.state p.new).on ≡ (P.state p.old).on) }
-    ensures room { j.old.spare ≤ j.new.spare + 2 }
-    ensures spare { length j.new.events + j.new.spare ≡ length j.old.events + j.old.spare }
+    requires room { 2 ≤ journal.old.spare }
+    ensures carried { (r : Rest) → PlanEnds (armed_in (P.state plant.old)) (world_seen (P.state plant.old) config.now (with_sessions ss.now.sessions r) journal.old.events)
+        (plans.settle_target (world_seen (P.state plant.old) config.now (with_sessions ss.now.sessions r) journal.old.events).control (lets_by commit) source.0 (plans.revertible_target (world_seen (P.state plant.old) config.now (with_sessions ss.now.sessions r) journal.old.events).control source.0))
+        (world_seen (P.state plant.new) config.now (with_sessions ss.now.sessions r) journal.new.events) (act_said result) }
+    ensures unchanged { is_stop (refusal_of result) ≡ false → OnErr result ((P.state plant.new ≡ P.state plant.old) × (journal.new ≡ journal.old)) }
+    ensures rest { IsAtRest (P.state plant.new) config.now }
+    ensures fit { RelationsFit (P.state plant.new) config.now }
+    ensures aside { AsideFits (P.state plant.new) config.now }
+    ensures unarmed { (q : ℕ) → (P.state plant.old).read_fuse q ≡ None → (P.state plant.new).read_fuse q ≡ None }
+    ensures faults { Counted (is_stop (refusal_of result)) (P.state plant.old).faults (P.state plant.new).faults }
+    ensures on { OnOk result ((P.state plant.new).on ≡ (P.state plant.old).on) }
+    ensures room { journal.old.spare ≤ journal.new.spare + 2 }
+    ensures spare { length journal.new.events + journal.new.spare ≡ length journal.old.events + journal.old.spare }
 {
-    let Some(t) = revertible_target(p, c, source) else {
-        return Err(relation_state(p, c, source));
+    let Some(t) = revertible_target(plant, config, source) else {
+        return Err(relation_state(plant, config, source));
     };
-    let s = SessionId(peek_head(p, c, t).session);
+    let s = SessionId(peek_head(plant, config, t).session);
     let Some(m) = member_with(ss, s, t) else {
-        return Err(relation_state(p, c, source));
+        return Err(relation_state(plant, config, source));
     };
-    let decided = decide_over(p, c, ss, s);
-    if let Some(why) = settle_refusal(p, c, ss, s, commit, decided) {
+    let decided = decide_over(plant, config, ss, s);
+    if let Some(why) = settle_refusal(plant, config, ss, s, commit, decided) {
         return Err(why);
     }
-    settle_member(p, c, j, s, decided, &m)
+    settle_member(plant, config, journal, s, decided, &m)
 }

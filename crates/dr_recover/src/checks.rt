@@ -64,23 +64,23 @@ fn forbidden_unless(may: bool, decided: Decision) -> Option<Refusal>
 /// Why a target of a session's members isn't committed, or else reverted, by hand: a secondary's server is off, or else a secondary
 /// isn't taken over, or else what was decided forbids it.
 pub(crate) fn settle_refusal<P: Plant>(
-    p: &P,
-    c: &Config,
+    plant: &P,
+    config: &Config,
     ss: &Sessions,
     s: SessionId,
     commit: bool,
     decided: Decision,
 ) -> Option<Refusal>
-    requires stands { StandsFor c.now (P.state p.now) }
-    requires members { AreReady (P.state p.now) c.now (model.members_in (model.session_in ss.now.sessions s.0)) }
-    ensures refusal { (r : Rest) (events : List Event) → result ≡ plans.settle_refusal (lets_by commit) decided (model.members_in (model.session_in ss.now.sessions s.0)) (world_seen (P.state p.now) c.now r events).control }
-    ensures running { OnNone result (AreRunning (P.state p.now) c.now (model.members_in (model.session_in ss.now.sessions s.0))) }
+    requires stands { StandsFor config.now (P.state plant.now) }
+    requires members { AreReady (P.state plant.now) config.now (model.members_in (model.session_in ss.now.sessions s.0)) }
+    ensures refusal { (r : Rest) (events : List Event) → result ≡ plans.settle_refusal (lets_by commit) decided (model.members_in (model.session_in ss.now.sessions s.0)) (world_seen (P.state plant.now) config.now r events).control }
+    ensures running { OnNone result (AreRunning (P.state plant.now) config.now (model.members_in (model.session_in ss.now.sessions s.0))) }
     ensures calm { is_stop result ≡ false }
 {
-    if let Some(why) = secondary_refusal(p, c, ss, s) {
+    if let Some(why) = secondary_refusal(plant, config, ss, s) {
         return Some(why);
     }
-    if let Some(why) = untaken_refusal(p, c, ss, s) {
+    if let Some(why) = untaken_refusal(plant, config, ss, s) {
         return Some(why);
     }
     forbidden_unless(lets(commit, decided), decided)

@@ -46,13 +46,13 @@ fn group_of(decided: Decision) -> Option<u32>
 }
 
 /// The journal is told that the recovery of a session ended with that group, 0 for none.
-fn end_recovery(j: &mut Journal, s: SessionId, group: Option<u32>)
-    requires room { 1 ≤ j.old.spare }
-    ensures events { j.new.events ≡ j.old.events ++ Event.Recovered s.0 (plans.group_number group) ∷ [] }
-    ensures room { j.old.spare ≡ j.new.spare + 1 }
-    ensures spare { length j.new.events + j.new.spare ≡ length j.old.events + j.old.spare }
+fn end_recovery(journal: &mut Journal, s: SessionId, group: Option<u32>)
+    requires room { 1 ≤ journal.old.spare }
+    ensures events { journal.new.events ≡ journal.old.events ++ Event.Recovered s.0 (plans.group_number group) ∷ [] }
+    ensures room { journal.old.spare ≡ journal.new.spare + 1 }
+    ensures spare { length journal.new.events + journal.new.spare ≡ length journal.old.events + journal.old.spare }
 {
-    j.push(Event::Recovered {
+    journal.push(Event::Recovered {
         session: s.0,
         group: group.unwrap_or(0),
     });
@@ -66,46 +66,46 @@ fn end_recovery(j: &mut Journal, s: SessionId, group: Option<u32>)
 /// another recovery then gives each session the same group and images as this one would have. The session has at most 64
 /// members. The journal needs room for two events for each member and one more.
 pub fn recover<P: Plant>(
-    p: &mut P,
-    c: &Config,
-    j: &mut Journal,
+    plant: &mut P,
+    config: &Config,
+    journal: &mut Journal,
     ss: &Sessions,
     s: SessionId,
 ) -> Result<Recovered, Refusal>
-    requires rest { IsAtRest (P.state p.old) c.now }
-    requires fit { RelationsFit (P.state p.old) c.now }
-    requires aside { AsideFits (P.state p.old) c.now }
-    requires members { AreReady (P.state p.old) c.now (model.members_in (model.session_in ss.now.sessions s.0)) }
+    requires rest { IsAtRest (P.state plant.old) config.now }
+    requires fit { RelationsFit (P.state plant.old) config.now }
+    requires aside { AsideFits (P.state plant.old) config.now }
+    requires members { AreReady (P.state plant.old) config.now (model.members_in (model.session_in ss.now.sessions s.0)) }
     requires few { length (model.members_in (model.session_in ss.now.sessions s.0)) ≤ 64 }
-    requires room { length (model.members_in (model.session_in ss.now.sessions s.0)) + length (model.members_in (model.session_in ss.now.sessions s.0)) + 1 ≤ j.old.spare }
-    ensures carried { (r : Rest) → PlanEnds (armed_in (P.state p.old)) (world_seen (P.state p.old) c.now (with_sessions ss.now.sessions r) j.old.events)
-        (recover_behind (world_seen (P.state p.old) c.now (with_sessions ss.now.sessions r) j.old.events).control s.0 (model.members_in (model.session_in ss.now.sessions s.0))) (world_seen (P.state p.new) c.now (with_sessions ss.now.sessions r) j.new.events) (recovery_said result) }
-    ensures refused { (r : Rest) (why : Refusal) → plans.secondary_refusal (model.members_in (model.session_in ss.now.sessions s.0)) (world_seen (P.state p.old) c.now (with_sessions ss.now.sessions r) j.old.events).control ≡ Some why → (refusal_of result ≡ Some why) × (P.state p.new ≡ P.state p.old) × (j.new ≡ j.old) }
-    ensures ends { (r : Rest) → plans.secondary_refusal (model.members_in (model.session_in ss.now.sessions s.0)) (world_seen (P.state p.old) c.now (with_sessions ss.now.sessions r) j.old.events).control ≡ None
-        → Ends (armed_in (P.state p.old)) (world_seen (P.state p.new) c.now (with_sessions ss.now.sessions r) j.new.events) (refusal_of result) (world_seen (P.state p.old) c.now (with_sessions ss.now.sessions r) j.old.events) (plans.recover_entries s.0 (plans.decided_in s.0 (world_seen (P.state p.old) c.now (with_sessions ss.now.sessions r) j.old.events).control) (model.members_in (model.session_in ss.now.sessions s.0))) }
-    ensures decision { IfOk result (λ x. (r : Rest) → x.decision ≡ plans.decided_in s.0 (world_seen (P.state p.old) c.now (with_sessions ss.now.sessions r) j.old.events).control) }
-    ensures group { IfOk result (λ x. (r : Rest) → x.group ≡ plans.group_of (plans.decided_in s.0 (world_seen (P.state p.new) c.now (with_sessions ss.now.sessions r) j.new.events).control)) }
-    ensures keeps { (r : Rest) (x : Session) → model.session_in ss.now.sessions s.0 ≡ Some x → Sound (world_seen (P.state p.old) c.now (with_sessions ss.now.sessions r) j.old.events)
-        → RecoversAlike (world_seen (P.state p.old) c.now (with_sessions ss.now.sessions r) j.old.events) (world_seen (P.state p.new) c.now (with_sessions ss.now.sessions r) j.new.events) }
-    ensures recovers { IfOk result (λ y. (r : Rest) (x : Session) → model.session_in ss.now.sessions s.0 ≡ Some x → Sound (world_seen (P.state p.old) c.now (with_sessions ss.now.sessions r) j.old.events)
-        → IsRecovered (world_seen (P.state p.old) c.now (with_sessions ss.now.sessions r) j.old.events) (world_seen (P.state p.new) c.now (with_sessions ss.now.sessions r) j.new.events) s.0 y) }
-    ensures unchanged { is_stop (refusal_of result) ≡ false → OnErr result ((P.state p.new ≡ P.state p.old) × (j.new ≡ j.old)) }
-    ensures rest { IsAtRest (P.state p.new) c.now }
-    ensures fit { RelationsFit (P.state p.new) c.now }
-    ensures aside { AsideFits (P.state p.new) c.now }
-    ensures unarmed { (q : ℕ) → (P.state p.old).read_fuse q ≡ None → (P.state p.new).read_fuse q ≡ None }
-    ensures faults { Counted (is_stop (refusal_of result)) (P.state p.old).faults (P.state p.new).faults }
-    ensures on { OnOk result ((P.state p.new).on ≡ (P.state p.old).on) }
-    ensures room { j.old.spare ≤ j.new.spare + (length (model.members_in (model.session_in ss.now.sessions s.0)) + length (model.members_in (model.session_in ss.now.sessions s.0)) + 1) }
-    ensures spare { length j.new.events + j.new.spare ≡ length j.old.events + j.old.spare }
+    requires room { length (model.members_in (model.session_in ss.now.sessions s.0)) + length (model.members_in (model.session_in ss.now.sessions s.0)) + 1 ≤ journal.old.spare }
+    ensures carried { (r : Rest) → PlanEnds (armed_in (P.state plant.old)) (world_seen (P.state plant.old) config.now (with_sessions ss.now.sessions r) journal.old.events)
+        (recover_behind (world_seen (P.state plant.old) config.now (with_sessions ss.now.sessions r) journal.old.events).control s.0 (model.members_in (model.session_in ss.now.sessions s.0))) (world_seen (P.state plant.new) config.now (with_sessions ss.now.sessions r) journal.new.events) (recovery_said result) }
+    ensures refused { (r : Rest) (why : Refusal) → plans.secondary_refusal (model.members_in (model.session_in ss.now.sessions s.0)) (world_seen (P.state plant.old) config.now (with_sessions ss.now.sessions r) journal.old.events).control ≡ Some why → (refusal_of result ≡ Some why) × (P.state plant.new ≡ P.state plant.old) × (journal.new ≡ journal.old) }
+    ensures ends { (r : Rest) → plans.secondary_refusal (model.members_in (model.session_in ss.now.sessions s.0)) (world_seen (P.state plant.old) config.now (with_sessions ss.now.sessions r) journal.old.events).control ≡ None
+        → Ends (armed_in (P.state plant.old)) (world_seen (P.state plant.new) config.now (with_sessions ss.now.sessions r) journal.new.events) (refusal_of result) (world_seen (P.state plant.old) config.now (with_sessions ss.now.sessions r) journal.old.events) (plans.recover_entries s.0 (plans.decided_in s.0 (world_seen (P.state plant.old) config.now (with_sessions ss.now.sessions r) journal.old.events).control) (model.members_in (model.session_in ss.now.sessions s.0))) }
+    ensures decision { IfOk result (λ x. (r : Rest) → x.decision ≡ plans.decided_in s.0 (world_seen (P.state plant.old) config.now (with_sessions ss.now.sessions r) journal.old.events).control) }
+    ensures group { IfOk result (λ x. (r : Rest) → x.group ≡ plans.group_of (plans.decided_in s.0 (world_seen (P.state plant.new) config.now (with_sessions ss.now.sessions r) journal.new.events).control)) }
+    ensures keeps { (r : Rest) (x : Session) → model.session_in ss.now.sessions s.0 ≡ Some x → Sound (world_seen (P.state plant.old) config.now (with_sessions ss.now.sessions r) journal.old.events)
+        → RecoversAlike (world_seen (P.state plant.old) config.now (with_sessions ss.now.sessions r) journal.old.events) (world_seen (P.state plant.new) config.now (with_sessions ss.now.sessions r) journal.new.events) }
+    ensures recovers { IfOk result (λ y. (r : Rest) (x : Session) → model.session_in ss.now.sessions s.0 ≡ Some x → Sound (world_seen (P.state plant.old) config.now (with_sessions ss.now.sessions r) journal.old.events)
+        → IsRecovered (world_seen (P.state plant.old) config.now (with_sessions ss.now.sessions r) journal.old.events) (world_seen (P.state plant.new) config.now (with_sessions ss.now.sessions r) journal.new.events) s.0 y) }
+    ensures unchanged { is_stop (refusal_of result) ≡ false → OnErr result ((P.state plant.new ≡ P.state plant.old) × (journal.new ≡ journal.old)) }
+    ensures rest { IsAtRest (P.state plant.new) config.now }
+    ensures fit { RelationsFit (P.state plant.new) config.now }
+    ensures aside { AsideFits (P.state plant.new) config.now }
+    ensures unarmed { (q : ℕ) → (P.state plant.old).read_fuse q ≡ None → (P.state plant.new).read_fuse q ≡ None }
+    ensures faults { Counted (is_stop (refusal_of result)) (P.state plant.old).faults (P.state plant.new).faults }
+    ensures on { OnOk result ((P.state plant.new).on ≡ (P.state plant.old).on) }
+    ensures room { journal.old.spare ≤ journal.new.spare + (length (model.members_in (model.session_in ss.now.sessions s.0)) + length (model.members_in (model.session_in ss.now.sessions s.0)) + 1) }
+    ensures spare { length journal.new.events + journal.new.spare ≡ length journal.old.events + journal.old.spare }
 {
-    if let Some(why) = secondary_refusal(p, c, ss, s) {
+    if let Some(why) = secondary_refusal(plant, config, ss, s) {
         return Err(why);
     }
-    let decision = decide_over(p, c, ss, s);
-    take_over_all(p, c, j, ss, s)?;
-    settle_all(p, c, j, ss, s, decision)?;
-    let group = group_of(decide_over(p, c, ss, s));
-    end_recovery(j, s, group);
+    let decision = decide_over(plant, config, ss, s);
+    take_over_all(plant, config, journal, ss, s)?;
+    settle_all(plant, config, journal, ss, s, decision)?;
+    let group = group_of(decide_over(plant, config, ss, s));
+    end_recovery(journal, s, group);
     Ok(Recovered { group, decision })
 }

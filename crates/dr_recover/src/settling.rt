@@ -73,70 +73,70 @@ fn fate_by(s: SessionId, decided: Decision, m: &Member, f: &Fields) -> Option<Fa
 /// attempt that the decision speaks of stays. Fails where the server stops in the move or goes off at a read. The journal
 /// needs room for two events.
 pub(crate) fn settle_member<P: Plant>(
-    p: &mut P,
-    c: &Config,
-    j: &mut Journal,
+    plant: &mut P,
+    config: &Config,
+    journal: &mut Journal,
     s: SessionId,
     decided: Decision,
     m: &Member,
 ) -> Result<(), Refusal>
-    requires rest { IsAtRest (P.state p.old) c.now }
-    requires fit { RelationsFit (P.state p.old) c.now }
-    requires aside { AsideFits (P.state p.old) c.now }
-    requires target { IsSome (place_of c.now m.now.c.0) }
-    requires running { (P.state p.old).on (volume_seen (P.state p.old) c.now m.now.c.0).server ≡ true }
-    requires room { 2 ≤ j.old.spare }
-    ensures advances { OnOk result ((r : Rest) → Advances (world_seen (P.state p.old) c.now r j.old.events) (settle_on s.0 decided m.now) (world_seen (P.state p.new) c.now r j.new.events)) }
-    ensures halts { OnErr result ((r : Rest) → Halts (armed_in (P.state p.old)) (world_seen (P.state p.old) c.now r j.old.events) (settle_on s.0 decided m.now) (world_seen (P.state p.new) c.now r j.new.events) (refusal_of result)) }
-    ensures refused { OnErr result (refusal_of result ≡ Some (stopped (volume_seen (P.state p.old) c.now m.now.c.0).server)) }
-    ensures rest { IsAtRest (P.state p.new) c.now }
-    ensures fit { RelationsFit (P.state p.new) c.now }
-    ensures aside { AsideFits (P.state p.new) c.now }
-    ensures unarmed { (q : ℕ) → (P.state p.old).read_fuse q ≡ None → (P.state p.new).read_fuse q ≡ None }
-    ensures faults { Counted (is_err result) (P.state p.old).faults (P.state p.new).faults }
-    ensures others { OthersStay (P.state p.old) (P.state p.new) c.now m.now.c.0 }
-    ensures on { OnOk result ((P.state p.new).on ≡ (P.state p.old).on) }
-    ensures room { j.old.spare ≤ j.new.spare + 2 }
-    ensures room_left { OnOk result (j.old.spare ≤ j.new.spare + 1) }
-    ensures spare { length j.new.events + j.new.spare ≡ length j.old.events + j.old.spare }
+    requires rest { IsAtRest (P.state plant.old) config.now }
+    requires fit { RelationsFit (P.state plant.old) config.now }
+    requires aside { AsideFits (P.state plant.old) config.now }
+    requires target { IsSome (place_of config.now m.now.c.0) }
+    requires running { (P.state plant.old).on (volume_seen (P.state plant.old) config.now m.now.c.0).server ≡ true }
+    requires room { 2 ≤ journal.old.spare }
+    ensures advances { OnOk result ((r : Rest) → Advances (world_seen (P.state plant.old) config.now r journal.old.events) (settle_on s.0 decided m.now) (world_seen (P.state plant.new) config.now r journal.new.events)) }
+    ensures halts { OnErr result ((r : Rest) → Halts (armed_in (P.state plant.old)) (world_seen (P.state plant.old) config.now r journal.old.events) (settle_on s.0 decided m.now) (world_seen (P.state plant.new) config.now r journal.new.events) (refusal_of result)) }
+    ensures refused { OnErr result (refusal_of result ≡ Some (stopped (volume_seen (P.state plant.old) config.now m.now.c.0).server)) }
+    ensures rest { IsAtRest (P.state plant.new) config.now }
+    ensures fit { RelationsFit (P.state plant.new) config.now }
+    ensures aside { AsideFits (P.state plant.new) config.now }
+    ensures unarmed { (q : ℕ) → (P.state plant.old).read_fuse q ≡ None → (P.state plant.new).read_fuse q ≡ None }
+    ensures faults { Counted (is_err result) (P.state plant.old).faults (P.state plant.new).faults }
+    ensures others { OthersStay (P.state plant.old) (P.state plant.new) config.now m.now.c.0 }
+    ensures on { OnOk result ((P.state plant.new).on ≡ (P.state plant.old).on) }
+    ensures room { journal.old.spare ≤ journal.new.spare + 2 }
+    ensures room_left { OnOk result (journal.old.spare ≤ journal.new.spare + 1) }
+    ensures spare { length journal.new.events + journal.new.spare ≡ length journal.old.events + journal.old.spare }
 {
-    let fate = fate_by(s, decided, m, &peek_fields(p, c, m.c));
-    turn_target(p, c, j, m.c, fate)
+    let fate = fate_by(s, decided, m, &peek_fields(plant, config, m.c));
+    turn_target(plant, config, journal, m.c, fate)
 }
 
 /// The targets of a session's members, whose servers are on, are committed or reverted as was decided, in order of members.
 /// Fails where a server stops in a move or goes off at a read; what was done by then stays. The journal needs room for an
 /// event for each member and one more.
 pub(crate) fn settle_all<P: Plant>(
-    p: &mut P,
-    c: &Config,
-    j: &mut Journal,
+    plant: &mut P,
+    config: &Config,
+    journal: &mut Journal,
     ss: &Sessions,
     s: SessionId,
     decided: Decision,
 ) -> Result<(), Refusal>
-    requires rest { IsAtRest (P.state p.old) c.now }
-    requires fit { RelationsFit (P.state p.old) c.now }
-    requires aside { AsideFits (P.state p.old) c.now }
-    requires members { AreReady (P.state p.old) c.now (model.members_in (model.session_in ss.now.sessions s.0)) }
-    requires running { AreRunning (P.state p.old) c.now (model.members_in (model.session_in ss.now.sessions s.0)) }
-    requires room { length (model.members_in (model.session_in ss.now.sessions s.0)) + 1 ≤ j.old.spare }
-    ensures leads { OnOk result ((r : Rest) → Leads (world_seen (P.state p.old) c.now r j.old.events) (map (settle_on s.0 decided) (model.members_in (model.session_in ss.now.sessions s.0))) (world_seen (P.state p.new) c.now r j.new.events)) }
-    ensures fails { OnErr result ((r : Rest) → Fails (armed_in (P.state p.old)) (world_seen (P.state p.old) c.now r j.old.events) (map (settle_on s.0 decided) (model.members_in (model.session_in ss.now.sessions s.0))) (world_seen (P.state p.new) c.now r j.new.events) (refusal_of result)) }
+    requires rest { IsAtRest (P.state plant.old) config.now }
+    requires fit { RelationsFit (P.state plant.old) config.now }
+    requires aside { AsideFits (P.state plant.old) config.now }
+    requires members { AreReady (P.state plant.old) config.now (model.members_in (model.session_in ss.now.sessions s.0)) }
+    requires running { AreRunning (P.state plant.old) config.now (model.members_in (model.session_in ss.now.sessions s.0)) }
+    requires room { length (model.members_in (model.session_in ss.now.sessions s.0)) + 1 ≤ journal.old.spare }
+    ensures leads { OnOk result ((r : Rest) → Leads (world_seen (P.state plant.old) config.now r journal.old.events) (map (settle_on s.0 decided) (model.members_in (model.session_in ss.now.sessions s.0))) (world_seen (P.state plant.new) config.now r journal.new.events)) }
+    ensures fails { OnErr result ((r : Rest) → Fails (armed_in (P.state plant.old)) (world_seen (P.state plant.old) config.now r journal.old.events) (map (settle_on s.0 decided) (model.members_in (model.session_in ss.now.sessions s.0))) (world_seen (P.state plant.new) config.now r journal.new.events) (refusal_of result)) }
     ensures stops { OnErr result (is_stop (refusal_of result) ≡ true) }
-    ensures rest { IsAtRest (P.state p.new) c.now }
-    ensures fit { RelationsFit (P.state p.new) c.now }
-    ensures aside { AsideFits (P.state p.new) c.now }
-    ensures unarmed { (q : ℕ) → (P.state p.old).read_fuse q ≡ None → (P.state p.new).read_fuse q ≡ None }
-    ensures faults { Counted (is_err result) (P.state p.old).faults (P.state p.new).faults }
-    ensures on { OnOk result ((P.state p.new).on ≡ (P.state p.old).on) }
-    ensures room { j.old.spare ≤ j.new.spare + (length (model.members_in (model.session_in ss.now.sessions s.0)) + 1) }
-    ensures room_left { OnOk result (j.old.spare ≤ j.new.spare + length (model.members_in (model.session_in ss.now.sessions s.0))) }
-    ensures spare { length j.new.events + j.new.spare ≡ length j.old.events + j.old.spare }
+    ensures rest { IsAtRest (P.state plant.new) config.now }
+    ensures fit { RelationsFit (P.state plant.new) config.now }
+    ensures aside { AsideFits (P.state plant.new) config.now }
+    ensures unarmed { (q : ℕ) → (P.state plant.old).read_fuse q ≡ None → (P.state plant.new).read_fuse q ≡ None }
+    ensures faults { Counted (is_err result) (P.state plant.old).faults (P.state plant.new).faults }
+    ensures on { OnOk result ((P.state plant.new).on ≡ (P.state plant.old).on) }
+    ensures room { journal.old.spare ≤ journal.new.spare + (length (model.members_in (model.session_in ss.now.sessions s.0)) + 1) }
+    ensures room_left { OnOk result (journal.old.spare ≤ journal.new.spare + length (model.members_in (model.session_in ss.now.sessions s.0))) }
+    ensures spare { length journal.new.events + journal.new.spare ≡ length journal.old.events + journal.old.spare }
 {
     for at in 0..ss.member_count(s) {
         let m = ss.member_at(s, at).unwrap();
-        settle_member(p, c, j, s, decided, &m)?;
+        settle_member(plant, config, journal, s, decided, &m)?;
     }
     Ok(())
 }

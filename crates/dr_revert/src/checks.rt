@@ -35,40 +35,45 @@ fn number_refusal(n: u32, floor: u32, b: VolumeId, seal: u32) -> Option<Refusal>
 /// recorded and on which the host may not write, or is restored or revertible from another attempt; or else it has gone on
 /// past the attempt; or else b isn't sealed for it.
 pub(crate) fn flash_refusal<P: Plant>(
-    p: &P,
-    c: &Config,
+    plant: &P,
+    config: &Config,
     b: VolumeId,
     t: VolumeId,
     n: u32,
 ) -> Option<Refusal>
-    requires stands { StandsFor c.now (P.state p.now) }
-    requires source { IsSome (place_of c.now b.0) }
-    requires target { IsSome (place_of c.now t.0) }
-    ensures refusal { (r : Rest) (events : List Event) → result ≡ entries.flash_refusal b.0 t.0 n (world_seen (P.state p.now) c.now r events).control }
-    ensures may { OnNone result (entries.is_flashed n (volume_seen (P.state p.now) c.now t.0).fields ≡ false → entries.may_flash b.0 (volume_seen (P.state p.now) c.now t.0).fields ≡ true) }
+    requires stands { StandsFor config.now (P.state plant.now) }
+    requires source { IsSome (place_of config.now b.0) }
+    requires target { IsSome (place_of config.now t.0) }
+    ensures refusal { (r : Rest) (events : List Event) → result ≡ entries.flash_refusal b.0 t.0 n (world_seen (P.state plant.now) config.now r events).control }
+    ensures may { OnNone result (entries.is_flashed n (volume_seen (P.state plant.now) config.now t.0).fields ≡ false → entries.may_flash b.0 (volume_seen (P.state plant.now) config.now t.0).fields ≡ true) }
     ensures calm { is_stop result ≡ false }
 {
-    let f = peek_fields(p, c, t);
+    let f = peek_fields(plant, config, t);
     if is_flashed(n, &f) {
         return None;
     }
     if !may_flash(b, &f) {
-        return Some(relation_state(p, c, t));
+        return Some(relation_state(plant, config, t));
     }
-    number_refusal(n, f.floor, b, peek_fields(p, c, b).seal)
+    number_refusal(n, f.floor, b, peek_fields(plant, config, b).seal)
 }
 
 /// Why the flash of attempt n can't be committed on volume t: it is neither revertible from it nor a member's with its number.
-pub(crate) fn commit_refusal<P: Plant>(p: &P, c: &Config, t: VolumeId, n: u32) -> Option<Refusal>
-    requires stands { StandsFor c.now (P.state p.now) }
-    requires target { IsSome (place_of c.now t.0) }
-    ensures refusal { (r : Rest) (events : List Event) → result ≡ entries.commit_refusal t.0 n (world_seen (P.state p.now) c.now r events).control }
-    ensures may { OnNone result ((entries.is_committed n (volume_seen (P.state p.now) c.now t.0).fields || entries.is_flashed n (volume_seen (P.state p.now) c.now t.0).fields) ≡ true) }
+pub(crate) fn commit_refusal<P: Plant>(
+    plant: &P,
+    config: &Config,
+    t: VolumeId,
+    n: u32,
+) -> Option<Refusal>
+    requires stands { StandsFor config.now (P.state plant.now) }
+    requires target { IsSome (place_of config.now t.0) }
+    ensures refusal { (r : Rest) (events : List Event) → result ≡ entries.commit_refusal t.0 n (world_seen (P.state plant.now) config.now r events).control }
+    ensures may { OnNone result ((entries.is_committed n (volume_seen (P.state plant.now) config.now t.0).fields || entries.is_flashed n (volume_seen (P.state plant.now) config.now t.0).fields) ≡ true) }
     ensures calm { is_stop result ≡ false }
 {
-    let f = peek_fields(p, c, t);
+    let f = peek_fields(plant, config, t);
     if is_committed(n, &f) || is_flashed(n, &f) {
         return None;
     }
-    Some(relation_state(p, c, t))
+    Some(relation_state(plant, config, t))
 }

@@ -49,44 +49,44 @@ fn commit_fate(s: SessionId, m: &Member, n: u32, f: &Fields) -> Option<Fate>
 /// nothing has changed. Fails too where the server stops in the move or goes off at a read. The journal needs room for two
 /// events.
 pub fn commit<P: Plant>(
-    p: &mut P,
-    c: &Config,
-    j: &mut Journal,
+    plant: &mut P,
+    config: &Config,
+    journal: &mut Journal,
     s: SessionId,
     m: &Member,
     n: u32,
 ) -> Result<(), Refusal>
-    requires rest { IsAtRest (P.state p.old) c.now }
-    requires fit { RelationsFit (P.state p.old) c.now }
-    requires aside { AsideFits (P.state p.old) c.now }
-    requires primary { IsSome (place_of c.now m.now.a.0) }
-    requires secondary { IsSome (place_of c.now m.now.b.0) }
-    requires target { IsSome (place_of c.now m.now.c.0) }
-    requires together { (volume_seen (P.state p.old) c.now m.now.c.0).server ≡ (volume_seen (P.state p.old) c.now m.now.b.0).server }
-    requires room { 2 ≤ j.old.spare }
-    ensures carried { (r : Rest) → Ends (armed_in (P.state p.old)) (world_seen (P.state p.new) c.now r j.new.events) (refusal_of result) (world_seen (P.state p.old) c.now r j.old.events) (entries.commit_entries s.0 m.now n) }
-    ensures leads { OnOk result ((r : Rest) → Leads (world_seen (P.state p.old) c.now r j.old.events) (entries.commit_entries s.0 m.now n) (world_seen (P.state p.new) c.now r j.new.events)) }
-    ensures fails { OnErr result ((r : Rest) → Fails (armed_in (P.state p.old)) (world_seen (P.state p.old) c.now r j.old.events) (entries.commit_entries s.0 m.now n) (world_seen (P.state p.new) c.now r j.new.events) (refusal_of result)) }
-    ensures unchanged { is_stop (refusal_of result) ≡ false → OnErr result ((P.state p.new ≡ P.state p.old) × (j.new ≡ j.old)) }
-    ensures moved { OnOk result (entries.is_committed n (volume_seen (P.state p.old) c.now m.now.c.0).fields ≡ false → IsMoved (P.state p.old) (P.state p.new) c.now m.now.c.0 (relations.committed n (volume_seen (P.state p.old) c.now m.now.c.0).fields) None) }
-    ensures keeps_view { OnOk result ((k : ℕ) → view_seen (P.state p.new) c.now m.now.c.0 k ≡ view_seen (P.state p.old) c.now m.now.c.0 k) }
-    ensures rest { IsAtRest (P.state p.new) c.now }
-    ensures fit { RelationsFit (P.state p.new) c.now }
-    ensures aside { AsideFits (P.state p.new) c.now }
-    ensures unarmed { (q : ℕ) → (P.state p.old).read_fuse q ≡ None → (P.state p.new).read_fuse q ≡ None }
-    ensures faults { Counted (is_stop (refusal_of result)) (P.state p.old).faults (P.state p.new).faults }
-    ensures others { OthersStay (P.state p.old) (P.state p.new) c.now m.now.c.0 }
-    ensures on { OnOk result ((P.state p.new).on ≡ (P.state p.old).on) }
-    ensures room { j.old.spare ≤ j.new.spare + 2 }
-    ensures room_left { OnOk result (j.old.spare ≤ j.new.spare + 1) }
-    ensures spare { length j.new.events + j.new.spare ≡ length j.old.events + j.old.spare }
+    requires rest { IsAtRest (P.state plant.old) config.now }
+    requires fit { RelationsFit (P.state plant.old) config.now }
+    requires aside { AsideFits (P.state plant.old) config.now }
+    requires primary { IsSome (place_of config.now m.now.a.0) }
+    requires secondary { IsSome (place_of config.now m.now.b.0) }
+    requires target { IsSome (place_of config.now m.now.c.0) }
+    requires together { (volume_seen (P.state plant.old) config.now m.now.c.0).server ≡ (volume_seen (P.state plant.old) config.now m.now.b.0).server }
+    requires room { 2 ≤ journal.old.spare }
+    ensures carried { (r : Rest) → Ends (armed_in (P.state plant.old)) (world_seen (P.state plant.new) config.now r journal.new.events) (refusal_of result) (world_seen (P.state plant.old) config.now r journal.old.events) (entries.commit_entries s.0 m.now n) }
+    ensures leads { OnOk result ((r : Rest) → Leads (world_seen (P.state plant.old) config.now r journal.old.events) (entries.commit_entries s.0 m.now n) (world_seen (P.state plant.new) config.now r journal.new.events)) }
+    ensures fails { OnErr result ((r : Rest) → Fails (armed_in (P.state plant.old)) (world_seen (P.state plant.old) config.now r journal.old.events) (entries.commit_entries s.0 m.now n) (world_seen (P.state plant.new) config.now r journal.new.events) (refusal_of result)) }
+    ensures unchanged { is_stop (refusal_of result) ≡ false → OnErr result ((P.state plant.new ≡ P.state plant.old) × (journal.new ≡ journal.old)) }
+    ensures moved { OnOk result (entries.is_committed n (volume_seen (P.state plant.old) config.now m.now.c.0).fields ≡ false → IsMoved (P.state plant.old) (P.state plant.new) config.now m.now.c.0 (relations.committed n (volume_seen (P.state plant.old) config.now m.now.c.0).fields) None) }
+    ensures keeps_view { OnOk result ((k : ℕ) → view_seen (P.state plant.new) config.now m.now.c.0 k ≡ view_seen (P.state plant.old) config.now m.now.c.0 k) }
+    ensures rest { IsAtRest (P.state plant.new) config.now }
+    ensures fit { RelationsFit (P.state plant.new) config.now }
+    ensures aside { AsideFits (P.state plant.new) config.now }
+    ensures unarmed { (q : ℕ) → (P.state plant.old).read_fuse q ≡ None → (P.state plant.new).read_fuse q ≡ None }
+    ensures faults { Counted (is_stop (refusal_of result)) (P.state plant.old).faults (P.state plant.new).faults }
+    ensures others { OthersStay (P.state plant.old) (P.state plant.new) config.now m.now.c.0 }
+    ensures on { OnOk result ((P.state plant.new).on ≡ (P.state plant.old).on) }
+    ensures room { journal.old.spare ≤ journal.new.spare + 2 }
+    ensures room_left { OnOk result (journal.old.spare ≤ journal.new.spare + 1) }
+    ensures spare { length journal.new.events + journal.new.spare ≡ length journal.old.events + journal.old.spare }
 {
-    if let Some(why) = send_refusal(p, c, m.a, m.b) {
+    if let Some(why) = send_refusal(plant, config, m.a, m.b) {
         return Err(why);
     }
-    if let Some(why) = commit_refusal(p, c, m.c, n) {
+    if let Some(why) = commit_refusal(plant, config, m.c, n) {
         return Err(why);
     }
-    let fate = commit_fate(s, m, n, &peek_fields(p, c, m.c));
-    turn_target(p, c, j, m.c, fate)
+    let fate = commit_fate(s, m, n, &peek_fields(plant, config, m.c));
+    turn_target(plant, config, journal, m.c, fate)
 }

@@ -18,7 +18,7 @@ use Rattle.dr_model.specs.declared.grammar.Setting.{Setting}
 use Rattle.dr_model.specs.declared.grammar.Setting.TheVariants.{Quiet, Dev, RemoteDev, RemotePort, SourceLss, TargetLss, ConsistencyGroup, Force, PairType, Mode, Unconditional, AtSource, NoCopy, Persist, Recording, Inhibit, Sequence, Fast, TargetPprc, OfLss, Members, Action, OfSession, Interval, Coordination, DrainTime}
 use Rattle.dr_model.specs.declared.grammar.Options.{Options}
 use Rattle.dr_model.specs.declared.grammar.Saying.{Saying}
-use Rattle.dr_model.specs.LineTable.{command_word, commands, setting_word, settings, needed, operands, may_end_with, own_steps}
+use Rattle.dr_model.specs.LineTable.{form, command_word, commands, setting_word, settings, needed, operands, may_end_with, own_steps}
 use Rattle.dr_model.specs.LineSteps.{has, no_options, no_operands, step_of, lss_in}
 use Rattle.dr_model.specs.LineText.{settings_words, settings_fit, operand_text, operand_words, operand_fits, operands_fit, spaced, said_count, said_operands, said_text, said_fits, given, at_sign, for_item, for_session, for_lss, at_saying, pair_saying, flash_saying, session_saying, step_text, is_written}
 use Rattle.dr_model.specs.Grammar.{Reading, command_named, setting_named, is_ready, begins_comment, may_end, steps_of, line_of}
@@ -39,7 +39,7 @@ record CommandFacts (c : Command) : Type 0 where
   own : own_steps c ≤ 1
 
 command_facts : (c : Command) → CommandFacts c
-unfolding command_word commands command_named settings operands own_steps
+unfolding command_word commands command_named settings operands own_steps form
 command_facts AtServer = record { inked = refl; named = refl; plain = λ rest. refl; short = omega arith; options = omega arith; operands = omega arith; own = omega arith }
 command_facts AtVolume = record { inked = refl; named = refl; plain = λ rest. refl; short = omega arith; options = omega arith; operands = omega arith; own = omega arith }
 command_facts AtLink = record { inked = refl; named = refl; plain = λ rest. refl; short = omega arith; options = omega arith; operands = omega arith; own = omega arith }
@@ -88,7 +88,7 @@ command_facts Rmgmir = record { inked = refl; named = refl; plain = λ rest. ref
 
 -- the options of a command are known to it, and each is new when its turn comes
 ready : (c : Command) (o : Options) → Ready c (settings c) o no_options
-unfolding settings setting_named setting_word has absorb no_options
+unfolding settings setting_named setting_word has absorb no_options form
 ready AtServer o = tt
 ready AtVolume o = tt
 ready AtLink o = tt
@@ -237,7 +237,7 @@ no_remote devs b e = let p = and_parts b _ e in sym (absent_name devs.remotedev 
 
 -- the line that says a step reads as just that step
 pub reads : (step : Step) → is_written step ≡ true → line_of (step_text step) ≡ Ok (step ∷ [])
-unfolding step_text is_written at_saying pair_saying flash_saying session_saying settings needed operands has absorb absorb_operand no_options no_operands said_count operand_text may_end may_end_with steps_of own_steps step_of setting_named setting_word
+unfolding step_text is_written at_saying pair_saying flash_saying session_saying settings needed operands has absorb absorb_operand no_options no_operands said_count operand_text may_end may_end_with steps_of own_steps step_of setting_named setting_word form
 reads (Server name) h = told (at_sign AtServer (record no_operands { server = name })) (Server name) refl refl (refl, (refl, (tt, tt))) h refl refl
 reads (Volume volume server tracks) h = told (record { command = AtVolume; options = no_options; operands = record no_operands { server = server; count = tracks }; item = record { first = volume; second = volume } }) (Volume volume server tracks) refl refl (refl, (refl, (tt, (refl, (refl, (tt, (refl, (refl, (tt, tt))))))))) h refl refl
 reads (Link a b up) h = told (at_sign AtLink (record no_operands { server = a; other = b; up = up })) (Link a b up) refl refl (refl, (refl, (tt, (refl, (refl, (tt, (refl, (refl, (tt, tt))))))))) h refl refl

@@ -1,6 +1,6 @@
 -- Each step that a line gives is written.
 use Rattle.std.proofs.Common.{ℕ, ◌≡◌, ◌<◌, ◌+◌, ◌^◌, List, [], ◌∷◌, take, length, map, refl, ap, ◌∙◌, arith, Bool, true, false, not, ◌&&◌, ◌||◌, cond, Option, Some, None, nat_lt, nat_le, nat_eq}
-use Rattle.std.specs.Prelude.{All, IfOk, Result, Ok, Err}
+use Rattle.std.specs.Prelude.{All, OnOk, Result, Ok, Err}
 use Rattle.std.specs.List.{list_all}
 use Rattle.std.specs.Option.{unwrap_or, is_some, is_none}
 use Rattle.std.proofs.lemmas.Bool.Decides.{nat_tests}
@@ -20,7 +20,7 @@ use Rattle.dr_model.specs.declared.grammar.Operands.{Operands}
 use Rattle.dr_model.specs.declared.grammar.Item.{Item}
 use Rattle.dr_model.specs.declared.grammar.Saying.{Saying}
 use Rattle.dr_model.specs.LineWords.{Word, line_words}
-use Rattle.dr_model.specs.LineTable.{commands, settings, needed, operands, may_end_with, own_steps}
+use Rattle.dr_model.specs.LineTable.{form, commands, settings, needed, operands, may_end_with, own_steps}
 use Rattle.dr_model.specs.LineSteps.{has, no_options, no_operands, or_zero, lss_in, step_of}
 use Rattle.dr_model.specs.LineText.{name_fits, torn_fits, setting_fits, settings_fit, operand_fits, operands_fit, takes_remote, remote_fits, said_count, said_operands, said_fits, given, for_item, for_session, for_lss, at_saying, pair_saying, flash_saying, session_saying, is_written, IsWritten}
 use Rattle.dr_model.specs.Grammar.{Reading, command_named, is_ready, read_on, may_end, item_command, no_item, own_step, item_steps, steps_of, read_words, start_of, command_read, words_read, begins_comment, line_of}
@@ -48,7 +48,7 @@ Enough Rmsession k = k.session ≡ true
 Enough _ k = Unit {0}
 
 enough_all : (c : Command) → Enough c (learned nothing_known (take (length (operands c)) (operands c)))
-unfolding operands may_end_with
+unfolding operands may_end_with form
 enough_all AtServer = refl
 enough_all AtVolume = refl
 enough_all AtLink = (refl, refl)
@@ -96,7 +96,7 @@ enough_all Pausegmir = tt
 enough_all Rmgmir = tt
 
 enough_end : (c : Command) → Enough c (learned nothing_known (take (may_end_with c) (operands c)))
-unfolding operands may_end_with
+unfolding operands may_end_with form
 enough_end AtServer = refl
 enough_end AtVolume = refl
 enough_end AtLink = (refl, refl)
@@ -163,7 +163,7 @@ Given Rmgmir o = is_some o.session ≡ true
 Given _ o = Unit {0}
 
 all_given : (c : Command) (o : Options) → list_all (λ setting. has setting o) (needed c) ≡ true → Given c o
-unfolding needed has
+unfolding needed has form
 all_given AtServer o e = tt
 all_given AtVolume o e = tt
 all_given AtLink o e = tt
@@ -218,7 +218,7 @@ record Sound (c : Command) (o : Options) (p : Operands) : Type 0 where
   given : Given c o
 
 item_sound : (c : Command) (o : Options) (p : Operands) → Sound c o p → Sound (item_command c) o p
-unfolding settings
+unfolding settings form
 item_sound AtServer o p h = h
 item_sound AtVolume o p h = h
 item_sound AtLink o p h = h
@@ -325,23 +325,23 @@ at_sound c p i plain e =
     ap (λ ss. (settings_fit ss no_options i && operands_fit (take (said_count c p) (operands c)) p i) && remote_fits ss no_options) plain ∙ one _ e
 
 stop_written : (server : Name) (after : Bool) (count : ℕ) (torn : TornWord) → name_fits server ≡ true → nat_lt count (2 ^ 32) ≡ true → torn_fits torn ≡ true → is_written (cond after (StopAfter server count torn) (Stop server)) ≡ true
-unfolding is_written at_saying pair_saying flash_saying session_saying settings operands said_count may_end_with operand_fits no_operands
+unfolding is_written at_saying pair_saying flash_saying session_saying settings operands said_count may_end_with operand_fits no_operands form
 stop_written server true count torn n c t = at_sound AtStop (record no_operands { server = server; after = true; torn = torn; count = count }) no_item refl (and_from _ _ n (and_from _ _ c (one _ t)))
 stop_written server false count torn n c t = at_sound AtStop (record no_operands { server = server }) no_item refl (one _ n)
 
 exchange_written : (session : ℕ) (server : Name) (reply : Bool) → (nat_le 1 session && nat_lt session 256) ≡ true → name_fits server ≡ true → is_written (Exchange session server reply) ≡ true
-unfolding is_written at_saying pair_saying flash_saying session_saying settings operands said_count may_end_with operand_fits no_operands
+unfolding is_written at_saying pair_saying flash_saying session_saying settings operands said_count may_end_with operand_fits no_operands form
 exchange_written session server true s n = at_sound AtExchange (record no_operands { server = server; session = session; reply = true }) no_item refl (two _ _ s n)
 exchange_written session server false s n = at_sound AtExchange (record no_operands { server = server; session = session; reply = false }) no_item refl (two _ _ s n)
 
 member_written : (adds : Bool) (o : Options) (session volume : ℕ) → OptionsSound false o → (nat_le 1 session && nat_lt session 256) ≡ true → volume < 65536
     → is_written (cond adds (AddMember o.devs (or_zero o.lss) volume session) (RemoveMember o.devs (or_zero o.lss) volume session)) ≡ true
-unfolding is_written at_saying pair_saying flash_saying session_saying settings operands said_count may_end_with operand_fits no_operands no_options
+unfolding is_written at_saying pair_saying flash_saying session_saying settings operands said_count may_end_with operand_fits no_operands no_options form
 member_written true o session volume h s v = said_sound (for_session Chsession (record no_options { devs = o.devs; lss = Some (or_zero o.lss); members = true; adds = Some true }) session volume) (record { quiet = refl; port = refl; members = and_from _ _ (lt-ltb _ 65536 v) ((eq-eqb volume volume refl)); sound = record { remote_ok = refl; dev = h.dev; remote = h.remote; src = refl; tgt = refl; kind = refl; sequence = refl; lss = h.lss; session = refl; cginterval = refl; coordinate = refl; drain = refl } }) (one _ s) h.remote_ok
 member_written false o session volume h s v = said_sound (for_session Chsession (record no_options { devs = o.devs; lss = Some (or_zero o.lss); members = true; adds = Some false }) session volume) (record { quiet = refl; port = refl; members = and_from _ _ (lt-ltb _ 65536 v) ((eq-eqb volume volume refl)); sound = record { remote_ok = refl; dev = h.dev; remote = h.remote; src = refl; tgt = refl; kind = refl; sequence = refl; lss = h.lss; session = refl; cginterval = refl; coordinate = refl; drain = refl } }) (one _ s) h.remote_ok
 
 step_written : (c : Command) (o : Options) (p : Operands) (i : Item) → Sound c o p → (i.first < 65536) × (i.second < 65536) → is_written (step_of c o p i) ≡ true
-unfolding is_written step_of at_saying pair_saying flash_saying session_saying settings operands said_count may_end_with operand_fits no_operands no_options
+unfolding is_written step_of at_saying pair_saying flash_saying session_saying settings operands said_count may_end_with operand_fits no_operands no_options form
 step_written AtServer o p i h s = at_sound AtServer (record no_operands { server = p.server }) (no_item) refl (one _ (h.operands.server h.enough))
 step_written AtVolume o p i h s = at_sound AtVolume (record no_operands { server = p.server; count = p.count }) (record { first = i.first; second = i.first }) refl (and_from _ _ (and_from _ _ (lt-ltb _ 65536 s.0) ((eq-eqb i.first i.first refl))) (two _ _ (h.operands.server h.enough) h.operands.count))
 step_written AtLink o p i h s = at_sound AtLink (record no_operands { server = p.server; other = p.other; up = p.up }) (no_item) refl (two _ _ (h.operands.server h.enough.0) (h.operands.other h.enough.1))
@@ -453,6 +453,6 @@ line_written line steps e =
     ] e
 
 -- so is each step of a call that reads as words say
-pub reads_written : (past : ℕ) (words : List Word) (result : Result (List Step) Fault) → ReadsAs (words_read past words) result → IfOk result (λ steps. All IsWritten steps)
-reads_written past words (Ok steps) h = words_written past words steps h
-reads_written past words (Err fault) h = tt
+pub reads_written : (past : ℕ) (words : List Word) (steps : List Step) (result : Result (Unit {0}) Fault) → ReadsAs (words_read past words) steps result → OnOk result (All IsWritten steps)
+reads_written past words steps (Ok x) h = words_written past words steps h
+reads_written past words steps (Err fault) h = tt

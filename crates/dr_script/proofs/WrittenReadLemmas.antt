@@ -18,7 +18,7 @@ use Rattle.dr_model.specs.declared.grammar.Operand.TheVariants.{ServerName, Othe
 use Rattle.dr_model.specs.declared.grammar.Options.{Options}
 use Rattle.dr_model.specs.declared.grammar.Operands.{Operands}
 use Rattle.dr_model.specs.declared.grammar.Item.{Item}
-use Rattle.dr_model.specs.declared.grammar.Place.{Place}
+use Rattle.dr_model.specs.declared.grammar.LinePlace.{LinePlace}
 use Rattle.dr_model.specs.LineWords.{◌>>=◌, onto, name_word, kind_word, either_word, sequence_word, is_hex, torn_word, decimal_word, most_word, spelled_bytes, are_ports, is_control_path}
 use Rattle.dr_model.specs.LineTable.{setting_word, settings, operands, repeats}
 use Rattle.dr_model.specs.LineSteps.{is_flag, has, flagged, valued, setting_items, setting_number, operand_value, operand_items, no_options, no_operands, no_name, or_zero}
@@ -428,7 +428,7 @@ repeated : (first : Option Operand) (op : Operand) → again first ≡ Some op �
 repeated None op e = cc
 repeated (Some x) op e = let p = passed (repeats x) (Some x) op e in carry (λ y. repeats y ≡ true) x op (same_Some _ _ p.1) p.0
 
-filled_more : (place : Place) (op : Operand) (at : Option Operand) → slice_get (operands place.command) place.filled ≡ at → or_again at (slice_get (operands place.command) 0) ≡ Some op
+filled_more : (place : LinePlace) (op : Operand) (at : Option Operand) → slice_get (operands place.command) place.filled ≡ at → or_again at (slice_get (operands place.command) 0) ≡ Some op
     → learned nothing_known (take (filled_after place) (operands place.command)) ≡ learn op (learned nothing_known (take place.filled (operands place.command)))
 filled_more place op (Some x) is e =
     let ops = operands place.command in
@@ -461,7 +461,7 @@ setting_read_fits r next s allowed h e =
       ] q
     ] m.1
 
-setting_at_allowed : (place : Place) (word : List ℕ) (s : Setting) → setting_at place word ≡ Some s → s ≡ RemoteDev → takes_remote (settings place.command) ≡ true
+setting_at_allowed : (place : LinePlace) (word : List ℕ) (s : Setting) → setting_at place word ≡ Some s → s ≡ RemoteDev → takes_remote (settings place.command) ≡ true
 setting_at_allowed place word s e is =
     let p = passed (nat_eq place.filled 0) (setting_named (settings place.command) word) s e in
     named_remote (settings place.command) word (p.1 ∙ ap (λ x. Some x) is)

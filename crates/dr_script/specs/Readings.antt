@@ -16,7 +16,7 @@ abbrev pub TellsFault : Result (List Step) ℕ → Fault → Type 0
 TellsFault reading NoMemory = Unit {0}
 TellsFault reading (Refused refusal) = TellsColumn reading refusal
 
--- a value has the steps of the reading, and a fault its column
-abbrev pub ReadsAs : Result (List Step) ℕ → Result (List Step) Fault → Type 0
-ReadsAs reading (Ok steps) = reading ≡ Ok steps
-ReadsAs reading (Err fault) = TellsFault reading fault
+-- the steps are those of the reading, or the fault tells its column
+abbrev pub ReadsAs : Result (List Step) ℕ → List Step → Result (Unit {0}) Fault → Type 0
+ReadsAs reading steps (Ok x) = reading ≡ Ok steps
+ReadsAs reading steps (Err fault) = TellsFault reading fault

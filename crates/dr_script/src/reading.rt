@@ -13,7 +13,7 @@ use crate::table::{
     command_word, commands, is_flag, may_end_with, needed, operands, own_steps, repeats,
     setting_word, settings,
 };
-use dr_model::{Command, Item, Operand, Place, Setting};
+use dr_model::{Command, Item, LinePlace, Operand, Options, Setting};
 use std::alloc::AllocError;
 
 /// The most steps of a line.
@@ -46,7 +46,7 @@ fn setting_named(command: Command, word: &[u8]) -> Option<Setting>
 }
 
 /// The option that a word names, before the first operand.
-fn setting_at(place: &Place, word: &[u8]) -> Option<Setting>
+fn setting_at(place: &LinePlace, word: &[u8]) -> Option<Setting>
     ensures { result ≡ setting_at place.now word.now }
 {
     if place.filled == 0 {
@@ -56,15 +56,23 @@ fn setting_at(place: &Place, word: &[u8]) -> Option<Setting>
     }
 }
 
-fn has_needed(place: &Place) -> bool
+/// The options that a command can't do without were given.
+#[inline(never)]
+fn has_all(all: &[Setting], options: &Options) -> bool
+    ensures { result ≡ list_all (λ setting. has setting options.now) all.now }
+{
+    all.iter().all(|setting| has(*setting, options))
+}
+
+fn has_needed(place: &LinePlace) -> bool
     ensures { result ≡ list_all (λ setting. has setting place.now.options) (needed place.now.command) }
 {
     let all = needed(place.command);
-    all.is_empty() || all.iter().all(|setting| has(*setting, &place.options))
+    all.is_empty() || has_all(all, &place.options)
 }
 
 /// No needed option is missing, and of two that go together both were given or neither.
-fn is_ready(place: &Place) -> bool
+fn is_ready(place: &LinePlace) -> bool
     ensures { result ≡ is_ready place.now }
 {
     has_needed(place) && place.options.unconditional == place.options.at_source
@@ -86,7 +94,7 @@ fn operand_at(all: &[Operand], place: usize) -> Option<Operand>
 }
 
 /// The operand that stands next.
-fn next_operand(place: &Place) -> Option<Operand>
+fn next_operand(place: &LinePlace) -> Option<Operand>
     ensures { result ≡ next_operand place.now }
 {
     let all = operands(place.command);
@@ -97,7 +105,7 @@ fn next_operand(place: &Place) -> Option<Operand>
 }
 
 /// One place more is filled, unless all are.
-fn filled_after(place: &Place) -> usize
+fn filled_after(place: &LinePlace) -> usize
     ensures { result ≡ filled_after place.now }
 {
     if place.filled < operands(place.command).len() {
@@ -116,7 +124,7 @@ fn is_within(command: Command, items: &[Item]) -> bool
 
 /// Goes on over the value of an option; false where the word can't stand as its value.
 fn take_value(
-    place: &mut Place,
+    place: &mut LinePlace,
     items: &mut Vec<Item>,
     setting: Setting,
     word: &[u8],
@@ -137,7 +145,7 @@ fn take_value(
 }
 
 /// Goes on over the word of an option; false where it was given before.
-fn take_setting(place: &mut Place, setting: Setting) -> bool
+fn take_setting(place: &mut LinePlace, setting: Setting) -> bool
     ensures { setting_read place.old setting ≡ kept result place.new }
 {
     if has(setting, &place.options) {
@@ -153,7 +161,7 @@ fn take_setting(place: &mut Place, setting: Setting) -> bool
 
 /// Goes on over an operand; false where the word can't stand as it.
 fn take_operand(
-    place: &mut Place,
+    place: &mut LinePlace,
     items: &mut Vec<Item>,
     operand: Operand,
     word: &[u8],
@@ -173,7 +181,7 @@ fn take_operand(
     Ok(true)
 }
 
-fn take_next(place: &mut Place, items: &mut Vec<Item>, word: &[u8]) -> Result<bool, AllocError>
+fn take_next(place: &mut LinePlace, items: &mut Vec<Item>, word: &[u8]) -> Result<bool, AllocError>
     ensures { IfOk result (λ stands. next_read (record { place = place.old; items = items.old.items }) word.now (next_operand place.old) ≡ kept stands (record { place = place.new; items = items.new.items })) }
 {
     match next_operand(place) {
@@ -182,7 +190,7 @@ fn take_next(place: &mut Place, items: &mut Vec<Item>, word: &[u8]) -> Result<bo
     }
 }
 
-fn take_named(place: &mut Place, items: &mut Vec<Item>, word: &[u8]) -> Result<bool, AllocError>
+fn take_named(place: &mut LinePlace, items: &mut Vec<Item>, word: &[u8]) -> Result<bool, AllocError>
     ensures { IfOk result (λ stands. named_read (record { place = place.old; items = items.old.items }) word.now (setting_at place.old word.now) ≡ kept stands (record { place = place.new; items = items.new.items })) }
 {
     match setting_at(place, word) {
@@ -194,7 +202,7 @@ fn take_named(place: &mut Place, items: &mut Vec<Item>, word: &[u8]) -> Result<b
 /// Goes on over one word more; false where it can't stand there.
 #[tactic(auto, unfolding(dr_model::specs::Grammar::read_on))]
 pub(crate) fn read_on(
-    place: &mut Place,
+    place: &mut LinePlace,
     items: &mut Vec<Item>,
     word: &[u8],
 ) -> Result<bool, AllocError>
@@ -206,7 +214,7 @@ pub(crate) fn read_on(
     }
 }
 
-fn is_filled(place: &Place) -> bool
+fn is_filled(place: &LinePlace) -> bool
     ensures { result ≡ is_filled place.now }
 {
     place.filled == operands(place.command).len() || place.filled == may_end_with(place.command)
@@ -214,17 +222,17 @@ fn is_filled(place: &Place) -> bool
 
 /// The line may end here.
 #[tactic(auto, unfolding(dr_model::specs::Grammar::may_end))]
-pub(crate) fn may_end(place: &Place) -> bool
+pub(crate) fn may_end(place: &LinePlace) -> bool
     ensures { result ≡ may_end place.now }
 {
     place.awaited.is_none() && is_ready(place) && is_filled(place)
 }
 
 /// The place behind the word of a command.
-pub(crate) fn start_of(command: Command) -> Place
+pub(crate) fn start_of(command: Command) -> LinePlace
     ensures { start_of command ≡ record { place = result; items = [] } }
 {
-    Place {
+    LinePlace {
         command,
         awaited: None,
         filled: 0,

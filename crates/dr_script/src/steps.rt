@@ -12,6 +12,21 @@ fn lss_in(n: u16) -> u8
     (n % 256) as u8
 }
 
+/// The step of a write. It stands by itself, since in one function with all others its fields are put together
+/// byte by byte.
+#[inline(never)]
+pub(crate) fn write_step(operands: &Operands) -> Step
+    ensures { result ≡ Step.Write operands.now.volume operands.now.track operands.now.offset operands.now.len operands.now.bytes }
+{
+    Step::Write {
+        volume: operands.volume,
+        track: operands.track,
+        offset: operands.offset,
+        len: operands.len,
+        bytes: operands.bytes,
+    }
+}
+
 /// The step of a command with one item.
 #[tactic(auto, unfolding(dr_model::specs::LineSteps::step_of))]
 pub(crate) fn step_of(command: Command, options: &Options, operands: &Operands, item: Item) -> Step
@@ -57,13 +72,7 @@ pub(crate) fn step_of(command: Command, options: &Options, operands: &Operands, 
             len: operands.len,
             bytes: operands.bytes,
         },
-        Command::AtWrite => Step::Write {
-            volume: operands.volume,
-            track: operands.track,
-            offset: operands.offset,
-            len: operands.len,
-            bytes: operands.bytes,
-        },
+        Command::AtWrite => write_step(operands),
         Command::AtApply => Step::Apply { w: operands.count },
         Command::AtDrain => Step::Drain {
             volume: operands.volume,

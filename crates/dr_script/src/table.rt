@@ -61,7 +61,7 @@ pub(crate) fn commands() -> &'static [Command]
 }
 
 /// The word of a command.
-#[tactic(auto, unfolding(dr_model::specs::LineTable::command_word))]
+#[tactic(auto, unfolding(dr_model::specs::LineTable::command_word, dr_model::specs::LineTable::form))]
 pub(crate) fn command_word(command: Command) -> &'static [u8]
     ensures { result.now ≡ command_word command }
 {
@@ -150,7 +150,7 @@ pub(crate) fn setting_word(setting: Setting) -> &'static [u8]
 }
 
 /// The options of a command.
-#[tactic(auto, unfolding(dr_model::specs::LineTable::settings))]
+#[tactic(auto, unfolding(dr_model::specs::LineTable::settings, dr_model::specs::LineTable::form))]
 pub(crate) fn settings(command: Command) -> &'static [Setting]
     ensures { result.now ≡ settings command }
 {
@@ -272,7 +272,7 @@ pub(crate) fn settings(command: Command) -> &'static [Setting]
 }
 
 /// The options that a command can't do without.
-#[tactic(auto, unfolding(dr_model::specs::LineTable::needed))]
+#[tactic(auto, unfolding(dr_model::specs::LineTable::needed, dr_model::specs::LineTable::form))]
 pub(crate) fn needed(command: Command) -> &'static [Setting]
     ensures { result.now ≡ needed command }
 {
@@ -324,7 +324,7 @@ pub(crate) fn needed(command: Command) -> &'static [Setting]
 }
 
 /// What stands behind the options of a command, in order.
-#[tactic(auto, unfolding(dr_model::specs::LineTable::operands))]
+#[tactic(auto, unfolding(dr_model::specs::LineTable::operands, dr_model::specs::LineTable::form))]
 pub(crate) fn operands(command: Command) -> &'static [Operand]
     ensures { result.now ≡ operands command }
 {
@@ -417,7 +417,7 @@ pub(crate) fn repeats(operand: Operand) -> bool
 }
 
 /// The number of operands with which a line may end before all of them stand.
-#[tactic(auto, unfolding(dr_model::specs::LineTable::may_end_with))]
+#[tactic(auto, unfolding(dr_model::specs::LineTable::may_end_with, dr_model::specs::LineTable::form))]
 pub(crate) fn may_end_with(command: Command) -> usize
     ensures { result ≡ may_end_with command }
 {
@@ -430,7 +430,7 @@ pub(crate) fn may_end_with(command: Command) -> usize
 }
 
 /// The command makes a step of its own, and not only one for each item.
-#[tactic(auto, unfolding(dr_model::specs::LineTable::own_steps))]
+#[tactic(auto, unfolding(dr_model::specs::LineTable::own_steps, dr_model::specs::LineTable::form))]
 pub(crate) fn own_steps(command: Command) -> usize
     ensures value { result ≡ own_steps command }
     ensures few { result ≤ 1 }

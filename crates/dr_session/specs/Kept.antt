@@ -6,7 +6,7 @@ use Rattle.dr_ids.specs.declared.refusal.Fault.TheVariants.{NoMemory, Refused}
 use Rattle.dr_model.specs.Sessions.{Session}
 
 -- a session, and whether one more member takes no memory
-pub record Kept : Type 0 where
+pub record KeptSession : Type 0 where
   pub session : Session
   pub room : Bool
 

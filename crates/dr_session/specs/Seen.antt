@@ -6,7 +6,7 @@ use Rattle.std.specs.Vec.{vec_capacity}
 use Rattle.dr_session.specs.declared.session.Mirror.{Mirror}
 use Rattle.dr_session.specs.declared.session.Session.TheInside as session
 use Rattle.dr_model.specs.Sessions as model
-use Rattle.dr_session.specs.Kept.{Kept}
+use Rattle.dr_session.specs.Kept.{KeptSession}
 
 -- a session's master, with its server
 abbrev pub mirror_of : Mirror → model.Mirror
@@ -23,7 +23,7 @@ session_of x = record {
 }
 
 -- with whether one more member takes no memory
-abbrev pub kept_of : session.Inside → Kept
+abbrev pub kept_of : session.Inside → KeptSession
 kept_of x = record { session = session_of x; room = nat_lt (vec_len x.members) (vec_capacity x.members) }
 
 -- whether there is a master, and it awaits this reply

@@ -4,7 +4,7 @@ ghost use Rattle.std.specs.Prelude.{◌≡◌, ◌<◌, length, true, None, IfSo
 ghost use Rattle.std.specs.List.{find};
 ghost use Rattle.indexmap.specs.IndexMap.{get};
 ghost use Rattle.dr_model.specs.Sessions as model;
-ghost use Rattle.dr_session.specs.Places.{sessions_in, is_keyed, IsPlace};
+ghost use Rattle.dr_session.specs.Places.{sessions_in, is_keyed, StandsAt};
 
 use crate::session::Session;
 use dr_ids::{Member, SessionId, VolumeId};
@@ -14,7 +14,7 @@ use std::alloc::AllocError;
 // The place of a session, if it is defined.
 pub(crate) fn place_of(table: &IndexMap<u8, Session>, s: SessionId) -> Option<usize>
     requires { is_keyed table.now.entries ≡ true }
-    ensures place { IfSome result (λ i. IsPlace s.0 i table.now.entries) }
+    ensures place { IfSome result (λ i. StandsAt s.0 i table.now.entries) }
     ensures within { IfSome result (λ i. i < length table.now.entries) }
     ensures none { IfNone result (model.session_in (sessions_in table.now.entries) s.0 ≡ None) }
 {

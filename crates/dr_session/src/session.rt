@@ -35,9 +35,9 @@ pub(crate) struct Session {
 }
 
 impl Model for Session {
-    ghost use Rattle.dr_session.specs.Kept.{Kept};
+    ghost use Rattle.dr_session.specs.Kept.{KeptSession};
 
-    ghost Value = { Kept };
+    ghost Value = { KeptSession };
 
     ghost use Rattle.dr_session.specs.Seen.{kept_of, session_of};
     ghost use Rattle.dr_model.specs.Sessions.{IsSoundSession};

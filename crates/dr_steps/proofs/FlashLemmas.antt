@@ -27,8 +27,9 @@ use Rattle.dr_flash.proofs.CheckLemmas.{refuses}
 use Rattle.dr_facts.proofs.Ends.{ends-passed}
 use Rattle.dr_flash.specs.Here.{armed_in, IsAtRest}
 use Rattle.dr_flash.specs.Checks.{Checked, is_stop}
-use Rattle.dr_steps.specs.Faults.{Counts}
+use Rattle.dr_steps.specs.Faults.{CountsStop}
 use Rattle.dr_steps.specs.Here.{here, IsReady, IsTold}
+use Rattle.dr_steps.specs.Located.{defined_checks}
 use Rattle.dr_steps.proofs.LandLemmas.{exact, told-through, ready-after}
 use Rattle.dr_steps.proofs.LocatedLemmas.{is_volume-here}
 use Rattle.dr_steps.proofs.StepLemmas.{is_stopped-alike}
@@ -70,7 +71,7 @@ module _ (c : ConfigTable) (s u : PlantState) (h : Tables) (ev mid : List Event)
   step-ready r checked ends rest unarmed told = ready-after c s u h mid pass rest unarmed (told-through h before after (found ++ more) r (found-then r checked ends) told)
 
 -- the plant's count of faults, by the refusal
-pub counted-refusal : (r : Refusal) (s u : PlantState) → Counted (is_stop (Some r)) s.faults u.faults → Counts (Refused r) s u
+pub counted-refusal : (r : Refusal) (s u : PlantState) → Counted (is_stop (Some r)) s.faults u.faults → CountsStop (Refused r) s u
 counted-refusal r s u counted = subst (λ b. Counted b s.faults u.faults) (sym (is_stopped-alike r)) counted
 
 -- a name that no server has, and one that a server has
@@ -108,3 +109,18 @@ module _ (x : PlantState) (c : ConfigTable) (h : Tables) (ev : List Event) (dev 
       ends-passed armed u r w (is_defined s) (unknown OfVolume) _ (there s e some)
       (ends-passed armed u r w (is_defined t) (unknown OfVolume) _ (there t f more_some)
       (ends-passed armed u r w (is_owner dev s) (unknown OfServer) _ owned ends))
+
+  -- of two volumes the first isn't there, the second isn't, or both are
+  pub undefined-first : (why : Refusal) → entry_of c s ≡ None → why ≡ unknown OfVolume → Checked w (defined_checks s t) (Some why)
+  undefined-first why none is armed more =
+      refuses armed w (is_defined s) (unknown OfVolume) (Some why) _ (is_volume-here x c h ev s ∙ ap is_some none) (ap Some is)
+
+  pub undefined-second : (why : Refusal) (e : VolumeEntry) → entry_of c s ≡ Some e → entry_of c t ≡ None → why ≡ unknown OfVolume → Checked w (defined_checks s t) (Some why)
+  undefined-second why e some none is armed more =
+      ends-passed armed w (Some why) w (is_defined s) (unknown OfVolume) _ (there s e some)
+      (refuses armed w (is_defined t) (unknown OfVolume) (Some why) _ (is_volume-here x c h ev t ∙ ap is_some none) (ap Some is))
+
+  pub both-defined : (e f : VolumeEntry) → entry_of c s ≡ Some e → entry_of c t ≡ Some f → Checked w (defined_checks s t) None
+  both-defined e f some more_some armed u r more ends =
+      ends-passed armed u r w (is_defined s) (unknown OfVolume) _ (there s e some)
+      (ends-passed armed u r w (is_defined t) (unknown OfVolume) _ (there t f more_some) ends)

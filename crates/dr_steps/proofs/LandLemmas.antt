@@ -16,7 +16,7 @@ use Rattle.dr_laws_sound.proofs.Unissued.{unissued}
 use Rattle.dr_model.specs.ReadStops.{Ends}
 use Rattle.dr_laws_sound.proofs.ReadStops.{ends-exact}
 use Rattle.dr_volume.specs.View.{ReadsPass}
-use Rattle.dr_host.specs.Writes.{Each}
+use Rattle.dr_host.specs.Writes.{EachPending}
 use Rattle.dr_steps.specs.declared.tables.Tables.{Tables}
 use Rattle.dr_metro.proofs.ToldLemmas.{IsWrite}
 use Rattle.dr_model.specs.declared.event.Event.{Event}
@@ -50,7 +50,7 @@ refused-by (Err x) e failed is = ap (λ y. Some y) is
 -- entries that were carried out issued no write
 pub told-through : (h : Tables) (w u : World) (ds : List Entry) (r : Option Refusal) → carry w ds ≡ (u, r) → IsTold h w.events → IsTold h u.events
 told-through h w u ds r is told =
-    subst (λ write. Each (IsWrite write) h.host.pending) (sym (unissued w ds) ∙ ap (λ (o : Outcome). (histories o.0.events).write) is) told
+    subst (λ write. EachPending (IsWrite write) h.host.pending) (sym (unissued w ds) ∙ ap (λ (o : Outcome). (histories o.0.events).write) is) told
 
 -- what follows entries that a refusal ended, or that passed
 pub ends-first : (w u : World) (first more : List Entry) (r : Refusal) → carry w first ≡ (u, Some r) → carry w (first ++ more) ≡ (u, Some r)

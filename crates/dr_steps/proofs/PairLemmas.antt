@@ -1,7 +1,6 @@
 -- The steps on pairs: the servers that a line names, and what is compared where a pair is made.
-use Rattle.std.proofs.Common.{ℕ, zero, suc, ◌≡◌, ◌<◌, ◌+◌, List, [], ◌∷◌, ◌++◌, refl, sym, ◌∙◌, ap, subst, arith, Bool, true, false, not, cond, Option, Some, None}
+use Rattle.std.proofs.Common.{ℕ, ◌≡◌, ◌<◌, ◌+◌, List, [], ◌∷◌, ◌++◌, refl, sym, ◌∙◌, ap, subst, arith, Bool, true, false, not, Option, Some, None}
 use Rattle.std.specs.Prelude.{option_map, if◌then◌else◌}
-use Rattle.std.specs.List.{find, range_with_len}
 use Rattle.std.specs.Str.{bytes_eq}
 use Rattle.std.proofs.lemmas.Bool.{eqb-true, not-true}
 use Rattle.dr_ids.specs.declared.refusal.Refusal.{Refusal}
@@ -9,6 +8,7 @@ use Rattle.dr_ids.specs.declared.refusal.Refusal.TheVariants.{InSession}
 use Rattle.dr_ids.specs.declared.refusal.Kind.TheVariants.{Server as OfServer}
 use Rattle.dr_plant.specs.State.{PlantState}
 use Rattle.dr_config.specs.Table.{ConfigTable}
+use Rattle.dr_laws_sound.proofs.Compares.{same-found}
 use Rattle.dr_steps.specs.declared.tables.Tables.{Tables}
 use Rattle.dr_model.specs.declared.event.Event.{Event}
 use Rattle.dr_model.specs.declared.said.Said.TheVariants.{Done, Refused}
@@ -32,7 +32,7 @@ use Rattle.dr_model.specs.Sessions.{Session, in_session}
 use Rattle.dr_model.proofs.CarryLemmas.{carry-passed, carry-refused, carry-skips, carry-first}
 use Rattle.dr_laws_sound.proofs.Agree.{contents-image}
 use Rattle.dr_volume.specs.View.{ReadsPass}
-use Rattle.dr_flash.specs.Checks.{Checked, OnNone}
+use Rattle.dr_flash.specs.Checks.{Checked}
 use Rattle.dr_flash.specs.Here.{armed_in, IsAtRest}
 use Rattle.dr_flash.proofs.CheckLemmas.{refuses}
 use Rattle.dr_facts.proofs.Ends.{ends-passed, ends-none}
@@ -75,14 +75,6 @@ in-session n (Some x) is = ap in_some is
     in_some None = None
     in_some (Some m) = Some (InSession (record { 0 = m }))
 
--- the first number that passes, of two tests that agree
-find-alike : (p q : ℕ → Bool) (n s : ℕ) → ((t : ℕ) → t < s + n → p t ≡ q t) → find p (range_with_len s n) ≡ find q (range_with_len s n)
-find-alike p q zero s same = refl
-find-alike p q (suc n) s same =
-    let here : p s ≡ q s = same s (omega arith) in
-    let rest : find p (range_with_len (s + 1) n) ≡ find q (range_with_len (s + 1) n) = find-alike p q n (s + 1) (λ t lt. same t (omega (arith, lt))) in
-    λ i. cond (here i) (Some s) (rest i)
-
 -- where a check passes, what comes behind it decides
 module _ (w : World) (ds es : List Entry) where
   pub check-alike : (ok : Control → Bool) (why : Refusal) → (ok w.control ≡ true → carry w ds ≡ carry w es) → carry w (check ok why ∷ ds) ≡ carry w (check ok why ∷ es)
@@ -115,7 +107,7 @@ module _ (w : World) (sound : Sound w) (a b : ℕ) (kind : Part) where
   -- where neither is a target, what they contain is what the host writes say
   difference-image : is_running a w.control ≡ true → is_running b w.control ≡ true → share_size a b w.control ≡ true → is_no_target a w.control ≡ true → is_no_target b w.control ≡ true
       → first_differing w.contents n a b ≡ first_differing (image_at w.events) n a b
-  difference-image on_a on_b size plain_a plain_b = find-alike _ _ n 0 (λ t lt.
+  difference-image on_a on_b size plain_a plain_b = same-found _ _ n 0 (λ t lt.
       let low : t < n = omega (arith, lt) in
       let low_b : t < (w.control.volume b).tracks = subst (λ m. t < m) (eqb-true n (w.control.volume b).tracks size) low in
       let here = contents-image w sound a t low on_a (not-true _ plain_a) in

@@ -11,6 +11,7 @@ use Rattle.dr_model.specs.Laws.{Sound}
 use Rattle.dr_model.specs.Layout.{is_part}
 use Rattle.dr_volume.specs.View.{volume_seen}
 use Rattle.dr_flash.specs.Fit.{RelationsFit}
+use Rattle.dr_failover.specs.Outcomes.{HasPartner}
 use Rattle.dr_steps.specs.Here.{here}
 use Rattle.dr_steps.specs.Waiting.{PartnersFit}
 use Rattle.dr_steps.proofs.LocatedLemmas.{is_volume-here, some_entry}
@@ -51,3 +52,9 @@ partners-fit s t h ev sound = record {
 
     its : (v : ℕ) → is_part (volume_seen s t v).fields.primary ≡ true → (if is_part (volume_seen s t v).fields.primary then Some (to v) else None) ≡ Some (to v)
     its v part = ap (λ b. if b then Some (to v) else None) part
+
+-- so the partner of a primary is there
+pub has-partner : (s : PlantState) (t : ConfigTable) (h : Tables) (ev : List Event) → Sound (here s t h ev) → (x : ℕ) → HasPartner s t x
+has-partner s t h ev sound x =
+    let fits : PartnersFit s t = partners-fit s t h ev sound in
+    record { there = λ part. fits.defined x part; apart = λ part. fits.apart x part; size = λ part. fits.same_tracks x part }

@@ -15,7 +15,7 @@ use Rattle.dr_model.specs.Plans.{only_says, start_plan, start_on, expire_plan, e
 use Rattle.dr_model.specs.Refusals.{server_off}
 use Rattle.dr_metro.specs.Here.{IsTold}
 use Rattle.dr_metro.proofs.ToldLemmas.{IsWrite, told-push}
-use Rattle.dr_admin.specs.Answering.{number_of}
+use Rattle.dr_admin.specs.Answering.{write_number}
 use Rattle.dr_admin.specs.Starting.{without_acked}
 
 module _ (h : Writes) (ev : List Event) (told : IsTold h ev) where
@@ -37,8 +37,8 @@ told-without : (a : Option ℕ) (h h' : Writes) (ev : List Event) → h' ≡ wit
 told-without None h h' ev is told = subst (λ (x : Writes). IsTold x ev) (sym is) told
 told-without (Some n) h h' ev is told = subst (λ (x : Writes). IsTold x ev) (sym is) (each-without (IsWrite (histories ev).write) n h.pending told)
 
-pub told-acked : (a : Option WriteId) (h h' : Writes) (ev : List Event) → h' ≡ without_acked (number_of a) h → IsTold h ev → IsTold h' ev
-told-acked a h h' ev is told = told-without (number_of a) h h' ev is told
+pub told-acked : (a : Option WriteId) (h h' : Writes) (ev : List Event) → h' ≡ without_acked (write_number a) h → IsTold h ev → IsTold h' ev
+told-acked a h h' ev is told = told-without (write_number a) h h' ev is told
 
 -- a call of the layer below that counts a fault
 pub counted-top : (b : Bool) (before now : ℕ) → Below b before now → Counted b before now

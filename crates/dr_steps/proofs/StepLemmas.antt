@@ -19,7 +19,7 @@ use Rattle.dr_config.specs.Table.{ConfigTable, entry_of}
 use Rattle.dr_config.specs.declared.entries.VolumeEntry.{VolumeEntry}
 use Rattle.dr_config.specs.Rules as rules
 use Rattle.dr_host.specs.declared.pending.Pending.{Pending}
-use Rattle.dr_host.specs.Writes.{Writes, Each, IsPending, IsSoundHost, number, has_number, written, with_write, bytes_of}
+use Rattle.dr_host.specs.Writes.{Writes, EachPending, IsPending, IsSoundHost, number, has_number, written, with_write, bytes_of}
 use Rattle.dr_host.specs.Writes as writes
 use Rattle.dr_host.specs.Seen.{pending_seen}
 use Rattle.dr_host.proofs.Seen.{seen-push, seen-refusal, seen-found, bytes-written}
@@ -57,10 +57,10 @@ use Rattle.dr_metro.specs.declared.sync.WriteEnd.{WriteEnd}
 use Rattle.dr_metro.specs.declared.sync.WriteEnd.TheVariants.{Landed, Held as Waits}
 use Rattle.dr_steps.specs.Here.{here, answered_by, OnAnswer, OnSaid, OnRefused, IsTold}
 use Rattle.dr_ids.specs.declared.refusal.Kind.{Kind}
-use Rattle.dr_steps.specs.Faults.{Counts, is_stopped}
+use Rattle.dr_steps.specs.Faults.{CountsStop, is_stopped}
 use Rattle.dr_steps.specs.Waiting.{IsIssued, written_as}
 use Rattle.dr_steps.specs.declared.steps.HostWrite.{HostWrite}
-use Rattle.dr_steps.specs.declared.locate.Place.{Place}
+use Rattle.dr_steps.specs.declared.locate.TrackPlace.{TrackPlace}
 use Rattle.dr_steps.specs.Located.{IsPlace}
 use Rattle.dr_steps.proofs.LandLemmas.{exact}
 use Rattle.dr_steps.proofs.LocatedLemmas.{is_volume-here, mapped_some, seen-entry}
@@ -91,7 +91,7 @@ pub is_stopped-alike : (r : Refusal) → is_stopped (Refused r) ≡ is_stop (Som
 is_stopped-alike (Stopped server) = refl
 is_stopped-alike _ = refl
 
-pub calm-refused : (r : Refusal) (s u : PlantState) → is_stop (Some r) ≡ false → u.faults ≡ s.faults → Counts (Refused r) s u
+pub calm-refused : (r : Refusal) (s u : PlantState) → is_stop (Some r) ≡ false → u.faults ≡ s.faults → CountsStop (Refused r) s u
 calm-refused r s u calm same = subst (λ b. Counted b s.faults u.faults) (sym (is_stopped-alike r ∙ calm)) same
 
 module _ (s : PlantState) (t : ConfigTable) (h : Tables) (ev : List Event) (line v k : ℕ) where
@@ -109,12 +109,12 @@ module _ (s : PlantState) (t : ConfigTable) (h : Tables) (ev : List Event) (line
       ap (λ o. after_plan w line (unless (option_or o (off_refusal (is_running v w.control))) (show_done ev line v k))) there
       ∙ ap (λ b. after_plan w line (unless (off_refusal b) (show_done ev line v k))) is
 
-  pub showed-off : (p : Place) → track_refusal w.control v k ≡ None → IsPlace s t v k p → s.on p.server.0 ≡ false → after_plan w line (show_plan w.control ev line v k) ≡ said w line (Refused (server_off p.server.0))
+  pub showed-off : (p : TrackPlace) → track_refusal w.control v k ≡ None → IsPlace s t v k p → s.on p.server.0 ≡ false → after_plan w line (show_plan w.control ev line v k) ≡ said w line (Refused (server_off p.server.0))
   showed-off p there at off =
       by_server false there (running-known s t h ev v p.server.0 at.server at.known ∙ off)
       ∙ plan-refuses w line (server_off (volume_seen s t v).server) ∙ ap (λ x. said w line (Refused (server_off x))) at.server
 
-  pub showed-on : (mid : List Event) (p : Place) (bytes : List ℕ) → Sound w → track_refusal w.control v k ≡ None → IsPlace s t v k p → s.on p.server.0 ≡ true → bytes ≡ view_seen s t v p.track
+  pub showed-on : (mid : List Event) (p : TrackPlace) (bytes : List ℕ) → Sound w → track_refusal w.control v k ≡ None → IsPlace s t v k p → s.on p.server.0 ≡ true → bytes ≡ view_seen s t v p.track
       → mid ≡ ev ++ Shown line v p.track bytes ∷ [] → after_plan w line (show_plan w.control ev line v k) ≡ said (here s t h mid) line (Done Showed)
   showed-on mid p bytes sound there at on is shown =
       let runs = running-known s t h ev v p.server.0 at.server at.known ∙ on in
@@ -134,7 +134,7 @@ pub written-calm : (n : ℕ) (end : WriteEnd) → is_stopped (written_as n end) 
 written-calm n Landed = refl
 written-calm n Waits = refl
 
-pub calm-counts : (a : Said) (s u : PlantState) → is_stopped a ≡ false → u.faults ≡ s.faults → Counts a s u
+pub calm-counts : (a : Said) (s u : PlantState) → is_stopped a ≡ false → u.faults ≡ s.faults → CountsStop a s u
 calm-counts a s u calm same = subst (λ b. Counted b s.faults u.faults) (sym calm) same
 
 -- where no read fuse is armed, what follows a stop is what the plan says
@@ -258,15 +258,15 @@ module _ (s : PlantState) (t : ConfigTable) (h : Tables) (ev : List Event) (line
       (λ k. says)
 
 -- a track that isn't there stops no server
-pub calm-nowhere : (s : PlantState) (t : ConfigTable) (h : Tables) (ev : List Event) (v k : ℕ) (r : Refusal) (u : PlantState) → track_refusal (here s t h ev).control v k ≡ Some r → Counts (Refused r) u u
+pub calm-nowhere : (s : PlantState) (t : ConfigTable) (h : Tables) (ev : List Event) (v k : ℕ) (r : Refusal) (u : PlantState) → track_refusal (here s t h ev).control v k ≡ Some r → CountsStop (Refused r) u u
 calm-nowhere s t h ev v k r u is =
-    elim (is_volume (here s t h ev).control v) as (λ b. cond (not b) (Some (unknown OfVolume)) (cond (nat_lt k (volume_seen s t v).tracks) None (Some (unknown OfTrack))) ≡ Some r → Counts (Refused r) u u) [
+    elim (is_volume (here s t h ev).control v) as (λ b. cond (not b) (Some (unknown OfVolume)) (cond (nat_lt k (volume_seen s t v).tracks) None (Some (unknown OfTrack))) ≡ Some r → CountsStop (Refused r) u u) [
       | false ↦ λ e. calm-unknown OfVolume r u e
-      | true ↦ elim (nat_lt k (volume_seen s t v).tracks) as (λ b. cond b None (Some (unknown OfTrack)) ≡ Some r → Counts (Refused r) u u) [ true ↦ λ e. absurd (cc) | false ↦ λ e. calm-unknown OfTrack r u e ]
+      | true ↦ elim (nat_lt k (volume_seen s t v).tracks) as (λ b. cond b None (Some (unknown OfTrack)) ≡ Some r → CountsStop (Refused r) u u) [ true ↦ λ e. absurd (cc) | false ↦ λ e. calm-unknown OfTrack r u e ]
     ] is
   where
-    calm-unknown : (k : Kind) (r : Refusal) (u : PlantState) → Some (unknown k) ≡ Some r → Counts (Refused r) u u
-    calm-unknown k r u e = subst (λ o. IfSome o (λ r. Counts (Refused r) u u)) e refl
+    calm-unknown : (k : Kind) (r : Refusal) (u : PlantState) → Some (unknown k) ≡ Some r → CountsStop (Refused r) u u
+    calm-unknown k r u e = subst (λ o. IfSome o (λ r. CountsStop (Refused r) u u)) e refl
 
 -- what is written of a write that is issued leaves the others as they were, whose numbers are below
 module _ (h h' : Writes) (ev mid : List Event) (n v k o l : ℕ) (b bytes : List ℕ) where
@@ -289,7 +289,7 @@ module _ (h h' : Writes) (ev mid : List Event) (n v k o l : ℕ) (b bytes : List
       older : (p : Pending) → IsWrite (histories ev).write p → IsPending h.issued p → IsWrite (histories mid).write p
       older p was low = ap (λ (f : ℕ → Write). f p.w.0) table ∙ at_other (histories ev).write n (record { volume = v; track = k; offset = o; bytes = take l b }) p.w.0 (λ e. let last = low.last in absurd (omega (arith, last, e, number))) ∙ was
 
-      each-both : (ps : List Pending) → Each (IsWrite (histories ev).write) ps → Each (IsPending h.issued) ps → Each (IsWrite (histories mid).write) ps
+      each-both : (ps : List Pending) → EachPending (IsWrite (histories ev).write) ps → EachPending (IsPending h.issued) ps → EachPending (IsWrite (histories mid).write) ps
       each-both [] a b = tt
       each-both (p ∷ ps) a b = (older p a.0 b.0, each-both ps a.1 b.1)
 
@@ -298,16 +298,16 @@ pub any_plant : PlantState
 any_plant = record { count = 0; owner = λ d. 0; size = λ d. 0; block = λ d b. []; on = λ s. true; write_fuse = λ s. None; read_fuse = λ s. None; faults = 0 }
 
 -- an issue that is refused stops no server
-pub calm-issue : (s : PlantState) (t : ConfigTable) (h : Tables) (ev : List Event) (v k : ℕ) (r : Refusal) (u : PlantState) → issue_refusal (here s t h ev).control v k ≡ Some r → Counts (Refused r) u u
+pub calm-issue : (s : PlantState) (t : ConfigTable) (h : Tables) (ev : List Event) (v k : ℕ) (r : Refusal) (u : PlantState) → issue_refusal (here s t h ev).control v k ≡ Some r → CountsStop (Refused r) u u
 calm-issue s t h ev v k r u is = by (track_refusal (here s t h ev).control v k) refl is
   where
     full' : Bool → Option Refusal
     full' b = cond b (Some (over limit.Pending)) None
 
-    by : (o : Option Refusal) → track_refusal (here s t h ev).control v k ≡ o → option_or o (full' (nat_le most_pending (length (map pending_seen h.host.pending)))) ≡ Some r → Counts (Refused r) u u
-    by (Some q) there e = subst (λ o. IfSome o (λ r. Counts (Refused r) u u)) e (calm-nowhere s t h ev v k q u there)
-    by None there e = elim (nat_le most_pending (length (map pending_seen h.host.pending))) as (λ b. full' b ≡ Some r → Counts (Refused r) u u) [
-      | true ↦ λ e. subst (λ o. IfSome o (λ r. Counts (Refused r) u u)) e refl
+    by : (o : Option Refusal) → track_refusal (here s t h ev).control v k ≡ o → option_or o (full' (nat_le most_pending (length (map pending_seen h.host.pending)))) ≡ Some r → CountsStop (Refused r) u u
+    by (Some q) there e = subst (λ o. IfSome o (λ r. CountsStop (Refused r) u u)) e (calm-nowhere s t h ev v k q u there)
+    by None there e = elim (nat_le most_pending (length (map pending_seen h.host.pending))) as (λ b. full' b ≡ Some r → CountsStop (Refused r) u u) [
+      | true ↦ λ e. subst (λ o. IfSome o (λ r. CountsStop (Refused r) u u)) e refl
       | false ↦ λ e. absurd (cc)
     ] e
 

@@ -18,13 +18,13 @@ use Rattle.dr_model.specs.declared.said.Said.{Said}
 use Rattle.dr_model.specs.declared.said.Said.TheVariants.{Done, Held, Refused}
 use Rattle.dr_model.specs.declared.step.Name.{Name}
 use Rattle.dr_model.specs.declared.step.Step.{Step}
-use Rattle.dr_model.specs.declared.step.Step.TheVariants.{Server, Volume, Link, Stop, StopAfter, Start, Issue, Write, Apply, Show, MakeFlash, RemoveFlash, ResyncFlash, ReverseFlash, Copy, MakePath, RemovePath, MakePair, RemovePair, PausePair, ResumePair, Drain, Expire, Freeze, Unfreeze, MakeSession, RemoveSession, AddMember, RemoveMember, MakeMirror, PauseMirror, ResumeMirror, RemoveMirror, Abort, Exchange, Run, Recover, CommitFlash, RevertFlash}
+use Rattle.dr_model.specs.declared.step.Step.TheVariants.{Server, Volume, Link, Stop, StopAfter, Start, Issue, Write, Apply, Show, MakeFlash, RemoveFlash, ResyncFlash, ReverseFlash, Copy, MakePath, RemovePath, MakePair, RemovePair, PausePair, ResumePair, Failover, Failback, Drain, Expire, Freeze, Unfreeze, MakeSession, RemoveSession, AddMember, RemoveMember, MakeMirror, PauseMirror, ResumeMirror, RemoveMirror, Abort, Exchange, Run, Compare, Recover, CommitFlash, RevertFlash}
 use Rattle.dr_model.specs.declared.step.TornWord.{TornWord}
 use Rattle.dr_model.specs.declared.step.Devs.{Devs}
-use Rattle.dr_steps.specs.Forms.{is_plain, is_relation, is_session, is_recovery}
+use Rattle.dr_steps.specs.Forms.{is_plain, is_relation, is_session, is_recovery, is_return}
 use Rattle.dr_model.specs.Answers.{answer}
 use Rattle.dr_model.specs.Control.{World}
-use Rattle.dr_model.specs.Plans.{refuses, plan_of, is_built, has_room}
+use Rattle.dr_model.specs.Plans.{refuses, plan_of, compare_plan, is_built, has_room}
 use Rattle.dr_model.specs.Runs.{Task, run_asked, course_of, answered_part, after_plan, after_task, masters_lost, said}
 use Rattle.dr_model.proofs.CarryLemmas.{plan-refuses}
 use Rattle.dr_laws_sound.proofs.Journal.{EndsAnswered, after_task-ends, is_answer, Silent}
@@ -34,7 +34,7 @@ use Rattle.dr_config.specs.Table.{ConfigTable}
 use Rattle.dr_steps.specs.Faults.{is_stop, told_stop, is_stopped}
 use Rattle.dr_steps.specs.Here.{here, IsTold}
 use Rattle.dr_steps.proofs.LossLemmas.{masters-stay}
-use Rattle.dr_host.specs.Writes.{Each, bytes_of}
+use Rattle.dr_host.specs.Writes.{EachPending, bytes_of}
 use Rattle.dr_host.specs.declared.pending.Pending.{Pending}
 use Rattle.dr_model.specs.Histories.{Histories, histories}
 use Rattle.dr_model.proofs.Images.{histories-push}
@@ -42,7 +42,7 @@ use Rattle.dr_model.proofs.Images.{histories-push}
 -- an answer tells of no write
 pub told-answer : (h : Tables) (events now : List Event) (line : ℕ) (a : Said) → now ≡ events ++ answer line a ∷ [] → IsTold h events → IsTold h now
 told-answer h events now line a told is =
-    subst (λ (x : Histories). Each (λ (p : Pending). x.write (p.w.0) ≡ record { volume = p.volume.0; track = p.track; offset = p.offset; bytes = bytes_of p }) h.host.pending)
+    subst (λ (x : Histories). EachPending (λ (p : Pending). x.write (p.w.0) ≡ record { volume = p.volume.0; track = p.track; offset = p.offset; bytes = bytes_of p }) h.host.pending)
     (sym (ap histories told ∙ histories-push events (answer line a))) is
 
 -- a step of another form is none of those on servers, volumes, paths and host writes, and no freeze or thaw
@@ -127,53 +127,61 @@ none-relation (ReverseFlash d s t p n) make remove resync reverse copy = absurd 
 none-relation (Copy t most) make remove resync reverse copy = absurd (copy t most refl)
 none-relation _ make remove resync reverse copy = refl
 
--- a step that is built, and none of those, is one on a pair
-pub none-else : {P : Type 0} (step : Step) → is_plain step ≡ false → is_session step ≡ false → is_relation step ≡ false → is_recovery step ≡ false → is_built step ≡ true
+-- a step that is built, and none of those, and none on a pair that stays as it lies, turns one round
+pub return-else : (step : Step) → is_plain step ≡ false → is_session step ≡ false → is_relation step ≡ false → is_recovery step ≡ false → is_built step ≡ true
     → ((d : Devs) (a b k : ℕ) (f : Bool) → step ≡ MakePair d a b k f → ⊥)
     → ((d : Devs) (a b : ℕ) (s : Bool) → step ≡ RemovePair d a b s → ⊥)
     → ((d : Devs) (a b : ℕ) → step ≡ PausePair d a b → ⊥)
     → ((d : Devs) (a b k : ℕ) → step ≡ ResumePair d a b k → ⊥)
     → ((a : ℕ) (most : Option ℕ) → step ≡ Drain a most → ⊥)
-    → P
-none-else (Server n) plain session relation recovery built make end pause resume drain = absurd cc
-none-else (Volume v n t) plain session relation recovery built make end pause resume drain = absurd cc
-none-else (Link a b up) plain session relation recovery built make end pause resume drain = absurd cc
-none-else (Issue v t o l b) plain session relation recovery built make end pause resume drain = absurd cc
-none-else (Write v t o l b) plain session relation recovery built make end pause resume drain = absurd cc
-none-else (Apply n) plain session relation recovery built make end pause resume drain = absurd cc
-none-else (Show v t) plain session relation recovery built make end pause resume drain = absurd cc
-none-else (Stop n) plain session relation recovery built make end pause resume drain = absurd cc
-none-else (StopAfter n x torn) plain session relation recovery built make end pause resume drain = absurd cc
-none-else (Start n) plain session relation recovery built make end pause resume drain = absurd cc
-none-else (MakePath d s t g) plain session relation recovery built make end pause resume drain = absurd cc
-none-else (RemovePath d s t f) plain session relation recovery built make end pause resume drain = absurd cc
-none-else (Expire n) plain session relation recovery built make end pause resume drain = absurd cc
-none-else (Freeze d l m) plain session relation recovery built make end pause resume drain = absurd cc
-none-else (Unfreeze d l m) plain session relation recovery built make end pause resume drain = absurd cc
-none-else (MakeFlash d s t a b c e n) plain session relation recovery built make end pause resume drain = absurd cc
-none-else (RemoveFlash d s t n) plain session relation recovery built make end pause resume drain = absurd cc
-none-else (ResyncFlash d s t a b c e n) plain session relation recovery built make end pause resume drain = absurd cc
-none-else (ReverseFlash d s t p n) plain session relation recovery built make end pause resume drain = absurd cc
-none-else (Copy t most) plain session relation recovery built make end pause resume drain = absurd cc
-none-else (MakeSession d l x) plain session relation recovery built make end pause resume drain = absurd cc
-none-else (RemoveSession d l x) plain session relation recovery built make end pause resume drain = absurd cc
-none-else (AddMember d l a x) plain session relation recovery built make end pause resume drain = absurd cc
-none-else (RemoveMember d l a x) plain session relation recovery built make end pause resume drain = absurd cc
-none-else (MakeMirror d l x i c t) plain session relation recovery built make end pause resume drain = absurd cc
-none-else (PauseMirror d l x) plain session relation recovery built make end pause resume drain = absurd cc
-none-else (ResumeMirror d l x i c t) plain session relation recovery built make end pause resume drain = absurd cc
-none-else (RemoveMirror d l x) plain session relation recovery built make end pause resume drain = absurd cc
-none-else (Abort x) plain session relation recovery built make end pause resume drain = absurd cc
-none-else (Exchange x n r) plain session relation recovery built make end pause resume drain = absurd cc
-none-else (Recover x) plain session relation recovery built make end pause resume drain = absurd cc
-none-else (CommitFlash d b n) plain session relation recovery built make end pause resume drain = absurd cc
-none-else (RevertFlash d b n) plain session relation recovery built make end pause resume drain = absurd cc
-none-else (MakePair d a b k f) plain session relation recovery built make end pause resume drain = absurd (make d a b k f refl)
-none-else (RemovePair d a b s) plain session relation recovery built make end pause resume drain = absurd (end d a b s refl)
-none-else (PausePair d a b) plain session relation recovery built make end pause resume drain = absurd (pause d a b refl)
-none-else (ResumePair d a b k) plain session relation recovery built make end pause resume drain = absurd (resume d a b k refl)
-none-else (Drain a most) plain session relation recovery built make end pause resume drain = absurd (drain a most refl)
-none-else _ plain session relation recovery built make end pause resume drain = absurd cc
+    → is_return step ≡ true
+return-else (Server n) plain session relation recovery built make end pause resume drain = absurd cc
+return-else (Volume v n t) plain session relation recovery built make end pause resume drain = absurd cc
+return-else (Link a b up) plain session relation recovery built make end pause resume drain = absurd cc
+return-else (Issue v t o l b) plain session relation recovery built make end pause resume drain = absurd cc
+return-else (Write v t o l b) plain session relation recovery built make end pause resume drain = absurd cc
+return-else (Apply n) plain session relation recovery built make end pause resume drain = absurd cc
+return-else (Show v t) plain session relation recovery built make end pause resume drain = absurd cc
+return-else (Stop n) plain session relation recovery built make end pause resume drain = absurd cc
+return-else (StopAfter n x torn) plain session relation recovery built make end pause resume drain = absurd cc
+return-else (Start n) plain session relation recovery built make end pause resume drain = absurd cc
+return-else (MakePath d s t g) plain session relation recovery built make end pause resume drain = absurd cc
+return-else (RemovePath d s t f) plain session relation recovery built make end pause resume drain = absurd cc
+return-else (Expire n) plain session relation recovery built make end pause resume drain = absurd cc
+return-else (Freeze d l m) plain session relation recovery built make end pause resume drain = absurd cc
+return-else (Unfreeze d l m) plain session relation recovery built make end pause resume drain = absurd cc
+return-else (MakeFlash d s t a b c e n) plain session relation recovery built make end pause resume drain = absurd cc
+return-else (RemoveFlash d s t n) plain session relation recovery built make end pause resume drain = absurd cc
+return-else (ResyncFlash d s t a b c e n) plain session relation recovery built make end pause resume drain = absurd cc
+return-else (ReverseFlash d s t p n) plain session relation recovery built make end pause resume drain = absurd cc
+return-else (Copy t most) plain session relation recovery built make end pause resume drain = absurd cc
+return-else (MakeSession d l x) plain session relation recovery built make end pause resume drain = absurd cc
+return-else (RemoveSession d l x) plain session relation recovery built make end pause resume drain = absurd cc
+return-else (AddMember d l a x) plain session relation recovery built make end pause resume drain = absurd cc
+return-else (RemoveMember d l a x) plain session relation recovery built make end pause resume drain = absurd cc
+return-else (MakeMirror d l x i c t) plain session relation recovery built make end pause resume drain = absurd cc
+return-else (PauseMirror d l x) plain session relation recovery built make end pause resume drain = absurd cc
+return-else (ResumeMirror d l x i c t) plain session relation recovery built make end pause resume drain = absurd cc
+return-else (RemoveMirror d l x) plain session relation recovery built make end pause resume drain = absurd cc
+return-else (Abort x) plain session relation recovery built make end pause resume drain = absurd cc
+return-else (Exchange x n r) plain session relation recovery built make end pause resume drain = absurd cc
+return-else (Recover x) plain session relation recovery built make end pause resume drain = absurd cc
+return-else (CommitFlash d b n) plain session relation recovery built make end pause resume drain = absurd cc
+return-else (RevertFlash d b n) plain session relation recovery built make end pause resume drain = absurd cc
+return-else (MakePair d a b k f) plain session relation recovery built make end pause resume drain = absurd (make d a b k f refl)
+return-else (RemovePair d a b s) plain session relation recovery built make end pause resume drain = absurd (end d a b s refl)
+return-else (PausePair d a b) plain session relation recovery built make end pause resume drain = absurd (pause d a b refl)
+return-else (ResumePair d a b k) plain session relation recovery built make end pause resume drain = absurd (resume d a b k refl)
+return-else (Failover d b a k) plain session relation recovery built make end pause resume drain = built
+return-else (Failback d x y k) plain session relation recovery built make end pause resume drain = built
+return-else (Drain a most) plain session relation recovery built make end pause resume drain = absurd (drain a most refl)
+return-else _ plain session relation recovery built make end pause resume drain = absurd cc
+
+-- and it is one of two
+pub none-else : {P : Type 0} (step : Step) → is_return step ≡ true → ((d : Devs) (b a k : ℕ) → step ≡ Failover d b a k → ⊥) → ((d : Devs) (x y k : ℕ) → step ≡ Failback d x y k → ⊥) → P
+none-else (Failover d b a k) is over back = absurd (over d b a k refl)
+none-else (Failback d x y k) is over back = absurd (back d x y k refl)
+none-else _ is over back = absurd cc
 
 -- the room that is left, counted either way
 pub room-left : (n : ℕ) → nat_le n 995904 ≡ nat_le (n + 4096) 1000000
@@ -221,11 +229,13 @@ counts-more false false f x y first rest = rest ∙ first
 -- a step that is built as one plan is no `@run`
 pub built-alone : (step : Step) → is_built step ≡ true → run_asked (Ok step) ≡ None
 built-alone (Run s n) built = absurd cc
+built-alone (Compare v u) built = absurd cc
 built-alone _ built = refl
 
-pub none-run : (step : Step) → ((s n : ℕ) → step ≡ Run s n → ⊥) → run_asked (Ok step) ≡ None
-none-run (Run s n) other = absurd (other s n refl)
-none-run _ other = refl
+pub none-apart : (step : Step) → ((s n : ℕ) → step ≡ Run s n → ⊥) → ((v u : ℕ) → step ≡ Compare v u → ⊥) → run_asked (Ok step) ≡ None
+none-apart (Run s n) run compare = absurd (run s n refl)
+none-apart (Compare v u) run compare = absurd (compare v u refl)
+none-apart _ run compare = refl
 
 -- what comes before the plan of a step
 module _ (w : World) (number : ℕ) (step : Step) where
@@ -268,6 +278,14 @@ module _ (w : World) (number : ℕ) (step : Step) where
       → Counted (told_stop w.events) f x → Counted (told_stop now) f y
   faults-step u a now f x y is told counts before =
       subst (λ b. Counted b f y) (sym (ap told_stop told ∙ told-step u a is)) (counts-more (told_stop w.events) (is_stopped a) f x y before counts)
+
+-- a comparison, and one for which there is no room
+module _ (w : World) (number v u : ℕ) where
+  pub task-compared : (x : World) → has_room w.events ≡ true → after_plan w number (compare_plan w.control w.contents v u) ≡ x → after_task w (task w number (Compare v u)) ≡ masters_lost w x
+  task-compared x room leads = (λ i. masters_lost w (after_plan w number (cond (room i) (compare_plan w.control w.contents v u) (refuses JournalFull)))) ∙ ap (masters_lost w) leads
+
+  pub compare-full : has_room w.events ≡ false → after_task w (task w number (Compare v u)) ≡ said w number (Refused JournalFull)
+  compare-full full = (λ i. masters_lost w (after_plan w number (cond (full i) (compare_plan w.control w.contents v u) (refuses JournalFull)))) ∙ refused-first w number (Compare v u) JournalFull
 
 abbrev Says : ℕ → Refusal → List Event → List Event → Type 0
 Says number refusal events now = now ≡ events ++ answer number (Refused refusal) ∷ []

@@ -8,13 +8,13 @@ use Rattle.std.proofs.lemmas.Bool.Decides.{nat_tests}
 use Rattle.dr_model.specs.declared.step.Name.{Name}
 use Rattle.dr_model.specs.declared.step.Devs.{Devs}
 use Rattle.dr_model.specs.declared.step.Step.{Step}
-use Rattle.dr_model.specs.declared.step.Step.TheVariants.{Server, Volume, Link, Stop, StopAfter, Start, Issue, Write, MakeFlash, RemoveFlash, ResyncFlash, ReverseFlash, MakePath, RemovePath, MakePair, RemovePair, PausePair, ResumePair, Expire, Freeze, Unfreeze, MakeSession, RemoveSession, AddMember, RemoveMember, MakeMirror, PauseMirror, ResumeMirror, RemoveMirror, Exchange, CommitFlash, RevertFlash}
+use Rattle.dr_model.specs.declared.step.Step.TheVariants.{Server, Volume, Link, Stop, StopAfter, Start, Issue, Write, MakeFlash, RemoveFlash, ResyncFlash, ReverseFlash, MakePath, RemovePath, MakePair, RemovePair, PausePair, ResumePair, Failover, Failback, Expire, Freeze, Unfreeze, MakeSession, RemoveSession, AddMember, RemoveMember, MakeMirror, PauseMirror, ResumeMirror, RemoveMirror, Exchange, CommitFlash, RevertFlash}
 use Rattle.dr_model.specs.LineTable as table
 use Rattle.dr_model.specs.LineText as line
 use Rattle.dr_model.specs.LineText.{at_sign, for_item, for_session, said_fits, said_operands, settings_fit, operands_fit, remote_fits, IsWritten, name_fits, name_text, bytes_fit}
 use Rattle.dr_model.specs.LineSteps.{has, no_options, no_operands, no_name}
 use Rattle.dr_model.specs.declared.grammar.Saying.{Saying}
-use Rattle.dr_model.specs.declared.grammar.Command.TheVariants.{AtServer, AtVolume, AtLink, AtStop, AtStart, AtExpire, AtIssue, AtWrite, Mkflash, Rmflash, Resyncflash, Reverseflash, Mkpprcpath, Rmpprcpath, Mkpprc, Rmpprc, Pausepprc, Resumepprc, Freezepprc, Unfreezepprc, AtExchange, Mksession, Rmsession, Chsession, Mkgmir, Resumegmir, Pausegmir, Rmgmir, Commitflash, Revertflash}
+use Rattle.dr_model.specs.declared.grammar.Command.TheVariants.{AtServer, AtVolume, AtLink, AtStop, AtStart, AtExpire, AtIssue, AtWrite, Mkflash, Rmflash, Resyncflash, Reverseflash, Mkpprcpath, Rmpprcpath, Mkpprc, Rmpprc, Pausepprc, Resumepprc, Failoverpprc, Failbackpprc, Freezepprc, Unfreezepprc, AtExchange, Mksession, Rmsession, Chsession, Mkgmir, Resumegmir, Pausegmir, Rmgmir, Commitflash, Revertflash}
 use Rattle.dr_model.specs.LineWords.{is_name, is_name_byte, begins_with_letter}
 use Rattle.dr_steps.specs.WellFormed.{FitsName, FitsOwner, FitsDevs, IsWellFormed}
 
@@ -76,7 +76,7 @@ write-operands v t offset len bytes h =
     fits-write offset len bytes (and_parts a true ((and_parts (nat_le offset 63) (a && true) ((and_parts (nat_lt t (2 ^ 32)) (nat_le offset 63 && (a && true)) ((and_parts (nat_lt v 65536) (nat_lt t (2 ^ 32) && (nat_le offset 63 && (a && true))) h).1)).1)).1)).0
 
 pub written-fits : (step : Step) → IsWritten step → IsWellFormed step
-unfolding line.is_written line.at_saying line.pair_saying line.flash_saying line.session_saying line.operand_fits line.setting_fits line.said_count table.operands table.settings table.may_end_with has no_operands no_options
+unfolding line.is_written line.at_saying line.pair_saying line.flash_saying line.session_saying line.operand_fits line.setting_fits line.said_count table.operands table.settings table.may_end_with has no_operands no_options table.form
 written-fits (Server name) h = one-name name true (operands-fit (at_sign AtServer (record no_operands { server = name })) h)
 written-fits (Volume v name tracks) h =
     let said : Saying = record { command = AtVolume; options = no_options; operands = record no_operands { server = name; count = tracks }; item = record { first = v; second = v } } in
@@ -105,6 +105,8 @@ written-fits (MakePair devs a b kind full) h = devs-fit devs _ (settings-fit (fo
 written-fits (RemovePair devs a b source_only) h = devs-fit devs _ (settings-fit (for_item Rmpprc (record no_options { devs = devs; unconditional = source_only; at_source = source_only }) a b) h)
 written-fits (PausePair devs a b) h = devs-fit devs _ (settings-fit (for_item Pausepprc (record no_options { devs = devs }) a b) h)
 written-fits (ResumePair devs a b kind) h = devs-fit devs _ (settings-fit (for_item Resumepprc (record no_options { devs = devs; kind = Some kind }) a b) h)
+written-fits (Failover devs b a kind) h = devs-fit devs _ (settings-fit (for_item Failoverpprc (record no_options { devs = devs; kind = Some kind }) b a) h)
+written-fits (Failback devs x y kind) h = devs-fit devs _ (settings-fit (for_item Failbackpprc (record no_options { devs = devs; kind = Some kind }) x y) h)
 written-fits (Freeze devs l m) h = devs-fit devs _ (settings-fit (for_item Freezepprc (record no_options { devs = devs }) l m) h)
 written-fits (Unfreeze devs l m) h = devs-fit devs _ (settings-fit (for_item Unfreezepprc (record no_options { devs = devs }) l m) h)
 written-fits (MakeSession devs l s) h = owner-fits devs.dev _ (settings-fit (for_session Mksession (record no_options { devs = devs; lss = Some l }) s 0) h)

@@ -1,4 +1,4 @@
--- Counts of faults.
+-- CountsStop of faults.
 use Rattle.std.specs.Prelude.{◌≡◌, ℕ, Bool, true, false, List, nat_eq}
 use Rattle.std.specs.List.{list_any}
 use Rattle.dr_logic.specs.Counts.{Rose, Counted}
@@ -24,5 +24,5 @@ is_stopped (Refused (Stopped server)) = true
 is_stopped _ = false
 
 -- the plant's count of faults rose exactly where the answer says a stop
-abbrev pub Counts : Said → PlantState → PlantState → Type 0
-Counts a s s' = Counted (is_stopped a) s.faults s'.faults
+abbrev pub CountsStop : Said → PlantState → PlantState → Type 0
+CountsStop a s s' = Counted (is_stopped a) s.faults s'.faults

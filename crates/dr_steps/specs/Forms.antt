@@ -2,7 +2,7 @@
 use Rattle.std.specs.Prelude.{Bool, true, false}
 use Rattle.dr_model.specs.Layout.{is_part, part_of}
 use Rattle.dr_model.specs.declared.step.Step.{Step}
-use Rattle.dr_model.specs.declared.step.Step.TheVariants.{Server, Volume, Link, Stop, StopAfter, Start, Issue, Write, Apply, Show, MakePath, RemovePath, Expire, Freeze, Unfreeze, MakeFlash, RemoveFlash, ResyncFlash, ReverseFlash, Copy, MakePair, RemovePair, PausePair, ResumePair, Drain, MakeSession, RemoveSession, AddMember, RemoveMember, MakeMirror, PauseMirror, ResumeMirror, RemoveMirror, Abort, Exchange, Recover, CommitFlash, RevertFlash}
+use Rattle.dr_model.specs.declared.step.Step.TheVariants.{Server, Volume, Link, Stop, StopAfter, Start, Issue, Write, Apply, Show, MakePath, RemovePath, Expire, Freeze, Unfreeze, MakeFlash, RemoveFlash, ResyncFlash, ReverseFlash, Copy, MakePair, RemovePair, PausePair, ResumePair, Failover, Failback, Drain, MakeSession, RemoveSession, AddMember, RemoveMember, MakeMirror, PauseMirror, ResumeMirror, RemoveMirror, Abort, Exchange, Recover, CommitFlash, RevertFlash}
 
 -- those on servers, volumes, paths and host writes, and freezes and thaws
 abbrev pub is_plain : Step → Bool
@@ -40,6 +40,12 @@ is_pair (PausePair devs a b) = true
 is_pair (ResumePair devs a b kind) = is_part (part_of kind)
 is_pair (Drain a most) = true
 is_pair _ = false
+
+-- those that turn a pair round
+abbrev pub is_return : Step → Bool
+is_return (Failover devs b a kind) = is_part (part_of kind)
+is_return (Failback devs x y kind) = is_part (part_of kind)
+is_return _ = false
 
 -- those on sessions, their members and their masters
 abbrev pub is_session : Step → Bool

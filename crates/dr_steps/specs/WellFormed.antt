@@ -3,7 +3,7 @@ use Rattle.std.specs.Prelude.{◌+◌, ◌≤◌, Option, Some, None}
 use Rattle.dr_model.specs.declared.step.Name.{Name}
 use Rattle.dr_model.specs.declared.step.Devs.{Devs}
 use Rattle.dr_model.specs.declared.step.Step.{Step}
-use Rattle.dr_model.specs.declared.step.Step.TheVariants.{Server, Volume, Link, Stop, StopAfter, Start, Issue, Write, MakeFlash, RemoveFlash, ResyncFlash, ReverseFlash, MakePath, RemovePath, MakePair, RemovePair, PausePair, ResumePair, Expire, Freeze, Unfreeze, MakeSession, RemoveSession, AddMember, RemoveMember, MakeMirror, PauseMirror, ResumeMirror, RemoveMirror, Exchange, CommitFlash, RevertFlash}
+use Rattle.dr_model.specs.declared.step.Step.TheVariants.{Server, Volume, Link, Stop, StopAfter, Start, Issue, Write, MakeFlash, RemoveFlash, ResyncFlash, ReverseFlash, MakePath, RemovePath, MakePair, RemovePair, PausePair, ResumePair, Failover, Failback, Expire, Freeze, Unfreeze, MakeSession, RemoveSession, AddMember, RemoveMember, MakeMirror, PauseMirror, ResumeMirror, RemoveMirror, Exchange, CommitFlash, RevertFlash}
 
 -- a name has 1 to 24 bytes
 abbrev pub FitsName : Name → Type 0
@@ -41,6 +41,8 @@ IsWellFormed (MakePair devs a b kind full) = FitsDevs devs
 IsWellFormed (RemovePair devs a b source_only) = FitsDevs devs
 IsWellFormed (PausePair devs a b) = FitsDevs devs
 IsWellFormed (ResumePair devs a b kind) = FitsDevs devs
+IsWellFormed (Failover devs b a kind) = FitsDevs devs
+IsWellFormed (Failback devs x y kind) = FitsDevs devs
 IsWellFormed (MakeSession devs l s) = FitsOwner devs.dev
 IsWellFormed (RemoveSession devs l s) = FitsOwner devs.dev
 IsWellFormed (AddMember devs l a s) = FitsOwner devs.dev

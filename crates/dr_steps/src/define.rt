@@ -3,7 +3,7 @@
 ghost use Rattle.std.specs.Prelude.{◌≡◌, ℕ, ◌≤◌, min};
 ghost use Rattle.dr_ids.specs.declared.refusal.Refusal.{Refusal};
 ghost use Rattle.dr_model.specs.declared.step.Step.{Step};
-ghost use Rattle.dr_steps.specs.Faults.{Counts};
+ghost use Rattle.dr_steps.specs.Faults.{CountsStop};
 ghost use Rattle.dr_steps.specs.Here.{here, said_of, OnAnswer, OnNoMemory, StepLeads, IsReady};
 
 use crate::locate::{bytes_of, unknown_server};
@@ -28,7 +28,7 @@ pub fn define_server<P: Plant>(
     requires room { 2 ≤ journal.old.spare }
     ensures step { OnAnswer result (λ a. (line : ℕ) → StepLeads (here (P.state plant.now) config.old tables.now journal.old.events) line (Step.Server name.now)
         (here (P.state plant.now) config.new tables.now journal.new.events) a) }
-    ensures faults { OnAnswer result (λ a. Counts a (P.state plant.now) (P.state plant.now)) }
+    ensures faults { OnAnswer result (λ a. CountsStop a (P.state plant.now) (P.state plant.now)) }
     ensures same { OnNoMemory result (config.new ≡ config.old) }
     ensures untold { OnNoMemory result (journal.new.events ≡ journal.old.events) }
     ensures ready { IsReady (P.state plant.now) config.new tables.now journal.new.events }
@@ -71,7 +71,7 @@ pub fn define_volume<P: Plant>(
     requires room { 2 ≤ journal.old.spare }
     ensures step { OnAnswer result (λ a. (line : ℕ) → StepLeads (here (P.state plant.old) config.old tables.now journal.old.events) line (Step.Volume volume.0 name.now tracks)
         (here (P.state plant.new) config.new tables.now journal.new.events) a) }
-    ensures faults { OnAnswer result (λ a. Counts a (P.state plant.old) (P.state plant.new)) }
+    ensures faults { OnAnswer result (λ a. CountsStop a (P.state plant.old) (P.state plant.new)) }
     ensures same { OnNoMemory result (config.new ≡ config.old) }
     ensures same_plant { OnNoMemory result (P.state plant.new ≡ P.state plant.old) }
     ensures untold { OnNoMemory result (journal.new.events ≡ journal.old.events) }
@@ -111,7 +111,7 @@ pub fn set_link<P: Plant>(
     requires second_short { second.now.len ≤ 24 }
     ensures step { (line : ℕ) → StepLeads (here (P.state plant.now) config.old tables.now journal.now.events) line (Step.Link first.now second.now up)
         (here (P.state plant.now) config.new tables.now journal.now.events) (said_of result) }
-    ensures faults { Counts (said_of result) (P.state plant.now) (P.state plant.now) }
+    ensures faults { CountsStop (said_of result) (P.state plant.now) (P.state plant.now) }
     ensures ready { IsReady (P.state plant.now) config.new tables.now journal.now.events }
 {
     let Some(a) = config.server_named(bytes_of(first)) else {

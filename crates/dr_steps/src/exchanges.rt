@@ -5,7 +5,7 @@ ghost use Rattle.dr_model.specs.Laws.{Sound};
 ghost use Rattle.dr_model.specs.Runs.{after_plan, said};
 ghost use Rattle.dr_model.specs.SessionPlans as plans;
 ghost use Rattle.dr_model.specs.Sessions as model;
-ghost use Rattle.dr_steps.specs.Faults.{Counts};
+ghost use Rattle.dr_steps.specs.Faults.{CountsStop};
 ghost use Rattle.dr_steps.specs.Here.{here, said_of, IsReady, Carries};
 
 use crate::locate::{bytes_of, unknown_server, unknown_session};
@@ -45,7 +45,7 @@ pub fn ask_server<P: Plant>(
     ensures step { Carries (here (P.state plant.old) config.now tables.old journal.old.events)
         (plans.asking (here (P.state plant.old) config.now tables.old journal.old.events).control s.0 server.0 reply)
         (here (P.state plant.new) config.now tables.new journal.new.events) (said_of result) }
-    ensures faults { Counts (said_of result) (P.state plant.old) (P.state plant.new) }
+    ensures faults { CountsStop (said_of result) (P.state plant.old) (P.state plant.new) }
     ensures ready { IsReady (P.state plant.new) config.now tables.new journal.new.events }
     ensures host { tables.new.host ≡ tables.old.host }
     ensures room { 1 ≤ journal.new.spare }
@@ -84,7 +84,7 @@ pub fn exchange<P: Plant>(
     ensures step { (line : ℕ) → after_plan (here (P.state plant.old) config.now tables.old journal.old.events) line
         (plans.exchange_plan (here (P.state plant.old) config.now tables.old journal.old.events).control s.0 name.now reply)
         ≡ said (here (P.state plant.new) config.now tables.new journal.new.events) line (said_of result) }
-    ensures faults { Counts (said_of result) (P.state plant.old) (P.state plant.new) }
+    ensures faults { CountsStop (said_of result) (P.state plant.old) (P.state plant.new) }
     ensures ready { IsReady (P.state plant.new) config.now tables.new journal.new.events }
     ensures host { tables.new.host ≡ tables.old.host }
     ensures room { 1 ≤ journal.new.spare }

@@ -5,14 +5,14 @@ ghost use Rattle.dr_model.specs.Laws.{Sound};
 ghost use Rattle.dr_model.specs.Plans as plans;
 ghost use Rattle.dr_model.specs.Runs.{after_plan, said};
 ghost use Rattle.dr_flash.specs.Options.{choices};
-ghost use Rattle.dr_steps.specs.Faults.{Counts};
+ghost use Rattle.dr_steps.specs.Faults.{CountsStop};
 ghost use Rattle.dr_steps.specs.Here.{said_of, here, IsReady};
 ghost use Rattle.dr_steps.specs.WellFormed.{FitsOwner};
 
 use crate::locate::found_refusal;
 use crate::tables::Tables;
 use dr_config::Config;
-use dr_flash::{Options, establish, withdraw};
+use dr_flash::{FlashOptions, establish, withdraw};
 use dr_gmirror::{leaving, restore_refusal};
 use dr_ids::{Refusal, VolumeId};
 use dr_incr::{resync, reverse_start};
@@ -28,7 +28,7 @@ pub fn make_flash<P: Plant>(
     dev: &Option<Name>,
     s: VolumeId,
     t: VolumeId,
-    options: &Options,
+    options: &FlashOptions,
 ) -> Result<Addition, Refusal>
     requires ready { IsReady (P.state plant.old) config.now tables.now journal.old.events }
     requires sound { Sound (here (P.state plant.old) config.now tables.now journal.old.events) }
@@ -37,7 +37,7 @@ pub fn make_flash<P: Plant>(
     ensures step { (line : ℕ) → after_plan (here (P.state plant.old) config.now tables.now journal.old.events) line
         (plans.make_flash_plan (here (P.state plant.old) config.now tables.now journal.old.events).control dev.now s.0 t.0 (choices options.now))
         ≡ said (here (P.state plant.new) config.now tables.now journal.new.events) line (said_of result) }
-    ensures faults { Counts (said_of result) (P.state plant.old) (P.state plant.new) }
+    ensures faults { CountsStop (said_of result) (P.state plant.old) (P.state plant.new) }
     ensures ready { IsReady (P.state plant.new) config.now tables.now journal.new.events }
     ensures room { 1 ≤ journal.new.spare }
 {
@@ -67,7 +67,7 @@ pub fn remove_flash<P: Plant>(
     ensures step { (line : ℕ) → after_plan (here (P.state plant.old) config.now tables.now journal.old.events) line
         (plans.remove_flash_plan (here (P.state plant.old) config.now tables.now journal.old.events).control dev.now s.0 t.0)
         ≡ said (here (P.state plant.new) config.now tables.now journal.new.events) line (said_of result) }
-    ensures faults { Counts (said_of result) (P.state plant.old) (P.state plant.new) }
+    ensures faults { CountsStop (said_of result) (P.state plant.old) (P.state plant.new) }
     ensures ready { IsReady (P.state plant.new) config.now tables.now journal.new.events }
     ensures room { 1 ≤ journal.new.spare }
 {
@@ -98,7 +98,7 @@ pub fn resync_flash<P: Plant>(
     ensures step { (line : ℕ) → after_plan (here (P.state plant.old) config.now tables.now journal.old.events) line
         (plans.resync_flash_plan (here (P.state plant.old) config.now tables.now journal.old.events).control dev.now s.0 t.0 sequence)
         ≡ said (here (P.state plant.new) config.now tables.now journal.new.events) line (said_of result) }
-    ensures faults { Counts (said_of result) (P.state plant.old) (P.state plant.new) }
+    ensures faults { CountsStop (said_of result) (P.state plant.old) (P.state plant.new) }
     ensures ready { IsReady (P.state plant.new) config.now tables.now journal.new.events }
     ensures room { 1 ≤ journal.new.spare }
 {
@@ -130,7 +130,7 @@ pub fn reverse_flash<P: Plant>(
     ensures step { (line : ℕ) → after_plan (here (P.state plant.old) config.now tables.now journal.old.events) line
         (plans.reverse_flash_plan (here (P.state plant.old) config.now tables.now journal.old.events).control dev.now s.0 t.0)
         ≡ said (here (P.state plant.new) config.now tables.now journal.new.events) line (said_of result) }
-    ensures faults { Counts (said_of result) (P.state plant.old) (P.state plant.new) }
+    ensures faults { CountsStop (said_of result) (P.state plant.old) (P.state plant.new) }
     ensures ready { IsReady (P.state plant.new) config.now tables.now journal.new.events }
     ensures room { 1 ≤ journal.new.spare }
 {

@@ -412,7 +412,7 @@ fn form_groups<P: Plant>(
 }
 
 /// How the line is answered: with the refusal that ended it, or with the phase that the master is in.
-fn answer_of(formed: Result<(), Refusal>, sessions: &Sessions, s: SessionId) -> Said
+fn formed_answer(formed: Result<(), Refusal>, sessions: &Sessions, s: SessionId) -> Said
     ensures { result ≡ plans.form_answer s.0 sessions.now.sessions (refusal_of formed) }
 {
     match formed {
@@ -448,6 +448,6 @@ pub fn carry_run<P: Plant>(
     }
     journal.reserve(MOST_EVENTS - journal.len())?;
     let formed = form_groups(plant, config, tables, journal, s, groups);
-    say(journal, number, answer_of(formed, &tables.sessions, s));
+    say(journal, number, formed_answer(formed, &tables.sessions, s));
     Ok(())
 }

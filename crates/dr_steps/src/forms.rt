@@ -3,7 +3,7 @@
 ghost use Rattle.std.specs.Prelude.{◌≡◌};
 ghost use Rattle.dr_model.specs.Layout.{is_part, part_of};
 ghost use Rattle.dr_model.specs.Plans.{is_built};
-ghost use Rattle.dr_steps.specs.Forms.{is_plain, is_relation, is_pair, is_session, is_recovery};
+ghost use Rattle.dr_steps.specs.Forms.{is_plain, is_relation, is_pair, is_return, is_session, is_recovery};
 
 use dr_model::Step;
 
@@ -57,6 +57,16 @@ fn is_pair(step: &Step) -> bool
     }
 }
 
+/// Whether a step is one that turns a pair round, and its form is built.
+fn is_return(step: &Step) -> bool
+    ensures { result ≡ is_return step.now }
+{
+    match step {
+        Step::Failover { kind, .. } | Step::Failback { kind, .. } => is_copied(*kind),
+        _ => false,
+    }
+}
+
 /// Whether a step is one on a session, its members or its master.
 fn is_session(step: &Step) -> bool
     ensures { result ≡ is_session step.now }
@@ -85,5 +95,10 @@ fn is_recovery(step: &Step) -> bool
 pub fn is_built(step: &Step) -> bool
     ensures { result ≡ is_built step.now }
 {
-    is_plain(step) || is_relation(step) || is_pair(step) || is_session(step) || is_recovery(step)
+    is_plain(step)
+        || is_relation(step)
+        || is_pair(step)
+        || is_return(step)
+        || is_session(step)
+        || is_recovery(step)
 }

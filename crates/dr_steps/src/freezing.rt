@@ -4,7 +4,7 @@ ghost use Rattle.std.specs.Prelude.{◌≡◌, ℕ, ◌≤◌};
 ghost use Rattle.dr_model.specs.Laws.{Sound};
 ghost use Rattle.dr_model.specs.Plans as plans;
 ghost use Rattle.dr_model.specs.Runs.{after_plan, said};
-ghost use Rattle.dr_steps.specs.Faults.{Counts};
+ghost use Rattle.dr_steps.specs.Faults.{CountsStop};
 ghost use Rattle.dr_steps.specs.Here.{here, said_of, IsReady};
 ghost use Rattle.dr_steps.specs.WellFormed.{FitsDevs};
 
@@ -35,7 +35,7 @@ pub fn freeze<P: Plant>(
     ensures step { (line : ℕ) → after_plan (here (P.state plant.old) config.old tables.now journal.old.events) line
         (plans.freeze_plan (here (P.state plant.old) config.old tables.now journal.old.events).control devs.now src.0 tgt.0)
         ≡ said (here (P.state plant.new) config.new tables.now journal.new.events) line (said_of result) }
-    ensures faults { Counts (said_of result) (P.state plant.old) (P.state plant.new) }
+    ensures faults { CountsStop (said_of result) (P.state plant.old) (P.state plant.new) }
     ensures ready { IsReady (P.state plant.new) config.new tables.now journal.new.events }
     ensures room { 1 ≤ journal.new.spare }
 {
@@ -78,7 +78,7 @@ pub fn unfreeze<P: Plant>(
     ensures step { (line : ℕ) → after_plan (here (P.state plant.old) config.now tables.now journal.old.events) line
         (plans.thaw_plan (here (P.state plant.old) config.now tables.now journal.old.events).control devs.now src.0 tgt.0)
         ≡ said (here (P.state plant.new) config.now tables.now journal.new.events) line (said_of result) }
-    ensures faults { Counts (said_of result) (P.state plant.old) (P.state plant.new) }
+    ensures faults { CountsStop (said_of result) (P.state plant.old) (P.state plant.new) }
     ensures ready { IsReady (P.state plant.new) config.now tables.now journal.new.events }
     ensures room { 1 ≤ journal.new.spare }
 {

@@ -6,7 +6,7 @@
 //! journal may still need before it begins, so want of memory never cuts it short (`same`). `define_server`,
 //! `define_volume`, `set_link`, `issue`, `write`, `apply`, `show`, `stop`, `arm`, `start`, `make_flash`,
 //! `remove_flash`, `resync_flash`, `reverse_flash`, `copy`, `make_path`, `remove_path`, `make_pair`, `remove_pair`,
-//! `pause_pair`, `resume_pair`, `drain`, `expire`, `freeze`, `thaw`, `make_session`, `remove_session`,
+//! `pause_pair`, `resume_pair`, `fail_over`, `fail_back`, `compare`, `drain`, `expire`, `freeze`, `thaw`, `make_session`, `remove_session`,
 //! `make_mirror`, `pause_mirror`, `remove_mirror`, `abort_attempt`, `add_member`, `remove_member`, `exchange`,
 //! `recover_session`, `commit_flash` and `revert_flash` are their steps, each with its answer (`step`); `show` gives
 //! the bytes that the host writes of the journal say. `fetch_tracks` and `restore_tracks` are the background copy and
@@ -15,6 +15,7 @@
 
 mod answers;
 mod background;
+mod comparing;
 mod define;
 mod exchanges;
 mod expiry;
@@ -28,6 +29,7 @@ mod members;
 mod pairs;
 mod paths;
 mod recovering;
+mod returning;
 mod sessions;
 mod steps;
 mod stops;

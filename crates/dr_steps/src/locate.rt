@@ -10,7 +10,7 @@ ghost use Rattle.dr_model.specs.Refusals.{unknown};
 ghost use Rattle.dr_model.specs.SessionPlans as sessions;
 ghost use Rattle.dr_flash.specs.Checks.{Checked, OnNone, is_stop};
 ghost use Rattle.dr_steps.specs.Here.{here};
-ghost use Rattle.dr_steps.specs.Located.{Located};
+ghost use Rattle.dr_steps.specs.Located.{Located, defined_checks};
 ghost use Rattle.dr_steps.specs.WellFormed.{FitsOwner, FitsDevs};
 ghost use Rattle.dr_steps.specs.declared.tables.Tables.{Tables};
 
@@ -107,6 +107,22 @@ pub fn off_refusal<P: Plant>(plant: &P, server: ServerId) -> Option<Refusal>
     None
 }
 
+/// Why a line doesn't find its two volumes: one isn't defined.
+pub fn undefined_refusal(config: &Config, v: VolumeId, u: VolumeId) -> Option<Refusal>
+    ensures checked { (x : PlantState) (h : Tables) (events : List Event) → Checked (here x config.now h events) (defined_checks v.0 u.0) result }
+    ensures calm { is_stop result ≡ false }
+    ensures first { OnNone result (IsSome (place_of config.now v.0)) }
+    ensures second { OnNone result (IsSome (place_of config.now u.0)) }
+{
+    let Some(_) = config.server_of(v) else {
+        return Some(Refusal::Unknown { kind: Kind::Volume });
+    };
+    let Some(_) = config.server_of(u) else {
+        return Some(Refusal::Unknown { kind: Kind::Volume });
+    };
+    None
+}
+
 /// Why a line on a relationship doesn't find its volumes: one isn't defined, or the first isn't on the server that is named.
 pub fn found_refusal(
     config: &Config,
@@ -152,13 +168,13 @@ pub fn found_volumes(config: &Config, devs: &Devs, a: VolumeId, b: VolumeId) -> 
 
 /// A track of a volume that is defined, and the server that owns it.
 #[derive(Clone, Copy)]
-pub struct Place {
+pub struct TrackPlace {
     pub server: ServerId,
     pub track: u16,
 }
 
 /// The place of a track, or why it isn't there: its volume isn't defined, or hasn't so many tracks.
-pub fn locate(config: &Config, volume: VolumeId, track: u32) -> Result<Place, Refusal>
+pub fn locate(config: &Config, volume: VolumeId, track: u32) -> Result<TrackPlace, Refusal>
     ensures { Located config.now volume.0 track result }
 {
     let Some(tracks) = config.tracks_of(volume) else {
@@ -168,7 +184,7 @@ pub fn locate(config: &Config, volume: VolumeId, track: u32) -> Result<Place, Re
         return Err(Refusal::Unknown { kind: Kind::Volume });
     };
     if track < u32::from(tracks) {
-        Ok(Place {
+        Ok(TrackPlace {
             server,
             track: track as u16,
         })

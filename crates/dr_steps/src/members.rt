@@ -11,7 +11,7 @@ ghost use Rattle.dr_model.specs.Runs.{after_plan, said};
 ghost use Rattle.dr_model.specs.SessionPlans as plans;
 ghost use Rattle.dr_model.specs.Sessions as model;
 ghost use Rattle.dr_flash.specs.Checks.{is_stop};
-ghost use Rattle.dr_steps.specs.Faults.{Counts};
+ghost use Rattle.dr_steps.specs.Faults.{CountsStop};
 ghost use Rattle.dr_steps.specs.Here.{here, said_of, OnAnswer, OnNoMemory, IsReady};
 ghost use Rattle.dr_steps.specs.Members.{AreThere, member_plan};
 ghost use Rattle.dr_steps.specs.WellFormed.{FitsOwner};
@@ -96,7 +96,7 @@ pub fn add_member<P: Plant>(
     ensures step { OnAnswer result (λ x. (line : ℕ) → after_plan (here (P.state plant.old) config.now tables.old journal.old.events) line
         (plans.add_plan (here (P.state plant.old) config.now tables.old journal.old.events).control devs.now.dev l.0 a.0 s.0)
         ≡ said (here (P.state plant.new) config.now tables.new journal.new.events) line x) }
-    ensures faults { OnAnswer result (λ x. Counts x (P.state plant.old) (P.state plant.new)) }
+    ensures faults { OnAnswer result (λ x. CountsStop x (P.state plant.old) (P.state plant.new)) }
     ensures same { OnNoMemory result (here (P.state plant.new) config.now tables.new journal.new.events ≡ here (P.state plant.old) config.now tables.old journal.old.events) }
     ensures same_plant { OnNoMemory result (P.state plant.new ≡ P.state plant.old) }
     ensures ready { IsReady (P.state plant.new) config.now tables.new journal.new.events }
@@ -136,7 +136,7 @@ pub fn remove_member<P: Plant>(
     ensures step { (line : ℕ) → after_plan (here (P.state plant.old) config.now tables.old journal.old.events) line
         (plans.expel_plan (here (P.state plant.old) config.now tables.old journal.old.events).control devs.now.dev l.0 a.0 s.0)
         ≡ said (here (P.state plant.new) config.now tables.new journal.new.events) line (said_of result) }
-    ensures faults { Counts (said_of result) (P.state plant.old) (P.state plant.new) }
+    ensures faults { CountsStop (said_of result) (P.state plant.old) (P.state plant.new) }
     ensures ready { IsReady (P.state plant.new) config.now tables.new journal.new.events }
     ensures host { tables.new.host ≡ tables.old.host }
     ensures room { 1 ≤ journal.new.spare }

@@ -12,7 +12,7 @@ ghost use Rattle.dr_model.specs.Plans as plans;
 ghost use Rattle.dr_model.specs.Runs.{after_plan, said};
 ghost use Rattle.dr_gcopy.specs.Kinds.{part_of};
 ghost use Rattle.dr_flash.specs.Checks.{Checked, OnNone, is_stop};
-ghost use Rattle.dr_steps.specs.Faults.{Counts};
+ghost use Rattle.dr_steps.specs.Faults.{CountsStop};
 ghost use Rattle.dr_steps.specs.Here.{said_of, here, IsReady, Carries};
 ghost use Rattle.dr_steps.specs.WellFormed.{FitsDevs};
 
@@ -63,7 +63,7 @@ fn found_free(
 }
 
 /// The kind of pair that a step names.
-fn kind_of(kind: u8) -> CopyKind
+pub(crate) fn kind_of(kind: u8) -> CopyKind
     requires { part.is_part (part.part_of kind) ≡ true }
     ensures { part_of result ≡ part.part_of kind }
 {
@@ -94,7 +94,7 @@ pub fn make_pair<P: Plant>(
     ensures step { (line : ℕ) → after_plan (here (P.state plant.old) config.now tables.now journal.old.events) line
         (plans.make_pair_plan (here (P.state plant.old) config.now tables.now journal.old.events).control journal.old.events devs.now a.0 b.0 (part.part_of kind) full)
         ≡ said (here (P.state plant.new) config.now tables.now journal.new.events) line (said_of result) }
-    ensures faults { Counts (said_of result) (P.state plant.old) (P.state plant.new) }
+    ensures faults { CountsStop (said_of result) (P.state plant.old) (P.state plant.new) }
     ensures ready { IsReady (P.state plant.new) config.now tables.now journal.new.events }
     ensures room { 1 ≤ journal.new.spare }
 {
@@ -125,7 +125,7 @@ pub fn remove_pair<P: Plant>(
     ensures step { (line : ℕ) → after_plan (here (P.state plant.old) config.now tables.now journal.old.events) line
         (plans.remove_pair_plan (here (P.state plant.old) config.now tables.now journal.old.events).control devs.now a.0 b.0 source_only)
         ≡ said (here (P.state plant.new) config.now tables.now journal.new.events) line (said_of result) }
-    ensures faults { Counts (said_of result) (P.state plant.old) (P.state plant.new) }
+    ensures faults { CountsStop (said_of result) (P.state plant.old) (P.state plant.new) }
     ensures ready { IsReady (P.state plant.new) config.now tables.now journal.new.events }
     ensures room { 1 ≤ journal.new.spare }
 {
@@ -155,7 +155,7 @@ pub fn pause_pair<P: Plant>(
     ensures step { (line : ℕ) → after_plan (here (P.state plant.old) config.now tables.now journal.old.events) line
         (plans.pause_pair_plan (here (P.state plant.old) config.now tables.now journal.old.events).control devs.now a.0 b.0)
         ≡ said (here (P.state plant.new) config.now tables.now journal.new.events) line (said_of result) }
-    ensures faults { Counts (said_of result) (P.state plant.old) (P.state plant.new) }
+    ensures faults { CountsStop (said_of result) (P.state plant.old) (P.state plant.new) }
     ensures ready { IsReady (P.state plant.new) config.now tables.now journal.new.events }
     ensures room { 1 ≤ journal.new.spare }
 {
@@ -187,7 +187,7 @@ pub fn resume_pair<P: Plant>(
     ensures step { (line : ℕ) → after_plan (here (P.state plant.old) config.now tables.now journal.old.events) line
         (plans.resume_pair_plan (here (P.state plant.old) config.now tables.now journal.old.events).control devs.now a.0 b.0 (part.part_of kind))
         ≡ said (here (P.state plant.new) config.now tables.now journal.new.events) line (said_of result) }
-    ensures faults { Counts (said_of result) (P.state plant.old) (P.state plant.new) }
+    ensures faults { CountsStop (said_of result) (P.state plant.old) (P.state plant.new) }
     ensures ready { IsReady (P.state plant.new) config.now tables.now journal.new.events }
     ensures room { 1 ≤ journal.new.spare }
 {
@@ -224,7 +224,7 @@ pub fn drain<P: Plant>(
     ensures step { Carries (here (P.state plant.old) config.now tables.now journal.old.events)
         (plans.drain_plan (here (P.state plant.old) config.now tables.now journal.old.events).control a.0 most)
         (here (P.state plant.new) config.now tables.now journal.new.events) (said_of result) }
-    ensures faults { Counts (said_of result) (P.state plant.old) (P.state plant.new) }
+    ensures faults { CountsStop (said_of result) (P.state plant.old) (P.state plant.new) }
     ensures ready { IsReady (P.state plant.new) config.now tables.now journal.new.events }
     ensures room { 1 ≤ journal.new.spare }
     ensures spare { length journal.new.events + journal.new.spare ≡ length journal.old.events + journal.old.spare }

@@ -12,7 +12,7 @@ ghost use Rattle.dr_model.specs.Pairs.{is_suspended};
 ghost use Rattle.dr_model.specs.Plans as plans;
 ghost use Rattle.dr_model.specs.Runs.{after_plan, said};
 ghost use Rattle.dr_flash.specs.Checks.{is_stop};
-ghost use Rattle.dr_steps.specs.Faults.{Counts};
+ghost use Rattle.dr_steps.specs.Faults.{CountsStop};
 ghost use Rattle.dr_steps.specs.Here.{said_of, OnAnswer, OnNoMemory, here, IsReady};
 ghost use Rattle.dr_steps.specs.WellFormed.{FitsDevs};
 
@@ -43,7 +43,7 @@ pub fn make_path<P: Plant>(
     ensures step { OnAnswer result (λ a. (line : ℕ) → after_plan (here (P.state plant.now) config.old tables.now journal.now.events) line
         (plans.path_plan (here (P.state plant.now) config.old tables.now journal.now.events).control devs.now src.0 tgt.0 group)
         ≡ said (here (P.state plant.now) config.new tables.now journal.now.events) line a) }
-    ensures faults { OnAnswer result (λ a. Counts a (P.state plant.now) (P.state plant.now)) }
+    ensures faults { OnAnswer result (λ a. CountsStop a (P.state plant.now) (P.state plant.now)) }
     ensures same { OnNoMemory result (config.new ≡ config.old) }
     ensures ready { IsReady (P.state plant.now) config.new tables.now journal.now.events }
 {
@@ -135,7 +135,7 @@ pub fn remove_path<P: Plant>(
     ensures step { (line : ℕ) → after_plan (here (P.state plant.now) config.old tables.now journal.now.events) line
         (plans.unpath_plan (here (P.state plant.now) config.old tables.now journal.now.events).control devs.now src.0 tgt.0 force)
         ≡ said (here (P.state plant.now) config.new tables.now journal.now.events) line (said_of result) }
-    ensures faults { Counts (said_of result) (P.state plant.now) (P.state plant.now) }
+    ensures faults { CountsStop (said_of result) (P.state plant.now) (P.state plant.now) }
     ensures ready { IsReady (P.state plant.now) config.new tables.now journal.now.events }
 {
     let Some(first) = config.lss_owner(src) else {

@@ -5,7 +5,7 @@ ghost use Rattle.dr_model.specs.Laws.{Sound};
 ghost use Rattle.dr_model.specs.RecoveryPlans as plans;
 ghost use Rattle.dr_model.specs.Runs.{after_plan, said};
 ghost use Rattle.dr_recover.specs.Outcomes.{lets_by};
-ghost use Rattle.dr_steps.specs.Faults.{Counts, is_stopped};
+ghost use Rattle.dr_steps.specs.Faults.{CountsStop, is_stopped};
 ghost use Rattle.dr_steps.specs.Here.{here, said_of, IsReady};
 ghost use Rattle.dr_steps.specs.WellFormed.{FitsOwner};
 
@@ -49,7 +49,7 @@ pub fn recover_session<P: Plant>(
     ensures step { (line : ℕ) → after_plan (here (P.state plant.old) config.now tables.now journal.old.events) line
         (plans.recover_plan (here (P.state plant.old) config.now tables.now journal.old.events).control s.0)
         ≡ said (here (P.state plant.new) config.now tables.now journal.new.events) line (said_of result) }
-    ensures faults { Counts (said_of result) (P.state plant.old) (P.state plant.new) }
+    ensures faults { CountsStop (said_of result) (P.state plant.old) (P.state plant.new) }
     ensures ready { IsReady (P.state plant.new) config.now tables.now journal.new.events }
     ensures room { 1 ≤ journal.new.spare }
 {
@@ -81,7 +81,7 @@ fn settle_flash<P: Plant>(
     ensures step { (line : ℕ) → after_plan (here (P.state plant.old) config.now tables.now journal.old.events) line
         (plans.settle_plan (here (P.state plant.old) config.now tables.now journal.old.events).control dev.now (lets_by commit) source.0)
         ≡ said (here (P.state plant.new) config.now tables.now journal.new.events) line (said_of result) }
-    ensures faults { Counts (said_of result) (P.state plant.old) (P.state plant.new) }
+    ensures faults { CountsStop (said_of result) (P.state plant.old) (P.state plant.new) }
     ensures ready { IsReady (P.state plant.new) config.now tables.now journal.new.events }
     ensures room { 1 ≤ journal.new.spare }
 {
@@ -117,7 +117,7 @@ pub fn commit_flash<P: Plant>(
     ensures step { (line : ℕ) → after_plan (here (P.state plant.old) config.now tables.now journal.old.events) line
         (plans.settle_plan (here (P.state plant.old) config.now tables.now journal.old.events).control dev.now plans.lets_commit source.0)
         ≡ said (here (P.state plant.new) config.now tables.now journal.new.events) line (said_of result) }
-    ensures faults { Counts (said_of result) (P.state plant.old) (P.state plant.new) }
+    ensures faults { CountsStop (said_of result) (P.state plant.old) (P.state plant.new) }
     ensures ready { IsReady (P.state plant.new) config.now tables.now journal.new.events }
     ensures room { 1 ≤ journal.new.spare }
 {
@@ -141,7 +141,7 @@ pub fn revert_flash<P: Plant>(
     ensures step { (line : ℕ) → after_plan (here (P.state plant.old) config.now tables.now journal.old.events) line
         (plans.settle_plan (here (P.state plant.old) config.now tables.now journal.old.events).control dev.now plans.lets_revert source.0)
         ≡ said (here (P.state plant.new) config.now tables.now journal.new.events) line (said_of result) }
-    ensures faults { Counts (said_of result) (P.state plant.old) (P.state plant.new) }
+    ensures faults { CountsStop (said_of result) (P.state plant.old) (P.state plant.new) }
     ensures ready { IsReady (P.state plant.new) config.now tables.now journal.new.events }
     ensures room { 1 ≤ journal.new.spare }
 {

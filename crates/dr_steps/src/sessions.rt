@@ -12,7 +12,7 @@ ghost use Rattle.dr_model.specs.Runs.{after_plan, said};
 ghost use Rattle.dr_model.specs.SessionPlans as plans;
 ghost use Rattle.dr_model.specs.Sessions as model;
 ghost use Rattle.dr_flash.specs.Checks.{is_stop};
-ghost use Rattle.dr_steps.specs.Faults.{Counts};
+ghost use Rattle.dr_steps.specs.Faults.{CountsStop};
 ghost use Rattle.dr_steps.specs.Found.{IsFound, found_plan};
 ghost use Rattle.dr_steps.specs.Here.{here, said_of, OnAnswer, OnNoMemory, IsReady};
 ghost use Rattle.dr_steps.specs.WellFormed.{FitsOwner};
@@ -142,7 +142,7 @@ pub fn make_session<P: Plant>(
     ensures step { OnAnswer result (λ a. (line : ℕ) → after_plan (here (P.state plant.now) config.now tables.old journal.now.events) line
         (plans.join_plan (here (P.state plant.now) config.now tables.old journal.now.events).control devs.now.dev l.0 s.0)
         ≡ said (here (P.state plant.now) config.now tables.new journal.now.events) line a) }
-    ensures faults { OnAnswer result (λ a. Counts a (P.state plant.now) (P.state plant.now)) }
+    ensures faults { OnAnswer result (λ a. CountsStop a (P.state plant.now) (P.state plant.now)) }
     ensures same { OnNoMemory result (tables.new.sessions.sessions ≡ tables.old.sessions.sessions) }
     ensures host { tables.new.host ≡ tables.old.host }
 {
@@ -178,7 +178,7 @@ pub fn remove_session<P: Plant>(
     ensures step { (line : ℕ) → after_plan (here (P.state plant.now) config.now tables.old journal.now.events) line
         (plans.leave_plan (here (P.state plant.now) config.now tables.old journal.now.events).control devs.now.dev l.0 s.0)
         ≡ said (here (P.state plant.now) config.now tables.new journal.now.events) line (said_of result) }
-    ensures faults { Counts (said_of result) (P.state plant.now) (P.state plant.now) }
+    ensures faults { CountsStop (said_of result) (P.state plant.now) (P.state plant.now) }
     ensures host { tables.new.host ≡ tables.old.host }
 {
     if let Err(why) = found(config, tables, &devs.dev, l, s) {
@@ -207,7 +207,7 @@ pub fn make_mirror<P: Plant>(
     ensures step { (line : ℕ) → after_plan (here (P.state plant.now) config.now tables.old journal.now.events) line
         (plans.mirror_plan (here (P.state plant.now) config.now tables.old journal.now.events).control devs.now.dev l.0 s.0)
         ≡ said (here (P.state plant.now) config.now tables.new journal.now.events) line (said_of result) }
-    ensures faults { Counts (said_of result) (P.state plant.now) (P.state plant.now) }
+    ensures faults { CountsStop (said_of result) (P.state plant.now) (P.state plant.now) }
     ensures host { tables.new.host ≡ tables.old.host }
 {
     let owner = match found(config, tables, &devs.dev, l, s) {
@@ -245,7 +245,7 @@ pub fn pause_mirror<P: Plant>(
     ensures step { (line : ℕ) → after_plan (here (P.state plant.now) config.now tables.old journal.now.events) line
         (plans.pause_mirror_plan (here (P.state plant.now) config.now tables.old journal.now.events).control devs.now.dev l.0 s.0 on)
         ≡ said (here (P.state plant.now) config.now tables.new journal.now.events) line (said_of result) }
-    ensures faults { Counts (said_of result) (P.state plant.now) (P.state plant.now) }
+    ensures faults { CountsStop (said_of result) (P.state plant.now) (P.state plant.now) }
     ensures host { tables.new.host ≡ tables.old.host }
 {
     if let Err(why) = found(config, tables, &devs.dev, l, s) {
@@ -281,7 +281,7 @@ pub fn remove_mirror<P: Plant>(
     ensures step { (line : ℕ) → after_plan (here (P.state plant.now) config.now tables.old journal.now.events) line
         (plans.unmirror_plan (here (P.state plant.now) config.now tables.old journal.now.events).control devs.now.dev l.0 s.0)
         ≡ said (here (P.state plant.now) config.now tables.new journal.now.events) line (said_of result) }
-    ensures faults { Counts (said_of result) (P.state plant.now) (P.state plant.now) }
+    ensures faults { CountsStop (said_of result) (P.state plant.now) (P.state plant.now) }
     ensures host { tables.new.host ≡ tables.old.host }
 {
     if let Err(why) = found(config, tables, &devs.dev, l, s) {
@@ -313,7 +313,7 @@ pub fn abort_attempt<P: Plant>(
     ensures step { (line : ℕ) → after_plan (here (P.state plant.now) config.now tables.old journal.now.events) line
         (plans.abort_plan (here (P.state plant.now) config.now tables.old journal.now.events).control s.0)
         ≡ said (here (P.state plant.now) config.now tables.new journal.now.events) line (said_of result) }
-    ensures faults { Counts (said_of result) (P.state plant.now) (P.state plant.now) }
+    ensures faults { CountsStop (said_of result) (P.state plant.now) (P.state plant.now) }
     ensures host { tables.new.host ≡ tables.old.host }
 {
     if !tables.sessions.is_defined(s) {

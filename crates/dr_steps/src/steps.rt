@@ -16,7 +16,7 @@ ghost use Rattle.dr_flash.specs.Fit.{RelationsFit};
 ghost use Rattle.dr_flash.specs.Here.{refusal_of, armed_in};
 ghost use Rattle.dr_flash.specs.Views.{view_seen};
 ghost use Rattle.dr_gcopy.specs.Followed.{EndsFollowed};
-ghost use Rattle.dr_steps.specs.Faults.{Counts};
+ghost use Rattle.dr_steps.specs.Faults.{CountsStop};
 ghost use Rattle.dr_steps.specs.Here.{here, said_of, answered_by, OnAnswer, OnSaid, OnNoMemory, OnRefused, StepLeads, IsReady, IsTold};
 ghost use Rattle.dr_steps.specs.Waiting.{IsIssued, PartnersFit, written_as};
 
@@ -32,24 +32,24 @@ use dr_plant::{Block, Plant};
 
 /// What a track of a volume whose server is on reads as, where reads pass.
 fn read_running<P: Plant>(
-    p: &mut P,
-    c: &Config,
+    plant: &mut P,
+    config: &Config,
     tables: &Tables,
     journal: &Journal,
     v: VolumeId,
     t: u16,
 ) -> Block
-    requires ready { IsReady (P.state p.old) c.now tables.now journal.now.events }
-    requires defined { IsSome (place_of c.now v.0) }
-    requires running { (P.state p.old).on (volume_seen (P.state p.old) c.now v.0).server ≡ true }
-    requires known { (volume_seen (P.state p.old) c.now v.0).server < 8 }
-    requires fit { RelationsFit (P.state p.old) c.now }
-    requires within { t < (volume_seen (P.state p.old) c.now v.0).tracks }
-    ensures same { P.state p.new ≡ P.state p.old }
-    ensures bytes { result ≡ view_seen (P.state p.old) c.now v.0 t }
+    requires ready { IsReady (P.state plant.old) config.now tables.now journal.now.events }
+    requires defined { IsSome (place_of config.now v.0) }
+    requires running { (P.state plant.old).on (volume_seen (P.state plant.old) config.now v.0).server ≡ true }
+    requires known { (volume_seen (P.state plant.old) config.now v.0).server < 8 }
+    requires fit { RelationsFit (P.state plant.old) config.now }
+    requires within { t < (volume_seen (P.state plant.old) config.now v.0).tracks }
+    ensures same { P.state plant.new ≡ P.state plant.old }
+    ensures bytes { result ≡ view_seen (P.state plant.old) config.now v.0 t }
 {
     let mut bytes = [0; 64];
-    match read_target(p, c, v, t, &mut bytes) {
+    match read_target(plant, config, v, t, &mut bytes) {
         Ok(()) => bytes,
         Err(_) => unreachable!(),
     }
@@ -73,7 +73,7 @@ pub fn show<P: Plant>(
     ensures step { StepLeads (here (P.state plant.old) config.now tables.now journal.old.events) line (Step.Show volume.0 track)
         (here (P.state plant.new) config.now tables.now journal.new.events) (said_of result) }
     ensures ready { IsReady (P.state plant.new) config.now tables.now journal.new.events }
-    ensures faults { Counts (said_of result) (P.state plant.old) (P.state plant.new) }
+    ensures faults { CountsStop (said_of result) (P.state plant.old) (P.state plant.new) }
     ensures room { 1 ≤ journal.new.spare }
 {
     let place = match locate(config, volume, track) {
@@ -179,7 +179,7 @@ pub fn issue<P: Plant>(
     ensures same { OnNoMemory result (tables.new ≡ tables.old) }
     ensures untold { OnNoMemory result (journal.new.events ≡ journal.old.events) }
     ensures ready { IsReady (P.state plant.now) config.now tables.new journal.new.events }
-    ensures faults { OnAnswer result (λ a. Counts a (P.state plant.now) (P.state plant.now)) }
+    ensures faults { OnAnswer result (λ a. CountsStop a (P.state plant.now) (P.state plant.now)) }
     ensures issued { tables.new.host.issued ≤ tables.old.host.issued + 1 }
     ensures room { 1 ≤ journal.new.spare }
 {
@@ -211,7 +211,7 @@ pub fn write<P: Plant>(
     ensures same_plant { OnNoMemory result (P.state plant.new ≡ P.state plant.old) }
     ensures untold { OnNoMemory result (journal.new.events ≡ journal.old.events) }
     ensures ready { IsReady (P.state plant.new) config.now tables.new journal.new.events }
-    ensures faults { OnSaid result (λ a. Counts a (P.state plant.old) (P.state plant.new)) }
+    ensures faults { OnSaid result (λ a. CountsStop a (P.state plant.old) (P.state plant.new)) }
     ensures issued { tables.new.host.issued ≤ tables.old.host.issued + 1 }
     ensures room { 1 ≤ journal.new.spare }
 {
@@ -241,7 +241,7 @@ pub fn apply<P: Plant>(
     ensures step { (line : ℕ) → StepLeads (here (P.state plant.old) config.now tables.old journal.old.events) line (Step.Apply w)
         (here (P.state plant.new) config.now tables.new journal.new.events) (answered_by result) }
     ensures ready { IsReady (P.state plant.new) config.now tables.new journal.new.events }
-    ensures faults { Counts (answered_by result) (P.state plant.old) (P.state plant.new) }
+    ensures faults { CountsStop (answered_by result) (P.state plant.old) (P.state plant.new) }
     ensures issued { tables.new.host.issued ≡ tables.old.host.issued }
     ensures room { 1 ≤ journal.new.spare }
 {
@@ -303,7 +303,7 @@ fn carry_write<P: Plant>(
         (after_write (here (P.state plant.old) config.now tables.old journal.old.events).control write.now.volume.0 write.now.track) (here (P.state plant.new) config.now tables.new journal.new.events) (refusal_of result) }
     ensures says { IfOk result (λ a. a ≡ says_written (here (P.state plant.old) config.now tables.old journal.old.events).control write.now.w.0 write.now.volume.0 write.now.track) }
     ensures ready { IsReady (P.state plant.new) config.now tables.new journal.new.events }
-    ensures faults { Counts (answered_by result) (P.state plant.old) (P.state plant.new) }
+    ensures faults { CountsStop (answered_by result) (P.state plant.old) (P.state plant.new) }
     ensures issued { tables.new.host.issued ≡ tables.old.host.issued }
     ensures room { 1 ≤ journal.new.spare }
 {

@@ -5,8 +5,8 @@ ghost use Rattle.dr_model.specs.Plans.{torn_bytes, says_acked};
 ghost use Rattle.dr_model.specs.declared.said.Said.TheVariants.{Done};
 ghost use Rattle.dr_model.specs.declared.step.Step.{Step};
 ghost use Rattle.dr_volume.specs.View.{torn_seen};
-ghost use Rattle.dr_admin.specs.Answering.{number_of};
-ghost use Rattle.dr_steps.specs.Faults.{Counts};
+ghost use Rattle.dr_admin.specs.Answering.{write_number};
+ghost use Rattle.dr_steps.specs.Faults.{CountsStop};
 ghost use Rattle.dr_steps.specs.Here.{said_of, StepLeads, here, IsReady};
 
 use crate::locate::{bytes_of, unknown_server};
@@ -30,7 +30,7 @@ pub fn stop<P: Plant>(
     requires room { 2 ≤ journal.old.spare }
     ensures step { (line : ℕ) → StepLeads (here (P.state plant.old) config.now tables.now journal.old.events) line (Step.Stop name.now)
         (here (P.state plant.new) config.now tables.now journal.new.events) (said_of result) }
-    ensures faults { Counts (said_of result) (P.state plant.old) (P.state plant.new) }
+    ensures faults { CountsStop (said_of result) (P.state plant.old) (P.state plant.new) }
     ensures ready { IsReady (P.state plant.new) config.now tables.now journal.new.events }
     ensures room { 1 ≤ journal.new.spare }
 {
@@ -73,7 +73,7 @@ pub fn arm<P: Plant>(
     requires short { name.now.len ≤ 24 }
     ensures step { (line : ℕ) → StepLeads (here (P.state plant.old) config.now tables.now journal.now.events) line (Step.StopAfter name.now writes word)
         (here (P.state plant.new) config.now tables.now journal.now.events) (said_of result) }
-    ensures faults { Counts (said_of result) (P.state plant.old) (P.state plant.new) }
+    ensures faults { CountsStop (said_of result) (P.state plant.old) (P.state plant.new) }
     ensures ready { IsReady (P.state plant.new) config.now tables.now journal.now.events }
 {
     let Some(server) = config.server_named(bytes_of(name)) else {
@@ -85,7 +85,7 @@ pub fn arm<P: Plant>(
 
 /// What a start adds to its answer: the write that it acknowledged, if one.
 fn added(acked: Option<WriteId>) -> Addition
-    ensures { Done result ≡ says_acked (number_of acked) }
+    ensures { Done result ≡ says_acked (write_number acked) }
 {
     match acked {
         Some(w) => Addition::Acked { w: w.0 },
@@ -107,7 +107,7 @@ pub fn start<P: Plant>(
     requires room { 3 ≤ journal.old.spare }
     ensures step { (line : ℕ) → StepLeads (here (P.state plant.old) config.now tables.old journal.old.events) line (Step.Start name.now)
         (here (P.state plant.new) config.now tables.new journal.new.events) (said_of result) }
-    ensures faults { Counts (said_of result) (P.state plant.old) (P.state plant.new) }
+    ensures faults { CountsStop (said_of result) (P.state plant.old) (P.state plant.new) }
     ensures ready { IsReady (P.state plant.new) config.now tables.new journal.new.events }
     ensures issued { tables.new.host.issued ≡ tables.old.host.issued }
     ensures room { 1 ≤ journal.new.spare }

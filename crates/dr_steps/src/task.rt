@@ -11,13 +11,14 @@ ghost use Rattle.dr_model.specs.Plans.{is_built, has_room, plan_of};
 ghost use Rattle.dr_model.specs.Runs.{run_asked, after_plan, after_task};
 ghost use Rattle.dr_model.specs.declared.said.Said.TheVariants.{Refused};
 ghost use Rattle.dr_model.specs.declared.step.Step.{Step};
-ghost use Rattle.dr_steps.specs.Faults.{Counts, told_stop};
+ghost use Rattle.dr_steps.specs.Faults.{CountsStop, told_stop};
 ghost use Rattle.dr_steps.specs.Forms.{is_plain, is_relation, is_session, is_recovery};
 ghost use Rattle.dr_steps.specs.Here.{here, said_of, widened, refused, answer_widened, all_done, OnAnswer, OnSaid, OnNoMemory, StepLeads, IsReady};
 ghost use Rattle.dr_steps.specs.WellFormed.{IsWellFormed};
 
 use crate::answers::{STEP_EVENTS, has_room, refuse, say};
 use crate::background::copy;
+use crate::comparing::carry_compare;
 use crate::define::{define_server, define_volume, set_link};
 use crate::exchanges::exchange;
 use crate::expiry::expire;
@@ -30,6 +31,7 @@ use crate::members::{add_member, remove_member};
 use crate::pairs::{drain, make_pair, pause_pair, remove_pair, resume_pair};
 use crate::paths::{make_path, remove_path};
 use crate::recovering::{commit_flash, recover_session, revert_flash};
+use crate::returning::carry_return;
 use crate::sessions::{
     abort_attempt, make_mirror, make_session, pause_mirror, remove_mirror, remove_session,
 };
@@ -37,7 +39,7 @@ use crate::steps::{HostWrite, apply, issue, show, write};
 use crate::stops::{arm, start, stop};
 use crate::tables::Tables;
 use dr_config::Config;
-use dr_flash::Options;
+use dr_flash::FlashOptions;
 use dr_ids::{Fault, Lss, Refusal, SessionId, VolumeId};
 use dr_model::{Addition, Journal, Said, Step};
 use dr_plant::Plant;
@@ -102,7 +104,7 @@ fn carry_relation<P: Plant>(
     requires built { is_built step.now ≡ true }
     ensures step { (line : ℕ) → StepLeads (here (P.state plant.old) config.now tables.now journal.old.events) line step.now
         (here (P.state plant.new) config.now tables.now journal.new.events) (said_of result) }
-    ensures faults { Counts (said_of result) (P.state plant.old) (P.state plant.new) }
+    ensures faults { CountsStop (said_of result) (P.state plant.old) (P.state plant.new) }
     ensures ready { IsReady (P.state plant.new) config.now tables.now journal.new.events }
     ensures room { 1 ≤ journal.new.spare }
 {
@@ -117,7 +119,7 @@ fn carry_relation<P: Plant>(
             inhibited,
             sequence,
         } => {
-            let options = Options {
+            let options = FlashOptions {
                 nocopy,
                 persistent,
                 recorded,
@@ -202,7 +204,7 @@ fn carry_pair<P: Plant>(
     requires built { is_built step.now ≡ true }
     ensures step { (line : ℕ) → StepLeads (here (P.state plant.old) config.now tables.now journal.old.events) line step.now
         (here (P.state plant.new) config.now tables.now journal.new.events) (said_of result) }
-    ensures faults { Counts (said_of result) (P.state plant.old) (P.state plant.new) }
+    ensures faults { CountsStop (said_of result) (P.state plant.old) (P.state plant.new) }
     ensures ready { IsReady (P.state plant.new) config.now tables.now journal.new.events }
     ensures room { 1 ≤ journal.new.spare }
 {
@@ -261,7 +263,7 @@ fn carry_pair<P: Plant>(
         Step::Drain { volume, most } => {
             drain(plant, config, tables, journal, VolumeId(volume), most)
         }
-        _ => Err(Refusal::NotBuilt),
+        _ => carry_return(plant, config, tables, journal, step),
     }
 }
 
@@ -283,7 +285,7 @@ fn carry_recovery<P: Plant>(
     requires built { is_built step.now ≡ true }
     ensures step { (line : ℕ) → StepLeads (here (P.state plant.old) config.now tables.now journal.old.events) line step.now
         (here (P.state plant.new) config.now tables.now journal.new.events) (said_of result) }
-    ensures faults { Counts (said_of result) (P.state plant.old) (P.state plant.new) }
+    ensures faults { CountsStop (said_of result) (P.state plant.old) (P.state plant.new) }
     ensures ready { IsReady (P.state plant.new) config.now tables.now journal.new.events }
     ensures room { 1 ≤ journal.new.spare }
 {
@@ -328,7 +330,7 @@ fn carry_session<P: Plant>(
     requires built { is_built step.now ≡ true }
     ensures step { OnAnswer result (λ a. (line : ℕ) → StepLeads (here (P.state plant.old) config.now tables.old journal.old.events) line step.now
         (here (P.state plant.new) config.now tables.new journal.new.events) a) }
-    ensures faults { OnAnswer result (λ a. Counts a (P.state plant.old) (P.state plant.new)) }
+    ensures faults { OnAnswer result (λ a. CountsStop a (P.state plant.old) (P.state plant.new)) }
     ensures same { OnNoMemory result (here (P.state plant.new) config.now tables.new journal.new.events ≡ here (P.state plant.old) config.now tables.old journal.old.events) }
     ensures same_plant { OnNoMemory result (P.state plant.new ≡ P.state plant.old) }
     ensures ready { IsReady (P.state plant.new) config.now tables.new journal.new.events }
@@ -474,7 +476,7 @@ fn carry_out<P: Plant>(
     requires built { is_built step.now ≡ true }
     ensures step { OnSaid result (λ a. StepLeads (here (P.state plant.old) config.old tables.old journal.old.events) line step.now
         (here (P.state plant.new) config.new tables.new journal.new.events) a) }
-    ensures faults { OnSaid result (λ a. Counts a (P.state plant.old) (P.state plant.new)) }
+    ensures faults { OnSaid result (λ a. CountsStop a (P.state plant.old) (P.state plant.new)) }
     ensures same { OnNoMemory result (here (P.state plant.new) config.new tables.new journal.new.events ≡ here (P.state plant.old) config.old tables.old journal.old.events) }
     ensures same_plant { OnNoMemory result (P.state plant.new ≡ P.state plant.old) }
     ensures ready { IsReady (P.state plant.new) config.new tables.new journal.new.events }
@@ -740,6 +742,15 @@ pub fn carry_task<P: Plant>(
             number,
             SessionId(session),
             groups,
+        ),
+        Step::Compare { v, w } => carry_compare(
+            plant,
+            config,
+            tables,
+            journal,
+            number,
+            VolumeId(v),
+            VolumeId(w),
         ),
         _ => carry_alone(plant, config, tables, journal, number, step),
     }

@@ -27,7 +27,7 @@ use Rattle.dr_laws_sound.proofs.Limits.{within-run, journal-fits}
 use Rattle.dr_top.specs.Carried.{Reached, EndsBy, GoesTo}
 use Rattle.dr_steps.specs.Faults.{is_stop, told_stop}
 use Rattle.dr_top.specs.declared.carry.Bar.{Bar}
-use Rattle.dr_host.specs.Writes.{Each, bytes_of}
+use Rattle.dr_host.specs.Writes.{EachPending, bytes_of}
 use Rattle.dr_steps.specs.declared.tables.Tables.{Tables}
 use Rattle.dr_host.specs.declared.pending.Pending.{Pending}
 use Rattle.dr_model.specs.Histories.{Histories, histories}

@@ -3,10 +3,10 @@ use Rattle.std.proofs.Common.{ℕ, ◌≡◌, ◌≤◌, ◌+◌, List, [], ◌�
 use Rattle.std.proofs.lemmas.List.{append-nil, length-append}
 use Rattle.std.specs.Str.Lines.{lines, strip_carriage_return}
 use Rattle.dr_io.specs.Given.{Took, TookAll}
-use Rattle.dr_io.specs.Lines.{Progress, begun, IsNext, NextBy, Reads, StaysOver, IsEndedLine, IsLastLine, most_bytes, most_lines, most_piece, answer_of}
+use Rattle.dr_io.specs.Lines.{Progress, begun, IsNext, NextBy, Reads, StaysOver, IsEndedLine, IsLastLine, most_bytes, most_lines, most_piece, end_answer}
 use Rattle.dr_io.specs.declared.streams.Failed.{Failed}
-use Rattle.dr_io.specs.declared.line_reader.Over.{Over}
-use Rattle.dr_io.specs.declared.line_reader.Over.TheVariants.{AtEnd}
+use Rattle.dr_io.specs.declared.line_reader.ReadingEnd.{ReadingEnd}
+use Rattle.dr_io.specs.declared.line_reader.ReadingEnd.TheVariants.{AtEnd}
 use Rattle.dr_io.specs.declared.line_reader.Taken.{Taken}
 use Rattle.dr_io.specs.declared.line_reader.Taken.TheVariants.{Line, End}
 use Rattle.dr_model.specs.Lines.{tasks_of}
@@ -77,7 +77,7 @@ module _ {S : Type 0} (left : S → Option (List ℕ)) where
           omega (arith, had, more, sum, same)
 
       -- once the reading is over it stays so
-      stays : (over : Over) (result : Result Taken Failed) → p.over ≡ Some over → IsNext left faults s s' p p' result → StaysOver left faults s s' over p p' result
+      stays : (over : ReadingEnd) (result : Result Taken Failed) → p.over ≡ Some over → IsNext left faults s s' p p' result → StaysOver left faults s s' over p p' result
       stays over result is next = subst (λ o. NextBy left faults s s' o p p' result) is next
 
       goes : (result : Result Taken Failed) → p.over ≡ None → IsNext left faults s s' p p' result → Reads left faults s s' p p' result
@@ -131,7 +131,7 @@ module _ {S : Type 0} (left : S → Option (List ℕ)) where
             }
 
         takes-by : StandsAt s0 p before → IsNext left faults s s' p p' (Ok Line) → TakesLine s' p' before
-        takes-by (inr ended) next = absurd (let e : Ok Line ≡ answer_of AtEnd = (stays AtEnd (Ok Line) ended.over next).answer in cc)
+        takes-by (inr ended) next = absurd (let e : Ok Line ≡ end_answer AtEnd = (stays AtEnd (Ok Line) ended.over next).answer in cc)
         takes-by (inl (none, closed)) next = let r = goes (Ok Line) none next in elim r.gives.line [ inl e ↦ takes-ended r closed e | inr l ↦ takes-last r closed l ]
 
         pub takes-line : IsNext left faults s s' p p' (Ok Line) → TakesLine s' p' before

@@ -15,17 +15,24 @@ use Rattle.dr_config.proofs.LinkLaws.{none-down}
 use Rattle.dr_config.proofs.Devices.{stands-empty}
 use Rattle.dr_config.proofs.Lookups.{entry-listed, place-of-entry}
 use Rattle.dr_model.specs.declared.event.Event.{Event}
-use Rattle.dr_model.specs.Control.{Volume, World, nothing, is_volume}
+use Rattle.dr_model.specs.Control.{Fuse, Volume, World, nothing, is_volume}
 use Rattle.dr_model.specs.Fits.{Fits, SaysVolume, device_of, on_device}
 use Rattle.dr_model.specs.Runs.{Task, run}
 use Rattle.dr_model.specs.Layout.{physical}
 use Rattle.dr_model.specs.Laws.{Sound}
 use Rattle.dr_laws_sound.proofs.Agree.{fits-sound}
 use Rattle.dr_laws_sound.proofs.Acknowledged.{acked-run}
+use Rattle.dr_laws_sound.specs.Showing.{ShowsDevices}
 use Rattle.dr_laws_sound.proofs.RefusedRuns.{refused-run}
+use Rattle.dr_laws_sound.proofs.Shows.{shown-run}
 use Rattle.dr_laws_freezes.specs.Windows.{EndsInCut}
 use Rattle.dr_laws_freezes.proofs.FairSteps.{cut-run}
+use Rattle.dr_laws_freezes.proofs.Betweens.{in-sync-run}
+use Rattle.dr_laws_freezes.proofs.FreezesHold.{freezes-hold}
 use Rattle.dr_laws_freezes.proofs.EndsInCut.{ends-in-cut}
+use Rattle.dr_laws_recovery.specs.Recovered.{HoldsTracks}
+use Rattle.dr_laws_recovery.specs.Stored.{StoredAtCuts}
+use Rattle.dr_laws_recovery.proofs.Stored.{stored-run}
 use Rattle.dr_laws_recovery.proofs.Seals.{seals-on}
 use Rattle.dr_laws_recovery.proofs.Decided.{decides-on}
 use Rattle.dr_laws_recovery.proofs.ClosesAlong.{closed-run}
@@ -34,6 +41,10 @@ use Rattle.dr_laws_recovery.proofs.KeepsWrites.{keeps-run}
 use Rattle.dr_laws_recovery.proofs.TakenAt.{holds-run}
 use Rattle.dr_laws_recovery.proofs.GroupsFound.{found-run}
 use Rattle.dr_laws_recovery.proofs.RunsFormed.{formed-run}
+use Rattle.dr_laws_return.proofs.Sites.{alike-on}
+use Rattle.dr_laws_return.specs.Returned.{Returns}
+use Rattle.dr_laws_return.proofs.Compared.{compared-run}
+use Rattle.dr_laws_return.proofs.Returned.{returned-run}
 use Rattle.dr_model.specs.ClosedCuts.{ClosedCuts}
 use Rattle.dr_volume.specs.View.{fuse_seen, ids_of, volume_seen, track_seen}
 use Rattle.dr_volume.proofs.VolumeLaws.{volume-placed, track-placed}
@@ -116,6 +127,18 @@ module _ (s : PlantState) (t : ConfigTable) (h : Tables) (ev : List Event) (soun
       (subst (λ x. SaysVolume (s.block l.0) x) (sym (volume-placed s t v l.0 l.1 l.2 l.3)) (record { slot = refl; fields = refl; staged = refl })))
       tracks-here
 
+  -- what the last step showed is what the track reads as here
+  pub shown-here : Sound (here s t h ev) → (tasks : List Task) → run tasks ≡ here s t h ev → ShowsDevices tasks s.block
+  shown-here is tasks leads =
+      let fuse : ℕ → Option Fuse = λ server. fuse_seen (s.write_fuse server) in
+      shown-run tasks s.on fuse s.block (subst (λ (w : World). Fits w s.on fuse s.block) (sym leads) (fits-here is))
+
+  -- what the way home left is on the devices here
+  pub returned-here : Sound (here s t h ev) → (tasks : List Task) → run tasks ≡ here s t h ev → Returns tasks s.block
+  returned-here is tasks leads =
+      let fuse : ℕ → Option Fuse = λ server. fuse_seen (s.write_fuse server) in
+      returned-run tasks s.on fuse s.block (subst (λ (w : World). Fits w s.on fuse s.block) (sym leads) (fits-here is)) (subst (λ (w : World). HoldsTracks w s.block) (sym leads) tracks-here)
+
 module _ (s : PlantState) (t : ConfigTable) (h : Tables) (ev : List Event) (sound : IsSoundConfig t) (stands : StandsFor t s) where
   pub devices-here : HasDevices (here s t h ev) s
   devices-here = record {
@@ -143,10 +166,17 @@ module _ {S K : Type 0} (left : S → Option (List ℕ)) (written : K → Option
     held = λ tasks leads i n. holds-run tasks (here s t h ev) leads i n;
     decides = decides-on reached.0 (here s t h ev) s.on (λ server. fuse_seen (s.write_fuse server)) s.block reached.1 (fits-here s t h ev sound (reached-sound (here s t h ev) reached));
     headline = λ tasks leads. headline-run tasks (here s t h ev) s.on (λ server. fuse_seen (s.write_fuse server)) s.block leads (fits-here s t h ev sound (reached-sound (here s t h ev) reached)) (tracks-here s t h ev sound);
+    stored = subst (λ (w : World). StoredAtCuts w.events) reached.1 (stored-run reached.0);
     keeps = λ tasks leads. keeps-run tasks;
     acknowledged = λ tasks leads. acked-run tasks;
     formed = λ tasks leads. formed-run tasks;
     found = λ tasks leads. found-run tasks;
+    freezes = λ tasks leads. freezes-hold tasks;
+    in_sync = λ tasks leads. in-sync-run tasks;
+    shown = λ tasks leads. shown-here s t h ev sound (reached-sound (here s t h ev) reached) tasks leads;
+    sites = alike-on (here s t h ev) s.on (λ server. fuse_seen (s.write_fuse server)) s.block (reached-sound (here s t h ev) reached) (fits-here s t h ev sound (reached-sound (here s t h ev) reached));
+    compared = λ tasks leads. compared-run tasks s.block (subst (λ (w : World). HoldsTracks w s.block) (sym leads) (tracks-here s t h ev sound));
+    returned = λ tasks leads. returned-here s t h ev sound (reached-sound (here s t h ev) reached) tasks leads;
     refused = λ tasks leads. refused-run tasks;
     reads = ready.reads;
     stops = stops;

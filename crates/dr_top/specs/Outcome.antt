@@ -21,13 +21,20 @@ use Rattle.dr_model.specs.Text.{text}
 use Rattle.dr_volume.specs.View.{fuse_seen, ReadsPass}
 use Rattle.dr_laws_sound.specs.Acknowledged.{AcknowledgedIsAnswered}
 use Rattle.dr_laws_sound.specs.RefusedSteps.{RefusedStay}
+use Rattle.dr_laws_sound.specs.Showing.{ShowsDevices}
 use Rattle.dr_laws_freezes.specs.Windows.{EndsInCut}
+use Rattle.dr_laws_freezes.specs.Frozen.{FreezesHold}
+use Rattle.dr_laws_freezes.specs.InSync.{DuplexInSync}
 use Rattle.dr_laws_recovery.specs.Seals.{SealsOn}
 use Rattle.dr_laws_recovery.specs.Decided.{DecidesOn}
 use Rattle.dr_laws_recovery.specs.Headline.{Headline}
 use Rattle.dr_laws_recovery.specs.Formed.{FormedIsFound, GroupsAreFound}
 use Rattle.dr_laws_recovery.specs.Held.{HoldsAll}
+use Rattle.dr_laws_recovery.specs.Stored.{StoredAtCuts}
 use Rattle.dr_laws_recovery.specs.Recovered.{HoldsTracks}
+use Rattle.dr_laws_return.specs.Sites.{SitesAlike}
+use Rattle.dr_laws_return.specs.Compared.{ComparesDevices}
+use Rattle.dr_laws_return.specs.Returned.{Returns}
 use Rattle.dr_top.specs.Cut.{IsClosed}
 use Rattle.dr_steps.specs.Faults.{told_stop}
 use Rattle.dr_top.specs.Followed.{IsHalted, IsThrough, IsFull, GavePrefix}
@@ -182,8 +189,12 @@ module _ {S K : Type 0} (left : S → Option (List ℕ)) (written : K → Option
     -- secondaries contain the cut; each secondary that is sealed contains its own; the cuts of the group of each attempt are closed, and hold
     -- all that they should; and by what the devices say alone, it is possible to decide over each session. And the headline: of each session
     -- that is defined, the devices give back one cut of the host's acknowledged writes, that of its newest group. Of the steps it says which may
-    -- take a write away, that what is acknowledged is what was answered, that what is formed is what recovery finds, and that a refused step
-    -- changes nothing but what is named.
+    -- take a write away, that what is acknowledged is what was answered, that what is formed is what recovery finds, that after a freeze no
+    -- write lands until a step lets it, that a Full Duplex primary is in sync where its server runs, and that a refused step changes nothing
+    -- but what is named. What the last step showed is on the devices, and a write that a secondary stored was acknowledged, or a server
+    -- stopped. Where a pair is in place by the records on both devices, these contain the same on each track that isn't recorded; what a
+    -- comparison answered as the last step is what the devices contain; and where a failback and a drain behind it were answered ok, the pair is
+    -- turned round, and both devices contain what the host writes make.
     pub record IsRun (status : Status) (events : List Event) (s s' : PlantState) : Type 0 where
       pub world : World
       pub ran : Ran status world
@@ -198,10 +209,17 @@ module _ {S K : Type 0} (left : S → Option (List ℕ)) (written : K → Option
       pub held : (tasks : List Task) → run tasks ≡ world → (s n : ℕ) → HoldsAll tasks events s n
       pub decides : DecidesOn world s'.block
       pub headline : (tasks : List Task) → run tasks ≡ world → Headline tasks s'.block
+      pub stored : StoredAtCuts events
       pub keeps : (tasks : List Task) → run tasks ≡ world → KeepsWrites tasks
       pub acknowledged : (tasks : List Task) → run tasks ≡ world → AcknowledgedIsAnswered tasks
       pub formed : (tasks : List Task) → run tasks ≡ world → FormedIsFound tasks
       pub found : (tasks : List Task) → run tasks ≡ world → GroupsAreFound tasks
+      pub freezes : (tasks : List Task) → run tasks ≡ world → FreezesHold tasks
+      pub in_sync : (tasks : List Task) → run tasks ≡ world → DuplexInSync tasks
+      pub shown : (tasks : List Task) → run tasks ≡ world → ShowsDevices tasks s'.block
+      pub sites : SitesAlike world s'.block
+      pub compared : (tasks : List Task) → run tasks ≡ world → ComparesDevices tasks s'.block
+      pub returned : (tasks : List Task) → run tasks ≡ world → Returns tasks s'.block
       pub refused : (tasks : List Task) → run tasks ≡ world → RefusedStay tasks
       pub reads : ReadsPass s'
       pub stops : Counted (told_stop events) s.faults s'.faults

@@ -88,7 +88,8 @@ fn carry_fault(journal: &mut Journal, number: u32, column: u16) -> Result<(), Ba
     Ok(())
 }
 
-/// Carries out the steps of a line in order; a line outside the grammar is one step, which is refused.
+/// Carries out the steps of a line in order; a line outside the grammar is one step, which is refused. The steps are read
+/// into `steps`, and what it held is gone.
 pub fn carry_line<P: Plant>(
     alloc: Global,
     plant: &mut P,
@@ -97,6 +98,7 @@ pub fn carry_line<P: Plant>(
     journal: &mut Journal,
     number: u32,
     line: &[u8],
+    steps: &mut Line,
 ) -> Result<(), Bar>
     requires ready { IsReady (P.state plant.old) config.old tables.old journal.old.events }
     requires reached { Reached (here (P.state plant.old) config.old tables.old journal.old.events) }
@@ -107,8 +109,8 @@ pub fn carry_line<P: Plant>(
     ensures faults { (f : ℕ) → Counted (told_stop journal.old.events) f (P.state plant.old).faults → Counted (told_stop journal.new.events) f (P.state plant.new).faults }
     ensures room { length journal.new.events ≤ most_events }
 {
-    match read_line(alloc, line) {
-        Ok(steps) => carry_steps(plant, config, tables, journal, number, &steps),
+    match read_line(alloc, line, steps) {
+        Ok(()) => carry_steps(plant, config, tables, journal, number, steps),
         Err(Fault::Refused(Refusal::Syntax { column })) => carry_fault(journal, number, column),
         Err(_) => Err(Bar::NoMemory),
     }

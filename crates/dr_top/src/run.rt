@@ -22,9 +22,10 @@ use crate::put::put_all;
 use crate::status::{Status, whole_status};
 use dr_config::Config;
 use dr_io::{LineReader, Sink, Source, Taken};
-use dr_list::{Told, text_on};
+use dr_list::{Heard, text_on};
 use dr_model::Journal;
 use dr_plant::Plant;
+use dr_script::Line;
 use dr_steps::Tables;
 use std::alloc::Global;
 
@@ -52,12 +53,20 @@ impl Halt {
     }
 }
 
-/// Prints the answers that came since a place of the journal.
+/// The steps and the text of the line at hand. The run keeps both, so that their memory is used again; each line begins
+/// with both empty.
+#[derive(Drop)]
+struct Buffers {
+    steps: Line,
+    text: Vec<u8>,
+}
+
+/// Prints the answers that came since a place of the journal. Their text stands in `text`, and what it held is gone.
 fn print_from<K: Sink>(
-    alloc: Global,
-    told: &mut Told,
+    told: &mut Heard,
     journal: &Journal,
     from: usize,
+    text: &mut Vec<u8>,
     sink: &mut K,
 ) -> Result<(), Halt>
     requires within { from ≤ length journal.now.events }
@@ -68,10 +77,10 @@ fn print_from<K: Sink>(
     ensures full { IfErr result (λ h. h ≡ Halt.Full → ⊥) }
     ensures faults { Counted (is_on_sink result) (K.faults sink.old) (K.faults sink.new) }
 {
-    let Ok(text) = text_on(alloc, told, journal, from) else {
+    let Ok(()) = text_on(told, journal, from, text) else {
         return Err(Halt::NoMemory);
     };
-    let Ok(()) = put_all(sink, &text) else {
+    let Ok(()) = put_all(sink, text) else {
         return Err(Halt::WriteFault);
     };
     Ok(())
@@ -84,7 +93,8 @@ fn run_line<P: Plant, K: Sink>(
     config: &mut Config,
     tables: &mut Tables,
     journal: &mut Journal,
-    told: &mut Told,
+    told: &mut Heard,
+    buffers: &mut Buffers,
     sink: &mut K,
     number: u32,
     line: &[u8],
@@ -102,10 +112,11 @@ fn run_line<P: Plant, K: Sink>(
     ensures room { length journal.new.events ≤ most_events }
 {
     let from = journal.len();
-    match carry_line(alloc, plant, config, tables, journal, number, line) {
-        Ok(()) => print_from(alloc, told, journal, from, sink),
+    let Buffers { steps, text } = buffers;
+    match carry_line(alloc, plant, config, tables, journal, number, line, steps) {
+        Ok(()) => print_from(told, journal, from, text, sink),
         Err(Bar::Full) => {
-            print_from(alloc, told, journal, from, sink)?;
+            print_from(told, journal, from, text, sink)?;
             Err(Halt::Full)
         }
         Err(Bar::NoMemory) => Err(Halt::NoMemory),
@@ -132,7 +143,11 @@ pub fn run_lines<P: Plant, S: Source, K: Sink>(
     ensures room { length journal.new.events ≤ most_events }
 {
     let mut reader = LineReader::new();
-    let mut told = Told::new();
+    let mut told = Heard::new();
+    let mut buffers = Buffers {
+        steps: Line::new(alloc),
+        text: Vec::new(alloc),
+    };
     let mut number = 0;
     loop {
         match reader.next(source) {
@@ -140,7 +155,16 @@ pub fn run_lines<P: Plant, S: Source, K: Sink>(
                 number += 1;
                 let line = reader.line();
                 match run_line(
-                    alloc, plant, config, tables, journal, &mut told, sink, number, line,
+                    alloc,
+                    plant,
+                    config,
+                    tables,
+                    journal,
+                    &mut told,
+                    &mut buffers,
+                    sink,
+                    number,
+                    line,
                 ) {
                     Ok(()) => {}
                     Err(halt) => return halt.status(),

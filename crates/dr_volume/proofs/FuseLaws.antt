@@ -8,7 +8,7 @@ use Rattle.dr_plant.specs.State.{PlantState, torn_by}
 use Rattle.dr_plant.specs.declared.plant.WriteFuse.{WriteFuse}
 use Rattle.dr_plant.specs.declared.plant.Torn.{Torn}
 use Rattle.dr_plant.specs.declared.plant.Torn.TheVariants.{Untouched, Bytes}
-use Rattle.dr_record.specs.Writes.{Write, write, after_writes, Passes, write_fuse_after, all_written}
+use Rattle.dr_record.specs.Writes.{BlockWrite, write, after_writes, Passes, write_fuse_after, all_written}
 use Rattle.dr_record.specs.Slots.{slot_of, choice, torn_choice, block_writes, IsCutShort}
 use Rattle.dr_record.proofs.WritesLemmas.{append-goes, append-stops}
 use Rattle.dr_record.proofs.WriteLists.{writes_pass, writes_torn_at}
@@ -41,7 +41,7 @@ passes : (n : ℕ) (g : Option WriteFuse) → machine.pass (fuse_seen g) n ≡ t
 passes n None h = tt
 passes n (Some g) h = let e : nat_le n g.after ≡ true = h in grind (arith, nat_tests)
 
-pub writes-passed : (s t : PlantState) (dev : ℕ) (ws : List Write) (n : ℕ) (b : Bool) → length ws ≡ n → s.on (s.owner dev) ≡ true → machine.pass (fuse_seen (s.write_fuse (s.owner dev))) n ≡ true → after_writes s dev ws ≡ (t, b) → Passed s t dev n b
+pub writes-passed : (s t : PlantState) (dev : ℕ) (ws : List BlockWrite) (n : ℕ) (b : Bool) → length ws ≡ n → s.on (s.owner dev) ≡ true → machine.pass (fuse_seen (s.write_fuse (s.owner dev))) n ≡ true → after_writes s dev ws ≡ (t, b) → Passed s t dev n b
 writes-passed s t dev ws n b many on pass h =
     let fuse = s.write_fuse (s.owner dev) in
     let e : ◌≡◌ {A = PlantState × Bool} (t, b) (all_written s dev ws, false) = sym h ∙ writes_pass s dev ws on (subst (λ k. Passes k fuse) (sym many) (passes n fuse pass)) in
@@ -56,7 +56,7 @@ pub below_number : (n : ℕ) (g : Option WriteFuse) → machine.pass (fuse_seen 
 below_number n None h = absurd (cc)
 below_number n (Some f) h = (f, refl, (let e : nat_le n f.after ≡ false = h in grind (arith, nat_tests)))
 
-pub writes-cut : (s t : PlantState) (dev : ℕ) (ws : List Write) (g : WriteFuse) (b : Bool) → s.on (s.owner dev) ≡ true → s.write_fuse (s.owner dev) ≡ Some g → g.after < length ws → after_writes s dev ws ≡ (t, b) → Cut s t dev g b
+pub writes-cut : (s t : PlantState) (dev : ℕ) (ws : List BlockWrite) (g : WriteFuse) (b : Bool) → s.on (s.owner dev) ≡ true → s.write_fuse (s.owner dev) ≡ Some g → g.after < length ws → after_writes s dev ws ≡ (t, b) → Cut s t dev g b
 writes-cut s t dev ws g b on fuse low h =
     let e = sym h ∙ writes_torn_at s dev ws (write 0 []) g on fuse low in
     record {

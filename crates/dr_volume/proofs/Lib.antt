@@ -37,3 +37,4 @@ pub mod UnreadLaws
 pub mod OpenedLaws
 pub mod HeadLaws
 pub mod TrackLaws
+pub mod SaysLaws

@@ -6,7 +6,7 @@ use Rattle.dr_logic.specs.Counts.{risen}
 use Rattle.dr_logic.specs.Tables.{at}
 use Rattle.dr_plant.specs.State.{PlantState, after_read, after_write, can_read, lowered_read, lowered_write, can_write}
 use Rattle.dr_plant.proofs.StateLemmas.{write_cases, read_cases, count-after_read, size-after_read, owner-after_read, block-after_read, off-after_read, faults-after_read, owner-after_write, write_can}
-use Rattle.dr_record.specs.Writes.{Write, after_writes, SameShape}
+use Rattle.dr_record.specs.Writes.{BlockWrite, after_writes, SameShape}
 use Rattle.dr_record.proofs.WritesLemmas.{goes, stops, ends, along, shape-after_writes, apart-after_writes, off-after_writes, faults-after_writes, same_faults-after_writes}
 use Rattle.dr_config.specs.Table.{ConfigTable, StandsFor}
 use Rattle.dr_config.proofs.Devices.{stands-along}
@@ -14,12 +14,12 @@ use Rattle.dr_volume.specs.Update.{read_and_write, ServerStays}
 use Rattle.dr_logic.proofs.Tables.{at_same, at_other, off_later}
 
 -- a device that can't be read is not written
-pub read-stops : (s : PlantState) (dev : ℕ) (ws : List Write) → can_read s dev ≡ false → read_and_write s dev ws ≡ (after_read s dev, true)
+pub read-stops : (s : PlantState) (dev : ℕ) (ws : List BlockWrite) → can_read s dev ≡ false → read_and_write s dev ws ≡ (after_read s dev, true)
 unfolding read_and_write
 read-stops s dev ws h = ap (λ b. cond b (after_writes s dev ws) (after_read s dev, true)) h
 
 -- a device that can be read is written
-pub read-goes : (s : PlantState) (dev : ℕ) (ws : List Write) → can_read s dev ≡ true → read_and_write s dev ws ≡ after_writes s dev ws
+pub read-goes : (s : PlantState) (dev : ℕ) (ws : List BlockWrite) → can_read s dev ≡ true → read_and_write s dev ws ≡ after_writes s dev ws
 unfolding read_and_write
 read-goes s dev ws h = ap (λ b. cond b (after_writes s dev ws) (after_read s dev, true)) h
 
@@ -75,7 +75,7 @@ others-same : (s : PlantState) (owner : ℕ) → OthersKept s s owner
 others-same s owner = record { same_owner = refl; stay = λ q ne. record { on = refl; write_fuse = refl; read_fuse = refl } }
 
 -- writes that are all done leave every server on or off as it was
-on-after_writes : (s t : PlantState) (dev : ℕ) (ws : List Write) → after_writes s dev ws ≡ (t, false) → t.on ≡ s.on
+on-after_writes : (s t : PlantState) (dev : ℕ) (ws : List BlockWrite) → after_writes s dev ws ≡ (t, false) → t.on ≡ s.on
 on-after_writes s t dev [] h = ap (λ (r : PlantState × Bool). r.0.on) (sym h ∙ ends s dev)
 on-after_writes s t dev (w ∷ ws) h =
     elim (can_write s dev) as (λ v. can_write s dev ≡ v → t.on ≡ s.on) [
@@ -99,11 +99,11 @@ ran-stopped s dev stuck = record {
   faults = faults-after_read s dev ∙ ap (λ b. cond b s.faults (risen s.faults)) stuck;
 }
 
-faults-ran : (s t : PlantState) (dev : ℕ) (ws : List Write) (b : Bool) → after_writes s dev ws ≡ (t, b) → t.faults ≡ cond b (risen s.faults) s.faults
+faults-ran : (s t : PlantState) (dev : ℕ) (ws : List BlockWrite) (b : Bool) → after_writes s dev ws ≡ (t, b) → t.faults ≡ cond b (risen s.faults) s.faults
 faults-ran s t dev ws true h = faults-after_writes s t dev ws h
 faults-ran s t dev ws false h = same_faults-after_writes s t dev ws h
 
-pub ran-written : (s t : PlantState) (dev : ℕ) (ws : List Write) (b : Bool) → after_writes s dev ws ≡ (t, b) → Ran s t dev b
+pub ran-written : (s t : PlantState) (dev : ℕ) (ws : List BlockWrite) (b : Bool) → after_writes s dev ws ≡ (t, b) → Ran s t dev b
 ran-written s t dev ws b h =
     let is : (after_writes s dev ws).0 ≡ t = ap (λ (r : PlantState × Bool). r.0) h in
     record {
@@ -119,7 +119,7 @@ ran-written s t dev ws b h =
     }
 
 -- what any reading and writing does
-pub ran : (s t : PlantState) (dev : ℕ) (ws : List Write) (b : Bool) → read_and_write s dev ws ≡ (t, b) → Ran s t dev b
+pub ran : (s t : PlantState) (dev : ℕ) (ws : List BlockWrite) (b : Bool) → read_and_write s dev ws ≡ (t, b) → Ran s t dev b
 ran s t dev ws b h =
     elim (can_read s dev) as (λ v. can_read s dev ≡ v → Ran s t dev b) [
       | true ↦ λ can. ran-written s t dev ws b (sym (read-goes s dev ws can) ∙ h)

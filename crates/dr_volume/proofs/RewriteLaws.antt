@@ -3,7 +3,7 @@ use Rattle.std.proofs.Common.{ℕ, ◌≡◌, ◌≢◌, ◌<◌, ◌+◌, ◌�
 use Rattle.std.proofs.lemmas.Bool.Decides.{Decides-eqb}
 use Rattle.dr_plant.specs.State.{PlantState, after_write, can_write}
 use Rattle.dr_plant.proofs.StateLemmas.{other-after_write, same-after_write}
-use Rattle.dr_record.specs.Writes.{Write, write, after_writes}
+use Rattle.dr_record.specs.Writes.{BlockWrite, write, after_writes}
 use Rattle.dr_record.specs.Slots.{slot_of, stored, Chooses, record_writes, SameElsewhere}
 use Rattle.dr_record.proofs.WritesLemmas.{goes, stops, ends, append-goes, append-stops}
 use Rattle.dr_record.proofs.PutLemmas.{put-done, put-old_or_new, put-elsewhere}
@@ -61,7 +61,7 @@ record-new s t dev f m beyond h = record {
   own = λ k free. beyond.behind (13 + k) (omega arith);
 }
 
-one-ends : (u t : PlantState) (dev : ℕ) (w : Write) (b : Bool) → after_writes u dev (w ∷ []) ≡ (t, b) → (t ≡ after_write u dev w.block w.bytes) × (b ≡ false → can_write u dev ≡ true)
+one-ends : (u t : PlantState) (dev : ℕ) (w : BlockWrite) (b : Bool) → after_writes u dev (w ∷ []) ≡ (t, b) → (t ≡ after_write u dev w.block w.bytes) × (b ≡ false → can_write u dev ≡ true)
 one-ends u t dev w b h =
     elim (can_write u dev) as (λ v. can_write u dev ≡ v → (t ≡ after_write u dev w.block w.bytes) × (b ≡ false → can_write u dev ≡ true)) [
       | true ↦ λ can. let e = sym h ∙ goes u dev w [] can ∙ ends (after_write u dev w.block w.bytes) dev in (ap (λ (r : PlantState × Bool). r.0) e, λ done. can)
@@ -95,7 +95,7 @@ track-written u t dev (Some c) b h =
     }
 
 -- the writes of the record, to the slot that the device doesn't choose
-abbrev pub record_part : PlantState → ℕ → Fields → Carried → List Write
+abbrev pub record_part : PlantState → ℕ → Fields → Carried → List BlockWrite
 record_part s dev f m = record_writes 6 (not (slot_of s dev)) (record_block (staging m f))
 
 -- after these the device has what it had, or the next record

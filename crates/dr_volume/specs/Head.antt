@@ -2,6 +2,7 @@
 use Rattle.std.specs.Prelude.{ℕ, List}
 use Rattle.dr_model.specs.Layout as layout
 use Rattle.dr_volume.specs.declared.head.Head.{Head}
+use Rattle.dr_volume.specs.declared.head.Relation.{Relation}
 
 -- the fields of a volume but its sets of tracks
 abbrev pub head_of : layout.Fields → Head
@@ -35,3 +36,7 @@ head_of f = record {
 -- what a first block says: these fields, of whatever size the volume is and whatever the other blocks say
 abbrev pub head_said : List ℕ → Head
 head_said block = head_of (layout.fields_of 0 (λ k. block))
+
+-- what a head says of its volume as a target
+abbrev pub relation_in : Head → Relation
+relation_in h = record { related = h.related; source = h.source; revertible = h.revertible; reversing = h.reversing }

@@ -4,7 +4,7 @@ use Rattle.std.specs.FinSet.{contains}
 use Rattle.dr_logic.specs.Bytes.{zeros}
 use Rattle.dr_bits.specs.Tracks.{Tracks}
 use Rattle.dr_plant.specs.State.{PlantState, after_read, can_read, passes_read}
-use Rattle.dr_record.specs.Writes.{Write, write, after_writes}
+use Rattle.dr_record.specs.Writes.{BlockWrite, write, after_writes}
 use Rattle.dr_record.specs.Slots.{record_writes}
 use Rattle.dr_config.specs.Table.{ConfigTable}
 use Rattle.dr_model.specs.Layout as layout
@@ -28,17 +28,17 @@ track_with None bytes = None
 track_with (Some t) bytes = Some (t, bytes)
 
 -- the carried track is written to its own block
-abbrev pub track_writes : Carried → List Write
+abbrev pub track_writes : Carried → List BlockWrite
 track_writes None = []
 track_writes (Some c) = write (13 + c.0) c.1 ∷ []
 
 -- the writes of an update: the record into a slot, its gate, and the carried track
-abbrev pub update_writes : Bool → Fields → Carried → List Write
+abbrev pub update_writes : Bool → Fields → Carried → List BlockWrite
 update_writes slot f c = record_writes 6 slot (record_block f) ++ track_writes c
 
 -- the device is read, and then these writes are done in order until one is stopped: what that leaves, and whether the
 -- read or a write was stopped
-unfoldable pub read_and_write : PlantState → ℕ → List Write → PlantState × Bool
+unfoldable pub read_and_write : PlantState → ℕ → List BlockWrite → PlantState × Bool
 read_and_write s dev ws = if can_read s dev then after_writes s dev ws else (after_read s dev, true)
 
 -- each track that is blank stays blank, but the one that is carried

@@ -23,3 +23,8 @@ pub record Shows (s : PlantState) (t : ConfigTable) (v : ℕ) (f : Fields) : Typ
   pub staged : f.staged ≡ (volume_seen s t v).staged
   pub staged_bytes : f.staged_bytes ≡ only_if (is_some (volume_seen s t v).staged) (chosen (s.block (device_of t v)) 5) zeros
   pub lawful : IsLawful (volume_seen s t v).tracks (plain f)
+
+-- The machine's fields are those that the volume's device gives, whatever track is staged.
+pub record Says (s : PlantState) (t : ConfigTable) (v : ℕ) (f : Fields) : Type 0 where
+  pub fields : plain f ≡ (volume_seen s t v).fields
+  pub lawful : IsLawful (volume_seen s t v).tracks (plain f)

@@ -24,58 +24,58 @@ use dr_record::read_choice;
 /// gate, then the track in its own block. Fails where the volume's server is off or stops within the move; then the
 /// server is off, and the move counts as done where the device chooses the new fields.
 pub fn update<P: Plant>(
-    p: &mut P,
-    c: &Config,
+    plant: &mut P,
+    config: &Config,
     v: VolumeId,
     next: &Fields,
     staged: Option<(u16, Block)>,
 ) -> Result<(), Stopped>
-    requires defined { IsSome (place_of c.now v.0) }
-    requires stands { StandsFor c.now (P.state p.old) }
-    requires lawful { IsLawful (volume_seen (P.state p.old) c.now v.0).tracks (plain next.now) }
-    requires within { IfSome staged (λ t. t.0 < (volume_seen (P.state p.old) c.now v.0).tracks) }
-    requires settled { IsSettled (P.state p.old) c.now v.0 }
-    requires covers { Covers (volume_seen (P.state p.old) c.now v.0).fields.blank next.now.blank staged }
-    ensures written { read_and_write (P.state p.old) (device_of c.now v.0) (update_writes (not (volume_seen (P.state p.old) c.now v.0).slot) (staging staged next.now) staged) ≡ (P.state p.new, is_err result) }
-    ensures exact { (r : Rest) → EndsAs (world (P.state p.new) c.now r) (is_err result) (after_reading (P.state p.old) (volume_seen (P.state p.old) c.now v.0).server (world (P.state p.old) c.now r) (machine.update (world (P.state p.old) c.now r) v.0 (plain next.now) staged)) }
-    ensures done { OnOk result (IsMoved (P.state p.old) (P.state p.new) c.now v.0 (plain next.now) staged) }
-    ensures old_or_new { IsAsBefore (P.state p.old) (P.state p.new) c.now v.0 ⊎ IsMoved (P.state p.old) (P.state p.new) c.now v.0 (plain next.now) staged }
-    ensures others { OthersStay (P.state p.old) (P.state p.new) c.now v.0 }
-    ensures stands { StandsFor c.now (P.state p.new) }
-    ensures unarmed { (q : ℕ) → (P.state p.old).read_fuse q ≡ None → (P.state p.new).read_fuse q ≡ None }
-    ensures settled { (u : ℕ) → IsSettled (P.state p.old) c.now u → IsSettled (P.state p.new) c.now u }
-    ensures servers { (q : ℕ) → q ≢ (volume_seen (P.state p.old) c.now v.0).server → ServerStays (P.state p.old) (P.state p.new) q }
-    ensures on { OnOk result ((P.state p.new).on ≡ (P.state p.old).on) }
-    ensures off { OnErr result ((P.state p.new).on (volume_seen (P.state p.old) c.now v.0).server ≡ false) }
-    ensures fault { OnErr result ((P.state p.new).faults ≡ risen (P.state p.old).faults) }
-    ensures no_fault { OnOk result ((P.state p.new).faults ≡ (P.state p.old).faults) }
+    requires defined { IsSome (place_of config.now v.0) }
+    requires stands { StandsFor config.now (P.state plant.old) }
+    requires lawful { IsLawful (volume_seen (P.state plant.old) config.now v.0).tracks (plain next.now) }
+    requires within { IfSome staged (λ t. t.0 < (volume_seen (P.state plant.old) config.now v.0).tracks) }
+    requires settled { IsSettled (P.state plant.old) config.now v.0 }
+    requires covers { Covers (volume_seen (P.state plant.old) config.now v.0).fields.blank next.now.blank staged }
+    ensures written { read_and_write (P.state plant.old) (device_of config.now v.0) (update_writes (not (volume_seen (P.state plant.old) config.now v.0).slot) (staging staged next.now) staged) ≡ (P.state plant.new, is_err result) }
+    ensures exact { (r : Rest) → EndsAs (world (P.state plant.new) config.now r) (is_err result) (after_reading (P.state plant.old) (volume_seen (P.state plant.old) config.now v.0).server (world (P.state plant.old) config.now r) (machine.update (world (P.state plant.old) config.now r) v.0 (plain next.now) staged)) }
+    ensures done { OnOk result (IsMoved (P.state plant.old) (P.state plant.new) config.now v.0 (plain next.now) staged) }
+    ensures old_or_new { IsAsBefore (P.state plant.old) (P.state plant.new) config.now v.0 ⊎ IsMoved (P.state plant.old) (P.state plant.new) config.now v.0 (plain next.now) staged }
+    ensures others { OthersStay (P.state plant.old) (P.state plant.new) config.now v.0 }
+    ensures stands { StandsFor config.now (P.state plant.new) }
+    ensures unarmed { (q : ℕ) → (P.state plant.old).read_fuse q ≡ None → (P.state plant.new).read_fuse q ≡ None }
+    ensures settled { (u : ℕ) → IsSettled (P.state plant.old) config.now u → IsSettled (P.state plant.new) config.now u }
+    ensures servers { (q : ℕ) → q ≢ (volume_seen (P.state plant.old) config.now v.0).server → ServerStays (P.state plant.old) (P.state plant.new) q }
+    ensures on { OnOk result ((P.state plant.new).on ≡ (P.state plant.old).on) }
+    ensures off { OnErr result ((P.state plant.new).on (volume_seen (P.state plant.old) config.now v.0).server ≡ false) }
+    ensures fault { OnErr result ((P.state plant.new).faults ≡ risen (P.state plant.old).faults) }
+    ensures no_fault { OnOk result ((P.state plant.new).faults ≡ (P.state plant.old).faults) }
 {
-    let device = device_of(c, v);
-    let slot = read_choice(p, device)?;
-    rewrite(p, device, slot, &with_staged(next, staged), staged)
+    let device = device_of(config, v);
+    let slot = read_choice(plant, device)?;
+    rewrite(plant, device, slot, &with_staged(next, staged), staged)
 }
 
 /// Writes a volume's staged track, where one is staged, to its own place, so that the next move may
 /// stage another. Nothing that is read changes. Fails where the volume's server is off or stops.
-pub fn redo<P: Plant>(p: &mut P, c: &Config, v: VolumeId) -> Result<(), Stopped>
-    requires defined { IsSome (place_of c.now v.0) }
-    requires stands { StandsFor c.now (P.state p.old) }
-    ensures written { read_and_write (P.state p.old) (device_of c.now v.0) (track_writes (staged_seen (P.state p.old) c.now v.0)) ≡ (P.state p.new, is_err result) }
-    ensures exact { (r : Rest) → EndsAs (world (P.state p.new) c.now r) (is_err result) (after_reading (P.state p.old) (volume_seen (P.state p.old) c.now v.0).server (world (P.state p.old) c.now r) (machine.redo (world (P.state p.old) c.now r) v.0)) }
-    ensures same { (u : ℕ) → IsAsBefore (P.state p.old) (P.state p.new) c.now u }
-    ensures done { OnOk result (TracksSettled ((P.state p.new).block (device_of c.now v.0)) (volume_seen (P.state p.new) c.now v.0).staged) }
-    ensures stands { StandsFor c.now (P.state p.new) }
-    ensures unarmed { (q : ℕ) → (P.state p.old).read_fuse q ≡ None → (P.state p.new).read_fuse q ≡ None }
-    ensures settled { (u : ℕ) → IsSettled (P.state p.old) c.now u → IsSettled (P.state p.new) c.now u }
-    ensures servers { (q : ℕ) → q ≢ (volume_seen (P.state p.old) c.now v.0).server → ServerStays (P.state p.old) (P.state p.new) q }
-    ensures on { OnOk result ((P.state p.new).on ≡ (P.state p.old).on) }
-    ensures off { OnErr result ((P.state p.new).on (volume_seen (P.state p.old) c.now v.0).server ≡ false) }
-    ensures fault { OnErr result ((P.state p.new).faults ≡ risen (P.state p.old).faults) }
-    ensures no_fault { OnOk result ((P.state p.new).faults ≡ (P.state p.old).faults) }
+pub fn redo<P: Plant>(plant: &mut P, config: &Config, v: VolumeId) -> Result<(), Stopped>
+    requires defined { IsSome (place_of config.now v.0) }
+    requires stands { StandsFor config.now (P.state plant.old) }
+    ensures written { read_and_write (P.state plant.old) (device_of config.now v.0) (track_writes (staged_seen (P.state plant.old) config.now v.0)) ≡ (P.state plant.new, is_err result) }
+    ensures exact { (r : Rest) → EndsAs (world (P.state plant.new) config.now r) (is_err result) (after_reading (P.state plant.old) (volume_seen (P.state plant.old) config.now v.0).server (world (P.state plant.old) config.now r) (machine.redo (world (P.state plant.old) config.now r) v.0)) }
+    ensures same { (u : ℕ) → IsAsBefore (P.state plant.old) (P.state plant.new) config.now u }
+    ensures done { OnOk result (TracksSettled ((P.state plant.new).block (device_of config.now v.0)) (volume_seen (P.state plant.new) config.now v.0).staged) }
+    ensures stands { StandsFor config.now (P.state plant.new) }
+    ensures unarmed { (q : ℕ) → (P.state plant.old).read_fuse q ≡ None → (P.state plant.new).read_fuse q ≡ None }
+    ensures settled { (u : ℕ) → IsSettled (P.state plant.old) config.now u → IsSettled (P.state plant.new) config.now u }
+    ensures servers { (q : ℕ) → q ≢ (volume_seen (P.state plant.old) config.now v.0).server → ServerStays (P.state plant.old) (P.state plant.new) q }
+    ensures on { OnOk result ((P.state plant.new).on ≡ (P.state plant.old).on) }
+    ensures off { OnErr result ((P.state plant.new).on (volume_seen (P.state plant.old) config.now v.0).server ≡ false) }
+    ensures fault { OnErr result ((P.state plant.new).faults ≡ risen (P.state plant.old).faults) }
+    ensures no_fault { OnOk result ((P.state plant.new).faults ≡ (P.state plant.old).faults) }
 {
-    let device = find(c, v).device;
-    let fields = load(p, c, v)?;
-    write_track(p, device, staged_track(&fields))
+    let device = find(config, v).device;
+    let fields = load(plant, config, v)?;
+    write_track(plant, device, staged_track(&fields))
 }
 
 fn staged_track(fields: &Fields) -> Option<(u16, Block)>

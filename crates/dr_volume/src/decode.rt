@@ -19,20 +19,20 @@ use dr_ids::be16;
 use dr_plant::{Block, Plant};
 
 /// The fields of the volume that lies there, whether or not its server is on.
-pub(crate) fn fields_on<P: Plant>(p: &P, place: Place) -> Fields
+pub(crate) fn fields_on<P: Plant>(plant: &P, place: Place) -> Fields
     requires few { place.tracks ≤ 256 }
-    requires device { IsDevice (P.state p.now) place.device.0 13 }
-    ensures { result ≡ plain.normal place.tracks (raw_of (layout.chosen ((P.state p.now).block place.device.0))) }
+    requires device { IsDevice (P.state plant.now) place.device.0 13 }
+    ensures { result ≡ plain.normal place.tracks (raw_of (layout.chosen ((P.state plant.now).block place.device.0))) }
 {
     let device = place.device;
-    let begin = slot_begin(&p.peek(device, 0));
+    let begin = slot_begin(&plant.peek(device, 0));
     let slot = [
-        p.peek(device, begin),
-        p.peek(device, begin + 1),
-        p.peek(device, begin + 2),
-        p.peek(device, begin + 3),
-        p.peek(device, begin + 4),
-        p.peek(device, begin + 5),
+        plant.peek(device, begin),
+        plant.peek(device, begin + 1),
+        plant.peek(device, begin + 2),
+        plant.peek(device, begin + 3),
+        plant.peek(device, begin + 4),
+        plant.peek(device, begin + 5),
     ];
     fields_in(place.tracks, &slot)
 }

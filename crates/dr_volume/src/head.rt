@@ -1,14 +1,17 @@
-//! The head of a record: its first block, which says everything of a volume but its sets of tracks and what is staged.
+//! The head of a record: its first block, which says everything of a volume but its sets of tracks and what is staged; and
+//! what of it a look at all volumes wants.
 
 ghost use Rattle.std.specs.Prelude.{◌≡◌, ◌<◌, length, IsSome, Some};
 ghost use Rattle.dr_config.specs.Table.{StandsFor, place_of};
 ghost use Rattle.dr_model.specs.Layout as layout;
 ghost use Rattle.dr_record.specs.Writes.{IsDevice};
-ghost use Rattle.dr_volume.specs.Head.{head_of, head_said};
+ghost use Rattle.dr_volume.specs.Head.{head_of, head_said, relation_in};
+ghost use Rattle.dr_volume.specs.Plain.{plain};
 ghost use Rattle.dr_volume.specs.View.{volume_at, volume_seen};
 
 use crate::blocks::slot_begin;
 use crate::codes::{bit, flag_if, only_if, part_of, state_of};
+use crate::fields::Fields;
 use crate::place::{device_at, device_of};
 use dr_config::Config;
 use dr_ids::{VolumeId, be16, be32};
@@ -45,31 +48,112 @@ pub struct Head {
     pub floor: u32,
 }
 
+/// What a head says of its volume as a FlashCopy target: where it is none, zero and false.
+#[derive(Clone, Copy)]
+pub struct Relation {
+    pub related: bool,
+    pub source: VolumeId,
+    pub revertible: bool,
+    pub reversing: bool,
+}
+
 /// The head of a volume, whether or not its server is on. Two blocks are looked at, and no set of tracks.
-pub fn peek_head<P: Plant>(p: &P, c: &Config, v: VolumeId) -> Head
-    requires defined { IsSome (place_of c.now v.0) }
-    requires stands { StandsFor c.now (P.state p.now) }
-    ensures { result ≡ head_of (volume_seen (P.state p.now) c.now v.0).fields }
+pub fn peek_head<P: Plant>(plant: &P, config: &Config, v: VolumeId) -> Head
+    requires defined { IsSome (place_of config.now v.0) }
+    requires stands { StandsFor config.now (P.state plant.now) }
+    ensures { result ≡ head_of (volume_seen (P.state plant.now) config.now v.0).fields }
 {
-    head_on(p, device_of(c, v))
+    head_on(plant, device_of(config, v))
 }
 
 /// The head of the volume that was defined after so many others, whether or not its server is on. No volume is looked up.
-pub fn peek_head_at<P: Plant>(p: &P, c: &Config, place: usize) -> Head
-    requires there { place < length c.now.volumes }
-    requires stands { StandsFor c.now (P.state p.now) }
-    ensures { result ≡ head_of (volume_at (P.state p.now) c.now (Some place)).fields }
+pub fn peek_head_at<P: Plant>(plant: &P, config: &Config, place: usize) -> Head
+    requires there { place < length config.now.volumes }
+    requires stands { StandsFor config.now (P.state plant.now) }
+    ensures { result ≡ head_of (volume_at (P.state plant.now) config.now (Some place)).fields }
 {
-    head_on(p, device_at(c, place))
+    head_on(plant, device_at(config, place))
+}
+
+/// What the head of the volume that was defined after so many others says of it as a target, whether or not its server is on.
+/// Of the head three bytes are looked at, and none but one where the volume is no target.
+pub fn peek_relation_at<P: Plant>(plant: &P, config: &Config, place: usize) -> Relation
+    requires there { place < length config.now.volumes }
+    requires stands { StandsFor config.now (P.state plant.now) }
+    ensures { result ≡ relation_in (head_of (volume_at (P.state plant.now) config.now (Some place)).fields) }
+{
+    relation_on(plant, device_at(config, place))
+}
+
+/// The head of fields that are at hand.
+pub fn head_by(f: &Fields) -> Head
+    ensures { result ≡ head_of (plain f.now) }
+{
+    Head {
+        primary: f.primary,
+        primary_state: f.primary_state,
+        primary_partner: f.primary_partner,
+        coordination: f.coordination,
+        long_busy: f.long_busy,
+        recording: f.recording,
+        attempt: f.attempt,
+        secondary: f.secondary,
+        secondary_state: f.secondary_state,
+        secondary_partner: f.secondary_partner,
+        seal: f.seal,
+        related: f.related,
+        source: f.source,
+        nocopy: f.nocopy,
+        persistent: f.persistent,
+        recorded: f.recorded,
+        inhibited: f.inhibited,
+        sequence: f.sequence,
+        previous_sequence: f.previous_sequence,
+        revertible: f.revertible,
+        reversing: f.reversing,
+        member: f.member,
+        session: f.session,
+        floor: f.floor,
+    }
+}
+
+// What the head of the record that a device chooses says of its volume as a target.
+fn relation_on<P: Plant>(plant: &P, device: DeviceId) -> Relation
+    requires { IsDevice (P.state plant.now) device.0 13 }
+    ensures { result ≡ relation_in (head_said (layout.chosen ((P.state plant.now).block device.0) 0)) }
+{
+    relation_of(&first_block(plant, device))
+}
+
+// What a first block says of its volume as a target.
+#[tactic(auto, unfolding(dr_model::specs::Layout::fields_of))]
+fn relation_of(block: &Block) -> Relation
+    ensures { result ≡ relation_in (head_said block.now) }
+{
+    let related = bit(block[5], 0);
+    Relation {
+        related,
+        source: VolumeId(only_if(related, be16(block, 12), 0)),
+        revertible: flag_if(related, block[5], 5),
+        reversing: flag_if(related, block[5], 6),
+    }
 }
 
 // The head of the record that a device chooses.
-fn head_on<P: Plant>(p: &P, device: DeviceId) -> Head
-    requires { IsDevice (P.state p.now) device.0 13 }
-    ensures { result ≡ head_said (layout.chosen ((P.state p.now).block device.0) 0) }
+fn head_on<P: Plant>(plant: &P, device: DeviceId) -> Head
+    requires { IsDevice (P.state plant.now) device.0 13 }
+    ensures { result ≡ head_said (layout.chosen ((P.state plant.now).block device.0) 0) }
 {
-    let begin = slot_begin(&p.peek(device, 0));
-    head_in(&p.peek(device, begin))
+    head_in(&first_block(plant, device))
+}
+
+// The first block of the record that a device chooses.
+fn first_block<P: Plant>(plant: &P, device: DeviceId) -> Block
+    requires { IsDevice (P.state plant.now) device.0 13 }
+    ensures { result ≡ layout.chosen ((P.state plant.now).block device.0) 0 }
+{
+    let begin = slot_begin(&plant.peek(device, 0));
+    plant.peek(device, begin)
 }
 
 /// What a first block says.

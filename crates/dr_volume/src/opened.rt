@@ -12,14 +12,14 @@ ghost use Rattle.dr_model.specs.Lawful.{IsLawful};
 ghost use Rattle.dr_model.specs.Layout as layout;
 ghost use Rattle.dr_volume.specs.Plain.{plain};
 ghost use Rattle.dr_volume.specs.View.{Rest, world, volume_seen, track_seen, device_of, IsSettled};
-ghost use Rattle.dr_volume.specs.Volume.{LiesOn};
+ghost use Rattle.dr_volume.specs.Volume.{LiesOn, Shows};
 ghost use Rattle.dr_volume.specs.Update.{staging, track_writes, update_writes, Covers, IsAsBefore, IsMoved, OthersStay, EndsAs, ServerStays};
 ghost use Rattle.dr_volume.specs.Opened.{IsOpened, OthersOpened, in_own_block};
 
 use crate::codes::zero_block;
 use crate::decode::fields_on;
 use crate::fields::Fields;
-use crate::place::{FIRST_TRACK, find, tell_sound};
+use crate::place::{FIRST_TRACK, device_of, find, tell_sound};
 use dr_config::Config;
 use dr_ids::VolumeId;
 use dr_plant::{Block, DeviceId, Plant, Stopped};
@@ -35,20 +35,45 @@ pub struct Opened {
 
 /// Reads the record of a volume, for a move that follows: its gate by a read, and the rest by looks. Fails where the
 /// plant can't read its device.
-pub fn open<P: Plant>(p: &mut P, c: &Config, v: VolumeId) -> Result<Opened, Stopped>
-    requires defined { IsSome (place_of c.now v.0) }
-    requires stands { StandsFor c.now (P.state p.old) }
-    ensures state { P.state p.new ≡ after_read (P.state p.old) (device_of c.now v.0) }
-    ensures done { is_ok result ≡ can_read (P.state p.old) (device_of c.now v.0) }
-    ensures same { OnOk result (P.state p.new ≡ P.state p.old) }
-    ensures opened { IfOk result (λ o. IsOpened (P.state p.old) c.now v.0 o) }
-    ensures lies { LiesOn c.now v.0 (device_of c.now v.0) (volume_seen (P.state p.old) c.now v.0).tracks }
+pub fn open<P: Plant>(plant: &mut P, config: &Config, v: VolumeId) -> Result<Opened, Stopped>
+    requires defined { IsSome (place_of config.now v.0) }
+    requires stands { StandsFor config.now (P.state plant.old) }
+    ensures state { P.state plant.new ≡ after_read (P.state plant.old) (device_of config.now v.0) }
+    ensures done { is_ok result ≡ can_read (P.state plant.old) (device_of config.now v.0) }
+    ensures same { OnOk result (P.state plant.new ≡ P.state plant.old) }
+    ensures opened { IfOk result (λ o. IsOpened (P.state plant.old) config.now v.0 o) }
+    ensures lies { LiesOn config.now v.0 (device_of config.now v.0) (volume_seen (P.state plant.old) config.now v.0).tracks }
 {
-    let place = find(c, v);
-    let slot = read_choice(p, place.device)?;
-    let fields = fields_on(p, place);
+    let place = find(config, v);
+    let slot = read_choice(plant, place.device)?;
+    let fields = fields_on(plant, place);
     Ok(Opened {
         device: place.device,
+        slot,
+        fields,
+    })
+}
+
+/// The same where the volume's fields are at hand: its gate is read, and nothing else is looked at.
+pub fn open_by<P: Plant>(
+    plant: &mut P,
+    config: &Config,
+    v: VolumeId,
+    f: &Fields,
+) -> Result<Opened, Stopped>
+    requires defined { IsSome (place_of config.now v.0) }
+    requires stands { StandsFor config.now (P.state plant.old) }
+    requires shows { Shows (P.state plant.old) config.now v.0 f.now }
+    ensures state { P.state plant.new ≡ after_read (P.state plant.old) (device_of config.now v.0) }
+    ensures done { is_ok result ≡ can_read (P.state plant.old) (device_of config.now v.0) }
+    ensures same { OnOk result (P.state plant.new ≡ P.state plant.old) }
+    ensures opened { IfOk result (λ o. IsOpened (P.state plant.old) config.now v.0 o) }
+{
+    let device = device_of(config, v);
+    let slot = read_choice(plant, device)?;
+    let fields = *f;
+    Ok(Opened {
+        device,
         slot,
         fields,
     })
@@ -67,22 +92,22 @@ impl Opened {
     /// read the device; then `into` is as before.
     pub fn read_track<P: Plant>(
         &self,
-        p: &mut P,
-        c: &Config,
+        plant: &mut P,
+        config: &Config,
         v: VolumeId,
         t: u16,
         into: &mut Block,
     ) -> Result<(), Stopped>
-        requires defined { IsSome (place_of c.now v.0) }
-        requires stands { StandsFor c.now (P.state p.old) }
-        requires opened { IsOpened (P.state p.old) c.now v.0 self.now }
-        requires within { t < (volume_seen (P.state p.old) c.now v.0).tracks }
-        ensures state { P.state p.new ≡ (if in_own_block (volume_seen (P.state p.old) c.now v.0) t then after_read (P.state p.old) (device_of c.now v.0) else P.state p.old) }
-        ensures done { is_ok result ≡ (if in_own_block (volume_seen (P.state p.old) c.now v.0) t then can_read (P.state p.old) (device_of c.now v.0) else true) }
-        ensures bytes { OnOk result (into.new ≡ track_seen (P.state p.old) c.now v.0 t) }
+        requires defined { IsSome (place_of config.now v.0) }
+        requires stands { StandsFor config.now (P.state plant.old) }
+        requires opened { IsOpened (P.state plant.old) config.now v.0 self.now }
+        requires within { t < (volume_seen (P.state plant.old) config.now v.0).tracks }
+        ensures state { P.state plant.new ≡ (if in_own_block (volume_seen (P.state plant.old) config.now v.0) t then after_read (P.state plant.old) (device_of config.now v.0) else P.state plant.old) }
+        ensures done { is_ok result ≡ (if in_own_block (volume_seen (P.state plant.old) config.now v.0) t then can_read (P.state plant.old) (device_of config.now v.0) else true) }
+        ensures bytes { OnOk result (into.new ≡ track_seen (P.state plant.old) config.now v.0 t) }
         ensures same { OnErr result (into.new ≡ into.old) }
     {
-        tell_sound(c);
+        tell_sound(config);
         if is_staged(self.fields.staged, t) {
             *into = self.fields.staged_bytes;
             return Ok(());
@@ -91,7 +116,7 @@ impl Opened {
             *into = zero_block();
             return Ok(());
         }
-        p.read(self.device, FIRST_TRACK + t, into)
+        plant.read(self.device, FIRST_TRACK + t, into)
     }
 
     /// Gives the volume other fields and, where one is given, a track with its bytes: the move of
@@ -100,40 +125,40 @@ impl Opened {
     /// is to be opened again.
     pub fn change<P: Plant>(
         &mut self,
-        p: &mut P,
-        c: &Config,
+        plant: &mut P,
+        config: &Config,
         v: VolumeId,
         next: &Fields,
         staged: Option<(u16, Block)>,
     ) -> Result<(), Stopped>
-        requires defined { IsSome (place_of c.now v.0) }
-        requires stands { StandsFor c.now (P.state p.old) }
-        requires opened { IsOpened (P.state p.old) c.now v.0 self.old }
-        requires lawful { IsLawful (volume_seen (P.state p.old) c.now v.0).tracks (plain next.now) }
-        requires within { IfSome staged (λ t. t.0 < (volume_seen (P.state p.old) c.now v.0).tracks) }
-        requires settled { IsSettled (P.state p.old) c.now v.0 }
-        requires covers { Covers (volume_seen (P.state p.old) c.now v.0).fields.blank next.now.blank staged }
-        ensures written { after_writes (P.state p.old) (device_of c.now v.0) (update_writes (not (volume_seen (P.state p.old) c.now v.0).slot) (staging staged next.now) staged) ≡ (P.state p.new, is_err result) }
-        ensures exact { (r : Rest) → EndsAs (world (P.state p.new) c.now r) (is_err result) (machine.update (world (P.state p.old) c.now r) v.0 (plain next.now) staged) }
-        ensures opened { OnOk result (IsOpened (P.state p.new) c.now v.0 self.new) }
-        ensures others_opened { OthersOpened (P.state p.old) (P.state p.new) c.now v.0 }
-        ensures done { OnOk result (IsMoved (P.state p.old) (P.state p.new) c.now v.0 (plain next.now) staged) }
-        ensures old_or_new { IsAsBefore (P.state p.old) (P.state p.new) c.now v.0 ⊎ IsMoved (P.state p.old) (P.state p.new) c.now v.0 (plain next.now) staged }
-        ensures others { OthersStay (P.state p.old) (P.state p.new) c.now v.0 }
-        ensures stands { StandsFor c.now (P.state p.new) }
-        ensures unarmed { (q : ℕ) → (P.state p.old).read_fuse q ≡ None → (P.state p.new).read_fuse q ≡ None }
-        ensures settled { (u : ℕ) → IsSettled (P.state p.old) c.now u → IsSettled (P.state p.new) c.now u }
-        ensures servers { (q : ℕ) → q ≢ (volume_seen (P.state p.old) c.now v.0).server → ServerStays (P.state p.old) (P.state p.new) q }
-        ensures on { OnOk result ((P.state p.new).on ≡ (P.state p.old).on) }
-        ensures off { OnErr result ((P.state p.new).on (volume_seen (P.state p.old) c.now v.0).server ≡ false) }
-        ensures fault { OnErr result ((P.state p.new).faults ≡ risen (P.state p.old).faults) }
-        ensures no_fault { OnOk result ((P.state p.new).faults ≡ (P.state p.old).faults) }
+        requires defined { IsSome (place_of config.now v.0) }
+        requires stands { StandsFor config.now (P.state plant.old) }
+        requires opened { IsOpened (P.state plant.old) config.now v.0 self.old }
+        requires lawful { IsLawful (volume_seen (P.state plant.old) config.now v.0).tracks (plain next.now) }
+        requires within { IfSome staged (λ t. t.0 < (volume_seen (P.state plant.old) config.now v.0).tracks) }
+        requires settled { IsSettled (P.state plant.old) config.now v.0 }
+        requires covers { Covers (volume_seen (P.state plant.old) config.now v.0).fields.blank next.now.blank staged }
+        ensures written { after_writes (P.state plant.old) (device_of config.now v.0) (update_writes (not (volume_seen (P.state plant.old) config.now v.0).slot) (staging staged next.now) staged) ≡ (P.state plant.new, is_err result) }
+        ensures exact { (r : Rest) → EndsAs (world (P.state plant.new) config.now r) (is_err result) (machine.update (world (P.state plant.old) config.now r) v.0 (plain next.now) staged) }
+        ensures opened { OnOk result (IsOpened (P.state plant.new) config.now v.0 self.new) }
+        ensures others_opened { OthersOpened (P.state plant.old) (P.state plant.new) config.now v.0 }
+        ensures done { OnOk result (IsMoved (P.state plant.old) (P.state plant.new) config.now v.0 (plain next.now) staged) }
+        ensures old_or_new { IsAsBefore (P.state plant.old) (P.state plant.new) config.now v.0 ⊎ IsMoved (P.state plant.old) (P.state plant.new) config.now v.0 (plain next.now) staged }
+        ensures others { OthersStay (P.state plant.old) (P.state plant.new) config.now v.0 }
+        ensures stands { StandsFor config.now (P.state plant.new) }
+        ensures unarmed { (q : ℕ) → (P.state plant.old).read_fuse q ≡ None → (P.state plant.new).read_fuse q ≡ None }
+        ensures settled { (u : ℕ) → IsSettled (P.state plant.old) config.now u → IsSettled (P.state plant.new) config.now u }
+        ensures servers { (q : ℕ) → q ≢ (volume_seen (P.state plant.old) config.now v.0).server → ServerStays (P.state plant.old) (P.state plant.new) q }
+        ensures on { OnOk result ((P.state plant.new).on ≡ (P.state plant.old).on) }
+        ensures off { OnErr result ((P.state plant.new).on (volume_seen (P.state plant.old) config.now v.0).server ≡ false) }
+        ensures fault { OnErr result ((P.state plant.new).faults ≡ risen (P.state plant.old).faults) }
+        ensures no_fault { OnOk result ((P.state plant.new).faults ≡ (P.state plant.old).faults) }
     {
-        tell_sound(c);
+        tell_sound(config);
         let slot = self.slot;
         self.fields = with_staged(next, staged);
         self.slot = !slot;
-        rewrite(p, self.device, slot, &self.fields, staged)
+        rewrite(plant, self.device, slot, &self.fields, staged)
     }
 }
 
@@ -169,33 +194,33 @@ pub(crate) fn with_staged(next: &Fields, carried: Option<(u16, Block)>) -> Field
 
 // Writes the next fields to the slot that isn't `slot`, which the device chooses, then the gate, then the track.
 pub(crate) fn rewrite<P: Plant>(
-    p: &mut P,
+    plant: &mut P,
     device: DeviceId,
     slot: bool,
     next: &Fields,
     carried: Option<(u16, Block)>,
 ) -> Result<(), Stopped>
-    requires device { IsDevice (P.state p.old) device.0 13 }
-    requires chosen { slot_of (P.state p.old) device.0 ≡ slot }
-    requires track { IfSome carried (λ t. (t.0 < 256) × (13 + t.0 < (P.state p.old).size device.0)) }
-    ensures { after_writes (P.state p.old) device.0 (update_writes (not (slot_of (P.state p.old) device.0)) next.now carried) ≡ (P.state p.new, is_err result) }
+    requires device { IsDevice (P.state plant.old) device.0 13 }
+    requires chosen { slot_of (P.state plant.old) device.0 ≡ slot }
+    requires track { IfSome carried (λ t. (t.0 < 256) × (13 + t.0 < (P.state plant.old).size device.0)) }
+    ensures { after_writes (P.state plant.old) device.0 (update_writes (not (slot_of (P.state plant.old) device.0)) next.now carried) ≡ (P.state plant.new, is_err result) }
 {
-    put(p, device, slot, next)?;
-    write_track(p, device, carried)
+    put(plant, device, slot, next)?;
+    write_track(plant, device, carried)
 }
 
 // Writes a track to its own block.
 pub(crate) fn write_track<P: Plant>(
-    p: &mut P,
+    plant: &mut P,
     device: DeviceId,
     carried: Option<(u16, Block)>,
 ) -> Result<(), Stopped>
-    requires device { device.0 < (P.state p.old).count }
-    requires track { IfSome carried (λ t. (t.0 < 256) × (13 + t.0 < (P.state p.old).size device.0)) }
-    ensures { after_writes (P.state p.old) device.0 (track_writes carried) ≡ (P.state p.new, is_err result) }
+    requires device { device.0 < (P.state plant.old).count }
+    requires track { IfSome carried (λ t. (t.0 < 256) × (13 + t.0 < (P.state plant.old).size device.0)) }
+    ensures { after_writes (P.state plant.old) device.0 (track_writes carried) ≡ (P.state plant.new, is_err result) }
 {
     match &carried {
-        Some(track) => p.write(device, FIRST_TRACK + track.0, &track.1),
+        Some(track) => plant.write(device, FIRST_TRACK + track.0, &track.1),
         None => Ok(()),
     }
 }

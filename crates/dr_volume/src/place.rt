@@ -18,38 +18,38 @@ pub(crate) struct Place {
     pub(crate) tracks: u16,
 }
 
-pub(crate) fn find(c: &Config, v: VolumeId) -> Place
-    requires { IsSome (place_of c.now v.0) }
-    ensures { LiesOn c.now v.0 result.device.0 result.tracks }
+pub(crate) fn find(config: &Config, v: VolumeId) -> Place
+    requires { IsSome (place_of config.now v.0) }
+    ensures { LiesOn config.now v.0 result.device.0 result.tracks }
 {
     Place {
-        device: c.device_of(v).unwrap(),
-        tracks: c.tracks_of(v).unwrap(),
+        device: config.device_of(v).unwrap(),
+        tracks: config.tracks_of(v).unwrap(),
     }
 }
 
 /// The device of a volume.
-pub(crate) fn device_of(c: &Config, v: VolumeId) -> DeviceId
-    requires { IsSome (place_of c.now v.0) }
-    ensures place { place_of c.now v.0 ≡ Some result.0 }
-    ensures sound { IsSoundConfig c.now }
+pub(crate) fn device_of(config: &Config, v: VolumeId) -> DeviceId
+    requires { IsSome (place_of config.now v.0) }
+    ensures place { place_of config.now v.0 ≡ Some result.0 }
+    ensures sound { IsSoundConfig config.now }
 {
-    tell_sound(c);
-    c.device_of(v).unwrap()
+    tell_sound(config);
+    config.device_of(v).unwrap()
 }
 
 /// Says that a configuration is sound. Does nothing.
-pub(crate) fn tell_sound(c: &Config)
-    ensures { IsSoundConfig c.now }
+pub(crate) fn tell_sound(config: &Config)
+    ensures { IsSoundConfig config.now }
 {
-    let _count = c.volumes();
+    let _count = config.volumes();
 }
 
 /// The device of the volume that was defined after so many others.
-pub(crate) fn device_at(c: &Config, place: usize) -> DeviceId
-    requires { place < length c.now.volumes }
+pub(crate) fn device_at(config: &Config, place: usize) -> DeviceId
+    requires { place < length config.now.volumes }
     ensures { result.0 ≡ place }
 {
-    tell_sound(c);
+    tell_sound(config);
     DeviceId(place as u16)
 }

@@ -18,62 +18,62 @@ use dr_plant::{Block, Plant, Stopped};
 use dr_record::{peek_choice, read_choice};
 
 /// Reads the fields of a volume. Fails where the plant can't read its device.
-pub fn load<P: Plant>(p: &mut P, c: &Config, v: VolumeId) -> Result<Fields, Stopped>
-    requires defined { IsSome (place_of c.now v.0) }
-    requires stands { StandsFor c.now (P.state p.old) }
-    ensures state { P.state p.new ≡ after_read (P.state p.old) (device_of c.now v.0) }
-    ensures done { is_ok result ≡ can_read (P.state p.old) (device_of c.now v.0) }
-    ensures shows { IfOk result (λ f. Shows (P.state p.old) c.now v.0 f) }
+pub fn load<P: Plant>(plant: &mut P, config: &Config, v: VolumeId) -> Result<Fields, Stopped>
+    requires defined { IsSome (place_of config.now v.0) }
+    requires stands { StandsFor config.now (P.state plant.old) }
+    ensures state { P.state plant.new ≡ after_read (P.state plant.old) (device_of config.now v.0) }
+    ensures done { is_ok result ≡ can_read (P.state plant.old) (device_of config.now v.0) }
+    ensures shows { IfOk result (λ f. Shows (P.state plant.old) config.now v.0 f) }
 {
-    let opened = open(p, c, v)?;
+    let opened = open(plant, config, v)?;
     Ok(*opened.fields())
 }
 
 /// The slot that a volume's device chooses, whether or not its server is on.
-pub fn slot<P: Plant>(p: &P, c: &Config, v: VolumeId) -> bool
-    requires defined { IsSome (place_of c.now v.0) }
-    requires stands { StandsFor c.now (P.state p.now) }
-    ensures { result ≡ (volume_seen (P.state p.now) c.now v.0).slot }
+pub fn slot<P: Plant>(plant: &P, config: &Config, v: VolumeId) -> bool
+    requires defined { IsSome (place_of config.now v.0) }
+    requires stands { StandsFor config.now (P.state plant.now) }
+    ensures { result ≡ (volume_seen (P.state plant.now) config.now v.0).slot }
 {
-    peek_choice(p, device_of(c, v))
+    peek_choice(plant, device_of(config, v))
 }
 
 /// The fields of a volume, whether or not its server is on.
-pub fn peek_fields<P: Plant>(p: &P, c: &Config, v: VolumeId) -> Fields
-    requires defined { IsSome (place_of c.now v.0) }
-    requires stands { StandsFor c.now (P.state p.now) }
-    ensures { Shows (P.state p.now) c.now v.0 result }
+pub fn peek_fields<P: Plant>(plant: &P, config: &Config, v: VolumeId) -> Fields
+    requires defined { IsSome (place_of config.now v.0) }
+    requires stands { StandsFor config.now (P.state plant.now) }
+    ensures { Shows (P.state plant.now) config.now v.0 result }
 {
-    fields_on(p, find(c, v))
+    fields_on(plant, find(config, v))
 }
 
 /// Reads a track of a volume: the bytes that are staged for it, zeros where it is blank, or else
 /// what stands in its own block. Besides that block the gate, the head, the staged bytes and the blank set's block alone are
 /// looked at. Fails where the plant can't read the device; then `into` is as before.
 pub fn read_track<P: Plant>(
-    p: &mut P,
-    c: &Config,
+    plant: &mut P,
+    config: &Config,
     v: VolumeId,
     t: u16,
     into: &mut Block,
 ) -> Result<(), Stopped>
-    requires defined { IsSome (place_of c.now v.0) }
-    requires stands { StandsFor c.now (P.state p.old) }
-    requires within { t < (volume_seen (P.state p.old) c.now v.0).tracks }
-    ensures state { P.state p.new ≡ after_read (P.state p.old) (device_of c.now v.0) }
-    ensures done { is_ok result ≡ can_read (P.state p.old) (device_of c.now v.0) }
-    ensures bytes { OnOk result (into.new ≡ track_seen (P.state p.old) c.now v.0 t) }
+    requires defined { IsSome (place_of config.now v.0) }
+    requires stands { StandsFor config.now (P.state plant.old) }
+    requires within { t < (volume_seen (P.state plant.old) config.now v.0).tracks }
+    ensures state { P.state plant.new ≡ after_read (P.state plant.old) (device_of config.now v.0) }
+    ensures done { is_ok result ≡ can_read (P.state plant.old) (device_of config.now v.0) }
+    ensures bytes { OnOk result (into.new ≡ track_seen (P.state plant.old) config.now v.0 t) }
     ensures same { OnErr result (into.new ≡ into.old) }
 {
-    let device = device_of(c, v);
-    let begin = begin_of(read_choice(p, device)?);
-    if is_staged(staged_in(&p.peek(device, begin)), t) {
-        *into = p.peek(device, begin + 5);
+    let device = device_of(config, v);
+    let begin = begin_of(read_choice(plant, device)?);
+    if is_staged(staged_in(&plant.peek(device, begin)), t) {
+        *into = plant.peek(device, begin + 5);
         return Ok(());
     }
-    if first_set(&p.peek(device, begin + 4)).contains(t) {
+    if first_set(&plant.peek(device, begin + 4)).contains(t) {
         *into = zero_block();
         return Ok(());
     }
-    p.read(device, FIRST_TRACK + t, into)
+    plant.read(device, FIRST_TRACK + t, into)
 }

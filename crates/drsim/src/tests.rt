@@ -6,7 +6,7 @@ use dr_image::{Image, ImageFault, ImageReader, ImageVolume, read_image, write_im
 use dr_io::{MemSink, MemSource, Sink, StdSink};
 use dr_model::{Event, Journal, image_of};
 use dr_plant::ModelPlant;
-use dr_script::{print_step, read_line};
+use dr_script::{Line, print_step, read_line};
 use dr_top::drsim;
 use std::alloc::{AllocError, Global};
 use std::cell::Cell;
@@ -262,8 +262,9 @@ fn printed_steps(rt: HostRuntime) -> Result<(), AllocError> {
             b"mkpprcpath -srclss 10 -tgtlss 20 I0000:I0000",
         ),
     ];
+    let mut read = Line::new(rt.alloc());
     for (line, wanted) in lines {
-        let Ok(read) = read_line(rt.alloc(), line) else {
+        let Ok(()) = read_line(rt.alloc(), line, &mut read) else {
             assert!(rt; false);
             continue;
         };

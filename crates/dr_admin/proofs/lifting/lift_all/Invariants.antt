@@ -11,13 +11,13 @@ use Rattle.dr_admin.proofs.lifting.lift_all.Given as goal
 abbrev pub invariant-loop-place : goal.invariant-loop-place
 invariant-loop-place g l = record {
   -- what is left to do ends as all would
-  left : (r : Rest) (u : World) (q : Option Refusal) → Ends (armed_in (g.P.Plant.state l.fn.p)) u q (world_seen (g.P.Plant.state l.p) l.c r l.j.events) (lift_from l.c l.s.0 l.place)
-      → Ends (armed_in (g.P.Plant.state l.fn.p)) u q (world_seen (g.P.Plant.state l.fn.p) l.c r l.fn.j.events) (lift_from l.c l.s.0 0);
-  rest : IsAtRest (g.P.Plant.state l.p) l.c;
-  fit : RelationsFit (g.P.Plant.state l.p) l.c;
-  on : (g.P.Plant.state l.p).on ≡ (g.P.Plant.state l.fn.p).on;
-  spare : l.j.spare ≡ l.fn.j.spare;
-  sum : length l.j.events + l.j.spare ≡ length l.fn.j.events + l.fn.j.spare;
-  faults : (g.P.Plant.state l.p).faults ≡ (g.P.Plant.state l.fn.p).faults;
-  unarmed : (q : ℕ) → (g.P.Plant.state l.fn.p).read_fuse q ≡ None → (g.P.Plant.state l.p).read_fuse q ≡ None;
+  left : (r : Rest) (u : World) (q : Option Refusal) → Ends (armed_in (g.P.Plant.state l.fn.plant)) u q (world_seen (g.P.Plant.state l.plant) l.config r l.journal.events) (lift_from l.config l.s.0 l.place)
+      → Ends (armed_in (g.P.Plant.state l.fn.plant)) u q (world_seen (g.P.Plant.state l.fn.plant) l.config r l.fn.journal.events) (lift_from l.config l.s.0 0);
+  rest : IsAtRest (g.P.Plant.state l.plant) l.config;
+  fit : RelationsFit (g.P.Plant.state l.plant) l.config;
+  on : (g.P.Plant.state l.plant).on ≡ (g.P.Plant.state l.fn.plant).on;
+  spare : l.journal.spare ≡ l.fn.journal.spare;
+  sum : length l.journal.events + l.journal.spare ≡ length l.fn.journal.events + l.fn.journal.spare;
+  faults : (g.P.Plant.state l.plant).faults ≡ (g.P.Plant.state l.fn.plant).faults;
+  unarmed : (q : ℕ) → (g.P.Plant.state l.fn.plant).read_fuse q ≡ None → (g.P.Plant.state l.plant).read_fuse q ≡ None;
 }

@@ -12,16 +12,16 @@ use Rattle.dr_volume.proofs.WorldLaws.{on-seen}
 
 pub returns-then-not-is_global-clause-refusal : goal.returns-then-not-is_global-clause-refusal
 returns-then-not-is_global-clause-refusal g c r events =
-    let s = g.P.Plant.state c.args.p.now in
-    let k = (world_seen s c.args.c.now r events).control in
+    let s = g.P.Plant.state c.args.plant.now in
+    let k = (world_seen s c.args.config.now r events).control in
     ap (λ (x : Refusal). Some x) (c.pair_state.ensures.refusal r events)
     ∙ copy-other k c.args.a.0 (ap (on_seen s) (c.server_of-server.ensures.seen s) ∙ on-seen s c.server_of-server.result.0 c.server_of-server.ensures.known ∙ sym c.is_on.ensures ∙ c.if-not-is_on.false)
     (ap (λ (f : Head). is_kind Global f.primary) (sym c.peek_head-f.ensures) ∙ sym c.is_global.ensures ∙ c.if-not-is_global.true)
 
 pub returns-clause-refusal : goal.returns-clause-refusal
 returns-clause-refusal g c r events =
-    let s = g.P.Plant.state c.args.p.now in
-    let k = (world_seen s c.args.c.now r events).control in
+    let s = g.P.Plant.state c.args.plant.now in
+    let k = (world_seen s c.args.config.now r events).control in
     c.send_refusal.ensures.refusal r events
     ∙ ap (λ (f : Head). send_refusal c.args.a.0 f.primary_partner.0 k) c.peek_head-f.ensures
     ∙ copy-global k c.args.a.0 (ap (on_seen s) (c.server_of-server.ensures.seen s) ∙ on-seen s c.server_of-server.result.0 c.server_of-server.ensures.known ∙ sym c.is_on.ensures ∙ c.if-not-is_on.false)

@@ -22,13 +22,13 @@ loop-place-preserved g c = record {
 
 pub returns-in_err-go_on_at-clause-fails : goal.returns-in_err-go_on_at-clause-fails
 returns-in_err-go_on_at-clause-fails g c =
-    let s0 = g.P.Plant.state c.args.p.now in
-    let s = g.P.Plant.state c.loop-place.p in
-    let t = c.args.c.now in
+    let s0 = g.P.Plant.state c.args.plant.now in
+    let s = g.P.Plant.state c.loop-place.plant in
+    let t = c.args.config.now in
     let e = c.in_err-go_on_at.field-0.0 in
     err-always c.from_residual.result (λ r ds.
-    let u = world_seen (g.P.Plant.state c.go_on_at.new.p) t r c.go_on_at.new.j.events in
-    subst (λ q. Ends (armed_in s0) u q (world_seen s0 t r c.args.j.now.events) (start_from t c.args.s.0 0 ++ ds)) (sym (refused-by c.from_residual.result e c.from_residual.ensures.0 c.from_residual.ensures.1))
+    let u = world_seen (g.P.Plant.state c.go_on_at.new.plant) t r c.go_on_at.new.journal.events in
+    subst (λ q. Ends (armed_in s0) u q (world_seen s0 t r c.args.journal.now.events) (start_from t c.args.s.0 0 ++ ds)) (sym (refused-by c.from_residual.result e c.from_residual.ensures.0 c.from_residual.ensures.1))
     (c.loop-place.invariant.left r (armed_in s0) u (Some e) ds
     (ends-wider (armed_in s) (armed_in s0) (wider-armed s0 s c.loop-place.invariant.unarmed) u (Some e) _ _ (c.in_err-go_on_at.ensures.fails r ds))))
 
@@ -37,18 +37,18 @@ returns-in_err-go_on_at-clause-unarmed g c q none = c.in_err-go_on_at.ensures.un
 
 pub returns-in_err-go_on_at-clause-faults : goal.returns-in_err-go_on_at-clause-faults
 returns-in_err-go_on_at-clause-faults g c =
-    let u = g.P.Plant.state c.go_on_at.new.p in
-    subst (λ b. Counted b (g.P.Plant.state c.args.p.now).faults u.faults) (sym c.from_residual.ensures.0) (subst (λ n. Rose n u.faults) c.loop-place.invariant.faults c.in_err-go_on_at.ensures.faults)
+    let u = g.P.Plant.state c.go_on_at.new.plant in
+    subst (λ b. Counted b (g.P.Plant.state c.args.plant.now).faults u.faults) (sym c.from_residual.ensures.0) (subst (λ n. Rose n u.faults) c.loop-place.invariant.faults c.in_err-go_on_at.ensures.faults)
 
 pub returns-clause-leads : goal.returns-clause-leads
 returns-clause-leads g c r armed u q ds more =
-    let s = g.P.Plant.state c.loop-place.p in
-    let all : length c.args.c.now.volumes ≤ c.loop-place.place = (let e = c.volumes-place-end.ensures.count in let f = c.loop-place-test.false in omega arith) in
-    c.loop-place.invariant.left r armed u q ds (subst (λ es. Ends armed u q (world_seen s c.args.c.now r c.loop-place.j.events) (es ++ ds)) (sym (started-all c.args.c.now c.args.s.0 c.loop-place.place all)) more)
+    let s = g.P.Plant.state c.loop-place.plant in
+    let all : length c.args.config.now.volumes ≤ c.loop-place.place = (let e = c.volumes-place-end.ensures.count in let f = c.loop-place-test.false in omega arith) in
+    c.loop-place.invariant.left r armed u q ds (subst (λ es. Ends armed u q (world_seen s c.args.config.now r c.loop-place.journal.events) (es ++ ds)) (sym (started-all c.args.config.now c.args.s.0 c.loop-place.place all)) more)
 
 pub returns-clause-rest : goal.returns-clause-rest
 returns-clause-rest g c =
-    rest-started (g.P.Plant.state c.loop-place.p) c.args.c.now c.args.s.0 c.loop-place.place c.loop-place.invariant.starting
+    rest-started (g.P.Plant.state c.loop-place.plant) c.args.config.now c.args.s.0 c.loop-place.place c.loop-place.invariant.starting
     (let e = c.volumes-place-end.ensures.count in let f = c.loop-place-test.false in omega arith)
 
 pub returns-clause-unarmed : goal.returns-clause-unarmed

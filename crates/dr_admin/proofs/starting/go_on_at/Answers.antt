@@ -9,36 +9,36 @@ use Rattle.dr_admin.proofs.starting.go_on_at.Goals as goal
 
 pub returns-then-not-belongs-clause-goes : goal.returns-then-not-belongs-clause-goes
 returns-then-not-belongs-clause-goes g c r armed u q ds =
-    started-skip c.args.c.now c.unwrap-v.result.0 c.args.s.0 c.args.place (sym (ap (option_map (λ (v : VolumeId). v.0)) c.unwrap-v.ensures) ∙ c.volume_at.ensures.value) ds
-    (g.P.Plant.state c.args.p.now) r c.args.j.now.events armed u q (sym c.if-not-belongs.ensures)
+    started-skip c.args.config.now c.unwrap-v.result.0 c.args.s.0 c.args.place (sym (ap (option_map (λ (v : VolumeId). v.0)) c.unwrap-v.ensures) ∙ c.volume_at.ensures.value) ds
+    (g.P.Plant.state c.args.plant.now) r c.args.journal.now.events armed u q (sym c.if-not-belongs.ensures)
 
 pub returns-then-not-belongs-clause-starting : goal.returns-then-not-belongs-clause-starting
 returns-then-not-belongs-clause-starting g c =
-    starting-skip (g.P.Plant.state c.args.p.now) c.args.c.now c.unwrap-v.result.0 c.args.s.0 c.args.place c.requires.starting
-    (subst (λ o. IfSome o (λ v. place_of c.args.c.now v.0 ≡ Some c.args.place)) c.unwrap-v.ensures c.volume_at.ensures.place) (sym c.if-not-belongs.ensures)
+    starting-skip (g.P.Plant.state c.args.plant.now) c.args.config.now c.unwrap-v.result.0 c.args.s.0 c.args.place c.requires.starting
+    (subst (λ o. IfSome o (λ v. place_of c.args.config.now v.0 ≡ Some c.args.place)) c.unwrap-v.ensures c.volume_at.ensures.place) (sym c.if-not-belongs.ensures)
 
 pub redo_own-requires-clause-at : goal.redo_own-requires-clause-at
-redo_own-requires-clause-at g c = subst (λ o. IfSome o (λ v. place_of c.args.c.now v.0 ≡ Some c.args.place)) c.unwrap-v.ensures c.volume_at.ensures.place
+redo_own-requires-clause-at g c = subst (λ o. IfSome o (λ v. place_of c.args.config.now v.0 ≡ Some c.args.place)) c.unwrap-v.ensures c.volume_at.ensures.place
 
 pub restart_own-requires-clause-at : goal.restart_own-requires-clause-at
-restart_own-requires-clause-at g c = subst (λ o. IfSome o (λ v. place_of c.args.c.now v.0 ≡ Some c.args.place)) c.unwrap-v.ensures c.volume_at.ensures.place
+restart_own-requires-clause-at g c = subst (λ o. IfSome o (λ v. place_of c.args.config.now v.0 ≡ Some c.args.place)) c.unwrap-v.ensures c.volume_at.ensures.place
 
 pub returns-in-Ok-clause-goes : goal.returns-in-Ok-clause-goes
 returns-in-Ok-clause-goes g c =
-    let s = g.P.Plant.state c.args.p.now in let s1 = g.P.Plant.state c.redo_own.new.p in let s2 = g.P.Plant.state c.restart_own.new.p in let t = c.args.c.now in
+    let s = g.P.Plant.state c.args.plant.now in let s1 = g.P.Plant.state c.redo_own.new.plant in let s2 = g.P.Plant.state c.restart_own.new.plant in let t = c.args.config.now in
     ok-along c.restart_own.result c.restart_own.ensures.advances (λ go r armed u q ds.
     started-goes t c.unwrap-v.result.0 c.args.s.0 c.args.place (sym (ap (option_map (λ (v : VolumeId). v.0)) c.unwrap-v.ensures) ∙ c.volume_at.ensures.value) ds
-    (world_seen s t r c.args.j.now.events) (world_seen s1 t r c.redo_own.new.j.events) (world_seen s2 t r c.restart_own.new.j.events) (c.in-Ok.ensures.advances r) (go r) armed u q)
+    (world_seen s t r c.args.journal.now.events) (world_seen s1 t r c.redo_own.new.journal.events) (world_seen s2 t r c.restart_own.new.journal.events) (c.in-Ok.ensures.advances r) (go r) armed u q)
 
 pub returns-in-Ok-clause-fails : goal.returns-in-Ok-clause-fails
 returns-in-Ok-clause-fails g c =
-    let s = g.P.Plant.state c.args.p.now in let s1 = g.P.Plant.state c.redo_own.new.p in let s2 = g.P.Plant.state c.restart_own.new.p in let t = c.args.c.now in
+    let s = g.P.Plant.state c.args.plant.now in let s1 = g.P.Plant.state c.redo_own.new.plant in let s2 = g.P.Plant.state c.restart_own.new.plant in let t = c.args.config.now in
     err-along c.restart_own.result c.restart_own.ensures.halts c.restart_own.ensures.halts (λ end _ r ds.
     started-stops t c.unwrap-v.result.0 c.args.s.0 c.args.place (sym (ap (option_map (λ (v : VolumeId). v.0)) c.unwrap-v.ensures) ∙ c.volume_at.ensures.value) ds
-    s s1 (world_seen s t r c.args.j.now.events) (world_seen s1 t r c.redo_own.new.j.events) (world_seen s2 t r c.restart_own.new.j.events) (refusal_of c.restart_own.result) c.in-Ok.ensures.unarmed (c.in-Ok.ensures.advances r) (end r))
+    s s1 (world_seen s t r c.args.journal.now.events) (world_seen s1 t r c.redo_own.new.journal.events) (world_seen s2 t r c.restart_own.new.journal.events) (refusal_of c.restart_own.result) c.in-Ok.ensures.unarmed (c.in-Ok.ensures.advances r) (end r))
 
 pub returns-in-Err-clause-fails : goal.returns-in-Err-clause-fails
 returns-in-Err-clause-fails g c r ds =
-    let s = g.P.Plant.state c.args.p.now in let s1 = g.P.Plant.state c.redo_own.new.p in let t = c.args.c.now in
+    let s = g.P.Plant.state c.args.plant.now in let s1 = g.P.Plant.state c.redo_own.new.plant in let t = c.args.config.now in
     started-fails t c.unwrap-v.result.0 c.args.s.0 c.args.place (sym (ap (option_map (λ (v : VolumeId). v.0)) c.unwrap-v.ensures) ∙ c.volume_at.ensures.value) ds
-    _ (world_seen s t r c.args.j.now.events) (world_seen s1 t r c.redo_own.new.j.events) (Some c.in-Err.why) (c.in-Err.ensures.halts r)
+    _ (world_seen s t r c.args.journal.now.events) (world_seen s1 t r c.redo_own.new.journal.events) (Some c.in-Err.why) (c.in-Err.ensures.halts r)

@@ -11,33 +11,33 @@ use Rattle.dr_admin.proofs.starting.restart_own.Goals as goal
 
 pub restart-requires-clause-ready : goal.restart-requires-clause-ready
 restart-requires-clause-ready g c =
-    ready-volume (g.P.Plant.state c.args.p.now) c.args.c.now c.args.v.0 c.args.s.0 _ c.args.place c.requires.starting c.requires.settled c.requires.at c.requires.owned
+    ready-volume (g.P.Plant.state c.args.plant.now) c.args.config.now c.args.v.0 c.args.s.0 _ c.args.place c.requires.starting c.requires.settled c.requires.at c.requires.owned
 
 pub returns-clause-advances : goal.returns-clause-advances
 returns-clause-advances g c =
-    let s = g.P.Plant.state c.args.p.now in let s' = g.P.Plant.state c.restart.new.p in let t = c.args.c.now in
+    let s = g.P.Plant.state c.args.plant.now in let s' = g.P.Plant.state c.restart.new.plant in let t = c.args.config.now in
     ok-along c.restart.result c.restart.ensures.advances (λ go r.
-    subst (λ q. Advances (world_seen s t r c.args.j.now.events) (restart_on q c.args.v.0) (world_seen s' t r c.restart.new.j.events)) (own-server s t c.args.v.0 c.args.s.0 c.requires.owned) (go r))
+    subst (λ q. Advances (world_seen s t r c.args.journal.now.events) (restart_on q c.args.v.0) (world_seen s' t r c.restart.new.journal.events)) (own-server s t c.args.v.0 c.args.s.0 c.requires.owned) (go r))
 
 pub returns-clause-halts : goal.returns-clause-halts
 returns-clause-halts g c =
-    let s = g.P.Plant.state c.args.p.now in let s' = g.P.Plant.state c.restart.new.p in let t = c.args.c.now in
+    let s = g.P.Plant.state c.args.plant.now in let s' = g.P.Plant.state c.restart.new.plant in let t = c.args.config.now in
     err-along c.restart.result c.restart.ensures.halts c.restart.ensures.halts (λ end _ r.
-    subst (λ q. Halts (armed_in s) (world_seen s t r c.args.j.now.events) (restart_on q c.args.v.0) (world_seen s' t r c.restart.new.j.events) (refusal_of c.restart.result)) (own-server s t c.args.v.0 c.args.s.0 c.requires.owned)
+    subst (λ q. Halts (armed_in s) (world_seen s t r c.args.journal.now.events) (restart_on q c.args.v.0) (world_seen s' t r c.restart.new.journal.events) (refusal_of c.restart.result)) (own-server s t c.args.v.0 c.args.s.0 c.requires.owned)
     (end r))
 
 pub returns-clause-stopped : goal.returns-clause-stopped
 returns-clause-stopped g c =
-    err-along c.restart.result c.restart.ensures.refused c.restart.ensures.refused (λ is _. is ∙ ap (λ q. Some (stopped q)) (own-server (g.P.Plant.state c.args.p.now) c.args.c.now c.args.v.0 c.args.s.0 c.requires.owned))
+    err-along c.restart.result c.restart.ensures.refused c.restart.ensures.refused (λ is _. is ∙ ap (λ q. Some (stopped q)) (own-server (g.P.Plant.state c.args.plant.now) c.args.config.now c.args.v.0 c.args.s.0 c.requires.owned))
 
 pub returns-clause-off : goal.returns-clause-off
 returns-clause-off g c =
-    let s = g.P.Plant.state c.args.p.now in let s' = g.P.Plant.state c.restart.new.p in
-    err-along c.restart.result c.restart.ensures.off c.restart.ensures.off (λ off _. sym (ap s'.on (own-server s c.args.c.now c.args.v.0 c.args.s.0 c.requires.owned)) ∙ off)
+    let s = g.P.Plant.state c.args.plant.now in let s' = g.P.Plant.state c.restart.new.plant in
+    err-along c.restart.result c.restart.ensures.off c.restart.ensures.off (λ off _. sym (ap s'.on (own-server s c.args.config.now c.args.v.0 c.args.s.0 c.requires.owned)) ∙ off)
 
 pub returns-clause-starting : goal.returns-clause-starting
 returns-clause-starting g c =
-    let s = g.P.Plant.state c.args.p.now in let s' = g.P.Plant.state c.restart.new.p in let t = c.args.c.now in
+    let s = g.P.Plant.state c.args.plant.now in let s' = g.P.Plant.state c.restart.new.plant in let t = c.args.config.now in
     ok-along c.restart.result c.restart.ensures.on (λ on.
     starting-still s s' t c.args.s.0 _ c.requires.starting
     (of-each (λ u. (volume_seen s' t u).server ≡ (volume_seen s t u).server) c.args.v.0 c.restart.ensures.server (λ u ne. ap (λ x. x.server) (c.restart.ensures.others u ne).volume))
@@ -46,7 +46,7 @@ returns-clause-starting g c =
 
 pub returns-clause-rest : goal.returns-clause-rest
 returns-clause-rest g c =
-    let s = g.P.Plant.state c.args.p.now in let s' = g.P.Plant.state c.restart.new.p in let t = c.args.c.now in
+    let s = g.P.Plant.state c.args.plant.now in let s' = g.P.Plant.state c.restart.new.plant in let t = c.args.config.now in
     err-along c.restart.result c.restart.ensures.off c.restart.ensures.off (λ off _.
     rest-stopped s s' t c.args.s.0 _ c.requires.starting
     (of-each (λ u. (volume_seen s' t u).server ≡ (volume_seen s t u).server) c.args.v.0 c.restart.ensures.server (λ u ne. ap (λ x. x.server) (c.restart.ensures.others u ne).volume))

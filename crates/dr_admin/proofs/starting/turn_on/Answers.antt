@@ -6,52 +6,52 @@ use Rattle.dr_model.specs.ReadStops.{Ends}
 use Rattle.dr_flash.specs.Here.{armed_in}
 use Rattle.dr_flash.proofs.CopyLemmas.{wider-armed}
 use Rattle.dr_facts.proofs.Ends.{ends-wider}
-use Rattle.dr_admin.specs.Answering.{number_of}
+use Rattle.dr_admin.specs.Answering.{write_number}
 use Rattle.dr_admin.specs.Starting.{hosted, with_writes, IsStarting, start_from, acks}
 use Rattle.dr_admin.proofs.StartLemmas.{starting-first, started-unarmed, started-faults, started-on, comes-done, comes-failed, told-both}
 use Rattle.dr_admin.proofs.starting.turn_on.Goals as goal
 
 pub go_on_all-requires-clause-starting : goal.go_on_all-requires-clause-starting
 go_on_all-requires-clause-starting g c =
-    subst (λ (s : PlantState). IsStarting s c.args.c.now c.args.s.0 0) (sym c.start.ensures) (starting-first (g.P.Plant.state c.args.p.now) c.args.c.now c.args.s.0 c.requires.rest)
+    subst (λ (s : PlantState). IsStarting s c.args.config.now c.args.s.0 0) (sym c.start.ensures) (starting-first (g.P.Plant.state c.args.plant.now) c.args.config.now c.args.s.0 c.requires.rest)
 
 pub returns-in-Ok-clause-plan : goal.returns-in-Ok-clause-plan
 returns-in-Ok-clause-plan g c r =
-    let s = g.P.Plant.state c.args.p.now in let s1 = g.P.Plant.state c.start.new.self in let v = g.P.Plant.state c.go_on_all.new.p in let t = c.args.c.now in let h = c.args.h.now in
+    let s = g.P.Plant.state c.args.plant.now in let s1 = g.P.Plant.state c.start.new.self in let v = g.P.Plant.state c.go_on_all.new.plant in let t = c.args.config.now in let h = c.args.h.now in
     let mid = c.push.new.self.events in
-    let u = hosted v t r c.acknowledge.new.h c.acknowledge.new.j.events in
-    comes-done s t r h c.args.j.now.events c.args.s.0 c.requires.known c.requires.off mid c.push.ensures.events u (armed_in s) (number_of c.acknowledge.result)
+    let u = hosted v t r c.acknowledge.new.h c.acknowledge.new.journal.events in
+    comes-done s t r h c.args.journal.now.events c.args.s.0 c.requires.known c.requires.off mid c.push.ensures.events u (armed_in s) (write_number c.acknowledge.result)
     (subst (λ (x : PlantState). Ends (armed_in s) u None (hosted x t r h mid) (start_from t c.args.s.0 0 ++ acknowledge_on c.args.s.0 ∷ [])) c.start.ensures
     (c.in-Ok.ensures.leads (with_writes r h) (armed_in s) u None (acknowledge_on c.args.s.0 ∷ []) (c.acknowledge.ensures.carried v r (armed_in s))))
     c.acknowledge.ensures.number
 
 pub returns-in-Ok-clause-told : goal.returns-in-Ok-clause-told
 returns-in-Ok-clause-told g c =
-    told-both c.args.s.0 (number_of c.acknowledge.result) c.args.j.now.events c.push.new.self.events c.acknowledge.new.j.events c.push.ensures.events
-    (c.acknowledge.ensures.told ∙ ap (λ j. j.events ++ acks (number_of c.acknowledge.result)) c.in-Ok.ensures.told)
+    told-both c.args.s.0 (write_number c.acknowledge.result) c.args.journal.now.events c.push.new.self.events c.acknowledge.new.journal.events c.push.ensures.events
+    (c.acknowledge.ensures.told ∙ ap (λ j. j.events ++ acks (write_number c.acknowledge.result)) c.in-Ok.ensures.told)
 
 pub returns-in-Ok-clause-unarmed : goal.returns-in-Ok-clause-unarmed
-returns-in-Ok-clause-unarmed g c q none = c.in-Ok.ensures.unarmed q (started-unarmed (g.P.Plant.state c.args.p.now) (g.P.Plant.state c.start.new.self) c.args.s.0 q c.start.ensures none)
+returns-in-Ok-clause-unarmed g c q none = c.in-Ok.ensures.unarmed q (started-unarmed (g.P.Plant.state c.args.plant.now) (g.P.Plant.state c.start.new.self) c.args.s.0 q c.start.ensures none)
 
 pub returns-in-Ok-clause-faults : goal.returns-in-Ok-clause-faults
-returns-in-Ok-clause-faults g c = c.in-Ok.ensures.faults ∙ started-faults (g.P.Plant.state c.args.p.now) (g.P.Plant.state c.start.new.self) c.args.s.0 c.start.ensures
+returns-in-Ok-clause-faults g c = c.in-Ok.ensures.faults ∙ started-faults (g.P.Plant.state c.args.plant.now) (g.P.Plant.state c.start.new.self) c.args.s.0 c.start.ensures
 
 pub returns-in-Err-clause-plan : goal.returns-in-Err-clause-plan
 returns-in-Err-clause-plan g c r =
-    let s = g.P.Plant.state c.args.p.now in let s1 = g.P.Plant.state c.start.new.self in let v = g.P.Plant.state c.go_on_all.new.p in let t = c.args.c.now in let h = c.args.h.now in
+    let s = g.P.Plant.state c.args.plant.now in let s1 = g.P.Plant.state c.start.new.self in let v = g.P.Plant.state c.go_on_all.new.plant in let t = c.args.config.now in let h = c.args.h.now in
     let mid = c.push.new.self.events in
-    let u = hosted v t r h c.go_on_all.new.j.events in
+    let u = hosted v t r h c.go_on_all.new.journal.events in
     let why = c.in-Err.why in
-    comes-failed s t r h c.args.j.now.events c.args.s.0 c.requires.known c.requires.off mid c.push.ensures.events u (armed_in s) why
+    comes-failed s t r h c.args.journal.now.events c.args.s.0 c.requires.known c.requires.off mid c.push.ensures.events u (armed_in s) why
     (subst (λ (x : PlantState). Ends (armed_in s) u (Some why) (hosted x t r h mid) (start_from t c.args.s.0 0 ++ acknowledge_on c.args.s.0 ∷ [])) c.start.ensures
     (ends-wider (armed_in s1) (armed_in s) (wider-armed s s1 (λ q. started-unarmed s s1 c.args.s.0 q c.start.ensures)) u (Some why) _ _ (c.in-Err.ensures.fails (with_writes r h) (acknowledge_on c.args.s.0 ∷ []))))
 
 pub returns-in-Err-clause-unarmed : goal.returns-in-Err-clause-unarmed
-returns-in-Err-clause-unarmed g c q none = c.in-Err.ensures.unarmed q (started-unarmed (g.P.Plant.state c.args.p.now) (g.P.Plant.state c.start.new.self) c.args.s.0 q c.start.ensures none)
+returns-in-Err-clause-unarmed g c q none = c.in-Err.ensures.unarmed q (started-unarmed (g.P.Plant.state c.args.plant.now) (g.P.Plant.state c.start.new.self) c.args.s.0 q c.start.ensures none)
 
 pub returns-in-Err-clause-faults : goal.returns-in-Err-clause-faults
 returns-in-Err-clause-faults g c =
-    subst (λ n. Rose n (g.P.Plant.state c.go_on_all.new.p).faults) (started-faults (g.P.Plant.state c.args.p.now) (g.P.Plant.state c.start.new.self) c.args.s.0 c.start.ensures) c.in-Err.ensures.faults
+    subst (λ n. Rose n (g.P.Plant.state c.go_on_all.new.plant).faults) (started-faults (g.P.Plant.state c.args.plant.now) (g.P.Plant.state c.start.new.self) c.args.s.0 c.start.ensures) c.in-Err.ensures.faults
 
 pub returns-in-Ok-clause-on : goal.returns-in-Ok-clause-on
-returns-in-Ok-clause-on g c = c.in-Ok.ensures.on ∙ started-on (g.P.Plant.state c.args.p.now) (g.P.Plant.state c.start.new.self) c.args.s.0 c.start.ensures
+returns-in-Ok-clause-on g c = c.in-Ok.ensures.on ∙ started-on (g.P.Plant.state c.args.plant.now) (g.P.Plant.state c.start.new.self) c.args.s.0 c.start.ensures

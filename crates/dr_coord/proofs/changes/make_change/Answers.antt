@@ -18,22 +18,22 @@ use Rattle.dr_coord.proofs.changes.make_change.Goals as goal
 
 pub shift-requires-clause-lawful : goal.shift-requires-clause-lawful
 shift-requires-clause-lawful g c =
-    let s = g.P.Plant.state c.args.p.now in
-    let t = c.args.c.now in
+    let s = g.P.Plant.state c.args.plant.now in
+    let t = c.args.config.now in
     let x = volume_seen s t c.args.v.0 in
     (change-fits s t c.args.v.0 c.requires.fit c.args.x (plain c.next_of-next.result) (c.next_of-next.ensures ∙ ap (next_of c.args.x) c.peek_fields.ensures.fields) c.requires.part (subst (λ (f : Fields). IsLawful x.tracks f) c.peek_fields.ensures.fields c.peek_fields.ensures.lawful)).lawful
 
 pub shift-requires-clause-covers : goal.shift-requires-clause-covers
 shift-requires-clause-covers g c =
-    let s = g.P.Plant.state c.args.p.now in
-    let t = c.args.c.now in
+    let s = g.P.Plant.state c.args.plant.now in
+    let t = c.args.config.now in
     let x = volume_seen s t c.args.v.0 in
     (change-fits s t c.args.v.0 c.requires.fit c.args.x (plain c.next_of-next.result) (c.next_of-next.ensures ∙ ap (next_of c.args.x) c.peek_fields.ensures.fields) c.requires.part (subst (λ (f : Fields). IsLawful x.tracks f) c.peek_fields.ensures.fields c.peek_fields.ensures.lawful)).covers
 
 pub shift-requires-clause-leaves : goal.shift-requires-clause-leaves
 shift-requires-clause-leaves g c =
-    let s = g.P.Plant.state c.args.p.now in
-    let t = c.args.c.now in
+    let s = g.P.Plant.state c.args.plant.now in
+    let t = c.args.config.now in
     let x = volume_seen s t c.args.v.0 in
     (change-fits s t c.args.v.0 c.requires.fit c.args.x (plain c.next_of-next.result) (c.next_of-next.ensures ∙ ap (next_of c.args.x) c.peek_fields.ensures.fields) c.requires.part (subst (λ (f : Fields). IsLawful x.tracks f) c.peek_fields.ensures.fields c.peek_fields.ensures.lawful)).leaves
 
@@ -45,36 +45,36 @@ shift-requires-clause-room g c =
 
 pub returns-clause-done : goal.returns-clause-done
 returns-clause-done g c =
-    let s = g.P.Plant.state c.args.p.now in
-    let t = c.args.c.now in
+    let s = g.P.Plant.state c.args.plant.now in
+    let t = c.args.config.now in
     ok-along c.shift.result c.shift.ensures.done (λ done r.
     turn-from s t c.args.v.0 c.args.x (plain c.next_of-next.result) c.of.result c.requires.running (c.next_of-next.ensures ∙ ap (next_of c.args.x) c.peek_fields.ensures.fields) (c.of.ensures ∙ ap (λ (d : Told). record { done = d; in_stop = d; landed = 0 }) c.told_of.ensures)
-    r c.args.j.now.events (world_seen (g.P.Plant.state c.shift.new.p) t r c.shift.new.j.events, None) (done r))
+    r c.args.journal.now.events (world_seen (g.P.Plant.state c.shift.new.plant) t r c.shift.new.journal.events, None) (done r))
 
 pub returns-clause-failed : goal.returns-clause-failed
 returns-clause-failed g c =
-    let s = g.P.Plant.state c.args.p.now in
-    let t = c.args.c.now in
+    let s = g.P.Plant.state c.args.plant.now in
+    let t = c.args.config.now in
     let x = volume_seen s t c.args.v.0 in
     err-along c.shift.result c.shift.ensures.failed c.shift.ensures.refused (λ failed _ r. elim (failed r) [
       | inl off ↦ inl off
       | inr is ↦ inr (turn-from s t c.args.v.0 c.args.x (plain c.next_of-next.result) c.of.result c.requires.running (c.next_of-next.ensures ∙ ap (next_of c.args.x) c.peek_fields.ensures.fields) (c.of.ensures ∙ ap (λ (d : Told). record { done = d; in_stop = d; landed = 0 }) c.told_of.ensures)
-          r c.args.j.now.events (world_seen (g.P.Plant.state c.shift.new.p) t r c.shift.new.j.events, Some x.server) is)
+          r c.args.journal.now.events (world_seen (g.P.Plant.state c.shift.new.plant) t r c.shift.new.journal.events, Some x.server) is)
     ])
 
 pub returns-clause-aside : goal.returns-clause-aside
 returns-clause-aside g c fit =
-    let s = g.P.Plant.state c.args.p.now in
-    let t = c.args.c.now in
-    aside-after s (g.P.Plant.state c.shift.new.p) t c.args.v.0 (plain c.next_of-next.result) fit
+    let s = g.P.Plant.state c.args.plant.now in
+    let t = c.args.config.now in
+    aside-after s (g.P.Plant.state c.shift.new.plant) t c.args.v.0 (plain c.next_of-next.result) fit
     (subst KeepsAside (sym (c.next_of-next.ensures ∙ ap (next_of c.args.x) c.peek_fields.ensures.fields)) (change-aside c.args.x (volume_seen s t c.args.v.0).fields (fit.aside c.args.v.0)))
     c.shift.ensures.old_or_new c.shift.ensures.others
 
 pub returns-clause-moved : goal.returns-clause-moved
 returns-clause-moved g c =
-    let s = g.P.Plant.state c.args.p.now in
-    let t = c.args.c.now in
-    ok-along c.shift.result c.shift.ensures.moved (subst (λ (f : Fields). IsMoved s (g.P.Plant.state c.shift.new.p) t c.args.v.0 f None) (c.next_of-next.ensures ∙ ap (next_of c.args.x) c.peek_fields.ensures.fields))
+    let s = g.P.Plant.state c.args.plant.now in
+    let t = c.args.config.now in
+    ok-along c.shift.result c.shift.ensures.moved (subst (λ (f : Fields). IsMoved s (g.P.Plant.state c.shift.new.plant) t c.args.v.0 f None) (c.next_of-next.ensures ∙ ap (next_of c.args.x) c.peek_fields.ensures.fields))
 
 pub returns-clause-room : goal.returns-clause-room
 returns-clause-room g c =

@@ -11,10 +11,10 @@ use Rattle.dr_coord.proofs.checks.hold_refusal.Goals as goal
 
 pub returns-in-Some-clause-refusal : goal.returns-in-Some-clause-refusal
 returns-in-Some-clause-refusal g c r events =
-    ap (λ (o : Option Refusal). option_or o (stale_refusal c.args.a.0 c.args.n (world_seen (g.P.Plant.state c.args.p.now) c.args.c.now r events).control)) (c.in-Some.ensures.refusal r events)
+    ap (λ (o : Option Refusal). option_or o (stale_refusal c.args.a.0 c.args.n (world_seen (g.P.Plant.state c.args.plant.now) c.args.config.now r events).control)) (c.in-Some.ensures.refusal r events)
 
 pub returns-clause-refusal : goal.returns-clause-refusal
 returns-clause-refusal g c r events =
     c.stale_if.ensures.refusal
     ∙ ap (λ (f : Fields). if records c.args.n f then None else if nat_lt f.attempt c.args.n then None else Some (Stale c.args.n f.attempt)) c.peek_fields.ensures.fields
-    ∙ ap (λ (o : Option Refusal). option_or o (stale_refusal c.args.a.0 c.args.n (world_seen (g.P.Plant.state c.args.p.now) c.args.c.now r events).control)) (c.in_default.ensures.refusal r events)
+    ∙ ap (λ (o : Option Refusal). option_or o (stale_refusal c.args.a.0 c.args.n (world_seen (g.P.Plant.state c.args.plant.now) c.args.config.now r events).control)) (c.in_default.ensures.refusal r events)

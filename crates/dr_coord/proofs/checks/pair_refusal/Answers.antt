@@ -12,5 +12,5 @@ use Rattle.dr_coord.proofs.checks.pair_refusal.Goals as goal
 pub returns-then-not-may_hold-clause-refusal : goal.returns-then-not-may_hold-clause-refusal
 returns-then-not-may_hold-clause-refusal g c r events =
     ap (λ (x : Refusal). Some x) (c.pair_state.ensures.refusal r events)
-    ∙ pick-false (may_hold c.args.a.0 c.args.b.0 (world_seen (g.P.Plant.state c.args.p.now) c.args.c.now r events).control) None (Some (pair_state (world_seen (g.P.Plant.state c.args.p.now) c.args.c.now r events).control c.args.a.0))
+    ∙ pick-false (may_hold c.args.a.0 c.args.b.0 (world_seen (g.P.Plant.state c.args.plant.now) c.args.config.now r events).control) None (Some (pair_state (world_seen (g.P.Plant.state c.args.plant.now) c.args.config.now r events).control c.args.a.0))
     (ap (λ (f : Fields). is_primary_of c.args.b.0 f && (is_kind Global f.primary && is_pending f.primary_state)) (sym c.peek_fields.ensures.fields) ∙ sym c.if-not-may_hold.ensures)

@@ -13,34 +13,34 @@ use Rattle.dr_flash.proofs.KeepLemmas.{skips}
 
 pub returns-then-not-is_engaged-clause-advances : goal.returns-then-not-is_engaged-clause-advances
 returns-then-not-is_engaged-clause-advances g c r =
-    skips (world_seen (g.P.Plant.state c.args.p.now) c.args.c.now r c.args.j.now.events) (void_on c.args.v.0)
-    (void-skips (g.P.Plant.state c.args.p.now) c.args.c.now r c.args.j.now.events c.args.v.0 (ap (is_engaged) (sym c.peek_fields.ensures.fields) ∙ sym c.if-not-is_engaged.ensures))
+    skips (world_seen (g.P.Plant.state c.args.plant.now) c.args.config.now r c.args.journal.now.events) (void_on c.args.v.0)
+    (void-skips (g.P.Plant.state c.args.plant.now) c.args.config.now r c.args.journal.now.events c.args.v.0 (ap (is_engaged) (sym c.peek_fields.ensures.fields) ∙ sym c.if-not-is_engaged.ensures))
 
 pub returns-then-not-is_engaged-clause-carried : goal.returns-then-not-is_engaged-clause-carried
 returns-then-not-is_engaged-clause-carried g c r =
-    one-skipped (armed_in (g.P.Plant.state c.args.p.now)) (world_seen (g.P.Plant.state c.args.p.now) c.args.c.now r c.args.j.now.events) (void_on c.args.v.0) (returns-then-not-is_engaged-clause-advances g c r)
+    one-skipped (armed_in (g.P.Plant.state c.args.plant.now)) (world_seen (g.P.Plant.state c.args.plant.now) c.args.config.now r c.args.journal.now.events) (void_on c.args.v.0) (returns-then-not-is_engaged-clause-advances g c r)
 
 pub returns-clause-advances : goal.returns-clause-advances
 returns-clause-advances g c =
-    let s = g.P.Plant.state c.args.p.now in
-    let t = c.args.c.now in
+    let s = g.P.Plant.state c.args.plant.now in
+    let t = c.args.config.now in
     ok-along c.make_change.result c.make_change.ensures.done (λ done r.
-    move-advances (world_seen s t r c.args.j.now.events) (world_seen (g.P.Plant.state c.make_change.new.p) t r c.make_change.new.j.events) (void_on c.args.v.0) (Finish c.args.v.0 0)
-    (void-comes s t r c.args.j.now.events c.args.v.0 (ap (is_engaged) (sym c.peek_fields.ensures.fields) ∙ sym c.if-not-is_engaged.ensures)) (done r))
+    move-advances (world_seen s t r c.args.journal.now.events) (world_seen (g.P.Plant.state c.make_change.new.plant) t r c.make_change.new.journal.events) (void_on c.args.v.0) (Finish c.args.v.0 0)
+    (void-comes s t r c.args.journal.now.events c.args.v.0 (ap (is_engaged) (sym c.peek_fields.ensures.fields) ∙ sym c.if-not-is_engaged.ensures)) (done r))
 
 pub returns-clause-halts : goal.returns-clause-halts
 returns-clause-halts g c =
-    let s = g.P.Plant.state c.args.p.now in
-    let t = c.args.c.now in
+    let s = g.P.Plant.state c.args.plant.now in
+    let t = c.args.config.now in
     err-along c.make_change.result c.make_change.ensures.failed c.make_change.ensures.refused (λ failed refused r.
-    move-halts (armed_in s) (world_seen s t r c.args.j.now.events) (world_seen (g.P.Plant.state c.make_change.new.p) t r c.make_change.new.j.events) (refusal_of c.make_change.result) (void_on c.args.v.0) (Finish c.args.v.0 0) (volume_seen s t c.args.v.0).server
-    (void-comes s t r c.args.j.now.events c.args.v.0 (ap (is_engaged) (sym c.peek_fields.ensures.fields) ∙ sym c.if-not-is_engaged.ensures)) refused (failed r))
+    move-halts (armed_in s) (world_seen s t r c.args.journal.now.events) (world_seen (g.P.Plant.state c.make_change.new.plant) t r c.make_change.new.journal.events) (refusal_of c.make_change.result) (void_on c.args.v.0) (Finish c.args.v.0 0) (volume_seen s t c.args.v.0).server
+    (void-comes s t r c.args.journal.now.events c.args.v.0 (ap (is_engaged) (sym c.peek_fields.ensures.fields) ∙ sym c.if-not-is_engaged.ensures)) refused (failed r))
 
 pub returns-clause-carried : goal.returns-clause-carried
 returns-clause-carried g c =
-    let s = g.P.Plant.state c.args.p.now in
-    let t = c.args.c.now in
-    act-ends c.make_change.result (armed_in s) (λ r. world_seen s t r c.args.j.now.events) (λ r. world_seen (g.P.Plant.state c.make_change.new.p) t r c.make_change.new.j.events) (void_on c.args.v.0) (returns-clause-advances g c) (returns-clause-halts g c)
+    let s = g.P.Plant.state c.args.plant.now in
+    let t = c.args.config.now in
+    act-ends c.make_change.result (armed_in s) (λ r. world_seen s t r c.args.journal.now.events) (λ r. world_seen (g.P.Plant.state c.make_change.new.plant) t r c.make_change.new.journal.events) (void_on c.args.v.0) (returns-clause-advances g c) (returns-clause-halts g c)
 
 pub returns-clause-room_left : goal.returns-clause-room_left
 returns-clause-room_left g c =

@@ -12,24 +12,24 @@ use Rattle.dr_flash.proofs.KeepLemmas.{skips}
 
 pub returns-then-not-peek_fields-clause-advances : goal.returns-then-not-peek_fields-clause-advances
 returns-then-not-peek_fields-clause-advances g c r =
-    skips (world_seen (g.P.Plant.state c.args.p.now) c.args.c.now r c.args.j.now.events) (free_on c.args.a.0)
-    (free-skips (g.P.Plant.state c.args.p.now) c.args.c.now r c.args.j.now.events c.args.a.0 (ap (λ (f : Fields). f.coordination) (sym c.peek_fields.ensures.fields) ∙ not-true c.peek_fields.result.coordination c.if-not-peek_fields.true))
+    skips (world_seen (g.P.Plant.state c.args.plant.now) c.args.config.now r c.args.journal.now.events) (free_on c.args.a.0)
+    (free-skips (g.P.Plant.state c.args.plant.now) c.args.config.now r c.args.journal.now.events c.args.a.0 (ap (λ (f : Fields). f.coordination) (sym c.peek_fields.ensures.fields) ∙ not-true c.peek_fields.result.coordination c.if-not-peek_fields.true))
 
 pub returns-clause-advances : goal.returns-clause-advances
 returns-clause-advances g c =
-    let s = g.P.Plant.state c.args.p.now in
-    let t = c.args.c.now in
+    let s = g.P.Plant.state c.args.plant.now in
+    let t = c.args.config.now in
     ok-along c.make_change.result c.make_change.ensures.done (λ done r.
-    move-advances (world_seen s t r c.args.j.now.events) (world_seen (g.P.Plant.state c.make_change.new.p) t r c.make_change.new.j.events) (free_on c.args.a.0) (Free c.args.a.0)
-    (free-comes s t r c.args.j.now.events c.args.a.0 (ap (λ (f : Fields). f.coordination) (sym c.peek_fields.ensures.fields) ∙ not-false c.peek_fields.result.coordination c.if-not-peek_fields.false)) (done r))
+    move-advances (world_seen s t r c.args.journal.now.events) (world_seen (g.P.Plant.state c.make_change.new.plant) t r c.make_change.new.journal.events) (free_on c.args.a.0) (Free c.args.a.0)
+    (free-comes s t r c.args.journal.now.events c.args.a.0 (ap (λ (f : Fields). f.coordination) (sym c.peek_fields.ensures.fields) ∙ not-false c.peek_fields.result.coordination c.if-not-peek_fields.false)) (done r))
 
 pub returns-clause-halts : goal.returns-clause-halts
 returns-clause-halts g c =
-    let s = g.P.Plant.state c.args.p.now in
-    let t = c.args.c.now in
+    let s = g.P.Plant.state c.args.plant.now in
+    let t = c.args.config.now in
     err-along c.make_change.result c.make_change.ensures.failed c.make_change.ensures.refused (λ failed refused r.
-    move-halts (armed_in s) (world_seen s t r c.args.j.now.events) (world_seen (g.P.Plant.state c.make_change.new.p) t r c.make_change.new.j.events) (refusal_of c.make_change.result) (free_on c.args.a.0) (Free c.args.a.0) (volume_seen s t c.args.a.0).server
-    (free-comes s t r c.args.j.now.events c.args.a.0 (ap (λ (f : Fields). f.coordination) (sym c.peek_fields.ensures.fields) ∙ not-false c.peek_fields.result.coordination c.if-not-peek_fields.false)) refused (failed r))
+    move-halts (armed_in s) (world_seen s t r c.args.journal.now.events) (world_seen (g.P.Plant.state c.make_change.new.plant) t r c.make_change.new.journal.events) (refusal_of c.make_change.result) (free_on c.args.a.0) (Free c.args.a.0) (volume_seen s t c.args.a.0).server
+    (free-comes s t r c.args.journal.now.events c.args.a.0 (ap (λ (f : Fields). f.coordination) (sym c.peek_fields.ensures.fields) ∙ not-false c.peek_fields.result.coordination c.if-not-peek_fields.false)) refused (failed r))
 
 pub returns-clause-room_left : goal.returns-clause-room_left
 returns-clause-room_left g c =

@@ -11,32 +11,32 @@ use Rattle.dr_logic.proofs.Results.{ok-two}
 
 pub returns-then-records-clause-advances : goal.returns-then-records-clause-advances
 returns-then-records-clause-advances g c r so =
-    hold-passes (g.P.Plant.state c.args.p.now) c.args.c.now c.args.a.0 c.args.s.0 c.args.n c.args.first r c.args.j.now.events
+    hold-passes (g.P.Plant.state c.args.plant.now) c.args.config.now c.args.a.0 c.args.s.0 c.args.n c.args.first r c.args.journal.now.events
     (ap (records c.args.n) (sym c.peek_fields.ensures.fields) ∙ sym c.if-records.ensures)
 
 pub returns-clause-advances : goal.returns-clause-advances
 returns-clause-advances g c =
-    let s = g.P.Plant.state c.args.p.now in
-    let u = g.P.Plant.state c.make_change.new.p in
-    let t = c.args.c.now in
+    let s = g.P.Plant.state c.args.plant.now in
+    let u = g.P.Plant.state c.make_change.new.plant in
+    let t = c.args.config.now in
     ok-along c.make_change.result c.make_change.ensures.done (λ done r so.
-    act-advances (world_seen s t r c.args.j.now.events) (world_seen u t (rest_after c.args.first s u t c.args.a.0 c.args.s.0 r) c.make_change.new.j.events) (hold_on c.args.s.0 c.args.a.0 c.args.n) (hold_act s t r c.args.j.now.events c.args.a.0 c.args.s.0 c.args.n c.args.first)
-    (hold-comes s t r c.args.j.now.events c.args.a.0 c.args.s.0 c.args.n c.args.first (ap (records c.args.n) (sym c.peek_fields.ensures.fields) ∙ sym c.if-records.ensures) so)
-    (hold-act s t r c.args.j.now.events c.args.a.0 u c.args.s.0 c.args.n c.args.first c.make_change.new.j.events None (done r)))
+    act-advances (world_seen s t r c.args.journal.now.events) (world_seen u t (rest_after c.args.first s u t c.args.a.0 c.args.s.0 r) c.make_change.new.journal.events) (hold_on c.args.s.0 c.args.a.0 c.args.n) (hold_act s t r c.args.journal.now.events c.args.a.0 c.args.s.0 c.args.n c.args.first)
+    (hold-comes s t r c.args.journal.now.events c.args.a.0 c.args.s.0 c.args.n c.args.first (ap (records c.args.n) (sym c.peek_fields.ensures.fields) ∙ sym c.if-records.ensures) so)
+    (hold-act s t r c.args.journal.now.events c.args.a.0 u c.args.s.0 c.args.n c.args.first c.make_change.new.journal.events None (done r)))
 
 pub returns-clause-halts : goal.returns-clause-halts
 returns-clause-halts g c =
-    let s = g.P.Plant.state c.args.p.now in
-    let u = g.P.Plant.state c.make_change.new.p in
-    let t = c.args.c.now in
+    let s = g.P.Plant.state c.args.plant.now in
+    let u = g.P.Plant.state c.make_change.new.plant in
+    let t = c.args.config.now in
     let server = (volume_seen s t c.args.a.0).server in
     err-along c.make_change.result c.make_change.ensures.failed c.make_change.ensures.refused (λ failed refused r so.
-    act-halts (armed_in s) (world_seen s t r c.args.j.now.events) (world_seen u t (rest_after c.args.first s u t c.args.a.0 c.args.s.0 r) c.make_change.new.j.events) (refusal_of c.make_change.result) (hold_on c.args.s.0 c.args.a.0 c.args.n) (hold_act s t r c.args.j.now.events c.args.a.0 c.args.s.0 c.args.n c.args.first) server
-    (hold-comes s t r c.args.j.now.events c.args.a.0 c.args.s.0 c.args.n c.args.first (ap (records c.args.n) (sym c.peek_fields.ensures.fields) ∙ sym c.if-records.ensures) so)
+    act-halts (armed_in s) (world_seen s t r c.args.journal.now.events) (world_seen u t (rest_after c.args.first s u t c.args.a.0 c.args.s.0 r) c.make_change.new.journal.events) (refusal_of c.make_change.result) (hold_on c.args.s.0 c.args.a.0 c.args.n) (hold_act s t r c.args.journal.now.events c.args.a.0 c.args.s.0 c.args.n c.args.first) server
+    (hold-comes s t r c.args.journal.now.events c.args.a.0 c.args.s.0 c.args.n c.args.first (ap (records c.args.n) (sym c.peek_fields.ensures.fields) ∙ sym c.if-records.ensures) so)
     refused
     (elim (failed r) [
-      | inl off ↦ inl (hold-off (armed_in s) s u t r c.args.j.now.events c.make_change.new.j.events c.args.a.0 c.args.s.0 c.args.first (refusal_of c.make_change.result) off)
-      | inr is ↦ inr (hold-act s t r c.args.j.now.events c.args.a.0 u c.args.s.0 c.args.n c.args.first c.make_change.new.j.events (Some server) is)
+      | inl off ↦ inl (hold-off (armed_in s) s u t r c.args.journal.now.events c.make_change.new.journal.events c.args.a.0 c.args.s.0 c.args.first (refusal_of c.make_change.result) off)
+      | inr is ↦ inr (hold-act s t r c.args.journal.now.events c.args.a.0 u c.args.s.0 c.args.n c.args.first c.make_change.new.journal.events (Some server) is)
     ]))
 
 pub returns-then-records-clause-begins : goal.returns-then-records-clause-begins
@@ -46,10 +46,10 @@ returns-then-records-clause-begins g c fresh =
 pub returns-clause-begins : goal.returns-clause-begins
 returns-clause-begins g c =
     ok-along c.make_change.result c.make_change.ensures.moved (λ moved _.
-    begins-moved c.args.first (g.P.Plant.state c.args.p.now) (g.P.Plant.state c.make_change.new.p) c.args.c.now c.args.a.0 _ moved)
+    begins-moved c.args.first (g.P.Plant.state c.args.plant.now) (g.P.Plant.state c.make_change.new.plant) c.args.config.now c.args.a.0 _ moved)
 
 pub returns-clause-room_left : goal.returns-clause-room_left
 returns-clause-room_left g c =
     ok-two c.make_change.result c.make_change.ensures.moved c.make_change.ensures.room_left (λ moved left.
-    spare-left c.args.j.now.spare c.make_change.new.j.spare c.args.first (begins c.args.first (g.P.Plant.state c.args.p.now) (g.P.Plant.state c.make_change.new.p) c.args.c.now c.args.a.0)
-    (begins-moved c.args.first (g.P.Plant.state c.args.p.now) (g.P.Plant.state c.make_change.new.p) c.args.c.now c.args.a.0 _ moved) left)
+    spare-left c.args.journal.now.spare c.make_change.new.journal.spare c.args.first (begins c.args.first (g.P.Plant.state c.args.plant.now) (g.P.Plant.state c.make_change.new.plant) c.args.config.now c.args.a.0)
+    (begins-moved c.args.first (g.P.Plant.state c.args.plant.now) (g.P.Plant.state c.make_change.new.plant) c.args.config.now c.args.a.0 _ moved) left)

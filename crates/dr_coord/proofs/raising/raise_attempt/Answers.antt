@@ -14,34 +14,34 @@ use Rattle.dr_flash.proofs.KeepLemmas.{skips}
 
 pub returns-then-n-peek_fields-clause-advances : goal.returns-then-n-peek_fields-clause-advances
 returns-then-n-peek_fields-clause-advances g c r =
-    skips (world_seen (g.P.Plant.state c.args.p.now) c.args.c.now r c.args.j.now.events) (raise_attempt_on c.args.v.0 c.args.n)
-    (attempt-skips (g.P.Plant.state c.args.p.now) c.args.c.now r c.args.j.now.events c.args.v.0 c.args.n (subst (λ (f : Fields). c.args.n ≤ f.attempt) c.peek_fields.ensures.fields c.if-n-peek_fields.true))
+    skips (world_seen (g.P.Plant.state c.args.plant.now) c.args.config.now r c.args.journal.now.events) (raise_attempt_on c.args.v.0 c.args.n)
+    (attempt-skips (g.P.Plant.state c.args.plant.now) c.args.config.now r c.args.journal.now.events c.args.v.0 c.args.n (subst (λ (f : Fields). c.args.n ≤ f.attempt) c.peek_fields.ensures.fields c.if-n-peek_fields.true))
 
 pub returns-then-n-peek_fields-clause-carried : goal.returns-then-n-peek_fields-clause-carried
 returns-then-n-peek_fields-clause-carried g c r =
-    one-skipped (armed_in (g.P.Plant.state c.args.p.now)) (world_seen (g.P.Plant.state c.args.p.now) c.args.c.now r c.args.j.now.events) (raise_attempt_on c.args.v.0 c.args.n) (returns-then-n-peek_fields-clause-advances g c r)
+    one-skipped (armed_in (g.P.Plant.state c.args.plant.now)) (world_seen (g.P.Plant.state c.args.plant.now) c.args.config.now r c.args.journal.now.events) (raise_attempt_on c.args.v.0 c.args.n) (returns-then-n-peek_fields-clause-advances g c r)
 
 pub returns-clause-advances : goal.returns-clause-advances
 returns-clause-advances g c =
-    let s = g.P.Plant.state c.args.p.now in
-    let t = c.args.c.now in
+    let s = g.P.Plant.state c.args.plant.now in
+    let t = c.args.config.now in
     ok-along c.make_change.result c.make_change.ensures.done (λ done r.
-    move-advances (world_seen s t r c.args.j.now.events) (world_seen (g.P.Plant.state c.make_change.new.p) t r c.make_change.new.j.events) (raise_attempt_on c.args.v.0 c.args.n) (RaiseAttempt c.args.v.0 c.args.n)
-    (attempt-comes s t r c.args.j.now.events c.args.v.0 c.args.n (subst (λ (f : Fields). f.attempt < c.args.n) c.peek_fields.ensures.fields c.if-n-peek_fields.false)) (done r))
+    move-advances (world_seen s t r c.args.journal.now.events) (world_seen (g.P.Plant.state c.make_change.new.plant) t r c.make_change.new.journal.events) (raise_attempt_on c.args.v.0 c.args.n) (RaiseAttempt c.args.v.0 c.args.n)
+    (attempt-comes s t r c.args.journal.now.events c.args.v.0 c.args.n (subst (λ (f : Fields). f.attempt < c.args.n) c.peek_fields.ensures.fields c.if-n-peek_fields.false)) (done r))
 
 pub returns-clause-halts : goal.returns-clause-halts
 returns-clause-halts g c =
-    let s = g.P.Plant.state c.args.p.now in
-    let t = c.args.c.now in
+    let s = g.P.Plant.state c.args.plant.now in
+    let t = c.args.config.now in
     err-along c.make_change.result c.make_change.ensures.failed c.make_change.ensures.refused (λ failed refused r.
-    move-halts (armed_in s) (world_seen s t r c.args.j.now.events) (world_seen (g.P.Plant.state c.make_change.new.p) t r c.make_change.new.j.events) (refusal_of c.make_change.result) (raise_attempt_on c.args.v.0 c.args.n) (RaiseAttempt c.args.v.0 c.args.n) (volume_seen s t c.args.v.0).server
-    (attempt-comes s t r c.args.j.now.events c.args.v.0 c.args.n (subst (λ (f : Fields). f.attempt < c.args.n) c.peek_fields.ensures.fields c.if-n-peek_fields.false)) refused (failed r))
+    move-halts (armed_in s) (world_seen s t r c.args.journal.now.events) (world_seen (g.P.Plant.state c.make_change.new.plant) t r c.make_change.new.journal.events) (refusal_of c.make_change.result) (raise_attempt_on c.args.v.0 c.args.n) (RaiseAttempt c.args.v.0 c.args.n) (volume_seen s t c.args.v.0).server
+    (attempt-comes s t r c.args.journal.now.events c.args.v.0 c.args.n (subst (λ (f : Fields). f.attempt < c.args.n) c.peek_fields.ensures.fields c.if-n-peek_fields.false)) refused (failed r))
 
 pub returns-clause-carried : goal.returns-clause-carried
 returns-clause-carried g c r =
-    let s = g.P.Plant.state c.args.p.now in
-    let t = c.args.c.now in
-    act-ends c.make_change.result (armed_in s) (λ r. world_seen s t r c.args.j.now.events) (λ r. world_seen (g.P.Plant.state c.make_change.new.p) t r c.make_change.new.j.events) (raise_attempt_on c.args.v.0 c.args.n) (returns-clause-advances g c) (returns-clause-halts g c) r
+    let s = g.P.Plant.state c.args.plant.now in
+    let t = c.args.config.now in
+    act-ends c.make_change.result (armed_in s) (λ r. world_seen s t r c.args.journal.now.events) (λ r. world_seen (g.P.Plant.state c.make_change.new.plant) t r c.make_change.new.journal.events) (raise_attempt_on c.args.v.0 c.args.n) (returns-clause-advances g c) (returns-clause-halts g c) r
 
 pub returns-clause-room_left : goal.returns-clause-room_left
 returns-clause-room_left g c =

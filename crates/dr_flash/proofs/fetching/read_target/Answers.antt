@@ -14,8 +14,8 @@ use Rattle.dr_flash.proofs.fetching.read_target.Goals as goal
 
 pub returns-then-is_shown_by_source-clause-state : goal.returns-then-is_shown_by_source-clause-state
 returns-then-is_shown_by_source-clause-state g c =
-    let s = g.P.Plant.state c.args.p.now in
-    let t = c.args.c.now in
+    let s = g.P.Plant.state c.args.plant.now in
+    let t = c.args.config.now in
     let v = c.args.v.0 in
     let u = c.fields-then-is_shown_by_source.result.now.source.0 in
     let same = c.in_ok-opened.ensures.same in
@@ -30,8 +30,8 @@ returns-then-is_shown_by_source-clause-state g c =
 
 pub returns-then-is_shown_by_source-clause-done : goal.returns-then-is_shown_by_source-clause-done
 returns-then-is_shown_by_source-clause-done g c =
-    let s = g.P.Plant.state c.args.p.now in
-    let t = c.args.c.now in
+    let s = g.P.Plant.state c.args.plant.now in
+    let t = c.args.config.now in
     let v = c.args.v.0 in
     let u = c.fields-then-is_shown_by_source.result.now.source.0 in
     let same = c.in_ok-opened.ensures.same in

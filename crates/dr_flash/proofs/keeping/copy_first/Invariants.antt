@@ -16,18 +16,18 @@ use Rattle.dr_flash.proofs.keeping.copy_first.Given as goal
 abbrev pub invariant-loop-place : goal.invariant-loop-place
 invariant-loop-place g l = record {
   -- what ends those that are left ends all
-  left : (r : Rest) (armed : ℕ → Bool) (u : World) (r' : Option Refusal) (ds : List Entry) → Ends armed u r' (world_seen (g.P.Plant.state l.p) l.c r l.j.events) (keeps_from l.c l.v.0 l.t l.place ++ ds)
-      → Ends armed u r' (world_seen (g.P.Plant.state l.fn.p) l.c r l.fn.j.events) (copy_first (ids_of l.c.volumes) l.v.0 l.t ++ ds);
-  rest : IsAtRest (g.P.Plant.state l.p) l.c;
-  fit : RelationsFit (g.P.Plant.state l.p) l.c;
-  unarmed : (q : ℕ) → (g.P.Plant.state l.fn.p).read_fuse q ≡ None → (g.P.Plant.state l.p).read_fuse q ≡ None;
-  faults : (g.P.Plant.state l.p).faults ≡ (g.P.Plant.state l.fn.p).faults;
-  others : (q : ℕ) → copies_from l.v.0 (volume_seen (g.P.Plant.state l.fn.p) l.c q).fields ≡ false → IsAsBefore (g.P.Plant.state l.fn.p) (g.P.Plant.state l.p) l.c q;
-  show : AllShow (g.P.Plant.state l.fn.p) (g.P.Plant.state l.p) l.c;
-  held : HeldBelow (g.P.Plant.state l.fn.p) (g.P.Plant.state l.p) l.c l.v.0 l.t l.place;
-  same_or_held : SameOrHeld (g.P.Plant.state l.fn.p) (g.P.Plant.state l.p) l.c l.t;
-  apart : (q : ℕ) → kept_for l.v.0 (volume_seen (g.P.Plant.state l.fn.p) l.c q).fields ≡ false → IsAsBefore (g.P.Plant.state l.fn.p) (g.P.Plant.state l.p) l.c q;
-  on : (g.P.Plant.state l.p).on ≡ (g.P.Plant.state l.fn.p).on;
-  spare : l.fn.j.spare ≤ l.j.spare + l.place;
-  sum : length l.j.events + l.j.spare ≡ length l.fn.j.events + l.fn.j.spare;
+  left : (r : Rest) (armed : ℕ → Bool) (u : World) (r' : Option Refusal) (ds : List Entry) → Ends armed u r' (world_seen (g.P.Plant.state l.plant) l.config r l.journal.events) (keeps_from l.config l.v.0 l.t l.place ++ ds)
+      → Ends armed u r' (world_seen (g.P.Plant.state l.fn.plant) l.config r l.fn.journal.events) (copy_first (ids_of l.config.volumes) l.v.0 l.t ++ ds);
+  rest : IsAtRest (g.P.Plant.state l.plant) l.config;
+  fit : RelationsFit (g.P.Plant.state l.plant) l.config;
+  unarmed : (q : ℕ) → (g.P.Plant.state l.fn.plant).read_fuse q ≡ None → (g.P.Plant.state l.plant).read_fuse q ≡ None;
+  faults : (g.P.Plant.state l.plant).faults ≡ (g.P.Plant.state l.fn.plant).faults;
+  others : (q : ℕ) → copies_from l.v.0 (volume_seen (g.P.Plant.state l.fn.plant) l.config q).fields ≡ false → IsAsBefore (g.P.Plant.state l.fn.plant) (g.P.Plant.state l.plant) l.config q;
+  show : AllShow (g.P.Plant.state l.fn.plant) (g.P.Plant.state l.plant) l.config;
+  held : HeldBelow (g.P.Plant.state l.fn.plant) (g.P.Plant.state l.plant) l.config l.v.0 l.t l.place;
+  same_or_held : SameOrHeld (g.P.Plant.state l.fn.plant) (g.P.Plant.state l.plant) l.config l.t;
+  apart : (q : ℕ) → kept_for l.v.0 (volume_seen (g.P.Plant.state l.fn.plant) l.config q).fields ≡ false → IsAsBefore (g.P.Plant.state l.fn.plant) (g.P.Plant.state l.plant) l.config q;
+  on : (g.P.Plant.state l.plant).on ≡ (g.P.Plant.state l.fn.plant).on;
+  spare : l.fn.journal.spare ≤ l.journal.spare + l.place;
+  sum : length l.journal.events + l.journal.spare ≡ length l.fn.journal.events + l.fn.journal.spare;
 }

@@ -9,10 +9,10 @@ same None = refl
 same (Some n) = refl
 
 pub unwrap-requires : goal.unwrap-requires
-unwrap-requires c = looked-up c.args.c.now c.args.v.0 (λ (n : ℕ). n) (λ (e : VolumeEntry). e.tracks) c.tracks_of.result c.requires.defined (same c.tracks_of.result ∙ c.tracks_of.ensures.value)
+unwrap-requires c = looked-up c.args.config.now c.args.v.0 (λ (n : ℕ). n) (λ (e : VolumeEntry). e.tracks) c.tracks_of.result c.requires.defined (same c.tracks_of.result ∙ c.tracks_of.ensures.value)
 
 pub returns-clause-seen : goal.returns-clause-seen
 returns-clause-seen c s =
-    let t = c.args.c.now in
+    let t = c.args.config.now in
     (entry-found t c.args.v.0 c.requires.defined).3 s
     ∙ found-is t c.args.v.0 (λ (n : ℕ). n) (λ (e : VolumeEntry). e.tracks) c.tracks_of.result c.unwrap.result c.requires.defined (same c.tracks_of.result ∙ c.tracks_of.ensures.value) c.unwrap.ensures

@@ -3,12 +3,12 @@ use Rattle.std.specs.Prelude.{if◌then◌else◌}
 use Rattle.std.specs.List.{list_any}
 use Rattle.dr_config.specs.declared.entries.VolumeEntry.{VolumeEntry}
 use Rattle.dr_model.specs.Entries.{is_revertible, is_reversing}
-use Rattle.dr_volume.specs.declared.head.Head.{Head}
-use Rattle.dr_volume.specs.Head.{head_of}
+use Rattle.dr_volume.specs.declared.head.Relation.{Relation}
+use Rattle.dr_volume.specs.Head.{head_of, relation_in}
 use Rattle.dr_volume.specs.View.{volume_seen}
 use Rattle.dr_volume.proofs.HeadLaws.{entry-there}
-use Rattle.dr_flash.specs.Heads.{targets_by}
-use Rattle.dr_flash.proofs.HeadLemmas.{head-there}
+use Rattle.dr_flash.specs.Heads.{copies_by}
+use Rattle.dr_flash.proofs.HeadLemmas.{relation-there}
 use Rattle.dr_flash.proofs.StandingLemmas.{targets_from, count-next, any-next, any-turn}
 use Rattle.dr_flash.proofs.standing.look_at_targets.Goals as goal
 
@@ -16,31 +16,31 @@ small : (b : Bool) (n m i : ℕ) → m ≡ n + (if b then 1 else 0) → n ≤ i 
 small true n m i e h = omega (arith, e, h)
 small false n m i e h = omega (arith, e, h)
 
-pub peek_head_at-requires-clause-there : goal.peek_head_at-requires-clause-there
-peek_head_at-requires-clause-there g c = let e = c.volumes-place-end.ensures.count in let f = c.loop-place-test.true in omega (arith, e, f)
+pub peek_relation_at-requires-clause-there : goal.peek_relation_at-requires-clause-there
+peek_relation_at-requires-clause-there g c = let e = c.volumes-place-end.ensures.count in let f = c.loop-place-test.true in omega (arith, e, f)
 
 pub loop-place-preserved : goal.loop-place-preserved
 loop-place-preserved g c =
-    let s = g.P.Plant.state c.args.p.now in
-    let t = c.args.c.now in
+    let s = g.P.Plant.state c.args.plant.now in
+    let t = c.args.config.now in
     let v = c.args.v.0 in
     let i = c.loop-place.place in
     let e = entry-there t i (let e = c.volumes-place-end.ensures.count in let f = c.loop-place-test.true in omega (arith, e, f)) in
     let u = e.0.id in
     let at : Some u ≡ option_map (λ (e : VolumeEntry). e.id) (slice_get t.volumes i) = sym (ap (option_map (λ (e : VolumeEntry). e.id)) e.1) in
-    let shows : c.peek_head_at.result ≡ head_of (volume_seen s t u).fields = head-there s t u i c.peek_head_at.result (c.volumes-place-end.ensures.sound.volume i e.0 e.1).own c.peek_head_at.ensures in
+    let shows : c.peek_relation_at.result ≡ relation_in (head_of (volume_seen s t u).fields) = relation-there s t u i c.peek_relation_at.result (c.volumes-place-end.ensures.sound.volume i e.0 e.1).own c.peek_relation_at.ensures in
     record {
       count =
-          let n = ap {B = ℕ} (λ (h : Head). if targets_by v h then 1 else 0) shows in
+          let n = ap {B = ℕ} (λ (h : Relation). if copies_by v h then 1 else 0) shows in
           let a = c.one_more-all.ensures.count in
           let b = count-next s t v i u at in
           let h = c.loop-place.invariant.count in
           omega (arith, n, a, b, h);
       revertible = any-turn c.loop-place.all.revertible _ c.one_more-all.result.revertible _ _ _ c.one_more-all.ensures.revertible
-          (any-next s t v i u at is_revertible ∙ ap (λ (h : Head). (targets_by v h && h.revertible) || list_any (λ u. is_revertible (volume_seen s t u).fields) (targets_from s t v (i + 1))) (sym shows))
+          (any-next s t v i u at is_revertible ∙ ap (λ (h : Relation). (copies_by v h && h.revertible) || list_any (λ u. is_revertible (volume_seen s t u).fields) (targets_from s t v (i + 1))) (sym shows))
           c.loop-place.invariant.revertible;
       reversing = any-turn c.loop-place.all.reversing _ c.one_more-all.result.reversing _ _ _ c.one_more-all.ensures.reversing
-          (any-next s t v i u at is_reversing ∙ ap (λ (h : Head). (targets_by v h && h.reversing) || list_any (λ u. is_reversing (volume_seen s t u).fields) (targets_from s t v (i + 1))) (sym shows))
+          (any-next s t v i u at is_reversing ∙ ap (λ (h : Relation). (copies_by v h && h.reversing) || list_any (λ u. is_reversing (volume_seen s t u).fields) (targets_from s t v (i + 1))) (sym shows))
           c.loop-place.invariant.reversing;
-      few = small (targets_by v c.peek_head_at.result) _ c.one_more-all.result.count i c.one_more-all.ensures.count c.loop-place.invariant.few;
+      few = small (copies_by v c.peek_relation_at.result) _ c.one_more-all.result.count i c.one_more-all.ensures.count c.loop-place.invariant.few;
     }

@@ -8,5 +8,5 @@ pub returns-clause-refusal : goal.returns-clause-refusal
 returns-clause-refusal g c r events =
     ap (λ (x : RelSeen). RelationState c.args.v x)
     (c.relation_by.ensures
-    ∙ relation-is (g.P.Plant.state c.args.p.now) c.args.c.now r events c.args.v.0 c.peek_head-head.result c.look_at_targets.result c.peek_head-head.ensures
+    ∙ relation-is (g.P.Plant.state c.args.plant.now) c.args.config.now r events c.args.v.0 c.peek_head-head.result c.look_at_targets.result c.peek_head-head.ensures
     c.look_at_targets.ensures.count c.look_at_targets.ensures.revertible c.look_at_targets.ensures.reversing)

@@ -6,6 +6,6 @@ use Rattle.dr_flash.proofs.told.tell_blank.Given as goal
 abbrev pub invariant-loop-track : goal.invariant-loop-track
 invariant-loop-track l = record {
   -- with those that are left the journal tells all
-  events : l.j.events ++ blanked_from l.volume l.tracks l.own l.track ≡ l.fn.j.events ++ told_blank l.volume l.tracks l.own;
-  spare : l.fn.j.spare + length (blanked_from l.volume l.tracks l.own l.track) ≡ l.j.spare + length (told_blank l.volume l.tracks l.own);
+  events : l.journal.events ++ blanked_from l.volume l.tracks l.own l.track ≡ l.fn.journal.events ++ told_blank l.volume l.tracks l.own;
+  spare : l.fn.journal.spare + length (blanked_from l.volume l.tracks l.own l.track) ≡ l.journal.spare + length (told_blank l.volume l.tracks l.own);
 }

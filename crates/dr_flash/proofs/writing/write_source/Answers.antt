@@ -8,5 +8,5 @@ use Rattle.dr_flash.proofs.writing.write_source.Goals as goal
 
 pub returns-clause-carried : goal.returns-clause-carried
 returns-clause-carried g c =
-    subst (λ told. (r : Rest) → EndsThen (armed_in (g.P.Plant.state c.args.p.now)) (world_seen (g.P.Plant.state c.args.p.now) c.args.c.now r c.args.j.now.events) (copy_first (ids_of c.args.c.now.volumes) c.args.v.0 c.args.t) (world_seen (g.P.Plant.state c.write_source_telling.new.p) c.args.c.now r c.write_source_telling.new.j.events) (refusal_of c.write_source_telling.result)
-    (λ w. MadeFrom (armed_in (g.P.Plant.state c.args.p.now)) w c.args.v.0 (plain c.args.next.now) (Some (c.args.t, c.args.bytes.now)) told (world_seen (g.P.Plant.state c.write_source_telling.new.p) c.args.c.now r c.write_source_telling.new.j.events) (refusal_of c.write_source_telling.result))) c.of.ensures c.write_source_telling.ensures.carried
+    subst (λ told. (r : Rest) → EndsThen (armed_in (g.P.Plant.state c.args.plant.now)) (world_seen (g.P.Plant.state c.args.plant.now) c.args.config.now r c.args.journal.now.events) (copy_first (ids_of c.args.config.now.volumes) c.args.v.0 c.args.t) (world_seen (g.P.Plant.state c.write_source_telling.new.plant) c.args.config.now r c.write_source_telling.new.journal.events) (refusal_of c.write_source_telling.result)
+    (λ w. MadeFrom (armed_in (g.P.Plant.state c.args.plant.now)) w c.args.v.0 (plain c.args.next.now) (Some (c.args.t, c.args.bytes.now)) told (world_seen (g.P.Plant.state c.write_source_telling.new.plant) c.args.config.now r c.write_source_telling.new.journal.events) (refusal_of c.write_source_telling.result))) c.of.ensures c.write_source_telling.ensures.carried

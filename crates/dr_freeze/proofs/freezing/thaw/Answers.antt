@@ -8,34 +8,34 @@ use Rattle.dr_freeze.proofs.freezing.thaw.Goals as goal
 
 pub returns-in-Some-clause-carried : goal.returns-in-Some-clause-carried
 returns-in-Some-clause-carried g c r =
-    c.in-Some.ensures.checked r c.args.j.now.events (armed_in (g.P.Plant.state c.args.p.now)) (thaw_entries (ids_of c.args.c.now.volumes) c.args.l.0 c.args.m.0)
+    c.in-Some.ensures.checked r c.args.journal.now.events (armed_in (g.P.Plant.state c.args.plant.now)) (thaw_entries (ids_of c.args.config.now.volumes) c.args.l.0 c.args.m.0)
 
 pub returns-in-Ok-clause-carried : goal.returns-in-Ok-clause-carried
 returns-in-Ok-clause-carried g c r =
-    let s = g.P.Plant.state c.args.p.now in
-    let u = g.P.Plant.state c.change_all.new.p in
-    let t = c.args.c.now in
-    let last = world_seen u t r c.end_thaw.new.j.events in
-    c.in_default.ensures.checked r c.args.j.now.events (armed_in s) last None (thaw_entries (ids_of t.volumes) c.args.l.0 c.args.m.0)
+    let s = g.P.Plant.state c.args.plant.now in
+    let u = g.P.Plant.state c.change_all.new.plant in
+    let t = c.args.config.now in
+    let last = world_seen u t r c.end_thaw.new.journal.events in
+    c.in_default.ensures.checked r c.args.journal.now.events (armed_in s) last None (thaw_entries (ids_of t.volumes) c.args.l.0 c.args.m.0)
     (c.in-Ok.ensures.leads r (armed_in s) last None (end_thaw c.args.l.0 c.args.m.0 ∷ [])
-    (thaw-ends (armed_in s) u t r c.change_all.new.j.events c.end_thaw.new.j.events c.args.l.0 c.args.m.0 c.end_thaw.ensures.events))
+    (thaw-ends (armed_in s) u t r c.change_all.new.journal.events c.end_thaw.new.journal.events c.args.l.0 c.args.m.0 c.end_thaw.ensures.events))
 
 pub returns-in-Err-clause-carried : goal.returns-in-Err-clause-carried
 returns-in-Err-clause-carried g c r =
-    let s = g.P.Plant.state c.args.p.now in
-    let u = g.P.Plant.state c.change_all.new.p in
-    let t = c.args.c.now in
-    let last = world_seen u t r c.change_all.new.j.events in
-    c.in_default.ensures.checked r c.args.j.now.events (armed_in s) last (Some c.in-Err.why) (thaw_entries (ids_of t.volumes) c.args.l.0 c.args.m.0)
+    let s = g.P.Plant.state c.args.plant.now in
+    let u = g.P.Plant.state c.change_all.new.plant in
+    let t = c.args.config.now in
+    let last = world_seen u t r c.change_all.new.journal.events in
+    c.in_default.ensures.checked r c.args.journal.now.events (armed_in s) last (Some c.in-Err.why) (thaw_entries (ids_of t.volumes) c.args.l.0 c.args.m.0)
     (c.in-Err.ensures.fails r (end_thaw c.args.l.0 c.args.m.0 ∷ []))
 
 pub returns-in-Ok-clause-thawed : goal.returns-in-Ok-clause-thawed
 returns-in-Ok-clause-thawed g c =
-    all-thawed (g.P.Plant.state c.args.p.now) (g.P.Plant.state c.change_all.new.p) c.args.c.now c.args.l.0 c.args.m.0 c.in_default.ensures.sound c.in_default.ensures.running c.in-Ok.ensures.changed
+    all-thawed (g.P.Plant.state c.args.plant.now) (g.P.Plant.state c.change_all.new.plant) c.args.config.now c.args.l.0 c.args.m.0 c.in_default.ensures.sound c.in_default.ensures.running c.in-Ok.ensures.changed
 
 pub returns-in-Err-clause-faults : goal.returns-in-Err-clause-faults
 returns-in-Err-clause-faults g c =
-    subst (λ b. Counted b (g.P.Plant.state c.args.p.now).faults (g.P.Plant.state c.change_all.new.p).faults) (sym c.in-Err.ensures.stops) c.in-Err.ensures.faults
+    subst (λ b. Counted b (g.P.Plant.state c.args.plant.now).faults (g.P.Plant.state c.change_all.new.plant).faults) (sym c.in-Err.ensures.stops) c.in-Err.ensures.faults
 
 pub returns-in-Err-clause-unchanged : goal.returns-in-Err-clause-unchanged
 returns-in-Err-clause-unchanged g c calm = absurd (let no : true ≡ false = sym c.in-Err.ensures.stops ∙ calm in cc)

@@ -14,14 +14,14 @@ use Rattle.dr_freeze.proofs.passing.change_all.Given as goal
 abbrev pub invariant-loop-place : goal.invariant-loop-place
 invariant-loop-place g l = record {
   -- what ends those that are left ends all
-  left : (r : Rest) (armed : ℕ → Bool) (u : World) (r' : Option Refusal) (ds : List Entry) → Ends armed u r' (world_seen (g.P.Plant.state l.p) l.c r l.j.events) (changes_from l.c l.x l.l.0 l.m.0 l.place ++ ds)
-      → Ends armed u r' (world_seen (g.P.Plant.state l.fn.p) l.c r l.fn.j.events) (map (change_on l.x l.l.0 l.m.0) (ids_of l.c.volumes) ++ ds);
-  rest : IsAtRest (g.P.Plant.state l.p) l.c;
-  fit : RelationsFit (g.P.Plant.state l.p) l.c;
-  unarmed : (q : ℕ) → (g.P.Plant.state l.fn.p).read_fuse q ≡ None → (g.P.Plant.state l.p).read_fuse q ≡ None;
-  faults : (g.P.Plant.state l.p).faults ≡ (g.P.Plant.state l.fn.p).faults;
-  still : StillBetween (g.P.Plant.state l.fn.p) (g.P.Plant.state l.p) l.c l.l.0 l.m.0;
-  changed : ChangedBelow l.x (g.P.Plant.state l.fn.p) (g.P.Plant.state l.p) l.c l.l.0 l.m.0 l.place;
-  spare : l.fn.j.spare ≤ l.j.spare + l.place;
-  sum : length l.j.events + l.j.spare ≡ length l.fn.j.events + l.fn.j.spare;
+  left : (r : Rest) (armed : ℕ → Bool) (u : World) (r' : Option Refusal) (ds : List Entry) → Ends armed u r' (world_seen (g.P.Plant.state l.plant) l.config r l.journal.events) (changes_from l.config l.x l.l.0 l.m.0 l.place ++ ds)
+      → Ends armed u r' (world_seen (g.P.Plant.state l.fn.plant) l.config r l.fn.journal.events) (map (change_on l.x l.l.0 l.m.0) (ids_of l.config.volumes) ++ ds);
+  rest : IsAtRest (g.P.Plant.state l.plant) l.config;
+  fit : RelationsFit (g.P.Plant.state l.plant) l.config;
+  unarmed : (q : ℕ) → (g.P.Plant.state l.fn.plant).read_fuse q ≡ None → (g.P.Plant.state l.plant).read_fuse q ≡ None;
+  faults : (g.P.Plant.state l.plant).faults ≡ (g.P.Plant.state l.fn.plant).faults;
+  still : StillBetween (g.P.Plant.state l.fn.plant) (g.P.Plant.state l.plant) l.config l.l.0 l.m.0;
+  changed : ChangedBelow l.x (g.P.Plant.state l.fn.plant) (g.P.Plant.state l.plant) l.config l.l.0 l.m.0 l.place;
+  spare : l.fn.journal.spare ≤ l.journal.spare + l.place;
+  sum : length l.journal.events + l.journal.spare ≡ length l.fn.journal.events + l.fn.journal.spare;
 }

@@ -18,37 +18,37 @@ use Rattle.dr_freeze.proofs.thawing.clear_busy.Goals as goal
 
 pub shift-requires-clause-lawful : goal.shift-requires-clause-lawful
 shift-requires-clause-lawful g c =
-    let s = g.P.Plant.state c.args.p.now in
-    let t = c.args.c.now in
+    let s = g.P.Plant.state c.args.plant.now in
+    let t = c.args.config.now in
     let x = volume_seen s t c.args.v.0 in
     (subst (λ f. MoveFits s t c.args.v.0 f None) (sym (c.thawed-next.ensures ∙ ap thawed c.peek_fields.ensures.fields)) (thaw-fits s t c.args.v.0 c.requires.fit (subst (λ (f : Fields). IsLawful x.tracks f) c.peek_fields.ensures.fields c.peek_fields.ensures.lawful))).lawful
 
 pub shift-requires-clause-leaves : goal.shift-requires-clause-leaves
 shift-requires-clause-leaves g c =
-    let s = g.P.Plant.state c.args.p.now in
-    let t = c.args.c.now in
+    let s = g.P.Plant.state c.args.plant.now in
+    let t = c.args.config.now in
     let x = volume_seen s t c.args.v.0 in
     (subst (λ f. MoveFits s t c.args.v.0 f None) (sym (c.thawed-next.ensures ∙ ap thawed c.peek_fields.ensures.fields)) (thaw-fits s t c.args.v.0 c.requires.fit (subst (λ (f : Fields). IsLawful x.tracks f) c.peek_fields.ensures.fields c.peek_fields.ensures.lawful))).leaves
 
 pub returns-clause-advances : goal.returns-clause-advances
 returns-clause-advances g c =
-    let s = g.P.Plant.state c.args.p.now in
-    let t = c.args.c.now in
+    let s = g.P.Plant.state c.args.plant.now in
+    let t = c.args.config.now in
     let x = volume_seen s t c.args.v.0 in
     ok-along c.shift.result c.shift.ensures.done (λ done r.
-    advances (world_seen s t r c.args.j.now.events) (Thaw c.args.v.0) c.of.result (plain c.thawed-next.result) None (on-running s x.server c.requires.running)
+    advances (world_seen s t r c.args.journal.now.events) (Thaw c.args.v.0) c.of.result (plain c.thawed-next.result) None (on-running s x.server c.requires.running)
     (subst (λ y. Tells (Thaw c.args.v.0) x y) (sym c.of.ensures) (tells-thaw c.args.v.0 x)) (sym (c.thawed-next.ensures ∙ ap thawed c.peek_fields.ensures.fields)) refl
-    (world_seen (g.P.Plant.state c.shift.new.p) t r c.shift.new.j.events) (done r))
+    (world_seen (g.P.Plant.state c.shift.new.plant) t r c.shift.new.journal.events) (done r))
 
 pub returns-clause-halts : goal.returns-clause-halts
 returns-clause-halts g c =
-    let s = g.P.Plant.state c.args.p.now in
-    let t = c.args.c.now in
+    let s = g.P.Plant.state c.args.plant.now in
+    let t = c.args.config.now in
     let x = volume_seen s t c.args.v.0 in
     err-along c.shift.result c.shift.ensures.failed c.shift.ensures.refused (λ failed refused r.
-    halts (world_seen s t r c.args.j.now.events) (Thaw c.args.v.0) c.of.result (plain c.thawed-next.result) None (on-running s x.server c.requires.running)
+    halts (world_seen s t r c.args.journal.now.events) (Thaw c.args.v.0) c.of.result (plain c.thawed-next.result) None (on-running s x.server c.requires.running)
     (subst (λ y. Tells (Thaw c.args.v.0) x y) (sym c.of.ensures) (tells-thaw c.args.v.0 x)) (sym (c.thawed-next.ensures ∙ ap thawed c.peek_fields.ensures.fields)) refl
-    (armed_in s) (world_seen (g.P.Plant.state c.shift.new.p) t r c.shift.new.j.events) (refusal_of c.shift.result) refused (failed r))
+    (armed_in s) (world_seen (g.P.Plant.state c.shift.new.plant) t r c.shift.new.journal.events) (refusal_of c.shift.result) refused (failed r))
 
 pub returns-clause-room_left : goal.returns-clause-room_left
 returns-clause-room_left g c =
@@ -57,6 +57,6 @@ returns-clause-room_left g c =
 
 pub returns-clause-moved : goal.returns-clause-moved
 returns-clause-moved g c =
-    let s = g.P.Plant.state c.args.p.now in
-    let t = c.args.c.now in
-    subst (λ f. OnOk c.shift.result (IsMoved s (g.P.Plant.state c.shift.new.p) t c.args.v.0 f None)) (c.thawed-next.ensures ∙ ap thawed c.peek_fields.ensures.fields) c.shift.ensures.moved
+    let s = g.P.Plant.state c.args.plant.now in
+    let t = c.args.config.now in
+    subst (λ f. OnOk c.shift.result (IsMoved s (g.P.Plant.state c.shift.new.plant) t c.args.v.0 f None)) (c.thawed-next.ensures ∙ ap thawed c.peek_fields.ensures.fields) c.shift.ensures.moved

@@ -11,15 +11,15 @@ use Rattle.dr_gcopy.proofs.checks.free_refusal.Goals as goal
 
 pub returns-then-not-is_unpaired-clause-checked : goal.returns-then-not-is_unpaired-clause-checked
 returns-then-not-is_unpaired-clause-checked g c r events armed ds =
-    refuses armed (world_seen (g.P.Plant.state c.args.p.now) c.args.c.now r events) (stands_free c.args.a.0) (pair_state (world_seen (g.P.Plant.state c.args.p.now) c.args.c.now r events).control c.args.a.0) (Some c.pair_state.result) _ (sym (ap is_unpaired c.peek_fields.ensures.fields) ∙ sym c.is_unpaired.ensures ∙ c.if-not-is_unpaired.true) (ap (λ (x : Refusal). Some x) (c.pair_state.ensures.refusal r events))
+    refuses armed (world_seen (g.P.Plant.state c.args.plant.now) c.args.config.now r events) (stands_free c.args.a.0) (pair_state (world_seen (g.P.Plant.state c.args.plant.now) c.args.config.now r events).control c.args.a.0) (Some c.pair_state.result) _ (sym (ap is_unpaired c.peek_fields.ensures.fields) ∙ sym c.is_unpaired.ensures ∙ c.if-not-is_unpaired.true) (ap (λ (x : Refusal). Some x) (c.pair_state.ensures.refusal r events))
 
 pub returns-then-not-may_follow-clause-checked : goal.returns-then-not-may_follow-clause-checked
 returns-then-not-may_follow-clause-checked g c r events armed ds =
-    ends-passed armed (world_seen (g.P.Plant.state c.args.p.now) c.args.c.now r events) (Some c.pair_state-then-not-may_follow.result) (world_seen (g.P.Plant.state c.args.p.now) c.args.c.now r events) (stands_free c.args.a.0) (pair_state (world_seen (g.P.Plant.state c.args.p.now) c.args.c.now r events).control c.args.a.0) _ (sym (ap is_unpaired c.peek_fields.ensures.fields) ∙ sym c.is_unpaired.ensures ∙ c.if-not-is_unpaired.false)
-    (refuses armed (world_seen (g.P.Plant.state c.args.p.now) c.args.c.now r events) (may_follow c.args.a.0 c.args.b.0) (pair_state (world_seen (g.P.Plant.state c.args.p.now) c.args.c.now r events).control c.args.b.0) (Some c.pair_state-then-not-may_follow.result) _ (ap (λ (f : Fields). not (is_part f.primary) && (not (is_part f.secondary) || nat_eq f.secondary_partner c.args.a.0)) (sym c.peek_fields-2.ensures.fields) ∙ sym c.may_follow.ensures ∙ c.if-not-may_follow.true) (ap (λ (x : Refusal). Some x) (c.pair_state-then-not-may_follow.ensures.refusal r events)))
+    ends-passed armed (world_seen (g.P.Plant.state c.args.plant.now) c.args.config.now r events) (Some c.pair_state-then-not-may_follow.result) (world_seen (g.P.Plant.state c.args.plant.now) c.args.config.now r events) (stands_free c.args.a.0) (pair_state (world_seen (g.P.Plant.state c.args.plant.now) c.args.config.now r events).control c.args.a.0) _ (sym (ap is_unpaired c.peek_fields.ensures.fields) ∙ sym c.is_unpaired.ensures ∙ c.if-not-is_unpaired.false)
+    (refuses armed (world_seen (g.P.Plant.state c.args.plant.now) c.args.config.now r events) (may_follow c.args.a.0 c.args.b.0) (pair_state (world_seen (g.P.Plant.state c.args.plant.now) c.args.config.now r events).control c.args.b.0) (Some c.pair_state-then-not-may_follow.result) _ (ap (λ (f : Fields). not (is_part f.primary) && (not (is_part f.secondary) || nat_eq f.secondary_partner c.args.a.0)) (sym c.peek_fields-2.ensures.fields) ∙ sym c.may_follow.ensures ∙ c.if-not-may_follow.true) (ap (λ (x : Refusal). Some x) (c.pair_state-then-not-may_follow.ensures.refusal r events)))
 
 pub returns-clause-checked : goal.returns-clause-checked
 returns-clause-checked g c r events armed u r' ds more =
-    ends-passed armed u r' (world_seen (g.P.Plant.state c.args.p.now) c.args.c.now r events) (stands_free c.args.a.0) (pair_state (world_seen (g.P.Plant.state c.args.p.now) c.args.c.now r events).control c.args.a.0) _ (sym (ap is_unpaired c.peek_fields.ensures.fields) ∙ sym c.is_unpaired.ensures ∙ c.if-not-is_unpaired.false)
-    (ends-passed armed u r' (world_seen (g.P.Plant.state c.args.p.now) c.args.c.now r events) (may_follow c.args.a.0 c.args.b.0) (pair_state (world_seen (g.P.Plant.state c.args.p.now) c.args.c.now r events).control c.args.b.0) _ (ap (λ (f : Fields). not (is_part f.primary) && (not (is_part f.secondary) || nat_eq f.secondary_partner c.args.a.0)) (sym c.peek_fields-2.ensures.fields) ∙ sym c.may_follow.ensures ∙ c.if-not-may_follow.false)
+    ends-passed armed u r' (world_seen (g.P.Plant.state c.args.plant.now) c.args.config.now r events) (stands_free c.args.a.0) (pair_state (world_seen (g.P.Plant.state c.args.plant.now) c.args.config.now r events).control c.args.a.0) _ (sym (ap is_unpaired c.peek_fields.ensures.fields) ∙ sym c.is_unpaired.ensures ∙ c.if-not-is_unpaired.false)
+    (ends-passed armed u r' (world_seen (g.P.Plant.state c.args.plant.now) c.args.config.now r events) (may_follow c.args.a.0 c.args.b.0) (pair_state (world_seen (g.P.Plant.state c.args.plant.now) c.args.config.now r events).control c.args.b.0) _ (ap (λ (f : Fields). not (is_part f.primary) && (not (is_part f.secondary) || nat_eq f.secondary_partner c.args.a.0)) (sym c.peek_fields-2.ensures.fields) ∙ sym c.may_follow.ensures ∙ c.if-not-may_follow.false)
     (more))

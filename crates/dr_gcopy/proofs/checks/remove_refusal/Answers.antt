@@ -15,11 +15,11 @@ returns-in-Some-clause-checked g c r events armed ds =
 
 pub returns-then-not-is_primary_of-clause-checked : goal.returns-then-not-is_primary_of-clause-checked
 returns-then-not-is_primary_of-clause-checked g c r events armed ds =
-    c.in_default.ensures.checked r events armed (world_seen (g.P.Plant.state c.args.p.now) c.args.c.now r events) (Some c.pair_state.result) _
-    (refuses armed (world_seen (g.P.Plant.state c.args.p.now) c.args.c.now r events) (leads_to c.args.a.0 c.args.b.0) (pair_state (world_seen (g.P.Plant.state c.args.p.now) c.args.c.now r events).control c.args.a.0) (Some c.pair_state.result) _ (ap (λ (f : Fields). is_primary_of c.args.b.0 f) (sym c.peek_fields.ensures.fields) ∙ sym c.is_primary_of.ensures ∙ c.if-not-is_primary_of.true) (ap (λ (x : Refusal). Some x) (c.pair_state.ensures.refusal r events)))
+    c.in_default.ensures.checked r events armed (world_seen (g.P.Plant.state c.args.plant.now) c.args.config.now r events) (Some c.pair_state.result) _
+    (refuses armed (world_seen (g.P.Plant.state c.args.plant.now) c.args.config.now r events) (leads_to c.args.a.0 c.args.b.0) (pair_state (world_seen (g.P.Plant.state c.args.plant.now) c.args.config.now r events).control c.args.a.0) (Some c.pair_state.result) _ (ap (λ (f : Fields). is_primary_of c.args.b.0 f) (sym c.peek_fields.ensures.fields) ∙ sym c.is_primary_of.ensures ∙ c.if-not-is_primary_of.true) (ap (λ (x : Refusal). Some x) (c.pair_state.ensures.refusal r events)))
 
 pub returns-clause-checked : goal.returns-clause-checked
 returns-clause-checked g c r events armed u r' ds more =
     c.in_default.ensures.checked r events armed u r' _
-    (ends-passed armed u r' (world_seen (g.P.Plant.state c.args.p.now) c.args.c.now r events) (leads_to c.args.a.0 c.args.b.0) (pair_state (world_seen (g.P.Plant.state c.args.p.now) c.args.c.now r events).control c.args.a.0) _ (ap (λ (f : Fields). is_primary_of c.args.b.0 f) (sym c.peek_fields.ensures.fields) ∙ sym c.is_primary_of.ensures ∙ c.if-not-is_primary_of.false)
+    (ends-passed armed u r' (world_seen (g.P.Plant.state c.args.plant.now) c.args.config.now r events) (leads_to c.args.a.0 c.args.b.0) (pair_state (world_seen (g.P.Plant.state c.args.plant.now) c.args.config.now r events).control c.args.a.0) _ (ap (λ (f : Fields). is_primary_of c.args.b.0 f) (sym c.peek_fields.ensures.fields) ∙ sym c.is_primary_of.ensures ∙ c.if-not-is_primary_of.false)
     (more))

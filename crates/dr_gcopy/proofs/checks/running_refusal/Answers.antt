@@ -10,9 +10,9 @@ use Rattle.dr_volume.proofs.WorldLaws.{on-seen}
 
 pub returns-then-not-is_on-clause-checked : goal.returns-then-not-is_on-clause-checked
 returns-then-not-is_on-clause-checked g c r events armed ds =
-    refuses armed (world_seen (g.P.Plant.state c.args.p.now) c.args.c.now r events) (is_running c.args.v.0) (server_off (volume_seen (g.P.Plant.state c.args.p.now) c.args.c.now c.args.v.0).server) _ _ (ap (on_seen (g.P.Plant.state c.args.p.now)) (c.server_of-server.ensures.seen (g.P.Plant.state c.args.p.now)) ∙ on-seen (g.P.Plant.state c.args.p.now) c.server_of-server.result.0 c.server_of-server.ensures.known ∙ sym c.is_on.ensures ∙ c.if-not-is_on.true) (ap (λ n. Some (server_off n)) (sym (c.server_of-server.ensures.seen (g.P.Plant.state c.args.p.now))))
+    refuses armed (world_seen (g.P.Plant.state c.args.plant.now) c.args.config.now r events) (is_running c.args.v.0) (server_off (volume_seen (g.P.Plant.state c.args.plant.now) c.args.config.now c.args.v.0).server) _ _ (ap (on_seen (g.P.Plant.state c.args.plant.now)) (c.server_of-server.ensures.seen (g.P.Plant.state c.args.plant.now)) ∙ on-seen (g.P.Plant.state c.args.plant.now) c.server_of-server.result.0 c.server_of-server.ensures.known ∙ sym c.is_on.ensures ∙ c.if-not-is_on.true) (ap (λ n. Some (server_off n)) (sym (c.server_of-server.ensures.seen (g.P.Plant.state c.args.plant.now))))
 
 pub returns-clause-checked : goal.returns-clause-checked
 returns-clause-checked g c r events armed u r' ds more =
-    ends-passed armed u r' (world_seen (g.P.Plant.state c.args.p.now) c.args.c.now r events) (is_running c.args.v.0) (server_off (volume_seen (g.P.Plant.state c.args.p.now) c.args.c.now c.args.v.0).server) _ (ap (on_seen (g.P.Plant.state c.args.p.now)) (c.server_of-server.ensures.seen (g.P.Plant.state c.args.p.now)) ∙ on-seen (g.P.Plant.state c.args.p.now) c.server_of-server.result.0 c.server_of-server.ensures.known ∙ sym c.is_on.ensures ∙ c.if-not-is_on.false)
+    ends-passed armed u r' (world_seen (g.P.Plant.state c.args.plant.now) c.args.config.now r events) (is_running c.args.v.0) (server_off (volume_seen (g.P.Plant.state c.args.plant.now) c.args.config.now c.args.v.0).server) _ (ap (on_seen (g.P.Plant.state c.args.plant.now)) (c.server_of-server.ensures.seen (g.P.Plant.state c.args.plant.now)) ∙ on-seen (g.P.Plant.state c.args.plant.now) c.server_of-server.result.0 c.server_of-server.ensures.known ∙ sym c.is_on.ensures ∙ c.if-not-is_on.false)
     (more)

@@ -6,7 +6,7 @@ use Rattle.dr_gcopy.proofs.compare.compare_group.Goals as goal
 
 pub returns-in_err-read_group-2-clause-same : goal.returns-in_err-read_group-2-clause-same
 returns-in_err-read_group-2-clause-same g c u =
-    subst (λ s. IsAsBefore s (g.P.Plant.state c.read_group-2.new.p) c.args.c.now u) c.in_ok-read_group.ensures.passed (c.in_err-read_group-2.ensures.same u)
+    subst (λ s. IsAsBefore s (g.P.Plant.state c.read_group-2.new.plant) c.args.config.now u) c.in_ok-read_group.ensures.passed (c.in_err-read_group-2.ensures.same u)
 
 pub overflow_cast-result : goal.overflow_cast-result
 overflow_cast-result g c =
@@ -25,16 +25,16 @@ overflow_add-result g c =
 
 pub returns-in-Some-clause-found : goal.returns-in-Some-clause-found
 returns-in-Some-clause-found g c =
-    let t = c.args.c.now in
+    let t = c.args.config.now in
     let b = c.args.b.0 in
-    group-found (track_seen (g.P.Plant.state c.args.p.now) t) c.args.a.0 b c.args.from (length c.args.first.now) c.read_group.new.into c.read_group-2.new.into c.in_ok-read_group.ensures.size c.in_ok-read_group.ensures.bytes
+    group-found (track_seen (g.P.Plant.state c.args.plant.now) t) c.args.a.0 b c.args.from (length c.args.first.now) c.read_group.new.into c.read_group-2.new.into c.in_ok-read_group.ensures.size c.in_ok-read_group.ensures.bytes
     (λ k low. c.in_ok-read_group-2.ensures.bytes k (let alike = c.requires.alike in omega arith) ∙ ap (λ s. track_seen s t b (c.args.from + k)) c.in_ok-read_group.ensures.passed)
     c.in-Some.k c.in-Some.ensures
 
 pub returns-in-None-clause-found : goal.returns-in-None-clause-found
 returns-in-None-clause-found g c =
-    let t = c.args.c.now in
+    let t = c.args.config.now in
     let b = c.args.b.0 in
-    group-none (track_seen (g.P.Plant.state c.args.p.now) t) c.args.a.0 b c.args.from (length c.args.first.now) c.read_group.new.into c.read_group-2.new.into c.in_ok-read_group.ensures.size c.in_ok-read_group.ensures.bytes
+    group-none (track_seen (g.P.Plant.state c.args.plant.now) t) c.args.a.0 b c.args.from (length c.args.first.now) c.read_group.new.into c.read_group-2.new.into c.in_ok-read_group.ensures.size c.in_ok-read_group.ensures.bytes
     (λ k low. c.in_ok-read_group-2.ensures.bytes k (let alike = c.requires.alike in omega arith) ∙ ap (λ s. track_seen s t b (c.args.from + k)) c.in_ok-read_group.ensures.passed)
     c.in-None.ensures

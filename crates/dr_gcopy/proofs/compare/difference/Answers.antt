@@ -8,14 +8,14 @@ use Rattle.dr_gcopy.proofs.compare.difference.Goals as goal
 
 pub returns-in_err-found-clause-same : goal.returns-in_err-found-clause-same
 returns-in_err-found-clause-same g c u =
-    subst (λ s. IsAsBefore s (g.P.Plant.state c.group_difference.new.p) c.args.c.now u) c.loop-at.invariant.plant (c.in_err-found.ensures.same u)
+    subst (λ s. IsAsBefore s (g.P.Plant.state c.group_difference.new.plant) c.args.config.now u) c.loop-at.invariant.plant (c.in_err-found.ensures.same u)
 
 pub returns-then-is_some-clause-found : goal.returns-then-is_some-clause-found
 returns-then-is_some-clause-found g c =
-    let s = g.P.Plant.state c.args.p.now in
+    let s = g.P.Plant.state c.args.plant.now in
     let a = c.args.a.0 in
     let b = c.args.b.0 in
-    let t = c.args.c.now in
+    let t = c.args.config.now in
     found-here (track_seen s t) a b c.tracks_of-tracks.result c.loop-at.at c.min-count.result (omega arith) c.loop-at.invariant.left c.in_ok-found.found
     (c.in_ok-found.ensures.found ∙ ap (λ u. first_from (track_seen u t) a b c.loop-at.at c.min-count.result) c.loop-at.invariant.plant)
     (sym c.is_some.ensures ∙ c.if-is_some.true)
@@ -23,16 +23,16 @@ returns-then-is_some-clause-found g c =
 
 pub returns-then-is_some-clause-low : goal.returns-then-is_some-clause-low
 returns-then-is_some-clause-low g c k is =
-    let s = g.P.Plant.state c.args.p.now in
+    let s = g.P.Plant.state c.args.plant.now in
     let found = returns-then-is_some-clause-found g c in
-    differing-low (track_seen s c.args.c.now) (volume_seen s c.args.c.now c.args.a.0).tracks c.args.a.0 c.args.b.0 k (sym found ∙ is)
+    differing-low (track_seen s c.args.config.now) (volume_seen s c.args.config.now c.args.a.0).tracks c.args.a.0 c.args.b.0 k (sym found ∙ is)
 
 pub loop-at-preserved : goal.loop-at-preserved
 loop-at-preserved g c =
-    let s = g.P.Plant.state c.args.p.now in
+    let s = g.P.Plant.state c.args.plant.now in
     let a = c.args.a.0 in
     let b = c.args.b.0 in
-    let t = c.args.c.now in
+    let t = c.args.config.now in
     record {
       plant = c.in_ok-found.ensures.passed ∙ c.loop-at.invariant.plant;
       journal = c.in_ok-found.ensures.silent ∙ c.loop-at.invariant.journal;

@@ -5,8 +5,8 @@ use Rattle.dr_gcopy.proofs.compare.read_group.Given as goal
 
 abbrev pub invariant-loop-k : goal.invariant-loop-k
 invariant-loop-k g l = record {
-  plant : g.P.Plant.state l.p ≡ g.P.Plant.state l.fn.p;
-  journal : l.j ≡ l.fn.j;
+  plant : g.P.Plant.state l.plant ≡ g.P.Plant.state l.fn.plant;
+  journal : l.journal ≡ l.fn.journal;
   size : length l.into ≡ length l.fn.into;
-  bytes : (i : ℕ) → i < l.k → slice_index_or l.into i [] ≡ track_seen (g.P.Plant.state l.fn.p) l.c l.v.0 (l.from + i);
+  bytes : (i : ℕ) → i < l.k → slice_index_or l.into i [] ≡ track_seen (g.P.Plant.state l.fn.plant) l.config l.v.0 (l.from + i);
 }

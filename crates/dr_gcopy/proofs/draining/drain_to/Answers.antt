@@ -16,11 +16,11 @@ use Rattle.dr_logic.proofs.Results.{err-always}
 
 pub returns-then-is_enough-clause-carried : goal.returns-then-is_enough-clause-carried
 returns-then-is_enough-clause-carried g c r =
-    record { middle = (world_seen (g.P.Plant.state c.loop-sent.p) c.args.c.now r c.loop-sent.j.events); ends = led (armed_in (g.P.Plant.state c.args.p.now)) (world_seen (g.P.Plant.state c.args.p.now) c.args.c.now r c.args.j.now.events) (world_seen (g.P.Plant.state c.loop-sent.p) c.args.c.now r c.loop-sent.j.events) (sends (ids_of c.args.c.now.volumes) c.args.a.0 c.args.b.0 (tracks_to_send c.args.most c.args.n c.args.out_of_sync.now)) (subst (λ ts. Leads (world_seen (g.P.Plant.state c.args.p.now) c.args.c.now r c.args.j.now.events) (sends (ids_of c.args.c.now.volumes) c.args.a.0 c.args.b.0 ts) (world_seen (g.P.Plant.state c.loop-sent.p) c.args.c.now r c.loop-sent.j.events)) (all-sent c.args.n c.args.out_of_sync.now c.loop-sent.sent c.args.most c.loop-sent.invariant.within (inl (sym c.is_enough.ensures ∙ c.if-is_enough.true))) (c.loop-sent.invariant.led r)); followed = refl }
+    record { middle = (world_seen (g.P.Plant.state c.loop-sent.plant) c.args.config.now r c.loop-sent.journal.events); ends = led (armed_in (g.P.Plant.state c.args.plant.now)) (world_seen (g.P.Plant.state c.args.plant.now) c.args.config.now r c.args.journal.now.events) (world_seen (g.P.Plant.state c.loop-sent.plant) c.args.config.now r c.loop-sent.journal.events) (sends (ids_of c.args.config.now.volumes) c.args.a.0 c.args.b.0 (tracks_to_send c.args.most c.args.n c.args.out_of_sync.now)) (subst (λ ts. Leads (world_seen (g.P.Plant.state c.args.plant.now) c.args.config.now r c.args.journal.now.events) (sends (ids_of c.args.config.now.volumes) c.args.a.0 c.args.b.0 ts) (world_seen (g.P.Plant.state c.loop-sent.plant) c.args.config.now r c.loop-sent.journal.events)) (all-sent c.args.n c.args.out_of_sync.now c.loop-sent.sent c.args.most c.loop-sent.invariant.within (inl (sym c.is_enough.ensures ∙ c.if-is_enough.true))) (c.loop-sent.invariant.led r)); followed = refl }
 
 pub returns-then-is_enough-clause-leads : goal.returns-then-is_enough-clause-leads
 returns-then-is_enough-clause-leads g c r =
-    subst (λ ts. Leads (world_seen (g.P.Plant.state c.args.p.now) c.args.c.now r c.args.j.now.events) (sends (ids_of c.args.c.now.volumes) c.args.a.0 c.args.b.0 ts) (world_seen (g.P.Plant.state c.loop-sent.p) c.args.c.now r c.loop-sent.j.events)) (all-sent c.args.n c.args.out_of_sync.now c.loop-sent.sent c.args.most c.loop-sent.invariant.within (inl (sym c.is_enough.ensures ∙ c.if-is_enough.true))) (c.loop-sent.invariant.led r)
+    subst (λ ts. Leads (world_seen (g.P.Plant.state c.args.plant.now) c.args.config.now r c.args.journal.now.events) (sends (ids_of c.args.config.now.volumes) c.args.a.0 c.args.b.0 ts) (world_seen (g.P.Plant.state c.loop-sent.plant) c.args.config.now r c.loop-sent.journal.events)) (all-sent c.args.n c.args.out_of_sync.now c.loop-sent.sent c.args.most c.loop-sent.invariant.within (inl (sym c.is_enough.ensures ∙ c.if-is_enough.true))) (c.loop-sent.invariant.led r)
 
 pub returns-then-is_enough-clause-count : goal.returns-then-is_enough-clause-count
 returns-then-is_enough-clause-count g c =
@@ -28,17 +28,17 @@ returns-then-is_enough-clause-count g c =
 
 pub returns-then-is_enough-clause-room : goal.returns-then-is_enough-clause-room
 returns-then-is_enough-clause-room g c =
-    let h = c.requires.room c.loop-sent.sent (record { issued = 0; pending = []; sessions = []; events = [] }) (world_seen (g.P.Plant.state c.loop-sent.p) c.args.c.now (record { issued = 0; pending = []; sessions = []; events = [] }) c.loop-sent.j.events) (c.loop-sent.invariant.led (record { issued = 0; pending = []; sessions = []; events = [] })) in
+    let h = c.requires.room c.loop-sent.sent (record { issued = 0; pending = []; sessions = []; events = [] }) (world_seen (g.P.Plant.state c.loop-sent.plant) c.args.config.now (record { issued = 0; pending = []; sessions = []; events = [] }) c.loop-sent.journal.events) (c.loop-sent.invariant.led (record { issued = 0; pending = []; sessions = []; events = [] })) in
     let sum = c.loop-sent.invariant.spare in
     omega (arith, h, sum)
 
 pub returns-in_default-clause-carried : goal.returns-in_default-clause-carried
 returns-in_default-clause-carried g c r =
-    record { middle = (world_seen (g.P.Plant.state c.loop-sent.p) c.args.c.now r c.loop-sent.j.events); ends = led (armed_in (g.P.Plant.state c.args.p.now)) (world_seen (g.P.Plant.state c.args.p.now) c.args.c.now r c.args.j.now.events) (world_seen (g.P.Plant.state c.loop-sent.p) c.args.c.now r c.loop-sent.j.events) (sends (ids_of c.args.c.now.volumes) c.args.a.0 c.args.b.0 (tracks_to_send c.args.most c.args.n c.args.out_of_sync.now)) (subst (λ ts. Leads (world_seen (g.P.Plant.state c.args.p.now) c.args.c.now r c.args.j.now.events) (sends (ids_of c.args.c.now.volumes) c.args.a.0 c.args.b.0 ts) (world_seen (g.P.Plant.state c.loop-sent.p) c.args.c.now r c.loop-sent.j.events)) (all-sent c.args.n c.args.out_of_sync.now c.loop-sent.sent c.args.most c.loop-sent.invariant.within (inr (c.loop-sent.invariant.left ∙ first-none (in_order c.args.n c.loop-sent.left) c.in_default.ensures.lowest))) (c.loop-sent.invariant.led r)); followed = refl }
+    record { middle = (world_seen (g.P.Plant.state c.loop-sent.plant) c.args.config.now r c.loop-sent.journal.events); ends = led (armed_in (g.P.Plant.state c.args.plant.now)) (world_seen (g.P.Plant.state c.args.plant.now) c.args.config.now r c.args.journal.now.events) (world_seen (g.P.Plant.state c.loop-sent.plant) c.args.config.now r c.loop-sent.journal.events) (sends (ids_of c.args.config.now.volumes) c.args.a.0 c.args.b.0 (tracks_to_send c.args.most c.args.n c.args.out_of_sync.now)) (subst (λ ts. Leads (world_seen (g.P.Plant.state c.args.plant.now) c.args.config.now r c.args.journal.now.events) (sends (ids_of c.args.config.now.volumes) c.args.a.0 c.args.b.0 ts) (world_seen (g.P.Plant.state c.loop-sent.plant) c.args.config.now r c.loop-sent.journal.events)) (all-sent c.args.n c.args.out_of_sync.now c.loop-sent.sent c.args.most c.loop-sent.invariant.within (inr (c.loop-sent.invariant.left ∙ first-none (in_order c.args.n c.loop-sent.left) c.in_default.ensures.lowest))) (c.loop-sent.invariant.led r)); followed = refl }
 
 pub returns-in_default-clause-leads : goal.returns-in_default-clause-leads
 returns-in_default-clause-leads g c r =
-    subst (λ ts. Leads (world_seen (g.P.Plant.state c.args.p.now) c.args.c.now r c.args.j.now.events) (sends (ids_of c.args.c.now.volumes) c.args.a.0 c.args.b.0 ts) (world_seen (g.P.Plant.state c.loop-sent.p) c.args.c.now r c.loop-sent.j.events)) (all-sent c.args.n c.args.out_of_sync.now c.loop-sent.sent c.args.most c.loop-sent.invariant.within (inr (c.loop-sent.invariant.left ∙ first-none (in_order c.args.n c.loop-sent.left) c.in_default.ensures.lowest))) (c.loop-sent.invariant.led r)
+    subst (λ ts. Leads (world_seen (g.P.Plant.state c.args.plant.now) c.args.config.now r c.args.journal.now.events) (sends (ids_of c.args.config.now.volumes) c.args.a.0 c.args.b.0 ts) (world_seen (g.P.Plant.state c.loop-sent.plant) c.args.config.now r c.loop-sent.journal.events)) (all-sent c.args.n c.args.out_of_sync.now c.loop-sent.sent c.args.most c.loop-sent.invariant.within (inr (c.loop-sent.invariant.left ∙ first-none (in_order c.args.n c.loop-sent.left) c.in_default.ensures.lowest))) (c.loop-sent.invariant.led r)
 
 pub returns-in_default-clause-count : goal.returns-in_default-clause-count
 returns-in_default-clause-count g c =
@@ -46,17 +46,17 @@ returns-in_default-clause-count g c =
 
 pub returns-in_default-clause-room : goal.returns-in_default-clause-room
 returns-in_default-clause-room g c =
-    let h = c.requires.room c.loop-sent.sent (record { issued = 0; pending = []; sessions = []; events = [] }) (world_seen (g.P.Plant.state c.loop-sent.p) c.args.c.now (record { issued = 0; pending = []; sessions = []; events = [] }) c.loop-sent.j.events) (c.loop-sent.invariant.led (record { issued = 0; pending = []; sessions = []; events = [] })) in
+    let h = c.requires.room c.loop-sent.sent (record { issued = 0; pending = []; sessions = []; events = [] }) (world_seen (g.P.Plant.state c.loop-sent.plant) c.args.config.now (record { issued = 0; pending = []; sessions = []; events = [] }) c.loop-sent.journal.events) (c.loop-sent.invariant.led (record { issued = 0; pending = []; sessions = []; events = [] })) in
     let sum = c.loop-sent.invariant.spare in
     omega (arith, h, sum)
 
 pub returns-clause-carried : goal.returns-clause-carried
 returns-clause-carried g c r =
-    record { middle = (world_seen (g.P.Plant.state c.loop-sent.p) c.args.c.now r c.loop-sent.j.events); ends = led (armed_in (g.P.Plant.state c.args.p.now)) (world_seen (g.P.Plant.state c.args.p.now) c.args.c.now r c.args.j.now.events) (world_seen (g.P.Plant.state c.loop-sent.p) c.args.c.now r c.loop-sent.j.events) (sends (ids_of c.args.c.now.volumes) c.args.a.0 c.args.b.0 (tracks_to_send c.args.most c.args.n c.args.out_of_sync.now)) (subst (λ ts. Leads (world_seen (g.P.Plant.state c.args.p.now) c.args.c.now r c.args.j.now.events) (sends (ids_of c.args.c.now.volumes) c.args.a.0 c.args.b.0 ts) (world_seen (g.P.Plant.state c.loop-sent.p) c.args.c.now r c.loop-sent.j.events)) (end-sent c.args.n c.args.out_of_sync.now c.loop-sent.sent c.args.most c.loop-sent.invariant.within (let f = c.loop-sent-test.false in omega (arith, f))) (c.loop-sent.invariant.led r)); followed = refl }
+    record { middle = (world_seen (g.P.Plant.state c.loop-sent.plant) c.args.config.now r c.loop-sent.journal.events); ends = led (armed_in (g.P.Plant.state c.args.plant.now)) (world_seen (g.P.Plant.state c.args.plant.now) c.args.config.now r c.args.journal.now.events) (world_seen (g.P.Plant.state c.loop-sent.plant) c.args.config.now r c.loop-sent.journal.events) (sends (ids_of c.args.config.now.volumes) c.args.a.0 c.args.b.0 (tracks_to_send c.args.most c.args.n c.args.out_of_sync.now)) (subst (λ ts. Leads (world_seen (g.P.Plant.state c.args.plant.now) c.args.config.now r c.args.journal.now.events) (sends (ids_of c.args.config.now.volumes) c.args.a.0 c.args.b.0 ts) (world_seen (g.P.Plant.state c.loop-sent.plant) c.args.config.now r c.loop-sent.journal.events)) (end-sent c.args.n c.args.out_of_sync.now c.loop-sent.sent c.args.most c.loop-sent.invariant.within (let f = c.loop-sent-test.false in omega (arith, f))) (c.loop-sent.invariant.led r)); followed = refl }
 
 pub returns-clause-leads : goal.returns-clause-leads
 returns-clause-leads g c r =
-    subst (λ ts. Leads (world_seen (g.P.Plant.state c.args.p.now) c.args.c.now r c.args.j.now.events) (sends (ids_of c.args.c.now.volumes) c.args.a.0 c.args.b.0 ts) (world_seen (g.P.Plant.state c.loop-sent.p) c.args.c.now r c.loop-sent.j.events)) (end-sent c.args.n c.args.out_of_sync.now c.loop-sent.sent c.args.most c.loop-sent.invariant.within (let f = c.loop-sent-test.false in omega (arith, f))) (c.loop-sent.invariant.led r)
+    subst (λ ts. Leads (world_seen (g.P.Plant.state c.args.plant.now) c.args.config.now r c.args.journal.now.events) (sends (ids_of c.args.config.now.volumes) c.args.a.0 c.args.b.0 ts) (world_seen (g.P.Plant.state c.loop-sent.plant) c.args.config.now r c.loop-sent.journal.events)) (end-sent c.args.n c.args.out_of_sync.now c.loop-sent.sent c.args.most c.loop-sent.invariant.within (let f = c.loop-sent-test.false in omega (arith, f))) (c.loop-sent.invariant.led r)
 
 pub returns-clause-count : goal.returns-clause-count
 returns-clause-count g c =
@@ -65,13 +65,13 @@ returns-clause-count g c =
 
 pub returns-clause-room : goal.returns-clause-room
 returns-clause-room g c =
-    let h = c.requires.room c.loop-sent.sent (record { issued = 0; pending = []; sessions = []; events = [] }) (world_seen (g.P.Plant.state c.loop-sent.p) c.args.c.now (record { issued = 0; pending = []; sessions = []; events = [] }) c.loop-sent.j.events) (c.loop-sent.invariant.led (record { issued = 0; pending = []; sessions = []; events = [] })) in
+    let h = c.requires.room c.loop-sent.sent (record { issued = 0; pending = []; sessions = []; events = [] }) (world_seen (g.P.Plant.state c.loop-sent.plant) c.args.config.now (record { issued = 0; pending = []; sessions = []; events = [] }) c.loop-sent.journal.events) (c.loop-sent.invariant.led (record { issued = 0; pending = []; sessions = []; events = [] })) in
     let sum = c.loop-sent.invariant.spare in
     omega (arith, h, sum)
 
 pub send_to-requires-clause-room : goal.send_to-requires-clause-room
 send_to-requires-clause-room g c =
-    let h = c.requires.room c.loop-sent.sent (record { issued = 0; pending = []; sessions = []; events = [] }) (world_seen (g.P.Plant.state c.loop-sent.p) c.args.c.now (record { issued = 0; pending = []; sessions = []; events = [] }) c.loop-sent.j.events) (c.loop-sent.invariant.led (record { issued = 0; pending = []; sessions = []; events = [] })) in
+    let h = c.requires.room c.loop-sent.sent (record { issued = 0; pending = []; sessions = []; events = [] }) (world_seen (g.P.Plant.state c.loop-sent.plant) c.args.config.now (record { issued = 0; pending = []; sessions = []; events = [] }) c.loop-sent.journal.events) (c.loop-sent.invariant.led (record { issued = 0; pending = []; sessions = []; events = [] })) in
     let sum = c.loop-sent.invariant.spare in
     omega (arith, h, sum)
 
@@ -79,23 +79,23 @@ pub returns-in_err-send_to-clause-fails : goal.returns-in_err-send_to-clause-fai
 returns-in_err-send_to-clause-fails g c =
     err-always c.from_residual.result (λ r.
     let nx = next-sent c.args.n c.args.out_of_sync.now c.loop-sent.sent c.args.most c.in-Some.t (drop 1 (in_order c.args.n c.loop-sent.left)) (c.loop-sent.invariant.left ∙ first-some (in_order c.args.n c.loop-sent.left) c.in-Some.t c.in-Some.ensures.lowest) (sym c.is_enough.ensures ∙ c.if-is_enough.false) in
-    subst (λ e. FailsFollowed (armed_in (g.P.Plant.state c.args.p.now)) (world_seen (g.P.Plant.state c.args.p.now) c.args.c.now r c.args.j.now.events) (sends (ids_of c.args.c.now.volumes) c.args.a.0 c.args.b.0 (tracks_to_send c.args.most c.args.n c.args.out_of_sync.now)) (suspend_after c.args.a.0) (world_seen (g.P.Plant.state c.send_to.new.p) c.args.c.now r c.send_to.new.j.events) e) (sym (refused-by c.from_residual.result c.in_err-send_to.field-0.0 c.from_residual.ensures.0 c.from_residual.ensures.1))
-    (subst (λ ts. FailsFollowed (armed_in (g.P.Plant.state c.args.p.now)) (world_seen (g.P.Plant.state c.args.p.now) c.args.c.now r c.args.j.now.events) (sends (ids_of c.args.c.now.volumes) c.args.a.0 c.args.b.0 ts) (suspend_after c.args.a.0) (world_seen (g.P.Plant.state c.send_to.new.p) c.args.c.now r c.send_to.new.j.events) (Some c.in_err-send_to.field-0.0)) (sym nx.1)
-    (sent-failed (armed_in (g.P.Plant.state c.args.p.now)) (ids_of c.args.c.now.volumes) c.args.a.0 c.args.b.0 c.in-Some.t (take c.loop-sent.sent (in_order c.args.n c.args.out_of_sync.now)) nx.0 (world_seen (g.P.Plant.state c.args.p.now) c.args.c.now r c.args.j.now.events) (world_seen (g.P.Plant.state c.loop-sent.p) c.args.c.now r c.loop-sent.j.events) (world_seen (g.P.Plant.state c.send_to.new.p) c.args.c.now r c.send_to.new.j.events) (suspend_after c.args.a.0) (Some c.in_err-send_to.field-0.0) (c.loop-sent.invariant.led r)
-    (failed-wider (armed_in (g.P.Plant.state c.loop-sent.p)) (armed_in (g.P.Plant.state c.args.p.now)) (wider-armed (g.P.Plant.state c.args.p.now) (g.P.Plant.state c.loop-sent.p) c.loop-sent.invariant.unarmed) (world_seen (g.P.Plant.state c.loop-sent.p) c.args.c.now r c.loop-sent.j.events) (world_seen (g.P.Plant.state c.send_to.new.p) c.args.c.now r c.send_to.new.j.events) (send_entries (ids_of c.args.c.now.volumes) c.args.a.0 c.args.b.0 c.in-Some.t) (suspend_after c.args.a.0) (Some c.in_err-send_to.field-0.0) (c.in_err-send_to.ensures.fails r)))))
+    subst (λ e. FailsFollowed (armed_in (g.P.Plant.state c.args.plant.now)) (world_seen (g.P.Plant.state c.args.plant.now) c.args.config.now r c.args.journal.now.events) (sends (ids_of c.args.config.now.volumes) c.args.a.0 c.args.b.0 (tracks_to_send c.args.most c.args.n c.args.out_of_sync.now)) (suspend_after c.args.a.0) (world_seen (g.P.Plant.state c.send_to.new.plant) c.args.config.now r c.send_to.new.journal.events) e) (sym (refused-by c.from_residual.result c.in_err-send_to.field-0.0 c.from_residual.ensures.0 c.from_residual.ensures.1))
+    (subst (λ ts. FailsFollowed (armed_in (g.P.Plant.state c.args.plant.now)) (world_seen (g.P.Plant.state c.args.plant.now) c.args.config.now r c.args.journal.now.events) (sends (ids_of c.args.config.now.volumes) c.args.a.0 c.args.b.0 ts) (suspend_after c.args.a.0) (world_seen (g.P.Plant.state c.send_to.new.plant) c.args.config.now r c.send_to.new.journal.events) (Some c.in_err-send_to.field-0.0)) (sym nx.1)
+    (sent-failed (armed_in (g.P.Plant.state c.args.plant.now)) (ids_of c.args.config.now.volumes) c.args.a.0 c.args.b.0 c.in-Some.t (take c.loop-sent.sent (in_order c.args.n c.args.out_of_sync.now)) nx.0 (world_seen (g.P.Plant.state c.args.plant.now) c.args.config.now r c.args.journal.now.events) (world_seen (g.P.Plant.state c.loop-sent.plant) c.args.config.now r c.loop-sent.journal.events) (world_seen (g.P.Plant.state c.send_to.new.plant) c.args.config.now r c.send_to.new.journal.events) (suspend_after c.args.a.0) (Some c.in_err-send_to.field-0.0) (c.loop-sent.invariant.led r)
+    (failed-wider (armed_in (g.P.Plant.state c.loop-sent.plant)) (armed_in (g.P.Plant.state c.args.plant.now)) (wider-armed (g.P.Plant.state c.args.plant.now) (g.P.Plant.state c.loop-sent.plant) c.loop-sent.invariant.unarmed) (world_seen (g.P.Plant.state c.loop-sent.plant) c.args.config.now r c.loop-sent.journal.events) (world_seen (g.P.Plant.state c.send_to.new.plant) c.args.config.now r c.send_to.new.journal.events) (send_entries (ids_of c.args.config.now.volumes) c.args.a.0 c.args.b.0 c.in-Some.t) (suspend_after c.args.a.0) (Some c.in_err-send_to.field-0.0) (c.in_err-send_to.ensures.fails r)))))
 
 pub returns-in_err-send_to-clause-carried : goal.returns-in_err-send_to-clause-carried
 returns-in_err-send_to-clause-carried g c r =
-    ends-followed (armed_in (g.P.Plant.state c.args.p.now)) (world_seen (g.P.Plant.state c.args.p.now) c.args.c.now r c.args.j.now.events) (world_seen (g.P.Plant.state c.send_to.new.p) c.args.c.now r c.send_to.new.j.events) (sends (ids_of c.args.c.now.volumes) c.args.a.0 c.args.b.0 (tracks_to_send c.args.most c.args.n c.args.out_of_sync.now)) (suspend_after c.args.a.0) (refusal_of c.from_residual.result)
+    ends-followed (armed_in (g.P.Plant.state c.args.plant.now)) (world_seen (g.P.Plant.state c.args.plant.now) c.args.config.now r c.args.journal.now.events) (world_seen (g.P.Plant.state c.send_to.new.plant) c.args.config.now r c.send_to.new.journal.events) (sends (ids_of c.args.config.now.volumes) c.args.a.0 c.args.b.0 (tracks_to_send c.args.most c.args.n c.args.out_of_sync.now)) (suspend_after c.args.a.0) (refusal_of c.from_residual.result)
     (let nx = next-sent c.args.n c.args.out_of_sync.now c.loop-sent.sent c.args.most c.in-Some.t (drop 1 (in_order c.args.n c.loop-sent.left)) (c.loop-sent.invariant.left ∙ first-some (in_order c.args.n c.loop-sent.left) c.in-Some.t c.in-Some.ensures.lowest) (sym c.is_enough.ensures ∙ c.if-is_enough.false) in
-    subst (λ e. FailsFollowed (armed_in (g.P.Plant.state c.args.p.now)) (world_seen (g.P.Plant.state c.args.p.now) c.args.c.now r c.args.j.now.events) (sends (ids_of c.args.c.now.volumes) c.args.a.0 c.args.b.0 (tracks_to_send c.args.most c.args.n c.args.out_of_sync.now)) (suspend_after c.args.a.0) (world_seen (g.P.Plant.state c.send_to.new.p) c.args.c.now r c.send_to.new.j.events) e) (sym (refused-by c.from_residual.result c.in_err-send_to.field-0.0 c.from_residual.ensures.0 c.from_residual.ensures.1))
-    (subst (λ ts. FailsFollowed (armed_in (g.P.Plant.state c.args.p.now)) (world_seen (g.P.Plant.state c.args.p.now) c.args.c.now r c.args.j.now.events) (sends (ids_of c.args.c.now.volumes) c.args.a.0 c.args.b.0 ts) (suspend_after c.args.a.0) (world_seen (g.P.Plant.state c.send_to.new.p) c.args.c.now r c.send_to.new.j.events) (Some c.in_err-send_to.field-0.0)) (sym nx.1)
-    (sent-failed (armed_in (g.P.Plant.state c.args.p.now)) (ids_of c.args.c.now.volumes) c.args.a.0 c.args.b.0 c.in-Some.t (take c.loop-sent.sent (in_order c.args.n c.args.out_of_sync.now)) nx.0 (world_seen (g.P.Plant.state c.args.p.now) c.args.c.now r c.args.j.now.events) (world_seen (g.P.Plant.state c.loop-sent.p) c.args.c.now r c.loop-sent.j.events) (world_seen (g.P.Plant.state c.send_to.new.p) c.args.c.now r c.send_to.new.j.events) (suspend_after c.args.a.0) (Some c.in_err-send_to.field-0.0) (c.loop-sent.invariant.led r)
-    (failed-wider (armed_in (g.P.Plant.state c.loop-sent.p)) (armed_in (g.P.Plant.state c.args.p.now)) (wider-armed (g.P.Plant.state c.args.p.now) (g.P.Plant.state c.loop-sent.p) c.loop-sent.invariant.unarmed) (world_seen (g.P.Plant.state c.loop-sent.p) c.args.c.now r c.loop-sent.j.events) (world_seen (g.P.Plant.state c.send_to.new.p) c.args.c.now r c.send_to.new.j.events) (send_entries (ids_of c.args.c.now.volumes) c.args.a.0 c.args.b.0 c.in-Some.t) (suspend_after c.args.a.0) (Some c.in_err-send_to.field-0.0) (c.in_err-send_to.ensures.fails r)))))
+    subst (λ e. FailsFollowed (armed_in (g.P.Plant.state c.args.plant.now)) (world_seen (g.P.Plant.state c.args.plant.now) c.args.config.now r c.args.journal.now.events) (sends (ids_of c.args.config.now.volumes) c.args.a.0 c.args.b.0 (tracks_to_send c.args.most c.args.n c.args.out_of_sync.now)) (suspend_after c.args.a.0) (world_seen (g.P.Plant.state c.send_to.new.plant) c.args.config.now r c.send_to.new.journal.events) e) (sym (refused-by c.from_residual.result c.in_err-send_to.field-0.0 c.from_residual.ensures.0 c.from_residual.ensures.1))
+    (subst (λ ts. FailsFollowed (armed_in (g.P.Plant.state c.args.plant.now)) (world_seen (g.P.Plant.state c.args.plant.now) c.args.config.now r c.args.journal.now.events) (sends (ids_of c.args.config.now.volumes) c.args.a.0 c.args.b.0 ts) (suspend_after c.args.a.0) (world_seen (g.P.Plant.state c.send_to.new.plant) c.args.config.now r c.send_to.new.journal.events) (Some c.in_err-send_to.field-0.0)) (sym nx.1)
+    (sent-failed (armed_in (g.P.Plant.state c.args.plant.now)) (ids_of c.args.config.now.volumes) c.args.a.0 c.args.b.0 c.in-Some.t (take c.loop-sent.sent (in_order c.args.n c.args.out_of_sync.now)) nx.0 (world_seen (g.P.Plant.state c.args.plant.now) c.args.config.now r c.args.journal.now.events) (world_seen (g.P.Plant.state c.loop-sent.plant) c.args.config.now r c.loop-sent.journal.events) (world_seen (g.P.Plant.state c.send_to.new.plant) c.args.config.now r c.send_to.new.journal.events) (suspend_after c.args.a.0) (Some c.in_err-send_to.field-0.0) (c.loop-sent.invariant.led r)
+    (failed-wider (armed_in (g.P.Plant.state c.loop-sent.plant)) (armed_in (g.P.Plant.state c.args.plant.now)) (wider-armed (g.P.Plant.state c.args.plant.now) (g.P.Plant.state c.loop-sent.plant) c.loop-sent.invariant.unarmed) (world_seen (g.P.Plant.state c.loop-sent.plant) c.args.config.now r c.loop-sent.journal.events) (world_seen (g.P.Plant.state c.send_to.new.plant) c.args.config.now r c.send_to.new.journal.events) (send_entries (ids_of c.args.config.now.volumes) c.args.a.0 c.args.b.0 c.in-Some.t) (suspend_after c.args.a.0) (Some c.in_err-send_to.field-0.0) (c.in_err-send_to.ensures.fails r)))))
 
 pub returns-in_err-send_to-clause-room : goal.returns-in_err-send_to-clause-room
 returns-in_err-send_to-clause-room g c =
-    let h = c.requires.room c.loop-sent.sent (record { issued = 0; pending = []; sessions = []; events = [] }) (world_seen (g.P.Plant.state c.loop-sent.p) c.args.c.now (record { issued = 0; pending = []; sessions = []; events = [] }) c.loop-sent.j.events) (c.loop-sent.invariant.led (record { issued = 0; pending = []; sessions = []; events = [] })) in
+    let h = c.requires.room c.loop-sent.sent (record { issued = 0; pending = []; sessions = []; events = [] }) (world_seen (g.P.Plant.state c.loop-sent.plant) c.args.config.now (record { issued = 0; pending = []; sessions = []; events = [] }) c.loop-sent.journal.events) (c.loop-sent.invariant.led (record { issued = 0; pending = []; sessions = []; events = [] })) in
     let sum = c.loop-sent.invariant.spare in
     let left = c.in_err-send_to.ensures.room in
     omega (arith, h, sum, left)
@@ -103,8 +103,8 @@ returns-in_err-send_to-clause-room g c =
 pub loop-sent-preserved : goal.loop-sent-preserved
 loop-sent-preserved g c =
     record {
-      led = λ r. subst (λ ts. Leads (world_seen (g.P.Plant.state c.args.p.now) c.args.c.now r c.args.j.now.events) (sends (ids_of c.args.c.now.volumes) c.args.a.0 c.args.b.0 ts) (world_seen (g.P.Plant.state c.send_to.new.p) c.args.c.now r c.send_to.new.j.events)) (sym (take-next (in_order c.args.n c.args.out_of_sync.now) c.loop-sent.sent c.in-Some.t (drop 1 (in_order c.args.n c.loop-sent.left)) (c.loop-sent.invariant.left ∙ first-some (in_order c.args.n c.loop-sent.left) c.in-Some.t c.in-Some.ensures.lowest)) ∙ ap (λ k. take k (in_order c.args.n c.args.out_of_sync.now)) (suc-eq-add-one c.loop-sent.sent))
-          (sent-next (ids_of c.args.c.now.volumes) c.args.a.0 c.args.b.0 c.in-Some.t (take c.loop-sent.sent (in_order c.args.n c.args.out_of_sync.now)) (world_seen (g.P.Plant.state c.args.p.now) c.args.c.now r c.args.j.now.events) (world_seen (g.P.Plant.state c.loop-sent.p) c.args.c.now r c.loop-sent.j.events) (world_seen (g.P.Plant.state c.send_to.new.p) c.args.c.now r c.send_to.new.j.events) (c.loop-sent.invariant.led r) (c.in_ok-send_to.ensures.leads r));
+      led = λ r. subst (λ ts. Leads (world_seen (g.P.Plant.state c.args.plant.now) c.args.config.now r c.args.journal.now.events) (sends (ids_of c.args.config.now.volumes) c.args.a.0 c.args.b.0 ts) (world_seen (g.P.Plant.state c.send_to.new.plant) c.args.config.now r c.send_to.new.journal.events)) (sym (take-next (in_order c.args.n c.args.out_of_sync.now) c.loop-sent.sent c.in-Some.t (drop 1 (in_order c.args.n c.loop-sent.left)) (c.loop-sent.invariant.left ∙ first-some (in_order c.args.n c.loop-sent.left) c.in-Some.t c.in-Some.ensures.lowest)) ∙ ap (λ k. take k (in_order c.args.n c.args.out_of_sync.now)) (suc-eq-add-one c.loop-sent.sent))
+          (sent-next (ids_of c.args.config.now.volumes) c.args.a.0 c.args.b.0 c.in-Some.t (take c.loop-sent.sent (in_order c.args.n c.args.out_of_sync.now)) (world_seen (g.P.Plant.state c.args.plant.now) c.args.config.now r c.args.journal.now.events) (world_seen (g.P.Plant.state c.loop-sent.plant) c.args.config.now r c.loop-sent.journal.events) (world_seen (g.P.Plant.state c.send_to.new.plant) c.args.config.now r c.send_to.new.journal.events) (c.loop-sent.invariant.led r) (c.in_ok-send_to.ensures.leads r));
       left = sym (ap (λ k. drop k (in_order c.args.n c.args.out_of_sync.now)) (suc-eq-add-one c.loop-sent.sent)) ∙ drop-next (in_order c.args.n c.args.out_of_sync.now) c.loop-sent.sent c.in-Some.t (drop 1 (in_order c.args.n c.loop-sent.left)) (c.loop-sent.invariant.left ∙ first-some (in_order c.args.n c.loop-sent.left) c.in-Some.t c.in-Some.ensures.lowest) ∙ sym (in_order-next c.args.n c.in-Some.t c.loop-sent.left (drop 1 (in_order c.args.n c.loop-sent.left)) (first-some (in_order c.args.n c.loop-sent.left) c.in-Some.t c.in-Some.ensures.lowest)) ∙ ap (in_order c.args.n) (sym c.remove.ensures);
       few = let more = more-next (in_order c.args.n c.args.out_of_sync.now) c.loop-sent.sent c.in-Some.t (drop 1 (in_order c.args.n c.loop-sent.left)) (c.loop-sent.invariant.left ∙ first-some (in_order c.args.n c.loop-sent.left) c.in-Some.t c.in-Some.ensures.lowest) in omega (arith, more);
       within = within-next c.args.most c.loop-sent.sent (sym c.is_enough.ensures ∙ c.if-is_enough.false);

@@ -11,15 +11,15 @@ use Rattle.dr_gcopy.proofs.draining.drain_to.Given as goal
 
 abbrev pub invariant-loop-sent : goal.invariant-loop-sent
 invariant-loop-sent g l = record {
-  led : (r : Rest) → Leads (world_seen (g.P.Plant.state l.fn.p) l.c r l.fn.j.events) (sends (ids_of l.c.volumes) l.a.0 l.b.0 (take l.sent (in_order l.n l.out_of_sync))) (world_seen (g.P.Plant.state l.p) l.c r l.j.events);
+  led : (r : Rest) → Leads (world_seen (g.P.Plant.state l.fn.plant) l.config r l.fn.journal.events) (sends (ids_of l.config.volumes) l.a.0 l.b.0 (take l.sent (in_order l.n l.out_of_sync))) (world_seen (g.P.Plant.state l.plant) l.config r l.journal.events);
   left : drop l.sent (in_order l.n l.out_of_sync) ≡ in_order l.n l.left;
   few : l.sent ≤ length (in_order l.n l.out_of_sync);
   within : Within l.most l.sent;
-  rest : IsAtRest (g.P.Plant.state l.p) l.c;
-  fit : RelationsFit (g.P.Plant.state l.p) l.c;
-  unarmed : (q : ℕ) → (g.P.Plant.state l.fn.p).read_fuse q ≡ None → (g.P.Plant.state l.p).read_fuse q ≡ None;
-  on : (g.P.Plant.state l.p).on ≡ (g.P.Plant.state l.fn.p).on;
-  faults : (g.P.Plant.state l.p).faults ≡ (g.P.Plant.state l.fn.p).faults;
-  primary : is_part (volume_seen (g.P.Plant.state l.p) l.c l.a.0).fields.primary ≡ true;
-  spare : length l.j.events + l.j.spare ≡ length l.fn.j.events + l.fn.j.spare;
+  rest : IsAtRest (g.P.Plant.state l.plant) l.config;
+  fit : RelationsFit (g.P.Plant.state l.plant) l.config;
+  unarmed : (q : ℕ) → (g.P.Plant.state l.fn.plant).read_fuse q ≡ None → (g.P.Plant.state l.plant).read_fuse q ≡ None;
+  on : (g.P.Plant.state l.plant).on ≡ (g.P.Plant.state l.fn.plant).on;
+  faults : (g.P.Plant.state l.plant).faults ≡ (g.P.Plant.state l.fn.plant).faults;
+  primary : is_part (volume_seen (g.P.Plant.state l.plant) l.config l.a.0).fields.primary ≡ true;
+  spare : length l.journal.events + l.journal.spare ≡ length l.fn.journal.events + l.fn.journal.spare;
 }

@@ -10,12 +10,12 @@ use Rattle.dr_gcopy.proofs.ending.let_go.Goals as goal
 
 pub returns-then-not-is_secondary_of-clause-advances : goal.returns-then-not-is_secondary_of-clause-advances
 returns-then-not-is_secondary_of-clause-advances g c r =
-    skips (world_seen (g.P.Plant.state c.args.p.now) c.args.c.now r c.args.j.now.events) (let_go c.args.a.0 c.args.b.0) (ap (λ b. cond b (Do (Make (DropSecondary c.args.b.0))) Pass) (ap (is_secondary_of c.args.a.0) (sym c.peek_fields.ensures.fields) ∙ sym c.is_secondary_of.ensures ∙ c.if-not-is_secondary_of.true))
+    skips (world_seen (g.P.Plant.state c.args.plant.now) c.args.config.now r c.args.journal.now.events) (let_go c.args.a.0 c.args.b.0) (ap (λ b. cond b (Do (Make (DropSecondary c.args.b.0))) Pass) (ap (is_secondary_of c.args.a.0) (sym c.peek_fields.ensures.fields) ∙ sym c.is_secondary_of.ensures ∙ c.if-not-is_secondary_of.true))
 
 pub returns-clause-advances : goal.returns-clause-advances
 returns-clause-advances g c =
-    ok-along c.drop_secondary.result c.drop_secondary.ensures.advances (λ goes r. alike-advances (world_seen (g.P.Plant.state c.args.p.now) c.args.c.now r c.args.j.now.events) (world_seen (g.P.Plant.state c.drop_secondary.new.p) c.args.c.now r c.drop_secondary.new.j.events) (let_go c.args.a.0 c.args.b.0) (now (DropSecondary c.args.b.0)) (ap (λ b. cond b (Do (Make (DropSecondary c.args.b.0))) Pass) (ap (is_secondary_of c.args.a.0) (sym c.peek_fields.ensures.fields) ∙ sym c.is_secondary_of.ensures ∙ c.if-not-is_secondary_of.false)) (goes r))
+    ok-along c.drop_secondary.result c.drop_secondary.ensures.advances (λ goes r. alike-advances (world_seen (g.P.Plant.state c.args.plant.now) c.args.config.now r c.args.journal.now.events) (world_seen (g.P.Plant.state c.drop_secondary.new.plant) c.args.config.now r c.drop_secondary.new.journal.events) (let_go c.args.a.0 c.args.b.0) (now (DropSecondary c.args.b.0)) (ap (λ b. cond b (Do (Make (DropSecondary c.args.b.0))) Pass) (ap (is_secondary_of c.args.a.0) (sym c.peek_fields.ensures.fields) ∙ sym c.is_secondary_of.ensures ∙ c.if-not-is_secondary_of.false)) (goes r))
 
 pub returns-clause-halts : goal.returns-clause-halts
 returns-clause-halts g c =
-    err-along c.drop_secondary.result c.drop_secondary.ensures.halts c.drop_secondary.ensures.refused (λ halts refused r. alike-halts (armed_in (g.P.Plant.state c.args.p.now)) (world_seen (g.P.Plant.state c.args.p.now) c.args.c.now r c.args.j.now.events) (world_seen (g.P.Plant.state c.drop_secondary.new.p) c.args.c.now r c.drop_secondary.new.j.events) (refusal_of c.drop_secondary.result) (let_go c.args.a.0 c.args.b.0) (now (DropSecondary c.args.b.0)) (ap (λ b. cond b (Do (Make (DropSecondary c.args.b.0))) Pass) (ap (is_secondary_of c.args.a.0) (sym c.peek_fields.ensures.fields) ∙ sym c.is_secondary_of.ensures ∙ c.if-not-is_secondary_of.false)) (halts r))
+    err-along c.drop_secondary.result c.drop_secondary.ensures.halts c.drop_secondary.ensures.refused (λ halts refused r. alike-halts (armed_in (g.P.Plant.state c.args.plant.now)) (world_seen (g.P.Plant.state c.args.plant.now) c.args.config.now r c.args.journal.now.events) (world_seen (g.P.Plant.state c.drop_secondary.new.plant) c.args.config.now r c.drop_secondary.new.journal.events) (refusal_of c.drop_secondary.result) (let_go c.args.a.0 c.args.b.0) (now (DropSecondary c.args.b.0)) (ap (λ b. cond b (Do (Make (DropSecondary c.args.b.0))) Pass) (ap (is_secondary_of c.args.a.0) (sym c.peek_fields.ensures.fields) ∙ sym c.is_secondary_of.ensures ∙ c.if-not-is_secondary_of.false)) (halts r))

@@ -11,9 +11,9 @@ use Rattle.dr_gcopy.proofs.ending.remove_pair.Goals as goal
 
 pub returns-then-source_only-clause-carried : goal.returns-then-source_only-clause-carried
 returns-then-source_only-clause-carried g c r =
-    subst (λ (b : Bool). Ends (armed_in (g.P.Plant.state c.args.p.now)) (world_seen (g.P.Plant.state c.drop_primary.new.p) c.args.c.now r c.drop_primary.new.j.events) (refusal_of c.drop_primary.result) (world_seen (g.P.Plant.state c.args.p.now) c.args.c.now r c.args.j.now.events) (remove_entries (world_seen (g.P.Plant.state c.args.p.now) c.args.c.now r c.args.j.now.events).control c.args.a.0 c.args.b.0 b)) (sym c.if-source_only.true)
-    (c.in_default.ensures.checked r c.args.j.now.events (armed_in (g.P.Plant.state c.args.p.now)) (world_seen (g.P.Plant.state c.drop_primary.new.p) c.args.c.now r c.drop_primary.new.j.events) (refusal_of c.drop_primary.result) _
-    (act-ends c.drop_primary.result (armed_in (g.P.Plant.state c.args.p.now)) (λ r. (world_seen (g.P.Plant.state c.args.p.now) c.args.c.now r c.args.j.now.events)) (λ r. (world_seen (g.P.Plant.state c.drop_primary.new.p) c.args.c.now r c.drop_primary.new.j.events)) (now (DropPrimary c.args.a.0)) c.drop_primary.ensures.advances c.drop_primary.ensures.halts r))
+    subst (λ (b : Bool). Ends (armed_in (g.P.Plant.state c.args.plant.now)) (world_seen (g.P.Plant.state c.drop_primary.new.plant) c.args.config.now r c.drop_primary.new.journal.events) (refusal_of c.drop_primary.result) (world_seen (g.P.Plant.state c.args.plant.now) c.args.config.now r c.args.journal.now.events) (remove_entries (world_seen (g.P.Plant.state c.args.plant.now) c.args.config.now r c.args.journal.now.events).control c.args.a.0 c.args.b.0 b)) (sym c.if-source_only.true)
+    (c.in_default.ensures.checked r c.args.journal.now.events (armed_in (g.P.Plant.state c.args.plant.now)) (world_seen (g.P.Plant.state c.drop_primary.new.plant) c.args.config.now r c.drop_primary.new.journal.events) (refusal_of c.drop_primary.result) _
+    (act-ends c.drop_primary.result (armed_in (g.P.Plant.state c.args.plant.now)) (λ r. (world_seen (g.P.Plant.state c.args.plant.now) c.args.config.now r c.args.journal.now.events)) (λ r. (world_seen (g.P.Plant.state c.drop_primary.new.plant) c.args.config.now r c.drop_primary.new.journal.events)) (now (DropPrimary c.args.a.0)) c.drop_primary.ensures.advances c.drop_primary.ensures.halts r))
 
 pub returns-then-source_only-clause-unchanged : goal.returns-then-source_only-clause-unchanged
 returns-then-source_only-clause-unchanged g c calm =
@@ -25,16 +25,16 @@ returns-then-source_only-clause-faults g c =
 
 pub returns-in-Some-contact_refusal-clause-carried : goal.returns-in-Some-contact_refusal-clause-carried
 returns-in-Some-contact_refusal-clause-carried g c r =
-    subst (λ (b : Bool). Ends (armed_in (g.P.Plant.state c.args.p.now)) (world_seen (g.P.Plant.state c.args.p.now) c.args.c.now r c.args.j.now.events) (Some c.in-Some-contact_refusal.why) (world_seen (g.P.Plant.state c.args.p.now) c.args.c.now r c.args.j.now.events) (remove_entries (world_seen (g.P.Plant.state c.args.p.now) c.args.c.now r c.args.j.now.events).control c.args.a.0 c.args.b.0 b)) (sym c.if-source_only.false)
-    (c.in_default.ensures.checked r c.args.j.now.events (armed_in (g.P.Plant.state c.args.p.now)) (world_seen (g.P.Plant.state c.args.p.now) c.args.c.now r c.args.j.now.events) (Some c.in-Some-contact_refusal.why) _
-    (c.in-Some-contact_refusal.ensures.checked r c.args.j.now.events (armed_in (g.P.Plant.state c.args.p.now)) _))
+    subst (λ (b : Bool). Ends (armed_in (g.P.Plant.state c.args.plant.now)) (world_seen (g.P.Plant.state c.args.plant.now) c.args.config.now r c.args.journal.now.events) (Some c.in-Some-contact_refusal.why) (world_seen (g.P.Plant.state c.args.plant.now) c.args.config.now r c.args.journal.now.events) (remove_entries (world_seen (g.P.Plant.state c.args.plant.now) c.args.config.now r c.args.journal.now.events).control c.args.a.0 c.args.b.0 b)) (sym c.if-source_only.false)
+    (c.in_default.ensures.checked r c.args.journal.now.events (armed_in (g.P.Plant.state c.args.plant.now)) (world_seen (g.P.Plant.state c.args.plant.now) c.args.config.now r c.args.journal.now.events) (Some c.in-Some-contact_refusal.why) _
+    (c.in-Some-contact_refusal.ensures.checked r c.args.journal.now.events (armed_in (g.P.Plant.state c.args.plant.now)) _))
 
 pub returns-clause-carried : goal.returns-clause-carried
 returns-clause-carried g c r =
-    subst (λ (b : Bool). Ends (armed_in (g.P.Plant.state c.args.p.now)) (world_seen (g.P.Plant.state c.drop_both.new.p) c.args.c.now r c.drop_both.new.j.events) (refusal_of c.drop_both.result) (world_seen (g.P.Plant.state c.args.p.now) c.args.c.now r c.args.j.now.events) (remove_entries (world_seen (g.P.Plant.state c.args.p.now) c.args.c.now r c.args.j.now.events).control c.args.a.0 c.args.b.0 b)) (sym c.if-source_only.false)
-    (c.in_default.ensures.checked r c.args.j.now.events (armed_in (g.P.Plant.state c.args.p.now)) (world_seen (g.P.Plant.state c.drop_both.new.p) c.args.c.now r c.drop_both.new.j.events) (refusal_of c.drop_both.result) _
-    (c.in_default-contact_refusal.ensures.checked r c.args.j.now.events (armed_in (g.P.Plant.state c.args.p.now)) (world_seen (g.P.Plant.state c.drop_both.new.p) c.args.c.now r c.drop_both.new.j.events) (refusal_of c.drop_both.result) _
-    (ends-by c.drop_both.result (armed_in (g.P.Plant.state c.args.p.now)) (λ r. (world_seen (g.P.Plant.state c.args.p.now) c.args.c.now r c.args.j.now.events)) (λ r. (world_seen (g.P.Plant.state c.drop_both.new.p) c.args.c.now r c.drop_both.new.j.events)) (now (DropPrimary c.args.a.0) ∷ let_go c.args.a.0 c.args.b.0 ∷ []) c.drop_both.ensures.leads c.drop_both.ensures.fails r)))
+    subst (λ (b : Bool). Ends (armed_in (g.P.Plant.state c.args.plant.now)) (world_seen (g.P.Plant.state c.drop_both.new.plant) c.args.config.now r c.drop_both.new.journal.events) (refusal_of c.drop_both.result) (world_seen (g.P.Plant.state c.args.plant.now) c.args.config.now r c.args.journal.now.events) (remove_entries (world_seen (g.P.Plant.state c.args.plant.now) c.args.config.now r c.args.journal.now.events).control c.args.a.0 c.args.b.0 b)) (sym c.if-source_only.false)
+    (c.in_default.ensures.checked r c.args.journal.now.events (armed_in (g.P.Plant.state c.args.plant.now)) (world_seen (g.P.Plant.state c.drop_both.new.plant) c.args.config.now r c.drop_both.new.journal.events) (refusal_of c.drop_both.result) _
+    (c.in_default-contact_refusal.ensures.checked r c.args.journal.now.events (armed_in (g.P.Plant.state c.args.plant.now)) (world_seen (g.P.Plant.state c.drop_both.new.plant) c.args.config.now r c.drop_both.new.journal.events) (refusal_of c.drop_both.result) _
+    (ends-by c.drop_both.result (armed_in (g.P.Plant.state c.args.plant.now)) (λ r. (world_seen (g.P.Plant.state c.args.plant.now) c.args.config.now r c.args.journal.now.events)) (λ r. (world_seen (g.P.Plant.state c.drop_both.new.plant) c.args.config.now r c.drop_both.new.journal.events)) (now (DropPrimary c.args.a.0) ∷ let_go c.args.a.0 c.args.b.0 ∷ []) c.drop_both.ensures.leads c.drop_both.ensures.fails r)))
 
 pub returns-clause-unchanged : goal.returns-clause-unchanged
 returns-clause-unchanged g c calm =

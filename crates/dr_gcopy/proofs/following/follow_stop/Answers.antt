@@ -9,8 +9,8 @@ use Rattle.dr_gcopy.proofs.following.follow_stop.Goals as goal
 
 pub returns-in-Stopped-clause-follows : goal.returns-in-Stopped-clause-follows
 returns-in-Stopped-clause-follows g c r =
-    subst (λ (e : Refusal). Follows (armed_in (g.P.Plant.state c.args.p.now)) (world_seen (g.P.Plant.state c.args.p.now) c.args.c.now r c.args.j.now.events) (Some e) (suspend_after c.args.a.0) (world_seen (g.P.Plant.state c.suspend_running.new.p) c.args.c.now r c.suspend_running.new.j.events)) (sym c.in-Stopped.is) (c.suspend_running.ensures.ends r c.in-Stopped.server.0)
+    subst (λ (e : Refusal). Follows (armed_in (g.P.Plant.state c.args.plant.now)) (world_seen (g.P.Plant.state c.args.plant.now) c.args.config.now r c.args.journal.now.events) (Some e) (suspend_after c.args.a.0) (world_seen (g.P.Plant.state c.suspend_running.new.plant) c.args.config.now r c.suspend_running.new.journal.events)) (sym c.in-Stopped.is) (c.suspend_running.ensures.ends r c.in-Stopped.server.0)
 
 pub returns-in-Stopped-clause-faults : goal.returns-in-Stopped-clause-faults
 returns-in-Stopped-clause-faults g c f =
-    subst (λ (e : Refusal). Counted (is_stop (Some e)) f (g.P.Plant.state c.args.p.now).faults → Counted (is_stop (Some e)) f (g.P.Plant.state c.suspend_running.new.p).faults) (sym c.in-Stopped.is) (c.suspend_running.ensures.faults f)
+    subst (λ (e : Refusal). Counted (is_stop (Some e)) f (g.P.Plant.state c.args.plant.now).faults → Counted (is_stop (Some e)) f (g.P.Plant.state c.suspend_running.new.plant).faults) (sym c.in-Stopped.is) (c.suspend_running.ensures.faults f)

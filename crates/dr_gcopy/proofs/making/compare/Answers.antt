@@ -14,21 +14,21 @@ use Rattle.dr_logic.proofs.Results.{err-always}
 
 pub returns-then-full-clause-leads : goal.returns-then-full-clause-leads
 returns-then-full-clause-leads g c r armed u r' ds more =
-    ends-clear armed u r' (world_seen (g.P.Plant.state c.args.p.now) c.args.c.now r c.args.j.now.events) (differs_at (difference_seen (g.P.Plant.state c.args.p.now) c.args.c.now c.args.a.0 c.args.b.0 c.args.full)) ds (ap (λ b. differs_at (difference_seen (g.P.Plant.state c.args.p.now) c.args.c.now c.args.a.0 c.args.b.0 b) (world_seen (g.P.Plant.state c.args.p.now) c.args.c.now r c.args.j.now.events).control) c.if-full.true) more
+    ends-clear armed u r' (world_seen (g.P.Plant.state c.args.plant.now) c.args.config.now r c.args.journal.now.events) (differs_at (difference_seen (g.P.Plant.state c.args.plant.now) c.args.config.now c.args.a.0 c.args.b.0 c.args.full)) ds (ap (λ b. differs_at (difference_seen (g.P.Plant.state c.args.plant.now) c.args.config.now c.args.a.0 c.args.b.0 b) (world_seen (g.P.Plant.state c.args.plant.now) c.args.config.now r c.args.journal.now.events).control) c.if-full.true) more
 
 pub returns-in_err-track-clause-fails : goal.returns-in_err-track-clause-fails
 returns-in_err-track-clause-fails g c =
     err-always c.from_residual.result (λ r ds.
-    subst (λ q. Ends (armed_in (g.P.Plant.state c.args.p.now)) (world_seen (g.P.Plant.state c.difference.new.p) c.args.c.now r c.difference.new.j.events) q (world_seen (g.P.Plant.state c.args.p.now) c.args.c.now r c.args.j.now.events) (refuse_if (differs_at (difference_seen (g.P.Plant.state c.args.p.now) c.args.c.now c.args.a.0 c.args.b.0 c.args.full)) ∷ ds)) (sym (refused-by c.from_residual.result c.in_err-track.field-0.0 c.from_residual.ensures.0 c.from_residual.ensures.1))
-    (ends-off (armed_in (g.P.Plant.state c.args.p.now)) (world_seen (g.P.Plant.state c.difference.new.p) c.args.c.now r c.difference.new.j.events) (Some c.in_err-track.field-0.0) (world_seen (g.P.Plant.state c.args.p.now) c.args.c.now r c.args.j.now.events) (refuse_if (differs_at (difference_seen (g.P.Plant.state c.args.p.now) c.args.c.now c.args.a.0 c.args.b.0 c.args.full)) ∷ ds) (c.in_err-track.ensures.gone r)))
+    subst (λ q. Ends (armed_in (g.P.Plant.state c.args.plant.now)) (world_seen (g.P.Plant.state c.difference.new.plant) c.args.config.now r c.difference.new.journal.events) q (world_seen (g.P.Plant.state c.args.plant.now) c.args.config.now r c.args.journal.now.events) (refuse_if (differs_at (difference_seen (g.P.Plant.state c.args.plant.now) c.args.config.now c.args.a.0 c.args.b.0 c.args.full)) ∷ ds)) (sym (refused-by c.from_residual.result c.in_err-track.field-0.0 c.from_residual.ensures.0 c.from_residual.ensures.1))
+    (ends-off (armed_in (g.P.Plant.state c.args.plant.now)) (world_seen (g.P.Plant.state c.difference.new.plant) c.args.config.now r c.difference.new.journal.events) (Some c.in_err-track.field-0.0) (world_seen (g.P.Plant.state c.args.plant.now) c.args.config.now r c.args.journal.now.events) (refuse_if (differs_at (difference_seen (g.P.Plant.state c.args.plant.now) c.args.config.now c.args.a.0 c.args.b.0 c.args.full)) ∷ ds) (c.in_err-track.ensures.gone r)))
 
 pub returns-in-Some-clause-fails : goal.returns-in-Some-clause-fails
 returns-in-Some-clause-fails g c r ds =
     let e = Some (NotIdentical c.in-Some.track) in
-    subst (λ (x : PlantState). Ends (armed_in (g.P.Plant.state c.args.p.now)) (world_seen x c.args.c.now r c.difference.new.j.events) e (world_seen (g.P.Plant.state c.args.p.now) c.args.c.now r c.args.j.now.events) (refuse_if (differs_at (difference_seen (g.P.Plant.state c.args.p.now) c.args.c.now c.args.a.0 c.args.b.0 c.args.full)) ∷ ds)) (sym c.in_ok-track.ensures.passed)
-    (subst (λ (l : Log). Ends (armed_in (g.P.Plant.state c.args.p.now)) (world_seen (g.P.Plant.state c.args.p.now) c.args.c.now r l.events) e (world_seen (g.P.Plant.state c.args.p.now) c.args.c.now r c.args.j.now.events) (refuse_if (differs_at (difference_seen (g.P.Plant.state c.args.p.now) c.args.c.now c.args.a.0 c.args.b.0 c.args.full)) ∷ ds)) (sym c.in_ok-track.ensures.silent)
-    (ends-why (armed_in (g.P.Plant.state c.args.p.now)) (world_seen (g.P.Plant.state c.args.p.now) c.args.c.now r c.args.j.now.events) (differs_at (difference_seen (g.P.Plant.state c.args.p.now) c.args.c.now c.args.a.0 c.args.b.0 c.args.full)) (NotIdentical c.in-Some.track) ds (ap (λ b. differs_at (difference_seen (g.P.Plant.state c.args.p.now) c.args.c.now c.args.a.0 c.args.b.0 b) (world_seen (g.P.Plant.state c.args.p.now) c.args.c.now r c.args.j.now.events).control) c.if-full.false ∙ ap (λ o. differs_at o (world_seen (g.P.Plant.state c.args.p.now) c.args.c.now r c.args.j.now.events).control) (sym c.in_ok-track.ensures.found ∙ c.in-Some.is))))
+    subst (λ (x : PlantState). Ends (armed_in (g.P.Plant.state c.args.plant.now)) (world_seen x c.args.config.now r c.difference.new.journal.events) e (world_seen (g.P.Plant.state c.args.plant.now) c.args.config.now r c.args.journal.now.events) (refuse_if (differs_at (difference_seen (g.P.Plant.state c.args.plant.now) c.args.config.now c.args.a.0 c.args.b.0 c.args.full)) ∷ ds)) (sym c.in_ok-track.ensures.passed)
+    (subst (λ (l : Log). Ends (armed_in (g.P.Plant.state c.args.plant.now)) (world_seen (g.P.Plant.state c.args.plant.now) c.args.config.now r l.events) e (world_seen (g.P.Plant.state c.args.plant.now) c.args.config.now r c.args.journal.now.events) (refuse_if (differs_at (difference_seen (g.P.Plant.state c.args.plant.now) c.args.config.now c.args.a.0 c.args.b.0 c.args.full)) ∷ ds)) (sym c.in_ok-track.ensures.silent)
+    (ends-why (armed_in (g.P.Plant.state c.args.plant.now)) (world_seen (g.P.Plant.state c.args.plant.now) c.args.config.now r c.args.journal.now.events) (differs_at (difference_seen (g.P.Plant.state c.args.plant.now) c.args.config.now c.args.a.0 c.args.b.0 c.args.full)) (NotIdentical c.in-Some.track) ds (ap (λ b. differs_at (difference_seen (g.P.Plant.state c.args.plant.now) c.args.config.now c.args.a.0 c.args.b.0 b) (world_seen (g.P.Plant.state c.args.plant.now) c.args.config.now r c.args.journal.now.events).control) c.if-full.false ∙ ap (λ o. differs_at o (world_seen (g.P.Plant.state c.args.plant.now) c.args.config.now r c.args.journal.now.events).control) (sym c.in_ok-track.ensures.found ∙ c.in-Some.is))))
 
 pub returns-in-None-clause-leads : goal.returns-in-None-clause-leads
 returns-in-None-clause-leads g c r armed u r' ds more =
-    ends-clear armed u r' (world_seen (g.P.Plant.state c.args.p.now) c.args.c.now r c.args.j.now.events) (differs_at (difference_seen (g.P.Plant.state c.args.p.now) c.args.c.now c.args.a.0 c.args.b.0 c.args.full)) ds (ap (λ b. differs_at (difference_seen (g.P.Plant.state c.args.p.now) c.args.c.now c.args.a.0 c.args.b.0 b) (world_seen (g.P.Plant.state c.args.p.now) c.args.c.now r c.args.j.now.events).control) c.if-full.false ∙ ap (λ o. differs_at o (world_seen (g.P.Plant.state c.args.p.now) c.args.c.now r c.args.j.now.events).control) (sym c.in_ok-track.ensures.found ∙ c.in-None.is)) more
+    ends-clear armed u r' (world_seen (g.P.Plant.state c.args.plant.now) c.args.config.now r c.args.journal.now.events) (differs_at (difference_seen (g.P.Plant.state c.args.plant.now) c.args.config.now c.args.a.0 c.args.b.0 c.args.full)) ds (ap (λ b. differs_at (difference_seen (g.P.Plant.state c.args.plant.now) c.args.config.now c.args.a.0 c.args.b.0 b) (world_seen (g.P.Plant.state c.args.plant.now) c.args.config.now r c.args.journal.now.events).control) c.if-full.false ∙ ap (λ o. differs_at o (world_seen (g.P.Plant.state c.args.plant.now) c.args.config.now r c.args.journal.now.events).control) (sym c.in_ok-track.ensures.found ∙ c.in-None.is)) more

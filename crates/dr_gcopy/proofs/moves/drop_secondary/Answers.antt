@@ -17,42 +17,42 @@ use Rattle.dr_facts.proofs.Lawful.{lawful-no_secondary}
 
 pub shift-requires-clause-lawful : goal.shift-requires-clause-lawful
 shift-requires-clause-lawful g c =
-    let s = g.P.Plant.state c.args.p.now in
-    let t = c.args.c.now in
+    let s = g.P.Plant.state c.args.plant.now in
+    let t = c.args.config.now in
     let law = subst (λ (f : Fields). IsLawful (volume_seen s t c.args.b.0).tracks f) c.peek_fields.ensures.fields c.peek_fields.ensures.lawful in
     (subst (λ f. MoveFits s t c.args.b.0 f None) (sym (c.no_secondary-next.ensures ∙ ap no_secondary c.peek_fields.ensures.fields)) (pair-fits s t c.args.b.0 (no_secondary (volume_seen s t c.args.b.0).fields) c.requires.fit (lawful-no_secondary (volume_seen s t c.args.b.0).tracks (volume_seen s t c.args.b.0).fields law) refl refl refl refl)).lawful
 
 pub shift-requires-clause-leaves : goal.shift-requires-clause-leaves
 shift-requires-clause-leaves g c =
-    let s = g.P.Plant.state c.args.p.now in
-    let t = c.args.c.now in
+    let s = g.P.Plant.state c.args.plant.now in
+    let t = c.args.config.now in
     let law = subst (λ (f : Fields). IsLawful (volume_seen s t c.args.b.0).tracks f) c.peek_fields.ensures.fields c.peek_fields.ensures.lawful in
     (subst (λ f. MoveFits s t c.args.b.0 f None) (sym (c.no_secondary-next.ensures ∙ ap no_secondary c.peek_fields.ensures.fields)) (pair-fits s t c.args.b.0 (no_secondary (volume_seen s t c.args.b.0).fields) c.requires.fit (lawful-no_secondary (volume_seen s t c.args.b.0).tracks (volume_seen s t c.args.b.0).fields law) refl refl refl refl)).leaves
 
 pub shift-requires-clause-covers : goal.shift-requires-clause-covers
 shift-requires-clause-covers g c =
-    let s = g.P.Plant.state c.args.p.now in
-    let t = c.args.c.now in
+    let s = g.P.Plant.state c.args.plant.now in
+    let t = c.args.config.now in
     let law = subst (λ (f : Fields). IsLawful (volume_seen s t c.args.b.0).tracks f) c.peek_fields.ensures.fields c.peek_fields.ensures.lawful in
     (subst (λ f. MoveFits s t c.args.b.0 f None) (sym (c.no_secondary-next.ensures ∙ ap no_secondary c.peek_fields.ensures.fields)) (pair-fits s t c.args.b.0 (no_secondary (volume_seen s t c.args.b.0).fields) c.requires.fit (lawful-no_secondary (volume_seen s t c.args.b.0).tracks (volume_seen s t c.args.b.0).fields law) refl refl refl refl)).covers
 
 pub returns-clause-advances : goal.returns-clause-advances
 returns-clause-advances g c =
-    let s = g.P.Plant.state c.args.p.now in
-    let t = c.args.c.now in
+    let s = g.P.Plant.state c.args.plant.now in
+    let t = c.args.config.now in
     let x = volume_seen s t c.args.b.0 in
     ok-along c.shift.result c.shift.ensures.done (λ done r.
-    advances (world_seen s t r c.args.j.now.events) (DropSecondary c.args.b.0) c.of.result (plain c.no_secondary-next.result) None (on-running s x.server c.requires.running)
-    (subst (λ y. Tells (DropSecondary c.args.b.0) x y) (sym c.of.ensures) (tells-drop_secondary c.args.b.0 x)) (sym (c.no_secondary-next.ensures ∙ ap no_secondary c.peek_fields.ensures.fields)) refl (world_seen (g.P.Plant.state c.shift.new.p) t r c.shift.new.j.events) (done r))
+    advances (world_seen s t r c.args.journal.now.events) (DropSecondary c.args.b.0) c.of.result (plain c.no_secondary-next.result) None (on-running s x.server c.requires.running)
+    (subst (λ y. Tells (DropSecondary c.args.b.0) x y) (sym c.of.ensures) (tells-drop_secondary c.args.b.0 x)) (sym (c.no_secondary-next.ensures ∙ ap no_secondary c.peek_fields.ensures.fields)) refl (world_seen (g.P.Plant.state c.shift.new.plant) t r c.shift.new.journal.events) (done r))
 
 pub returns-clause-halts : goal.returns-clause-halts
 returns-clause-halts g c =
-    let s = g.P.Plant.state c.args.p.now in
-    let t = c.args.c.now in
+    let s = g.P.Plant.state c.args.plant.now in
+    let t = c.args.config.now in
     let x = volume_seen s t c.args.b.0 in
     err-along c.shift.result c.shift.ensures.failed c.shift.ensures.refused (λ failed refused r.
-    halts (world_seen s t r c.args.j.now.events) (DropSecondary c.args.b.0) c.of.result (plain c.no_secondary-next.result) None (on-running s x.server c.requires.running)
-    (subst (λ y. Tells (DropSecondary c.args.b.0) x y) (sym c.of.ensures) (tells-drop_secondary c.args.b.0 x)) (sym (c.no_secondary-next.ensures ∙ ap no_secondary c.peek_fields.ensures.fields)) refl (armed_in s) (world_seen (g.P.Plant.state c.shift.new.p) t r c.shift.new.j.events) (refusal_of c.shift.result) refused (failed r))
+    halts (world_seen s t r c.args.journal.now.events) (DropSecondary c.args.b.0) c.of.result (plain c.no_secondary-next.result) None (on-running s x.server c.requires.running)
+    (subst (λ y. Tells (DropSecondary c.args.b.0) x y) (sym c.of.ensures) (tells-drop_secondary c.args.b.0 x)) (sym (c.no_secondary-next.ensures ∙ ap no_secondary c.peek_fields.ensures.fields)) refl (armed_in s) (world_seen (g.P.Plant.state c.shift.new.plant) t r c.shift.new.journal.events) (refusal_of c.shift.result) refused (failed r))
 
 pub returns-clause-room_left : goal.returns-clause-room_left
 returns-clause-room_left g c =

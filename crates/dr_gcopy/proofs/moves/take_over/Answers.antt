@@ -20,42 +20,42 @@ use Rattle.dr_facts.proofs.Lawful.{lawful-taken_over}
 
 pub shift-requires-clause-lawful : goal.shift-requires-clause-lawful
 shift-requires-clause-lawful g c =
-    let s = g.P.Plant.state c.args.p.now in
-    let t = c.args.c.now in
+    let s = g.P.Plant.state c.args.plant.now in
+    let t = c.args.config.now in
     let law = subst (λ (f : Fields). IsLawful (volume_seen s t c.args.b.0).tracks f) c.peek_fields.ensures.fields c.peek_fields.ensures.lawful in
     (subst (λ f. MoveFits s t c.args.b.0 f None) (sym (c.taken_over-next.ensures ∙ ap taken_over c.peek_fields.ensures.fields)) (pair-fits s t c.args.b.0 (taken_over (volume_seen s t c.args.b.0).fields) c.requires.fit ((lawful-taken_over (volume_seen s t c.args.b.0).tracks (volume_seen s t c.args.b.0).fields law c.requires.secondary)) refl refl refl refl)).lawful
 
 pub shift-requires-clause-leaves : goal.shift-requires-clause-leaves
 shift-requires-clause-leaves g c =
-    let s = g.P.Plant.state c.args.p.now in
-    let t = c.args.c.now in
+    let s = g.P.Plant.state c.args.plant.now in
+    let t = c.args.config.now in
     let law = subst (λ (f : Fields). IsLawful (volume_seen s t c.args.b.0).tracks f) c.peek_fields.ensures.fields c.peek_fields.ensures.lawful in
     (subst (λ f. MoveFits s t c.args.b.0 f None) (sym (c.taken_over-next.ensures ∙ ap taken_over c.peek_fields.ensures.fields)) (pair-fits s t c.args.b.0 (taken_over (volume_seen s t c.args.b.0).fields) c.requires.fit ((lawful-taken_over (volume_seen s t c.args.b.0).tracks (volume_seen s t c.args.b.0).fields law c.requires.secondary)) refl refl refl refl)).leaves
 
 pub shift-requires-clause-covers : goal.shift-requires-clause-covers
 shift-requires-clause-covers g c =
-    let s = g.P.Plant.state c.args.p.now in
-    let t = c.args.c.now in
+    let s = g.P.Plant.state c.args.plant.now in
+    let t = c.args.config.now in
     let law = subst (λ (f : Fields). IsLawful (volume_seen s t c.args.b.0).tracks f) c.peek_fields.ensures.fields c.peek_fields.ensures.lawful in
     (subst (λ f. MoveFits s t c.args.b.0 f None) (sym (c.taken_over-next.ensures ∙ ap taken_over c.peek_fields.ensures.fields)) (pair-fits s t c.args.b.0 (taken_over (volume_seen s t c.args.b.0).fields) c.requires.fit ((lawful-taken_over (volume_seen s t c.args.b.0).tracks (volume_seen s t c.args.b.0).fields law c.requires.secondary)) refl refl refl refl)).covers
 
 pub returns-clause-advances : goal.returns-clause-advances
 returns-clause-advances g c =
-    let s = g.P.Plant.state c.args.p.now in
-    let t = c.args.c.now in
+    let s = g.P.Plant.state c.args.plant.now in
+    let t = c.args.config.now in
     let x = volume_seen s t c.args.b.0 in
     ok-along c.shift.result c.shift.ensures.done (λ done r.
-    advances (world_seen s t r c.args.j.now.events) (TakeOver c.args.b.0) c.of-told.result (plain c.taken_over-next.result) None (on-running s x.server c.requires.running)
-    (subst (λ y. Tells (TakeOver c.args.b.0) x y) (sym c.of-told.ensures) (tells-take_over c.args.b.0 x)) (sym (c.taken_over-next.ensures ∙ ap taken_over c.peek_fields.ensures.fields)) refl (world_seen (g.P.Plant.state c.shift.new.p) t r c.shift.new.j.events) (done r))
+    advances (world_seen s t r c.args.journal.now.events) (TakeOver c.args.b.0) c.of-told.result (plain c.taken_over-next.result) None (on-running s x.server c.requires.running)
+    (subst (λ y. Tells (TakeOver c.args.b.0) x y) (sym c.of-told.ensures) (tells-take_over c.args.b.0 x)) (sym (c.taken_over-next.ensures ∙ ap taken_over c.peek_fields.ensures.fields)) refl (world_seen (g.P.Plant.state c.shift.new.plant) t r c.shift.new.journal.events) (done r))
 
 pub returns-clause-halts : goal.returns-clause-halts
 returns-clause-halts g c =
-    let s = g.P.Plant.state c.args.p.now in
-    let t = c.args.c.now in
+    let s = g.P.Plant.state c.args.plant.now in
+    let t = c.args.config.now in
     let x = volume_seen s t c.args.b.0 in
     err-along c.shift.result c.shift.ensures.failed c.shift.ensures.refused (λ failed refused r.
-    halts (world_seen s t r c.args.j.now.events) (TakeOver c.args.b.0) c.of-told.result (plain c.taken_over-next.result) None (on-running s x.server c.requires.running)
-    (subst (λ y. Tells (TakeOver c.args.b.0) x y) (sym c.of-told.ensures) (tells-take_over c.args.b.0 x)) (sym (c.taken_over-next.ensures ∙ ap taken_over c.peek_fields.ensures.fields)) refl (armed_in s) (world_seen (g.P.Plant.state c.shift.new.p) t r c.shift.new.j.events) (refusal_of c.shift.result) refused (failed r))
+    halts (world_seen s t r c.args.journal.now.events) (TakeOver c.args.b.0) c.of-told.result (plain c.taken_over-next.result) None (on-running s x.server c.requires.running)
+    (subst (λ y. Tells (TakeOver c.args.b.0) x y) (sym c.of-told.ensures) (tells-take_over c.args.b.0 x)) (sym (c.taken_over-next.ensures ∙ ap taken_over c.peek_fields.ensures.fields)) refl (armed_in s) (world_seen (g.P.Plant.state c.shift.new.plant) t r c.shift.new.journal.events) (refusal_of c.shift.result) refused (failed r))
 
 pub returns-clause-room_left : goal.returns-clause-room_left
 returns-clause-room_left g c =
@@ -64,19 +64,19 @@ returns-clause-room_left g c =
 
 pub returns-clause-carried : goal.returns-clause-carried
 returns-clause-carried g c =
-    let t = c.args.c.now in
-    act-ends c.shift.result (armed_in (g.P.Plant.state c.args.p.now)) (λ r. world_seen (g.P.Plant.state c.args.p.now) t r c.args.j.now.events) (λ r. world_seen (g.P.Plant.state c.shift.new.p) t r c.shift.new.j.events) (now (TakeOver c.args.b.0)) (returns-clause-advances g c) (returns-clause-halts g c)
+    let t = c.args.config.now in
+    act-ends c.shift.result (armed_in (g.P.Plant.state c.args.plant.now)) (λ r. world_seen (g.P.Plant.state c.args.plant.now) t r c.args.journal.now.events) (λ r. world_seen (g.P.Plant.state c.shift.new.plant) t r c.shift.new.journal.events) (now (TakeOver c.args.b.0)) (returns-clause-advances g c) (returns-clause-halts g c)
 
 pub returns-clause-moved : goal.returns-clause-moved
 returns-clause-moved g c =
-    let s = g.P.Plant.state c.args.p.now in
-    let u = g.P.Plant.state c.shift.new.p in
-    let t = c.args.c.now in
+    let s = g.P.Plant.state c.args.plant.now in
+    let u = g.P.Plant.state c.shift.new.plant in
+    let t = c.args.config.now in
     ok-along c.shift.result c.shift.ensures.moved (λ is. subst (λ f. IsMoved s u t c.args.b.0 f None) (c.taken_over-next.ensures ∙ ap taken_over c.peek_fields.ensures.fields) is)
 
 pub returns-clause-old_or_new : goal.returns-clause-old_or_new
 returns-clause-old_or_new g c =
-    let s = g.P.Plant.state c.args.p.now in
-    let u = g.P.Plant.state c.shift.new.p in
-    let t = c.args.c.now in
+    let s = g.P.Plant.state c.args.plant.now in
+    let u = g.P.Plant.state c.shift.new.plant in
+    let t = c.args.config.now in
     subst (λ f. IsAsBefore s u t c.args.b.0 ⊎ IsMoved s u t c.args.b.0 f None) (c.taken_over-next.ensures ∙ ap taken_over c.peek_fields.ensures.fields) c.shift.ensures.old_or_new

@@ -17,22 +17,22 @@ use Rattle.dr_logic.proofs.Results.{err-always}
 
 pub returns-in_err-read_told-clause-fails : goal.returns-in_err-read_told-clause-fails
 returns-in_err-read_told-clause-fails g c =
-    err-always c.from_residual.result (λ r ds. ends-off (armed_in (g.P.Plant.state c.args.p.now)) (world_seen (g.P.Plant.state c.read_told.new.p) c.args.c.now r c.read_told.new.j.events) (refusal_of c.from_residual.result) (world_seen (g.P.Plant.state c.args.p.now) c.args.c.now r c.args.j.now.events) ((pass_entries (ids_of c.args.c.now.volumes) c.args.a.0 c.args.b.0 c.args.t) ++ ds)
-    (subst (λ e. GoesOff (armed_in (g.P.Plant.state c.args.p.now)) (world_seen (g.P.Plant.state c.read_told.new.p) c.args.c.now r c.read_told.new.j.events) e (world_seen (g.P.Plant.state c.args.p.now) c.args.c.now r c.args.j.now.events)) (sym (refused-by c.from_residual.result c.in_err-read_told.field-0.0 c.from_residual.ensures.0 c.from_residual.ensures.1)) (c.in_err-read_told.ensures.gone r)))
+    err-always c.from_residual.result (λ r ds. ends-off (armed_in (g.P.Plant.state c.args.plant.now)) (world_seen (g.P.Plant.state c.read_told.new.plant) c.args.config.now r c.read_told.new.journal.events) (refusal_of c.from_residual.result) (world_seen (g.P.Plant.state c.args.plant.now) c.args.config.now r c.args.journal.now.events) ((pass_entries (ids_of c.args.config.now.volumes) c.args.a.0 c.args.b.0 c.args.t) ++ ds)
+    (subst (λ e. GoesOff (armed_in (g.P.Plant.state c.args.plant.now)) (world_seen (g.P.Plant.state c.read_told.new.plant) c.args.config.now r c.read_told.new.journal.events) e (world_seen (g.P.Plant.state c.args.plant.now) c.args.config.now r c.args.journal.now.events)) (sym (refused-by c.from_residual.result c.in_err-read_told.field-0.0 c.from_residual.ensures.0 c.from_residual.ensures.1)) (c.in_err-read_told.ensures.gone r)))
 
 pub returns-in_err-read_told-clause-fit : goal.returns-in_err-read_told-clause-fit
 returns-in_err-read_told-clause-fit g c =
-    fit-same (g.P.Plant.state c.args.p.now) (g.P.Plant.state c.read_told.new.p) c.args.c.now c.in_err-read_told.ensures.same c.requires.fit
+    fit-same (g.P.Plant.state c.args.plant.now) (g.P.Plant.state c.read_told.new.plant) c.args.config.now c.in_err-read_told.ensures.same c.requires.fit
 
 pub returns-clause-leads : goal.returns-clause-leads
 returns-clause-leads g c =
-    subst (λ (x : PlantState). OnOk c.hand_over.result ((r : Rest) → Leads (world_seen x c.args.c.now r c.args.j.now.events) (pass_entries (ids_of c.args.c.now.volumes) c.args.a.0 c.args.b.0 c.args.t) (world_seen (g.P.Plant.state c.hand_over.new.p) c.args.c.now r c.hand_over.new.j.events))) c.in_ok-read_told.ensures.passed
-    (subst (λ (l : Log). OnOk c.hand_over.result ((r : Rest) → Leads (world_seen (g.P.Plant.state c.read_told.new.p) c.args.c.now r l.events) (pass_entries (ids_of c.args.c.now.volumes) c.args.a.0 c.args.b.0 c.args.t) (world_seen (g.P.Plant.state c.hand_over.new.p) c.args.c.now r c.hand_over.new.j.events))) c.in_ok-read_told.ensures.silent c.hand_over.ensures.leads)
+    subst (λ (x : PlantState). OnOk c.hand_over.result ((r : Rest) → Leads (world_seen x c.args.config.now r c.args.journal.now.events) (pass_entries (ids_of c.args.config.now.volumes) c.args.a.0 c.args.b.0 c.args.t) (world_seen (g.P.Plant.state c.hand_over.new.plant) c.args.config.now r c.hand_over.new.journal.events))) c.in_ok-read_told.ensures.passed
+    (subst (λ (l : Log). OnOk c.hand_over.result ((r : Rest) → Leads (world_seen (g.P.Plant.state c.read_told.new.plant) c.args.config.now r l.events) (pass_entries (ids_of c.args.config.now.volumes) c.args.a.0 c.args.b.0 c.args.t) (world_seen (g.P.Plant.state c.hand_over.new.plant) c.args.config.now r c.hand_over.new.journal.events))) c.in_ok-read_told.ensures.silent c.hand_over.ensures.leads)
 
 pub returns-clause-fails : goal.returns-clause-fails
 returns-clause-fails g c =
-    subst (λ (x : PlantState). OnErr c.hand_over.result ((r : Rest) → Fails (armed_in x) (world_seen x c.args.c.now r c.args.j.now.events) (pass_entries (ids_of c.args.c.now.volumes) c.args.a.0 c.args.b.0 c.args.t) (world_seen (g.P.Plant.state c.hand_over.new.p) c.args.c.now r c.hand_over.new.j.events) (refusal_of c.hand_over.result))) c.in_ok-read_told.ensures.passed
-    (subst (λ (l : Log). OnErr c.hand_over.result ((r : Rest) → Fails (armed_in (g.P.Plant.state c.read_told.new.p)) (world_seen (g.P.Plant.state c.read_told.new.p) c.args.c.now r l.events) (pass_entries (ids_of c.args.c.now.volumes) c.args.a.0 c.args.b.0 c.args.t) (world_seen (g.P.Plant.state c.hand_over.new.p) c.args.c.now r c.hand_over.new.j.events) (refusal_of c.hand_over.result))) c.in_ok-read_told.ensures.silent c.hand_over.ensures.fails)
+    subst (λ (x : PlantState). OnErr c.hand_over.result ((r : Rest) → Fails (armed_in x) (world_seen x c.args.config.now r c.args.journal.now.events) (pass_entries (ids_of c.args.config.now.volumes) c.args.a.0 c.args.b.0 c.args.t) (world_seen (g.P.Plant.state c.hand_over.new.plant) c.args.config.now r c.hand_over.new.journal.events) (refusal_of c.hand_over.result))) c.in_ok-read_told.ensures.passed
+    (subst (λ (l : Log). OnErr c.hand_over.result ((r : Rest) → Fails (armed_in (g.P.Plant.state c.read_told.new.plant)) (world_seen (g.P.Plant.state c.read_told.new.plant) c.args.config.now r l.events) (pass_entries (ids_of c.args.config.now.volumes) c.args.a.0 c.args.b.0 c.args.t) (world_seen (g.P.Plant.state c.hand_over.new.plant) c.args.config.now r c.hand_over.new.journal.events) (refusal_of c.hand_over.result))) c.in_ok-read_told.ensures.silent c.hand_over.ensures.fails)
 
 pub returns-clause-unarmed : goal.returns-clause-unarmed
 returns-clause-unarmed g c q none =
@@ -40,4 +40,4 @@ returns-clause-unarmed g c q none =
 
 pub returns-clause-others : goal.returns-clause-others
 returns-clause-others g c =
-    subst (λ (x : PlantState). (q : ℕ) → q ≢ c.args.a.0 → q ≢ c.args.b.0 → copies_from c.args.b.0 (volume_seen x c.args.c.now q).fields ≡ false → IsAsBefore x (g.P.Plant.state c.hand_over.new.p) c.args.c.now q) c.in_ok-read_told.ensures.passed c.hand_over.ensures.others
+    subst (λ (x : PlantState). (q : ℕ) → q ≢ c.args.a.0 → q ≢ c.args.b.0 → copies_from c.args.b.0 (volume_seen x c.args.config.now q).fields ≡ false → IsAsBefore x (g.P.Plant.state c.hand_over.new.plant) c.args.config.now q) c.in_ok-read_told.ensures.passed c.hand_over.ensures.others

@@ -12,11 +12,11 @@ use Rattle.dr_gcopy.proofs.pausing.follow_on.Goals as goal
 
 pub returns-clause-advances : goal.returns-clause-advances
 returns-clause-advances g c =
-    ok-along c.follow.result c.follow.ensures.advances (λ goes r. alike-advances (world_seen (g.P.Plant.state c.args.p.now) c.args.c.now r c.args.j.now.events) (world_seen (g.P.Plant.state c.follow.new.p) c.args.c.now r c.follow.new.j.events) (follow_on c.args.a.0 c.args.b.0) (now (Follow c.args.b.0 c.next_state-state.result)) (ap (λ (f : Fields). Do (Make (Follow c.args.b.0 (next_state f)))) (sym c.peek_fields.ensures.fields) ∙ ap (λ (s : PairState). Do (Make (Follow c.args.b.0 s))) (sym c.next_state-state.ensures)) (goes r))
+    ok-along c.follow.result c.follow.ensures.advances (λ goes r. alike-advances (world_seen (g.P.Plant.state c.args.plant.now) c.args.config.now r c.args.journal.now.events) (world_seen (g.P.Plant.state c.follow.new.plant) c.args.config.now r c.follow.new.journal.events) (follow_on c.args.a.0 c.args.b.0) (now (Follow c.args.b.0 c.next_state-state.result)) (ap (λ (f : Fields). Do (Make (Follow c.args.b.0 (next_state f)))) (sym c.peek_fields.ensures.fields) ∙ ap (λ (s : PairState). Do (Make (Follow c.args.b.0 s))) (sym c.next_state-state.ensures)) (goes r))
 
 pub returns-clause-halts : goal.returns-clause-halts
 returns-clause-halts g c =
-    err-along c.follow.result c.follow.ensures.halts c.follow.ensures.refused (λ halts refused r. alike-halts (armed_in (g.P.Plant.state c.args.p.now)) (world_seen (g.P.Plant.state c.args.p.now) c.args.c.now r c.args.j.now.events) (world_seen (g.P.Plant.state c.follow.new.p) c.args.c.now r c.follow.new.j.events) (refusal_of c.follow.result) (follow_on c.args.a.0 c.args.b.0) (now (Follow c.args.b.0 c.next_state-state.result)) (ap (λ (f : Fields). Do (Make (Follow c.args.b.0 (next_state f)))) (sym c.peek_fields.ensures.fields) ∙ ap (λ (s : PairState). Do (Make (Follow c.args.b.0 s))) (sym c.next_state-state.ensures)) (halts r))
+    err-along c.follow.result c.follow.ensures.halts c.follow.ensures.refused (λ halts refused r. alike-halts (armed_in (g.P.Plant.state c.args.plant.now)) (world_seen (g.P.Plant.state c.args.plant.now) c.args.config.now r c.args.journal.now.events) (world_seen (g.P.Plant.state c.follow.new.plant) c.args.config.now r c.follow.new.journal.events) (refusal_of c.follow.result) (follow_on c.args.a.0 c.args.b.0) (now (Follow c.args.b.0 c.next_state-state.result)) (ap (λ (f : Fields). Do (Make (Follow c.args.b.0 (next_state f)))) (sym c.peek_fields.ensures.fields) ∙ ap (λ (s : PairState). Do (Make (Follow c.args.b.0 s))) (sym c.next_state-state.ensures)) (halts r))
 
 pub returns-clause-part : goal.returns-clause-part
 returns-clause-part g c =

@@ -9,8 +9,8 @@ use Rattle.dr_gcopy.proofs.pausing.pause.Goals as goal
 
 pub returns-clause-carried : goal.returns-clause-carried
 returns-clause-carried g c r =
-    c.in_default.ensures.checked r c.args.j.now.events (armed_in (g.P.Plant.state c.args.p.now)) (world_seen (g.P.Plant.state c.pause_both.new.p) c.args.c.now r c.pause_both.new.j.events) (refusal_of c.pause_both.result) _
-    (ends-by c.pause_both.result (armed_in (g.P.Plant.state c.args.p.now)) (λ r. (world_seen (g.P.Plant.state c.args.p.now) c.args.c.now r c.args.j.now.events)) (λ r. (world_seen (g.P.Plant.state c.pause_both.new.p) c.args.c.now r c.pause_both.new.j.events)) (now (Suspend c.args.a.0 false) ∷ tell_paused c.args.a.0 c.args.b.0 ∷ []) c.pause_both.ensures.leads c.pause_both.ensures.fails r)
+    c.in_default.ensures.checked r c.args.journal.now.events (armed_in (g.P.Plant.state c.args.plant.now)) (world_seen (g.P.Plant.state c.pause_both.new.plant) c.args.config.now r c.pause_both.new.journal.events) (refusal_of c.pause_both.result) _
+    (ends-by c.pause_both.result (armed_in (g.P.Plant.state c.args.plant.now)) (λ r. (world_seen (g.P.Plant.state c.args.plant.now) c.args.config.now r c.args.journal.now.events)) (λ r. (world_seen (g.P.Plant.state c.pause_both.new.plant) c.args.config.now r c.pause_both.new.journal.events)) (now (Suspend c.args.a.0 false) ∷ tell_paused c.args.a.0 c.args.b.0 ∷ []) c.pause_both.ensures.leads c.pause_both.ensures.fails r)
 
 pub returns-clause-unchanged : goal.returns-clause-unchanged
 returns-clause-unchanged g c calm =

@@ -16,7 +16,7 @@ use Rattle.dr_logic.proofs.Results.{err-always}
 pub returns-in_err-suspend-clause-fails : goal.returns-in_err-suspend-clause-fails
 returns-in_err-suspend-clause-fails g c =
     err-always c.from_residual.result (λ r ds.
-    subst (λ q. Ends (armed_in (g.P.Plant.state c.args.p.now)) (world_seen (g.P.Plant.state c.suspend.new.p) c.args.c.now r c.suspend.new.j.events) q (world_seen (g.P.Plant.state c.args.p.now) c.args.c.now r c.args.j.now.events) ((now (Suspend c.args.a.0 false)) ∷ (tell_paused c.args.a.0 c.args.b.0) ∷ ds)) (sym (refused-by c.from_residual.result c.in_err-suspend.field-0.0 c.from_residual.ensures.0 c.from_residual.ensures.1))
+    subst (λ q. Ends (armed_in (g.P.Plant.state c.args.plant.now)) (world_seen (g.P.Plant.state c.suspend.new.plant) c.args.config.now r c.suspend.new.journal.events) q (world_seen (g.P.Plant.state c.args.plant.now) c.args.config.now r c.args.journal.now.events) ((now (Suspend c.args.a.0 false)) ∷ (tell_paused c.args.a.0 c.args.b.0) ∷ ds)) (sym (refused-by c.from_residual.result c.in_err-suspend.field-0.0 c.from_residual.ensures.0 c.from_residual.ensures.1))
     (c.in_err-suspend.ensures.halts r ((tell_paused c.args.a.0 c.args.b.0) ∷ ds)))
 
 pub returns-in_err-suspend-clause-stops : goal.returns-in_err-suspend-clause-stops
@@ -27,12 +27,12 @@ returns-in_err-suspend-clause-others g c q na nb = c.in_err-suspend.ensures.othe
 
 pub returns-clause-leads : goal.returns-clause-leads
 returns-clause-leads g c =
-    ok-along c.tell_paused.result c.tell_paused.ensures.advances (λ goes r. two-lead (world_seen (g.P.Plant.state c.args.p.now) c.args.c.now r c.args.j.now.events) (world_seen (g.P.Plant.state c.suspend.new.p) c.args.c.now r c.suspend.new.j.events) (world_seen (g.P.Plant.state c.tell_paused.new.p) c.args.c.now r c.tell_paused.new.j.events) (now (Suspend c.args.a.0 false)) (tell_paused c.args.a.0 c.args.b.0) (c.in_ok-suspend.ensures.advances r) (goes r))
+    ok-along c.tell_paused.result c.tell_paused.ensures.advances (λ goes r. two-lead (world_seen (g.P.Plant.state c.args.plant.now) c.args.config.now r c.args.journal.now.events) (world_seen (g.P.Plant.state c.suspend.new.plant) c.args.config.now r c.suspend.new.journal.events) (world_seen (g.P.Plant.state c.tell_paused.new.plant) c.args.config.now r c.tell_paused.new.journal.events) (now (Suspend c.args.a.0 false)) (tell_paused c.args.a.0 c.args.b.0) (c.in_ok-suspend.ensures.advances r) (goes r))
 
 pub returns-clause-fails : goal.returns-clause-fails
 returns-clause-fails g c =
     err-along c.tell_paused.result c.tell_paused.ensures.halts c.tell_paused.ensures.refused (λ halts refused r.
-    second-fails (g.P.Plant.state c.args.p.now) (g.P.Plant.state c.suspend.new.p) (world_seen (g.P.Plant.state c.args.p.now) c.args.c.now r c.args.j.now.events) (world_seen (g.P.Plant.state c.suspend.new.p) c.args.c.now r c.suspend.new.j.events) (world_seen (g.P.Plant.state c.tell_paused.new.p) c.args.c.now r c.tell_paused.new.j.events) (refusal_of c.tell_paused.result) (now (Suspend c.args.a.0 false)) (tell_paused c.args.a.0 c.args.b.0) c.in_ok-suspend.ensures.unarmed (c.in_ok-suspend.ensures.advances r) (halts r))
+    second-fails (g.P.Plant.state c.args.plant.now) (g.P.Plant.state c.suspend.new.plant) (world_seen (g.P.Plant.state c.args.plant.now) c.args.config.now r c.args.journal.now.events) (world_seen (g.P.Plant.state c.suspend.new.plant) c.args.config.now r c.suspend.new.journal.events) (world_seen (g.P.Plant.state c.tell_paused.new.plant) c.args.config.now r c.tell_paused.new.journal.events) (refusal_of c.tell_paused.result) (now (Suspend c.args.a.0 false)) (tell_paused c.args.a.0 c.args.b.0) c.in_ok-suspend.ensures.unarmed (c.in_ok-suspend.ensures.advances r) (halts r))
 
 pub returns-clause-stops : goal.returns-clause-stops
 returns-clause-stops g c = err-along c.tell_paused.result c.tell_paused.ensures.refused c.tell_paused.ensures.refused (λ refused again. ap is_stop refused)
@@ -41,10 +41,10 @@ pub returns-clause-unarmed : goal.returns-clause-unarmed
 returns-clause-unarmed g c q none = c.tell_paused.ensures.unarmed q (c.in_ok-suspend.ensures.unarmed q none)
 
 pub returns-clause-faults : goal.returns-clause-faults
-returns-clause-faults g c = subst (λ n. Counted (is_err c.tell_paused.result) n (g.P.Plant.state c.tell_paused.new.p).faults) c.in_ok-suspend.ensures.faults c.tell_paused.ensures.faults
+returns-clause-faults g c = subst (λ n. Counted (is_err c.tell_paused.result) n (g.P.Plant.state c.tell_paused.new.plant).faults) c.in_ok-suspend.ensures.faults c.tell_paused.ensures.faults
 
 pub returns-clause-others : goal.returns-clause-others
-returns-clause-others g c q na nb = before-then (g.P.Plant.state c.args.p.now) (g.P.Plant.state c.suspend.new.p) (g.P.Plant.state c.tell_paused.new.p) c.args.c.now q (c.in_ok-suspend.ensures.others q na) (c.tell_paused.ensures.others q nb)
+returns-clause-others g c q na nb = before-then (g.P.Plant.state c.args.plant.now) (g.P.Plant.state c.suspend.new.plant) (g.P.Plant.state c.tell_paused.new.plant) c.args.config.now q (c.in_ok-suspend.ensures.others q na) (c.tell_paused.ensures.others q nb)
 
 pub returns-clause-on : goal.returns-clause-on
 returns-clause-on g c = ok-along c.tell_paused.result c.tell_paused.ensures.on (λ same. same ∙ c.in_ok-suspend.ensures.on)

@@ -9,14 +9,14 @@ use Rattle.dr_gcopy.proofs.pausing.resume.Goals as goal
 
 pub returns-in-Some-clause-carried : goal.returns-in-Some-clause-carried
 returns-in-Some-clause-carried g c r =
-    subst (λ (k : Part). Ends (armed_in (g.P.Plant.state c.args.p.now)) (world_seen (g.P.Plant.state c.args.p.now) c.args.c.now r c.args.j.now.events) (Some c.in-Some.why) (world_seen (g.P.Plant.state c.args.p.now) c.args.c.now r c.args.j.now.events) (resume_entries (world_seen (g.P.Plant.state c.args.p.now) c.args.c.now r c.args.j.now.events).control c.args.a.0 c.args.b.0 k)) c.part_of.ensures.part
-    (c.in-Some.ensures.checked r c.args.j.now.events (armed_in (g.P.Plant.state c.args.p.now)) _)
+    subst (λ (k : Part). Ends (armed_in (g.P.Plant.state c.args.plant.now)) (world_seen (g.P.Plant.state c.args.plant.now) c.args.config.now r c.args.journal.now.events) (Some c.in-Some.why) (world_seen (g.P.Plant.state c.args.plant.now) c.args.config.now r c.args.journal.now.events) (resume_entries (world_seen (g.P.Plant.state c.args.plant.now) c.args.config.now r c.args.journal.now.events).control c.args.a.0 c.args.b.0 k)) c.part_of.ensures.part
+    (c.in-Some.ensures.checked r c.args.journal.now.events (armed_in (g.P.Plant.state c.args.plant.now)) _)
 
 pub returns-clause-carried : goal.returns-clause-carried
 returns-clause-carried g c r =
-    subst (λ (k : Part). Ends (armed_in (g.P.Plant.state c.args.p.now)) (world_seen (g.P.Plant.state c.resume_both.new.p) c.args.c.now r c.resume_both.new.j.events) (refusal_of c.resume_both.result) (world_seen (g.P.Plant.state c.args.p.now) c.args.c.now r c.args.j.now.events) (resume_entries (world_seen (g.P.Plant.state c.args.p.now) c.args.c.now r c.args.j.now.events).control c.args.a.0 c.args.b.0 k)) c.part_of.ensures.part
-    (c.in_default.ensures.checked r c.args.j.now.events (armed_in (g.P.Plant.state c.args.p.now)) (world_seen (g.P.Plant.state c.resume_both.new.p) c.args.c.now r c.resume_both.new.j.events) (refusal_of c.resume_both.result) _
-    (ends-by c.resume_both.result (armed_in (g.P.Plant.state c.args.p.now)) (λ r. (world_seen (g.P.Plant.state c.args.p.now) c.args.c.now r c.args.j.now.events)) (λ r. (world_seen (g.P.Plant.state c.resume_both.new.p) c.args.c.now r c.resume_both.new.j.events)) (follow_on c.args.a.0 c.args.b.0 ∷ resume_on c.args.a.0 ∷ []) c.resume_both.ensures.leads c.resume_both.ensures.fails r))
+    subst (λ (k : Part). Ends (armed_in (g.P.Plant.state c.args.plant.now)) (world_seen (g.P.Plant.state c.resume_both.new.plant) c.args.config.now r c.resume_both.new.journal.events) (refusal_of c.resume_both.result) (world_seen (g.P.Plant.state c.args.plant.now) c.args.config.now r c.args.journal.now.events) (resume_entries (world_seen (g.P.Plant.state c.args.plant.now) c.args.config.now r c.args.journal.now.events).control c.args.a.0 c.args.b.0 k)) c.part_of.ensures.part
+    (c.in_default.ensures.checked r c.args.journal.now.events (armed_in (g.P.Plant.state c.args.plant.now)) (world_seen (g.P.Plant.state c.resume_both.new.plant) c.args.config.now r c.resume_both.new.journal.events) (refusal_of c.resume_both.result) _
+    (ends-by c.resume_both.result (armed_in (g.P.Plant.state c.args.plant.now)) (λ r. (world_seen (g.P.Plant.state c.args.plant.now) c.args.config.now r c.args.journal.now.events)) (λ r. (world_seen (g.P.Plant.state c.resume_both.new.plant) c.args.config.now r c.resume_both.new.journal.events)) (follow_on c.args.a.0 c.args.b.0 ∷ resume_on c.args.a.0 ∷ []) c.resume_both.ensures.leads c.resume_both.ensures.fails r))
 
 pub returns-clause-unchanged : goal.returns-clause-unchanged
 returns-clause-unchanged g c calm =

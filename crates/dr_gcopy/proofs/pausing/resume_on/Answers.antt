@@ -12,8 +12,8 @@ use Rattle.dr_gcopy.proofs.pausing.resume_on.Goals as goal
 
 pub returns-clause-advances : goal.returns-clause-advances
 returns-clause-advances g c =
-    ok-along c.resume_primary.result c.resume_primary.ensures.advances (λ goes r. alike-advances (world_seen (g.P.Plant.state c.args.p.now) c.args.c.now r c.args.j.now.events) (world_seen (g.P.Plant.state c.resume_primary.new.p) c.args.c.now r c.resume_primary.new.j.events) (resume_on c.args.a.0) (now (Resume c.args.a.0 c.next_state-state.result)) (ap (λ (f : Fields). Do (Make (Resume c.args.a.0 (next_state f)))) (sym c.peek_fields.ensures.fields) ∙ ap (λ (s : PairState). Do (Make (Resume c.args.a.0 s))) (sym c.next_state-state.ensures)) (goes r))
+    ok-along c.resume_primary.result c.resume_primary.ensures.advances (λ goes r. alike-advances (world_seen (g.P.Plant.state c.args.plant.now) c.args.config.now r c.args.journal.now.events) (world_seen (g.P.Plant.state c.resume_primary.new.plant) c.args.config.now r c.resume_primary.new.journal.events) (resume_on c.args.a.0) (now (Resume c.args.a.0 c.next_state-state.result)) (ap (λ (f : Fields). Do (Make (Resume c.args.a.0 (next_state f)))) (sym c.peek_fields.ensures.fields) ∙ ap (λ (s : PairState). Do (Make (Resume c.args.a.0 s))) (sym c.next_state-state.ensures)) (goes r))
 
 pub returns-clause-halts : goal.returns-clause-halts
 returns-clause-halts g c =
-    err-along c.resume_primary.result c.resume_primary.ensures.halts c.resume_primary.ensures.refused (λ halts refused r. alike-halts (armed_in (g.P.Plant.state c.args.p.now)) (world_seen (g.P.Plant.state c.args.p.now) c.args.c.now r c.args.j.now.events) (world_seen (g.P.Plant.state c.resume_primary.new.p) c.args.c.now r c.resume_primary.new.j.events) (refusal_of c.resume_primary.result) (resume_on c.args.a.0) (now (Resume c.args.a.0 c.next_state-state.result)) (ap (λ (f : Fields). Do (Make (Resume c.args.a.0 (next_state f)))) (sym c.peek_fields.ensures.fields) ∙ ap (λ (s : PairState). Do (Make (Resume c.args.a.0 s))) (sym c.next_state-state.ensures)) (halts r))
+    err-along c.resume_primary.result c.resume_primary.ensures.halts c.resume_primary.ensures.refused (λ halts refused r. alike-halts (armed_in (g.P.Plant.state c.args.plant.now)) (world_seen (g.P.Plant.state c.args.plant.now) c.args.config.now r c.args.journal.now.events) (world_seen (g.P.Plant.state c.resume_primary.new.plant) c.args.config.now r c.resume_primary.new.journal.events) (refusal_of c.resume_primary.result) (resume_on c.args.a.0) (now (Resume c.args.a.0 c.next_state-state.result)) (ap (λ (f : Fields). Do (Make (Resume c.args.a.0 (next_state f)))) (sym c.peek_fields.ensures.fields) ∙ ap (λ (s : PairState). Do (Make (Resume c.args.a.0 s))) (sym c.next_state-state.ensures)) (halts r))

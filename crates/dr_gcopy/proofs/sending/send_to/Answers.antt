@@ -8,22 +8,22 @@ use Rattle.dr_gcopy.proofs.sending.send_to.Goals as goal
 
 pub returns-in-Ok-clause-carried : goal.returns-in-Ok-clause-carried
 returns-in-Ok-clause-carried g c r =
-    record { middle = (world_seen (g.P.Plant.state c.send_on.new.p) c.args.c.now r c.send_on.new.j.events); ends = led (armed_in (g.P.Plant.state c.args.p.now)) (world_seen (g.P.Plant.state c.args.p.now) c.args.c.now r c.args.j.now.events) (world_seen (g.P.Plant.state c.send_on.new.p) c.args.c.now r c.send_on.new.j.events) (send_entries (ids_of c.args.c.now.volumes) c.args.a.0 c.args.b.0 c.args.t) (c.in-Ok.ensures.leads r); followed = refl }
+    record { middle = (world_seen (g.P.Plant.state c.send_on.new.plant) c.args.config.now r c.send_on.new.journal.events); ends = led (armed_in (g.P.Plant.state c.args.plant.now)) (world_seen (g.P.Plant.state c.args.plant.now) c.args.config.now r c.args.journal.now.events) (world_seen (g.P.Plant.state c.send_on.new.plant) c.args.config.now r c.send_on.new.journal.events) (send_entries (ids_of c.args.config.now.volumes) c.args.a.0 c.args.b.0 c.args.t) (c.in-Ok.ensures.leads r); followed = refl }
 
 pub returns-in-Err-clause-carried : goal.returns-in-Err-clause-carried
 returns-in-Err-clause-carried g c r =
     record {
-      middle = (world_seen (g.P.Plant.state c.send_on.new.p) c.args.c.now r c.send_on.new.j.events);
-      ends = failed (armed_in (g.P.Plant.state c.args.p.now)) (world_seen (g.P.Plant.state c.args.p.now) c.args.c.now r c.args.j.now.events) (world_seen (g.P.Plant.state c.send_on.new.p) c.args.c.now r c.send_on.new.j.events) (Some c.in-Err.why) (send_entries (ids_of c.args.c.now.volumes) c.args.a.0 c.args.b.0 c.args.t) (c.in-Err.ensures.fails r);
-      followed = follows-wider (armed_in (g.P.Plant.state c.send_on.new.p)) (armed_in (g.P.Plant.state c.args.p.now)) (wider-armed (g.P.Plant.state c.args.p.now) (g.P.Plant.state c.send_on.new.p) c.in-Err.ensures.unarmed) (world_seen (g.P.Plant.state c.send_on.new.p) c.args.c.now r c.send_on.new.j.events) (Some c.in-Err.why) (suspend_after c.args.a.0) (world_seen (g.P.Plant.state c.follow_stop.new.p) c.args.c.now r c.follow_stop.new.j.events) (c.follow_stop.ensures.follows r);
+      middle = (world_seen (g.P.Plant.state c.send_on.new.plant) c.args.config.now r c.send_on.new.journal.events);
+      ends = failed (armed_in (g.P.Plant.state c.args.plant.now)) (world_seen (g.P.Plant.state c.args.plant.now) c.args.config.now r c.args.journal.now.events) (world_seen (g.P.Plant.state c.send_on.new.plant) c.args.config.now r c.send_on.new.journal.events) (Some c.in-Err.why) (send_entries (ids_of c.args.config.now.volumes) c.args.a.0 c.args.b.0 c.args.t) (c.in-Err.ensures.fails r);
+      followed = follows-wider (armed_in (g.P.Plant.state c.send_on.new.plant)) (armed_in (g.P.Plant.state c.args.plant.now)) (wider-armed (g.P.Plant.state c.args.plant.now) (g.P.Plant.state c.send_on.new.plant) c.in-Err.ensures.unarmed) (world_seen (g.P.Plant.state c.send_on.new.plant) c.args.config.now r c.send_on.new.journal.events) (Some c.in-Err.why) (suspend_after c.args.a.0) (world_seen (g.P.Plant.state c.follow_stop.new.plant) c.args.config.now r c.follow_stop.new.journal.events) (c.follow_stop.ensures.follows r);
     }
 
 pub returns-in-Err-clause-fails : goal.returns-in-Err-clause-fails
 returns-in-Err-clause-fails g c r =
     record {
-      middle = (world_seen (g.P.Plant.state c.send_on.new.p) c.args.c.now r c.send_on.new.j.events);
+      middle = (world_seen (g.P.Plant.state c.send_on.new.plant) c.args.config.now r c.send_on.new.journal.events);
       fails = c.in-Err.ensures.fails r;
-      followed = follows-wider (armed_in (g.P.Plant.state c.send_on.new.p)) (armed_in (g.P.Plant.state c.args.p.now)) (wider-armed (g.P.Plant.state c.args.p.now) (g.P.Plant.state c.send_on.new.p) c.in-Err.ensures.unarmed) (world_seen (g.P.Plant.state c.send_on.new.p) c.args.c.now r c.send_on.new.j.events) (Some c.in-Err.why) (suspend_after c.args.a.0) (world_seen (g.P.Plant.state c.follow_stop.new.p) c.args.c.now r c.follow_stop.new.j.events) (c.follow_stop.ensures.follows r);
+      followed = follows-wider (armed_in (g.P.Plant.state c.send_on.new.plant)) (armed_in (g.P.Plant.state c.args.plant.now)) (wider-armed (g.P.Plant.state c.args.plant.now) (g.P.Plant.state c.send_on.new.plant) c.in-Err.ensures.unarmed) (world_seen (g.P.Plant.state c.send_on.new.plant) c.args.config.now r c.send_on.new.journal.events) (Some c.in-Err.why) (suspend_after c.args.a.0) (world_seen (g.P.Plant.state c.follow_stop.new.plant) c.args.config.now r c.follow_stop.new.journal.events) (c.follow_stop.ensures.follows r);
     }
 
 pub returns-in-Err-clause-unarmed : goal.returns-in-Err-clause-unarmed
@@ -32,8 +32,8 @@ returns-in-Err-clause-unarmed g c q none =
 
 pub returns-in-Err-clause-faults : goal.returns-in-Err-clause-faults
 returns-in-Err-clause-faults g c =
-    c.follow_stop.ensures.faults (g.P.Plant.state c.args.p.now).faults c.in-Err.ensures.faults
+    c.follow_stop.ensures.faults (g.P.Plant.state c.args.plant.now).faults c.in-Err.ensures.faults
 
 pub returns-in-Err-clause-others : goal.returns-in-Err-clause-others
 returns-in-Err-clause-others g c q na nb other =
-    before-then (g.P.Plant.state c.args.p.now) (g.P.Plant.state c.send_on.new.p) (g.P.Plant.state c.follow_stop.new.p) c.args.c.now q (c.in-Err.ensures.others q na nb other) (c.follow_stop.ensures.others q na)
+    before-then (g.P.Plant.state c.args.plant.now) (g.P.Plant.state c.send_on.new.plant) (g.P.Plant.state c.follow_stop.new.plant) c.args.config.now q (c.in-Err.ensures.others q na nb other) (c.follow_stop.ensures.others q na)

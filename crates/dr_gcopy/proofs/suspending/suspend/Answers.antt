@@ -17,52 +17,52 @@ use Rattle.dr_gcopy.proofs.suspending.suspend.Goals as goal
 
 pub shift-requires-clause-lawful : goal.shift-requires-clause-lawful
 shift-requires-clause-lawful g c =
-    let s = g.P.Plant.state c.args.p.now in
-    let t = c.args.c.now in
+    let s = g.P.Plant.state c.args.plant.now in
+    let t = c.args.config.now in
     let x = volume_seen s t c.args.a.0 in
     (subst (λ f. MoveFits s t c.args.a.0 f None) (sym (c.suspended-next.ensures ∙ ap (suspended c.args.busy) c.peek_fields-fields.ensures.fields)) (suspend-fits s t c.args.a.0 c.requires.fit (subst (λ (f : Fields). IsLawful x.tracks f) c.peek_fields-fields.ensures.fields c.peek_fields-fields.ensures.lawful) c.args.busy c.requires.primary)).lawful
 
 pub shift-requires-clause-leaves : goal.shift-requires-clause-leaves
 shift-requires-clause-leaves g c =
-    let s = g.P.Plant.state c.args.p.now in
-    let t = c.args.c.now in
+    let s = g.P.Plant.state c.args.plant.now in
+    let t = c.args.config.now in
     let x = volume_seen s t c.args.a.0 in
     (subst (λ f. MoveFits s t c.args.a.0 f None) (sym (c.suspended-next.ensures ∙ ap (suspended c.args.busy) c.peek_fields-fields.ensures.fields)) (suspend-fits s t c.args.a.0 c.requires.fit (subst (λ (f : Fields). IsLawful x.tracks f) c.peek_fields-fields.ensures.fields c.peek_fields-fields.ensures.lawful) c.args.busy c.requires.primary)).leaves
 
 pub returns-clause-advances : goal.returns-clause-advances
 returns-clause-advances g c =
-    let s = g.P.Plant.state c.args.p.now in
-    let t = c.args.c.now in
+    let s = g.P.Plant.state c.args.plant.now in
+    let t = c.args.config.now in
     let x = volume_seen s t c.args.a.0 in
     ok-along c.shift.result c.shift.ensures.done (λ done r.
-    advances (world_seen s t r c.args.j.now.events) (Suspend c.args.a.0 c.args.busy) c.of-told.result (plain c.suspended-next.result) None (on-running s x.server c.requires.running)
+    advances (world_seen s t r c.args.journal.now.events) (Suspend c.args.a.0 c.args.busy) c.of-told.result (plain c.suspended-next.result) None (on-running s x.server c.requires.running)
     (subst (λ y. Tells (Suspend c.args.a.0 c.args.busy) x y) (sym (c.of-told.ensures ∙ ap (λ (d : Told). record { done = d; in_stop = d; landed = 0 }) (c.told_of.ensures ∙ ap (λ (f : Fields). told_suspended c.args.a.0 f.primary_state) c.peek_fields-fields.ensures.fields))) (tells-suspend c.args.a.0 c.args.busy x)) (sym (c.suspended-next.ensures ∙ ap (suspended c.args.busy) c.peek_fields-fields.ensures.fields)) (refl)
-    (world_seen (g.P.Plant.state c.shift.new.p) t r c.shift.new.j.events) (done r))
+    (world_seen (g.P.Plant.state c.shift.new.plant) t r c.shift.new.journal.events) (done r))
 
 pub returns-clause-halts : goal.returns-clause-halts
 returns-clause-halts g c =
-    let s = g.P.Plant.state c.args.p.now in
-    let t = c.args.c.now in
+    let s = g.P.Plant.state c.args.plant.now in
+    let t = c.args.config.now in
     let x = volume_seen s t c.args.a.0 in
     err-along c.shift.result c.shift.ensures.failed c.shift.ensures.refused (λ failed refused r.
-    halts (world_seen s t r c.args.j.now.events) (Suspend c.args.a.0 c.args.busy) c.of-told.result (plain c.suspended-next.result) None (on-running s x.server c.requires.running)
+    halts (world_seen s t r c.args.journal.now.events) (Suspend c.args.a.0 c.args.busy) c.of-told.result (plain c.suspended-next.result) None (on-running s x.server c.requires.running)
     (subst (λ y. Tells (Suspend c.args.a.0 c.args.busy) x y) (sym (c.of-told.ensures ∙ ap (λ (d : Told). record { done = d; in_stop = d; landed = 0 }) (c.told_of.ensures ∙ ap (λ (f : Fields). told_suspended c.args.a.0 f.primary_state) c.peek_fields-fields.ensures.fields))) (tells-suspend c.args.a.0 c.args.busy x)) (sym (c.suspended-next.ensures ∙ ap (suspended c.args.busy) c.peek_fields-fields.ensures.fields)) (refl)
-    (armed_in s) (world_seen (g.P.Plant.state c.shift.new.p) t r c.shift.new.j.events) (refusal_of c.shift.result) refused (failed r))
+    (armed_in s) (world_seen (g.P.Plant.state c.shift.new.plant) t r c.shift.new.journal.events) (refusal_of c.shift.result) refused (failed r))
 
 pub returns-clause-carried : goal.returns-clause-carried
 returns-clause-carried g c =
-    let s = g.P.Plant.state c.args.p.now in
-    let t = c.args.c.now in
+    let s = g.P.Plant.state c.args.plant.now in
+    let t = c.args.config.now in
     let x = volume_seen s t c.args.a.0 in
-    act-ends c.shift.result (armed_in s) (λ r. world_seen s t r c.args.j.now.events) (λ r. world_seen (g.P.Plant.state c.shift.new.p) t r c.shift.new.j.events) (now (Suspend c.args.a.0 c.args.busy))
+    act-ends c.shift.result (armed_in s) (λ r. world_seen s t r c.args.journal.now.events) (λ r. world_seen (g.P.Plant.state c.shift.new.plant) t r c.shift.new.journal.events) (now (Suspend c.args.a.0 c.args.busy))
     (ok-along c.shift.result c.shift.ensures.done (λ done r.
-    advances (world_seen s t r c.args.j.now.events) (Suspend c.args.a.0 c.args.busy) c.of-told.result (plain c.suspended-next.result) None (on-running s x.server c.requires.running)
+    advances (world_seen s t r c.args.journal.now.events) (Suspend c.args.a.0 c.args.busy) c.of-told.result (plain c.suspended-next.result) None (on-running s x.server c.requires.running)
     (subst (λ y. Tells (Suspend c.args.a.0 c.args.busy) x y) (sym (c.of-told.ensures ∙ ap (λ (d : Told). record { done = d; in_stop = d; landed = 0 }) (c.told_of.ensures ∙ ap (λ (f : Fields). told_suspended c.args.a.0 f.primary_state) c.peek_fields-fields.ensures.fields))) (tells-suspend c.args.a.0 c.args.busy x)) (sym (c.suspended-next.ensures ∙ ap (suspended c.args.busy) c.peek_fields-fields.ensures.fields)) (refl)
-    (world_seen (g.P.Plant.state c.shift.new.p) t r c.shift.new.j.events) (done r)))
+    (world_seen (g.P.Plant.state c.shift.new.plant) t r c.shift.new.journal.events) (done r)))
     (err-along c.shift.result c.shift.ensures.failed c.shift.ensures.refused (λ failed refused r.
-    halts (world_seen s t r c.args.j.now.events) (Suspend c.args.a.0 c.args.busy) c.of-told.result (plain c.suspended-next.result) None (on-running s x.server c.requires.running)
+    halts (world_seen s t r c.args.journal.now.events) (Suspend c.args.a.0 c.args.busy) c.of-told.result (plain c.suspended-next.result) None (on-running s x.server c.requires.running)
     (subst (λ y. Tells (Suspend c.args.a.0 c.args.busy) x y) (sym (c.of-told.ensures ∙ ap (λ (d : Told). record { done = d; in_stop = d; landed = 0 }) (c.told_of.ensures ∙ ap (λ (f : Fields). told_suspended c.args.a.0 f.primary_state) c.peek_fields-fields.ensures.fields))) (tells-suspend c.args.a.0 c.args.busy x)) (sym (c.suspended-next.ensures ∙ ap (suspended c.args.busy) c.peek_fields-fields.ensures.fields)) (refl)
-    (armed_in s) (world_seen (g.P.Plant.state c.shift.new.p) t r c.shift.new.j.events) (refusal_of c.shift.result) refused (failed r)))
+    (armed_in s) (world_seen (g.P.Plant.state c.shift.new.plant) t r c.shift.new.journal.events) (refusal_of c.shift.result) refused (failed r)))
 
 pub shift-requires-clause-room : goal.shift-requires-clause-room
 shift-requires-clause-room g c =

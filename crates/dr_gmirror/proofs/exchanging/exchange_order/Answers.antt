@@ -13,40 +13,40 @@ carry_out-requires-clause-begins g c = c.requires.may.1.may
 pub reply_if-requires-clause-expected : goal.reply_if-requires-clause-expected
 reply_if-requires-clause-expected g c on =
     let r = c.requires.may.0 in
-    let u = g.P.Plant.state c.carry_out.new.p in
-    let t = c.args.c.now in
-    let v = world_seen u t (with_sessions c.carry_out.new.ss.sessions r) c.carry_out.new.j.events in
+    let u = g.P.Plant.state c.carry_out.new.plant in
+    let t = c.args.config.now in
+    let v = world_seen u t (with_sessions c.carry_out.new.ss.sessions r) c.carry_out.new.journal.events in
     let ms = members_on c.args.server.0 (members_in (session_in c.args.ss.now.sessions c.args.s.0)) in
     expected-by (mirror_in (session_in c.carry_out.new.ss.sessions c.args.s.0)) c.args.server.0 c.in-Ok.y (reply_after c.args.s.0 (work_of c.args.order.kind) ms v.control)
-    (c.in-Ok.ensures.reply (with_sessions c.carry_out.new.ss.sessions r) c.carry_out.new.j.events) c.in-Ok.ensures.count (c.requires.may.1.awaited v (c.in-Ok.ensures.leads r))
+    (c.in-Ok.ensures.reply (with_sessions c.carry_out.new.ss.sessions r) c.carry_out.new.journal.events) c.in-Ok.ensures.count (c.requires.may.1.awaited v (c.in-Ok.ensures.leads r))
 
 pub returns-in-Ok-clause-carried : goal.returns-in-Ok-clause-carried
 returns-in-Ok-clause-carried g c r =
-    let s = g.P.Plant.state c.args.p.now in
-    let u = g.P.Plant.state c.carry_out.new.p in
-    let t = c.args.c.now in
+    let s = g.P.Plant.state c.args.plant.now in
+    let u = g.P.Plant.state c.carry_out.new.plant in
+    let t = c.args.config.now in
     let ms = members_on c.args.server.0 (members_in (session_in c.args.ss.now.sessions c.args.s.0)) in
-    let v = world_seen u t (with_sessions c.carry_out.new.ss.sessions r) c.carry_out.new.j.events in
+    let v = world_seen u t (with_sessions c.carry_out.new.ss.sessions r) c.carry_out.new.journal.events in
     record {
       middle = v;
       refusal = None;
-      ends = silent-ends (armed_in s) v (world_seen s t (with_sessions c.args.ss.now.sessions r) c.args.j.now.events) None (order_entries (work_of c.args.order.kind) c.args.s.0 c.args.order.n ms) (c.in-Ok.ensures.carried r);
-      world = last-world c.args.reply u t c.carry_out.new.ss.sessions c.reply_if.new.ss.sessions r c.carry_out.new.j.events c.args.s.0 c.args.server.0 (work_of c.args.order.kind) ms (reply_of c.in-Ok.y) c.reply_if.ensures
-          (c.in-Ok.ensures.reply (with_sessions c.carry_out.new.ss.sessions r) c.carry_out.new.j.events);
+      ends = silent-ends (armed_in s) v (world_seen s t (with_sessions c.args.ss.now.sessions r) c.args.journal.now.events) None (order_entries (work_of c.args.order.kind) c.args.s.0 c.args.order.n ms) (c.in-Ok.ensures.carried r);
+      world = last-world c.args.reply u t c.carry_out.new.ss.sessions c.reply_if.new.ss.sessions r c.carry_out.new.journal.events c.args.s.0 c.args.server.0 (work_of c.args.order.kind) ms (reply_of c.in-Ok.y) c.reply_if.ensures
+          (c.in-Ok.ensures.reply (with_sessions c.carry_out.new.ss.sessions r) c.carry_out.new.journal.events);
       answers = refl;
     }
 
 pub returns-in-Err-clause-carried : goal.returns-in-Err-clause-carried
 returns-in-Err-clause-carried g c r =
-    let s = g.P.Plant.state c.args.p.now in
-    let u = g.P.Plant.state c.carry_out.new.p in
-    let t = c.args.c.now in
+    let s = g.P.Plant.state c.args.plant.now in
+    let u = g.P.Plant.state c.carry_out.new.plant in
+    let t = c.args.config.now in
     let ms = members_on c.args.server.0 (members_in (session_in c.args.ss.now.sessions c.args.s.0)) in
-    let v = world_seen u t (with_sessions c.carry_out.new.ss.sessions r) c.carry_out.new.j.events in
+    let v = world_seen u t (with_sessions c.carry_out.new.ss.sessions r) c.carry_out.new.journal.events in
     record {
       middle = v;
       refusal = Some c.in-Err.why;
-      ends = silent-ends (armed_in s) v (world_seen s t (with_sessions c.args.ss.now.sessions r) c.args.j.now.events) (Some c.in-Err.why) (order_entries (work_of c.args.order.kind) c.args.s.0 c.args.order.n ms) (c.in-Err.ensures.carried r);
+      ends = silent-ends (armed_in s) v (world_seen s t (with_sessions c.args.ss.now.sessions r) c.args.journal.now.events) (Some c.in-Err.why) (order_entries (work_of c.args.order.kind) c.args.s.0 c.args.order.n ms) (c.in-Err.ensures.carried r);
       world = follow-nothing v c.in-Err.why;
       answers = refl;
     }

@@ -8,13 +8,13 @@ use Rattle.dr_gmirror.proofs.exchanging.exchange_refusal.Goals as goal
 
 pub returns-in-Some-clause-refusal : goal.returns-in-Some-clause-refusal
 returns-in-Some-clause-refusal g c q events r looks built =
-    let k = (world_seen (g.P.Plant.state c.args.p.now) c.args.c.now q events).control in
+    let k = (world_seen (g.P.Plant.state c.args.plant.now) c.args.config.now q events).control in
     let ms = members_in (session_in c.args.ss.now.sessions c.args.s.0) in
     ap (λ (o : Option Refusal). option_or o (option_or (plans.phase_refusal r c.args.server.0 ms) (option_or (plans.off_refusal k c.args.server.0) (plans.apart_refusal k r.server c.args.server.0)))) (c.in-Some.ensures.refusal q events ∙ ap (plans.off_refusal k) looks.runs)
 
 pub returns-in-Some-off_refusal-clause-refusal : goal.returns-in-Some-off_refusal-clause-refusal
 returns-in-Some-off_refusal-clause-refusal g c q events r looks built =
-    let k = (world_seen (g.P.Plant.state c.args.p.now) c.args.c.now q events).control in
+    let k = (world_seen (g.P.Plant.state c.args.plant.now) c.args.config.now q events).control in
     let a = c.in_default.ensures.refusal q events ∙ ap (plans.off_refusal k) looks.runs in
     let b = c.in_default-phase_refusal.ensures.refusal r looks built in
     let d = c.in-Some-off_refusal.ensures.refusal q events in

@@ -20,25 +20,25 @@ begin_if-requires g c = record {
 
 pub returns-clause-leads : goal.returns-clause-leads
 returns-clause-leads g c =
-    let s = g.P.Plant.state c.args.p.now in
-    let u = g.P.Plant.state c.hold_and_swap-result.new.p in
-    let t = c.args.c.now in
+    let s = g.P.Plant.state c.args.plant.now in
+    let u = g.P.Plant.state c.hold_and_swap-result.new.plant in
+    let t = c.args.config.now in
     let ss = c.args.ss.now.sessions in
     let b : c.has_begun.result ≡ begins c.is_first-first.result s u t c.args.m.now.a.0 = c.has_begun.ensures ∙ (λ i. c.is_first-first.result && not (equal (c.slot-before.ensures i) (c.slot-after.ensures i))) in
     ok-along c.hold_and_swap-result.result c.hold_and_swap-result.ensures.leads (λ goes r.
-    subst (λ (z : Rest). Leads (world_seen s t (with_sessions ss r) c.args.j.now.events) (hold_entries c.args.s.0 c.args.m.now.a.0 c.args.m.now.b.0 c.args.n) (world_seen u t z c.hold_and_swap-result.new.j.events))
+    subst (λ (z : Rest). Leads (world_seen s t (with_sessions ss r) c.args.journal.now.events) (hold_entries c.args.s.0 c.args.m.now.a.0 c.args.m.now.b.0 c.args.n) (world_seen u t z c.hold_and_swap-result.new.journal.events))
     (ap (λ b. begun_if b c.args.s.0 (with_sessions ss r)) (sym b) ∙ begun-rest c.has_begun.result ss c.args.s.0 r ∙ ap (λ z. with_sessions z r) (sym c.begin_if.ensures))
     (goes (with_sessions ss r) (sym c.is_first-first.ensures)))
 
 pub returns-clause-fails : goal.returns-clause-fails
 returns-clause-fails g c =
-    let s = g.P.Plant.state c.args.p.now in
-    let u = g.P.Plant.state c.hold_and_swap-result.new.p in
-    let t = c.args.c.now in
+    let s = g.P.Plant.state c.args.plant.now in
+    let u = g.P.Plant.state c.hold_and_swap-result.new.plant in
+    let t = c.args.config.now in
     let ss = c.args.ss.now.sessions in
     let b : c.has_begun.result ≡ begins c.is_first-first.result s u t c.args.m.now.a.0 = c.has_begun.ensures ∙ (λ i. c.is_first-first.result && not (equal (c.slot-before.ensures i) (c.slot-after.ensures i))) in
     err-along c.hold_and_swap-result.result c.hold_and_swap-result.ensures.fails c.hold_and_swap-result.ensures.fails (λ ends _ r.
-    subst (λ (z : Rest). Fails (armed_in s) (world_seen s t (with_sessions ss r) c.args.j.now.events) (hold_entries c.args.s.0 c.args.m.now.a.0 c.args.m.now.b.0 c.args.n) (world_seen u t z c.hold_and_swap-result.new.j.events) (refusal_of c.hold_and_swap-result.result))
+    subst (λ (z : Rest). Fails (armed_in s) (world_seen s t (with_sessions ss r) c.args.journal.now.events) (hold_entries c.args.s.0 c.args.m.now.a.0 c.args.m.now.b.0 c.args.n) (world_seen u t z c.hold_and_swap-result.new.journal.events) (refusal_of c.hold_and_swap-result.result))
     (ap (λ b. begun_if b c.args.s.0 (with_sessions ss r)) (sym b) ∙ begun-rest c.has_begun.result ss c.args.s.0 r ∙ ap (λ z. with_sessions z r) (sym c.begin_if.ensures))
     (ends (with_sessions ss r) (sym c.is_first-first.ensures)))
 
@@ -53,9 +53,9 @@ returns-clause-members g c =
 
 pub returns-clause-begun : goal.returns-clause-begun
 returns-clause-begun g c =
-    let s = g.P.Plant.state c.args.p.now in
-    let u = g.P.Plant.state c.hold_and_swap-result.new.p in
-    let t = c.args.c.now in
+    let s = g.P.Plant.state c.args.plant.now in
+    let u = g.P.Plant.state c.hold_and_swap-result.new.plant in
+    let t = c.args.config.now in
     let b : c.has_begun.result ≡ begins c.is_first-first.result s u t c.args.m.now.a.0 = c.has_begun.ensures ∙ (λ i. c.is_first-first.result && not (equal (c.slot-before.ensures i) (c.slot-after.ensures i))) in
     ok-along c.hold_and_swap-result.result c.hold_and_swap-result.ensures.begins (λ begun fresh low.
     c.begin_if.ensures ∙ ap (λ z. begun_in z c.args.ss.now.sessions c.args.s.0) (b ∙ begun fresh ∙ c.is_first-first.ensures ∙ low))
@@ -72,12 +72,12 @@ returns-clause-room g c =
 
 pub returns-clause-room_left : goal.returns-clause-room_left
 returns-clause-room_left g c =
-    let s = g.P.Plant.state c.args.p.now in
-    let u = g.P.Plant.state c.hold_and_swap-result.new.p in
-    let t = c.args.c.now in
+    let s = g.P.Plant.state c.args.plant.now in
+    let u = g.P.Plant.state c.hold_and_swap-result.new.plant in
+    let t = c.args.config.now in
     let b : c.has_begun.result ≡ begins c.is_first-first.result s u t c.args.m.now.a.0 = c.has_begun.ensures ∙ (λ i. c.is_first-first.result && not (equal (c.slot-before.ensures i) (c.slot-after.ensures i))) in
     ok-along c.hold_and_swap-result.result c.hold_and_swap-result.ensures.room_left (λ left.
-    subst (λ z. c.args.j.now.spare + to_begin z c.args.s.0 c.args.n ≤ c.hold_and_swap-result.new.j.spare + (1 + to_begin c.args.ss.now.sessions c.args.s.0 c.args.n)) (sym c.begin_if.ensures)
-    (left-begun c.args.j.now.spare c.hold_and_swap-result.new.j.spare c.has_begun.result c.args.ss.now.sessions c.args.s.0 c.args.n c.requires.begins
+    subst (λ z. c.args.journal.now.spare + to_begin z c.args.s.0 c.args.n ≤ c.hold_and_swap-result.new.journal.spare + (1 + to_begin c.args.ss.now.sessions c.args.s.0 c.args.n)) (sym c.begin_if.ensures)
+    (left-begun c.args.journal.now.spare c.hold_and_swap-result.new.journal.spare c.has_begun.result c.args.ss.now.sessions c.args.s.0 c.args.n c.requires.begins
     (λ is. sym c.is_first-first.ensures ∙ (and_parts c.is_first-first.result _ (sym c.has_begun.ensures ∙ is)).0)
-    (subst (λ z. c.args.j.now.spare ≤ c.hold_and_swap-result.new.j.spare + (if z then 2 else 1)) (sym b) left)))
+    (subst (λ z. c.args.journal.now.spare ≤ c.hold_and_swap-result.new.journal.spare + (if z then 2 else 1)) (sym b) left)))

@@ -13,17 +13,17 @@ use Rattle.dr_gmirror.proofs.orders.carry_out.Given as goal
 abbrev pub invariant-loop-at : goal.invariant-loop-at
 invariant-loop-at g l = record {
   -- the members so far have led here
-  led : (r : Rest) → Leads (world_seen (g.P.Plant.state l.fn.p) l.c (with_sessions l.fn.ss.sessions r) l.fn.j.events) (order_entries (work_of l.order.kind) l.s.0 l.order.n (members_on l.server.0 (take l.at (members_in (session_in l.fn.ss.sessions l.s.0)))))
-      (world_seen (g.P.Plant.state l.p) l.c (with_sessions l.ss.sessions r) l.j.events);
+  led : (r : Rest) → Leads (world_seen (g.P.Plant.state l.fn.plant) l.config (with_sessions l.fn.ss.sessions r) l.fn.journal.events) (order_entries (work_of l.order.kind) l.s.0 l.order.n (members_on l.server.0 (take l.at (members_in (session_in l.fn.ss.sessions l.s.0)))))
+      (world_seen (g.P.Plant.state l.plant) l.config (with_sessions l.ss.sessions r) l.journal.events);
   members : members_in (session_in l.ss.sessions l.s.0) ≡ members_in (session_in l.fn.ss.sessions l.s.0);
-  waits : l.waits ≡ waits_in (work_of l.order.kind) (sync_seen (g.P.Plant.state l.p) l.c) (members_on l.server.0 (take l.at (members_in (session_in l.fn.ss.sessions l.s.0))));
+  waits : l.waits ≡ waits_in (work_of l.order.kind) (sync_seen (g.P.Plant.state l.plant) l.config) (members_on l.server.0 (take l.at (members_in (session_in l.fn.ss.sessions l.s.0))));
   may : MayOrder (work_of l.order.kind) l.ss.sessions l.s.0 l.order.n;
-  rest : IsAtRest (g.P.Plant.state l.p) l.c;
-  fit : RelationsFit (g.P.Plant.state l.p) l.c;
-  aside : AsideFits (g.P.Plant.state l.p) l.c;
-  unarmed : (q : ℕ) → (g.P.Plant.state l.fn.p).read_fuse q ≡ None → (g.P.Plant.state l.p).read_fuse q ≡ None;
-  on : (g.P.Plant.state l.p).on ≡ (g.P.Plant.state l.fn.p).on;
-  faults : (g.P.Plant.state l.p).faults ≡ (g.P.Plant.state l.fn.p).faults;
-  room : l.fn.j.spare + to_begin l.ss.sessions l.s.0 l.order.n ≤ l.j.spare + (l.at + to_begin l.fn.ss.sessions l.s.0 l.order.n);
-  spare : length l.j.events + l.j.spare ≡ length l.fn.j.events + l.fn.j.spare;
+  rest : IsAtRest (g.P.Plant.state l.plant) l.config;
+  fit : RelationsFit (g.P.Plant.state l.plant) l.config;
+  aside : AsideFits (g.P.Plant.state l.plant) l.config;
+  unarmed : (q : ℕ) → (g.P.Plant.state l.fn.plant).read_fuse q ≡ None → (g.P.Plant.state l.plant).read_fuse q ≡ None;
+  on : (g.P.Plant.state l.plant).on ≡ (g.P.Plant.state l.fn.plant).on;
+  faults : (g.P.Plant.state l.plant).faults ≡ (g.P.Plant.state l.fn.plant).faults;
+  room : l.fn.journal.spare + to_begin l.ss.sessions l.s.0 l.order.n ≤ l.journal.spare + (l.at + to_begin l.fn.ss.sessions l.s.0 l.order.n);
+  spare : length l.journal.events + l.journal.spare ≡ length l.fn.journal.events + l.fn.journal.spare;
 }

@@ -18,7 +18,7 @@ loop-at-preserved g c =
     let at : Some m ≡ slice_get ms c.loop-at.at = sym (sym c.member_at.ensures.value ∙ c.unwrap-m.ensures) in
     record {
       shown = λ r events.
-          let k = (world_seen (g.P.Plant.state c.args.p.now) c.args.c.now r events).control in
+          let k = (world_seen (g.P.Plant.state c.args.plant.now) c.args.config.now r events).control in
           c.note_if.ensures.shown
           ∙ (λ i. c.loop-at.invariant.shown r events i ++ (if counts_in c.args.s.0 (c.peek_fields.ensures.fields i) then shown_of (c.peek_fields.ensures.fields i) ∷ [] else []))
           ∙ ap (λ ys. shown_by_members c.args.s.0 (take c.loop-at.at ms) k ++ ys) (sym (shown-one c.args.s.0 k m))
@@ -31,5 +31,5 @@ pub returns-clause-shown : goal.returns-clause-shown
 returns-clause-shown g c r events =
     let ms = members_in (session_in c.args.ss.now.sessions c.args.s.0) in
     let all : length ms ≤ c.loop-at.at = let e = c.member_count-at-end.ensures in let f = c.loop-at-test.false in omega (arith, e, f) in
-    let k = (world_seen (g.P.Plant.state c.args.p.now) c.args.c.now r events).control in
+    let k = (world_seen (g.P.Plant.state c.args.plant.now) c.args.config.now r events).control in
     c.loop-at.invariant.shown r events ∙ ap (λ xs. shown_by_members c.args.s.0 xs k) (member-all ms c.loop-at.at all)

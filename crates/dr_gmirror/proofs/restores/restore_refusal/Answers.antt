@@ -15,12 +15,12 @@ decide_over-requires-clause-members g c = c.requires.members c.peek_fields-field
 
 pub returns-then-not-fields-clause-refusal : goal.returns-then-not-fields-clause-refusal
 returns-then-not-fields-clause-refusal g c r events =
-    let k = (world_seen (g.P.Plant.state c.args.p.now) c.args.c.now (with_sessions c.args.ss.now.sessions r) events).control in
+    let k = (world_seen (g.P.Plant.state c.args.plant.now) c.args.config.now (with_sessions c.args.ss.now.sessions r) events).control in
     settled-plain k c.args.t.0 (k.volume c.args.t.0).fields.session (sym (ap (λ (f : Fields). f.member) c.peek_fields-fields.ensures.fields) ∙ not-true c.peek_fields-fields.result.member c.if-not-fields.true)
 
 pub returns-in-Some-clause-refusal : goal.returns-in-Some-clause-refusal
 returns-in-Some-clause-refusal g c r events =
-    let k = (world_seen (g.P.Plant.state c.args.p.now) c.args.c.now (with_sessions c.args.ss.now.sessions r) events).control in
+    let k = (world_seen (g.P.Plant.state c.args.plant.now) c.args.config.now (with_sessions c.args.ss.now.sessions r) events).control in
     let is = c.peek_fields-fields.ensures.fields in
     ap (λ (f : Fields). plans.settled_refusal c.args.t.0 f.session k) (sym is)
     ∙ settled-member k c.args.t.0 c.peek_fields-fields.result.session (Some c.in-Some.why) _ (sym (ap (λ (f : Fields). f.member) is) ∙ not-false c.peek_fields-fields.result.member c.if-not-fields.false)
@@ -28,7 +28,7 @@ returns-in-Some-clause-refusal g c r events =
 
 pub returns-clause-refusal : goal.returns-clause-refusal
 returns-clause-refusal g c r events =
-    let k = (world_seen (g.P.Plant.state c.args.p.now) c.args.c.now (with_sessions c.args.ss.now.sessions r) events).control in
+    let k = (world_seen (g.P.Plant.state c.args.plant.now) c.args.config.now (with_sessions c.args.ss.now.sessions r) events).control in
     let is = c.peek_fields-fields.ensures.fields in
     ap (λ (f : Fields). plans.settled_refusal c.args.t.0 f.session k) (sym is)
     ∙ settled-member k c.args.t.0 c.peek_fields-fields.result.session None c.forbidden_unless_nothing.result (sym (ap (λ (f : Fields). f.member) is) ∙ not-false c.peek_fields-fields.result.member c.if-not-fields.false)

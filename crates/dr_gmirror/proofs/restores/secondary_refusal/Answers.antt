@@ -16,8 +16,8 @@ server_of-server-requires g c = record { defined = (c.requires.members c.loop-at
 
 pub returns-then-not-is_on-clause-refusal : goal.returns-then-not-is_on-clause-refusal
 returns-then-not-is_on-clause-refusal g c r events =
-    let s = g.P.Plant.state c.args.p.now in
-    let k = (world_seen s c.args.c.now r events).control in
+    let s = g.P.Plant.state c.args.plant.now in
+    let k = (world_seen s c.args.config.now r events).control in
     let m = c.unwrap-m.result in
     let off : not (is_running m.b.0 k) ≡ true = ap not (ap (on_seen s) (c.server_of-server.ensures.seen s) ∙ on-seen s c.server_of-server.result.0 c.server_of-server.ensures.known ∙ sym c.is_on.ensures ∙ c.if-not-is_on.true) in
     sym (ap (option_map (λ (m : Member). server_off (k.volume m.b.0).server)) (find-hit (λ (m : Member). not (is_running m.b.0 k)) (members_in (session_in c.args.ss.now.sessions c.args.s.0)) c.loop-at.at m (sym (sym c.member_at.ensures.value ∙ c.unwrap-m.ensures)) (c.loop-at.invariant.none r events) off)
@@ -26,14 +26,14 @@ returns-then-not-is_on-clause-refusal g c r events =
 pub loop-at-preserved : goal.loop-at-preserved
 loop-at-preserved g c = record {
   none = λ r events.
-      let s = g.P.Plant.state c.args.p.now in
-      let k = (world_seen s c.args.c.now r events).control in
+      let s = g.P.Plant.state c.args.plant.now in
+      let k = (world_seen s c.args.config.now r events).control in
       let m = c.unwrap-m.result in
       let on : not (is_running m.b.0 k) ≡ false = ap not (ap (on_seen s) (c.server_of-server.ensures.seen s) ∙ on-seen s c.server_of-server.result.0 c.server_of-server.ensures.known ∙ sym c.is_on.ensures ∙ c.if-not-is_on.false) in
       find-miss (λ (m : Member). not (is_running m.b.0 k)) (members_in (session_in c.args.ss.now.sessions c.args.s.0)) c.loop-at.at m (sym (sym c.member_at.ensures.value ∙ c.unwrap-m.ensures)) (c.loop-at.invariant.none r events) on;
   running =
-      let s = g.P.Plant.state c.args.p.now in
-      one-more (members_in (session_in c.args.ss.now.sessions c.args.s.0)) (λ m. s.on (volume_seen s c.args.c.now m.b.0).server ≡ true) c.loop-at.at c.unwrap-m.result (sym c.member_at.ensures.value ∙ c.unwrap-m.ensures)
+      let s = g.P.Plant.state c.args.plant.now in
+      one-more (members_in (session_in c.args.ss.now.sessions c.args.s.0)) (λ m. s.on (volume_seen s c.args.config.now m.b.0).server ≡ true) c.loop-at.at c.unwrap-m.result (sym c.member_at.ensures.value ∙ c.unwrap-m.ensures)
       (ap (λ q. s.on q) (c.server_of-server.ensures.seen s) ∙ sym c.is_on.ensures ∙ c.if-not-is_on.false) c.loop-at.invariant.running;
 }
 
@@ -48,5 +48,5 @@ pub returns-clause-refusal : goal.returns-clause-refusal
 returns-clause-refusal g c r events =
     let ms = members_in (session_in c.args.ss.now.sessions c.args.s.0) in
     let all : length ms ≤ c.loop-at.at = let e = c.member_count-at-end.ensures in let f = c.loop-at-test.false in omega (arith, e, f) in
-    let k = (world_seen (g.P.Plant.state c.args.p.now) c.args.c.now r events).control in
+    let k = (world_seen (g.P.Plant.state c.args.plant.now) c.args.config.now r events).control in
     sym (ap (λ xs. option_map (λ (m : Member). server_off (k.volume m.b.0).server) (find (λ (m : Member). not (is_running m.b.0 k)) xs)) (sym (member-all ms c.loop-at.at all)) ∙ ap (option_map (λ (m : Member). server_off (k.volume m.b.0).server)) (c.loop-at.invariant.none r events))

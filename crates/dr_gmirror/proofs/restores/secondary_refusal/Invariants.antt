@@ -11,6 +11,6 @@ use Rattle.dr_gmirror.proofs.restores.secondary_refusal.Given as goal
 abbrev pub invariant-loop-at : goal.invariant-loop-at
 invariant-loop-at g l = record {
   -- the secondaries so far are on servers that are on
-  none : (r : Rest) (events : List Event) → find (λ (m : Member). not (is_running m.b.0 (world_seen (g.P.Plant.state l.p) l.c r events).control)) (take l.at (members_in (session_in l.ss.sessions l.s.0))) ≡ None;
-  running : (i : ℕ) (m : Member) → i < l.at → slice_get (members_in (session_in l.ss.sessions l.s.0)) i ≡ Some m → (g.P.Plant.state l.p).on (volume_seen (g.P.Plant.state l.p) l.c m.b.0).server ≡ true;
+  none : (r : Rest) (events : List Event) → find (λ (m : Member). not (is_running m.b.0 (world_seen (g.P.Plant.state l.plant) l.config r events).control)) (take l.at (members_in (session_in l.ss.sessions l.s.0))) ≡ None;
+  running : (i : ℕ) (m : Member) → i < l.at → slice_get (members_in (session_in l.ss.sessions l.s.0)) i ≡ Some m → (g.P.Plant.state l.plant).on (volume_seen (g.P.Plant.state l.plant) l.config m.b.0).server ≡ true;
 }

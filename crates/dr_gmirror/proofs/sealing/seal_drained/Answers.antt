@@ -13,56 +13,56 @@ use Rattle.dr_flash.proofs.KeepLemmas.{skips}
 
 pub returns-in-Some-clause-fails : goal.returns-in-Some-clause-fails
 returns-in-Some-clause-fails g c r ds =
-    let s = g.P.Plant.state c.args.p.now in
-    let t = c.args.c.now in
+    let s = g.P.Plant.state c.args.plant.now in
+    let t = c.args.config.now in
     let a = c.args.m.now.a.0 in
     let b = c.args.m.now.b.0 in
-    one-checked (world_seen s t r c.args.j.now.events) (seal_refusal a b) (Some c.in-Some.why) (c.in-Some.ensures.refusal r c.args.j.now.events ∙ sym (refusal-drained s t r c.args.j.now.events a b c.requires.drained)) (armed_in s) (seal_on c.args.s.0 a b c.args.n ∷ ds)
+    one-checked (world_seen s t r c.args.journal.now.events) (seal_refusal a b) (Some c.in-Some.why) (c.in-Some.ensures.refusal r c.args.journal.now.events ∙ sym (refusal-drained s t r c.args.journal.now.events a b c.requires.drained)) (armed_in s) (seal_on c.args.s.0 a b c.args.n ∷ ds)
 
 pub returns-then-peek_fields-n-clause-leads : goal.returns-then-peek_fields-n-clause-leads
 returns-then-peek_fields-n-clause-leads g c r armed u r' ds more =
-    let s = g.P.Plant.state c.args.p.now in
-    let t = c.args.c.now in
+    let s = g.P.Plant.state c.args.plant.now in
+    let t = c.args.config.now in
     let a = c.args.m.now.a.0 in
     let b = c.args.m.now.b.0 in
-    one-checked (world_seen s t r c.args.j.now.events) (seal_refusal a b) None (c.in_default.ensures.refusal r c.args.j.now.events ∙ sym (refusal-drained s t r c.args.j.now.events a b c.requires.drained)) armed u r' (seal_on c.args.s.0 a b c.args.n ∷ ds)
-    (skips (world_seen s t r c.args.j.now.events) (seal_on c.args.s.0 a b c.args.n) (seal-skips s t r c.args.j.now.events a b c.args.s.0 c.args.n c.requires.drained (ap (λ (f : Fields). nat_eq f.seal c.args.n) (sym c.peek_fields.ensures.fields) ∙ same-test c.peek_fields.result.seal c.args.n c.if-peek_fields-n.true)) armed u r' ds more)
+    one-checked (world_seen s t r c.args.journal.now.events) (seal_refusal a b) None (c.in_default.ensures.refusal r c.args.journal.now.events ∙ sym (refusal-drained s t r c.args.journal.now.events a b c.requires.drained)) armed u r' (seal_on c.args.s.0 a b c.args.n ∷ ds)
+    (skips (world_seen s t r c.args.journal.now.events) (seal_on c.args.s.0 a b c.args.n) (seal-skips s t r c.args.journal.now.events a b c.args.s.0 c.args.n c.requires.drained (ap (λ (f : Fields). nat_eq f.seal c.args.n) (sym c.peek_fields.ensures.fields) ∙ same-test c.peek_fields.result.seal c.args.n c.if-peek_fields-n.true)) armed u r' ds more)
 
 pub returns-clause-leads : goal.returns-clause-leads
 returns-clause-leads g c =
-    let s = g.P.Plant.state c.args.p.now in
-    let t = c.args.c.now in
+    let s = g.P.Plant.state c.args.plant.now in
+    let t = c.args.config.now in
     let a = c.args.m.now.a.0 in
     let b = c.args.m.now.b.0 in
     ok-along c.make_change.result c.make_change.ensures.done (λ done r armed u r' ds more.
-    one-checked (world_seen s t r c.args.j.now.events) (seal_refusal a b) None (c.in_default.ensures.refusal r c.args.j.now.events ∙ sym (refusal-drained s t r c.args.j.now.events a b c.requires.drained)) armed u r' (seal_on c.args.s.0 a b c.args.n ∷ ds)
-    (move-advances (world_seen s t r c.args.j.now.events) (world_seen (g.P.Plant.state c.make_change.new.p) t r c.make_change.new.j.events) (seal_on c.args.s.0 a b c.args.n) (Seal b a c.args.s.0 c.args.n)
-    (seal-comes s t r c.args.j.now.events a b c.args.s.0 c.args.n c.requires.drained (ap (λ (f : Fields). nat_eq f.seal c.args.n) (sym c.peek_fields.ensures.fields) ∙ differ-test c.peek_fields.result.seal c.args.n c.if-peek_fields-n.false)) (done r) armed u r' ds more))
+    one-checked (world_seen s t r c.args.journal.now.events) (seal_refusal a b) None (c.in_default.ensures.refusal r c.args.journal.now.events ∙ sym (refusal-drained s t r c.args.journal.now.events a b c.requires.drained)) armed u r' (seal_on c.args.s.0 a b c.args.n ∷ ds)
+    (move-advances (world_seen s t r c.args.journal.now.events) (world_seen (g.P.Plant.state c.make_change.new.plant) t r c.make_change.new.journal.events) (seal_on c.args.s.0 a b c.args.n) (Seal b a c.args.s.0 c.args.n)
+    (seal-comes s t r c.args.journal.now.events a b c.args.s.0 c.args.n c.requires.drained (ap (λ (f : Fields). nat_eq f.seal c.args.n) (sym c.peek_fields.ensures.fields) ∙ differ-test c.peek_fields.result.seal c.args.n c.if-peek_fields-n.false)) (done r) armed u r' ds more))
 
 pub returns-clause-fails : goal.returns-clause-fails
 returns-clause-fails g c =
-    let s = g.P.Plant.state c.args.p.now in
-    let t = c.args.c.now in
+    let s = g.P.Plant.state c.args.plant.now in
+    let t = c.args.config.now in
     let a = c.args.m.now.a.0 in
     let b = c.args.m.now.b.0 in
     err-along c.make_change.result c.make_change.ensures.failed c.make_change.ensures.refused (λ failed refused r ds.
-    one-checked (world_seen s t r c.args.j.now.events) (seal_refusal a b) None (c.in_default.ensures.refusal r c.args.j.now.events ∙ sym (refusal-drained s t r c.args.j.now.events a b c.requires.drained)) (armed_in s)
-    (world_seen (g.P.Plant.state c.make_change.new.p) t r c.make_change.new.j.events) (refusal_of c.make_change.result) (seal_on c.args.s.0 a b c.args.n ∷ ds)
-    (move-halts (armed_in s) (world_seen s t r c.args.j.now.events) (world_seen (g.P.Plant.state c.make_change.new.p) t r c.make_change.new.j.events) (refusal_of c.make_change.result) (seal_on c.args.s.0 a b c.args.n) (Seal b a c.args.s.0 c.args.n) (volume_seen s t b).server
-    (seal-comes s t r c.args.j.now.events a b c.args.s.0 c.args.n c.requires.drained (ap (λ (f : Fields). nat_eq f.seal c.args.n) (sym c.peek_fields.ensures.fields) ∙ differ-test c.peek_fields.result.seal c.args.n c.if-peek_fields-n.false)) refused (failed r) ds))
+    one-checked (world_seen s t r c.args.journal.now.events) (seal_refusal a b) None (c.in_default.ensures.refusal r c.args.journal.now.events ∙ sym (refusal-drained s t r c.args.journal.now.events a b c.requires.drained)) (armed_in s)
+    (world_seen (g.P.Plant.state c.make_change.new.plant) t r c.make_change.new.journal.events) (refusal_of c.make_change.result) (seal_on c.args.s.0 a b c.args.n ∷ ds)
+    (move-halts (armed_in s) (world_seen s t r c.args.journal.now.events) (world_seen (g.P.Plant.state c.make_change.new.plant) t r c.make_change.new.journal.events) (refusal_of c.make_change.result) (seal_on c.args.s.0 a b c.args.n) (Seal b a c.args.s.0 c.args.n) (volume_seen s t b).server
+    (seal-comes s t r c.args.journal.now.events a b c.args.s.0 c.args.n c.requires.drained (ap (λ (f : Fields). nat_eq f.seal c.args.n) (sym c.peek_fields.ensures.fields) ∙ differ-test c.peek_fields.result.seal c.args.n c.if-peek_fields-n.false)) refused (failed r) ds))
 
 pub returns-clause-unchanged : goal.returns-clause-unchanged
 returns-clause-unchanged g c calm =
-    only-stops _ c.make_change.result (volume_seen (g.P.Plant.state c.args.p.now) c.args.c.now c.args.m.now.b.0).server c.make_change.ensures.refused calm
+    only-stops _ c.make_change.result (volume_seen (g.P.Plant.state c.args.plant.now) c.args.config.now c.args.m.now.b.0).server c.make_change.ensures.refused calm
 
 pub returns-clause-faults : goal.returns-clause-faults
 returns-clause-faults g c =
-    counted-stop c.make_change.result _ _ (volume_seen (g.P.Plant.state c.args.p.now) c.args.c.now c.args.m.now.b.0).server c.make_change.ensures.faults c.make_change.ensures.refused
+    counted-stop c.make_change.result _ _ (volume_seen (g.P.Plant.state c.args.plant.now) c.args.config.now c.args.m.now.b.0).server c.make_change.ensures.faults c.make_change.ensures.refused
 
 pub returns-clause-kept : goal.returns-clause-kept
 returns-clause-kept g c =
     ok-along c.make_change.result c.make_change.ensures.moved (λ moved q.
-    sync-kept (g.P.Plant.state c.args.p.now) (g.P.Plant.state c.make_change.new.p) c.args.c.now c.args.m.now.b.0 _ moved refl c.make_change.ensures.others q)
+    sync-kept (g.P.Plant.state c.args.plant.now) (g.P.Plant.state c.make_change.new.plant) c.args.config.now c.args.m.now.b.0 _ moved refl c.make_change.ensures.others q)
 
 pub returns-clause-room_left : goal.returns-clause-room_left
 returns-clause-room_left g c =

@@ -13,8 +13,8 @@ use Rattle.dr_gmirror.proofs.settling.settle.Given as goal
 abbrev pub invariant-loop-at : goal.invariant-loop-at
 invariant-loop-at g l = record {
   -- the members so far are reached, and reported
-  led : (n : ℕ) (r : Rest) (events : List Event) → Leads (world_seen (g.P.Plant.state l.p) l.c r events) (order_entries phases.Report l.s.0 n (members_on l.server.0 (take l.at (members_in (session_in l.ss.sessions l.s.0))))) (world_seen (g.P.Plant.state l.p) l.c r events);
-  shown : (r : Rest) (events : List Event) → shown_in l.report ≡ shown_by_members l.s.0 (members_on l.server.0 (take l.at (members_in (session_in l.ss.sessions l.s.0)))) (world_seen (g.P.Plant.state l.p) l.c r events).control;
+  led : (n : ℕ) (r : Rest) (events : List Event) → Leads (world_seen (g.P.Plant.state l.plant) l.config r events) (order_entries phases.Report l.s.0 n (members_on l.server.0 (take l.at (members_in (session_in l.ss.sessions l.s.0))))) (world_seen (g.P.Plant.state l.plant) l.config r events);
+  shown : (r : Rest) (events : List Event) → shown_in l.report ≡ shown_by_members l.s.0 (members_on l.server.0 (take l.at (members_in (session_in l.ss.sessions l.s.0)))) (world_seen (g.P.Plant.state l.plant) l.config r events).control;
   low : l.report.count ≤ l.at;
   count : length (shown_in l.report) ≡ l.report.count;
   trimmed : IsTrimmed l.report;

@@ -6,9 +6,9 @@ use Rattle.dr_gmirror.proofs.settling.settle_member.Goals as goal
 
 pub returns-in-Some-clause-fails : goal.returns-in-Some-clause-fails
 returns-in-Some-clause-fails g c r events =
-    let s = g.P.Plant.state c.args.p.now in
-    one-checked (world_seen s c.args.c.now r events) (reach_refusal c.args.m.now.a.0 c.args.m.now.b.0) (Some c.in-Some.why) (c.in-Some.ensures.refusal r events) (armed_in s)
+    let s = g.P.Plant.state c.args.plant.now in
+    one-checked (world_seen s c.args.config.now r events) (reach_refusal c.args.m.now.a.0 c.args.m.now.b.0) (Some c.in-Some.why) (c.in-Some.ensures.refusal r events) (armed_in s)
 
 pub returns-clause-leads : goal.returns-clause-leads
 returns-clause-leads g c r events =
-    one-checked (world_seen (g.P.Plant.state c.args.p.now) c.args.c.now r events) (reach_refusal c.args.m.now.a.0 c.args.m.now.b.0) None (c.in_default.ensures.refusal r events)
+    one-checked (world_seen (g.P.Plant.state c.args.plant.now) c.args.config.now r events) (reach_refusal c.args.m.now.a.0 c.args.m.now.b.0) None (c.in_default.ensures.refusal r events)

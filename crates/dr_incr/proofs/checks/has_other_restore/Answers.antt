@@ -10,8 +10,8 @@ use Rattle.dr_incr.proofs.checks.has_other_restore.Goals as goal
 
 pub returns-then-is_other_restore : goal.returns-then-is_other_restore
 returns-then-is_other_restore g c =
-    let s = g.P.Plant.state c.args.p.now in
-    let t = c.args.c.now in
+    let s = g.P.Plant.state c.args.plant.now in
+    let t = c.args.config.now in
     let f : ℕ → Bool = (λ u. not (nat_eq u c.args.t.0) && ((volume_seen s t u).fields.revertible || (volume_seen s t u).fields.reversing)) in
     let h : ℕ → Bool = (λ u. copies_from c.args.s.0 (volume_seen s t u).fields) in
     let found = ap (λ (x : Head). targets_by c.args.s.0 x && (not (nat_eq c.unwrap-u.result.0 c.args.t.0) && (x.revertible || x.reversing))) (sym (head-listed s t c.loop-place.place _ c.unwrap-u.result c.peek_head_at.result c.volume_at.ensures.place c.unwrap-u.ensures c.peek_head_at.ensures)) ∙ sym c.is_other_restore.ensures ∙ c.if-is_other_restore.true in
@@ -21,8 +21,8 @@ returns-then-is_other_restore g c =
 
 pub loop-place-preserved : goal.loop-place-preserved
 loop-place-preserved g c =
-    let s = g.P.Plant.state c.args.p.now in
-    let t = c.args.c.now in
+    let s = g.P.Plant.state c.args.plant.now in
+    let t = c.args.config.now in
     let f : ℕ → Bool = (λ u. not (nat_eq u c.args.t.0) && ((volume_seen s t u).fields.revertible || (volume_seen s t u).fields.reversing)) in
     let h : ℕ → Bool = (λ u. copies_from c.args.s.0 (volume_seen s t u).fields) in
     let found = ap (λ (x : Head). targets_by c.args.s.0 x && (not (nat_eq c.unwrap-u.result.0 c.args.t.0) && (x.revertible || x.reversing))) (sym (head-listed s t c.loop-place.place _ c.unwrap-u.result c.peek_head_at.result c.volume_at.ensures.place c.unwrap-u.ensures c.peek_head_at.ensures)) ∙ sym c.is_other_restore.ensures ∙ c.if-is_other_restore.false in

@@ -8,5 +8,5 @@ use Rattle.dr_incr.proofs.checks.has_other_restore.Given as goal
 
 abbrev pub invariant-loop-place : goal.invariant-loop-place
 invariant-loop-place g l =
-    any_from (λ u. not (nat_eq u l.t.0) && ((volume_seen (g.P.Plant.state l.p) l.c u).fields.revertible || (volume_seen (g.P.Plant.state l.p) l.c u).fields.reversing)) (λ u. copies_from l.s.0 (volume_seen (g.P.Plant.state l.p) l.c u).fields) l.c l.place
-    ≡ list_any (λ u. not (nat_eq u l.t.0) && ((volume_seen (g.P.Plant.state l.p) l.c u).fields.revertible || (volume_seen (g.P.Plant.state l.p) l.c u).fields.reversing)) (targets_in (g.P.Plant.state l.p) l.c l.s.0)
+    any_from (λ u. not (nat_eq u l.t.0) && ((volume_seen (g.P.Plant.state l.plant) l.config u).fields.revertible || (volume_seen (g.P.Plant.state l.plant) l.config u).fields.reversing)) (λ u. copies_from l.s.0 (volume_seen (g.P.Plant.state l.plant) l.config u).fields) l.config l.place
+    ≡ list_any (λ u. not (nat_eq u l.t.0) && ((volume_seen (g.P.Plant.state l.plant) l.config u).fields.revertible || (volume_seen (g.P.Plant.state l.plant) l.config u).fields.reversing)) (targets_in (g.P.Plant.state l.plant) l.config l.s.0)

@@ -15,15 +15,15 @@ may_take f = not (is_part f.secondary) && is_quiet f
 
 pub returns-then-has_other_restore-clause-checked : goal.returns-then-has_other_restore-clause-checked
 returns-then-has_other_restore-clause-checked g c r events armed ds =
-    refuses armed (world_seen (g.P.Plant.state c.args.p.now) c.args.c.now r events) (is_lone_restore c.args.s.0 c.args.t.0) (relation_state (world_seen (g.P.Plant.state c.args.p.now) c.args.c.now r events).control c.args.s.0) (Some c.relation_state.result) _ (ap not (sym c.has_other_restore.ensures ∙ c.if-has_other_restore.true))
+    refuses armed (world_seen (g.P.Plant.state c.args.plant.now) c.args.config.now r events) (is_lone_restore c.args.s.0 c.args.t.0) (relation_state (world_seen (g.P.Plant.state c.args.plant.now) c.args.config.now r events).control c.args.s.0) (Some c.relation_state.result) _ (ap not (sym c.has_other_restore.ensures ∙ c.if-has_other_restore.true))
     (ap (λ (x : Refusal). Some x) (c.relation_state.ensures.refusal r events))
 
 pub returns-then-not-may_return-clause-checked : goal.returns-then-not-may_return-clause-checked
 returns-then-not-may_return-clause-checked g c r events armed ds =
-    ends-passed armed (world_seen (g.P.Plant.state c.args.p.now) c.args.c.now r events) (Some c.pair_state.result) (world_seen (g.P.Plant.state c.args.p.now) c.args.c.now r events) (is_lone_restore c.args.s.0 c.args.t.0) (relation_state (world_seen (g.P.Plant.state c.args.p.now) c.args.c.now r events).control c.args.s.0) _ (ap not (sym c.has_other_restore.ensures ∙ c.if-has_other_restore.false))
-    (refuses armed (world_seen (g.P.Plant.state c.args.p.now) c.args.c.now r events) (may_return c.args.s.0) (pair_state (world_seen (g.P.Plant.state c.args.p.now) c.args.c.now r events).control c.args.s.0) (Some c.pair_state.result) _ (ap may_take (sym c.peek_fields.ensures.fields) ∙ sym c.may_return.ensures ∙ c.if-not-may_return.true) (ap (λ (x : Refusal). Some x) (c.pair_state.ensures.refusal r events)))
+    ends-passed armed (world_seen (g.P.Plant.state c.args.plant.now) c.args.config.now r events) (Some c.pair_state.result) (world_seen (g.P.Plant.state c.args.plant.now) c.args.config.now r events) (is_lone_restore c.args.s.0 c.args.t.0) (relation_state (world_seen (g.P.Plant.state c.args.plant.now) c.args.config.now r events).control c.args.s.0) _ (ap not (sym c.has_other_restore.ensures ∙ c.if-has_other_restore.false))
+    (refuses armed (world_seen (g.P.Plant.state c.args.plant.now) c.args.config.now r events) (may_return c.args.s.0) (pair_state (world_seen (g.P.Plant.state c.args.plant.now) c.args.config.now r events).control c.args.s.0) (Some c.pair_state.result) _ (ap may_take (sym c.peek_fields.ensures.fields) ∙ sym c.may_return.ensures ∙ c.if-not-may_return.true) (ap (λ (x : Refusal). Some x) (c.pair_state.ensures.refusal r events)))
 
 pub returns-clause-checked : goal.returns-clause-checked
 returns-clause-checked g c r events armed u r' ds more =
-    ends-passed armed u r' (world_seen (g.P.Plant.state c.args.p.now) c.args.c.now r events) (is_lone_restore c.args.s.0 c.args.t.0) (relation_state (world_seen (g.P.Plant.state c.args.p.now) c.args.c.now r events).control c.args.s.0) _ (ap not (sym c.has_other_restore.ensures ∙ c.if-has_other_restore.false))
-    (ends-passed armed u r' (world_seen (g.P.Plant.state c.args.p.now) c.args.c.now r events) (may_return c.args.s.0) (pair_state (world_seen (g.P.Plant.state c.args.p.now) c.args.c.now r events).control c.args.s.0) _ (ap may_take (sym c.peek_fields.ensures.fields) ∙ sym c.may_return.ensures ∙ c.if-not-may_return.false) more)
+    ends-passed armed u r' (world_seen (g.P.Plant.state c.args.plant.now) c.args.config.now r events) (is_lone_restore c.args.s.0 c.args.t.0) (relation_state (world_seen (g.P.Plant.state c.args.plant.now) c.args.config.now r events).control c.args.s.0) _ (ap not (sym c.has_other_restore.ensures ∙ c.if-has_other_restore.false))
+    (ends-passed armed u r' (world_seen (g.P.Plant.state c.args.plant.now) c.args.config.now r events) (may_return c.args.s.0) (pair_state (world_seen (g.P.Plant.state c.args.plant.now) c.args.config.now r events).control c.args.s.0) _ (ap may_take (sym c.peek_fields.ensures.fields) ∙ sym c.may_return.ensures ∙ c.if-not-may_return.false) more)

@@ -18,44 +18,44 @@ use Rattle.dr_logic.proofs.Results.{err-always}
 
 pub returns-in_err-read_told-clause-halts : goal.returns-in_err-read_told-clause-halts
 returns-in_err-read_told-clause-halts g c =
-    let s = g.P.Plant.state c.args.p.now in
-    let t = c.args.c.now in
-    err-always c.from_residual.result (λ r. halts-gone (armed_in s) (world_seen s t r c.args.j.now.events) (world_seen (g.P.Plant.state c.read_told.new.p) t r c.read_told.new.j.events) (refusal_of c.from_residual.result) (now (Restore c.args.s.0 c.args.k c.args.t.0))
-    (subst (λ e. GoesOff (armed_in s) (world_seen (g.P.Plant.state c.read_told.new.p) t r c.read_told.new.j.events) e (world_seen s t r c.args.j.now.events)) (sym (refused-by c.from_residual.result c.in_err-read_told.field-0.0 c.from_residual.ensures.0 c.from_residual.ensures.1))
+    let s = g.P.Plant.state c.args.plant.now in
+    let t = c.args.config.now in
+    err-always c.from_residual.result (λ r. halts-gone (armed_in s) (world_seen s t r c.args.journal.now.events) (world_seen (g.P.Plant.state c.read_told.new.plant) t r c.read_told.new.journal.events) (refusal_of c.from_residual.result) (now (Restore c.args.s.0 c.args.k c.args.t.0))
+    (subst (λ e. GoesOff (armed_in s) (world_seen (g.P.Plant.state c.read_told.new.plant) t r c.read_told.new.journal.events) e (world_seen s t r c.args.journal.now.events)) (sym (refused-by c.from_residual.result c.in_err-read_told.field-0.0 c.from_residual.ensures.0 c.from_residual.ensures.1))
     (c.in_err-read_told.ensures.gone r)))
 
 pub returns-in_err-read_told-clause-fit : goal.returns-in_err-read_told-clause-fit
-returns-in_err-read_told-clause-fit g c = fit-same (g.P.Plant.state c.args.p.now) (g.P.Plant.state c.read_told.new.p) c.args.c.now c.in_err-read_told.ensures.same c.requires.fit
+returns-in_err-read_told-clause-fit g c = fit-same (g.P.Plant.state c.args.plant.now) (g.P.Plant.state c.read_told.new.plant) c.args.config.now c.in_err-read_told.ensures.same c.requires.fit
 
 pub returns-in_err-read_told-clause-others : goal.returns-in_err-read_told-clause-others
 returns-in_err-read_told-clause-others g c u ne = c.in_err-read_told.ensures.same u
 
 pub returns-clause-advances : goal.returns-clause-advances
 returns-clause-advances g c =
-    let t = c.args.c.now in
-    subst (λ (x : PlantState). OnOk c.store_back.result ((r : Rest) → Advances (world_seen x t r c.args.j.now.events) (now (Restore c.args.s.0 c.args.k c.args.t.0)) (world_seen (g.P.Plant.state c.store_back.new.p) t r c.store_back.new.j.events))) c.in_ok-read_told.ensures.passed
-    (subst (λ (l : Log). OnOk c.store_back.result ((r : Rest) → Advances (world_seen (g.P.Plant.state c.read_told.new.p) t r l.events) (now (Restore c.args.s.0 c.args.k c.args.t.0)) (world_seen (g.P.Plant.state c.store_back.new.p) t r c.store_back.new.j.events))) c.in_ok-read_told.ensures.silent
+    let t = c.args.config.now in
+    subst (λ (x : PlantState). OnOk c.store_back.result ((r : Rest) → Advances (world_seen x t r c.args.journal.now.events) (now (Restore c.args.s.0 c.args.k c.args.t.0)) (world_seen (g.P.Plant.state c.store_back.new.plant) t r c.store_back.new.journal.events))) c.in_ok-read_told.ensures.passed
+    (subst (λ (l : Log). OnOk c.store_back.result ((r : Rest) → Advances (world_seen (g.P.Plant.state c.read_told.new.plant) t r l.events) (now (Restore c.args.s.0 c.args.k c.args.t.0)) (world_seen (g.P.Plant.state c.store_back.new.plant) t r c.store_back.new.journal.events))) c.in_ok-read_told.ensures.silent
     c.store_back.ensures.advances)
 
 pub returns-clause-halts : goal.returns-clause-halts
 returns-clause-halts g c =
-    let t = c.args.c.now in
-    subst (λ (x : PlantState). OnErr c.store_back.result ((r : Rest) → Halts (armed_in x) (world_seen x t r c.args.j.now.events) (now (Restore c.args.s.0 c.args.k c.args.t.0)) (world_seen (g.P.Plant.state c.store_back.new.p) t r c.store_back.new.j.events) (refusal_of c.store_back.result))) c.in_ok-read_told.ensures.passed
-    (subst (λ (l : Log). OnErr c.store_back.result ((r : Rest) → Halts (armed_in (g.P.Plant.state c.read_told.new.p)) (world_seen (g.P.Plant.state c.read_told.new.p) t r l.events) (now (Restore c.args.s.0 c.args.k c.args.t.0)) (world_seen (g.P.Plant.state c.store_back.new.p) t r c.store_back.new.j.events) (refusal_of c.store_back.result))) c.in_ok-read_told.ensures.silent
+    let t = c.args.config.now in
+    subst (λ (x : PlantState). OnErr c.store_back.result ((r : Rest) → Halts (armed_in x) (world_seen x t r c.args.journal.now.events) (now (Restore c.args.s.0 c.args.k c.args.t.0)) (world_seen (g.P.Plant.state c.store_back.new.plant) t r c.store_back.new.journal.events) (refusal_of c.store_back.result))) c.in_ok-read_told.ensures.passed
+    (subst (λ (l : Log). OnErr c.store_back.result ((r : Rest) → Halts (armed_in (g.P.Plant.state c.read_told.new.plant)) (world_seen (g.P.Plant.state c.read_told.new.plant) t r l.events) (now (Restore c.args.s.0 c.args.k c.args.t.0)) (world_seen (g.P.Plant.state c.store_back.new.plant) t r c.store_back.new.journal.events) (refusal_of c.store_back.result))) c.in_ok-read_told.ensures.silent
     c.store_back.ensures.halts)
 
 pub returns-clause-unarmed : goal.returns-clause-unarmed
 returns-clause-unarmed g c q none = c.store_back.ensures.unarmed q (ap (λ (x : PlantState). x.read_fuse q) c.in_ok-read_told.ensures.passed ∙ none)
 
 pub returns-clause-others : goal.returns-clause-others
-returns-clause-others g c = subst (λ (x : PlantState). OthersStay x (g.P.Plant.state c.store_back.new.p) c.args.c.now c.args.s.0) c.in_ok-read_told.ensures.passed c.store_back.ensures.others
+returns-clause-others g c = subst (λ (x : PlantState). OthersStay x (g.P.Plant.state c.store_back.new.plant) c.args.config.now c.args.s.0) c.in_ok-read_told.ensures.passed c.store_back.ensures.others
 
 pub returns-clause-moved : goal.returns-clause-moved
 returns-clause-moved g c =
-    let s1 = g.P.Plant.state c.read_told.new.p in
-    let u = g.P.Plant.state c.store_back.new.p in
-    let t = c.args.c.now in
+    let s1 = g.P.Plant.state c.read_told.new.plant in
+    let u = g.P.Plant.state c.store_back.new.plant in
+    let t = c.args.config.now in
     let f : PlantState → Fields = (λ x. altered (volume_seen x t c.args.s.0).fields c.args.k) in
     ok-along c.store_back.result c.store_back.ensures.moved (λ moved.
-    subst (λ (b : List ℕ). IsMoved (g.P.Plant.state c.args.p.now) u t c.args.s.0 (f (g.P.Plant.state c.args.p.now)) (Some (c.args.k, b))) c.in_ok-read_told.ensures.bytes
+    subst (λ (b : List ℕ). IsMoved (g.P.Plant.state c.args.plant.now) u t c.args.s.0 (f (g.P.Plant.state c.args.plant.now)) (Some (c.args.k, b))) c.in_ok-read_told.ensures.bytes
     (subst (λ (x : PlantState). IsMoved x u t c.args.s.0 (f x) (Some (c.args.k, c.read_told.new.into))) c.in_ok-read_told.ensures.passed moved))

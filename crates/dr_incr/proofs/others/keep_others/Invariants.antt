@@ -15,15 +15,15 @@ use Rattle.dr_incr.proofs.others.keep_others.Given as goal
 abbrev pub invariant-loop-place : goal.invariant-loop-place
 invariant-loop-place g l = record {
   -- what ends those that are left ends all
-  left : (r : Rest) (armed : ℕ → Bool) (u : World) (r' : Option Refusal) (ds : List Entry) → Ends armed u r' (world_seen (g.P.Plant.state l.p) l.c r l.j.events) (keeps_left l.c l.s.0 l.fn.t.0 l.place ++ ds)
-      → Ends armed u r' (world_seen (g.P.Plant.state l.fn.p) l.c r l.fn.j.events) (keeps_of (ids_of l.c.volumes) l.s.0 l.fn.t.0 ++ ds);
-  rest : IsAtRest (g.P.Plant.state l.p) l.c;
-  fit : RelationsFit (g.P.Plant.state l.p) l.c;
-  unarmed : (q : ℕ) → (g.P.Plant.state l.fn.p).read_fuse q ≡ None → (g.P.Plant.state l.p).read_fuse q ≡ None;
-  faults : (g.P.Plant.state l.p).faults ≡ (g.P.Plant.state l.fn.p).faults;
-  others : (q : ℕ) → copies_from l.s.0 (volume_seen (g.P.Plant.state l.fn.p) l.c q).fields ≡ false → IsAsBefore (g.P.Plant.state l.fn.p) (g.P.Plant.state l.p) l.c q;
-  aside : IsAsBefore (g.P.Plant.state l.fn.p) (g.P.Plant.state l.p) l.c l.fn.t.0;
-  on : (g.P.Plant.state l.p).on ≡ (g.P.Plant.state l.fn.p).on;
-  room : l.fn.j.spare ≤ l.j.spare + l.place;
-  sum : length l.j.events + l.j.spare ≡ length l.fn.j.events + l.fn.j.spare;
+  left : (r : Rest) (armed : ℕ → Bool) (u : World) (r' : Option Refusal) (ds : List Entry) → Ends armed u r' (world_seen (g.P.Plant.state l.plant) l.config r l.journal.events) (keeps_left l.config l.s.0 l.fn.t.0 l.place ++ ds)
+      → Ends armed u r' (world_seen (g.P.Plant.state l.fn.plant) l.config r l.fn.journal.events) (keeps_of (ids_of l.config.volumes) l.s.0 l.fn.t.0 ++ ds);
+  rest : IsAtRest (g.P.Plant.state l.plant) l.config;
+  fit : RelationsFit (g.P.Plant.state l.plant) l.config;
+  unarmed : (q : ℕ) → (g.P.Plant.state l.fn.plant).read_fuse q ≡ None → (g.P.Plant.state l.plant).read_fuse q ≡ None;
+  faults : (g.P.Plant.state l.plant).faults ≡ (g.P.Plant.state l.fn.plant).faults;
+  others : (q : ℕ) → copies_from l.s.0 (volume_seen (g.P.Plant.state l.fn.plant) l.config q).fields ≡ false → IsAsBefore (g.P.Plant.state l.fn.plant) (g.P.Plant.state l.plant) l.config q;
+  aside : IsAsBefore (g.P.Plant.state l.fn.plant) (g.P.Plant.state l.plant) l.config l.fn.t.0;
+  on : (g.P.Plant.state l.plant).on ≡ (g.P.Plant.state l.fn.plant).on;
+  room : l.fn.journal.spare ≤ l.journal.spare + l.place;
+  sum : length l.journal.events + l.journal.spare ≡ length l.fn.journal.events + l.fn.journal.spare;
 }

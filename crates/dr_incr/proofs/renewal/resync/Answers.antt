@@ -11,30 +11,30 @@ use Rattle.dr_incr.proofs.CopyLaws.{copy-shown}
 use Rattle.dr_incr.proofs.renewal.resync.Goals as goal
 
 pub returns-in-Some-clause-carried : goal.returns-in-Some-clause-carried
-returns-in-Some-clause-carried g c r = c.in-Some.ensures.checked (counted_refusal c.args.t.0) r c.args.j.now.events (ap counted_by (sym c.peek_fields.ensures.fields) ∙ sym c.counted_refusal-first.ensures.refusal) (armed_in (g.P.Plant.state c.args.p.now)) _
+returns-in-Some-clause-carried g c r = c.in-Some.ensures.checked (counted_refusal c.args.t.0) r c.args.journal.now.events (ap counted_by (sym c.peek_fields.ensures.fields) ∙ sym c.counted_refusal-first.ensures.refusal) (armed_in (g.P.Plant.state c.args.plant.now)) _
 
 pub returns-in-Some-clause-fails : goal.returns-in-Some-clause-fails
-returns-in-Some-clause-fails g c r ds = c.in-Some.ensures.checked (counted_refusal c.args.t.0) r c.args.j.now.events (ap counted_by (sym c.peek_fields.ensures.fields) ∙ sym c.counted_refusal-first.ensures.refusal) (armed_in (g.P.Plant.state c.args.p.now)) _
+returns-in-Some-clause-fails g c r ds = c.in-Some.ensures.checked (counted_refusal c.args.t.0) r c.args.journal.now.events (ap counted_by (sym c.peek_fields.ensures.fields) ∙ sym c.counted_refusal-first.ensures.refusal) (armed_in (g.P.Plant.state c.args.plant.now)) _
 
 pub returns-clause-leads : goal.returns-clause-leads
 returns-clause-leads g c =
     ok-along c.renew.result c.renew.ensures.advances (λ goes r armed u r' ds more.
-    c.in_default.ensures.checked (counted_refusal c.args.t.0) r c.args.j.now.events (ap counted_by (sym c.peek_fields.ensures.fields) ∙ sym c.counted_refusal-first.ensures.refusal) armed u r' _
+    c.in_default.ensures.checked (counted_refusal c.args.t.0) r c.args.journal.now.events (ap counted_by (sym c.peek_fields.ensures.fields) ∙ sym c.counted_refusal-first.ensures.refusal) armed u r' _
     (goes r armed u r' ds more))
 
 pub returns-clause-fails : goal.returns-clause-fails
 returns-clause-fails g c =
     err-along c.renew.result c.renew.ensures.halts c.renew.ensures.refused (λ halts refused r ds.
-    c.in_default.ensures.checked (counted_refusal c.args.t.0) r c.args.j.now.events (ap counted_by (sym c.peek_fields.ensures.fields) ∙ sym c.counted_refusal-first.ensures.refusal) (armed_in (g.P.Plant.state c.args.p.now)) (world_seen (g.P.Plant.state c.renew.new.p) c.args.c.now r c.renew.new.j.events) (refusal_of c.renew.result) _
+    c.in_default.ensures.checked (counted_refusal c.args.t.0) r c.args.journal.now.events (ap counted_by (sym c.peek_fields.ensures.fields) ∙ sym c.counted_refusal-first.ensures.refusal) (armed_in (g.P.Plant.state c.args.plant.now)) (world_seen (g.P.Plant.state c.renew.new.plant) c.args.config.now r c.renew.new.journal.events) (refusal_of c.renew.result) _
     (halts r ds))
 
 pub returns-clause-carried : goal.returns-clause-carried
 returns-clause-carried g c =
-    ends-by c.renew.result (armed_in (g.P.Plant.state c.args.p.now)) (λ r. (world_seen (g.P.Plant.state c.args.p.now) c.args.c.now r c.args.j.now.events)) (λ r. (world_seen (g.P.Plant.state c.renew.new.p) c.args.c.now r c.renew.new.j.events)) (λ r. resync_entries (world_seen (g.P.Plant.state c.args.p.now) c.args.c.now r c.args.j.now.events).control c.args.s.0 c.args.t.0 c.args.sequence) (returns-clause-leads g c) (returns-clause-fails g c)
+    ends-by c.renew.result (armed_in (g.P.Plant.state c.args.plant.now)) (λ r. (world_seen (g.P.Plant.state c.args.plant.now) c.args.config.now r c.args.journal.now.events)) (λ r. (world_seen (g.P.Plant.state c.renew.new.plant) c.args.config.now r c.renew.new.journal.events)) (λ r. resync_entries (world_seen (g.P.Plant.state c.args.plant.now) c.args.config.now r c.args.journal.now.events).control c.args.s.0 c.args.t.0 c.args.sequence) (returns-clause-leads g c) (returns-clause-fails g c)
 
 pub returns-clause-refused : goal.returns-clause-refused
 returns-clause-refused g c =
-    stop-refused c.renew.result _ _ c.renew.ensures.refused (target-of (g.P.Plant.state c.args.p.now) c.args.c.now c.args.s.0 c.args.t.0 c.requires.fit c.in_default.ensures.related).server
+    stop-refused c.renew.result _ _ c.renew.ensures.refused (target-of (g.P.Plant.state c.args.plant.now) c.args.config.now c.args.s.0 c.args.t.0 c.requires.fit c.in_default.ensures.related).server
 
 pub returns-clause-faults : goal.returns-clause-faults
 returns-clause-faults g c = counted-stop c.renew.result _ _ _ c.renew.ensures.faults c.renew.ensures.refused
@@ -44,8 +44,8 @@ returns-clause-unchanged g c calm = only-stops _ c.renew.result _ c.renew.ensure
 
 pub returns-clause-same : goal.returns-clause-same
 returns-clause-same g c =
-    let s = g.P.Plant.state c.args.p.now in
-    let t = c.args.c.now in
+    let s = g.P.Plant.state c.args.plant.now in
+    let t = c.args.config.now in
     let to = target-of s t c.args.s.0 c.args.t.0 c.requires.fit c.in_default.ensures.related in
     ok-along c.renew.result c.renew.ensures.moved (λ is holds k.
-    copy-shown s (g.P.Plant.state c.renew.new.p) t c.args.s.0 c.args.t.0 c.args.sequence c.requires.fit to is c.renew.ensures.others (holds to.related c.in_default.ensures.recorded c.in_default.ensures.forward) k)
+    copy-shown s (g.P.Plant.state c.renew.new.plant) t c.args.s.0 c.args.t.0 c.args.sequence c.requires.fit to is c.renew.ensures.others (holds to.related c.in_default.ensures.recorded c.in_default.ensures.forward) k)

@@ -24,20 +24,19 @@ use Rattle.dr_flash.proofs.ShiftLemmas.{rest-after}
 
 pub landed-next-requires : goal.landed-next-requires
 landed-next-requires g c =
-    let few = c.tracks_of.ensures.few in
-    let size = c.tracks_of.ensures.seen (g.P.Plant.state c.args.p.now) in
+    let few = c.requires.rest.sizes c.args.v.0 in
     let inside = c.requires.within in
-    record { few = few; within = omega (arith, few, size, inside) }
+    record { defined = c.requires.defined; within = omega (arith, few, inside) }
 
 pub change-requires : goal.change-requires
 change-requires g c =
-    let t = c.args.c.now in
+    let t = c.args.config.now in
     let v = c.args.v.0 in
-    let s = g.P.Plant.state c.args.p.now in
+    let s = g.P.Plant.state c.args.plant.now in
     let same = sym c.view_of-old.ensures.same in
     let shows = subst (λ f. plain f ≡ (volume_seen s t v).fields) (sym c.fields.ensures) c.requires.opened.shows.fields in
     let given : plain c.landed-next.result ≡ landed_on (volume_seen s t v) c.args.t =
-    c.landed-next.ensures ∙ (λ i. landed (sym (c.tracks_of.ensures.seen s) i) (shows i) c.args.t) in
+    c.landed-next.ensures s ∙ ap (λ f. landed (volume_seen s t v).tracks f c.args.t) shows in
     let law = subst (λ f. IsLawful (volume_seen s t v).tracks f) c.requires.opened.shows.fields c.requires.opened.shows.lawful in
     let fits = subst (λ f. MoveFits s t v f (Some (c.args.t, c.laid-track.result))) (sym given) (lands-fit s t v c.args.t c.requires.fit law c.requires.within c.laid-track.result) in
     record {
@@ -52,15 +51,15 @@ change-requires g c =
 
 pub returns : goal.returns
 returns g c =
-    let t = c.args.c.now in
+    let t = c.args.config.now in
     let v = c.args.v.0 in
-    let s = g.P.Plant.state c.args.p.now in
-    let x = g.P.Plant.state c.view_of-old.new.p in
-    let u = g.P.Plant.state c.change.new.p in
+    let s = g.P.Plant.state c.args.plant.now in
+    let x = g.P.Plant.state c.view_of-old.new.plant in
+    let u = g.P.Plant.state c.change.new.plant in
     let same : x ≡ s = c.view_of-old.ensures.same in
     let shows = subst (λ f. plain f ≡ (volume_seen s t v).fields) (sym c.fields.ensures) c.requires.opened.shows.fields in
     let given : plain c.landed-next.result ≡ landed_on (volume_seen s t v) c.args.t =
-    c.landed-next.ensures ∙ (λ i. landed (sym (c.tracks_of.ensures.seen s) i) (shows i) c.args.t) in
+    c.landed-next.ensures s ∙ ap (λ f. landed (volume_seen s t v).tracks f c.args.t) shows in
     let law = subst (λ f. IsLawful (volume_seen s t v).tracks f) c.requires.opened.shows.fields c.requires.opened.shows.lawful in
     let fits = lands-fit s t v c.args.t c.requires.fit law c.requires.within c.laid-track.result in
     let track = c.laid-track.ensures ∙ ap (laid c.args.offset c.args.bytes.now) c.view_of-old.ensures.bytes in

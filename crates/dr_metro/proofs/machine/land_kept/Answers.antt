@@ -22,7 +22,7 @@ returns-in_err-copy_first-clause-carried g c xs =
     let t = c.args.config.now in
     let h = c.args.host.now in
     let ev = c.args.journal.now.events in
-    subst (λ e. Ends (armed_in s) (here (g.P.Plant.state c.copy_first.new.p) t xs h c.copy_first.new.j.events) e (here s t xs h ev) (land_alone (ids_of t.volumes) c.args.w.0 c.args.target.volume.0 c.args.target.track)) (sym (refused-by c.from_residual.result c.in_err-copy_first.field-0.0 c.from_residual.ensures.0 c.from_residual.ensures.1))
+    subst (λ e. Ends (armed_in s) (here (g.P.Plant.state c.copy_first.new.plant) t xs h c.copy_first.new.journal.events) e (here s t xs h ev) (land_alone (ids_of t.volumes) c.args.w.0 c.args.target.volume.0 c.args.target.track)) (sym (refused-by c.from_residual.result c.in_err-copy_first.field-0.0 c.from_residual.ensures.0 c.from_residual.ensures.1))
     (c.in_err-copy_first.ensures.fails (rest_of xs h ev) (land_on c.args.w.0 c.args.target.volume.0 c.args.target.track ∷ []))
 
 pub returns-in_err-copy_first-clause-stopped : goal.returns-in_err-copy_first-clause-stopped
@@ -35,7 +35,7 @@ returns-in_err-copy_first-clause-told g c =
     let t = c.args.config.now in
     let h = c.args.host.now in
     let ev = c.args.journal.now.events in
-    told-through (armed_in s) h (here s t [] h ev) (here (g.P.Plant.state c.copy_first.new.p) t [] h c.copy_first.new.j.events) (copy_first (ids_of t.volumes) c.args.target.volume.0 c.args.target.track) (Some c.in_err-copy_first.field-0.0) (c.in_err-copy_first.ensures.carried (rest_of [] h ev)) c.requires.told
+    told-through (armed_in s) h (here s t [] h ev) (here (g.P.Plant.state c.copy_first.new.plant) t [] h c.copy_first.new.journal.events) (copy_first (ids_of t.volumes) c.args.target.volume.0 c.args.target.track) (Some c.in_err-copy_first.field-0.0) (c.in_err-copy_first.ensures.carried (rest_of [] h ev)) c.requires.told
 
 pub land_write-requires-clause-told : goal.land_write-requires-clause-told
 land_write-requires-clause-told g c =
@@ -43,7 +43,7 @@ land_write-requires-clause-told g c =
     let t = c.args.config.now in
     let h = c.args.host.now in
     let ev = c.args.journal.now.events in
-    told-through (armed_in s) h (here s t [] h ev) (here (g.P.Plant.state c.copy_first.new.p) t [] h c.copy_first.new.j.events) (copy_first (ids_of t.volumes) c.args.target.volume.0 c.args.target.track) None (c.in_ok-copy_first.ensures.carried (rest_of [] h ev)) c.requires.told
+    told-through (armed_in s) h (here s t [] h ev) (here (g.P.Plant.state c.copy_first.new.plant) t [] h c.copy_first.new.journal.events) (copy_first (ids_of t.volumes) c.args.target.volume.0 c.args.target.track) None (c.in_ok-copy_first.ensures.carried (rest_of [] h ev)) c.requires.told
 
 pub land_write-requires-clause-server : goal.land_write-requires-clause-server
 land_write-requires-clause-server g c =
@@ -63,7 +63,7 @@ land_write-requires-clause-pending g c =
     let t = c.args.config.now in
     let h = c.args.host.now in
     let ev = c.args.journal.now.events in
-    let is = unissued (armed_in s) (here (g.P.Plant.state c.copy_first.new.p) t [] h c.copy_first.new.j.events) None (here s t [] h ev) (copy_first (ids_of t.volumes) c.args.target.volume.0 c.args.target.track) (c.in_ok-copy_first.ensures.carried (rest_of [] h ev)) in
+    let is = unissued (armed_in s) (here (g.P.Plant.state c.copy_first.new.plant) t [] h c.copy_first.new.journal.events) None (here s t [] h ev) (copy_first (ids_of t.volumes) c.args.target.volume.0 c.args.target.track) (c.in_ok-copy_first.ensures.carried (rest_of [] h ev)) in
     record {
       waits = c.requires.pending.waits;
       issue = (λ i. is i c.args.w.0) ∙ c.requires.pending.issue;
@@ -75,10 +75,10 @@ returns-clause-carried g c xs =
     let t = c.args.config.now in
     let h = c.args.host.now in
     let ev = c.args.journal.now.events in
-    let m = g.P.Plant.state c.copy_first.new.p in
+    let m = g.P.Plant.state c.copy_first.new.plant in
     let u = here (g.P.Plant.state c.land_write.new.plant) t xs c.land_write.new.host c.land_write.new.journal.events in
     let more = land_on c.args.w.0 c.args.target.volume.0 c.args.target.track ∷ [] in
-    let middle = here m t xs h c.copy_first.new.j.events in
+    let middle = here m t xs h c.copy_first.new.journal.events in
     c.in_ok-copy_first.ensures.leads (rest_of xs h ev) (armed_in s) u (refusal_of c.land_write.result) more
     (ends-wider (armed_in m) (armed_in s) (wider-armed s m c.in_ok-copy_first.ensures.unarmed) u (refusal_of c.land_write.result) middle more (c.land_write.ensures.carried xs))
 

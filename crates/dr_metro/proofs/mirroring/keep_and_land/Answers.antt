@@ -17,6 +17,7 @@ use Rattle.dr_metro.specs.Here.{here, rest_of}
 use Rattle.dr_metro.specs.Mirroring.{settle_entries}
 use Rattle.dr_metro.proofs.LandLemmas.{told-through}
 use Rattle.dr_metro.proofs.RouteLemmas.{same-bytes, runs-still}
+use Rattle.dr_volume.proofs.SaysLaws.{says-along}
 use Rattle.dr_metro.proofs.mirroring.keep_and_land.Goals as goal
 use Rattle.dr_gcopy.proofs.PairChecks.{servers-apart}
 use Rattle.dr_logic.proofs.Results.{err-always}
@@ -24,128 +25,134 @@ use Rattle.dr_flash.proofs.MoveLemmas.{stored-track}
 
 pub returns-in_err-copy_first-clause-carried : goal.returns-in_err-copy_first-clause-carried
 returns-in_err-copy_first-clause-carried g c xs =
-    let s = g.P.Plant.state c.args.p.now in
-    let t = c.args.c.now in
+    let s = g.P.Plant.state c.args.plant.now in
+    let t = c.args.config.now in
     let h = c.args.h.now in
-    let ev = c.args.j.now.events in
-    let m = g.P.Plant.state c.copy_first.new.p in
-    let mid = c.copy_first.new.j.events in
+    let ev = c.args.journal.now.events in
+    let m = g.P.Plant.state c.copy_first.new.plant in
+    let mid = c.copy_first.new.journal.events in
     subst (λ e. Ends (armed_in s) (here m t xs h mid) e (here s t xs h ev) (settle_entries (ids_of t.volumes) c.args.m.write.0 c.args.m.from.0 c.args.m.track)) (sym (refused-by c.from_residual.result c.in_err-copy_first.field-0.0 c.from_residual.ensures.0 c.from_residual.ensures.1))
     (c.in_err-copy_first.ensures.fails (rest_of xs h ev) (now (LandBoth c.args.m.write.0 c.args.m.from.0 c.args.m.track) ∷ []))
 
 pub returns-in_err-copy_first-clause-stops : goal.returns-in_err-copy_first-clause-stops
 returns-in_err-copy_first-clause-stops g c =
-    let s = g.P.Plant.state c.args.p.now in
-    let t = c.args.c.now in
+    let s = g.P.Plant.state c.args.plant.now in
+    let t = c.args.config.now in
     let h = c.args.h.now in
-    let ev = c.args.j.now.events in
-    let m = g.P.Plant.state c.copy_first.new.p in
-    let mid = c.copy_first.new.j.events in
+    let ev = c.args.journal.now.events in
+    let m = g.P.Plant.state c.copy_first.new.plant in
+    let mid = c.copy_first.new.journal.events in
     err-always c.from_residual.result (ap is_stop (refused-by c.from_residual.result c.in_err-copy_first.field-0.0 c.from_residual.ensures.0 c.from_residual.ensures.1) ∙ ap is_stop c.in_err-copy_first.ensures.refused)
 
 pub returns-in_err-copy_first-clause-told : goal.returns-in_err-copy_first-clause-told
 returns-in_err-copy_first-clause-told g c =
-    let s = g.P.Plant.state c.args.p.now in
-    let t = c.args.c.now in
+    let s = g.P.Plant.state c.args.plant.now in
+    let t = c.args.config.now in
     let h = c.args.h.now in
-    let ev = c.args.j.now.events in
-    let m = g.P.Plant.state c.copy_first.new.p in
-    let mid = c.copy_first.new.j.events in
+    let ev = c.args.journal.now.events in
+    let m = g.P.Plant.state c.copy_first.new.plant in
+    let mid = c.copy_first.new.journal.events in
     told-through (armed_in s) h (here s t [] h ev) (here m t [] h mid) (copy_first (ids_of t.volumes) c.args.m.from.0 c.args.m.track) (Some c.in_err-copy_first.field-0.0) (c.in_err-copy_first.ensures.carried (rest_of [] h ev)) c.requires.told
 
-pub land_both-requires-clause-told : goal.land_both-requires-clause-told
-land_both-requires-clause-told g c =
-    let s = g.P.Plant.state c.args.p.now in
-    let t = c.args.c.now in
+pub land_both_by-requires-clause-told : goal.land_both_by-requires-clause-told
+land_both_by-requires-clause-told g c =
+    let s = g.P.Plant.state c.args.plant.now in
+    let t = c.args.config.now in
     let h = c.args.h.now in
-    let ev = c.args.j.now.events in
-    let m = g.P.Plant.state c.copy_first.new.p in
-    let mid = c.copy_first.new.j.events in
+    let ev = c.args.journal.now.events in
+    let m = g.P.Plant.state c.copy_first.new.plant in
+    let mid = c.copy_first.new.journal.events in
     told-through (armed_in s) h (here s t [] h ev) (here m t [] h mid) (copy_first (ids_of t.volumes) c.args.m.from.0 c.args.m.track) None (c.in_ok-copy_first.ensures.carried (rest_of [] h ev)) c.requires.told
 
-pub land_both-requires-clause-running : goal.land_both-requires-clause-running
-land_both-requires-clause-running g c =
-    let s = g.P.Plant.state c.args.p.now in
-    let t = c.args.c.now in
+pub land_both_by-requires-clause-running : goal.land_both_by-requires-clause-running
+land_both_by-requires-clause-running g c =
+    let s = g.P.Plant.state c.args.plant.now in
+    let t = c.args.config.now in
     let h = c.args.h.now in
-    let ev = c.args.j.now.events in
-    let m = g.P.Plant.state c.copy_first.new.p in
-    let mid = c.copy_first.new.j.events in
+    let ev = c.args.journal.now.events in
+    let m = g.P.Plant.state c.copy_first.new.plant in
+    let mid = c.copy_first.new.journal.events in
     runs-still s m t c.args.m.from.0 c.in_ok-copy_first.ensures.on (ap (λ (x : Volume). x.server) (c.in_ok-copy_first.ensures.others c.args.m.from.0 (no-own s t c.args.m.from.0 c.requires.fit)).volume) c.requires.running
 
-pub land_both-requires-clause-primary : goal.land_both-requires-clause-primary
-land_both-requires-clause-primary g c =
-    let s = g.P.Plant.state c.args.p.now in
-    let t = c.args.c.now in
+pub land_both_by-requires-clause-primary : goal.land_both_by-requires-clause-primary
+land_both_by-requires-clause-primary g c =
+    let s = g.P.Plant.state c.args.plant.now in
+    let t = c.args.config.now in
     let h = c.args.h.now in
-    let ev = c.args.j.now.events in
-    let m = g.P.Plant.state c.copy_first.new.p in
-    let mid = c.copy_first.new.j.events in
+    let ev = c.args.journal.now.events in
+    let m = g.P.Plant.state c.copy_first.new.plant in
+    let mid = c.copy_first.new.journal.events in
     ap (λ (x : Volume). is_part x.fields.primary) (c.in_ok-copy_first.ensures.others c.args.m.from.0 (no-own s t c.args.m.from.0 c.requires.fit)).volume ∙ c.requires.primary
 
-pub land_both-requires-clause-within : goal.land_both-requires-clause-within
-land_both-requires-clause-within g c =
-    let s = g.P.Plant.state c.args.p.now in
-    let t = c.args.c.now in
+pub land_both_by-requires-clause-within : goal.land_both_by-requires-clause-within
+land_both_by-requires-clause-within g c =
+    let s = g.P.Plant.state c.args.plant.now in
+    let t = c.args.config.now in
     let h = c.args.h.now in
-    let ev = c.args.j.now.events in
-    let m = g.P.Plant.state c.copy_first.new.p in
-    let mid = c.copy_first.new.j.events in
+    let ev = c.args.journal.now.events in
+    let m = g.P.Plant.state c.copy_first.new.plant in
+    let mid = c.copy_first.new.journal.events in
     subst (λ (x : Volume). c.args.m.track < x.tracks) (sym (c.in_ok-copy_first.ensures.others c.args.m.from.0 (no-own s t c.args.m.from.0 c.requires.fit)).volume) c.requires.within
 
-pub land_both-requires-clause-bytes : goal.land_both-requires-clause-bytes
-land_both-requires-clause-bytes g c =
-    let s = g.P.Plant.state c.args.p.now in
-    let t = c.args.c.now in
+pub land_both_by-requires-clause-bytes : goal.land_both_by-requires-clause-bytes
+land_both_by-requires-clause-bytes g c =
+    let s = g.P.Plant.state c.args.plant.now in
+    let t = c.args.config.now in
     let h = c.args.h.now in
-    let ev = c.args.j.now.events in
-    let m = g.P.Plant.state c.copy_first.new.p in
-    let mid = c.copy_first.new.j.events in
+    let ev = c.args.journal.now.events in
+    let m = g.P.Plant.state c.copy_first.new.plant in
+    let mid = c.copy_first.new.journal.events in
     same-bytes (armed_in s) s m t [] h ev mid (copy_first (ids_of t.volumes) c.args.m.from.0 c.args.m.track) None c.args.m.from.0 c.args.m.track c.args.m.write.0 c.args.bytes.now (c.in_ok-copy_first.ensures.carried (rest_of [] h ev)) (ap (λ (z : ℕ → List ℕ). z c.args.m.track) (c.in_ok-copy_first.ensures.others c.args.m.from.0 (no-own s t c.args.m.from.0 c.requires.fit)).tracks) c.requires.bytes
 
 pub returns-clause-carried : goal.returns-clause-carried
 returns-clause-carried g c xs =
-    let s = g.P.Plant.state c.args.p.now in
-    let t = c.args.c.now in
+    let s = g.P.Plant.state c.args.plant.now in
+    let t = c.args.config.now in
     let h = c.args.h.now in
-    let ev = c.args.j.now.events in
-    let m = g.P.Plant.state c.copy_first.new.p in
-    let mid = c.copy_first.new.j.events in
-    let u = here (g.P.Plant.state c.land_both.new.p) t xs c.land_both.new.h c.land_both.new.j.events in
-    c.in_ok-copy_first.ensures.leads (rest_of xs h ev) (armed_in s) u (refusal_of c.land_both.result) (now (LandBoth c.args.m.write.0 c.args.m.from.0 c.args.m.track) ∷ [])
-    (ends-wider (armed_in m) (armed_in s) (wider-armed s m c.in_ok-copy_first.ensures.unarmed) u (refusal_of c.land_both.result) (here m t xs h mid) (now (LandBoth c.args.m.write.0 c.args.m.from.0 c.args.m.track) ∷ []) (c.land_both.ensures.carried xs))
+    let ev = c.args.journal.now.events in
+    let m = g.P.Plant.state c.copy_first.new.plant in
+    let mid = c.copy_first.new.journal.events in
+    let u = here (g.P.Plant.state c.land_both_by.new.plant) t xs c.land_both_by.new.h c.land_both_by.new.journal.events in
+    c.in_ok-copy_first.ensures.leads (rest_of xs h ev) (armed_in s) u (refusal_of c.land_both_by.result) (now (LandBoth c.args.m.write.0 c.args.m.from.0 c.args.m.track) ∷ [])
+    (ends-wider (armed_in m) (armed_in s) (wider-armed s m c.in_ok-copy_first.ensures.unarmed) u (refusal_of c.land_both_by.result) (here m t xs h mid) (now (LandBoth c.args.m.write.0 c.args.m.from.0 c.args.m.track) ∷ []) (c.land_both_by.ensures.carried xs))
 
 pub returns-clause-unarmed : goal.returns-clause-unarmed
 returns-clause-unarmed g c q none =
-    let s = g.P.Plant.state c.args.p.now in
-    let t = c.args.c.now in
+    let s = g.P.Plant.state c.args.plant.now in
+    let t = c.args.config.now in
     let h = c.args.h.now in
-    let ev = c.args.j.now.events in
-    let m = g.P.Plant.state c.copy_first.new.p in
-    let mid = c.copy_first.new.j.events in
-    c.land_both.ensures.unarmed q (c.in_ok-copy_first.ensures.unarmed q none)
+    let ev = c.args.journal.now.events in
+    let m = g.P.Plant.state c.copy_first.new.plant in
+    let mid = c.copy_first.new.journal.events in
+    c.land_both_by.ensures.unarmed q (c.in_ok-copy_first.ensures.unarmed q none)
 
 pub returns-clause-stops : goal.returns-clause-stops
 returns-clause-stops g c =
-    let s = g.P.Plant.state c.args.p.now in
-    let t = c.args.c.now in
+    let s = g.P.Plant.state c.args.plant.now in
+    let t = c.args.config.now in
     let h = c.args.h.now in
-    let ev = c.args.j.now.events in
-    let m = g.P.Plant.state c.copy_first.new.p in
-    let mid = c.copy_first.new.j.events in
-    err-along c.land_both.result c.land_both.ensures.refused c.land_both.ensures.refused (λ refused more. ap is_stop refused)
+    let ev = c.args.journal.now.events in
+    let m = g.P.Plant.state c.copy_first.new.plant in
+    let mid = c.copy_first.new.journal.events in
+    err-along c.land_both_by.result c.land_both_by.ensures.refused c.land_both_by.ensures.refused (λ refused more. ap is_stop refused)
 
 pub returns-clause-equal : goal.returns-clause-equal
 returns-clause-equal g c =
-    let s = g.P.Plant.state c.args.p.now in
-    let t = c.args.c.now in
+    let s = g.P.Plant.state c.args.plant.now in
+    let t = c.args.config.now in
     let h = c.args.h.now in
-    let ev = c.args.j.now.events in
-    let m = g.P.Plant.state c.copy_first.new.p in
-    let mid = c.copy_first.new.j.events in
-    let u = g.P.Plant.state c.land_both.new.p in
-    ok-along c.land_both.result c.land_both.ensures.moved (λ is.
-    ap (λ (z : ℕ → List ℕ). z c.args.m.track) (c.land_both.ensures.others c.args.m.to.0 (λ e. servers-apart s t c.args.m.from.0 c.args.m.to.0 c.requires.two_servers (sym e))).tracks
+    let ev = c.args.journal.now.events in
+    let m = g.P.Plant.state c.copy_first.new.plant in
+    let mid = c.copy_first.new.journal.events in
+    let u = g.P.Plant.state c.land_both_by.new.plant in
+    ok-along c.land_both_by.result c.land_both_by.ensures.moved (λ is.
+    ap (λ (z : ℕ → List ℕ). z c.args.m.track) (c.land_both_by.ensures.others c.args.m.to.0 (λ e. servers-apart s t c.args.m.from.0 c.args.m.to.0 c.requires.two_servers (sym e))).tracks
     ∙ ap (λ (z : ℕ → List ℕ). z c.args.m.track) (c.in_ok-copy_first.ensures.others c.args.m.to.0 (other-server s t c.args.m.to.0 c.args.m.from.0 c.requires.fit (λ e. c.requires.two_servers (sym e)))).tracks
     ∙ c.requires.stored
     ∙ sym (stored-track m u t c.args.m.from.0 c.args.m.track (synced (volume_seen m t c.args.m.from.0).fields c.args.m.track) c.args.bytes.now is))
+
+pub land_both_by-requires-clause-says : goal.land_both_by-requires-clause-says
+land_both_by-requires-clause-says g c =
+    let s = g.P.Plant.state c.args.plant.now in
+    let v = c.args.m.from.0 in
+    says-along s (g.P.Plant.state c.copy_first.new.plant) c.args.config.now v c.args.fields.now (c.in_ok-copy_first.ensures.others v (no-own s c.args.config.now v c.requires.fit)).volume c.requires.says

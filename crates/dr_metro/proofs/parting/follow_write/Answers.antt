@@ -8,14 +8,14 @@ use Rattle.dr_metro.proofs.parting.follow_write.Goals as goal
 
 pub returns-then-collided-clause-follows : goal.returns-then-collided-clause-follows
 returns-then-collided-clause-follows g c r =
-    let s = g.P.Plant.state c.args.p.now in
-    let t = c.args.c.now in
-    let u = g.P.Plant.state c.follow_stop.new.p in
-    subst (λ b. Follows (armed_in s) (world_seen s t r c.args.j.now.events) (Some c.args.why) (λ q. if b then suspend_after c.args.v.0 q else part_after c.args.v.0 q) (world_seen u t r c.follow_stop.new.j.events)) (sym c.if-collided.true) (c.follow_stop.ensures.follows r)
+    let s = g.P.Plant.state c.args.plant.now in
+    let t = c.args.config.now in
+    let u = g.P.Plant.state c.follow_stop.new.plant in
+    subst (λ b. Follows (armed_in s) (world_seen s t r c.args.journal.now.events) (Some c.args.why) (λ q. if b then suspend_after c.args.v.0 q else part_after c.args.v.0 q) (world_seen u t r c.follow_stop.new.journal.events)) (sym c.if-collided.true) (c.follow_stop.ensures.follows r)
 
 pub returns-clause-follows : goal.returns-clause-follows
 returns-clause-follows g c r =
-    let s = g.P.Plant.state c.args.p.now in
-    let t = c.args.c.now in
-    let u = g.P.Plant.state c.follow_part.new.p in
-    subst (λ b. Follows (armed_in s) (world_seen s t r c.args.j.now.events) (Some c.args.why) (λ q. if b then suspend_after c.args.v.0 q else part_after c.args.v.0 q) (world_seen u t r c.follow_part.new.j.events)) (sym c.if-collided.false) (c.follow_part.ensures.follows r)
+    let s = g.P.Plant.state c.args.plant.now in
+    let t = c.args.config.now in
+    let u = g.P.Plant.state c.follow_part.new.plant in
+    subst (λ b. Follows (armed_in s) (world_seen s t r c.args.journal.now.events) (Some c.args.why) (λ q. if b then suspend_after c.args.v.0 q else part_after c.args.v.0 q) (world_seen u t r c.follow_part.new.journal.events)) (sym c.if-collided.false) (c.follow_part.ensures.follows r)

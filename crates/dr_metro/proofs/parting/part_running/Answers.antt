@@ -16,18 +16,18 @@ use Rattle.dr_volume.proofs.WorldLaws.{on-seen}
 
 pub returns-then-not-is_part-clause-ends : goal.returns-then-not-is_part-clause-ends
 returns-then-not-is_part-clause-ends g c r s =
-    nothing-follows (armed_in (g.P.Plant.state c.args.p.now)) (world_seen (g.P.Plant.state c.args.p.now) c.args.c.now r c.args.j.now.events) (part_running c.args.v.0) (absent-part c.args.v.0 (world_seen (g.P.Plant.state c.args.p.now) c.args.c.now r c.args.j.now.events).control ((ap (λ (f : Fields). is_part f.primary) (sym c.peek_fields-fields.ensures.fields) ∙ sym c.is_part.ensures) ∙ c.if-not-is_part.true))
+    nothing-follows (armed_in (g.P.Plant.state c.args.plant.now)) (world_seen (g.P.Plant.state c.args.plant.now) c.args.config.now r c.args.journal.now.events) (part_running c.args.v.0) (absent-part c.args.v.0 (world_seen (g.P.Plant.state c.args.plant.now) c.args.config.now r c.args.journal.now.events).control ((ap (λ (f : Fields). is_part f.primary) (sym c.peek_fields-fields.ensures.fields) ∙ sym c.is_part.ensures) ∙ c.if-not-is_part.true))
 
 pub returns-then-not-is_on-clause-ends : goal.returns-then-not-is_on-clause-ends
 returns-then-not-is_on-clause-ends g c r s =
-    nothing-follows (armed_in (g.P.Plant.state c.args.p.now)) (world_seen (g.P.Plant.state c.args.p.now) c.args.c.now r c.args.j.now.events) (part_running c.args.v.0) (off-part c.args.v.0 (world_seen (g.P.Plant.state c.args.p.now) c.args.c.now r c.args.j.now.events).control ((ap (on_seen (g.P.Plant.state c.args.p.now)) (c.server_of.ensures.seen (g.P.Plant.state c.args.p.now)) ∙ on-seen (g.P.Plant.state c.args.p.now) c.server_of.result.0 c.server_of.ensures.known ∙ sym c.is_on.ensures) ∙ c.if-not-is_on.true))
+    nothing-follows (armed_in (g.P.Plant.state c.args.plant.now)) (world_seen (g.P.Plant.state c.args.plant.now) c.args.config.now r c.args.journal.now.events) (part_running c.args.v.0) (off-part c.args.v.0 (world_seen (g.P.Plant.state c.args.plant.now) c.args.config.now r c.args.journal.now.events).control ((ap (on_seen (g.P.Plant.state c.args.plant.now)) (c.server_of.ensures.seen (g.P.Plant.state c.args.plant.now)) ∙ on-seen (g.P.Plant.state c.args.plant.now) c.server_of.result.0 c.server_of.ensures.known ∙ sym c.is_on.ensures) ∙ c.if-not-is_on.true))
 
 pub returns-clause-ends : goal.returns-clause-ends
 returns-clause-ends g c r s =
     record {
       refusal = refusal_of c.suspend.result;
-      ends = ends-alike (armed_in (g.P.Plant.state c.args.p.now)) (world_seen (g.P.Plant.state c.suspend.new.p) c.args.c.now r c.suspend.new.j.events) (refusal_of c.suspend.result) (world_seen (g.P.Plant.state c.args.p.now) c.args.c.now r c.args.j.now.events) (part_running c.args.v.0) (now (Suspend c.args.v.0 c.is_grouped-busy.result)) []
-          (on-part c.args.v.0 (world_seen (g.P.Plant.state c.args.p.now) c.args.c.now r c.args.j.now.events).control c.is_grouped-busy.result ((ap (λ (f : Fields). is_part f.primary) (sym c.peek_fields-fields.ensures.fields) ∙ sym c.is_part.ensures) ∙ c.if-not-is_part.false) ((ap (on_seen (g.P.Plant.state c.args.p.now)) (c.server_of.ensures.seen (g.P.Plant.state c.args.p.now)) ∙ on-seen (g.P.Plant.state c.args.p.now) c.server_of.result.0 c.server_of.ensures.known ∙ sym c.is_on.ensures) ∙ c.if-not-is_on.false)
-          (c.is_grouped-busy.ensures ∙ ap (λ (f : Fields). unwrap_or (path_in c.args.c.now.paths (subsystem c.args.v.0) (subsystem f.primary_partner)) false) c.peek_fields-fields.ensures.fields))
+      ends = ends-alike (armed_in (g.P.Plant.state c.args.plant.now)) (world_seen (g.P.Plant.state c.suspend.new.plant) c.args.config.now r c.suspend.new.journal.events) (refusal_of c.suspend.result) (world_seen (g.P.Plant.state c.args.plant.now) c.args.config.now r c.args.journal.now.events) (part_running c.args.v.0) (now (Suspend c.args.v.0 c.is_grouped-busy.result)) []
+          (on-part c.args.v.0 (world_seen (g.P.Plant.state c.args.plant.now) c.args.config.now r c.args.journal.now.events).control c.is_grouped-busy.result ((ap (λ (f : Fields). is_part f.primary) (sym c.peek_fields-fields.ensures.fields) ∙ sym c.is_part.ensures) ∙ c.if-not-is_part.false) ((ap (on_seen (g.P.Plant.state c.args.plant.now)) (c.server_of.ensures.seen (g.P.Plant.state c.args.plant.now)) ∙ on-seen (g.P.Plant.state c.args.plant.now) c.server_of.result.0 c.server_of.ensures.known ∙ sym c.is_on.ensures) ∙ c.if-not-is_on.false)
+          (c.is_grouped-busy.ensures ∙ ap (λ (f : Fields). unwrap_or (path_in c.args.config.now.paths (subsystem c.args.v.0) (subsystem f.primary_partner)) false) c.peek_fields-fields.ensures.fields))
           (c.suspend.ensures.carried r);
     }

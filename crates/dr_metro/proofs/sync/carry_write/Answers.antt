@@ -19,10 +19,10 @@ use Rattle.dr_volume.proofs.WorldLaws.{on-seen}
 
 pub returns-then-not-is_on-clause-carried : goal.returns-then-not-is_on-clause-carried
 returns-then-not-is_on-clause-carried g c xs =
-    let s = g.P.Plant.state c.args.p.now in
-    let t = c.args.c.now in
+    let s = g.P.Plant.state c.args.plant.now in
+    let t = c.args.config.now in
     let h = c.args.h.now in
-    let ev = c.args.j.now.events in
+    let ev = c.args.journal.now.events in
     let w = c.args.w.now in
     let v = w.volume.0 in
     let k = (here s t xs h ev).control in
@@ -30,81 +30,81 @@ returns-then-not-is_on-clause-carried g c xs =
     subst (λ n. Ends (armed_in s) (here s t xs h ev) (Some (server_off n)) (here s t xs h ev) (landing k w.w.0 v w.track)) (c.server_of-server.ensures.seen s)
     (write-off (armed_in s) (here s t xs h ev) w.w.0 v (land_entries k w.w.0 v w.track) (on ∙ c.if-not-is_on.true))
 
-pub returns-in-Some-clause-carried : goal.returns-in-Some-clause-carried
-returns-in-Some-clause-carried g c xs =
-    let s = g.P.Plant.state c.args.p.now in
-    let t = c.args.c.now in
+pub returns-in-Err-clause-carried : goal.returns-in-Err-clause-carried
+returns-in-Err-clause-carried g c xs =
+    let s = g.P.Plant.state c.args.plant.now in
+    let t = c.args.config.now in
     let h = c.args.h.now in
-    let ev = c.args.j.now.events in
+    let ev = c.args.journal.now.events in
     let w = c.args.w.now in
     let v = w.volume.0 in
     let k = (here s t xs h ev).control in
     let on = ap (on_seen s) (c.server_of-server.ensures.seen s) ∙ on-seen s c.server_of-server.result.0 c.server_of-server.ensures.known ∙ sym c.is_on.ensures in
-    let why = c.in-Some.why in
+    let why = c.in-Err.why in
     let gone = c.finish.ensures in
     subst (λ x. Ends (armed_in s) x (Some why) (here s t xs h ev) (landing k w.w.0 v w.track))
     (λ i. record (here s t xs h ev) { control = record k { issued = (sym (ap (λ (x : Writes). x.issued) gone) i); pending = (sym (seen-without w.w.0 h.pending) ∙ ap (λ (x : Writes). map pending_seen x.pending) (sym gone)) i } })
-    (write-drops (armed_in s) (here s t xs h ev) w.w.0 v why (land_entries k w.w.0 v w.track) (on ∙ c.if-not-is_on.false) (sym (c.in-Some.ensures.refusal (rest_of xs h ev) ev)))
+    (write-drops (armed_in s) (here s t xs h ev) w.w.0 v why (land_entries k w.w.0 v w.track) (on ∙ c.if-not-is_on.false) (sym (c.in-Err.ensures.refusal (rest_of xs h ev) ev)))
 
-pub returns-in-Some-clause-told : goal.returns-in-Some-clause-told
-returns-in-Some-clause-told g c =
-    let s = g.P.Plant.state c.args.p.now in
-    let t = c.args.c.now in
+pub returns-in-Err-clause-told : goal.returns-in-Err-clause-told
+returns-in-Err-clause-told g c =
+    let s = g.P.Plant.state c.args.plant.now in
+    let t = c.args.config.now in
     let h = c.args.h.now in
-    let ev = c.args.j.now.events in
+    let ev = c.args.journal.now.events in
     let w = c.args.w.now in
     let v = w.volume.0 in
     subst (λ (x : Writes). IsTold x ev) (sym c.finish.ensures) (each-without (IsWrite (histories ev).write) w.w.0 h.pending c.requires.told)
 
-pub returns-in-Some-clause-faults : goal.returns-in-Some-clause-faults
-returns-in-Some-clause-faults g c =
-    let s = g.P.Plant.state c.args.p.now in
-    let t = c.args.c.now in
+pub returns-in-Err-clause-faults : goal.returns-in-Err-clause-faults
+returns-in-Err-clause-faults g c =
+    let s = g.P.Plant.state c.args.plant.now in
+    let t = c.args.config.now in
     let h = c.args.h.now in
-    let ev = c.args.j.now.events in
+    let ev = c.args.journal.now.events in
     let w = c.args.w.now in
     let v = w.volume.0 in
-    subst (λ b. Counted b s.faults s.faults) (sym c.in-Some.ensures.calm) refl
+    subst (λ b. Counted b s.faults s.faults) (sym c.in-Err.ensures.calm) refl
 
 pub finish-requires : goal.finish-requires
 finish-requires g c =
-    let s = g.P.Plant.state c.args.p.now in
-    let t = c.args.c.now in
+    let s = g.P.Plant.state c.args.plant.now in
+    let t = c.args.config.now in
     let h = c.args.h.now in
-    let ev = c.args.j.now.events in
+    let ev = c.args.journal.now.events in
     let w = c.args.w.now in
     let v = w.volume.0 in
     some-found _ w c.requires.found
 
 pub place_write-requires-clause-running : goal.place_write-requires-clause-running
 place_write-requires-clause-running g c =
-    let s = g.P.Plant.state c.args.p.now in
-    let t = c.args.c.now in
+    let s = g.P.Plant.state c.args.plant.now in
+    let t = c.args.config.now in
     let h = c.args.h.now in
-    let ev = c.args.j.now.events in
+    let ev = c.args.journal.now.events in
     let w = c.args.w.now in
     let v = w.volume.0 in
     ap s.on (c.server_of-server.ensures.seen s) ∙ sym c.is_on.ensures ∙ c.if-not-is_on.false
 
-pub returns-clause-carried : goal.returns-clause-carried
-returns-clause-carried g c xs =
-    let s = g.P.Plant.state c.args.p.now in
-    let t = c.args.c.now in
+pub returns-in-Ok-clause-carried : goal.returns-in-Ok-clause-carried
+returns-in-Ok-clause-carried g c xs =
+    let s = g.P.Plant.state c.args.plant.now in
+    let t = c.args.config.now in
     let h = c.args.h.now in
-    let ev = c.args.j.now.events in
+    let ev = c.args.journal.now.events in
     let w = c.args.w.now in
     let v = w.volume.0 in
     let k = (here s t xs h ev).control in
     let on = ap (on_seen s) (c.server_of-server.ensures.seen s) ∙ on-seen s c.server_of-server.result.0 c.server_of-server.ensures.known ∙ sym c.is_on.ensures in
-    let x = here (g.P.Plant.state c.place_write.new.p) t xs c.place_write.new.h c.place_write.new.j.events in
-    write-passes (armed_in s) (here s t xs h ev) w.w.0 v x (refusal_of c.place_write.result) (land_entries k w.w.0 v w.track) (on ∙ c.if-not-is_on.false) (sym (c.in_default.ensures.refusal (rest_of xs h ev) ev)) (c.place_write.ensures.carried xs)
+    let x = here (g.P.Plant.state c.place_write.new.plant) t xs c.place_write.new.h c.place_write.new.journal.events in
+    write-passes (armed_in s) (here s t xs h ev) w.w.0 v x (refusal_of c.place_write.result) (land_entries k w.w.0 v w.track) (on ∙ c.if-not-is_on.false) (sym (c.in-Ok.ensures.refusal (rest_of xs h ev) ev)) (c.place_write.ensures.carried xs)
 
-pub returns-clause-faults : goal.returns-clause-faults
-returns-clause-faults g c =
-    let s = g.P.Plant.state c.args.p.now in
-    let t = c.args.c.now in
+pub returns-in-Ok-clause-faults : goal.returns-in-Ok-clause-faults
+returns-in-Ok-clause-faults g c =
+    let s = g.P.Plant.state c.args.plant.now in
+    let t = c.args.config.now in
     let h = c.args.h.now in
-    let ev = c.args.j.now.events in
+    let ev = c.args.journal.now.events in
     let w = c.args.w.now in
     let v = w.volume.0 in
     counted-stops c.place_write.result _ _ c.place_write.ensures.faults c.place_write.ensures.stops

@@ -13,69 +13,69 @@ use Rattle.dr_metro.proofs.sync.sync_write.Goals as goal
 
 pub returns-in-Ok-clause-carried : goal.returns-in-Ok-clause-carried
 returns-in-Ok-clause-carried g c xs =
-    let s = g.P.Plant.state c.args.p.now in
-    let t = c.args.c.now in
+    let s = g.P.Plant.state c.args.plant.now in
+    let t = c.args.config.now in
     let h = c.args.h.now in
-    let ev = c.args.j.now.events in
+    let ev = c.args.journal.now.events in
     let w = c.args.w.now in
     let v = w.volume.0 in
     let k = (here s t xs h ev).control in
-    let m = g.P.Plant.state c.carry_write.new.p in
+    let m = g.P.Plant.state c.carry_write.new.plant in
     let h1 = c.carry_write.new.h in
-    let mid = c.carry_write.new.j.events in
+    let mid = c.carry_write.new.journal.events in
     record { middle = here m t xs h1 mid; ends = (c.in-Ok.ensures.carried xs); followed = refl }
 
 pub returns-in-Err-clause-carried : goal.returns-in-Err-clause-carried
 returns-in-Err-clause-carried g c xs =
-    let s = g.P.Plant.state c.args.p.now in
-    let t = c.args.c.now in
+    let s = g.P.Plant.state c.args.plant.now in
+    let t = c.args.config.now in
     let h = c.args.h.now in
-    let ev = c.args.j.now.events in
+    let ev = c.args.journal.now.events in
     let w = c.args.w.now in
     let v = w.volume.0 in
     let k = (here s t xs h ev).control in
-    let m = g.P.Plant.state c.carry_write.new.p in
+    let m = g.P.Plant.state c.carry_write.new.plant in
     let h1 = c.carry_write.new.h in
-    let mid = c.carry_write.new.j.events in
-    let u = g.P.Plant.state c.follow_write.new.p in
+    let mid = c.carry_write.new.journal.events in
+    let u = g.P.Plant.state c.follow_write.new.plant in
     record {
       middle = here m t xs h1 mid;
       ends = (c.in-Err.ensures.carried xs);
-      followed = follows-wider (armed_in m) (armed_in s) (wider-armed s m c.in-Err.ensures.unarmed) (here m t xs h1 mid) (Some c.in-Err.why) (after_write k v w.track) (here u t xs h1 c.follow_write.new.j.events)
-          (after-is (armed_in m) (here m t xs h1 mid) (here u t xs h1 c.follow_write.new.j.events) (Some c.in-Err.why) k v w.track c.collides-collided.result (c.collides-collided.ensures ∙ ap (λ (x : Fields). collides x w.track) c.peek_fields.ensures.fields) (c.follow_write.ensures.follows (rest_of xs h1 mid)));
+      followed = follows-wider (armed_in m) (armed_in s) (wider-armed s m c.in-Err.ensures.unarmed) (here m t xs h1 mid) (Some c.in-Err.why) (after_write k v w.track) (here u t xs h1 c.follow_write.new.journal.events)
+          (after-is (armed_in m) (here m t xs h1 mid) (here u t xs h1 c.follow_write.new.journal.events) (Some c.in-Err.why) k v w.track c.collides-collided.result (c.collides-collided.ensures ∙ ap (λ (x : Fields). collides x w.track) c.peek_fields-fields.ensures.fields) (c.follow_write.ensures.follows (rest_of xs h1 mid)));
     }
 
 pub returns-in-Err-clause-told : goal.returns-in-Err-clause-told
 returns-in-Err-clause-told g c =
-    let s = g.P.Plant.state c.args.p.now in
-    let t = c.args.c.now in
+    let s = g.P.Plant.state c.args.plant.now in
+    let t = c.args.config.now in
     let h = c.args.h.now in
-    let ev = c.args.j.now.events in
+    let ev = c.args.journal.now.events in
     let w = c.args.w.now in
     let v = w.volume.0 in
     let k = (here s t [] h ev).control in
-    let m = g.P.Plant.state c.carry_write.new.p in
+    let m = g.P.Plant.state c.carry_write.new.plant in
     let h1 = c.carry_write.new.h in
-    let mid = c.carry_write.new.j.events in
-    let u = g.P.Plant.state c.follow_write.new.p in
-    told-followed (armed_in m) h1 (here m t [] h1 mid) (here u t [] h1 c.follow_write.new.j.events) (Some c.in-Err.why) (λ e. if c.collides-collided.result then suspend_after v e else part_after v e) (c.follow_write.ensures.follows (rest_of [] h1 mid)) c.in-Err.ensures.told
+    let mid = c.carry_write.new.journal.events in
+    let u = g.P.Plant.state c.follow_write.new.plant in
+    told-followed (armed_in m) h1 (here m t [] h1 mid) (here u t [] h1 c.follow_write.new.journal.events) (Some c.in-Err.why) (λ e. if c.collides-collided.result then suspend_after v e else part_after v e) (c.follow_write.ensures.follows (rest_of [] h1 mid)) c.in-Err.ensures.told
 
 pub returns-in-Err-clause-unarmed : goal.returns-in-Err-clause-unarmed
 returns-in-Err-clause-unarmed g c q none =
-    let s = g.P.Plant.state c.args.p.now in
-    let t = c.args.c.now in
+    let s = g.P.Plant.state c.args.plant.now in
+    let t = c.args.config.now in
     let h = c.args.h.now in
-    let ev = c.args.j.now.events in
+    let ev = c.args.journal.now.events in
     let w = c.args.w.now in
     let v = w.volume.0 in
     c.follow_write.ensures.unarmed q (c.in-Err.ensures.unarmed q none)
 
 pub returns-in-Err-clause-faults : goal.returns-in-Err-clause-faults
 returns-in-Err-clause-faults g c =
-    let s = g.P.Plant.state c.args.p.now in
-    let t = c.args.c.now in
+    let s = g.P.Plant.state c.args.plant.now in
+    let t = c.args.config.now in
     let h = c.args.h.now in
-    let ev = c.args.j.now.events in
+    let ev = c.args.journal.now.events in
     let w = c.args.w.now in
     let v = w.volume.0 in
     c.follow_write.ensures.faults s.faults c.in-Err.ensures.faults

@@ -16,26 +16,26 @@ use Rattle.dr_logic.proofs.Truth.{false_true}
 
 pub returns-then-is_some-clause-carried : goal.returns-then-is_some-clause-carried
 returns-then-is_some-clause-carried g c xs =
-    let s = g.P.Plant.state c.args.p.now in
-    let t = c.args.c.now in
+    let s = g.P.Plant.state c.args.plant.now in
+    let t = c.args.config.now in
     let h = c.args.h.now in
-    let ev = c.args.j.now.events in
+    let ev = c.args.journal.now.events in
     let w = c.args.w.now in
     let v = w.volume.0 in
     let k = (here s t xs h ev).control in
     let u = c.args.u.0 in
     let ids = ids_of t.volumes in
     let parted : is_some (send_refusal v u k) ≡ true = ap is_some (sym (c.send_refusal.ensures.refusal (rest_of xs h ev) ev)) ∙ sym c.is_some.ensures ∙ c.if-is_some.true in
-    let x = here (g.P.Plant.state c.write_parted.new.p) t xs c.write_parted.new.h c.write_parted.new.j.events in
+    let x = here (g.P.Plant.state c.write_parted.new.plant) t xs c.write_parted.new.h c.write_parted.new.journal.events in
     subst (λ b. Ends (armed_in s) x (refusal_of c.write_parted.result) (here s t xs h ev) (over_entries ids b (is_grouped k v u) w.w.0 v w.track u)) (sym parted)
     (subst (λ b. Ends (armed_in s) x (refusal_of c.write_parted.result) (here s t xs h ev) (parted_entries ids b w.w.0 v w.track)) c.is_grouped.ensures (c.write_parted.ensures.carried xs))
 
 pub returns-then-is_some-clause-end : goal.returns-then-is_some-clause-end
 returns-then-is_some-clause-end g c xs =
-    let s = g.P.Plant.state c.args.p.now in
-    let t = c.args.c.now in
+    let s = g.P.Plant.state c.args.plant.now in
+    let t = c.args.config.now in
     let h = c.args.h.now in
-    let ev = c.args.j.now.events in
+    let ev = c.args.journal.now.events in
     let w = c.args.w.now in
     let v = w.volume.0 in
     let k = (here s t xs h ev).control in
@@ -47,20 +47,20 @@ returns-then-is_some-clause-end g c xs =
 
 pub returns-then-is_some-clause-mirrors : goal.returns-then-is_some-clause-mirrors
 returns-then-is_some-clause-mirrors g c =
-    let s = g.P.Plant.state c.args.p.now in
-    let t = c.args.c.now in
+    let s = g.P.Plant.state c.args.plant.now in
+    let t = c.args.config.now in
     let h = c.args.h.now in
-    let ev = c.args.j.now.events in
+    let ev = c.args.journal.now.events in
     let w = c.args.w.now in
     let v = w.volume.0 in
     ok-along c.write_parted.result c.write_parted.ensures.suspended (λ is in_sync active. (false_true active is))
 
-pub write_both-requires-clause-reached : goal.write_both-requires-clause-reached
-write_both-requires-clause-reached g c =
-    let s = g.P.Plant.state c.args.p.now in
-    let t = c.args.c.now in
+pub write_both_by-requires-clause-reached : goal.write_both_by-requires-clause-reached
+write_both_by-requires-clause-reached g c =
+    let s = g.P.Plant.state c.args.plant.now in
+    let t = c.args.config.now in
     let h = c.args.h.now in
-    let ev = c.args.j.now.events in
+    let ev = c.args.journal.now.events in
     let w = c.args.w.now in
     let v = w.volume.0 in
     let sends = sym c.is_some.ensures ∙ c.if-is_some.false in
@@ -68,40 +68,40 @@ write_both-requires-clause-reached g c =
 
 pub returns-in-Ok-clause-carried : goal.returns-in-Ok-clause-carried
 returns-in-Ok-clause-carried g c xs =
-    let s = g.P.Plant.state c.args.p.now in
-    let t = c.args.c.now in
+    let s = g.P.Plant.state c.args.plant.now in
+    let t = c.args.config.now in
     let h = c.args.h.now in
-    let ev = c.args.j.now.events in
+    let ev = c.args.journal.now.events in
     let w = c.args.w.now in
     let v = w.volume.0 in
     let k = (here s t xs h ev).control in
     let u = c.args.u.0 in
     let ids = ids_of t.volumes in
     let sends : is_some (send_refusal v u k) ≡ false = ap is_some (sym (c.send_refusal.ensures.refusal (rest_of xs h ev) ev)) ∙ sym c.is_some.ensures ∙ c.if-is_some.false in
-    let x = here (g.P.Plant.state c.write_both.new.p) t xs c.write_both.new.h c.write_both.new.j.events in
+    let x = here (g.P.Plant.state c.write_both_by.new.plant) t xs c.write_both_by.new.h c.write_both_by.new.journal.events in
     subst (λ b. Ends (armed_in s) x None (here s t xs h ev) (over_entries ids b (is_grouped k v u) w.w.0 v w.track u)) (sym sends) (c.in-Ok.ensures.carried xs)
 
 pub returns-in-Err-clause-carried : goal.returns-in-Err-clause-carried
 returns-in-Err-clause-carried g c xs =
-    let s = g.P.Plant.state c.args.p.now in
-    let t = c.args.c.now in
+    let s = g.P.Plant.state c.args.plant.now in
+    let t = c.args.config.now in
     let h = c.args.h.now in
-    let ev = c.args.j.now.events in
+    let ev = c.args.journal.now.events in
     let w = c.args.w.now in
     let v = w.volume.0 in
     let k = (here s t xs h ev).control in
     let u = c.args.u.0 in
     let ids = ids_of t.volumes in
     let sends : is_some (send_refusal v u k) ≡ false = ap is_some (sym (c.send_refusal.ensures.refusal (rest_of xs h ev) ev)) ∙ sym c.is_some.ensures ∙ c.if-is_some.false in
-    let x = here (g.P.Plant.state c.write_both.new.p) t xs c.write_both.new.h c.write_both.new.j.events in
+    let x = here (g.P.Plant.state c.write_both_by.new.plant) t xs c.write_both_by.new.h c.write_both_by.new.journal.events in
     subst (λ b. Ends (armed_in s) x (Some c.in-Err.stop) (here s t xs h ev) (over_entries ids b (is_grouped k v u) w.w.0 v w.track u)) (sym sends) (c.in-Err.ensures.carried xs)
 
 pub returns-in-Ok-clause-end : goal.returns-in-Ok-clause-end
 returns-in-Ok-clause-end g c xs =
-    let s = g.P.Plant.state c.args.p.now in
-    let t = c.args.c.now in
+    let s = g.P.Plant.state c.args.plant.now in
+    let t = c.args.config.now in
     let h = c.args.h.now in
-    let ev = c.args.j.now.events in
+    let ev = c.args.journal.now.events in
     let w = c.args.w.now in
     let v = w.volume.0 in
     let k = (here s t xs h ev).control in
@@ -112,10 +112,10 @@ returns-in-Ok-clause-end g c xs =
 
 pub returns-in-Ok-clause-mirrors : goal.returns-in-Ok-clause-mirrors
 returns-in-Ok-clause-mirrors g c =
-    let s = g.P.Plant.state c.args.p.now in
-    let t = c.args.c.now in
+    let s = g.P.Plant.state c.args.plant.now in
+    let t = c.args.config.now in
     let h = c.args.h.now in
-    let ev = c.args.j.now.events in
+    let ev = c.args.journal.now.events in
     let w = c.args.w.now in
     let v = w.volume.0 in
     λ in_sync active. c.in-Ok.ensures.equal

@@ -14,8 +14,8 @@ on_err (Err x) h = h refl
 
 pub returns : goal.returns
 returns g c =
-    let s = g.P.Plant.state c.args.p.now in
-    let t = g.P.Plant.state c.write_record.new.p in
+    let s = g.P.Plant.state c.args.plant.now in
+    let t = g.P.Plant.state c.write_record.new.plant in
     let d = c.args.dev.0 in
     let n = g.F.Form.BLOCKS in
     let slot = c.args.slot in

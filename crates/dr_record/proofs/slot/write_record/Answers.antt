@@ -12,4 +12,4 @@ returns-in_err-write_slot g c =
 pub returns : goal.returns
 returns g c =
     append-goes _ _ c.args.dev.0 (slots.block_writes (slots.start_of g.F.Form.BLOCKS c.args.slot) 0 g.F.Form.BLOCKS (g.F.Form.blocks c.args.value.now)) _ c.in_ok-write_slot.ensures.writes
-    ∙ one_write _ _ c.args.dev.0 0 (slots.gate_of c.args.slot) _ (c.write.ensures.state ∙ ap (after_write (g.P.Plant.state c.write_slot.new.p) c.args.dev.0 0) c.gate_of.ensures) c.write.ensures.done
+    ∙ one_write _ _ c.args.dev.0 0 (slots.gate_of c.args.slot) _ (c.write.ensures.state ∙ ap (after_write (g.P.Plant.state c.write_slot.new.plant) c.args.dev.0 0) c.gate_of.ensures) c.write.ensures.done

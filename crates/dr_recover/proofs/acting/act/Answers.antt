@@ -15,21 +15,21 @@ use Rattle.dr_recover.proofs.acting.act.Goals as goal
 
 pub returns-in_default-clause-carried : goal.returns-in_default-clause-carried
 returns-in_default-clause-carried g c r =
-    let s0 = g.P.Plant.state c.args.p.now in
-    let t = c.args.c.now in
+    let s0 = g.P.Plant.state c.args.plant.now in
+    let t = c.args.config.now in
     let q = with_sessions c.args.ss.now.sessions r in
-    let w = world_seen s0 t q c.args.j.now.events in
-    act-none (armed_in s0) w (lets_by c.args.commit) c.args.source.0 c.relation_state.result (c.in_default.ensures.target q c.args.j.now.events) (c.relation_state.ensures.refusal q c.args.j.now.events)
+    let w = world_seen s0 t q c.args.journal.now.events in
+    act-none (armed_in s0) w (lets_by c.args.commit) c.args.source.0 c.relation_state.result (c.in_default.ensures.target q c.args.journal.now.events) (c.relation_state.ensures.refusal q c.args.journal.now.events)
 
 pub returns-in_default-member_with-clause-carried : goal.returns-in_default-member_with-clause-carried
 returns-in_default-member_with-clause-carried g c r =
-    let s0 = g.P.Plant.state c.args.p.now in
-    let t = c.args.c.now in
+    let s0 = g.P.Plant.state c.args.plant.now in
+    let t = c.args.config.now in
     let q = with_sessions c.args.ss.now.sessions r in
-    let w = world_seen s0 t q c.args.j.now.events in
+    let w = world_seen s0 t q c.args.journal.now.events in
     let why = c.relation_state-in_default-member_with.result in
-    act-by (armed_in s0) w (lets_by c.args.commit) c.args.source.0 c.in-Some.t.0 c.peek_head.result.session None w _ (c.in-Some.ensures.target q c.args.j.now.events) (ap (λ (f : Head). f.session) c.peek_head.ensures) c.in_default-member_with.ensures
-    (stands-so (armed_in s0) w (lets_by c.args.commit) c.args.source.0 why (c.relation_state-in_default-member_with.ensures.refusal q c.args.j.now.events))
+    act-by (armed_in s0) w (lets_by c.args.commit) c.args.source.0 c.in-Some.t.0 c.peek_head.result.session None w _ (c.in-Some.ensures.target q c.args.journal.now.events) (ap (λ (f : Head). f.session) c.peek_head.ensures) c.in_default-member_with.ensures
+    (stands-so (armed_in s0) w (lets_by c.args.commit) c.args.source.0 why (c.relation_state-in_default-member_with.ensures.refusal q c.args.journal.now.events))
 
 pub decide_over-decided-requires-clause-members : goal.decide_over-decided-requires-clause-members
 decide_over-decided-requires-clause-members g c = c.requires.members c.peek_head.result.session
@@ -39,12 +39,12 @@ settle_refusal-requires-clause-members g c = c.requires.members c.peek_head.resu
 
 pub returns-in-Some-settle_refusal-clause-carried : goal.returns-in-Some-settle_refusal-clause-carried
 returns-in-Some-settle_refusal-clause-carried g c r =
-    let s0 = g.P.Plant.state c.args.p.now in
-    let t = c.args.c.now in
+    let s0 = g.P.Plant.state c.args.plant.now in
+    let t = c.args.config.now in
     let q = with_sessions c.args.ss.now.sessions r in
-    let w = world_seen s0 t q c.args.j.now.events in
-    act-by (armed_in s0) w (lets_by c.args.commit) c.args.source.0 c.in-Some.t.0 c.peek_head.result.session (Some c.in-Some-member_with.m) w _ (c.in-Some.ensures.target q c.args.j.now.events) (ap (λ (f : Head). f.session) c.peek_head.ensures) c.in-Some-member_with.ensures
-    (act-refused (armed_in s0) w (lets_by c.args.commit) c.args.source.0 c.peek_head.result.session c.in-Some-member_with.m c.decide_over-decided.result (c.decide_over-decided.ensures.decides q c.args.j.now.events) c.in-Some-settle_refusal.why (c.in-Some-settle_refusal.ensures.refusal q c.args.j.now.events))
+    let w = world_seen s0 t q c.args.journal.now.events in
+    act-by (armed_in s0) w (lets_by c.args.commit) c.args.source.0 c.in-Some.t.0 c.peek_head.result.session (Some c.in-Some-member_with.m) w _ (c.in-Some.ensures.target q c.args.journal.now.events) (ap (λ (f : Head). f.session) c.peek_head.ensures) c.in-Some-member_with.ensures
+    (act-refused (armed_in s0) w (lets_by c.args.commit) c.args.source.0 c.peek_head.result.session c.in-Some-member_with.m c.decide_over-decided.result (c.decide_over-decided.ensures.decides q c.args.journal.now.events) c.in-Some-settle_refusal.why (c.in-Some-settle_refusal.ensures.refusal q c.args.journal.now.events))
 
 pub settle_member-requires-clause-target : goal.settle_member-requires-clause-target
 settle_member-requires-clause-target g c =
@@ -55,23 +55,23 @@ pub settle_member-requires-clause-running : goal.settle_member-requires-clause-r
 settle_member-requires-clause-running g c =
     let ms = members_in (session_in c.args.ss.now.sessions c.peek_head.result.session) in
     let at = found-at (λ (m : Member). m.c.0 == c.in-Some.t.0) ms c.in-Some-member_with.m (sym c.in-Some-member_with.ensures) in
-    target-running (g.P.Plant.state c.args.p.now) c.args.c.now ms (c.requires.members c.peek_head.result.session) c.in_default-settle_refusal.ensures.running at.0 c.in-Some-member_with.m at.1
+    target-running (g.P.Plant.state c.args.plant.now) c.args.config.now ms (c.requires.members c.peek_head.result.session) c.in_default-settle_refusal.ensures.running at.0 c.in-Some-member_with.m at.1
 
 pub returns-clause-carried : goal.returns-clause-carried
 returns-clause-carried g c r =
-    let s0 = g.P.Plant.state c.args.p.now in
-    let t = c.args.c.now in
+    let s0 = g.P.Plant.state c.args.plant.now in
+    let t = c.args.config.now in
     let q = with_sessions c.args.ss.now.sessions r in
-    let w = world_seen s0 t q c.args.j.now.events in
-    let u = world_seen (g.P.Plant.state c.settle_member.new.p) t q c.settle_member.new.j.events in
-    act-by (armed_in s0) w (lets_by c.args.commit) c.args.source.0 c.in-Some.t.0 c.peek_head.result.session (Some c.in-Some-member_with.m) u _ (c.in-Some.ensures.target q c.args.j.now.events) (ap (λ (f : Head). f.session) c.peek_head.ensures) c.in-Some-member_with.ensures
-    (act-done (armed_in s0) w (lets_by c.args.commit) c.args.source.0 c.peek_head.result.session c.in-Some-member_with.m c.decide_over-decided.result (c.decide_over-decided.ensures.decides q c.args.j.now.events) u c.settle_member.result (c.in_default-settle_refusal.ensures.refusal q c.args.j.now.events)
-    (act-ends c.settle_member.result (armed_in s0) (λ r. world_seen s0 t r c.args.j.now.events) (λ r. world_seen (g.P.Plant.state c.settle_member.new.p) t r c.settle_member.new.j.events) (settle_on c.peek_head.result.session c.decide_over-decided.result c.in-Some-member_with.m) c.settle_member.ensures.advances c.settle_member.ensures.halts q))
+    let w = world_seen s0 t q c.args.journal.now.events in
+    let u = world_seen (g.P.Plant.state c.settle_member.new.plant) t q c.settle_member.new.journal.events in
+    act-by (armed_in s0) w (lets_by c.args.commit) c.args.source.0 c.in-Some.t.0 c.peek_head.result.session (Some c.in-Some-member_with.m) u _ (c.in-Some.ensures.target q c.args.journal.now.events) (ap (λ (f : Head). f.session) c.peek_head.ensures) c.in-Some-member_with.ensures
+    (act-done (armed_in s0) w (lets_by c.args.commit) c.args.source.0 c.peek_head.result.session c.in-Some-member_with.m c.decide_over-decided.result (c.decide_over-decided.ensures.decides q c.args.journal.now.events) u c.settle_member.result (c.in_default-settle_refusal.ensures.refusal q c.args.journal.now.events)
+    (act-ends c.settle_member.result (armed_in s0) (λ r. world_seen s0 t r c.args.journal.now.events) (λ r. world_seen (g.P.Plant.state c.settle_member.new.plant) t r c.settle_member.new.journal.events) (settle_on c.peek_head.result.session c.decide_over-decided.result c.in-Some-member_with.m) c.settle_member.ensures.advances c.settle_member.ensures.halts q))
 
 pub returns-clause-unchanged : goal.returns-clause-unchanged
 returns-clause-unchanged g c calm =
-    only-stops _ c.settle_member.result (volume_seen (g.P.Plant.state c.args.p.now) c.args.c.now c.in-Some-member_with.m.c.0).server c.settle_member.ensures.refused calm
+    only-stops _ c.settle_member.result (volume_seen (g.P.Plant.state c.args.plant.now) c.args.config.now c.in-Some-member_with.m.c.0).server c.settle_member.ensures.refused calm
 
 pub returns-clause-faults : goal.returns-clause-faults
 returns-clause-faults g c =
-    counted-stop c.settle_member.result _ _ (volume_seen (g.P.Plant.state c.args.p.now) c.args.c.now c.in-Some-member_with.m.c.0).server c.settle_member.ensures.faults c.settle_member.ensures.refused
+    counted-stop c.settle_member.result _ _ (volume_seen (g.P.Plant.state c.args.plant.now) c.args.config.now c.in-Some-member_with.m.c.0).server c.settle_member.ensures.faults c.settle_member.ensures.refused

@@ -8,7 +8,7 @@ use Rattle.dr_recover.proofs.checks.settle_refusal.Goals as goal
 
 pub returns-in-Some-clause-refusal : goal.returns-in-Some-clause-refusal
 returns-in-Some-clause-refusal g c r events =
-    let k = (world_seen (g.P.Plant.state c.args.p.now) c.args.c.now r events).control in
+    let k = (world_seen (g.P.Plant.state c.args.plant.now) c.args.config.now r events).control in
     let ms = members_in (session_in c.args.ss.now.sessions c.args.s.0) in
     ap (λ o. option_or o (option_or (plans.untaken_refusal ms k) (plans.forbidden_unless (lets_by c.args.commit c.args.decided) c.args.decided))) (c.in-Some.ensures.refusal r events)
 

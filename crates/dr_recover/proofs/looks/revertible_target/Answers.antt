@@ -10,8 +10,8 @@ use Rattle.dr_recover.proofs.looks.revertible_target.Goals as goal
 
 pub returns-then-is_revertible_target-clause-target : goal.returns-then-is_revertible_target-clause-target
 returns-then-is_revertible_target-clause-target g c r events =
-    let s = g.P.Plant.state c.args.p.now in
-    let t = c.args.c.now in
+    let s = g.P.Plant.state c.args.plant.now in
+    let t = c.args.config.now in
     let f : ℕ → Bool = (λ u. is_revertible (volume_seen s t u).fields) in
     let h : ℕ → Bool = (λ u. copies_from c.args.b.0 (volume_seen s t u).fields) in
     sym (found-next f h t c.loop-place.place c.unwrap-u.result.0 (sym (ap (option_map (λ (v : VolumeId). v.0)) c.unwrap-u.ensures) ∙ c.volume_at.ensures.value) ∙ ap (λ b. cond b (Some c.unwrap-u.result.0) (found_from f h t (c.loop-place.place + 1))) (sym (c.is_revertible_target.ensures ∙ ap (λ (x : Head). targets_by c.args.b.0 x && x.revertible) (head-listed s t c.loop-place.place _ c.unwrap-u.result c.peek_head_at.result c.volume_at.ensures.place c.unwrap-u.ensures c.peek_head_at.ensures)) ∙ c.if-is_revertible_target.true)) ∙ c.loop-place.invariant.left
@@ -19,8 +19,8 @@ returns-then-is_revertible_target-clause-target g c r events =
 pub loop-place-preserved : goal.loop-place-preserved
 loop-place-preserved g c = record {
   left =
-      let s = g.P.Plant.state c.args.p.now in
-      let t = c.args.c.now in
+      let s = g.P.Plant.state c.args.plant.now in
+      let t = c.args.config.now in
       let f : ℕ → Bool = (λ u. is_revertible (volume_seen s t u).fields) in
       let h : ℕ → Bool = (λ u. copies_from c.args.b.0 (volume_seen s t u).fields) in
       sym (found-next f h t c.loop-place.place c.unwrap-u.result.0 (sym (ap (option_map (λ (v : VolumeId). v.0)) c.unwrap-u.ensures) ∙ c.volume_at.ensures.value) ∙ ap (λ b. cond b (Some c.unwrap-u.result.0) (found_from f h t (c.loop-place.place + 1))) (sym (c.is_revertible_target.ensures ∙ ap (λ (x : Head). targets_by c.args.b.0 x && x.revertible) (head-listed s t c.loop-place.place _ c.unwrap-u.result c.peek_head_at.result c.volume_at.ensures.place c.unwrap-u.ensures c.peek_head_at.ensures)) ∙ c.if-is_revertible_target.false)) ∙ c.loop-place.invariant.left;
@@ -28,8 +28,8 @@ loop-place-preserved g c = record {
 
 pub returns-clause-target : goal.returns-clause-target
 returns-clause-target g c r events =
-    let s = g.P.Plant.state c.args.p.now in
-    let t = c.args.c.now in
+    let s = g.P.Plant.state c.args.plant.now in
+    let t = c.args.config.now in
     let f : ℕ → Bool = (λ u. is_revertible (volume_seen s t u).fields) in
     let h : ℕ → Bool = (λ u. copies_from c.args.b.0 (volume_seen s t u).fields) in
     sym (found-none f h t c.loop-place.place (let e = c.volumes-place-end.ensures.count in let x = c.loop-place-test.false in omega (arith, e, x))) ∙ c.loop-place.invariant.left

@@ -16,9 +16,9 @@ settle_member-requires-clause-target g c = (c.requires.members c.loop-at.at c.un
 
 pub settle_member-requires-clause-running : goal.settle_member-requires-clause-running
 settle_member-requires-clause-running g c =
-    let s0 = g.P.Plant.state c.args.p.now in
-    let s = g.P.Plant.state c.loop-at.p in
-    let t = c.args.c.now in
+    let s0 = g.P.Plant.state c.args.plant.now in
+    let s = g.P.Plant.state c.loop-at.plant in
+    let t = c.args.config.now in
     let ms = members_in (session_in c.args.ss.now.sessions c.args.s.0) in
     target-running s t ms (all-ready s0 s t ms c.requires.members) (all-running s0 s t ms c.loop-at.invariant.on c.requires.members c.requires.running) c.loop-at.at c.unwrap-m.result (sym c.member_at.ensures.value ∙ c.unwrap-m.ensures)
 
@@ -32,16 +32,16 @@ settle_member-requires-clause-room g c =
 
 pub returns-in_err-settle_member-clause-fails : goal.returns-in_err-settle_member-clause-fails
 returns-in_err-settle_member-clause-fails g c =
-    let s0 = g.P.Plant.state c.args.p.now in
-    let s = g.P.Plant.state c.loop-at.p in
-    let t = c.args.c.now in
+    let s0 = g.P.Plant.state c.args.plant.now in
+    let s = g.P.Plant.state c.loop-at.plant in
+    let t = c.args.config.now in
     let ms = members_in (session_in c.args.ss.now.sessions c.args.s.0) in
     let e = c.in_err-settle_member.field-0.0 in
     err-always c.from_residual.result (λ r.
-    let w = world_seen s0 t r c.args.j.now.events in
-    let u = world_seen (g.P.Plant.state c.settle_member.new.p) t r c.settle_member.new.j.events in
+    let w = world_seen s0 t r c.args.journal.now.events in
+    let u = world_seen (g.P.Plant.state c.settle_member.new.plant) t r c.settle_member.new.journal.events in
     subst (λ q. Fails (armed_in s0) w (map (settle_on c.args.s.0 c.args.decided) ms) u q) (sym (refused-by c.from_residual.result e c.from_residual.ensures.0 c.from_residual.ensures.1))
-    (each-fails (settle_on c.args.s.0 c.args.decided) (armed_in s) (armed_in s0) (wider-armed s0 s c.loop-at.invariant.unarmed) w (world_seen s t r c.loop-at.j.events) u (Some e) ms c.loop-at.at c.unwrap-m.result
+    (each-fails (settle_on c.args.s.0 c.args.decided) (armed_in s) (armed_in s0) (wider-armed s0 s c.loop-at.invariant.unarmed) w (world_seen s t r c.loop-at.journal.events) u (Some e) ms c.loop-at.at c.unwrap-m.result
     (sym (sym c.member_at.ensures.value ∙ c.unwrap-m.ensures)) (c.loop-at.invariant.led r) (c.in_err-settle_member.ensures.halts r)))
 
 pub returns-in_err-settle_member-clause-stops : goal.returns-in_err-settle_member-clause-stops
@@ -54,13 +54,13 @@ returns-in_err-settle_member-clause-unarmed g c q none = c.in_err-settle_member.
 
 pub loop-at-preserved : goal.loop-at-preserved
 loop-at-preserved g c =
-    let s0 = g.P.Plant.state c.args.p.now in
-    let s = g.P.Plant.state c.loop-at.p in
-    let u = g.P.Plant.state c.settle_member.new.p in
-    let t = c.args.c.now in
+    let s0 = g.P.Plant.state c.args.plant.now in
+    let s = g.P.Plant.state c.loop-at.plant in
+    let u = g.P.Plant.state c.settle_member.new.plant in
+    let t = c.args.config.now in
     let ms = members_in (session_in c.args.ss.now.sessions c.args.s.0) in
     record {
-      led = λ r. each-next (settle_on c.args.s.0 c.args.decided) (world_seen s0 t r c.args.j.now.events) (world_seen s t r c.loop-at.j.events) (world_seen u t r c.settle_member.new.j.events)
+      led = λ r. each-next (settle_on c.args.s.0 c.args.decided) (world_seen s0 t r c.args.journal.now.events) (world_seen s t r c.loop-at.journal.events) (world_seen u t r c.settle_member.new.journal.events)
           ms c.loop-at.at c.unwrap-m.result (sym (sym c.member_at.ensures.value ∙ c.unwrap-m.ensures)) (c.loop-at.invariant.led r) (c.in_ok-settle_member.ensures.advances r);
       rest = c.in_ok-settle_member.ensures.rest;
       fit = c.in_ok-settle_member.ensures.fit;
@@ -74,7 +74,7 @@ loop-at-preserved g c =
 
 pub returns-clause-leads : goal.returns-clause-leads
 returns-clause-leads g c r =
-    let t = c.args.c.now in
+    let t = c.args.config.now in
     let ms = members_in (session_in c.args.ss.now.sessions c.args.s.0) in
     let all : length ms ≤ c.loop-at.at = let e = c.member_count-at-end.ensures in let f = c.loop-at-test.false in omega (arith, e, f) in
-    subst (λ xs. Leads (world_seen (g.P.Plant.state c.args.p.now) t r c.args.j.now.events) (map (settle_on c.args.s.0 c.args.decided) xs) (world_seen (g.P.Plant.state c.loop-at.p) t r c.loop-at.j.events)) (member-all ms c.loop-at.at all) (c.loop-at.invariant.led r)
+    subst (λ xs. Leads (world_seen (g.P.Plant.state c.args.plant.now) t r c.args.journal.now.events) (map (settle_on c.args.s.0 c.args.decided) xs) (world_seen (g.P.Plant.state c.loop-at.plant) t r c.loop-at.journal.events)) (member-all ms c.loop-at.at all) (c.loop-at.invariant.led r)

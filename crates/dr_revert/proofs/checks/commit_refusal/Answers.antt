@@ -9,9 +9,9 @@ use Rattle.dr_revert.proofs.checks.commit_refusal.Goals as goal
 
 pub returns-clause-refusal : goal.returns-clause-refusal
 returns-clause-refusal g c r events =
-    let s = g.P.Plant.state c.args.p.now in
-    let f = (volume_seen s c.args.c.now c.args.t.0).fields in
-    let k = (world_seen s c.args.c.now r events).control in
+    let s = g.P.Plant.state c.args.plant.now in
+    let f = (volume_seen s c.args.config.now c.args.t.0).fields in
+    let k = (world_seen s c.args.config.now r events).control in
     let committed : is_committed c.args.n f ≡ false = ap (is_committed c.args.n) (sym c.peek_fields-f.ensures.fields) ∙ sym c.if-is_committed.ensures in
     let flashed : is_flashed c.args.n f ≡ false = ap (is_flashed c.args.n) (sym c.peek_fields-f.ensures.fields) ∙ sym c.if-is_flashed.ensures in
     ap (λ (e : Refusal). Some e) (c.relation_state.ensures.refusal r events)

@@ -10,10 +10,10 @@ use Rattle.dr_revert.proofs.checks.flash_refusal.Goals as goal
 
 pub returns-then-not-may_flash-clause-refusal : goal.returns-then-not-may_flash-clause-refusal
 returns-then-not-may_flash-clause-refusal g c r events =
-    let s = g.P.Plant.state c.args.p.now in
-    let f = (volume_seen s c.args.c.now c.args.t.0).fields in
-    let b = (volume_seen s c.args.c.now c.args.b.0).fields in
-    let k = (world_seen s c.args.c.now r events).control in
+    let s = g.P.Plant.state c.args.plant.now in
+    let f = (volume_seen s c.args.config.now c.args.t.0).fields in
+    let b = (volume_seen s c.args.config.now c.args.b.0).fields in
+    let k = (world_seen s c.args.config.now r events).control in
     let flashed : is_flashed c.args.n f ≡ false = ap (is_flashed c.args.n) (sym c.peek_fields-f.ensures.fields) ∙ sym c.if-is_flashed.ensures in
     let may : may_flash c.args.b.0 f ≡ false = ap (may_flash c.args.b.0) (sym c.peek_fields-f.ensures.fields) ∙ sym c.if-not-may_flash.ensures in
     ap (λ (e : Refusal). Some e) (c.relation_state.ensures.refusal r events)

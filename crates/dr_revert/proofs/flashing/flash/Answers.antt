@@ -21,64 +21,64 @@ use Rattle.dr_revert.proofs.flashing.flash.Goals as goal
 
 pub returns-in-Some-clause-fails : goal.returns-in-Some-clause-fails
 returns-in-Some-clause-fails g c r =
-    let s = g.P.Plant.state c.args.p.now in
-    let t = c.args.c.now in
-    check-refuses (world_seen s t r c.args.j.now.events) (send_refusal c.args.m.now.a.0 c.args.m.now.b.0) (refuse_if (flash_refusal c.args.m.now.b.0 c.args.m.now.c.0 c.args.n) ∷ (flash_on c.args.s.0 c.args.m.now.a.0 c.args.m.now.b.0 c.args.m.now.c.0 c.args.n) ∷ []) c.in-Some.why (c.in-Some.ensures.refusal r c.args.j.now.events) (armed_in s)
+    let s = g.P.Plant.state c.args.plant.now in
+    let t = c.args.config.now in
+    check-refuses (world_seen s t r c.args.journal.now.events) (send_refusal c.args.m.now.a.0 c.args.m.now.b.0) (refuse_if (flash_refusal c.args.m.now.b.0 c.args.m.now.c.0 c.args.n) ∷ (flash_on c.args.s.0 c.args.m.now.a.0 c.args.m.now.b.0 c.args.m.now.c.0 c.args.n) ∷ []) c.in-Some.why (c.in-Some.ensures.refusal r c.args.journal.now.events) (armed_in s)
 
 pub returns-in-Some-clause-carried : goal.returns-in-Some-clause-carried
 returns-in-Some-clause-carried g c r = returns-in-Some-clause-fails g c r []
 
 pub returns-in-Some-flash_refusal-clause-fails : goal.returns-in-Some-flash_refusal-clause-fails
 returns-in-Some-flash_refusal-clause-fails g c r =
-    let s = g.P.Plant.state c.args.p.now in
-    let t = c.args.c.now in
-    check-fails (world_seen s t r c.args.j.now.events) (send_refusal c.args.m.now.a.0 c.args.m.now.b.0) (refuse_if (flash_refusal c.args.m.now.b.0 c.args.m.now.c.0 c.args.n) ∷ (flash_on c.args.s.0 c.args.m.now.a.0 c.args.m.now.b.0 c.args.m.now.c.0 c.args.n) ∷ []) (c.in_default.ensures.refusal r c.args.j.now.events) (armed_in s) (world_seen s t r c.args.j.now.events) (Some c.in-Some-flash_refusal.why)
-    (check-refuses (world_seen s t r c.args.j.now.events) (flash_refusal c.args.m.now.b.0 c.args.m.now.c.0 c.args.n) ((flash_on c.args.s.0 c.args.m.now.a.0 c.args.m.now.b.0 c.args.m.now.c.0 c.args.n) ∷ []) c.in-Some-flash_refusal.why (c.in-Some-flash_refusal.ensures.refusal r c.args.j.now.events) (armed_in s))
+    let s = g.P.Plant.state c.args.plant.now in
+    let t = c.args.config.now in
+    check-fails (world_seen s t r c.args.journal.now.events) (send_refusal c.args.m.now.a.0 c.args.m.now.b.0) (refuse_if (flash_refusal c.args.m.now.b.0 c.args.m.now.c.0 c.args.n) ∷ (flash_on c.args.s.0 c.args.m.now.a.0 c.args.m.now.b.0 c.args.m.now.c.0 c.args.n) ∷ []) (c.in_default.ensures.refusal r c.args.journal.now.events) (armed_in s) (world_seen s t r c.args.journal.now.events) (Some c.in-Some-flash_refusal.why)
+    (check-refuses (world_seen s t r c.args.journal.now.events) (flash_refusal c.args.m.now.b.0 c.args.m.now.c.0 c.args.n) ((flash_on c.args.s.0 c.args.m.now.a.0 c.args.m.now.b.0 c.args.m.now.c.0 c.args.n) ∷ []) c.in-Some-flash_refusal.why (c.in-Some-flash_refusal.ensures.refusal r c.args.journal.now.events) (armed_in s))
 
 pub returns-in-Some-flash_refusal-clause-carried : goal.returns-in-Some-flash_refusal-clause-carried
 returns-in-Some-flash_refusal-clause-carried g c r = returns-in-Some-flash_refusal-clause-fails g c r []
 
 pub returns-clause-leads : goal.returns-clause-leads
 returns-clause-leads g c =
-    let s = g.P.Plant.state c.args.p.now in
-    let t = c.args.c.now in
+    let s = g.P.Plant.state c.args.plant.now in
+    let t = c.args.config.now in
     ok-along c.turn_target.result c.turn_target.ensures.advances (λ goes r.
-    check-leads (world_seen s t r c.args.j.now.events) (send_refusal c.args.m.now.a.0 c.args.m.now.b.0) (refuse_if (flash_refusal c.args.m.now.b.0 c.args.m.now.c.0 c.args.n) ∷ (flash_on c.args.s.0 c.args.m.now.a.0 c.args.m.now.b.0 c.args.m.now.c.0 c.args.n) ∷ []) (c.in_default.ensures.refusal r c.args.j.now.events) (world_seen (g.P.Plant.state c.turn_target.new.p) t r c.turn_target.new.j.events)
-    (check-leads (world_seen s t r c.args.j.now.events) (flash_refusal c.args.m.now.b.0 c.args.m.now.c.0 c.args.n) ((flash_on c.args.s.0 c.args.m.now.a.0 c.args.m.now.b.0 c.args.m.now.c.0 c.args.n) ∷ []) (c.in_default-flash_refusal.ensures.refusal r c.args.j.now.events) (world_seen (g.P.Plant.state c.turn_target.new.p) t r c.turn_target.new.j.events)
-    (alone-leads (world_seen s t r c.args.j.now.events) (world_seen (g.P.Plant.state c.turn_target.new.p) t r c.turn_target.new.j.events) (flash_on c.args.s.0 c.args.m.now.a.0 c.args.m.now.b.0 c.args.m.now.c.0 c.args.n) (goes r (flash_on c.args.s.0 c.args.m.now.a.0 c.args.m.now.b.0 c.args.m.now.c.0 c.args.n) (flash-next s t r c.args.j.now.events c.args.m.now c.args.s c.args.n c.flash_fate-fate.result (plain c.peek_fields.result) c.peek_fields.ensures.fields c.flash_fate-fate.ensures)))))
+    check-leads (world_seen s t r c.args.journal.now.events) (send_refusal c.args.m.now.a.0 c.args.m.now.b.0) (refuse_if (flash_refusal c.args.m.now.b.0 c.args.m.now.c.0 c.args.n) ∷ (flash_on c.args.s.0 c.args.m.now.a.0 c.args.m.now.b.0 c.args.m.now.c.0 c.args.n) ∷ []) (c.in_default.ensures.refusal r c.args.journal.now.events) (world_seen (g.P.Plant.state c.turn_target.new.plant) t r c.turn_target.new.journal.events)
+    (check-leads (world_seen s t r c.args.journal.now.events) (flash_refusal c.args.m.now.b.0 c.args.m.now.c.0 c.args.n) ((flash_on c.args.s.0 c.args.m.now.a.0 c.args.m.now.b.0 c.args.m.now.c.0 c.args.n) ∷ []) (c.in_default-flash_refusal.ensures.refusal r c.args.journal.now.events) (world_seen (g.P.Plant.state c.turn_target.new.plant) t r c.turn_target.new.journal.events)
+    (alone-leads (world_seen s t r c.args.journal.now.events) (world_seen (g.P.Plant.state c.turn_target.new.plant) t r c.turn_target.new.journal.events) (flash_on c.args.s.0 c.args.m.now.a.0 c.args.m.now.b.0 c.args.m.now.c.0 c.args.n) (goes r (flash_on c.args.s.0 c.args.m.now.a.0 c.args.m.now.b.0 c.args.m.now.c.0 c.args.n) (flash-next s t r c.args.journal.now.events c.args.m.now c.args.s c.args.n c.flash_fate-fate.result (plain c.peek_fields.result) c.peek_fields.ensures.fields c.flash_fate-fate.ensures)))))
 
 pub returns-clause-fails : goal.returns-clause-fails
 returns-clause-fails g c =
-    let s = g.P.Plant.state c.args.p.now in
-    let t = c.args.c.now in
+    let s = g.P.Plant.state c.args.plant.now in
+    let t = c.args.config.now in
     err-along c.turn_target.result c.turn_target.ensures.halts c.turn_target.ensures.halts (λ ends _ r.
-    check-fails (world_seen s t r c.args.j.now.events) (send_refusal c.args.m.now.a.0 c.args.m.now.b.0) (refuse_if (flash_refusal c.args.m.now.b.0 c.args.m.now.c.0 c.args.n) ∷ (flash_on c.args.s.0 c.args.m.now.a.0 c.args.m.now.b.0 c.args.m.now.c.0 c.args.n) ∷ []) (c.in_default.ensures.refusal r c.args.j.now.events) (armed_in s) (world_seen (g.P.Plant.state c.turn_target.new.p) t r c.turn_target.new.j.events) (refusal_of c.turn_target.result)
-    (check-fails (world_seen s t r c.args.j.now.events) (flash_refusal c.args.m.now.b.0 c.args.m.now.c.0 c.args.n) ((flash_on c.args.s.0 c.args.m.now.a.0 c.args.m.now.b.0 c.args.m.now.c.0 c.args.n) ∷ []) (c.in_default-flash_refusal.ensures.refusal r c.args.j.now.events) (armed_in s) (world_seen (g.P.Plant.state c.turn_target.new.p) t r c.turn_target.new.j.events) (refusal_of c.turn_target.result)
-    (alone-fails (armed_in s) (world_seen s t r c.args.j.now.events) (world_seen (g.P.Plant.state c.turn_target.new.p) t r c.turn_target.new.j.events) (refusal_of c.turn_target.result) (flash_on c.args.s.0 c.args.m.now.a.0 c.args.m.now.b.0 c.args.m.now.c.0 c.args.n) (ends r (flash_on c.args.s.0 c.args.m.now.a.0 c.args.m.now.b.0 c.args.m.now.c.0 c.args.n) (flash-next s t r c.args.j.now.events c.args.m.now c.args.s c.args.n c.flash_fate-fate.result (plain c.peek_fields.result) c.peek_fields.ensures.fields c.flash_fate-fate.ensures)))))
+    check-fails (world_seen s t r c.args.journal.now.events) (send_refusal c.args.m.now.a.0 c.args.m.now.b.0) (refuse_if (flash_refusal c.args.m.now.b.0 c.args.m.now.c.0 c.args.n) ∷ (flash_on c.args.s.0 c.args.m.now.a.0 c.args.m.now.b.0 c.args.m.now.c.0 c.args.n) ∷ []) (c.in_default.ensures.refusal r c.args.journal.now.events) (armed_in s) (world_seen (g.P.Plant.state c.turn_target.new.plant) t r c.turn_target.new.journal.events) (refusal_of c.turn_target.result)
+    (check-fails (world_seen s t r c.args.journal.now.events) (flash_refusal c.args.m.now.b.0 c.args.m.now.c.0 c.args.n) ((flash_on c.args.s.0 c.args.m.now.a.0 c.args.m.now.b.0 c.args.m.now.c.0 c.args.n) ∷ []) (c.in_default-flash_refusal.ensures.refusal r c.args.journal.now.events) (armed_in s) (world_seen (g.P.Plant.state c.turn_target.new.plant) t r c.turn_target.new.journal.events) (refusal_of c.turn_target.result)
+    (alone-fails (armed_in s) (world_seen s t r c.args.journal.now.events) (world_seen (g.P.Plant.state c.turn_target.new.plant) t r c.turn_target.new.journal.events) (refusal_of c.turn_target.result) (flash_on c.args.s.0 c.args.m.now.a.0 c.args.m.now.b.0 c.args.m.now.c.0 c.args.n) (ends r (flash_on c.args.s.0 c.args.m.now.a.0 c.args.m.now.b.0 c.args.m.now.c.0 c.args.n) (flash-next s t r c.args.journal.now.events c.args.m.now c.args.s c.args.n c.flash_fate-fate.result (plain c.peek_fields.result) c.peek_fields.ensures.fields c.flash_fate-fate.ensures)))))
 
 pub returns-clause-carried : goal.returns-clause-carried
 returns-clause-carried g c =
-    let s = g.P.Plant.state c.args.p.now in
-    let t = c.args.c.now in
-    ends-by c.turn_target.result (armed_in s) (λ r. (world_seen s t r c.args.j.now.events)) (λ r. (world_seen (g.P.Plant.state c.turn_target.new.p) t r c.turn_target.new.j.events)) (flash_entries c.args.s.0 c.args.m.now c.args.n) (returns-clause-leads g c) (returns-clause-fails g c)
+    let s = g.P.Plant.state c.args.plant.now in
+    let t = c.args.config.now in
+    ends-by c.turn_target.result (armed_in s) (λ r. (world_seen s t r c.args.journal.now.events)) (λ r. (world_seen (g.P.Plant.state c.turn_target.new.plant) t r c.turn_target.new.journal.events)) (flash_entries c.args.s.0 c.args.m.now c.args.n) (returns-clause-leads g c) (returns-clause-fails g c)
 
 pub returns-clause-unchanged : goal.returns-clause-unchanged
 returns-clause-unchanged g c calm =
-    let s = g.P.Plant.state c.args.p.now in
-    let t = c.args.c.now in
+    let s = g.P.Plant.state c.args.plant.now in
+    let t = c.args.config.now in
     only-stops _ c.turn_target.result (volume_seen s t c.args.m.now.c.0).server c.turn_target.ensures.refused calm
 
 pub returns-clause-faults : goal.returns-clause-faults
 returns-clause-faults g c =
-    let s = g.P.Plant.state c.args.p.now in
-    let t = c.args.c.now in
+    let s = g.P.Plant.state c.args.plant.now in
+    let t = c.args.config.now in
     counted-stop c.turn_target.result _ _ (volume_seen s t c.args.m.now.c.0).server c.turn_target.ensures.faults c.turn_target.ensures.refused
 
 pub returns-clause-moved : goal.returns-clause-moved
 returns-clause-moved g c =
-    let s = g.P.Plant.state c.args.p.now in
-    let u = g.P.Plant.state c.turn_target.new.p in
-    let t = c.args.c.now in
+    let s = g.P.Plant.state c.args.plant.now in
+    let u = g.P.Plant.state c.turn_target.new.plant in
+    let t = c.args.config.now in
     let v = c.args.m.now.c.0 in
     let f = (volume_seen s t v).fields in
     ok-along c.turn_target.result c.turn_target.ensures.moved (λ moved off.
@@ -87,9 +87,9 @@ returns-clause-moved g c =
 
 pub returns-clause-shows_source : goal.returns-clause-shows_source
 returns-clause-shows_source g c =
-    let s = g.P.Plant.state c.args.p.now in
-    let u = g.P.Plant.state c.turn_target.new.p in
-    let t = c.args.c.now in
+    let s = g.P.Plant.state c.args.plant.now in
+    let u = g.P.Plant.state c.turn_target.new.plant in
+    let t = c.args.config.now in
     let v = c.args.m.now.c.0 in
     let f = (volume_seen s t v).fields in
     ok-along c.turn_target.result c.turn_target.ensures.moved (λ moved off holds k.
@@ -101,9 +101,9 @@ returns-clause-shows_source g c =
 
 pub returns-clause-keeps_aside : goal.returns-clause-keeps_aside
 returns-clause-keeps_aside g c =
-    let s = g.P.Plant.state c.args.p.now in
-    let u = g.P.Plant.state c.turn_target.new.p in
-    let t = c.args.c.now in
+    let s = g.P.Plant.state c.args.plant.now in
+    let u = g.P.Plant.state c.turn_target.new.plant in
+    let t = c.args.config.now in
     let v = c.args.m.now.c.0 in
     let f = (volume_seen s t v).fields in
     ok-along c.turn_target.result c.turn_target.ensures.moved (λ moved off k.

@@ -21,52 +21,52 @@ use Rattle.dr_revert.proofs.reverting.revert.Goals as goal
 
 pub returns-in-Some-clause-fails : goal.returns-in-Some-clause-fails
 returns-in-Some-clause-fails g c r =
-    let s = g.P.Plant.state c.args.p.now in
-    let t = c.args.c.now in
-    check-refuses (world_seen s t r c.args.j.now.events) (send_refusal c.args.m.now.a.0 c.args.m.now.b.0) ((revert_on c.args.s.0 c.args.m.now.a.0 c.args.m.now.c.0 c.args.n) ∷ []) c.in-Some.why (c.in-Some.ensures.refusal r c.args.j.now.events) (armed_in s)
+    let s = g.P.Plant.state c.args.plant.now in
+    let t = c.args.config.now in
+    check-refuses (world_seen s t r c.args.journal.now.events) (send_refusal c.args.m.now.a.0 c.args.m.now.b.0) ((revert_on c.args.s.0 c.args.m.now.a.0 c.args.m.now.c.0 c.args.n) ∷ []) c.in-Some.why (c.in-Some.ensures.refusal r c.args.journal.now.events) (armed_in s)
 
 pub returns-in-Some-clause-carried : goal.returns-in-Some-clause-carried
 returns-in-Some-clause-carried g c r = returns-in-Some-clause-fails g c r []
 
 pub returns-clause-leads : goal.returns-clause-leads
 returns-clause-leads g c =
-    let s = g.P.Plant.state c.args.p.now in
-    let t = c.args.c.now in
+    let s = g.P.Plant.state c.args.plant.now in
+    let t = c.args.config.now in
     ok-along c.turn_target.result c.turn_target.ensures.advances (λ goes r.
-    check-leads (world_seen s t r c.args.j.now.events) (send_refusal c.args.m.now.a.0 c.args.m.now.b.0) ((revert_on c.args.s.0 c.args.m.now.a.0 c.args.m.now.c.0 c.args.n) ∷ []) (c.in_default.ensures.refusal r c.args.j.now.events) (world_seen (g.P.Plant.state c.turn_target.new.p) t r c.turn_target.new.j.events)
-    (alone-leads (world_seen s t r c.args.j.now.events) (world_seen (g.P.Plant.state c.turn_target.new.p) t r c.turn_target.new.j.events) (revert_on c.args.s.0 c.args.m.now.a.0 c.args.m.now.c.0 c.args.n) (goes r (revert_on c.args.s.0 c.args.m.now.a.0 c.args.m.now.c.0 c.args.n) (revert-next s t r c.args.j.now.events c.args.m.now c.args.s c.args.n c.revert_fate-fate.result (plain c.peek_fields.result) c.peek_fields.ensures.fields c.revert_fate-fate.ensures))))
+    check-leads (world_seen s t r c.args.journal.now.events) (send_refusal c.args.m.now.a.0 c.args.m.now.b.0) ((revert_on c.args.s.0 c.args.m.now.a.0 c.args.m.now.c.0 c.args.n) ∷ []) (c.in_default.ensures.refusal r c.args.journal.now.events) (world_seen (g.P.Plant.state c.turn_target.new.plant) t r c.turn_target.new.journal.events)
+    (alone-leads (world_seen s t r c.args.journal.now.events) (world_seen (g.P.Plant.state c.turn_target.new.plant) t r c.turn_target.new.journal.events) (revert_on c.args.s.0 c.args.m.now.a.0 c.args.m.now.c.0 c.args.n) (goes r (revert_on c.args.s.0 c.args.m.now.a.0 c.args.m.now.c.0 c.args.n) (revert-next s t r c.args.journal.now.events c.args.m.now c.args.s c.args.n c.revert_fate-fate.result (plain c.peek_fields.result) c.peek_fields.ensures.fields c.revert_fate-fate.ensures))))
 
 pub returns-clause-fails : goal.returns-clause-fails
 returns-clause-fails g c =
-    let s = g.P.Plant.state c.args.p.now in
-    let t = c.args.c.now in
+    let s = g.P.Plant.state c.args.plant.now in
+    let t = c.args.config.now in
     err-along c.turn_target.result c.turn_target.ensures.halts c.turn_target.ensures.halts (λ ends _ r.
-    check-fails (world_seen s t r c.args.j.now.events) (send_refusal c.args.m.now.a.0 c.args.m.now.b.0) ((revert_on c.args.s.0 c.args.m.now.a.0 c.args.m.now.c.0 c.args.n) ∷ []) (c.in_default.ensures.refusal r c.args.j.now.events) (armed_in s) (world_seen (g.P.Plant.state c.turn_target.new.p) t r c.turn_target.new.j.events) (refusal_of c.turn_target.result)
-    (alone-fails (armed_in s) (world_seen s t r c.args.j.now.events) (world_seen (g.P.Plant.state c.turn_target.new.p) t r c.turn_target.new.j.events) (refusal_of c.turn_target.result) (revert_on c.args.s.0 c.args.m.now.a.0 c.args.m.now.c.0 c.args.n) (ends r (revert_on c.args.s.0 c.args.m.now.a.0 c.args.m.now.c.0 c.args.n) (revert-next s t r c.args.j.now.events c.args.m.now c.args.s c.args.n c.revert_fate-fate.result (plain c.peek_fields.result) c.peek_fields.ensures.fields c.revert_fate-fate.ensures))))
+    check-fails (world_seen s t r c.args.journal.now.events) (send_refusal c.args.m.now.a.0 c.args.m.now.b.0) ((revert_on c.args.s.0 c.args.m.now.a.0 c.args.m.now.c.0 c.args.n) ∷ []) (c.in_default.ensures.refusal r c.args.journal.now.events) (armed_in s) (world_seen (g.P.Plant.state c.turn_target.new.plant) t r c.turn_target.new.journal.events) (refusal_of c.turn_target.result)
+    (alone-fails (armed_in s) (world_seen s t r c.args.journal.now.events) (world_seen (g.P.Plant.state c.turn_target.new.plant) t r c.turn_target.new.journal.events) (refusal_of c.turn_target.result) (revert_on c.args.s.0 c.args.m.now.a.0 c.args.m.now.c.0 c.args.n) (ends r (revert_on c.args.s.0 c.args.m.now.a.0 c.args.m.now.c.0 c.args.n) (revert-next s t r c.args.journal.now.events c.args.m.now c.args.s c.args.n c.revert_fate-fate.result (plain c.peek_fields.result) c.peek_fields.ensures.fields c.revert_fate-fate.ensures))))
 
 pub returns-clause-carried : goal.returns-clause-carried
 returns-clause-carried g c =
-    let s = g.P.Plant.state c.args.p.now in
-    let t = c.args.c.now in
-    ends-by c.turn_target.result (armed_in s) (λ r. (world_seen s t r c.args.j.now.events)) (λ r. (world_seen (g.P.Plant.state c.turn_target.new.p) t r c.turn_target.new.j.events)) (revert_entries c.args.s.0 c.args.m.now c.args.n) (returns-clause-leads g c) (returns-clause-fails g c)
+    let s = g.P.Plant.state c.args.plant.now in
+    let t = c.args.config.now in
+    ends-by c.turn_target.result (armed_in s) (λ r. (world_seen s t r c.args.journal.now.events)) (λ r. (world_seen (g.P.Plant.state c.turn_target.new.plant) t r c.turn_target.new.journal.events)) (revert_entries c.args.s.0 c.args.m.now c.args.n) (returns-clause-leads g c) (returns-clause-fails g c)
 
 pub returns-clause-unchanged : goal.returns-clause-unchanged
 returns-clause-unchanged g c calm =
-    let s = g.P.Plant.state c.args.p.now in
-    let t = c.args.c.now in
+    let s = g.P.Plant.state c.args.plant.now in
+    let t = c.args.config.now in
     only-stops _ c.turn_target.result (volume_seen s t c.args.m.now.c.0).server c.turn_target.ensures.refused calm
 
 pub returns-clause-faults : goal.returns-clause-faults
 returns-clause-faults g c =
-    let s = g.P.Plant.state c.args.p.now in
-    let t = c.args.c.now in
+    let s = g.P.Plant.state c.args.plant.now in
+    let t = c.args.config.now in
     counted-stop c.turn_target.result _ _ (volume_seen s t c.args.m.now.c.0).server c.turn_target.ensures.faults c.turn_target.ensures.refused
 
 pub returns-clause-moved : goal.returns-clause-moved
 returns-clause-moved g c =
-    let s = g.P.Plant.state c.args.p.now in
-    let u = g.P.Plant.state c.turn_target.new.p in
-    let t = c.args.c.now in
+    let s = g.P.Plant.state c.args.plant.now in
+    let u = g.P.Plant.state c.turn_target.new.plant in
+    let t = c.args.config.now in
     let v = c.args.m.now.c.0 in
     let f = (volume_seen s t v).fields in
     ok-along c.turn_target.result c.turn_target.ensures.moved (λ moved is.
@@ -75,9 +75,9 @@ returns-clause-moved g c =
 
 pub returns-clause-shows_aside : goal.returns-clause-shows_aside
 returns-clause-shows_aside g c =
-    let s = g.P.Plant.state c.args.p.now in
-    let u = g.P.Plant.state c.turn_target.new.p in
-    let t = c.args.c.now in
+    let s = g.P.Plant.state c.args.plant.now in
+    let u = g.P.Plant.state c.turn_target.new.plant in
+    let t = c.args.config.now in
     let v = c.args.m.now.c.0 in
     let f = (volume_seen s t v).fields in
     ok-along c.turn_target.result c.turn_target.ensures.moved (λ moved is.
@@ -89,8 +89,8 @@ returns-clause-shows_aside g c =
 
 pub turn_target-requires-clause-may : goal.turn_target-requires-clause-may
 turn_target-requires-clause-may g c =
-    let s = g.P.Plant.state c.args.p.now in
-    let t = c.args.c.now in
+    let s = g.P.Plant.state c.args.plant.now in
+    let t = c.args.config.now in
     let f = (volume_seen s t c.args.m.now.c.0).fields in
     subst (λ o. IfSome o (λ (y : Fate). may_become y f ≡ true)) (sym (c.revert_fate-fate.ensures ∙ ap (λ (f : Fields). if is_flashed c.args.n f then Some (fate.Revert c.args.m.now.a c.args.s c.args.n) else if nat_lt f.floor c.args.n then Some (fate.Raise c.args.n) else None) c.peek_fields.ensures.fields))
     (some-either (λ (y : Fate). may_become y f ≡ true) (is_flashed c.args.n f) (nat_lt f.floor c.args.n) (fate.Revert c.args.m.now.a c.args.s c.args.n) (fate.Raise c.args.n) (λ is. (and_parts f.revertible _ is).0) (λ low. refl))

@@ -26,20 +26,20 @@ copy_step-requires-clause-running g c = (λ i. c.loop.invariant.on i (same-serve
 
 pub returns-in_err-copy_step-clause-carried : goal.returns-in_err-copy_step-clause-carried
 returns-in_err-copy_step-clause-carried g c =
-    let s = g.P.Plant.state c.args.plant.now in let x = g.P.Plant.state c.loop.plant in let y = g.P.Plant.state c.copy_step.new.p in
+    let s = g.P.Plant.state c.args.plant.now in let x = g.P.Plant.state c.loop.plant in let y = g.P.Plant.state c.copy_step.new.plant in
     let t = c.args.config.now in let h = c.args.tables.now in let e = c.in_err-copy_step.field-0.0 in
-    let w = here s t h c.args.journal.now.events in let v = here x t h c.loop.journal.events in let u = here y t h c.copy_step.new.j.events in
+    let w = here s t h c.args.journal.now.events in let v = here x t h c.loop.journal.events in let u = here y t h c.copy_step.new.journal.events in
     let ds = fetch_next c.args.t.0 ∷ [] in
     carried-failed w v c.loop.counter ds c.loop.invariant.so_far c.args.count u e (let lt = c.loop-test.true in omega (arith, lt)) (exact x u (Some e) v ds (pass-later s x c.requires.ready.reads c.loop.invariant.unarmed) (c.in_err-copy_step.ensures.carried (rest_of h c.loop.journal.events)))
     ∙ (λ i. (u, sym (refused-by c.from_residual.result e c.from_residual.ensures.0 c.from_residual.ensures.1) i))
 
 pub returns-in_err-copy_step-clause-ready : goal.returns-in_err-copy_step-clause-ready
 returns-in_err-copy_step-clause-ready g c =
-    let s = g.P.Plant.state c.args.plant.now in let x = g.P.Plant.state c.loop.plant in let y = g.P.Plant.state c.copy_step.new.p in
+    let s = g.P.Plant.state c.args.plant.now in let x = g.P.Plant.state c.loop.plant in let y = g.P.Plant.state c.copy_step.new.plant in
     let t = c.args.config.now in let h = c.args.tables.now in let e = c.in_err-copy_step.field-0.0 in
-    let w = here s t h c.args.journal.now.events in let v = here x t h c.loop.journal.events in let u = here y t h c.copy_step.new.j.events in
+    let w = here s t h c.args.journal.now.events in let v = here x t h c.loop.journal.events in let u = here y t h c.copy_step.new.journal.events in
     let ds = fetch_next c.args.t.0 ∷ [] in
-    ready-after t s y h c.copy_step.new.j.events c.requires.ready.reads c.in_err-copy_step.ensures.rest (λ q none. c.in_err-copy_step.ensures.unarmed q (c.loop.invariant.unarmed q none))
+    ready-after t s y h c.copy_step.new.journal.events c.requires.ready.reads c.in_err-copy_step.ensures.rest (λ q none. c.in_err-copy_step.ensures.unarmed q (c.loop.invariant.unarmed q none))
     (told-through h v u ds (Some e) (exact x u (Some e) v ds (pass-later s x c.requires.ready.reads c.loop.invariant.unarmed) (c.in_err-copy_step.ensures.carried (rest_of h c.loop.journal.events)))
     (told-through h w v (times c.loop.counter ds) None c.loop.invariant.so_far c.requires.ready.told))
 
@@ -50,9 +50,9 @@ returns-in_err-copy_step-clause-refused g c =
 
 pub loop-preserved : goal.loop-preserved
 loop-preserved g c =
-    let s = g.P.Plant.state c.args.plant.now in let x = g.P.Plant.state c.loop.plant in let y = g.P.Plant.state c.copy_step.new.p in
+    let s = g.P.Plant.state c.args.plant.now in let x = g.P.Plant.state c.loop.plant in let y = g.P.Plant.state c.copy_step.new.plant in
     let t = c.args.config.now in let h = c.args.tables.now in
-    let w = here s t h c.args.journal.now.events in let v = here x t h c.loop.journal.events in let u = here y t h c.copy_step.new.j.events in
+    let w = here s t h c.args.journal.now.events in let v = here x t h c.loop.journal.events in let u = here y t h c.copy_step.new.journal.events in
     let ds = fetch_next c.args.t.0 ∷ [] in
     record {
       so_far = carried-next w v c.loop.counter ds c.loop.invariant.so_far u (exact x u None v ds (pass-later s x c.requires.ready.reads c.loop.invariant.unarmed) (c.in_ok-copy_step.ensures.carried (rest_of h c.loop.journal.events)));

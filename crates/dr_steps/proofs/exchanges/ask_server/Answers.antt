@@ -35,14 +35,14 @@ exchange-requires-clause-room g c =
 pub returns-in-Ok-clause-step : goal.returns-in-Ok-clause-step
 returns-in-Ok-clause-step g c =
     let s = g.P.Plant.state c.args.plant.now in let t = c.args.config.now in let h = c.args.tables.now in let ev = c.args.journal.now.events in let n = c.args.s.0 in
-    let u = g.P.Plant.state c.exchange.new.p in let h' = record h { sessions = c.exchange.new.ss } in let mid = c.exchange.new.j.events in
+    let u = g.P.Plant.state c.exchange.new.plant in let h' = record h { sessions = c.exchange.new.ss } in let mid = c.exchange.new.journal.events in
     subst (Carries (here s t h ev) (asking (here s t h ev).control n c.args.server.0 c.args.reply) (here u t h' mid)) (sym c.phase_of.ensures)
     (plan-exact s c.requires.ready.reads (here s t h ev) (here u t h' mid) _ (says_phase n (here u t h' mid).control) (c.in-Ok.ensures.carried (rest_of h ev)))
 
 pub returns-in-Ok-clause-ready : goal.returns-in-Ok-clause-ready
 returns-in-Ok-clause-ready g c =
     let s = g.P.Plant.state c.args.plant.now in let t = c.args.config.now in let h = c.args.tables.now in let ev = c.args.journal.now.events in let n = c.args.s.0 in
-    let u = g.P.Plant.state c.exchange.new.p in let h' = record h { sessions = c.exchange.new.ss } in let mid = c.exchange.new.j.events in
+    let u = g.P.Plant.state c.exchange.new.plant in let h' = record h { sessions = c.exchange.new.ss } in let mid = c.exchange.new.journal.events in
     exchange-ready s u t h h' ev mid n c.args.server.0 c.args.reply (mirror_in (session_in h.sessions.sessions n)) (members_in (session_in h.sessions.sessions n)) (says_phase n (here u t h' mid).control) (c.in-Ok.ensures.carried (rest_of h ev)) c.in-Ok.ensures.rest c.in-Ok.ensures.unarmed c.requires.ready
 
 pub returns-in-Ok-clause-room : goal.returns-in-Ok-clause-room
@@ -53,13 +53,13 @@ returns-in-Ok-clause-room g c =
 pub returns-in-Err-clause-step : goal.returns-in-Err-clause-step
 returns-in-Err-clause-step g c =
     let s = g.P.Plant.state c.args.plant.now in let t = c.args.config.now in let h = c.args.tables.now in let ev = c.args.journal.now.events in let n = c.args.s.0 in
-    let u = g.P.Plant.state c.exchange.new.p in let h' = record h { sessions = c.exchange.new.ss } in let mid = c.exchange.new.j.events in
+    let u = g.P.Plant.state c.exchange.new.plant in let h' = record h { sessions = c.exchange.new.ss } in let mid = c.exchange.new.journal.events in
     plan-exact s c.requires.ready.reads (here s t h ev) (here u t h' mid) _ (Refused c.in-Err.refusal) (c.in-Err.ensures.carried (rest_of h ev))
 
 pub returns-in-Err-clause-ready : goal.returns-in-Err-clause-ready
 returns-in-Err-clause-ready g c =
     let s = g.P.Plant.state c.args.plant.now in let t = c.args.config.now in let h = c.args.tables.now in let ev = c.args.journal.now.events in let n = c.args.s.0 in
-    let u = g.P.Plant.state c.exchange.new.p in let h' = record h { sessions = c.exchange.new.ss } in let mid = c.exchange.new.j.events in
+    let u = g.P.Plant.state c.exchange.new.plant in let h' = record h { sessions = c.exchange.new.ss } in let mid = c.exchange.new.journal.events in
     exchange-ready s u t h h' ev mid n c.args.server.0 c.args.reply (mirror_in (session_in h.sessions.sessions n)) (members_in (session_in h.sessions.sessions n)) (Refused c.in-Err.refusal) (c.in-Err.ensures.carried (rest_of h ev)) c.in-Err.ensures.rest c.in-Err.ensures.unarmed c.requires.ready
 
 pub returns-in-Err-clause-room : goal.returns-in-Err-clause-room

@@ -19,23 +19,23 @@ resync-requires-clause-fit g c = relations-fit (g.P.Plant.state c.args.plant.now
 pub returns-in-Ok-clause-step : goal.returns-in-Ok-clause-step
 returns-in-Ok-clause-step g c =
     let s = g.P.Plant.state c.args.plant.now in let t = c.args.config.now in let h = c.args.tables.now in let ev = c.args.journal.now.events in
-    step-done t s (g.P.Plant.state c.resync.new.p) h ev c.resync.new.j.events (found_pair c.args.dev.now c.args.s.0 c.args.t.0) (resync_entries (here s t h ev).control c.args.s.0 c.args.t.0 c.args.sequence) (Done Alone) c.requires.ready.reads
+    step-done t s (g.P.Plant.state c.resync.new.plant) h ev c.resync.new.journal.events (found_pair c.args.dev.now c.args.s.0 c.args.t.0) (resync_entries (here s t h ev).control c.args.s.0 c.args.t.0 c.args.sequence) (Done Alone) c.requires.ready.reads
     (c.in_default.ensures.checked s h ev) (c.in-Ok.ensures.carried (rest_of h ev))
 
 pub returns-in-Ok-clause-ready : goal.returns-in-Ok-clause-ready
 returns-in-Ok-clause-ready g c =
     let s = g.P.Plant.state c.args.plant.now in let t = c.args.config.now in let h = c.args.tables.now in let ev = c.args.journal.now.events in
-    step-ready t s (g.P.Plant.state c.resync.new.p) h ev c.resync.new.j.events (found_pair c.args.dev.now c.args.s.0 c.args.t.0) (resync_entries (here s t h ev).control c.args.s.0 c.args.t.0 c.args.sequence) (Done Alone) c.requires.ready.reads
+    step-ready t s (g.P.Plant.state c.resync.new.plant) h ev c.resync.new.journal.events (found_pair c.args.dev.now c.args.s.0 c.args.t.0) (resync_entries (here s t h ev).control c.args.s.0 c.args.t.0 c.args.sequence) (Done Alone) c.requires.ready.reads
     None (c.in_default.ensures.checked s h ev) (c.in-Ok.ensures.carried (rest_of h ev)) c.in-Ok.ensures.rest c.in-Ok.ensures.unarmed c.requires.ready.told
 
 pub returns-in-Err-clause-step : goal.returns-in-Err-clause-step
 returns-in-Err-clause-step g c =
     let s = g.P.Plant.state c.args.plant.now in let t = c.args.config.now in let h = c.args.tables.now in let ev = c.args.journal.now.events in
-    step-refused t s (g.P.Plant.state c.resync.new.p) h ev c.resync.new.j.events (found_pair c.args.dev.now c.args.s.0 c.args.t.0) (resync_entries (here s t h ev).control c.args.s.0 c.args.t.0 c.args.sequence) (Done Alone) c.requires.ready.reads
+    step-refused t s (g.P.Plant.state c.resync.new.plant) h ev c.resync.new.journal.events (found_pair c.args.dev.now c.args.s.0 c.args.t.0) (resync_entries (here s t h ev).control c.args.s.0 c.args.t.0 c.args.sequence) (Done Alone) c.requires.ready.reads
     c.in-Err.refusal (c.in_default.ensures.checked s h ev) (c.in-Err.ensures.carried (rest_of h ev))
 
 pub returns-in-Err-clause-ready : goal.returns-in-Err-clause-ready
 returns-in-Err-clause-ready g c =
     let s = g.P.Plant.state c.args.plant.now in let t = c.args.config.now in let h = c.args.tables.now in let ev = c.args.journal.now.events in
-    step-ready t s (g.P.Plant.state c.resync.new.p) h ev c.resync.new.j.events (found_pair c.args.dev.now c.args.s.0 c.args.t.0) (resync_entries (here s t h ev).control c.args.s.0 c.args.t.0 c.args.sequence) (Done Alone) c.requires.ready.reads
+    step-ready t s (g.P.Plant.state c.resync.new.plant) h ev c.resync.new.journal.events (found_pair c.args.dev.now c.args.s.0 c.args.t.0) (resync_entries (here s t h ev).control c.args.s.0 c.args.t.0 c.args.sequence) (Done Alone) c.requires.ready.reads
     (Some c.in-Err.refusal) (c.in_default.ensures.checked s h ev) (c.in-Err.ensures.carried (rest_of h ev)) c.in-Err.ensures.rest c.in-Err.ensures.unarmed c.requires.ready.told

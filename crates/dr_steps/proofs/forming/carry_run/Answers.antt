@@ -39,13 +39,13 @@ returns-clause-task g c =
     let w = here s t h ev in let v = here u t h' mid in let r = refusal_of c.form_groups-formed.result in
     let way = subst (λ es. Reaches (form_in (here s t h es) n c.args.groups (session_in h.sessions.sessions n)) v r) c.reserve.ensures.events c.form_groups-formed.ensures.way in
     let led = formed-task w v c.args.number n c.args.groups r (formed-room w v n c.args.groups r (sym c.if-not-has_room.ensures) way) in
-    led ∙ (λ i. here u t h' (mid ++ answer c.args.number (sym c.answer_of.ensures i) ∷ [])) ∙ ap (here u t h') (sym c.say.ensures.events)
+    led ∙ (λ i. here u t h' (mid ++ answer c.args.number (sym c.formed_answer.ensures i) ∷ [])) ∙ ap (here u t h') (sym c.say.ensures.events)
 
 pub returns-clause-ready : goal.returns-clause-ready
 returns-clause-ready g c = record {
   rest = c.form_groups-formed.ensures.ready.rest;
   reads = c.form_groups-formed.ensures.ready.reads;
-  told = told-answer c.form_groups-formed.new.tables c.form_groups-formed.new.journal.events c.say.new.journal.events c.args.number c.answer_of.result c.say.ensures.events c.form_groups-formed.ensures.ready.told;
+  told = told-answer c.form_groups-formed.new.tables c.form_groups-formed.new.journal.events c.say.new.journal.events c.args.number c.formed_answer.result c.say.ensures.events c.form_groups-formed.ensures.ready.told;
 }
 
 pub returns-clause-faults : goal.returns-clause-faults
@@ -55,6 +55,6 @@ returns-clause-faults g c f before =
     let w = here s t h ev in let v = here u t h' mid in let r = refusal_of c.form_groups-formed.result in
     let way = subst (λ es. Reaches (form_in (here s t h es) n c.args.groups (session_in h.sessions.sessions n)) v r) c.reserve.ensures.events c.form_groups-formed.ensures.way in
     let led = formed-task w v c.args.number n c.args.groups r (formed-room w v n c.args.groups r (sym c.if-not-has_room.ensures) way) in
-    let counts = subst (λ b. Counted b s.faults u.faults) (sym (ap is_stopped c.answer_of.ensures ∙ stop-formed n h'.sessions.sessions r)) c.form_groups-formed.ensures.faults in
-    faults-step w c.args.number (Run n c.args.groups) v c.answer_of.result c.say.new.journal.events f s.faults u.faults
-    (ap (λ (x : World). x.events) led ∙ (λ i. mid ++ answer c.args.number (sym c.answer_of.ensures i) ∷ [])) c.say.ensures.events counts before
+    let counts = subst (λ b. Counted b s.faults u.faults) (sym (ap is_stopped c.formed_answer.ensures ∙ stop-formed n h'.sessions.sessions r)) c.form_groups-formed.ensures.faults in
+    faults-step w c.args.number (Run n c.args.groups) v c.formed_answer.result c.say.new.journal.events f s.faults u.faults
+    (ap (λ (x : World). x.events) led ∙ (λ i. mid ++ answer c.args.number (sym c.formed_answer.ensures i) ∷ [])) c.say.ensures.events counts before

@@ -49,17 +49,17 @@ freeze-requires-clause-room g c = let few = c.in-Some.ensures.sound.few_volumes 
 pub returns-in-Ok-clause-step : goal.returns-in-Ok-clause-step
 returns-in-Ok-clause-step g c line =
     let s = g.P.Plant.state c.args.plant.now in let t = c.args.config.now in let h = c.args.tables.now in let ev = c.args.journal.now.events in
-    freeze-done s t h ev line c.in-Some.ensures.sound c.args.devs.now c.args.src.0 c.args.tgt.0 c.in-Some.first.0 c.in-Some-lss_owner.second.0 (sym c.in-Some.ensures.value) (sym c.in-Some-lss_owner.ensures.value) c.in-Some.ensures.defined.below (g.P.Plant.state c.freeze.new.p) c.freeze.new.c c.freeze.new.j.events c.requires.ready.reads (sym (c.are_named.ensures s h ev) ∙ c.if-not-are_named.false) (sym c.is_on.ensures ∙ c.if-not-is_on.false) (ap is_some (sym c.in-Some-path.ensures)) (c.in-Ok.ensures.carried (rest_of h ev))
+    freeze-done s t h ev line c.in-Some.ensures.sound c.args.devs.now c.args.src.0 c.args.tgt.0 c.in-Some.first.0 c.in-Some-lss_owner.second.0 (sym c.in-Some.ensures.value) (sym c.in-Some-lss_owner.ensures.value) c.in-Some.ensures.defined.below (g.P.Plant.state c.freeze.new.plant) c.freeze.new.config c.freeze.new.journal.events c.requires.ready.reads (sym (c.are_named.ensures s h ev) ∙ c.if-not-are_named.false) (sym c.is_on.ensures ∙ c.if-not-is_on.false) (ap is_some (sym c.in-Some-path.ensures)) (c.in-Ok.ensures.carried (rest_of h ev))
 
 pub returns-in-Err-clause-step : goal.returns-in-Err-clause-step
 returns-in-Err-clause-step g c line =
     let s = g.P.Plant.state c.args.plant.now in let t = c.args.config.now in let h = c.args.tables.now in let ev = c.args.journal.now.events in
-    freeze-failed s t h ev line c.in-Some.ensures.sound c.args.devs.now c.args.src.0 c.args.tgt.0 c.in-Some.first.0 c.in-Some-lss_owner.second.0 (sym c.in-Some.ensures.value) (sym c.in-Some-lss_owner.ensures.value) c.in-Some.ensures.defined.below (g.P.Plant.state c.freeze.new.p) c.freeze.new.c c.freeze.new.j.events c.requires.ready.reads (sym (c.are_named.ensures s h ev) ∙ c.if-not-are_named.false) (sym c.is_on.ensures ∙ c.if-not-is_on.false) (ap is_some (sym c.in-Some-path.ensures)) c.in-Err.refusal (c.in-Err.ensures.carried (rest_of h ev))
+    freeze-failed s t h ev line c.in-Some.ensures.sound c.args.devs.now c.args.src.0 c.args.tgt.0 c.in-Some.first.0 c.in-Some-lss_owner.second.0 (sym c.in-Some.ensures.value) (sym c.in-Some-lss_owner.ensures.value) c.in-Some.ensures.defined.below (g.P.Plant.state c.freeze.new.plant) c.freeze.new.config c.freeze.new.journal.events c.requires.ready.reads (sym (c.are_named.ensures s h ev) ∙ c.if-not-are_named.false) (sym c.is_on.ensures ∙ c.if-not-is_on.false) (ap is_some (sym c.in-Some-path.ensures)) c.in-Err.refusal (c.in-Err.ensures.carried (rest_of h ev))
 
 pub returns-in-Ok-clause-ready : goal.returns-in-Ok-clause-ready
 returns-in-Ok-clause-ready g c =
     let s = g.P.Plant.state c.args.plant.now in let t = c.args.config.now in let h = c.args.tables.now in let ev = c.args.journal.now.events in
-    ready-ends s (g.P.Plant.state c.freeze.new.p) t c.freeze.new.c h ev c.freeze.new.j.events None (freeze_checks (owner_in t c.args.src.0) c.args.src.0 c.args.tgt.0 ++ freeze_entries (ids_of t.volumes) c.args.src.0 c.args.tgt.0) (c.in-Ok.ensures.carried (rest_of h ev)) c.in-Ok.ensures.rest c.in-Ok.ensures.unarmed c.requires.ready
+    ready-ends s (g.P.Plant.state c.freeze.new.plant) t c.freeze.new.config h ev c.freeze.new.journal.events None (freeze_checks (owner_in t c.args.src.0) c.args.src.0 c.args.tgt.0 ++ freeze_entries (ids_of t.volumes) c.args.src.0 c.args.tgt.0) (c.in-Ok.ensures.carried (rest_of h ev)) c.in-Ok.ensures.rest c.in-Ok.ensures.unarmed c.requires.ready
 
 pub returns-in-Ok-clause-room : goal.returns-in-Ok-clause-room
 returns-in-Ok-clause-room g c = let few = c.in-Some.ensures.sound.few_volumes in let room = c.requires.room in let left = c.in-Ok.ensures.room in omega (arith, few, room, left)
@@ -67,7 +67,7 @@ returns-in-Ok-clause-room g c = let few = c.in-Some.ensures.sound.few_volumes in
 pub returns-in-Err-clause-ready : goal.returns-in-Err-clause-ready
 returns-in-Err-clause-ready g c =
     let s = g.P.Plant.state c.args.plant.now in let t = c.args.config.now in let h = c.args.tables.now in let ev = c.args.journal.now.events in
-    ready-ends s (g.P.Plant.state c.freeze.new.p) t c.freeze.new.c h ev c.freeze.new.j.events (Some c.in-Err.refusal) (freeze_checks (owner_in t c.args.src.0) c.args.src.0 c.args.tgt.0 ++ freeze_entries (ids_of t.volumes) c.args.src.0 c.args.tgt.0) (c.in-Err.ensures.carried (rest_of h ev)) c.in-Err.ensures.rest c.in-Err.ensures.unarmed c.requires.ready
+    ready-ends s (g.P.Plant.state c.freeze.new.plant) t c.freeze.new.config h ev c.freeze.new.journal.events (Some c.in-Err.refusal) (freeze_checks (owner_in t c.args.src.0) c.args.src.0 c.args.tgt.0 ++ freeze_entries (ids_of t.volumes) c.args.src.0 c.args.tgt.0) (c.in-Err.ensures.carried (rest_of h ev)) c.in-Err.ensures.rest c.in-Err.ensures.unarmed c.requires.ready
 
 pub returns-in-Err-clause-room : goal.returns-in-Err-clause-room
 returns-in-Err-clause-room g c = let few = c.in-Some.ensures.sound.few_volumes in let room = c.requires.room in let left = c.in-Err.ensures.room in omega (arith, few, room, left)

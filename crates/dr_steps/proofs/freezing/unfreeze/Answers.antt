@@ -43,17 +43,17 @@ thaw-requires-clause-room g c = let few = c.in-Some.ensures.sound.few_volumes in
 pub returns-in-Ok-clause-step : goal.returns-in-Ok-clause-step
 returns-in-Ok-clause-step g c line =
     let s = g.P.Plant.state c.args.plant.now in let t = c.args.config.now in let h = c.args.tables.now in let ev = c.args.journal.now.events in
-    thaw-done s t h ev line c.in-Some.ensures.sound c.args.devs.now c.args.src.0 c.args.tgt.0 c.in-Some.first.0 c.in-Some-lss_owner.second.0 (sym c.in-Some.ensures.value) (sym c.in-Some-lss_owner.ensures.value) c.in-Some.ensures.defined.below (g.P.Plant.state c.thaw.new.p) t c.thaw.new.j.events c.requires.ready.reads (sym (c.are_named.ensures s h ev) ∙ c.if-not-are_named.false) (sym c.is_on.ensures ∙ c.if-not-is_on.false) (c.in-Ok.ensures.carried (rest_of h ev))
+    thaw-done s t h ev line c.in-Some.ensures.sound c.args.devs.now c.args.src.0 c.args.tgt.0 c.in-Some.first.0 c.in-Some-lss_owner.second.0 (sym c.in-Some.ensures.value) (sym c.in-Some-lss_owner.ensures.value) c.in-Some.ensures.defined.below (g.P.Plant.state c.thaw.new.plant) t c.thaw.new.journal.events c.requires.ready.reads (sym (c.are_named.ensures s h ev) ∙ c.if-not-are_named.false) (sym c.is_on.ensures ∙ c.if-not-is_on.false) (c.in-Ok.ensures.carried (rest_of h ev))
 
 pub returns-in-Err-clause-step : goal.returns-in-Err-clause-step
 returns-in-Err-clause-step g c line =
     let s = g.P.Plant.state c.args.plant.now in let t = c.args.config.now in let h = c.args.tables.now in let ev = c.args.journal.now.events in
-    thaw-failed s t h ev line c.in-Some.ensures.sound c.args.devs.now c.args.src.0 c.args.tgt.0 c.in-Some.first.0 c.in-Some-lss_owner.second.0 (sym c.in-Some.ensures.value) (sym c.in-Some-lss_owner.ensures.value) c.in-Some.ensures.defined.below (g.P.Plant.state c.thaw.new.p) t c.thaw.new.j.events c.requires.ready.reads (sym (c.are_named.ensures s h ev) ∙ c.if-not-are_named.false) (sym c.is_on.ensures ∙ c.if-not-is_on.false) c.in-Err.refusal (c.in-Err.ensures.carried (rest_of h ev))
+    thaw-failed s t h ev line c.in-Some.ensures.sound c.args.devs.now c.args.src.0 c.args.tgt.0 c.in-Some.first.0 c.in-Some-lss_owner.second.0 (sym c.in-Some.ensures.value) (sym c.in-Some-lss_owner.ensures.value) c.in-Some.ensures.defined.below (g.P.Plant.state c.thaw.new.plant) t c.thaw.new.journal.events c.requires.ready.reads (sym (c.are_named.ensures s h ev) ∙ c.if-not-are_named.false) (sym c.is_on.ensures ∙ c.if-not-is_on.false) c.in-Err.refusal (c.in-Err.ensures.carried (rest_of h ev))
 
 pub returns-in-Ok-clause-ready : goal.returns-in-Ok-clause-ready
 returns-in-Ok-clause-ready g c =
     let s = g.P.Plant.state c.args.plant.now in let t = c.args.config.now in let h = c.args.tables.now in let ev = c.args.journal.now.events in
-    ready-ends s (g.P.Plant.state c.thaw.new.p) t t h ev c.thaw.new.j.events None (thaw_checks (owner_in t c.args.src.0) ++ thaw_entries (ids_of t.volumes) c.args.src.0 c.args.tgt.0) (c.in-Ok.ensures.carried (rest_of h ev)) c.in-Ok.ensures.rest c.in-Ok.ensures.unarmed c.requires.ready
+    ready-ends s (g.P.Plant.state c.thaw.new.plant) t t h ev c.thaw.new.journal.events None (thaw_checks (owner_in t c.args.src.0) ++ thaw_entries (ids_of t.volumes) c.args.src.0 c.args.tgt.0) (c.in-Ok.ensures.carried (rest_of h ev)) c.in-Ok.ensures.rest c.in-Ok.ensures.unarmed c.requires.ready
 
 pub returns-in-Ok-clause-room : goal.returns-in-Ok-clause-room
 returns-in-Ok-clause-room g c = let few = c.in-Some.ensures.sound.few_volumes in let room = c.requires.room in let left = c.in-Ok.ensures.room in omega (arith, few, room, left)
@@ -61,7 +61,7 @@ returns-in-Ok-clause-room g c = let few = c.in-Some.ensures.sound.few_volumes in
 pub returns-in-Err-clause-ready : goal.returns-in-Err-clause-ready
 returns-in-Err-clause-ready g c =
     let s = g.P.Plant.state c.args.plant.now in let t = c.args.config.now in let h = c.args.tables.now in let ev = c.args.journal.now.events in
-    ready-ends s (g.P.Plant.state c.thaw.new.p) t t h ev c.thaw.new.j.events (Some c.in-Err.refusal) (thaw_checks (owner_in t c.args.src.0) ++ thaw_entries (ids_of t.volumes) c.args.src.0 c.args.tgt.0) (c.in-Err.ensures.carried (rest_of h ev)) c.in-Err.ensures.rest c.in-Err.ensures.unarmed c.requires.ready
+    ready-ends s (g.P.Plant.state c.thaw.new.plant) t t h ev c.thaw.new.journal.events (Some c.in-Err.refusal) (thaw_checks (owner_in t c.args.src.0) ++ thaw_entries (ids_of t.volumes) c.args.src.0 c.args.tgt.0) (c.in-Err.ensures.carried (rest_of h ev)) c.in-Err.ensures.rest c.in-Err.ensures.unarmed c.requires.ready
 
 pub returns-in-Err-clause-room : goal.returns-in-Err-clause-room
 returns-in-Err-clause-room g c = let few = c.in-Some.ensures.sound.few_volumes in let room = c.requires.room in let left = c.in-Err.ensures.room in omega (arith, few, room, left)

@@ -34,7 +34,7 @@ returns-in-Ok-enrol-clause-step g c line =
     let s = g.P.Plant.state c.args.plant.now in let t = c.args.config.now in let h = c.args.tables.now in let ev = c.args.journal.now.events in
     let k = (here s t h ev).control in let a = c.args.a.0 in let n = c.args.s.0 in
     let x = session_in h.sessions.sessions n in let m = member_planned k a in
-    let u = g.P.Plant.state c.enrol.new.p in let mid = c.enrol.new.j.events in
+    let u = g.P.Plant.state c.enrol.new.plant in let mid = c.enrol.new.journal.events in
     add-goes s t h ev line c.args.l.0 a n c.args.devs.now.dev c.in-Ok.owner.0 c.in-Ok.ensures.there (c.in_default.ensures.refusal s h ev) (c.in-Ok-enrol.ensures.plan (rest_of h ev))
     ∙ call-done s u t h ev mid (entries_planned k x m) c.requires.ready.reads c.enrol.new.ss (sessions_planned k n x m) (enrol_refusal k x c.args.l.0 a) (c.in-Ok-enrol.ensures.refused (rest_of h ev) refl) (c.in-Ok-enrol.ensures.carried (rest_of h ev)) (c.in-Ok-enrol.ensures.added (rest_of h ev)) line
 
@@ -43,7 +43,7 @@ returns-in-Ok-enrol-clause-ready g c =
     let s = g.P.Plant.state c.args.plant.now in let t = c.args.config.now in let h = c.args.tables.now in let ev = c.args.journal.now.events in
     let k = (here s t h ev).control in let a = c.args.a.0 in let n = c.args.s.0 in
     let x = session_in h.sessions.sessions n in let m = member_planned k a in
-    let u = g.P.Plant.state c.enrol.new.p in let mid = c.enrol.new.j.events in
+    let u = g.P.Plant.state c.enrol.new.plant in let mid = c.enrol.new.journal.events in
     ready-after t s u h mid c.requires.ready.reads c.in-Ok-enrol.ensures.rest c.in-Ok-enrol.ensures.unarmed (call-told s u t h ev mid (entries_planned k x m) c.requires.ready.reads c.requires.ready.told (c.in-Ok-enrol.ensures.carried (rest_of h ev)))
 
 pub returns-in-Err-enrol-clause-step : goal.returns-in-Err-enrol-clause-step
@@ -51,7 +51,7 @@ returns-in-Err-enrol-clause-step g c =
     let s = g.P.Plant.state c.args.plant.now in let t = c.args.config.now in let h = c.args.tables.now in let ev = c.args.journal.now.events in
     let k = (here s t h ev).control in let a = c.args.a.0 in let n = c.args.s.0 in
     let x = session_in h.sessions.sessions n in let m = member_planned k a in
-    let u = g.P.Plant.state c.enrol.new.p in let mid = c.enrol.new.j.events in
+    let u = g.P.Plant.state c.enrol.new.plant in let mid = c.enrol.new.journal.events in
     call-failed s u t h ev mid (entries_planned k x m) c.requires.ready.reads c.enrol.new.ss (sessions_planned k n x m) (enrol_refusal k x c.args.l.0 a) c.in-Err-enrol.ensures.same c.in-Err-enrol.fault (add_plan k c.args.devs.now.dev c.args.l.0 a n)
     (λ line. add-goes s t h ev line c.args.l.0 a n c.args.devs.now.dev c.in-Ok.owner.0 c.in-Ok.ensures.there (c.in_default.ensures.refusal s h ev) (c.in-Err-enrol.ensures.plan (rest_of h ev)))
     (c.in-Err-enrol.ensures.refused (rest_of h ev) refl) (λ stop. c.in-Err-enrol.ensures.stopped stop (rest_of h ev)) (λ calm. let e = c.in-Err-enrol.ensures.unchanged calm in (e.0, ap (λ j. j.events) e.1))
@@ -61,5 +61,5 @@ returns-in-Err-enrol-clause-ready g c =
     let s = g.P.Plant.state c.args.plant.now in let t = c.args.config.now in let h = c.args.tables.now in let ev = c.args.journal.now.events in
     let k = (here s t h ev).control in let a = c.args.a.0 in let n = c.args.s.0 in
     let x = session_in h.sessions.sessions n in let m = member_planned k a in
-    let u = g.P.Plant.state c.enrol.new.p in let mid = c.enrol.new.j.events in
+    let u = g.P.Plant.state c.enrol.new.plant in let mid = c.enrol.new.journal.events in
     ready-after t s u h mid c.requires.ready.reads c.in-Err-enrol.ensures.rest c.in-Err-enrol.ensures.unarmed (failed-told s u t h ev mid (entries_planned k x m) c.requires.ready.reads c.requires.ready.told c.in-Err-enrol.fault (λ stop. c.in-Err-enrol.ensures.stopped stop (rest_of h ev)) (λ calm. let e = c.in-Err-enrol.ensures.unchanged calm in (e.0, ap (λ j. j.events) e.1)))

@@ -31,7 +31,7 @@ returns-in-Ok-expel-clause-step g c line =
     let s = g.P.Plant.state c.args.plant.now in let t = c.args.config.now in let h = c.args.tables.now in let ev = c.args.journal.now.events in
     let k = (here s t h ev).control in let a = c.args.a.0 in let n = c.args.s.0 in
     let m = member_in a (session_in h.sessions.sessions n) in
-    let u = g.P.Plant.state c.expel.new.p in let mid = c.expel.new.j.events in
+    let u = g.P.Plant.state c.expel.new.plant in let mid = c.expel.new.journal.events in
     expel-goes s t h ev line c.args.l.0 a n c.args.devs.now.dev c.in-Ok.owner.0 c.in-Ok.ensures.there (c.in_default.ensures.refusal s h ev) (c.in-Ok-expel.ensures.plan (rest_of h ev))
     ∙ call-done s u t h ev mid (entries_without n m) c.requires.ready.reads c.expel.new.ss (sessions_without n m) (expel_refusal k n (session_in h.sessions.sessions n) m) (c.in-Ok-expel.ensures.refused (rest_of h ev)) (c.in-Ok-expel.ensures.carried (rest_of h ev)) c.in-Ok-expel.ensures.removed line
 
@@ -40,7 +40,7 @@ returns-in-Ok-expel-clause-ready g c =
     let s = g.P.Plant.state c.args.plant.now in let t = c.args.config.now in let h = c.args.tables.now in let ev = c.args.journal.now.events in
     let k = (here s t h ev).control in let a = c.args.a.0 in let n = c.args.s.0 in
     let m = member_in a (session_in h.sessions.sessions n) in
-    let u = g.P.Plant.state c.expel.new.p in let mid = c.expel.new.j.events in
+    let u = g.P.Plant.state c.expel.new.plant in let mid = c.expel.new.journal.events in
     ready-after t s u h mid c.requires.ready.reads c.in-Ok-expel.ensures.rest c.in-Ok-expel.ensures.unarmed (call-told s u t h ev mid (entries_without n m) c.requires.ready.reads c.requires.ready.told (c.in-Ok-expel.ensures.carried (rest_of h ev)))
 
 pub returns-in-Err-expel-clause-step : goal.returns-in-Err-expel-clause-step
@@ -48,7 +48,7 @@ returns-in-Err-expel-clause-step g c line =
     let s = g.P.Plant.state c.args.plant.now in let t = c.args.config.now in let h = c.args.tables.now in let ev = c.args.journal.now.events in
     let k = (here s t h ev).control in let a = c.args.a.0 in let n = c.args.s.0 in
     let m = member_in a (session_in h.sessions.sessions n) in
-    let u = g.P.Plant.state c.expel.new.p in let mid = c.expel.new.j.events in
+    let u = g.P.Plant.state c.expel.new.plant in let mid = c.expel.new.journal.events in
     expel-goes s t h ev line c.args.l.0 a n c.args.devs.now.dev c.in-Ok.owner.0 c.in-Ok.ensures.there (c.in_default.ensures.refusal s h ev) (c.in-Err-expel.ensures.plan (rest_of h ev))
     ∙ call-refused s u t h ev mid (entries_without n m) c.requires.ready.reads c.expel.new.ss (sessions_without n m) (expel_refusal k n (session_in h.sessions.sessions n) m) c.in-Err-expel.ensures.same c.in-Err-expel.why (c.in-Err-expel.ensures.refused (rest_of h ev)) (λ stop. c.in-Err-expel.ensures.stopped stop (rest_of h ev)) (λ calm. let e = c.in-Err-expel.ensures.unchanged calm in (e.0, ap (λ j. j.events) e.1)) line
 
@@ -57,5 +57,5 @@ returns-in-Err-expel-clause-ready g c =
     let s = g.P.Plant.state c.args.plant.now in let t = c.args.config.now in let h = c.args.tables.now in let ev = c.args.journal.now.events in
     let k = (here s t h ev).control in let a = c.args.a.0 in let n = c.args.s.0 in
     let m = member_in a (session_in h.sessions.sessions n) in
-    let u = g.P.Plant.state c.expel.new.p in let mid = c.expel.new.j.events in
+    let u = g.P.Plant.state c.expel.new.plant in let mid = c.expel.new.journal.events in
     ready-after t s u h mid c.requires.ready.reads c.in-Err-expel.ensures.rest c.in-Err-expel.ensures.unarmed (refused-told s u t h ev mid (entries_without n m) c.requires.ready.reads c.requires.ready.told c.in-Err-expel.why (λ stop. c.in-Err-expel.ensures.stopped stop (rest_of h ev)) (λ calm. let e = c.in-Err-expel.ensures.unchanged calm in (e.0, ap (λ j. j.events) e.1)))

@@ -99,7 +99,7 @@ returns-in-Ok-clause-step g c =
     let owner : (volume_seen s t c.args.a.0).server ≡ c.in-Some.server.0 = (seen-entry s t c.args.a.0 e.0 e.1).0 ∙ e.2 in
     let runs : on_seen s (volume_seen s t c.args.a.0).server ≡ true = ap (on_seen s) owner ∙ on-seen s c.in-Some.server.0 c.in-Some.ensures.defined.below ∙ sym c.if-not-is_on.ensures in
     let may = ap copying_by (sym c.peek_fields-fields.ensures.fields) ∙ sym c.if-not-is_copying.ensures in
-    let u = here (g.P.Plant.state c.drain.new.p) t h c.drain.new.j.events in
+    let u = here (g.P.Plant.state c.drain.new.plant) t h c.drain.new.journal.events in
     let count = sym c.in-Ok.ensures.count ∙ sym c.from.ensures in
     subst (λ n. Carries (here s t h ev) (drain_plan (here s t h ev).control c.args.a.0 c.args.most) u (Done (Counted n))) count
     (drain-done s t h ev c.args.a.0 c.requires.ready.reads c.args.most e.0 e.1 runs may u (c.in-Ok.ensures.carried (rest_of h ev)))
@@ -107,8 +107,8 @@ returns-in-Ok-clause-step g c =
 pub returns-in-Ok-clause-ready : goal.returns-in-Ok-clause-ready
 returns-in-Ok-clause-ready g c =
     let s = g.P.Plant.state c.args.plant.now in let t = c.args.config.now in let h = c.args.tables.now in let ev = c.args.journal.now.events in
-    let u = here (g.P.Plant.state c.drain.new.p) t h c.drain.new.j.events in
-    ready-after t s (g.P.Plant.state c.drain.new.p) h c.drain.new.j.events c.requires.ready.reads c.in-Ok.ensures.rest c.in-Ok.ensures.unarmed (drain-told s t h ev c.args.a.0 c.requires.ready.reads c.args.most u None (c.in-Ok.ensures.carried (rest_of h ev)) c.requires.ready.told)
+    let u = here (g.P.Plant.state c.drain.new.plant) t h c.drain.new.journal.events in
+    ready-after t s (g.P.Plant.state c.drain.new.plant) h c.drain.new.journal.events c.requires.ready.reads c.in-Ok.ensures.rest c.in-Ok.ensures.unarmed (drain-told s t h ev c.args.a.0 c.requires.ready.reads c.args.most u None (c.in-Ok.ensures.carried (rest_of h ev)) c.requires.ready.told)
 
 pub returns-in-Err-clause-step : goal.returns-in-Err-clause-step
 returns-in-Err-clause-step g c =
@@ -117,10 +117,10 @@ returns-in-Err-clause-step g c =
     let owner : (volume_seen s t c.args.a.0).server ≡ c.in-Some.server.0 = (seen-entry s t c.args.a.0 e.0 e.1).0 ∙ e.2 in
     let runs : on_seen s (volume_seen s t c.args.a.0).server ≡ true = ap (on_seen s) owner ∙ on-seen s c.in-Some.server.0 c.in-Some.ensures.defined.below ∙ sym c.if-not-is_on.ensures in
     let may = ap copying_by (sym c.peek_fields-fields.ensures.fields) ∙ sym c.if-not-is_copying.ensures in
-    drain-failed s t h ev c.args.a.0 c.requires.ready.reads c.args.most e.0 e.1 runs may (here (g.P.Plant.state c.drain.new.p) t h c.drain.new.j.events) c.in-Err.refusal (c.in-Err.ensures.carried (rest_of h ev))
+    drain-failed s t h ev c.args.a.0 c.requires.ready.reads c.args.most e.0 e.1 runs may (here (g.P.Plant.state c.drain.new.plant) t h c.drain.new.journal.events) c.in-Err.refusal (c.in-Err.ensures.carried (rest_of h ev))
 
 pub returns-in-Err-clause-ready : goal.returns-in-Err-clause-ready
 returns-in-Err-clause-ready g c =
     let s = g.P.Plant.state c.args.plant.now in let t = c.args.config.now in let h = c.args.tables.now in let ev = c.args.journal.now.events in
-    let u = here (g.P.Plant.state c.drain.new.p) t h c.drain.new.j.events in
-    ready-after t s (g.P.Plant.state c.drain.new.p) h c.drain.new.j.events c.requires.ready.reads c.in-Err.ensures.rest c.in-Err.ensures.unarmed (drain-told s t h ev c.args.a.0 c.requires.ready.reads c.args.most u (Some c.in-Err.refusal) (c.in-Err.ensures.carried (rest_of h ev)) c.requires.ready.told)
+    let u = here (g.P.Plant.state c.drain.new.plant) t h c.drain.new.journal.events in
+    ready-after t s (g.P.Plant.state c.drain.new.plant) h c.drain.new.journal.events c.requires.ready.reads c.in-Err.ensures.rest c.in-Err.ensures.unarmed (drain-told s t h ev c.args.a.0 c.requires.ready.reads c.args.most u (Some c.in-Err.refusal) (c.in-Err.ensures.carried (rest_of h ev)) c.requires.ready.told)

@@ -36,14 +36,14 @@ pub returns-in-Ok-clause-step : goal.returns-in-Ok-clause-step
 returns-in-Ok-clause-step g c line =
     let s = g.P.Plant.state c.args.plant.now in let t = c.args.config.now in let h = c.args.tables.now in let ev = c.args.journal.now.events in
     let x = some-defined c.is_defined.result (session_in h.sessions.sessions c.args.s.0) c.if-not-is_defined.false c.is_defined.ensures in
-    let u = g.P.Plant.state c.recover.new.p in
-    recover-goes s t h ev line c.args.s.0 x.0 x.1 u c.recover.new.j.events _ c.requires.ready (c.in-Ok.ensures.carried (rest_of h ev))
-    ∙ ap (said (here u t h c.recover.new.j.events) line) (sym c.group_answer.ensures.says)
+    let u = g.P.Plant.state c.recover.new.plant in
+    recover-goes s t h ev line c.args.s.0 x.0 x.1 u c.recover.new.journal.events _ c.requires.ready (c.in-Ok.ensures.carried (rest_of h ev))
+    ∙ ap (said (here u t h c.recover.new.journal.events) line) (sym c.group_answer.ensures.says)
 
 pub returns-in-Ok-clause-ready : goal.returns-in-Ok-clause-ready
 returns-in-Ok-clause-ready g c =
     let s = g.P.Plant.state c.args.plant.now in let t = c.args.config.now in let h = c.args.tables.now in let ev = c.args.journal.now.events in
-    plain-ready s (g.P.Plant.state c.recover.new.p) t h ev c.recover.new.j.events (recover_behind (here s t h ev).control c.args.s.0 (members_in (session_in h.sessions.sessions c.args.s.0))) _
+    plain-ready s (g.P.Plant.state c.recover.new.plant) t h ev c.recover.new.journal.events (recover_behind (here s t h ev).control c.args.s.0 (members_in (session_in h.sessions.sessions c.args.s.0))) _
     (plain-recovery (here s t h ev).control c.args.s.0 (members_in (session_in h.sessions.sessions c.args.s.0))) (c.in-Ok.ensures.carried (rest_of h ev)) c.in-Ok.ensures.rest c.in-Ok.ensures.unarmed c.requires.ready
 
 pub returns-in-Ok-clause-room : goal.returns-in-Ok-clause-room
@@ -54,12 +54,12 @@ pub returns-in-Err-clause-step : goal.returns-in-Err-clause-step
 returns-in-Err-clause-step g c line =
     let s = g.P.Plant.state c.args.plant.now in let t = c.args.config.now in let h = c.args.tables.now in let ev = c.args.journal.now.events in
     let x = some-defined c.is_defined.result (session_in h.sessions.sessions c.args.s.0) c.if-not-is_defined.false c.is_defined.ensures in
-    recover-goes s t h ev line c.args.s.0 x.0 x.1 (g.P.Plant.state c.recover.new.p) c.recover.new.j.events (Refused c.in-Err.refusal) c.requires.ready (c.in-Err.ensures.carried (rest_of h ev))
+    recover-goes s t h ev line c.args.s.0 x.0 x.1 (g.P.Plant.state c.recover.new.plant) c.recover.new.journal.events (Refused c.in-Err.refusal) c.requires.ready (c.in-Err.ensures.carried (rest_of h ev))
 
 pub returns-in-Err-clause-ready : goal.returns-in-Err-clause-ready
 returns-in-Err-clause-ready g c =
     let s = g.P.Plant.state c.args.plant.now in let t = c.args.config.now in let h = c.args.tables.now in let ev = c.args.journal.now.events in
-    plain-ready s (g.P.Plant.state c.recover.new.p) t h ev c.recover.new.j.events (recover_behind (here s t h ev).control c.args.s.0 (members_in (session_in h.sessions.sessions c.args.s.0))) (Refused c.in-Err.refusal)
+    plain-ready s (g.P.Plant.state c.recover.new.plant) t h ev c.recover.new.journal.events (recover_behind (here s t h ev).control c.args.s.0 (members_in (session_in h.sessions.sessions c.args.s.0))) (Refused c.in-Err.refusal)
     (plain-recovery (here s t h ev).control c.args.s.0 (members_in (session_in h.sessions.sessions c.args.s.0))) (c.in-Err.ensures.carried (rest_of h ev)) c.in-Err.ensures.rest c.in-Err.ensures.unarmed c.requires.ready
 
 pub returns-in-Err-clause-room : goal.returns-in-Err-clause-room

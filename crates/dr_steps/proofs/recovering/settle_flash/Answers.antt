@@ -52,12 +52,12 @@ returns-in-Ok-clause-step g c line =
     let s = g.P.Plant.state c.args.plant.now in let t = c.args.config.now in let h = c.args.tables.now in let ev = c.args.journal.now.events in
     let e = mapped_some (λ (e : VolumeEntry). e.server) _ _ c.in-Some.ensures.value in
     settle-goes s t h ev line c.args.dev.now (lets_by c.args.commit) c.args.source.0 e.0 c.in-Some.server.0 e.1 e.2 (c.in_default-name_refusal.ensures.refusal s h ev) (c.in_default-off_refusal.ensures.refusal t h ev)
-    (g.P.Plant.state c.act.new.p) c.act.new.j.events (Done Alone) c.requires.ready (c.in-Ok.ensures.carried (rest_of h ev))
+    (g.P.Plant.state c.act.new.plant) c.act.new.journal.events (Done Alone) c.requires.ready (c.in-Ok.ensures.carried (rest_of h ev))
 
 pub returns-in-Ok-clause-ready : goal.returns-in-Ok-clause-ready
 returns-in-Ok-clause-ready g c =
     let s = g.P.Plant.state c.args.plant.now in let t = c.args.config.now in let h = c.args.tables.now in let ev = c.args.journal.now.events in
-    plain-ready s (g.P.Plant.state c.act.new.p) t h ev c.act.new.j.events (settle_target (here s t h ev).control (lets_by c.args.commit) c.args.source.0 (revertible_target (here s t h ev).control c.args.source.0)) (Done Alone)
+    plain-ready s (g.P.Plant.state c.act.new.plant) t h ev c.act.new.journal.events (settle_target (here s t h ev).control (lets_by c.args.commit) c.args.source.0 (revertible_target (here s t h ev).control c.args.source.0)) (Done Alone)
     (plain-settled (here s t h ev).control (lets_by c.args.commit) c.args.source.0 (revertible_target (here s t h ev).control c.args.source.0)) (c.in-Ok.ensures.carried (rest_of h ev)) c.in-Ok.ensures.rest c.in-Ok.ensures.unarmed c.requires.ready
 
 pub returns-in-Err-clause-step : goal.returns-in-Err-clause-step
@@ -65,10 +65,10 @@ returns-in-Err-clause-step g c line =
     let s = g.P.Plant.state c.args.plant.now in let t = c.args.config.now in let h = c.args.tables.now in let ev = c.args.journal.now.events in
     let e = mapped_some (λ (e : VolumeEntry). e.server) _ _ c.in-Some.ensures.value in
     settle-goes s t h ev line c.args.dev.now (lets_by c.args.commit) c.args.source.0 e.0 c.in-Some.server.0 e.1 e.2 (c.in_default-name_refusal.ensures.refusal s h ev) (c.in_default-off_refusal.ensures.refusal t h ev)
-    (g.P.Plant.state c.act.new.p) c.act.new.j.events (Refused c.in-Err.refusal) c.requires.ready (c.in-Err.ensures.carried (rest_of h ev))
+    (g.P.Plant.state c.act.new.plant) c.act.new.journal.events (Refused c.in-Err.refusal) c.requires.ready (c.in-Err.ensures.carried (rest_of h ev))
 
 pub returns-in-Err-clause-ready : goal.returns-in-Err-clause-ready
 returns-in-Err-clause-ready g c =
     let s = g.P.Plant.state c.args.plant.now in let t = c.args.config.now in let h = c.args.tables.now in let ev = c.args.journal.now.events in
-    plain-ready s (g.P.Plant.state c.act.new.p) t h ev c.act.new.j.events (settle_target (here s t h ev).control (lets_by c.args.commit) c.args.source.0 (revertible_target (here s t h ev).control c.args.source.0)) (Refused c.in-Err.refusal)
+    plain-ready s (g.P.Plant.state c.act.new.plant) t h ev c.act.new.journal.events (settle_target (here s t h ev).control (lets_by c.args.commit) c.args.source.0 (revertible_target (here s t h ev).control c.args.source.0)) (Refused c.in-Err.refusal)
     (plain-settled (here s t h ev).control (lets_by c.args.commit) c.args.source.0 (revertible_target (here s t h ev).control c.args.source.0)) (c.in-Err.ensures.carried (rest_of h ev)) c.in-Err.ensures.rest c.in-Err.ensures.unarmed c.requires.ready

@@ -17,16 +17,16 @@ returns-in-Ok-clause-says g c =
 
 pub returns-in-Ok-clause-ready : goal.returns-in-Ok-clause-ready
 returns-in-Ok-clause-ready g c =
-    ready-after c.args.config.now (g.P.Plant.state c.args.plant.now) (g.P.Plant.state c.sync_write.new.p) (record c.args.tables.now { host = c.sync_write.new.h }) c.sync_write.new.j.events c.requires.ready.reads c.in-Ok.ensures.rest c.in-Ok.ensures.unarmed c.in-Ok.ensures.told
+    ready-after c.args.config.now (g.P.Plant.state c.args.plant.now) (g.P.Plant.state c.sync_write.new.plant) (record c.args.tables.now { host = c.sync_write.new.h }) c.sync_write.new.journal.events c.requires.ready.reads c.in-Ok.ensures.rest c.in-Ok.ensures.unarmed c.in-Ok.ensures.told
 
 pub returns-in-Ok-clause-faults : goal.returns-in-Ok-clause-faults
 returns-in-Ok-clause-faults g c =
-    let s = g.P.Plant.state c.args.plant.now in let u = g.P.Plant.state c.sync_write.new.p in
+    let s = g.P.Plant.state c.args.plant.now in let u = g.P.Plant.state c.sync_write.new.plant in
     calm-counts _ s u (ap is_stopped c.answer.ensures ∙ written-calm c.args.write.now.w.0 c.in-Ok.end) c.in-Ok.ensures.faults
 
 pub returns-in-Err-clause-ready : goal.returns-in-Err-clause-ready
 returns-in-Err-clause-ready g c =
-    ready-after c.args.config.now (g.P.Plant.state c.args.plant.now) (g.P.Plant.state c.sync_write.new.p) (record c.args.tables.now { host = c.sync_write.new.h }) c.sync_write.new.j.events c.requires.ready.reads c.in-Err.ensures.rest c.in-Err.ensures.unarmed c.in-Err.ensures.told
+    ready-after c.args.config.now (g.P.Plant.state c.args.plant.now) (g.P.Plant.state c.sync_write.new.plant) (record c.args.tables.now { host = c.sync_write.new.h }) c.sync_write.new.journal.events c.requires.ready.reads c.in-Err.ensures.rest c.in-Err.ensures.unarmed c.in-Err.ensures.told
 
 pub returns-in-Ok-clause-carried : goal.returns-in-Ok-clause-carried
 returns-in-Ok-clause-carried g c = c.in-Ok.ensures.carried c.args.tables.now.sessions.sessions

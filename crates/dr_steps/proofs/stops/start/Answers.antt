@@ -26,7 +26,7 @@ pub returns-in-Ok-clause-step : goal.returns-in-Ok-clause-step
 returns-in-Ok-clause-step g c line =
     let s = g.P.Plant.state c.args.plant.now in let t = c.args.config.now in let h = c.args.tables.now in let ev = c.args.journal.now.events in
     let k = (here s t h ev).control in
-    let u = here (g.P.Plant.state c.start.new.p) t (record h { host = c.start.new.h }) c.start.new.j.events in
+    let u = here (g.P.Plant.state c.start.new.plant) t (record h { host = c.start.new.h }) c.start.new.journal.events in
     known-server s t h ev line (start_on k) c.args.name.now c.bytes_of.result.now c.in-Some.server.0 (said u line (Done c.added.result)) c.bytes_of.ensures (sym c.in-Some.ensures.place)
     (plan-comes s c.requires.ready.reads (here s t h ev) u (start_on k c.in-Some.server.0) (Done c.added.result)
     (subst (λ (a : Said). Comes (armed_in s) (here s t h ev) (start_on k c.in-Some.server.0) u a) (sym c.added.ensures) (c.in-Ok.ensures.plan (rest_of h ev))) line)
@@ -35,7 +35,7 @@ pub returns-in-Ok-clause-ready : goal.returns-in-Ok-clause-ready
 returns-in-Ok-clause-ready g c =
     let s = g.P.Plant.state c.args.plant.now in let t = c.args.config.now in let h = c.args.tables.now in let ev = c.args.journal.now.events in
     let k = (here s t h ev).control in
-    let v = g.P.Plant.state c.start.new.p in let now = c.start.new.j.events in
+    let v = g.P.Plant.state c.start.new.plant in let now = c.start.new.journal.events in
     ready-after t s v (record h { host = c.start.new.h }) now c.requires.ready.reads c.in-Ok.ensures.rest c.in-Ok.ensures.unarmed
     (told-acked c.in-Ok.acked h.host c.start.new.h now c.in-Ok.ensures.host
     (told-comes s c.requires.ready.reads (here s t h ev) (here v t (record h { host = c.start.new.h }) now) (start_on k c.in-Some.server.0) _ (c.in-Ok.ensures.plan (rest_of h ev)) h
@@ -45,7 +45,7 @@ pub returns-in-Err-clause-step : goal.returns-in-Err-clause-step
 returns-in-Err-clause-step g c line =
     let s = g.P.Plant.state c.args.plant.now in let t = c.args.config.now in let h = c.args.tables.now in let ev = c.args.journal.now.events in
     let k = (here s t h ev).control in
-    let u = here (g.P.Plant.state c.start.new.p) t (record h { host = c.start.new.h }) c.start.new.j.events in
+    let u = here (g.P.Plant.state c.start.new.plant) t (record h { host = c.start.new.h }) c.start.new.journal.events in
     known-server s t h ev line (start_on k) c.args.name.now c.bytes_of.result.now c.in-Some.server.0 (said u line (Refused c.in-Err.refusal)) c.bytes_of.ensures (sym c.in-Some.ensures.place)
     (plan-comes s c.requires.ready.reads (here s t h ev) u (start_on k c.in-Some.server.0) (Refused c.in-Err.refusal) (c.in-Err.ensures.plan (rest_of h ev)) line)
 
@@ -53,7 +53,7 @@ pub returns-in-Err-clause-ready : goal.returns-in-Err-clause-ready
 returns-in-Err-clause-ready g c =
     let s = g.P.Plant.state c.args.plant.now in let t = c.args.config.now in let h = c.args.tables.now in let ev = c.args.journal.now.events in
     let k = (here s t h ev).control in
-    let v = g.P.Plant.state c.start.new.p in let now = c.start.new.j.events in
+    let v = g.P.Plant.state c.start.new.plant in let now = c.start.new.journal.events in
     ready-after t s v (record h { host = c.start.new.h }) now c.requires.ready.reads c.in-Err.ensures.rest c.in-Err.ensures.unarmed
     (subst (λ x. IsTold x now) (sym c.in-Err.ensures.same)
     (told-comes s c.requires.ready.reads (here s t h ev) (here v t (record h { host = c.start.new.h }) now) (start_on k c.in-Some.server.0) _ (c.in-Err.ensures.plan (rest_of h ev)) h
@@ -61,5 +61,5 @@ returns-in-Err-clause-ready g c =
 
 pub returns-in-Err-clause-faults : goal.returns-in-Err-clause-faults
 returns-in-Err-clause-faults g c =
-    let s = g.P.Plant.state c.args.plant.now in let u = g.P.Plant.state c.start.new.p in
+    let s = g.P.Plant.state c.args.plant.now in let u = g.P.Plant.state c.start.new.plant in
     counted-refusal c.in-Err.refusal s u (subst (λ b. Counted b s.faults u.faults) (sym (ap is_stop c.in-Err.ensures.stopped)) c.in-Err.ensures.faults)

@@ -3,7 +3,7 @@ use Rattle.dr_model.specs.Plans.{plan_of, is_built}
 use Rattle.dr_model.specs.Runs.{after_plan}
 use Rattle.dr_steps.specs.Here.{here}
 use Rattle.dr_steps.proofs.CarriesLemmas.{carries-plan}
-use Rattle.dr_steps.proofs.StepTaskLemmas.{none-else}
+use Rattle.dr_steps.proofs.StepTaskLemmas.{return-else}
 use Rattle.dr_steps.proofs.task.carry_pair.Goals as goal
 
 pub returns-in-MakePair-clause-step : goal.returns-in-MakePair-clause-step
@@ -42,5 +42,5 @@ returns-in-Drain-clause-step g c line =
     ap (λ x. after_plan w line (plan_of w.control w.events line x)) c.in-Drain.is
     ∙ carries-plan w _ _ _ c.drain.ensures.step line
 
-pub returns-in_default : goal.returns-in_default
-returns-in_default g c = none-else c.args.step.now c.requires.form c.requires.session c.requires.other c.requires.recovery c.requires.built c.in_default.not-MakePair c.in_default.not-RemovePair c.in_default.not-PausePair c.in_default.not-ResumePair c.in_default.not-Drain
+pub carry_return-requires-clause-form : goal.carry_return-requires-clause-form
+carry_return-requires-clause-form g c = return-else c.args.step.now c.requires.form c.requires.session c.requires.other c.requires.recovery c.requires.built c.in_default.not-MakePair c.in_default.not-RemovePair c.in_default.not-PausePair c.in_default.not-ResumePair c.in_default.not-Drain

@@ -12,11 +12,11 @@ use Rattle.dr_volume.proofs.change.redo.Goals as goal
 
 pub returns-in_err-fields : goal.returns-in_err-fields
 returns-in_err-fields g c =
-    let s = g.P.Plant.state c.args.p.now in
-    let t = g.P.Plant.state c.load.new.p in
+    let s = g.P.Plant.state c.args.plant.now in
+    let t = g.P.Plant.state c.load.new.plant in
     let d = c.find.result.device.0 in
-    let at = device-placed c.args.c.now c.args.v.0 d c.find.ensures.place in
-    let all : Redone c.args.c.now s t c.args.v.0 true = redone-unread c.args.c.now s t c.args.v.0 d c.find.result.tracks c.find.ensures c.requires.stands
+    let at = device-placed c.args.config.now c.args.v.0 d c.find.ensures.place in
+    let all : Redone c.args.config.now s t c.args.v.0 true = redone-unread c.args.config.now s t c.args.v.0 d c.find.result.tracks c.find.ensures c.requires.stands
     (sym (c.in_err-fields.ensures.done ∙ ap (can_read s) at)) (c.in_err-fields.ensures.state ∙ ap (after_read s) at) in
     record {
       written = all.written ∙ (λ i. (t, sym c.from_residual.ensures.0 i));
@@ -35,23 +35,23 @@ returns-in_err-fields g c =
 
 pub write_track-requires : goal.write_track-requires
 write_track-requires g c =
-    let s = g.P.Plant.state c.args.p.now in
+    let s = g.P.Plant.state c.args.plant.now in
     let d = c.find.result.device.0 in
-    let at = device-placed c.args.c.now c.args.v.0 d c.find.ensures.place in
+    let at = device-placed c.args.config.now c.args.v.0 d c.find.ensures.place in
     let same = c.in_ok-fields.ensures.state ∙ read_done s _ (sym c.in_ok-fields.ensures.done) in
-    let fits = staged-fits c.args.c.now s (g.P.Plant.state c.load.new.p) c.args.v.0 d c.find.result.tracks c.in_ok-fields.fields c.staged_track.result c.find.ensures c.requires.stands same c.in_ok-fields.ensures.shows c.staged_track.ensures in
+    let fits = staged-fits c.args.config.now s (g.P.Plant.state c.load.new.plant) c.args.v.0 d c.find.result.tracks c.in_ok-fields.fields c.staged_track.result c.find.ensures c.requires.stands same c.in_ok-fields.ensures.shows c.staged_track.ensures in
     record { device = fits.0; track = fits.1 }
 
 pub returns : goal.returns
 returns g c =
-    let s = g.P.Plant.state c.args.p.now in
-    let t = g.P.Plant.state c.write_track.new.p in
+    let s = g.P.Plant.state c.args.plant.now in
+    let t = g.P.Plant.state c.write_track.new.plant in
     let d = c.find.result.device.0 in
     let b = is_err c.write_track.result in
-    let at = device-placed c.args.c.now c.args.v.0 d c.find.ensures.place in
+    let at = device-placed c.args.config.now c.args.v.0 d c.find.ensures.place in
     let same = c.in_ok-fields.ensures.state ∙ read_done s _ (sym c.in_ok-fields.ensures.done) in
-    let all : Redone c.args.c.now s t c.args.v.0 b =
-    redone-read c.args.c.now s t c.args.v.0 d c.find.result.tracks c.in_ok-fields.fields b c.find.ensures c.requires.stands
+    let all : Redone c.args.config.now s t c.args.v.0 b =
+    redone-read c.args.config.now s t c.args.v.0 d c.find.result.tracks c.in_ok-fields.fields b c.find.ensures c.requires.stands
     (sym (c.in_ok-fields.ensures.done ∙ ap (can_read s) at)) c.in_ok-fields.ensures.shows
     ((λ i. after_writes (sym same i) d (track_writes (sym c.staged_track.ensures i))) ∙ c.write_track.ensures) in
     record {

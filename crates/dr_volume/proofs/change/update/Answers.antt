@@ -17,9 +17,9 @@ use Rattle.dr_volume.proofs.change.update.Goals as goal
 -- the volume could not be read
 pub returns-in_err-slot : goal.returns-in_err-slot
 returns-in_err-slot g c =
-    let s = g.P.Plant.state c.args.p.now in
-    let t = g.P.Plant.state c.read_choice.new.p in
-    let table = c.args.c.now in
+    let s = g.P.Plant.state c.args.plant.now in
+    let t = g.P.Plant.state c.read_choice.new.plant in
+    let table = c.args.config.now in
     let v = c.args.v.0 in
     let d = device_of table v in
     let at : d ≡ c.device_of-device.result.0 = device-placed table v _ c.device_of-device.ensures.place in
@@ -50,28 +50,28 @@ returns-in_err-slot g c =
 
 pub read_choice-requires : goal.read_choice-requires
 read_choice-requires g c =
-    let lies = lies-sound c.args.c.now c.args.v.0 _ c.device_of-device.ensures.sound c.device_of-device.ensures.place in
-    let device = device-lies (g.P.Plant.state c.args.p.now) c.args.c.now c.args.v.0 _ lies.0 lies.1 c.requires.stands in
+    let lies = lies-sound c.args.config.now c.args.v.0 _ c.device_of-device.ensures.sound c.device_of-device.ensures.place in
+    let device = device-lies (g.P.Plant.state c.args.plant.now) c.args.config.now c.args.v.0 _ lies.0 lies.1 c.requires.stands in
     let blocks = device.blocks in
     record { device = device.device; block = omega arith }
 
 pub rewrite-requires : goal.rewrite-requires
 rewrite-requires g c =
-    let s = g.P.Plant.state c.args.p.now in
+    let s = g.P.Plant.state c.args.plant.now in
     let same = sym c.in_ok-slot.ensures.same in
-    let lies = lies-sound c.args.c.now c.args.v.0 _ c.device_of-device.ensures.sound c.device_of-device.ensures.place in
+    let lies = lies-sound c.args.config.now c.args.v.0 _ c.device_of-device.ensures.sound c.device_of-device.ensures.place in
     let d = c.device_of-device.result.0 in
     record {
-      device = subst (λ (u : PlantState). IsDevice u d 13) same (device-lies s c.args.c.now c.args.v.0 d lies.0 lies.1 c.requires.stands);
+      device = subst (λ (u : PlantState). IsDevice u d 13) same (device-lies s c.args.config.now c.args.v.0 d lies.0 lies.1 c.requires.stands);
       chosen = ap (λ (u : PlantState). slot_of u d) c.in_ok-slot.ensures.same ∙ sym c.in_ok-slot.ensures.slot;
-      track = subst (λ (u : PlantState). IfSome c.args.staged (λ t. (t.0 < 256) × (13 + t.0 < u.size d))) same (room-lies s c.args.c.now c.args.v.0 d lies.0 c.args.staged lies.1 c.requires.stands c.requires.within);
+      track = subst (λ (u : PlantState). IfSome c.args.staged (λ t. (t.0 < 256) × (13 + t.0 < u.size d))) same (room-lies s c.args.config.now c.args.v.0 d lies.0 c.args.staged lies.1 c.requires.stands c.requires.within);
     }
 
 pub returns : goal.returns
 returns g c =
-    let s = g.P.Plant.state c.args.p.now in
-    let t = g.P.Plant.state c.rewrite.new.p in
-    let table = c.args.c.now in
+    let s = g.P.Plant.state c.args.plant.now in
+    let t = g.P.Plant.state c.rewrite.new.plant in
+    let table = c.args.config.now in
     let v = c.args.v.0 in
     let d = device_of table v in
     let f = c.args.next.now in

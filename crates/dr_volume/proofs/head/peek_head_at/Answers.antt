@@ -7,14 +7,14 @@ use Rattle.dr_volume.proofs.head.peek_head_at.Goals as goal
 
 pub head_on-requires : goal.head_on-requires
 head_on-requires g c =
-    let s = g.P.Plant.state c.args.p.now in
-    let e = entry-there c.args.c.now c.args.place c.requires.there in
-    subst (λ d. IsDevice s d 13) (sym c.device_at.ensures) (device-there s c.args.c.now c.args.place e.0 c.requires.there e.1 c.requires.stands)
+    let s = g.P.Plant.state c.args.plant.now in
+    let e = entry-there c.args.config.now c.args.place c.requires.there in
+    subst (λ d. IsDevice s d 13) (sym c.device_at.ensures) (device-there s c.args.config.now c.args.place e.0 c.requires.there e.1 c.requires.stands)
 
 pub returns : goal.returns
 returns g c =
-    let s = g.P.Plant.state c.args.p.now in
-    let e = entry-there c.args.c.now c.args.place c.requires.there in
+    let s = g.P.Plant.state c.args.plant.now in
+    let e = entry-there c.args.config.now c.args.place c.requires.there in
     c.head_on.ensures
     ∙ ap (λ d. head_said (layout.chosen (s.block d) 0)) c.device_at.ensures
-    ∙ sym (head-at s c.args.c.now c.args.place e.0 e.1)
+    ∙ sym (head-at s c.args.config.now c.args.place e.0 e.1)

@@ -9,12 +9,12 @@ use Rattle.dr_volume.proofs.opened.open.Goals as goal
 
 pub returns-clause-opened : goal.returns-clause-opened
 returns-clause-opened g c =
-    let s = g.P.Plant.state c.args.p.now in
+    let s = g.P.Plant.state c.args.plant.now in
     let d = c.find-place.result.device.0 in
-    let at = device-placed c.args.c.now c.args.v.0 d c.find-place.ensures.place in
+    let at = device-placed c.args.config.now c.args.v.0 d c.find-place.ensures.place in
     record {
       device = sym at;
       slot = ap (slot_of s) at ∙ sym c.in_ok-slot.ensures.slot;
-      shows = shows-normal s c.args.c.now c.args.v.0 d _ _ c.find-place.ensures
+      shows = shows-normal s c.args.config.now c.args.v.0 d _ _ c.find-place.ensures
           (c.fields_on-fields.ensures ∙ ap (λ (t : PlantState). normal c.find-place.result.tracks (raw_of (chosen (t.block d)))) c.in_ok-slot.ensures.same);
     }

@@ -8,7 +8,7 @@ use Rattle.dr_volume.proofs.opened.rewrite.Goals as goal
 
 pub returns-in_err-put : goal.returns-in_err-put
 returns-in_err-put g c =
-    let s = g.P.Plant.state c.args.p.now in
+    let s = g.P.Plant.state c.args.plant.now in
     let d = c.args.device.0 in
     let f = c.args.next.now in
     append-stops s _ d (record_writes 6 (not (slot_of s d)) (record_block f)) (track_writes c.args.carried)
@@ -17,7 +17,7 @@ returns-in_err-put g c =
 
 pub returns : goal.returns
 returns g c =
-    let s = g.P.Plant.state c.args.p.now in
+    let s = g.P.Plant.state c.args.plant.now in
     let d = c.args.device.0 in
     let f = c.args.next.now in
     append-goes s _ d (record_writes 6 (not (slot_of s d)) (record_block f)) (track_writes c.args.carried)

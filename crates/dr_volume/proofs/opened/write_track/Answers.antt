@@ -7,10 +7,10 @@ use Rattle.dr_volume.proofs.opened.write_track.Goals as goal
 
 pub returns-in-Some : goal.returns-in-Some
 returns-in-Some g c =
-    ap (λ (m : Carried). after_writes (g.P.Plant.state c.args.p.now) c.args.device.0 (track_writes m)) c.in-Some.is
-    ∙ one_write (g.P.Plant.state c.args.p.now) _ c.args.device.0 _ _ c.write.result c.write.ensures.state c.write.ensures.done
+    ap (λ (m : Carried). after_writes (g.P.Plant.state c.args.plant.now) c.args.device.0 (track_writes m)) c.in-Some.is
+    ∙ one_write (g.P.Plant.state c.args.plant.now) _ c.args.device.0 _ _ c.write.result c.write.ensures.state c.write.ensures.done
 
 pub returns-in-None : goal.returns-in-None
 returns-in-None g c =
-    ap (λ (m : Carried). after_writes (g.P.Plant.state c.args.p.now) c.args.device.0 (track_writes m)) c.in-None.is
-    ∙ ends (g.P.Plant.state c.args.p.now) c.args.device.0
+    ap (λ (m : Carried). after_writes (g.P.Plant.state c.args.plant.now) c.args.device.0 (track_writes m)) c.in-None.is
+    ∙ ends (g.P.Plant.state c.args.plant.now) c.args.device.0

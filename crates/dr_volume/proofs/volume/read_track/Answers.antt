@@ -12,51 +12,51 @@ use Rattle.dr_volume.proofs.volume.read_track.Goals as goal
 
 pub returns-then-is_staged-clause-bytes : goal.returns-then-is_staged-clause-bytes
 returns-then-is_staged-clause-bytes g c =
-    let s = g.P.Plant.state c.args.p.now in
+    let s = g.P.Plant.state c.args.plant.now in
     let d = c.device_of-device.result.0 in
     let same = c.in_ok-read_choice.ensures.same in
     let begins = c.begin_of-begin.ensures in
     let slot = c.in_ok-read_choice.ensures.slot in
-    let lies = lies-sound c.args.c.now c.args.v.0 d c.device_of-device.ensures.sound c.device_of-device.ensures.place in
+    let lies = lies-sound c.args.config.now c.args.v.0 d c.device_of-device.ensures.sound c.device_of-device.ensures.place in
     let head = c.staged_in.ensures ∙ ap staged_in (c.peek.ensures ∙ looked-head s _ d _ _ same begins slot) in
     c.peek-then-is_staged.ensures
     ∙ looked s _ d 5 _ _ same begins slot
-    ∙ staged-there s c.args.c.now c.args.v.0 d lies.0 c.args.t lies.1 c.requires.within
+    ∙ staged-there s c.args.config.now c.args.v.0 d lies.0 c.args.t lies.1 c.requires.within
     (ap (λ o. is_staged o c.args.t) (sym head) ∙ sym c.is_staged.ensures ∙ c.if-is_staged.true)
 
 pub returns-then-contains-clause-bytes : goal.returns-then-contains-clause-bytes
 returns-then-contains-clause-bytes g c =
-    let s = g.P.Plant.state c.args.p.now in
+    let s = g.P.Plant.state c.args.plant.now in
     let d = c.device_of-device.result.0 in
     let same = c.in_ok-read_choice.ensures.same in
     let begins = c.begin_of-begin.ensures in
     let slot = c.in_ok-read_choice.ensures.slot in
-    let lies = lies-sound c.args.c.now c.args.v.0 d c.device_of-device.ensures.sound c.device_of-device.ensures.place in
+    let lies = lies-sound c.args.config.now c.args.v.0 d c.device_of-device.ensures.sound c.device_of-device.ensures.place in
     let head = c.staged_in.ensures ∙ ap staged_in (c.peek.ensures ∙ looked-head s _ d _ _ same begins slot) in
     let blank = c.first_set.ensures ∙ ap (λ b. of_bytes (take 32 b)) (c.peek-2.ensures ∙ looked s _ d 4 _ _ same begins slot) in
     c.zero_block.ensures
-    ∙ blank-there s c.args.c.now c.args.v.0 d lies.0 c.args.t lies.1 c.requires.within
+    ∙ blank-there s c.args.config.now c.args.v.0 d lies.0 c.args.t lies.1 c.requires.within
     (ap (λ o. is_staged o c.args.t) (sym head) ∙ sym c.is_staged.ensures ∙ c.if-is_staged.false)
     (ap (λ (x : Tracks). contains x c.args.t) (sym blank) ∙ sym c.contains.ensures.found ∙ c.if-contains.true)
 
 pub overflow_add-t : goal.overflow_add-t
 overflow_add-t g c =
-    let low : c.args.t < 256 = track-few (g.P.Plant.state c.args.p.now) c.args.c.now c.args.v.0 c.args.t c.device_of-device.ensures.sound c.requires.defined c.requires.within in
+    let low : c.args.t < 256 = track-few (g.P.Plant.state c.args.plant.now) c.args.config.now c.args.v.0 c.args.t c.device_of-device.ensures.sound c.requires.defined c.requires.within in
     omega arith
 
 pub returns-clause-bytes : goal.returns-clause-bytes
 returns-clause-bytes g c =
-    let s = g.P.Plant.state c.args.p.now in
+    let s = g.P.Plant.state c.args.plant.now in
     let d = c.device_of-device.result.0 in
     let same = c.in_ok-read_choice.ensures.same in
     let begins = c.begin_of-begin.ensures in
     let slot = c.in_ok-read_choice.ensures.slot in
-    let lies = lies-sound c.args.c.now c.args.v.0 d c.device_of-device.ensures.sound c.device_of-device.ensures.place in
+    let lies = lies-sound c.args.config.now c.args.v.0 d c.device_of-device.ensures.sound c.device_of-device.ensures.place in
     let head = c.staged_in.ensures ∙ ap staged_in (c.peek.ensures ∙ looked-head s _ d _ _ same begins slot) in
     let blank = c.first_set.ensures ∙ ap (λ b. of_bytes (take 32 b)) (c.peek-2.ensures ∙ looked s _ d 4 _ _ same begins slot) in
-    let own : (g.P.Plant.state c.read_choice.new.p).block d (13 + c.args.t) ≡ track_seen s c.args.c.now c.args.v.0 c.args.t =
+    let own : (g.P.Plant.state c.read_choice.new.plant).block d (13 + c.args.t) ≡ track_seen s c.args.config.now c.args.v.0 c.args.t =
     ap (λ (u : PlantState). u.block d (13 + c.args.t)) same
-    ∙ own-there s c.args.c.now c.args.v.0 d lies.0 c.args.t lies.1 c.requires.within
+    ∙ own-there s c.args.config.now c.args.v.0 d lies.0 c.args.t lies.1 c.requires.within
     (ap (λ o. is_staged o c.args.t) (sym head) ∙ sym c.is_staged.ensures ∙ c.if-is_staged.false)
     (ap (λ (x : Tracks). contains x c.args.t) (sym blank) ∙ sym c.contains.ensures.found ∙ c.if-contains.false) in
     subst (λ x. OnOk c.read.result (c.read.new.into ≡ x)) own c.read.ensures.bytes

@@ -1,7 +1,7 @@
 use Rattle.std.proofs.Common.{◌≡◌, ℕ, ◌<◌, ◌≤◌, [], ◌∷◌, ◌++◌, length, None, sym, ◌∙◌, ap, subst, rules, arith}
 use Rattle.dr_config.specs.declared.entries.VolumeEntry.{VolumeEntry}
 use Rattle.dr_config.specs.Table.{ConfigTable, StandsFor}
-use Rattle.dr_config.specs.Kept.{table_of, IsKept}
+use Rattle.dr_config.specs.Kept.{table_of, IsKeptTable}
 use Rattle.dr_config.specs.Rules.{volume_refusal, with_volume}
 use Rattle.dr_plant.specs.State.{with_device}
 use Rattle.dr_config.proofs.Sound.{no-volume-refusal}
@@ -19,7 +19,7 @@ invariant_of-self-2 g c =
     no-volume-refusal t c.args.self.now c.args.id.0 c.args.server.0 c.args.tracks c.volume_refusal.result c.self.view_is c.volume_refusal.ensures none in
     let Low : ConfigTable → Type 0 = λ x. c.args.server.0 < length x.names in
     let grown : c.add_entry.new.volumes.entries ≡ c.self.inside.volumes.entries ++ (e.id, e) ∷ [] = c.add_entry.ensures ∙ ap (λ (es : Entries). es ++ (e.id, e) ∷ []) c.reserve.ensures.entries in
-    subst (λ (es : Entries). IsKept c.self.inside.servers.keys es c.self.inside.down c.self.inside.paths.entries) (sym grown)
+    subst (λ (es : Entries). IsKeptTable c.self.inside.servers.keys es c.self.inside.down c.self.inside.paths.entries) (sym grown)
     (kept-volume c.self.inside.servers.keys c.self.inside.volumes.entries c.self.inside.down c.self.inside.paths.entries e (subst Low (sym c.self.view_is) c.requires.defined) ok c.self.invariant)
 
 pub returns-clause-stands : goal.returns-clause-stands
@@ -34,6 +34,6 @@ returns-clause-stands g c =
     let low : c.args.server.0 < length t.names = subst Low (sym same) c.requires.defined in
     let few : length t.names ≤ 8 = c.self.invariant.sound.few_servers in
     let below : c.args.server.0 < 8 = omega arith in
-    let stood : StandsFor t (g.P.Plant.state c.args.p.now) = subst (λ (x : ConfigTable). StandsFor x (g.P.Plant.state c.args.p.now)) (sym same) c.requires.stands in
-    let sized = subst (λ (n : ℕ). StandsFor (with_volume t e.id e.server e.tracks) (with_device (g.P.Plant.state c.args.p.now) c.args.server.0 n)) (sym c.blocks_of.ensures) (stands-with_volume t (g.P.Plant.state c.args.p.now) c.args.id.0 c.args.server.0 c.args.tracks below stood) in
+    let stood : StandsFor t (g.P.Plant.state c.args.plant.now) = subst (λ (x : ConfigTable). StandsFor x (g.P.Plant.state c.args.plant.now)) (sym same) c.requires.stands in
+    let sized = subst (λ (n : ℕ). StandsFor (with_volume t e.id e.server e.tracks) (with_device (g.P.Plant.state c.args.plant.now) c.args.server.0 n)) (sym c.blocks_of.ensures) (stands-with_volume t (g.P.Plant.state c.args.plant.now) c.args.id.0 c.args.server.0 c.args.tracks below stood) in
     subst (λ (x : ConfigTable). StandsFor x (g.P.Plant.state c.add_device.new.self)) (sym table) (rw c.in-Ok-add_device.ensures.added sized)

@@ -2,7 +2,7 @@ use Rattle.std.proofs.Common.{◌≡◌, ◌<◌, ◌≤◌, Bool, List, cond, n
 use Rattle.dr_ids.specs.Links.{joins}
 use Rattle.dr_config.specs.Links.{is_down, set_between}
 use Rattle.dr_config.specs.Table.{ConfigTable, link_up}
-use Rattle.dr_config.specs.Kept.{table_of, IsKept}
+use Rattle.dr_config.specs.Kept.{table_of, IsKeptTable}
 use Rattle.dr_config.proofs.LinkLaws.{link_up-with_link}
 use Rattle.dr_config.proofs.KeptLaws.{kept-link}
 use Rattle.dr_config.proofs.config.Config.set_link.Goals as goal
@@ -14,7 +14,7 @@ invariant_of-self c =
     let First : ConfigTable → Type 0 = λ x. c.args.a.0 < length x.names in
     let Second : ConfigTable → Type 0 = λ x. c.args.b.0 < length x.names in
     let rows : c.set_between.new.rows ≡ set_between c.self.inside.down c.args.a.0 c.args.b.0 (not c.args.up) = rw (← c.from.ensures, ← c.from-2.ensures) c.set_between.ensures in
-    subst (λ (rs : List (List Bool)). IsKept c.self.inside.servers.keys c.self.inside.volumes.entries rs c.self.inside.paths.entries) (sym rows)
+    subst (λ (rs : List (List Bool)). IsKeptTable c.self.inside.servers.keys c.self.inside.volumes.entries rs c.self.inside.paths.entries) (sym rows)
     (kept-link c.self.inside.servers.keys c.self.inside.volumes.entries c.self.inside.down c.self.inside.paths.entries c.args.a.0 c.args.b.0 c.args.up (subst First (sym same) c.requires.first) (subst Second (sym same) c.requires.second) c.if-a-b.false c.self.invariant)
 
 pub returns-clause-links : goal.returns-clause-links

@@ -1,6 +1,6 @@
 use Rattle.std.proofs.Common.{◌≡◌, length, sym, ◌∙◌, ap, arith}
 use Rattle.dr_model.specs.Sessions as model
-use Rattle.dr_session.specs.Kept.{Kept, SessionTable}
+use Rattle.dr_session.specs.Kept.{KeptSession, SessionTable}
 use Rattle.dr_session.proofs.PlaceLemmas.{first_by, first_by-none, first_by-more, first_by-all, length-sessions, length-set_value_at, room-at, stays-keyed}
 use Rattle.dr_session.proofs.table.Sessions.lose_server.Goals as goal
 
@@ -23,12 +23,12 @@ loop-i-preserved c =
     let v = c.index_mut.result.now in
     let w = c.lose.new.self in
     let so_far = c.loop-i.invariant in
-    let sessions = first_by-more f c.loop-i.i es t.sessions v w (ap (λ (u : SessionTable). u.sessions) so_far.table) c.index_mut.ensures.value (ap (λ (k : Kept). k.session) c.lose.ensures) in
-    let room = room-at c.loop-i.i es v w c.index_mut.ensures.value (ap (λ (k : Kept). k.room) c.lose.ensures) ∙ ap (λ (u : SessionTable). u.room) so_far.table in
+    let sessions = first_by-more f c.loop-i.i es t.sessions v w (ap (λ (u : SessionTable). u.sessions) so_far.table) c.index_mut.ensures.value (ap (λ (k : KeptSession). k.session) c.lose.ensures) in
+    let room = room-at c.loop-i.i es v w c.index_mut.ensures.value (ap (λ (k : KeptSession). k.room) c.lose.ensures) ∙ ap (λ (u : SessionTable). u.room) so_far.table in
     record {
       long = length-set_value_at es c.loop-i.i w ∙ so_far.long;
       all = so_far.all;
-      keyed = stays-keyed es c.loop-i.i v w so_far.keyed c.index_mut.ensures.value (ap (λ (k : Kept). k.session.number) c.lose.ensures);
+      keyed = stays-keyed es c.loop-i.i v w so_far.keyed c.index_mut.ensures.value (ap (λ (k : KeptSession). k.session.number) c.lose.ensures);
       table = λ i. record { sessions = sessions i; room = room i };
     }
 

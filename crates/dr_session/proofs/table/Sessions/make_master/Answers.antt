@@ -1,12 +1,12 @@
 use Rattle.std.proofs.Common.{ap}
 use Rattle.dr_model.specs.Sessions as model
 use Rattle.dr_model.specs.Sessions.{Session, mirror_in}
-use Rattle.dr_session.specs.Kept.{Kept}
+use Rattle.dr_session.specs.Kept.{KeptSession}
 use Rattle.dr_session.proofs.PlaceLemmas.{changed-table, stays-keyed}
 use Rattle.dr_session.proofs.table.Sessions.make_master.Goals as goal
 
 pub invariant_of-self : goal.invariant_of-self
-invariant_of-self c = stays-keyed c.self.inside.table.entries c.in-Some.i c.index_mut.result.now c.make_master.new.self c.self.invariant c.index_mut.ensures.value (ap (λ (k : Kept). k.session.number) c.make_master.ensures)
+invariant_of-self c = stays-keyed c.self.inside.table.entries c.in-Some.i c.index_mut.result.now c.make_master.new.self c.self.invariant c.index_mut.ensures.value (ap (λ (k : KeptSession). k.session.number) c.make_master.ensures)
 
 pub returns-in-Some-clause-made : goal.returns-in-Some-clause-made
 returns-in-Some-clause-made c = changed-table c.self.inside.table.entries c.args.self.now c.args.s.0 c.in-Some.i c.index_mut.result.now c.make_master.new.self (model.mirrored_by c.args.server.0) c.self.view_is c.in-Some.ensures.place c.index_mut.ensures.value c.make_master.ensures

@@ -12,22 +12,22 @@ use Rattle.dr_volume.proofs.opened.Opened.change.Goals as goal
 
 pub rewrite-requires-clause-device : goal.rewrite-requires-clause-device
 rewrite-requires-clause-device g c =
-    let lies = lies-opened c.args.c.now c.args.v.0 c.args.self.now.device.0 c.tell_sound.ensures c.requires.defined c.requires.opened.device in
-    device-lies (g.P.Plant.state c.args.p.now) c.args.c.now c.args.v.0 _ lies.0 lies.1 c.requires.stands
+    let lies = lies-opened c.args.config.now c.args.v.0 c.args.self.now.device.0 c.tell_sound.ensures c.requires.defined c.requires.opened.device in
+    device-lies (g.P.Plant.state c.args.plant.now) c.args.config.now c.args.v.0 _ lies.0 lies.1 c.requires.stands
 
 pub rewrite-requires-clause-chosen : goal.rewrite-requires-clause-chosen
-rewrite-requires-clause-chosen g c = ap (slot_of (g.P.Plant.state c.args.p.now)) c.requires.opened.device ∙ c.requires.opened.slot
+rewrite-requires-clause-chosen g c = ap (slot_of (g.P.Plant.state c.args.plant.now)) c.requires.opened.device ∙ c.requires.opened.slot
 
 pub rewrite-requires-clause-track : goal.rewrite-requires-clause-track
 rewrite-requires-clause-track g c =
-    let lies = lies-opened c.args.c.now c.args.v.0 c.args.self.now.device.0 c.tell_sound.ensures c.requires.defined c.requires.opened.device in
-    room-lies (g.P.Plant.state c.args.p.now) c.args.c.now c.args.v.0 _ lies.0 c.args.staged lies.1 c.requires.stands c.requires.within
+    let lies = lies-opened c.args.config.now c.args.v.0 c.args.self.now.device.0 c.tell_sound.ensures c.requires.defined c.requires.opened.device in
+    room-lies (g.P.Plant.state c.args.plant.now) c.args.config.now c.args.v.0 _ lies.0 c.args.staged lies.1 c.requires.stands c.requires.within
 
 pub returns : goal.returns
 returns g c =
-    let s = g.P.Plant.state c.args.p.now in
-    let t = g.P.Plant.state c.rewrite.new.p in
-    let table = c.args.c.now in
+    let s = g.P.Plant.state c.args.plant.now in
+    let t = g.P.Plant.state c.rewrite.new.plant in
+    let table = c.args.config.now in
     let v = c.args.v.0 in
     let d = c.args.self.now.device.0 in
     let f = c.args.next.now in

@@ -6,30 +6,30 @@ use Rattle.dr_volume.proofs.opened.Opened.read_track.Goals as goal
 
 pub returns-then-is_staged-clause-bytes : goal.returns-then-is_staged-clause-bytes
 returns-then-is_staged-clause-bytes g c =
-    track-staged (g.P.Plant.state c.args.p.now) c.args.c.now c.args.v.0 c.args.t c.args.self.now.fields c.requires.defined c.requires.within c.requires.opened.shows
+    track-staged (g.P.Plant.state c.args.plant.now) c.args.config.now c.args.v.0 c.args.t c.args.self.now.fields c.requires.defined c.requires.within c.requires.opened.shows
     (sym c.is_staged.ensures ∙ c.if-is_staged.true)
 
 pub returns-then-contains-clause-bytes : goal.returns-then-contains-clause-bytes
 returns-then-contains-clause-bytes g c =
-    c.zero_block.ensures ∙ track-blank (g.P.Plant.state c.args.p.now) c.args.c.now c.args.v.0 c.args.t c.args.self.now.fields c.requires.defined c.requires.within c.requires.opened.shows
+    c.zero_block.ensures ∙ track-blank (g.P.Plant.state c.args.plant.now) c.args.config.now c.args.v.0 c.args.t c.args.self.now.fields c.requires.defined c.requires.within c.requires.opened.shows
     (sym c.is_staged.ensures ∙ c.if-is_staged.false)
     (sym c.contains.ensures.found ∙ c.if-contains.true)
 
 pub overflow_add-t : goal.overflow_add-t
 overflow_add-t g c =
-    let low : c.args.t < 256 = track-few (g.P.Plant.state c.args.p.now) c.args.c.now c.args.v.0 c.args.t c.tell_sound.ensures c.requires.defined c.requires.within in
+    let low : c.args.t < 256 = track-few (g.P.Plant.state c.args.plant.now) c.args.config.now c.args.v.0 c.args.t c.tell_sound.ensures c.requires.defined c.requires.within in
     omega arith
 
 pub read-requires : goal.read-requires
-read-requires g c = own-block (g.P.Plant.state c.args.p.now) c.args.c.now c.args.v.0 c.args.self.now.device.0 c.args.t c.requires.defined c.requires.stands c.requires.opened.device c.requires.within
+read-requires g c = own-block (g.P.Plant.state c.args.plant.now) c.args.config.now c.args.v.0 c.args.self.now.device.0 c.args.t c.requires.defined c.requires.stands c.requires.opened.device c.requires.within
 
 pub returns-clause-bytes : goal.returns-clause-bytes
 returns-clause-bytes g c =
-    let s = g.P.Plant.state c.args.p.now in
-    let at = placed c.args.c.now c.args.v.0 c.requires.defined in
-    let own : s.block c.args.self.now.device.0 (13 + c.args.t) ≡ track_seen s c.args.c.now c.args.v.0 c.args.t =
-    ap (λ d. s.block d (13 + c.args.t)) (c.requires.opened.device ∙ device-placed c.args.c.now c.args.v.0 at.0 at.2)
-    ∙ track-not_staged s c.args.c.now c.args.v.0 at.0 c.args.t at.1 c.args.self.now.fields false at.2 at.3 c.requires.within c.requires.opened.shows
+    let s = g.P.Plant.state c.args.plant.now in
+    let at = placed c.args.config.now c.args.v.0 c.requires.defined in
+    let own : s.block c.args.self.now.device.0 (13 + c.args.t) ≡ track_seen s c.args.config.now c.args.v.0 c.args.t =
+    ap (λ d. s.block d (13 + c.args.t)) (c.requires.opened.device ∙ device-placed c.args.config.now c.args.v.0 at.0 at.2)
+    ∙ track-not_staged s c.args.config.now c.args.v.0 at.0 c.args.t at.1 c.args.self.now.fields false at.2 at.3 c.requires.within c.requires.opened.shows
     (sym c.is_staged.ensures ∙ c.if-is_staged.false)
     (sym c.contains.ensures.found ∙ c.if-contains.false) in
     subst (λ x. OnOk c.read.result (c.read.new.into ≡ x)) own c.read.ensures.bytes

@@ -1,0 +1,82 @@
+use Rattle.std.proofs.Common.{arith, length, ap, refl, sym, subst, ◌∙◌, ◌⊎◌, None}
+use Rattle.dr_model.specs.Layout.{Fields}
+use Rattle.dr_model.specs.Lawful.{IsLawful}
+use Rattle.dr_model.specs.Moves.{Yield}
+use Rattle.dr_model.specs.Pairs.{yielded}
+use Rattle.dr_facts.proofs.Lawful.{lawful-yielded}
+use Rattle.dr_volume.specs.Plain.{plain}
+use Rattle.dr_volume.specs.Update.{IsAsBefore, IsMoved}
+use Rattle.dr_volume.specs.View.{volume_seen}
+use Rattle.dr_flash.specs.Here.{world_seen, armed_in, refusal_of}
+use Rattle.dr_flash.specs.Told.{events_of}
+use Rattle.dr_flash.specs.declared.told.Telling.{Telling}
+use Rattle.dr_flash.proofs.ReadLemmas.{on-running}
+use Rattle.dr_flash.proofs.TurnLemmas.{Tells, advances, halts, ok-along, err-along}
+use Rattle.dr_flash.proofs.MoveLemmas.{MoveFits}
+use Rattle.dr_gcopy.proofs.PairLemmas.{pair-fits}
+use Rattle.dr_failover.proofs.TurnedLemmas.{tells-yield}
+use Rattle.dr_failover.proofs.moves.yield_to.Goals as goal
+
+pub shift-requires-clause-lawful : goal.shift-requires-clause-lawful
+shift-requires-clause-lawful g c =
+    let s = g.P.Plant.state c.args.plant.now in
+    let t = c.args.config.now in
+    let x = volume_seen s t c.args.y.0 in
+    let law = subst (λ (f : Fields). IsLawful x.tracks f) c.peek_fields.ensures.fields c.peek_fields.ensures.lawful in
+    let fits = pair-fits s t c.args.y.0 (yielded c.args.x.0 c.args.kind c.args.state x.fields) c.requires.fit (lawful-yielded x.tracks x.fields law c.args.x.0 c.args.kind c.args.state c.requires.kind) refl refl refl refl in
+    (subst (λ f. MoveFits s t c.args.y.0 f None) (sym (c.yielded-next.ensures ∙ ap (yielded c.args.x.0 c.args.kind c.args.state) c.peek_fields.ensures.fields)) fits).lawful
+
+pub shift-requires-clause-leaves : goal.shift-requires-clause-leaves
+shift-requires-clause-leaves g c =
+    let s = g.P.Plant.state c.args.plant.now in
+    let t = c.args.config.now in
+    let x = volume_seen s t c.args.y.0 in
+    let law = subst (λ (f : Fields). IsLawful x.tracks f) c.peek_fields.ensures.fields c.peek_fields.ensures.lawful in
+    let fits = pair-fits s t c.args.y.0 (yielded c.args.x.0 c.args.kind c.args.state x.fields) c.requires.fit (lawful-yielded x.tracks x.fields law c.args.x.0 c.args.kind c.args.state c.requires.kind) refl refl refl refl in
+    (subst (λ f. MoveFits s t c.args.y.0 f None) (sym (c.yielded-next.ensures ∙ ap (yielded c.args.x.0 c.args.kind c.args.state) c.peek_fields.ensures.fields)) fits).leaves
+
+pub shift-requires-clause-covers : goal.shift-requires-clause-covers
+shift-requires-clause-covers g c =
+    let s = g.P.Plant.state c.args.plant.now in
+    let t = c.args.config.now in
+    let x = volume_seen s t c.args.y.0 in
+    let law = subst (λ (f : Fields). IsLawful x.tracks f) c.peek_fields.ensures.fields c.peek_fields.ensures.lawful in
+    let fits = pair-fits s t c.args.y.0 (yielded c.args.x.0 c.args.kind c.args.state x.fields) c.requires.fit (lawful-yielded x.tracks x.fields law c.args.x.0 c.args.kind c.args.state c.requires.kind) refl refl refl refl in
+    (subst (λ f. MoveFits s t c.args.y.0 f None) (sym (c.yielded-next.ensures ∙ ap (yielded c.args.x.0 c.args.kind c.args.state) c.peek_fields.ensures.fields)) fits).covers
+
+pub returns-clause-advances : goal.returns-clause-advances
+returns-clause-advances g c =
+    let s = g.P.Plant.state c.args.plant.now in
+    let t = c.args.config.now in
+    let x = volume_seen s t c.args.y.0 in
+    ok-along c.shift.result c.shift.ensures.done (λ done r.
+    advances (world_seen s t r c.args.journal.now.events) (Yield c.args.y.0 c.args.x.0 c.args.kind c.args.state) c.of.result (plain c.yielded-next.result) None (on-running s x.server c.requires.running)
+    (subst (λ y. Tells (Yield c.args.y.0 c.args.x.0 c.args.kind c.args.state) x y) (sym c.of.ensures) (tells-yield c.args.y.0 c.args.x.0 c.args.kind c.args.state x)) (sym (c.yielded-next.ensures ∙ ap (yielded c.args.x.0 c.args.kind c.args.state) c.peek_fields.ensures.fields)) refl (world_seen (g.P.Plant.state c.shift.new.plant) t r c.shift.new.journal.events) (done r))
+
+pub returns-clause-halts : goal.returns-clause-halts
+returns-clause-halts g c =
+    let s = g.P.Plant.state c.args.plant.now in
+    let t = c.args.config.now in
+    let x = volume_seen s t c.args.y.0 in
+    err-along c.shift.result c.shift.ensures.failed c.shift.ensures.refused (λ failed refused r.
+    halts (world_seen s t r c.args.journal.now.events) (Yield c.args.y.0 c.args.x.0 c.args.kind c.args.state) c.of.result (plain c.yielded-next.result) None (on-running s x.server c.requires.running)
+    (subst (λ y. Tells (Yield c.args.y.0 c.args.x.0 c.args.kind c.args.state) x y) (sym c.of.ensures) (tells-yield c.args.y.0 c.args.x.0 c.args.kind c.args.state x)) (sym (c.yielded-next.ensures ∙ ap (yielded c.args.x.0 c.args.kind c.args.state) c.peek_fields.ensures.fields)) refl (armed_in s) (world_seen (g.P.Plant.state c.shift.new.plant) t r c.shift.new.journal.events) (refusal_of c.shift.result) refused (failed r))
+
+pub returns-clause-room_left : goal.returns-clause-room_left
+returns-clause-room_left g c =
+    let told = ap (λ (y : Telling). length (events_of y.done)) c.of.ensures in
+    ok-along c.shift.result c.shift.ensures.room_left (λ left. omega (arith, left, told))
+
+pub returns-clause-moved : goal.returns-clause-moved
+returns-clause-moved g c =
+    let s = g.P.Plant.state c.args.plant.now in
+    let u = g.P.Plant.state c.shift.new.plant in
+    let t = c.args.config.now in
+    ok-along c.shift.result c.shift.ensures.moved (λ is. subst (λ f. IsMoved s u t c.args.y.0 f None) (c.yielded-next.ensures ∙ ap (yielded c.args.x.0 c.args.kind c.args.state) c.peek_fields.ensures.fields) is)
+
+pub returns-clause-old_or_new : goal.returns-clause-old_or_new
+returns-clause-old_or_new g c =
+    let s = g.P.Plant.state c.args.plant.now in
+    let u = g.P.Plant.state c.shift.new.plant in
+    let t = c.args.config.now in
+    subst (λ f. IsAsBefore s u t c.args.y.0 ⊎ IsMoved s u t c.args.y.0 f None) (c.yielded-next.ensures ∙ ap (yielded c.args.x.0 c.args.kind c.args.state) c.peek_fields.ensures.fields) c.shift.ensures.old_or_new

@@ -1,0 +1,150 @@
+-- A drain of all tracks that ends well leaves nothing out of sync, also where its pair is Full Duplex then.
+use Rattle.std.proofs.Common.{ℕ, ◌≡◌, inl, inr, refl, ap, sym, ◌∙◌, subst, true, false, cond, not, ◌&&◌, List, [], ◌∷◌, map, Option, Some, None}
+use Rattle.std.specs.Prelude.{is_some}
+use Rattle.std.specs.Option.{option_or}
+use Rattle.std.specs.FinSet.{contains, remove}
+use Rattle.dr_ids.specs.declared.refusal.Refusal.{Refusal}
+use Rattle.dr_ids.specs.declared.refusal.Kind.TheVariants.{Path as OfPath}
+use Rattle.dr_model.specs.Refusals.{unknown, server_off}
+use Rattle.dr_model.specs.Layout.{Fields}
+use Rattle.dr_model.specs.Relations.{in_order}
+use Rattle.dr_model.specs.Pairs.{is_secondary_of, is_last}
+use Rattle.dr_model.specs.Control.{Control, Fuse, Volume, World}
+use Rattle.dr_model.specs.Moves.{Move, Keep, Note, Store, Strike, Suspend}
+use Rattle.dr_model.specs.Carry.{Act, Make, Pass, Do, Entry, carry}
+use Rattle.dr_model.specs.Entries.{fields_at, is_running, keep_on, keep_if, copies_from, copy_first, pair_state}
+use Rattle.dr_model.specs.PairEntries.{link_down, has_path, reach_refusal, belongs_to, refuse_if, send_refusal, suspend_where, flashed_refusal, store_on, strike_on, send_entries, sends, is_copying}
+use Rattle.dr_model.specs.Plans.{drain_plan, is_defined}
+use Rattle.dr_model.specs.Groups.{In}
+use Rattle.dr_model.specs.Laws.{Sound}
+use Rattle.dr_model.specs.Allowed.{Runs}
+use Rattle.dr_model.proofs.CarryLemmas.{carry-skips}
+use Rattle.dr_facts.proofs.Refusals.{none-both, met}
+use Rattle.dr_facts.proofs.Sets.{not_removed}
+use Rattle.dr_facts.proofs.Tables.{at_part}
+use Rattle.dr_model.proofs.LawfulLemmas.{removed}
+use Rattle.dr_laws_sound.specs.Turning.{Leaves}
+use Rattle.dr_laws_sound.proofs.Turns.{done, after_act}
+use Rattle.dr_laws_sound.proofs.FitsFlash.{as_begun, sound-begun}
+use Rattle.dr_laws_sound.proofs.FitsPairs.{row, runs-done, part-same}
+use Rattle.dr_laws_sound.proofs.FitsDrain.{along-drain}
+use Rattle.dr_laws_sound.proofs.CopyFirst.{unturned}
+use Rattle.dr_laws_sound.proofs.Turned.{passed-check, passed-refuse, move-led, nothing-left, sound-led, pair-equal}
+use Rattle.dr_laws_recovery.proofs.Went.{AllFine, fine-none, fine-then, fine-choice, carry-keeps, Split, carry-split}
+use Rattle.dr_laws_recovery.specs.Emptied.{IsEmptied, EqualAfter}
+use Rattle.dr_laws_recovery.proofs.Drained.{in-in_order}
+use Rattle.dr_logic.proofs.Truth.{false_true}
+use Rattle.dr_logic.proofs.Options.{none_some}
+use Rattle.dr_logic.proofs.Tables.{at_same}
+
+-- moves that leave what is out of sync
+abbrev Stays : Move → Type 0
+Stays (Keep v t) = Unit {0}
+Stays (Note v t) = Unit {0}
+Stays (Store v t u last) = Unit {0}
+Stays m = ⊥
+
+abbrev Ok : Control → Act → Type 0
+Ok k (Make m) = Stays m
+Ok k a = ⊥
+
+module _ (a b : ℕ) where
+  -- the server of a is on, and what is out of sync there is one of these tracks
+  record Leaving (ts : List ℕ) (w : World) : Type 0 where
+    runs : Runs w a
+    rest : (q : ℕ) → contains (fields_at w.control a).out_of_sync q ≡ true → In q ts
+
+  same-out : (w : World) (m : Move) (f : Option Fuse) → Stays m → (fields_at (done w m f).control a).out_of_sync ≡ (fields_at w.control a).out_of_sync
+  same-out w (Keep v t) f is = part-same w (Keep v t) f (λ (g : Fields). g.out_of_sync) refl a
+  same-out w (Note v t) f is = part-same w (Note v t) f (λ (g : Fields). g.out_of_sync) refl a
+  same-out w (Store v t u last) f is = part-same w (Store v t u last) f (λ (g : Fields). g.out_of_sync) refl a
+  same-out w m f is = absurd is
+
+  leaving-act : (ts : List ℕ) (w : World) (x : Act) (f : Option Fuse) → Ok w.control x → Leaving ts w → Leaving ts (after_act w x f)
+  leaving-act ts w (Make m) f is old = record { runs = runs-done w m f a old.runs; rest = λ q h. old.rest q (sym (ap (λ s. contains s q) (same-out w m f is)) ∙ h) }
+  leaving-act ts w x f is old = absurd is
+
+  -- what keeps the secondary's targets, and stores the track
+  keeps-fine : (t : ℕ) (us : List ℕ) → AllFine Ok (map (keep_on b t) us)
+  keeps-fine t [] = fine-none Ok
+  keeps-fine t (u ∷ us) = fine-then Ok (keep_on b t u) _ (λ k. let f : Fields = fields_at k u in
+      fine-choice Ok k (copies_from b f && not f.reversing) (keep_if f u t) Pass
+      (fine-choice Ok k (not (contains f.own t)) (Do (Make (Keep u t))) _ tt (fine-choice Ok k (f.recorded && not (contains f.source_changes t)) (Do (Make (Note u t))) Pass tt tt)) tt)
+      (keeps-fine t us)
+
+  -- a suspension leaves why a track can't be sent, so the plan ends behind it
+  module _ (w : World) (f : Option Fuse) where
+    abbrev m : Move
+    m = Suspend a false
+
+    abbrev k : Control
+    k = (done w m f).control
+
+    reach-by : ℕ → ℕ → Option Refusal
+    reach-by p q =
+        cond (not (has_path a b w.control)) (Some (unknown OfPath)) (cond (not (w.control.on q)) (Some (server_off q)) (cond (not (w.control.link p q)) (Some (link_down p q)) None))
+
+    still-reach : reach_refusal a b k ≡ reach_refusal a b w.control
+    unfolding reach-by
+    still-reach = λ i. reach-by (at_part (λ (y : Volume). y.server) w.control.volume a (row w m f) refl a i) (at_part (λ (y : Volume). y.server) w.control.volume a (row w m f) refl b i)
+
+    still-sends : send_refusal a b k ≡ None → send_refusal a b w.control ≡ None
+    still-sends h =
+        let parts = none-both (reach_refusal a b k) _ h in
+        let belongs : belongs_to a b w.control ≡ true = sym (part-same w m f (is_secondary_of a) refl b) ∙ met (belongs_to a b k) (pair_state k b) parts.1 in
+        ap (λ o. option_or o (cond (belongs_to a b w.control) None (Some (pair_state w.control b)))) (sym still-reach ∙ parts.0)
+        ∙ ap (λ c. cond c None (Some (pair_state w.control b))) belongs
+
+  passed-sends : (w v : World) (ds : List Entry) → Runs w a → carry w (suspend_where (send_refusal a b) a ∷ refuse_if (send_refusal a b) ∷ ds) ≡ (v, None) → carry w ds ≡ (v, None)
+  passed-sends w v ds on leads = by (send_refusal a b w.control) refl
+    where
+      d : Entry
+      d = suspend_where (send_refusal a b) a
+
+      by : (o : Option Refusal) → send_refusal a b w.control ≡ o → carry w ds ≡ (v, None)
+      by None is = (passed-refuse w v (send_refusal a b) ds (sym (carry-skips w d (refuse_if (send_refusal a b) ∷ ds) (ap (λ o. cond (is_some o) (Do (Make (Suspend a false))) Pass) is)) ∙ leads)).1
+      by (Some r) is =
+          let led = move-led w v d (Suspend a false) (refuse_if (send_refusal a b) ∷ ds) (ap (λ o. cond (is_some o) (Do (Make (Suspend a false))) Pass) is) on leads in
+          none_some (still-sends w led.fuse (passed-refuse (done w (Suspend a false) led.fuse) v (send_refusal a b) ds led.leads).0) is
+
+  -- a track is struck off
+  struck-left : (t : ℕ) (ts : List ℕ) (w v : World) → carry w (strike_on a t ∷ []) ≡ (v, None) → Leaving (t ∷ ts) w → Leaving ts v
+  struck-left t ts w v leads old =
+      let n : Move = Strike a t (is_last (fields_at w.control a) t) in
+      let led = move-led w v (strike_on a t) n [] refl old.runs leads in
+      subst (Leaving ts) (nothing-left _ v led.leads) (record { runs = runs-done w n led.fuse a old.runs; rest = λ q h. by q (sym (ap (λ (y : Volume). contains y.fields.out_of_sync q) (at_same w.control.volume a (row w n led.fuse))) ∙ h) })
+    where
+      by : (q : ℕ) → contains (remove (fields_at w.control a).out_of_sync t) q ≡ true → In q ts
+      by q h = one (old.rest q (removed (fields_at w.control a).out_of_sync t q h))
+        where
+          one : In q (t ∷ ts) → In q ts
+          one (inl is) = false_true (ap (contains (remove (fields_at w.control a).out_of_sync t)) is ∙ not_removed (fields_at w.control a).out_of_sync t) h
+          one (inr there) = there
+
+  sent-left : (volumes : List ℕ) (ts : List ℕ) (w v : World) → carry w (sends volumes a b ts) ≡ (v, None) → Leaving ts w → Leaving [] v
+  sent-left volumes [] w v leads old = subst (Leaving []) (nothing-left w v leads) old
+  sent-left volumes (t ∷ ts) w v leads old =
+      let one : Split w v (send_entries volumes a b t) (sends volumes a b ts) = carry-split w v (send_entries volumes a b t) (sends volumes a b ts) leads in
+      let free = (passed-refuse w one.middle (flashed_refusal b) _ (passed-sends w one.middle _ old.runs one.first)).1 in
+      let two : Split w one.middle (copy_first volumes b t) (store_on a b t ∷ strike_on a t ∷ []) = carry-split w one.middle (copy_first volumes b t) (store_on a b t ∷ strike_on a t ∷ []) free in
+      let three : Split two.middle one.middle (store_on a b t ∷ []) (strike_on a t ∷ []) = carry-split two.middle one.middle (store_on a b t ∷ []) (strike_on a t ∷ []) two.rest in
+      let kept = carry-keeps Ok (Leaving (t ∷ ts)) (leaving-act (t ∷ ts)) w two.middle (copy_first volumes b t) (keeps-fine t volumes) two.first old in
+      let stored = carry-keeps Ok (Leaving (t ∷ ts)) (leaving-act (t ∷ ts)) two.middle three.middle (store_on a b t ∷ []) (fine-then Ok (store_on a b t) [] (λ k. tt) (fine-none Ok)) three.first kept in
+      sent-left volumes ts one.middle v one.rest (struck-left t ts three.middle one.middle three.rest stored)
+
+module _ (w : World) (s : Sound w) (a : ℕ) where
+  pub drain-empties : Leaves (λ u. IsEmptied u a) w (drain_plan w.control a None)
+  drain-empties u leads t =
+      let first : World = as_begun w in
+      let there = passed-check first u (is_defined a) _ _ leads in
+      let on = passed-check first u (is_running a) _ _ there.1 in
+      let copying = passed-check first u (is_copying a) _ _ on.1 in
+      let ts : List ℕ = in_order (w.control.volume a).tracks (fields_at w.control a).out_of_sync in
+      let left = sent-left a (fields_at w.control a).primary_partner w.control.volumes ts first u copying.1
+      (record { runs = on.0; rest = λ q h. in-in_order (w.control.volume a).tracks (fields_at w.control a).out_of_sync q ((s.rows.structure.lawful a).sets.out_of_sync_low q h) h }) in
+      unturned (contains (fields_at u.control a).out_of_sync t) (λ h. left.rest t h)
+
+  pub drain-equals : (y : ℕ) → Leaves (λ u. EqualAfter u a y) w (drain_plan w.control a None)
+  drain-equals y u leads idle leads-to follows t lt =
+      let sound : Sound u = sound-led (as_begun w) u (drain_plan w.control a None).entries (sound-begun w s) (along-drain w s a None) leads in
+      pair-equal u sound a y leads-to follows t lt (drain-empties u leads t) ((sound.rows.recorders a).none idle t)

@@ -1,0 +1,40 @@
+//! Laws on the way home, over every script and every stop: where a pair is in place and nothing is left to send, the devices of both sites
+//! contain the same, and a comparison tells what they contain. Its functions do nothing: each names a law by its contract.
+#![tactic(auto)]
+
+ghost use Rattle.std.specs.Prelude.{◌≡◌, ℕ, Bool, List, Option};
+ghost use Rattle.dr_model.specs.Layout.{Blocks};
+ghost use Rattle.dr_model.specs.Control.{World, Fuse};
+ghost use Rattle.dr_model.specs.Fits.{Fits};
+ghost use Rattle.dr_model.specs.Runs.{Task, run};
+ghost use Rattle.dr_laws_recovery.specs.Recovered.{HoldsTracks};
+ghost use Rattle.dr_laws_return.specs.Sites.{SitesAlike};
+ghost use Rattle.dr_laws_return.specs.Compared.{ComparesDevices};
+ghost use Rattle.dr_laws_return.specs.Returned.{Returns, Sends};
+
+/// Where the record on a device says that its volume is a primary, and that on the other device that its volume is the secondary, each track
+/// that the primary's record has neither out of sync nor changed since contains the same on both devices, wherever a run ends. So where it
+/// has nothing out of sync, and nothing changed since, both devices contain the same.
+pub fn sites_are_equal_where_nothing_is_left()
+    ensures { (tasks : List Task) (on : ℕ → Bool) (fuse : ℕ → Option Fuse) (device : ℕ → Blocks) → Fits (run tasks) on fuse device → SitesAlike (run tasks) device }
+{}
+
+/// Where the last step of a run compares two volumes, and is answered ok, each track of both devices contains the same. Where it is answered
+/// that they aren't identical, with a track, that track is the first in which the devices differ.
+pub fn comparisons_are_of_the_devices()
+    ensures { (tasks : List Task) (device : ℕ → Blocks) → HoldsTracks (run tasks) device → ComparesDevices tasks device }
+{}
+
+/// Where the last two steps of a run are a failback of one volume to another and a drain of all its tracks, and both are answered ok, whatever
+/// came before, then by the records on the devices the first volume is the primary of the other, and that one its secondary, of the kind that
+/// the failback named; nothing is recorded or out of sync; a Metro Mirror pair is Full Duplex; and each track of both devices contains the
+/// same, which is what the host writes of the journal make.
+pub fn a_drain_behind_a_failback_brings_home()
+    ensures { (tasks : List Task) (on : ℕ → Bool) (fuse : ℕ → Option Fuse) (device : ℕ → Blocks) → Fits (run tasks) on fuse device → HoldsTracks (run tasks) device → Returns tasks device }
+{}
+
+/// Where the last step of a run is a drain of all tracks of a volume that is answered ok, its record has nothing out of sync. So where it doesn't
+/// record, and by the records on both devices another volume is its secondary, each track of both contains the same, whatever came before.
+pub fn drains_leave_a_pair_in_place_equal()
+    ensures { (tasks : List Task) (on : ℕ → Bool) (fuse : ℕ → Option Fuse) (device : ℕ → Blocks) → Fits (run tasks) on fuse device → Sends tasks device }
+{}

@@ -1,0 +1,168 @@
+//! The steps on the way back: a secondary is taken over, and a pair goes on the other way round.
+
+ghost use Rattle.std.specs.Prelude.{◌≡◌, ℕ, ◌≤◌, true, length};
+ghost use Rattle.dr_model.specs.Laws.{Sound};
+ghost use Rattle.dr_model.specs.Layout as part;
+ghost use Rattle.dr_model.specs.Plans as plans;
+ghost use Rattle.dr_model.specs.Runs.{after_plan, said};
+ghost use Rattle.dr_volume.specs.View.{track_seen};
+ghost use Rattle.dr_steps.specs.Faults.{CountsStop};
+ghost use Rattle.dr_steps.specs.Forms.{is_return};
+ghost use Rattle.dr_steps.specs.Here.{said_of, here, StepLeads, IsReady};
+ghost use Rattle.dr_steps.specs.WellFormed.{FitsDevs, IsWellFormed};
+
+use crate::locate::{found_volumes, undefined_refusal};
+use crate::pairs::kind_of;
+use crate::tables::Tables;
+use dr_config::Config;
+use dr_failover::{compare_volumes, failback, failover};
+use dr_ids::{Refusal, VolumeId};
+use dr_model::{Addition, Devs, Journal, Step};
+use dr_plant::Plant;
+
+/// Takes secondary b of a over: it becomes a Suspended primary of a.
+pub fn fail_over<P: Plant>(
+    plant: &mut P,
+    config: &Config,
+    tables: &Tables,
+    journal: &mut Journal,
+    devs: &Devs,
+    b: VolumeId,
+    a: VolumeId,
+    kind: u8,
+) -> Result<Addition, Refusal>
+    requires ready { IsReady (P.state plant.old) config.now tables.now journal.old.events }
+    requires sound { Sound (here (P.state plant.old) config.now tables.now journal.old.events) }
+    requires short { FitsDevs devs.now }
+    requires kind { part.is_part (part.part_of kind) ≡ true }
+    requires room { 512 ≤ journal.old.spare }
+    ensures step { (line : ℕ) → after_plan (here (P.state plant.old) config.now tables.now journal.old.events) line
+        (plans.failover_plan (here (P.state plant.old) config.now tables.now journal.old.events).control devs.now b.0 a.0 (part.part_of kind))
+        ≡ said (here (P.state plant.new) config.now tables.now journal.new.events) line (said_of result) }
+    ensures faults { CountsStop (said_of result) (P.state plant.old) (P.state plant.new) }
+    ensures ready { IsReady (P.state plant.new) config.now tables.now journal.new.events }
+    ensures room { 1 ≤ journal.new.spare }
+{
+    if let Some(why) = found_volumes(config, devs, b, a) {
+        return Err(why);
+    }
+    match failover(plant, config, journal, b, a, kind_of(kind)) {
+        Ok(()) => Ok(Addition::Alone),
+        Err(refusal) => Err(refusal),
+    }
+}
+
+/// Of two volumes that are primaries of each other x goes on as the primary, and y becomes its secondary. Where a target of y is a
+/// member's, that is refused as its restore would be.
+pub fn fail_back<P: Plant>(
+    plant: &mut P,
+    config: &Config,
+    tables: &Tables,
+    journal: &mut Journal,
+    devs: &Devs,
+    x: VolumeId,
+    y: VolumeId,
+    kind: u8,
+) -> Result<Addition, Refusal>
+    requires ready { IsReady (P.state plant.old) config.now tables.now journal.old.events }
+    requires sound { Sound (here (P.state plant.old) config.now tables.now journal.old.events) }
+    requires short { FitsDevs devs.now }
+    requires kind { part.is_part (part.part_of kind) ≡ true }
+    requires few { length config.now.volumes ≤ 64 }
+    requires room { 512 ≤ journal.old.spare }
+    ensures step { (line : ℕ) → after_plan (here (P.state plant.old) config.now tables.now journal.old.events) line
+        (plans.failback_plan (here (P.state plant.old) config.now tables.now journal.old.events).control devs.now x.0 y.0 (part.part_of kind))
+        ≡ said (here (P.state plant.new) config.now tables.now journal.new.events) line (said_of result) }
+    ensures faults { CountsStop (said_of result) (P.state plant.old) (P.state plant.new) }
+    ensures ready { IsReady (P.state plant.new) config.now tables.now journal.new.events }
+    ensures room { 1 ≤ journal.new.spare }
+{
+    if let Some(why) = found_volumes(config, devs, x, y) {
+        return Err(why);
+    }
+    match failback(
+        plant,
+        config,
+        journal,
+        &tables.sessions,
+        x,
+        y,
+        kind_of(kind),
+    ) {
+        Ok(()) => Ok(Addition::Alone),
+        Err(refusal) => Err(refusal),
+    }
+}
+
+/// Looks whether two volumes contain the same on each track, whatever they show.
+pub fn compare<P: Plant>(
+    plant: &mut P,
+    config: &Config,
+    tables: &Tables,
+    journal: &mut Journal,
+    v: VolumeId,
+    u: VolumeId,
+) -> Result<Addition, Refusal>
+    requires ready { IsReady (P.state plant.old) config.now tables.now journal.old.events }
+    requires sound { Sound (here (P.state plant.old) config.now tables.now journal.old.events) }
+    requires room { 512 ≤ journal.old.spare }
+    ensures step { (line : ℕ) → after_plan (here (P.state plant.old) config.now tables.now journal.old.events) line
+        (plans.compare_plan (here (P.state plant.old) config.now tables.now journal.old.events).control (track_seen (P.state plant.old) config.now) v.0 u.0)
+        ≡ said (here (P.state plant.new) config.now tables.now journal.new.events) line (said_of result) }
+    ensures faults { CountsStop (said_of result) (P.state plant.old) (P.state plant.new) }
+    ensures ready { IsReady (P.state plant.new) config.now tables.now journal.new.events }
+    ensures room { 1 ≤ journal.new.spare }
+{
+    if let Some(why) = undefined_refusal(config, v, u) {
+        return Err(why);
+    }
+    match compare_volumes(plant, config, journal, v, u) {
+        Ok(()) => Ok(Addition::Alone),
+        Err(refusal) => Err(refusal),
+    }
+}
+
+/// Carries out a step that turns a pair round.
+pub fn carry_return<P: Plant>(
+    plant: &mut P,
+    config: &Config,
+    tables: &Tables,
+    journal: &mut Journal,
+    step: &Step,
+) -> Result<Addition, Refusal>
+    requires ready { IsReady (P.state plant.old) config.now tables.now journal.old.events }
+    requires sound { Sound (here (P.state plant.old) config.now tables.now journal.old.events) }
+    requires fits { IsWellFormed step.now }
+    requires few { length config.now.volumes ≤ 64 }
+    requires room { 4096 ≤ journal.old.spare }
+    requires form { is_return step.now ≡ true }
+    ensures step { (line : ℕ) → StepLeads (here (P.state plant.old) config.now tables.now journal.old.events) line step.now
+        (here (P.state plant.new) config.now tables.now journal.new.events) (said_of result) }
+    ensures faults { CountsStop (said_of result) (P.state plant.old) (P.state plant.new) }
+    ensures ready { IsReady (P.state plant.new) config.now tables.now journal.new.events }
+    ensures room { 1 ≤ journal.new.spare }
+{
+    match *step {
+        Step::Failover { devs, b, a, kind } => fail_over(
+            plant,
+            config,
+            tables,
+            journal,
+            &devs,
+            VolumeId(b),
+            VolumeId(a),
+            kind,
+        ),
+        Step::Failback { devs, x, y, kind } => fail_back(
+            plant,
+            config,
+            tables,
+            journal,
+            &devs,
+            VolumeId(x),
+            VolumeId(y),
+            kind,
+        ),
+        _ => Err(Refusal::NotBuilt),
+    }
+}
