@@ -49,11 +49,11 @@ use Rattle.dr_logic.proofs.Truth.{false_true}
 -- ---- steps that weren't refused
 
 -- entries led on, and the step left the volumes and servers that they left
-record Ends (w : World) (ds : List Entry) (u : World) : Type 0 where
-  led : World
-  leads : carry (as_begun w) ds ≡ (led, None)
-  volume : u.control.volume ≡ led.control.volume
-  on : u.control.on ≡ led.control.on
+pub record Ends (w : World) (ds : List Entry) (u : World) : Type 0 where
+  pub led : World
+  pub leads : carry (as_begun w) ds ≡ (led, None)
+  pub volume : u.control.volume ≡ led.control.volume
+  pub on : u.control.on ≡ led.control.on
 
 module _ (w : World) (line : ℕ) (a : Addition) (ds : List Entry) where
   -- where a plan is answered ok, its entries led on
@@ -200,7 +200,7 @@ module _ (x y : ℕ) (kind : Part) where
 
 -- ---- the two steps
 
-drain-goes : (w : World) (t : Task) (x : ℕ) (a : Addition) → t.asked ≡ Ok (Drain x None) → said_in w t ≡ Done a → Ends w (drain_plan w.control x None).entries (after_task w t)
+pub drain-goes : (w : World) (t : Task) (x : ℕ) (a : Addition) → t.asked ≡ Ok (Drain x None) → said_in w t ≡ Done a → Ends w (drain_plan w.control x None).entries (after_task w t)
 drain-goes w t x a asked says =
     let p : Plan = drain_plan w.control x None in
     let is : t ≡ record { line = t.line; asked = Ok (Drain x None) } = λ i. record t { asked = asked i } in

@@ -1,3 +1,4 @@
 pub mod Sites
 pub mod Compared
 pub mod Returned
+pub mod Drains

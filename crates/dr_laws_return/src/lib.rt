@@ -11,6 +11,7 @@ ghost use Rattle.dr_laws_recovery.specs.Recovered.{HoldsTracks};
 ghost use Rattle.dr_laws_return.specs.Sites.{SitesAlike};
 ghost use Rattle.dr_laws_return.specs.Compared.{ComparesDevices};
 ghost use Rattle.dr_laws_return.specs.Returned.{Returns, Sends};
+ghost use Rattle.dr_laws_return.specs.Drains.{DrainsOrStops};
 
 /// Where the record on a device says that its volume is a primary, and that on the other device that its volume is the secondary, each track
 /// that the primary's record has neither out of sync nor changed since contains the same on both devices, wherever a run ends. So where it
@@ -37,4 +38,11 @@ pub fn a_drain_behind_a_failback_brings_home()
 /// record, and by the records on both devices another volume is its secondary, each track of both contains the same, whatever came before.
 pub fn drains_leave_a_pair_in_place_equal()
     ensures { (tasks : List Task) (on : ℕ → Bool) (fuse : ℕ → Option Fuse) (device : ℕ → Blocks) → Fits (run tasks) on fuse device → Sends tasks device }
+{}
+
+/// A drain of all tracks of a volume, a primary in Copy Pending on a running server, with the path there, the link up, and its partner on a running
+/// server, its secondary, and the source of no revertible relationship, is refused only where a server stops on which a fuse was armed. Else it is
+/// answered ok, and then the volume has nothing out of sync. So it is behind any run, where the journal has room for a step.
+pub fn drains_are_refused_for_stops_alone()
+    ensures { (tasks : List Task) → DrainsOrStops tasks }
 {}

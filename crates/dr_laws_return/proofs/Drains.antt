@@ -1,0 +1,274 @@
+-- A drain of all tracks that nothing stands against is refused for a stop alone, of a server on which a fuse was armed.
+use Rattle.std.proofs.Common.{ℕ, ◌≡◌, refl, ap, sym, ◌∙◌, subst, append_assoc, Bool, true, false, cond, not, ◌&&◌, ◌||◌, List, [], ◌∷◌, ◌++◌, map, filter, Option, Some, None, Ok}
+use Rattle.std.specs.Prelude.{is_some}
+use Rattle.std.specs.List.{list_any}
+use Rattle.std.specs.Option.{option_or}
+use Rattle.std.specs.FinSet.{contains}
+use Rattle.std.proofs.lemmas.Bool.{and_parts, eqb-true, false_from_ne_true}
+use Rattle.dr_ids.specs.declared.refusal.Refusal.TheVariants.{Stopped, JournalFull}
+use Rattle.dr_ids.specs.declared.refusal.Kind.TheVariants.{Path as OfPath}
+use Rattle.dr_model.specs.Refusals.{unknown, server_off}
+use Rattle.dr_model.specs.declared.step.Step.TheVariants.{Drain}
+use Rattle.dr_model.specs.Layout.{Fields, no_fields, is_part}
+use Rattle.dr_model.specs.Relations.{parted_if, noted, fetched}
+use Rattle.dr_model.specs.Pairs.{is_secondary_of}
+use Rattle.dr_model.specs.Control.{Control, Fuse, Volume, World}
+use Rattle.dr_model.specs.Moves.{Move, Keep, Note, Store, Strike, Suspend, target, fields_left}
+use Rattle.dr_model.specs.Carry.{Make, Next, Pass, Do, Entry, Outcome, Turn, continue, go, carry, pass, lower, writes, turn}
+use Rattle.dr_model.specs.Entries.{fields_at, is_running, keep_on, keep_if, copies_from, copy_first, stands_in, is_revertible, relation_state, pair_state}
+use Rattle.dr_model.specs.PairEntries.{link_down, has_path, are_linked, belongs_to, refuse_if, end_if, send_refusal, suspend_where, flashed_refusal, store_on, strike_on, sends, is_copying, tracks_to_send}
+use Rattle.dr_model.specs.Plans.{Plan, refuses, is_defined, has_room, drain_plan}
+use Rattle.dr_model.specs.Carried.{finish, answered}
+use Rattle.dr_model.specs.Runs.{Task, run, after_task}
+use Rattle.dr_model.specs.Laws.{Sound}
+use Rattle.dr_model.proofs.CarryLemmas.{act-move, carry-none, carry-first, carry-skips, carry-passed}
+use Rattle.dr_facts.proofs.Tables.{at_cases, at_part}
+use Rattle.dr_laws_sound.specs.Acknowledged.{said_in, part_answer}
+use Rattle.dr_laws_sound.proofs.Turns.{server_at, done, turn-by, turn_by, carried_in}
+use Rattle.dr_laws_sound.proofs.FitsFlash.{as_begun}
+use Rattle.dr_laws_sound.proofs.FitsPairs.{its-first, row, runs-done, part-same}
+use Rattle.dr_laws_sound.proofs.Steps.{sound-run}
+use Rattle.dr_laws_recovery.specs.Emptied.{IsEmptied}
+use Rattle.dr_laws_recovery.proofs.Emptied.{drain-empties}
+use Rattle.dr_laws_return.specs.Drains.{CanDrain, EndsOrStops, DrainsOrStops}
+use Rattle.dr_laws_return.proofs.Returned.{Ends, drain-goes}
+use Rattle.dr_logic.proofs.Truth.{false_true}
+
+-- ---- a server stops where a fuse is armed alone
+
+-- a fuse is armed on server q
+abbrev HasFuse : World → ℕ → Type 0
+HasFuse w q = is_some (w.control.fuse q) ≡ true
+
+lower-some : (n : ℕ) (o : Option Fuse) → is_some (lower n o) ≡ true → is_some o ≡ true
+lower-some n None h = h
+lower-some n (Some f) h = refl
+
+pass-some : (n : ℕ) (o : Option Fuse) → pass o n ≡ false → is_some o ≡ true
+pass-some n None h = absurd cc
+pass-some n (Some f) h = refl
+
+-- one that stops in a move had a fuse, and one that has a fuse behind a move had it before
+turn-by-fuse : (w : World) (m : Move) (P : Turn → Type 0) (on passes counts : Bool) → (passes ≡ false → HasFuse w (server_at w (target m)))
+    → P (w, None)
+    → ((f : Option Fuse) → (is_some f ≡ true → HasFuse w (server_at w (target m))) → P (done w m f, None))
+    → (HasFuse w (server_at w (target m)) → (u : World) → P (u, Some (server_at w (target m))))
+    → P (turn_by w m on passes counts)
+turn-by-fuse w m P false passes counts armed a b c = a
+turn-by-fuse w m P true true counts armed a b c = b _ (lower-some (writes (carried_in w m)) (w.control.fuse (server_at w (target m))))
+turn-by-fuse w m P true false true armed a b c = c (armed refl) _
+turn-by-fuse w m P true false false armed a b c = c (armed refl) _
+
+turn-fuse : (w : World) (m : Move) (P : Turn → Type 0)
+    → P (w, None)
+    → ((f : Option Fuse) → (is_some f ≡ true → HasFuse w (server_at w (target m))) → P (done w m f, None))
+    → (HasFuse w (server_at w (target m)) → (u : World) → P (u, Some (server_at w (target m))))
+    → P (turn w m)
+turn-fuse w m P a b c = subst P (sym (turn-by w m)) (turn-by-fuse w m P _ _ _ (pass-some (writes (carried_in w m)) (w.control.fuse (server_at w (target m)))) a b c)
+
+-- ---- the acts of a send
+
+abbrev Sends : Move → Type 0
+Sends (Keep v t) = Unit {0}
+Sends (Note v t) = Unit {0}
+Sends (Store v t u last) = Unit {0}
+Sends (Strike v t last) = Unit {0}
+Sends m = ⊥
+
+-- an entry that refuses nothing
+abbrev Comes : Next → Type 0
+Comes Pass = Unit {0}
+Comes (Do (Make m)) = Sends m
+Comes n = ⊥
+
+comes-choice : (b : Bool) (m n : Next) → Comes m → Comes n → Comes (cond b m n)
+comes-choice true m n p q = p
+comes-choice false m n p q = q
+
+-- of a record they leave this
+abbrev second_part : Fields → Fields
+second_part f = record no_fields { secondary = f.secondary; secondary_partner = f.secondary_partner }
+
+sends-leave : (w : World) (m : Move) (f : Option Fuse) → Sends m → (v : ℕ) → second_part (fields_at (done w m f).control v) ≡ second_part (fields_at w.control v)
+sends-leave w (Keep u t) f is v = part-same w (Keep u t) f second_part refl v
+sends-leave w (Note u t) f is v = part-same w (Note u t) f second_part refl v
+sends-leave w (Store u t a last) f is v = part-same w (Store u t a last) f second_part refl v
+sends-leave w (Strike u t last) f is v = part-same w (Strike u t last) f second_part refl v
+sends-leave w m f is v = absurd is
+
+-- a relationship may end, and none begins
+plain-parted : (ends : Bool) (f : Fields) → f.related ≡ false → (parted_if ends f).related ≡ false
+plain-parted true f old = refl
+plain-parted false f old = old
+
+plain-left : (m : Move) (u : Volume) → Sends m → u.fields.related ≡ false → (fields_left m u).related ≡ false
+plain-left (Keep v t) u is old = plain-parted _ (noted (fetched u.fields t) t) old
+plain-left (Note v t) u is old = old
+plain-left (Store v t a last) u is old = old
+plain-left (Strike v t last) u is old = old
+plain-left m u is old = absurd is
+
+-- where a volume with these fields is a target of y, it isn't revertible
+abbrev Frees : ℕ → Fields → Type 0
+Frees y f = copies_from y f ≡ true → f.revertible ≡ false
+
+frees-parted : (y : ℕ) (ends : Bool) (f : Fields) → Frees y f → Frees y (parted_if ends f)
+frees-parted y true f old = λ h. refl
+frees-parted y false f old = old
+
+frees-left : (y : ℕ) (m : Move) (u : Volume) → Sends m → Frees y u.fields → Frees y (fields_left m u)
+frees-left y (Keep v t) u is old = frees-parted y _ (noted (fetched u.fields t) t) old
+frees-left y (Note v t) u is old = old
+frees-left y (Store v t a last) u is old = old
+frees-left y (Strike v t last) u is old = old
+frees-left y m u is old = absurd is
+
+-- none of those that pass the first test passes the second
+none-among : (p q : ℕ → Bool) (xs : List ℕ) → ((u : ℕ) → p u ≡ true → q u ≡ false) → list_any q (filter p xs) ≡ false
+none-among p q [] none = refl
+none-among p q (u ∷ us) none = by (p u) refl (none-among p q us none)
+  where
+    by : (b : Bool) → p u ≡ b → list_any q (filter p us) ≡ false → list_any q (cond b (u ∷ filter p us) (filter p us)) ≡ false
+    by true is rest = ap (λ c. c || list_any q (filter p us)) (none u is) ∙ rest
+    by false is rest = rest
+
+module _ (start : World) (x y : ℕ) where
+  -- the secondary is reached and in place, and the source of no revertible relationship; and fuses are armed where they were
+  record Ready (w : World) : Type 0 where
+    path : has_path x y w.control ≡ true
+    other : is_running y w.control ≡ true
+    linked : are_linked x y w.control ≡ true
+    follows : belongs_to x y w.control ≡ true
+    plain : (fields_at w.control y).related ≡ false
+    free : (u : ℕ) → Frees y (fields_at w.control u)
+    armed : (q : ℕ) → HasFuse w q → HasFuse start q
+
+  ready-done : (w : World) (m : Move) (f : Option Fuse) → Sends m → (is_some f ≡ true → HasFuse w (server_at w (target m))) → Ready w → Ready (done w m f)
+  ready-done w m f is fused old =
+      let server : (v : ℕ) → ((done w m f).control.volume v).server ≡ (w.control.volume v).server = at_part (λ (u : Volume). u.server) w.control.volume (target m) (row w m f) refl in
+      record {
+        path = old.path;
+        other = runs-done w m f y old.other;
+        linked = (λ i. w.control.link (server x i) (server y i)) ∙ old.linked;
+        follows = ap (is_secondary_of x) (sends-leave w m f is y) ∙ old.follows;
+        plain = at_cases (λ q (u : Volume). (fields_at w.control q).related ≡ false → u.fields.related ≡ false) w.control.volume (target m) (row w m f) (plain-left m (w.control.volume (target m)) is) (λ q ne h. h) y old.plain;
+        free = at_cases (λ q (u : Volume). Frees y u.fields) w.control.volume (target m) (row w m f) (frees-left y m (w.control.volume (target m)) is (old.free (target m))) (λ q ne. old.free q);
+        armed = at_cases (λ q (o : Option Fuse). is_some o ≡ true → HasFuse start q) w.control.fuse (server_at w (target m)) f (λ h. old.armed _ (fused h)) (λ q ne h. old.armed q h);
+      }
+
+  -- entries that end well, or in the stop of a server on which a fuse was armed
+  abbrev EndsSo : Outcome → Type 0
+  EndsSo (w, None) = Unit {0}
+  EndsSo (w, Some (Stopped q)) = HasFuse start q.0
+  EndsSo (w, Some r) = ⊥
+
+  next-goes : (w : World) (n : Next) (rest : World → Outcome) → Comes n → Ready w → ((u : World) → Ready u → EndsSo (rest u)) → EndsSo (go w n rest)
+  next-goes w Pass rest is old on = on w old
+  next-goes w (Do (Make m)) rest is old on =
+      subst (λ (t : Turn). EndsSo (continue t.0 t.1 rest)) (sym (act-move w m))
+      (turn-fuse w m (λ t. EndsSo (continue t.0 t.1 rest)) (on w old) (λ f fused. on (done w m f) (ready-done w m f is fused old)) (λ armed u. old.armed _ armed))
+  next-goes w n rest is old on = absurd is
+
+  entry-goes : (w : World) (d : Entry) (ds : List Entry) → Comes (d w.control) → Ready w → ((u : World) → Ready u → EndsSo (carry u ds)) → EndsSo (carry w (d ∷ ds))
+  entry-goes w d ds is old on = subst EndsSo (sym (carry-first w d ds (d w.control) refl)) (next-goes w (d w.control) (λ u. carry u ds) is old on)
+
+  -- ---- nothing refuses a send
+
+  none-refuses : (w : World) → Ready w → send_refusal x y w.control ≡ None
+  none-refuses w old =
+      let k : Control = w.control in
+      ap (λ b. option_or (cond (not b) (Some (unknown OfPath)) (cond (not (is_running y k)) (Some (server_off (k.volume y).server)) (cond (not (are_linked x y k)) (Some (link_down (k.volume x).server (k.volume y).server)) None))) (cond (belongs_to x y k) None (Some (pair_state k y)))) old.path
+      ∙ ap (λ b. option_or (cond (not b) (Some (server_off (k.volume y).server)) (cond (not (are_linked x y k)) (Some (link_down (k.volume x).server (k.volume y).server)) None)) (cond (belongs_to x y k) None (Some (pair_state k y)))) old.other
+      ∙ ap (λ b. option_or (cond (not b) (Some (link_down (k.volume x).server (k.volume y).server)) None) (cond (belongs_to x y k) None (Some (pair_state k y)))) old.linked
+      ∙ ap (λ b. cond b None (Some (pair_state k y))) old.follows
+
+  none-flashed : (w : World) → Ready w → flashed_refusal y w.control ≡ None
+  none-flashed w old =
+      let k : Control = w.control in
+      let related : stands_in is_revertible k y ≡ false =
+      ap (λ b. (b && (fields_at k y).revertible) || list_any (λ u. (fields_at k u).revertible) (filter (λ u. copies_from y (fields_at k u)) k.volumes)) old.plain
+      ∙ none-among (λ u. copies_from y (fields_at k u)) (λ u. (fields_at k u).revertible) k.volumes old.free in
+      ap (λ b. cond b (Some (relation_state k y)) None) related
+
+  keep-comes : (t u : ℕ) (k : Control) → Comes (keep_on y t u k)
+  keep-comes t u k =
+      let f : Fields = fields_at k u in
+      comes-choice (copies_from y f && not f.reversing) (keep_if f u t) Pass
+      (comes-choice (not (contains f.own t)) (Do (Make (Keep u t))) _ tt (comes-choice (f.recorded && not (contains f.source_changes t)) (Do (Make (Note u t))) Pass tt tt)) tt
+
+  copies-go : (us : List ℕ) (t : ℕ) (ds : List Entry) (w : World) → Ready w → ((u : World) → Ready u → EndsSo (carry u ds)) → EndsSo (carry w (map (keep_on y t) us ++ ds))
+  copies-go [] t ds w old on = on w old
+  copies-go (u ∷ us) t ds w old on = entry-goes w (keep_on y t u) _ (keep-comes t u w.control) old (λ v r. copies-go us t ds v r on)
+
+  -- so each track is sent, until a server stops
+  sends-go : (volumes ts : List ℕ) (w : World) → Ready w → EndsSo (carry w (sends volumes x y ts))
+  sends-go volumes [] w old = subst EndsSo (sym (carry-none w)) tt
+  sends-go volumes (t ∷ ts) w old =
+      let more : List Entry = sends volumes x y ts in
+      let stored : List Entry = store_on x y t ∷ strike_on x t ∷ more in
+      let goes : EndsSo (carry w (copy_first volumes y t ++ stored)) =
+      copies-go volumes t stored w old (λ u r. entry-goes u (store_on x y t) (strike_on x t ∷ more) tt r (λ v r. entry-goes v (strike_on x t) more tt r (λ z r. sends-go volumes ts z r))) in
+      let free = none-refuses w old in
+      subst EndsSo (sym (
+      carry-skips w (suspend_where (send_refusal x y) x) _ (ap (λ o. cond (is_some o) (Do (Make (Suspend x false))) Pass) free)
+      ∙ carry-skips w (refuse_if (send_refusal x y)) _ (ap end_if free)
+      ∙ carry-skips w (refuse_if (flashed_refusal y)) _ (ap end_if (none-flashed w old))
+      ∙ ap (carry w) (append_assoc (copy_first volumes y t) (store_on x y t ∷ strike_on x t ∷ []) more)
+      )) goes
+
+-- ---- the step
+
+module _ (w : World) (s : Sound w) (x y : ℕ) (can : CanDrain w.control x y) where
+  abbrev f : Fields
+  f = fields_at w.control x
+
+  abbrev p : Plan
+  p = drain_plan w.control x None
+
+  partner : f.primary_partner ≡ y
+  partner = eqb-true f.primary_partner y (and_parts (is_part f.primary) _ can.leads).1
+
+  ready : Ready w x y (as_begun w)
+  ready = record {
+    path = can.path;
+    other = can.other;
+    linked = can.linked;
+    follows = can.follows;
+    plain = false_from_ne_true (fields_at w.control y).related (λ h. false_true ((s.rows.parts.one y).no_secondary h) (and_parts (is_part (fields_at w.control y).secondary) _ can.follows).0);
+    free = can.free;
+    armed = λ q h. h;
+  }
+
+  drain-ends : EndsSo w x y (carry (as_begun w) p.entries)
+  drain-ends =
+      let first : World = as_begun w in
+      let ts : List ℕ = tracks_to_send None (w.control.volume x).tracks f.out_of_sync in
+      subst (EndsSo w x y) (sym (
+      carry-passed first (is_defined x) _ _ (s.rows.parts.primary y x (its-first x (fields_at w.control y) can.follows)).defined
+      ∙ carry-passed first (is_running x) _ _ can.runs
+      ∙ carry-passed first (is_copying x) _ _ can.copying
+      ∙ ap (λ b. carry first (sends w.control.volumes x b ts)) partner
+      )) (sends-go w x y w.control.volumes ts first ready)
+
+  module _ (t : Task) (asked : t.asked ≡ Ok (Drain x None)) (room : has_room w.events ≡ true) where
+    answers : said_in w t ≡ part_answer (record { world = w; plan = p })
+    answers =
+        let is : t ≡ record { line = t.line; asked = Ok (Drain x None) } = λ i. record t { asked = asked i } in
+        ap (said_in w) is ∙ ap (λ b. part_answer (record { world = w; plan = cond b p (refuses JournalFull) })) room
+
+    step-ends : EndsOrStops w (after_task w t) x (said_in w t)
+    step-ends = by (carry (as_begun w) p.entries) refl drain-ends
+      where
+        said_by : (o : Outcome) → carry (as_begun w) p.entries ≡ o → said_in w t ≡ answered p (finish p o.0 o.1).control o.1
+        said_by o is = answers ∙ ap (λ (o : Outcome). answered p (finish p o.0 o.1).control o.1) is
+
+        by : (o : Outcome) → carry (as_begun w) p.entries ≡ o → EndsSo w x y o → EndsOrStops w (after_task w t) x (said_in w t)
+        by (u, None) is h =
+            let ends : Ends w p.entries (after_task w t) = drain-goes w t x _ asked (said_by (u, None) is) in
+            let sent : IsEmptied (after_task w t) x = λ q. ap (λ (vs : ℕ → Volume). contains (vs x).fields.out_of_sync q) ends.volume ∙ drain-empties w s x ends.led ends.leads q in
+            subst (EndsOrStops w (after_task w t) x) (sym (said_by (u, None) is)) sent
+        by (u, Some (Stopped q)) is h = subst (EndsOrStops w (after_task w t) x) (sym (said_by (u, Some (Stopped q)) is)) h
+        by (u, Some r) is h = absurd h
+
+pub drains-or-stops : (tasks : List Task) → DrainsOrStops tasks
+drains-or-stops tasks t x y asked room can = step-ends (run tasks) (sound-run tasks) x y can t asked room
