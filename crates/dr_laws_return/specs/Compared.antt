@@ -23,7 +23,7 @@ module _ (k : Control) (contents : ℕ → ℕ → List ℕ) (v u : ℕ) where
     pub differs : contents v n ≢ contents u n
 
   -- What an answer says of two volumes: ok, that all tracks contain the same; and a refusal for a track, that this is the first one that doesn't.
-  -- As one excludes the other, each of the two is given exactly where it is so.
+  -- As one excludes the other, neither of the two is given where the other is so.
   abbrev pub Tells : Said → Type 0
   Tells (Done addition) = AreSame (k.volume v).tracks
   Tells (Refused (NotIdentical n)) = DifferFirst n
