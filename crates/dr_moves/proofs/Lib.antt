@@ -1,0 +1,15 @@
+pub mod SetLaws
+pub mod TellLemmas
+pub mod PlaceLaws
+pub mod ReadLemmas
+pub mod FitLemmas
+pub mod MadeLemmas
+pub mod MoveRows
+pub mod MoveFits
+pub mod MoveTracks
+pub mod AsideLemmas
+pub mod TurnMade
+pub mod KeptLemmas
+pub mod EnteredLemmas
+pub mod StopRows
+pub mod ActedLemmas

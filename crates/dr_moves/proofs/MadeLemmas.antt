@@ -1,0 +1,72 @@
+-- How a move has ended, from what the update of its volume left.
+use Rattle.std.proofs.Common.{ℕ, ◌≡◌, List, ◌++◌, refl, ap, ◌∙◌, sym, Bool, true, false, not, cond, Some, None}
+use mathlib.Core.Bool.{beq}
+use Rattle.dr_model.specs.declared.event.Event.{Event}
+use Rattle.dr_model.specs.Layout.{Fields}
+use Rattle.dr_model.specs.Control.{World}
+use Rattle.dr_model.specs.Moves.{Carried, moved, updated}
+use Rattle.dr_model.specs.Carry.{update, ended, Ended, pass, writes, counts_by, spent, off}
+use Rattle.dr_volume.specs.Update.{EndsAs}
+use Rattle.dr_moves.specs.declared.told.Telling.{Telling}
+use Rattle.dr_moves.specs.Told.{events_of}
+use Rattle.dr_moves.specs.Turns.{made_by, told_in_stop}
+use Rattle.dr_logic.proofs.Tables.{at_same}
+
+-- it was done
+pub made-goes : (u : World) (e : Ended) (s : ℕ) (told : Telling) (now : List Event) → EndsAs u false e → now ≡ u.events ++ events_of told.done → made_by e s told ≡ (record u { events = now }, None)
+made-goes u e s told now ends is =
+    ap (λ b. cond b (record e.world { events = e.world.events ++ told_in_stop e.done told s }, Some s) (record e.world { events = e.world.events ++ events_of told.done }, None)) (sym ends.stopped)
+    ∙ ap (λ (w : World). (record w { events = w.events ++ events_of told.done }, None)) (sym ends.world)
+    ∙ ap (λ es. (record u { events = es }, None)) (sym is)
+
+-- its server stopped in it
+pub made-stops : (u : World) (e : Ended) (s : ℕ) (told : Telling) (done : Bool) (now : List Event) → EndsAs u true e → e.done ≡ done → now ≡ u.events ++ told_in_stop done told s → made_by e s told ≡ (record u { events = now }, Some s)
+made-stops u e s told done now ends is_done is =
+    ap (λ b. cond b (record e.world { events = e.world.events ++ told_in_stop e.done told s }, Some s) (record e.world { events = e.world.events ++ events_of told.done }, None)) (sym ends.stopped)
+    ∙ ap (λ b. (record e.world { events = e.world.events ++ told_in_stop b told s }, Some s)) is_done
+    ∙ ap (λ (w : World). (record w { events = w.events ++ told_in_stop done told s }, Some s)) (sym ends.world)
+    ∙ ap (λ es. (record u { events = es }, Some s)) (sym is)
+
+-- two slots differ
+abbrev pub differ : Bool → Bool → Bool
+differ true b = not b
+differ false b = b
+
+pub differ_not : (b : Bool) → differ (not b) b ≡ true
+differ_not true = refl
+differ_not false = refl
+
+pub differ_same : (b : Bool) → differ b b ≡ false
+differ_same true = refl
+differ_same false = refl
+
+pub not_beq : (a b : Bool) → not (beq a b) ≡ differ a b
+not_beq true true = refl
+not_beq true false = refl
+not_beq false true = refl
+not_beq false false = refl
+
+-- where an update is stopped, it counts as done exactly where the slot changed
+pub done-by_slot : (w : World) (v : ℕ) (f : Fields) (c : Carried) → (update w v f c).stopped ≡ true → (update w v f c).done ≡ differ ((update w v f c).world.control.volume v).slot (w.control.volume v).slot
+unfolding update
+done-by_slot w v f c =
+    let s = (w.control.volume v).server in
+    let old = (w.control.volume v).slot in
+    elim (w.control.on s) as (λ a. (cond (not a) (ended w true false) (cond (pass (w.control.fuse s) (writes c)) (ended (spent (updated w v f c) s (writes c)) false true) (cond (counts_by (w.control.fuse s) (not old)) (ended (off (updated w v f c) s) true true) (ended (off w s) true false)))).stopped ≡ true → (cond (not a) (ended w true false) (cond (pass (w.control.fuse s) (writes c)) (ended (spent (updated w v f c) s (writes c)) false true) (cond (counts_by (w.control.fuse s) (not old)) (ended (off (updated w v f c) s) true true) (ended (off w s) true false)))).done ≡ differ ((cond (not a) (ended w true false) (cond (pass (w.control.fuse s) (writes c)) (ended (spent (updated w v f c) s (writes c)) false true) (cond (counts_by (w.control.fuse s) (not old)) (ended (off (updated w v f c) s) true true) (ended (off w s) true false)))).world.control.volume v).slot old) [
+      | false ↦ λ h. sym (differ_same old)
+      | true ↦ elim (pass (w.control.fuse s) (writes c)) as (λ b. (cond b (ended (spent (updated w v f c) s (writes c)) false true) (cond (counts_by (w.control.fuse s) (not old)) (ended (off (updated w v f c) s) true true) (ended (off w s) true false))).stopped ≡ true → (cond b (ended (spent (updated w v f c) s (writes c)) false true) (cond (counts_by (w.control.fuse s) (not old)) (ended (off (updated w v f c) s) true true) (ended (off w s) true false))).done ≡ differ ((cond b (ended (spent (updated w v f c) s (writes c)) false true) (cond (counts_by (w.control.fuse s) (not old)) (ended (off (updated w v f c) s) true true) (ended (off w s) true false))).world.control.volume v).slot old) [
+        | true ↦ λ h. cc
+        | false ↦ elim (counts_by (w.control.fuse s) (not old)) as (λ b. (cond b (ended (off (updated w v f c) s) true true) (ended (off w s) true false)).stopped ≡ true → (cond b (ended (off (updated w v f c) s) true true) (ended (off w s) true false)).done ≡ differ ((cond b (ended (off (updated w v f c) s) true true) (ended (off w s) true false)).world.control.volume v).slot old) [
+          | true ↦ λ h. sym (ap (λ x. differ x.slot old) (at_same w.control.volume v (moved (w.control.volume v) f c)) ∙ differ_not old)
+          | false ↦ λ h. sym (differ_same old)
+        ]
+      ]
+    ]
+
+-- as the program looks at the slots before and after
+pub done-by : (w u : World) (v : ℕ) (f : Fields) (c : Carried) (before after : Bool) → EndsAs u true (update w v f c) → before ≡ (w.control.volume v).slot → after ≡ (u.control.volume v).slot → (update w v f c).done ≡ not (beq after before)
+done-by w u v f c before after ends was is =
+    done-by_slot w v f c (sym ends.stopped)
+    ∙ ap (λ (x : World). differ (x.control.volume v).slot (w.control.volume v).slot) (sym ends.world)
+    ∙ (λ i. differ (sym is i) (sym was i))
+    ∙ sym (not_beq after before)

@@ -1,0 +1,58 @@
+use Rattle.std.proofs.Common.{◌++◌, ◌∷◌, arith, length, ap, sym, subst, Some}
+use Rattle.std.specs.Prelude.{Ok}
+use Rattle.dr_model.specs.ReadStops.{Ends}
+use Rattle.dr_moves.specs.Here.{world_seen, armed_in, refusal_of}
+use Rattle.dr_moves.proofs.ActedLemmas.{err-always, refused-by, wider-armed, kept-then, before-then}
+use Rattle.dr_facts.proofs.Ends.{ends-wider}
+use Rattle.dr_moves.proofs.carrying.carry.Goals as goal
+
+pub returns-in_err-act-clause-fails : goal.returns-in_err-act-clause-fails
+returns-in_err-act-clause-fails g c =
+    let s0 = g.P.Plant.state c.args.plant.now in
+    let s = g.P.Plant.state c.loop.plant in
+    let t = c.args.config.now in
+    let e = c.in_err-act.field-0.0 in
+    let first = g.E.Entries.first c.loop.entries t in
+    let more = g.E.Entries.left c.next-next.new.self t in
+    err-always c.from_residual.result (λ r ds.
+    let u = world_seen (g.P.Plant.state c.act.new.plant) t r c.act.new.journal.events in
+    subst (λ q. Ends (armed_in s0) u q (world_seen s0 t r c.args.journal.now.events) (g.E.Entries.left c.args.entries.now t ++ ds)) (sym (ap refusal_of (refused-by c.from_residual.result e c.from_residual.ensures.0 c.from_residual.ensures.1)))
+    (c.loop.invariant.left r (armed_in s0) u (Some e) ds
+    (subst (λ es. Ends (armed_in s0) u (Some e) (world_seen s t r c.loop.journal.events) (es ++ ds)) (sym c.next-next.ensures.goes)
+    (ends-wider (armed_in s) (armed_in s0) (wider-armed s0 s c.loop.invariant.kept.unarmed) u (Some e) (world_seen s t r c.loop.journal.events) (first ∷ (more ++ ds))
+    (c.in_err-act.ensures.acted.halts r first (c.next-next.ensures.comes r c.loop.journal.events) (more ++ ds))))))
+
+pub returns-in_err-act-clause-others : goal.returns-in_err-act-clause-others
+returns-in_err-act-clause-others g c q spare =
+    let before = c.loop.invariant.others q spare in
+    let here = c.next-next.ensures.spares q before.1 in
+    before-then (g.P.Plant.state c.args.plant.now) (g.P.Plant.state c.loop.plant) (g.P.Plant.state c.act.new.plant) c.args.config.now q before.0 (c.act.ensures.acted.others q here.0)
+
+pub returns-clause-others : goal.returns-clause-others
+returns-clause-others g c q spare = (c.loop.invariant.others q spare).0
+
+pub loop-preserved : goal.loop-preserved
+loop-preserved g c =
+    let s0 = g.P.Plant.state c.args.plant.now in
+    let s = g.P.Plant.state c.loop.plant in
+    let u = g.P.Plant.state c.act.new.plant in
+    let t = c.args.config.now in
+    let first = g.E.Entries.first c.loop.entries t in
+    let more = g.E.Entries.left c.next-next.new.self t in
+    let before = c.loop.invariant.room in
+    let cost = c.next-next.ensures.room in
+    let spent = c.in_ok-act.ensures.acted.room_left in
+    record {
+      left = λ r armed w q ds ends. c.loop.invariant.left r armed w q ds
+          (subst (λ es. Ends armed w q (world_seen s t r c.loop.journal.events) (es ++ ds)) (sym c.next-next.ensures.goes)
+          (c.in_ok-act.ensures.acted.advances r first (c.next-next.ensures.comes r c.loop.journal.events) armed w q (more ++ ds) ends));
+      count = let n = c.loop.invariant.count in let goes = ap length c.next-next.ensures.goes in omega (arith, n, goes);
+      stands = c.next-next.ensures.stands u c.in_ok-act.ensures.acted.went;
+      others = λ q spare.
+          let before = c.loop.invariant.others q spare in
+          let here = c.next-next.ensures.spares q before.1 in
+          let same = c.act.ensures.acted.others q here.0 in
+          (before-then s0 s u t q before.0 same, here.1 u same);
+      kept = kept-then s0 s u t c.args.journal.now c.loop.journal c.act.new.journal _ _ _ (Ok tt) c.loop.invariant.kept c.in_ok-act.ensures.acted.kept (omega (arith, before, cost, spent));
+      room = omega (arith, before, cost, spent);
+    }

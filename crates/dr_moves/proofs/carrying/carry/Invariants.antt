@@ -1,0 +1,22 @@
+use Rattle.std.proofs.Common.{ℕ, ◌≡◌, ◌≤◌, ◌+◌, ◌++◌, Bool, false, List, Option, length, Ok}
+use Rattle.dr_ids.specs.declared.refusal.Refusal.{Refusal}
+use Rattle.dr_model.specs.Control.{World}
+use Rattle.dr_model.specs.Carry.{Entry}
+use Rattle.dr_model.specs.ReadStops.{Ends}
+use Rattle.dr_volume.specs.Update.{IsAsBefore}
+use Rattle.dr_volume.specs.View.{Rest}
+use Rattle.dr_moves.specs.Here.{world_seen}
+use Rattle.dr_moves.specs.Made.{Kept}
+use Rattle.dr_moves.proofs.carrying.carry.Given as goal
+
+abbrev pub invariant-loop : goal.invariant-loop
+invariant-loop g l = record {
+  -- what ends those that are left ends all
+  left : (r : Rest) (armed : ℕ → Bool) (u : World) (q : Option Refusal) (ds : List Entry) → Ends armed u q (world_seen (g.P.Plant.state l.plant) l.config r l.journal.events) (g.E.Entries.left l.entries l.config ++ ds)
+      → Ends armed u q (world_seen (g.P.Plant.state l.fn.plant) l.config r l.fn.journal.events) (g.E.Entries.left l.fn.entries l.config ++ ds);
+  count : length (g.E.Entries.left l.entries l.config) + l.counter ≡ l.end;
+  stands : g.E.Entries.stands l.entries (g.P.Plant.state l.plant) l.config;
+  others : (q : ℕ) → g.E.Entries.spares l.fn.entries (g.P.Plant.state l.fn.plant) l.config q → IsAsBefore (g.P.Plant.state l.fn.plant) (g.P.Plant.state l.plant) l.config q × g.E.Entries.spares l.entries (g.P.Plant.state l.plant) l.config q;
+  kept : Kept (g.P.Plant.state l.fn.plant) (g.P.Plant.state l.plant) l.config l.fn.journal l.journal (g.E.Entries.room l.fn.entries l.config + 1) false {E = Refusal} (Ok tt);
+  room : l.fn.journal.spare + g.E.Entries.room l.entries l.config ≤ l.journal.spare + g.E.Entries.room l.fn.entries l.config;
+}

@@ -1,0 +1,11 @@
+pub mod Options
+pub mod Here
+pub mod Fit
+pub mod Aside
+pub mod Told
+pub mod Turns
+pub mod Checks
+pub mod Moves
+pub mod Made
+pub mod Entered
+pub mod Coming

@@ -1,0 +1,131 @@
+//! One function makes any move: the record of its volume and the track that it carries are changed, and the journal is told.
+
+ghost use Rattle.std.specs.Prelude.{◌≡◌, ◌≤◌, ◌+◌, true, length, IsSome, OnOk, is_err};
+ghost use Rattle.dr_config.specs.Table.{place_of};
+ghost use Rattle.dr_model.specs.Histories.{histories};
+ghost use Rattle.dr_model.specs.Moves as machine;
+ghost use Rattle.dr_volume.specs.Opened.{IsOpened};
+ghost use Rattle.dr_volume.specs.Update.{IsMoved, OthersStay};
+ghost use Rattle.dr_volume.specs.View.{volume_seen, track_seen};
+ghost use Rattle.dr_moves.specs.Entered.{is_calm, Entered};
+ghost use Rattle.dr_moves.specs.Made.{IsAt, Asks, May, room_for, Made, Kept};
+ghost use Rattle.dr_moves.specs.Moves.{move_of};
+
+use crate::moves::{Move, next_fields, target_of, telling};
+use crate::place::{server_of, tracks_of};
+use crate::reads::open_told;
+use crate::told::{tell, tell_stop};
+use dr_config::Config;
+use dr_ids::{Refusal, ServerId, VolumeId};
+use dr_model::Journal;
+use dr_plant::{Block, Plant};
+use dr_volume::{Opened, slot};
+
+/// The server of a move stopped in it, or went off at a read before it.
+#[derive(Clone, Copy)]
+pub struct Stop {
+    pub server: ServerId,
+    /// The move counts as done.
+    pub counts: bool,
+}
+
+/// The same, of a volume that was opened.
+fn change<P: Plant>(
+    plant: &mut P,
+    config: &Config,
+    journal: &mut Journal,
+    v: VolumeId,
+    m: &Move,
+    opened: &mut Opened,
+    track: Option<(u16, Block)>,
+) -> Result<(), Stop>
+    requires at { IsAt (P.state plant.old) config.now }
+    requires target { machine.target (move_of m.now) ≡ v.0 }
+    requires defined { IsSome (place_of config.now v.0) }
+    requires running { (P.state plant.old).on (volume_seen (P.state plant.old) config.now v.0).server ≡ true }
+    requires asks { Asks (P.state plant.old) config.now (move_of m.now) }
+    requires opened { IsOpened (P.state plant.old) config.now v.0 opened.old }
+    requires carries { machine.carried (move_of m.now) (volume_seen (P.state plant.old) config.now) (track_seen (P.state plant.old) config.now) (histories journal.old.events).write ≡ track }
+    requires room { room_for (move_of m.now) (volume_seen (P.state plant.old) config.now v.0) ≤ journal.old.spare }
+    ensures made { Made (P.state plant.old) (P.state plant.new) config.now journal.old journal.new (move_of m.now) v.0 track result }
+    ensures kept { Kept (P.state plant.old) (P.state plant.new) config.now journal.old journal.new (room_for (move_of m.now) (volume_seen (P.state plant.old) config.now v.0)) (is_err result) result }
+    ensures room_left { OnOk result (journal.old.spare ≡ journal.new.spare + length (machine.told (move_of m.now) (volume_seen (P.state plant.old) config.now v.0))) }
+{
+    let size = tracks_of(config, v);
+    let fields = *opened.fields();
+    let next = next_fields(m, size, &fields);
+    let told = telling(m, size, &fields);
+    let before = slot(plant, config, v);
+    match opened.change(plant, config, v, &next, track) {
+        Ok(()) => {
+            tell(journal, &told.done);
+            Ok(())
+        }
+        Err(_) => {
+            let server = server_of(config, v);
+            let counts = slot(plant, config, v) != before;
+            tell_stop(journal, &told, server, counts);
+            Err(Stop { server, counts })
+        }
+    }
+}
+
+/// Makes a move of a volume whose server is on, with the track that it carries. Fails where the server stops in it or goes off
+/// at the read of the record, and says whether the move counts as done.
+pub fn make<P: Plant>(
+    plant: &mut P,
+    config: &Config,
+    journal: &mut Journal,
+    m: &Move,
+    track: Option<(u16, Block)>,
+) -> Result<(), Stop>
+    requires at { IsAt (P.state plant.old) config.now }
+    requires may { May (P.state plant.old) config.now (move_of m.now) }
+    requires carries { machine.carried (move_of m.now) (volume_seen (P.state plant.old) config.now) (track_seen (P.state plant.old) config.now) (histories journal.old.events).write ≡ track }
+    requires room { room_for (move_of m.now) (volume_seen (P.state plant.old) config.now (machine.target (move_of m.now))) ≤ journal.old.spare }
+    ensures made { Made (P.state plant.old) (P.state plant.new) config.now journal.old journal.new (move_of m.now) (machine.target (move_of m.now)) track result }
+    ensures kept { Kept (P.state plant.old) (P.state plant.new) config.now journal.old journal.new (room_for (move_of m.now) (volume_seen (P.state plant.old) config.now (machine.target (move_of m.now)))) (is_err result) result }
+    ensures room_left { OnOk result (journal.old.spare ≡ journal.new.spare + length (machine.told (move_of m.now) (volume_seen (P.state plant.old) config.now (machine.target (move_of m.now))))) }
+{
+    let v = target_of(m);
+    match open_told(plant, config, journal, v) {
+        Ok(opened) => {
+            let mut opened = opened;
+            change(plant, config, journal, v, m, &mut opened, track)
+        }
+        Err(_) => {
+            let server = server_of(config, v);
+            Err(Stop {
+                server,
+                counts: false,
+            })
+        }
+    }
+}
+
+/// Makes a move that lands no host write, as an entry of a plan. Fails with the stop of its server.
+pub fn make_move<P: Plant>(
+    plant: &mut P,
+    config: &Config,
+    journal: &mut Journal,
+    m: &Move,
+    track: Option<(u16, Block)>,
+) -> Result<(), Refusal>
+    requires at { IsAt (P.state plant.old) config.now }
+    requires may { May (P.state plant.old) config.now (move_of m.now) }
+    requires calm { is_calm (move_of m.now) ≡ true }
+    requires carries { machine.carried (move_of m.now) (volume_seen (P.state plant.old) config.now) (track_seen (P.state plant.old) config.now) (histories journal.old.events).write ≡ track }
+    requires room { room_for (move_of m.now) (volume_seen (P.state plant.old) config.now (machine.target (move_of m.now))) ≤ journal.old.spare }
+    ensures entered { Entered (P.state plant.old) (P.state plant.new) config.now journal.old.events journal.new.events (move_of m.now) (machine.target (move_of m.now)) result }
+    ensures moved { OnOk result (IsMoved (P.state plant.old) (P.state plant.new) config.now (machine.target (move_of m.now)) (machine.fields_left (move_of m.now) (volume_seen (P.state plant.old) config.now (machine.target (move_of m.now)))) track) }
+    ensures others { OthersStay (P.state plant.old) (P.state plant.new) config.now (machine.target (move_of m.now)) }
+    ensures kept { Kept (P.state plant.old) (P.state plant.new) config.now journal.old journal.new (room_for (move_of m.now) (volume_seen (P.state plant.old) config.now (machine.target (move_of m.now)))) (is_err result) result }
+    ensures room_left { OnOk result (journal.old.spare ≡ journal.new.spare + length (machine.told (move_of m.now) (volume_seen (P.state plant.old) config.now (machine.target (move_of m.now))))) }
+{
+    match make(plant, config, journal, m, track) {
+        Ok(()) => Ok(()),
+        Err(stop) => Err(Refusal::Stopped {
+            server: stop.server,
+        }),
+    }
+}
