@@ -21,8 +21,8 @@ use Rattle.dr_model.specs.Plans.{Plan, expire_plan, expire_on, refuses}
 use Rattle.dr_model.specs.WriteEntries.{lift_on}
 use Rattle.dr_volume.specs.View.{Rest, ids_of}
 use Rattle.dr_volume.proofs.WorldLaws.{on-seen}
-use Rattle.dr_flash.specs.Here.{world_seen, refusal_of}
-use Rattle.dr_flash.specs.Turns.{Advances, Halts}
+use Rattle.dr_moves.specs.Here.{world_seen, refusal_of}
+use Rattle.dr_moves.specs.Turns.{Advances, Halts}
 use Rattle.dr_flash.proofs.CopyLemmas.{ids-next}
 use Rattle.dr_facts.proofs.Ends.{ends-skips, ends-none}
 use Rattle.dr_admin.specs.Answering.{Comes, lift_answer}

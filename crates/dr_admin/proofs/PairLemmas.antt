@@ -17,8 +17,8 @@ use Rattle.dr_model.specs.Entries.{fields_at, is_running, pair_state, relation_s
 use Rattle.dr_model.specs.PairEntries.{send_refusal}
 use Rattle.dr_model.specs.Refusals.{server_off, stopped}
 use Rattle.dr_model.specs.SessionPlans.{copy_refusal, member_target, member_with}
-use Rattle.dr_flash.specs.Checks.{is_stop}
-use Rattle.dr_flash.specs.Here.{refusal_of}
+use Rattle.dr_moves.specs.Checks.{is_stop}
+use Rattle.dr_moves.specs.Here.{refusal_of}
 
 module _ (k : Control) (a : ℕ) where
   pub copy-off : is_running a k ≡ false → Some (server_off (k.volume a).server) ≡ copy_refusal k a

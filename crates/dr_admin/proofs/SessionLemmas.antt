@@ -13,7 +13,7 @@ use Rattle.dr_ids.specs.declared.refusal.Refusal.{Refusal}
 use Rattle.dr_ids.specs.declared.refusal.Refusal.TheVariants.{NotInSession, InSession, Duplicate}
 use Rattle.dr_ids.specs.declared.refusal.Kind.TheVariants.{Volume as OfVolume}
 use Rattle.dr_model.specs.Sessions.{Session, Mirror, session_in, has_lss, is_member, has_place_of, changed, raised, in_session, busy, unless_idle, add_refusal, remove_refusal, mirror_in, not_in_session}
-use Rattle.dr_flash.specs.Checks.{is_stop}
+use Rattle.dr_moves.specs.Checks.{is_stop}
 use Rattle.dr_admin.specs.Adding.{outside_of, taken_in}
 use Rattle.dr_admin.specs.Removing.{member_in}
 use Rattle.dr_facts.proofs.Refusals.{none-both}

@@ -35,11 +35,12 @@ use Rattle.dr_volume.specs.View.{Rest, volume_seen, volume_at, ids_of, device_of
 use Rattle.dr_volume.specs.Update.{IsAsBefore, EndsAs, after_reading}
 use Rattle.dr_volume.proofs.UnreadLaws.{armed-of}
 use Rattle.dr_volume.proofs.WorldLaws.{on-at, on-seen, fuses-at, fuse-seen}
-use Rattle.dr_flash.specs.Here.{world_seen, armed_in, IsAtRest}
-use Rattle.dr_flash.specs.Turns.{Advances, Halts}
-use Rattle.dr_flash.proofs.CopyLemmas.{ids-next, wider-armed}
+use Rattle.dr_moves.specs.Here.{world_seen, armed_in, IsAtRest}
+use Rattle.dr_moves.specs.Turns.{Advances, Halts}
+use Rattle.dr_flash.proofs.CopyLemmas.{ids-next}
+use Rattle.dr_moves.proofs.KeptLemmas.{wider-armed}
 use Rattle.dr_facts.proofs.Ends.{ends-off, ends-none, ends-skips, ends-goes, ends-stops, ends-wider}
-use Rattle.dr_flash.proofs.ReadLemmas.{on-running, is-armed}
+use Rattle.dr_moves.proofs.ReadLemmas.{on-running, is-armed}
 use Rattle.dr_coord.specs.Standing.{StandsReady}
 use Rattle.dr_admin.specs.Answering.{Comes, write_number}
 use Rattle.dr_admin.specs.Starting.{hosted, IsLater, IsStarting, start_from, start_events, acks, without_acked}

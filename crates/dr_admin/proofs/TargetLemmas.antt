@@ -12,7 +12,7 @@ use Rattle.dr_model.specs.Control.{Control}
 use Rattle.dr_model.specs.Entries.{copies_from, fields_at}
 use Rattle.dr_model.specs.SessionPlans.{is_mirrored_target, the_only, settled_target}
 use Rattle.dr_volume.specs.View.{volume_seen, ids_of}
-use Rattle.dr_flash.specs.Fit.{RelationsFit}
+use Rattle.dr_moves.specs.Fit.{RelationsFit}
 use Rattle.dr_flash.proofs.CopyLemmas.{ids-next}
 use Rattle.dr_admin.specs.Targets.{mirrored_from, IsFirst}
 use Rattle.dr_admin.specs.declared.targets.Found.{Found}

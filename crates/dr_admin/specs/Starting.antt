@@ -11,7 +11,7 @@ use Rattle.dr_model.specs.WriteEntries.{start_entries, lift_on}
 use Rattle.dr_model.specs.declared.event.Event.{Event}
 use Rattle.dr_model.specs.declared.event.Event.TheVariants.{Started, Ack}
 use Rattle.dr_volume.specs.View.{Rest, volume_seen, ids_of, IsSettled}
-use Rattle.dr_flash.specs.Here.{world_seen}
+use Rattle.dr_moves.specs.Here.{world_seen}
 
 -- the rest of a state, with the host's writes in it
 abbrev pub with_writes : Rest → Writes → Rest

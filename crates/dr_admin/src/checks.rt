@@ -9,9 +9,9 @@ ghost use Rattle.dr_model.specs.declared.event.Event.{Event};
 ghost use Rattle.dr_model.specs.Layout.{is_part};
 ghost use Rattle.dr_model.specs.Sessions as model;
 ghost use Rattle.dr_volume.specs.View.{Rest, volume_seen};
-ghost use Rattle.dr_flash.specs.Checks.{is_stop};
-ghost use Rattle.dr_flash.specs.Fit.{RelationsFit};
-ghost use Rattle.dr_flash.specs.Here.{world_seen, refusal_of, IsAtRest};
+ghost use Rattle.dr_moves.specs.Checks.{is_stop};
+ghost use Rattle.dr_moves.specs.Fit.{RelationsFit};
+ghost use Rattle.dr_moves.specs.Here.{world_seen, refusal_of, IsAtRest};
 ghost use Rattle.dr_admin.specs.Adding.{outside_of, taken_in, member_planned, placed_in, enrol_refusal};
 ghost use Rattle.dr_admin.specs.Targets.{IsTargetReady};
 

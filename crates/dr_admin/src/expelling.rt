@@ -7,18 +7,18 @@ ghost use Rattle.dr_model.specs.declared.event.Event.{Event};
 ghost use Rattle.dr_model.specs.ReadStops.{Ends};
 ghost use Rattle.dr_model.specs.Sessions as model;
 ghost use Rattle.dr_volume.specs.View.{Rest, volume_seen};
-ghost use Rattle.dr_flash.specs.Checks.{is_stop};
-ghost use Rattle.dr_flash.specs.Fit.{RelationsFit};
-ghost use Rattle.dr_flash.specs.Here.{world_seen, refusal_of, armed_in, IsAtRest};
+ghost use Rattle.dr_moves.specs.Checks.{is_stop};
+ghost use Rattle.dr_moves.specs.Fit.{RelationsFit};
+ghost use Rattle.dr_moves.specs.Here.{world_seen, refusal_of, armed_in, IsAtRest};
 ghost use Rattle.dr_admin.specs.Adding.{unless_stop};
 ghost use Rattle.dr_admin.specs.Removing.{member_in, TargetDefined, expel_refusal, entries_without, sessions_without, ExpelsSo};
 
 use crate::members::member_of;
 use dr_config::Config;
 use dr_coord::leave;
-use dr_flash::server_of;
 use dr_ids::{Member, Refusal, SessionId, VolumeId};
 use dr_model::Journal;
+use dr_moves::server_of;
 use dr_plant::Plant;
 use dr_session::Sessions;
 

@@ -7,17 +7,18 @@ ghost use Rattle.dr_model.specs.declared.event.Event.{Event};
 ghost use Rattle.dr_model.specs.Layout.{is_part};
 ghost use Rattle.dr_model.specs.SessionPlans as plans;
 ghost use Rattle.dr_volume.specs.View.{Rest, volume_seen};
-ghost use Rattle.dr_flash.specs.Checks.{OnNone, is_stop};
-ghost use Rattle.dr_flash.specs.Fit.{RelationsFit};
-ghost use Rattle.dr_flash.specs.Here.{world_seen, refusal_of, IsAtRest};
+ghost use Rattle.dr_moves.specs.Checks.{OnNone, is_stop};
+ghost use Rattle.dr_moves.specs.Fit.{RelationsFit};
+ghost use Rattle.dr_moves.specs.Here.{world_seen, refusal_of, IsAtRest};
 ghost use Rattle.dr_admin.specs.Adding.{member_planned, pair_refusal};
 ghost use Rattle.dr_admin.specs.Targets.{IsTargetReady};
 
 use crate::targets::member_target;
 use dr_config::Config;
-use dr_flash::{pair_state, relation_state, server_of};
+use dr_flash::relation_state;
 use dr_gcopy::send_refusal;
 use dr_ids::{Member, Refusal, VolumeId};
+use dr_moves::{pair_state, server_of};
 use dr_plant::Plant;
 use dr_volume::peek_head;
 

@@ -14,8 +14,8 @@ ghost use Rattle.dr_model.specs.ReadStops.{Ends};
 ghost use Rattle.dr_model.specs.Refusals.{stopped};
 ghost use Rattle.dr_model.specs.WriteEntries.{redo_on, restart_on};
 ghost use Rattle.dr_volume.specs.View.{Rest, IsSettled};
-ghost use Rattle.dr_flash.specs.Here.{world_seen, refusal_of, armed_in, IsAtRest};
-ghost use Rattle.dr_flash.specs.Turns.{Advances, Halts, Leads, Fails};
+ghost use Rattle.dr_moves.specs.Here.{world_seen, refusal_of, armed_in, IsAtRest};
+ghost use Rattle.dr_moves.specs.Turns.{Advances, Halts, Leads, Fails};
 ghost use Rattle.dr_admin.specs.Answering.{Comes, write_number, start_answer};
 ghost use Rattle.dr_admin.specs.Starting.{hosted, IsStarting, start_from, acked_at, without_acked, acks, start_events};
 

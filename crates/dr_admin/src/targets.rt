@@ -6,7 +6,7 @@ ghost use Rattle.dr_model.specs.declared.event.Event.{Event};
 ghost use Rattle.dr_model.specs.SessionPlans as plans;
 ghost use Rattle.dr_volume.specs.View.{Rest};
 ghost use Rattle.dr_flash.specs.Heads.{targets_by};
-ghost use Rattle.dr_flash.specs.Here.{world_seen};
+ghost use Rattle.dr_moves.specs.Here.{world_seen};
 ghost use Rattle.dr_admin.specs.Targets.{IsNextTarget, IsDefinedTarget};
 
 use dr_config::Config;

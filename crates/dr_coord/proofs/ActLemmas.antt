@@ -19,36 +19,14 @@ use Rattle.dr_model.specs.SessionEntries.{last_of, hold_refusal, stale_refusal, 
 use Rattle.dr_model.proofs.CarryLemmas.{act-move}
 use Rattle.dr_volume.specs.Update.{IsMoved}
 use Rattle.dr_volume.specs.View.{Rest, volume_seen}
-use Rattle.dr_flash.specs.Checks.{Checked}
-use Rattle.dr_flash.specs.Here.{world_seen, refusal_of}
-use Rattle.dr_flash.specs.Turns.{Advances, Halts, Leads, Fails}
-use Rattle.dr_flash.proofs.CopyLemmas.{led, failed}
+use Rattle.dr_moves.specs.Checks.{Checked}
+use Rattle.dr_moves.specs.Here.{world_seen, refusal_of}
+use Rattle.dr_moves.specs.Turns.{Advances, Halts, Leads, Fails}
+use Rattle.dr_moves.proofs.EntryLemmas.{led, failed, ends-clear, ends-why, skips}
 use Rattle.dr_facts.proofs.Ends.{ends-off, ends-goes, ends-stops, ends-skips}
 use Rattle.dr_coord.specs.Changes.{begins, begun_if, rest_after, void_on}
-use Rattle.dr_flash.proofs.CheckLemmas.{ends-clear, ends-why}
 use Rattle.dr_facts.proofs.Refusals.{none-both}
 use Rattle.dr_facts.proofs.Turns.{equal-same, equal-not}
-use Rattle.dr_flash.proofs.KeepLemmas.{skips}
-
-pub act-advances : (w v : World) (d : Entry) (a : Act) → d w.control ≡ Do a → act w a ≡ (v, None) → Advances w d v
-act-advances w v d a is done armed u r ds more = ends-goes armed u r w v d ds a is done more
-
-pub act-halts : (armed : ℕ → Bool) (w u : World) (r : Option Refusal) (d : Entry) (a : Act) (server : ℕ) → d w.control ≡ Do a → r ≡ Some (stopped server) → GoesOff armed u r w ⊎ (act w a ≡ (u, Some server)) → Halts armed w d u r
-act-halts armed w u r d a server is refused (inl off) ds = ends-off armed u r w (d ∷ ds) off
-act-halts armed w u r d a server is refused (inr stops) ds = ends-stops armed u r w d ds a server is stops refused
-
--- where the act is a move
-pub move-advances : (w v : World) (d : Entry) (m : Move) → d w.control ≡ Do (Make m) → turn w m ≡ (v, None) → Advances w d v
-move-advances w v d m is done = act-advances w v d (Make m) is (act-move w m ∙ done)
-
-pub move-halts : (armed : ℕ → Bool) (w u : World) (r : Option Refusal) (d : Entry) (m : Move) (server : ℕ) → d w.control ≡ Do (Make m) → r ≡ Some (stopped server) → GoesOff armed u r w ⊎ (turn w m ≡ (u, Some server)) → Halts armed w d u r
-move-halts armed w u r d m server is refused (inl off) = act-halts armed w u r d (Make m) server is refused (inl off)
-move-halts armed w u r d m server is refused (inr stops) = act-halts armed w u r d (Make m) server is refused (inr (act-move w m ∙ stops))
-
--- one reason to refuse, or two
-pub one-checked : (w : World) (why : Control → Option Refusal) (o : Option Refusal) → o ≡ why w.control → Checked w (refuse_if why ∷ []) o
-one-checked w why None is = λ armed u r ds more. ends-clear armed u r w why ds (sym is) more
-one-checked w why (Some e) is = λ armed ds. ends-why armed w why e ds (sym is)
 
 or-some : (a b : Option Refusal) (e : Refusal) → option_or a b ≡ Some e → (a ≡ Some e) ⊎ ((a ≡ None) × (b ≡ Some e))
 or-some None b e is = inr (refl, is)

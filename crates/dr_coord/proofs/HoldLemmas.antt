@@ -20,23 +20,23 @@ use Rattle.dr_model.specs.Moves.{Move, Lift, Restart, fields_left}
 use Rattle.dr_model.specs.Carry.{Pass, Do, Make, Entry, Ended, ended, update, now}
 use Rattle.dr_model.specs.WriteEntries.{belongs, lift_on, restart_on}
 use Rattle.dr_volume.specs.View.{Rest, volume_seen, ids_of}
-use Rattle.dr_flash.specs.Fit.{RelationsFit}
-use Rattle.dr_flash.specs.Here.{world_seen, armed_in}
-use Rattle.dr_flash.specs.declared.told.Told.TheVariants.{Nothing}
-use Rattle.dr_flash.specs.Turns.{told_in_stop, Advances, Halts}
-use Rattle.dr_flash.specs.declared.told.Telling.{Telling}
-use Rattle.dr_flash.proofs.MadeLemmas.{made-goes, made-stops}
-use Rattle.dr_flash.proofs.PlaceLaws.{entry-found}
-use Rattle.dr_flash.proofs.ReadLemmas.{on-running, is-armed}
+use Rattle.dr_moves.specs.Fit.{RelationsFit}
+use Rattle.dr_moves.specs.Here.{world_seen, armed_in}
+use Rattle.dr_moves.specs.declared.told.Told.TheVariants.{Nothing}
+use Rattle.dr_moves.specs.Turns.{told_in_stop, Advances, Halts}
+use Rattle.dr_moves.specs.declared.told.Telling.{Telling}
+use Rattle.dr_moves.proofs.MadeLemmas.{made-goes, made-stops}
+use Rattle.dr_moves.proofs.PlaceLaws.{entry-found}
+use Rattle.dr_moves.proofs.ReadLemmas.{on-running, is-armed}
 use Rattle.dr_volume.specs.Update.{EndsAs, after_reading}
 use Rattle.dr_volume.proofs.UnreadLaws.{armed-of, lies-low}
 use Rattle.dr_model.specs.ReadStops.{shut, Ends}
 use Rattle.dr_model.specs.Refusals.{stopped}
 use Rattle.dr_coord.specs.Standing.{StandsReady}
-use Rattle.dr_flash.proofs.FitLemmas.{fit-kept}
-use Rattle.dr_flash.proofs.FieldLemmas.{covers-all, low-if}
-use Rattle.dr_flash.proofs.MoveLemmas.{MoveFits}
-use Rattle.dr_flash.proofs.TurnLemmas.{Tells, advances, halts, halts-gone}
+use Rattle.dr_moves.proofs.FitLemmas.{fit-kept}
+use Rattle.dr_moves.proofs.MoveFits.{covers-all, MoveFits}
+use Rattle.dr_flash.proofs.FieldLemmas.{low-if}
+use Rattle.dr_moves.proofs.TurnLemmas.{Tells, advances, halts, halts-gone}
 use Rattle.dr_facts.proofs.Ends.{ends-skips, ends-alike, ends-none}
 use Rattle.dr_gcopy.proofs.SendMoves.{low-union}
 use Rattle.dr_config.proofs.KeyLaws.{eqb-turned}
@@ -57,20 +57,6 @@ split s w u b e {server} low ends =
       | true ↦ λ pass h. inl h
       | false ↦ λ stuck h. inr (record { is_armed = is-armed s server low (armed-of (s.read_fuse server) stuck); world = h.world; answer = h.stopped })
     ] refl ends
-
-module _ (s : PlantState) (t : ConfigTable) (v : ℕ) (fit : RelationsFit s t) (lawful : IsLawful (volume_seen s t v).tracks (volume_seen s t v).fields) where
-  abbrev x : Volume
-  x = volume_seen s t v
-
-  pub lift-fits : MoveFits s t v (fields_left (Lift v) x) None
-  lift-fits = record {
-    lawful = lawful-lifted x.tracks x.fields lawful;
-    covers = covers-all x.fields.blank None;
-    leaves = fit-kept s t v (lifted x.fields) fit (λ r. (r, refl)) (fit.apart v);
-  }
-
-pub tells-lift : (v : ℕ) (x : Volume) → Tells (Lift v) x (record { done = Nothing; in_stop = Nothing; landed = 0 })
-tells-lift v x = record { done = refl; in_stop = refl; landed = refl; settles = λ ps. refl; settles_in_stop = λ ps. refl }
 
 pub tells-restart : (v : ℕ) (x : Volume) → Tells (Restart v) x (record { done = Nothing; in_stop = Nothing; landed = 0 })
 tells-restart v x = record { done = refl; in_stop = refl; landed = refl; settles = λ ps. refl; settles_in_stop = λ ps. refl }

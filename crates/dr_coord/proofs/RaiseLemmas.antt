@@ -10,7 +10,7 @@ use Rattle.dr_model.specs.Moves.{RaiseAttempt, RaiseFloor}
 use Rattle.dr_model.specs.Carry.{Make, Pass, Do}
 use Rattle.dr_model.specs.SessionEntries.{raise_attempt_on, raise_floor_on}
 use Rattle.dr_volume.specs.View.{Rest, volume_seen}
-use Rattle.dr_flash.specs.Here.{world_seen}
+use Rattle.dr_moves.specs.Here.{world_seen}
 
 module _ (s : PlantState) (t : ConfigTable) (r : Rest) (events : List Event) (v n : ℕ) where
   abbrev w : World

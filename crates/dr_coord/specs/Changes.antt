@@ -1,8 +1,7 @@
--- Moves that an attempt makes of a volume: what each is to the machine, what it leaves, and what it tells.
+-- Moves that an attempt makes of a volume: what each is to the machine, what it leaves, and how much it tells.
 use Rattle.std.specs.Prelude.{ℕ, Bool, true, not, ◌&&◌, if◌then◌else◌}
 use Rattle.dr_plant.specs.State.{PlantState}
 use Rattle.dr_config.specs.Table.{ConfigTable}
-use Rattle.dr_model.specs.declared.event.Event.TheVariants.{Begin, Cut, Sealed, Left}
 use Rattle.dr_model.specs.Layout.{Fields, is_part}
 use Rattle.dr_model.specs.Sessions.{changed, begun}
 use Rattle.dr_model.specs.Pairs.{held_for, freed, sealed, past_attempt, with_attempt, with_floor, no_member, is_engaged}
@@ -10,8 +9,6 @@ use Rattle.dr_model.specs.Moves.{Move, Hold, Free, Seal, Finish, RaiseAttempt, R
 use Rattle.dr_model.specs.Carry.{Make, Pass, Do, Entry, equal}
 use Rattle.dr_model.specs.Entries.{fields_at}
 use Rattle.dr_volume.specs.View.{Rest, volume_seen}
-use Rattle.dr_flash.specs.declared.told.Told.{Told}
-use Rattle.dr_flash.specs.declared.told.Told.TheVariants.{Nothing, One, Two}
 use Rattle.dr_coord.specs.declared.changes.Change.{Change}
 use Rattle.dr_coord.specs.declared.changes.Change.TheVariants as change
 
@@ -40,16 +37,6 @@ next_of (change.Finish n) f = past_attempt n f
 next_of (change.RaiseAttempt n) f = with_attempt n f
 next_of (change.RaiseFloor n) f = with_floor n f
 next_of (change.Leave u s) f = no_member f
-
--- what the journal is told of it
-abbrev pub told_of : ℕ → Change → Told
-told_of v (change.Hold s n first) = if first then Two (Begin s.0 n) (Cut s.0 n v) else One (Cut s.0 n v)
-told_of v change.Free = Nothing
-told_of v (change.Seal u s n) = One (Sealed s.0 n u.0)
-told_of v (change.Finish n) = Nothing
-told_of v (change.RaiseAttempt n) = Nothing
-told_of v (change.RaiseFloor n) = Nothing
-told_of v (change.Leave u s) = One (Left s.0 u.0)
 
 -- how many events that is
 abbrev pub count_of : Change → ℕ

@@ -6,22 +6,19 @@ ghost use Rattle.dr_config.specs.Table.{place_of};
 ghost use Rattle.dr_model.specs.Carry as machine;
 ghost use Rattle.dr_model.specs.ReadStops.{GoesOff};
 ghost use Rattle.dr_model.specs.Refusals.{stopped};
-ghost use Rattle.dr_volume.specs.Plain.{plain};
 ghost use Rattle.dr_volume.specs.Update.{IsMoved, OthersStay};
 ghost use Rattle.dr_volume.specs.View.{Rest, volume_seen};
-ghost use Rattle.dr_flash.specs.Fit.{RelationsFit};
-ghost use Rattle.dr_flash.specs.Here.{world_seen, refusal_of, armed_in, IsAtRest};
-ghost use Rattle.dr_coord.specs.Aside.{AsideFits};
-ghost use Rattle.dr_coord.specs.declared.changes.Change.TheVariants as change;
-ghost use Rattle.dr_coord.specs.Changes.{move_of, may_change, next_of, told_of, count_of};
+ghost use Rattle.dr_moves.specs.Fit.{RelationsFit};
+ghost use Rattle.dr_moves.specs.Moves as moves;
+ghost use Rattle.dr_moves.specs.Here.{world_seen, refusal_of, armed_in, IsAtRest};
+ghost use Rattle.dr_moves.specs.Aside.{AsideFits};
+ghost use Rattle.dr_coord.specs.Changes.{move_of, may_change, next_of, count_of};
 
-use crate::fields::{freed, held_for, no_member, past_attempt, sealed, with_attempt, with_floor};
 use dr_config::Config;
-use dr_flash::{Telling, Told, shift};
 use dr_ids::{Refusal, SessionId, VolumeId};
-use dr_model::{Event, Journal};
+use dr_model::Journal;
+use dr_moves::{Move, make_move};
 use dr_plant::Plant;
-use dr_volume::{Fields, peek_fields};
 
 /// What becomes of a volume in an attempt.
 #[derive(Clone, Copy)]
@@ -59,64 +56,36 @@ pub enum Change {
     },
 }
 
-/// The fields that it leaves.
-fn next_of(x: Change, f: &Fields) -> Fields
-    ensures { plain result ≡ next_of x (plain f.now) }
+/// The move of `v` that it is.
+fn move_for(v: VolumeId, x: Change) -> Move
+    ensures { moves.move_of result ≡ move_of v.0 x }
 {
     match x {
-        Change::Hold { n, .. } => held_for(n, f),
-        Change::Free => freed(f),
-        Change::Seal { n, .. } => sealed(n, f),
-        Change::Finish { n } => past_attempt(n, f),
-        Change::RaiseAttempt { n } => with_attempt(n, f),
-        Change::RaiseFloor { n } => with_floor(n, f),
-        Change::Leave { .. } => no_member(f),
-    }
-}
-
-/// What a hold tells: the first one that its attempt begins, and each that the volume is cut.
-fn told_of_hold(v: VolumeId, session: SessionId, n: u32, first: bool) -> Told
-    ensures { result ≡ told_of v.0 (change.Hold session n first) }
-{
-    let cut = Event::Cut {
-        session: session.0,
-        n,
-        volume: v.0,
-    };
-    if first {
-        let begin = Event::Begin {
-            session: session.0,
+        Change::Hold { session, n, first } => Move::Hold {
+            v,
+            s: session,
             n,
-        };
-        Told::Two(begin, cut)
-    } else {
-        Told::One(cut)
-    }
-}
-
-/// What it tells.
-fn told_of(v: VolumeId, x: Change) -> Told
-    ensures { result ≡ told_of v.0 x }
-{
-    match x {
-        Change::Hold { session, n, first } => told_of_hold(v, session, n, first),
+            first,
+        },
+        Change::Free => Move::Free { v },
         Change::Seal {
             primary,
             session,
             n,
-        } => Told::One(Event::Sealed {
-            session: session.0,
+        } => Move::Seal {
+            v,
+            u: primary,
+            s: session,
             n,
-            volume: primary.0,
-        }),
-        Change::Leave { primary, session } => Told::One(Event::Left {
-            session: session.0,
-            volume: primary.0,
-        }),
-        Change::Free
-        | Change::Finish { .. }
-        | Change::RaiseAttempt { .. }
-        | Change::RaiseFloor { .. } => Told::Nothing,
+        },
+        Change::Finish { n } => Move::Finish { v, n },
+        Change::RaiseAttempt { n } => Move::RaiseAttempt { v, n },
+        Change::RaiseFloor { n } => Move::RaiseFloor { v, n },
+        Change::Leave { primary, session } => Move::Leave {
+            v,
+            u: primary,
+            s: session,
+        },
     }
 }
 
@@ -151,14 +120,5 @@ pub fn make_change<P: Plant>(
     ensures room_left { OnOk result (journal.old.spare ≡ journal.new.spare + count_of x) }
     ensures spare { length journal.new.events + journal.new.spare ≡ length journal.old.events + journal.old.spare }
 {
-    let next = next_of(x, &peek_fields(plant, config, v));
-    shift(
-        plant,
-        config,
-        journal,
-        v,
-        &next,
-        None,
-        &Telling::of(told_of(v, x)),
-    )
+    make_move(plant, config, journal, &move_for(v, x), None)
 }

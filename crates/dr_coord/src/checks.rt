@@ -10,13 +10,13 @@ ghost use Rattle.dr_model.specs.Pairs as pairs;
 ghost use Rattle.dr_model.specs.SessionEntries as entries;
 ghost use Rattle.dr_volume.specs.Plain.{plain};
 ghost use Rattle.dr_volume.specs.View.{Rest, volume_seen};
-ghost use Rattle.dr_flash.specs.Checks.{OnNone, is_stop};
-ghost use Rattle.dr_flash.specs.Here.{world_seen};
+ghost use Rattle.dr_moves.specs.Checks.{OnNone, is_stop};
+ghost use Rattle.dr_moves.specs.Here.{world_seen};
 
 use crate::fields::{may_hold, records};
 use dr_config::Config;
-use dr_flash::pair_state;
 use dr_ids::{Refusal, VolumeId};
+use dr_moves::pair_state;
 use dr_plant::Plant;
 use dr_volume::{Fields, peek_fields};
 

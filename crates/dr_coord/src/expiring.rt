@@ -10,15 +10,14 @@ ghost use Rattle.dr_model.specs.Refusals.{stopped};
 ghost use Rattle.dr_model.specs.WriteEntries.{lift_on};
 ghost use Rattle.dr_volume.specs.Update.{OthersStay};
 ghost use Rattle.dr_volume.specs.View.{Rest, volume_seen};
-ghost use Rattle.dr_flash.specs.Fit.{RelationsFit};
-ghost use Rattle.dr_flash.specs.Here.{world_seen, refusal_of, armed_in, IsAtRest};
-ghost use Rattle.dr_flash.specs.Turns.{Advances, Halts};
+ghost use Rattle.dr_moves.specs.Fit.{RelationsFit};
+ghost use Rattle.dr_moves.specs.Here.{world_seen, refusal_of, armed_in, IsAtRest};
+ghost use Rattle.dr_moves.specs.Turns.{Advances, Halts};
 
-use crate::fields::lifted;
 use dr_config::Config;
-use dr_flash::{Telling, Told, shift};
 use dr_ids::{Refusal, VolumeId};
 use dr_model::Journal;
+use dr_moves::{Move, make_move};
 use dr_plant::Plant;
 use dr_volume::{is_held, peek_fields};
 
@@ -48,16 +47,7 @@ fn lift<P: Plant>(
     ensures room_left { OnOk result (journal.old.spare ≡ journal.new.spare) }
     ensures spare { length journal.new.events + journal.new.spare ≡ length journal.old.events + journal.old.spare }
 {
-    let next = lifted(&peek_fields(plant, config, v));
-    shift(
-        plant,
-        config,
-        journal,
-        v,
-        &next,
-        None,
-        &Telling::of(Told::Nothing),
-    )
+    make_move(plant, config, journal, &Move::Lift { v }, None)
 }
 
 /// Ends the holds of a volume whose server is on, where it has any: it is long busy no more, and a coordination hold ends

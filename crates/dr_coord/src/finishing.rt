@@ -8,17 +8,18 @@ ghost use Rattle.dr_model.specs.Refusals.{stopped};
 ghost use Rattle.dr_model.specs.SessionEntries.{finish_on};
 ghost use Rattle.dr_volume.specs.Update.{OthersStay};
 ghost use Rattle.dr_volume.specs.View.{Rest, volume_seen};
-ghost use Rattle.dr_flash.specs.Fit.{RelationsFit};
-ghost use Rattle.dr_flash.specs.Here.{world_seen, refusal_of, armed_in, IsAtRest};
-ghost use Rattle.dr_flash.specs.Turns.{Advances, Halts};
-ghost use Rattle.dr_coord.specs.Aside.{AsideFits};
+ghost use Rattle.dr_moves.specs.Fit.{RelationsFit};
+ghost use Rattle.dr_moves.specs.Here.{world_seen, refusal_of, armed_in, IsAtRest};
+ghost use Rattle.dr_moves.specs.Turns.{Advances, Halts};
+ghost use Rattle.dr_moves.specs.Aside.{AsideFits};
 ghost use Rattle.dr_coord.specs.Changes.{void_on};
 
 use crate::changes::{Change, make_change};
-use crate::fields::{is_engaged, is_past};
+use crate::fields::is_past;
 use dr_config::Config;
 use dr_ids::{Member, Refusal, VolumeId};
 use dr_model::Journal;
+use dr_moves::is_engaged;
 use dr_plant::Plant;
 use dr_volume::peek_fields;
 

@@ -8,9 +8,9 @@ ghost use Rattle.dr_model.specs.Refusals.{stopped};
 ghost use Rattle.dr_model.specs.SessionEntries.{raise_attempt_on, raise_floor_on};
 ghost use Rattle.dr_volume.specs.Update.{OthersStay};
 ghost use Rattle.dr_volume.specs.View.{Rest, volume_seen};
-ghost use Rattle.dr_flash.specs.Fit.{RelationsFit};
-ghost use Rattle.dr_flash.specs.Here.{world_seen, refusal_of, armed_in, IsAtRest};
-ghost use Rattle.dr_flash.specs.Turns.{Advances, Halts};
+ghost use Rattle.dr_moves.specs.Fit.{RelationsFit};
+ghost use Rattle.dr_moves.specs.Here.{world_seen, refusal_of, armed_in, IsAtRest};
+ghost use Rattle.dr_moves.specs.Turns.{Advances, Halts};
 
 use crate::changes::{Change, make_change};
 use dr_config::Config;

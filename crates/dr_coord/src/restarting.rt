@@ -9,15 +9,15 @@ ghost use Rattle.dr_model.specs.Refusals.{stopped};
 ghost use Rattle.dr_model.specs.WriteEntries.{restart_on};
 ghost use Rattle.dr_volume.specs.Update.{OthersStay};
 ghost use Rattle.dr_volume.specs.View.{Rest, volume_seen, IsSettled};
-ghost use Rattle.dr_flash.specs.Here.{world_seen, refusal_of, armed_in};
-ghost use Rattle.dr_flash.specs.Turns.{Advances, Halts};
+ghost use Rattle.dr_moves.specs.Here.{world_seen, refusal_of, armed_in};
+ghost use Rattle.dr_moves.specs.Turns.{Advances, Halts};
 ghost use Rattle.dr_coord.specs.Standing.{StandsReady};
 
-use crate::fields::{must_restart, restarted};
+use crate::fields::must_restart;
 use dr_config::Config;
-use dr_flash::server_of;
 use dr_ids::{Refusal, VolumeId};
 use dr_model::{Event, Journal};
+use dr_moves::{restarted, server_of};
 use dr_plant::Plant;
 use dr_volume::{peek_fields, update};
 

@@ -20,8 +20,8 @@ use Rattle.dr_model.specs.Refusals.{unknown}
 use Rattle.dr_volume.specs.View.{Rest}
 use Rattle.dr_volume.proofs.WorldLaws.{any_id}
 use Rattle.dr_facts.proofs.Ends.{ends-passed}
-use Rattle.dr_flash.specs.Here.{world_seen}
-use Rattle.dr_flash.proofs.PlaceLaws.{entry-found}
+use Rattle.dr_moves.specs.Here.{world_seen}
+use Rattle.dr_moves.proofs.PlaceLaws.{entry-found}
 use Rattle.dr_failover.specs.Outcomes.{DifferFirst}
 
 module _ (s : PlantState) (t : ConfigTable) (r : Rest) (events : List Event) where

@@ -16,7 +16,7 @@ use Rattle.dr_model.specs.Pairs.{is_primary_of, is_kind, is_metro, is_engaged, i
 use Rattle.dr_model.specs.Relations.{is_bare}
 use Rattle.dr_model.specs.Table.{table}
 use Rattle.dr_volume.specs.View.{Rest, volume_seen, track_seen}
-use Rattle.dr_flash.specs.Here.{world_seen}
+use Rattle.dr_moves.specs.Here.{world_seen}
 use Rattle.dr_facts.proofs.Sets.{not_in_union}
 use Rattle.dr_failover.specs.Outcomes.{unsent_seen, fallen_seen, Turned, IsTurned}
 use Rattle.dr_failover.proofs.TurnedLemmas.{leads-partner}

@@ -16,8 +16,8 @@ use Rattle.dr_model.specs.Moves.{FallBack, Yield}
 use Rattle.dr_model.specs.Pairs.{is_kind, is_primary_of, is_secondary_of, taken_over, yielded}
 use Rattle.dr_volume.specs.Update.{IsAsBefore, IsMoved, OthersStay}
 use Rattle.dr_volume.specs.View.{volume_seen, track_seen}
-use Rattle.dr_flash.specs.declared.told.Told.TheVariants.{Nothing}
-use Rattle.dr_flash.proofs.TurnLemmas.{Tells}
+use Rattle.dr_moves.specs.declared.told.Told.TheVariants.{Nothing}
+use Rattle.dr_moves.proofs.TurnLemmas.{Tells}
 use Rattle.dr_gcopy.proofs.SendMoves.{low-union}
 use Rattle.dr_laws_sound.proofs.RowsAfter.{zeros-stay}
 use Rattle.dr_failover.specs.Outcomes.{IsTakenFrom, fallen_seen, yielded_seen, Turned}

@@ -10,15 +10,16 @@ ghost use Rattle.dr_model.specs.PairEntries as pair_entries;
 ghost use Rattle.dr_model.specs.Pairs as pairs;
 ghost use Rattle.dr_volume.specs.Plain.{plain};
 ghost use Rattle.dr_volume.specs.View.{Rest, volume_seen};
-ghost use Rattle.dr_flash.specs.Checks.{Checked, OnNone, is_stop};
-ghost use Rattle.dr_flash.specs.Here.{world_seen, IsAtRest};
+ghost use Rattle.dr_moves.specs.Checks.{Checked, OnNone, is_stop};
+ghost use Rattle.dr_moves.specs.Here.{world_seen, IsAtRest};
 ghost use Rattle.dr_failover.specs.Steps.{failover_checks, lead_checks, settled_checks, failback_checks};
 
 use dr_config::Config;
-use dr_flash::{is_settled, pair_state, relation_state};
+use dr_flash::{is_settled, relation_state};
 use dr_gcopy::{is_primary_of, is_secondary_of, reach_refusal, running_refusal};
 use dr_ids::{Refusal, VolumeId};
 use dr_model::Part;
+use dr_moves::pair_state;
 use dr_plant::Plant;
 use dr_volume::{Fields, peek_fields};
 

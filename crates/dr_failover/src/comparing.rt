@@ -10,16 +10,16 @@ ghost use Rattle.dr_model.specs.Plans.{compare_entries};
 ghost use Rattle.dr_model.specs.ReadStops.{Ends};
 ghost use Rattle.dr_volume.specs.Update.{IsAsBefore};
 ghost use Rattle.dr_volume.specs.View.{Rest, volume_seen, track_seen};
-ghost use Rattle.dr_flash.specs.Checks.{Checked, OnNone, is_stop};
-ghost use Rattle.dr_flash.specs.Here.{world_seen, refusal_of, armed_in, IsAtRest};
+ghost use Rattle.dr_moves.specs.Checks.{Checked, OnNone, is_stop};
+ghost use Rattle.dr_moves.specs.Here.{world_seen, refusal_of, armed_in, IsAtRest};
 ghost use Rattle.dr_failover.specs.Steps.{compare_checks};
 ghost use Rattle.dr_failover.specs.Outcomes.{DifferFirst};
 
 use dr_config::Config;
-use dr_flash::tracks_of;
 use dr_gcopy::{difference, running_refusal};
 use dr_ids::{Refusal, VolumeId, Which};
 use dr_model::Journal;
+use dr_moves::tracks_of;
 use dr_plant::Plant;
 
 /// Why two volumes aren't compared: the server of the first is off, or else that of the second, or else their sizes differ.

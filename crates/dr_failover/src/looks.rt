@@ -6,9 +6,9 @@ ghost use Rattle.dr_model.specs.declared.event.Event.{Event};
 ghost use Rattle.dr_model.specs.Plans as plans;
 ghost use Rattle.dr_model.specs.Sessions as model;
 ghost use Rattle.dr_volume.specs.View.{Rest};
-ghost use Rattle.dr_flash.specs.Checks.{is_stop};
+ghost use Rattle.dr_moves.specs.Checks.{is_stop};
 ghost use Rattle.dr_flash.specs.Heads.{targets_by};
-ghost use Rattle.dr_flash.specs.Here.{world_seen};
+ghost use Rattle.dr_moves.specs.Here.{world_seen};
 ghost use Rattle.dr_incr.specs.Steps.{volume_number};
 ghost use Rattle.dr_gmirror.specs.Orders.{AreReady, with_sessions};
 

@@ -10,19 +10,17 @@ ghost use Rattle.dr_model.specs.Layout as layout;
 ghost use Rattle.dr_model.specs.Moves.{FallBack, Yield};
 ghost use Rattle.dr_model.specs.Pairs as pairs;
 ghost use Rattle.dr_model.specs.Refusals.{stopped};
-ghost use Rattle.dr_volume.specs.Plain.{plain};
 ghost use Rattle.dr_volume.specs.Update.{IsAsBefore, IsMoved, OthersStay};
 ghost use Rattle.dr_volume.specs.View.{Rest, volume_seen};
-ghost use Rattle.dr_flash.specs.Fit.{RelationsFit};
-ghost use Rattle.dr_flash.specs.Here.{world_seen, refusal_of, armed_in, IsAtRest};
-ghost use Rattle.dr_flash.specs.Turns.{Advances, Halts};
+ghost use Rattle.dr_moves.specs.Fit.{RelationsFit};
+ghost use Rattle.dr_moves.specs.Here.{world_seen, refusal_of, armed_in, IsAtRest};
+ghost use Rattle.dr_moves.specs.Turns.{Advances, Halts};
 
 use dr_bits::TrackSet;
 use dr_config::Config;
-use dr_flash::{Telling, Told, shift};
-use dr_gcopy::{made_secondary, no_primary, voided};
 use dr_ids::{Refusal, VolumeId};
 use dr_model::{Journal, PairState, Part};
+use dr_moves::{Telling, Told, fallen_back, shift, yielded};
 use dr_plant::Plant;
 use dr_volume::{Fields, peek_fields};
 
@@ -33,32 +31,6 @@ pub(crate) fn unsent(f: &Fields) -> TrackSet
     let mut all = f.out_of_sync;
     all.union(&f.change_recording);
     all
-}
-
-/// A primary that is voided, with these tracks out of sync too.
-pub(crate) fn with_more(more: &TrackSet, f: &Fields) -> Fields
-    ensures { plain result ≡ pairs.with_more more.now (plain f.now) }
-{
-    let mut next = voided(f);
-    next.out_of_sync.union(more);
-    next
-}
-
-/// The primary of a pair that goes the other way round from now on.
-fn fallen_back(more: &TrackSet, state: PairState, f: &Fields) -> Fields
-    ensures { plain result ≡ pairs.fallen_back more.now state (plain f.now) }
-{
-    Fields {
-        primary_state: state,
-        ..with_more(more, f)
-    }
-}
-
-/// And its secondary, which was a primary: its attempt stays.
-fn yielded(a: VolumeId, kind: Part, state: PairState, f: &Fields) -> Fields
-    ensures { plain result ≡ pairs.yielded a.0 kind state (plain f.now) }
-{
-    made_secondary(a, kind, state, &no_primary(f))
 }
 
 /// Primary x is voided, these tracks of it are out of sync too, and it goes on in that state.

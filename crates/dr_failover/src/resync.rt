@@ -13,18 +13,18 @@ ghost use Rattle.dr_model.specs.Relations.{lowest};
 ghost use Rattle.dr_volume.specs.Plain.{plain};
 ghost use Rattle.dr_volume.specs.Update.{IsAsBefore};
 ghost use Rattle.dr_volume.specs.View.{Rest, volume_seen};
-ghost use Rattle.dr_flash.specs.Checks.{OnNone, is_stop};
-ghost use Rattle.dr_flash.specs.Fit.{RelationsFit};
-ghost use Rattle.dr_flash.specs.Here.{world_seen, refusal_of, armed_in, IsAtRest};
+ghost use Rattle.dr_moves.specs.Checks.{OnNone, is_stop};
+ghost use Rattle.dr_moves.specs.Fit.{RelationsFit};
+ghost use Rattle.dr_moves.specs.Here.{world_seen, refusal_of, armed_in, IsAtRest};
 ghost use Rattle.dr_gcopy.specs.Followed.{EndsFollowed};
 ghost use Rattle.dr_failover.specs.Steps.{copying_refusal, resync_entries};
 ghost use Rattle.dr_failover.specs.Outcomes.{HasPartner, IsOneSent};
 
 use dr_config::Config;
-use dr_flash::{lowest, pair_state, tracks_of};
 use dr_gcopy::{running_refusal, send_track};
 use dr_ids::{Refusal, VolumeId};
 use dr_model::Journal;
+use dr_moves::{lowest, pair_state, tracks_of};
 use dr_plant::Plant;
 use dr_volume::{Fields, peek_fields};
 

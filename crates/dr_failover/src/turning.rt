@@ -9,19 +9,20 @@ ghost use Rattle.dr_model.specs.Pairs as pairs;
 ghost use Rattle.dr_model.specs.Refusals.{stopped};
 ghost use Rattle.dr_volume.specs.Update.{IsAsBefore, IsMoved, OthersStay};
 ghost use Rattle.dr_volume.specs.View.{Rest, volume_seen};
-ghost use Rattle.dr_flash.specs.Checks.{is_stop};
-ghost use Rattle.dr_flash.specs.Fit.{RelationsFit};
-ghost use Rattle.dr_flash.specs.Here.{world_seen, refusal_of, armed_in, IsAtRest};
-ghost use Rattle.dr_flash.specs.Turns.{Advances, Halts, Leads, Fails};
+ghost use Rattle.dr_moves.specs.Checks.{is_stop};
+ghost use Rattle.dr_moves.specs.Fit.{RelationsFit};
+ghost use Rattle.dr_moves.specs.Here.{world_seen, refusal_of, armed_in, IsAtRest};
+ghost use Rattle.dr_moves.specs.Turns.{Advances, Halts, Leads, Fails};
 ghost use Rattle.dr_gcopy.specs.Steps.{BothAlone};
 ghost use Rattle.dr_failover.specs.Steps.{failback_moves};
 ghost use Rattle.dr_failover.specs.Outcomes.{fallen_seen, yielded_seen, Turned, ZerosThere, SameTracks};
 
-use crate::moves::{fall_back, unsent, with_more, yield_to};
+use crate::moves::{fall_back, unsent, yield_to};
 use dr_config::Config;
 use dr_gcopy::next_state;
 use dr_ids::{Refusal, VolumeId};
 use dr_model::Journal;
+use dr_moves::with_more;
 use dr_plant::Plant;
 use dr_volume::{peek_fields, peek_head};
 

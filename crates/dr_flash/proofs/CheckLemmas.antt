@@ -1,38 +1,17 @@
 -- Checks of a call, as entries.
-use Rattle.std.proofs.Common.{ℕ, zero, suc, ◌≡◌, ◌≢◌, ◌<◌, ◌≤◌, Bool, true, false, not, ◌&&◌, ◌||◌, cond, List, [], ◌∷◌, length, slice_get, nat_eq, nat_lt, arith, inl, inr, refl, sym, ◌∙◌, ap, subst, Option, Some, None}
-use Rattle.std.specs.Prelude.{filter, Result, Ok, Err, OnOk, OnErr, is_err}
+use Rattle.std.proofs.Common.{ℕ, zero, suc, ◌≡◌, ◌≢◌, ◌<◌, ◌≤◌, Bool, true, false, not, ◌&&◌, ◌||◌, cond, List, [], ◌∷◌, length, slice_get, nat_eq, nat_lt, arith, inl, inr, refl, sym, ◌∙◌, ap, subst, Some, None}
+use Rattle.std.specs.Prelude.{filter}
 use Rattle.std.specs.List.{list_any}
-use Rattle.std.proofs.lemmas.Bool.Decides.{eqb_tells, Decides-eqb, nat_tests}
+use Rattle.std.proofs.lemmas.Bool.Decides.{eqb_tells, Decides-eqb}
 use Rattle.std.proofs.lemmas.Bool.{or_right, lt-ltb, le-ltb}
-use Rattle.dr_logic.specs.Counts.{Counted}
-use Rattle.dr_ids.specs.declared.refusal.Refusal.{Refusal}
 use Rattle.dr_plant.specs.State.{PlantState}
 use Rattle.dr_config.specs.Table.{ConfigTable, place_of}
 use Rattle.dr_config.specs.declared.entries.VolumeEntry.{VolumeEntry}
 use Rattle.dr_config.proofs.Lookups.{entry-at-place}
-use Rattle.dr_model.specs.Control.{Control, World}
-use Rattle.dr_model.specs.Carry.{Entry, check}
 use Rattle.dr_model.specs.Entries.{copies_from}
-use Rattle.dr_model.specs.PairEntries.{refuse_if, end_if}
-use Rattle.dr_model.specs.Refusals.{stopped}
-use Rattle.dr_model.specs.ReadStops.{Ends}
-use Rattle.dr_volume.specs.View.{Rest, volume_seen, volume_at, on_seen, ids_of}
-use Rattle.dr_flash.specs.Checks.{is_stop}
-use Rattle.dr_flash.specs.Here.{refusal_of}
+use Rattle.dr_volume.specs.View.{volume_seen, volume_at, ids_of}
 use Rattle.dr_flash.specs.Standing.{targets_in}
-use Rattle.dr_facts.proofs.Ends.{ends-refused, ends-none, ends-skips, ends-alike}
-use Rattle.dr_flash.specs.Turns.{Advances, Halts}
 use Rattle.dr_flash.proofs.StandingLemmas.{any-count}
-
-pub refuses : (armed : ℕ → Bool) (w : World) (ok : Control → Bool) (why : Refusal) (r : Option Refusal) (ds : List Entry) → ok w.control ≡ false → r ≡ Some why → Ends armed w r w (check ok why ∷ ds)
-refuses armed w ok why r ds h is = ends-refused armed w r w ok why ds h refl is
-
--- a reason to refuse, where there is one
-pub ends-clear : (armed : ℕ → Bool) (u : World) (r : Option Refusal) (w : World) (why : Control → Option Refusal) (ds : List Entry) → why w.control ≡ None → Ends armed u r w ds → Ends armed u r w (refuse_if why ∷ ds)
-ends-clear armed u r w why ds none more = ends-skips armed u r w (refuse_if why) ds (ap end_if none) more
-
-pub ends-why : (armed : ℕ → Bool) (w : World) (why : Control → Option Refusal) (e : Refusal) (ds : List Entry) → why w.control ≡ Some e → Ends armed w (Some e) w (refuse_if why ∷ ds)
-ends-why armed w why e ds is = ends-alike armed w (Some e) w (refuse_if why) (check (λ k. false) e) ds (ap end_if is) (ends-refused armed w (Some e) w (λ k. false) e ds refl refl refl)
 
 -- tests of numbers
 pub same-test : (a b : ℕ) → a ≡ b → nat_eq a b ≡ true
@@ -76,18 +55,3 @@ lone-by s t v n count none u related is =
           let some = listed (λ u. copies_from v (volume_seen s t u).fields) t.volumes d x.0 x.1 own in
           omega (arith, some, count, none)
     ] refl
-
--- a call that fails only by a stop
-pub counted-stop : (r : Result (Unit {0}) Refusal) (a b server : ℕ) → Counted (is_err r) a b → OnErr r (refusal_of r ≡ Some (stopped server)) → Counted (is_stop (refusal_of r)) a b
-counted-stop (Ok x) a b server counted refused = counted
-counted-stop (Err e) a b server counted refused = subst (λ o. Counted (is_stop o) a b) (sym refused) counted
-
--- one act that is the last entry
-pub act-ends : {T : Type 0} (res : Result T Refusal) (armed : ℕ → Bool) (w v : Rest → World) (d : Entry) → OnOk res ((r : Rest) → Advances (w r) d (v r)) → OnErr res ((r : Rest) → Halts armed (w r) d (v r) (refusal_of res)) → (r : Rest) → Ends armed (v r) (refusal_of res) (w r) (d ∷ [])
-act-ends (Ok x) armed w v d goes halts r = goes r armed (v r) None [] (ends-none armed (v r) None (v r) (record { world = refl; refusal = refl }))
-act-ends (Err e) armed w v d goes halts r = halts r []
-
--- and so nothing but a stop fails it
-pub only-stops : (X : Type 0) (res : Result (Unit {0}) Refusal) (server : ℕ) → OnErr res (refusal_of res ≡ Some (stopped server)) → is_stop (refusal_of res) ≡ false → OnErr res X
-only-stops X (Ok x) server refused calm = tt
-only-stops X (Err e) server refused calm = absurd (let never : true ≡ false = sym (ap is_stop refused) ∙ calm in cc)

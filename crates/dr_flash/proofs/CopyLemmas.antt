@@ -1,25 +1,18 @@
 -- What the targets of a source keep, from one volume of the configuration to the next.
-use Rattle.std.proofs.Common.{ℕ, ◌≡◌, ◌≤◌, ◌<◌, ◌+◌, suc, zero, arith, inl, inr, nat_eq, Bool, true, false, List, [], ◌∷◌, drop, length, map, slice_get, refl, sym, ◌∙◌, ap, subst, Option, Some, None, nat_lt}
+use Rattle.std.proofs.Common.{ℕ, ◌≡◌, ◌≤◌, ◌<◌, ◌+◌, suc, zero, arith, inl, inr, nat_eq, true, false, List, [], ◌∷◌, drop, length, map, slice_get, refl, sym, ◌∙◌, ap, subst, Option, Some, None}
 use Rattle.std.specs.Prelude.{option_map, unwrap_or, is_some, ◌&&◌}
 use Rattle.std.proofs.Math.Numerals.{suc-eq-add-one}
-use Rattle.std.proofs.lemmas.List.{drop_all, append-nil}
-use Rattle.dr_ids.specs.declared.refusal.Refusal.{Refusal}
+use Rattle.std.proofs.lemmas.List.{drop_all}
 use Rattle.dr_plant.specs.State.{PlantState}
 use Rattle.dr_config.specs.Table.{ConfigTable, place_of, IsSoundConfig}
 use Rattle.dr_config.specs.declared.entries.VolumeEntry.{VolumeEntry}
-use Rattle.dr_model.specs.Control.{World}
 use Rattle.dr_model.specs.Carry.{Entry}
-use Rattle.dr_model.specs.ReadStops.{Ends}
 use Rattle.dr_model.specs.Entries.{keep_on, copies_from}
 use Rattle.dr_volume.specs.View.{ids_of, volume_seen}
-use Rattle.dr_volume.specs.Update.{IsAsBefore}
 use Rattle.dr_volume.proofs.HeadLaws.{entry-there}
 use Rattle.dr_flash.specs.Heads.{id_at}
-use Rattle.dr_flash.specs.Here.{armed_in}
-use Rattle.dr_flash.specs.Turns.{Leads, Fails}
-use Rattle.dr_facts.proofs.Ends.{ends-none}
-use Rattle.dr_flash.proofs.FitLemmas.{target-no_source}
-use Rattle.dr_flash.specs.Fit.{RelationsFit}
+use Rattle.dr_moves.proofs.FitLemmas.{target-no_source}
+use Rattle.dr_moves.specs.Fit.{RelationsFit}
 use Rattle.dr_ids.specs.declared.names.VolumeId.{VolumeId}
 use Rattle.std.proofs.lemmas.Bool.Decides.{eqb_tells}
 
@@ -40,32 +33,6 @@ keeps-next t v k place u at = ap (map (keep_on v k)) (ids-next t place u at)
 
 pub keeps-none : (t : ConfigTable) (v k place : ℕ) → length t.volumes ≤ place → keeps_from t v k place ≡ []
 keeps-none t v k place all = ap (λ es. map (keep_on v k) (ids_of es)) (drop_all place t.volumes all)
-
-pub before-then : (s t u : PlantState) (c : ConfigTable) (q : ℕ) → IsAsBefore s t c q → IsAsBefore t u c q → IsAsBefore s u c q
-before-then s t u c q a b = record { volume = b.volume ∙ a.volume; tracks = b.tracks ∙ a.tracks }
-
--- no fuse is armed later that wasn't
-pub wider-armed : (s u : PlantState) → ((q : ℕ) → s.read_fuse q ≡ None → u.read_fuse q ≡ None) → (q : ℕ) → armed_in u q ≡ true → armed_in s q ≡ true
-wider-armed s u unarmed q h =
-    elim (s.read_fuse q) as (λ o. s.read_fuse q ≡ o → armed_in s q ≡ true) [
-      | None ↦ λ none. absurd (let later : armed_in u q ≡ false = ap (λ o. nat_lt q 8 && is_some o) (unarmed q none) ∙ either_no (nat_lt q 8) in cc)
-      | Some n ↦ λ some. ap (λ o. nat_lt q 8 && is_some o) some ∙ either_yes (nat_lt q 8) (is_some (u.read_fuse q)) h
-    ] refl
-  where
-    either_no : (b : Bool) → (b && false) ≡ false
-    either_no true = refl
-    either_no false = refl
-
-    either_yes : (b x : Bool) → (b && x) ≡ true → (b && true) ≡ true
-    either_yes true x h = refl
-    either_yes false x h = h
-
--- entries that led on, or failed, with none behind them
-pub led : (armed : ℕ → Bool) (w v : World) (es : List Entry) → Leads w es v → Ends armed v None w es
-led armed w v es leads = subst (Ends armed v None w) (append-nil es) (leads armed v None [] (ends-none armed v None v (record { world = refl; refusal = refl })))
-
-pub failed : (armed : ℕ → Bool) (w u : World) (r : Option Refusal) (es : List Entry) → Fails armed w es u r → Ends armed u r w es
-failed armed w u r es fails = subst (Ends armed u r w) (append-nil es) (fails [])
 
 at-some : (es : List VolumeEntry) (i : ℕ) → i < length es → is_some (slice_get es i) ≡ true
 at-some [] i h = absurd (omega (arith, h))

@@ -1,5 +1,5 @@
 -- A source is read where its target can be, and what the background copy comes to.
-use Rattle.std.proofs.Common.{ℕ, List, ◌≡◌, Bool, true, false, ◌&&◌, refl, sym, ◌∙◌, ap, Option, None, Some}
+use Rattle.std.proofs.Common.{ℕ, List, ◌≡◌, true, ◌&&◌, sym, ◌∙◌, ap, Option, None, Some}
 use Rattle.std.specs.Prelude.{is_some, if◌then◌else◌}
 use Rattle.dr_plant.specs.State.{PlantState, can_read, passes_read}
 use Rattle.dr_config.specs.Table.{ConfigTable, StandsFor, place_of}
@@ -13,8 +13,8 @@ use Rattle.dr_volume.specs.declared.fields.Fields.{Fields}
 use Rattle.dr_volume.specs.Plain.{plain}
 use Rattle.dr_volume.specs.View.{Rest, volume_seen, device_of}
 use Rattle.dr_volume.proofs.VolumeLaws.{placed, volume-placed, device-placed}
-use Rattle.dr_flash.specs.Fit.{SourceFits}
-use Rattle.dr_flash.specs.Here.{world_seen}
+use Rattle.dr_moves.specs.Fit.{SourceFits}
+use Rattle.dr_moves.specs.Here.{world_seen}
 
 -- a volume's device is its server's
 pub owned : (s : PlantState) (t : ConfigTable) (v : ℕ) → StandsFor t s → is_some (place_of t v) ≡ true → s.owner (device_of t v) ≡ (volume_seen s t v).server

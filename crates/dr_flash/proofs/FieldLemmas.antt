@@ -1,18 +1,13 @@
 -- What moves make of fields: they stay lawful, what a target holds isn't blank, and what is blank stays so.
-use Rattle.std.proofs.Common.{ℕ, List, ◌≡◌, ◌<◌, Bool, true, false, not, ◌&&◌, ◌||◌, nat_lt, refl, sym, ◌∙◌, ap, cond, arith, rules, inl, inr, Some, None}
+use Rattle.std.proofs.Common.{ℕ, ◌≡◌, ◌<◌, Bool, true, false, not, ◌&&◌, ◌||◌, refl, sym, ◌∙◌, ap, arith, inl, inr}
 use Rattle.std.specs.Prelude.{if◌then◌else◌}
-use Rattle.std.proofs.lemmas.Bool.Decides.{nat_tests, eqb_tells, Decides-ltb}
-use Rattle.std.specs.Cmp.{unsigned_tied}
-use Rattle.std.specs.FinSet.{contains, insert, remove, empty, contains-empty, members}
-use Rattle.std.specs.Ordering.{nat_cmp}
+use Rattle.std.proofs.lemmas.Bool.Decides.{nat_tests, eqb_tells}
+use Rattle.std.specs.FinSet.{contains, insert, remove}
 use Rattle.dr_bits.proofs.Laws.{contains-insert_tracks, contains-remove_tracks}
-use Rattle.dr_model.specs.Layout.{Tracks, Fields, is_part}
+use Rattle.dr_model.specs.Layout.{Tracks, Fields}
 use Rattle.dr_model.specs.Lawful.{Low, HasSets, IsLawful}
-use Rattle.dr_model.specs.Moves.{Carried, is_carried}
-use Rattle.dr_model.specs.Relations.{Choices, rest, is_whole, parted_if, closed, fetched, noted, rewritten, made, withdrawn_if}
-use Rattle.dr_model.specs.Pairs.{altered}
-use Rattle.dr_volume.specs.Update.{Covers}
-use Rattle.dr_flash.proofs.SetLaws.{contains-rest}
+use Rattle.dr_model.specs.Relations.{rest, is_whole, parted_if, closed, fetched, rewritten, withdrawn_if}
+use Rattle.dr_moves.proofs.SetLaws.{contains-rest}
 use Rattle.dr_model.proofs.LawfulLemmas.{low-empty}
 
 pub low-insert : (n t : ℕ) (s : Tracks) → t < n → Low n s → Low n (insert s t)
@@ -99,38 +94,3 @@ lawful-withdrawn n f law = let p = lawful-parted n f true law in let s : HasSets
   secondary = law.secondary;
   relation = p.relation;
 }
-
--- what a target holds isn't blank
-abbrev pub Apart : Tracks → Tracks → Type 0
-Apart own blank = (k : ℕ) → contains own k ≡ true → contains blank k ≡ false
-
-pub apart-fetched : (own blank : Tracks) (t : ℕ) → Apart own blank → Apart (insert own t) (remove blank t)
-apart-fetched own blank t apart k h =
-    elim (eqb_tells k t) as (λ _. contains (remove blank t) k ≡ false) [
-      | inl p ↦ contains-remove_tracks blank t k ∙ ap (λ b. not b && contains blank k) p.0
-      | inr p ↦ contains-remove_tracks blank t k ∙ ap (λ b. not b && contains blank k) p.0 ∙ apart k (sym (contains-insert_tracks own t k ∙ ap (λ b. b || contains own k) p.0) ∙ h)
-    ]
-
-pub apart-empty : (blank : Tracks) → Apart empty blank
-apart-empty blank k h = absurd (let e : contains {R = nat_cmp} empty k ≡ false = contains-empty nat_cmp k in cc)
-
-pub apart-parted : (b : Bool) (f : Fields) → Apart f.own f.blank → Apart (parted_if b f).own (parted_if b f).blank
-apart-parted true f apart = apart-empty f.blank
-apart-parted false f apart = apart
-
--- what is blank stays so, but for a track that is carried
-pub covers-all : (s : Tracks) (c : Carried) → Covers s s c
-covers-all s c k h = ap (λ b. b || is_carried c k) h
-
-pub covers-rest : (n : ℕ) (own blank : Tracks) → Low n blank → Apart own blank → Covers blank (rest n own) None
-covers-rest n own blank low apart k h =
-    ap (λ b. b || false) (contains-rest n own k)
-    ∙ held (nat_lt k n) (contains own k) ((Decides-ltb k n).1 (low k h)) (λ there. let e : true ≡ false = sym h ∙ apart k there in cc)
-  where
-    held : (a b : Bool) → a ≡ true → (b ≡ true → ⊥) → ((a && not b) || false) ≡ true
-    held true false low none = refl
-    held true true low none = absurd (none refl)
-    held false b low none = absurd cc
-
-pub covers-carried : (s : Tracks) (t : ℕ) (bytes : List ℕ) → Covers s (remove s t) (Some (t, bytes))
-covers-carried s t bytes k h = grind (members, rules, nat_tests, unsigned_tied)

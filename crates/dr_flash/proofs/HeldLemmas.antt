@@ -1,5 +1,5 @@
 -- What the targets of a volume hold before a track of it changes, and what volumes show when it has changed.
-use Rattle.std.proofs.Common.{ℕ, zero, suc, [], ◌∷◌, ◌≡◌, ◌≢◌, ◌⊎◌, inl, inr, ◌<◌, ◌≤◌, ◌+◌, arith, Bool, true, false, not, ◌&&◌, cond, List, None, Some, slice_get, length, refl, sym, ◌∙◌, ap, subst}
+use Rattle.std.proofs.Common.{ℕ, ◌≡◌, ◌≢◌, ◌⊎◌, inl, inr, ◌<◌, ◌≤◌, ◌+◌, arith, Bool, true, false, not, ◌&&◌, cond, List, None, Some, slice_get, length, refl, sym, ◌∙◌, ap, subst}
 use Rattle.std.specs.Prelude.{option_map}
 use Rattle.std.specs.FinSet.{contains}
 use Rattle.std.proofs.lemmas.Bool.{cases_eq, and_parts}
@@ -18,7 +18,7 @@ use Rattle.dr_volume.specs.Update.{IsAsBefore, IsMoved, OthersStay}
 use Rattle.dr_volume.specs.View.{volume_seen, track_seen, volume_at}
 use Rattle.dr_flash.specs.Views.{view_seen, AllShow, kept_for, shows_restored, HoldsTrack, KeepsTrack, ReadsZeros}
 use Rattle.dr_flash.proofs.CheckLemmas.{same-test, differ-test}
-use Rattle.dr_flash.proofs.CopyLemmas.{before-then}
+use Rattle.dr_moves.proofs.KeptLemmas.{before-then}
 use Rattle.dr_flash.proofs.ShowLemmas.{show-other, moved-view}
 use Rattle.dr_flash.proofs.ViewLemmas.{view-own}
 

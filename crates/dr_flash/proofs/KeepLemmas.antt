@@ -1,33 +1,23 @@
 -- What a target does before a track of its source changes.
-use Rattle.std.proofs.Common.{ℕ, ◌≡◌, ◌≢◌, Bool, true, false, not, ◌&&◌, cond, List, [], ◌∷◌, ◌++◌, map, refl, sym, ◌∙◌, ap, Option}
+use Rattle.std.proofs.Common.{ℕ, ◌≡◌, ◌≢◌, true, false, not, ◌&&◌, cond, List, [], ◌∷◌, ◌++◌, map, sym, ◌∙◌, ap}
 use Rattle.std.specs.Prelude.{if◌then◌else◌}
 use Rattle.std.specs.FinSet.{contains}
 use Rattle.std.proofs.lemmas.Bool.{and_parts}
-use Rattle.dr_ids.specs.declared.refusal.Refusal.{Refusal}
 use Rattle.dr_plant.specs.State.{PlantState}
 use Rattle.dr_config.specs.Table.{ConfigTable}
 use Rattle.dr_model.specs.declared.event.Event.{Event}
 use Rattle.dr_model.specs.Control.{World}
 use Rattle.dr_model.specs.Layout as layout
 use Rattle.dr_model.specs.Moves.{Keep, Note}
-use Rattle.dr_model.specs.Carry.{Make, Do, Pass, Entry, now}
+use Rattle.dr_model.specs.Carry.{Make, Do, Pass, now}
 use Rattle.dr_model.specs.Entries.{keep_on, keep_if, copies_from}
 use Rattle.dr_volume.specs.declared.fields.Fields.{Fields}
 use Rattle.dr_volume.specs.Plain.{plain}
 use Rattle.dr_volume.specs.View.{Rest, volume_seen}
-use Rattle.dr_flash.specs.Here.{world_seen}
+use Rattle.dr_moves.specs.Here.{world_seen}
 use Rattle.dr_flash.specs.Standing.{HasNoTarget}
-use Rattle.dr_flash.specs.Turns.{Advances, Halts, Leads}
-use Rattle.dr_facts.proofs.Ends.{ends-skips, ends-alike}
-
-pub skips : (w : World) (d : Entry) → d w.control ≡ Pass → Advances w d w
-skips w d is armed u r ds more = ends-skips armed u r w d ds is more
-
-pub alike-advances : (w v : World) (d e : Entry) → d w.control ≡ e w.control → Advances w e v → Advances w d v
-alike-advances w v d e same goes armed u r ds more = ends-alike armed u r w d e ds same (goes armed u r ds more)
-
-pub alike-halts : (armed : ℕ → Bool) (w u : World) (r : Option Refusal) (d e : Entry) → d w.control ≡ e w.control → Halts armed w e u r → Halts armed w d u r
-alike-halts armed w u r d e same halts ds = ends-alike armed u r w d e ds same (halts ds)
+use Rattle.dr_moves.specs.Turns.{Leads}
+use Rattle.dr_moves.proofs.EntryLemmas.{skips}
 
 module _ (s : PlantState) (t : ConfigTable) (r : Rest) (ev : List Event) (v k u : ℕ) (f : Fields) (shows : plain f ≡ (volume_seen s t u).fields) where
   abbrev w : World

@@ -9,23 +9,19 @@ use Rattle.dr_model.specs.declared.event.Event.TheVariants.{Copied, Set}
 use Rattle.dr_model.specs.Layout.{Fields}
 use Rattle.dr_model.specs.Lawful.{IsLawful, HasSets}
 use Rattle.dr_model.specs.Control.{Volume}
-use Rattle.dr_model.specs.Moves.{Carried, Keep, Note, Fetch, Relate, Withdraw, Overwrite, fields_left}
+use Rattle.dr_model.specs.Moves.{Keep, Note, Fetch, Relate, Withdraw, Overwrite, fields_left}
 use Rattle.dr_model.specs.Relations.{Choices, is_whole, parted_if, closed, fetched, noted, rewritten, withdrawn_if}
 use Rattle.dr_volume.specs.View.{volume_seen, track_seen}
 use Rattle.dr_volume.specs.Update.{Covers, IsMoved}
-use Rattle.dr_flash.specs.Fit.{SourceFits, RelationsFit, LeavesFit}
-use Rattle.dr_flash.specs.declared.told.Told.TheVariants.{Nothing, One, Blanked}
-use Rattle.dr_flash.proofs.FitLemmas.{fit-kept}
-use Rattle.dr_flash.proofs.FieldLemmas.{lawful-fetched, lawful-rewritten, lawful-closed, lawful-withdrawn, Apart, apart-fetched, apart-empty, apart-parted, covers-all, covers-rest, covers-carried}
-use Rattle.dr_flash.proofs.TurnLemmas.{Tells}
+use Rattle.dr_moves.specs.Fit.{SourceFits, RelationsFit}
+use Rattle.dr_moves.specs.declared.told.Told.TheVariants.{Nothing, One, Blanked}
+use Rattle.dr_moves.proofs.FitLemmas.{fit-kept}
+use Rattle.dr_flash.proofs.FieldLemmas.{lawful-fetched, lawful-rewritten, lawful-closed, lawful-withdrawn}
+use Rattle.dr_moves.specs.Made.{Apart}
+use Rattle.dr_moves.proofs.MoveFits.{MoveFits, apart-fetched, apart-empty, apart-parted, covers-all, covers-rest, covers-carried}
+use Rattle.dr_moves.proofs.TurnLemmas.{Tells}
 use Rattle.dr_flash.proofs.CheckLemmas.{same-test}
 use Rattle.dr_facts.proofs.Lawful.{lawful-noted, lawful-made}
-
--- the fields and the track of a move of v may come
-pub record MoveFits (s : PlantState) (t : ConfigTable) (v : ℕ) (f : Fields) (c : Carried) : Type 0 where
-  pub lawful : IsLawful (volume_seen s t v).tracks f
-  pub covers : Covers (volume_seen s t v).fields.blank f.blank c
-  pub leaves : LeavesFit s t v f
 
 parted-keeps : (b : Bool) (f : Fields) → (parted_if b f).related ≡ true → (f.related ≡ true) × ((parted_if b f).source ≡ f.source)
 parted-keeps true f related = absurd (let e : false ≡ true = related in cc)

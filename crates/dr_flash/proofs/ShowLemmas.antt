@@ -17,11 +17,11 @@ use Rattle.dr_model.specs.Relations.{Choices, rest, is_whole, parted_if, closed,
 use Rattle.dr_model.specs.Views.{view, shows_source}
 use Rattle.dr_volume.specs.Update.{IsAsBefore, IsMoved, OthersStay}
 use Rattle.dr_volume.specs.View.{volume_seen, track_seen, volume_at, track_at, volume_on, track_on}
-use Rattle.dr_flash.specs.Fit.{RelationsFit}
+use Rattle.dr_moves.specs.Fit.{RelationsFit}
 use Rattle.dr_flash.specs.Views.{view_seen, AllShow, OthersShow, HoldsTrack}
 use Rattle.dr_flash.proofs.CheckLemmas.{same-test, differ-test}
-use Rattle.dr_flash.proofs.FitLemmas.{target-no_source}
-use Rattle.dr_flash.proofs.SetLaws.{contains-rest, whole-some}
+use Rattle.dr_moves.proofs.FitLemmas.{target-no_source}
+use Rattle.dr_moves.proofs.SetLaws.{contains-rest, whole-some}
 use Rattle.dr_flash.proofs.ViewLemmas.{view-source, view-own}
 
 -- past its last track a volume reads zeros

@@ -15,7 +15,7 @@ use Rattle.dr_volume.specs.View.{volume_seen, volume_at, ids_of, Rest}
 use Rattle.dr_flash.proofs.CopyLemmas.{ids-next}
 use Rattle.dr_ids.specs.declared.refusal.RelSeen.TheVariants.{Revertible, Reversing, Target, Source, None as Unrelated}
 use Rattle.dr_model.specs.declared.event.Event.{Event}
-use Rattle.dr_flash.specs.Here.{world_seen}
+use Rattle.dr_moves.specs.Here.{world_seen}
 use Rattle.dr_flash.specs.Standing.{targets_in, any_of, relation_of, HasNoTarget}
 use Rattle.dr_volume.specs.declared.head.Head.{Head}
 use Rattle.dr_volume.specs.Head.{head_of}

@@ -1,8 +1,7 @@
 -- Relationships fit where the machine's records fit each other.
-use Rattle.std.proofs.Common.{ℕ, ◌≡◌, true, false, ◌||◌, cond, List, [], ◌∷◌, nat_eq, arith, refl, sym, ◌∙◌, ap, Some, None}
+use Rattle.std.proofs.Common.{ℕ, ◌≡◌, true, false, ◌||◌, cond, List, [], ◌∷◌, nat_eq, refl, sym, ◌∙◌, ap, Some, None}
 use Rattle.std.specs.Prelude.{is_some, if◌then◌else◌}
 use Rattle.std.specs.List.{list_any, find}
-use Rattle.std.proofs.lemmas.Bool.Decides.{nat_tests}
 use Rattle.dr_plant.specs.State.{PlantState}
 use Rattle.dr_config.specs.Table.{ConfigTable, place_of}
 use Rattle.dr_config.specs.declared.entries.VolumeEntry.{VolumeEntry}
@@ -13,8 +12,8 @@ use Rattle.dr_model.specs.Laws.{Structure}
 use Rattle.dr_model.specs.Table.{table}
 use Rattle.dr_model.specs.Views.{source_of}
 use Rattle.dr_volume.specs.View.{Rest, volume_seen, ids_of}
-use Rattle.dr_flash.specs.Fit.{RelationsFit}
-use Rattle.dr_flash.specs.Here.{world_seen}
+use Rattle.dr_moves.specs.Fit.{RelationsFit}
+use Rattle.dr_moves.specs.Here.{world_seen}
 use Rattle.dr_config.proofs.KeyLaws.{eqb-turned}
 
 any_id : (es : List VolumeEntry) (v : ℕ) → list_any (nat_eq v) (ids_of es) ≡ is_some (find (λ (e : VolumeEntry). nat_eq e.id v) es)

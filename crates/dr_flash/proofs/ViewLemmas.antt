@@ -9,7 +9,7 @@ use Rattle.dr_model.specs.Control.{Volume}
 use Rattle.dr_volume.specs.View.{volume_seen, track_seen, device_of}
 use Rattle.dr_volume.proofs.UnreadLaws.{lies-at}
 use Rattle.dr_volume.proofs.UpdateLaws.{server-seen}
-use Rattle.dr_flash.specs.Here.{IsAtRest}
+use Rattle.dr_moves.specs.Here.{IsAtRest}
 use Rattle.dr_flash.specs.Views.{view_seen}
 
 -- where the read of a device passes, the read of a track's own block passes too, wanted or not

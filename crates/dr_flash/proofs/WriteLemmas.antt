@@ -7,7 +7,7 @@ use Rattle.dr_model.specs.Control.{World}
 use Rattle.dr_model.specs.Carry.{Turn, Outcome}
 use Rattle.dr_model.specs.ReadStops.{GoesOff}
 use Rattle.dr_volume.specs.View.{Rest}
-use Rattle.dr_flash.specs.Here.{refusal_of}
+use Rattle.dr_moves.specs.Here.{refusal_of}
 use Rattle.dr_flash.specs.Writes.{outcome_of}
 use Rattle.dr_facts.proofs.Ends.{wider-off}
 

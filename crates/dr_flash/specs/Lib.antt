@@ -1,11 +1,5 @@
-pub mod Options
-pub mod Here
-pub mod Fit
-pub mod Told
-pub mod Turns
 pub mod Views
 pub mod Heads
 pub mod Writes
 pub mod Standing
-pub mod Checks
 pub mod HostWrites

@@ -9,8 +9,8 @@ use Rattle.dr_model.specs.Moves.{Carried}
 use Rattle.dr_model.specs.Carry.{Turn, Outcome, Entry, update, check}
 use Rattle.dr_model.specs.Entries.{is_open, is_settled, relation_state}
 use Rattle.dr_model.specs.ReadStops.{GoesOff}
-use Rattle.dr_flash.specs.declared.told.Telling.{Telling}
-use Rattle.dr_flash.specs.Turns.{made_by, Leads, Fails}
+use Rattle.dr_moves.specs.declared.told.Telling.{Telling}
+use Rattle.dr_moves.specs.Turns.{made_by, Leads, Fails}
 
 -- how a plan ends that ends with this turn
 abbrev pub outcome_of : Turn → Outcome

@@ -15,20 +15,17 @@ ghost use Rattle.dr_volume.specs.Plain.{plain};
 ghost use Rattle.dr_volume.specs.Update.{OthersStay};
 ghost use Rattle.dr_volume.specs.View.{Rest, volume_seen, track_seen};
 ghost use Rattle.dr_volume.specs.Volume.{Shows};
-ghost use Rattle.dr_flash.specs.Checks.{is_stop};
-ghost use Rattle.dr_flash.specs.Fit.{RelationsFit};
-ghost use Rattle.dr_flash.specs.Here.{world_seen, refusal_of, armed_in, IsAtRest};
-ghost use Rattle.dr_flash.specs.Turns.{Advances, Halts};
+ghost use Rattle.dr_moves.specs.Checks.{is_stop};
+ghost use Rattle.dr_moves.specs.Fit.{RelationsFit};
+ghost use Rattle.dr_moves.specs.Here.{world_seen, refusal_of, armed_in, IsAtRest};
+ghost use Rattle.dr_moves.specs.Turns.{Advances, Halts};
 ghost use Rattle.dr_flash.specs.Views.{view_seen, OthersShow};
 
-use crate::acts::shift;
-use crate::fields::withdrawn;
-use crate::place::{server_of, tracks_of};
 use crate::standing::{counted_refusal, relation_state};
-use crate::told::{Telling, Told};
 use dr_config::Config;
 use dr_ids::{Refusal, VolumeId};
 use dr_model::Journal;
+use dr_moves::{Telling, Told, server_of, shift, tracks_of, withdrawn};
 use dr_plant::Plant;
 use dr_volume::{Fields, peek_fields};
 

@@ -16,20 +16,15 @@ ghost use Rattle.dr_volume.specs.Plain.{plain};
 ghost use Rattle.dr_volume.specs.Update.{OthersStay};
 ghost use Rattle.dr_volume.specs.View.{Rest, volume_seen, track_seen, device_of};
 ghost use Rattle.dr_volume.specs.Volume.{Shows};
-ghost use Rattle.dr_flash.specs.Fit.{RelationsFit};
-ghost use Rattle.dr_flash.specs.Here.{world_seen, refusal_of, armed_in, IsAtRest};
-ghost use Rattle.dr_flash.specs.Turns.{Advances, Halts};
+ghost use Rattle.dr_moves.specs.Fit.{RelationsFit};
+ghost use Rattle.dr_moves.specs.Here.{world_seen, refusal_of, armed_in, IsAtRest};
+ghost use Rattle.dr_moves.specs.Turns.{Advances, Halts};
 ghost use Rattle.dr_flash.specs.Views.{AllShow};
 
-use crate::acts::shift;
-use crate::fields::{closed, fetched};
-use crate::place::tracks_of;
-use crate::reads::read_told;
-use crate::sets::{lowest, rest};
-use crate::told::{Telling, Told};
 use dr_config::Config;
 use dr_ids::{Refusal, VolumeId};
 use dr_model::{Event, Journal};
+use dr_moves::{Telling, Told, closed, fetched, lowest, read_told, rest, shift, tracks_of};
 use dr_plant::{Block, Plant, Stopped};
 use dr_volume::{Fields, open, peek_fields, read_track};
 

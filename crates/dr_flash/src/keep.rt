@@ -13,20 +13,16 @@ ghost use Rattle.dr_volume.specs.Plain.{plain};
 ghost use Rattle.dr_volume.specs.Update.{IsAsBefore, OthersStay};
 ghost use Rattle.dr_volume.specs.View.{Rest, volume_seen, track_seen};
 ghost use Rattle.dr_volume.specs.Volume.{Shows};
-ghost use Rattle.dr_flash.specs.Fit.{RelationsFit};
-ghost use Rattle.dr_flash.specs.Here.{world_seen, refusal_of, armed_in, IsAtRest};
-ghost use Rattle.dr_flash.specs.Turns.{Advances, Halts};
+ghost use Rattle.dr_moves.specs.Fit.{RelationsFit};
+ghost use Rattle.dr_moves.specs.Here.{world_seen, refusal_of, armed_in, IsAtRest};
+ghost use Rattle.dr_moves.specs.Turns.{Advances, Halts};
 ghost use Rattle.dr_flash.specs.Heads.{kept_by, id_at};
 ghost use Rattle.dr_flash.specs.Views.{AllShow, HoldsTrack, KeepsTrack};
 
-use crate::acts::shift;
-use crate::fields::{closed, fetched, noted};
-use crate::place::tracks_of;
-use crate::reads::read_told;
-use crate::told::{Telling, Told};
 use dr_config::Config;
 use dr_ids::{Refusal, VolumeId};
 use dr_model::{Event, Journal};
+use dr_moves::{Telling, Told, closed, fetched, noted, read_told, shift, tracks_of};
 use dr_plant::{Block, Plant};
 use dr_volume::{Fields, Relation, peek_fields, peek_relation_at};
 

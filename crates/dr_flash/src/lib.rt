@@ -14,44 +14,25 @@
 //! `others_show`; these and a step of a restore have as a premise that blank tracks are zeros, which the machine's laws
 //! say of every run). Each call keeps the fields of all volumes lawful and fitting (`rest`, `fit`), touches no other
 //! volume (`others`), and counts a fault exactly where a server stopped (`faults`), also where reads may fail.
-//! `relation_state`, `pair_state`, `write_refusal`, `is_settled` and `is_revertible` say how a volume stands.
+//! `relation_state`, `write_refusal`, `is_settled` and `is_revertible` say how a volume stands.
 #![tactic(auto)]
 
-mod acts;
 mod ending;
 mod fetching;
-mod fields;
 mod keep;
 mod keeping;
 mod making;
-mod options;
-mod pairs;
-mod place;
-mod reads;
-mod sets;
 mod standing;
-mod told;
 mod views;
 mod writing;
 
-pub use acts::shift;
 pub use ending::withdraw;
 pub use fetching::{copy_step, read_target};
-pub use fields::{
-    altered, closed, fetched, given_up, made, noted, restored, resynced, rewritten, turned,
-    withdrawn, written,
-};
 pub use keep::keep_on;
 pub use keeping::copy_first;
 pub use making::establish;
-pub use options::FlashOptions;
-pub use pairs::{is_quiet, is_unpaired, pair_state};
-pub use place::{server_of, tracks_of};
-pub use reads::read_told;
-pub use sets::{is_whole, lowest, rest};
 pub use standing::{
     counted_refusal, is_revertible, is_settled, relation_state, write_refusal, write_refusal_by,
 };
-pub use told::{Telling, Told};
 pub use views::view_of;
 pub use writing::{write_source, write_source_telling, write_target};

@@ -12,23 +12,20 @@ ghost use Rattle.dr_model.specs.ReadStops.{Ends};
 ghost use Rattle.dr_model.specs.Refusals.{stopped};
 ghost use Rattle.dr_volume.specs.Update.{OthersStay};
 ghost use Rattle.dr_volume.specs.View.{Rest, volume_seen};
-ghost use Rattle.dr_flash.specs.Checks.{Checked, OnNone, is_stop};
-ghost use Rattle.dr_flash.specs.Fit.{SourceFits, RelationsFit};
-ghost use Rattle.dr_flash.specs.Here.{world_seen, refusal_of, armed_in, IsAtRest};
-ghost use Rattle.dr_flash.specs.Options.{choices};
-ghost use Rattle.dr_flash.specs.Turns.{Advances, Halts};
+ghost use Rattle.dr_moves.specs.Checks.{Checked, OnNone, is_stop};
+ghost use Rattle.dr_moves.specs.Fit.{SourceFits, RelationsFit};
+ghost use Rattle.dr_moves.specs.Here.{world_seen, refusal_of, armed_in, IsAtRest};
+ghost use Rattle.dr_moves.specs.Options.{choices};
+ghost use Rattle.dr_moves.specs.Turns.{Advances, Halts};
 ghost use Rattle.dr_flash.specs.Views.{view_seen, OthersShow};
 
-use crate::acts::shift;
-use crate::fields::made;
-use crate::options::FlashOptions;
-use crate::pairs::{is_unpaired, pair_state};
-use crate::place::{server_of, tracks_of};
 use crate::standing::{look_at_targets, relation_state};
-use crate::told::{Telling, Told};
 use dr_config::Config;
 use dr_ids::{Kind, Refusal, VolumeId, Which};
 use dr_model::{Event, Journal};
+use dr_moves::{
+    FlashOptions, Telling, Told, is_unpaired, made, pair_state, server_of, shift, tracks_of,
+};
 use dr_plant::Plant;
 use dr_volume::peek_fields;
 

@@ -8,9 +8,9 @@ ghost use Rattle.dr_model.specs.declared.event.Event.{Event};
 ghost use Rattle.dr_volume.specs.Head.{head_of};
 ghost use Rattle.dr_volume.specs.Plain.{plain};
 ghost use Rattle.dr_volume.specs.View.{Rest, volume_seen};
-ghost use Rattle.dr_flash.specs.Checks.{is_stop};
+ghost use Rattle.dr_moves.specs.Checks.{is_stop};
 ghost use Rattle.dr_flash.specs.Heads.{copies_by};
-ghost use Rattle.dr_flash.specs.Here.{world_seen, refusal_of};
+ghost use Rattle.dr_moves.specs.Here.{world_seen, refusal_of};
 ghost use Rattle.dr_flash.specs.Standing.{targets_in, any_of, relation_of, counted_by, HasNoTarget};
 ghost use Rattle.dr_flash.specs.HostWrites.{write_refusal};
 

@@ -5,8 +5,8 @@ ghost use Rattle.dr_plant.specs.State.{can_read};
 ghost use Rattle.dr_config.specs.Table.{place_of};
 ghost use Rattle.dr_volume.specs.Opened.{IsOpened};
 ghost use Rattle.dr_volume.specs.View.{volume_seen, track_seen, device_of};
-ghost use Rattle.dr_flash.specs.Fit.{RelationsFit};
-ghost use Rattle.dr_flash.specs.Here.{IsAtRest};
+ghost use Rattle.dr_moves.specs.Fit.{RelationsFit};
+ghost use Rattle.dr_moves.specs.Here.{IsAtRest};
 ghost use Rattle.dr_flash.specs.Views.{view_seen};
 
 use dr_config::Config;

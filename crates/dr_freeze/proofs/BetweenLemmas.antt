@@ -19,8 +19,8 @@ use Rattle.dr_model.specs.WriteEntries.{is_between, freeze_on, thaw_on}
 use Rattle.dr_volume.specs.View.{Rest, volume_seen, volume_at}
 use Rattle.dr_volume.specs.Update.{IsMoved, OthersStay}
 use Rattle.dr_volume.proofs.VolumeLaws.{volume-placed}
-use Rattle.dr_flash.specs.Here.{world_seen}
-use Rattle.dr_flash.specs.Turns.{Advances, Halts}
+use Rattle.dr_moves.specs.Here.{world_seen}
+use Rattle.dr_moves.specs.Turns.{Advances, Halts}
 use Rattle.dr_facts.proofs.Ends.{ends-skips, ends-alike}
 use Rattle.dr_freeze.specs.Between.{pairs_with, between, StillBetween}
 use Rattle.dr_freeze.specs.Changes.{IsFrozen}

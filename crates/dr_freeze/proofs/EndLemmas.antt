@@ -14,8 +14,8 @@ use Rattle.dr_model.specs.Carry.{act, frozen, thawed, EndFreeze, EndThaw}
 use Rattle.dr_model.specs.ReadStops.{Ends}
 use Rattle.dr_model.specs.WriteEntries.{end_freeze, end_thaw}
 use Rattle.dr_volume.specs.View.{Rest, volume_seen}
-use Rattle.dr_flash.specs.Fit.{RelationsFit}
-use Rattle.dr_flash.specs.Here.{world_seen, IsAtRest}
+use Rattle.dr_moves.specs.Fit.{RelationsFit}
+use Rattle.dr_moves.specs.Here.{world_seen, IsAtRest}
 use Rattle.dr_facts.proofs.Ends.{ends-goes, ends-none}
 use Rattle.dr_freeze.specs.Between.{between}
 use Rattle.dr_freeze.specs.Changes.{IsFrozen, AllFrozen, AllThawed}

@@ -9,8 +9,8 @@ use Rattle.dr_ids.specs.declared.refusal.Refusal.{Refusal}
 use Rattle.dr_model.specs.Control.{Control, World}
 use Rattle.dr_model.specs.Carry.{Entry, check}
 use Rattle.dr_volume.specs.View.{Rest, on_seen}
-use Rattle.dr_flash.specs.Here.{world_seen}
-use Rattle.dr_flash.specs.Checks.{Checked}
+use Rattle.dr_moves.specs.Here.{world_seen}
+use Rattle.dr_moves.specs.Checks.{Checked}
 use Rattle.dr_facts.proofs.Ends.{ends-passed}
 use Rattle.dr_freeze.specs.Checks.{owner_in, is_up}
 use Rattle.dr_volume.proofs.WorldLaws.{on-seen}

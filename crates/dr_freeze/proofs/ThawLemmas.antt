@@ -8,12 +8,11 @@ use Rattle.dr_model.specs.Control.{Volume}
 use Rattle.dr_model.specs.Pairs.{thawed}
 use Rattle.dr_model.specs.Moves.{Thaw, fields_left}
 use Rattle.dr_volume.specs.View.{volume_seen}
-use Rattle.dr_flash.specs.Fit.{RelationsFit}
-use Rattle.dr_flash.specs.declared.told.Told.TheVariants.{Nothing}
-use Rattle.dr_flash.proofs.FitLemmas.{fit-kept}
-use Rattle.dr_flash.proofs.FieldLemmas.{covers-all}
-use Rattle.dr_flash.proofs.MoveLemmas.{MoveFits}
-use Rattle.dr_flash.proofs.TurnLemmas.{Tells}
+use Rattle.dr_moves.specs.Fit.{RelationsFit}
+use Rattle.dr_moves.specs.declared.told.Told.TheVariants.{Nothing}
+use Rattle.dr_moves.proofs.FitLemmas.{fit-kept}
+use Rattle.dr_moves.proofs.MoveFits.{covers-all, MoveFits}
+use Rattle.dr_moves.proofs.TurnLemmas.{Tells}
 use Rattle.dr_facts.proofs.Lawful.{lawful-thawed}
 
 pub thaw-fits : (s : PlantState) (t : ConfigTable) (v : ℕ) → RelationsFit s t → IsLawful (volume_seen s t v).tracks (volume_seen s t v).fields → MoveFits s t v (fields_left (Thaw v) (volume_seen s t v)) None

@@ -8,8 +8,8 @@ ghost use Rattle.dr_volume.specs.View.{volume_seen};
 ghost use Rattle.dr_freeze.specs.Between.{between};
 
 use dr_config::Config;
-use dr_flash::server_of;
 use dr_ids::{Lss, VolumeId};
+use dr_moves::server_of;
 use dr_plant::Plant;
 use dr_volume::{Head, peek_head};
 

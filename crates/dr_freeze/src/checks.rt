@@ -4,8 +4,8 @@ ghost use Rattle.std.specs.Prelude.{◌≡◌, true, false, List, IsSome};
 ghost use Rattle.dr_config.specs.Table.{lss_owner, IsSoundConfig};
 ghost use Rattle.dr_model.specs.declared.event.Event.{Event};
 ghost use Rattle.dr_volume.specs.View.{Rest};
-ghost use Rattle.dr_flash.specs.Checks.{Checked, OnNone, is_stop};
-ghost use Rattle.dr_flash.specs.Here.{world_seen};
+ghost use Rattle.dr_moves.specs.Checks.{Checked, OnNone, is_stop};
+ghost use Rattle.dr_moves.specs.Here.{world_seen};
 ghost use Rattle.dr_freeze.specs.Checks.{owner_in, thaw_checks, freeze_checks};
 
 use dr_config::Config;

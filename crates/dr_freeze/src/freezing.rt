@@ -8,9 +8,9 @@ ghost use Rattle.dr_model.specs.declared.event.Event.{Event};
 ghost use Rattle.dr_model.specs.ReadStops.{Ends};
 ghost use Rattle.dr_model.specs.WriteEntries.{freeze_entries, thaw_entries};
 ghost use Rattle.dr_volume.specs.View.{Rest, ids_of};
-ghost use Rattle.dr_flash.specs.Checks.{is_stop};
-ghost use Rattle.dr_flash.specs.Fit.{RelationsFit};
-ghost use Rattle.dr_flash.specs.Here.{world_seen, refusal_of, armed_in, IsAtRest};
+ghost use Rattle.dr_moves.specs.Checks.{is_stop};
+ghost use Rattle.dr_moves.specs.Fit.{RelationsFit};
+ghost use Rattle.dr_moves.specs.Here.{world_seen, refusal_of, armed_in, IsAtRest};
 ghost use Rattle.dr_freeze.specs.Changes.{AllFrozen, AllThawed};
 ghost use Rattle.dr_freeze.specs.Checks.{owner_in, freeze_checks, thaw_checks};
 

@@ -7,29 +7,18 @@ ghost use Rattle.dr_model.specs.Carry.{now};
 ghost use Rattle.dr_model.specs.Moves.{Thaw};
 ghost use Rattle.dr_model.specs.Pairs as pairs;
 ghost use Rattle.dr_model.specs.Refusals.{stopped};
-ghost use Rattle.dr_volume.specs.Plain.{plain};
 ghost use Rattle.dr_volume.specs.Update.{IsMoved, OthersStay};
 ghost use Rattle.dr_volume.specs.View.{Rest, volume_seen};
-ghost use Rattle.dr_flash.specs.Fit.{RelationsFit};
-ghost use Rattle.dr_flash.specs.Here.{world_seen, refusal_of, armed_in, IsAtRest};
-ghost use Rattle.dr_flash.specs.Turns.{Advances, Halts};
+ghost use Rattle.dr_moves.specs.Fit.{RelationsFit};
+ghost use Rattle.dr_moves.specs.Here.{world_seen, refusal_of, armed_in, IsAtRest};
+ghost use Rattle.dr_moves.specs.Turns.{Advances, Halts};
 
 use dr_config::Config;
-use dr_flash::{Telling, Told, shift};
 use dr_ids::{Refusal, VolumeId};
 use dr_model::Journal;
+use dr_moves::{Telling, Told, shift, thawed};
 use dr_plant::Plant;
-use dr_volume::{Fields, peek_fields};
-
-/// A volume that is long busy no more.
-fn thawed(f: &Fields) -> Fields
-    ensures { plain result ≡ pairs.thawed (plain f.now) }
-{
-    Fields {
-        long_busy: false,
-        ..*f
-    }
-}
+use dr_volume::peek_fields;
 
 /// A volume whose server is on is long busy no more. Nothing is told. Fails where the server stops in the move or goes off
 /// at a read.

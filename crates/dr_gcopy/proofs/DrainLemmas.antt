@@ -12,13 +12,12 @@ use Rattle.dr_model.specs.ReadStops.{Ends}
 use Rattle.dr_model.specs.Layout.{Tracks}
 use Rattle.dr_model.specs.Relations.{in_order}
 use Rattle.dr_model.specs.PairEntries.{send_entries, sends, tracks_to_send}
-use Rattle.dr_flash.specs.Turns.{Leads}
+use Rattle.dr_moves.specs.Turns.{Leads}
 use Rattle.dr_flash.proofs.CheckLemmas.{same-test, differ-test}
 use Rattle.dr_gcopy.specs.Followed.{FailsFollowed}
 use Rattle.dr_gcopy.specs.Sending.{enough}
-use Rattle.dr_logic.proofs.Lists.{few-in}
 use Rattle.dr_facts.proofs.Costs.{in_order-short}
-use Rattle.dr_flash.proofs.LeadLemmas.{then-leads, then-fails, fails-first}
+use Rattle.dr_moves.proofs.LeadLemmas.{then-leads, then-fails, fails-first}
 
 -- the sends of two lists
 sends-append : (ids : List ℕ) (a b : ℕ) (xs ys : List ℕ) → sends ids a b (xs ++ ys) ≡ sends ids a b xs ++ sends ids a b ys

@@ -1,5 +1,5 @@
 -- Checks that may refuse for several reasons, as entries.
-use Rattle.std.proofs.Common.{ℕ, ◌≡◌, ◌≢◌, Bool, true, false, ◌&&◌, List, ◌∷◌, ◌++◌, refl, sym, ◌∙◌, ap, subst, Option, Some, None}
+use Rattle.std.proofs.Common.{ℕ, ◌≡◌, ◌≢◌, Bool, true, false, List, ◌++◌, sym, ◌∙◌, ap, subst, Option, Some, None}
 use Rattle.std.specs.Prelude.{Result, Ok, Err, OnErr, is_err}
 use Rattle.std.proofs.lemmas.List.{append_assoc}
 use Rattle.dr_logic.specs.Counts.{Counted}
@@ -7,14 +7,12 @@ use Rattle.dr_ids.specs.declared.refusal.Refusal.{Refusal}
 use Rattle.dr_plant.specs.State.{PlantState}
 use Rattle.dr_config.specs.Table.{ConfigTable}
 use Rattle.dr_model.specs.Control.{Control, World}
-use Rattle.dr_model.specs.Carry.{Entry, check}
+use Rattle.dr_model.specs.Carry.{Entry}
 use Rattle.dr_model.specs.ReadStops.{Ends}
-use Rattle.dr_model.specs.PairEntries.{refuse_if, end_if}
 use Rattle.dr_volume.specs.View.{volume_seen}
-use Rattle.dr_flash.specs.Checks.{Checked, OnNone, is_stop}
-use Rattle.dr_flash.specs.Here.{refusal_of}
-use Rattle.dr_flash.specs.Turns.{Leads}
-use Rattle.dr_facts.proofs.Ends.{ends-skips, ends-alike, ends-refused}
+use Rattle.dr_moves.specs.Checks.{Checked, OnNone, is_stop}
+use Rattle.dr_moves.specs.Here.{refusal_of}
+use Rattle.dr_moves.specs.Turns.{Leads}
 
 abbrev never : Control → Bool
 never k = false

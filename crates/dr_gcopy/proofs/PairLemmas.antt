@@ -1,32 +1,24 @@
 -- Moves that change a volume's part in a pair: their fields are lawful and leave the relationships fitting, and what they
 -- tell.
-use Rattle.std.proofs.Common.{ℕ, ◌≡◌, Bool, true, false, inl, inr, refl, sym, ◌∙◌, ap, subst, None}
+use Rattle.std.proofs.Common.{ℕ, ◌≡◌, Bool, inl, inr, refl, sym, ◌∙◌, ap, subst, None}
 use Rattle.std.proofs.lemmas.Bool.{cases_eq}
-use Rattle.std.proofs.lemmas.Bool.Decides.{Decides-ltb}
-use Rattle.std.specs.Prelude.{if◌then◌else◌}
-use Rattle.std.specs.FinSet.{empty}
-use Rattle.dr_bits.specs.Tracks.{Tracks}
 use Rattle.dr_plant.specs.State.{PlantState}
 use Rattle.dr_config.specs.Table.{ConfigTable}
 use Rattle.dr_model.specs.declared.state.Part.{Part}
 use Rattle.dr_model.specs.declared.state.PairState.{PairState}
 use Rattle.dr_model.specs.declared.event.Event.TheVariants.{TakenOver as TookOver}
-use Rattle.dr_model.specs.Layout.{Fields, is_part}
-use Rattle.dr_model.specs.Lawful.{Low, HasSets, IsLawful}
+use Rattle.dr_model.specs.Layout.{Fields}
+use Rattle.dr_model.specs.Lawful.{IsLawful}
 use Rattle.dr_model.specs.Control.{Volume}
-use Rattle.dr_model.specs.Relations.{all_tracks}
-use Rattle.dr_model.specs.Pairs.{made_secondary, made_primary, no_primary, no_secondary, resumed, taken_over}
 use Rattle.dr_model.specs.Moves.{MakeSecondary, MakePrimary, DropPrimary, DropSecondary, Follow, Resume, TakeOver}
 use Rattle.dr_volume.specs.View.{volume_seen}
 use Rattle.dr_volume.specs.Update.{Covers, IsMoved, OthersStay}
-use Rattle.dr_flash.specs.Fit.{RelationsFit}
-use Rattle.dr_flash.specs.declared.told.Told.TheVariants.{Nothing, One}
-use Rattle.dr_flash.proofs.FitLemmas.{fit-kept}
-use Rattle.dr_flash.proofs.FieldLemmas.{Apart, covers-all}
-use Rattle.dr_flash.proofs.SetLaws.{contains-all}
-use Rattle.dr_flash.proofs.MoveLemmas.{MoveFits}
-use Rattle.dr_flash.proofs.TurnLemmas.{Tells}
-use Rattle.dr_model.proofs.LawfulLemmas.{low-empty}
+use Rattle.dr_moves.specs.Fit.{RelationsFit}
+use Rattle.dr_moves.specs.declared.told.Told.TheVariants.{Nothing, One}
+use Rattle.dr_moves.proofs.FitLemmas.{fit-kept}
+use Rattle.dr_moves.specs.Made.{Apart}
+use Rattle.dr_moves.proofs.MoveFits.{covers-all, MoveFits}
+use Rattle.dr_moves.proofs.TurnLemmas.{Tells}
 
 -- other fields that leave the relationship and the blank tracks as they are
 pub pair-fits : (s : PlantState) (t : ConfigTable) (v : ℕ) (f : Fields) → RelationsFit s t → IsLawful (volume_seen s t v).tracks f

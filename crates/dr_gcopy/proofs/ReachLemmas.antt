@@ -14,9 +14,9 @@ use Rattle.dr_model.specs.Refusals.{unknown, server_off}
 use Rattle.dr_model.specs.PairEntries.{reach_refusal, link_down}
 use Rattle.dr_volume.specs.View.{Rest, volume_seen, on_seen}
 use Rattle.dr_volume.proofs.VolumeLaws.{placed, volume-placed}
-use Rattle.dr_flash.specs.Checks.{OnNone, is_stop}
-use Rattle.dr_flash.specs.Here.{world_seen}
-use Rattle.dr_flash.proofs.PlaceLaws.{entry-found}
+use Rattle.dr_moves.specs.Checks.{OnNone, is_stop}
+use Rattle.dr_moves.specs.Here.{world_seen}
+use Rattle.dr_moves.proofs.PlaceLaws.{entry-found}
 use Rattle.dr_volume.proofs.WorldLaws.{on-seen}
 
 pub server-is : (s : PlantState) (t : ConfigTable) (v : ℕ) → is_some (place_of t v) ≡ true → unwrap_or (server_of t v) 0 ≡ (volume_seen s t v).server

@@ -2,13 +2,12 @@
 use Rattle.std.proofs.Common.{ℕ, ◌≡◌, ◌≢◌, ◌<◌, Bool, true, false, not, ◌&&◌, cond, nat_eq, arith, inl, inr, refl, ap, ◌∙◌, List, [], ◌∷◌, ◌++◌, sym, subst, Option, None, Some, slice_get}
 use Rattle.std.specs.Prelude.{Result, Ok, Err, OnOk, OnErr, is_err, is_some, if◌then◌else◌}
 use Rattle.std.specs.Option.{option_or}
-use Rattle.std.proofs.lemmas.List.{append_assoc}
 use Rattle.std.proofs.lemmas.Bool.Decides.{eqb_tells}
 use Rattle.std.proofs.lemmas.Bool.{and_right}
 use Rattle.dr_logic.specs.Counts.{Counted}
 use Rattle.dr_ids.specs.declared.refusal.Refusal.{Refusal}
 use Rattle.dr_plant.specs.State.{PlantState}
-use Rattle.dr_config.specs.Table.{ConfigTable, StandsFor, place_of}
+use Rattle.dr_config.specs.Table.{ConfigTable, place_of}
 use Rattle.dr_config.specs.declared.entries.VolumeEntry.{VolumeEntry}
 use Rattle.dr_model.specs.Control.{Control, World, Volume}
 use Rattle.dr_ids.specs.Paths.{Path, path_in}
@@ -23,13 +22,12 @@ use Rattle.dr_model.specs.ReadStops.{Ends}
 use Rattle.dr_model.specs.Entries.{copies_from, fields_at, is_running, subsystem}
 use Rattle.dr_model.specs.PairEntries.{end_if, refuse_if, link_down, has_path, are_linked, reach_refusal, send_refusal, suspend_where, suspend_running}
 use Rattle.dr_volume.specs.View.{Rest, volume_seen, volume_at, volume_on, on_seen}
-use Rattle.dr_volume.proofs.VolumeLaws.{placed, volume-placed}
-use Rattle.dr_flash.specs.Checks.{OnNone, is_stop}
+use Rattle.dr_moves.specs.Checks.{is_stop}
 use Rattle.dr_gcopy.specs.Followed.{EndsSo, Follows, EndsFollowed, FailsFollowed}
-use Rattle.dr_flash.specs.Fit.{RelationsFit}
-use Rattle.dr_flash.specs.Here.{refusal_of}
-use Rattle.dr_flash.specs.Turns.{Advances, Halts, Leads, Fails}
-use Rattle.dr_flash.proofs.CopyLemmas.{led, failed}
+use Rattle.dr_moves.specs.Fit.{RelationsFit}
+use Rattle.dr_moves.specs.Here.{refusal_of}
+use Rattle.dr_moves.specs.Turns.{Advances, Halts, Leads, Fails}
+use Rattle.dr_moves.proofs.EntryLemmas.{led, failed}
 use Rattle.dr_facts.proofs.Ends.{ends-none, ends-skips, ends-refused, ends-alike, ends-wider}
 use Rattle.dr_volume.proofs.WorldLaws.{on-seen}
 

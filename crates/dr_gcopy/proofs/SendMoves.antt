@@ -1,5 +1,5 @@
 -- What moves of pairs make of fields: they stay lawful and leave the relationships fitting; and what is told of them.
-use Rattle.std.proofs.Common.{ℕ, List, ◌≡◌, ◌≤◌, ◌+◌, Bool, true, false, ◌&&◌, ◌||◌, [], ◌∷◌, length, refl, sym, ◌∙◌, ap, arith, None, Some}
+use Rattle.std.proofs.Common.{ℕ, List, ◌≡◌, ◌≤◌, ◌+◌, Bool, true, false, ◌&&◌, [], ◌∷◌, length, refl, sym, ◌∙◌, ap, arith, None, Some}
 use Rattle.std.specs.Prelude.{if◌then◌else◌, max}
 use Rattle.std.specs.FinSet.{contains, union}
 use Rattle.dr_bits.proofs.Laws.{contains-union_tracks, contains-remove_tracks}
@@ -14,16 +14,16 @@ use Rattle.dr_model.specs.Control.{Volume}
 use Rattle.dr_model.specs.Moves.{Suspend, Store, Strike, fields_left}
 use Rattle.dr_model.specs.Pairs.{is_suspended, is_engaged, suspended, received, struck}
 use Rattle.dr_volume.specs.View.{volume_seen}
-use Rattle.dr_flash.specs.Fit.{RelationsFit}
-use Rattle.dr_flash.specs.declared.told.Told.{Told}
-use Rattle.dr_flash.specs.declared.told.Told.TheVariants.{Nothing, One}
-use Rattle.dr_flash.specs.declared.told.Telling.{Telling}
-use Rattle.dr_flash.specs.Told.{events_of}
-use Rattle.dr_flash.specs.Turns.{room_of}
-use Rattle.dr_flash.proofs.FitLemmas.{fit-kept}
-use Rattle.dr_flash.proofs.FieldLemmas.{low-remove, covers-all, covers-carried, low-if}
-use Rattle.dr_flash.proofs.MoveLemmas.{MoveFits}
-use Rattle.dr_flash.proofs.TurnLemmas.{Tells}
+use Rattle.dr_moves.specs.Fit.{RelationsFit}
+use Rattle.dr_moves.specs.declared.told.Told.{Told}
+use Rattle.dr_moves.specs.declared.told.Told.TheVariants.{Nothing, One}
+use Rattle.dr_moves.specs.declared.told.Telling.{Telling}
+use Rattle.dr_moves.specs.Told.{events_of}
+use Rattle.dr_moves.specs.Turns.{room_of}
+use Rattle.dr_moves.proofs.FitLemmas.{fit-kept}
+use Rattle.dr_flash.proofs.FieldLemmas.{low-remove, low-if}
+use Rattle.dr_moves.proofs.MoveFits.{covers-all, covers-carried, MoveFits}
+use Rattle.dr_moves.proofs.TurnLemmas.{Tells}
 use Rattle.dr_model.proofs.LawfulLemmas.{low-empty}
 use Rattle.dr_logic.proofs.Truth.{either-of}
 

@@ -8,11 +8,12 @@ use Rattle.dr_model.specs.Control.{World}
 use Rattle.dr_model.specs.Carry.{Entry}
 use Rattle.dr_model.specs.ReadStops.{Ends}
 use Rattle.dr_volume.specs.View.{Rest, volume_seen}
-use Rattle.dr_flash.specs.Here.{armed_in, refusal_of}
-use Rattle.dr_flash.specs.Turns.{Advances, Halts, Leads, Fails}
+use Rattle.dr_moves.specs.Here.{armed_in, refusal_of}
+use Rattle.dr_moves.specs.Turns.{Advances, Halts, Leads, Fails}
 use Rattle.dr_facts.proofs.Ends.{ends-wider}
-use Rattle.dr_flash.proofs.CopyLemmas.{wider-armed, led, failed}
-use Rattle.dr_flash.proofs.PlaceLaws.{entry-found}
+use Rattle.dr_moves.proofs.KeptLemmas.{wider-armed}
+use Rattle.dr_moves.proofs.EntryLemmas.{led, failed}
+use Rattle.dr_moves.proofs.PlaceLaws.{entry-found}
 
 pub two-lead : (w v u : World) (d e : Entry) → Advances w d v → Advances v e u → Leads w (d ∷ e ∷ []) u
 two-lead w v u d e first second armed x r ds more = first armed x r (e ∷ ds) (second armed x r ds more)

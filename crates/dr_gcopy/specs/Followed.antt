@@ -5,7 +5,7 @@ use Rattle.dr_ids.specs.declared.refusal.Refusal.TheVariants.{Stopped}
 use Rattle.dr_model.specs.Control.{World}
 use Rattle.dr_model.specs.Carry.{Entry}
 use Rattle.dr_model.specs.ReadStops.{Ends}
-use Rattle.dr_flash.specs.Turns.{Fails}
+use Rattle.dr_moves.specs.Turns.{Fails}
 
 -- These entries, carried out from v on, end in u, whatever they are refused for.
 pub record EndsSo (armed : ℕ → Bool) (v : World) (entries : List Entry) (u : World) : Type 0 where

@@ -10,16 +10,17 @@ ghost use Rattle.dr_model.specs.Entries.{running_check};
 ghost use Rattle.dr_model.specs.Layout as layout;
 ghost use Rattle.dr_model.specs.PairEntries as pairs;
 ghost use Rattle.dr_volume.specs.View.{Rest, volume_seen};
-ghost use Rattle.dr_flash.specs.Checks.{Checked, OnNone, is_stop};
-ghost use Rattle.dr_flash.specs.Here.{world_seen, IsAtRest};
+ghost use Rattle.dr_moves.specs.Checks.{Checked, OnNone, is_stop};
+ghost use Rattle.dr_moves.specs.Here.{world_seen, IsAtRest};
 ghost use Rattle.dr_gcopy.specs.Steps.{unlike_checks, free_checks, flash_checks, make_checks, remove_checks, contact_checks, pause_checks, resume_checks};
 
 use crate::parts::{is_primary_of, is_secondary_of, may_follow, may_pause, may_resume};
 use crate::reach::reach_refusal;
 use dr_config::Config;
-use dr_flash::{is_settled, is_unpaired, pair_state, relation_state, server_of, tracks_of};
+use dr_flash::{is_settled, relation_state};
 use dr_ids::{Refusal, VolumeId, Which};
 use dr_model::Part;
+use dr_moves::{is_unpaired, pair_state, server_of, tracks_of};
 use dr_plant::Plant;
 use dr_volume::peek_fields;
 

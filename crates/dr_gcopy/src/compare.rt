@@ -8,15 +8,15 @@ ghost use Rattle.dr_model.specs.PairEntries.{first_differing};
 ghost use Rattle.dr_model.specs.ReadStops.{GoesOff};
 ghost use Rattle.dr_volume.specs.Update.{IsAsBefore};
 ghost use Rattle.dr_volume.specs.View.{Rest, volume_seen, track_seen};
-ghost use Rattle.dr_flash.specs.Checks.{is_stop};
-ghost use Rattle.dr_flash.specs.Here.{world_seen, refusal_of, armed_in, IsAtRest};
+ghost use Rattle.dr_moves.specs.Checks.{is_stop};
+ghost use Rattle.dr_moves.specs.Here.{world_seen, refusal_of, armed_in, IsAtRest};
 ghost use Rattle.dr_gcopy.specs.Differences.{first_from, first_other, Marks};
 
 use dr_config::Config;
-use dr_flash::{read_told, tracks_of};
 use dr_ids::{Refusal, VolumeId};
 use dr_lanes::same_block_mask;
 use dr_model::Journal;
+use dr_moves::{read_told, tracks_of};
 use dr_plant::{Block, Plant};
 
 /// How many tracks of each volume are compared at a time.

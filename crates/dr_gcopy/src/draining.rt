@@ -8,19 +8,19 @@ ghost use Rattle.dr_model.specs.Layout.{is_part};
 ghost use Rattle.dr_model.specs.PairEntries.{sends, suspend_after, tracks_to_send};
 ghost use Rattle.dr_model.specs.Relations.{in_order};
 ghost use Rattle.dr_volume.specs.View.{Rest, volume_seen, ids_of};
-ghost use Rattle.dr_flash.specs.Checks.{is_stop};
-ghost use Rattle.dr_flash.specs.Fit.{RelationsFit};
-ghost use Rattle.dr_flash.specs.Here.{world_seen, refusal_of, armed_in, IsAtRest};
-ghost use Rattle.dr_flash.specs.Turns.{Leads};
+ghost use Rattle.dr_moves.specs.Checks.{is_stop};
+ghost use Rattle.dr_moves.specs.Fit.{RelationsFit};
+ghost use Rattle.dr_moves.specs.Here.{world_seen, refusal_of, armed_in, IsAtRest};
+ghost use Rattle.dr_moves.specs.Turns.{Leads};
 ghost use Rattle.dr_gcopy.specs.Followed.{EndsFollowed, FailsFollowed};
 ghost use Rattle.dr_gcopy.specs.Sending.{enough};
 
 use crate::sending::send_to;
 use dr_bits::TrackSet;
 use dr_config::Config;
-use dr_flash::{lowest, tracks_of};
 use dr_ids::{Refusal, VolumeId};
 use dr_model::Journal;
+use dr_moves::{lowest, tracks_of};
 use dr_plant::Plant;
 use dr_volume::peek_fields;
 

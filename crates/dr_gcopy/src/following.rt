@@ -6,16 +6,16 @@ ghost use Rattle.dr_config.specs.Table.{place_of};
 ghost use Rattle.dr_model.specs.PairEntries.{suspend_after};
 ghost use Rattle.dr_volume.specs.Update.{OthersStay};
 ghost use Rattle.dr_volume.specs.View.{Rest};
-ghost use Rattle.dr_flash.specs.Checks.{is_stop};
-ghost use Rattle.dr_flash.specs.Fit.{RelationsFit};
-ghost use Rattle.dr_flash.specs.Here.{world_seen, armed_in, IsAtRest};
+ghost use Rattle.dr_moves.specs.Checks.{is_stop};
+ghost use Rattle.dr_moves.specs.Fit.{RelationsFit};
+ghost use Rattle.dr_moves.specs.Here.{world_seen, armed_in, IsAtRest};
 ghost use Rattle.dr_gcopy.specs.Followed.{EndsSo, Follows};
 
 use crate::suspending::suspend;
 use dr_config::Config;
-use dr_flash::server_of;
 use dr_ids::{Refusal, VolumeId};
 use dr_model::Journal;
+use dr_moves::server_of;
 use dr_plant::Plant;
 use dr_volume::peek_fields;
 

@@ -8,10 +8,10 @@ ghost use Rattle.dr_model.specs.PairEntries.{refuse_if, differs_at, first_differ
 ghost use Rattle.dr_model.specs.ReadStops.{Ends};
 ghost use Rattle.dr_volume.specs.Update.{IsAsBefore};
 ghost use Rattle.dr_volume.specs.View.{Rest, volume_seen, track_seen};
-ghost use Rattle.dr_flash.specs.Checks.{is_stop};
-ghost use Rattle.dr_flash.specs.Fit.{RelationsFit};
-ghost use Rattle.dr_flash.specs.Here.{world_seen, refusal_of, armed_in, IsAtRest};
-ghost use Rattle.dr_flash.specs.Turns.{Leads, Fails};
+ghost use Rattle.dr_moves.specs.Checks.{is_stop};
+ghost use Rattle.dr_moves.specs.Fit.{RelationsFit};
+ghost use Rattle.dr_moves.specs.Here.{world_seen, refusal_of, armed_in, IsAtRest};
+ghost use Rattle.dr_moves.specs.Turns.{Leads, Fails};
 ghost use Rattle.dr_gcopy.specs.Kinds.{part_of};
 ghost use Rattle.dr_gcopy.specs.Steps.{make_moves, difference_seen, BothAlone};
 

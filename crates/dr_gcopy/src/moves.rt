@@ -11,17 +11,17 @@ ghost use Rattle.dr_model.specs.ReadStops.{Ends};
 ghost use Rattle.dr_model.specs.Refusals.{stopped};
 ghost use Rattle.dr_volume.specs.Update.{IsAsBefore, IsMoved, OthersStay};
 ghost use Rattle.dr_volume.specs.View.{Rest, volume_seen};
-ghost use Rattle.dr_flash.specs.Fit.{RelationsFit};
-ghost use Rattle.dr_flash.specs.Here.{world_seen, refusal_of, armed_in, IsAtRest};
-ghost use Rattle.dr_flash.specs.Turns.{Advances, Halts};
+ghost use Rattle.dr_moves.specs.Fit.{RelationsFit};
+ghost use Rattle.dr_moves.specs.Here.{world_seen, refusal_of, armed_in, IsAtRest};
+ghost use Rattle.dr_moves.specs.Turns.{Advances, Halts};
 
-use crate::parts::{
-    followed, made_primary, made_secondary, no_primary, no_secondary, resumed, taken_over,
-};
 use dr_config::Config;
-use dr_flash::{Telling, Told, shift, tracks_of};
 use dr_ids::{Refusal, VolumeId};
 use dr_model::{Event, Journal, PairState, Part};
+use dr_moves::{
+    Telling, Told, followed, made_primary, made_secondary, no_primary, no_secondary, resumed,
+    shift, taken_over, tracks_of,
+};
 use dr_plant::Plant;
 use dr_volume::peek_fields;
 

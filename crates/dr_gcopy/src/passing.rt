@@ -10,18 +10,19 @@ ghost use Rattle.dr_model.specs.Pairs as pairs;
 ghost use Rattle.dr_volume.specs.Update.{IsAsBefore};
 ghost use Rattle.dr_volume.specs.View.{Rest, volume_seen, track_seen, ids_of};
 ghost use Rattle.dr_volume.specs.Volume.{Says};
-ghost use Rattle.dr_flash.specs.Checks.{is_stop};
-ghost use Rattle.dr_flash.specs.Fit.{RelationsFit};
-ghost use Rattle.dr_flash.specs.Here.{world_seen, refusal_of, armed_in, IsAtRest};
-ghost use Rattle.dr_flash.specs.Turns.{Leads, Fails};
+ghost use Rattle.dr_moves.specs.Checks.{is_stop};
+ghost use Rattle.dr_moves.specs.Fit.{RelationsFit};
+ghost use Rattle.dr_moves.specs.Here.{world_seen, refusal_of, armed_in, IsAtRest};
+ghost use Rattle.dr_moves.specs.Turns.{Leads, Fails};
 ghost use Rattle.dr_gcopy.specs.Sending.{exchange_entries, pass_entries};
 
-use crate::states::is_last;
+use crate::parts::is_last;
 use crate::storing::{store, strike_by};
 use dr_config::Config;
-use dr_flash::{copy_first, read_told};
+use dr_flash::copy_first;
 use dr_ids::{Refusal, VolumeId};
 use dr_model::Journal;
+use dr_moves::read_told;
 use dr_plant::{Block, Plant};
 use dr_volume::{Fields, peek_fields};
 

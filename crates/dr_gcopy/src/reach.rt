@@ -5,8 +5,8 @@ ghost use Rattle.dr_config.specs.Table.{StandsFor, place_of};
 ghost use Rattle.dr_model.specs.declared.event.Event.{Event};
 ghost use Rattle.dr_model.specs.PairEntries as pairs;
 ghost use Rattle.dr_volume.specs.View.{Rest, volume_seen};
-ghost use Rattle.dr_flash.specs.Checks.{OnNone, is_stop};
-ghost use Rattle.dr_flash.specs.Here.{world_seen};
+ghost use Rattle.dr_moves.specs.Checks.{OnNone, is_stop};
+ghost use Rattle.dr_moves.specs.Here.{world_seen};
 
 use dr_config::Config;
 use dr_ids::{Refusal, VolumeId};

@@ -13,17 +13,18 @@ ghost use Rattle.dr_model.specs.ReadStops.{Ends};
 ghost use Rattle.dr_model.specs.Refusals.{stopped};
 ghost use Rattle.dr_volume.specs.Update.{IsAsBefore};
 ghost use Rattle.dr_volume.specs.View.{Rest, volume_seen, track_seen, ids_of};
-ghost use Rattle.dr_flash.specs.Checks.{OnNone, is_stop};
-ghost use Rattle.dr_flash.specs.Fit.{RelationsFit};
-ghost use Rattle.dr_flash.specs.Here.{world_seen, refusal_of, armed_in, IsAtRest};
-ghost use Rattle.dr_flash.specs.Turns.{Leads, Fails};
+ghost use Rattle.dr_moves.specs.Checks.{OnNone, is_stop};
+ghost use Rattle.dr_moves.specs.Fit.{RelationsFit};
+ghost use Rattle.dr_moves.specs.Here.{world_seen, refusal_of, armed_in, IsAtRest};
+ghost use Rattle.dr_moves.specs.Turns.{Leads, Fails};
 ghost use Rattle.dr_gcopy.specs.Sending.{stranger_refusal, receive_entries};
 
 use crate::storing::store;
 use dr_config::Config;
-use dr_flash::{copy_first, is_revertible, pair_state, relation_state};
+use dr_flash::{copy_first, is_revertible, relation_state};
 use dr_ids::{Refusal, VolumeId};
 use dr_model::Journal;
+use dr_moves::pair_state;
 use dr_plant::{Block, Plant};
 use dr_volume::{Head, peek_head};
 

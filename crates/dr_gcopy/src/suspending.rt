@@ -12,16 +12,15 @@ ghost use Rattle.dr_model.specs.ReadStops.{Ends};
 ghost use Rattle.dr_model.specs.Refusals.{stopped};
 ghost use Rattle.dr_volume.specs.Update.{IsMoved, OthersStay};
 ghost use Rattle.dr_volume.specs.View.{Rest, volume_seen};
-ghost use Rattle.dr_flash.specs.declared.told.Told.TheVariants.{Nothing, One};
-ghost use Rattle.dr_flash.specs.Fit.{RelationsFit};
-ghost use Rattle.dr_flash.specs.Here.{world_seen, refusal_of, armed_in, IsAtRest};
-ghost use Rattle.dr_flash.specs.Turns.{Advances, Halts};
+ghost use Rattle.dr_moves.specs.declared.told.Told.TheVariants.{Nothing, One};
+ghost use Rattle.dr_moves.specs.Fit.{RelationsFit};
+ghost use Rattle.dr_moves.specs.Here.{world_seen, refusal_of, armed_in, IsAtRest};
+ghost use Rattle.dr_moves.specs.Turns.{Advances, Halts};
 
-use crate::states::suspended;
 use dr_config::Config;
-use dr_flash::{Telling, Told, shift};
 use dr_ids::{Refusal, VolumeId};
 use dr_model::{Event, Journal, PairState};
+use dr_moves::{Telling, Told, shift, suspended};
 use dr_plant::Plant;
 use dr_volume::peek_fields;
 

@@ -30,7 +30,7 @@ use Rattle.dr_model.proofs.CarryLemmas.{carry-none}
 use Rattle.dr_laws_recovery.specs.TakenOver.{IsLeft}
 use Rattle.dr_laws_recovery.proofs.TakenOver.{leaves-carried}
 use Rattle.dr_volume.specs.View.{Rest}
-use Rattle.dr_flash.specs.Here.{world_seen}
+use Rattle.dr_moves.specs.Here.{world_seen}
 use Rattle.dr_facts.proofs.Ends.{ends-none}
 use Rattle.dr_gmirror.specs.declared.looks.Look.{Look}
 use Rattle.dr_gmirror.specs.Orders.{with_sessions}

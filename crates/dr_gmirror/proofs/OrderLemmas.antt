@@ -18,12 +18,12 @@ use Rattle.dr_model.specs.Control.{World}
 use Rattle.dr_model.specs.Carry.{Entry}
 use Rattle.dr_model.specs.SessionEntries.{member_entries, is_on, members_on, order_entries, reply_after}
 use Rattle.dr_volume.specs.View.{Rest}
-use Rattle.dr_flash.specs.Here.{world_seen}
-use Rattle.dr_flash.specs.Turns.{Leads, Fails}
+use Rattle.dr_moves.specs.Here.{world_seen}
+use Rattle.dr_moves.specs.Turns.{Leads, Fails}
 use Rattle.dr_gcopy.proofs.SendLemmas.{fails-wider}
 use Rattle.dr_gcopy.proofs.TwoMoves.{server-stays}
 use Rattle.dr_gmirror.specs.Orders.{IsMemberReady, is_seal, is_report, sync_seen, must_wait, waits_in}
-use Rattle.dr_flash.proofs.LeadLemmas.{then-leads, then-fails, fails-first}
+use Rattle.dr_moves.proofs.LeadLemmas.{then-leads, then-fails, fails-first}
 
 -- one member, on the server or elsewhere
 pub entries-on : (work : phases.Work) (s n server : ℕ) (m : Member) → is_on server m ≡ true → order_entries work s n (members_on server (m ∷ [])) ≡ member_entries work s n m

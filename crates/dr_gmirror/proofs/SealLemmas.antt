@@ -16,7 +16,7 @@ use Rattle.dr_model.specs.PairEntries.{send_refusal}
 use Rattle.dr_model.specs.SessionEntries.{seal_refusal, seal_on}
 use Rattle.dr_volume.specs.Update.{IsMoved, OthersStay}
 use Rattle.dr_volume.specs.View.{Rest, volume_seen}
-use Rattle.dr_flash.specs.Here.{world_seen}
+use Rattle.dr_moves.specs.Here.{world_seen}
 use Rattle.dr_gmirror.specs.Orders.{sync_seen}
 
 module _ (s : PlantState) (t : ConfigTable) (r : Rest) (events : List Event) (a b : ℕ) where

@@ -16,7 +16,7 @@ use Rattle.dr_model.specs.Runs.{begun, finish, answered}
 use Rattle.dr_model.specs.ReadStops.{Ends}
 use Rattle.dr_model.specs.SessionEntries.{order_entries, members_on, reply_after}
 use Rattle.dr_model.specs.SessionPlans.{exchange_refusal, order_of, says_phase}
-use Rattle.dr_flash.specs.Turns.{Leads}
+use Rattle.dr_moves.specs.Turns.{Leads}
 use Rattle.dr_gmirror.specs.declared.looks.Look.{Look}
 use Rattle.dr_gmirror.specs.Orders.{MayOrder}
 

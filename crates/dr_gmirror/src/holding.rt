@@ -7,11 +7,11 @@ ghost use Rattle.dr_model.specs.Pairs.{records};
 ghost use Rattle.dr_model.specs.Sessions as model;
 ghost use Rattle.dr_model.specs.SessionEntries.{hold_entries};
 ghost use Rattle.dr_volume.specs.View.{Rest, volume_seen};
-ghost use Rattle.dr_flash.specs.Checks.{is_stop};
-ghost use Rattle.dr_flash.specs.Fit.{RelationsFit};
-ghost use Rattle.dr_flash.specs.Here.{world_seen, refusal_of, armed_in, IsAtRest};
-ghost use Rattle.dr_flash.specs.Turns.{Leads, Fails};
-ghost use Rattle.dr_coord.specs.Aside.{AsideFits};
+ghost use Rattle.dr_moves.specs.Checks.{is_stop};
+ghost use Rattle.dr_moves.specs.Fit.{RelationsFit};
+ghost use Rattle.dr_moves.specs.Here.{world_seen, refusal_of, armed_in, IsAtRest};
+ghost use Rattle.dr_moves.specs.Turns.{Leads, Fails};
+ghost use Rattle.dr_moves.specs.Aside.{AsideFits};
 ghost use Rattle.dr_gmirror.specs.Orders.{with_sessions, last_in, to_begin, begun_in, MayBegin, IsMemberReady};
 
 use dr_config::Config;

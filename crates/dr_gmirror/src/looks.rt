@@ -11,8 +11,8 @@ ghost use Rattle.dr_model.specs.SessionPlans as plans;
 ghost use Rattle.dr_model.specs.Sessions as model;
 ghost use Rattle.dr_master.specs.Seen.{order_of};
 ghost use Rattle.dr_volume.specs.View.{Rest};
-ghost use Rattle.dr_flash.specs.Checks.{OnNone, is_stop};
-ghost use Rattle.dr_flash.specs.Here.{world_seen};
+ghost use Rattle.dr_moves.specs.Checks.{OnNone, is_stop};
+ghost use Rattle.dr_moves.specs.Here.{world_seen};
 
 use dr_config::Config;
 use dr_ids::{PhaseName, Refusal, ServerId, SessionId};

@@ -9,11 +9,11 @@ ghost use Rattle.dr_model.specs.Sessions as model;
 ghost use Rattle.dr_model.specs.SessionEntries.{order_entries, members_on, reply_after};
 ghost use Rattle.dr_master.specs.Seen.{work_of, reply_of, count_in};
 ghost use Rattle.dr_volume.specs.View.{Rest};
-ghost use Rattle.dr_flash.specs.Checks.{is_stop};
-ghost use Rattle.dr_flash.specs.Fit.{RelationsFit};
-ghost use Rattle.dr_flash.specs.Here.{world_seen, refusal_of, armed_in, IsAtRest};
-ghost use Rattle.dr_flash.specs.Turns.{Leads, Fails};
-ghost use Rattle.dr_coord.specs.Aside.{AsideFits};
+ghost use Rattle.dr_moves.specs.Checks.{is_stop};
+ghost use Rattle.dr_moves.specs.Fit.{RelationsFit};
+ghost use Rattle.dr_moves.specs.Here.{world_seen, refusal_of, armed_in, IsAtRest};
+ghost use Rattle.dr_moves.specs.Turns.{Leads, Fails};
+ghost use Rattle.dr_moves.specs.Aside.{AsideFits};
 ghost use Rattle.dr_gmirror.specs.Exchange.{members_in_reply};
 ghost use Rattle.dr_gmirror.specs.Orders.{with_sessions, MayOrder, AreReady, is_report};
 

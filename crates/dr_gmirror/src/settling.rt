@@ -10,9 +10,9 @@ ghost use Rattle.dr_model.specs.SessionEntries.{counts_in, shown_of, shown_by_me
 ghost use Rattle.dr_model.specs.Sessions as model;
 ghost use Rattle.dr_volume.specs.Plain.{plain};
 ghost use Rattle.dr_volume.specs.View.{Rest};
-ghost use Rattle.dr_flash.specs.Checks.{is_stop};
-ghost use Rattle.dr_flash.specs.Here.{world_seen, refusal_of, armed_in};
-ghost use Rattle.dr_flash.specs.Turns.{Leads, Fails};
+ghost use Rattle.dr_moves.specs.Checks.{is_stop};
+ghost use Rattle.dr_moves.specs.Here.{world_seen, refusal_of, armed_in};
+ghost use Rattle.dr_moves.specs.Turns.{Leads, Fails};
 ghost use Rattle.dr_gmirror.specs.Orders.{IsMemberReady, AreReady};
 ghost use Rattle.dr_gmirror.specs.Reports.{IsTrimmed};
 

@@ -19,9 +19,9 @@ use Rattle.dr_model.specs.Relations.{in_order, lowest, is_bare, turned, given_up
 use Rattle.dr_model.specs.Views.{shows_source}
 use Rattle.dr_volume.specs.Update.{IsMoved, OthersStay}
 use Rattle.dr_volume.specs.View.{volume_seen, track_seen, volume_at, track_at, volume_on, track_on}
-use Rattle.dr_flash.specs.Fit.{RelationsFit}
+use Rattle.dr_moves.specs.Fit.{RelationsFit}
 use Rattle.dr_flash.proofs.CheckLemmas.{same-test, differ-test}
-use Rattle.dr_flash.proofs.SetLaws.{contains-rest}
+use Rattle.dr_moves.proofs.SetLaws.{contains-rest}
 use Rattle.dr_flash.proofs.ViewLemmas.{view-source, view-own}
 use Rattle.dr_flash.specs.Views.{view_seen}
 use Rattle.dr_model.specs.Pairs.{altered}

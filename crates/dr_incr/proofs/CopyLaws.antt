@@ -21,10 +21,10 @@ use Rattle.dr_model.specs.Table.{table}
 use Rattle.dr_flash.proofs.CheckLemmas.{same-test}
 use Rattle.dr_incr.specs.Steps.{HasFitSets}
 use Rattle.dr_volume.specs.Update.{IsAsBefore, IsMoved, OthersStay}
-use Rattle.dr_flash.specs.Fit.{RelationsFit}
-use Rattle.dr_flash.specs.Here.{world_seen}
-use Rattle.dr_flash.specs.Turns.{made_by}
-use Rattle.dr_flash.specs.declared.told.Telling.{Telling}
+use Rattle.dr_moves.specs.Fit.{RelationsFit}
+use Rattle.dr_moves.specs.Here.{world_seen}
+use Rattle.dr_moves.specs.Turns.{made_by}
+use Rattle.dr_moves.specs.declared.told.Telling.{Telling}
 use Rattle.dr_flash.specs.Views.{view_seen}
 use Rattle.dr_incr.specs.Copies.{HoldsUnchanged, BlankAreZeros}
 use Rattle.dr_incr.proofs.TargetLemmas.{TargetOf}

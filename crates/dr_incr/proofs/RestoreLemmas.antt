@@ -19,15 +19,16 @@ use Rattle.dr_model.specs.Relations.{in_order, rest, is_bare, withdrawn_if, resy
 use Rattle.dr_model.specs.Pairs.{altered}
 use Rattle.dr_volume.specs.View.{volume_seen}
 use Rattle.dr_volume.specs.Update.{Covers}
-use Rattle.dr_flash.specs.Fit.{RelationsFit}
-use Rattle.dr_flash.specs.Told.{event_of, events_of}
-use Rattle.dr_flash.specs.Turns.{room_of}
-use Rattle.dr_flash.specs.declared.told.Told.TheVariants.{One}
-use Rattle.dr_flash.specs.declared.told.Telling.{Telling}
-use Rattle.dr_flash.proofs.FitLemmas.{fit-kept}
-use Rattle.dr_flash.proofs.FieldLemmas.{low-remove, lawful-withdrawn, Apart, apart-empty, covers-all, covers-rest, covers-carried}
-use Rattle.dr_flash.proofs.TurnLemmas.{Tells}
-use Rattle.dr_flash.proofs.MoveLemmas.{MoveFits}
+use Rattle.dr_moves.specs.Fit.{RelationsFit}
+use Rattle.dr_moves.specs.Told.{event_of, events_of}
+use Rattle.dr_moves.specs.Turns.{room_of}
+use Rattle.dr_moves.specs.declared.told.Told.TheVariants.{One}
+use Rattle.dr_moves.specs.declared.told.Telling.{Telling}
+use Rattle.dr_moves.proofs.FitLemmas.{fit-kept}
+use Rattle.dr_flash.proofs.FieldLemmas.{low-remove, lawful-withdrawn}
+use Rattle.dr_moves.specs.Made.{Apart}
+use Rattle.dr_moves.proofs.MoveFits.{apart-empty, covers-all, covers-rest, covers-carried, MoveFits}
+use Rattle.dr_moves.proofs.TurnLemmas.{Tells}
 use Rattle.dr_incr.specs.Steps.{HasFitSets, left_event, returned_told}
 use Rattle.dr_model.proofs.LawfulLemmas.{removed, low-empty}
 use Rattle.dr_logic.proofs.Lists.{few-in}

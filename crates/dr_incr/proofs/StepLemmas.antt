@@ -16,11 +16,11 @@ use Rattle.dr_model.specs.Moves.{Restore, Release}
 use Rattle.dr_incr.specs.Steps.{keeps_of}
 use Rattle.dr_facts.proofs.Ends.{ends-skips}
 use Rattle.dr_volume.specs.View.{Rest, volume_seen}
-use Rattle.dr_flash.specs.Checks.{is_stop}
-use Rattle.dr_flash.specs.Here.{world_seen, refusal_of}
-use Rattle.dr_flash.specs.Turns.{Advances, Halts, Leads, Fails}
-use Rattle.dr_flash.proofs.CopyLemmas.{led, failed}
-use Rattle.dr_flash.proofs.LeadLemmas.{then-leads}
+use Rattle.dr_moves.specs.Checks.{is_stop}
+use Rattle.dr_moves.specs.Here.{world_seen, refusal_of}
+use Rattle.dr_moves.specs.Turns.{Advances, Halts, Leads, Fails}
+use Rattle.dr_moves.proofs.EntryLemmas.{led, failed}
+use Rattle.dr_moves.proofs.LeadLemmas.{then-leads}
 
 pub then-advances : (w v : World) (es : List Entry) (d : Entry) → Leads w es w → Advances w d v → Leads w (es ++ d ∷ []) v
 then-advances w v es d first goes armed u r ds more = subst (Ends armed u r w) (sym (append_assoc es (d ∷ []) ds)) (first armed u r (d ∷ ds) (goes armed u r ds more))

@@ -20,7 +20,7 @@ use Rattle.dr_model.specs.Lawful.{IsLawful, NoRelation}
 use Rattle.dr_model.specs.Carry.{Entry}
 use Rattle.dr_model.specs.Entries.{copies_from, keep_on, for_lowest}
 use Rattle.dr_volume.specs.View.{volume_seen, ids_of}
-use Rattle.dr_flash.specs.Fit.{SourceFits, RelationsFit}
+use Rattle.dr_moves.specs.Fit.{SourceFits, RelationsFit}
 use Rattle.dr_flash.proofs.CopyLemmas.{ids-next}
 use Rattle.dr_incr.specs.Steps.{keeps_of, IsRestoredOnto}
 use Rattle.dr_logic.proofs.Lists.{filter-none}

@@ -6,8 +6,8 @@ use Rattle.dr_ids.specs.declared.refusal.Refusal.{Refusal}
 use Rattle.dr_model.specs.declared.event.Event.{Event}
 use Rattle.dr_model.specs.declared.event.Event.TheVariants.{Left}
 use Rattle.dr_model.specs.Layout.{Tracks, Fields}
-use Rattle.dr_flash.specs.declared.told.Told.TheVariants.{Returned}
-use Rattle.dr_flash.specs.declared.told.Telling.{Telling}
+use Rattle.dr_moves.specs.declared.told.Told.TheVariants.{Returned}
+use Rattle.dr_moves.specs.declared.told.Telling.{Telling}
 use Rattle.dr_model.specs.Laws.{SetsFit}
 use Rattle.dr_model.specs.Control.{Control}
 use Rattle.dr_model.specs.Moves.{Resync, Reverse}

@@ -11,15 +11,16 @@ ghost use Rattle.dr_model.specs.Layout.{is_part};
 ghost use Rattle.dr_model.specs.Pairs as pairs;
 ghost use Rattle.dr_volume.specs.Plain.{plain};
 ghost use Rattle.dr_volume.specs.View.{Rest, volume_seen};
-ghost use Rattle.dr_flash.specs.Checks.{Checked, OnNone, is_stop};
+ghost use Rattle.dr_moves.specs.Checks.{Checked, OnNone, is_stop};
 ghost use Rattle.dr_flash.specs.Heads.{targets_by};
-ghost use Rattle.dr_flash.specs.Here.{world_seen, IsAtRest};
+ghost use Rattle.dr_moves.specs.Here.{world_seen, IsAtRest};
 ghost use Rattle.dr_flash.specs.Standing.{targets_in};
 ghost use Rattle.dr_incr.specs.Steps.{target_checks, lone_checks};
 
 use dr_config::Config;
-use dr_flash::{is_quiet, pair_state, relation_state, server_of};
+use dr_flash::relation_state;
 use dr_ids::{Refusal, VolumeId};
+use dr_moves::{is_quiet, pair_state, server_of};
 use dr_plant::Plant;
 use dr_volume::{Fields, Head, peek_fields, peek_head, peek_head_at};
 

@@ -11,18 +11,18 @@ ghost use Rattle.dr_model.specs.Pairs as pairs;
 ghost use Rattle.dr_model.specs.Relations as relations;
 ghost use Rattle.dr_volume.specs.Update.{IsMoved, OthersStay};
 ghost use Rattle.dr_volume.specs.View.{Rest, volume_seen, track_seen};
-ghost use Rattle.dr_flash.specs.Fit.{RelationsFit};
-ghost use Rattle.dr_flash.specs.Here.{world_seen, refusal_of, armed_in, IsAtRest};
-ghost use Rattle.dr_flash.specs.Turns.{Advances, Halts};
+ghost use Rattle.dr_moves.specs.Fit.{RelationsFit};
+ghost use Rattle.dr_moves.specs.Here.{world_seen, refusal_of, armed_in, IsAtRest};
+ghost use Rattle.dr_moves.specs.Turns.{Advances, Halts};
 ghost use Rattle.dr_incr.specs.Steps.{HasFitSets, IsRestoredOnto, volume_number, left_event, returned_told};
 
 use dr_bits::TrackSet;
 use dr_config::Config;
-use dr_flash::{
-    Telling, Told, altered, given_up, read_told, restored, resynced, shift, tracks_of, turned,
-};
 use dr_ids::{Refusal, VolumeId};
 use dr_model::{Event, Journal};
+use dr_moves::{
+    Telling, Told, altered, given_up, read_told, restored, resynced, shift, tracks_of, turned,
+};
 use dr_plant::{Block, Plant};
 use dr_volume::{Fields, peek_fields};
 

@@ -11,10 +11,10 @@ ghost use Rattle.dr_model.specs.Refusals.{stopped};
 ghost use Rattle.dr_model.specs.Relations as relations;
 ghost use Rattle.dr_volume.specs.Update.{IsAsBefore, IsMoved, OthersStay};
 ghost use Rattle.dr_volume.specs.View.{Rest, volume_seen, track_seen, ids_of};
-ghost use Rattle.dr_flash.specs.Checks.{is_stop};
-ghost use Rattle.dr_flash.specs.Fit.{RelationsFit};
-ghost use Rattle.dr_flash.specs.Here.{world_seen, refusal_of, armed_in, IsAtRest};
-ghost use Rattle.dr_flash.specs.Turns.{Leads, Fails};
+ghost use Rattle.dr_moves.specs.Checks.{is_stop};
+ghost use Rattle.dr_moves.specs.Fit.{RelationsFit};
+ghost use Rattle.dr_moves.specs.Here.{world_seen, refusal_of, armed_in, IsAtRest};
+ghost use Rattle.dr_moves.specs.Turns.{Leads, Fails};
 ghost use Rattle.dr_incr.specs.Copies.{HoldsUnchanged, BlankAreZeros, Restores};
 ghost use Rattle.dr_incr.specs.Steps.{HasFitSets, IsAsked, IsRestoredOnto, reverse_entries};
 
@@ -22,9 +22,9 @@ use crate::checks::{lone_refusal, target_refusal};
 use crate::moves::{give_up, take_back, turn_back};
 use crate::others::keep_others;
 use dr_config::Config;
-use dr_flash::{lowest, tracks_of};
 use dr_ids::{Refusal, VolumeId};
 use dr_model::Journal;
+use dr_moves::{lowest, tracks_of};
 use dr_plant::Plant;
 use dr_volume::peek_fields;
 

@@ -20,15 +20,15 @@ use Rattle.dr_host.specs.Seen.{pending_seen}
 use Rattle.dr_host.proofs.Seen.{seen-without}
 use Rattle.dr_host.proofs.Each.{each-without}
 use Rattle.dr_volume.specs.View.{volume_seen, track_seen, on_seen}
-use Rattle.dr_flash.specs.Here.{armed_in}
-use Rattle.dr_flash.specs.Turns.{made_by}
+use Rattle.dr_moves.specs.Here.{armed_in}
+use Rattle.dr_moves.specs.Turns.{made_by}
 use Rattle.dr_facts.proofs.Ends.{ends-goes, ends-stops, ends-none, ends-off}
 use Rattle.dr_metro.specs.Here.{here, IsTold}
 use Rattle.dr_metro.proofs.LandLemmas.{told-through}
 use Rattle.dr_metro.proofs.MirrorLemmas.{telling, both-goes, both-stops}
 use Rattle.dr_metro.proofs.ToldLemmas.{IsWrite, told-marked}
 use Rattle.dr_metro.proofs.TurnLemmas.{differ, seen-landed, issued-landed}
-use Rattle.dr_flash.proofs.MadeLemmas.{differ_same}
+use Rattle.dr_moves.proofs.MadeLemmas.{differ_same}
 
 module _ (s u : PlantState) (t : ConfigTable) (xs : List Session) (h : Writes) (ev now_events : List Event) (n v k : ℕ) (f : Fields) (bytes : List ℕ)
     (on : on_seen s (volume_seen s t v).server ≡ true) (is_next : synced (volume_seen s t v).fields k ≡ f) (is_track : with_write (histories ev).write (track_seen s t v k) n ≡ bytes) where

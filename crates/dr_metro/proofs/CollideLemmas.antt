@@ -24,9 +24,9 @@ use Rattle.dr_model.specs.PairEntries.{link_down, send_refusal, flashed_refusal,
 use Rattle.dr_model.specs.WriteEntries.{sends_first, where_sent, send_first}
 use Rattle.dr_model.specs.Pairs.{is_kind, collides, is_secondary_of, pair_seen, received, is_last}
 use Rattle.dr_model.specs.ReadStops.{EndsTurn, EndsNext, Ends}
-use Rattle.dr_flash.specs.Turns.{Advances, Halts, Leads, Fails}
+use Rattle.dr_moves.specs.Turns.{Advances, Halts, Leads, Fails}
 use Rattle.dr_facts.proofs.Ends.{ends-skips}
-use Rattle.dr_flash.proofs.KeepLemmas.{alike-advances, alike-halts}
+use Rattle.dr_moves.proofs.EntryLemmas.{alike-advances, alike-halts}
 use Rattle.dr_gcopy.specs.Sending.{pass_entries}
 use Rattle.dr_gcopy.proofs.SendLemmas.{suspends-none}
 use Rattle.dr_facts.proofs.Issued.{updated_by}

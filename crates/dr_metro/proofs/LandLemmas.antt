@@ -14,8 +14,8 @@ use Rattle.dr_volume.specs.View.{Rest, world, volume_seen, device_of, IsSettled}
 use Rattle.dr_volume.specs.Update.{IsAsBefore, IsMoved, OthersStay, EndsAs, after_reading}
 use Rattle.dr_volume.proofs.UnreadLaws.{armed-of}
 use Rattle.dr_host.specs.Writes.{Writes, EachPending}
-use Rattle.dr_flash.specs.Here.{IsAtRest, armed_in}
-use Rattle.dr_flash.proofs.ReadLemmas.{is-armed, left-unread}
+use Rattle.dr_moves.specs.Here.{IsAtRest, armed_in}
+use Rattle.dr_moves.proofs.ReadLemmas.{is-armed, left-unread}
 use Rattle.dr_metro.specs.Here.{IsTold}
 use Rattle.dr_metro.specs.Landing.{LandsAs}
 use Rattle.dr_facts.proofs.Issued.{unissued}

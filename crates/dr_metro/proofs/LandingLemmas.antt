@@ -17,10 +17,11 @@ use Rattle.dr_model.specs.Lawful.{Low, HasSets, IsLawful}
 use Rattle.dr_model.specs.Relations.{closed, fetched, rewritten}
 use Rattle.dr_model.specs.Pairs.{written}
 use Rattle.dr_volume.specs.View.{volume_seen}
-use Rattle.dr_flash.specs.Fit.{RelationsFit}
-use Rattle.dr_flash.proofs.FitLemmas.{fit-kept}
-use Rattle.dr_flash.proofs.FieldLemmas.{low-remove, covers-carried, low-insert, low-if}
-use Rattle.dr_flash.proofs.MoveLemmas.{MoveFits, overwrite-fits}
+use Rattle.dr_moves.specs.Fit.{RelationsFit}
+use Rattle.dr_moves.proofs.FitLemmas.{fit-kept}
+use Rattle.dr_flash.proofs.FieldLemmas.{low-remove, low-insert, low-if}
+use Rattle.dr_moves.proofs.MoveFits.{covers-carried, MoveFits}
+use Rattle.dr_flash.proofs.MoveLemmas.{overwrite-fits}
 use Rattle.dr_metro.specs.Landing.{landed_on}
 use Rattle.dr_model.specs.Contents.{laid, byte_laid}
 use Rattle.dr_facts.proofs.Tracks.{not_removed_from}

@@ -14,16 +14,16 @@ use Rattle.dr_model.specs.Moves.{Carried, Unsync, Mirror, LandBoth, fields_left,
 use Rattle.dr_model.specs.Carry.{Turn, Ended, update, turn, turn_ended, finished, cut_short}
 use Rattle.dr_model.specs.Pairs.{unsynced, mirrored, synced}
 use Rattle.dr_volume.specs.View.{volume_seen}
-use Rattle.dr_flash.specs.Fit.{RelationsFit}
-use Rattle.dr_flash.specs.declared.told.Told.TheVariants.{Nothing, One}
-use Rattle.dr_flash.specs.declared.told.Telling.{Telling}
-use Rattle.dr_flash.specs.Turns.{made_by, told_in_stop}
-use Rattle.dr_flash.proofs.FitLemmas.{fit-kept}
-use Rattle.dr_flash.proofs.FieldLemmas.{low-remove, covers-all, covers-carried, low-insert}
-use Rattle.dr_flash.proofs.MoveLemmas.{MoveFits}
-use Rattle.dr_flash.proofs.TurnLemmas.{Tells}
+use Rattle.dr_moves.specs.Fit.{RelationsFit}
+use Rattle.dr_moves.specs.declared.told.Told.TheVariants.{Nothing, One}
+use Rattle.dr_moves.specs.declared.told.Telling.{Telling}
+use Rattle.dr_moves.specs.Turns.{made_by, told_in_stop}
+use Rattle.dr_moves.proofs.FitLemmas.{fit-kept}
+use Rattle.dr_flash.proofs.FieldLemmas.{low-remove, low-insert}
+use Rattle.dr_moves.proofs.MoveFits.{covers-all, covers-carried, MoveFits}
+use Rattle.dr_moves.proofs.TurnLemmas.{Tells}
 use Rattle.dr_metro.proofs.TurnLemmas.{differ}
-use Rattle.dr_flash.proofs.MadeLemmas.{done-by_slot}
+use Rattle.dr_moves.proofs.MadeLemmas.{done-by_slot}
 use Rattle.dr_facts.proofs.Tracks.{not_removed_from}
 
 module _ (s : PlantState) (t : ConfigTable) (v : ℕ) (fit : RelationsFit s t) (lawful : IsLawful (volume_seen s t v).tracks (volume_seen s t v).fields) where

@@ -22,8 +22,8 @@ use Rattle.dr_model.specs.PairEntries.{suspend_after}
 use Rattle.dr_model.specs.WriteEntries.{partner_of, is_grouped, part_running, part_after, after_write}
 use Rattle.dr_model.specs.ReadStops.{Ends}
 use Rattle.dr_host.specs.Writes.{Writes}
-use Rattle.dr_flash.specs.Checks.{OnNone, is_stop}
-use Rattle.dr_flash.specs.Here.{refusal_of}
+use Rattle.dr_moves.specs.Checks.{OnNone, is_stop}
+use Rattle.dr_moves.specs.Here.{refusal_of}
 use Rattle.dr_flash.specs.HostWrites.{write_refusal}
 use Rattle.dr_facts.proofs.Ends.{ends-skips, ends-goes, ends-passed, ends-refused}
 use Rattle.dr_gcopy.specs.Followed.{Follows}

@@ -20,7 +20,7 @@ use Rattle.dr_model.specs.Moves.{Move, Land, Overwrite, Carried, marked, moved, 
 use Rattle.dr_model.specs.Carry.{turn, update, finished, cut_short, ended, Ended, turn_ended, pass, writes, counts_by, spent, off}
 use Rattle.dr_volume.specs.Update.{EndsAs}
 use Rattle.dr_metro.specs.Landing.{landing_move, landed_on}
-use Rattle.dr_flash.proofs.MadeLemmas.{differ_not, differ_same}
+use Rattle.dr_moves.proofs.MadeLemmas.{differ_not, differ_same}
 use Rattle.dr_logic.proofs.Tables.{at_same}
 
 abbrev pub Landing : World → ℕ → ℕ → ℕ → List ℕ → Ended

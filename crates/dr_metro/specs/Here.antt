@@ -7,7 +7,7 @@ use Rattle.dr_model.specs.Control.{World}
 use Rattle.dr_model.specs.Histories.{histories}
 use Rattle.dr_model.specs.Sessions.{Session}
 use Rattle.dr_volume.specs.View.{Rest, world, ReadsPass}
-use Rattle.dr_flash.specs.Here.{IsAtRest}
+use Rattle.dr_moves.specs.Here.{IsAtRest}
 use Rattle.dr_host.specs.Writes.{Writes, EachPending, bytes_of}
 use Rattle.dr_host.specs.Seen.{pending_seen}
 use Rattle.dr_host.specs.declared.pending.Pending.{Pending}

@@ -18,18 +18,17 @@ ghost use Rattle.dr_volume.specs.Update.{IsMoved, OthersStay};
 ghost use Rattle.dr_volume.specs.View.{volume_seen, track_seen};
 ghost use Rattle.dr_volume.specs.Volume.{Says};
 ghost use Rattle.dr_model.specs.declared.event.Event.TheVariants.{Ack};
-ghost use Rattle.dr_flash.specs.declared.told.Told.TheVariants.{Nothing, One};
-ghost use Rattle.dr_flash.specs.Fit.{RelationsFit};
-ghost use Rattle.dr_flash.specs.Here.{refusal_of, armed_in, IsAtRest};
+ghost use Rattle.dr_moves.specs.declared.told.Told.TheVariants.{Nothing, One};
+ghost use Rattle.dr_moves.specs.Fit.{RelationsFit};
+ghost use Rattle.dr_moves.specs.Here.{refusal_of, armed_in, IsAtRest};
 ghost use Rattle.dr_metro.specs.Here.{here, IsTold};
 
 use crate::machine::land_if;
-use crate::states::synced;
 use dr_config::Config;
-use dr_flash::{Telling, Told, shift};
 use dr_host::Host;
 use dr_ids::{Refusal, VolumeId, WriteId};
 use dr_model::{Event, Journal};
+use dr_moves::{Telling, Told, shift, synced};
 use dr_plant::{Block, Plant};
 use dr_volume::{Fields, peek_fields, slot};
 

@@ -11,14 +11,15 @@ ghost use Rattle.dr_volume.specs.Plain.{plain};
 ghost use Rattle.dr_volume.specs.Update.{EndsAs};
 ghost use Rattle.dr_volume.specs.View.{Rest, world, volume_seen, device_of};
 ghost use Rattle.dr_volume.specs.Volume.{Shows};
-ghost use Rattle.dr_flash.specs.Fit.{RelationsFit};
-ghost use Rattle.dr_flash.specs.Here.{IsAtRest, armed_in};
+ghost use Rattle.dr_moves.specs.Fit.{RelationsFit};
+ghost use Rattle.dr_moves.specs.Here.{IsAtRest, armed_in};
 ghost use Rattle.dr_flash.specs.Views.{view_seen};
 ghost use Rattle.dr_metro.specs.Landing.{LandsAs, landed, landed_on};
 
 use dr_config::Config;
-use dr_flash::{closed, fetched, rewritten, tracks_of, view_of, written};
+use dr_flash::view_of;
 use dr_ids::VolumeId;
+use dr_moves::{closed, fetched, rewritten, tracks_of, written};
 use dr_plant::{Block, Plant, Stopped};
 use dr_volume::{Fields, Opened, open_by, peek_fields};
 

@@ -11,10 +11,10 @@ ghost use Rattle.dr_model.specs.Refusals.{stopped};
 ghost use Rattle.dr_model.specs.Sessions.{Session};
 ghost use Rattle.dr_volume.specs.View.{volume_seen, ids_of};
 ghost use Rattle.dr_volume.specs.Volume.{Shows};
-ghost use Rattle.dr_flash.specs.Fit.{RelationsFit};
+ghost use Rattle.dr_moves.specs.Fit.{RelationsFit};
 ghost use Rattle.dr_metro.specs.Here.{here, IsTold};
 ghost use Rattle.dr_metro.specs.Landing.{landed_on};
-ghost use Rattle.dr_flash.specs.Here.{refusal_of, armed_in, IsAtRest};
+ghost use Rattle.dr_moves.specs.Here.{refusal_of, armed_in, IsAtRest};
 ghost use Rattle.dr_metro.specs.Waiting.{IsIssuedAs};
 
 use crate::landing::land_by;

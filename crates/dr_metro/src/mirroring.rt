@@ -13,21 +13,21 @@ ghost use Rattle.dr_model.specs.WriteEntries.{land_mirrored};
 ghost use Rattle.dr_model.specs.Sessions.{Session};
 ghost use Rattle.dr_volume.specs.View.{volume_seen, track_seen, ids_of};
 ghost use Rattle.dr_volume.specs.Volume.{Says};
-ghost use Rattle.dr_flash.specs.Checks.{is_stop};
-ghost use Rattle.dr_flash.specs.Fit.{RelationsFit};
-ghost use Rattle.dr_flash.specs.Here.{refusal_of, armed_in, IsAtRest};
+ghost use Rattle.dr_moves.specs.Checks.{is_stop};
+ghost use Rattle.dr_moves.specs.Fit.{RelationsFit};
+ghost use Rattle.dr_moves.specs.Here.{refusal_of, armed_in, IsAtRest};
 ghost use Rattle.dr_metro.specs.Here.{here, IsTold};
 ghost use Rattle.dr_metro.specs.Mirroring.{settle_entries, store_entries, mirror_entries};
 
 use crate::both::land_both_by;
 use crate::landing::laid;
 use crate::moves::{mirror, unsync_by};
-use crate::states::unsynced;
 use dr_config::Config;
-use dr_flash::{copy_first, read_told};
+use dr_flash::copy_first;
 use dr_host::{Host, Pending};
 use dr_ids::{Refusal, VolumeId, WriteId};
 use dr_model::Journal;
+use dr_moves::{read_told, unsynced};
 use dr_plant::{Block, Plant};
 use dr_volume::{Fields, peek_fields};
 

@@ -15,15 +15,14 @@ ghost use Rattle.dr_model.specs.Refusals.{stopped};
 ghost use Rattle.dr_volume.specs.Plain.{plain};
 ghost use Rattle.dr_volume.specs.Update.{IsMoved, OthersStay};
 ghost use Rattle.dr_volume.specs.View.{Rest, volume_seen, track_seen};
-ghost use Rattle.dr_flash.specs.Fit.{RelationsFit};
-ghost use Rattle.dr_flash.specs.Here.{world_seen, refusal_of, armed_in, IsAtRest};
-ghost use Rattle.dr_flash.specs.Turns.{Advances, Halts};
+ghost use Rattle.dr_moves.specs.Fit.{RelationsFit};
+ghost use Rattle.dr_moves.specs.Here.{world_seen, refusal_of, armed_in, IsAtRest};
+ghost use Rattle.dr_moves.specs.Turns.{Advances, Halts};
 
-use crate::states::{mirrored, unsynced};
 use dr_config::Config;
-use dr_flash::{Telling, Told, shift};
 use dr_ids::{Refusal, VolumeId, WriteId};
 use dr_model::{Event, Journal};
+use dr_moves::{Telling, Told, mirrored, shift, unsynced};
 use dr_plant::{Block, Plant};
 use dr_volume::{Fields, peek_fields};
 

@@ -9,16 +9,16 @@ ghost use Rattle.dr_model.specs.Entries.{subsystem};
 ghost use Rattle.dr_model.specs.PairEntries.{suspend_after};
 ghost use Rattle.dr_model.specs.WriteEntries.{part_after};
 ghost use Rattle.dr_volume.specs.View.{Rest};
-ghost use Rattle.dr_flash.specs.Checks.{is_stop};
-ghost use Rattle.dr_flash.specs.Fit.{RelationsFit};
-ghost use Rattle.dr_flash.specs.Here.{world_seen, armed_in, IsAtRest};
+ghost use Rattle.dr_moves.specs.Checks.{is_stop};
+ghost use Rattle.dr_moves.specs.Fit.{RelationsFit};
+ghost use Rattle.dr_moves.specs.Here.{world_seen, armed_in, IsAtRest};
 ghost use Rattle.dr_gcopy.specs.Followed.{EndsSo, Follows};
 
 use dr_config::Config;
-use dr_flash::server_of;
 use dr_gcopy::{follow_stop, suspend};
 use dr_ids::{Refusal, VolumeId};
 use dr_model::Journal;
+use dr_moves::server_of;
 use dr_plant::Plant;
 use dr_volume::peek_fields;
 

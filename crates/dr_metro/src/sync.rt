@@ -16,9 +16,9 @@ ghost use Rattle.dr_model.specs.WriteEntries.{land_entries, landing, waits, afte
 ghost use Rattle.dr_model.specs.Sessions.{Session};
 ghost use Rattle.dr_volume.specs.View.{volume_seen, ids_of};
 ghost use Rattle.dr_volume.specs.Volume.{Says, Shows};
-ghost use Rattle.dr_flash.specs.Checks.{is_stop};
-ghost use Rattle.dr_flash.specs.Fit.{RelationsFit};
-ghost use Rattle.dr_flash.specs.Here.{refusal_of, armed_in, IsAtRest};
+ghost use Rattle.dr_moves.specs.Checks.{is_stop};
+ghost use Rattle.dr_moves.specs.Fit.{RelationsFit};
+ghost use Rattle.dr_moves.specs.Here.{refusal_of, armed_in, IsAtRest};
 ghost use Rattle.dr_flash.specs.Standing.{HasNoTarget};
 ghost use Rattle.dr_gcopy.specs.Followed.{EndsFollowed};
 ghost use Rattle.dr_metro.specs.Here.{here, IsTold};
@@ -33,11 +33,12 @@ use crate::mirroring::{front, write_both_by};
 use crate::parting::{follow_write, is_grouped};
 use crate::states::{collides, goes_over};
 use dr_config::Config;
-use dr_flash::{server_of, write_refusal_by};
+use dr_flash::write_refusal_by;
 use dr_gcopy::{send_refusal, suspend};
 use dr_host::{Host, Pending};
 use dr_ids::{Refusal, ServerId, VolumeId};
 use dr_model::Journal;
+use dr_moves::server_of;
 use dr_plant::Plant;
 use dr_volume::{Fields, head_by, is_held, peek_fields};
 

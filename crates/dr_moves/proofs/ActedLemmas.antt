@@ -1,15 +1,13 @@
 -- What an entry came to was done.
-use Rattle.std.proofs.Common.{ℕ, ◌≡◌, ◌≢◌, ◌≤◌, ◌+◌, Bool, true, false, ◌∷◌, length, arith, refl, sym, ◌∙◌, ap, subst, Option, Some, None}
-use Rattle.std.specs.Prelude.{◌&&◌, nat_lt, is_some, Result, Ok, Err, OnOk, OnErr, is_err}
+use Rattle.std.proofs.Common.{ℕ, ◌≡◌, ◌≢◌, ◌≤◌, ◌+◌, true, false, ◌∷◌, length, arith, refl, sym, ◌∙◌, ap, subst, Option, Some, None}
+use Rattle.std.specs.Prelude.{Result, Ok, Err, OnOk, is_err}
 use Rattle.std.specs.Result.{IsErrAnd}
 use Rattle.dr_ids.specs.declared.refusal.Refusal.{Refusal}
 use Rattle.dr_plant.specs.State.{PlantState}
 use Rattle.dr_config.specs.Table.{ConfigTable}
 use Rattle.dr_model.specs.Log.{Log}
-use Rattle.dr_model.specs.Control.{World}
 use Rattle.dr_model.specs.Moves.{Move, Carried, target, fields_left, told}
-use Rattle.dr_model.specs.Carry.{Make, Do as DoAct, Entry, now}
-use Rattle.dr_model.specs.Carry.{check}
+use Rattle.dr_model.specs.Carry.{Make, Do as DoAct, now, check}
 use Rattle.dr_model.specs.ReadStops.{GoesOff}
 use Rattle.dr_model.specs.Refusals.{stopped}
 use Rattle.dr_volume.specs.Update.{IsAsBefore, IsMoved, OthersStay}
@@ -20,29 +18,18 @@ use Rattle.dr_moves.specs.Entered.{Entered}
 use Rattle.dr_logic.specs.Counts.{Counted}
 use Rattle.dr_moves.specs.Here.{world_seen, armed_in, refusal_of, IsAtRest}
 use Rattle.dr_moves.specs.Made.{IsAt, Kept, room_for}
-use Rattle.dr_moves.specs.Turns.{Advances, Halts}
 use Rattle.dr_moves.specs.declared.carrying.Next.{Next}
-use Rattle.dr_moves.specs.declared.carrying.Next.TheVariants.{Pass, Do, Bring, End}
-use Rattle.dr_facts.proofs.Ends.{ends-alike, ends-skips, ends-off, ends-refused}
+use Rattle.dr_moves.specs.declared.carrying.Next.TheVariants.{Pass, End}
+use Rattle.dr_facts.proofs.Ends.{ends-alike, ends-off, ends-refused}
+use Rattle.dr_moves.proofs.EntryLemmas.{skips, alike-advances, alike-halts}
 use Rattle.dr_moves.proofs.FitLemmas.{fit-same}
 use Rattle.dr_moves.proofs.ReadLemmas.{before-same}
 use Rattle.dr_moves.proofs.KeptLemmas.{aside-same}
 use Rattle.dr_moves.proofs.StopRows.{room-few}
 
--- an entry that comes to what another comes to
-pub alike-advances : (w v : World) (d e : Entry) → d w.control ≡ e w.control → Advances w e v → Advances w d v
-alike-advances w v d e same advances armed u r ds more = ends-alike armed u r w d e ds same (advances armed u r ds more)
-
-pub alike-halts : (armed : ℕ → Bool) (w u : World) (r : Option Refusal) (d e : Entry) → d w.control ≡ e w.control → Halts armed w e u r → Halts armed w d u r
-alike-halts armed w u r d e same halts ds = ends-alike armed u r w d e ds same (halts ds)
-
-pub err-always : {T E : Type 0} {P : Type 0} (r : Result T E) → P → OnErr r P
-err-always (Ok x) p = tt
-err-always (Err e) p = p
-
-pub refused-by : {T : Type 0} (r : Result T Refusal) (e : Refusal) → is_err r ≡ true → IsErrAnd r (λ x. x ≡ e) → r ≡ Err e
-refused-by (Ok a) e failed is = absurd cc
-refused-by (Err x) e failed is = ap Err is
+pub err-is : {T : Type 0} (r : Result T Refusal) (e : Refusal) → is_err r ≡ true → IsErrAnd r (λ x. x ≡ e) → r ≡ Err e
+err-is (Ok a) e failed is = absurd cc
+err-is (Err x) e failed is = ap Err is
 
 -- in less room, and faults counted as stops
 least : (a m n k : ℕ) → a ≤ m + n → n ≤ k → a ≤ m + k
@@ -88,7 +75,7 @@ nothing-kept s c j res at calm n on = record {
 -- an entry that passes, and one that ends the plan
 pub acted-pass : (s : PlantState) (c : ConfigTable) (j : Log) → IsAt s c → Acted s s c j j Pass (Ok tt)
 acted-pass s c j at = record {
-  advances = λ r d comes armed u q ds more. ends-skips armed u q (world_seen s c r j.events) d ds comes more;
+  advances = λ r d comes. skips (world_seen s c r j.events) d comes;
   halts = tt;
   went = refl;
   kept = nothing-kept s c j (Ok tt) at refl 1 refl;
@@ -134,77 +121,3 @@ acted-gone s u c old new next why server at stops refused gone same rest unarmed
   where
     more : (a b n : ℕ) → a ≤ b + 1 → a ≤ b + (n + 1)
     more a b n h = omega (arith, h)
-
--- what stays along two calls in a row
-pub kept-then : (s m u : PlantState) (c : ConfigTable) (old mid new : Log) (a b most : ℕ) (res : Result (Unit {0}) Refusal) → Kept s m c old mid a false {E = Refusal} (Ok tt) → Kept m u c mid new b (is_stop (refusal_of res)) res
-    → old.spare ≤ new.spare + most → Kept s u c old new most (is_stop (refusal_of res)) res
-kept-then s m u c old mid new a b most (Ok x) first second room = record {
-  at = second.at;
-  aside = λ fit. second.aside (first.aside fit);
-  unarmed = λ q none. second.unarmed q (first.unarmed q none);
-  faults = second.faults ∙ first.faults;
-  on = second.on ∙ first.on;
-  room = room;
-  spare = second.spare ∙ first.spare;
-}
-kept-then s m u c old mid new a b most (Err e) first second room = record {
-  at = second.at;
-  aside = λ fit. second.aside (first.aside fit);
-  unarmed = λ q none. second.unarmed q (first.unarmed q none);
-  faults = let same : m.faults ≡ s.faults = first.faults in subst (λ n. Counted (is_stop (Some e)) n u.faults) same second.faults;
-  on = tt;
-  room = room;
-  spare = second.spare ∙ first.spare;
-}
-
-pub before-then : (s t u : PlantState) (c : ConfigTable) (q : ℕ) → IsAsBefore s t c q → IsAsBefore t u c q → IsAsBefore s u c q
-before-then s t u c q a b = record { volume = b.volume ∙ a.volume; tracks = b.tracks ∙ a.tracks }
-
--- no fuse is armed later that wasn't
-pub wider-armed : (s u : PlantState) → ((q : ℕ) → s.read_fuse q ≡ None → u.read_fuse q ≡ None) → (q : ℕ) → armed_in u q ≡ true → armed_in s q ≡ true
-wider-armed s u unarmed q h =
-    elim (s.read_fuse q) as (λ o. s.read_fuse q ≡ o → armed_in s q ≡ true) [
-      | None ↦ λ none. absurd (let later : armed_in u q ≡ false = ap (λ o. nat_lt q 8 && is_some o) (unarmed q none) ∙ either_no (nat_lt q 8) in cc)
-      | Some n ↦ λ some. ap (λ o. nat_lt q 8 && is_some o) some ∙ either_yes (nat_lt q 8) (is_some (u.read_fuse q)) h
-    ] refl
-  where
-    either_no : (b : Bool) → (b && false) ≡ false
-    either_no true = refl
-    either_no false = refl
-
-    either_yes : (b x : Bool) → (b && x) ≡ true → (b && true) ≡ true
-    either_yes true x h = refl
-    either_yes false x h = h
-
--- what any entry leaves alone, where it went well
-pub went-on : (s u : PlantState) (c : ConfigTable) (next : Next) → Went s u c next → u.on ≡ s.on
-went-on s u c Pass went = ap (λ (x : PlantState). x.on) went
-went-on s u c (Do m) went = went.on
-went-on s u c (Bring m v t) went = went.on
-went-on s u c (End r) went = absurd went
-
-pub went-spares : (s u : PlantState) (c : ConfigTable) (next : Next) → Went s u c next → (q : ℕ) → NotTarget next q → IsAsBefore s u c q
-went-spares s u c Pass went q ne = before-same c s u went q
-went-spares s u c (Do m) went q ne = went.others q ne
-went-spares s u c (Bring m v t) went q ne = went.others q ne
-went-spares s u c (End r) went q ne = absurd went
-
-pub ok-along : {T E : Type 0} {P Q : Type 0} (r : Result T E) → OnOk r P → (P → Q) → OnOk r Q
-ok-along (Ok x) p f = f p
-ok-along (Err e) p f = p
-
-pub err-map : {T E : Type 0} {P Q : Type 0} (r : Result T E) → OnErr r P → (P → Q) → OnErr r Q
-err-map (Ok x) p f = p
-err-map (Err e) p f = f p
-
--- in more room
-pub kept-more : (s u : PlantState) (c : ConfigTable) (old new : Log) (m n : ℕ) (counts : Bool) (res : Result (Unit {0}) Refusal) → Kept s u c old new m counts res → m ≤ n → Kept s u c old new n counts res
-kept-more s u c old new m n counts res kept more = record {
-  at = kept.at;
-  aside = kept.aside;
-  unarmed = kept.unarmed;
-  faults = kept.faults;
-  on = kept.on;
-  room = least old.spare new.spare m n kept.room more;
-  spare = kept.spare;
-}

@@ -1,17 +1,9 @@
 -- A move as an entry, from the machine's turn of it.
-use Rattle.std.proofs.Common.{ℕ, ◌≡◌, ◌⊎◌, inl, inr, Bool, true, false, ◌∷◌, refl, ◌∙◌, Option, Some, None}
-use Rattle.dr_ids.specs.declared.refusal.Refusal.{Refusal}
-use Rattle.dr_model.specs.Control.{World}
+use Rattle.std.proofs.Common.{◌≡◌, Bool, true, false, refl}
 use Rattle.dr_model.specs.Moves.{Move, Land, Overwrite, Keep, Note, Relate, Withdraw, Fetch, Resync, Reverse, Restore, Release, Store, Strike, Suspend, MakeSecondary, MakePrimary, DropPrimary, DropSecondary, Follow, Resume, TakeOver, FallBack, Yield, Unsync, Mirror, LandBoth, Thaw, Lift, Restart, Hold, Free, Seal, Finish, RaiseAttempt, RaiseFloor, Leave, Flash, Commit, Revert}
-use Rattle.dr_model.specs.Carry.{Make, Do, Entry, turn}
-use Rattle.dr_model.specs.ReadStops.{GoesOff}
-use Rattle.dr_model.specs.Refusals.{stopped}
-use Rattle.dr_model.proofs.CarryLemmas.{act-move}
 use Rattle.dr_volume.specs.View.{Rest}
 use Rattle.dr_moves.specs.Entered.{is_calm}
 use Rattle.dr_moves.specs.Made.{after_done, after_stop}
-use Rattle.dr_moves.specs.Turns.{Advances, Halts}
-use Rattle.dr_facts.proofs.Ends.{ends-off, ends-goes, ends-stops}
 
 -- such a move settles no pending write
 pub calm-done : (m : Move) → is_calm m ≡ true → (r : Rest) → after_done m r ≡ r
@@ -96,11 +88,3 @@ calm-stop (Flash v u a s n) calm true r = refl
 calm-stop (Commit v a s n) calm true r = refl
 calm-stop (Revert v a s n) calm true r = refl
 calm-stop m calm false r = refl
-
--- an entry that comes to that move leads on, or ends all
-pub comes-advances : (w v : World) (d : Entry) (m : Move) → d w.control ≡ Do (Make m) → turn w m ≡ (v, None) → Advances w d v
-comes-advances w v d m is done armed u r ds more = ends-goes armed u r w v d ds (Make m) is (act-move w m ∙ done) more
-
-pub comes-halts : (armed : ℕ → Bool) (w u : World) (r : Option Refusal) (d : Entry) (m : Move) (server : ℕ) → d w.control ≡ Do (Make m) → r ≡ Some (stopped server) → GoesOff armed u r w ⊎ (turn w m ≡ (u, Some server)) → Halts armed w d u r
-comes-halts armed w u r d m server is refused (inl off) ds = ends-off armed u r w (d ∷ ds) off
-comes-halts armed w u r d m server is refused (inr stops) ds = ends-stops armed u r w d ds (Make m) server is (act-move w m ∙ stops) refused

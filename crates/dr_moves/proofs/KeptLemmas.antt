@@ -1,41 +1,29 @@
--- What stays where one volume moved.
-use Rattle.std.proofs.Common.{ℕ, Bool, true, false, [], ◌∷◌, length, ◌≡◌, ◌≤◌, ◌+◌, ◌⊎◌, inl, inr, sym, ap, subst, arith}
-use Rattle.std.specs.Prelude.{max, if◌then◌else◌, Result, Ok, Err, OnOk}
-use Rattle.dr_model.specs.declared.event.Event.{Event}
-use Rattle.dr_model.specs.declared.event.Event.TheVariants.{Suspended}
-use Rattle.dr_model.specs.Pairs.{is_suspended}
-use Rattle.std.proofs.lemmas.Bool.{cases_eq}
+-- What stays: where one volume moved, and along two calls in a row.
+use Rattle.std.proofs.Common.{ℕ, Bool, true, false, ◌≡◌, ◌≤◌, ◌+◌, ◌⊎◌, refl, sym, ap, subst, ◌∙◌, arith, None, Some}
+use Rattle.std.specs.Prelude.{◌&&◌, nat_lt, is_some, max, Result, Ok, Err}
+use Rattle.dr_logic.specs.Counts.{Counted}
+use Rattle.dr_ids.specs.declared.refusal.Refusal.{Refusal}
 use Rattle.dr_plant.specs.State.{PlantState}
 use Rattle.dr_config.specs.Table.{ConfigTable, StandsFor}
 use Rattle.dr_model.specs.Layout.{Fields}
+use Rattle.dr_model.specs.Log.{Log}
 use Rattle.dr_model.specs.Control.{Volume}
-use Rattle.dr_model.specs.Moves.{Move, Suspend, Carried, told, told_in_stop}
+use Rattle.dr_model.specs.Moves.{Carried}
 use Rattle.dr_volume.specs.Update.{IsAsBefore, IsMoved, OthersStay}
-use Rattle.dr_volume.specs.View.{volume_seen, IsSettled}
+use Rattle.dr_volume.specs.View.{IsSettled}
 use Rattle.dr_moves.specs.Aside.{KeepsAside, AsideFits}
+use Rattle.dr_moves.specs.Checks.{is_stop}
 use Rattle.dr_moves.specs.Fit.{LeavesFit}
-use Rattle.dr_moves.specs.Made.{IsAt, room_for}
+use Rattle.dr_moves.specs.Here.{armed_in, refusal_of}
+use Rattle.dr_moves.specs.Made.{IsAt, Kept}
 use Rattle.dr_moves.proofs.FitLemmas.{fit-after}
+use Rattle.dr_moves.proofs.ShiftLemmas.{rest-after}
 
-module _ (s u : PlantState) (c : ConfigTable) (v : ℕ) (f : Fields) (t : Carried) (how : IsAsBefore s u c v ⊎ IsMoved s u c v f t) (others : OthersStay s u c v) where
-  own-size : (volume_seen u c v).tracks ≡ (volume_seen s c v).tracks
-  own-size = elim how [ inl same ↦ ap (λ (x : Volume). x.tracks) same.volume | inr is ↦ ap (λ (x : Volume). x.tracks) is.volume ]
-
-  sizes : (q : ℕ) → (volume_seen u c q).tracks ≡ (volume_seen s c q).tracks
-  sizes q = elim (cases_eq q v) [
-    | inl is ↦ subst (λ z. (volume_seen u c z).tracks ≡ (volume_seen s c z).tracks) (sym is) own-size
-    | inr ne ↦ ap (λ (x : Volume). x.tracks) (others q ne).volume
-  ]
-
-  pub at-after : IsAt s c → StandsFor c u → ((q : ℕ) → IsSettled s c q → IsSettled u c q) → LeavesFit s c v f → IsAt u c
-  at-after at stands settled leaves = record {
-    rest = record {
-      stands = stands;
-      settled = λ q. settled q (at.rest.settled q);
-      sizes = λ q. subst (λ n. n ≤ 256) (sym (sizes q)) (at.rest.sizes q);
-    };
-    fit = fit-after s u c v f t at.fit leaves how others;
-  }
+pub at-after : (s u : PlantState) (c : ConfigTable) (v : ℕ) (f : Fields) (t : Carried) → IsAsBefore s u c v ⊎ IsMoved s u c v f t → OthersStay s u c v → IsAt s c → StandsFor c u → ((q : ℕ) → IsSettled s c q → IsSettled u c q) → LeavesFit s c v f → IsAt u c
+at-after s u c v f t how others at stands settled leaves = record {
+  rest = rest-after c s u v f t at.rest stands settled how others;
+  fit = fit-after s u c v f t at.fit leaves how others;
+}
 
 -- what fits in the larger of two rooms
 pub max-left : (a b n : ℕ) → max a b ≤ n → a ≤ n
@@ -57,21 +45,43 @@ room-one a b m n h = grind (arith, h)
 pub aside-same : (s u : PlantState) (c : ConfigTable) → ((q : ℕ) → IsAsBefore s u c q) → AsideFits s c → AsideFits u c
 aside-same s u c same fit = record { aside = λ q. subst (λ (x : Volume). KeepsAside x.fields) (sym (same q).volume) (fit.aside q) }
 
--- a move that tells at most so many events
-pub few-room : (m : Move) (x : Volume) (n : ℕ) → length (told m x) ≤ n → length (told_in_stop m x) ≤ n → room_for m x ≤ n + 1
-few-room m x n done stop = few (length (told m x)) (length (told_in_stop m x)) n done stop
+-- what stays along two calls in a row
+pub kept-then : (s m u : PlantState) (c : ConfigTable) (old mid new : Log) (a b most : ℕ) (res : Result (Unit {0}) Refusal) → Kept s m c old mid a false {E = Refusal} (Ok tt) → Kept m u c mid new b (is_stop (refusal_of res)) res
+    → old.spare ≤ new.spare + most → Kept s u c old new most (is_stop (refusal_of res)) res
+kept-then s m u c old mid new a b most (Ok x) first second room = record {
+  at = second.at;
+  aside = λ fit. second.aside (first.aside fit);
+  unarmed = λ q none. second.unarmed q (first.unarmed q none);
+  faults = second.faults ∙ first.faults;
+  on = second.on ∙ first.on;
+  room = room;
+  spare = second.spare ∙ first.spare;
+}
+kept-then s m u c old mid new a b most (Err e) first second room = record {
+  at = second.at;
+  aside = λ fit. second.aside (first.aside fit);
+  unarmed = λ q none. second.unarmed q (first.unarmed q none);
+  faults = let same : m.faults ≡ s.faults = first.faults in subst (λ n. Counted (is_stop (Some e)) n u.faults) same second.faults;
+  on = tt;
+  room = room;
+  spare = second.spare ∙ first.spare;
+}
+
+pub before-then : (s t u : PlantState) (c : ConfigTable) (q : ℕ) → IsAsBefore s t c q → IsAsBefore t u c q → IsAsBefore s u c q
+before-then s t u c q a b = record { volume = b.volume ∙ a.volume; tracks = b.tracks ∙ a.tracks }
+
+-- no fuse is armed later that wasn't
+pub wider-armed : (s u : PlantState) → ((q : ℕ) → s.read_fuse q ≡ None → u.read_fuse q ≡ None) → (q : ℕ) → armed_in u q ≡ true → armed_in s q ≡ true
+wider-armed s u unarmed q h =
+    elim (s.read_fuse q) as (λ o. s.read_fuse q ≡ o → armed_in s q ≡ true) [
+      | None ↦ λ none. absurd (let later : armed_in u q ≡ false = ap (λ o. nat_lt q 8 && is_some o) (unarmed q none) ∙ either_no (nat_lt q 8) in cc)
+      | Some n ↦ λ some. ap (λ o. nat_lt q 8 && is_some o) some ∙ either_yes (nat_lt q 8) (is_some (u.read_fuse q)) h
+    ] refl
   where
-    few : (a b n : ℕ) → a ≤ n → b ≤ n → max a (b + 1) ≤ n + 1
-    few a b n h k = grind (arith, h, k)
+    either_no : (b : Bool) → (b && false) ≡ false
+    either_no true = refl
+    either_no false = refl
 
-few-if : (b : Bool) (e : Event) → length (if b then [] else e ∷ []) ≤ 1
-few-if true e = omega arith
-few-if false e = omega arith
-
-pub few-suspended : (v : ℕ) (busy : Bool) (x : Volume) → length (told (Suspend v busy) x) ≤ 1
-few-suspended v busy x = few-if (is_suspended x.fields.primary_state) (Suspended v)
-
--- and what is left of the room then
-pub few-left : {T E : Type 0} (r : Result T E) (a b m n : ℕ) → OnOk r (a ≡ b + m) → m ≤ n → OnOk r (a ≤ b + n)
-few-left (Ok x) a b m n e h = omega (arith, e, h)
-few-left (Err x) a b m n e h = tt
+    either_yes : (b x : Bool) → (b && x) ≡ true → (b && true) ≡ true
+    either_yes true x h = refl
+    either_yes false x h = h

@@ -1,3 +1,17 @@
+-- Read first: `MoveRows.antt`, `MoveFits.antt`, `MoveTracks.antt`, `AsideLemmas.antt`, `StopRows.antt`, `EnteredLemmas.antt`: what
+-- holds of each kind of move, one clause a kind; `TurnMade.antt`: the machine's turn, from what was made of the volume;
+-- `KeptLemmas.antt`: what stays, also along two calls in a row; `EntryLemmas.antt`, and `Ends.antt` of `dr_facts`: entry by entry;
+-- `ActedLemmas.antt`: what an entry came to was done.
+-- - **A move of a kind**: `make_move` with the move as a value. Where the kind stands in the call, its rows of the catalogue
+--   compute, and what is left to prove is its line of `Asks`, where it has one, and how many events it tells (`room-few`).
+-- - **A plan as entries that are left**: what comes next is a function of its own to `Next`, with `comes` and `may` as its
+--   clauses; `carry` asks of a step that `left` goes on by one and that `stands` holds after what the entry did.
+-- - **Checks are a function to `Option<Refusal>`** with the clause `Checked w entries result`; each exit is a row of
+--   `ends-passed` and one `refuses`, and calls compose by `++` of the lists, which computes.
+-- - **Read and move in two functions.** The one that reads has clauses that say what a read that passed leaves as it
+--   was; the search then carries `requires` and frame clauses across the read.
+-- - **A move whose fields its caller gives** (`shift`, with `made_by` as its clause; `ShiftLemmas.antt`, `TurnLemmas.antt`): five parts a
+--   kind, the next fields, what is told, `MoveFits`, `Tells` (all `refl`), and one of `advances` and `halts`.
 pub mod SetLaws
 pub mod TellLemmas
 pub mod PlaceLaws
@@ -10,6 +24,10 @@ pub mod MoveTracks
 pub mod AsideLemmas
 pub mod TurnMade
 pub mod KeptLemmas
+pub mod TurnLemmas
+pub mod ShiftLemmas
+pub mod LeadLemmas
+pub mod EntryLemmas
 pub mod EnteredLemmas
 pub mod StopRows
 pub mod ActedLemmas

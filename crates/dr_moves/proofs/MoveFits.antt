@@ -39,7 +39,7 @@ pub record MoveFits (s : PlantState) (c : ConfigTable) (v : ℕ) (f : Fields) (t
   pub leaves : LeavesFit s c v f
 
 -- what a target holds isn't blank
-apart-fetched : (own blank : Tracks) (t : ℕ) → Apart own blank → Apart (insert own t) (remove blank t)
+pub apart-fetched : (own blank : Tracks) (t : ℕ) → Apart own blank → Apart (insert own t) (remove blank t)
 apart-fetched own blank t apart k h =
     elim (eqb_tells k t) as (λ _. contains (remove blank t) k ≡ false) [
       | inl p ↦ contains-remove_tracks blank t k ∙ ap (λ b. not b && contains blank k) p.0
@@ -49,21 +49,21 @@ apart-fetched own blank t apart k h =
 apart-less : (own blank : Tracks) (t : ℕ) → Apart own blank → Apart own (remove blank t)
 apart-less own blank t apart k h = not_removed_from blank t k (apart k h)
 
-apart-empty : (blank : Tracks) → Apart empty blank
+pub apart-empty : (blank : Tracks) → Apart empty blank
 apart-empty blank k h = absurd (let e : contains {R = nat_cmp} empty k ≡ false = contains-empty nat_cmp k in cc)
 
-apart-parted : (b : Bool) (f : Fields) → Apart f.own f.blank → Apart (parted_if b f).own (parted_if b f).blank
+pub apart-parted : (b : Bool) (f : Fields) → Apart f.own f.blank → Apart (parted_if b f).own (parted_if b f).blank
 apart-parted true f apart = apart-empty f.blank
 apart-parted false f apart = apart
 
 -- what is blank stays so, but for a track that is carried
-covers-all : (s : Tracks) (t : Carried) → Covers s s t
+pub covers-all : (s : Tracks) (t : Carried) → Covers s s t
 covers-all s t k h = ap (λ b. b || is_carried t k) h
 
-covers-carried : (s : Tracks) (t : ℕ) (bytes : List ℕ) → Covers s (remove s t) (Some (t, bytes))
+pub covers-carried : (s : Tracks) (t : ℕ) (bytes : List ℕ) → Covers s (remove s t) (Some (t, bytes))
 covers-carried s t bytes k h = grind (members, rules, nat_tests, unsigned_tied)
 
-covers-rest : (n : ℕ) (own blank : Tracks) → Low n blank → Apart own blank → Covers blank (rest n own) None
+pub covers-rest : (n : ℕ) (own blank : Tracks) → Low n blank → Apart own blank → Covers blank (rest n own) None
 covers-rest n own blank low apart k h =
     ap (λ b. b || false) (contains-rest n own k)
     ∙ held (nat_lt k n) (contains own k) ((Decides-ltb k n).1 (low k h)) (λ there. let e : true ≡ false = sym h ∙ apart k there in cc)

@@ -21,6 +21,7 @@ use Rattle.dr_moves.specs.Moves.{move_of}
 use Rattle.dr_moves.specs.declared.carrying.Next.{Next}
 use Rattle.dr_moves.specs.declared.carrying.Next.TheVariants.{Pass, Do, Bring, End}
 
+-- what an entry comes to, as the machine knows it
 abbrev pub next_of : Next → machine_next.Next
 next_of Pass = machine_next.Pass
 next_of (Do m) = machine_next.Do (Make (move_of m))
@@ -40,6 +41,7 @@ pub record MayBring (s : PlantState) (c : ConfigTable) (m : machine.Move) (u t :
   pub running : s.on (volume_seen s c u).server ≡ true
   pub within : t < (volume_seen s c u).tracks
 
+-- what it asks: of a move, that it may come with its track; of a refusal, that it is no stop
 abbrev pub MayCome : PlantState → ConfigTable → Next → Type 0
 MayCome s c Pass = Unit {0}
 MayCome s c (Do m) = MayMake s c (move_of m) None
@@ -53,6 +55,7 @@ pub record WentBy (s u : PlantState) (c : ConfigTable) (m : machine.Move) (t : C
   pub moved : IsMoved s u c (target m) (fields_left m (volume_seen s c (target m))) t
   pub others : OthersStay s u c (target m)
 
+-- From s to u what an entry came to was done.
 abbrev pub Went : PlantState → PlantState → ConfigTable → Next → Type 0
 Went s u c Pass = u ≡ s
 Went s u c (Do m) = WentBy s u c (move_of m) None

@@ -25,15 +25,19 @@ pub record IsAt (s : PlantState) (c : ConfigTable) : Type 0 where
   pub rest : IsAtRest s c
   pub fit : RelationsFit s c
 
+-- v is a target
 abbrev pub IsTarget : PlantState → ConfigTable → ℕ → Type 0
 IsTarget s c v = (volume_seen s c v).fields.related ≡ true
 
+-- v is a target whose flash may be taken back
 abbrev pub IsRevertible : PlantState → ConfigTable → ℕ → Type 0
 IsRevertible s c v = (volume_seen s c v).fields.revertible ≡ true
 
+-- v is a primary
 abbrev pub IsPrimary : PlantState → ConfigTable → ℕ → Type 0
 IsPrimary s c v = is_part (volume_seen s c v).fields.primary ≡ true
 
+-- v is a secondary
 abbrev pub IsSecondary : PlantState → ConfigTable → ℕ → Type 0
 IsSecondary s c v = is_part (volume_seen s c v).fields.secondary ≡ true
 
@@ -90,10 +94,11 @@ pub record May (s : PlantState) (c : ConfigTable) (m : Move) : Type 0 where
 abbrev pub room_for : Move → Volume → ℕ
 room_for m x = max (length (told m x)) (length (told_in_stop m x) + 1)
 
--- what a run knows besides, where the move is done, and where its server stopped in it
+-- what a run knows besides, where the move is done
 abbrev pub after_done : Move → Rest → Rest
 after_done m r = record r { pending = settled m r.pending }
 
+-- where its server stopped in it, and it counts as done or doesn't
 abbrev pub after_stop : Move → Bool → Rest → Rest
 after_stop m true r = record r { pending = settled_in_stop m r.pending }
 after_stop m false r = r
@@ -115,6 +120,7 @@ abbrev pub counts_as : Result (Unit {0}) Stop → Bool
 counts_as (Ok x) = true
 counts_as (Err stop) = stop.counts
 
+-- the server that stopped is that one
 abbrev pub stopped_at : ℕ → Result (Unit {0}) Stop → Type 0
 stopped_at server (Ok x) = Unit {0}
 stopped_at server (Err stop) = stop.server.0 ≡ server

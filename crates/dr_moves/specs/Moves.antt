@@ -13,6 +13,7 @@ use Rattle.dr_moves.specs.declared.moves.Move.TheVariants as move
 abbrev pub number_of : Option VolumeId → Option ℕ
 number_of v = option_map (λ (x : VolumeId). x.0) v
 
+-- a move as the machine knows it
 abbrev pub move_of : Move → machine.Move
 move_of (move.Land w v t) = Land w.0 v.0 t
 move_of (move.Overwrite w v t) = Overwrite w.0 v.0 t

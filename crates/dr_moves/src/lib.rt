@@ -15,16 +15,29 @@ mod flash_fields;
 mod moves;
 mod options;
 mod pair_fields;
+mod pairs;
 mod place;
 mod reads;
 mod sets;
+mod shifting;
 mod told;
 
 pub use acts::{Stop, make, make_move};
 pub use carrying::{Entries, Next, act, carry};
+pub use flash_fields::{
+    altered, closed, fetched, given_up, made, noted, restored, resynced, rewritten, turned,
+    withdrawn, written,
+};
 pub use moves::{Move, next_fields, target_of, telling};
 pub use options::FlashOptions;
+pub use pair_fields::{
+    fallen_back, followed, is_engaged, is_torn, made_primary, made_secondary, mirrored, no_primary,
+    no_secondary, received, restarted, resumed, struck, suspended, synced, taken_over, thawed,
+    unsynced, with_more, yielded,
+};
+pub use pairs::{is_quiet, is_unpaired, pair_state};
 pub use place::{server_of, tracks_of};
 pub use reads::{open_told, read_told};
 pub use sets::{is_whole, lowest, rest};
+pub use shifting::shift;
 pub use told::{Telling, Told};

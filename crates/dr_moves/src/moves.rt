@@ -1,6 +1,6 @@
 //! The catalogue of moves: a move is a value, with its row in each of the machine's tables.
 
-ghost use Rattle.std.specs.Prelude.{◌≡◌, ◌≤◌, ◌<◌, [], ◌∷◌, ◌++◌, Some, option_map, if◌then◌else◌};
+ghost use Rattle.std.specs.Prelude.{◌≡◌, ◌≤◌, ◌<◌, [], ◌∷◌, Some, if◌then◌else◌};
 ghost use Rattle.dr_ids.specs.declared.names.VolumeId.{VolumeId};
 ghost use Rattle.dr_model.specs.declared.event.Event.TheVariants.{Suspended, Begin, Cut};
 ghost use Rattle.dr_model.specs.Moves as machine;

@@ -26,7 +26,7 @@ pub fn made_secondary(a: VolumeId, kind: Part, state: PairState, f: &Fields) -> 
 }
 
 /// The tracks that are out of sync as a pair of volumes with n tracks is made: all, or none.
-pub fn first_tracks(n: u16, full: bool) -> TrackSet
+fn first_tracks(n: u16, full: bool) -> TrackSet
     requires { n ≤ 256 }
     ensures { result ≡ (if full then all_tracks n else empty) }
 {
@@ -138,7 +138,7 @@ pub fn is_engaged(f: &Fields) -> bool
 }
 
 /// The tracks that are out of sync after a void.
-pub fn all_changed(f: &Fields) -> TrackSet
+fn all_changed(f: &Fields) -> TrackSet
     ensures { result ≡ (if pairs.is_engaged (plain f.now) then union f.now.out_of_sync f.now.change_recording else f.now.out_of_sync) }
 {
     let mut all = f.out_of_sync;
@@ -149,7 +149,7 @@ pub fn all_changed(f: &Fields) -> TrackSet
 }
 
 /// What a void leaves recorded.
-pub fn still_recorded(f: &Fields) -> TrackSet
+fn still_recorded(f: &Fields) -> TrackSet
     ensures { result ≡ (if pairs.is_engaged (plain f.now) then empty else f.now.change_recording) }
 {
     if is_engaged(f) {
@@ -161,7 +161,7 @@ pub fn still_recorded(f: &Fields) -> TrackSet
 
 /// A primary after a void: what changed while it recorded is out of sync too, and it neither records nor is held by
 /// coordination.
-pub fn voided(f: &Fields) -> Fields
+pub(crate) fn voided(f: &Fields) -> Fields
     ensures { plain result ≡ pairs.voided (plain f.now) }
 {
     Fields {
@@ -211,7 +211,7 @@ pub fn yielded(a: VolumeId, kind: Part, state: PairState, f: &Fields) -> Fields
 }
 
 /// The state that a part gets with the last track, or has.
-pub fn state_after(last: bool, state: PairState) -> PairState
+fn state_after(last: bool, state: PairState) -> PairState
     ensures { result ≡ (if last then FullDuplex else state) }
 {
     if last { PairState::FullDuplex } else { state }
@@ -285,7 +285,7 @@ pub fn is_torn(f: &Fields) -> bool
 }
 
 /// The state of a primary as its server starts.
-pub fn state_at_start(f: &Fields) -> PairState
+fn state_at_start(f: &Fields) -> PairState
     ensures { result ≡ (if pairs.is_torn (plain f.now) then CopyPending else f.now.primary_state) }
 {
     if is_torn(f) {

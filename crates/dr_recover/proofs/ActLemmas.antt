@@ -15,7 +15,7 @@ use Rattle.dr_model.specs.PlanParts.{Plan, refuses, unless, entries_plan}
 use Rattle.dr_model.specs.ReadStops.{Ends}
 use Rattle.dr_model.specs.RecoveryPlans.{decided_in, settle_on, settle_refusal, settle_member, settle_target, revertible_target}
 use Rattle.dr_model.specs.Sessions.{session_in, members_in}
-use Rattle.dr_flash.specs.Here.{refusal_of}
+use Rattle.dr_moves.specs.Here.{refusal_of}
 use Rattle.dr_gmirror.specs.Exchange.{PlanEnds}
 use Rattle.dr_gmirror.proofs.ExchangeLemmas.{refused-plan, silent-ends, follow-nothing}
 use Rattle.dr_recover.specs.Outcomes.{act_said}

@@ -7,13 +7,13 @@ use Rattle.dr_model.specs.Control.{World}
 use Rattle.dr_plant.specs.State.{PlantState}
 use Rattle.dr_config.specs.Table.{ConfigTable}
 use Rattle.dr_volume.specs.View.{volume_seen}
-use Rattle.dr_flash.specs.Turns.{Advances, Halts, Leads, Fails}
+use Rattle.dr_moves.specs.Turns.{Advances, Halts, Leads, Fails}
 use Rattle.dr_facts.proofs.Ends.{ends-wider}
 use Rattle.dr_gcopy.proofs.TwoMoves.{still-running}
 use Rattle.dr_gmirror.specs.Orders.{AreReady, AreRunning}
 use Rattle.dr_gmirror.proofs.OrderLemmas.{member-next, member-split, still-ready}
 use Rattle.dr_gmirror.proofs.ReportLemmas.{map-append}
-use Rattle.dr_flash.proofs.LeadLemmas.{then-leads, then-fails}
+use Rattle.dr_moves.proofs.LeadLemmas.{then-leads, then-fails}
 
 module _ (f : Member → Entry) where
   -- one member more was done

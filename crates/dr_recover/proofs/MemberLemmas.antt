@@ -14,8 +14,8 @@ use Rattle.dr_model.specs.Moves.{TakeOver}
 use Rattle.dr_model.specs.RecoveryPlans.{take_over_on, settle_on}
 use Rattle.dr_model.specs.SessionEntries.{is_flashed}
 use Rattle.dr_volume.specs.View.{Rest, volume_seen}
-use Rattle.dr_flash.specs.Here.{world_seen}
-use Rattle.dr_coord.specs.Aside.{KeepsAside}
+use Rattle.dr_moves.specs.Here.{world_seen}
+use Rattle.dr_moves.specs.Aside.{KeepsAside}
 use Rattle.dr_model.specs.Pairs.{taken_over}
 use Rattle.dr_revert.specs.Fates.{next_for, move_of}
 use Rattle.dr_revert.specs.declared.fates.Fate.{Fate}

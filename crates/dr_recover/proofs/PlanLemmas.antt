@@ -16,8 +16,8 @@ use Rattle.dr_model.specs.PlanParts.{unless}
 use Rattle.dr_model.specs.ReadStops.{Ends}
 use Rattle.dr_model.specs.RecoveryPlans.{secondary_refusal, decided_in, take_over_on, settle_on, end_recovery, group_of, group_number, says_group, recover_entries, recover_done}
 use Rattle.dr_volume.specs.View.{Rest}
-use Rattle.dr_flash.specs.Here.{world_seen, refusal_of}
-use Rattle.dr_flash.specs.Turns.{Leads, Fails}
+use Rattle.dr_moves.specs.Here.{world_seen, refusal_of}
+use Rattle.dr_moves.specs.Turns.{Leads, Fails}
 use Rattle.dr_facts.proofs.Ends.{ends-goes, ends-none, ends-wider}
 use Rattle.dr_gmirror.specs.Exchange.{PlanEnds}
 use Rattle.dr_gmirror.proofs.ExchangeLemmas.{refused-plan, silent-ends, follow-nothing}

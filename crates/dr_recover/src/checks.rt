@@ -6,8 +6,8 @@ ghost use Rattle.dr_model.specs.declared.event.Event.{Event};
 ghost use Rattle.dr_model.specs.RecoveryPlans as plans;
 ghost use Rattle.dr_model.specs.Sessions as model;
 ghost use Rattle.dr_volume.specs.View.{Rest};
-ghost use Rattle.dr_flash.specs.Checks.{OnNone, is_stop};
-ghost use Rattle.dr_flash.specs.Here.{world_seen};
+ghost use Rattle.dr_moves.specs.Checks.{OnNone, is_stop};
+ghost use Rattle.dr_moves.specs.Here.{world_seen};
 ghost use Rattle.dr_gmirror.specs.Orders.{AreReady, AreRunning};
 ghost use Rattle.dr_recover.specs.Outcomes.{lets_by};
 

@@ -6,15 +6,15 @@ ghost use Rattle.dr_model.specs.declared.event.Event.{Event};
 ghost use Rattle.dr_model.specs.RecoveryPlans as plans;
 ghost use Rattle.dr_model.specs.Sessions as model;
 ghost use Rattle.dr_volume.specs.View.{Rest};
-ghost use Rattle.dr_flash.specs.Checks.{is_stop};
+ghost use Rattle.dr_moves.specs.Checks.{is_stop};
 ghost use Rattle.dr_flash.specs.Heads.{targets_by};
-ghost use Rattle.dr_flash.specs.Here.{world_seen};
+ghost use Rattle.dr_moves.specs.Here.{world_seen};
 ghost use Rattle.dr_incr.specs.Steps.{volume_number};
 ghost use Rattle.dr_gmirror.specs.Orders.{AreReady};
 
 use dr_config::Config;
-use dr_flash::pair_state;
 use dr_ids::{Refusal, SessionId, VolumeId};
+use dr_moves::pair_state;
 use dr_plant::Plant;
 use dr_session::Sessions;
 use dr_volume::{Head, peek_head, peek_head_at};

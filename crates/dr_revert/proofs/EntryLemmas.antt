@@ -13,9 +13,9 @@ use Rattle.dr_model.specs.Control.{Control, World}
 use Rattle.dr_model.specs.Carry.{Make, Pass, Do, Entry}
 use Rattle.dr_model.specs.PairEntries.{refuse_if}
 use Rattle.dr_volume.specs.View.{Rest, volume_seen}
-use Rattle.dr_flash.specs.Here.{world_seen}
-use Rattle.dr_flash.specs.Turns.{Advances, Halts, Leads, Fails}
-use Rattle.dr_coord.proofs.ActLemmas.{one-checked}
+use Rattle.dr_moves.specs.Here.{world_seen}
+use Rattle.dr_moves.specs.Turns.{Advances, Halts, Leads, Fails}
+use Rattle.dr_moves.proofs.EntryLemmas.{one-checked}
 use Rattle.dr_revert.specs.declared.fates.Fate.{Fate}
 use Rattle.dr_revert.specs.declared.fates.Fate.TheVariants as fate
 use Rattle.dr_revert.specs.Fates.{next_for, move_of}

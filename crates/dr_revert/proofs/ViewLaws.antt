@@ -16,11 +16,11 @@ use Rattle.dr_model.specs.Relations.{flashed, committed, reverted}
 use Rattle.dr_model.specs.Views.{shows_source}
 use Rattle.dr_volume.specs.Update.{IsMoved, OthersStay}
 use Rattle.dr_volume.specs.View.{volume_seen, track_seen}
-use Rattle.dr_flash.specs.Fit.{RelationsFit}
+use Rattle.dr_moves.specs.Fit.{RelationsFit}
 use Rattle.dr_flash.specs.Views.{view_seen}
 use Rattle.dr_incr.specs.Copies.{HoldsUnchanged}
 use Rattle.dr_incr.proofs.TargetLemmas.{TargetOf, target-of}
-use Rattle.dr_coord.specs.Aside.{KeepsAside}
+use Rattle.dr_moves.specs.Aside.{KeepsAside}
 use Rattle.dr_revert.specs.Views.{previous_seen, set_back}
 use Rattle.dr_facts.proofs.Tracks.{from_difference}
 

@@ -1,13 +1,10 @@
--- What becomes of a target in an attempt: what that is to the machine, what it leaves, and what it tells.
+-- What becomes of a target in an attempt: what that is to the machine, and what it leaves.
 use Rattle.std.specs.Prelude.{ℕ, Bool, true, Option, Some, None}
-use Rattle.dr_model.specs.declared.event.Event.TheVariants.{Flashed, Committed, Reverted}
 use Rattle.dr_model.specs.Layout.{Fields}
 use Rattle.dr_model.specs.Pairs.{with_floor}
 use Rattle.dr_model.specs.Relations.{flashed, committed, reverted}
 use Rattle.dr_model.specs.Moves.{Move, Flash, Commit, Revert, RaiseFloor}
 use Rattle.dr_model.specs.Carry.{Make, Next, Pass, Do}
-use Rattle.dr_flash.specs.declared.told.Told.{Told}
-use Rattle.dr_flash.specs.declared.told.Told.TheVariants.{Nothing, One}
 use Rattle.dr_revert.specs.declared.fates.Fate.{Fate}
 use Rattle.dr_revert.specs.declared.fates.Fate.TheVariants as fate
 
@@ -36,10 +33,3 @@ fields_after (fate.Flash u a s n) f = flashed s.0 n f
 fields_after (fate.Commit a s n) f = committed n f
 fields_after (fate.Revert a s n) f = reverted n f
 fields_after (fate.Raise n) f = with_floor n f
-
--- what the journal is told of it
-abbrev pub told_of : ℕ → Fate → Told
-told_of v (fate.Flash u a s n) = One (Flashed s.0 n a.0 u.0 v)
-told_of v (fate.Commit a s n) = One (Committed s.0 n a.0 v)
-told_of v (fate.Revert a s n) = One (Reverted s.0 n a.0 v)
-told_of v (fate.Raise n) = Nothing

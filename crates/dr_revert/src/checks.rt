@@ -6,8 +6,8 @@ ghost use Rattle.dr_ids.specs.declared.refusal.Refusal.TheVariants.{Stale, Unsea
 ghost use Rattle.dr_model.specs.declared.event.Event.{Event};
 ghost use Rattle.dr_model.specs.SessionEntries as entries;
 ghost use Rattle.dr_volume.specs.View.{Rest, volume_seen};
-ghost use Rattle.dr_flash.specs.Checks.{OnNone, is_stop};
-ghost use Rattle.dr_flash.specs.Here.{world_seen};
+ghost use Rattle.dr_moves.specs.Checks.{OnNone, is_stop};
+ghost use Rattle.dr_moves.specs.Here.{world_seen};
 
 use crate::fields::{is_committed, is_flashed, may_flash};
 use dr_config::Config;

@@ -5,22 +5,20 @@ ghost use Rattle.dr_logic.specs.Counts.{Counted};
 ghost use Rattle.dr_config.specs.Table.{place_of};
 ghost use Rattle.dr_model.specs.Carry.{Entry};
 ghost use Rattle.dr_model.specs.Refusals.{stopped};
-ghost use Rattle.dr_volume.specs.Plain.{plain};
 ghost use Rattle.dr_volume.specs.Update.{IsMoved, OthersStay};
 ghost use Rattle.dr_volume.specs.View.{Rest, volume_seen};
-ghost use Rattle.dr_flash.specs.Fit.{RelationsFit};
-ghost use Rattle.dr_flash.specs.Here.{world_seen, refusal_of, armed_in, IsAtRest};
-ghost use Rattle.dr_flash.specs.Turns.{Advances, Halts};
-ghost use Rattle.dr_coord.specs.Aside.{AsideFits};
-ghost use Rattle.dr_revert.specs.Fates.{next_for, may_become, fields_after, told_of};
+ghost use Rattle.dr_moves.specs.Fit.{RelationsFit};
+ghost use Rattle.dr_moves.specs.Moves as moves;
+ghost use Rattle.dr_moves.specs.Here.{world_seen, refusal_of, armed_in, IsAtRest};
+ghost use Rattle.dr_moves.specs.Turns.{Advances, Halts};
+ghost use Rattle.dr_moves.specs.Aside.{AsideFits};
+ghost use Rattle.dr_revert.specs.Fates.{move_of, next_for, may_become, fields_after};
 
-use crate::fields::{committed, flashed, reverted, with_floor};
 use dr_config::Config;
-use dr_flash::{Telling, Told, shift};
 use dr_ids::{Refusal, SessionId, VolumeId};
-use dr_model::{Event, Journal};
+use dr_model::Journal;
+use dr_moves::{Move, make_move};
 use dr_plant::Plant;
-use dr_volume::{Fields, peek_fields};
 
 /// What becomes of a target in an attempt.
 #[derive(Clone, Copy)]
@@ -50,21 +48,9 @@ pub enum Fate {
     },
 }
 
-/// The fields that it leaves.
-fn fields_after(x: Fate, f: &Fields) -> Fields
-    ensures { plain result ≡ fields_after x (plain f.now) }
-{
-    match x {
-        Fate::Flash { session, n, .. } => flashed(session, n, f),
-        Fate::Commit { n, .. } => committed(n, f),
-        Fate::Revert { n, .. } => reverted(n, f),
-        Fate::Raise { n } => with_floor(n, f),
-    }
-}
-
-/// What it tells.
-fn told_of(v: VolumeId, x: Fate) -> Told
-    ensures { result ≡ told_of v.0 x }
+/// The move of `v` that it is.
+fn move_for(v: VolumeId, x: Fate) -> Move
+    ensures { moves.move_of result ≡ move_of v.0 x }
 {
     match x {
         Fate::Flash {
@@ -72,34 +58,34 @@ fn told_of(v: VolumeId, x: Fate) -> Told
             primary,
             session,
             n,
-        } => Told::One(Event::Flashed {
-            session: session.0,
+        } => Move::Flash {
+            v,
+            u: source,
+            a: primary,
+            s: session,
             n,
-            volume: primary.0,
-            source: source.0,
-            target: v.0,
-        }),
+        },
         Fate::Commit {
             primary,
             session,
             n,
-        } => Told::One(Event::Committed {
-            session: session.0,
+        } => Move::Commit {
+            v,
+            a: primary,
+            s: session,
             n,
-            volume: primary.0,
-            target: v.0,
-        }),
+        },
         Fate::Revert {
             primary,
             session,
             n,
-        } => Told::One(Event::Reverted {
-            session: session.0,
+        } => Move::Revert {
+            v,
+            a: primary,
+            s: session,
             n,
-            volume: primary.0,
-            target: v.0,
-        }),
-        Fate::Raise { .. } => Told::Nothing,
+        },
+        Fate::Raise { n } => Move::RaiseFloor { v, n },
     }
 }
 
@@ -138,14 +124,5 @@ pub fn turn_target<P: Plant>(
     let Some(y) = x else {
         return Ok(());
     };
-    let next = fields_after(y, &peek_fields(plant, config, v));
-    shift(
-        plant,
-        config,
-        journal,
-        v,
-        &next,
-        None,
-        &Telling::of(told_of(v, y)),
-    )
+    make_move(plant, config, journal, &move_for(v, y), None)
 }

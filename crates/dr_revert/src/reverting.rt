@@ -9,12 +9,12 @@ ghost use Rattle.dr_model.specs.SessionEntries as entries;
 ghost use Rattle.dr_volume.specs.Plain.{plain};
 ghost use Rattle.dr_volume.specs.Update.{IsMoved, OthersStay};
 ghost use Rattle.dr_volume.specs.View.{Rest, volume_seen};
-ghost use Rattle.dr_flash.specs.Checks.{is_stop};
-ghost use Rattle.dr_flash.specs.Fit.{RelationsFit};
-ghost use Rattle.dr_flash.specs.Here.{world_seen, refusal_of, armed_in, IsAtRest};
-ghost use Rattle.dr_flash.specs.Turns.{Leads, Fails};
+ghost use Rattle.dr_moves.specs.Checks.{is_stop};
+ghost use Rattle.dr_moves.specs.Fit.{RelationsFit};
+ghost use Rattle.dr_moves.specs.Here.{world_seen, refusal_of, armed_in, IsAtRest};
+ghost use Rattle.dr_moves.specs.Turns.{Leads, Fails};
 ghost use Rattle.dr_flash.specs.Views.{view_seen};
-ghost use Rattle.dr_coord.specs.Aside.{AsideFits};
+ghost use Rattle.dr_moves.specs.Aside.{AsideFits};
 ghost use Rattle.dr_revert.specs.declared.fates.Fate.TheVariants as fate;
 ghost use Rattle.dr_revert.specs.Views.{previous_seen};
 

@@ -22,15 +22,15 @@ use Rattle.dr_model.specs.Carry.{Entry, Outcome, carry, check}
 use Rattle.dr_model.specs.Entries.{fields_at, times, give_back, is_running, relation_state, pair_state}
 use Rattle.dr_model.specs.Laws.{Sound}
 use Rattle.dr_volume.specs.View.{volume_seen, volume_at, volume_on, ids_of, ReadsPass}
-use Rattle.dr_flash.specs.Here.{IsAtRest, armed_in}
+use Rattle.dr_moves.specs.Here.{IsAtRest, armed_in}
 use Rattle.dr_laws_sound.proofs.Costs.{Costs, carry-adds}
 use Rattle.dr_laws_sound.proofs.CopyCosts.{Live, rounds}
 use Rattle.dr_steps.specs.Here.{here}
 use Rattle.dr_steps.proofs.LandLemmas.{ends-first, goes-on, exact}
 use Rattle.dr_steps.proofs.LocatedLemmas.{is_volume-here}
 use Rattle.dr_steps.proofs.FlashLemmas.{step-nowhere, entries-done, entries-refused}
-use Rattle.dr_flash.specs.Checks.{Checked}
-use Rattle.dr_flash.proofs.CheckLemmas.{refuses}
+use Rattle.dr_moves.specs.Checks.{Checked}
+use Rattle.dr_moves.proofs.EntryLemmas.{refuses}
 use Rattle.dr_facts.proofs.Ends.{ends-passed, ends-none}
 
 times-more : (n m : ℕ) (ds : List Entry) → times (n + suc m) ds ≡ (times n ds ++ ds) ++ times m ds

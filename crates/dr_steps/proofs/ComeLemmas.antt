@@ -9,7 +9,7 @@ use Rattle.dr_model.specs.Plans.{Plan}
 use Rattle.dr_model.specs.Runs.{begun, answered, after_plan, said}
 use Rattle.dr_model.proofs.CarryLemmas.{plan-ends, plan-fails}
 use Rattle.dr_volume.specs.View.{ReadsPass}
-use Rattle.dr_flash.specs.Here.{armed_in}
+use Rattle.dr_moves.specs.Here.{armed_in}
 use Rattle.dr_admin.specs.Answering.{Comes}
 use Rattle.dr_steps.specs.Here.{IsTold}
 use Rattle.dr_steps.specs.declared.tables.Tables.{Tables}

@@ -39,7 +39,7 @@ use Rattle.dr_ids.specs.declared.refusal.Fault.{Fault}
 use Rattle.dr_ids.specs.declared.refusal.Fault.TheVariants.{NoMemory, Refused as FaultRefused}
 use Rattle.dr_model.specs.declared.said.Said.{Said}
 use Rattle.dr_steps.specs.Here.{here, IsReady, OnAnswer}
-use Rattle.dr_flash.specs.Here.{IsAtRest}
+use Rattle.dr_moves.specs.Here.{IsAtRest}
 use Rattle.dr_metro.proofs.ToldLemmas.{told-push}
 use Rattle.dr_steps.proofs.LocatedLemmas.{is_volume-here}
 use Rattle.dr_steps.proofs.StopLemmas.{known-server}

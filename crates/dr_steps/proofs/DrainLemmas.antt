@@ -26,10 +26,10 @@ use Rattle.dr_model.specs.Refusals.{unknown, server_off}
 use Rattle.dr_laws_sound.proofs.Costs.{Costs, carry-adds}
 use Rattle.dr_laws_sound.proofs.PairCosts.{sends-costs, sent-few}
 use Rattle.dr_volume.specs.View.{Rest, volume_seen, ids_of, ReadsPass}
-use Rattle.dr_flash.specs.Checks.{Checked}
-use Rattle.dr_flash.specs.Here.{world_seen, armed_in, IsAtRest}
-use Rattle.dr_flash.specs.Turns.{Leads}
-use Rattle.dr_flash.proofs.CheckLemmas.{refuses}
+use Rattle.dr_moves.specs.Checks.{Checked}
+use Rattle.dr_moves.specs.Here.{world_seen, armed_in, IsAtRest}
+use Rattle.dr_moves.specs.Turns.{Leads}
+use Rattle.dr_moves.proofs.EntryLemmas.{refuses}
 use Rattle.dr_facts.proofs.Ends.{ends-passed, ends-none}
 use Rattle.dr_gcopy.specs.Followed.{EndsFollowed, Follows}
 use Rattle.dr_steps.specs.Here.{here, IsTold, Carries}

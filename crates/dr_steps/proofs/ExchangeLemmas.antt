@@ -32,10 +32,10 @@ use Rattle.dr_laws_sessions.proofs.Members.{members-few}
 use Rattle.dr_laws_sound.proofs.Awaits.{exchange-begins, exchange-next, exchange-awaits}
 use Rattle.dr_laws_sound.proofs.ReadStops.{ends-exact}
 use Rattle.dr_volume.specs.View.{ReadsPass, ids_of}
-use Rattle.dr_flash.specs.Here.{armed_in, IsAtRest}
-use Rattle.dr_flash.specs.Turns.{Leads}
+use Rattle.dr_moves.specs.Here.{armed_in, IsAtRest}
+use Rattle.dr_moves.specs.Turns.{Leads}
 use Rattle.dr_facts.proofs.Ends.{ends-none}
-use Rattle.dr_coord.specs.Aside.{AsideFits}
+use Rattle.dr_moves.specs.Aside.{AsideFits}
 use Rattle.dr_gmirror.specs.Exchange.{PlanEnds, refusal_in, order_in, members_in_reply, is_awaited, IsNear, MayExchange}
 use Rattle.dr_gmirror.specs.Orders.{AreReady, MayBegin, MayOrder}
 use Rattle.dr_gmirror.proofs.ExchangeLemmas.{follow-nothing}

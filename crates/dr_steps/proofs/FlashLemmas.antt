@@ -23,10 +23,10 @@ use Rattle.dr_model.specs.Runs.{after_plan, said}
 use Rattle.dr_model.specs.ReadStops.{Ends}
 use Rattle.dr_model.proofs.CarryLemmas.{plan-ends, plan-fails}
 use Rattle.dr_volume.specs.View.{ReadsPass}
-use Rattle.dr_flash.proofs.CheckLemmas.{refuses}
+use Rattle.dr_moves.proofs.EntryLemmas.{refuses}
 use Rattle.dr_facts.proofs.Ends.{ends-passed}
-use Rattle.dr_flash.specs.Here.{armed_in, IsAtRest}
-use Rattle.dr_flash.specs.Checks.{Checked, is_stop}
+use Rattle.dr_moves.specs.Here.{armed_in, IsAtRest}
+use Rattle.dr_moves.specs.Checks.{Checked, is_stop}
 use Rattle.dr_steps.specs.Faults.{CountsStop}
 use Rattle.dr_steps.specs.Here.{here, IsReady, IsTold}
 use Rattle.dr_steps.specs.Located.{defined_checks}

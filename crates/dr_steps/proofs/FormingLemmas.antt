@@ -36,7 +36,7 @@ use Rattle.dr_model.proofs.CarryLemmas.{plan-says}
 use Rattle.dr_steps.proofs.LossLemmas.{masters-stay}
 use Rattle.dr_laws_sound.proofs.Parts.{Comes}
 use Rattle.dr_laws_sound.proofs.Steps.{sound-part}
-use Rattle.dr_flash.specs.Checks.{is_stop}
+use Rattle.dr_moves.specs.Checks.{is_stop}
 use Rattle.dr_steps.specs.Faults.{is_stopped}
 use Rattle.dr_steps.specs.Formed.{Reaches, drain_next, to_drain}
 use Rattle.dr_steps.specs.Here.{here, Carries}

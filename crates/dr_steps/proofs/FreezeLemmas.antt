@@ -20,7 +20,7 @@ use Rattle.dr_model.specs.Refusals.{unknown, server_off}
 use Rattle.dr_model.specs.Runs.{after_plan, said}
 use Rattle.dr_model.proofs.CarryLemmas.{carry-passed}
 use Rattle.dr_volume.specs.View.{ids_of, ReadsPass}
-use Rattle.dr_flash.specs.Here.{armed_in, IsAtRest}
+use Rattle.dr_moves.specs.Here.{armed_in, IsAtRest}
 use Rattle.dr_freeze.specs.Checks.{owner_in, has_path, is_up, freeze_checks, thaw_checks}
 use Rattle.dr_freeze.proofs.OwnerLemmas.{up-here}
 use Rattle.dr_steps.specs.Here.{here, rest_of, IsReady}

@@ -21,7 +21,7 @@ use Rattle.dr_steps.specs.declared.tables.Tables.{Tables}
 use Rattle.dr_metro.proofs.ToldLemmas.{IsWrite}
 use Rattle.dr_model.specs.declared.event.Event.{Event}
 use Rattle.dr_steps.specs.Here.{IsReady, IsTold, said_of}
-use Rattle.dr_flash.specs.Here.{IsAtRest, armed_in, refusal_of}
+use Rattle.dr_moves.specs.Here.{IsAtRest, armed_in, refusal_of}
 
 -- no server is armed where reads pass
 pub none-armed : (s : PlantState) → ReadsPass s → (q : ℕ) → armed_in s q ≡ true → ⊥

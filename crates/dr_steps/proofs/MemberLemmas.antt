@@ -30,8 +30,8 @@ use Rattle.dr_model.proofs.CarryLemmas.{plan-refuses, plan-ends, plan-fails}
 use Rattle.dr_laws_sessions.proofs.Tables.{session-fits}
 use Rattle.dr_laws_sessions.proofs.Silent.{member-found}
 use Rattle.dr_volume.specs.View.{ReadsPass}
-use Rattle.dr_flash.specs.Checks.{is_stop}
-use Rattle.dr_flash.specs.Here.{armed_in}
+use Rattle.dr_moves.specs.Checks.{is_stop}
+use Rattle.dr_moves.specs.Here.{armed_in}
 use Rattle.dr_admin.specs.Adding as adding
 use Rattle.dr_admin.specs.Adding.{unless_stop, enrol_refusal, member_planned, entries_planned, sessions_planned, AddsSo}
 use Rattle.dr_admin.specs.Removing as removing

@@ -32,9 +32,9 @@ use Rattle.dr_model.specs.Sessions.{Session, in_session}
 use Rattle.dr_model.proofs.CarryLemmas.{carry-passed, carry-refused, carry-skips, carry-first}
 use Rattle.dr_laws_sound.proofs.Agree.{contents-image}
 use Rattle.dr_volume.specs.View.{ReadsPass}
-use Rattle.dr_flash.specs.Checks.{Checked}
-use Rattle.dr_flash.specs.Here.{armed_in, IsAtRest}
-use Rattle.dr_flash.proofs.CheckLemmas.{refuses}
+use Rattle.dr_moves.specs.Checks.{Checked}
+use Rattle.dr_moves.specs.Here.{armed_in, IsAtRest}
+use Rattle.dr_moves.proofs.EntryLemmas.{refuses}
 use Rattle.dr_facts.proofs.Ends.{ends-passed, ends-none}
 use Rattle.dr_gcopy.proofs.SendLemmas.{refuse-passes, refuse-ends}
 use Rattle.dr_steps.specs.Here.{here, IsReady, IsTold}

@@ -22,7 +22,7 @@ use Rattle.dr_model.specs.Runs.{after_plan, said}
 use Rattle.dr_model.specs.SessionPlans.{name_refusal, off_refusal}
 use Rattle.dr_model.specs.Sessions.{Session, session_in, members_in}
 use Rattle.dr_model.proofs.CarryLemmas.{plan-refuses}
-use Rattle.dr_flash.specs.Here.{armed_in, IsAtRest}
+use Rattle.dr_moves.specs.Here.{armed_in, IsAtRest}
 use Rattle.dr_volume.specs.View.{volume_seen}
 use Rattle.dr_gmirror.specs.Exchange.{PlanEnds}
 use Rattle.dr_recover.specs.Outcomes.{recover_behind}

@@ -10,7 +10,7 @@ use Rattle.dr_model.specs.Control.{is_volume}
 use Rattle.dr_model.specs.Laws.{Sound}
 use Rattle.dr_model.specs.Layout.{is_part}
 use Rattle.dr_volume.specs.View.{volume_seen}
-use Rattle.dr_flash.specs.Fit.{RelationsFit}
+use Rattle.dr_moves.specs.Fit.{RelationsFit}
 use Rattle.dr_failover.specs.Outcomes.{HasPartner}
 use Rattle.dr_steps.specs.Here.{here}
 use Rattle.dr_steps.specs.Waiting.{PartnersFit}

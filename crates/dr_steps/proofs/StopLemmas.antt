@@ -24,7 +24,7 @@ use Rattle.dr_volume.proofs.WorldLaws.{on-at, on-seen, fuses-at}
 use Rattle.std.proofs.lemmas.Bool.Decides.{eqb_tells}
 use Rattle.dr_logic.specs.Tables.{at}
 use Rattle.dr_steps.specs.Here.{here}
-use Rattle.dr_flash.specs.Here.{IsAtRest}
+use Rattle.dr_moves.specs.Here.{IsAtRest}
 use Rattle.dr_steps.specs.declared.tables.Tables.{Tables}
 use Rattle.dr_logic.proofs.Tables.{at_same, at_other}
 

@@ -18,18 +18,19 @@ ghost use Rattle.dr_model.specs.Refusals.{stopped};
 ghost use Rattle.dr_volume.specs.Plain.{plain};
 ghost use Rattle.dr_volume.specs.View.{volume_seen, ids_of};
 ghost use Rattle.dr_steps.specs.declared.tables.Tables.{Tables};
-ghost use Rattle.dr_flash.specs.Checks.{is_stop};
-ghost use Rattle.dr_flash.specs.Fit.{RelationsFit};
-ghost use Rattle.dr_flash.specs.Here.{refusal_of};
+ghost use Rattle.dr_moves.specs.Checks.{is_stop};
+ghost use Rattle.dr_moves.specs.Fit.{RelationsFit};
+ghost use Rattle.dr_moves.specs.Here.{refusal_of};
 ghost use Rattle.dr_steps.specs.Faults.{CountsStop};
 ghost use Rattle.dr_steps.specs.Here.{said_of, here, IsReady};
 
 use crate::tables::Tables;
 use dr_config::Config;
-use dr_flash::{copy_step, is_quiet, pair_state, relation_state, rest, tracks_of};
+use dr_flash::{copy_step, relation_state};
 use dr_ids::{Kind, Refusal, VolumeId};
 use dr_incr::reverse_step;
 use dr_model::{Addition, Journal};
+use dr_moves::{is_quiet, pair_state, rest, tracks_of};
 use dr_plant::Plant;
 use dr_volume::{Fields, peek_fields};
 

@@ -4,7 +4,7 @@ ghost use Rattle.std.specs.Prelude.{◌≡◌, ℕ, ◌≤◌, length};
 ghost use Rattle.dr_model.specs.Laws.{Sound};
 ghost use Rattle.dr_model.specs.Plans as plans;
 ghost use Rattle.dr_model.specs.Runs.{after_plan, said};
-ghost use Rattle.dr_flash.specs.Options.{choices};
+ghost use Rattle.dr_moves.specs.Options.{choices};
 ghost use Rattle.dr_steps.specs.Faults.{CountsStop};
 ghost use Rattle.dr_steps.specs.Here.{said_of, here, IsReady};
 ghost use Rattle.dr_steps.specs.WellFormed.{FitsOwner};
@@ -12,11 +12,12 @@ ghost use Rattle.dr_steps.specs.WellFormed.{FitsOwner};
 use crate::locate::found_refusal;
 use crate::tables::Tables;
 use dr_config::Config;
-use dr_flash::{FlashOptions, establish, withdraw};
+use dr_flash::{establish, withdraw};
 use dr_gmirror::{leaving, restore_refusal};
 use dr_ids::{Refusal, VolumeId};
 use dr_incr::{resync, reverse_start};
 use dr_model::{Addition, Journal, Name};
+use dr_moves::FlashOptions;
 use dr_plant::Plant;
 
 /// Makes a volume the FlashCopy target of another.

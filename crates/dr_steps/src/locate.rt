@@ -8,16 +8,16 @@ ghost use Rattle.dr_model.specs.declared.event.Event.{Event};
 ghost use Rattle.dr_model.specs.Plans as plans;
 ghost use Rattle.dr_model.specs.Refusals.{unknown};
 ghost use Rattle.dr_model.specs.SessionPlans as sessions;
-ghost use Rattle.dr_flash.specs.Checks.{Checked, OnNone, is_stop};
+ghost use Rattle.dr_moves.specs.Checks.{Checked, OnNone, is_stop};
 ghost use Rattle.dr_steps.specs.Here.{here};
 ghost use Rattle.dr_steps.specs.Located.{Located, defined_checks};
 ghost use Rattle.dr_steps.specs.WellFormed.{FitsOwner, FitsDevs};
 ghost use Rattle.dr_steps.specs.declared.tables.Tables.{Tables};
 
 use dr_config::Config;
-use dr_flash::server_of;
 use dr_ids::{Kind, Refusal, ServerId, VolumeId};
 use dr_model::{Devs, Name};
+use dr_moves::server_of;
 use dr_plant::Plant;
 
 /// The bytes of a name.

@@ -11,7 +11,7 @@ ghost use Rattle.dr_model.specs.Phases.{aborted_phase};
 ghost use Rattle.dr_model.specs.Runs.{after_plan, said};
 ghost use Rattle.dr_model.specs.SessionPlans as plans;
 ghost use Rattle.dr_model.specs.Sessions as model;
-ghost use Rattle.dr_flash.specs.Checks.{is_stop};
+ghost use Rattle.dr_moves.specs.Checks.{is_stop};
 ghost use Rattle.dr_steps.specs.Faults.{CountsStop};
 ghost use Rattle.dr_steps.specs.Found.{IsFound, found_plan};
 ghost use Rattle.dr_steps.specs.Here.{here, said_of, OnAnswer, OnNoMemory, IsReady};

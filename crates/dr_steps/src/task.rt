@@ -39,9 +39,9 @@ use crate::steps::{HostWrite, apply, issue, show, write};
 use crate::stops::{arm, start, stop};
 use crate::tables::Tables;
 use dr_config::Config;
-use dr_flash::FlashOptions;
 use dr_ids::{Fault, Lss, Refusal, SessionId, VolumeId};
 use dr_model::{Addition, Journal, Said, Step};
+use dr_moves::FlashOptions;
 use dr_plant::Plant;
 use std::alloc::AllocError;
 

@@ -1,6 +1,6 @@
 use Rattle.std.proofs.Common.{Some, None}
 use Rattle.dr_model.specs.Sessions.{session_in}
-use Rattle.dr_flash.specs.Here.{world_seen}
+use Rattle.dr_moves.specs.Here.{world_seen}
 use Rattle.dr_admin.proofs.PairLemmas.{refused-pair, refused-place}
 use Rattle.dr_admin.proofs.checks.new_member.Goals as goal
 

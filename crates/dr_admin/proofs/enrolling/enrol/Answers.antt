@@ -4,7 +4,7 @@ use Rattle.dr_model.specs.ReadStops.{Ends}
 use Rattle.dr_model.specs.Carry.{Entry}
 use Rattle.dr_model.specs.Sessions.{Session, session_in, changed, raised, with_member}
 use Rattle.dr_model.specs.SessionEntries.{first_number}
-use Rattle.dr_flash.specs.Here.{world_seen, armed_in}
+use Rattle.dr_moves.specs.Here.{world_seen, armed_in}
 use Rattle.dr_admin.specs.Adding.{member_planned}
 use Rattle.dr_admin.proofs.PlanLemmas.{adds-so}
 use Rattle.dr_admin.proofs.PairLemmas.{unless-calm, unless-stops, entries-are, sessions-are}

@@ -2,10 +2,10 @@ use Rattle.std.proofs.Common.{[], ◌∷◌, subst}
 use Rattle.dr_logic.specs.Counts.{Counted}
 use Rattle.dr_model.specs.SessionEntries.{raise_floor_on}
 use Rattle.dr_volume.specs.View.{volume_seen}
-use Rattle.dr_flash.specs.Checks.{is_stop}
-use Rattle.dr_flash.specs.Here.{world_seen, armed_in, refusal_of}
-use Rattle.dr_flash.proofs.CheckLemmas.{counted-stop}
-use Rattle.dr_flash.proofs.CopyLemmas.{wider-armed}
+use Rattle.dr_moves.specs.Checks.{is_stop}
+use Rattle.dr_moves.specs.Here.{world_seen, armed_in, refusal_of}
+use Rattle.dr_moves.proofs.EntryLemmas.{counted-stop}
+use Rattle.dr_moves.proofs.KeptLemmas.{wider-armed}
 use Rattle.dr_facts.proofs.Ends.{ends-wider}
 use Rattle.dr_gcopy.proofs.TwoMoves.{still-running}
 use Rattle.dr_admin.proofs.PairLemmas.{stops-by}

@@ -1,8 +1,8 @@
 use Rattle.std.proofs.Common.{ap, sym, ◌∙◌, subst, Option, Some, None}
 use Rattle.dr_ids.specs.declared.names.Member.{Member}
 use Rattle.dr_model.specs.ReadStops.{Ends}
-use Rattle.dr_flash.specs.Checks.{is_stop}
-use Rattle.dr_flash.specs.Here.{world_seen, armed_in}
+use Rattle.dr_moves.specs.Checks.{is_stop}
+use Rattle.dr_moves.specs.Here.{world_seen, armed_in}
 use Rattle.dr_admin.specs.Removing.{entries_without}
 use Rattle.dr_model.specs.Sessions.{session_in}
 use Rattle.dr_admin.proofs.PlanLemmas.{expels-so}

@@ -1,6 +1,6 @@
 use Rattle.std.proofs.Common.{◌≡◌, ◌∙◌, sym, true, false}
-use Rattle.dr_flash.specs.Here.{world_seen, armed_in}
-use Rattle.dr_flash.proofs.CheckLemmas.{counted-stop}
+use Rattle.dr_moves.specs.Here.{world_seen, armed_in}
+use Rattle.dr_moves.proofs.EntryLemmas.{counted-stop}
 use Rattle.dr_admin.proofs.LiftLemmas.{comes-off, comes-lifted}
 use Rattle.dr_admin.proofs.lifting.lift.Goals as goal
 

@@ -4,9 +4,9 @@ use Rattle.dr_ids.specs.declared.names.VolumeId.{VolumeId}
 use Rattle.dr_config.specs.Table.{place_of}
 use Rattle.dr_model.specs.Refusals.{stopped}
 use Rattle.dr_model.specs.WriteEntries.{lift_on}
-use Rattle.dr_flash.specs.Here.{world_seen, armed_in, refusal_of}
-use Rattle.dr_flash.specs.Turns.{Advances, Halts}
-use Rattle.dr_flash.proofs.TurnLemmas.{ok-along, err-along}
+use Rattle.dr_moves.specs.Here.{world_seen, armed_in, refusal_of}
+use Rattle.dr_moves.specs.Turns.{Advances, Halts}
+use Rattle.dr_moves.proofs.TurnLemmas.{ok-along, err-along}
 use Rattle.dr_admin.proofs.OwnerLemmas.{own-server}
 use Rattle.dr_admin.proofs.LiftLemmas.{lifted-skip, lifted-goes, lifted-stops}
 use Rattle.dr_admin.proofs.lifting.lift_at.Goals as goal

@@ -4,7 +4,7 @@ use Rattle.dr_model.specs.declared.state.Part.TheVariants.{Global}
 use Rattle.dr_volume.specs.declared.head.Head.{Head}
 use Rattle.dr_model.specs.Pairs.{is_kind}
 use Rattle.dr_model.specs.PairEntries.{send_refusal}
-use Rattle.dr_flash.specs.Here.{world_seen}
+use Rattle.dr_moves.specs.Here.{world_seen}
 use Rattle.dr_volume.specs.View.{on_seen}
 use Rattle.dr_admin.proofs.PairLemmas.{copy-other, copy-global}
 use Rattle.dr_admin.proofs.pairing.copy_refusal.Goals as goal

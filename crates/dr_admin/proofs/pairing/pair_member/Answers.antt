@@ -2,7 +2,7 @@ use Rattle.std.proofs.Common.{ap, Option}
 use Rattle.std.specs.Option.{option_or}
 use Rattle.dr_ids.specs.declared.refusal.Refusal.{Refusal}
 use Rattle.dr_volume.specs.declared.head.Head.{Head}
-use Rattle.dr_flash.specs.Here.{world_seen}
+use Rattle.dr_moves.specs.Here.{world_seen}
 use Rattle.dr_admin.specs.Adding.{lone_refusal, member_planned}
 use Rattle.dr_admin.proofs.PairLemmas.{lone-is, pair-is, planned-is}
 use Rattle.dr_admin.proofs.pairing.pair_member.Goals as goal

@@ -4,7 +4,7 @@ use Rattle.dr_model.specs.Control.{World}
 use Rattle.dr_model.specs.Carry.{Entry}
 use Rattle.dr_model.specs.ReadStops.{Ends}
 use Rattle.dr_volume.specs.View.{Rest}
-use Rattle.dr_flash.specs.Here.{world_seen}
+use Rattle.dr_moves.specs.Here.{world_seen}
 use Rattle.dr_admin.specs.Starting.{IsStarting, start_from}
 use Rattle.dr_admin.proofs.starting.go_on_all.Given as goal
 

@@ -2,8 +2,8 @@ use Rattle.std.proofs.Common.{◌≡◌, sym, ap, ◌∙◌, subst, Some, option
 use Rattle.std.specs.Prelude.{IfSome}
 use Rattle.dr_ids.specs.declared.names.VolumeId.{VolumeId}
 use Rattle.dr_config.specs.Table.{place_of}
-use Rattle.dr_flash.specs.Here.{world_seen, refusal_of}
-use Rattle.dr_flash.proofs.TurnLemmas.{ok-along, err-along}
+use Rattle.dr_moves.specs.Here.{world_seen, refusal_of}
+use Rattle.dr_moves.proofs.TurnLemmas.{ok-along, err-along}
 use Rattle.dr_admin.proofs.StartLemmas.{started-skip, started-goes, started-fails, started-stops, starting-skip}
 use Rattle.dr_admin.proofs.starting.go_on_at.Goals as goal
 

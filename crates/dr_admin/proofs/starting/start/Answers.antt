@@ -1,8 +1,8 @@
 use Rattle.std.proofs.Common.{◌≡◌, ◌+◌, ◌++◌, sym, ap, ◌∙◌, subst, refl, length, true, false, None}
 use Rattle.std.specs.Prelude.{IfOk, if◌then◌else◌}
 use Rattle.dr_host.specs.Writes.{landed_on}
-use Rattle.dr_flash.specs.Here.{armed_in}
-use Rattle.dr_flash.proofs.TurnLemmas.{ok-along}
+use Rattle.dr_moves.specs.Here.{armed_in}
+use Rattle.dr_moves.proofs.TurnLemmas.{ok-along}
 use Rattle.dr_admin.specs.Answering.{write_number}
 use Rattle.dr_admin.specs.Starting.{start_events}
 use Rattle.dr_admin.proofs.StartLemmas.{comes-on, told-none, room-none, issued-same}

@@ -3,8 +3,8 @@ use Rattle.dr_logic.specs.Counts.{Rose}
 use Rattle.dr_plant.specs.State.{PlantState}
 use Rattle.dr_model.specs.Plans.{acknowledge_on}
 use Rattle.dr_model.specs.ReadStops.{Ends}
-use Rattle.dr_flash.specs.Here.{armed_in}
-use Rattle.dr_flash.proofs.CopyLemmas.{wider-armed}
+use Rattle.dr_moves.specs.Here.{armed_in}
+use Rattle.dr_moves.proofs.KeptLemmas.{wider-armed}
 use Rattle.dr_facts.proofs.Ends.{ends-wider}
 use Rattle.dr_admin.specs.Answering.{write_number}
 use Rattle.dr_admin.specs.Starting.{hosted, with_writes, IsStarting, start_from, acks}

@@ -1,7 +1,7 @@
 use Rattle.std.proofs.Common.{ap, sym, ◌∙◌, not, ◌||◌}
 use Rattle.dr_volume.specs.declared.head.Head.{Head}
 use Rattle.dr_model.specs.SessionPlans.{the_only, mirrored_targets, settled_target}
-use Rattle.dr_flash.specs.Here.{world_seen}
+use Rattle.dr_moves.specs.Here.{world_seen}
 use Rattle.dr_admin.proofs.TargetLemmas.{settled-is, settled-not}
 use Rattle.dr_admin.proofs.targets.member_target.Goals as goal
 

@@ -6,7 +6,7 @@ use Rattle.dr_ids.specs.declared.refusal.Refusal.TheVariants.{Stale}
 use Rattle.dr_model.specs.Layout.{Fields}
 use Rattle.dr_model.specs.Pairs.{records}
 use Rattle.dr_model.specs.SessionEntries.{stale_refusal}
-use Rattle.dr_flash.specs.Here.{world_seen}
+use Rattle.dr_moves.specs.Here.{world_seen}
 use Rattle.dr_coord.proofs.checks.hold_refusal.Goals as goal
 
 pub returns-in-Some-clause-refusal : goal.returns-in-Some-clause-refusal

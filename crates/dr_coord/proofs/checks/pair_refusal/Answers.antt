@@ -5,7 +5,7 @@ use Rattle.dr_model.specs.Entries.{pair_state}
 use Rattle.dr_model.specs.Layout.{Fields}
 use Rattle.dr_model.specs.Pairs.{is_primary_of, is_kind, is_pending}
 use Rattle.dr_model.specs.SessionEntries.{may_hold}
-use Rattle.dr_flash.specs.Here.{world_seen}
+use Rattle.dr_moves.specs.Here.{world_seen}
 use Rattle.dr_gcopy.proofs.SendLemmas.{pick-false}
 use Rattle.dr_coord.proofs.checks.pair_refusal.Goals as goal
 

@@ -4,12 +4,11 @@ use Rattle.dr_model.specs.Moves.{Lift}
 use Rattle.dr_model.specs.Pairs.{held}
 use Rattle.dr_model.specs.WriteEntries.{lift_on}
 use Rattle.dr_volume.specs.View.{volume_seen}
-use Rattle.dr_flash.specs.Here.{world_seen, armed_in, refusal_of}
-use Rattle.dr_flash.proofs.CheckLemmas.{act-ends}
-use Rattle.dr_flash.proofs.TurnLemmas.{ok-along, err-along}
+use Rattle.dr_moves.specs.Here.{world_seen, armed_in, refusal_of}
+use Rattle.dr_moves.proofs.EntryLemmas.{act-ends, alike-advances, alike-halts}
+use Rattle.dr_moves.proofs.TurnLemmas.{ok-along, err-along}
 use Rattle.dr_coord.proofs.HoldLemmas.{lift-skips, lift-comes, one-skipped}
 use Rattle.dr_coord.proofs.expiring.expire.Goals as goal
-use Rattle.dr_flash.proofs.KeepLemmas.{alike-advances, alike-halts}
 
 pub returns-then-not-is_held-clause-advances : goal.returns-then-not-is_held-clause-advances
 returns-then-not-is_held-clause-advances g c r =

@@ -2,13 +2,12 @@ use Rattle.std.proofs.Common.{arith, ap, sym, ◌∙◌}
 use Rattle.dr_model.specs.Moves.{Finish}
 use Rattle.dr_model.specs.SessionEntries.{is_past, finish_on}
 use Rattle.dr_volume.specs.View.{volume_seen}
-use Rattle.dr_flash.specs.Here.{world_seen, armed_in, refusal_of}
-use Rattle.dr_flash.proofs.CheckLemmas.{act-ends}
-use Rattle.dr_flash.proofs.TurnLemmas.{ok-along, err-along}
-use Rattle.dr_coord.proofs.ActLemmas.{move-advances, move-halts, finish-skips, finish-comes}
+use Rattle.dr_moves.specs.Here.{world_seen, armed_in, refusal_of}
+use Rattle.dr_moves.proofs.EntryLemmas.{act-ends, move-advances, move-halts, skips}
+use Rattle.dr_moves.proofs.TurnLemmas.{ok-along, err-along}
+use Rattle.dr_coord.proofs.ActLemmas.{finish-skips, finish-comes}
 use Rattle.dr_coord.proofs.HoldLemmas.{one-skipped}
 use Rattle.dr_coord.proofs.finishing.finish.Goals as goal
-use Rattle.dr_flash.proofs.KeepLemmas.{skips}
 
 pub returns-then-is_past-clause-advances : goal.returns-then-is_past-clause-advances
 returns-then-is_past-clause-advances g c r =

@@ -3,13 +3,12 @@ use Rattle.dr_model.specs.Moves.{Finish}
 use Rattle.dr_model.specs.Pairs.{is_engaged}
 use Rattle.dr_coord.specs.Changes.{void_on}
 use Rattle.dr_volume.specs.View.{volume_seen}
-use Rattle.dr_flash.specs.Here.{world_seen, armed_in, refusal_of}
-use Rattle.dr_flash.proofs.CheckLemmas.{act-ends}
-use Rattle.dr_flash.proofs.TurnLemmas.{ok-along, err-along}
-use Rattle.dr_coord.proofs.ActLemmas.{move-advances, move-halts, void-skips, void-comes}
+use Rattle.dr_moves.specs.Here.{world_seen, armed_in, refusal_of}
+use Rattle.dr_moves.proofs.EntryLemmas.{act-ends, move-advances, move-halts, skips}
+use Rattle.dr_moves.proofs.TurnLemmas.{ok-along, err-along}
+use Rattle.dr_coord.proofs.ActLemmas.{void-skips, void-comes}
 use Rattle.dr_coord.proofs.HoldLemmas.{one-skipped}
 use Rattle.dr_coord.proofs.finishing.void.Goals as goal
-use Rattle.dr_flash.proofs.KeepLemmas.{skips}
 
 pub returns-then-not-is_engaged-clause-advances : goal.returns-then-not-is_engaged-clause-advances
 returns-then-not-is_engaged-clause-advances g c r =

@@ -4,11 +4,11 @@ use Rattle.dr_model.specs.Layout.{Fields}
 use Rattle.dr_model.specs.Moves.{Free}
 use Rattle.dr_model.specs.SessionEntries.{free_on}
 use Rattle.dr_volume.specs.View.{volume_seen}
-use Rattle.dr_flash.specs.Here.{world_seen, armed_in, refusal_of}
-use Rattle.dr_flash.proofs.TurnLemmas.{ok-along, err-along}
-use Rattle.dr_coord.proofs.ActLemmas.{move-advances, move-halts, free-skips, free-comes}
+use Rattle.dr_moves.specs.Here.{world_seen, armed_in, refusal_of}
+use Rattle.dr_moves.proofs.TurnLemmas.{ok-along, err-along}
+use Rattle.dr_moves.proofs.EntryLemmas.{move-advances, move-halts, skips}
+use Rattle.dr_coord.proofs.ActLemmas.{free-skips, free-comes}
 use Rattle.dr_coord.proofs.holding.free.Goals as goal
-use Rattle.dr_flash.proofs.KeepLemmas.{skips}
 
 pub returns-then-not-peek_fields-clause-advances : goal.returns-then-not-peek_fields-clause-advances
 returns-then-not-peek_fields-clause-advances g c r =

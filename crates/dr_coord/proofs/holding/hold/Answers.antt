@@ -2,10 +2,11 @@ use Rattle.std.proofs.Common.{◌≡◌, true, false, ap, sym, ◌∙◌, None, 
 use Rattle.dr_model.specs.Pairs.{records}
 use Rattle.dr_model.specs.SessionEntries.{hold_on}
 use Rattle.dr_volume.specs.View.{volume_seen}
-use Rattle.dr_flash.specs.Here.{world_seen, armed_in, refusal_of}
-use Rattle.dr_flash.proofs.TurnLemmas.{ok-along, err-along}
+use Rattle.dr_moves.specs.Here.{world_seen, armed_in, refusal_of}
+use Rattle.dr_moves.proofs.TurnLemmas.{ok-along, err-along}
 use Rattle.dr_coord.specs.Changes.{begins, rest_after}
-use Rattle.dr_coord.proofs.ActLemmas.{act-advances, act-halts, hold_act, hold-comes, hold-act, hold-off, hold-passes, begins-moved, spare-left}
+use Rattle.dr_moves.proofs.EntryLemmas.{act-advances, act-halts}
+use Rattle.dr_coord.proofs.ActLemmas.{hold_act, hold-comes, hold-act, hold-off, hold-passes, begins-moved, spare-left}
 use Rattle.dr_coord.proofs.holding.hold.Goals as goal
 use Rattle.dr_logic.proofs.Results.{ok-two}
 

@@ -1,9 +1,9 @@
 use Rattle.std.proofs.Common.{◌≡◌, nat_lt, [], ◌∷◌, None}
 use Rattle.dr_model.specs.SessionEntries.{last_of, hold_refusal, stale_refusal, hold_on, hold_entries}
 use Rattle.dr_volume.specs.View.{volume_seen}
-use Rattle.dr_flash.specs.Here.{world_seen, armed_in, refusal_of}
-use Rattle.dr_flash.proofs.CheckLemmas.{counted-stop, only-stops}
-use Rattle.dr_flash.proofs.TurnLemmas.{ok-along, err-along}
+use Rattle.dr_moves.specs.Here.{world_seen, armed_in, refusal_of}
+use Rattle.dr_moves.proofs.EntryLemmas.{counted-stop, only-stops}
+use Rattle.dr_moves.proofs.TurnLemmas.{ok-along, err-along}
 use Rattle.dr_coord.specs.Changes.{rest_after}
 use Rattle.dr_coord.proofs.ActLemmas.{two-checked, hold-refused, ends-so}
 use Rattle.dr_coord.proofs.holding.hold_and_swap.Goals as goal

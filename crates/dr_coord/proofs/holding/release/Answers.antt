@@ -1,11 +1,10 @@
 use Rattle.std.proofs.Common.{[], ◌∷◌, None, Some}
 use Rattle.dr_model.specs.SessionEntries.{void_refusal, free_on, release_entries}
 use Rattle.dr_volume.specs.View.{volume_seen}
-use Rattle.dr_flash.specs.Here.{world_seen, armed_in, refusal_of}
-use Rattle.dr_flash.proofs.CheckLemmas.{counted-stop, only-stops}
-use Rattle.dr_flash.proofs.TurnLemmas.{ok-along, err-along}
+use Rattle.dr_moves.specs.Here.{world_seen, armed_in, refusal_of}
+use Rattle.dr_moves.proofs.EntryLemmas.{counted-stop, only-stops, one-checked}
+use Rattle.dr_moves.proofs.TurnLemmas.{ok-along, err-along}
 use Rattle.dr_gcopy.proofs.TwoMoves.{ends-by}
-use Rattle.dr_coord.proofs.ActLemmas.{one-checked}
 use Rattle.dr_coord.proofs.holding.release.Goals as goal
 
 pub returns-in-Some-clause-fails : goal.returns-in-Some-clause-fails

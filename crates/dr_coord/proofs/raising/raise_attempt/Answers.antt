@@ -3,14 +3,12 @@ use Rattle.dr_model.specs.Layout.{Fields}
 use Rattle.dr_model.specs.Moves.{RaiseAttempt}
 use Rattle.dr_model.specs.SessionEntries.{raise_attempt_on}
 use Rattle.dr_volume.specs.View.{volume_seen}
-use Rattle.dr_flash.specs.Here.{world_seen, armed_in, refusal_of}
-use Rattle.dr_flash.proofs.CheckLemmas.{act-ends}
-use Rattle.dr_flash.proofs.TurnLemmas.{ok-along, err-along}
-use Rattle.dr_coord.proofs.ActLemmas.{move-advances, move-halts}
+use Rattle.dr_moves.specs.Here.{world_seen, armed_in, refusal_of}
+use Rattle.dr_moves.proofs.EntryLemmas.{act-ends, move-advances, move-halts, skips}
+use Rattle.dr_moves.proofs.TurnLemmas.{ok-along, err-along}
 use Rattle.dr_coord.proofs.HoldLemmas.{one-skipped}
 use Rattle.dr_coord.proofs.RaiseLemmas.{attempt-skips, attempt-comes}
 use Rattle.dr_coord.proofs.raising.raise_attempt.Goals as goal
-use Rattle.dr_flash.proofs.KeepLemmas.{skips}
 
 pub returns-then-n-peek_fields-clause-advances : goal.returns-then-n-peek_fields-clause-advances
 returns-then-n-peek_fields-clause-advances g c r =

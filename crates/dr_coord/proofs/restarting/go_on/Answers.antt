@@ -8,7 +8,7 @@ use Rattle.dr_model.specs.Carry.{update}
 use Rattle.dr_volume.specs.Update.{EndsAs, after_reading}
 use Rattle.dr_volume.specs.Plain.{plain}
 use Rattle.dr_volume.specs.View.{volume_seen}
-use Rattle.dr_flash.specs.Here.{world_seen}
+use Rattle.dr_moves.specs.Here.{world_seen}
 use Rattle.dr_coord.proofs.HoldLemmas.{went-on, came-off}
 use Rattle.dr_coord.proofs.restarting.go_on.Goals as goal
 use Rattle.dr_facts.proofs.Lawful.{lawful-restarted}

@@ -4,11 +4,11 @@ use Rattle.dr_model.specs.Moves.{Restart}
 use Rattle.dr_model.specs.Pairs.{must_restart}
 use Rattle.dr_model.specs.WriteEntries.{restart_on}
 use Rattle.dr_volume.specs.View.{volume_seen}
-use Rattle.dr_flash.specs.Here.{world_seen, armed_in, refusal_of}
-use Rattle.dr_flash.proofs.TurnLemmas.{ok-along, err-along}
+use Rattle.dr_moves.specs.Here.{world_seen, armed_in, refusal_of}
+use Rattle.dr_moves.proofs.TurnLemmas.{ok-along, err-along}
 use Rattle.dr_coord.proofs.HoldLemmas.{restart-skips, restart-comes}
 use Rattle.dr_coord.proofs.restarting.restart.Goals as goal
-use Rattle.dr_flash.proofs.KeepLemmas.{alike-advances, alike-halts}
+use Rattle.dr_moves.proofs.EntryLemmas.{alike-advances, alike-halts}
 
 pub returns-then-not-must_restart-clause-advances : goal.returns-then-not-must_restart-clause-advances
 returns-then-not-must_restart-clause-advances g c r =

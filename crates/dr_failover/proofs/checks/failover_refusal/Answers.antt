@@ -4,9 +4,9 @@ use Rattle.dr_model.specs.Layout.{Fields}
 use Rattle.dr_model.specs.Entries.{pair_state}
 use Rattle.dr_model.specs.PairEntries.{may_take_over}
 use Rattle.dr_model.specs.Pairs.{is_secondary_of, is_kind}
-use Rattle.dr_flash.specs.Here.{world_seen}
+use Rattle.dr_moves.specs.Here.{world_seen}
 use Rattle.dr_facts.proofs.Ends.{ends-passed}
-use Rattle.dr_flash.proofs.CheckLemmas.{refuses}
+use Rattle.dr_moves.proofs.EntryLemmas.{refuses}
 use Rattle.dr_failover.proofs.checks.failover_refusal.Goals as goal
 
 pub returns-in-Some-clause-checked : goal.returns-in-Some-clause-checked

@@ -4,9 +4,9 @@ use Rattle.dr_model.specs.Layout.{Fields}
 use Rattle.dr_model.specs.Entries.{pair_state}
 use Rattle.dr_model.specs.PairEntries.{leads_as, leads_to}
 use Rattle.dr_model.specs.Pairs.{is_primary_of, is_kind}
-use Rattle.dr_flash.specs.Here.{world_seen}
+use Rattle.dr_moves.specs.Here.{world_seen}
 use Rattle.dr_facts.proofs.Ends.{ends-passed}
-use Rattle.dr_flash.proofs.CheckLemmas.{refuses}
+use Rattle.dr_moves.proofs.EntryLemmas.{refuses}
 use Rattle.dr_failover.proofs.checks.lead_refusal.Goals as goal
 
 pub returns-then-not-leads_as-clause-checked : goal.returns-then-not-leads_as-clause-checked

@@ -1,9 +1,9 @@
 use Rattle.std.proofs.Common.{ap, sym, ◌∙◌, Some}
 use Rattle.dr_ids.specs.declared.refusal.Refusal.{Refusal}
 use Rattle.dr_model.specs.Entries.{is_settled, relation_state}
-use Rattle.dr_flash.specs.Here.{world_seen}
+use Rattle.dr_moves.specs.Here.{world_seen}
 use Rattle.dr_facts.proofs.Ends.{ends-passed}
-use Rattle.dr_flash.proofs.CheckLemmas.{refuses}
+use Rattle.dr_moves.proofs.EntryLemmas.{refuses}
 use Rattle.dr_failover.proofs.checks.settled_refusal.Goals as goal
 
 pub returns-then-not-is_settled-clause-checked : goal.returns-then-not-is_settled-clause-checked

@@ -2,9 +2,10 @@ use Rattle.std.proofs.Common.{◌∙◌, [], ap, refl, sym, nat_eq, Some}
 use Rattle.dr_ids.specs.declared.refusal.Which.TheVariants.{Size}
 use Rattle.dr_model.specs.Entries.{is_running, share_size}
 use Rattle.dr_model.specs.Refusals.{over, server_off}
-use Rattle.dr_flash.specs.Here.{world_seen}
+use Rattle.dr_moves.specs.Here.{world_seen}
 use Rattle.dr_facts.proofs.Ends.{ends-passed}
-use Rattle.dr_flash.proofs.CheckLemmas.{refuses, same-test, differ-test}
+use Rattle.dr_moves.proofs.EntryLemmas.{refuses}
+use Rattle.dr_flash.proofs.CheckLemmas.{same-test, differ-test}
 use Rattle.dr_failover.proofs.ResyncLemmas.{checked-why}
 use Rattle.dr_failover.proofs.comparing.compare_refusal.Goals as goal
 

@@ -5,10 +5,10 @@ use Rattle.dr_model.specs.Log.{Log}
 use Rattle.dr_model.specs.PairEntries.{refuse_if, differs_at, first_differing}
 use Rattle.dr_model.specs.ReadStops.{Ends}
 use Rattle.dr_volume.specs.View.{volume_seen, track_seen}
-use Rattle.dr_flash.specs.Here.{world_seen, armed_in, refusal_of}
+use Rattle.dr_moves.specs.Here.{world_seen, armed_in, refusal_of}
 use Rattle.dr_facts.proofs.Ends.{ends-off, ends-none}
-use Rattle.dr_flash.proofs.CheckLemmas.{ends-clear, ends-why}
-use Rattle.dr_flash.proofs.TurnLemmas.{refused-by}
+use Rattle.dr_moves.proofs.EntryLemmas.{ends-clear, ends-why}
+use Rattle.dr_moves.proofs.TurnLemmas.{refused-by}
 use Rattle.dr_failover.proofs.ComparedLemmas.{both-there, same-track, none-differs, differs-first}
 use Rattle.dr_failover.proofs.comparing.compare_volumes.Goals as goal
 

@@ -1,6 +1,6 @@
 use Rattle.std.proofs.Common.{ap, sym, ◌∙◌}
 use Rattle.dr_model.specs.Plans.{restores_refusal}
-use Rattle.dr_flash.specs.Here.{world_seen}
+use Rattle.dr_moves.specs.Here.{world_seen}
 use Rattle.dr_gmirror.specs.Orders.{with_sessions}
 use Rattle.dr_failover.proofs.looks.yield_refusal.Goals as goal
 

@@ -4,7 +4,7 @@ use Rattle.dr_model.specs.Layout.{Fields, is_part}
 use Rattle.dr_model.specs.Pairs.{is_pending}
 use Rattle.dr_model.specs.Refusals.{server_off}
 use Rattle.dr_ids.specs.declared.refusal.Refusal.{Refusal}
-use Rattle.dr_flash.specs.Here.{world_seen}
+use Rattle.dr_moves.specs.Here.{world_seen}
 use Rattle.dr_gcopy.proofs.ReachLemmas.{running-is}
 use Rattle.dr_failover.proofs.ResyncLemmas.{checked-why, refused-off, refused-by}
 use Rattle.dr_failover.proofs.resync.copying_refusal.Goals as goal

@@ -5,9 +5,9 @@ use Rattle.dr_model.specs.Plans as plans
 use Rattle.dr_model.specs.Pairs.{is_primary_of, is_kind}
 use Rattle.dr_model.specs.ReadStops.{Ends}
 use Rattle.dr_volume.specs.View.{volume_seen}
-use Rattle.dr_flash.specs.Here.{world_seen, armed_in, refusal_of}
-use Rattle.dr_flash.proofs.CheckLemmas.{ends-clear, ends-why}
-use Rattle.dr_flash.proofs.TurnLemmas.{ok-along}
+use Rattle.dr_moves.specs.Here.{world_seen, armed_in, refusal_of}
+use Rattle.dr_moves.proofs.EntryLemmas.{ends-clear, ends-why}
+use Rattle.dr_moves.proofs.TurnLemmas.{ok-along}
 use Rattle.dr_gcopy.specs.Kinds.{part_of}
 use Rattle.dr_gcopy.proofs.PairChecks.{unless-stopped, counted-stops, servers-apart}
 use Rattle.dr_gcopy.proofs.TwoMoves.{ends-by}

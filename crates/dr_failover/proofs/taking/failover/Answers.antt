@@ -6,9 +6,9 @@ use Rattle.dr_model.specs.Pairs.{is_secondary_of, is_kind, taken_over}
 use Rattle.dr_model.specs.ReadStops.{Ends}
 use Rattle.dr_gcopy.specs.Kinds.{part_of}
 use Rattle.dr_volume.specs.View.{volume_seen}
-use Rattle.dr_flash.specs.Here.{world_seen, armed_in, refusal_of}
-use Rattle.dr_flash.proofs.CheckLemmas.{only-stops, counted-stop}
-use Rattle.dr_flash.proofs.TurnLemmas.{ok-along}
+use Rattle.dr_moves.specs.Here.{world_seen, armed_in, refusal_of}
+use Rattle.dr_moves.proofs.EntryLemmas.{only-stops, counted-stop}
+use Rattle.dr_moves.proofs.TurnLemmas.{ok-along}
 use Rattle.dr_failover.specs.Outcomes.{IsTakenFrom}
 use Rattle.dr_failover.proofs.TurnedLemmas.{taken-from, tracks-stay}
 use Rattle.dr_failover.proofs.taking.failover.Goals as goal

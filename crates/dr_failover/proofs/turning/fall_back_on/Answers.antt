@@ -9,9 +9,9 @@ use Rattle.dr_model.specs.Pairs.{next_state, with_more, fallen_back}
 use Rattle.dr_model.specs.Carry.{Make, Do, now}
 use Rattle.dr_volume.specs.Update.{IsAsBefore, IsMoved}
 use Rattle.dr_volume.specs.View.{volume_seen}
-use Rattle.dr_flash.specs.Here.{world_seen, armed_in, refusal_of}
-use Rattle.dr_flash.proofs.KeepLemmas.{alike-advances, alike-halts}
-use Rattle.dr_flash.proofs.TurnLemmas.{ok-along, err-along}
+use Rattle.dr_moves.specs.Here.{world_seen, armed_in, refusal_of}
+use Rattle.dr_moves.proofs.EntryLemmas.{alike-advances, alike-halts}
+use Rattle.dr_moves.proofs.TurnLemmas.{ok-along, err-along}
 use Rattle.dr_failover.proofs.TurnedLemmas.{low-unsent}
 use Rattle.dr_failover.proofs.turning.fall_back_on.Goals as goal
 

@@ -7,9 +7,9 @@ use Rattle.dr_model.specs.Carry.{Make, Do, now}
 use Rattle.dr_volume.specs.declared.head.Head.{Head}
 use Rattle.dr_volume.specs.Update.{IsAsBefore, IsMoved}
 use Rattle.dr_volume.specs.View.{volume_seen}
-use Rattle.dr_flash.specs.Here.{world_seen, armed_in, refusal_of}
-use Rattle.dr_flash.proofs.KeepLemmas.{alike-advances, alike-halts}
-use Rattle.dr_flash.proofs.TurnLemmas.{ok-along, err-along}
+use Rattle.dr_moves.specs.Here.{world_seen, armed_in, refusal_of}
+use Rattle.dr_moves.proofs.EntryLemmas.{alike-advances, alike-halts}
+use Rattle.dr_moves.proofs.TurnLemmas.{ok-along, err-along}
 use Rattle.dr_failover.proofs.turning.yield_on.Goals as goal
 
 pub yield_to-requires-clause-kind : goal.yield_to-requires-clause-kind

@@ -1,17 +1,18 @@
-use Rattle.dr_flash.specs.Turns.{room_of}
-use Rattle.dr_flash.proofs.TellLemmas.{room-blanked}
+use Rattle.dr_moves.specs.Turns.{room_of}
+use Rattle.dr_moves.proofs.TellLemmas.{room-blanked}
 use Rattle.std.proofs.Common.{arith, ap, refl, sym, subst, ◌∙◌, None, true}
 use Rattle.dr_model.specs.Layout.{Fields}
 use Rattle.dr_model.specs.Lawful.{IsLawful}
 use Rattle.dr_model.specs.Moves.{Withdraw}
 use Rattle.dr_volume.specs.Plain.{plain}
 use Rattle.dr_volume.specs.View.{volume_seen}
-use Rattle.dr_flash.specs.Here.{world_seen, armed_in, refusal_of}
-use Rattle.dr_flash.proofs.ReadLemmas.{on-running}
-use Rattle.dr_flash.proofs.TurnLemmas.{Tells, advances, halts, ok-along, err-along}
+use Rattle.dr_moves.specs.Here.{world_seen, armed_in, refusal_of}
+use Rattle.dr_moves.proofs.ReadLemmas.{on-running}
+use Rattle.dr_moves.proofs.TurnLemmas.{Tells, advances, halts, ok-along, err-along}
 use Rattle.dr_model.specs.Relations.{withdrawn_if}
-use Rattle.dr_flash.specs.declared.told.Told.TheVariants.{Blanked}
-use Rattle.dr_flash.proofs.MoveLemmas.{MoveFits, withdraw-fits, tells-withdraw}
+use Rattle.dr_moves.specs.declared.told.Told.TheVariants.{Blanked}
+use Rattle.dr_moves.proofs.MoveFits.{MoveFits}
+use Rattle.dr_flash.proofs.MoveLemmas.{withdraw-fits, tells-withdraw}
 use Rattle.dr_volume.specs.Update.{IsMoved}
 use Rattle.dr_flash.proofs.ShowLemmas.{show-target, withdrawn-shows}
 use Rattle.dr_flash.proofs.ending.part.Goals as goal

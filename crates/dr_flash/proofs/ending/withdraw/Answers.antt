@@ -8,10 +8,10 @@ use Rattle.dr_model.specs.Moves.{Withdraw}
 use Rattle.dr_model.specs.Plans.{counted_refusal, is_plain_target}
 use Rattle.dr_model.specs.Refusals.{server_off}
 use Rattle.dr_volume.specs.View.{on_seen, volume_seen}
-use Rattle.dr_flash.specs.Here.{world_seen, armed_in, refusal_of}
+use Rattle.dr_moves.specs.Here.{world_seen, armed_in, refusal_of}
 use Rattle.dr_flash.specs.Standing.{counted_by}
 use Rattle.dr_facts.proofs.Ends.{ends-passed}
-use Rattle.dr_flash.proofs.CheckLemmas.{refuses, ends-clear, ends-why, act-ends, only-stops}
+use Rattle.dr_moves.proofs.EntryLemmas.{refuses, ends-clear, ends-why, act-ends, only-stops}
 use Rattle.dr_flash.proofs.ending.withdraw.Goals as goal
 use Rattle.dr_volume.proofs.WorldLaws.{on-seen}
 

@@ -2,12 +2,12 @@ use Rattle.std.proofs.Common.{refl, sym, subst, [], None, Some}
 use Rattle.dr_model.specs.Carry.{now}
 use Rattle.dr_model.specs.Entries.{fetch_next}
 use Rattle.dr_model.specs.Moves.{Fetch}
-use Rattle.dr_flash.specs.Here.{world_seen, armed_in}
-use Rattle.dr_flash.specs.Turns.{Halts}
+use Rattle.dr_moves.specs.Here.{world_seen, armed_in}
+use Rattle.dr_moves.specs.Turns.{Halts}
 use Rattle.dr_facts.proofs.Ends.{ends-none}
 use Rattle.dr_flash.proofs.FetchLemmas.{fetch-none, fetch-some}
-use Rattle.dr_flash.proofs.KeepLemmas.{skips, alike-advances, alike-halts}
-use Rattle.dr_flash.proofs.TurnLemmas.{refused-by}
+use Rattle.dr_moves.proofs.EntryLemmas.{skips, alike-advances, alike-halts}
+use Rattle.dr_moves.proofs.TurnLemmas.{refused-by}
 use Rattle.dr_flash.proofs.fetching.copy_step.Goals as goal
 use Rattle.dr_logic.proofs.Results.{err-always}
 

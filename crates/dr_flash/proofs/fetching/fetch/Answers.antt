@@ -7,10 +7,10 @@ use Rattle.dr_model.specs.Moves.{Fetch}
 use Rattle.dr_model.specs.ReadStops.{GoesOff}
 use Rattle.dr_volume.specs.Update.{OthersStay}
 use Rattle.dr_volume.specs.View.{Rest}
-use Rattle.dr_flash.specs.Here.{world_seen, armed_in, refusal_of}
-use Rattle.dr_flash.specs.Turns.{Advances, Halts}
-use Rattle.dr_flash.proofs.FitLemmas.{fit-same}
-use Rattle.dr_flash.proofs.TurnLemmas.{refused-by, halts-gone}
+use Rattle.dr_moves.specs.Here.{world_seen, armed_in, refusal_of}
+use Rattle.dr_moves.specs.Turns.{Advances, Halts}
+use Rattle.dr_moves.proofs.FitLemmas.{fit-same}
+use Rattle.dr_moves.proofs.TurnLemmas.{refused-by, halts-gone}
 use Rattle.dr_flash.specs.Views.{AllShow}
 use Rattle.dr_flash.proofs.ShowLemmas.{show-same}
 use Rattle.dr_flash.proofs.fetching.fetch.Goals as goal

@@ -8,7 +8,7 @@ use Rattle.dr_model.specs.Layout.{Fields}
 use Rattle.dr_model.specs.Views.{shows_source}
 use Rattle.dr_volume.specs.Plain.{plain}
 use Rattle.dr_volume.specs.View.{volume_seen, device_of}
-use Rattle.dr_flash.specs.Fit.{SourceFits}
+use Rattle.dr_moves.specs.Fit.{SourceFits}
 use Rattle.dr_flash.proofs.FetchLemmas.{can-alike}
 use Rattle.dr_flash.proofs.fetching.read_target.Goals as goal
 

@@ -4,11 +4,12 @@ use Rattle.dr_model.specs.Lawful.{IsLawful}
 use Rattle.dr_model.specs.Moves.{Fetch}
 use Rattle.dr_volume.specs.Plain.{plain}
 use Rattle.dr_volume.specs.View.{volume_seen, track_seen}
-use Rattle.dr_flash.specs.Here.{world_seen, armed_in, refusal_of}
-use Rattle.dr_flash.proofs.ReadLemmas.{on-running}
-use Rattle.dr_flash.proofs.TurnLemmas.{Tells, advances, halts, ok-along, err-along}
+use Rattle.dr_moves.specs.Here.{world_seen, armed_in, refusal_of}
+use Rattle.dr_moves.proofs.ReadLemmas.{on-running}
+use Rattle.dr_moves.proofs.TurnLemmas.{Tells, advances, halts, ok-along, err-along}
 use Rattle.dr_model.specs.Relations.{closed, fetched}
-use Rattle.dr_flash.proofs.MoveLemmas.{MoveFits, fetch-fits, tells-fetch}
+use Rattle.dr_moves.proofs.MoveFits.{MoveFits}
+use Rattle.dr_flash.proofs.MoveLemmas.{fetch-fits, tells-fetch}
 use Rattle.std.specs.FinSet.{contains}
 use Rattle.dr_volume.specs.Update.{IsMoved}
 use Rattle.dr_flash.proofs.ShowLemmas.{show-either, taken-shows}

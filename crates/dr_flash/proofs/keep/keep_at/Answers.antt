@@ -5,12 +5,13 @@ use Rattle.dr_model.specs.Entries as entries
 use Rattle.dr_volume.specs.Update.{OthersStay}
 use Rattle.dr_volume.specs.View.{Rest}
 use Rattle.dr_flash.specs.Heads.{id_at}
-use Rattle.dr_flash.specs.Here.{world_seen, armed_in, refusal_of}
-use Rattle.dr_flash.specs.Turns.{Advances, Halts}
+use Rattle.dr_moves.specs.Here.{world_seen, armed_in, refusal_of}
+use Rattle.dr_moves.specs.Turns.{Advances, Halts}
 use Rattle.dr_flash.specs.Views.{KeepsTrack}
 use Rattle.dr_flash.proofs.CopyLemmas.{volume-there}
 use Rattle.dr_flash.proofs.HeadLemmas.{kept-head}
-use Rattle.dr_flash.proofs.KeepLemmas.{skips, passes-by}
+use Rattle.dr_moves.proofs.EntryLemmas.{skips}
+use Rattle.dr_flash.proofs.KeepLemmas.{passes-by}
 use Rattle.dr_flash.proofs.keep.keep_at.Goals as goal
 
 pub returns-then-not-is_kept_for-clause-advances : goal.returns-then-not-is_kept_for-clause-advances

@@ -4,10 +4,11 @@ use Rattle.dr_model.specs.Layout.{Fields}
 use Rattle.dr_model.specs.Carry.{now}
 use Rattle.dr_model.specs.Moves.{Keep, Note}
 use Rattle.dr_model.specs.Entries as entries
-use Rattle.dr_flash.specs.Here.{world_seen, armed_in, refusal_of}
-use Rattle.dr_flash.proofs.KeepLemmas.{skips, alike-advances, alike-halts, passes-by, keeps-new, keeps-noted, passes-held, apart-target, apart-kept}
+use Rattle.dr_moves.specs.Here.{world_seen, armed_in, refusal_of}
+use Rattle.dr_moves.proofs.EntryLemmas.{skips, alike-advances, alike-halts}
+use Rattle.dr_flash.proofs.KeepLemmas.{passes-by, keeps-new, keeps-noted, passes-held, apart-target, apart-kept}
 use Rattle.dr_flash.proofs.HeadLemmas.{kept-head, kept-shown}
-use Rattle.dr_flash.proofs.TurnLemmas.{ok-along, err-along}
+use Rattle.dr_moves.proofs.TurnLemmas.{ok-along, err-along}
 use Rattle.dr_flash.proofs.keep.keep_on.Goals as goal
 
 pub returns-then-not-is_kept_for-clause-advances : goal.returns-then-not-is_kept_for-clause-advances

@@ -1,16 +1,17 @@
-use Rattle.dr_flash.specs.Told.{events_of}
+use Rattle.dr_moves.specs.Told.{events_of}
 use Rattle.std.proofs.Common.{arith, length, ap, refl, sym, subst, ◌∙◌, None}
 use Rattle.dr_model.specs.Layout.{Fields}
 use Rattle.dr_model.specs.Lawful.{IsLawful}
 use Rattle.dr_model.specs.Moves.{Note}
 use Rattle.dr_volume.specs.Plain.{plain}
 use Rattle.dr_volume.specs.View.{volume_seen}
-use Rattle.dr_flash.specs.Here.{world_seen, armed_in, refusal_of}
-use Rattle.dr_flash.specs.declared.told.Telling.{Telling}
-use Rattle.dr_flash.proofs.ReadLemmas.{on-running}
-use Rattle.dr_flash.proofs.TurnLemmas.{Tells, advances, halts, ok-along, err-along}
+use Rattle.dr_moves.specs.Here.{world_seen, armed_in, refusal_of}
+use Rattle.dr_moves.specs.declared.told.Telling.{Telling}
+use Rattle.dr_moves.proofs.ReadLemmas.{on-running}
+use Rattle.dr_moves.proofs.TurnLemmas.{Tells, advances, halts, ok-along, err-along}
 use Rattle.dr_model.specs.Relations.{noted}
-use Rattle.dr_flash.proofs.MoveLemmas.{MoveFits, note-fits, tells-note}
+use Rattle.dr_moves.proofs.MoveFits.{MoveFits}
+use Rattle.dr_flash.proofs.MoveLemmas.{note-fits, tells-note}
 use Rattle.dr_volume.specs.Update.{IsMoved}
 use Rattle.dr_flash.proofs.ShowLemmas.{show-either, noted-shows}
 use Rattle.std.specs.FinSet.{contains}

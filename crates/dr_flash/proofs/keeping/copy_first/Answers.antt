@@ -5,12 +5,14 @@ use Rattle.dr_model.specs.ReadStops.{Ends}
 use Rattle.dr_model.specs.Refusals.{stopped}
 use Rattle.dr_volume.specs.View.{volume_seen, ids_of}
 use Rattle.dr_flash.specs.Heads.{id_at}
-use Rattle.dr_flash.specs.Here.{world_seen, armed_in, refusal_of}
-use Rattle.dr_flash.proofs.CopyLemmas.{keeps_from, keeps-next, keeps-none, before-then, wider-armed, led, failed, id-there, place-there, no-own}
+use Rattle.dr_moves.specs.Here.{world_seen, armed_in, refusal_of}
+use Rattle.dr_flash.proofs.CopyLemmas.{keeps_from, keeps-next, keeps-none, id-there, place-there, no-own}
+use Rattle.dr_moves.proofs.KeptLemmas.{before-then, wider-armed}
+use Rattle.dr_moves.proofs.EntryLemmas.{led, failed}
 use Rattle.dr_flash.specs.Views.{kept_for}
 use Rattle.dr_flash.proofs.HeldLemmas.{held-below, same-or-held, held-all}
 use Rattle.dr_facts.proofs.Ends.{ends-wider}
-use Rattle.dr_flash.proofs.TurnLemmas.{refused-by}
+use Rattle.dr_moves.proofs.TurnLemmas.{refused-by}
 use Rattle.dr_flash.proofs.keeping.copy_first.Goals as goal
 use Rattle.dr_logic.proofs.Results.{err-always}
 

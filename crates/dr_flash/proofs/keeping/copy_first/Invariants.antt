@@ -6,8 +6,8 @@ use Rattle.dr_model.specs.Entries.{copy_first, copies_from}
 use Rattle.dr_model.specs.ReadStops.{Ends}
 use Rattle.dr_volume.specs.Update.{IsAsBefore}
 use Rattle.dr_volume.specs.View.{Rest, volume_seen, ids_of}
-use Rattle.dr_flash.specs.Fit.{RelationsFit}
-use Rattle.dr_flash.specs.Here.{world_seen, IsAtRest}
+use Rattle.dr_moves.specs.Fit.{RelationsFit}
+use Rattle.dr_moves.specs.Here.{world_seen, IsAtRest}
 use Rattle.dr_flash.specs.Views.{AllShow, kept_for}
 use Rattle.dr_flash.proofs.HeldLemmas.{HeldBelow, SameOrHeld}
 use Rattle.dr_flash.proofs.CopyLemmas.{keeps_from}

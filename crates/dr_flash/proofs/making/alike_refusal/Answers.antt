@@ -4,9 +4,10 @@ use Rattle.dr_ids.specs.declared.refusal.Which.TheVariants.{Size, Server as OneS
 use Rattle.dr_model.specs.Plans.{differ}
 use Rattle.dr_model.specs.Entries.{share_server, share_size}
 use Rattle.dr_model.specs.Refusals.{duplicate, over}
-use Rattle.dr_flash.specs.Here.{world_seen}
+use Rattle.dr_moves.specs.Here.{world_seen}
 use Rattle.dr_facts.proofs.Ends.{ends-passed}
-use Rattle.dr_flash.proofs.CheckLemmas.{refuses, same-test, differ-test}
+use Rattle.dr_moves.proofs.EntryLemmas.{refuses}
+use Rattle.dr_flash.proofs.CheckLemmas.{same-test, differ-test}
 use Rattle.dr_flash.proofs.making.alike_refusal.Goals as goal
 
 pub returns-then-s-t-clause-checked : goal.returns-then-s-t-clause-checked

@@ -4,10 +4,10 @@ use Rattle.dr_model.specs.Entries.{is_running}
 use Rattle.dr_model.specs.Moves.{Relate}
 use Rattle.dr_model.specs.Refusals.{server_off}
 use Rattle.dr_volume.specs.View.{on_seen, volume_seen}
-use Rattle.dr_flash.specs.Here.{world_seen, armed_in, refusal_of}
-use Rattle.dr_flash.specs.Options.{choices}
+use Rattle.dr_moves.specs.Here.{world_seen, armed_in, refusal_of}
+use Rattle.dr_moves.specs.Options.{choices}
 use Rattle.dr_facts.proofs.Ends.{ends-passed}
-use Rattle.dr_flash.proofs.CheckLemmas.{refuses, act-ends, only-stops}
+use Rattle.dr_moves.proofs.EntryLemmas.{refuses, act-ends, only-stops}
 use Rattle.dr_flash.proofs.making.establish.Goals as goal
 use Rattle.dr_volume.proofs.WorldLaws.{on-seen}
 

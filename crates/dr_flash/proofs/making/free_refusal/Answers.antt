@@ -8,10 +8,11 @@ use Rattle.dr_model.specs.Plans.{is_no_source, has_few_targets}
 use Rattle.dr_model.specs.Refusals.{over}
 use Rattle.dr_model.specs.Pairs.{is_unpaired}
 use Rattle.dr_volume.specs.View.{volume_seen}
-use Rattle.dr_flash.specs.Here.{world_seen}
+use Rattle.dr_moves.specs.Here.{world_seen}
 use Rattle.dr_flash.specs.Standing.{targets_in}
 use Rattle.dr_facts.proofs.Ends.{ends-passed}
-use Rattle.dr_flash.proofs.CheckLemmas.{refuses, has-targets, has-no_targets, lone-by}
+use Rattle.dr_moves.proofs.EntryLemmas.{refuses}
+use Rattle.dr_flash.proofs.CheckLemmas.{has-targets, has-no_targets, lone-by}
 use Rattle.dr_flash.proofs.making.free_refusal.Goals as goal
 use Rattle.dr_model.specs.PairEntries.{stands_free}
 

@@ -4,12 +4,13 @@ use Rattle.dr_model.specs.Lawful.{IsLawful}
 use Rattle.dr_model.specs.Moves.{Relate}
 use Rattle.dr_volume.specs.Plain.{plain}
 use Rattle.dr_volume.specs.View.{volume_seen}
-use Rattle.dr_flash.specs.Here.{world_seen, armed_in, refusal_of}
-use Rattle.dr_flash.proofs.ReadLemmas.{on-running}
-use Rattle.dr_flash.proofs.TurnLemmas.{Tells, advances, halts, ok-along, err-along}
+use Rattle.dr_moves.specs.Here.{world_seen, armed_in, refusal_of}
+use Rattle.dr_moves.proofs.ReadLemmas.{on-running}
+use Rattle.dr_moves.proofs.TurnLemmas.{Tells, advances, halts, ok-along, err-along}
 use Rattle.dr_model.specs.Relations.{made}
-use Rattle.dr_flash.specs.Options.{choices}
-use Rattle.dr_flash.proofs.MoveLemmas.{MoveFits, relate-fits, tells-relate}
+use Rattle.dr_moves.specs.Options.{choices}
+use Rattle.dr_moves.proofs.MoveFits.{MoveFits}
+use Rattle.dr_flash.proofs.MoveLemmas.{relate-fits, tells-relate}
 use Rattle.dr_volume.specs.Update.{IsMoved}
 use Rattle.dr_flash.proofs.ShowLemmas.{show-lone, made-shows}
 use Rattle.dr_flash.proofs.making.relate.Goals as goal

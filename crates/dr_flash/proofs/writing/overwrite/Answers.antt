@@ -3,15 +3,16 @@ use Rattle.dr_model.specs.Layout.{Fields}
 use Rattle.dr_model.specs.Lawful.{IsLawful}
 use Rattle.dr_volume.specs.Plain.{plain}
 use Rattle.dr_volume.specs.View.{volume_seen}
-use Rattle.dr_flash.specs.Here.{world_seen, armed_in, refusal_of}
+use Rattle.dr_moves.specs.Here.{world_seen, armed_in, refusal_of}
 use Rattle.dr_model.specs.Carry.{update}
 use Rattle.dr_model.specs.Relations.{closed, fetched, rewritten}
-use Rattle.dr_flash.specs.Turns.{made_by}
+use Rattle.dr_moves.specs.Turns.{made_by}
 use Rattle.dr_flash.specs.Writes.{MadeFrom}
 use Rattle.dr_flash.proofs.WriteLemmas.{made-from}
-use Rattle.dr_flash.proofs.MoveLemmas.{MoveFits, overwrite-fits}
+use Rattle.dr_moves.proofs.MoveFits.{MoveFits}
+use Rattle.dr_flash.proofs.MoveLemmas.{overwrite-fits}
 use Rattle.dr_volume.specs.Update.{IsMoved}
-use Rattle.dr_flash.proofs.TurnLemmas.{ok-along}
+use Rattle.dr_moves.proofs.TurnLemmas.{ok-along}
 use Rattle.dr_flash.proofs.ShowLemmas.{show-target, taken-track, taken-other}
 use Rattle.dr_flash.proofs.writing.overwrite.Goals as goal
 

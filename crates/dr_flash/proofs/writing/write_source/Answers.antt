@@ -2,7 +2,7 @@ use Rattle.std.proofs.Common.{subst, Some}
 use Rattle.dr_model.specs.Entries.{copy_first}
 use Rattle.dr_volume.specs.Plain.{plain}
 use Rattle.dr_volume.specs.View.{Rest, ids_of}
-use Rattle.dr_flash.specs.Here.{world_seen, armed_in, refusal_of}
+use Rattle.dr_moves.specs.Here.{world_seen, armed_in, refusal_of}
 use Rattle.dr_flash.specs.Writes.{EndsThen, MadeFrom}
 use Rattle.dr_flash.proofs.writing.write_source.Goals as goal
 

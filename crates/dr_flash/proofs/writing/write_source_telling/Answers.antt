@@ -8,11 +8,12 @@ use Rattle.dr_model.specs.Refusals.{stopped}
 use Rattle.dr_volume.specs.Plain.{plain}
 use Rattle.dr_volume.specs.Update.{Covers}
 use Rattle.dr_volume.specs.View.{volume_seen, ids_of}
-use Rattle.dr_flash.specs.Here.{world_seen, armed_in, refusal_of}
-use Rattle.dr_flash.specs.Turns.{made_by, Fails}
-use Rattle.dr_flash.proofs.CopyLemmas.{no-own, before-then, wider-armed}
-use Rattle.dr_flash.proofs.FitLemmas.{fit-kept}
-use Rattle.dr_flash.proofs.TurnLemmas.{refused-by, ok-along}
+use Rattle.dr_moves.specs.Here.{world_seen, armed_in, refusal_of}
+use Rattle.dr_moves.specs.Turns.{made_by, Fails}
+use Rattle.dr_flash.proofs.CopyLemmas.{no-own}
+use Rattle.dr_moves.proofs.KeptLemmas.{before-then, wider-armed}
+use Rattle.dr_moves.proofs.FitLemmas.{fit-kept}
+use Rattle.dr_moves.proofs.TurnLemmas.{refused-by, ok-along}
 use Rattle.dr_flash.proofs.WriteLemmas.{made-from}
 use Rattle.dr_flash.proofs.HeldLemmas.{never-related, stored-others, stored-own, stored-rest}
 use Rattle.dr_flash.proofs.writing.write_source_telling.Goals as goal

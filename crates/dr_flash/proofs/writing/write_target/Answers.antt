@@ -4,9 +4,9 @@ use Rattle.dr_ids.specs.declared.refusal.Refusal.TheVariants.{Inhibited}
 use Rattle.dr_model.specs.Layout.{Fields}
 use Rattle.dr_model.specs.Entries.{is_open, is_settled, relation_state}
 use Rattle.dr_volume.specs.View.{volume_seen}
-use Rattle.dr_flash.specs.Here.{world_seen}
+use Rattle.dr_moves.specs.Here.{world_seen}
 use Rattle.dr_facts.proofs.Ends.{ends-passed}
-use Rattle.dr_flash.proofs.CheckLemmas.{refuses, counted-stop, only-stops}
+use Rattle.dr_moves.proofs.EntryLemmas.{refuses, counted-stop, only-stops}
 use Rattle.dr_flash.proofs.writing.write_target.Goals as goal
 
 pub returns-then-fields-clause-carried : goal.returns-then-fields-clause-carried

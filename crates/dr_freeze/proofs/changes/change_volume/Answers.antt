@@ -1,8 +1,8 @@
 use Rattle.std.proofs.Common.{◌≡◌, sym, subst, true}
 use Rattle.std.specs.Prelude.{OnOk, OnErr}
 use Rattle.dr_volume.specs.View.{Rest, volume_seen}
-use Rattle.dr_flash.specs.Here.{world_seen, armed_in, refusal_of}
-use Rattle.dr_flash.specs.Turns.{Advances, Halts}
+use Rattle.dr_moves.specs.Here.{world_seen, armed_in, refusal_of}
+use Rattle.dr_moves.specs.Turns.{Advances, Halts}
 use Rattle.dr_freeze.specs.Between.{between}
 use Rattle.dr_freeze.specs.Changes.{change_on, IsChanged}
 use Rattle.dr_freeze.proofs.changes.change_volume.Goals as goal

@@ -5,11 +5,11 @@ use Rattle.dr_model.specs.Pairs.{suspended}
 use Rattle.dr_model.specs.Control.{Volume}
 use Rattle.dr_model.specs.WriteEntries.{freeze_on}
 use Rattle.dr_volume.specs.View.{volume_seen}
-use Rattle.dr_flash.specs.Here.{world_seen, armed_in, refusal_of}
-use Rattle.dr_flash.proofs.TurnLemmas.{ok-along, err-along}
+use Rattle.dr_moves.specs.Here.{world_seen, armed_in, refusal_of}
+use Rattle.dr_moves.proofs.TurnLemmas.{ok-along, err-along}
 use Rattle.dr_freeze.proofs.BetweenLemmas.{running-between, primary-between, freeze-comes, freeze-skips, still-moved, frozen-fields}
 use Rattle.dr_freeze.proofs.changes.freeze_volume.Goals as goal
-use Rattle.dr_flash.proofs.KeepLemmas.{alike-advances, alike-halts}
+use Rattle.dr_moves.proofs.EntryLemmas.{alike-advances, alike-halts}
 use Rattle.dr_logic.proofs.Results.{ok-two}
 
 pub suspend-requires-clause-running : goal.suspend-requires-clause-running

@@ -7,11 +7,11 @@ use Rattle.dr_volume.specs.declared.head.Head.{Head}
 use Rattle.dr_model.specs.Control.{Volume}
 use Rattle.dr_model.specs.WriteEntries.{thaw_on}
 use Rattle.dr_volume.specs.View.{volume_seen}
-use Rattle.dr_flash.specs.Here.{world_seen, armed_in, refusal_of}
-use Rattle.dr_flash.proofs.TurnLemmas.{ok-along, err-along}
+use Rattle.dr_moves.specs.Here.{world_seen, armed_in, refusal_of}
+use Rattle.dr_moves.proofs.TurnLemmas.{ok-along, err-along}
 use Rattle.dr_freeze.proofs.BetweenLemmas.{running-between, thaw-comes, thaw-skips, thaw-free, still-moved}
 use Rattle.dr_freeze.proofs.changes.thaw_volume.Goals as goal
-use Rattle.dr_flash.proofs.KeepLemmas.{alike-advances, alike-halts}
+use Rattle.dr_moves.proofs.EntryLemmas.{alike-advances, alike-halts}
 use Rattle.dr_logic.proofs.Results.{ok-two}
 
 pub clear_busy-requires-clause-running : goal.clear_busy-requires-clause-running

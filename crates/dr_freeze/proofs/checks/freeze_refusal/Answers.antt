@@ -2,8 +2,8 @@ use Rattle.std.proofs.Common.{ap, refl, sym, Some}
 use Rattle.std.specs.Prelude.{is_some}
 use Rattle.dr_ids.specs.declared.refusal.Kind.TheVariants.{Path as OfPath}
 use Rattle.dr_model.specs.Refusals.{unknown}
-use Rattle.dr_flash.specs.Here.{world_seen}
-use Rattle.dr_flash.proofs.CheckLemmas.{refuses}
+use Rattle.dr_moves.specs.Here.{world_seen}
+use Rattle.dr_moves.proofs.EntryLemmas.{refuses}
 use Rattle.dr_freeze.specs.Checks.{has_path, thaw_checks, owner_in}
 use Rattle.dr_freeze.proofs.OwnerLemmas.{checked-next}
 use Rattle.dr_freeze.proofs.checks.freeze_refusal.Goals as goal

@@ -1,9 +1,9 @@
 use Rattle.std.proofs.Common.{ap, sym, ◌∙◌, Some, option_map}
 use Rattle.dr_ids.specs.declared.names.ServerId.{ServerId}
 use Rattle.dr_model.specs.Refusals.{server_off}
-use Rattle.dr_flash.specs.Here.{world_seen}
+use Rattle.dr_moves.specs.Here.{world_seen}
 use Rattle.dr_facts.proofs.Ends.{ends-passed}
-use Rattle.dr_flash.proofs.CheckLemmas.{refuses}
+use Rattle.dr_moves.proofs.EntryLemmas.{refuses}
 use Rattle.dr_freeze.specs.Checks.{owner_in, is_up}
 use Rattle.dr_freeze.proofs.OwnerLemmas.{owner-is, up-here, owner-low}
 use Rattle.dr_freeze.proofs.checks.thaw_refusal.Goals as goal

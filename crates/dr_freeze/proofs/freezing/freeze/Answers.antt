@@ -2,7 +2,7 @@ use Rattle.std.proofs.Common.{◌≡◌, [], ◌∷◌, sym, subst, ◌∙◌, S
 use Rattle.dr_logic.specs.Counts.{Counted}
 use Rattle.dr_model.specs.WriteEntries.{freeze_entries, end_freeze}
 use Rattle.dr_volume.specs.View.{ids_of}
-use Rattle.dr_flash.specs.Here.{world_seen, armed_in}
+use Rattle.dr_moves.specs.Here.{world_seen, armed_in}
 use Rattle.dr_freeze.proofs.EndLemmas.{freeze-ends, rest-without, fit-without, all-frozen}
 use Rattle.dr_freeze.proofs.freezing.freeze.Goals as goal
 

@@ -2,11 +2,12 @@ use Rattle.std.proofs.Common.{◌++◌, ◌+◌, arith, ap, sym, subst, ◌∙�
 use Rattle.dr_ids.specs.declared.names.VolumeId.{VolumeId}
 use Rattle.dr_model.specs.ReadStops.{Ends}
 use Rattle.dr_volume.specs.View.{ids_of}
-use Rattle.dr_flash.specs.Checks.{is_stop}
-use Rattle.dr_flash.specs.Here.{world_seen, armed_in}
-use Rattle.dr_flash.proofs.CopyLemmas.{wider-armed, volume-there}
+use Rattle.dr_moves.specs.Checks.{is_stop}
+use Rattle.dr_moves.specs.Here.{world_seen, armed_in}
+use Rattle.dr_moves.proofs.KeptLemmas.{wider-armed}
+use Rattle.dr_flash.proofs.CopyLemmas.{volume-there}
 use Rattle.dr_facts.proofs.Ends.{ends-wider}
-use Rattle.dr_flash.proofs.TurnLemmas.{refused-by}
+use Rattle.dr_moves.proofs.TurnLemmas.{refused-by}
 use Rattle.dr_freeze.specs.Changes.{change_on}
 use Rattle.dr_freeze.proofs.PassLemmas.{changes_from, changes-next, changes-none, changed-below, changed-all}
 use Rattle.dr_freeze.proofs.passing.change_all.Goals as goal

@@ -4,8 +4,8 @@ use Rattle.dr_model.specs.Control.{World}
 use Rattle.dr_model.specs.Carry.{Entry}
 use Rattle.dr_model.specs.ReadStops.{Ends}
 use Rattle.dr_volume.specs.View.{Rest, ids_of}
-use Rattle.dr_flash.specs.Fit.{RelationsFit}
-use Rattle.dr_flash.specs.Here.{world_seen, IsAtRest}
+use Rattle.dr_moves.specs.Fit.{RelationsFit}
+use Rattle.dr_moves.specs.Here.{world_seen, IsAtRest}
 use Rattle.dr_freeze.specs.Between.{StillBetween}
 use Rattle.dr_freeze.specs.Changes.{change_on}
 use Rattle.dr_freeze.proofs.PassLemmas.{changes_from, ChangedBelow}

@@ -2,9 +2,9 @@ use Rattle.std.proofs.Common.{sym, ◌∙◌, Some}
 use Rattle.dr_config.specs.Table.{link_up}
 use Rattle.dr_model.specs.PairEntries.{are_linked, link_down}
 use Rattle.dr_volume.specs.View.{volume_seen}
-use Rattle.dr_flash.specs.Here.{world_seen}
+use Rattle.dr_moves.specs.Here.{world_seen}
 use Rattle.dr_facts.proofs.Ends.{ends-passed}
-use Rattle.dr_flash.proofs.CheckLemmas.{refuses}
+use Rattle.dr_moves.proofs.EntryLemmas.{refuses}
 use Rattle.dr_gcopy.proofs.checks.contact_refusal.Goals as goal
 
 pub returns-in-Some-clause-checked : goal.returns-in-Some-clause-checked

@@ -4,9 +4,9 @@ use Rattle.dr_model.specs.Layout.{Fields, is_part}
 use Rattle.dr_model.specs.Entries.{pair_state}
 use Rattle.dr_model.specs.PairEntries.{stands_free, may_follow}
 use Rattle.dr_model.specs.Pairs.{is_unpaired}
-use Rattle.dr_flash.specs.Here.{world_seen}
+use Rattle.dr_moves.specs.Here.{world_seen}
 use Rattle.dr_facts.proofs.Ends.{ends-passed}
-use Rattle.dr_flash.proofs.CheckLemmas.{refuses}
+use Rattle.dr_moves.proofs.EntryLemmas.{refuses}
 use Rattle.dr_gcopy.proofs.checks.free_refusal.Goals as goal
 
 pub returns-then-not-is_unpaired-clause-checked : goal.returns-then-not-is_unpaired-clause-checked

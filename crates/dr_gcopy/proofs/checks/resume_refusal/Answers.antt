@@ -4,9 +4,9 @@ use Rattle.dr_ids.specs.declared.refusal.Refusal.{Refusal}
 use Rattle.dr_model.specs.Entries.{pair_state}
 use Rattle.dr_model.specs.PairEntries.{reach_refusal, belongs_to}
 use Rattle.dr_model.specs.Pairs.{is_secondary_of}
-use Rattle.dr_flash.specs.Here.{world_seen}
+use Rattle.dr_moves.specs.Here.{world_seen}
 use Rattle.dr_facts.proofs.Ends.{ends-passed}
-use Rattle.dr_flash.proofs.CheckLemmas.{refuses, ends-clear, ends-why}
+use Rattle.dr_moves.proofs.EntryLemmas.{refuses, ends-clear, ends-why}
 use Rattle.dr_gcopy.proofs.checks.resume_refusal.Goals as goal
 
 pub returns-in-Some-clause-checked : goal.returns-in-Some-clause-checked

@@ -2,9 +2,9 @@ use Rattle.std.proofs.Common.{ap, sym, ◌∙◌, Some}
 use Rattle.dr_model.specs.Entries.{is_running}
 use Rattle.dr_model.specs.Refusals.{server_off}
 use Rattle.dr_volume.specs.View.{on_seen, volume_seen}
-use Rattle.dr_flash.specs.Here.{world_seen}
+use Rattle.dr_moves.specs.Here.{world_seen}
 use Rattle.dr_facts.proofs.Ends.{ends-passed}
-use Rattle.dr_flash.proofs.CheckLemmas.{refuses}
+use Rattle.dr_moves.proofs.EntryLemmas.{refuses}
 use Rattle.dr_gcopy.proofs.checks.running_refusal.Goals as goal
 use Rattle.dr_volume.proofs.WorldLaws.{on-seen}
 

@@ -3,9 +3,10 @@ use Rattle.dr_ids.specs.declared.refusal.Which.TheVariants.{Size, Server as OneS
 use Rattle.dr_model.specs.Entries.{share_size}
 use Rattle.dr_model.specs.PairEntries.{two_servers}
 use Rattle.dr_model.specs.Refusals.{over}
-use Rattle.dr_flash.specs.Here.{world_seen}
+use Rattle.dr_moves.specs.Here.{world_seen}
 use Rattle.dr_facts.proofs.Ends.{ends-passed}
-use Rattle.dr_flash.proofs.CheckLemmas.{refuses, same-test, differ-test}
+use Rattle.dr_moves.proofs.EntryLemmas.{refuses}
+use Rattle.dr_flash.proofs.CheckLemmas.{same-test, differ-test}
 use Rattle.dr_gcopy.proofs.checks.unlike_refusal.Goals as goal
 
 pub returns-then-server_of-clause-checked : goal.returns-then-server_of-clause-checked

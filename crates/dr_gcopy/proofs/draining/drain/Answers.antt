@@ -4,8 +4,8 @@ use Rattle.dr_model.specs.Carry.{Entry}
 use Rattle.dr_model.specs.PairEntries.{sends, suspend_after, tracks_to_send}
 use Rattle.dr_model.specs.Relations.{in_order}
 use Rattle.dr_volume.specs.View.{Rest, ids_of}
-use Rattle.dr_flash.specs.Here.{world_seen, armed_in, refusal_of}
-use Rattle.dr_flash.specs.Turns.{Leads}
+use Rattle.dr_moves.specs.Here.{world_seen, armed_in, refusal_of}
+use Rattle.dr_moves.specs.Turns.{Leads}
 use Rattle.dr_gcopy.specs.Followed.{EndsFollowed, FailsFollowed}
 use Rattle.dr_gcopy.proofs.draining.drain.Goals as goal
 

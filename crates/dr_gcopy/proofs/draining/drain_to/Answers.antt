@@ -4,10 +4,11 @@ use Rattle.dr_model.specs.Layout.{Fields, is_part}
 use Rattle.dr_model.specs.PairEntries.{send_entries, sends, suspend_after, tracks_to_send}
 use Rattle.dr_model.specs.Relations.{in_order}
 use Rattle.dr_volume.specs.View.{ids_of}
-use Rattle.dr_flash.specs.Here.{world_seen, armed_in, refusal_of}
-use Rattle.dr_flash.specs.Turns.{Leads}
-use Rattle.dr_flash.proofs.CopyLemmas.{led, wider-armed}
-use Rattle.dr_flash.proofs.TurnLemmas.{refused-by}
+use Rattle.dr_moves.specs.Here.{world_seen, armed_in, refusal_of}
+use Rattle.dr_moves.specs.Turns.{Leads}
+use Rattle.dr_moves.proofs.EntryLemmas.{led}
+use Rattle.dr_moves.proofs.KeptLemmas.{wider-armed}
+use Rattle.dr_moves.proofs.TurnLemmas.{refused-by}
 use Rattle.dr_gcopy.specs.Followed.{FailsFollowed}
 use Rattle.dr_gcopy.proofs.SendLemmas.{failed-wider, ends-followed}
 use Rattle.dr_gcopy.proofs.DrainLemmas.{sent-next, sent-failed, all-sent, end-sent, count-sent, next-sent, within-next, in_order-next, first-some, first-none, take-next, drop-next, more-next}

@@ -3,9 +3,9 @@ use Rattle.dr_model.specs.Layout.{is_part}
 use Rattle.dr_model.specs.PairEntries.{sends}
 use Rattle.dr_model.specs.Relations.{in_order}
 use Rattle.dr_volume.specs.View.{Rest, volume_seen, ids_of}
-use Rattle.dr_flash.specs.Fit.{RelationsFit}
-use Rattle.dr_flash.specs.Here.{world_seen, IsAtRest}
-use Rattle.dr_flash.specs.Turns.{Leads}
+use Rattle.dr_moves.specs.Fit.{RelationsFit}
+use Rattle.dr_moves.specs.Here.{world_seen, IsAtRest}
+use Rattle.dr_moves.specs.Turns.{Leads}
 use Rattle.dr_gcopy.proofs.DrainLemmas.{Within}
 use Rattle.dr_gcopy.proofs.draining.drain_to.Given as goal
 

@@ -3,9 +3,9 @@ use Rattle.dr_model.specs.Moves.{DropSecondary}
 use Rattle.dr_model.specs.PairEntries.{let_go}
 use Rattle.dr_model.specs.Pairs.{is_secondary_of}
 use Rattle.dr_model.specs.Carry.{Make, Do, Pass, now}
-use Rattle.dr_flash.specs.Here.{world_seen, armed_in, refusal_of}
-use Rattle.dr_flash.proofs.KeepLemmas.{skips, alike-advances, alike-halts}
-use Rattle.dr_flash.proofs.TurnLemmas.{ok-along, err-along}
+use Rattle.dr_moves.specs.Here.{world_seen, armed_in, refusal_of}
+use Rattle.dr_moves.proofs.EntryLemmas.{skips, alike-advances, alike-halts}
+use Rattle.dr_moves.proofs.TurnLemmas.{ok-along, err-along}
 use Rattle.dr_gcopy.proofs.ending.let_go.Goals as goal
 
 pub returns-then-not-is_secondary_of-clause-advances : goal.returns-then-not-is_secondary_of-clause-advances

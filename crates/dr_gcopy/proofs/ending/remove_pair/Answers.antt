@@ -3,8 +3,8 @@ use Rattle.dr_model.specs.Carry.{now}
 use Rattle.dr_model.specs.Moves.{DropPrimary}
 use Rattle.dr_model.specs.PairEntries.{let_go, remove_entries}
 use Rattle.dr_model.specs.ReadStops.{Ends}
-use Rattle.dr_flash.specs.Here.{world_seen, armed_in, refusal_of}
-use Rattle.dr_flash.proofs.CheckLemmas.{act-ends, counted-stop, only-stops}
+use Rattle.dr_moves.specs.Here.{world_seen, armed_in, refusal_of}
+use Rattle.dr_moves.proofs.EntryLemmas.{act-ends, counted-stop, only-stops}
 use Rattle.dr_gcopy.proofs.PairChecks.{unless-stopped, counted-stops}
 use Rattle.dr_gcopy.proofs.TwoMoves.{ends-by}
 use Rattle.dr_gcopy.proofs.ending.remove_pair.Goals as goal

@@ -2,8 +2,8 @@ use Rattle.std.proofs.Common.{sym, subst, Some}
 use Rattle.dr_logic.specs.Counts.{Counted}
 use Rattle.dr_ids.specs.declared.refusal.Refusal.{Refusal}
 use Rattle.dr_model.specs.PairEntries.{suspend_after}
-use Rattle.dr_flash.specs.Checks.{is_stop}
-use Rattle.dr_flash.specs.Here.{world_seen, armed_in}
+use Rattle.dr_moves.specs.Checks.{is_stop}
+use Rattle.dr_moves.specs.Here.{world_seen, armed_in}
 use Rattle.dr_gcopy.specs.Followed.{Follows}
 use Rattle.dr_gcopy.proofs.following.follow_stop.Goals as goal
 

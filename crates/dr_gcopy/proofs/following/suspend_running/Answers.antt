@@ -4,7 +4,7 @@ use Rattle.dr_model.specs.Layout.{Fields, is_part}
 use Rattle.dr_model.specs.Moves.{Suspend}
 use Rattle.dr_model.specs.PairEntries.{suspend_running}
 use Rattle.dr_volume.specs.View.{on_seen}
-use Rattle.dr_flash.specs.Here.{world_seen, armed_in, refusal_of}
+use Rattle.dr_moves.specs.Here.{world_seen, armed_in, refusal_of}
 use Rattle.dr_facts.proofs.Ends.{ends-alike}
 use Rattle.dr_gcopy.proofs.SendLemmas.{follows-absent, follows-off, follows-on, nothing-follows}
 use Rattle.dr_gcopy.proofs.following.suspend_running.Goals as goal

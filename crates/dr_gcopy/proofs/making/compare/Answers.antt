@@ -4,12 +4,12 @@ use Rattle.dr_ids.specs.declared.refusal.Refusal.TheVariants.{NotIdentical}
 use Rattle.dr_model.specs.Log.{Log}
 use Rattle.dr_model.specs.PairEntries.{refuse_if, differs_at}
 use Rattle.dr_model.specs.ReadStops.{Ends}
-use Rattle.dr_flash.specs.Here.{world_seen, armed_in}
+use Rattle.dr_moves.specs.Here.{world_seen, armed_in}
 use Rattle.dr_facts.proofs.Ends.{ends-off}
-use Rattle.dr_flash.proofs.TurnLemmas.{refused-by}
+use Rattle.dr_moves.proofs.TurnLemmas.{refused-by}
 use Rattle.dr_gcopy.specs.Steps.{difference_seen}
 use Rattle.dr_gcopy.proofs.making.compare.Goals as goal
-use Rattle.dr_flash.proofs.CheckLemmas.{ends-clear, ends-why}
+use Rattle.dr_moves.proofs.EntryLemmas.{ends-clear, ends-why}
 use Rattle.dr_logic.proofs.Results.{err-always}
 
 pub returns-then-full-clause-leads : goal.returns-then-full-clause-leads

@@ -6,9 +6,9 @@ use Rattle.dr_model.specs.PairEntries.{refuse_if, differs_at}
 use Rattle.dr_model.specs.Pairs.{first_state}
 use Rattle.dr_model.specs.ReadStops.{Ends}
 use Rattle.dr_volume.specs.Update.{IsAsBefore}
-use Rattle.dr_flash.specs.Checks.{is_stop}
-use Rattle.dr_flash.specs.Here.{world_seen, armed_in, refusal_of}
-use Rattle.dr_flash.proofs.TurnLemmas.{refused-by}
+use Rattle.dr_moves.specs.Checks.{is_stop}
+use Rattle.dr_moves.specs.Here.{world_seen, armed_in, refusal_of}
+use Rattle.dr_moves.proofs.TurnLemmas.{refused-by}
 use Rattle.dr_gcopy.specs.Kinds.{part_of}
 use Rattle.dr_gcopy.specs.Steps.{make_moves, difference_seen}
 use Rattle.dr_gcopy.proofs.PairChecks.{unless-stopped, counted-stops}

@@ -6,12 +6,12 @@ use Rattle.dr_model.specs.Pairs.{no_primary}
 use Rattle.dr_gcopy.proofs.PairLemmas.{pair-fits, tells-drop_primary}
 use Rattle.dr_volume.specs.Plain.{plain}
 use Rattle.dr_volume.specs.View.{volume_seen}
-use Rattle.dr_flash.specs.Here.{world_seen, armed_in, refusal_of}
-use Rattle.dr_flash.specs.Told.{events_of}
-use Rattle.dr_flash.specs.declared.told.Telling.{Telling}
-use Rattle.dr_flash.proofs.ReadLemmas.{on-running}
-use Rattle.dr_flash.proofs.TurnLemmas.{Tells, advances, halts, ok-along, err-along}
-use Rattle.dr_flash.proofs.MoveLemmas.{MoveFits}
+use Rattle.dr_moves.specs.Here.{world_seen, armed_in, refusal_of}
+use Rattle.dr_moves.specs.Told.{events_of}
+use Rattle.dr_moves.specs.declared.told.Telling.{Telling}
+use Rattle.dr_moves.proofs.ReadLemmas.{on-running}
+use Rattle.dr_moves.proofs.TurnLemmas.{Tells, advances, halts, ok-along, err-along}
+use Rattle.dr_moves.proofs.MoveFits.{MoveFits}
 use Rattle.dr_gcopy.proofs.moves.drop_primary.Goals as goal
 use Rattle.dr_facts.proofs.Lawful.{lawful-no_primary}
 

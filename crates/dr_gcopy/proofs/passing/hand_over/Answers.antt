@@ -4,18 +4,19 @@ use Rattle.dr_model.specs.Entries.{copy_first}
 use Rattle.dr_model.specs.Layout.{is_part}
 use Rattle.dr_model.specs.Pairs.{is_last, received, struck}
 use Rattle.dr_volume.specs.View.{ids_of}
-use Rattle.dr_flash.specs.Checks.{is_stop}
-use Rattle.dr_flash.specs.Here.{world_seen, armed_in, refusal_of}
-use Rattle.dr_flash.specs.Turns.{Fails}
-use Rattle.dr_flash.proofs.CopyLemmas.{no-own, before-then, wider-armed}
-use Rattle.dr_flash.proofs.TurnLemmas.{refused-by, ok-along, err-along}
+use Rattle.dr_moves.specs.Checks.{is_stop}
+use Rattle.dr_moves.specs.Here.{world_seen, armed_in, refusal_of}
+use Rattle.dr_moves.specs.Turns.{Fails}
+use Rattle.dr_flash.proofs.CopyLemmas.{no-own}
+use Rattle.dr_moves.proofs.KeptLemmas.{before-then, wider-armed}
+use Rattle.dr_moves.proofs.TurnLemmas.{refused-by, ok-along, err-along}
 use Rattle.dr_gcopy.specs.Sending.{exchange_entries, pass_entries}
 use Rattle.dr_gcopy.proofs.SendLemmas.{fails-wider, other-server}
 use Rattle.dr_volume.proofs.SaysLaws.{says-along}
 use Rattle.dr_gcopy.proofs.passing.hand_over.Goals as goal
 use Rattle.dr_gcopy.proofs.PairChecks.{servers-apart}
 use Rattle.dr_logic.proofs.Results.{err-always}
-use Rattle.dr_flash.proofs.LeadLemmas.{then-leads, then-fails, fails-first}
+use Rattle.dr_moves.proofs.LeadLemmas.{then-leads, then-fails, fails-first}
 
 pub copy_first-requires-clause-within : goal.copy_first-requires-clause-within
 copy_first-requires-clause-within g c =

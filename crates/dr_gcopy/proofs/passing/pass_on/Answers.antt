@@ -6,11 +6,11 @@ use Rattle.dr_model.specs.Entries.{copies_from}
 use Rattle.dr_model.specs.ReadStops.{GoesOff}
 use Rattle.dr_volume.specs.Update.{IsAsBefore}
 use Rattle.dr_volume.specs.View.{Rest, volume_seen, ids_of}
-use Rattle.dr_flash.specs.Here.{world_seen, armed_in, refusal_of}
-use Rattle.dr_flash.specs.Turns.{Leads, Fails}
+use Rattle.dr_moves.specs.Here.{world_seen, armed_in, refusal_of}
+use Rattle.dr_moves.specs.Turns.{Leads, Fails}
 use Rattle.dr_facts.proofs.Ends.{ends-off}
-use Rattle.dr_flash.proofs.FitLemmas.{fit-same}
-use Rattle.dr_flash.proofs.TurnLemmas.{refused-by}
+use Rattle.dr_moves.proofs.FitLemmas.{fit-same}
+use Rattle.dr_moves.proofs.TurnLemmas.{refused-by}
 use Rattle.dr_gcopy.specs.Sending.{pass_entries}
 use Rattle.dr_gcopy.proofs.passing.pass_on.Goals as goal
 use Rattle.dr_logic.proofs.Results.{err-always}

@@ -5,13 +5,13 @@ use Rattle.dr_model.specs.Layout.{is_part}
 use Rattle.dr_model.specs.Moves.{Store, Strike}
 use Rattle.dr_model.specs.PairEntries.{store_on, strike_on}
 use Rattle.dr_model.specs.Pairs.{is_last, received, struck}
-use Rattle.dr_flash.specs.Checks.{is_stop}
-use Rattle.dr_flash.specs.Here.{world_seen, armed_in, refusal_of}
-use Rattle.dr_flash.specs.Turns.{Halts}
+use Rattle.dr_moves.specs.Checks.{is_stop}
+use Rattle.dr_moves.specs.Here.{world_seen, armed_in, refusal_of}
+use Rattle.dr_moves.specs.Turns.{Halts}
 use Rattle.dr_volume.specs.View.{volume_seen}
-use Rattle.dr_flash.proofs.CopyLemmas.{before-then, wider-armed}
-use Rattle.dr_flash.proofs.KeepLemmas.{alike-advances, alike-halts}
-use Rattle.dr_flash.proofs.TurnLemmas.{refused-by, ok-along, err-along}
+use Rattle.dr_moves.proofs.KeptLemmas.{before-then, wider-armed}
+use Rattle.dr_moves.proofs.EntryLemmas.{alike-advances, alike-halts}
+use Rattle.dr_moves.proofs.TurnLemmas.{refused-by, ok-along, err-along}
 use Rattle.dr_gcopy.proofs.SendLemmas.{fails-wider}
 use Rattle.dr_volume.proofs.SaysLaws.{says-along}
 use Rattle.dr_gcopy.proofs.passing.pass_track.Goals as goal

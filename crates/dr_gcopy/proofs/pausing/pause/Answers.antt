@@ -2,7 +2,7 @@ use Rattle.std.proofs.Common.{false, [], ◌∷◌}
 use Rattle.dr_model.specs.Carry.{now}
 use Rattle.dr_model.specs.Moves.{Suspend}
 use Rattle.dr_model.specs.PairEntries.{tell_paused}
-use Rattle.dr_flash.specs.Here.{world_seen, armed_in, refusal_of}
+use Rattle.dr_moves.specs.Here.{world_seen, armed_in, refusal_of}
 use Rattle.dr_gcopy.proofs.PairChecks.{unless-stopped, counted-stops}
 use Rattle.dr_gcopy.proofs.TwoMoves.{ends-by}
 use Rattle.dr_gcopy.proofs.pausing.pause.Goals as goal

@@ -2,7 +2,7 @@ use Rattle.std.proofs.Common.{subst, Some, [], ◌∷◌}
 use Rattle.dr_model.specs.declared.state.Part.{Part}
 use Rattle.dr_model.specs.PairEntries.{follow_on, resume_on, resume_entries}
 use Rattle.dr_model.specs.ReadStops.{Ends}
-use Rattle.dr_flash.specs.Here.{world_seen, armed_in, refusal_of}
+use Rattle.dr_moves.specs.Here.{world_seen, armed_in, refusal_of}
 use Rattle.dr_gcopy.proofs.PairChecks.{unless-stopped, counted-stops}
 use Rattle.dr_gcopy.proofs.TwoMoves.{ends-by}
 use Rattle.dr_gcopy.proofs.pausing.resume.Goals as goal

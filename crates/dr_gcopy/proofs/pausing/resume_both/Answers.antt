@@ -4,10 +4,10 @@ use Rattle.dr_logic.specs.Counts.{Counted}
 use Rattle.dr_model.specs.Layout.{is_part}
 use Rattle.dr_model.specs.PairEntries.{follow_on, resume_on}
 use Rattle.dr_model.specs.ReadStops.{Ends}
-use Rattle.dr_flash.specs.Checks.{is_stop}
-use Rattle.dr_flash.specs.Here.{world_seen, armed_in, refusal_of}
-use Rattle.dr_flash.proofs.CopyLemmas.{before-then}
-use Rattle.dr_flash.proofs.TurnLemmas.{refused-by, ok-along, err-along}
+use Rattle.dr_moves.specs.Checks.{is_stop}
+use Rattle.dr_moves.specs.Here.{world_seen, armed_in, refusal_of}
+use Rattle.dr_moves.proofs.KeptLemmas.{before-then}
+use Rattle.dr_moves.proofs.TurnLemmas.{refused-by, ok-along, err-along}
 use Rattle.dr_gcopy.proofs.TwoMoves.{two-lead, second-fails, still-running}
 use Rattle.dr_gcopy.proofs.pausing.resume_both.Goals as goal
 use Rattle.dr_logic.proofs.Results.{err-always}

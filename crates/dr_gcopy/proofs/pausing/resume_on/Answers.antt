@@ -5,9 +5,9 @@ use Rattle.dr_model.specs.Moves.{Resume}
 use Rattle.dr_model.specs.PairEntries.{resume_on}
 use Rattle.dr_model.specs.Pairs.{next_state}
 use Rattle.dr_model.specs.Carry.{Make, Do, now}
-use Rattle.dr_flash.specs.Here.{world_seen, armed_in, refusal_of}
-use Rattle.dr_flash.proofs.KeepLemmas.{alike-advances, alike-halts}
-use Rattle.dr_flash.proofs.TurnLemmas.{ok-along, err-along}
+use Rattle.dr_moves.specs.Here.{world_seen, armed_in, refusal_of}
+use Rattle.dr_moves.proofs.EntryLemmas.{alike-advances, alike-halts}
+use Rattle.dr_moves.proofs.TurnLemmas.{ok-along, err-along}
 use Rattle.dr_gcopy.proofs.pausing.resume_on.Goals as goal
 
 pub returns-clause-advances : goal.returns-clause-advances

@@ -5,9 +5,9 @@ use Rattle.dr_model.specs.Moves.{Follow}
 use Rattle.dr_model.specs.PairEntries.{tell_paused, belongs_to}
 use Rattle.dr_model.specs.Pairs.{is_secondary_of}
 use Rattle.dr_model.specs.Carry.{Make, Do, Pass, now}
-use Rattle.dr_flash.specs.Here.{world_seen, armed_in, refusal_of}
-use Rattle.dr_flash.proofs.KeepLemmas.{skips, alike-advances, alike-halts}
-use Rattle.dr_flash.proofs.TurnLemmas.{ok-along, err-along}
+use Rattle.dr_moves.specs.Here.{world_seen, armed_in, refusal_of}
+use Rattle.dr_moves.proofs.EntryLemmas.{skips, alike-advances, alike-halts}
+use Rattle.dr_moves.proofs.TurnLemmas.{ok-along, err-along}
 use Rattle.dr_gcopy.proofs.pausing.tell_paused.Goals as goal
 
 pub returns-in-Some-clause-advances : goal.returns-in-Some-clause-advances

@@ -1,6 +1,6 @@
 use Rattle.std.proofs.Common.{ap, sym, ◌∙◌, subst, true, ◌≡◌}
 use Rattle.dr_volume.specs.View.{volume_seen}
-use Rattle.dr_flash.specs.Checks.{OnNone, is_stop}
+use Rattle.dr_moves.specs.Checks.{OnNone, is_stop}
 use Rattle.dr_gcopy.proofs.ReachLemmas.{reach-is, reach-calm, reach-running}
 use Rattle.dr_gcopy.proofs.reach.reach_refusal.Goals as goal
 

@@ -1,7 +1,7 @@
 use Rattle.std.proofs.Common.{ap, sym, ◌∙◌, None, Some}
 use Rattle.dr_ids.specs.declared.refusal.Refusal.{Refusal}
 use Rattle.dr_model.specs.Entries.{stands_in, is_revertible, relation_state}
-use Rattle.dr_flash.specs.Here.{world_seen}
+use Rattle.dr_moves.specs.Here.{world_seen}
 use Rattle.dr_gcopy.proofs.SendLemmas.{pick-true, pick-false}
 use Rattle.dr_gcopy.proofs.receiving.flashed_refusal.Goals as goal
 

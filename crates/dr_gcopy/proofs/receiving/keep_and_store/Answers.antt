@@ -7,14 +7,15 @@ use Rattle.dr_model.specs.Layout.{is_part}
 use Rattle.dr_model.specs.Moves.{Store}
 use Rattle.dr_model.specs.Refusals.{stopped}
 use Rattle.dr_volume.specs.View.{ids_of}
-use Rattle.dr_flash.specs.Here.{world_seen, armed_in, refusal_of}
-use Rattle.dr_flash.specs.Turns.{Fails}
-use Rattle.dr_flash.proofs.CopyLemmas.{no-own, before-then, wider-armed}
-use Rattle.dr_flash.proofs.TurnLemmas.{refused-by, ok-along, err-along}
+use Rattle.dr_moves.specs.Here.{world_seen, armed_in, refusal_of}
+use Rattle.dr_moves.specs.Turns.{Fails}
+use Rattle.dr_flash.proofs.CopyLemmas.{no-own}
+use Rattle.dr_moves.proofs.KeptLemmas.{before-then, wider-armed}
+use Rattle.dr_moves.proofs.TurnLemmas.{refused-by, ok-along, err-along}
 use Rattle.dr_gcopy.proofs.SendLemmas.{fails-wider, other-server}
 use Rattle.dr_gcopy.proofs.receiving.keep_and_store.Goals as goal
 use Rattle.dr_logic.proofs.Results.{err-always}
-use Rattle.dr_flash.proofs.LeadLemmas.{then-leads, then-fails, fails-first}
+use Rattle.dr_moves.proofs.LeadLemmas.{then-leads, then-fails, fails-first}
 
 pub returns-in_err-copy_first-clause-fails : goal.returns-in_err-copy_first-clause-fails
 returns-in_err-copy_first-clause-fails g c =

@@ -1,9 +1,9 @@
 use Rattle.std.proofs.Common.{sym, Some}
 use Rattle.dr_model.specs.PairEntries.{flashed_refusal}
 use Rattle.dr_volume.specs.View.{ids_of}
-use Rattle.dr_flash.specs.Here.{world_seen, armed_in, refusal_of}
-use Rattle.dr_flash.proofs.CheckLemmas.{counted-stop, only-stops}
-use Rattle.dr_flash.proofs.TurnLemmas.{ok-along, err-along}
+use Rattle.dr_moves.specs.Here.{world_seen, armed_in, refusal_of}
+use Rattle.dr_moves.proofs.EntryLemmas.{counted-stop, only-stops}
+use Rattle.dr_moves.proofs.TurnLemmas.{ok-along, err-along}
 use Rattle.dr_gcopy.specs.Sending.{stranger_refusal, receive_entries}
 use Rattle.dr_gcopy.proofs.SendLemmas.{ends-by, refuse-passes, refuse-ends}
 use Rattle.dr_gcopy.proofs.receiving.receive_track.Goals as goal

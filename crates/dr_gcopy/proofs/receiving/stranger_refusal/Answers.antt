@@ -4,7 +4,7 @@ use Rattle.dr_model.specs.Entries.{pair_state}
 use Rattle.dr_model.specs.PairEntries.{belongs_to}
 use Rattle.dr_model.specs.Layout.{is_part}
 use Rattle.dr_volume.specs.declared.head.Head.{Head}
-use Rattle.dr_flash.specs.Here.{world_seen}
+use Rattle.dr_moves.specs.Here.{world_seen}
 use Rattle.dr_gcopy.proofs.SendLemmas.{pick-false}
 use Rattle.dr_gcopy.proofs.receiving.stranger_refusal.Goals as goal
 

@@ -3,8 +3,8 @@ use Rattle.std.specs.Prelude.{if◌then◌else◌}
 use Rattle.dr_model.specs.Carry.{now}
 use Rattle.dr_model.specs.Moves.{Suspend}
 use Rattle.dr_model.specs.PairEntries.{send_refusal, suspend_where, refuse_if}
-use Rattle.dr_flash.specs.Here.{world_seen, armed_in}
-use Rattle.dr_flash.proofs.KeepLemmas.{alike-advances, alike-halts}
+use Rattle.dr_moves.specs.Here.{world_seen, armed_in}
+use Rattle.dr_moves.proofs.EntryLemmas.{alike-advances, alike-halts}
 use Rattle.dr_gcopy.proofs.SendLemmas.{suspends, refuse-ends, same-refusal, same-server}
 use Rattle.dr_gcopy.proofs.sending.refuse.Goals as goal
 

@@ -1,9 +1,9 @@
 use Rattle.std.proofs.Common.{◌∷◌, ◌++◌, sym, Some}
 use Rattle.dr_model.specs.PairEntries.{send_refusal, suspend_where, refuse_if, flashed_refusal}
 use Rattle.dr_volume.specs.View.{ids_of}
-use Rattle.dr_flash.specs.Here.{world_seen, armed_in, refusal_of}
+use Rattle.dr_moves.specs.Here.{world_seen, armed_in, refusal_of}
 use Rattle.dr_facts.proofs.Ends.{ends-skips}
-use Rattle.dr_flash.proofs.TurnLemmas.{ok-along, err-along}
+use Rattle.dr_moves.proofs.TurnLemmas.{ok-along, err-along}
 use Rattle.dr_gcopy.specs.Sending.{pass_entries}
 use Rattle.dr_gcopy.proofs.SendLemmas.{suspends-none, refuse-passes, refuse-ends, counted-stops}
 use Rattle.dr_gcopy.proofs.sending.send_on.Goals as goal

@@ -2,7 +2,7 @@ use Rattle.std.proofs.Common.{[], Option, ap, sym, ◌∙◌}
 use Rattle.std.specs.Option.{option_or}
 use Rattle.dr_ids.specs.declared.refusal.Refusal.{Refusal}
 use Rattle.dr_volume.specs.View.{Rest, volume_seen}
-use Rattle.dr_flash.specs.Here.{world_seen}
+use Rattle.dr_moves.specs.Here.{world_seen}
 use Rattle.dr_gcopy.specs.Sending.{stranger_refusal}
 use Rattle.dr_gcopy.proofs.SendLemmas.{on-of-seen, reached-on}
 use Rattle.dr_gcopy.proofs.sending.send_refusal.Goals as goal

@@ -1,8 +1,9 @@
 use Rattle.std.proofs.Common.{refl, Some}
 use Rattle.dr_model.specs.PairEntries.{send_entries, suspend_after}
 use Rattle.dr_volume.specs.View.{ids_of}
-use Rattle.dr_flash.specs.Here.{world_seen, armed_in}
-use Rattle.dr_flash.proofs.CopyLemmas.{led, failed, before-then, wider-armed}
+use Rattle.dr_moves.specs.Here.{world_seen, armed_in}
+use Rattle.dr_moves.proofs.EntryLemmas.{led, failed}
+use Rattle.dr_moves.proofs.KeptLemmas.{before-then, wider-armed}
 use Rattle.dr_gcopy.proofs.SendLemmas.{follows-wider}
 use Rattle.dr_gcopy.proofs.sending.send_to.Goals as goal
 

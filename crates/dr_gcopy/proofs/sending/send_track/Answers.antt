@@ -6,8 +6,8 @@ use Rattle.dr_model.specs.PairEntries.{send_entries, suspend_after}
 use Rattle.dr_model.specs.Pairs.{is_last, received}
 use Rattle.dr_volume.specs.Update.{IsAsBefore}
 use Rattle.dr_volume.specs.View.{Rest, volume_seen, ids_of}
-use Rattle.dr_flash.specs.Here.{world_seen, armed_in, refusal_of}
-use Rattle.dr_flash.specs.Turns.{Leads}
+use Rattle.dr_moves.specs.Here.{world_seen, armed_in, refusal_of}
+use Rattle.dr_moves.specs.Turns.{Leads}
 use Rattle.dr_gcopy.specs.Followed.{EndsFollowed, FailsFollowed}
 use Rattle.dr_gcopy.proofs.sending.send_track.Goals as goal
 

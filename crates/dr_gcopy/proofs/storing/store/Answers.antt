@@ -6,11 +6,11 @@ use Rattle.dr_model.specs.Moves.{Store}
 use Rattle.dr_model.specs.Pairs.{received}
 use Rattle.dr_volume.specs.Plain.{plain}
 use Rattle.dr_volume.specs.View.{volume_seen}
-use Rattle.dr_flash.specs.Here.{world_seen, armed_in, refusal_of}
-use Rattle.dr_flash.proofs.CheckLemmas.{act-ends}
-use Rattle.dr_flash.proofs.ReadLemmas.{on-running}
-use Rattle.dr_flash.proofs.TurnLemmas.{Tells, advances, halts, ok-along, err-along}
-use Rattle.dr_flash.proofs.MoveLemmas.{MoveFits}
+use Rattle.dr_moves.specs.Here.{world_seen, armed_in, refusal_of}
+use Rattle.dr_moves.proofs.EntryLemmas.{act-ends}
+use Rattle.dr_moves.proofs.ReadLemmas.{on-running}
+use Rattle.dr_moves.proofs.TurnLemmas.{Tells, advances, halts, ok-along, err-along}
+use Rattle.dr_moves.proofs.MoveFits.{MoveFits}
 use Rattle.dr_gcopy.proofs.SendMoves.{store-fits, tells-store}
 use Rattle.dr_gcopy.proofs.storing.store.Goals as goal
 

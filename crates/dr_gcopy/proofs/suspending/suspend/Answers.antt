@@ -6,13 +6,13 @@ use Rattle.dr_model.specs.Moves.{Suspend}
 use Rattle.dr_model.specs.Pairs.{suspended}
 use Rattle.dr_volume.specs.Plain.{plain}
 use Rattle.dr_volume.specs.View.{volume_seen}
-use Rattle.dr_flash.specs.Here.{world_seen, armed_in, refusal_of}
-use Rattle.dr_flash.proofs.CheckLemmas.{act-ends}
-use Rattle.dr_flash.proofs.ReadLemmas.{on-running}
-use Rattle.dr_flash.proofs.TurnLemmas.{Tells, advances, halts, ok-along, err-along}
-use Rattle.dr_flash.proofs.MoveLemmas.{MoveFits}
+use Rattle.dr_moves.specs.Here.{world_seen, armed_in, refusal_of}
+use Rattle.dr_moves.proofs.EntryLemmas.{act-ends}
+use Rattle.dr_moves.proofs.ReadLemmas.{on-running}
+use Rattle.dr_moves.proofs.TurnLemmas.{Tells, advances, halts, ok-along, err-along}
+use Rattle.dr_moves.proofs.MoveFits.{MoveFits}
 use Rattle.dr_gcopy.proofs.SendMoves.{suspend-fits, tells-suspend, told_suspended, few-suspended, room-suspended}
-use Rattle.dr_flash.specs.declared.told.Told.{Told}
+use Rattle.dr_moves.specs.declared.told.Told.{Told}
 use Rattle.dr_gcopy.proofs.suspending.suspend.Goals as goal
 
 pub shift-requires-clause-lawful : goal.shift-requires-clause-lawful

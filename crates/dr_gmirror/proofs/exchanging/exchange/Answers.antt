@@ -6,7 +6,7 @@ use Rattle.dr_model.specs.declared.said.Said.TheVariants.{Refused}
 use Rattle.dr_model.specs.PlanParts.{Plan}
 use Rattle.dr_model.specs.Sessions.{Mirror, session_in, members_in, mirror_in}
 use Rattle.std.specs.Prelude.{Option}
-use Rattle.dr_flash.specs.Here.{world_seen, armed_in}
+use Rattle.dr_moves.specs.Here.{world_seen, armed_in}
 use Rattle.dr_gmirror.specs.Orders.{with_sessions}
 use Rattle.dr_gmirror.specs.Exchange.{PlanEnds, order_in, refusal_in, exchange_answer, IsNear}
 use Rattle.dr_gmirror.proofs.ExchangeLemmas.{refused-plan, look-none, look-some, plan-none, plan-refused, plan-order, leaves-by}

@@ -2,7 +2,7 @@ use Rattle.std.proofs.Common.{refl, None, Some}
 use Rattle.dr_master.specs.Seen.{reply_of, work_of}
 use Rattle.dr_model.specs.Sessions.{session_in, members_in, mirror_in}
 use Rattle.dr_model.specs.SessionEntries.{members_on, order_entries, reply_after}
-use Rattle.dr_flash.specs.Here.{world_seen, armed_in}
+use Rattle.dr_moves.specs.Here.{world_seen, armed_in}
 use Rattle.dr_gmirror.specs.Orders.{with_sessions}
 use Rattle.dr_gmirror.proofs.ExchangeLemmas.{silent-ends, follow-nothing, last-world, expected-by}
 use Rattle.dr_gmirror.proofs.exchanging.exchange_order.Goals as goal

@@ -3,7 +3,7 @@ use Rattle.std.specs.Option.{option_or}
 use Rattle.dr_ids.specs.declared.refusal.Refusal.{Refusal}
 use Rattle.dr_model.specs.Sessions.{session_in, members_in}
 use Rattle.dr_model.specs.SessionPlans as plans
-use Rattle.dr_flash.specs.Here.{world_seen}
+use Rattle.dr_moves.specs.Here.{world_seen}
 use Rattle.dr_gmirror.proofs.exchanging.exchange_refusal.Goals as goal
 
 pub returns-in-Some-clause-refusal : goal.returns-in-Some-clause-refusal

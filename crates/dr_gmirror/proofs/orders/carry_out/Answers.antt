@@ -5,10 +5,11 @@ use Rattle.dr_model.specs.Sessions.{session_in, members_in}
 use Rattle.dr_model.specs.Phases as phases
 use Rattle.dr_model.specs.SessionEntries.{order_entries, members_on, reply_after}
 use Rattle.dr_master.specs.Seen.{work_of, reply_of}
-use Rattle.dr_flash.specs.Here.{world_seen, armed_in}
-use Rattle.dr_flash.specs.Turns.{Leads, Fails}
-use Rattle.dr_flash.proofs.CopyLemmas.{led, failed, wider-armed}
-use Rattle.dr_flash.proofs.TurnLemmas.{refused-by}
+use Rattle.dr_moves.specs.Here.{world_seen, armed_in}
+use Rattle.dr_moves.specs.Turns.{Leads, Fails}
+use Rattle.dr_moves.proofs.EntryLemmas.{led, failed}
+use Rattle.dr_moves.proofs.KeptLemmas.{wider-armed}
+use Rattle.dr_moves.proofs.TurnLemmas.{refused-by}
 use Rattle.dr_gmirror.specs.Orders.{with_sessions, sync_seen, waits_in}
 use Rattle.dr_gmirror.proofs.OrderLemmas.{waits-kept, waits-more, member-next, member-there, member-all, report-only, still-ready, reply-is, order-next, order-fails}
 use Rattle.dr_gmirror.proofs.orders.carry_out.Goals as goal

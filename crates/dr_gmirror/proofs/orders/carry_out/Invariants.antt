@@ -3,10 +3,10 @@ use Rattle.dr_master.specs.Seen.{work_of}
 use Rattle.dr_model.specs.Sessions.{session_in, members_in}
 use Rattle.dr_model.specs.SessionEntries.{order_entries, members_on}
 use Rattle.dr_volume.specs.View.{Rest}
-use Rattle.dr_flash.specs.Fit.{RelationsFit}
-use Rattle.dr_flash.specs.Here.{world_seen, IsAtRest}
-use Rattle.dr_flash.specs.Turns.{Leads}
-use Rattle.dr_coord.specs.Aside.{AsideFits}
+use Rattle.dr_moves.specs.Fit.{RelationsFit}
+use Rattle.dr_moves.specs.Here.{world_seen, IsAtRest}
+use Rattle.dr_moves.specs.Turns.{Leads}
+use Rattle.dr_moves.specs.Aside.{AsideFits}
 use Rattle.dr_gmirror.specs.Orders.{with_sessions, to_begin, MayOrder, sync_seen, waits_in}
 use Rattle.dr_gmirror.proofs.orders.carry_out.Given as goal
 

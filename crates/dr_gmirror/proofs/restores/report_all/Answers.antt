@@ -2,7 +2,7 @@ use Rattle.std.proofs.Common.{◌≡◌, ◌≤◌, ◌++◌, length, slice_get,
 use Rattle.std.specs.Prelude.{if◌then◌else◌}
 use Rattle.dr_model.specs.Sessions.{session_in, members_in}
 use Rattle.dr_model.specs.SessionEntries.{counts_in, shown_of, shown_by_members}
-use Rattle.dr_flash.specs.Here.{world_seen}
+use Rattle.dr_moves.specs.Here.{world_seen}
 use Rattle.dr_gmirror.proofs.OrderLemmas.{member-next, member-all}
 use Rattle.dr_gmirror.proofs.ReportLemmas.{shown-one}
 use Rattle.dr_gmirror.proofs.RestoreLemmas.{all-more}

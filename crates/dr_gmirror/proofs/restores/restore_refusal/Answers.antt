@@ -2,7 +2,7 @@ use Rattle.std.proofs.Common.{ap, sym, ◌∙◌, refl, None, Some}
 use Rattle.std.proofs.lemmas.Bool.{not-true, not-false}
 use Rattle.dr_model.specs.Layout.{Fields}
 use Rattle.dr_model.specs.Plans as plans
-use Rattle.dr_flash.specs.Here.{world_seen}
+use Rattle.dr_moves.specs.Here.{world_seen}
 use Rattle.dr_gmirror.specs.Orders.{with_sessions}
 use Rattle.dr_gmirror.proofs.RestoreLemmas.{settled-plain, settled-member}
 use Rattle.dr_gmirror.proofs.restores.restore_refusal.Goals as goal

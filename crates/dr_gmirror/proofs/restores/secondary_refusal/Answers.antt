@@ -5,7 +5,7 @@ use Rattle.dr_model.specs.Entries.{is_running}
 use Rattle.dr_model.specs.Refusals.{server_off}
 use Rattle.dr_model.specs.Sessions.{session_in, members_in}
 use Rattle.dr_volume.specs.View.{on_seen, volume_seen}
-use Rattle.dr_flash.specs.Here.{world_seen}
+use Rattle.dr_moves.specs.Here.{world_seen}
 use Rattle.dr_gmirror.proofs.OrderLemmas.{member-all}
 use Rattle.dr_gmirror.proofs.RestoreLemmas.{find-hit, find-miss, one-more, below-length}
 use Rattle.dr_gmirror.proofs.restores.secondary_refusal.Goals as goal

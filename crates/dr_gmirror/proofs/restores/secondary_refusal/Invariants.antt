@@ -5,7 +5,7 @@ use Rattle.dr_model.specs.declared.event.Event.{Event}
 use Rattle.dr_model.specs.Entries.{is_running}
 use Rattle.dr_model.specs.Sessions.{session_in, members_in}
 use Rattle.dr_volume.specs.View.{Rest, volume_seen}
-use Rattle.dr_flash.specs.Here.{world_seen}
+use Rattle.dr_moves.specs.Here.{world_seen}
 use Rattle.dr_gmirror.proofs.restores.secondary_refusal.Given as goal
 
 abbrev pub invariant-loop-at : goal.invariant-loop-at

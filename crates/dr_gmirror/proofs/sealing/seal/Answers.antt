@@ -6,12 +6,10 @@ use Rattle.dr_model.specs.Relations.{is_bare}
 use Rattle.dr_model.specs.SessionEntries.{void_refusal, seal_refusal, seal_on, seal_entries}
 use Rattle.dr_laws_cuts.proofs.SealEnds.{seal-ends}
 use Rattle.dr_volume.specs.View.{Rest, volume_seen}
-use Rattle.dr_flash.specs.Here.{world_seen, armed_in}
-use Rattle.dr_flash.proofs.CopyLemmas.{led}
-use Rattle.dr_coord.proofs.ActLemmas.{one-checked}
+use Rattle.dr_moves.specs.Here.{world_seen, armed_in}
+use Rattle.dr_moves.proofs.EntryLemmas.{led, one-checked, skips}
 use Rattle.dr_gmirror.proofs.SealLemmas.{refusal-waits, seal-waits, recorded-by, unrecorded-by}
 use Rattle.dr_gmirror.proofs.sealing.seal.Goals as goal
-use Rattle.dr_flash.proofs.KeepLemmas.{skips}
 
 pub returns-in-Some-clause-fails : goal.returns-in-Some-clause-fails
 returns-in-Some-clause-fails g c r ds =

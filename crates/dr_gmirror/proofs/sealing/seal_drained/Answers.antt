@@ -3,13 +3,12 @@ use Rattle.dr_model.specs.Layout.{Fields}
 use Rattle.dr_model.specs.Moves.{Seal}
 use Rattle.dr_model.specs.SessionEntries.{seal_refusal, seal_on}
 use Rattle.dr_volume.specs.View.{volume_seen}
-use Rattle.dr_flash.specs.Here.{world_seen, armed_in, refusal_of}
-use Rattle.dr_flash.proofs.CheckLemmas.{counted-stop, only-stops, same-test, differ-test}
-use Rattle.dr_flash.proofs.TurnLemmas.{ok-along, err-along}
-use Rattle.dr_coord.proofs.ActLemmas.{move-advances, move-halts, one-checked}
+use Rattle.dr_moves.specs.Here.{world_seen, armed_in, refusal_of}
+use Rattle.dr_moves.proofs.EntryLemmas.{counted-stop, only-stops, move-advances, move-halts, one-checked, skips}
+use Rattle.dr_flash.proofs.CheckLemmas.{same-test, differ-test}
+use Rattle.dr_moves.proofs.TurnLemmas.{ok-along, err-along}
 use Rattle.dr_gmirror.proofs.SealLemmas.{refusal-drained, seal-skips, seal-comes, sync-kept}
 use Rattle.dr_gmirror.proofs.sealing.seal_drained.Goals as goal
-use Rattle.dr_flash.proofs.KeepLemmas.{skips}
 
 pub returns-in-Some-clause-fails : goal.returns-in-Some-clause-fails
 returns-in-Some-clause-fails g c r ds =

@@ -3,10 +3,10 @@ use Rattle.dr_model.specs.Phases as phases
 use Rattle.dr_model.specs.ReadStops.{Ends}
 use Rattle.dr_model.specs.Sessions.{session_in, members_in}
 use Rattle.dr_model.specs.SessionEntries.{order_entries, members_on, shown_by_members}
-use Rattle.dr_flash.specs.Here.{world_seen, armed_in}
-use Rattle.dr_flash.specs.Turns.{Leads, Fails}
-use Rattle.dr_flash.proofs.CopyLemmas.{led, failed}
-use Rattle.dr_flash.proofs.TurnLemmas.{refused-by}
+use Rattle.dr_moves.specs.Here.{world_seen, armed_in}
+use Rattle.dr_moves.specs.Turns.{Leads, Fails}
+use Rattle.dr_moves.proofs.EntryLemmas.{led, failed}
+use Rattle.dr_moves.proofs.TurnLemmas.{refused-by}
 use Rattle.dr_gmirror.proofs.OrderLemmas.{member-next, member-all, order-next, order-fails}
 use Rattle.dr_gmirror.proofs.ReportLemmas.{shown-more}
 use Rattle.dr_gmirror.proofs.settling.settle.Goals as goal

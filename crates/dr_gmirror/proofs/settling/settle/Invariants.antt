@@ -5,8 +5,8 @@ use Rattle.dr_model.specs.Phases as phases
 use Rattle.dr_model.specs.Sessions.{session_in, members_in}
 use Rattle.dr_model.specs.SessionEntries.{order_entries, members_on, shown_by_members}
 use Rattle.dr_volume.specs.View.{Rest}
-use Rattle.dr_flash.specs.Here.{world_seen}
-use Rattle.dr_flash.specs.Turns.{Leads}
+use Rattle.dr_moves.specs.Here.{world_seen}
+use Rattle.dr_moves.specs.Turns.{Leads}
 use Rattle.dr_gmirror.specs.Reports.{IsTrimmed}
 use Rattle.dr_gmirror.proofs.settling.settle.Given as goal
 

@@ -1,7 +1,7 @@
 use Rattle.std.proofs.Common.{None, Some}
 use Rattle.dr_model.specs.PairEntries.{reach_refusal}
-use Rattle.dr_flash.specs.Here.{world_seen, armed_in}
-use Rattle.dr_coord.proofs.ActLemmas.{one-checked}
+use Rattle.dr_moves.specs.Here.{world_seen, armed_in}
+use Rattle.dr_moves.proofs.EntryLemmas.{one-checked}
 use Rattle.dr_gmirror.proofs.settling.settle_member.Goals as goal
 
 pub returns-in-Some-clause-fails : goal.returns-in-Some-clause-fails

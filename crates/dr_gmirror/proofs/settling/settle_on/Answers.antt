@@ -1,10 +1,10 @@
 use Rattle.std.proofs.Common.{◌++◌, ap, sym, subst, ◌∙◌}
 use Rattle.dr_master.specs.Seen.{shown_in}
 use Rattle.dr_model.specs.Phases as phases
-use Rattle.dr_flash.specs.Here.{world_seen, armed_in, refusal_of}
-use Rattle.dr_flash.specs.Turns.{Leads, Fails}
+use Rattle.dr_moves.specs.Here.{world_seen, armed_in, refusal_of}
+use Rattle.dr_moves.specs.Turns.{Leads, Fails}
 use Rattle.dr_flash.proofs.CheckLemmas.{same-test}
-use Rattle.dr_flash.proofs.TurnLemmas.{ok-along, err-along}
+use Rattle.dr_moves.proofs.TurnLemmas.{ok-along, err-along}
 use Rattle.dr_gmirror.proofs.OrderLemmas.{entries-on}
 use Rattle.dr_gmirror.proofs.ReportLemmas.{shown-on}
 use Rattle.dr_gmirror.proofs.settling.settle_on.Goals as goal

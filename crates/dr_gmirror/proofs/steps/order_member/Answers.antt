@@ -3,9 +3,9 @@ use Rattle.dr_master.specs.Seen.{work_of}
 use Rattle.dr_master.specs.declared.orders.OrderKind.{OrderKind}
 use Rattle.dr_model.specs.PairEntries.{reach_refusal}
 use Rattle.dr_model.specs.SessionEntries.{member_entries}
-use Rattle.dr_flash.specs.Here.{world_seen, armed_in}
-use Rattle.dr_flash.specs.Turns.{Leads, Fails}
-use Rattle.dr_coord.proofs.ActLemmas.{one-checked}
+use Rattle.dr_moves.specs.Here.{world_seen, armed_in}
+use Rattle.dr_moves.specs.Turns.{Leads, Fails}
+use Rattle.dr_moves.proofs.EntryLemmas.{one-checked}
 use Rattle.dr_gmirror.specs.Orders.{with_sessions}
 use Rattle.dr_gmirror.proofs.steps.order_member.Goals as goal
 

@@ -1,8 +1,8 @@
 use Rattle.std.proofs.Common.{sym, subst, ◌∙◌}
 use Rattle.dr_master.specs.Seen.{work_of}
-use Rattle.dr_flash.specs.Here.{world_seen, armed_in, refusal_of}
-use Rattle.dr_flash.specs.Turns.{Leads, Fails}
-use Rattle.dr_flash.proofs.TurnLemmas.{ok-along, err-along}
+use Rattle.dr_moves.specs.Here.{world_seen, armed_in, refusal_of}
+use Rattle.dr_moves.specs.Turns.{Leads, Fails}
+use Rattle.dr_moves.proofs.TurnLemmas.{ok-along, err-along}
 use Rattle.dr_gmirror.specs.Orders.{with_sessions, sync_seen}
 use Rattle.dr_gmirror.proofs.OrderLemmas.{entries-on, waits-on, if-along}
 use Rattle.dr_flash.proofs.CheckLemmas.{same-test}

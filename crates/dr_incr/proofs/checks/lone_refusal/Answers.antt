@@ -4,9 +4,9 @@ use Rattle.dr_model.specs.Entries.{relation_state, pair_state}
 use Rattle.dr_model.specs.Plans.{is_lone_restore, may_return}
 use Rattle.dr_model.specs.Layout.{Fields, is_part}
 use Rattle.dr_model.specs.Pairs.{is_quiet}
-use Rattle.dr_flash.specs.Here.{world_seen}
+use Rattle.dr_moves.specs.Here.{world_seen}
 use Rattle.dr_facts.proofs.Ends.{ends-passed}
-use Rattle.dr_flash.proofs.CheckLemmas.{refuses}
+use Rattle.dr_moves.proofs.EntryLemmas.{refuses}
 use Rattle.dr_incr.proofs.checks.lone_refusal.Goals as goal
 
 -- a volume with these fields may be restored

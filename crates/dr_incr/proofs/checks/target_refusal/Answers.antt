@@ -6,9 +6,9 @@ use Rattle.dr_model.specs.Refusals.{server_off}
 use Rattle.dr_volume.specs.View.{on_seen, volume_seen}
 use Rattle.dr_volume.specs.declared.head.Head.{Head}
 use Rattle.dr_flash.specs.Heads.{targets_by}
-use Rattle.dr_flash.specs.Here.{world_seen}
+use Rattle.dr_moves.specs.Here.{world_seen}
 use Rattle.dr_facts.proofs.Ends.{ends-passed}
-use Rattle.dr_flash.proofs.CheckLemmas.{refuses, ends-clear, ends-why}
+use Rattle.dr_moves.proofs.EntryLemmas.{refuses, ends-clear, ends-why}
 use Rattle.dr_incr.proofs.checks.target_refusal.Goals as goal
 use Rattle.dr_volume.proofs.WorldLaws.{on-seen}
 

@@ -5,10 +5,10 @@ use Rattle.dr_model.specs.Lawful.{IsLawful}
 use Rattle.dr_model.specs.Moves.{Restore}
 use Rattle.dr_volume.specs.Plain.{plain}
 use Rattle.dr_volume.specs.View.{volume_seen}
-use Rattle.dr_flash.specs.Here.{world_seen, armed_in, refusal_of}
-use Rattle.dr_flash.proofs.ReadLemmas.{on-running}
-use Rattle.dr_flash.proofs.TurnLemmas.{Tells, advances, halts, ok-along, err-along}
-use Rattle.dr_flash.proofs.MoveLemmas.{MoveFits}
+use Rattle.dr_moves.specs.Here.{world_seen, armed_in, refusal_of}
+use Rattle.dr_moves.proofs.ReadLemmas.{on-running}
+use Rattle.dr_moves.proofs.TurnLemmas.{Tells, advances, halts, ok-along, err-along}
+use Rattle.dr_moves.proofs.MoveFits.{MoveFits}
 use Rattle.dr_incr.proofs.RestoreLemmas.{restore-fits, tells-restore}
 use Rattle.dr_volume.specs.Update.{IsMoved}
 use Rattle.dr_incr.proofs.CopyLaws.{moved-by}

@@ -7,10 +7,10 @@ use Rattle.dr_model.specs.Moves.{Restore}
 use Rattle.dr_model.specs.ReadStops.{GoesOff}
 use Rattle.dr_volume.specs.Update.{OthersStay, IsMoved}
 use Rattle.dr_volume.specs.View.{Rest, volume_seen}
-use Rattle.dr_flash.specs.Here.{world_seen, armed_in, refusal_of}
-use Rattle.dr_flash.specs.Turns.{Advances, Halts}
-use Rattle.dr_flash.proofs.FitLemmas.{fit-same}
-use Rattle.dr_flash.proofs.TurnLemmas.{refused-by, halts-gone, ok-along}
+use Rattle.dr_moves.specs.Here.{world_seen, armed_in, refusal_of}
+use Rattle.dr_moves.specs.Turns.{Advances, Halts}
+use Rattle.dr_moves.proofs.FitLemmas.{fit-same}
+use Rattle.dr_moves.proofs.TurnLemmas.{refused-by, halts-gone, ok-along}
 use Rattle.dr_model.specs.Pairs.{altered}
 use Rattle.dr_model.specs.Layout.{Fields}
 use Rattle.dr_incr.proofs.moves.take_back.Goals as goal

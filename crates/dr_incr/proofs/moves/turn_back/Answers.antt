@@ -5,10 +5,10 @@ use Rattle.dr_model.specs.Moves.{Reverse}
 use Rattle.dr_model.specs.Relations.{restored, turned}
 use Rattle.dr_volume.specs.Plain.{plain}
 use Rattle.dr_volume.specs.View.{volume_seen}
-use Rattle.dr_flash.specs.Here.{world_seen, armed_in, refusal_of}
-use Rattle.dr_flash.proofs.ReadLemmas.{on-running}
-use Rattle.dr_flash.proofs.TurnLemmas.{Tells, advances, halts, ok-along, err-along}
-use Rattle.dr_flash.proofs.MoveLemmas.{MoveFits}
+use Rattle.dr_moves.specs.Here.{world_seen, armed_in, refusal_of}
+use Rattle.dr_moves.proofs.ReadLemmas.{on-running}
+use Rattle.dr_moves.proofs.TurnLemmas.{Tells, advances, halts, ok-along, err-along}
+use Rattle.dr_moves.proofs.MoveFits.{MoveFits}
 use Rattle.dr_incr.specs.Steps.{volume_number, left_event}
 use Rattle.dr_incr.proofs.RestoreLemmas.{reverse-fits, tells-reverse, told-by, one-left, room-few, done-few}
 use Rattle.dr_volume.specs.Update.{IsMoved}

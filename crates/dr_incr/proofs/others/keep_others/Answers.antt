@@ -6,10 +6,11 @@ use Rattle.dr_model.specs.Entries.{copies_from, keep_on, for_lowest}
 use Rattle.dr_model.specs.ReadStops.{Ends}
 use Rattle.dr_model.specs.Refusals.{stopped}
 use Rattle.dr_volume.specs.View.{volume_seen, ids_of}
-use Rattle.dr_flash.specs.Here.{world_seen, armed_in}
-use Rattle.dr_flash.proofs.CopyLemmas.{before-then, wider-armed, volume-there, no-own}
+use Rattle.dr_moves.specs.Here.{world_seen, armed_in}
+use Rattle.dr_moves.proofs.KeptLemmas.{before-then, wider-armed}
+use Rattle.dr_flash.proofs.CopyLemmas.{volume-there, no-own}
 use Rattle.dr_facts.proofs.Ends.{ends-wider, ends-alike}
-use Rattle.dr_flash.proofs.TurnLemmas.{refused-by}
+use Rattle.dr_moves.proofs.TurnLemmas.{refused-by}
 use Rattle.dr_incr.specs.Steps.{keeps_of}
 use Rattle.dr_incr.proofs.StepLemmas.{lowest-entry}
 use Rattle.dr_incr.proofs.TargetLemmas.{keeps_left, keeps_left-next, keeps_left-none, not-kept}

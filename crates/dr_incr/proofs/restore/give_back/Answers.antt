@@ -7,12 +7,13 @@ use Rattle.dr_model.specs.Moves.{Restore, Release}
 use Rattle.dr_model.specs.Refusals.{stopped}
 use Rattle.dr_model.specs.Entries.{copies_from, give_back, for_lowest}
 use Rattle.dr_volume.specs.View.{volume_seen, ids_of}
-use Rattle.dr_flash.specs.Here.{world_seen, armed_in, refusal_of}
-use Rattle.dr_flash.specs.Turns.{Fails}
-use Rattle.dr_flash.proofs.CopyLemmas.{before-then, wider-armed, no-own}
+use Rattle.dr_moves.specs.Here.{world_seen, armed_in, refusal_of}
+use Rattle.dr_moves.specs.Turns.{Fails}
+use Rattle.dr_moves.proofs.KeptLemmas.{before-then, wider-armed}
+use Rattle.dr_flash.proofs.CopyLemmas.{no-own}
 use Rattle.dr_facts.proofs.Ends.{ends-wider}
-use Rattle.dr_flash.proofs.KeepLemmas.{alike-advances, alike-halts}
-use Rattle.dr_flash.proofs.TurnLemmas.{refused-by, ok-along, err-along}
+use Rattle.dr_moves.proofs.EntryLemmas.{alike-advances, alike-halts}
+use Rattle.dr_moves.proofs.TurnLemmas.{refused-by, ok-along, err-along}
 use Rattle.dr_incr.specs.Steps.{keeps_of, IsRestoredOnto}
 use Rattle.dr_incr.proofs.StepLemmas.{lowest-entry}
 use Rattle.dr_incr.proofs.TargetLemmas.{target-of, lowest-below, other-target, same-lowest}
@@ -22,7 +23,7 @@ use Rattle.dr_model.specs.Pairs.{altered}
 use Rattle.dr_incr.proofs.BackLaws.{stored-other}
 use Rattle.dr_incr.proofs.restore.give_back.Goals as goal
 use Rattle.dr_logic.proofs.Results.{err-always}
-use Rattle.dr_flash.proofs.LeadLemmas.{then-leads, then-fails, fails-first}
+use Rattle.dr_moves.proofs.LeadLemmas.{then-leads, then-fails, fails-first}
 use Rattle.dr_flash.proofs.MoveLemmas.{stored-track}
 
 pub keep_others-requires-clause-within : goal.keep_others-requires-clause-within

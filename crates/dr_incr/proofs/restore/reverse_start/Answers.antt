@@ -2,10 +2,10 @@ use Rattle.std.proofs.Common.{Some, sym, subst}
 use Rattle.dr_model.specs.Carry.{now}
 use Rattle.dr_model.specs.Moves.{Reverse}
 use Rattle.dr_model.specs.Plans.{restore_refusal}
-use Rattle.dr_flash.specs.Turns.{Advances, Halts}
-use Rattle.dr_flash.specs.Here.{world_seen, armed_in, refusal_of}
-use Rattle.dr_flash.proofs.CheckLemmas.{counted-stop, only-stops}
-use Rattle.dr_flash.proofs.TurnLemmas.{ok-along, err-along}
+use Rattle.dr_moves.specs.Turns.{Advances, Halts}
+use Rattle.dr_moves.specs.Here.{world_seen, armed_in, refusal_of}
+use Rattle.dr_moves.proofs.EntryLemmas.{counted-stop, only-stops}
+use Rattle.dr_moves.proofs.TurnLemmas.{ok-along, err-along}
 use Rattle.dr_incr.specs.Steps.{IsAsked, reverse_entries}
 use Rattle.dr_incr.proofs.StepLemmas.{ends-if, stop-refused}
 use Rattle.dr_incr.proofs.TargetLemmas.{target-of}

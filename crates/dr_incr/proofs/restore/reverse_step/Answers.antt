@@ -3,10 +3,10 @@ use Rattle.dr_model.specs.Layout.{Fields}
 use Rattle.dr_model.specs.Relations.{lowest, restored, given_up}
 use Rattle.dr_model.specs.Entries.{give_back}
 use Rattle.dr_volume.specs.View.{volume_seen, ids_of, track_seen}
-use Rattle.dr_flash.specs.Here.{world_seen, armed_in, refusal_of}
-use Rattle.dr_flash.specs.Turns.{Leads, Fails}
-use Rattle.dr_flash.proofs.CopyLemmas.{led, failed}
-use Rattle.dr_flash.proofs.TurnLemmas.{refused-by}
+use Rattle.dr_moves.specs.Here.{world_seen, armed_in, refusal_of}
+use Rattle.dr_moves.specs.Turns.{Leads, Fails}
+use Rattle.dr_moves.proofs.EntryLemmas.{led, failed}
+use Rattle.dr_moves.proofs.TurnLemmas.{refused-by}
 use Rattle.dr_incr.proofs.StepLemmas.{none-back}
 use Rattle.dr_incr.proofs.TargetLemmas.{holder-related, copies-source, target-of}
 use Rattle.dr_volume.specs.Update.{IsMoved}

@@ -7,17 +7,17 @@ use Rattle.dr_model.specs.Pairs.{synced}
 use Rattle.dr_model.specs.ReadStops.{GoesOff}
 use Rattle.dr_volume.specs.Plain.{plain}
 use Rattle.dr_volume.specs.View.{volume_seen}
-use Rattle.dr_flash.specs.declared.told.Telling.{Telling}
-use Rattle.dr_flash.specs.Here.{armed_in}
-use Rattle.dr_flash.specs.Turns.{made_by}
-use Rattle.dr_flash.proofs.ReadLemmas.{on-running}
-use Rattle.dr_flash.proofs.MoveLemmas.{MoveFits}
+use Rattle.dr_moves.specs.declared.told.Telling.{Telling}
+use Rattle.dr_moves.specs.Here.{armed_in}
+use Rattle.dr_moves.specs.Turns.{made_by}
+use Rattle.dr_moves.proofs.ReadLemmas.{on-running}
+use Rattle.dr_moves.proofs.MoveFits.{MoveFits}
 use Rattle.dr_metro.specs.Here.{here, rest_of}
 use Rattle.dr_metro.proofs.BothLemmas.{both-ends, both-told, both-fails, fails-told}
 use Rattle.dr_metro.proofs.MirrorLemmas.{both-fits}
 use Rattle.dr_metro.proofs.TurnLemmas.{differ, issued-landed}
 use Rattle.dr_metro.proofs.both.land_both_by.Goals as goal
-use Rattle.dr_flash.proofs.MadeLemmas.{not_beq}
+use Rattle.dr_moves.proofs.MadeLemmas.{not_beq}
 
 pub shift-requires-clause-lawful : goal.shift-requires-clause-lawful
 shift-requires-clause-lawful g c =

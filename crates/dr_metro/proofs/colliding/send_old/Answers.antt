@@ -3,9 +3,9 @@ use Rattle.std.specs.Prelude.{is_some}
 use Rattle.dr_model.specs.Control.{Volume}
 use Rattle.dr_model.specs.PairEntries.{send_refusal, flashed_refusal}
 use Rattle.dr_volume.specs.View.{ids_of}
-use Rattle.dr_flash.specs.Here.{world_seen, armed_in, refusal_of}
+use Rattle.dr_moves.specs.Here.{world_seen, armed_in, refusal_of}
 use Rattle.dr_flash.proofs.CopyLemmas.{no-own}
-use Rattle.dr_flash.proofs.TurnLemmas.{ok-along, err-along}
+use Rattle.dr_moves.proofs.TurnLemmas.{ok-along, err-along}
 use Rattle.dr_gcopy.proofs.SendLemmas.{other-server}
 use Rattle.dr_metro.proofs.CollideLemmas.{sends-by, sent-leads, sent-fails, flashed-leads, parted-leads, parted-fails}
 use Rattle.dr_metro.proofs.colliding.send_old.Goals as goal

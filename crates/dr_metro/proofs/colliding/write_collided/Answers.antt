@@ -3,10 +3,11 @@ use Rattle.dr_model.specs.Entries.{land_alone}
 use Rattle.dr_model.specs.ReadStops.{Ends}
 use Rattle.dr_model.specs.WriteEntries.{send_first}
 use Rattle.dr_volume.specs.View.{ids_of}
-use Rattle.dr_flash.specs.Here.{armed_in, refusal_of}
-use Rattle.dr_flash.proofs.CopyLemmas.{wider-armed, led, failed}
+use Rattle.dr_moves.specs.Here.{armed_in, refusal_of}
+use Rattle.dr_moves.proofs.KeptLemmas.{wider-armed}
+use Rattle.dr_moves.proofs.EntryLemmas.{led, failed}
 use Rattle.dr_facts.proofs.Ends.{ends-wider}
-use Rattle.dr_flash.proofs.TurnLemmas.{refused-by}
+use Rattle.dr_moves.proofs.TurnLemmas.{refused-by}
 use Rattle.dr_gcopy.proofs.SendLemmas.{same-server, same-tracks}
 use Rattle.dr_metro.specs.Here.{here, rest_of}
 use Rattle.dr_metro.specs.Syncing.{collided_entries}

@@ -7,11 +7,11 @@ use Rattle.dr_model.specs.Carry as carry
 use Rattle.dr_volume.specs.Opened.{IsOpened}
 use Rattle.dr_volume.specs.View.{world, volume_seen, device_of}
 use Rattle.dr_volume.specs.Update.{EndsAs}
-use Rattle.dr_flash.specs.Fit.{RelationsFit}
-use Rattle.dr_flash.specs.Here.{IsAtRest}
+use Rattle.dr_moves.specs.Fit.{RelationsFit}
+use Rattle.dr_moves.specs.Here.{IsAtRest}
 use Rattle.dr_flash.specs.Views.{view_seen}
-use Rattle.dr_flash.proofs.ReadLemmas.{left-unread, unread-rest}
-use Rattle.dr_flash.proofs.FitLemmas.{fit-same}
+use Rattle.dr_moves.proofs.ReadLemmas.{left-unread, unread-rest}
+use Rattle.dr_moves.proofs.FitLemmas.{fit-same}
 use Rattle.dr_metro.specs.Landing.{landed_on}
 use Rattle.dr_metro.proofs.LandLemmas.{lands-unread}
 use Rattle.dr_metro.proofs.FaultLemmas.{counted-unread}

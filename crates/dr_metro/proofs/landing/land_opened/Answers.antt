@@ -9,18 +9,18 @@ use Rattle.dr_volume.specs.Plain.{plain}
 use Rattle.dr_volume.specs.Opened.{IsOpened}
 use Rattle.dr_volume.specs.View.{world, volume_seen, IsSettled}
 use Rattle.dr_volume.specs.Update.{EndsAs, Covers}
-use Rattle.dr_flash.specs.Fit.{RelationsFit, LeavesFit}
-use Rattle.dr_flash.specs.Here.{IsAtRest}
+use Rattle.dr_moves.specs.Fit.{RelationsFit, LeavesFit}
+use Rattle.dr_moves.specs.Here.{IsAtRest}
 use Rattle.dr_flash.specs.Views.{view_seen}
 use Rattle.dr_model.specs.Control.{Volume}
-use Rattle.dr_flash.proofs.TurnLemmas.{ok-along}
-use Rattle.dr_flash.proofs.FitLemmas.{fit-after}
-use Rattle.dr_flash.proofs.MoveLemmas.{MoveFits}
+use Rattle.dr_moves.proofs.TurnLemmas.{ok-along}
+use Rattle.dr_moves.proofs.FitLemmas.{fit-after}
+use Rattle.dr_moves.proofs.MoveFits.{MoveFits}
 use Rattle.dr_metro.specs.Landing.{landed, landed_on}
 use Rattle.dr_metro.proofs.LandingLemmas.{lands-fit}
 use Rattle.dr_metro.proofs.FaultLemmas.{counted-by}
 use Rattle.dr_metro.proofs.landing.land_opened.Goals as goal
-use Rattle.dr_flash.proofs.ShiftLemmas.{rest-after}
+use Rattle.dr_moves.proofs.ShiftLemmas.{rest-after}
 
 pub landed-next-requires : goal.landed-next-requires
 landed-next-requires g c =

@@ -5,10 +5,11 @@ use Rattle.dr_model.specs.Entries.{copy_first, land_on, land_alone}
 use Rattle.dr_model.specs.ReadStops.{Ends}
 use Rattle.dr_model.specs.Refusals.{stopped}
 use Rattle.dr_volume.specs.View.{ids_of, volume_seen}
-use Rattle.dr_flash.specs.Here.{armed_in, refusal_of}
-use Rattle.dr_flash.proofs.CopyLemmas.{no-own, wider-armed}
+use Rattle.dr_moves.specs.Here.{armed_in, refusal_of}
+use Rattle.dr_flash.proofs.CopyLemmas.{no-own}
+use Rattle.dr_moves.proofs.KeptLemmas.{wider-armed}
 use Rattle.dr_facts.proofs.Ends.{ends-wider}
-use Rattle.dr_flash.proofs.TurnLemmas.{refused-by}
+use Rattle.dr_moves.proofs.TurnLemmas.{refused-by}
 use Rattle.dr_metro.specs.Here.{here, rest_of}
 use Rattle.dr_metro.specs.Landing.{landed_on}
 use Rattle.dr_facts.proofs.Issued.{unissued}

@@ -16,12 +16,12 @@ use Rattle.dr_host.specs.Writes.{Writes, with_marked}
 use Rattle.dr_host.specs.Seen.{pending_seen}
 use Rattle.dr_host.proofs.Seen.{seen-without}
 use Rattle.dr_metro.specs.Here.{here, rest_of}
-use Rattle.dr_flash.specs.Here.{armed_in}
+use Rattle.dr_moves.specs.Here.{armed_in}
 use Rattle.dr_metro.proofs.TurnLemmas.{turn-goes, turn-stops, cut_short-is, seen-landed, issued-landed, differ}
 use Rattle.dr_metro.proofs.ToldLemmas.{told-push, told-acked, told-marked}
 use Rattle.dr_metro.proofs.machine.land_write_by.Goals as goal
-use Rattle.dr_flash.proofs.MadeLemmas.{differ_same, not_beq, done-by_slot}
-use Rattle.dr_flash.proofs.ReadLemmas.{on-running}
+use Rattle.dr_moves.proofs.MadeLemmas.{differ_same, not_beq, done-by_slot}
+use Rattle.dr_moves.proofs.ReadLemmas.{on-running}
 
 pub land_by-requires-clause-running : goal.land_by-requires-clause-running
 land_by-requires-clause-running g c = ap (g.P.Plant.state c.args.plant.now).on c.requires.server ∙ c.requires.running

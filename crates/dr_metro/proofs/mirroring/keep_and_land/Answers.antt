@@ -7,11 +7,12 @@ use Rattle.dr_model.specs.Moves.{LandBoth}
 use Rattle.dr_model.specs.Pairs.{synced}
 use Rattle.dr_model.specs.ReadStops.{Ends}
 use Rattle.dr_volume.specs.View.{ids_of, volume_seen}
-use Rattle.dr_flash.specs.Checks.{is_stop}
-use Rattle.dr_flash.specs.Here.{armed_in, refusal_of}
-use Rattle.dr_flash.proofs.CopyLemmas.{no-own, wider-armed}
+use Rattle.dr_moves.specs.Checks.{is_stop}
+use Rattle.dr_moves.specs.Here.{armed_in, refusal_of}
+use Rattle.dr_flash.proofs.CopyLemmas.{no-own}
+use Rattle.dr_moves.proofs.KeptLemmas.{wider-armed}
 use Rattle.dr_facts.proofs.Ends.{ends-wider}
-use Rattle.dr_flash.proofs.TurnLemmas.{refused-by, ok-along, err-along}
+use Rattle.dr_moves.proofs.TurnLemmas.{refused-by, ok-along, err-along}
 use Rattle.dr_gcopy.proofs.SendLemmas.{other-server}
 use Rattle.dr_metro.specs.Here.{here, rest_of}
 use Rattle.dr_metro.specs.Mirroring.{settle_entries}

@@ -4,11 +4,12 @@ use Rattle.dr_model.specs.Entries.{copy_first}
 use Rattle.dr_model.specs.Layout.{is_part}
 use Rattle.dr_model.specs.ReadStops.{Ends}
 use Rattle.dr_volume.specs.View.{ids_of}
-use Rattle.dr_flash.specs.Checks.{is_stop}
-use Rattle.dr_flash.specs.Here.{armed_in, refusal_of}
-use Rattle.dr_flash.proofs.CopyLemmas.{no-own, wider-armed}
+use Rattle.dr_moves.specs.Checks.{is_stop}
+use Rattle.dr_moves.specs.Here.{armed_in, refusal_of}
+use Rattle.dr_flash.proofs.CopyLemmas.{no-own}
+use Rattle.dr_moves.proofs.KeptLemmas.{wider-armed}
 use Rattle.dr_facts.proofs.Ends.{ends-wider}
-use Rattle.dr_flash.proofs.TurnLemmas.{refused-by}
+use Rattle.dr_moves.proofs.TurnLemmas.{refused-by}
 use Rattle.dr_gcopy.proofs.SendLemmas.{other-server, same-server}
 use Rattle.dr_metro.specs.Here.{here, rest_of}
 use Rattle.dr_metro.specs.Mirroring.{store_entries, mirror_entries}

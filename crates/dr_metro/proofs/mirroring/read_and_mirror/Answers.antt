@@ -3,12 +3,12 @@ use Rattle.dr_plant.specs.State.{PlantState}
 use Rattle.dr_model.specs.Log.{Log}
 use Rattle.dr_model.specs.Contents.{with_write}
 use Rattle.dr_model.specs.Histories.{histories}
-use Rattle.dr_flash.proofs.FitLemmas.{fit-same}
+use Rattle.dr_moves.proofs.FitLemmas.{fit-same}
 use Rattle.dr_model.specs.ReadStops.{Ends}
 use Rattle.dr_volume.specs.View.{ids_of, track_seen}
-use Rattle.dr_flash.specs.Here.{armed_in, refusal_of}
+use Rattle.dr_moves.specs.Here.{armed_in, refusal_of}
 use Rattle.dr_facts.proofs.Ends.{ends-off}
-use Rattle.dr_flash.proofs.TurnLemmas.{refused-by}
+use Rattle.dr_moves.proofs.TurnLemmas.{refused-by}
 use Rattle.dr_metro.specs.Here.{here, rest_of}
 use Rattle.dr_metro.specs.Mirroring.{mirror_entries}
 use Rattle.dr_metro.proofs.LandLemmas.{told-through}

@@ -4,11 +4,11 @@ use Rattle.dr_model.specs.Control.{Volume}
 use Rattle.dr_model.specs.Moves.{Unsync}
 use Rattle.dr_model.specs.ReadStops.{Ends}
 use Rattle.dr_model.specs.WriteEntries.{land_mirrored}
-use Rattle.dr_volume.specs.View.{ids_of}
-use Rattle.dr_flash.specs.Here.{armed_in, refusal_of}
-use Rattle.dr_flash.proofs.CopyLemmas.{wider-armed}
+use Rattle.dr_volume.specs.View.{ids_of, volume_seen}
+use Rattle.dr_moves.specs.Here.{armed_in, refusal_of}
+use Rattle.dr_moves.proofs.KeptLemmas.{wider-armed}
 use Rattle.dr_facts.proofs.Ends.{ends-wider}
-use Rattle.dr_flash.proofs.TurnLemmas.{refused-by}
+use Rattle.dr_moves.proofs.TurnLemmas.{refused-by}
 use Rattle.dr_gcopy.proofs.SendLemmas.{same-server, same-tracks}
 use Rattle.dr_metro.specs.Here.{here, rest_of}
 use Rattle.dr_metro.specs.Mirroring.{mirror_entries}
@@ -18,8 +18,7 @@ use Rattle.dr_model.specs.Layout.{Fields}
 use Rattle.dr_model.specs.Lawful.{IsLawful}
 use Rattle.dr_model.specs.Pairs.{unsynced}
 use Rattle.dr_volume.specs.Plain.{plain}
-use Rattle.dr_volume.specs.View.{volume_seen}
-use Rattle.dr_flash.proofs.MoveLemmas.{MoveFits}
+use Rattle.dr_moves.proofs.MoveFits.{MoveFits}
 use Rattle.dr_metro.proofs.MirrorLemmas.{unsync-fits}
 use Rattle.dr_metro.proofs.mirroring.write_both_by.Goals as goal
 use Rattle.dr_gcopy.proofs.PairChecks.{servers-apart}

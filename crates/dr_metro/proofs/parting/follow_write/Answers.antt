@@ -2,7 +2,7 @@ use Rattle.std.proofs.Common.{sym, subst, Some}
 use Rattle.std.specs.Prelude.{if◌then◌else◌}
 use Rattle.dr_model.specs.PairEntries.{suspend_after}
 use Rattle.dr_model.specs.WriteEntries.{part_after}
-use Rattle.dr_flash.specs.Here.{world_seen, armed_in}
+use Rattle.dr_moves.specs.Here.{world_seen, armed_in}
 use Rattle.dr_gcopy.specs.Followed.{Follows}
 use Rattle.dr_metro.proofs.parting.follow_write.Goals as goal
 

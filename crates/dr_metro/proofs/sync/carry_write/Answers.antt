@@ -9,7 +9,7 @@ use Rattle.dr_host.specs.Seen.{pending_seen}
 use Rattle.dr_host.proofs.Seen.{seen-without}
 use Rattle.dr_host.proofs.Each.{each-without}
 use Rattle.dr_volume.specs.View.{on_seen}
-use Rattle.dr_flash.specs.Here.{armed_in, refusal_of}
+use Rattle.dr_moves.specs.Here.{armed_in, refusal_of}
 use Rattle.dr_metro.specs.Here.{here, rest_of, IsTold}
 use Rattle.dr_metro.proofs.RouteLemmas.{some-found}
 use Rattle.dr_metro.proofs.SyncLemmas.{counted-stops, write-off, write-passes, write-drops}

@@ -10,7 +10,7 @@ use Rattle.dr_model.specs.Pairs.{held, goes_over, collides, is_metro}
 use Rattle.dr_model.specs.ReadStops.{Ends}
 use Rattle.dr_model.specs.WriteEntries.{is_grouped, is_parted, land_parted, land_mirrored}
 use Rattle.dr_volume.specs.View.{ids_of, volume_seen}
-use Rattle.dr_flash.specs.Here.{armed_in, refusal_of}
+use Rattle.dr_moves.specs.Here.{armed_in, refusal_of}
 use Rattle.dr_facts.proofs.Ends.{ends-none}
 use Rattle.dr_metro.specs.declared.sync.WriteEnd.{WriteEnd}
 use Rattle.dr_metro.specs.Here.{here}

@@ -4,8 +4,8 @@ use Rattle.dr_model.specs.Layout.{Fields}
 use Rattle.dr_model.specs.Pairs.{collides}
 use Rattle.dr_model.specs.PairEntries.{suspend_after}
 use Rattle.dr_model.specs.WriteEntries.{part_after, after_write}
-use Rattle.dr_flash.specs.Here.{armed_in}
-use Rattle.dr_flash.proofs.CopyLemmas.{wider-armed}
+use Rattle.dr_moves.specs.Here.{armed_in}
+use Rattle.dr_moves.proofs.KeptLemmas.{wider-armed}
 use Rattle.dr_gcopy.proofs.SendLemmas.{follows-wider}
 use Rattle.dr_metro.specs.Here.{here, rest_of}
 use Rattle.dr_metro.proofs.SyncLemmas.{told-followed, after-is}

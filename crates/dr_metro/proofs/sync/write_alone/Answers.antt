@@ -1,5 +1,5 @@
 use Rattle.std.proofs.Common.{ap, sym, ◌∙◌}
-use Rattle.dr_flash.specs.Checks.{is_stop}
+use Rattle.dr_moves.specs.Checks.{is_stop}
 use Rattle.dr_metro.proofs.RouteLemmas.{pending-issue, some-found}
 use Rattle.dr_metro.proofs.sync.write_alone.Goals as goal
 

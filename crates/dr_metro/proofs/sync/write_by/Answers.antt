@@ -1,8 +1,8 @@
 use Rattle.std.proofs.Common.{ap, sym, ◌∙◌, [], ◌∷◌, None, Some}
 use Rattle.dr_model.specs.Entries.{land_on}
 use Rattle.dr_volume.specs.View.{ids_of}
-use Rattle.dr_flash.specs.Checks.{is_stop}
-use Rattle.dr_flash.specs.Here.{armed_in}
+use Rattle.dr_moves.specs.Checks.{is_stop}
+use Rattle.dr_moves.specs.Here.{armed_in}
 use Rattle.dr_flash.proofs.KeepLemmas.{passes-all}
 use Rattle.dr_metro.specs.Here.{here, rest_of}
 use Rattle.dr_metro.proofs.RouteLemmas.{pending-issue, some-found}

@@ -5,8 +5,8 @@ use Rattle.dr_model.specs.PairEntries.{send_refusal}
 use Rattle.dr_model.specs.ReadStops.{Ends}
 use Rattle.dr_model.specs.WriteEntries.{is_grouped}
 use Rattle.dr_volume.specs.View.{ids_of}
-use Rattle.dr_flash.specs.Here.{armed_in, refusal_of}
-use Rattle.dr_flash.proofs.TurnLemmas.{ok-along}
+use Rattle.dr_moves.specs.Here.{armed_in, refusal_of}
+use Rattle.dr_moves.proofs.TurnLemmas.{ok-along}
 use Rattle.dr_metro.specs.declared.sync.WriteEnd.{WriteEnd}
 use Rattle.dr_metro.specs.Here.{here, rest_of}
 use Rattle.dr_metro.specs.Syncing.{parted_entries, over_entries, end_of}

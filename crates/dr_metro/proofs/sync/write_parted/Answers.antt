@@ -8,11 +8,11 @@ use Rattle.dr_model.specs.Entries.{land_alone}
 use Rattle.dr_model.specs.Pairs.{is_suspended}
 use Rattle.dr_model.specs.ReadStops.{Ends}
 use Rattle.dr_volume.specs.View.{ids_of, volume_seen}
-use Rattle.dr_flash.specs.Checks.{is_stop}
-use Rattle.dr_flash.specs.Here.{armed_in, refusal_of}
-use Rattle.dr_flash.proofs.CopyLemmas.{wider-armed}
+use Rattle.dr_moves.specs.Checks.{is_stop}
+use Rattle.dr_moves.specs.Here.{armed_in, refusal_of}
+use Rattle.dr_moves.proofs.KeptLemmas.{wider-armed}
 use Rattle.dr_facts.proofs.Ends.{ends-none, ends-wider}
-use Rattle.dr_flash.proofs.TurnLemmas.{ok-along}
+use Rattle.dr_moves.proofs.TurnLemmas.{ok-along}
 use Rattle.dr_metro.specs.declared.sync.WriteEnd.{WriteEnd}
 use Rattle.dr_metro.specs.Here.{here, rest_of}
 use Rattle.dr_metro.specs.Syncing.{end_of}

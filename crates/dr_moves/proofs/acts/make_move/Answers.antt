@@ -6,7 +6,8 @@ use Rattle.dr_volume.specs.View.{Rest}
 use Rattle.dr_moves.specs.Here.{world_seen, armed_in}
 use Rattle.dr_moves.specs.Moves.{move_of}
 use Rattle.dr_facts.proofs.Ends.{ends-none}
-use Rattle.dr_moves.proofs.EnteredLemmas.{calm-done, calm-stop, comes-advances, comes-halts}
+use Rattle.dr_moves.proofs.EnteredLemmas.{calm-done, calm-stop}
+use Rattle.dr_moves.proofs.EntryLemmas.{move-advances, move-halts}
 use Rattle.dr_moves.proofs.acts.make_move.Goals as goal
 
 pub returns-in-Ok-clause-entered : goal.returns-in-Ok-clause-entered
@@ -16,7 +17,7 @@ returns-in-Ok-clause-entered g c =
     let t = c.args.config.now in
     let m = move_of c.args.m.now in
     let done = λ (r : Rest). c.in-Ok.ensures.made.turned r ∙ ap (λ (q : Rest). (world_seen u t q c.make.new.journal.events, None)) (calm-done m c.requires.calm r) in
-    let goes = λ (r : Rest). comes-advances (world_seen s t r c.args.journal.now.events) (world_seen u t r c.make.new.journal.events) (now m) m refl (done r) in
+    let goes = λ (r : Rest). move-advances (world_seen s t r c.args.journal.now.events) (world_seen u t r c.make.new.journal.events) (now m) m refl (done r) in
     record {
       done = done;
       failed = tt;
@@ -37,7 +38,7 @@ returns-in-Err-clause-entered g c =
       | inl off ↦ inl off.1
       | inr is ↦ inr (is ∙ ap (λ (q : Rest). (world_seen u t q c.make.new.journal.events, Some server)) (calm-stop m c.requires.calm c.in-Err.stop.counts r))
     ] in
-    let stops = λ (r : Rest). comes-halts (armed_in s) (world_seen s t r c.args.journal.now.events) (world_seen u t r c.make.new.journal.events) (Some (stopped server)) (now m) m server refl refl (failed r) in
+    let stops = λ (r : Rest). move-halts (armed_in s) (world_seen s t r c.args.journal.now.events) (world_seen u t r c.make.new.journal.events) (Some (stopped server)) (now m) m server refl refl (failed r) in
     record {
       done = tt;
       failed = λ r. elim (failed r) [

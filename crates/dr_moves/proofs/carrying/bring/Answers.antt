@@ -5,7 +5,7 @@ use Rattle.dr_volume.specs.View.{volume_seen, track_seen}
 use Rattle.dr_moves.specs.Coming.{WentBy, Acted}
 use Rattle.dr_moves.specs.Moves.{move_of}
 use Rattle.dr_moves.specs.declared.carrying.Next.TheVariants.{Bring}
-use Rattle.dr_moves.proofs.ActedLemmas.{acted-by, acted-gone, refused-by}
+use Rattle.dr_moves.proofs.ActedLemmas.{acted-by, acted-gone, err-is}
 use Rattle.dr_moves.proofs.carrying.bring.Goals as goal
 
 pub returns-in_err-read_told : goal.returns-in_err-read_told
@@ -16,7 +16,7 @@ returns-in_err-read_told g c =
     let e = c.in_err-read_told.field-0.0 in
     let next = Bring c.args.m.now c.args.u c.args.t in
     record {
-      acted = subst (λ res. Acted s u t c.args.journal.now c.read_told.new.journal next res) (sym (refused-by c.from_residual.result e c.from_residual.ensures.0 c.from_residual.ensures.1))
+      acted = subst (λ res. Acted s u t c.args.journal.now c.read_told.new.journal next res) (sym (err-is c.from_residual.result e c.from_residual.ensures.0 c.from_residual.ensures.1))
           (acted-gone s u t c.args.journal.now c.read_told.new.journal next e (volume_seen s t c.args.u.0).server c.requires.at c.in_err-read_told.ensures.refused (inl c.in_err-read_told.ensures.refused) c.in_err-read_told.ensures.gone c.read_told.ensures.same c.read_told.ensures.rest c.read_told.ensures.unarmed c.in_err-read_told.ensures.faults c.read_told.ensures.room c.read_told.ensures.spare);
     }
 

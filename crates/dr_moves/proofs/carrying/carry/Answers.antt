@@ -2,7 +2,9 @@ use Rattle.std.proofs.Common.{◌++◌, ◌∷◌, arith, length, ap, sym, subst
 use Rattle.std.specs.Prelude.{Ok}
 use Rattle.dr_model.specs.ReadStops.{Ends}
 use Rattle.dr_moves.specs.Here.{world_seen, armed_in, refusal_of}
-use Rattle.dr_moves.proofs.ActedLemmas.{err-always, refused-by, wider-armed, kept-then, before-then}
+use Rattle.dr_moves.proofs.ActedLemmas.{err-is}
+use Rattle.dr_logic.proofs.Results.{err-always}
+use Rattle.dr_moves.proofs.KeptLemmas.{wider-armed, kept-then, before-then}
 use Rattle.dr_facts.proofs.Ends.{ends-wider}
 use Rattle.dr_moves.proofs.carrying.carry.Goals as goal
 
@@ -16,7 +18,7 @@ returns-in_err-act-clause-fails g c =
     let more = g.E.Entries.left c.next-next.new.self t in
     err-always c.from_residual.result (λ r ds.
     let u = world_seen (g.P.Plant.state c.act.new.plant) t r c.act.new.journal.events in
-    subst (λ q. Ends (armed_in s0) u q (world_seen s0 t r c.args.journal.now.events) (g.E.Entries.left c.args.entries.now t ++ ds)) (sym (ap refusal_of (refused-by c.from_residual.result e c.from_residual.ensures.0 c.from_residual.ensures.1)))
+    subst (λ q. Ends (armed_in s0) u q (world_seen s0 t r c.args.journal.now.events) (g.E.Entries.left c.args.entries.now t ++ ds)) (sym (ap refusal_of (err-is c.from_residual.result e c.from_residual.ensures.0 c.from_residual.ensures.1)))
     (c.loop.invariant.left r (armed_in s0) u (Some e) ds
     (subst (λ es. Ends (armed_in s0) u (Some e) (world_seen s t r c.loop.journal.events) (es ++ ds)) (sym c.next-next.ensures.goes)
     (ends-wider (armed_in s) (armed_in s0) (wider-armed s0 s c.loop.invariant.kept.unarmed) u (Some e) (world_seen s t r c.loop.journal.events) (first ∷ (more ++ ds))

@@ -4,8 +4,8 @@ use Rattle.dr_volume.specs.declared.head.Head.{Head}
 use Rattle.dr_model.specs.RecoveryPlans.{settle_on}
 use Rattle.dr_model.specs.Sessions.{session_in, members_in}
 use Rattle.dr_volume.specs.View.{volume_seen}
-use Rattle.dr_flash.specs.Here.{world_seen, armed_in}
-use Rattle.dr_flash.proofs.CheckLemmas.{counted-stop, only-stops, act-ends}
+use Rattle.dr_moves.specs.Here.{world_seen, armed_in}
+use Rattle.dr_moves.proofs.EntryLemmas.{counted-stop, only-stops, act-ends}
 use Rattle.dr_gmirror.specs.Orders.{with_sessions}
 use Rattle.dr_recover.specs.Outcomes.{lets_by}
 use Rattle.dr_recover.proofs.EachLemmas.{target-running}

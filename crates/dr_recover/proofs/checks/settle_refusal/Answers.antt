@@ -2,7 +2,7 @@ use Rattle.std.proofs.Common.{ap, ◌∙◌}
 use Rattle.std.specs.Option.{option_or}
 use Rattle.dr_model.specs.RecoveryPlans as plans
 use Rattle.dr_model.specs.Sessions.{session_in, members_in}
-use Rattle.dr_flash.specs.Here.{world_seen}
+use Rattle.dr_moves.specs.Here.{world_seen}
 use Rattle.dr_recover.specs.Outcomes.{lets_by}
 use Rattle.dr_recover.proofs.checks.settle_refusal.Goals as goal
 

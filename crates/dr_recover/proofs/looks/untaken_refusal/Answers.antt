@@ -6,7 +6,7 @@ use Rattle.dr_model.specs.Layout.{is_part}
 use Rattle.dr_model.specs.Sessions.{session_in, members_in}
 use Rattle.dr_volume.specs.declared.head.Head.{Head}
 use Rattle.dr_volume.specs.View.{volume_seen}
-use Rattle.dr_flash.specs.Here.{world_seen}
+use Rattle.dr_moves.specs.Here.{world_seen}
 use Rattle.dr_gmirror.proofs.OrderLemmas.{member-all}
 use Rattle.dr_gmirror.proofs.RestoreLemmas.{find-hit, find-miss}
 use Rattle.dr_recover.proofs.looks.untaken_refusal.Goals as goal

@@ -3,9 +3,9 @@ use Rattle.dr_model.specs.declared.said.Said.TheVariants.{Refused}
 use Rattle.dr_model.specs.ReadStops.{Ends}
 use Rattle.dr_model.specs.RecoveryPlans.{decided_in, group_of, recover_entries}
 use Rattle.dr_model.specs.Sessions.{session_in, members_in}
-use Rattle.dr_flash.specs.Here.{world_seen, armed_in}
-use Rattle.dr_flash.proofs.CopyLemmas.{wider-armed}
-use Rattle.dr_flash.proofs.TurnLemmas.{refused-by}
+use Rattle.dr_moves.specs.Here.{world_seen, armed_in}
+use Rattle.dr_moves.proofs.KeptLemmas.{wider-armed}
+use Rattle.dr_moves.proofs.TurnLemmas.{refused-by}
 use Rattle.dr_gmirror.specs.Exchange.{PlanEnds}
 use Rattle.dr_gmirror.specs.Orders.{with_sessions}
 use Rattle.dr_recover.specs.Outcomes.{recover_behind}

@@ -1,11 +1,11 @@
 use Rattle.std.proofs.Common.{◌≤◌, length, map, arith, ap, sym, subst, ◌∙◌, Some}
 use Rattle.dr_model.specs.RecoveryPlans.{settle_on}
 use Rattle.dr_model.specs.Sessions.{session_in, members_in}
-use Rattle.dr_flash.specs.Checks.{is_stop}
-use Rattle.dr_flash.specs.Here.{world_seen, armed_in}
-use Rattle.dr_flash.specs.Turns.{Leads, Fails}
-use Rattle.dr_flash.proofs.CopyLemmas.{wider-armed}
-use Rattle.dr_flash.proofs.TurnLemmas.{refused-by}
+use Rattle.dr_moves.specs.Checks.{is_stop}
+use Rattle.dr_moves.specs.Here.{world_seen, armed_in}
+use Rattle.dr_moves.specs.Turns.{Leads, Fails}
+use Rattle.dr_moves.proofs.KeptLemmas.{wider-armed}
+use Rattle.dr_moves.proofs.TurnLemmas.{refused-by}
 use Rattle.dr_gmirror.proofs.OrderLemmas.{member-all}
 use Rattle.dr_recover.proofs.EachLemmas.{each-next, each-fails, all-ready, all-running, target-running}
 use Rattle.dr_recover.proofs.settling.settle_all.Goals as goal

@@ -1,6 +1,6 @@
 use Rattle.dr_model.specs.RecoveryPlans.{settle_on}
 use Rattle.dr_volume.specs.Plain.{plain}
-use Rattle.dr_flash.proofs.TurnLemmas.{ok-along, err-along}
+use Rattle.dr_moves.proofs.TurnLemmas.{ok-along, err-along}
 use Rattle.dr_recover.proofs.MemberLemmas.{settle-next}
 use Rattle.dr_recover.proofs.settling.settle_member.Goals as goal
 

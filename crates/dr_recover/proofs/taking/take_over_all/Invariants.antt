@@ -2,10 +2,10 @@ use Rattle.std.proofs.Common.{ℕ, ◌≡◌, ◌≤◌, ◌+◌, length, map, t
 use Rattle.dr_model.specs.RecoveryPlans.{take_over_on}
 use Rattle.dr_model.specs.Sessions.{session_in, members_in}
 use Rattle.dr_volume.specs.View.{Rest}
-use Rattle.dr_flash.specs.Fit.{RelationsFit}
-use Rattle.dr_flash.specs.Here.{world_seen, IsAtRest}
-use Rattle.dr_flash.specs.Turns.{Leads}
-use Rattle.dr_coord.specs.Aside.{AsideFits}
+use Rattle.dr_moves.specs.Fit.{RelationsFit}
+use Rattle.dr_moves.specs.Here.{world_seen, IsAtRest}
+use Rattle.dr_moves.specs.Turns.{Leads}
+use Rattle.dr_moves.specs.Aside.{AsideFits}
 use Rattle.dr_recover.proofs.taking.take_over_all.Given as goal
 
 abbrev pub invariant-loop-at : goal.invariant-loop-at

@@ -1,4 +1,4 @@
-use Rattle.std.proofs.Common.{ap, sym, ◌∙◌}
+use Rattle.std.proofs.Common.{ap, sym, ◌∙◌, None}
 use Rattle.dr_model.specs.Carry.{now}
 use Rattle.dr_model.specs.Layout.{is_part}
 use Rattle.dr_volume.specs.declared.head.Head.{Head}
@@ -6,12 +6,12 @@ use Rattle.dr_model.specs.Moves.{TakeOver}
 use Rattle.dr_model.specs.Pairs.{taken_over}
 use Rattle.dr_model.specs.RecoveryPlans.{take_over_on}
 use Rattle.dr_volume.specs.View.{volume_seen}
-use Rattle.dr_flash.specs.Here.{world_seen, armed_in, refusal_of}
-use Rattle.dr_flash.proofs.TurnLemmas.{ok-along, err-along}
-use Rattle.dr_coord.proofs.AsideLemmas.{aside-after}
+use Rattle.dr_moves.specs.Here.{world_seen, armed_in, refusal_of}
+use Rattle.dr_moves.proofs.TurnLemmas.{ok-along, err-along}
+use Rattle.dr_moves.proofs.AsideLemmas.{aside-after}
 use Rattle.dr_recover.proofs.MemberLemmas.{take-skips, take-comes, taken-aside}
 use Rattle.dr_recover.proofs.taking.take_over_member.Goals as goal
-use Rattle.dr_flash.proofs.KeepLemmas.{alike-advances, alike-halts, skips}
+use Rattle.dr_moves.proofs.EntryLemmas.{alike-advances, alike-halts, skips}
 
 pub returns-then-not-is_part-clause-advances : goal.returns-then-not-is_part-clause-advances
 returns-then-not-is_part-clause-advances g c r =
@@ -41,5 +41,5 @@ returns-clause-aside g c =
     let s = g.P.Plant.state c.args.plant.now in
     let t = c.args.config.now in
     let f = (volume_seen s t c.args.m.now.b.0).fields in
-    aside-after s (g.P.Plant.state c.take_over.new.plant) t c.args.m.now.b.0 (taken_over f) c.requires.aside
+    aside-after s (g.P.Plant.state c.take_over.new.plant) t c.args.m.now.b.0 (taken_over f) None c.requires.aside
     (taken-aside f (c.requires.aside.aside c.args.m.now.b.0)) c.take_over.ensures.old_or_new c.take_over.ensures.others

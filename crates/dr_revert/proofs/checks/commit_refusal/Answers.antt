@@ -4,7 +4,7 @@ use Rattle.dr_ids.specs.declared.refusal.Refusal.{Refusal}
 use Rattle.dr_model.specs.Entries.{relation_state}
 use Rattle.dr_model.specs.SessionEntries.{is_flashed, is_committed}
 use Rattle.dr_volume.specs.View.{volume_seen}
-use Rattle.dr_flash.specs.Here.{world_seen}
+use Rattle.dr_moves.specs.Here.{world_seen}
 use Rattle.dr_revert.proofs.checks.commit_refusal.Goals as goal
 
 pub returns-clause-refusal : goal.returns-clause-refusal

@@ -5,7 +5,7 @@ use Rattle.dr_ids.specs.declared.refusal.Refusal.TheVariants.{Stale, Unsealed}
 use Rattle.dr_model.specs.Entries.{relation_state}
 use Rattle.dr_model.specs.SessionEntries.{is_flashed, may_flash}
 use Rattle.dr_volume.specs.View.{volume_seen}
-use Rattle.dr_flash.specs.Here.{world_seen}
+use Rattle.dr_moves.specs.Here.{world_seen}
 use Rattle.dr_revert.proofs.checks.flash_refusal.Goals as goal
 
 pub returns-then-not-may_flash-clause-refusal : goal.returns-then-not-may_flash-clause-refusal

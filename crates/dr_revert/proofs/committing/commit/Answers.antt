@@ -8,10 +8,10 @@ use Rattle.dr_model.specs.SessionEntries.{is_committed, commit_refusal, commit_o
 use Rattle.dr_volume.specs.Plain.{plain}
 use Rattle.dr_volume.specs.Update.{IsMoved}
 use Rattle.dr_volume.specs.View.{volume_seen}
-use Rattle.dr_flash.specs.Here.{world_seen, armed_in, refusal_of}
+use Rattle.dr_moves.specs.Here.{world_seen, armed_in, refusal_of}
 use Rattle.dr_flash.specs.Views.{view_seen}
-use Rattle.dr_flash.proofs.CheckLemmas.{counted-stop, only-stops}
-use Rattle.dr_flash.proofs.TurnLemmas.{ok-along, err-along}
+use Rattle.dr_moves.proofs.EntryLemmas.{counted-stop, only-stops}
+use Rattle.dr_moves.proofs.TurnLemmas.{ok-along, err-along}
 use Rattle.dr_gcopy.proofs.TwoMoves.{ends-by}
 use Rattle.dr_revert.specs.declared.fates.Fate.{Fate}
 use Rattle.dr_revert.specs.declared.fates.Fate.TheVariants as fate

@@ -1,83 +1,87 @@
-use Rattle.std.proofs.Common.{◌≡◌, ◌≤◌, ◌+◌, true, length, arith, ap, sym, subst, ◌∙◌, None, Some, inl, inr}
-use Rattle.dr_model.specs.Layout.{Fields}
-use Rattle.dr_model.specs.Lawful.{IsLawful}
-use Rattle.dr_volume.specs.Plain.{plain}
-use Rattle.dr_volume.specs.View.{volume_seen}
-use Rattle.dr_flash.specs.Here.{world_seen, refusal_of, armed_in}
-use Rattle.dr_flash.specs.Told.{events_of}
-use Rattle.dr_flash.specs.Turns.{room_of}
-use Rattle.dr_flash.specs.declared.told.Told.{Told}
-use Rattle.dr_flash.specs.declared.told.Telling.{Telling}
-use Rattle.dr_flash.proofs.TurnLemmas.{ok-along, err-along}
-use Rattle.dr_coord.specs.Aside.{KeepsAside}
-use Rattle.dr_coord.proofs.ActLemmas.{move-advances, move-halts}
-use Rattle.dr_coord.proofs.AsideLemmas.{aside-after}
+use Rattle.std.proofs.Common.{◌≡◌, ◌+◌, true, arith, ap, sym, subst, ◌∙◌, None}
+use Rattle.std.specs.Prelude.{IfSome}
+use Rattle.dr_model.specs.Carry.{now}
+use Rattle.dr_model.specs.Histories.{histories}
+use Rattle.dr_volume.specs.Update.{IsMoved}
+use Rattle.dr_volume.specs.View.{volume_seen, track_seen}
+use Rattle.dr_moves.specs.Here.{world_seen, refusal_of, armed_in}
+use Rattle.dr_moves.specs.Moves as moves
+use Rattle.dr_moves.proofs.EntryLemmas.{skips, alike-advances, alike-halts}
+use Rattle.dr_moves.proofs.TurnLemmas.{ok-along, err-along}
 use Rattle.dr_revert.specs.declared.fates.Fate.{Fate}
-use Rattle.dr_revert.specs.Fates.{next_for, may_become, fields_after, move_of}
-use Rattle.dr_revert.proofs.FateLemmas.{count_of, fate-aside, fate-fits, turn-from, count-is, count-low, room-is}
+use Rattle.dr_revert.specs.Fates.{move_of, next_for, may_become, fields_after}
+use Rattle.dr_revert.proofs.FateLemmas.{calm, carries, may, most, spent, entered, others, moved}
 use Rattle.dr_revert.proofs.fates.turn_target.Goals as goal
 use Rattle.dr_logic.proofs.Options.{if-some}
-use Rattle.dr_flash.proofs.KeepLemmas.{skips}
 
 pub returns-in_default-clause-advances : goal.returns-in_default-clause-advances
 returns-in_default-clause-advances g c r d is =
     skips (world_seen (g.P.Plant.state c.args.plant.now) c.args.config.now r c.args.journal.now.events) d (is ∙ ap (next_for c.args.v.0) c.in_default.is)
 
-pub shift-requires-clause-lawful : goal.shift-requires-clause-lawful
-shift-requires-clause-lawful g c =
-    let s = g.P.Plant.state c.args.plant.now in
-    let t = c.args.config.now in
-    let x = volume_seen s t c.args.v.0 in
-    (fate-fits s t c.args.v.0 c.requires.fit c.requires.aside c.in-Some.y (plain c.fields_after-next.result) (c.fields_after-next.ensures ∙ ap (fields_after c.in-Some.y) c.peek_fields.ensures.fields) (if-some (λ (y : Fate). may_become y x.fields ≡ true) c.args.x c.in-Some.y c.in-Some.is c.requires.may)
-    (subst (λ (f : Fields). IsLawful x.tracks f) c.peek_fields.ensures.fields c.peek_fields.ensures.lawful)).lawful
+pub make_move-requires-clause-at : goal.make_move-requires-clause-at
+make_move-requires-clause-at g c = record { rest = c.requires.rest; fit = c.requires.fit }
 
-pub shift-requires-clause-leaves : goal.shift-requires-clause-leaves
-shift-requires-clause-leaves g c =
+pub make_move-requires-clause-may : goal.make_move-requires-clause-may
+make_move-requires-clause-may g c =
     let s = g.P.Plant.state c.args.plant.now in
-    let t = c.args.config.now in
-    let x = volume_seen s t c.args.v.0 in
-    (fate-fits s t c.args.v.0 c.requires.fit c.requires.aside c.in-Some.y (plain c.fields_after-next.result) (c.fields_after-next.ensures ∙ ap (fields_after c.in-Some.y) c.peek_fields.ensures.fields) (if-some (λ (y : Fate). may_become y x.fields ≡ true) c.args.x c.in-Some.y c.in-Some.is c.requires.may)
-    (subst (λ (f : Fields). IsLawful x.tracks f) c.peek_fields.ensures.fields c.peek_fields.ensures.lawful)).leaves
+    let f = (volume_seen s c.args.config.now c.args.v.0).fields in
+    may c.args.v.0 c.in-Some.y (moves.move_of c.move_for.result) c.move_for.ensures s c.args.config.now c.requires.aside c.requires.defined c.requires.running (if-some (λ (y : Fate). may_become y f ≡ true) c.args.x c.in-Some.y c.in-Some.is c.requires.may)
+
+pub make_move-requires-clause-calm : goal.make_move-requires-clause-calm
+make_move-requires-clause-calm g c = calm c.args.v.0 c.in-Some.y (moves.move_of c.move_for.result) c.move_for.ensures
+
+pub make_move-requires-clause-carries : goal.make_move-requires-clause-carries
+make_move-requires-clause-carries g c =
+    let s = g.P.Plant.state c.args.plant.now in
+    carries c.args.v.0 c.in-Some.y (moves.move_of c.move_for.result) c.move_for.ensures (volume_seen s c.args.config.now) (track_seen s c.args.config.now) (histories c.args.journal.now.events).write
+
+pub make_move-requires-clause-room : goal.make_move-requires-clause-room
+make_move-requires-clause-room g c =
+    most c.args.v.0 c.in-Some.y (moves.move_of c.move_for.result) c.move_for.ensures (g.P.Plant.state c.args.plant.now) c.args.config.now c.args.journal.now.spare c.requires.room
 
 pub returns-clause-advances : goal.returns-clause-advances
 returns-clause-advances g c =
     let s = g.P.Plant.state c.args.plant.now in
+    let u = g.P.Plant.state c.make_move.new.plant in
     let t = c.args.config.now in
-    ok-along c.shift.result c.shift.ensures.done (λ done r d is.
-    move-advances (world_seen s t r c.args.journal.now.events) (world_seen (g.P.Plant.state c.shift.new.plant) t r c.shift.new.journal.events) d (move_of c.args.v.0 c.in-Some.y) (is ∙ ap (next_for c.args.v.0) c.in-Some.is)
-    (turn-from s t c.args.v.0 c.in-Some.y (plain c.fields_after-next.result) c.of.result c.requires.running (c.fields_after-next.ensures ∙ ap (fields_after c.in-Some.y) c.peek_fields.ensures.fields) (c.of.ensures ∙ ap (λ (d : Told). record { done = d; in_stop = d; landed = 0 }) c.told_of.ensures)
-    r c.args.journal.now.events (world_seen (g.P.Plant.state c.shift.new.plant) t r c.shift.new.journal.events, None) (done r)))
+    let e = entered c.args.v.0 c.in-Some.y (moves.move_of c.move_for.result) c.move_for.ensures s u t c.args.journal.now.events c.make_move.new.journal.events c.make_move.result c.make_move.ensures.entered in
+    ok-along c.make_move.result e.advances (λ goes r d is.
+    alike-advances (world_seen s t r c.args.journal.now.events) (world_seen u t r c.make_move.new.journal.events) d (now (move_of c.args.v.0 c.in-Some.y)) (is ∙ ap (next_for c.args.v.0) c.in-Some.is) (goes r))
 
 pub returns-clause-halts : goal.returns-clause-halts
 returns-clause-halts g c =
     let s = g.P.Plant.state c.args.plant.now in
+    let u = g.P.Plant.state c.make_move.new.plant in
     let t = c.args.config.now in
-    let x = volume_seen s t c.args.v.0 in
-    err-along c.shift.result c.shift.ensures.failed c.shift.ensures.refused (λ failed refused r d is.
-    move-halts (armed_in s) (world_seen s t r c.args.journal.now.events) (world_seen (g.P.Plant.state c.shift.new.plant) t r c.shift.new.journal.events) (refusal_of c.shift.result) d (move_of c.args.v.0 c.in-Some.y) x.server (is ∙ ap (next_for c.args.v.0) c.in-Some.is) refused
-    (elim (failed r) [
-      | inl off ↦ inl off
-      | inr made ↦ inr (turn-from s t c.args.v.0 c.in-Some.y (plain c.fields_after-next.result) c.of.result c.requires.running (c.fields_after-next.ensures ∙ ap (fields_after c.in-Some.y) c.peek_fields.ensures.fields) (c.of.ensures ∙ ap (λ (d : Told). record { done = d; in_stop = d; landed = 0 }) c.told_of.ensures)
-          r c.args.journal.now.events (world_seen (g.P.Plant.state c.shift.new.plant) t r c.shift.new.journal.events, Some x.server) made)
-    ]))
+    let e = entered c.args.v.0 c.in-Some.y (moves.move_of c.move_for.result) c.move_for.ensures s u t c.args.journal.now.events c.make_move.new.journal.events c.make_move.result c.make_move.ensures.entered in
+    err-along c.make_move.result e.halts e.refused (λ halts _ r d is.
+    alike-halts (armed_in s) (world_seen s t r c.args.journal.now.events) (world_seen u t r c.make_move.new.journal.events) (refusal_of c.make_move.result) d (now (move_of c.args.v.0 c.in-Some.y)) (is ∙ ap (next_for c.args.v.0) c.in-Some.is) (halts r))
+
+pub returns-clause-refused : goal.returns-clause-refused
+returns-clause-refused g c =
+    (entered c.args.v.0 c.in-Some.y (moves.move_of c.move_for.result) c.move_for.ensures (g.P.Plant.state c.args.plant.now) (g.P.Plant.state c.make_move.new.plant) c.args.config.now c.args.journal.now.events c.make_move.new.journal.events c.make_move.result c.make_move.ensures.entered).refused
+
+pub returns-clause-moved : goal.returns-clause-moved
+returns-clause-moved g c =
+    let s = g.P.Plant.state c.args.plant.now in
+    let u = g.P.Plant.state c.make_move.new.plant in
+    let t = c.args.config.now in
+    ok-along c.make_move.result (moved c.args.v.0 c.in-Some.y (moves.move_of c.move_for.result) c.move_for.ensures s u t c.make_move.result c.make_move.ensures.moved) (λ h.
+    subst (λ o. IfSome o (λ (y : Fate). IsMoved s u t c.args.v.0 (fields_after y (volume_seen s t c.args.v.0).fields) None)) (sym c.in-Some.is) h)
+
+pub returns-clause-others : goal.returns-clause-others
+returns-clause-others g c =
+    others c.args.v.0 c.in-Some.y (moves.move_of c.move_for.result) c.move_for.ensures (g.P.Plant.state c.args.plant.now) (g.P.Plant.state c.make_move.new.plant) c.args.config.now c.make_move.ensures.others
 
 pub returns-clause-aside : goal.returns-clause-aside
-returns-clause-aside g c =
-    let s = g.P.Plant.state c.args.plant.now in
-    let t = c.args.config.now in
-    aside-after s (g.P.Plant.state c.shift.new.plant) t c.args.v.0 (plain c.fields_after-next.result) c.requires.aside
-    (subst KeepsAside (sym (c.fields_after-next.ensures ∙ ap (fields_after c.in-Some.y) c.peek_fields.ensures.fields)) (fate-aside c.in-Some.y (volume_seen s t c.args.v.0).fields (c.requires.fit.apart c.args.v.0) (c.requires.aside.aside c.args.v.0)))
-    c.shift.ensures.old_or_new c.shift.ensures.others
+returns-clause-aside g c = c.make_move.ensures.kept.aside c.requires.aside
 
 pub returns-clause-room : goal.returns-clause-room
 returns-clause-room g c =
-    let is : room_of c.of.result ≡ count_of c.in-Some.y + 1 = ap room_of (c.of.ensures ∙ ap (λ (d : Told). record { done = d; in_stop = d; landed = 0 }) c.told_of.ensures) ∙ room-is c.args.v.0 c.in-Some.y in
-    let low : count_of c.in-Some.y ≤ 1 = count-low c.in-Some.y in
-    let h = c.shift.ensures.room in
-    omega (arith, is, low, h)
+    let most = most c.args.v.0 c.in-Some.y (moves.move_of c.move_for.result) c.move_for.ensures (g.P.Plant.state c.args.plant.now) c.args.config.now 2 (omega arith) in
+    let h = c.make_move.ensures.kept.room in
+    omega (arith, most, h)
 
 pub returns-clause-room_left : goal.returns-clause-room_left
 returns-clause-room_left g c =
-    let is = ap (λ (y : Telling). length (events_of y.done)) (c.of.ensures ∙ ap (λ (d : Told). record { done = d; in_stop = d; landed = 0 }) c.told_of.ensures) ∙ count-is c.args.v.0 c.in-Some.y in
-    let low : count_of c.in-Some.y ≤ 1 = count-low c.in-Some.y in
-    ok-along c.shift.result c.shift.ensures.room_left (λ h. omega (arith, is, low, h))
+    ok-along c.make_move.result c.make_move.ensures.room_left (spent c.args.v.0 c.in-Some.y (moves.move_of c.move_for.result) c.move_for.ensures (g.P.Plant.state c.args.plant.now) c.args.config.now c.args.journal.now.spare c.make_move.new.journal.spare)

@@ -2,8 +2,8 @@ use Rattle.std.proofs.Common.{ℕ, ◌≡◌, ◌+◌, length, None}
 use Rattle.dr_model.specs.Carry.{carry}
 use Rattle.dr_model.specs.Entries.{times, give_back}
 use Rattle.dr_volume.specs.View.{volume_seen, ids_of}
-use Rattle.dr_flash.specs.Fit.{RelationsFit}
-use Rattle.dr_flash.specs.Here.{IsAtRest}
+use Rattle.dr_moves.specs.Fit.{RelationsFit}
+use Rattle.dr_moves.specs.Here.{IsAtRest}
 use Rattle.dr_incr.specs.Steps.{IsRestoredOnto}
 use Rattle.dr_steps.specs.Here.{here}
 use Rattle.dr_steps.proofs.background.restore_tracks.Given as goal

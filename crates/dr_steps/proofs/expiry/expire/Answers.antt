@@ -3,7 +3,7 @@ use Rattle.dr_model.specs.declared.said.Said.TheVariants.{Done, Refused}
 use Rattle.dr_model.specs.declared.said.Addition.TheVariants.{Alone}
 use Rattle.dr_model.specs.Plans.{expire_on}
 use Rattle.dr_model.specs.Runs.{said}
-use Rattle.dr_flash.specs.Checks.{is_stop}
+use Rattle.dr_moves.specs.Checks.{is_stop}
 use Rattle.dr_steps.specs.Here.{here, rest_of}
 use Rattle.dr_steps.proofs.ComeLemmas.{plan-comes, told-comes}
 use Rattle.dr_steps.proofs.FlashLemmas.{counted-refusal}

@@ -6,7 +6,7 @@ use Rattle.dr_model.specs.Answers.{answer}
 use Rattle.dr_model.specs.Forming.{form_in}
 use Rattle.dr_model.specs.Sessions.{session_in}
 use Rattle.dr_model.specs.declared.step.Step.TheVariants.{Run}
-use Rattle.dr_flash.specs.Here.{refusal_of}
+use Rattle.dr_moves.specs.Here.{refusal_of}
 use Rattle.dr_steps.specs.Faults.{is_stopped}
 use Rattle.dr_steps.specs.Formed.{Reaches}
 use Rattle.dr_steps.specs.Here.{here}

@@ -5,7 +5,7 @@ use Rattle.dr_model.specs.Layout as part
 use Rattle.dr_model.specs.Plans.{found_volumes}
 use Rattle.dr_model.specs.PairEntries.{resume_entries}
 use Rattle.dr_model.specs.ReadStops.{Ends}
-use Rattle.dr_flash.specs.Here.{armed_in}
+use Rattle.dr_moves.specs.Here.{armed_in}
 use Rattle.dr_steps.specs.Here.{here, rest_of}
 use Rattle.dr_steps.proofs.RelationLemmas.{relations-fit}
 use Rattle.dr_steps.proofs.FlashLemmas.{step-nowhere, step-done, step-refused, step-ready}

@@ -4,8 +4,8 @@ use Rattle.dr_model.specs.declared.said.Said.{Said}
 use Rattle.dr_model.specs.declared.said.Said.TheVariants.{Done, Refused}
 use Rattle.dr_model.specs.Plans.{start_on}
 use Rattle.dr_model.specs.Runs.{said}
-use Rattle.dr_flash.specs.Checks.{is_stop}
-use Rattle.dr_flash.specs.Here.{armed_in}
+use Rattle.dr_moves.specs.Checks.{is_stop}
+use Rattle.dr_moves.specs.Here.{armed_in}
 use Rattle.dr_metro.specs.Here.{IsTold}
 use Rattle.dr_admin.specs.Answering.{Comes}
 use Rattle.dr_steps.specs.Here.{here, rest_of}

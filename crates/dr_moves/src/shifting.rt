@@ -10,10 +10,10 @@ ghost use Rattle.dr_volume.specs.Plain.{plain};
 ghost use Rattle.dr_volume.specs.Update.{Covers, IsAsBefore, IsMoved, OthersStay};
 ghost use Rattle.dr_model.specs.ReadStops.{GoesOff};
 ghost use Rattle.dr_volume.specs.View.{Rest, volume_seen};
-ghost use Rattle.dr_flash.specs.Fit.{RelationsFit, LeavesFit};
-ghost use Rattle.dr_flash.specs.Here.{world_seen, refusal_of, armed_in, IsAtRest};
-ghost use Rattle.dr_flash.specs.Told.{events_of};
-ghost use Rattle.dr_flash.specs.Turns.{made_by, room_of};
+ghost use Rattle.dr_moves.specs.Fit.{RelationsFit, LeavesFit};
+ghost use Rattle.dr_moves.specs.Here.{world_seen, refusal_of, armed_in, IsAtRest};
+ghost use Rattle.dr_moves.specs.Told.{events_of};
+ghost use Rattle.dr_moves.specs.Turns.{made_by, room_of};
 
 use crate::place::server_of;
 use crate::told::{Telling, tell, tell_stop};

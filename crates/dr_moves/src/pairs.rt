@@ -1,14 +1,14 @@
 //! What a volume's fields say of its pair.
 
-ghost use Rattle.std.specs.Prelude.{◌≡◌, not, ◌||◌, false, Some, List, IsSome};
+ghost use Rattle.std.specs.Prelude.{◌≡◌, ◌||◌, false, Some, List, IsSome};
 ghost use Rattle.dr_config.specs.Table.{StandsFor, place_of};
 ghost use Rattle.dr_model.specs.declared.event.Event.{Event};
 ghost use Rattle.dr_model.specs.Entries as entries;
 ghost use Rattle.dr_model.specs.Pairs as pairs;
 ghost use Rattle.dr_volume.specs.Plain.{plain};
 ghost use Rattle.dr_volume.specs.View.{Rest};
-ghost use Rattle.dr_flash.specs.Checks.{is_stop};
-ghost use Rattle.dr_flash.specs.Here.{world_seen};
+ghost use Rattle.dr_moves.specs.Checks.{is_stop};
+ghost use Rattle.dr_moves.specs.Here.{world_seen};
 
 use dr_config::Config;
 use dr_ids::{PairSeen, Refusal, VolumeId};

@@ -16,11 +16,11 @@ use Rattle.dr_model.specs.Refusals.{stopped}
 use Rattle.dr_volume.specs.View.{Rest, volume_seen, IsSettled}
 use Rattle.dr_volume.specs.Update.{EndsAs, after_reading, IsAsBefore, IsMoved, OthersStay}
 use Rattle.dr_volume.proofs.UnreadLaws.{armed-of, lies-low}
-use Rattle.dr_flash.specs.declared.told.Telling.{Telling}
-use Rattle.dr_flash.specs.Here.{world_seen, armed_in, IsAtRest}
-use Rattle.dr_flash.specs.Turns.{made_by, told_in_stop}
-use Rattle.dr_flash.proofs.MadeLemmas.{made-stops, done-by}
-use Rattle.dr_flash.proofs.ReadLemmas.{on-running, is-armed}
+use Rattle.dr_moves.specs.declared.told.Telling.{Telling}
+use Rattle.dr_moves.specs.Here.{world_seen, armed_in, IsAtRest}
+use Rattle.dr_moves.specs.Turns.{made_by, told_in_stop}
+use Rattle.dr_moves.proofs.MadeLemmas.{made-stops, done-by}
+use Rattle.dr_moves.proofs.ReadLemmas.{on-running, is-armed}
 
 same-beq : (a b : Bool) → a ≡ b → not (beq a b) ≡ false
 same-beq true true h = refl

@@ -2,7 +2,7 @@
 use Rattle.std.proofs.Common.{ℕ, ◌≡◌, ◌⊎◌, inl, inr, Bool, true, false, not, List, [], ◌∷◌, ◌++◌, cond, refl, ◌∙◌, ap, Option, Some, None}
 use Rattle.std.specs.Prelude.{if◌then◌else◌, Result, Ok, Err, OnOk, OnErr, is_err}
 use Rattle.std.specs.Result.{IsErrAnd}
-use Rattle.dr_flash.specs.Here.{refusal_of}
+use Rattle.dr_moves.specs.Here.{refusal_of}
 use Rattle.dr_ids.specs.declared.refusal.Refusal.{Refusal}
 use Rattle.dr_model.specs.declared.event.Event.TheVariants.{Stopped}
 use Rattle.dr_model.specs.Histories.{histories}
@@ -13,9 +13,9 @@ use Rattle.dr_model.specs.Moves.{Move, Carried, target, next_fields, carried, to
 use Rattle.dr_model.specs.Carry.{turn, turn_ended, update, finished, cut_short, Ended, Make, Entry, now}
 use Rattle.dr_model.specs.ReadStops.{GoesOff}
 use Rattle.dr_model.proofs.CarryLemmas.{act-move}
-use Rattle.dr_flash.specs.declared.told.Telling.{Telling}
-use Rattle.dr_flash.specs.Told.{events_of}
-use Rattle.dr_flash.specs.Turns.{made_by, Advances, Halts}
+use Rattle.dr_moves.specs.declared.told.Telling.{Telling}
+use Rattle.dr_moves.specs.Told.{events_of}
+use Rattle.dr_moves.specs.Turns.{made_by, Advances, Halts}
 use Rattle.dr_facts.proofs.Ends.{ends-off, ends-goes, ends-stops}
 
 -- what a move of that volume tells, and it settles no pending write

@@ -6,12 +6,12 @@ use Rattle.dr_model.specs.Carry as machine
 use Rattle.dr_model.specs.ReadStops.{GoesOff}
 use Rattle.dr_volume.specs.Plain.{plain}
 use Rattle.dr_volume.specs.View.{world, volume_seen}
-use Rattle.dr_flash.specs.Here.{world_seen, armed_in}
-use Rattle.dr_flash.specs.Turns.{made_by, told_in_stop}
-use Rattle.dr_flash.proofs.FitLemmas.{fit-after}
-use Rattle.dr_flash.proofs.MadeLemmas.{made-goes}
-use Rattle.dr_flash.proofs.ShiftLemmas.{read-passed, stopped-by, rest-after}
-use Rattle.dr_flash.proofs.acts.shift.Goals as goal
+use Rattle.dr_moves.specs.Here.{world_seen, armed_in}
+use Rattle.dr_moves.specs.Turns.{made_by, told_in_stop}
+use Rattle.dr_moves.proofs.FitLemmas.{fit-after}
+use Rattle.dr_moves.proofs.MadeLemmas.{made-goes}
+use Rattle.dr_moves.proofs.ShiftLemmas.{read-passed, stopped-by, rest-after}
+use Rattle.dr_moves.proofs.shifting.shift.Goals as goal
 
 pub returns-in-Ok-clause-done : goal.returns-in-Ok-clause-done
 returns-in-Ok-clause-done g c r =

@@ -3,7 +3,7 @@ use Rattle.std.proofs.lemmas.List.{append_assoc}
 use Rattle.dr_model.specs.Control.{World}
 use Rattle.dr_model.specs.Carry.{Entry}
 use Rattle.dr_model.specs.ReadStops.{Ends}
-use Rattle.dr_flash.specs.Turns.{Leads, Fails}
+use Rattle.dr_moves.specs.Turns.{Leads, Fails}
 use Rattle.dr_ids.specs.declared.refusal.Refusal.{Refusal}
 
 pub then-leads : (w v u : World) (es fs : List Entry) → Leads w es v → Leads v fs u → Leads w (es ++ fs) u
