@@ -18,14 +18,10 @@ use Rattle.dr_moves.specs.declared.told.Told.TheVariants.{Nothing, One, Blanked}
 use Rattle.dr_moves.proofs.FitLemmas.{fit-kept}
 use Rattle.dr_flash.proofs.FieldLemmas.{lawful-fetched, lawful-rewritten, lawful-closed, lawful-withdrawn}
 use Rattle.dr_moves.specs.Made.{Apart}
-use Rattle.dr_moves.proofs.MoveFits.{MoveFits, apart-fetched, apart-empty, apart-parted, covers-all, covers-rest, covers-carried}
+use Rattle.dr_moves.proofs.MoveFits.{MoveFits, parted-keeps, apart-fetched, apart-empty, apart-parted, covers-all, covers-rest, covers-carried}
 use Rattle.dr_moves.proofs.TurnLemmas.{Tells}
 use Rattle.dr_flash.proofs.CheckLemmas.{same-test}
 use Rattle.dr_facts.proofs.Lawful.{lawful-noted, lawful-made}
-
-parted-keeps : (b : Bool) (f : Fields) → (parted_if b f).related ≡ true → (f.related ≡ true) × ((parted_if b f).source ≡ f.source)
-parted-keeps true f related = absurd (let e : false ≡ true = related in cc)
-parted-keeps false f related = (related, refl)
 
 module _ (s : PlantState) (t : ConfigTable) (v : ℕ) (fit : RelationsFit s t) (lawful : IsLawful (volume_seen s t v).tracks (volume_seen s t v).fields) where
   abbrev x : Volume

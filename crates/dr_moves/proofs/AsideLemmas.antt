@@ -6,7 +6,7 @@ use Rattle.dr_plant.specs.State.{PlantState}
 use Rattle.dr_config.specs.Table.{ConfigTable}
 use Rattle.dr_model.specs.Layout.{Fields}
 use Rattle.dr_model.specs.Control.{Volume}
-use Rattle.dr_model.specs.Moves.{Move, Land, Overwrite, Keep, Note, Relate, Withdraw, Fetch, Resync, Reverse, Restore, Release, Store, Strike, Suspend, MakeSecondary, MakePrimary, DropPrimary, DropSecondary, Follow, Resume, TakeOver, FallBack, Yield, Unsync, Mirror, LandBoth, Thaw, Lift, Restart, Hold, Free, Seal, Finish, RaiseAttempt, RaiseFloor, Leave, Flash, Commit, Revert, Carried, fields_left}
+use Rattle.dr_model.specs.Moves.{Move, Land, Overwrite, Keep, Relate, Withdraw, Fetch, Reverse, Restore, Release, Store, Mirror, LandBoth, Flash, Commit, Revert, Carried, fields_left}
 use Rattle.dr_model.specs.Relations.{is_bare, parted_if, fetched, noted, rewritten, withdrawn_if, turned, given_up}
 use Rattle.dr_volume.specs.Update.{IsAsBefore, IsMoved, OthersStay}
 use Rattle.dr_volume.specs.View.{volume_seen}
@@ -30,42 +30,19 @@ pub aside-kept : (m : Move) (x : Volume) → Apart x.fields.own x.fields.blank �
 aside-kept (Land w v t) x apart keeps = aside-less x.fields t keeps
 aside-kept (Overwrite w v t) x apart keeps = aside-parted _ (rewritten (fetched x.fields t) t) (aside-less x.fields t keeps)
 aside-kept (Keep v t) x apart keeps = aside-parted _ (noted (fetched x.fields t) t) (aside-less x.fields t keeps)
-aside-kept (Note v t) x apart keeps = keeps
 aside-kept (Relate v s options) x apart keeps = λ r. absurd (let e : false ≡ true = r in cc)
 aside-kept (Withdraw v) x apart keeps = λ r. absurd (let e : false ≡ true = r in cc)
 aside-kept (Fetch v t) x apart keeps = aside-parted _ (fetched x.fields t) (aside-less x.fields t keeps)
-aside-kept (Resync v sequence) x apart keeps = keeps
 aside-kept (Reverse v left) x apart keeps = aside-restored (is_bare (turned x.fields).own) x.tracks (turned x.fields) keeps
 aside-kept (Restore v t u) x apart keeps = aside-less x.fields t keeps
 aside-kept (Release v t) x apart keeps = aside-restored (is_bare (given_up x.fields t).own) x.tracks (given_up x.fields t) keeps
 aside-kept (Store v t u last) x apart keeps = aside-less x.fields t keeps
-aside-kept (Strike v t last) x apart keeps = keeps
-aside-kept (Suspend v busy) x apart keeps = keeps
-aside-kept (MakeSecondary v u kind state) x apart keeps = keeps
-aside-kept (MakePrimary v u kind state full) x apart keeps = keeps
-aside-kept (DropPrimary v) x apart keeps = keeps
-aside-kept (DropSecondary v) x apart keeps = keeps
-aside-kept (Follow v state) x apart keeps = keeps
-aside-kept (Resume v state) x apart keeps = keeps
-aside-kept (TakeOver v) x apart keeps = keeps
-aside-kept (FallBack v more state) x apart keeps = keeps
-aside-kept (Yield v u kind state) x apart keeps = keeps
-aside-kept (Unsync v t) x apart keeps = keeps
 aside-kept (Mirror v t u w) x apart keeps = aside-less x.fields t keeps
 aside-kept (LandBoth w v t) x apart keeps = aside-less x.fields t keeps
-aside-kept (Thaw v) x apart keeps = keeps
-aside-kept (Lift v) x apart keeps = keeps
-aside-kept (Restart v) x apart keeps = keeps
-aside-kept (Hold v s n first) x apart keeps = keeps
-aside-kept (Free v) x apart keeps = keeps
-aside-kept (Seal v u s n) x apart keeps = keeps
-aside-kept (Finish v n) x apart keeps = keeps
-aside-kept (RaiseAttempt v n) x apart keeps = keeps
-aside-kept (RaiseFloor v n) x apart keeps = keeps
-aside-kept (Leave v u s) x apart keeps = keeps
 aside-kept (Flash v u a s n) x apart keeps = λ r. apart
 aside-kept (Commit v a s n) x apart keeps = λ r. absurd (let e : false ≡ true = r in cc)
 aside-kept (Revert v a s n) x apart keeps = λ r. absurd (let e : false ≡ true = r in cc)
+aside-kept m x apart keeps = keeps
 
 -- v is as it was, or got these fields
 module _ (s u : PlantState) (c : ConfigTable) (v : ℕ) (f : Fields) (t : Carried) (fit : AsideFits s c) (keeps : KeepsAside f) where

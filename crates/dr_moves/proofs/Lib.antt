@@ -1,5 +1,5 @@
 -- Read first: `MoveRows.antt`, `MoveFits.antt`, `MoveTracks.antt`, `AsideLemmas.antt`, `StopRows.antt`, `EnteredLemmas.antt`: what
--- holds of each kind of move, one clause a kind; `TurnMade.antt`: the machine's turn, from what was made of the volume;
+-- holds of each kind of move, one clause a kind, or one for all that are alike; `TurnMade.antt`: the machine's turn, from what was made of the volume;
 -- `KeptLemmas.antt`: what stays, also along two calls in a row; `EntryLemmas.antt`, and `Ends.antt` of `dr_facts`: entry by entry;
 -- `ActedLemmas.antt`: what an entry came to was done.
 -- - **A move of a kind**: `make_move` with the move as a value. Where the kind stands in the call, its rows of the catalogue

@@ -73,7 +73,7 @@ covers-rest n own blank low apart k h =
     held true true low none = absurd (none refl)
     held false b low none = absurd cc
 
-parted-keeps : (b : Bool) (f : Fields) → (parted_if b f).related ≡ true → (f.related ≡ true) × ((parted_if b f).source ≡ f.source)
+pub parted-keeps : (b : Bool) (f : Fields) → (parted_if b f).related ≡ true → (f.related ≡ true) × ((parted_if b f).source ≡ f.source)
 parted-keeps true f related = absurd (let e : false ≡ true = related in cc)
 parted-keeps false f related = (related, refl)
 

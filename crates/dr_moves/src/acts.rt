@@ -21,15 +21,15 @@ use dr_model::Journal;
 use dr_plant::{Block, Plant};
 use dr_volume::{Opened, slot};
 
-/// The server of a move stopped in it, or went off at a read before it.
+/// A move that wasn't done: its server stopped in it, or went off at a read before it.
 #[derive(Clone, Copy)]
 pub struct Stop {
     pub server: ServerId,
-    /// The move counts as done.
+    /// Whether the move counts as done all the same, so that its fields hold from the next start on.
     pub counts: bool,
 }
 
-/// The same, of a volume that was opened.
+/// Makes a move of a volume that was opened: its next fields are those of the move, by what was opened.
 fn change<P: Plant>(
     plant: &mut P,
     config: &Config,
@@ -70,8 +70,9 @@ fn change<P: Plant>(
     }
 }
 
-/// Makes a move of a volume whose server is on, with the track that it carries. Fails where the server stops in it or goes off
-/// at the read of the record, and says whether the move counts as done.
+/// Makes a move of a volume whose server is on, with the track that it carries: a number below the volume's size and 64 bytes.
+/// Fails where the server stops in it or goes off at the read of the record, and says whether the move counts as done. The
+/// journal needs room for what the move tells, done or stopped, and for the stop.
 pub fn make<P: Plant>(
     plant: &mut P,
     config: &Config,
@@ -103,7 +104,8 @@ pub fn make<P: Plant>(
     }
 }
 
-/// Makes a move that lands no host write, as an entry of a plan. Fails with the stop of its server.
+/// Makes a move that lands no host write, as an entry of a plan. Fails with `Refusal::Stopped` of its server, where `make` fails.
+/// The journal needs the same room.
 pub fn make_move<P: Plant>(
     plant: &mut P,
     config: &Config,

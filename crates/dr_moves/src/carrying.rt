@@ -25,14 +25,20 @@ use dr_plant::Plant;
 /// What an entry comes to.
 #[derive(Clone, Copy)]
 pub enum Next {
+    /// Nothing.
     Pass,
+    /// A move that carries no track.
     Do(Move),
     /// A move that carries this track of a volume.
     Bring(Move, VolumeId, u16),
+    /// The plan is refused here; this is no stop.
     End(Refusal),
 }
 
 /// The entries of a plan that are left: each says what it comes to in the state that those before it left.
+///
+/// `left` is the list of them, and `first` the first. `stands` is what holds of plant and configuration before it comes, `spares`
+/// says which volumes none of them moves, and `room` is how many events they tell at most.
 pub trait Entries<P: Plant> {
     ghost left: { Self → ConfigTable → List Entry };
 
@@ -61,7 +67,8 @@ pub trait Entries<P: Plant> {
         ensures room { cost_of result (P.state plant.now) config.now + room self.new config.now ≤ room self.old config.now };
 }
 
-/// Does what an entry comes to.
+/// Does what an entry comes to: nothing, or its move. Fails with its refusal, or with `Refusal::Stopped` where a server stops in
+/// the move or goes off at a read. The journal needs room for what the move tells, and for a stop.
 pub fn act<P: Plant>(
     plant: &mut P,
     config: &Config,
@@ -115,7 +122,8 @@ fn bring<P: Plant>(
     make_move(plant, config, journal, m, Some((t, bytes)))
 }
 
-/// Carries out the entries that are left, until one ends the plan or a server stops.
+/// Carries out the entries that are left, in order. Fails with the refusal of the one that ends the plan, or with
+/// `Refusal::Stopped` where a server stops. The journal needs room for what they tell, and for a stop.
 pub fn carry<P: Plant, E: Entries<P>>(
     plant: &mut P,
     config: &Config,

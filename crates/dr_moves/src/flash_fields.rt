@@ -1,6 +1,7 @@
 //! What the fields of a volume become as relationships are made, kept and ended.
 
 ghost use Rattle.std.specs.Prelude.{◌≡◌, ◌≤◌, ◌<◌, true};
+ghost use Rattle.std.specs.FinSet.{difference};
 ghost use Rattle.dr_model.specs.Pairs as pairs;
 ghost use Rattle.dr_model.specs.Relations as relations;
 ghost use Rattle.dr_volume.specs.Plain.{plain};
@@ -188,15 +189,22 @@ pub fn withdrawn(n: u16, f: &Fields) -> Fields
     }
 }
 
-/// A target that shares its changed tracks with its source again; where a sequence is given, it has that one.
-pub fn resynced(sequence: Option<u32>, f: &Fields) -> Fields
-    ensures { plain result ≡ relations.resynced sequence (plain f.now) }
+/// The tracks that a target holds and that changed on neither side.
+pub(crate) fn unchanged(f: &Fields) -> TrackSet
+    ensures { result ≡ difference (difference f.now.own f.now.source_changes) f.now.target_changes }
 {
     let mut own = f.own;
     own.minus(&f.source_changes);
     own.minus(&f.target_changes);
+    own
+}
+
+/// A target that shares its changed tracks with its source again; where a sequence is given, it has that one.
+pub fn resynced(sequence: Option<u32>, f: &Fields) -> Fields
+    ensures { plain result ≡ relations.resynced sequence (plain f.now) }
+{
     Fields {
-        own,
+        own: unchanged(f),
         source_changes: TrackSet::empty(),
         target_changes: TrackSet::empty(),
         sequence: sequence.unwrap_or(f.sequence),

@@ -5,7 +5,8 @@
 //! the track that the move carries, and tells the journal. Where the server stops, `Stop` says whether the move counts as
 //! done. `make_move` is the same as an entry of a plan, and `act` does whatever an entry comes to (`Next`). `carry` does so
 //! with the entries of a plan that are left (`Entries`), in order, until one ends it or a server stops. `Asks` (specs) is
-//! what a kind of move asks of the plant, and `Kept` what stays over each of these calls.
+//! what a kind of move asks of the plant, and `Kept` what stays over each of these calls. `shift` makes a move whose fields
+//! its caller gives.
 #![tactic(auto)]
 
 mod acts;
@@ -37,7 +38,7 @@ pub use pair_fields::{
 };
 pub use pairs::{is_quiet, is_unpaired, pair_state};
 pub use place::{server_of, tracks_of};
-pub use reads::{open_told, read_told};
+pub use reads::read_told;
 pub use sets::{is_whole, lowest, rest};
 pub use shifting::shift;
 pub use told::{Telling, Told};

@@ -37,7 +37,7 @@ fn gone_off(config: &Config, journal: &mut Journal, v: VolumeId) -> Refusal
 }
 
 /// Opens a volume whose server is on. Fails where the server goes off at the read.
-pub fn open_told<P: Plant>(
+pub(crate) fn open_told<P: Plant>(
     plant: &mut P,
     config: &Config,
     journal: &mut Journal,

@@ -1,4 +1,4 @@
-//! One move of a volume as one act: its record and its track are changed, and the journal is told.
+//! One move of a volume whose fields the caller gives: its record and its track are changed, and the journal is told.
 
 ghost use Rattle.std.specs.Prelude.{◌≡◌, ℕ, ◌<◌, ◌≤◌, ◌+◌, true, length, None, Some, IsSome, IfSome, OnOk, OnErr, is_err, ◌⊎◌};
 ghost use Rattle.dr_logic.specs.Counts.{Counted};
