@@ -1,5 +1,5 @@
 -- An entry that comes to an act, from what the act made; checks before it; and a hold that begins an attempt.
-use Rattle.std.proofs.Common.{ℕ, ◌≡◌, ◌≤◌, ◌+◌, arith, ◌⊎◌, inl, inr, Bool, true, false, not, ◌&&◌, List, [], ◌∷◌, refl, sym, ◌∙◌, ap, subst, Option, None, Some}
+use Rattle.std.proofs.Common.{ℕ, ◌≡◌, ◌≤◌, ◌+◌, arith, ◌⊎◌, inl, inr, Bool, true, false, not, ◌&&◌, List, [], ◌∷◌, refl, sym, ◌∙◌, ap, subst, Option, None, Some, length}
 use Rattle.std.specs.Prelude.{nat_lt, if◌then◌else◌, Result, Ok, Err, OnOk, OnErr}
 use Rattle.std.specs.Option.{option_or}
 use Rattle.std.proofs.Math.Bool.{and-false, and-true}
@@ -10,20 +10,20 @@ use Rattle.dr_model.specs.declared.event.Event.{Event}
 use Rattle.dr_model.specs.Layout.{Fields}
 use Rattle.dr_model.specs.Control.{Control, Volume, World}
 use Rattle.dr_model.specs.Pairs.{records, is_engaged}
-use Rattle.dr_model.specs.Moves.{Move, Hold, Free, Finish}
+use Rattle.dr_model.specs.Moves.{Hold, Free, Finish, told}
 use Rattle.dr_model.specs.Carry.{Act, Make, OpenAttempt, act, turn, opened_by, attempt_begun, Pass, Do, Entry, equal}
 use Rattle.dr_model.specs.PairEntries.{refuse_if}
 use Rattle.dr_model.specs.ReadStops.{GoesOff, Ends}
-use Rattle.dr_model.specs.Refusals.{stopped}
 use Rattle.dr_model.specs.SessionEntries.{last_of, hold_refusal, stale_refusal, hold_on, hold_entries, free_on, is_past, finish_on}
 use Rattle.dr_model.proofs.CarryLemmas.{act-move}
 use Rattle.dr_volume.specs.Update.{IsMoved}
 use Rattle.dr_volume.specs.View.{Rest, volume_seen}
 use Rattle.dr_moves.specs.Checks.{Checked}
+use Rattle.dr_moves.specs.Made.{room_for}
+use Rattle.dr_moves.proofs.StopRows.{room-few}
 use Rattle.dr_moves.specs.Here.{world_seen, refusal_of}
-use Rattle.dr_moves.specs.Turns.{Advances, Halts, Leads, Fails}
+use Rattle.dr_moves.specs.Turns.{Advances, Leads, Fails}
 use Rattle.dr_moves.proofs.EntryLemmas.{led, failed, ends-clear, ends-why, skips}
-use Rattle.dr_facts.proofs.Ends.{ends-off, ends-goes, ends-stops, ends-skips}
 use Rattle.dr_coord.specs.Changes.{begins, begun_if, rest_after, void_on}
 use Rattle.dr_facts.proofs.Refusals.{none-both}
 use Rattle.dr_facts.proofs.Turns.{equal-same, equal-not}
@@ -129,3 +129,15 @@ begins-moved first s u t v f moved =
 
 pub spare-left : (a b : ℕ) (first begun : Bool) → begun ≡ first → a ≡ b + (if first then 2 else 1) → a ≤ b + (if begun then 2 else 1)
 spare-left a b first begun is e = let same = ap {B = ℕ} (λ (c : Bool). if c then 2 else 1) is in omega (arith, same, e)
+
+-- a hold tells that the volume is cut, and the first one that its attempt begins
+hold-count : (v k n : ℕ) (first : Bool) (x : Volume) → length (told (Hold v k n first) x) ≡ (if first then 2 else 1)
+hold-count v k n true x = refl
+hold-count v k n false x = refl
+
+pub hold-most : (v k n : ℕ) (first : Bool) (x : Volume) (m : ℕ) → (if first then 3 else 2) ≤ m → room_for (Hold v k n first) x ≤ m
+hold-most v k n true x m h = room-few (Hold v k n true) x m (omega (arith, h))
+hold-most v k n false x m h = room-few (Hold v k n false) x m (omega (arith, h))
+
+pub hold-spent : (v k n : ℕ) (first : Bool) (x : Volume) (a b : ℕ) → a ≡ b + length (told (Hold v k n first) x) → a ≡ b + (if first then 2 else 1)
+hold-spent v k n first x a b h = subst (λ c. a ≡ b + c) (hold-count v k n first x) h

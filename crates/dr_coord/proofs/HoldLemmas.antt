@@ -1,26 +1,19 @@
 -- How holds of a volume end, and how it goes on as its server starts: the fields are lawful, and what is told.
-use Rattle.std.proofs.Common.{ℕ, ◌≡◌, ◌<◌, ◌⊎◌, inl, inr, Bool, true, false, ◌&&◌, ◌||◌, cond, nat_eq, ◌==◌, arith, List, [], ◌∷◌, ◌++◌, refl, sym, ◌∙◌, ap, Option, None, Some}
+use Rattle.std.proofs.Common.{ℕ, ◌≡◌, ◌<◌, ◌⊎◌, inl, inr, Bool, true, false, ◌&&◌, nat_eq, List, [], ◌∷◌, ◌++◌, refl, sym, ◌∙◌, ap, Option, None, Some}
 use Rattle.std.specs.Prelude.{is_some, if◌then◌else◌}
-use Rattle.std.proofs.lemmas.Bool.Decides.{Decides-eqb, nat_tests}
+use Rattle.std.proofs.lemmas.Bool.Decides.{Decides-eqb}
 use Rattle.std.proofs.lemmas.List.{append-nil}
-use Rattle.std.specs.List.{find, list_any}
 use Rattle.dr_plant.specs.State.{PlantState, passes_read}
 use Rattle.dr_config.specs.Table.{ConfigTable, place_of}
-use Rattle.dr_config.specs.declared.entries.VolumeEntry.{VolumeEntry}
 use Rattle.dr_ids.specs.declared.refusal.Refusal.{Refusal}
 use Rattle.dr_model.specs.declared.event.Event.{Event}
 use Rattle.dr_model.specs.declared.event.Event.TheVariants.{Stopped}
-use Rattle.dr_model.specs.declared.state.PairState.{PairState}
-use Rattle.dr_model.specs.declared.state.PairState.TheVariants.{CopyPending}
-use Rattle.dr_model.specs.Layout.{Fields}
-use Rattle.dr_model.specs.Lawful.{HasSets, IsLawful, NoPrimary}
 use Rattle.dr_model.specs.Control.{Volume, World}
-use Rattle.dr_model.specs.Pairs.{held, lifted, restarted, is_engaged, is_torn, must_restart}
-use Rattle.dr_model.specs.Moves.{Move, Lift, Restart, fields_left}
+use Rattle.dr_model.specs.Pairs.{held, restarted, must_restart}
+use Rattle.dr_model.specs.Moves.{Move, Lift, Restart}
 use Rattle.dr_model.specs.Carry.{Pass, Do, Make, Entry, Ended, ended, update, now}
 use Rattle.dr_model.specs.WriteEntries.{belongs, lift_on, restart_on}
-use Rattle.dr_volume.specs.View.{Rest, volume_seen, ids_of}
-use Rattle.dr_moves.specs.Fit.{RelationsFit}
+use Rattle.dr_volume.specs.View.{Rest, volume_seen}
 use Rattle.dr_moves.specs.Here.{world_seen, armed_in}
 use Rattle.dr_moves.specs.declared.told.Told.TheVariants.{Nothing}
 use Rattle.dr_moves.specs.Turns.{told_in_stop, Advances, Halts}
@@ -33,16 +26,9 @@ use Rattle.dr_volume.proofs.UnreadLaws.{armed-of, lies-low}
 use Rattle.dr_model.specs.ReadStops.{shut, Ends}
 use Rattle.dr_model.specs.Refusals.{stopped}
 use Rattle.dr_coord.specs.Standing.{StandsReady}
-use Rattle.dr_moves.proofs.FitLemmas.{fit-kept}
-use Rattle.dr_moves.proofs.MoveFits.{covers-all, MoveFits}
-use Rattle.dr_flash.proofs.FieldLemmas.{low-if}
 use Rattle.dr_moves.proofs.TurnLemmas.{Tells, advances, halts, halts-gone}
-use Rattle.dr_facts.proofs.Ends.{ends-skips, ends-alike, ends-none}
-use Rattle.dr_gcopy.proofs.SendMoves.{low-union}
-use Rattle.dr_config.proofs.KeyLaws.{eqb-turned}
-use Rattle.dr_model.proofs.LawfulLemmas.{low-empty}
+use Rattle.dr_facts.proofs.Ends.{ends-skips, ends-none}
 use Rattle.dr_volume.proofs.WorldLaws.{any_id}
-use Rattle.dr_facts.proofs.Lawful.{lawful-lifted}
 
 -- the server, whose read fuse is armed, went off before any write
 record Shuts (armed : ℕ → Bool) (server : ℕ) (w u : World) (failed : Bool) : Type 0 where

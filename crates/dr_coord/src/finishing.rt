@@ -14,12 +14,11 @@ ghost use Rattle.dr_moves.specs.Turns.{Advances, Halts};
 ghost use Rattle.dr_moves.specs.Aside.{AsideFits};
 ghost use Rattle.dr_coord.specs.Changes.{void_on};
 
-use crate::changes::{Change, make_change};
 use crate::fields::is_past;
 use dr_config::Config;
 use dr_ids::{Member, Refusal, VolumeId};
 use dr_model::Journal;
-use dr_moves::is_engaged;
+use dr_moves::{Move, is_engaged, make_move};
 use dr_plant::Plant;
 use dr_volume::peek_fields;
 
@@ -56,7 +55,7 @@ pub fn finish<P: Plant>(
     if is_past(n, &peek_fields(plant, config, m.a)) {
         return Ok(());
     }
-    make_change(plant, config, journal, m.a, Change::Finish { n })
+    make_move(plant, config, journal, &Move::Finish { v: m.a, n }, None)
 }
 
 /// Voids a volume whose server is on, where it records or is held: what changed while it recorded is out of sync again, and it
@@ -90,5 +89,5 @@ pub fn void<P: Plant>(
     if !is_engaged(&peek_fields(plant, config, v)) {
         return Ok(());
     }
-    make_change(plant, config, journal, v, Change::Finish { n: 0 })
+    make_move(plant, config, journal, &Move::Finish { v, n: 0 }, None)
 }

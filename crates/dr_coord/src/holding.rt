@@ -17,12 +17,12 @@ ghost use Rattle.dr_moves.specs.Turns.{Advances, Halts, Leads, Fails};
 ghost use Rattle.dr_moves.specs.Aside.{AsideFits};
 ghost use Rattle.dr_coord.specs.Changes.{begins, rest_after};
 
-use crate::changes::{Change, make_change};
 use crate::checks::{hold_refusal, void_refusal};
 use crate::fields::records;
 use dr_config::Config;
 use dr_ids::{Member, Refusal, SessionId, VolumeId};
 use dr_model::Journal;
+use dr_moves::{Move, make_move};
 use dr_plant::Plant;
 use dr_volume::peek_fields;
 
@@ -62,12 +62,8 @@ fn hold<P: Plant>(
     if records(n, &peek_fields(plant, config, a)) {
         return Ok(());
     }
-    let hold = Change::Hold {
-        session: s,
-        n,
-        first,
-    };
-    make_change(plant, config, journal, a, hold)
+    let hold = Move::Hold { v: a, s, n, first };
+    make_move(plant, config, journal, &hold, None)
 }
 
 /// Holds the primary of a member for attempt n of a session, where its server is on: host writes on it wait, and what is out
@@ -145,7 +141,7 @@ fn free<P: Plant>(
     if !peek_fields(plant, config, a).coordination {
         return Ok(());
     }
-    make_change(plant, config, journal, a, Change::Free)
+    make_move(plant, config, journal, &Move::Free { v: a }, None)
 }
 
 /// Lets the primary of a member go, where its server is on and it is held: host writes on it wait no more, and it goes on to

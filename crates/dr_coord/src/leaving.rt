@@ -13,10 +13,10 @@ ghost use Rattle.dr_moves.specs.Fit.{RelationsFit};
 ghost use Rattle.dr_moves.specs.Here.{world_seen, refusal_of, armed_in, IsAtRest};
 ghost use Rattle.dr_moves.specs.Turns.{Advances, Halts};
 
-use crate::changes::{Change, make_change};
 use dr_config::Config;
 use dr_ids::{Refusal, SessionId, VolumeId};
 use dr_model::Journal;
+use dr_moves::{Move, make_move};
 use dr_plant::Plant;
 
 /// Target v, whose server is on, is no longer one of session s, of whose member a is the primary: what its control record
@@ -49,9 +49,5 @@ pub fn leave<P: Plant>(
     ensures room_left { OnOk result (journal.old.spare ≡ journal.new.spare + 1) }
     ensures spare { length journal.new.events + journal.new.spare ≡ length journal.old.events + journal.old.spare }
 {
-    let leave = Change::Leave {
-        primary: a,
-        session: s,
-    };
-    make_change(plant, config, journal, v, leave)
+    make_move(plant, config, journal, &Move::Leave { v, u: a, s }, None)
 }

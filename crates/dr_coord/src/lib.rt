@@ -9,7 +9,6 @@
 //! fault exactly where the server stopped (`faults`).
 #![tactic(auto)]
 
-mod changes;
 mod checks;
 mod expiring;
 mod fields;
@@ -19,7 +18,6 @@ mod leaving;
 mod raising;
 mod restarting;
 
-pub use changes::{Change, make_change};
 pub use checks::void_refusal;
 pub use expiring::expire;
 pub use finishing::{finish, void};

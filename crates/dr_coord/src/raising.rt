@@ -12,10 +12,10 @@ ghost use Rattle.dr_moves.specs.Fit.{RelationsFit};
 ghost use Rattle.dr_moves.specs.Here.{world_seen, refusal_of, armed_in, IsAtRest};
 ghost use Rattle.dr_moves.specs.Turns.{Advances, Halts};
 
-use crate::changes::{Change, make_change};
 use dr_config::Config;
 use dr_ids::{Refusal, VolumeId};
 use dr_model::Journal;
+use dr_moves::{Move, make_move};
 use dr_plant::Plant;
 use dr_volume::peek_fields;
 
@@ -51,7 +51,7 @@ pub fn raise_attempt<P: Plant>(
     if n <= peek_fields(plant, config, v).attempt {
         return Ok(());
     }
-    make_change(plant, config, journal, v, Change::RaiseAttempt { n })
+    make_move(plant, config, journal, &Move::RaiseAttempt { v, n }, None)
 }
 
 /// The floor of target v, whose server is on, becomes n where it is lower: nothing of an attempt up to n is flashed on it any
@@ -86,5 +86,5 @@ pub fn raise_floor<P: Plant>(
     if n <= peek_fields(plant, config, v).floor {
         return Ok(());
     }
-    make_change(plant, config, journal, v, Change::RaiseFloor { n })
+    make_move(plant, config, journal, &Move::RaiseFloor { v, n }, None)
 }

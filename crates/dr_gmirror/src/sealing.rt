@@ -20,10 +20,11 @@ ghost use Rattle.dr_moves.specs.Aside.{AsideFits};
 ghost use Rattle.dr_gmirror.specs.Orders.{sync_seen};
 
 use dr_config::Config;
-use dr_coord::{Change, make_change, void_refusal};
+use dr_coord::void_refusal;
 use dr_gcopy::send_refusal;
 use dr_ids::{Member, Refusal, SessionId};
 use dr_model::Journal;
+use dr_moves::{Move, make_move};
 use dr_plant::Plant;
 use dr_volume::{Fields, peek_fields};
 
@@ -70,12 +71,13 @@ fn seal_drained<P: Plant>(
     if peek_fields(plant, config, m.b).seal == n {
         return Ok(());
     }
-    let seal = Change::Seal {
-        primary: m.a,
-        session: s,
+    let seal = Move::Seal {
+        v: m.b,
+        u: m.a,
+        s,
         n,
     };
-    make_change(plant, config, journal, m.b, seal)
+    make_move(plant, config, journal, &seal, None)
 }
 
 /// Seals the secondary of a member for attempt n of a session, where the primary has nothing left to send to it, and tells

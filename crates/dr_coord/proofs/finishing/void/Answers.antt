@@ -23,24 +23,24 @@ pub returns-clause-advances : goal.returns-clause-advances
 returns-clause-advances g c =
     let s = g.P.Plant.state c.args.plant.now in
     let t = c.args.config.now in
-    ok-along c.make_change.result c.make_change.ensures.done (λ done r.
-    move-advances (world_seen s t r c.args.journal.now.events) (world_seen (g.P.Plant.state c.make_change.new.plant) t r c.make_change.new.journal.events) (void_on c.args.v.0) (Finish c.args.v.0 0)
+    ok-along c.make_move.result c.make_move.ensures.entered.done (λ done r.
+    move-advances (world_seen s t r c.args.journal.now.events) (world_seen (g.P.Plant.state c.make_move.new.plant) t r c.make_move.new.journal.events) (void_on c.args.v.0) (Finish c.args.v.0 0)
     (void-comes s t r c.args.journal.now.events c.args.v.0 (ap (is_engaged) (sym c.peek_fields.ensures.fields) ∙ sym c.if-not-is_engaged.ensures)) (done r))
 
 pub returns-clause-halts : goal.returns-clause-halts
 returns-clause-halts g c =
     let s = g.P.Plant.state c.args.plant.now in
     let t = c.args.config.now in
-    err-along c.make_change.result c.make_change.ensures.failed c.make_change.ensures.refused (λ failed refused r.
-    move-halts (armed_in s) (world_seen s t r c.args.journal.now.events) (world_seen (g.P.Plant.state c.make_change.new.plant) t r c.make_change.new.journal.events) (refusal_of c.make_change.result) (void_on c.args.v.0) (Finish c.args.v.0 0) (volume_seen s t c.args.v.0).server
+    err-along c.make_move.result c.make_move.ensures.entered.failed c.make_move.ensures.entered.refused (λ failed refused r.
+    move-halts (armed_in s) (world_seen s t r c.args.journal.now.events) (world_seen (g.P.Plant.state c.make_move.new.plant) t r c.make_move.new.journal.events) (refusal_of c.make_move.result) (void_on c.args.v.0) (Finish c.args.v.0 0) (volume_seen s t c.args.v.0).server
     (void-comes s t r c.args.journal.now.events c.args.v.0 (ap (is_engaged) (sym c.peek_fields.ensures.fields) ∙ sym c.if-not-is_engaged.ensures)) refused (failed r))
 
 pub returns-clause-carried : goal.returns-clause-carried
 returns-clause-carried g c =
     let s = g.P.Plant.state c.args.plant.now in
     let t = c.args.config.now in
-    act-ends c.make_change.result (armed_in s) (λ r. world_seen s t r c.args.journal.now.events) (λ r. world_seen (g.P.Plant.state c.make_change.new.plant) t r c.make_change.new.journal.events) (void_on c.args.v.0) (returns-clause-advances g c) (returns-clause-halts g c)
+    act-ends c.make_move.result (armed_in s) (λ r. world_seen s t r c.args.journal.now.events) (λ r. world_seen (g.P.Plant.state c.make_move.new.plant) t r c.make_move.new.journal.events) (void_on c.args.v.0) (returns-clause-advances g c) (returns-clause-halts g c)
 
 pub returns-clause-room_left : goal.returns-clause-room_left
 returns-clause-room_left g c =
-    ok-along c.make_change.result c.make_change.ensures.room_left (λ is. omega (arith, is))
+    ok-along c.make_move.result c.make_move.ensures.room_left (λ is. omega (arith, is))

@@ -19,18 +19,18 @@ pub returns-clause-advances : goal.returns-clause-advances
 returns-clause-advances g c =
     let s = g.P.Plant.state c.args.plant.now in
     let t = c.args.config.now in
-    ok-along c.make_change.result c.make_change.ensures.done (λ done r.
-    move-advances (world_seen s t r c.args.journal.now.events) (world_seen (g.P.Plant.state c.make_change.new.plant) t r c.make_change.new.journal.events) (free_on c.args.a.0) (Free c.args.a.0)
+    ok-along c.make_move.result c.make_move.ensures.entered.done (λ done r.
+    move-advances (world_seen s t r c.args.journal.now.events) (world_seen (g.P.Plant.state c.make_move.new.plant) t r c.make_move.new.journal.events) (free_on c.args.a.0) (Free c.args.a.0)
     (free-comes s t r c.args.journal.now.events c.args.a.0 (ap (λ (f : Fields). f.coordination) (sym c.peek_fields.ensures.fields) ∙ not-false c.peek_fields.result.coordination c.if-not-peek_fields.false)) (done r))
 
 pub returns-clause-halts : goal.returns-clause-halts
 returns-clause-halts g c =
     let s = g.P.Plant.state c.args.plant.now in
     let t = c.args.config.now in
-    err-along c.make_change.result c.make_change.ensures.failed c.make_change.ensures.refused (λ failed refused r.
-    move-halts (armed_in s) (world_seen s t r c.args.journal.now.events) (world_seen (g.P.Plant.state c.make_change.new.plant) t r c.make_change.new.journal.events) (refusal_of c.make_change.result) (free_on c.args.a.0) (Free c.args.a.0) (volume_seen s t c.args.a.0).server
+    err-along c.make_move.result c.make_move.ensures.entered.failed c.make_move.ensures.entered.refused (λ failed refused r.
+    move-halts (armed_in s) (world_seen s t r c.args.journal.now.events) (world_seen (g.P.Plant.state c.make_move.new.plant) t r c.make_move.new.journal.events) (refusal_of c.make_move.result) (free_on c.args.a.0) (Free c.args.a.0) (volume_seen s t c.args.a.0).server
     (free-comes s t r c.args.journal.now.events c.args.a.0 (ap (λ (f : Fields). f.coordination) (sym c.peek_fields.ensures.fields) ∙ not-false c.peek_fields.result.coordination c.if-not-peek_fields.false)) refused (failed r))
 
 pub returns-clause-room_left : goal.returns-clause-room_left
 returns-clause-room_left g c =
-    ok-along c.make_change.result c.make_change.ensures.room_left (λ is. omega (arith, is))
+    ok-along c.make_move.result c.make_move.ensures.room_left (λ is. omega (arith, is))

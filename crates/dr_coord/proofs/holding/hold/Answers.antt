@@ -1,4 +1,5 @@
-use Rattle.std.proofs.Common.{◌≡◌, true, false, ap, sym, ◌∙◌, None, Some, inl, inr}
+use Rattle.std.specs.Prelude.{if◌then◌else◌}
+use Rattle.std.proofs.Common.{arith, ◌≡◌, true, false, ap, sym, ◌∙◌, None, Some, inl, inr}
 use Rattle.dr_model.specs.Pairs.{records}
 use Rattle.dr_model.specs.SessionEntries.{hold_on}
 use Rattle.dr_volume.specs.View.{volume_seen}
@@ -6,7 +7,7 @@ use Rattle.dr_moves.specs.Here.{world_seen, armed_in, refusal_of}
 use Rattle.dr_moves.proofs.TurnLemmas.{ok-along, err-along}
 use Rattle.dr_coord.specs.Changes.{begins, rest_after}
 use Rattle.dr_moves.proofs.EntryLemmas.{act-advances, act-halts}
-use Rattle.dr_coord.proofs.ActLemmas.{hold_act, hold-comes, hold-act, hold-off, hold-passes, begins-moved, spare-left}
+use Rattle.dr_coord.proofs.ActLemmas.{hold_act, hold-comes, hold-act, hold-off, hold-passes, begins-moved, spare-left, hold-most, hold-spent}
 use Rattle.dr_coord.proofs.holding.hold.Goals as goal
 use Rattle.dr_logic.proofs.Results.{ok-two}
 
@@ -15,29 +16,39 @@ returns-then-records-clause-advances g c r so =
     hold-passes (g.P.Plant.state c.args.plant.now) c.args.config.now c.args.a.0 c.args.s.0 c.args.n c.args.first r c.args.journal.now.events
     (ap (records c.args.n) (sym c.peek_fields.ensures.fields) ∙ sym c.if-records.ensures)
 
+pub make_move-requires-clause-room : goal.make_move-requires-clause-room
+make_move-requires-clause-room g c =
+    hold-most c.args.a.0 c.args.s.0 c.args.n c.args.first (volume_seen (g.P.Plant.state c.args.plant.now) c.args.config.now c.args.a.0) c.args.journal.now.spare c.requires.room
+
+pub returns-clause-room : goal.returns-clause-room
+returns-clause-room g c =
+    let most = hold-most c.args.a.0 c.args.s.0 c.args.n c.args.first (volume_seen (g.P.Plant.state c.args.plant.now) c.args.config.now c.args.a.0) (if c.args.first then 3 else 2) (omega arith) in
+    let h = c.make_move.ensures.kept.room in
+    omega (arith, most, h)
+
 pub returns-clause-advances : goal.returns-clause-advances
 returns-clause-advances g c =
     let s = g.P.Plant.state c.args.plant.now in
-    let u = g.P.Plant.state c.make_change.new.plant in
+    let u = g.P.Plant.state c.make_move.new.plant in
     let t = c.args.config.now in
-    ok-along c.make_change.result c.make_change.ensures.done (λ done r so.
-    act-advances (world_seen s t r c.args.journal.now.events) (world_seen u t (rest_after c.args.first s u t c.args.a.0 c.args.s.0 r) c.make_change.new.journal.events) (hold_on c.args.s.0 c.args.a.0 c.args.n) (hold_act s t r c.args.journal.now.events c.args.a.0 c.args.s.0 c.args.n c.args.first)
+    ok-along c.make_move.result c.make_move.ensures.entered.done (λ done r so.
+    act-advances (world_seen s t r c.args.journal.now.events) (world_seen u t (rest_after c.args.first s u t c.args.a.0 c.args.s.0 r) c.make_move.new.journal.events) (hold_on c.args.s.0 c.args.a.0 c.args.n) (hold_act s t r c.args.journal.now.events c.args.a.0 c.args.s.0 c.args.n c.args.first)
     (hold-comes s t r c.args.journal.now.events c.args.a.0 c.args.s.0 c.args.n c.args.first (ap (records c.args.n) (sym c.peek_fields.ensures.fields) ∙ sym c.if-records.ensures) so)
-    (hold-act s t r c.args.journal.now.events c.args.a.0 u c.args.s.0 c.args.n c.args.first c.make_change.new.journal.events None (done r)))
+    (hold-act s t r c.args.journal.now.events c.args.a.0 u c.args.s.0 c.args.n c.args.first c.make_move.new.journal.events None (done r)))
 
 pub returns-clause-halts : goal.returns-clause-halts
 returns-clause-halts g c =
     let s = g.P.Plant.state c.args.plant.now in
-    let u = g.P.Plant.state c.make_change.new.plant in
+    let u = g.P.Plant.state c.make_move.new.plant in
     let t = c.args.config.now in
     let server = (volume_seen s t c.args.a.0).server in
-    err-along c.make_change.result c.make_change.ensures.failed c.make_change.ensures.refused (λ failed refused r so.
-    act-halts (armed_in s) (world_seen s t r c.args.journal.now.events) (world_seen u t (rest_after c.args.first s u t c.args.a.0 c.args.s.0 r) c.make_change.new.journal.events) (refusal_of c.make_change.result) (hold_on c.args.s.0 c.args.a.0 c.args.n) (hold_act s t r c.args.journal.now.events c.args.a.0 c.args.s.0 c.args.n c.args.first) server
+    err-along c.make_move.result c.make_move.ensures.entered.failed c.make_move.ensures.entered.refused (λ failed refused r so.
+    act-halts (armed_in s) (world_seen s t r c.args.journal.now.events) (world_seen u t (rest_after c.args.first s u t c.args.a.0 c.args.s.0 r) c.make_move.new.journal.events) (refusal_of c.make_move.result) (hold_on c.args.s.0 c.args.a.0 c.args.n) (hold_act s t r c.args.journal.now.events c.args.a.0 c.args.s.0 c.args.n c.args.first) server
     (hold-comes s t r c.args.journal.now.events c.args.a.0 c.args.s.0 c.args.n c.args.first (ap (records c.args.n) (sym c.peek_fields.ensures.fields) ∙ sym c.if-records.ensures) so)
     refused
     (elim (failed r) [
-      | inl off ↦ inl (hold-off (armed_in s) s u t r c.args.journal.now.events c.make_change.new.journal.events c.args.a.0 c.args.s.0 c.args.first (refusal_of c.make_change.result) off)
-      | inr is ↦ inr (hold-act s t r c.args.journal.now.events c.args.a.0 u c.args.s.0 c.args.n c.args.first c.make_change.new.journal.events (Some server) is)
+      | inl off ↦ inl (hold-off (armed_in s) s u t r c.args.journal.now.events c.make_move.new.journal.events c.args.a.0 c.args.s.0 c.args.first (refusal_of c.make_move.result) off)
+      | inr is ↦ inr (hold-act s t r c.args.journal.now.events c.args.a.0 u c.args.s.0 c.args.n c.args.first c.make_move.new.journal.events (Some server) is)
     ]))
 
 pub returns-then-records-clause-begins : goal.returns-then-records-clause-begins
@@ -46,11 +57,12 @@ returns-then-records-clause-begins g c fresh =
 
 pub returns-clause-begins : goal.returns-clause-begins
 returns-clause-begins g c =
-    ok-along c.make_change.result c.make_change.ensures.moved (λ moved _.
-    begins-moved c.args.first (g.P.Plant.state c.args.plant.now) (g.P.Plant.state c.make_change.new.plant) c.args.config.now c.args.a.0 _ moved)
+    ok-along c.make_move.result c.make_move.ensures.moved (λ moved _.
+    begins-moved c.args.first (g.P.Plant.state c.args.plant.now) (g.P.Plant.state c.make_move.new.plant) c.args.config.now c.args.a.0 _ moved)
 
 pub returns-clause-room_left : goal.returns-clause-room_left
 returns-clause-room_left g c =
-    ok-two c.make_change.result c.make_change.ensures.moved c.make_change.ensures.room_left (λ moved left.
-    spare-left c.args.journal.now.spare c.make_change.new.journal.spare c.args.first (begins c.args.first (g.P.Plant.state c.args.plant.now) (g.P.Plant.state c.make_change.new.plant) c.args.config.now c.args.a.0)
-    (begins-moved c.args.first (g.P.Plant.state c.args.plant.now) (g.P.Plant.state c.make_change.new.plant) c.args.config.now c.args.a.0 _ moved) left)
+    ok-two c.make_move.result c.make_move.ensures.moved c.make_move.ensures.room_left (λ moved left.
+    spare-left c.args.journal.now.spare c.make_move.new.journal.spare c.args.first (begins c.args.first (g.P.Plant.state c.args.plant.now) (g.P.Plant.state c.make_move.new.plant) c.args.config.now c.args.a.0)
+    (begins-moved c.args.first (g.P.Plant.state c.args.plant.now) (g.P.Plant.state c.make_move.new.plant) c.args.config.now c.args.a.0 _ moved)
+    (hold-spent c.args.a.0 c.args.s.0 c.args.n c.args.first (volume_seen (g.P.Plant.state c.args.plant.now) c.args.config.now c.args.a.0) c.args.journal.now.spare c.make_move.new.journal.spare left))

@@ -11,18 +11,18 @@ pub returns-clause-advances : goal.returns-clause-advances
 returns-clause-advances g c =
     let s = g.P.Plant.state c.args.plant.now in
     let t = c.args.config.now in
-    ok-along c.make_change.result c.make_change.ensures.done (λ done r.
-    move-advances (world_seen s t r c.args.journal.now.events) (world_seen (g.P.Plant.state c.make_change.new.plant) t r c.make_change.new.journal.events) (now (Leave c.args.v.0 c.args.a.0 c.args.s.0)) (Leave c.args.v.0 c.args.a.0 c.args.s.0) refl (done r))
+    ok-along c.make_move.result c.make_move.ensures.entered.done (λ done r.
+    move-advances (world_seen s t r c.args.journal.now.events) (world_seen (g.P.Plant.state c.make_move.new.plant) t r c.make_move.new.journal.events) (now (Leave c.args.v.0 c.args.a.0 c.args.s.0)) (Leave c.args.v.0 c.args.a.0 c.args.s.0) refl (done r))
 
 pub returns-clause-halts : goal.returns-clause-halts
 returns-clause-halts g c =
     let s = g.P.Plant.state c.args.plant.now in
     let t = c.args.config.now in
-    err-along c.make_change.result c.make_change.ensures.failed c.make_change.ensures.refused (λ failed refused r.
-    move-halts (armed_in s) (world_seen s t r c.args.journal.now.events) (world_seen (g.P.Plant.state c.make_change.new.plant) t r c.make_change.new.journal.events) (refusal_of c.make_change.result) (now (Leave c.args.v.0 c.args.a.0 c.args.s.0)) (Leave c.args.v.0 c.args.a.0 c.args.s.0) (volume_seen s t c.args.v.0).server refl refused (failed r))
+    err-along c.make_move.result c.make_move.ensures.entered.failed c.make_move.ensures.entered.refused (λ failed refused r.
+    move-halts (armed_in s) (world_seen s t r c.args.journal.now.events) (world_seen (g.P.Plant.state c.make_move.new.plant) t r c.make_move.new.journal.events) (refusal_of c.make_move.result) (now (Leave c.args.v.0 c.args.a.0 c.args.s.0)) (Leave c.args.v.0 c.args.a.0 c.args.s.0) (volume_seen s t c.args.v.0).server refl refused (failed r))
 
 pub returns-clause-carried : goal.returns-clause-carried
 returns-clause-carried g c r =
     let s = g.P.Plant.state c.args.plant.now in
     let t = c.args.config.now in
-    act-ends c.make_change.result (armed_in s) (λ r. world_seen s t r c.args.journal.now.events) (λ r. world_seen (g.P.Plant.state c.make_change.new.plant) t r c.make_change.new.journal.events) (now (Leave c.args.v.0 c.args.a.0 c.args.s.0)) (returns-clause-advances g c) (returns-clause-halts g c) r
+    act-ends c.make_move.result (armed_in s) (λ r. world_seen s t r c.args.journal.now.events) (λ r. world_seen (g.P.Plant.state c.make_move.new.plant) t r c.make_move.new.journal.events) (now (Leave c.args.v.0 c.args.a.0 c.args.s.0)) (returns-clause-advances g c) (returns-clause-halts g c) r

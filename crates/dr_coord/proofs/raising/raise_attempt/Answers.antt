@@ -23,24 +23,24 @@ pub returns-clause-advances : goal.returns-clause-advances
 returns-clause-advances g c =
     let s = g.P.Plant.state c.args.plant.now in
     let t = c.args.config.now in
-    ok-along c.make_change.result c.make_change.ensures.done (λ done r.
-    move-advances (world_seen s t r c.args.journal.now.events) (world_seen (g.P.Plant.state c.make_change.new.plant) t r c.make_change.new.journal.events) (raise_attempt_on c.args.v.0 c.args.n) (RaiseAttempt c.args.v.0 c.args.n)
+    ok-along c.make_move.result c.make_move.ensures.entered.done (λ done r.
+    move-advances (world_seen s t r c.args.journal.now.events) (world_seen (g.P.Plant.state c.make_move.new.plant) t r c.make_move.new.journal.events) (raise_attempt_on c.args.v.0 c.args.n) (RaiseAttempt c.args.v.0 c.args.n)
     (attempt-comes s t r c.args.journal.now.events c.args.v.0 c.args.n (subst (λ (f : Fields). f.attempt < c.args.n) c.peek_fields.ensures.fields c.if-n-peek_fields.false)) (done r))
 
 pub returns-clause-halts : goal.returns-clause-halts
 returns-clause-halts g c =
     let s = g.P.Plant.state c.args.plant.now in
     let t = c.args.config.now in
-    err-along c.make_change.result c.make_change.ensures.failed c.make_change.ensures.refused (λ failed refused r.
-    move-halts (armed_in s) (world_seen s t r c.args.journal.now.events) (world_seen (g.P.Plant.state c.make_change.new.plant) t r c.make_change.new.journal.events) (refusal_of c.make_change.result) (raise_attempt_on c.args.v.0 c.args.n) (RaiseAttempt c.args.v.0 c.args.n) (volume_seen s t c.args.v.0).server
+    err-along c.make_move.result c.make_move.ensures.entered.failed c.make_move.ensures.entered.refused (λ failed refused r.
+    move-halts (armed_in s) (world_seen s t r c.args.journal.now.events) (world_seen (g.P.Plant.state c.make_move.new.plant) t r c.make_move.new.journal.events) (refusal_of c.make_move.result) (raise_attempt_on c.args.v.0 c.args.n) (RaiseAttempt c.args.v.0 c.args.n) (volume_seen s t c.args.v.0).server
     (attempt-comes s t r c.args.journal.now.events c.args.v.0 c.args.n (subst (λ (f : Fields). f.attempt < c.args.n) c.peek_fields.ensures.fields c.if-n-peek_fields.false)) refused (failed r))
 
 pub returns-clause-carried : goal.returns-clause-carried
 returns-clause-carried g c r =
     let s = g.P.Plant.state c.args.plant.now in
     let t = c.args.config.now in
-    act-ends c.make_change.result (armed_in s) (λ r. world_seen s t r c.args.journal.now.events) (λ r. world_seen (g.P.Plant.state c.make_change.new.plant) t r c.make_change.new.journal.events) (raise_attempt_on c.args.v.0 c.args.n) (returns-clause-advances g c) (returns-clause-halts g c) r
+    act-ends c.make_move.result (armed_in s) (λ r. world_seen s t r c.args.journal.now.events) (λ r. world_seen (g.P.Plant.state c.make_move.new.plant) t r c.make_move.new.journal.events) (raise_attempt_on c.args.v.0 c.args.n) (returns-clause-advances g c) (returns-clause-halts g c) r
 
 pub returns-clause-room_left : goal.returns-clause-room_left
 returns-clause-room_left g c =
-    ok-along c.make_change.result c.make_change.ensures.room_left (λ is. omega (arith, is))
+    ok-along c.make_move.result c.make_move.ensures.room_left (λ is. omega (arith, is))

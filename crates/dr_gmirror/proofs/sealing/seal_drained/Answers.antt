@@ -33,9 +33,9 @@ returns-clause-leads g c =
     let t = c.args.config.now in
     let a = c.args.m.now.a.0 in
     let b = c.args.m.now.b.0 in
-    ok-along c.make_change.result c.make_change.ensures.done (λ done r armed u r' ds more.
+    ok-along c.make_move.result c.make_move.ensures.entered.done (λ done r armed u r' ds more.
     one-checked (world_seen s t r c.args.journal.now.events) (seal_refusal a b) None (c.in_default.ensures.refusal r c.args.journal.now.events ∙ sym (refusal-drained s t r c.args.journal.now.events a b c.requires.drained)) armed u r' (seal_on c.args.s.0 a b c.args.n ∷ ds)
-    (move-advances (world_seen s t r c.args.journal.now.events) (world_seen (g.P.Plant.state c.make_change.new.plant) t r c.make_change.new.journal.events) (seal_on c.args.s.0 a b c.args.n) (Seal b a c.args.s.0 c.args.n)
+    (move-advances (world_seen s t r c.args.journal.now.events) (world_seen (g.P.Plant.state c.make_move.new.plant) t r c.make_move.new.journal.events) (seal_on c.args.s.0 a b c.args.n) (Seal b a c.args.s.0 c.args.n)
     (seal-comes s t r c.args.journal.now.events a b c.args.s.0 c.args.n c.requires.drained (ap (λ (f : Fields). nat_eq f.seal c.args.n) (sym c.peek_fields.ensures.fields) ∙ differ-test c.peek_fields.result.seal c.args.n c.if-peek_fields-n.false)) (done r) armed u r' ds more))
 
 pub returns-clause-fails : goal.returns-clause-fails
@@ -44,25 +44,25 @@ returns-clause-fails g c =
     let t = c.args.config.now in
     let a = c.args.m.now.a.0 in
     let b = c.args.m.now.b.0 in
-    err-along c.make_change.result c.make_change.ensures.failed c.make_change.ensures.refused (λ failed refused r ds.
+    err-along c.make_move.result c.make_move.ensures.entered.failed c.make_move.ensures.entered.refused (λ failed refused r ds.
     one-checked (world_seen s t r c.args.journal.now.events) (seal_refusal a b) None (c.in_default.ensures.refusal r c.args.journal.now.events ∙ sym (refusal-drained s t r c.args.journal.now.events a b c.requires.drained)) (armed_in s)
-    (world_seen (g.P.Plant.state c.make_change.new.plant) t r c.make_change.new.journal.events) (refusal_of c.make_change.result) (seal_on c.args.s.0 a b c.args.n ∷ ds)
-    (move-halts (armed_in s) (world_seen s t r c.args.journal.now.events) (world_seen (g.P.Plant.state c.make_change.new.plant) t r c.make_change.new.journal.events) (refusal_of c.make_change.result) (seal_on c.args.s.0 a b c.args.n) (Seal b a c.args.s.0 c.args.n) (volume_seen s t b).server
+    (world_seen (g.P.Plant.state c.make_move.new.plant) t r c.make_move.new.journal.events) (refusal_of c.make_move.result) (seal_on c.args.s.0 a b c.args.n ∷ ds)
+    (move-halts (armed_in s) (world_seen s t r c.args.journal.now.events) (world_seen (g.P.Plant.state c.make_move.new.plant) t r c.make_move.new.journal.events) (refusal_of c.make_move.result) (seal_on c.args.s.0 a b c.args.n) (Seal b a c.args.s.0 c.args.n) (volume_seen s t b).server
     (seal-comes s t r c.args.journal.now.events a b c.args.s.0 c.args.n c.requires.drained (ap (λ (f : Fields). nat_eq f.seal c.args.n) (sym c.peek_fields.ensures.fields) ∙ differ-test c.peek_fields.result.seal c.args.n c.if-peek_fields-n.false)) refused (failed r) ds))
 
 pub returns-clause-unchanged : goal.returns-clause-unchanged
 returns-clause-unchanged g c calm =
-    only-stops _ c.make_change.result (volume_seen (g.P.Plant.state c.args.plant.now) c.args.config.now c.args.m.now.b.0).server c.make_change.ensures.refused calm
+    only-stops _ c.make_move.result (volume_seen (g.P.Plant.state c.args.plant.now) c.args.config.now c.args.m.now.b.0).server c.make_move.ensures.entered.refused calm
 
 pub returns-clause-faults : goal.returns-clause-faults
 returns-clause-faults g c =
-    counted-stop c.make_change.result _ _ (volume_seen (g.P.Plant.state c.args.plant.now) c.args.config.now c.args.m.now.b.0).server c.make_change.ensures.faults c.make_change.ensures.refused
+    counted-stop c.make_move.result _ _ (volume_seen (g.P.Plant.state c.args.plant.now) c.args.config.now c.args.m.now.b.0).server c.make_move.ensures.kept.faults c.make_move.ensures.entered.refused
 
 pub returns-clause-kept : goal.returns-clause-kept
 returns-clause-kept g c =
-    ok-along c.make_change.result c.make_change.ensures.moved (λ moved q.
-    sync-kept (g.P.Plant.state c.args.plant.now) (g.P.Plant.state c.make_change.new.plant) c.args.config.now c.args.m.now.b.0 _ moved refl c.make_change.ensures.others q)
+    ok-along c.make_move.result c.make_move.ensures.moved (λ moved q.
+    sync-kept (g.P.Plant.state c.args.plant.now) (g.P.Plant.state c.make_move.new.plant) c.args.config.now c.args.m.now.b.0 _ moved refl c.make_move.ensures.others q)
 
 pub returns-clause-room_left : goal.returns-clause-room_left
 returns-clause-room_left g c =
-    ok-along c.make_change.result c.make_change.ensures.room_left (λ is. omega (arith, is))
+    ok-along c.make_move.result c.make_move.ensures.room_left (λ is. omega (arith, is))
